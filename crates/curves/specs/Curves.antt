@@ -1,9 +1,10 @@
 -- A curve is a first point and the points that follow it; in tables and tickets it is a run of numbers x, y, x, y, ..
 use mathlib.Core.Path.{_≡_}
 use mathlib.Core.List.{List, [], _∷_}
-use Prim.Native.Nat.{ℕ, _+_, _*_, _/_, _≤_}
+use Prim.Native.Nat.{ℕ, _+_, _*_, _-_, _/_, _≤_}
 use lib.IntN.{ℤ, pos, natAbs}
 use lib.ListN.{length, getD}
+use Rattle.lists.specs.Tables.{table}
 use Rattle.plane.specs.declared.Point.{Point}
 use Rattle.plane.specs.Points.{maxCoordinate, origin}
 use Rattle.plane.specs.Below.{Segment}
@@ -76,6 +77,10 @@ curveOf l = through (pointsOf l)
 -- point i of a run
 abbrev pub pointAt : List ℤ → ℕ → Point
 pointAt l i = point (getD l (i * 2) (pos 0)) (getD l (i * 2 + 1) (pos 0))
+
+-- the points from point i on
+abbrev pub pointsFrom : List ℤ → ℕ → List Point
+pointsFrom l i = table (pointAt l) i (length l / 2 - i)
 
 abbrev pub maxPoints : ℕ
 maxPoints = 12

@@ -1,6 +1,7 @@
 -- Curves: straight runs between points. `Curves`: what a curve is and how it stands in a run of numbers. `Tests`: neighbours, straight points,
--- places, simple, curves that meet wrongly. `Measures`: doubled area and what passes below a point. `Edits`: cut, join, reverse.
+-- places, simple, curves that meet wrongly. `Shares`: the points that segments may share. `Measures`: doubled area and what passes below a point. `Edits`: cut, join, reverse.
 pub mod Curves
 pub mod Tests
+pub mod Shares
 pub mod Measures
 pub mod Edits

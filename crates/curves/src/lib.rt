@@ -2,11 +2,26 @@
 use lists::Found;
 use plane::Point;
 ghost use mathlib.Core.Path.{_≡_};
-ghost use Prim.Native.Nat.{ℕ, _+_, _*_, _≤_, _<_, _/_};
+ghost use mathlib.Core.Bool.{Bool, true, false, _&&_};
+ghost use mathlib.Core.List.{[], _∷_};
+ghost use Prim.Native.Nat.{ℕ, _+_, _*_, _-_, _≤_, _<_, _/_};
 ghost use lib.ListN.{length};
 ghost use Rattle.plane.specs.Points.{InRange};
-ghost use Rattle.curves.specs.Curves.{Run, pointAt, curveOf};
-ghost use Rattle.curves.specs.Tests.{neighboursDiffer, straightInside, firstPlace, segWrong};
+ghost use Rattle.plane.specs.Segments.{onSegment};
+ghost use Rattle.curves.specs.Curves.{Run, pointAt, pointsFrom, curveOf};
+ghost use Rattle.curves.specs.Tests.{neighboursDiffer, straightInside, firstPlace, segWrong, mayShare, segCurve, commonEnds, meetWrongly, free, after, isSimple};
+ghost use Rattle.curves.specs.Measures.{curveArea, oddBelow};
+ghost use Rattle.curves.specs.Shares.{Shareable, shareable};
+
+// Two points that segments may share, each only where its mark is set.
+pub struct Shares {
+    pub first: Point,
+    pub first_may: bool,
+    pub last: Point,
+    pub last_may: bool,
+}
+
+// ---- points of a run
 
 // The number of points.
 pub fn point_count(c: &[i64]) -> usize
@@ -28,6 +43,8 @@ pub fn point_at(c: &[i64], i: usize) -> Point
         y: y as u64,
     }
 }
+
+// ---- points of one curve
 
 // Whether neighbouring points differ.
 pub fn neighbours_differ(c: &[i64]) -> bool
@@ -57,7 +74,7 @@ pub fn has_straight_point(c: &[i64]) -> bool
     false
 }
 
-// The first segment through p.
+// The first place of p along the curve: the segment, counted from 0.
 pub fn first_place(c: &[i64], p: Point) -> Found
     requires { ⌜ Run (now c) × InRange p ⌝ }
     ensures { λ r. ⌜ r ≡ firstPlace (curveOf (now (c .entry))) p ⌝ }
@@ -69,4 +86,184 @@ pub fn first_place(c: &[i64], p: Point) -> Found
         }
     }
     Found::Missing
+}
+
+// ---- points that two segments share
+
+// Whether p may be shared and lies on both segments.
+fn shared_at(may: bool, p: Point, a: Point, b: Point, c: Point, d: Point) -> bool
+    requires { ⌜ (InRange p) × (InRange a) × (InRange b) × (InRange c) × (InRange d) ⌝ }
+    ensures { λ r. ⌜ r ≡ (may && (onSegment p a b && onSegment p c d)) ⌝ }
+{
+    if !may {
+        return false;
+    }
+    if !plane::on_segment(p, a, b) {
+        return false;
+    }
+    plane::on_segment(p, c, d)
+}
+
+// Whether the segments a b and c d share a point that they may not share.
+fn segments_wrong(l: Shares, a: Point, b: Point, c: Point, d: Point) -> bool
+    requires { ⌜ (Shareable l) × (InRange a) × (InRange b) × (InRange c) × (InRange d) ⌝ }
+    ensures { λ r. ⌜ r ≡ segWrong (shareable l) a b c d ⌝ }
+{
+    if !plane::segments_meet(a, b, c, d) {
+        return false;
+    }
+    if plane::segments_stretch(a, b, c, d) {
+        return true;
+    }
+    let first = l.first;
+    if shared_at(l.first_may, first, a, b, c, d) {
+        return false;
+    }
+    let last = l.last;
+    !shared_at(l.last_may, last, a, b, c, d)
+}
+
+// ---- two curves
+
+// The ends of c that are ends of d.
+pub fn common_ends(c: &[i64], d: &[i64]) -> Shares
+    requires { ⌜ Run (now c) × Run (now d) ⌝ }
+    ensures { λ r. ⌜ Shareable r × (shareable r ≡ commonEnds (curveOf (now (c .entry)) .first) (curveOf (now (c .entry)) .rest) (curveOf (now (d .entry)) .first) (curveOf (now (d .entry)) .rest)) ⌝ }
+{
+    let a = point_at(c, 0);
+    let z = point_at(c, point_count(c) - 1);
+    let b = point_at(d, 0);
+    let y = point_at(d, point_count(d) - 1);
+    Shares {
+        first: a,
+        first_may: plane::same_point(a, b) | plane::same_point(a, y),
+        last: z,
+        last_may: plane::same_point(z, b) | plane::same_point(z, y),
+    }
+}
+
+// Whether the segment a b shares with one of the curve's a point that they may not share.
+fn segment_wrong(l: Shares, a: Point, b: Point, c: &[i64]) -> bool
+    requires { ⌜ (Shareable l) × (InRange a) × (InRange b) × Run (now c) ⌝ }
+    ensures { λ r. ⌜ r ≡ segCurve (shareable l) a b (curveOf (now (c .entry)) .first) (curveOf (now (c .entry)) .rest) ⌝ }
+{
+    let n = point_count(c);
+    for i in 1..n {
+        if segments_wrong(l, a, b, point_at(c, i - 1), point_at(c, i)) {
+            return true;
+        }
+    }
+    false
+}
+
+// Whether two curves share a point that is not an end of both.
+pub fn curves_wrong(c: &[i64], d: &[i64]) -> bool
+    requires { ⌜ Run (now c) × Run (now d) ⌝ }
+    ensures { λ r. ⌜ r ≡ meetWrongly (curveOf (now (c .entry))) (curveOf (now (d .entry))) ⌝ }
+{
+    let l = common_ends(c, d);
+    let n = point_count(c);
+    for i in 1..n {
+        if segment_wrong(l, point_at(c, i - 1), point_at(c, i), d) {
+            return true;
+        }
+    }
+    false
+}
+
+// ---- simple curves
+
+// Whether segment i and those from point i + 2 on share nothing, but the last of these may share the first point where the mark is set.
+fn segment_free(c: &[i64], i: usize, closed: bool) -> bool
+    requires { ⌜ Run (now c) × (i + 2 < length (now c) / 2) ⌝ }
+    ensures { λ r. ⌜ r ≡ free (mayShare closed (pointAt (now (c .entry)) 0) []) (pointAt (now (c .entry)) i) (pointAt (now (c .entry)) (i + 1)) (pointAt (now (c .entry)) (i + 2)) (pointsFrom (now (c .entry)) (i + 3)) ⌝ }
+{
+    let n = point_count(c);
+    let a = point_at(c, i);
+    let b = point_at(c, i + 1);
+    let end = point_at(c, 0);
+    for j in i + 3..n {
+        let l = Shares {
+            first: end,
+            first_may: closed & (j + 1 == n),
+            last: end,
+            last_may: false,
+        };
+        if segments_wrong(l, a, b, point_at(c, j - 1), point_at(c, j)) {
+            return false;
+        }
+    }
+    true
+}
+
+// Whether segment i shares with the next only their common point, and with later ones nothing, but the first point where the mark is set.
+fn segment_clear(c: &[i64], i: usize, closed: bool) -> bool
+    requires { ⌜ Run (now c) × (i + 1 < length (now c) / 2) ⌝ }
+    ensures { λ r. ⌜ r ≡ after (mayShare closed (pointAt (now (c .entry)) 0) []) (pointAt (now (c .entry)) i) (pointAt (now (c .entry)) (i + 1)) (pointsFrom (now (c .entry)) (i + 2)) ⌝ }
+{
+    let n = point_count(c);
+    if n <= i + 2 {
+        return true;
+    }
+    let b = point_at(c, i + 1);
+    let l = Shares {
+        first: b,
+        first_may: true,
+        last: b,
+        last_may: false,
+    };
+    if segments_wrong(l, point_at(c, i), b, b, point_at(c, i + 2)) {
+        return false;
+    }
+    segment_free(c, i, closed)
+}
+
+// Whether the curve is simple.
+pub fn is_simple(c: &[i64]) -> bool
+    requires { ⌜ Run (now c) ⌝ }
+    ensures { λ r. ⌜ r ≡ isSimple (curveOf (now (c .entry))) ⌝ }
+{
+    let n = point_count(c);
+    let closed = plane::same_point(point_at(c, n - 1), point_at(c, 0));
+    if !segment_clear(c, 0, closed) {
+        return false;
+    }
+    for i in 2..n {
+        if !segment_clear(c, i - 1, false) {
+            return false;
+        }
+    }
+    true
+}
+
+// ---- measures
+
+// The doubled area of the curve and the origin.
+pub fn area_of(c: &[i64]) -> i64
+    requires { ⌜ Run (now c) ⌝ }
+    ensures { λ r. ⌜ r ≡ curveArea (curveOf (now (c .entry))) ⌝ }
+{
+    let n = point_count(c);
+    let mut plus: u64 = 0;
+    let mut minus: u64 = 0;
+    for i in 1..n {
+        let a = point_at(c, i - 1);
+        let b = point_at(c, i);
+        plus += plane::times(a.x, b.y);
+        minus += plane::times(a.y, b.x);
+    }
+    (plus as i64) - (minus as i64)
+}
+
+// Whether an odd number of segments pass below p.
+pub fn odd_below(c: &[i64], p: Point) -> bool
+    requires { ⌜ Run (now c) × InRange p ⌝ }
+    ensures { λ r. ⌜ r ≡ oddBelow (curveOf (now (c .entry))) p ⌝ }
+{
+    let n = point_count(c);
+    let mut odd = false;
+    for i in 1..n {
+        odd = odd != directions::passes_below(p, point_at(c, i - 1), point_at(c, i));
+    }
+    odd
 }
