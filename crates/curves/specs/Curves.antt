@@ -1,9 +1,13 @@
 -- A curve is a first point and the points that follow it; in tables and tickets it is a run of numbers x, y, x, y, ..
 use mathlib.Core.Path.{_≡_}
+use mathlib.Core.Bool.{Bool, true, _&&_}
 use mathlib.Core.List.{List, [], _∷_}
-use Prim.Native.Nat.{ℕ, _+_, _*_, _-_, _/_, _≤_}
+use Prim.Native.Nat.{ℕ, _+_, _*_, _-_, _/_}
+use lib.Dec.{leb}
 use lib.IntN.{ℤ, pos, natAbs}
 use lib.ListN.{length, getD}
+use lib.Signed.{leZ}
+use Rattle.lists.specs.Scans.{all}
 use Rattle.lists.specs.Tables.{table}
 use Rattle.plane.specs.declared.Point.{Point}
 use Rattle.plane.specs.Points.{maxCoordinate, origin}
@@ -86,16 +90,16 @@ abbrev pub maxPoints : ℕ
 maxPoints = 12
 
 -- a number that is a coordinate
-pub record Coordinate (z : ℤ) : Type 0 where
-  pub number : ℕ
-  pub is : z ≡ pos number
-  pub fits : number ≤ maxCoordinate
+abbrev pub coordinate : ℤ → Bool
+coordinate z = leZ (pos 0) z && leZ z (pos maxCoordinate)
 
--- what the functions on runs require: coordinates in range and 2 to 12 points; any other run is the caller's refusal 5
+-- 2 to 12 points, and every coordinate in range
+unfoldable pub isRun : List ℤ → Bool
+isRun l = leb 2 (length l / 2) && leb (length l / 2) maxPoints && all coordinate l
+
+-- what the functions on runs require; any other run is the caller's refusal 5
 pub record Run (l : List ℤ) : Type 0 where
-  pub coordinates : (i : ℕ) → Coordinate (getD l i (pos 0))
-  pub least : 2 ≤ length l / 2
-  pub most : length l / 2 ≤ maxPoints
+  pub is : isRun l ≡ true
 
 -- ---- to numbers
 

@@ -8,7 +8,7 @@ ghost use Prim.Native.Nat.{ℕ, _+_, _*_, _-_, _≤_, _<_, _/_};
 ghost use lib.ListN.{length};
 ghost use Rattle.plane.specs.Points.{InRange};
 ghost use Rattle.plane.specs.Segments.{onSegment};
-ghost use Rattle.curves.specs.Curves.{Run, pointAt, pointsFrom, curveOf};
+ghost use Rattle.curves.specs.Curves.{Run, isRun, pointAt, pointsFrom, curveOf};
 ghost use Rattle.curves.specs.Tests.{neighboursDiffer, straightInside, firstPlace, segWrong, mayShare, segCurve, commonEnds, meetWrongly, free, after, isSimple};
 ghost use Rattle.curves.specs.Measures.{curveArea, oddBelow};
 ghost use Rattle.curves.specs.Shares.{Shareable, shareable};
@@ -28,6 +28,22 @@ pub fn point_count(c: &[i64]) -> usize
     ensures { λ r. ⌜ r ≡ length (now (c .entry)) / 2 ⌝ }
 {
     c.len() / 2
+}
+
+// Whether the run has 2 to 12 points, and every coordinate in range.
+pub fn is_run(c: &[i64]) -> bool
+    ensures { λ r. ⌜ r ≡ isRun (now (c .entry)) ⌝ }
+{
+    let n = point_count(c);
+    if (n < 2) | (12 < n) {
+        return false;
+    }
+    for i in 0..c.len() {
+        if (c[i] < 0) | (1048575 < c[i]) {
+            return false;
+        }
+    }
+    true
 }
 
 // Point i.

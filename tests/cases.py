@@ -1,0 +1,122 @@
+#!/usr/bin/env python3
+"""The stored cases of crates/cases: writes its stdin and stdout, the answers worked out by the reference.
+
+  cases.py [CASES] [--seed S]     REFERENCE names the reference's folder (default: ../shared/reference beside the repository)
+
+Half of the cases lie on a small grid, where coincidences abound, a quarter at the corners of the coordinate range, the rest anywhere.
+"""
+
+import argparse
+import os
+import pathlib
+import random
+import sys
+
+ROOT = pathlib.Path(__file__).resolve().parent.parent
+sys.path.insert(0, os.environ.get('REFERENCE', str(ROOT.parent / 'shared' / 'reference')))
+
+import plotmap as pm      # noqa: E402
+
+TOP = 1048575
+CELLS = 24
+
+
+def coordinate(rng, field):
+    if field == 'grid':
+        return rng.randrange(5)
+    if field == 'corner':
+        return rng.choice([0, 1, 2, TOP - 2, TOP - 1, TOP])
+    return rng.randint(0, TOP)
+
+
+def curve(rng, field):
+    points = [(coordinate(rng, field), coordinate(rng, field)) for _ in range(rng.randint(2, 6))]
+    if len(points) > 3 and rng.random() < 0.3:
+        points[-1] = points[0]
+    return points
+
+
+def case(rng):
+    field = rng.choice(['grid', 'grid', 'corner', 'wide'])
+    c, d = curve(rng, field), curve(rng, field)
+    if rng.random() < 0.4:
+        d[0] = c[-1]
+    if rng.random() < 0.2:
+        d[-1] = c[0]
+    p = rng.choice(c + d) if rng.random() < 0.5 else (coordinate(rng, field), coordinate(rng, field))
+    return c, d, p
+
+
+def line(c, d, p):
+    pad = [(0, 0)] * 6
+    numbers = [len(c), len(d), *p]
+    for q in (c + pad)[:6] + (d + pad)[:6] + [(0, 0)]:
+        numbers += q
+    return ' '.join(f'{n:07d}' for n in numbers) + '\n'
+
+
+def signed(z):
+    return [1, -z - 1] if z < 0 else [0, z]
+
+
+def digest(points):
+    cells = [z for q in points for z in q][:CELLS]
+    h = 0
+    for z in cells + [0] * (CELLS - len(cells)):
+        h = (h * 31 + z) % 1000003
+    return [len(points), h]
+
+
+def contact(s, t):
+    if not pm.segments_meet(s, t):
+        return 0
+    return 3 if pm.segments_stretch(s, t) else 2 if pm.segments_cross(s, t) else 1
+
+
+def direction_class(v):
+    return 8 if v == (0, 0) else pm.direction_class(v)
+
+
+def higher(x, s, t):
+    """s at x above t, ties to the greater slope, for ends in the order given."""
+    (a, b), (c, d) = s, t
+    (sx, sy), (tx, ty) = (b[0] - a[0], b[1] - a[1]), (d[0] - c[0], d[1] - c[1])
+    above = (a[1] * sx + (x - a[0]) * sy) * tx - (c[1] * tx + (x - c[0]) * ty) * sx
+    return above > 0 or above == 0 and pm.cross((tx, ty), (sx, sy)) > 0
+
+
+def halves(c, p):
+    return pm.cut(tuple(c), p) if pm.on_curve(p, c) else (c, [p])
+
+
+def answers(c, d, p):
+    s, t = (c[0], c[1]), (d[0], d[1])
+    v, w = pm.heading(c), pm.heading(d)
+    same = direction_class(v) == direction_class(w)
+    turn = pm.area2(*s, t[0])
+    out = signed(turn) + [pm.sign(turn) + 1, pm.segments_meet(s, t), contact(s, t), pm.on_segment(t[0], s)]
+    out += [pm.straight_between(t[0], *s), pm.passes_below(p, s), direction_class(v)]
+    out += [pm.cross(v, w) > 0 if same else direction_class(v) < direction_class(w), same and pm.cross(v, w) == 0, higher(p[0], s, t)]
+    segments = pm.segments(c)
+    places = [i for i, u in enumerate(segments) if pm.on_segment(p, u)]
+    out += [not pm.equal_neighbours(c), any(pm.surplus(c, i) for i in range(len(c))), pm.simple(c), places[0] if places else 99]
+    out += [pm.curves_wrong(c, d), *signed(sum(pm.cross(a, b) for a, b in segments)), sum(pm.passes_below(p, u) for u in segments) % 2]
+    front, back = halves(c, p)
+    for points in (front, back, pm.joined_points(tuple(c), tuple(d)), c[::-1]):
+        out += digest(points)
+    return ' '.join(str(int(n)) for n in out) + ' 0 \n'
+
+
+def main():
+    args = argparse.ArgumentParser()
+    args.add_argument('cases', type=int, nargs='?', default=3200)
+    args.add_argument('--seed', type=int, default=1)
+    args = args.parse_args()
+    rng = random.Random(args.seed)
+    cases = [case(rng) for _ in range(args.cases)]
+    folder = ROOT / 'crates' / 'cases'
+    (folder / 'stdin').write_text(''.join(line(*c) for c in cases))
+    (folder / 'stdout').write_text(''.join(answers(*c) for c in cases))
+
+
+main()
