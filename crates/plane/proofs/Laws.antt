@@ -13,6 +13,7 @@ use Rattle.plane.specs.declared.Point.{Point}
 use Rattle.plane.specs.declared.Turn.{Turn}
 use Rattle.plane.specs.declared.Turn.the-variants.{Left, Straight, Right}
 use Rattle.plane.specs.Areas.{area, turnOf, turn, isLeft, straight, isNull, isPositive}
+use Rattle.plane.specs.Directions.{wayTo, cross}
 
 pub product-le : (m : ℕ) {a b : ℕ} → a ≤ m → b ≤ m → a * b ≤ m * m
 product-le m h k = mul-le-mul h k
@@ -40,6 +41,24 @@ area-parts a b c =
 -- p and n are the parts
 pub area-is : (a b c : Point) (p n : ℕ) → p ≡ part a b c → n ≡ part b a c → pos p -ℤ pos n ≡ area a b c
 area-is a b c p n ep en = (λ i. pos (ep i) -ℤ pos (en i)) ∙ area-parts a b c
+
+-- the cross product of b - a and d - c, and its two parts
+abbrev pub crossE : Expr → Expr → Expr → Expr → Expr → Expr → Expr → Expr → Expr
+crossE ax ay bx by cx cy dx dy = (bx ⊖ ax) ⊗ (dy ⊖ cy) ⊖ (by ⊖ ay) ⊗ (dx ⊖ cx)
+
+abbrev pub crossPart : Point → Point → Point → Point → ℕ
+crossPart a b c d = b .x * d .y + a .x * c .y + b .y * c .x + a .y * d .x
+
+pub cross-parts : (a b c d : Point) → pos (crossPart a b c d) -ℤ pos (crossPart b a c d) ≡ cross (wayTo a b) (wayTo c d)
+unfolding cross
+cross-parts a b c d =
+    solve₄ (
+    λ ax ay bx by cx cy dx dy.
+    (bx ⊗ dy ⊕ ax ⊗ cy ⊕ by ⊗ cx ⊕ ay ⊗ dx) ⊖ (ax ⊗ dy ⊕ bx ⊗ cy ⊕ ay ⊗ cx ⊕ by ⊗ dx) ≐ crossE ax ay bx by cx cy dx dy
+    ) tt a b c d
+
+pub cross-is : (a b c d : Point) (p n : ℕ) → p ≡ crossPart a b c d → n ≡ crossPart b a c d → pos p -ℤ pos n ≡ cross (wayTo a b) (wayTo c d)
+cross-is a b c d p n ep en = (λ i. pos (ep i) -ℤ pos (en i)) ∙ cross-parts a b c d
 
 -- how two naturals compare is the sign of their difference z
 module _ (z : ℤ) (p n : ℕ) (e : pos p -ℤ pos n ≡ z) where
