@@ -41,7 +41,10 @@ fn cross_part(a: Point, b: Point, c: Point, d: Point) -> u64
     requires { ⌜ (InRange a) × (InRange b) × (InRange c) × (InRange d) ⌝ }
     ensures { λ r. ⌜ (r ≡ b .x * d .y + a .x * c .y + b .y * c .x + a .y * d .x) × (r ≤ 4398038122500) ⌝ }
 {
-    plane::times(b.x, d.y) + plane::times(a.x, c.y) + plane::times(b.y, c.x) + plane::times(a.y, d.x)
+    plane::times(b.x, d.y)
+        + plane::times(a.x, c.y)
+        + plane::times(b.y, c.x)
+        + plane::times(a.y, d.x)
 }
 
 // The turn from the direction of a b to that of c d.
