@@ -8,8 +8,7 @@ use borrow.Author.Tests.{lt-ltb, le-ltb}
 use lib.IntN.{ℤ, pos, _-ℤ_, _*ℤ_}
 use lib.ListN.{getD}
 use Rattle.integers.specs.Order.{Sign, negative, null, positive, sgn}
-use Rattle.integers.specs.Solver.{_⊕_, _⊖_, _⊗_, _≐_, solve}
-use Rattle.lists.specs.Tests.{same}
+use Rattle.integers.specs.Solver.{Expr, _⊕_, _⊖_, _⊗_, _≐_, solve}
 use Rattle.lists.proofs.Bools.{same-eq, same-false}
 use Rattle.plane.specs.declared.Point.{Point}
 use Rattle.plane.specs.Areas.{isNull, isPositive}
@@ -73,14 +72,24 @@ liftPart x a b c d = heightPart x a b * d .x + heightPart x b a * c .x + heightP
 abbrev lifted : ℕ → Segment → Segment → ℤ
 lifted x s t = height x s *ℤ along t .dx -ℤ height x t *ℤ along s .dx
 
+-- the same as expressions for the solver
+abbrev partE : Expr → Expr → Expr → Expr → Expr
+partE x ay bx by = ay ⊗ bx ⊕ x ⊗ by
+
+abbrev liftE : Expr → Expr → Expr → Expr → Expr → Expr → Expr → Expr → Expr → Expr
+liftE x ax ay bx by cx cy dx dy =
+    partE x ay bx by ⊗ dx ⊕ partE x by ax ay ⊗ cx ⊕ partE x cy dx dy ⊗ ax ⊕ partE x dy cx cy ⊗ bx
+
+abbrev heightE : Expr → Expr → Expr → Expr → Expr → Expr
+heightE x ax ay bx by = ay ⊗ (bx ⊖ ax) ⊕ (x ⊖ ax) ⊗ (by ⊖ ay)
+
 lift-parts : (x : ℕ) (a b c d : Point)
     → pos (liftPart x a b c d) -ℤ pos (liftPart x b a c d) ≡ lifted x (record { from = a; to = b }) (record { from = c; to = d })
 lift-parts x a b c d =
     solve 9 (
     λ x ax ay bx by cx cy dx dy.
-    (((ay ⊗ bx ⊕ x ⊗ by) ⊗ dx ⊕ (by ⊗ ax ⊕ x ⊗ ay) ⊗ cx ⊕ (cy ⊗ dx ⊕ x ⊗ dy) ⊗ ax ⊕ (dy ⊗ cx ⊕ x ⊗ cy) ⊗ bx)
-    ⊖ ((by ⊗ ax ⊕ x ⊗ ay) ⊗ dx ⊕ (ay ⊗ bx ⊕ x ⊗ by) ⊗ cx ⊕ (cy ⊗ dx ⊕ x ⊗ dy) ⊗ bx ⊕ (dy ⊗ cx ⊕ x ⊗ cy) ⊗ ax))
-    ≐ ((ay ⊗ (bx ⊖ ax) ⊕ (x ⊖ ax) ⊗ (by ⊖ ay)) ⊗ (dx ⊖ cx) ⊖ (cy ⊗ (dx ⊖ cx) ⊕ (x ⊖ cx) ⊗ (dy ⊖ cy)) ⊗ (bx ⊖ ax))
+    liftE x ax ay bx by cx cy dx dy ⊖ liftE x bx by ax ay cx cy dx dy
+    ≐ heightE x ax ay bx by ⊗ (dx ⊖ cx) ⊖ heightE x cx cy dx dy ⊗ (bx ⊖ ax)
     ) tt (pos x) (pos (a .x)) (pos (a .y)) (pos (b .x)) (pos (b .y)) (pos (c .x)) (pos (c .y)) (pos (d .x)) (pos (d .y))
 
 -- p and n are the parts for the segments a b and c d

@@ -21,4 +21,11 @@ returns-3 c =
     (positive-is _ _ _ (c .before .orient .ensures) (c .is-left .ensures))
 
 pub below-ordered-spec : {M : Type 1} → statement M
-below-ordered-spec = tie.close (tie.spec returns returns-2 (λ c κs. search needs) (λ c κs. search needs) returns-3)
+below-ordered-spec =
+    tie.close
+    (tie.spec
+    returns
+    returns-2
+    (λ c κs. search needs)
+    (λ c κs. search needs)
+    returns-3)

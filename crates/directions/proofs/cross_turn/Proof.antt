@@ -24,4 +24,11 @@ returns-3 c =
     turn-straight _ (p .result) (n .result) (cross-is _ _ _ _ _ _ (p .ensures .0) (n .ensures .0)) (omega arith) (omega arith)
 
 pub cross-turn-spec : {M : Type 1} → statement M
-cross-turn-spec = tie.close (tie.spec (λ c κs. search needs) (λ c κs. search needs) returns returns-2 returns-3)
+cross-turn-spec =
+    tie.close
+    (tie.spec
+    (λ c κs. search needs)
+    (λ c κs. search needs)
+    returns
+    returns-2
+    returns-3)

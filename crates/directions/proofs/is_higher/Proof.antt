@@ -17,4 +17,13 @@ returns-3 c =
     (positive-is _ _ _ (c .before .cross-turn .ensures) (c .is-left .ensures))
 
 pub is-higher-spec : {M : Type 1} → statement M
-is-higher-spec = tie.close (tie.spec (λ c κs. search needs) (λ c κs. search needs) returns returns-2 (λ c κs. search needs) (λ c κs. search needs) returns-3)
+is-higher-spec =
+    tie.close
+    (tie.spec
+    (λ c κs. search needs)
+    (λ c κs. search needs)
+    returns
+    returns-2
+    (λ c κs. search needs)
+    (λ c κs. search needs)
+    returns-3)

@@ -14,4 +14,10 @@ unfolding passesBelow
 returns-2 c = rw (lt-leb _ _ (c .before .if1 .left)) (c .below-ordered2 .ensures)
 
 pub passes-below-spec : {M : Type 1} → statement M
-passes-below-spec = tie.close (tie.spec (λ c κs. search needs) (λ c κs. search needs) returns returns-2)
+passes-below-spec =
+    tie.close
+    (tie.spec
+    (λ c κs. search needs)
+    (λ c κs. search needs)
+    returns
+    returns-2)

@@ -14,4 +14,12 @@ returns-2 c =
     (null-is _ _ _ (c .before .cross-turn .ensures) (c .is-straight .ensures))
 
 pub same-direction-spec : {M : Type 1} → statement M
-same-direction-spec = tie.close (tie.spec (λ c κs. search needs) (λ c κs. search needs) returns (λ c κs. search needs) (λ c κs. search needs) returns-2)
+same-direction-spec =
+    tie.close
+    (tie.spec
+    (λ c κs. search needs)
+    (λ c κs. search needs)
+    returns
+    (λ c κs. search needs)
+    (λ c κs. search needs)
+    returns-2)

@@ -1,7 +1,7 @@
 -- `plane::contact_of` meets its contract. Assumes nothing.
 use borrow.Author.Needs.{needs}
 use borrow.Author.Tests.{not-true, not-false}
-use mathlib.Core.Path.{sym, _∙_}
+use mathlib.Core.Path.{refl, sym, _∙_}
 use Rattle.plane.specs.Segments.{contact}
 use Rattle.plane.proofs.contact_of.Statement.{statement}
 use Rattle.plane.proofs.contact_of.Tie as tie
@@ -22,6 +22,7 @@ returns-3 c =
       sym (c .before .before .before .segments-stretch .ensures) ∙ c .before .before .if2 .left,
       sym (c .before .end-touches .ensures) ∙ c .if3 .taken,
     )
+    refl
 
 returns-4 : tie.Need-returns-4
 unfolding contact
@@ -31,6 +32,16 @@ returns-4 c =
       sym (c .before .before .before .segments-stretch .ensures) ∙ c .before .before .if2 .left,
       sym (c .before .end-touches .ensures) ∙ c .if3 .left,
     )
+    refl
 
 pub contact-of-spec : {M : Type 1} → statement M
-contact-of-spec = tie.close (tie.spec (λ c κs. search needs) returns (λ c κs. search needs) returns-2 (λ c κs. search needs) returns-3 returns-4)
+contact-of-spec =
+    tie.close
+    (tie.spec
+    (λ c κs. search needs)
+    returns
+    (λ c κs. search needs)
+    returns-2
+    (λ c κs. search needs)
+    returns-3
+    returns-4)

@@ -9,4 +9,13 @@ unfolding overlapMore
 returns c = cc
 
 pub ranges-overlap-more-spec : {M : Type 1} → statement M
-ranges-overlap-more-spec = tie.close (tie.spec (λ c κs. search needs) (λ c κs. search needs) (λ c κs. search needs) (λ c κs. search needs) (λ c κs. search needs) (λ c κs. search needs) returns)
+ranges-overlap-more-spec =
+    tie.close
+    (tie.spec
+    (λ c κs. search needs)
+    (λ c κs. search needs)
+    (λ c κs. search needs)
+    (λ c κs. search needs)
+    (λ c κs. search needs)
+    (λ c κs. search needs)
+    returns)

@@ -28,4 +28,12 @@ returns-3 c =
     (c .on-segment .ensures)
 
 pub straight-between-spec : {M : Type 1} → statement M
-straight-between-spec = tie.close (tie.spec (λ c κs. search needs) returns (λ c κs. search needs) returns-2 (λ c κs. search needs) returns-3)
+straight-between-spec =
+    tie.close
+    (tie.spec
+    (λ c κs. search needs)
+    returns
+    (λ c κs. search needs)
+    returns-2
+    (λ c κs. search needs)
+    returns-3)
