@@ -41,7 +41,10 @@ pub fn with_point(line: Line, p: Point) -> Line
         cells[j] = p.x as i64;
         cells[j + 1] = p.y as i64;
     }
-    Line { count: n + 1, cells }
+    Line {
+        count: n + 1,
+        cells,
+    }
 }
 
 // The line with the points from `from` on, up to and without `to`, of the curve c.
