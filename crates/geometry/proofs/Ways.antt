@@ -1,0 +1,188 @@
+-- Directions: curves that share common ends only leave a common end in different directions. Assumes nothing.
+use mathlib.Core.Path.{_≡_, refl, sym, ap, _∙_, subst}
+use mathlib.Core.List.{List, [], _∷_, _++_}
+use mathlib.Core.Logic.{_⊎_, inl, inr, _≢_}
+use Prim.Native.Nat.{ℕ, suc, _+_, _*_, _-_, _≤_, _<_}
+use native.Mathlib.Decide.{decLe}
+use native.Mathlib.Omega.{arith}
+use lib.IntN.{ℤ, pos, negℤ, _+ℤ_, _-ℤ_, _*ℤ_}
+use lib.Signed.{_<ℤ_}
+use Rattle.integers.specs.Solver.{con, ⊝_, _⊕_, _⊖_, _⊗_, _≐_, solve}
+use Rattle.integers.specs.Linear.{linear, _≗_, _⇒_, pos-injective}
+use Rattle.integers.specs.Order.{Sign, negative, null, positive, sgn, product, sgn-*, sgn-positive, signed, neg-pos, natural, <→≤, pos-<, pos-<-back, pos-sub}
+use Rattle.plane.specs.declared.Point.{Point}
+use Rattle.curves.specs.Curves.{lastOf, beforeLast, secondOf}
+use Rattle.geometry.specs.Spots.{Spot, spot, At, OnSeg, SameWay}
+use Rattle.geometry.specs.Meaning.{On, Some, Differ, Arc, Simple, End, Clear}
+use Rattle.geometry.proofs.Segments.{point-path, zero-of, of-zero, combine, at-first, at-last, at-spot, flip, way-back}
+use Rattle.geometry.proofs.Double.{Two}
+use Rattle.geometry.proofs.Exact.{no-two}
+use Rattle.geometry.proofs.Cutting.{Cloven}
+
+-- ---- what one direction means: the signs agree, and the cross product is 0
+
+way-is : (n k a b c d : ℕ) → n * b + k * c ≡ n * a + k * d → pos n *ℤ (pos b -ℤ pos a) ≡ pos k *ℤ (pos d -ℤ pos c)
+way-is n k a b c d e =
+    of-zero _ _ (solve 6 (λ n k a b c d. n ⊗ (b ⊖ a) ⊖ k ⊗ (d ⊖ c) ≐ (n ⊗ b ⊕ k ⊗ c) ⊖ (n ⊗ a ⊕ k ⊗ d)) tt (pos n) (pos k) (pos a) (pos b) (pos c) (pos d) ∙ zero-of (ap pos e))
+
+sgn-times : (n : ℕ) (z : ℤ) → 0 < n → sgn (pos n *ℤ z) ≡ sgn z
+sgn-times n z h = sgn-* (pos n) z ∙ ap (λ (s : Sign). product s (sgn z)) (sgn-positive (pos n) (pos-< h)) ∙ go (sgn z)
+  where
+    go : (s : Sign) → product positive s ≡ s
+    go negative = refl
+    go null = refl
+    go positive = refl
+
+module _ {a b c d : Point} (w : SameWay a b c d) where
+  pub way-x : sgn (pos (b .x) -ℤ pos (a .x)) ≡ sgn (pos (d .x) -ℤ pos (c .x))
+  way-x = sym (sgn-times (w .n) (pos (b .x) -ℤ pos (a .x)) (w .n-some)) ∙ ap sgn (way-is (w .n) (w .k) (a .x) (b .x) (c .x) (d .x) (w .x)) ∙ sgn-times (w .k) (pos (d .x) -ℤ pos (c .x)) (w .k-some)
+
+  pub way-y : sgn (pos (b .y) -ℤ pos (a .y)) ≡ sgn (pos (d .y) -ℤ pos (c .y))
+  way-y = sym (sgn-times (w .n) (pos (b .y) -ℤ pos (a .y)) (w .n-some)) ∙ ap sgn (way-is (w .n) (w .k) (a .y) (b .y) (c .y) (d .y) (w .y)) ∙ sgn-times (w .k) (pos (d .y) -ℤ pos (c .y)) (w .k-some)
+
+  -- the cross product with any third way has one sign for both
+  pub way-cross : (x y : ℤ) → sgn ((pos (b .x) -ℤ pos (a .x)) *ℤ y -ℤ (pos (b .y) -ℤ pos (a .y)) *ℤ x) ≡ sgn ((pos (d .x) -ℤ pos (c .x)) *ℤ y -ℤ (pos (d .y) -ℤ pos (c .y)) *ℤ x)
+  way-cross x y =
+      sym (sgn-times (w .n) ((pos (b .x) -ℤ pos (a .x)) *ℤ y -ℤ (pos (b .y) -ℤ pos (a .y)) *ℤ x) (w .n-some))
+      ∙ ap sgn (solve 5 (λ n u v x y. n ⊗ (u ⊗ y ⊖ v ⊗ x) ≐ (n ⊗ u) ⊗ y ⊖ (n ⊗ v) ⊗ x) tt (pos (w .n)) (pos (b .x) -ℤ pos (a .x)) (pos (b .y) -ℤ pos (a .y)) x y
+      ∙ (λ t. way-is (w .n) (w .k) (a .x) (b .x) (c .x) (d .x) (w .x) t *ℤ y -ℤ way-is (w .n) (w .k) (a .y) (b .y) (c .y) (d .y) (w .y) t *ℤ x)
+      ∙ solve 5 (λ k u v x y. (k ⊗ u) ⊗ y ⊖ (k ⊗ v) ⊗ x ≐ k ⊗ (u ⊗ y ⊖ v ⊗ x)) tt (pos (w .k)) (pos (d .x) -ℤ pos (c .x)) (pos (d .y) -ℤ pos (c .y)) x y)
+      ∙ sgn-times (w .k) ((pos (d .x) -ℤ pos (c .x)) *ℤ y -ℤ (pos (d .y) -ℤ pos (c .y)) *ℤ x) (w .k-some)
+
+-- ---- two segments from one point in one direction
+
+reach : (n k m x y : ℕ) → n ≤ k → n * x + k * m ≡ n * m + k * y → (k - n + n) * y ≡ 1 * ((k - n) * m + n * x)
+reach n k m x y h e =
+    pos-injective ((λ t. (pos-sub k n h t +ℤ pos n) *ℤ pos y)
+    ∙ solve 5 (λ n k m x y. ((k ⊖ n) ⊕ n) ⊗ y ≐ (n ⊗ m ⊕ k ⊗ y) ⊖ n ⊗ m) tt (pos n) (pos k) (pos m) (pos x) (pos y)
+    ∙ ap (λ (z : ℕ). pos z -ℤ pos n *ℤ pos m) (sym e)
+    ∙ solve 4 (λ n k m x. (n ⊗ x ⊕ k ⊗ m) ⊖ n ⊗ m ≐ con (pos 1) ⊗ ((k ⊖ n) ⊗ m ⊕ n ⊗ x)) tt (pos n) (pos k) (pos m) (pos x)
+    ∙ sym (λ t. pos 1 *ℤ (pos-sub k n h t *ℤ pos m +ℤ pos n *ℤ pos x)))
+
+short : {m x y : Point} (w : SameWay m x m y) → w .n ≤ w .k → OnSeg (spot y) m x
+short {m} {x} {y} w h =
+    record {
+      j = w .k - w .n;
+      i = w .n;
+      weight = omega (arith, w .n-some);
+      x = reach (w .n) (w .k) (m .x) (x .x) (y .x) h (w .x);
+      y = reach (w .n) (w .k) (m .y) (x .y) (y .y) h (w .y);
+    }
+
+fork : {m x y : Point} → m ≢ x → m ≢ y → SameWay m x m y → Two m x m y
+unfolding way-back
+fork {m} {x} {y} n n′ w = go (decLe (w .n) (w .k))
+  where
+    go : Dec (w .n ≤ w .k) → Two m x m y
+    go (yes h) = record { p = m; q = y; p-ab = at-first x (at-spot m); p-cd = at-first y (at-spot m); q-ab = short w h; q-cd = at-last m (at-spot y); differ = n′ }
+    go (no h) = record { p = m; q = x; p-ab = at-first x (at-spot m); p-cd = at-first y (at-spot m); q-ab = at-last m (at-spot x); q-cd = short (way-back w) (omega arith); differ = n }
+
+-- segments from m that share m and one point more at most
+pub ways-differ : {m x y : Point} (v : Point) → m ≢ x → m ≢ y → ((P : Spot) → OnSeg P m x → OnSeg P m y → At P m ⊎ At P v) → SameWay m x m y → ⊥
+ways-differ {m} v n n′ h w = no-two m v h (fork n n′ w)
+
+-- ---- curves
+
+-- two curves that start in one point
+pub starts-differ : (a : Point) (r s : List Point) → Some r → Some s → Differ a r → Differ a s → Clear a r a s → SameWay a (secondOf a r) a (secondOf a s) → ⊥
+starts-differ a [] s h k n n′ c = absurd h
+starts-differ a (x ∷ r) [] h k n n′ c = absurd k
+starts-differ a (x ∷ r) (y ∷ s) h k n n′ c = ways-differ (lastOf x r) (n .0) (n′ .0) (λ P o p. c P (inl o) (inl p) .0)
+
+-- the last segment
+pub on-last : (P : Spot) (a : Point) (r : List Point) → Some r → OnSeg P (lastOf a r) (beforeLast a r) → On P a r
+on-last P a [] h o = absurd h
+on-last P a (b ∷ []) h o = inl (flip o)
+on-last P a (b ∷ c ∷ r) h o = inr (on-last P b (c ∷ r) tt o)
+
+pub last-differ : (a : Point) (r : List Point) → Some r → Differ a r → lastOf a r ≢ beforeLast a r
+last-differ a [] h n e = absurd h
+last-differ a (b ∷ []) h n e = n .0 (sym e)
+last-differ a (b ∷ c ∷ r) h n e = last-differ b (c ∷ r) tt (n .1) e
+
+-- the two ends of a closed curve
+pub loop-differ : (a : Point) (r : List Point) → Some r → Differ a r → Simple a r → lastOf a r ≡ a → SameWay a (secondOf a r) a (beforeLast a r) → ⊥
+loop-differ a [] h n s e w = absurd h
+loop-differ a (b ∷ []) h n s e w = n .0 (sym e)
+loop-differ a (b ∷ c ∷ r) h n s e w = ways-differ b (n .0) (λ k. last-differ b (c ∷ r) tt (n .1) (e ∙ k)) (λ P o p. go P (s .0 P o (on-last P b (c ∷ r) tt (subst (λ (z : Point). OnSeg P z (beforeLast b (c ∷ r))) (sym e) p)))) w
+  where
+    go : (P : Spot) → At P b ⊎ (At P a × (lastOf c r ≡ a)) → At P a ⊎ At P b
+    go P (inl k) = inr k
+    go P (inr k) = inl (k .0)
+
+-- the two halves at the cut
+pub cut-differ : {m a : Point} {r u v : List Point} → Cloven m a r u v → SameWay m (beforeLast a u) m (secondOf m v) → ⊥
+cut-differ {m} {a} {r} {u} {v} h = ways-differ a (λ k. last-differ a u (h .some-front) (h .front-differ) (h .joint ∙ k)) (second v (h .some-back) (h .back-differ))
+    (λ P o p. go P (h .shared P (on-last P a u (h .some-front) (subst (λ (z : Point). OnSeg P z (beforeLast a u)) (sym (h .joint)) o)) (on-first P v (h .some-back) p)))
+  where
+    second : (v : List Point) → Some v → Differ m v → m ≢ secondOf m v
+    second [] s n = absurd s
+    second (y ∷ v) s n = n .0
+
+    on-first : (P : Spot) (v : List Point) → Some v → OnSeg P m (secondOf m v) → On P m v
+    on-first P [] s o = absurd s
+    on-first P (y ∷ v) s o = inl o
+
+    go : (P : Spot) → At P m ⊎ (At P a × (lastOf a r ≡ a)) → At P m ⊎ At P a
+    go P (inl k) = inl k
+    go P (inr k) = inr (k .0)
+
+-- ---- one direction, from the signs and the cross product
+
+-- positive multiples of the two ways that are equal
+way-by : (a b c d : Point) (p q : ℤ) → pos 0 <ℤ p → pos 0 <ℤ q → q *ℤ (pos (b .x) -ℤ pos (a .x)) ≡ p *ℤ (pos (d .x) -ℤ pos (c .x))
+    → q *ℤ (pos (b .y) -ℤ pos (a .y)) ≡ p *ℤ (pos (d .y) -ℤ pos (c .y)) → SameWay a b c d
+way-by a b c d p q hp hq e f =
+    record {
+      n = Q .0;
+      k = P .0;
+      n-some = pos-<-back (subst (λ (z : ℤ). pos 0 <ℤ z) (sym (Q .1)) hq);
+      k-some = pos-<-back (subst (λ (z : ℤ). pos 0 <ℤ z) (sym (P .1)) hp);
+      x = back (Q .0) (P .0) (a .x) (b .x) (c .x) (d .x) ((λ t. Q .1 t *ℤ (pos (b .x) -ℤ pos (a .x))) ∙ e ∙ sym (λ t. P .1 t *ℤ (pos (d .x) -ℤ pos (c .x))));
+      y = back (Q .0) (P .0) (a .y) (b .y) (c .y) (d .y) ((λ t. Q .1 t *ℤ (pos (b .y) -ℤ pos (a .y))) ∙ f ∙ sym (λ t. P .1 t *ℤ (pos (d .y) -ℤ pos (c .y))));
+    }
+  where
+    P : (n : ℕ) × (pos n ≡ p)
+    P = natural p (<→≤ (pos 0) p hp)
+
+    Q : (n : ℕ) × (pos n ≡ q)
+    Q = natural q (<→≤ (pos 0) q hq)
+
+    back : (n k a b c d : ℕ) → pos n *ℤ (pos b -ℤ pos a) ≡ pos k *ℤ (pos d -ℤ pos c) → n * b + k * c ≡ n * a + k * d
+    back n k a b c d e =
+        pos-injective (of-zero _ _ (solve 6 (λ n k a b c d. (n ⊗ b ⊕ k ⊗ c) ⊖ (n ⊗ a ⊕ k ⊗ d) ≐ n ⊗ (b ⊖ a) ⊖ k ⊗ (d ⊖ c)) tt (pos n) (pos k) (pos a) (pos b) (pos c) (pos d) ∙ zero-of e))
+
+pub way-of : (a b c d : Point) → a ≢ b → sgn (pos (b .x) -ℤ pos (a .x)) ≡ sgn (pos (d .x) -ℤ pos (c .x)) → sgn (pos (b .y) -ℤ pos (a .y)) ≡ sgn (pos (d .y) -ℤ pos (c .y))
+    → (pos (b .x) -ℤ pos (a .x)) *ℤ (pos (d .y) -ℤ pos (c .y)) ≡ (pos (b .y) -ℤ pos (a .y)) *ℤ (pos (d .x) -ℤ pos (c .x)) → SameWay a b c d
+way-of a b c d n sx sy e = go (sgn dx) (sgn dy) refl refl
+  where
+    dx : ℤ
+    dx = pos (b .x) -ℤ pos (a .x)
+
+    dy : ℤ
+    dy = pos (b .y) -ℤ pos (a .y)
+
+    ex : ℤ
+    ex = pos (d .x) -ℤ pos (c .x)
+
+    ey : ℤ
+    ey = pos (d .y) -ℤ pos (c .y)
+
+    swap : (u v : ℤ) → u *ℤ v ≡ v *ℤ u
+    swap = solve 2 (λ u v. u ⊗ v ≐ v ⊗ u) tt
+
+    minus : (u v : ℤ) → negℤ u *ℤ v ≡ negℤ v *ℤ u
+    minus = solve 2 (λ u v. (⊝ u) ⊗ v ≐ (⊝ v) ⊗ u) tt
+
+    out : (u v : ℤ) → negℤ u *ℤ v ≡ negℤ (u *ℤ v)
+    out = solve 2 (λ u v. (⊝ u) ⊗ v ≐ ⊝ (u ⊗ v)) tt
+
+    go : (s t : Sign) → sgn dx ≡ s → sgn dy ≡ t → SameWay a b c d
+    go positive t h k = way-by a b c d dx ex (signed positive dx h) (signed positive ex (sym sx ∙ h)) (swap ex dx) (swap ex dy ∙ sym e)
+    go negative t h k =
+        way-by a b c d (negℤ dx) (negℤ ex) (neg-pos dx (signed negative dx h)) (neg-pos ex (signed negative ex (sym sx ∙ h))) (minus ex dx)
+        (out ex dy ∙ ap negℤ (swap ex dy ∙ sym e) ∙ sym (out dx ey))
+    go null positive h k = way-by a b c d dy ey (signed positive dy k) (signed positive ey (sym sy ∙ k)) (swap ey dx ∙ e) (swap ey dy)
+    go null negative h k =
+        way-by a b c d (negℤ dy) (negℤ ey) (neg-pos dy (signed negative dy k)) (neg-pos ey (signed negative ey (sym sy ∙ k))) (out ey dx ∙ ap negℤ (swap ey dx ∙ e) ∙ sym (out dy ex)) (minus ey dy)
+    go null null h k = absurd (n (sym (point-path (pos-injective (of-zero _ _ (signed null dx h))) (pos-injective (of-zero _ _ (signed null dy k))))))

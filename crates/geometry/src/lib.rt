@@ -1,0 +1,1 @@
+// The theorems on points, segments and curves lie in specs/ and proofs/.
