@@ -59,11 +59,11 @@ pub not-true : (b : Bool) → ((b ≡ true) → ⊥) → b ≡ false
 not-true true h = absurd (h refl)
 not-true false h = refl
 
-T→≡ : (b : Bool) → T b → b ≡ true
+pub T→≡ : (b : Bool) → T b → b ≡ true
 T→≡ true t = refl
 T→≡ false t = absurd t
 
-≡→T : (b : Bool) → b ≡ true → T b
+pub ≡→T : (b : Bool) → b ≡ true → T b
 ≡→T b e = subst T (sym e) tt
 
 pub beq-true : (a b : Bool) → Bool·beq a b ≡ true → a ≡ b

@@ -1,1 +1,8 @@
+-- Booleans and the test `same` (`Bools`), turns of loops over rows (`Scans`), and laws of lists.
 pub mod Bools
+pub mod Scans
+pub mod Members
+pub mod Perms
+pub mod Sums
+pub mod Counts
+pub mod Keeps

@@ -1,0 +1,15 @@
+-- Members of a list: one by one, none at all, and what two functions do to them. Assumes nothing.
+use mathlib.Core.Path.{_≡_, refl, ap₂}
+use mathlib.Core.Logic.{_⊎_, inl, inr}
+use mathlib.Core.List.{List, [], _∷_, map, List·Memᴰ, List·Memᴰ·head, List·Memᴰ·tail, List·Memᴰ·cases-cons, List·Memᴰ·not-nil}
+
+pub each-cons : {A : Type 0} {p : A → Type 0} {x : A} {l : List A} → p x → ((y : A) → List·Memᴰ y l → p y) → (y : A) → List·Memᴰ y (x ∷ l) → p y
+each-cons {p = p} px h y m = elim (List·Memᴰ·cases-cons m) [ inl e ↦ rw e px | inr k ↦ h y k ]
+
+pub map-cong : {A B : Type 0} (f g : A → B) (l : List A) → ((x : A) → List·Memᴰ x l → f x ≡ g x) → map f l ≡ map g l
+map-cong f g [] h = refl
+map-cong f g (x ∷ l) h = ap₂ _∷_ (h x (List·Memᴰ·head refl)) (map-cong f g l (λ y m. h y (List·Memᴰ·tail m)))
+
+pub some? : {A : Type 0} (ds : List A) → ((d : A) × List·Memᴰ d ds) ⊎ ((d : A) → List·Memᴰ d ds → ⊥)
+some? [] = inr (λ d m. List·Memᴰ·not-nil m)
+some? (d ∷ ds) = inl (d, List·Memᴰ·head refl)

@@ -1,0 +1,130 @@
+-- Laws of scans over a table's rows, each at the rows that are left from i on, `table f i (n - i)`:
+-- a turn of the loop is `-hit` or `-miss` (`count-step`, `fold-step`, `sweep-step`), and the loop's end is `-end`. Assumes nothing.
+use mathlib.Core.Path.{_≡_, refl, sym, ap, _∙_, subst}
+use mathlib.Core.List.{List, [], _∷_}
+use mathlib.Core.Bool.{Bool, true, false}
+use Prim.Native.Nat.{ℕ, zero, suc, _+_, _-_, _<_, _≤_}
+use native.Mathlib.Nat.{add-zero, sub-zero}
+use native.Mathlib.Numerals.{add-one}
+use native.Mathlib.Omega.{arith}
+use lib.ListN.{length, getD}
+use Rattle.lists.specs.Tests.{bit}
+use Rattle.lists.specs.Scans.{any, all, count, fold}
+use Rattle.lists.specs.Tables.{table, sweep, place, nth}
+use Rattle.lists.specs.declared.Found.the-variants.{At, Missing}
+
+left : (i n : ℕ) → i < n → n - i ≡ suc (n - (i + 1))
+left i n h = omega arith
+
+none : (i n : ℕ) → n ≤ i → n - i ≡ 0
+none i n h = omega arith
+
+module _ {S : Type 0} (g : S → ℕ → S) (s : S) (i n : ℕ) where
+  pub sweep-step : i < n → sweep g s i (n - i) ≡ sweep g (g s i) (i + 1) (n - (i + 1))
+  sweep-step h = rw (left i n h)
+
+  pub sweep-end : n ≤ i → sweep g s i (n - i) ≡ s
+  sweep-end h = rw (none i n h)
+
+module _ {A : Type 0} (f : ℕ → A) (i n : ℕ) where
+  pub table-step : i < n → table f i (n - i) ≡ f i ∷ table f (i + 1) (n - (i + 1))
+  table-step h = rw (left i n h)
+
+  pub table-end : n ≤ i → table f i (n - i) ≡ []
+  table-end h = rw (none i n h)
+
+  module _ (p : A → Bool) where
+    pub place-hit : i < n → p (f i) ≡ true → place p i (table f i (n - i)) ≡ At i
+    place-hit h e = rw (table-step h, e)
+
+    pub place-miss : i < n → p (f i) ≡ false → place p i (table f i (n - i)) ≡ place p (i + 1) (table f (i + 1) (n - (i + 1)))
+    place-miss h e = rw (table-step h, e)
+
+    pub place-end : n ≤ i → place p i (table f i (n - i)) ≡ Missing
+    place-end h = rw (table-end h)
+
+    pub any-hit : i < n → p (f i) ≡ true → any p (table f i (n - i)) ≡ true
+    any-hit h e = rw (table-step h, e)
+
+    pub any-miss : i < n → p (f i) ≡ false → any p (table f i (n - i)) ≡ any p (table f (i + 1) (n - (i + 1)))
+    any-miss h e = rw (table-step h, e)
+
+    pub any-end : n ≤ i → any p (table f i (n - i)) ≡ false
+    any-end h = rw (table-end h)
+
+    pub all-hit : i < n → p (f i) ≡ true → all p (table f i (n - i)) ≡ all p (table f (i + 1) (n - (i + 1)))
+    all-hit h e = rw (table-step h, e)
+
+    pub all-miss : i < n → p (f i) ≡ false → all p (table f i (n - i)) ≡ false
+    all-miss h e = rw (table-step h, e)
+
+    pub all-end : n ≤ i → all p (table f i (n - i)) ≡ true
+    all-end h = rw (table-end h)
+
+    pub count-step : i < n → count p (table f i (n - i)) ≡ bit (p (f i)) + count p (table f (i + 1) (n - (i + 1)))
+    count-step h = rw (table-step h)
+
+    pub count-end : n ≤ i → count p (table f i (n - i)) ≡ 0
+    count-end h = rw (table-end h)
+
+  module _ {S : Type 0} (g : S → A → S) (s : S) where
+    pub fold-step : i < n → fold g s (table f i (n - i)) ≡ fold g (g s (f i)) (table f (i + 1) (n - (i + 1)))
+    fold-step h = rw (table-step h)
+
+    pub fold-end : n ≤ i → fold g s (table f i (n - i)) ≡ s
+    fold-end h = rw (table-end h)
+
+-- ---- a table's elements
+
+module _ {A : Type 0} (f : ℕ → A) where
+  pub length-table : (a n : ℕ) → length (table f a n) ≡ n
+  length-table a zero = refl
+  length-table a (suc n) = ap suc (length-table (a + 1) n)
+
+  next : (a i : ℕ) → a + 1 + i ≡ a + suc i
+  next a i = omega arith
+
+  pub getD-table : (a n i : ℕ) (d : A) → i < n → getD (table f a n) i d ≡ f (a + i)
+  getD-table a zero i d h = absurd (omega arith)
+  getD-table a (suc n) zero d h = ap f (sym (add-zero a))
+  getD-table a (suc n) (suc i) d h = getD-table (a + 1) n i d (omega arith) ∙ ap f (next a i)
+
+  pub nth-table : {B : Type 0} (a n i : ℕ) (g : A → B) (d : B) → i < n → nth (table f a n) i g d ≡ g (f (a + i))
+  nth-table a zero i g d h = absurd (omega arith)
+  nth-table a (suc n) zero g d h = ap (λ (k : ℕ). g (f k)) (sym (add-zero a))
+  nth-table a (suc n) (suc i) g d h = nth-table (a + 1) n i g d (omega arith) ∙ ap (λ (k : ℕ). g (f k)) (next a i)
+
+  -- two tables whose elements are the same
+  pub table-same : (g : ℕ → A) (a n : ℕ) → ((i : ℕ) → a ≤ i → i < a + n → f i ≡ g i) → table f a n ≡ table g a n
+  table-same g a zero h = refl
+  table-same g a (suc n) h =
+      ap (λ (r : A). r ∷ table f (a + 1) n) (h a (omega arith) (omega arith))
+      ∙ ap (λ (l : List A). g a ∷ l) (table-same g (a + 1) n (λ i p q. h i (omega arith) (omega arith)))
+
+  module _ (p : A → Bool) where
+    -- what is found is a row's index
+    pub place-below : (a n i : ℕ) → place p a (table f a n) ≡ At i → i < a + n
+    place-below a zero i e = let z : _≡_ {A = ℕ} 0 1 = cc in omega arith
+    place-below a (suc n) i e = pick (p (f a)) refl (λ q. place-below (a + 1) n i q)
+      where
+        pick : (b : Bool) → p (f a) ≡ b → (place p (a + 1) (table f (a + 1) n) ≡ At i → i < a + 1 + n) → i < a + suc n
+        pick true q rest =
+            let k : At a ≡ At i = rw q at e in
+            let j : a ≡ i = cc in
+            omega arith
+        pick false q rest =
+            let h : i < a + 1 + n = rest (rw q at e) in
+            omega arith
+
+    -- a search that has passed i elements that p does not take
+    pub place-skip : (n i : ℕ) → i ≤ n → ((k : ℕ) → k < i → p (f k) ≡ false) → place p i (table f i (n - i)) ≡ place p 0 (table f 0 n)
+    place-skip n zero h all = rw sub-zero
+    place-skip n (suc i) h all =
+        subst (λ (k : ℕ). place p k (table f k (n - k)) ≡ place p 0 (table f 0 n)) (add-one i)
+        (sym (place-miss f i n p (omega arith) (all i (omega arith))) ∙ place-skip n i (omega arith) (λ k l. all k (omega arith)))
+
+    pub place-at : (n i : ℕ) → i < n → ((k : ℕ) → k < i → p (f k) ≡ false) → p (f i) ≡ true → place p 0 (table f 0 n) ≡ At i
+    place-at n i h all e = sym (place-skip n i (omega arith) all) ∙ place-hit f i n p h e
+
+    pub place-none : (n : ℕ) → ((k : ℕ) → k < n → p (f k) ≡ false) → place p 0 (table f 0 n) ≡ Missing
+    place-none n all = sym (place-skip n n (omega arith) all) ∙ place-end f n n p (omega arith)
