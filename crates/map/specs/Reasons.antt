@@ -1,0 +1,239 @@
+-- Reasons to turn a ticket down: for each kind a list of numbers with their conditions, looked at in order; the first that holds is the answer.
+use mathlib.Core.Bool.{Bool, true, false, cond, not, _&&_, _||_}
+use mathlib.Core.List.{List, [], _∷_, _++_}
+use mathlib.Core.Option.{Option·getD}
+use Prim.Native.Nat.{ℕ, suc, _+_}
+use lib.Dec.{ltb}
+use lib.IntN.{ℤ, pos, negsuc, natAbs}
+use lib.ListN.{length}
+use lib.Signed.{nonNeg}
+use Rattle.lists.specs.Tests.{same, bit}
+use Rattle.lists.specs.Scans.{any, isSome}
+use Rattle.plane.specs.declared.Point.{Point}
+use Rattle.plane.specs.Points.{samePoint}
+use Rattle.plane.specs.Directions.{Way, sameWay}
+use Rattle.curves.specs.Curves.{Curve, points, lastPoint, startWay, endWay, point, curveOf, coordinate, isRun, maxPoints}
+use Rattle.curves.specs.Tests.{neighboursDiffer, straightInside, onCurve, isSimple, meetWrongly}
+use Rattle.planar.specs.Rings.{sameDart}
+use Rattle.map.specs.Limits.{lastNumber}
+use Rattle.map.specs.Rows.{Node, Edge, Map, Sizes, node, edge, hasNode, hasEdge, hasFace, withoutNode, withoutEdge}
+use Rattle.map.specs.Darts.{departures, edgeEnds, way}
+use Rattle.map.specs.Links.{clockwise, cornerFace}
+use Rattle.map.specs.Faces.{faceOfPoint}
+use Rattle.map.specs.Tickets.{Ticket, AddIsoNode, MoveIsoNode, RemoveIsoNode, AddIsoEdge, RemoveIsoEdge, ChangeEdgeGeom, NewEdgesSplit, ModEdgeSplit, NewEdgeHeal, ModEdgeHeal, AddEdgeNewFaces, AddEdgeModFace, RemEdgeNewFace, RemEdgeModFace}
+use Rattle.map.specs.Edits.{changeEdgeGeom, sharedNodes, joint, healedCurve, splitsFace, makesFace}
+
+-- numbers with their conditions
+abbrev pub Reasons : Type 0
+Reasons = List (ℕ × Bool)
+
+-- the first number whose condition holds; 0 for none
+unfoldable pub firstReason : Reasons → ℕ
+firstReason [] = 0
+firstReason (r ∷ rs) = let rest = firstReason rs in cond (r .1) (r .0) rest
+
+-- ---- 4: a named row is missing
+
+-- rows are named by plain numbers
+abbrev pub noNode : Map → ℤ → Bool
+noNode m z = not (nonNeg z && hasNode m (natAbs z))
+
+abbrev pub noEdge : Map → ℤ → Bool
+noEdge m z = not (nonNeg z && hasEdge m (natAbs z))
+
+abbrev pub noFace : Map → ℤ → Bool
+noFace m z = not (nonNeg z && hasFace m (natAbs z))
+
+-- no face is given
+abbrev pub minusOne : ℤ → Bool
+minusOne (pos n) = false
+minusOne (negsuc n) = same n 0
+
+-- ---- 5: coordinate out of range, or points not 2 to 12
+
+abbrev pub outside : ℤ → ℤ → Bool
+outside x y = not (coordinate x && coordinate y)
+
+abbrev pub badCurve : List ℤ → Bool
+badCurve c = not (isRun c)
+
+-- ---- 8: curve ends differ from the nodes' points
+
+abbrev pub endsDiffer : Map → Curve → ℕ → ℕ → Bool
+endsDiffer m c u v = not (samePoint (c .first) (node m u .at) && samePoint (lastPoint c) (node m v .at))
+
+-- 5 to 8, for a curve from the node u to the node v
+abbrev pub curveReasons : Map → List ℤ → ℕ → ℕ → Reasons
+curveReasons m sent u v =
+    let c = curveOf sent in
+    (5, badCurve sent)
+    ∷ (6, not (neighboursDiffer c) || straightInside c)
+    ∷ (7, not (isSimple c))
+    ∷ (8, endsDiffer m c u v)
+    ∷ []
+
+-- ---- 9: not isolated
+
+-- a node is isolated when no edge ends there
+abbrev pub isolated : Map → ℕ → Bool
+isolated m n = isSome (node m n .face)
+
+-- the edge ends at two different nodes where no other edge ends
+unfoldable pub edgeIsolated : Map → ℕ → Bool
+edgeIsolated m e = not (same (edge m e .start) (edge m e .end)) && same (edgeEnds m (edge m e .start)) 1 && same (edgeEnds m (edge m e .end)) 1
+
+-- ---- 10: another node at the point, or an edge through it
+
+unfoldable pub nodeAt : List Node → Point → Bool
+nodeAt ns p = any (λ n. samePoint (n .at) p) ns
+
+unfoldable pub edgeThrough : Map → Point → Bool
+edgeThrough m p = any (λ e. onCurve (e .curve) p) (m .edges)
+
+-- ---- 11: a departure has the direction of another edge's end
+
+-- a departure from n, of another edge than `own`, has the direction v
+abbrev pub wayTaken : Map → ℕ → ℕ → Way → Bool
+wayTaken m own n v = any (λ d. not (same (d .edge) own) && sameWay (way m d) v) (departures m n)
+
+unfoldable pub directionTaken : Map → ℕ → ℕ → ℕ → Curve → Bool
+directionTaken m own u v c = wayTaken m own u (startWay c) || wayTaken m own v (endWay c)
+
+-- ---- 12: the two containing faces differ (4), or the corner faces differ (11, 12)
+
+abbrev pub containingDiffer : Map → ℕ → ℕ → Bool
+containingDiffer m u v = not (same (Option·getD (node m u .face) 0) (Option·getD (node m v .face) 0))
+
+unfoldable pub cornersDiffer : Map → ℕ → ℕ → Curve → Bool
+cornersDiffer m u v c = not (same (cornerFace m u (startWay c)) (cornerFace m v (endWay c)))
+
+-- ---- 14: a node inside the curve. 15: the curve meets another edge wrongly
+
+-- p is an end of the curve
+abbrev pub isEnd : Curve → Point → Bool
+isEnd c p = samePoint p (c .first) || samePoint p (lastPoint c)
+
+unfoldable pub nodeInside : Map → Curve → Bool
+nodeInside m c = any (λ n. onCurve c (n .at) && not (isEnd c (n .at))) (m .nodes)
+
+unfoldable pub edgeWrong : List Edge → Curve → Bool
+edgeWrong es c = any (λ e. meetWrongly c (e .curve)) es
+
+abbrev pub meetingReasons : Map → List Edge → Curve → Reasons
+meetingReasons m others c = (14, nodeInside m c) ∷ (15, edgeWrong others c) ∷ []
+
+-- ---- 19: cyclic order at an end would change
+
+abbrev pub turnChanges : Map → Map → ℕ → Bool
+turnChanges m m′ n = any (λ d. not (sameDart (clockwise m d) (clockwise m′ d))) (departures m n)
+
+unfoldable pub orderChanges : Map → ℕ → Curve → Bool
+orderChanges m e c = let m′ = changeEdgeGeom e c m in turnChanges m m′ (edge m e .start) || turnChanges m m′ (edge m e .end)
+
+-- ---- 20: the rows after the edit, so many more, would not fit. 21: one of so many needed numbers exceeds 999,999
+
+abbrev pub full : Sizes → Map → ℕ → ℕ → ℕ → Bool
+full s m a b c = ltb (s .nodes) (length (m .nodes) + a) || ltb (s .edges) (length (m .edges) + b) || ltb (s .faces) (length (m .faces) + c)
+
+abbrev pub spent : Map → ℕ → ℕ → ℕ → Bool
+spent m a b c = ltb (suc lastNumber) (m .nextNode + a) || ltb (suc lastNumber) (m .nextEdge + b) || ltb (suc lastNumber) (m .nextFace + c)
+
+-- ---- the kinds, with 4 and up
+
+-- kinds 7 and 8
+abbrev pub splitReasons : ℕ → Sizes → Map → ℤ → ℤ → ℤ → Reasons
+splitReasons more s m e x y =
+    (4, noEdge m e)
+    ∷ (5, outside x y)
+    ∷ (10, nodeAt (m .nodes) (point x y))
+    ∷ (13, not (onCurve (edge m (natAbs e) .curve) (point x y)))
+    ∷ (20, full s m 1 1 0)
+    ∷ (21, spent m 1 more 0)
+    ∷ []
+
+-- kinds 9 and 10
+abbrev pub healReasons : Map → ℤ → ℤ → Reasons
+healReasons m e f =
+    let a = natAbs e in
+    let b = natAbs f in
+    (4, noEdge m e || noEdge m f)
+    ∷ (16, same a b || same (length (sharedNodes m a b)) 0)
+    ∷ (17, not (isSome (joint m a b)))
+    ∷ (18, ltb maxPoints (length (points (healedCurve m a b))))
+    ∷ []
+
+-- kinds 11 (news) and 12
+abbrev pub addEdgeReasons : Bool → Sizes → Map → ℤ → ℤ → List ℤ → Reasons
+addEdgeReasons news s m u v sent =
+    let a = natAbs u in
+    let b = natAbs v in
+    let c = curveOf sent in
+    let splits = splitsFace a b c m in
+    let second = splits && news && not (same (cornerFace m a (startWay c)) 0) in
+    (4, noNode m u || noNode m v)
+    ∷ curveReasons m sent a b
+    ++ (11, directionTaken m (m .nextEdge) a b c)
+    ∷ (12, cornersDiffer m a b c)
+    ∷ meetingReasons m (m .edges) c
+    ++ (20, full s m 0 1 (bit splits))
+    ∷ (21, spent m 0 1 (bit splits + bit second))
+    ∷ []
+
+-- the reasons of each kind, in order
+unfoldable pub reasons : Sizes → Map → Ticket → Reasons
+reasons s m (AddIsoNode f x y) =
+    let p = point x y in
+    (4, not (minusOne f) && noFace m f)
+    ∷ (5, outside x y)
+    ∷ (10, nodeAt (m .nodes) p || edgeThrough m p)
+    ∷ (12, not (minusOne f) && not (same (natAbs f) (faceOfPoint m p)))
+    ∷ (20, full s m 1 0 0)
+    ∷ (21, spent m 1 0 0)
+    ∷ []
+reasons s m (MoveIsoNode n x y) =
+    let p = point x y in
+    (4, noNode m n)
+    ∷ (5, outside x y)
+    ∷ (9, not (isolated m (natAbs n)))
+    ∷ (10, nodeAt (withoutNode (natAbs n) (m .nodes)) p || edgeThrough m p)
+    ∷ []
+reasons s m (RemoveIsoNode n) =
+    (4, noNode m n)
+    ∷ (9, not (isolated m (natAbs n)))
+    ∷ []
+reasons s m (AddIsoEdge u v sent) =
+    let a = natAbs u in
+    let b = natAbs v in
+    (4, noNode m u || noNode m v)
+    ∷ curveReasons m sent a b
+    ++ (9, same a b || not (isolated m a && isolated m b))
+    ∷ (12, containingDiffer m a b)
+    ∷ meetingReasons m (m .edges) (curveOf sent)
+    ++ (20, full s m 0 1 0)
+    ∷ (21, spent m 0 1 0)
+    ∷ []
+reasons s m (RemoveIsoEdge e) =
+    (4, noEdge m e)
+    ∷ (9, not (edgeIsolated m (natAbs e)))
+    ∷ []
+reasons s m (ChangeEdgeGeom e sent) =
+    let a = edge m (natAbs e) .start in
+    let b = edge m (natAbs e) .end in
+    let c = curveOf sent in
+    (4, noEdge m e)
+    ∷ curveReasons m sent a b
+    ++ (11, directionTaken m (natAbs e) a b c)
+    ∷ meetingReasons m (withoutEdge (natAbs e) (m .edges)) c
+    ++ (19, orderChanges m (natAbs e) c)
+    ∷ []
+reasons s m (NewEdgesSplit e x y) = splitReasons 2 s m e x y
+reasons s m (ModEdgeSplit e x y) = splitReasons 1 s m e x y
+reasons s m (NewEdgeHeal e f) = healReasons m e f ++ (21, spent m 0 1 0) ∷ []
+reasons s m (ModEdgeHeal e f) = healReasons m e f
+reasons s m (AddEdgeNewFaces u v sent) = addEdgeReasons true s m u v sent
+reasons s m (AddEdgeModFace u v sent) = addEdgeReasons false s m u v sent
+reasons s m (RemEdgeNewFace e) =
+    (4, noEdge m e)
+    ∷ (21, spent m 0 0 (bit (makesFace true (natAbs e) m)))
+    ∷ []
+reasons s m (RemEdgeModFace e) = (4, noEdge m e) ∷ []

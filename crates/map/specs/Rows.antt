@@ -1,0 +1,242 @@
+-- Tables and head: the rows, the map that they make, and how both stand in flat tables.
+use mathlib.Core.Bool.{Bool, cond, not, _&&_}
+use mathlib.Core.List.{List, [], _∷_, _++_, map, flatMap}
+use mathlib.Core.Option.{Option, none, some, Option·getD}
+use Prim.Native.Nat.{ℕ, zero, suc, _+_, _*_, _-_, _/_, _%_}
+use lib.Dec.{leb}
+use lib.IntN.{ℤ, pos, negsuc, negℤ, natAbs}
+use lib.ListN.{length, getD, take, drop, replicate}
+use Rattle.lists.specs.Tests.{same}
+use Rattle.lists.specs.Scans.{any, find, isSome, keep}
+use Rattle.plane.specs.declared.Point.{Point}
+use Rattle.plane.specs.Points.{origin}
+use Rattle.curves.specs.Curves.{Curve, points, point, through, curveOf, coordinates, maxPoints}
+use Rattle.planar.specs.Map.{Dart, fwd, bwd}
+use Rattle.map.specs.declared.Head.{Head}
+use Rattle.map.specs.Limits.{maxNodes, maxEdges, maxFaces, nodeWidth, edgeWidth, faceWidth}
+
+-- a node row: number, point and containing face; no face where an edge ends
+pub record Node : Type 0 where
+  pub number : ℕ
+  pub at : Point
+  pub face : Option ℕ
+
+-- an edge row: a link is a directed edge; the curve has only the points in use
+pub record Edge : Type 0 where
+  pub number : ℕ
+  pub start : ℕ
+  pub end : ℕ
+  pub nextLeft : Dart
+  pub nextRight : Dart
+  pub left : ℕ
+  pub right : ℕ
+  pub curve : Curve
+
+-- the rows in use and the next numbers
+pub record Map : Type 0 where
+  pub nodes : List Node
+  pub edges : List Edge
+  pub faces : List ℕ
+  pub nextNode : ℕ
+  pub nextEdge : ℕ
+  pub nextFace : ℕ
+
+-- what is lent: three tables and the head beside them
+pub record Lent : Type 0 where
+  pub nodes : List ℤ
+  pub edges : List ℤ
+  pub faces : List ℤ
+  pub head : Head
+
+-- how many rows each table has room for
+pub record Sizes : Type 0 where
+  pub nodes : ℕ
+  pub edges : ℕ
+  pub faces : ℕ
+
+-- the empty map: face 0 alone
+abbrev pub emptyMap : Map
+emptyMap = record { nodes = []; edges = []; faces = 0 ∷ []; nextNode = 1; nextEdge = 1; nextFace = 1 }
+
+-- ---- from the flat tables
+
+-- the first n rows of w numbers
+abbrev pub rows : ℕ → ℕ → List ℤ → List (List ℤ)
+rows w zero l = []
+rows w (suc n) l = take w l ∷ rows w n (drop w l)
+
+-- number k of a row
+abbrev pub cell : List ℤ → ℕ → ℤ
+cell r k = getD r k (pos 0)
+
+-- a containing face; -1 is none
+abbrev pub faceOf : ℤ → Option ℕ
+faceOf (pos f) = some f
+faceOf (negsuc n) = none
+
+-- a directed edge: e or -e
+abbrev pub dartOf : ℤ → Dart
+dartOf (pos e) = fwd e
+dartOf (negsuc n) = bwd (suc n)
+
+-- rows of number, x, y and containing face
+unfoldable pub nodeOf : List ℤ → Node
+nodeOf r = record { number = natAbs (cell r 0); at = point (cell r 1) (cell r 2); face = faceOf (cell r 3) }
+
+-- number, start, end, next left, next right, left face, right face, point count, then the points
+unfoldable pub edgeOf : List ℤ → Edge
+edgeOf r =
+    record {
+      number = natAbs (cell r 0);
+      start = natAbs (cell r 1);
+      end = natAbs (cell r 2);
+      nextLeft = dartOf (cell r 3);
+      nextRight = dartOf (cell r 4);
+      left = natAbs (cell r 5);
+      right = natAbs (cell r 6);
+      curve = curveOf (take (2 * natAbs (cell r 7)) (drop 8 r));
+    }
+
+-- a face row is its number
+abbrev pub faceRowOf : List ℤ → ℕ
+faceRowOf r = natAbs (cell r 0)
+
+-- the rows in use: as many as the head counts
+abbrev pub nodeRows : Lent → List (List ℤ)
+nodeRows l = rows nodeWidth (natAbs (l .head .nodes)) (l .nodes)
+
+abbrev pub edgeRows : Lent → List (List ℤ)
+edgeRows l = rows edgeWidth (natAbs (l .head .edges)) (l .edges)
+
+abbrev pub faceRows : Lent → List (List ℤ)
+faceRows l = rows faceWidth (natAbs (l .head .faces)) (l .faces)
+
+-- the map that tables and head hold
+unfoldable pub mapOf : Lent → Map
+mapOf l =
+    record {
+      nodes = map nodeOf (nodeRows l);
+      edges = map edgeOf (edgeRows l);
+      faces = map faceRowOf (faceRows l);
+      nextNode = natAbs (l .head .«next_node»);
+      nextEdge = natAbs (l .head .«next_edge»);
+      nextFace = natAbs (l .head .«next_face»);
+    }
+
+-- the room of the tables
+abbrev pub sizesOf : Lent → Sizes
+sizesOf l = record { nodes = length (l .nodes) / nodeWidth; edges = length (l .edges) / edgeWidth; faces = length (l .faces) / faceWidth }
+
+-- ---- to the flat tables
+
+-- e is written e, -e is written -e
+abbrev pub dartCell : Dart → ℤ
+dartCell d = cond (d .back) (negℤ (pos (d .edge))) (pos (d .edge))
+
+-- no containing face is written -1
+abbrev pub faceCell : Option ℕ → ℤ
+faceCell none = negsuc 0
+faceCell (some f) = pos f
+
+-- the numbers, and zeros up to n
+abbrev pub filled : ℕ → List ℤ → List ℤ
+filled n l = l ++ replicate (n - length l) (pos 0)
+
+-- a row as its numbers
+unfoldable pub nodeCells : Node → List ℤ
+nodeCells n = pos (n .number) ∷ pos (n .at .x) ∷ pos (n .at .y) ∷ faceCell (n .face) ∷ []
+
+unfoldable pub edgeCells : Edge → List ℤ
+edgeCells e =
+    pos (e .number) ∷ pos (e .start) ∷ pos (e .end) ∷ dartCell (e .nextLeft) ∷ dartCell (e .nextRight)
+    ∷ pos (e .left) ∷ pos (e .right) ∷ pos (length (points (e .curve))) ∷ filled (2 * maxPoints) (coordinates (points (e .curve)))
+
+abbrev pub faceCells : ℕ → List ℤ
+faceCells f = pos f ∷ []
+
+-- the head of a map
+abbrev pub headOf : Map → Head
+headOf m =
+    record {
+      nodes = pos (length (m .nodes));
+      edges = pos (length (m .edges));
+      faces = pos (length (m .faces));
+      «next_node» = pos (m .nextNode);
+      «next_edge» = pos (m .nextEdge);
+      «next_face» = pos (m .nextFace);
+    }
+
+-- the map in tables of these sizes: rows from the front, zeros behind
+unfoldable pub lentOf : Sizes → Map → Lent
+lentOf s m =
+    record {
+      nodes = filled (s .nodes * nodeWidth) (flatMap nodeCells (m .nodes));
+      edges = filled (s .edges * edgeWidth) (flatMap edgeCells (m .edges));
+      faces = filled (s .faces * faceWidth) (flatMap faceCells (m .faces));
+      head = headOf m;
+    }
+
+-- whole rows of w numbers, from `least` to `most` of them
+abbrev pub wholeRows : ℕ → ℕ → ℕ → List ℤ → Bool
+wholeRows w least most l = same (length l % w) 0 && leb least (length l / w) && leb (length l / w) most
+
+-- the tables are whole rows, within the limits, and the face table is not empty
+unfoldable pub whole : Lent → Bool
+whole l = wholeRows nodeWidth 0 maxNodes (l .nodes) && wholeRows edgeWidth 0 maxEdges (l .edges) && wholeRows faceWidth 1 maxFaces (l .faces)
+
+-- ---- a number that is looked up is either found with its row or missing
+
+-- found with its row, or missing
+abbrev pub findNode : Map → ℕ → Option Node
+findNode m n = find (λ r. same (r .number) n) (m .nodes)
+
+abbrev pub findEdge : Map → ℕ → Option Edge
+findEdge m e = find (λ r. same (r .number) e) (m .edges)
+
+-- the row exists
+abbrev pub hasNode : Map → ℕ → Bool
+hasNode m n = isSome (findNode m n)
+
+abbrev pub hasEdge : Map → ℕ → Bool
+hasEdge m e = isSome (findEdge m e)
+
+abbrev pub hasFace : Map → ℕ → Bool
+hasFace m f = any (same f) (m .faces)
+
+-- the row with the number; a row of zeros for a missing one
+unfoldable pub node : Map → ℕ → Node
+node m n = Option·getD (findNode m n) (record { number = 0; at = origin; face = none })
+
+unfoldable pub edge : Map → ℕ → Edge
+edge m e =
+    Option·getD (findEdge m e) (record { number = 0; start = 0; end = 0; nextLeft = fwd 0; nextRight = fwd 0; left = 0; right = 0; curve = through [] })
+
+-- ---- rows changed, added and closed up
+
+-- the map with other rows in one table
+abbrev pub setNodes : List Node → Map → Map
+setNodes ns m = record { nodes = ns; edges = m .edges; faces = m .faces; nextNode = m .nextNode; nextEdge = m .nextEdge; nextFace = m .nextFace }
+
+abbrev pub setEdges : List Edge → Map → Map
+setEdges es m = record { nodes = m .nodes; edges = es; faces = m .faces; nextNode = m .nextNode; nextEdge = m .nextEdge; nextFace = m .nextFace }
+
+abbrev pub setFaces : List ℕ → Map → Map
+setFaces fs m = record { nodes = m .nodes; edges = m .edges; faces = fs; nextNode = m .nextNode; nextEdge = m .nextEdge; nextFace = m .nextFace }
+
+-- so many new numbers given to nodes, edges and faces
+abbrev pub given : ℕ → ℕ → ℕ → Map → Map
+given a b c m = record { nodes = m .nodes; edges = m .edges; faces = m .faces; nextNode = m .nextNode + a; nextEdge = m .nextEdge + b; nextFace = m .nextFace + c }
+
+-- a row changed: the nodes that p takes, the edge e
+unfoldable pub atNodes : (Node → Bool) → (Node → Node) → Map → Map
+atNodes p f m = setNodes (map (λ n. cond (p n) (f n) n) (m .nodes)) m
+
+unfoldable pub atEdge : ℕ → (Edge → Edge) → Map → Map
+atEdge e f m = setEdges (map (λ r. cond (same (r .number) e) (f r) r) (m .edges)) m
+
+-- a removed row is closed up
+abbrev pub withoutNode : ℕ → List Node → List Node
+withoutNode n ns = keep (λ r. not (same (r .number) n)) ns
+
+abbrev pub withoutEdge : ℕ → List Edge → List Edge
+withoutEdge e es = keep (λ r. not (same (r .number) e)) es
