@@ -39,18 +39,18 @@ segmentsFrom l i = segmentsOf (pointAt l i) (pointsFrom l (i + 1))
 
 -- segment i of n
 module _ (l : List ℤ) (i : ℕ) {n : ℕ} (all : n + 1 ≡ length l / 2) (taken : i < n) where
-  h : i + 1 < length l / 2
-  h = omega arith
+  within : i + 1 < length l / 2
+  within = omega arith
 
   pub differs-hit : samePoint (pointAt l i) (pointAt l (i + 1)) ≡ true → differs (pointAt l i) (pointsFrom l (i + 1)) ≡ false
-  differs-hit e = rw (from-step l (i + 1) h, e)
+  differs-hit e = rw (from-step l (i + 1) within, e)
 
   pub differs-miss : samePoint (pointAt l i) (pointAt l (i + 1)) ≡ false
       → differs (pointAt l i) (pointsFrom l (i + 1)) ≡ differs (pointAt l (i + 1)) (pointsFrom l (i + 1 + 1))
-  differs-miss e = rw (from-step l (i + 1) h, e)
+  differs-miss e = rw (from-step l (i + 1) within, e)
 
   pub segments-step : segmentsFrom l i ≡ record { from = pointAt l i; to = pointAt l (i + 1) } ∷ segmentsFrom l (i + 1)
-  segments-step = rw (from-step l (i + 1) h)
+  segments-step = rw (from-step l (i + 1) within)
 
   module _ (p : Point) where
     pub place-hit : onSegment p (pointAt l i) (pointAt l (i + 1)) ≡ true → place (on p) i (segmentsFrom l i) ≡ At i
@@ -62,34 +62,34 @@ module _ (l : List ℤ) (i : ℕ) {n : ℕ} (all : n + 1 ≡ length l / 2) (take
 
   module _ (k : List Point) (a b : Point) where
     pub segCurve-hit : segWrong k a b (pointAt l i) (pointAt l (i + 1)) ≡ true → segCurve k a b (pointAt l i) (pointsFrom l (i + 1)) ≡ true
-    segCurve-hit e = rw (from-step l (i + 1) h, e)
+    segCurve-hit e = rw (from-step l (i + 1) within, e)
 
     pub segCurve-miss : segWrong k a b (pointAt l i) (pointAt l (i + 1)) ≡ false
         → segCurve k a b (pointAt l i) (pointsFrom l (i + 1)) ≡ segCurve k a b (pointAt l (i + 1)) (pointsFrom l (i + 1 + 1))
-    segCurve-miss e = rw (from-step l (i + 1) h, e)
+    segCurve-miss e = rw (from-step l (i + 1) within, e)
 
     pub free-hit : segWrong (lastly k (pointsFrom l (i + 1 + 1))) a b (pointAt l i) (pointAt l (i + 1)) ≡ true
         → free k a b (pointAt l i) (pointsFrom l (i + 1)) ≡ false
-    free-hit e = rw (from-step l (i + 1) h, e)
+    free-hit e = rw (from-step l (i + 1) within, e)
 
     pub free-miss : segWrong (lastly k (pointsFrom l (i + 1 + 1))) a b (pointAt l i) (pointAt l (i + 1)) ≡ false
         → free k a b (pointAt l i) (pointsFrom l (i + 1)) ≡ free k a b (pointAt l (i + 1)) (pointsFrom l (i + 1 + 1))
-    free-miss e = rw (from-step l (i + 1) h, e)
+    free-miss e = rw (from-step l (i + 1) within, e)
 
   module _ (k : List Point) (c : Point) (s : List Point) where
     pub curves-hit : segCurve k (pointAt l i) (pointAt l (i + 1)) c s ≡ true → curveCurve k (pointAt l i) (pointsFrom l (i + 1)) c s ≡ true
-    curves-hit e = rw (from-step l (i + 1) h, e)
+    curves-hit e = rw (from-step l (i + 1) within, e)
 
     pub curves-miss : segCurve k (pointAt l i) (pointAt l (i + 1)) c s ≡ false
         → curveCurve k (pointAt l i) (pointsFrom l (i + 1)) c s ≡ curveCurve k (pointAt l (i + 1)) (pointsFrom l (i + 1 + 1)) c s
-    curves-miss e = rw (from-step l (i + 1) h, e)
+    curves-miss e = rw (from-step l (i + 1) within, e)
 
   pub arc-hit : after [] (pointAt l i) (pointAt l (i + 1)) (pointsFrom l (i + 2)) ≡ false → arc (pointAt l i) (pointsFrom l (i + 1)) ≡ false
-  arc-hit e = let f : i + 1 + 1 ≡ i + 2 = omega arith in rw (from-step l (i + 1) h, f, e)
+  arc-hit e = let f : i + 1 + 1 ≡ i + 2 = omega arith in rw (from-step l (i + 1) within, f, e)
 
   pub arc-miss : after [] (pointAt l i) (pointAt l (i + 1)) (pointsFrom l (i + 2)) ≡ true
       → arc (pointAt l i) (pointsFrom l (i + 1)) ≡ arc (pointAt l (i + 1)) (pointsFrom l (i + 1 + 1))
-  arc-miss e = let f : i + 2 ≡ i + 1 + 1 = omega arith in rw (from-step l (i + 1) h, rw f at e)
+  arc-miss e = let f : i + 2 ≡ i + 1 + 1 = omega arith in rw (from-step l (i + 1) within, rw f at e)
 
   -- one segment more that may pass below p
   pub odd-again : (p : Point) (o r : Bool) {a b : Point} {t : Bool} → a ≡ pointAt l i → b ≡ pointAt l (i + 1)
@@ -114,29 +114,29 @@ module _ (l : List ℤ) (i : ℕ) (n : ℕ) (all : n + 1 ≡ length l / 2) (take
 
 -- after the last segment
 module _ (l : List ℤ) (i : ℕ) {n : ℕ} (all : n + 1 ≡ length l / 2) (left : n ≤ i) where
-  h′ : length l / 2 ≤ i + 1
-  h′ = omega arith
+  past : length l / 2 ≤ i + 1
+  past = omega arith
 
   pub differs-end : differs (pointAt l i) (pointsFrom l (i + 1)) ≡ true
-  differs-end = rw (from-end l (i + 1) h′)
+  differs-end = rw (from-end l (i + 1) past)
 
   pub segments-end : segmentsFrom l i ≡ []
-  segments-end = rw (from-end l (i + 1) h′)
+  segments-end = rw (from-end l (i + 1) past)
 
   pub odd-end : (p : Point) (o : Bool) → o ⊕ sum (segmentsFrom l i) (passesBelow p) ≡ o
   odd-end p o = rw segments-end (⊕-false o)
 
   pub segCurve-end : (k : List Point) (a b : Point) → segCurve k a b (pointAt l i) (pointsFrom l (i + 1)) ≡ false
-  segCurve-end k a b = rw (from-end l (i + 1) h′)
+  segCurve-end k a b = rw (from-end l (i + 1) past)
 
   pub curves-end : (k : List Point) (c : Point) (s : List Point) → curveCurve k (pointAt l i) (pointsFrom l (i + 1)) c s ≡ false
-  curves-end k c s = rw (from-end l (i + 1) h′)
+  curves-end k c s = rw (from-end l (i + 1) past)
 
   pub free-end : (k : List Point) (a b : Point) → free k a b (pointAt l i) (pointsFrom l (i + 1)) ≡ true
-  free-end k a b = rw (from-end l (i + 1) h′)
+  free-end k a b = rw (from-end l (i + 1) past)
 
   pub arc-end : arc (pointAt l i) (pointsFrom l (i + 1)) ≡ true
-  arc-end = rw (from-end l (i + 1) h′)
+  arc-end = rw (from-end l (i + 1) past)
 
 pub straight-end : (l : List ℤ) (i n : ℕ) → n + 1 ≡ length l / 2 → 1 ≤ n → n - 1 ≤ i → i ≤ n - 1 → straightIn (pointAt l i) (pointsFrom l (i + 1)) ≡ false
 straight-end l i n all one left in-it = rw (from-step l (i + 1) (omega arith), from-end l (i + 1 + 1) (omega arith))
