@@ -16,14 +16,23 @@ use Rattle.rotation.specs.Law.{Tells, redirect, leading, Law, Apart}
 use Rattle.rotation.proofs.Tells.{is-yes, is-no}
 use Rattle.rotation.proofs.Whole.{law-turn}
 
+-- `sameDart` tells darts apart
 pub tells : Tells sameDart
 tells = record { yes = λ a b e. sameDart-true a b e; self = λ a. sameDart-refl a }
 
+-- the links of a lawful map turn once about each node
 pub lawful-one-turn : (es : List Arc) (tail : Dart → ℕ) (way : Dart → Way) (next : Dart → Dart) → Law sameDart rev tail way (darts es) next → Apart tail way (darts es) → OneTurn es tail next
 lawful-one-turn es tail way next l apart = law-turn sameDart rev tail way tells rev-rev (darts es) next l apart
 
+-- a new departure p with the reverse y, which led to p as an edge by itself, and no other at its node: nothing changes
+pub link-alone-is-tie : (next : Dart → Dart) (p y d : Dart) → next y ≡ p → leading sameDart y p (redirect sameDart p p next) d ≡ tie alone y next d
+link-alone-is-tie next p y d ey = elim (sameDart? d y) [
+  | inl e ↦ ap (λ (b : Bool). cond b p (redirect sameDart p p next d)) (is-yes tells d y e) ∙ sym (ap next e ∙ ey)
+  | inr ne ↦ ap (λ (b : Bool). cond b p (redirect sameDart p p next d)) (is-no tells d y ne) ∙ elim (sameDart? (next d) p) [ inl e ↦ ap (λ (b : Bool). cond b p (next d)) (is-yes tells (next d) p e) ∙ sym e | inr q ↦ ap (λ (b : Bool). cond b p (next d)) (is-no tells (next d) p q) ]
+]
+
 module _ (ds : List Dart) (next : Dart → Dart) (one : (d c : Dart) → List·Memᴰ d ds → List·Memᴰ c ds → next d ≡ next c → d ≡ c) where
-  -- a new departure p with the reverse y, which led to p as an edge by itself: x led to c, the first one met
+  -- the same with others at its node: x led to c, the first one met. So it is for `link`, where c is `firstClockwise`
   pub link-is-tie : (p y x c : Dart) → (List·Memᴰ y ds → ⊥) → List·Memᴰ x ds → next x ≡ c → next y ≡ p → (d : Dart) → List·Memᴰ d (y ∷ ds) → leading sameDart y c (redirect sameDart c p next) d ≡ tie (after x) y next d
   link-is-tie p y x c new mx ex ey d m = elim (sameDart? d y) [
     | inl e ↦ ap (λ (b : Bool). cond b c (redirect sameDart c p next d)) (is-yes tells d y e) ∙ sym (ap next (ap (exchange x y) e ∙ exchange-right x y) ∙ ex)
@@ -36,14 +45,7 @@ module _ (ds : List Dart) (next : Dart → Dart) (one : (d c : Dart) → List·M
         | inr nx ↦ ap (λ (b : Bool). cond b p (next d)) (is-no tells (next d) c (λ q. nx (one d x k mx (q ∙ sym ex)))) ∙ sym (ap next (exchange-other x y d nx ne))
       ]
 
-  -- with none there it leads to p, as it did
-  pub link-alone-is-tie : (p y d : Dart) → next y ≡ p → leading sameDart y p (redirect sameDart p p next) d ≡ tie alone y next d
-  link-alone-is-tie p y d ey = elim (sameDart? d y) [
-    | inl e ↦ ap (λ (b : Bool). cond b p (redirect sameDart p p next d)) (is-yes tells d y e) ∙ sym (ap next e ∙ ey)
-    | inr ne ↦ ap (λ (b : Bool). cond b p (redirect sameDart p p next d)) (is-no tells d y ne) ∙ elim (sameDart? (next d) p) [ inl e ↦ ap (λ (b : Bool). cond b p (next d)) (is-yes tells (next d) p e) ∙ sym e | inr q ↦ ap (λ (b : Bool). cond b p (next d)) (is-no tells (next d) p q) ]
-  ]
-
-  -- a departure p with the reverse y is removed: x led to p. At every dart but y, which goes
+  -- a departure p with the reverse y is removed, as by `unlink`: x led to p. At every dart but y, which goes
   pub unlink-is-tie : (p y x : Dart) → List·Memᴰ x ds → next x ≡ p → (d : Dart) → List·Memᴰ d ds → ((d ≡ y) → ⊥) → redirect sameDart p (next y) next d ≡ tie (after x) y next d
   unlink-is-tie p y x mx ex d m ne = elim (sameDart? d x) [
     | inl e ↦ ap (λ (b : Bool). cond b (next y) (next d)) (is-yes tells (next d) p (ap next e ∙ ex)) ∙ sym (ap next (ap (exchange x y) e ∙ exchange-left x y))
