@@ -9,10 +9,15 @@ pub struct Map {
 
 impl Map {
     pub const NODES: usize = 1000;
+
     pub const EDGES: usize = 2000;
+
     pub const FACES: usize = 1000;
+
     pub const POINTS: usize = 12;
+
     pub const COORDINATE: u64 = 1048575;
+
     pub const LAST_NUMBER: u64 = 999999;
 
     // The limits as the definitions have them.
