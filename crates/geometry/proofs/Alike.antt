@@ -1,12 +1,12 @@
--- Two lists of points that draw one curve from a: with a point more or less that is straightBetween between its neighbours. Assumes nothing.
-use mathlib.Core.Path.{_≡_, refl, sym, ap, _∙_, subst}
-use mathlib.Core.List.{List, [], _∷_, _++_}
-use mathlib.Core.Logic.{_⊎_, inl, inr, _≢_}
+-- Two lists of points that draw one curve from a: with a point more or less that is straight between its neighbours. Assumes nothing.
+use mathlib.Core.Path.{_≡_, refl, sym, _∙_}
+use mathlib.Core.List.{List, [], _∷_}
+use mathlib.Core.Logic.{_⊎_, inl, inr}
 use Rattle.plane.specs.declared.Point.{Point}
 use Rattle.curves.specs.Curves.{lastOf, secondOf, beforeLast}
-use Rattle.geometry.specs.Spots.{Spot, spot, At, OnSeg, Between, SameWay}
+use Rattle.geometry.specs.Spots.{Spot, At, OnSeg, Between, SameWay}
 use Rattle.geometry.specs.Meaning.{On, Differ, Arc, Simple, Some}
-use Rattle.geometry.proofs.Segments.{at-first, at-last, at-one, at-spot, first-part, last-part, parts, pin, same-way, first-way, last-way, way-back, turn-way, between-differ}
+use Rattle.geometry.proofs.Segments.{at-first, at-last, at-one, first-part, last-part, parts, pin, same-way, first-way, last-way, way-back, turn-way, between-differ}
 
 pub record Alike (a : Point) (r s : List Point) : Type 0 where
   pub some : Some r
@@ -94,7 +94,7 @@ alike-cons a b {r} {s} h =
     closed u v e P (inl k) = inl k
     closed u v e P (inr k) = inr (k .0, sym e ∙ k .1)
 
--- ---- a point straightBetween between the first two
+-- ---- a point straight between the first two
 
 module _ {a m b : Point} (s : Between a m b) (r : List Point) where
   abbrev Whole : Spot → Type 0

@@ -1,5 +1,5 @@
 -- Curves made of two: spots, arcs and simple curves of a ∷ (r ++ s), whose joint is the last point of a ∷ r. Assumes nothing.
-use mathlib.Core.Path.{_≡_, refl, sym, ap, _∙_, subst}
+use mathlib.Core.Path.{_≡_, refl, sym, _∙_, subst}
 use mathlib.Core.List.{List, [], _∷_, _++_}
 use mathlib.Core.Logic.{_⊎_, inl, inr, _≢_}
 use Rattle.plane.specs.declared.Point.{Point}

@@ -1,7 +1,7 @@
 -- The sign test says no more than is right: segments that pass it share a point (`complete`). Where the lines cross, the point's weights are the
 -- doubled areas. Where all four ends lie on one line, an end of one segment lies on the other. Assumes nothing.
-use mathlib.Core.Path.{_≡_, refl, sym, ap, _∙_, subst}
-use mathlib.Core.Bool.{Bool, true, false, false≢true, _&&_}
+use mathlib.Core.Path.{_≡_, sym, ap, _∙_, subst}
+use mathlib.Core.Bool.{true, false≢true}
 use mathlib.Core.Logic.{_⊎_, inl, inr, _≢_}
 use Prim.Native.Nat.{ℕ, _+_, _*_, _-_, _≤_, _<_, min, max}
 use native.Mathlib.Decide.{ℕ-discrete, decLe}
@@ -84,7 +84,7 @@ common-second a b c d o = spot-common (at-last a (at-spot b)) o
 
 -- ---- all on one line
 
--- which end lies in the other's range, where two overlapMore overlap
+-- which end lies in the other's range, where two ranges overlap
 data Found (a b c d : ℕ) : Type 0 where
   cd-a : c ≢ d → min c d ≤ a → a ≤ max c d → Found a b c d
   cd-b : c ≢ d → min c d ≤ b → b ≤ max c d → Found a b c d

@@ -1,22 +1,22 @@
--- The contact of two segments means what it says (T1): None, Touch, Crossing and Stretch, by the spots that they share. Assumes nothing.
-use mathlib.Core.Path.{_≡_, refl, sym, ap, _∙_, subst}
+-- The contact of two segments means what it says: none, touch, crossing and stretch, by the spots that they share. Assumes nothing.
+use mathlib.Core.Path.{_≡_, refl, sym, ap, _∙_}
 use mathlib.Core.Bool.{Bool, true, false, false≢true, _||_}
 use mathlib.Core.Logic.{_⊎_, inl, inr, _≢_}
-use Prim.Native.Nat.{ℕ, suc, _+_, _*_, _≤_, _<_}
+use Prim.Native.Nat.{ℕ, _+_, _*_, _<_}
 use native.Mathlib.Nat.{eq-of-mul-eq-mul-left, mul-left-comm, mul-comm}
 use native.Mathlib.Omega.{arith}
-use Rattle.lists.proofs.Bools.{which, or-true}
+use Rattle.lists.proofs.Bools.{or-true}
 use Rattle.plane.specs.declared.Point.{Point}
 use Rattle.plane.specs.Segments.{meets, onSegment, stretches, ended, contactOf, contact}
 use Rattle.plane.specs.declared.Contact.{Contact}
 use Rattle.plane.specs.declared.Contact.the-variants.{None, Touch, Crossing, Stretch}
 use Rattle.geometry.specs.Spots.{Spot, spot, Same, At, OnSeg}
 use Rattle.geometry.specs.Meaning.{Shared, Single, Inner, Double, Means}
-use Rattle.geometry.proofs.Segments.{at-first, at-last, at-spot, at-one, point-path}
+use Rattle.geometry.proofs.Segments.{at-first, at-last, at-spot, at-one}
 use Rattle.geometry.proofs.Booleans.{or-false}
 use Rattle.geometry.proofs.Meeting.{meets-true, meets-false, onSegment-true, onSegment-is}
 use Rattle.geometry.proofs.Stretch.{unique, same-at}
-use Rattle.geometry.proofs.Double.{Two, stretch-two}
+use Rattle.geometry.proofs.Double.{stretch-two}
 
 -- ---- a spot that is a point
 
@@ -93,10 +93,6 @@ module _ (a b c d : Point) where
         not-c = λ p. false≢true (sym (l .0) ∙ onSegment-is (at-on p (o .0)));
         not-d = λ p. false≢true (sym (l .1) ∙ onSegment-is (at-on p (o .0)));
       }
-
-  -- two segments that Stretch meet
-  stretch-meets : stretches a b c d ≡ true → meets a b c d ≡ false → ⊥
-  stretch-meets e f = let t = stretch-two a b c d e in meets-false f (t .p-ab) (t .p-cd)
 
   pub contact-means : Means (contact a b c d) a b c d
   unfolding contact single

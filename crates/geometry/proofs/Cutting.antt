@@ -1,17 +1,16 @@
--- The cut of a simple curve (T2). Assumes nothing.
+-- The cut of a simple curve. Assumes nothing.
 use mathlib.Core.Path.{_≡_, refl, sym, ap, _∙_, subst}
 use mathlib.Core.Bool.{Bool, true, false}
 use mathlib.Core.List.{List, [], _∷_, _++_}
 use mathlib.Core.Logic.{_⊎_, inl, inr, _≢_}
-use Prim.Native.Nat.{ℕ, suc, _+_, _≤_}
-use native.Mathlib.Omega.{arith}
+use Prim.Native.Nat.{ℕ, suc, _+_}
 use lib.ListN.{length}
 use Rattle.plane.specs.declared.Point.{Point}
 use Rattle.plane.specs.Points.{samePoint}
 use Rattle.plane.specs.Segments.{onSegment}
 use Rattle.curves.specs.Curves.{lastOf, secondOf, beforeLast}
 use Rattle.curves.specs.Edits.{Halves, cutHere, cut}
-use Rattle.geometry.specs.Spots.{Spot, spot, At, OnSeg, Between, SameWay}
+use Rattle.geometry.specs.Spots.{Spot, spot, At, OnSeg, SameWay}
 use Rattle.geometry.specs.Meaning.{On, Differ, Arc, Simple, Some}
 use Rattle.geometry.proofs.Segments.{at-last, at-spot}
 use Rattle.geometry.proofs.Meeting.{samePoint-true, samePoint-differ, onSegment-true, onSegment-false}

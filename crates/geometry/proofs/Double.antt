@@ -1,22 +1,22 @@
 -- Segments that stretch have two points in common (`stretch-two`). Assumes nothing.
 use mathlib.Core.Path.{_≡_, refl, sym, ap, _∙_, subst}
-use mathlib.Core.Bool.{Bool, true, false, false≢true, _||_}
+use mathlib.Core.Bool.{true, false≢true}
 use mathlib.Core.Logic.{_⊎_, inl, inr, _≢_}
-use Prim.Native.Nat.{ℕ, suc, _+_, _*_, _-_, _≤_, _<_, min, max}
+use Prim.Native.Nat.{ℕ, _+_, _*_, _-_, _≤_, _<_, min, max}
 use native.Mathlib.Decide.{decLe}
 use native.Mathlib.Omega.{arith}
 use borrow.Author.Tests.{ltb-true}
 use lib.IntN.{ℤ, pos, negℤ, _+ℤ_, _-ℤ_, _*ℤ_}
 use Rattle.integers.specs.Solver.{con, ⊝_, _⊕_, _⊖_, _⊗_, _≐_, solve}
-use Rattle.integers.specs.Linear.{linear, _≼_, _≺_, _≗_, _⇒_}
+use Rattle.integers.specs.Linear.{linear, _≗_, _⇒_}
 use Rattle.integers.specs.Order.{Sign, negative, null, positive, sgn, signed, pos-<, sub-pos, *-pos-zero}
 use Rattle.lists.proofs.Bools.{or-true}
 use Rattle.plane.specs.declared.Point.{Point}
 use Rattle.plane.specs.Areas.{area, isNull}
 use Rattle.plane.specs.Segments.{overlapMore, stretches}
-use Rattle.geometry.specs.Spots.{Spot, spot, At, OnSeg}
-use Rattle.plane.proofs.Laws.{areaE, solve₃, solve₄}
-use Rattle.geometry.proofs.Segments.{zero-of, combine, at-first, at-last, at-spot}
+use Rattle.geometry.specs.Spots.{spot, At, OnSeg}
+use Rattle.plane.proofs.Laws.{areaE, solve₄}
+use Rattle.geometry.proofs.Segments.{combine, at-first, at-last, at-spot}
 use Rattle.geometry.proofs.Complete.{areas, area-mirror, mirror, on-x}
 use Rattle.geometry.proofs.Booleans.{and-true}
 
@@ -95,7 +95,7 @@ record Hit (a b c d : Point) (x : ℕ) : Type 0 where
   ab : OnSeg (spot p) a b
   cd : OnSeg (spot p) c d
 
--- numbers: the bounds l₁, h₁ and l₂, h₂ of two overlapMore
+-- numbers: the bounds l₁, h₁ and l₂, h₂ of two ranges
 bottom : (x l₁ l₂ h₁ h₂ : ℕ) → x ≡ l₁ → l₂ ≤ l₁ → max l₁ l₂ < min h₁ h₂ → (x ≡ max l₁ l₂) × (l₂ ≤ x) × (x < h₁) × (x ≤ h₂)
 bottom x l₁ l₂ h₁ h₂ e k h = (omega arith, omega arith, omega arith, omega arith)
 
@@ -188,7 +188,7 @@ two-y a b c d e f g =
       differ = λ k. t .differ (ap mirror k);
     }
 
-null-is : (z : ℤ) → isNull (sgn z) ≡ true → z ≡ pos 0
+pub null-is : (z : ℤ) → isNull (sgn z) ≡ true → z ≡ pos 0
 null-is z e = signed null z (go (sgn z) e)
   where
     go : (s : Sign) → isNull s ≡ true → s ≡ null

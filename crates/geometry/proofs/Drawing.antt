@@ -1,4 +1,4 @@
--- Edits mayShare what is drawn: curves that are simple and share no points but common ends (T5). Assumes nothing.
+-- Edits keep what is drawn: curves that are simple and share no points but common ends. Assumes nothing.
 use mathlib.Core.Path.{_≡_, refl, sym, ap, _∙_, subst}
 use mathlib.Core.Bool.{Bool, true, false}
 use mathlib.Core.List.{List, [], _∷_, _++_}
@@ -7,15 +7,15 @@ use Rattle.plane.specs.declared.Point.{Point}
 use Rattle.lists.specs.Members.{All, Pairs}
 use Rattle.curves.specs.Curves.{lastOf, Curve, lastPoint}
 use Rattle.curves.specs.Tests.{meetWrongly, isSimple}
-use Rattle.curves.specs.Edits.{cut, join, turned, front, back, joined, reversed, course}
-use Rattle.geometry.specs.Spots.{Spot, spot, At, OnSeg}
-use Rattle.geometry.specs.Meaning.{On, Some, Differ, Arc, Simple, End, Clear}
+use Rattle.curves.specs.Edits.{cut, join, front, back, joined, course}
+use Rattle.geometry.specs.Spots.{Spot, spot, At}
+use Rattle.geometry.specs.Meaning.{On, Some, Differ, Simple, End, Clear}
 use Rattle.geometry.specs.Drawing.{OnCurve, Good, ClearCurves, Away, Drawn}
 use Rattle.geometry.proofs.Segments.{at-one}
 use Rattle.geometry.proofs.Chains.{end-on, arc-simple}
 use Rattle.geometry.proofs.Cutting.{Cloven, cut-cloven}
 use Rattle.geometry.proofs.Joining.{Joined, heal-joined}
-use Rattle.geometry.proofs.Turning.{last-turned, some-turned, differ-turned, simple-turned, clear-turned}
+use Rattle.geometry.proofs.Turning.{some-turned, differ-turned, simple-turned, clear-turned}
 use Rattle.geometry.proofs.Truth.{wrong-clear, simple-true}
 
 -- ---- lists

@@ -1,18 +1,17 @@
--- The edits by kind, on the list of all curves (T5); pairs of a list by members and keys; the point that two edges share is that of a node ending both.
--- Assumes nothing.
-use mathlib.Core.Path.{_≡_, refl, sym, ap, _∙_, subst}
+-- The edits by kind, on the list of all curves; the point that two edges share is that of a node ending both. Assumes nothing.
+use mathlib.Core.Path.{_≡_, refl, sym, _∙_, subst}
 use mathlib.Core.Bool.{Bool, true, false}
-use mathlib.Core.List.{List, [], _∷_, _++_, append-assoc, append-nil, List·Memᴰ, List·Memᴰ·head, List·Memᴰ·tail, List·Memᴰ·cases-cons, List·Memᴰ·not-nil}
+use mathlib.Core.List.{List, [], _∷_, _++_, append-assoc, append-nil}
 use mathlib.Core.Logic.{_⊎_, inl, inr, _≢_}
 use Prim.Native.Nat.{ℕ}
 use Rattle.plane.specs.declared.Point.{Point}
-use Rattle.lists.specs.Members.{All, Pairs}
+use Rattle.lists.specs.Members.{All}
 use Rattle.curves.specs.Curves.{Curve, lastPoint}
 use Rattle.curves.specs.Tests.{meetWrongly, isSimple}
-use Rattle.curves.specs.Edits.{front, back, joined, reversed, course}
+use Rattle.curves.specs.Edits.{front, back, joined, course}
 use Rattle.geometry.specs.Spots.{Spot, spot, At}
 use Rattle.geometry.specs.Meaning.{Some, Differ}
-use Rattle.geometry.specs.Drawing.{OnCurve, Good, ClearCurves, Away, Drawn}
+use Rattle.geometry.specs.Drawing.{OnCurve, ClearCurves, Away, Drawn}
 use Rattle.geometry.proofs.Drawing.{Taken, take, put-taken, add, split-drawn, heal-taken, common-point}
 
 -- ---- by kind
@@ -64,38 +63,6 @@ first-place us vs ws t = put-taken us (vs ++ ws) (append-assoc us vs ws) t
 
 pub second-place : (us vs ws : List Curve) {c : Curve} → Taken c ((us ++ vs) ++ ws) → Drawn ((us ++ vs) ++ (c ∷ ws))
 second-place us vs ws t = put-taken (us ++ vs) ws refl t
-
--- ---- pairs, by members
-
-module _ {A : Type 0} (R : A → Type 0) where
-  pub all-member : (l : List A) (x : A) → All R l → List·Memᴰ x l → R x
-  all-member [] x h m = absurd (List·Memᴰ·not-nil m)
-  all-member (y ∷ l) x h m = go (List·Memᴰ·cases-cons m) (all-member l x (h .1))
-    where
-      go : (x ≡ y) ⊎ List·Memᴰ x l → (List·Memᴰ x l → R x) → R x
-      go (inl e) f = subst R (sym e) (h .0)
-      go (inr k) f = f k
-
-  pub all-of : (l : List A) → ((x : A) → List·Memᴰ x l → R x) → All R l
-  all-of [] f = tt
-  all-of (y ∷ l) f = (f y (List·Memᴰ·head refl), all-of l (λ x m. f x (List·Memᴰ·tail m)))
-
-module _ {A : Type 0} (R : A → A → Type 0) (turn : (x y : A) → R x y → R y x) (key : A → ℕ) where
-  -- two members with different keys
-  pub pairs-members : (l : List A) (x y : A) → Pairs R l → List·Memᴰ x l → List·Memᴰ y l → key x ≢ key y → R x y
-  pairs-members [] x y h m n k = absurd (List·Memᴰ·not-nil m)
-  pairs-members (z ∷ l) x y h m n k = go (List·Memᴰ·cases-cons m) (List·Memᴰ·cases-cons n) (pairs-members l x y (h .1))
-    where
-      go : (x ≡ z) ⊎ List·Memᴰ x l → (y ≡ z) ⊎ List·Memᴰ y l → (List·Memᴰ x l → List·Memᴰ y l → key x ≢ key y → R x y) → R x y
-      go (inl e) (inl f) g = absurd (k (ap key (e ∙ sym f)))
-      go (inl e) (inr f) g = subst (λ (w : A). R w y) (sym e) (all-member (R z) l y (h .0) f)
-      go (inr e) (inl f) g = turn y x (subst (λ (w : A). R w x) (sym f) (all-member (R z) l x (h .0) e))
-      go (inr e) (inr f) g = g e f k
-
-  pub pairs-of : (l : List A) → Pairs (λ x y. key x ≢ key y) l → ((x y : A) → List·Memᴰ x l → List·Memᴰ y l → key x ≢ key y → R x y) → Pairs R l
-  pairs-of [] d f = tt
-  pairs-of (z ∷ l) d f =
-      (all-of (R z) l (λ x m. f z x (List·Memᴰ·head refl) (List·Memᴰ·tail m) (all-member (λ y. key z ≢ key y) l x (d .0) m)), pairs-of l (d .1) (λ x y m n. f x y (List·Memᴰ·tail m) (List·Memᴰ·tail n)))
 
 -- ---- nodes
 

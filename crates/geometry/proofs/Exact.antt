@@ -1,12 +1,12 @@
 -- The tests of curves refuse no curve wrongly: curves that share common ends only pass `wrong`, and simple curves pass `simple`. Assumes nothing.
 use mathlib.Core.Path.{_≡_, refl, sym, ap, _∙_, subst}
-use mathlib.Core.Bool.{Bool, true, false, not, false≢true, _&&_, _||_}
-use mathlib.Core.List.{List, [], _∷_, _++_}
+use mathlib.Core.Bool.{Bool, true, false, not, _&&_, _||_}
+use mathlib.Core.List.{List, [], _∷_}
 use mathlib.Core.Logic.{_⊎_, inl, inr, _≢_}
-use Prim.Native.Nat.{ℕ, suc, _+_, _*_, _≤_, _<_}
+use Prim.Native.Nat.{ℕ, _+_, _*_, _<_}
 use native.Mathlib.Nat.{mul-pos}
 use native.Mathlib.Omega.{arith}
-use lib.IntN.{ℤ, pos, _+ℤ_, _*ℤ_}
+use lib.IntN.{pos}
 use Rattle.integers.specs.Solver.{con, _⊕_, _⊗_, _≐_, solve}
 use Rattle.integers.specs.Linear.{pos-injective}
 use Rattle.lists.proofs.Bools.{which, or-right}
@@ -14,9 +14,9 @@ use Rattle.plane.specs.declared.Point.{Point}
 use Rattle.plane.specs.Points.{samePoint}
 use Rattle.plane.specs.Segments.{meets, onSegment, stretches}
 use Rattle.curves.specs.Curves.{lastOf}
-use Rattle.curves.specs.Tests.{shares, segWrong, mayShare, commonEnds, segCurve, curveCurve, wrong, lastly, free, after, arc, simple}
+use Rattle.curves.specs.Tests.{shares, segWrong, mayShare, commonEnds, segCurve, curveCurve, wrong, free, after, arc, simple}
 use Rattle.geometry.specs.Spots.{Spot, spot, At, OnSeg, Among}
-use Rattle.geometry.specs.Meaning.{On, Some, Differ, Arc, Simple, End, Clear}
+use Rattle.geometry.specs.Meaning.{On, Differ, Arc, Simple, End, Clear}
 use Rattle.geometry.proofs.Segments.{point-path, at-one, at-spot, at-first, at-last}
 use Rattle.geometry.proofs.Chains.{end-on, arc-open}
 use Rattle.geometry.proofs.Booleans.{and-is, or-left, or-no}

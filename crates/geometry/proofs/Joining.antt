@@ -1,5 +1,5 @@
--- The join of two arcs at a common end (T3). Assumes nothing.
-use mathlib.Core.Path.{_≡_, refl, sym, ap, _∙_, subst}
+-- The join of two arcs at a common end. Assumes nothing.
+use mathlib.Core.Path.{_≡_, refl, sym, ap, _∙_}
 use mathlib.Core.Bool.{Bool, true, false}
 use mathlib.Core.List.{List, [], _∷_, _++_}
 use mathlib.Core.Logic.{_⊎_, inl, inr, _≢_}
@@ -9,7 +9,7 @@ use Rattle.plane.specs.declared.Point.{Point}
 use Rattle.plane.specs.Segments.{straightBetween}
 use Rattle.curves.specs.Curves.{lastOf, secondOf, beforeLast}
 use Rattle.curves.specs.Edits.{dropped, joinHere, join}
-use Rattle.geometry.specs.Spots.{Spot, At, OnSeg, SameWay}
+use Rattle.geometry.specs.Spots.{Spot, At, SameWay}
 use Rattle.geometry.specs.Meaning.{On, Differ, Arc, Simple, Some, End, Clear}
 use Rattle.geometry.proofs.Segments.{at-one}
 use Rattle.geometry.proofs.Meeting.{straightBetween-true}

@@ -1,21 +1,24 @@
--- The tests of points and segments say what they should: one point, on a segment, meeting segments. Assumes nothing.
-use mathlib.Core.Path.{_≡_, refl, sym, ap, _∙_, subst}
-use mathlib.Core.Bool.{Bool, true, false, not, false≢true, _&&_, _||_}
+-- The tests of points say what they should: one point, on a segment, meeting segments, straight between, neighbours, on a curve. Assumes nothing.
+use mathlib.Core.Path.{_≡_, refl, sym, ap, _∙_}
+use mathlib.Core.Bool.{true, false, not, false≢true}
+use mathlib.Core.List.{List, [], _∷_}
 use mathlib.Core.Logic.{_⊎_, inl, inr, _≢_}
-use Prim.Native.Nat.{ℕ, suc, _+_, _*_, _-_, _≤_, _<_}
-use native.Mathlib.Nat.{eq-of-mul-eq-mul-left, mul-left-comm}
+use Prim.Native.Nat.{ℕ, _+_, _*_, _-_, _<_}
+use native.Mathlib.Nat.{eq-of-mul-eq-mul-left}
 use native.Mathlib.Omega.{arith}
 use borrow.Author.Tests.{not-true}
-use lib.IntN.{ℤ, pos, _+ℤ_, _-ℤ_, _*ℤ_}
-use Rattle.integers.specs.Solver.{con, _⊕_, _⊖_, _⊗_, _≐_, solve}
+use lib.IntN.{pos}
+use Rattle.integers.specs.Solver.{_⊕_, _⊗_, _≐_, solve}
 use Rattle.integers.specs.Linear.{pos-injective}
 use Rattle.lists.specs.Tests.{same}
-use Rattle.lists.proofs.Bools.{which, same-true, same-refl}
+use Rattle.lists.proofs.Bools.{which, same-true, same-refl, or-true, or-right}
 use Rattle.plane.specs.declared.Point.{Point}
 use Rattle.plane.specs.Points.{samePoint}
 use Rattle.plane.specs.Segments.{meets, onSegment, straightBetween}
-use Rattle.geometry.specs.Spots.{Spot, spot, At, OnSeg, Between}
-use Rattle.geometry.proofs.Booleans.{and-true, and-is}
+use Rattle.curves.specs.Tests.{differs, passes}
+use Rattle.geometry.specs.Spots.{Spot, spot, OnSeg, Between}
+use Rattle.geometry.specs.Meaning.{On, Differ}
+use Rattle.geometry.proofs.Booleans.{and-true, and-is, or-left}
 use Rattle.geometry.proofs.Segments.{point-path, at-first, at-spot}
 use Rattle.geometry.proofs.Sound.{spot-common, common-spot, sound}
 use Rattle.geometry.proofs.Complete.{complete}
@@ -75,7 +78,7 @@ onSegment-is {m} {a} {b} o = meets-spot (at-first m (at-spot m)) o
 pub onSegment-false : (m a b : Point) → onSegment m a b ≡ false → OnSeg (spot m) a b → ⊥
 onSegment-false m a b e o = false≢true (sym e ∙ onSegment-is o)
 
--- ---- straightBetween between
+-- ---- straight between
 
 pub straightBetween-true : (a m b : Point) → straightBetween a m b ≡ true → Between a m b
 unfolding straightBetween
@@ -87,3 +90,30 @@ straightBetween-true a m b e =
       not-first = samePoint-differ a m (not-true _ (h .0));
       not-last = samePoint-differ m b (not-true _ (k .0));
     }
+
+pub straightBetween-is : {a m b : Point} → Between a m b → straightBetween a m b ≡ true
+unfolding straightBetween
+straightBetween-is {a} {m} {b} s = and-is (ap not (samePoint-false a m (s .not-first))) (and-is (ap not (samePoint-false m b (s .not-last))) (onSegment-is (s .on)))
+
+-- ---- points of a curve
+
+pub differs-true : (a : Point) (r : List Point) → differs a r ≡ true → Differ a r
+differs-true a [] e = tt
+differs-true a (b ∷ r) e = let h = and-true (not (samePoint a b)) (differs b r) e in (samePoint-differ a b (not-true _ (h .0)), differs-true b r (h .1))
+
+pub differs-is : (a : Point) (r : List Point) → Differ a r → differs a r ≡ true
+differs-is a [] n = refl
+differs-is a (b ∷ r) n = and-is (ap not (samePoint-false a b (n .0))) (differs-is b r (n .1))
+
+pub passes-true : (m a : Point) (r : List Point) → passes m a r ≡ true → On (spot m) a r
+passes-true m a [] e = absurd (false≢true e)
+passes-true m a (b ∷ r) e = go (or-true (onSegment m a b) (passes m b r) e) (passes-true m b r)
+  where
+    go : (onSegment m a b ≡ true) ⊎ (passes m b r ≡ true) → (passes m b r ≡ true → On (spot m) b r) → OnSeg (spot m) a b ⊎ On (spot m) b r
+    go (inl k) f = inl (onSegment-true m a b k)
+    go (inr k) f = inr (f k)
+
+pub passes-is : (m a : Point) (r : List Point) → On (spot m) a r → passes m a r ≡ true
+passes-is m a [] h = absurd h
+passes-is m a (b ∷ r) (inl o) = or-left (passes m b r) (onSegment-is o)
+passes-is m a (b ∷ r) (inr k) = or-right (onSegment m a b) (passes m b r) (passes-is m b r k)

@@ -1,15 +1,15 @@
--- Simple, by the numbers of two segments (T1): neighbours share their common point only, the first and the last of a closed curve its end, others nothing.
+-- Simple, by the numbers of two segments: neighbours share their common point only, the first and the last of a closed curve its end, others nothing.
 -- Assumes nothing.
 use mathlib.Core.Path.{_≡_, refl, sym, ap, _∙_, subst}
 use mathlib.Core.List.{List, [], _∷_}
-use mathlib.Core.Logic.{_⊎_, inl, inr, _≢_}
-use Prim.Native.Nat.{ℕ, zero, suc, _+_, _≤_, _<_}
+use mathlib.Core.Logic.{_⊎_, inl, inr}
+use Prim.Native.Nat.{ℕ, zero, suc, _+_}
 use native.Mathlib.Omega.{arith}
 use lib.ListN.{length}
 use Rattle.plane.specs.declared.Point.{Point}
 use Rattle.curves.specs.Curves.{lastOf}
-use Rattle.geometry.specs.Spots.{Spot, spot, At, OnSeg}
-use Rattle.geometry.specs.Meaning.{On, OnNth, pointOf, Some, Differ, Arc, Simple}
+use Rattle.geometry.specs.Spots.{Spot, At}
+use Rattle.geometry.specs.Meaning.{On, OnNth, pointOf, Differ, Arc, Simple}
 use Rattle.geometry.proofs.Segments.{at-one, at-first}
 use Rattle.geometry.proofs.Chains.{end-on, arc-open}
 use Rattle.geometry.proofs.Exact.{near}

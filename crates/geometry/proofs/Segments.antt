@@ -1,14 +1,14 @@
 -- Spots of segments: the ends, a segment and its two parts, the two spots that two segments share. Assumes nothing.
-use mathlib.Core.Path.{_≡_, refl, sym, ap, _∙_, subst}
+use mathlib.Core.Path.{_≡_, sym, ap, _∙_, subst}
 use mathlib.Core.Logic.{_⊎_, inl, inr, _≢_}
-use Prim.Native.Nat.{ℕ, suc, _+_, _*_, _-_, _≤_, _<_, min, max}
+use Prim.Native.Nat.{ℕ, _+_, _*_, _-_, _≤_, _<_}
 use native.Mathlib.Decide.{ℕ-discrete, decLe}
 use native.Mathlib.Nat.{eq-of-mul-eq-mul-left, mul-pos}
 use native.Mathlib.Omega.{arith}
 use lib.IntN.{ℤ, pos, negℤ, _+ℤ_, _-ℤ_, _*ℤ_, +ℤ-invr}
 use Rattle.integers.specs.Solver.{con, ⊝_, _⊕_, _⊖_, _⊗_, _≐_, solve}
-use Rattle.integers.specs.Linear.{linear, _≼_, _≺_, _≗_, _⇒_, pos-injective}
-use Rattle.integers.specs.Order.{pos-<, pos-sub, *-pos-zero, weighted-not-pos, weighted-not-neg}
+use Rattle.integers.specs.Linear.{linear, _≗_, _⇒_, pos-injective}
+use Rattle.integers.specs.Order.{pos-<, pos-sub, *-pos-zero}
 use Rattle.plane.specs.declared.Point.{Point}
 use Rattle.geometry.specs.Spots.{Spot, spot, At, OnSeg, Between, SameWay}
 
@@ -233,7 +233,7 @@ pub last-way : {a m b : Point} → Between a m b → SameWay m b a b
 last-way {a} {m} {b} s =
     turn-way (first-way (record { on = flip (s .on); not-first = λ e. s .not-last (sym e); not-last = λ e. s .not-first (sym e) }))
 
--- the neighbours of a point that is straightBetween between them differ
+-- the neighbours of a point that is straight between them differ
 pub between-differ : {a m b : Point} → Between a m b → a ≢ b
 between-differ {a} {m} {b} s e =
     s .not-first (at-one (at-spot a) (pin (s .on) (at-first m (at-spot a)) (subst (λ (z : Point). OnSeg (spot a) m z) e (at-last m (at-spot a)))))

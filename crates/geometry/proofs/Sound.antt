@@ -1,6 +1,6 @@
 -- The sign test is right: segments that share a point pass it (`sound`). Assumes nothing.
 use mathlib.Core.Path.{_≡_, refl, sym, ap, _∙_}
-use mathlib.Core.Bool.{Bool, true, false, false≢true}
+use mathlib.Core.Bool.{Bool, true, false}
 use Prim.Native.Nat.{ℕ, _+_, _*_, _-_, _<_, min, max}
 use native.Mathlib.Nat.{eq-of-mul-eq-mul-left, mul-left-comm}
 use native.Mathlib.Omega.{arith}
@@ -58,7 +58,7 @@ common-spot {a} {b} {c} {d} s = (
 pub swap : {a b c d : Point} → Common a b c d → Common c d a b
 swap s = record { j = s .l; i = s .k; l = s .j; k = s .i; ab = s .cd; cd = s .ab; same-x = sym (s .same-x); same-y = sym (s .same-y) }
 
--- ---- the overlapMore overlap
+-- ---- the ranges overlap
 
 -- a and b are not both above c and d
 not-above : (j i l k a b c d : ℕ) → 0 < j + i → 0 < l + k → (l + k) * (j * a + i * b) ≡ (j + i) * (l * c + k * d) → max c d < min a b → ⊥

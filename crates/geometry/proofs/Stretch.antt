@@ -1,25 +1,25 @@
--- Two different spots that two segments share: then the segments lie on one line and their overlapMore overlap (`two-stretch`). Assumes nothing.
-use mathlib.Core.Path.{_≡_, refl, sym, ap, _∙_, subst}
-use mathlib.Core.Bool.{Bool, true, false, false≢true, _&&_, _||_}
+-- Two different spots that two segments share: then the segments lie on one line and their ranges overlap (`two-stretch`). Assumes nothing.
+use mathlib.Core.Path.{_≡_, sym, _∙_}
+use mathlib.Core.Bool.{true, false, false≢true, _&&_, _||_}
 use mathlib.Core.Logic.{_⊎_, inl, inr, _≢_}
-use Prim.Native.Nat.{ℕ, suc, _+_, _*_, _-_, _≤_, _<_, min, max}
+use Prim.Native.Nat.{ℕ, _+_, _*_, _-_, _≤_, _<_, min, max}
 use native.Mathlib.Decide.{ℕ-discrete, decLe}
-use native.Mathlib.Nat.{mul-le-mul-left, mul-le-mul-right, mul-left-comm, lt-of-mul-lt-mul-left, lt-of-le-of-lt, lt-of-lt-of-le, mul-comm}
+use native.Mathlib.Nat.{mul-le-mul-left, mul-left-comm, lt-of-mul-lt-mul-left, mul-comm}
 use native.Mathlib.Omega.{arith}
 use borrow.Author.Tests.{lt-ltb}
 use lib.IntN.{ℤ, pos, negℤ, _+ℤ_, _-ℤ_, _*ℤ_}
-use lib.Signed.{_≤ℤ_, _<ℤ_}
+use lib.Signed.{_<ℤ_}
 use Rattle.integers.specs.Solver.{con, ⊝_, _⊕_, _⊖_, _⊗_, _≐_, solve}
-use Rattle.integers.specs.Linear.{linear, _≼_, _≺_, _≗_, _⇒_, pos-injective}
+use Rattle.integers.specs.Linear.{linear, _≺_, _⇒_}
 use Rattle.integers.specs.Order.{sgn, pos-<, sub-pos, *-pos-zero, weighted-not-pos, weighted-not-neg}
 use Rattle.lists.proofs.Bools.{or-right}
 use Rattle.plane.specs.declared.Point.{Point}
 use Rattle.plane.specs.Areas.{area, isNull}
 use Rattle.plane.specs.Segments.{overlapMore, stretches}
 use Rattle.geometry.specs.Spots.{Spot, spot, Same, At, OnSeg}
-use Rattle.plane.proofs.Laws.{areaE, solve₃}
+use Rattle.plane.proofs.Laws.{areaE}
 use Rattle.geometry.proofs.Booleans.{or-left}
-use Rattle.geometry.proofs.Segments.{zero-of, combine, times-zero, off, balance, flip}
+use Rattle.geometry.proofs.Segments.{combine, off, balance, flip}
 
 -- ---- on one line
 
@@ -101,7 +101,7 @@ line-up : (P Q : Spot) (a b c : Point) → Along P Q a → Along P Q b → Along
 line-up P Q a b c e f g (inl h) = area-seen P a b c (*-pos-zero (rx P Q) _ (run-pos (P .d) (P .x) (Q .d) (Q .x) h) (flat-x (ox P a) (oy P a) (ox P b) (oy P b) (ox P c) (oy P c) (rx P Q) (ry P Q) e f g))
 line-up P Q a b c e f g (inr h) = area-seen P a b c (*-pos-zero (ry P Q) _ (run-pos (P .d) (P .y) (Q .d) (Q .y) h) (flat-y (ox P a) (oy P a) (ox P b) (oy P b) (ox P c) (oy P c) (rx P Q) (ry P Q) e f g))
 
--- ---- overlapMore
+-- ---- ranges
 
 -- the spot X / D with the weights j, i of a, b
 module _ (D X j i a b : ℕ) (w : 0 < j + i) (e : (j + i) * X ≡ D * (j * a + i * b)) where

@@ -1,17 +1,17 @@
--- A curve the other way round (T4). Assumes nothing.
+-- A curve the other way round. Assumes nothing.
 use mathlib.Core.Path.{_≡_, refl, sym, ap, _∙_, subst}
 use mathlib.Core.List.{List, [], _∷_, _++_}
-use mathlib.Core.Logic.{_⊎_, inl, inr, _≢_}
-use Prim.Native.Nat.{ℕ, suc, _+_}
+use mathlib.Core.Logic.{_⊎_, inl, inr}
+use Prim.Native.Nat.{suc, _+_}
 use native.Mathlib.Omega.{arith}
 use lib.ListN.{length, length-append}
 use Rattle.plane.specs.declared.Point.{Point}
 use Rattle.curves.specs.Curves.{lastOf, secondOf, beforeLast}
 use Rattle.curves.specs.Edits.{turned}
-use Rattle.geometry.specs.Spots.{Spot, At, OnSeg, SameWay}
+use Rattle.geometry.specs.Spots.{Spot, At, OnSeg}
 use Rattle.geometry.specs.Meaning.{On, Differ, Arc, Simple, Some, End, Clear}
 use Rattle.geometry.proofs.Segments.{flip}
-use Rattle.geometry.proofs.Chains.{on-front, on-back, on-split, last-append, differ-join, Joint, arc-join, arc-simple, Closing, Cut}
+use Rattle.geometry.proofs.Chains.{on-front, on-back, on-split, last-append, differ-join, Joint, arc-join, arc-simple, Closing}
 use Rattle.geometry.proofs.Joining.{simple-some}
 use Rattle.geometry.proofs.Cutting.{second-append, before-append}
 

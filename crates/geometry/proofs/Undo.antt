@@ -1,50 +1,22 @@
--- Heal undoes split, and split undoes heal; the tests for neighbours and for points on a curve. Assumes nothing.
+-- The join undoes the cut, and the cut the join. Assumes nothing.
 use mathlib.Core.Path.{_≡_, refl, sym, ap, _∙_, subst}
-use mathlib.Core.Bool.{Bool, true, false, not, false≢true, _&&_, _||_}
-use mathlib.Core.List.{List, [], _∷_, _++_}
+use mathlib.Core.Bool.{Bool, true, false}
+use mathlib.Core.List.{List, [], _∷_}
 use mathlib.Core.Logic.{_⊎_, inl, inr, _≢_}
-use borrow.Author.Tests.{not-true}
-use Rattle.lists.proofs.Bools.{which, or-true}
+use Rattle.lists.proofs.Bools.{which}
 use Rattle.plane.specs.declared.Point.{Point}
 use Rattle.plane.specs.Points.{samePoint}
 use Rattle.plane.specs.Segments.{onSegment, straightBetween}
 use Rattle.curves.specs.Curves.{lastOf}
-use Rattle.curves.specs.Tests.{straightIn, differs, passes}
+use Rattle.curves.specs.Tests.{straightIn}
 use Rattle.curves.specs.Edits.{Halves, cutHere, cut, dropped, joinHere, join}
-use Rattle.geometry.specs.Spots.{Spot, spot, At, OnSeg, Between}
-use Rattle.geometry.specs.Meaning.{On, Some, Differ, Arc, Simple}
-use Rattle.geometry.proofs.Segments.{at-last, at-first, at-spot, at-one}
-use Rattle.geometry.proofs.Booleans.{and-true, and-is, or-false}
-use Rattle.geometry.proofs.Meeting.{samePoint-true, samePoint-differ, samePoint-false, samePoint-refl, onSegment-true, onSegment-false, onSegment-is, straightBetween-true}
+use Rattle.geometry.specs.Spots.{spot, At, OnSeg}
+use Rattle.geometry.specs.Meaning.{On, Some, Differ, Arc}
+use Rattle.geometry.proofs.Segments.{at-last, at-spot, at-one}
+use Rattle.geometry.proofs.Booleans.{or-false}
+use Rattle.geometry.proofs.Meeting.{samePoint-true, samePoint-differ, samePoint-false, samePoint-refl, onSegment-true, onSegment-false, onSegment-is, straightBetween-true, straightBetween-is}
 use Rattle.geometry.proofs.Chains.{end-on, arc-open}
 use Rattle.geometry.proofs.Cutting.{Place, cut-place}
-
--- ---- tests
-
-pub straightBetween-is : {a m b : Point} → Between a m b → straightBetween a m b ≡ true
-unfolding straightBetween
-straightBetween-is {a} {m} {b} s = and-is (ap not (samePoint-false a m (s .not-first))) (and-is (ap not (samePoint-false m b (s .not-last))) (onSegment-is (s .on)))
-
-pub differs-true : (a : Point) (r : List Point) → differs a r ≡ true → Differ a r
-differs-true a [] e = tt
-differs-true a (b ∷ r) e = let h = and-true (not (samePoint a b)) (differs b r) e in (samePoint-differ a b (not-true _ (h .0)), differs-true b r (h .1))
-
-pub differs-is : (a : Point) (r : List Point) → Differ a r → differs a r ≡ true
-differs-is a [] n = refl
-differs-is a (b ∷ r) n = and-is (ap not (samePoint-false a b (n .0))) (differs-is b r (n .1))
-
-pub passes-true : (m a : Point) (r : List Point) → passes m a r ≡ true → On (spot m) a r
-passes-true m a [] e = absurd (false≢true e)
-passes-true m a (b ∷ r) e = go (or-true (onSegment m a b) (passes m b r) e) (passes-true m b r)
-  where
-    go : (onSegment m a b ≡ true) ⊎ (passes m b r ≡ true) → (passes m b r ≡ true → On (spot m) b r) → OnSeg (spot m) a b ⊎ On (spot m) b r
-    go (inl k) f = inl (onSegment-true m a b k)
-    go (inr k) f = inr (f k)
-
-pub passes-false : (m a : Point) (r : List Point) → passes m a r ≡ false → On (spot m) a r → ⊥
-passes-false m a [] e h = h
-passes-false m a (b ∷ r) e (inl o) = onSegment-false m a b (or-false (onSegment m a b) (passes m b r) e .0) o
-passes-false m a (b ∷ r) e (inr k) = passes-false m b r (or-false (onSegment m a b) (passes m b r) e .1) k
 
 -- ---- split, then heal
 
@@ -56,9 +28,9 @@ straight-tail : (a b : Point) (r : List Point) → straightIn a (b ∷ r) ≡ fa
 straight-tail a b [] e = refl
 straight-tail a b (c ∷ r) e = or-false (straightBetween a b c) (straightIn b (c ∷ r)) e .1
 
-pub heal-split : (m a : Point) (r : List Point) → a ≢ m → lastOf a r ≢ m → On (spot m) a r → straightIn a r ≡ false → join a (cut m a r .front) (cut m a r .back) ≡ r
-heal-split m a [] n l h w = absurd h
-heal-split m a (b ∷ r) n l h w = go (onSegment m a b) (samePoint m b) refl refl (cut-place m b r) (heal-split m b r)
+pub join-cut : (m a : Point) (r : List Point) → a ≢ m → lastOf a r ≢ m → On (spot m) a r → straightIn a r ≡ false → join a (cut m a r .front) (cut m a r .back) ≡ r
+join-cut m a [] n l h w = absurd h
+join-cut m a (b ∷ r) n l h w = go (onSegment m a b) (samePoint m b) refl refl (cut-place m b r) (join-cut m b r)
   where
     at-vertex : (r : List Point) → lastOf b r ≢ b → straightIn a (b ∷ r) ≡ false → joinHere (dropped a b r) b r ≡ b ∷ r
     at-vertex [] k w = absurd (k refl)
@@ -83,15 +55,15 @@ heal-split m a (b ∷ r) n l h w = go (onSegment m a b) (samePoint m b) refl ref
 
 -- ---- heal, then split
 
-pub split-heal : (a : Point) (r s : List Point) → Some r → Some s → Arc a r → Differ a r → Differ (lastOf a r) s → cut (lastOf a r) a (join a r s) ≡ record { front = r; back = s }
-split-heal a [] s h k f n n′ = absurd h
-split-heal a (m ∷ []) [] h k f n n′ = absurd k
-split-heal a (m ∷ []) (y ∷ s) h k f n n′ = go (straightBetween a m y) refl
+pub cut-join : (a : Point) (r s : List Point) → Some r → Some s → Arc a r → Differ a r → Differ (lastOf a r) s → cut (lastOf a r) a (join a r s) ≡ record { front = r; back = s }
+cut-join a [] s h k f n n′ = absurd h
+cut-join a (m ∷ []) [] h k f n n′ = absurd k
+cut-join a (m ∷ []) (y ∷ s) h k f n n′ = go (straightBetween a m y) refl
   where
     go : (t : Bool) → straightBetween a m y ≡ t → cut m a (joinHere t m (y ∷ s)) ≡ record { front = m ∷ []; back = y ∷ s }
     go true e = λ t. cutHere (onSegment-is (straightBetween-true a m y e .on) t) (samePoint-false m y (n′ .0) t) m y s (cut m y s)
     go false e = λ t. cutHere (onSegment-is (at-last a (at-spot m)) t) (samePoint-refl m t) m m (y ∷ s) (cut m m (y ∷ s))
-split-heal a (b ∷ c ∷ r) s h k f n n′ = (λ t. cutHere (apart t) (samePoint z b) z b (join b (c ∷ r) s) (cut z b (join b (c ∷ r) s))) ∙ ap (λ (u : Halves). record { front = b ∷ u .front; back = u .back }) (split-heal b (c ∷ r) s tt k (f .1) (n .1) n′)
+cut-join a (b ∷ c ∷ r) s h k f n n′ = (λ t. cutHere (apart t) (samePoint z b) z b (join b (c ∷ r) s) (cut z b (join b (c ∷ r) s))) ∙ ap (λ (u : Halves). record { front = b ∷ u .front; back = u .back }) (cut-join b (c ∷ r) s tt k (f .1) (n .1) n′)
   where
     z : Point
     z = lastOf c r

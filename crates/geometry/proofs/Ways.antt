@@ -1,23 +1,30 @@
 -- Directions: curves that share common ends only leave a common end in different directions. Assumes nothing.
 use mathlib.Core.Path.{_≡_, refl, sym, ap, _∙_, subst}
-use mathlib.Core.List.{List, [], _∷_, _++_}
+use mathlib.Core.Bool.{true, false}
+use mathlib.Core.List.{List, [], _∷_}
 use mathlib.Core.Logic.{_⊎_, inl, inr, _≢_}
-use Prim.Native.Nat.{ℕ, suc, _+_, _*_, _-_, _≤_, _<_}
+use Prim.Native.Nat.{ℕ, _+_, _*_, _-_, _≤_, _<_}
 use native.Mathlib.Decide.{decLe}
 use native.Mathlib.Omega.{arith}
+use lib.ListN.{getD}
 use lib.IntN.{ℤ, pos, negℤ, _+ℤ_, _-ℤ_, _*ℤ_}
 use lib.Signed.{_<ℤ_}
 use Rattle.integers.specs.Solver.{con, ⊝_, _⊕_, _⊖_, _⊗_, _≐_, solve}
-use Rattle.integers.specs.Linear.{linear, _≗_, _⇒_, pos-injective}
+use Rattle.integers.specs.Linear.{pos-injective}
 use Rattle.integers.specs.Order.{Sign, negative, null, positive, sgn, product, sgn-*, sgn-positive, signed, neg-pos, natural, <→≤, pos-<, pos-<-back, pos-sub}
+use Rattle.lists.specs.Tests.{same}
+use Rattle.lists.proofs.Bools.{same-true, same-eq, not-true}
 use Rattle.plane.specs.declared.Point.{Point}
-use Rattle.curves.specs.Curves.{lastOf, beforeLast, secondOf}
+use Rattle.plane.specs.Areas.{isNull}
+use Rattle.plane.specs.Directions.{Way, wayTo, classes, class, cross, sameWay}
+use Rattle.curves.specs.Curves.{lastOf, beforeLast, secondOf, Curve, lastPoint, startWay, endWay}
 use Rattle.geometry.specs.Spots.{Spot, spot, At, OnSeg, SameWay}
-use Rattle.geometry.specs.Meaning.{On, Some, Differ, Arc, Simple, End, Clear}
-use Rattle.geometry.proofs.Segments.{point-path, zero-of, of-zero, combine, at-first, at-last, at-spot, flip, way-back}
-use Rattle.geometry.proofs.Double.{Two}
+use Rattle.geometry.specs.Meaning.{On, Some, Differ, Simple, Clear}
+use Rattle.geometry.specs.Drawing.{Good, ClearCurves}
+use Rattle.geometry.proofs.Segments.{point-path, zero-of, of-zero, at-first, at-last, at-spot, flip, way-back}
+use Rattle.geometry.proofs.Booleans.{and-true, and-is}
+use Rattle.geometry.proofs.Double.{Two, null-is}
 use Rattle.geometry.proofs.Exact.{no-two}
-use Rattle.geometry.proofs.Cutting.{Cloven}
 
 -- ---- what one direction means: the signs agree, and the cross product is 0
 
@@ -110,23 +117,6 @@ loop-differ a (b ∷ c ∷ r) h n s e w = ways-differ b (n .0) (λ k. last-diffe
     go P (inl k) = inr k
     go P (inr k) = inl (k .0)
 
--- the two halves at the cut
-pub cut-differ : {m a : Point} {r u v : List Point} → Cloven m a r u v → SameWay m (beforeLast a u) m (secondOf m v) → ⊥
-cut-differ {m} {a} {r} {u} {v} h = ways-differ a (λ k. last-differ a u (h .some-front) (h .front-differ) (h .joint ∙ k)) (second v (h .some-back) (h .back-differ))
-    (λ P o p. go P (h .shared P (on-last P a u (h .some-front) (subst (λ (z : Point). OnSeg P z (beforeLast a u)) (sym (h .joint)) o)) (on-first P v (h .some-back) p)))
-  where
-    second : (v : List Point) → Some v → Differ m v → m ≢ secondOf m v
-    second [] s n = absurd s
-    second (y ∷ v) s n = n .0
-
-    on-first : (P : Spot) (v : List Point) → Some v → OnSeg P m (secondOf m v) → On P m v
-    on-first P [] s o = absurd s
-    on-first P (y ∷ v) s o = inl o
-
-    go : (P : Spot) → At P m ⊎ (At P a × (lastOf a r ≡ a)) → At P m ⊎ At P a
-    go P (inl k) = inl k
-    go P (inr k) = inr (k .0)
-
 -- ---- one direction, from the signs and the cross product
 
 -- positive multiples of the two ways that are equal
@@ -186,3 +176,73 @@ way-of a b c d n sx sy e = go (sgn dx) (sgn dy) refl refl
     go null negative h k =
         way-by a b c d (negℤ dy) (negℤ ey) (neg-pos dy (signed negative dy k)) (neg-pos ey (signed negative ey (sym sy ∙ k))) (out ey dx ∙ ap negℤ (swap ey dx ∙ e) ∙ sym (out dy ex)) (minus ey dy)
     go null null h k = absurd (n (sym (point-path (pos-injective (of-zero _ _ (signed null dx h))) (pos-injective (of-zero _ _ (signed null dy k))))))
+
+-- ---- the test for one direction
+
+-- the signs of a class
+decode : ℕ → Sign × Sign
+decode n =
+    getD ((positive, null) ∷ (positive, positive) ∷ (null, positive) ∷ (negative, positive) ∷ (negative, null) ∷ (negative, negative) ∷ (null, negative) ∷ (positive, negative) ∷ []) n (null, null)
+
+decoded : (s t : Sign) → decode (classes s t) ≡ (s, t)
+unfolding decode
+decoded negative negative = refl
+decoded negative null = refl
+decoded negative positive = refl
+decoded null negative = refl
+decoded null null = refl
+decoded null positive = refl
+decoded positive negative = refl
+decoded positive null = refl
+decoded positive positive = refl
+
+pub sameWay-true : (a b c d : Point) → a ≢ b → sameWay (wayTo a b) (wayTo c d) ≡ true → SameWay a b c d
+unfolding sameWay class cross
+sameWay-true a b c d n e = way-of a b c d n (ap (λ (p : Sign × Sign). p .0) signs) (ap (λ (p : Sign × Sign). p .1) signs) (of-zero _ _ (null-is _ (h .1)))
+  where
+    v : Way
+    v = wayTo a b
+
+    w : Way
+    w = wayTo c d
+
+    h : (same (class v) (class w) ≡ true) × (isNull (sgn (cross v w)) ≡ true)
+    h = and-true _ _ e
+
+    signs : _≡_ {A = Sign × Sign} (sgn (v .dx), sgn (v .dy)) (sgn (w .dx), sgn (w .dy))
+    signs = sym (decoded (sgn (v .dx)) (sgn (v .dy))) ∙ ap decode (same-true _ _ (h .0)) ∙ decoded (sgn (w .dx)) (sgn (w .dy))
+
+pub sameWay-is : {a b c d : Point} → SameWay a b c d → sameWay (wayTo a b) (wayTo c d) ≡ true
+unfolding sameWay class cross
+sameWay-is {a} {b} {c} {d} w =
+    and-is (same-eq _ _ (λ t. classes (way-x w t) (way-y w t)))
+    (ap isNull (way-cross w ex ey ∙ ap sgn (solve 2 (λ x y. x ⊗ y ⊖ y ⊗ x ≐ con (pos 0)) tt ex ey)))
+  where
+    ex : ℤ
+    ex = pos (d .x) -ℤ pos (c .x)
+
+    ey : ℤ
+    ey = pos (d .y) -ℤ pos (c .y)
+
+pub sameWay-false : (a b c d : Point) → a ≢ b → (SameWay a b c d → ⊥) → sameWay (wayTo a b) (wayTo c d) ≡ false
+sameWay-false a b c d n h = not-true (sameWay (wayTo a b) (wayTo c d)) (λ e. h (sameWay-true a b c d n e))
+
+-- ---- the same of curves
+
+second-differs : (c : Curve) → Good c → c .first ≢ secondOf (c .first) (c .rest)
+second-differs c g = go (c .rest) (g .some) (g .differ)
+  where
+    go : (r : List Point) → Some r → Differ (c .first) r → c .first ≢ secondOf (c .first) r
+    go [] s n = absurd s
+    go (b ∷ r) s n = n .0
+
+pub curves-differ : (c d : Curve) → Good c → Good d → ClearCurves c d → c .first ≡ d .first → sameWay (startWay c) (startWay d) ≡ false
+curves-differ c d g g′ h e = sameWay-false (c .first) (secondOf (c .first) (c .rest)) (d .first) (secondOf (d .first) (d .rest)) (second-differs c g) (λ w.
+    starts-differ (c .first) (c .rest) (d .rest) (g .some) (g′ .some) (g .differ) (subst (λ (z : Point). Differ z (d .rest)) (sym e) (g′ .differ))
+    (subst (λ (z : Point). Clear (c .first) (c .rest) z (d .rest)) (sym e) h)
+    (subst (λ (z : Point). SameWay (c .first) (secondOf (c .first) (c .rest)) z (secondOf z (d .rest))) (sym e) w))
+
+pub ends-differ : (c : Curve) → Good c → lastPoint c ≡ c .first → sameWay (startWay c) (endWay c) ≡ false
+ends-differ c g e = sameWay-false (c .first) (secondOf (c .first) (c .rest)) (lastPoint c) (beforeLast (c .first) (c .rest)) (second-differs c g) (λ w.
+    loop-differ (c .first) (c .rest) (g .some) (g .differ) (g .simple) e
+    (subst (λ (z : Point). SameWay (c .first) (secondOf (c .first) (c .rest)) z (beforeLast (c .first) (c .rest))) e w))
