@@ -2,3 +2,5 @@
 pub mod Readings
 pub mod RowChanges
 pub mod Reasons
+pub mod Scanning
+pub mod Numbers
