@@ -4,3 +4,5 @@ pub mod RowChanges
 pub mod Reasons
 pub mod Scanning
 pub mod Numbers
+pub mod Outlines
+pub mod NumbersNodes
