@@ -6,3 +6,4 @@ pub mod Scanning
 pub mod Numbers
 pub mod Outlines
 pub mod NumbersNodes
+pub mod NumbersEdges
