@@ -7,3 +7,4 @@ pub mod Numbers
 pub mod Outlines
 pub mod NumbersNodes
 pub mod NumbersEdges
+pub mod NumbersFaces

@@ -173,3 +173,20 @@ module _ (m : Map) (e f : ℕ) (dis : Distinct (nums (arcs m))) {fs : List ℕ} 
       let N : undrawn e f m .nodes ≡ map bared (m .nodes) = ap (map bared) (unlink-shape e m .nodes) in
       let O : outlines (undrawn e f m) ≡ lessOutline e (outlines m) = unlink-shape e m .outlines in
       rw (N, O) undrawn-list
+
+-- faces and next numbers stay
+pub undrawn-face-list : (e f : ℕ) (m : Map) → undrawn e f m .faces ≡ m .faces
+unfolding undrawn atNodes
+undrawn-face-list e f m = unlink-shape e m .faces
+
+pub undrawn-next-node : (e f : ℕ) (m : Map) → undrawn e f m .nextNode ≡ m .nextNode
+unfolding undrawn atNodes
+undrawn-next-node e f m = unlink-shape e m .next-node
+
+pub undrawn-next-edge : (e f : ℕ) (m : Map) → undrawn e f m .nextEdge ≡ m .nextEdge
+unfolding undrawn atNodes
+undrawn-next-edge e f m = unlink-shape e m .next-edge
+
+pub undrawn-next-face : (e f : ℕ) (m : Map) → undrawn e f m .nextFace ≡ m .nextFace
+unfolding undrawn atNodes
+undrawn-next-face e f m = unlink-shape e m .next-face
