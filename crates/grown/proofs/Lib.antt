@@ -8,3 +8,5 @@ pub mod Outlines
 pub mod NumbersNodes
 pub mod NumbersEdges
 pub mod NumbersFaces
+pub mod NumbersAdd
+pub mod NumbersRemove
