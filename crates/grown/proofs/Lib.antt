@@ -10,3 +10,5 @@ pub mod NumbersEdges
 pub mod NumbersFaces
 pub mod NumbersAdd
 pub mod NumbersRemove
+pub mod NumbersSplit
+pub mod NumbersHeal
