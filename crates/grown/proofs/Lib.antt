@@ -12,3 +12,4 @@ pub mod NumbersAdd
 pub mod NumbersRemove
 pub mod NumbersSplit
 pub mod NumbersHeal
+pub mod Sizes

@@ -40,7 +40,7 @@ corner-in m n v h r = go (departures m n) (λ d k. dart-has m (departs m n k .0)
     go (d ∷ ds) k = bears-in m (firstClockwise (way m) v d (d ∷ ds)) (k _ (first-in (way m) v d (d ∷ ds) (List·Memᴰ·head refl))) r
 
 -- the new row is found
-drawn-has : (u v : ℕ) (c : Curve) (f : ℕ) (m : Map) → hasEdge (drawn u v c f m) (m .nextEdge) ≡ true
+pub drawn-has : (u v : ℕ) (c : Curve) (f : ℕ) (m : Map) → hasEdge (drawn u v c f m) (m .nextEdge) ≡ true
 drawn-has u v c f m =
     outline-has (drawn u v c f m) (drawnOutline (m .nextEdge) u v f) (subst (λ (os : List Outline). List·Memᴰ (drawnOutline (m .nextEdge) u v f) os) (sym (drawn-shape u v c f m .outlines)) (Memᴰ·append-right (outlines m) (List·Memᴰ·head refl)))
 

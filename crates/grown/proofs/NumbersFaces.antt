@@ -146,7 +146,7 @@ module _ (m : Map) (s : Shares) (dis : Distinct (nums (arcs m))) {fs : List ℕ}
 -- ---- a face split
 
 -- one or two new faces, and the old one gone with two
-abbrev splitList : Bool → ℕ → ℕ → List ℕ → List ℕ
+abbrev pub splitList : Bool → ℕ → ℕ → List ℕ → List ℕ
 splitList goes old a fs = cond goes (keep (λ f. not (same f old)) fs ++ a ∷ cond goes (a + 1) old ∷ []) (fs ++ a ∷ [])
 
 module _ (old a : ℕ) (fs : List ℕ) (k : List·Memᴰ old fs) where

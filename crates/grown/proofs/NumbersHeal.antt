@@ -111,14 +111,14 @@ module _ (m : Map) (e f : ℕ) (h : isSome (joint m e f) ≡ true) where
 
 -- ---- the outlines
 
-abbrev healedOutline : Bool → ℕ → ℕ → Map → Outline
+abbrev pub healedOutline : Bool → ℕ → ℕ → Map → Outline
 healedOutline keeps e f m =
     record { arc = record { num = cond keeps e (m .nextEdge); from = leaves m (parts m e f .0); to = arrives m (parts m e f .1) }; left = edge m e .left; right = edge m e .right }
 
-abbrev healOutlines : Bool → ℕ → ℕ → Outline → List Outline → List Outline
+abbrev pub healOutlines : Bool → ℕ → ℕ → Outline → List Outline → List Outline
 healOutlines keeps e f x os = cond keeps (lessOutline f (map (placing e x) os)) (lessOutline e (lessOutline f os) ++ x ∷ [])
 
-heal-outlines : (keeps : Bool) (e f : ℕ) (m : Map) → outlines (heal keeps e f m) ≡ healOutlines keeps e f (healedOutline keeps e f m) (outlines m)
+pub heal-outlines : (keeps : Bool) (e f : ℕ) (m : Map) → outlines (heal keeps e f m) ≡ healOutlines keeps e f (healedOutline keeps e f m) (outlines m)
 unfolding heal atEdge
 heal-outlines true e f m =
     let c = parts m e f .0 in

@@ -24,7 +24,7 @@ use Rattle.grown.proofs.NumbersEdges.{outlines-distinct, undrawn-ranked
 use Rattle.grown.proofs.NumbersFaces.{Refaced, refaced, first-append, first-keep}
 
 -- both sides of a row that is found
-row-sides : (m : Map) (e : ℕ) → hasEdge m e ≡ true → RankedMap m → Sided (m .faces) (outlineOf (edge m e))
+pub row-sides : (m : Map) (e : ℕ) → hasEdge m e ≡ true → RankedMap m → Sided (m .faces) (outlineOf (edge m e))
 row-sides m e h r = r .sided (outlineOf (edge m e)) (Memᴰ·map outlineOf (edge-row m e h .0))
 
 pub remove-lone-ranked : (m : Map) (e : ℕ) → hasEdge m e ≡ true → RankedMap m → RankedMap (removeIsoEdge e m)
@@ -34,10 +34,10 @@ remove-lone-ranked m e h r = undrawn-map e (edge m e .left) m (row-sides m e h r
 -- ---- faces renamed
 
 -- the faces of the row x become f; a new f goes to the end
-abbrev stay : Edge → ℕ → List ℕ → List ℕ
+abbrev pub stay : Edge → ℕ → List ℕ → List ℕ
 stay x f fs = keep (λ g. same g (renamed x f g)) fs
 
-abbrev renamedList : Bool → Edge → ℕ → List ℕ → List ℕ
+abbrev pub renamedList : Bool → Edge → ℕ → List ℕ → List ℕ
 renamedList makes x f fs = cond makes (stay x f fs ++ f ∷ []) (stay x f fs)
 
 module _ (x : Edge) (a : ℕ) (fs : List ℕ) (l : List·Memᴰ (x .left) fs) (r : List·Memᴰ (x .right) fs) where
@@ -136,7 +136,7 @@ makes-above : (news : Bool) (e : ℕ) (m : Map) → makesFace news e m ≡ true 
 unfolding makesFace
 makes-above news e m h = differ (lowerFace e m) 0 (not-true (same (lowerFace e m) 0) (and-true (news && healsFaces e m) (not (same (lowerFace e m) 0)) h .1))
 
-renamed-next : (x : Edge) (f : ℕ) (m : Map) → (renamedFaces x f m .nextNode ≡ m .nextNode) × (renamedFaces x f m .nextEdge ≡ m .nextEdge) × (renamedFaces x f m .nextFace ≡ m .nextFace)
+pub renamed-next : (x : Edge) (f : ℕ) (m : Map) → (renamedFaces x f m .nextNode ≡ m .nextNode) × (renamedFaces x f m .nextEdge ≡ m .nextEdge) × (renamedFaces x f m .nextFace ≡ m .nextFace)
 unfolding renamedFaces
 renamed-next x f m = (refl, refl, refl)
 

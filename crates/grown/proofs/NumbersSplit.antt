@@ -91,17 +91,17 @@ placing-back e x o os k = go (Memᴰ·of-map (placing e x) os k)
 
 -- ---- a split
 
-abbrev startPart : Outline → ℕ → ℕ → Outline
+abbrev pub startPart : Outline → ℕ → ℕ → Outline
 startPart o a n = record { arc = record { num = a; from = o .arc .from; to = n }; left = o .left; right = o .right }
 
-abbrev endPart : Outline → ℕ → ℕ → Outline
+abbrev pub endPart : Outline → ℕ → ℕ → Outline
 endPart o b n = record { arc = record { num = b; from = n; to = o .arc .to }; left = o .left; right = o .right }
 
 -- the outlines after a split of the outline o with the number e at the node n, x being the next number
-abbrev splitOutlines : Bool → ℕ → ℕ → ℕ → Outline → List Outline → List Outline
+abbrev pub splitOutlines : Bool → ℕ → ℕ → ℕ → Outline → List Outline → List Outline
 splitOutlines keeps e n x o os = cond keeps (map (placing e (startPart o e n)) os ++ endPart o x n ∷ []) (lessOutline e os ++ startPart o x n ∷ endPart o (x + 1) n ∷ [])
 
-abbrev splitParts : Bool → ℕ → ℕ → ℕ → Outline → List Outline
+abbrev pub splitParts : Bool → ℕ → ℕ → ℕ → Outline → List Outline
 splitParts keeps e n x o = startPart o (cond keeps e x) n ∷ endPart o (cond keeps x (x + 1)) n ∷ []
 
 module _ (e n x : ℕ) (o : Outline) (os : List Outline) (k : List·Memᴰ o os) (h : o .arc .num ≡ e) where
@@ -168,7 +168,7 @@ renaming-framed p p′ q q′ m = framed-join (redirect-framed p p′ m) (redire
 pub renaming-outline : (p p′ q q′ : Dart) (m : Map) (e : ℕ) → outlineOf (edge (renaming p p′ q q′ m) e) ≡ outlineOf (edge m e)
 renaming-outline p p′ q q′ m e = redirect-outline q q′ (redirect p p′ m) e ∙ redirect-outline p p′ m e
 
-split-outlines : (keeps : Bool) (e : ℕ) (p : Point) (m : Map) → outlines (split keeps e p m) ≡ splitOutlines keeps e (m .nextNode) (m .nextEdge) (outlineOf (edge m e)) (outlines m)
+pub split-outlines : (keeps : Bool) (e : ℕ) (p : Point) (m : Map) → outlines (split keeps e p m) ≡ splitOutlines keeps e (m .nextNode) (m .nextEdge) (outlineOf (edge m e)) (outlines m)
 unfolding split atEdge
 split-outlines true e p m =
     let n = m .nextNode in
