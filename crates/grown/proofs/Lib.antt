@@ -13,3 +13,4 @@ pub mod NumbersRemove
 pub mod NumbersSplit
 pub mod NumbersHeal
 pub mod Sizes
+pub mod Carried
