@@ -1,0 +1,2 @@
+-- Every grown map is good.
+pub mod Renumber
