@@ -1,2 +1,3 @@
 -- Every grown map is good.
 pub mod Renumber
+pub mod LawOrder
