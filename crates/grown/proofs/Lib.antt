@@ -1,3 +1,5 @@
--- Every grown map is good.
+-- Every grown map is good, hence sound and in form. `Readings`: what a map reads in its rows, and after each way of changing them.
+pub mod Readings
+pub mod RowChanges
 pub mod Renumber
 pub mod LawOrder
