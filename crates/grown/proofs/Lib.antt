@@ -3,3 +3,4 @@ pub mod Readings
 pub mod RowChanges
 pub mod Renumber
 pub mod LawOrder
+pub mod Apart
