@@ -4,3 +4,5 @@ pub mod RowChanges
 pub mod Renumber
 pub mod LawOrder
 pub mod Apart
+pub mod Fresh
+pub mod Changes
