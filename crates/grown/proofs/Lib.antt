@@ -6,3 +6,5 @@ pub mod LawOrder
 pub mod Apart
 pub mod Fresh
 pub mod Changes
+pub mod Halved
+pub mod HalvedLaw
