@@ -8,3 +8,5 @@ pub mod Fresh
 pub mod Changes
 pub mod Halved
 pub mod HalvedLaw
+pub mod Splits
+pub mod Heals
