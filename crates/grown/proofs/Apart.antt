@@ -41,10 +41,10 @@ pairs-in {A} R turn f (z ∷ l) h x y m k ne = go (pairs-in R turn f l (h .1) x 
     go ih (inr p) (inr q) = ih p q ne
 
 module _ (m : Map) (s : Surveyed m) where
-  curve-good : (r : Edge) → List·Memᴰ r (m .edges) → drawing.Good (r .curve)
+  pub curve-good : (r : Edge) → List·Memᴰ r (m .edges) → drawing.Good (r .curve)
   curve-good r k = all-in drawing.Good (λ e. e .curve) (m .edges) (s .drawn .good) r k
 
-  curves-clear : (r q : Edge) → List·Memᴰ r (m .edges) → List·Memᴰ q (m .edges) → r ≢ q → ClearCurves (r .curve) (q .curve)
+  pub curves-clear : (r q : Edge) → List·Memᴰ r (m .edges) → List·Memᴰ q (m .edges) → r ≢ q → ClearCurves (r .curve) (q .curve)
   curves-clear r q k j ne = pairs-in ClearCurves clear-sym (λ (e : Edge). e .curve) (m .edges) (s .drawn .clear) r q k j ne
 
   -- a course starts on the point of the node that it leaves

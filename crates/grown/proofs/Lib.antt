@@ -15,3 +15,5 @@ pub mod Halved
 pub mod HalvedLaw
 pub mod Splits
 pub mod Heals
+pub mod RowDarts
+pub mod SplitsRows
