@@ -17,3 +17,4 @@ pub mod Splits
 pub mod Heals
 pub mod RowDarts
 pub mod SplitsRows
+pub mod SplitsWoven
