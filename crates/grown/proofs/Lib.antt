@@ -1,1 +1,2 @@
 pub mod CurvesBent
+pub mod CurvesKept
