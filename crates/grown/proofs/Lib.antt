@@ -1,2 +1,4 @@
+-- Every grown map is good, hence sound and in form. `Readings`: what a map reads in its rows, and after each way of changing them.
+pub mod Readings
 pub mod CurvesBent
 pub mod CurvesKept
