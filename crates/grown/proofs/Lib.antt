@@ -2,3 +2,4 @@
 pub mod Readings
 pub mod CurvesBent
 pub mod CurvesKept
+pub mod CurvesSurvey
