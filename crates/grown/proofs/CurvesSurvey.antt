@@ -63,14 +63,22 @@ startOf l = record { number = l .start; at = l .curve .first }
 abbrev pub endOf : Line → Place
 endOf l = record { number = l .end; at = lastPoint (l .curve) }
 
-pub record Survey (ls : List Line) (ps : List Place) : Type 0 where
-  pub drawn : Drawn (map curveIn ls)
-  pub kept : (l : Line) → List·Memᴰ l ls → Kept (l .curve)
-  pub starts : (l : Line) → List·Memᴰ l ls → List·Memᴰ (startOf l) ps
-  pub ends : (l : Line) → List·Memᴰ l ls → List·Memᴰ (endOf l) ps
+-- places in range, no two with one point or one number
+pub record Plotted (ps : List Place) : Type 0 where
   pub in-range : (p : Place) → List·Memᴰ p ps → InRange (p .at)
   pub apart : Distinct (map atIn ps)
   pub numbered : Distinct (map placeNumber ps)
+
+-- a line between two of the places
+pub record Sited (ps : List Place) (l : Line) : Type 0 where
+  pub kept : Kept (l .curve)
+  pub start : List·Memᴰ (startOf l) ps
+  pub end : List·Memᴰ (endOf l) ps
+
+pub record Survey (ls : List Line) (ps : List Place) : Type 0 where
+  pub drawn : Drawn (map curveIn ls)
+  pub sited : (l : Line) → List·Memᴰ l ls → Sited ps l
+  pub plotted : Plotted ps
 
 -- ---- rising numbers
 
@@ -161,30 +169,38 @@ pub survey : (m : Map) → Numbered m → Surveyed m → Survey (lines m) (place
 survey m N S =
     record {
       drawn = rw (map-map curveIn lineOf (m .edges)) (S .drawn);
-      kept = each (λ l. Kept (l .curve)) (S .kept);
-      starts = each (λ l. List·Memᴰ (startOf l) (places m)) (λ e k. Memᴰ·cast (λ i. record { number = e .start; at = S .anchored e k .start i }) (place-in m (e .start) (named-nodes m N e k .0)));
-      ends = each (λ l. List·Memᴰ (endOf l) (places m)) (λ e k. Memᴰ·cast (λ i. record { number = e .end; at = S .anchored e k .end i }) (place-in m (e .end) (named-nodes m N e k .1)));
-      in-range = λ p k. let w = Memᴰ·of-map placeOf (m .nodes) k in subst (λ (q : Place). InRange (q .at)) (w .2) (S .nodes-in-range (w .0) (w .1));
-      apart = rw (map-map atIn placeOf (m .nodes)) (S .places);
-      numbered = nodes-rising m N .once;
+      sited = λ l k. let w = Memᴰ·of-map lineOf (m .edges) k in subst (Sited (places m)) (w .2) (edge-sited (w .0) (w .1));
+      plotted = record {
+        in-range = λ p k. let w = Memᴰ·of-map placeOf (m .nodes) k in subst (λ (q : Place). InRange (q .at)) (w .2) (S .nodes-in-range (w .0) (w .1));
+        apart = rw (map-map atIn placeOf (m .nodes)) (S .places);
+        numbered = nodes-rising m N .once;
+      };
     }
   where
-    each : (R : Line → Type 0) → ((e : Edge) → List·Memᴰ e (m .edges) → R (lineOf e)) → (l : Line) → List·Memᴰ l (lines m) → R l
-    each R h l k = let w = Memᴰ·of-map lineOf (m .edges) k in subst R (w .2) (h (w .0) (w .1))
+    edge-sited : (e : Edge) → List·Memᴰ e (m .edges) → Sited (places m) (lineOf e)
+    edge-sited e k =
+        record {
+          kept = S .kept e k;
+          start = Memᴰ·cast (λ i. record { number = e .start; at = S .anchored e k .start i }) (place-in m (e .start) (named-nodes m N e k .0));
+          end = Memᴰ·cast (λ i. record { number = e .end; at = S .anchored e k .end i }) (place-in m (e .end) (named-nodes m N e k .1));
+        }
 
 -- it holds of a map with such lines and places
 pub surveyed : (m : Map) → Survey (lines m) (places m) → Surveyed m
 surveyed m S =
     record {
       drawn = subst Drawn (map-map curveIn lineOf (m .edges)) (S .drawn);
-      kept = λ e k. S .kept (lineOf e) (Memᴰ·map lineOf k);
+      kept = λ e k. at e k .kept;
       anchored = λ e k. record {
-        start = at-place m (startOf (lineOf e)) (S .numbered) (S .starts (lineOf e) (Memᴰ·map lineOf k));
-        end = at-place m (endOf (lineOf e)) (S .numbered) (S .ends (lineOf e) (Memᴰ·map lineOf k));
+        start = at-place m (startOf (lineOf e)) (S .plotted .numbered) (at e k .start);
+        end = at-place m (endOf (lineOf e)) (S .plotted .numbered) (at e k .end);
       };
-      nodes-in-range = λ n k. S .in-range (placeOf n) (Memᴰ·map placeOf k);
-      places = subst Distinct (map-map atIn placeOf (m .nodes)) (S .apart);
+      nodes-in-range = λ n k. S .plotted .in-range (placeOf n) (Memᴰ·map placeOf k);
+      places = subst Distinct (map-map atIn placeOf (m .nodes)) (S .plotted .apart);
     }
+  where
+    at : (e : Edge) → List·Memᴰ e (m .edges) → Sited (places m) (lineOf e)
+    at e k = S .sited (lineOf e) (Memᴰ·map lineOf k)
 
 -- the general law: other links and faces change nothing
 pub surveyed-by : (m : Map) {ls : List Line} {ps : List Place} → lines m ≡ ls → places m ≡ ps → Survey ls ps → Surveyed m

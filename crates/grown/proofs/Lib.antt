@@ -3,3 +3,4 @@ pub mod Readings
 pub mod CurvesBent
 pub mod CurvesKept
 pub mod CurvesSurvey
+pub mod CurvesLists
