@@ -4,3 +4,4 @@ pub mod CurvesBent
 pub mod CurvesKept
 pub mod CurvesSurvey
 pub mod CurvesLists
+pub mod CurvesSites
