@@ -5,3 +5,4 @@ pub mod CurvesKept
 pub mod CurvesSurvey
 pub mod CurvesLists
 pub mod CurvesSites
+pub mod CurvesCut
