@@ -6,3 +6,4 @@ pub mod CurvesSurvey
 pub mod CurvesLists
 pub mod CurvesSites
 pub mod CurvesCut
+pub mod CurvesJoin
