@@ -7,3 +7,4 @@ pub mod CurvesLists
 pub mod CurvesSites
 pub mod CurvesCut
 pub mod CurvesJoin
+pub mod CurvesRows
