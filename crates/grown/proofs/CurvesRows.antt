@@ -101,10 +101,10 @@ pub record Becomes (m : Map) (ls : List Line) (ps : List Place) : Type 0 where
 pub becomes-alike : {m m′ : Map} {ls : List Line} {ps : List Place} → Alike m m′ → Becomes m ls ps → Becomes m′ ls ps
 becomes-alike h k = record { lines = h .lines ∙ k .lines; places = h .places ∙ k .places }
 
-without-lines : (e : ℕ) (es : List Edge) → map lineOf (withoutEdge e es) ≡ without lineNumber e (map lineOf es)
+pub without-lines : (e : ℕ) (es : List Edge) → map lineOf (withoutEdge e es) ≡ without lineNumber e (map lineOf es)
 without-lines e es = sym (keep-map lineOf (λ r. not (same (r .number) e)) (λ l. not (same (l .number) e)) es (λ r k. refl))
 
-without-places : (n : ℕ) (ns : List Node) → map placeOf (withoutNode n ns) ≡ without placeNumber n (map placeOf ns)
+pub without-places : (n : ℕ) (ns : List Node) → map placeOf (withoutNode n ns) ≡ without placeNumber n (map placeOf ns)
 without-places n ns = sym (keep-map placeOf (λ r. not (same (r .number) n)) (λ p. not (same (p .number) n)) ns (λ r k. refl))
 
 -- the line of a new edge

@@ -8,3 +8,4 @@ pub mod CurvesSites
 pub mod CurvesCut
 pub mod CurvesJoin
 pub mod CurvesRows
+pub mod CurvesHalves
