@@ -1,5 +1,10 @@
 -- Every grown map is good, hence sound and in form. `Readings`: what a map reads in its rows, and after each way of changing them.
 pub mod Readings
+pub mod RowChanges
+pub mod Reasons
+pub mod Scanning
+pub mod Numbers
+pub mod Joint
 pub mod CurvesBent
 pub mod CurvesKept
 pub mod CurvesSurvey
