@@ -21,7 +21,7 @@ use Rattle.geometry.proofs.Theorems.{join-last}
 use Rattle.geometry.proofs.Turning.{last-turned}
 use Rattle.grown.proofs.Readings.{without}
 use Rattle.grown.proofs.CurvesKept.{kept-course, kept-joined}
-use Rattle.grown.proofs.CurvesLists.{map-append, distinct-keep, all-of, Found, found}
+use Rattle.grown.proofs.CurvesLists.{map-append, distinct-keep, Found, found}
 use Rattle.grown.proofs.CurvesSurvey.{Line, Place, curveIn, placeNumber, lineNumber, startOf, endOf, Plotted, Sited, Survey}
 use Rattle.grown.proofs.CurvesSites.{number-one, point-one, unplot, Clear, sited-without, between-cases}
 

@@ -1,27 +1,24 @@
 -- `Kept` of the new curves: halves, joins, reverses and curves that a ticket sends. Assumes nothing.
-use mathlib.Core.Path.{_≡_, refl, sym, ap, _∙_, subst}
-use mathlib.Core.Bool.{Bool, true, false, _&&_, false≢true}
-use mathlib.Core.List.{List, [], _∷_, _++_, List·Memᴰ, List·Memᴰ·head, List·Memᴰ·tail, List·Memᴰ·cases-cons, List·Memᴰ·not-nil, List·Memᴰ·append-cases, Memᴰ·cast}
+use mathlib.Core.Path.{_≡_, refl, sym, subst}
+use mathlib.Core.Bool.{Bool, true, false}
+use mathlib.Core.List.{List, [], _∷_, _++_, List·Memᴰ, List·Memᴰ·head, List·Memᴰ·tail, List·Memᴰ·cases-cons, List·Memᴰ·not-nil, List·Memᴰ·append-cases}
 use mathlib.Core.Logic.{_⊎_, inl, inr, _≢_}
-use Prim.Native.Nat.{ℕ, suc, _+_, _≤_, _<_, _/_}
+use Prim.Native.Nat.{ℕ, suc, _+_, _≤_}
 use native.Mathlib.Omega.{arith}
-use borrow.Author.Tests.{leb-true}
-use lib.Dec.{leb}
-use lib.IntN.{ℤ, pos, negsuc, natAbs}
 use lib.ListN.{length}
-use Rattle.lists.specs.Scans.{all}
 use Rattle.plane.specs.declared.Point.{Point}
-use Rattle.plane.specs.Points.{InRange, samePoint, maxCoordinate}
+use Rattle.plane.specs.Points.{InRange, samePoint}
 use Rattle.plane.specs.Segments.{onSegment}
-use Rattle.curves.specs.Curves.{Curve, lastOf, points, lastPoint, point, pointsOf, through, curveOf, coordinate, maxPoints, isRun}
-use Rattle.curves.specs.Tests.{straightIn, straightInside}
-use Rattle.curves.specs.Edits.{Halves, cutHere, cut, front, back, dropped, joinHere, join, joined, turned, course}
+use Rattle.curves.specs.Curves.{Curve, lastOf, points, lastPoint, maxPoints}
+use Rattle.curves.specs.Tests.{straightIn}
+use Rattle.curves.specs.Edits.{cutHere, cut, front, back, dropped, joinHere, join, joined, turned, course}
 use Rattle.geometry.specs.Spots.{spot}
 use Rattle.geometry.specs.Meaning.{Some}
 use Rattle.geometry.specs.Drawing.{OnCurve, Good}
-use Rattle.geometry.proofs.Booleans.{and-true}
 use Rattle.geometry.proofs.Theorems.{cut-count, cut-good, reverse-count}
+use Rattle.map.specs.Rows.{Map}
 use Rattle.grown.specs.Good.{Kept}
+use Rattle.grown.proofs.Reasons.{Sent}
 use Rattle.grown.proofs.CurvesBent.{cut-bent, join-bent, turned-bent}
 
 -- ---- points of the new curves are points of the old ones
@@ -126,47 +123,12 @@ kept-joined c d s t e l k h =
 
 -- ---- a curve as it was sent
 
-pointsOf-length : (l : List ℤ) → length (pointsOf l) ≡ length l / 2
-pointsOf-length [] = omega arith
-pointsOf-length (x ∷ []) = omega arith
-pointsOf-length (x ∷ y ∷ r) = omega (arith, pointsOf-length r)
+pub sent-kept : {m : Map} {c : Curve} {u v : ℕ} → Sent m c u v → Kept c
+sent-kept s = record { most = s .most; in-range = s .in-range; bent = s .bent }
 
-coordinate-range : (z : ℤ) → coordinate z ≡ true → natAbs z ≤ maxCoordinate
-coordinate-range (pos n) e = leb-true n maxCoordinate (and-true (leb 0 n) (leb n maxCoordinate) e .1)
-coordinate-range (negsuc n) e = absurd (false≢true e)
-
--- x and y are coordinates
-pub point-range : (x y : ℤ) → coordinate x && coordinate y ≡ true → InRange (point x y)
-point-range x y e = let h = and-true (coordinate x) (coordinate y) e in record { x = coordinate-range x (h .0); y = coordinate-range y (h .1) }
-
-pointsOf-range : (l : List ℤ) → all coordinate l ≡ true → Each InRange (pointsOf l)
-pointsOf-range [] e = each-nil InRange
-pointsOf-range (x ∷ []) e = each-nil InRange
-pointsOf-range (x ∷ y ∷ r) e =
-    let h = and-true (coordinate x) (all coordinate (y ∷ r)) e in
-    let k = and-true (coordinate y) (all coordinate r) (h .1) in
-    each-cons InRange (record { x = coordinate-range x (h .0); y = coordinate-range y (k .0) }) (pointsOf-range r (k .1))
-
--- a curve through two points or more
-pub record Sent (c : Curve) : Type 0 where
-  pub some : Some (c .rest)
-  pub most : length (points c) ≤ maxPoints
-  pub in-range : (p : Point) → List·Memᴰ p (points c) → InRange p
-
-through-sent : (l : List Point) → 2 ≤ length l → length l ≤ maxPoints → Each InRange l → Sent (through l)
-through-sent [] h k r = absurd (omega arith)
-through-sent (p ∷ []) h k r = absurd (omega arith)
-through-sent (p ∷ q ∷ l) h k r = record { some = tt; most = k; in-range = r }
-
-pub run-sent : (l : List ℤ) → isRun l ≡ true → Sent (curveOf l)
-unfolding isRun curveOf
-run-sent l e =
-    let h = and-true (leb 2 (length l / 2) && leb (length l / 2) maxPoints) (all coordinate l) e in
-    let k = and-true (leb 2 (length l / 2)) (leb (length l / 2) maxPoints) (h .0) in
-    let n : length (pointsOf l) ≡ length l / 2 = pointsOf-length l in
-    let u : 2 ≤ length l / 2 = leb-true 2 (length l / 2) (k .0) in
-    let v : length l / 2 ≤ maxPoints = leb-true (length l / 2) maxPoints (k .1) in
-    through-sent (pointsOf l) (omega arith) (omega arith) (pointsOf-range l (h .1))
-
-pub kept-sent : (c : Curve) → Sent c → straightInside c ≡ false → Kept c
-kept-sent c s e = record { most = s .most; in-range = s .in-range; bent = e }
+pub sent-some : {m : Map} (c : Curve) {u v : ℕ} → Sent m c u v → Some (c .rest)
+sent-some c s = go (c .rest) (s .least)
+  where
+    go : (r : List Point) → 2 ≤ suc (length r) → Some r
+    go [] h = absurd (omega arith)
+    go (b ∷ r) h = tt

@@ -34,14 +34,6 @@ pub map-same : {A : Type 0} (f : A → A) (l : List A) → ((x : A) → List·Me
 map-same f [] h = refl
 map-same f (x ∷ l) h = ap₂ _∷_ (h x (List·Memᴰ·head refl)) (map-same f l (λ y m. h y (List·Memᴰ·tail m)))
 
-pub keep-append : {A : Type 0} (p : A → Bool) (xs ys : List A) → keep p (xs ++ ys) ≡ keep p xs ++ keep p ys
-keep-append p [] ys = refl
-keep-append {A} p (x ∷ xs) ys = go (p x) (keep-append p xs ys)
-  where
-    go : (b : Bool) → keep p (xs ++ ys) ≡ keep p xs ++ keep p ys → cond b (x ∷ keep p (xs ++ ys)) (keep p (xs ++ ys)) ≡ cond b (x ∷ keep p xs) (keep p xs) ++ keep p ys
-    go true e = ap (λ (l : List A). x ∷ l) e
-    go false e = e
-
 -- ---- what holds of all elements and pairs, of those that are kept
 
 module _ {A B : Type 0} (f : A → B) (p : A → Bool) where
@@ -71,10 +63,6 @@ module _ {A B : Type 0} (f : A → B) (p : A → Bool) where
       go : (b : Bool) → Distinct (map f (keep p l)) → Distinct (map f (cond b (x ∷ keep p l) (keep p l)))
       go true k = ((λ i. h .0 (later i)), k)
       go false k = k
-
-pub all-of : {A : Type 0} (R : A → Type 0) (l : List A) → ((x : A) → List·Memᴰ x l → R x) → All R l
-all-of R [] h = tt
-all-of R (x ∷ l) h = (h x (List·Memᴰ·head refl), all-of R l (λ y m. h y (List·Memᴰ·tail m)))
 
 pub distinct-of : {A B : Type 0} (f : A → B) (l : List A) → Distinct (map f l) → Distinct l
 distinct-of f [] h = tt

@@ -24,7 +24,7 @@ use Rattle.geometry.proofs.Theorems.{cut-ends}
 use Rattle.grown.specs.Good.{Kept}
 use Rattle.grown.proofs.Readings.{without}
 use Rattle.grown.proofs.CurvesKept.{kept-front, kept-back}
-use Rattle.grown.proofs.CurvesLists.{map-append, map-commute, all-keep, pairs-keep, distinct-keep, distinct-of, distinct-snoc, all-of, Found, found}
+use Rattle.grown.proofs.CurvesLists.{map-append, map-commute, all-keep, pairs-keep, distinct-keep, distinct-of, distinct-snoc, Found, found}
 use Rattle.grown.proofs.CurvesSurvey.{Line, Place, curveIn, atIn, placeNumber, lineNumber, startOf, endOf, Plotted, Sited, Survey}
 
 -- ---- places

@@ -1,25 +1,19 @@
 -- Surveyed as it depends on the lines and places of a map alone, that is, on no links and no faces. Assumes nothing.
-use mathlib.Core.Path.{_≡_, refl, sym, ap, _∙_, subst}
-use mathlib.Core.Bool.{Bool, true, false, not, cond, _&&_}
-use mathlib.Core.List.{List, [], _∷_, _++_, map, map-map, List·Memᴰ, List·Memᴰ·head, List·Memᴰ·tail, List·Memᴰ·cases-cons, List·Memᴰ·not-nil, Memᴰ·map, Memᴰ·of-map, Memᴰ·cast}
-use mathlib.Core.Logic.{_⊎_, inl, inr, _≢_}
-use Prim.Native.Nat.{ℕ, suc, _≤_, _<_}
+use mathlib.Core.Path.{_≡_, sym, ap, _∙_, subst}
+use mathlib.Core.Bool.{true}
+use mathlib.Core.List.{List, map, map-map, List·Memᴰ, Memᴰ·map, Memᴰ·of-map, Memᴰ·cast}
+use Prim.Native.Nat.{ℕ}
 use native.Mathlib.Omega.{arith}
-use lib.Dec.{ltb, leb}
-use borrow.Author.Tests.{ltb-true}
 use Rattle.lists.specs.Members.{Distinct}
-use Rattle.lists.specs.Tests.{same}
-use Rattle.lists.specs.Scans.{all, linked, keep}
-use Rattle.lists.proofs.Perms.{distinct-injective}
 use Rattle.plane.specs.declared.Point.{Point}
-use Rattle.plane.specs.Points.{InRange, origin}
+use Rattle.plane.specs.Points.{InRange}
 use Rattle.curves.specs.Curves.{Curve, lastPoint}
 use Rattle.geometry.specs.Drawing.{Drawn}
-use Rattle.geometry.proofs.Booleans.{and-true}
-use Rattle.map.specs.Rows.{Node, Edge, Map, node, hasNode, hasEdge, hasFace}
-use Rattle.map.specs.Form.{numbered, numbers, inFace, edgeNames, named}
-use Rattle.grown.specs.Good.{Kept, Anchored, Surveyed, Numbered, Good}
-use Rattle.grown.proofs.Readings.{look-row, look-at}
+use Rattle.map.specs.Rows.{Node, Edge, Map, node, hasNode}
+use Rattle.grown.specs.Good.{Kept, Surveyed, Good}
+use Rattle.grown.proofs.Readings.{arcOf, has-number, nums-rows}
+use Rattle.grown.proofs.RowChanges.{nodeNumber, node-row, node-at}
+use Rattle.grown.proofs.Numbers.{numbered-ranked}
 
 -- an edge and a node without links and faces
 pub record Line : Type 0 where
@@ -80,109 +74,59 @@ pub record Survey (ls : List Line) (ps : List Place) : Type 0 where
   pub sited : (l : Line) → List·Memᴰ l ls → Sited ps l
   pub plotted : Plotted ps
 
--- ---- rising numbers
-
-all-in : {A : Type 0} (p : A → Bool) (l : List A) → all p l ≡ true → (x : A) → List·Memᴰ x l → p x ≡ true
-all-in p [] e x m = absurd (List·Memᴰ·not-nil m)
-all-in p (a ∷ l) e x m = let h = and-true (p a) (all p l) e in go h (all-in p l (h .1)) (List·Memᴰ·cases-cons m)
-  where
-    go : (p a ≡ true) × (all p l ≡ true) → ((x : _) → List·Memᴰ x l → p x ≡ true) → (x ≡ a) ⊎ List·Memᴰ x l → p x ≡ true
-    go h ih (inl q) = ap p q ∙ h .0
-    go h ih (inr k) = ih x k
-
--- what comes later is greater
-linked-later : (a : ℕ) (l : List ℕ) → linked ltb (a ∷ l) ≡ true → (x : ℕ) → List·Memᴰ x l → a < x
-linked-later a [] e x m = absurd (List·Memᴰ·not-nil m)
-linked-later a (b ∷ l) e x m = go (linked-later b l (h .1)) (List·Memᴰ·cases-cons m)
-  where
-    h : (ltb a b ≡ true) × (linked ltb (b ∷ l) ≡ true)
-    h = and-true (ltb a b) (linked ltb (b ∷ l)) e
-
-    go : ((x : ℕ) → List·Memᴰ x l → b < x) → (x ≡ b) ⊎ List·Memᴰ x l → a < x
-    go ih (inl q) = omega (arith, ltb-true a b (h .0))
-    go ih (inr k) = omega (arith, ltb-true a b (h .0), ih x k)
-
-linked-distinct : (l : List ℕ) → linked ltb l ≡ true → Distinct l
-linked-distinct [] e = tt
-linked-distinct (a ∷ []) e = ((λ m. List·Memᴰ·not-nil m), tt)
-linked-distinct (a ∷ b ∷ l) e = ((λ m. let z : a < a = linked-later a (b ∷ l) e a m in omega arith), linked-distinct (b ∷ l) (and-true (ltb a b) (linked ltb (b ∷ l)) e .1))
-
--- rising numbers stand once and are below the next
-pub record Rising (next : ℕ) (l : List ℕ) : Type 0 where
-  pub once : Distinct l
-  pub below : (n : ℕ) → List·Memᴰ n l → n < next
-
-rising : (least next : ℕ) (l : List ℕ) → numbered least next l ≡ true → Rising next l
-rising least next l e =
-    let h = and-true (linked ltb l) (all (λ n. leb least n && ltb n next) l) e in
-    record { once = linked-distinct l (h .0); below = λ n m. ltb-true n next (and-true (leb least n) (ltb n next) (all-in (λ n. leb least n && ltb n next) l (h .1) n m) .1) }
-
-module _ (m : Map) (N : Numbered m) where
-  parted : (numbered 1 (m .nextNode) (map (λ n. n .number) (m .nodes)) ≡ true) × (numbered 1 (m .nextEdge) (map (λ e. e .number) (m .edges)) ≡ true)
-  unfolding numbers
-  parted = and-true _ _ (and-true _ _ (and-true _ _ (N .numbers) .0) .0)
-
-  pub nodes-rising : Rising (m .nextNode) (map placeNumber (places m))
-  nodes-rising = rw (map-map placeNumber placeOf (m .nodes)) (rising 1 (m .nextNode) _ (parted .0))
-
-  pub edges-rising : Rising (m .nextEdge) (map lineNumber (lines m))
-  edges-rising = rw (map-map lineNumber lineOf (m .edges)) (rising 1 (m .nextEdge) _ (parted .1))
-
 -- ---- a map and its lines and places
 
-abbrev nodeNumber : Node → ℕ
-nodeNumber n = n .number
+module _ (m : Map) (G : Good m) where
+  -- numbers stand once, and the next is none of them
+  pub lines-once : Distinct (map lineNumber (lines m))
+  lines-once = rw (map-map lineNumber lineOf (m .edges)) (subst Distinct (nums-rows m) (G .woven .planar .edges-once))
+
+  pub places-once : Distinct (map placeNumber (places m))
+  places-once = rw (map-map placeNumber placeOf (m .nodes)) (G .woven .planar .nodes-once)
+
+  pub place-fresh : List·Memᴰ (m .nextNode) (map placeNumber (places m)) → ⊥
+  place-fresh k =
+      let b = numbered-ranked m (G .woven .planar .edges-once) (G .numbered) .nodes .bounds (m .nextNode) (subst (List·Memᴰ (m .nextNode)) (map-map placeNumber placeOf (m .nodes)) k) in
+      omega (arith, b .1)
+
+  -- the nodes that an edge names are there
+  pub named-nodes : (e : Edge) → List·Memᴰ e (m .edges) → (hasNode m (e .start) ≡ true) × (hasNode m (e .end) ≡ true)
+  named-nodes e k = (
+    has-number nodeNumber (m .nodes) (e .start) (G .woven .planar .within .starts (arcOf e) (Memᴰ·map arcOf k)),
+    has-number nodeNumber (m .nodes) (e .end) (G .woven .planar .within .ends (arcOf e) (Memᴰ·map arcOf k)),
+  )
 
 module _ (m : Map) where
-  node-row : (n : ℕ) → hasNode m n ≡ true → List·Memᴰ (node m n) (m .nodes) × (node m n .number ≡ n)
-  unfolding node
-  node-row n h = look-row nodeNumber _ (m .nodes) n h
-
-  node-at : {r : Node} → Distinct (map nodeNumber (m .nodes)) → List·Memᴰ r (m .nodes) → node m (r .number) ≡ r
-  unfolding node
-  node-at d k = look-at nodeNumber _ (m .nodes) d k
-
   -- the point of a node that is there
   pub place-in : (n : ℕ) → hasNode m n ≡ true → List·Memᴰ (record { number = n; at = node m n .at }) (places m)
-  place-in n h = Memᴰ·cast (λ i. record { number = sym (node-row n h .1) i; at = node m n .at }) (Memᴰ·map placeOf (node-row n h .0))
+  place-in n h = Memᴰ·cast (λ i. record { number = sym (node-row m n h .1) i; at = node m n .at }) (Memᴰ·map placeOf (node-row m n h .0))
 
   -- and what its place says
   at-place : (p : Place) → Distinct (map placeNumber (places m)) → List·Memᴰ p (places m) → p .at ≡ node m (p .number) .at
   at-place p d k = go (Memᴰ·of-map placeOf (m .nodes) k)
     where
       go : (r : Node) × List·Memᴰ r (m .nodes) × (placeOf r ≡ p) → p .at ≡ node m (p .number) .at
-      go w = subst (λ (q : Place). q .at ≡ node m (q .number) .at) (w .2) (sym (ap (λ (r : Node). r .at) (node-at (subst Distinct (map-map placeNumber placeOf (m .nodes)) d) (w .1))))
-
--- the first two of six tests
-first-two : (a b c d e f : Bool) → a && b && c && d && e && f ≡ true → (a ≡ true) × (b ≡ true)
-first-two a b c d e f h = and-true a b (and-true (a && b) c (and-true (a && b && c) d (and-true (a && b && c && d) e (and-true (a && b && c && d && e) f h .0) .0) .0) .0)
-
--- the nodes that an edge names are there
-pub named-nodes : (m : Map) → Numbered m → (e : Edge) → List·Memᴰ e (m .edges) → (hasNode m (e .start) ≡ true) × (hasNode m (e .end) ≡ true)
-unfolding named
-named-nodes m N e k =
-    let h : edgeNames m e ≡ true = all-in (edgeNames m) (m .edges) (and-true (all (λ n. inFace m (n .face)) (m .nodes)) (all (edgeNames m) (m .edges)) (N .named) .1) e k in
-    first-two (hasNode m (e .start)) (hasNode m (e .end)) (hasEdge m (e .nextLeft .edge)) (hasEdge m (e .nextRight .edge)) (hasFace m (e .left)) (hasFace m (e .right)) h
+      go w = subst (λ (q : Place). q .at ≡ node m (q .number) .at) (w .2) (sym (ap (λ (r : Node). r .at) (node-at m (subst Distinct (map-map placeNumber placeOf (m .nodes)) d) (w .1))))
 
 -- what is surveyed
-pub survey : (m : Map) → Numbered m → Surveyed m → Survey (lines m) (places m)
-survey m N S =
+pub survey : (m : Map) → Good m → Survey (lines m) (places m)
+survey m G =
     record {
-      drawn = rw (map-map curveIn lineOf (m .edges)) (S .drawn);
+      drawn = rw (map-map curveIn lineOf (m .edges)) (G .surveyed .drawn);
       sited = λ l k. let w = Memᴰ·of-map lineOf (m .edges) k in subst (Sited (places m)) (w .2) (edge-sited (w .0) (w .1));
       plotted = record {
-        in-range = λ p k. let w = Memᴰ·of-map placeOf (m .nodes) k in subst (λ (q : Place). InRange (q .at)) (w .2) (S .nodes-in-range (w .0) (w .1));
-        apart = rw (map-map atIn placeOf (m .nodes)) (S .places);
-        numbered = nodes-rising m N .once;
+        in-range = λ p k. let w = Memᴰ·of-map placeOf (m .nodes) k in subst (λ (q : Place). InRange (q .at)) (w .2) (G .surveyed .nodes-in-range (w .0) (w .1));
+        apart = rw (map-map atIn placeOf (m .nodes)) (G .surveyed .places);
+        numbered = places-once m G;
       };
     }
   where
     edge-sited : (e : Edge) → List·Memᴰ e (m .edges) → Sited (places m) (lineOf e)
     edge-sited e k =
         record {
-          kept = S .kept e k;
-          start = Memᴰ·cast (λ i. record { number = e .start; at = S .anchored e k .start i }) (place-in m (e .start) (named-nodes m N e k .0));
-          end = Memᴰ·cast (λ i. record { number = e .end; at = S .anchored e k .end i }) (place-in m (e .end) (named-nodes m N e k .1));
+          kept = G .surveyed .kept e k;
+          start = Memᴰ·cast (λ i. record { number = e .start; at = G .surveyed .anchored e k .start i }) (place-in m (e .start) (named-nodes m G e k .0));
+          end = Memᴰ·cast (λ i. record { number = e .end; at = G .surveyed .anchored e k .end i }) (place-in m (e .end) (named-nodes m G e k .1));
         }
 
 -- it holds of a map with such lines and places
