@@ -14,3 +14,4 @@ pub mod CurvesCut
 pub mod CurvesJoin
 pub mod CurvesRows
 pub mod CurvesHalves
+pub mod CurvesKinds

@@ -1,0 +1,124 @@
+-- Surveyed kept by all fourteen kinds of edits. Assumes nothing.
+use mathlib.Core.Path.{_≡_, refl, sym, ap, _∙_, subst}
+use mathlib.Core.Bool.{Bool, true, false, not, cond, true≢false}
+use mathlib.Core.List.{List, [], _∷_, _++_, map, map-map, append-nil, List·Memᴰ, Memᴰ·map, Memᴰ·of-map, Memᴰ·cast}
+use mathlib.Core.Option.{Option·getD}
+use mathlib.Core.Logic.{_⊎_, inl, inr, _≢_}
+use Prim.Native.Nat.{ℕ, _+_, _≤_}
+use lib.ListN.{length}
+use Rattle.lists.specs.Members.{Distinct}
+use Rattle.lists.specs.Tests.{same}
+use Rattle.lists.specs.Scans.{keep}
+use Rattle.lists.proofs.Bools.{same-false, same-refl}
+use Rattle.lists.proofs.Keeps.{keep-has, keep-in, keep-swap}
+use Rattle.lists.proofs.Perms.{distinct-injective}
+use Rattle.plane.specs.declared.Point.{Point}
+use Rattle.plane.specs.Points.{samePoint}
+use Rattle.curves.specs.Curves.{Curve, points, maxPoints}
+use Rattle.curves.specs.Tests.{meetWrongly}
+use Rattle.curves.specs.Edits.{joined}
+use Rattle.curves.specs.Edits as edits
+use Rattle.geometry.proofs.Meeting.{samePoint-differ, differs-true}
+use Rattle.map.specs.Rows.{Node, Edge, Map, Sizes, node, edge, hasNode, hasEdge, withoutNode, withoutEdge}
+use Rattle.map.specs.Edits.{addIsoNode, moveIsoNode, removeIsoNode, addIsoEdge, removeIsoEdge, changeEdgeGeom, split, heal, addEdge, removeEdge, joint, parts, healedCurve}
+use Rattle.map.specs.Reasons.{isolated, nodeAt, edgeWrong}
+use Rattle.grown.specs.Good.{Surveyed, Good}
+use Rattle.grown.proofs.Readings.{without, edge-row}
+use Rattle.grown.proofs.RowChanges.{node-row}
+use Rattle.grown.proofs.Reasons.{Sent, AddNode, MoveNode, RemoveNode, AddLone, RemoveLone, Change, Split, Heal, AddEdge, RemoveEdge}
+use Rattle.grown.proofs.Numbers.{outlineOf, numbered-ranked}
+use Rattle.grown.proofs.CurvesKept.{sent-kept, sent-some}
+use Rattle.grown.proofs.CurvesLists.{any-none}
+use Rattle.grown.proofs.CurvesSurvey.{Line, Place, lineOf, placeOf, lines, places, atIn, placeNumber, lineNumber, startOf, endOf, Sited, Survey, lines-once, places-once, place-fresh, place-in, survey, surveyed-by}
+use Rattle.grown.proofs.CurvesSites.{moved, Clear, Drawable, survey-plot, survey-unplot, survey-move, survey-keep, survey-append, survey-change}
+use Rattle.grown.proofs.CurvesCut.{survey-split-new, survey-split-mod}
+use Rattle.grown.proofs.CurvesRows.{Becomes, newLine, redrawn, addIsoNode-becomes, moveIsoNode-becomes, removeIsoNode-becomes, addIsoEdge-becomes, removeIsoEdge-becomes, changeEdgeGeom-becomes, addEdge-becomes, removeEdge-becomes}
+use Rattle.grown.proofs.CurvesHalves.{split-new-becomes, split-mod-becomes}
+
+-- a survey of what the map becomes
+by : {m : Map} {ls : List Line} {ps : List Place} → Becomes m ls ps → Survey ls ps → Surveyed m
+by {m} b S = surveyed-by m (b .lines) (b .places) S
+
+module _ (m : Map) (G : Good m) where
+  -- ---- what the reasons say of lines and places
+
+  -- no node lies on the point
+  free-point : (p : Point) → nodeAt (m .nodes) p ≡ false → List·Memᴰ p (map atIn (places m)) → ⊥
+  unfolding nodeAt
+  free-point p h k =
+      let w = Memᴰ·of-map (λ n. n .at) (m .nodes) (subst (List·Memᴰ p) (map-map atIn placeOf (m .nodes)) k) in
+      samePoint-differ (w .0 .at) p (any-none (λ n. samePoint (n .at) p) (m .nodes) h (w .0) (w .1)) (w .2)
+
+  -- nor does another node
+  free-other : (n : ℕ) (p : Point) → nodeAt (withoutNode n (m .nodes)) p ≡ false → (q : Place) → List·Memᴰ q (places m) → q .number ≢ n → q .at ≢ p
+  unfolding nodeAt
+  free-other n p h q k d e =
+      let w = Memᴰ·of-map placeOf (m .nodes) k in
+      let other = keep-has (λ r. not (same (r .number) n)) (m .nodes) (w .1) (ap not (same-false (w .0 .number) n (λ f. d (sym (ap placeNumber (w .2)) ∙ f)))) in
+      samePoint-differ (w .0 .at) p (any-none (λ r. samePoint (r .at) p) (withoutNode n (m .nodes)) h (w .0) other) (ap atIn (w .2) ∙ e)
+
+  -- no line ends at an isolated node
+  alone : (n : ℕ) → hasNode m n ≡ true → isolated m n ≡ true → (l : Line) → List·Memᴰ l (lines m) → Clear n l
+  alone n h i l k = record { start = λ e. ends (inl e); end = λ e. ends (inr e) }
+    where
+      w : (e : Edge) × List·Memᴰ e (m .edges) × (lineOf e ≡ l)
+      w = Memᴰ·of-map lineOf (m .edges) k
+
+      ends : (l .start ≡ n) ⊎ (l .end ≡ n) → ⊥
+      ends c = true≢false (sym i ∙ numbered-ranked m (G .woven .planar .edges-once) (G .numbered) .placed (node m n) (node-row m n h .0) .bare
+          (outlineOf (w .0), Memᴰ·map outlineOf (w .1), at c))
+        where
+          at : (l .start ≡ n) ⊎ (l .end ≡ n) → (w .0 .start ≡ node m n .number) ⊎ (w .0 .end ≡ node m n .number)
+          at (inl e) = inl (ap (λ (x : Line). x .start) (w .2) ∙ e ∙ sym (node-row m n h .1))
+          at (inr e) = inr (ap (λ (x : Line). x .end) (w .2) ∙ e ∙ sym (node-row m n h .1))
+
+  -- the curve meets no line wrongly
+  meets-none : (es : List Edge) (c : Curve) → edgeWrong es c ≡ false → (l : Line) → List·Memᴰ l (map lineOf es) → meetWrongly c (l .curve) ≡ false
+  unfolding edgeWrong
+  meets-none es c h l k =
+      let w = Memᴰ·of-map lineOf es k in
+      subst (λ (x : Line). meetWrongly c (x .curve) ≡ false) (w .2) (any-none (λ e. meetWrongly c (e .curve)) es h (w .0) (w .1))
+
+  -- a sent curve between two nodes
+  sent-sited : (e u v : ℕ) (c : Curve) → hasNode m u ≡ true → hasNode m v ≡ true → Sent m c u v → Sited (places m) (newLine e u v c)
+  sent-sited e u v c hu hv s =
+      record {
+        kept = sent-kept s;
+        start = Memᴰ·cast (λ t. record { number = u; at = s .start t }) (place-in m u hu);
+        end = Memᴰ·cast (λ t. record { number = v; at = s .end t }) (place-in m v hv);
+      }
+
+  sent-drawable : (c : Curve) (u v : ℕ) (es : List Edge) → Sent m c u v → edgeWrong es c ≡ false → Drawable c (map lineOf es)
+  sent-drawable c u v es s h =
+      record { some = sent-some c s; differ = differs-true (c .first) (c .rest) (s .differ); simple = s .simple; meets = meets-none es c h }
+
+  -- ---- kinds 1 to 3
+
+  pub surveyed-1 : (s : Sizes) (p : Point) → AddNode s m p → Surveyed (addIsoNode p m)
+  surveyed-1 s p h = by (addIsoNode-becomes p m) (survey-plot (lines m) (places m) _ (survey m G) (h .in-range) (place-fresh m G) (free-point p (h .free)))
+
+  pub surveyed-2 : (n : ℕ) (p : Point) → MoveNode m n p → Surveyed (moveIsoNode n p m)
+  surveyed-2 n p h = by (moveIsoNode-becomes n p m) (survey-move (lines m) (places m) n p (survey m G) (h .in-range) (free-other n p (h .free)) (alone n (h .has) (h .isolated)))
+
+  pub surveyed-3 : (n : ℕ) → RemoveNode m n → Surveyed (removeIsoNode n m)
+  surveyed-3 n h = by (removeIsoNode-becomes n m) (survey-unplot (lines m) (places m) n (survey m G) (alone n (h .has) (h .isolated)))
+
+  -- ---- kinds 4, 5, 11 to 14
+
+  -- a curve that a ticket draws
+  drawn-in : (u v : ℕ) (c : Curve) → hasNode m u ≡ true → hasNode m v ≡ true → Sent m c u v → edgeWrong (m .edges) c ≡ false → Survey (lines m ++ (newLine (m .nextEdge) u v c ∷ [])) (places m)
+  drawn-in u v c hu hv s w = survey-append (lines m) (places m) (newLine (m .nextEdge) u v c) (survey m G) (sent-drawable c u v (m .edges) s w) (sent-sited (m .nextEdge) u v c hu hv s)
+
+  pub surveyed-4 : (s : Sizes) (u v : ℕ) (c : Curve) → AddLone s m u v c → Surveyed (addIsoEdge u v c m)
+  surveyed-4 s u v c h = by (addIsoEdge-becomes u v c m) (drawn-in u v c (h .has-start) (h .has-end) (h .sent) (h .clear))
+
+  pub surveyed-5 : (e : ℕ) → Surveyed (removeIsoEdge e m)
+  surveyed-5 e = by (removeIsoEdge-becomes e m) (survey-keep _ (lines m) (places m) (survey m G))
+
+  -- kinds 11 (news) and 12
+  pub surveyed-add : (news : Bool) (s : Sizes) (u v : ℕ) (c : Curve) → AddEdge news s m u v c → Surveyed (addEdge news u v c m)
+  surveyed-add news s u v c h = by (addEdge-becomes news u v c m) (drawn-in u v c (h .has-start) (h .has-end) (h .sent) (h .clear))
+
+  -- kinds 13 (news) and 14
+  pub surveyed-remove : (news : Bool) (e : ℕ) → Surveyed (removeEdge news e m)
+  surveyed-remove news e = by (removeEdge-becomes news e m) (survey-keep _ (lines m) (places m) (survey m G))
