@@ -29,11 +29,11 @@ use Rattle.grown.proofs.Reasons.{Sent, AddNode, MoveNode, RemoveNode, A
 use Rattle.grown.proofs.Numbers.{outlineOf, numbered-ranked}
 use Rattle.grown.proofs.CurvesKept.{sent-kept, sent-some}
 use Rattle.grown.proofs.CurvesLists.{any-none}
-use Rattle.grown.proofs.CurvesSurvey.{Line, Place, lineOf, placeOf, lines, places, atIn, placeNumber, lineNumber, startOf, endOf, Sited, Survey, lines-once, places-once, place-fresh, place-in, survey, surveyed-by}
+use Rattle.grown.proofs.CurvesSurvey.{Line, Place, lineOf, placeOf, lines, places, atIn, placeNumber, lineNumber, startOf, endOf, Sited, Survey, lines-once, places-once, place-fresh, named-nodes, place-in, survey, surveyed-by}
 use Rattle.grown.proofs.CurvesSites.{moved, Clear, Drawable, survey-plot, survey-unplot, survey-move, survey-keep, survey-append, survey-change}
-use Rattle.grown.proofs.CurvesCut.{survey-split-new, survey-split-mod}
-use Rattle.grown.proofs.CurvesRows.{Becomes, newLine, redrawn, addIsoNode-becomes, moveIsoNode-becomes, removeIsoNode-becomes, addIsoEdge-becomes, removeIsoEdge-becomes, changeEdgeGeom-becomes, addEdge-becomes, removeEdge-becomes}
-use Rattle.grown.proofs.CurvesHalves.{split-new-becomes, split-mod-becomes}
+use Rattle.grown.proofs.CurvesCut.{firstHalf, secondHalf, survey-split-new, survey-split-mod}
+use Rattle.grown.proofs.CurvesRows.{Becomes, without-lines, newLine, redrawn, addIsoNode-becomes, moveIsoNode-becomes, removeIsoNode-becomes, addIsoEdge-becomes, removeIsoEdge-becomes, changeEdgeGeom-becomes, addEdge-becomes, removeEdge-becomes}
+use Rattle.grown.proofs.CurvesHalves.{replaced, split-new-becomes, split-mod-becomes}
 
 -- a survey of what the map becomes
 by : {m : Map} {ls : List Line} {ps : List Place} → Becomes m ls ps → Survey ls ps → Surveyed m
@@ -122,3 +122,46 @@ module _ (m : Map) (G : Good m) where
   -- kinds 13 (news) and 14
   pub surveyed-remove : (news : Bool) (e : ℕ) → Surveyed (removeEdge news e m)
   surveyed-remove news e = by (removeEdge-becomes news e m) (survey-keep _ (lines m) (places m) (survey m G))
+
+  -- ---- kinds 6 to 8
+
+  module _ (e : ℕ) (h : hasEdge m e ≡ true) where
+    row-in : List·Memᴰ (lineOf (edge m e)) (lines m)
+    row-in = Memᴰ·map lineOf (edge-row m e h .0)
+
+    numbered : edge m e .number ≡ e
+    numbered = edge-row m e h .1
+
+  pub surveyed-6 : (e : ℕ) (c : Curve) → Change m e c → Surveyed (changeEdgeGeom e c m)
+  surveyed-6 e c h = by (changeEdgeGeom-becomes e c m) (subst (λ (k : ℕ). Survey (map (λ l. cond (same (l .number) k) (redrawn c l) l) (lines m)) (places m)) (numbered e (h .has))
+      (survey-change (lines m) (places m) (lineOf (edge m e)) (redrawn c) (survey m G) (lines-once m G) (row-in e (h .has)) drawable
+      (sent-sited (edge m e .number) (edge m e .start) (edge m e .end) c (named .0) (named .1) (h .sent))))
+    where
+      named : (hasNode m (edge m e .start) ≡ true) × (hasNode m (edge m e .end) ≡ true)
+      named = named-nodes m G (edge m e) (edge-row m e (h .has) .0)
+
+      drawable : Drawable c (without lineNumber (edge m e .number) (lines m))
+      drawable = subst (λ (k : ℕ). Drawable c (without lineNumber k (lines m))) (sym (numbered e (h .has)))
+          (subst (Drawable c) (without-lines e (m .edges)) (sent-drawable c (edge m e .start) (edge m e .end) (withoutEdge e (m .edges)) (h .sent) (h .clear)))
+
+  pub surveyed-7 : (more : ℕ) (s : Sizes) (e : ℕ) (p : Point) → Split more s m e p → Surveyed (split false e p m)
+  surveyed-7 more s e p h = by (split-new-becomes e p m)
+      (subst (λ (k : ℕ). Survey (without lineNumber k (lines m) ++ (firstHalf l n (m .nextEdge) p ∷ secondHalf l n (m .nextEdge + 1) p ∷ [])) (places m ++ (record { number = n; at = p } ∷ []))) (numbered e (h .has))
+      (survey-split-new (lines m) (places m) l n (m .nextEdge) (m .nextEdge + 1) p (survey m G) (lines-once m G) (row-in e (h .has)) (h .on) (h .in-range) (place-fresh m G) (free-point p (h .free))))
+    where
+      l : Line
+      l = lineOf (edge m e)
+
+      n : ℕ
+      n = m .nextNode
+
+  pub surveyed-8 : (more : ℕ) (s : Sizes) (e : ℕ) (p : Point) → Split more s m e p → Surveyed (split true e p m)
+  surveyed-8 more s e p h = by (split-mod-becomes e p m)
+      (subst (λ (k : ℕ). Survey (map (replaced k (firstHalf l n e p)) (lines m) ++ (secondHalf l n (m .nextEdge) p ∷ [])) (places m ++ (record { number = n; at = p } ∷ []))) (numbered e (h .has))
+      (survey-split-mod (lines m) (places m) l n e (m .nextEdge) p (survey m G) (lines-once m G) (row-in e (h .has)) (h .on) (h .in-range) (place-fresh m G) (free-point p (h .free))))
+    where
+      l : Line
+      l = lineOf (edge m e)
+
+      n : ℕ
+      n = m .nextNode
