@@ -15,3 +15,4 @@ pub mod CurvesJoin
 pub mod CurvesRows
 pub mod CurvesHalves
 pub mod CurvesKinds
+pub mod CurvesHeal
