@@ -6,8 +6,8 @@ use mathlib.Core.Logic.{_⊎_, inl, inr, _≢_}
 use Prim.Native.Nat.{ℕ, _+_, _*_, _<_}
 use native.Mathlib.Nat.{mul-pos}
 use native.Mathlib.Omega.{arith}
-use lib.IntN.{ℤ, pos}
-use Rattle.integers.specs.Solver.{con, ⊝_, _⊕_, _⊖_, _⊗_, _≐_, solve}
+use lib.IntN.{pos}
+use Rattle.integers.specs.Solver.{con, _⊕_, _⊖_, _⊗_, _≐_, solve}
 use Rattle.integers.specs.Linear.{pos-injective}
 use Rattle.lists.proofs.Bools.{which}
 use Rattle.plane.specs.declared.Point.{Point}
@@ -16,12 +16,12 @@ use Rattle.plane.specs.Segments.{onSegment, straightBetween}
 use Rattle.curves.specs.Curves.{lastOf, secondOf, beforeLast}
 use Rattle.curves.specs.Tests.{straightIn}
 use Rattle.curves.specs.Edits.{Halves, cutHere, cut, joinHere, join, turned}
-use Rattle.geometry.specs.Spots.{Spot, spot, At, OnSeg, Between}
+use Rattle.geometry.specs.Spots.{spot, At, OnSeg, Between}
 use Rattle.geometry.specs.Meaning.{On, Some}
-use Rattle.geometry.proofs.Segments.{flip, at-first, at-last, at-one, at-spot, first-part, far-weight, parts, pin, between-differ, zero-of, of-zero, combine}
+use Rattle.geometry.proofs.Segments.{flip, at-last, at-one, at-spot, first-part, far-weight, parts, pin, between-differ, zero-of, of-zero, combine}
 use Rattle.geometry.proofs.Meeting.{samePoint-true, samePoint-differ, onSegment-true, onSegment-false, straightBetween-true, straightBetween-is}
 use Rattle.geometry.proofs.Booleans.{or-false, or-no}
-use Rattle.geometry.proofs.Turning.{last-turned, some-turned, before-turned}
+use Rattle.geometry.proofs.Turning.{last-turned, before-turned}
 
 -- ---- three points on a segment
 

@@ -21,7 +21,7 @@ use Rattle.geometry.proofs.Theorems.{cut-ends, onCurve-iff}
 use Rattle.grown.proofs.Readings.{without}
 use Rattle.grown.proofs.CurvesKept.{kept-front, kept-back}
 use Rattle.grown.proofs.CurvesLists.{map-append, Found, found}
-use Rattle.grown.proofs.CurvesSurvey.{Line, Place, curveIn, atIn, placeNumber, lineNumber, startOf, endOf, Sited, Survey}
+use Rattle.grown.proofs.CurvesSurvey.{Line, Place, curveIn, atIn, placeNumber, lineNumber, Sited, Survey}
 use Rattle.grown.proofs.CurvesSites.{plot, sited-more, between-cases}
 
 -- the halves of the line, from its start to the new place n and from there to its end

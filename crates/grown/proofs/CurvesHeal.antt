@@ -6,7 +6,6 @@ use mathlib.Core.Option.{Option·getD}
 use mathlib.Core.Logic.{_⊎_, inl, inr, _≢_}
 use Prim.Native.Nat.{ℕ, _≤_}
 use lib.ListN.{length}
-use Rattle.lists.specs.Tests.{same}
 use Rattle.lists.proofs.Bools.{same-false}
 use Rattle.lists.proofs.Keeps.{keep-swap}
 use Rattle.curves.specs.Curves.{Curve, points, maxPoints}
@@ -22,10 +21,9 @@ use Rattle.grown.proofs.RowChanges.{keep-append}
 use Rattle.grown.proofs.Reasons.{Heal}
 use Rattle.grown.proofs.Joint.{Seamed, seamed}
 use Rattle.grown.proofs.CurvesLists.{Found, found}
-use Rattle.grown.proofs.CurvesSurvey.{Line, Place, lineOf, lines, places, placeNumber, lineNumber, Survey, lines-once, survey, surveyed-by}
+use Rattle.grown.proofs.CurvesSurvey.{Line, lineOf, lines, places, placeNumber, lineNumber, Survey, lines-once, survey, surveyed-by}
 use Rattle.grown.proofs.CurvesSites.{Clear}
 use Rattle.grown.proofs.CurvesJoin.{tailPlace, headPlace, healedLine, Seam, survey-heal}
-use Rattle.grown.proofs.CurvesRows.{Becomes}
 use Rattle.grown.proofs.CurvesHalves.{replaced, healedRow, heal-new-becomes, heal-mod-becomes}
 
 -- the line of a directed edge
@@ -120,3 +118,29 @@ module _ (m : Map) (G : Good m) (e f : ℕ) (h : Heal m e f) where
   pub surveyed-9 : Surveyed (heal false e f m)
   surveyed-9 = let b = heal-new-becomes e f m in surveyed-by (heal false e f m) (b .lines) (b .places)
       (heals (m .nextEdge) (without lineNumber e (without lineNumber f (lines m))) [] (sym (append-nil (without lineNumber e (without lineNumber f (lines m))))))
+
+  -- the healed line stands where e stood
+  pub surveyed-10 : Surveyed (heal true e f m)
+  surveyed-10 = let b = heal-mod-becomes e f m in surveyed-by (heal true e f m) (b .lines ∙ lined) (b .places) (heals e (others (k .before)) (others (k .after)) split)
+    where
+      others : List Line → List Line
+      others l = without lineNumber f l
+
+      number-e : edge m e .number ≡ e
+      number-e = edge-row m e (h .has) .1
+
+      k : Found lineNumber (lineOf (edge m e)) (lines m)
+      k = found lineNumber (lines m) (lines-once m G) (Memᴰ·map lineOf (edge-row m e (h .has) .0))
+
+      healed-row : Line
+      healed-row = healedRow e e f m
+
+      placed : map (replaced e healed-row) (lines m) ≡ k .before ++ (healed-row ∷ k .after)
+      placed = ap (λ (i : ℕ). map (replaced i healed-row) (lines m)) (sym number-e) ∙ k .changed (λ r. healed-row)
+
+      lined : others (map (replaced e healed-row) (lines m)) ≡ others (k .before) ++ (healed-row ∷ others (k .after))
+      lined = ap others placed ∙ keep-append _ (k .before) (healed-row ∷ k .after)
+          ∙ ap (λ (b : Bool). others (k .before) ++ cond (not b) (healed-row ∷ others (k .after)) (others (k .after))) (same-false e f (h .differ))
+
+      split : without lineNumber e (others (lines m)) ≡ others (k .before) ++ others (k .after)
+      split = keep-swap _ _ (lines m) ∙ ap (λ (i : ℕ). others (without lineNumber i (lines m))) (sym number-e) ∙ ap others (k .others) ∙ keep-append _ (k .before) (k .after)

@@ -2,16 +2,13 @@
 use mathlib.Core.Path.{_≡_, refl, sym, ap, _∙_, subst}
 use mathlib.Core.Bool.{Bool, true, false, not, cond}
 use mathlib.Core.List.{List, [], _∷_, _++_, map, List·Memᴰ, List·Memᴰ·head, List·Memᴰ·tail, Memᴰ·cast}
-use mathlib.Core.Logic.{_⊎_, inl, inr, _≢_}
+use mathlib.Core.Logic.{inl, inr, _≢_}
 use Prim.Native.Nat.{ℕ, _≤_}
 use lib.ListN.{length}
 use borrow.Author.Tests.{not-true}
 use Rattle.lists.specs.Members.{Distinct, All}
-use Rattle.lists.specs.Tests.{same}
-use Rattle.lists.specs.Scans.{keep}
 use Rattle.lists.proofs.Bools.{same-false, differ}
 use Rattle.lists.proofs.Keeps.{keep-in, keep-has}
-use Rattle.plane.specs.declared.Point.{Point}
 use Rattle.curves.specs.Curves.{Curve, lastPoint, points, maxPoints}
 use Rattle.curves.specs.Edits.{joined, course}
 use Rattle.geometry.specs.Drawing as geometry
@@ -22,7 +19,7 @@ use Rattle.geometry.proofs.Turning.{last-turned}
 use Rattle.grown.proofs.Readings.{without}
 use Rattle.grown.proofs.CurvesKept.{kept-course, kept-joined}
 use Rattle.grown.proofs.CurvesLists.{map-append, distinct-keep, Found, found}
-use Rattle.grown.proofs.CurvesSurvey.{Line, Place, curveIn, placeNumber, lineNumber, startOf, endOf, Plotted, Sited, Survey}
+use Rattle.grown.proofs.CurvesSurvey.{Line, Place, curveIn, placeNumber, lineNumber, Sited, Survey}
 use Rattle.grown.proofs.CurvesSites.{number-one, point-one, unplot, Clear, sited-without, between-cases}
 
 -- the place where a line, taken one way round or the other, leaves and the one where it arrives

@@ -1,36 +1,29 @@
 -- Surveyed kept by all fourteen kinds of edits. Assumes nothing.
-use mathlib.Core.Path.{_≡_, refl, sym, ap, _∙_, subst}
+use mathlib.Core.Path.{_≡_, sym, ap, _∙_, subst}
 use mathlib.Core.Bool.{Bool, true, false, not, cond, true≢false}
-use mathlib.Core.List.{List, [], _∷_, _++_, map, map-map, append-nil, List·Memᴰ, Memᴰ·map, Memᴰ·of-map, Memᴰ·cast}
-use mathlib.Core.Option.{Option·getD}
+use mathlib.Core.List.{List, [], _∷_, _++_, map, map-map, List·Memᴰ, Memᴰ·map, Memᴰ·of-map, Memᴰ·cast}
 use mathlib.Core.Logic.{_⊎_, inl, inr, _≢_}
-use Prim.Native.Nat.{ℕ, _+_, _≤_}
-use lib.ListN.{length}
-use Rattle.lists.specs.Members.{Distinct}
+use Prim.Native.Nat.{ℕ, _+_}
 use Rattle.lists.specs.Tests.{same}
-use Rattle.lists.specs.Scans.{keep}
-use Rattle.lists.proofs.Bools.{same-false, same-refl}
-use Rattle.lists.proofs.Keeps.{keep-has, keep-in, keep-swap}
-use Rattle.lists.proofs.Perms.{distinct-injective}
+use Rattle.lists.proofs.Bools.{same-false}
+use Rattle.lists.proofs.Keeps.{keep-has}
 use Rattle.plane.specs.declared.Point.{Point}
 use Rattle.plane.specs.Points.{samePoint}
-use Rattle.curves.specs.Curves.{Curve, points, maxPoints}
+use Rattle.curves.specs.Curves.{Curve}
 use Rattle.curves.specs.Tests.{meetWrongly}
-use Rattle.curves.specs.Edits.{joined}
-use Rattle.curves.specs.Edits as edits
 use Rattle.geometry.proofs.Meeting.{samePoint-differ, differs-true}
-use Rattle.map.specs.Rows.{Node, Edge, Map, Sizes, node, edge, hasNode, hasEdge, withoutNode, withoutEdge}
-use Rattle.map.specs.Edits.{addIsoNode, moveIsoNode, removeIsoNode, addIsoEdge, removeIsoEdge, changeEdgeGeom, split, heal, addEdge, removeEdge, joint, parts, healedCurve}
+use Rattle.map.specs.Rows.{Edge, Map, Sizes, node, edge, hasNode, hasEdge, withoutNode, withoutEdge}
+use Rattle.map.specs.Edits.{addIsoNode, moveIsoNode, removeIsoNode, addIsoEdge, removeIsoEdge, changeEdgeGeom, split, addEdge, removeEdge}
 use Rattle.map.specs.Reasons.{isolated, nodeAt, edgeWrong}
 use Rattle.grown.specs.Good.{Surveyed, Good}
 use Rattle.grown.proofs.Readings.{without, edge-row}
 use Rattle.grown.proofs.RowChanges.{node-row}
-use Rattle.grown.proofs.Reasons.{Sent, AddNode, MoveNode, RemoveNode, AddLone, RemoveLone, Change, Split, Heal, AddEdge, RemoveEdge}
+use Rattle.grown.proofs.Reasons.{Sent, AddNode, MoveNode, RemoveNode, AddLone, Change, Split, AddEdge}
 use Rattle.grown.proofs.Numbers.{outlineOf, numbered-ranked}
 use Rattle.grown.proofs.CurvesKept.{sent-kept, sent-some}
 use Rattle.grown.proofs.CurvesLists.{any-none}
-use Rattle.grown.proofs.CurvesSurvey.{Line, Place, lineOf, placeOf, lines, places, atIn, placeNumber, lineNumber, startOf, endOf, Sited, Survey, lines-once, places-once, place-fresh, named-nodes, place-in, survey, surveyed-by}
-use Rattle.grown.proofs.CurvesSites.{moved, Clear, Drawable, survey-plot, survey-unplot, survey-move, survey-keep, survey-append, survey-change}
+use Rattle.grown.proofs.CurvesSurvey.{Line, Place, lineOf, placeOf, lines, places, atIn, placeNumber, lineNumber, Sited, Survey, lines-once, place-fresh, named-nodes, place-in, survey, surveyed-by}
+use Rattle.grown.proofs.CurvesSites.{Clear, Drawable, survey-plot, survey-unplot, survey-move, survey-keep, survey-append, survey-change}
 use Rattle.grown.proofs.CurvesCut.{firstHalf, secondHalf, survey-split-new, survey-split-mod}
 use Rattle.grown.proofs.CurvesRows.{Becomes, without-lines, newLine, redrawn, addIsoNode-becomes, moveIsoNode-becomes, removeIsoNode-becomes, addIsoEdge-becomes, removeIsoEdge-becomes, changeEdgeGeom-becomes, addEdge-becomes, removeEdge-becomes}
 use Rattle.grown.proofs.CurvesHalves.{replaced, split-new-becomes, split-mod-becomes}

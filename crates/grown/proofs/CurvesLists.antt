@@ -1,15 +1,14 @@
 -- Lists as edits change them: one row told apart from the others, rows left out, a row more. Assumes nothing.
 use mathlib.Core.Path.{_≡_, refl, sym, ap, ap₂, _∙_, subst}
-use mathlib.Core.Bool.{Bool, true, false, not, cond, true≢false}
+use mathlib.Core.Bool.{Bool, true, false, not, cond}
 use mathlib.Core.List.{List, [], _∷_, _++_, map, List·Memᴰ, List·Memᴰ·head, List·Memᴰ·tail, List·Memᴰ·cases-cons, List·Memᴰ·not-nil, List·Memᴰ·append-cases, List·Memᴰ·eq-of-singleton, Memᴰ·map, Memᴰ·of-map, Memᴰ·cast}
-use mathlib.Core.Logic.{_⊎_, inl, inr, _≢_}
+use mathlib.Core.Logic.{_⊎_, inl, inr}
 use Prim.Native.Nat.{ℕ}
 use Rattle.lists.specs.Members.{Distinct, All, Pairs}
 use Rattle.lists.specs.Tests.{same}
 use Rattle.lists.specs.Scans.{any, keep}
-use Rattle.lists.proofs.Bools.{same-eq, same-false, same-refl}
+use Rattle.lists.proofs.Bools.{same-false, same-refl}
 use Rattle.lists.proofs.Keeps.{keep-in, keep-all}
-use Rattle.lists.proofs.Members.{map-cong}
 use Rattle.geometry.proofs.Booleans.{or-false}
 use Rattle.grown.proofs.Readings.{without}
 

@@ -1,24 +1,21 @@
 -- The lines and places of a map after each edit of its rows. Assumes nothing.
 use mathlib.Core.Path.{_≡_, refl, sym, ap, _∙_}
-use mathlib.Core.Bool.{Bool, true, false, not, cond, _&&_}
+use mathlib.Core.Bool.{Bool, true, false, not, cond}
 use mathlib.Core.List.{List, [], _∷_, _++_, map}
-use mathlib.Core.Option.{Option, none, some, Option·getD}
-use Prim.Native.Nat.{ℕ, _+_}
+use mathlib.Core.Option.{Option, none, some}
+use Prim.Native.Nat.{ℕ}
 use Rattle.lists.specs.Tests.{same}
-use Rattle.lists.specs.Scans.{keep}
 use Rattle.lists.proofs.Keeps.{keep-map}
 use Rattle.plane.specs.declared.Point.{Point}
 use Rattle.curves.specs.Curves.{Curve, startWay}
 use Rattle.planar.specs.Map.{Dart, fwd, bwd, rev}
-use Rattle.map.specs.Rows.{Node, Edge, Map, edge, setNodes, setEdges, given, atNodes, atEdge, withoutNode, withoutEdge}
-use Rattle.map.specs.Darts.{leaves, arrives}
+use Rattle.map.specs.Rows.{Node, Edge, Map, edge, setEdges, atNodes, atEdge, withoutNode, withoutEdge}
 use Rattle.map.specs.Links.{withLinks, instead, redirect, lead, linkIn, linkEdge, unlinkEdge, cornerFace}
-use Rattle.map.specs.Edits.{Shares, withFace, withCurve, withSides, isEither, drawn, undrawn, addIsoEdge, removeIsoEdge, changeEdgeGeom, startHalf, endHalf, split, joint, parts, healedCurve, heal, sideOfPoint, sideOfNode, sharedOut, splitFace, splitsFace, addEdge, faceLeft, renamedNode, renamedFaces, removeEdge, addIsoNode, moveIsoNode, removeIsoNode}
+use Rattle.map.specs.Edits.{Shares, withFace, withCurve, isEither, drawn, undrawn, addIsoEdge, removeIsoEdge, changeEdgeGeom, sideOfPoint, sideOfNode, sharedOut, splitFace, splitsFace, addEdge, faceLeft, renamedNode, renamedFaces, removeEdge, addIsoNode, moveIsoNode, removeIsoNode}
 use Rattle.grown.proofs.Readings.{without, mapped-kept}
 use Rattle.grown.proofs.CurvesLists.{map-append, map-commute, map-unseen}
 use Rattle.grown.proofs.CurvesSurvey.{Line, Place, lineOf, placeOf, lines, places, placeNumber, lineNumber}
 use Rattle.grown.proofs.CurvesSites.{moved}
-use Rattle.grown.proofs.CurvesCut.{firstHalf, secondHalf}
 
 -- the same lines and places
 pub record Alike (m m′ : Map) : Type 0 where

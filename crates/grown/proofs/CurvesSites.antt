@@ -1,7 +1,7 @@
 -- Surveys with places and lines more, fewer and changed. Assumes nothing.
 use mathlib.Core.Path.{_≡_, refl, sym, ap, _∙_, subst}
 use mathlib.Core.Bool.{Bool, true, false, not, cond, true≢false}
-use mathlib.Core.List.{List, [], _∷_, _++_, map, map-map, List·Memᴰ, List·Memᴰ·head, List·Memᴰ·tail, List·Memᴰ·cases-cons, List·Memᴰ·not-nil, List·Memᴰ·append-cases, List·Memᴰ·eq-of-singleton, Memᴰ·append-left, Memᴰ·append-right, Memᴰ·map, Memᴰ·of-map, Memᴰ·cast}
+use mathlib.Core.List.{List, [], _∷_, _++_, map, map-map, List·Memᴰ, List·Memᴰ·head, List·Memᴰ·tail, List·Memᴰ·cases-cons, List·Memᴰ·append-cases, List·Memᴰ·eq-of-singleton, Memᴰ·append-left, Memᴰ·append-right, Memᴰ·map, Memᴰ·of-map, Memᴰ·cast}
 use mathlib.Core.Logic.{_⊎_, inl, inr, _≢_}
 use Prim.Native.Nat.{ℕ}
 use Rattle.lists.specs.Members.{Distinct, All}
@@ -12,19 +12,13 @@ use Rattle.lists.proofs.Keeps.{keep-in, keep-has}
 use Rattle.lists.proofs.Perms.{distinct-map, distinct-injective}
 use Rattle.plane.specs.declared.Point.{Point}
 use Rattle.plane.specs.Points.{InRange}
-use Rattle.curves.specs.Curves.{Curve, lastPoint}
+use Rattle.curves.specs.Curves.{Curve}
 use Rattle.curves.specs.Tests.{isSimple, meetWrongly}
-use Rattle.curves.specs.Edits.{front, back}
-use Rattle.geometry.specs.Spots.{spot}
 use Rattle.geometry.specs.Meaning.{Some, Differ}
-use Rattle.geometry.specs.Drawing.{OnCurve, Good, ClearCurves, Drawn}
-use Rattle.geometry.proofs.Drawing.{take}
-use Rattle.geometry.proofs.Edits.{change, append, split-new, split-mod}
-use Rattle.geometry.proofs.Theorems.{cut-ends}
-use Rattle.grown.specs.Good.{Kept}
+use Rattle.geometry.specs.Drawing.{Good, ClearCurves, Drawn}
+use Rattle.geometry.proofs.Edits.{change, append}
 use Rattle.grown.proofs.Readings.{without}
-use Rattle.grown.proofs.CurvesKept.{kept-front, kept-back}
-use Rattle.grown.proofs.CurvesLists.{map-append, map-commute, all-keep, pairs-keep, distinct-keep, distinct-of, distinct-snoc, Found, found}
+use Rattle.grown.proofs.CurvesLists.{map-append, all-keep, pairs-keep, distinct-keep, distinct-of, distinct-snoc, Found, found}
 use Rattle.grown.proofs.CurvesSurvey.{Line, Place, curveIn, atIn, placeNumber, lineNumber, startOf, endOf, Plotted, Sited, Survey}
 
 -- ---- places

@@ -1,15 +1,15 @@
 -- The joint of a heal: the two parts meet there, and no other directed edge departs from it. Assumes nothing.
-use mathlib.Core.Path.{_≡_, refl, sym, ap, _∙_, subst}
+use mathlib.Core.Path.{_≡_, refl, sym, ap, _∙_}
 use mathlib.Core.Bool.{Bool, true, false, not, cond, _||_, true≢false, false≢true}
 use mathlib.Core.List.{List, [], _∷_, List·Memᴰ, List·Memᴰ·head, List·Memᴰ·tail, List·Memᴰ·cases-cons, List·Memᴰ·not-nil, List·Memᴰ·eq-of-singleton}
-use mathlib.Core.Option.{Option, none, some, Option·getD}
+use mathlib.Core.Option.{some, Option·getD}
 use mathlib.Core.Logic.{_⊎_, inl, inr, _≢_}
-use Prim.Native.Nat.{ℕ, suc, _≤_}
+use Prim.Native.Nat.{ℕ}
 use native.Mathlib.Omega.{arith}
 use lib.ListN.{length}
 use Rattle.lists.specs.Tests.{same}
-use Rattle.lists.specs.Scans.{find, isSome, keep}
-use Rattle.lists.proofs.Bools.{same-true, same-eq, differ, or-true}
+use Rattle.lists.specs.Scans.{find, isSome}
+use Rattle.lists.proofs.Bools.{same-true, differ, or-true}
 use Rattle.lists.proofs.Keeps.{keep-in}
 use Rattle.planar.specs.Map.{Dart, fwd, bwd, rev}
 use Rattle.map.specs.Rows.{Map, edge, hasEdge}
@@ -93,7 +93,6 @@ module _ (m : Map) (e f : ℕ) (h : Heal m e f) where
   unfolding parts
   meets = go (same at (edge m e .end)) refl
     where
-
       go : (b : Bool) → same at (edge m e .end) ≡ b
           → Meet m e f at (cond {A = Dart × Dart} b (fwd e, cond (same (leaves m (fwd f)) at) (fwd f) (bwd f)) (cond (same (leaves m (bwd f)) at) (fwd f) (bwd f), fwd e) .0)
           (cond {A = Dart × Dart} b (fwd e, cond (same (leaves m (fwd f)) at) (fwd f) (bwd f)) (cond (same (leaves m (bwd f)) at) (fwd f) (bwd f), fwd e) .1)

@@ -4,6 +4,11 @@ pub mod RowChanges
 pub mod Reasons
 pub mod Scanning
 pub mod Numbers
+pub mod Outlines
+pub mod NumbersNodes
+pub mod NumbersEdges
+pub mod NumbersFaces
+-- `Joint`: where a heal joins. `CurvesKinds`, `CurvesHeal`: Surveyed kept by all fourteen kinds; the other files of curves say how lines and places change.
 pub mod Joint
 pub mod CurvesBent
 pub mod CurvesKept
