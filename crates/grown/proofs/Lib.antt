@@ -6,6 +6,23 @@ pub mod Scanning
 pub mod Numbers
 pub mod Outlines
 pub mod NumbersNodes
+pub mod NumbersEdges
+pub mod NumbersFaces
+-- `Joint`: where a heal joins. `CurvesKinds`, `CurvesHeal`: Surveyed kept by all fourteen kinds; the other files of curves say how lines and places change.
+pub mod Joint
+pub mod CurvesBent
+pub mod CurvesKept
+pub mod CurvesSurvey
+pub mod CurvesLists
+pub mod CurvesSites
+pub mod CurvesCut
+pub mod CurvesJoin
+pub mod CurvesRows
+pub mod CurvesHalves
+pub mod CurvesKinds
+pub mod CurvesHeal
+-- `Changes`, `SplitsWoven`, `HealsWoven`: Woven kept by kinds 1, 2, 3 and 6, by 7 and 8, by 9 and 10. `Renumber`: other names of edges. `LawOrder`, `Apart`: the link law. `Halved`, `HalvedLaw`,
+-- `Splits`, `Heals`: a map with an edge whole and with it in halves. `Fresh`, `RowDarts`: numbers, and what directed edges read.
 pub mod Renumber
 pub mod LawOrder
 pub mod Apart
