@@ -48,7 +48,7 @@ module _ (m : Map) (s : Surveyed m) where
   curves-clear r q k j ne = pairs-in ClearCurves clear-sym (λ (e : Edge). e .curve) (m .edges) (s .drawn .clear) r q k j ne
 
   -- a course starts on the point of the node that it leaves
-  starts : (b : Bool) (r : Edge) → List·Memᴰ r (m .edges) → courseIn b r .first ≡ node m (tailIn b r) .at
+  pub starts : (b : Bool) (r : Edge) → List·Memᴰ r (m .edges) → courseIn b r .first ≡ node m (tailIn b r) .at
   starts true r k = s .anchored r k .end
   starts false r k = s .anchored r k .start
 

@@ -35,3 +35,5 @@ pub mod Heals
 pub mod RowDarts
 pub mod SplitsRows
 pub mod SplitsWoven
+pub mod HealsSeam
+pub mod HealsRows
