@@ -103,22 +103,21 @@ bare m n good has iso d k e = empty (departures m n) (same-true (edgeEnds m n) 0
         ∙ sym (beq-true (isSome (node m n .face)) (same (edgeEnds m (node m n .number)) 0) (all-has (λ n. Bool·beq (isSome (n .face)) (same (edgeEnds m (n .number)) 0)) (m .nodes) (good .marked) (node m n) (node-row m n has .0)))
         ∙ iso
 
+-- the node n before the others
+pub node-first : (m : Map) (n : ℕ) → hasNode m n ≡ true → Distinct (map nodeNumber (m .nodes)) → List·Permᴰ (map nodeNumber (m .nodes)) (n ∷ map nodeNumber (withoutNode n (m .nodes)))
+unfolding node
+node-first m n has once = subst (λ (x : ℕ). List·Permᴰ (map nodeNumber (m .nodes)) (x ∷ map nodeNumber (withoutNode n (m .nodes)))) (node-row m n has .1) (Permᴰ·map nodeNumber (without-perm nodeNumber noNode (m .nodes) n once has))
+
 pub woven-3 : (m : Map) (n : ℕ) → Numbered m → Woven m → hasNode m n ≡ true → isolated m n ≡ true → Woven (removeIsoNode n m)
 unfolding removeIsoNode leaves next bears way course edge
 woven-3 m n good w has iso = record {
-  planar = planar-node-off (planar-nodes first (w .planar)) (record {
+  planar = planar-node-off (planar-nodes (node-first m n has (w .planar .nodes-once)) (w .planar)) (record {
     starts = λ a k e. bare m n good has iso (fwd (a .num)) (fwd-in k) (w .planar .linked .starts a k ∙ e);
     ends = λ a k e. bare m n good has iso (bwd (a .num)) (bwd-in k) (w .planar .linked .ends a k ∙ e);
   });
   law = w .law;
   borne = w .borne;
 }
-  where
-    first : List·Permᴰ (map nodeNumber (m .nodes)) (n ∷ map nodeNumber (withoutNode n (m .nodes)))
-    first = subst (λ (x : ℕ). List·Permᴰ (map nodeNumber (m .nodes)) (x ∷ map nodeNumber (withoutNode n (m .nodes)))) (node-row m n has .1) (Permᴰ·map nodeNumber (put m n has (w .planar .nodes-once)))
-      where
-        put : (m : Map) (n : ℕ) → hasNode m n ≡ true → Distinct (map nodeNumber (m .nodes)) → List·Permᴰ (m .nodes) (node m n ∷ withoutNode n (m .nodes))
-        put m n has dis = unfold node in without-perm nodeNumber noNode (m .nodes) n dis has
 
 -- ---- kind 6
 

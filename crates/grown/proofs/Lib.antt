@@ -37,3 +37,4 @@ pub mod SplitsRows
 pub mod SplitsWoven
 pub mod HealsSeam
 pub mod HealsRows
+pub mod HealsWoven

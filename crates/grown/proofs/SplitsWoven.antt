@@ -43,7 +43,8 @@ rest-other e es {q} k = differ (q .number) e (no (same (q .number) e) (keep-in (
     no false h = refl
 
 module _ (m : Map) (e : ℕ) (f : Edge → Edge) (keeps : (r : Edge) → f r .number ≡ r .number) (once : Distinct (map numberOf (m .edges))) (has : hasEdge m e ≡ true) where
-  rows-m : List·Permᴰ (m .edges) (edge m e ∷ withoutEdge e (m .edges))
+  -- the row e before the others
+  pub rows-m : List·Permᴰ (m .edges) (edge m e ∷ withoutEdge e (m .edges))
   unfolding edge
   rows-m = without-perm numberOf missing (m .edges) e once has
 
