@@ -1,0 +1,2 @@
+-- Woven kept by the edits.
+pub mod EdgesRings
