@@ -1,2 +1,3 @@
 -- Woven kept by the edits.
 pub mod EdgesRings
+pub mod EdgesLaw
