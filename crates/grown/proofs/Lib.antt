@@ -1,3 +1,4 @@
 -- Woven kept by the edits.
 pub mod EdgesRings
 pub mod EdgesLaw
+pub mod EdgesPut
