@@ -1,4 +1,7 @@
--- Woven kept by the edits.
+-- Every grown map is good, hence sound and in form. `Readings`: what a map reads in its rows, and after each way of changing them.
+pub mod Readings
+pub mod RowChanges
+pub mod Reasons
 pub mod EdgesRings
 pub mod EdgesLaw
 pub mod EdgesPut
