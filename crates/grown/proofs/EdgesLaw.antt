@@ -1,4 +1,4 @@
--- The link law depends on directions and links only at the departures that there are, and not on their order. Assumes nothing.
+-- The link law depends on nodes, directions and links only at the departures that there are. Assumes nothing.
 use mathlib.Core.Path.{_≡_, refl, sym, ap, _∙_, subst}
 use mathlib.Core.Logic.{inl, inr}
 use mathlib.Core.Bool.{Bool, cond, not}
@@ -15,15 +15,11 @@ use Rattle.rotation.specs.Law.{firstClockwise, Differ, others, lawful, Lawful, 
 use Rattle.rotation.proofs.Clock.{First, first-one}
 use Rattle.rotation.proofs.Node.{first-in, first-none, first-first, place, placed, size-of}
 use Rattle.rotation.proofs.Rename.{renamed-lawful, first-same}
-use Rattle.rotation.proofs.Ties.{tells}
-
-keep-alike : {D : Type 0} (p q : D → Bool) (ds : List D) → ((d : D) → List·Memᴰ d ds → p d ≡ q d) → keep p ds ≡ keep q ds
-keep-alike p q [] h = refl
-keep-alike p q (d ∷ ds) h = rw (h d (List·Memᴰ·head refl), keep-alike p q ds (λ c k. h c (List·Memᴰ·tail k)))
+use Rattle.grown.proofs.Readings.{keep-cong}
 
 -- what departs from one node
 pub from-alike : (ds : List Dart) (tail tail′ : Dart → ℕ) → ((d : Dart) → List·Memᴰ d ds → tail′ d ≡ tail d) → (n : ℕ) → from tail′ ds n ≡ from tail ds n
-from-alike ds tail tail′ h n = keep-alike (λ d. same (tail′ d) n) (λ d. same (tail d) n) ds (λ d k. ap (λ x. same x n) (h d k))
+from-alike ds tail tail′ h n = keep-cong (λ d. same (tail′ d) n) (λ d. same (tail d) n) ds (λ d k. ap (λ x. same x n) (h d k))
 
 module _ (ds : List Dart) {tail tail′ : Dart → ℕ} {way way′ : Dart → Way} (ht : (d : Dart) → List·Memᴰ d ds → tail′ d ≡ tail d) (hw : (d : Dart) → List·Memᴰ d ds → way′ d ≡ way d) where
   pub law-agree : (next next′ : Dart → Dart) → ((d : Dart) → List·Memᴰ d ds → next′ (rev d) ≡ next (rev d)) → Law sameDart rev tail way ds next → Law sameDart rev tail′ way′ ds next′
@@ -47,34 +43,10 @@ module _ (ds : List Dart) {tail tail′ : Dart → ℕ} {way way′ : Dart → W
 pub differ-part : {D : Type 0} {way : D → Way} {ds ds′ : List D} → ((d : D) → List·Memᴰ d ds → List·Memᴰ d ds′) → Differ way ds′ → Differ way ds
 differ-part h f d c i k e = f d c (h d i) (h c k) e
 
--- the same departures in another order
+-- directions differ in any order
 module _ (tail : Dart → ℕ) (way : Dart → Way) (ds ds′ : List Dart) (to : (d : Dart) → List·Memᴰ d ds → List·Memᴰ d ds′) (fro : (d : Dart) → List·Memᴰ d ds′ → List·Memᴰ d ds) where
   pub apart-order : Apart tail way ds → Apart tail way ds′
   apart-order a n = differ-part (λ d k. let i = keep-in (λ (d : Dart). same (tail d) n) ds′ k in keep-has (λ (d : Dart). same (tail d) n) ds (fro d (i .0)) (i .1)) (a n)
-
-  pub law-order : (next : Dart → Dart) → Apart tail way ds → Law sameDart rev tail way ds next → Law sameDart rev tail way ds′ next
-  law-order next apart l n d k = l n d (there d k) ∙ elim (some? (others sameDart d (from tail ds n))) [
-    | inl q ↦ first-same way sameDart tells d d d (others sameDart d (from tail ds n)) (others sameDart d (from tail ds′ n)) differ (λ c i. other here i) (λ c i. other there i) (q .1)
-    | inr q ↦ first-none way (way d) d (others sameDart d (from tail ds n)) q ∙ sym (first-none way (way d) d (others sameDart d (from tail ds′ n)) (λ c i. q c (other there i)))
-  ]
-    where
-      at : Dart → Bool
-      at d = same (tail d) n
-
-      not-d : Dart → Bool
-      not-d q = not (sameDart q d)
-
-      here : (c : Dart) → List·Memᴰ c (from tail ds n) → List·Memᴰ c (from tail ds′ n)
-      here c i = let j = keep-in at ds i in keep-has at ds′ (to c (j .0)) (j .1)
-
-      there : (c : Dart) → List·Memᴰ c (from tail ds′ n) → List·Memᴰ c (from tail ds n)
-      there c i = let j = keep-in at ds′ i in keep-has at ds (fro c (j .0)) (j .1)
-
-      other : {k k′ : List Dart} → ((c : Dart) → List·Memᴰ c k → List·Memᴰ c k′) → {c : Dart} → List·Memᴰ c (others sameDart d k) → List·Memᴰ c (others sameDart d k′)
-      other {k} {k′} h {c} i = let j = keep-in not-d k i in keep-has not-d k′ (h c (j .0)) (j .1)
-
-      differ : Differ way (d ∷ others sameDart d (from tail ds n))
-      differ = differ-part (each-cons {p = λ c. List·Memᴰ c (from tail ds n)} (there d k) (λ c i. keep-in not-d (from tail ds n) i .0)) (apart n)
 
 -- the first of more departures is the first of fewer, where it is one of these
 pub first-fewer : (way : Dart → Way) (x p u w : Dart) (ds : List Dart) → Differ way (x ∷ p ∷ ds) → List·Memᴰ (firstClockwise way (way x) u (p ∷ ds)) ds → firstClockwise way (way x) u (p ∷ ds) ≡ firstClockwise way (way x) w ds

@@ -2,6 +2,9 @@
 pub mod Readings
 pub mod RowChanges
 pub mod Reasons
+pub mod Renumber
+pub mod LawOrder
+pub mod Apart
 pub mod EdgesRings
 pub mod EdgesLaw
 pub mod EdgesPut
