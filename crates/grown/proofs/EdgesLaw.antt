@@ -6,6 +6,7 @@ use mathlib.Core.List.{List, [], _∷_, map, map-id, List·Memᴰ, List·Memᴰ�
 use Prim.Native.Nat.{ℕ}
 use Rattle.lists.specs.Tests.{same}
 use Rattle.lists.specs.Scans.{keep}
+use Rattle.lists.proofs.Bools.{same-eq, same-true}
 use Rattle.lists.proofs.Members.{some?, each-cons}
 use Rattle.lists.proofs.Keeps.{keep-in, keep-has}
 use Rattle.plane.specs.Directions.{Way}
@@ -16,6 +17,13 @@ use Rattle.rotation.proofs.Clock.{First, first-one}
 use Rattle.rotation.proofs.Node.{first-in, first-none, first-first, place, placed, size-of}
 use Rattle.rotation.proofs.Rename.{renamed-lawful, first-same}
 use Rattle.grown.proofs.Readings.{keep-cong}
+
+-- departures from a node, and back
+pub from-in : (tail : Dart → ℕ) (ds : List Dart) (n : ℕ) {d : Dart} → List·Memᴰ d (from tail ds n) → List·Memᴰ d ds × (tail d ≡ n)
+from-in tail ds n {d} k = let i = keep-in (λ (d : Dart). same (tail d) n) ds k in (i .0, same-true (tail d) n (i .1))
+
+pub from-has : (tail : Dart → ℕ) (ds : List Dart) (n : ℕ) {d : Dart} → List·Memᴰ d ds → tail d ≡ n → List·Memᴰ d (from tail ds n)
+from-has tail ds n {d} k e = keep-has (λ (d : Dart). same (tail d) n) ds k (same-eq (tail d) n e)
 
 -- what departs from one node
 pub from-alike : (ds : List Dart) (tail tail′ : Dart → ℕ) → ((d : Dart) → List·Memᴰ d ds → tail′ d ≡ tail d) → (n : ℕ) → from tail′ ds n ≡ from tail ds n

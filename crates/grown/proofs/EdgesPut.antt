@@ -24,14 +24,7 @@ use Rattle.rotation.specs.Law.{firstClockwise, Differ, redirect, leading, from,
 use Rattle.rotation.proofs.Node.{first-in, first-none}
 use Rattle.rotation.proofs.Whole.{link-edge-law}
 use Rattle.rotation.proofs.Ties.{tells, link-is-tie, link-alone-is-tie}
-use Rattle.grown.proofs.EdgesLaw.{differ-part, law-agree, first-fewer}
-
--- departures from a node, and back
-from-in : (tail : Dart → ℕ) (ds : List Dart) (n : ℕ) {d : Dart} → List·Memᴰ d (from tail ds n) → List·Memᴰ d ds × (tail d ≡ n)
-from-in tail ds n {d} k = let i = keep-in (λ (d : Dart). same (tail d) n) ds k in (i .0, same-true (tail d) n (i .1))
-
-from-has : (tail : Dart → ℕ) (ds : List Dart) (n : ℕ) {d : Dart} → List·Memᴰ d ds → tail d ≡ n → List·Memᴰ d (from tail ds n)
-from-has tail ds n {d} k e = keep-has (λ (d : Dart). same (tail d) n) ds k (same-eq (tail d) n e)
+use Rattle.grown.proofs.EdgesLaw.{from-in, from-has, differ-part, law-agree, first-fewer}
 
 -- the dart that leads to one
 led-to : {es : List Arc} {tail : Dart → ℕ} {next : Dart → Dart} {face : Dart → ℕ} → Linked es tail next face → (c : Dart) → List·Memᴰ c (darts es) → (x : Dart) × List·Memᴰ x (darts es) × (next x ≡ c)

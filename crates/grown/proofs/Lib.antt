@@ -8,3 +8,4 @@ pub mod Apart
 pub mod EdgesRings
 pub mod EdgesLaw
 pub mod EdgesPut
+pub mod EdgesDrawn
