@@ -9,3 +9,4 @@ pub mod EdgesRings
 pub mod EdgesLaw
 pub mod EdgesPut
 pub mod EdgesDrawn
+pub mod EdgesJoined
