@@ -2,6 +2,8 @@
 pub mod Readings
 pub mod RowChanges
 pub mod Reasons
+pub mod Scanning
+pub mod Numbers
 pub mod Renumber
 pub mod LawOrder
 pub mod Apart

@@ -26,6 +26,8 @@ pub record Numbered (m : Map) : Type 0 where
   pub numbers : numbers m ≡ true
   pub named : named m ≡ true
   pub marked : bareMarked m ≡ true
+  pub first-node : 1 ≤ m .nextNode
+  pub first-edge : 1 ≤ m .nextEdge
   pub next-node : m .nextNode ≤ suc lastNumber
   pub next-edge : m .nextEdge ≤ suc lastNumber
   pub next-face : m .nextFace ≤ suc lastNumber
