@@ -7,6 +7,10 @@ pub mod Numbers
 pub mod Renumber
 pub mod LawOrder
 pub mod Apart
+pub mod Fresh
+pub mod Changes
+pub mod Halved
+pub mod HalvedLaw
 pub mod EdgesRings
 pub mod EdgesLaw
 pub mod EdgesPut
