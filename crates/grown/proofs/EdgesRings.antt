@@ -7,9 +7,7 @@ use Prim.Native.Nat.{ℕ, zero, suc, _+_, _*_, _≤_, min}
 use native.Mathlib.Omega.{arith}
 use lib.ListN.{length, length-map}
 use Rattle.lists.specs.Tests.{iterate}
-use Rattle.lists.specs.Scans.{any}
 use Rattle.lists.specs.Members.{Distinct}
-use Rattle.lists.proofs.Bools.{which, or-true, or-right}
 use Rattle.lists.proofs.Members.{each-cons}
 use Rattle.lists.proofs.Perms.{perm-of-distinct, perm-length, injective-of-perm}
 use Rattle.planar.specs.Map.{Arc, Dart, darts, Linked}
@@ -22,6 +20,7 @@ use Rattle.planar.proofs.Joins.{leads-keep}
 use Rattle.rotation.proofs.Clock.{le-or}
 use Rattle.map.specs.Rows.{Map}
 use Rattle.map.specs.Darts.{arcs, directed, leaves, next, bears, stepsTo, ring, among, lowestEdge}
+use Rattle.grown.proofs.Scanning.{any-some, some-any}
 
 -- a list in which nothing stands twice, part of another, is no longer than it
 distinct-length : {A : Type 0} (l k : List A) → Distinct l → ((x : A) → List·Memᴰ x l → List·Memᴰ x k) → length l ≤ length k
@@ -82,30 +81,13 @@ steps-lead m d (suc k) {c} r {x} i = go (sameDart (next m c) d) (steps-lead m d 
     go true ih (inr j) = absurd (List·Memᴰ·not-nil j)
     go false ih (inr j) = ih j
 
--- ---- `any` as membership
-
-module _ {A : Type 0} (p : A → Bool) where
-  pub any-has : (l : List A) {x : A} → List·Memᴰ x l → p x ≡ true → any p l ≡ true
-  any-has [] i e = absurd (List·Memᴰ·not-nil i)
-  any-has (y ∷ l) {x} i e = go (List·Memᴰ·cases-cons i) (λ k. any-has l k e)
-    where
-      go : (x ≡ y) ⊎ List·Memᴰ x l → (List·Memᴰ x l → any p l ≡ true) → any p (y ∷ l) ≡ true
-      go (inl q) ih = rw (sym (ap p q) ∙ e)
-      go (inr k) ih = or-right (p y) (any p l) (ih k)
-
-  pub any-in : (l : List A) → any p l ≡ true → (x : A) × List·Memᴰ x l × (p x ≡ true)
-  any-in [] e = absurd (true≢false (sym e))
-  any-in (y ∷ l) e = go (or-true (p y) (any p l) e) (any-in l)
-    where
-      go : (p y ≡ true) ⊎ (any p l ≡ true) → (any p l ≡ true → (x : A) × List·Memᴰ x l × (p x ≡ true)) → (x : A) × List·Memᴰ x (y ∷ l) × (p x ≡ true)
-      go (inl q) ih = (y, List·Memᴰ·head refl, q)
-      go (inr q) ih = let r = ih q in (r .0, List·Memᴰ·tail (r .1), r .2)
+-- ---- `among` as membership
 
 pub among-has : (r : List Dart) {c : Dart} → List·Memᴰ c r → among r c ≡ true
-among-has r {c} i = any-has (sameDart c) r i (sameDart-refl c)
+among-has r {c} i = some-any (sameDart c) r i (sameDart-refl c)
 
 pub among-in : (r : List Dart) (c : Dart) → among r c ≡ true → List·Memᴰ c r
-among-in r c e = let q = any-in (sameDart c) r e in Memᴰ·cast (sameDart-true c (q .0) (q .2)) (q .1)
+among-in r c e = let q = any-some (sameDart c) r e in Memᴰ·cast (sameDart-true c (q .0) (q .2)) (q .1)
 
 -- ---- the lowest edge
 

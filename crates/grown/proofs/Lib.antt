@@ -16,3 +16,4 @@ pub mod EdgesLaw
 pub mod EdgesPut
 pub mod EdgesDrawn
 pub mod EdgesJoined
+pub mod EdgesReached
