@@ -21,7 +21,7 @@ use Rattle.planar.specs.Weave.{with-edge, lone, Corner, woven, Fits}
 use Rattle.planar.specs.Planar.{Planar}
 use Rattle.planar.proofs.Bridges.{Fresh}
 use Rattle.planar.proofs.Cycles.{Grown}
-use Rattle.planar.proofs.Rings.{rev-in, next-in}
+use Rattle.planar.proofs.Rings.{rev-in, next-in, sameDart-refl}
 use Rattle.planar.proofs.Hooks.{fresh-dart, with-fwd, with-bwd, with-other}
 use Rattle.planar.proofs.Rows.{planar-agree}
 use Rattle.planar.proofs.Agree.{linked-agree}
@@ -32,7 +32,7 @@ use Rattle.rotation.specs.Law.{firstClockwise, pick, from, Apart, Law}
 use Rattle.rotation.specs.Law as rotation
 use Rattle.rotation.proofs.Ways.{alike-is, alike-sym}
 use Rattle.rotation.proofs.Order.{sameWay-refl}
-use Rattle.rotation.proofs.Node.{first-in}
+use Rattle.rotation.proofs.Node.{first-in, first-none}
 use Rattle.rotation.proofs.Ties.{tells}
 use Rattle.map.specs.Rows.{Node, Edge, Map, atNodes}
 use Rattle.map.specs.Darts.{arcs, directed, leaves, next, bears, way, departures}
@@ -265,11 +265,11 @@ module _ (m : Map) (u v : ℕ) (c : Curve) (φ : ℕ) (draws : Draws m u v c φ)
   D-next : (d : Dart) → List·Memᴰ d all → next D d ≡ woven e (w .0) (w .1) (next m) d
   D-next d k = D-links d k ∙ w .4 d k
 
-  D-nodes : nodeNumbers D ≡ nodeNumbers m
+  pub D-nodes : nodeNumbers D ≡ nodeNumbers m
   unfolding drawn atNodes
   D-nodes = numbers-kept (isEither u v) (withFace none) (linkEdge e m₁ .nodes) (λ n. refl) ∙ ap (map (λ (n : Node). n .number)) (relinked .nodes)
 
-  D-faces : D .faces ≡ m .faces
+  pub D-faces : D .faces ≡ m .faces
   unfolding drawn atNodes
   D-faces = relinked .faces
 
@@ -316,3 +316,14 @@ module _ (m : Map) (u v : ℕ) (c : Curve) (φ : ℕ) (draws : Draws m u v c φ)
   pub D-split : (new : Dart → ℕ) (μ : ℕ → ℕ) → Grown a (arcs m) (bears m) new μ → ((new f ≡ new b) → ⊥) → ((d : Dart) → List·Memᴰ d (directed D) → new (next D d) ≡ new d) → Planar (nodeNumbers D) (arcs D) (leaves D) (next D) new (suc (length (m .faces)))
   D-split new μ grown apart keeps = subst (λ (ns : List ℕ). Planar ns (arcs D) (leaves D) (next D) new (suc (length (m .faces)))) (sym D-nodes) (planar-perm (Permᴰ·symm D-perm) (planar-agree D-leaves D-next (λ d k. refl)
       (planar-split (draws .planar) a (draws .fresh) (draws .start) (draws .end) φ (w .0) (w .1) (w .2) (w .3) new μ grown apart (λ d k. ap new (sym (D-next d k)) ∙ keeps d (all-D k)))))
+
+  -- with nothing at its end, the edge turns back there
+  pub D-alone : ((d : Dart) → List·Memᴰ d (from T (f ∷ directed m) (T b)) → ⊥) → next D f ≡ b
+  unfolding N₂
+  D-alone bare = D-links f (List·Memᴰ·head refl) ∙ ap (λ (x : Bool). cond x c₂ (cond (sameDart (N₁ f) c₂) b (N₁ f))) (sameDart-refl f) ∙ first-none W (W b) b (from T (f ∷ directed m) (T b)) bare
+    where
+      c₂ : Dart
+      c₂ = firstClockwise W (W b) b (from T (f ∷ directed m) (T b))
+
+      N₁ : Dart → Dart
+      N₁ = rotation.link sameDart rev W f (from T (directed m) (T f)) (lone e (next m))

@@ -17,3 +17,4 @@ pub mod EdgesPut
 pub mod EdgesDrawn
 pub mod EdgesJoined
 pub mod EdgesReached
+pub mod EdgesAdd
