@@ -18,3 +18,4 @@ pub mod EdgesDrawn
 pub mod EdgesJoined
 pub mod EdgesReached
 pub mod EdgesAdd
+pub mod EdgesShared
