@@ -19,3 +19,4 @@ pub mod EdgesJoined
 pub mod EdgesReached
 pub mod EdgesAdd
 pub mod EdgesShared
+pub mod EdgesSides
