@@ -51,8 +51,13 @@ module _ (m : Map) (s : Shares) where
   unfolding sideOfDart
   side-other d e h k = rw (same-eq (bears m d) (s .old) e, h, k)
 
--- ---- in a linked map, with the rings of a directed edge x and of its reverse
+-- ---- in a linked map
 
+-- two rings that are apart, seen from either
+pub apart-rev : (m : Map) → Linked (arcs m) (leaves m) (next m) (bears m) → Distinct (nums (arcs m)) → (c d : Dart) → List·Memᴰ c (directed m) → List·Memᴰ d (directed m) → among (ring m c) d ≡ false → among (ring m d) c ≡ false
+apart-rev m l dis c d i j h = not-true (among (ring m d) c) (λ e. true≢false (sym (among-has (ring m c) (ring-has m l dis c i (leads-back m l dis j (ring-leads m l dis d j (among-in (ring m d) c e))))) ∙ h))
+
+-- the rings of a directed edge x and of its reverse
 module _ (m : Map) (l : Linked (arcs m) (leaves m) (next m) (bears m)) (dis : Distinct (nums (arcs m))) (s : Shares) (x : Dart) (i : List·Memᴰ x (directed m))
     (ref-ring : s .refRing ≡ ring m x) (other-ring : s .otherRing ≡ ring m (rev x)) where
   -- along the links it is one number
@@ -74,10 +79,6 @@ module _ (m : Map) (l : Linked (arcs m) (leaves m) (next m) (bears m)) (dis : Di
 
     pub side-rev : sideOfDart m s (rev x) ≡ s .other
     side-rev = side-other m s (rev x) on-rev (ap (λ r. among r (rev x)) ref-ring ∙ apart) (ap (λ r. among r (rev x)) other-ring ∙ among-has (ring m (rev x)) (ring-here m l dis (rev x) (rev-in (arcs m) i)))
-
-  -- apart seen from the other side
-  pub apart-rev : among (ring m x) (rev x) ≡ false → among (ring m (rev x)) x ≡ false
-  apart-rev h = not-true (among (ring m (rev x)) x) (λ e. true≢false (sym (among-has (ring m x) (ring-has m l dis x i (leads-back m l dis (rev-in (arcs m) i) (ring-leads m l dis (rev x) (rev-in (arcs m) i) (among-in (ring m (rev x)) x e))))) ∙ h))
 
 -- ---- the numbers of the two sides
 

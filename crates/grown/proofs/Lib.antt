@@ -20,3 +20,4 @@ pub mod EdgesReached
 pub mod EdgesAdd
 pub mod EdgesShared
 pub mod EdgesSides
+pub mod EdgesSplit
