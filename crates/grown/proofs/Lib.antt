@@ -21,3 +21,4 @@ pub mod EdgesAdd
 pub mod EdgesShared
 pub mod EdgesSides
 pub mod EdgesSplit
+pub mod EdgesAdded
