@@ -22,3 +22,4 @@ pub mod EdgesShared
 pub mod EdgesSides
 pub mod EdgesSplit
 pub mod EdgesAdded
+pub mod EdgesTaken
