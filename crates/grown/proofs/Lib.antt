@@ -23,3 +23,4 @@ pub mod EdgesSides
 pub mod EdgesSplit
 pub mod EdgesAdded
 pub mod EdgesTaken
+pub mod EdgesRemove
