@@ -38,3 +38,16 @@ pub mod SplitsWoven
 pub mod HealsSeam
 pub mod HealsRows
 pub mod HealsWoven
+pub mod EdgesRings
+pub mod EdgesLaw
+pub mod EdgesPut
+pub mod EdgesDrawn
+pub mod EdgesJoined
+pub mod EdgesReached
+pub mod EdgesAdd
+pub mod EdgesShared
+pub mod EdgesSides
+pub mod EdgesSplit
+pub mod EdgesAdded
+pub mod EdgesTaken
+pub mod EdgesRemove
