@@ -32,7 +32,8 @@ use Rattle.grown.proofs.Apart.{apart}
 use Rattle.grown.proofs.Changes.{planar-nodes}
 use Rattle.grown.proofs.RowDarts.{dart-move, dart-row, leaves-of, next-of, bears-of, way-of}
 use Rattle.grown.proofs.Halved.{Halved, departs, arrives, whole, halved, each-whole, each-halved, f-fwd, f-bwd, f-old, g-fwd, g-bwd, g-old}
-use Rattle.grown.proofs.HalvedLaw.{heal-lawful, heal-borne}
+use Rattle.grown.proofs.HalvedLaw.{heal-lawful, heal-borne, heal-sides}
+use Rattle.grown.proofs.EdgesReached.{Reached, even-darts, darts-even}
 use Rattle.grown.proofs.Heals.{heal-planar}
 use Rattle.grown.proofs.SplitsRows.{instead-it, instead-other}
 use Rattle.grown.proofs.HealsSeam as seams
@@ -287,3 +288,7 @@ module _ (m m′ : Map) (e f h n : ℕ) (c d : Dart) (rest : List Edge) (w : Wov
       where
         lone : Isolated n r
         lone = seams.lone m w s e f n c d seam r (λ z k. to-m z (List·Memᴰ·tail (List·Memᴰ·tail (List·Memᴰ·tail (List·Memᴰ·tail k))))) (λ x k. perm-in (Permᴰ·symm arcs-m) (List·Memᴰ·tail (List·Memᴰ·tail k))) old-c old-d
+
+    pub reached-whole : Reached m → Reached m′
+    reached-whole reached S even φ k = reached S
+        (darts-even m (planar .edges-once) S (heal-sides h c d from n to r halves (directed m′) (directed m) (dart-move arcs-m′) (dart-move (Permᴰ·symm arcs-m′)) of-m to-m S (even-darts m′ S even))) φ (subst (List·Memᴰ φ) (g .faces) k)

@@ -29,7 +29,9 @@ use Rattle.grown.proofs.Joint.{Seamed, seamed}
 use Rattle.grown.proofs.Changes.{node-first}
 use Rattle.grown.proofs.Fresh.{edges-below}
 use Rattle.grown.proofs.SplitsWoven.{one-last, rest-other, rows-m, replaced, left-out}
-use Rattle.grown.proofs.HealsRows.{wholeNames, relinked, healedRow, woven-whole}
+use Rattle.grown.proofs.EdgesReached.{Reached}
+use Rattle.grown.proofs.HealsRows as healedRows
+use Rattle.grown.proofs.HealsRows.{wholeNames, relinked, healedRow, woven-whole, reached-whole}
 
 -- one of the parts is e in its own direction
 own-part : (m : Map) (e f : ℕ) → (parts m e f .0 ≡ fwd e) ⊎ (parts m e f .1 ≡ fwd e)
@@ -172,9 +174,9 @@ module _ (m : Map) (G : Good m) (e f : ℕ) (q : Heal m e f) where
             ∙ keep-map put (λ r. not (same (r .number) f)) (λ r. not (same (r .number) f)) (map (relinked h c d) (m .edges)) (λ r k. ap (λ (x : ℕ). not (same x f)) (put-number r))
             ∙ ap (map put) (left-out m f (relinked h c d) (λ r. refl) once (q .has-other))
 
-  pub woven-9 : Woven (heal false e f m)
+  new-heal : healedRows.Healed m (heal false e f m) e f (m .nextEdge) n c d rest (G .woven) (G .surveyed) seam
   unfolding heal row renamed-map
-  woven-9 = woven-whole m (heal false e f m) e f (m .nextEdge) n c d rest (G .woven) (G .surveyed) seam (record {
+  new-heal = record {
     faces = refl;
     nodes = nodes;
     rows = new-rows (m .nextEdge);
@@ -183,15 +185,15 @@ module _ (m : Map) (G : Good m) (e f : ℕ) (q : Heal m e f) where
     named = λ p. let x = dart-below (seam .second-in) in let y = ap (λ (z : Dart). z .edge) p in omega arith;
     new-h = new-next;
     new-f = new-f;
-    not-f = λ p. let x = dart-f in omega (arith, x, p);
-  })
+    not-f = λ p. omega (arith, f-below, p);
+  }
     where
-      dart-f : f < m .nextEdge
-      dart-f = subst (λ (x : ℕ). x < m .nextEdge) (edge-row m f (q .has-other) .1) (below (edge-row m f (q .has-other) .0))
+      f-below : f < m .nextEdge
+      f-below = subst (λ (x : ℕ). x < m .nextEdge) (edge-row m f (q .has-other) .1) (below (edge-row m f (q .has-other) .0))
 
-  pub woven-10 : Woven (heal true e f m)
+  kept-heal : healedRows.Healed m (heal true e f m) e f e n c d rest (G .woven) (G .surveyed) seam
   unfolding heal atEdge row renamed-map
-  woven-10 = woven-whole m (heal true e f m) e f e n c d rest (G .woven) (G .surveyed) seam (record {
+  kept-heal = record {
     faces = refl;
     nodes = nodes;
     rows = kept-rows e refl;
@@ -201,10 +203,24 @@ module _ (m : Map) (G : Good m) (e f : ℕ) (q : Heal m e f) where
     new-h = new-e;
     new-f = new-f;
     not-f = λ p. q .differ (sym p);
-  })
+  }
     where
       named : fwd e ≢ rev d
       named p = elim (own-part m e f) [
         | inl r ↦ seam .two (ap (λ (z : Dart). z .edge) r ∙ ap (λ (z : Dart). z .edge) p)
         | inr r ↦ fwd≢bwd (p ∙ ap rev r)
       ]
+
+  -- ---- the kinds
+
+  pub woven-9 : Woven (heal false e f m)
+  woven-9 = woven-whole m (heal false e f m) e f (m .nextEdge) n c d rest (G .woven) (G .surveyed) seam new-heal
+
+  pub reached-9 : Reached m → Reached (heal false e f m)
+  reached-9 = reached-whole m (heal false e f m) e f (m .nextEdge) n c d rest (G .woven) (G .surveyed) seam new-heal
+
+  pub woven-10 : Woven (heal true e f m)
+  woven-10 = woven-whole m (heal true e f m) e f e n c d rest (G .woven) (G .surveyed) seam kept-heal
+
+  pub reached-10 : Reached m → Reached (heal true e f m)
+  reached-10 = reached-whole m (heal true e f m) e f e n c d rest (G .woven) (G .surveyed) seam kept-heal

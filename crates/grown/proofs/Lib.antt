@@ -44,6 +44,7 @@ pub mod EdgesPut
 pub mod EdgesDrawn
 pub mod EdgesJoined
 pub mod EdgesReached
+pub mod ChangesReached
 pub mod EdgesAdd
 pub mod EdgesShared
 pub mod EdgesSides

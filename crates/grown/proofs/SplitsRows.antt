@@ -43,7 +43,8 @@ use Rattle.grown.proofs.Apart.{apart, curve-good}
 use Rattle.grown.proofs.Changes.{planar-nodes, none-has}
 use Rattle.grown.proofs.RowDarts.{dart-move, dart-row, leaves-of, next-of, bears-of, way-of}
 use Rattle.grown.proofs.Halved.{Halved, departs, arrives, whole, halved, each-whole, f-fwd, f-bwd, f-old, g-fwd, g-bwd, g-old}
-use Rattle.grown.proofs.HalvedLaw.{split-lawful, split-borne}
+use Rattle.grown.proofs.HalvedLaw.{split-lawful, split-borne, split-sides}
+use Rattle.grown.proofs.EdgesReached.{Reached, even-darts, darts-even}
 use Rattle.grown.proofs.Splits.{split-planar}
 
 -- `new` for `old`, and else nothing
@@ -236,3 +237,8 @@ module _ (m m′ : Map) (e n a b : ℕ) (p : Point) (has : hasEdge m e ≡ true)
       law = split-lawful e (fwd a) (fwd b) (edge m e .start) n (edge m e .end) r halves (directed m) (directed m′) (dart-move arcs-m) (dart-move (Permᴰ·symm arcs-m)) (dart-move arcs-m′) (dart-move (Permᴰ·symm arcs-m′)) (apart m s) (w .law);
       borne = λ f k ne. split-borne e (fwd a) (fwd b) (edge m e .start) n (edge m e .end) r halves (directed m) (directed m′) (dart-move arcs-m) (dart-move (Permᴰ·symm arcs-m)) (dart-move arcs-m′) (dart-move (Permᴰ·symm arcs-m′)) f (w .borne f (subst (List·Memᴰ f) (g .faces) k) ne);
     }
+
+    pub reached-halves : Reached m → Reached m′
+    reached-halves reached S even f k = reached S
+        (darts-even m (planar .edges-once) S (split-sides e (fwd a) (fwd b) (edge m e .start) n (edge m e .end) r halves (directed m) (directed m′) (dart-move arcs-m) (dart-move (Permᴰ·symm arcs-m)) (dart-move arcs-m′) (dart-move (Permᴰ·symm arcs-m′)) S (even-darts m′ S even)))
+        f (subst (List·Memᴰ f) (g .faces) k)

@@ -15,17 +15,19 @@ use Rattle.plane.specs.declared.Point.{Point}
 use Rattle.curves.specs.Tests.{onCurve}
 use Rattle.planar.specs.Map.{Arc, fwd, bwd}
 use Rattle.planar.specs.Pieces.{nums}
-use Rattle.map.specs.Rows.{Edge, Map, edge, hasEdge, atEdge, withoutEdge}
+use Rattle.map.specs.Rows.{Edge, Map, Sizes, edge, hasEdge, atEdge, withoutEdge}
 use Rattle.map.specs.Links.{redirect}
 use Rattle.map.specs.Edits.{startHalf, endHalf, split}
 use Rattle.map.specs.Reasons.{nodeAt}
-use Rattle.grown.specs.Good.{Numbered, Woven, Surveyed, Good}
+use Rattle.grown.specs.Good.{Woven, Good}
 use Rattle.grown.proofs.Readings.{arcOf, numberOf, missing, nums-rows, edge-row, mapped-edge}
 use Rattle.grown.proofs.RowChanges.{nodeNumber, without-perm}
+use Rattle.grown.proofs.Reasons.{Split}
+use Rattle.grown.proofs.EdgesReached.{Reached}
 use Rattle.grown.proofs.Changes.{last-first}
 use Rattle.grown.proofs.Fresh.{node-fresh, edges-below}
 use Rattle.grown.proofs.SplitsRows as rows
-use Rattle.grown.proofs.SplitsRows.{relinked, woven-halves}
+use Rattle.grown.proofs.SplitsRows.{relinked, woven-halves, reached-halves}
 
 -- rows put last, as against first
 pub one-last : {A : Type 0} (l : List A) (x : A) → List·Permᴰ (l ++ x ∷ []) (x ∷ l)
@@ -117,9 +119,9 @@ module _ (m : Map) (e : ℕ) (p : Point) (good : Good m) (has : hasEdge m e ≡ 
         (subst (λ (l : List Edge). List·Permᴰ (l ++ first (relinked e a b (edge m e)) ∷ second (relinked e a b (edge m e)) ∷ []) target) (sym (ap (withoutEdge e) E ∙ left-out m e (relinked e a b) (λ r. refl) once has))
         (two-last (map (relinked e a b) (withoutEdge e (m .edges))) (first (relinked e a b (edge m e))) (second (relinked e a b (edge m e)))))
 
-  pub woven-8 : Woven (split true e p m)
+  kept-split : rows.Split m (split true e p m) e (m .nextNode) e (m .nextEdge) p has (good .woven) (good .surveyed)
   unfolding split atEdge target first second renamed-map
-  woven-8 = woven-halves m (split true e p m) e (m .nextNode) e (m .nextEdge) p has (good .woven) (good .surveyed) (record {
+  kept-split = record {
     faces = refl;
     nodes = last-first nodeNumber (m .nodes) _;
     rows = kept-rows e (m .nextEdge) (renamed-map e e (m .nextEdge) m .edges) (edge (renamed-map e e (m .nextEdge) m) e) (renamed-edges e e (m .nextEdge) m) (renamed-row e e (m .nextEdge) m has);
@@ -129,11 +131,11 @@ module _ (m : Map) (e : ℕ) (p : Point) (good : Good m) (has : hasEdge m e ≡ 
     new-b = λ k. omega (arith, below k);
     free = free;
     on = on;
-  })
+  }
 
-  pub woven-7 : Woven (split false e p m)
-  unfolding split atEdge target first second renamed-map
-  woven-7 = woven-halves m (split false e p m) e (m .nextNode) (m .nextEdge) (m .nextEdge + 1) p has (good .woven) (good .surveyed) (record {
+  new-split : rows.Split m (split false e p m) e (m .nextNode) (m .nextEdge) (m .nextEdge + 1) p has (good .woven) (good .surveyed)
+  unfolding split target first second renamed-map
+  new-split = record {
     faces = refl;
     nodes = last-first nodeNumber (m .nodes) _;
     rows = new-rows (m .nextEdge) (m .nextEdge + 1) (renamed-map e (m .nextEdge) (m .nextEdge + 1) m .edges) (edge (renamed-map e (m .nextEdge) (m .nextEdge + 1) m) e) (renamed-edges e (m .nextEdge) (m .nextEdge + 1) m) (renamed-row e (m .nextEdge) (m .nextEdge + 1) m has);
@@ -143,4 +145,19 @@ module _ (m : Map) (e : ℕ) (p : Point) (good : Good m) (has : hasEdge m e ≡ 
     new-b = λ k. omega (arith, below k);
     free = free;
     on = on;
-  })
+  }
+
+-- ---- the kinds
+
+module _ (m : Map) (good : Good m) (s : Sizes) (e : ℕ) (p : Point) where
+  pub woven-7 : Split 2 s m e p → Woven (split false e p m)
+  woven-7 h = woven-halves m (split false e p m) e (m .nextNode) (m .nextEdge) (m .nextEdge + 1) p (h .has) (good .woven) (good .surveyed) (new-split m e p good (h .has) (h .free) (h .on))
+
+  pub reached-7 : Split 2 s m e p → Reached m → Reached (split false e p m)
+  reached-7 h = reached-halves m (split false e p m) e (m .nextNode) (m .nextEdge) (m .nextEdge + 1) p (h .has) (good .woven) (good .surveyed) (new-split m e p good (h .has) (h .free) (h .on))
+
+  pub woven-8 : Split 1 s m e p → Woven (split true e p m)
+  woven-8 h = woven-halves m (split true e p m) e (m .nextNode) e (m .nextEdge) p (h .has) (good .woven) (good .surveyed) (kept-split m e p good (h .has) (h .free) (h .on))
+
+  pub reached-8 : Split 1 s m e p → Reached m → Reached (split true e p m)
+  reached-8 h = reached-halves m (split true e p m) e (m .nextNode) e (m .nextEdge) p (h .has) (good .woven) (good .surveyed) (kept-split m e p good (h .has) (h .free) (h .on))
