@@ -1,7 +1,7 @@
 -- Isolated nodes added, moved and removed, and an edge redrawn, leave every face reached. Assumes nothing.
-use mathlib.Core.Path.{_≡_, refl, sym, _∙_}
+use mathlib.Core.Path.{_≡_}
 use mathlib.Core.Bool.{Bool, true, false, cond}
-use mathlib.Core.List.{List·Memᴰ, Memᴰ·map}
+use mathlib.Core.List.{Memᴰ·map}
 use Prim.Native.Nat.{ℕ}
 use Rattle.lists.specs.Tests.{same}
 use Rattle.plane.specs.declared.Point.{Point}

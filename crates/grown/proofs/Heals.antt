@@ -1,18 +1,16 @@
 -- A map in the plane whose halves c and d are healed to the edge h. Assumes nothing.
 use mathlib.Core.Path.{_≡_, refl, sym, ap, ap₂, _∙_, subst}
-use mathlib.Core.Logic.{_⊎_, inl, inr}
 use mathlib.Core.Bool.{Bool, true, false, cond, not}
-use mathlib.Core.List.{List, [], _∷_, map, List·Memᴰ, List·Memᴰ·head, List·Memᴰ·tail}
+use mathlib.Core.List.{List, _∷_, map, List·Memᴰ, List·Memᴰ·head, List·Memᴰ·tail}
 use Prim.Native.Nat.{ℕ}
 use Rattle.lists.specs.Tests.{same, _⊕_}
-use Rattle.lists.proofs.Bools.{same-refl, same-eq, same-false, eq2}
+use Rattle.lists.proofs.Bools.{same-refl, same-false, eq2}
 use Rattle.plane.specs.Directions.{Way}
 use Rattle.planar.specs.Map.{Arc, Dart, fwd, bwd, rev, darts}
 use Rattle.planar.specs.Pieces.{nums, Isolated}
 use Rattle.planar.specs.Weave.{with-edge, renamed, healed, heal-next}
 use Rattle.planar.specs.Planar.{Planar}
 use Rattle.planar.proofs.Cycles.{fwd-in}
-use Rattle.planar.proofs.Rings.{rev-in}
 use Rattle.planar.proofs.Hooks.{sameDart-false, fwd≢bwd, fresh-dart, with-fwd, with-bwd, with-other}
 use Rattle.planar.proofs.Rows.{planar-agree}
 use Rattle.planar.proofs.Subdivide.{arc}
@@ -20,7 +18,7 @@ use Rattle.planar.proofs.Splitting.{renamed-at, renamed-other}
 use Rattle.planar.proofs.Healing.{planar-heal}
 use Rattle.planar.proofs.Rings.{sameDart-refl}
 use Rattle.grown.proofs.Renumber.{runs, named, Named, planar-named}
-use Rattle.grown.proofs.Halved.{Halved, departs, arrives, whole, halved, each-whole, each-halved, f-fwd, f-bwd, f-old, g-fwd, g-bwd, g-old, f-in}
+use Rattle.grown.proofs.Halved.{Halved, departs, arrives, whole, halved, each-whole, each-halved, f-fwd, f-bwd, f-old, g-fwd, g-bwd, g-old}
 use Rattle.grown.proofs.Splits.{map-same}
 
 -- the dart of the number k that runs as z does where b is false, and against it where b is true

@@ -2,29 +2,27 @@
 use mathlib.Core.Path.{_≡_, refl, sym, ap, ap₂, _∙_, subst}
 use mathlib.Core.Logic.{_⊎_, inl, inr, _≢_}
 use mathlib.Core.Bool.{Bool, true, false, not, true≢false, false≢true}
-use mathlib.Core.List.{List, [], _∷_, map, map-map, List·Memᴰ, List·Memᴰ·head, List·Memᴰ·tail, Memᴰ·map, Memᴰ·cast, List·Permᴰ, List·Permᴰ·cons, List·Permᴰ·swap, List·Permᴰ·trans, Permᴰ·map, Permᴰ·symm}
+use mathlib.Core.List.{List, _∷_, map, map-map, List·Memᴰ, List·Memᴰ·head, List·Memᴰ·tail, Memᴰ·map, Memᴰ·cast, List·Permᴰ, Permᴰ·map, Permᴰ·symm}
 use Prim.Native.Nat.{ℕ}
 use lib.ListN.{length}
 use Rattle.lists.specs.Members.{Distinct}
 use Rattle.lists.proofs.Perms.{perm-in, perm-distinct}
-use Rattle.plane.specs.Directions.{Way, sameWay}
-use Rattle.curves.specs.Curves.{startWay, endWay}
+use Rattle.plane.specs.Directions.{sameWay}
 use Rattle.curves.specs.Edits.{joined}
 use Rattle.planar.specs.Map.{Arc, Dart, fwd, bwd, rev, darts}
 use Rattle.planar.specs.Pieces.{nums, Isolated}
 use Rattle.planar.specs.Planar.{Planar}
 use Rattle.planar.proofs.Rings.{rev-in, next-in}
 use Rattle.planar.proofs.Moves.{planar-perm}
-use Rattle.planar.proofs.Hooks.{fwd≢bwd, fresh-dart}
-use Rattle.planar.proofs.Turns.{rev-rev}
+use Rattle.planar.proofs.Hooks.{fresh-dart}
 use Rattle.planar.proofs.Subdivide.{arc}
 use Rattle.rotation.proofs.Order.{sameWay-refl, sameWay-sym}
 use Rattle.geometry.proofs.Theorems.{reverse-ways}
-use Rattle.map.specs.Rows.{Edge, Map, edge, withoutEdge}
+use Rattle.map.specs.Rows.{Edge, Map, edge}
 use Rattle.map.specs.Darts.{arcs, directed, leaves, next, bears, course, way}
 use Rattle.map.specs.Links.{withLinks, instead}
 use Rattle.grown.specs.Good.{Woven, Surveyed}
-use Rattle.grown.proofs.Readings.{tailIn, nextIn, bears-row, way-row, arcOf}
+use Rattle.grown.proofs.Readings.{nextIn, bears-row, way-row, arcOf}
 use Rattle.grown.proofs.RowChanges.{nodeNumber}
 use Rattle.grown.proofs.Joint.{Seamed}
 use Rattle.grown.proofs.Renumber.{runs}

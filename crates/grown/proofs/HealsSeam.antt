@@ -1,37 +1,31 @@
 -- The joint of a heal: its two departures lead to one another, both edges have the same sides, and their courses join. Assumes nothing.
 use mathlib.Core.Path.{_≡_, refl, sym, ap, ap₂, _∙_, subst}
 use mathlib.Core.Logic.{_⊎_, inl, inr, _≢_}
-use mathlib.Core.Bool.{Bool, true, false, cond, not, true≢false}
-use mathlib.Core.List.{List, [], _∷_, map, List·Memᴰ, List·Memᴰ·head, List·Memᴰ·tail, Memᴰ·map, Memᴰ·cast, List·Permᴰ, List·Permᴰ·cons, List·Permᴰ·swap, List·Permᴰ·trans, Permᴰ·map, Permᴰ·symm}
+use mathlib.Core.Bool.{Bool, true, false, cond, not}
+use mathlib.Core.List.{List, map, List·Memᴰ}
 use Prim.Native.Nat.{ℕ}
-use lib.ListN.{length}
-use Rattle.lists.specs.Members.{Distinct}
-use Rattle.lists.proofs.Perms.{perm-distinct, injective-of-perm, distinct-injective}
-use Rattle.plane.specs.declared.Point.{Point}
-use Rattle.plane.specs.Directions.{Way, sameWay}
+use Rattle.lists.proofs.Perms.{injective-of-perm, distinct-injective}
+use Rattle.plane.specs.Directions.{sameWay}
 use Rattle.curves.specs.Curves.{Curve, lastPoint, startWay, endWay}
-use Rattle.curves.specs.Edits as edits
 use Rattle.curves.specs.Edits.{joined, reversed}
 use Rattle.planar.specs.Map.{Arc, Dart, fwd, bwd, rev, darts}
-use Rattle.planar.specs.Pieces.{nums, Isolated}
+use Rattle.planar.specs.Pieces.{Isolated}
 use Rattle.planar.specs.Rings.{sameDart}
-use Rattle.planar.specs.Planar.{Planar}
 use Rattle.planar.proofs.Cycles.{fwd-in, bwd-in}
-use Rattle.planar.proofs.Rings.{rev-in, next-in}
+use Rattle.planar.proofs.Rings.{rev-in}
 use Rattle.planar.proofs.Hooks.{distinct-darts}
 use Rattle.planar.proofs.Turns.{rev-rev}
-use Rattle.planar.proofs.Moves.{planar-perm}
 use Rattle.planar.proofs.Splitting.{tail-in}
 use Rattle.rotation.proofs.Ties.{tells}
 use Rattle.geometry.specs.Drawing as drawing
 use Rattle.geometry.specs.Drawing.{ClearCurves}
 use Rattle.geometry.proofs.Drawing.{good-course, clear-course, clear-sym}
 use Rattle.geometry.proofs.Theorems.{join-good, join-ways, reverse-ways, reverse-twice}
-use Rattle.map.specs.Rows.{Node, Edge, Map, node, edge, hasNode, hasEdge, withoutEdge}
+use Rattle.map.specs.Rows.{Node, Map, node, edge}
 use Rattle.map.specs.Darts.{arcs, directed, leaves, next, bears, course, way, departures}
 use Rattle.grown.specs.Good.{Woven, Surveyed}
-use Rattle.grown.proofs.Readings.{tailIn, courseIn, leaves-row, course-row, way-row, arcOf, numberOf, missing, nums-rows, edge-row, dart-has, has-number, departing, departs}
-use Rattle.grown.proofs.RowChanges.{nodeNumber, node-row, without-perm}
+use Rattle.grown.proofs.Readings.{tailIn, courseIn, leaves-row, course-row, way-row, arcOf, numberOf, edge-row, dart-has, has-number, departing, departs}
+use Rattle.grown.proofs.RowChanges.{nodeNumber, node-row}
 use Rattle.grown.proofs.Joint.{Seamed}
 use Rattle.grown.proofs.Renumber.{runs}
 use Rattle.grown.proofs.Apart.{curve-good, curves-clear, starts}

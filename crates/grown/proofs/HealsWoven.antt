@@ -2,22 +2,22 @@
 use mathlib.Core.Path.{_≡_, refl, sym, ap, ap₂, _∙_, subst}
 use mathlib.Core.Logic.{_⊎_, inl, inr, _≢_}
 use mathlib.Core.Bool.{Bool, true, false, cond, not}
-use mathlib.Core.List.{List, [], _∷_, _++_, map, map-map, List·Memᴰ, List·Memᴰ·tail, Memᴰ·map, Memᴰ·of-map, List·Permᴰ, List·Permᴰ·cons, List·Permᴰ·swap, List·Permᴰ·trans, Permᴰ·map, Permᴰ·symm}
+use mathlib.Core.List.{List, [], _∷_, _++_, map, map-map, List·Memᴰ, Memᴰ·map, Memᴰ·of-map, List·Permᴰ, List·Permᴰ·cons, List·Permᴰ·swap, List·Permᴰ·trans, Permᴰ·map}
 use mathlib.Core.Option.{Option·getD}
 use Prim.Native.Nat.{ℕ, _<_}
 use native.Mathlib.Omega.{arith}
 use Rattle.lists.specs.Tests.{same}
 use Rattle.lists.specs.Members.{Distinct}
-use Rattle.lists.proofs.Bools.{same-refl, same-true}
+use Rattle.lists.proofs.Bools.{same-true}
 use Rattle.lists.proofs.Keeps.{keep-in, keep-map}
-use Rattle.lists.proofs.Perms.{perm-in, perm-distinct}
+use Rattle.lists.proofs.Perms.{perm-distinct}
 use Rattle.curves.specs.Edits.{joined}
 use Rattle.planar.specs.Map.{Arc, Dart, fwd, bwd, rev}
 use Rattle.planar.specs.Pieces.{nums}
 use Rattle.planar.proofs.Rings.{rev-in}
 use Rattle.planar.proofs.Hooks.{fwd≢bwd}
 use Rattle.planar.proofs.Splitting.{tail-in}
-use Rattle.map.specs.Rows.{Edge, Map, edge, hasEdge, hasNode, setEdges, atEdge, withoutNode, withoutEdge}
+use Rattle.map.specs.Rows.{Edge, Map, edge, hasEdge, setEdges, atEdge, withoutNode, withoutEdge}
 use Rattle.map.specs.Darts.{arcs, directed, leaves, next, course}
 use Rattle.map.specs.Links.{instead, redirect}
 use Rattle.map.specs.Edits.{joint, parts, healedCurve, heal}

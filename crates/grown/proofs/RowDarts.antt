@@ -1,11 +1,9 @@
 -- Directed edges and the rows that they read. Assumes nothing.
 use mathlib.Core.Path.{_≡_, sym, ap, _∙_}
 use mathlib.Core.Logic.{_⊎_, inl, inr}
-use mathlib.Core.List.{List, map, List·Memᴰ, Memᴰ·map, Memᴰ·of-map, Memᴰ·cast, List·Permᴰ}
-use Prim.Native.Nat.{ℕ}
+use mathlib.Core.List.{List, map, List·Memᴰ, Memᴰ·of-map, Memᴰ·cast, List·Permᴰ}
 use Rattle.lists.specs.Members.{Distinct}
 use Rattle.lists.proofs.Perms.{perm-in}
-use Rattle.plane.specs.Directions.{Way}
 use Rattle.curves.specs.Curves.{startWay}
 use Rattle.planar.specs.Map.{Arc, Dart, fwd, bwd, darts}
 use Rattle.planar.specs.Pieces.{nums}

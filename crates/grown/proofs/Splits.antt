@@ -1,28 +1,22 @@
 -- A map in the plane whose edge h is split. Assumes nothing.
 use mathlib.Core.Path.{_≡_, refl, sym, ap, ap₂, _∙_, subst}
-use mathlib.Core.Logic.{_⊎_, inl, inr}
-use mathlib.Core.Bool.{Bool, true, false, cond, not}
-use mathlib.Core.List.{List, [], _∷_, map, List·Memᴰ, List·Memᴰ·head, List·Memᴰ·tail}
+use mathlib.Core.Logic.{inl, inr}
+use mathlib.Core.List.{List, [], _∷_, map, List·Memᴰ, List·Memᴰ·head, List·Memᴰ·tail, List·Memᴰ·cases-cons}
 use Prim.Native.Nat.{ℕ}
-use Rattle.lists.specs.Tests.{same, _⊕_}
-use Rattle.lists.specs.Members.{Distinct}
-use Rattle.lists.proofs.Bools.{same-refl, same-eq, same-false}
-use Rattle.lists.proofs.Members.{each-cons, map-cong}
+use Rattle.lists.proofs.Members.{each-cons}
 use Rattle.plane.specs.Directions.{Way}
 use Rattle.planar.specs.Map.{Arc, Dart, fwd, bwd, rev, darts}
-use Rattle.planar.specs.Pieces.{nums, Isolated}
-use Rattle.planar.specs.Weave.{with-edge, renamed, split-tail, split-face, split-next, healed, heal-next}
+use Rattle.planar.specs.Pieces.{nums}
+use Rattle.planar.specs.Weave.{with-edge, renamed, split-tail, split-face, split-next}
 use Rattle.planar.specs.Planar.{Planar}
 use Rattle.planar.proofs.Cycles.{fwd-in}
-use Rattle.planar.proofs.Rings.{rev-in, next-in, sameDart-refl}
-use Rattle.planar.proofs.Hooks.{sameDart-false, fwd≢bwd, fresh-dart, with-fwd, with-bwd, with-other}
-use Rattle.planar.proofs.Turns.{rev-rev}
+use Rattle.planar.proofs.Rings.{rev-in}
+use Rattle.planar.proofs.Hooks.{fwd≢bwd, fresh-dart, with-fwd, with-bwd, with-other}
 use Rattle.planar.proofs.Rows.{planar-agree}
 use Rattle.planar.proofs.Subdivide.{arc}
 use Rattle.planar.proofs.Splitting.{renamed-at, renamed-other, planar-subdivide}
-use Rattle.planar.proofs.Healing.{planar-heal}
 use Rattle.grown.proofs.Renumber.{runs, named, Named, planar-named}
-use Rattle.grown.proofs.Halved.{Halved, departs, arrives, whole, halved, each-whole, each-halved, f-fwd, f-bwd, f-old, g-fwd, g-bwd, g-old, f-in}
+use Rattle.grown.proofs.Halved.{Halved, departs, whole, each-whole, f-fwd, f-bwd, f-old, g-fwd, g-bwd, g-old}
 
 -- what each name keeps, the list keeps
 pub map-same : {A : Type 0} (f : A → A) (l : List A) → ((x : A) → List·Memᴰ x l → f x ≡ x) → map f l ≡ l
@@ -108,7 +102,7 @@ module _ (h a b s n t : ℕ) (r : List Arc) {tail tail′ : Dart → ℕ} {next 
       first = subst (λ es. Planar nodes es (λ z. tail (τ z)) (λ z. σ (next (τ z))) (λ z. face (τ z)) faces) renumbered (planar-named σ o renumbers)
 
       fresh : List·Memᴰ b (a ∷ nums r) → ⊥
-      fresh m = elim (mathlib.Core.List.List·Memᴰ·cases-cons m) [ inl e ↦ a≢b (sym e) | inr k ↦ H .once .1 .0 k ]
+      fresh m = elim (List·Memᴰ·cases-cons m) [ inl e ↦ a≢b (sym e) | inr k ↦ H .once .1 .0 k ]
 
       T : Dart → ℕ
       T = split-tail a b s n t (λ z. tail (τ z))

@@ -1,8 +1,8 @@
 -- A map m′ whose rows are those of m but for the edge e, which stands in halves a and b. Assumes nothing.
 use mathlib.Core.Path.{_≡_, refl, sym, ap, ap₂, _∙_, subst}
-use mathlib.Core.Logic.{_⊎_, inl, inr, _≢_}
-use mathlib.Core.Bool.{Bool, true, false, cond, true≢false}
-use mathlib.Core.List.{List, [], _∷_, _++_, map, map-map, List·Memᴰ, List·Memᴰ·head, List·Memᴰ·tail, List·Memᴰ·cases-cons, Memᴰ·map, Memᴰ·of-map, Memᴰ·cast, List·Permᴰ, Permᴰ·map, Permᴰ·symm}
+use mathlib.Core.Logic.{inl, inr, _≢_}
+use mathlib.Core.Bool.{Bool, true, false, true≢false}
+use mathlib.Core.List.{List, _∷_, map, map-map, List·Memᴰ, List·Memᴰ·head, List·Memᴰ·tail, List·Memᴰ·cases-cons, Memᴰ·map, Memᴰ·cast, List·Permᴰ, Permᴰ·map, Permᴰ·symm}
 use Prim.Native.Nat.{ℕ}
 use lib.ListN.{length}
 use Rattle.lists.specs.Members.{Distinct}
@@ -10,18 +10,16 @@ use Rattle.lists.proofs.Bools.{equal?}
 use Rattle.lists.proofs.Perms.{perm-in, perm-distinct}
 use Rattle.plane.specs.declared.Point.{Point}
 use Rattle.plane.specs.Points.{samePoint}
-use Rattle.plane.specs.Directions.{Way, sameWay}
-use Rattle.curves.specs.Curves.{Curve, lastPoint, startWay, endWay}
+use Rattle.plane.specs.Directions.{sameWay}
+use Rattle.curves.specs.Curves.{lastPoint, startWay, endWay}
 use Rattle.curves.specs.Tests.{onCurve}
 use Rattle.curves.specs.Edits.{front, back}
-use Rattle.planar.specs.Map.{Arc, Dart, fwd, bwd, rev, darts}
+use Rattle.planar.specs.Map.{Arc, Dart, fwd, bwd, darts}
 use Rattle.planar.specs.Pieces.{nums}
-use Rattle.planar.specs.Rings.{sameDart}
 use Rattle.planar.specs.Planar.{Planar}
-use Rattle.planar.proofs.Rings.{next-in}
+use Rattle.planar.proofs.Rings.{next-in, sameDart-refl}
 use Rattle.planar.proofs.Hooks.{sameDart-false, fwd≢bwd, with-fwd, with-bwd, with-other}
 use Rattle.planar.proofs.Moves.{planar-perm}
-use Rattle.planar.proofs.Rings.{sameDart-refl}
 use Rattle.planar.proofs.Splitting.{tail-in}
 use Rattle.planar.proofs.Subdivide.{arc}
 use Rattle.rotation.proofs.Order.{sameWay-refl}
@@ -30,19 +28,19 @@ use Rattle.geometry.specs.Spots.{spot}
 use Rattle.geometry.specs.Drawing.{OnCurve}
 use Rattle.geometry.proofs.Meeting.{samePoint-refl}
 use Rattle.geometry.proofs.Theorems.{onCurve-iff, cut-good, cut-ways, reverse-ways}
-use Rattle.map.specs.Rows.{Node, Edge, Map, node, edge, hasEdge, withoutEdge}
+use Rattle.map.specs.Rows.{Edge, Map, node, edge, hasEdge, withoutEdge}
 use Rattle.map.specs.Darts.{arcs, directed, leaves, next, bears, way}
 use Rattle.map.specs.Links.{withLinks, instead}
 use Rattle.map.specs.Edits.{startHalf, endHalf}
 use Rattle.map.specs.Reasons.{nodeAt}
 use Rattle.grown.specs.Good.{Woven, Surveyed}
-use Rattle.grown.proofs.Readings.{tailIn, nextIn, faceIn, courseIn, leaves-row, next-row, bears-row, course-row, way-row, has-number, arcOf, numberOf, missing, nums-rows, edge-row}
+use Rattle.grown.proofs.Readings.{nextIn, leaves-row, next-row, bears-row, course-row, way-row, has-number, arcOf, numberOf, missing, nums-rows, edge-row}
 use Rattle.grown.proofs.RowChanges.{nodeNumber, node-row, without-perm}
 use Rattle.grown.proofs.Renumber.{ways}
 use Rattle.grown.proofs.Apart.{apart, curve-good}
 use Rattle.grown.proofs.Changes.{planar-nodes, none-has}
 use Rattle.grown.proofs.RowDarts.{dart-move, dart-row, leaves-of, next-of, bears-of, way-of}
-use Rattle.grown.proofs.Halved.{Halved, departs, arrives, whole, halved, each-whole, f-fwd, f-bwd, f-old, g-fwd, g-bwd, g-old}
+use Rattle.grown.proofs.Halved.{Halved, departs, arrives, whole, each-whole, f-fwd, f-bwd, f-old, g-fwd, g-bwd, g-old}
 use Rattle.grown.proofs.HalvedLaw.{split-lawful, split-borne, split-sides}
 use Rattle.grown.proofs.EdgesReached.{Reached, even-darts, darts-even}
 use Rattle.grown.proofs.Splits.{split-planar}
