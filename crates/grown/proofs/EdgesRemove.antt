@@ -1,0 +1,123 @@
+-- What a map reads after an edge is unlinked, and that it stays woven. Assumes nothing.
+use mathlib.Core.Path.{_≡_, refl, sym, ap, _∙_, subst}
+use mathlib.Core.Logic.{_⊎_, inl, inr, _≢_}
+use mathlib.Core.Bool.{Bool, true, false, cond, not, true≢false}
+use mathlib.Core.List.{List, [], _∷_, map, List·Memᴰ, List·Memᴰ·head, List·Memᴰ·tail, Memᴰ·cast, List·Permᴰ, Permᴰ·symm, Permᴰ·map}
+use Prim.Native.Nat.{ℕ, suc}
+use lib.ListN.{length}
+use Rattle.lists.specs.Tests.{same}
+use Rattle.lists.specs.Scans.{keep}
+use Rattle.lists.specs.Members.{Distinct}
+use Rattle.lists.proofs.Bools.{differ, same-false, equal?, same-refl}
+use Rattle.lists.proofs.Keeps.{keep-in, keep-has}
+use Rattle.lists.proofs.Perms.{perm-distinct}
+use Rattle.curves.specs.Curves.{startWay}
+use Rattle.planar.specs.Map.{Arc, Dart, fwd, bwd, rev, darts}
+use Rattle.planar.specs.Pieces.{nums}
+use Rattle.planar.specs.Rings.{sameDart}
+use Rattle.planar.specs.Planar.{Planar}
+use Rattle.planar.proofs.Bridges.{Either, Shrunk}
+use Rattle.planar.proofs.Rings.{rev-in}
+use Rattle.planar.proofs.Hooks.{fwd≢bwd, sameDart-false}
+use Rattle.planar.proofs.Turns.{rev-rev}
+use Rattle.planar.proofs.Moves.{planar-perm}
+use Rattle.planar.proofs.Rows.{planar-agree}
+use Rattle.rotation.specs.Law.{Apart, Law, others} 
+use Rattle.rotation.specs.Law as rotation
+use Rattle.rotation.proofs.Whole.{unlink-edge-law}
+use Rattle.rotation.proofs.Ties.{tells}
+use Rattle.map.specs.Rows.{Edge, Map, edge, hasEdge}
+use Rattle.map.specs.Darts.{arcs, directed, leaves, next, bears, course, way}
+use Rattle.map.specs.Links.{instead, redirect, unlinkEdge}
+use Rattle.grown.proofs.Readings.{Relinked, relinked-join, redirect-relinked, redirect-next, arcOf, tailIn, nextIn, faceIn, courseIn, leaves-row, next-row, bears-row, course-row, way-row, edge-row, dart-has, has-dart}
+use Rattle.grown.proofs.RowChanges.{less-has, less-edge, less-arcs, less-directed, less-perm}
+use Rattle.grown.proofs.LawOrder.{law-order}
+use Rattle.grown.proofs.EdgesLaw.{law-agree, differ-part}
+use Rattle.grown.proofs.EdgesReached.{Reached, even-darts, darts-even}
+use Rattle.grown.proofs.EdgesTaken.{taken-part, taken-merge}
+use Rattle.grown.proofs.EdgesJoined.{nodeNumbers}
+
+-- not a way of the edge e
+abbrev notOf : ℕ → Dart → Bool
+notOf e d = not (same (d .edge) e)
+
+-- X is m without the edge e, unlinked; μ says what faces became
+pub record Taken (m X : Map) (e : ℕ) (μ : ℕ → ℕ) : Type 0 where
+  pub from : ℕ
+  pub to : ℕ
+  pub nodes : nodeNumbers X ≡ nodeNumbers m
+  pub perm : List·Permᴰ (arcs m) (record { num = e; from = from; to = to } ∷ arcs X)
+  pub darts : directed X ≡ keep (notOf e) (directed m)
+  pub leaves : (d : Dart) → List·Memᴰ d (directed X) → leaves X d ≡ leaves m d
+  pub way : (d : Dart) → List·Memᴰ d (directed X) → way X d ≡ way m d
+  pub next : (d : Dart) → List·Memᴰ d (directed X) → next X d ≡ rotation.unlinkEdge sameDart rev (fwd e) (next m) d
+  pub bears : (d : Dart) → List·Memᴰ d (directed X) → bears X d ≡ μ (bears m d)
+
+-- ---- m₁ reads as m, but for the faces; X has the rows of m₁ unlinked
+
+module _ (m m₁ X : Map) (e : ℕ) (μ : ℕ → ℕ) (dis : Distinct (nums (arcs m))) (has : hasEdge m e ≡ true)
+    (arcs₁ : arcs m₁ ≡ arcs m) (has₁ : (x : ℕ) → hasEdge m₁ x ≡ hasEdge m x) (leaves₁ : (d : Dart) → leaves m₁ d ≡ leaves m d) (way₁ : (d : Dart) → way m₁ d ≡ way m d) (next₁ : (d : Dart) → next m₁ d ≡ next m d)
+    (bears₁ : (d : Dart) → List·Memᴰ d (directed m) → bears m₁ d ≡ μ (bears m d)) (E : X .edges ≡ unlinkEdge e m₁ .edges) (N : nodeNumbers X ≡ nodeNumbers m) where
+  f : Dart
+  f = fwd e
+
+  b : Dart
+  b = bwd e
+
+  -- the links after the start's departure is gone, and after both
+  m₂ : Map
+  m₂ = redirect (fwd e) (next m₁ (bwd e)) m₁
+
+  m₃ : Map
+  m₃ = redirect (bwd e) (next m₂ (fwd e)) m₂
+
+  R : Relinked m₁ m₃
+  unfolding m₂ m₃
+  R = relinked-join (redirect-relinked (fwd e) (next m₁ (bwd e)) m₁) (redirect-relinked (bwd e) (next m₂ (fwd e)) m₂)
+
+  rows : X .edges ≡ keep (λ r. not (same (r .number) e)) (m₃ .edges)
+  unfolding unlinkEdge m₂ m₃
+  rows = E
+
+  has₃ : (x : ℕ) → hasEdge m₃ x ≡ hasEdge m x
+  has₃ x = R .has x ∙ has₁ x
+
+  arcs₃ : arcs m₃ ≡ arcs m
+  arcs₃ = R .arcs ∙ arcs₁
+
+  X-darts : directed X ≡ keep (notOf e) (directed m)
+  X-darts = less-directed m₃ X e rows ∙ ap (λ (es : List Arc). keep (notOf e) (darts es)) arcs₃
+
+  kept : {d : Dart} → List·Memᴰ d (directed X) → List·Memᴰ d (directed m) × (d .edge ≢ e)
+  kept {d} k = let j = keep-in (notOf e) (directed m) (subst (λ (l : List Dart). List·Memᴰ d l) X-darts k) in (j .0, λ p. true≢false (sym (j .1) ∙ ap (λ x. not (same x e)) p ∙ ap not (same-refl e)))
+
+  -- the old row
+  row : (d : Dart) → List·Memᴰ d (directed X) → edge X (d .edge) ≡ edge m₃ (d .edge)
+  row d k = less-edge m₃ X e rows (d .edge) (kept k .1)
+
+  X-next : (d : Dart) → List·Memᴰ d (directed X) → next X d ≡ rotation.unlinkEdge sameDart rev (fwd e) (next m) d
+  unfolding m₂ m₃
+  X-next d k = next-row X d ∙ ap (nextIn (d .back)) (row d k) ∙ sym (next-row m₃ d)
+      ∙ redirect-next (bwd e) (next m₂ (fwd e)) m₂ d (redirect-relinked (fwd e) (next m₁ (bwd e)) m₁ .has (d .edge) ∙ here d (kept k .0))
+      ∙ ap (λ (y : Dart). instead (bwd e) (next m₂ (fwd e)) y) (step d (here d (kept k .0)))
+      ∙ ap (λ (y : Dart). cond (sameDart (rotation.redirect sameDart (fwd e) (next m (bwd e)) (next m) d) (bwd e)) y (rotation.redirect sameDart (fwd e) (next m (bwd e)) (next m) d)) (step (fwd e) (has₁ e ∙ has))
+    where
+      here : (d : Dart) → List·Memᴰ d (directed m) → hasEdge m₁ (d .edge) ≡ true
+      here d k = has₁ (d .edge) ∙ dart-has m k
+
+      step : (x : Dart) → hasEdge m₁ (x .edge) ≡ true → next m₂ x ≡ rotation.redirect sameDart (fwd e) (next m (bwd e)) (next m) x
+      step x h = redirect-next (fwd e) (next m₁ (bwd e)) m₁ x h ∙ ap (λ (g : Dart → Dart). rotation.redirect sameDart (fwd e) (g (bwd e)) g x) (λ i y. next₁ y i)
+
+  pub taken : Taken m X e μ
+  taken = record {
+    from = edge m₃ e .start;
+    to = edge m₃ e .end;
+    nodes = N;
+    perm = subst (λ (es : List Arc). List·Permᴰ es (record { num = e; from = edge m₃ e .start; to = edge m₃ e .end } ∷ arcs X)) arcs₃
+        (subst (λ (n : ℕ). List·Permᴰ (arcs m₃) (record { num = n; from = edge m₃ e .start; to = edge m₃ e .end } ∷ arcs X)) (edge-row m₃ e (has₃ e ∙ has) .1) (less-perm m₃ X e rows (subst (λ (es : List Arc). Distinct (nums es)) (sym arcs₃) dis) (has₃ e ∙ has)));
+    darts = X-darts;
+    leaves = λ d k. leaves-row X d ∙ ap (tailIn (d .back)) (row d k) ∙ sym (leaves-row m₃ d) ∙ R .leaves d ∙ leaves₁ d;
+    way = λ d k. way-row X d ∙ ap startWay (course-row X d ∙ ap (courseIn (d .back)) (row d k) ∙ sym (course-row m₃ d)) ∙ sym (way-row m₃ d) ∙ R .way d ∙ way₁ d;
+    next = X-next;
+    bears = λ d k. bears-row X d ∙ ap (faceIn (d .back)) (row d k) ∙ sym (bears-row m₃ d) ∙ R .bears d ∙ bears₁ d (kept k .0);
+  }
