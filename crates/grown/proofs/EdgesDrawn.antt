@@ -18,7 +18,7 @@ use Rattle.planar.specs.Weave.{with-edge, lone}
 use Rattle.planar.proofs.Bridges.{Fresh}
 use Rattle.planar.proofs.Rings.{sameDart-refl}
 use Rattle.planar.proofs.Hooks.{fwd≢bwd, fresh-dart, sameDart-false, with-fwd, with-bwd, with-other}
-use Rattle.rotation.specs.Law.{firstClockwise, Differ, from, Apart} 
+use Rattle.rotation.specs.Law.{firstClockwise, Differ, from, Apart}
 use Rattle.rotation.specs.Law as rotation
 use Rattle.rotation.proofs.Node.{first-none}
 use Rattle.rotation.proofs.Rename.{first-same}

@@ -22,7 +22,7 @@ use Rattle.planar.proofs.Hooks.{fwd≢bwd, sameDart-false}
 use Rattle.planar.proofs.Turns.{rev-rev}
 use Rattle.planar.proofs.Moves.{planar-perm}
 use Rattle.planar.proofs.Rows.{planar-agree}
-use Rattle.rotation.specs.Law.{Apart, Law, others} 
+use Rattle.rotation.specs.Law.{Apart, Law, others}
 use Rattle.rotation.specs.Law as rotation
 use Rattle.rotation.proofs.Whole.{unlink-edge-law}
 use Rattle.rotation.proofs.Ties.{tells}

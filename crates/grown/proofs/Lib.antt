@@ -59,3 +59,5 @@ pub mod EdgesSplit
 pub mod EdgesAdded
 pub mod EdgesTaken
 pub mod EdgesRemove
+pub mod Sounds
+pub mod Forms
