@@ -61,3 +61,4 @@ pub mod EdgesTaken
 pub mod EdgesRemove
 pub mod Sounds
 pub mod Forms
+pub mod Ranges
