@@ -92,7 +92,7 @@ pub record Sharing (s : Shares) (fresh : ℕ) (fs fs′ : List ℕ) : Type 0 whe
   pub zero : s .old ≡ 0 → (s .ref ≡ 0) ⊎ (s .other ≡ 0)
 
 -- one number left out of a list that has it once
-length-without : (g : ℕ) (fs : List ℕ) → Distinct fs → List·Memᴰ g fs → length fs ≡ suc (length (keep (λ f. not (same f g)) fs))
+pub length-without : (g : ℕ) (fs : List ℕ) → Distinct fs → List·Memᴰ g fs → length fs ≡ suc (length (keep (λ f. not (same f g)) fs))
 length-without g fs dis k = perm-length (without-perm (λ (n : ℕ). n) 0 fs g (subst Distinct (sym (map-id fs)) dis) (has-number (λ (n : ℕ). n) fs g (subst (λ (l : List ℕ). List·Memᴰ g l) (sym (map-id fs)) k)))
 
 -- as in `splitFace`: the old face goes or stays, and the reference side is left or right

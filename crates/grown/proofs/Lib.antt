@@ -24,3 +24,4 @@ pub mod EdgesSplit
 pub mod EdgesAdded
 pub mod EdgesTaken
 pub mod EdgesRemove
+pub mod EdgesMerged
