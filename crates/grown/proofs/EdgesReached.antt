@@ -41,10 +41,10 @@ even-darts m S h d k = ap S (bears-row m d) ∙ go (d .back) ∙ sym (ap S (bear
     go true = sym (h row (edge-row m (d .edge) (dart-has m k) .0))
 
 module _ (m : Map) (dis : Distinct (nums (arcs m))) {e : Edge} (k : List·Memᴰ e (m .edges)) where
-  bears-left : bears m (fwd (e .number)) ≡ e .left
+  pub bears-left : bears m (fwd (e .number)) ≡ e .left
   bears-left = bears-row m (fwd (e .number)) ∙ ap (λ (r : Edge). r .left) (edge-at m dis k)
 
-  bears-right : bears m (bwd (e .number)) ≡ e .right
+  pub bears-right : bears m (bwd (e .number)) ≡ e .right
   bears-right = bears-row m (bwd (e .number)) ∙ ap (λ (r : Edge). r .right) (edge-at m dis k)
 
 pub darts-even : (m : Map) → Distinct (nums (arcs m)) → (S : ℕ → Bool) → EvenDarts m S → Even m S

@@ -25,3 +25,4 @@ pub mod EdgesAdded
 pub mod EdgesTaken
 pub mod EdgesRemove
 pub mod EdgesMerged
+pub mod EdgesRemoved
