@@ -1,14 +1,13 @@
 -- The map with an edge drawn in: its law, its links, and that it is a map in the plane where both sides of the edge are on one ring, or its faces are told apart. Assumes nothing.
 use mathlib.Core.Path.{_≡_, refl, sym, ap, _∙_, subst}
 use mathlib.Core.Logic.{_⊎_, inl, inr}
-use mathlib.Core.Bool.{Bool, true, false, cond, not, true≢false}
-use mathlib.Core.List.{List, [], _∷_, _++_, map, map-map, List·Memᴰ, List·Memᴰ·head, List·Memᴰ·tail, List·Memᴰ·cases-cons, List·Memᴰ·not-nil, Memᴰ·cast, List·Permᴰ, List·Permᴰ·cons, List·Permᴰ·trans, Permᴰ·symm, Permᴰ·map, Permᴰ·middle, Permᴰ·append-nil}
+use mathlib.Core.Bool.{Bool, true, false, cond, true≢false}
+use mathlib.Core.List.{List, [], _∷_, map, map-map, List·Memᴰ, List·Memᴰ·head, List·Memᴰ·tail, List·Memᴰ·cases-cons, List·Memᴰ·not-nil, List·Permᴰ, List·Permᴰ·cons, List·Permᴰ·trans, Permᴰ·symm, Permᴰ·map, Permᴰ·middle, Permᴰ·append-nil}
 use mathlib.Core.Option.{none}
 use Prim.Native.Nat.{ℕ, zero, suc}
 use lib.ListN.{length}
-use Rattle.lists.specs.Tests.{same, iterate}
+use Rattle.lists.specs.Tests.{iterate}
 use Rattle.lists.specs.Members.{Distinct}
-use Rattle.lists.proofs.Bools.{same-eq, same-true}
 use Rattle.lists.proofs.Members.{each-cons, map-cong}
 use Rattle.lists.proofs.Perms.{perm-in, perm-distinct}
 use Rattle.plane.specs.Directions.{Way, sameWay}
@@ -34,16 +33,16 @@ use Rattle.rotation.proofs.Ways.{alike-is, alike-sym}
 use Rattle.rotation.proofs.Order.{sameWay-refl}
 use Rattle.rotation.proofs.Node.{first-in, first-none}
 use Rattle.rotation.proofs.Ties.{tells}
-use Rattle.map.specs.Rows.{Node, Edge, Map, atNodes}
+use Rattle.map.specs.Rows.{Node, Map, atNodes}
 use Rattle.map.specs.Darts.{arcs, directed, leaves, next, bears, way, departures}
 use Rattle.map.specs.Links.{linkEdge, cornerOf, cornerFace}
 use Rattle.map.specs.Edits.{withFace, isEither, drawn}
 use Rattle.grown.proofs.Readings.{Relinked, arcOf, departs, departing, leaves-by, next-by, bears-by, way-by}
 use Rattle.grown.proofs.RowChanges.{more-perm, more-directed}
 use Rattle.grown.proofs.LawOrder.{first-alike, law-order}
-use Rattle.grown.proofs.EdgesLaw.{from-in, from-has, from-alike, law-agree, apart-agree, apart-order}
+use Rattle.grown.proofs.EdgesLaw.{from-in, from-has, from-alike, law-agree}
 use Rattle.grown.proofs.EdgesPut.{put-woven, put-law}
-use Rattle.grown.proofs.EdgesDrawn.{drawnRow, appended, leaves₁, next₁, bears₁, way₁, way-f, way-b, into-all, from-all, linked-in, linkEdge-next}
+use Rattle.grown.proofs.EdgesDrawn.{drawnRow, appended, leaves₁, bears₁, way₁, way-f, way-b, linked-in, linkEdge-next}
 
 -- ---- the corner face is that of the first departure met
 

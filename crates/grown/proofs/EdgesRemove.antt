@@ -2,13 +2,13 @@
 use mathlib.Core.Path.{_≡_, refl, sym, ap, _∙_, subst}
 use mathlib.Core.Logic.{_⊎_, inl, inr, _≢_}
 use mathlib.Core.Bool.{Bool, true, false, cond, not, true≢false}
-use mathlib.Core.List.{List, [], _∷_, map, List·Memᴰ, List·Memᴰ·head, List·Memᴰ·tail, Memᴰ·cast, List·Permᴰ, Permᴰ·symm, Permᴰ·map}
+use mathlib.Core.List.{List, _∷_, map, List·Memᴰ, List·Permᴰ, Permᴰ·map}
 use Prim.Native.Nat.{ℕ, suc}
 use lib.ListN.{length}
 use Rattle.lists.specs.Tests.{same}
 use Rattle.lists.specs.Scans.{keep}
 use Rattle.lists.specs.Members.{Distinct}
-use Rattle.lists.proofs.Bools.{differ, same-false, equal?, same-refl}
+use Rattle.lists.proofs.Bools.{same-false, equal?, same-refl}
 use Rattle.lists.proofs.Keeps.{keep-in, keep-has}
 use Rattle.lists.proofs.Perms.{perm-distinct}
 use Rattle.curves.specs.Curves.{startWay}
@@ -18,21 +18,21 @@ use Rattle.planar.specs.Rings.{sameDart}
 use Rattle.planar.specs.Planar.{Planar}
 use Rattle.planar.proofs.Bridges.{Either, Shrunk}
 use Rattle.planar.proofs.Rings.{rev-in}
-use Rattle.planar.proofs.Hooks.{fwd≢bwd, sameDart-false}
+use Rattle.planar.proofs.Hooks.{fwd≢bwd}
 use Rattle.planar.proofs.Turns.{rev-rev}
 use Rattle.planar.proofs.Moves.{planar-perm}
 use Rattle.planar.proofs.Rows.{planar-agree}
-use Rattle.rotation.specs.Law.{Apart, Law, others} 
+use Rattle.rotation.specs.Law.{Apart, Law, others}
 use Rattle.rotation.specs.Law as rotation
 use Rattle.rotation.proofs.Whole.{unlink-edge-law}
 use Rattle.rotation.proofs.Tells.{is-yes, is-no}
 use Rattle.rotation.proofs.Ties.{tells}
-use Rattle.map.specs.Rows.{Edge, Map, edge, hasEdge}
-use Rattle.map.specs.Darts.{arcs, directed, leaves, next, bears, course, way}
+use Rattle.map.specs.Rows.{Map, edge, hasEdge}
+use Rattle.map.specs.Darts.{arcs, directed, leaves, next, bears, way}
 use Rattle.map.specs.Links.{instead, redirect, unlinkEdge}
 use Rattle.grown.specs.Good.{Woven}
-use Rattle.grown.proofs.Readings.{Relinked, relinked-join, redirect-relinked, redirect-next, arcOf, tailIn, nextIn, faceIn, courseIn, leaves-row, next-row, bears-row, course-row, way-row, edge-row, dart-has, has-dart}
-use Rattle.grown.proofs.RowChanges.{less-has, less-edge, less-arcs, less-directed, less-perm}
+use Rattle.grown.proofs.Readings.{Relinked, relinked-join, redirect-relinked, redirect-next, tailIn, nextIn, faceIn, courseIn, leaves-row, next-row, bears-row, course-row, way-row, edge-row, dart-has, has-dart}
+use Rattle.grown.proofs.RowChanges.{less-edge, less-directed, less-perm}
 use Rattle.grown.proofs.LawOrder.{law-order}
 use Rattle.grown.proofs.EdgesLaw.{from-in, from-has, law-agree, differ-part}
 use Rattle.grown.proofs.EdgesReached.{Reached, even-darts, darts-even, reached-borne}
@@ -61,12 +61,6 @@ pub record Taken (m X : Map) (e : ℕ) (μ : ℕ → ℕ) : Type 0 where
 module _ (m m₁ X : Map) (e : ℕ) (μ : ℕ → ℕ) (dis : Distinct (nums (arcs m))) (has : hasEdge m e ≡ true)
     (arcs₁ : arcs m₁ ≡ arcs m) (has₁ : (x : ℕ) → hasEdge m₁ x ≡ hasEdge m x) (leaves₁ : (d : Dart) → leaves m₁ d ≡ leaves m d) (way₁ : (d : Dart) → way m₁ d ≡ way m d) (next₁ : (d : Dart) → next m₁ d ≡ next m d)
     (bears₁ : (d : Dart) → List·Memᴰ d (directed m) → bears m₁ d ≡ μ (bears m d)) (E : X .edges ≡ unlinkEdge e m₁ .edges) (N : nodeNumbers X ≡ nodeNumbers m) where
-  f : Dart
-  f = fwd e
-
-  b : Dart
-  b = bwd e
-
   -- the links after the start's departure is gone, and after both
   m₂ : Map
   m₂ = redirect (fwd e) (next m₁ (bwd e)) m₁
@@ -187,9 +181,6 @@ module _ (m X : Map) (e : ℕ) (μ : ℕ → ℕ) (has : hasEdge m e ≡ true) (
   once = perm-distinct (Permᴰ·map (λ (a : Arc). a .num) (t .perm)) (woven .planar .edges-once) .1
 
   module _ (faced : Faced m) (merging : Merging m e μ (X .faces)) where
-    a : Arc
-    a = record { num = e; from = t .from; to = t .to }
-
     before : Planar (nodeNumbers m) (record { num = e; from = t .from; to = t .to } ∷ arcs X) (leaves m) (next m) (bears m) (length (m .faces))
     before = planar-perm (t .perm) (woven .planar)
 

@@ -1,36 +1,35 @@
 -- Kinds 5, 13 and 14. Assumes nothing.
 use mathlib.Core.Path.{_≡_, refl, sym, ap, _∙_, subst}
 use mathlib.Core.Logic.{_⊎_, inl, inr, _≢_}
-use mathlib.Core.Bool.{Bool, true, false, cond, not, _&&_, _||_, true≢false}
-use mathlib.Core.List.{List, [], _∷_, _++_, map, map-map, List·Memᴰ, List·Memᴰ·head, List·Memᴰ·tail, List·Memᴰ·cases-cons, List·Memᴰ·not-nil, List·Memᴰ·append-cases, List·Memᴰ·eq-of-singleton}
+use mathlib.Core.Bool.{Bool, true, false, cond, not, _&&_}
+use mathlib.Core.List.{List, [], _∷_, _++_, map, map-map, List·Memᴰ, List·Memᴰ·not-nil, List·Memᴰ·append-cases, List·Memᴰ·eq-of-singleton}
 use mathlib.Core.Option.{Option, none, some}
-use Prim.Native.Nat.{ℕ, suc, _+_, _<_, min}
+use Prim.Native.Nat.{ℕ, suc, _+_}
 use native.Mathlib.Omega.{arith}
 use borrow.Author.Tests.{not-true}
 use lib.ListN.{length, length-append}
 use Rattle.lists.specs.Tests.{same}
 use Rattle.lists.specs.Scans.{keep}
 use Rattle.lists.specs.Members.{Distinct}
-use Rattle.lists.proofs.Bools.{which, same-refl, same-true, same-false, same-eq, equal?, differ}
+use Rattle.lists.proofs.Bools.{which, same-refl, same-true, same-false, equal?, differ}
 use Rattle.lists.proofs.Members.{map-cong}
 use Rattle.lists.proofs.Keeps.{keep-in}
-use Rattle.planar.specs.Map.{Arc, Dart, fwd, bwd, rev}
+use Rattle.planar.specs.Map.{fwd, bwd}
 use Rattle.planar.specs.Pieces.{nums}
 use Rattle.planar.proofs.Bridges.{Either}
 use Rattle.planar.proofs.Rings.{next-in}
 use Rattle.geometry.proofs.Booleans.{and-true}
 use Rattle.rotation.proofs.Clock.{le-or}
-use Rattle.map.specs.Rows.{Node, Edge, Map, edge, hasEdge, atNodes, withoutEdge}
-use Rattle.map.specs.Darts.{arcs, directed, leaves, next, bears, way, departures, edgeEnds}
+use Rattle.map.specs.Rows.{Node, Edge, Map, edge, hasEdge, atNodes}
+use Rattle.map.specs.Darts.{arcs, directed, next, bears, departures, edgeEnds}
 use Rattle.map.specs.Links.{redirect, unlinkEdge}
 use Rattle.map.specs.Edits.{withFace, isEither, withSides, undrawn, removeIsoEdge, healsFaces, lowerFace, makesFace, faceLeft, renamed, renamedNode, renamedFaces, removeEdge}
 use Rattle.grown.specs.Good.{Woven, Good}
-use Rattle.grown.proofs.Readings.{leaves-row, bears-row, edge-row, edge-at, has-dart, departing}
+use Rattle.grown.proofs.Readings.{leaves-row, bears-row, has-dart, departing}
 use Rattle.grown.proofs.Reasons.{RemoveLone}
 use Rattle.grown.proofs.Apart.{apart}
 use Rattle.grown.proofs.EdgesReached.{Reached, bears-left, bears-right}
 use Rattle.grown.proofs.EdgesSides.{sides-arcs, sides-has, sides-leaves, sides-next, sides-way, sides-bears}
-use Rattle.grown.proofs.EdgesSplit.{Faced}
 use Rattle.grown.proofs.EdgesAdded.{faced}
 use Rattle.grown.proofs.EdgesJoined.{nodeNumbers, numbers-kept}
 use Rattle.grown.proofs.EdgesMerged.{merged, merged-left, merged-right, merged-other, stay, stay-all, stay-one, stay-none}

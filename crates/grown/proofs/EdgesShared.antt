@@ -9,15 +9,13 @@ use lib.ListN.{length, length-append}
 use Rattle.lists.specs.Tests.{same}
 use Rattle.lists.specs.Scans.{keep}
 use Rattle.lists.specs.Members.{Distinct}
-use Rattle.lists.proofs.Bools.{which, same-refl, same-true, same-false, same-eq, equal?, not-true}
+use Rattle.lists.proofs.Bools.{which, same-false, same-eq, equal?, not-true}
 use Rattle.lists.proofs.Keeps.{keep-in}
 use Rattle.lists.proofs.Perms.{perm-length}
-use Rattle.planar.specs.Map.{Arc, Dart, fwd, bwd, rev, Linked}
+use Rattle.planar.specs.Map.{Dart, rev, Linked}
 use Rattle.planar.specs.Pieces.{nums}
-use Rattle.planar.specs.Rings.{Leads}
-use Rattle.planar.proofs.Rings.{next-in, rev-in}
-use Rattle.planar.proofs.Turns.{rev-rev}
-use Rattle.map.specs.Rows.{Edge, Map, node, edge}
+use Rattle.planar.proofs.Rings.{rev-in}
+use Rattle.map.specs.Rows.{Map, node, edge}
 use Rattle.map.specs.Darts.{arcs, directed, leaves, next, bears, ring, among, lowestEdge}
 use Rattle.map.specs.Faces.{encloses}
 use Rattle.map.specs.Edits.{Shares, sideOfPoint, sideOfRing, sideOfDart}
