@@ -4,51 +4,44 @@ use mathlib.Core.Logic.{_⊎_, inl, inr, _≢_}
 use mathlib.Core.Bool.{Bool, true, false, true≢false}
 use mathlib.Core.List.{List, [], _∷_, map, List·Memᴰ, List·Memᴰ·cases-cons, List·Memᴰ·not-nil, Memᴰ·map}
 use Prim.Native.Nat.{ℕ}
-use Rattle.lists.specs.Members.{Distinct, All, Pairs}
+use Rattle.lists.specs.Members.{Pairs}
 use Rattle.lists.proofs.Bools.{equal?}
-use Rattle.plane.specs.declared.Point.{Point}
 use Rattle.plane.specs.Directions.{Way, sameWay}
-use Rattle.curves.specs.Curves.{Curve, lastPoint, startWay, endWay}
-use Rattle.curves.specs.Edits as edits
+use Rattle.curves.specs.Curves.{startWay}
 use Rattle.planar.specs.Map.{Dart}
-use Rattle.planar.specs.Pieces.{nums}
-use Rattle.rotation.specs.Ways.{Alike}
-use Rattle.rotation.specs.Law.{from, Apart}
+use Rattle.rotation.specs.Law.{Apart}
 use Rattle.rotation.proofs.Ways.{alike-is}
 use Rattle.rotation.proofs.Order.{sameWay-sym}
 use Rattle.geometry.specs.Drawing as drawing
 use Rattle.geometry.specs.Drawing.{ClearCurves}
 use Rattle.geometry.proofs.Drawing.{clear-sym}
 use Rattle.geometry.proofs.Theorems.{departures-differ, closed-differ, reverse-ways}
-use Rattle.map.specs.Rows.{Edge, Map, node, edge, hasEdge}
+use Rattle.map.specs.Rows.{Edge, Map, node, edge}
 use Rattle.map.specs.Darts.{directed, leaves, way, departures}
 use Rattle.grown.specs.Good.{Surveyed}
+use Rattle.grown.proofs.Scanning.{each-of}
 use Rattle.grown.proofs.Readings.{tailIn, courseIn, leaves-row, course-row, way-row, edge-row, dart-has, departs}
 
--- what holds of all holds of each, and what holds of all pairs of any two
-pub all-in : {A B : Type 0} (R : B → Type 0) (f : A → B) (l : List A) → All R (map f l) → (x : A) → List·Memᴰ x l → R (f x)
-all-in R f [] h x m = absurd (List·Memᴰ·not-nil m)
-all-in R f (y ∷ l) h x m = elim (List·Memᴰ·cases-cons m) [ inl e ↦ subst (λ z. R (f z)) (sym e) (h .0) | inr k ↦ all-in R f l (h .1) x k ]
-
+-- what holds of all pairs holds of any two
 pub pairs-in : {A B : Type 0} (R : B → B → Type 0) (turn : (a b : B) → R a b → R b a) (f : A → B) (l : List A) → Pairs R (map f l) → (x y : A) → List·Memᴰ x l → List·Memᴰ y l → x ≢ y → R (f x) (f y)
 pairs-in R turn f [] h x y m k ne = absurd (List·Memᴰ·not-nil m)
 pairs-in {A} R turn f (z ∷ l) h x y m k ne = go (pairs-in R turn f l (h .1) x y) (List·Memᴰ·cases-cons m) (List·Memᴰ·cases-cons k)
   where
     go : (List·Memᴰ x l → List·Memᴰ y l → x ≢ y → R (f x) (f y)) → (x ≡ z) ⊎ List·Memᴰ x l → (y ≡ z) ⊎ List·Memᴰ y l → R (f x) (f y)
     go ih (inl p) (inl q) = absurd (ne (p ∙ sym q))
-    go ih (inl p) (inr q) = subst (λ w. R (f w) (f y)) (sym p) (all-in (R (f z)) f l (h .0) y q)
-    go ih (inr p) (inl q) = subst (λ w. R (f x) (f w)) (sym q) (turn (f z) (f x) (all-in (R (f z)) f l (h .0) x p))
+    go ih (inl p) (inr q) = subst (λ w. R (f w) (f y)) (sym p) (each-of (R (f z)) (map f l) (h .0) (f y) (Memᴰ·map f q))
+    go ih (inr p) (inl q) = subst (λ w. R (f x) (f w)) (sym q) (turn (f z) (f x) (each-of (R (f z)) (map f l) (h .0) (f x) (Memᴰ·map f p)))
     go ih (inr p) (inr q) = ih p q ne
 
 module _ (m : Map) (s : Surveyed m) where
-  curve-good : (r : Edge) → List·Memᴰ r (m .edges) → drawing.Good (r .curve)
-  curve-good r k = all-in drawing.Good (λ e. e .curve) (m .edges) (s .drawn .good) r k
+  pub curve-good : (r : Edge) → List·Memᴰ r (m .edges) → drawing.Good (r .curve)
+  curve-good r k = each-of drawing.Good (map (λ (e : Edge). e .curve) (m .edges)) (s .drawn .good) (r .curve) (Memᴰ·map (λ (e : Edge). e .curve) k)
 
-  curves-clear : (r q : Edge) → List·Memᴰ r (m .edges) → List·Memᴰ q (m .edges) → r ≢ q → ClearCurves (r .curve) (q .curve)
+  pub curves-clear : (r q : Edge) → List·Memᴰ r (m .edges) → List·Memᴰ q (m .edges) → r ≢ q → ClearCurves (r .curve) (q .curve)
   curves-clear r q k j ne = pairs-in ClearCurves clear-sym (λ (e : Edge). e .curve) (m .edges) (s .drawn .clear) r q k j ne
 
   -- a course starts on the point of the node that it leaves
-  starts : (b : Bool) (r : Edge) → List·Memᴰ r (m .edges) → courseIn b r .first ≡ node m (tailIn b r) .at
+  pub starts : (b : Bool) (r : Edge) → List·Memᴰ r (m .edges) → courseIn b r .first ≡ node m (tailIn b r) .at
   starts true r k = s .anchored r k .end
   starts false r k = s .anchored r k .start
 

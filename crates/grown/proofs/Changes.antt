@@ -1,42 +1,45 @@
 -- Isolated nodes added, moved and removed, and an edge redrawn, keep a map woven. Assumes nothing.
-use mathlib.Core.Path.{_≡_, refl, sym, ap, ap₂, _∙_, subst}
-use mathlib.Core.Logic.{_⊎_, inl, inr, _≢_}
-use mathlib.Core.Bool.{Bool, true, false, cond, not, Bool·beq, _||_, true≢false}
-use mathlib.Core.List.{List, [], _∷_, _++_, map, map-append, List·Memᴰ, List·Memᴰ·head, List·Memᴰ·not-nil, Memᴰ·map, Memᴰ·cast, List·Permᴰ, List·Permᴰ·cons, List·Permᴰ·trans, Permᴰ·map, Permᴰ·symm, Permᴰ·middle, Permᴰ·append-nil}
+use mathlib.Core.Path.{_≡_, refl, sym, ap, _∙_, subst}
+use mathlib.Core.Logic.{inl, inr, _≢_}
+use mathlib.Core.Bool.{Bool, true, false, cond, not, Bool·beq}
+use mathlib.Core.List.{List, [], _∷_, _++_, map, map-append, map-map, List·Memᴰ, List·Memᴰ·not-nil, List·Memᴰ·cases-cons, List·Permᴰ, List·Permᴰ·cons, List·Permᴰ·trans, Permᴰ·map, Permᴰ·symm, Permᴰ·middle, Permᴰ·append-nil}
 use Prim.Native.Nat.{ℕ}
 use native.Mathlib.Omega.{arith}
+use borrow.Author.Tests.{not-false}
 use lib.ListN.{length}
 use Rattle.lists.specs.Tests.{same}
 use Rattle.lists.specs.Scans.{any, isSome}
 use Rattle.lists.specs.Members.{Distinct}
-use Rattle.lists.proofs.Bools.{same-true, same-eq, same-false, equal?, which, beq-true, not-true}
+use Rattle.lists.proofs.Bools.{same-true, equal?, which, beq-true}
 use Rattle.lists.proofs.Members.{map-cong}
 use Rattle.lists.proofs.Counts.{count-perm}
 use Rattle.lists.proofs.Perms.{perm-in, perm-length, perm-distinct}
 use Rattle.plane.specs.declared.Point.{Point}
-use Rattle.plane.specs.Directions.{Way, sameWay}
+use Rattle.plane.specs.Directions.{sameWay}
 use Rattle.curves.specs.Curves.{Curve}
 use Rattle.planar.specs.Map.{Arc, Dart, fwd, bwd, rev, darts}
-use Rattle.planar.specs.Pieces.{pieces, label, Isolated, Euler, nums}
+use Rattle.planar.specs.Pieces.{pieces, label, Euler}
 use Rattle.planar.specs.Rings.{sameDart}
 use Rattle.planar.specs.Planar.{Planar}
 use Rattle.planar.proofs.Cycles.{fwd-in, bwd-in}
 use Rattle.planar.proofs.Rings.{sameDart-true}
 use Rattle.planar.proofs.Moves.{planar-node, planar-node-off}
 use Rattle.planar.proofs.Rows.{planar-agree}
-use Rattle.rotation.specs.Law.{lawful, from, Law}
+use Rattle.rotation.specs.Law.{lawful, from}
 use Rattle.rotation.proofs.Order.{sameWay-refl}
-use Rattle.map.specs.Rows.{Node, Edge, Map, node, edge, hasNode, hasEdge, setNodes, atNodes, atEdge, withoutNode}
+use Rattle.geometry.proofs.Booleans.{or-false}
+use Rattle.map.specs.Rows.{Node, Edge, Map, node, edge, hasNode, atNodes, atEdge, withoutNode}
 use Rattle.map.specs.Darts.{arcs, directed, leaves, next, bears, course, way, departures, edgeEnds}
 use Rattle.map.specs.Links.{clockwise}
 use Rattle.map.specs.Form as form
 use Rattle.map.specs.Edits.{lone, addIsoNode, moveIsoNode, removeIsoNode, withCurve, changeEdgeGeom}
 use Rattle.map.specs.Reasons.{isolated, turnChanges, orderChanges}
-use Rattle.grown.specs.Good.{Numbered, Woven, Good}
-use Rattle.grown.proofs.Readings.{tailIn, nextIn, faceIn, leaves-row, next-row, bears-row, course-row, way-row, edge-row, dart-has, departs, departing, departures-by, mapped-kept, mapped-arcs}
-use Rattle.grown.proofs.RowChanges.{at-has, at-other, nodeNumber, noNode, node-row, node-at, without-perm}
+use Rattle.grown.specs.Good.{Numbered, Woven}
+use Rattle.grown.proofs.Readings.{tailIn, nextIn, faceIn, leaves-row, next-row, bears-row, course-row, way-row, departs, departing, departures-by, mapped-kept, mapped-arcs}
+use Rattle.grown.proofs.RowChanges.{at-other, nodeNumber, noNode, node-row, without-perm}
 use Rattle.grown.proofs.LawOrder.{lawful-alike}
-use Rattle.grown.proofs.Fresh.{all-has, node-fresh}
+use Rattle.grown.proofs.Scanning.{all-each}
+use Rattle.grown.proofs.Fresh.{node-fresh}
 
 -- ---- the nodes in another order
 
@@ -87,7 +90,7 @@ woven-2 m n p w = record {
     number r = elim (which (same (r .number) n)) [ inl e ↦ rw e (sym (same-true (r .number) n e)) | inr e ↦ rw e ]
 
     same-numbers : map nodeNumber (map moved (m .nodes)) ≡ map nodeNumber (m .nodes)
-    same-numbers = mathlib.Core.List.map-map nodeNumber moved (m .nodes) ∙ map-cong (λ r. moved r .number) nodeNumber (m .nodes) (λ r k. number r)
+    same-numbers = map-map nodeNumber moved (m .nodes) ∙ map-cong (λ r. moved r .number) nodeNumber (m .nodes) (λ r k. number r)
 
 empty : {A : Type 0} (l : List A) → length l ≡ 0 → (x : A) → List·Memᴰ x l → ⊥
 empty [] e x k = List·Memᴰ·not-nil k
@@ -100,40 +103,31 @@ bare m n good has iso d k e = empty (departures m n) (same-true (edgeEnds m n) 0
   where
     none : same (edgeEnds m n) 0 ≡ true
     none = ap (λ (x : ℕ). same (edgeEnds m x) 0) (sym (node-row m n has .1))
-        ∙ sym (beq-true (isSome (node m n .face)) (same (edgeEnds m (node m n .number)) 0) (all-has (λ n. Bool·beq (isSome (n .face)) (same (edgeEnds m (n .number)) 0)) (m .nodes) (good .marked) (node m n) (node-row m n has .0)))
+        ∙ sym (beq-true (isSome (node m n .face)) (same (edgeEnds m (node m n .number)) 0) (all-each (λ n. Bool·beq (isSome (n .face)) (same (edgeEnds m (n .number)) 0)) (m .nodes) (good .marked) (node m n) (node-row m n has .0)))
         ∙ iso
+
+-- the node n before the others
+pub node-first : (m : Map) (n : ℕ) → hasNode m n ≡ true → Distinct (map nodeNumber (m .nodes)) → List·Permᴰ (map nodeNumber (m .nodes)) (n ∷ map nodeNumber (withoutNode n (m .nodes)))
+unfolding node
+node-first m n has once = subst (λ (x : ℕ). List·Permᴰ (map nodeNumber (m .nodes)) (x ∷ map nodeNumber (withoutNode n (m .nodes)))) (node-row m n has .1) (Permᴰ·map nodeNumber (without-perm nodeNumber noNode (m .nodes) n once has))
 
 pub woven-3 : (m : Map) (n : ℕ) → Numbered m → Woven m → hasNode m n ≡ true → isolated m n ≡ true → Woven (removeIsoNode n m)
 unfolding removeIsoNode leaves next bears way course edge
 woven-3 m n good w has iso = record {
-  planar = planar-node-off (planar-nodes first (w .planar)) (record {
+  planar = planar-node-off (planar-nodes (node-first m n has (w .planar .nodes-once)) (w .planar)) (record {
     starts = λ a k e. bare m n good has iso (fwd (a .num)) (fwd-in k) (w .planar .linked .starts a k ∙ e);
     ends = λ a k e. bare m n good has iso (bwd (a .num)) (bwd-in k) (w .planar .linked .ends a k ∙ e);
   });
   law = w .law;
   borne = w .borne;
 }
-  where
-    first : List·Permᴰ (map nodeNumber (m .nodes)) (n ∷ map nodeNumber (withoutNode n (m .nodes)))
-    first = subst (λ (x : ℕ). List·Permᴰ (map nodeNumber (m .nodes)) (x ∷ map nodeNumber (withoutNode n (m .nodes)))) (node-row m n has .1) (Permᴰ·map nodeNumber (put m n has (w .planar .nodes-once)))
-      where
-        put : (m : Map) (n : ℕ) → hasNode m n ≡ true → Distinct (map nodeNumber (m .nodes)) → List·Permᴰ (m .nodes) (node m n ∷ withoutNode n (m .nodes))
-        put m n has dis = unfold node in without-perm nodeNumber noNode (m .nodes) n dis has
 
 -- ---- kind 6
-
-or-false : (a b : Bool) → a || b ≡ false → (a ≡ false) × (b ≡ false)
-or-false true b e = absurd (true≢false e)
-or-false false b e = (refl, e)
 
 -- what none has each has not
 pub none-has : {A : Type 0} (p : A → Bool) (l : List A) → any p l ≡ false → (x : A) → List·Memᴰ x l → p x ≡ false
 none-has p [] h x m = absurd (List·Memᴰ·not-nil m)
-none-has p (y ∷ l) h x m = let k = or-false (p y) (any p l) h in elim (mathlib.Core.List.List·Memᴰ·cases-cons m) [ inl e ↦ ap p e ∙ k .0 | inr j ↦ none-has p l (k .1) x j ]
-
-not-false : (b : Bool) → not b ≡ false → b ≡ true
-not-false true e = refl
-not-false false e = absurd (true≢false e)
+none-has p (y ∷ l) h x m = let k = or-false (p y) (any p l) h in elim (List·Memᴰ·cases-cons m) [ inl e ↦ ap p e ∙ k .0 | inr j ↦ none-has p l (k .1) x j ]
 
 module _ (m : Map) (e : ℕ) (c : Curve) where
   redrawn : Map

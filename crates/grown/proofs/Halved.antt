@@ -1,19 +1,18 @@
 -- Two maps: one with the edge h from s to t, the other with it in two halves that meet at the node n. c runs along the first half and d along the second, both in the
 -- direction of h; either may be an edge the other way round. What is said of the one map is said of the other. Assumes nothing.
-use mathlib.Core.Path.{_≡_, refl, sym, ap, ap₂, _∙_, subst}
+use mathlib.Core.Path.{_≡_, refl, sym, ap, _∙_, subst}
 use mathlib.Core.Logic.{_⊎_, inl, inr}
-use mathlib.Core.Bool.{Bool, true, false, cond, not}
-use mathlib.Core.List.{List, [], _∷_, map, List·Memᴰ, List·Memᴰ·head, List·Memᴰ·tail, List·Memᴰ·cases-cons, Memᴰ·map, Memᴰ·of-map, Memᴰ·cast}
+use mathlib.Core.Bool.{true}
+use mathlib.Core.List.{List, _∷_, List·Memᴰ, List·Memᴰ·head, List·Memᴰ·tail, Memᴰ·cast}
 use Prim.Native.Nat.{ℕ}
 use Rattle.lists.specs.Members.{Distinct}
 use Rattle.lists.proofs.Members.{each-cons}
 use Rattle.plane.specs.Directions.{Way, sameWay}
 use Rattle.planar.specs.Map.{Arc, Dart, fwd, bwd, rev, darts}
 use Rattle.planar.specs.Pieces.{nums}
-use Rattle.planar.specs.Rings.{sameDart}
 use Rattle.planar.specs.Weave.{with-edge}
 use Rattle.planar.proofs.Rings.{rev-in}
-use Rattle.planar.proofs.Hooks.{fwd≢bwd, fresh-dart, with-fwd, with-bwd, with-other}
+use Rattle.planar.proofs.Hooks.{fresh-dart, with-fwd, with-bwd, with-other}
 use Rattle.planar.proofs.Turns.{rev-rev}
 use Rattle.planar.proofs.Subdivide.{arc}
 use Rattle.grown.proofs.Renumber.{runs, ways}
@@ -78,9 +77,6 @@ module _ (h : ℕ) (c d : Dart) (s n t : ℕ) (r : List Arc) (fresh : List·Mem�
 
   c≢d : (c .edge ≡ d .edge) → ⊥
   c≢d p = once .0 (List·Memᴰ·head p)
-
-  f : Dart → Dart
-  f = departs h c d
 
   pub f-fwd : departs h c d (fwd h) ≡ c
   f-fwd = with-fwd h c (rev d) (λ z. z)

@@ -1,7 +1,7 @@
 -- The link law and the faces of a map with an edge whole and with it in halves. Assumes nothing.
 use mathlib.Core.Path.{_≡_, refl, sym, ap, ap₂, _∙_, subst}
 use mathlib.Core.Logic.{_⊎_, inl, inr, _≢_}
-use mathlib.Core.Bool.{Bool, true, false, not, true≢false}
+use mathlib.Core.Bool.{Bool, true, not, true≢false}
 use mathlib.Core.List.{List, _∷_, map, List·Memᴰ, List·Memᴰ·head, List·Memᴰ·tail, List·Memᴰ·cases-cons, Memᴰ·map, Memᴰ·of-map, Memᴰ·cast}
 use Prim.Native.Nat.{ℕ}
 use Rattle.lists.specs.Tests.{same}
@@ -14,7 +14,6 @@ use Rattle.planar.proofs.Rings.{rev-in}
 use Rattle.planar.proofs.Hooks.{sameDart?}
 use Rattle.planar.proofs.Turns.{rev-rev}
 use Rattle.planar.proofs.Subdivide.{arc}
-use Rattle.rotation.specs.Ways.{Alike}
 use Rattle.rotation.specs.Law.{Tells, Differ, others, lawful, Lawful, from, back, Apart, AllLawful, Law}
 use Rattle.rotation.proofs.Ways.{alike-says, alike-is}
 use Rattle.rotation.proofs.Order.{sameWay-sym, sameWay-trans}
@@ -23,31 +22,31 @@ use Rattle.rotation.proofs.Node.{first-in}
 use Rattle.rotation.proofs.Halves.{Halves, split-law, heal-law}
 use Rattle.rotation.proofs.Ties.{tells}
 use Rattle.grown.proofs.LawOrder.{law-order-at, law-order, law-alike}
-use Rattle.grown.proofs.Halved.{Halved, departs, arrives, whole, halved, each-whole, each-halved, f-fwd, f-bwd, f-old, turned, joint-c, joint-d, rev-halved, f-in, kind, f-one, joint-differs}
+use Rattle.grown.proofs.Halved.{Halved, departs, whole, halved, each-whole, each-halved, f-fwd, f-bwd, f-old, turned, joint-c, joint-d, f-in, kind, f-one, joint-differs}
 
--- two departures alone at a node lead to one another
+-- of two departures alone at a node, the one that is not a
+pub lawful-other : {D : Type 0} (way : D → Way) (is : D → D → Bool) → Tells is → (ds : List D) (a b : D) → List·Memᴰ b ds → b ≢ a → ((c : D) → List·Memᴰ c ds → (c ≡ a) ⊎ (c ≡ b)) → lawful way is a ds ≡ b
+lawful-other {D} way is t ds a b mb nb two = go (keep-in (λ q. not (is q a)) ds (first-in way (way a) a (others is a ds) (keep-has (λ q. not (is q a)) ds mb (ap not (is-no t b a nb)))))
+  where
+    go : List·Memᴰ (lawful way is a ds) ds × (not (is (lawful way is a ds) a) ≡ true) → lawful way is a ds ≡ b
+    go r = elim (two (lawful way is a ds) (r .0)) [ inl e ↦ absurd (true≢false (sym (r .1) ∙ ap not (is-yes t (lawful way is a ds) a e))) | inr e ↦ e ]
+
+pub swap : {A B : Type 0} → A ⊎ B → B ⊎ A
+swap (inl a) = inr a
+swap (inr b) = inl b
+
+-- they lead to one another
 lawful-pair : {D : Type 0} (way : D → Way) (is : D → D → Bool) → Tells is → (x y : D) (ds : List D) (lead : D → D) → x ≢ y → List·Memᴰ x ds → List·Memᴰ y ds → ((d : D) → List·Memᴰ d ds → (d ≡ x) ⊎ (d ≡ y)) → lead x ≡ y → lead y ≡ x
     → Lawful way is ds lead
-lawful-pair {D} way is t x y ds lead ne mx my only ex ey d m = elim (only d m) [ inl e ↦ subst (λ d. lead d ≡ lawful way is d ds) (sym e) (ex ∙ sym (other x y my (λ p. ne (sym p)) (λ c k. only c k))) | inr e ↦ subst (λ d. lead d ≡ lawful way is d ds) (sym e) (ey ∙ sym (other y x mx ne (λ c k. swap (only c k)))) ]
-  where
-    swap : {A B : Type 0} → A ⊎ B → B ⊎ A
-    swap (inl a) = inr a
-    swap (inr b) = inl b
-
-    -- the one that is not a
-    other : (a b : D) → List·Memᴰ b ds → b ≢ a → ((c : D) → List·Memᴰ c ds → (c ≡ a) ⊎ (c ≡ b)) → lawful way is a ds ≡ b
-    other a b mb nb two = go (keep-in (λ q. not (is q a)) ds (first-in way (way a) a (others is a ds) (keep-has (λ q. not (is q a)) ds mb (ap not (is-no t b a nb)))))
-      where
-        go : List·Memᴰ (lawful way is a ds) ds × (not (is (lawful way is a ds) a) ≡ true) → lawful way is a ds ≡ b
-        go r = elim (two (lawful way is a ds) (r .0)) [ inl e ↦ absurd (true≢false (sym (r .1) ∙ ap not (is-yes t (lawful way is a ds) a e))) | inr e ↦ e ]
+lawful-pair way is t x y ds lead ne mx my only ex ey d m = elim (only d m) [
+  | inl e ↦ subst (λ d. lead d ≡ lawful way is d ds) (sym e) (ex ∙ sym (lawful-other way is t ds x y my (λ p. ne (sym p)) only))
+  | inr e ↦ subst (λ d. lead d ≡ lawful way is d ds) (sym e) (ey ∙ sym (lawful-other way is t ds y x mx ne (λ c k. swap (only c k))))
+]
 
 module _ (h : ℕ) (c d : Dart) (s n t : ℕ) (r : List Arc) {tail tail′ : Dart → ℕ} {next next′ : Dart → Dart} {face face′ : Dart → ℕ} {way way′ : Dart → Way}
     (H : Halved h c d s n t r tail tail′ next next′ face face′ way way′)
     (all all′ : List Dart) (in-whole : (z : Dart) → List·Memᴰ z all → List·Memᴰ z (whole h s t r)) (of-whole : (z : Dart) → List·Memᴰ z (whole h s t r) → List·Memᴰ z all)
     (in-halved : (z : Dart) → List·Memᴰ z all′ → List·Memᴰ z (halved c d s n t r)) (of-halved : (z : Dart) → List·Memᴰ z (halved c d s n t r) → List·Memᴰ z all′) where
-  f : Dart → Dart
-  f = departs h c d
-
   names : Halves sameDart tells (departs h c d) tail tail′ (λ z. way′ (departs h c d z)) way′ (back rev next) (back rev next′) all n (rev c) d
   names = record {
     tails = λ z k. H .tails z (in-whole z k);
@@ -97,14 +96,14 @@ module _ (h : ℕ) (c d : Dart) (s n t : ℕ) (r : List Arc) {tail tail′ : Dar
   unfolding listed
   differ-there apart k ne a b ma mb alike = go (origin a ma) (origin b mb)
     where
-      Origin : Dart → Type 0
-      Origin z = (w : Dart) × List·Memᴰ w all × (departs h c d w ≡ z)
-
       origin : (z : Dart) → List·Memᴰ z (from tail′ (rev c ∷ d ∷ map (departs h c d) all) k) → ((w : Dart) × List·Memᴰ w all × (departs h c d w ≡ z)) × (tail′ z ≡ k)
-      origin z m = (elim (List·Memᴰ·cases-cons (x .0)) [
-        | inl e ↦ absurd (ne (sym there ∙ ap tail′ e ∙ H .tail-c))
-        | inr j ↦ elim (List·Memᴰ·cases-cons j) [ inl e ↦ absurd (ne (sym there ∙ ap tail′ e ∙ H .tail-d)) | inr i ↦ Memᴰ·of-map (departs h c d) all i ]
-      ], there)
+      origin z m = (
+        elim (List·Memᴰ·cases-cons (x .0)) [
+          | inl e ↦ absurd (ne (sym there ∙ ap tail′ e ∙ H .tail-c))
+          | inr j ↦ elim (List·Memᴰ·cases-cons j) [ inl e ↦ absurd (ne (sym there ∙ ap tail′ e ∙ H .tail-d)) | inr i ↦ Memᴰ·of-map (departs h c d) all i ]
+        ],
+        there,
+      )
         where
           x : List·Memᴰ z (rev c ∷ d ∷ map (departs h c d) all) × (same (tail′ z) k ≡ true)
           x = keep-in (λ z. same (tail′ z) k) (rev c ∷ d ∷ map (departs h c d) all) m

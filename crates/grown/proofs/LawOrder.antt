@@ -13,11 +13,7 @@ use Rattle.rotation.specs.Law.{Tells, greatest, pick, firstClockwise, Differ, o
 use Rattle.rotation.proofs.Order.{respects-left, respects-right}
 use Rattle.rotation.proofs.Node.{first-none}
 use Rattle.rotation.proofs.Rename.{first-same}
-
--- two tests that say the same keep the same
-pub keep-same : {D : Type 0} (p q : D → Bool) (ds : List D) → ((d : D) → List·Memᴰ d ds → p d ≡ q d) → keep p ds ≡ keep q ds
-keep-same p q [] h = refl
-keep-same p q (d ∷ ds) h = ap₂ (λ (b : Bool) (l : List _). cond b (d ∷ l) l) (h d (List·Memᴰ·head refl)) (keep-same p q ds (λ c m. h c (List·Memᴰ·tail m)))
+use Rattle.grown.proofs.Readings.{keep-cong}
 
 -- ---- the order of the list
 
@@ -82,7 +78,7 @@ module _ {D : Type 0} (way way′ : D → Way) where
 
   pub first-alike : (v v′ : Way) (u : D) (ds : List D) → sameWay v v′ ≡ true → AlikeOn ds → firstClockwise way v u ds ≡ firstClockwise way′ v′ u ds
   unfolding firstClockwise
-  first-alike v v′ u ds e h = ap₂ (λ (c : D) (l : List D). pick way c l) (pick-alike u ds h) (keep-same (λ d. before (way d) v) (λ d. before (way′ d) v′) ds (λ d m. respects-left (way d) (way′ d) v (h d m) ∙ respects-right (way′ d) v v′ e))
+  first-alike v v′ u ds e h = ap₂ (λ (c : D) (l : List D). pick way c l) (pick-alike u ds h) (keep-cong (λ d. before (way d) v) (λ d. before (way′ d) v′) ds (λ d m. respects-left (way d) (way′ d) v (h d m) ∙ respects-right (way′ d) v v′ e))
       ∙ pick-alike (pick way′ u ds) (keep (λ d. before (way′ d) v′) ds) (λ d m. h d (keep-in (λ d. before (way′ d) v′) ds m .0))
 
   pub lawful-alike : (is : D → D → Bool) (ds : List D) → AlikeOn ds → (d : D) → List·Memᴰ d ds → lawful way is d ds ≡ lawful way′ is d ds

@@ -7,7 +7,6 @@ use Prim.Native.Nat.{ℕ, zero, suc}
 use native.Mathlib.Omega.{arith}
 use lib.ListN.{length-map}
 use Rattle.lists.specs.Tests.{_⊕_, iterate}
-use Rattle.lists.specs.Scans.{sum}
 use Rattle.lists.specs.Members.{Distinct}
 use Rattle.lists.proofs.Bools.{eq2}
 use Rattle.lists.proofs.Members.{map-cong}
