@@ -123,10 +123,12 @@ module _ {es : List Arc} {tail : Dart → ℕ} {next : Dart → Dart} {face : Da
             go : (x : Dart) × List·Memᴰ x (darts es) × (N x ≡ c₁) → (k : Corner) × At-start k
             go x = (
               after (x .0),
-              ((rev-in es (x .1), sym (before .meets (x .0) (x .1)) ∙ ap T (x .2) ∙ from-in T (darts es) (T f) k .1 ∙ start, sym (before .keeps (x .0) (x .1)) ∙ ap F (x .2) ∙ face₁ c₁ k),
-              λ d i. link-is-tie (f ∷ darts es) N
-                  (λ d c i j. injective-of-perm N (darts (a ∷ es)) (distinct-darts (a ∷ es) dis⁺) (lone⁺ .perm) d c (wide-f i) (wide-f j)) f b (x .0) c₁ (λ i. elim (List·Memᴰ·cases-cons i) [ inl p ↦ fwd≢bwd (sym p) | inr j ↦ new j refl ])
-                  (List·Memᴰ·tail (x .1)) (x .2) nb d (swap i)),
+              (
+                (rev-in es (x .1), sym (before .meets (x .0) (x .1)) ∙ ap T (x .2) ∙ from-in T (darts es) (T f) k .1 ∙ start, sym (before .keeps (x .0) (x .1)) ∙ ap F (x .2) ∙ face₁ c₁ k),
+                λ d i. link-is-tie (f ∷ darts es) N
+                    (λ d c i j. injective-of-perm N (darts (a ∷ es)) (distinct-darts (a ∷ es) dis⁺) (lone⁺ .perm) d c (wide-f i) (wide-f j)) f b (x .0) c₁ (λ i. elim (List·Memᴰ·cases-cons i) [ inl p ↦ fwd≢bwd (sym p) | inr j ↦ new j refl ])
+                    (List·Memᴰ·tail (x .1)) (x .2) nb d (swap i),
+              ),
             )
 
   -- ---- at the end, the corner k of the start given
@@ -193,10 +195,12 @@ module _ {es : List Arc} {tail : Dart → ℕ} {next : Dart → Dart} {face : Da
                 here : List·Memᴰ (x .0) (b ∷ darts es) → (k′ : Corner) × At-end k′
                 here j = (
                   after (x .0),
-                  ((turned j, sym (linked₁ .meets (x .0) (x .1)) ∙ ap T (x .2) ∙ from-in T (f ∷ darts es) (T b) i .1 ∙ end, sym (linked₁ .keeps (x .0) (x .1)) ∙ ap F (x .2) ∙ face-c₂ i),
-                  λ d i. link-is-tie (b ∷ darts es) M₁
-                      (λ d c i j. injective-of-perm M₁ (darts (a ∷ es)) (distinct-darts (a ∷ es) dis⁺) (linked₁ .perm) d c (wide-b i) (wide-b j)) b f (x .0) c₂ (λ i. elim (List·Memᴰ·cases-cons i) [ inl p ↦ fwd≢bwd p | inr j ↦ new j refl ])
-                      j (x .2) still d i),
+                  (
+                    (turned j, sym (linked₁ .meets (x .0) (x .1)) ∙ ap T (x .2) ∙ from-in T (f ∷ darts es) (T b) i .1 ∙ end, sym (linked₁ .keeps (x .0) (x .1)) ∙ ap F (x .2) ∙ face-c₂ i),
+                    λ d i. link-is-tie (b ∷ darts es) M₁
+                        (λ d c i j. injective-of-perm M₁ (darts (a ∷ es)) (distinct-darts (a ∷ es) dis⁺) (linked₁ .perm) d c (wide-b i) (wide-b j)) b f (x .0) c₂ (λ i. elim (List·Memᴰ·cases-cons i) [ inl p ↦ fwd≢bwd p | inr j ↦ new j refl ])
+                        j (x .2) still d i,
+                  ),
                 )
 
   -- ---- both

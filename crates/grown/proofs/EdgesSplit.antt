@@ -110,10 +110,14 @@ module _ (news : Bool) (m : Map) (u v : ℕ) (c : Curve) (φ : ℕ) (draws : Dra
   two-sides = go isLeft refl
     where
       go : (t : Bool) → isLeft ≡ t → ((new f ≡ s .ref) × (new b ≡ s .other)) ⊎ ((new f ≡ s .other) × (new b ≡ s .ref))
-      go true e = inl (side-x D linked (D-once m u v c φ draws) s f in-f (ap (λ t. cond t (ring D f) (ring D b)) e) (ap (λ t. cond t (ring D b) (ring D f)) e) split refl on-b,
-        side-rev D linked (D-once m u v c φ draws) s f in-f (ap (λ t. cond t (ring D f) (ring D b)) e) (ap (λ t. cond t (ring D b) (ring D f)) e) split refl on-b)
-      go false e = inr (side-rev D linked (D-once m u v c φ draws) s b in-b (ap (λ t. cond t (ring D f) (ring D b)) e) (ap (λ t. cond t (ring D b) (ring D f)) e) other-way on-b refl,
-        side-x D linked (D-once m u v c φ draws) s b in-b (ap (λ t. cond t (ring D f) (ring D b)) e) (ap (λ t. cond t (ring D b) (ring D f)) e) other-way on-b refl)
+      go true e = inl (
+        side-x D linked (D-once m u v c φ draws) s f in-f (ap (λ t. cond t (ring D f) (ring D b)) e) (ap (λ t. cond t (ring D b) (ring D f)) e) split refl on-b,
+        side-rev D linked (D-once m u v c φ draws) s f in-f (ap (λ t. cond t (ring D f) (ring D b)) e) (ap (λ t. cond t (ring D b) (ring D f)) e) split refl on-b,
+      )
+      go false e = inr (
+        side-rev D linked (D-once m u v c φ draws) s b in-b (ap (λ t. cond t (ring D f) (ring D b)) e) (ap (λ t. cond t (ring D b) (ring D f)) e) other-way on-b refl,
+        side-x D linked (D-once m u v c φ draws) s b in-b (ap (λ t. cond t (ring D f) (ring D b)) e) (ap (λ t. cond t (ring D b) (ring D f)) e) other-way on-b refl,
+      )
         where
           other-way : among (ring D b) f ≡ false
           other-way = apart-rev D linked (D-once m u v c φ draws) f b in-f in-b split
