@@ -8,7 +8,7 @@ use Rattle.lists.proofs.Keeps.{keep-in, keep-has}
 use Rattle.plane.specs.Directions.{Way}
 use Rattle.planar.specs.Map.{Dart, rev}
 use Rattle.planar.specs.Rings.{sameDart}
-use Rattle.rotation.specs.Law.{firstClockwise, Differ, Lawful, from, back, Apart, Law}
+use Rattle.rotation.specs.Law.{firstClockwise, Differ, Lawful, from, back, Law}
 use Rattle.rotation.proofs.Clock.{First, first-one}
 use Rattle.rotation.proofs.Node.{first-first, place, placed, size-of}
 use Rattle.rotation.proofs.Rename.{renamed-lawful}

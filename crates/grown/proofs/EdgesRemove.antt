@@ -37,7 +37,7 @@ use Rattle.grown.proofs.LawOrder.{law-order}
 use Rattle.grown.proofs.EdgesLaw.{from-in, from-has, law-agree, differ-part}
 use Rattle.grown.proofs.EdgesReached.{Reached, even-darts, darts-even, reached-borne}
 use Rattle.grown.proofs.EdgesTaken.{taken-part, taken-merge}
-use Rattle.grown.proofs.EdgesJoined.{nodeNumbers}
+use Rattle.grown.proofs.EdgesCorners.{nodeNumbers}
 use Rattle.grown.proofs.EdgesSplit.{Faced}
 
 -- not a way of the edge e

@@ -1,15 +1,14 @@
--- Kinds 5, 13 and 14. Assumes nothing.
+-- Kinds 13 and 14. Assumes nothing.
 use mathlib.Core.Path.{_≡_, refl, sym, ap, _∙_, subst}
 use mathlib.Core.Logic.{_⊎_, inl, inr, _≢_}
 use mathlib.Core.Bool.{Bool, true, false, cond, not, _&&_}
-use mathlib.Core.List.{List, [], _∷_, _++_, map, map-map, List·Memᴰ, List·Memᴰ·not-nil, List·Memᴰ·append-cases, List·Memᴰ·eq-of-singleton}
+use mathlib.Core.List.{List, [], _∷_, _++_, map, map-map, List·Memᴰ, List·Memᴰ·append-cases, List·Memᴰ·eq-of-singleton}
 use mathlib.Core.Option.{Option, none, some}
 use Prim.Native.Nat.{ℕ, suc, _+_}
 use native.Mathlib.Omega.{arith}
 use borrow.Author.Tests.{not-true}
 use lib.ListN.{length, length-append}
 use Rattle.lists.specs.Tests.{same}
-use Rattle.lists.specs.Scans.{keep}
 use Rattle.lists.specs.Members.{Distinct}
 use Rattle.lists.proofs.Bools.{which, same-refl, same-true, same-false, equal?, differ}
 use Rattle.lists.proofs.Members.{map-cong}
@@ -17,84 +16,22 @@ use Rattle.lists.proofs.Keeps.{keep-in}
 use Rattle.planar.specs.Map.{fwd, bwd}
 use Rattle.planar.specs.Pieces.{nums}
 use Rattle.planar.proofs.Bridges.{Either}
-use Rattle.planar.proofs.Rings.{next-in}
 use Rattle.geometry.proofs.Booleans.{and-true}
 use Rattle.rotation.proofs.Clock.{le-or}
-use Rattle.map.specs.Rows.{Node, Edge, Map, edge, hasEdge, atNodes}
-use Rattle.map.specs.Darts.{arcs, directed, next, bears, departures, edgeEnds}
-use Rattle.map.specs.Links.{redirect, unlinkEdge}
-use Rattle.map.specs.Edits.{withFace, isEither, withSides, undrawn, removeIsoEdge, healsFaces, lowerFace, makesFace, faceLeft, renamed, renamedNode, renamedFaces, removeEdge}
+use Rattle.map.specs.Rows.{Node, Edge, Map, edge, hasEdge}
+use Rattle.map.specs.Darts.{arcs, bears}
+use Rattle.map.specs.Links.{unlinkEdge}
+use Rattle.map.specs.Edits.{withSides, healsFaces, lowerFace, makesFace, faceLeft, renamed, renamedNode, renamedFaces, removeEdge}
 use Rattle.grown.specs.Good.{Woven, Good}
-use Rattle.grown.proofs.Readings.{leaves-row, bears-row, has-dart, departing}
-use Rattle.grown.proofs.Reasons.{RemoveLone}
+use Rattle.grown.proofs.Readings.{bears-row, has-dart}
 use Rattle.grown.proofs.Apart.{apart}
 use Rattle.grown.proofs.EdgesReached.{Reached, bears-left, bears-right}
 use Rattle.grown.proofs.EdgesSides.{sides-arcs, sides-has, sides-leaves, sides-next, sides-way, sides-bears}
 use Rattle.grown.proofs.EdgesAdded.{faced}
-use Rattle.grown.proofs.EdgesJoined.{nodeNumbers, numbers-kept}
+use Rattle.grown.proofs.EdgesCorners.{nodeNumbers}
 use Rattle.grown.proofs.EdgesMerged.{merged, merged-left, merged-right, merged-other, stay, stay-all, stay-one, stay-none}
 use Rattle.grown.proofs.EdgesRemove.{Taken, taken, Merging, taken-woven, taken-reached}
-
--- ---- an edge undrawn: nodes keep their numbers, faces stay
-
-module _ (e g : ℕ) (m : Map) where
-  undrawn-nodes : nodeNumbers (undrawn e g m) ≡ nodeNumbers m
-  unfolding undrawn atNodes unlinkEdge redirect
-  undrawn-nodes = numbers-kept (λ n. isEither (edge m e .start) (edge m e .end) n && same (edgeEnds (unlinkEdge e m) (n .number)) 0) (withFace (some g)) (m .nodes) (λ n. refl)
-
-  undrawn-edges : undrawn e g m .edges ≡ unlinkEdge e m .edges
-  unfolding undrawn atNodes
-  undrawn-edges = refl
-
-  undrawn-faces : undrawn e g m .faces ≡ m .faces
-  unfolding undrawn atNodes unlinkEdge redirect
-  undrawn-faces = refl
-
--- ---- kind 5
-
--- two members of a list of one
-one-member : {A : Type 0} (l : List A) → length l ≡ 1 → {x y : A} → List·Memᴰ x l → List·Memᴰ y l → x ≡ y
-one-member [] e i j = absurd (List·Memᴰ·not-nil i)
-one-member (z ∷ []) e i j = List·Memᴰ·eq-of-singleton i ∙ sym (List·Memᴰ·eq-of-singleton j)
-one-member (z ∷ w ∷ l) e i j = absurd (omega arith)
-
-module _ (m : Map) (e : ℕ) (good : Good m) (h : RemoveLone m e) where
-  abbrev X₅ : Map
-  X₅ = undrawn e (edge m e .left) m
-
-  lone-taken : Taken m X₅ e (λ g. g)
-  lone-taken = taken m m X₅ e (λ g. g) (good .woven .planar .edges-once) (h .has) refl (λ x. refl) (λ d. refl) (λ d. refl) (λ d. refl) (λ d k. refl) (undrawn-edges e (edge m e .left) m) (undrawn-nodes e (edge m e .left) m)
-
-  -- e turns back at its end, where nothing else departs
-  turns : next m (fwd e) ≡ bwd e
-  unfolding departures
-  turns = one-member (departures m (edge m e .end)) (h .end-alone) (departing m (edge m e .end) (next-in (good .woven .planar .linked) in-f) (good .woven .planar .linked .meets (fwd e) in-f ∙ leaves-row m (bwd e))) (departing m (edge m e .end) (has-dart m (bwd e) (h .has)) (leaves-row m (bwd e)))
-    where
-      in-f : List·Memᴰ (fwd e) (directed m)
-      in-f = has-dart m (fwd e) (h .has)
-
-  one-face : bears m (fwd e) ≡ bears m (bwd e)
-  one-face = sym (good .woven .planar .linked .keeps (fwd e) (has-dart m (fwd e) (h .has))) ∙ ap (bears m) turns
-
-  lone-merging : Merging m e (λ g. g) (X₅ .faces)
-  lone-merging = record {
-    one = one-face;
-    back = λ g. g;
-    goes-back = λ g k. inl refl;
-    zero = refl;
-    faces = λ g k. (g, subst (λ (l : List ℕ). List·Memᴰ g l) (undrawn-faces e (edge m e .left) m) k, refl);
-    count = inl (one-face, ap length (undrawn-faces e (edge m e .left) m));
-  }
-
-  pub woven-5 : Reached m → Woven (removeIsoEdge e m)
-  unfolding removeIsoEdge
-  woven-5 r = taken-woven m X₅ e (λ g. g) (h .has) lone-taken (good .woven) (faced m good) lone-merging (apart m (good .surveyed)) r
-
-  pub reached-5 : Reached m → Reached (removeIsoEdge e m)
-  unfolding removeIsoEdge
-  reached-5 r = taken-reached m X₅ e (λ g. g) (h .has) lone-taken (good .woven) (faced m good) lone-merging r
-
--- ---- kinds 13 and 14
+use Rattle.grown.proofs.EdgesUndrawn.{undrawn-nodes, undrawn-edges}
 
 renamed-number : (r : Edge) (g : ℕ) (n : Node) (f : Option ℕ) → renamedNode r g n f .number ≡ n .number
 renamed-number r g n none = refl

@@ -30,7 +30,8 @@ use Rattle.grown.proofs.EdgesReached.{Reached, even-darts, darts-even}
 use Rattle.grown.proofs.EdgesSides.{sides-arcs, sides-bears, sides-law, sides-planar}
 use Rattle.grown.proofs.EdgesShared.{side-new, side-old, side-keeps, side-x, side-rev, apart-rev, Sharing, sharesOf, facesOf, sharing}
 use Rattle.grown.proofs.EdgesDrawn.{drawnRow}
-use Rattle.grown.proofs.EdgesJoined.{nodeNumbers, Draws, all-D, D-bears, D-faces, D-linked, D-once, D-law, D-split}
+use Rattle.grown.proofs.EdgesCorners.{nodeNumbers}
+use Rattle.grown.proofs.EdgesJoined.{Draws, all-D, D-bears, D-faces, D-linked, D-once, D-law, D-split}
 
 -- what the faces of a map give
 pub record Faced (m : Map) : Type 0 where

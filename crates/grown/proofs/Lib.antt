@@ -3,6 +3,7 @@
 -- `Joint`: where a heal joins. `CurvesKinds`, `CurvesHeal`: Surveyed kept by all fourteen kinds; the other files of curves say how lines and places change.
 -- `Changes`, `SplitsWoven`, `HealsWoven`: Woven kept by kinds 1, 2, 3 and 6, by 7 and 8, by 9 and 10. `Renumber`: other names of edges. `LawOrder`, `Apart`: the link law. `Halved`, `HalvedLaw`,
 -- `Splits`, `Heals`: a map with an edge whole and with it in halves. `Fresh`, `RowDarts`: numbers, and what directed edges read.
+-- `EdgesAdd`, `EdgesAdded`, `EdgesUndrawn`, `EdgesRemoved`: Woven kept by kinds 4, by 11 and 12, by 5, by 13 and 14; the other files of edges: rings, an edge linked in, a face split, an edge taken out.
 pub mod Readings
 pub mod RowChanges
 pub mod Reasons
@@ -49,6 +50,7 @@ pub mod EdgesRings
 pub mod EdgesLaw
 pub mod EdgesPut
 pub mod EdgesDrawn
+pub mod EdgesCorners
 pub mod EdgesJoined
 pub mod EdgesReached
 pub mod ChangesReached
@@ -60,4 +62,5 @@ pub mod EdgesAdded
 pub mod EdgesTaken
 pub mod EdgesRemove
 pub mod EdgesMerged
+pub mod EdgesUndrawn
 pub mod EdgesRemoved
