@@ -68,3 +68,4 @@ pub mod EdgesCorners
 pub mod EdgesMerged
 pub mod EdgesUndrawn
 pub mod EdgesRemoved
+pub mod Growth
