@@ -69,3 +69,4 @@ pub mod EdgesMerged
 pub mod EdgesUndrawn
 pub mod EdgesRemoved
 pub mod Growth
+pub mod Grows

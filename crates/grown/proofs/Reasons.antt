@@ -29,7 +29,7 @@ use Rattle.map.specs.Edits.{sharedNodes, joint, healedCurve, splitsFace, makesF
 use Rattle.map.specs.Reasons.{Reasons, firstReason, reasons, noNode, noEdge, outside, endsDiffer, curveReasons, isolated, edgeIsolated, nodeAt, edgeThrough, directionTaken, containingDiffer, cornersDiffer, nodeInside, edgeWrong, meetingReasons, orderChanges, full, spent, splitReasons, healReasons, addEdgeReasons}
 
 -- no reason: the first does not hold, nor do the others
-no-reason : (n : ℕ) (b : Bool) (rs : Reasons) → firstReason ((suc n, b) ∷ rs) ≡ 0 → (b ≡ false) × (firstReason rs ≡ 0)
+pub no-reason : (n : ℕ) (b : Bool) (rs : Reasons) → firstReason ((suc n, b) ∷ rs) ≡ 0 → (b ≡ false) × (firstReason rs ≡ 0)
 unfolding firstReason
 no-reason n true rs h = absurd (omega arith)
 no-reason n false rs h = (refl, h)
