@@ -1,25 +1,23 @@
 -- What holds after every list of tickets, from the empty map in tables of any sizes that hold it. Assumes nothing.
 use mathlib.Core.Path.{_≡_, refl, sym, ap, ap₂, _∙_, subst}
 use mathlib.Core.Logic.{_≢_}
-use mathlib.Core.Bool.{Bool, true, not}
+use mathlib.Core.Bool.{true, not}
 use mathlib.Core.List.{List, [], _∷_, _++_, List·Memᴰ}
 use mathlib.Core.Option.{Option, none, some}
 use Prim.Native.Nat.{ℕ, zero, suc, _≤_}
 use native.Mathlib.Omega.{arith}
 use lib.IntN.{ℤ}
-use lib.ListN.{length}
-use Rattle.lists.specs.Tests.{same}
 use Rattle.planar.specs.Map.{Dart, rev}
 use Rattle.planar.specs.Rings.{sameDart}
 use Rattle.planar.proofs.Rings.{rev-in, sameDart-refl}
 use Rattle.planar.proofs.Turns.{rev-rev}
 use Rattle.map.specs.Limits.{maxNodes, maxEdges, maxFaces}
 use Rattle.map.specs.Rows.{Map, Lent, Sizes, emptyMap, mapOf, lentOf, sizesOf, whole}
-use Rattle.map.specs.Darts.{arcs, directed, leaves, next, bears, departures, way}
+use Rattle.map.specs.Darts.{arcs, directed, leaves, next, bears, departures}
 use Rattle.map.specs.Form.{inForm}
 use Rattle.map.specs.Links.{clockwise, obeysLaw}
 use Rattle.map.specs.Tickets.{Ticket, read}
-use Rattle.map.specs.Reasons.{Reasons, firstReason, reasons}
+use Rattle.map.specs.Reasons.{firstReason, reasons}
 use Rattle.map.specs.Ticket.{carried, lentReasons, unless, judged, ticket}
 use Rattle.map.specs.Grow.{after, grow}
 use Rattle.map.specs.Sound.{Sound}

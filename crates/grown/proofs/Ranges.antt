@@ -1,30 +1,29 @@
 -- A good map that fits is in form in its tables, and is read back from them. Assumes nothing.
-use mathlib.Core.Path.{_≡_, refl, sym, ap, ap₂, _∙_, subst}
-use mathlib.Core.Logic.{inl, inr}
-use mathlib.Core.Bool.{Bool, true, false, _&&_, true≢false}
-use mathlib.Core.List.{List, [], _∷_, _++_, map, map-map, flatMap, append-assoc, List·Memᴰ, List·Memᴰ·head, List·Memᴰ·tail, Memᴰ·of-map, Memᴰ·map}
+use mathlib.Core.Path.{_≡_, refl, sym, ap, _∙_, subst}
+use mathlib.Core.Bool.{Bool, true, false}
+use mathlib.Core.List.{List, [], _∷_, _++_, map, map-map, flatMap, append-assoc, List·Memᴰ, List·Memᴰ·head, List·Memᴰ·tail, Memᴰ·of-map}
 use mathlib.Core.Option.{Option, none, some}
-use Prim.Native.Nat.{ℕ, zero, suc, _+_, _*_, _-_, _/_, _%_, _≤_}
+use Prim.Native.Nat.{ℕ, zero, suc, _*_, _-_, _/_, _%_, _≤_}
 use native.Mathlib.Nat.{suc-mul, zero-mul, mul-le-mul-right, mul-div-cancel, mul-mod-left}
 use native.Mathlib.Omega.{arith}
 use borrow.Author.Tests.{le-leb}
 use lib.Dec.{leb, leb·zero}
-use lib.IntN.{ℤ, pos, negsuc, natAbs}
+use lib.IntN.{ℤ, pos, negsuc}
 use lib.ListN.{length, take, drop, replicate, length-append, length-replicate}
 use lib.Seq.{take-append-seam, drop-append-seam}
-use lib.Signed.{leZ, nonNeg}
+use lib.Signed.{leZ}
 use Rattle.lists.specs.Tests.{same}
 use Rattle.lists.specs.Scans.{all, firstOr}
 use Rattle.lists.proofs.Bools.{same-refl}
 use Rattle.geometry.proofs.Booleans.{and-is}
 use Rattle.plane.specs.declared.Point.{Point}
 use Rattle.plane.specs.Points.{InRange, maxCoordinate}
-use Rattle.curves.specs.Curves.{Curve, points, coordinates, coordinate, maxPoints}
+use Rattle.curves.specs.Curves.{points, coordinates, coordinate, maxPoints}
 use Rattle.planar.specs.Map.{Dart, fwd, bwd}
 use Rattle.planar.proofs.Rings.{next-in}
 use Rattle.geometry.specs.Meaning.{Some}
 use Rattle.map.specs.Limits.{maxNodes, maxEdges, maxFaces, lastNumber, nodeWidth, edgeWidth, faceWidth}
-use Rattle.map.specs.Rows.{Node, Edge, Map, Lent, Sizes, rows, filled, nodeCells, edgeCells, faceCells, faceCell, dartCell, lentOf, mapOf, sizesOf, whole, wholeRows, nodeRows, edgeRows, faceRows, edge}
+use Rattle.map.specs.Rows.{Node, Edge, Map, Sizes, rows, filled, nodeCells, edgeCells, faceCells, faceCell, lentOf, mapOf, sizesOf, whole, wholeRows, nodeRows, edgeRows, faceRows, edge}
 use Rattle.map.specs.Darts.{next}
 use Rattle.map.specs.Form.{within, isZero, restZero, nodeRanges, edgeRanges, faceRanges, ranged, formed, inForm, countsFit, nextsFit}
 use Rattle.map.proofs.RoundTrip.{Holds, reads-back}

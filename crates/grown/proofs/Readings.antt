@@ -1,25 +1,24 @@
 -- What a map reads in its rows, and after each way of changing them: rows mapped, appended, left out, redirected. Assumes nothing.
-use mathlib.Core.Path.{_≡_, refl, sym, ap, ap₂, _∙_, subst}
+use mathlib.Core.Path.{_≡_, refl, sym, ap, _∙_, subst}
 use mathlib.Core.Logic.{_⊎_, inl, inr, _≢_}
 use mathlib.Core.Bool.{Bool, true, false, cond, not, _&&_, _||_, Bool·beq, true≢false}
 use mathlib.Core.List.{List, [], _∷_, _++_, map, map-map, List·Memᴰ, List·Memᴰ·head, List·Memᴰ·tail, List·Memᴰ·cases-cons, List·Memᴰ·not-nil, Memᴰ·map, Memᴰ·of-map, Memᴰ·cast}
 use mathlib.Core.Option.{Option, none, some, Option·getD, Option·map}
 use Prim.Native.Nat.{ℕ}
 use Rattle.lists.specs.Tests.{same}
-use Rattle.lists.specs.Scans.{any, find, isSome, keep}
+use Rattle.lists.specs.Scans.{find, isSome, keep}
 use Rattle.lists.specs.Members.{Distinct}
-use Rattle.lists.proofs.Bools.{same-refl, same-true, same-false, same-eq, differ, which, not-true}
+use Rattle.lists.proofs.Bools.{same-refl, same-true, same-false, same-eq, differ}
 use Rattle.lists.proofs.Keeps.{keep-in, keep-has}
 use Rattle.lists.proofs.Members.{map-cong}
-use Rattle.plane.specs.Directions.{Way}
 use Rattle.curves.specs.Curves.{Curve, startWay, through}
 use Rattle.curves.specs.Edits as edits
-use Rattle.planar.specs.Map.{Arc, Dart, fwd, bwd, rev, darts}
+use Rattle.planar.specs.Map.{Arc, Dart, fwd, bwd, darts}
 use Rattle.planar.specs.Pieces.{nums}
 use Rattle.planar.specs.Rings.{sameDart}
 use Rattle.planar.proofs.Cycles.{fwd-in, bwd-in}
 use Rattle.planar.proofs.Rings.{dart-cases}
-use Rattle.map.specs.Rows.{Node, Edge, Map, node, edge, findEdge, hasNode, hasEdge, setEdges, atNodes, atEdge, withoutEdge}
+use Rattle.map.specs.Rows.{Edge, Map, edge, hasEdge, atEdge}
 use Rattle.map.specs.Darts.{arcs, directed, leaves, next, bears, course, way, departures}
 use Rattle.map.specs.Links.{withLinks, instead, redirect, lead}
 

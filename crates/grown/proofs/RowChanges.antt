@@ -1,8 +1,8 @@
 -- What a map reads after one row is changed, appended or left out. Assumes nothing.
 use mathlib.Core.Path.{_≡_, refl, sym, ap, _∙_, subst}
-use mathlib.Core.Logic.{_⊎_, inl, inr, _≢_}
+use mathlib.Core.Logic.{inl, inr, _≢_}
 use mathlib.Core.Bool.{Bool, true, false, cond, not, _||_, true≢false}
-use mathlib.Core.List.{List, [], _∷_, _++_, map, map-append, List·Memᴰ, List·Memᴰ·head, List·Memᴰ·tail, Memᴰ·map, Memᴰ·cast, List·Permᴰ, List·Permᴰ·cons, List·Permᴰ·swap, List·Permᴰ·trans, Permᴰ·refl, Permᴰ·map, Permᴰ·middle, Permᴰ·append-nil}
+use mathlib.Core.List.{List, [], _∷_, _++_, map, map-append, List·Memᴰ, Memᴰ·map, Memᴰ·cast, List·Permᴰ, List·Permᴰ·cons, List·Permᴰ·swap, List·Permᴰ·trans, Permᴰ·refl, Permᴰ·map, Permᴰ·middle, Permᴰ·append-nil}
 use mathlib.Core.Option.{Option, none, some, Option·getD}
 use Prim.Native.Nat.{ℕ}
 use Rattle.lists.specs.Tests.{same}
@@ -13,9 +13,9 @@ use Rattle.lists.proofs.Keeps.{keep-map, keep-all}
 use Rattle.plane.specs.Points.{origin}
 use Rattle.planar.specs.Map.{Arc, Dart, fwd, bwd, darts}
 use Rattle.planar.specs.Pieces.{nums}
-use Rattle.map.specs.Rows.{Node, Edge, Map, node, edge, hasNode, hasEdge, atNodes, atEdge, withoutNode, withoutEdge}
-use Rattle.map.specs.Darts.{arcs, directed, leaves, departures}
-use Rattle.grown.proofs.Readings.{numbered, look, has, look-row, look-at, has-at, look-first, look-second, look-one, has-append, has-one, without, look-without, has-without, has-without-it, look-map, has-map, look-kept, numberOf, missing, arcOf, nums-rows, edge-row, mapped-edge, mapped-has, dart-has, keep-cong}
+use Rattle.map.specs.Rows.{Node, Edge, Map, node, edge, hasNode, hasEdge, atEdge, withoutNode, withoutEdge}
+use Rattle.map.specs.Darts.{arcs, directed}
+use Rattle.grown.proofs.Readings.{numbered, look, has, look-row, look-at, has-at, look-first, look-second, look-one, has-append, has-one, without, look-without, has-without, has-without-it, look-kept, numberOf, missing, arcOf, nums-rows, edge-row, mapped-edge, mapped-has}
 
 -- ---- lists
 
