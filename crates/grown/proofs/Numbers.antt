@@ -78,10 +78,6 @@ pub record Limited (m : Map) : Type 0 where
 
 -- ---- edge ends
 
-no-members : {A : Type 0} (l : List A) → ((x : A) → List·Memᴰ x l → ⊥) → same (length l) 0 ≡ true
-no-members [] h = same-refl 0
-no-members (x ∷ l) h = absurd (h x (List·Memᴰ·head refl))
-
 some-member : {A : Type 0} (l : List A) → same (length l) 0 ≡ false → (x : A) × List·Memᴰ x l
 some-member [] h = absurd (true≢false (sym (same-refl 0) ∙ h))
 some-member (x ∷ l) h = (x, List·Memᴰ·head refl)

@@ -14,12 +14,6 @@ use Rattle.lists.proofs.Keeps.{keep-in}
 use Rattle.geometry.proofs.Booleans.{and-true, and-is, or-left}
 use Rattle.map.specs.Form.{numbered}
 
--- two tests that hold together
-pub both-ways : (a b : Bool) → (a ≡ true → b ≡ true) → (b ≡ true → a ≡ true) → a ≡ b
-both-ways true b f g = sym (f refl)
-both-ways false true f g = g refl
-both-ways false false f g = refl
-
 module _ {A : Type 0} (p : A → Bool) where
   pub all-each : (l : List A) → all p l ≡ true → (x : A) → List·Memᴰ x l → p x ≡ true
   all-each [] h x k = absurd (List·Memᴰ·not-nil k)
