@@ -1,0 +1,251 @@
+-- Kinds 11 and 12 where a face is split. Assumes nothing.
+use mathlib.Core.Path.{_≡_, refl, sym, ap, _∙_, subst}
+use mathlib.Core.Logic.{_⊎_, inl, inr, _≢_}
+use mathlib.Core.Bool.{Bool, true, false, cond, not, _&&_, _||_, true≢false}
+use mathlib.Core.List.{List, map, map-map, List·Memᴰ, List·Memᴰ·head, List·Memᴰ·tail}
+use mathlib.Core.Option.{Option, none, some}
+use Prim.Native.Nat.{ℕ, suc, _+_, _≤_, _<_}
+use native.Mathlib.Omega.{arith}
+use lib.ListN.{length}
+use Rattle.lists.specs.Tests.{same}
+use Rattle.lists.specs.Members.{Distinct}
+use Rattle.lists.proofs.Bools.{same-refl, same-false, same-eq, equal?, or-right}
+use Rattle.lists.proofs.Members.{map-cong}
+use Rattle.integers.specs.Order.{sgn}
+use Rattle.plane.specs.Areas.{isPositive}
+use Rattle.curves.specs.Curves.{Curve}
+use Rattle.planar.specs.Map.{Arc, Dart, fwd, bwd, rev, darts, Linked}
+use Rattle.planar.specs.Planar.{Planar}
+use Rattle.planar.proofs.Cycles.{Grown}
+use Rattle.planar.proofs.Rings.{rev-in}
+use Rattle.planar.proofs.Hooks.{fresh-dart, with-fwd, with-bwd, with-other}
+use Rattle.map.specs.Rows.{Node, Map, atNodes, atEdge}
+use Rattle.map.specs.Darts.{arcs, directed, leaves, next, bears, ring, among}
+use Rattle.map.specs.Links.{redirect, lead, linkIn, linkEdge}
+use Rattle.map.specs.Faces.{ringArea}
+use Rattle.map.specs.Edits.{Shares, withSides, drawn, sideOfDart, sideOfNode, sideOfPoint, sharedOut, splitFace}
+use Rattle.grown.specs.Good.{Woven}
+use Rattle.grown.proofs.Readings.{arcOf}
+use Rattle.grown.proofs.EdgesReached.{Reached, even-darts, darts-even}
+use Rattle.grown.proofs.EdgesSides.{sides-arcs, sides-bears, sides-law, sides-planar}
+use Rattle.grown.proofs.EdgesShared.{side-new, side-old, side-keeps, side-x, side-rev, apart-rev, Sharing, sharesOf, facesOf, sharing}
+use Rattle.grown.proofs.EdgesDrawn.{drawnRow}
+use Rattle.grown.proofs.EdgesCorners.{nodeNumbers}
+use Rattle.grown.proofs.EdgesJoined.{Draws, all-D, D-bears, D-faces, D-linked, D-once, D-law, D-split}
+
+-- what the faces of a map give
+pub record Faced (m : Map) : Type 0 where
+  pub once : Distinct (m .faces)
+  pub below : (g : ℕ) → List·Memᴰ g (m .faces) → g < m .nextFace
+  pub borne : (d : Dart) → List·Memᴰ d (directed m) → List·Memᴰ (bears m d) (m .faces)
+
+side-number : (m : Map) (s : Shares) (n : Node) (f : Option ℕ) → sideOfNode m s n f .number ≡ n .number
+side-number m s n none = refl
+side-number m s n (some f) = go (same f (s .old))
+  where
+    go : (b : Bool) → cond b (record { number = n .number; at = n .at; face = some (sideOfPoint m s (n .at)) }) n .number ≡ n .number
+    go true = refl
+    go false = refl
+
+goes-old : (news : Bool) (old : ℕ) → news && not (same old 0) ≡ true → old ≢ 0
+goes-old true old h p = true≢false (sym h ∙ ap not (same-eq old 0 p))
+goes-old false old h p = true≢false (sym h)
+
+module _ (news : Bool) (m : Map) (u v : ℕ) (c : Curve) (φ : ℕ) (draws : Draws m u v c φ) (faced : Faced m) (there : List·Memᴰ φ (m .faces)) (split : among (ring (drawn u v c φ m) (fwd (m .nextEdge))) (bwd (m .nextEdge)) ≡ false) where
+  abbrev D : Map
+  D = drawn u v c φ m
+
+  abbrev f : Dart
+  f = fwd (m .nextEdge)
+
+  abbrev b : Dart
+  b = bwd (m .nextEdge)
+
+  abbrev X : Map
+  X = splitFace news (m .nextEdge) (drawn u v c φ m)
+
+  abbrev old : ℕ
+  old = bears (drawn u v c φ m) (fwd (m .nextEdge))
+
+  abbrev goes : Bool
+  goes = news && not (same old 0)
+
+  abbrev isLeft : Bool
+  isLeft = isPositive (sgn (ringArea D (ring D f)))
+
+  abbrev s : Shares
+  s = sharesOf goes isLeft old (D .nextFace) (ring D f) (ring D b)
+
+  abbrev new : Dart → ℕ
+  new = sideOfDart D s
+
+  linked : Linked (arcs D) (leaves D) (next D) (bears D)
+  linked = D-linked m u v c φ draws
+
+  in-f : List·Memᴰ f (directed D)
+  in-f = all-D m u v c φ draws (List·Memᴰ·head refl)
+
+  in-b : List·Memᴰ b (directed D)
+  in-b = all-D m u v c φ draws (List·Memᴰ·tail (List·Memᴰ·head refl))
+
+  on-f : old ≡ φ
+  on-f = D-bears m u v c φ draws f (List·Memᴰ·head refl) ∙ with-fwd (m .nextEdge) φ φ (bears m)
+
+  on-b : bears D b ≡ old
+  on-b = D-bears m u v c φ draws b (List·Memᴰ·tail (List·Memᴰ·head refl)) ∙ with-bwd (m .nextEdge) φ φ (bears m) ∙ sym on-f
+
+  kept : (d : Dart) → List·Memᴰ d (directed m) → bears D d ≡ bears m d
+  kept d k = D-bears m u v c φ draws d (List·Memᴰ·tail (List·Memᴰ·tail k)) ∙ with-other (m .nextEdge) φ φ (bears m) d (fresh-dart (arcOf (drawnRow m u v c φ)) (arcs m) (draws .fresh) k)
+
+  next-face : D .nextFace ≡ m .nextFace + 0
+  unfolding drawn atNodes linkEdge linkIn lead redirect atEdge
+  next-face = refl
+
+  -- ---- the sides
+
+  shared : Sharing s (D .nextFace) (m .faces) (facesOf goes old (D .nextFace) (m .faces))
+  shared = sharing old (D .nextFace) (m .faces) (faced .once) (λ g k. let h = faced .below g k in let q = next-face in omega arith) (subst (λ (g : ℕ). List·Memᴰ g (m .faces)) (sym on-f) there) (ring D f) (ring D b) goes isLeft (goes-old news old)
+
+  -- the two ways of the edge have the two numbers, one way or the other
+  two-sides : ((new f ≡ s .ref) × (new b ≡ s .other)) ⊎ ((new f ≡ s .other) × (new b ≡ s .ref))
+  two-sides = go isLeft refl
+    where
+      go : (t : Bool) → isLeft ≡ t → ((new f ≡ s .ref) × (new b ≡ s .other)) ⊎ ((new f ≡ s .other) × (new b ≡ s .ref))
+      go true e = inl (
+        side-x D linked (D-once m u v c φ draws) s f in-f (ap (λ t. cond t (ring D f) (ring D b)) e) (ap (λ t. cond t (ring D b) (ring D f)) e) split refl on-b,
+        side-rev D linked (D-once m u v c φ draws) s f in-f (ap (λ t. cond t (ring D f) (ring D b)) e) (ap (λ t. cond t (ring D b) (ring D f)) e) split refl on-b,
+      )
+      go false e = inr (
+        side-rev D linked (D-once m u v c φ draws) s b in-b (ap (λ t. cond t (ring D f) (ring D b)) e) (ap (λ t. cond t (ring D b) (ring D f)) e) other-way on-b refl,
+        side-x D linked (D-once m u v c φ draws) s b in-b (ap (λ t. cond t (ring D f) (ring D b)) e) (ap (λ t. cond t (ring D b) (ring D f)) e) other-way on-b refl,
+      )
+        where
+          other-way : among (ring D b) f ≡ false
+          other-way = apart-rev D linked (D-once m u v c φ draws) f b in-f in-b split
+
+  new-keeps : (d : Dart) → List·Memᴰ d (directed D) → new (next D d) ≡ new d
+  new-keeps = go isLeft refl
+    where
+      go : (t : Bool) → isLeft ≡ t → (d : Dart) → List·Memᴰ d (directed D) → new (next D d) ≡ new d
+      go true e = side-keeps D linked (D-once m u v c φ draws) s f in-f (ap (λ t. cond t (ring D f) (ring D b)) e) (ap (λ t. cond t (ring D b) (ring D f)) e)
+      go false e = side-keeps D linked (D-once m u v c φ draws) s b in-b (ap (λ t. cond t (ring D f) (ring D b)) e) (ap (λ t. cond t (ring D b) (ring D f)) e)
+
+  new-apart : (new f ≡ new b) → ⊥
+  new-apart p = elim two-sides [ inl q ↦ shared .differ (sym (q .0) ∙ p ∙ q .1) | inr q ↦ shared .differ (sym (q .1) ∙ sym p ∙ q .0) ]
+
+  -- an old directed edge had the face φ and comes to one of the sides, or bears what it bore
+  old-side : (d : Dart) → List·Memᴰ d (directed m) → ((bears m d ≡ φ) × ((new d ≡ s .ref) ⊎ (new d ≡ s .other))) ⊎ ((bears m d ≢ φ) × (new d ≡ bears m d))
+  old-side d k = elim (equal? (bears m d) φ) [
+    | inl p ↦ inl (p, side-new D s d (kept d k ∙ p ∙ sym on-f))
+    | inr ne ↦ inr (ne, side-old D s d (λ p. ne (sym (kept d k) ∙ p ∙ on-f)) ∙ kept d k)
+  ]
+
+  -- both new numbers go back to the old face
+  back : ℕ → ℕ
+  back g = cond (same g (s .ref) || same g (s .other)) φ g
+
+  back-ref : back (s .ref) ≡ φ
+  unfolding back
+  back-ref = ap (λ x. cond (x || same (s .ref) (s .other)) φ (s .ref)) (same-refl (s .ref))
+
+  back-other : back (s .other) ≡ φ
+  unfolding back
+  back-other = ap (λ x. cond x φ (s .other)) (or-right (same (s .other) (s .ref)) (same (s .other) (s .other)) (same-refl (s .other)))
+
+  -- an old face is none of them
+  not-new : (g z : ℕ) → (z ≡ old) ⊎ (D .nextFace ≤ z) → List·Memᴰ g (m .faces) → g ≢ φ → same g z ≡ false
+  not-new g z h k ne = same-false g z (λ p. elim h [ inl q ↦ ne (p ∙ q ∙ on-f) | inr q ↦ let r = faced .below g k in let t = next-face in omega arith ])
+
+  back-old : (g : ℕ) → List·Memᴰ g (m .faces) → g ≢ φ → back g ≡ g
+  unfolding back
+  back-old g k ne = rw (not-new g (s .ref) (shared .ref-new) k ne, not-new g (s .other) (shared .other-new) k ne)
+
+  grown : Grown (arcOf (drawnRow m u v c φ)) (arcs m) (bears m) new back
+  grown = record {
+    others = λ d k. elim (old-side d k) [
+      | inl q ↦ elim (q .1) [ inl p ↦ ap back p ∙ back-ref ∙ sym (q .0) | inr p ↦ ap back p ∙ back-other ∙ sym (q .0) ]
+      | inr q ↦ ap back (q .1) ∙ back-old (bears m d) (faced .borne d k) (q .0)
+    ];
+    sides = elim two-sides [ inl q ↦ ap back (q .0) ∙ back-ref ∙ sym back-other ∙ sym (ap back (q .1)) | inr q ↦ ap back (q .0) ∙ back-other ∙ sym back-ref ∙ sym (ap back (q .1)) ];
+  }
+
+  -- ---- the rows after
+
+  X-edges : X .edges ≡ map (λ e. withSides (new (fwd (e .number))) (new (bwd (e .number))) e) (D .edges)
+  unfolding splitFace sharedOut
+  X-edges = refl
+
+  X-bears : (d : Dart) → List·Memᴰ d (directed D) → bears X d ≡ new d
+  X-bears = sides-bears D X (λ e. new (fwd (e .number))) (λ e. new (bwd (e .number))) X-edges new (λ e k. refl) (λ e k. refl)
+
+  X-faces : X .faces ≡ facesOf goes old (D .nextFace) (m .faces)
+  unfolding splitFace sharedOut
+  X-faces = ap (facesOf goes old (D .nextFace)) (D-faces m u v c φ draws)
+
+  X-nodes : nodeNumbers X ≡ nodeNumbers D
+  unfolding splitFace sharedOut
+  X-nodes = map-map (λ (n : Node). n .number) (λ n. sideOfNode D s n (n .face)) (D .nodes) ∙ map-cong _ (λ (n : Node). n .number) (D .nodes) (λ n k. side-number D s n (n .face))
+
+  X-planar : Planar (nodeNumbers X) (arcs X) (leaves X) (next X) (bears X) (length (X .faces))
+  X-planar = subst (λ (k : ℕ). Planar (nodeNumbers X) (arcs X) (leaves X) (next X) (bears X) k) (sym (ap length X-faces ∙ shared .count))
+      (subst (λ (ns : List ℕ). Planar ns (arcs X) (leaves X) (next X) (bears X) (suc (length (m .faces)))) (sym X-nodes)
+      (sides-planar D X (λ e. new (fwd (e .number))) (λ e. new (bwd (e .number))) X-edges X-bears (D-split m u v c φ draws new back grown new-apart new-keeps)))
+
+  in-X : {d : Dart} → List·Memᴰ d (directed D) → List·Memᴰ d (directed X)
+  in-X {d} k = subst (λ (es : List Arc). List·Memᴰ d (darts es)) (sym (sides-arcs D X (λ e. new (fwd (e .number))) (λ e. new (bwd (e .number))) X-edges)) k
+
+  still-in : {d : Dart} → List·Memᴰ d (directed m) → List·Memᴰ d (directed D)
+  still-in k = all-D m u v c φ draws (List·Memᴰ·tail (List·Memᴰ·tail k))
+
+  -- one way or the other bears a side's number
+  side-borne : (g : ℕ) → (g ≡ s .ref) ⊎ (g ≡ s .other) → (d : Dart) × List·Memᴰ d (directed X) × (bears X d ≡ g)
+  side-borne g (inl p) = elim two-sides [ inl q ↦ (f, in-X in-f, X-bears f in-f ∙ q .0 ∙ sym p) | inr q ↦ (b, in-X in-b, X-bears b in-b ∙ q .1 ∙ sym p) ]
+  side-borne g (inr p) = elim two-sides [ inl q ↦ (b, in-X in-b, X-bears b in-b ∙ q .1 ∙ sym p) | inr q ↦ (f, in-X in-f, X-bears f in-f ∙ q .0 ∙ sym p) ]
+
+  pub split-woven : ((g : ℕ) → List·Memᴰ g (m .faces) → g ≢ 0 → (d : Dart) × List·Memᴰ d (directed m) × (bears m d ≡ g)) → Woven (splitFace news (m .nextEdge) (drawn u v c φ m))
+  split-woven borne = record {
+    planar = X-planar;
+    law = sides-law D X (λ e. new (fwd (e .number))) (λ e. new (bwd (e .number))) X-edges (D-law m u v c φ draws);
+    borne = λ g i ne. elim (shared .faces g (subst (λ (l : List ℕ). List·Memᴰ g l) X-faces i)) [ inl q ↦ side-borne g q | inr q ↦ old-borne g (q .1) (borne g (q .0) ne) ];
+  }
+    where
+      old-borne : (g : ℕ) → g ≢ old → (d : Dart) × List·Memᴰ d (directed m) × (bears m d ≡ g) → (d : Dart) × List·Memᴰ d (directed X) × (bears X d ≡ g)
+      old-borne g ne x = (x .0, in-X (still-in (x .1)), X-bears (x .0) (still-in (x .1)) ∙ elim (old-side (x .0) (x .1)) [ inl q ↦ absurd (ne (sym (x .2) ∙ q .0 ∙ sym on-f)) | inr q ↦ q .1 ∙ x .2 ])
+
+  pub split-reached : Reached m → Reached (splitFace news (m .nextEdge) (drawn u v c φ m))
+  split-reached reached S even g i = elim (shared .faces g (subst (λ (l : List ℕ). List·Memᴰ g l) X-faces i)) [
+    | inl (inl p) ↦ ap S p ∙ sym at-φ ∙ all φ there
+    | inl (inr p) ↦ ap S p ∙ sym sides ∙ sym at-φ ∙ all φ there
+    | inr q ↦ sym (at-other g (λ p. q .1 (p ∙ sym on-f))) ∙ all g (q .0)
+  ]
+    where
+      -- S on the old faces
+      S₀ : ℕ → Bool
+      S₀ g = cond (same g φ) (S (s .ref)) (S g)
+
+      at-φ : S₀ φ ≡ S (s .ref)
+      at-φ = ap (λ x. cond x (S (s .ref)) (S φ)) (same-refl φ)
+
+      at-other : (g : ℕ) → g ≢ φ → S₀ g ≡ S g
+      at-other g ne = ap (λ x. cond x (S (s .ref)) (S g)) (same-false g φ ne)
+
+      sides : S (s .ref) ≡ S (s .other)
+      sides = elim two-sides [
+        | inl q ↦ ap S (sym (q .0) ∙ sym (X-bears f in-f)) ∙ even-darts X S even f (in-X in-f) ∙ ap S (X-bears b in-b ∙ q .1)
+        | inr q ↦ ap S (sym (q .1) ∙ sym (X-bears b in-b)) ∙ even-darts X S even b (in-X in-b) ∙ ap S (X-bears f in-f ∙ q .0)
+      ]
+
+      same-side : (d : Dart) → List·Memᴰ d (directed m) → S₀ (bears m d) ≡ S (bears X d)
+      same-side d k = elim (old-side d k) [
+        | inl q ↦ ap S₀ (q .0) ∙ at-φ ∙ elim (q .1) [ inl p ↦ ap S (sym p) | inr p ↦ sides ∙ ap S (sym p) ] ∙ ap S (sym (X-bears d (still-in k)))
+        | inr q ↦ at-other (bears m d) (q .0) ∙ ap S (sym (q .1) ∙ sym (X-bears d (still-in k)))
+      ]
+
+      zero : S₀ 0 ≡ S 0
+      zero = elim (equal? 0 φ) [
+        | inl p ↦ ap S₀ p ∙ at-φ ∙ elim (shared .zero (on-f ∙ sym p)) [ inl q ↦ ap S q | inr q ↦ sides ∙ ap S q ]
+        | inr ne ↦ at-other 0 ne
+      ]
+
+      all : (g : ℕ) → List·Memᴰ g (m .faces) → S₀ g ≡ S 0
+      all g k = reached S₀ (darts-even m (draws .planar .edges-once) S₀ (λ d k. same-side d k ∙ even-darts X S even d (in-X (still-in k)) ∙ sym (same-side (rev d) (rev-in (arcs m) k)))) g k ∙ zero

@@ -1,0 +1,157 @@
+-- The joint of a heal: the two parts meet there, and no other directed edge departs from it. Assumes nothing.
+use mathlib.Core.Path.{_≡_, refl, sym, ap, _∙_}
+use mathlib.Core.Bool.{Bool, true, false, not, cond, _||_, true≢false, false≢true}
+use mathlib.Core.List.{List, [], _∷_, List·Memᴰ, List·Memᴰ·head, List·Memᴰ·tail, List·Memᴰ·cases-cons, List·Memᴰ·not-nil, List·Memᴰ·eq-of-singleton}
+use mathlib.Core.Option.{some, Option·getD}
+use mathlib.Core.Logic.{_⊎_, inl, inr, _≢_}
+use Prim.Native.Nat.{ℕ}
+use native.Mathlib.Omega.{arith}
+use lib.ListN.{length}
+use Rattle.lists.specs.Tests.{same}
+use Rattle.lists.specs.Scans.{find, isSome}
+use Rattle.lists.proofs.Bools.{same-true, differ, or-true}
+use Rattle.lists.proofs.Keeps.{keep-in}
+use Rattle.planar.specs.Map.{Dart, fwd, bwd, rev}
+use Rattle.map.specs.Rows.{Map, edge, hasEdge}
+use Rattle.map.specs.Darts.{directed, leaves, departures, edgeEnds}
+use Rattle.map.specs.Edits.{sharedNodes, joint, parts}
+use Rattle.grown.proofs.Readings.{leaves-row, has-dart, departing}
+use Rattle.grown.proofs.Reasons.{Heal}
+
+-- the directed edges c and d meet at n: c arrives, d departs
+pub record Meet (m : Map) (e f n : ℕ) (c d : Dart) : Type 0 where
+  pub arrives : leaves m (rev c) ≡ n
+  pub departs : leaves m d ≡ n
+  -- one is of e and one of f
+  pub edges : ((c .edge ≡ e) × (d .edge ≡ f)) ⊎ ((c .edge ≡ f) × (d .edge ≡ e))
+
+-- and nothing else is there
+pub record Seamed (m : Map) (e f n : ℕ) (c d : Dart) : Type 0 where
+  pub meet : Meet m e f n c d
+  pub first-in : List·Memᴰ c (directed m)
+  pub second-in : List·Memᴰ d (directed m)
+  pub two : c .edge ≢ d .edge
+  pub only : (z : Dart) → List·Memᴰ z (directed m) → leaves m z ≡ n → (z ≡ rev c) ⊎ (z ≡ d)
+  -- the far ends are elsewhere
+  pub from : leaves m c ≢ n
+  pub to : leaves m (rev d) ≢ n
+
+-- what is found passes the test
+found : {A : Type 0} (u : A) (p : A → Bool) (l : List A) → isSome (find p l) ≡ true → List·Memᴰ (Option·getD (find p l) u) l × (p (Option·getD (find p l) u) ≡ true)
+found u p [] h = absurd (false≢true h)
+found {A} u p (x ∷ l) h = go (p x) refl (found u p l) h
+  where
+    go : (b : Bool) → p x ≡ b → (isSome (find p l) ≡ true → List·Memᴰ (Option·getD (find p l) u) l × (p (Option·getD (find p l) u) ≡ true)) → isSome (cond b (some x) (find p l)) ≡ true
+        → List·Memᴰ (Option·getD (cond b (some x) (find p l)) u) (x ∷ l) × (p (Option·getD (cond b (some x) (find p l)) u) ≡ true)
+    go true e ih k = (List·Memᴰ·head refl, e)
+    go false e ih k = (List·Memᴰ·tail (ih k .0), ih k .1)
+
+-- a list of two elements has no third
+third : {A : Type 0} (l : List A) → length l ≡ 2 → {x y z : A} → x ≢ y → List·Memᴰ x l → List·Memᴰ y l → List·Memᴰ z l → (z ≡ x) ⊎ (z ≡ y)
+third [] h n i j k = absurd (List·Memᴰ·not-nil i)
+third (a ∷ []) h n i j k = absurd (n (List·Memᴰ·eq-of-singleton i ∙ sym (List·Memᴰ·eq-of-singleton j)))
+third (a ∷ b ∷ []) h {x} {y} {z} n i j k = go (one i) (one j) (one k)
+  where
+    one : {w : _} → List·Memᴰ w (a ∷ b ∷ []) → (w ≡ a) ⊎ (w ≡ b)
+    one m = elim (List·Memᴰ·cases-cons m) [ inl e ↦ inl e | inr q ↦ inr (List·Memᴰ·eq-of-singleton q) ]
+
+    go : (x ≡ a) ⊎ (x ≡ b) → (y ≡ a) ⊎ (y ≡ b) → (z ≡ a) ⊎ (z ≡ b) → (z ≡ x) ⊎ (z ≡ y)
+    go (inl p) (inl q) r = absurd (n (p ∙ sym q))
+    go (inr p) (inr q) r = absurd (n (p ∙ sym q))
+    go (inl p) (inr q) (inl r) = inl (r ∙ sym p)
+    go (inl p) (inr q) (inr r) = inr (r ∙ sym q)
+    go (inr p) (inl q) (inl r) = inr (r ∙ sym q)
+    go (inr p) (inl q) (inr r) = inl (r ∙ sym p)
+third (a ∷ b ∷ c ∷ l) h n i j k = absurd (omega arith)
+
+module _ (m : Map) (e f : ℕ) (h : Heal m e f) where
+  abbrev at : ℕ
+  at = Option·getD (joint m e f) 0
+
+  found-joint : List·Memᴰ at (sharedNodes m e f) × (same (edgeEnds m at) 2 ≡ true)
+  unfolding joint
+  found-joint = found 0 (λ n. same (edgeEnds m n) 2) (sharedNodes m e f) (h .joint)
+
+  -- an end of e and an end of f
+  shared : ((at ≡ edge m e .end) ⊎ (at ≡ edge m e .start)) × ((at ≡ edge m f .start) ⊎ (at ≡ edge m f .end))
+  unfolding sharedNodes
+  shared = (go (List·Memᴰ·cases-cons (k .0)), other (or-true _ _ (k .1)))
+    where
+      k : List·Memᴰ at (edge m e .end ∷ edge m e .start ∷ []) × (same at (edge m f .start) || same at (edge m f .end) ≡ true)
+      k = keep-in (λ n. same n (edge m f .start) || same n (edge m f .end)) (edge m e .end ∷ edge m e .start ∷ []) (found-joint .0)
+
+      go : (at ≡ edge m e .end) ⊎ List·Memᴰ at (edge m e .start ∷ []) → (at ≡ edge m e .end) ⊎ (at ≡ edge m e .start)
+      go (inl q) = inl q
+      go (inr q) = inr (List·Memᴰ·eq-of-singleton q)
+
+      other : (same at (edge m f .start) ≡ true) ⊎ (same at (edge m f .end) ≡ true) → (at ≡ edge m f .start) ⊎ (at ≡ edge m f .end)
+      other (inl q) = inl (same-true _ _ q)
+      other (inr q) = inr (same-true _ _ q)
+
+  -- e runs to the joint, or from it
+  meets : Meet m e f at (parts m e f .0) (parts m e f .1)
+  unfolding parts
+  meets = go (same at (edge m e .end)) refl
+    where
+      go : (b : Bool) → same at (edge m e .end) ≡ b
+          → Meet m e f at (cond {A = Dart × Dart} b (fwd e, cond (same (leaves m (fwd f)) at) (fwd f) (bwd f)) (cond (same (leaves m (bwd f)) at) (fwd f) (bwd f), fwd e) .0)
+          (cond {A = Dart × Dart} b (fwd e, cond (same (leaves m (fwd f)) at) (fwd f) (bwd f)) (cond (same (leaves m (bwd f)) at) (fwd f) (bwd f), fwd e) .1)
+      go true q = record { arrives = leaves-row m (bwd e) ∙ sym (same-true _ _ q); departs = leaving (same (leaves m (fwd f)) at) refl (shared .1) .0; edges = inl (refl, leaving (same (leaves m (fwd f)) at) refl (shared .1) .1) }
+        where
+          leaving : (b : Bool) → same (leaves m (fwd f)) at ≡ b → (at ≡ edge m f .start) ⊎ (at ≡ edge m f .end) → (leaves m (cond b (fwd f) (bwd f)) ≡ at) × (cond {A = Dart} b (fwd f) (bwd f) .edge ≡ f)
+          leaving true r s = (same-true _ _ r, refl)
+          leaving false r (inl s) = absurd (differ _ _ r (leaves-row m (fwd f) ∙ sym s))
+          leaving false r (inr s) = (leaves-row m (bwd f) ∙ sym s, refl)
+      go false q = record { arrives = arriving (same (leaves m (bwd f)) at) refl (shared .1) .0; departs = leaves-row m (fwd e) ∙ start (shared .0); edges = inr (arriving (same (leaves m (bwd f)) at) refl (shared .1) .1, refl) }
+        where
+          start : (at ≡ edge m e .end) ⊎ (at ≡ edge m e .start) → edge m e .start ≡ at
+          start (inl r) = absurd (differ _ _ q r)
+          start (inr r) = sym r
+
+          arriving : (b : Bool) → same (leaves m (bwd f)) at ≡ b → (at ≡ edge m f .start) ⊎ (at ≡ edge m f .end) → (leaves m (rev (cond b (fwd f) (bwd f))) ≡ at) × (cond {A = Dart} b (fwd f) (bwd f) .edge ≡ f)
+          arriving true r s = (same-true _ _ r, refl)
+          arriving false r (inl s) = (leaves-row m (fwd f) ∙ sym s, refl)
+          arriving false r (inr s) = absurd (differ _ _ r (leaves-row m (bwd f) ∙ sym s))
+
+  -- two edge ends are there, so there is no other
+  pub seamed : Seamed m e f at (parts m e f .0) (parts m e f .1)
+  seamed = record { meet = meets; first-in = first-in; second-in = second-in; two = two; only = only; from = from; to = to }
+    where
+      two : parts m e f .0 .edge ≢ parts m e f .1 .edge
+      two q = elim (meets .edges) [ inl r ↦ h .differ (sym (r .0) ∙ q ∙ r .1) | inr r ↦ h .differ (sym (r .1) ∙ sym q ∙ r .0) ]
+
+      has : (z : Dart) → (z .edge ≡ e) ⊎ (z .edge ≡ f) → List·Memᴰ z (directed m)
+      has z (inl q) = has-dart m z (ap (hasEdge m) q ∙ h .has)
+      has z (inr q) = has-dart m z (ap (hasEdge m) q ∙ h .has-other)
+
+      of-first : (parts m e f .0 .edge ≡ e) ⊎ (parts m e f .0 .edge ≡ f)
+      of-first = elim (meets .edges) [ inl r ↦ inl (r .0) | inr r ↦ inr (r .0) ]
+
+      of-second : (parts m e f .1 .edge ≡ e) ⊎ (parts m e f .1 .edge ≡ f)
+      of-second = elim (meets .edges) [ inl r ↦ inr (r .1) | inr r ↦ inl (r .1) ]
+
+      first-in : List·Memᴰ (parts m e f .0) (directed m)
+      first-in = has (parts m e f .0) of-first
+
+      second-in : List·Memᴰ (parts m e f .1) (directed m)
+      second-in = has (parts m e f .1) of-second
+
+      only : (z : Dart) → List·Memᴰ z (directed m) → leaves m z ≡ at → (z ≡ rev (parts m e f .0)) ⊎ (z ≡ parts m e f .1)
+      only z k q = third (departures m at) (same-true _ _ (found-joint .1)) (λ r. two (ap (λ (x : Dart). x .edge) r))
+          (departing m at (has (rev (parts m e f .0)) of-first) (meets .arrives)) (departing m at second-in (meets .departs)) (departing m at k q)
+
+      turned : (z : Dart) → rev z ≢ z
+      turned z q = go (z .back) (ap (λ (x : Dart). x .back) q)
+        where
+          go : (b : Bool) → not b ≡ b → ⊥
+          go true r = false≢true r
+          go false r = true≢false r
+
+      from : leaves m (parts m e f .0) ≢ at
+      from q = elim (only (parts m e f .0) first-in q) [ inl r ↦ turned (parts m e f .0) (sym r) | inr r ↦ two (ap (λ (x : Dart). x .edge) r) ]
+
+      to : leaves m (rev (parts m e f .1)) ≢ at
+      to q = elim (only (rev (parts m e f .1)) (has (rev (parts m e f .1)) of-second) q) [
+        | inl r ↦ two (sym (ap (λ (x : Dart). x .edge) r))
+        | inr r ↦ turned (parts m e f .1) r
+      ]

@@ -1,0 +1,442 @@
+-- What holds of a ticket that nothing turns down: for each kind the facts, from `firstReason .. ≡ 0`. Assumes nothing.
+use mathlib.Core.Path.{_≡_, refl, sym, ap}
+use mathlib.Core.Bool.{Bool, true, false, not, _&&_, _||_, true≢false}
+use mathlib.Core.List.{List, [], _∷_, _++_, List·Memᴰ, List·Memᴰ·cases-cons, List·Memᴰ·not-nil}
+use mathlib.Core.Logic.{_⊎_, inl, inr, _≢_}
+use mathlib.Core.Option.{Option·getD}
+use Prim.Native.Nat.{ℕ, suc, _+_, _/_, _≤_}
+use native.Mathlib.Omega.{arith}
+use borrow.Author.Tests.{ltb-false, leb-true, not-true, not-false}
+use lib.Dec.{leb, ltb}
+use lib.IntN.{ℤ, pos, negsuc, natAbs}
+use lib.ListN.{length}
+use lib.Signed.{nonNeg}
+use Rattle.lists.specs.Tests.{same, bit}
+use Rattle.lists.specs.Scans.{all, isSome}
+use Rattle.lists.proofs.Bools.{same-true, differ}
+use Rattle.plane.specs.declared.Point.{Point}
+use Rattle.plane.specs.Points.{InRange, samePoint, maxCoordinate}
+use Rattle.curves.specs.Curves.{Curve, points, pointsOf, lastPoint, startWay, endWay, point, curveOf, coordinate, isRun, maxPoints}
+use Rattle.curves.specs.Tests.{neighboursDiffer, straightInside, onCurve, isSimple}
+use Rattle.geometry.proofs.Booleans.{and-true, or-false}
+use Rattle.geometry.proofs.Meeting.{samePoint-true}
+use Rattle.map.specs.Limits.{lastNumber}
+use Rattle.map.specs.Rows.{Map, Sizes, node, edge, hasNode, hasEdge, withoutNode, withoutEdge}
+use Rattle.map.specs.Darts.{edgeEnds}
+use Rattle.map.specs.Links.{cornerFace}
+use Rattle.map.specs.Tickets.{AddIsoNode, MoveIsoNode, RemoveIsoNode, AddIsoEdge, RemoveIsoEdge, ChangeEdgeGeom, NewEdgesSplit, ModEdgeSplit, NewEdgeHeal, ModEdgeHeal, AddEdgeNewFaces, AddEdgeModFace, RemEdgeNewFace, RemEdgeModFace}
+use Rattle.map.specs.Edits.{sharedNodes, joint, healedCurve, splitsFace, makesFace}
+use Rattle.map.specs.Reasons.{Reasons, firstReason, reasons, noNode, noEdge, outside, endsDiffer, isolated, edgeIsolated, nodeAt, edgeThrough, directionTaken, containingDiffer, cornersDiffer, nodeInside, edgeWrong, orderChanges, full, spent, splitReasons, healReasons, addEdgeReasons}
+
+-- no reason: the first does not hold, nor do the others
+pub no-reason : (n : ℕ) (b : Bool) (rs : Reasons) → firstReason ((suc n, b) ∷ rs) ≡ 0 → (b ≡ false) × (firstReason rs ≡ 0)
+unfolding firstReason
+no-reason n true rs h = absurd (omega arith)
+no-reason n false rs h = (refl, h)
+
+-- ---- the facts
+
+-- the rows after the edit fit the tables
+pub record Room (s : Sizes) (m : Map) (a b c : ℕ) : Type 0 where
+  pub nodes : length (m .nodes) + a ≤ s .nodes
+  pub edges : length (m .edges) + b ≤ s .edges
+  pub faces : length (m .faces) + c ≤ s .faces
+
+-- there are numbers left for the new rows
+pub record Supply (m : Map) (a b c : ℕ) : Type 0 where
+  pub nodes : m .nextNode + a ≤ suc lastNumber
+  pub edges : m .nextEdge + b ≤ suc lastNumber
+  pub faces : m .nextFace + c ≤ suc lastNumber
+
+-- a curve from the node u to the node v
+pub record Sent (m : Map) (c : Curve) (u v : ℕ) : Type 0 where
+  pub least : 2 ≤ length (points c)
+  pub most : length (points c) ≤ maxPoints
+  pub in-range : (p : Point) → List·Memᴰ p (points c) → InRange p
+  pub differ : neighboursDiffer c ≡ true
+  pub bent : straightInside c ≡ false
+  pub simple : isSimple c ≡ true
+  pub start : c .first ≡ node m u .at
+  pub end : lastPoint c ≡ node m v .at
+
+-- kind 1
+pub record AddNode (s : Sizes) (m : Map) (p : Point) : Type 0 where
+  pub in-range : InRange p
+  pub free : nodeAt (m .nodes) p ≡ false
+  pub off : edgeThrough m p ≡ false
+  pub room : Room s m 1 0 0
+  pub supply : Supply m 1 0 0
+
+-- kind 2
+pub record MoveNode (m : Map) (n : ℕ) (p : Point) : Type 0 where
+  pub has : hasNode m n ≡ true
+  pub in-range : InRange p
+  pub isolated : isolated m n ≡ true
+  pub free : nodeAt (withoutNode n (m .nodes)) p ≡ false
+  pub off : edgeThrough m p ≡ false
+
+-- kind 3
+pub record RemoveNode (m : Map) (n : ℕ) : Type 0 where
+  pub has : hasNode m n ≡ true
+  pub isolated : isolated m n ≡ true
+
+-- kind 4
+pub record AddLone (s : Sizes) (m : Map) (u v : ℕ) (c : Curve) : Type 0 where
+  pub has-start : hasNode m u ≡ true
+  pub has-end : hasNode m v ≡ true
+  pub sent : Sent m c u v
+  pub differ : u ≢ v
+  pub isolated-start : isolated m u ≡ true
+  pub isolated-end : isolated m v ≡ true
+  pub one-face : Option·getD (node m u .face) 0 ≡ Option·getD (node m v .face) 0
+  pub nodes-off : nodeInside m c ≡ false
+  pub clear : edgeWrong (m .edges) c ≡ false
+  pub room : Room s m 0 1 0
+  pub supply : Supply m 0 1 0
+
+-- kind 5
+pub record RemoveLone (m : Map) (e : ℕ) : Type 0 where
+  pub has : hasEdge m e ≡ true
+  pub differ : edge m e .start ≢ edge m e .end
+  pub start-alone : edgeEnds m (edge m e .start) ≡ 1
+  pub end-alone : edgeEnds m (edge m e .end) ≡ 1
+
+-- kind 6
+pub record Change (m : Map) (e : ℕ) (c : Curve) : Type 0 where
+  pub has : hasEdge m e ≡ true
+  pub sent : Sent m c (edge m e .start) (edge m e .end)
+  pub ways-free : directionTaken m e (edge m e .start) (edge m e .end) c ≡ false
+  pub nodes-off : nodeInside m c ≡ false
+  pub clear : edgeWrong (withoutEdge e (m .edges)) c ≡ false
+  pub order : orderChanges m e c ≡ false
+
+-- kinds 7 (2 new numbers) and 8 (1)
+pub record Split (more : ℕ) (s : Sizes) (m : Map) (e : ℕ) (p : Point) : Type 0 where
+  pub has : hasEdge m e ≡ true
+  pub in-range : InRange p
+  pub free : nodeAt (m .nodes) p ≡ false
+  pub on : onCurve (edge m e .curve) p ≡ true
+  pub room : Room s m 1 1 0
+  pub supply : Supply m 1 more 0
+
+-- kinds 9 and 10
+pub record Heal (m : Map) (e f : ℕ) : Type 0 where
+  pub has : hasEdge m e ≡ true
+  pub has-other : hasEdge m f ≡ true
+  pub differ : e ≢ f
+  pub joint : isSome (joint m e f) ≡ true
+  pub most : length (points (healedCurve m e f)) ≤ maxPoints
+
+-- how many new faces an edge that splits one takes: 11 takes two, unless it is face 0
+abbrev pub newFaces : Bool → Map → ℕ → ℕ → Curve → ℕ
+newFaces news m u v c = bit (splitsFace u v c m) + bit (splitsFace u v c m && news && not (same (cornerFace m u (startWay c)) 0))
+
+-- kinds 11 (news) and 12
+pub record AddEdge (news : Bool) (s : Sizes) (m : Map) (u v : ℕ) (c : Curve) : Type 0 where
+  pub has-start : hasNode m u ≡ true
+  pub has-end : hasNode m v ≡ true
+  pub sent : Sent m c u v
+  pub ways-free : directionTaken m (m .nextEdge) u v c ≡ false
+  pub one-face : cornerFace m u (startWay c) ≡ cornerFace m v (endWay c)
+  pub nodes-off : nodeInside m c ≡ false
+  pub clear : edgeWrong (m .edges) c ≡ false
+  pub room : Room s m 0 1 (bit (splitsFace u v c m))
+  pub supply : Supply m 0 1 (newFaces news m u v c)
+
+-- kind 13
+pub record RemoveEdge (m : Map) (e : ℕ) : Type 0 where
+  pub has : hasEdge m e ≡ true
+  pub supply : Supply m 0 0 (bit (makesFace true e m))
+
+-- ---- what the conditions say
+
+has-node : (m : Map) (z : ℤ) → noNode m z ≡ false → hasNode m (natAbs z) ≡ true
+has-node m z h = and-true (nonNeg z) (hasNode m (natAbs z)) (not-false (nonNeg z && hasNode m (natAbs z)) h) .1
+
+has-edge : (m : Map) (z : ℤ) → noEdge m z ≡ false → hasEdge m (natAbs z) ≡ true
+has-edge m z h = and-true (nonNeg z) (hasEdge m (natAbs z)) (not-false (nonNeg z && hasEdge m (natAbs z)) h) .1
+
+coordinate-most : (z : ℤ) → coordinate z ≡ true → natAbs z ≤ maxCoordinate
+coordinate-most (pos n) h = leb-true n maxCoordinate (and-true (leb 0 n) (leb n maxCoordinate) h .1)
+coordinate-most (negsuc n) h = absurd (true≢false (sym h))
+
+inside : (x y : ℤ) → outside x y ≡ false → InRange (point x y)
+inside x y h = let k = and-true (coordinate x) (coordinate y) (not-false (coordinate x && coordinate y) h) in record { x = coordinate-most x (k .0); y = coordinate-most y (k .1) }
+
+points-count : (l : List ℤ) → length (pointsOf l) ≡ length l / 2
+points-count [] = refl
+points-count (x ∷ []) = refl
+points-count (x ∷ y ∷ l) = let ih = points-count l in omega arith
+
+points-in-range : (l : List ℤ) → all coordinate l ≡ true → (p : Point) → List·Memᴰ p (pointsOf l) → InRange p
+points-in-range [] h p k = absurd (List·Memᴰ·not-nil k)
+points-in-range (x ∷ []) h p k = absurd (List·Memᴰ·not-nil k)
+points-in-range (x ∷ y ∷ l) h p k = step (points-in-range l (h₂ .1) p) (List·Memᴰ·cases-cons k)
+  where
+    h₁ : (coordinate x ≡ true) × (all coordinate (y ∷ l) ≡ true)
+    h₁ = and-true (coordinate x) (all coordinate (y ∷ l)) h
+
+    h₂ : (coordinate y ≡ true) × (all coordinate l ≡ true)
+    h₂ = and-true (coordinate y) (all coordinate l) (h₁ .1)
+
+    step : (List·Memᴰ p (pointsOf l) → InRange p) → (p ≡ point x y) ⊎ List·Memᴰ p (pointsOf l) → InRange p
+    step ih (inl e) = rw e (record { x = coordinate-most x (h₁ .0); y = coordinate-most y (h₂ .0) })
+    step ih (inr j) = ih j
+
+-- the points of a run are the curve's
+run-points : (l : List ℤ) → isRun l ≡ true → points (curveOf l) ≡ pointsOf l
+unfolding isRun curveOf
+run-points [] h = absurd (true≢false (sym h))
+run-points (x ∷ []) h = absurd (true≢false (sym h))
+run-points (x ∷ y ∷ l) h = refl
+
+-- 2 to 12 points in range
+record Run (l : List ℤ) : Type 0 where
+  least : 2 ≤ length l / 2
+  most : length l / 2 ≤ maxPoints
+  coordinates : all coordinate l ≡ true
+
+run : (l : List ℤ) → isRun l ≡ true → Run l
+unfolding isRun
+run l h =
+    let k = and-true (leb 2 (length l / 2) && leb (length l / 2) maxPoints) (all coordinate l) h in
+    let j = and-true (leb 2 (length l / 2)) (leb (length l / 2) maxPoints) (k .0) in
+    record { least = leb-true 2 (length l / 2) (j .0); most = leb-true (length l / 2) maxPoints (j .1); coordinates = k .1 }
+
+-- 5 to 8, and what follows them
+sent : (m : Map) (l : List ℤ) (u v : ℕ) (rest : Reasons) → firstReason ((5, not (isRun l)) ∷ (6, not (neighboursDiffer (curveOf l)) || straightInside (curveOf l)) ∷ (7, not (isSimple (curveOf l))) ∷ (8, endsDiffer m (curveOf l) u v) ∷ rest) ≡ 0 → Sent m (curveOf l) u v × (firstReason rest ≡ 0)
+sent m l u v rest h =
+    let c = curveOf l in
+    let h₅ = no-reason 4 (not (isRun l)) _ h in
+    let h₆ = no-reason 5 (not (neighboursDiffer c) || straightInside c) _ (h₅ .1) in
+    let h₇ = no-reason 6 (not (isSimple c)) _ (h₆ .1) in
+    let h₈ = no-reason 7 (endsDiffer m c u v) rest (h₇ .1) in
+    let is = not-false (isRun l) (h₅ .0) in
+    let r = run l is in
+    let e = run-points l is in
+    let n = points-count l in
+    let bends = or-false (not (neighboursDiffer c)) (straightInside c) (h₆ .0) in
+    let ends = and-true (samePoint (c .first) (node m u .at)) (samePoint (lastPoint c) (node m v .at)) (not-false (samePoint (c .first) (node m u .at) && samePoint (lastPoint c) (node m v .at)) (h₈ .0)) in (
+      record {
+        least = omega (arith, r .least, ap length e);
+        most = omega (arith, r .most, ap length e);
+        in-range = rw e (points-in-range l (r .coordinates));
+        differ = not-false (neighboursDiffer c) (bends .0);
+        bent = bends .1;
+        simple = not-false (isSimple c) (h₇ .0);
+        start = samePoint-true (c .first) (node m u .at) (ends .0);
+        end = samePoint-true (lastPoint c) (node m v .at) (ends .1);
+      },
+      h₈ .1,
+    )
+
+room : (s : Sizes) (m : Map) (a b c : ℕ) → full s m a b c ≡ false → Room s m a b c
+room s m a b c h =
+    let h₁ = or-false (ltb (s .nodes) (length (m .nodes) + a) || ltb (s .edges) (length (m .edges) + b)) (ltb (s .faces) (length (m .faces) + c)) h in
+    let h₂ = or-false (ltb (s .nodes) (length (m .nodes) + a)) (ltb (s .edges) (length (m .edges) + b)) (h₁ .0) in
+    record {
+      nodes = ltb-false (s .nodes) (length (m .nodes) + a) (h₂ .0);
+      edges = ltb-false (s .edges) (length (m .edges) + b) (h₂ .1);
+      faces = ltb-false (s .faces) (length (m .faces) + c) (h₁ .1);
+    }
+
+supply : (m : Map) (a b c : ℕ) → spent m a b c ≡ false → Supply m a b c
+supply m a b c h =
+    let h₁ = or-false (ltb (suc lastNumber) (m .nextNode + a) || ltb (suc lastNumber) (m .nextEdge + b)) (ltb (suc lastNumber) (m .nextFace + c)) h in
+    let h₂ = or-false (ltb (suc lastNumber) (m .nextNode + a)) (ltb (suc lastNumber) (m .nextEdge + b)) (h₁ .0) in
+    record {
+      nodes = ltb-false (suc lastNumber) (m .nextNode + a) (h₂ .0);
+      edges = ltb-false (suc lastNumber) (m .nextEdge + b) (h₂ .1);
+      faces = ltb-false (suc lastNumber) (m .nextFace + c) (h₁ .1);
+    }
+
+-- ---- the kinds
+
+module _ (s : Sizes) (m : Map) where
+  pub add-node : (f x y : ℤ) → firstReason (reasons s m (AddIsoNode f x y)) ≡ 0 → AddNode s m (point x y)
+  unfolding reasons
+  add-node f x y h =
+      let h₄ = no-reason 3 _ _ h in
+      let h₅ = no-reason 4 (outside x y) _ (h₄ .1) in
+      let h₁₀ = no-reason 9 (nodeAt (m .nodes) (point x y) || edgeThrough m (point x y)) _ (h₅ .1) in
+      let h₁₂ = no-reason 11 _ _ (h₁₀ .1) in
+      let h₂₀ = no-reason 19 (full s m 1 0 0) _ (h₁₂ .1) in
+      let h₂₁ = no-reason 20 (spent m 1 0 0) _ (h₂₀ .1) in
+      let apart = or-false (nodeAt (m .nodes) (point x y)) (edgeThrough m (point x y)) (h₁₀ .0) in
+      record { in-range = inside x y (h₅ .0); free = apart .0; off = apart .1; room = room s m 1 0 0 (h₂₀ .0); supply = supply m 1 0 0 (h₂₁ .0) }
+
+  pub move-node : (n x y : ℤ) → firstReason (reasons s m (MoveIsoNode n x y)) ≡ 0 → MoveNode m (natAbs n) (point x y)
+  unfolding reasons
+  move-node n x y h =
+      let h₄ = no-reason 3 (noNode m n) _ h in
+      let h₅ = no-reason 4 (outside x y) _ (h₄ .1) in
+      let h₉ = no-reason 8 (not (isolated m (natAbs n))) _ (h₅ .1) in
+      let h₁₀ = no-reason 9 (nodeAt (withoutNode (natAbs n) (m .nodes)) (point x y) || edgeThrough m (point x y)) _ (h₉ .1) in
+      let apart = or-false (nodeAt (withoutNode (natAbs n) (m .nodes)) (point x y)) (edgeThrough m (point x y)) (h₁₀ .0) in
+      record { has = has-node m n (h₄ .0); in-range = inside x y (h₅ .0); isolated = not-false (isolated m (natAbs n)) (h₉ .0); free = apart .0; off = apart .1 }
+
+  pub remove-node : (n : ℤ) → firstReason (reasons s m (RemoveIsoNode n)) ≡ 0 → RemoveNode m (natAbs n)
+  unfolding reasons
+  remove-node n h =
+      let h₄ = no-reason 3 (noNode m n) _ h in
+      let h₉ = no-reason 8 (not (isolated m (natAbs n))) _ (h₄ .1) in
+      record { has = has-node m n (h₄ .0); isolated = not-false (isolated m (natAbs n)) (h₉ .0) }
+
+  pub add-lone : (u v : ℤ) (l : List ℤ) → firstReason (reasons s m (AddIsoEdge u v l)) ≡ 0 → AddLone s m (natAbs u) (natAbs v) (curveOf l)
+  unfolding reasons
+  add-lone u v l h =
+      let a = natAbs u in
+      let b = natAbs v in
+      let h₄ = no-reason 3 (noNode m u || noNode m v) _ h in
+      let h₅ = sent m l a b _ (h₄ .1) in
+      let h₉ = no-reason 8 (same a b || not (isolated m a && isolated m b)) _ (h₅ .1) in
+      let h₁₂ = no-reason 11 (containingDiffer m a b) _ (h₉ .1) in
+      let h₁₄ = no-reason 13 (nodeInside m (curveOf l)) _ (h₁₂ .1) in
+      let h₁₅ = no-reason 14 (edgeWrong (m .edges) (curveOf l)) _ (h₁₄ .1) in
+      let h₂₀ = no-reason 19 (full s m 0 1 0) _ (h₁₅ .1) in
+      let h₂₁ = no-reason 20 (spent m 0 1 0) _ (h₂₀ .1) in
+      let rows = or-false (noNode m u) (noNode m v) (h₄ .0) in
+      let alone = or-false (same a b) (not (isolated m a && isolated m b)) (h₉ .0) in
+      let both = and-true (isolated m a) (isolated m b) (not-false (isolated m a && isolated m b) (alone .1)) in
+      record {
+        has-start = has-node m u (rows .0);
+        has-end = has-node m v (rows .1);
+        sent = h₅ .0;
+        differ = differ a b (alone .0);
+        isolated-start = both .0;
+        isolated-end = both .1;
+        one-face = same-true _ _ (not-false (same (Option·getD (node m a .face) 0) (Option·getD (node m b .face) 0)) (h₁₂ .0));
+        nodes-off = h₁₄ .0;
+        clear = h₁₅ .0;
+        room = room s m 0 1 0 (h₂₀ .0);
+        supply = supply m 0 1 0 (h₂₁ .0);
+      }
+
+  pub remove-lone : (e : ℤ) → firstReason (reasons s m (RemoveIsoEdge e)) ≡ 0 → RemoveLone m (natAbs e)
+  unfolding reasons edgeIsolated
+  remove-lone e h =
+      let r = edge m (natAbs e) in
+      let h₄ = no-reason 3 (noEdge m e) _ h in
+      let h₉ = no-reason 8 (not (edgeIsolated m (natAbs e))) _ (h₄ .1) in
+      let k₁ = and-true (not (same (r .start) (r .end)) && same (edgeEnds m (r .start)) 1) (same (edgeEnds m (r .end)) 1) (not-false (edgeIsolated m (natAbs e)) (h₉ .0)) in
+      let k₂ = and-true (not (same (r .start) (r .end))) (same (edgeEnds m (r .start)) 1) (k₁ .0) in
+      record {
+        has = has-edge m e (h₄ .0);
+        differ = differ (r .start) (r .end) (not-true (same (r .start) (r .end)) (k₂ .0));
+        start-alone = same-true (edgeEnds m (r .start)) 1 (k₂ .1);
+        end-alone = same-true (edgeEnds m (r .end)) 1 (k₁ .1);
+      }
+
+  pub change : (e : ℤ) (l : List ℤ) → firstReason (reasons s m (ChangeEdgeGeom e l)) ≡ 0 → Change m (natAbs e) (curveOf l)
+  unfolding reasons
+  change e l h =
+      let a = edge m (natAbs e) .start in
+      let b = edge m (natAbs e) .end in
+      let h₄ = no-reason 3 (noEdge m e) _ h in
+      let h₅ = sent m l a b _ (h₄ .1) in
+      let h₁₁ = no-reason 10 (directionTaken m (natAbs e) a b (curveOf l)) _ (h₅ .1) in
+      let h₁₄ = no-reason 13 (nodeInside m (curveOf l)) _ (h₁₁ .1) in
+      let h₁₅ = no-reason 14 (edgeWrong (withoutEdge (natAbs e) (m .edges)) (curveOf l)) _ (h₁₄ .1) in
+      let h₁₉ = no-reason 18 (orderChanges m (natAbs e) (curveOf l)) _ (h₁₅ .1) in
+      record { has = has-edge m e (h₄ .0); sent = h₅ .0; ways-free = h₁₁ .0; nodes-off = h₁₄ .0; clear = h₁₅ .0; order = h₁₉ .0 }
+
+  split : (more : ℕ) (e x y : ℤ) → firstReason (splitReasons more s m e x y) ≡ 0 → Split more s m (natAbs e) (point x y)
+  split more e x y h =
+      let h₄ = no-reason 3 (noEdge m e) _ h in
+      let h₅ = no-reason 4 (outside x y) _ (h₄ .1) in
+      let h₁₀ = no-reason 9 (nodeAt (m .nodes) (point x y)) _ (h₅ .1) in
+      let h₁₃ = no-reason 12 (not (onCurve (edge m (natAbs e) .curve) (point x y))) _ (h₁₀ .1) in
+      let h₂₀ = no-reason 19 (full s m 1 1 0) _ (h₁₃ .1) in
+      let h₂₁ = no-reason 20 (spent m 1 more 0) _ (h₂₀ .1) in
+      record {
+        has = has-edge m e (h₄ .0);
+        in-range = inside x y (h₅ .0);
+        free = h₁₀ .0;
+        on = not-false (onCurve (edge m (natAbs e) .curve) (point x y)) (h₁₃ .0);
+        room = room s m 1 1 0 (h₂₀ .0);
+        supply = supply m 1 more 0 (h₂₁ .0);
+      }
+
+  pub split-new : (e x y : ℤ) → firstReason (reasons s m (NewEdgesSplit e x y)) ≡ 0 → Split 2 s m (natAbs e) (point x y)
+  unfolding reasons
+  split-new e x y h = split 2 e x y h
+
+  pub split-mod : (e x y : ℤ) → firstReason (reasons s m (ModEdgeSplit e x y)) ≡ 0 → Split 1 s m (natAbs e) (point x y)
+  unfolding reasons
+  split-mod e x y h = split 1 e x y h
+
+  heals : (e f : ℤ) (rest : Reasons) → firstReason (healReasons m e f ++ rest) ≡ 0 → Heal m (natAbs e) (natAbs f) × (firstReason rest ≡ 0)
+  heals e f rest h =
+      let a = natAbs e in
+      let b = natAbs f in
+      let h₄ = no-reason 3 (noEdge m e || noEdge m f) _ h in
+      let h₁₆ = no-reason 15 (same a b || same (length (sharedNodes m a b)) 0) _ (h₄ .1) in
+      let h₁₇ = no-reason 16 (not (isSome (joint m a b))) _ (h₁₆ .1) in
+      let h₁₈ = no-reason 17 (ltb maxPoints (length (points (healedCurve m a b)))) rest (h₁₇ .1) in
+      let rows = or-false (noEdge m e) (noEdge m f) (h₄ .0) in (
+        record {
+          has = has-edge m e (rows .0);
+          has-other = has-edge m f (rows .1);
+          differ = differ a b (or-false (same a b) (same (length (sharedNodes m a b)) 0) (h₁₆ .0) .0);
+          joint = not-false (isSome (joint m a b)) (h₁₇ .0);
+          most = ltb-false maxPoints (length (points (healedCurve m a b))) (h₁₈ .0);
+        },
+        h₁₈ .1,
+      )
+
+  pub heal-new : (e f : ℤ) → firstReason (reasons s m (NewEdgeHeal e f)) ≡ 0 → Heal m (natAbs e) (natAbs f) × Supply m 0 1 0
+  unfolding reasons
+  heal-new e f h = let k = heals e f _ h in (k .0, supply m 0 1 0 (no-reason 20 (spent m 0 1 0) [] (k .1) .0))
+
+  pub heal-mod : (e f : ℤ) → firstReason (reasons s m (ModEdgeHeal e f)) ≡ 0 → Heal m (natAbs e) (natAbs f)
+  unfolding reasons
+  heal-mod e f h = heals e f [] h .0
+
+  corners : (u v : ℕ) (c : Curve) → cornersDiffer m u v c ≡ false → cornerFace m u (startWay c) ≡ cornerFace m v (endWay c)
+  unfolding cornersDiffer
+  corners u v c h = same-true _ _ (not-false (same (cornerFace m u (startWay c)) (cornerFace m v (endWay c))) h)
+
+  add : (news : Bool) (u v : ℤ) (l : List ℤ) → firstReason (addEdgeReasons news s m u v l) ≡ 0 → AddEdge news s m (natAbs u) (natAbs v) (curveOf l)
+  add news u v l h =
+      let a = natAbs u in
+      let b = natAbs v in
+      let c = curveOf l in
+      let h₄ = no-reason 3 (noNode m u || noNode m v) _ h in
+      let h₅ = sent m l a b _ (h₄ .1) in
+      let h₁₁ = no-reason 10 (directionTaken m (m .nextEdge) a b c) _ (h₅ .1) in
+      let h₁₂ = no-reason 11 (cornersDiffer m a b c) _ (h₁₁ .1) in
+      let h₁₄ = no-reason 13 (nodeInside m c) _ (h₁₂ .1) in
+      let h₁₅ = no-reason 14 (edgeWrong (m .edges) c) _ (h₁₄ .1) in
+      let h₂₀ = no-reason 19 (full s m 0 1 (bit (splitsFace a b c m))) _ (h₁₅ .1) in
+      let h₂₁ = no-reason 20 (spent m 0 1 (newFaces news m a b c)) _ (h₂₀ .1) in
+      let rows = or-false (noNode m u) (noNode m v) (h₄ .0) in
+      record {
+        has-start = has-node m u (rows .0);
+        has-end = has-node m v (rows .1);
+        sent = h₅ .0;
+        ways-free = h₁₁ .0;
+        one-face = corners a b c (h₁₂ .0);
+        nodes-off = h₁₄ .0;
+        clear = h₁₅ .0;
+        room = room s m 0 1 (bit (splitsFace a b c m)) (h₂₀ .0);
+        supply = supply m 0 1 (newFaces news m a b c) (h₂₁ .0);
+      }
+
+  pub add-new : (u v : ℤ) (l : List ℤ) → firstReason (reasons s m (AddEdgeNewFaces u v l)) ≡ 0 → AddEdge true s m (natAbs u) (natAbs v) (curveOf l)
+  unfolding reasons
+  add-new u v l h = add true u v l h
+
+  pub add-mod : (u v : ℤ) (l : List ℤ) → firstReason (reasons s m (AddEdgeModFace u v l)) ≡ 0 → AddEdge false s m (natAbs u) (natAbs v) (curveOf l)
+  unfolding reasons
+  add-mod u v l h = add false u v l h
+
+  pub remove-new : (e : ℤ) → firstReason (reasons s m (RemEdgeNewFace e)) ≡ 0 → RemoveEdge m (natAbs e)
+  unfolding reasons
+  remove-new e h =
+      let h₄ = no-reason 3 (noEdge m e) _ h in
+      let h₂₁ = no-reason 20 (spent m 0 0 (bit (makesFace true (natAbs e) m))) _ (h₄ .1) in
+      record { has = has-edge m e (h₄ .0); supply = supply m 0 0 (bit (makesFace true (natAbs e) m)) (h₂₁ .0) }
+
+  pub remove-mod : (e : ℤ) → firstReason (reasons s m (RemEdgeModFace e)) ≡ 0 → hasEdge m (natAbs e) ≡ true
+  unfolding reasons
+  remove-mod e h = has-edge m e (no-reason 3 (noEdge m e) _ h .0)

@@ -1,0 +1,2 @@
+-- `Good`: what holds of every grown map, more than Sound, so that each ticket keeps it.
+pub mod Good
