@@ -11,7 +11,6 @@ use Rattle.planar.specs.Map.{Dart, rev}
 use Rattle.planar.specs.Rings.{sameDart}
 use Rattle.planar.proofs.Rings.{rev-in, sameDart-refl}
 use Rattle.planar.proofs.Turns.{rev-rev}
-use Rattle.map.specs.Limits.{maxNodes, maxEdges, maxFaces}
 use Rattle.map.specs.Rows.{Map, Lent, Sizes, emptyMap, mapOf, lentOf, sizesOf, whole}
 use Rattle.map.specs.Darts.{arcs, directed, leaves, next, bears, departures}
 use Rattle.map.specs.Form.{inForm}
@@ -22,7 +21,7 @@ use Rattle.map.specs.Ticket.{carried, lentReasons, unless, judged, ticket}
 use Rattle.map.specs.Grow.{after, grow}
 use Rattle.map.specs.Sound.{Sound}
 use Rattle.grown.specs.Good.{Good, Fits}
-use Rattle.grown.specs.Claims.{GrownMap, Grows, Limited, NeverLent}
+use Rattle.grown.specs.Claims.{GrownMap, Grows, NeverLent}
 use Rattle.grown.proofs.Reasons.{no-reason}
 use Rattle.grown.proofs.Scanning.{each-all}
 use Rattle.grown.proofs.Readings.{departing}
