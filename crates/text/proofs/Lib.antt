@@ -1,4 +1,5 @@
--- `Words`: words from a place of a line on. `Values`: the value of digits. `Numbers`: a line's numbers, read one after the other.
+-- `Words`: words from a place of a line on. `Values`: the value of digits. `Signs`: a word as a number. `Numbers`: a line's numbers, read one after the other.
 pub mod Words
 pub mod Values
+pub mod Signs
 pub mod Numbers

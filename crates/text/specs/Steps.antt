@@ -3,7 +3,7 @@ use mathlib.Core.Path.{_≡_}
 use mathlib.Core.Bool.{Bool, true, false, cond, not, _&&_}
 use mathlib.Core.List.{List, []}
 use mathlib.Core.Option.{Option, none, some}
-use Prim.Native.Nat.{ℕ, _+_, _*_, _-_, _≤_, _<_}
+use Prim.Native.Nat.{ℕ, _+_, _*_, _-_, _^_, _≤_, _<_}
 use lib.Dec.{leb}
 use lib.IntN.{ℤ}
 use lib.ListN.{length, getD, drop}
@@ -33,6 +33,10 @@ step n b = n * 10 + (b - 48)
 -- what ten digit steps from at most 922337203685477580 can reach
 abbrev pub reach : ℕ
 reach = 9223372036854775809
+
+-- the largest magnitude with a sign
+abbrev pub most : Bool → ℕ
+most minus = cond minus (2 ^ 63) (2 ^ 63 - 1)
 
 unfoldable pub magnitudeOf : List ℕ → Magnitude
 magnitudeOf ds = cond (all digit ds && leb (valueOf ds) reach) (M.Value (valueOf ds)) M.Wrong

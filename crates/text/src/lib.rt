@@ -6,7 +6,7 @@ ghost use lib.IntN.{pos, negℤ};
 ghost use lib.ListN.{length, getD};
 ghost use Rattle.text.specs.Lines.{lineNumbers, blank, numberOf, signedNumber, words, numbersOf};
 ghost use Rattle.text.specs.Parsed.{ParsedAs};
-ghost use Rattle.text.specs.Steps.{Run, magnitudeOf, numberAs, NextAs, parsedOf, Room, written};
+ghost use Rattle.text.specs.Steps.{Run, most, magnitudeOf, numberAs, NextAs, parsedOf, Room, written};
 
 // How many numbers a line has, or that it is wrong.
 pub enum Parsed {
@@ -83,8 +83,18 @@ fn magnitude_of(digits: &[u8]) -> Magnitude
     Magnitude::Value(n)
 }
 
+fn most_of(minus: bool) -> u64
+    ensures { λ r. ⌜ r ≡ most minus ⌝ }
+{
+    if minus {
+        9223372036854775808
+    } else {
+        9223372036854775807
+    }
+}
+
 fn with_sign(minus: bool, n: u64) -> i64
-    requires { ⌜ n ≤ cond minus (2 ^ 63) (2 ^ 63 - 1) ⌝ }
+    requires { ⌜ n ≤ most minus ⌝ }
     ensures { λ r. ⌜ r ≡ cond minus (negℤ (pos n)) (pos n) ⌝ }
 {
     if !minus {
@@ -105,8 +115,7 @@ fn signed(minus: bool, digits: &[u8]) -> Number
     let Magnitude::Value(n) = magnitude_of(digits) else {
         return Number::Wrong;
     };
-    let most: u64 = if minus { 9223372036854775808 } else { 9223372036854775807 };
-    if n <= most {
+    if n <= most_of(minus) {
         Number::Value(with_sign(minus, n))
     } else {
         Number::Wrong

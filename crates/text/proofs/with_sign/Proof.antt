@@ -9,6 +9,7 @@ use mir.Val.{SFits, toZ, ofZ}
 use mir.Facts.{toZ-pos, toZ-ofZ}
 use borrow.Author.Needs.{needs}
 use borrow.Author.Tests.{not-true, not-false}
+use Rattle.text.specs.Steps.{most}
 use Rattle.text.proofs.with_sign.Statement.{statement}
 use Rattle.text.proofs.with_sign.Tie as tie
 
@@ -27,7 +28,7 @@ module _ (m : ℕ) (h : m < 2 ^ 63) where
   below-is : (n : ℕ) (minus : Bool) → minus ≡ true → n ≡ suc m → toZ w64 (ofZ w64 (negsuc 0 -ℤ toZ w64 m)) ≡ cond minus (negℤ (pos n)) (pos n)
   below-is n minus e f = toZ-ofZ below-fits ∙ below ∙ rw (e, f)
 
-module _ (n : ℕ) (minus : Bool) (pre : n ≤ cond minus (2 ^ 63) (2 ^ 63 - 1)) where
+module _ (n : ℕ) (minus : Bool) (pre : n ≤ most minus) where
   plus-fits : minus ≡ false → n < 2 ^ 63
   plus-fits e = let h : n ≤ 2 ^ 63 - 1 = rw e at pre in omega arith
 
