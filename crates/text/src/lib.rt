@@ -170,8 +170,8 @@ fn count_numbers(line: &[u8]) -> Parsed
     }
 }
 
-fn write_numbers(line: &[u8], list: &mut [i64; 500])
-    requires { ⌜ Room 500 0 (numbersOf (words (now line))) ⌝ }
+fn write_numbers(line: &[u8], list: &mut [i64])
+    requires { ⌜ Room (length (now list)) 0 (numbersOf (words (now line))) ⌝ }
     ensures { λ r. ⌜ now (list .exit) ≡ written (now (list .entry)) 0 (numbersOf (words (now (line .entry)))) ⌝ }
 {
     let mut at = 0;

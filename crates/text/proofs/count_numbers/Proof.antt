@@ -11,9 +11,6 @@ use Rattle.text.specs.declared.Parsed.the-variants.{Numbers}
 use Rattle.text.proofs.Numbers.{parsed-more}
 use Rattle.text.proofs.count_numbers.Statement.{statement}
 use Rattle.text.proofs.count_numbers.Tie as tie
-use Rattle.text.proofs.count_numbers.Reads as reads
-use Rattle.text.proofs.count_numbers.Lts as lts
-use Rattle.text.proofs.read_next.Reads as read-next-reads
 
 abbrev Inv-loop : tie.InvT-loop
 Inv-loop line at₀ n₀ at n = (n ≤ at) × (at ≤ length line) × (parsedOf 0 (numbersOf (words line)) ≡ parsedOf n (numbersFrom line at))

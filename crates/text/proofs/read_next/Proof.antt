@@ -9,10 +9,6 @@ use Rattle.text.specs.declared.Number.the-variants.{Value}
 use Rattle.text.proofs.Numbers.{numbers-end, word-bytes, numbers-value, numbers-wrong}
 use Rattle.text.proofs.read_next.Statement.{statement}
 use Rattle.text.proofs.read_next.Tie as tie
-use Rattle.text.proofs.read_next.Reads as reads
-use Rattle.text.proofs.read_next.Lts as lts
-use Rattle.text.proofs.number_of.Reads as number-of-reads
-use Rattle.text.proofs.run_end.Reads as run-end-reads
 
 returns : tie.Need-returns
 returns c =

@@ -9,11 +9,6 @@ use Rattle.text.specs.declared.Number.the-variants.{Value}
 use Rattle.text.proofs.Signs.{signed-none, signed-wrong, signed-fits, signed-large}
 use Rattle.text.proofs.signed.Statement.{statement}
 use Rattle.text.proofs.signed.Tie as tie
-use Rattle.text.proofs.signed.Reads as reads
-use Rattle.text.proofs.signed.Lts as lts
-use Rattle.text.proofs.magnitude_of.Reads as magnitude-of-reads
-use Rattle.text.proofs.most_of.Reads as most-of-reads
-use Rattle.text.proofs.with_sign.Reads as with-sign-reads
 
 returns : tie.Need-returns
 returns c = let a = c .before .before .args in ap numberAs (sym (signed-none (a .minus) (a .digits .now) (c .if1 .taken)))
