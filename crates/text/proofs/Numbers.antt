@@ -2,18 +2,17 @@
 use mathlib.Core.Path.{_≡_, refl, sym, ap, _∙_, subst}
 use mathlib.Core.Bool.{true, false, true≢false}
 use mathlib.Core.Logic.{⊎-elim}
-use mathlib.Core.List.{List, [], _∷_, _++_}
+use mathlib.Core.List.{List, [], _∷_}
 use mathlib.Core.Option.{Option, none, some}
-use Prim.Native.Nat.{ℕ, zero, suc, _+_, _*_, _-_, _≤_, _<_}
-use native.Mathlib.Nat.{zero-add, eq-or-lt-of-le}
+use Prim.Native.Nat.{ℕ, suc, _+_, _-_, _≤_, _<_}
+use native.Mathlib.Nat.{eq-or-lt-of-le}
 use native.Mathlib.Numerals.{add-one}
 use native.Mathlib.Omega.{arith}
 use lib.IntN.{ℤ}
 use lib.ListN.{length, getD, set, take, drop, drop-of-length-le}
-use lib.Seq.{sets, sets-eq}
 use Rattle.text.specs.Lines.{blank, numberOf, consNumber, numbersOf, words}
 use Rattle.text.specs.Steps.{Run, numberAs, numbersFrom, parsedOf, Room, written}
-use Rattle.text.specs.declared.Parsed.the-variants.{Numbers, Wrong}
+use Rattle.text.specs.declared.Parsed.the-variants.{Numbers}
 use Rattle.text.specs.declared.Number.the-variants.{Value, Wrong as WrongNumber}
 use Rattle.text.proofs.Words.{skip-blanks, take-word, parted-at, words-few}
 
@@ -62,8 +61,8 @@ module _ (l : List ℕ) (at s : ℕ) (gap : Run l at true s) where
     numbers-word =
         let n : e - s ≡ suc (e - s - 1) = omega (arith, word-bytes) in
         ap numbersOf (
-          skip-blanks l (s - at) at s (omega (arith, gap .from)) (gap .within) (gap .run)
-          ∙ take-word l (e - s - 1) s e (omega (arith, word-bytes)) (word .within) (word .run) (parted-at l e (word .within) (word .ends))
+        skip-blanks l (s - at) at s (omega (arith, gap .from)) (gap .within) (gap .run)
+        ∙ take-word l (e - s - 1) s e (omega (arith, word-bytes)) (word .within) (word .run) (parted-at l e (word .within) (word .ends))
         )
         ∙ ap (λ (k : ℕ). consNumber (numberOf (take k (drop s l))) (numbersFrom l e)) (sym n)
 

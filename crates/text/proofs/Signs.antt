@@ -1,18 +1,17 @@
 -- A word as a number, by its magnitude and its first byte. Assumes nothing.
-use mathlib.Core.Path.{_≡_, refl, sym, ap, _∙_}
+use mathlib.Core.Path.{_≡_, refl, ap, _∙_}
 use mathlib.Core.Bool.{Bool, true, false, cond, _&&_}
 use mathlib.Core.List.{List, [], _∷_}
-use mathlib.Core.Option.{Option, none, some}
-use Prim.Native.Nat.{ℕ, zero, suc, _+_, _-_, _≤_, _<_}
+use mathlib.Core.Option.{none, some}
+use Prim.Native.Nat.{ℕ, _-_, _≤_, _<_}
 use native.Mathlib.Omega.{arith}
 use lib.Dec.{leb}
-use lib.IntN.{ℤ, pos, negℤ}
+use lib.IntN.{pos, negℤ}
 use lib.ListN.{length, getD, take, drop, length-drop}
 use lib.Seq.{take-all}
 use borrow.Author.Tests.{le-leb, lt-leb, leb-false}
-use Rattle.lists.specs.Tests.{same}
 use Rattle.lists.specs.Scans.{all}
-use Rattle.lists.proofs.Bools.{&&-false, same-eq, same-false}
+use Rattle.lists.proofs.Bools.{same-eq, same-false}
 use Rattle.text.specs.Lines.{digit, valueOf, signedNumber, numberOf}
 use Rattle.text.specs.Steps.{reach, most, magnitudeOf}
 use Rattle.text.specs.declared.Magnitude.the-variants.{Value, Wrong}

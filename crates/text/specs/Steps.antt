@@ -1,6 +1,6 @@
 -- What the steps of parsing answer.
 use mathlib.Core.Path.{_≡_}
-use mathlib.Core.Bool.{Bool, true, false, cond, not, _&&_}
+use mathlib.Core.Bool.{Bool, cond, not, _&&_}
 use mathlib.Core.List.{List, []}
 use mathlib.Core.Option.{Option, none, some}
 use Prim.Native.Nat.{ℕ, _+_, _*_, _-_, _^_, _≤_, _<_}
@@ -30,7 +30,7 @@ pub record Run (l : List ℕ) (at : ℕ) (blanks : Bool) (r : ℕ) : Type 0 wher
 abbrev pub step : ℕ → ℕ → ℕ
 step n b = n * 10 + (b - 48)
 
--- what ten digit steps from at most 922337203685477580 can reach
+-- what one digit more can make of 922337203685477580, the largest value that the code lets a digit follow
 abbrev pub reach : ℕ
 reach = 9223372036854775809
 
@@ -38,6 +38,7 @@ reach = 9223372036854775809
 abbrev pub most : Bool → ℕ
 most minus = cond minus (2 ^ 63) (2 ^ 63 - 1)
 
+-- the value of digits up to reach; what is larger fits with no sign
 unfoldable pub magnitudeOf : List ℕ → Magnitude
 magnitudeOf ds = cond (all digit ds && leb (valueOf ds) reach) (M.Value (valueOf ds)) M.Wrong
 
@@ -49,6 +50,7 @@ numberAs none = N.Wrong
 abbrev pub numbersFrom : List ℕ → ℕ → Option (List ℤ)
 numbersFrom l at = numbersOf (words (drop at l))
 
+-- the next number and the place after it, with the numbers from there on; or that none is left; or that a word is no number
 abbrev pub NextAs : List ℕ → ℕ → Next → Type 0
 NextAs l at (X.Number z e) = (at < e) × (e ≤ length l) × (numbersFrom l at ≡ consNumber (some z) (numbersFrom l e))
 NextAs l at X.End = numbersFrom l at ≡ some []

@@ -1,9 +1,9 @@
 // A ticket as a line of text.
 ghost use mathlib.Core.Path.{_≡_};
-ghost use mathlib.Core.Bool.{Bool, cond, not};
-ghost use Prim.Native.Nat.{ℕ, _≤_, _<_, _-_, _^_};
+ghost use mathlib.Core.Bool.{cond};
+ghost use Prim.Native.Nat.{_≤_};
 ghost use lib.IntN.{pos, negℤ};
-ghost use lib.ListN.{length, getD};
+ghost use lib.ListN.{length};
 ghost use Rattle.text.specs.Lines.{lineNumbers, blank, numberOf, signedNumber, words, numbersOf};
 ghost use Rattle.text.specs.Parsed.{ParsedAs};
 ghost use Rattle.text.specs.Steps.{Run, most, magnitudeOf, numberAs, NextAs, parsedOf, Room, written};
@@ -60,7 +60,7 @@ fn wide(b: u8) -> u64
     b as u64
 }
 
-// Each step keeps the value below ten times the bound that it tests.
+// The value of digits, while it can still fit 64 signed bits: the test before each step keeps the step from wrapping.
 fn magnitude_of(digits: &[u8]) -> Magnitude
     ensures { λ r. ⌜ r ≡ magnitudeOf (now (digits .entry)) ⌝ }
 {
@@ -83,6 +83,7 @@ fn magnitude_of(digits: &[u8]) -> Magnitude
     Magnitude::Value(n)
 }
 
+// The largest magnitude with a sign.
 fn most_of(minus: bool) -> u64
     ensures { λ r. ⌜ r ≡ most minus ⌝ }
 {
@@ -93,6 +94,7 @@ fn most_of(minus: bool) -> u64
     }
 }
 
+// A magnitude of 2^63 fits below 0 only, so a number below 0 is made of its magnitude less one.
 fn with_sign(minus: bool, n: u64) -> i64
     requires { ⌜ n ≤ most minus ⌝ }
     ensures { λ r. ⌜ r ≡ cond minus (negℤ (pos n)) (pos n) ⌝ }
@@ -106,6 +108,7 @@ fn with_sign(minus: bool, n: u64) -> i64
     -1 - ((n - 1) as i64)
 }
 
+// A sign and the bytes after it as a number.
 fn signed(minus: bool, digits: &[u8]) -> Number
     ensures { λ r. ⌜ r ≡ numberAs (signedNumber minus (now (digits .entry))) ⌝ }
 {
@@ -122,6 +125,7 @@ fn signed(minus: bool, digits: &[u8]) -> Number
     }
 }
 
+// A word as a number.
 fn number_of(word: &[u8]) -> Number
     ensures { λ r. ⌜ r ≡ numberAs (numberOf (now (word .entry))) ⌝ }
 {
@@ -138,6 +142,7 @@ fn number_of(word: &[u8]) -> Number
     signed(false, word)
 }
 
+// What stands from a place on.
 fn read_next(line: &[u8], at: usize) -> Next
     requires { ⌜ at ≤ length (now line) ⌝ }
     ensures { λ r. ⌜ NextAs (now (line .entry)) at r ⌝ }
@@ -153,6 +158,7 @@ fn read_next(line: &[u8], at: usize) -> Next
     }
 }
 
+// The first pass: whether each word is a number, and how many there are.
 fn count_numbers(line: &[u8]) -> Parsed
     ensures { λ r. ⌜ r ≡ parsedOf 0 (numbersOf (words (now (line .entry)))) ⌝ }
 {
@@ -170,6 +176,7 @@ fn count_numbers(line: &[u8]) -> Parsed
     }
 }
 
+// The second pass, over a line that is right.
 fn write_numbers(line: &[u8], list: &mut [i64])
     requires { ⌜ Room (length (now list)) 0 (numbersOf (words (now line))) ⌝ }
     ensures { λ r. ⌜ now (list .exit) ≡ written (now (list .entry)) 0 (numbersOf (words (now (line .entry)))) ⌝ }

@@ -1,5 +1,5 @@
 -- `text::number_of` meets its contract. Assumes nothing.
-use mathlib.Core.Path.{_≡_, sym, ap, _∙_}
+use mathlib.Core.Path.{sym, ap, _∙_}
 use native.Mathlib.Omega.{arith}
 use Rattle.text.specs.Steps.{numberAs}
 use Rattle.text.proofs.Signs.{number-none, number-minus, number-plus, number-plain}

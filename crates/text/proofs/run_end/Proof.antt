@@ -5,6 +5,8 @@ use mathlib.Core.Bool.{Bool, true, false, not, Bool·beq, true≢false}
 use borrow.Author.Count.{below-more}
 use native.Mathlib.Omega.{arith}
 use lib.ListN.{length, getD}
+use borrow.Author.Tests.{not-false}
+use Rattle.lists.proofs.Bools.{beq-true}
 use Rattle.text.specs.Lines.{blank}
 use Rattle.text.proofs.run_end.Statement.{statement}
 use Rattle.text.proofs.run_end.Tie as tie
@@ -18,18 +20,12 @@ abbrev μ-loop : tie.MeasureT-loop
 loop-holds : tie.Need-loop-holds Inv-loop μ-loop
 loop-holds c = (omega arith, omega arith, (λ k p q. absurd (omega arith)))
 
--- the test of two Booleans, by their table
+-- what the test tells where it is true, by the table of both
 differ : (x y : Bool) → not (Bool·beq x y) ≡ true → x ≡ not y
 differ true true e = absurd (true≢false (sym e))
 differ true false e = refl
 differ false true e = refl
 differ false false e = absurd (true≢false (sym e))
-
-agree : (x y : Bool) → not (Bool·beq x y) ≡ false → x ≡ y
-agree true true e = refl
-agree true false e = absurd (true≢false e)
-agree false true e = absurd (true≢false e)
-agree false false e = refl
 
 returns : tie.Need-returns Inv-loop μ-loop
 returns c =
@@ -40,7 +36,7 @@ loop-again : tie.Need-loop-again Inv-loop μ-loop
 loop-again c =
     let a = c .before .before .before .before .before .before .args in
     let i = c .before .before .before .before .loop in
-    let here : blank (getD (a .line .now) (i .i) 0) ≡ a .blanks = sym (c .before .is-blank .ensures) ∙ agree _ _ (c .if1 .left) in
+    let here : blank (getD (a .line .now) (i .i) 0) ≡ a .blanks = sym (c .before .is-blank .ensures) ∙ beq-true _ _ (not-false _ (c .if1 .left)) in
     (omega arith, omega arith, (λ k p q. below-more (λ k. a .at ≤ k → blank (getD (a .line .now) k 0) ≡ a .blanks) (i .i) (λ k q p. i .inv .2 k p q) (λ p. here) k q p))
 
 returns-2 : tie.Need-returns-2 Inv-loop μ-loop

@@ -5,7 +5,7 @@ use native.Mathlib.Omega.{arith}
 use lib.IntN.{ℤ}
 use lib.ListN.{length, set, length-set}
 use mir.Syntax.{w64}
-use mir.Val.{SFits, toZ, ofZ}
+use mir.Val.{SFits}
 use mir.Facts.{toZ-ofZ}
 use borrow.Author.Needs.{needs}
 use Rattle.text.specs.Lines.{words, numbersOf}
@@ -55,7 +55,7 @@ loop-again c =
       simp length-set (i .inv .2),
       room-more z size (i .n) (numbersFrom l (i .at)) rest (next .2) (i .inv .3) .1,
       i .inv .4 ∙ written-more z size (i .list) (i .n) (numbersFrom l (i .at)) rest (next .2) (i .inv .3)
-      ∙ ap (λ (x : ℤ). written (set (i .list) (i .n) x) (i .n + 1) rest) (sym (toZ-ofZ fits)),
+          ∙ ap (λ (x : ℤ). written (set (i .list) (i .n) x) (i .n + 1) rest) (sym (toZ-ofZ fits)),
     )
 
 returns : tie.Need-returns Inv-loop μ-loop
