@@ -46,9 +46,8 @@ def slip(name, path, old, new):
         text = (copy / path).read_text()
         assert text.count(old) == 1, f'{name}: {text.count(old)} places'
         (copy / path).write_text(text.replace(old, new))
-        lib = copy / 'crates/map/proofs/Lib.antt'
-        lib.write_text(lib.read_text().replace('pub mod Sheet\n', ''))
-        (copy / 'crates/map/proofs/Sheet.antt').unlink()
+        sheet = copy / 'crates/map/proofs/Sheet.antt'
+        sheet.write_text(sheet.read_text().split('\npub P : ')[0] + '\n')
         run = subprocess.run(['rt', 'dev', 'grown'], cwd=copy, capture_output=True, text=True)
         out = run.stdout + run.stderr
         errors = [re.sub(r'^.*/crates/', '', l)[:160] for l in out.split('\n') if re.match(r'^/\S+:\d+:\d+: error', l)]
