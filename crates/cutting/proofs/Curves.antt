@@ -18,6 +18,12 @@ use Rattle.curves.specs.Edits.{front, back, join, joined, reversed, joinHere, d
 use Rattle.curves.proofs.Runs.{two-points, from-step, curve-is}
 use Rattle.cutting.proofs.Places.{Found-at, cut-found, cut-missing, turned-table, join-table}
 
+-- all points of a run
+pub whole-points : {l : List ℤ} → Run l → points (curveOf l) ≡ table (pointAt l) 0 (length l / 2 - 0)
+whole-points {l} run =
+    let n : length l / 2 - 0 ≡ suc (length l / 2 - 1) = omega (arith, two-points run) in
+    rw (curve-is run, n)
+
 -- ---- cut at m
 
 module _ {l : List ℤ} (run : Run l) (m : Point) where

@@ -59,6 +59,14 @@ fn with_points(line: Line, c: &[i64], from: usize, to: usize) -> Line
     out
 }
 
+// The curve as it is.
+pub fn whole_of(c: &[i64]) -> Line
+    requires { ⌜ Run (now c) ⌝ }
+    ensures { λ r. ⌜ r ≡ lineOf (points (curveOf (now (c .entry)))) ⌝ }
+{
+    with_points(Line::empty(), c, 0, curves::point_count(c))
+}
+
 // The curve up to its first place at m.
 pub fn front_of(c: &[i64], m: Point) -> Line
     requires { ⌜ Run (now c) × InRange m ⌝ }
