@@ -6,6 +6,7 @@ use lists::Found;
 use plane::Contact;
 use plane::Point;
 use plane::Turn;
+ghost use mathlib.Core.Path.{_≡_};
 ghost use Prim.Native.Nat.{_≤_, _<_, _+_};
 ghost use lib.ListN.{length};
 ghost use Rattle.plane.specs.Points.{InRange};
@@ -133,22 +134,35 @@ fn answer(c: &[i64], d: &[i64], p: Point)
     answer_lines(c, d, p);
 }
 
+// The number, where it is not negative; any other counts as the greatest.
+fn natural(z: i64) -> u64 {
+    if z < 0 {
+        return u64::MAX;
+    }
+    z as u64
+}
+
 // A case, where the numbers are one.
-fn case(v: &[i64; 30]) {
-    let n = v[0];
-    let k = v[1];
-    let px = v[2];
-    let py = v[3];
-    if (n < 0) | (6 < n) | (k < 0) | (6 < k) {
+fn case(v: &[i64])
+    requires { ⌜ length (now v) ≡ 30 ⌝ }
+{
+    let n = natural(v[0]);
+    if 6 < n {
         return;
     }
-    if (px < 0) | (1048575 < px) | (py < 0) | (1048575 < py) {
+    let k = natural(v[1]);
+    if 6 < k {
         return;
     }
-    let p = Point {
-        x: px as u64,
-        y: py as u64,
-    };
+    let px = natural(v[2]);
+    if 1048575 < px {
+        return;
+    }
+    let py = natural(v[3]);
+    if 1048575 < py {
+        return;
+    }
+    let p = Point { x: px, y: py };
     let end = 4 + 2 * (n as usize);
     let c = &v[4..end];
     let last = 16 + 2 * (k as usize);
@@ -166,7 +180,10 @@ fn case(v: &[i64; 30]) {
 fn digit(b: u8) -> u64
     ensures { λ r. ⌜ r ≤ 9 ⌝ }
 {
-    if (b < 48) | (57 < b) {
+    if b < 48 {
+        return 0;
+    }
+    if 57 < b {
         return 0;
     }
     (b - 48) as u64

@@ -30,6 +30,14 @@ pub fn point_count(c: &[i64]) -> usize
     c.len() / 2
 }
 
+// The number of segments.
+fn segment_count(c: &[i64]) -> usize
+    requires { ⌜ Run (now c) ⌝ }
+    ensures { λ r. ⌜ (r + 1 ≡ length (now (c .entry)) / 2) × (1 ≤ r) × (r ≤ 11) ⌝ }
+{
+    point_count(c) - 1
+}
+
 // Whether the run has 2 to 12 points, and every coordinate in range.
 pub fn is_run(c: &[i64]) -> bool
     ensures { λ r. ⌜ r ≡ isRun (now (c .entry)) ⌝ }
@@ -39,7 +47,8 @@ pub fn is_run(c: &[i64]) -> bool
         return false;
     }
     for i in 0..c.len() {
-        if (c[i] < 0) | (1048575 < c[i]) {
+        let z = c[i];
+        if (z < 0) | (1048575 < z) {
             return false;
         }
     }
@@ -67,9 +76,9 @@ pub fn neighbours_differ(c: &[i64]) -> bool
     requires { ⌜ Run (now c) ⌝ }
     ensures { λ r. ⌜ r ≡ neighboursDiffer (curveOf (now (c .entry))) ⌝ }
 {
-    let n = point_count(c);
-    for i in 1..n {
-        if plane::same_point(point_at(c, i - 1), point_at(c, i)) {
+    let n = segment_count(c);
+    for i in 0..n {
+        if plane::same_point(point_at(c, i), point_at(c, i + 1)) {
             return false;
         }
     }
@@ -81,9 +90,9 @@ pub fn has_straight_point(c: &[i64]) -> bool
     requires { ⌜ Run (now c) ⌝ }
     ensures { λ r. ⌜ r ≡ straightInside (curveOf (now (c .entry))) ⌝ }
 {
-    let n = point_count(c);
-    for i in 2..n {
-        if plane::straight_between(point_at(c, i - 2), point_at(c, i - 1), point_at(c, i)) {
+    let n = segment_count(c) - 1;
+    for i in 0..n {
+        if plane::straight_between(point_at(c, i), point_at(c, i + 1), point_at(c, i + 2)) {
             return true;
         }
     }
@@ -95,10 +104,10 @@ pub fn first_place(c: &[i64], p: Point) -> Found
     requires { ⌜ Run (now c) × InRange p ⌝ }
     ensures { λ r. ⌜ r ≡ firstPlace (curveOf (now (c .entry))) p ⌝ }
 {
-    let n = point_count(c);
-    for i in 1..n {
-        if plane::on_segment(p, point_at(c, i - 1), point_at(c, i)) {
-            return Found::At(i - 1);
+    let n = segment_count(c);
+    for i in 0..n {
+        if plane::on_segment(p, point_at(c, i), point_at(c, i + 1)) {
+            return Found::At(i);
         }
     }
     Found::Missing
@@ -147,9 +156,9 @@ pub fn common_ends(c: &[i64], d: &[i64]) -> Shares
     ensures { λ r. ⌜ Shareable r × (shareable r ≡ commonEnds (curveOf (now (c .entry)) .first) (curveOf (now (c .entry)) .rest) (curveOf (now (d .entry)) .first) (curveOf (now (d .entry)) .rest)) ⌝ }
 {
     let a = point_at(c, 0);
-    let z = point_at(c, point_count(c) - 1);
+    let z = point_at(c, segment_count(c));
     let b = point_at(d, 0);
-    let y = point_at(d, point_count(d) - 1);
+    let y = point_at(d, segment_count(d));
     Shares {
         first: a,
         first_may: plane::same_point(a, b) | plane::same_point(a, y),
@@ -163,9 +172,9 @@ fn segment_wrong(l: Shares, a: Point, b: Point, c: &[i64]) -> bool
     requires { ⌜ (Shareable l) × (InRange a) × (InRange b) × Run (now c) ⌝ }
     ensures { λ r. ⌜ r ≡ segCurve (shareable l) a b (curveOf (now (c .entry)) .first) (curveOf (now (c .entry)) .rest) ⌝ }
 {
-    let n = point_count(c);
-    for i in 1..n {
-        if segments_wrong(l, a, b, point_at(c, i - 1), point_at(c, i)) {
+    let n = segment_count(c);
+    for i in 0..n {
+        if segments_wrong(l, a, b, point_at(c, i), point_at(c, i + 1)) {
             return true;
         }
     }
@@ -178,9 +187,9 @@ pub fn curves_wrong(c: &[i64], d: &[i64]) -> bool
     ensures { λ r. ⌜ r ≡ meetWrongly (curveOf (now (c .entry))) (curveOf (now (d .entry))) ⌝ }
 {
     let l = common_ends(c, d);
-    let n = point_count(c);
-    for i in 1..n {
-        if segment_wrong(l, point_at(c, i - 1), point_at(c, i), d) {
+    let n = segment_count(c);
+    for i in 0..n {
+        if segment_wrong(l, point_at(c, i), point_at(c, i + 1), d) {
             return true;
         }
     }
@@ -194,18 +203,18 @@ fn segment_free(c: &[i64], i: usize, closed: bool) -> bool
     requires { ⌜ Run (now c) × (i + 2 < length (now c) / 2) ⌝ }
     ensures { λ r. ⌜ r ≡ free (mayShare closed (pointAt (now (c .entry)) 0) []) (pointAt (now (c .entry)) i) (pointAt (now (c .entry)) (i + 1)) (pointAt (now (c .entry)) (i + 2)) (pointsFrom (now (c .entry)) (i + 3)) ⌝ }
 {
-    let n = point_count(c);
+    let n = segment_count(c);
     let a = point_at(c, i);
     let b = point_at(c, i + 1);
     let end = point_at(c, 0);
-    for j in i + 3..n {
+    for j in i + 2..n {
         let l = Shares {
             first: end,
             first_may: closed & (j + 1 == n),
             last: end,
             last_may: false,
         };
-        if segments_wrong(l, a, b, point_at(c, j - 1), point_at(c, j)) {
+        if segments_wrong(l, a, b, point_at(c, j), point_at(c, j + 1)) {
             return false;
         }
     }
@@ -217,8 +226,7 @@ fn segment_clear(c: &[i64], i: usize, closed: bool) -> bool
     requires { ⌜ Run (now c) × (i + 1 < length (now c) / 2) ⌝ }
     ensures { λ r. ⌜ r ≡ after (mayShare closed (pointAt (now (c .entry)) 0) []) (pointAt (now (c .entry)) i) (pointAt (now (c .entry)) (i + 1)) (pointsFrom (now (c .entry)) (i + 2)) ⌝ }
 {
-    let n = point_count(c);
-    if n <= i + 2 {
+    if segment_count(c) <= i + 1 {
         return true;
     }
     let b = point_at(c, i + 1);
@@ -239,13 +247,13 @@ pub fn is_simple(c: &[i64]) -> bool
     requires { ⌜ Run (now c) ⌝ }
     ensures { λ r. ⌜ r ≡ isSimple (curveOf (now (c .entry))) ⌝ }
 {
-    let n = point_count(c);
-    let closed = plane::same_point(point_at(c, n - 1), point_at(c, 0));
+    let n = segment_count(c);
+    let closed = plane::same_point(point_at(c, n), point_at(c, 0));
     if !segment_clear(c, 0, closed) {
         return false;
     }
-    for i in 2..n {
-        if !segment_clear(c, i - 1, false) {
+    for i in 1..n {
+        if !segment_clear(c, i, false) {
             return false;
         }
     }
@@ -259,12 +267,12 @@ pub fn area_of(c: &[i64]) -> i64
     requires { ⌜ Run (now c) ⌝ }
     ensures { λ r. ⌜ r ≡ curveArea (curveOf (now (c .entry))) ⌝ }
 {
-    let n = point_count(c);
+    let n = segment_count(c);
     let mut plus: u64 = 0;
     let mut minus: u64 = 0;
-    for i in 1..n {
-        let a = point_at(c, i - 1);
-        let b = point_at(c, i);
+    for i in 0..n {
+        let a = point_at(c, i);
+        let b = point_at(c, i + 1);
         plus += plane::times(a.x, b.y);
         minus += plane::times(a.y, b.x);
     }
@@ -276,10 +284,10 @@ pub fn odd_below(c: &[i64], p: Point) -> bool
     requires { ⌜ Run (now c) × InRange p ⌝ }
     ensures { λ r. ⌜ r ≡ oddBelow (curveOf (now (c .entry))) p ⌝ }
 {
-    let n = point_count(c);
+    let n = segment_count(c);
     let mut odd = false;
-    for i in 1..n {
-        odd = odd != directions::passes_below(p, point_at(c, i - 1), point_at(c, i));
+    for i in 0..n {
+        odd = odd != directions::passes_below(p, point_at(c, i), point_at(c, i + 1));
     }
     odd
 }

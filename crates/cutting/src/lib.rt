@@ -30,9 +30,9 @@ impl Line {
 }
 
 // The line with one point more.
-pub fn with_point(line: Line, p: Point) -> Line
+fn with_point(line: Line, p: Point) -> Line
     requires { ⌜ InRange p × (line .count < 1000) ⌝ }
-    ensures { λ r. ⌜ ((ps : List (Rattle.plane.specs.declared.Point.Point)) → line ≡ lineOf ps → r ≡ lineOf (ps ++ (p ∷ []))) × (r .count ≡ line .count + 1) ⌝ }
+    ensures { λ r. ⌜ ((ps : List _) → line ≡ lineOf ps → r ≡ lineOf (ps ++ (p ∷ []))) × (r .count ≡ line .count + 1) ⌝ }
 {
     let n = line.count;
     let mut cells = line.cells;
@@ -41,13 +41,16 @@ pub fn with_point(line: Line, p: Point) -> Line
         cells[j] = p.x as i64;
         cells[j + 1] = p.y as i64;
     }
-    Line { count: n + 1, cells }
+    Line {
+        count: n + 1,
+        cells,
+    }
 }
 
 // The line with the points from `from` on, up to and without `to`, of the curve c.
-pub fn with_points(line: Line, c: &[i64], from: usize, to: usize) -> Line
+fn with_points(line: Line, c: &[i64], from: usize, to: usize) -> Line
     requires { ⌜ Run (now c) × (from ≤ to) × (to ≤ length (now c) / 2) × (line .count < 100) ⌝ }
-    ensures { λ r. ⌜ ((ps : List (Rattle.plane.specs.declared.Point.Point)) → line ≡ lineOf ps → r ≡ lineOf (ps ++ table (pointAt (now (c .entry))) from (to - from))) × (r .count ≡ line .count + (to - from)) ⌝ }
+    ensures { λ r. ⌜ ((ps : List _) → line ≡ lineOf ps → r ≡ lineOf (ps ++ table (pointAt (now (c .entry))) from (to - from))) × (r .count ≡ line .count + (to - from)) ⌝ }
 {
     let mut out = line;
     for i in from..to {

@@ -1,0 +1,4 @@
+-- `Runs`: the points of a run, one after the other. `Turns`: the turn and the end of a loop over a run's segments, for each test of curves. `Areas`: the doubled area, segment by segment.
+pub mod Runs
+pub mod Turns
+pub mod Areas

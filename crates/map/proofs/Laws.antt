@@ -1,0 +1,166 @@
+-- Numbers of a map in form: they rise, so none stands twice and a row is found by its number; all are below the next number, so a new number is new.
+-- Decoding and encoding undo each other. Assumes nothing.
+use mathlib.Core.Path.{_≡_}
+use mathlib.Core.Bool.{true, false, _&&_}
+use mathlib.Core.List.{List, map, List·Memᴰ, Memᴰ·map}
+use mathlib.Core.Option.{none, some}
+use Prim.Native.Nat.{ℕ, _≤_, _<_}
+use native.Mathlib.Omega.{arith}
+use lib.Dec.{leb, ltb, leb→le, ltb→lt}
+use lib.ListN.{length}
+use Rattle.lists.specs.Tests.{same}
+use Rattle.lists.specs.Scans.{all, firstOr, linked}
+use Rattle.lists.specs.Members.{Distinct}
+use Rattle.lists.proofs.Bools.{≡→T, same-true, same-false}
+use Rattle.geometry.proofs.Booleans.{and-true}
+use Rattle.curves.specs.Curves.{points, maxPoints}
+use Rattle.map.specs.Rows.{Node, Edge, Map, Lent, Sizes, mapOf, lentOf, sizesOf, whole, findNode, findEdge, hasNode, hasEdge, hasFace, node, edge}
+use Rattle.map.specs.Form.{ranged, numbered, numbers, inFace, edgeNames, named, curveFits, departuresDiffer, bareMarked, linksOnce, linksMeet, ringsBearOne, formed, inForm}
+use Rattle.map.proofs.Scans.{all-each, any-none, find-some, rise-distinct, find-row, find-missing}
+use Rattle.map.proofs.RoundTrip.{Holds, Points, reads-back, writes-back, ranged-points}
+
+-- ---- rows by number
+
+module _ (m : Map) where
+  pub find-node : Distinct (map (λ n. n .number) (m .nodes)) → (r : Node) → List·Memᴰ r (m .nodes) → findNode m (r .number) ≡ some r
+  find-node dis r k = find-row (λ (n : Node). n .number) (m .nodes) dis r k
+
+  pub find-edge : Distinct (map (λ e. e .number) (m .edges)) → (r : Edge) → List·Memᴰ r (m .edges) → findEdge m (r .number) ≡ some r
+  find-edge dis r k = find-row (λ (e : Edge). e .number) (m .edges) dis r k
+
+  pub node-row : Distinct (map (λ n. n .number) (m .nodes)) → (r : Node) → List·Memᴰ r (m .nodes) → node m (r .number) ≡ r
+  unfolding node
+  node-row dis r k = rw (find-node dis r k)
+
+  pub edge-row : Distinct (map (λ e. e .number) (m .edges)) → (r : Edge) → List·Memᴰ r (m .edges) → edge m (r .number) ≡ r
+  unfolding edge
+  edge-row dis r k = rw (find-edge dis r k)
+
+  -- a row that exists is a row of its number
+  pub node-there : (n : ℕ) → hasNode m n ≡ true → List·Memᴰ (node m n) (m .nodes) × (node m n .number ≡ n)
+  unfolding node
+  node-there n h = let r = find-some (λ x. same (x .number) n) (m .nodes) h in rw (r .3) (r .1, same-true (r .0 .number) n (r .2))
+
+  pub edge-there : (e : ℕ) → hasEdge m e ≡ true → List·Memᴰ (edge m e) (m .edges) × (edge m e .number ≡ e)
+  unfolding edge
+  edge-there e h = let r = find-some (λ x. same (x .number) e) (m .edges) h in rw (r .3) (r .1, same-true (r .0 .number) e (r .2))
+
+-- ---- numbers in form
+
+-- what the numbers of a table obey
+pub record Numbered (least next : ℕ) (ns : List ℕ) : Type 0 where
+  pub distinct : Distinct ns
+  pub from : (n : ℕ) → List·Memᴰ n ns → least ≤ n
+  pub below : (n : ℕ) → List·Memᴰ n ns → n < next
+
+pub numbered-is : (least next : ℕ) (ns : List ℕ) → numbered least next ns ≡ true → Numbered least next ns
+numbered-is least next ns h = record { distinct = rise-distinct ns (k .0); from = λ n m. leb→le least n (≡→T (leb least n) (each n m .0)); below = λ n m. ltb→lt n next (≡→T (ltb n next) (each n m .1)) }
+  where
+    k : (linked ltb ns ≡ true) × (all (λ n. leb least n && ltb n next) ns ≡ true)
+    k = and-true (linked ltb ns) (all (λ n. leb least n && ltb n next) ns) h
+
+    each : (n : ℕ) → List·Memᴰ n ns → (leb least n ≡ true) × (ltb n next ≡ true)
+    each n m = and-true (leb least n) (ltb n next) (all-each (λ n. leb least n && ltb n next) ns (k .1) n m)
+
+-- the three tables
+pub record Numbers (m : Map) : Type 0 where
+  pub nodes : Numbered 1 (m .nextNode) (map (λ n. n .number) (m .nodes))
+  pub edges : Numbered 1 (m .nextEdge) (map (λ e. e .number) (m .edges))
+  pub faces : Numbered 0 (m .nextFace) (m .faces)
+
+numbers-are : (m : Map) → numbers m ≡ true → Numbers m
+unfolding numbers
+numbers-are m h =
+    let h₁ = and-true _ (same (firstOr 1 (m .faces)) 0) h in
+    let h₂ = and-true _ (numbered 0 (m .nextFace) (m .faces)) (h₁ .0) in
+    let h₃ = and-true _ (numbered 1 (m .nextEdge) (map (λ e. e .number) (m .edges))) (h₂ .0) in
+    record { nodes = numbered-is _ _ _ (h₃ .0); edges = numbered-is _ _ _ (h₃ .1); faces = numbered-is _ _ _ (h₂ .1) }
+
+-- ---- a map in form
+
+-- the conditions on rows, one by one
+pub record Formed (m : Map) : Type 0 where
+  pub numbers : Numbers m
+  pub named : named m ≡ true
+  pub curves : all (curveFits m) (m .edges) ≡ true
+  pub departures : departuresDiffer m ≡ true
+  pub bare : bareMarked m ≡ true
+  pub once : linksOnce m ≡ true
+  pub meet : linksMeet m ≡ true
+  pub rings : ringsBearOne m ≡ true
+
+pub formed-is : (m : Map) → formed m ≡ true → Formed m
+unfolding formed
+formed-is m h =
+    let h₁ = and-true _ (ringsBearOne m) h in
+    let h₂ = and-true _ (linksMeet m) (h₁ .0) in
+    let h₃ = and-true _ (linksOnce m) (h₂ .0) in
+    let h₄ = and-true _ (bareMarked m) (h₃ .0) in
+    let h₅ = and-true _ (departuresDiffer m) (h₄ .0) in
+    let h₆ = and-true _ (all (curveFits m) (m .edges)) (h₅ .0) in
+    let h₇ = and-true (numbers m) (named m) (h₆ .0) in
+    record { numbers = numbers-are m (h₇ .0); named = h₇ .1; curves = h₆ .1; departures = h₅ .1; bare = h₄ .1; once = h₃ .1; meet = h₂ .1; rings = h₁ .1 }
+
+module _ (m : Map) (h : formed m ≡ true) where
+  ns : Numbers m
+  ns = formed-is m h .numbers
+
+  -- numbers in use are below the next number
+  pub node-below : (r : Node) → List·Memᴰ r (m .nodes) → r .number < m .nextNode
+  node-below r k = ns .nodes .below (r .number) (Memᴰ·map (λ (n : Node). n .number) k)
+
+  pub edge-below : (r : Edge) → List·Memᴰ r (m .edges) → r .number < m .nextEdge
+  edge-below r k = ns .edges .below (r .number) (Memᴰ·map (λ (e : Edge). e .number) k)
+
+  pub face-below : (f : ℕ) → List·Memᴰ f (m .faces) → f < m .nextFace
+  face-below f k = ns .faces .below f k
+
+  -- so the next number is one that no row has
+  pub next-node-new : findNode m (m .nextNode) ≡ none
+  next-node-new = find-missing (λ (n : Node). n .number) (m .nodes) (m .nextNode) node-below
+
+  pub next-edge-new : findEdge m (m .nextEdge) ≡ none
+  next-edge-new = find-missing (λ (e : Edge). e .number) (m .edges) (m .nextEdge) edge-below
+
+  pub next-face-new : hasFace m (m .nextFace) ≡ false
+  next-face-new = any-none (same (m .nextFace)) (m .faces) (λ f k. same-false (m .nextFace) f (λ e. let below = face-below f k in omega arith))
+
+  -- a row is found by its number
+  pub node-found : (r : Node) → List·Memᴰ r (m .nodes) → node m (r .number) ≡ r
+  node-found = node-row m (ns .nodes .distinct)
+
+  pub edge-found : (r : Edge) → List·Memᴰ r (m .edges) → edge m (r .number) ≡ r
+  edge-found = edge-row m (ns .edges .distinct)
+
+  -- edges count from 1, and links name edges
+  edge-from : (e : ℕ) → hasEdge m e ≡ true → 1 ≤ e
+  edge-from e k =
+      let r = edge-there m e k in
+      let least = ns .edges .from (edge m e .number) (Memᴰ·map (λ (e : Edge). e .number) (r .0)) in
+      let same = r .1 in
+      omega arith
+
+  pub names : (r : Edge) → List·Memᴰ r (m .edges) → edgeNames m r ≡ true
+  unfolding named
+  names r k = all-each (edgeNames m) (m .edges) (and-true (all (λ n. inFace m (n .face)) (m .nodes)) (all (edgeNames m) (m .edges)) (formed-is m h .named) .1) r k
+
+  pub holds : (r : Edge) → List·Memᴰ r (m .edges) → length (points (r .curve)) ≤ maxPoints → Holds r
+  holds r k few =
+      let h₁ = and-true _ (hasFace m (r .right)) (names r k) in
+      let h₂ = and-true _ (hasFace m (r .left)) (h₁ .0) in
+      let h₃ = and-true _ (hasEdge m (r .nextRight .edge)) (h₂ .0) in
+      let h₄ = and-true (hasNode m (r .start) && hasNode m (r .end)) (hasEdge m (r .nextLeft .edge)) (h₃ .0) in
+      record { few = few; left = λ b z. let k = edge-from (r .nextLeft .edge) (h₄ .1) in absurd (omega arith); right = λ b z. let k = edge-from (r .nextRight .edge) (h₃ .1) in absurd (omega arith) }
+
+  -- a map in form, with curves of at most 12 points, is read back from the tables
+  pub formed-back : (s : Sizes) → ((r : Edge) → List·Memᴰ r (m .edges) → length (points (r .curve)) ≤ maxPoints) → mapOf (lentOf s m) ≡ m
+  formed-back s few = reads-back s m (λ r k. holds r k (few r k))
+
+-- whole tables in form are written again as they were
+pub in-form-back : (l : Lent) → whole l ≡ true → inForm l ≡ true → lentOf (sizesOf l) (mapOf l) ≡ l
+unfolding inForm
+in-form-back l w h = writes-back l w (and-true (ranged l) (formed (mapOf l)) h .0)
+
+pub in-form-points : (l : Lent) → inForm l ≡ true → (e : Edge) → List·Memᴰ e (mapOf l .edges) → Points e
+unfolding inForm
+in-form-points l h = ranged-points l (and-true (ranged l) (formed (mapOf l)) h .0)

@@ -1,0 +1,75 @@
+-- What scans of lists tell of elements, rising numbers, and rows found by their numbers. Assumes nothing.
+use mathlib.Core.Path.{_≡_, refl}
+use mathlib.Core.Logic.{_⊎_, inl, inr}
+use mathlib.Core.Bool.{Bool, true, false, cond, false≢true}
+use mathlib.Core.List.{List, [], _∷_, map, List·Memᴰ, List·Memᴰ·head, List·Memᴰ·tail, List·Memᴰ·cases-cons, List·Memᴰ·not-nil, Memᴰ·map, Memᴰ·cast}
+use mathlib.Core.Option.{none, some}
+use Prim.Native.Nat.{ℕ, _<_}
+use native.Mathlib.Omega.{arith}
+use lib.Dec.{ltb, ltb→lt}
+use Rattle.lists.specs.Tests.{same}
+use Rattle.lists.specs.Scans.{any, all, find, linked, isSome}
+use Rattle.lists.specs.Members.{Distinct}
+use Rattle.lists.proofs.Bools.{≡→T, same-refl, same-false}
+use Rattle.lists.proofs.Members.{each-cons}
+use Rattle.geometry.proofs.Booleans.{and-true}
+
+-- ---- elements
+
+module _ {A : Type 0} (p : A → Bool) where
+  -- what takes every element takes each
+  pub all-each : (l : List A) → all p l ≡ true → (x : A) → List·Memᴰ x l → p x ≡ true
+  all-each [] h x m = absurd (List·Memᴰ·not-nil m)
+  all-each (y ∷ l) h x m = let k = and-true (p y) (all p l) h in each-cons {p = λ z. p z ≡ true} (k .0) (all-each l (k .1)) x m
+
+  -- an element found is one that p takes
+  pub find-some : (l : List A) → isSome (find p l) ≡ true → (x : A) × List·Memᴰ x l × (p x ≡ true) × (find p l ≡ some x)
+  find-some [] h = absurd (false≢true h)
+  find-some (y ∷ l) h = go (p y) refl (find-some l)
+    where
+      go : (b : Bool) → p y ≡ b → (isSome (find p l) ≡ true → (x : A) × List·Memᴰ x l × (p x ≡ true) × (find p l ≡ some x)) → (x : A) × List·Memᴰ x (y ∷ l) × (p x ≡ true) × (cond b (some y) (find p l) ≡ some x)
+      go true e later = (y, List·Memᴰ·head refl, e, refl)
+      go false e later = let r = later (rw e at h) in (r .0, List·Memᴰ·tail (r .1), r .2, r .3)
+
+  pub find-none : (l : List A) → ((x : A) → List·Memᴰ x l → p x ≡ false) → find p l ≡ none
+  find-none [] h = refl
+  find-none (y ∷ l) h = rw (h y (List·Memᴰ·head refl)) (find-none l (λ x m. h x (List·Memᴰ·tail m)))
+
+pub any-none : {A : Type 0} (p : A → Bool) (l : List A) → ((x : A) → List·Memᴰ x l → p x ≡ false) → any p l ≡ false
+any-none p [] h = refl
+any-none p (y ∷ l) h = rw (h y (List·Memᴰ·head refl)) (any-none p l (λ x m. h x (List·Memᴰ·tail m)))
+
+-- ---- rising numbers
+
+-- rising numbers are above the first
+rise-above : (a : ℕ) (l : List ℕ) → linked ltb (a ∷ l) ≡ true → (b : ℕ) → List·Memᴰ b l → a < b
+rise-above a [] h b m = absurd (List·Memᴰ·not-nil m)
+rise-above a (c ∷ l) h b m =
+    let k = and-true (ltb a c) (linked ltb (c ∷ l)) h in
+    let first = ltb→lt a c (≡→T (ltb a c) (k .0)) in
+    each-cons {p = λ (x : ℕ). a < x} first (λ x n. let above = rise-above c l (k .1) x n in omega arith) b m
+
+linked-rest : (a : ℕ) (l : List ℕ) → linked ltb (a ∷ l) ≡ true → linked ltb l ≡ true
+linked-rest a [] h = refl
+linked-rest a (b ∷ l) h = and-true (ltb a b) (linked ltb (b ∷ l)) h .1
+
+-- none of rising numbers stands twice
+pub rise-distinct : (l : List ℕ) → linked ltb l ≡ true → Distinct l
+rise-distinct [] h = tt
+rise-distinct (a ∷ l) h = (λ m. let above = rise-above a l h a m in absurd (omega arith), rise-distinct l (linked-rest a l h))
+
+-- ---- rows by number
+
+module _ {A : Type 0} (number : A → ℕ) where
+  -- a row is found by its number, where none stands twice
+  pub find-row : (l : List A) → Distinct (map number l) → (r : A) → List·Memᴰ r l → find (λ x. same (number x) (number r)) l ≡ some r
+  find-row [] dis r m = absurd (List·Memᴰ·not-nil m)
+  find-row (y ∷ l) dis r m = go (find-row l (dis .1) r) (List·Memᴰ·cases-cons m)
+    where
+      go : (List·Memᴰ r l → find (λ x. same (number x) (number r)) l ≡ some r) → (r ≡ y) ⊎ List·Memᴰ r l → find (λ x. same (number x) (number r)) (y ∷ l) ≡ some r
+      go later (inl e) = rw (e, same-refl (number y))
+      go later (inr k) = rw (same-false (number y) (number r) (λ e. dis .0 (Memᴰ·cast e (Memᴰ·map number k)))) (later k)
+
+  -- a number that no row has is missing
+  pub find-missing : (l : List A) (n : ℕ) → ((r : A) → List·Memᴰ r l → number r < n) → find (λ x. same (number x) n) l ≡ none
+  find-missing l n h = find-none (λ x. same (number x) n) l (λ r m. same-false (number r) n (λ e. let below = h r m in omega arith))
