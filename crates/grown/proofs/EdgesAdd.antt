@@ -1,23 +1,22 @@
 -- Kind 4, and kinds 11 and 12 where no face is split. Assumes nothing.
 use mathlib.Core.Path.{_≡_, refl, sym, ap, _∙_, subst}
-use mathlib.Core.Logic.{_⊎_, inl, inr, _≢_}
-use mathlib.Core.Bool.{Bool, true, false, cond, not, _&&_, true≢false}
-use mathlib.Core.List.{List, [], _∷_, map, map-map, List·Memᴰ, List·Memᴰ·head, List·Memᴰ·tail, List·Memᴰ·cases-cons, Memᴰ·cast}
+use mathlib.Core.Logic.{inl, inr, _≢_}
+use mathlib.Core.Bool.{Bool, false, not, _&&_}
+use mathlib.Core.List.{List, [], _∷_, map-map, List·Memᴰ, List·Memᴰ·head, List·Memᴰ·tail, List·Memᴰ·cases-cons}
 use mathlib.Core.Option.{Option·getD}
-use Prim.Native.Nat.{ℕ, zero, suc, _≤_}
+use Prim.Native.Nat.{ℕ, _≤_}
 use native.Mathlib.Omega.{arith}
 use borrow.Author.Tests.{not-false}
 use lib.ListN.{length}
 use Rattle.lists.specs.Tests.{same}
-use Rattle.lists.proofs.Bools.{which, same-false}
+use Rattle.lists.proofs.Bools.{same-false}
 use Rattle.plane.specs.declared.Point.{Point}
 use Rattle.plane.specs.Directions.{Way, sameWay}
-use Rattle.curves.specs.Curves.{Curve, points, startWay, endWay}
-use Rattle.planar.specs.Map.{Arc, Dart, fwd, bwd, rev}
+use Rattle.curves.specs.Curves.{Curve, startWay, endWay}
+use Rattle.planar.specs.Map.{Dart, fwd, bwd, rev}
 use Rattle.planar.specs.Pieces.{nums}
 use Rattle.planar.specs.Rings.{Leads}
 use Rattle.planar.specs.Weave.{with-edge}
-use Rattle.planar.proofs.Bridges.{Fresh}
 use Rattle.planar.proofs.Rings.{rev-in}
 use Rattle.planar.proofs.Hooks.{fresh-dart, with-fwd, with-bwd, with-other}
 use Rattle.rotation.specs.Law.{from}
@@ -25,7 +24,7 @@ use Rattle.geometry.specs.Drawing as drawing
 use Rattle.geometry.specs.Meaning.{Some}
 use Rattle.geometry.proofs.Booleans.{or-false}
 use Rattle.geometry.proofs.Theorems.{good-iff, reverse-ways, closed-differ}
-use Rattle.map.specs.Rows.{Edge, Map, Sizes, node}
+use Rattle.map.specs.Rows.{Map, Sizes, node}
 use Rattle.map.specs.Darts.{arcs, directed, leaves, next, bears, way, departures, ring, among}
 use Rattle.map.specs.Links.{cornerFace}
 use Rattle.map.specs.Edits.{drawn, addIsoEdge, drawnIn, splitsFace}
@@ -38,7 +37,7 @@ use Rattle.grown.proofs.Numbers.{RankedMap, numbered-ranked, outlineOf,
 use Rattle.grown.proofs.Apart.{apart}
 use Rattle.grown.proofs.Changes.{bare, none-has}
 use Rattle.grown.proofs.EdgesRings.{among-in, ring-leads}
-use Rattle.grown.proofs.EdgesReached.{Reached, Even, EvenDarts, even-darts, darts-even}
+use Rattle.grown.proofs.EdgesReached.{Reached, even-darts, darts-even}
 use Rattle.grown.proofs.EdgesLaw.{from-in}
 use Rattle.grown.proofs.EdgesDrawn.{drawnRow}
 use Rattle.grown.proofs.EdgesJoined.{Draws, all-D, D-faces, D-bears, D-linked, D-once, D-law, D-join, D-alone}

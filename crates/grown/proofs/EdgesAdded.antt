@@ -1,7 +1,7 @@
 -- Kinds 11 and 12. Assumes nothing.
-use mathlib.Core.Path.{_≡_, refl, sym, ap, _∙_, subst}
+use mathlib.Core.Path.{_≡_, refl, sym, subst}
 use mathlib.Core.Logic.{inl, inr}
-use mathlib.Core.Bool.{Bool, true, false, cond, not}
+use mathlib.Core.Bool.{Bool, true, false}
 use mathlib.Core.List.{List, [], _∷_, List·Memᴰ, List·Memᴰ·head, Memᴰ·map}
 use mathlib.Core.Option.{Option, none, some, Option·getD}
 use Prim.Native.Nat.{ℕ}
@@ -15,9 +15,9 @@ use Rattle.planar.specs.Map.{Dart, fwd, bwd}
 use Rattle.rotation.specs.Law.{firstClockwise}
 use Rattle.rotation.proofs.Node.{first-in}
 use Rattle.map.specs.Rows.{Edge, Map, Sizes, node, edge, hasNode}
-use Rattle.map.specs.Darts.{directed, bears, way, departures, ring, among}
+use Rattle.map.specs.Darts.{directed, way, departures, ring, among}
 use Rattle.map.specs.Links.{cornerOf, cornerFace}
-use Rattle.map.specs.Edits.{drawnIn, splitsFace, splitFace, addEdge}
+use Rattle.map.specs.Edits.{drawnIn, splitsFace, addEdge}
 use Rattle.grown.specs.Good.{Woven, Good}
 use Rattle.grown.proofs.Readings.{faceIn, bears-row, edge-row, dart-has, departs}
 use Rattle.grown.proofs.RowChanges.{node-row}

@@ -1,42 +1,38 @@
 -- A row appended and linked in: what the map reads then, and that its links are those of the theory. Assumes nothing.
 use mathlib.Core.Path.{_≡_, refl, sym, ap, _∙_, subst}
-use mathlib.Core.Logic.{_⊎_, inl, inr}
-use mathlib.Core.Bool.{Bool, true, false, cond, not, _||_, true≢false}
-use mathlib.Core.List.{List, [], _∷_, _++_, map, map-map, append-nil, List·Memᴰ, List·Memᴰ·head, List·Memᴰ·tail, List·Memᴰ·cases-cons, List·Memᴰ·append-cases, List·Memᴰ·eq-of-singleton, Memᴰ·append-left, Memᴰ·append-right, Memᴰ·cast, List·Permᴰ}
+use mathlib.Core.Logic.{inl, inr}
+use mathlib.Core.Bool.{Bool, true, false, cond, not, true≢false}
+use mathlib.Core.List.{List, [], _∷_, _++_, map, append-nil, List·Memᴰ, List·Memᴰ·head, List·Memᴰ·tail, List·Memᴰ·cases-cons, List·Memᴰ·append-cases, List·Memᴰ·eq-of-singleton, Memᴰ·append-left, Memᴰ·append-right}
 use Prim.Native.Nat.{ℕ}
 use Rattle.lists.specs.Tests.{same}
 use Rattle.lists.specs.Scans.{keep}
-use Rattle.lists.proofs.Bools.{which, same-refl, same-false, not-true}
+use Rattle.lists.proofs.Bools.{same-refl, same-false, not-true}
 use Rattle.lists.proofs.Members.{each-cons, some?}
 use Rattle.lists.proofs.Keeps.{keep-in, keep-has, keep-swap, keep-all}
 use Rattle.plane.specs.Directions.{Way}
 use Rattle.curves.specs.Curves.{Curve, startWay}
 use Rattle.curves.specs.Edits as edits
-use Rattle.planar.specs.Map.{Arc, Dart, fwd, bwd, rev, darts}
+use Rattle.planar.specs.Map.{Dart, fwd, bwd, rev, darts}
 use Rattle.planar.specs.Rings.{sameDart}
 use Rattle.planar.specs.Weave.{with-edge, lone}
 use Rattle.planar.proofs.Bridges.{Fresh}
 use Rattle.planar.proofs.Rings.{sameDart-refl}
 use Rattle.planar.proofs.Hooks.{fwd≢bwd, fresh-dart, sameDart-false, with-fwd, with-bwd, with-other}
-use Rattle.rotation.specs.Law.{firstClockwise, Differ, from, Apart} 
+use Rattle.rotation.specs.Law.{firstClockwise, Differ, from, Apart}
 use Rattle.rotation.specs.Law as rotation
 use Rattle.rotation.proofs.Node.{first-none}
 use Rattle.rotation.proofs.Rename.{first-same}
 use Rattle.rotation.proofs.Ties.{tells}
-use Rattle.map.specs.Rows.{Node, Edge, Map, edge, hasEdge, setEdges, given, atNodes}
+use Rattle.map.specs.Rows.{Edge, Map, edge, hasEdge, setEdges, given}
 use Rattle.map.specs.Darts.{arcs, directed, leaves, next, bears, course, way, departures}
-use Rattle.map.specs.Links.{redirect, lead, linkIn, linkEdge}
-use Rattle.map.specs.Edits.{withFace, isEither, drawn}
+use Rattle.map.specs.Links.{redirect, linkIn, linkEdge}
 use Rattle.grown.proofs.Readings.{Relinked, relinked-join, redirect-relinked, redirect-next, lead-relinked, lead-next, arcOf, numberOf, missing, nums-rows, number-has, departs, departing, tailIn, nextIn, faceIn, courseIn, leaves-row, next-row, bears-row, course-row, way-row, dart-has}
-use Rattle.grown.proofs.RowChanges.{more-has, more-old, more-new, more-arcs, more-directed, more-perm, keep-append}
+use Rattle.grown.proofs.RowChanges.{more-old, more-new, more-directed, keep-append}
 use Rattle.grown.proofs.EdgesLaw.{from-alike, differ-part, from-in, from-has}
 
 -- ---- a departure linked in
 
 module _ (p : Dart) (there : List Dart) (m : Map) where
-  first : Dart
-  first = firstClockwise (way m) (way m p) p there
-
   pub linkIn-relinked : Relinked m (linkIn p there m)
   unfolding linkIn
   linkIn-relinked = relinked-join (redirect-relinked (firstClockwise (way m) (way m p) p there) p m) (lead-relinked (rev p) (firstClockwise (way m) (way m p) p there) (redirect (firstClockwise (way m) (way m p) p there) p m))

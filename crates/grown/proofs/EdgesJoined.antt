@@ -1,15 +1,13 @@
 -- The map with an edge drawn in: its law, its links, and that it is a map in the plane where both sides of the edge are on one ring, or its faces are told apart. Assumes nothing.
 use mathlib.Core.Path.{_≡_, refl, sym, ap, _∙_, subst}
 use mathlib.Core.Logic.{_⊎_, inl, inr}
-use mathlib.Core.Bool.{Bool, true, false, cond, not, true≢false}
-use mathlib.Core.List.{List, [], _∷_, _++_, map, map-map, List·Memᴰ, List·Memᴰ·head, List·Memᴰ·tail, List·Memᴰ·cases-cons, List·Memᴰ·not-nil, Memᴰ·cast, List·Permᴰ, List·Permᴰ·cons, List·Permᴰ·trans, Permᴰ·symm, Permᴰ·map, Permᴰ·middle, Permᴰ·append-nil}
+use mathlib.Core.Bool.{Bool, true, false, cond, true≢false}
+use mathlib.Core.List.{List, [], _∷_, map, List·Memᴰ, List·Memᴰ·head, List·Memᴰ·tail, List·Memᴰ·cases-cons, List·Permᴰ, List·Permᴰ·cons, List·Permᴰ·trans, Permᴰ·symm, Permᴰ·map, Permᴰ·middle, Permᴰ·append-nil}
 use mathlib.Core.Option.{none}
-use Prim.Native.Nat.{ℕ, zero, suc}
+use Prim.Native.Nat.{ℕ, suc}
 use lib.ListN.{length}
-use Rattle.lists.specs.Tests.{same, iterate}
 use Rattle.lists.specs.Members.{Distinct}
-use Rattle.lists.proofs.Bools.{same-eq, same-true}
-use Rattle.lists.proofs.Members.{each-cons, map-cong}
+use Rattle.lists.proofs.Members.{each-cons}
 use Rattle.lists.proofs.Perms.{perm-in, perm-distinct}
 use Rattle.plane.specs.Directions.{Way, sameWay}
 use Rattle.curves.specs.Curves.{Curve, startWay, endWay}
@@ -28,70 +26,23 @@ use Rattle.planar.proofs.Agree.{linked-agree}
 use Rattle.planar.proofs.Moves.{planar-perm}
 use Rattle.planar.proofs.Weaving.{woven-linked, planar-join, planar-split}
 use Rattle.rotation.specs.Ways.{Alike}
-use Rattle.rotation.specs.Law.{firstClockwise, pick, from, Apart, Law}
+use Rattle.rotation.specs.Law.{firstClockwise, from, Apart, Law}
 use Rattle.rotation.specs.Law as rotation
 use Rattle.rotation.proofs.Ways.{alike-is, alike-sym}
 use Rattle.rotation.proofs.Order.{sameWay-refl}
 use Rattle.rotation.proofs.Node.{first-in, first-none}
 use Rattle.rotation.proofs.Ties.{tells}
-use Rattle.map.specs.Rows.{Node, Edge, Map, atNodes}
+use Rattle.map.specs.Rows.{Node, Map, atNodes}
 use Rattle.map.specs.Darts.{arcs, directed, leaves, next, bears, way, departures}
-use Rattle.map.specs.Links.{linkEdge, cornerOf, cornerFace}
+use Rattle.map.specs.Links.{linkEdge, cornerFace}
 use Rattle.map.specs.Edits.{withFace, isEither, drawn}
 use Rattle.grown.proofs.Readings.{Relinked, arcOf, departs, departing, leaves-by, next-by, bears-by, way-by}
 use Rattle.grown.proofs.RowChanges.{more-perm, more-directed}
 use Rattle.grown.proofs.LawOrder.{first-alike, law-order}
-use Rattle.grown.proofs.EdgesLaw.{from-in, from-has, from-alike, law-agree, apart-agree, apart-order}
+use Rattle.grown.proofs.EdgesLaw.{from-in, from-has, from-alike, law-agree}
 use Rattle.grown.proofs.EdgesPut.{put-woven, put-law}
-use Rattle.grown.proofs.EdgesDrawn.{drawnRow, appended, leaves₁, next₁, bears₁, way₁, way-f, way-b, into-all, from-all, linked-in, linkEdge-next}
-
--- ---- the corner face is that of the first departure met
-
-corner-of : (m : Map) (n : ℕ) (w : Way) (u : Dart) (ds : List Dart) {d : Dart} → List·Memᴰ d ds → cornerOf m n w ds ≡ bears m (firstClockwise (way m) w u ds)
-unfolding firstClockwise pick
-corner-of m n w u [] k = absurd (List·Memᴰ·not-nil k)
-corner-of m n w u (d ∷ ds) k = refl
-
-corner-first : (m : Map) (n : ℕ) (w : Way) (u : Dart) {d : Dart} → List·Memᴰ d (departures m n) → cornerFace m n w ≡ bears m (firstClockwise (way m) w u (departures m n))
-unfolding cornerFace
-corner-first m n w u k = corner-of m n w u (departures m n) k
-
-departures-from : (m : Map) (n : ℕ) → departures m n ≡ from (leaves m) (directed m) n
-unfolding departures
-departures-from m n = refl
-
--- the numbers of the nodes
-abbrev pub nodeNumbers : Map → List ℕ
-nodeNumbers m = map (λ n. n .number) (m .nodes)
-
--- rows changed keep their numbers
-pub numbers-kept : (p : Node → Bool) (g : Node → Node) (ns : List Node) → ((n : Node) → g n .number ≡ n .number) → map (λ n. n .number) (map (λ n. cond (p n) (g n) n) ns) ≡ map (λ n. n .number) ns
-numbers-kept p g ns h = map-map (λ (n : Node). n .number) (λ n. cond (p n) (g n) n) ns ∙ map-cong _ (λ (n : Node). n .number) ns (λ n k. go (p n) n)
-  where
-    go : (b : Bool) (n : Node) → cond b (g n) n .number ≡ n .number
-    go true n = h n
-    go false n = refl
-
--- arcs in another order
-linked-order : {es fs : List Arc} {tail : Dart → ℕ} {next : Dart → Dart} {face : Dart → ℕ} → List·Permᴰ es fs → List·Permᴰ (darts es) (darts fs) → Linked es tail next face → Linked fs tail next face
-linked-order {next = next} p q l = record {
-  starts = λ a k. l .starts a (perm-in (Permᴰ·symm p) k);
-  ends = λ a k. l .ends a (perm-in (Permᴰ·symm p) k);
-  perm = List·Permᴰ·trans (Permᴰ·map next (Permᴰ·symm q)) (List·Permᴰ·trans (l .perm) q);
-  meets = λ d k. l .meets d (perm-in (Permᴰ·symm q) k);
-  keeps = λ d k. l .keeps d (perm-in (Permᴰ·symm q) k);
-}
-
--- where two functions agree on darts that one of them stays in, they lead alike
-leads-agree : (ds : List Dart) (g h : Dart → Dart) → ((d : Dart) → List·Memᴰ d ds → g d ≡ h d) → ((d : Dart) → List·Memᴰ d ds → List·Memᴰ (h d) ds) → {c d : Dart} → List·Memᴰ c ds → Leads g c d → Leads h c d
-leads-agree ds g h agree into {c} {d} k r = (r .0, sym (steps (r .0) .1) ∙ r .1)
-  where
-    steps : (j : ℕ) → List·Memᴰ (iterate j h c) ds × (iterate j g c ≡ iterate j h c)
-    steps zero = (k, refl)
-    steps (suc j) = go (steps j)
-      where
-        go : List·Memᴰ (iterate j h c) ds × (iterate j g c ≡ iterate j h c) → List·Memᴰ (iterate (suc j) h c) ds × (iterate (suc j) g c ≡ iterate (suc j) h c)
-        go q = (into (iterate j h c) (q .0), ap g (q .1) ∙ agree (iterate j h c) (q .0))
+use Rattle.grown.proofs.EdgesDrawn.{drawnRow, appended, leaves₁, bears₁, way₁, way-f, way-b, linked-in, linkEdge-next}
+use Rattle.grown.proofs.EdgesCorners.{nodeNumbers, numbers-kept, corner-first, departures-from, linked-order, leads-agree}
 
 -- what an edge needs that is drawn from u to v along c, with the face φ on both sides
 pub record Draws (m : Map) (u v : ℕ) (c : Curve) (φ : ℕ) : Type 0 where

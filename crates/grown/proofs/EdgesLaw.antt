@@ -1,21 +1,17 @@
 -- The link law depends on nodes, directions and links only at the departures that there are. Assumes nothing.
-use mathlib.Core.Path.{_≡_, refl, sym, ap, _∙_, subst}
-use mathlib.Core.Logic.{inl, inr}
-use mathlib.Core.Bool.{Bool, cond, not}
-use mathlib.Core.List.{List, [], _∷_, map, map-id, List·Memᴰ, List·Memᴰ·head, List·Memᴰ·tail, List·Memᴰ·cases-cons, Memᴰ·cast}
+use mathlib.Core.Path.{_≡_, refl, sym, ap, subst}
+use mathlib.Core.List.{List, _∷_, map-id, List·Memᴰ, List·Memᴰ·head, List·Memᴰ·tail}
 use Prim.Native.Nat.{ℕ}
 use Rattle.lists.specs.Tests.{same}
-use Rattle.lists.specs.Scans.{keep}
 use Rattle.lists.proofs.Bools.{same-eq, same-true}
-use Rattle.lists.proofs.Members.{some?, each-cons}
 use Rattle.lists.proofs.Keeps.{keep-in, keep-has}
 use Rattle.plane.specs.Directions.{Way}
 use Rattle.planar.specs.Map.{Dart, rev}
 use Rattle.planar.specs.Rings.{sameDart}
-use Rattle.rotation.specs.Law.{firstClockwise, Differ, others, lawful, Lawful, from, back, Apart, Law}
+use Rattle.rotation.specs.Law.{firstClockwise, Differ, Lawful, from, back, Law}
 use Rattle.rotation.proofs.Clock.{First, first-one}
-use Rattle.rotation.proofs.Node.{first-in, first-none, first-first, place, placed, size-of}
-use Rattle.rotation.proofs.Rename.{renamed-lawful, first-same}
+use Rattle.rotation.proofs.Node.{first-first, place, placed, size-of}
+use Rattle.rotation.proofs.Rename.{renamed-lawful}
 use Rattle.grown.proofs.Readings.{keep-cong}
 
 -- departures from a node, and back
@@ -38,23 +34,9 @@ module _ (ds : List Dart) {tail tail′ : Dart → ℕ} {way way′ : Dart → W
       inside : {d : Dart} → List·Memᴰ d (from tail ds n) → List·Memᴰ d ds
       inside {d} k = keep-in (λ (d : Dart). same (tail d) n) ds k .0
 
-  pub apart-agree : Apart tail way ds → Apart tail′ way′ ds
-  apart-agree a n d c i k e = a n d c (old i) (old k) (rw (hw d (inside (old i)), hw c (inside (old k))) at e)
-    where
-      old : {d : Dart} → List·Memᴰ d (from tail′ ds n) → List·Memᴰ d (from tail ds n)
-      old {d} i = subst (λ (l : List Dart). List·Memᴰ d l) (from-alike ds tail tail′ ht n) i
-
-      inside : {d : Dart} → List·Memᴰ d (from tail ds n) → List·Memᴰ d ds
-      inside {d} k = keep-in (λ (d : Dart). same (tail d) n) ds k .0
-
 -- no two have one direction, of a part of the list
 pub differ-part : {D : Type 0} {way : D → Way} {ds ds′ : List D} → ((d : D) → List·Memᴰ d ds → List·Memᴰ d ds′) → Differ way ds′ → Differ way ds
 differ-part h f d c i k e = f d c (h d i) (h c k) e
-
--- directions differ in any order
-module _ (tail : Dart → ℕ) (way : Dart → Way) (ds ds′ : List Dart) (to : (d : Dart) → List·Memᴰ d ds → List·Memᴰ d ds′) (fro : (d : Dart) → List·Memᴰ d ds′ → List·Memᴰ d ds) where
-  pub apart-order : Apart tail way ds → Apart tail way ds′
-  apart-order a n = differ-part (λ d k. let i = keep-in (λ (d : Dart). same (tail d) n) ds′ k in keep-has (λ (d : Dart). same (tail d) n) ds (fro d (i .0)) (i .1)) (a n)
 
 -- the first of more departures is the first of fewer, where it is one of these
 pub first-fewer : (way : Dart → Way) (x p u w : Dart) (ds : List Dart) → Differ way (x ∷ p ∷ ds) → List·Memᴰ (firstClockwise way (way x) u (p ∷ ds)) ds → firstClockwise way (way x) u (p ∷ ds) ≡ firstClockwise way (way x) w ds

@@ -1,14 +1,13 @@
 -- An edge linked in by directions, at its start and then at its end, is woven in at two corners. Assumes nothing.
 use mathlib.Core.Path.{_≡_, refl, sym, ap, _∙_, subst}
 use mathlib.Core.Logic.{_⊎_, inl, inr}
-use mathlib.Core.Bool.{Bool, true, false, cond}
-use mathlib.Core.List.{List, [], _∷_, List·Memᴰ, List·Memᴰ·head, List·Memᴰ·tail, List·Memᴰ·cases-cons, Memᴰ·cast, Memᴰ·of-map, Permᴰ·symm}
+use mathlib.Core.Bool.{true, false, cond}
+use mathlib.Core.List.{List, _∷_, List·Memᴰ, List·Memᴰ·head, List·Memᴰ·tail, List·Memᴰ·cases-cons, Memᴰ·cast, Memᴰ·of-map, Permᴰ·symm}
 use Prim.Native.Nat.{ℕ}
 use Rattle.lists.specs.Tests.{same}
 use Rattle.lists.specs.Members.{Distinct}
-use Rattle.lists.proofs.Bools.{which, same-eq, same-true}
+use Rattle.lists.proofs.Bools.{which, same-true}
 use Rattle.lists.proofs.Members.{each-cons, some?}
-use Rattle.lists.proofs.Keeps.{keep-in, keep-has}
 use Rattle.lists.proofs.Perms.{perm-in, injective-of-perm}
 use Rattle.plane.specs.Directions.{Way}
 use Rattle.planar.specs.Map.{Arc, Dart, fwd, bwd, rev, darts, Linked}
@@ -16,7 +15,7 @@ use Rattle.planar.specs.Pieces.{nums}
 use Rattle.planar.specs.Rings.{sameDart}
 use Rattle.planar.specs.Weave.{with-edge, lone, Corner, alone, after, tie, woven, Fits}
 use Rattle.planar.proofs.Bridges.{Fresh}
-use Rattle.planar.proofs.Rings.{rev-in, next-in}
+use Rattle.planar.proofs.Rings.{rev-in}
 use Rattle.planar.proofs.Hooks.{fwd≢bwd, fresh-dart, distinct-darts, exchange-other, hook-linked, with-fwd, with-bwd, with-other, lone-linked}
 use Rattle.planar.proofs.Turns.{rev-rev}
 use Rattle.planar.proofs.Agree.{linked-agree}
@@ -32,9 +31,6 @@ led-to {es} {next = next} l c k = Memᴰ·of-map next (darts es) (perm-in (Perm�
 
 -- the old links, and the functions that know the edge a
 module _ {es : List Arc} {tail : Dart → ℕ} {next : Dart → Dart} {face : Dart → ℕ} (l : Linked es tail next face) (dis : Distinct (nums es)) (a : Arc) (fresh : Fresh a es) (φ : ℕ) (W : Dart → Way) where
-  e : ℕ
-  e = a .num
-
   abbrev T : Dart → ℕ
   T = with-edge (a .num) (a .from) (a .to) tail
 
@@ -49,9 +45,6 @@ module _ {es : List Arc} {tail : Dart → ℕ} {next : Dart → Dart} {face : Da
 
   abbrev b : Dart
   b = bwd (a .num)
-
-  abbrev all : List Dart
-  all = darts es
 
   -- the departures at the start and the first of them, and the links then
   abbrev at-start : List Dart
@@ -130,10 +123,12 @@ module _ {es : List Arc} {tail : Dart → ℕ} {next : Dart → Dart} {face : Da
             go : (x : Dart) × List·Memᴰ x (darts es) × (N x ≡ c₁) → (k : Corner) × At-start k
             go x = (
               after (x .0),
-              ((rev-in es (x .1), sym (before .meets (x .0) (x .1)) ∙ ap T (x .2) ∙ from-in T (darts es) (T f) k .1 ∙ start, sym (before .keeps (x .0) (x .1)) ∙ ap F (x .2) ∙ face₁ c₁ k),
-              λ d i. link-is-tie (f ∷ darts es) N
-                  (λ d c i j. injective-of-perm N (darts (a ∷ es)) (distinct-darts (a ∷ es) dis⁺) (lone⁺ .perm) d c (wide-f i) (wide-f j)) f b (x .0) c₁ (λ i. elim (List·Memᴰ·cases-cons i) [ inl p ↦ fwd≢bwd (sym p) | inr j ↦ new j refl ])
-                  (List·Memᴰ·tail (x .1)) (x .2) nb d (swap i)),
+              (
+                (rev-in es (x .1), sym (before .meets (x .0) (x .1)) ∙ ap T (x .2) ∙ from-in T (darts es) (T f) k .1 ∙ start, sym (before .keeps (x .0) (x .1)) ∙ ap F (x .2) ∙ face₁ c₁ k),
+                λ d i. link-is-tie (f ∷ darts es) N
+                    (λ d c i j. injective-of-perm N (darts (a ∷ es)) (distinct-darts (a ∷ es) dis⁺) (lone⁺ .perm) d c (wide-f i) (wide-f j)) f b (x .0) c₁ (λ i. elim (List·Memᴰ·cases-cons i) [ inl p ↦ fwd≢bwd (sym p) | inr j ↦ new j refl ])
+                    (List·Memᴰ·tail (x .1)) (x .2) nb d (swap i),
+              ),
             )
 
   -- ---- at the end, the corner k of the start given
@@ -200,10 +195,12 @@ module _ {es : List Arc} {tail : Dart → ℕ} {next : Dart → Dart} {face : Da
                 here : List·Memᴰ (x .0) (b ∷ darts es) → (k′ : Corner) × At-end k′
                 here j = (
                   after (x .0),
-                  ((turned j, sym (linked₁ .meets (x .0) (x .1)) ∙ ap T (x .2) ∙ from-in T (f ∷ darts es) (T b) i .1 ∙ end, sym (linked₁ .keeps (x .0) (x .1)) ∙ ap F (x .2) ∙ face-c₂ i),
-                  λ d i. link-is-tie (b ∷ darts es) M₁
-                      (λ d c i j. injective-of-perm M₁ (darts (a ∷ es)) (distinct-darts (a ∷ es) dis⁺) (linked₁ .perm) d c (wide-b i) (wide-b j)) b f (x .0) c₂ (λ i. elim (List·Memᴰ·cases-cons i) [ inl p ↦ fwd≢bwd p | inr j ↦ new j refl ])
-                      j (x .2) still d i),
+                  (
+                    (turned j, sym (linked₁ .meets (x .0) (x .1)) ∙ ap T (x .2) ∙ from-in T (f ∷ darts es) (T b) i .1 ∙ end, sym (linked₁ .keeps (x .0) (x .1)) ∙ ap F (x .2) ∙ face-c₂ i),
+                    λ d i. link-is-tie (b ∷ darts es) M₁
+                        (λ d c i j. injective-of-perm M₁ (darts (a ∷ es)) (distinct-darts (a ∷ es) dis⁺) (linked₁ .perm) d c (wide-b i) (wide-b j)) b f (x .0) c₂ (λ i. elim (List·Memᴰ·cases-cons i) [ inl p ↦ fwd≢bwd p | inr j ↦ new j refl ])
+                        j (x .2) still d i,
+                  ),
                 )
 
   -- ---- both

@@ -1,20 +1,20 @@
 -- From face 0 every face is reached across edges; so each but 0 is borne by some directed edge. Assumes nothing.
-use mathlib.Core.Path.{_≡_, refl, sym, ap, _∙_, subst}
-use mathlib.Core.Logic.{_⊎_, inl, inr, _≢_}
-use mathlib.Core.Bool.{Bool, true, false, _||_, true≢false}
-use mathlib.Core.List.{List, List·Memᴰ}
+use mathlib.Core.Path.{_≡_, sym, ap, _∙_}
+use mathlib.Core.Logic.{inl, inr, _≢_}
+use mathlib.Core.Bool.{Bool, true, false, _||_}
+use mathlib.Core.List.{List·Memᴰ}
 use Prim.Native.Nat.{ℕ}
 use Rattle.lists.specs.Tests.{same}
 use Rattle.lists.specs.Scans.{any}
 use Rattle.lists.specs.Members.{Distinct}
 use Rattle.lists.proofs.Bools.{which, same-refl, same-true, or-true}
-use Rattle.planar.specs.Map.{Arc, Dart, fwd, bwd, rev}
+use Rattle.planar.specs.Map.{Dart, fwd, bwd, rev}
 use Rattle.planar.specs.Pieces.{nums}
 use Rattle.planar.proofs.Cycles.{fwd-in, bwd-in}
 use Rattle.geometry.proofs.Booleans.{or-false}
 use Rattle.map.specs.Rows.{Edge, Map, edge}
 use Rattle.map.specs.Darts.{arcs, directed, bears}
-use Rattle.grown.proofs.Readings.{arcOf, faceIn, bears-row, edge-row, edge-at, arc-at, dart-has}
+use Rattle.grown.proofs.Readings.{faceIn, bears-row, edge-row, edge-at, arc-at, dart-has}
 use Rattle.grown.proofs.Changes.{none-has}
 use Rattle.grown.proofs.Scanning.{any-some}
 
@@ -41,10 +41,10 @@ even-darts m S h d k = ap S (bears-row m d) ∙ go (d .back) ∙ sym (ap S (bear
     go true = sym (h row (edge-row m (d .edge) (dart-has m k) .0))
 
 module _ (m : Map) (dis : Distinct (nums (arcs m))) {e : Edge} (k : List·Memᴰ e (m .edges)) where
-  bears-left : bears m (fwd (e .number)) ≡ e .left
+  pub bears-left : bears m (fwd (e .number)) ≡ e .left
   bears-left = bears-row m (fwd (e .number)) ∙ ap (λ (r : Edge). r .left) (edge-at m dis k)
 
-  bears-right : bears m (bwd (e .number)) ≡ e .right
+  pub bears-right : bears m (bwd (e .number)) ≡ e .right
   bears-right = bears-row m (bwd (e .number)) ∙ ap (λ (r : Edge). r .right) (edge-at m dis k)
 
 pub darts-even : (m : Map) → Distinct (nums (arcs m)) → (S : ℕ → Bool) → EvenDarts m S → Even m S

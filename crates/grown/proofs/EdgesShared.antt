@@ -9,15 +9,13 @@ use lib.ListN.{length, length-append}
 use Rattle.lists.specs.Tests.{same}
 use Rattle.lists.specs.Scans.{keep}
 use Rattle.lists.specs.Members.{Distinct}
-use Rattle.lists.proofs.Bools.{which, same-refl, same-true, same-false, same-eq, equal?, not-true}
+use Rattle.lists.proofs.Bools.{which, same-false, same-eq, equal?, not-true}
 use Rattle.lists.proofs.Keeps.{keep-in}
 use Rattle.lists.proofs.Perms.{perm-length}
-use Rattle.planar.specs.Map.{Arc, Dart, fwd, bwd, rev, Linked}
+use Rattle.planar.specs.Map.{Dart, rev, Linked}
 use Rattle.planar.specs.Pieces.{nums}
-use Rattle.planar.specs.Rings.{Leads}
-use Rattle.planar.proofs.Rings.{next-in, rev-in}
-use Rattle.planar.proofs.Turns.{rev-rev}
-use Rattle.map.specs.Rows.{Edge, Map, node, edge}
+use Rattle.planar.proofs.Rings.{rev-in}
+use Rattle.map.specs.Rows.{Map, node, edge}
 use Rattle.map.specs.Darts.{arcs, directed, leaves, next, bears, ring, among, lowestEdge}
 use Rattle.map.specs.Faces.{encloses}
 use Rattle.map.specs.Edits.{Shares, sideOfPoint, sideOfRing, sideOfDart}
@@ -92,7 +90,7 @@ pub record Sharing (s : Shares) (fresh : ℕ) (fs fs′ : List ℕ) : Type 0 whe
   pub zero : s .old ≡ 0 → (s .ref ≡ 0) ⊎ (s .other ≡ 0)
 
 -- one number left out of a list that has it once
-length-without : (g : ℕ) (fs : List ℕ) → Distinct fs → List·Memᴰ g fs → length fs ≡ suc (length (keep (λ f. not (same f g)) fs))
+pub length-without : (g : ℕ) (fs : List ℕ) → Distinct fs → List·Memᴰ g fs → length fs ≡ suc (length (keep (λ f. not (same f g)) fs))
 length-without g fs dis k = perm-length (without-perm (λ (n : ℕ). n) 0 fs g (subst Distinct (sym (map-id fs)) dis) (has-number (λ (n : ℕ). n) fs g (subst (λ (l : List ℕ). List·Memᴰ g l) (sym (map-id fs)) k)))
 
 -- as in `splitFace`: the old face goes or stays, and the reference side is left or right

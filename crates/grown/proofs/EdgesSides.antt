@@ -1,25 +1,19 @@
 -- Rows with other faces: all else is read as it was. Assumes nothing.
 use mathlib.Core.Path.{_≡_, refl, sym, ap, _∙_, subst}
-use mathlib.Core.Bool.{Bool, true, false, cond}
-use mathlib.Core.List.{List, map, map-map, List·Memᴰ}
-use mathlib.Core.Option.{Option, none, some}
+use mathlib.Core.Bool.{Bool, true, false}
+use mathlib.Core.List.{List, map, List·Memᴰ}
 use Prim.Native.Nat.{ℕ}
-use lib.ListN.{length}
-use Rattle.lists.specs.Tests.{same}
-use Rattle.lists.proofs.Members.{map-cong}
 use Rattle.planar.specs.Map.{Arc, Dart, fwd, bwd, rev, darts}
 use Rattle.planar.specs.Rings.{sameDart}
 use Rattle.planar.specs.Planar.{Planar}
-use Rattle.planar.proofs.Rings.{rev-in}
 use Rattle.planar.proofs.Rows.{planar-agree}
 use Rattle.curves.specs.Curves.{startWay}
 use Rattle.rotation.specs.Law.{Law}
-use Rattle.map.specs.Rows.{Node, Edge, Map, edge, hasEdge}
-use Rattle.map.specs.Darts.{arcs, directed, leaves, next, bears, course, way}
+use Rattle.map.specs.Rows.{Edge, Map, edge, hasEdge}
+use Rattle.map.specs.Darts.{arcs, directed, leaves, next, bears, way}
 use Rattle.map.specs.Edits.{withSides}
 use Rattle.grown.proofs.Readings.{tailIn, nextIn, faceIn, courseIn, leaves-row, next-row, bears-row, course-row, way-row, edge-row, dart-has, mapped-has, mapped-edge, mapped-kept, mapped-arcs}
 use Rattle.grown.proofs.EdgesLaw.{law-agree}
-use Rattle.grown.proofs.EdgesJoined.{nodeNumbers}
 
 -- m′ is m with other faces: l and r say which for a row
 module _ (m m′ : Map) (l r : Edge → ℕ) (E : m′ .edges ≡ map (λ e. withSides (l e) (r e) e) (m .edges)) where

@@ -2,14 +2,14 @@
 use mathlib.Core.Path.{_≡_, refl, sym, ap, _∙_, subst}
 use mathlib.Core.Logic.{_⊎_, inl, inr, _≢_}
 use mathlib.Core.Bool.{Bool, true, false, cond, not, _&&_, _||_, true≢false}
-use mathlib.Core.List.{List, [], _∷_, map, map-map, List·Memᴰ, List·Memᴰ·head, List·Memᴰ·tail}
+use mathlib.Core.List.{List, map, map-map, List·Memᴰ, List·Memᴰ·head, List·Memᴰ·tail}
 use mathlib.Core.Option.{Option, none, some}
 use Prim.Native.Nat.{ℕ, suc, _+_, _≤_, _<_}
 use native.Mathlib.Omega.{arith}
 use lib.ListN.{length}
 use Rattle.lists.specs.Tests.{same}
 use Rattle.lists.specs.Members.{Distinct}
-use Rattle.lists.proofs.Bools.{which, same-refl, same-true, same-false, same-eq, equal?, or-right}
+use Rattle.lists.proofs.Bools.{same-refl, same-false, same-eq, equal?, or-right}
 use Rattle.lists.proofs.Members.{map-cong}
 use Rattle.integers.specs.Order.{sgn}
 use Rattle.plane.specs.Areas.{isPositive}
@@ -19,7 +19,7 @@ use Rattle.planar.specs.Planar.{Planar}
 use Rattle.planar.proofs.Cycles.{Grown}
 use Rattle.planar.proofs.Rings.{rev-in}
 use Rattle.planar.proofs.Hooks.{fresh-dart, with-fwd, with-bwd, with-other}
-use Rattle.map.specs.Rows.{Node, Edge, Map, atNodes, atEdge}
+use Rattle.map.specs.Rows.{Node, Map, atNodes, atEdge}
 use Rattle.map.specs.Darts.{arcs, directed, leaves, next, bears, ring, among}
 use Rattle.map.specs.Links.{redirect, lead, linkIn, linkEdge}
 use Rattle.map.specs.Faces.{ringArea}
@@ -30,7 +30,8 @@ use Rattle.grown.proofs.EdgesReached.{Reached, even-darts, darts-even}
 use Rattle.grown.proofs.EdgesSides.{sides-arcs, sides-bears, sides-law, sides-planar}
 use Rattle.grown.proofs.EdgesShared.{side-new, side-old, side-keeps, side-x, side-rev, apart-rev, Sharing, sharesOf, facesOf, sharing}
 use Rattle.grown.proofs.EdgesDrawn.{drawnRow}
-use Rattle.grown.proofs.EdgesJoined.{nodeNumbers, Draws, D-all, all-D, D-bears, D-faces, D-linked, D-once, D-law, D-split}
+use Rattle.grown.proofs.EdgesCorners.{nodeNumbers}
+use Rattle.grown.proofs.EdgesJoined.{Draws, all-D, D-bears, D-faces, D-linked, D-once, D-law, D-split}
 
 -- what the faces of a map give
 pub record Faced (m : Map) : Type 0 where
@@ -110,10 +111,14 @@ module _ (news : Bool) (m : Map) (u v : ℕ) (c : Curve) (φ : ℕ) (draws : Dra
   two-sides = go isLeft refl
     where
       go : (t : Bool) → isLeft ≡ t → ((new f ≡ s .ref) × (new b ≡ s .other)) ⊎ ((new f ≡ s .other) × (new b ≡ s .ref))
-      go true e = inl (side-x D linked (D-once m u v c φ draws) s f in-f (ap (λ t. cond t (ring D f) (ring D b)) e) (ap (λ t. cond t (ring D b) (ring D f)) e) split refl on-b,
-        side-rev D linked (D-once m u v c φ draws) s f in-f (ap (λ t. cond t (ring D f) (ring D b)) e) (ap (λ t. cond t (ring D b) (ring D f)) e) split refl on-b)
-      go false e = inr (side-rev D linked (D-once m u v c φ draws) s b in-b (ap (λ t. cond t (ring D f) (ring D b)) e) (ap (λ t. cond t (ring D b) (ring D f)) e) other-way on-b refl,
-        side-x D linked (D-once m u v c φ draws) s b in-b (ap (λ t. cond t (ring D f) (ring D b)) e) (ap (λ t. cond t (ring D b) (ring D f)) e) other-way on-b refl)
+      go true e = inl (
+        side-x D linked (D-once m u v c φ draws) s f in-f (ap (λ t. cond t (ring D f) (ring D b)) e) (ap (λ t. cond t (ring D b) (ring D f)) e) split refl on-b,
+        side-rev D linked (D-once m u v c φ draws) s f in-f (ap (λ t. cond t (ring D f) (ring D b)) e) (ap (λ t. cond t (ring D b) (ring D f)) e) split refl on-b,
+      )
+      go false e = inr (
+        side-rev D linked (D-once m u v c φ draws) s b in-b (ap (λ t. cond t (ring D f) (ring D b)) e) (ap (λ t. cond t (ring D b) (ring D f)) e) other-way on-b refl,
+        side-x D linked (D-once m u v c φ draws) s b in-b (ap (λ t. cond t (ring D f) (ring D b)) e) (ap (λ t. cond t (ring D b) (ring D f)) e) other-way on-b refl,
+      )
         where
           other-way : among (ring D b) f ≡ false
           other-way = apart-rev D linked (D-once m u v c φ draws) f b in-f in-b split

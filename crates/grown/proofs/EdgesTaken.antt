@@ -1,26 +1,18 @@
 -- An edge taken out of a map: law, plane and faces, from what the map reads after it. Assumes nothing.
-use mathlib.Core.Path.{_≡_, refl, sym, ap, _∙_, subst}
-use mathlib.Core.Logic.{_⊎_, inl, inr, _≢_}
-use mathlib.Core.Bool.{Bool, true, false, cond, not}
-use mathlib.Core.List.{List, [], _∷_, map, List·Memᴰ, List·Memᴰ·head, List·Memᴰ·tail, List·Memᴰ·cases-cons, Memᴰ·cast, Memᴰ·of-map, List·Permᴰ, Permᴰ·symm, Permᴰ·map}
+use mathlib.Core.Path.{_≡_, refl, sym, ap, _∙_}
+use mathlib.Core.Logic.{inl, inr, _≢_}
+use mathlib.Core.Bool.{cond}
+use mathlib.Core.List.{List, _∷_, map, List·Memᴰ, List·Memᴰ·head, List·Memᴰ·tail, Memᴰ·of-map, List·Permᴰ, Permᴰ·symm}
 use Prim.Native.Nat.{ℕ, suc}
-use lib.ListN.{length}
-use Rattle.lists.specs.Tests.{same}
-use Rattle.lists.specs.Members.{Distinct}
-use Rattle.lists.proofs.Keeps.{keep-in, keep-has}
-use Rattle.lists.proofs.Perms.{perm-in, perm-distinct, injective-of-perm}
+use Rattle.lists.proofs.Perms.{perm-in, injective-of-perm}
 use Rattle.planar.specs.Map.{Arc, Dart, fwd, bwd, rev, darts, Linked}
-use Rattle.planar.specs.Pieces.{nums}
 use Rattle.planar.specs.Rings.{sameDart}
-use Rattle.planar.specs.Weave.{Corner, after, tie, Holds}
+use Rattle.planar.specs.Weave.{after, tie}
 use Rattle.planar.specs.Planar.{Planar}
-use Rattle.planar.proofs.Bridges.{Either, Shrunk}
-use Rattle.planar.proofs.Rings.{rev-in}
+use Rattle.planar.proofs.Bridges.{Shrunk}
 use Rattle.planar.proofs.Hooks.{sameDart?, fwd≢bwd, fresh-dart, distinct-darts, hook-linked}
-use Rattle.planar.proofs.Turns.{rev-rev}
-use Rattle.planar.proofs.Moves.{planar-perm}
 use Rattle.planar.proofs.Rows.{planar-agree}
-use Rattle.planar.proofs.Unweaving.{corner, planar-part, planar-merge}
+use Rattle.planar.proofs.Unweaving.{planar-part, planar-merge}
 use Rattle.rotation.specs.Law.{redirect, unlinkEdge}
 use Rattle.rotation.proofs.Tells.{is-yes, is-no}
 use Rattle.rotation.proofs.Ties.{tells, unlink-is-tie}

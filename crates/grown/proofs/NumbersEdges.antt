@@ -20,7 +20,7 @@ use Rattle.map.specs.Rows.{Node, Edge, Map, node, edge, hasNode, hasEdge, atNod
 use Rattle.map.specs.Darts.{arcs, bears, edgeEnds}
 use Rattle.map.specs.Links.{unlinkEdge}
 use Rattle.map.specs.Edits.{withFace, isEither, drawn, undrawn}
-use Rattle.grown.proofs.Readings.{edge-row, edge-at, numberOf}
+use Rattle.grown.proofs.Readings.{edge-row, edge-at, numberOf, has-number}
 use Rattle.grown.proofs.RowChanges.{nodeNumber, node-row}
 use Rattle.grown.proofs.Scanning.{Rising, rising-append, rising-keep, rising-distinct}
 use Rattle.grown.proofs.Numbers.{Outline, outlineOf, outlines, outlineNumber, Met, EndsAt, Placed, Sided, Ranked, RankedMap, ends-met, met-ends}
@@ -98,6 +98,16 @@ node-face-in m n h iso r = go (node m n .face) refl iso
 
 nums-outlines : (m : Map) → nums (arcs m) ≡ map outlineNumber (outlines m)
 nums-outlines m = map-map _ _ (m .edges) ∙ sym (map-map outlineNumber outlineOf (m .edges))
+
+-- no two edges have one number
+pub outlines-distinct : {b : ℕ} (m : Map) → Rising 1 b (map outlineNumber (outlines m)) → Distinct (nums (arcs m))
+outlines-distinct m r = subst Distinct (sym (nums-outlines m)) (rising-distinct (map outlineNumber (outlines m)) (r .rises))
+
+pub ranked-distinct : (m : Map) → RankedMap m → Distinct (nums (arcs m))
+ranked-distinct m r = outlines-distinct m (r .edges)
+
+pub outline-has : (m : Map) (o : Outline) → List·Memᴰ o (outlines m) → hasEdge m (o .arc .num) ≡ true
+outline-has m o k = has-number numberOf (m .edges) (o .arc .num) (subst (List·Memᴰ (o .arc .num)) (map-map outlineNumber outlineOf (m .edges)) (Memᴰ·map outlineNumber k))
 
 -- the outline with a number is that of its row
 pub outline-at : (m : Map) (e : ℕ) → Distinct (nums (arcs m)) → (o : Outline) → List·Memᴰ o (outlines m) → o .arc .num ≡ e → o ≡ outlineOf (edge m e)
@@ -190,3 +200,14 @@ undrawn-next-edge e f m = unlink-shape e m .next-edge
 pub undrawn-next-face : (e f : ℕ) (m : Map) → undrawn e f m .nextFace ≡ m .nextFace
 unfolding undrawn atNodes
 undrawn-next-face e f m = unlink-shape e m .next-face
+
+pub undrawn-map : (e f : ℕ) (m : Map) → List·Memᴰ f (m .faces) → RankedMap m → RankedMap (undrawn e f m)
+undrawn-map e f m k r =
+    ranked-shape {m = undrawn e f m} (record {
+      nodes = refl;
+      outlines = refl;
+      faces = undrawn-face-list e f m;
+      next-node = undrawn-next-node e f m;
+      next-edge = undrawn-next-edge e f m;
+      next-face = undrawn-next-face e f m;
+    }) (undrawn-ranked m e f (ranked-distinct m r) k r)

@@ -146,7 +146,7 @@ module _ (m : Map) (s : Shares) (dis : Distinct (nums (arcs m))) {fs : List ℕ}
 -- ---- a face split
 
 -- one or two new faces, and the old one gone with two
-abbrev splitList : Bool → ℕ → ℕ → List ℕ → List ℕ
+abbrev pub splitList : Bool → ℕ → ℕ → List ℕ → List ℕ
 splitList goes old a fs = cond goes (keep (λ f. not (same f old)) fs ++ a ∷ cond goes (a + 1) old ∷ []) (fs ++ a ∷ [])
 
 module _ (old a : ℕ) (fs : List ℕ) (k : List·Memᴰ old fs) where
@@ -173,11 +173,11 @@ module _ (old a : ℕ) (fs : List ℕ) (k : List·Memᴰ old fs) where
   rest-in false f j ne = Memᴰ·append-left (a ∷ []) j
 
 -- face 0 stays in front
-first-append : (fs gs : List ℕ) → firstOr 1 fs ≡ 0 → firstOr 1 (fs ++ gs) ≡ 0
+pub first-append : (fs gs : List ℕ) → firstOr 1 fs ≡ 0 → firstOr 1 (fs ++ gs) ≡ 0
 first-append [] gs e = absurd (omega arith)
 first-append (f ∷ fs) gs e = e
 
-first-keep : (p : ℕ → Bool) (fs : List ℕ) → p 0 ≡ true → firstOr 1 fs ≡ 0 → firstOr 1 (keep p fs) ≡ 0
+pub first-keep : (p : ℕ → Bool) (fs : List ℕ) → p 0 ≡ true → firstOr 1 fs ≡ 0 → firstOr 1 (keep p fs) ≡ 0
 first-keep p [] h e = absurd (omega arith)
 first-keep p (f ∷ fs) h e = rw (ap p e ∙ h) e
 

@@ -1,0 +1,212 @@
+-- Kinds 13 and 14. Assumes nothing.
+use mathlib.Core.Path.{_≡_, refl, sym, ap, _∙_, subst}
+use mathlib.Core.Logic.{_⊎_, inl, inr, _≢_}
+use mathlib.Core.Bool.{Bool, true, false, cond, not, _&&_}
+use mathlib.Core.List.{List, [], _∷_, _++_, map, map-map, List·Memᴰ, List·Memᴰ·append-cases, List·Memᴰ·eq-of-singleton}
+use mathlib.Core.Option.{Option, none, some}
+use Prim.Native.Nat.{ℕ, suc, _+_}
+use native.Mathlib.Omega.{arith}
+use borrow.Author.Tests.{not-true}
+use lib.ListN.{length, length-append}
+use Rattle.lists.specs.Tests.{same}
+use Rattle.lists.specs.Members.{Distinct}
+use Rattle.lists.proofs.Bools.{which, same-refl, same-true, same-false, equal?, differ}
+use Rattle.lists.proofs.Members.{map-cong}
+use Rattle.lists.proofs.Keeps.{keep-in}
+use Rattle.planar.specs.Map.{fwd, bwd}
+use Rattle.planar.specs.Pieces.{nums}
+use Rattle.planar.proofs.Bridges.{Either}
+use Rattle.geometry.proofs.Booleans.{and-true}
+use Rattle.rotation.proofs.Clock.{le-or}
+use Rattle.map.specs.Rows.{Node, Edge, Map, edge, hasEdge}
+use Rattle.map.specs.Darts.{arcs, bears}
+use Rattle.map.specs.Links.{unlinkEdge}
+use Rattle.map.specs.Edits.{withSides, healsFaces, lowerFace, makesFace, faceLeft, renamed, renamedNode, renamedFaces, removeEdge}
+use Rattle.grown.specs.Good.{Woven, Good}
+use Rattle.grown.proofs.Readings.{bears-row, has-dart}
+use Rattle.grown.proofs.Apart.{apart}
+use Rattle.grown.proofs.EdgesReached.{Reached, bears-left, bears-right}
+use Rattle.grown.proofs.EdgesSides.{sides-arcs, sides-has, sides-leaves, sides-next, sides-way, sides-bears}
+use Rattle.grown.proofs.EdgesAdded.{faced}
+use Rattle.grown.proofs.EdgesCorners.{nodeNumbers}
+use Rattle.grown.proofs.EdgesMerged.{merged, merged-left, merged-right, merged-other, stay, stay-all, stay-one, stay-none}
+use Rattle.grown.proofs.EdgesRemove.{Taken, taken, Merging, taken-woven, taken-reached}
+use Rattle.grown.proofs.EdgesUndrawn.{undrawn-nodes, undrawn-edges}
+
+renamed-number : (r : Edge) (g : ℕ) (n : Node) (f : Option ℕ) → renamedNode r g n f .number ≡ n .number
+renamed-number r g n none = refl
+renamed-number r g n (some f) = refl
+
+not-same : (x y : ℕ) → not (same x y) ≡ true → x ≢ y
+not-same x y h = differ x y (not-true (same x y) h)
+
+-- a face is made where the two differ and neither is 0
+made-facts : (news : Bool) (e : ℕ) (m : Map) → makesFace news e m ≡ true → (edge m e .left ≢ edge m e .right) × (lowerFace e m ≢ 0)
+unfolding makesFace healsFaces
+made-facts news e m q =
+    let k = and-true (news && not (same (edge m e .left) (edge m e .right))) (not (same (lowerFace e m) 0)) q in
+    let j = and-true news (not (same (edge m e .left) (edge m e .right))) (k .0) in
+    (not-same (edge m e .left) (edge m e .right) (j .1), not-same (lowerFace e m) 0 (k .1))
+
+module _ (news : Bool) (e : ℕ) (m : Map) (good : Good m) (has : hasEdge m e ≡ true) where
+  abbrev L : ℕ
+  L = edge m e .left
+
+  abbrev R : ℕ
+  R = edge m e .right
+
+  -- the face that is left
+  abbrev g₀ : ℕ
+  g₀ = faceLeft news e m
+
+  abbrev μ : ℕ → ℕ
+  μ = renamed (edge m e) (faceLeft news e m)
+
+  abbrev m₁ : Map
+  m₁ = renamedFaces (edge m e) (faceLeft news e m) m
+
+  abbrev X : Map
+  X = removeEdge news e m
+
+  dis : Distinct (nums (arcs m))
+  dis = good .woven .planar .edges-once
+
+  rows₁ : m₁ .edges ≡ map (λ r. withSides (μ (r .left)) (μ (r .right)) r) (m .edges)
+  unfolding renamedFaces
+  rows₁ = refl
+
+  nodes₁ : nodeNumbers m₁ ≡ nodeNumbers m
+  unfolding renamedFaces
+  nodes₁ = map-map (λ (n : Node). n .number) (λ n. renamedNode (edge m e) g₀ n (n .face)) (m .nodes) ∙ map-cong _ (λ (n : Node). n .number) (m .nodes) (λ n k. renamed-number (edge m e) g₀ n (n .face))
+
+  X-edges : X .edges ≡ unlinkEdge e m₁ .edges
+  unfolding removeEdge
+  X-edges = undrawn-edges e g₀ m₁
+
+  X-nodes : nodeNumbers X ≡ nodeNumbers m
+  unfolding removeEdge
+  X-nodes = undrawn-nodes e g₀ m₁ ∙ nodes₁
+
+  X-faces : X .faces ≡ cond (makesFace news e m) (stay L R g₀ (m .faces) ++ g₀ ∷ []) (stay L R g₀ (m .faces))
+  unfolding removeEdge
+  X-faces = refl
+
+  edge-taken : Taken m X e μ
+  edge-taken = taken m m₁ X e μ dis has (sides-arcs m m₁ l r rows₁) (sides-has m m₁ l r rows₁) (sides-leaves m m₁ l r rows₁) (sides-way m m₁ l r rows₁) (sides-next m m₁ l r rows₁)
+      (sides-bears m m₁ l r rows₁ (λ d. μ (bears m d)) (λ q k. ap μ (sym (bears-left m dis k))) (λ q k. ap μ (sym (bears-right m dis k)))) X-edges X-nodes
+    where
+      l : Edge → ℕ
+      l q = μ (q .left)
+
+      r : Edge → ℕ
+      r q = μ (q .right)
+
+  -- ---- the faces
+
+  on-f : bears m (fwd e) ≡ L
+  on-f = bears-row m (fwd e)
+
+  on-b : bears m (bwd e) ≡ R
+  on-b = bears-row m (bwd e)
+
+  in-left : List·Memᴰ L (m .faces)
+  in-left = subst (λ (g : ℕ). List·Memᴰ g (m .faces)) on-f (faced m good .borne (fwd e) (has-dart m (fwd e) has))
+
+  in-right : List·Memᴰ R (m .faces)
+  in-right = subst (λ (g : ℕ). List·Memᴰ g (m .faces)) on-b (faced m good .borne (bwd e) (has-dart m (bwd e) has))
+
+  low-is : (lowerFace e m ≡ L) ⊎ (lowerFace e m ≡ R)
+  low-is = elim (le-or L R) [ inl p ↦ inl (omega arith) | inr p ↦ inr (omega arith) ]
+
+  -- it is new, or the lower of the two
+  left-new : makesFace news e m ≡ true → g₀ ≡ m .nextFace
+  left-new q = ap (λ x. cond x (m .nextFace) (lowerFace e m)) q
+
+  left-low : makesFace news e m ≡ false → g₀ ≡ lowerFace e m
+  left-low q = ap (λ x. cond x (m .nextFace) (lowerFace e m)) q
+
+  left-one : makesFace news e m ≡ false → (g₀ ≡ L) ⊎ (g₀ ≡ R)
+  left-one q = elim low-is [ inl p ↦ inl (left-low q ∙ p) | inr p ↦ inr (left-low q ∙ p) ]
+
+  not-left : (h : ℕ) → List·Memᴰ h (m .faces) → h ≢ L → h ≢ R → h ≢ g₀
+  not-left h k l r p = elim (which (makesFace news e m)) [
+    | inl q ↦ (let b = faced m good .below h k in let t = p ∙ left-new q in omega arith)
+    | inr q ↦ elim (left-one q) [ inl t ↦ l (p ∙ t) | inr t ↦ r (p ∙ t) ]
+  ]
+
+  zero-left : (0 ≡ L) ⊎ (0 ≡ R) → g₀ ≡ 0
+  zero-left z = elim (which (makesFace news e m)) [ inl q ↦ absurd (made-facts news e m q .1 low) | inr q ↦ left-low q ∙ low ]
+    where
+      low : lowerFace e m ≡ 0
+      low = elim z [ inl p ↦ omega arith | inr p ↦ omega arith ]
+
+  zero-stays : μ 0 ≡ 0
+  zero-stays = elim (equal? 0 L) [
+    | inl p ↦ ap μ p ∙ merged-left L R g₀ ∙ zero-left (inl p)
+    | inr l ↦ elim (equal? 0 R) [ inl p ↦ ap μ p ∙ merged-right L R g₀ ∙ zero-left (inr p) | inr r ↦ merged-other L R g₀ 0 l r ]
+  ]
+
+  back : ℕ → ℕ
+  back h = cond (same h g₀) L h
+
+  back-left : back g₀ ≡ bears m (fwd e)
+  unfolding back
+  back-left = ap (λ x. cond x L g₀) (same-refl g₀) ∙ sym on-f
+
+  goes-back : (h : ℕ) → List·Memᴰ h (m .faces) → (back (μ h) ≡ h) ⊎ (Either (bears m (fwd e)) (bears m (bwd e)) (back (μ h)) × Either (bears m (fwd e)) (bears m (bwd e)) h)
+  unfolding back
+  goes-back h k = elim (equal? h L) [
+    | inl p ↦ inr (inl (ap back (ap μ p ∙ merged-left L R g₀) ∙ back-left), inl (p ∙ sym on-f))
+    | inr l ↦ elim (equal? h R) [
+      | inl p ↦ inr (inl (ap back (ap μ p ∙ merged-right L R g₀) ∙ back-left), inr (p ∙ sym on-b))
+      | inr r ↦ inl (ap back (merged-other L R g₀ h l r) ∙ ap (λ x. cond x L h) (same-false h g₀ (not-left h k l r)))
+    ]
+  ]
+
+  -- each face that is left was one before, or comes of the two
+  face-before : (g : ℕ) → List·Memᴰ g (X .faces) → (h : ℕ) × List·Memᴰ h (m .faces) × (μ h ≡ g)
+  face-before g k = go (makesFace news e m) (subst (λ (fs : List ℕ). List·Memᴰ g fs) X-faces k)
+    where
+      stayed : List·Memᴰ g (stay L R g₀ (m .faces)) → (h : ℕ) × List·Memᴰ h (m .faces) × (μ h ≡ g)
+      stayed i = let j = keep-in (λ h. same h (merged L R g₀ h)) (m .faces) i in (g, j .0, sym (same-true g (μ g) (j .1)))
+
+      go : (b : Bool) → List·Memᴰ g (cond b (stay L R g₀ (m .faces) ++ g₀ ∷ []) (stay L R g₀ (m .faces))) → (h : ℕ) × List·Memᴰ h (m .faces) × (μ h ≡ g)
+      go true i = elim (List·Memᴰ·append-cases (stay L R g₀ (m .faces)) i) [ inl j ↦ stayed j | inr j ↦ (L, in-left, merged-left L R g₀ ∙ sym (List·Memᴰ·eq-of-singleton j)) ]
+      go false i = stayed i
+
+  face-count : ((bears m (fwd e) ≡ bears m (bwd e)) × (length (X .faces) ≡ length (m .faces))) ⊎ ((bears m (fwd e) ≢ bears m (bwd e)) × (length (m .faces) ≡ suc (length (X .faces))))
+  face-count = elim (which (makesFace news e m)) [
+    | inl q ↦ inr (apart-sides (made-facts news e m q .0), fewer q (stay-none L R g₀ (m .faces) once in-left in-right (made-facts news e m q .0) (λ h k p. let b = faced m good .below h k in let t = p ∙ left-new q in omega arith)))
+    | inr q ↦ elim (equal? L R) [
+      | inl p ↦ inl (on-f ∙ p ∙ sym on-b, ap length (plain q ∙ stay-all L R g₀ (m .faces) once in-left in-right p (elim (left-one q) [ inl t ↦ t | inr t ↦ t ∙ sym p ])))
+      | inr ne ↦ inr (apart-sides ne, stay-one L R g₀ (m .faces) once in-left in-right ne (left-one q) ∙ ap (λ (fs : List ℕ). suc (length fs)) (sym (plain q)))
+    ]
+  ]
+    where
+      once : Distinct (m .faces)
+      once = faced m good .once
+
+      apart-sides : L ≢ R → bears m (fwd e) ≢ bears m (bwd e)
+      apart-sides ne p = ne (sym on-f ∙ p ∙ on-b)
+
+      plain : makesFace news e m ≡ false → X .faces ≡ stay L R g₀ (m .faces)
+      plain q = X-faces ∙ ap (λ x. cond x (stay L R g₀ (m .faces) ++ g₀ ∷ []) (stay L R g₀ (m .faces))) q
+
+      fewer : makesFace news e m ≡ true → length (m .faces) ≡ suc (suc (length (stay L R g₀ (m .faces)))) → length (m .faces) ≡ suc (length (X .faces))
+      fewer q n = let k = ap length (X-faces ∙ ap (λ x. cond x (stay L R g₀ (m .faces) ++ g₀ ∷ []) (stay L R g₀ (m .faces))) q) in let j = length-append (stay L R g₀ (m .faces)) (g₀ ∷ []) in omega arith
+
+  merging : Merging m e μ (X .faces)
+  merging = record {
+    one = ap μ on-f ∙ merged-left L R g₀ ∙ sym (merged-right L R g₀) ∙ sym (ap μ on-b);
+    back = back;
+    goes-back = goes-back;
+    zero = zero-stays;
+    faces = face-before;
+    count = face-count;
+  }
+
+  pub woven-removed : Reached m → Woven (removeEdge news e m)
+  woven-removed r = taken-woven m X e μ has edge-taken (good .woven) (faced m good) merging (apart m (good .surveyed)) r
+
+  pub reached-removed : Reached m → Reached (removeEdge news e m)
+  reached-removed r = taken-reached m X e μ has edge-taken (good .woven) (faced m good) merging r

@@ -1,0 +1,95 @@
+-- The rows of a good map are as condition 2 asks. Assumes nothing.
+use mathlib.Core.Path.{_≡_, refl, sym, ap, ap₂, _∙_, subst}
+use mathlib.Core.Logic.{_⊎_, inl, inr, _≢_}
+use mathlib.Core.Bool.{Bool, true, false, cond, not, _&&_, true≢false}
+use mathlib.Core.List.{List, [], _∷_, map, List·Memᴰ, List·Memᴰ·head, List·Memᴰ·tail, List·Memᴰ·cases-cons, List·Memᴰ·not-nil, Memᴰ·map, Memᴰ·of-map, Memᴰ·cast}
+use Prim.Native.Nat.{ℕ, suc, _+_}
+use native.Mathlib.Omega.{arith}
+use Rattle.lists.specs.Tests.{same, bit}
+use Rattle.lists.specs.Scans.{all, any, count, keep}
+use Rattle.lists.specs.Members.{Distinct}
+use Rattle.lists.proofs.Bools.{same-refl, same-eq, not-true, which}
+use Rattle.lists.proofs.Counts.{count-perm}
+use Rattle.lists.proofs.Keeps.{keep-in}
+use Rattle.geometry.proofs.Booleans.{and-is}
+use Rattle.geometry.proofs.Meeting.{samePoint-refl}
+use Rattle.geometry.proofs.Theorems.{neighboursDiffer-iff}
+use Rattle.plane.specs.Points.{samePoint}
+use Rattle.plane.specs.Directions.{Way, sameWay}
+use Rattle.curves.specs.Curves.{lastPoint}
+use Rattle.curves.specs.Tests.{neighboursDiffer}
+use Rattle.planar.specs.Map.{Dart, darts}
+use Rattle.planar.specs.Rings.{sameDart}
+use Rattle.planar.proofs.Rings.{sameDart-refl, sameDart-true}
+use Rattle.planar.proofs.Hooks.{distinct-darts}
+use Rattle.rotation.proofs.Ways.{alike-says}
+use Rattle.map.specs.Rows.{Edge, Map, node}
+use Rattle.map.specs.Darts.{arcs, directed, leaves, next, bears, departures, way}
+use Rattle.map.specs.Form.{numbers, named, curveFits, waysDiffer, departuresDiffer, bareMarked, linksOnce, linksMeet, ringsBearOne, formed}
+use Rattle.grown.specs.Good.{Good}
+use Rattle.grown.proofs.Scanning.{each-all, any-some}
+use Rattle.grown.proofs.Apart.{curve-good, apart}
+
+pub distinct-keep : {A : Type 0} (p : A → Bool) (l : List A) → Distinct l → Distinct (keep p l)
+distinct-keep p [] h = tt
+distinct-keep {A} p (x ∷ l) h = go (p x) (distinct-keep p l (h .1))
+  where
+    go : (b : Bool) → Distinct (keep p l) → Distinct (cond b (x ∷ keep p l) (keep p l))
+    go true ih = (λ k. h .0 (keep-in p l k .0), ih)
+    go false ih = ih
+
+-- a directed edge stands once among all
+count-none : (d : Dart) (ds : List Dart) → (List·Memᴰ d ds → ⊥) → count (sameDart d) ds ≡ 0
+count-none d [] h = refl
+count-none d (c ∷ ds) h = ap₂ (λ b n. bit b + n) (not-true (sameDart d c) (λ e. h (List·Memᴰ·head (sameDart-true d c e)))) (count-none d ds (λ k. h (List·Memᴰ·tail k)))
+
+count-once : (d : Dart) (ds : List Dart) → Distinct ds → List·Memᴰ d ds → count (sameDart d) ds ≡ 1
+count-once d [] dis k = absurd (List·Memᴰ·not-nil k)
+count-once d (c ∷ ds) dis k = go (List·Memᴰ·cases-cons k) (count-once d ds (dis .1))
+  where
+    go : (d ≡ c) ⊎ List·Memᴰ d ds → (List·Memᴰ d ds → count (sameDart d) ds ≡ 1) → bit (sameDart d c) + count (sameDart d) ds ≡ 1
+    go (inl e) ih = ap₂ (λ b n. bit b + n) (ap (sameDart d) (sym e) ∙ sameDart-refl d) (count-none d ds (λ j. dis .0 (Memᴰ·cast (sym e) j)))
+    go (inr j) ih = ap₂ (λ b n. bit b + n) (not-true (sameDart d c) (λ e. dis .0 (Memᴰ·cast (sym (sameDart-true d c e)) j))) (ih j)
+
+-- departures that are one where their directions are have different directions
+ways-differ : (way : Dart → Way) (ds : List Dart) → Distinct ds → ((d c : Dart) → List·Memᴰ d ds → List·Memᴰ c ds → sameWay (way d) (way c) ≡ true → d ≡ c) → waysDiffer (map way ds) ≡ true
+ways-differ way [] dis h = refl
+ways-differ way (d ∷ ds) dis h = and-is (ap not none) (ways-differ way ds (dis .1) (λ x y j k. h x y (List·Memᴰ·tail j) (List·Memᴰ·tail k)))
+  where
+    taken : (v : Way) × List·Memᴰ v (map way ds) × (sameWay (way d) v ≡ true) → ⊥
+    taken x =
+        let c = Memᴰ·of-map way ds (x .1) in
+        dis .0 (Memᴰ·cast (h d (c .0) (List·Memᴰ·head refl) (List·Memᴰ·tail (c .1)) (ap (sameWay (way d)) (c .2) ∙ x .2)) (c .1))
+
+    none : any (sameWay (way d)) (map way ds) ≡ false
+    none = not-true (any (sameWay (way d)) (map way ds)) (λ e. taken (any-some (sameWay (way d)) (map way ds) e))
+
+module _ (m : Map) (g : Good m) where
+  once : Distinct (directed m)
+  once = distinct-darts (arcs m) (g .woven .planar .edges-once)
+
+  fits-curve : (e : Edge) → List·Memᴰ e (m .edges) → curveFits m e ≡ true
+  fits-curve e k =
+      let a = g .surveyed .anchored e k in
+      and-is (and-is (ap (samePoint (e .curve .first)) (sym (a .start)) ∙ samePoint-refl (e .curve .first)) (ap (samePoint (lastPoint (e .curve))) (sym (a .end)) ∙ samePoint-refl (lastPoint (e .curve))))
+      (neighboursDiffer-iff (e .curve) .1 (curve-good m (g .surveyed) e k .differ))
+
+  differ : departuresDiffer m ≡ true
+  unfolding departuresDiffer departures
+  differ = each-all _ (m .nodes) (λ n k. ways-differ (way m) (departures m (n .number)) (distinct-keep _ (directed m) once) (λ d c i j e. apart m (g .surveyed) (n .number) d c i j (alike-says (way m d) (way m c) e)))
+
+  links : linksOnce m ≡ true
+  unfolding linksOnce
+  links = each-all _ (directed m) (λ d k. same-eq (count (sameDart d) (map (next m) (directed m))) 1 (count-perm (sameDart d) (g .woven .planar .linked .perm) ∙ count-once d (directed m) once k))
+
+  meets : linksMeet m ≡ true
+  unfolding linksMeet
+  meets = each-all _ (directed m) (λ d k. same-eq _ _ (g .woven .planar .linked .meets d k))
+
+  bear : ringsBearOne m ≡ true
+  unfolding ringsBearOne
+  bear = each-all _ (directed m) (λ d k. same-eq _ _ (g .woven .planar .linked .keeps d k))
+
+  pub good-formed : formed m ≡ true
+  unfolding formed
+  good-formed = and-is (and-is (and-is (and-is (and-is (and-is (and-is (g .numbered .numbers) (g .numbered .named)) (each-all (curveFits m) (m .edges) fits-curve)) differ) (g .numbered .marked)) links) meets) bear

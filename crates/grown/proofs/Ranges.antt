@@ -1,0 +1,236 @@
+-- A good map that fits is in form in its tables, and is read back from them. Assumes nothing.
+use mathlib.Core.Path.{_≡_, refl, sym, ap, ap₂, _∙_, subst}
+use mathlib.Core.Logic.{inl, inr}
+use mathlib.Core.Bool.{Bool, true, false, _&&_, true≢false}
+use mathlib.Core.List.{List, [], _∷_, _++_, map, map-map, flatMap, append-assoc, List·Memᴰ, List·Memᴰ·head, List·Memᴰ·tail, Memᴰ·of-map, Memᴰ·map}
+use mathlib.Core.Option.{Option, none, some}
+use Prim.Native.Nat.{ℕ, zero, suc, _+_, _*_, _-_, _/_, _≤_}
+use native.Mathlib.Nat.{suc-mul, zero-mul, mul-le-mul-right, mul-div-cancel}
+use native.Mathlib.Omega.{arith}
+use borrow.Author.Tests.{le-leb}
+use lib.Dec.{leb, leb·zero}
+use lib.IntN.{ℤ, pos, negsuc, natAbs}
+use lib.ListN.{length, take, drop, replicate, length-append, length-replicate}
+use lib.Seq.{take-append-seam, drop-append-seam}
+use lib.Signed.{leZ, nonNeg}
+use Rattle.lists.specs.Tests.{same}
+use Rattle.lists.specs.Scans.{all, firstOr}
+use Rattle.lists.proofs.Bools.{same-refl}
+use Rattle.geometry.proofs.Booleans.{and-is}
+use Rattle.plane.specs.declared.Point.{Point}
+use Rattle.plane.specs.Points.{InRange, maxCoordinate}
+use Rattle.curves.specs.Curves.{Curve, points, coordinates, coordinate, maxPoints}
+use Rattle.planar.specs.Map.{Dart, fwd, bwd}
+use Rattle.planar.proofs.Rings.{next-in}
+use Rattle.geometry.specs.Meaning.{Some}
+use Rattle.map.specs.Limits.{lastNumber, nodeWidth, edgeWidth, faceWidth}
+use Rattle.map.specs.Rows.{Node, Edge, Map, Lent, Sizes, rows, filled, nodeCells, edgeCells, faceCells, faceCell, dartCell, lentOf, mapOf, sizesOf, nodeRows, edgeRows, faceRows, edge}
+use Rattle.map.specs.Darts.{next}
+use Rattle.map.specs.Form.{within, isZero, restZero, nodeRanges, edgeRanges, faceRanges, ranged, formed, inForm, countsFit, nextsFit}
+use Rattle.map.proofs.RoundTrip.{Holds, reads-back}
+use Rattle.grown.specs.Good.{Good, Fits}
+use Rattle.grown.proofs.Readings.{numberOf, missing, number-has, row-has, edge-at, next-row, dart-has, has-dart}
+use Rattle.grown.proofs.Scanning.{each-all}
+use Rattle.grown.proofs.Numbers.{outlineOf, outlineNumber}
+use Rattle.grown.proofs.NumbersNodes.{zero-in}
+use Rattle.grown.proofs.Carried.{ranks}
+use Rattle.grown.proofs.Apart.{curve-good}
+use Rattle.grown.proofs.Forms.{good-formed}
+
+-- ---- rows one after the other, and zeros behind
+
+zeros : (n : ℕ) → all isZero (replicate n (pos 0)) ≡ true
+zeros zero = refl
+zeros (suc n) = rw (same-refl 0) (zeros n)
+
+filled-length : (n : ℕ) (l : List ℤ) → length l ≤ n → length (filled n l) ≡ n
+filled-length n l h = simp (length-append, length-replicate) (omega arith)
+
+module _ {A : Type 0} (w : ℕ) (cells : A → List ℤ) where
+  abbrev Wide : List A → Type 0
+  Wide xs = (x : A) → List·Memᴰ x xs → length (cells x) ≡ w
+
+  flat-length : (xs : List A) → Wide xs → length (flatMap cells xs) ≡ length xs * w
+  unfolding flatMap
+  flat-length [] h = sym (zero-mul w)
+  flat-length (x ∷ xs) h =
+      let e = suc-mul (length xs) w in
+      let ih = flat-length xs (λ y k. h y (List·Memᴰ·tail k)) in
+      let f = h x (List·Memᴰ·head refl) in
+      length-append (cells x) (flatMap cells xs) ∙ (omega arith)
+
+  -- the rows in use are those that were written
+  flat-rows : (xs : List A) (rest : List ℤ) → Wide xs → rows w (length xs) (flatMap cells xs ++ rest) ≡ map cells xs
+  unfolding flatMap
+  flat-rows [] rest h = refl
+  flat-rows (x ∷ xs) rest h =
+      let e = h x (List·Memᴰ·head refl) in
+      let front : take w ((cells x ++ flatMap cells xs) ++ rest) ≡ cells x = rw (append-assoc, ← e) (take-append-seam (cells x) (flatMap cells xs ++ rest)) in
+      let later : drop w ((cells x ++ flatMap cells xs) ++ rest) ≡ flatMap cells xs ++ rest = rw (append-assoc, ← e) (drop-append-seam (cells x) (flatMap cells xs ++ rest)) in
+      rw (front, later) (ap (λ (l : List (List ℤ)). cells x ∷ l) (flat-rows xs rest (λ y k. h y (List·Memᴰ·tail k))))
+
+  -- zeros behind them
+  flat-rest : (n : ℕ) (xs : List A) → Wide xs → restZero w (pos (length xs)) (filled n (flatMap cells xs)) ≡ true
+  flat-rest n xs h =
+      let e = flat-length xs h in
+      let k = n - length (flatMap cells xs) in
+      rw (← e, drop-append-seam (flatMap cells xs) (replicate k (pos 0))) (zeros k)
+
+  -- the table is as long as it was meant to be
+  table-length : (n : ℕ) (xs : List A) → Wide xs → length xs ≤ n → length (filled (n * w) (flatMap cells xs)) ≡ n * w
+  table-length n xs h le = let e = flat-length xs h in let k = mul-le-mul-right w le in filled-length (n * w) (flatMap cells xs) (omega arith)
+
+-- ---- widths
+
+node-wide : (ns : List Node) → Wide nodeWidth nodeCells ns
+unfolding nodeCells
+node-wide ns n k = refl
+
+face-wide : (fs : List ℕ) → Wide faceWidth faceCells fs
+face-wide fs f k = refl
+
+coordinates-length : (ps : List Point) → length (coordinates ps) ≡ 2 * length ps
+coordinates-length [] = refl
+coordinates-length (p ∷ ps) = let h = coordinates-length ps in omega arith
+
+edge-wide : (es : List Edge) → ((e : Edge) → List·Memᴰ e es → length (points (e .curve)) ≤ maxPoints) → Wide edgeWidth edgeCells es
+unfolding edgeCells
+edge-wide es h e k =
+    let c = coordinates-length (points (e .curve)) in
+    let j = h e k in
+    let f = filled-length (2 * maxPoints) (coordinates (points (e .curve))) (omega arith) in
+    omega arith
+
+-- ---- ranges of a row
+
+in-coordinates : (n : ℕ) → n ≤ maxCoordinate → coordinate (pos n) ≡ true
+in-coordinates n h = and-is (leb·zero n) (le-leb n maxCoordinate h)
+
+face-low : (o : Option ℕ) → leZ (negsuc 0) (faceCell o) ≡ true
+face-low none = refl
+face-low (some f) = refl
+
+node-ranges : (n : Node) → InRange (n .at) → nodeRanges (nodeCells n) ≡ true
+unfolding nodeCells
+node-ranges n h = and-is (and-is (in-coordinates (n .at .x) (h .x)) (in-coordinates (n .at .y) (h .y))) (face-low (n .face))
+
+coordinates-in : (ps : List Point) → ((p : Point) → List·Memᴰ p ps → InRange p) → all coordinate (coordinates ps) ≡ true
+coordinates-in [] h = refl
+coordinates-in (p ∷ ps) h =
+    let k = h p (List·Memᴰ·head refl) in
+    and-is (in-coordinates (p .x) (k .x)) (and-is (in-coordinates (p .y) (k .y)) (coordinates-in ps (λ q j. h q (List·Memᴰ·tail j))))
+
+edge-ranges : (e : Edge) → 2 ≤ length (points (e .curve)) → length (points (e .curve)) ≤ maxPoints → ((p : Point) → List·Memᴰ p (points (e .curve)) → InRange p) → edgeRanges (edgeCells e) ≡ true
+unfolding edgeCells
+edge-ranges e low high h =
+    let ps = points (e .curve) in
+    let cs = coordinates ps in
+    let k = 2 * maxPoints - length cs in
+    let c = coordinates-length ps in
+    let used : take (2 * length ps) (cs ++ replicate k (pos 0)) ≡ cs = rw (← c) (take-append-seam cs (replicate k (pos 0))) in
+    let rest : drop (2 * length ps) (cs ++ replicate k (pos 0)) ≡ replicate k (pos 0) = rw (← c) (drop-append-seam cs (replicate k (pos 0))) in
+    and-is (and-is (and-is (le-leb 2 (length ps) low) (le-leb (length ps) maxPoints high)) (ap (all coordinate) used ∙ coordinates-in ps h)) (ap (all isZero) rest ∙ zeros k)
+
+-- ---- the tables
+
+-- from a to b
+in-bounds : (a b n : ℕ) → a ≤ n → n ≤ b → within a b (pos n) ≡ true
+in-bounds a b n h k = and-is (le-leb a n h) (le-leb n b k)
+
+module _ (m : Map) (g : Good m) where
+  few : (e : Edge) → List·Memᴰ e (m .edges) → length (points (e .curve)) ≤ maxPoints
+  few e k = g .surveyed .kept e k .most
+
+  two : (e : Edge) → List·Memᴰ e (m .edges) → 2 ≤ length (points (e .curve))
+  two e k = go (e .curve .rest) (curve-good m (g .surveyed) e k .some)
+    where
+      go : (r : List Point) → Some r → 2 ≤ suc (length r)
+      go [] h = absurd h
+      go (p ∷ r) h = omega arith
+
+  -- a link names an edge from 1 on
+  linked : (b : Bool) (e : Edge) → List·Memᴰ e (m .edges) → 1 ≤ next m (record { edge = e .number; back = b }) .edge
+  linked b e k =
+      let d : Dart = record { edge = e .number; back = b } in
+      let h = dart-has m (next-in (g .woven .planar .linked) (has-dart m d (row-has m k))) in
+      ranks m g .edges .bounds (next m d .edge) (subst (List·Memᴰ (next m d .edge)) (sym (map-map outlineNumber outlineOf (m .edges))) (number-has numberOf missing (m .edges) (next m d .edge) h)) .0
+
+  holds : (e : Edge) → List·Memᴰ e (m .edges) → Holds e
+  holds e k =
+      let at : edge m (e .number) ≡ e = edge-at m (g .woven .planar .edges-once) k in
+      let l : next m (fwd (e .number)) ≡ e .nextLeft = next-row m (fwd (e .number)) ∙ ap (λ (x : Edge). x .nextLeft) at in
+      let r : next m (bwd (e .number)) ≡ e .nextRight = next-row m (bwd (e .number)) ∙ ap (λ (x : Edge). x .nextRight) at in
+      let p = linked false e k in
+      let q = linked true e k in
+      let l′ = ap (λ (x : Dart). x .edge) l in
+      let r′ = ap (λ (x : Dart). x .edge) r in
+      record { few = few e k; left = λ b z. omega arith; right = λ b z. omega arith }
+
+  -- a good map is read back from its tables
+  pub good-back : (s : Sizes) → mapOf (lentOf s m) ≡ m
+  good-back s = reads-back s m holds
+
+  module _ (s : Sizes) (f : Fits s m) where
+    node-room : length (lentOf s m .nodes) / nodeWidth ≡ s .nodes
+    unfolding lentOf
+    node-room = rw (table-length nodeWidth nodeCells (s .nodes) (m .nodes) (node-wide (m .nodes)) (f .nodes)) (mul-div-cancel (s .nodes) (omega arith))
+
+    edge-room : length (lentOf s m .edges) / edgeWidth ≡ s .edges
+    unfolding lentOf
+    edge-room = rw (table-length edgeWidth edgeCells (s .edges) (m .edges) (edge-wide (m .edges) few) (f .edges)) (mul-div-cancel (s .edges) (omega arith))
+
+    face-room : length (lentOf s m .faces) / faceWidth ≡ s .faces
+    unfolding lentOf
+    face-room = rw (table-length faceWidth faceCells (s .faces) (m .faces) (face-wide (m .faces)) (f .faces)) (mul-div-cancel (s .faces) (omega arith))
+
+    -- so are the sizes
+    pub sizes-back : sizesOf (lentOf s m) ≡ s
+    sizes-back = λ i. record { nodes = node-room i; edges = edge-room i; faces = face-room i }
+
+    some-face : 1 ≤ length (m .faces)
+    some-face = go (m .faces) (ranks m g .zero)
+      where
+        go : (fs : List ℕ) → firstOr 1 fs ≡ 0 → 1 ≤ length fs
+        go [] e = absurd (omega arith)
+        go (x ∷ fs) e = omega arith
+
+    counts : countsFit (lentOf s m) ≡ true
+    unfolding lentOf
+    counts = and-is (and-is (ap (λ (n : ℕ). within 0 n (pos (length (m .nodes)))) node-room ∙ in-bounds 0 (s .nodes) (length (m .nodes)) (omega arith) (f .nodes)) (ap (λ (n : ℕ). within 0 n (pos (length (m .edges)))) edge-room ∙ in-bounds 0 (s .edges) (length (m .edges)) (omega arith) (f .edges))) (ap (λ (n : ℕ). within 1 n (pos (length (m .faces)))) face-room ∙ in-bounds 1 (s .faces) (length (m .faces)) some-face (f .faces))
+
+    nexts : nextsFit (lentOf s m .head) ≡ true
+    unfolding lentOf
+    nexts =
+        let n = g .numbered in
+        let z = ranks m g .faces .bounds 0 (zero-in (m .faces) (ranks m g .zero)) .1 in
+        and-is (in-bounds 1 (suc lastNumber) (m .nextNode) (n .first-node) (n .next-node)) (and-is (in-bounds 1 (suc lastNumber) (m .nextEdge) (n .first-edge) (n .next-edge)) (and-is (in-bounds 1 (suc lastNumber) (m .nextFace) (omega arith) (n .next-face)) refl))
+
+    node-row-ranges : all nodeRanges (nodeRows (lentOf s m)) ≡ true
+    unfolding lentOf
+    node-row-ranges = ap (all nodeRanges) (flat-rows nodeWidth nodeCells (m .nodes) _ (node-wide (m .nodes))) ∙ each-all nodeRanges (map nodeCells (m .nodes)) (λ r k. go r (Memᴰ·of-map nodeCells (m .nodes) k))
+      where
+        go : (r : List ℤ) → (n : Node) × List·Memᴰ n (m .nodes) × (nodeCells n ≡ r) → nodeRanges r ≡ true
+        go r x = ap nodeRanges (sym (x .2)) ∙ node-ranges (x .0) (g .surveyed .nodes-in-range (x .0) (x .1))
+
+    edge-row-ranges : all edgeRanges (edgeRows (lentOf s m)) ≡ true
+    unfolding lentOf
+    edge-row-ranges = ap (all edgeRanges) (flat-rows edgeWidth edgeCells (m .edges) _ (edge-wide (m .edges) few)) ∙ each-all edgeRanges (map edgeCells (m .edges)) (λ r k. go r (Memᴰ·of-map edgeCells (m .edges) k))
+      where
+        go : (r : List ℤ) → (e : Edge) × List·Memᴰ e (m .edges) × (edgeCells e ≡ r) → edgeRanges r ≡ true
+        go r x = ap edgeRanges (sym (x .2)) ∙ edge-ranges (x .0) (two (x .0) (x .1)) (few (x .0) (x .1)) (g .surveyed .kept (x .0) (x .1) .in-range)
+
+    face-row-ranges : all faceRanges (faceRows (lentOf s m)) ≡ true
+    unfolding lentOf
+    face-row-ranges = ap (all faceRanges) (flat-rows faceWidth faceCells (m .faces) _ (face-wide (m .faces))) ∙ each-all faceRanges (map faceCells (m .faces)) (λ r k. go r (Memᴰ·of-map faceCells (m .faces) k))
+      where
+        go : (r : List ℤ) → (n : ℕ) × List·Memᴰ n (m .faces) × (faceCells n ≡ r) → faceRanges r ≡ true
+        go r x = ap faceRanges (sym (x .2))
+
+    good-ranged : ranged (lentOf s m) ≡ true
+    unfolding ranged lentOf
+    good-ranged = and-is (and-is (and-is (and-is (and-is (and-is (and-is counts nexts) (flat-rest nodeWidth nodeCells _ (m .nodes) (node-wide (m .nodes)))) (flat-rest edgeWidth edgeCells _ (m .edges) (edge-wide (m .edges) few))) (flat-rest faceWidth faceCells _ (m .faces) (face-wide (m .faces)))) node-row-ranges) edge-row-ranges) face-row-ranges
+
+    -- a good map in its tables is in form
+    pub good-in-form : inForm (lentOf s m) ≡ true
+    unfolding inForm
+    good-in-form = and-is good-ranged (ap formed (good-back s) ∙ good-formed m g)
