@@ -68,3 +68,12 @@ pub mod EdgesCorners
 pub mod EdgesMerged
 pub mod EdgesUndrawn
 pub mod EdgesRemoved
+pub mod LawfulForm
+pub mod LawfulCurves
+pub mod LawfulSplit
+pub mod LawfulWhole
+pub mod LawfulHeal
+pub mod LawfulAdd
+pub mod LawfulRemove
+pub mod LawfulChange
+pub mod LawfulKept
