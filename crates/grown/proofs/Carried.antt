@@ -1,22 +1,20 @@
 -- A carried-out ticket keeps numbers, faces and marks, and leaves rows that fit. Assumes nothing.
-use mathlib.Core.Path.{_≡_, refl, sym, ap, _∙_, subst}
+use mathlib.Core.Path.{_≡_}
 use mathlib.Core.Bool.{true, false}
-use mathlib.Core.List.{List}
-use Prim.Native.Nat.{ℕ, _+_, _≤_}
+use Prim.Native.Nat.{ℕ}
 use native.Mathlib.Omega.{arith}
-use lib.IntN.{ℤ, natAbs}
-use lib.ListN.{length, length-map}
+use lib.IntN.{natAbs}
+use lib.ListN.{length-map}
 use Rattle.lists.specs.Tests.{bit}
 use Rattle.curves.specs.Curves.{point, curveOf}
-use Rattle.map.specs.Limits.{lastNumber}
 use Rattle.map.specs.Rows.{Map, Sizes}
 use Rattle.map.specs.Tickets.{Ticket, AddIsoNode, MoveIsoNode, RemoveIsoNode, AddIsoEdge, RemoveIsoEdge, ChangeEdgeGeom, NewEdgesSplit, ModEdgeSplit, NewEdgeHeal, ModEdgeHeal, AddEdgeNewFaces, AddEdgeModFace, RemEdgeNewFace, RemEdgeModFace}
-use Rattle.map.specs.Edits.{splitsFace, makesFace}
+use Rattle.map.specs.Edits.{makesFace}
 use Rattle.map.specs.Reasons.{firstReason, reasons}
 use Rattle.map.specs.Ticket.{carried}
 use Rattle.grown.specs.Good.{Good, Numbered, Woven, Fits}
-use Rattle.grown.proofs.Reasons.{Room, Supply, newFaces, add-node, move-node, remove-node, add-lone, remove-lone, change, split-new, split-mod, heal-new, heal-mod, add-new, add-mod, remove-new, remove-mod}
-use Rattle.grown.proofs.Numbers.{outlineOf, outlines, RankedMap, Limited, numbered-ranked, ranked-numbered}
+use Rattle.grown.proofs.Reasons.{Room, Supply, add-node, move-node, add-lone, remove-lone, split-new, split-mod, heal-new, heal-mod, add-new, add-mod, remove-new, remove-mod}
+use Rattle.grown.proofs.Numbers.{outlineOf, RankedMap, Limited, numbered-ranked, ranked-numbered}
 use Rattle.grown.proofs.NumbersNodes.{add-node-ranked, move-node-ranked, remove-node-ranked, change-ranked}
 use Rattle.grown.proofs.NumbersAdd.{add-lone-ranked, add-edge-ranked}
 use Rattle.grown.proofs.NumbersRemove.{remove-lone-ranked, remove-edge-ranked}

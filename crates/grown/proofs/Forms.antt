@@ -1,14 +1,13 @@
 -- The rows of a good map are as condition 2 asks. Assumes nothing.
-use mathlib.Core.Path.{_≡_, refl, sym, ap, ap₂, _∙_, subst}
-use mathlib.Core.Logic.{_⊎_, inl, inr, _≢_}
-use mathlib.Core.Bool.{Bool, true, false, cond, not, _&&_, true≢false}
-use mathlib.Core.List.{List, [], _∷_, map, List·Memᴰ, List·Memᴰ·head, List·Memᴰ·tail, List·Memᴰ·cases-cons, List·Memᴰ·not-nil, Memᴰ·map, Memᴰ·of-map, Memᴰ·cast}
-use Prim.Native.Nat.{ℕ, suc, _+_}
-use native.Mathlib.Omega.{arith}
-use Rattle.lists.specs.Tests.{same, bit}
-use Rattle.lists.specs.Scans.{all, any, count, keep}
+use mathlib.Core.Path.{_≡_, refl, sym, ap, ap₂, _∙_}
+use mathlib.Core.Logic.{_⊎_, inl, inr}
+use mathlib.Core.Bool.{Bool, true, false, cond, not}
+use mathlib.Core.List.{List, [], _∷_, map, List·Memᴰ, List·Memᴰ·head, List·Memᴰ·tail, List·Memᴰ·cases-cons, List·Memᴰ·not-nil, Memᴰ·of-map, Memᴰ·cast}
+use Prim.Native.Nat.{_+_}
+use Rattle.lists.specs.Tests.{bit}
+use Rattle.lists.specs.Scans.{any, count, keep}
 use Rattle.lists.specs.Members.{Distinct}
-use Rattle.lists.proofs.Bools.{same-refl, same-eq, not-true, which}
+use Rattle.lists.proofs.Bools.{same-eq, not-true}
 use Rattle.lists.proofs.Counts.{count-perm}
 use Rattle.lists.proofs.Keeps.{keep-in}
 use Rattle.geometry.proofs.Booleans.{and-is}
@@ -17,15 +16,14 @@ use Rattle.geometry.proofs.Theorems.{neighboursDiffer-iff}
 use Rattle.plane.specs.Points.{samePoint}
 use Rattle.plane.specs.Directions.{Way, sameWay}
 use Rattle.curves.specs.Curves.{lastPoint}
-use Rattle.curves.specs.Tests.{neighboursDiffer}
-use Rattle.planar.specs.Map.{Dart, darts}
+use Rattle.planar.specs.Map.{Dart}
 use Rattle.planar.specs.Rings.{sameDart}
 use Rattle.planar.proofs.Rings.{sameDart-refl, sameDart-true}
 use Rattle.planar.proofs.Hooks.{distinct-darts}
 use Rattle.rotation.proofs.Ways.{alike-says}
-use Rattle.map.specs.Rows.{Edge, Map, node}
-use Rattle.map.specs.Darts.{arcs, directed, leaves, next, bears, departures, way}
-use Rattle.map.specs.Form.{numbers, named, curveFits, waysDiffer, departuresDiffer, bareMarked, linksOnce, linksMeet, ringsBearOne, formed}
+use Rattle.map.specs.Rows.{Edge, Map}
+use Rattle.map.specs.Darts.{arcs, directed, next, departures, way}
+use Rattle.map.specs.Form.{numbers, named, curveFits, waysDiffer, departuresDiffer, linksOnce, linksMeet, ringsBearOne, formed}
 use Rattle.grown.specs.Good.{Good}
 use Rattle.grown.proofs.Scanning.{each-all, any-some}
 use Rattle.grown.proofs.Apart.{curve-good, apart}

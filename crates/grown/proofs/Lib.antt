@@ -68,6 +68,8 @@ pub mod EdgesCorners
 pub mod EdgesMerged
 pub mod EdgesUndrawn
 pub mod EdgesRemoved
+pub mod Growth
+pub mod Grows
 pub mod LawfulForm
 pub mod LawfulCurves
 pub mod LawfulSplit

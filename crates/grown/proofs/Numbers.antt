@@ -1,16 +1,16 @@
 -- Numbers, faces and marks of a map, by its nodes and the outlines of its edges: what `Numbered` says beside what `Woven` has. Assumes nothing.
 use mathlib.Core.Path.{_≡_, refl, sym, ap, _∙_, subst}
-use mathlib.Core.Logic.{_⊎_, inl, inr, _≢_}
-use mathlib.Core.Bool.{Bool, true, false, not, _&&_, Bool·beq, true≢false}
+use mathlib.Core.Logic.{_⊎_, inl, inr}
+use mathlib.Core.Bool.{Bool, true, false, true≢false}
 use mathlib.Core.List.{List, [], _∷_, map, map-map, List·Memᴰ, List·Memᴰ·head, List·Memᴰ·not-nil, Memᴰ·map, Memᴰ·of-map, Memᴰ·cast}
 use mathlib.Core.Option.{Option, none, some}
-use Prim.Native.Nat.{ℕ, suc, _≤_, _<_}
+use Prim.Native.Nat.{ℕ, suc, _≤_}
 use native.Mathlib.Omega.{arith}
 use lib.ListN.{length}
 use Rattle.lists.specs.Tests.{same}
-use Rattle.lists.specs.Scans.{all, any, firstOr, isSome, keep}
+use Rattle.lists.specs.Scans.{all, firstOr, isSome}
 use Rattle.lists.specs.Members.{Distinct}
-use Rattle.lists.proofs.Bools.{same-refl, same-true, same-false, same-eq, beq-true, beq-refl, which}
+use Rattle.lists.proofs.Bools.{same-refl, same-true, same-false, same-eq, beq-true, beq-refl}
 use Rattle.geometry.proofs.Booleans.{and-true, and-is}
 use Rattle.planar.specs.Map.{Arc, Dart, fwd, bwd}
 use Rattle.planar.specs.Pieces.{nums}
@@ -22,7 +22,7 @@ use Rattle.map.specs.Form.{numbered, numbers, inFace, edgeNames, named, bareMar
 use Rattle.grown.specs.Good.{Numbered, Woven}
 use Rattle.grown.proofs.Readings.{numberOf, arcOf, edge-row, edge-at, row-has, has-dart, dart-has, leaves-row, next-row, departs, departing, has-number, tailIn}
 use Rattle.grown.proofs.RowChanges.{nodeNumber}
-use Rattle.grown.proofs.Scanning.{both-ways, all-each, each-all, any-some, some-any, Rising, rising, rising-numbered}
+use Rattle.grown.proofs.Scanning.{all-each, each-all, any-some, some-any, Rising, rising, rising-numbered}
 
 -- a row without its links and its curve
 pub record Outline : Type 0 where
@@ -77,10 +77,6 @@ pub record Limited (m : Map) : Type 0 where
   pub face : m .nextFace ≤ suc lastNumber
 
 -- ---- edge ends
-
-no-members : {A : Type 0} (l : List A) → ((x : A) → List·Memᴰ x l → ⊥) → same (length l) 0 ≡ true
-no-members [] h = same-refl 0
-no-members (x ∷ l) h = absurd (h x (List·Memᴰ·head refl))
 
 some-member : {A : Type 0} (l : List A) → same (length l) 0 ≡ false → (x : A) × List·Memᴰ x l
 some-member [] h = absurd (true≢false (sym (same-refl 0) ∙ h))

@@ -1,7 +1,7 @@
 -- Numbers, faces and marks kept by kinds 4, 11 and 12: an edge drawn. Assumes nothing.
-use mathlib.Core.Path.{_≡_, refl, sym, ap, _∙_, subst}
-use mathlib.Core.Bool.{Bool, true, false, cond, true≢false}
-use mathlib.Core.List.{List, [], _∷_, List·Memᴰ, List·Memᴰ·head, Memᴰ·append-right, Memᴰ·cast}
+use mathlib.Core.Path.{_≡_, refl, sym, subst}
+use mathlib.Core.Bool.{Bool, true, false, cond}
+use mathlib.Core.List.{List, [], _∷_, List·Memᴰ, List·Memᴰ·head, Memᴰ·append-right}
 use mathlib.Core.Option.{Option, none, some, Option·getD}
 use Prim.Native.Nat.{ℕ}
 use Rattle.plane.specs.Directions.{Way}
@@ -10,7 +10,7 @@ use Rattle.planar.specs.Map.{Dart}
 use Rattle.rotation.specs.Law.{firstClockwise}
 use Rattle.rotation.proofs.Node.{first-in}
 use Rattle.map.specs.Rows.{Map, node, hasNode, hasEdge}
-use Rattle.map.specs.Darts.{bears, departures, way}
+use Rattle.map.specs.Darts.{departures, way}
 use Rattle.map.specs.Links.{cornerOf, cornerFace}
 use Rattle.map.specs.Edits.{addIsoEdge, drawn, drawnIn, splitsFace, splitFace, addEdge}
 use Rattle.map.specs.Reasons.{isolated}

@@ -1,30 +1,28 @@
 -- Numbers, faces and marks kept by an edge drawn or undrawn, and by faces shared out or renamed: kinds 4, 5 and 11 to 14. Assumes nothing.
 use mathlib.Core.Path.{_≡_, refl, sym, ap, _∙_, subst}
-use mathlib.Core.Logic.{_⊎_, inl, inr, _≢_}
-use mathlib.Core.Bool.{Bool, true, false, cond, not, _&&_, _||_, true≢false}
-use mathlib.Core.List.{List, [], _∷_, _++_, map, map-map, map-append, append-assoc, List·Memᴰ, List·Memᴰ·head, List·Memᴰ·tail, List·Memᴰ·append-cases, List·Memᴰ·eq-of-singleton, Memᴰ·append-left, Memᴰ·append-right, Memᴰ·map, Memᴰ·of-map, Memᴰ·cast}
+use mathlib.Core.Logic.{_⊎_, inl, inr}
+use mathlib.Core.Bool.{Bool, true, false, cond, not, _&&_, true≢false}
+use mathlib.Core.List.{List, [], _∷_, _++_, map, map-map, map-append, List·Memᴰ, List·Memᴰ·head, List·Memᴰ·append-cases, List·Memᴰ·eq-of-singleton, Memᴰ·append-left, Memᴰ·append-right, Memᴰ·map, Memᴰ·of-map}
 use mathlib.Core.Option.{Option, none, some, Option·getD}
-use Prim.Native.Nat.{ℕ, _+_, _≤_, min}
-use native.Mathlib.Nat.{add-zero}
+use Prim.Native.Nat.{ℕ, _+_, _≤_}
 use native.Mathlib.Omega.{arith}
-use Rattle.lists.specs.Tests.{same, bit}
-use Rattle.lists.specs.Scans.{keep, firstOr, isSome}
+use Rattle.lists.specs.Tests.{same}
+use Rattle.lists.specs.Scans.{isSome}
 use Rattle.lists.specs.Members.{Distinct}
-use Rattle.lists.proofs.Bools.{same-refl, same-true, same-eq, same-false, which, or-true, or-right}
+use Rattle.lists.proofs.Bools.{same-true, same-eq, which, or-true}
 use Rattle.lists.proofs.Keeps.{keep-in, keep-has, keep-map}
-use Rattle.geometry.proofs.Booleans.{and-true, or-false, or-left}
+use Rattle.geometry.proofs.Booleans.{or-false}
 use Rattle.curves.specs.Curves.{Curve}
-use Rattle.planar.specs.Map.{Dart, fwd, bwd}
 use Rattle.planar.specs.Pieces.{nums}
 use Rattle.map.specs.Rows.{Node, Edge, Map, node, edge, hasNode, hasEdge, atNodes}
-use Rattle.map.specs.Darts.{arcs, bears, edgeEnds}
+use Rattle.map.specs.Darts.{arcs, edgeEnds}
 use Rattle.map.specs.Links.{unlinkEdge}
 use Rattle.map.specs.Edits.{withFace, isEither, drawn, undrawn}
-use Rattle.grown.proofs.Readings.{edge-row, edge-at, numberOf, has-number}
-use Rattle.grown.proofs.RowChanges.{nodeNumber, node-row}
+use Rattle.grown.proofs.Readings.{edge-at, numberOf, has-number}
+use Rattle.grown.proofs.RowChanges.{node-row}
 use Rattle.grown.proofs.Scanning.{Rising, rising-append, rising-keep, rising-distinct}
 use Rattle.grown.proofs.Numbers.{Outline, outlineOf, outlines, outlineNumber, Met, EndsAt, Placed, Sided, Ranked, RankedMap, ends-met, met-ends}
-use Rattle.grown.proofs.Outlines.{Shape, ranked-shape, drawnOutline, drawn-shape, marked, lessOutline, unlink-shape}
+use Rattle.grown.proofs.Outlines.{ranked-shape, drawnOutline, drawn-shape, marked, lessOutline, unlink-shape}
 use Rattle.grown.proofs.NumbersNodes.{rising-nodes, placed-map, lone-placed}
 
 -- ---- an edge drawn

@@ -1,21 +1,20 @@
 -- Numbers, faces and marks kept where faces are shared out or renamed: kinds 11 to 14, and 4 and 5 with their one face. Assumes nothing.
 use mathlib.Core.Path.{_≡_, refl, sym, ap, _∙_, subst}
-use mathlib.Core.Logic.{_⊎_, inl, inr, _≢_}
-use mathlib.Core.Bool.{Bool, true, false, cond, not, _&&_, _||_, true≢false}
+use mathlib.Core.Logic.{_≢_}
+use mathlib.Core.Bool.{Bool, true, false, cond, not, _&&_, _||_}
 use mathlib.Core.List.{List, [], _∷_, _++_, map, map-map, append-assoc, List·Memᴰ, List·Memᴰ·head, List·Memᴰ·tail, Memᴰ·append-left, Memᴰ·append-right, Memᴰ·map, Memᴰ·of-map, Memᴰ·cast}
-use mathlib.Core.Option.{Option, none, some, Option·getD}
-use Prim.Native.Nat.{ℕ, _+_, _≤_, min}
+use mathlib.Core.Option.{Option, none, some}
+use Prim.Native.Nat.{ℕ, _+_}
 use native.Mathlib.Nat.{add-zero}
 use native.Mathlib.Omega.{arith}
 use borrow.Author.Tests.{not-true}
-use Rattle.lists.specs.Tests.{same, bit}
+use Rattle.lists.specs.Tests.{same}
 use Rattle.lists.specs.Scans.{keep, firstOr, isSome}
 use Rattle.lists.specs.Members.{Distinct}
-use Rattle.lists.proofs.Bools.{same-refl, same-true, same-eq, same-false, differ, which, or-true}
-use Rattle.lists.proofs.Keeps.{keep-in, keep-has}
+use Rattle.lists.proofs.Bools.{same-false, differ}
+use Rattle.lists.proofs.Keeps.{keep-has}
 use Rattle.lists.proofs.Members.{map-cong}
-use Rattle.geometry.proofs.Booleans.{and-true, or-false}
-use Rattle.curves.specs.Curves.{Curve, startWay}
+use Rattle.geometry.proofs.Booleans.{and-true}
 use Rattle.plane.specs.declared.Point.{Point}
 use Rattle.plane.specs.Areas.{isPositive}
 use Rattle.integers.specs.Order.{sgn}
@@ -25,11 +24,10 @@ use Rattle.map.specs.Rows.{Node, Edge, Map, edge, hasEdge}
 use Rattle.map.specs.Darts.{arcs, bears, among, ring}
 use Rattle.map.specs.Faces.{encloses, ringArea}
 use Rattle.map.specs.Edits.{withFace, Shares, sideOfPoint, sideOfRing, sideOfDart, sideOfNode, withSides, sharedOut, splitFace}
-use Rattle.grown.proofs.Readings.{edge-row, edge-at, row-has, bears-row, arcOf}
-use Rattle.grown.proofs.RowChanges.{nodeNumber}
+use Rattle.grown.proofs.Readings.{edge-row, edge-at, bears-row}
 use Rattle.grown.proofs.Scanning.{Rising, rising-append, rising-keep}
-use Rattle.grown.proofs.Numbers.{Outline, outlineOf, outlines, outlineNumber, Met, EndsAt, Placed, Sided, Ranked, RankedMap}
-use Rattle.grown.proofs.Outlines.{Shape, ranked-shape, outlines-map}
+use Rattle.grown.proofs.Numbers.{Outline, outlineOf, outlines, outlineNumber, Met, EndsAt, Sided, Ranked, RankedMap}
+use Rattle.grown.proofs.Outlines.{ranked-shape, outlines-map}
 use Rattle.grown.proofs.NumbersNodes.{rising-nodes, placed-map}
 
 -- ---- other faces in the rows

@@ -3,14 +3,14 @@ use mathlib.Core.Path.{_≡_, refl, sym, ap, _∙_, subst}
 use mathlib.Core.Logic.{_⊎_, inl, inr, _≢_}
 use mathlib.Core.Bool.{Bool, true, false, cond, not, _||_, true≢false}
 use mathlib.Core.List.{List, [], _∷_, _++_, map, map-append, List·Memᴰ, List·Memᴰ·head, List·Memᴰ·tail, List·Memᴰ·cases-cons, List·Memᴰ·append-cases, List·Memᴰ·eq-of-singleton, Memᴰ·append-left, Memᴰ·append-right, Memᴰ·map, Memᴰ·cast}
-use mathlib.Core.Option.{Option, none, some, Option·getD}
+use mathlib.Core.Option.{some, Option·getD}
 use Prim.Native.Nat.{ℕ, _+_, _≤_}
 use native.Mathlib.Nat.{add-zero}
 use native.Mathlib.Omega.{arith}
 use borrow.Author.Tests.{not-true}
 use Rattle.lists.specs.Tests.{same}
-use Rattle.lists.specs.Scans.{find, keep, isSome}
-use Rattle.lists.proofs.Bools.{same-true, same-false, same-eq, differ, which, or-true}
+use Rattle.lists.specs.Scans.{find, isSome}
+use Rattle.lists.proofs.Bools.{same-true, same-false, differ, or-true}
 use Rattle.lists.proofs.Keeps.{keep-in, keep-has, keep-map}
 use Rattle.geometry.proofs.Booleans.{or-false, or-no}
 use Rattle.planar.specs.Map.{Dart, fwd, bwd, rev}
@@ -18,8 +18,8 @@ use Rattle.map.specs.Rows.{Node, Edge, Map, edge, hasEdge, atEdge, withoutNode,
 use Rattle.map.specs.Darts.{leaves, arrives, edgeEnds, next}
 use Rattle.map.specs.Edits.{sharedNodes, joint, parts, healedCurve, heal}
 use Rattle.grown.proofs.Readings.{edge-row, leaves-row}
-use Rattle.grown.proofs.Scanning.{Rising, rising-append, rising-keep}
-use Rattle.grown.proofs.Numbers.{Outline, outlineOf, outlines, outlineNumber, Met, EndsAt, Sided, Ranked, RankedMap}
+use Rattle.grown.proofs.Scanning.{Rising, rising-keep}
+use Rattle.grown.proofs.Numbers.{Outline, outlineOf, outlines, outlineNumber, EndsAt, Sided, RankedMap}
 use Rattle.grown.proofs.Outlines.{ranked-shape, outlines-map, outlines-without, lessOutline}
 use Rattle.grown.proofs.NumbersNodes.{ranked-less-nodes}
 use Rattle.grown.proofs.NumbersEdges.{rising-outlines, outline-at, ranked-distinct}

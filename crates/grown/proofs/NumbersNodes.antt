@@ -1,31 +1,31 @@
 -- Numbers, faces and marks kept by kinds 1, 2, 3 and 6: isolated nodes, and another curve. Assumes nothing.
 use mathlib.Core.Path.{_≡_, refl, sym, ap, _∙_, subst}
-use mathlib.Core.Logic.{_⊎_, inl, inr, _≢_}
+use mathlib.Core.Logic.{_⊎_, inl, inr}
 use mathlib.Core.Bool.{Bool, true, false, cond, not, true≢false}
-use mathlib.Core.List.{List, [], _∷_, _++_, map, map-map, map-append, flatMap, List·Memᴰ, List·Memᴰ·head, List·Memᴰ·tail, List·Memᴰ·cases-cons, List·Memᴰ·not-nil, List·Memᴰ·append-cases, List·Memᴰ·eq-of-singleton, Memᴰ·append-left, Memᴰ·map, Memᴰ·of-map, Memᴰ·cast}
+use mathlib.Core.List.{List, [], _∷_, _++_, map, map-map, map-append, flatMap, List·Memᴰ, List·Memᴰ·head, List·Memᴰ·tail, List·Memᴰ·not-nil, List·Memᴰ·append-cases, List·Memᴰ·eq-of-singleton, Memᴰ·map, Memᴰ·of-map, Memᴰ·cast}
 use mathlib.Core.Option.{Option, none, some}
-use Prim.Native.Nat.{ℕ, _+_, _≤_, _<_}
+use Prim.Native.Nat.{ℕ, _+_, _≤_}
 use native.Mathlib.Nat.{add-zero}
 use native.Mathlib.Omega.{arith}
 use lib.Dec.{ltb}
 use Rattle.lists.specs.Tests.{same}
 use Rattle.lists.specs.Scans.{keep, firstOr, isSome}
 use Rattle.lists.specs.Members.{Distinct}
-use Rattle.lists.proofs.Bools.{same-true, which}
+use Rattle.lists.proofs.Bools.{same-true}
 use Rattle.lists.proofs.Keeps.{keep-in, keep-map}
 use Rattle.lists.proofs.Members.{map-cong}
 use Rattle.plane.specs.declared.Point.{Point}
-use Rattle.plane.specs.Below.{Segment, passesBelow, higher}
+use Rattle.plane.specs.Below.{passesBelow, higher}
 use Rattle.curves.specs.Curves.{Curve, segments}
-use Rattle.map.specs.Rows.{Node, Edge, Map, node, hasNode, atNodes, withoutNode}
+use Rattle.map.specs.Rows.{Node, Edge, Map, node, atNodes, withoutNode}
 use Rattle.map.specs.Faces.{Floor, floorOf, floors, highest, faceAbove, faceOfPoint}
 use Rattle.map.specs.Edits.{lone, addIsoNode, moveIsoNode, removeIsoNode, withCurve, changeEdgeGeom}
 use Rattle.map.specs.Reasons.{isolated}
 use Rattle.grown.specs.Good.{Woven}
-use Rattle.grown.proofs.RowChanges.{nodeNumber, node-at, node-row}
+use Rattle.grown.proofs.RowChanges.{nodeNumber, node-at}
 use Rattle.grown.proofs.Scanning.{Rising, rising-append, rising-keep}
-use Rattle.grown.proofs.Numbers.{Outline, outlineOf, outlines, outlineNumber, Met, EndsAt, Placed, Sided, Ranked, RankedMap}
-use Rattle.grown.proofs.Outlines.{Shape, ranked-shape, framed-ranked, at-framed}
+use Rattle.grown.proofs.Numbers.{Outline, outlineOf, outlines, Met, EndsAt, Placed, Sided, Ranked, RankedMap}
+use Rattle.grown.proofs.Outlines.{ranked-shape, framed-ranked, at-framed}
 
 -- ---- rows of nodes
 

@@ -1,10 +1,10 @@
 -- Numbers, faces and marks kept by kinds 5, 13 and 14: an edge undrawn. Assumes nothing.
 use mathlib.Core.Path.{_≡_, refl, sym, ap, _∙_, subst}
 use mathlib.Core.Logic.{_⊎_, inl, inr, _≢_}
-use mathlib.Core.Bool.{Bool, true, false, cond, not, _&&_, _||_, true≢false}
+use mathlib.Core.Bool.{Bool, true, false, cond, not, _&&_, _||_}
 use mathlib.Core.List.{List, [], _∷_, _++_, map, List·Memᴰ, List·Memᴰ·head, Memᴰ·append-left, Memᴰ·append-right, Memᴰ·map, Memᴰ·cast}
 use mathlib.Core.Option.{Option, none, some}
-use Prim.Native.Nat.{ℕ, _+_, _≤_, min}
+use Prim.Native.Nat.{ℕ, _+_, min}
 use native.Mathlib.Nat.{add-zero, zero-min, min-zero, min-comm, min-eq-left}
 use native.Mathlib.Omega.{arith}
 use borrow.Author.Tests.{not-true, leb-true, leb-false}
@@ -15,7 +15,7 @@ use Rattle.lists.proofs.Bools.{same-refl, same-true, same-eq, differ, which, or
 use Rattle.lists.proofs.Keeps.{keep-has}
 use Rattle.geometry.proofs.Booleans.{and-true}
 use Rattle.map.specs.Rows.{Node, Edge, Map, edge, hasEdge}
-use Rattle.map.specs.Edits.{withFace, removeIsoEdge, withSides, renamed, renamedNode, renamedFaces, undrawn, healsFaces, lowerFace, makesFace, faceLeft, removeEdge}
+use Rattle.map.specs.Edits.{removeIsoEdge, withSides, renamed, renamedNode, renamedFaces, healsFaces, lowerFace, makesFace, faceLeft, removeEdge}
 use Rattle.grown.proofs.Readings.{edge-row}
 use Rattle.grown.proofs.Scanning.{Rising, rising-append, rising-keep}
 use Rattle.grown.proofs.Numbers.{Outline, outlineOf, outlines, Sided, Ranked, RankedMap}

@@ -1,17 +1,15 @@
 -- Numbers, faces and marks kept where edges are replaced by others; kinds 7 and 8, a split. Assumes nothing.
 use mathlib.Core.Path.{_≡_, refl, sym, ap, _∙_, subst}
 use mathlib.Core.Logic.{_⊎_, inl, inr, _≢_}
-use mathlib.Core.Bool.{Bool, true, false, cond, not, true≢false}
+use mathlib.Core.Bool.{Bool, true, false, cond, not}
 use mathlib.Core.List.{List, [], _∷_, _++_, map, map-map, map-append, append-assoc, List·Memᴰ, List·Memᴰ·head, List·Memᴰ·tail, List·Memᴰ·cases-cons, List·Memᴰ·append-cases, List·Memᴰ·eq-of-singleton, Memᴰ·append-left, Memᴰ·append-right, Memᴰ·map, Memᴰ·of-map, Memᴰ·cast}
 use mathlib.Core.Option.{Option, none, some}
-use Prim.Native.Nat.{ℕ, _+_, _≤_, _<_}
+use Prim.Native.Nat.{ℕ, _+_, _≤_}
 use native.Mathlib.Nat.{add-zero}
 use native.Mathlib.Omega.{arith}
 use borrow.Author.Tests.{not-true}
 use Rattle.lists.specs.Tests.{same}
-use Rattle.lists.specs.Scans.{keep, isSome}
-use Rattle.lists.specs.Members.{Distinct}
-use Rattle.lists.proofs.Bools.{same-refl, same-true, same-eq, which}
+use Rattle.lists.proofs.Bools.{same-true, same-eq, which}
 use Rattle.lists.proofs.Members.{map-cong}
 use Rattle.lists.proofs.Keeps.{keep-in, keep-has, keep-map}
 use Rattle.plane.specs.declared.Point.{Point}
@@ -19,11 +17,11 @@ use Rattle.planar.specs.Map.{Dart, fwd, bwd}
 use Rattle.map.specs.Rows.{Node, Edge, Map, edge, hasEdge, atEdge, withoutEdge}
 use Rattle.map.specs.Links.{withLinks, instead, redirect}
 use Rattle.map.specs.Edits.{startHalf, endHalf, split}
-use Rattle.grown.proofs.Readings.{edge-row, edge-at, mapped-kept}
+use Rattle.grown.proofs.Readings.{edge-row, mapped-kept}
 use Rattle.grown.proofs.RowChanges.{nodeNumber}
-use Rattle.grown.proofs.Scanning.{Rising, rising-append, rising-keep}
-use Rattle.grown.proofs.Numbers.{Outline, outlineOf, outlines, outlineNumber, Met, EndsAt, Placed, Sided, Ranked, RankedMap}
-use Rattle.grown.proofs.Outlines.{Shape, ranked-shape, Framed, framed-join, redirect-framed, outlines-map, outlines-without, lessOutline}
+use Rattle.grown.proofs.Scanning.{Rising, rising-keep}
+use Rattle.grown.proofs.Numbers.{Outline, outlineOf, outlines, outlineNumber, Met, EndsAt, Sided, Ranked, RankedMap}
+use Rattle.grown.proofs.Outlines.{ranked-shape, Framed, framed-join, redirect-framed, outlines-map, outlines-without, lessOutline}
 use Rattle.grown.proofs.NumbersNodes.{ranked-more-node}
 use Rattle.grown.proofs.NumbersEdges.{rising-outlines, outline-at, ranked-distinct}
 

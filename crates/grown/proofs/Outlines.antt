@@ -1,8 +1,8 @@
 -- Nodes, outlines of edges, faces and next numbers after each way of changing a map. Assumes nothing.
-use mathlib.Core.Path.{_≡_, refl, sym, ap, _∙_, subst}
-use mathlib.Core.Bool.{Bool, true, false, cond, not, _&&_}
+use mathlib.Core.Path.{_≡_, refl, sym, ap, _∙_}
+use mathlib.Core.Bool.{Bool, true, false, cond, not}
 use mathlib.Core.List.{List, [], _∷_, _++_, map, map-map, map-append, List·Memᴰ}
-use mathlib.Core.Option.{none, some}
+use mathlib.Core.Option.{none}
 use Prim.Native.Nat.{ℕ, _+_}
 use native.Mathlib.Nat.{add-zero}
 use Rattle.lists.specs.Tests.{same}
@@ -11,11 +11,11 @@ use Rattle.lists.proofs.Members.{map-cong}
 use Rattle.lists.proofs.Keeps.{keep-map}
 use Rattle.curves.specs.Curves.{Curve}
 use Rattle.planar.specs.Map.{Dart, fwd, bwd}
-use Rattle.map.specs.Rows.{Node, Edge, Map, edge, setNodes, setEdges, given, atNodes, atEdge, withoutEdge}
+use Rattle.map.specs.Rows.{Node, Edge, Map, edge, setEdges, given, atNodes, atEdge, withoutEdge}
 use Rattle.map.specs.Darts.{next}
 use Rattle.map.specs.Links.{redirect, lead, linkIn, linkEdge, unlinkEdge}
-use Rattle.map.specs.Edits.{withFace, isEither, drawn, undrawn}
-use Rattle.grown.proofs.Numbers.{Outline, outlineOf, outlines, outlineNumber, Ranked, RankedMap}
+use Rattle.map.specs.Edits.{withFace, isEither, drawn}
+use Rattle.grown.proofs.Numbers.{Outline, outlineOf, outlines, Ranked, RankedMap}
 
 -- what a map has beside links and curves
 pub record Shape (m : Map) (ns : List Node) (os : List Outline) (fs : List ℕ) (a b c : ℕ) : Type 0 where

@@ -1,30 +1,29 @@
 -- A good map that fits is in form in its tables, and is read back from them. Assumes nothing.
-use mathlib.Core.Path.{_≡_, refl, sym, ap, ap₂, _∙_, subst}
-use mathlib.Core.Logic.{inl, inr}
-use mathlib.Core.Bool.{Bool, true, false, _&&_, true≢false}
-use mathlib.Core.List.{List, [], _∷_, _++_, map, map-map, flatMap, append-assoc, List·Memᴰ, List·Memᴰ·head, List·Memᴰ·tail, Memᴰ·of-map, Memᴰ·map}
+use mathlib.Core.Path.{_≡_, refl, sym, ap, _∙_, subst}
+use mathlib.Core.Bool.{Bool, true, false}
+use mathlib.Core.List.{List, [], _∷_, _++_, map, map-map, flatMap, append-assoc, List·Memᴰ, List·Memᴰ·head, List·Memᴰ·tail, Memᴰ·of-map}
 use mathlib.Core.Option.{Option, none, some}
-use Prim.Native.Nat.{ℕ, zero, suc, _+_, _*_, _-_, _/_, _≤_}
-use native.Mathlib.Nat.{suc-mul, zero-mul, mul-le-mul-right, mul-div-cancel}
+use Prim.Native.Nat.{ℕ, zero, suc, _*_, _-_, _/_, _%_, _≤_}
+use native.Mathlib.Nat.{suc-mul, zero-mul, mul-le-mul-right, mul-div-cancel, mul-mod-left}
 use native.Mathlib.Omega.{arith}
 use borrow.Author.Tests.{le-leb}
 use lib.Dec.{leb, leb·zero}
-use lib.IntN.{ℤ, pos, negsuc, natAbs}
+use lib.IntN.{ℤ, pos, negsuc}
 use lib.ListN.{length, take, drop, replicate, length-append, length-replicate}
 use lib.Seq.{take-append-seam, drop-append-seam}
-use lib.Signed.{leZ, nonNeg}
+use lib.Signed.{leZ}
 use Rattle.lists.specs.Tests.{same}
 use Rattle.lists.specs.Scans.{all, firstOr}
 use Rattle.lists.proofs.Bools.{same-refl}
 use Rattle.geometry.proofs.Booleans.{and-is}
 use Rattle.plane.specs.declared.Point.{Point}
 use Rattle.plane.specs.Points.{InRange, maxCoordinate}
-use Rattle.curves.specs.Curves.{Curve, points, coordinates, coordinate, maxPoints}
+use Rattle.curves.specs.Curves.{points, coordinates, coordinate, maxPoints}
 use Rattle.planar.specs.Map.{Dart, fwd, bwd}
 use Rattle.planar.proofs.Rings.{next-in}
 use Rattle.geometry.specs.Meaning.{Some}
-use Rattle.map.specs.Limits.{lastNumber, nodeWidth, edgeWidth, faceWidth}
-use Rattle.map.specs.Rows.{Node, Edge, Map, Lent, Sizes, rows, filled, nodeCells, edgeCells, faceCells, faceCell, dartCell, lentOf, mapOf, sizesOf, nodeRows, edgeRows, faceRows, edge}
+use Rattle.map.specs.Limits.{maxNodes, maxEdges, maxFaces, lastNumber, nodeWidth, edgeWidth, faceWidth}
+use Rattle.map.specs.Rows.{Node, Edge, Map, Sizes, rows, filled, nodeCells, edgeCells, faceCells, faceCell, lentOf, mapOf, sizesOf, whole, wholeRows, nodeRows, edgeRows, faceRows, edge}
 use Rattle.map.specs.Darts.{next}
 use Rattle.map.specs.Form.{within, isZero, restZero, nodeRanges, edgeRanges, faceRanges, ranged, formed, inForm, countsFit, nextsFit}
 use Rattle.map.proofs.RoundTrip.{Holds, reads-back}
@@ -234,3 +233,19 @@ module _ (m : Map) (g : Good m) where
     pub good-in-form : inForm (lentOf s m) ≡ true
     unfolding inForm
     good-in-form = and-is good-ranged (ap formed (good-back s) ∙ good-formed m g)
+
+-- ---- whole rows, within the limits
+
+whole-table : (w least most n : ℕ) (l : List ℤ) → length l ≡ n * w → length l / w ≡ n → least ≤ n → n ≤ most → wholeRows w least most l ≡ true
+whole-table w least most n l size room low high =
+    and-is (and-is (ap (λ (k : ℕ). same (k % w) 0) size ∙ ap (λ (k : ℕ). same k 0) (mul-mod-left n w) ∙ same-refl 0) (ap (leb least) room ∙ le-leb least n low)) (ap (λ (k : ℕ). leb k most) room ∙ le-leb n most high)
+
+-- tables of these sizes are whole
+pub good-whole : (m : Map) (g : Good m) (s : Sizes) (f : Fits s m) → 1 ≤ s .faces → s .nodes ≤ maxNodes → s .edges ≤ maxEdges → s .faces ≤ maxFaces → whole (lentOf s m) ≡ true
+unfolding whole lentOf
+good-whole m g s f h a b c =
+    and-is
+    (and-is
+    (whole-table nodeWidth 0 maxNodes (s .nodes) (lentOf s m .nodes) (table-length nodeWidth nodeCells (s .nodes) (m .nodes) (node-wide (m .nodes)) (f .nodes)) (node-room m g s f) (omega arith) a)
+    (whole-table edgeWidth 0 maxEdges (s .edges) (lentOf s m .edges) (table-length edgeWidth edgeCells (s .edges) (m .edges) (edge-wide (m .edges) (few m g)) (f .edges)) (edge-room m g s f) (omega arith) b))
+    (whole-table faceWidth 1 maxFaces (s .faces) (lentOf s m .faces) (table-length faceWidth faceCells (s .faces) (m .faces) (face-wide (m .faces)) (f .faces)) (face-room m g s f) h c)

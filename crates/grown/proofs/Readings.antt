@@ -1,25 +1,24 @@
 -- What a map reads in its rows, and after each way of changing them: rows mapped, appended, left out, redirected. Assumes nothing.
-use mathlib.Core.Path.{_≡_, refl, sym, ap, ap₂, _∙_, subst}
+use mathlib.Core.Path.{_≡_, refl, sym, ap, _∙_, subst}
 use mathlib.Core.Logic.{_⊎_, inl, inr, _≢_}
-use mathlib.Core.Bool.{Bool, true, false, cond, not, _&&_, _||_, Bool·beq, true≢false}
+use mathlib.Core.Bool.{Bool, true, false, cond, not, _&&_, Bool·beq, true≢false}
 use mathlib.Core.List.{List, [], _∷_, _++_, map, map-map, List·Memᴰ, List·Memᴰ·head, List·Memᴰ·tail, List·Memᴰ·cases-cons, List·Memᴰ·not-nil, Memᴰ·map, Memᴰ·of-map, Memᴰ·cast}
 use mathlib.Core.Option.{Option, none, some, Option·getD, Option·map}
 use Prim.Native.Nat.{ℕ}
 use Rattle.lists.specs.Tests.{same}
-use Rattle.lists.specs.Scans.{any, find, isSome, keep}
+use Rattle.lists.specs.Scans.{find, isSome, keep}
 use Rattle.lists.specs.Members.{Distinct}
-use Rattle.lists.proofs.Bools.{same-refl, same-true, same-false, same-eq, differ, which, not-true}
+use Rattle.lists.proofs.Bools.{same-refl, same-true, same-false, same-eq, differ}
 use Rattle.lists.proofs.Keeps.{keep-in, keep-has}
 use Rattle.lists.proofs.Members.{map-cong}
-use Rattle.plane.specs.Directions.{Way}
 use Rattle.curves.specs.Curves.{Curve, startWay, through}
 use Rattle.curves.specs.Edits as edits
-use Rattle.planar.specs.Map.{Arc, Dart, fwd, bwd, rev, darts}
+use Rattle.planar.specs.Map.{Arc, Dart, fwd, bwd, darts}
 use Rattle.planar.specs.Pieces.{nums}
 use Rattle.planar.specs.Rings.{sameDart}
 use Rattle.planar.proofs.Cycles.{fwd-in, bwd-in}
 use Rattle.planar.proofs.Rings.{dart-cases}
-use Rattle.map.specs.Rows.{Node, Edge, Map, node, edge, findEdge, hasNode, hasEdge, setEdges, atNodes, atEdge, withoutEdge}
+use Rattle.map.specs.Rows.{Edge, Map, edge, hasEdge, atEdge}
 use Rattle.map.specs.Darts.{arcs, directed, leaves, next, bears, course, way, departures}
 use Rattle.map.specs.Links.{withLinks, instead, redirect, lead}
 
@@ -114,13 +113,6 @@ module _ {A : Type 0} (num : A → ℕ) where
       step true = refl
       step false = refl
 
-  pub has-append : (rs ss : List A) (n : ℕ) → has (rs ++ ss) n ≡ has rs n || has ss n
-  has-append rs ss n = rw (find-append rs ss n) (step (find (numbered n) rs))
-    where
-      step : (o : Option A) → isSome (cond (isSome o) o (find (numbered n) ss)) ≡ isSome o || has ss n
-      step none = refl
-      step (some a) = refl
-
   pub look-first : (u : A) (rs ss : List A) (n : ℕ) → has rs n ≡ true → look u (rs ++ ss) n ≡ look u rs n
   look-first u rs ss n h = rw (find-append rs ss n, h)
 
@@ -129,13 +121,6 @@ module _ {A : Type 0} (num : A → ℕ) where
 
   pub look-one : (u q : A) → look u (q ∷ []) (num q) ≡ q
   look-one u q = rw (same-refl (num q))
-
-  pub has-one : (q : A) (n : ℕ) → has (q ∷ []) n ≡ same (num q) n
-  has-one q n = step (same (num q) n)
-    where
-      step : (b : Bool) → isSome (cond b (some q) none) ≡ b
-      step true = refl
-      step false = refl
 
   -- rows left out
   abbrev pub without : ℕ → List A → List A
@@ -281,9 +266,6 @@ module _ (m m′ : Map) (E : m′ .edges ≡ m .edges) where
   pub edge-by : (e : ℕ) → edge m′ e ≡ edge m e
   unfolding edge
   edge-by e = ap (λ (es : List Edge). look numberOf missing es e) E
-
-  pub arcs-by : arcs m′ ≡ arcs m
-  arcs-by = ap (map arcOf) E
 
   pub leaves-by : (d : Dart) → leaves m′ d ≡ leaves m d
   leaves-by d = rw (leaves-row, leaves-row, edge-by (d .edge))

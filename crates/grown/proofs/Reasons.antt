@@ -1,16 +1,16 @@
 -- What holds of a ticket that nothing turns down: for each kind the facts, from `firstReason .. ≡ 0`. Assumes nothing.
 use mathlib.Core.Path.{_≡_, refl, sym, ap}
-use mathlib.Core.Bool.{Bool, true, false, cond, not, _&&_, _||_, true≢false}
+use mathlib.Core.Bool.{Bool, true, false, not, _&&_, _||_, true≢false}
 use mathlib.Core.List.{List, [], _∷_, _++_, List·Memᴰ, List·Memᴰ·cases-cons, List·Memᴰ·not-nil}
 use mathlib.Core.Logic.{_⊎_, inl, inr, _≢_}
-use mathlib.Core.Option.{Option, none, some, Option·getD}
+use mathlib.Core.Option.{Option·getD}
 use Prim.Native.Nat.{ℕ, suc, _+_, _/_, _≤_}
 use native.Mathlib.Omega.{arith}
 use borrow.Author.Tests.{ltb-false, leb-true, not-true, not-false}
 use lib.Dec.{leb, ltb}
 use lib.IntN.{ℤ, pos, negsuc, natAbs}
 use lib.ListN.{length}
-use lib.Signed.{leZ, nonNeg}
+use lib.Signed.{nonNeg}
 use Rattle.lists.specs.Tests.{same, bit}
 use Rattle.lists.specs.Scans.{all, isSome}
 use Rattle.lists.proofs.Bools.{same-true, differ}
@@ -26,10 +26,10 @@ use Rattle.map.specs.Darts.{edgeEnds}
 use Rattle.map.specs.Links.{cornerFace}
 use Rattle.map.specs.Tickets.{AddIsoNode, MoveIsoNode, RemoveIsoNode, AddIsoEdge, RemoveIsoEdge, ChangeEdgeGeom, NewEdgesSplit, ModEdgeSplit, NewEdgeHeal, ModEdgeHeal, AddEdgeNewFaces, AddEdgeModFace, RemEdgeNewFace, RemEdgeModFace}
 use Rattle.map.specs.Edits.{sharedNodes, joint, healedCurve, splitsFace, makesFace}
-use Rattle.map.specs.Reasons.{Reasons, firstReason, reasons, noNode, noEdge, outside, endsDiffer, curveReasons, isolated, edgeIsolated, nodeAt, edgeThrough, directionTaken, containingDiffer, cornersDiffer, nodeInside, edgeWrong, meetingReasons, orderChanges, full, spent, splitReasons, healReasons, addEdgeReasons}
+use Rattle.map.specs.Reasons.{Reasons, firstReason, reasons, noNode, noEdge, outside, endsDiffer, isolated, edgeIsolated, nodeAt, edgeThrough, directionTaken, containingDiffer, cornersDiffer, nodeInside, edgeWrong, orderChanges, full, spent, splitReasons, healReasons, addEdgeReasons}
 
 -- no reason: the first does not hold, nor do the others
-no-reason : (n : ℕ) (b : Bool) (rs : Reasons) → firstReason ((suc n, b) ∷ rs) ≡ 0 → (b ≡ false) × (firstReason rs ≡ 0)
+pub no-reason : (n : ℕ) (b : Bool) (rs : Reasons) → firstReason ((suc n, b) ∷ rs) ≡ 0 → (b ≡ false) × (firstReason rs ≡ 0)
 unfolding firstReason
 no-reason n true rs h = absurd (omega arith)
 no-reason n false rs h = (refl, h)

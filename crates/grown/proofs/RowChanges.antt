@@ -1,21 +1,21 @@
 -- What a map reads after one row is changed, appended or left out. Assumes nothing.
 use mathlib.Core.Path.{_≡_, refl, sym, ap, _∙_, subst}
-use mathlib.Core.Logic.{_⊎_, inl, inr, _≢_}
-use mathlib.Core.Bool.{Bool, true, false, cond, not, _||_, true≢false}
-use mathlib.Core.List.{List, [], _∷_, _++_, map, map-append, List·Memᴰ, List·Memᴰ·head, List·Memᴰ·tail, Memᴰ·map, Memᴰ·cast, List·Permᴰ, List·Permᴰ·cons, List·Permᴰ·swap, List·Permᴰ·trans, Permᴰ·refl, Permᴰ·map, Permᴰ·middle, Permᴰ·append-nil}
+use mathlib.Core.Logic.{inl, inr, _≢_}
+use mathlib.Core.Bool.{Bool, true, false, cond, not, true≢false}
+use mathlib.Core.List.{List, [], _∷_, _++_, map, map-append, List·Memᴰ, Memᴰ·map, Memᴰ·cast, List·Permᴰ, List·Permᴰ·cons, List·Permᴰ·swap, List·Permᴰ·trans, Permᴰ·refl, Permᴰ·map, Permᴰ·middle, Permᴰ·append-nil}
 use mathlib.Core.Option.{Option, none, some, Option·getD}
 use Prim.Native.Nat.{ℕ}
 use Rattle.lists.specs.Tests.{same}
 use Rattle.lists.specs.Scans.{find, isSome, keep}
 use Rattle.lists.specs.Members.{Distinct}
-use Rattle.lists.proofs.Bools.{same-refl, same-true, same-false, which}
+use Rattle.lists.proofs.Bools.{same-true, same-false, which}
 use Rattle.lists.proofs.Keeps.{keep-map, keep-all}
 use Rattle.plane.specs.Points.{origin}
 use Rattle.planar.specs.Map.{Arc, Dart, fwd, bwd, darts}
 use Rattle.planar.specs.Pieces.{nums}
-use Rattle.map.specs.Rows.{Node, Edge, Map, node, edge, hasNode, hasEdge, atNodes, atEdge, withoutNode, withoutEdge}
-use Rattle.map.specs.Darts.{arcs, directed, leaves, departures}
-use Rattle.grown.proofs.Readings.{numbered, look, has, look-row, look-at, has-at, look-first, look-second, look-one, has-append, has-one, without, look-without, has-without, has-without-it, look-map, has-map, look-kept, numberOf, missing, arcOf, nums-rows, edge-row, mapped-edge, mapped-has, dart-has, keep-cong}
+use Rattle.map.specs.Rows.{Node, Edge, Map, node, edge, hasNode, hasEdge, atEdge, withoutEdge}
+use Rattle.map.specs.Darts.{arcs, directed}
+use Rattle.grown.proofs.Readings.{numbered, look, has, look-row, look-at, look-first, look-second, look-one, without, look-without, has-without, numberOf, missing, arcOf, nums-rows, edge-row, mapped-edge, mapped-has}
 
 -- ---- lists
 
@@ -85,10 +85,6 @@ module _ (e : ℕ) (f : Edge → Edge) (m : Map) (keeps : (r : Edge) → List·M
   unfolding atEdge
   at-has x = mapped-has m (atEdge e f m) changed refl kept x
 
-  pub at-it : hasEdge m e ≡ true → edge (atEdge e f m) e ≡ f (edge m e)
-  unfolding atEdge
-  at-it h = mapped-edge m (atEdge e f m) changed refl kept e h ∙ (rw (edge-row m e h .1, same-refl e))
-
   pub at-other : (x : ℕ) → x ≢ e → edge (atEdge e f m) x ≡ edge m x
   unfolding atEdge
   at-other x ne = elim (which (hasEdge m x)) [
@@ -98,9 +94,6 @@ module _ (e : ℕ) (f : Edge → Edge) (m : Map) (keeps : (r : Edge) → List·M
 
 -- a row is appended
 module _ (m m′ : Map) (r : Edge) (E : m′ .edges ≡ m .edges ++ r ∷ []) where
-  pub more-has : (e : ℕ) → hasEdge m′ e ≡ hasEdge m e || same (r .number) e
-  more-has e = ap (λ (es : List Edge). has numberOf es e) E ∙ has-append numberOf (m .edges) (r ∷ []) e ∙ ap (λ (b : Bool). hasEdge m e || b) (has-one numberOf r e)
-
   pub more-old : (e : ℕ) → hasEdge m e ≡ true → edge m′ e ≡ edge m e
   unfolding edge
   more-old e h = ap (λ (es : List Edge). look numberOf missing es e) E ∙ look-first numberOf missing (m .edges) (r ∷ []) e h
@@ -123,9 +116,6 @@ module _ (m m′ : Map) (r : Edge) (E : m′ .edges ≡ m .edges ++ r ∷ []) wh
 module _ (m m′ : Map) (e : ℕ) (E : m′ .edges ≡ withoutEdge e (m .edges)) where
   pub less-has : (x : ℕ) → x ≢ e → hasEdge m′ x ≡ hasEdge m x
   less-has x ne = ap (λ (es : List Edge). has numberOf es x) E ∙ has-without numberOf e (m .edges) x ne
-
-  pub less-it : hasEdge m′ e ≡ false
-  less-it = ap (λ (es : List Edge). has numberOf es e) E ∙ has-without-it numberOf e (m .edges)
 
   pub less-edge : (x : ℕ) → x ≢ e → edge m′ x ≡ edge m x
   unfolding edge
@@ -156,32 +146,6 @@ module _ (m : Map) where
   unfolding node
   node-row n h = look-row nodeNumber noNode (m .nodes) n h
 
-  pub node-has : {r : Node} → List·Memᴰ r (m .nodes) → hasNode m (r .number) ≡ true
-  node-has k = has-at nodeNumber (m .nodes) k
-
   pub node-at : {r : Node} → Distinct (map nodeNumber (m .nodes)) → List·Memᴰ r (m .nodes) → node m (r .number) ≡ r
   unfolding node
   node-at dis k = look-at nodeNumber noNode (m .nodes) dis k
-
--- the same nodes
-pub node-by : (m m′ : Map) → m′ .nodes ≡ m .nodes → (n : ℕ) → node m′ n ≡ node m n
-unfolding node
-node-by m m′ N n = ap (λ (ns : List Node). look nodeNumber noNode ns n) N
-
--- rows mapped: what is left of them is read as it was
-pub node-kept : {B : Type 0} (m m′ : Map) (f : Node → Node) (g : Node → B) → m′ .nodes ≡ map f (m .nodes) → ((r : Node) → List·Memᴰ r (m .nodes) → f r .number ≡ r .number) → ((r : Node) → g (f r) ≡ g r) → (n : ℕ) → g (node m′ n) ≡ g (node m n)
-unfolding node
-node-kept m m′ f g N keeps h n = ap (λ (ns : List Node). g (look nodeNumber noNode ns n)) N ∙ look-kept nodeNumber f g noNode (m .nodes) n keeps h
-
--- a row appended, and one left out
-pub node-old : (m m′ : Map) (r : Node) → m′ .nodes ≡ m .nodes ++ r ∷ [] → (n : ℕ) → hasNode m n ≡ true → node m′ n ≡ node m n
-unfolding node
-node-old m m′ r N n h = ap (λ (ns : List Node). look nodeNumber noNode ns n) N ∙ look-first nodeNumber noNode (m .nodes) (r ∷ []) n h
-
-pub node-new : (m m′ : Map) (r : Node) → m′ .nodes ≡ m .nodes ++ r ∷ [] → hasNode m (r .number) ≡ false → node m′ (r .number) ≡ r
-unfolding node
-node-new m m′ r N h = ap (λ (ns : List Node). look nodeNumber noNode ns (r .number)) N ∙ look-second nodeNumber noNode (m .nodes) (r ∷ []) (r .number) h ∙ look-one nodeNumber noNode r
-
-pub node-less : (m m′ : Map) (x : ℕ) → m′ .nodes ≡ withoutNode x (m .nodes) → (n : ℕ) → n ≢ x → node m′ n ≡ node m n
-unfolding node
-node-less m m′ x N n ne = ap (λ (ns : List Node). look nodeNumber noNode ns n) N ∙ look-without nodeNumber noNode x (m .nodes) n ne

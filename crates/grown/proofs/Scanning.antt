@@ -1,26 +1,18 @@
 -- Scans of a list by its members, and numbers that rise. Assumes nothing.
 use mathlib.Core.Path.{_≡_, refl, sym, ap, _∙_}
 use mathlib.Core.Logic.{_⊎_, inl, inr}
-use mathlib.Core.Bool.{Bool, true, false, cond, not, _&&_, _||_, true≢false}
-use mathlib.Core.List.{List, [], _∷_, _++_, map, List·Memᴰ, List·Memᴰ·head, List·Memᴰ·tail, List·Memᴰ·cases-cons, List·Memᴰ·not-nil, List·Memᴰ·append-cases}
-use Prim.Native.Nat.{ℕ, suc, _+_, _≤_, _<_}
+use mathlib.Core.Bool.{Bool, true, false, cond, _&&_, true≢false}
+use mathlib.Core.List.{List, [], _∷_, _++_, List·Memᴰ, List·Memᴰ·head, List·Memᴰ·tail, List·Memᴰ·cases-cons, List·Memᴰ·not-nil, List·Memᴰ·append-cases}
+use Prim.Native.Nat.{ℕ, _+_, _≤_, _<_}
 use native.Mathlib.Omega.{arith}
 use borrow.Author.Tests.{ltb-true, leb-true, lt-ltb, le-leb}
 use lib.Dec.{leb, ltb}
-use lib.ListN.{length}
-use Rattle.lists.specs.Tests.{same}
 use Rattle.lists.specs.Scans.{any, all, keep, linked}
 use Rattle.lists.specs.Members.{All, Pairs, Distinct}
-use Rattle.lists.proofs.Bools.{which, or-true, or-right, same-refl, same-true, same-eq}
+use Rattle.lists.proofs.Bools.{or-true, or-right}
 use Rattle.lists.proofs.Keeps.{keep-in}
 use Rattle.geometry.proofs.Booleans.{and-true, and-is, or-left}
 use Rattle.map.specs.Form.{numbered}
-
--- two tests that hold together
-pub both-ways : (a b : Bool) → (a ≡ true → b ≡ true) → (b ≡ true → a ≡ true) → a ≡ b
-both-ways true b f g = sym (f refl)
-both-ways false true f g = g refl
-both-ways false false f g = refl
 
 module _ {A : Type 0} (p : A → Bool) where
   pub all-each : (l : List A) → all p l ≡ true → (x : A) → List·Memᴰ x l → p x ≡ true

@@ -2,23 +2,22 @@
 use mathlib.Core.Path.{_≡_, refl, sym, ap, _∙_, subst}
 use mathlib.Core.Logic.{_⊎_, inl, inr, _≢_}
 use mathlib.Core.Bool.{Bool, true, false, cond, not, _&&_, true≢false}
-use mathlib.Core.List.{List, [], _∷_, _++_, map, List·Memᴰ, List·Memᴰ·head, List·Memᴰ·cases-cons, List·Memᴰ·not-nil, Memᴰ·append-right, Memᴰ·map}
+use mathlib.Core.List.{List, [], _∷_, map, List·Memᴰ, List·Memᴰ·head, List·Memᴰ·cases-cons, List·Memᴰ·not-nil, Memᴰ·append-right, Memᴰ·map}
 use Prim.Native.Nat.{ℕ, suc, _+_, _≤_, min}
 use native.Mathlib.Nat.{add-zero}
 use native.Mathlib.Omega.{arith}
 use lib.ListN.{length, length-map, length-append}
 use Rattle.lists.specs.Tests.{same, bit}
-use Rattle.lists.specs.Scans.{keep, isSome}
-use Rattle.lists.proofs.Bools.{same-refl, same-eq, same-false, which}
+use Rattle.lists.specs.Scans.{keep}
+use Rattle.lists.proofs.Bools.{same-refl, same-eq, same-false}
 use Rattle.lists.proofs.Keeps.{keep-has}
-use Rattle.geometry.proofs.Booleans.{and-true, or-left}
 use Rattle.plane.specs.declared.Point.{Point}
 use Rattle.curves.specs.Curves.{Curve, startWay}
 use Rattle.planar.specs.Map.{fwd}
-use Rattle.map.specs.Rows.{Edge, Map, edge, hasNode, hasEdge, atNodes, atEdge, withoutNode}
+use Rattle.map.specs.Rows.{Edge, Map, edge, hasNode, hasEdge, atNodes, atEdge}
 use Rattle.map.specs.Darts.{bears}
 use Rattle.map.specs.Links.{cornerFace}
-use Rattle.map.specs.Edits.{addIsoNode, moveIsoNode, removeIsoNode, drawn, undrawn, addIsoEdge, removeIsoEdge, changeEdgeGeom, split, heal, drawnIn, splitsFace, splitFace, sharedOut, addEdge, renamed, renamedFaces, makesFace, healsFaces, lowerFace, faceLeft, removeEdge}
+use Rattle.map.specs.Edits.{addIsoNode, moveIsoNode, removeIsoNode, drawn, undrawn, addIsoEdge, removeIsoEdge, changeEdgeGeom, split, heal, drawnIn, splitsFace, splitFace, sharedOut, addEdge, renamed, renamedFaces, makesFace, faceLeft, removeEdge}
 use Rattle.grown.proofs.Readings.{edge-row, bears-row}
 use Rattle.grown.proofs.Reasons.{newFaces}
 use Rattle.grown.proofs.Numbers.{Outline, outlineOf, outlines, RankedMap}

@@ -1,21 +1,20 @@
 -- A good map is sound, by document 01's four statements. Assumes nothing.
-use mathlib.Core.Path.{_≡_, refl, sym, ap, _∙_, subst}
-use mathlib.Core.Logic.{_⊎_, inl, inr, _≢_}
+use mathlib.Core.Path.{_≡_, refl, sym, ap, _∙_}
+use mathlib.Core.Logic.{_⊎_, inl, inr}
 use mathlib.Core.Bool.{true}
-use mathlib.Core.List.{List, map, List·Memᴰ, Memᴰ·map}
-use Prim.Native.Nat.{ℕ, zero, suc, _+_}
+use mathlib.Core.List.{List·Memᴰ, Memᴰ·map}
+use Prim.Native.Nat.{ℕ, zero, suc}
 use native.Mathlib.Omega.{arith}
-use lib.ListN.{length, length-map}
+use lib.ListN.{length-map}
 use Rattle.lists.specs.Tests.{iterate}
 use Rattle.lists.proofs.Perms.{distinct-injective}
 use Rattle.planar.specs.Map.{Dart}
-use Rattle.planar.specs.Rings.{Leads}
 use Rattle.planar.proofs.Rings.{next-in}
 use Rattle.geometry.specs.Spots.{Spot, At}
 use Rattle.geometry.specs.Drawing.{OnCurve}
 use Rattle.geometry.proofs.Edits.{node-shared}
 use Rattle.map.specs.Rows.{Node, Edge, Map, node, hasNode}
-use Rattle.map.specs.Darts.{arcs, directed, next, bears, pieceCount}
+use Rattle.map.specs.Darts.{directed, next, bears}
 use Rattle.map.specs.Sound.{Sound, AtNode, Ends}
 use Rattle.grown.specs.Good.{Good}
 use Rattle.grown.proofs.Readings.{arcOf, has-number}

@@ -1,0 +1,144 @@
+-- What holds after every list of tickets, from the empty map in tables of any sizes that hold it. Assumes nothing.
+use mathlib.Core.Path.{_≡_, refl, sym, ap, ap₂, _∙_, subst}
+use mathlib.Core.Logic.{_≢_}
+use mathlib.Core.Bool.{true, not}
+use mathlib.Core.List.{List, [], _∷_, _++_, List·Memᴰ}
+use mathlib.Core.Option.{Option, none, some}
+use Prim.Native.Nat.{ℕ, zero, suc, _≤_}
+use native.Mathlib.Omega.{arith}
+use lib.IntN.{ℤ}
+use Rattle.planar.specs.Map.{Dart, rev}
+use Rattle.planar.specs.Rings.{sameDart}
+use Rattle.planar.proofs.Rings.{rev-in, sameDart-refl}
+use Rattle.planar.proofs.Turns.{rev-rev}
+use Rattle.map.specs.Limits.{maxNodes, maxEdges, maxFaces}
+use Rattle.map.specs.Rows.{Map, Lent, Sizes, emptyMap, mapOf, lentOf, sizesOf, whole}
+use Rattle.map.specs.Darts.{arcs, directed, leaves, next, bears, departures}
+use Rattle.map.specs.Form.{inForm}
+use Rattle.map.specs.Links.{clockwise, obeysLaw}
+use Rattle.map.specs.Tickets.{Ticket, read}
+use Rattle.map.specs.Reasons.{firstReason, reasons}
+use Rattle.map.specs.Ticket.{carried, lentReasons, unless, judged, ticket}
+use Rattle.map.specs.Grow.{after, grow}
+use Rattle.map.specs.Sound.{Sound}
+use Rattle.grown.specs.Good.{Good, Fits}
+use Rattle.grown.proofs.Reasons.{no-reason}
+use Rattle.grown.proofs.Scanning.{each-all}
+use Rattle.grown.proofs.Readings.{departing}
+use Rattle.grown.proofs.EdgesReached.{Reached}
+use Rattle.grown.proofs.Carried.{fits-kept}
+use Rattle.grown.proofs.Sounds.{good-sound}
+use Rattle.grown.proofs.Ranges.{good-back, sizes-back, good-in-form, good-whole}
+use Rattle.grown.proofs.Growth.{good-kept, reached-kept, empty-good, empty-reached}
+
+-- ---- the statements
+
+-- what is lent after any tickets
+pub record GrownMap (l : Lent) : Type 0 where
+  -- the four statements of demand 3
+  pub sound : Sound (mapOf l)
+  -- condition 2 never answers
+  pub in-form : inForm l ≡ true
+  -- all links obey the link law
+  pub lawful : obeysLaw (mapOf l) ≡ true
+  -- every face number but 0 is borne by some directed edge
+  pub borne : (f : ℕ) → List·Memᴰ f (mapOf l .faces) → f ≢ 0 → (d : Dart) × List·Memᴰ d (directed (mapOf l)) × (bears (mapOf l) d ≡ f)
+
+-- for all sizes that hold the empty map and all lists of tickets
+abbrev pub Grows : Type 0
+Grows = (s : Sizes) → 1 ≤ s .faces → (ts : List (List ℤ)) → GrownMap (grow s ts .lent)
+
+-- within the limits, and with room for face 0
+pub record Limited (s : Sizes) : Type 0 where
+  pub some-face : 1 ≤ s .faces
+  pub nodes : s .nodes ≤ maxNodes
+  pub edges : s .edges ≤ maxEdges
+  pub faces : s .faces ≤ maxFaces
+
+-- for all sizes within the limits and all lists of tickets neither 1 nor 2 ever answers
+abbrev pub NeverLent : Type 0
+NeverLent = (s : Sizes) → Limited s → (ts : List (List ℤ)) → firstReason (lentReasons (grow s ts .lent)) ≡ 0
+
+-- ---- what is carried from ticket to ticket
+
+-- the tables hold a good map that fits
+pub record State (s : Sizes) (l : Lent) : Type 0 where
+  pub map : Map
+  pub good : Good map
+  pub reached : Reached map
+  pub fits : Fits s map
+  pub lent : l ≡ lentOf s map
+
+module _ (s : Sizes) (m : Map) (g : Good m) (r : Reached m) (f : Fits s m) where
+  here : State s (lentOf s m)
+  here = record { map = m; good = g; reached = r; fits = f; lent = refl }
+
+  -- what nothing turns down in the tables nothing turns down in the map
+  free : (t : Ticket) → firstReason (lentReasons (lentOf s m) ++ reasons (sizesOf (lentOf s m)) (mapOf (lentOf s m)) t) ≡ 0 → firstReason (reasons s m t) ≡ 0
+  free t h =
+      let l = lentOf s m in
+      let h₁ = no-reason 0 (not (whole l)) _ h in
+      let h₂ = no-reason 1 (not (inForm l)) (reasons (sizesOf l) (mapOf l) t) (h₁ .1) in
+      ap₂ (λ (z : Sizes) (x : Map). firstReason (reasons z x t)) (sym (sizes-back m g s f)) (sym (good-back m g s)) ∙ h₂ .1
+
+  carry : (t : Ticket) (n : ℕ) → firstReason (lentReasons (lentOf s m) ++ reasons (sizesOf (lentOf s m)) (mapOf (lentOf s m)) t) ≡ n → State s (unless (lentOf s m) n (carried (mapOf (lentOf s m)) t) .lent)
+  carry t zero h = record {
+    map = carried m t .0;
+    good = good-kept s m g r t (free t h);
+    reached = reached-kept s m g r t (free t h);
+    fits = fits-kept s m g t (free t h) f;
+    lent = ap₂ (λ (z : Sizes) (x : Map). lentOf z (carried x t .0)) (sizes-back m g s f) (good-back m g s);
+  }
+  carry t (suc n) h = here
+
+  judge : (o : Option Ticket) → State s (judged (lentOf s m) (mapOf (lentOf s m)) o .lent)
+  judge none = here
+  judge (some t) = carry t _ refl
+
+-- one ticket
+step : (s : Sizes) (l : Lent) (t : List ℤ) → State s l → State s (ticket l t .lent)
+unfolding ticket
+step s l t x = subst (λ (k : Lent). State s (judged k (mapOf k) (read t) .lent)) (sym (x .lent)) (judge s (x .map) (x .good) (x .reached) (x .fits) (read t))
+
+-- a list of tickets
+steps : (s : Sizes) (l : Lent) (ts : List (List ℤ)) → State s l → State s (after l ts .lent)
+unfolding after
+steps s l [] x = x
+steps s l (t ∷ ts) x = steps s (ticket l t .lent) ts (step s l t x)
+
+pub grown-state : (s : Sizes) → 1 ≤ s .faces → (ts : List (List ℤ)) → State s (grow s ts .lent)
+unfolding grow
+grown-state s h ts = steps s (lentOf s emptyMap) ts (here s emptyMap empty-good empty-reached (record { nodes = omega arith; edges = omega arith; faces = h }))
+
+-- ---- the theorem
+
+-- the links of a good map obey the law
+good-lawful : (m : Map) → Good m → obeysLaw m ≡ true
+unfolding obeysLaw clockwise departures
+good-lawful m g = each-all _ (directed m) (λ d k. ap (λ (c : Dart). sameDart (next m d) c) (sym (led d k)) ∙ sameDart-refl (next m d))
+  where
+    led : (d : Dart) → List·Memᴰ d (directed m) → next m d ≡ clockwise m (rev d)
+    led d k = ap (next m) (sym (rev-rev d)) ∙ g .woven .law (leaves m (rev d)) (rev d) (departing m (leaves m (rev d)) (rev-in (arcs m) k) refl)
+
+pub grows : Grows
+grows s h ts = go (grown-state s h ts)
+  where
+    go : State s (grow s ts .lent) → GrownMap (grow s ts .lent)
+    go x =
+        let m = x .map in
+        let back : mapOf (grow s ts .lent) ≡ m = ap mapOf (x .lent) ∙ good-back m (x .good) s in
+        record {
+          sound = subst Sound (sym back) (good-sound m (x .good));
+          in-form = ap inForm (x .lent) ∙ good-in-form m (x .good) s (x .fits);
+          lawful = ap obeysLaw back ∙ good-lawful m (x .good);
+          borne = subst (λ (q : Map). (f : ℕ) → List·Memᴰ f (q .faces) → f ≢ 0 → (d : Dart) × List·Memᴰ d (directed q) × (bears q d ≡ f)) (sym back) (x .good .woven .borne);
+        }
+
+pub never-lent : NeverLent
+unfolding firstReason
+never-lent s h ts = go (grown-state s (h .some-face) ts)
+  where
+    go : State s (grow s ts .lent) → firstReason (lentReasons (grow s ts .lent)) ≡ 0
+    go x =
+        let w : whole (grow s ts .lent) ≡ true = ap whole (x .lent) ∙ good-whole (x .map) (x .good) s (x .fits) (h .some-face) (h .nodes) (h .edges) (h .faces) in
+        rw (w, grows s (h .some-face) ts .in-form)

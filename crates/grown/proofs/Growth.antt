@@ -1,0 +1,124 @@
+-- A ticket that nothing turns down leaves a good map good, for all fourteen kinds; the empty map is good. Assumes nothing.
+use mathlib.Core.Path.{_≡_, refl, ap}
+use mathlib.Core.Bool.{true, false}
+use mathlib.Core.List.{List·Memᴰ·not-nil, List·Memᴰ·eq-of-singleton}
+use native.Mathlib.Omega.{arith}
+use lib.IntN.{natAbs}
+use Rattle.curves.specs.Curves.{point, curveOf}
+use Rattle.planar.proofs.Moves.{planar-empty}
+use Rattle.map.specs.Rows.{Map, Sizes, emptyMap}
+use Rattle.map.specs.Darts.{leaves, next, bears}
+use Rattle.map.specs.Tickets.{Ticket, AddIsoNode, MoveIsoNode, RemoveIsoNode, AddIsoEdge, RemoveIsoEdge, ChangeEdgeGeom, NewEdgesSplit, ModEdgeSplit, NewEdgeHeal, ModEdgeHeal, AddEdgeNewFaces, AddEdgeModFace, RemEdgeNewFace, RemEdgeModFace}
+use Rattle.map.specs.Reasons.{firstReason, reasons}
+use Rattle.map.specs.Ticket.{carried}
+use Rattle.map.specs.Opened.{opened}
+use Rattle.grown.specs.Good.{Good, Numbered, Woven, Surveyed}
+use Rattle.grown.proofs.Reasons.{add-node, move-node, remove-node, add-lone, remove-lone, change, split-new, split-mod, heal-new, heal-mod, add-new, add-mod, remove-new, remove-mod}
+use Rattle.grown.proofs.Carried.{numbered-kept}
+use Rattle.grown.proofs.CurvesKinds.{surveyed-1, surveyed-2, surveyed-3, surveyed-4, surveyed-5, surveyed-6, surveyed-7, surveyed-8, surveyed-add, surveyed-remove}
+use Rattle.grown.proofs.CurvesHeal.{surveyed-9, surveyed-10}
+use Rattle.grown.proofs.Changes.{woven-1, woven-2, woven-3, woven-6}
+use Rattle.grown.proofs.ChangesReached.{reached-1, reached-2, reached-3, reached-6}
+use Rattle.grown.proofs.SplitsWoven.{woven-7, reached-7, woven-8, reached-8}
+use Rattle.grown.proofs.HealsWoven.{woven-9, reached-9, woven-10, reached-10}
+use Rattle.grown.proofs.EdgesReached.{Reached}
+use Rattle.grown.proofs.EdgesAdd.{woven-4, reached-4}
+use Rattle.grown.proofs.EdgesAdded.{woven-added, reached-added}
+use Rattle.grown.proofs.EdgesUndrawn.{woven-5, reached-5}
+use Rattle.grown.proofs.EdgesRemoved.{woven-removed, reached-removed}
+
+-- links, face numbers and curves
+record Kept (m : Map) : Type 0 where
+  woven : Woven m
+  reached : Reached m
+  surveyed : Surveyed m
+
+module _ (s : Sizes) (m : Map) (g : Good m) (r : Reached m) where
+  kept : (t : Ticket) → firstReason (reasons s m t) ≡ 0 → Kept (carried m t .0)
+  unfolding carried
+  kept (AddIsoNode f x y) h =
+      record { woven = woven-1 m (point x y) (g .numbered) (g .woven); reached = reached-1 m (point x y) r; surveyed = surveyed-1 m g s (point x y) (add-node s m f x y h) }
+  kept (MoveIsoNode n x y) h =
+      record { woven = woven-2 m (natAbs n) (point x y) (g .woven); reached = reached-2 m (natAbs n) (point x y) r; surveyed = surveyed-2 m g (natAbs n) (point x y) (move-node s m n x y h) }
+  kept (RemoveIsoNode n) h =
+      let k = remove-node s m n h in
+      record { woven = woven-3 m (natAbs n) (g .numbered) (g .woven) (k .has) (k .isolated); reached = reached-3 m (natAbs n) r; surveyed = surveyed-3 m g (natAbs n) k }
+  kept (AddIsoEdge u v c) h =
+      let k = add-lone s m u v c h in
+      record {
+        woven = woven-4 s m (natAbs u) (natAbs v) (curveOf c) g k;
+        reached = reached-4 s m (natAbs u) (natAbs v) (curveOf c) g k r;
+        surveyed = surveyed-4 m g s (natAbs u) (natAbs v) (curveOf c) k;
+      }
+  kept (RemoveIsoEdge e) h =
+      let k = remove-lone s m e h in
+      record { woven = woven-5 m (natAbs e) g k r; reached = reached-5 m (natAbs e) g k r; surveyed = surveyed-5 m g (natAbs e) }
+  kept (ChangeEdgeGeom e c) h =
+      let k = change s m e c h in
+      record { woven = woven-6 m (natAbs e) (curveOf c) (g .woven) (k .order); reached = reached-6 m (natAbs e) (curveOf c) r; surveyed = surveyed-6 m g (natAbs e) (curveOf c) k }
+  kept (NewEdgesSplit e x y) h =
+      let k = split-new s m e x y h in
+      record { woven = woven-7 m g s (natAbs e) (point x y) k; reached = reached-7 m g s (natAbs e) (point x y) k r; surveyed = surveyed-7 m g 2 s (natAbs e) (point x y) k }
+  kept (ModEdgeSplit e x y) h =
+      let k = split-mod s m e x y h in
+      record { woven = woven-8 m g s (natAbs e) (point x y) k; reached = reached-8 m g s (natAbs e) (point x y) k r; surveyed = surveyed-8 m g 1 s (natAbs e) (point x y) k }
+  kept (NewEdgeHeal e f) h =
+      let k = heal-new s m e f h .0 in
+      record { woven = woven-9 m g (natAbs e) (natAbs f) k; reached = reached-9 m g (natAbs e) (natAbs f) k r; surveyed = surveyed-9 m g (natAbs e) (natAbs f) k }
+  kept (ModEdgeHeal e f) h =
+      let k = heal-mod s m e f h in
+      record { woven = woven-10 m g (natAbs e) (natAbs f) k; reached = reached-10 m g (natAbs e) (natAbs f) k r; surveyed = surveyed-10 m g (natAbs e) (natAbs f) k }
+  kept (AddEdgeNewFaces u v c) h =
+      let k = add-new s m u v c h in
+      record {
+        woven = woven-added true s m (natAbs u) (natAbs v) (curveOf c) g k;
+        reached = reached-added true s m (natAbs u) (natAbs v) (curveOf c) g k r;
+        surveyed = surveyed-add m g true s (natAbs u) (natAbs v) (curveOf c) k;
+      }
+  kept (AddEdgeModFace u v c) h =
+      let k = add-mod s m u v c h in
+      record {
+        woven = woven-added false s m (natAbs u) (natAbs v) (curveOf c) g k;
+        reached = reached-added false s m (natAbs u) (natAbs v) (curveOf c) g k r;
+        surveyed = surveyed-add m g false s (natAbs u) (natAbs v) (curveOf c) k;
+      }
+  kept (RemEdgeNewFace e) h =
+      let k = remove-new s m e h .has in
+      record { woven = woven-removed true (natAbs e) m g k r; reached = reached-removed true (natAbs e) m g k r; surveyed = surveyed-remove m g true (natAbs e) }
+  kept (RemEdgeModFace e) h =
+      let k = remove-mod s m e h in
+      record { woven = woven-removed false (natAbs e) m g k r; reached = reached-removed false (natAbs e) m g k r; surveyed = surveyed-remove m g false (natAbs e) }
+
+  -- the map after it is good
+  pub good-kept : (t : Ticket) → firstReason (reasons s m t) ≡ 0 → Good (carried m t .0)
+  good-kept t h = let k = kept t h in record { numbered = numbered-kept s m g t h (k .woven); woven = k .woven; surveyed = k .surveyed }
+
+  -- and from face 0 every face is still reached
+  pub reached-kept : (t : Ticket) → firstReason (reasons s m t) ≡ 0 → Reached (carried m t .0)
+  reached-kept t h = kept t h .reached
+
+-- ---- the empty map
+
+empty-numbered : Numbered emptyMap
+unfolding opened
+empty-numbered = record { numbers = refl; named = refl; marked = refl; first-node = omega arith; first-edge = omega arith; next-node = omega arith; next-edge = omega arith; next-face = omega arith }
+
+pub empty-good : Good emptyMap
+empty-good = record {
+  numbered = empty-numbered;
+  woven = record {
+    planar = planar-empty (leaves emptyMap) (next emptyMap) (bears emptyMap);
+    law = λ n d k. absurd (List·Memᴰ·not-nil k);
+    borne = λ f k ne. absurd (ne (List·Memᴰ·eq-of-singleton k));
+  };
+  surveyed = record {
+    drawn = record { good = tt; clear = tt };
+    kept = λ e k. absurd (List·Memᴰ·not-nil k);
+    anchored = λ e k. absurd (List·Memᴰ·not-nil k);
+    nodes-in-range = λ n k. absurd (List·Memᴰ·not-nil k);
+    places = tt;
+  };
+}
+
+pub empty-reached : Reached emptyMap
+empty-reached S even f k = ap S (List·Memᴰ·eq-of-singleton k)
