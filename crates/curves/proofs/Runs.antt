@@ -20,7 +20,7 @@ use Rattle.lists.specs.Scans.{all}
 use Rattle.lists.specs.Tables.{table}
 use Rattle.lists.proofs.Bools.{&&-false}
 use Rattle.plane.specs.Points.{maxCoordinate, InRange}
-use Rattle.curves.specs.Curves.{Run, isRun, maxPoints, coordinate, point, pointAt, pointsFrom, pointsOf, curveOf, lastOf, through}
+use Rattle.curves.specs.Curves.{Run, isRun, maxPoints, coordinate, pointAt, pointsFrom, pointsOf, curveOf, lastOf, through}
 
 pub and-left : (a b : Bool) → a && b ≡ true → a ≡ true
 and-left true b e = refl

@@ -1,5 +1,5 @@
 -- The points that two segments may share, as the functions hold them: none, one or two.
-use mathlib.Core.List.{List, [], _∷_}
+use mathlib.Core.List.{List, []}
 use Rattle.plane.specs.declared.Point.{Point}
 use Rattle.plane.specs.Points.{InRange}
 use Rattle.curves.specs.declared.Shares.{Shares}

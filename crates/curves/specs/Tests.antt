@@ -2,13 +2,11 @@
 -- Over a ∷ r first, then over a curve. What a test may leave out is bound by a `let`, which waits.
 use mathlib.Core.Bool.{Bool, true, false, not, _&&_, _||_}
 use mathlib.Core.List.{List, [], _∷_}
-use Prim.Native.Nat.{ℕ}
 use Rattle.lists.specs.declared.Found.{Found}
 use Rattle.lists.specs.Tables.{place}
 use Rattle.plane.specs.declared.Point.{Point}
 use Rattle.plane.specs.Points.{samePoint}
 use Rattle.plane.specs.Segments.{meets, stretches, onSegment, straightBetween}
-use Rattle.plane.specs.Below.{Segment}
 use Rattle.curves.specs.Curves.{Curve, lastOf, segments}
 
 -- ---- points of one curve

@@ -11,7 +11,7 @@ use Rattle.planar.specs.Map.{Arc, Dart, darts, Linked}
 use Rattle.planar.specs.Rings.{Leads}
 use Rattle.rotation.specs.Law.{firstClockwise, pick, from}
 use Rattle.map.specs.Rows.{Node, Map}
-use Rattle.map.specs.Darts.{arcs, directed, leaves, next, bears, way, departures}
+use Rattle.map.specs.Darts.{directed, leaves, next, bears, way, departures}
 use Rattle.map.specs.Links.{cornerOf, cornerFace}
 
 -- ---- the corner face is that of the first departure met

@@ -2,7 +2,7 @@
 use mathlib.Core.Path.{_≡_, refl, sym, ap, _∙_, subst}
 use mathlib.Core.Logic.{_⊎_, inl, inr, _≢_}
 use mathlib.Core.Bool.{Bool, true, false, cond, not, true≢false}
-use mathlib.Core.List.{List, _∷_, map, List·Memᴰ, List·Permᴰ, Permᴰ·map}
+use mathlib.Core.List.{List, _∷_, List·Memᴰ, List·Permᴰ, Permᴰ·map}
 use Prim.Native.Nat.{ℕ, suc}
 use lib.ListN.{length}
 use Rattle.lists.specs.Tests.{same}

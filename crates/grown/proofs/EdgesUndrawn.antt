@@ -8,7 +8,6 @@ use Prim.Native.Nat.{ℕ}
 use native.Mathlib.Omega.{arith}
 use lib.ListN.{length}
 use Rattle.lists.specs.Tests.{same}
-use Rattle.lists.specs.Scans.{keep}
 use Rattle.planar.specs.Map.{fwd, bwd}
 use Rattle.planar.proofs.Rings.{next-in}
 use Rattle.map.specs.Rows.{Map, edge, atNodes}
@@ -22,7 +21,6 @@ use Rattle.grown.proofs.Apart.{apart}
 use Rattle.grown.proofs.EdgesReached.{Reached}
 use Rattle.grown.proofs.EdgesAdded.{faced}
 use Rattle.grown.proofs.EdgesCorners.{nodeNumbers, numbers-kept}
-use Rattle.grown.proofs.EdgesMerged.{stay}
 use Rattle.grown.proofs.EdgesRemove.{Taken, taken, Merging, taken-woven, taken-reached}
 
 -- ---- an edge undrawn: nodes keep their numbers, faces stay

@@ -1,4 +1,4 @@
--- What holds after every list of tickets, from the empty map in tables of any sizes that hold it. Assumes nothing.
+-- What holds after every list of tickets (specs/Claims.antt), proved ticket by ticket: the tables always hold a good map that fits. Assumes nothing.
 use mathlib.Core.Path.{_≡_, refl, sym, ap, ap₂, _∙_, subst}
 use mathlib.Core.Logic.{_≢_}
 use mathlib.Core.Bool.{true, not}
@@ -11,7 +11,6 @@ use Rattle.planar.specs.Map.{Dart, rev}
 use Rattle.planar.specs.Rings.{sameDart}
 use Rattle.planar.proofs.Rings.{rev-in, sameDart-refl}
 use Rattle.planar.proofs.Turns.{rev-rev}
-use Rattle.map.specs.Limits.{maxNodes, maxEdges, maxFaces}
 use Rattle.map.specs.Rows.{Map, Lent, Sizes, emptyMap, mapOf, lentOf, sizesOf, whole}
 use Rattle.map.specs.Darts.{arcs, directed, leaves, next, bears, departures}
 use Rattle.map.specs.Form.{inForm}
@@ -22,6 +21,7 @@ use Rattle.map.specs.Ticket.{carried, lentReasons, unless, judged, ticket}
 use Rattle.map.specs.Grow.{after, grow}
 use Rattle.map.specs.Sound.{Sound}
 use Rattle.grown.specs.Good.{Good, Fits}
+use Rattle.grown.specs.Claims.{GrownMap, Grows, NeverLent}
 use Rattle.grown.proofs.Reasons.{no-reason}
 use Rattle.grown.proofs.Scanning.{each-all}
 use Rattle.grown.proofs.Readings.{departing}
@@ -30,34 +30,6 @@ use Rattle.grown.proofs.Carried.{fits-kept}
 use Rattle.grown.proofs.Sounds.{good-sound}
 use Rattle.grown.proofs.Ranges.{good-back, sizes-back, good-in-form, good-whole}
 use Rattle.grown.proofs.Growth.{good-kept, reached-kept, empty-good, empty-reached}
-
--- ---- the statements
-
--- what is lent after any tickets
-pub record GrownMap (l : Lent) : Type 0 where
-  -- the four statements of demand 3
-  pub sound : Sound (mapOf l)
-  -- condition 2 never answers
-  pub in-form : inForm l ≡ true
-  -- all links obey the link law
-  pub lawful : obeysLaw (mapOf l) ≡ true
-  -- every face number but 0 is borne by some directed edge
-  pub borne : (f : ℕ) → List·Memᴰ f (mapOf l .faces) → f ≢ 0 → (d : Dart) × List·Memᴰ d (directed (mapOf l)) × (bears (mapOf l) d ≡ f)
-
--- for all sizes that hold the empty map and all lists of tickets
-abbrev pub Grows : Type 0
-Grows = (s : Sizes) → 1 ≤ s .faces → (ts : List (List ℤ)) → GrownMap (grow s ts .lent)
-
--- within the limits, and with room for face 0
-pub record Limited (s : Sizes) : Type 0 where
-  pub some-face : 1 ≤ s .faces
-  pub nodes : s .nodes ≤ maxNodes
-  pub edges : s .edges ≤ maxEdges
-  pub faces : s .faces ≤ maxFaces
-
--- for all sizes within the limits and all lists of tickets neither 1 nor 2 ever answers
-abbrev pub NeverLent : Type 0
-NeverLent = (s : Sizes) → Limited s → (ts : List (List ℤ)) → firstReason (lentReasons (grow s ts .lent)) ≡ 0
 
 -- ---- what is carried from ticket to ticket
 

@@ -6,7 +6,6 @@ use mathlib.Core.Logic.{_≢_}
 use Prim.Native.Nat.{ℕ, _≤_, suc}
 use lib.ListN.{length}
 use Rattle.lists.specs.Members.{Distinct}
-use Rattle.lists.specs.Scans.{all}
 use Rattle.plane.specs.declared.Point.{Point}
 use Rattle.plane.specs.Points.{InRange}
 use Rattle.curves.specs.Curves.{Curve, points, lastPoint, maxPoints}

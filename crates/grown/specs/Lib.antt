@@ -1,2 +1,3 @@
--- `Good`: what holds of every grown map, more than Sound, so that each ticket keeps it.
+-- `Claims`: what is claimed of every list of tickets. `Good`: what every grown map has, more than is claimed, so that each ticket keeps it.
+pub mod Claims
 pub mod Good

@@ -1,6 +1,5 @@
 -- `plane::straight_between` meets its contract. Assumes nothing.
 use borrow.Author.Needs.{needs}
-use borrow.Author.Tests.{not-true, not-false}
 use mathlib.Core.Path.{sym, _∙_}
 use Rattle.plane.specs.Segments.{straightBetween}
 use Rattle.plane.proofs.straight_between.Statement.{statement}
