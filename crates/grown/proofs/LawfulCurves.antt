@@ -1,11 +1,14 @@
 -- The directions in which a curve's ends depart, when it is turned round, cut or joined. The curve need not be simple. Assumes nothing.
 use mathlib.Core.Path.{_≡_, sym, ap, subst}
 use mathlib.Core.Bool.{true}
-use mathlib.Core.List.{_++_}
-use mathlib.Core.Logic.{_≢_}
+use mathlib.Core.List.{List, [], _∷_, _++_}
+use mathlib.Core.Logic.{_⊎_, inl, inr, _≢_}
+use Prim.Native.Nat.{suc, _≤_}
+use native.Mathlib.Omega.{arith}
+use lib.ListN.{length, length-append}
 use Rattle.plane.specs.declared.Point.{Point}
 use Rattle.plane.specs.Directions.{wayTo, sameWay}
-use Rattle.curves.specs.Curves.{Curve, lastOf, secondOf, beforeLast, lastPoint, startWay, endWay}
+use Rattle.curves.specs.Curves.{Curve, points, lastOf, secondOf, beforeLast, lastPoint, startWay, endWay}
 use Rattle.curves.specs.Tests.{onCurve}
 use Rattle.curves.specs.Edits.{cut, join, front, back, joined, reversed}
 use Rattle.geometry.specs.Spots.{SameWay}
@@ -38,6 +41,15 @@ module _ (p : Point) (c : Curve) (n : c .first ≢ p) (l : lastPoint c ≢ p) (o
   pub back-way : sameWay (endWay c) (endWay (back p c)) ≡ true
   back-way = sameWay-is (subst (λ (z : Point). SameWay (lastPoint c) (beforeLast (c .first) (c .rest)) (lastOf z (back p c .rest)) (beforeLast z (back p c .rest))) (place .joint)
       (rw (last-append (c .first) (front p c .rest) (back p c .rest), before-append (c .first) (front p c .rest) (back p c .rest) (place .some-back)) at (place .alike .finish)))
+
+  -- neither half has more points than the curve
+  pub halves-few : (length (points (front p c)) ≤ length (points c)) × (length (points (back p c)) ≤ length (points c))
+  halves-few = go (front p c .rest) (back p c .rest) (place .some-front) (place .some-back) (place .count)
+    where
+      go : (f b : List Point) → Some f → Some b → (length (f ++ b) ≡ length (c .rest)) ⊎ (length (f ++ b) ≡ suc (length (c .rest))) → (suc (length f) ≤ suc (length (c .rest))) × (suc (length b) ≤ suc (length (c .rest)))
+      go [] b h k e = absurd h
+      go (x ∷ f) [] h k e = absurd k
+      go (x ∷ f) (y ∷ b) h k e = let n = length-append (x ∷ f) (y ∷ b) in elim e [ inl q ↦ (omega arith, omega arith) | inr q ↦ (omega arith, omega arith) ]
 
 -- the join of two curves
 module _ (c d : Curve) (joint : d .first ≡ lastPoint c) (sc : Some (c .rest)) (sd : Some (d .rest)) where

@@ -79,3 +79,4 @@ pub mod LawfulAdd
 pub mod LawfulRemove
 pub mod LawfulChange
 pub mod LawfulKept
+pub mod LawfulTables
