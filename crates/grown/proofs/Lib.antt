@@ -70,3 +70,13 @@ pub mod EdgesUndrawn
 pub mod EdgesRemoved
 pub mod Growth
 pub mod Grows
+pub mod LawfulForm
+pub mod LawfulCurves
+pub mod LawfulSplit
+pub mod LawfulWhole
+pub mod LawfulHeal
+pub mod LawfulAdd
+pub mod LawfulRemove
+pub mod LawfulChange
+pub mod LawfulKept
+pub mod LawfulTables

@@ -1,0 +1,153 @@
+-- The link law as a test and as a fact, and what a map in form whose links obey it has. Nothing is said of the plane: curves may cross. Assumes nothing.
+use mathlib.Core.Path.{_≡_, refl, sym, ap, _∙_, subst}
+use mathlib.Core.Logic.{_⊎_, inl, inr}
+use mathlib.Core.Bool.{true, not, Bool·beq, true≢false}
+use mathlib.Core.List.{List, [], _∷_, map, List·Memᴰ, List·Memᴰ·cases-cons, List·Memᴰ·not-nil, Memᴰ·map, Memᴰ·of-map}
+use Prim.Native.Nat.{ℕ, _≤_, _<_}
+use native.Mathlib.Omega.{arith}
+use borrow.Author.Tests.{not-true}
+use lib.ListN.{length}
+use Rattle.lists.specs.Tests.{same}
+use Rattle.lists.specs.Scans.{any, isSome}
+use Rattle.lists.specs.Members.{Distinct}
+use Rattle.lists.proofs.Bools.{same-true, beq-true}
+use Rattle.plane.specs.declared.Point.{Point}
+use Rattle.plane.specs.Points.{samePoint}
+use Rattle.plane.specs.Directions.{Way, sameWay}
+use Rattle.curves.specs.Curves.{points, lastPoint}
+use Rattle.curves.specs.Tests.{neighboursDiffer}
+use Rattle.planar.specs.Map.{Dart, rev, Linked}
+use Rattle.planar.specs.Pieces.{Within, nums}
+use Rattle.planar.specs.Rings.{sameDart}
+use Rattle.planar.proofs.Rings.{rev-in, sameDart-true}
+use Rattle.planar.proofs.Splitting.{tail-in}
+use Rattle.planar.proofs.Turns.{rev-rev}
+use Rattle.rotation.specs.Ways.{Alike}
+use Rattle.rotation.specs.Law.{Differ, lawful, from, Apart, Law}
+use Rattle.rotation.proofs.Ways.{alike-is, alike-sym}
+use Rattle.rotation.proofs.Tells.{is-yes}
+use Rattle.rotation.proofs.Ties.{tells}
+use Rattle.geometry.specs.Meaning.{Some}
+use Rattle.geometry.proofs.Booleans.{and-true}
+use Rattle.geometry.proofs.Meeting.{samePoint-true}
+use Rattle.map.specs.Rows.{Node, Edge, Map, node, hasNode}
+use Rattle.map.specs.Darts.{arcs, directed, leaves, next, bears, way, departures, edgeEnds}
+use Rattle.map.specs.Links.{clockwise, obeysLaw}
+use Rattle.map.specs.Form.{waysDiffer, curveFits, departuresDiffer, bareMarked, formed}
+use Rattle.map.specs.Reasons.{isolated}
+use Rattle.map.proofs.Laws.{formed-is}
+use Rattle.map.proofs.Linked as formedLinks
+use Rattle.grown.specs.Good.{Anchored}
+use Rattle.grown.proofs.Readings.{numberOf, departing}
+use Rattle.grown.proofs.RowChanges.{nodeNumber, node-row}
+use Rattle.grown.proofs.Scanning.{all-each, each-all}
+use Rattle.grown.proofs.Changes.{none-has}
+use Rattle.grown.proofs.EdgesLaw.{from-in, from-has}
+
+-- all links obey the law
+abbrev pub Obeys : Map → Type 0
+Obeys m = Law sameDart rev (leaves m) (way m) (directed m) (next m)
+
+-- ---- the test and the fact
+
+module _ (m : Map) where
+  pub law-says : obeysLaw m ≡ true → Obeys m
+  unfolding obeysLaw clockwise departures
+  law-says h n d k = sameDart-true (next m (rev d)) (clockwise m (rev (rev d))) (all-each (λ c. sameDart (next m c) (clockwise m (rev c))) (directed m) h (rev d) (rev-in (arcs m) (x .0)))
+      ∙ ap (clockwise m) (rev-rev d) ∙ ap (λ (i : ℕ). lawful (way m) sameDart d (from (leaves m) (directed m) i)) (x .1)
+    where
+      x : List·Memᴰ d (directed m) × (leaves m d ≡ n)
+      x = from-in (leaves m) (directed m) n k
+
+  pub law-is : Obeys m → obeysLaw m ≡ true
+  unfolding obeysLaw clockwise departures
+  law-is l = each-all (λ d. sameDart (next m d) (clockwise m (rev d))) (directed m) (λ d k. is-yes tells (next m d) (clockwise m (rev d))
+      (ap (next m) (sym (rev-rev d)) ∙ l (leaves m (rev d)) (rev d) (from-has (leaves m) (directed m) (leaves m (rev d)) (rev-in (arcs m) k) refl)))
+
+-- ---- directions
+
+-- what differs in direction, by the test
+pub differ-says : {D : Type 0} (way : D → Way) (ds : List D) → waysDiffer (map way ds) ≡ true → Differ way ds
+differ-says way [] h d c i j e = absurd (List·Memᴰ·not-nil i)
+differ-says {D} way (x ∷ ds) h d c i j e = go (differ-says way ds (k .1) d c) (List·Memᴰ·cases-cons i) (List·Memᴰ·cases-cons j)
+  where
+    k : (not (any (sameWay (way x)) (map way ds)) ≡ true) × (waysDiffer (map way ds) ≡ true)
+    k = and-true (not (any (sameWay (way x)) (map way ds))) (waysDiffer (map way ds)) h
+
+    free : (y : D) → List·Memᴰ y ds → Alike (way x) (way y) → ⊥
+    free y m a = true≢false (sym (alike-is (way x) (way y) a) ∙ none-has (sameWay (way x)) (map way ds) (not-true (any (sameWay (way x)) (map way ds)) (k .0)) (way y) (Memᴰ·map way m))
+
+    go : (List·Memᴰ d ds → List·Memᴰ c ds → Alike (way d) (way c) → d ≡ c) → (d ≡ x) ⊎ List·Memᴰ d ds → (c ≡ x) ⊎ List·Memᴰ c ds → d ≡ c
+    go ih (inl p) (inl q) = p ∙ sym q
+    go ih (inl p) (inr q) = absurd (free c q (subst (λ (z : D). Alike (way z) (way c)) p e))
+    go ih (inr p) (inl q) = absurd (free d p (alike-sym (way d) (way x) (subst (λ (z : D). Alike (way d) (way z)) q e)))
+    go ih (inr p) (inr q) = ih p q e
+
+-- ---- a map in form
+
+some-rest : (p : Point) (r : List Point) → 2 ≤ length (p ∷ r) → Some r
+some-rest p [] h = absurd (omega arith)
+some-rest p (q ∷ r) h = tt
+
+no-member : {A : Type 0} (l : List A) → length l ≡ 0 → {x : A} → List·Memᴰ x l → ⊥
+no-member [] e k = List·Memᴰ·not-nil k
+no-member (y ∷ l) e k = omega arith
+
+-- what the theorems of this crate use of a map in form that obeys the law
+pub record Lawful (m : Map) : Type 0 where
+  pub once : Distinct (nums (arcs m))
+  pub linked : Linked (arcs m) (leaves m) (next m) (bears m)
+  pub within : Within (map nodeNumber (m .nodes)) (arcs m)
+  pub apart : Apart (leaves m) (way m) (directed m)
+  pub law : Obeys m
+  -- numbers in use are below the next
+  pub nodes-below : (n : ℕ) → List·Memᴰ n (map nodeNumber (m .nodes)) → n < m .nextNode
+  pub edges-below : (e : ℕ) → List·Memᴰ e (map numberOf (m .edges)) → e < m .nextEdge
+  -- nothing departs from an isolated node
+  pub bare : (n : ℕ) → hasNode m n ≡ true → isolated m n ≡ true → (d : Dart) → List·Memᴰ d (directed m) → leaves m d ≡ n → ⊥
+  pub anchored : (r : Edge) → List·Memᴰ r (m .edges) → Anchored m r
+  pub some : (r : Edge) → List·Memᴰ r (m .edges) → Some (r .curve .rest)
+
+module _ (m : Map) (h : formed m ≡ true) (least : (r : Edge) → List·Memᴰ r (m .edges) → 2 ≤ length (points (r .curve))) where
+  -- directions differ at each node, and nothing departs elsewhere
+  formed-apart : Apart (leaves m) (way m) (directed m)
+  unfolding departuresDiffer departures
+  formed-apart n d c i j e = differ-says (way m) (from (leaves m) (directed m) n) differ d c i j e
+    where
+      x : List·Memᴰ d (directed m) × (leaves m d ≡ n)
+      x = from-in (leaves m) (directed m) n i
+
+      row : (r : Node) × List·Memᴰ r (m .nodes) × (nodeNumber r ≡ n)
+      row = Memᴰ·of-map nodeNumber (m .nodes) (subst (λ (k : ℕ). List·Memᴰ k (map nodeNumber (m .nodes))) (x .1) (tail-in (formedLinks.linked m h) (formedLinks.within-nodes m h) (x .0)))
+
+      differ : waysDiffer (map (way m) (from (leaves m) (directed m) n)) ≡ true
+      differ = subst (λ (k : ℕ). waysDiffer (map (way m) (departures m k)) ≡ true) (row .2) (all-each (λ r. waysDiffer (map (way m) (departures m (r .number)))) (m .nodes) (formed-is m h .departures) (row .0) (row .1))
+
+  formed-bare : (n : ℕ) → hasNode m n ≡ true → isolated m n ≡ true → (d : Dart) → List·Memᴰ d (directed m) → leaves m d ≡ n → ⊥
+  unfolding bareMarked
+  formed-bare n has iso d k e = no-member (departures m n) (same-true (edgeEnds m n) 0 none) (departing m n k e)
+    where
+      none : same (edgeEnds m n) 0 ≡ true
+      none = ap (λ (x : ℕ). same (edgeEnds m x) 0) (sym (node-row m n has .1))
+          ∙ sym (beq-true (isSome (node m n .face)) (same (edgeEnds m (node m n .number)) 0) (all-each (λ r. Bool·beq (isSome (r .face)) (same (edgeEnds m (r .number)) 0)) (m .nodes) (formed-is m h .bare) (node m n) (node-row m n has .0)))
+          ∙ iso
+
+  formed-anchored : (r : Edge) → List·Memᴰ r (m .edges) → Anchored m r
+  formed-anchored r k =
+      let fits = all-each (curveFits m) (m .edges) (formed-is m h .curves) r k in
+      let ends = and-true (samePoint (r .curve .first) (node m (r .start) .at)) (samePoint (lastPoint (r .curve)) (node m (r .end) .at)) (and-true _ (neighboursDiffer (r .curve)) fits .0) in
+      record { start = samePoint-true _ _ (ends .0); end = samePoint-true _ _ (ends .1) }
+
+  pub formed-lawful : obeysLaw m ≡ true → Lawful m
+  formed-lawful law = record {
+    once = formedLinks.edges-once m h;
+    linked = formedLinks.linked m h;
+    within = formedLinks.within-nodes m h;
+    apart = formed-apart;
+    law = law-says m law;
+    nodes-below = formed-is m h .numbers .nodes .below;
+    edges-below = formed-is m h .numbers .edges .below;
+    bare = formed-bare;
+    anchored = formed-anchored;
+    some = λ r k. some-rest (r .curve .first) (r .curve .rest) (least r k);
+  }

@@ -1,0 +1,65 @@
+-- After every carried-out ticket all links obey the law, given that they did before: on all tables in form. Assumes nothing.
+use mathlib.Core.Path.{_≡_}
+use mathlib.Core.Bool.{true, false}
+use mathlib.Core.List.{List, [], _∷_, List·Memᴰ}
+use Prim.Native.Nat.{_≤_}
+use native.Mathlib.Omega.{arith}
+use lib.IntN.{natAbs}
+use lib.ListN.{length}
+use Rattle.plane.specs.declared.Point.{Point}
+use Rattle.curves.specs.Curves.{points, point, curveOf}
+use Rattle.geometry.specs.Meaning.{Some}
+use Rattle.geometry.proofs.Booleans.{and-true}
+use Rattle.map.specs.Rows.{Edge, Map, Lent, Sizes, mapOf, sizesOf}
+use Rattle.map.specs.Links.{obeysLaw}
+use Rattle.map.specs.Form.{ranged, formed, inForm}
+use Rattle.map.specs.Tickets.{Ticket, AddIsoNode, MoveIsoNode, RemoveIsoNode, AddIsoEdge, RemoveIsoEdge, ChangeEdgeGeom, NewEdgesSplit, ModEdgeSplit, NewEdgeHeal, ModEdgeHeal, AddEdgeNewFaces, AddEdgeModFace, RemEdgeNewFace, RemEdgeModFace}
+use Rattle.map.specs.Reasons.{firstReason, reasons}
+use Rattle.map.specs.Ticket.{carried}
+use Rattle.map.proofs.Laws.{in-form-points}
+use Rattle.grown.specs.Good.{Good}
+use Rattle.grown.proofs.Reasons as facts
+use Rattle.grown.proofs.Apart.{curve-good}
+use Rattle.grown.proofs.Forms.{good-formed}
+use Rattle.grown.proofs.LawfulForm.{Obeys, Lawful, law-is, formed-lawful}
+use Rattle.grown.proofs.LawfulChange.{add-node-obeys, move-node-obeys, remove-node-obeys, change-obeys}
+use Rattle.grown.proofs.LawfulSplit.{split-obeys, mod-split-obeys}
+use Rattle.grown.proofs.LawfulHeal.{heal-obeys, mod-heal-obeys}
+use Rattle.grown.proofs.LawfulAdd.{add-lone-obeys, add-edge-obeys}
+use Rattle.grown.proofs.LawfulRemove.{remove-lone-obeys, remove-edge-obeys}
+
+module _ (s : Sizes) (m : Map) (L : Lawful m) where
+  -- each kind, from the facts that no reason holds
+  pub carried-obeys : (t : Ticket) → firstReason (reasons s m t) ≡ 0 → Obeys (carried m t .0)
+  unfolding carried
+  carried-obeys (AddIsoNode f x y) h = add-node-obeys m (point x y) (L .law)
+  carried-obeys (MoveIsoNode n x y) h = move-node-obeys m (natAbs n) (point x y) (L .law)
+  carried-obeys (RemoveIsoNode n) h = remove-node-obeys m (natAbs n) (L .law)
+  carried-obeys (AddIsoEdge u v c) h = add-lone-obeys m L s (natAbs u) (natAbs v) (curveOf c) (facts.add-lone s m u v c h)
+  carried-obeys (RemoveIsoEdge e) h = remove-lone-obeys m L (natAbs e) (facts.remove-lone s m e h .has)
+  carried-obeys (ChangeEdgeGeom e c) h = change-obeys m (natAbs e) (curveOf c) (facts.change s m e c h .order) (L .law)
+  carried-obeys (NewEdgesSplit e x y) h = let k = facts.split-new s m e x y h in split-obeys m (natAbs e) (point x y) L (k .has) (k .free) (k .on)
+  carried-obeys (ModEdgeSplit e x y) h = let k = facts.split-mod s m e x y h in mod-split-obeys m (natAbs e) (point x y) L (k .has) (k .free) (k .on)
+  carried-obeys (NewEdgeHeal e f) h = heal-obeys m L (natAbs e) (natAbs f) (facts.heal-new s m e f h .0)
+  carried-obeys (ModEdgeHeal e f) h = mod-heal-obeys m L (natAbs e) (natAbs f) (facts.heal-mod s m e f h)
+  carried-obeys (AddEdgeNewFaces u v c) h = add-edge-obeys m L s (natAbs u) (natAbs v) (curveOf c) true (facts.add-new s m u v c h)
+  carried-obeys (AddEdgeModFace u v c) h = add-edge-obeys m L s (natAbs u) (natAbs v) (curveOf c) false (facts.add-mod s m u v c h)
+  carried-obeys (RemEdgeNewFace e) h = remove-edge-obeys m L (natAbs e) (facts.remove-new s m e h .has) true
+  carried-obeys (RemEdgeModFace e) h = remove-edge-obeys m L (natAbs e) (facts.remove-mod s m e h) false
+
+-- the theorem, on maps
+pub lawful-kept : (s : Sizes) (m : Map) (t : Ticket) → formed m ≡ true → ((r : Edge) → List·Memᴰ r (m .edges) → 2 ≤ length (points (r .curve))) → obeysLaw m ≡ true → firstReason (reasons s m t) ≡ 0 → obeysLaw (carried m t .0) ≡ true
+lawful-kept s m t form least law h = law-is (carried m t .0) (carried-obeys s m (formed-lawful m form least law) t h)
+
+-- and on the map of tables in form
+pub lawful-tables : (l : Lent) (t : Ticket) → inForm l ≡ true → obeysLaw (mapOf l) ≡ true → firstReason (reasons (sizesOf l) (mapOf l) t) ≡ 0 → obeysLaw (carried (mapOf l) t .0) ≡ true
+unfolding inForm
+lawful-tables l t form law h = lawful-kept (sizesOf l) (mapOf l) t (and-true (ranged l) (formed (mapOf l)) form .1) (λ r k. in-form-points l form r k .least) law h
+
+-- a good map is such a map, so what is said here of a kind holds of it
+pub good-lawful : (m : Map) → Good m → Lawful m
+good-lawful m g = formed-lawful m (good-formed m g) (λ r k. two (r .curve .first) (r .curve .rest) (curve-good m (g .surveyed) r k .some)) (law-is m (g .woven .law))
+  where
+    two : (p : Point) (r : List Point) → Some r → 2 ≤ length (p ∷ r)
+    two p [] h = absurd h
+    two p (q ∷ r) h = omega arith
