@@ -1,0 +1,107 @@
+-- Coordinates as they are tested and cast, the points of node rows, and places on curves. Assumes nothing.
+use mathlib.Core.Path.{_≡_, refl, sym, ap, _∙_, subst}
+use mathlib.Core.Bool.{Bool, true, false, _&&_, _||_, false≢true}
+use mathlib.Core.Logic.{inl, inr}
+use mathlib.Core.List.{List, [], _∷_}
+use Prim.Native.Nat.{ℕ, _+_, _*_, _-_, _/_, _≤_, _<_}
+use native.Mathlib.Nat.{lt-of-le-of-lt}
+use native.Mathlib.Omega.{arith}
+use lib.Dec.{T, leb, lit<}
+use lib.IntN.{ℤ, pos, negsuc, natAbs}
+use lib.ListN.{length, getD}
+use lib.Signed.{leZ, nonNeg}
+use mir.Syntax.{w64}
+use mir.Val.{ofZ, toZ, SFits, Fits}
+use mir.Facts.{toZ-ofZ, fits-of-lt}
+use borrow.Author.Needs.{sfits-of}
+use borrow.Author.Tests.{leb-true}
+use Rattle.lists.specs.Tables.{place}
+use Rattle.lists.specs.declared.Found.{Found}
+use Rattle.lists.specs.declared.Found.the-variants.{At, Missing}
+use Rattle.lists.proofs.Bools.{which}
+use Rattle.plane.specs.declared.Point.{Point}
+use Rattle.plane.specs.Points.{maxCoordinate, InRange}
+use Rattle.plane.specs.Segments.{onSegment}
+use Rattle.curves.specs.Curves.{Curve, Run, coordinate, curveOf, lastPoint, point, pointAt, segmentsOf}
+use Rattle.curves.specs.Tests.{passes, onCurve, firstPlace}
+use Rattle.curves.proofs.Runs.{and-left, and-right, two-points, curve-is, last-is}
+use Rattle.curves.proofs.Turns.{on}
+use Rattle.map.specs.Limits.{nodeWidth}
+use Rattle.map.specs.Rows.{cell, nodeOf}
+use Rattle.map.specs.Form.{nodeRanges}
+use Rattle.tables.specs.Tables.{NodeRow, NodeRows, nodeAt, rowAt}
+use Rattle.tables.proofs.Cells.{row-room}
+use Rattle.tables.proofs.Rows.{row-cell, rows-all}
+
+-- ---- coordinates
+
+pub coordinate-le : (z : ℤ) → coordinate z ≡ true → natAbs z ≤ maxCoordinate
+coordinate-le (pos n) e = leb-true n maxCoordinate (and-right (leZ (pos 0) (pos n)) (leb n maxCoordinate) e)
+coordinate-le (negsuc n) e = absurd (false≢true e)
+
+coordinate-fits : (z : ℤ) → coordinate z ≡ true → SFits w64 z
+coordinate-fits (pos n) e = sfits-of (lt-of-le-of-lt (coordinate-le (pos n) e) (lit< tt))
+coordinate-fits (negsuc n) e = absurd (false≢true e)
+
+coordinate-nonneg : (z : ℤ) → coordinate z ≡ true → T (nonNeg z)
+coordinate-nonneg (pos n) e = tt
+coordinate-nonneg (negsuc n) e = absurd (false≢true e)
+
+-- a coordinate as it is read, and as it is cast
+pub coordinate-read : (z : ℤ) → coordinate z ≡ true → toZ w64 (ofZ w64 z) ≡ z
+coordinate-read z e = toZ-ofZ {w = w64} (coordinate-fits z e)
+
+pub coordinate-cast : (z : ℤ) → coordinate z ≡ true → T (nonNeg (toZ w64 (ofZ w64 z))) × Fits w64 (natAbs (toZ w64 (ofZ w64 z)))
+coordinate-cast z e = rw (coordinate-read z e) (coordinate-nonneg z e, fits-of-lt (lt-of-le-of-lt (coordinate-le z e) (lit< tt)))
+
+pub point-in : (x y : ℤ) → coordinate x ≡ true → coordinate y ≡ true → InRange (point x y)
+point-in x y e f = record { x = coordinate-le x e; y = coordinate-le y f }
+
+-- ---- the point of a node row
+
+module _ {l : List ℤ} {i : ℕ} (row : NodeRow l i) where
+  in-it : nonNeg (cell (rowAt nodeWidth l i) 0) && coordinate (cell (rowAt nodeWidth l i) 1) && coordinate (cell (rowAt nodeWidth l i) 2) ≡ true
+  in-it = and-left _ (leZ (negsuc 0) (cell (rowAt nodeWidth l i) 3)) (row .ranges)
+
+  pub node-x : coordinate (getD l (i * 4 + 1) (pos 0)) ≡ true
+  node-x =
+      subst (λ (z : ℤ). coordinate z ≡ true) (row-cell nodeWidth l i 1 (lit< tt))
+      (and-right (nonNeg (cell (rowAt nodeWidth l i) 0)) _ (and-left _ (coordinate (cell (rowAt nodeWidth l i) 2)) in-it))
+
+  pub node-y : coordinate (getD l (i * 4 + 2) (pos 0)) ≡ true
+  node-y =
+      subst (λ (z : ℤ). coordinate z ≡ true) (row-cell nodeWidth l i 2 (lit< tt))
+      (and-right (nonNeg (cell (rowAt nodeWidth l i) 0) && coordinate (cell (rowAt nodeWidth l i) 1)) _ in-it)
+
+  pub node-point-is : point (getD l (i * 4 + 1) (pos 0)) (getD l (i * 4 + 2) (pos 0)) ≡ nodeAt l i .at
+  unfolding nodeOf
+  node-point-is = rw (row-cell nodeWidth l i 1 (lit< tt), row-cell nodeWidth l i 2 (lit< tt))
+
+pub node-row-of : {l : List ℤ} {n : ℕ} → NodeRows l n → (i : ℕ) → i < n → NodeRow l i
+node-row-of {l} {n} r i t =
+    record { fits = let k = row-room nodeWidth n i t in let f = r .fits in omega arith; ranges = rows-all nodeWidth l nodeRanges n (r .ranges) i t }
+
+-- ---- places on a curve
+
+-- a place was found
+abbrev pub isAt : Found → Bool
+isAt (At i) = true
+isAt Missing = false
+
+pub passes-place : (p a : Point) (r : List Point) (k : ℕ) → passes p a r ≡ isAt (place (on p) k (segmentsOf a r))
+passes-place p a [] k = refl
+passes-place p a (b ∷ r) k =
+    let later = passes-place p b r (k + 1) in
+    elim (which (onSegment p a b)) [ inl e ↦ rw e | inr e ↦ rw e later ]
+
+-- what a search for the place answered
+pub on-told : (c : Curve) (p : Point) {f g : Found} → f ≡ firstPlace c p → f ≡ g → onCurve c p ≡ isAt g
+on-told c p e h = passes-place p (c .first) (c .rest) 0 ∙ ap isAt (sym e ∙ h)
+
+-- the ends of a run
+module _ {l : List ℤ} (run : Run l) where
+  pub first-is : pointAt l 0 ≡ curveOf l .first
+  first-is = ap (λ (c : Curve). c .first) (sym (curve-is run))
+
+  pub last-at : (n : ℕ) → n ≡ length l / 2 → pointAt l (n - 1) ≡ lastPoint (curveOf l)
+  last-at n e = sym (ap lastPoint (curve-is run) ∙ last-is l (n - 1) (omega (arith, two-points run)))

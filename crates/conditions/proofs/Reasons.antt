@@ -1,0 +1,52 @@
+-- The first reason of a list, reason by reason. Assumes nothing.
+use mathlib.Core.Path.{_≡_, refl, sym, ap, _∙_}
+use mathlib.Core.Bool.{Bool, true, false, cond}
+use mathlib.Core.Logic.{inl, inr}
+use mathlib.Core.List.{List, [], _∷_, _++_}
+use Prim.Native.Nat.{ℕ, suc, _<_}
+use native.Mathlib.Omega.{arith}
+use lib.Dec.{ltb}
+use borrow.Author.Tests.{ltb-true}
+use Rattle.lists.specs.Scans.{all}
+use Rattle.lists.proofs.Bools.{which}
+use Rattle.curves.proofs.Runs.{and-left, and-right}
+use Rattle.map.specs.Reasons.{Reasons, firstReason}
+
+-- the reason at the front holds, or the others are looked at
+pub first-hit : (n : ℕ) (b : Bool) (rs : Reasons) → b ≡ true → firstReason ((n, b) ∷ rs) ≡ n
+unfolding firstReason
+first-hit n b rs e = rw e
+
+pub first-miss : (n : ℕ) (b : Bool) (rs : Reasons) → b ≡ false → firstReason ((n, b) ∷ rs) ≡ firstReason rs
+unfolding firstReason
+first-miss n b rs e = rw e
+
+pub first-none : firstReason [] ≡ 0
+unfolding firstReason
+first-none = refl
+
+-- a reason at the front that may hold
+pub first-step : (n : ℕ) (b : Bool) (rs : Reasons) → firstReason ((n, b) ∷ rs) ≡ cond b n (firstReason rs)
+unfolding firstReason
+first-step n b rs = refl
+
+-- of two lists: the first reason of the one, where it has one
+pub first-append : (rs ss : Reasons) (n : ℕ) → firstReason rs ≡ suc n → firstReason (rs ++ ss) ≡ suc n
+first-append [] ss n e = let z : 0 ≡ suc n = sym first-none ∙ e in absurd (omega arith)
+first-append (r ∷ rs) ss n e =
+    let later = first-append rs ss n in
+    elim (which (r .1)) [
+      | inl h ↦ first-hit (r .0) (r .1) (rs ++ ss) h ∙ sym (first-hit (r .0) (r .1) rs h) ∙ e
+      | inr h ↦ first-miss (r .0) (r .1) (rs ++ ss) h ∙ later (sym (first-miss (r .0) (r .1) rs h) ∙ e)
+    ]
+
+-- no reason of the first holds, and none is numbered 0: those of the second are looked at
+pub first-after : (rs ss : Reasons) → all (λ r. ltb 0 (r .0)) rs ≡ true → firstReason rs ≡ 0 → firstReason (rs ++ ss) ≡ firstReason ss
+first-after [] ss a e = refl
+first-after (r ∷ rs) ss a e =
+    let later = first-after rs ss (and-right (ltb 0 (r .0)) (all (λ r. ltb 0 (r .0)) rs) a) in
+    let some : 0 < r .0 = ltb-true 0 (r .0) (and-left (ltb 0 (r .0)) (all (λ r. ltb 0 (r .0)) rs) a) in
+    elim (which (r .1)) [
+      | inl h ↦ let z : r .0 ≡ 0 = sym (first-hit (r .0) (r .1) rs h) ∙ e in absurd (omega arith)
+      | inr h ↦ first-miss (r .0) (r .1) (rs ++ ss) h ∙ later (sym (first-miss (r .0) (r .1) rs h) ∙ e)
+    ]

@@ -1,0 +1,2 @@
+-- `Sent`: reasons as the functions are asked for them, by points and rows.
+pub mod Sent

@@ -1,0 +1,290 @@
+-- Links by position: each directed edge is named once exactly where no two positions have one next, and the marks tell which are named. Assumes nothing.
+use mathlib.Core.Path.{_≡_, refl, sym, ap, ap₂, _∙_, subst}
+use mathlib.Core.Bool.{Bool, true, false, _&&_, false≢true}
+use mathlib.Core.Logic.{inl, inr}
+use mathlib.Core.List.{List, [], _∷_, map, List·Memᴰ, List·Memᴰ·head, List·Memᴰ·tail, List·Memᴰ·cases-cons, List·Memᴰ·not-nil, Memᴰ·cast, List·Permᴰ}
+use Prim.Native.Nat.{ℕ, zero, suc, _+_, _*_, _<_, _≤_}
+use native.Mathlib.Nat.{eq-or-lt-of-le}
+use native.Mathlib.Omega.{arith}
+use lib.IntN.{ℤ, pos, natAbs}
+use lib.ListN.{length, getD, set, replicate, length-set, length-replicate}
+use lib.Seq.{getD-set-same, getD-set-other}
+use borrow.Author.Count.{below-more}
+use Rattle.lists.specs.Tests.{same, bit}
+use Rattle.lists.specs.Scans.{all, count}
+use Rattle.lists.specs.Members.{Distinct}
+use Rattle.lists.specs.Tables.{table}
+use Rattle.lists.proofs.Bools.{which, same-true, same-eq, differ, not-true, equal?}
+use Rattle.lists.proofs.Counts.{count-perm}
+use Rattle.lists.proofs.Perms.{perm-of-injective}
+use Rattle.curves.proofs.Runs.{and-left, and-right}
+use Rattle.planar.specs.Map.{Dart}
+use Rattle.planar.specs.Rings.{sameDart}
+use Rattle.planar.proofs.Rings.{sameDart-refl, sameDart-true}
+use Rattle.map.specs.Rows.{Map}
+use Rattle.map.specs.Darts.{directed, leaves, arrives, next, bears}
+use Rattle.map.specs.Form.{linksOnce, linksMeet, ringsBearOne}
+use Rattle.tables.specs.Tables.{sameZ, edgeMap, EdgeRows}
+use Rattle.tables.proofs.Order.{is-same, not-same, lt-or-ge}
+use Rattle.tables.proofs.Rows.{map-table, all-table}
+use Rattle.links.specs.Positions.{reverseOf, dartAt, sideCell}
+use Rattle.links.proofs.Positions.{directed-table, dart-injective, position-in, next-there, cell-leaves, cell-arrives, cell-bears}
+
+-- ---- tables of elements
+
+module _ {A : Type 0} where
+  pub in-table : (f : ℕ → A) (a n i : ℕ) → a ≤ i → i < a + n → List·Memᴰ (f i) (table f a n)
+  in-table f a zero i s t = absurd (omega arith)
+  in-table f a (suc n) i s t =
+      let later = in-table f (a + 1) n i in
+      elim (eq-or-lt-of-le s) [ inl e ↦ List·Memᴰ·head (ap f (sym e)) | inr h ↦ List·Memᴰ·tail (later (omega arith) (omega arith)) ]
+
+  pub table-in : (f : ℕ → A) (a n : ℕ) {x : A} → List·Memᴰ x (table f a n) → (i : ℕ) × (a ≤ i) × (i < a + n) × (f i ≡ x)
+  table-in f a zero m = absurd (List·Memᴰ·not-nil m)
+  table-in f a (suc n) {x} m =
+      let later = table-in f (a + 1) n {x = x} in
+      elim (List·Memᴰ·cases-cons m) [
+        | inl e ↦ (a, omega arith, omega arith, sym e)
+        | inr k ↦ let r = later k in let s : a + 1 ≤ r .0 = r .1 in let t : r .0 < a + 1 + n = r .2 in (r .0, omega arith, omega arith, r .3)
+      ]
+
+  pub distinct-table : (f : ℕ → A) (a n : ℕ) → ((i j : ℕ) → a ≤ i → i < j → j < a + n → f i ≡ f j → ⊥) → Distinct (table f a n)
+  distinct-table f a zero h = tt
+  distinct-table f a (suc n) h = (
+    λ m. let r = table-in f (a + 1) n m in let s : a + 1 ≤ r .0 = r .1 in let t : r .0 < a + 1 + n = r .2 in h a (r .0) (omega arith) (omega arith) (omega arith) (sym (r .3)),
+    distinct-table f (a + 1) n (λ i j s t u. h i j (omega arith) t (omega arith)),
+  )
+
+  pub all-of-table : (p : A → Bool) (f : ℕ → A) (a n : ℕ) → ((i : ℕ) → a ≤ i → i < a + n → p (f i) ≡ true) → all p (table f a n) ≡ true
+  all-of-table p f a zero h = refl
+  all-of-table p f a (suc n) h = rw (h a (omega arith) (omega arith)) (all-of-table p f (a + 1) n (λ i s t. h i (omega arith) (omega arith)))
+
+  module _ (p : A → Bool) where
+    count-none : (l : List A) → ((x : A) → List·Memᴰ x l → p x ≡ false) → count p l ≡ 0
+    count-none [] h = refl
+    count-none (x ∷ l) h = rw (h x (List·Memᴰ·head refl)) (let e = count-none l (λ y m. h y (List·Memᴰ·tail m)) in omega arith)
+
+    taken-once : (f : ℕ → A) (a n i : ℕ) → a ≤ i → i < a + n → p (f i) ≡ true → 1 ≤ count p (table f a n)
+    taken-once f a zero i s t e = absurd (omega arith)
+    taken-once f a (suc n) i s t e =
+        let later = taken-once f (a + 1) n i in
+        elim (eq-or-lt-of-le s) [
+          | inl q ↦ let b : bit (p (f a)) ≡ 1 = ap bit (ap (λ (k : ℕ). p (f k)) q ∙ e) in omega arith
+          | inr h ↦ let r = later (omega arith) (omega arith) e in omega arith
+        ]
+
+    taken-twice : (f : ℕ → A) (a n i j : ℕ) → a ≤ i → i < j → j < a + n → p (f i) ≡ true → p (f j) ≡ true → 2 ≤ count p (table f a n)
+    taken-twice f a zero i j s t u d e = absurd (omega arith)
+    taken-twice f a (suc n) i j s t u d e =
+        let later = taken-twice f (a + 1) n i j in
+        elim (eq-or-lt-of-le s) [
+          | inl q ↦ let b : bit (p (f a)) ≡ 1 = ap bit (ap (λ (k : ℕ). p (f k)) q ∙ d) in let r = taken-once f (a + 1) n j (omega arith) (omega arith) e in omega arith
+          | inr h ↦ let r = later (omega arith) t (omega arith) d e in omega arith
+        ]
+
+-- each element of a list in which nothing stands twice stands once
+stands-once : (l : List Dart) → Distinct l → (d : Dart) → List·Memᴰ d l → count (sameDart d) l ≡ 1
+stands-once [] dis d m = absurd (List·Memᴰ·not-nil m)
+stands-once (c ∷ l) dis d m =
+    let later = stands-once l (dis .1) d in
+    elim (List·Memᴰ·cases-cons m) [
+      | inl e ↦
+          let b : bit (sameDart d c) ≡ 1 = ap bit (ap (sameDart d) (sym e) ∙ sameDart-refl d) in
+          let z = count-none (sameDart d) l (λ x k. not-true (sameDart d x) (λ q. dis .0 (Memᴰ·cast (sym e ∙ sameDart-true d x q) k))) in
+          omega arith
+      | inr k ↦
+          let b : bit (sameDart d c) ≡ 0 = ap bit (not-true (sameDart d c) (λ q. dis .0 (Memᴰ·cast (sym (sameDart-true d c q)) k))) in
+          let r = later k in
+          omega arith
+    ]
+
+-- ---- the links
+
+pub pos-same : (a b : ℕ) → sameZ (pos a) (pos b) ≡ same a b
+pos-same a b = elim (which (same a b)) [ inl e ↦ is-same (pos a) (pos b) (ap pos (same-true a b e)) ∙ sym e | inr e ↦ not-same (pos a) (pos b) (λ q. differ a b e (ap natAbs q)) ∙ sym e ]
+
+-- the next of p leaves the node where p arrives, and bears its face
+abbrev pub meets : List ℤ → ℕ → ℕ → Bool
+meets l n p = same (leaves (edgeMap l n) (next (edgeMap l n) (dartAt l p))) (arrives (edgeMap l n) (dartAt l p))
+
+abbrev pub keeps : List ℤ → ℕ → ℕ → Bool
+keeps l n p = same (bears (edgeMap l n) (next (edgeMap l n) (dartAt l p))) (bears (edgeMap l n) (dartAt l p))
+
+-- the three conditions on links
+abbrev pub linked : List ℤ → ℕ → Bool
+linked l n = linksOnce (edgeMap l n) && linksMeet (edgeMap l n) && ringsBearOne (edgeMap l n)
+
+-- the marks after p positions: each is the next of one of them
+pub record Marked (l : List ℤ) (n p : ℕ) (marks : List ℕ) : Type 0 where
+  pub room : length marks ≡ 4000
+  pub fit : (k : ℕ) → k < p → (meets l n k ≡ true) × (keeps l n k ≡ true)
+  pub apart : (j k : ℕ) → j < k → k < p → next (edgeMap l n) (dartAt l j) ≡ next (edgeMap l n) (dartAt l k) → ⊥
+  pub set-at : (k q : ℕ) → k < p → q < n * 2 → dartAt l q ≡ next (edgeMap l n) (dartAt l k) → getD marks q 0 ≡ 1
+  pub set-by : (q : ℕ) → getD marks q 0 ≡ 1 → (k : ℕ) × (k < p) × (dartAt l q ≡ next (edgeMap l n) (dartAt l k))
+
+false-left : (a b c : Bool) → a ≡ false → a && b && c ≡ false
+false-left a b c e = rw e
+
+false-middle : (a b c : Bool) → b ≡ false → a && b && c ≡ false
+false-middle true b c e = rw e
+false-middle false b c e = refl
+
+false-right : (a b c : Bool) → c ≡ false → a && b && c ≡ false
+false-right true true c e = e
+false-right true false c e = refl
+false-right false b c e = refl
+
+module _ {l : List ℤ} {n : ℕ} (t : EdgeRows l n) where
+  -- the test by the columns
+  pub columns-fit : (p q : ℕ) → p < n * 2 → q < n * 2 → dartAt l q ≡ next (edgeMap l n) (dartAt l p)
+      → (sameZ (sideCell l q 1) (sideCell l (reverseOf p) 1) && sameZ (sideCell l q 5) (sideCell l p 5)) ≡ (meets l n p && keeps l n p)
+  columns-fit p q h k e =
+      let m = edgeMap l n in
+      let a : sameZ (sideCell l q 1) (sideCell l (reverseOf p) 1) ≡ meets l n p = ap₂ sameZ (cell-leaves t q k ∙ ap (λ (d : Dart). pos (leaves m d)) e) (cell-arrives t p h) ∙ pos-same (leaves m (next m (dartAt l p))) (arrives m (dartAt l p)) in
+      let b : sameZ (sideCell l q 5) (sideCell l p 5) ≡ keeps l n p = ap₂ sameZ (cell-bears t q k ∙ ap (λ (d : Dart). pos (bears m d)) e) (cell-bears t p h) ∙ pos-same (bears m (next m (dartAt l p))) (bears m (dartAt l p)) in
+      ap₂ _&&_ a b
+
+  directed-distinct : Distinct (directed (edgeMap l n))
+  directed-distinct =
+      subst (λ (r : List Dart). Distinct r) (sym (directed-table l n))
+      (distinct-table (dartAt l) 0 (n * 2) (λ i j s u v e. let q = dart-injective t i j (omega arith) (omega arith) e in omega arith))
+
+  has-position : (p : ℕ) → p < n * 2 → List·Memᴰ (dartAt l p) (directed (edgeMap l n))
+  has-position p h = subst (λ (r : List Dart). List·Memᴰ (dartAt l p) r) (sym (directed-table l n)) (in-table (dartAt l) 0 (n * 2) p (omega arith) (omega arith))
+
+  -- no two have one next: each is named once
+  named-once : ((j k : ℕ) → j < k → k < n * 2 → next (edgeMap l n) (dartAt l j) ≡ next (edgeMap l n) (dartAt l k) → ⊥) → linksOnce (edgeMap l n) ≡ true
+  unfolding linksOnce
+  named-once apart =
+      subst (λ (r : List Dart). all (λ d. same (count (sameDart d) links) 1) r ≡ true) (sym (directed-table l n))
+      (all-of-table (λ d. same (count (sameDart d) links) 1) (dartAt l) 0 (n * 2)
+      (λ p s h. same-eq (count (sameDart (dartAt l p)) links) 1 (count-perm (sameDart (dartAt l p)) perm ∙ stands-once (directed m) directed-distinct (dartAt l p) (has-position p (omega arith)))))
+    where
+      m : Map
+      m = edgeMap l n
+
+      links : List Dart
+      links = map (next m) (directed m)
+
+      into : (d : Dart) → List·Memᴰ d (directed m) → List·Memᴰ (next m d) (directed m)
+      into d k =
+          let r = position-in t d k in
+          let q = next-there t (r .0) (r .1) in
+          Memᴰ·cast (ap (next m) (sym (r .2)) ∙ sym (q .2)) (has-position (q .0) (q .1))
+
+      injective : (c d : Dart) → List·Memᴰ c (directed m) → List·Memᴰ d (directed m) → next m c ≡ next m d → c ≡ d
+      injective c d j k e =
+          let p = position-in t c j in
+          let q = position-in t d k in
+          let f : next m (dartAt l (p .0)) ≡ next m (dartAt l (q .0)) = ap (next m) (p .2) ∙ e ∙ ap (next m) (sym (q .2)) in
+          elim (lt-or-ge (p .0) (q .0)) [
+            | inl g ↦ absurd (apart (p .0) (q .0) g (q .1) f)
+            | inr g ↦ elim (eq-or-lt-of-le g) [
+              | inl i ↦ sym (p .2) ∙ ap (dartAt l) (sym i) ∙ q .2
+              | inr g ↦ absurd (apart (q .0) (p .0) g (p .1) (sym f))
+            ]
+          ]
+
+      perm : List·Permᴰ links (directed m)
+      perm = perm-of-injective (next m) (directed m) directed-distinct into injective
+
+  -- two have one next: it is named twice
+  named-twice : (j k : ℕ) → j < k → k < n * 2 → next (edgeMap l n) (dartAt l j) ≡ next (edgeMap l n) (dartAt l k) → linksOnce (edgeMap l n) ≡ false
+  unfolding linksOnce
+  named-twice j k s h e = not-true (all once (directed m)) never
+    where
+      m : Map
+      m = edgeMap l n
+
+      links : List Dart
+      links = map (next m) (directed m)
+
+      once : Dart → Bool
+      once d = same (count (sameDart d) links) 1
+
+      by-position : links ≡ table (λ i. next m (dartAt l i)) 0 (n * 2)
+      by-position = ap (map (next m)) (directed-table l n) ∙ map-table (next m) (dartAt l) 0 (n * 2)
+
+      never : all once (directed m) ≡ true → ⊥
+      never a =
+          let q = next-there t k h in
+          let one = same-true (count (sameDart (dartAt l (q .0))) links) 1 (all-table once (dartAt l) (n * 2) (ap (all once) (sym (directed-table l n)) ∙ a) (q .0) (q .1)) in
+          let f : ℕ → Dart = λ i. next m (dartAt l i) in
+          let is : (i : ℕ) → f i ≡ dartAt l (q .0) → sameDart (dartAt l (q .0)) (f i) ≡ true = λ i g. ap (sameDart (dartAt l (q .0))) g ∙ sameDart-refl (dartAt l (q .0)) in
+          let two = taken-twice (sameDart (dartAt l (q .0))) f 0 (n * 2) j k (omega arith) s (omega arith) (is j (e ∙ sym (q .2))) (is k (sym (q .2))) in
+          let c : count (sameDart (dartAt l (q .0))) links ≡ count (sameDart (dartAt l (q .0))) (table f 0 (n * 2)) = ap (count (sameDart (dartAt l (q .0)))) by-position in
+          omega arith
+
+  -- ---- the pass
+
+  -- every position is passed
+  pub all-linked : {marks : List ℕ} → Marked l n (n * 2) marks → linked l n ≡ true
+  unfolding linksMeet ringsBearOne
+  all-linked w =
+      let m = edgeMap l n in
+      let by-position : (test : Dart → Bool) → ((p : ℕ) → p < n * 2 → test (dartAt l p) ≡ true) → all test (directed m) ≡ true = λ test h.
+      ap (all test) (directed-table l n) ∙ all-of-table test (dartAt l) 0 (n * 2) (λ p s g. h p (omega arith)) in
+      rw (
+        named-once (w .apart),
+        by-position (λ d. same (leaves m (next m d)) (arrives m d)) (λ p h. w .fit p h .0),
+        by-position (λ d. same (bears m (next m d)) (bears m d)) (λ p h. w .fit p h .1),
+      )
+
+  -- one that does not fit
+  pub unfit : (p : ℕ) → p < n * 2 → meets l n p && keeps l n p ≡ false → linked l n ≡ false
+  unfolding linksMeet ringsBearOne
+  unfit p h e =
+      let m = edgeMap l n in
+      let at : (test : Dart → Bool) → test (dartAt l p) ≡ false → all test (directed m) ≡ false = λ test f.
+      not-true (all test (directed m)) (λ a. false≢true (sym f ∙ all-table test (dartAt l) (n * 2) (ap (all test) (sym (directed-table l n)) ∙ a) p h)) in
+      elim (which (meets l n p)) [
+        | inl f ↦ false-right (linksOnce m) (linksMeet m) (ringsBearOne m) (at (λ d. same (bears m (next m d)) (bears m d)) (rw f at e))
+        | inr f ↦ false-middle (linksOnce m) (linksMeet m) (ringsBearOne m) (at (λ d. same (leaves m (next m d)) (arrives m d)) f)
+      ]
+
+  module _ {p : ℕ} {marks : List ℕ} (w : Marked l n p marks) (h : p < n * 2) (q : ℕ) (k : q < n * 2) (is : dartAt l q ≡ next (edgeMap l n) (dartAt l p)) where
+    -- its next is named already
+    pub named-before : getD marks q 0 ≡ 1 → linked l n ≡ false
+    named-before e =
+        let m = edgeMap l n in
+        let r = w .set-by q e in
+        false-left (linksOnce m) (linksMeet m) (ringsBearOne m) (named-twice (r .0) p (r .1) h (sym (r .2) ∙ is))
+
+    -- its next is named now
+    pub named-now : n ≤ 2000 → (getD marks q 0 ≡ 1 → ⊥) → meets l n p && keeps l n p ≡ true → Marked l n (p + 1) (set marks q 1)
+    named-now small new fits =
+        record {
+          room = length-set marks q 1 ∙ w .room;
+          fit = below-more (λ k. (meets l n k ≡ true) × (keeps l n k ≡ true)) p (w .fit) (and-left (meets l n p) (keeps l n p) fits, and-right (meets l n p) (keeps l n p) fits);
+          apart = λ i j s g e. elim (equal? j p) [
+            | inl f ↦ new (w .set-at i q (omega arith) k (is ∙ ap (λ (x : ℕ). next (edgeMap l n) (dartAt l x)) (sym f) ∙ sym e))
+            | inr f ↦ w .apart i j s (omega arith) e
+          ];
+          set-at = λ i j s g e. elim (equal? j q) [
+            | inl f ↦ ap (λ (x : ℕ). getD (set marks q 1) x 0) f ∙ getD-set-same marks q 1 0 (omega (arith, w .room))
+            | inr f ↦ getD-set-other marks q j 1 0 f ∙ w .set-at i j (elim (equal? i p) [
+              | inl a ↦ absurd (f (dart-injective t j q g k (e ∙ ap (λ (x : ℕ). next (edgeMap l n) (dartAt l x)) a ∙ sym is)))
+              | inr a ↦ omega arith
+            ]) g e
+          ];
+          set-by = λ j e. elim (equal? j q) [
+            | inl f ↦ (p, omega arith, ap (dartAt l) f ∙ is)
+            | inr f ↦ let r = w .set-by j (sym (getD-set-other marks q j 1 0 f) ∙ e) in let s = r .1 in (r .0, omega arith, r .2)
+          ];
+        }
+
+-- nothing is marked at first
+pub zeros : (n i : ℕ) → getD {A = ℕ} (replicate n 0) i 0 ≡ 0
+zeros zero i = refl
+zeros (suc n) zero = refl
+zeros (suc n) (suc i) = zeros n i
+
+pub none-marked : (l : List ℤ) (n : ℕ) → Marked l n 0 (replicate 4000 0)
+none-marked l n =
+    record {
+      room = length-replicate {A = ℕ} 4000 0;
+      fit = λ k h. absurd (omega arith);
+      apart = λ j k s h e. omega arith;
+      set-at = λ k q h s e. absurd (omega arith);
+      set-by = λ q e. let z = zeros 4000 q in absurd (omega arith);
+    }

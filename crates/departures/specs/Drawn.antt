@@ -1,0 +1,9 @@
+-- The map that has these nodes and edges alone.
+use mathlib.Core.List.{List, []}
+use Prim.Native.Nat.{ℕ}
+use lib.IntN.{ℤ}
+use Rattle.map.specs.Rows.{Map}
+use Rattle.tables.specs.Tables.{nodesOf, edgesOf}
+
+abbrev pub drawnMap : List ℤ → ℕ → List ℤ → ℕ → Map
+drawnMap nodes n edges e = record { nodes = nodesOf nodes n; edges = edgesOf edges e; faces = []; nextNode = 0; nextEdge = 0; nextFace = 0 }

@@ -1,0 +1,115 @@
+-- The scan for the first departure met clockwise: a choice, with the departures that are left, answers what the law says of them all. Assumes nothing.
+use mathlib.Core.Path.{_≡_, refl, sym, ap, _∙_}
+use mathlib.Core.Bool.{Bool, true, false, cond, not}
+use mathlib.Core.List.{List, [], _∷_}
+use Prim.Native.Nat.{ℕ, _+_, _*_, _-_, _<_, _≤_}
+use native.Mathlib.Omega.{arith}
+use Rattle.lists.specs.declared.Found.{Found}
+use Rattle.lists.specs.declared.Found.the-variants.{At, Missing}
+use Rattle.lists.specs.Scans.{keep, fold}
+use Rattle.lists.specs.Tables.{table}
+use Rattle.lists.proofs.Scans.{table-step, table-end}
+use Rattle.plane.specs.Directions.{Way, before}
+use Rattle.rotation.specs.Law.{greatest, pick, firstClockwise}
+use Rattle.linking.specs.declared.Choice.{Choice}
+use Rattle.linking.specs.Linking.{laterOf, chosenOf, answer, firstMet}
+
+-- no choice yet
+abbrev pub noChoice : Choice
+noChoice = record { any = false; all = 0; under = false; below = 0 }
+
+module _ (way : ℕ → Way) (v : Way) where
+  -- the first met of a choice and what is left
+  met : Bool → ℕ → Bool → ℕ → List ℕ → Found
+  met true a true b ds = At (greatest way b (keep (λ d. before (way d) v) ds))
+  met false a true b ds = At (greatest way b (keep (λ d. before (way d) v) ds))
+  met true a false b ds = At (pick way (greatest way a ds) (keep (λ d. before (way d) v) ds))
+  met false a false b ds = firstMet way v ds
+
+  met-end : (s : Bool) (a : ℕ) (u : Bool) (b : ℕ) → answer (record { any = s; all = a; under = u; below = b }) ≡ met s a u b []
+  unfolding met pick
+  met-end true a true b = refl
+  met-end false a true b = refl
+  met-end true a false b = refl
+  met-end false a false b = refl
+
+  met-step : (s : Bool) (a : ℕ) (u : Bool) (b d : ℕ) (ds : List ℕ) (t : Bool) → before (way d) v ≡ t
+      → met true (laterOf way s a d (way d)) (cond t true u) (cond t (laterOf way u b d (way d)) b) ds ≡ met s a u b (d ∷ ds)
+  unfolding met pick firstClockwise
+  met-step true a true b d ds true e = rw e
+  met-step false a true b d ds true e = rw e
+  met-step true a false b d ds true e = rw e
+  met-step false a false b d ds true e = rw e
+  met-step true a true b d ds false e = rw e
+  met-step false a true b d ds false e = rw e
+  met-step true a false b d ds false e = rw e
+  met-step false a false b d ds false e = rw e
+
+  scan : (h : Choice) (ds : List ℕ) → answer (fold (chosenOf way v) h ds) ≡ met (h .any) (h .all) (h .under) (h .below) ds
+  scan h [] = met-end (h .any) (h .all) (h .under) (h .below)
+  scan h (d ∷ ds) = scan (chosenOf way v h d) ds ∙ met-step (h .any) (h .all) (h .under) (h .below) d ds (before (way d) v) refl
+
+  -- the scan of all
+  pub scan-all : (ds : List ℕ) → answer (fold (chosenOf way v) noChoice ds) ≡ firstMet way v ds
+  unfolding met
+  scan-all ds = scan noChoice ds
+
+  -- ---- a turn of the loop at position i
+
+  module _ (f : ℕ → Bool) (h : Choice) (i n : ℕ) where
+    -- the choice after all that are left
+    abbrev pub left : Choice
+    left = fold (chosenOf way v) h (keep f (table (λ p. p) i (n - i)))
+
+    pub scan-hit : i < n → f i ≡ true → left ≡ fold (chosenOf way v) (chosenOf way v h i) (keep f (table (λ p. p) (i + 1) (n - (i + 1))))
+    scan-hit t e = rw (table-step (λ p. p) i n t, e)
+
+    pub scan-miss : i < n → f i ≡ false → left ≡ fold (chosenOf way v) h (keep f (table (λ p. p) (i + 1) (n - (i + 1))))
+    scan-miss t e = rw (table-step (λ p. p) i n t, e)
+
+    pub scan-end : n ≤ i → left ≡ h
+    scan-end t = rw (table-end (λ p. p) i n t)
+
+  -- ---- the choice made of parts
+
+  choice-is : {s u : Bool} {a b a′ b′ : ℕ} {u′ : Bool} → a ≡ a′ → u ≡ u′ → b ≡ b′ → _≡_ {A = Choice} (record { any = s; all = a; under = u; below = b }) (record { any = s; all = a′; under = u′; below = b′ })
+  choice-is e f g = cc
+
+  module _ (h : Choice) (p : ℕ) (w : Way) (r : ℕ) (is : w ≡ way p) (all : r ≡ laterOf way (h .any) (h .all) p w) where
+    -- p does not come before v
+    pub chosen-past : before w v ≡ false → record { any = true; all = r; under = h .under; below = h .below } ≡ chosenOf way v h p
+    chosen-past e =
+        let f : before (way p) v ≡ false = ap (λ (x : Way). before x v) (sym is) ∙ e in
+        choice-is (all ∙ ap (laterOf way (h .any) (h .all) p) is) (ap (λ (t : Bool). cond t true (h .under)) (sym f)) (ap (λ (t : Bool). cond t (laterOf way (h .under) (h .below) p (way p)) (h .below)) (sym f))
+
+    -- p does
+    pub chosen-under : (b : ℕ) → b ≡ laterOf way (h .under) (h .below) p w → before w v ≡ true → record { any = true; all = r; under = true; below = b } ≡ chosenOf way v h p
+    chosen-under b g e =
+        let f : before (way p) v ≡ true = ap (λ (x : Way). before x v) (sym is) ∙ e in
+        choice-is (all ∙ ap (laterOf way (h .any) (h .all) p) is) (ap (λ (t : Bool). cond t true (h .under)) (sym f))
+        (g ∙ ap (laterOf way (h .under) (h .below) p) is ∙ ap (λ (t : Bool). cond t (laterOf way (h .under) (h .below) p (way p)) (h .below)) (sym f))
+
+  -- what is chosen is a position passed
+  later-below : (s : Bool) (k p : ℕ) (t : Bool) → k ≤ p → cond s (cond t p k) p ≤ p
+  later-below true k p true h = omega arith
+  later-below true k p false h = h
+  later-below false k p t h = omega arith
+
+  either-below : (t : Bool) (x y p : ℕ) → x ≤ p → y ≤ p → cond t x y ≤ p
+  either-below true x y p h k = h
+  either-below false x y p h k = k
+
+  pub chosen-below : (h : Choice) (p : ℕ) → h .all ≤ p → h .below ≤ p → (chosenOf way v h p .all ≤ p) × (chosenOf way v h p .below ≤ p)
+  chosen-below h p a b = (
+    later-below (h .any) (h .all) p (before (way (h .all)) (way p)) a,
+    either-below (before (way p) v) (laterOf way (h .under) (h .below) p (way p)) (h .below) p (later-below (h .under) (h .below) p (before (way (h .below)) (way p)) b) b,
+  )
+
+-- a test that is turned
+pub turned-true : (b : Bool) → not b ≡ true → b ≡ false
+turned-true true e = sym e
+turned-true false e = refl
+
+pub turned-false : (b : Bool) → not b ≡ false → b ≡ true
+turned-false true e = refl
+turned-false false e = sym e

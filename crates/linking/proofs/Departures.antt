@@ -1,0 +1,77 @@
+-- Positions and the map: departures of a node by position are those of the map, and so is the first one met clockwise. Assumes nothing.
+use mathlib.Core.Path.{_≡_, refl, sym, ap, ap₂, _∙_, subst}
+use mathlib.Core.Logic.{inl, inr}
+use mathlib.Core.Bool.{Bool, true, false, cond, not, _&&_}
+use mathlib.Core.List.{List, [], _∷_, map, List·Memᴰ}
+use Prim.Native.Nat.{ℕ, zero, suc, _+_, _*_, _/_, _<_}
+use native.Mathlib.Omega.{arith}
+use lib.IntN.{ℤ, pos, natAbs}
+use lib.ListN.{length, length-map}
+use Rattle.lists.specs.Tests.{same, bit}
+use Rattle.lists.specs.declared.Found.the-variants.{At, Missing}
+use Rattle.lists.specs.Scans.{keep, count, any}
+use Rattle.lists.specs.Tables.{table}
+use Rattle.lists.proofs.Bools.{which, same-eq, same-true, same-false, differ}
+use Rattle.lists.proofs.Keeps.{keep-in, keep-map}
+use Rattle.plane.specs.Directions.{Way}
+use Rattle.planar.specs.Map.{Dart}
+use Rattle.planar.specs.Rings.{sameDart}
+use Rattle.rotation.specs.Law.{firstClockwise}
+use Rattle.map.specs.Darts.{directed, leaves, departures, edgeEnds, way}
+use Rattle.tables.specs.Tables.{sameZ, edgeMap, EdgeRows}
+use Rattle.tables.proofs.Rows.{map-table}
+use Rattle.tables.proofs.Order.{is-same, not-same}
+use Rattle.links.specs.Positions.{dartAt, sideCell, wayAt}
+use Rattle.links.proofs.Positions.{directed-table, cell-leaves, way-is}
+use Rattle.linking.specs.Linking.{positions, leavesNode, firstMet}
+use Rattle.linking.proofs.FirstMet.{first-map, first-any, met-at, met-none, position-below}
+
+-- numbers that are not negative
+pub same-pos : (m k : ℕ) → sameZ (pos m) (pos k) ≡ same m k
+same-pos m k =
+    elim (which (same m k)) [ inl e ↦ is-same (pos m) (pos k) (ap pos (same-true m k e)) ∙ sym e | inr e ↦ not-same (pos m) (pos k) (λ q. differ m k e (ap natAbs q)) ∙ sym e ]
+
+-- what is counted is what is kept
+pub count-keep : {A : Type 0} (p : A → Bool) (l : List A) → count p l ≡ length (keep p l)
+count-keep p [] = refl
+count-keep p (x ∷ l) = go (p x) (count-keep p l)
+  where
+    go : (b : Bool) → count p l ≡ length (keep p l) → bit b + count p l ≡ length (cond b (x ∷ keep p l) (keep p l))
+    go true e = let k : 1 + count p l ≡ suc (count p l) = omega arith in k ∙ ap suc e
+    go false e = let k : 0 + count p l ≡ count p l = omega arith in k ∙ e
+
+module _ {l : List ℤ} {n : ℕ} (t : EdgeRows l n) where
+  pub directed-map : directed (edgeMap l n) ≡ map (dartAt l) (positions n)
+  directed-map = directed-table l n ∙ sym (map-table (dartAt l) (λ p. p) 0 (n * 2))
+
+  pub leaves-is : (k p : ℕ) → p < n * 2 → same (leaves (edgeMap l n) (dartAt l p)) k ≡ leavesNode l (pos k) p
+  leaves-is k p h = sym (ap (λ (z : ℤ). sameZ z (pos k)) (cell-leaves t p h) ∙ same-pos (leaves (edgeMap l n) (dartAt l p)) k)
+
+  pub departures-map : (k : ℕ) → departures (edgeMap l n) k ≡ map (dartAt l) (keep (leavesNode l (pos k)) (positions n))
+  unfolding departures
+  departures-map k =
+      ap (keep (λ d. same (leaves (edgeMap l n) d) k)) directed-map
+      ∙ keep-map (dartAt l) (leavesNode l (pos k)) (λ d. same (leaves (edgeMap l n) d) k) (positions n) (λ p m. leaves-is k p (position-below n p m))
+
+  pub ends-count : (k : ℕ) → edgeEnds (edgeMap l n) k ≡ count (leavesNode l (pos k)) (positions n)
+  ends-count k = ap length (departures-map k) ∙ length-map (keep (leavesNode l (pos k)) (positions n)) (dartAt l) ∙ sym (count-keep (leavesNode l (pos k)) (positions n))
+
+  -- ---- the first one met
+
+  module _ (ds : List ℕ) (below : (p : ℕ) → List·Memᴰ p ds → p < n * 2) (v : Way) where
+    ways : (p : ℕ) → List·Memᴰ p ds → way (edgeMap l n) (dartAt l p) ≡ wayAt l p
+    ways p m = way-is t p (below p m)
+
+    pub met-found : (q : ℕ) → firstMet (wayAt l) v ds ≡ At q → (u : Dart) → firstClockwise (way (edgeMap l n)) v u (map (dartAt l) ds) ≡ dartAt l q
+    met-found q e u = go ds ways e
+      where
+        go : (ds : List ℕ) → ((p : ℕ) → List·Memᴰ p ds → way (edgeMap l n) (dartAt l p) ≡ wayAt l p) → firstMet (wayAt l) v ds ≡ At q → firstClockwise (way (edgeMap l n)) v u (map (dartAt l) ds) ≡ dartAt l q
+        go [] w e = let z : _≡_ {A = ℕ} 0 1 = cc in absurd (omega arith)
+        go (d ∷ ds) w e = first-any (way (edgeMap l n)) v (dartAt l d) (map (dartAt l) ds) u (dartAt l d) ∙ first-map (dartAt l) (wayAt l) (way (edgeMap l n)) v d (d ∷ ds) w ∙ ap (dartAt l) (met-at (wayAt l) v (d ∷ ds) q e d)
+
+    pub met-nothing : firstMet (wayAt l) v ds ≡ Missing → map (dartAt l) ds ≡ []
+    met-nothing e = ap (map (dartAt l)) (met-none (wayAt l) v ds e)
+
+    -- where a departure stands in for none
+    pub met-or : (u : ℕ) → firstClockwise (way (edgeMap l n)) v (dartAt l u) (map (dartAt l) ds) ≡ dartAt l (firstClockwise (wayAt l) v u ds)
+    met-or u = first-map (dartAt l) (wayAt l) (way (edgeMap l n)) v u ds ways

@@ -1,0 +1,103 @@
+-- The first departure met clockwise: under other names, whichever stands in for none, and what the answer tells. Assumes nothing.
+use mathlib.Core.Path.{_≡_, refl, sym, ap, ap₂, _∙_}
+use mathlib.Core.Logic.{inl, inr, ⊎-elim}
+use mathlib.Core.Bool.{Bool, true, false, cond, _&&_}
+use mathlib.Core.List.{List, [], _∷_, map, map-id, List·Memᴰ, List·Memᴰ·head, List·Memᴰ·tail, List·Memᴰ·cases-cons, List·Memᴰ·not-nil}
+use Prim.Native.Nat.{ℕ, zero, suc, _+_, _*_, _/_, _<_}
+use native.Mathlib.Omega.{arith}
+use lib.IntN.{ℤ}
+use Rattle.lists.specs.Tests.{same}
+use Rattle.lists.specs.declared.Found.{Found}
+use Rattle.lists.specs.declared.Found.the-variants.{At, Missing}
+use Rattle.lists.specs.Scans.{keep}
+use Rattle.lists.specs.Tables.{table}
+use Rattle.lists.proofs.Keeps.{keep-in, keep-map}
+use Rattle.lists.proofs.Bools.{same-false}
+use Rattle.plane.specs.Directions.{Way, before}
+use Rattle.rotation.specs.Law.{greatest, pick, firstClockwise}
+use Rattle.rotation.proofs.Node.{first-in}
+use Rattle.links.specs.Positions.{wayAt, wayWith}
+use Rattle.linking.specs.Linking.{positions, leaving, firstMet}
+
+-- ---- other names
+
+module _ {D E : Type 0} (f : D → E) (way : D → Way) (way′ : E → Way) where
+  greatest-map : (u : D) (ds : List D) → ((d : D) → List·Memᴰ d (u ∷ ds) → way′ (f d) ≡ way d) → greatest way′ (f u) (map f ds) ≡ f (greatest way u ds)
+  greatest-map u [] h = refl
+  greatest-map u (d ∷ ds) h = ap (λ (b : Bool). greatest way′ (cond b (f d) (f u)) (map f ds)) (ap₂ before (h u (List·Memᴰ·head refl)) (h d (List·Memᴰ·tail (List·Memᴰ·head refl)))) ∙ go (before (way u) (way d)) (λ w g. greatest-map w ds g)
+    where
+      go : (b : Bool) → ((w : D) → ((d : D) → List·Memᴰ d (w ∷ ds) → way′ (f d) ≡ way d) → greatest way′ (f w) (map f ds) ≡ f (greatest way w ds)) → greatest way′ (cond b (f d) (f u)) (map f ds) ≡ f (greatest way (cond b d u) ds)
+      go true ih = ih d (λ c m. h c (List·Memᴰ·tail m))
+      go false ih = ih u (λ c m. elim (List·Memᴰ·cases-cons m) [ inl e ↦ h c (List·Memᴰ·head e) | inr k ↦ h c (List·Memᴰ·tail (List·Memᴰ·tail k)) ])
+
+  pick-map : (u : D) (ds : List D) → ((d : D) → List·Memᴰ d ds → way′ (f d) ≡ way d) → pick way′ (f u) (map f ds) ≡ f (pick way u ds)
+  unfolding pick
+  pick-map u [] h = refl
+  pick-map u (d ∷ ds) h = greatest-map d ds h
+
+  pub first-map : (v : Way) (u : D) (ds : List D) → ((d : D) → List·Memᴰ d ds → way′ (f d) ≡ way d) → firstClockwise way′ v (f u) (map f ds) ≡ f (firstClockwise way v u ds)
+  unfolding firstClockwise
+  first-map v u ds h =
+      ap₂ (λ (c : E) (l : List E). pick way′ c l) (pick-map u ds h) (keep-map f (λ d. before (way d) v) (λ d. before (way′ d) v) ds (λ d m. ap (λ (w : Way). before w v) (h d m)))
+      ∙ pick-map (pick way u ds) (keep (λ d. before (way d) v) ds) (λ d m. h d (keep-in (λ d. before (way d) v) ds m .0))
+
+-- directions that are the same
+pub met-same : (way way′ : ℕ → Way) (v : Way) (ds : List ℕ) → ((d : ℕ) → List·Memᴰ d ds → way′ d ≡ way d) → firstMet way′ v ds ≡ firstMet way v ds
+met-same way way′ v [] h = refl
+met-same way way′ v (d ∷ ds) h = ap At (ap (firstClockwise way′ v d) (sym (map-id (d ∷ ds))) ∙ first-map (λ x. x) way way′ v d (d ∷ ds) h)
+
+-- ---- what the answer tells
+
+module _ {D : Type 0} (way : D → Way) (v : Way) where
+  -- whatever stands in for none plays no part where there is one
+  pub first-any : (d : D) (ds : List D) (u w : D) → firstClockwise way v u (d ∷ ds) ≡ firstClockwise way v w (d ∷ ds)
+  unfolding firstClockwise pick
+  first-any d ds u w = refl
+
+  pub first-none : (u : D) → firstClockwise way v u [] ≡ u
+  unfolding firstClockwise pick
+  first-none u = refl
+
+module _ (way : ℕ → Way) (v : Way) where
+  pub met-at : (ds : List ℕ) (q : ℕ) → firstMet way v ds ≡ At q → (u : ℕ) → firstClockwise way v u ds ≡ q
+  met-at [] q e u = let z : _≡_ {A = ℕ} 0 1 = cc in absurd (omega arith)
+  met-at (d ∷ ds) q e u = let k : firstClockwise way v d (d ∷ ds) ≡ q = cc in first-any way v d ds u d ∙ k
+
+  pub met-in : (ds : List ℕ) (q : ℕ) → firstMet way v ds ≡ At q → List·Memᴰ q ds
+  met-in [] q e = let z : _≡_ {A = ℕ} 0 1 = cc in absurd (omega arith)
+  met-in (d ∷ ds) q e = let k : firstClockwise way v d (d ∷ ds) ≡ q = cc in rw (← k) (first-in way v d (d ∷ ds) {d = d} (List·Memᴰ·head refl))
+
+  pub met-none : (ds : List ℕ) → firstMet way v ds ≡ Missing → ds ≡ []
+  met-none [] e = refl
+  met-none (d ∷ ds) e = let z : _≡_ {A = ℕ} 0 1 = cc in absurd (omega arith)
+
+-- ---- what is kept
+
+module _ {D : Type 0} where
+  pub keep-same : (f g : D → Bool) (ds : List D) → ((d : D) → List·Memᴰ d ds → f d ≡ g d) → keep f ds ≡ keep g ds
+  keep-same f g ds h = ap (keep f) (sym (map-id ds)) ∙ keep-map (λ d. d) g f ds h ∙ map-id (keep g ds)
+
+  -- kept by one test and then by another
+  pub keep-both : (f g : D → Bool) (ds : List D) → keep g (keep f ds) ≡ keep (λ d. f d && g d) ds
+  keep-both f g [] = refl
+  keep-both f g (d ∷ ds) = go (f d) refl (keep-both f g ds)
+    where
+      go : (b : Bool) → f d ≡ b → keep g (keep f ds) ≡ keep (λ d. f d && g d) ds → keep g (cond b (d ∷ keep f ds) (keep f ds)) ≡ keep (λ d. f d && g d) (d ∷ ds)
+      go true e ih = rw (e, ih)
+      go false e ih = rw (e, ih)
+
+-- ---- positions
+
+from-in : (a n p : ℕ) → List·Memᴰ p (table (λ q. q) a n) → p < a + n
+from-in a zero p m = absurd (List·Memᴰ·not-nil m)
+from-in a (suc n) p m = ⊎-elim (λ e. omega arith) (λ k. let h : p < a + 1 + n = from-in (a + 1) n p k in omega arith) (List·Memᴰ·cases-cons m)
+
+pub position-below : (n p : ℕ) → List·Memᴰ p (positions n) → p < n * 2
+position-below n p m = let h = from-in 0 (n * 2) p m in omega arith
+
+pub leaving-below : (l : List ℤ) (n : ℕ) (node : ℤ) (a b p : ℕ) → List·Memᴰ p (leaving l n node a b) → p < n * 2
+leaving-below l n node a b p m = position-below n p (keep-in _ (positions n) m .0)
+
+-- where no row has another curve
+pub with-none : (l : List ℤ) (n : ℕ) (c : List ℤ) (p : ℕ) → p / 2 < n → wayWith l n c p ≡ wayAt l p
+with-none l n c p h = let e = same-false (p / 2) n (λ q. omega arith) in rw e

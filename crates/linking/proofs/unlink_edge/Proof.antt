@@ -1,0 +1,87 @@
+-- `linking::unlink_edge` meets its contract. Assumes nothing.
+use borrow.Author.Needs.{sfits-of}
+use mathlib.Core.Path.{_≡_, ap, ap₂, _∙_}
+use mathlib.Core.List.{List}
+use Prim.Native.Nat.{_+_, _*_, _/_}
+use native.Mathlib.Omega.{arith}
+use lib.IntN.{ℤ}
+use mir.Syntax.{w64}
+use mir.Val.{toZ, ofZ}
+use mir.Facts.{toZ-ofZ}
+use Rattle.map.specs.Rows.{dartCell}
+use Rattle.tables.proofs.Rows.{edge-row-of}
+use Rattle.links.specs.Positions.{dartAt, sideCell}
+use Rattle.linking.specs.Linking.{redirected}
+use borrow.Author.Needs.{needs}
+use Rattle.linking.proofs.unlink_edge.Statement.{statement}
+use Rattle.linking.proofs.unlink_edge.Tie as tie
+use Rattle.linking.proofs.unlink_edge.Reads as reads
+use Rattle.linking.proofs.unlink_edge.Lts as lts
+use Rattle.linking.proofs.redirect.Reads as redirect-reads
+use Rattle.links.proofs.dart_at.Reads as dart-at-reads
+use Rattle.links.proofs.dart_cell.Reads as dart-cell-reads
+
+mul-p : tie.Need-mul-p
+mul-p c = search needs
+
+dart-at-requires : tie.Need-dart-at-requires
+dart-at-requires c κs = edge-row-of (c .before .pre .0) (c .before .args .i * 2 / 2) (let h = c .before .pre .1 in omega arith)
+
+add-dart-at : tie.Need-add-dart-at
+add-dart-at c = search needs
+
+dart-at-requires-2 : tie.Need-dart-at-requires-2
+dart-at-requires-2 c κs = let s = c .before .before .before in edge-row-of (s .pre .0) ((s .args .i * 2 + 1) / 2) (let h = s .pre .1 in omega arith)
+
+add-dart-cell : tie.Need-add-dart-cell
+add-dart-cell c = search needs
+
+dart-cell-requires : tie.Need-dart-cell-requires
+dart-cell-requires c κs = search needs
+
+redirect-requires : tie.Need-redirect-requires
+redirect-requires c κs = search needs
+
+dart-cell-requires-2 : tie.Need-dart-cell-requires-2
+dart-cell-requires-2 c κs = search needs
+
+redirect-requires-2 : tie.Need-redirect-requires-2
+redirect-requires-2 c κs = search needs
+
+same-length : tie.Need-same-length
+same-length c = search needs
+
+returns : tie.Need-returns
+returns c =
+    let then = c .before .before .before .dart-cell2 in
+    let first = c .before .before .before .before .before .before in
+    let to = first .before .before .dart-cell in
+    let back = first .before .before .before .before .dart-at2 in
+    let d = first .before .before .before .before .before .before .dart-at in
+    let s = c .before .before .before .before .before .before .before .before .before .before .before .before .before .before in
+    let l = s .args .edges .now in
+    let n = s .args .count in
+    let p = s .args .i * 2 in
+    let e₁ : toZ w64 (ofZ w64 (d .result)) ≡ dartCell (dartAt l p) = toZ-ofZ {w = w64} (sfits-of (d .ok)) ∙ d .ensures in
+    let e₂ : toZ w64 (ofZ w64 (to .result)) ≡ sideCell l (p + 1) 3 = toZ-ofZ {w = w64} (sfits-of (to .ok)) ∙ to .ensures in
+    let e₃ : toZ w64 (ofZ w64 (back .result)) ≡ dartCell (dartAt l (p + 1)) = toZ-ofZ {w = w64} (sfits-of (back .ok)) ∙ back .ensures in
+    let t = redirected (dartCell (dartAt l p)) (sideCell l (p + 1) 3) l n in
+    let f : first .redirect .last .0 ≡ t = first .redirect .ensures ∙ ap₂ (λ (x y : ℤ). redirected x y l n) e₁ e₂ in
+    let e₄ : toZ w64 (ofZ w64 (then .result)) ≡ sideCell t p 3 = toZ-ofZ {w = w64} (sfits-of (then .ok)) ∙ then .ensures ∙ ap (λ (u : List ℤ). sideCell u p 3) f in
+    c .before .redirect2 .ensures ∙ ap (λ (u : List ℤ). redirected (toZ w64 (ofZ w64 (back .result))) (toZ w64 (ofZ w64 (then .result))) u n) f ∙ ap₂ (λ (x y : ℤ). redirected x y t n) e₃ e₄
+
+pub unlink-edge-spec : {M : Type 1} → statement M
+unlink-edge-spec =
+    tie.close
+    (tie.spec
+    mul-p
+    dart-at-requires
+    add-dart-at
+    dart-at-requires-2
+    add-dart-cell
+    dart-cell-requires
+    redirect-requires
+    dart-cell-requires-2
+    redirect-requires-2
+    same-length
+    returns)

@@ -1,0 +1,193 @@
+// The first departure met turning clockwise, and the only ways in which links change.
+use links::Step;
+use lists::Found;
+ghost use mathlib.Core.Path.{_≡_};
+ghost use mathlib.Core.Bool.{Bool, true, false, not, _&&_};
+ghost use Prim.Native.Nat.{ℕ, _+_, _*_, _/_, _<_, _≤_};
+ghost use lib.ListN.{length};
+ghost use Rattle.lists.specs.Tests.{same};
+ghost use Rattle.lists.specs.Scans.{any, count as countOf, keep};
+ghost use Rattle.plane.specs.Points.{InRange};
+ghost use Rattle.plane.specs.Directions.{wayTo, sameWay};
+ghost use Rattle.curves.specs.Curves.{Run};
+ghost use Rattle.rotation.specs.Law.{lawful};
+ghost use Rattle.tables.specs.Tables.{EdgeRows};
+ghost use Rattle.links.specs.Positions.{sideCell, wayAt, wayWith};
+ghost use Rattle.linking.specs.Linking.{Known, laterOf, chosenOf, positions, leavesNode, leaving, firstMet, redirected, linkedAt, linkedIn, linkedEdge, unlinkedEdge};
+
+// A choice among departures so far: the last counterclockwise of all, and of those before a direction.
+struct Choice {
+    any: bool,
+    all: usize,
+    under: bool,
+    below: usize,
+}
+
+// The later of the chosen departure k, if there is one, and p, with p's first step w.
+fn later(edges: &[i64], own: usize, c: &[i64], some: bool, k: usize, p: usize, w: Step) -> usize
+    requires { ⌜ Known (now edges) own (now c) k × (InRange (w .from)) × (InRange (w .to)) ⌝ }
+    ensures { λ r. ⌜ r ≡ laterOf (wayWith (now (edges .entry)) own (now (c .entry))) some k p (wayTo (w .from) (w .to)) ⌝ }
+{
+    if !some {
+        return p;
+    }
+    if links::before(links::step_with(edges, own, c, k), w) { p } else { k }
+}
+
+// The choice with the departure p besides, for the direction v.
+fn chosen(edges: &[i64], own: usize, c: &[i64], h: Choice, p: usize, v: Step) -> Choice
+    requires { ⌜ ((q : ℕ) → q ≤ p → Known (now edges) own (now c) q) × (h .all ≤ p) × (h .below ≤ p) × (InRange (v .from)) × (InRange (v .to)) ⌝ }
+    ensures { λ r. ⌜ r ≡ chosenOf (wayWith (now (edges .entry)) own (now (c .entry))) (wayTo (v .from) (v .to)) h p ⌝ }
+{
+    let w = links::step_with(edges, own, c, p);
+    let all = later(edges, own, c, h.any, h.all, p, w);
+    if !links::before(w, v) {
+        return Choice {
+            any: true,
+            all,
+            under: h.under,
+            below: h.below,
+        };
+    }
+    Choice {
+        any: true,
+        all,
+        under: true,
+        below: later(edges, own, c, h.under, h.below, p, w),
+    }
+}
+
+// The first departure from the node met turning clockwise from v, but for the positions a and b, where edge row `own` has the curve c.
+pub fn first_clockwise(edges: &[i64], count: usize, own: usize, c: &[i64], node: i64, v: Step, a: usize, b: usize) -> Found
+    requires { ⌜ EdgeRows (now edges) count × (own < count → Run (now c)) × (InRange (v .from)) × (InRange (v .to)) ⌝ }
+    ensures { λ r. ⌜ r ≡ firstMet (wayWith (now (edges .entry)) own (now (c .entry))) (wayTo (v .from) (v .to)) (leaving (now (edges .entry)) count node a b) ⌝ }
+{
+    let mut h = Choice {
+        any: false,
+        all: 0,
+        under: false,
+        below: 0,
+    };
+    for p in 0..count * 2 {
+        if (links::dart_cell(edges, p, 1) == node) & (p != a) & (p != b) {
+            h = chosen(edges, own, c, h, p, v);
+        }
+    }
+    if h.under {
+        return Found::At(h.below);
+    }
+    if h.any { Found::At(h.all) } else { Found::Missing }
+}
+
+// The first departure met turning clockwise from the departure p, where edge row `own` has the curve c; with no other, p.
+pub fn clockwise(edges: &[i64], count: usize, own: usize, c: &[i64], p: usize) -> usize
+    requires { ⌜ EdgeRows (now edges) count × (own < count → Run (now c)) × (p < count * 2) ⌝ }
+    ensures { λ r. ⌜ r ≡ lawful (wayWith (now (edges .entry)) own (now (c .entry))) same p (keep (leavesNode (now (edges .entry)) (sideCell (now (edges .entry)) p 1)) (positions count)) ⌝ }
+{
+    let node = links::dart_cell(edges, p, 1);
+    let found = first_clockwise(edges, count, own, c, node, links::step_with(edges, own, c, p), p, p);
+    let Found::At(q) = found else {
+        return p;
+    };
+    q
+}
+
+// Whether a departure from the node, but of edge row `own`, has the direction v.
+pub fn way_taken(edges: &[i64], count: usize, node: i64, own: usize, v: Step) -> bool
+    requires { ⌜ EdgeRows (now edges) count × (InRange (v .from)) × (InRange (v .to)) ⌝ }
+    ensures { λ r. ⌜ r ≡ any (λ p. leavesNode (now (edges .entry)) node p && not (same (p / 2) own) && sameWay (wayAt (now (edges .entry)) p) (wayTo (v .from) (v .to))) (positions count) ⌝ }
+{
+    for p in 0..count * 2 {
+        if (links::dart_cell(edges, p, 1) == node) & (p / 2 != own) {
+            if links::same_way(links::step_at(edges, p), v) {
+                return true;
+            }
+        }
+    }
+    false
+}
+
+// How many edge ends are at the node.
+pub fn edge_ends(edges: &[i64], count: usize, node: i64) -> usize
+    requires { ⌜ EdgeRows (now edges) count ⌝ }
+    ensures { λ r. ⌜ (r ≡ countOf (leavesNode (now (edges .entry)) node) (positions count)) × (r ≤ count * 2) ⌝ }
+{
+    let mut n: usize = 0;
+    for p in 0..count * 2 {
+        n += (links::dart_cell(edges, p, 1) == node) as usize;
+    }
+    n
+}
+
+// ---- links changed
+
+// What led to `old` leads to `new`.
+pub fn redirect(edges: &mut [i64], count: usize, old: i64, new: i64)
+    requires { ⌜ count * 32 ≤ length (now edges) ⌝ }
+    ensures { λ r. ⌜ now (edges .exit) ≡ redirected old new (now (edges .entry)) count ⌝ }
+{
+    tables::replace_column(edges, 32, count, 3, old, new);
+    tables::replace_column(edges, 32, count, 4, old, new);
+}
+
+// The new departure p linked in where c is the first one met clockwise from it.
+fn link_at(edges: &mut [i64], count: usize, p: usize, c: i64)
+    requires { ⌜ EdgeRows (now edges) count × (p < count * 2) × (count ≤ 2001) ⌝ }
+    ensures { λ r. ⌜ now (edges .exit) ≡ linkedAt (now (edges .entry)) count p c ⌝ }
+{
+    let d = links::dart_at(edges, p);
+    redirect(edges, count, c, d);
+    links::set_dart_cell(edges, links::reverse(p), 3, c);
+}
+
+// The first departure met turning clockwise from the departure p, where `other` is not there yet.
+fn met(edges: &[i64], count: usize, p: usize, other: usize) -> Found
+    requires { ⌜ EdgeRows (now edges) count × (p < count * 2) ⌝ }
+    ensures { λ r. ⌜ r ≡ firstMet (wayAt (now (edges .entry))) (wayAt (now (edges .entry)) p) (leaving (now (edges .entry)) count (sideCell (now (edges .entry)) p 1) p other) ⌝ }
+{
+    let node = links::dart_cell(edges, p, 1);
+    let v = links::step_at(edges, p);
+    first_clockwise(edges, count, count, &edges[0..0], node, v, p, other)
+}
+
+// The new departure p linked in, `other` not being there yet.
+pub fn link_in(edges: &mut [i64], count: usize, p: usize, other: usize)
+    requires { ⌜ EdgeRows (now edges) count × (p < count * 2) × (count ≤ 2001) ⌝ }
+    ensures { λ r. ⌜ now (edges .exit) ≡ linkedIn (now (edges .entry)) count p other ⌝ }
+{
+    let found = met(edges, count, p, other);
+    match found {
+        Found::At(q) => {
+            let c = links::dart_at(edges, q);
+            link_at(edges, count, p, c);
+        }
+        Found::Missing => {
+            let c = links::dart_at(edges, p);
+            link_at(edges, count, p, c);
+        }
+    }
+}
+
+// The new last row linked in, start first, then end.
+pub fn link_edge(edges: &mut [i64], count: usize)
+    requires { ⌜ EdgeRows (now edges) count × (0 < count) × (count ≤ 2001) ⌝ }
+    ensures { λ r. ⌜ now (edges .exit) ≡ linkedEdge (now (edges .entry)) count ⌝ }
+{
+    let p = (count - 1) * 2;
+    link_in(edges, count, p, p + 1);
+    link_in(edges, count, p + 1, p + 1);
+}
+
+// Row i unlinked: what led to a removed departure leads where its reverse led, the start's departure first.
+pub fn unlink_edge(edges: &mut [i64], count: usize, i: usize)
+    requires { ⌜ EdgeRows (now edges) count × (i < count) ⌝ }
+    ensures { λ r. ⌜ now (edges .exit) ≡ unlinkedEdge (now (edges .entry)) count i ⌝ }
+{
+    let p = i * 2;
+    let d = links::dart_at(edges, p);
+    let back = links::dart_at(edges, p + 1);
+    let to = links::dart_cell(edges, p + 1, 3);
+    redirect(edges, count, d, to);
+    let then = links::dart_cell(edges, p, 3);
+    redirect(edges, count, back, then);
+}

@@ -1,0 +1,82 @@
+-- Tests of one number, and turns of the loops over numbers and over rows. Assumes nothing.
+use mathlib.Core.Path.{_≡_, refl, sym, ap, _∙_}
+use mathlib.Core.Bool.{Bool, true, false, _&&_}
+use mathlib.Core.List.{List}
+use Prim.Native.Nat.{ℕ, _+_, _*_, _-_, _<_, _≤_}
+use native.Mathlib.Nat.{sub-zero, mul-one}
+use native.Mathlib.Omega.{arith}
+use lib.Dec.{lit<}
+use lib.IntN.{ℤ, pos, negsuc, natAbs}
+use lib.ListN.{length, getD, take, drop, length-drop, drop-of-length-le}
+use lib.Seq.{length-take-le, take-all}
+use lib.Signed.{leZ, nonNeg}
+use borrow.Author.Tests.{le-leb}
+use Rattle.lists.specs.Scans.{all}
+use Rattle.lists.specs.Tables.{table}
+use Rattle.lists.proofs.Bools.{same-false, same-eq}
+use Rattle.lists.proofs.Scans.{all-hit, all-miss, all-end}
+use Rattle.curves.proofs.Runs.{all-drop}
+use Rattle.map.specs.Rows.{rows}
+use Rattle.map.specs.Form.{isZero, faceRanges}
+use Rattle.tables.specs.Tables.{rowAt}
+use Rattle.tables.proofs.Cells.{row-room}
+use Rattle.tables.proofs.Rows.{row-first, rows-table}
+
+-- ---- one number
+
+pub natural-tested : (z : ℤ) → leZ (pos 0) z ≡ nonNeg z
+natural-tested (pos n) = le-leb 0 n (omega arith)
+natural-tested (negsuc n) = refl
+
+zero-is : (z : ℤ) → natAbs z ≡ 0 → z ≡ pos 0
+zero-is (pos n) e = ap pos e
+zero-is (negsuc n) e = absurd (omega arith)
+
+pub not-zero : (z : ℤ) → (z ≡ pos 0 → ⊥) → isZero z ≡ false
+not-zero z h = same-false (natAbs z) 0 (λ e. h (zero-is z e))
+
+pub is-zero : (z : ℤ) → z ≡ pos 0 → isZero z ≡ true
+is-zero z e = same-eq (natAbs z) 0 (ap natAbs e)
+
+-- ---- the numbers from i on
+
+module _ {A : Type 0} (p : A → Bool) (l : List A) (d : A) (i : ℕ) where
+  pub rest-hit : i < length l → p (getD l i d) ≡ true → all p (drop i l) ≡ all p (drop (i + 1) l)
+  rest-hit h e = all-drop p l i d h ∙ ap (λ (t : Bool). t && all p (drop (i + 1) l)) e
+
+  pub rest-miss : i < length l → p (getD l i d) ≡ false → all p (drop i l) ≡ false
+  rest-miss h e = all-drop p l i d h ∙ ap (λ (t : Bool). t && all p (drop (i + 1) l)) e
+
+pub rest-end : {A : Type 0} (p : A → Bool) (l : List A) (i : ℕ) → length l ≤ i → all p (drop i l) ≡ true
+rest-end p l i h = ap (all p) (drop-of-length-le l h)
+
+-- the part of a list up to its end
+pub rest-part : {A : Type 0} (l : List A) (at : ℕ) → take (length l - at) (drop at l) ≡ drop at l
+rest-part l at = take-all (length l - at) (drop at l) (rw (length-drop at l) (omega arith))
+
+-- ---- the rows from row i on
+
+-- a part of the table that is row i
+pub row-part : (w : ℕ) (l : List ℤ) (i : ℕ) → take (i * w + w - i * w) (drop (i * w) l) ≡ rowAt w l i
+row-part w l i = let e : i * w + w - i * w ≡ w = omega arith in rw e
+
+pub row-length : (w : ℕ) (l : List ℤ) (n i : ℕ) → n * w ≤ length l → i < n → length (rowAt w l i) ≡ w
+row-length w l n i fits h = length-take-le w (drop (i * w) l) (rw (length-drop (i * w) l) (omega (arith, row-room w n i h)))
+
+module _ (w : ℕ) (l : List ℤ) (ok : List ℤ → Bool) (n : ℕ) where
+  pub rows-start : all ok (table (rowAt w l) 0 (n - 0)) ≡ all ok (rows w n l)
+  rows-start = ap (λ (k : ℕ). all ok (table (rowAt w l) 0 k)) (sub-zero n) ∙ ap (all ok) (sym (rows-table w l n))
+
+  -- row i asked by a function that answers r
+  pub rows-hit : (i : ℕ) {r : Bool} {k : List ℤ} → i < n → r ≡ ok k → k ≡ rowAt w l i → r ≡ true → all ok (table (rowAt w l) i (n - i)) ≡ all ok (table (rowAt w l) (i + 1) (n - (i + 1)))
+  rows-hit i h e f t = all-hit (rowAt w l) i n ok h (sym (ap ok f) ∙ sym e ∙ t)
+
+  pub rows-miss : (i : ℕ) {r : Bool} {k : List ℤ} → i < n → r ≡ ok k → k ≡ rowAt w l i → r ≡ false → all ok (table (rowAt w l) i (n - i)) ≡ false
+  rows-miss i h e f t = all-miss (rowAt w l) i n ok h (sym (ap ok f) ∙ sym e ∙ t)
+
+  pub rows-end : (i : ℕ) → n ≤ i → all ok (table (rowAt w l) i (n - i)) ≡ true
+  rows-end i h = all-end (rowAt w l) i n ok h
+
+-- a face row is its number
+pub face-tested : (l : List ℤ) (i : ℕ) → faceRanges (rowAt 1 l i) ≡ nonNeg (getD l i (pos 0))
+face-tested l i = ap nonNeg (row-first 1 l i (lit< tt) ∙ ap (λ (k : ℕ). getD l k (pos 0)) (mul-one i))

@@ -1,0 +1,76 @@
+-- Tables as parts of condition 2 find them. Each part may be asked once the parts before it hold.
+use mathlib.Core.Path.{_≡_}
+use mathlib.Core.Bool.{Bool, true, _&&_}
+use mathlib.Core.List.{List, [], map}
+use Prim.Native.Nat.{ℕ, suc, _*_, _≤_}
+use lib.IntN.{ℤ, pos, natAbs}
+use lib.ListN.{length}
+use Rattle.lists.specs.Scans.{all}
+use Rattle.map.specs.declared.Head.{Head}
+use Rattle.map.specs.Limits.{nodeWidth, edgeWidth, faceWidth, lastNumber}
+use Rattle.map.specs.Rows.{Map, Lent, rows}
+use Rattle.map.specs.Form.{nextsFit, nodeRanges, edgeRanges, faceRanges, restZero, numbered, numbers, named}
+use Rattle.tables.specs.declared.Counts.{Counts}
+use Rattle.tables.specs.Tables.{nodesOf, edgesOf, facesOf}
+
+-- what is lent
+abbrev pub lent : List ℤ → List ℤ → List ℤ → Head → Lent
+lent nodes edges faces h = record { nodes = nodes; edges = edges; faces = faces; head = h }
+
+-- the head's counts, where they are not negative
+abbrev pub countsOf : Head → Counts
+countsOf h = record { nodes = natAbs (h .nodes); edges = natAbs (h .edges); faces = natAbs (h .faces) }
+
+-- the map that the rows in use and the next numbers make: `mapOf` with the counts by themselves
+abbrev pub mapIn : List ℤ → List ℤ → List ℤ → Counts → Head → Map
+mapIn nodes edges faces c h =
+    record {
+      nodes = nodesOf nodes (c .nodes);
+      edges = edgesOf edges (c .edges);
+      faces = facesOf faces (c .faces);
+      nextNode = natAbs (h .«next_node»);
+      nextEdge = natAbs (h .«next_edge»);
+      nextFace = natAbs (h .«next_face»);
+    }
+
+-- the rows in use fit the tables, and the next numbers are 1 to 1,000,000
+pub record Counted (nodes edges faces : List ℤ) (c : Counts) (h : Head) : Type 0 where
+  pub nodes-fit : c .nodes * nodeWidth ≤ length nodes
+  pub edges-fit : c .edges * edgeWidth ≤ length edges
+  pub faces-fit : c .faces * faceWidth ≤ length faces
+  pub a-face : 1 ≤ c .faces
+  pub nexts : nextsFit h ≡ true
+
+-- their numbers are in range, and zeros stand behind them
+abbrev pub rangedRows : List ℤ → List ℤ → List ℤ → Counts → Bool
+rangedRows nodes edges faces c =
+    restZero nodeWidth (pos (c .nodes)) nodes
+    && restZero edgeWidth (pos (c .edges)) edges
+    && restZero faceWidth (pos (c .faces)) faces
+    && all nodeRanges (rows nodeWidth (c .nodes) nodes)
+    && all edgeRanges (rows edgeWidth (c .edges) edges)
+    && all faceRanges (rows faceWidth (c .faces) faces)
+
+pub record InRanges (nodes edges faces : List ℤ) (c : Counts) (h : Head) : Type 0 where
+  pub counted : Counted nodes edges faces c h
+  pub ranged : rangedRows nodes edges faces c ≡ true
+
+-- the map that has these faces alone: named faces are looked up in it
+abbrev pub faceMap : List ℤ → ℕ → Map
+faceMap l n = record { nodes = []; edges = []; faces = facesOf l n; nextNode = 0; nextEdge = 0; nextFace = 0 }
+
+-- edges in range, in rising order: `EdgeRows` before it is known that their links name edges
+pub record EdgesInOrder (l : List ℤ) (n : ℕ) : Type 0 where
+  pub fits : n * edgeWidth ≤ length l
+  pub ranges : all edgeRanges (rows edgeWidth n l) ≡ true
+  pub rising : numbered 1 (suc lastNumber) (map (λ r. r .number) (edgesOf l n)) ≡ true
+
+-- numbers rise and are below the next number
+pub record InOrder (nodes edges faces : List ℤ) (c : Counts) (h : Head) : Type 0 where
+  pub in-ranges : InRanges nodes edges faces c h
+  pub numbers : numbers (mapIn nodes edges faces c h) ≡ true
+
+-- named rows exist
+pub record Named (nodes edges faces : List ℤ) (c : Counts) (h : Head) : Type 0 where
+  pub in-order : InOrder nodes edges faces c h
+  pub named : named (mapIn nodes edges faces c h) ≡ true

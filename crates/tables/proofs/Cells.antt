@@ -1,0 +1,58 @@
+-- Laws of a table's cells under `paste`: a turn of a loop that copies, and what is read of the copy. Assumes nothing.
+use mathlib.Core.Path.{_≡_, sym, ap, _∙_}
+use mathlib.Core.List.{List, _++_}
+use Prim.Native.Nat.{ℕ, _+_, _-_, _*_, _<_, _≤_}
+use native.Mathlib.Nat.{suc-mul, mul-le-mul-right}
+use native.Mathlib.Numerals.{add-one}
+use native.Mathlib.Omega.{arith}
+use lib.ListN.{length, getD, set, take, drop, List·getD-append, length-drop}
+use lib.Seq.{paste, paste-suc, length-paste-head, getD-append-add, getD-take, getD-drop, length-take-le}
+
+module _ {A : Type 0} (d : List A) (at : ℕ) (s : List A) where
+  pub paste-more : (j : ℕ) (z : A) → at + j < length d → j < length s → set (paste d at s j) (at + j) (getD s j z) ≡ paste d at s (j + 1)
+  paste-more j z hd hs = rw add-one (paste-suc d at s j z hd hs)
+
+  -- a turn of a loop whose list was t, and which stores v
+  pub copy-more : (j : ℕ) (z : A) (t : List A) (v : A) → at + j < length d → j < length s → t ≡ paste d at s j → v ≡ getD s j z → set t (at + j) v ≡ paste d at s (j + 1)
+  copy-more j z t v hd hs e f = rw (e, f) (paste-more j z hd hs)
+
+  -- the loop's end
+  pub copy-end : (j n : ℕ) (t : List A) → t ≡ paste d at s j → j ≡ n → t ≡ paste d at s n
+  copy-end j n t e f = rw f at e
+
+  module _ (n : ℕ) (z : A) (hd : at + n ≤ length d) (hs : n ≤ length s) where
+    head : length (take at d ++ take n s) ≡ at + n
+    head = length-paste-head d at s n (omega arith) hs
+
+    pub paste-before : (k : ℕ) → k < at → getD (paste d at s n) k z ≡ getD d k z
+    paste-before k h =
+        List·getD-append (take at d ++ take n s) (drop (at + n) d) z k (omega (arith, head))
+        ∙ List·getD-append (take at d) (take n s) z k (omega (arith, length-take-le at d (omega arith)))
+        ∙ getD-take at d k z h
+
+    pub paste-in : (k : ℕ) → k < n → getD (paste d at s n) (at + k) z ≡ getD s k z
+    paste-in k h =
+        List·getD-append (take at d ++ take n s) (drop (at + n) d) z (at + k) (omega (arith, head))
+        ∙ ap (λ (m : ℕ). getD (take at d ++ take n s) (m + k) z) (sym (length-take-le at d (omega arith)))
+        ∙ getD-append-add (take at d) (take n s) k z
+        ∙ getD-take n s k z h
+
+    pub paste-after : (k : ℕ) → at + n ≤ k → getD (paste d at s n) k z ≡ getD d k z
+    paste-after k h =
+        let e : k ≡ at + n + (k - (at + n)) = omega arith in
+        let f : k ≡ length (take at d ++ take n s) + (k - (at + n)) = omega (arith, head) in
+        ap (λ (m : ℕ). getD (paste d at s n) m z) f
+        ∙ getD-append-add (take at d ++ take n s) (drop (at + n) d) (k - (at + n)) z
+        ∙ getD-drop (at + n) d (k - (at + n)) z
+        ∙ ap (λ (m : ℕ). getD d m z) (sym e)
+
+-- what a loop that moves numbers down reads: the numbers from `from + j` on are as they were
+pub moved-from : {A : Type 0} (l : List A) (at from j : ℕ) (z : A) (t : List A) → at ≤ from → from + j < length l → t ≡ paste l at (drop from l) j → getD t (from + j) z ≡ getD (drop from l) j z
+moved-from {A} l at from j z t h k e =
+    ap (λ (m : List A). getD m (from + j) z) e
+    ∙ paste-after l at (drop from l) j z (omega arith) (simp length-drop (omega arith)) (from + j) (omega arith)
+    ∙ sym (getD-drop from l j z)
+
+-- row i of n lies in the table
+pub row-room : (w n i : ℕ) → i < n → i * w + w ≤ n * w
+row-room w n i h = rw (← suc-mul) (mul-le-mul-right w h)

@@ -1,0 +1,176 @@
+-- What `find_row` answers, in the map's terms: a place is a row that is found, and missing is a row that does not exist. Assumes nothing.
+use mathlib.Core.Path.{_≡_, refl, sym, ap, _∙_}
+use mathlib.Core.Bool.{Bool, true, false}
+use mathlib.Core.Logic.{_⊎_, inl, inr}
+use mathlib.Core.List.{List, [], _∷_}
+use mathlib.Core.Option.{none, some}
+use Prim.Native.Nat.{ℕ, zero, suc, _+_, _*_, _<_, _≤_}
+use native.Mathlib.Omega.{arith}
+use lib.IntN.{ℤ, pos, negsuc, natAbs}
+use lib.ListN.{getD}
+use Rattle.lists.specs.Tests.{same}
+use Rattle.lists.specs.Scans.{any, all, find, isSome}
+use Rattle.lists.specs.Tables.{table, place}
+use Rattle.lists.specs.declared.Found.{Found}
+use Rattle.lists.specs.declared.Found.the-variants.{At, Missing}
+use Rattle.lists.proofs.Bools.{which, same-true, same-eq, same-false, differ}
+use Rattle.lists.proofs.Scans.{place-none, place-at}
+use Rattle.map.specs.Limits.{nodeWidth, edgeWidth, faceWidth}
+use Rattle.map.specs.Rows.{rows, findEdge}
+use Rattle.map.specs.Form.{nodeRanges, edgeRanges, faceRanges}
+use Rattle.tables.specs.Tables.{sameZ, column, nodesOf, facesOf, nodeAt, edgeAt, faceAt, edgeMap, Rising}
+use Rattle.tables.proofs.Order.{same-self, is-same, not-same, below-other, rise}
+use Rattle.tables.proofs.Rows.{nodes-table, edges-table, faces-table, rows-all, node-cells, edge-cells, face-cell}
+
+-- ---- the place in a list, and the scans `find` and `any`
+
+module _ {A : Type 0} (p : A → Bool) (f : ℕ → A) where
+  -- element i is the first that p takes
+  pub record First (n i : ℕ) : Type 0 where
+    pub below : i < n
+    pub taken : p (f i) ≡ true
+    pub found : find p (table f 0 n) ≡ some (f i)
+
+  found-from : (a n i : ℕ) → place p a (table f a n) ≡ At i → (i < a + n) × (p (f i) ≡ true) × (find p (table f a n) ≡ some (f i))
+  found-from a zero i e = let z : _≡_ {A = ℕ} 0 1 = cc in absurd (omega arith)
+  found-from a (suc n) i e = pick (p (f a)) refl (λ q. found-from (a + 1) n i q)
+    where
+      pick : (b : Bool) → p (f a) ≡ b → (place p (a + 1) (table f (a + 1) n) ≡ At i → (i < a + 1 + n) × (p (f i) ≡ true) × (find p (table f (a + 1) n) ≡ some (f i))) → (i < a + suc n) × (p (f i) ≡ true) × (find p (table f a (suc n)) ≡ some (f i))
+      pick true q rest =
+          let k : At a ≡ At i = rw q at e in
+          let j : a ≡ i = cc in
+          (omega arith, rw (← j) q, rw (q, j))
+      pick false q rest =
+          let r = rest (rw q at e) in
+          let h : i < a + 1 + n = r .0 in
+          (omega arith, r .1, rw q (r .2))
+
+  pub place-first : (n i : ℕ) → place p 0 (table f 0 n) ≡ At i → First n i
+  place-first n i e = let r = found-from 0 n i e in record { below = let h = r .0 in omega arith; taken = r .1; found = r .2 }
+
+  missing-from : (a n : ℕ) → place p a (table f a n) ≡ Missing → find p (table f a n) ≡ none
+  missing-from a zero e = refl
+  missing-from a (suc n) e = pick (p (f a)) refl (λ q. missing-from (a + 1) n q)
+    where
+      pick : (b : Bool) → p (f a) ≡ b → (place p (a + 1) (table f (a + 1) n) ≡ Missing → find p (table f (a + 1) n) ≡ none) → find p (table f a (suc n)) ≡ none
+      pick true q rest =
+          let k : At a ≡ Missing = rw q at e in
+          let z : _≡_ {A = ℕ} 0 1 = cc in
+          absurd (omega arith)
+      pick false q rest = rw q (rest (rw q at e))
+
+  pub place-missing : (n : ℕ) → place p 0 (table f 0 n) ≡ Missing → find p (table f 0 n) ≡ none
+  place-missing n e = missing-from 0 n e
+
+-- some element is taken exactly where one is found
+pub any-find : {A : Type 0} (p : A → Bool) (l : List A) → any p l ≡ isSome (find p l)
+any-find p [] = refl
+any-find p (r ∷ l) = let later = any-find p l in elim (which (p r)) [ inl e ↦ rw e | inr e ↦ rw e later ]
+
+any-same : {A : Type 0} (p q : A → Bool) → ((r : A) → p r ≡ q r) → (l : List A) → any p l ≡ any q l
+any-same p q h [] = refl
+any-same p q h (r ∷ l) = rw (h r, any-same p q h l)
+
+same-sym : (a b : ℕ) → same a b ≡ same b a
+same-sym a b = elim (which (same a b)) [ inl e ↦ e ∙ sym (same-eq b a (sym (same-true a b e))) | inr e ↦ e ∙ sym (same-false b a (λ q. differ a b e (sym q))) ]
+
+-- two tables that two tests take alike have one place
+place-same : {A B : Type 0} (p : A → Bool) (q : B → Bool) (f : ℕ → A) (g : ℕ → B) (a n : ℕ) → ((i : ℕ) → a ≤ i → i < a + n → p (f i) ≡ q (g i)) → place p a (table f a n) ≡ place q a (table g a n)
+place-same p q f g a zero h = refl
+place-same p q f g a (suc n) h = rw (h a (omega arith) (omega arith), place-same p q f g (a + 1) n (λ i s t. h i (omega arith) (omega arith)))
+
+-- ---- a number looked up in the first column
+
+-- a number is another exactly where they are one as natural numbers
+same-pos : (m k : ℕ) → sameZ (pos m) (pos k) ≡ same k m
+same-pos m k = elim (which (same k m)) [ inl e ↦ is-same (pos m) (pos k) (ap pos (sym (same-true k m e))) ∙ sym e | inr e ↦ not-same (pos m) (pos k) (λ q. differ k m e (sym (ap natAbs q))) ∙ sym e ]
+
+-- z is the number of row i, which is found by it
+pub record Hit {A : Type 0} (number : A → ℕ) (f : ℕ → A) (n : ℕ) (z : ℤ) (i : ℕ) : Type 0 where
+  pub below : i < n
+  pub is : z ≡ pos (number (f i))
+  pub found : find (λ r. same (number r) (natAbs z)) (table f 0 n) ≡ some (f i)
+
+module _ {A : Type 0} (w : ℕ) (l : List ℤ) (n : ℕ) (number : A → ℕ) (f : ℕ → A) (cells : (i : ℕ) → i < n → getD l (i * w) (pos 0) ≡ pos (number (f i))) where
+  -- the place in the column is the place of the row
+  pub place-column : (m : ℕ) → place (sameZ (pos m)) 0 (column w l n) ≡ place (λ r. same (number r) m) 0 (table f 0 n)
+  place-column m = place-same (sameZ (pos m)) (λ r. same (number r) m) (λ i. getD l (i * w) (pos 0)) f 0 n (λ i s t. ap (sameZ (pos m)) (cells i (omega arith)) ∙ same-pos m (number (f i)))
+
+  -- a negative number is missing
+  pub place-negative : (m : ℕ) → place (sameZ (negsuc m)) 0 (column w l n) ≡ Missing
+  place-negative m = place-none (λ i. getD l (i * w) (pos 0)) (sameZ (negsuc m)) n (λ i t. ap (sameZ (negsuc m)) (cells i t))
+
+  pub row-found : (z : ℤ) (i : ℕ) → place (sameZ z) 0 (column w l n) ≡ At i → Hit number f n z i
+  row-found (pos m) i e =
+      let r = place-first (λ r. same (number r) m) f n i (sym (place-column m) ∙ e) in
+      record { below = r .below; is = ap pos (sym (same-true (number (f i)) m (r .taken))); found = r .found }
+  row-found (negsuc m) i e =
+      let k : At i ≡ Missing = sym e ∙ place-negative m in
+      let z : _≡_ {A = ℕ} 0 1 = cc in
+      absurd (omega arith)
+
+  pub row-missing : (m : ℕ) → place (sameZ (pos m)) 0 (column w l n) ≡ Missing → find (λ r. same (number r) m) (table f 0 n) ≡ none
+  row-missing m e = place-missing (λ r. same (number r) m) f n (sym (place-column m) ∙ e)
+
+-- an answer with the case it is in
+pub which-place : (r : Found) → ((i : ℕ) × (r ≡ At i)) ⊎ (r ≡ Missing)
+which-place (At i) = inl (i, refl)
+which-place Missing = inr refl
+
+-- in rising order row i has the place i
+pub row-place : (w : ℕ) (l : List ℤ) (n : ℕ) → Rising w l n → (i : ℕ) → i < n → place (sameZ (getD l (i * w) (pos 0))) 0 (column w l n) ≡ At i
+row-place w l n r i h =
+    let f : ℕ → ℤ = λ k. getD l (k * w) (pos 0) in
+    place-at f (sameZ (f i)) n i h (λ k t. below-other (f k) (f i) (rise f n (r .rising) k i t h)) (same-self (f i))
+
+-- ---- nodes, edges and faces
+
+module _ (l : List ℤ) (n : ℕ) where
+  module _ (ranges : all nodeRanges (rows nodeWidth n l) ≡ true) where
+    node-first : (i : ℕ) → i < n → getD l (i * nodeWidth) (pos 0) ≡ pos (nodeAt l i .number)
+    node-first i t = node-cells l i (rows-all nodeWidth l nodeRanges n ranges i t) .number
+
+    pub node-found : (z : ℤ) (i : ℕ) → place (sameZ z) 0 (column nodeWidth l n) ≡ At i → (i < n) × (z ≡ pos (nodeAt l i .number)) × (find (λ r. same (r .number) (natAbs z)) (nodesOf l n) ≡ some (nodeAt l i))
+    node-found z i e =
+        let h = row-found nodeWidth l n (λ r. r .number) (nodeAt l) node-first z i e in
+        (h .below, h .is, ap (find (λ r. same (r .number) (natAbs z))) (nodes-table l n) ∙ h .found)
+
+    pub node-missing : (m : ℕ) → place (sameZ (pos m)) 0 (column nodeWidth l n) ≡ Missing → find (λ r. same (r .number) m) (nodesOf l n) ≡ none
+    node-missing m e = ap (find (λ r. same (r .number) m)) (nodes-table l n) ∙ row-missing nodeWidth l n (λ r. r .number) (nodeAt l) node-first m e
+
+    pub node-negative : (m : ℕ) → place (sameZ (negsuc m)) 0 (column nodeWidth l n) ≡ Missing
+    node-negative = place-negative nodeWidth l n (λ r. r .number) (nodeAt l) node-first
+
+  module _ (ranges : all edgeRanges (rows edgeWidth n l) ≡ true) where
+    edge-first : (i : ℕ) → i < n → getD l (i * edgeWidth) (pos 0) ≡ pos (edgeAt l i .number)
+    edge-first i t = edge-cells l i (rows-all edgeWidth l edgeRanges n ranges i t) .number
+
+    pub edge-found : (z : ℤ) (i : ℕ) → place (sameZ z) 0 (column edgeWidth l n) ≡ At i → (i < n) × (z ≡ pos (edgeAt l i .number)) × (findEdge (edgeMap l n) (natAbs z) ≡ some (edgeAt l i))
+    edge-found z i e =
+        let h = row-found edgeWidth l n (λ r. r .number) (edgeAt l) edge-first z i e in
+        (h .below, h .is, ap (find (λ r. same (r .number) (natAbs z))) (edges-table l n) ∙ h .found)
+
+    pub edge-missing : (m : ℕ) → place (sameZ (pos m)) 0 (column edgeWidth l n) ≡ Missing → findEdge (edgeMap l n) m ≡ none
+    edge-missing m e = ap (find (λ r. same (r .number) m)) (edges-table l n) ∙ row-missing edgeWidth l n (λ r. r .number) (edgeAt l) edge-first m e
+
+    pub edge-negative : (m : ℕ) → place (sameZ (negsuc m)) 0 (column edgeWidth l n) ≡ Missing
+    edge-negative = place-negative edgeWidth l n (λ r. r .number) (edgeAt l) edge-first
+
+  module _ (ranges : all faceRanges (rows faceWidth n l) ≡ true) where
+    face-first : (i : ℕ) → i < n → getD l (i * faceWidth) (pos 0) ≡ pos (faceAt l i)
+    face-first i t = face-cell l i (rows-all faceWidth l faceRanges n ranges i t)
+
+    -- the map's test of a face, as a search
+    has-face : (m : ℕ) → any (same m) (facesOf l n) ≡ isSome (find (λ k. same k m) (table (faceAt l) 0 n))
+    has-face m = ap (any (same m)) (faces-table l n) ∙ any-same (same m) (λ k. same k m) (λ k. same-sym m k) (table (faceAt l) 0 n) ∙ any-find (λ k. same k m) (table (faceAt l) 0 n)
+
+    pub face-found : (z : ℤ) (i : ℕ) → place (sameZ z) 0 (column faceWidth l n) ≡ At i → (i < n) × (z ≡ pos (faceAt l i)) × (any (same (natAbs z)) (facesOf l n) ≡ true)
+    face-found z i e =
+        let h = row-found faceWidth l n (λ k. k) (faceAt l) face-first z i e in
+        (h .below, h .is, has-face (natAbs z) ∙ ap isSome (h .found))
+
+    pub face-missing : (m : ℕ) → place (sameZ (pos m)) 0 (column faceWidth l n) ≡ Missing → any (same m) (facesOf l n) ≡ false
+    face-missing m e = has-face m ∙ ap isSome (row-missing faceWidth l n (λ k. k) (faceAt l) face-first m e)
+
+    pub face-negative : (m : ℕ) → place (sameZ (negsuc m)) 0 (column faceWidth l n) ≡ Missing
+    face-negative = place-negative faceWidth l n (λ k. k) (faceAt l) face-first

@@ -1,0 +1,2 @@
+-- `Tables`: the rows that a table holds, and what the functions on tables require.
+pub mod Tables

@@ -1,0 +1,117 @@
+// Rows in lent slices of numbers: w numbers to a row, rows from the front in rising number order, zeros behind.
+use lists::Found;
+ghost use mathlib.Core.Path.{_≡_};
+ghost use Prim.Native.Nat.{ℕ, _+_, _*_, _-_, _<_, _≤_};
+ghost use lib.ListN.{getD, length, drop, take, replicate};
+ghost use lib.Seq.{paste};
+ghost use lib.IntN.{pos, natAbs};
+ghost use Rattle.lists.specs.Tables.{place, sweep};
+ghost use Rattle.curves.specs.Curves.{Run, curveOf};
+ghost use Rattle.map.specs.Rows.{cell};
+ghost use Rattle.tables.specs.Tables.{sameZ, column, Rising, replaceAt, closed, EdgeRow, edgeCellsAt, edgeAt};
+
+// How many rows of each table are in use.
+pub struct Counts {
+    pub nodes: usize,
+    pub edges: usize,
+    pub faces: usize,
+}
+
+// ---- any table
+
+// The row of a number, by halves.
+pub fn find_row(t: &[i64], w: usize, count: usize, number: i64) -> Found
+    requires { ⌜ Rising w (now t) count ⌝ }
+    ensures { λ r. ⌜ r ≡ place (sameZ number) 0 (column w (now (t .entry)) count) ⌝ }
+{
+    let mut lo = 0;
+    let mut hi = count;
+    while lo < hi {
+        let mid = lo + (hi - lo) / 2;
+        let z = t[mid * w];
+        if z == number {
+            return Found::At(mid);
+        }
+        if z < number {
+            lo = mid + 1;
+        } else {
+            hi = mid;
+        }
+    }
+    Found::Missing
+}
+
+// n numbers from `from` on are moved down to `at` on.
+fn move_down(t: &mut [i64], at: usize, from: usize, n: usize)
+    requires { ⌜ (at ≤ from) × (from + n ≤ length (now t)) ⌝ }
+    ensures { λ r. ⌜ now (t .exit) ≡ paste (now (t .entry)) at (drop from (now (t .entry))) n ⌝ }
+{
+    let mut j = 0;
+    while j < n {
+        let v = t[from + j];
+        t[at + j] = v;
+        j += 1;
+    }
+}
+
+// n numbers from `at` on are 0.
+pub fn clear(t: &mut [i64], at: usize, n: usize)
+    requires { ⌜ at + n ≤ length (now t) ⌝ }
+    ensures { λ r. ⌜ now (t .exit) ≡ paste (now (t .entry)) at (replicate n (pos 0)) n ⌝ }
+{
+    let mut j = 0;
+    while j < n {
+        t[at + j] = 0;
+        j += 1;
+    }
+}
+
+// The row stands from `at` on.
+pub fn write(t: &mut [i64], at: usize, row: &[i64])
+    requires { ⌜ at + length (now row) ≤ length (now t) ⌝ }
+    ensures { λ r. ⌜ now (t .exit) ≡ paste (now (t .entry)) at (now (row .entry)) (length (now (row .entry))) ⌝ }
+{
+    let mut j = 0;
+    while j < row.len() {
+        let v = row[j];
+        t[at + j] = v;
+        j += 1;
+    }
+}
+
+// Row i goes, the rows after it move down, and the last is cleared.
+pub fn remove_row(t: &mut [i64], w: usize, count: usize, i: usize)
+    requires { ⌜ (i < count) × (count * w ≤ length (now t)) ⌝ }
+    ensures { λ r. ⌜ now (t .exit) ≡ closed w (now (t .entry)) count i ⌝ }
+{
+    let at = i * w;
+    let end = count * w;
+    let from = at + w;
+    move_down(t, at, from, end - from);
+    clear(t, end - w, w);
+}
+
+// `new` for `old` in column k.
+pub fn replace_column(t: &mut [i64], w: usize, count: usize, k: usize, old: i64, new: i64)
+    requires { ⌜ (k < w) × (count * w ≤ length (now t)) ⌝ }
+    ensures { λ r. ⌜ now (t .exit) ≡ sweep (λ l i. replaceAt old new l (i * w + k)) (now (t .entry)) 0 count ⌝ }
+{
+    for i in 0..count {
+        if t[i * w + k] == old {
+            t[i * w + k] = new;
+        }
+    }
+}
+
+// ---- edge rows
+
+// The curve of edge row i.
+pub fn curve_of(edges: &[i64], i: usize) -> &[i64]
+    requires { ⌜ EdgeRow (now edges) i ⌝ }
+    ensures { λ r. ⌜ Run (now r) × (curveOf (now r) ≡ edgeAt (now (edges .entry)) i .curve) ⌝ }
+{
+    let a = i * 32 + 8;
+    let n = edges[i * 32 + 7] as usize;
+    let b = a + 2 * n;
+    &edges[a..b]
+}
