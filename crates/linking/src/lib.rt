@@ -31,7 +31,11 @@ fn later(edges: &[i64], own: usize, c: &[i64], some: bool, k: usize, p: usize, w
     if !some {
         return p;
     }
-    if links::before(links::step_with(edges, own, c, k), w) { p } else { k }
+    if links::before(links::step_with(edges, own, c, k), w) {
+        p
+    } else {
+        k
+    }
 }
 
 // The choice with the departure p besides, for the direction v.
@@ -58,7 +62,16 @@ fn chosen(edges: &[i64], own: usize, c: &[i64], h: Choice, p: usize, v: Step) ->
 }
 
 // The first departure from the node met turning clockwise from v, but for the positions a and b, where edge row `own` has the curve c.
-pub fn first_clockwise(edges: &[i64], count: usize, own: usize, c: &[i64], node: i64, v: Step, a: usize, b: usize) -> Found
+pub fn first_clockwise(
+    edges: &[i64],
+    count: usize,
+    own: usize,
+    c: &[i64],
+    node: i64,
+    v: Step,
+    a: usize,
+    b: usize,
+) -> Found
     requires { ⌜ EdgeRows (now edges) count × (own < count → Run (now c)) × (InRange (v .from)) × (InRange (v .to)) ⌝ }
     ensures { λ r. ⌜ r ≡ firstMet (wayWith (now (edges .entry)) own (now (c .entry))) (wayTo (v .from) (v .to)) (leaving (now (edges .entry)) count node a b) ⌝ }
 {
@@ -76,7 +89,11 @@ pub fn first_clockwise(edges: &[i64], count: usize, own: usize, c: &[i64], node:
     if h.under {
         return Found::At(h.below);
     }
-    if h.any { Found::At(h.all) } else { Found::Missing }
+    if h.any {
+        Found::At(h.all)
+    } else {
+        Found::Missing
+    }
 }
 
 // The first departure met turning clockwise from the departure p, where edge row `own` has the curve c; with no other, p.
@@ -85,7 +102,16 @@ pub fn clockwise(edges: &[i64], count: usize, own: usize, c: &[i64], p: usize) -
     ensures { λ r. ⌜ r ≡ lawful (wayWith (now (edges .entry)) own (now (c .entry))) same p (keep (leavesNode (now (edges .entry)) (sideCell (now (edges .entry)) p 1)) (positions count)) ⌝ }
 {
     let node = links::dart_cell(edges, p, 1);
-    let found = first_clockwise(edges, count, own, c, node, links::step_with(edges, own, c, p), p, p);
+    let found = first_clockwise(
+        edges,
+        count,
+        own,
+        c,
+        node,
+        links::step_with(edges, own, c, p),
+        p,
+        p,
+    );
     let Found::At(q) = found else {
         return p;
     };
