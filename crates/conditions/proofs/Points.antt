@@ -1,6 +1,6 @@
 -- Coordinates as they are tested and cast, the points of node rows, and places on curves. Assumes nothing.
 use mathlib.Core.Path.{_≡_, refl, sym, ap, _∙_, subst}
-use mathlib.Core.Bool.{Bool, true, false, _&&_, _||_, false≢true}
+use mathlib.Core.Bool.{Bool, true, false, _&&_, false≢true}
 use mathlib.Core.Logic.{inl, inr}
 use mathlib.Core.List.{List, [], _∷_}
 use Prim.Native.Nat.{ℕ, _+_, _*_, _-_, _/_, _≤_, _<_}
@@ -34,6 +34,10 @@ use Rattle.tables.proofs.Cells.{row-room}
 use Rattle.tables.proofs.Rows.{row-cell, rows-all}
 
 -- ---- coordinates
+
+pub coordinate-pos : (z : ℤ) → coordinate z ≡ true → z ≡ pos (natAbs z)
+coordinate-pos (pos n) e = refl
+coordinate-pos (negsuc n) e = absurd (false≢true e)
 
 pub coordinate-le : (z : ℤ) → coordinate z ≡ true → natAbs z ≤ maxCoordinate
 coordinate-le (pos n) e = leb-true n maxCoordinate (and-right (leZ (pos 0) (pos n)) (leb n maxCoordinate) e)

@@ -1,9 +1,9 @@
 -- The first reason of a list, reason by reason. Assumes nothing.
-use mathlib.Core.Path.{_≡_, refl, sym, ap, _∙_}
+use mathlib.Core.Path.{_≡_, refl, sym, _∙_}
 use mathlib.Core.Bool.{Bool, true, false, cond}
 use mathlib.Core.Logic.{inl, inr}
-use mathlib.Core.List.{List, [], _∷_, _++_}
-use Prim.Native.Nat.{ℕ, suc, _<_}
+use mathlib.Core.List.{[], _∷_, _++_}
+use Prim.Native.Nat.{ℕ, _<_}
 use native.Mathlib.Omega.{arith}
 use lib.Dec.{ltb}
 use borrow.Author.Tests.{ltb-true}
@@ -30,11 +30,19 @@ pub first-step : (n : ℕ) (b : Bool) (rs : Reasons) → firstReason ((n, b) ∷
 unfolding firstReason
 first-step n b rs = refl
 
+-- no reason holds: not the first, nor one of the others
+pub first-zero : (n : ℕ) (b : Bool) (rs : Reasons) → 0 < n → firstReason ((n, b) ∷ rs) ≡ 0 → (b ≡ false) × (firstReason rs ≡ 0)
+first-zero n b rs some e =
+    elim (which b) [
+      | inl h ↦ let z : n ≡ 0 = sym (first-hit n b rs h) ∙ e in absurd (omega arith)
+      | inr h ↦ (h, sym (first-miss n b rs h) ∙ e)
+    ]
+
 -- of two lists: the first reason of the one, where it has one
-pub first-append : (rs ss : Reasons) (n : ℕ) → firstReason rs ≡ suc n → firstReason (rs ++ ss) ≡ suc n
-first-append [] ss n e = let z : 0 ≡ suc n = sym first-none ∙ e in absurd (omega arith)
-first-append (r ∷ rs) ss n e =
-    let later = first-append rs ss n in
+pub first-append : (rs ss : Reasons) (n : ℕ) → 0 < n → firstReason rs ≡ n → firstReason (rs ++ ss) ≡ n
+first-append [] ss n some e = let z : 0 ≡ n = sym first-none ∙ e in absurd (omega arith)
+first-append (r ∷ rs) ss n some e =
+    let later = first-append rs ss n some in
     elim (which (r .1)) [
       | inl h ↦ first-hit (r .0) (r .1) (rs ++ ss) h ∙ sym (first-hit (r .0) (r .1) rs h) ∙ e
       | inr h ↦ first-miss (r .0) (r .1) (rs ++ ss) h ∙ later (sym (first-miss (r .0) (r .1) rs h) ∙ e)

@@ -1,6 +1,6 @@
 -- The face above the highest of the floors is that of the fold over the segments of all edges. Assumes nothing.
 use mathlib.Core.Path.{_≡_, refl, sym, ap, _∙_}
-use mathlib.Core.Bool.{Bool, true, false, cond}
+use mathlib.Core.Bool.{Bool, cond}
 use mathlib.Core.Logic.{inl, inr}
 use mathlib.Core.List.{List, [], _∷_, _++_, map, flatMap}
 use mathlib.Core.Option.{Option, none, some}
@@ -8,11 +8,11 @@ use Prim.Native.Nat.{ℕ}
 use Rattle.lists.specs.Scans.{keep, fold}
 use Rattle.lists.proofs.Bools.{which}
 use Rattle.plane.specs.declared.Point.{Point}
-use Rattle.plane.specs.Below.{Segment, passesBelow, higher}
+use Rattle.plane.specs.Below.{passesBelow, higher}
 use Rattle.curves.specs.Curves.{segments}
-use Rattle.map.specs.Rows.{Edge, Map}
+use Rattle.map.specs.Rows.{Map}
 use Rattle.map.specs.Faces.{Floor, floorOf, floors, highest, faceAbove, faceOfPoint}
-use Rattle.floors.specs.Highest.{over, passed, rowed}
+use Rattle.floors.specs.Highest.{over, rowed}
 
 module _ {A S : Type 0} (g : S → A → S) where
   fold-append : (s : S) (l r : List A) → fold g s (l ++ r) ≡ fold g (fold g s l) r

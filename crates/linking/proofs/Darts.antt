@@ -1,12 +1,12 @@
 -- Directed edges as they are written, and what links and positions name. Assumes nothing.
-use mathlib.Core.Path.{_≡_, refl, sym, ap, _∙_, subst}
+use mathlib.Core.Path.{_≡_, refl, sym, ap, _∙_}
 use mathlib.Core.Logic.{inl, inr}
 use mathlib.Core.Bool.{Bool, true, false, cond}
 use mathlib.Core.List.{List}
-use Prim.Native.Nat.{ℕ, zero, suc, _+_, _*_, _/_, _<_, _≤_}
+use mathlib.Core.Option.{some}
+use Prim.Native.Nat.{ℕ, zero, suc, _*_, _/_, _<_, _≤_}
 use native.Mathlib.Omega.{arith}
-use lib.IntN.{ℤ, pos, negsuc, negℤ, natAbs}
-use lib.ListN.{getD}
+use lib.IntN.{ℤ, pos, negℤ}
 use Rattle.lists.specs.Scans.{isSome}
 use Rattle.lists.specs.Tables.{place}
 use Rattle.lists.specs.declared.Found.the-variants.{At}
@@ -18,7 +18,7 @@ use Rattle.map.specs.Limits.{edgeWidth}
 use Rattle.map.specs.Rows.{dartOf, dartCell, hasEdge, findEdge}
 use Rattle.map.specs.Links.{instead}
 use Rattle.tables.specs.Tables.{sameZ, column, edgeAt, edgeMap, EdgeRows}
-use Rattle.tables.proofs.Order.{is-same, same-is, not-same}
+use Rattle.tables.proofs.Order.{is-same, same-is}
 use Rattle.tables.proofs.Rows.{edge-rows-rising, edge-number-in}
 use Rattle.tables.proofs.Lookups.{row-place, edge-found}
 use Rattle.links.specs.Positions.{dartAt, sideCell}
@@ -55,11 +55,14 @@ new-dart old new z h k =
 -- ---- what they name
 
 module _ {l : List ℤ} {n : ℕ} (t : EdgeRows l n) where
-  -- the edge of a row exists
-  pub row-named : (i : ℕ) → i < n → hasEdge (edgeMap l n) (edgeAt l i .number) ≡ true
-  row-named i h =
+  -- the row of an edge's number
+  pub row-found : (i : ℕ) → i < n → findEdge (edgeMap l n) (edgeAt l i .number) ≡ some (edgeAt l i)
+  row-found i h =
       let found : place (sameZ (pos (edgeAt l i .number))) 0 (column edgeWidth l n) ≡ At i = ap (λ (z : ℤ). place (sameZ z) 0 (column edgeWidth l n)) (sym (cells-of t i h .number)) ∙ row-place edgeWidth l n (edge-rows-rising t) i h in
-      ap isSome (edge-found l n (t .ranges) (pos (edgeAt l i .number)) i found .2)
+      edge-found l n (t .ranges) (pos (edgeAt l i .number)) i found .2
+
+  pub row-named : (i : ℕ) → i < n → hasEdge (edgeMap l n) (edgeAt l i .number) ≡ true
+  row-named i h = ap isSome (row-found i h)
 
   pub dart-named : (p : ℕ) → p < n * 2 → hasEdge (edgeMap l n) (dartAt l p .edge) ≡ true
   dart-named p h = row-named (p / 2) (omega arith)

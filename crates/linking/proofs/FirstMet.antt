@@ -3,16 +3,14 @@ use mathlib.Core.Path.{_≡_, refl, sym, ap, ap₂, _∙_}
 use mathlib.Core.Logic.{inl, inr, ⊎-elim}
 use mathlib.Core.Bool.{Bool, true, false, cond, _&&_}
 use mathlib.Core.List.{List, [], _∷_, map, map-id, List·Memᴰ, List·Memᴰ·head, List·Memᴰ·tail, List·Memᴰ·cases-cons, List·Memᴰ·not-nil}
-use Prim.Native.Nat.{ℕ, zero, suc, _+_, _*_, _/_, _<_}
+use Prim.Native.Nat.{ℕ, zero, suc, _+_, _*_, _/_, _<_, _≤_}
 use native.Mathlib.Omega.{arith}
 use lib.IntN.{ℤ}
-use Rattle.lists.specs.Tests.{same}
-use Rattle.lists.specs.declared.Found.{Found}
 use Rattle.lists.specs.declared.Found.the-variants.{At, Missing}
 use Rattle.lists.specs.Scans.{keep}
 use Rattle.lists.specs.Tables.{table}
 use Rattle.lists.proofs.Keeps.{keep-in, keep-map}
-use Rattle.lists.proofs.Bools.{same-false}
+use Rattle.lists.proofs.Bools.{equal?, same-false}
 use Rattle.plane.specs.Directions.{Way, before}
 use Rattle.rotation.specs.Law.{greatest, pick, firstClockwise}
 use Rattle.rotation.proofs.Node.{first-in}
@@ -94,6 +92,13 @@ from-in a (suc n) p m = ⊎-elim (λ e. omega arith) (λ k. let h : p < a + 1 + 
 
 pub position-below : (n p : ℕ) → List·Memᴰ p (positions n) → p < n * 2
 position-below n p m = let h = from-in 0 (n * 2) p m in omega arith
+
+from-has : (a n p : ℕ) → a ≤ p → p < a + n → List·Memᴰ p (table (λ q. q) a n)
+from-has a zero p h k = absurd (omega arith)
+from-has a (suc n) p h k = elim (equal? p a) [ inl e ↦ List·Memᴰ·head e | inr d ↦ List·Memᴰ·tail (from-has (a + 1) n p (omega arith) (omega arith)) ]
+
+pub position-has : (n p : ℕ) → p < n * 2 → List·Memᴰ p (positions n)
+position-has n p h = from-has 0 (n * 2) p (omega arith) (omega arith)
 
 pub leaving-below : (l : List ℤ) (n : ℕ) (node : ℤ) (a b p : ℕ) → List·Memᴰ p (leaving l n node a b) → p < n * 2
 leaving-below l n node a b p m = position-below n p (keep-in _ (positions n) m .0)

@@ -3,26 +3,22 @@
 use mathlib.Core.Path.{_≡_, refl, sym, ap, ap₂, _∙_, subst}
 use mathlib.Core.Logic.{_⊎_, inl, inr, ⊎-elim}
 use mathlib.Core.Bool.{Bool, true, false, cond, _&&_}
-use mathlib.Core.List.{List, [], _∷_, map}
+use mathlib.Core.List.{List}
 use Prim.Native.Nat.{ℕ, zero, suc, _+_, _*_, _-_, _/_, _%_, _<_, _≤_}
-use native.Mathlib.Nat.{zero-add}
 use native.Mathlib.Omega.{arith}
-use lib.IntN.{ℤ, pos, natAbs}
-use lib.ListN.{length, getD, set, take, drop, length-set, length-drop}
-use lib.Seq.{getD-set-same, getD-set-other, getD-take, getD-drop, ext-getD, length-take-le, drop-drop}
+use lib.IntN.{ℤ, pos}
+use lib.ListN.{length, getD, set, drop, length-set, length-drop}
+use lib.Seq.{getD-set-same, getD-set-other, getD-drop, ext-getD, length-take-le}
 use Rattle.lists.specs.Tests.{same}
 use Rattle.lists.specs.Scans.{all, find, isSome}
 use Rattle.lists.specs.Tables.{table, sweep}
-use Rattle.lists.proofs.Bools.{which, same-true, same-eq, same-false, differ}
+use Rattle.lists.proofs.Bools.{which, same-true, differ}
 use Rattle.lists.proofs.Scans.{table-same}
-use Rattle.curves.specs.Curves.{curveOf}
-use Rattle.curves.proofs.Runs.{and-left, and-right}
 use Rattle.map.specs.Limits.{edgeWidth, lastNumber}
-use Rattle.map.specs.Rows.{Edge, rows, cell, edgeOf, dartOf, hasEdge}
+use Rattle.map.specs.Rows.{Edge, cell, edgeOf, dartOf, hasEdge}
 use Rattle.map.specs.Form.{edgeRanges, numbered}
 use Rattle.map.specs.Links.{withLinks}
-use Rattle.planar.specs.Map.{Dart}
-use Rattle.tables.specs.Tables.{sameZ, replaceAt, rowAt, edgesOf, edgeAt, edgeMap, EdgeRows}
+use Rattle.tables.specs.Tables.{sameZ, replaceAt, rowAt, edgeAt, edgeMap, EdgeRows}
 use Rattle.tables.proofs.Order.{replace-length}
 use Rattle.tables.proofs.Rows.{row-cell, rows-table, edges-table, edge-numbers}
 use Rattle.links.specs.Positions.{sidePlace, sideCell}

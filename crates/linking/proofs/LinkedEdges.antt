@@ -1,17 +1,16 @@
 -- An edge linked in and unlinked in the table is so in the map. Assumes nothing.
 use mathlib.Core.Path.{_≡_, refl, sym, ap, ap₂, _∙_, subst}
-use mathlib.Core.Logic.{_⊎_, inl, inr, ⊎-elim}
-use mathlib.Core.Bool.{Bool, true, false, cond, not, _&&_}
-use mathlib.Core.List.{List, [], _∷_, map, List·Memᴰ}
+use mathlib.Core.Logic.{_⊎_, inl, inr}
+use mathlib.Core.Bool.{Bool, not, _&&_}
+use mathlib.Core.List.{List, [], map}
 use Prim.Native.Nat.{ℕ, _+_, _*_, _-_, _/_, _%_, _<_, _≤_}
 use native.Mathlib.Omega.{arith}
 use lib.IntN.{ℤ, pos}
-use lib.ListN.{getD}
 use Rattle.lists.specs.Tests.{same}
 use Rattle.lists.specs.Scans.{keep}
 use Rattle.lists.specs.declared.Found.{Found}
 use Rattle.lists.specs.declared.Found.the-variants.{At, Missing}
-use Rattle.lists.proofs.Bools.{which, equal?, same-eq, same-false, same-true, differ, not-true, eq2, eq3}
+use Rattle.lists.proofs.Bools.{equal?, same-eq, same-false, not-true, eq2, eq3}
 use Rattle.lists.proofs.Keeps.{keep-in, keep-map}
 use Rattle.lists.proofs.Members.{map-cong}
 use Rattle.plane.specs.Directions.{Way}
@@ -25,12 +24,12 @@ use Rattle.map.specs.Darts.{leaves, departures, next, course, way}
 use Rattle.map.specs.Links.{redirect, lead, linkIn, linkEdge, unlinkEdge}
 use Rattle.tables.specs.Tables.{sameZ, edgesOf, edgeAt, edgeMap, EdgeRows}
 use Rattle.links.specs.Positions.{reverseOf, dartAt, sidePlace, sideCell, wayAt}
-use Rattle.links.proofs.Positions.{dart-even, dart-odd, dart-reverse, dart-injective, reverse-below, number-injective, cell-leaves, cell-next, next-named, next-there, way-is}
+use Rattle.links.proofs.Positions.{dart-even, dart-odd, dart-reverse, dart-injective, reverse-below, number-injective, cell-leaves, cell-next, next-there, way-is}
 use Rattle.linking.specs.Linking.{positions, leavesNode, leaving, firstMet, redirected, linkedAt, linkedWhere, linkedIn, linkedEdge, unlinkedEdge}
 use Rattle.linking.proofs.Kept.{Relinked, relinked-then, redirected-relinked}
 use Rattle.linking.proofs.FirstMet.{first-none, keep-same, keep-both, position-below, leaving-below}
-use Rattle.linking.proofs.Darts.{cell-dart, dart-least, link-named, written-named}
-use Rattle.linking.proofs.LinksKept.{redirected-kept, linked-at-kept, met-below, linked-in-kept, linked-in-relinked}
+use Rattle.linking.proofs.Darts.{dart-least, link-named, written-named}
+use Rattle.linking.proofs.LinksKept.{redirected-kept, met-below, linked-in-kept, linked-in-relinked}
 use Rattle.linking.proofs.Departures.{departures-map, met-found, met-nothing}
 use Rattle.linking.proofs.Redirected.{redirected-map, stored-map, dart-kept}
 

@@ -1,10 +1,9 @@
 -- What is required of rows is kept where links are redirected, stored, and a departure is linked in. Assumes nothing.
-use mathlib.Core.Path.{_≡_, refl, sym, ap, _∙_, subst}
+use mathlib.Core.Path.{_≡_, refl, ap, _∙_}
 use mathlib.Core.Logic.{_⊎_, inl, inr}
 use mathlib.Core.Bool.{Bool, true, false, cond}
 use mathlib.Core.List.{List}
-use Prim.Native.Nat.{ℕ, _+_, _*_, _/_, _<_, _≤_}
-use native.Mathlib.Omega.{arith}
+use Prim.Native.Nat.{ℕ, _*_, _<_}
 use lib.IntN.{ℤ}
 use lib.ListN.{set}
 use Rattle.lists.specs.declared.Found.{Found}
@@ -15,7 +14,7 @@ use Rattle.tables.specs.Tables.{sameZ, edgeMap, EdgeRows}
 use Rattle.links.specs.Positions.{reverseOf, dartAt, sidePlace, sideCell, wayAt}
 use Rattle.links.proofs.Positions.{reverse-below}
 use Rattle.linking.specs.Linking.{redirected, linkedAt, linkedWhere, linkedIn, leaving, firstMet}
-use Rattle.linking.proofs.Kept.{newFor, Relinked, relinked-then, redirected-relinked, redirected-link, stored-relinked, stored-here, stored-there, rows-kept, has-kept}
+use Rattle.linking.proofs.Kept.{Relinked, relinked-then, redirected-relinked, redirected-link, stored-relinked, stored-here, stored-there, rows-kept, has-kept}
 use Rattle.linking.proofs.Darts.{link-named, written-named}
 use Rattle.linking.proofs.FirstMet.{met-in, leaving-below}
 

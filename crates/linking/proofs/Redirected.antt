@@ -1,19 +1,18 @@
 -- Links changed in the table are links changed in the map: redirected, and stored. Assumes nothing.
-use mathlib.Core.Path.{_≡_, refl, sym, ap, ap₂, _∙_, subst}
+use mathlib.Core.Path.{_≡_, sym, ap, ap₂, _∙_}
 use mathlib.Core.Logic.{_⊎_, inl, inr}
-use mathlib.Core.Bool.{Bool, true, false, cond}
+use mathlib.Core.Bool.{cond}
 use mathlib.Core.List.{List, map}
-use Prim.Native.Nat.{ℕ, _+_, _*_, _/_, _%_, _<_, _≤_}
+use Prim.Native.Nat.{ℕ, _+_, _*_, _/_, _<_, _≤_}
 use native.Mathlib.Omega.{arith}
 use lib.IntN.{ℤ, pos}
 use lib.ListN.{getD, set}
 use Rattle.lists.specs.Tests.{same}
-use Rattle.lists.specs.Tables.{table}
 use Rattle.lists.proofs.Bools.{equal?, same-eq, same-false}
 use Rattle.lists.proofs.Scans.{table-same}
 use Rattle.planar.specs.Map.{Dart}
 use Rattle.map.specs.Limits.{edgeWidth}
-use Rattle.map.specs.Rows.{Edge, Map, dartOf, dartCell, setEdges, atEdge}
+use Rattle.map.specs.Rows.{Edge, dartOf, dartCell, setEdges, atEdge}
 use Rattle.map.specs.Links.{withLinks, instead, redirect, lead}
 use Rattle.tables.specs.Tables.{edgesOf, edgeAt, edgeMap, EdgeRows}
 use Rattle.tables.proofs.Rows.{map-table, edges-table}

@@ -1,13 +1,11 @@
 -- `conditions::curve_reason` meets its contract: each test answers its reason, in order. Assumes nothing.
-use mathlib.Core.Path.{_≡_, sym, ap, _∙_}
-use mathlib.Core.Bool.{Bool, true, false, not, _&&_, _||_}
-use borrow.Author.Tests.{not-false, not-true}
+use mathlib.Core.Path.{_≡_, sym, _∙_}
+use mathlib.Core.Bool.{Bool, false, not}
+use borrow.Author.Tests.{not-false}
 use Rattle.curves.specs.Curves.{Run, isRun}
 use Rattle.map.specs.Reasons.{firstReason}
 use Rattle.conditions.proofs.curve_reason.Statement.{statement}
 use Rattle.conditions.proofs.curve_reason.Tie as tie
-use Rattle.conditions.proofs.curve_reason.Reads as reads
-use Rattle.conditions.proofs.curve_reason.Lts as lts
 
 returns : tie.Need-returns
 unfolding firstReason

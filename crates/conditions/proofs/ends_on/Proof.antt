@@ -1,5 +1,4 @@
 -- `conditions::ends_on` meets its contract: the points that are compared are those of the curve's ends and of the nodes. Assumes nothing.
-use borrow.Author.Needs.{needs}
 use Rattle.conditions.proofs.ends_on.Statement.{statement}
 use Rattle.conditions.proofs.ends_on.Tie as tie
 

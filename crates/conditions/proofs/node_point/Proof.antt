@@ -1,6 +1,5 @@
 -- `conditions::node_point` meets its contract: the numbers of a node row in range are coordinates. Assumes nothing.
 use borrow.Author.Needs.{needs}
-use mathlib.Core.Path.{refl}
 use Prim.Native.Nat.{_+_, _*_}
 use lib.IntN.{pos}
 use lib.ListN.{getD}

@@ -1,7 +1,7 @@
 -- `floors::face_at` meets its contract: a number that is not negative keeps its value. Assumes nothing.
 use borrow.Author.Needs.{needs, sfits-of}
-use mathlib.Core.Path.{_≡_, refl, sym, ap, _∙_}
-use lib.IntN.{ℤ, pos, natAbs}
+use mathlib.Core.Path.{refl}
+use lib.IntN.{pos}
 use lib.ListN.{getD}
 use mir.Syntax.{w64}
 use mir.Facts.{toZ-ofZ}

@@ -1,7 +1,6 @@
 -- `floors::floor_of` meets its contract: the ends are ordered by x, and the upper side goes by which end is the first. Assumes nothing.
 use mathlib.Core.Path.{refl}
 use native.Mathlib.Omega.{arith}
-use lib.Dec.{leb, ltb}
 use borrow.Author.Tests.{lt-ltb, le-ltb, le-leb, lt-leb}
 use Rattle.floors.proofs.floor_of.Statement.{statement}
 use Rattle.floors.proofs.floor_of.Tie as tie

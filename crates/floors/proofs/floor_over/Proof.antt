@@ -1,6 +1,6 @@
 -- `floors::floor_over` meets its contract: curve and faces are those of the edge row. Assumes nothing.
 use borrow.Author.Needs.{needs}
-use mathlib.Core.Path.{_≡_, sym, ap, _∙_}
+use mathlib.Core.Path.{ap, _∙_}
 use native.Mathlib.Omega.{arith}
 use lib.IntN.{natAbs}
 use lib.Signed.{nonNeg}

@@ -1,7 +1,6 @@
 -- `floors::floor_with` meets its contract. Assumes nothing.
-use mathlib.Core.Path.{_≡_, sym, ap, _∙_}
+use mathlib.Core.Path.{sym, ap, _∙_}
 use borrow.Author.Tests.{not-true, not-false}
-use Rattle.map.specs.Faces.{Floor}
 use Rattle.floors.specs.Highest.{held, over}
 use Rattle.floors.proofs.floor_with.Statement.{statement}
 use Rattle.floors.proofs.floor_with.Tie as tie

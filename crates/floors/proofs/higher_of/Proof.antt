@@ -1,6 +1,5 @@
 -- `floors::higher_of` meets its contract. Assumes nothing.
-use mathlib.Core.Path.{_≡_, sym, _∙_}
-use mathlib.Core.Bool.{true}
+use mathlib.Core.Path.{sym, _∙_}
 use borrow.Author.Tests.{not-true, not-false}
 use Rattle.floors.proofs.higher_of.Statement.{statement}
 use Rattle.floors.proofs.higher_of.Tie as tie

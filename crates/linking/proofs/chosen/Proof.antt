@@ -7,20 +7,12 @@ use Rattle.linking.proofs.Choices.{turned-true, turned-false, chosen-pa
 use borrow.Author.Needs.{needs}
 use Rattle.linking.proofs.chosen.Statement.{statement}
 use Rattle.linking.proofs.chosen.Tie as tie
-use Rattle.linking.proofs.chosen.Reads as reads
-use Rattle.linking.proofs.chosen.Lts as lts
-use Rattle.linking.proofs.later.Reads as later-reads
-use Rattle.links.proofs.before.Reads as before-reads
-use Rattle.links.proofs.step_with.Reads as step-with-reads
 
 step-with-requires : tie.Need-step-with-requires
 step-with-requires c κs = c .pre .0 (c .args .p) (omega arith)
 
 later-requires : tie.Need-later-requires
 later-requires c κs = (c .before .pre .0 (c .before .args .h .all) (c .before .pre .1), c .step-with .ensures .from, c .step-with .ensures .to)
-
-before-requires : tie.Need-before-requires
-before-requires c κs = search needs
 
 returns : tie.Need-returns
 returns c =
@@ -45,4 +37,4 @@ returns-2 c =
 pub chosen-spec : {M : Type 1} → statement M
 chosen-spec =
     tie.close
-    (tie.spec step-with-requires later-requires before-requires returns later-requires-2 returns-2)
+    (tie.spec step-with-requires later-requires (λ c κs. search needs) returns later-requires-2 returns-2)

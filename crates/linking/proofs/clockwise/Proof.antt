@@ -27,20 +27,11 @@ use Rattle.linking.proofs.first_clockwise.Reads as first-clockwise-read
 use Rattle.links.proofs.dart_cell.Reads as dart-cell-reads
 use Rattle.links.proofs.step_with.Reads as step-with-reads
 
-dart-cell-requires : tie.Need-dart-cell-requires
-dart-cell-requires c κs = search needs
-
 step-with-requires : tie.Need-step-with-requires
 step-with-requires c κs =
     let s = c .before in
     let h = s .pre .2 in
     ((λ e. s .pre .1 (omega arith)), (λ e. edge-row-of (s .pre .0) (s .args .p / 2) (omega arith)))
-
-first-clockwise-requires : tie.Need-first-clockwise-requires
-first-clockwise-requires c κs = search needs
-
-enum-known-found : tie.Need-enum-known-found
-enum-known-found c = search needs
 
 enum-told : tie.Need-enum-told
 enum-told c = search needs
@@ -81,10 +72,10 @@ pub clockwise-spec : {M : Type 1} → statement M
 clockwise-spec =
     tie.close
     (tie.spec
-    dart-cell-requires
+    (λ c κs. search needs)
     step-with-requires
-    first-clockwise-requires
-    enum-known-found
+    (λ c κs. search needs)
+    (λ c. search needs)
     enum-told
     returns
     returns-2)

@@ -1,5 +1,5 @@
 -- `linking::edge_ends` meets its contract: what is counted, with what is left, is the count of all. Assumes nothing.
-use mathlib.Core.Path.{_≡_, refl, sym, ap, _∙_}
+use mathlib.Core.Path.{_≡_, ap, _∙_}
 use Prim.Native.Nat.{_+_, _*_, _-_, _≤_}
 use native.Mathlib.Omega.{arith}
 use mir.Syntax.{w64}
@@ -16,9 +16,6 @@ use Rattle.lists.specs.Tables.{table}
 use Rattle.linking.specs.Linking.{positions, leavesNode}
 use Rattle.linking.proofs.edge_ends.Statement.{statement}
 use Rattle.linking.proofs.edge_ends.Tie as tie
-use Rattle.linking.proofs.edge_ends.Reads as reads
-use Rattle.linking.proofs.edge_ends.Lts as lts
-use Rattle.links.proofs.dart_cell.Reads as dart-cell-reads
 
 abbrev Inv-loop : tie.InvT-loop
 Inv-loop edges count node n₀ p₀ p-end n p =
@@ -46,9 +43,6 @@ add-n c =
 
 add-p : tie.Need-add-p Inv-loop μ-loop
 add-p c = omega (arith, c .before .before .before .pre .fits)
-
-loop-less : tie.Need-loop-less Inv-loop μ-loop
-loop-less c = omega arith
 
 loop-again : tie.Need-loop-again Inv-loop μ-loop
 loop-again c =
@@ -86,6 +80,6 @@ edge-ends-spec =
     cast-n
     add-n
     add-p
-    loop-less
+    (λ c. omega arith)
     loop-again
     returns)

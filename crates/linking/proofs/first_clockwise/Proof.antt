@@ -60,9 +60,6 @@ chosen-requires c κs =
 add-p : tie.Need-add-p Inv-loop μ-loop
 add-p c = omega (arith, c .before .before .before .before .pre .0 .fits)
 
-loop-less : tie.Need-loop-less Inv-loop μ-loop
-loop-less c = omega arith
-
 loop-again : tie.Need-loop-again Inv-loop μ-loop
 unfolding same
 loop-again c =
@@ -132,7 +129,7 @@ first-clockwise-spec =
     dart-cell-requires
     chosen-requires
     add-p
-    loop-less
+    (λ c. omega arith)
     loop-again
     returns
     returns-2

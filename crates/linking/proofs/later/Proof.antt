@@ -14,12 +14,6 @@ use Rattle.links.proofs.step_with.Reads as step-with-reads
 returns : tie.Need-returns
 returns c = rw (turned-true (c .before .args .some) (c .if1 .taken))
 
-step-with-requires : tie.Need-step-with-requires
-step-with-requires c κs = search needs
-
-before-requires : tie.Need-before-requires
-before-requires c κs = search needs
-
 -- the test, in the direction of k
 test : (c : lts.After-before2 (step-with-reads.Asked, step-with-reads.Learnt, before-reads.Asked, before-reads.Learnt) reads.Pre reads.Post)
     → before (wayWith (c .before .before .before .args .edges .now) (c .before .before .before .args .own) (c .before .before .before .args .c .now) (c .before .before .before .args .k)) (wayTo (c .before .before .before .args .w .from) (c .before .before .before .args .w .to)) ≡ c .before2 .result
@@ -32,4 +26,4 @@ returns-3 : tie.Need-returns-3
 returns-3 c = rw (turned-false (c .before .before .before .before .args .some) (c .before .before .before .if1 .left), test (c .before), c .if2 .left)
 
 pub later-spec : {M : Type 1} → statement M
-later-spec = tie.close (tie.spec returns step-with-requires before-requires returns-2 returns-3)
+later-spec = tie.close (tie.spec returns (λ c κs. search needs) (λ c κs. search needs) returns-2 returns-3)

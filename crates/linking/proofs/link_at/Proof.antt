@@ -17,21 +17,9 @@ use Rattle.linking.specs.Linking.{redirected}
 use borrow.Author.Needs.{needs}
 use Rattle.linking.proofs.link_at.Statement.{statement}
 use Rattle.linking.proofs.link_at.Tie as tie
-use Rattle.linking.proofs.link_at.Reads as reads
-use Rattle.linking.proofs.link_at.Lts as lts
-use Rattle.linking.proofs.redirect.Reads as redirect-reads
-use Rattle.links.proofs.dart_at.Reads as dart-at-reads
-use Rattle.links.proofs.reverse.Reads as reverse-reads
-use Rattle.links.proofs.set_dart_cell.Reads as set-dart-cell-reads
 
 dart-at-requires : tie.Need-dart-at-requires
 dart-at-requires c κs = edge-row-of (c .before .pre .0) (c .before .args .p / 2) (let h = c .before .pre .1 in omega arith)
-
-redirect-requires : tie.Need-redirect-requires
-redirect-requires c κs = search needs
-
-reverse-requires : tie.Need-reverse-requires
-reverse-requires c κs = search needs
 
 set-dart-cell-requires : tie.Need-set-dart-cell-requires
 set-dart-cell-requires c κs =
@@ -40,9 +28,6 @@ set-dart-cell-requires c κs =
     let below = reverse-below (s .args .count) (s .args .p) (s .pre .1) in
     let e = c .reverse .ensures in
     (omega (arith, d .redirect .kept .0, s .pre .0 .fits), omega arith)
-
-same-length : tie.Need-same-length
-same-length c = search needs
 
 returns : tie.Need-returns
 returns c =
@@ -63,8 +48,8 @@ link-at-spec =
     tie.close
     (tie.spec
     dart-at-requires
-    redirect-requires
-    reverse-requires
+    (λ c κs. search needs)
+    (λ c κs. search needs)
     set-dart-cell-requires
-    same-length
+    (λ c. search needs)
     returns)

@@ -14,17 +14,6 @@ use Rattle.linking.proofs.LinksKept.{met-below}
 use borrow.Author.Needs.{needs}
 use Rattle.linking.proofs.link_in.Statement.{statement}
 use Rattle.linking.proofs.link_in.Tie as tie
-use Rattle.linking.proofs.link_in.Reads as reads
-use Rattle.linking.proofs.link_in.Lts as lts
-use Rattle.linking.proofs.link_at.Reads as link-at-reads
-use Rattle.linking.proofs.met.Reads as met-reads
-use Rattle.links.proofs.dart_at.Reads as dart-at-reads
-
-met-requires : tie.Need-met-requires
-met-requires c κs = search needs
-
-enum-known-found : tie.Need-enum-known-found
-enum-known-found c = search needs
 
 dart-at-requires : tie.Need-dart-at-requires
 dart-at-requires c κs =
@@ -34,20 +23,11 @@ dart-at-requires c κs =
     let b = met-below (s .pre .0) (s .args .p) (s .pre .1) (s .args .other) (f .found .given .0 .0) (sym (m .met .ensures) ∙ f .found .given .1) in
     edge-row-of (s .pre .0) (f .found .given .0 .0 / 2) (omega arith)
 
-link-at-requires : tie.Need-link-at-requires
-link-at-requires c κs = search needs
-
 enum-told : tie.Need-enum-told
 enum-told c = search needs
 
 dart-at-requires-2 : tie.Need-dart-at-requires-2
 dart-at-requires-2 c κs = let s = c .before .before .before .before .before in edge-row-of (s .pre .0) (s .args .p / 2) (let h = s .pre .1 in omega arith)
-
-link-at-requires-2 : tie.Need-link-at-requires-2
-link-at-requires-2 c κs = search needs
-
-same-length : tie.Need-same-length
-same-length c = search needs
 
 returns : tie.Need-returns
 returns c =
@@ -58,9 +38,6 @@ returns c =
     let l = a .edges .now in
     let e : toZ w64 (ofZ w64 (d .result)) ≡ dartCell (dartAt l (f .found .given .0 .0)) = toZ-ofZ {w = w64} (sfits-of (d .ok)) ∙ d .ensures in
     c .before .link-at .ensures ∙ ap (linkedAt l (a .count) (a .p)) e ∙ sym (ap (linkedWhere l (a .count) (a .p)) (sym (m .met .ensures) ∙ f .found .given .1))
-
-same-length-2 : tie.Need-same-length-2
-same-length-2 c = search needs
 
 returns-2 : tie.Need-returns-2
 returns-2 c =
@@ -76,14 +53,14 @@ pub link-in-spec : {M : Type 1} → statement M
 link-in-spec =
     tie.close
     (tie.spec
-    met-requires
-    enum-known-found
+    (λ c κs. search needs)
+    (λ c. search needs)
     dart-at-requires
-    link-at-requires
+    (λ c κs. search needs)
     enum-told
     dart-at-requires-2
-    link-at-requires-2
-    same-length
+    (λ c κs. search needs)
+    (λ c. search needs)
     returns
-    same-length-2
+    (λ c. search needs)
     returns-2)

@@ -16,26 +16,9 @@ use Rattle.linking.proofs.FirstMet.{met-same, leaving-below, with-none}
 use borrow.Author.Needs.{needs}
 use Rattle.linking.proofs.met.Statement.{statement}
 use Rattle.linking.proofs.met.Tie as tie
-use Rattle.linking.proofs.met.Reads as reads
-use Rattle.linking.proofs.met.Lts as lts
-use Rattle.linking.proofs.first_clockwise.Reads as first-clockwise-reads
-use Rattle.links.proofs.dart_cell.Reads as dart-cell-reads
-use Rattle.links.proofs.step_at.Reads as step-at-reads
-
-dart-cell-requires : tie.Need-dart-cell-requires
-dart-cell-requires c κs = search needs
 
 step-at-requires : tie.Need-step-at-requires
 step-at-requires c κs = let s = c .before in edge-row-of (s .pre .0) (s .args .p / 2) (let h = s .pre .1 in omega arith)
-
-sub-first-clockwise : tie.Need-sub-first-clockwise
-sub-first-clockwise c = search needs
-
-part-first-clockwise-start : tie.Need-part-first-clockwise-start
-part-first-clockwise-start c = search needs
-
-part-first-clockwise-end : tie.Need-part-first-clockwise-end
-part-first-clockwise-end c = search needs
 
 first-clockwise-requires : tie.Need-first-clockwise-requires
 first-clockwise-requires c κs = (c .before .before .before .pre .0, (λ h. absurd (omega arith)), c .before .step-at .ensures .from, c .before .step-at .ensures .to)
@@ -57,10 +40,10 @@ pub met-spec : {M : Type 1} → statement M
 met-spec =
     tie.close
     (tie.spec
-    dart-cell-requires
+    (λ c κs. search needs)
     step-at-requires
-    sub-first-clockwise
-    part-first-clockwise-start
-    part-first-clockwise-end
+    (λ c. search needs)
+    (λ c. search needs)
+    (λ c. search needs)
     first-clockwise-requires
     returns)

@@ -12,18 +12,6 @@ use Rattle.linking.specs.Linking.{redirected}
 use borrow.Author.Needs.{needs}
 use Rattle.linking.proofs.redirect.Statement.{statement}
 use Rattle.linking.proofs.redirect.Tie as tie
-use Rattle.linking.proofs.redirect.Reads as reads
-use Rattle.linking.proofs.redirect.Lts as lts
-use Rattle.tables.proofs.replace_column.Reads as replace-column-reads
-
-replace-column-requires : tie.Need-replace-column-requires
-replace-column-requires c κs = search needs
-
-replace-column-requires-2 : tie.Need-replace-column-requires-2
-replace-column-requires-2 c κs = search needs
-
-same-length : tie.Need-same-length
-same-length c = search needs
 
 returns : tie.Need-returns
 returns c =
@@ -39,4 +27,4 @@ returns c =
 
 pub redirect-spec : {M : Type 1} → statement M
 redirect-spec =
-    tie.close (tie.spec replace-column-requires replace-column-requires-2 same-length returns)
+    tie.close (tie.spec (λ c κs. search needs) (λ c κs. search needs) (λ c. search needs) returns)

@@ -15,41 +15,12 @@ use Rattle.linking.specs.Linking.{redirected}
 use borrow.Author.Needs.{needs}
 use Rattle.linking.proofs.unlink_edge.Statement.{statement}
 use Rattle.linking.proofs.unlink_edge.Tie as tie
-use Rattle.linking.proofs.unlink_edge.Reads as reads
-use Rattle.linking.proofs.unlink_edge.Lts as lts
-use Rattle.linking.proofs.redirect.Reads as redirect-reads
-use Rattle.links.proofs.dart_at.Reads as dart-at-reads
-use Rattle.links.proofs.dart_cell.Reads as dart-cell-reads
-
-mul-p : tie.Need-mul-p
-mul-p c = search needs
 
 dart-at-requires : tie.Need-dart-at-requires
 dart-at-requires c κs = edge-row-of (c .before .pre .0) (c .before .args .i * 2 / 2) (let h = c .before .pre .1 in omega arith)
 
-add-dart-at : tie.Need-add-dart-at
-add-dart-at c = search needs
-
 dart-at-requires-2 : tie.Need-dart-at-requires-2
 dart-at-requires-2 c κs = let s = c .before .before .before in edge-row-of (s .pre .0) ((s .args .i * 2 + 1) / 2) (let h = s .pre .1 in omega arith)
-
-add-dart-cell : tie.Need-add-dart-cell
-add-dart-cell c = search needs
-
-dart-cell-requires : tie.Need-dart-cell-requires
-dart-cell-requires c κs = search needs
-
-redirect-requires : tie.Need-redirect-requires
-redirect-requires c κs = search needs
-
-dart-cell-requires-2 : tie.Need-dart-cell-requires-2
-dart-cell-requires-2 c κs = search needs
-
-redirect-requires-2 : tie.Need-redirect-requires-2
-redirect-requires-2 c κs = search needs
-
-same-length : tie.Need-same-length
-same-length c = search needs
 
 returns : tie.Need-returns
 returns c =
@@ -74,14 +45,14 @@ pub unlink-edge-spec : {M : Type 1} → statement M
 unlink-edge-spec =
     tie.close
     (tie.spec
-    mul-p
+    (λ c. search needs)
     dart-at-requires
-    add-dart-at
+    (λ c. search needs)
     dart-at-requires-2
-    add-dart-cell
-    dart-cell-requires
-    redirect-requires
-    dart-cell-requires-2
-    redirect-requires-2
-    same-length
+    (λ c. search needs)
+    (λ c κs. search needs)
+    (λ c κs. search needs)
+    (λ c κs. search needs)
+    (λ c κs. search needs)
+    (λ c. search needs)
     returns)

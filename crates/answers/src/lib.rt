@@ -1,0 +1,30 @@
+// What an edit answers: the head after it, refusal and value.
+use map::Answer;
+use map::Head;
+ghost use mathlib.Core.Path.{_≡_};
+ghost use lib.IntN.{pos};
+
+// The head after a call and its answer.
+pub struct Done {
+    pub head: Head,
+    pub answer: Answer,
+}
+
+// Turned down: the head as it was, and value 0.
+pub fn refused(h: Head, reason: u64) -> Done
+    ensures { λ r. ⌜ r ≡ record { head = h; answer = record { refusal = reason; value = pos 0 } } ⌝ }
+{
+    let answer = Answer {
+        refusal: reason,
+        value: 0,
+    };
+    Done { head: h, answer }
+}
+
+// Carried out.
+pub fn carried(h: Head, value: i64) -> Done
+    ensures { λ r. ⌜ r ≡ record { head = h; answer = record { refusal = 0; value = value } } ⌝ }
+{
+    let answer = Answer { refusal: 0, value };
+    Done { head: h, answer }
+}

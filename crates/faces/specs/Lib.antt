@@ -1,0 +1,2 @@
+-- `Corners`: the corner face as the numbers of the tables show it.
+pub mod Corners

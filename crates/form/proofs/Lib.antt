@@ -1,0 +1,2 @@
+-- `Parts`: condition 2 by its parts.
+pub mod Parts

@@ -1,0 +1,151 @@
+-- Condition 2 by its parts: each is read from the rows that it needs, and the first that does not hold decides. Assumes nothing.
+use mathlib.Core.Path.{_≡_, refl, ap, ap₂, _∙_}
+use mathlib.Core.Bool.{Bool, true, false, _&&_}
+use mathlib.Core.List.{List}
+use Prim.Native.Nat.{ℕ, _/_, _%_, _≤_}
+use native.Mathlib.Omega.{arith}
+use lib.Dec.{leb}
+use lib.IntN.{ℤ}
+use lib.ListN.{length}
+use borrow.Author.Tests.{leb-true}
+use Rattle.lists.specs.Tests.{same}
+use Rattle.lists.specs.Scans.{all}
+use Rattle.curves.proofs.Runs.{and-left, and-right}
+use Rattle.map.specs.declared.Head.{Head}
+use Rattle.map.specs.Rows.{whole, wholeRows, sizesOf, edge, hasNode, hasEdge, hasFace}
+use Rattle.map.specs.Darts.{leaves, next, bears, course, way, departures}
+use Rattle.map.specs.Form.{countsFit, nextsFit, edgeNames, inFace, curveFits, numbers, named, departuresDiffer, bareMarked, linksOnce, linksMeet, ringsBearOne, formed, inForm}
+use Rattle.tables.specs.declared.Counts.{Counts}
+use Rattle.tables.specs.Tables.{nodesOf, edgesOf, nodeMap, edgeMap}
+use Rattle.ranges.specs.Ranges.{lent, countsOf, mapIn, rangedRows}
+use Rattle.ranges.proofs.Columns.{all-weaker}
+use Rattle.ranges.proofs.Parts.{ranged-is, map-is, curves-are}
+use Rattle.departures.specs.Drawn.{drawnMap}
+
+-- ---- five tests
+
+module _ (a b c d e : Bool) where
+  abbrev five : Bool
+  five = a && (b && (c && (d && e)))
+
+  regroup : (u v x y z : Bool) → d ≡ u && v → e ≡ x && y && z → a && b && c && u && v && x && y && z ≡ five
+  regroup u v x y z p q = rw (p, q) (spread a b c u v x y z)
+    where
+      spread : (a b c u v x y z : Bool) → a && b && c && u && v && x && y && z ≡ a && (b && (c && (u && v && (x && y && z))))
+      spread true true true true true x y z = refl
+      spread true true true true false x y z = refl
+      spread true true true false v x y z = refl
+      spread true true false u v x y z = refl
+      spread true false c u v x y z = refl
+      spread false b c u v x y z = refl
+
+-- ---- the conditions on rows
+
+module _ (nodes edges faces : List ℤ) (c : Counts) (h : Head) where
+  differ-drawn : departuresDiffer (drawnMap nodes (c .nodes) edges (c .edges)) ≡ departuresDiffer (mapIn nodes edges faces c h)
+  unfolding departuresDiffer departures leaves way course edge
+  differ-drawn = refl
+
+  bare-drawn : bareMarked (drawnMap nodes (c .nodes) edges (c .edges)) ≡ bareMarked (mapIn nodes edges faces c h)
+  unfolding bareMarked departures leaves edge
+  bare-drawn = refl
+
+  once-linked : linksOnce (edgeMap edges (c .edges)) ≡ linksOnce (mapIn nodes edges faces c h)
+  unfolding linksOnce next edge
+  once-linked = refl
+
+  meet-linked : linksMeet (edgeMap edges (c .edges)) ≡ linksMeet (mapIn nodes edges faces c h)
+  unfolding linksMeet next leaves edge
+  meet-linked = refl
+
+  bear-linked : ringsBearOne (edgeMap edges (c .edges)) ≡ ringsBearOne (mapIn nodes edges faces c h)
+  unfolding ringsBearOne next bears edge
+  bear-linked = refl
+
+  -- the five tests
+  abbrev pub curved : Bool
+  curved = all (curveFits (nodeMap nodes (c .nodes))) (edgesOf edges (c .edges))
+
+  abbrev pub departed : Bool
+  departed = departuresDiffer (drawnMap nodes (c .nodes) edges (c .edges)) && bareMarked (drawnMap nodes (c .nodes) edges (c .edges))
+
+  abbrev pub linked : Bool
+  linked = linksOnce (edgeMap edges (c .edges)) && linksMeet (edgeMap edges (c .edges)) && ringsBearOne (edgeMap edges (c .edges))
+
+  formed-is : formed (mapIn nodes edges faces c h) ≡ five (numbers (mapIn nodes edges faces c h)) (named (mapIn nodes edges faces c h)) curved departed linked
+  unfolding formed
+  formed-is =
+      let m = mapIn nodes edges faces c h in
+      rw (← curves-are nodes edges faces c h (edgesOf edges (c .edges)))
+      (regroup (numbers m) (named m) curved departed linked (departuresDiffer m) (bareMarked m) (linksOnce m) (linksMeet m) (ringsBearOne m)
+      (ap₂ _&&_ differ-drawn bare-drawn) (ap₂ _&&_ (ap₂ _&&_ once-linked meet-linked) bear-linked))
+
+  -- the first that does not hold decides
+  module _ (n : numbers (mapIn nodes edges faces c h) ≡ true) where
+    pub stop₂ : named (mapIn nodes edges faces c h) ≡ false → formed (mapIn nodes edges faces c h) ≡ false
+    stop₂ e = formed-is ∙ rw (n, e)
+
+    module _ (m : named (mapIn nodes edges faces c h) ≡ true) where
+      pub stop₃ : curved ≡ false → formed (mapIn nodes edges faces c h) ≡ false
+      stop₃ e = formed-is ∙ rw (n, m, e)
+
+      module _ (k : curved ≡ true) where
+        pub stop₄ : departed ≡ false → formed (mapIn nodes edges faces c h) ≡ false
+        stop₄ e = formed-is ∙ rw (n, m, k, e)
+
+        pub last₅ : departed ≡ true → formed (mapIn nodes edges faces c h) ≡ linked
+        last₅ e = formed-is ∙ rw (n, m, k, e)
+
+  pub stop₁ : numbers (mapIn nodes edges faces c h) ≡ false → formed (mapIn nodes edges faces c h) ≡ false
+  stop₁ e = formed-is ∙ rw e
+
+  -- the ends of edges are nodes
+  pub ends-named : named (mapIn nodes edges faces c h) ≡ true → all (λ e. hasNode (nodeMap nodes (c .nodes)) (e .start) && hasNode (nodeMap nodes (c .nodes)) (e .end)) (edgesOf edges (c .edges)) ≡ true
+  unfolding named
+  ends-named e =
+      let m = mapIn nodes edges faces c h in
+      all-weaker (edgeNames m) (λ e. hasNode m (e .start) && hasNode m (e .end)) (λ e q. first-two (hasNode m (e .start) && hasNode m (e .end)) (hasEdge m (e .nextLeft .edge)) (hasEdge m (e .nextRight .edge)) (hasFace m (e .left)) (hasFace m (e .right)) q) (edgesOf edges (c .edges))
+      (and-right (all (λ n. inFace m (n .face)) (nodesOf nodes (c .nodes))) (all (edgeNames m) (edgesOf edges (c .edges))) e)
+    where
+      first-two : (a b c d e : Bool) → a && b && c && d && e ≡ true → a ≡ true
+      first-two a b c d e h = and-left a b (and-left (a && b) c (and-left (a && b && c) d (and-left (a && b && c && d) e h)))
+
+-- ---- in form
+
+module _ (nodes edges faces : List ℤ) (h : Head) where
+  in-form-is : inForm (lent nodes edges faces h) ≡ (countsFit (lent nodes edges faces h) && nextsFit h) && (rangedRows nodes edges faces (countsOf h) && formed (mapIn nodes edges faces (countsOf h) h))
+  unfolding inForm
+  in-form-is =
+      ap₂ _&&_ (ranged-is nodes edges faces h) (ap formed (map-is nodes edges faces h))
+      ∙ assoc (countsFit (lent nodes edges faces h) && nextsFit h) (rangedRows nodes edges faces (countsOf h)) (formed (mapIn nodes edges faces (countsOf h) h))
+    where
+      assoc : (a b c : Bool) → a && b && c ≡ a && (b && c)
+      assoc true b c = refl
+      assoc false b c = refl
+
+  pub unfit-head : countsFit (lent nodes edges faces h) && nextsFit h ≡ false → inForm (lent nodes edges faces h) ≡ false
+  unfit-head e = in-form-is ∙ rw e
+
+  module _ (e : countsFit (lent nodes edges faces h) && nextsFit h ≡ true) where
+    pub unranged : rangedRows nodes edges faces (countsOf h) ≡ false → inForm (lent nodes edges faces h) ≡ false
+    unranged f = in-form-is ∙ rw (e, f)
+
+    pub by-formed : rangedRows nodes edges faces (countsOf h) ≡ true → inForm (lent nodes edges faces h) ≡ formed (mapIn nodes edges faces (countsOf h) h)
+    by-formed f = in-form-is ∙ rw (e, f)
+
+  -- room of whole tables
+  pub whole-room : whole (lent nodes edges faces h) ≡ true → (length nodes / 4 ≤ 1000) × (length edges / 32 ≤ 2000) × (length faces ≤ 1000)
+  unfolding whole
+  whole-room e =
+      let a = wholeRows 4 0 1000 nodes in
+      let b = wholeRows 32 0 2000 edges in
+      let c = wholeRows 1 1 1000 faces in
+      let two = and-left (a && b) c e in
+      let f = most 1 1 1000 faces (and-right (a && b) c e) in
+      (most 4 0 1000 nodes (and-left a b two), most 32 0 2000 edges (and-right a b two), omega arith)
+    where
+      most : (w least n : ℕ) (l : List ℤ) → wholeRows w least n l ≡ true → length l / w ≤ n
+      most w least n l e = leb-true (length l / w) n (and-right (same (length l % w) 0 && leb least (length l / w)) (leb (length l / w) n) e)
+
+  pub sizes-are : sizesOf (lent nodes edges faces h) ≡ record { nodes = length nodes / 4; edges = length edges / 32; faces = length faces }
+  sizes-are = let e : length faces / 1 ≡ length faces = omega arith in ap (λ (k : ℕ). record { nodes = length nodes / 4; edges = length edges / 32; faces = k }) e

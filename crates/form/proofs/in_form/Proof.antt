@@ -1,0 +1,95 @@
+-- `form::in_form` meets its contract. Assumes nothing.
+use mathlib.Core.Path.{_≡_, sym, ap, _∙_, subst}
+use mathlib.Core.Bool.{true, false, _&&_}
+use native.Mathlib.Omega.{arith}
+use Rattle.map.specs.Form.{countsFit, nextsFit, formed}
+use Rattle.tables.specs.declared.Counts.{Counts}
+use Rattle.curves.proofs.Runs.{and-left, and-right}
+use Rattle.ranges.specs.Ranges.{lent, countsOf, mapIn, rangedRows, Counted}
+use Rattle.ranges.proofs.Parts.{counted, counts-natural}
+use Rattle.departures.proofs.Words.{flipped}
+use Rattle.form.proofs.Parts.{unfit-head, unranged, by-formed, whole-room, sizes-are}
+use Rattle.form.proofs.in_form.Statement.{statement}
+use Rattle.form.proofs.in_form.Tie as tie
+use Rattle.form.proofs.in_form.Reads as reads
+use Rattle.form.proofs.in_form.Lts as lts
+use Rattle.form.proofs.is_formed.Reads as is-formed-reads
+use Rattle.ranges.proofs.counts_of.Reads as counts-of-reads
+use Rattle.ranges.proofs.head_fits.Reads as head-fits-reads
+use Rattle.ranges.proofs.is_ranged.Reads as is-ranged-reads
+
+-- ---- what is known after each part
+
+fits-is : (c : lts.After-head-fits (head-fits-reads.Asked, head-fits-reads.Learnt, counts-of-reads.Asked, counts-of-reads.Learnt, is-ranged-reads.Asked, is-ranged-reads.Learnt, is-formed-reads.Asked, is-formed-reads.Learnt) reads.Pre reads.Post) → c .head-fits .result ≡ (countsFit (lent (c .before .args .nodes .now) (c .before .args .edges .now) (c .before .args .faces .now) (c .before .args .h)) && nextsFit (c .before .args .h))
+fits-is c = let a = c .before .args in c .head-fits .ensures (lent (a .nodes .now) (a .edges .now) (a .faces .now) (a .h)) (sizes-are (a .nodes .now) (a .edges .now) (a .faces .now) (a .h))
+
+head-in : (c : lts.Else1 (head-fits-reads.Asked, head-fits-reads.Learnt, counts-of-reads.Asked, counts-of-reads.Learnt, is-ranged-reads.Asked, is-ranged-reads.Learnt, is-formed-reads.Asked, is-formed-reads.Learnt) reads.Pre reads.Post) → (countsFit (lent (c .before .before .args .nodes .now) (c .before .before .args .edges .now) (c .before .before .args .faces .now) (c .before .before .args .h)) && nextsFit (c .before .before .args .h)) ≡ true
+head-in c = sym (fits-is (c .before)) ∙ flipped (c .before .head-fits .result) false (c .if1 .left)
+
+counted-in : (c : lts.After-counts-of (head-fits-reads.Asked, head-fits-reads.Learnt, counts-of-reads.Asked, counts-of-reads.Learnt, is-ranged-reads.Asked, is-ranged-reads.Learnt, is-formed-reads.Asked, is-formed-reads.Learnt) reads.Pre reads.Post) → Counted (c .before .before .before .args .nodes .now) (c .before .before .before .args .edges .now) (c .before .before .before .args .faces .now) (c .counts-of .result) (c .before .before .before .args .h)
+counted-in c =
+    let a = c .before .before .before .args in
+    let e = head-in (c .before) in
+    let p = countsFit (lent (a .nodes .now) (a .edges .now) (a .faces .now) (a .h)) in
+    subst (λ (k : Counts). Counted (a .nodes .now) (a .edges .now) (a .faces .now) k (a .h)) (sym (c .counts-of .ensures)) (counted (a .nodes .now) (a .edges .now) (a .faces .now) (a .h) (and-left p (nextsFit (a .h)) e) (and-right p (nextsFit (a .h)) e))
+
+-- the answer on ranges, of the head's counts
+ranged-in : (c : lts.After-is-ranged (head-fits-reads.Asked, head-fits-reads.Learnt, counts-of-reads.Asked, counts-of-reads.Learnt, is-ranged-reads.Asked, is-ranged-reads.Learnt, is-formed-reads.Asked, is-formed-reads.Learnt) reads.Pre reads.Post) → c .is-ranged .result ≡ rangedRows (c .before .before .before .before .args .nodes .now) (c .before .before .before .before .args .edges .now) (c .before .before .before .before .args .faces .now) (countsOf (c .before .before .before .before .args .h))
+ranged-in c =
+    let a = c .before .before .before .before .args in
+    c .is-ranged .ensures ∙ ap (rangedRows (a .nodes .now) (a .edges .now) (a .faces .now)) (c .before .counts-of .ensures)
+
+head-fits-requires : tie.Need-head-fits-requires
+head-fits-requires c κs = let a = c .args in whole-room (a .nodes .now) (a .edges .now) (a .faces .now) (a .h) (c .pre)
+
+returns : tie.Need-returns
+returns c =
+    let a = c .before .before .args in
+    sym (unfit-head (a .nodes .now) (a .edges .now) (a .faces .now) (a .h) (sym (fits-is (c .before)) ∙ flipped (c .before .head-fits .result) true (c .if1 .taken)))
+
+counts-of-requires : tie.Need-counts-of-requires
+counts-of-requires c κs =
+    let a = c .before .before .args in
+    counts-natural (a .nodes .now) (a .edges .now) (a .faces .now) (a .h) (and-left (countsFit (lent (a .nodes .now) (a .edges .now) (a .faces .now) (a .h))) (nextsFit (a .h)) (head-in c))
+
+is-ranged-requires : tie.Need-is-ranged-requires
+is-ranged-requires c κs = let k = counted-in c in (k .nodes-fit, k .edges-fit, omega (arith, k .faces-fit))
+
+returns-2 : tie.Need-returns-2
+returns-2 c =
+    let r = c .before in
+    let a = r .before .before .before .before .args in
+    sym (unranged (a .nodes .now) (a .edges .now) (a .faces .now) (a .h) (head-in (r .before .before)) (sym (ranged-in r) ∙ flipped (r .is-ranged .result) true (c .if2 .taken)))
+
+is-formed-requires : tie.Need-is-formed-requires
+is-formed-requires c κs =
+    let r = c .before in
+    let s = r .before .before .before .before in
+    let a = s .args in
+    let k = counted-in (r .before) in
+    let w = whole-room (a .nodes .now) (a .edges .now) (a .faces .now) (a .h) (s .pre) in (
+      record { counted = k; ranged = sym (r .is-ranged .ensures) ∙ flipped (r .is-ranged .result) false (c .if2 .left) },
+      omega (arith, k .nodes-fit, w .0),
+      omega (arith, k .edges-fit, w .1),
+    )
+
+returns-3 : tie.Need-returns-3
+returns-3 c =
+    let e = c .before in
+    let r = e .before in
+    let a = r .before .before .before .before .args in
+    c .is-formed .ensures
+    ∙ ap (λ (k : Counts). formed (mapIn (a .nodes .now) (a .edges .now) (a .faces .now) k (a .h))) (r .before .counts-of .ensures)
+    ∙ sym (by-formed (a .nodes .now) (a .edges .now) (a .faces .now) (a .h) (head-in (r .before .before)) (sym (ranged-in r) ∙ flipped (r .is-ranged .result) false (e .if2 .left)))
+
+pub in-form-spec : {M : Type 1} → statement M
+in-form-spec =
+    tie.close
+    (tie.spec
+    head-fits-requires
+    returns
+    counts-of-requires
+    is-ranged-requires
+    returns-2
+    is-formed-requires
+    returns-3)

@@ -1,0 +1,44 @@
+// Condition 2: tables in form.
+use map::Head;
+use tables::Counts;
+ghost use mathlib.Core.Path.{_≡_};
+ghost use mathlib.Core.Bool.{Bool, true, _&&_};
+ghost use Prim.Native.Nat.{ℕ, _*_, _≤_, _<_};
+ghost use lib.ListN.{length};
+ghost use Rattle.map.specs.Rows.{whole};
+ghost use Rattle.map.specs.Form.{formed, inForm};
+ghost use Rattle.ranges.specs.Ranges.{lent, mapIn, InRanges};
+
+fn is_formed(nodes: &[i64], edges: &[i64], faces: &[i64], c: Counts, h: Head) -> bool
+    requires { ⌜ InRanges (now nodes) (now edges) (now faces) c h × (c .nodes ≤ 1000) × (c .edges ≤ 2000) ⌝ }
+    ensures { λ r. ⌜ r ≡ formed (mapIn (now (nodes .entry)) (now (edges .entry)) (now (faces .entry)) c h) ⌝ }
+{
+    if !ranges::numbers_fit(nodes, edges, faces, c, h) {
+        return false;
+    }
+    if !ranges::names_exist(nodes, edges, faces, c) {
+        return false;
+    }
+    if !ranges::curves_fit(nodes, edges, c) {
+        return false;
+    }
+    if !departures::departures_formed(nodes, c.nodes, edges, c.edges) {
+        return false;
+    }
+    departures::links_formed(edges, c.edges)
+}
+
+// Whether tables that are whole are in form.
+pub fn in_form(nodes: &[i64], edges: &[i64], faces: &[i64], h: Head) -> bool
+    requires { ⌜ whole (lent (now nodes) (now edges) (now faces) h) ≡ true ⌝ }
+    ensures { λ r. ⌜ r ≡ inForm (lent (now (nodes .entry)) (now (edges .entry)) (now (faces .entry)) h) ⌝ }
+{
+    if !ranges::head_fits(h, nodes.len() / 4, edges.len() / 32, faces.len()) {
+        return false;
+    }
+    let c = ranges::counts_of(h);
+    if !ranges::is_ranged(nodes, edges, faces, c) {
+        return false;
+    }
+    is_formed(nodes, edges, faces, c, h)
+}

@@ -1,0 +1,14 @@
+-- `node_edits::is_none` meets its contract. Assumes nothing.
+use mathlib.Core.Path.{_∙_}
+use lib.Dec.{lit<}
+use lib.IntN.{negsuc}
+use borrow.Author.Needs.{sfits-of}
+use Rattle.node_edits.proofs.Words.{word-test, minus-one-is}
+use Rattle.node_edits.proofs.is_none.Statement.{statement}
+use Rattle.node_edits.proofs.is_none.Tie as tie
+
+returns : tie.Need-returns
+returns c = word-test {a = c .args .face} {b = negsuc 0} (c .fits .face) (sfits-of (lit< tt)) ∙ minus-one-is (c .args .face)
+
+pub is-none-spec : {M : Type 1} → statement M
+is-none-spec = tie.close (tie.spec returns)

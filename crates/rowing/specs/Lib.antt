@@ -1,0 +1,2 @@
+-- `Cells`: the numbers of an edge row.
+pub mod Cells
