@@ -48,18 +48,3 @@ pub fn corners_differ(
     let end = corner_face(nodes, v, edges, count, links::first_step(c, true));
     start != end
 }
-
-// ---- 12: the corner faces
-
-pub fn corners_differ(
-    nodes: &[i64],
-    u: usize,
-    v: usize,
-    edges: &[i64],
-    count: usize,
-    c: &[i64],
-) -> bool {
-    let start = corner_face(nodes, u, edges, count, links::first_step(c, false));
-    let end = corner_face(nodes, v, edges, count, links::first_step(c, true));
-    start != end
-}

@@ -1,12 +1,13 @@
 -- Condition 2 by its parts: each is read from the rows that it needs, and the first that does not hold decides. Assumes nothing.
-use mathlib.Core.Path.{_≡_, refl, ap, ap₂, _∙_}
+use mathlib.Core.Path.{_≡_, refl, sym, ap, ap₂, _∙_}
 use mathlib.Core.Bool.{Bool, true, false, _&&_}
 use mathlib.Core.List.{List}
 use Prim.Native.Nat.{ℕ, _/_, _%_, _≤_}
 use native.Mathlib.Omega.{arith}
-use lib.Dec.{leb}
+use lib.Dec.{T, leb}
 use lib.IntN.{ℤ}
 use lib.ListN.{length}
+use lib.Signed.{nonNeg}
 use borrow.Author.Tests.{leb-true}
 use Rattle.lists.specs.Tests.{same}
 use Rattle.lists.specs.Scans.{all}
@@ -17,9 +18,9 @@ use Rattle.map.specs.Darts.{leaves, next, bears, course, way, departures}
 use Rattle.map.specs.Form.{countsFit, nextsFit, edgeNames, inFace, curveFits, numbers, named, departuresDiffer, bareMarked, linksOnce, linksMeet, ringsBearOne, formed, inForm}
 use Rattle.tables.specs.declared.Counts.{Counts}
 use Rattle.tables.specs.Tables.{nodesOf, edgesOf, nodeMap, edgeMap}
-use Rattle.ranges.specs.Ranges.{lent, countsOf, mapIn, rangedRows}
+use Rattle.ranges.specs.Ranges.{lent, countsOf, mapIn, rangedRows, Named}
 use Rattle.ranges.proofs.Columns.{all-weaker}
-use Rattle.ranges.proofs.Parts.{ranged-is, map-is, curves-are}
+use Rattle.ranges.proofs.Parts.{ranged-is, map-is, curves-are, counted, counts-natural}
 use Rattle.departures.specs.Drawn.{drawnMap}
 
 -- ---- five tests
@@ -149,3 +150,37 @@ module _ (nodes edges faces : List ℤ) (h : Head) where
 
   pub sizes-are : sizesOf (lent nodes edges faces h) ≡ record { nodes = length nodes / 4; edges = length edges / 32; faces = length faces }
   sizes-are = let e : length faces / 1 ≡ length faces = omega arith in ap (λ (k : ℕ). record { nodes = length nodes / 4; edges = length edges / 32; faces = k }) e
+
+-- what a map in form is known to be
+pub record InForm (nodes edges faces : List ℤ) (c : Counts) (h : Head) : Type 0 where
+  pub named : Named nodes edges faces c h
+  pub formed : formed (mapIn nodes edges faces c h) ≡ true
+
+pub in-form-known : (nodes edges faces : List ℤ) (h : Head) → inForm (lent nodes edges faces h) ≡ true → InForm nodes edges faces (countsOf h) h
+in-form-known nodes edges faces h e =
+    let m = mapIn nodes edges faces (countsOf h) h in
+    let p = countsFit (lent nodes edges faces h) in
+    let q = rangedRows nodes edges faces (countsOf h) in
+    let f = sym (in-form-is nodes edges faces h) ∙ e in
+    let head = and-left (p && nextsFit h) (q && formed m) f in
+    let rows = and-right (p && nextsFit h) (q && formed m) f in
+    let g = and-right q (formed m) rows in
+    let k = curved nodes edges faces (countsOf h) h && (departed nodes edges faces (countsOf h) h && linked nodes edges faces (countsOf h) h) in
+    let five = sym (formed-is nodes edges faces (countsOf h) h) ∙ g in
+    record {
+      named = record {
+        in-order = record {
+          in-ranges = record { counted = counted nodes edges faces h (and-left p (nextsFit h) head) (and-right p (nextsFit h) head); ranged = and-left q (formed m) rows };
+          numbers = and-left (numbers m) (named m && k) five;
+        };
+        named = and-left (named m) k (and-right (numbers m) (named m && k) five);
+      };
+      formed = g;
+    }
+
+-- the counts of a map in form
+pub in-form-natural : (nodes edges faces : List ℤ) (h : Head) → inForm (lent nodes edges faces h) ≡ true → T (nonNeg (h .nodes)) × T (nonNeg (h .edges)) × T (nonNeg (h .faces))
+in-form-natural nodes edges faces h e =
+    let p = countsFit (lent nodes edges faces h) in
+    let rest = rangedRows nodes edges faces (countsOf h) && formed (mapIn nodes edges faces (countsOf h) h) in
+    counts-natural nodes edges faces h (and-left p (nextsFit h) (and-left (p && nextsFit h) rest (sym (in-form-is nodes edges faces h) ∙ e)))

@@ -1,0 +1,2 @@
+-- `Listing`: what the walks over rings require.
+pub mod Listing
