@@ -22,8 +22,7 @@ fn put_signed(z: i64) {
 }
 
 // The value of a digit; any other byte counts as 0.
-fn digit(b: u8) -> i64
-{
+fn digit(b: u8) -> i64 {
     if b < 48 {
         return 0;
     }
@@ -34,8 +33,7 @@ fn digit(b: u8) -> i64
 }
 
 // The number at place j: a sign and seven digits.
-fn number_at(record: &[u8], j: usize) -> i64
-{
+fn number_at(record: &[u8], j: usize) -> i64 {
     let mut v: i64 = 0;
     for k in 1usize..8 {
         v = v * 10 + digit(record[j + k]);
@@ -44,16 +42,14 @@ fn number_at(record: &[u8], j: usize) -> i64
 }
 
 // The numbers from number `from` on into a table.
-fn fill(record: &[u8], from: usize, table: &mut [i64])
-{
+fn fill(record: &[u8], from: usize, table: &mut [i64]) {
     for i in 0..table.len() {
         table[i] = number_at(record, (from + i) * 8);
     }
 }
 
 // A length of at most `most`.
-fn length_at(record: &[u8], j: usize, most: usize) -> usize
-{
+fn length_at(record: &[u8], j: usize, most: usize) -> usize {
     let z = number_at(record, j * 8);
     if z < 0 {
         return 0;
@@ -62,8 +58,7 @@ fn length_at(record: &[u8], j: usize, most: usize) -> usize
     if most < n { most } else { n }
 }
 
-fn head_of(record: &[u8]) -> Head
-{
+fn head_of(record: &[u8]) -> Head {
     Head {
         nodes: number_at(record, 24),
         edges: number_at(record, 32),
@@ -80,8 +75,7 @@ fn put_list(list: &[i64]) {
     }
 }
 
-fn call(record: &[u8])
-{
+fn call(record: &[u8]) {
     let mut nodes = [0i64; 32];
     let mut edges = [0i64; 192];
     let mut faces = [0i64; 8];
@@ -94,7 +88,14 @@ fn call(record: &[u8])
     let c = length_at(record, 2, 8);
     let d = length_at(record, 10, 40);
     let face = number_at(record, 72);
-    let answer = listing::edges_of_face(&nodes[..a], &edges[..b], &faces[..c], head_of(record), face, &mut list[..d]);
+    let answer = listing::edges_of_face(
+        &nodes[..a],
+        &edges[..b],
+        &faces[..c],
+        head_of(record),
+        face,
+        &mut list[..d],
+    );
     put(answer.refusal);
     put_signed(answer.value);
     put_list(&list[..d]);

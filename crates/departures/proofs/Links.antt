@@ -149,7 +149,7 @@ module _ {l : List ℤ} {n : ℕ} (t : EdgeRows l n) where
       subst (λ (r : List Dart). Distinct r) (sym (directed-table l n))
       (distinct-table (dartAt l) 0 (n * 2) (λ i j s u v e. let q = dart-injective t i j (omega arith) (omega arith) e in omega arith))
 
-  has-position : (p : ℕ) → p < n * 2 → List·Memᴰ (dartAt l p) (directed (edgeMap l n))
+  pub has-position : (p : ℕ) → p < n * 2 → List·Memᴰ (dartAt l p) (directed (edgeMap l n))
   has-position p h = subst (λ (r : List Dart). List·Memᴰ (dartAt l p) r) (sym (directed-table l n)) (in-table (dartAt l) 0 (n * 2) p (omega arith) (omega arith))
 
   -- no two have one next: each is named once

@@ -23,7 +23,7 @@ use Rattle.map.specs.Rows.{Map}
 use Rattle.map.specs.Darts.{directed, next, bears, ring, among, lower}
 use Rattle.map.proofs.Scans.{any-none}
 use Rattle.grown.proofs.Scanning.{some-any}
-use Rattle.grown.proofs.EdgesRings.{among-has, among-in, ring-here, ring-has, ring-leads, leads-back}
+use Rattle.grown.proofs.EdgesRings.{among-has, among-in, ring-has, ring-leads, leads-back}
 use Rattle.tables.specs.Tables.{edgeAt, edgeMap}
 use Rattle.tables.proofs.Order.{rise, lt-or-ge}
 use Rattle.tables.proofs.Rows.{edge-rows-rising}
@@ -36,9 +36,6 @@ module _ {l : List ℤ} {n : ℕ} (g : Rings l n) where
   module _ (p : ℕ) (h : p < n * 2) where
     here : List·Memᴰ (dartAt l p) (directed (edgeMap l n))
     here = has-position (g .rows) p h
-
-    pub on-self : onRing l n p p ≡ true
-    on-self = among-has (ring (edgeMap l n) (dartAt l p)) (ring-here (edgeMap l n) (g .linked) (g .once) (dartAt l p) here)
 
     leads-to : (q : ℕ) → onRing l n p q ≡ true → Leads (next (edgeMap l n)) (dartAt l p) (dartAt l q)
     leads-to q e = ring-leads (edgeMap l n) (g .linked) (g .once) (dartAt l p) here (among-in (ring (edgeMap l n) (dartAt l p)) (dartAt l q) e)
