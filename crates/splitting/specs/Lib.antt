@@ -1,0 +1,2 @@
+-- `Drawing`: a new edge beside the rows, by position.
+pub mod Drawing
