@@ -128,8 +128,7 @@ module _ {nodes edges faces : List ℤ} {h : Head} (f : Formed nodes edges faces
       found-first = ap firstReason (split-is ∙ tests) ∙ first-miss 4 _ _ there
 
       pub split-early : (r : ℕ) → 0 < r → r ≡ firstReason (pointReasons nodes (natAbs (h .nodes)) edges i x y) → firstReason (reasons.reasons (sizesOf (lent nodes edges faces h)) (mapOf (lent nodes edges faces h)) (splitTicket keeps z x y)) ≡ r
-      split-early zero k q = absurd (omega arith)
-      split-early (suc r) k q = found-first ∙ first-append (pointReasons nodes (natAbs (h .nodes)) edges i x y) (roomReasons nodes edges h keeps) r (sym q)
+      split-early r k q = found-first ∙ first-append (pointReasons nodes (natAbs (h .nodes)) edges i x y) (roomReasons nodes edges h keeps) r k (sym q)
 
       pub split-late : firstReason (pointReasons nodes (natAbs (h .nodes)) edges i x y) ≡ 0 → firstReason (reasons.reasons (sizesOf (lent nodes edges faces h)) (mapOf (lent nodes edges faces h)) (splitTicket keeps z x y)) ≡ firstReason (roomReasons nodes edges h keeps)
       split-late q = found-first ∙ first-after (pointReasons nodes (natAbs (h .nodes)) edges i x y) (roomReasons nodes edges h keeps) refl q
