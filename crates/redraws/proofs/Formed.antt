@@ -1,0 +1,89 @@
+-- Tables in form hold a map. Assumes nothing.
+use mathlib.Core.Path.{_≡_, sym, ap₂, _∙_}
+use mathlib.Core.Bool.{true, _&&_}
+use mathlib.Core.List.{List, map}
+use Prim.Native.Nat.{ℕ, suc, _≤_}
+use native.Mathlib.Omega.{arith}
+use lib.IntN.{ℤ, natAbs}
+use lib.Signed.{nonNeg}
+use mir.Syntax.{w64}
+use mir.Val.{toZ, ofZ}
+use Rattle.lists.specs.declared.Found.{Found}
+use Rattle.lists.specs.Tests.{same}
+use Rattle.lists.specs.Tables.{place}
+use Rattle.lists.specs.Scans.{all, firstOr}
+use Rattle.curves.proofs.Runs.{and-left, and-right}
+use Rattle.map.specs.declared.Head.{Head}
+use Rattle.map.specs.Limits.{maxNodes, maxEdges, maxFaces, lastNumber, nodeWidth, edgeWidth, faceWidth}
+use Rattle.map.specs.Rows.{mapOf, wholeRows, whole}
+use Rattle.map.specs.Form.{numbered, numbers, named, curveFits, departuresDiffer, bareMarked, linksOnce, linksMeet, ringsBearOne, formed}
+use Rattle.tables.specs.Tables.{sameZ, column, nodesOf, edgesOf, facesOf}
+use Rattle.ranges.specs.Ranges.{lent}
+use Rattle.answers.specs.Outcomes.{Formed}
+use Rattle.answers.proofs.Formed.{ranges, formed-map, nodes-count, edges-count, edge-next, node-rows, edge-rows}
+use Rattle.redraws.specs.Holds.{Held, Counted}
+use Rattle.redraws.proofs.Words.{count-natural, count-abs}
+use Rattle.redraws.proofs.Filled.{whole-size, nodes-room, edges-room}
+
+module _ {nodes edges faces : List ℤ} {h : Head} (f : Formed nodes edges faces h) where
+  two-whole : wholeRows nodeWidth 0 maxNodes nodes && wholeRows edgeWidth 0 maxEdges edges ≡ true
+  unfolding whole
+  two-whole = and-left (wholeRows nodeWidth 0 maxNodes nodes && wholeRows edgeWidth 0 maxEdges edges) (wholeRows faceWidth 1 maxFaces faces) (f .whole)
+
+  numbers-rise : numbers (mapOf (lent nodes edges faces h)) ≡ true
+  unfolding formed
+  numbers-rise =
+      let m = mapOf (lent nodes edges faces h) in
+      and-left (numbers m) (named m) (and-left _ (all (curveFits m) (m .edges)) (and-left _ (departuresDiffer m) (and-left _ (bareMarked m) (and-left _ (linksOnce m) (and-left _ (linksMeet m) (and-left _ (ringsBearOne m) (formed-map f)))))))
+
+  below : numbered 1 (natAbs (h .«next_edge»)) (map (λ e. e .number) (edgesOf edges (natAbs (h .edges)))) ≡ true
+  unfolding mapOf numbers
+  below =
+      let a = numbered 1 (natAbs (h .«next_node»)) (map (λ r. r .number) (nodesOf nodes (natAbs (h .nodes)))) in
+      let b = numbered 1 (natAbs (h .«next_edge»)) (map (λ r. r .number) (edgesOf edges (natAbs (h .edges)))) in
+      let c = numbered 0 (natAbs (h .«next_face»)) (facesOf faces (natAbs (h .faces))) in
+      and-right a b (and-left (a && b) c (and-left (a && b && c) (same (firstOr 1 (facesOf faces (natAbs (h .faces)))) 0) numbers-rise))
+
+  pub held : Held nodes edges h
+  held =
+      record {
+        node-table = record { rows = node-rows f; rest = ranges f .node-rest; whole = and-left (wholeRows nodeWidth 0 maxNodes nodes) (wholeRows edgeWidth 0 maxEdges edges) two-whole };
+        edge-table = record { rows = edge-rows f; rest = ranges f .edge-rest; whole = and-right (wholeRows nodeWidth 0 maxNodes nodes) (wholeRows edgeWidth 0 maxEdges edges) two-whole };
+        nodes-count = nodes-count f .0;
+        edges-count = edges-count f .0;
+        next = edge-next f .0;
+        next-least = edge-next f .1;
+        next-most = edge-next f .2;
+        below = below;
+      }
+
+module _ {nodes edges : List ℤ} {h : Head} (d : Held nodes edges h) where
+  pub counted-held : Counted h
+  counted-held =
+      record {
+        count = d .edges-count;
+        few = let a = edges-room (d .edge-table) in let b = whole-size edgeWidth 0 maxEdges edges (d .edge-table .whole) .1 in omega arith;
+        next = d .next;
+        most = d .next-most;
+      }
+
+  pub nodes-held : natAbs (h .nodes) ≤ 1000000
+  nodes-held = let a = nodes-room (d .node-table) in let b = whole-size nodeWidth 0 maxNodes nodes (d .node-table .whole) .1 in omega arith
+
+-- a count or a next number as it is read
+module _ {nodes edges faces : List ℤ} {h : Head} (f : Formed nodes edges faces h) where
+  pub edges-natural : nonNeg (toZ w64 (ofZ w64 (h .edges))) ≡ true
+  edges-natural = let k = counted-held (held f) in count-natural (h .edges) (k .count) (let a = k .few in omega arith)
+
+  pub edges-read : {n : ℕ} → n ≡ natAbs (toZ w64 (ofZ w64 (h .edges))) → n ≡ natAbs (h .edges)
+  edges-read e = let k = counted-held (held f) in e ∙ count-abs (h .edges) (k .count) (let a = k .few in omega arith)
+
+  pub nodes-natural : nonNeg (toZ w64 (ofZ w64 (h .nodes))) ≡ true
+  nodes-natural = count-natural (h .nodes) (held f .nodes-count) (nodes-held (held f))
+
+  pub nodes-read : {n : ℕ} → n ≡ natAbs (toZ w64 (ofZ w64 (h .nodes))) → n ≡ natAbs (h .nodes)
+  nodes-read e = e ∙ count-abs (h .nodes) (held f .nodes-count) (nodes-held (held f))
+
+-- the answer of a search, for a number and a count as they were
+pub place-read : (w : ℕ) (l : List ℤ) {r q : Found} {n n′ : ℕ} {z z′ : ℤ} → r ≡ place (sameZ z′) 0 (column w l n′) → n′ ≡ n → z′ ≡ z → r ≡ q → place (sameZ z) 0 (column w l n) ≡ q
+place-read w l e en ez eq = sym (ap₂ (λ (x : ℤ) (k : ℕ). place (sameZ x) 0 (column w l k)) ez en) ∙ sym e ∙ eq

@@ -1,0 +1,315 @@
+// Kinds 4 to 6: an edge drawn between isolated nodes, removed again, redrawn.
+use answers::Done;
+use lists::Found;
+use map::Head;
+use rowing::Sides;
+ghost use mathlib.Core.Path.{_≡_};
+ghost use mathlib.Core.Bool.{true, not, _&&_, _||_};
+ghost use mathlib.Core.Option.{Option·getD};
+ghost use Prim.Native.Nat.{ℕ, _+_, _*_, _≤_, _<_};
+ghost use lib.IntN.{pos, natAbs, negℤ};
+ghost use lib.ListN.{length, set};
+ghost use lib.Seq.{paste};
+ghost use lib.Signed.{nonNeg};
+ghost use Rattle.lists.specs.Tests.{same};
+ghost use Rattle.lists.specs.Scans.{isSome};
+ghost use Rattle.map.specs.Rows.{edgeCells};
+ghost use Rattle.map.specs.Reasons.{firstReason};
+ghost use Rattle.map.specs.Tickets.{AddIsoEdge, RemoveIsoEdge, ChangeEdgeGeom};
+ghost use Rattle.ranges.specs.Ranges.{lent};
+ghost use Rattle.answers.specs.Outcomes.{Formed, decided, outcome};
+ghost use Rattle.tables.specs.Tables.{closed, nodeAt, edgeAt, NodeRow, EdgeRow, NodeRows, EdgeRows};
+ghost use Rattle.linking.specs.Linking.{unlinkedEdge};
+ghost use Rattle.redraws.specs.Holds.{Counted, drawnHead, undrawnHead, newRow, Held, Drawable, Drawn, bareAt, facedIf, Undrawable, Undrawn};
+ghost use Rattle.redraws.specs.Lone.{roomReasons, loneReasons};
+
+// ---- leaves
+
+// A count or a next number.
+fn count_of(z: i64) -> usize
+    requires { ⌜ nonNeg z ≡ true ⌝ }
+    ensures { λ r. ⌜ r ≡ natAbs z ⌝ }
+{
+    z as usize
+}
+
+// The reverse of an edge as it is written.
+fn back_of(number: i64) -> i64
+    requires { ⌜ (number ≡ pos (natAbs number)) × (natAbs number ≤ 1000000) ⌝ }
+    ensures { λ r. ⌜ r ≡ negℤ number ⌝ }
+{
+    0 - number
+}
+
+// The head with an edge more, and its number given.
+fn with_edge(h: Head) -> Head
+    requires { ⌜ Counted h ⌝ }
+    ensures { λ r. ⌜ r ≡ drawnHead h ⌝ }
+{
+    let n = h.edges;
+    let k = h.next_edge;
+    let mut after = h;
+    after.edges = n + 1;
+    after.next_edge = k + 1;
+    after
+}
+
+// The head with an edge less.
+fn without_edge(h: Head) -> Head
+    requires { ⌜ Counted h × (1 ≤ natAbs (h .edges)) ⌝ }
+    ensures { λ r. ⌜ r ≡ undrawnHead h ⌝ }
+{
+    let n = h.edges;
+    let mut after = h;
+    after.edges = n - 1;
+    after
+}
+
+// The face of a node row.
+fn set_face(nodes: &mut [i64], i: usize, face: i64)
+    requires { ⌜ i * 4 + 4 ≤ length (now nodes) ⌝ }
+    ensures { λ r. ⌜ now (nodes .exit) ≡ set (now (nodes .entry)) (i * 4 + 3) face ⌝ }
+{
+    nodes[i * 4 + 3] = face;
+}
+
+// ---- an edge drawn
+
+// The row of a new edge from node row u to node row v, with the face on both sides, is written last.
+fn write_last(nodes: &[i64], edges: &mut [i64], h: Head, u: usize, v: usize, c: &[i64], face: i64)
+    requires { ⌜ Drawable (now nodes) (now edges) h u v (now c) face ⌝ }
+    ensures { λ r. ⌜ now (edges .exit) ≡ paste (now (edges .entry)) (natAbs (h .edges) * 32) (edgeCells (newRow (now (nodes .entry)) h u v (now (c .entry)) face)) 32 ⌝ }
+{
+    let e = count_of(h.edges);
+    let number = h.next_edge;
+    let start = nodes[u * 4];
+    let end = nodes[v * 4];
+    let back = back_of(number);
+    let row = Sides {
+        number,
+        start,
+        end,
+        next_left: back,
+        next_right: number,
+        left: face,
+        right: face,
+    };
+    rowing::write_edge(edges, e, row, cutting::whole_of(c));
+}
+
+// A new last edge from node row u to node row v with the face on both sides, linked in.
+pub fn draw(
+    nodes: &mut [i64],
+    edges: &mut [i64],
+    h: Head,
+    u: usize,
+    v: usize,
+    c: &[i64],
+    face: i64,
+) -> Head
+    requires { ⌜ Drawable (now nodes) (now edges) h u v (now c) face ⌝ }
+    ensures { λ r. ⌜ Drawn (now (nodes .entry)) (now (edges .entry)) h u v (now (c .entry)) face (now (nodes .exit)) (now (edges .exit)) r ⌝ }
+{
+    write_last(nodes, edges, h, u, v, c, face);
+    let e = count_of(h.edges);
+    linking::link_edge(edges, e + 1);
+    set_face(nodes, u, -1);
+    set_face(nodes, v, -1);
+    with_edge(h)
+}
+
+// ---- an edge undrawn
+
+// No edge ends at the node but that of row i.
+fn is_bare(edges: &[i64], count: usize, i: usize, node: i64) -> bool
+    requires { ⌜ EdgeRows (now edges) count × (i < count) ⌝ }
+    ensures { λ r. ⌜ r ≡ bareAt (now (edges .entry)) count i node ⌝ }
+{
+    let u = edges[i * 32 + 1];
+    let v = edges[i * 32 + 2];
+    let own = (u == node) as usize + (v == node) as usize;
+    linking::edge_ends(edges, count, node) == own
+}
+
+// The two ends of an edge that is gone: whether no other edge ends there.
+struct Bare {
+    start: bool,
+    end: bool,
+}
+
+// Edge row i unlinked and closed up.
+fn undraw_edge(edges: &mut [i64], count: usize, i: usize, u: i64, v: i64) -> Bare
+    requires { ⌜ EdgeRows (now edges) count × (i < count) ⌝ }
+    ensures { λ r. ⌜ (now (edges .exit) ≡ closed 32 (unlinkedEdge (now (edges .entry)) count i) count i) × (r .start ≡ bareAt (unlinkedEdge (now (edges .entry)) count i) count i u) × (r .end ≡ bareAt (unlinkedEdge (now (edges .entry)) count i) count i v) ⌝ }
+{
+    linking::unlink_edge(edges, count, i);
+    let start = is_bare(edges, count, i, u);
+    let end = is_bare(edges, count, i, v);
+    tables::remove_row(edges, 32, count, i);
+    Bare { start, end }
+}
+
+// A node that is bare takes the face.
+fn give_face(nodes: &mut [i64], count: usize, node: i64, face: i64, bare: bool)
+    requires { ⌜ NodeRows (now nodes) count ⌝ }
+    ensures { λ r. ⌜ now (nodes .exit) ≡ facedIf (now (nodes .entry)) count node face bare ⌝ }
+{
+    if bare {
+        let found = tables::find_row(nodes, 4, count, node);
+        if let Found::At(i) = found {
+            set_face(nodes, i, face);
+        }
+    }
+}
+
+// Edge row i unlinked and closed up, with the face around nodes left bare.
+pub fn undraw(nodes: &mut [i64], edges: &mut [i64], h: Head, i: usize, face: i64) -> Head
+    requires { ⌜ Undrawable (now nodes) (now edges) h i face ⌝ }
+    ensures { λ r. ⌜ Undrawn (now (nodes .entry)) (now (edges .entry)) h i face (now (nodes .exit)) (now (edges .exit)) r ⌝ }
+{
+    let n = count_of(h.nodes);
+    let e = count_of(h.edges);
+    let u = edges[i * 32 + 1];
+    let v = edges[i * 32 + 2];
+    let bare = undraw_edge(edges, e, i, u, v);
+    give_face(nodes, n, u, face, bare.start);
+    give_face(nodes, n, v, face, bare.end);
+    without_edge(h)
+}
+
+// ---- the kinds
+
+// The face on the left of an edge row.
+fn left_face(edges: &[i64], i: usize) -> i64
+    requires { ⌜ EdgeRow (now edges) i ⌝ }
+    ensures { λ r. ⌜ r ≡ pos (edgeAt (now (edges .entry)) i .left) ⌝ }
+{
+    edges[i * 32 + 5]
+}
+
+pub fn remove_lone_edge(nodes: &mut [i64], edges: &mut [i64], h: Head, edge: i64) -> Done
+    requires { ⌜ ((faces : _) × Formed (now nodes) (now edges) faces h) ⌝ }
+    ensures { λ r. ⌜ ((faces : _) → Formed (now (nodes .entry)) (now (edges .entry)) faces h → outcome (now (nodes .exit)) (now (edges .exit)) faces r ≡ decided (lent (now (nodes .entry)) (now (edges .entry)) faces h) (RemoveIsoEdge edge)) ⌝ }
+{
+    let e = count_of(h.edges);
+    let found = tables::find_row(edges, 32, e, edge);
+    let Found::At(i) = found else {
+        return answers::refused(h, 4);
+    };
+    if !turning::edge_isolated(edges, e, i) {
+        return answers::refused(h, 9);
+    }
+    let face = left_face(edges, i);
+    let after = undraw(nodes, edges, h, i, face);
+    answers::carried(after, 0)
+}
+
+// The node of row i has a containing face: no edge ends there.
+fn is_lone(nodes: &[i64], i: usize) -> bool
+    requires { ⌜ NodeRow (now nodes) i ⌝ }
+    ensures { λ r. ⌜ r ≡ isSome (nodeAt (now (nodes .entry)) i .face) ⌝ }
+{
+    let z = nodes[i * 4 + 3];
+    z != -1
+}
+
+// Rows u and v are one, or an edge ends at one of their nodes.
+fn joined(nodes: &[i64], u: usize, v: usize) -> bool
+    requires { ⌜ NodeRow (now nodes) u × NodeRow (now nodes) v ⌝ }
+    ensures { λ r. ⌜ r ≡ (same u v || not (isSome (nodeAt (now (nodes .entry)) u .face) && isSome (nodeAt (now (nodes .entry)) v .face))) ⌝ }
+{
+    if u == v {
+        return true;
+    }
+    if !is_lone(nodes, u) {
+        return true;
+    }
+    !is_lone(nodes, v)
+}
+
+// The nodes of rows u and v lie in different faces.
+fn faces_differ(nodes: &[i64], u: usize, v: usize) -> bool
+    requires { ⌜ NodeRow (now nodes) u × NodeRow (now nodes) v × (isSome (nodeAt (now nodes) u .face) ≡ true) × (isSome (nodeAt (now nodes) v .face) ≡ true) ⌝ }
+    ensures { λ r. ⌜ r ≡ not (same (Option·getD (nodeAt (now (nodes .entry)) u .face) 0) (Option·getD (nodeAt (now (nodes .entry)) v .face) 0)) ⌝ }
+{
+    let a = nodes[u * 4 + 3];
+    let b = nodes[v * 4 + 3];
+    a != b
+}
+
+// 20, 21 or 0: no room for a row, or no number for it.
+fn room_reason(edges: &[i64], h: Head) -> u64
+    requires { ⌜ Counted h ⌝ }
+    ensures { λ r. ⌜ r ≡ firstReason (roomReasons (now (edges .entry)) h) ⌝ }
+{
+    if edges.len() / 32 < count_of(h.edges) + 1 {
+        return 20;
+    }
+    if 1000000 < count_of(h.next_edge) + 1 {
+        21
+    } else {
+        0
+    }
+}
+
+// The first reason from 5 on against an edge from node row u to node row v; 0 for none.
+fn lone_reason(nodes: &[i64], edges: &[i64], h: Head, u: usize, v: usize, c: &[i64]) -> u64
+    requires { ⌜ Held (now nodes) (now edges) h × (u < natAbs (h .nodes)) × (v < natAbs (h .nodes)) ⌝ }
+    ensures { λ r. ⌜ r ≡ firstReason (loneReasons (now (nodes .entry)) (now (edges .entry)) h u v (now (c .entry))) ⌝ }
+{
+    let reason = conditions::curve_reason(nodes, u, v, c);
+    if reason != 0 {
+        return reason;
+    }
+    if joined(nodes, u, v) {
+        return 9;
+    }
+    if faces_differ(nodes, u, v) {
+        return 12;
+    }
+    let n = count_of(h.nodes);
+    let e = count_of(h.edges);
+    let meeting = conditions::meeting_reason(nodes, n, edges, e, e, c);
+    if meeting != 0 {
+        return meeting;
+    }
+    room_reason(edges, h)
+}
+
+// The containing face of the node of row i.
+fn face_of(nodes: &[i64], i: usize) -> i64
+    requires { ⌜ NodeRow (now nodes) i × (isSome (nodeAt (now nodes) i .face) ≡ true) ⌝ }
+    ensures { λ r. ⌜ r ≡ pos (Option·getD (nodeAt (now (nodes .entry)) i .face) 0) ⌝ }
+{
+    nodes[i * 4 + 3]
+}
+
+pub fn add_lone_edge(
+    nodes: &mut [i64],
+    edges: &mut [i64],
+    h: Head,
+    start: i64,
+    end: i64,
+    c: &[i64],
+) -> Done
+    requires { ⌜ ((faces : _) × Formed (now nodes) (now edges) faces h) ⌝ }
+    ensures { λ r. ⌜ ((faces : _) → Formed (now (nodes .entry)) (now (edges .entry)) faces h → outcome (now (nodes .exit)) (now (edges .exit)) faces r ≡ decided (lent (now (nodes .entry)) (now (edges .entry)) faces h) (AddIsoEdge start end (now (c .entry)))) ⌝ }
+{
+    let n = count_of(h.nodes);
+    let found = tables::find_row(nodes, 4, n, start);
+    let Found::At(u) = found else {
+        return answers::refused(h, 4);
+    };
+    let found_end = tables::find_row(nodes, 4, n, end);
+    let Found::At(v) = found_end else {
+        return answers::refused(h, 4);
+    };
+    let reason = lone_reason(nodes, edges, h, u, v, c);
+    if reason != 0 {
+        return answers::refused(h, reason);
+    }
+    let number = h.next_edge;
+    let face = face_of(nodes, u);
+    let after = draw(nodes, edges, h, u, v, c, face);
+    answers::carried(after, number)
+}
