@@ -1,1 +1,2 @@
+-- `Signs`: signed numbers read and written.
 pub mod Signs

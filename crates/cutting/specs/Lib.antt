@@ -1,1 +1,2 @@
+-- `Lines`: a curve as the functions hand it on.
 pub mod Lines

@@ -1,1 +1,2 @@
+-- `Empty`: tables of zeros hold the empty map.
 pub mod Empty

@@ -74,7 +74,7 @@ curveReasons m sent u v =
 
 -- ---- 9: not isolated
 
--- a node is isolated when no edge ends there
+-- a node is isolated when it has a containing face: in form, when no edge ends there
 abbrev pub isolated : Map → ℕ → Bool
 isolated m n = isSome (node m n .face)
 
