@@ -57,7 +57,7 @@ module _ {nodes edges faces : List ℤ} {h : Head} (f : Formed nodes edges faces
       unfolding mapOf
       has-node = rw (node-number, node-found nodes (natAbs (h .nodes)) (ranges f .node-rows) (pos (nodeAt nodes i .number)) i (rw node-number at e) .2)
 
-      node-row-is : node (mapOf (lent nodes edges faces h)) (natAbs z) ≡ nodeAt nodes i
+      pub node-row-is : node (mapOf (lent nodes edges faces h)) (natAbs z) ≡ nodeAt nodes i
       unfolding mapOf
       node-row-is = node-is (mapOf (lent nodes edges faces h)) (natAbs z) (nodeAt nodes i) (node-found nodes (natAbs (h .nodes)) (ranges f .node-rows) z i e .2)
 

@@ -1,3 +1,4 @@
--- `Holds`: tables that hold a map, and what is left of them when an edge is drawn or undrawn. `Lone`: the reasons of kind 4 by rows.
+-- `Holds`: tables that hold a map, and what is left of them when an edge is drawn or undrawn. `Lone`, `Change`: the reasons of kinds 4 and 6 by rows.
+pub mod Change
 pub mod Holds
 pub mod Lone

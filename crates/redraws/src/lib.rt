@@ -13,15 +13,20 @@ ghost use lib.Seq.{paste};
 ghost use lib.Signed.{nonNeg};
 ghost use Rattle.lists.specs.Tests.{same};
 ghost use Rattle.lists.specs.Scans.{isSome};
-ghost use Rattle.map.specs.Rows.{edgeCells};
+ghost use Rattle.lists.specs.Tables.{place};
+ghost use Rattle.lists.specs.declared.Found.the-variants.{At};
+ghost use Rattle.curves.specs.Curves.{Run, curveOf};
+ghost use Rattle.map.specs.Rows.{edgeCells, hasNode};
+ghost use Rattle.map.specs.Edits.{withCurve};
 ghost use Rattle.map.specs.Reasons.{firstReason};
 ghost use Rattle.map.specs.Tickets.{AddIsoEdge, RemoveIsoEdge, ChangeEdgeGeom};
 ghost use Rattle.ranges.specs.Ranges.{lent};
 ghost use Rattle.answers.specs.Outcomes.{Formed, decided, outcome};
-ghost use Rattle.tables.specs.Tables.{closed, nodeAt, edgeAt, NodeRow, EdgeRow, NodeRows, EdgeRows};
+ghost use Rattle.tables.specs.Tables.{sameZ, column, closed, nodeAt, nodeMap, edgeAt, NodeRow, EdgeRow, NodeRows, EdgeRows};
 ghost use Rattle.linking.specs.Linking.{unlinkedEdge};
 ghost use Rattle.redraws.specs.Holds.{Counted, drawnHead, undrawnHead, newRow, Held, Drawable, Drawn, bareAt, facedIf, Undrawable, Undrawn};
 ghost use Rattle.redraws.specs.Lone.{roomReasons, loneReasons};
+ghost use Rattle.redraws.specs.Change.{takenAt, turnReasons, changeReasons};
 
 // ---- leaves
 
@@ -312,4 +317,126 @@ pub fn add_lone_edge(
     let face = face_of(nodes, u);
     let after = draw(nodes, edges, h, u, v, c, face);
     answers::carried(after, number)
+}
+
+// A curve for the edge of row i leaves a node in the direction of another edge.
+fn is_taken(edges: &[i64], count: usize, i: usize, c: &[i64]) -> bool
+    requires { ⌜ EdgeRows (now edges) count × (i < count) × Run (now c) ⌝ }
+    ensures { λ r. ⌜ r ≡ takenAt (now (edges .entry)) count i (now (c .entry)) ⌝ }
+{
+    let start = edges[i * 32 + 1];
+    let end = edges[i * 32 + 2];
+    turning::direction_taken(edges, count, i, start, end, c)
+}
+
+// The first reason from 11 on against a curve for the edge of row i; 0 for none.
+fn turn_reason(nodes: &[i64], n: usize, edges: &[i64], count: usize, i: usize, c: &[i64]) -> u64
+    requires { ⌜ NodeRows (now nodes) n × EdgeRows (now edges) count × (i < count) × Run (now c) ⌝ }
+    ensures { λ r. ⌜ r ≡ firstReason (turnReasons (now (nodes .entry)) n (now (edges .entry)) count i (now (c .entry))) ⌝ }
+{
+    if is_taken(edges, count, i, c) {
+        return 11;
+    }
+    let meeting = conditions::meeting_reason(nodes, n, edges, count, i, c);
+    if meeting != 0 {
+        return meeting;
+    }
+    if turning::order_changes(edges, count, i, c) {
+        19
+    } else {
+        0
+    }
+}
+
+// The first reason from 5 on against a curve for the edge of row i, between node rows u and v; 0 for none.
+fn change_reason(
+    nodes: &[i64],
+    edges: &[i64],
+    h: Head,
+    i: usize,
+    u: usize,
+    v: usize,
+    c: &[i64],
+) -> u64
+    requires { ⌜ Held (now nodes) (now edges) h × (i < natAbs (h .edges)) × (u < natAbs (h .nodes)) × (v < natAbs (h .nodes)) ⌝ }
+    ensures { λ r. ⌜ r ≡ firstReason (changeReasons (now (nodes .entry)) (now (edges .entry)) h i u v (now (c .entry))) ⌝ }
+{
+    let reason = conditions::curve_reason(nodes, u, v, c);
+    if reason != 0 {
+        return reason;
+    }
+    let n = count_of(h.nodes);
+    let e = count_of(h.edges);
+    turn_reason(nodes, n, edges, e, i, c)
+}
+
+// Edge row i with another curve.
+fn write_curve(edges: &mut [i64], i: usize, c: &[i64])
+    requires { ⌜ EdgeRow (now edges) i × Run (now c) ⌝ }
+    ensures { λ r. ⌜ now (edges .exit) ≡ paste (now (edges .entry)) (i * 32) (edgeCells (withCurve (curveOf (now (c .entry))) (edgeAt (now (edges .entry)) i))) 32 ⌝ }
+{
+    let number = edges[i * 32];
+    let start = edges[i * 32 + 1];
+    let end = edges[i * 32 + 2];
+    let next_left = edges[i * 32 + 3];
+    let next_right = edges[i * 32 + 4];
+    let left = edges[i * 32 + 5];
+    let right = edges[i * 32 + 6];
+    let row = Sides {
+        number,
+        start,
+        end,
+        next_left,
+        next_right,
+        left,
+        right,
+    };
+    rowing::write_edge(edges, i, row, cutting::whole_of(c));
+}
+
+// The nodes where an edge row starts and ends.
+fn start_of(edges: &[i64], i: usize) -> i64
+    requires { ⌜ EdgeRow (now edges) i ⌝ }
+    ensures { λ r. ⌜ r ≡ pos (edgeAt (now (edges .entry)) i .start) ⌝ }
+{
+    edges[i * 32 + 1]
+}
+
+fn end_of(edges: &[i64], i: usize) -> i64
+    requires { ⌜ EdgeRow (now edges) i ⌝ }
+    ensures { λ r. ⌜ r ≡ pos (edgeAt (now (edges .entry)) i .end) ⌝ }
+{
+    edges[i * 32 + 2]
+}
+
+// The row of a node that is there.
+fn row_of(nodes: &[i64], count: usize, node: i64) -> usize
+    requires { ⌜ NodeRows (now nodes) count × (nonNeg node ≡ true) × (hasNode (nodeMap (now nodes) count) (natAbs node) ≡ true) ⌝ }
+    ensures { λ r. ⌜ place (sameZ node) 0 (column 4 (now (nodes .entry)) count) ≡ At r ⌝ }
+{
+    let found = tables::find_row(nodes, 4, count, node);
+    let Found::At(i) = found else {
+        return 0;
+    };
+    i
+}
+
+pub fn change_curve(nodes: &[i64], edges: &mut [i64], h: Head, edge: i64, c: &[i64]) -> Done
+    requires { ⌜ ((faces : _) × Formed (now nodes) (now edges) faces h) ⌝ }
+    ensures { λ r. ⌜ ((faces : _) → Formed (now (nodes .entry)) (now (edges .entry)) faces h → outcome (now (nodes .entry)) (now (edges .exit)) faces r ≡ decided (lent (now (nodes .entry)) (now (edges .entry)) faces h) (ChangeEdgeGeom edge (now (c .entry)))) ⌝ }
+{
+    let e = count_of(h.edges);
+    let found = tables::find_row(edges, 32, e, edge);
+    let Found::At(i) = found else {
+        return answers::refused(h, 4);
+    };
+    let n = count_of(h.nodes);
+    let u = row_of(nodes, n, start_of(edges, i));
+    let v = row_of(nodes, n, end_of(edges, i));
+    let reason = change_reason(nodes, edges, h, i, u, v, c);
+    if reason != 0 {
+        return answers::refused(h, reason);
+    }
+    write_curve(edges, i, c);
+    answers::carried(h, 0)
 }

@@ -1,0 +1,52 @@
+-- `redraws::change_reason` meets its contract: the curve's own reasons first. Assumes nothing.
+use mathlib.Core.Path.{sym, ap₂, _∙_}
+use Prim.Native.Nat.{ℕ}
+use native.Mathlib.Omega.{arith}
+use Rattle.map.specs.Reasons.{firstReason}
+use Rattle.redraws.specs.Change.{turnReasons}
+use Rattle.redraws.proofs.Words.{count-natural, count-abs}
+use Rattle.redraws.proofs.Formed.{counted-held, nodes-held}
+use Rattle.redraws.proofs.Lone.{node-row, sent-run}
+use Rattle.redraws.proofs.Change.{change-sent, change-turns}
+use Rattle.redraws.proofs.change_reason.Statement.{statement}
+use Rattle.redraws.proofs.change_reason.Tie as tie
+
+curve-reason-requires : tie.Need-curve-reason-requires
+curve-reason-requires c κs = let p = c .pre in (node-row (p .0 .node-table .rows) (c .args .u) (p .2), node-row (p .0 .node-table .rows) (c .args .v) (p .3))
+
+sent : tie.Need-returns
+sent c =
+    let a = c .before .before .args in
+    change-sent (a .nodes .now) (a .edges .now) (a .h) (a .i) (a .u) (a .v) (a .c .now) (c .before .curve-reason .ensures) (c .if1 .taken)
+
+turn-reason-requires : tie.Need-turn-reason-requires
+turn-reason-requires c κs =
+    let s = c .before .before .before .before .before .before in
+    let a = s .args in
+    let p = s .pre in
+    let k = counted-held (p .0) in
+    let n = c .before .before .count-of .ensures ∙ count-abs (a .h .nodes) (p .0 .nodes-count) (nodes-held (p .0)) in
+    let j = c .count-of2 .ensures ∙ count-abs (a .h .edges) (k .count) (omega (arith, k .few)) in
+    (rw n (p .0 .node-table .rows), rw j (p .0 .edge-table .rows), rw j (p .1), sent-run (a .nodes .now) (a .edges .now) (a .h) (a .u) (a .v) (a .c .now) (sym (c .before .before .before .before .before .curve-reason .ensures) ∙ c .before .before .before .before .if1 .left))
+
+turns : tie.Need-returns-2
+turns c =
+    let s = c .before .before .before .before .before .before .before in
+    let a = s .args in
+    let p = s .pre in
+    let k = counted-held (p .0) in
+    let n = c .before .before .before .count-of .ensures ∙ count-abs (a .h .nodes) (p .0 .nodes-count) (nodes-held (p .0)) in
+    let j = c .before .count-of2 .ensures ∙ count-abs (a .h .edges) (k .count) (omega (arith, k .few)) in
+    change-turns (a .nodes .now) (a .edges .now) (a .h) (a .i) (a .u) (a .v) (a .c .now) (sym (c .before .before .before .before .before .before .curve-reason .ensures) ∙ c .before .before .before .before .before .if1 .left)
+    (c .turn-reason .ensures ∙ ap₂ (λ (x y : ℕ). firstReason (turnReasons (a .nodes .now) x (a .edges .now) y (a .i) (a .c .now))) n j)
+
+pub change-reason-spec : {M : Type 1} → statement M
+change-reason-spec =
+    tie.close
+    (tie.spec
+    curve-reason-requires
+    sent
+    (λ c κs. let s = c .before .before .before in count-natural (s .args .h .nodes) (s .pre .0 .nodes-count) (nodes-held (s .pre .0)))
+    (λ c κs. let s = c .before .before .before .before .before in let k = counted-held (s .pre .0) in count-natural (s .args .h .edges) (k .count) (omega (arith, k .few)))
+    turn-reason-requires
+    turns)
