@@ -1,0 +1,5 @@
+-- `Answers`: reason by reason, what one ticket and a list of tickets answer. `Turns`: a list of tickets, ticket by ticket.
+-- `Written`: every list of tickets can be written in two slices.
+pub mod Answers
+pub mod Turns
+pub mod Written

@@ -1,0 +1,2 @@
+-- `Runs`: what a call for a whole list of tickets leaves and answers.
+pub mod Runs

@@ -1,0 +1,115 @@
+// The engine: the empty map, one ticket, the edges of a face, a list of tickets.
+use answers::Done;
+use map::Answer;
+use map::Head;
+ghost use mathlib.Core.Path.{_≡_};
+ghost use mathlib.Core.List.{map};
+ghost use Prim.Native.Nat.{min, _≤_};
+ghost use lib.ListN.{length};
+ghost use Rattle.map.specs.Ticket.{ticket, emptied, edgesOfFace};
+ghost use Rattle.map.specs.Grow.{Grown, after};
+ghost use Rattle.ranges.specs.Ranges.{lent};
+ghost use Rattle.answers.specs.Outcomes.{outcome};
+ghost use Rattle.engine.specs.Runs.{ticketsOf, front, Runs};
+
+// The empty map everywhere in the tables, whatever they and the head held; 1 where the tables are not whole.
+pub fn empty_map(nodes: &mut [i64], edges: &mut [i64], faces: &mut [i64], h: Head) -> Done
+    ensures { λ r. ⌜ outcome (now (nodes .exit)) (now (edges .exit)) (now (faces .exit)) r ≡ emptied (lent (now (nodes .entry)) (now (edges .entry)) (now (faces .entry)) h) ⌝ }
+{
+    emptying::empty_map(nodes, edges, faces, h)
+}
+
+// One ticket, on any tables and any run of numbers.
+pub fn ticket(nodes: &mut [i64], edges: &mut [i64], faces: &mut [i64], h: Head, t: &[i64]) -> Done
+    ensures { λ r. ⌜ outcome (now (nodes .exit)) (now (edges .exit)) (now (faces .exit)) r ≡ ticket (lent (now (nodes .entry)) (now (edges .entry)) (now (faces .entry)) h) (now (t .entry)) ⌝ }
+{
+    if !ranges::is_whole(nodes, edges, faces) {
+        return answers::refused(h, 1);
+    }
+    if !form::in_form(nodes, edges, faces, h) {
+        return answers::refused(h, 2);
+    }
+    kinds::edit(nodes, edges, faces, h, t)
+}
+
+// Each ring of the face as its length and then its directed edges. The value is the count of numbers written.
+pub fn edges_of_face(
+    nodes: &[i64],
+    edges: &[i64],
+    faces: &[i64],
+    h: Head,
+    face: i64,
+    list: &mut [i64],
+) -> Answer
+    ensures { λ r. ⌜ record { list = now (list .exit); answer = r } ≡ edgesOfFace (lent (now (nodes .entry)) (now (edges .entry)) (now (faces .entry)) h) face (now (list .entry)) ⌝ }
+{
+    listing::edges_of_face(nodes, edges, faces, h, face, list)
+}
+
+fn least(a: usize, b: usize) -> usize
+    ensures { λ r. ⌜ r ≡ min a b ⌝ }
+{
+    if a < b { a } else { b }
+}
+
+// The tickets one after the other.
+fn run_tickets(
+    nodes: &mut [i64],
+    edges: &mut [i64],
+    faces: &mut [i64],
+    h: Head,
+    numbers: &[i64],
+    lengths: &[usize],
+    refusals: &mut [u64],
+    values: &mut [i64],
+) -> Head
+    requires { ⌜ (length (now lengths) ≤ length (now refusals)) × (length (now lengths) ≤ length (now values)) ⌝ }
+    ensures { λ r. ⌜ ((g : Grown) → g ≡ after (lent (now (nodes .entry)) (now (edges .entry)) (now (faces .entry)) h) (ticketsOf (now (numbers .entry)) (now (lengths .entry))) → (lent (now (nodes .exit)) (now (edges .exit)) (now (faces .exit)) r ≡ g .lent) × (now (refusals .exit) ≡ front (map (λ a. a .refusal) (g .answers)) (now (refusals .entry))) × (now (values .exit) ≡ front (map (λ a. a .value) (g .answers)) (now (values .entry)))) ⌝ }
+{
+    let mut head = h;
+    let mut at = 0;
+    for i in 0..lengths.len() {
+        let end = at + least(lengths[i], numbers.len() - at);
+        let next = ticket(nodes, edges, faces, head, &numbers[at..end]);
+        refusals[i] = next.answer.refusal;
+        let value = next.answer.value;
+        values[i] = value;
+        head = next.head;
+        at = end;
+    }
+    head
+}
+
+// A list of tickets from the empty map on. `numbers` has the tickets one after the other, and `lengths` how many numbers each has.
+pub fn run(
+    nodes: &mut [i64],
+    edges: &mut [i64],
+    faces: &mut [i64],
+    h: Head,
+    numbers: &[i64],
+    lengths: &[usize],
+    refusals: &mut [u64],
+    values: &mut [i64],
+) -> Done
+    ensures { λ r. ⌜ Runs (lent (now (nodes .entry)) (now (edges .entry)) (now (faces .entry)) h) (now (numbers .entry)) (now (lengths .entry)) (now (refusals .entry)) (now (values .entry)) (record { lent = lent (now (nodes .exit)) (now (edges .exit)) (now (faces .exit)) (r .head); refusals = now (refusals .exit); values = now (values .exit); answer = r .answer }) ⌝ }
+{
+    if !ranges::is_whole(nodes, edges, faces) {
+        return answers::refused(h, 1);
+    }
+    let n = lengths.len();
+    if (refusals.len() < n) | (values.len() < n) {
+        return answers::refused(h, 20);
+    }
+    let empty = emptying::empty_map(nodes, edges, faces, h);
+    let after = run_tickets(
+        nodes,
+        edges,
+        faces,
+        empty.head,
+        numbers,
+        lengths,
+        refusals,
+        values,
+    );
+    answers::carried(after, 0)
+}
