@@ -1,0 +1,2 @@
+-- `Values`: calls whose value is always 0.
+pub mod Values

@@ -1,0 +1,33 @@
+-- `abi::solgwid_empty_map` meets its contract: the value is 0. Assumes nothing.
+use borrow.Author.Needs.{needs}
+use mathlib.Core.Path.{ap, _∙_}
+use lib.IntN.{pos}
+use Rattle.map.specs.declared.Head.{Head}
+use Rattle.map.specs.Rows.{Lent}
+use Rattle.ranges.specs.Ranges.{lent}
+use Rattle.map.specs.Ticket.{emptied}
+use Rattle.abi.proofs.Values.{emptied-told}
+use Rattle.abi.proofs.solgwid_empty_map.Statement.{statement}
+use Rattle.abi.proofs.solgwid_empty_map.Tie as tie
+
+returns : tie.Need-returns
+returns c =
+    let k = c .before .before .before .before .before in
+    let a = k .before .before .before .before .before .before .args in
+    let l : Head → Lent = lent (a .nodes .now) (a .edges .now) (a .faces .now) in
+    let after : Head → Lent = lent (k .empty-map .last .0) (k .empty-map .last .1 .0) (k .empty-map .last .1 .1 .0) in
+    ap (λ (h : Head). record { lent = after h; answer = record { refusal = k .empty-map .result .answer .refusal; value = pos 0 } }) (c .put-head .ensures)
+    ∙ emptied-told (l (k .before .head-in .result)) (after (k .empty-map .result .head)) (k .empty-map .result .answer) (k .empty-map .ensures)
+    ∙ ap (λ (h : Head). emptied (l h)) (k .before .head-in .ensures)
+
+pub solgwid-empty-map-spec : {M : Type 1} → statement M
+solgwid-empty-map-spec =
+    tie.close
+    (tie.spec
+    (λ c κs. search needs)
+    (λ c κs. search needs)
+    (λ c κs. search needs)
+    (λ c. search needs)
+    (λ c. search needs)
+    (λ c. search needs)
+    returns)

@@ -1,0 +1,2 @@
+-- `Heads`: the head as six numbers.
+pub mod Heads

@@ -1,0 +1,115 @@
+// The engine for programs in C and Rust: include/solgwid.h. A slice goes as a pointer and a length, the head as six numbers; each function answers the refusal.
+use map::Head;
+ghost use mathlib.Core.Path.{_≡_};
+ghost use lib.IntN.{pos};
+ghost use Rattle.map.specs.Ticket.{ticket, emptied, edgesOfFace};
+ghost use Rattle.ranges.specs.Ranges.{lent};
+ghost use Rattle.engine.specs.Runs.{Runs};
+ghost use Rattle.abi.specs.Heads.{headIn};
+
+fn head_in(l: &[i64; 6]) -> Head
+    ensures { λ r. ⌜ r ≡ headIn (now (l .entry)) ⌝ }
+{
+    Head {
+        nodes: l[0],
+        edges: l[1],
+        faces: l[2],
+        next_node: l[3],
+        next_edge: l[4],
+        next_face: l[5],
+    }
+}
+
+fn put_head(l: &mut [i64; 6], h: Head)
+    ensures { λ r. ⌜ headIn (now (l .exit)) ≡ h ⌝ }
+{
+    *l = [
+        h.nodes,
+        h.edges,
+        h.faces,
+        h.next_node,
+        h.next_edge,
+        h.next_face,
+    ];
+}
+
+// The empty map, whatever the tables and the head held.
+#[no_mangle]
+pub extern "C" fn solgwid_empty_map(
+    nodes: &mut [i64],
+    edges: &mut [i64],
+    faces: &mut [i64],
+    head: &mut [i64; 6],
+) -> u64
+    ensures { λ r. ⌜ record { lent = lent (now (nodes .exit)) (now (edges .exit)) (now (faces .exit)) (headIn (now (head .exit))); answer = record { refusal = r; value = pos 0 } } ≡ emptied (lent (now (nodes .entry)) (now (edges .entry)) (now (faces .entry)) (headIn (now (head .entry)))) ⌝ }
+{
+    let done = engine::empty_map(nodes, edges, faces, head_in(head));
+    put_head(head, done.head);
+    done.answer.refusal
+}
+
+// One ticket.
+#[no_mangle]
+pub extern "C" fn solgwid_ticket(
+    nodes: &mut [i64],
+    edges: &mut [i64],
+    faces: &mut [i64],
+    head: &mut [i64; 6],
+    numbers: &[i64],
+    value: &mut i64,
+) -> u64
+    ensures { λ r. ⌜ record { lent = lent (now (nodes .exit)) (now (edges .exit)) (now (faces .exit)) (headIn (now (head .exit))); answer = record { refusal = r; value = now (value .exit) } } ≡ ticket (lent (now (nodes .entry)) (now (edges .entry)) (now (faces .entry)) (headIn (now (head .entry)))) (now (numbers .entry)) ⌝ }
+{
+    let done = engine::ticket(nodes, edges, faces, head_in(head), numbers);
+    put_head(head, done.head);
+    let v = done.answer.value;
+    *value = v;
+    done.answer.refusal
+}
+
+// The edges of a face, written from the front of the list; the value is the count of numbers written.
+#[no_mangle]
+pub extern "C" fn solgwid_edges_of_face(
+    nodes: &[i64],
+    edges: &[i64],
+    faces: &[i64],
+    head: &[i64; 6],
+    face: i64,
+    list: &mut [i64],
+    value: &mut i64,
+) -> u64
+    ensures { λ r. ⌜ record { list = now (list .exit); answer = record { refusal = r; value = now (value .exit) } } ≡ edgesOfFace (lent (now (nodes .entry)) (now (edges .entry)) (now (faces .entry)) (headIn (now (head .entry)))) face (now (list .entry)) ⌝ }
+{
+    let answer = engine::edges_of_face(nodes, edges, faces, head_in(head), face, list);
+    let v = answer.value;
+    *value = v;
+    answer.refusal
+}
+
+// A list of tickets from the empty map on, with a refusal and a value for each.
+#[no_mangle]
+pub extern "C" fn solgwid_run(
+    nodes: &mut [i64],
+    edges: &mut [i64],
+    faces: &mut [i64],
+    head: &mut [i64; 6],
+    numbers: &[i64],
+    lengths: &[usize],
+    refusals: &mut [u64],
+    values: &mut [i64],
+) -> u64
+    ensures { λ r. ⌜ Runs (lent (now (nodes .entry)) (now (edges .entry)) (now (faces .entry)) (headIn (now (head .entry)))) (now (numbers .entry)) (now (lengths .entry)) (now (refusals .entry)) (now (values .entry)) (record { lent = lent (now (nodes .exit)) (now (edges .exit)) (now (faces .exit)) (headIn (now (head .exit))); refusals = now (refusals .exit); values = now (values .exit); answer = record { refusal = r; value = pos 0 } }) ⌝ }
+{
+    let done = engine::run(
+        nodes,
+        edges,
+        faces,
+        head_in(head),
+        numbers,
+        lengths,
+        refusals,
+        values,
+    );
+    put_head(head, done.head);
+    done.answer.refusal
+}
