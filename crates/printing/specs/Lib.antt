@@ -1,0 +1,2 @@
+-- `Texts`: numbers and rows as text.
+pub mod Texts

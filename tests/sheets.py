@@ -1,0 +1,185 @@
+#!/usr/bin/env python3
+"""The stored lines of crates/ticket and crates/sheet: writes their stdin and stdout, the answers worked out by the reference.
+
+  sheets.py [--seed S]     REFERENCE names the reference's folder (default: ../shared/reference beside the repository)
+
+The square sheet's P cases first, then lists by hand and random ones, each from a map that the removals before it made bare; wrong lines among them, and for
+`ticket` a full node table at the end. Fails where a kind is not carried out, a reason of a kind never answers, or one of 3 to 19 is missing.
+"""
+
+import argparse
+import os
+import pathlib
+import random
+import sys
+from collections import Counter
+
+ROOT = pathlib.Path(__file__).resolve().parent.parent
+sys.path[:0] = [os.environ.get('REFERENCE', str(ROOT.parent / 'shared' / 'reference')), str(ROOT / 'tests')]
+
+import fuzz               # noqa: E402
+import islands            # noqa: E402
+import plotmap as pm      # noqa: E402
+import telling            # noqa: E402
+import ticket as tk       # noqa: E402
+
+ROOM = pm.Sizes(200, 200, 200)
+SQUARE = ['1 -1 0 0', '12 1 1 0 0 10 0 10 10 0 10 0 0']
+BACK = ['1 -1 0 0', '12 1 1 0 0 0 10 10 10 10 0 0 0']
+# P2, P5, P6 and P8 to P10; P4 and P7; P3
+CASES = [SQUARE + ['8 1 0 0', '8 1 5 5', '8 1 10 10', '12 1 2 0 0 10 10', '10 1 2', '13 3'], SQUARE + ['8 1 10 4', '10 1 2'], BACK]
+# three edges at a node, two bare nodes, and reasons that random tickets seldom meet; the last two redraws would change the order at the node
+RARE = ['1 -1 10 10', '1 -1 20 10', '1 -1 10 20', '1 -1 0 10', '12 1 2 10 10 20 10', '12 1 3 10 10 10 20', '11 4 1 0 10 10 10', '1 -1 30 30', '1 -1 40 40',
+        '2 5 0 1048576', '2 1 5 5', '3 1', '4 5 6 30 30 41 40', '7 1 -1 0', '8 1 1048576 0', '11 5 6 31 30 40 40', '12 5 6 30 30 41 40',
+        '6 1 10 10 21 10', '6 1 10 10 5 30 15 30 20 10', '6 3 0 10 5 30 15 30 10 10']
+# what a number of a ticket names, by kind: a face, nodes, edges
+NAMES = {1: 'f', 2: 'n', 3: 'n', 4: 'nn', 5: 'e', 6: 'e', 7: 'e', 8: 'e', 9: 'ee', 10: 'ee', 11: 'nn', 12: 'nn', 13: 'e', 14: 'e'}
+# a ticket of each kind, to read its reasons off
+SHAPES = {k: (k, *[1] * len(NAMES[k]), *([0, 0] if k in (1, 2, 7, 8) else [0, 0, 1, 1] if k in (4, 6, 11, 12) else [])) for k in NAMES}
+
+
+class Sheet:
+    """Lines one after the other, and the map after them."""
+
+    def __init__(self, rng):
+        self.rng, self.map, self.lines = rng, pm.EMPTY_MAP, []
+
+    def put(self, ticket):
+        self.lines.append(spelled(self.rng, ticket))
+        if pm.shape_ok(ticket) and pm.first_reason(pm.reasons(self.map, ROOM, ticket)) == 0:
+            self.map = pm.apply(self.map, ticket)[0]
+
+    def clear(self):
+        for e in self.rng.sample(self.map.edges, len(self.map.edges)):
+            self.put((self.rng.choice([13, 14]), e.number))
+        for n in self.map.nodes:
+            self.put((3, n.number))
+
+    def chapter(self, lines):
+        """A list whose numbers count from 1 on, from a bare map."""
+        self.clear()
+        first = {'n': self.map.next_node, 'e': self.map.next_edge, 'f': self.map.next_face}
+        for line in lines:
+            kind, *rest = map(int, line.split())
+            named = [v + first[n] - 1 if v > 0 else v for n, v in zip(NAMES[kind], rest)]
+            self.put((kind, *named, *rest[len(named):]))
+
+    def grow(self, mix, tickets):
+        """Random tickets, from a bare map, and wrong lines among them."""
+        self.clear()
+        world = islands.World(self.rng) if mix == 'islands' else None
+        grid = (0, 0, self.rng.choice([4, 6, 8, 12, 20, pm.MAX_COORDINATE + 1]))
+        for _ in range(tickets):
+            if self.rng.random() < 0.05:
+                self.lines.append(self.rng.choice(WRONG))
+            self.put(islands.ticket(self.rng, self.map, world) if world else fuzz.make_ticket(self.rng, self.map, grid, fuzz.MIXES[mix]))
+
+    def fill(self):
+        """Nodes until no row is free, an edge that is split in vain, and a row freed and taken again."""
+        self.clear()
+        while len(self.map.nodes) < ROOM.nodes:
+            i = len(self.map.nodes)
+            self.put((1, -1, 20 * (i % 15), 20 * (i // 15)))
+        at = lambda n: (n.x, n.y)
+        u, v = self.map.nodes[:2]
+        self.put((4, u.number, v.number, *at(u), *at(v)))
+        e = self.map.edges[0].number
+        for k in ((1, -1, 5, 5), (7, e, 10, 0), (8, e, 10, 0), (11, v.number, u.number, *at(v), 10, 10, *at(u)), (3, self.map.nodes[-1].number), (8, e, 10, 0), (1, 0, 5, 5)):
+            self.put(k)
+
+
+def spelled(rng, ticket):
+    """The ticket as a line, some with signs, zeros and blanks that change nothing."""
+    words = [str(v) for v in ticket]
+    if rng.random() < 0.9:
+        return ' '.join(words).encode()
+    words = [rng.choice([w, w, '+' + w, '000' + w] if w[0] != '-' else [w, '-0' + w[1:]]) for w in words]
+    return b'%s%s%s' % (rng.choice([b'', b' ', b'\t']), rng.choice([b' ', b'  ', b'\t', b' \f ', b'\r']).join(w.encode() for w in words), rng.choice([b'', b' ', b'\r']))
+
+
+def long_line(size, y):
+    """A ticket of kind 1 in that many bytes."""
+    head, tail = b'1 -1 0', b'%d' % y
+    return head + b' ' * (size - len(head) - len(tail)) + tail
+
+
+WRONG = [b'', b' ', b'\t\r\f ', b'x', b'hello', b'1 -1 0 0.5', b'1 -1 0 1e3', b'1 -1 0x10 0', b'1,-1,0,0', b'1 -1 0 0 ;', b'+', b'-', b'--1', b'1 -1 3- 4', b'1_000', b'\x00',
+         b'1 -1 0\x0b0', '١ -1 0 0'.encode(), b'\xff\xfe', b'0', b'15 1', b'-1', b'3', b'12 1', b'12 1 1 5', b'1 -1 0', b'1 -1 0 0 0', b'10 1',
+         b'1 -1 0 99999999999999999999', b'9223372036854775808', b'-9223372036854775809', b'1 -1 0 18446744073709551616', b'3 9223372036854775808', b'3 9223372036854775807',
+         b'3 -9223372036854775808', b'1 -1 9223372036854775807 0', b'1 -1 -9223372036854775808 0', b'2 18446744073709551617 1 1']
+LONG = [b'1 ' * 500, b'1 ' * 499 + b'1', b'9' * 1000, long_line(1001, 0), long_line(1002, 0), long_line(5000, 0), b'1 -1 0 0' + b' ' * 993, b'x' * 20000]
+# lines that are right and look wrong
+RIGHT = [b'1 -1 ' + b'0' * 990 + b'1 77', long_line(1000, 78), b'1 -1 0 79' + b'\t' * 991, b'\r\f\t1 -1 +0 +80\r', b'1 -1 0 00000000000000000000000000000081']
+
+
+MIXES = [*fuzz.MIXES, 'islands', 'islands', 'islands']
+
+
+def by_hand(s):
+    for lines in [*CASES, RARE, *(lines for lines, _ in telling.hand_lists())]:
+        s.chapter(lines)
+    s.clear()
+
+
+def ticket_lines(rng):
+    s = Sheet(rng)
+    by_hand(s)
+    s.lines += WRONG + LONG + RIGHT
+    s.map = after(s.lines)
+    for mix in MIXES * 4:
+        s.grow(mix, 60)
+    s.fill()
+    return s.lines
+
+
+def sheet_lines(rng):
+    s = Sheet(rng)
+    by_hand(s)
+    for mix in MIXES:
+        s.grow(mix, 50)
+    s.clear()
+    return s.lines
+
+
+def after(lines):
+    for r, v, t, h in tk.answers(lines):
+        pass
+    return pm.decode(t, h, 0)
+
+
+def store(name, lines, rows):
+    """Writes stdin, with no line end after the last line, and stdout; the answers by kind."""
+    folder, out, said = ROOT / 'crates' / name, [], []
+    for line, (r, v, t, h) in zip(lines, tk.answers(lines)):
+        out += [f'{r} {v}'] + (tk.dump_lines(t, h, 0) if rows else [])
+        numbers = tk.read_ticket(line)
+        said.append((numbers[0] if numbers and numbers[0] in NAMES else 0, r))
+    (folder / 'stdin').write_bytes(b'\n'.join(lines))
+    (folder / 'stdout').write_text('\n'.join(out) + '\n')
+    return said
+
+
+def told(name, said):
+    """Prints the counts; what is missing."""
+    by_kind, by_refusal = Counter(said), Counter(r for _, r in said)
+    print(f'{name}: {len(said)} lines, {by_refusal[0]} carried out, {len(said) - by_refusal[0]} refused')
+    missing = []
+    for kind, shape in SHAPES.items():
+        counts = {r: by_kind[kind, r] for r in range(22) if by_kind[kind, r]}
+        print(f'  kind {kind}: {counts.get(0, 0)} carried out, {sum(counts.values()) - counts.get(0, 0)} refused', {r: n for r, n in counts.items() if r})
+        missing += [f'kind {kind} answered {r}' for r in (0, *(r for r, _ in pm.reasons(pm.EMPTY_MAP, ROOM, shape) if r < 20)) if r not in counts]
+    print('  by refusal:', dict(sorted(by_refusal.items())))
+    return missing + [f'refusal {r}' for r in range(3, 20) if not by_refusal[r]]
+
+
+def main():
+    args = argparse.ArgumentParser()
+    args.add_argument('--seed', type=int, default=1)
+    rng = random.Random(args.parse_args().seed)
+    missing = told('ticket', store('ticket', ticket_lines(rng), False))
+    told('sheet', store('sheet', sheet_lines(rng), True))
+    if missing:
+        sys.exit('missing: ' + ', '.join(missing))
+
+
+main()
