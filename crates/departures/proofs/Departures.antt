@@ -9,17 +9,19 @@ use native.Mathlib.Nat.{eq-or-lt-of-le}
 use native.Mathlib.Omega.{arith}
 use lib.Dec.{ltb, lit<}
 use lib.IntN.{ℤ, pos, negsuc, natAbs}
-use lib.ListN.{length, getD, set}
+use lib.ListN.{length, getD, set, replicate, length-set, length-replicate}
 use lib.Seq.{getD-set-same, getD-set-other}
 use lib.Signed.{leZ, nonNeg}
 use borrow.Author.Count.{below-more}
 use borrow.Author.Tests.{leb-true, lt-ltb}
+use Rattle.integers.specs.Order.{sgn}
 use Rattle.lists.specs.Tests.{same}
 use Rattle.lists.specs.Scans.{any, all, keep, isSome}
 use Rattle.lists.specs.Tables.{table, place}
 use Rattle.lists.specs.declared.Found.the-variants.{At, Missing}
 use Rattle.lists.proofs.Bools.{eq2, which, same-true, same-eq, same-false, not-true, equal?}
-use Rattle.plane.specs.Directions.{Way, sameWay}
+use Rattle.plane.specs.Areas.{isNull}
+use Rattle.plane.specs.Directions.{Way, class, cross, sameWay}
 use Rattle.curves.specs.Curves.{coordinate}
 use Rattle.curves.proofs.Runs.{and-left, and-right}
 use Rattle.planar.specs.Map.{Dart}
@@ -116,6 +118,15 @@ pub record Chained (nodes : List ℤ) (r : ℕ) (l : List ℤ) (p : ℕ) (last b
   pub lasts : (i : ℕ) → i < r → getD last i 0 ≡ latest (fromNode l (getD nodes (i * nodeWidth) (pos 0))) p
   pub backs : (q : ℕ) → q < p → getD back q 0 ≡ latest (fromNode l (sideCell l q 1)) q
   pub apart : (q : ℕ) → q < p → someBelow (alike l q) q ≡ false
+
+-- the marks after p positions: 1 at the node row and the class of each
+pub record Classed (nodes : List ℤ) (r : ℕ) (l : List ℤ) (p : ℕ) (marks : List ℕ) : Type 0 where
+  pub room : length marks ≡ 9000
+  pub set-at : (i q : ℕ) → i < r → q < p → fromNode l (getD nodes (i * nodeWidth) (pos 0)) q ≡ true → getD marks (i * 9 + class (wayAt l q)) 0 ≡ 1
+
+one-class : (v w : Way) → sameWay v w ≡ true → class v ≡ class w
+unfolding sameWay
+one-class v w e = same-true (class v) (class w) (and-left (same (class v) (class w)) (isNull (sgn (cross v w))) e)
 
 -- the nodes at the ends of an edge exist
 named-end : (nodes : List ℤ) (r : ℕ) (l : List ℤ) (n : ℕ) → EdgeRows l n → all (λ e. hasNode (nodeMap nodes r) (e .start) && hasNode (nodeMap nodes r) (e .end)) (edgesOf l n) ≡ true → (p : ℕ) → p < n * 2 → hasNode (nodeMap nodes r) (leaves (edgeMap l n) (dartAt l p)) ≡ true
@@ -238,6 +249,38 @@ module _ {nodes : List ℤ} {r : ℕ} {l : List ℤ} {n : ℕ} (s : NodeRows nod
           ];
           apart = below-more (λ q. someBelow (alike l q) q ≡ false) p (w .apart) e;
         }
+
+    -- no mark at the class of p: no earlier departure of the node has its direction
+    pub class-new : {marks : List ℕ} → Classed nodes r l p marks → (k : ℕ) → k ≡ class (wayAt l p) → getD marks (i * 9 + k) 0 ≡ 0 → someBelow (alike l p) p ≡ false
+    class-new {marks} m k e z =
+        not-true (someBelow (alike l p) p) (λ b.
+        let q = below-some (alike l p) p b in
+        let from = fromNode l (sideCell l p 1) (q .0) in
+        let ways = sameWay (wayAt l (q .0)) (wayAt l p) in
+        let mark = m .set-at i (q .0) (row .below) (q .1) (ap (λ (y : ℤ). fromNode l y (q .0)) (sym (row .is)) ∙ and-left from ways (q .2)) in
+        let c : k ≡ class (wayAt l (q .0)) = e ∙ sym (one-class (wayAt l (q .0)) (wayAt l p) (and-right from ways (q .2))) in
+        let both : 0 ≡ 1 = sym z ∙ ap (λ (y : ℕ). getD marks (i * 9 + y) 0) c ∙ mark in
+        omega arith)
+
+    pub classed-on : {marks : List ℕ} → Classed nodes r l p marks → (k : ℕ) → k ≡ class (wayAt l p) → i * 9 + k < 9000 → Classed nodes r l (p + 1) (set marks (i * 9 + k) 1)
+    classed-on {marks} m k e u =
+        let x = i * 9 + k in
+        record {
+          room = length-set marks x 1 ∙ m .room;
+          set-at = λ j q a b f. elim (equal? (j * 9 + class (wayAt l q)) x) [
+            | inl g ↦ ap (λ (z : ℕ). getD (set marks x 1) z 0) g ∙ getD-set-same marks x 1 0 (omega (arith, m .room))
+            | inr g ↦ getD-set-other marks x (j * 9 + class (wayAt l q)) 1 0 g ∙ elim (equal? q p) [
+              | inl d ↦ absurd (elim (equal? j i) [
+                | inl o ↦ g (ap₂ (λ (v z : ℕ). v * 9 + class (wayAt l z)) o d ∙ ap (λ (z : ℕ). i * 9 + z) (sym e))
+                | inr o ↦ false≢true (sym (other-row j a o) ∙ ap (fromNode l (getD nodes (j * nodeWidth) (pos 0))) (sym d) ∙ f)
+              ])
+              | inr d ↦ m .set-at j q a (omega arith) f
+            ]
+          ];
+        }
+
+pub none-classed : (nodes : List ℤ) (r : ℕ) (l : List ℤ) → Classed nodes r l 0 (replicate 9000 0)
+none-classed nodes r l = record { room = length-replicate {A = ℕ} 9000 0; set-at = λ i q h k. absurd (omega arith) }
 
 pub none-chained : (nodes : List ℤ) (r : ℕ) (l : List ℤ) (last back : List ℕ) → ((i : ℕ) → getD last i 0 ≡ 0) → Chained nodes r l 0 last back
 none-chained nodes r l last back clear = record { lasts = λ i h. clear i; backs = λ q h. absurd (omega arith); apart = λ q h. absurd (omega arith) }

@@ -1,7 +1,7 @@
 // Of condition 2 what needs a walk: departures from one node differ in direction, a node has no face exactly when an edge ends there, and the links.
 use lists::Found;
 ghost use mathlib.Core.Path.{_≡_};
-ghost use mathlib.Core.Bool.{Bool, true, _&&_};
+ghost use mathlib.Core.Bool.{Bool, true, false, _&&_};
 ghost use Prim.Native.Nat.{ℕ, _+_, _*_, _/_, _≤_, _<_};
 ghost use lib.IntN.{pos};
 ghost use lib.ListN.{length, getD};
@@ -33,6 +33,19 @@ fn chain_has_way(edges: &[i64], last: u16, back: &[u16], p: usize) -> bool
     false
 }
 
+// The same; a mark of 0 tells that no departure of the chain has the class of p.
+fn marked_has_way(edges: &[i64], mark: u8, last: u16, back: &[u16], p: usize) -> bool
+    requires { ⌜ ((q : ℕ) → q ≤ p → EdgeRow (now edges) (q / 2)) × (p ≤ length (now back)) × (p < 4000) × (last ≡ latest (fromNode (now edges) (sideCell (now edges) p 1)) p) ⌝ }
+    requires { ⌜ ((q : ℕ) → q < p → fromNode (now edges) (sideCell (now edges) p 1) q ≡ true → getD (now back) q 0 ≡ latest (fromNode (now edges) (sideCell (now edges) p 1)) q) ⌝ }
+    requires { ⌜ (mark ≡ 0 → someBelow (alike (now edges) p) p ≡ false) ⌝ }
+    ensures { λ r. ⌜ r ≡ someBelow (alike (now (edges .entry)) p) p ⌝ }
+{
+    if mark == 0 {
+        return false;
+    }
+    chain_has_way(edges, last, back, p)
+}
+
 // The departures of each node differ in direction. It leaves the last departure of each node row in `last`.
 fn departures_differ(
     nodes: &[i64],
@@ -46,15 +59,19 @@ fn departures_differ(
     requires { ⌜ all (λ e. hasNode (nodeMap (now nodes) n) (e .start) && hasNode (nodeMap (now nodes) n) (e .end)) (edgesOf (now edges) count) ≡ true ⌝ }
     ensures { λ r. ⌜ (r ≡ departuresDiffer (drawnMap (now (nodes .entry)) n (now (edges .entry)) count)) × (length (now (last .exit)) ≡ length (now (last .entry))) × (r ≡ true → (i : ℕ) → i < n → getD (now (last .exit)) i 0 ≡ latest (fromNode (now (edges .entry)) (getD (now (nodes .entry)) (i * 4) (pos 0))) (count * 2)) ⌝ }
 {
+    // 9 marks a node row: the classes of its departures so far
+    let mut marks = [0u8; 9000];
     for p in 0..count * 2 {
         let found = tables::find_row(nodes, 4, n, links::dart_cell(edges, p, 1));
         let Found::At(i) = found else {
             return false;
         };
         let c = last[i];
-        if chain_has_way(edges, c, back, p) {
+        let k = i * 9 + links::class_at(edges, p);
+        if marked_has_way(edges, marks[k], c, back, p) {
             return false;
         }
+        marks[k] = 1;
         back[p] = c;
         last[i] = (p + 1) as u16;
     }

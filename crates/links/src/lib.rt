@@ -7,7 +7,7 @@ ghost use Prim.Native.Nat.{ℕ, _+_, _*_, _/_, _<_, _≤_};
 ghost use lib.ListN.{length, set};
 ghost use Rattle.lists.specs.Tables.{place};
 ghost use Rattle.plane.specs.Points.{InRange};
-ghost use Rattle.plane.specs.Directions.{wayTo, before as beforeWay, sameWay};
+ghost use Rattle.plane.specs.Directions.{wayTo, class, before as beforeWay, sameWay};
 ghost use Rattle.curves.specs.Curves.{Run, curveOf, startWay};
 ghost use Rattle.curves.specs.Edits.{course};
 ghost use Rattle.planar.specs.Rings.{sameDart};
@@ -117,7 +117,16 @@ pub fn step_at(edges: &[i64], p: usize) -> Step
     first_step(tables::curve_of(edges, p / 2), p % 2 == 1)
 }
 
-// The same where edge row `own` has the curve c; no row is, where `own` is past them all.
+// The class of that step's direction.
+pub fn class_at(edges: &[i64], p: usize) -> usize
+    requires { ⌜ EdgeRow (now edges) (p / 2) ⌝ }
+    ensures { λ r. ⌜ (r ≡ class (wayAt (now (edges .entry)) p)) × (r < 9) ⌝ }
+{
+    let v = step_at(edges, p);
+    directions::class_of(v.from, v.to) as usize
+}
+
+// The first step where edge row `own` has the curve c; no row is, where `own` is past them all.
 pub fn step_with(edges: &[i64], own: usize, c: &[i64], p: usize) -> Step
     requires { ⌜ (p / 2 ≡ own → Run (now c)) × (((p / 2 ≡ own) → ⊥) → EdgeRow (now edges) (p / 2)) ⌝ }
     ensures { λ r. ⌜ Along r (wayWith (now (edges .entry)) own (now (c .entry)) p) ⌝ }

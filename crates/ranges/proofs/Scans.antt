@@ -1,25 +1,31 @@
 -- Tests of one number, and turns of the loops over numbers and over rows. Assumes nothing.
 use mathlib.Core.Path.{_≡_, refl, sym, ap, _∙_}
 use mathlib.Core.Bool.{Bool, true, false, _&&_}
+use mathlib.Core.Logic.{inl, inr}
 use mathlib.Core.List.{List}
 use Prim.Native.Nat.{ℕ, _+_, _*_, _-_, _<_, _≤_}
 use native.Mathlib.Nat.{sub-zero, mul-one}
 use native.Mathlib.Omega.{arith}
-use lib.Dec.{lit<}
+use lib.Dec.{lit<, eqb}
+use lib.Bits.{bitOr, or-add-and, and-le-r}
 use lib.IntN.{ℤ, pos, negsuc, natAbs}
 use lib.ListN.{length, getD, take, drop, length-drop, drop-of-length-le}
 use lib.Seq.{length-take-le, take-all}
 use lib.Signed.{leZ, nonNeg}
-use borrow.Author.Tests.{le-leb}
+use mir.Syntax.{w64}
+use mir.Val.{ofZ, SFits}
+use borrow.Author.Tests.{le-leb, eqb-true, eqb-false, ne-eqb}
+use borrow.Author.Needs.{sfits-of}
 use Rattle.lists.specs.Scans.{all}
 use Rattle.lists.specs.Tables.{table}
-use Rattle.lists.proofs.Bools.{same-false, same-eq}
+use Rattle.lists.proofs.Bools.{same-false, same-eq, which, eq3}
 use Rattle.lists.proofs.Scans.{all-hit, all-miss, all-end}
 use Rattle.curves.proofs.Runs.{all-drop}
 use Rattle.map.specs.Rows.{rows}
 use Rattle.map.specs.Form.{isZero, faceRanges}
 use Rattle.tables.specs.Tables.{rowAt}
 use Rattle.tables.proofs.Cells.{row-room}
+use Rattle.tables.proofs.Order.{word-is}
 use Rattle.tables.proofs.Rows.{row-first, rows-table}
 
 -- ---- one number
@@ -38,11 +44,32 @@ not-zero z h = same-false (natAbs z) 0 (λ e. h (zero-is z e))
 pub is-zero : (z : ℤ) → z ≡ pos 0 → isZero z ≡ true
 is-zero z e = same-eq (natAbs z) 0 (ap natAbs e)
 
+pub zero-tested : (z : ℤ) → SFits w64 z → eqb (ofZ w64 z) 0 ≡ isZero z
+zero-tested z f =
+    elim (which (eqb (ofZ w64 z) 0)) [
+      | inl e ↦ e ∙ sym (is-zero z (word-is f (sfits-of (lit< tt)) (eqb-true (ofZ w64 z) 0 e)))
+      | inr e ↦ e ∙ sym (not-zero z (λ q. eqb-false (ofZ w64 z) 0 e (ap (ofZ w64) q)))
+    ]
+
+-- no bit in either word
+pub bits-tested : (a b : ℕ) → eqb (bitOr a b) 0 ≡ (eqb a 0 && eqb b 0)
+bits-tested a b =
+    elim (which (eqb a 0)) [
+      | inl e ↦ rw (eqb-true a 0 e)
+      | inr e ↦ ne-eqb (bitOr a b) 0 (λ o. eqb-false a 0 e (omega (arith, or-add-and a b, and-le-r a b))) ∙ sym (ap (λ (x : Bool). x && eqb b 0) e)
+    ]
+
 -- ---- the numbers from i on
 
 module _ {A : Type 0} (p : A → Bool) (l : List A) (d : A) (i : ℕ) where
   pub rest-hit : i < length l → p (getD l i d) ≡ true → all p (drop i l) ≡ all p (drop (i + 1) l)
   rest-hit h e = all-drop p l i d h ∙ ap (λ (t : Bool). t && all p (drop (i + 1) l)) e
+
+  -- a turn without a branch: what was met so far, and the rest
+  pub rest-turn : (met : Bool) {b : Bool} → i < length l → b ≡ p (getD l i d) → ((met && b) && all p (drop (i + 1) l)) ≡ (met && all p (drop i l))
+  rest-turn met {b} h e =
+      let rest = all p (drop (i + 1) l) in
+      eq3 (λ m x r. (m && x) && r) (λ m x r. m && (x && r)) tt met b rest ∙ ap (λ (x : Bool). met && x) (ap (λ (x : Bool). x && rest) e ∙ sym (all-drop p l i d h))
 
   pub rest-miss : i < length l → p (getD l i d) ≡ false → all p (drop i l) ≡ false
   rest-miss h e = all-drop p l i d h ∙ ap (λ (t : Bool). t && all p (drop (i + 1) l)) e

@@ -95,13 +95,12 @@ fn is_coordinate(t: &[i64], k: usize) -> bool
 fn are_zero(t: &[i64]) -> bool
     ensures { λ r. ⌜ r ≡ all isZero (now (t .entry)) ⌝ }
 {
+    let mut bits = 0;
     for i in 0..t.len() {
         let z = t[i];
-        if z != 0 {
-            return false;
-        }
+        bits = bits | z;
     }
-    true
+    bits == 0
 }
 
 fn are_coordinates(t: &[i64]) -> bool

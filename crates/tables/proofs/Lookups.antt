@@ -123,6 +123,10 @@ row-place w l n r i h =
     let f : ℕ → ℤ = λ k. getD l (k * w) (pos 0) in
     place-at f (sameZ (f i)) n i h (λ k t. below-other (f k) (f i) (rise f n (r .rising) k i t h)) (same-self (f i))
 
+-- the row that a look meets is the one
+pub row-met : {w : ℕ} {l : List ℤ} {n : ℕ} → Rising w l n → (i : ℕ) → i < n → {z : ℤ} → getD l (i * w) (pos 0) ≡ z → At i ≡ place (sameZ z) 0 (column w l n)
+row-met {w} {l} {n} r i h e = rw (← e) (sym (row-place w l n r i h))
+
 -- ---- nodes, edges and faces
 
 module _ (l : List ℤ) (n : ℕ) where

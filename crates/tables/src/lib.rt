@@ -19,19 +19,62 @@ pub struct Counts {
 
 // ---- any table
 
-// The row of a number, by halves.
-pub fn find_row(t: &[i64], w: usize, count: usize, number: i64) -> Found
+// A number that is not negative; 0 for one that is.
+fn natural(z: i64) -> usize {
+    if z < 0 {
+        return 0;
+    }
+    z as usize
+}
+
+// Where the number stands if none is missing between it and `seen`, the number of the row below the window or of that above it.
+fn jump(lo: usize, hi: usize, seen: usize, number: usize) -> usize
+    requires { ⌜ lo < hi ⌝ }
+    ensures { λ r. ⌜ (lo ≤ r) × (r < hi) ⌝ }
+{
+    if seen < number {
+        let d = number - seen - 1;
+        return if d < hi - lo { lo + d } else { hi - 1 };
+    }
+    let d = seen - number;
+    if d == 0 {
+        return lo;
+    }
+    if d < hi - lo { hi - d } else { lo }
+}
+
+// Where to look next: by jumps first, then by halves.
+fn probe(lo: usize, hi: usize, seen: usize, number: i64, jumps: usize) -> usize
+    requires { ⌜ lo < hi ⌝ }
+    ensures { λ r. ⌜ (lo ≤ r) × (r < hi) ⌝ }
+{
+    if 0 < jumps {
+        return jump(lo, hi, seen, natural(number));
+    }
+    lo + (hi - lo) / 2
+}
+
+fn one_less(n: usize) -> usize {
+    if n == 0 { 0 } else { n - 1 }
+}
+
+// The row of a number: jumps, then halves.
+fn search_row(t: &[i64], w: usize, count: usize, number: i64) -> Found
     requires { ⌜ Rising w (now t) count ⌝ }
     ensures { λ r. ⌜ r ≡ place (sameZ number) 0 (column w (now (t .entry)) count) ⌝ }
 {
     let mut lo = 0;
     let mut hi = count;
+    let mut seen = 0;
+    let mut jumps = 3;
     while lo < hi {
-        let mid = lo + (hi - lo) / 2;
+        let mid = probe(lo, hi, seen, number, jumps);
         let z = t[mid * w];
         if z == number {
             return Found::At(mid);
         }
+        seen = natural(z);
+        jumps = one_less(jumps);
         if z < number {
             lo = mid + 1;
         } else {
@@ -39,6 +82,31 @@ pub fn find_row(t: &[i64], w: usize, count: usize, number: i64) -> Found
         }
     }
     Found::Missing
+}
+
+// How far the number is from that of the first row; 0 where it is less.
+fn steps_from(first: i64, number: i64) -> usize {
+    let a = natural(first);
+    let b = natural(number);
+    if a < b { b - a } else { 0 }
+}
+
+// The row of a number. In a table from which no row after the first was removed the first look meets it.
+pub fn find_row(t: &[i64], w: usize, count: usize, number: i64) -> Found
+    requires { ⌜ Rising w (now t) count ⌝ }
+    ensures { λ r. ⌜ r ≡ place (sameZ number) 0 (column w (now (t .entry)) count) ⌝ }
+{
+    if count == 0 {
+        return Found::Missing;
+    }
+    let i = steps_from(t[0], number);
+    if i < count {
+        let z = t[i * w];
+        if z == number {
+            return Found::At(i);
+        }
+    }
+    search_row(t, w, count, number)
 }
 
 // n numbers from `from` on are moved down to `at` on.

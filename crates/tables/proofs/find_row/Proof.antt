@@ -1,128 +1,57 @@
--- `tables::find_row` meets its contract: the numbers before lo are less than the one looked for, and those from hi on are greater.
--- Assumes nothing.
-use Prim.Native.Nat.{ℕ, _≤_, _<_, _+_, _-_, _*_, _/_}
-use mathlib.Core.Path.{_≡_, sym, ap, subst, _∙_}
-use mathlib.Core.Bool.{true, false}
-use mathlib.Core.Logic.{⊎-elim}
-use native.Mathlib.Nat.{eq-or-lt-of-le}
+-- `tables::find_row` meets its contract: the row that the first look meets is the one, and otherwise the search answers. Assumes nothing.
+use Prim.Native.Nat.{_<_}
 use native.Mathlib.Omega.{arith}
-use lib.IntN.{ℤ, pos}
-use lib.ListN.{getD}
-use lib.Signed.{ltZ}
-use mir.Syntax.{w64}
-use mir.Val.{toZ, ofZ}
 use mir.Facts.{toZ-ofZ}
-use borrow.Author.Count.{below-more}
-use borrow.Author.Needs.{sfits-of}
-use Rattle.lists.proofs.Scans.{place-at, place-none}
-use Rattle.tables.specs.Tables.{sameZ}
+use borrow.Author.Needs.{needs, sfits-of}
 use Rattle.tables.proofs.Cells.{row-room}
-use Rattle.tables.proofs.Order.{less-trans, is-same, below-other, above-other, greater, word-is, lt-or-ge, rise}
+use Rattle.tables.proofs.Order.{word-is}
+use Rattle.tables.proofs.Lookups.{row-met}
 use Rattle.tables.proofs.find_row.Statement.{statement}
 use Rattle.tables.proofs.find_row.Tie as tie
 
-abbrev Inv-loop : tie.InvT-loop
-Inv-loop t w count number lo₀ hi₀ lo hi =
-    (lo ≤ hi) × (hi ≤ count)
-    × ((k : ℕ) → k < lo → ltZ (getD t (k * w) (pos 0)) (toZ w64 number) ≡ true)
-    × ((k : ℕ) → hi ≤ k → k < count → ltZ (toZ w64 number) (getD t (k * w) (pos 0)) ≡ true)
+-- there is a first row
+copy-out-first : tie.Need-shared-slice-copy-out-steps-from
+copy-out-first c =
+    let s = c .before in
+    let h : 0 < s .args .count = omega arith in
+    omega (arith, row-room (s .args .w) (s .args .count) 0 h, s .pre .fits, s .pre .some)
 
-abbrev μ-loop : tie.MeasureT-loop
-μ-loop t w count number lo₀ hi₀ lo hi = hi - lo
-
-loop-holds : tie.Need-loop-holds Inv-loop μ-loop
-loop-holds c = (omega arith, omega arith, (λ k h. absurd (omega arith)), (λ k h l. absurd (omega arith)))
-
--- row mid lies in the table
-mul-z : tie.Need-mul-z Inv-loop μ-loop
+-- row i lies in the table
+mul-z : tie.Need-mul-z
 mul-z c =
-    let a = c .before .before .args in
-    let l = c .before .loop in
-    omega (arith, row-room (a .w) (a .count) (l .lo + (l .hi - l .lo) / 2) (omega arith), c .before .before .pre .fits)
-
-mul-z-2 : tie.Need-mul-z-2 Inv-loop μ-loop
-mul-z-2 c =
-    let a = c .before .before .args in
-    let l = c .before .loop in
-    omega (arith, row-room (a .w) (a .count) (l .lo + (l .hi - l .lo) / 2) (omega arith), c .before .before .pre .fits)
-
-copy-out-z : tie.Need-shared-slice-copy-out-z Inv-loop μ-loop
-copy-out-z c =
-    let a = c .before .before .args in
-    let l = c .before .loop in
-    omega (arith, row-room (a .w) (a .count) (l .lo + (l .hi - l .lo) / 2) (omega arith), c .before .before .pre .fits, c .before .before .pre .some)
-
-returns : tie.Need-returns Inv-loop μ-loop
-returns c =
     let s = c .before .before .before .before in
-    let a = s .args in
-    let l = c .before .before .before .loop in
-    let m = l .lo + (l .hi - l .lo) / 2 in
-    let f : ℕ → ℤ = λ k. getD (a .t .now) (k * a .w) (pos 0) in
-    let e : f m ≡ a .number = word-is (sfits-of (c .before .z .given)) (s .fits .number) (c .if1 .taken) in
-    sym (place-at f (sameZ (a .number)) (a .count) m (omega arith)
-    (λ k h. below-other (f k) (a .number) (subst (λ (z : ℤ). ltZ (f k) z ≡ true) e (rise f (a .count) (s .pre .rising) k m h (omega arith))))
-    (is-same (a .number) (f m) (sym e)))
+    omega (arith, row-room (s .args .w) (s .args .count) (c .before .steps-from .result) (c .if2 .taken), s .pre .fits)
 
-loop-again : tie.Need-loop-again Inv-loop μ-loop
-loop-again c =
-    let s = c .before .before .before .before .before in
-    let a = s .args in
-    let l = c .before .before .before .before .loop in
-    let m = l .lo + (l .hi - l .lo) / 2 in
-    let f : ℕ → ℤ = λ k. getD (a .t .now) (k * a .w) (pos 0) in
-    let n = toZ w64 (ofZ w64 (a .number)) in
-    let e : toZ w64 (ofZ w64 (f m)) ≡ f m = toZ-ofZ {w = w64} {z = f m} (sfits-of (c .before .before .z .given)) in
-    let here : ltZ (f m) n ≡ true = subst (λ (z : ℤ). ltZ z n ≡ true) e (c .if2 .taken) in (
-      omega arith,
-      omega arith,
-      below-more (λ k. ltZ (f k) n ≡ true) m (λ k h. less-trans (f k) (f m) n (rise f (a .count) (s .pre .rising) k m h (omega arith)) here) here,
-      l .inv .3,
-    )
+mul-z-2 : tie.Need-mul-z-2
+mul-z-2 c =
+    let s = c .before .before .before .before in
+    omega (arith, row-room (s .args .w) (s .args .count) (c .before .steps-from .result) (c .if2 .taken), s .pre .fits)
 
-loop-again-2 : tie.Need-loop-again-2 Inv-loop μ-loop
-loop-again-2 c =
-    let s = c .before .before .before .before .before in
-    let a = s .args in
-    let l = c .before .before .before .before .loop in
-    let m = l .lo + (l .hi - l .lo) / 2 in
-    let f : ℕ → ℤ = λ k. getD (a .t .now) (k * a .w) (pos 0) in
-    let n = toZ w64 (ofZ w64 (a .number)) in
-    let e : toZ w64 (ofZ w64 (f m)) ≡ f m = toZ-ofZ {w = w64} {z = f m} (sfits-of (c .before .before .z .given)) in
-    let not-less : ltZ (f m) n ≡ false = subst (λ (z : ℤ). ltZ z n ≡ false) e (c .if2 .left) in
-    let other : f m ≡ n → ⊥ = λ q. c .before .if1 .left (ap (ofZ w64) (q ∙ toZ-ofZ {w = w64} (s .fits .number))) in
-    let here : ltZ n (f m) ≡ true = greater (f m) n not-less other in (
-      omega arith,
-      omega arith,
-      l .inv .2,
-      (λ k h j. ⊎-elim (λ q. subst (λ (x : ℕ). ltZ n (f x) ≡ true) q here) (λ g. less-trans n (f m) (f k) here (rise f (a .count) (s .pre .rising) m k g j)) (eq-or-lt-of-le h)),
-    )
+copy-out-z : tie.Need-shared-slice-copy-out-z
+copy-out-z c =
+    let s = c .before .before .before .before in
+    omega (arith, row-room (s .args .w) (s .args .count) (c .before .steps-from .result) (c .if2 .taken), s .pre .fits, s .pre .some)
 
-returns-2 : tie.Need-returns-2 Inv-loop μ-loop
+returns-2 : tie.Need-returns-2
 returns-2 c =
-    let s = c .before .before in
-    let a = s .args in
-    let l = c .before .loop in
-    let f : ℕ → ℤ = λ k. getD (a .t .now) (k * a .w) (pos 0) in
-    let n = toZ w64 (ofZ w64 (a .number)) in
-    rw (toZ-ofZ (s .fits .number)) at
-    (sym (place-none f (sameZ n) (a .count)
-    (λ k h. ⊎-elim (λ g. below-other (f k) n (l .inv .2 k g)) (λ g. above-other n (f k) (l .inv .3 k (omega arith) h)) (lt-or-ge k (l .lo)))))
+    let s = c .before .before .before .before .before .before in
+    row-met (s .pre) (c .before .before .before .steps-from .result) (c .before .before .if2 .taken) (word-is (sfits-of (c .before .z .given)) (s .fits .number) (c .if3 .taken))
+
+returns-3 : tie.Need-returns-3
+returns-3 c =
+    let s = c .before .before .before .before .before in
+    rw (toZ-ofZ (s .fits .number)) at (c .search-row .ensures)
 
 pub find-row-spec : {M : Type 1} → statement M
 find-row-spec =
     tie.close
-    (tie.spec Inv-loop μ-loop
-    loop-holds
-    (λ c. omega arith)
-    (λ c. omega arith)
+    (tie.spec
+    (λ c. search needs)
+    copy-out-first
+    (λ c κs. tt)
     mul-z
     mul-z-2
     copy-out-z
-    returns
-    (λ c. omega arith)
-    (λ c. omega arith)
-    loop-again
-    (λ c. omega arith)
-    loop-again-2
-    returns-2)
+    returns-2
+    (λ c κs. search needs)
+    returns-3)
