@@ -1,51 +1,45 @@
 -- An edge that nothing turns down, drawn into a map in form: links name each directed edge once, rings bear one face, and edges end at nodes. Assumes nothing.
 use mathlib.Core.Path.{_≡_, refl, sym, ap, ap₂, _∙_, subst}
 use mathlib.Core.Logic.{inl, inr}
-use mathlib.Core.Bool.{Bool, true, false, not, _&&_}
+use mathlib.Core.Bool.{Bool, true}
 use mathlib.Core.List.{List, [], _∷_, map, List·Memᴰ, List·Memᴰ·head, List·Memᴰ·tail, List·Memᴰ·append-cases, List·Memᴰ·eq-of-singleton, Memᴰ·map, Memᴰ·of-map}
 use mathlib.Core.Option.{none}
 use Prim.Native.Nat.{ℕ, _+_}
 use native.Mathlib.Omega.{arith}
 use lib.IntN.{ℤ}
-use Rattle.lists.specs.Tests.{same, bit}
+use Rattle.lists.specs.Tests.{bit}
 use Rattle.lists.specs.Scans.{count}
 use Rattle.lists.specs.Members.{Distinct}
-use Rattle.lists.proofs.Bools.{same-eq, same-false, not-true}
+use Rattle.lists.proofs.Bools.{same-eq, not-true}
 use Rattle.lists.proofs.Counts.{count-perm}
 use Rattle.lists.proofs.Perms.{extract, perm-distinct}
-use Rattle.plane.specs.Directions.{Way, sameWay}
-use Rattle.curves.specs.Curves.{Curve, startWay, endWay}
+use Rattle.curves.specs.Curves.{Curve, startWay}
 use Rattle.planar.specs.Map.{Dart, Linked}
 use Rattle.planar.specs.Pieces.{Within, nums}
 use Rattle.planar.specs.Rings.{sameDart}
 use Rattle.planar.proofs.Rings.{sameDart-refl, sameDart-true}
-use Rattle.planar.proofs.Hooks.{distinct-darts, fresh-dart}
+use Rattle.planar.proofs.Hooks.{distinct-darts}
 use Rattle.planar.proofs.Splitting.{tail-in}
 use Rattle.rotation.specs.Law.{from, Apart}
-use Rattle.geometry.proofs.Booleans.{or-false}
-use Rattle.geometry.proofs.Theorems.{reverse-ways, closed-differ}
-use Rattle.map.specs.Rows.{Node, Edge, Map, Sizes, node, edge}
+use Rattle.map.specs.Rows.{Node, Edge, Map, Sizes, edge}
 use Rattle.map.specs.Darts.{arcs, directed, leaves, next, bears, way, departures}
 use Rattle.map.specs.Links.{cornerFace}
 use Rattle.map.specs.Form.{waysDiffer, departuresDiffer, linksOnce, ringsBearOne, formed}
 use Rattle.map.specs.Edits.{withFace, isEither, drawnIn}
-use Rattle.map.specs.Reasons.{wayTaken, directionTaken}
 use Rattle.map.proofs.Laws.{formed-is}
 use Rattle.map.proofs.Linked as formedLinks
 use Rattle.tables.specs.Tables.{edgesOf}
 use Rattle.sharing.specs.Sharing.{Ringed}
-use Rattle.grown.proofs.Readings.{departs, nums-rows, number-has, arc-at}
+use Rattle.grown.proofs.Readings.{nums-rows, number-has, arc-at}
 use Rattle.grown.proofs.RowChanges.{nodeNumber, noNode}
 use Rattle.grown.proofs.Reasons.{AddEdge}
 use Rattle.grown.proofs.Scanning.{all-each, each-all}
 use Rattle.grown.proofs.Numbers.{Outline, outlineOf, outlines}
 use Rattle.grown.proofs.Outlines.{drawn-shape}
-use Rattle.grown.proofs.Changes.{none-has}
 use Rattle.grown.proofs.EdgesLaw.{from-in}
-use Rattle.grown.proofs.EdgesAdd.{sent-good}
 use Rattle.grown.proofs.EdgesCorners.{numbers-kept}
 use Rattle.grown.proofs.LawfulForm.{differ-says}
-use Rattle.additions.proofs.Linked.{Draws, drawn-linked, drawn-once}
+use Rattle.grown.proofs.EdgesJoined.{Draws, draws-edge, D-linked, D-once}
 
 -- ---- a linked map by the tests of form
 
@@ -101,38 +95,12 @@ module _ (m : Map) (h : formed m ≡ true) where
   fresh : List·Memᴰ (m .nextEdge) (nums (arcs m)) → ⊥
   fresh k = let b = formed-is m h .numbers .edges .below (m .nextEdge) (subst (List·Memᴰ (m .nextEdge)) (nums-rows m) k) in omega arith
 
-  -- no departure has the direction
-  way-free : (n : ℕ) (w : Way) → wayTaken m (m .nextEdge) n w ≡ false → (d : Dart) → List·Memᴰ d (departures m n) → sameWay (way m d) w ≡ false
-  way-free n w clear d k =
-      sym (ap (λ (x : Bool). not x && sameWay (way m d) w) (same-false (d .edge) (m .nextEdge) (fresh-dart (record { num = m .nextEdge; from = n; to = n }) (arcs m) fresh (departs m n k .0))))
-      ∙ none-has (λ d. not (same (d .edge) (m .nextEdge)) && sameWay (way m d) w) (departures m n) clear d k
-
   module _ {news : Bool} {s : Sizes} {u v : ℕ} {c : Curve} (t : AddEdge news s m u v c) where
-    ways : (wayTaken m (m .nextEdge) u (startWay c) ≡ false) × (wayTaken m (m .nextEdge) v (endWay c) ≡ false)
-    unfolding directionTaken
-    ways = or-false (wayTaken m (m .nextEdge) u (startWay c)) (wayTaken m (m .nextEdge) v (endWay c)) (t .ways-free)
-
     draws : Draws m u v c (cornerFace m u (startWay c))
-    draws =
-        let good = sent-good m c u v (t .sent) in
-        record {
-          linked = formedLinks.linked m h;
-          once = formedLinks.edges-once m h;
-          apart = formed-apart;
-          fresh = fresh;
-          free =
-              record {
-                ends = reverse-ways c good .0;
-                start = way-free u (startWay c) (ways .0);
-                end = way-free v (endWay c) (ways .1);
-                loop = λ p. closed-differ c good (t .sent .end ∙ ap (λ (n : ℕ). node m n .at) (sym p) ∙ sym (t .sent .start));
-              };
-          corner-start = refl;
-          corner-end = sym (t .one-face);
-        }
+    draws = draws-edge t (formedLinks.linked m h) (formedLinks.edges-once m h) formed-apart fresh
 
     pub drawn-ringed : (es : List ℤ) (n : ℕ) → drawnIn u v c m .edges ≡ edgesOf es n → Ringed es n
-    drawn-ringed = linked-ringed (drawnIn u v c m) (drawn-linked m u v c _ draws) (drawn-once m u v c _ draws)
+    drawn-ringed = linked-ringed (drawnIn u v c m) (D-linked m u v c _ draws) (D-once m u v c _ draws)
 
     -- ---- edges end at nodes
 

@@ -23,17 +23,20 @@ use Rattle.grown.proofs.Readings.{faceIn, bears-row, edge-row, dart-has
 use Rattle.grown.proofs.RowChanges.{node-row}
 use Rattle.grown.proofs.Reasons.{AddEdge}
 use Rattle.grown.proofs.Scanning.{rising-distinct}
-use Rattle.grown.proofs.Numbers.{outlineOf, Sided}
+use Rattle.grown.proofs.Numbers.{RankedMap, numbered-ranked, outlineOf, Sided}
 use Rattle.grown.proofs.EdgesReached.{Reached}
-use Rattle.grown.proofs.EdgesAdd.{ranked, draws-edge, woven-joining, reached-joining}
+use Rattle.grown.proofs.EdgesAdd.{draws-added, woven-joining, reached-joining}
 use Rattle.grown.proofs.EdgesSplit.{Faced, split-woven, split-reached}
 
 module _ (m : Map) (good : Good m) where
+  ranked : RankedMap m
+  ranked = numbered-ranked m (good .woven .planar .edges-once) (good .numbered)
+
   pub faced : Faced m
   faced = record {
-    once = rising-distinct (m .faces) (ranked m good .faces .rises);
-    below = λ g k. ranked m good .faces .bounds g k .1;
-    borne = λ d k. subst (λ (g : ℕ). List·Memᴰ g (m .faces)) (sym (bears-row m d)) (go (d .back) (edge m (d .edge)) (ranked m good .sided (outlineOf (edge m (d .edge))) (Memᴰ·map outlineOf (edge-row m (d .edge) (dart-has m k) .0))));
+    once = rising-distinct (m .faces) (ranked .faces .rises);
+    below = λ g k. ranked .faces .bounds g k .1;
+    borne = λ d k. subst (λ (g : ℕ). List·Memᴰ g (m .faces)) (sym (bears-row m d)) (go (d .back) (edge m (d .edge)) (ranked .sided (outlineOf (edge m (d .edge))) (Memᴰ·map outlineOf (edge-row m (d .edge) (dart-has m k) .0))));
   }
     where
       go : (b : Bool) (r : Edge) → Sided (m .faces) (outlineOf r) → List·Memᴰ (faceIn b r) (m .faces)
@@ -41,7 +44,7 @@ module _ (m : Map) (good : Good m) where
       go false r h = h .0
 
   zero-in : List·Memᴰ 0 (m .faces)
-  zero-in = go (m .faces) (ranked m good .zero)
+  zero-in = go (m .faces) (ranked .zero)
     where
       go : (fs : List ℕ) → firstOr 1 fs ≡ 0 → List·Memᴰ 0 fs
       go [] h = absurd (omega arith)
@@ -54,7 +57,7 @@ module _ (m : Map) (good : Good m) where
     where
       contained : (f : Option ℕ) → node m n .face ≡ f → List·Memᴰ (Option·getD f 0) (m .faces)
       contained none e = zero-in
-      contained (some g) e = ranked m good .placed (node m n) (node-row m n h .0) .inside g e
+      contained (some g) e = ranked .placed (node m n) (node-row m n h .0) .inside g e
 
       go : (ds : List Dart) → ((d : Dart) → List·Memᴰ d ds → List·Memᴰ d (directed m)) → List·Memᴰ (cornerOf m n w ds) (m .faces)
       go [] sub = contained (node m n .face) refl
@@ -68,13 +71,13 @@ module _ (news : Bool) (s : Sizes) (m : Map) (u v : ℕ) (c : Curve) (good : Goo
   pub woven-added : Woven (addEdge news u v c m)
   unfolding addEdge
   woven-added = elim (which (splitsFace u v c m)) [
-    | inl e ↦ rw e (split-woven news m u v c (cornerFace m u (startWay c)) (draws-edge m good news s u v c h) (faced m good) (corner-in m good u (startWay c) (h .has-start)) (rings-apart e) (good .woven .borne))
+    | inl e ↦ rw e (split-woven news m u v c (cornerFace m u (startWay c)) (good .woven) (h .has-start) (h .has-end) (draws-added m good s u v c news h) (faced m good) (corner-in m good u (startWay c) (h .has-start)) (rings-apart e))
     | inr e ↦ rw e (woven-joining news s m u v c good h e)
   ]
 
   pub reached-added : Reached m → Reached (addEdge news u v c m)
   unfolding addEdge
   reached-added r = elim (which (splitsFace u v c m)) [
-    | inl e ↦ rw e (split-reached news m u v c (cornerFace m u (startWay c)) (draws-edge m good news s u v c h) (faced m good) (corner-in m good u (startWay c) (h .has-start)) (rings-apart e) r)
+    | inl e ↦ rw e (split-reached news m u v c (cornerFace m u (startWay c)) (good .woven) (h .has-start) (h .has-end) (draws-added m good s u v c news h) (faced m good) (corner-in m good u (startWay c) (h .has-start)) (rings-apart e) r)
     | inr e ↦ rw e (reached-joining news s m u v c good h e r)
   ]

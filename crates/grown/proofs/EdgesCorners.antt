@@ -1,17 +1,16 @@
--- The corner face as that of a departure, numbers of nodes, and links in another order. Assumes nothing.
+-- The corner face as that of a departure, and numbers of nodes. Assumes nothing.
 use mathlib.Core.Path.{_≡_, refl, sym, ap, _∙_}
 use mathlib.Core.Bool.{Bool, true, false, cond}
-use mathlib.Core.List.{List, [], _∷_, map, map-map, List·Memᴰ, List·Memᴰ·not-nil, List·Permᴰ, List·Permᴰ·trans, Permᴰ·symm, Permᴰ·map}
+use mathlib.Core.List.{List, [], _∷_, map, map-map, List·Memᴰ, List·Memᴰ·not-nil}
 use Prim.Native.Nat.{ℕ, zero, suc}
 use Rattle.lists.specs.Tests.{iterate}
 use Rattle.lists.proofs.Members.{map-cong}
-use Rattle.lists.proofs.Perms.{perm-in}
 use Rattle.plane.specs.Directions.{Way}
-use Rattle.planar.specs.Map.{Arc, Dart, darts, Linked}
+use Rattle.planar.specs.Map.{Dart}
 use Rattle.planar.specs.Rings.{Leads}
 use Rattle.rotation.specs.Law.{firstClockwise, pick, from}
 use Rattle.map.specs.Rows.{Node, Map}
-use Rattle.map.specs.Darts.{directed, leaves, next, bears, way, departures}
+use Rattle.map.specs.Darts.{directed, leaves, bears, way, departures}
 use Rattle.map.specs.Links.{cornerOf, cornerFace}
 
 -- ---- the corner face is that of the first departure met
@@ -40,16 +39,6 @@ numbers-kept p g ns h = map-map (λ (n : Node). n .number) (λ n. cond (p n) (g 
     go : (b : Bool) (n : Node) → cond b (g n) n .number ≡ n .number
     go true n = h n
     go false n = refl
-
--- arcs in another order
-pub linked-order : {es fs : List Arc} {tail : Dart → ℕ} {next : Dart → Dart} {face : Dart → ℕ} → List·Permᴰ es fs → List·Permᴰ (darts es) (darts fs) → Linked es tail next face → Linked fs tail next face
-linked-order {next = next} p q l = record {
-  starts = λ a k. l .starts a (perm-in (Permᴰ·symm p) k);
-  ends = λ a k. l .ends a (perm-in (Permᴰ·symm p) k);
-  perm = List·Permᴰ·trans (Permᴰ·map next (Permᴰ·symm q)) (List·Permᴰ·trans (l .perm) q);
-  meets = λ d k. l .meets d (perm-in (Permᴰ·symm q) k);
-  keeps = λ d k. l .keeps d (perm-in (Permᴰ·symm q) k);
-}
 
 -- where two functions agree on darts that one of them stays in, they lead alike
 pub leads-agree : (ds : List Dart) (g h : Dart → Dart) → ((d : Dart) → List·Memᴰ d ds → g d ≡ h d) → ((d : Dart) → List·Memᴰ d ds → List·Memᴰ (h d) ds) → {c d : Dart} → List·Memᴰ c ds → Leads g c d → Leads h c d

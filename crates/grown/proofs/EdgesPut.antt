@@ -2,7 +2,7 @@
 use mathlib.Core.Path.{_≡_, refl, sym, ap, _∙_, subst}
 use mathlib.Core.Logic.{_⊎_, inl, inr}
 use mathlib.Core.Bool.{true, false, cond}
-use mathlib.Core.List.{List, _∷_, List·Memᴰ, List·Memᴰ·head, List·Memᴰ·tail, List·Memᴰ·cases-cons, Memᴰ·cast, Memᴰ·of-map, Permᴰ·symm}
+use mathlib.Core.List.{List, _∷_, List·Memᴰ, List·Memᴰ·head, List·Memᴰ·tail, List·Memᴰ·cases-cons, Memᴰ·of-map, Permᴰ·symm}
 use Prim.Native.Nat.{ℕ}
 use Rattle.lists.specs.Tests.{same}
 use Rattle.lists.specs.Members.{Distinct}
@@ -16,14 +16,13 @@ use Rattle.planar.specs.Rings.{sameDart}
 use Rattle.planar.specs.Weave.{with-edge, lone, Corner, alone, after, tie, woven, Fits}
 use Rattle.planar.proofs.Bridges.{Fresh}
 use Rattle.planar.proofs.Rings.{rev-in}
-use Rattle.planar.proofs.Hooks.{fwd≢bwd, fresh-dart, distinct-darts, exchange-other, hook-linked, with-fwd, with-bwd, with-other, lone-linked}
-use Rattle.planar.proofs.Turns.{rev-rev}
+use Rattle.planar.proofs.Hooks.{fwd≢bwd, fresh-dart, distinct-darts, exchange-other, with-fwd, with-bwd, with-other, lone-linked}
 use Rattle.planar.proofs.Agree.{linked-agree}
-use Rattle.rotation.specs.Law.{firstClockwise, Differ, redirect, leading, from, Apart, Law, link, linkEdge}
+use Rattle.planar.proofs.Weaving.{tie-linked}
+use Rattle.rotation.specs.Law.{firstClockwise, Differ, redirect, leading, from, Apart, link, linkEdge}
 use Rattle.rotation.proofs.Node.{first-in, first-none}
-use Rattle.rotation.proofs.Whole.{link-edge-law}
-use Rattle.rotation.proofs.Ties.{tells, link-is-tie, link-alone-is-tie}
-use Rattle.grown.proofs.EdgesLaw.{from-in, from-has, differ-part, law-agree, first-fewer}
+use Rattle.rotation.proofs.Ties.{link-is-tie, link-alone-is-tie}
+use Rattle.grown.proofs.EdgesLaw.{from-in, from-has, differ-part, first-fewer}
 
 -- the dart that leads to one
 led-to : {es : List Arc} {tail : Dart → ℕ} {next : Dart → Dart} {face : Dart → ℕ} → Linked es tail next face → (c : Dart) → List·Memᴰ c (darts es) → (x : Dart) × List·Memᴰ x (darts es) × (next x ≡ c)
@@ -139,11 +138,7 @@ module _ {es : List Arc} {tail : Dart → ℕ} {next : Dart → Dart} {face : Da
 
     linked₁ : Linked (a ∷ es) T M₁ F
     unfolding M₁
-    linked₁ = go k fits
-      where
-        go : (k : Corner) → Fits (darts es) T F (a .from) φ k → Linked (a ∷ es) T (tie k b N) F
-        go alone h = lone⁺
-        go (after p) h = hook-linked lone⁺ dis⁺ p b (List·Memᴰ·tail (List·Memᴰ·tail (Memᴰ·cast (sym (rev-rev p)) (rev-in es (h .0))))) (List·Memᴰ·tail (List·Memᴰ·head refl)) (h .1 ∙ sym start) (h .2 ∙ sym (with-bwd (a .num) φ φ face))
+    linked₁ = tie-linked lone⁺ dis⁺ (darts es) (λ d m. List·Memᴰ·tail (List·Memᴰ·tail m)) b (List·Memᴰ·tail (List·Memᴰ·head refl)) (a .from) φ start (with-bwd (a .num) φ φ face) k fits
 
     still : M₁ f ≡ b
     unfolding M₁
@@ -220,7 +215,3 @@ module _ {es : List Arc} {tail : Dart → ℕ} {next : Dart → Dart} {face : Da
 
         t : (k′ : Corner) × At-end (s .0) (s .1 .0) loop face₂ k′
         t = end-corner (s .0) (s .1 .0) loop face₂
-
-    -- and the law is kept
-    pub put-law : {way : Dart → Way} → ((d : Dart) → List·Memᴰ d (darts es) → W d ≡ way d) → Law sameDart rev tail way (darts es) next → Law sameDart rev T W (b ∷ f ∷ darts es) N₂
-    put-law ways law = link-edge-law sameDart rev T W tells rev-rev (darts es) N f (law-agree (darts es) (old (a .from) (a .to) tail) ways next N (λ d i. old (bwd (a .num)) (fwd (a .num)) next (rev d) (rev-in es i)) law) (λ i. new i refl) (λ i. new i refl) (λ p. fwd≢bwd (sym p)) apart

@@ -19,19 +19,21 @@ use Rattle.planar.specs.Planar.{Planar}
 use Rattle.planar.proofs.Cycles.{Grown}
 use Rattle.planar.proofs.Rings.{rev-in}
 use Rattle.planar.proofs.Hooks.{fresh-dart, with-fwd, with-bwd, with-other}
-use Rattle.map.specs.Rows.{Node, Map, atNodes, atEdge}
+use Rattle.map.specs.Rows.{Node, Map, hasNode, atNodes, atEdge}
 use Rattle.map.specs.Darts.{arcs, directed, leaves, next, bears, ring, among}
 use Rattle.map.specs.Links.{redirect, lead, linkIn, linkEdge}
 use Rattle.map.specs.Faces.{ringArea}
 use Rattle.map.specs.Edits.{Shares, withSides, drawn, sideOfDart, sideOfNode, sideOfPoint, sharedOut, splitFace}
 use Rattle.grown.specs.Good.{Woven}
-use Rattle.grown.proofs.Readings.{arcOf}
+use Rattle.grown.proofs.Readings.{arcOf, number-has}
+use Rattle.grown.proofs.RowChanges.{nodeNumber, noNode}
 use Rattle.grown.proofs.EdgesReached.{Reached, even-darts, darts-even}
 use Rattle.grown.proofs.EdgesSides.{sides-arcs, sides-bears, sides-law, sides-planar}
 use Rattle.grown.proofs.EdgesShared.{side-new, side-old, side-keeps, side-x, side-rev, apart-rev, Sharing, sharesOf, facesOf, sharing}
 use Rattle.grown.proofs.EdgesDrawn.{drawnRow}
 use Rattle.grown.proofs.EdgesCorners.{nodeNumbers}
-use Rattle.grown.proofs.EdgesJoined.{Draws, all-D, D-bears, D-faces, D-linked, D-once, D-law, D-split}
+use Rattle.grown.proofs.LawfulAdd.{drawn-obeys}
+use Rattle.grown.proofs.EdgesJoined.{Draws, all-D, D-bears, D-faces, D-linked, D-once, D-split}
 
 -- what the faces of a map give
 pub record Faced (m : Map) : Type 0 where
@@ -51,7 +53,7 @@ goes-old : (news : Bool) (old : ℕ) → news && not (same old 0) ≡ true → o
 goes-old true old h p = true≢false (sym h ∙ ap not (same-eq old 0 p))
 goes-old false old h p = true≢false (sym h)
 
-module _ (news : Bool) (m : Map) (u v : ℕ) (c : Curve) (φ : ℕ) (draws : Draws m u v c φ) (faced : Faced m) (there : List·Memᴰ φ (m .faces)) (split : among (ring (drawn u v c φ m) (fwd (m .nextEdge))) (bwd (m .nextEdge)) ≡ false) where
+module _ (news : Bool) (m : Map) (u v : ℕ) (c : Curve) (φ : ℕ) (woven : Woven m) (has-u : hasNode m u ≡ true) (has-v : hasNode m v ≡ true) (draws : Draws m u v c φ) (faced : Faced m) (there : List·Memᴰ φ (m .faces)) (split : among (ring (drawn u v c φ m) (fwd (m .nextEdge))) (bwd (m .nextEdge)) ≡ false) where
   abbrev D : Map
   D = drawn u v c φ m
 
@@ -95,7 +97,7 @@ module _ (news : Bool) (m : Map) (u v : ℕ) (c : Curve) (φ : ℕ) (draws : Dra
   on-b = D-bears m u v c φ draws b (List·Memᴰ·tail (List·Memᴰ·head refl)) ∙ with-bwd (m .nextEdge) φ φ (bears m) ∙ sym on-f
 
   kept : (d : Dart) → List·Memᴰ d (directed m) → bears D d ≡ bears m d
-  kept d k = D-bears m u v c φ draws d (List·Memᴰ·tail (List·Memᴰ·tail k)) ∙ with-other (m .nextEdge) φ φ (bears m) d (fresh-dart (arcOf (drawnRow m u v c φ)) (arcs m) (draws .fresh) k)
+  kept d k = D-bears m u v c φ draws d (List·Memᴰ·tail (List·Memᴰ·tail k)) ∙ with-other (m .nextEdge) φ φ (bears m) d (fresh-dart (arcOf (drawnRow m u v c φ)) (arcs m) (draws .free .fresh) k)
 
   next-face : D .nextFace ≡ m .nextFace + 0
   unfolding drawn atNodes linkEdge linkIn lead redirect atEdge
@@ -189,7 +191,7 @@ module _ (news : Bool) (m : Map) (u v : ℕ) (c : Curve) (φ : ℕ) (draws : Dra
   X-planar : Planar (nodeNumbers X) (arcs X) (leaves X) (next X) (bears X) (length (X .faces))
   X-planar = subst (λ (k : ℕ). Planar (nodeNumbers X) (arcs X) (leaves X) (next X) (bears X) k) (sym (ap length X-faces ∙ shared .count))
       (subst (λ (ns : List ℕ). Planar ns (arcs X) (leaves X) (next X) (bears X) (suc (length (m .faces)))) (sym X-nodes)
-      (sides-planar D X (λ e. new (fwd (e .number))) (λ e. new (bwd (e .number))) X-edges X-bears (D-split m u v c φ draws new back grown new-apart new-keeps)))
+      (sides-planar D X (λ e. new (fwd (e .number))) (λ e. new (bwd (e .number))) X-edges X-bears (D-split m u v c φ draws (woven .planar) (number-has nodeNumber noNode (m .nodes) u has-u) (number-has nodeNumber noNode (m .nodes) v has-v) new back grown new-apart new-keeps)))
 
   in-X : {d : Dart} → List·Memᴰ d (directed D) → List·Memᴰ d (directed X)
   in-X {d} k = subst (λ (es : List Arc). List·Memᴰ d (darts es)) (sym (sides-arcs D X (λ e. new (fwd (e .number))) (λ e. new (bwd (e .number))) X-edges)) k
@@ -202,11 +204,11 @@ module _ (news : Bool) (m : Map) (u v : ℕ) (c : Curve) (φ : ℕ) (draws : Dra
   side-borne g (inl p) = elim two-sides [ inl q ↦ (f, in-X in-f, X-bears f in-f ∙ q .0 ∙ sym p) | inr q ↦ (b, in-X in-b, X-bears b in-b ∙ q .1 ∙ sym p) ]
   side-borne g (inr p) = elim two-sides [ inl q ↦ (b, in-X in-b, X-bears b in-b ∙ q .1 ∙ sym p) | inr q ↦ (f, in-X in-f, X-bears f in-f ∙ q .0 ∙ sym p) ]
 
-  pub split-woven : ((g : ℕ) → List·Memᴰ g (m .faces) → g ≢ 0 → (d : Dart) × List·Memᴰ d (directed m) × (bears m d ≡ g)) → Woven (splitFace news (m .nextEdge) (drawn u v c φ m))
-  split-woven borne = record {
+  pub split-woven : Woven (splitFace news (m .nextEdge) (drawn u v c φ m))
+  split-woven = record {
     planar = X-planar;
-    law = sides-law D X (λ e. new (fwd (e .number))) (λ e. new (bwd (e .number))) X-edges (D-law m u v c φ draws);
-    borne = λ g i ne. elim (shared .faces g (subst (λ (l : List ℕ). List·Memᴰ g l) X-faces i)) [ inl q ↦ side-borne g q | inr q ↦ old-borne g (q .1) (borne g (q .0) ne) ];
+    law = sides-law D X (λ e. new (fwd (e .number))) (λ e. new (bwd (e .number))) X-edges (drawn-obeys m u v c φ (draws .free) (woven .law));
+    borne = λ g i ne. elim (shared .faces g (subst (λ (l : List ℕ). List·Memᴰ g l) X-faces i)) [ inl q ↦ side-borne g q | inr q ↦ old-borne g (q .1) (woven .borne g (q .0) ne) ];
   }
     where
       old-borne : (g : ℕ) → g ≢ old → (d : Dart) × List·Memᴰ d (directed m) × (bears m d ≡ g) → (d : Dart) × List·Memᴰ d (directed X) × (bears X d ≡ g)
@@ -248,4 +250,4 @@ module _ (news : Bool) (m : Map) (u v : ℕ) (c : Curve) (φ : ℕ) (draws : Dra
       ]
 
       all : (g : ℕ) → List·Memᴰ g (m .faces) → S₀ g ≡ S 0
-      all g k = reached S₀ (darts-even m (draws .planar .edges-once) S₀ (λ d k. same-side d k ∙ even-darts X S even d (in-X (still-in k)) ∙ sym (same-side (rev d) (rev-in (arcs m) k)))) g k ∙ zero
+      all g k = reached S₀ (darts-even m (draws .once) S₀ (λ d k. same-side d k ∙ even-darts X S even d (in-X (still-in k)) ∙ sym (same-side (rev d) (rev-in (arcs m) k)))) g k ∙ zero

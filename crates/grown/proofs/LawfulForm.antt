@@ -37,11 +37,13 @@ use Rattle.map.specs.Form.{waysDiffer, curveFits, departuresDiffer, bareMarked,
 use Rattle.map.specs.Reasons.{isolated}
 use Rattle.map.proofs.Laws.{formed-is}
 use Rattle.map.proofs.Linked as formedLinks
-use Rattle.grown.specs.Good.{Anchored}
+use Rattle.grown.specs.Good.{Anchored, Good}
 use Rattle.grown.proofs.Readings.{numberOf, departing}
 use Rattle.grown.proofs.RowChanges.{nodeNumber, node-row}
 use Rattle.grown.proofs.Scanning.{all-each, each-all}
 use Rattle.grown.proofs.Changes.{none-has}
+use Rattle.grown.proofs.Apart.{curve-good}
+use Rattle.grown.proofs.Forms.{good-formed}
 use Rattle.grown.proofs.EdgesLaw.{from-in, from-has}
 
 -- all links obey the law
@@ -85,7 +87,7 @@ differ-says {D} way (x ∷ ds) h d c i j e = go (differ-says way ds (k .1) d c) 
 
 -- ---- a map in form
 
-some-rest : (p : Point) (r : List Point) → 2 ≤ length (p ∷ r) → Some r
+pub some-rest : (p : Point) (r : List Point) → 2 ≤ length (p ∷ r) → Some r
 some-rest p [] h = absurd (omega arith)
 some-rest p (q ∷ r) h = tt
 
@@ -151,3 +153,11 @@ module _ (m : Map) (h : formed m ≡ true) (least : (r : Edge) → List·Memᴰ 
     anchored = formed-anchored;
     some = λ r k. some-rest (r .curve .first) (r .curve .rest) (least r k);
   }
+
+-- a good map is such a map, so what is said here of a kind holds of it
+pub good-lawful : (m : Map) → Good m → Lawful m
+good-lawful m g = formed-lawful m (good-formed m g) (λ r k. two (r .curve .first) (r .curve .rest) (curve-good m (g .surveyed) r k .some)) (law-is m (g .woven .law))
+  where
+    two : (p : Point) (r : List Point) → Some r → 2 ≤ length (p ∷ r)
+    two p [] h = absurd h
+    two p (q ∷ r) h = omega arith

@@ -1,14 +1,11 @@
 -- After every carried-out ticket all links obey the law, given that they did before: on all tables in form. Assumes nothing.
 use mathlib.Core.Path.{_≡_}
 use mathlib.Core.Bool.{true, false}
-use mathlib.Core.List.{List, [], _∷_, List·Memᴰ}
+use mathlib.Core.List.{List·Memᴰ}
 use Prim.Native.Nat.{_≤_}
-use native.Mathlib.Omega.{arith}
 use lib.IntN.{natAbs}
 use lib.ListN.{length}
-use Rattle.plane.specs.declared.Point.{Point}
 use Rattle.curves.specs.Curves.{points, point, curveOf}
-use Rattle.geometry.specs.Meaning.{Some}
 use Rattle.geometry.proofs.Booleans.{and-true}
 use Rattle.map.specs.Rows.{Edge, Map, Lent, Sizes, mapOf, sizesOf}
 use Rattle.map.specs.Links.{obeysLaw}
@@ -17,10 +14,7 @@ use Rattle.map.specs.Tickets.{Ticket, AddIsoNode, MoveIsoNode, RemoveIsoNode, A
 use Rattle.map.specs.Reasons.{firstReason, reasons}
 use Rattle.map.specs.Ticket.{carried}
 use Rattle.map.proofs.Laws.{in-form-points}
-use Rattle.grown.specs.Good.{Good}
 use Rattle.grown.proofs.Reasons as facts
-use Rattle.grown.proofs.Apart.{curve-good}
-use Rattle.grown.proofs.Forms.{good-formed}
 use Rattle.grown.proofs.LawfulForm.{Obeys, Lawful, law-is, formed-lawful}
 use Rattle.grown.proofs.LawfulChange.{add-node-obeys, move-node-obeys, remove-node-obeys, change-obeys}
 use Rattle.grown.proofs.LawfulSplit.{split-obeys, mod-split-obeys}
@@ -55,11 +49,3 @@ lawful-kept s m t form least law h = law-is (carried m t .0) (carried-obeys s m 
 pub lawful-tables : (l : Lent) (t : Ticket) → inForm l ≡ true → obeysLaw (mapOf l) ≡ true → firstReason (reasons (sizesOf l) (mapOf l) t) ≡ 0 → obeysLaw (carried (mapOf l) t .0) ≡ true
 unfolding inForm
 lawful-tables l t form law h = lawful-kept (sizesOf l) (mapOf l) t (and-true (ranged l) (formed (mapOf l)) form .1) (λ r k. in-form-points l form r k .least) law h
-
--- a good map is such a map, so what is said here of a kind holds of it
-pub good-lawful : (m : Map) → Good m → Lawful m
-good-lawful m g = formed-lawful m (good-formed m g) (λ r k. two (r .curve .first) (r .curve .rest) (curve-good m (g .surveyed) r k .some)) (law-is m (g .woven .law))
-  where
-    two : (p : Point) (r : List Point) → Some r → 2 ≤ length (p ∷ r)
-    two p [] h = absurd h
-    two p (q ∷ r) h = omega arith

@@ -1,24 +1,21 @@
 -- Directed edges and the rows that they read. Assumes nothing.
 use mathlib.Core.Path.{_≡_, sym, ap, _∙_}
 use mathlib.Core.Logic.{_⊎_, inl, inr}
-use mathlib.Core.List.{List, map, List·Memᴰ, Memᴰ·of-map, Memᴰ·cast, List·Permᴰ}
+use mathlib.Core.List.{List, map, List·Memᴰ, Memᴰ·of-map, List·Permᴰ}
 use Rattle.lists.specs.Members.{Distinct}
 use Rattle.lists.proofs.Perms.{perm-in}
 use Rattle.curves.specs.Curves.{startWay}
 use Rattle.planar.specs.Map.{Arc, Dart, fwd, bwd, darts}
 use Rattle.planar.specs.Pieces.{nums}
-use Rattle.planar.proofs.Cycles.{fwd-in, bwd-in}
 use Rattle.planar.proofs.Rings.{dart-cases}
+use Rattle.planar.proofs.Moves.{darts-perm}
 use Rattle.map.specs.Rows.{Edge, Map, edge}
 use Rattle.map.specs.Darts.{arcs, leaves, next, bears, way}
 use Rattle.grown.proofs.Readings.{tailIn, nextIn, faceIn, courseIn, leaves-row, next-row, bears-row, course-row, way-row, arcOf, edge-at}
 
 -- the edges in another order have the same directed edges
 pub dart-move : {es fs : List Arc} → List·Permᴰ es fs → (z : Dart) → List·Memᴰ z (darts es) → List·Memᴰ z (darts fs)
-dart-move {es} {fs} p z m = go (dart-cases es m)
-  where
-    go : (a : Arc) × List·Memᴰ a es × ((z ≡ fwd (a .num)) ⊎ (z ≡ bwd (a .num))) → List·Memᴰ z (darts fs)
-    go x = elim (x .2) [ inl e ↦ Memᴰ·cast e (fwd-in (perm-in p (x .1))) | inr e ↦ Memᴰ·cast e (bwd-in (perm-in p (x .1))) ]
+dart-move p z m = perm-in (darts-perm p) m
 
 -- the row of a directed edge
 pub dart-row : (rows : List Edge) (z : Dart) → List·Memᴰ z (darts (map arcOf rows)) → (q : Edge) × List·Memᴰ q rows × (z .edge ≡ q .number)
