@@ -27,8 +27,8 @@ use Rattle.grown.proofs.EdgesRings.{among-in, ring-leads}
 use Rattle.grown.proofs.EdgesReached.{Reached, even-darts, darts-even}
 use Rattle.grown.proofs.EdgesLaw.{from-in}
 use Rattle.grown.proofs.EdgesDrawn.{drawnRow}
-use Rattle.grown.proofs.LawfulForm.{Lawful, good-lawful}
-use Rattle.grown.proofs.LawfulAdd.{edge-new, lawful-lone, drawn-obeys, D-alone}
+use Rattle.grown.proofs.LawfulForm.{Lawful, edge-new, good-lawful}
+use Rattle.grown.proofs.LawfulAdd.{lawful-lone, drawn-obeys, D-alone}
 use Rattle.grown.proofs.EdgesJoined.{Draws, draws-edge, all-D, D-faces, D-bears, D-linked, D-once, D-join}
 
 -- ---- what the tickets' facts give
@@ -48,7 +48,7 @@ module _ (m : Map) (good : Good m) (s : Sizes) (u v : ℕ) (c : Curve) where
   }
 
   pub draws-added : (news : Bool) → AddEdge news s m u v c → Draws m u v c (cornerFace m u (startWay c))
-  draws-added news h = draws-edge h (L .linked) (L .once) (L .apart) (edge-new m L)
+  draws-added news h = draws-edge h (L .linked) (L .once) (L .apart) (edge-new m (L .edges-below))
 
 -- ---- both sides on one ring
 
@@ -91,7 +91,7 @@ module _ (s : Sizes) (m : Map) (u v : ℕ) (c : Curve) (good : Good m) (h : AddL
       none : (d : Dart) → List·Memᴰ d (from T (fwd (m .nextEdge) ∷ directed m) (T (bwd (m .nextEdge)))) → ⊥
       none d k = elim (List·Memᴰ·cases-cons (j .0)) [
         | inl p ↦ h .differ (sym (with-fwd (m .nextEdge) u v (leaves m)) ∙ ap T (sym p) ∙ at-v)
-        | inr i ↦ good-lawful m good .bare v (h .has-end) (h .isolated-end) d i (sym (with-other (m .nextEdge) u v (leaves m) d (fresh-dart (record { num = m .nextEdge; from = u; to = v }) (arcs m) (edge-new m (good-lawful m good)) i)) ∙ at-v)
+        | inr i ↦ good-lawful m good .bare v (h .has-end) (h .isolated-end) d i (sym (with-other (m .nextEdge) u v (leaves m) d (fresh-dart (record { num = m .nextEdge; from = u; to = v }) (arcs m) (edge-new m (good-lawful m good .edges-below)) i)) ∙ at-v)
       ]
         where
           j : List·Memᴰ d (fwd (m .nextEdge) ∷ directed m) × (T d ≡ T (bwd (m .nextEdge)))

@@ -1,14 +1,14 @@
--- The rows of a good map are as condition 2 asks. Assumes nothing.
+-- The links of a linked map, and the rows of a good one, are as condition 2 asks. Assumes nothing.
 use mathlib.Core.Path.{_≡_, refl, sym, ap, ap₂, _∙_}
-use mathlib.Core.Logic.{_⊎_, inl, inr}
 use mathlib.Core.Bool.{Bool, true, false, cond, not}
-use mathlib.Core.List.{List, [], _∷_, map, List·Memᴰ, List·Memᴰ·head, List·Memᴰ·tail, List·Memᴰ·cases-cons, List·Memᴰ·not-nil, Memᴰ·of-map, Memᴰ·cast}
+use mathlib.Core.List.{List, [], _∷_, map, List·Memᴰ, List·Memᴰ·head, List·Memᴰ·tail, Memᴰ·of-map, Memᴰ·cast}
 use Prim.Native.Nat.{_+_}
 use Rattle.lists.specs.Tests.{bit}
 use Rattle.lists.specs.Scans.{any, count, keep}
 use Rattle.lists.specs.Members.{Distinct}
 use Rattle.lists.proofs.Bools.{same-eq, not-true}
 use Rattle.lists.proofs.Counts.{count-perm}
+use Rattle.lists.proofs.Perms.{extract, perm-distinct}
 use Rattle.lists.proofs.Keeps.{keep-in}
 use Rattle.geometry.proofs.Booleans.{and-is}
 use Rattle.geometry.proofs.Meeting.{samePoint-refl}
@@ -16,13 +16,14 @@ use Rattle.geometry.proofs.Theorems.{neighboursDiffer-iff}
 use Rattle.plane.specs.Points.{samePoint}
 use Rattle.plane.specs.Directions.{Way, sameWay}
 use Rattle.curves.specs.Curves.{lastPoint}
-use Rattle.planar.specs.Map.{Dart}
+use Rattle.planar.specs.Map.{Dart, Linked}
+use Rattle.planar.specs.Pieces.{nums}
 use Rattle.planar.specs.Rings.{sameDart}
 use Rattle.planar.proofs.Rings.{sameDart-refl, sameDart-true}
 use Rattle.planar.proofs.Hooks.{distinct-darts}
 use Rattle.rotation.proofs.Ways.{alike-says}
 use Rattle.map.specs.Rows.{Edge, Map}
-use Rattle.map.specs.Darts.{arcs, directed, next, departures, way}
+use Rattle.map.specs.Darts.{arcs, directed, leaves, next, bears, departures, way}
 use Rattle.map.specs.Form.{numbers, named, curveFits, waysDiffer, departuresDiffer, linksOnce, linksMeet, ringsBearOne, formed}
 use Rattle.grown.specs.Good.{Good}
 use Rattle.grown.proofs.Scanning.{each-all, any-some}
@@ -42,12 +43,24 @@ count-none d [] h = refl
 count-none d (c ∷ ds) h = ap₂ (λ b n. bit b + n) (not-true (sameDart d c) (λ e. h (List·Memᴰ·head (sameDart-true d c e)))) (count-none d ds (λ k. h (List·Memᴰ·tail k)))
 
 count-once : (d : Dart) (ds : List Dart) → Distinct ds → List·Memᴰ d ds → count (sameDart d) ds ≡ 1
-count-once d [] dis k = absurd (List·Memᴰ·not-nil k)
-count-once d (c ∷ ds) dis k = go (List·Memᴰ·cases-cons k) (count-once d ds (dis .1))
-  where
-    go : (d ≡ c) ⊎ List·Memᴰ d ds → (List·Memᴰ d ds → count (sameDart d) ds ≡ 1) → bit (sameDart d c) + count (sameDart d) ds ≡ 1
-    go (inl e) ih = ap₂ (λ b n. bit b + n) (ap (sameDart d) (sym e) ∙ sameDart-refl d) (count-none d ds (λ j. dis .0 (Memᴰ·cast (sym e) j)))
-    go (inr j) ih = ap₂ (λ b n. bit b + n) (not-true (sameDart d c) (λ e. dis .0 (Memᴰ·cast (sym (sameDart-true d c e)) j))) (ih j)
+count-once d ds dis k = let r = extract k in count-perm (sameDart d) (r .1) ∙ ap₂ (λ b n. bit b + n) (sameDart-refl d) (count-none d (r .0) (perm-distinct (r .1) dis .0))
+
+-- ---- a linked map passes the tests of form on its links
+
+module _ (m : Map) (l : Linked (arcs m) (leaves m) (next m) (bears m)) where
+  pub linked-once : Distinct (nums (arcs m)) → linksOnce m ≡ true
+  unfolding linksOnce
+  linked-once dis = each-all _ (directed m) (λ d k. same-eq (count (sameDart d) (map (next m) (directed m))) 1 (count-perm (sameDart d) (l .perm) ∙ count-once d (directed m) (distinct-darts (arcs m) dis) k))
+
+  linked-meet : linksMeet m ≡ true
+  unfolding linksMeet
+  linked-meet = each-all _ (directed m) (λ d k. same-eq _ _ (l .meets d k))
+
+  pub linked-bear : ringsBearOne m ≡ true
+  unfolding ringsBearOne
+  linked-bear = each-all _ (directed m) (λ d k. same-eq _ _ (l .keeps d k))
+
+-- ---- a good map is formed
 
 -- departures that are one where their directions are have different directions
 ways-differ : (way : Dart → Way) (ds : List Dart) → Distinct ds → ((d c : Dart) → List·Memᴰ d ds → List·Memᴰ c ds → sameWay (way d) (way c) ≡ true → d ≡ c) → waysDiffer (map way ds) ≡ true
@@ -63,9 +76,6 @@ ways-differ way (d ∷ ds) dis h = and-is (ap not none) (ways-differ way ds (dis
     none = not-true (any (sameWay (way d)) (map way ds)) (λ e. taken (any-some (sameWay (way d)) (map way ds) e))
 
 module _ (m : Map) (g : Good m) where
-  once : Distinct (directed m)
-  once = distinct-darts (arcs m) (g .woven .planar .edges-once)
-
   fits-curve : (e : Edge) → List·Memᴰ e (m .edges) → curveFits m e ≡ true
   fits-curve e k =
       let a = g .surveyed .anchored e k in
@@ -74,20 +84,11 @@ module _ (m : Map) (g : Good m) where
 
   differ : departuresDiffer m ≡ true
   unfolding departuresDiffer departures
-  differ = each-all _ (m .nodes) (λ n k. ways-differ (way m) (departures m (n .number)) (distinct-keep _ (directed m) once) (λ d c i j e. apart m (g .surveyed) (n .number) d c i j (alike-says (way m d) (way m c) e)))
+  differ = each-all _ (m .nodes) (λ n k. ways-differ (way m) (departures m (n .number)) (distinct-keep _ (directed m) (distinct-darts (arcs m) (g .woven .planar .edges-once))) (λ d c i j e. apart m (g .surveyed) (n .number) d c i j (alike-says (way m d) (way m c) e)))
 
-  links : linksOnce m ≡ true
-  unfolding linksOnce
-  links = each-all _ (directed m) (λ d k. same-eq (count (sameDart d) (map (next m) (directed m))) 1 (count-perm (sameDart d) (g .woven .planar .linked .perm) ∙ count-once d (directed m) once k))
-
-  meets : linksMeet m ≡ true
-  unfolding linksMeet
-  meets = each-all _ (directed m) (λ d k. same-eq _ _ (g .woven .planar .linked .meets d k))
-
-  bear : ringsBearOne m ≡ true
-  unfolding ringsBearOne
-  bear = each-all _ (directed m) (λ d k. same-eq _ _ (g .woven .planar .linked .keeps d k))
+  abbrev linked : Linked (arcs m) (leaves m) (next m) (bears m)
+  linked = g .woven .planar .linked
 
   pub good-formed : formed m ≡ true
   unfolding formed
-  good-formed = and-is (and-is (and-is (and-is (and-is (and-is (and-is (g .numbered .numbers) (g .numbered .named)) (each-all (curveFits m) (m .edges) fits-curve)) differ) (g .numbered .marked)) links) meets) bear
+  good-formed = and-is (and-is (and-is (and-is (and-is (and-is (and-is (g .numbered .numbers) (g .numbered .named)) (each-all (curveFits m) (m .edges) fits-curve)) differ) (g .numbered .marked)) (linked-once m linked (g .woven .planar .edges-once))) (linked-meet m linked)) (linked-bear m linked)

@@ -5,7 +5,6 @@ use mathlib.Core.Bool.{Bool, true, false, cond, not, _&&_, true≢false}
 use mathlib.Core.List.{List, _∷_, map, List·Memᴰ, List·Memᴰ·head, List·Memᴰ·tail, List·Memᴰ·cases-cons, List·Permᴰ, Permᴰ·symm}
 use mathlib.Core.Option.{none, Option·getD}
 use Prim.Native.Nat.{ℕ}
-use native.Mathlib.Omega.{arith}
 use Rattle.lists.specs.Tests.{same}
 use Rattle.lists.proofs.Bools.{same-false}
 use Rattle.lists.proofs.Members.{each-cons}
@@ -34,7 +33,7 @@ use Rattle.map.specs.Darts.{arcs, directed, leaves, next, bears, way, departure
 use Rattle.map.specs.Links.{linkEdge, cornerFace}
 use Rattle.map.specs.Edits.{withFace, isEither, drawn, addIsoEdge, drawnIn, splitsFace, sharedOut, splitFace, addEdge}
 use Rattle.map.specs.Reasons.{isolated, wayTaken, directionTaken}
-use Rattle.grown.proofs.Readings.{Relinked, arcOf, nums-rows, departs, departing, leaves-by, next-by, bears-by, way-by}
+use Rattle.grown.proofs.Readings.{Relinked, arcOf, departs, departing, leaves-by, next-by, bears-by, way-by}
 use Rattle.grown.proofs.RowChanges.{more-perm}
 use Rattle.grown.proofs.LawOrder.{law-order}
 use Rattle.grown.proofs.Reasons.{Sent, AddLone, AddEdge}
@@ -44,7 +43,7 @@ use Rattle.grown.proofs.EdgesLaw.{from-in, from-has, law-agree}
 use Rattle.grown.proofs.EdgesDrawn.{drawnRow, appended, leaves₁, bears₁, way₁, way-f, way-b, linked-in, linkEdge-next}
 use Rattle.grown.proofs.EdgesCorners.{nodeNumbers, numbers-kept}
 use Rattle.grown.proofs.EdgesSides.{sides-law}
-use Rattle.grown.proofs.LawfulForm.{Obeys, Lawful, some-rest}
+use Rattle.grown.proofs.LawfulForm.{Obeys, Lawful, some-rest, edge-new}
 
 -- an edge with the next number from u to v along c departs in directions of its own, as others do
 pub record Free (m : Map) (u v : ℕ) (c : Curve) : Type 0 where
@@ -245,13 +244,9 @@ edge-free {m = m} {u} {v} {c} h apart fresh = record {
 
 -- ---- the kinds
 
--- the next number is new
-pub edge-new : (m : Map) → Lawful m → List·Memᴰ (m .nextEdge) (nums (arcs m)) → ⊥
-edge-new m L k = let h = L .edges-below (m .nextEdge) (subst (List·Memᴰ (m .nextEdge)) (nums-rows m) k) in omega arith
-
 module _ (m : Map) (L : Lawful m) (s : Sizes) (u v : ℕ) (c : Curve) where
   pub lawful-lone : AddLone s m u v c → Free m u v c
-  lawful-lone h = lone-free h (L .apart) (edge-new m L) (bare u (h .has-start) (h .isolated-start)) (bare v (h .has-end) (h .isolated-end))
+  lawful-lone h = lone-free h (L .apart) (edge-new m (L .edges-below)) (bare u (h .has-start) (h .isolated-start)) (bare v (h .has-end) (h .isolated-end))
     where
       bare : (n : ℕ) → hasNode m n ≡ true → isolated m n ≡ true → (d : Dart) → List·Memᴰ d (departures m n) → ⊥
       bare n has iso d k = let x = departs m n k in L .bare n has iso d (x .0) (x .1)
@@ -262,7 +257,7 @@ module _ (m : Map) (L : Lawful m) (s : Sizes) (u v : ℕ) (c : Curve) where
 
   module _ (news : Bool) (h : AddEdge news s m u v c) where
     drawn-in-obeys : Obeys (drawnIn u v c m)
-    drawn-in-obeys = drawn-obeys m u v c (cornerFace m u (startWay c)) (edge-free h (L .apart) (edge-new m L)) (L .law)
+    drawn-in-obeys = drawn-obeys m u v c (cornerFace m u (startWay c)) (edge-free h (L .apart) (edge-new m (L .edges-below))) (L .law)
 
     -- a face split changes faces only
     split-face-obeys : (e : ℕ) (X : Map) → Obeys X → Obeys (splitFace news e X)

@@ -38,7 +38,7 @@ use Rattle.map.specs.Reasons.{isolated}
 use Rattle.map.proofs.Laws.{formed-is}
 use Rattle.map.proofs.Linked as formedLinks
 use Rattle.grown.specs.Good.{Anchored, Good}
-use Rattle.grown.proofs.Readings.{numberOf, departing}
+use Rattle.grown.proofs.Readings.{numberOf, nums-rows, departing}
 use Rattle.grown.proofs.RowChanges.{nodeNumber, node-row}
 use Rattle.grown.proofs.Scanning.{all-each, each-all}
 use Rattle.grown.proofs.Changes.{none-has}
@@ -69,7 +69,7 @@ module _ (m : Map) where
 -- ---- directions
 
 -- what differs in direction, by the test
-pub differ-says : {D : Type 0} (way : D → Way) (ds : List D) → waysDiffer (map way ds) ≡ true → Differ way ds
+differ-says : {D : Type 0} (way : D → Way) (ds : List D) → waysDiffer (map way ds) ≡ true → Differ way ds
 differ-says way [] h d c i j e = absurd (List·Memᴰ·not-nil i)
 differ-says {D} way (x ∷ ds) h d c i j e = go (differ-says way ds (k .1) d c) (List·Memᴰ·cases-cons i) (List·Memᴰ·cases-cons j)
   where
@@ -110,9 +110,13 @@ pub record Lawful (m : Map) : Type 0 where
   pub anchored : (r : Edge) → List·Memᴰ r (m .edges) → Anchored m r
   pub some : (r : Edge) → List·Memᴰ r (m .edges) → Some (r .curve .rest)
 
-module _ (m : Map) (h : formed m ≡ true) (least : (r : Edge) → List·Memᴰ r (m .edges) → 2 ≤ length (points (r .curve))) where
+-- the next number is new
+pub edge-new : (m : Map) → ((e : ℕ) → List·Memᴰ e (map numberOf (m .edges)) → e < m .nextEdge) → List·Memᴰ (m .nextEdge) (nums (arcs m)) → ⊥
+edge-new m below k = let h = below (m .nextEdge) (subst (List·Memᴰ (m .nextEdge)) (nums-rows m) k) in omega arith
+
+module _ (m : Map) (h : formed m ≡ true) where
   -- directions differ at each node, and nothing departs elsewhere
-  formed-apart : Apart (leaves m) (way m) (directed m)
+  pub formed-apart : Apart (leaves m) (way m) (directed m)
   unfolding departuresDiffer departures
   formed-apart n d c i j e = differ-says (way m) (from (leaves m) (directed m) n) differ d c i j e
     where
@@ -140,8 +144,8 @@ module _ (m : Map) (h : formed m ≡ true) (least : (r : Edge) → List·Memᴰ 
       let ends = and-true (samePoint (r .curve .first) (node m (r .start) .at)) (samePoint (lastPoint (r .curve)) (node m (r .end) .at)) (and-true _ (neighboursDiffer (r .curve)) fits .0) in
       record { start = samePoint-true _ _ (ends .0); end = samePoint-true _ _ (ends .1) }
 
-  pub formed-lawful : obeysLaw m ≡ true → Lawful m
-  formed-lawful law = record {
+  pub formed-lawful : ((r : Edge) → List·Memᴰ r (m .edges) → 2 ≤ length (points (r .curve))) → obeysLaw m ≡ true → Lawful m
+  formed-lawful least law = record {
     once = formedLinks.edges-once m h;
     linked = formedLinks.linked m h;
     within = formedLinks.within-nodes m h;
