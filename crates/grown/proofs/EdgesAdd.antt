@@ -1,4 +1,4 @@
--- Kind 4, and kinds 11 and 12 where no face is split. Assumes nothing.
+-- Kind 4, and kinds 11 and 12 where no face is split, keep a map in the plane, and its faces reached. Assumes nothing.
 use mathlib.Core.Path.{_≡_, refl, sym, ap, _∙_, subst}
 use mathlib.Core.Logic.{inl, inr}
 use mathlib.Core.Bool.{Bool, true, false}
@@ -17,26 +17,21 @@ use Rattle.map.specs.Rows.{Map, Sizes, node, hasNode}
 use Rattle.map.specs.Darts.{arcs, directed, leaves, next, bears, ring, among}
 use Rattle.map.specs.Links.{cornerFace}
 use Rattle.map.specs.Edits.{drawn, addIsoEdge, drawnIn, splitsFace}
-use Rattle.grown.specs.Good.{Woven, Good}
 use Rattle.grown.proofs.Readings.{arcOf, number-has, departs}
-use Rattle.grown.proofs.RowChanges.{nodeNumber, noNode}
+use Rattle.grown.proofs.RowChanges.{nodeNumber, noNode, InPlane}
 use Rattle.grown.proofs.Reasons.{AddLone, AddEdge}
 use Rattle.grown.proofs.Apart.{apart}
-use Rattle.grown.proofs.Changes.{bare}
 use Rattle.grown.proofs.EdgesRings.{among-in, ring-leads}
 use Rattle.grown.proofs.EdgesReached.{Reached, even-darts, darts-even}
 use Rattle.grown.proofs.EdgesLaw.{from-in}
 use Rattle.grown.proofs.EdgesDrawn.{drawnRow}
-use Rattle.grown.proofs.LawfulForm.{Lawful, edge-new, good-lawful}
-use Rattle.grown.proofs.LawfulAdd.{lawful-lone, drawn-obeys, D-alone}
+use Rattle.grown.proofs.LawfulForm.{Lawful, edge-new}
+use Rattle.grown.proofs.LawfulAdd.{lawful-lone, D-alone}
 use Rattle.grown.proofs.EdgesJoined.{Draws, draws-edge, all-D, D-faces, D-bears, D-linked, D-once, D-join}
 
 -- ---- what the tickets' facts give
 
-module _ (m : Map) (good : Good m) (s : Sizes) (u v : ℕ) (c : Curve) where
-  abbrev L : Lawful m
-  L = good-lawful m good
-
+module _ (m : Map) (L : Lawful m) (s : Sizes) (u v : ℕ) (c : Curve) where
   -- both nodes are isolated
   draws-lone : (φ : ℕ) → AddLone s m u v c → Draws m u v c φ
   draws-lone φ h = record {
@@ -52,7 +47,7 @@ module _ (m : Map) (good : Good m) (s : Sizes) (u v : ℕ) (c : Curve) where
 
 -- ---- both sides on one ring
 
-module _ (m : Map) (u v : ℕ) (c : Curve) (φ : ℕ) (woven : Woven m) (has-u : hasNode m u ≡ true) (has-v : hasNode m v ≡ true) (draws : Draws m u v c φ) (leads : Leads (next (drawn u v c φ m)) (fwd (m .nextEdge)) (bwd (m .nextEdge))) where
+module _ (m : Map) (u v : ℕ) (c : Curve) (φ : ℕ) (draws : Draws m u v c φ) where
   abbrev D : Map
   D = drawn u v c φ m
 
@@ -66,24 +61,20 @@ module _ (m : Map) (u v : ℕ) (c : Curve) (φ : ℕ) (woven : Woven m) (has-u :
   same-faces : {f : ℕ} → List·Memᴰ f (D .faces) → List·Memᴰ f (m .faces)
   same-faces {f} k = subst (λ (l : List ℕ). List·Memᴰ f l) (D-faces m u v c φ draws) k
 
-  pub joined-woven : Woven (drawn u v c φ m)
-  joined-woven = record {
-    planar = D-join m u v c φ draws (woven .planar) (number-has nodeNumber noNode (m .nodes) u has-u) (number-has nodeNumber noNode (m .nodes) v has-v) leads;
-    law = drawn-obeys m u v c φ (draws .free) (woven .law);
-    borne = λ f i ne. let x = woven .borne f (same-faces i) ne in (x .0, still-in (x .1), kept (x .0) (x .1) ∙ x .2);
-  }
+  joined-planar : hasNode m u ≡ true → hasNode m v ≡ true → Leads (next (drawn u v c φ m)) (fwd (m .nextEdge)) (bwd (m .nextEdge)) → InPlane m → InPlane (drawn u v c φ m)
+  joined-planar has-u has-v leads o = D-join m u v c φ draws o (number-has nodeNumber noNode (m .nodes) u has-u) (number-has nodeNumber noNode (m .nodes) v has-v) leads
 
-  pub joined-reached : Reached m → Reached (drawn u v c φ m)
+  joined-reached : Reached m → Reached (drawn u v c φ m)
   joined-reached r S even f i = r S (darts-even m (draws .once) S (λ d k. ap S (sym (kept d k)) ∙ even-darts D S even d (still-in k) ∙ ap S (kept (rev d) (rev-in (arcs m) k)))) f (same-faces i)
 
 -- ---- kind 4
 
-module _ (s : Sizes) (m : Map) (u v : ℕ) (c : Curve) (good : Good m) (h : AddLone s m u v c) where
+module _ (s : Sizes) (m : Map) (u v : ℕ) (c : Curve) (L : Lawful m) (h : AddLone s m u v c) where
   φ : ℕ
   φ = Option·getD (node m u .face) 0
 
   alone : Leads (next (drawn u v c φ m)) (fwd (m .nextEdge)) (bwd (m .nextEdge))
-  alone = (1, D-alone m u v c φ (draws-lone m good s u v c φ h .free) none)
+  alone = (1, D-alone m u v c φ (draws-lone m L s u v c φ h .free) none)
     where
       T : Dart → ℕ
       T = with-edge (m .nextEdge) u v (leaves m)
@@ -91,7 +82,7 @@ module _ (s : Sizes) (m : Map) (u v : ℕ) (c : Curve) (good : Good m) (h : AddL
       none : (d : Dart) → List·Memᴰ d (from T (fwd (m .nextEdge) ∷ directed m) (T (bwd (m .nextEdge)))) → ⊥
       none d k = elim (List·Memᴰ·cases-cons (j .0)) [
         | inl p ↦ h .differ (sym (with-fwd (m .nextEdge) u v (leaves m)) ∙ ap T (sym p) ∙ at-v)
-        | inr i ↦ good-lawful m good .bare v (h .has-end) (h .isolated-end) d i (sym (with-other (m .nextEdge) u v (leaves m) d (fresh-dart (record { num = m .nextEdge; from = u; to = v }) (arcs m) (edge-new m (good-lawful m good .edges-below)) i)) ∙ at-v)
+        | inr i ↦ L .bare v (h .has-end) (h .isolated-end) d i (sym (with-other (m .nextEdge) u v (leaves m) d (fresh-dart (record { num = m .nextEdge; from = u; to = v }) (arcs m) (edge-new m (L .edges-below)) i)) ∙ at-v)
       ]
         where
           j : List·Memᴰ d (fwd (m .nextEdge) ∷ directed m) × (T d ≡ T (bwd (m .nextEdge)))
@@ -100,27 +91,27 @@ module _ (s : Sizes) (m : Map) (u v : ℕ) (c : Curve) (good : Good m) (h : AddL
           at-v : T d ≡ v
           at-v = j .1 ∙ with-bwd (m .nextEdge) u v (leaves m)
 
-  pub woven-4 : Woven (addIsoEdge u v c m)
+  pub planar-4 : InPlane m → InPlane (addIsoEdge u v c m)
   unfolding addIsoEdge φ
-  woven-4 = joined-woven m u v c φ (good .woven) (h .has-start) (h .has-end) (draws-lone m good s u v c φ h) alone
+  planar-4 = joined-planar m u v c φ (draws-lone m L s u v c φ h) (h .has-start) (h .has-end) alone
 
   pub reached-4 : Reached m → Reached (addIsoEdge u v c m)
   unfolding addIsoEdge φ
-  reached-4 = joined-reached m u v c φ (good .woven) (h .has-start) (h .has-end) (draws-lone m good s u v c φ h) alone
+  reached-4 = joined-reached m u v c φ (draws-lone m L s u v c φ h)
 
 -- ---- kinds 11 and 12, with e and -e on one ring
 
-module _ (news : Bool) (s : Sizes) (m : Map) (u v : ℕ) (c : Curve) (good : Good m) (h : AddEdge news s m u v c) (whole : splitsFace u v c m ≡ false) where
+module _ (news : Bool) (s : Sizes) (m : Map) (u v : ℕ) (c : Curve) (L : Lawful m) (h : AddEdge news s m u v c) (whole : splitsFace u v c m ≡ false) where
   one-ring : Leads (next (drawnIn u v c m)) (fwd (m .nextEdge)) (bwd (m .nextEdge))
   unfolding splitsFace
   one-ring = ring-leads (drawnIn u v c m) (D-linked m u v c (cornerFace m u (startWay c)) draws) (D-once m u v c (cornerFace m u (startWay c)) draws) (fwd (m .nextEdge)) (all-D m u v c (cornerFace m u (startWay c)) draws (List·Memᴰ·head refl))
       (among-in (ring (drawnIn u v c m) (fwd (m .nextEdge))) (bwd (m .nextEdge)) (not-false (among (ring (drawnIn u v c m) (fwd (m .nextEdge))) (bwd (m .nextEdge))) whole))
     where
       draws : Draws m u v c (cornerFace m u (startWay c))
-      draws = draws-added m good s u v c news h
+      draws = draws-added m L s u v c news h
 
-  pub woven-joining : Woven (drawnIn u v c m)
-  woven-joining = joined-woven m u v c (cornerFace m u (startWay c)) (good .woven) (h .has-start) (h .has-end) (draws-added m good s u v c news h) one-ring
+  pub planar-joining : InPlane m → InPlane (drawnIn u v c m)
+  planar-joining = joined-planar m u v c (cornerFace m u (startWay c)) (draws-added m L s u v c news h) (h .has-start) (h .has-end) one-ring
 
   pub reached-joining : Reached m → Reached (drawnIn u v c m)
-  reached-joining = joined-reached m u v c (cornerFace m u (startWay c)) (good .woven) (h .has-start) (h .has-end) (draws-added m good s u v c news h) one-ring
+  reached-joining = joined-reached m u v c (cornerFace m u (startWay c)) (draws-added m L s u v c news h)

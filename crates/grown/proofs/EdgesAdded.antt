@@ -1,4 +1,4 @@
--- Kinds 11 and 12. Assumes nothing.
+-- Kinds 11 and 12 keep a map in the plane, and its faces reached. Assumes nothing.
 use mathlib.Core.Path.{_≡_, refl, sym, subst}
 use mathlib.Core.Logic.{inl, inr}
 use mathlib.Core.Bool.{Bool, true, false}
@@ -18,15 +18,16 @@ use Rattle.map.specs.Rows.{Edge, Map, Sizes, node, edge, hasNode}
 use Rattle.map.specs.Darts.{directed, way, departures, ring, among}
 use Rattle.map.specs.Links.{cornerOf, cornerFace}
 use Rattle.map.specs.Edits.{drawnIn, splitsFace, addEdge}
-use Rattle.grown.specs.Good.{Woven, Good}
+use Rattle.grown.specs.Good.{Good}
 use Rattle.grown.proofs.Readings.{faceIn, bears-row, edge-row, dart-has, departs}
-use Rattle.grown.proofs.RowChanges.{node-row}
+use Rattle.grown.proofs.RowChanges.{node-row, InPlane}
 use Rattle.grown.proofs.Reasons.{AddEdge}
 use Rattle.grown.proofs.Scanning.{rising-distinct}
 use Rattle.grown.proofs.Numbers.{RankedMap, numbered-ranked, outlineOf, Sided}
 use Rattle.grown.proofs.EdgesReached.{Reached}
-use Rattle.grown.proofs.EdgesAdd.{draws-added, woven-joining, reached-joining}
-use Rattle.grown.proofs.EdgesSplit.{Faced, split-woven, split-reached}
+use Rattle.grown.proofs.EdgesAdd.{draws-added, planar-joining, reached-joining}
+use Rattle.grown.proofs.EdgesSplit.{Faced, split-planar, split-reached}
+use Rattle.grown.proofs.LawfulForm.{Lawful, good-lawful}
 
 module _ (m : Map) (good : Good m) where
   ranked : RankedMap m
@@ -64,20 +65,23 @@ module _ (m : Map) (good : Good m) where
       go (d ∷ ds) sub = faced .borne (firstClockwise (way m) w d (d ∷ ds)) (sub (firstClockwise (way m) w d (d ∷ ds)) (first-in (way m) w d (d ∷ ds) {d = d} (List·Memᴰ·head refl)))
 
 module _ (news : Bool) (s : Sizes) (m : Map) (u v : ℕ) (c : Curve) (good : Good m) (h : AddEdge news s m u v c) where
+  abbrev L : Lawful m
+  L = good-lawful m good
+
   rings-apart : splitsFace u v c m ≡ true → among (ring (drawnIn u v c m) (fwd (m .nextEdge))) (bwd (m .nextEdge)) ≡ false
   unfolding splitsFace
   rings-apart e = not-true (among (ring (drawnIn u v c m) (fwd (m .nextEdge))) (bwd (m .nextEdge))) e
 
-  pub woven-added : Woven (addEdge news u v c m)
+  pub planar-added : InPlane (addEdge news u v c m)
   unfolding addEdge
-  woven-added = elim (which (splitsFace u v c m)) [
-    | inl e ↦ rw e (split-woven news m u v c (cornerFace m u (startWay c)) (good .woven) (h .has-start) (h .has-end) (draws-added m good s u v c news h) (faced m good) (corner-in m good u (startWay c) (h .has-start)) (rings-apart e))
-    | inr e ↦ rw e (woven-joining news s m u v c good h e)
+  planar-added = elim (which (splitsFace u v c m)) [
+    | inl e ↦ rw e (split-planar news m u v c (cornerFace m u (startWay c)) (draws-added m L s u v c news h) (faced m good) (corner-in m good u (startWay c) (h .has-start)) (rings-apart e) (h .has-start) (h .has-end) (good .woven .planar))
+    | inr e ↦ rw e (planar-joining news s m u v c L h e (good .woven .planar))
   ]
 
   pub reached-added : Reached m → Reached (addEdge news u v c m)
   unfolding addEdge
   reached-added r = elim (which (splitsFace u v c m)) [
-    | inl e ↦ rw e (split-reached news m u v c (cornerFace m u (startWay c)) (good .woven) (h .has-start) (h .has-end) (draws-added m good s u v c news h) (faced m good) (corner-in m good u (startWay c) (h .has-start)) (rings-apart e) r)
-    | inr e ↦ rw e (reached-joining news s m u v c good h e r)
+    | inl e ↦ rw e (split-reached news m u v c (cornerFace m u (startWay c)) (draws-added m L s u v c news h) (faced m good) (corner-in m good u (startWay c) (h .has-start)) (rings-apart e) r)
+    | inr e ↦ rw e (reached-joining news s m u v c L h e r)
   ]

@@ -15,8 +15,7 @@ use Rattle.geometry.proofs.Booleans.{or-false}
 use Rattle.map.specs.Rows.{Edge, Map, edge}
 use Rattle.map.specs.Darts.{arcs, directed, bears}
 use Rattle.grown.proofs.Readings.{faceIn, bears-row, edge-row, edge-at, arc-at, dart-has}
-use Rattle.grown.proofs.Changes.{none-has}
-use Rattle.grown.proofs.Scanning.{any-some}
+use Rattle.grown.proofs.Scanning.{any-some, none-has}
 
 -- a set of faces that has both or no side of each edge
 abbrev pub Even : Map → (ℕ → Bool) → Type 0

@@ -1,9 +1,8 @@
--- Kinds 13 and 14. Assumes nothing.
+-- Kinds 13 and 14 keep a map in the plane, and its faces reached. Assumes nothing.
 use mathlib.Core.Path.{_≡_, refl, sym, ap, _∙_, subst}
 use mathlib.Core.Logic.{_⊎_, inl, inr, _≢_}
 use mathlib.Core.Bool.{Bool, true, false, cond, not, _&&_}
-use mathlib.Core.List.{List, [], _∷_, _++_, map, map-map, List·Memᴰ, List·Memᴰ·append-cases, List·Memᴰ·eq-of-singleton}
-use mathlib.Core.Option.{Option, none, some}
+use mathlib.Core.List.{List, [], _∷_, _++_, List·Memᴰ, List·Memᴰ·append-cases, List·Memᴰ·eq-of-singleton}
 use Prim.Native.Nat.{ℕ, suc, _+_}
 use native.Mathlib.Omega.{arith}
 use borrow.Author.Tests.{not-true}
@@ -11,31 +10,23 @@ use lib.ListN.{length, length-append}
 use Rattle.lists.specs.Tests.{same}
 use Rattle.lists.specs.Members.{Distinct}
 use Rattle.lists.proofs.Bools.{which, same-refl, same-true, same-false, equal?, differ}
-use Rattle.lists.proofs.Members.{map-cong}
 use Rattle.lists.proofs.Keeps.{keep-in}
 use Rattle.planar.specs.Map.{fwd, bwd}
-use Rattle.planar.specs.Pieces.{nums}
 use Rattle.planar.proofs.Bridges.{Either}
 use Rattle.geometry.proofs.Booleans.{and-true}
 use Rattle.rotation.proofs.Clock.{le-or}
-use Rattle.map.specs.Rows.{Node, Edge, Map, edge, hasEdge}
-use Rattle.map.specs.Darts.{arcs, bears}
-use Rattle.map.specs.Links.{unlinkEdge}
-use Rattle.map.specs.Edits.{withSides, healsFaces, lowerFace, makesFace, faceLeft, renamed, renamedNode, renamedFaces, removeEdge}
-use Rattle.grown.specs.Good.{Woven, Good}
+use Rattle.map.specs.Rows.{Map, edge, hasEdge}
+use Rattle.map.specs.Darts.{bears}
+use Rattle.map.specs.Edits.{healsFaces, lowerFace, makesFace, faceLeft, renamed, removeEdge}
+use Rattle.grown.specs.Good.{Good}
 use Rattle.grown.proofs.Readings.{bears-row, has-dart}
-use Rattle.grown.proofs.Apart.{apart}
-use Rattle.grown.proofs.EdgesReached.{Reached, bears-left, bears-right}
-use Rattle.grown.proofs.EdgesSides.{sides-arcs, sides-has, sides-leaves, sides-next, sides-way, sides-bears}
+use Rattle.grown.proofs.EdgesReached.{Reached}
 use Rattle.grown.proofs.EdgesAdded.{faced}
-use Rattle.grown.proofs.EdgesCorners.{nodeNumbers}
 use Rattle.grown.proofs.EdgesMerged.{merged, merged-left, merged-right, merged-other, stay, stay-all, stay-one, stay-none}
-use Rattle.grown.proofs.EdgesRemove.{Taken, taken, Merging, taken-woven, taken-reached}
-use Rattle.grown.proofs.EdgesUndrawn.{undrawn-nodes, undrawn-edges}
-
-renamed-number : (r : Edge) (g : ℕ) (n : Node) (f : Option ℕ) → renamedNode r g n f .number ≡ n .number
-renamed-number r g n none = refl
-renamed-number r g n (some f) = refl
+use Rattle.grown.proofs.EdgesRemove.{Merging, taken-planar, taken-reached}
+use Rattle.grown.proofs.LawfulForm.{good-lawful}
+use Rattle.grown.proofs.LawfulRemove.{edge-taken}
+use Rattle.grown.proofs.RowChanges.{InPlane}
 
 not-same : (x y : ℕ) → not (same x y) ≡ true → x ≢ y
 not-same x y h = differ x y (not-true (same x y) h)
@@ -62,44 +53,12 @@ module _ (news : Bool) (e : ℕ) (m : Map) (good : Good m) (has : hasEdge m e �
   abbrev μ : ℕ → ℕ
   μ = renamed (edge m e) (faceLeft news e m)
 
-  abbrev m₁ : Map
-  m₁ = renamedFaces (edge m e) (faceLeft news e m) m
-
   abbrev X : Map
   X = removeEdge news e m
-
-  dis : Distinct (nums (arcs m))
-  dis = good .woven .planar .edges-once
-
-  rows₁ : m₁ .edges ≡ map (λ r. withSides (μ (r .left)) (μ (r .right)) r) (m .edges)
-  unfolding renamedFaces
-  rows₁ = refl
-
-  nodes₁ : nodeNumbers m₁ ≡ nodeNumbers m
-  unfolding renamedFaces
-  nodes₁ = map-map (λ (n : Node). n .number) (λ n. renamedNode (edge m e) g₀ n (n .face)) (m .nodes) ∙ map-cong _ (λ (n : Node). n .number) (m .nodes) (λ n k. renamed-number (edge m e) g₀ n (n .face))
-
-  X-edges : X .edges ≡ unlinkEdge e m₁ .edges
-  unfolding removeEdge
-  X-edges = undrawn-edges e g₀ m₁
-
-  X-nodes : nodeNumbers X ≡ nodeNumbers m
-  unfolding removeEdge
-  X-nodes = undrawn-nodes e g₀ m₁ ∙ nodes₁
 
   X-faces : X .faces ≡ cond (makesFace news e m) (stay L R g₀ (m .faces) ++ g₀ ∷ []) (stay L R g₀ (m .faces))
   unfolding removeEdge
   X-faces = refl
-
-  edge-taken : Taken m X e μ
-  edge-taken = taken m m₁ X e μ dis has (sides-arcs m m₁ l r rows₁) (sides-has m m₁ l r rows₁) (sides-leaves m m₁ l r rows₁) (sides-way m m₁ l r rows₁) (sides-next m m₁ l r rows₁)
-      (sides-bears m m₁ l r rows₁ (λ d. μ (bears m d)) (λ q k. ap μ (sym (bears-left m dis k))) (λ q k. ap μ (sym (bears-right m dis k)))) X-edges X-nodes
-    where
-      l : Edge → ℕ
-      l q = μ (q .left)
-
-      r : Edge → ℕ
-      r q = μ (q .right)
 
   -- ---- the faces
 
@@ -205,8 +164,8 @@ module _ (news : Bool) (e : ℕ) (m : Map) (good : Good m) (has : hasEdge m e �
     count = face-count;
   }
 
-  pub woven-removed : Reached m → Woven (removeEdge news e m)
-  woven-removed r = taken-woven m X e μ has edge-taken (good .woven) (faced m good) merging (apart m (good .surveyed)) r
+  pub planar-removed : InPlane (removeEdge news e m)
+  planar-removed = taken-planar m X e μ (edge-taken m (good-lawful m good) e has news) (faced m good) merging (good .woven .planar)
 
   pub reached-removed : Reached m → Reached (removeEdge news e m)
-  reached-removed r = taken-reached m X e μ has edge-taken (good .woven) (faced m good) merging r
+  reached-removed = taken-reached m X e μ (edge-taken m (good-lawful m good) e has news) (faced m good) merging (good .woven .planar .edges-once)

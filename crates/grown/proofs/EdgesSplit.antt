@@ -1,4 +1,4 @@
--- Kinds 11 and 12 where a face is split. Assumes nothing.
+-- Kinds 11 and 12 where a face is split keep a map in the plane, and its faces reached. Assumes nothing.
 use mathlib.Core.Path.{_≡_, refl, sym, ap, _∙_, subst}
 use mathlib.Core.Logic.{_⊎_, inl, inr, _≢_}
 use mathlib.Core.Bool.{Bool, true, false, cond, not, _&&_, _||_, true≢false}
@@ -24,15 +24,13 @@ use Rattle.map.specs.Darts.{arcs, directed, leaves, next, bears, ring, among}
 use Rattle.map.specs.Links.{redirect, lead, linkIn, linkEdge}
 use Rattle.map.specs.Faces.{ringArea}
 use Rattle.map.specs.Edits.{Shares, withSides, drawn, sideOfDart, sideOfNode, sideOfPoint, sharedOut, splitFace}
-use Rattle.grown.specs.Good.{Woven}
 use Rattle.grown.proofs.Readings.{arcOf, number-has}
-use Rattle.grown.proofs.RowChanges.{nodeNumber, noNode}
+use Rattle.grown.proofs.RowChanges.{nodeNumber, noNode, InPlane}
 use Rattle.grown.proofs.EdgesReached.{Reached, even-darts, darts-even}
-use Rattle.grown.proofs.EdgesSides.{sides-arcs, sides-bears, sides-law, sides-planar}
+use Rattle.grown.proofs.EdgesSides.{sides-arcs, sides-bears, sides-planar}
 use Rattle.grown.proofs.EdgesShared.{side-new, side-old, side-keeps, side-x, side-rev, apart-rev, Sharing, sharesOf, facesOf, sharing}
 use Rattle.grown.proofs.EdgesDrawn.{drawnRow}
 use Rattle.grown.proofs.EdgesCorners.{nodeNumbers}
-use Rattle.grown.proofs.LawfulAdd.{drawn-obeys}
 use Rattle.grown.proofs.EdgesJoined.{Draws, all-D, D-bears, D-faces, D-linked, D-once, D-split}
 
 -- what the faces of a map give
@@ -53,7 +51,7 @@ goes-old : (news : Bool) (old : ℕ) → news && not (same old 0) ≡ true → o
 goes-old true old h p = true≢false (sym h ∙ ap not (same-eq old 0 p))
 goes-old false old h p = true≢false (sym h)
 
-module _ (news : Bool) (m : Map) (u v : ℕ) (c : Curve) (φ : ℕ) (woven : Woven m) (has-u : hasNode m u ≡ true) (has-v : hasNode m v ≡ true) (draws : Draws m u v c φ) (faced : Faced m) (there : List·Memᴰ φ (m .faces)) (split : among (ring (drawn u v c φ m) (fwd (m .nextEdge))) (bwd (m .nextEdge)) ≡ false) where
+module _ (news : Bool) (m : Map) (u v : ℕ) (c : Curve) (φ : ℕ) (draws : Draws m u v c φ) (faced : Faced m) (there : List·Memᴰ φ (m .faces)) (split : among (ring (drawn u v c φ m) (fwd (m .nextEdge))) (bwd (m .nextEdge)) ≡ false) where
   abbrev D : Map
   D = drawn u v c φ m
 
@@ -188,31 +186,16 @@ module _ (news : Bool) (m : Map) (u v : ℕ) (c : Curve) (φ : ℕ) (woven : Wov
   unfolding splitFace sharedOut
   X-nodes = map-map (λ (n : Node). n .number) (λ n. sideOfNode D s n (n .face)) (D .nodes) ∙ map-cong _ (λ (n : Node). n .number) (D .nodes) (λ n k. side-number D s n (n .face))
 
-  X-planar : Planar (nodeNumbers X) (arcs X) (leaves X) (next X) (bears X) (length (X .faces))
-  X-planar = subst (λ (k : ℕ). Planar (nodeNumbers X) (arcs X) (leaves X) (next X) (bears X) k) (sym (ap length X-faces ∙ shared .count))
+  pub split-planar : hasNode m u ≡ true → hasNode m v ≡ true → InPlane m → InPlane (splitFace news (m .nextEdge) (drawn u v c φ m))
+  split-planar has-u has-v o = subst (λ (k : ℕ). Planar (nodeNumbers X) (arcs X) (leaves X) (next X) (bears X) k) (sym (ap length X-faces ∙ shared .count))
       (subst (λ (ns : List ℕ). Planar ns (arcs X) (leaves X) (next X) (bears X) (suc (length (m .faces)))) (sym X-nodes)
-      (sides-planar D X (λ e. new (fwd (e .number))) (λ e. new (bwd (e .number))) X-edges X-bears (D-split m u v c φ draws (woven .planar) (number-has nodeNumber noNode (m .nodes) u has-u) (number-has nodeNumber noNode (m .nodes) v has-v) new back grown new-apart new-keeps)))
+      (sides-planar D X (λ e. new (fwd (e .number))) (λ e. new (bwd (e .number))) X-edges X-bears (D-split m u v c φ draws o (number-has nodeNumber noNode (m .nodes) u has-u) (number-has nodeNumber noNode (m .nodes) v has-v) new back grown new-apart new-keeps)))
 
   in-X : {d : Dart} → List·Memᴰ d (directed D) → List·Memᴰ d (directed X)
   in-X {d} k = subst (λ (es : List Arc). List·Memᴰ d (darts es)) (sym (sides-arcs D X (λ e. new (fwd (e .number))) (λ e. new (bwd (e .number))) X-edges)) k
 
   still-in : {d : Dart} → List·Memᴰ d (directed m) → List·Memᴰ d (directed D)
   still-in k = all-D m u v c φ draws (List·Memᴰ·tail (List·Memᴰ·tail k))
-
-  -- one way or the other bears a side's number
-  side-borne : (g : ℕ) → (g ≡ s .ref) ⊎ (g ≡ s .other) → (d : Dart) × List·Memᴰ d (directed X) × (bears X d ≡ g)
-  side-borne g (inl p) = elim two-sides [ inl q ↦ (f, in-X in-f, X-bears f in-f ∙ q .0 ∙ sym p) | inr q ↦ (b, in-X in-b, X-bears b in-b ∙ q .1 ∙ sym p) ]
-  side-borne g (inr p) = elim two-sides [ inl q ↦ (b, in-X in-b, X-bears b in-b ∙ q .1 ∙ sym p) | inr q ↦ (f, in-X in-f, X-bears f in-f ∙ q .0 ∙ sym p) ]
-
-  pub split-woven : Woven (splitFace news (m .nextEdge) (drawn u v c φ m))
-  split-woven = record {
-    planar = X-planar;
-    law = sides-law D X (λ e. new (fwd (e .number))) (λ e. new (bwd (e .number))) X-edges (drawn-obeys m u v c φ (draws .free) (woven .law));
-    borne = λ g i ne. elim (shared .faces g (subst (λ (l : List ℕ). List·Memᴰ g l) X-faces i)) [ inl q ↦ side-borne g q | inr q ↦ old-borne g (q .1) (woven .borne g (q .0) ne) ];
-  }
-    where
-      old-borne : (g : ℕ) → g ≢ old → (d : Dart) × List·Memᴰ d (directed m) × (bears m d ≡ g) → (d : Dart) × List·Memᴰ d (directed X) × (bears X d ≡ g)
-      old-borne g ne x = (x .0, in-X (still-in (x .1)), X-bears (x .0) (still-in (x .1)) ∙ elim (old-side (x .0) (x .1)) [ inl q ↦ absurd (ne (sym (x .2) ∙ q .0 ∙ sym on-f)) | inr q ↦ q .1 ∙ x .2 ])
 
   pub split-reached : Reached m → Reached (splitFace news (m .nextEdge) (drawn u v c φ m))
   split-reached reached S even g i = elim (shared .faces g (subst (λ (l : List ℕ). List·Memᴰ g l) X-faces i)) [

@@ -7,14 +7,11 @@ use mathlib.Core.Option.{Option, none, some}
 use Prim.Native.Nat.{ℕ, zero, suc, _≤_}
 use native.Mathlib.Omega.{arith}
 use lib.IntN.{ℤ}
-use Rattle.planar.specs.Map.{Dart, rev}
-use Rattle.planar.specs.Rings.{sameDart}
-use Rattle.planar.proofs.Rings.{rev-in, sameDart-refl}
-use Rattle.planar.proofs.Turns.{rev-rev}
+use Rattle.planar.specs.Map.{Dart}
 use Rattle.map.specs.Rows.{Map, Lent, Sizes, emptyMap, mapOf, lentOf, sizesOf, whole}
-use Rattle.map.specs.Darts.{arcs, directed, leaves, next, bears, departures}
+use Rattle.map.specs.Darts.{directed, bears}
 use Rattle.map.specs.Form.{inForm}
-use Rattle.map.specs.Links.{clockwise, obeysLaw}
+use Rattle.map.specs.Links.{obeysLaw}
 use Rattle.map.specs.Tickets.{Ticket, read}
 use Rattle.map.specs.Reasons.{firstReason, reasons}
 use Rattle.map.specs.Ticket.{carried, lentReasons, unless, judged, ticket}
@@ -23,9 +20,8 @@ use Rattle.map.specs.Sound.{Sound}
 use Rattle.grown.specs.Good.{Good, Fits}
 use Rattle.grown.specs.Claims.{GrownMap, Grows, NeverLent}
 use Rattle.grown.proofs.Reasons.{no-reason}
-use Rattle.grown.proofs.Scanning.{each-all}
-use Rattle.grown.proofs.Readings.{departing}
 use Rattle.grown.proofs.EdgesReached.{Reached}
+use Rattle.grown.proofs.LawfulForm.{law-is}
 use Rattle.grown.proofs.Carried.{fits-kept}
 use Rattle.grown.proofs.Sounds.{good-sound}
 use Rattle.grown.proofs.Ranges.{good-back, sizes-back, good-in-form, good-whole}
@@ -84,14 +80,6 @@ grown-state s h ts = steps s (lentOf s emptyMap) ts (here s emptyMap empty-good 
 
 -- ---- the theorem
 
--- the links of a good map obey the law
-good-lawful : (m : Map) → Good m → obeysLaw m ≡ true
-unfolding obeysLaw clockwise departures
-good-lawful m g = each-all _ (directed m) (λ d k. ap (λ (c : Dart). sameDart (next m d) c) (sym (led d k)) ∙ sameDart-refl (next m d))
-  where
-    led : (d : Dart) → List·Memᴰ d (directed m) → next m d ≡ clockwise m (rev d)
-    led d k = ap (next m) (sym (rev-rev d)) ∙ g .woven .law (leaves m (rev d)) (rev d) (departing m (leaves m (rev d)) (rev-in (arcs m) k) refl)
-
 pub grows : Grows
 grows s h ts = go (grown-state s h ts)
   where
@@ -102,7 +90,7 @@ grows s h ts = go (grown-state s h ts)
         record {
           sound = subst Sound (sym back) (good-sound m (x .good));
           in-form = ap inForm (x .lent) ∙ good-in-form m (x .good) s (x .fits);
-          lawful = ap obeysLaw back ∙ good-lawful m (x .good);
+          lawful = ap obeysLaw back ∙ law-is m (x .good .woven .law);
           borne = subst (λ (q : Map). (f : ℕ) → List·Memᴰ f (q .faces) → f ≢ 0 → (d : Dart) × List·Memᴰ d (directed q) × (bears q d ≡ f)) (sym back) (x .good .woven .borne);
         }
 

@@ -33,11 +33,11 @@ use Rattle.map.specs.Darts.{arcs, directed, leaves, next, bears, way, departure
 use Rattle.map.specs.Links.{linkEdge, cornerFace}
 use Rattle.map.specs.Edits.{withFace, isEither, drawn, addIsoEdge, drawnIn, splitsFace, sharedOut, splitFace, addEdge}
 use Rattle.map.specs.Reasons.{isolated, wayTaken, directionTaken}
+use Rattle.grown.proofs.Scanning.{none-has}
 use Rattle.grown.proofs.Readings.{Relinked, arcOf, departs, departing, leaves-by, next-by, bears-by, way-by}
 use Rattle.grown.proofs.RowChanges.{more-perm}
 use Rattle.grown.proofs.LawOrder.{law-order}
 use Rattle.grown.proofs.Reasons.{Sent, AddLone, AddEdge}
-use Rattle.grown.proofs.Changes.{none-has}
 use Rattle.grown.proofs.RowDarts.{dart-move}
 use Rattle.grown.proofs.EdgesLaw.{from-in, from-has, law-agree}
 use Rattle.grown.proofs.EdgesDrawn.{drawnRow, appended, leaves₁, bears₁, way₁, way-f, way-b, linked-in, linkEdge-next}

@@ -1,4 +1,4 @@
--- Kinds 1, 2, 3 and 6: isolated nodes, and an edge redrawn that leaves the cyclic order at its ends, keep the law. Curves may cross. Assumes nothing.
+-- Kinds 1, 2, 3 and 6: isolated nodes, and an edge redrawn that leaves the cyclic order at its ends, keep the law. What a redrawn map reads. Curves may cross. Assumes nothing.
 use mathlib.Core.Path.{_≡_, refl, sym, ap, _∙_, subst}
 use mathlib.Core.Logic.{inl, inr, _≢_}
 use mathlib.Core.Bool.{Bool, true, false, cond, not}
@@ -17,14 +17,14 @@ use Rattle.rotation.specs.Law.{lawful}
 use Rattle.rotation.proofs.Order.{sameWay-refl}
 use Rattle.geometry.proofs.Booleans.{or-false}
 use Rattle.map.specs.Rows.{Edge, Map, edge, atNodes, atEdge}
-use Rattle.map.specs.Darts.{arcs, leaves, next, course, way, departures}
+use Rattle.map.specs.Darts.{arcs, leaves, next, bears, course, way, departures}
 use Rattle.map.specs.Links.{clockwise}
 use Rattle.map.specs.Edits.{addIsoNode, moveIsoNode, removeIsoNode, withCurve, changeEdgeGeom}
 use Rattle.map.specs.Reasons.{turnChanges, orderChanges}
-use Rattle.grown.proofs.Readings.{tailIn, nextIn, leaves-row, next-row, course-row, way-row, departs, departures-by, mapped-kept, mapped-arcs}
+use Rattle.grown.proofs.Scanning.{none-has}
+use Rattle.grown.proofs.Readings.{tailIn, nextIn, faceIn, leaves-row, next-row, bears-row, course-row, way-row, departs, departures-by, mapped-kept, mapped-arcs}
 use Rattle.grown.proofs.RowChanges.{at-other}
 use Rattle.grown.proofs.LawOrder.{lawful-alike}
-use Rattle.grown.proofs.Changes.{none-has}
 use Rattle.grown.proofs.LawfulForm.{Obeys}
 
 -- ---- nodes alone change
@@ -44,7 +44,7 @@ remove-node-obeys m n l = l
 -- ---- kind 6
 
 module _ (m : Map) (e : ℕ) (c : Curve) where
-  redrawn : Map
+  abbrev redrawn : Map
   redrawn = changeEdgeGeom e c m
 
   abbrev recurved : Edge → Edge
@@ -58,22 +58,25 @@ module _ (m : Map) (e : ℕ) (c : Curve) where
       go false = refl
 
   kept : {B : Type 0} (g : Edge → B) → ((r : Edge) → g (withCurve c r) ≡ g r) → (x : ℕ) → g (edge redrawn x) ≡ g (edge m x)
-  unfolding redrawn changeEdgeGeom atEdge
+  unfolding changeEdgeGeom atEdge
   kept g h = mapped-kept m (changeEdgeGeom e c m) recurved refl (λ r k. by-case (λ r. r .number) (λ r. refl) r) g (by-case g h)
 
-  same-arcs : arcs redrawn ≡ arcs m
-  unfolding redrawn changeEdgeGeom atEdge
+  pub same-arcs : arcs redrawn ≡ arcs m
+  unfolding changeEdgeGeom atEdge
   same-arcs = mapped-arcs m (changeEdgeGeom e c m) recurved refl (λ r k. by-case (λ r. r .number) (λ r. refl) r) (λ r k. by-case (λ r. record { num = r .number; from = r .start; to = r .end }) (λ r. refl) r)
 
-  same-leaves : (d : Dart) → leaves redrawn d ≡ leaves m d
+  pub same-leaves : (d : Dart) → leaves redrawn d ≡ leaves m d
   same-leaves d = leaves-row redrawn d ∙ kept (tailIn (d .back)) (λ r. refl) (d .edge) ∙ sym (leaves-row m d)
 
-  same-next : (d : Dart) → next redrawn d ≡ next m d
+  pub same-next : (d : Dart) → next redrawn d ≡ next m d
   same-next d = next-row redrawn d ∙ kept (nextIn (d .back)) (λ r. refl) (d .edge) ∙ sym (next-row m d)
+
+  pub same-bears : (d : Dart) → bears redrawn d ≡ bears m d
+  same-bears d = bears-row redrawn d ∙ kept (faceIn (d .back)) (λ r. refl) (d .edge) ∙ sym (bears-row m d)
 
   -- only the edge e departs in other directions
   same-way : (d : Dart) → d .edge ≢ e → way redrawn d ≡ way m d
-  unfolding redrawn changeEdgeGeom
+  unfolding changeEdgeGeom
   same-way d ne = rw (way-row, way-row, course-row, course-row, at-other e (withCurve c) m (λ r k q. q) (d .edge) ne)
 
   same-departures : (n : ℕ) → departures redrawn n ≡ departures m n
@@ -101,7 +104,7 @@ module _ (m : Map) (e : ℕ) (c : Curve) where
       alike x j = ap (sameWay (way m x)) (same-way x (other x j)) ∙ sameWay-refl (way m x)
 
   pub change-obeys : orderChanges m e c ≡ false → Obeys m → Obeys (changeEdgeGeom e c m)
-  unfolding redrawn departures orderChanges
+  unfolding departures orderChanges
   change-obeys order l n d k = same-next (rev d) ∙ l n d old ∙ elim (equal? (edge m e .start) n) [
     | inl p ↦ same-first n d old (subst (λ (x : ℕ). turnChanges m redrawn x ≡ false) p (ends .0))
     | inr ns ↦ elim (equal? (edge m e .end) n) [ inl p ↦ same-first n d old (subst (λ (x : ℕ). turnChanges m redrawn x ≡ false) p (ends .1)) | inr nt ↦ same-elsewhere n d old ns nt ]

@@ -40,8 +40,7 @@ use Rattle.map.proofs.Linked as formedLinks
 use Rattle.grown.specs.Good.{Anchored, Good}
 use Rattle.grown.proofs.Readings.{numberOf, nums-rows, departing}
 use Rattle.grown.proofs.RowChanges.{nodeNumber, node-row}
-use Rattle.grown.proofs.Scanning.{all-each, each-all}
-use Rattle.grown.proofs.Changes.{none-has}
+use Rattle.grown.proofs.Scanning.{all-each, each-all, none-has}
 use Rattle.grown.proofs.Apart.{curve-good}
 use Rattle.grown.proofs.Forms.{good-formed}
 use Rattle.grown.proofs.EdgesLaw.{from-in, from-has}

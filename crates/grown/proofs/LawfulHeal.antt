@@ -24,10 +24,10 @@ use Rattle.grown.proofs.Readings.{arcOf, numberOf, nums-rows, edge-row,
 use Rattle.grown.proofs.RowChanges.{less-has, less-edge}
 use Rattle.grown.proofs.Reasons.{Heal}
 use Rattle.grown.proofs.Joint.{Seamed, seamed}
-use Rattle.grown.proofs.SplitsWoven.{one-last, rest-other, rows-m, replaced, left-out}
+use Rattle.grown.proofs.SplitsRows.{one-last, rest-other, rows-m, replaced, left-out}
 use Rattle.grown.proofs.HealsRows.{wholeNames, relinked, healedRow}
 use Rattle.grown.proofs.LawfulForm.{Obeys, Lawful}
-use Rattle.grown.proofs.LawfulWhole.{whole-obeys}
+use Rattle.grown.proofs.LawfulWhole.{Healed, whole-obeys}
 
 -- one of the parts is e in its own direction
 own-part : (m : Map) (e f : ℕ) → (parts m e f .0 ≡ fwd e) ⊎ (parts m e f .1 ≡ fwd e)
@@ -48,7 +48,7 @@ module _ (m : Map) (L : Lawful m) (e f : ℕ) (q : Heal m e f) where
   abbrev n : ℕ
   n = Option·getD (joint m e f) 0
 
-  seam : Seamed m e f (Option·getD (joint m e f) 0) (parts m e f .0) (parts m e f .1)
+  pub seam : Seamed m e f (Option·getD (joint m e f) 0) (parts m e f .0) (parts m e f .1)
   seam = seamed m e f q
 
   once-m : Distinct (map numberOf (m .edges))
@@ -90,6 +90,9 @@ module _ (m : Map) (L : Lawful m) (e f : ℕ) (q : Heal m e f) where
 
   new-e : List·Memᴰ e (nums (map arcOf rest)) → ⊥
   new-e k = let x = in-others k in rest-other e (withoutEdge f (m .edges)) (x .1) (x .2)
+
+  pub new-f : List·Memᴰ f (nums (map arcOf rest)) → ⊥
+  new-f k = let x = in-others k in rest-other f (m .edges) (keep-in _ (withoutEdge f (m .edges)) (x .1) .0) (x .2)
 
   new-next : List·Memᴰ (m .nextEdge) (nums (map arcOf rest)) → ⊥
   new-next k = let x = in-others k in
@@ -161,10 +164,9 @@ module _ (m : Map) (L : Lawful m) (e f : ℕ) (q : Heal m e f) where
             ∙ keep-map put (λ r. not (same (r .number) f)) (λ r. not (same (r .number) f)) (map (relinked h c d) (m .edges)) (λ r k. ap (λ (x : ℕ). not (same x f)) (put-number r))
             ∙ ap (map put) (left-out m f (relinked h c d) (λ r. refl) once-m (q .has-other))
 
-  -- kind 9
-  pub heal-obeys : Obeys (heal false e f m)
+  pub new-healed : Healed m (heal false e f m) e (m .nextEdge) c d rest
   unfolding heal healed renamed-map
-  heal-obeys = whole-obeys m L e f n c d seam (heal false e f m) (m .nextEdge) rest (new-rows (m .nextEdge)) old-rows (own-part m e f) named new-next
+  new-healed = record { rows = new-rows (m .nextEdge); old-rows = old-rows; own = own-part m e f; named = named; new-h = new-next }
     where
       named : fwd (m .nextEdge) ≢ rev d
       named p = let x = below (edge-row m (d .edge) (dart-has m (seam .second-in)) .0) in
@@ -172,13 +174,20 @@ module _ (m : Map) (L : Lawful m) (e f : ℕ) (q : Heal m e f) where
           let z = ap (λ (z : Dart). z .edge) p in
           omega arith
 
-  -- kind 10
-  pub mod-heal-obeys : Obeys (heal true e f m)
+  pub kept-healed : Healed m (heal true e f m) e e c d rest
   unfolding heal atEdge healed renamed-map
-  mod-heal-obeys = whole-obeys m L e f n c d seam (heal true e f m) e rest (kept-rows e refl) old-rows (own-part m e f) named new-e
+  kept-healed = record { rows = kept-rows e refl; old-rows = old-rows; own = own-part m e f; named = named; new-h = new-e }
     where
       named : fwd e ≢ rev d
       named p = elim (own-part m e f) [
         | inl r ↦ seam .two (ap (λ (z : Dart). z .edge) r ∙ ap (λ (z : Dart). z .edge) p)
         | inr r ↦ fwd≢bwd (p ∙ ap rev r)
       ]
+
+  -- kind 9
+  pub heal-obeys : Obeys (heal false e f m)
+  heal-obeys = whole-obeys m L e f n c d seam (heal false e f m) (m .nextEdge) rest new-healed
+
+  -- kind 10
+  pub mod-heal-obeys : Obeys (heal true e f m)
+  mod-heal-obeys = whole-obeys m L e f n c d seam (heal true e f m) e rest kept-healed

@@ -26,14 +26,13 @@ use Rattle.map.specs.Darts.{arcs, directed, leaves, next, bears, way}
 use Rattle.map.specs.Links.{redirect}
 use Rattle.map.specs.Edits.{startHalf, endHalf, split}
 use Rattle.map.specs.Reasons.{nodeAt}
+use Rattle.grown.proofs.Scanning.{none-has}
 use Rattle.grown.proofs.Readings.{nextIn, leaves-row, next-row, bears-row, course-row, way-row, has-number, arcOf, numberOf, nums-rows, edge-row, mapped-edge}
 use Rattle.grown.proofs.RowChanges.{nodeNumber, node-row}
-use Rattle.grown.proofs.Changes.{none-has}
 use Rattle.grown.proofs.RowDarts.{dart-move, dart-row, leaves-of, next-of, bears-of, way-of}
 use Rattle.grown.proofs.Halved.{Halved, departs, arrives, whole, each-whole, f-fwd, f-bwd, f-old, g-fwd, g-bwd, g-old}
 use Rattle.grown.proofs.HalvedLaw.{split-lawful}
-use Rattle.grown.proofs.SplitsRows.{halfNames, relinked, names-are}
-use Rattle.grown.proofs.SplitsWoven.{one-last, rest-other, rows-m, replaced, left-out}
+use Rattle.grown.proofs.SplitsRows.{halfNames, relinked, names-are, one-last, rest-other, rows-m, replaced, left-out}
 use Rattle.grown.proofs.LawfulForm.{Obeys, Lawful}
 use Rattle.grown.proofs.LawfulCurves.{reverse-way, front-way, back-some, back-way}
 
@@ -42,12 +41,19 @@ pub off-nodes : (m : Map) (p : Point) → nodeAt (m .nodes) p ≡ false → (k :
 unfolding nodeAt
 off-nodes m p free k j q = true≢false (sym (ap (samePoint (node m k .at)) (sym q) ∙ samePoint-refl (node m k .at)) ∙ none-has (λ x. samePoint (x .at) p) (m .nodes) free (node m k) (node-row m k (has-number nodeNumber (m .nodes) k j) .0))
 
--- ---- a map m′ whose rows are those of m but for the edge e, which stands in halves a and b
+-- ---- a map m′ whose rows are those of m but for the edge e, which stands in halves a and b that meet at the node n
 
-module _ (m m′ : Map) (e n a b : ℕ) (p : Point) (L : Lawful m) (has : hasEdge m e ≡ true) (free : nodeAt (m .nodes) p ≡ false) (on : onCurve (edge m e .curve) p ≡ true)
-    (rows : List·Permᴰ (m′ .edges) (startHalf (relinked e a b (edge m e)) n a b p ∷ endHalf (relinked e a b (edge m e)) n a b p ∷ map (relinked e a b) (withoutEdge e (m .edges))))
-    (new-node : List·Memᴰ n (map nodeNumber (m .nodes)) → ⊥) (differ : a ≢ b)
-    (new-a : List·Memᴰ a (nums (map arcOf (withoutEdge e (m .edges)))) → ⊥) (new-b : List·Memᴰ b (nums (map arcOf (withoutEdge e (m .edges)))) → ⊥) where
+pub record InHalves (m m′ : Map) (e n a b : ℕ) (p : Point) : Type 0 where
+  pub has : hasEdge m e ≡ true
+  pub free : nodeAt (m .nodes) p ≡ false
+  pub on : onCurve (edge m e .curve) p ≡ true
+  pub rows : List·Permᴰ (m′ .edges) (startHalf (relinked e a b (edge m e)) n a b p ∷ endHalf (relinked e a b (edge m e)) n a b p ∷ map (relinked e a b) (withoutEdge e (m .edges)))
+  pub new-node : List·Memᴰ n (map nodeNumber (m .nodes)) → ⊥
+  pub differ : a ≢ b
+  pub new-a : List·Memᴰ a (nums (map arcOf (withoutEdge e (m .edges)))) → ⊥
+  pub new-b : List·Memᴰ b (nums (map arcOf (withoutEdge e (m .edges)))) → ⊥
+
+module _ (m m′ : Map) (e n a b : ℕ) (p : Point) (L : Lawful m) (h : InHalves m m′ e n a b p) where
   abbrev first : Edge
   first = startHalf (relinked e a b (edge m e)) n a b p
 
@@ -65,16 +71,16 @@ module _ (m m′ : Map) (e n a b : ℕ) (p : Point) (L : Lawful m) (has : hasEdg
 
   -- the row e before the others
   row : List·Memᴰ (edge m e) (m .edges)
-  row = edge-row m e has .0
+  row = edge-row m e (h .has) .0
 
   rows-old : List·Permᴰ (m .edges) (edge m e ∷ withoutEdge e (m .edges))
-  rows-old = rows-m m e (λ r. r) (λ r. refl) (subst Distinct (nums-rows m) (L .once)) has
+  rows-old = rows-m m e (λ r. r) (λ r. refl) (subst Distinct (nums-rows m) (L .once)) (h .has)
 
-  arcs-m : List·Permᴰ (arcs m) (arc e s t ∷ r)
-  arcs-m = subst (λ (k : ℕ). List·Permᴰ (arcs m) (arc k s t ∷ r)) (edge-row m e has .1) (Permᴰ·map arcOf rows-old)
+  pub arcs-m : List·Permᴰ (arcs m) (arc e s t ∷ r)
+  arcs-m = subst (λ (k : ℕ). List·Permᴰ (arcs m) (arc k s t ∷ r)) (edge-row m e (h .has) .1) (Permᴰ·map arcOf rows-old)
 
-  arcs-m′ : List·Permᴰ (arcs m′) (arc a s n ∷ arc b n t ∷ r)
-  arcs-m′ = subst (λ (l : List Arc). List·Permᴰ (arcs m′) (arc a s n ∷ arc b n t ∷ l)) (map-map arcOf (relinked e a b) (withoutEdge e (m .edges))) (Permᴰ·map arcOf rows)
+  pub arcs-m′ : List·Permᴰ (arcs m′) (arc a s n ∷ arc b n t ∷ r)
+  arcs-m′ = subst (λ (l : List Arc). List·Permᴰ (arcs m′) (arc a s n ∷ arc b n t ∷ l)) (map-map arcOf (relinked e a b) (withoutEdge e (m .edges))) (Permᴰ·map arcOf (h .rows))
 
   to-m : (z : Dart) → List·Memᴰ z (whole e s t r) → List·Memᴰ z (directed m)
   to-m = dart-move (Permᴰ·symm arcs-m)
@@ -87,7 +93,7 @@ module _ (m m′ : Map) (e n a b : ℕ) (p : Point) (L : Lawful m) (has : hasEdg
   old-once = perm-distinct (Permᴰ·map (λ (x : Arc). x .num) arcs-m) (L .once)
 
   once : Distinct (a ∷ b ∷ nums r)
-  once = (λ k. elim (List·Memᴰ·cases-cons k) [ inl q ↦ differ q | inr j ↦ new-a j ], (new-b, old-once .1))
+  once = (λ k. elim (List·Memᴰ·cases-cons k) [ inl q ↦ h .differ q | inr j ↦ h .new-a j ], (h .new-b, old-once .1))
 
   once-m′ : Distinct (nums (arcs m′))
   once-m′ = perm-distinct (Permᴰ·map (λ (x : Arc). x .num) (Permᴰ·symm arcs-m′)) once
@@ -96,20 +102,20 @@ module _ (m m′ : Map) (e n a b : ℕ) (p : Point) (L : Lawful m) (has : hasEdg
   in-rest k = perm-in (Permᴰ·symm rows-old) (List·Memᴰ·tail k)
 
   in-first : List·Memᴰ first (m′ .edges)
-  in-first = perm-in (Permᴰ·symm rows) (List·Memᴰ·head refl)
+  in-first = perm-in (Permᴰ·symm (h .rows)) (List·Memᴰ·head refl)
 
   in-second : List·Memᴰ second (m′ .edges)
-  in-second = perm-in (Permᴰ·symm rows) (List·Memᴰ·tail (List·Memᴰ·head refl))
+  in-second = perm-in (Permᴰ·symm (h .rows)) (List·Memᴰ·tail (List·Memᴰ·head refl))
 
   in-other : {q : Edge} → List·Memᴰ q (withoutEdge e (m .edges)) → List·Memᴰ (relinked e a b q) (m′ .edges)
-  in-other k = perm-in (Permᴰ·symm rows) (List·Memᴰ·tail (List·Memᴰ·tail (Memᴰ·map (relinked e a b) k)))
+  in-other k = perm-in (Permᴰ·symm (h .rows)) (List·Memᴰ·tail (List·Memᴰ·tail (Memᴰ·map (relinked e a b) k)))
 
   -- the point is no end of the curve
   starts-off : edge m e .curve .first ≢ p
-  starts-off q = off-nodes m p free s (L .within .starts (arcOf (edge m e)) (Memᴰ·map arcOf row)) (sym (L .anchored (edge m e) row .start) ∙ q)
+  starts-off q = off-nodes m p (h .free) s (L .within .starts (arcOf (edge m e)) (Memᴰ·map arcOf row)) (sym (L .anchored (edge m e) row .start) ∙ q)
 
   ends-off : lastPoint (edge m e .curve) ≢ p
-  ends-off q = off-nodes m p free t (L .within .ends (arcOf (edge m e)) (Memᴰ·map arcOf row)) (sym (L .anchored (edge m e) row .end) ∙ q)
+  ends-off q = off-nodes m p (h .free) t (L .within .ends (arcOf (edge m e)) (Memᴰ·map arcOf row)) (sym (L .anchored (edge m e) row .end) ∙ q)
 
   abbrev by : (P : Dart → Type 0) → P (fwd e) → P (bwd e) → ((z : Dart) → List·Memᴰ z (darts r) → P z) → (z : Dart) → List·Memᴰ z (whole e s t r) → P z
   by = each-whole e (fwd a) (fwd b) s n t r (old-once .0) once
@@ -143,11 +149,11 @@ module _ (m m′ : Map) (e n a b : ℕ) (p : Point) (L : Lawful m) (has : hasEdg
 
   -- the far ends depart as the whole edge did
   way-f : sameWay (way m (fwd e)) (way m′ (departs e (fwd a) (fwd b) (fwd e))) ≡ true
-  way-f = ap₂ sameWay (way-row m (fwd e) ∙ ap startWay (course-row m (fwd e))) (ap (way m′) ff ∙ way-of m′ once-m′ first in-first (fwd a) refl) ∙ front-way p (edge m e .curve) starts-off ends-off on
+  way-f = ap₂ sameWay (way-row m (fwd e) ∙ ap startWay (course-row m (fwd e))) (ap (way m′) ff ∙ way-of m′ once-m′ first in-first (fwd a) refl) ∙ front-way p (edge m e .curve) starts-off ends-off (h .on)
 
   way-b : sameWay (way m (bwd e)) (way m′ (departs e (fwd a) (fwd b) (bwd e))) ≡ true
   way-b = ap₂ sameWay (way-row m (bwd e) ∙ ap startWay (course-row m (bwd e)) ∙ reverse-way (edge m e .curve) (L .some (edge m e) row))
-      (ap (way m′) fb ∙ way-of m′ once-m′ second in-second (bwd b) refl ∙ reverse-way (back p (edge m e .curve)) (back-some p (edge m e .curve) starts-off ends-off on)) ∙ back-way p (edge m e .curve) starts-off ends-off on
+      (ap (way m′) fb ∙ way-of m′ once-m′ second in-second (bwd b) refl ∙ reverse-way (back p (edge m e .curve)) (back-some p (edge m e .curve) starts-off ends-off (h .on))) ∙ back-way p (edge m e .curve) starts-off ends-off (h .on)
 
   -- the two maps as one with the edge whole and with it in halves
   pub halves : Halved e (fwd a) (fwd b) s n t r (leaves m) (leaves m′) (next m) (next m′) (bears m) (bears m′) (way m) (way m′)
@@ -166,7 +172,7 @@ module _ (m m′ : Map) (e n a b : ℕ) (p : Point) (L : Lawful m) (has : hasEdg
         (ap (next m′) (g-bwd e (fwd a) (fwd b) s n t r (old-once .0) once) ∙ next-of m′ once-m′ first in-first (bwd a) refl ∙ names-are e a b (edge m e .nextRight) ∙ ap (departs e (fwd a) (fwd b)) (sym (next-row m (bwd e))))
         (λ z k. ap (next m′) (g-old e (fwd a) (fwd b) s n t r (old-once .0) once z k) ∙ next-old z k);
     into = λ z k. of-m (next m z) (next-in (L .linked) (to-m z k));
-    away = λ z k q. new-node (Memᴰ·cast (sym q) (tail-in (L .linked) (L .within) (to-m z k)));
+    away = λ z k q. h .new-node (Memᴰ·cast (sym q) (tail-in (L .linked) (L .within) (to-m z k)));
     tail-c = leaves-of m′ once-m′ first in-first (bwd a) refl;
     tail-d = leaves-of m′ once-m′ second in-second (fwd b) refl;
     next-c = next-of m′ once-m′ first in-first (fwd a) refl;
@@ -231,14 +237,36 @@ module _ (m : Map) (e : ℕ) (p : Point) (L : Lawful m) (has : hasEdge m e ≡ t
         (subst (λ (l : List Edge). List·Permᴰ (l ++ first-of (relinked e a b (edge m e)) ∷ second-of (relinked e a b (edge m e)) ∷ []) target) (sym (ap (withoutEdge e) renamed-edges ∙ left-out m e (relinked e a b) (λ r. refl) once-m has))
         (List·Permᴰ·trans (Permᴰ·middle (first-of (relinked e a b (edge m e))) (map (relinked e a b) (withoutEdge e (m .edges))) (second-of (relinked e a b (edge m e)) ∷ [])) (List·Permᴰ·cons refl (one-last _ _))))
 
+  pub new-halves : InHalves m (split false e p m) e (m .nextNode) (m .nextEdge) (m .nextEdge + 1) p
+  unfolding split target first-of second-of renamed-map
+  new-halves = record {
+    has = has;
+    free = free;
+    on = on;
+    rows = new-rows (m .nextEdge) (m .nextEdge + 1);
+    new-node = node-new;
+    differ = λ q. omega (arith, q);
+    new-a = λ k. omega (arith, other k .0);
+    new-b = λ k. omega (arith, other k .0);
+  }
+
+  pub kept-halves : InHalves m (split true e p m) e (m .nextNode) e (m .nextEdge) p
+  unfolding split atEdge target first-of second-of renamed-map
+  kept-halves = record {
+    has = has;
+    free = free;
+    on = on;
+    rows = kept-rows e (m .nextEdge);
+    new-node = node-new;
+    differ = λ q. omega (arith, e-below, q);
+    new-a = λ k. other k .1 refl;
+    new-b = λ k. omega (arith, other k .0);
+  }
+
   -- kind 7
   pub split-obeys : Obeys (split false e p m)
-  unfolding split target first-of second-of renamed-map
-  split-obeys = halves-obey m (split false e p m) e (m .nextNode) (m .nextEdge) (m .nextEdge + 1) p L has free on (new-rows (m .nextEdge) (m .nextEdge + 1)) node-new
-      (λ q. omega (arith, q)) (λ k. omega (arith, other k .0)) (λ k. omega (arith, other k .0))
+  split-obeys = halves-obey m (split false e p m) e (m .nextNode) (m .nextEdge) (m .nextEdge + 1) p L new-halves
 
   -- kind 8
   pub mod-split-obeys : Obeys (split true e p m)
-  unfolding split atEdge target first-of second-of renamed-map
-  mod-split-obeys = halves-obey m (split true e p m) e (m .nextNode) e (m .nextEdge) p L has free on (kept-rows e (m .nextEdge)) node-new
-      (λ q. omega (arith, e-below, q)) (λ k. other k .1 refl) (λ k. omega (arith, other k .0))
+  mod-split-obeys = halves-obey m (split true e p m) e (m .nextNode) e (m .nextEdge) p L kept-halves

@@ -31,10 +31,19 @@ use Rattle.grown.proofs.Halved as halved
 use Rattle.grown.proofs.Halved.{Halved, arrives, whole, each-whole, each-halved, f-fwd, f-bwd, f-old, g-fwd, g-bwd, g-old}
 use Rattle.grown.proofs.HalvedLaw.{heal-lawful, lawful-other, swap}
 use Rattle.grown.proofs.SplitsRows.{instead-it, instead-other}
-use Rattle.grown.proofs.HealsSeam.{runs-row}
-use Rattle.grown.proofs.HealsRows.{wholeNames, relinked, healedRow}
+use Rattle.grown.proofs.HealsRows.{wholeNames, relinked, healedRow, runs-row}
 use Rattle.grown.proofs.LawfulForm.{Obeys, Lawful}
 use Rattle.grown.proofs.LawfulCurves.{reverse-some, reverse-way, joined-some, joined-start, joined-end}
+
+-- m′ has the rows of m but for the edges of c and d, which are healed to h
+pub record Healed (m m′ : Map) (e h : ℕ) (c d : Dart) (rest : List Edge) : Type 0 where
+  pub rows : List·Permᴰ (m′ .edges) (healedRow m e h c d ∷ map (relinked h c d) rest)
+  pub old-rows : List·Permᴰ (m .edges) (edge m (c .edge) ∷ edge m (d .edge) ∷ rest)
+  -- the healed edge runs as e does
+  pub own : (c ≡ fwd e) ⊎ (d ≡ fwd e)
+  pub named : fwd h ≢ rev d
+  -- h is no other's number
+  pub new-h : List·Memᴰ h (nums (map arcOf rest)) → ⊥
 
 -- ---- the joint
 
@@ -113,10 +122,9 @@ module _ (m : Map) (L : Lawful m) (e f n : ℕ) (c d : Dart) (seam : Seamed m e 
   some-d : Some (course m d .rest)
   some-d = course-some d (seam .second-in)
 
-  -- ---- a map m′ whose rows are those of m but for the edges of c and d, which are healed to h
+  -- ---- the healed map
 
-  module _ (m′ : Map) (h : ℕ) (rest : List Edge) (rows : List·Permᴰ (m′ .edges) (healedRow m e h c d ∷ map (relinked h c d) rest)) (old-rows : List·Permᴰ (m .edges) (edge m (c .edge) ∷ edge m (d .edge) ∷ rest))
-      (own : (c ≡ fwd e) ⊎ (d ≡ fwd e)) (named : fwd h ≢ rev d) (new-h : List·Memᴰ h (nums (map arcOf rest)) → ⊥) where
+  module _ (m′ : Map) (h : ℕ) (rest : List Edge) (q : Healed m m′ e h c d rest) where
     abbrev r : List Arc
     r = map arcOf rest
 
@@ -126,8 +134,8 @@ module _ (m : Map) (L : Lawful m) (e f n : ℕ) (c d : Dart) (seam : Seamed m e 
     abbrev to : ℕ
     to = leaves m (rev d)
 
-    arcs-m : List·Permᴰ (arcs m) (runs c from n ∷ runs d n to ∷ r)
-    arcs-m = subst (λ (l : List Arc). List·Permᴰ (arcs m) l) (ap₂ (λ x y. x ∷ y ∷ r) first second) (Permᴰ·map arcOf old-rows)
+    pub arcs-m : List·Permᴰ (arcs m) (runs c from n ∷ runs d n to ∷ r)
+    arcs-m = subst (λ (l : List Arc). List·Permᴰ (arcs m) l) (ap₂ (λ x y. x ∷ y ∷ r) first second) (Permᴰ·map arcOf (q .old-rows))
       where
         first : arcOf (edge m (c .edge)) ≡ runs c from n
         first = runs-row m c (seam .first-in) ∙ ap (runs c from) (seam .meet .arrives)
@@ -135,23 +143,23 @@ module _ (m : Map) (L : Lawful m) (e f n : ℕ) (c d : Dart) (seam : Seamed m e 
         second : arcOf (edge m (d .edge)) ≡ runs d n to
         second = runs-row m d (seam .second-in) ∙ ap (λ (x : ℕ). runs d x to) (seam .meet .departs)
 
-    arcs-m′ : List·Permᴰ (arcs m′) (arc h from to ∷ r)
-    arcs-m′ = subst (λ (l : List Arc). List·Permᴰ (arcs m′) (arc h from to ∷ l)) (map-map arcOf (relinked h c d) rest) (Permᴰ·map arcOf rows)
+    pub arcs-m′ : List·Permᴰ (arcs m′) (arc h from to ∷ r)
+    arcs-m′ = subst (λ (l : List Arc). List·Permᴰ (arcs m′) (arc h from to ∷ l)) (map-map arcOf (relinked h c d) rest) (Permᴰ·map arcOf (q .rows))
 
     once : Distinct (c .edge ∷ d .edge ∷ nums r)
     once = perm-distinct (Permᴰ·map (λ (x : Arc). x .num) arcs-m) (L .once)
 
     once-m′ : Distinct (nums (arcs m′))
-    once-m′ = perm-distinct (Permᴰ·map (λ (x : Arc). x .num) (Permᴰ·symm arcs-m′)) (new-h, once .1 .1)
+    once-m′ = perm-distinct (Permᴰ·map (λ (x : Arc). x .num) (Permᴰ·symm arcs-m′)) (q .new-h, once .1 .1)
 
     in-rest : {q : Edge} → List·Memᴰ q rest → List·Memᴰ q (m .edges)
-    in-rest k = perm-in (Permᴰ·symm old-rows) (List·Memᴰ·tail (List·Memᴰ·tail k))
+    in-rest k = perm-in (Permᴰ·symm (q .old-rows)) (List·Memᴰ·tail (List·Memᴰ·tail k))
 
     in-it : List·Memᴰ (healedRow m e h c d) (m′ .edges)
-    in-it = perm-in (Permᴰ·symm rows) (List·Memᴰ·head refl)
+    in-it = perm-in (Permᴰ·symm (q .rows)) (List·Memᴰ·head refl)
 
     in-other : {q : Edge} → List·Memᴰ q rest → List·Memᴰ (relinked h c d q) (m′ .edges)
-    in-other k = perm-in (Permᴰ·symm rows) (List·Memᴰ·tail (Memᴰ·map (relinked h c d) k))
+    in-other k = perm-in (Permᴰ·symm (q .rows)) (List·Memᴰ·tail (Memᴰ·map (relinked h c d) k))
 
     to-m : (z : Dart) → List·Memᴰ z (halved.halved c d from n to r) → List·Memᴰ z (directed m)
     to-m = dart-move (Permᴰ·symm arcs-m)
@@ -159,46 +167,46 @@ module _ (m : Map) (L : Lawful m) (e f n : ℕ) (c d : Dart) (seam : Seamed m e 
     of-m : (z : Dart) → List·Memᴰ z (directed m) → List·Memᴰ z (halved.halved c d from n to r)
     of-m = dart-move arcs-m
 
-    old-m : {z : Dart} → List·Memᴰ z (darts r) → List·Memᴰ z (directed m)
+    pub old-m : {z : Dart} → List·Memᴰ z (darts r) → List·Memᴰ z (directed m)
     old-m {z} k = to-m z (List·Memᴰ·tail (List·Memᴰ·tail (List·Memᴰ·tail (List·Memᴰ·tail k))))
 
     abbrev δ : Dart → Dart
     δ = halved.departs h c d
 
     abbrev by : (P : Dart → Type 0) → P (fwd h) → P (bwd h) → ((z : Dart) → List·Memᴰ z (darts r) → P z) → (z : Dart) → List·Memᴰ z (whole h from to r) → P z
-    by = each-whole h c d from n to r new-h once
+    by = each-whole h c d from n to r (q .new-h) once
 
     ff : δ (fwd h) ≡ c
-    ff = f-fwd h c d from n to r new-h once
+    ff = f-fwd h c d from n to r (q .new-h) once
 
     fb : δ (bwd h) ≡ rev d
-    fb = f-bwd h c d from n to r new-h once
+    fb = f-bwd h c d from n to r (q .new-h) once
 
     fo : (z : Dart) → List·Memᴰ z (darts r) → δ z ≡ z
-    fo = f-old h c d from n to r new-h once
+    fo = f-old h c d from n to r (q .new-h) once
 
     gf : arrives h c d (fwd h) ≡ d
-    gf = g-fwd h c d from n to r new-h once
+    gf = g-fwd h c d from n to r (q .new-h) once
 
     gb : arrives h c d (bwd h) ≡ rev c
-    gb = g-bwd h c d from n to r new-h once
+    gb = g-bwd h c d from n to r (q .new-h) once
 
     go : (z : Dart) → List·Memᴰ z (darts r) → arrives h c d z ≡ z
-    go = g-old h c d from n to r new-h once
+    go = g-old h c d from n to r (q .new-h) once
 
     numbers : {x y : Dart} → x ≡ y → x .edge ≡ y .edge
     numbers q = ap (λ (z : Dart). z .edge) q
 
-    old-c : (z : Dart) → List·Memᴰ z (darts r) → z .edge ≢ c .edge
+    pub old-c : (z : Dart) → List·Memᴰ z (darts r) → z .edge ≢ c .edge
     old-c z k q = fresh-dart (runs c from n) r (λ i. once .0 (List·Memᴰ·tail i)) k q
 
-    old-d : (z : Dart) → List·Memᴰ z (darts r) → z .edge ≢ d .edge
+    pub old-d : (z : Dart) → List·Memᴰ z (darts r) → z .edge ≢ d .edge
     old-d z k q = fresh-dart (runs d n to) r (once .1 .0) k q
 
     -- ---- the names: what departs elsewhere than at the joint
 
     name-c : wholeNames h c d c ≡ fwd h
-    name-c = ap (instead (rev d) (bwd h)) (instead-it c (fwd h)) ∙ instead-other (rev d) (bwd h) (fwd h) named
+    name-c = ap (instead (rev d) (bwd h)) (instead-it c (fwd h)) ∙ instead-other (rev d) (bwd h) (fwd h) (q .named)
 
     name-d : wholeNames h c d (rev d) ≡ bwd h
     name-d = ap (instead (rev d) (bwd h)) (instead-other c (fwd h) (rev d) (λ q. seam .two (sym (numbers q)))) ∙ instead-it (rev d) (bwd h)
@@ -211,7 +219,7 @@ module _ (m : Map) (L : Lawful m) (e f n : ℕ) (c d : Dart) (seam : Seamed m e 
 
     renamed : (y : Dart) → List·Memᴰ y (halved.halved c d from n to r) → Renamed y
     unfolding Renamed
-    renamed = each-halved h c d from n to r new-h once Renamed
+    renamed = each-halved h c d from n to r (q .new-h) once Renamed
         (λ u v. (List·Memᴰ·head name-c, ap δ name-c ∙ ff)) (λ u v. absurd (u refl)) (λ u v. absurd (v refl)) (λ u v. (List·Memᴰ·tail (List·Memᴰ·head name-d), ap δ name-d ∙ fb))
         (λ z k u v. (Memᴰ·cast (name-old z k) (List·Memᴰ·tail (List·Memᴰ·tail k)), ap δ (name-old z k) ∙ fo z k))
 
@@ -278,10 +286,10 @@ module _ (m : Map) (L : Lawful m) (e f n : ℕ) (c d : Dart) (seam : Seamed m e 
 
     -- the sides of both edges are those of e
     left-c : bears m c ≡ edge m e .left
-    left-c = elim own [ inl q ↦ ap (bears m) q ∙ bears-row m (fwd e) | inr q ↦ sym left-side ∙ ap (bears m) q ∙ bears-row m (fwd e) ]
+    left-c = elim (q .own) [ inl p ↦ ap (bears m) p ∙ bears-row m (fwd e) | inr p ↦ sym left-side ∙ ap (bears m) p ∙ bears-row m (fwd e) ]
 
     right-d : bears m (rev d) ≡ edge m e .right
-    right-d = elim own [ inl q ↦ sym right-side ∙ ap (λ z. bears m (rev z)) q ∙ bears-row m (bwd e) | inr q ↦ ap (λ z. bears m (rev z)) q ∙ bears-row m (bwd e) ]
+    right-d = elim (q .own) [ inl p ↦ sym right-side ∙ ap (λ z. bears m (rev z)) p ∙ bears-row m (bwd e) | inr p ↦ ap (λ z. bears m (rev z)) p ∙ bears-row m (bwd e) ]
 
     left-it : bears m′ (fwd h) ≡ edge m e .left
     left-it = bears-of m′ once-m′ (healedRow m e h c d) in-it (fwd h) refl
@@ -304,7 +312,7 @@ module _ (m : Map) (L : Lawful m) (e f n : ℕ) (c d : Dart) (seam : Seamed m e 
     -- the two maps as one with the edge whole and with it in halves
     pub halves : Halved h c d from n to r (leaves m′) (leaves m) (next m′) (next m) (bears m′) (bears m) (way m′) (way m)
     halves = record {
-      fresh = new-h;
+      fresh = q .new-h;
       once = once;
       tails = tails;
       faces = by (λ z. bears m (δ z) ≡ bears m′ z) (ap (bears m) ff ∙ left-c ∙ sym left-it) (ap (bears m) fb ∙ right-d ∙ sym right-it) (λ z k. ap (bears m) (fo z k) ∙ sym (bears-old z k));

@@ -35,7 +35,6 @@ pub mod CurvesHeal
 pub mod Renumber
 pub mod LawOrder
 pub mod Apart
-pub mod Fresh
 pub mod Changes
 pub mod Halved
 pub mod HalvedLaw
@@ -43,17 +42,15 @@ pub mod Splits
 pub mod Heals
 pub mod RowDarts
 pub mod SplitsRows
-pub mod SplitsWoven
-pub mod HealsSeam
+pub mod SplitsPlane
 pub mod HealsRows
-pub mod HealsWoven
+pub mod HealsPlane
 pub mod EdgesRings
 pub mod EdgesLaw
 pub mod EdgesPut
 pub mod EdgesDrawn
 pub mod EdgesJoined
 pub mod EdgesReached
-pub mod ChangesReached
 pub mod EdgesAdd
 pub mod EdgesShared
 pub mod EdgesSides

@@ -5,6 +5,7 @@ use mathlib.Core.Bool.{Bool, true, false, cond, not, true≢false}
 use mathlib.Core.List.{List, [], _∷_, _++_, map, map-append, List·Memᴰ, Memᴰ·map, Memᴰ·cast, List·Permᴰ, List·Permᴰ·cons, List·Permᴰ·swap, List·Permᴰ·trans, Permᴰ·refl, Permᴰ·map, Permᴰ·middle, Permᴰ·append-nil}
 use mathlib.Core.Option.{Option, none, some, Option·getD}
 use Prim.Native.Nat.{ℕ}
+use lib.ListN.{length}
 use Rattle.lists.specs.Tests.{same}
 use Rattle.lists.specs.Scans.{find, isSome, keep}
 use Rattle.lists.specs.Members.{Distinct}
@@ -13,8 +14,9 @@ use Rattle.lists.proofs.Keeps.{keep-map, keep-all}
 use Rattle.plane.specs.Points.{origin}
 use Rattle.planar.specs.Map.{Arc, Dart, fwd, bwd, darts}
 use Rattle.planar.specs.Pieces.{nums}
+use Rattle.planar.specs.Planar.{Planar}
 use Rattle.map.specs.Rows.{Node, Edge, Map, node, edge, hasNode, hasEdge, atEdge, withoutEdge}
-use Rattle.map.specs.Darts.{arcs, directed}
+use Rattle.map.specs.Darts.{arcs, directed, leaves, next, bears}
 use Rattle.grown.proofs.Readings.{numbered, look, has, look-row, look-at, look-first, look-second, look-one, without, look-without, has-without, numberOf, missing, arcOf, nums-rows, edge-row, mapped-edge, mapped-has}
 
 -- ---- lists
@@ -136,6 +138,10 @@ module _ (m m′ : Map) (e : ℕ) (E : m′ .edges ≡ withoutEdge e (m .edges))
 
 abbrev pub nodeNumber : Node → ℕ
 nodeNumber n = n .number
+
+-- a map in the plane, by its links and face numbers alone
+abbrev pub InPlane : Map → Type 0
+InPlane m = Planar (map nodeNumber (m .nodes)) (arcs m) (leaves m) (next m) (bears m) (length (m .faces))
 
 abbrev pub noNode : Node
 noNode = record { number = 0; at = origin; face = none }

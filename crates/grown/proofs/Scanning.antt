@@ -11,7 +11,7 @@ use Rattle.lists.specs.Scans.{any, all, keep, linked}
 use Rattle.lists.specs.Members.{All, Pairs, Distinct}
 use Rattle.lists.proofs.Bools.{or-true, or-right}
 use Rattle.lists.proofs.Keeps.{keep-in}
-use Rattle.geometry.proofs.Booleans.{and-true, and-is, or-left}
+use Rattle.geometry.proofs.Booleans.{and-true, and-is, or-left, or-false}
 use Rattle.map.specs.Form.{numbered}
 
 module _ {A : Type 0} (p : A → Bool) where
@@ -42,6 +42,11 @@ module _ {A : Type 0} (p : A → Bool) where
       step : (List·Memᴰ x l → any p l ≡ true) → (x ≡ y) ⊎ List·Memᴰ x l → any p (y ∷ l) ≡ true
       step ih (inl q) = or-left (any p l) (ap p (sym q) ∙ e)
       step ih (inr j) = or-right (p y) (any p l) (ih j)
+
+-- what none has each has not
+pub none-has : {A : Type 0} (p : A → Bool) (l : List A) → any p l ≡ false → (x : A) → List·Memᴰ x l → p x ≡ false
+none-has p [] h x m = absurd (List·Memᴰ·not-nil m)
+none-has p (y ∷ l) h x m = let k = or-false (p y) (any p l) h in elim (List·Memᴰ·cases-cons m) [ inl e ↦ ap p e ∙ k .0 | inr j ↦ none-has p l (k .1) x j ]
 
 pub all-of : {A : Type 0} {R : A → Type 0} (l : List A) → ((x : A) → List·Memᴰ x l → R x) → All R l
 all-of [] h = tt
