@@ -14,7 +14,7 @@ use Rattle.planar.proofs.Rings.{rev-in}
 use Rattle.planar.proofs.Hooks.{sameDart?}
 use Rattle.planar.proofs.Turns.{rev-rev}
 use Rattle.planar.proofs.Subdivide.{arc}
-use Rattle.rotation.specs.Law.{Tells, Differ, others, lawful, Lawful, from, back, Apart, AllLawful, Law}
+use Rattle.rotation.specs.Law.{Tells, Differ, others, lawfulNext, Lawful, from, back, Apart, AllLawful, Law}
 use Rattle.rotation.proofs.Ways.{alike-says, alike-is}
 use Rattle.rotation.proofs.Order.{sameWay-sym, sameWay-trans}
 use Rattle.rotation.proofs.Tells.{is-yes, is-no}
@@ -25,11 +25,11 @@ use Rattle.grown.proofs.LawOrder.{law-order-at, law-order, law-alike}
 use Rattle.grown.proofs.Halved.{Halved, departs, whole, halved, each-whole, each-halved, f-fwd, f-bwd, f-old, turned, joint-c, joint-d, f-in, kind, f-one, joint-differs}
 
 -- of two departures alone at a node, the one that is not a
-pub lawful-other : {D : Type 0} (way : D → Way) (is : D → D → Bool) → Tells is → (ds : List D) (a b : D) → List·Memᴰ b ds → b ≢ a → ((c : D) → List·Memᴰ c ds → (c ≡ a) ⊎ (c ≡ b)) → lawful way is a ds ≡ b
+pub lawful-other : {D : Type 0} (way : D → Way) (is : D → D → Bool) → Tells is → (ds : List D) (a b : D) → List·Memᴰ b ds → b ≢ a → ((c : D) → List·Memᴰ c ds → (c ≡ a) ⊎ (c ≡ b)) → lawfulNext way is a ds ≡ b
 lawful-other {D} way is t ds a b mb nb two = go (keep-in (λ q. not (is q a)) ds (first-in way (way a) a (others is a ds) (keep-has (λ q. not (is q a)) ds mb (ap not (is-no t b a nb)))))
   where
-    go : List·Memᴰ (lawful way is a ds) ds × (not (is (lawful way is a ds) a) ≡ true) → lawful way is a ds ≡ b
-    go r = elim (two (lawful way is a ds) (r .0)) [ inl e ↦ absurd (true≢false (sym (r .1) ∙ ap not (is-yes t (lawful way is a ds) a e))) | inr e ↦ e ]
+    go : List·Memᴰ (lawfulNext way is a ds) ds × (not (is (lawfulNext way is a ds) a) ≡ true) → lawfulNext way is a ds ≡ b
+    go r = elim (two (lawfulNext way is a ds) (r .0)) [ inl e ↦ absurd (true≢false (sym (r .1) ∙ ap not (is-yes t (lawfulNext way is a ds) a e))) | inr e ↦ e ]
 
 pub swap : {A B : Type 0} → A ⊎ B → B ⊎ A
 swap (inl a) = inr a
@@ -39,8 +39,8 @@ swap (inr b) = inl b
 lawful-pair : {D : Type 0} (way : D → Way) (is : D → D → Bool) → Tells is → (x y : D) (ds : List D) (lead : D → D) → x ≢ y → List·Memᴰ x ds → List·Memᴰ y ds → ((d : D) → List·Memᴰ d ds → (d ≡ x) ⊎ (d ≡ y)) → lead x ≡ y → lead y ≡ x
     → Lawful way is ds lead
 lawful-pair way is t x y ds lead ne mx my only ex ey d m = elim (only d m) [
-  | inl e ↦ subst (λ d. lead d ≡ lawful way is d ds) (sym e) (ex ∙ sym (lawful-other way is t ds x y my (λ p. ne (sym p)) only))
-  | inr e ↦ subst (λ d. lead d ≡ lawful way is d ds) (sym e) (ey ∙ sym (lawful-other way is t ds y x mx ne (λ c k. swap (only c k))))
+  | inl e ↦ subst (λ d. lead d ≡ lawfulNext way is d ds) (sym e) (ex ∙ sym (lawful-other way is t ds x y my (λ p. ne (sym p)) only))
+  | inr e ↦ subst (λ d. lead d ≡ lawfulNext way is d ds) (sym e) (ey ∙ sym (lawful-other way is t ds y x mx ne (λ c k. swap (only c k))))
 ]
 
 module _ (h : ℕ) (c d : Dart) (s n t : ℕ) (r : List Arc) {tail tail′ : Dart → ℕ} {next next′ : Dart → Dart} {face face′ : Dart → ℕ} {way way′ : Dart → Way}

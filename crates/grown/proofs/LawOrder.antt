@@ -9,7 +9,7 @@ use Rattle.lists.specs.Scans.{keep}
 use Rattle.lists.proofs.Members.{some?}
 use Rattle.lists.proofs.Keeps.{keep-in, keep-has}
 use Rattle.plane.specs.Directions.{Way, before, sameWay}
-use Rattle.rotation.specs.Law.{Tells, greatest, pick, firstClockwise, Differ, others, lawful, Lawful, from, Apart, AllLawful}
+use Rattle.rotation.specs.Law.{Tells, greatest, pick, firstClockwise, Differ, others, lawfulNext, Lawful, from, Apart, AllLawful}
 use Rattle.rotation.proofs.Order.{respects-left, respects-right}
 use Rattle.rotation.proofs.Node.{first-none}
 use Rattle.rotation.proofs.Rename.{first-same}
@@ -19,7 +19,7 @@ use Rattle.grown.proofs.Readings.{keep-cong}
 
 module _ {D : Type 0} (way : D → Way) (is : D → D → Bool) (tells : Tells is) (ds ds′ : List D) (differ : Differ way ds)
     (to : (d : D) → List·Memᴰ d ds → List·Memᴰ d ds′) (back : (d : D) → List·Memᴰ d ds′ → List·Memᴰ d ds) where
-  pub lawful-order : (d : D) → List·Memᴰ d ds → lawful way is d ds ≡ lawful way is d ds′
+  pub lawful-order : (d : D) → List·Memᴰ d ds → lawfulNext way is d ds ≡ lawfulNext way is d ds′
   lawful-order d m = elim (some? (others is d ds)) [
     | inl q ↦ first-same way is tells d d d (others is d ds) (others is d ds′) apart (move ds ds′ to) (move ds′ ds back) (q .1)
     | inr q ↦ first-none way (way d) d (others is d ds) q ∙ sym (first-none way (way d) d (others is d ds′) (λ c k. q c (move ds′ ds back c k)))
@@ -81,7 +81,7 @@ module _ {D : Type 0} (way way′ : D → Way) where
   first-alike v v′ u ds e h = ap₂ (λ (c : D) (l : List D). pick way c l) (pick-alike u ds h) (keep-cong (λ d. before (way d) v) (λ d. before (way′ d) v′) ds (λ d m. respects-left (way d) (way′ d) v (h d m) ∙ respects-right (way′ d) v v′ e))
       ∙ pick-alike (pick way′ u ds) (keep (λ d. before (way′ d) v′) ds) (λ d m. h d (keep-in (λ d. before (way′ d) v′) ds m .0))
 
-  pub lawful-alike : (is : D → D → Bool) (ds : List D) → AlikeOn ds → (d : D) → List·Memᴰ d ds → lawful way is d ds ≡ lawful way′ is d ds
+  pub lawful-alike : (is : D → D → Bool) (ds : List D) → AlikeOn ds → (d : D) → List·Memᴰ d ds → lawfulNext way is d ds ≡ lawfulNext way′ is d ds
   lawful-alike is ds h d m = first-alike (way d) (way′ d) d (others is d ds) (h d m) (λ c k. h c (keep-in (λ q. not (is q d)) ds k .0))
 
   pub law-alike : (is : D → D → Bool) (tail : D → ℕ) (all : List D) (lead : D → D) → AlikeOn all → AllLawful is tail way all lead → AllLawful is tail way′ all lead

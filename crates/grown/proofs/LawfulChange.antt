@@ -13,7 +13,7 @@ use Rattle.curves.specs.Curves.{Curve}
 use Rattle.planar.specs.Map.{Dart, rev}
 use Rattle.planar.specs.Rings.{sameDart}
 use Rattle.planar.proofs.Rings.{sameDart-true}
-use Rattle.rotation.specs.Law.{lawful}
+use Rattle.rotation.specs.Law.{lawfulNext}
 use Rattle.rotation.proofs.Order.{sameWay-refl}
 use Rattle.geometry.proofs.Booleans.{or-false}
 use Rattle.map.specs.Rows.{Edge, Map, edge, atNodes, atEdge}
@@ -83,15 +83,15 @@ module _ (m : Map) (e : ℕ) (c : Curve) where
   same-departures = departures-by m redrawn same-arcs (λ d k. same-leaves d)
 
   -- the first departure met clockwise from each is the one it was, by the cyclic order at the ends of e
-  same-first : (n : ℕ) (d : Dart) → List·Memᴰ d (departures m n) → turnChanges m redrawn n ≡ false → lawful (way m) sameDart d (departures m n) ≡ lawful (way redrawn) sameDart d (departures redrawn n)
+  same-first : (n : ℕ) (d : Dart) → List·Memᴰ d (departures m n) → turnChanges m redrawn n ≡ false → lawfulNext (way m) sameDart d (departures m n) ≡ lawfulNext (way redrawn) sameDart d (departures redrawn n)
   unfolding clockwise
-  same-first n d k h = ap (λ (x : ℕ). lawful (way m) sameDart d (departures m x)) (sym (departs m n k .1))
+  same-first n d k h = ap (λ (x : ℕ). lawfulNext (way m) sameDart d (departures m x)) (sym (departs m n k .1))
       ∙ sameDart-true (clockwise m d) (clockwise redrawn d) (not-false _ (none-has (λ d. not (sameDart (clockwise m d) (clockwise redrawn d))) (departures m n) h d k))
-      ∙ ap (λ (x : ℕ). lawful (way redrawn) sameDart d (departures redrawn x)) (same-leaves d ∙ departs m n k .1)
+      ∙ ap (λ (x : ℕ). lawfulNext (way redrawn) sameDart d (departures redrawn x)) (same-leaves d ∙ departs m n k .1)
 
   -- and away from them nothing turns
-  same-elsewhere : (n : ℕ) (d : Dart) → List·Memᴰ d (departures m n) → edge m e .start ≢ n → edge m e .end ≢ n → lawful (way m) sameDart d (departures m n) ≡ lawful (way redrawn) sameDart d (departures redrawn n)
-  same-elsewhere n d k ns nt = lawful-alike (way m) (way redrawn) sameDart (departures m n) alike d k ∙ ap (lawful (way redrawn) sameDart d) (sym (same-departures n))
+  same-elsewhere : (n : ℕ) (d : Dart) → List·Memᴰ d (departures m n) → edge m e .start ≢ n → edge m e .end ≢ n → lawfulNext (way m) sameDart d (departures m n) ≡ lawfulNext (way redrawn) sameDart d (departures redrawn n)
+  same-elsewhere n d k ns nt = lawful-alike (way m) (way redrawn) sameDart (departures m n) alike d k ∙ ap (lawfulNext (way redrawn) sameDart d) (sym (same-departures n))
     where
       other : (x : Dart) → List·Memᴰ x (departures m n) → x .edge ≢ e
       other x j p = go (x .back) (ap (λ (y : ℕ). tailIn (x .back) (edge m y)) (sym p) ∙ sym (leaves-row m x) ∙ departs m n j .1)

@@ -23,7 +23,7 @@ use Rattle.planar.proofs.Rings.{rev-in, sameDart-true}
 use Rattle.planar.proofs.Splitting.{tail-in}
 use Rattle.planar.proofs.Turns.{rev-rev}
 use Rattle.rotation.specs.Ways.{Alike}
-use Rattle.rotation.specs.Law.{Differ, lawful, from, Apart, Law}
+use Rattle.rotation.specs.Law.{Differ, lawfulNext, from, Apart, Law}
 use Rattle.rotation.proofs.Ways.{alike-is, alike-sym}
 use Rattle.rotation.proofs.Tells.{is-yes}
 use Rattle.rotation.proofs.Ties.{tells}
@@ -55,7 +55,7 @@ module _ (m : Map) where
   pub law-says : obeysLaw m ≡ true → Obeys m
   unfolding obeysLaw clockwise departures
   law-says h n d k = sameDart-true (next m (rev d)) (clockwise m (rev (rev d))) (all-each (λ c. sameDart (next m c) (clockwise m (rev c))) (directed m) h (rev d) (rev-in (arcs m) (x .0)))
-      ∙ ap (clockwise m) (rev-rev d) ∙ ap (λ (i : ℕ). lawful (way m) sameDart d (from (leaves m) (directed m) i)) (x .1)
+      ∙ ap (clockwise m) (rev-rev d) ∙ ap (λ (i : ℕ). lawfulNext (way m) sameDart d (from (leaves m) (directed m) i)) (x .1)
     where
       x : List·Memᴰ d (directed m) × (leaves m d ≡ n)
       x = from-in (leaves m) (directed m) n k

@@ -10,7 +10,7 @@ ghost use Rattle.lists.specs.Scans.{any, count as countOf, keep};
 ghost use Rattle.plane.specs.Points.{InRange};
 ghost use Rattle.plane.specs.Directions.{wayTo, sameWay};
 ghost use Rattle.curves.specs.Curves.{Run};
-ghost use Rattle.rotation.specs.Law.{lawful};
+ghost use Rattle.rotation.specs.Law.{lawfulNext};
 ghost use Rattle.tables.specs.Tables.{EdgeRows};
 ghost use Rattle.links.specs.Positions.{sideCell, wayAt, wayWith};
 ghost use Rattle.linking.specs.Linking.{Known, laterOf, chosenOf, positions, leavesNode, leaving, firstMet, redirected, linkedAt, linkedIn, linkedEdge, unlinkedEdge};
@@ -99,7 +99,7 @@ pub fn first_clockwise(
 // The first departure met turning clockwise from the departure p, where edge row `own` has the curve c; with no other, p.
 pub fn clockwise(edges: &[i64], count: usize, own: usize, c: &[i64], p: usize) -> usize
     requires { ⌜ EdgeRows (now edges) count × (own < count → Run (now c)) × (p < count * 2) ⌝ }
-    ensures { λ r. ⌜ r ≡ lawful (wayWith (now (edges .entry)) own (now (c .entry))) same p (keep (leavesNode (now (edges .entry)) (sideCell (now (edges .entry)) p 1)) (positions count)) ⌝ }
+    ensures { λ r. ⌜ r ≡ lawfulNext (wayWith (now (edges .entry)) own (now (c .entry))) same p (keep (leavesNode (now (edges .entry)) (sideCell (now (edges .entry)) p 1)) (positions count)) ⌝ }
 {
     let node = links::dart_cell(edges, p, 1);
     let found = first_clockwise(

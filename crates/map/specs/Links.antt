@@ -8,13 +8,13 @@ use Rattle.lists.specs.Scans.{all, keep}
 use Rattle.plane.specs.Directions.{Way}
 use Rattle.planar.specs.Map.{Dart, fwd, bwd, rev}
 use Rattle.planar.specs.Rings.{sameDart}
-use Rattle.rotation.specs.Law.{firstClockwise, lawful}
+use Rattle.rotation.specs.Law.{firstClockwise, lawfulNext}
 use Rattle.map.specs.Rows.{Edge, Map, node, setEdges, atEdge, withoutEdge}
 use Rattle.map.specs.Darts.{directed, departures, leaves, next, bears, way}
 
 -- the first departure met turning clockwise from the departure d; with no other, d itself
 unfoldable pub clockwise : Map → Dart → Dart
-clockwise m d = lawful (way m) sameDart d (departures m (leaves m d))
+clockwise m d = lawfulNext (way m) sameDart d (departures m (leaves m d))
 
 -- link law: after d arrives, its next is the first departure met turning clockwise from the reverse of d; with no other, that reverse
 unfoldable pub obeysLaw : Map → Bool

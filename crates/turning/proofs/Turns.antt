@@ -14,7 +14,7 @@ use Rattle.curves.specs.Curves.{Curve, curveOf, startWay}
 use Rattle.curves.specs.Edits as edits
 use Rattle.planar.specs.Map.{Arc, darts}
 use Rattle.planar.specs.Rings.{sameDart}
-use Rattle.rotation.specs.Law.{lawful}
+use Rattle.rotation.specs.Law.{lawfulNext}
 use Rattle.rotation.proofs.Node.{lawful-in}
 use Rattle.rotation.proofs.Rename.{lawful-map}
 use Rattle.map.specs.Rows.{Edge, Map, edge, findEdge, atEdge}
@@ -48,13 +48,13 @@ module _ {l : List ℤ} {n : ℕ} (t : EdgeRows l n) where
   beside-own : (p : ℕ) → p < n * 2 → List·Memᴰ p (beside p)
   beside-own p h = keep-has (leavesNode l (sideCell l p 1)) (positions n) (position-has n p h) (same-self (sideCell l p 1))
 
-  turn-below : (w : ℕ → Way) (p : ℕ) → p < n * 2 → lawful w same p (beside p) < n * 2
-  turn-below w p h = beside-below p (lawful w same p (beside p)) (lawful-in w same (beside p) p (beside-own p h))
+  turn-below : (w : ℕ → Way) (p : ℕ) → p < n * 2 → lawfulNext w same p (beside p) < n * 2
+  turn-below w p h = beside-below p (lawfulNext w same p (beside p)) (lawful-in w same (beside p) p (beside-own p h))
 
-  turn-is : (m : Map) (w : ℕ → Way) (p : ℕ) → p < n * 2 → ((q : ℕ) → q < n * 2 → way m (dartAt l q) ≡ w q) → departures m (leaves m (dartAt l p)) ≡ map (dartAt l) (beside p) → clockwise m (dartAt l p) ≡ dartAt l (lawful w same p (beside p))
+  turn-is : (m : Map) (w : ℕ → Way) (p : ℕ) → p < n * 2 → ((q : ℕ) → q < n * 2 → way m (dartAt l q) ≡ w q) → departures m (leaves m (dartAt l p)) ≡ map (dartAt l) (beside p) → clockwise m (dartAt l p) ≡ dartAt l (lawfulNext w same p (beside p))
   unfolding clockwise
   turn-is m w p h ways deps =
-      ap (lawful (way m) sameDart (dartAt l p)) deps
+      ap (lawfulNext (way m) sameDart (dartAt l p)) deps
       ∙ lawful-map (dartAt l) w (way m) same sameDart (beside p)
       (record { ways = λ q k. ways q (beside-below p q k); tests = λ q c k j. other-dart t c q (beside-below p c j) (beside-below p q k) }) p (beside-own p h)
 

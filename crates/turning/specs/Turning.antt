@@ -7,7 +7,7 @@ use lib.IntN.{ℤ, pos}
 use lib.ListN.{length, getD}
 use Rattle.lists.specs.Tests.{same}
 use Rattle.lists.specs.Scans.{keep, isSome}
-use Rattle.rotation.specs.Law.{lawful}
+use Rattle.rotation.specs.Law.{lawfulNext}
 use Rattle.map.specs.Limits.{edgeWidth}
 use Rattle.map.specs.Rows.{Map, edge}
 use Rattle.map.specs.Darts.{edgeEnds}
@@ -24,7 +24,7 @@ pub record Own (l : List ℤ) (n own e : ℕ) : Type 0 where
 
 -- the first departure met clockwise from the departure p, where edge row `own` has the curve c
 abbrev pub turnsAt : List ℤ → ℕ → ℕ → List ℤ → ℕ → ℕ
-turnsAt l n own c p = lawful (wayWith l own c) same p (keep (leavesNode l (sideCell l p 1)) (positions n))
+turnsAt l n own c p = lawfulNext (wayWith l own c) same p (keep (leavesNode l (sideCell l p 1)) (positions n))
 
 -- edge row j starts or ends at the node
 abbrev pub endsAt : List ℤ → ℕ → ℤ → Bool
