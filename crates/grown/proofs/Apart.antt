@@ -3,17 +3,21 @@ use mathlib.Core.Path.{_≡_, refl, sym, ap, _∙_, subst}
 use mathlib.Core.Logic.{_⊎_, inl, inr, _≢_}
 use mathlib.Core.Bool.{Bool, true, false, true≢false}
 use mathlib.Core.List.{List, [], _∷_, map, List·Memᴰ, List·Memᴰ·cases-cons, List·Memᴰ·not-nil, Memᴰ·map}
-use Prim.Native.Nat.{ℕ}
+use Prim.Native.Nat.{ℕ, suc, _≤_}
+use native.Mathlib.Omega.{arith}
+use lib.ListN.{length}
 use Rattle.lists.specs.Members.{Pairs}
 use Rattle.lists.proofs.Bools.{equal?}
+use Rattle.plane.specs.declared.Point.{Point}
 use Rattle.plane.specs.Directions.{Way, sameWay}
-use Rattle.curves.specs.Curves.{startWay}
+use Rattle.curves.specs.Curves.{points, startWay}
 use Rattle.planar.specs.Map.{Dart}
 use Rattle.rotation.specs.Law.{Apart}
 use Rattle.rotation.proofs.Ways.{alike-is}
 use Rattle.rotation.proofs.Order.{sameWay-sym}
 use Rattle.geometry.specs.Drawing as drawing
 use Rattle.geometry.specs.Drawing.{ClearCurves}
+use Rattle.geometry.specs.Meaning.{Some}
 use Rattle.geometry.proofs.Drawing.{clear-sym}
 use Rattle.geometry.proofs.Theorems.{departures-differ, closed-differ, reverse-ways}
 use Rattle.map.specs.Rows.{Edge, Map, node, edge}
@@ -36,6 +40,13 @@ pairs-in {A} R turn f (z ∷ l) h x y m k ne = go (pairs-in R turn f l (h .1) x 
 module _ (m : Map) (s : Surveyed m) where
   pub curve-good : (r : Edge) → List·Memᴰ r (m .edges) → drawing.Good (r .curve)
   curve-good r k = each-of drawing.Good (map (λ (e : Edge). e .curve) (m .edges)) (s .drawn .good) (r .curve) (Memᴰ·map (λ (e : Edge). e .curve) k)
+
+  pub curve-long : (r : Edge) → List·Memᴰ r (m .edges) → 2 ≤ length (points (r .curve))
+  curve-long r k = go (r .curve .rest) (curve-good r k .some)
+    where
+      go : (l : List Point) → Some l → 2 ≤ suc (length l)
+      go [] h = absurd h
+      go (p ∷ l) h = omega arith
 
   pub curves-clear : (r q : Edge) → List·Memᴰ r (m .edges) → List·Memᴰ q (m .edges) → r ≢ q → ClearCurves (r .curve) (q .curve)
   curves-clear r q k j ne = pairs-in ClearCurves clear-sym (λ (e : Edge). e .curve) (m .edges) (s .drawn .clear) r q k j ne

@@ -19,7 +19,7 @@ use Rattle.planar.specs.Pieces.{pieces, label, Euler}
 use Rattle.planar.specs.Planar.{Planar}
 use Rattle.planar.proofs.Cycles.{fwd-in, bwd-in}
 use Rattle.planar.proofs.Moves.{planar-node, planar-node-off}
-use Rattle.planar.proofs.Rows.{planar-agree}
+use Rattle.planar.proofs.Agree.{planar-agree}
 use Rattle.map.specs.Rows.{Node, Edge, Map, node, edge, hasNode, atNodes, atEdge, withoutNode}
 use Rattle.map.specs.Darts.{arcs, leaves, next, bears}
 use Rattle.map.specs.Edits.{lone, addIsoNode, moveIsoNode, removeIsoNode, withCurve, changeEdgeGeom}

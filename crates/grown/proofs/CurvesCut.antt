@@ -1,7 +1,7 @@
 -- A survey with one line cut at a point that is no place yet (kinds 7 and 8). Assumes nothing.
 use mathlib.Core.Path.{_≡_, refl, sym, ap, _∙_, subst}
 use mathlib.Core.Bool.{true, cond}
-use mathlib.Core.List.{List, [], _∷_, _++_, map, List·Memᴰ, List·Memᴰ·head, List·Memᴰ·cases-cons, List·Memᴰ·append-cases, List·Memᴰ·eq-of-singleton, Memᴰ·append-left, Memᴰ·append-right, Memᴰ·map, Memᴰ·cast}
+use mathlib.Core.List.{map-append, List, [], _∷_, _++_, map, List·Memᴰ, List·Memᴰ·head, List·Memᴰ·cases-cons, List·Memᴰ·append-cases, List·Memᴰ·eq-of-singleton, Memᴰ·append-left, Memᴰ·append-right, Memᴰ·map, Memᴰ·cast}
 use mathlib.Core.Logic.{_⊎_, inl, inr, _≢_}
 use Prim.Native.Nat.{ℕ}
 use Rattle.lists.specs.Members.{Distinct}
@@ -20,7 +20,7 @@ use Rattle.geometry.proofs.Edits.{split-new, split-mod}
 use Rattle.geometry.proofs.Theorems.{cut-ends, onCurve-iff}
 use Rattle.grown.proofs.Readings.{without}
 use Rattle.grown.proofs.CurvesKept.{kept-front, kept-back}
-use Rattle.grown.proofs.CurvesLists.{map-append, Found, found}
+use Rattle.grown.proofs.CurvesLists.{Found, found}
 use Rattle.grown.proofs.CurvesSurvey.{Line, Place, curveIn, atIn, placeNumber, lineNumber, Sited, Survey}
 use Rattle.grown.proofs.CurvesSites.{plot, sited-more, between-cases}
 

@@ -1,7 +1,7 @@
 -- The lines and places of a map after a split and a heal. Assumes nothing.
 use mathlib.Core.Path.{_≡_, refl, ap, _∙_}
 use mathlib.Core.Bool.{Bool, true, false, cond}
-use mathlib.Core.List.{List, [], _∷_, _++_, map}
+use mathlib.Core.List.{map-append, List, [], _∷_, _++_, map}
 use mathlib.Core.Option.{Option·getD}
 use Prim.Native.Nat.{ℕ, _+_}
 use Rattle.lists.specs.Tests.{same}
@@ -12,7 +12,7 @@ use Rattle.map.specs.Darts.{leaves, arrives}
 use Rattle.map.specs.Links.{redirect}
 use Rattle.map.specs.Edits.{startHalf, endHalf, split, joint, parts, healedCurve, heal}
 use Rattle.grown.proofs.Readings.{without}
-use Rattle.grown.proofs.CurvesLists.{map-append, map-commute}
+use Rattle.grown.proofs.CurvesLists.{map-commute}
 use Rattle.grown.proofs.CurvesSurvey.{Line, lineOf, placeOf, lines, places, placeNumber, lineNumber}
 use Rattle.grown.proofs.CurvesCut.{firstHalf, secondHalf}
 use Rattle.grown.proofs.CurvesRows.{Alike, alike-join, redirect-alike, redirect-line, without-lines, without-places, Becomes}

@@ -1,7 +1,7 @@
 -- A survey with two lines joined at a place where no other line ends (kinds 9 and 10). Assumes nothing.
 use mathlib.Core.Path.{_≡_, refl, sym, ap, _∙_, subst}
 use mathlib.Core.Bool.{Bool, true, false, not, cond}
-use mathlib.Core.List.{List, [], _∷_, _++_, map, List·Memᴰ, List·Memᴰ·head, List·Memᴰ·tail, Memᴰ·cast}
+use mathlib.Core.List.{map-append, List, [], _∷_, _++_, map, List·Memᴰ, List·Memᴰ·head, List·Memᴰ·tail, Memᴰ·cast}
 use mathlib.Core.Logic.{inl, inr, _≢_}
 use Prim.Native.Nat.{ℕ, _≤_}
 use lib.ListN.{length}
@@ -18,7 +18,7 @@ use Rattle.geometry.proofs.Theorems.{join-last}
 use Rattle.geometry.proofs.Turning.{last-turned}
 use Rattle.grown.proofs.Readings.{without}
 use Rattle.grown.proofs.CurvesKept.{kept-course, kept-joined}
-use Rattle.grown.proofs.CurvesLists.{map-append, distinct-keep, Found, found}
+use Rattle.grown.proofs.CurvesLists.{distinct-keep, Found, found}
 use Rattle.grown.proofs.CurvesSurvey.{Line, Place, curveIn, placeNumber, lineNumber, Sited, Survey}
 use Rattle.grown.proofs.CurvesSites.{number-one, point-one, unplot, Clear, sited-without, between-cases}
 

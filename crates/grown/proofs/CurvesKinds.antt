@@ -21,7 +21,7 @@ use Rattle.grown.proofs.RowChanges.{node-row}
 use Rattle.grown.proofs.Reasons.{Sent, AddNode, MoveNode, RemoveNode, AddLone, Change, Split, AddEdge}
 use Rattle.grown.proofs.Numbers.{outlineOf, numbered-ranked}
 use Rattle.grown.proofs.CurvesKept.{sent-kept, sent-some}
-use Rattle.grown.proofs.CurvesLists.{any-none}
+use Rattle.grown.proofs.Scanning.{none-has}
 use Rattle.grown.proofs.CurvesSurvey.{Line, Place, lineOf, placeOf, lines, places, atIn, placeNumber, lineNumber, Sited, Survey, lines-once, place-fresh, named-nodes, place-in, survey, surveyed-by}
 use Rattle.grown.proofs.CurvesSites.{Clear, Drawable, survey-plot, survey-unplot, survey-move, survey-keep, survey-append, survey-change}
 use Rattle.grown.proofs.CurvesCut.{firstHalf, secondHalf, survey-split-new, survey-split-mod}
@@ -40,7 +40,7 @@ module _ (m : Map) (G : Good m) where
   unfolding nodeAt
   free-point p h k =
       let w = Memᴰ·of-map (λ n. n .at) (m .nodes) (subst (List·Memᴰ p) (map-map atIn placeOf (m .nodes)) k) in
-      samePoint-differ (w .0 .at) p (any-none (λ n. samePoint (n .at) p) (m .nodes) h (w .0) (w .1)) (w .2)
+      samePoint-differ (w .0 .at) p (none-has (λ n. samePoint (n .at) p) (m .nodes) h (w .0) (w .1)) (w .2)
 
   -- nor does another node
   free-other : (n : ℕ) (p : Point) → nodeAt (withoutNode n (m .nodes)) p ≡ false → (q : Place) → List·Memᴰ q (places m) → q .number ≢ n → q .at ≢ p
@@ -48,7 +48,7 @@ module _ (m : Map) (G : Good m) where
   free-other n p h q k d e =
       let w = Memᴰ·of-map placeOf (m .nodes) k in
       let other = keep-has (λ r. not (same (r .number) n)) (m .nodes) (w .1) (ap not (same-false (w .0 .number) n (λ f. d (sym (ap placeNumber (w .2)) ∙ f)))) in
-      samePoint-differ (w .0 .at) p (any-none (λ r. samePoint (r .at) p) (withoutNode n (m .nodes)) h (w .0) other) (ap atIn (w .2) ∙ e)
+      samePoint-differ (w .0 .at) p (none-has (λ r. samePoint (r .at) p) (withoutNode n (m .nodes)) h (w .0) other) (ap atIn (w .2) ∙ e)
 
   -- no line ends at an isolated node
   alone : (n : ℕ) → hasNode m n ≡ true → isolated m n ≡ true → (l : Line) → List·Memᴰ l (lines m) → Clear n l
@@ -70,7 +70,7 @@ module _ (m : Map) (G : Good m) where
   unfolding edgeWrong
   meets-none es c h l k =
       let w = Memᴰ·of-map lineOf es k in
-      subst (λ (x : Line). meetWrongly c (x .curve) ≡ false) (w .2) (any-none (λ e. meetWrongly c (e .curve)) es h (w .0) (w .1))
+      subst (λ (x : Line). meetWrongly c (x .curve) ≡ false) (w .2) (none-has (λ e. meetWrongly c (e .curve)) es h (w .0) (w .1))
 
   -- a sent curve between two nodes
   sent-sited : (e u v : ℕ) (c : Curve) → hasNode m u ≡ true → hasNode m v ≡ true → Sent m c u v → Sited (places m) (newLine e u v c)

@@ -1,24 +1,19 @@
 -- Lists as edits change them: one row told apart from the others, rows left out, a row more. Assumes nothing.
-use mathlib.Core.Path.{_≡_, refl, sym, ap, ap₂, _∙_, subst}
+use mathlib.Core.Path.{_≡_, refl, sym, ap, ap₂, subst}
 use mathlib.Core.Bool.{Bool, true, false, not, cond}
 use mathlib.Core.List.{List, [], _∷_, _++_, map, List·Memᴰ, List·Memᴰ·head, List·Memᴰ·tail, List·Memᴰ·cases-cons, List·Memᴰ·not-nil, List·Memᴰ·append-cases, List·Memᴰ·eq-of-singleton, Memᴰ·map, Memᴰ·of-map, Memᴰ·cast}
 use mathlib.Core.Logic.{_⊎_, inl, inr}
 use Prim.Native.Nat.{ℕ}
 use Rattle.lists.specs.Members.{Distinct, All, Pairs}
 use Rattle.lists.specs.Tests.{same}
-use Rattle.lists.specs.Scans.{any, keep}
+use Rattle.lists.specs.Scans.{keep}
 use Rattle.lists.proofs.Bools.{same-false, same-refl}
 use Rattle.lists.proofs.Keeps.{keep-in, keep-all}
-use Rattle.geometry.proofs.Booleans.{or-false}
 use Rattle.grown.proofs.Readings.{without}
 
 -- ---- map and keep
 
 module _ {A B : Type 0} (f : A → B) where
-  pub map-append : (xs ys : List A) → map f (xs ++ ys) ≡ map f xs ++ map f ys
-  map-append [] ys = refl
-  map-append (x ∷ xs) ys = ap (λ (l : List B). f x ∷ l) (map-append xs ys)
-
   -- what is done to rows is done to their images
   pub map-commute : (g : A → A) (h : B → B) (l : List A) → ((x : A) → f (g x) ≡ h (f x)) → map f (map g l) ≡ map h (map f l)
   map-commute g h [] k = refl
@@ -73,15 +68,6 @@ distinct-snoc (y ∷ l) x h n = (
   (λ m. elim (List·Memᴰ·append-cases l m) [ inl k ↦ h .0 k | inr k ↦ n (List·Memᴰ·head (sym (List·Memᴰ·eq-of-singleton k))) ]),
   distinct-snoc l x (h .1) (λ m. n (List·Memᴰ·tail m)),
 )
-
--- a test that takes no element
-pub any-none : {A : Type 0} (p : A → Bool) (l : List A) → any p l ≡ false → (x : A) → List·Memᴰ x l → p x ≡ false
-any-none p [] e x m = absurd (List·Memᴰ·not-nil m)
-any-none {A} p (a ∷ l) e x m = go (or-false (p a) (any p l) e) (any-none p l) (List·Memᴰ·cases-cons m)
-  where
-    go : (p a ≡ false) × (any p l ≡ false) → (any p l ≡ false → (x : A) → List·Memᴰ x l → p x ≡ false) → (x ≡ a) ⊎ List·Memᴰ x l → p x ≡ false
-    go h ih (inl q) = ap p q ∙ h .0
-    go h ih (inr k) = ih (h .1) x k
 
 -- ---- one row told apart by its number
 

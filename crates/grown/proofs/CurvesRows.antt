@@ -1,7 +1,7 @@
 -- The lines and places of a map after each edit of its rows. Assumes nothing.
 use mathlib.Core.Path.{_≡_, refl, sym, ap, _∙_}
 use mathlib.Core.Bool.{Bool, true, false, not, cond}
-use mathlib.Core.List.{List, [], _∷_, _++_, map}
+use mathlib.Core.List.{map-append, List, [], _∷_, _++_, map}
 use mathlib.Core.Option.{Option, none, some}
 use Prim.Native.Nat.{ℕ}
 use Rattle.lists.specs.Tests.{same}
@@ -13,7 +13,7 @@ use Rattle.map.specs.Rows.{Node, Edge, Map, edge, setEdges, atNodes, atEdge, wi
 use Rattle.map.specs.Links.{withLinks, instead, redirect, lead, linkIn, linkEdge, unlinkEdge, cornerFace}
 use Rattle.map.specs.Edits.{Shares, withFace, withCurve, isEither, drawn, undrawn, addIsoEdge, removeIsoEdge, changeEdgeGeom, sideOfPoint, sideOfNode, sharedOut, splitFace, splitsFace, addEdge, faceLeft, renamedNode, renamedFaces, removeEdge, addIsoNode, moveIsoNode, removeIsoNode}
 use Rattle.grown.proofs.Readings.{without, mapped-kept}
-use Rattle.grown.proofs.CurvesLists.{map-append, map-commute, map-unseen}
+use Rattle.grown.proofs.CurvesLists.{map-commute, map-unseen}
 use Rattle.grown.proofs.CurvesSurvey.{Line, Place, lineOf, placeOf, lines, places, placeNumber, lineNumber}
 use Rattle.grown.proofs.CurvesSites.{moved}
 

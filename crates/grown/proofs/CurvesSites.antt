@@ -1,7 +1,7 @@
 -- Surveys with places and lines more, fewer and changed. Assumes nothing.
 use mathlib.Core.Path.{_≡_, refl, sym, ap, _∙_, subst}
 use mathlib.Core.Bool.{Bool, true, false, not, cond, true≢false}
-use mathlib.Core.List.{List, [], _∷_, _++_, map, map-map, List·Memᴰ, List·Memᴰ·head, List·Memᴰ·tail, List·Memᴰ·cases-cons, List·Memᴰ·append-cases, List·Memᴰ·eq-of-singleton, Memᴰ·append-left, Memᴰ·append-right, Memᴰ·map, Memᴰ·of-map, Memᴰ·cast}
+use mathlib.Core.List.{map-append, List, [], _∷_, _++_, map, map-map, List·Memᴰ, List·Memᴰ·head, List·Memᴰ·tail, List·Memᴰ·cases-cons, List·Memᴰ·append-cases, List·Memᴰ·eq-of-singleton, Memᴰ·append-left, Memᴰ·append-right, Memᴰ·map, Memᴰ·of-map, Memᴰ·cast}
 use mathlib.Core.Logic.{_⊎_, inl, inr, _≢_}
 use Prim.Native.Nat.{ℕ}
 use Rattle.lists.specs.Members.{Distinct, All}
@@ -18,7 +18,7 @@ use Rattle.geometry.specs.Meaning.{Some, Differ}
 use Rattle.geometry.specs.Drawing.{Good, ClearCurves, Drawn}
 use Rattle.geometry.proofs.Edits.{change, append}
 use Rattle.grown.proofs.Readings.{without}
-use Rattle.grown.proofs.CurvesLists.{map-append, all-keep, pairs-keep, distinct-keep, distinct-of, distinct-snoc, Found, found}
+use Rattle.grown.proofs.CurvesLists.{all-keep, pairs-keep, distinct-keep, distinct-of, distinct-snoc, Found, found}
 use Rattle.grown.proofs.CurvesSurvey.{Line, Place, curveIn, atIn, placeNumber, lineNumber, startOf, endOf, Plotted, Sited, Survey}
 
 -- ---- places

@@ -2,7 +2,7 @@
 use mathlib.Core.Path.{_≡_, refl, sym, ap, _∙_, subst}
 use mathlib.Core.Logic.{inl, inr}
 use mathlib.Core.Bool.{Bool, true, false}
-use mathlib.Core.List.{List, _∷_, List·Memᴰ, List·Memᴰ·head, List·Memᴰ·tail, List·Memᴰ·cases-cons}
+use mathlib.Core.List.{List, _∷_, List·Memᴰ, List·Memᴰ·head, List·Memᴰ·cases-cons}
 use mathlib.Core.Option.{Option·getD}
 use Prim.Native.Nat.{ℕ}
 use borrow.Author.Tests.{not-false}
@@ -14,20 +14,19 @@ use Rattle.planar.proofs.Rings.{rev-in}
 use Rattle.planar.proofs.Hooks.{fresh-dart, with-fwd, with-bwd, with-other}
 use Rattle.rotation.specs.Law.{from}
 use Rattle.map.specs.Rows.{Map, Sizes, node, hasNode}
-use Rattle.map.specs.Darts.{arcs, directed, leaves, next, bears, ring, among}
+use Rattle.map.specs.Darts.{arcs, directed, leaves, next, ring, among}
 use Rattle.map.specs.Links.{cornerFace}
 use Rattle.map.specs.Edits.{drawn, addIsoEdge, drawnIn, splitsFace}
-use Rattle.grown.proofs.Readings.{arcOf, number-has, departs}
+use Rattle.grown.proofs.Readings.{number-has, departs}
 use Rattle.grown.proofs.RowChanges.{nodeNumber, noNode, InPlane}
 use Rattle.grown.proofs.Reasons.{AddLone, AddEdge}
 use Rattle.grown.proofs.Apart.{apart}
 use Rattle.grown.proofs.EdgesRings.{among-in, ring-leads}
 use Rattle.grown.proofs.EdgesReached.{Reached, even-darts, darts-even}
 use Rattle.grown.proofs.EdgesLaw.{from-in}
-use Rattle.grown.proofs.EdgesDrawn.{drawnRow}
 use Rattle.grown.proofs.LawfulForm.{Lawful, edge-new}
 use Rattle.grown.proofs.LawfulAdd.{lawful-lone, D-alone}
-use Rattle.grown.proofs.EdgesJoined.{Draws, draws-edge, all-D, D-faces, D-bears, D-linked, D-once, D-join}
+use Rattle.grown.proofs.EdgesJoined.{Draws, draws-edge, all-D, D-still, D-kept, D-faces, D-linked, D-once, D-join}
 
 -- ---- what the tickets' facts give
 
@@ -51,13 +50,6 @@ module _ (m : Map) (u v : ℕ) (c : Curve) (φ : ℕ) (draws : Draws m u v c φ)
   abbrev D : Map
   D = drawn u v c φ m
 
-  -- old directed edges bear what they bore
-  kept : (d : Dart) → List·Memᴰ d (directed m) → bears D d ≡ bears m d
-  kept d k = D-bears m u v c φ draws d (List·Memᴰ·tail (List·Memᴰ·tail k)) ∙ with-other (m .nextEdge) φ φ (bears m) d (fresh-dart (arcOf (drawnRow m u v c φ)) (arcs m) (draws .free .fresh) k)
-
-  still-in : {d : Dart} → List·Memᴰ d (directed m) → List·Memᴰ d (directed D)
-  still-in k = all-D m u v c φ draws (List·Memᴰ·tail (List·Memᴰ·tail k))
-
   same-faces : {f : ℕ} → List·Memᴰ f (D .faces) → List·Memᴰ f (m .faces)
   same-faces {f} k = subst (λ (l : List ℕ). List·Memᴰ f l) (D-faces m u v c φ draws) k
 
@@ -65,7 +57,7 @@ module _ (m : Map) (u v : ℕ) (c : Curve) (φ : ℕ) (draws : Draws m u v c φ)
   joined-planar has-u has-v leads o = D-join m u v c φ draws o (number-has nodeNumber noNode (m .nodes) u has-u) (number-has nodeNumber noNode (m .nodes) v has-v) leads
 
   joined-reached : Reached m → Reached (drawn u v c φ m)
-  joined-reached r S even f i = r S (darts-even m (draws .once) S (λ d k. ap S (sym (kept d k)) ∙ even-darts D S even d (still-in k) ∙ ap S (kept (rev d) (rev-in (arcs m) k)))) f (same-faces i)
+  joined-reached r S even f i = r S (darts-even m (draws .once) S (λ d k. ap S (sym (D-kept m u v c φ draws d k)) ∙ even-darts D S even d (D-still m u v c φ draws k) ∙ ap S (D-kept m u v c φ draws (rev d) (rev-in (arcs m) k)))) f (same-faces i)
 
 -- ---- kind 4
 

@@ -1,7 +1,7 @@
 -- An edge drawn in between two corners of one face: a linked map stays linked. Where both sides of the edge are on one ring, or its faces are told apart, a map in the plane stays one. Assumes nothing.
 use mathlib.Core.Path.{_≡_, refl, sym, ap, _∙_, subst}
 use mathlib.Core.Bool.{Bool, true}
-use mathlib.Core.List.{List, _∷_, List·Memᴰ, List·Memᴰ·head, List·Permᴰ, Permᴰ·symm, Permᴰ·map}
+use mathlib.Core.List.{List, _∷_, List·Memᴰ, List·Memᴰ·head, List·Memᴰ·tail, List·Permᴰ, Permᴰ·symm, Permᴰ·map}
 use Prim.Native.Nat.{ℕ, suc}
 use lib.ListN.{length}
 use Rattle.lists.specs.Members.{Distinct}
@@ -15,7 +15,7 @@ use Rattle.planar.specs.Weave.{with-edge, lone, Corner, woven, Fits}
 use Rattle.planar.specs.Planar.{Planar}
 use Rattle.planar.proofs.Cycles.{Grown}
 use Rattle.planar.proofs.Rings.{next-in}
-use Rattle.planar.proofs.Rows.{planar-agree}
+use Rattle.planar.proofs.Agree.{planar-agree}
 use Rattle.planar.proofs.Agree.{linked-agree}
 use Rattle.planar.proofs.Moves.{linked-perm, planar-perm}
 use Rattle.planar.proofs.Weaving.{woven-linked, planar-join, planar-split}
@@ -132,6 +132,13 @@ module _ (m : Map) (u v : ℕ) (c : Curve) (φ : ℕ) (draws : Draws m u v c φ)
 
   pub D-bears : (d : Dart) → List·Memᴰ d all → bears D d ≡ F d
   D-bears = drawing.D-bears m u v c φ (draws .free)
+
+  -- old directed edges are there, and bear what they bore
+  pub D-still : {d : Dart} → List·Memᴰ d (directed m) → List·Memᴰ d (directed D)
+  D-still k = all-D (List·Memᴰ·tail (List·Memᴰ·tail k))
+
+  pub D-kept : (d : Dart) → List·Memᴰ d (directed m) → bears D d ≡ bears m d
+  D-kept d k = D-bears d (List·Memᴰ·tail (List·Memᴰ·tail k)) ∙ old φ φ (bears m) d k
 
   pub D-faces : D .faces ≡ m .faces
   D-faces = drawing.D-faces m u v c φ (draws .free)

@@ -9,9 +9,10 @@ use Rattle.lists.specs.Tests.{same}
 use Rattle.lists.specs.Scans.{keep}
 use Rattle.lists.specs.Members.{Distinct}
 use Rattle.lists.proofs.Bools.{same-refl, same-eq, same-false, equal?, or-right}
-use Rattle.lists.proofs.Keeps.{keep-in, keep-has, keep-all}
+use Rattle.lists.proofs.Keeps.{keep-has, keep-all}
 use Rattle.grown.proofs.Readings.{keep-cong}
 use Rattle.grown.proofs.EdgesShared.{length-without}
+use Rattle.grown.proofs.Forms.{distinct-keep}
 
 keep-both : {A : Type 0} (p q : A → Bool) (l : List A) → keep q (keep p l) ≡ keep (λ x. p x && q x) l
 keep-both p q [] = refl
@@ -19,14 +20,6 @@ keep-both {A} p q (x ∷ l) = go (p x) (keep-both p q l)
   where
     go : (b : Bool) → keep q (keep p l) ≡ keep (λ x. p x && q x) l → keep q (cond b (x ∷ keep p l) (keep p l)) ≡ cond (b && q x) (x ∷ keep (λ x. p x && q x) l) (keep (λ x. p x && q x) l)
     go true ih = ap (λ (k : List A). cond (q x) (x ∷ k) k) ih
-    go false ih = ih
-
-distinct-keep : {A : Type 0} (p : A → Bool) (l : List A) → Distinct l → Distinct (keep p l)
-distinct-keep p [] dis = tt
-distinct-keep {A} p (x ∷ l) dis = go (p x) (distinct-keep p l (dis .1))
-  where
-    go : (b : Bool) → Distinct (keep p l) → Distinct (cond b (x ∷ keep p l) (keep p l))
-    go true ih = (λ k. dis .0 (keep-in p l k .0), ih)
     go false ih = ih
 
 -- the faces L and R become g

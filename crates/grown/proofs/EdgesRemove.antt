@@ -13,7 +13,7 @@ use Rattle.planar.specs.Planar.{Planar}
 use Rattle.planar.proofs.Bridges.{Either, Shrunk}
 use Rattle.planar.proofs.Rings.{rev-in}
 use Rattle.planar.proofs.Moves.{planar-perm}
-use Rattle.planar.proofs.Rows.{planar-agree}
+use Rattle.planar.proofs.Agree.{planar-agree}
 use Rattle.rotation.specs.Law.{others}
 use Rattle.rotation.specs.Law as rotation
 use Rattle.map.specs.Rows.{Map, edge}

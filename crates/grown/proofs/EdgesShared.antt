@@ -9,7 +9,7 @@ use lib.ListN.{length, length-append}
 use Rattle.lists.specs.Tests.{same}
 use Rattle.lists.specs.Scans.{keep}
 use Rattle.lists.specs.Members.{Distinct}
-use Rattle.lists.proofs.Bools.{which, same-false, same-eq, equal?, not-true}
+use Rattle.lists.proofs.Bools.{same-false, same-eq, equal?, not-true}
 use Rattle.lists.proofs.Keeps.{keep-in}
 use Rattle.lists.proofs.Perms.{perm-length}
 use Rattle.planar.specs.Map.{Dart, rev, Linked}

@@ -6,7 +6,7 @@ use Prim.Native.Nat.{ℕ}
 use Rattle.planar.specs.Map.{Arc, Dart, fwd, bwd, rev, darts}
 use Rattle.planar.specs.Rings.{sameDart}
 use Rattle.planar.specs.Planar.{Planar}
-use Rattle.planar.proofs.Rows.{planar-agree}
+use Rattle.planar.proofs.Agree.{planar-agree}
 use Rattle.curves.specs.Curves.{startWay}
 use Rattle.rotation.specs.Law.{Law}
 use Rattle.map.specs.Rows.{Edge, Map, edge, hasEdge}

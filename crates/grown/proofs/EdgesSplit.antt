@@ -18,7 +18,7 @@ use Rattle.planar.specs.Map.{Arc, Dart, fwd, bwd, rev, darts, Linked}
 use Rattle.planar.specs.Planar.{Planar}
 use Rattle.planar.proofs.Cycles.{Grown}
 use Rattle.planar.proofs.Rings.{rev-in}
-use Rattle.planar.proofs.Hooks.{fresh-dart, with-fwd, with-bwd, with-other}
+use Rattle.planar.proofs.Hooks.{with-fwd, with-bwd}
 use Rattle.map.specs.Rows.{Node, Map, hasNode, atNodes, atEdge}
 use Rattle.map.specs.Darts.{arcs, directed, leaves, next, bears, ring, among}
 use Rattle.map.specs.Links.{redirect, lead, linkIn, linkEdge}
@@ -31,7 +31,7 @@ use Rattle.grown.proofs.EdgesSides.{sides-arcs, sides-bears, sides-plan
 use Rattle.grown.proofs.EdgesShared.{side-new, side-old, side-keeps, side-x, side-rev, apart-rev, Sharing, sharesOf, facesOf, sharing}
 use Rattle.grown.proofs.EdgesDrawn.{drawnRow}
 use Rattle.grown.proofs.EdgesCorners.{nodeNumbers}
-use Rattle.grown.proofs.EdgesJoined.{Draws, all-D, D-bears, D-faces, D-linked, D-once, D-split}
+use Rattle.grown.proofs.EdgesJoined.{Draws, all-D, D-still, D-kept, D-bears, D-faces, D-linked, D-once, D-split}
 
 -- what the faces of a map give
 pub record Faced (m : Map) : Type 0 where
@@ -94,9 +94,6 @@ module _ (news : Bool) (m : Map) (u v : ℕ) (c : Curve) (φ : ℕ) (draws : Dra
   on-b : bears D b ≡ old
   on-b = D-bears m u v c φ draws b (List·Memᴰ·tail (List·Memᴰ·head refl)) ∙ with-bwd (m .nextEdge) φ φ (bears m) ∙ sym on-f
 
-  kept : (d : Dart) → List·Memᴰ d (directed m) → bears D d ≡ bears m d
-  kept d k = D-bears m u v c φ draws d (List·Memᴰ·tail (List·Memᴰ·tail k)) ∙ with-other (m .nextEdge) φ φ (bears m) d (fresh-dart (arcOf (drawnRow m u v c φ)) (arcs m) (draws .free .fresh) k)
-
   next-face : D .nextFace ≡ m .nextFace + 0
   unfolding drawn atNodes linkEdge linkIn lead redirect atEdge
   next-face = refl
@@ -136,8 +133,8 @@ module _ (news : Bool) (m : Map) (u v : ℕ) (c : Curve) (φ : ℕ) (draws : Dra
   -- an old directed edge had the face φ and comes to one of the sides, or bears what it bore
   old-side : (d : Dart) → List·Memᴰ d (directed m) → ((bears m d ≡ φ) × ((new d ≡ s .ref) ⊎ (new d ≡ s .other))) ⊎ ((bears m d ≢ φ) × (new d ≡ bears m d))
   old-side d k = elim (equal? (bears m d) φ) [
-    | inl p ↦ inl (p, side-new D s d (kept d k ∙ p ∙ sym on-f))
-    | inr ne ↦ inr (ne, side-old D s d (λ p. ne (sym (kept d k) ∙ p ∙ on-f)) ∙ kept d k)
+    | inl p ↦ inl (p, side-new D s d (D-kept m u v c φ draws d k ∙ p ∙ sym on-f))
+    | inr ne ↦ inr (ne, side-old D s d (λ p. ne (sym (D-kept m u v c φ draws d k) ∙ p ∙ on-f)) ∙ D-kept m u v c φ draws d k)
   ]
 
   -- both new numbers go back to the old face
@@ -194,9 +191,6 @@ module _ (news : Bool) (m : Map) (u v : ℕ) (c : Curve) (φ : ℕ) (draws : Dra
   in-X : {d : Dart} → List·Memᴰ d (directed D) → List·Memᴰ d (directed X)
   in-X {d} k = subst (λ (es : List Arc). List·Memᴰ d (darts es)) (sym (sides-arcs D X (λ e. new (fwd (e .number))) (λ e. new (bwd (e .number))) X-edges)) k
 
-  still-in : {d : Dart} → List·Memᴰ d (directed m) → List·Memᴰ d (directed D)
-  still-in k = all-D m u v c φ draws (List·Memᴰ·tail (List·Memᴰ·tail k))
-
   pub split-reached : Reached m → Reached (splitFace news (m .nextEdge) (drawn u v c φ m))
   split-reached reached S even g i = elim (shared .faces g (subst (λ (l : List ℕ). List·Memᴰ g l) X-faces i)) [
     | inl (inl p) ↦ ap S p ∙ sym at-φ ∙ all φ there
@@ -222,8 +216,8 @@ module _ (news : Bool) (m : Map) (u v : ℕ) (c : Curve) (φ : ℕ) (draws : Dra
 
       same-side : (d : Dart) → List·Memᴰ d (directed m) → S₀ (bears m d) ≡ S (bears X d)
       same-side d k = elim (old-side d k) [
-        | inl q ↦ ap S₀ (q .0) ∙ at-φ ∙ elim (q .1) [ inl p ↦ ap S (sym p) | inr p ↦ sides ∙ ap S (sym p) ] ∙ ap S (sym (X-bears d (still-in k)))
-        | inr q ↦ at-other (bears m d) (q .0) ∙ ap S (sym (q .1) ∙ sym (X-bears d (still-in k)))
+        | inl q ↦ ap S₀ (q .0) ∙ at-φ ∙ elim (q .1) [ inl p ↦ ap S (sym p) | inr p ↦ sides ∙ ap S (sym p) ] ∙ ap S (sym (X-bears d (D-still m u v c φ draws k)))
+        | inr q ↦ at-other (bears m d) (q .0) ∙ ap S (sym (q .1) ∙ sym (X-bears d (D-still m u v c φ draws k)))
       ]
 
       zero : S₀ 0 ≡ S 0
@@ -233,4 +227,4 @@ module _ (news : Bool) (m : Map) (u v : ℕ) (c : Curve) (φ : ℕ) (draws : Dra
       ]
 
       all : (g : ℕ) → List·Memᴰ g (m .faces) → S₀ g ≡ S 0
-      all g k = reached S₀ (darts-even m (draws .once) S₀ (λ d k. same-side d k ∙ even-darts X S even d (in-X (still-in k)) ∙ sym (same-side (rev d) (rev-in (arcs m) k)))) g k ∙ zero
+      all g k = reached S₀ (darts-even m (draws .once) S₀ (λ d k. same-side d k ∙ even-darts X S even d (in-X (D-still m u v c φ draws k)) ∙ sym (same-side (rev d) (rev-in (arcs m) k)))) g k ∙ zero

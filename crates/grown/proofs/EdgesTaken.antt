@@ -11,7 +11,7 @@ use Rattle.planar.specs.Weave.{after, tie}
 use Rattle.planar.specs.Planar.{Planar}
 use Rattle.planar.proofs.Bridges.{Shrunk}
 use Rattle.planar.proofs.Hooks.{sameDart?, fwd≢bwd, fresh-dart, distinct-darts, hook-linked}
-use Rattle.planar.proofs.Rows.{planar-agree}
+use Rattle.planar.proofs.Agree.{planar-agree}
 use Rattle.planar.proofs.Unweaving.{planar-part, planar-merge}
 use Rattle.rotation.specs.Law.{redirect, unlinkEdge}
 use Rattle.rotation.proofs.Tells.{is-yes, is-no}

@@ -17,7 +17,8 @@ use Rattle.grown.proofs.EdgesReached.{Reached}
 use Rattle.grown.proofs.EdgesAdded.{faced}
 use Rattle.grown.proofs.EdgesRemove.{Merging, taken-planar, taken-reached}
 use Rattle.grown.proofs.LawfulForm.{Lawful, good-lawful}
-use Rattle.grown.proofs.LawfulRemove.{undrawn-faces, lone-taken}
+use Rattle.grown.proofs.NumbersEdges.{undrawn-face-list}
+use Rattle.grown.proofs.LawfulRemove.{lone-taken}
 use Rattle.grown.proofs.RowChanges.{InPlane}
 
 -- two members of a list of one
@@ -48,8 +49,8 @@ module _ (m : Map) (e : ℕ) (good : Good m) (h : RemoveLone m e) where
     back = λ g. g;
     goes-back = λ g k. inl refl;
     zero = refl;
-    faces = λ g k. (g, subst (λ (l : List ℕ). List·Memᴰ g l) (undrawn-faces e (edge m e .left) m) k, refl);
-    count = inl (one-face, ap length (undrawn-faces e (edge m e .left) m));
+    faces = λ g k. (g, subst (λ (l : List ℕ). List·Memᴰ g l) (undrawn-face-list e (edge m e .left) m) k, refl);
+    count = inl (one-face, ap length (undrawn-face-list e (edge m e .left) m));
   }
 
   pub planar-5 : InPlane (removeIsoEdge e m)

@@ -159,18 +159,6 @@ module _ (h : ℕ) (c d : Dart) (s n t : ℕ) (r : List Arc) {tail tail′ : Dar
 
   -- ---- faces
 
-  pub split-borne : (φ : ℕ) → (z : Dart) × List·Memᴰ z all × (face z ≡ φ) → (z : Dart) × List·Memᴰ z all′ × (face′ z ≡ φ)
-  split-borne φ x = (departs h c d (x .0), of-halved (departs h c d (x .0)) (f-in h c d s n t r (H .fresh) (H .once) (x .0) (in-whole (x .0) (x .1))), H .faces (x .0) (in-whole (x .0) (x .1)) ∙ x .2)
-
-  pub heal-borne : (φ : ℕ) → (z : Dart) × List·Memᴰ z all′ × (face′ z ≡ φ) → (z : Dart) × List·Memᴰ z all × (face z ≡ φ)
-  heal-borne φ x = elim (kind h c d s n t r (H .fresh) (H .once) (x .0) (in-halved (x .0) (x .1))) [
-    | inl q ↦ elim q [
-      | inl e ↦ (bwd h, of-whole (bwd h) (List·Memᴰ·tail (List·Memᴰ·head refl)), sym (H .face-c) ∙ ap face′ (sym e) ∙ x .2)
-      | inr e ↦ (fwd h, of-whole (fwd h) (List·Memᴰ·head refl), sym (H .face-d) ∙ ap face′ (sym e) ∙ x .2)
-    ]
-    | inr q ↦ (q .0, of-whole (q .0) (q .1), sym (H .faces (q .0) (q .1)) ∙ ap face′ (q .2) ∙ x .2)
-  ]
-
   face-whole : face′ c ≡ face (fwd h)
   face-whole = ap face′ (sym (f-fwd h c d s n t r (H .fresh) (H .once))) ∙ H .faces (fwd h) (List·Memᴰ·head refl)
 

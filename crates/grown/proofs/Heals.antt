@@ -8,18 +8,17 @@ use Rattle.lists.proofs.Bools.{same-refl, same-false, eq2}
 use Rattle.plane.specs.Directions.{Way}
 use Rattle.planar.specs.Map.{Arc, Dart, fwd, bwd, rev, darts}
 use Rattle.planar.specs.Pieces.{nums, Isolated}
-use Rattle.planar.specs.Weave.{with-edge, renamed, healed, heal-next}
+use Rattle.planar.specs.Weave.{with-edge, renamed, heal-next}
 use Rattle.planar.specs.Planar.{Planar}
 use Rattle.planar.proofs.Cycles.{fwd-in}
-use Rattle.planar.proofs.Hooks.{sameDart-false, fwd≢bwd, fresh-dart, with-fwd, with-bwd, with-other}
-use Rattle.planar.proofs.Rows.{planar-agree}
+use Rattle.planar.proofs.Hooks.{fwd≢bwd, fresh-dart, with-fwd, with-bwd, with-other}
+use Rattle.planar.proofs.Agree.{planar-agree}
 use Rattle.planar.proofs.Subdivide.{arc}
 use Rattle.planar.proofs.Splitting.{renamed-at, renamed-other}
-use Rattle.planar.proofs.Healing.{planar-heal}
-use Rattle.planar.proofs.Rings.{sameDart-refl}
+use Rattle.planar.proofs.Healing.{healed-at, healed-other, planar-heal}
 use Rattle.grown.proofs.Renumber.{runs, named, Named, planar-named}
 use Rattle.grown.proofs.Halved.{Halved, departs, arrives, whole, halved, each-whole, each-halved, f-fwd, f-bwd, f-old, g-fwd, g-bwd, g-old}
-use Rattle.grown.proofs.Splits.{map-same}
+use Rattle.grown.proofs.CurvesLists.{map-same}
 
 -- the dart of the number k that runs as z does where b is false, and against it where b is true
 abbrev onto : ℕ → Bool → Dart → Dart
@@ -31,14 +30,6 @@ onto-it k x = λ i. record { edge = k; back = eq2 (λ p q. p ⊕ p) (λ p q. fal
 
 onto-rev : (k : ℕ) (b : Bool) (x : Dart) → onto k b (rev x) ≡ rev (onto k b x)
 onto-rev k b x = λ i. record { edge = k; back = eq2 (λ p q. not p ⊕ q) (λ p q. not (p ⊕ q)) tt (x .back) b i }
-
-healed-at : (h k : ℕ) → healed h k (fwd h) ≡ fwd k
-unfolding healed
-healed-at h k = rw (sameDart-refl (fwd h))
-
-healed-other : (h k : ℕ) (z : Dart) → ((z ≡ fwd h) → ⊥) → healed h k z ≡ z
-unfolding healed
-healed-other h k z ne = rw (sameDart-false z (fwd h) ne)
 
 -- k is a number for the second half, meanwhile
 module _ (h k : ℕ) (c d : Dart) (s n t : ℕ) (r : List Arc) {tail tail′ : Dart → ℕ} {next next′ : Dart → Dart} {face face′ : Dart → ℕ} {way way′ : Dart → Way}

@@ -1,14 +1,13 @@
 -- The joint of a heal: the two parts meet there, and no other directed edge departs from it. Assumes nothing.
 use mathlib.Core.Path.{_≡_, refl, sym, ap, _∙_}
 use mathlib.Core.Bool.{Bool, true, false, not, cond, _||_, true≢false, false≢true}
-use mathlib.Core.List.{List, [], _∷_, List·Memᴰ, List·Memᴰ·head, List·Memᴰ·tail, List·Memᴰ·cases-cons, List·Memᴰ·not-nil, List·Memᴰ·eq-of-singleton}
-use mathlib.Core.Option.{some, Option·getD}
+use mathlib.Core.List.{List, [], _∷_, List·Memᴰ, List·Memᴰ·cases-cons, List·Memᴰ·not-nil, List·Memᴰ·eq-of-singleton}
+use mathlib.Core.Option.{Option·getD}
 use mathlib.Core.Logic.{_⊎_, inl, inr, _≢_}
 use Prim.Native.Nat.{ℕ}
 use native.Mathlib.Omega.{arith}
 use lib.ListN.{length}
 use Rattle.lists.specs.Tests.{same}
-use Rattle.lists.specs.Scans.{find, isSome}
 use Rattle.lists.proofs.Bools.{same-true, differ, or-true}
 use Rattle.lists.proofs.Keeps.{keep-in}
 use Rattle.planar.specs.Map.{Dart, fwd, bwd, rev}
@@ -16,6 +15,7 @@ use Rattle.map.specs.Rows.{Map, edge, hasEdge}
 use Rattle.map.specs.Darts.{directed, leaves, departures, edgeEnds}
 use Rattle.map.specs.Edits.{sharedNodes, joint, parts}
 use Rattle.grown.proofs.Readings.{leaves-row, has-dart, departing}
+use Rattle.grown.proofs.Scanning.{found}
 use Rattle.grown.proofs.Reasons.{Heal}
 
 -- the directed edges c and d meet at n: c arrives, d departs
@@ -35,16 +35,6 @@ pub record Seamed (m : Map) (e f n : ℕ) (c d : Dart) : Type 0 where
   -- the far ends are elsewhere
   pub from : leaves m c ≢ n
   pub to : leaves m (rev d) ≢ n
-
--- what is found passes the test
-found : {A : Type 0} (u : A) (p : A → Bool) (l : List A) → isSome (find p l) ≡ true → List·Memᴰ (Option·getD (find p l) u) l × (p (Option·getD (find p l) u) ≡ true)
-found u p [] h = absurd (false≢true h)
-found {A} u p (x ∷ l) h = go (p x) refl (found u p l) h
-  where
-    go : (b : Bool) → p x ≡ b → (isSome (find p l) ≡ true → List·Memᴰ (Option·getD (find p l) u) l × (p (Option·getD (find p l) u) ≡ true)) → isSome (cond b (some x) (find p l)) ≡ true
-        → List·Memᴰ (Option·getD (cond b (some x) (find p l)) u) (x ∷ l) × (p (Option·getD (cond b (some x) (find p l)) u) ≡ true)
-    go true e ih k = (List·Memᴰ·head refl, e)
-    go false e ih k = (List·Memᴰ·tail (ih k .0), ih k .1)
 
 -- a list of two elements has no third
 third : {A : Type 0} (l : List A) → length l ≡ 2 → {x y z : A} → x ≢ y → List·Memᴰ x l → List·Memᴰ y l → List·Memᴰ z l → (z ≡ x) ⊎ (z ≡ y)
@@ -70,7 +60,7 @@ module _ (m : Map) (e f : ℕ) (h : Heal m e f) where
 
   found-joint : List·Memᴰ at (sharedNodes m e f) × (same (edgeEnds m at) 2 ≡ true)
   unfolding joint
-  found-joint = found 0 (λ n. same (edgeEnds m n) 2) (sharedNodes m e f) (h .joint)
+  found-joint = found (λ n. same (edgeEnds m n) 2) 0 (sharedNodes m e f) (h .joint)
 
   -- an end of e and an end of f
   shared : ((at ≡ edge m e .end) ⊎ (at ≡ edge m e .start)) × ((at ≡ edge m f .start) ⊎ (at ≡ edge m f .end))

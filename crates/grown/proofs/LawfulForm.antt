@@ -41,7 +41,7 @@ use Rattle.grown.specs.Good.{Anchored, Good}
 use Rattle.grown.proofs.Readings.{numberOf, nums-rows, departing}
 use Rattle.grown.proofs.RowChanges.{nodeNumber, node-row}
 use Rattle.grown.proofs.Scanning.{all-each, each-all, none-has}
-use Rattle.grown.proofs.Apart.{curve-good}
+use Rattle.grown.proofs.Apart.{curve-long}
 use Rattle.grown.proofs.Forms.{good-formed}
 use Rattle.grown.proofs.EdgesLaw.{from-in, from-has}
 
@@ -159,8 +159,4 @@ module _ (m : Map) (h : formed m ≡ true) where
 
 -- a good map is such a map, so what is said here of a kind holds of it
 pub good-lawful : (m : Map) → Good m → Lawful m
-good-lawful m g = formed-lawful m (good-formed m g) (λ r k. two (r .curve .first) (r .curve .rest) (curve-good m (g .surveyed) r k .some)) (law-is m (g .woven .law))
-  where
-    two : (p : Point) (r : List Point) → Some r → 2 ≤ length (p ∷ r)
-    two p [] h = absurd h
-    two p (q ∷ r) h = omega arith
+good-lawful m g = formed-lawful m (good-formed m g) (curve-long m (g .surveyed)) (law-is m (g .woven .law))

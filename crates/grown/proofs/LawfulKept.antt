@@ -1,21 +1,14 @@
--- After every carried-out ticket all links obey the law, given that they did before: on all tables in form. Assumes nothing.
+-- After every carried-out ticket all links obey the law, given that they did before. Assumes nothing.
 use mathlib.Core.Path.{_≡_}
 use mathlib.Core.Bool.{true, false}
-use mathlib.Core.List.{List·Memᴰ}
-use Prim.Native.Nat.{_≤_}
 use lib.IntN.{natAbs}
-use lib.ListN.{length}
-use Rattle.curves.specs.Curves.{points, point, curveOf}
-use Rattle.geometry.proofs.Booleans.{and-true}
-use Rattle.map.specs.Rows.{Edge, Map, Lent, Sizes, mapOf, sizesOf}
-use Rattle.map.specs.Links.{obeysLaw}
-use Rattle.map.specs.Form.{ranged, formed, inForm}
+use Rattle.curves.specs.Curves.{point, curveOf}
+use Rattle.map.specs.Rows.{Map, Sizes}
 use Rattle.map.specs.Tickets.{Ticket, AddIsoNode, MoveIsoNode, RemoveIsoNode, AddIsoEdge, RemoveIsoEdge, ChangeEdgeGeom, NewEdgesSplit, ModEdgeSplit, NewEdgeHeal, ModEdgeHeal, AddEdgeNewFaces, AddEdgeModFace, RemEdgeNewFace, RemEdgeModFace}
 use Rattle.map.specs.Reasons.{firstReason, reasons}
 use Rattle.map.specs.Ticket.{carried}
-use Rattle.map.proofs.Laws.{in-form-points}
 use Rattle.grown.proofs.Reasons as facts
-use Rattle.grown.proofs.LawfulForm.{Obeys, Lawful, law-is, formed-lawful}
+use Rattle.grown.proofs.LawfulForm.{Obeys, Lawful}
 use Rattle.grown.proofs.LawfulChange.{add-node-obeys, move-node-obeys, remove-node-obeys, change-obeys}
 use Rattle.grown.proofs.LawfulSplit.{split-obeys, mod-split-obeys}
 use Rattle.grown.proofs.LawfulHeal.{heal-obeys, mod-heal-obeys}
@@ -40,12 +33,3 @@ module _ (s : Sizes) (m : Map) (L : Lawful m) where
   carried-obeys (AddEdgeModFace u v c) h = add-edge-obeys m L s (natAbs u) (natAbs v) (curveOf c) false (facts.add-mod s m u v c h)
   carried-obeys (RemEdgeNewFace e) h = remove-edge-obeys m L (natAbs e) (facts.remove-new s m e h .has) true
   carried-obeys (RemEdgeModFace e) h = remove-edge-obeys m L (natAbs e) (facts.remove-mod s m e h) false
-
--- the theorem, on maps
-pub lawful-kept : (s : Sizes) (m : Map) (t : Ticket) → formed m ≡ true → ((r : Edge) → List·Memᴰ r (m .edges) → 2 ≤ length (points (r .curve))) → obeysLaw m ≡ true → firstReason (reasons s m t) ≡ 0 → obeysLaw (carried m t .0) ≡ true
-lawful-kept s m t form least law h = law-is (carried m t .0) (carried-obeys s m (formed-lawful m form least law) t h)
-
--- and on the map of tables in form
-pub lawful-tables : (l : Lent) (t : Ticket) → inForm l ≡ true → obeysLaw (mapOf l) ≡ true → firstReason (reasons (sizesOf l) (mapOf l) t) ≡ 0 → obeysLaw (carried (mapOf l) t .0) ≡ true
-unfolding inForm
-lawful-tables l t form law h = lawful-kept (sizesOf l) (mapOf l) t (and-true (ranged l) (formed (mapOf l)) form .1) (λ r k. in-form-points l form r k .least) law h

@@ -42,6 +42,9 @@ use Rattle.grown.proofs.Apart.{apart}
 abbrev notOf : ℕ → Dart → Bool
 notOf e d = not (same (d .edge) e)
 
+left-of : (m X : Map) (e : ℕ) → directed X ≡ keep (notOf e) (directed m) → {d : Dart} → List·Memᴰ d (directed X) → List·Memᴰ d (directed m) × (d .edge ≢ e)
+left-of m X e q {d} k = let j = keep-in (notOf e) (directed m) (subst (List·Memᴰ d) q k) in (j .0, λ p. true≢false (sym (j .1) ∙ ap (λ x. not (same x e)) p ∙ ap not (same-refl e)))
+
 -- X is m without the edge e, unlinked; μ says what faces became
 pub record Taken (m X : Map) (e : ℕ) (μ : ℕ → ℕ) : Type 0 where
   pub from : ℕ
@@ -84,7 +87,7 @@ module _ (m m₁ X : Map) (e : ℕ) (μ : ℕ → ℕ) (dis : Distinct (nums (ar
   X-darts = less-directed m₃ X e rows ∙ ap (λ (es : List Arc). keep (notOf e) (darts es)) arcs₃
 
   kept : {d : Dart} → List·Memᴰ d (directed X) → List·Memᴰ d (directed m) × (d .edge ≢ e)
-  kept {d} k = let j = keep-in (notOf e) (directed m) (subst (λ (l : List Dart). List·Memᴰ d l) X-darts k) in (j .0, λ p. true≢false (sym (j .1) ∙ ap (λ x. not (same x e)) p ∙ ap not (same-refl e)))
+  kept = left-of m X e X-darts
 
   -- the old row
   row : (d : Dart) → List·Memᴰ d (directed X) → edge X (d .edge) ≡ edge m₃ (d .edge)
@@ -128,15 +131,11 @@ module _ (e g : ℕ) (m : Map) where
   unfolding undrawn atNodes
   undrawn-edges = refl
 
-  pub undrawn-faces : undrawn e g m .faces ≡ m .faces
-  unfolding undrawn atNodes unlinkEdge redirect
-  undrawn-faces = refl
-
 -- ---- the directed edges that are left, and the law
 
 module _ {m X : Map} {e : ℕ} {μ : ℕ → ℕ} (t : Taken m X e μ) where
   pub left : {d : Dart} → List·Memᴰ d (directed X) → List·Memᴰ d (directed m) × (d .edge ≢ e)
-  left {d} k = let j = keep-in (notOf e) (directed m) (subst (λ (l : List Dart). List·Memᴰ d l) (t .darts) k) in (j .0, λ p. true≢false (sym (j .1) ∙ ap (λ x. not (same x e)) p ∙ ap not (same-refl e)))
+  left = left-of m X e (t .darts)
 
   pub stays : {d : Dart} → List·Memᴰ d (directed m) → d .edge ≢ e → List·Memᴰ d (directed X)
   stays {d} k ne = subst (λ (l : List Dart). List·Memᴰ d l) (sym (t .darts)) (keep-has (notOf e) (directed m) k (ap not (same-false (d .edge) e ne)))

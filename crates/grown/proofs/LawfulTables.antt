@@ -1,14 +1,13 @@
 -- A ticket keeps the law in the tables: what the map after it comes to is read back from them. Assumes nothing.
 use mathlib.Core.Path.{_≡_, refl, sym, ap, _∙_, subst}
-use mathlib.Core.Logic.{inl, inr, _≢_}
-use mathlib.Core.Bool.{Bool, true, false, cond, not, false≢true}
+use mathlib.Core.Logic.{inl, inr}
+use mathlib.Core.Bool.{Bool, true, false, cond, not}
 use mathlib.Core.List.{List, [], _∷_, _++_, map, map-map, append-assoc, List·Memᴰ, List·Memᴰ·append-cases, List·Memᴰ·eq-of-singleton, Memᴰ·map, Memᴰ·of-map}
 use mathlib.Core.Option.{Option, none, some}
 use Prim.Native.Nat.{ℕ, zero, suc, _+_, _≤_, _<_}
 use native.Mathlib.Omega.{arith}
-use borrow.Author.Tests.{not-false, leb-true}
-use lib.Dec.{leb}
-use lib.IntN.{ℤ, pos, negsuc, natAbs}
+use borrow.Author.Tests.{not-false}
+use lib.IntN.{ℤ, natAbs}
 use lib.ListN.{length}
 use Rattle.lists.specs.Tests.{same}
 use Rattle.lists.specs.Members.{Distinct}
@@ -35,7 +34,7 @@ use Rattle.map.specs.Form.{within, ranged, formed, inForm}
 use Rattle.map.specs.Tickets.{Ticket, AddIsoNode, MoveIsoNode, RemoveIsoNode, AddIsoEdge, RemoveIsoEdge, ChangeEdgeGeom, NewEdgesSplit, ModEdgeSplit, NewEdgeHeal, ModEdgeHeal, AddEdgeNewFaces, AddEdgeModFace, RemEdgeNewFace, RemEdgeModFace, read}
 use Rattle.map.specs.Reasons.{firstReason, reasons}
 use Rattle.map.specs.Ticket.{carried, lentReasons, unless, judged, ticket}
-use Rattle.map.proofs.RoundTrip.{Holds, reads-back, ranged-is}
+use Rattle.map.proofs.RoundTrip.{Holds, reads-back, within-least, ranged-is}
 use Rattle.map.proofs.Laws.{formed-is, in-form-points}
 use Rattle.grown.proofs.Readings.{arcOf, numberOf, nums-rows, next-row, edge-row, edge-at, row-has, has-dart, dart-has, without}
 use Rattle.grown.proofs.Changes.{last-first}
@@ -192,10 +191,6 @@ module _ (m : Map) (law : Obeys m) {N : ℕ} (sheet : Sheet N (lines m)) where
   lawful-back s = reads-back s m holds
 
 -- ---- the theorem
-
-within-least : (a b : ℕ) (z : ℤ) → within a b z ≡ true → a ≤ natAbs z
-within-least a b (pos n) h = leb-true a n (and-true (leb a n) (leb n b) h .0)
-within-least a b (negsuc n) h = absurd (false≢true h)
 
 module _ (l : Lent) (form : inForm l ≡ true) (law : obeysLaw (mapOf l) ≡ true) where
   both : (ranged l ≡ true) × (formed (mapOf l) ≡ true)

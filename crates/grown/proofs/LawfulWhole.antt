@@ -5,7 +5,7 @@ use mathlib.Core.Bool.{Bool, true, false, not, true≢false, false≢true}
 use mathlib.Core.List.{List, _∷_, map, map-map, List·Memᴰ, List·Memᴰ·head, List·Memᴰ·tail, Memᴰ·map, Memᴰ·cast, List·Permᴰ, Permᴰ·map, Permᴰ·symm}
 use Prim.Native.Nat.{ℕ}
 use Rattle.lists.specs.Members.{Distinct}
-use Rattle.lists.proofs.Perms.{perm-in, perm-distinct, injective-of-perm}
+use Rattle.lists.proofs.Perms.{perm-in, perm-distinct}
 use Rattle.plane.specs.Directions.{sameWay}
 use Rattle.curves.specs.Curves.{Curve, lastPoint, startWay, endWay}
 use Rattle.curves.specs.Edits.{joined, reversed}
@@ -13,7 +13,7 @@ use Rattle.planar.specs.Map.{Arc, Dart, fwd, bwd, rev, darts}
 use Rattle.planar.specs.Pieces.{nums}
 use Rattle.planar.specs.Rings.{sameDart}
 use Rattle.planar.proofs.Rings.{rev-in, next-in}
-use Rattle.planar.proofs.Hooks.{distinct-darts, fresh-dart}
+use Rattle.planar.proofs.Hooks.{fresh-dart}
 use Rattle.planar.proofs.Turns.{rev-rev}
 use Rattle.planar.proofs.Subdivide.{arc}
 use Rattle.rotation.proofs.Order.{sameWay-refl, sameWay-sym}
@@ -29,6 +29,7 @@ use Rattle.grown.proofs.Renumber.{runs}
 use Rattle.grown.proofs.RowDarts.{dart-move, dart-row, leaves-of, next-of, bears-of, way-of}
 use Rattle.grown.proofs.Halved as halved
 use Rattle.grown.proofs.Halved.{Halved, arrives, whole, each-whole, each-halved, f-fwd, f-bwd, f-old, g-fwd, g-bwd, g-old}
+use Rattle.grown.proofs.EdgesRings.{next-one}
 use Rattle.grown.proofs.HalvedLaw.{heal-lawful, lawful-other, swap}
 use Rattle.grown.proofs.SplitsRows.{instead-it, instead-other}
 use Rattle.grown.proofs.HealsRows.{wholeNames, relinked, healedRow, runs-row}
@@ -71,7 +72,7 @@ module _ (m : Map) (L : Lawful m) (e f n : ℕ) (c d : Dart) (seam : Seamed m e 
 
   -- no two lead to one
   one : (y z : Dart) → List·Memᴰ y (directed m) → List·Memᴰ z (directed m) → next m y ≡ next m z → y ≡ z
-  one = injective-of-perm (next m) (directed m) (distinct-darts (arcs m) (L .once)) (L .linked .perm)
+  one = next-one m (L .linked) (L .once)
 
   -- the two sides of both
   left-side : bears m d ≡ bears m c

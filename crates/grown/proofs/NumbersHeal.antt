@@ -1,15 +1,15 @@
 -- Numbers, faces and marks kept by kinds 9 and 10, a heal. Assumes nothing.
 use mathlib.Core.Path.{_≡_, refl, sym, ap, _∙_, subst}
 use mathlib.Core.Logic.{_⊎_, inl, inr, _≢_}
-use mathlib.Core.Bool.{Bool, true, false, cond, not, _||_, true≢false}
-use mathlib.Core.List.{List, [], _∷_, _++_, map, map-append, List·Memᴰ, List·Memᴰ·head, List·Memᴰ·tail, List·Memᴰ·cases-cons, List·Memᴰ·append-cases, List·Memᴰ·eq-of-singleton, Memᴰ·append-left, Memᴰ·append-right, Memᴰ·map, Memᴰ·cast}
-use mathlib.Core.Option.{some, Option·getD}
+use mathlib.Core.Bool.{Bool, true, false, cond, not, _||_}
+use mathlib.Core.List.{List, [], _∷_, _++_, map, map-append, List·Memᴰ, List·Memᴰ·head, List·Memᴰ·cases-cons, List·Memᴰ·append-cases, List·Memᴰ·eq-of-singleton, Memᴰ·append-left, Memᴰ·append-right, Memᴰ·map, Memᴰ·cast}
+use mathlib.Core.Option.{Option·getD}
 use Prim.Native.Nat.{ℕ, _+_, _≤_}
 use native.Mathlib.Nat.{add-zero}
 use native.Mathlib.Omega.{arith}
 use borrow.Author.Tests.{not-true}
 use Rattle.lists.specs.Tests.{same}
-use Rattle.lists.specs.Scans.{find, isSome}
+use Rattle.lists.specs.Scans.{isSome}
 use Rattle.lists.proofs.Bools.{same-true, same-false, differ, or-true}
 use Rattle.lists.proofs.Keeps.{keep-in, keep-has, keep-map}
 use Rattle.geometry.proofs.Booleans.{or-false, or-no}
@@ -18,7 +18,7 @@ use Rattle.map.specs.Rows.{Node, Edge, Map, edge, hasEdge, atEdge, withoutNode,
 use Rattle.map.specs.Darts.{leaves, arrives, edgeEnds, next}
 use Rattle.map.specs.Edits.{sharedNodes, joint, parts, healedCurve, heal}
 use Rattle.grown.proofs.Readings.{edge-row, leaves-row}
-use Rattle.grown.proofs.Scanning.{Rising, rising-keep}
+use Rattle.grown.proofs.Scanning.{Rising, rising-keep, found}
 use Rattle.grown.proofs.Numbers.{Outline, outlineOf, outlines, outlineNumber, EndsAt, Sided, RankedMap}
 use Rattle.grown.proofs.Outlines.{ranked-shape, outlines-map, outlines-without, lessOutline}
 use Rattle.grown.proofs.NumbersNodes.{ranked-less-nodes}
@@ -26,16 +26,6 @@ use Rattle.grown.proofs.NumbersEdges.{rising-outlines, outline-at, rank
 use Rattle.grown.proofs.NumbersSplit.{Replaced, Meeting, replaced-ranked, placing, placing-numbers, placing-in, placing-rest, placing-back, renaming, renaming-framed}
 
 -- ---- the joint
-
--- what is found is an element that p takes
-pub found : {A : Type 0} (p : A → Bool) (u : A) (l : List A) → isSome (find p l) ≡ true → List·Memᴰ (Option·getD (find p l) u) l × (p (Option·getD (find p l) u) ≡ true)
-found p u [] h = absurd (true≢false (sym h))
-found {A} p u (x ∷ l) h = go (p x) refl (found p u l) h
-  where
-    go : (b : Bool) → p x ≡ b → (isSome (find p l) ≡ true → List·Memᴰ (Option·getD (find p l) u) l × (p (Option·getD (find p l) u) ≡ true)) → isSome (cond b (some x) (find p l)) ≡ true
-        → List·Memᴰ (Option·getD (cond b (some x) (find p l)) u) (x ∷ l) × (p (Option·getD (cond b (some x) (find p l)) u) ≡ true)
-    go true e ih k = (List·Memᴰ·head refl, e)
-    go false e ih k = (List·Memᴰ·tail (ih k .0), ih k .1)
 
 -- the node to join at
 abbrev pub jointOf : Map → ℕ → ℕ → ℕ

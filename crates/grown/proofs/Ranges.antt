@@ -1,7 +1,7 @@
 -- A good map that fits is in form in its tables, and is read back from them. Assumes nothing.
-use mathlib.Core.Path.{_≡_, refl, sym, ap, _∙_, subst}
-use mathlib.Core.Bool.{Bool, true, false}
-use mathlib.Core.List.{List, [], _∷_, _++_, map, map-map, flatMap, append-assoc, List·Memᴰ, List·Memᴰ·head, List·Memᴰ·tail, Memᴰ·of-map}
+use mathlib.Core.Path.{_≡_, refl, sym, ap, _∙_}
+use mathlib.Core.Bool.{true}
+use mathlib.Core.List.{List, [], _∷_, _++_, map, flatMap, append-assoc, List·Memᴰ, List·Memᴰ·head, List·Memᴰ·tail, Memᴰ·of-map}
 use mathlib.Core.Option.{Option, none, some}
 use Prim.Native.Nat.{ℕ, zero, suc, _*_, _-_, _/_, _%_, _≤_}
 use native.Mathlib.Nat.{suc-mul, zero-mul, mul-le-mul-right, mul-div-cancel, mul-mod-left}
@@ -9,7 +9,7 @@ use native.Mathlib.Omega.{arith}
 use borrow.Author.Tests.{le-leb}
 use lib.Dec.{leb, leb·zero}
 use lib.IntN.{ℤ, pos, negsuc}
-use lib.ListN.{length, take, drop, replicate, length-append, length-replicate}
+use lib.ListN.{length, take, drop, replicate, length-append}
 use lib.Seq.{take-append-seam, drop-append-seam}
 use lib.Signed.{leZ}
 use Rattle.lists.specs.Tests.{same}
@@ -19,21 +19,16 @@ use Rattle.geometry.proofs.Booleans.{and-is}
 use Rattle.plane.specs.declared.Point.{Point}
 use Rattle.plane.specs.Points.{InRange, maxCoordinate}
 use Rattle.curves.specs.Curves.{points, coordinates, coordinate, maxPoints}
-use Rattle.planar.specs.Map.{Dart, fwd, bwd}
-use Rattle.planar.proofs.Rings.{next-in}
-use Rattle.geometry.specs.Meaning.{Some}
 use Rattle.map.specs.Limits.{maxNodes, maxEdges, maxFaces, lastNumber, nodeWidth, edgeWidth, faceWidth}
-use Rattle.map.specs.Rows.{Node, Edge, Map, Sizes, rows, filled, nodeCells, edgeCells, faceCells, faceCell, lentOf, mapOf, sizesOf, whole, wholeRows, nodeRows, edgeRows, faceRows, edge}
-use Rattle.map.specs.Darts.{next}
+use Rattle.map.specs.Rows.{Node, Edge, Map, Sizes, rows, filled, nodeCells, edgeCells, faceCells, faceCell, lentOf, mapOf, sizesOf, whole, wholeRows, nodeRows, edgeRows, faceRows}
 use Rattle.map.specs.Form.{within, isZero, restZero, nodeRanges, edgeRanges, faceRanges, ranged, formed, inForm, countsFit, nextsFit}
-use Rattle.map.proofs.RoundTrip.{Holds, reads-back}
+use Rattle.map.proofs.RoundTrip.{coordinates-length, filled-length}
+use Rattle.map.proofs.Laws.{formed-back}
 use Rattle.grown.specs.Good.{Good, Fits}
-use Rattle.grown.proofs.Readings.{numberOf, missing, number-has, row-has, edge-at, next-row, dart-has, has-dart}
 use Rattle.grown.proofs.Scanning.{each-all}
-use Rattle.grown.proofs.Numbers.{outlineOf, outlineNumber}
 use Rattle.grown.proofs.NumbersNodes.{zero-in}
 use Rattle.grown.proofs.Carried.{ranks}
-use Rattle.grown.proofs.Apart.{curve-good}
+use Rattle.grown.proofs.Apart.{curve-long}
 use Rattle.grown.proofs.Forms.{good-formed}
 
 -- ---- rows one after the other, and zeros behind
@@ -41,9 +36,6 @@ use Rattle.grown.proofs.Forms.{good-formed}
 zeros : (n : ℕ) → all isZero (replicate n (pos 0)) ≡ true
 zeros zero = refl
 zeros (suc n) = rw (same-refl 0) (zeros n)
-
-filled-length : (n : ℕ) (l : List ℤ) → length l ≤ n → length (filled n l) ≡ n
-filled-length n l h = simp (length-append, length-replicate) (omega arith)
 
 module _ {A : Type 0} (w : ℕ) (cells : A → List ℤ) where
   abbrev Wide : List A → Type 0
@@ -87,10 +79,6 @@ node-wide ns n k = refl
 
 face-wide : (fs : List ℕ) → Wide faceWidth faceCells fs
 face-wide fs f k = refl
-
-coordinates-length : (ps : List Point) → length (coordinates ps) ≡ 2 * length ps
-coordinates-length [] = refl
-coordinates-length (p ∷ ps) = let h = coordinates-length ps in omega arith
 
 edge-wide : (es : List Edge) → ((e : Edge) → List·Memᴰ e es → length (points (e .curve)) ≤ maxPoints) → Wide edgeWidth edgeCells es
 unfolding edgeCells
@@ -140,34 +128,9 @@ module _ (m : Map) (g : Good m) where
   few : (e : Edge) → List·Memᴰ e (m .edges) → length (points (e .curve)) ≤ maxPoints
   few e k = g .surveyed .kept e k .most
 
-  two : (e : Edge) → List·Memᴰ e (m .edges) → 2 ≤ length (points (e .curve))
-  two e k = go (e .curve .rest) (curve-good m (g .surveyed) e k .some)
-    where
-      go : (r : List Point) → Some r → 2 ≤ suc (length r)
-      go [] h = absurd h
-      go (p ∷ r) h = omega arith
-
-  -- a link names an edge from 1 on
-  linked : (b : Bool) (e : Edge) → List·Memᴰ e (m .edges) → 1 ≤ next m (record { edge = e .number; back = b }) .edge
-  linked b e k =
-      let d : Dart = record { edge = e .number; back = b } in
-      let h = dart-has m (next-in (g .woven .planar .linked) (has-dart m d (row-has m k))) in
-      ranks m g .edges .bounds (next m d .edge) (subst (List·Memᴰ (next m d .edge)) (sym (map-map outlineNumber outlineOf (m .edges))) (number-has numberOf missing (m .edges) (next m d .edge) h)) .0
-
-  holds : (e : Edge) → List·Memᴰ e (m .edges) → Holds e
-  holds e k =
-      let at : edge m (e .number) ≡ e = edge-at m (g .woven .planar .edges-once) k in
-      let l : next m (fwd (e .number)) ≡ e .nextLeft = next-row m (fwd (e .number)) ∙ ap (λ (x : Edge). x .nextLeft) at in
-      let r : next m (bwd (e .number)) ≡ e .nextRight = next-row m (bwd (e .number)) ∙ ap (λ (x : Edge). x .nextRight) at in
-      let p = linked false e k in
-      let q = linked true e k in
-      let l′ = ap (λ (x : Dart). x .edge) l in
-      let r′ = ap (λ (x : Dart). x .edge) r in
-      record { few = few e k; left = λ b z. omega arith; right = λ b z. omega arith }
-
   -- a good map is read back from its tables
   pub good-back : (s : Sizes) → mapOf (lentOf s m) ≡ m
-  good-back s = reads-back s m holds
+  good-back s = formed-back m (good-formed m g) s few
 
   module _ (s : Sizes) (f : Fits s m) where
     node-room : length (lentOf s m .nodes) / nodeWidth ≡ s .nodes
@@ -216,7 +179,7 @@ module _ (m : Map) (g : Good m) where
     edge-row-ranges = ap (all edgeRanges) (flat-rows edgeWidth edgeCells (m .edges) _ (edge-wide (m .edges) few)) ∙ each-all edgeRanges (map edgeCells (m .edges)) (λ r k. go r (Memᴰ·of-map edgeCells (m .edges) k))
       where
         go : (r : List ℤ) → (e : Edge) × List·Memᴰ e (m .edges) × (edgeCells e ≡ r) → edgeRanges r ≡ true
-        go r x = ap edgeRanges (sym (x .2)) ∙ edge-ranges (x .0) (two (x .0) (x .1)) (few (x .0) (x .1)) (g .surveyed .kept (x .0) (x .1) .in-range)
+        go r x = ap edgeRanges (sym (x .2)) ∙ edge-ranges (x .0) (curve-long m (g .surveyed) (x .0) (x .1)) (few (x .0) (x .1)) (g .surveyed .kept (x .0) (x .1) .in-range)
 
     face-row-ranges : all faceRanges (faceRows (lentOf s m)) ≡ true
     unfolding lentOf

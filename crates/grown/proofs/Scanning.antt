@@ -3,25 +3,22 @@ use mathlib.Core.Path.{_≡_, refl, sym, ap, _∙_}
 use mathlib.Core.Logic.{_⊎_, inl, inr}
 use mathlib.Core.Bool.{Bool, true, false, cond, _&&_, true≢false}
 use mathlib.Core.List.{List, [], _∷_, _++_, List·Memᴰ, List·Memᴰ·head, List·Memᴰ·tail, List·Memᴰ·cases-cons, List·Memᴰ·not-nil, List·Memᴰ·append-cases}
+use mathlib.Core.Option.{Option·getD}
 use Prim.Native.Nat.{ℕ, _+_, _≤_, _<_}
 use native.Mathlib.Omega.{arith}
 use borrow.Author.Tests.{ltb-true, leb-true, lt-ltb, le-leb}
 use lib.Dec.{leb, ltb}
-use Rattle.lists.specs.Scans.{any, all, keep, linked}
+use Rattle.lists.specs.Scans.{any, all, find, isSome, keep, linked}
 use Rattle.lists.specs.Members.{All, Pairs, Distinct}
 use Rattle.lists.proofs.Bools.{or-true, or-right}
 use Rattle.lists.proofs.Keeps.{keep-in}
 use Rattle.geometry.proofs.Booleans.{and-true, and-is, or-left, or-false}
 use Rattle.map.specs.Form.{numbered}
+use Rattle.map.proofs.Scans as scans
 
 module _ {A : Type 0} (p : A → Bool) where
   pub all-each : (l : List A) → all p l ≡ true → (x : A) → List·Memᴰ x l → p x ≡ true
-  all-each [] h x k = absurd (List·Memᴰ·not-nil k)
-  all-each (y ∷ l) h x k = step (all-each l (and-true (p y) (all p l) h .1) x) (List·Memᴰ·cases-cons k)
-    where
-      step : (List·Memᴰ x l → p x ≡ true) → (x ≡ y) ⊎ List·Memᴰ x l → p x ≡ true
-      step ih (inl e) = ap p e ∙ and-true (p y) (all p l) h .0
-      step ih (inr j) = ih j
+  all-each = scans.all-each p
 
   pub each-all : (l : List A) → ((x : A) → List·Memᴰ x l → p x ≡ true) → all p l ≡ true
   each-all [] h = refl
@@ -47,6 +44,10 @@ module _ {A : Type 0} (p : A → Bool) where
 pub none-has : {A : Type 0} (p : A → Bool) (l : List A) → any p l ≡ false → (x : A) → List·Memᴰ x l → p x ≡ false
 none-has p [] h x m = absurd (List·Memᴰ·not-nil m)
 none-has p (y ∷ l) h x m = let k = or-false (p y) (any p l) h in elim (List·Memᴰ·cases-cons m) [ inl e ↦ ap p e ∙ k .0 | inr j ↦ none-has p l (k .1) x j ]
+
+-- what is found is an element that p takes
+pub found : {A : Type 0} (p : A → Bool) (u : A) (l : List A) → isSome (find p l) ≡ true → List·Memᴰ (Option·getD (find p l) u) l × (p (Option·getD (find p l) u) ≡ true)
+found p u l h = let r = scans.find-some p l h in rw (r .3) (r .1, r .2)
 
 pub all-of : {A : Type 0} {R : A → Type 0} (l : List A) → ((x : A) → List·Memᴰ x l → R x) → All R l
 all-of [] h = tt

@@ -1,32 +1,25 @@
 -- A good map is sound, by document 01's four statements. Assumes nothing.
-use mathlib.Core.Path.{_≡_, refl, sym, ap, _∙_}
+use mathlib.Core.Path.{_≡_, sym, ap, _∙_}
 use mathlib.Core.Logic.{_⊎_, inl, inr}
 use mathlib.Core.Bool.{true}
 use mathlib.Core.List.{List·Memᴰ, Memᴰ·map}
-use Prim.Native.Nat.{ℕ, zero, suc}
+use Prim.Native.Nat.{ℕ}
 use native.Mathlib.Omega.{arith}
 use lib.ListN.{length-map}
-use Rattle.lists.specs.Tests.{iterate}
 use Rattle.lists.proofs.Perms.{distinct-injective}
-use Rattle.planar.specs.Map.{Dart}
-use Rattle.planar.proofs.Rings.{next-in}
 use Rattle.geometry.specs.Spots.{Spot, At}
 use Rattle.geometry.specs.Drawing.{OnCurve}
 use Rattle.geometry.proofs.Edits.{node-shared}
 use Rattle.map.specs.Rows.{Node, Edge, Map, node, hasNode}
-use Rattle.map.specs.Darts.{directed, next, bears}
 use Rattle.map.specs.Sound.{Sound, AtNode, Ends}
+use Rattle.map.proofs.Linked.{rings-bear-one}
 use Rattle.grown.specs.Good.{Good}
 use Rattle.grown.proofs.Readings.{arcOf, has-number}
 use Rattle.grown.proofs.RowChanges.{nodeNumber, node-row}
 use Rattle.grown.proofs.Apart.{curves-clear}
+use Rattle.grown.proofs.Forms.{good-formed}
 
 module _ (m : Map) (g : Good m) where
-  -- along a ring the face stays
-  rings : (d : Dart) → List·Memᴰ d (directed m) → (k : ℕ) → List·Memᴰ (iterate k (next m) d) (directed m) × (bears m (iterate k (next m) d) ≡ bears m d)
-  rings d i zero = (i, refl)
-  rings d i (suc k) = let h = rings d i k in (next-in (g .woven .planar .linked) (h .0), g .woven .planar .linked .keeps (iterate k (next m) d) (h .0) ∙ h .1)
-
   -- the nodes of an edge exist
   has-start : (e : Edge) → List·Memᴰ e (m .edges) → hasNode m (e .start) ≡ true
   has-start e k = has-number nodeNumber (m .nodes) (e .start) (g .woven .planar .within .starts (arcOf e) (Memᴰ·map arcOf k))
@@ -62,7 +55,7 @@ module _ (m : Map) (g : Good m) where
   pub good-sound : Sound m
   good-sound = record {
     links-once = g .woven .planar .linked .perm;
-    rings-bear-one = λ d d′ k l. ap (bears m) (sym (l .1)) ∙ rings d k (l .0) .1;
+    rings-bear-one = rings-bear-one m (good-formed m g);
     curves-apart = curves;
     sum = let n = length-map (m .nodes) nodeNumber in let e = length-map (m .edges) arcOf in omega (arith, g .woven .planar .euler);
   }

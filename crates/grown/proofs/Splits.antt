@@ -1,7 +1,7 @@
 -- A map in the plane whose edge h is split. Assumes nothing.
 use mathlib.Core.Path.{_≡_, refl, sym, ap, ap₂, _∙_, subst}
 use mathlib.Core.Logic.{inl, inr}
-use mathlib.Core.List.{List, [], _∷_, map, List·Memᴰ, List·Memᴰ·head, List·Memᴰ·tail, List·Memᴰ·cases-cons}
+use mathlib.Core.List.{List, _∷_, map, List·Memᴰ, List·Memᴰ·head, List·Memᴰ·tail, List·Memᴰ·cases-cons}
 use Prim.Native.Nat.{ℕ}
 use Rattle.lists.proofs.Members.{each-cons}
 use Rattle.plane.specs.Directions.{Way}
@@ -12,16 +12,12 @@ use Rattle.planar.specs.Planar.{Planar}
 use Rattle.planar.proofs.Cycles.{fwd-in}
 use Rattle.planar.proofs.Rings.{rev-in}
 use Rattle.planar.proofs.Hooks.{fwd≢bwd, fresh-dart, with-fwd, with-bwd, with-other}
-use Rattle.planar.proofs.Rows.{planar-agree}
+use Rattle.planar.proofs.Agree.{planar-agree}
 use Rattle.planar.proofs.Subdivide.{arc}
 use Rattle.planar.proofs.Splitting.{renamed-at, renamed-other, planar-subdivide}
+use Rattle.grown.proofs.CurvesLists.{map-same}
 use Rattle.grown.proofs.Renumber.{runs, named, Named, planar-named}
 use Rattle.grown.proofs.Halved.{Halved, departs, whole, each-whole, f-fwd, f-bwd, f-old, g-fwd, g-bwd, g-old}
-
--- what each name keeps, the list keeps
-pub map-same : {A : Type 0} (f : A → A) (l : List A) → ((x : A) → List·Memᴰ x l → f x ≡ x) → map f l ≡ l
-map-same f [] h = refl
-map-same f (x ∷ l) h = ap₂ _∷_ (h x (List·Memᴰ·head refl)) (map-same f l (λ y m. h y (List·Memᴰ·tail m)))
 
 -- ---- the split: c is a, and d is b, each in its own direction
 

@@ -1,9 +1,9 @@
 -- Numbers of a map in form: they rise, so none stands twice and a row is found by its number; all are below the next number, so a new number is new.
 -- Decoding and encoding undo each other. Assumes nothing.
 use mathlib.Core.Path.{_≡_}
-use mathlib.Core.Bool.{true, false, _&&_}
+use mathlib.Core.Bool.{true, _&&_}
 use mathlib.Core.List.{List, map, List·Memᴰ, Memᴰ·map}
-use mathlib.Core.Option.{none, some}
+use mathlib.Core.Option.{some}
 use Prim.Native.Nat.{ℕ, _≤_, _<_}
 use native.Mathlib.Omega.{arith}
 use lib.Dec.{leb, ltb, leb→le, ltb→lt}
@@ -11,12 +11,12 @@ use lib.ListN.{length}
 use Rattle.lists.specs.Tests.{same}
 use Rattle.lists.specs.Scans.{all, firstOr, linked}
 use Rattle.lists.specs.Members.{Distinct}
-use Rattle.lists.proofs.Bools.{≡→T, same-true, same-false}
+use Rattle.lists.proofs.Bools.{≡→T, same-true}
 use Rattle.geometry.proofs.Booleans.{and-true}
 use Rattle.curves.specs.Curves.{points, maxPoints}
 use Rattle.map.specs.Rows.{Node, Edge, Map, Lent, Sizes, mapOf, lentOf, sizesOf, whole, findNode, findEdge, hasNode, hasEdge, hasFace, node, edge}
 use Rattle.map.specs.Form.{ranged, numbered, numbers, inFace, edgeNames, named, curveFits, departuresDiffer, bareMarked, linksOnce, linksMeet, ringsBearOne, formed, inForm}
-use Rattle.map.proofs.Scans.{all-each, any-none, find-some, rise-distinct, find-row, find-missing}
+use Rattle.map.proofs.Scans.{all-each, find-some, rise-distinct, find-row}
 use Rattle.map.proofs.RoundTrip.{Holds, Points, reads-back, writes-back, ranged-points}
 
 -- ---- rows by number
@@ -27,10 +27,6 @@ module _ (m : Map) where
 
   pub find-edge : Distinct (map (λ e. e .number) (m .edges)) → (r : Edge) → List·Memᴰ r (m .edges) → findEdge m (r .number) ≡ some r
   find-edge dis r k = find-row (λ (e : Edge). e .number) (m .edges) dis r k
-
-  pub node-row : Distinct (map (λ n. n .number) (m .nodes)) → (r : Node) → List·Memᴰ r (m .nodes) → node m (r .number) ≡ r
-  unfolding node
-  node-row dis r k = rw (find-node dis r k)
 
   pub edge-row : Distinct (map (λ e. e .number) (m .edges)) → (r : Edge) → List·Memᴰ r (m .edges) → edge m (r .number) ≡ r
   unfolding edge
@@ -106,29 +102,10 @@ module _ (m : Map) (h : formed m ≡ true) where
   ns = formed-is m h .numbers
 
   -- numbers in use are below the next number
-  pub node-below : (r : Node) → List·Memᴰ r (m .nodes) → r .number < m .nextNode
-  node-below r k = ns .nodes .below (r .number) (Memᴰ·map (λ (n : Node). n .number) k)
-
-  pub edge-below : (r : Edge) → List·Memᴰ r (m .edges) → r .number < m .nextEdge
-  edge-below r k = ns .edges .below (r .number) (Memᴰ·map (λ (e : Edge). e .number) k)
-
   pub face-below : (f : ℕ) → List·Memᴰ f (m .faces) → f < m .nextFace
   face-below f k = ns .faces .below f k
 
-  -- so the next number is one that no row has
-  pub next-node-new : findNode m (m .nextNode) ≡ none
-  next-node-new = find-missing (λ (n : Node). n .number) (m .nodes) (m .nextNode) node-below
-
-  pub next-edge-new : findEdge m (m .nextEdge) ≡ none
-  next-edge-new = find-missing (λ (e : Edge). e .number) (m .edges) (m .nextEdge) edge-below
-
-  pub next-face-new : hasFace m (m .nextFace) ≡ false
-  next-face-new = any-none (same (m .nextFace)) (m .faces) (λ f k. same-false (m .nextFace) f (λ e. let below = face-below f k in omega arith))
-
   -- a row is found by its number
-  pub node-found : (r : Node) → List·Memᴰ r (m .nodes) → node m (r .number) ≡ r
-  node-found = node-row m (ns .nodes .distinct)
-
   pub edge-found : (r : Edge) → List·Memᴰ r (m .edges) → edge m (r .number) ≡ r
   edge-found = edge-row m (ns .edges .distinct)
 

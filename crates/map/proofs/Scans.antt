@@ -3,7 +3,7 @@ use mathlib.Core.Path.{_≡_, refl}
 use mathlib.Core.Logic.{_⊎_, inl, inr}
 use mathlib.Core.Bool.{Bool, true, false, cond, false≢true}
 use mathlib.Core.List.{List, [], _∷_, map, List·Memᴰ, List·Memᴰ·head, List·Memᴰ·tail, List·Memᴰ·cases-cons, List·Memᴰ·not-nil, Memᴰ·map, Memᴰ·cast}
-use mathlib.Core.Option.{none, some}
+use mathlib.Core.Option.{some}
 use Prim.Native.Nat.{ℕ, _<_}
 use native.Mathlib.Omega.{arith}
 use lib.Dec.{ltb, ltb→lt}
@@ -30,10 +30,6 @@ module _ {A : Type 0} (p : A → Bool) where
       go : (b : Bool) → p y ≡ b → (isSome (find p l) ≡ true → (x : A) × List·Memᴰ x l × (p x ≡ true) × (find p l ≡ some x)) → (x : A) × List·Memᴰ x (y ∷ l) × (p x ≡ true) × (cond b (some y) (find p l) ≡ some x)
       go true e later = (y, List·Memᴰ·head refl, e, refl)
       go false e later = let r = later (rw e at h) in (r .0, List·Memᴰ·tail (r .1), r .2, r .3)
-
-  pub find-none : (l : List A) → ((x : A) → List·Memᴰ x l → p x ≡ false) → find p l ≡ none
-  find-none [] h = refl
-  find-none (y ∷ l) h = rw (h y (List·Memᴰ·head refl)) (find-none l (λ x m. h x (List·Memᴰ·tail m)))
 
 pub any-none : {A : Type 0} (p : A → Bool) (l : List A) → ((x : A) → List·Memᴰ x l → p x ≡ false) → any p l ≡ false
 any-none p [] h = refl
@@ -69,7 +65,3 @@ module _ {A : Type 0} (number : A → ℕ) where
       go : (List·Memᴰ r l → find (λ x. same (number x) (number r)) l ≡ some r) → (r ≡ y) ⊎ List·Memᴰ r l → find (λ x. same (number x) (number r)) (y ∷ l) ≡ some r
       go later (inl e) = rw (e, same-refl (number y))
       go later (inr k) = rw (same-false (number y) (number r) (λ e. dis .0 (Memᴰ·cast e (Memᴰ·map number k)))) (later k)
-
-  -- a number that no row has is missing
-  pub find-missing : (l : List A) (n : ℕ) → ((r : A) → List·Memᴰ r l → number r < n) → find (λ x. same (number x) n) l ≡ none
-  find-missing l n h = find-none (λ x. same (number x) n) l (λ r m. same-false (number r) n (λ e. let below = h r m in omega arith))

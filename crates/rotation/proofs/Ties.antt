@@ -1,28 +1,20 @@
--- A map whose links obey the law has one turn at each node, as `Planar` asks; and linking in and unlinking a departure are the ties by which planar puts an edge in and takes it out.
--- For the ties no two links may lead to one dart; the law is not needed. Assumes nothing.
+-- Linking in and unlinking a departure are the ties by which planar puts an edge in and takes it out.
+-- No two links may lead to one dart; the law is not needed. Assumes nothing.
 use mathlib.Core.Path.{_≡_, sym, ap, _∙_}
 use mathlib.Core.Logic.{inl, inr}
 use mathlib.Core.Bool.{Bool, cond}
 use mathlib.Core.List.{List, _∷_, List·Memᴰ, List·Memᴰ·cases-cons}
-use Prim.Native.Nat.{ℕ}
-use Rattle.planar.specs.Map.{Arc, Dart, rev, darts}
-use Rattle.planar.specs.Rings.{sameDart, OneTurn}
+use Rattle.planar.specs.Map.{Dart}
+use Rattle.planar.specs.Rings.{sameDart}
 use Rattle.planar.specs.Weave.{exchange, alone, after, tie}
 use Rattle.planar.proofs.Rings.{sameDart-refl, sameDart-true}
 use Rattle.planar.proofs.Hooks.{sameDart?, exchange-left, exchange-right, exchange-other}
-use Rattle.planar.proofs.Turns.{rev-rev}
-use Rattle.plane.specs.Directions.{Way}
-use Rattle.rotation.specs.Law.{Tells, redirect, leading, Law, Apart}
+use Rattle.rotation.specs.Law.{Tells, redirect, leading}
 use Rattle.rotation.proofs.Tells.{is-yes, is-no}
-use Rattle.rotation.proofs.Whole.{law-turn}
 
 -- `sameDart` tells darts apart
 pub tells : Tells sameDart
 tells = record { yes = λ a b e. sameDart-true a b e; self = λ a. sameDart-refl a }
-
--- the links of a lawful map turn once about each node
-pub lawful-one-turn : (es : List Arc) (tail : Dart → ℕ) (way : Dart → Way) (next : Dart → Dart) → Law sameDart rev tail way (darts es) next → Apart tail way (darts es) → OneTurn es tail next
-lawful-one-turn es tail way next l apart = law-turn sameDart rev tail way tells rev-rev (darts es) next l apart
 
 -- a new departure p with the reverse y, which led to p as an edge by itself, and no other at its node: nothing changes
 pub link-alone-is-tie : (next : Dart → Dart) (p y d : Dart) → next y ≡ p → leading sameDart y p (redirect sameDart p p next) d ≡ tie alone y next d

@@ -4,14 +4,14 @@ use mathlib.Core.Logic.{inl, inr}
 use mathlib.Core.Bool.{Bool, true, false, cond, not, true≢false}
 use mathlib.Core.List.{List, _∷_, List·Memᴰ, List·Memᴰ·tail, List·Memᴰ·cases-cons, Memᴰ·cast}
 use Prim.Native.Nat.{ℕ}
-use Rattle.lists.specs.Tests.{same, iterate}
+use Rattle.lists.specs.Tests.{same}
 use Rattle.lists.proofs.Bools.{which, same-refl, same-true, same-eq, same-false, equal?}
 use Rattle.lists.proofs.Members.{some?}
 use Rattle.lists.proofs.Keeps.{keep-in, keep-has, keep-all, keep-swap}
 use Rattle.plane.specs.Directions.{Way}
 use Rattle.rotation.specs.Law.{Tells, firstClockwise, Differ, others, Lawful, redirect, put, from, back, Law, Apart, link, unlink, linkEdge, unlinkEdge}
 use Rattle.rotation.proofs.Tells.{is-no}
-use Rattle.rotation.proofs.Node.{lawful-in, first-in, first-none, put-lawful, take-lawful, lawful-turn}
+use Rattle.rotation.proofs.Node.{lawful-in, first-in, first-none, put-lawful, take-lawful}
 
 module _ {D : Type 0} (is : D → D → Bool) (rev : D → D) (tail : D → ℕ) (way : D → Way) (tells : Tells is) (rev-rev : (d : D) → rev (rev d) ≡ d) where
   is-rev : (a b : D) → is (rev a) (rev b) ≡ is a b
@@ -79,10 +79,6 @@ module _ {D : Type 0} (is : D → D → Bool) (rev : D → D) (tail : D → ℕ)
         there ne = subst (λ (ds : List D). Lawful way is ds (back rev (unlink is rev p next)))
             (sym (keep-all (λ q. not (is q p)) (from tail all n) (λ d m. ap not (is-no tells d p (λ e. ne (ap tail (sym e) ∙ from-in all m .1))))))
             (lawful-cong (from tail all n) (back rev next) (back rev (unlink is rev p next)) (λ d m. rw (is-no tells (next (rev d)) p (λ e. ne (ap tail (sym e) ∙ from-in all (law-stays all next n l d m) .1)))) (l n))
-
-    -- one turn at each node
-    pub law-turn : Apart tail way all → (d c : D) → List·Memᴰ d all → List·Memᴰ c all → tail d ≡ tail c → (k : ℕ) × (iterate k (back rev next) d ≡ c)
-    law-turn apart d c md mc e = lawful-turn way is tells (from tail all (tail c)) (back rev next) (apart (tail c)) (l (tail c)) d c (from-has all md e) (from-has all mc refl)
 
   sub-differ : {ds ds′ : List D} → ((d : D) → List·Memᴰ d ds → List·Memᴰ d ds′) → Differ way ds′ → Differ way ds
   sub-differ h f d c md mc e = f d c (h d md) (h c mc) e
