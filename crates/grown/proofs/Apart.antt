@@ -27,7 +27,7 @@ use Rattle.grown.proofs.Scanning.{each-of}
 use Rattle.grown.proofs.Readings.{tailIn, courseIn, leaves-row, course-row, way-row, edge-row, dart-has, departs}
 
 -- what holds of all pairs holds of any two
-pub pairs-in : {A B : Type 0} (R : B → B → Type 0) (turn : (a b : B) → R a b → R b a) (f : A → B) (l : List A) → Pairs R (map f l) → (x y : A) → List·Memᴰ x l → List·Memᴰ y l → x ≢ y → R (f x) (f y)
+pairs-in : {A B : Type 0} (R : B → B → Type 0) (turn : (a b : B) → R a b → R b a) (f : A → B) (l : List A) → Pairs R (map f l) → (x y : A) → List·Memᴰ x l → List·Memᴰ y l → x ≢ y → R (f x) (f y)
 pairs-in R turn f [] h x y m k ne = absurd (List·Memᴰ·not-nil m)
 pairs-in {A} R turn f (z ∷ l) h x y m k ne = go (pairs-in R turn f l (h .1) x y) (List·Memᴰ·cases-cons m) (List·Memᴰ·cases-cons k)
   where
@@ -52,7 +52,7 @@ module _ (m : Map) (s : Surveyed m) where
   curves-clear r q k j ne = pairs-in ClearCurves clear-sym (λ (e : Edge). e .curve) (m .edges) (s .drawn .clear) r q k j ne
 
   -- a course starts on the point of the node that it leaves
-  pub starts : (b : Bool) (r : Edge) → List·Memᴰ r (m .edges) → courseIn b r .first ≡ node m (tailIn b r) .at
+  starts : (b : Bool) (r : Edge) → List·Memᴰ r (m .edges) → courseIn b r .first ≡ node m (tailIn b r) .at
   starts true r k = s .anchored r k .end
   starts false r k = s .anchored r k .start
 

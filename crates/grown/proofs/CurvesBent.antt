@@ -26,7 +26,7 @@ use Rattle.geometry.proofs.Turning.{last-turned, before-turned}
 -- ---- three points on a segment
 
 -- between, the other way round
-pub between-sym : {a m b : Point} → Between a m b → Between b m a
+between-sym : {a m b : Point} → Between a m b → Between b m a
 between-sym s = record { on = flip (s .on); not-first = λ e. s .not-last (sym e); not-last = λ e. s .not-first (sym e) }
 
 -- b out of a, m and c, in one coordinate
@@ -39,7 +39,7 @@ extended j i l k a m b c e f =
     ∙ combine (pos (j + i)) (pos l) (zero-of (ap pos f)) (zero-of (ap pos e))))
 
 -- m between a and b, and b between m and c: b is between a and c
-pub extend : {a m b c : Point} → Between a m b → Between m b c → Between a b c
+extend : {a m b c : Point} → Between a m b → Between m b c → Between a b c
 extend {a} {m} {b} {c} s t = record { on = on; not-first = between-differ s; not-last = t .not-last }
   where
     o : OnSeg (spot m) a b
@@ -60,7 +60,7 @@ extend {a} {m} {b} {c} s t = record { on = on; not-first = between-differ s; not
         }
 
 -- m between a and b, and b between a and c: b is between m and c
-pub shorten : {a m b c : Point} → Between a m b → Between a b c → Between m b c
+shorten : {a m b c : Point} → Between a m b → Between a b c → Between m b c
 shorten {a} {m} {b} {c} s t = record { on = pick (parts inner (t .on)); not-first = s .not-last; not-last = t .not-last }
   where
     -- no end of a segment lies before another point of it
@@ -75,7 +75,7 @@ shorten {a} {m} {b} {c} s t = record { on = pick (parts inner (t .on)); not-firs
     pick (inr o) = o
 
 -- not between, as the test says it
-pub unless-between : {a m b c n d : Point} → (Between a m b → Between c n d) → straightBetween c n d ≡ false → straightBetween a m b ≡ false
+unless-between : {a m b c n d : Point} → (Between a m b → Between c n d) → straightBetween c n d ≡ false → straightBetween a m b ≡ false
 unless-between {a} {m} {b} f e = elim (which (straightBetween a m b)) [
   | inl k ↦ absurd (false≢true (sym e ∙ straightBetween-is (f (straightBetween-true a m b k))))
   | inr k ↦ k

@@ -1,4 +1,4 @@
--- Surveyed kept by all fourteen kinds of edits. Assumes nothing.
+-- Surveyed kept by all kinds of edits but heals. Assumes nothing.
 use mathlib.Core.Path.{_≡_, sym, ap, _∙_, subst}
 use mathlib.Core.Bool.{Bool, true, false, not, cond, true≢false}
 use mathlib.Core.List.{List, [], _∷_, _++_, map, map-map, List·Memᴰ, Memᴰ·map, Memᴰ·of-map, Memᴰ·cast}

@@ -95,7 +95,7 @@ pub record Becomes (m : Map) (ls : List Line) (ps : List Place) : Type 0 where
   pub lines : lines m ≡ ls
   pub places : places m ≡ ps
 
-pub becomes-alike : {m m′ : Map} {ls : List Line} {ps : List Place} → Alike m m′ → Becomes m ls ps → Becomes m′ ls ps
+becomes-alike : {m m′ : Map} {ls : List Line} {ps : List Place} → Alike m m′ → Becomes m ls ps → Becomes m′ ls ps
 becomes-alike h k = record { lines = h .lines ∙ k .lines; places = h .places ∙ k .places }
 
 pub without-lines : (e : ℕ) (es : List Edge) → map lineOf (withoutEdge e es) ≡ without lineNumber e (map lineOf es)
@@ -108,7 +108,7 @@ without-places n ns = sym (keep-map placeOf (λ r. not (same (r .number) n)) (λ
 abbrev pub newLine : ℕ → ℕ → ℕ → Curve → Line
 newLine e u v c = record { number = e; start = u; end = v; curve = c }
 
-pub drawn-becomes : (u v : ℕ) (c : Curve) (f : ℕ) (m : Map) → Becomes (drawn u v c f m) (lines m ++ (newLine (m .nextEdge) u v c ∷ [])) (places m)
+drawn-becomes : (u v : ℕ) (c : Curve) (f : ℕ) (m : Map) → Becomes (drawn u v c f m) (lines m ++ (newLine (m .nextEdge) u v c ∷ [])) (places m)
 unfolding drawn
 drawn-becomes u v c f m =
     becomes-alike (alike-join (linkEdge-alike (m .nextEdge) _) (faces-alike (isEither u v) none _)) (record { lines = map-append lineOf (m .edges) (_ ∷ []); places = refl })

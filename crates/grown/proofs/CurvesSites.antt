@@ -66,7 +66,7 @@ module _ (n : ℕ) (p : Point) (ps : List Place) (P : Plotted ps) (r : InRange p
       go true e = inl (same-true (q .number) n e, refl)
       go false e = inr ((λ k. true≢false (sym (same-eq (q .number) n k) ∙ e)), refl)
 
-  pub replot : Plotted (map (moved n p) ps)
+  replot : Plotted (map (moved n p) ps)
   replot =
       record {
         in-range = λ q m. let w = Memᴰ·of-map (moved n p) ps m in subst (λ (z : Place). InRange (z .at)) (w .2) (range (w .0) (w .1) (moved-case (w .0)));
@@ -85,7 +85,7 @@ module _ (n : ℕ) (p : Point) (ps : List Place) (P : Plotted ps) (r : InRange p
       one x y k l (inr e) (inr f) h = point-one P k l (sym (ap atIn (e .1)) ∙ h ∙ ap atIn (f .1))
 
   -- another place stays
-  pub unmoved : (q : Place) → List·Memᴰ q ps → q .number ≢ n → List·Memᴰ q (map (moved n p) ps)
+  unmoved : (q : Place) → List·Memᴰ q ps → q .number ≢ n → List·Memᴰ q (map (moved n p) ps)
   unmoved q k f = go (moved-case q)
     where
       go : Case q → List·Memᴰ q (map (moved n p) ps)
@@ -99,7 +99,7 @@ pub record Clear (n : ℕ) (l : Line) : Type 0 where
   pub start : l .start ≢ n
   pub end : l .end ≢ n
 
-pub resite : {ps qs : List Place} (l : Line) → (List·Memᴰ (startOf l) ps → List·Memᴰ (startOf l) qs) → (List·Memᴰ (endOf l) ps → List·Memᴰ (endOf l) qs) → Sited ps l → Sited qs l
+resite : {ps qs : List Place} (l : Line) → (List·Memᴰ (startOf l) ps → List·Memᴰ (startOf l) qs) → (List·Memᴰ (endOf l) ps → List·Memᴰ (endOf l) qs) → Sited ps l → Sited qs l
 resite l f g s = record { kept = s .kept; start = f (s .start); end = g (s .end) }
 
 -- a place more

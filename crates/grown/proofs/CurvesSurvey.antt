@@ -81,7 +81,7 @@ module _ (m : Map) (G : Good m) where
   pub lines-once : Distinct (map lineNumber (lines m))
   lines-once = rw (map-map lineNumber lineOf (m .edges)) (subst Distinct (nums-rows m) (G .woven .planar .edges-once))
 
-  pub places-once : Distinct (map placeNumber (places m))
+  places-once : Distinct (map placeNumber (places m))
   places-once = rw (map-map placeNumber placeOf (m .nodes)) (G .woven .planar .nodes-once)
 
   pub place-fresh : List·Memᴰ (m .nextNode) (map placeNumber (places m)) → ⊥
@@ -130,7 +130,7 @@ survey m G =
         }
 
 -- it holds of a map with such lines and places
-pub surveyed : (m : Map) → Survey (lines m) (places m) → Surveyed m
+surveyed : (m : Map) → Survey (lines m) (places m) → Surveyed m
 surveyed m S =
     record {
       drawn = subst Drawn (map-map curveIn lineOf (m .edges)) (S .drawn);

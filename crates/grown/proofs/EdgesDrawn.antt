@@ -89,13 +89,13 @@ module _ (m : Map) (u v : ℕ) (c : Curve) (φ : ℕ) where
     pub leaves₁ : (d : Dart) → List·Memᴰ d all → leaves m₁ d ≡ T d
     leaves₁ = reads tailIn leaves leaves-row
 
-    pub next₁ : (d : Dart) → List·Memᴰ d all → next m₁ d ≡ lone e (next m) d
+    next₁ : (d : Dart) → List·Memᴰ d all → next m₁ d ≡ lone e (next m) d
     next₁ = reads nextIn next next-row
 
     pub bears₁ : (d : Dart) → List·Memᴰ d all → bears m₁ d ≡ with-edge e φ φ (bears m) d
     bears₁ = reads faceIn bears bears-row
 
-    pub course₁ : (d : Dart) → List·Memᴰ d all → course m₁ d ≡ with-edge e (edits.course false c) (edits.course true c) (course m) d
+    course₁ : (d : Dart) → List·Memᴰ d all → course m₁ d ≡ with-edge e (edits.course false c) (edits.course true c) (course m) d
     course₁ = reads courseIn course course-row
 
     pub way₁ : (d : Dart) → List·Memᴰ d (directed m) → way m₁ d ≡ way m d
@@ -112,13 +112,13 @@ module _ (m : Map) (u v : ℕ) (c : Curve) (φ : ℕ) where
     listed : directed m₁ ≡ directed m ++ f ∷ b ∷ []
     listed = more-directed m m₁ drawnRow refl
 
-    pub into-all : {d : Dart} → List·Memᴰ d (directed m₁) → List·Memᴰ d all
+    into-all : {d : Dart} → List·Memᴰ d (directed m₁) → List·Memᴰ d all
     into-all {d} k = elim (List·Memᴰ·append-cases (directed m) (subst (λ (l : List Dart). List·Memᴰ d l) listed k)) [
       | inl i ↦ List·Memᴰ·tail (List·Memᴰ·tail i)
       | inr i ↦ elim (List·Memᴰ·cases-cons i) [ inl p ↦ List·Memᴰ·head p | inr j ↦ List·Memᴰ·tail (List·Memᴰ·head (List·Memᴰ·eq-of-singleton j)) ]
     ]
 
-    pub from-all : {d : Dart} → List·Memᴰ d all → List·Memᴰ d (directed m₁)
+    from-all : {d : Dart} → List·Memᴰ d all → List·Memᴰ d (directed m₁)
     from-all {d} k = subst (λ (l : List Dart). List·Memᴰ d l) (sym listed) (each-cons {p = λ d. List·Memᴰ d (directed m ++ f ∷ b ∷ [])} (Memᴰ·append-right (directed m) (List·Memᴰ·head refl))
         (each-cons {p = λ d. List·Memᴰ d (directed m ++ f ∷ b ∷ [])} (Memᴰ·append-right (directed m) (List·Memᴰ·tail (List·Memᴰ·head refl))) (λ d i. Memᴰ·append-left (f ∷ b ∷ []) i)) d k)
 

@@ -1,7 +1,7 @@
--- A map with an edge taken out stays in the plane, and its faces reached, where the faces on its two sides become one. Assumes nothing.
-use mathlib.Core.Path.{_≡_, sym, ap, _∙_, subst}
+-- An edge taken out: a map stays in the plane, and its faces reached, where the faces on the two sides become one. Kind 5. Assumes nothing.
+use mathlib.Core.Path.{_≡_, sym, ap, _∙_, subst, refl}
 use mathlib.Core.Logic.{_⊎_, inl, inr, _≢_}
-use mathlib.Core.List.{List, List·Memᴰ}
+use mathlib.Core.List.{List, List·Memᴰ, [], _∷_, List·Memᴰ·not-nil, List·Memᴰ·eq-of-singleton}
 use Prim.Native.Nat.{ℕ, suc}
 use lib.ListN.{length}
 use Rattle.lists.specs.Members.{Distinct}
@@ -11,13 +11,13 @@ use Rattle.planar.specs.Pieces.{nums}
 use Rattle.planar.specs.Rings.{sameDart}
 use Rattle.planar.specs.Planar.{Planar}
 use Rattle.planar.proofs.Bridges.{Either, Shrunk}
-use Rattle.planar.proofs.Rings.{rev-in}
+use Rattle.planar.proofs.Rings.{rev-in, next-in}
 use Rattle.planar.proofs.Moves.{planar-perm}
 use Rattle.planar.proofs.Agree.{planar-agree}
 use Rattle.rotation.specs.Law.{others}
 use Rattle.rotation.specs.Law as rotation
 use Rattle.map.specs.Rows.{Map, edge}
-use Rattle.map.specs.Darts.{arcs, directed, leaves, next, bears}
+use Rattle.map.specs.Darts.{arcs, directed, leaves, next, bears, departures}
 use Rattle.map.specs.Links.{unlinkEdge}
 use Rattle.grown.proofs.RowChanges.{InPlane}
 use Rattle.grown.proofs.EdgesReached.{Reached, even-darts, darts-even}
@@ -25,7 +25,15 @@ use Rattle.grown.proofs.EdgesTaken.{taken-part, taken-merge}
 use Rattle.grown.proofs.EdgesCorners.{nodeNumbers}
 use Rattle.grown.proofs.EdgesSplit.{Faced}
 use Rattle.grown.proofs.Renumber.{ways}
-use Rattle.grown.proofs.LawfulRemove.{Taken, left, stays}
+use Rattle.grown.proofs.LawfulRemove.{Taken, left, stays, lone-taken}
+use native.Mathlib.Omega.{arith}
+use Rattle.map.specs.Edits.{removeIsoEdge}
+use Rattle.grown.specs.Good.{Good}
+use Rattle.grown.proofs.Readings.{leaves-row, has-dart, departing}
+use Rattle.grown.proofs.Reasons.{RemoveLone}
+use Rattle.grown.proofs.EdgesAdded.{faced}
+use Rattle.grown.proofs.LawfulForm.{Lawful, good-lawful}
+use Rattle.grown.proofs.NumbersEdges.{undrawn-face-list}
 
 -- the faces fs after the edge e is gone, each that of some old one by μ; the two sides of the edge become one
 pub record Merging (m : Map) (e : ℕ) (μ : ℕ → ℕ) (fs : List ℕ) : Type 0 where
@@ -60,3 +68,43 @@ module _ (m X : Map) (e : ℕ) (μ : ℕ → ℕ) (t : Taken m X e μ) (faced : 
         ]
         | inr ne ↦ ap S (sym (t .bears d (stays t k ne))) ∙ even-darts X S even d (stays t k ne) ∙ ap S (t .bears (rev d) (stays t (rev-in (arcs m) k) ne))
       ]
+
+-- ---- kind 5
+
+-- two members of a list of one
+one-member : {A : Type 0} (l : List A) → length l ≡ 1 → {x y : A} → List·Memᴰ x l → List·Memᴰ y l → x ≡ y
+one-member [] e i j = absurd (List·Memᴰ·not-nil i)
+one-member (z ∷ []) e i j = List·Memᴰ·eq-of-singleton i ∙ sym (List·Memᴰ·eq-of-singleton j)
+one-member (z ∷ w ∷ l) e i j = absurd (omega arith)
+
+module _ (m : Map) (e : ℕ) (good : Good m) (h : RemoveLone m e) where
+  abbrev L : Lawful m
+  L = good-lawful m good
+
+  -- e turns back at its end, where nothing else departs
+  turns : next m (fwd e) ≡ bwd e
+  unfolding departures
+  turns = one-member (departures m (edge m e .end)) (h .end-alone) (departing m (edge m e .end) (next-in (L .linked) in-f) (L .linked .meets (fwd e) in-f ∙ leaves-row m (bwd e))) (departing m (edge m e .end) (has-dart m (bwd e) (h .has)) (leaves-row m (bwd e)))
+    where
+      in-f : List·Memᴰ (fwd e) (directed m)
+      in-f = has-dart m (fwd e) (h .has)
+
+  one-face : bears m (fwd e) ≡ bears m (bwd e)
+  one-face = sym (L .linked .keeps (fwd e) (has-dart m (fwd e) (h .has))) ∙ ap (bears m) turns
+
+  lone-merging : Merging m e (λ g. g) (removeIsoEdge e m .faces)
+  unfolding removeIsoEdge
+  lone-merging = record {
+    one = one-face;
+    back = λ g. g;
+    goes-back = λ g k. inl refl;
+    zero = refl;
+    faces = λ g k. (g, subst (λ (l : List ℕ). List·Memᴰ g l) (undrawn-face-list e (edge m e .left) m) k, refl);
+    count = inl (one-face, ap length (undrawn-face-list e (edge m e .left) m));
+  }
+
+  pub planar-5 : InPlane (removeIsoEdge e m)
+  planar-5 = taken-planar m (removeIsoEdge e m) e (λ g. g) (lone-taken m L e (h .has)) (faced m good) lone-merging (good .woven .planar)
+
+  pub reached-5 : Reached m → Reached (removeIsoEdge e m)
+  reached-5 = taken-reached m (removeIsoEdge e m) e (λ g. g) (lone-taken m L e (h .has)) (faced m good) lone-merging (L .once)

@@ -127,7 +127,7 @@ module _ (m : Map) (l : Linked (arcs m) (leaves m) (next m) (bears m)) (dis : Di
     unfolding ring
     ring-here = walk-here m (directed m) (λ c k. next-in l k) next-one d (2 * length (m .edges)) start enough
 
-    pub ring-next : (x : Dart) → List·Memᴰ x (ring m d) → List·Memᴰ (next m x) (ring m d)
+    ring-next : (x : Dart) → List·Memᴰ x (ring m d) → List·Memᴰ (next m x) (ring m d)
     unfolding ring
     ring-next x k = elim (walk-next m (directed m) (λ c k. next-in l k) next-one d (2 * length (m .edges)) start enough x k) [ inl e ↦ Memᴰ·cast e ring-here | inr q ↦ q ]
 

@@ -41,11 +41,11 @@ module _ (m : Map) (s : Shares) where
   unfolding sideOfDart
   side-old d ne = rw (same-false (bears m d) (s .old) ne)
 
-  pub side-ref : (d : Dart) → bears m d ≡ s .old → among (s .refRing) d ≡ true → sideOfDart m s d ≡ s .ref
+  side-ref : (d : Dart) → bears m d ≡ s .old → among (s .refRing) d ≡ true → sideOfDart m s d ≡ s .ref
   unfolding sideOfDart
   side-ref d e h = rw (same-eq (bears m d) (s .old) e, h)
 
-  pub side-other : (d : Dart) → bears m d ≡ s .old → among (s .refRing) d ≡ false → among (s .otherRing) d ≡ true → sideOfDart m s d ≡ s .other
+  side-other : (d : Dart) → bears m d ≡ s .old → among (s .refRing) d ≡ false → among (s .otherRing) d ≡ true → sideOfDart m s d ≡ s .other
   unfolding sideOfDart
   side-other d e h k = rw (same-eq (bears m d) (s .old) e, h, k)
 

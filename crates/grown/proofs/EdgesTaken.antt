@@ -1,4 +1,4 @@
--- An edge taken out of a map: law, plane and faces, from what the map reads after it. Assumes nothing.
+-- An edge unlinked in a map in the plane: the two ways of the edge may be taken out in either order, and a piece parts or two faces become one. Assumes nothing.
 use mathlib.Core.Path.{_≡_, refl, sym, ap, _∙_}
 use mathlib.Core.Logic.{inl, inr, _≢_}
 use mathlib.Core.Bool.{cond}

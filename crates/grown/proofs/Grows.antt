@@ -74,7 +74,7 @@ unfolding after
 steps s l [] x = x
 steps s l (t ∷ ts) x = steps s (ticket l t .lent) ts (step s l t x)
 
-pub grown-state : (s : Sizes) → 1 ≤ s .faces → (ts : List (List ℤ)) → State s (grow s ts .lent)
+grown-state : (s : Sizes) → 1 ≤ s .faces → (ts : List (List ℤ)) → State s (grow s ts .lent)
 unfolding grow
 grown-state s h ts = steps s (lentOf s emptyMap) ts (here s emptyMap empty-good empty-reached (record { nodes = omega arith; edges = omega arith; faces = h }))
 

@@ -26,7 +26,7 @@ use Rattle.grown.proofs.HealsPlane.{planar-9, reached-9, planar-10, rea
 use Rattle.grown.proofs.EdgesReached.{Reached, reached-borne}
 use Rattle.grown.proofs.EdgesAdd.{planar-4, reached-4}
 use Rattle.grown.proofs.EdgesAdded.{planar-added, reached-added}
-use Rattle.grown.proofs.EdgesUndrawn.{planar-5, reached-5}
+use Rattle.grown.proofs.EdgesRemove.{planar-5, reached-5}
 use Rattle.grown.proofs.EdgesRemoved.{planar-removed, reached-removed}
 
 -- links and face numbers, and curves

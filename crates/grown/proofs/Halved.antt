@@ -107,7 +107,7 @@ module _ (h : ℕ) (c d : Dart) (s n t : ℕ) (r : List Arc) (fresh : List·Mem�
   in-d : List·Memᴰ d (halved c d s n t r)
   in-d = elim (ways d) [ inl e ↦ List·Memᴰ·tail (List·Memᴰ·tail (List·Memᴰ·head e)) | inr e ↦ List·Memᴰ·tail (List·Memᴰ·tail (List·Memᴰ·tail (List·Memᴰ·head e))) ]
 
-  pub rev-halved : {z : Dart} → List·Memᴰ z (halved c d s n t r) → List·Memᴰ (rev z) (halved c d s n t r)
+  rev-halved : {z : Dart} → List·Memᴰ z (halved c d s n t r) → List·Memᴰ (rev z) (halved c d s n t r)
   rev-halved m = rev-in (runs c s n ∷ runs d n t ∷ r) m
 
   pub joint-c : List·Memᴰ (rev c) (halved c d s n t r)
@@ -119,7 +119,7 @@ module _ (h : ℕ) (c d : Dart) (s n t : ℕ) (r : List Arc) (fresh : List·Mem�
   pub f-in : (z : Dart) → List·Memᴰ z (whole h s t r) → List·Memᴰ (departs h c d z) (halved c d s n t r)
   f-in = each-whole (λ z. List·Memᴰ (departs h c d z) (halved c d s n t r)) (Memᴰ·cast f-fwd in-c) (Memᴰ·cast f-bwd (rev-halved in-d)) (λ z m. Memᴰ·cast (f-old z m) (List·Memᴰ·tail (List·Memᴰ·tail (List·Memᴰ·tail (List·Memᴰ·tail m)))))
 
-  pub Kind : Dart → Type 0
+  Kind : Dart → Type 0
   Kind z = ((z ≡ rev c) ⊎ (z ≡ d)) ⊎ ((w : Dart) × List·Memᴰ w (whole h s t r) × (departs h c d w ≡ z))
 
   -- two departures of the joint, and the others

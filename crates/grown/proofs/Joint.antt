@@ -8,6 +8,7 @@ use Prim.Native.Nat.{ℕ}
 use native.Mathlib.Omega.{arith}
 use lib.ListN.{length}
 use Rattle.lists.specs.Tests.{same}
+use Rattle.lists.specs.Scans.{isSome}
 use Rattle.lists.proofs.Bools.{same-true, differ, or-true}
 use Rattle.lists.proofs.Keeps.{keep-in}
 use Rattle.planar.specs.Map.{Dart, fwd, bwd, rev}
@@ -54,13 +55,13 @@ third (a ∷ b ∷ []) h {x} {y} {z} n i j k = go (one i) (one j) (one k)
     go (inr p) (inl q) (inr r) = inl (r ∙ sym p)
 third (a ∷ b ∷ c ∷ l) h n i j k = absurd (omega arith)
 
-module _ (m : Map) (e f : ℕ) (h : Heal m e f) where
+module _ (m : Map) (e f : ℕ) (h : isSome (joint m e f) ≡ true) where
   abbrev at : ℕ
   at = Option·getD (joint m e f) 0
 
   found-joint : List·Memᴰ at (sharedNodes m e f) × (same (edgeEnds m at) 2 ≡ true)
   unfolding joint
-  found-joint = found (λ n. same (edgeEnds m n) 2) 0 (sharedNodes m e f) (h .joint)
+  found-joint = found (λ n. same (edgeEnds m n) 2) 0 (sharedNodes m e f) h
 
   -- an end of e and an end of f
   shared : ((at ≡ edge m e .end) ⊎ (at ≡ edge m e .start)) × ((at ≡ edge m f .start) ⊎ (at ≡ edge m f .end))
@@ -79,7 +80,7 @@ module _ (m : Map) (e f : ℕ) (h : Heal m e f) where
       other (inr q) = inr (same-true _ _ q)
 
   -- e runs to the joint, or from it
-  meets : Meet m e f at (parts m e f .0) (parts m e f .1)
+  pub meets : Meet m e f at (parts m e f .0) (parts m e f .1)
   unfolding parts
   meets = go (same at (edge m e .end)) refl
     where
@@ -103,22 +104,29 @@ module _ (m : Map) (e f : ℕ) (h : Heal m e f) where
           arriving false r (inl s) = (leaves-row m (fwd f) ∙ sym s, refl)
           arriving false r (inr s) = absurd (differ _ _ r (leaves-row m (bwd f) ∙ sym s))
 
-  -- two edge ends are there, so there is no other
-  pub seamed : Seamed m e f at (parts m e f .0) (parts m e f .1)
-  seamed = record { meet = meets; first-in = first-in; second-in = second-in; two = two; only = only; from = from; to = to }
+-- two edge ends are there, so there is no other
+module _ (m : Map) (e f : ℕ) (h : Heal m e f) where
+  abbrev n : ℕ
+  n = Option·getD (joint m e f) 0
+
+  meeting : Meet m e f (Option·getD (joint m e f) 0) (parts m e f .0) (parts m e f .1)
+  meeting = meets m e f (h .joint)
+
+  pub seamed : Seamed m e f n (parts m e f .0) (parts m e f .1)
+  seamed = record { meet = meeting; first-in = first-in; second-in = second-in; two = two; only = only; from = from; to = to }
     where
       two : parts m e f .0 .edge ≢ parts m e f .1 .edge
-      two q = elim (meets .edges) [ inl r ↦ h .differ (sym (r .0) ∙ q ∙ r .1) | inr r ↦ h .differ (sym (r .1) ∙ sym q ∙ r .0) ]
+      two q = elim (meeting .edges) [ inl r ↦ h .differ (sym (r .0) ∙ q ∙ r .1) | inr r ↦ h .differ (sym (r .1) ∙ sym q ∙ r .0) ]
 
       has : (z : Dart) → (z .edge ≡ e) ⊎ (z .edge ≡ f) → List·Memᴰ z (directed m)
       has z (inl q) = has-dart m z (ap (hasEdge m) q ∙ h .has)
       has z (inr q) = has-dart m z (ap (hasEdge m) q ∙ h .has-other)
 
       of-first : (parts m e f .0 .edge ≡ e) ⊎ (parts m e f .0 .edge ≡ f)
-      of-first = elim (meets .edges) [ inl r ↦ inl (r .0) | inr r ↦ inr (r .0) ]
+      of-first = elim (meeting .edges) [ inl r ↦ inl (r .0) | inr r ↦ inr (r .0) ]
 
       of-second : (parts m e f .1 .edge ≡ e) ⊎ (parts m e f .1 .edge ≡ f)
-      of-second = elim (meets .edges) [ inl r ↦ inr (r .1) | inr r ↦ inl (r .1) ]
+      of-second = elim (meeting .edges) [ inl r ↦ inr (r .1) | inr r ↦ inl (r .1) ]
 
       first-in : List·Memᴰ (parts m e f .0) (directed m)
       first-in = has (parts m e f .0) of-first
@@ -126,9 +134,9 @@ module _ (m : Map) (e f : ℕ) (h : Heal m e f) where
       second-in : List·Memᴰ (parts m e f .1) (directed m)
       second-in = has (parts m e f .1) of-second
 
-      only : (z : Dart) → List·Memᴰ z (directed m) → leaves m z ≡ at → (z ≡ rev (parts m e f .0)) ⊎ (z ≡ parts m e f .1)
-      only z k q = third (departures m at) (same-true _ _ (found-joint .1)) (λ r. two (ap (λ (x : Dart). x .edge) r))
-          (departing m at (has (rev (parts m e f .0)) of-first) (meets .arrives)) (departing m at second-in (meets .departs)) (departing m at k q)
+      only : (z : Dart) → List·Memᴰ z (directed m) → leaves m z ≡ n → (z ≡ rev (parts m e f .0)) ⊎ (z ≡ parts m e f .1)
+      only z k q = third (departures m n) (same-true _ _ (found-joint m e f (h .joint) .1)) (λ r. two (ap (λ (x : Dart). x .edge) r))
+          (departing m n (has (rev (parts m e f .0)) of-first) (meeting .arrives)) (departing m n second-in (meeting .departs)) (departing m n k q)
 
       turned : (z : Dart) → rev z ≢ z
       turned z q = go (z .back) (ap (λ (x : Dart). x .back) q)
@@ -137,10 +145,10 @@ module _ (m : Map) (e f : ℕ) (h : Heal m e f) where
           go true r = false≢true r
           go false r = true≢false r
 
-      from : leaves m (parts m e f .0) ≢ at
+      from : leaves m (parts m e f .0) ≢ n
       from q = elim (only (parts m e f .0) first-in q) [ inl r ↦ turned (parts m e f .0) (sym r) | inr r ↦ two (ap (λ (x : Dart). x .edge) r) ]
 
-      to : leaves m (rev (parts m e f .1)) ≢ at
+      to : leaves m (rev (parts m e f .1)) ≢ n
       to q = elim (only (rev (parts m e f .1)) (has (rev (parts m e f .1)) of-second) q) [
         | inl r ↦ two (sym (ap (λ (x : Dart). x .edge) r))
         | inr r ↦ turned (parts m e f .1) r

@@ -19,7 +19,7 @@ use Rattle.grown.proofs.Readings.{keep-cong}
 
 module _ {D : Type 0} (way : D → Way) (is : D → D → Bool) (tells : Tells is) (ds ds′ : List D) (differ : Differ way ds)
     (to : (d : D) → List·Memᴰ d ds → List·Memᴰ d ds′) (back : (d : D) → List·Memᴰ d ds′ → List·Memᴰ d ds) where
-  pub lawful-order : (d : D) → List·Memᴰ d ds → lawfulNext way is d ds ≡ lawfulNext way is d ds′
+  lawful-order : (d : D) → List·Memᴰ d ds → lawfulNext way is d ds ≡ lawfulNext way is d ds′
   lawful-order d m = elim (some? (others is d ds)) [
     | inl q ↦ first-same way is tells d d d (others is d ds) (others is d ds′) apart (move ds ds′ to) (move ds′ ds back) (q .1)
     | inr q ↦ first-none way (way d) d (others is d ds) q ∙ sym (first-none way (way d) d (others is d ds′) (λ c k. q c (move ds′ ds back c k)))
@@ -34,13 +34,13 @@ module _ {D : Type 0} (way : D → Way) (is : D → D → Bool) (tells : Tells i
       apart : Differ way (d ∷ others is d ds)
       apart a b j k = differ a b (here a j) (here b k)
 
-  pub lawful-listed : (lead : D → D) → Lawful way is ds lead → Lawful way is ds′ lead
+  lawful-listed : (lead : D → D) → Lawful way is ds lead → Lawful way is ds′ lead
   lawful-listed lead l d m = l d (back d m) ∙ lawful-order d (back d m)
 
 module _ {D : Type 0} (is : D → D → Bool) (tells : Tells is) (tail : D → ℕ) (way : D → Way) (all all′ : List D)
     (to : (d : D) → List·Memᴰ d all → List·Memᴰ d all′) (back : (d : D) → List·Memᴰ d all′ → List·Memᴰ d all) where
   -- those of one node, in either list
-  pub from-move : (n : ℕ) (d : D) → List·Memᴰ d (from tail all n) → List·Memᴰ d (from tail all′ n)
+  from-move : (n : ℕ) (d : D) → List·Memᴰ d (from tail all n) → List·Memᴰ d (from tail all′ n)
   from-move n d m = let x = keep-in (λ d. same (tail d) n) all m in keep-has (λ d. same (tail d) n) all′ (to d (x .0)) (x .1)
 
   from-back : (n : ℕ) (d : D) → List·Memᴰ d (from tail all′ n) → List·Memᴰ d (from tail all n)

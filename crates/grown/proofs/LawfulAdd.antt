@@ -151,7 +151,7 @@ module _ (m : Map) (u v : ℕ) (c : Curve) (φ : ℕ) (free : Free m u v c) wher
   unfolding drawn atNodes
   D-perm = subst (λ (l : List Arc). List·Permᴰ l (a ∷ arcs m)) (sym (relinked .arcs)) (more-perm m m₁ (drawnRow m u v c φ) refl)
 
-  pub D-all : {d : Dart} → List·Memᴰ d (directed D) → List·Memᴰ d all
+  D-all : {d : Dart} → List·Memᴰ d (directed D) → List·Memᴰ d all
   D-all {d} k = dart-move D-perm d k
 
   pub all-D : {d : Dart} → List·Memᴰ d all → List·Memᴰ d (directed D)
@@ -199,7 +199,7 @@ module _ (m : Map) (u v : ℕ) (c : Curve) (φ : ℕ) (free : Free m u v c) wher
       (law-agree (directed m) (old u v (leaves m)) W-old (next m) (lone e (next m)) (λ d k. old (bwd e) (fwd e) (next m) (rev d) (rev-in (arcs m) k)) law)
       (λ k. other k refl) (λ k. other k refl) (λ p. fwd≢bwd (sym p)) drawn-apart
 
-  pub drawn-obeys : Obeys m → Obeys (drawn u v c φ m)
+  drawn-obeys : Obeys m → Obeys (drawn u v c φ m)
   unfolding N
   drawn-obeys law = law-agree (directed D) (λ d k. D-leaves d (D-all k)) (λ d k. D-way d) N (next D) (λ d k. D-links (rev d) (D-all (rev-in (arcs D) k)))
       (law-order sameDart tells T W (b ∷ f ∷ directed m) (directed D) (λ d k. all-D (swap d k)) (λ d k. swap′ d (D-all k)) (rotation.back rev N) drawn-apart (put-obeys law))
@@ -216,7 +216,7 @@ sent-good : (m : Map) (c : Curve) (u v : ℕ) → Sent m c u v → drawing.Good 
 sent-good m c u v h = good-iff c .1 (some-rest (c .first) (c .rest) (h .least), h .differ, h .simple)
 
 -- kind 4: nothing departs from either node
-pub lone-free : {s : Sizes} {m : Map} {u v : ℕ} {c : Curve} → AddLone s m u v c → Apart (leaves m) (way m) (directed m) → (List·Memᴰ (m .nextEdge) (nums (arcs m)) → ⊥) → ((d : Dart) → List·Memᴰ d (departures m u) → ⊥) → ((d : Dart) → List·Memᴰ d (departures m v) → ⊥) → Free m u v c
+lone-free : {s : Sizes} {m : Map} {u v : ℕ} {c : Curve} → AddLone s m u v c → Apart (leaves m) (way m) (directed m) → (List·Memᴰ (m .nextEdge) (nums (arcs m)) → ⊥) → ((d : Dart) → List·Memᴰ d (departures m u) → ⊥) → ((d : Dart) → List·Memᴰ d (departures m v) → ⊥) → Free m u v c
 lone-free {m = m} {u} {v} {c} h apart fresh none-u none-v = record { apart = apart; fresh = fresh; ends = reverse-ways c (sent-good m c u v (h .sent)) .0; start = λ d k. absurd (none-u d k); end = λ d k. absurd (none-v d k); loop = λ p. absurd (h .differ p) }
 
 -- kinds 11 and 12: no departure has its directions

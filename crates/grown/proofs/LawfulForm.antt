@@ -52,7 +52,7 @@ Obeys m = Law sameDart rev (leaves m) (way m) (directed m) (next m)
 -- ---- the test and the fact
 
 module _ (m : Map) where
-  pub law-says : obeysLaw m ≡ true → Obeys m
+  law-says : obeysLaw m ≡ true → Obeys m
   unfolding obeysLaw clockwise departures
   law-says h n d k = sameDart-true (next m (rev d)) (clockwise m (rev (rev d))) (all-each (λ c. sameDart (next m c) (clockwise m (rev c))) (directed m) h (rev d) (rev-in (arcs m) (x .0)))
       ∙ ap (clockwise m) (rev-rev d) ∙ ap (λ (i : ℕ). lawfulNext (way m) sameDart d (from (leaves m) (directed m) i)) (x .1)

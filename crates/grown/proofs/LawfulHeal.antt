@@ -1,4 +1,4 @@
--- Kinds 9 and 10: a heal keeps the law. Assumes nothing.
+-- Kinds 9 and 10: the rows of a heal are those of a map with the two edges as one, and the law is kept. Assumes nothing.
 use mathlib.Core.Path.{_≡_, refl, sym, ap, ap₂, _∙_, subst}
 use mathlib.Core.Logic.{_⊎_, inl, inr, _≢_}
 use mathlib.Core.Bool.{Bool, true, false, cond, not}

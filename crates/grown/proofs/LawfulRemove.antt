@@ -106,7 +106,7 @@ module _ (m m₁ X : Map) (e : ℕ) (μ : ℕ → ℕ) (dis : Distinct (nums (ar
       step : (x : Dart) → hasEdge m₁ (x .edge) ≡ true → next m₂ x ≡ rotation.redirect sameDart (fwd e) (next m (bwd e)) (next m) x
       step x h = redirect-next (fwd e) (next m₁ (bwd e)) m₁ x h ∙ ap (λ (g : Dart → Dart). rotation.redirect sameDart (fwd e) (g (bwd e)) g x) (λ i y. next₁ y i)
 
-  pub taken : Taken m X e μ
+  taken : Taken m X e μ
   taken = record {
     from = edge m₃ e .start;
     to = edge m₃ e .end;
@@ -123,11 +123,11 @@ module _ (m m₁ X : Map) (e : ℕ) (μ : ℕ → ℕ) (dis : Distinct (nums (ar
 -- ---- an edge undrawn: nodes keep their numbers, faces stay
 
 module _ (e g : ℕ) (m : Map) where
-  pub undrawn-nodes : nodeNumbers (undrawn e g m) ≡ nodeNumbers m
+  undrawn-nodes : nodeNumbers (undrawn e g m) ≡ nodeNumbers m
   unfolding undrawn atNodes unlinkEdge redirect
   undrawn-nodes = numbers-kept (λ n. isEither (edge m e .start) (edge m e .end) n && same (edgeEnds (unlinkEdge e m) (n .number)) 0) (withFace (some g)) (m .nodes) (λ n. refl)
 
-  pub undrawn-edges : undrawn e g m .edges ≡ unlinkEdge e m .edges
+  undrawn-edges : undrawn e g m .edges ≡ unlinkEdge e m .edges
   unfolding undrawn atNodes
   undrawn-edges = refl
 
@@ -141,7 +141,7 @@ module _ {m X : Map} {e : ℕ} {μ : ℕ → ℕ} (t : Taken m X e μ) where
   stays {d} k ne = subst (λ (l : List Dart). List·Memᴰ d l) (sym (t .darts)) (keep-has (notOf e) (directed m) k (ap not (same-false (d .edge) e ne)))
 
 -- the law is kept
-pub taken-obeys : (m X : Map) (e : ℕ) (μ : ℕ → ℕ) → Apart (leaves m) (way m) (directed m) → Obeys m → hasEdge m e ≡ true → Taken m X e μ → Obeys X
+taken-obeys : (m X : Map) (e : ℕ) (μ : ℕ → ℕ) → Apart (leaves m) (way m) (directed m) → Obeys m → hasEdge m e ≡ true → Taken m X e μ → Obeys X
 taken-obeys m X e μ apart law has t = law-agree (directed X) (t .leaves) (t .way) N (next X) (λ d k. t .next (rev d) (rev-in (arcs X) k))
     (law-order sameDart tells (leaves m) (way m) two (directed X) to fro (rotation.back rev N) (λ n. differ-part (λ d k. let j = from-in (leaves m) two n k in from-has (leaves m) (directed m) n (inside (j .0) .0) (j .1)) (apart n))
     (unlink-edge-law sameDart rev (leaves m) (way m) tells rev-rev (directed m) (next m) (fwd e) law (has-dart m (fwd e) has) (has-dart m (bwd e) has) (λ p. fwd≢bwd (sym p)) apart))

@@ -1,4 +1,4 @@
--- Kinds 7 and 8: a split keeps the law. The curve may run through the point more than once and turn back at it. Assumes nothing.
+-- Kinds 7 and 8: the rows of a split are those of a map with the edge in halves, and the law is kept. The curve may run through the point more than once and turn back at it. Assumes nothing.
 use mathlib.Core.Path.{_≡_, refl, sym, ap, ap₂, _∙_, subst}
 use mathlib.Core.Logic.{inl, inr, _≢_}
 use mathlib.Core.Bool.{Bool, true, false, cond, true≢false}
@@ -181,7 +181,7 @@ module _ (m m′ : Map) (e n a b : ℕ) (p : Point) (L : Lawful m) (h : InHalves
     face-d = bears-of m′ once-m′ second in-second (fwd b) refl ∙ sym (bears-row m (fwd e));
   }
 
-  pub halves-obey : Obeys m′
+  halves-obey : Obeys m′
   halves-obey = split-lawful e (fwd a) (fwd b) s n t r halves (directed m) (directed m′) of-m to-m (dart-move arcs-m′) (dart-move (Permᴰ·symm arcs-m′)) (L .apart) (L .law)
 
 -- ---- the rows of a split

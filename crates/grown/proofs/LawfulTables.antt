@@ -131,7 +131,7 @@ module _ (s : Sizes) (m : Map) (L : Lawful m) (one : 1 ≤ m .nextEdge) (sheet :
   by-lines : {N : ℕ} {ks ls : List Line} → ks ≡ ls → Sheet N ls → (N : ℕ) × Sheet N ks
   by-lines {N} e t = (N, subst (Sheet N) (sym e) t)
 
-  pub carried-sheet : (t : Ticket) → firstReason (reasons s m t) ≡ 0 → (N : ℕ) × Sheet N (lines (carried m t .0))
+  carried-sheet : (t : Ticket) → firstReason (reasons s m t) ≡ 0 → (N : ℕ) × Sheet N (lines (carried m t .0))
   unfolding carried
   carried-sheet (AddIsoNode f x y) h = by-lines (addIsoNode-becomes (point x y) m .lines) sheet
   carried-sheet (MoveIsoNode n x y) h = by-lines (moveIsoNode-becomes (natAbs n) (point x y) m .lines) sheet
@@ -187,7 +187,7 @@ module _ (m : Map) (law : Obeys m) {N : ℕ} (sheet : Sheet N (lines m)) where
       let right = ap (λ (d : Dart). d .edge) (next-row m (bwd (r .number)) ∙ ap (λ (x : Edge). x .nextRight) at) in
       record { few = sheet .few (lineOf r) (Memᴰ·map lineOf k); left = λ b z. omega arith; right = λ b z. omega arith }
 
-  pub lawful-back : (s : Sizes) → mapOf (lentOf s m) ≡ m
+  lawful-back : (s : Sizes) → mapOf (lentOf s m) ≡ m
   lawful-back s = reads-back s m holds
 
 -- ---- the theorem

@@ -1,14 +1,14 @@
--- Every grown map is good, hence sound and in form: `Grows`. `Readings`, `RowChanges`: what a map reads in its rows, and after each way of changing them.
--- `Reasons`: what holds of a ticket that nothing turns down. `Numbers` and the files named after it, `Carried`: Numbered kept by all fourteen kinds, and rows that fit.
--- `Joint`: where a heal joins. `CurvesKinds`, `CurvesHeal`: Surveyed kept by all fourteen kinds; the other files of curves say how lines and places change.
--- `Changes`, `SplitsWoven`, `HealsWoven`: Woven kept by kinds 1, 2, 3 and 6, by 7 and 8, by 9 and 10. `Renumber`: other names of edges. `LawOrder`, `Apart`: the link law. `Halved`, `HalvedLaw`,
--- `Splits`, `Heals`: a map with an edge whole and with it in halves. `Fresh`, `RowDarts`: numbers, and what directed edges read.
--- `EdgesAdd`, `EdgesAdded`, `EdgesUndrawn`, `EdgesRemoved`: Woven kept by kinds 4, by 11 and 12, by 5, by 13 and 14; the other files of edges: rings, an edge linked in, a face split, an edge taken out.
--- `Sounds`, `Forms`, `Ranges`: a good map is sound, and in form in its tables.
+-- Every grown map is good, hence sound and in form, and its links obey the law: `Grows`. Good is Numbered, Surveyed and Woven (specs/Good.antt): a map in the plane whose links obey the law.
+
+-- Rows: what a map reads in them, and after each way of changing them; directed edges; lists
+pub mod Scanning
 pub mod Readings
 pub mod RowChanges
+pub mod RowDarts
+-- what holds of a ticket that nothing turns down, and where a heal joins
 pub mod Reasons
-pub mod Scanning
+pub mod Joint
+-- Numbered kept by all fourteen kinds, and rows that fit (`Carried`)
 pub mod Numbers
 pub mod Outlines
 pub mod NumbersNodes
@@ -20,7 +20,7 @@ pub mod NumbersSplit
 pub mod NumbersHeal
 pub mod Sizes
 pub mod Carried
-pub mod Joint
+-- Surveyed kept by all fourteen kinds (`CurvesKinds`, `CurvesHeal`), by the lines and places of a map
 pub mod CurvesBent
 pub mod CurvesKept
 pub mod CurvesSurvey
@@ -32,48 +32,51 @@ pub mod CurvesRows
 pub mod CurvesHalves
 pub mod CurvesKinds
 pub mod CurvesHeal
-pub mod Renumber
-pub mod LawOrder
+-- a good map is sound, in form and read back from its tables
 pub mod Apart
-pub mod Changes
-pub mod Halved
-pub mod HalvedLaw
-pub mod Splits
-pub mod Heals
-pub mod RowDarts
-pub mod SplitsRows
-pub mod SplitsPlane
-pub mod HealsRows
-pub mod HealsPlane
-pub mod EdgesRings
-pub mod EdgesLaw
-pub mod EdgesPut
-pub mod EdgesDrawn
-pub mod EdgesJoined
-pub mod EdgesReached
-pub mod EdgesAdd
-pub mod EdgesShared
-pub mod EdgesSides
-pub mod EdgesSplit
-pub mod EdgesAdded
-pub mod EdgesTaken
-pub mod EdgesRemove
-pub mod Sounds
 pub mod Forms
 pub mod Ranges
+pub mod Sounds
+-- rings, and faces reached from face 0
+pub mod EdgesRings
+pub mod EdgesReached
+-- the link law kept on ALL tables in form whose links obey it (`LawfulKept`, `LawfulTables`), and what maps read after each kind
+pub mod EdgesLaw
+pub mod LawOrder
+pub mod Halved
+pub mod HalvedLaw
 pub mod EdgesCorners
-pub mod EdgesMerged
-pub mod EdgesUndrawn
-pub mod EdgesRemoved
-pub mod Growth
-pub mod Grows
+pub mod EdgesDrawn
+pub mod EdgesSides
+pub mod SplitsRows
+pub mod HealsRows
 pub mod LawfulForm
 pub mod LawfulCurves
+pub mod LawfulChange
 pub mod LawfulSplit
 pub mod LawfulWhole
 pub mod LawfulHeal
 pub mod LawfulAdd
 pub mod LawfulRemove
-pub mod LawfulChange
 pub mod LawfulKept
 pub mod LawfulTables
+-- a map in the plane stays one, and its faces reached: kinds 1, 2, 3 and 6 (`Changes`), 7 and 8, 9 and 10, 4 and 11 and 12 (`EdgesAdd`, `EdgesSplit`, `EdgesAdded`), 5 (`EdgesRemove`), 13 and 14 (`EdgesRemoved`)
+pub mod Renumber
+pub mod Changes
+pub mod Splits
+pub mod SplitsPlane
+pub mod Heals
+pub mod HealsPlane
+pub mod EdgesPut
+pub mod EdgesJoined
+pub mod EdgesAdd
+pub mod EdgesShared
+pub mod EdgesSplit
+pub mod EdgesAdded
+pub mod EdgesTaken
+pub mod EdgesMerged
+pub mod EdgesRemove
+pub mod EdgesRemoved
+-- every ticket leaves a good map good; the theorems
+pub mod Growth
+pub mod Grows

@@ -121,7 +121,7 @@ met-ends m k dis h = go (Memᴰ·of-map outlineOf (m .edges) (h .1))
 pub has-face : (m : Map) (f : ℕ) → List·Memᴰ f (m .faces) → hasFace m f ≡ true
 has-face m f k = some-any (same f) (m .faces) k (same-refl f)
 
-pub face-has : (m : Map) (f : ℕ) → hasFace m f ≡ true → List·Memᴰ f (m .faces)
+face-has : (m : Map) (f : ℕ) → hasFace m f ≡ true → List·Memᴰ f (m .faces)
 face-has m f h = let x = any-some (same f) (m .faces) h in Memᴰ·cast (same-true f (x .0) (x .2)) (x .1)
 
 -- ---- from `Numbered` and back

@@ -135,7 +135,7 @@ module _ (m : Map) (s : Shares) (dis : Distinct (nums (arcs m))) {fs : List ℕ}
           right : List·Memᴰ (bears m (bwd (x .0 .number))) (m .faces)
           right = Memᴰ·cast (bears-row m (bwd (x .0 .number)) ∙ ap (λ (e : Edge). e .right) (edge-at m dis (x .1))) (row .1)
 
-  pub shared-ranked : {c : ℕ} → Rising 0 c fs → firstOr 1 fs ≡ 0 → Ranked (sharedOut s m .nodes) (outlines (sharedOut s m)) fs (m .nextNode) (m .nextEdge) c
+  shared-ranked : {c : ℕ} → Rising 0 c fs → firstOr 1 fs ≡ 0 → Ranked (sharedOut s m .nodes) (outlines (sharedOut s m)) fs (m .nextNode) (m .nextEdge) c
   unfolding sharedOut
   shared-ranked rise z =
       let O : outlines (sharedOut s m) ≡ map shared-edge (outlines m) = outlines-map (λ e. withSides (sideOfDart m s (fwd (e .number))) (sideOfDart m s (bwd (e .number))) e) shared-edge (m .edges) (λ e k. refl) in

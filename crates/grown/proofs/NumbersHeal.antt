@@ -2,7 +2,7 @@
 use mathlib.Core.Path.{_≡_, refl, sym, ap, _∙_, subst}
 use mathlib.Core.Logic.{_⊎_, inl, inr, _≢_}
 use mathlib.Core.Bool.{Bool, true, false, cond, not, _||_}
-use mathlib.Core.List.{List, [], _∷_, _++_, map, map-append, List·Memᴰ, List·Memᴰ·head, List·Memᴰ·cases-cons, List·Memᴰ·append-cases, List·Memᴰ·eq-of-singleton, Memᴰ·append-left, Memᴰ·append-right, Memᴰ·map, Memᴰ·cast}
+use mathlib.Core.List.{List, [], _∷_, _++_, map, map-append, List·Memᴰ, List·Memᴰ·head, List·Memᴰ·append-cases, List·Memᴰ·eq-of-singleton, Memᴰ·append-left, Memᴰ·append-right, Memᴰ·map, Memᴰ·cast}
 use mathlib.Core.Option.{Option·getD}
 use Prim.Native.Nat.{ℕ, _+_, _≤_}
 use native.Mathlib.Nat.{add-zero}
@@ -15,10 +15,12 @@ use Rattle.lists.proofs.Keeps.{keep-in, keep-has, keep-map}
 use Rattle.geometry.proofs.Booleans.{or-false, or-no}
 use Rattle.planar.specs.Map.{Dart, fwd, bwd, rev}
 use Rattle.map.specs.Rows.{Node, Edge, Map, edge, hasEdge, atEdge, withoutNode, withoutEdge}
-use Rattle.map.specs.Darts.{leaves, arrives, edgeEnds, next}
-use Rattle.map.specs.Edits.{sharedNodes, joint, parts, healedCurve, heal}
-use Rattle.grown.proofs.Readings.{edge-row, leaves-row}
-use Rattle.grown.proofs.Scanning.{Rising, rising-keep, found}
+use Rattle.map.specs.Darts.{leaves, arrives, next}
+use Rattle.map.specs.Edits.{joint, parts, healedCurve, heal}
+use Rattle.grown.proofs.Readings.{edge-row, leaves-row, tailIn}
+use Rattle.planar.proofs.Turns.{rev-rev}
+use Rattle.grown.proofs.Joint.{meets}
+use Rattle.grown.proofs.Scanning.{Rising, rising-keep}
 use Rattle.grown.proofs.Numbers.{Outline, outlineOf, outlines, outlineNumber, EndsAt, Sided, RankedMap}
 use Rattle.grown.proofs.Outlines.{ranked-shape, outlines-map, outlines-without, lessOutline}
 use Rattle.grown.proofs.NumbersNodes.{ranked-less-nodes}
@@ -42,62 +44,32 @@ far-start e h = record { only = λ k ne x. elim x [ inl q ↦ q | inr q ↦ absu
 far-end : {j : ℕ} (e : Edge) → e .start ≡ j → Far j (e .end) e
 far-end e h = record { only = λ k ne x. elim x [ inl q ↦ absurd (ne (sym q ∙ h)) | inr q ↦ q ]; ends = λ k q. inr q }
 
+-- a directed edge that arrives at j
+far-of : (m : Map) (j : ℕ) (z : Dart) → leaves m (rev z) ≡ j → Far j (leaves m z) (edge m (z .edge))
+far-of m j z q = subst (λ (x : ℕ). Far j x (edge m (z .edge))) (sym (leaves-row m z)) (go (z .back) (sym (leaves-row m (rev z)) ∙ q))
+  where
+    go : (b : Bool) → tailIn (not b) (edge m (z .edge)) ≡ j → Far j (tailIn b (edge m (z .edge))) (edge m (z .edge))
+    go true p = far-end (edge m (z .edge)) p
+    go false p = far-start (edge m (z .edge)) p
+
 module _ (m : Map) (e f : ℕ) (h : isSome (joint m e f) ≡ true) where
-  -- both edges end there
-  shared : ((jointOf m e f ≡ edge m e .end) ⊎ (jointOf m e f ≡ edge m e .start)) × ((jointOf m e f ≡ edge m f .start) ⊎ (jointOf m e f ≡ edge m f .end))
-  unfolding joint sharedNodes
-  shared = (go (List·Memᴰ·cases-cons (both .0)), other (or-true (same (jointOf m e f) (edge m f .start)) (same (jointOf m e f) (edge m f .end)) (both .1)))
-    where
-      both : List·Memᴰ (jointOf m e f) (edge m e .end ∷ edge m e .start ∷ []) × (same (jointOf m e f) (edge m f .start) || same (jointOf m e f) (edge m f .end) ≡ true)
-      both = keep-in (λ n. same n (edge m f .start) || same n (edge m f .end)) (edge m e .end ∷ edge m e .start ∷ []) (found (λ n. same (edgeEnds m n) 2) 0 (sharedNodes m e f) h .0)
-
-      go : (jointOf m e f ≡ edge m e .end) ⊎ List·Memᴰ (jointOf m e f) (edge m e .start ∷ []) → (jointOf m e f ≡ edge m e .end) ⊎ (jointOf m e f ≡ edge m e .start)
-      go (inl q) = inl q
-      go (inr q) = inr (List·Memᴰ·eq-of-singleton q)
-
-      other : (same (jointOf m e f) (edge m f .start) ≡ true) ⊎ (same (jointOf m e f) (edge m f .end) ≡ true) → (jointOf m e f ≡ edge m f .start) ⊎ (jointOf m e f ≡ edge m f .end)
-      other (inl q) = inl (same-true (jointOf m e f) (edge m f .start) q)
-      other (inr q) = inr (same-true (jointOf m e f) (edge m f .end) q)
-
-  abbrev choose : Bool → Bool → Bool → Dart × Dart
-  choose p q r = cond p (fwd e, cond q (fwd f) (bwd f)) (cond r (fwd f) (bwd f), fwd e)
-
   abbrev Between : Dart × Dart → Type 0
   Between c =
       (Far (jointOf m e f) (leaves m (c .0)) (edge m e) × Far (jointOf m e f) (arrives m (c .1)) (edge m f))
       ⊎ (Far (jointOf m e f) (arrives m (c .1)) (edge m e) × Far (jointOf m e f) (leaves m (c .0)) (edge m f))
 
   -- the healed edge runs between the far ends
-  pub far : Between (parts m e f)
-  unfolding parts
-  far = go (same (jointOf m e f) (edge m e .end)) refl (same (leaves m (fwd f)) (jointOf m e f)) refl (same (arrives m (fwd f)) (jointOf m e f)) refl
+  far : Between (parts m e f)
+  far = elim (meets m e f h .edges) [ inl q ↦ inl (of (q .0) start, of (q .1) end) | inr q ↦ inr (of (q .1) end, of (q .0) start) ]
     where
-      from-start : (x : ℕ) → edge m x .end ≡ jointOf m e f → Far (jointOf m e f) (leaves m (fwd x)) (edge m x)
-      from-start x q = rw (leaves-row m (fwd x)) (far-start (edge m x) q)
+      start : Far (jointOf m e f) (leaves m (parts m e f .0)) (edge m (parts m e f .0 .edge))
+      start = far-of m (jointOf m e f) (parts m e f .0) (meets m e f h .arrives)
 
-      from-end : (x : ℕ) → edge m x .start ≡ jointOf m e f → Far (jointOf m e f) (leaves m (bwd x)) (edge m x)
-      from-end x q = rw (leaves-row m (bwd x)) (far-end (edge m x) q)
+      end : Far (jointOf m e f) (leaves m (rev (parts m e f .1))) (edge m (parts m e f .1 .edge))
+      end = far-of m (jointOf m e f) (rev (parts m e f .1)) (ap (leaves m) (rev-rev (parts m e f .1)) ∙ meets m e f h .departs)
 
-      starts : same (leaves m (fwd f)) (jointOf m e f) ≡ true → edge m f .start ≡ jointOf m e f
-      starts q = sym (leaves-row m (fwd f)) ∙ same-true (leaves m (fwd f)) (jointOf m e f) q
-
-      ends : same (leaves m (fwd f)) (jointOf m e f) ≡ false → edge m f .end ≡ jointOf m e f
-      ends q = elim (shared .1) [ inl z ↦ absurd (differ (leaves m (fwd f)) (jointOf m e f) q (leaves-row m (fwd f) ∙ sym z)) | inr z ↦ sym z ]
-
-      ends′ : same (arrives m (fwd f)) (jointOf m e f) ≡ true → edge m f .end ≡ jointOf m e f
-      ends′ q = sym (leaves-row m (bwd f)) ∙ same-true (arrives m (fwd f)) (jointOf m e f) q
-
-      starts′ : same (arrives m (fwd f)) (jointOf m e f) ≡ false → edge m f .start ≡ jointOf m e f
-      starts′ q = elim (shared .1) [ inl z ↦ sym z | inr z ↦ absurd (differ (arrives m (fwd f)) (jointOf m e f) q (leaves-row m (bwd f) ∙ sym z)) ]
-
-      first : same (jointOf m e f) (edge m e .end) ≡ false → edge m e .start ≡ jointOf m e f
-      first q = elim (shared .0) [ inl z ↦ absurd (differ (jointOf m e f) (edge m e .end) q z) | inr z ↦ sym z ]
-
-      go : (p : Bool) → same (jointOf m e f) (edge m e .end) ≡ p → (q : Bool) → same (leaves m (fwd f)) (jointOf m e f) ≡ q → (r : Bool) → same (arrives m (fwd f)) (jointOf m e f) ≡ r → Between (choose p q r)
-      go true u true v r w = inl (from-start e (sym (same-true (jointOf m e f) (edge m e .end) u)), from-end f (starts v))
-      go true u false v r w = inl (from-start e (sym (same-true (jointOf m e f) (edge m e .end) u)), from-start f (ends v))
-      go false u q v true w = inr (from-end e (first u), from-start f (ends′ w))
-      go false u q v false w = inr (from-end e (first u), from-end f (starts′ w))
+      of : {x i k : ℕ} → i ≡ k → Far (jointOf m e f) x (edge m i) → Far (jointOf m e f) x (edge m k)
+      of {x} q = subst (λ (i : ℕ). Far (jointOf m e f) x (edge m i)) q
 
 -- ---- the outlines
 

@@ -71,7 +71,7 @@ ranked-less-nodes {ns} {a = a} x r = record {
   first-edge = r .first-edge;
 }
 
-pub ranked-nodes : {ns : List Node} {os : List Outline} {fs : List ℕ} {a b c : ℕ} (f : Node → Node) → ((n : Node) → List·Memᴰ n ns → f n .number ≡ n .number) → ((n : Node) → List·Memᴰ n ns → Placed os fs (f n)) → Ranked ns os fs a b c → Ranked (map f ns) os fs a b c
+ranked-nodes : {ns : List Node} {os : List Outline} {fs : List ℕ} {a b c : ℕ} (f : Node → Node) → ((n : Node) → List·Memᴰ n ns → f n .number ≡ n .number) → ((n : Node) → List·Memᴰ n ns → Placed os fs (f n)) → Ranked ns os fs a b c → Ranked (map f ns) os fs a b c
 ranked-nodes {ns} {a = a} f h p r = record {
   nodes = rising-nodes a f ns h (r .nodes);
   edges = r .edges;
@@ -118,14 +118,14 @@ module _ (fs : List ℕ) where
   above-in x (f ∷ l) z h = highest-in x f l (h f (List·Memᴰ·head refl)) (λ g j. h g (List·Memᴰ·tail j))
 
 -- the face of a point exists
-pub face-of-point : (m : Map) (p : Point) → RankedMap m → List·Memᴰ (faceOfPoint m p) (m .faces)
+face-of-point : (m : Map) (p : Point) → RankedMap m → List·Memᴰ (faceOfPoint m p) (m .faces)
 unfolding faceOfPoint floors
 face-of-point m p r = above-in (m .faces) (p .x) (floors m p) (zero-in (m .faces) (r .zero)) (upper-in (m .faces) (m .edges) p (λ e k. r .sided (outlineOf e) (Memᴰ·map outlineOf k)))
 
 -- ---- the kinds
 
 -- no edge ends at a number not yet given
-pub fresh-bare : (m : Map) → Woven m → RankedMap m → (k : ℕ) → m .nextNode ≤ k → Met (outlines m) k → ⊥
+fresh-bare : (m : Map) → Woven m → RankedMap m → (k : ℕ) → m .nextNode ≤ k → Met (outlines m) k → ⊥
 fresh-bare m w r k low h = go (Memᴰ·of-map outlineOf (m .edges) (h .1))
   where
     below : (n : ℕ) → List·Memᴰ n (map nodeNumber (m .nodes)) → n ≡ k → ⊥

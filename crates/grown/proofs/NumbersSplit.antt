@@ -152,7 +152,7 @@ module _ (e n x : ℕ) (o : Outline) (os : List Outline) (k : List·Memᴰ o os)
 
 -- ---- kinds 7 and 8
 
-pub redirect-outline : (old new : Dart) (m : Map) (e : ℕ) → outlineOf (edge (redirect old new m) e) ≡ outlineOf (edge m e)
+redirect-outline : (old new : Dart) (m : Map) (e : ℕ) → outlineOf (edge (redirect old new m) e) ≡ outlineOf (edge m e)
 unfolding redirect
 redirect-outline old new m e = mapped-kept m (redirect old new m) (λ e. withLinks (instead old new (e .nextLeft)) (instead old new (e .nextRight)) e) refl (λ r k. refl) outlineOf (λ r. refl) e
 
@@ -163,7 +163,7 @@ renaming p p′ q q′ m = redirect q q′ (redirect p p′ m)
 pub renaming-framed : (p p′ q q′ : Dart) (m : Map) → Framed m (renaming p p′ q q′ m)
 renaming-framed p p′ q q′ m = framed-join (redirect-framed p p′ m) (redirect-framed q q′ (redirect p p′ m))
 
-pub renaming-outline : (p p′ q q′ : Dart) (m : Map) (e : ℕ) → outlineOf (edge (renaming p p′ q q′ m) e) ≡ outlineOf (edge m e)
+renaming-outline : (p p′ q q′ : Dart) (m : Map) (e : ℕ) → outlineOf (edge (renaming p p′ q q′ m) e) ≡ outlineOf (edge m e)
 renaming-outline p p′ q q′ m e = redirect-outline q q′ (redirect p p′ m) e ∙ redirect-outline p p′ m e
 
 pub split-outlines : (keeps : Bool) (e : ℕ) (p : Point) (m : Map) → outlines (split keeps e p m) ≡ splitOutlines keeps e (m .nextNode) (m .nextEdge) (outlineOf (edge m e)) (outlines m)

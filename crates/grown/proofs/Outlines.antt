@@ -67,7 +67,7 @@ pub redirect-framed : (old new : Dart) (m : Map) → Framed m (redirect old new 
 unfolding redirect
 redirect-framed old new m = record { nodes = refl; outlines = map-map outlineOf _ (m .edges); faces = refl; next-node = refl; next-edge = refl; next-face = refl }
 
-pub lead-framed : (d c : Dart) (m : Map) → Framed m (lead d c m)
+lead-framed : (d c : Dart) (m : Map) → Framed m (lead d c m)
 unfolding lead
 lead-framed d c m = at-framed (d .edge) _ m (λ r. go (d .back) r)
   where
@@ -79,7 +79,7 @@ link-framed : (p : Dart) (there : List Dart) (m : Map) → Framed m (linkIn p th
 unfolding linkIn
 link-framed p there m = framed-join (redirect-framed _ p m) (lead-framed _ _ _)
 
-pub link-edge-framed : (e : ℕ) (m : Map) → Framed m (linkEdge e m)
+link-edge-framed : (e : ℕ) (m : Map) → Framed m (linkEdge e m)
 unfolding linkEdge
 link-edge-framed e m = framed-join (link-framed (fwd e) _ m) (link-framed (bwd e) _ _)
 

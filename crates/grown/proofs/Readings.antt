@@ -43,7 +43,7 @@ module _ {A : Type 0} (num : A → ℕ) where
       step ih (inl e) = rw (e, same-refl (num q))
       step ih (inr k) = rw (same-false (num q) (num r) (λ p. dis .0 (Memᴰ·cast p (Memᴰ·map num k)))) (ih k)
 
-  pub has-at : (rs : List A) {r : A} → List·Memᴰ r rs → has rs (num r) ≡ true
+  has-at : (rs : List A) {r : A} → List·Memᴰ r rs → has rs (num r) ≡ true
   has-at [] m = absurd (List·Memᴰ·not-nil m)
   has-at (q ∷ rs) {r} m = step (same (num q) (num r)) refl (has-at rs) (List·Memᴰ·cases-cons m)
     where
@@ -81,7 +81,7 @@ module _ {A : Type 0} (num : A → ℕ) where
         step true = refl
         step false = refl
 
-    pub has-map : (rs : List A) (n : ℕ) → ((r : A) → List·Memᴰ r rs → num (f r) ≡ num r) → has (map f rs) n ≡ has rs n
+    has-map : (rs : List A) (n : ℕ) → ((r : A) → List·Memᴰ r rs → num (f r) ≡ num r) → has (map f rs) n ≡ has rs n
     has-map rs n h = rw (find-map rs n h) (step (find (numbered n) rs))
       where
         step : (o : Option A) → isSome (Option·map f o) ≡ isSome o
@@ -89,7 +89,7 @@ module _ {A : Type 0} (num : A → ℕ) where
         step (some a) = refl
 
     -- the row is mapped
-    pub look-map : (u : A) (rs : List A) (n : ℕ) → ((r : A) → List·Memᴰ r rs → num (f r) ≡ num r) → has rs n ≡ true → look u (map f rs) n ≡ f (look u rs n)
+    look-map : (u : A) (rs : List A) (n : ℕ) → ((r : A) → List·Memᴰ r rs → num (f r) ≡ num r) → has rs n ≡ true → look u (map f rs) n ≡ f (look u rs n)
     look-map u rs n h k = rw (find-map rs n h) (step (find (numbered n) rs) k)
       where
         step : (o : Option A) → isSome o ≡ true → Option·getD (Option·map f o) u ≡ f (Option·getD o u)
@@ -97,7 +97,7 @@ module _ {A : Type 0} (num : A → ℕ) where
         step (some a) e = refl
 
     -- what f leaves of a row is read as it was, whatever the number
-    pub look-kept : {B : Type 0} (g : A → B) (u : A) (rs : List A) (n : ℕ) → ((r : A) → List·Memᴰ r rs → num (f r) ≡ num r) → ((r : A) → g (f r) ≡ g r) → g (look u (map f rs) n) ≡ g (look u rs n)
+    look-kept : {B : Type 0} (g : A → B) (u : A) (rs : List A) (n : ℕ) → ((r : A) → List·Memᴰ r rs → num (f r) ≡ num r) → ((r : A) → g (f r) ≡ g r) → g (look u (map f rs) n) ≡ g (look u rs n)
     look-kept {B} g u rs n h k = rw (find-map rs n h) (step (find (numbered n) rs))
       where
         step : (o : Option A) → g (Option·getD (Option·map f o) u) ≡ g (Option·getD o u)
@@ -137,7 +137,7 @@ module _ {A : Type 0} (num : A → ℕ) where
   pub has-without : (e : ℕ) (rs : List A) (n : ℕ) → n ≢ e → has (without e rs) n ≡ has rs n
   has-without e rs n h = ap isSome (find-without e rs n h)
 
-  pub has-without-it : (e : ℕ) (rs : List A) → has (without e rs) e ≡ false
+  has-without-it : (e : ℕ) (rs : List A) → has (without e rs) e ≡ false
   has-without-it e [] = refl
   has-without-it e (q ∷ rs) = step (same (num q) e) refl (has-without-it e rs)
     where
@@ -216,10 +216,10 @@ module _ (m : Map) where
   pub arc-at : {r : Edge} → List·Memᴰ r (m .edges) → List·Memᴰ (arcOf r) (arcs m)
   arc-at k = Memᴰ·map arcOf k
 
-  pub arc-row : {a : Arc} → List·Memᴰ a (arcs m) → (r : Edge) × List·Memᴰ r (m .edges) × (arcOf r ≡ a)
+  arc-row : {a : Arc} → List·Memᴰ a (arcs m) → (r : Edge) × List·Memᴰ r (m .edges) × (arcOf r ≡ a)
   arc-row k = Memᴰ·of-map arcOf (m .edges) k
 
-  pub arc-has : {a : Arc} → List·Memᴰ a (arcs m) → hasEdge m (a .num) ≡ true
+  arc-has : {a : Arc} → List·Memᴰ a (arcs m) → hasEdge m (a .num) ≡ true
   arc-has {a} k = go (arc-row k)
     where
       go : (r : Edge) × List·Memᴰ r (m .edges) × (arcOf r ≡ a) → hasEdge m (a .num) ≡ true
@@ -276,7 +276,7 @@ module _ (m m′ : Map) (E : m′ .edges ≡ m .edges) where
   pub bears-by : (d : Dart) → bears m′ d ≡ bears m d
   bears-by d = rw (bears-row, bears-row, edge-by (d .edge))
 
-  pub course-by : (d : Dart) → course m′ d ≡ course m d
+  course-by : (d : Dart) → course m′ d ≡ course m d
   course-by d = rw (course-row, course-row, edge-by (d .edge))
 
   pub way-by : (d : Dart) → way m′ d ≡ way m d

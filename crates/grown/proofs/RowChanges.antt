@@ -1,4 +1,4 @@
--- What a map reads after one row is changed, appended or left out. Assumes nothing.
+-- What a map reads after one row is changed, appended or left out; a map in the plane. Assumes nothing.
 use mathlib.Core.Path.{_≡_, refl, sym, ap, _∙_, subst}
 use mathlib.Core.Logic.{inl, inr, _≢_}
 use mathlib.Core.Bool.{Bool, true, false, cond, not, true≢false}
@@ -30,7 +30,7 @@ module _ {A : Type 0} (num : A → ℕ) where
       step (some a) e = absurd (true≢false e)
 
   -- nothing to leave out
-  pub without-none : (e : ℕ) (rs : List A) → (List·Memᴰ e (map num rs) → ⊥) → without num e rs ≡ rs
+  without-none : (e : ℕ) (rs : List A) → (List·Memᴰ e (map num rs) → ⊥) → without num e rs ≡ rs
   without-none e rs h = keep-all _ rs (λ r k. rw (same-false (num r) e (λ p. h (Memᴰ·cast (sym p) (Memᴰ·map num k)))))
 
   -- a row put before the others, which were without it
@@ -43,11 +43,11 @@ module _ {A : Type 0} (num : A → ℕ) where
       step true s ih k = List·Permᴰ·cons refl (subst (List·Permᴰ rs) (sym (without-none e rs (λ j. dis .0 (Memᴰ·cast (same-true (num q) e s) j)))) (Permᴰ·refl rs))
       step false s ih k = List·Permᴰ·trans (List·Permᴰ·cons refl (ih k)) (List·Permᴰ·swap refl refl)
 
-pub darts-append : (xs ys : List Arc) → darts (xs ++ ys) ≡ darts xs ++ darts ys
+darts-append : (xs ys : List Arc) → darts (xs ++ ys) ≡ darts xs ++ darts ys
 darts-append [] ys = refl
 darts-append (x ∷ xs) ys = ap (λ (l : List Dart). fwd (x .num) ∷ bwd (x .num) ∷ l) (darts-append xs ys)
 
-pub darts-keep : (e : ℕ) (xs : List Arc) → darts (keep (λ a. not (same (a .num) e)) xs) ≡ keep (λ d. not (same (d .edge) e)) (darts xs)
+darts-keep : (e : ℕ) (xs : List Arc) → darts (keep (λ a. not (same (a .num) e)) xs) ≡ keep (λ d. not (same (d .edge) e)) (darts xs)
 darts-keep e [] = refl
 darts-keep e (x ∷ xs) = step (same (x .num) e) (darts-keep e xs)
   where
@@ -67,7 +67,7 @@ keep-append {D} p (x ∷ xs) ys = rw (keep-append p xs ys) (step (p x))
 
 -- ---- edges
 
-pub edge-missing : (m : Map) (e : ℕ) → hasEdge m e ≡ false → edge m e ≡ missing
+edge-missing : (m : Map) (e : ℕ) → hasEdge m e ≡ false → edge m e ≡ missing
 unfolding edge
 edge-missing m e h = look-none numberOf missing (m .edges) e h
 
@@ -83,7 +83,7 @@ module _ (e : ℕ) (f : Edge → Edge) (m : Map) (keeps : (r : Edge) → List·M
       step true s = keeps r k (same-true (r .number) e s) ∙ sym (same-true (r .number) e s)
       step false s = refl
 
-  pub at-has : (x : ℕ) → hasEdge (atEdge e f m) x ≡ hasEdge m x
+  at-has : (x : ℕ) → hasEdge (atEdge e f m) x ≡ hasEdge m x
   unfolding atEdge
   at-has x = mapped-has m (atEdge e f m) changed refl kept x
 
@@ -104,7 +104,7 @@ module _ (m m′ : Map) (r : Edge) (E : m′ .edges ≡ m .edges ++ r ∷ []) wh
   unfolding edge
   more-new h = ap (λ (es : List Edge). look numberOf missing es (r .number)) E ∙ look-second numberOf missing (m .edges) (r ∷ []) (r .number) h ∙ look-one numberOf missing r
 
-  pub more-arcs : arcs m′ ≡ arcs m ++ arcOf r ∷ []
+  more-arcs : arcs m′ ≡ arcs m ++ arcOf r ∷ []
   more-arcs = ap (map arcOf) E ∙ map-append arcOf (m .edges) (r ∷ [])
 
   pub more-directed : directed m′ ≡ directed m ++ fwd (r .number) ∷ bwd (r .number) ∷ []
@@ -123,7 +123,7 @@ module _ (m m′ : Map) (e : ℕ) (E : m′ .edges ≡ withoutEdge e (m .edges))
   unfolding edge
   less-edge x ne = ap (λ (es : List Edge). look numberOf missing es x) E ∙ look-without numberOf missing e (m .edges) x ne
 
-  pub less-arcs : arcs m′ ≡ keep (λ a. not (same (a .num) e)) (arcs m)
+  less-arcs : arcs m′ ≡ keep (λ a. not (same (a .num) e)) (arcs m)
   less-arcs = ap (map arcOf) E ∙ sym (keep-map arcOf (λ r. not (same (r .number) e)) (λ a. not (same (a .num) e)) (m .edges) (λ r k. refl))
 
   pub less-directed : directed m′ ≡ keep (λ d. not (same (d .edge) e)) (directed m)

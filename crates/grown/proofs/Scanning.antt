@@ -1,4 +1,4 @@
--- Scans of a list by its members, and numbers that rise. Assumes nothing.
+-- Scans of a list by its members, and numbers that rise from a least to a next. Assumes nothing.
 use mathlib.Core.Path.{_≡_, refl, sym, ap, _∙_}
 use mathlib.Core.Logic.{_⊎_, inl, inr}
 use mathlib.Core.Bool.{Bool, true, false, cond, _&&_, true≢false}
@@ -49,7 +49,7 @@ none-has p (y ∷ l) h x m = let k = or-false (p y) (any p l) h in elim (List·M
 pub found : {A : Type 0} (p : A → Bool) (u : A) (l : List A) → isSome (find p l) ≡ true → List·Memᴰ (Option·getD (find p l) u) l × (p (Option·getD (find p l) u) ≡ true)
 found p u l h = let r = scans.find-some p l h in rw (r .3) (r .1, r .2)
 
-pub all-of : {A : Type 0} {R : A → Type 0} (l : List A) → ((x : A) → List·Memᴰ x l → R x) → All R l
+all-of : {A : Type 0} {R : A → Type 0} (l : List A) → ((x : A) → List·Memᴰ x l → R x) → All R l
 all-of [] h = tt
 all-of (y ∷ l) h = (h y (List·Memᴰ·head refl), all-of l (λ x k. h x (List·Memᴰ·tail k)))
 

@@ -31,7 +31,7 @@ use Rattle.grown.proofs.NumbersHeal.{jointOf, healedOutline, healOutlin
 
 -- ---- lengths
 
-pub keep-le : {A : Type 0} (p : A → Bool) (l : List A) → length (keep p l) ≤ length l
+keep-le : {A : Type 0} (p : A → Bool) (l : List A) → length (keep p l) ≤ length l
 keep-le p [] = omega arith
 keep-le {A} p (x ∷ l) = go (p x) (keep-le p l)
   where
@@ -39,7 +39,7 @@ keep-le {A} p (x ∷ l) = go (p x) (keep-le p l)
     go true h = omega arith
     go false h = omega arith
 
-pub keep-lt : {A : Type 0} (p : A → Bool) (l : List A) {x : A} → List·Memᴰ x l → p x ≡ false → suc (length (keep p l)) ≤ length l
+keep-lt : {A : Type 0} (p : A → Bool) (l : List A) {x : A} → List·Memᴰ x l → p x ≡ false → suc (length (keep p l)) ≤ length l
 keep-lt p [] k e = absurd (List·Memᴰ·not-nil k)
 keep-lt {A} p (y ∷ l) {x} k e = go (p y) refl (List·Memᴰ·cases-cons k) (λ j. keep-lt p l j e)
   where

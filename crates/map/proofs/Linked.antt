@@ -7,7 +7,7 @@ use Prim.Native.Nat.{ℕ, zero, suc, _+_, _≤_}
 use native.Mathlib.Omega.{arith}
 use lib.ListN.{length-map}
 use Rattle.lists.specs.Tests.{same, iterate}
-use Rattle.lists.specs.Scans.{count}
+use Rattle.lists.specs.Scans.{all, count}
 use Rattle.lists.specs.Members.{Distinct}
 use Rattle.lists.proofs.Bools.{same-true}
 use Rattle.lists.proofs.Perms.{perm-of-distinct}

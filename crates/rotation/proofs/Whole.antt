@@ -36,7 +36,7 @@ module _ {D : Type 0} (is : D → D → Bool) (rev : D → D) (tail : D → ℕ)
 
   module _ (all : List D) (next : D → D) (l : Law is rev tail way all next) where
     -- a departure more
-    pub link-law : (p : D) → (List·Memᴰ p all → ⊥) → Differ way (from tail (p ∷ all) (tail p)) → Law is rev tail way (p ∷ all) (link is rev way p (from tail all (tail p)) next)
+    link-law : (p : D) → (List·Memᴰ p all → ⊥) → Differ way (from tail (p ∷ all) (tail p)) → Law is rev tail way (p ∷ all) (link is rev way p (from tail all (tail p)) next)
     link-law p new differ n = elim (equal? (tail p) n) [ inl e ↦ here e | inr ne ↦ there ne (same-false (tail p) n ne) ]
       where
         ds : List D
@@ -68,7 +68,7 @@ module _ {D : Type 0} (is : D → D → Bool) (rev : D → D) (tail : D → ℕ)
             )
 
     -- a departure less
-    pub unlink-law : (p : D) → List·Memᴰ p all → Differ way (from tail all (tail p)) → Law is rev tail way (others is p all) (unlink is rev p next)
+    unlink-law : (p : D) → List·Memᴰ p all → Differ way (from tail all (tail p)) → Law is rev tail way (others is p all) (unlink is rev p next)
     unlink-law p mp differ n = subst (λ (ds : List D). Lawful way is ds (back rev (unlink is rev p next))) (keep-swap (λ q. not (is q p)) (λ (d : D). same (tail d) n) all) (elim (equal? (tail p) n) [ inl e ↦ here e | inr ne ↦ there ne ])
       where
         here : tail p ≡ n → Lawful way is (others is p (from tail all n)) (back rev (unlink is rev p next))
