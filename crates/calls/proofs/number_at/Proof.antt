@@ -1,7 +1,7 @@
 -- `calls::number_at` is safe: seven digits fit with either sign. Assumes nothing.
 use borrow.Author.Needs.{needs}
 use native.Mathlib.Omega.{arith}
-use Rattle.calls.proofs.Signs.{minus-fits}
+use Rattle.integers.specs.Signs.{minus-fits}
 use Rattle.calls.proofs.number_at.Statement.{statement}
 use Rattle.calls.proofs.number_at.Tie as tie
 

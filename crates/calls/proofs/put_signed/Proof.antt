@@ -1,6 +1,6 @@
 -- `calls::put_signed` is safe. Assumes nothing.
 use borrow.Author.Needs.{needs}
-use Rattle.calls.proofs.Signs.{cast-natural, next-fits, turned-fits, cast-turned, turned-next}
+use Rattle.integers.specs.Signs.{cast-natural, next-fits, turned-fits, cast-turned, turned-next}
 use Rattle.calls.proofs.put_signed.Statement.{statement}
 use Rattle.calls.proofs.put_signed.Tie as tie
 

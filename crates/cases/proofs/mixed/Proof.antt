@@ -1,6 +1,6 @@
 -- `cases::mixed` meets its contract. Assumes nothing.
 use borrow.Author.Needs.{needs}
-use Rattle.cases.proofs.Signs.{cast-natural}
+use Rattle.integers.specs.Signs.{cast-natural}
 use Rattle.cases.proofs.mixed.Statement.{statement}
 use Rattle.cases.proofs.mixed.Tie as tie
 

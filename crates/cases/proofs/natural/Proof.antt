@@ -1,6 +1,6 @@
 -- `cases::natural` is safe. Assumes nothing.
 use borrow.Author.Needs.{needs}
-use Rattle.cases.proofs.Signs.{cast-natural}
+use Rattle.integers.specs.Signs.{cast-natural}
 use Rattle.cases.proofs.natural.Statement.{statement}
 use Rattle.cases.proofs.natural.Tie as tie
 

@@ -1,6 +1,6 @@
 -- `cases::put_signed` is safe. Assumes nothing.
 use borrow.Author.Needs.{needs}
-use Rattle.cases.proofs.Signs.{cast-natural, next-fits, turned-fits, cast-turned}
+use Rattle.integers.specs.Signs.{cast-natural, next-fits, turned-fits, cast-turned}
 use Rattle.cases.proofs.put_signed.Statement.{statement}
 use Rattle.cases.proofs.put_signed.Tie as tie
 

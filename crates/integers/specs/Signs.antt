@@ -1,17 +1,21 @@
--- Casts of signed numbers: a number that is not negative, and the magnitude of one that is. Assumes nothing.
-use mathlib.Core.Path.{_≡_, refl, ap}
+-- Signed numbers as words: casts of one that is not negative, the other sign, and the magnitude of a negative one. Assumes nothing.
+use mathlib.Core.Path.{_≡_, refl, sym, ap, subst}
 use mathlib.Core.Bool.{true, false, true≢false}
-use Prim.Native.Nat.{ℕ, zero, suc, _+_, _-_, _≤_}
+use Prim.Native.Nat.{ℕ, zero, suc, _+_, _-_, _^_, _≤_, _<_}
 use native.Mathlib.Nat.{zero-add, lt-of-le-of-lt}
 use native.Mathlib.Omega.{arith}
 use lib.Dec.{T}
 use lib.IntN.{ℤ, pos, negsuc, natAbs, _+ℤ_, _-ℤ_}
 use lib.Signed.{mag, ltZ, nonNeg}
 use mir.Syntax.{w64}
-use mir.Val.{ofZ, toZ, SFits, Fits}
-use mir.Facts.{toZ-ofZ, fits-natAbs}
+use mir.Val.{ofZ, toZ, SFits, Fits, hbits}
+use mir.Facts.{toZ-ofZ, toZ-pos, fits-natAbs}
 use borrow.Author.Tests.{lt-ltb, ltb-true}
 use borrow.Author.Needs.{sfits-of}
+
+-- a number handed on is the number that was sent
+pub sent : {z : ℤ} → mag z < 2 ^ hbits w64 → toZ w64 (ofZ w64 z) ≡ z
+sent p = toZ-ofZ {w = w64} (sfits-of p)
 
 not-negative : (z : ℤ) → ltZ z (pos 0) ≡ false → T (nonNeg z)
 not-negative (pos n) e = tt
@@ -21,6 +25,17 @@ not-negative (negsuc n) e = absurd (true≢false e)
 pub cast-natural : {z : ℤ} → SFits w64 z → ltZ (toZ w64 (ofZ w64 z)) (pos 0) ≡ false
     → T (nonNeg (toZ w64 (ofZ w64 z))) × Fits w64 (natAbs (toZ w64 (ofZ w64 z)))
 cast-natural {z} f e = rw (toZ-ofZ f) (not-negative z (rw (toZ-ofZ f) at e), fits-natAbs {w = w64} {w′ = w64} {z = z} tt f)
+
+pub natural-cast : (z : ℤ) → nonNeg z ≡ true → SFits w64 z → T (nonNeg z) × Fits w64 (natAbs z)
+natural-cast z e f = (subst T (sym e) tt, fits-natAbs {w = w64} {w′ = w64} {z = z} tt f)
+
+minus-mag : (n : ℕ) → mag (pos 0 -ℤ pos n) ≤ n
+minus-mag zero = omega arith
+minus-mag (suc k) = rw (lt-ltb 0 (suc k) (omega arith)) (omega arith)
+
+-- the lower half of the bits, with the other sign
+pub minus-fits : (n : ℕ) → n < 2 ^ 63 → SFits w64 (pos 0 -ℤ toZ w64 n)
+minus-fits n b = rw (toZ-pos w64 b) (sfits-of (lt-of-le-of-lt (minus-mag n) b))
 
 -- ---- - (z + 1), where z is negative
 
@@ -37,13 +52,15 @@ next-mag : (n : ℕ) → mag (negsuc n +ℤ pos 1) ≤ n
 next-mag zero = omega arith
 next-mag (suc k) = rw (next k) (omega arith)
 
-sums-fit : (z : ℤ) → SFits w64 z → ltZ z (pos 0) ≡ true → SFits w64 (z +ℤ pos 1) × SFits w64 (pos 0 -ℤ (z +ℤ pos 1)) × T (nonNeg (pos 0 -ℤ (z +ℤ pos 1)))
+sums-fit : (z : ℤ) → SFits w64 z → ltZ z (pos 0) ≡ true
+    → SFits w64 (z +ℤ pos 1) × SFits w64 (pos 0 -ℤ (z +ℤ pos 1)) × T (nonNeg (pos 0 -ℤ (z +ℤ pos 1))) × (natAbs (pos 0 -ℤ (z +ℤ pos 1)) + 1 < 2 ^ 64)
 sums-fit (pos n) f e = absurd (omega (arith, ltb-true n 0 e))
 sums-fit (negsuc n) f e =
-    (sfits-of (lt-of-le-of-lt (next-mag n) (f .sfits)), rw (turned n) (sfits-of (f .sfits)), rw (turned n) tt)
+    let b : n < 2 ^ 63 = f .sfits in
+    (sfits-of (lt-of-le-of-lt (next-mag n) b), rw (turned n) (sfits-of b), rw (turned n) tt, rw (turned n) (omega arith))
 
 module _ {z : ℤ} (f : SFits w64 z) (e : ltZ (toZ w64 (ofZ w64 z)) (pos 0) ≡ true) where
-  all : SFits w64 (z +ℤ pos 1) × SFits w64 (pos 0 -ℤ (z +ℤ pos 1)) × T (nonNeg (pos 0 -ℤ (z +ℤ pos 1)))
+  all : SFits w64 (z +ℤ pos 1) × SFits w64 (pos 0 -ℤ (z +ℤ pos 1)) × T (nonNeg (pos 0 -ℤ (z +ℤ pos 1))) × (natAbs (pos 0 -ℤ (z +ℤ pos 1)) + 1 < 2 ^ 64)
   all = sums-fit z f (rw (toZ-ofZ f) at e)
 
   pub next-fits : SFits w64 (toZ w64 (ofZ w64 z) +ℤ pos 1)
@@ -57,3 +74,6 @@ module _ {z : ℤ} (f : SFits w64 z) (e : ltZ (toZ w64 (ofZ w64 z)) (pos 0) ≡ 
   cast-turned =
       rw (toZ-ofZ f, toZ-ofZ (all .0), toZ-ofZ (all .1))
       (all .2, fits-natAbs {w = w64} {w′ = w64} {z = pos 0 -ℤ (z +ℤ pos 1)} tt (all .1))
+
+  pub turned-next : natAbs (toZ w64 (ofZ w64 (pos 0 -ℤ toZ w64 (ofZ w64 (toZ w64 (ofZ w64 z) +ℤ pos 1))))) + 1 < 2 ^ 64
+  turned-next = rw (toZ-ofZ f, toZ-ofZ (all .0), toZ-ofZ (all .1)) (all .3)

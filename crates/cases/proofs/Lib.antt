@@ -1,2 +1,0 @@
--- `Signs`: signed numbers read and written.
-pub mod Signs
