@@ -15,9 +15,8 @@ use mir.Val.{ofZ, toZ, hbits}
 use mir.Facts.{toZ-ofZ}
 use borrow.Author.Needs.{sfits-of}
 use borrow.Author.Tests.{ltb-true, ltb-false, eqb-true, eqb-false}
-use Rattle.lists.proofs.Bools.{same-eq, same-false, or-true}
+use Rattle.lists.proofs.Bools.{same-eq, same-false, or-true, or-false}
 use Rattle.map.specs.Tickets.{Ticket, one, two, three, oneCurve, twoCurve}
-use Rattle.ranges.proofs.Columns.{or-false}
 
 -- a number handed on is the number that was sent
 pub sent : {z : ℤ} → mag z < 2 ^ hbits w64 → toZ w64 (ofZ w64 z) ≡ z

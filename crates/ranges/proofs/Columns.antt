@@ -1,6 +1,6 @@
 -- The first column of a table: numbers that are not negative, and numbers that rise from the least one allowed. Assumes nothing.
 use mathlib.Core.Path.{_≡_, refl, sym, ap, _∙_}
-use mathlib.Core.Bool.{Bool, true, false, _&&_, _||_, true≢false}
+use mathlib.Core.Bool.{Bool, true, false, _&&_}
 use mathlib.Core.Logic.{inl, inr}
 use mathlib.Core.List.{List, [], _∷_, map}
 use Prim.Native.Nat.{ℕ, zero, suc, _+_, _*_, _-_, _<_, _≤_}
@@ -14,16 +14,13 @@ use borrow.Author.Tests.{leb-true, ltb-true, ltb-false, le-leb, lt-leb, lt-ltb, 
 use Rattle.lists.specs.Scans.{all, linked, firstOr}
 use Rattle.lists.specs.Tables.{table}
 use Rattle.lists.proofs.Bools.{which, eq3, &&-false}
+pub use Rattle.lists.proofs.Bools.{or-false}
 use Rattle.lists.proofs.Scans.{table-step, table-end, table-same}
 use Rattle.curves.proofs.Runs.{and-left, and-right}
 use Rattle.map.specs.Rows.{rows, nodeOf, edgeOf}
 use Rattle.map.specs.Form.{nodeRanges, edgeRanges, faceRanges, numbered}
 use Rattle.tables.specs.Tables.{column, nodesOf, edgesOf, facesOf, nodeAt, edgeAt, faceAt}
 use Rattle.tables.proofs.Rows.{row-first, rows-all, node-cells, edge-cells, face-cell, node-numbers, edge-numbers, faces-table}
-
-pub or-false : (a b : Bool) → a || b ≡ false → (a ≡ false) × (b ≡ false)
-or-false true b e = absurd (true≢false e)
-or-false false b e = (refl, e)
 
 -- ---- tests of all elements
 

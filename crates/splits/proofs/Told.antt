@@ -1,7 +1,7 @@
 -- The reasons of a split from what the searches and tests answered, in the map's terms. Assumes nothing.
 use mathlib.Core.Path.{_≡_, refl, sym, ap, ap₂, _∙_}
 use mathlib.Core.Logic.{_⊎_, inl, inr}
-use mathlib.Core.Bool.{Bool, true, false, not, _&&_, _||_, false≢true}
+use mathlib.Core.Bool.{Bool, true, false, not, _&&_, _||_}
 use mathlib.Core.List.{List, [], _∷_, _++_}
 use mathlib.Core.Option.{some}
 use Prim.Native.Nat.{ℕ, zero, suc, _+_, _/_, _<_, _≤_}
@@ -14,7 +14,7 @@ use borrow.Author.Tests.{not-false, ltb-false}
 use Rattle.lists.specs.Tables.{place}
 use Rattle.lists.specs.declared.Found.{Found}
 use Rattle.lists.specs.declared.Found.the-variants.{At, Missing}
-use Rattle.lists.proofs.Bools.{which, eq2}
+use Rattle.lists.proofs.Bools.{which, eq2, or-false}
 use Rattle.curves.specs.Curves.{point, coordinate}
 use Rattle.curves.specs.Tests.{onCurve}
 use Rattle.map.specs.declared.Head.{Head}
@@ -56,10 +56,6 @@ or-last : (a b : Bool) → a || b || false ≡ a || b
 or-last = eq2 (λ p q. p || q || false) (λ p q. p || q) tt
 
 -- there are rows and numbers
-or-false : (a b : Bool) → a || b ≡ false → (a ≡ false) × (b ≡ false)
-or-false true b e = absurd (false≢true (sym e))
-or-false false b e = (refl, e)
-
 pub room-left : (l es : List ℤ) (h : Head) (keeps : Bool) → firstReason (roomReasons l es h keeps) ≡ 0 → (natAbs (h .nodes) + 1 ≤ length l / nodeWidth) × (natAbs (h .edges) + 1 ≤ length es / edgeWidth)
 room-left l es h keeps e =
     let q = or-false _ _ (missed 20 _ _ (omega arith) e .0) in

@@ -5,11 +5,11 @@ use mathlib.Core.Path.{_≡_, refl, sym, ap, _∙_}
 use mathlib.Core.Bool.{true}
 use lib.Dec.{ltb}
 use lib.ListN.{length}
+use Rattle.lists.proofs.Bools.{or-false}
 use Rattle.map.specs.Rows.{whole}
 use Rattle.map.specs.Ticket.{Outcome, emptied}
 use Rattle.map.specs.Grow.{after}
 use Rattle.ranges.specs.Ranges.{lent}
-use Rattle.ranges.proofs.Columns.{or-false}
 use Rattle.engine.specs.Runs.{ticketsOf}
 use Rattle.engine.proofs.Answers.{runs-1, runs-20, runs-0}
 use Rattle.engine.proofs.run.Statement.{statement}
