@@ -1,16 +1,17 @@
 -- A map in form is linked, in the sense of the theory of linked maps: so two of the four statements of soundness hold in every map in form.
 -- Assumes nothing.
 use mathlib.Core.Path.{_≡_, refl, sym, ap, subst, _∙_}
-use mathlib.Core.Bool.{Bool, true, false, _&&_}
-use mathlib.Core.List.{List, [], _∷_, map, List·Memᴰ, List·Memᴰ·head, List·Memᴰ·tail, List·Permᴰ, Memᴰ·map, Memᴰ·of-map, Memᴰ·cast, Permᴰ·symm}
-use Prim.Native.Nat.{ℕ, zero, suc, _+_, _≤_}
+use mathlib.Core.Bool.{true, _&&_}
+use mathlib.Core.List.{List, [], _∷_, map, List·Memᴰ, List·Permᴰ, Memᴰ·map, Memᴰ·of-map, Memᴰ·cast, Permᴰ·symm}
+use Prim.Native.Nat.{ℕ, zero, suc}
 use native.Mathlib.Omega.{arith}
 use lib.ListN.{length-map}
 use Rattle.lists.specs.Tests.{same, iterate}
-use Rattle.lists.specs.Scans.{all, count}
+use Rattle.lists.specs.Scans.{count}
 use Rattle.lists.specs.Members.{Distinct}
 use Rattle.lists.proofs.Bools.{same-true}
 use Rattle.lists.proofs.Perms.{perm-of-distinct}
+use Rattle.lists.proofs.Counts.{count-in}
 use Rattle.planar.specs.Map.{Arc, Dart, fwd, bwd, Linked}
 use Rattle.planar.specs.Rings.{sameDart, Leads}
 use Rattle.planar.specs.Pieces.{Within, nums}
@@ -22,15 +23,6 @@ use Rattle.map.specs.Darts.{arcs, directed, leaves, arrives, next, bears
 use Rattle.map.specs.Form.{linksOnce, linksMeet, ringsBearOne, formed}
 use Rattle.map.proofs.Scans.{all-each}
 use Rattle.map.proofs.Laws.{Formed, formed-is, edge-found, node-there, names}
-
--- what is counted is there
-count-in : {A : Type 0} (p : A → Bool) (l : List A) → 1 ≤ count p l → (x : A) × List·Memᴰ x l × (p x ≡ true)
-count-in p [] h = absurd (omega arith)
-count-in {A} p (y ∷ l) h = go (p y) refl (count-in p l)
-  where
-    go : (b : Bool) → p y ≡ b → (1 ≤ count p l → (x : A) × List·Memᴰ x l × (p x ≡ true)) → (x : A) × List·Memᴰ x (y ∷ l) × (p x ≡ true)
-    go true e later = (y, List·Memᴰ·head refl, e)
-    go false e later = let some : 1 ≤ 0 + count p l = rw e at h in let r = later (omega arith) in (r .0, List·Memᴰ·tail (r .1), r .2)
 
 abbrev arcOf : Edge → Arc
 arcOf e = record { num = e .number; from = e .start; to = e .end }

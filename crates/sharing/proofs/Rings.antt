@@ -5,7 +5,7 @@ use mathlib.Core.Logic.{_⊎_, inl, inr}
 use mathlib.Core.Bool.{Bool, true, false, cond}
 use mathlib.Core.Option.{Option·getD, some}
 use mathlib.Core.List.{List, [], _∷_, map, List·Memᴰ, List·Memᴰ·head, List·Memᴰ·tail, List·Memᴰ·cases-cons, List·Memᴰ·not-nil, List·Permᴰ, Memᴰ·cast, Permᴰ·symm}
-use Prim.Native.Nat.{ℕ, zero, suc, _+_, _*_, _≤_, min}
+use Prim.Native.Nat.{ℕ, zero, suc, _*_, _≤_, min}
 use native.Mathlib.Omega.{arith}
 use lib.ListN.{length, length-map}
 use Rattle.lists.specs.Tests.{same, iterate}
@@ -13,6 +13,7 @@ use Rattle.lists.specs.Scans.{count, find}
 use Rattle.lists.specs.Members.{Distinct}
 use Rattle.lists.proofs.Bools.{same-true}
 use Rattle.lists.proofs.Perms.{perm-of-distinct}
+use Rattle.lists.proofs.Counts.{count-in}
 use Rattle.curves.specs.Curves.{through}
 use Rattle.planar.specs.Map.{Arc, Dart, fwd, bwd, darts, Linked}
 use Rattle.planar.specs.Pieces.{nums}
@@ -24,15 +25,6 @@ use Rattle.map.specs.Darts.{arcs, directed, leaves, next, bears, stepsTo, ring,
 use Rattle.map.specs.Form.{linksOnce, ringsBearOne}
 use Rattle.grown.proofs.Scanning.{all-each}
 use Rattle.grown.proofs.EdgesRings.{among-in, among-has, ring-here, ring-leads, ring-alike, lowest-same}
-
--- what is counted is there
-count-in : {A : Type 0} (p : A → Bool) (l : List A) → 1 ≤ count p l → (x : A) × List·Memᴰ x l × (p x ≡ true)
-count-in p [] h = absurd (omega arith)
-count-in {A} p (y ∷ l) h = go (p y) refl (count-in p l)
-  where
-    go : (b : Bool) → p y ≡ b → (1 ≤ count p l → (x : A) × List·Memᴰ x l × (p x ≡ true)) → (x : A) × List·Memᴰ x (y ∷ l) × (p x ≡ true)
-    go true e later = (y, List·Memᴰ·head refl, e)
-    go false e later = let some : 1 ≤ 0 + count p l = rw e at h in let r = later (omega arith) in (r .0, List·Memᴰ·tail (r .1), r .2)
 
 -- two maps whose links are the same have the same rings
 module _ (m k : Map) (h : (d : Dart) → next m d ≡ next k d) where
