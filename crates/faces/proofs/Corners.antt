@@ -1,7 +1,7 @@
 -- The corner face as the numbers of the tables show it is that of the map which they hold. Assumes nothing.
-use mathlib.Core.Path.{_≡_, refl, sym, ap, ap₂, _∙_, subst}
+use mathlib.Core.Path.{_≡_, refl, sym, ap, ap₂, _∙_}
 use mathlib.Core.Bool.{Bool, true, false, not, _&&_, false≢true, Bool·beq}
-use mathlib.Core.List.{List, [], _∷_, _++_, map, List·Memᴰ}
+use mathlib.Core.List.{List, [], _∷_, map, List·Memᴰ}
 use mathlib.Core.Option.{Option, Option·getD}
 use Prim.Native.Nat.{ℕ, _+_, _*_, _<_}
 use native.Mathlib.Omega.{arith}
@@ -13,11 +13,10 @@ use Rattle.lists.specs.Tables.{place}
 use Rattle.lists.specs.declared.Found.the-variants.{At}
 use Rattle.lists.proofs.Bools.{same-eq, same-false, beq-true, eq1}
 use Rattle.lists.proofs.Keeps.{keep-in}
-use Rattle.plane.specs.declared.Point.{Point}
-use Rattle.plane.specs.Directions.{Way, wayTo}
-use Rattle.curves.specs.Curves.{Run, Curve, curveOf, pointAt, pointsFrom, lastOf, secondOf, beforeLast, startWay, endWay}
-use Rattle.curves.specs.Edits.{turned, course}
-use Rattle.curves.proofs.Runs.{two-points, from-step, curve-is}
+use Rattle.plane.specs.Directions.{Way}
+use Rattle.curves.specs.Curves.{Run, curveOf, startWay, endWay}
+use Rattle.curves.specs.Edits.{course}
+use Rattle.curves.proofs.Reverses.{end-way}
 use Rattle.planar.specs.Map.{Dart}
 use Rattle.rotation.specs.Law.{firstClockwise}
 use Rattle.map.specs.Limits.{nodeWidth}
@@ -54,21 +53,6 @@ leaving-all l n z =
     let h = position-below n p m in
     let e = same-false p (n * 2) (λ q. omega arith) in
     rw e (eq1 (λ x. x && true && true) (λ x. x) tt (leavesNode l z p)))
-
--- ---- the direction in which the reverse of a curve departs
-
-second-more : (z b a : Point) (s : List Point) → secondOf z ((s ++ (b ∷ [])) ++ (a ∷ [])) ≡ secondOf z (s ++ (b ∷ []))
-second-more z b a [] = refl
-second-more z b a (c ∷ s) = refl
-
-second-turned : (z a b : Point) (r : List Point) → secondOf z (turned a (b ∷ r)) ≡ beforeLast a (b ∷ r)
-second-turned z a b [] = refl
-second-turned z a b (c ∷ r) = second-more z b a (turned c r) ∙ second-turned z b c r
-
-pub end-way : {c : List ℤ} → Run c → startWay (course true (curveOf c)) ≡ endWay (curveOf c)
-end-way {c} run =
-    let e : curveOf c ≡ record { first = pointAt c 0; rest = pointAt c 1 ∷ pointsFrom c 2 } = curve-is run ∙ ap (λ (r : List Point). record { first = pointAt c 0; rest = r }) (from-step c 1 (omega (arith, two-points run))) in
-    subst (λ (d : Curve). startWay (course true d) ≡ endWay d) (sym e) (let z = lastOf (pointAt c 1) (pointsFrom c 2) in ap (wayTo z) (second-turned z (pointAt c 0) (pointAt c 1) (pointsFrom c 2)))
 
 -- ---- a map with these edges
 

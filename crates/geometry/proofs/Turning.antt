@@ -8,12 +8,13 @@ use lib.ListN.{length, length-append}
 use Rattle.plane.specs.declared.Point.{Point}
 use Rattle.curves.specs.Curves.{lastOf, secondOf, beforeLast}
 use Rattle.curves.specs.Edits.{turned}
+use Rattle.curves.proofs.Reverses.{second-turned as second-of-turned}
 use Rattle.geometry.specs.Spots.{Spot, At, OnSeg}
 use Rattle.geometry.specs.Meaning.{On, Differ, Arc, Simple, Some, End, Clear}
 use Rattle.geometry.proofs.Segments.{flip}
 use Rattle.geometry.proofs.Chains.{on-front, on-back, on-split, last-append, differ-join, Joint, arc-join, arc-simple, Closing}
 use Rattle.geometry.proofs.Joining.{simple-some}
-use Rattle.geometry.proofs.Cutting.{second-append, before-append}
+use Rattle.geometry.proofs.Cutting.{before-append}
 
 pub last-turned : (a : Point) (r : List Point) → lastOf (lastOf a r) (turned a r) ≡ a
 last-turned a [] = refl
@@ -100,8 +101,7 @@ simple-turned a (b ∷ c ∷ r) n h =
 
 pub second-turned : (a : Point) (r : List Point) → Some r → secondOf (lastOf a r) (turned a r) ≡ beforeLast a r
 second-turned a [] h = absurd h
-second-turned a (b ∷ []) h = refl
-second-turned a (b ∷ c ∷ r) h = second-append (lastOf c r) (turned b (c ∷ r)) (a ∷ []) (some-turned b (c ∷ r) tt) ∙ second-turned b (c ∷ r) tt
+second-turned a (b ∷ r) h = second-of-turned (lastOf a (b ∷ r)) a b r
 
 pub before-turned : (a : Point) (r : List Point) → Some r → beforeLast (lastOf a r) (turned a r) ≡ secondOf a r
 before-turned a [] h = absurd h

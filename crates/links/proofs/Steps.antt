@@ -1,7 +1,7 @@
 -- The first step along a curve and along its reverse, by the points of a run; the negative of a number. Assumes nothing.
-use mathlib.Core.Path.{_≡_, refl, sym, ap, _∙_}
+use mathlib.Core.Path.{_≡_, sym, ap, _∙_}
 use mathlib.Core.Bool.{true, false}
-use mathlib.Core.List.{List, [], _∷_, _++_}
+use mathlib.Core.List.{List, _∷_}
 use Prim.Native.Nat.{ℕ, zero, suc, _+_, _-_, _/_}
 use native.Mathlib.Nat.{add-zero, zero-add}
 use native.Mathlib.Omega.{arith}
@@ -15,17 +15,8 @@ use Rattle.plane.specs.Directions.{Way, wayTo}
 use Rattle.curves.specs.Curves.{Run, Curve, curveOf, pointAt, pointsFrom, lastOf, secondOf, beforeLast, startWay}
 use Rattle.curves.specs.Edits.{turned, course}
 use Rattle.curves.proofs.Runs.{two-points, from-step, from-end, curve-is, last-is}
+use Rattle.curves.proofs.Reverses.{second-turned}
 use Rattle.links.specs.Positions.{Along}
-
--- ---- the second point of a reverse is the last but one
-
-second-more : (z b a : Point) (s : List Point) → secondOf z ((s ++ (b ∷ [])) ++ (a ∷ [])) ≡ secondOf z (s ++ (b ∷ []))
-second-more z b a [] = refl
-second-more z b a (c ∷ s) = refl
-
-second-turned : (z a b : Point) (r : List Point) → secondOf z (turned a (b ∷ r)) ≡ beforeLast a (b ∷ r)
-second-turned z a b [] = refl
-second-turned z a b (c ∷ r) = second-more z b a (turned c r) ∙ second-turned z b c r
 
 before-from : (l : List ℤ) (k i : ℕ) → i + k + 2 ≡ length l / 2 → beforeLast (pointAt l i) (pointsFrom l (i + 1)) ≡ pointAt l (i + k)
 before-from l zero i h = rw (from-step l (i + 1) (omega arith), from-end l (i + 1 + 1) (omega arith), add-zero i)

@@ -9,12 +9,13 @@ use Rattle.lists.specs.Tests.{same}
 use Rattle.lists.specs.Scans.{any}
 use Rattle.plane.specs.Directions.{Way, sameWay}
 use Rattle.curves.specs.Curves.{curveOf, startWay, endWay}
+use Rattle.curves.proofs.Reverses.{end-way}
 use Rattle.map.specs.Reasons.{wayTaken, directionTaken}
 use Rattle.tables.specs.Tables.{edgeMap}
 use Rattle.links.specs.Positions.{wayAt}
 use Rattle.linking.specs.Linking.{positions, leavesNode}
 use Rattle.turning.specs.Turning.{Own}
-use Rattle.turning.proofs.Taken.{taken-is, end-way}
+use Rattle.turning.proofs.Taken.{taken-is}
 use borrow.Author.Needs.{needs}
 use Rattle.turning.proofs.direction_taken.Statement.{statement}
 use Rattle.turning.proofs.direction_taken.Tie as tie
