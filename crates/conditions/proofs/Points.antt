@@ -1,30 +1,24 @@
 -- Coordinates as they are tested and cast, the points of node rows, and places on curves. Assumes nothing.
 use mathlib.Core.Path.{_≡_, refl, sym, ap, _∙_, subst}
-use mathlib.Core.Bool.{Bool, true, false, _&&_, false≢true}
+use mathlib.Core.Bool.{Bool, true, false, _&&_}
 use mathlib.Core.Logic.{inl, inr}
 use mathlib.Core.List.{List, [], _∷_}
-use Prim.Native.Nat.{ℕ, _+_, _*_, _-_, _/_, _≤_, _<_}
-use native.Mathlib.Nat.{lt-of-le-of-lt}
+use Prim.Native.Nat.{ℕ, _+_, _*_, _-_, _/_, _<_}
 use native.Mathlib.Omega.{arith}
-use lib.Dec.{T, leb, lit<}
-use lib.IntN.{ℤ, pos, negsuc, natAbs}
+use lib.Dec.{lit<}
+use lib.IntN.{ℤ, pos, negsuc}
 use lib.ListN.{length, getD}
 use lib.Signed.{leZ, nonNeg}
-use mir.Syntax.{w64}
-use mir.Val.{ofZ, toZ, SFits, Fits}
-use mir.Facts.{toZ-ofZ, fits-of-lt}
-use borrow.Author.Needs.{sfits-of}
-use borrow.Author.Tests.{leb-true}
 use Rattle.lists.specs.Tables.{place}
 use Rattle.lists.specs.declared.Found.{Found}
 use Rattle.lists.specs.declared.Found.the-variants.{At, Missing}
 use Rattle.lists.proofs.Bools.{which}
 use Rattle.plane.specs.declared.Point.{Point}
-use Rattle.plane.specs.Points.{maxCoordinate, InRange}
+use Rattle.plane.specs.Points.{InRange}
 use Rattle.plane.specs.Segments.{onSegment}
 use Rattle.curves.specs.Curves.{Curve, Run, coordinate, curveOf, lastPoint, point, pointAt, segmentsOf}
 use Rattle.curves.specs.Tests.{passes, onCurve, firstPlace}
-use Rattle.curves.proofs.Runs.{and-left, and-right, two-points, curve-is, last-is}
+use Rattle.curves.proofs.Runs.{and-left, and-right, two-points, curve-is, last-is, coordinate-le}
 use Rattle.curves.proofs.Turns.{on}
 use Rattle.map.specs.Limits.{nodeWidth}
 use Rattle.map.specs.Rows.{cell, nodeOf}
@@ -34,29 +28,6 @@ use Rattle.tables.proofs.Cells.{row-room}
 use Rattle.tables.proofs.Rows.{row-cell, rows-all}
 
 -- ---- coordinates
-
-pub coordinate-pos : (z : ℤ) → coordinate z ≡ true → z ≡ pos (natAbs z)
-coordinate-pos (pos n) e = refl
-coordinate-pos (negsuc n) e = absurd (false≢true e)
-
-pub coordinate-le : (z : ℤ) → coordinate z ≡ true → natAbs z ≤ maxCoordinate
-coordinate-le (pos n) e = leb-true n maxCoordinate (and-right (leZ (pos 0) (pos n)) (leb n maxCoordinate) e)
-coordinate-le (negsuc n) e = absurd (false≢true e)
-
-coordinate-fits : (z : ℤ) → coordinate z ≡ true → SFits w64 z
-coordinate-fits (pos n) e = sfits-of (lt-of-le-of-lt (coordinate-le (pos n) e) (lit< tt))
-coordinate-fits (negsuc n) e = absurd (false≢true e)
-
-coordinate-nonneg : (z : ℤ) → coordinate z ≡ true → T (nonNeg z)
-coordinate-nonneg (pos n) e = tt
-coordinate-nonneg (negsuc n) e = absurd (false≢true e)
-
--- a coordinate as it is read, and as it is cast
-pub coordinate-read : (z : ℤ) → coordinate z ≡ true → toZ w64 (ofZ w64 z) ≡ z
-coordinate-read z e = toZ-ofZ {w = w64} (coordinate-fits z e)
-
-pub coordinate-cast : (z : ℤ) → coordinate z ≡ true → T (nonNeg (toZ w64 (ofZ w64 z))) × Fits w64 (natAbs (toZ w64 (ofZ w64 z)))
-coordinate-cast z e = rw (coordinate-read z e) (coordinate-nonneg z e, fits-of-lt (lt-of-le-of-lt (coordinate-le z e) (lit< tt)))
 
 pub point-in : (x y : ℤ) → coordinate x ≡ true → coordinate y ≡ true → InRange (point x y)
 point-in x y e f = record { x = coordinate-le x e; y = coordinate-le y f }

@@ -48,11 +48,11 @@ module _ {A : Type 0} where
 
 -- ---- coordinates
 
-coordinate-pos : (z : ℤ) → coordinate z ≡ true → z ≡ pos (natAbs z)
+pub coordinate-pos : (z : ℤ) → coordinate z ≡ true → z ≡ pos (natAbs z)
 coordinate-pos (pos n) e = refl
 coordinate-pos (negsuc n) e = absurd (false≢true e)
 
-coordinate-le : (z : ℤ) → coordinate z ≡ true → natAbs z ≤ maxCoordinate
+pub coordinate-le : (z : ℤ) → coordinate z ≡ true → natAbs z ≤ maxCoordinate
 coordinate-le (pos n) e = leb-true n maxCoordinate (and-right (leZ (pos 0) (pos n)) (leb n maxCoordinate) e)
 coordinate-le (negsuc n) e = absurd (false≢true e)
 
@@ -63,6 +63,13 @@ coordinate-fits (negsuc n) e = absurd (false≢true e)
 coordinate-nonneg : (z : ℤ) → coordinate z ≡ true → T (nonNeg z)
 coordinate-nonneg (pos n) e = tt
 coordinate-nonneg (negsuc n) e = absurd (false≢true e)
+
+-- a coordinate as it is read, and as it is cast
+pub coordinate-read : (z : ℤ) → coordinate z ≡ true → toZ w64 (ofZ w64 z) ≡ z
+coordinate-read z e = toZ-ofZ {w = w64} (coordinate-fits z e)
+
+pub coordinate-cast : (z : ℤ) → coordinate z ≡ true → T (nonNeg (toZ w64 (ofZ w64 z))) × Fits w64 (natAbs (toZ w64 (ofZ w64 z)))
+coordinate-cast z e = rw (coordinate-read z e) (coordinate-nonneg z e, fits-of-lt (lt-of-le-of-lt (coordinate-le z e) (lit< tt)))
 
 -- ---- what a run is
 
@@ -88,12 +95,10 @@ module _ {l : List ℤ} (run : Run l) where
 
   -- a number of a run, read back from its bits
   pub cell-read : (i : ℕ) → toZ w64 (ofZ w64 (getD l i (pos 0))) ≡ getD l i (pos 0)
-  cell-read i = toZ-ofZ (coordinate-fits (getD l i (pos 0)) (all-getD coordinate l i (pos 0) refl cells))
+  cell-read i = coordinate-read (getD l i (pos 0)) (all-getD coordinate l i (pos 0) refl cells)
 
   pub cell-cast : (i : ℕ) → T (nonNeg (toZ w64 (ofZ w64 (getD l i (pos 0))))) × Fits w64 (natAbs (toZ w64 (ofZ w64 (getD l i (pos 0)))))
-  cell-cast i =
-      rw (cell-read i)
-      (coordinate-nonneg (getD l i (pos 0)) (all-getD coordinate l i (pos 0) refl cells), fits-of-lt (lt-of-le-of-lt (cell-le i) (lit< tt)))
+  cell-cast i = coordinate-cast (getD l i (pos 0)) (all-getD coordinate l i (pos 0) refl cells)
 
   pub point-in : (i : ℕ) → InRange (pointAt l i)
   point-in i = record { x = cell-le (i * 2); y = cell-le (i * 2 + 1) }

@@ -11,7 +11,7 @@ use lib.Seq.{paste, length-take-le}
 use Rattle.lists.specs.Tests.{same}
 use Rattle.plane.specs.declared.Point.{Point}
 use Rattle.curves.specs.Curves.{coordinate, point}
-use Rattle.curves.proofs.Runs.{and-left, and-right}
+use Rattle.curves.proofs.Runs.{and-left, and-right, coordinate-pos}
 use Rattle.map.specs.declared.Head.{Head}
 use Rattle.map.specs.Limits.{nodeWidth}
 use Rattle.map.specs.Rows.{Node, Map, mapOf, lentOf, sizesOf, filled, nodeCells, atNodes, withoutNode}
@@ -23,7 +23,6 @@ use Rattle.tables.specs.Tables.{nodesOf, edgesOf, facesOf, nodeAt, closed}
 use Rattle.tables.proofs.Rows.{nodes-length, edges-length, faces-length, nodes-getD}
 use Rattle.tables.proofs.Writes.{pushed, replaced-at, removed-at, nodes-wide}
 use Rattle.tables.proofs.Numbers.{without-at, changed-at}
-use Rattle.conditions.proofs.Points.{coordinate-pos}
 use Rattle.ranges.specs.Ranges.{lent}
 use Rattle.answers.specs.Outcomes.{Formed}
 use Rattle.answers.proofs.Formed.{nodes-count, edges-count, faces-count, node-next, edge-next, face-next, nodes-filled, edges-filled, faces-filled, node-numbers-once, lent-is}

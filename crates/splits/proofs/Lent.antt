@@ -1,7 +1,7 @@
 -- What is lent after a split: a node's row pushed, an edge's row cut, and the head. Assumes nothing.
 use mathlib.Core.Path.{_≡_, refl, sym, ap, ap₂, _∙_}
-use mathlib.Core.Bool.{Bool, true, false, cond, _&&_, false≢true}
-use mathlib.Core.List.{List, [], _∷_, _++_, flatMap}
+use mathlib.Core.Bool.{Bool, true, false, cond, _&&_}
+use mathlib.Core.List.{List, [], _∷_, flatMap}
 use mathlib.Core.Option.{none}
 use Prim.Native.Nat.{ℕ, _+_, _*_, _/_, _<_, _≤_}
 use native.Mathlib.Nat.{add-zero}
@@ -10,10 +10,10 @@ use lib.IntN.{ℤ, pos, negsuc, natAbs}
 use lib.ListN.{length, length-append}
 use lib.Seq.{paste}
 use Rattle.curves.specs.Curves.{point, coordinate}
-use Rattle.curves.proofs.Runs.{and-left, and-right}
+use Rattle.curves.proofs.Runs.{and-left, and-right, coordinate-pos}
 use Rattle.map.specs.declared.Head.{Head}
 use Rattle.map.specs.Limits.{nodeWidth, edgeWidth}
-use Rattle.map.specs.Rows.{Node, Edge, Map, mapOf, lentOf, sizesOf, filled, nodeCells, edgeCells}
+use Rattle.map.specs.Rows.{Node, Map, mapOf, lentOf, sizesOf, filled, nodeCells, edgeCells}
 use Rattle.map.specs.Ticket.{carried}
 use Rattle.map.specs.Edits.{split}
 use Rattle.tables.specs.Tables.{nodesOf, edgesOf, facesOf, edgeAt}
@@ -21,14 +21,10 @@ use Rattle.tables.proofs.Rows.{nodes-length, edges-length, faces-length, edges-
 use Rattle.tables.proofs.Writes.{pushed, nodes-wide}
 use Rattle.ranges.specs.Ranges.{lent}
 use Rattle.answers.specs.Outcomes.{Formed}
-use Rattle.answers.proofs.Formed.{faces-count, node-next, edge-next, face-next, edges-size, nodes-filled, edges-filled, faces-filled, edge-rows, edges-are-wide, edge-numbers-once, lent-is}
+use Rattle.answers.proofs.Formed.{faces-count, node-next, edge-next, face-next, nodes-filled, edges-filled, faces-filled, edge-rows, edges-are-wide, edge-numbers-once, lent-is}
 use Rattle.splits.specs.Kinds.{splitTicket}
 use Rattle.splits.specs.Cuts.{cutRow, startNumber, endNumber, splitHead}
 use Rattle.splits.proofs.Cut.{cut-map, split-count}
-
-coordinate-pos : (z : ℤ) → coordinate z ≡ true → z ≡ pos (natAbs z)
-coordinate-pos (pos n) e = refl
-coordinate-pos (negsuc n) e = absurd (false≢true e)
 
 -- the numbers of a node where edges end
 node-cells-are : (k : ℕ) (number x y : ℤ) → coordinate x && coordinate y ≡ true → number ≡ pos k → nodeCells (record { number = k; at = point x y; face = none }) ≡ number ∷ x ∷ y ∷ negsuc 0 ∷ []

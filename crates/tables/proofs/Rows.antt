@@ -18,7 +18,7 @@ use Rattle.lists.specs.Members.{All}
 use Rattle.lists.specs.Tables.{table}
 use Rattle.lists.proofs.Scans.{length-table, getD-table, table-same}
 use Rattle.curves.specs.Curves.{coordinate, maxPoints}
-use Rattle.curves.proofs.Runs.{and-left, and-right}
+use Rattle.curves.proofs.Runs.{and-left, and-right, coordinate-pos}
 use Rattle.map.specs.Limits.{nodeWidth, edgeWidth, faceWidth, lastNumber}
 use Rattle.map.specs.Rows.{Node, Edge, rows, cell, nodeOf, edgeOf, faceRowOf, faceOf, dartOf}
 use Rattle.map.specs.Form.{within, isZero, nodeRanges, edgeRanges, faceRanges, numbered}
@@ -129,10 +129,6 @@ pub pos-abs : (z : ℤ) → nonNeg z ≡ true → z ≡ pos (natAbs z)
 pos-abs (pos n) h = refl
 pos-abs (negsuc n) h = absurd (false≢true h)
 
-coordinate-abs : (z : ℤ) → coordinate z ≡ true → z ≡ pos (natAbs z)
-coordinate-abs (pos n) h = refl
-coordinate-abs (negsuc n) h = absurd (false≢true h)
-
 -- the numbers of edge row i, in its fields' terms
 pub record EdgeCells (l : List ℤ) (i : ℕ) : Type 0 where
   pub number : getD l (i * edgeWidth) (pos 0) ≡ pos (edgeAt l i .number)
@@ -183,8 +179,8 @@ node-cells l i h =
     let h₁ = and-left (a && b) c h₂ in
     record {
       number = sym (row-first nodeWidth l i (lit< tt)) ∙ pos-abs (cell r 0) (and-left a b h₁);
-      x = sym (row-cell nodeWidth l i 1 (lit< tt)) ∙ coordinate-abs (cell r 1) (and-right a b h₁);
-      y = sym (row-cell nodeWidth l i 2 (lit< tt)) ∙ coordinate-abs (cell r 2) (and-right (a && b) c h₂);
+      x = sym (row-cell nodeWidth l i 1 (lit< tt)) ∙ coordinate-pos (cell r 1) (and-right a b h₁);
+      y = sym (row-cell nodeWidth l i 2 (lit< tt)) ∙ coordinate-pos (cell r 2) (and-right (a && b) c h₂);
       face = ap faceOf (sym (row-cell nodeWidth l i 3 (lit< tt)));
     }
 

@@ -3,7 +3,8 @@ use borrow.Author.Needs.{needs}
 use Prim.Native.Nat.{_+_, _*_}
 use lib.IntN.{pos}
 use lib.ListN.{getD}
-use Rattle.conditions.proofs.Points.{coordinate-read, coordinate-cast, point-in, node-x, node-y, node-point-is}
+use Rattle.curves.proofs.Runs.{coordinate-read, coordinate-cast}
+use Rattle.conditions.proofs.Points.{point-in, node-x, node-y, node-point-is}
 use Rattle.conditions.proofs.node_point.Statement.{statement}
 use Rattle.conditions.proofs.node_point.Tie as tie
 

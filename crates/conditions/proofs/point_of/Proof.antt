@@ -1,8 +1,8 @@
 -- `conditions::point_of` meets its contract: each cast keeps its coordinate. Assumes nothing.
 use mathlib.Core.Path.{refl}
 use Rattle.curves.specs.Curves.{coordinate}
-use Rattle.curves.proofs.Runs.{and-left, and-right}
-use Rattle.conditions.proofs.Points.{coordinate-read, coordinate-cast, point-in}
+use Rattle.curves.proofs.Runs.{and-left, and-right, coordinate-read, coordinate-cast}
+use Rattle.conditions.proofs.Points.{point-in}
 use Rattle.conditions.proofs.point_of.Statement.{statement}
 use Rattle.conditions.proofs.point_of.Tie as tie
 
