@@ -49,7 +49,7 @@ use Rattle.heals.specs.declared.Parts.{Parts}
 use Rattle.heals.specs.Kinds.{healTicket}
 use Rattle.heals.specs.Heals.{PartsOf, courseAt, lineAt, renamed, healedSides, healedRows, placed, healedNumber, healedValue, healedHead}
 use Rattle.heals.proofs.Joints.{joint-is}
-use Rattle.heals.proofs.Renamed.{cell-instead, redirect-wide, redirect-numbers, redirect-length, redirected-filled, redirect-has, redirect-next}
+use Rattle.heals.proofs.Renamed.{cell-instead, redirect-wide, redirect-numbers, redirect-length, redirect-filled, redirect-has, redirect-next}
 use Rattle.heals.proofs.Placed.{placedEdges, placed-table, placed-length}
 
 -- ---- the map after the ticket
@@ -149,8 +149,8 @@ module _ {nodes edges faces : List ℤ} {h : Head} (f : Formed nodes edges faces
   renamed-is : t ≡ filled N (flatMap edgeCells (m₂ .edges))
   renamed-is =
       (λ x. redirected (dartCell (back-is x)) (negℤ (number-is x)) (redirected (dartCell (ps .first x)) (number-is x) (sym (edges-filled f) x) n) n)
-      ∙ ap (λ (u : List ℤ). redirected (dartCell (rev d)) (dartCell (bwd number)) u n) (redirected-filled c (fwd number) c-least m N n (edges-are-wide f) (edges-length edges n))
-      ∙ redirected-filled (rev d) (bwd number) d-least m₁ N n wide₁ long₁
+      ∙ ap (λ (u : List ℤ). redirected (dartCell (rev d)) (dartCell (bwd number)) u n) (redirect-filled c (fwd number) c-least m N n (edges-are-wide f) (edges-length edges n))
+      ∙ redirect-filled (rev d) (bwd number) d-least m₁ N n wide₁ long₁
 
   abbrev t₁ : List ℤ
   t₁ = redirected (dartCell (dartAt edges (s .first))) z edges n

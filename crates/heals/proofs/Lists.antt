@@ -72,8 +72,3 @@ module _ {A : Type 0} where
     less-wide (suc j) [] h = tt
     less-wide zero (x ∷ xs) h = h .1
     less-wide (suc j) (x ∷ xs) h = (h .0, less-wide j xs (h .1))
-
-    pub set-wide : (xs : List A) (i : ℕ) (y : A) → Wide w cells xs → length (cells y) ≡ w → Wide w cells (set xs i y)
-    set-wide [] i y h k = tt
-    set-wide (x ∷ xs) zero y h k = (k, h .1)
-    set-wide (x ∷ xs) (suc i) y h k = (h .0, set-wide xs i y (h .1) k)

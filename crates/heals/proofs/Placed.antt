@@ -11,10 +11,10 @@ use Rattle.lists.specs.Tests.{same}
 use Rattle.lists.specs.Members.{Distinct}
 use Rattle.map.specs.Rows.{Edge, filled, edgeCells, withoutEdge}
 use Rattle.tables.specs.Tables.{closed}
-use Rattle.tables.proofs.Writes.{Wide, pushed, replaced-at, removed-at}
+use Rattle.tables.proofs.Writes.{Wide, pushed, replaced-at, removed-at, wide-set}
 use Rattle.tables.proofs.Numbers.{without-at, changed-at}
 use Rattle.heals.specs.Heals.{closedUp, placed}
-use Rattle.heals.proofs.Lists.{less, closed-below, less-length, less-at, less-distinct, less-wide, set-numbers, set-wide}
+use Rattle.heals.proofs.Lists.{less, closed-below, less-length, less-at, less-distinct, less-wide, set-numbers}
 
 abbrev numberOf : Edge → ℕ
 numberOf e = e .number
@@ -51,7 +51,7 @@ module _ (N : ℕ) (ys : List Edge) (wide : Wide 32 edgeCells ys) (once : Distin
     kept-table =
         ap (λ (t : List ℤ). closed 32 t (length ys) j) (replaced-at 32 edgeCells N ys i d wide hi row width)
         ∙ ap (λ (n : ℕ). closed 32 (filled N (flatMap edgeCells (set ys i row))) n j) (sym set-long)
-        ∙ removed-at 32 edgeCells N (set ys i row) j d (set-wide 32 edgeCells ys i row wide width) (omega (arith, set-long)) (rw set-long fits)
+        ∙ removed-at 32 edgeCells N (set ys i row) j d (wide-set 32 edgeCells ys i row wide width) (omega (arith, set-long)) (rw set-long fits)
         ∙ ap (λ (r : List Edge). filled N (flatMap edgeCells r)) (sym kept-edges)
 
     kept-length : length (placedEdges true a b row ys) ≡ length ys - 1

@@ -10,7 +10,7 @@ use lib.IntN.{ℤ, pos, negℤ}
 use Rattle.lists.specs.Scans.{isSome}
 use Rattle.lists.specs.Tables.{place}
 use Rattle.lists.specs.declared.Found.the-variants.{At}
-use Rattle.lists.proofs.Bools.{which, not-true}
+use Rattle.lists.proofs.Bools.{which, not-true, same-false}
 use Rattle.planar.specs.Map.{Dart}
 use Rattle.planar.specs.Rings.{sameDart}
 use Rattle.planar.proofs.Rings.{sameDart-refl, sameDart-true}
@@ -42,6 +42,16 @@ cell-test z d h =
       | inl e ↦ e ∙ sym (ap (λ (c : Dart). sameDart c d) (ap dartOf (same-is z (dartCell d) e) ∙ cell-dart d h) ∙ sameDart-refl d)
       | inr e ↦ e ∙ sym (not-true (sameDart (dartOf z) d) (λ t. let q : z ≡ dartCell d = sym (dart-back z) ∙ ap dartCell (sameDart-true (dartOf z) d t) in let k : true ≡ false = sym (is-same z (dartCell d) q) ∙ e in let n : _≡_ {A = ℕ} 0 1 = cc in omega arith))
     ]
+
+-- one directed edge is another if and only if they are written alike
+pub cell-same : (c d : Dart) → 1 ≤ d .edge → sameZ (dartCell c) (dartCell d) ≡ sameDart c d
+unfolding sameDart
+cell-same c d h = cell-test (dartCell c) d h ∙ go (c .edge) (c .back)
+  where
+    go : (e : ℕ) (b : Bool) → sameDart (dartOf (cond b (negℤ (pos e)) (pos e))) d ≡ sameDart (record { edge = e; back = b }) d
+    go zero true = rw (same-false 0 (d .edge) (λ q. omega arith))
+    go zero false = refl
+    go (suc e) b = ap (λ (x : Dart). sameDart x d) (cell-dart (record { edge = suc e; back = b }) (omega arith))
 
 -- one number for another is one directed edge for another
 pub new-dart : (old new : Dart) (z : ℤ) → 1 ≤ old .edge → 1 ≤ new .edge → dartOf (newFor (dartCell old) (dartCell new) z) ≡ instead old new (dartOf z)

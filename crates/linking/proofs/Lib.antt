@@ -1,6 +1,6 @@
 -- `Words`: numbers compared as words. `Choices`: the scan for the first departure met clockwise. `FirstMet`: what its answer tells.
 -- `Kept`: links changed in a table, and nothing else. `Darts`: directed edges as they are written. `LinksKept`: rows as required, kept.
--- `Departures`: departures by position and of the map. `Redirected`, `LinkedEdges`: links changed in the table and in the map.
+-- `Departures`: departures by position and of the map. `Redirected`, `LinkedEdges`, `Filled`: links changed in the table and in the map.
 pub mod Words
 pub mod Choices
 pub mod FirstMet
@@ -10,3 +10,4 @@ pub mod LinksKept
 pub mod Departures
 pub mod Redirected
 pub mod LinkedEdges
+pub mod Filled

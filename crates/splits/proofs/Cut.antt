@@ -1,7 +1,7 @@
 -- Row i cut in the table is the edge split in the map: the edges of the split, with zeros behind. Assumes nothing.
 use mathlib.Core.Path.{_≡_, refl, sym, ap, ap₂, _∙_, subst}
-use mathlib.Core.Bool.{Bool, true, false, cond, not}
-use mathlib.Core.List.{List, [], _∷_, _++_, map, flatMap, append-assoc}
+use mathlib.Core.Bool.{Bool, true, false, cond}
+use mathlib.Core.List.{List, [], _∷_, _++_, map, flatMap, append-assoc, map-map}
 use mathlib.Core.Option.{some}
 use Prim.Native.Nat.{ℕ, suc, _+_, _*_, _-_, _<_, _≤_}
 use native.Mathlib.Omega.{arith}
@@ -12,7 +12,7 @@ use lib.Seq.{paste, length-take-le}
 use Rattle.lists.specs.Tests.{same}
 use Rattle.lists.specs.Members.{Distinct}
 use Rattle.plane.specs.declared.Point.{Point}
-use Rattle.curves.specs.Curves.{points, maxPoints}
+use Rattle.curves.specs.Curves.{points}
 use Rattle.curves.specs.Edits.{front, back}
 use Rattle.planar.specs.Map.{Dart, fwd, bwd}
 use Rattle.cutting.specs.Lines.{lineOf}
@@ -22,16 +22,16 @@ use Rattle.map.specs.Links.{redirect}
 use Rattle.map.specs.Edits.{startHalf, endHalf, split}
 use Rattle.tables.specs.Tables.{closed, edgeAt, EdgeRow}
 use Rattle.tables.proofs.Numbers.{without-at, changed-at}
-use Rattle.tables.proofs.Writes.{Wide, wide-append, pushed, replaced-at, removed-at, edge-wide}
-use Rattle.links.specs.Positions.{dartAt}
+use Rattle.tables.proofs.Writes.{Wide, wide-append, pushed, replaced-at, removed-at, edge-wide, wide-set}
 use Rattle.links.proofs.Positions.{dart-even, dart-odd}
 use Rattle.linking.specs.Linking.{redirected}
+use Rattle.linking.proofs.Filled.{renamedRow, renamed-wide, redirected-filled}
 use Rattle.rowing.specs.Cells.{cellsOf}
 use Rattle.rowing.proofs.Cells.{row-cells}
 use Rattle.conditions.proofs.Maps.{edge-is}
 use Rattle.splits.specs.Cuts.{renamed, startSides, endSides, placed, cutRow}
 use Rattle.splits.proofs.Halves.{front-few, back-few}
-use Rattle.splits.proofs.Rows.{map-map, found-at, wide-set, wide-without, row-number, renamedRow, renamed-wide, redirected-filled}
+use Rattle.splits.proofs.Rows.{found-at, wide-without, row-number}
 
 -- a table l of rows xs in form, row i of it, and the new numbers
 module _ (l : List ℤ) (N n : ℕ) (xs : List Edge) (is : filled N (flatMap edgeCells xs) ≡ l) (wide : Wide edgeWidth edgeCells xs) (long : length xs ≡ n)
@@ -53,7 +53,7 @@ module _ (l : List ℤ) (N n : ℕ) (xs : List Edge) (is : filled N (flatMap edg
   y = rename (edgeAt l i)
 
   ys-wide : Wide edgeWidth edgeCells ys
-  ys-wide = renamed-wide (bwd own) (bwd b) some (map (renamedRow (fwd own) (fwd a)) xs) (renamed-wide (fwd own) (fwd a) some xs wide)
+  ys-wide = renamed-wide (bwd own) (bwd b) (map (renamedRow (fwd own) (fwd a)) xs) (renamed-wide (fwd own) (fwd a) xs wide)
 
   ys-long : length ys ≡ n
   ys-long = length-map (map (renamedRow (fwd own) (fwd a)) xs) (renamedRow (bwd own) (bwd b)) ∙ length-map xs (renamedRow (fwd own) (fwd a)) ∙ long
@@ -62,19 +62,19 @@ module _ (l : List ℤ) (N n : ℕ) (xs : List Edge) (is : filled N (flatMap edg
   within = omega (arith, ys-long)
 
   ys-are : ys ≡ map rename xs
-  ys-are = map-map (renamedRow (fwd own) (fwd a)) (renamedRow (bwd own) (bwd b)) xs
+  ys-are = map-map (renamedRow (bwd own) (bwd b)) (renamedRow (fwd own) (fwd a)) xs
 
   here : getD ys i y ≡ y
   here = ap (λ (r : List Edge). getD r i y) ys-are ∙ List·getD-map rename xs i (edgeAt l i) ∙ ap rename at
 
   ys-once : Distinct (map (λ r. r .number) ys)
-  ys-once = subst Distinct (sym (ap (map (λ r. r .number)) ys-are ∙ map-map rename (λ r. r .number) xs)) dis
+  ys-once = subst Distinct (sym (ap (map (λ r. r .number)) ys-are ∙ map-map (λ r. r .number) rename xs)) dis
 
   -- the table renamed
   table-is : renamed l n i (pos a) (pos b) ≡ filled N (flatMap edgeCells ys)
   table-is =
       let mid = redirected-filled (fwd own) (fwd a) some N n xs wide long in
-      let end = redirected-filled (bwd own) (bwd b) some N n (map (renamedRow (fwd own) (fwd a)) xs) (renamed-wide (fwd own) (fwd a) some xs wide) (length-map xs (renamedRow (fwd own) (fwd a)) ∙ long) in
+      let end = redirected-filled (bwd own) (bwd b) some N n (map (renamedRow (fwd own) (fwd a)) xs) (renamed-wide (fwd own) (fwd a) xs wide) (length-map xs (renamedRow (fwd own) (fwd a)) ∙ long) in
       ap₂ (λ (c d : Dart). redirected (dartCell d) (negℤ (pos b)) (redirected (dartCell c) (pos a) l n) n) (dart-even l i) (dart-odd l i)
       ∙ ap (λ (r : List ℤ). redirected (dartCell (bwd own)) (negℤ (pos b)) (redirected (dartCell (fwd own)) (pos a) r n) n) (sym is)
       ∙ ap (λ (r : List ℤ). redirected (dartCell (bwd own)) (negℤ (pos b)) r n) mid ∙ end

@@ -18,7 +18,7 @@ getD-in (x ∷ xs) (suc i) d t = List·Memᴰ·tail (getD-in xs i d (omega arith
 
 module _ {A : Type 0} (number : A → ℕ) where
   -- the first row's number is none of the others'
-  other : (x : A) (xs : List A) → Distinct (map number (x ∷ xs)) → (r : A) → List·Memᴰ r xs → same (number x) (number r) ≡ false
+  pub other : (x : A) (xs : List A) → Distinct (map number (x ∷ xs)) → (r : A) → List·Memᴰ r xs → same (number x) (number r) ≡ false
   other x xs dis r m = same-false (number x) (number r) (λ e. dis .0 (Memᴰ·cast e (Memᴰ·map number m)))
 
   other′ : (x : A) (xs : List A) → Distinct (map number (x ∷ xs)) → (r : A) → List·Memᴰ r xs → same (number r) (number x) ≡ false

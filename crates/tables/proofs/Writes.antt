@@ -206,15 +206,20 @@ module _ {A : Type 0} (w : ℕ) (cells : A → List ℤ) where
         ∙ ap (closed w (filled N (flatMap cells (take i xs ++ getD xs i d ∷ drop (suc i) xs))) n) (sym place)
         ∙ removed N (take i xs) (drop (suc i) xs) (getD xs i d) n (wide-take i xs h) (wide-at xs i d h t) (wide-drop (suc i) xs h) parts fits
 
+  pub wide-set : (xs : List A) (i : ℕ) (y : A) → Wide xs → length (cells y) ≡ w → Wide (set xs i y)
+  wide-set [] i y h k = tt
+  wide-set (x ∷ xs) zero y h k = (k, h .1)
+  wide-set (x ∷ xs) (suc i) y h k = (h .0, wide-set xs i y (h .1) k)
+
   -- ---- a sweep of the rows
+
+  pub wide-map : (f : A → A) → ((x : A) → length (cells x) ≡ w → length (cells (f x)) ≡ w) → (xs : List A) → Wide xs → Wide (map f xs)
+  wide-map f width [] h = tt
+  wide-map f width (x ∷ xs) h = (width x (h .0), wide-map f width xs (h .1))
 
   module _ (g : List ℤ → ℕ → List ℤ) (f : A → A)
       (step : (p rest : List ℤ) (a : ℕ) (x : A) → length p ≡ a * w → length (cells x) ≡ w → g (p ++ (cells x ++ rest)) a ≡ p ++ (cells (f x) ++ rest))
       (width : (x : A) → length (cells x) ≡ w → length (cells (f x)) ≡ w) where
-    wide-map : (xs : List A) → Wide xs → Wide (map f xs)
-    wide-map [] h = tt
-    wide-map (x ∷ xs) h = (width x (h .0), wide-map xs (h .1))
-
     swept-from : (xs : List A) (p rest : List ℤ) (a : ℕ) → Wide xs → length p ≡ a * w → sweep g (p ++ (flatMap cells xs ++ rest)) a (length xs) ≡ p ++ (flatMap cells (map f xs) ++ rest)
     unfolding flatMap
     swept-from [] p rest a h e = refl
@@ -230,7 +235,7 @@ module _ {A : Type 0} (w : ℕ) (cells : A → List ℤ) where
 
     pub swept : (N : ℕ) (xs : List A) → Wide xs → sweep g (filled N (flatMap cells xs)) 0 (length xs) ≡ filled N (flatMap cells (map f xs))
     swept N xs h =
-        let e : length (flatMap cells xs) ≡ length (flatMap cells (map f xs)) = flat-length xs h ∙ ap (λ (n : ℕ). n * w) (sym (length-map xs f)) ∙ sym (flat-length (map f xs) (wide-map xs h)) in
+        let e : length (flatMap cells xs) ≡ length (flatMap cells (map f xs)) = flat-length xs h ∙ ap (λ (n : ℕ). n * w) (sym (length-map xs f)) ∙ sym (flat-length (map f xs) (wide-map f width xs h)) in
         swept-from xs [] (replicate (N - length (flatMap cells xs)) (pos 0)) 0 h (sym (zero-mul w))
         ∙ ap (λ (n : ℕ). flatMap cells (map f xs) ++ replicate (N - n) (pos 0)) e
 
