@@ -11,16 +11,17 @@ use Rattle.lists.specs.Tests.{same}
 use Rattle.lists.specs.Scans.{all, any}
 use Rattle.lists.specs.Tables.{place}
 use Rattle.lists.specs.declared.Found.the-variants.{At}
-use Rattle.geometry.proofs.Booleans.{and-true, and-is}
+use Rattle.geometry.proofs.Booleans.{and-is}
 use Rattle.curves.specs.Curves.{curveOf, startWay}
 use Rattle.map.specs.declared.Head.{Head}
 use Rattle.map.specs.Limits.{maxNodes, maxEdges, nodeWidth, edgeWidth}
 use Rattle.map.specs.Rows.{Map, Sizes, mapOf, sizesOf, hasNode}
-use Rattle.map.specs.Form.{numbers, named, curveFits, departuresDiffer, bareMarked, linksOnce, linksMeet, ringsBearOne, formed}
+use Rattle.map.specs.Form.{numbers, named}
 use Rattle.map.specs.Links.{cornerFace}
 use Rattle.map.specs.Edits.{drawn, drawnIn, splitsFace}
 use Rattle.map.specs.Reasons.{firstReason, reasons}
 use Rattle.map.proofs.Laws.{formed-is}
+use Rattle.map.proofs.RoundTrip.{whole-rows}
 use Rattle.map.proofs.Linked as formedLinks
 use Rattle.tables.specs.Tables.{sameZ, column, nodesOf, edgesOf, facesOf, nodeAt, edgeAt, nodeMap}
 use Rattle.tables.proofs.Rows.{edges-length, edges-getD}
@@ -32,7 +33,7 @@ use Rattle.edge_reasons.specs.Kinds.{addTicket}
 use Rattle.edge_reasons.proofs.Adding.{room-known}
 use Rattle.redraws.specs.Holds.{Drawn, drawnHead}
 use Rattle.redraws.specs.Holds as redraws
-use Rattle.redraws.proofs.Filled.{whole-size, nodes-room, edges-room, nodes-filled, edges-filled}
+use Rattle.redraws.proofs.Filled.{nodes-room, edges-room, nodes-filled, edges-filled}
 use Rattle.face_edits.specs.Holds.{Held, Splittable}
 use Rattle.face_edits.proofs.Formed.{formed-held}
 use Rattle.grown.proofs.Readings.{missing, has-number}
@@ -57,17 +58,10 @@ module _ {nodes edges faces : List ℤ} {h : Head} (f : Formed nodes edges faces
   s = sizesOf (lent nodes edges faces h)
 
   -- faces that are named exist: `ranked` says so
-  numbers-rise : numbers m ≡ true
-  unfolding formed
-  numbers-rise =
-      let h₁ = and-true _ (linksMeet m) (and-true _ (ringsBearOne m) (formed-map f) .0) .0 in
-      let h₂ = and-true _ (departuresDiffer m) (and-true _ (bareMarked m) (and-true _ (linksOnce m) h₁ .0) .0) .0 in
-      and-true (numbers m) (named m) (and-true _ (all (curveFits m) (m .edges)) h₂ .0) .0
-
   ranked : RankedMap m
   unfolding mapOf
   ranked = numbered-ranked m (formedLinks.edges-once m (formed-map f)) (record {
-    numbers = numbers-rise;
+    numbers = formed-is m (formed-map f) .rising;
     named = formed-is m (formed-map f) .named;
     marked = formed-is m (formed-map f) .bare;
     first-node = node-next f .1;
@@ -93,8 +87,8 @@ module _ {nodes edges faces : List ℤ} {h : Head} (f : Formed nodes edges faces
         next-node = k .next-node;
         next-edge = d .next;
         next-face = k .next-face;
-        few-nodes = omega (arith, nodes-room (d .node-table), whole-size nodeWidth 0 maxNodes nodes′ (d .node-table .whole) .1);
-        few-edges = omega (arith, edges-room (d .edge-table), whole-size edgeWidth 0 maxEdges edges′ (d .edge-table .whole) .1);
+        few-nodes = omega (arith, nodes-room (d .node-table), whole-rows nodeWidth 0 maxNodes nodes′ (d .node-table .whole) .most);
+        few-edges = omega (arith, edges-room (d .edge-table), whole-rows edgeWidth 0 maxEdges edges′ (d .edge-table .whole) .most);
         few-faces = k .few-faces;
         next-most = k .next-most;
       }

@@ -3,8 +3,7 @@
 use mathlib.Core.Path.{_≡_, refl, ap}
 use mathlib.Core.Bool.{Bool, true, false, _&&_, _||_, false≢true}
 use mathlib.Core.List.{List, [], _∷_, map, flatMap}
-use Prim.Native.Nat.{ℕ, zero, suc, _+_, _*_, _/_, _%_, _≤_, _<_}
-use native.Mathlib.Nat.{div-add-mod'}
+use Prim.Native.Nat.{ℕ, zero, suc, _+_, _*_, _/_, _≤_, _<_}
 use native.Mathlib.Omega.{arith}
 use lib.Dec.{leb, ltb}
 use lib.IntN.{ℤ, pos, negsuc, natAbs}
@@ -13,16 +12,15 @@ use borrow.Author.Tests.{leb-true, ltb-true, lt-ltb, le-ltb}
 use Rattle.lists.specs.Tests.{same}
 use Rattle.lists.specs.Scans.{all, firstOr, linked}
 use Rattle.lists.specs.Members.{Distinct}
-use Rattle.lists.proofs.Bools.{same-true}
 use Rattle.curves.proofs.Runs.{and-left, and-right}
 use Rattle.map.specs.declared.Head.{Head}
 use Rattle.map.specs.Limits.{maxNodes, maxEdges, maxFaces, lastNumber, nodeWidth, edgeWidth, faceWidth}
-use Rattle.map.specs.Rows.{Edge, Map, Lent, Sizes, mapOf, lentOf, sizesOf, headOf, filled, nodeCells, edgeCells, faceCells, wholeRows, whole, hasNode, hasEdge, hasFace}
-use Rattle.map.specs.Form.{within, numbered, numbers, inFace, edgeNames, named, curveFits, departuresDiffer, bareMarked, linksOnce, linksMeet, ringsBearOne, ranged, formed, inForm}
+use Rattle.map.specs.Rows.{Edge, Map, Lent, Sizes, mapOf, lentOf, sizesOf, headOf, filled, nodeCells, edgeCells, faceCells, whole, hasNode, hasEdge, hasFace}
+use Rattle.map.specs.Form.{within, numbered, numbers, inFace, edgeNames, named, ranged, formed, inForm}
 use Rattle.map.specs.Tickets.{Ticket}
 use Rattle.map.specs.Reasons.{firstReason, reasons, full, spent}
 use Rattle.map.specs.Ticket.{carried}
-use Rattle.map.proofs.RoundTrip.{Ranged, ranged-is}
+use Rattle.map.proofs.RoundTrip.{Ranged, ranged-is, WholeRows, whole-rows, whole-tables}
 use Rattle.map.proofs.Laws.{formed-is, in-form-back}
 use Rattle.tables.specs.Tables.{nodesOf, edgesOf, facesOf, edgeMap, NodeRows, EdgeRows, FaceRows}
 use Rattle.tables.proofs.Rows.{nodes-length, edges-length, faces-length}
@@ -53,13 +51,6 @@ numbered-more least a b ns k h =
     more n e =
         let t = ltb-true n a (and-right (leb least n) (ltb n a) e) in
         rw (and-left (leb least n) (ltb n a) e, lt-ltb n b (omega arith))
-
-whole-size : (w a b : ℕ) (l : List ℤ) → wholeRows w a b l ≡ true → (length l / w * w ≡ length l) × (length l / w ≤ b)
-whole-size w a b l h =
-    let h₁ = and-left (same (length l % w) 0 && leb a (length l / w)) (leb (length l / w) b) h in
-    let rem = same-true (length l % w) 0 (and-left (same (length l % w) 0) (leb a (length l / w)) h₁) in
-    let div = div-add-mod' (length l) w in
-    (omega arith, leb-true (length l / w) b (and-right (same (length l % w) 0 && leb a (length l / w)) (leb (length l / w) b) h))
 
 -- ---- tables in form
 
@@ -93,19 +84,23 @@ module _ {nodes edges faces : List ℤ} {h : Head} (f : Formed nodes edges faces
   face-next = within-is 1 (suc lastNumber) (h .«next_face») (ranges .next-face)
 
   -- whole rows, and not more than the limit
-  two-whole : wholeRows nodeWidth 0 maxNodes nodes && wholeRows edgeWidth 0 maxEdges edges ≡ true
-  unfolding whole
-  two-whole = and-left (wholeRows nodeWidth 0 maxNodes nodes && wholeRows edgeWidth 0 maxEdges edges) (wholeRows faceWidth 1 maxFaces faces) (f .whole)
+  nodes-whole : WholeRows nodeWidth 0 maxNodes nodes
+  nodes-whole = whole-rows nodeWidth 0 maxNodes nodes (whole-tables (lent nodes edges faces h) (f .whole) .0)
+
+  edges-whole : WholeRows edgeWidth 0 maxEdges edges
+  edges-whole = whole-rows edgeWidth 0 maxEdges edges (whole-tables (lent nodes edges faces h) (f .whole) .1)
+
+  faces-whole : WholeRows faceWidth 1 maxFaces faces
+  faces-whole = whole-rows faceWidth 1 maxFaces faces (whole-tables (lent nodes edges faces h) (f .whole) .2)
 
   pub nodes-size : (length nodes / nodeWidth * nodeWidth ≡ length nodes) × (length nodes / nodeWidth ≤ maxNodes)
-  nodes-size = whole-size nodeWidth 0 maxNodes nodes (and-left (wholeRows nodeWidth 0 maxNodes nodes) (wholeRows edgeWidth 0 maxEdges edges) two-whole)
+  nodes-size = (nodes-whole .size, nodes-whole .most)
 
   pub edges-size : (length edges / edgeWidth * edgeWidth ≡ length edges) × (length edges / edgeWidth ≤ maxEdges)
-  edges-size = whole-size edgeWidth 0 maxEdges edges (and-right (wholeRows nodeWidth 0 maxNodes nodes) (wholeRows edgeWidth 0 maxEdges edges) two-whole)
+  edges-size = (edges-whole .size, edges-whole .most)
 
   pub faces-size : (length faces / faceWidth * faceWidth ≡ length faces) × (length faces / faceWidth ≤ maxFaces)
-  unfolding whole
-  faces-size = whole-size faceWidth 1 maxFaces faces (and-right (wholeRows nodeWidth 0 maxNodes nodes && wholeRows edgeWidth 0 maxEdges edges) (wholeRows faceWidth 1 maxFaces faces) (f .whole))
+  faces-size = (faces-whole .size, faces-whole .most)
 
   -- the rows in use fit
   pub nodes-fit : natAbs (h .nodes) * nodeWidth ≤ length nodes
@@ -117,14 +112,8 @@ module _ {nodes edges faces : List ℤ} {h : Head} (f : Formed nodes edges faces
   pub faces-fit : natAbs (h .faces) * faceWidth ≤ length faces
   faces-fit = omega (arith, faces-count .2, faces-size .0)
 
-  -- numbers rise, and names are of rows
-  numbers-named : numbers (mapOf (lent nodes edges faces h)) && named (mapOf (lent nodes edges faces h)) ≡ true
-  unfolding formed
-  numbers-named =
-      let m = mapOf (lent nodes edges faces h) in
-      and-left _ (all (curveFits m) (m .edges)) (and-left _ (departuresDiffer m) (and-left _ (bareMarked m) (and-left _ (linksOnce m) (and-left _ (linksMeet m) (and-left _ (ringsBearOne m) formed-map)))))
-
-  numbers-rise : (numbered 1 (natAbs (h .«next_node»)) (map (λ r. r .number) (nodesOf nodes (natAbs (h .nodes)))) ≡ true)
+  -- numbers rise
+  pub numbers-rise : (numbered 1 (natAbs (h .«next_node»)) (map (λ r. r .number) (nodesOf nodes (natAbs (h .nodes)))) ≡ true)
       × (numbered 1 (natAbs (h .«next_edge»)) (map (λ r. r .number) (edgesOf edges (natAbs (h .edges)))) ≡ true)
       × (numbered 0 (natAbs (h .«next_face»)) (facesOf faces (natAbs (h .faces))) ≡ true)
   unfolding mapOf numbers
@@ -132,8 +121,7 @@ module _ {nodes edges faces : List ℤ} {h : Head} (f : Formed nodes edges faces
       let a = numbered 1 (natAbs (h .«next_node»)) (map (λ r. r .number) (nodesOf nodes (natAbs (h .nodes)))) in
       let b = numbered 1 (natAbs (h .«next_edge»)) (map (λ r. r .number) (edgesOf edges (natAbs (h .edges)))) in
       let c = numbered 0 (natAbs (h .«next_face»)) (facesOf faces (natAbs (h .faces))) in
-      let all = and-left (a && b && c && same (firstOr 1 (facesOf faces (natAbs (h .faces)))) 0) (named (mapOf (lent nodes edges faces h))) numbers-named in
-      let three = and-left (a && b && c) (same (firstOr 1 (facesOf faces (natAbs (h .faces)))) 0) all in
+      let three = and-left (a && b && c) (same (firstOr 1 (facesOf faces (natAbs (h .faces)))) 0) (formed-is (mapOf (lent nodes edges faces h)) formed-map .rising) in
       let two = and-left (a && b) c three in
       (and-left a b two, and-right a b two, and-right (a && b) c three)
 
@@ -158,7 +146,7 @@ module _ {nodes edges faces : List ℤ} {h : Head} (f : Formed nodes edges faces
   unfolding mapOf named
   edges-named =
       let m = mapOf (lent nodes edges faces h) in
-      and-right (all (λ n. inFace m (n .face)) (m .nodes)) (all (edgeNames m) (m .edges)) (and-right (numbers m) (named m) numbers-named)
+      and-right (all (λ n. inFace m (n .face)) (m .nodes)) (all (edgeNames m) (m .edges)) (formed-is m formed-map .named)
 
   pub edge-rows : EdgeRows edges (natAbs (h .edges))
   edge-rows =

@@ -32,7 +32,7 @@ use Rattle.tables.proofs.Lookups.{node-found, node-missing}
 use Rattle.lists.specs.Scans.{firstOr}
 use Rattle.ranges.specs.Ranges.{lent}
 use Rattle.answers.specs.Outcomes.{Formed}
-use Rattle.answers.proofs.Formed.{ranges, formed-map, nodes-count, edges-count, faces-count, edge-next, face-next, nodes-size, edges-size, faces-size, node-rows, edge-rows, full-is, spent-is, nodes-room, node-left}
+use Rattle.answers.proofs.Formed.{ranges, formed-map, nodes-count, edges-count, faces-count, edge-next, face-next, nodes-size, edges-size, faces-size, node-rows, edge-rows, full-is, spent-is, nodes-room, node-left, numbers-rise}
 use Rattle.conditions.proofs.Reasons.{first-hit, first-miss, first-zero, first-append, first-after}
 use Rattle.faces.specs.Corners.{cornerCell}
 use Rattle.faces.proofs.Corners.{corner-in-form}
@@ -84,22 +84,9 @@ module _ {nodes edges faces : List ℤ} {h : Head} (f : Formed nodes edges faces
         most-faces = face-next f .2;
       }
 
-  numbers-named : numbers m && named m ≡ true
-  unfolding formed
-  numbers-named =
-      and-left _ (all (curveFits m) (m .edges)) (and-left _ (departuresDiffer m) (and-left _ (bareMarked m) (and-left _ (linksOnce m) (and-left _ (linksMeet m) (and-left _ (ringsBearOne m) (formed-map f))))))
-
-  rising : numbered 1 (m .nextEdge) (map (λ r. r .number) (m .edges)) ≡ true
-  unfolding numbers
-  rising =
-      let x = numbered 1 (m .nextNode) (map (λ r. r .number) (m .nodes)) in
-      let y = numbered 1 (m .nextEdge) (map (λ r. r .number) (m .edges)) in
-      let z = numbered 0 (m .nextFace) (m .faces) in
-      and-right x y (and-left (x && y) z (and-left (x && y && z) (same (firstOr 1 (m .faces)) 0) (and-left (numbers m) (named m) numbers-named)))
-
   pub held : Held nodes (natAbs (h .nodes)) edges (natAbs (h .edges)) m
   unfolding mapOf
-  held = record { node-rows = refl; edge-rows = refl; rising = rising; bare = formed-is m (formed-map f) .bare }
+  held = record { node-rows = refl; edge-rows = refl; rising = numbers-rise f .1; bare = formed-is m (formed-map f) .bare }
 
   -- of counts as they were read
   pub held-at : {x y : ℕ} → x ≡ natAbs (h .nodes) → y ≡ natAbs (h .edges) → Held nodes x edges y m

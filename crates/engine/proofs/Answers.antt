@@ -1,23 +1,21 @@
 -- What one ticket and a list of tickets answer, reason by reason. Assumes nothing.
 use mathlib.Core.Path.{_≡_, sym, ap, _∙_, subst}
-use mathlib.Core.Bool.{Bool, true, false, _&&_, _||_}
+use mathlib.Core.Bool.{Bool, true, false, _||_}
 use mathlib.Core.List.{List, map}
 use mathlib.Core.Option.{Option, none, some}
-use Prim.Native.Nat.{ℕ, _%_, _≤_}
+use Prim.Native.Nat.{ℕ, _≤_}
 use native.Mathlib.Omega.{arith}
-use lib.Dec.{leb, ltb}
+use lib.Dec.{ltb}
 use lib.IntN.{ℤ, pos}
 use lib.ListN.{length}
-use borrow.Author.Tests.{leb-true}
-use Rattle.lists.specs.Tests.{same}
-use Rattle.curves.proofs.Runs.{and-left, and-right}
-use Rattle.map.specs.Limits.{nodeWidth, edgeWidth, faceWidth, maxNodes, maxEdges, maxFaces}
-use Rattle.map.specs.Rows.{Lent, mapOf, sizesOf, wholeRows, whole}
+use Rattle.map.specs.Limits.{faceWidth, maxFaces}
+use Rattle.map.specs.Rows.{Lent, mapOf, sizesOf, whole}
 use Rattle.map.specs.Form.{inForm}
 use Rattle.map.specs.Tickets.{Ticket, read}
 use Rattle.map.specs.Reasons.{firstReason}
 use Rattle.map.specs.Ticket.{refused, judged, ticket, emptied}
 use Rattle.map.specs.Grow.{Grown, after, grow}
+use Rattle.map.proofs.RoundTrip.{whole-rows, whole-tables}
 use Rattle.grown.specs.Claims.{GrownMap}
 use Rattle.grown.proofs.Grows.{grows}
 use Rattle.engine.specs.Runs.{ticketsOf, Ran, front, ranUnless, ran, Runs}
@@ -47,10 +45,7 @@ module _ (l : Lent) where
 
 -- a table of faces that is whole has a row
 some-face : (l : Lent) → whole l ≡ true → 1 ≤ sizesOf l .faces
-unfolding whole
-some-face l w =
-    let f = and-right (wholeRows nodeWidth 0 maxNodes (l .nodes) && wholeRows edgeWidth 0 maxEdges (l .edges)) (wholeRows faceWidth 1 maxFaces (l .faces)) w in
-    leb-true 1 (sizesOf l .faces) (and-right (same (length (l .faces) % faceWidth) 0) (leb 1 (sizesOf l .faces)) (and-left _ (leb (sizesOf l .faces) maxFaces) f))
+some-face l w = whole-rows faceWidth 1 maxFaces (l .faces) (whole-tables l w .2) .least
 
 -- from the empty map on
 grow-is : (l : Lent) (ts : List (List ℤ)) → whole l ≡ true → grow (sizesOf l) ts ≡ after (emptied l .lent) ts

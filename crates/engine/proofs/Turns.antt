@@ -1,14 +1,13 @@
 -- A list of tickets, ticket by ticket: what is left to do, and what is written so far. Assumes nothing.
 use mathlib.Core.Path.{_≡_, refl, sym, ap, ap₂, _∙_, subst}
-use mathlib.Core.Logic.{inl, inr}
 use mathlib.Core.List.{List, [], _∷_, _++_, map, append-nil}
 use Prim.Native.Nat.{ℕ, _+_, _-_, _≤_, _<_, min}
 use native.Mathlib.Numerals.{add-one}
 use native.Mathlib.Omega.{arith}
 use lib.IntN.{ℤ}
 use lib.ListN.{length, take, drop, set, getD, length-set, length-drop, take-append-drop, drop-of-length-le}
-use lib.Seq.{take-all, take-length, drop-length, drop-cons, drop-drop, drop-set-lt, take-suc-set, length-take-le, append-snoc}
-use Rattle.tables.proofs.Order.{lt-or-ge}
+use lib.Seq.{drop-cons, drop-drop, drop-set-lt, take-suc-set, length-take-le, append-snoc}
+use Rattle.lists.proofs.Parts.{part-min}
 use Rattle.map.specs.declared.Answer.{Answer}
 use Rattle.map.specs.Rows.{Lent}
 use Rattle.map.specs.Ticket.{Outcome, ticket}
@@ -44,15 +43,6 @@ column-all {all = all} i {old = old} {new = new} c h =
     sym (take-append-drop i new) ∙ ap₂ (λ (x y : List _). x ++ y) t (c .kept) ∙ ap (λ (k : ℕ). all ++ drop k old) (sym n)
 
 -- ---- a ticket has the shorter of its length and what is left of the numbers
-
-part-min : {A : Type 0} (n : ℕ) (l : List A) → (take (min n (length l)) l ≡ take n l) × (drop (min n (length l)) l ≡ drop n l)
-part-min n l =
-    elim (lt-or-ge n (length l)) [
-      | inl h ↦ let e : min n (length l) ≡ n = omega arith in rw e (refl, refl)
-      | inr h ↦
-          let e : min n (length l) ≡ length l = omega arith in
-          rw e (take-length l ∙ sym (take-all n l h), drop-length l ∙ sym (drop-of-length-le l h))
-    ]
 
 -- ---- a list of tickets: g is what all of them give, and r what those that are left give
 

@@ -2,20 +2,20 @@
 use mathlib.Core.Path.{_≡_, refl, sym, ap, ap₂, _∙_}
 use mathlib.Core.Bool.{Bool, true, false, _&&_}
 use mathlib.Core.List.{List}
-use Prim.Native.Nat.{ℕ, _/_, _%_, _≤_}
+use Prim.Native.Nat.{ℕ, _/_, _≤_}
 use native.Mathlib.Omega.{arith}
-use lib.Dec.{T, leb}
+use lib.Dec.{T}
 use lib.IntN.{ℤ}
 use lib.ListN.{length}
 use lib.Signed.{nonNeg}
-use borrow.Author.Tests.{leb-true}
-use Rattle.lists.specs.Tests.{same}
 use Rattle.lists.specs.Scans.{all}
 use Rattle.curves.proofs.Runs.{and-left, and-right}
 use Rattle.map.specs.declared.Head.{Head}
-use Rattle.map.specs.Rows.{whole, wholeRows, sizesOf, edge, hasNode, hasEdge, hasFace}
+use Rattle.map.specs.Rows.{whole, sizesOf, edge, hasNode, hasEdge, hasFace}
 use Rattle.map.specs.Darts.{leaves, next, bears, course, way, departures}
 use Rattle.map.specs.Form.{countsFit, nextsFit, edgeNames, inFace, curveFits, numbers, named, departuresDiffer, bareMarked, linksOnce, linksMeet, ringsBearOne, formed, inForm}
+use Rattle.map.specs.Limits.{maxNodes, maxEdges, maxFaces, nodeWidth, edgeWidth, faceWidth}
+use Rattle.map.proofs.RoundTrip.{whole-rows, whole-tables}
 use Rattle.tables.specs.declared.Counts.{Counts}
 use Rattle.tables.specs.Tables.{nodesOf, edgesOf, nodeMap, edgeMap}
 use Rattle.ranges.specs.Ranges.{lent, countsOf, mapIn, rangedRows, Named}
@@ -136,17 +136,10 @@ module _ (nodes edges faces : List ℤ) (h : Head) where
 
   -- room of whole tables
   pub whole-room : whole (lent nodes edges faces h) ≡ true → (length nodes / 4 ≤ 1000) × (length edges / 32 ≤ 2000) × (length faces ≤ 1000)
-  unfolding whole
   whole-room e =
-      let a = wholeRows 4 0 1000 nodes in
-      let b = wholeRows 32 0 2000 edges in
-      let c = wholeRows 1 1 1000 faces in
-      let two = and-left (a && b) c e in
-      let f = most 1 1 1000 faces (and-right (a && b) c e) in
-      (most 4 0 1000 nodes (and-left a b two), most 32 0 2000 edges (and-right a b two), omega arith)
-    where
-      most : (w least n : ℕ) (l : List ℤ) → wholeRows w least n l ≡ true → length l / w ≤ n
-      most w least n l e = leb-true (length l / w) n (and-right (same (length l % w) 0 && leb least (length l / w)) (leb (length l / w) n) e)
+      let t = whole-tables (lent nodes edges faces h) e in
+      let f = whole-rows faceWidth 1 maxFaces faces (t .2) .most in
+      (whole-rows nodeWidth 0 maxNodes nodes (t .0) .most, whole-rows edgeWidth 0 maxEdges edges (t .1) .most, omega arith)
 
   pub sizes-are : sizesOf (lent nodes edges faces h) ≡ record { nodes = length nodes / 4; edges = length edges / 32; faces = length faces }
   sizes-are = let e : length faces / 1 ≡ length faces = omega arith in ap (λ (k : ℕ). record { nodes = length nodes / 4; edges = length edges / 32; faces = k }) e

@@ -6,3 +6,4 @@ pub mod Perms
 pub mod Sums
 pub mod Counts
 pub mod Keeps
+pub mod Parts

@@ -76,6 +76,7 @@ numbers-are m h =
 
 -- the conditions on rows, one by one
 pub record Formed (m : Map) : Type 0 where
+  pub rising : numbers m ≡ true
   pub numbers : Numbers m
   pub named : named m ≡ true
   pub curves : all (curveFits m) (m .edges) ≡ true
@@ -95,7 +96,7 @@ formed-is m h =
     let h₅ = and-true _ (departuresDiffer m) (h₄ .0) in
     let h₆ = and-true _ (all (curveFits m) (m .edges)) (h₅ .0) in
     let h₇ = and-true (numbers m) (named m) (h₆ .0) in
-    record { numbers = numbers-are m (h₇ .0); named = h₇ .1; curves = h₆ .1; departures = h₅ .1; bare = h₄ .1; once = h₃ .1; meet = h₂ .1; rings = h₁ .1 }
+    record { rising = h₇ .0; numbers = numbers-are m (h₇ .0); named = h₇ .1; curves = h₆ .1; departures = h₅ .1; bare = h₄ .1; once = h₃ .1; meet = h₂ .1; rings = h₁ .1 }
 
 module _ (m : Map) (h : formed m ≡ true) where
   ns : Numbers m

@@ -30,6 +30,7 @@ use Rattle.map.specs.Rows.{Node, Edge, Map, mapOf, edgeCells, filled, cell, dar
 use Rattle.map.specs.Form.{within, isZero, nodeRanges, edgeRanges, numbered}
 use Rattle.map.specs.Links.{linkEdge, linkIn, lead, redirect}
 use Rattle.map.specs.Edits.{withFace, isEither, drawn}
+use Rattle.map.proofs.RoundTrip.{whole-rows}
 use Rattle.tables.specs.Tables.{nodesOf, edgesOf, facesOf, nodeAt, edgeAt, edgeMap}
 use Rattle.tables.proofs.Rows.{edges-getD, edges-length, edge-numbers, node-cells, node-number-in, rows-all}
 use Rattle.tables.proofs.Cells.{row-room}
@@ -40,7 +41,6 @@ use Rattle.linking.proofs.LinkedEdges.{alone, linked-alone, linked-edge-kept, l
 use Rattle.redraws.specs.Holds.{NodeTable, EdgeTable, Held, Counted, Drawable, Drawn, drawnHead, newRow}
 use Rattle.redraws.proofs.Words.{natural-is}
 use Rattle.redraws.proofs.Lists.{numbered-push}
-use Rattle.redraws.proofs.Filled.{whole-size}
 use Rattle.redraws.proofs.Pushed.{Follows, zeros, map-append, pushed-long, pushed-edges, pushed-table}
 use Rattle.redraws.proofs.NodeFaces.{faced-nodes, faced-number, faced-table}
 
@@ -244,7 +244,7 @@ row-written {n} {b} {t} {nl} {nr} {l} {r} line e is en eb et el er fl fr few =
 
 module _ {nodes edges : List ℤ} {h : Head} {u v : ℕ} {c : List ℤ} {face : ℤ} (d : Drawable nodes edges h u v c face) where
   few-edges : natAbs (h .edges) ≤ maxEdges
-  few-edges = let s = whole-size edgeWidth 0 maxEdges edges (d .held .edge-table .whole) .1 in let r = d .room in omega arith
+  few-edges = let s = whole-rows edgeWidth 0 maxEdges edges (d .held .edge-table .whole) .most in let r = d .room in omega arith
 
   pub counted : Counted h
   counted = record { count = d .held .edges-count; few = few-edges; next = d .held .next; most = d .held .next-most }
@@ -265,7 +265,7 @@ module _ {nodes edges : List ℤ} {h : Head} {u v : ℕ} {c : List ℤ} {face : 
   face-is = natural-is face (d .natural)
 
   pub new-fits : natAbs (h .edges) * edgeWidth + edgeWidth ≤ length edges
-  new-fits = let s = whole-size edgeWidth 0 maxEdges edges (d .held .edge-table .whole) .0 in let r = d .room in omega arith
+  new-fits = let s = whole-rows edgeWidth 0 maxEdges edges (d .held .edge-table .whole) .size in let r = d .room in omega arith
 
   pub start-fits : u * nodeWidth + nodeWidth ≤ length nodes
   start-fits = let f = d .held .node-table .rows .fits in let r = row-room nodeWidth (natAbs (h .nodes)) u (d .start) in omega arith

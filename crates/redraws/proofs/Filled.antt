@@ -1,33 +1,22 @@
 -- A table whose rows in use are in range, with zeros behind, is its rows' numbers and zeros. Assumes nothing.
-use mathlib.Core.Path.{_≡_, refl, sym, ap, _∙_}
-use mathlib.Core.Bool.{true, _&&_}
+use mathlib.Core.Path.{_≡_, sym, ap, _∙_}
+use mathlib.Core.Bool.{true}
 use mathlib.Core.List.{List, [], _∷_, flatMap}
-use Prim.Native.Nat.{ℕ, _*_, _/_, _%_, _≤_}
-use native.Mathlib.Nat.{div-add-mod'}
+use Prim.Native.Nat.{ℕ, _/_, _≤_}
 use native.Mathlib.Omega.{arith}
-use lib.Dec.{leb, leb·zero}
+use lib.Dec.{leb·zero}
 use lib.IntN.{ℤ, pos}
 use lib.ListN.{length}
-use borrow.Author.Tests.{leb-true, le-leb}
+use borrow.Author.Tests.{le-leb}
 use Rattle.lists.specs.Tests.{same}
-use Rattle.lists.proofs.Bools.{same-true}
-use Rattle.curves.proofs.Runs.{and-left, and-right}
 use Rattle.map.specs.declared.Head.{Head}
 use Rattle.map.specs.Limits.{maxNodes, maxEdges, nodeWidth, edgeWidth}
-use Rattle.map.specs.Rows.{Lent, mapOf, lentOf, filled, nodeCells, edgeCells, whole, wholeRows}
+use Rattle.map.specs.Rows.{Lent, mapOf, lentOf, filled, nodeCells, edgeCells, whole}
 use Rattle.map.specs.Form.{ranged}
-use Rattle.map.proofs.RoundTrip.{writes-back}
+use Rattle.map.proofs.RoundTrip.{writes-back, whole-rows}
 use Rattle.tables.specs.Tables.{nodesOf, edgesOf}
 use Rattle.ranges.specs.Ranges.{lent}
 use Rattle.redraws.specs.Holds.{NodeTable, EdgeTable}
-
--- whole rows
-pub whole-size : (w a b : ℕ) (l : List ℤ) → wholeRows w a b l ≡ true → (length l / w * w ≡ length l) × (length l / w ≤ b)
-whole-size w a b l h =
-    let h₁ = and-left (same (length l % w) 0 && leb a (length l / w)) (leb (length l / w) b) h in
-    let rem = same-true (length l % w) 0 (and-left (same (length l % w) 0) (leb a (length l / w)) h₁) in
-    let div = div-add-mod' (length l) w in
-    (omega arith, leb-true (length l / w) b (and-right (same (length l % w) 0 && leb a (length l / w)) (leb (length l / w) b) h))
 
 -- beside empty tables and face 0
 abbrev counting : ℕ → ℕ → Head
@@ -41,7 +30,7 @@ edgesAlone l n = lent [] l (pos 0 ∷ []) (counting 0 n)
 
 module _ {l : List ℤ} {n : ℕ} (t : NodeTable l n) where
   pub nodes-room : n ≤ length l / nodeWidth
-  nodes-room = let s = whole-size nodeWidth 0 maxNodes l (t .whole) .0 in let f = t .rows .fits in omega arith
+  nodes-room = let s = whole-rows nodeWidth 0 maxNodes l (t .whole) .size in let f = t .rows .fits in omega arith
 
   nodes-whole : whole (nodesAlone l n) ≡ true
   unfolding whole same
@@ -54,12 +43,12 @@ module _ {l : List ℤ} {n : ℕ} (t : NodeTable l n) where
   pub nodes-filled : filled (length l) (flatMap nodeCells (nodesOf l n)) ≡ l
   unfolding lentOf mapOf
   nodes-filled =
-      ap (λ (k : ℕ). filled k (flatMap nodeCells (nodesOf l n))) (sym (whole-size nodeWidth 0 maxNodes l (t .whole) .0))
+      ap (λ (k : ℕ). filled k (flatMap nodeCells (nodesOf l n))) (sym (whole-rows nodeWidth 0 maxNodes l (t .whole) .size))
       ∙ ap (λ (x : Lent). x .nodes) (writes-back (nodesAlone l n) nodes-whole nodes-ranged)
 
 module _ {l : List ℤ} {n : ℕ} (t : EdgeTable l n) where
   pub edges-room : n ≤ length l / edgeWidth
-  edges-room = let s = whole-size edgeWidth 0 maxEdges l (t .whole) .0 in let f = t .rows .fits in omega arith
+  edges-room = let s = whole-rows edgeWidth 0 maxEdges l (t .whole) .size in let f = t .rows .fits in omega arith
 
   edges-whole : whole (edgesAlone l n) ≡ true
   unfolding whole same
@@ -72,5 +61,5 @@ module _ {l : List ℤ} {n : ℕ} (t : EdgeTable l n) where
   pub edges-filled : filled (length l) (flatMap edgeCells (edgesOf l n)) ≡ l
   unfolding lentOf mapOf
   edges-filled =
-      ap (λ (k : ℕ). filled k (flatMap edgeCells (edgesOf l n))) (sym (whole-size edgeWidth 0 maxEdges l (t .whole) .0))
+      ap (λ (k : ℕ). filled k (flatMap edgeCells (edgesOf l n))) (sym (whole-rows edgeWidth 0 maxEdges l (t .whole) .size))
       ∙ ap (λ (x : Lent). x .edges) (writes-back (edgesAlone l n) edges-whole edges-ranged)

@@ -17,44 +17,27 @@ use Rattle.map.specs.declared.Head.{Head}
 use Rattle.map.specs.Limits.{maxNodes, maxEdges, maxFaces, lastNumber, nodeWidth, edgeWidth, faceWidth}
 use Rattle.map.specs.Rows.{mapOf, wholeRows, whole}
 use Rattle.map.specs.Form.{numbered, numbers, named, curveFits, departuresDiffer, bareMarked, linksOnce, linksMeet, ringsBearOne, formed}
+use Rattle.map.proofs.RoundTrip.{whole-rows, whole-tables}
 use Rattle.tables.specs.Tables.{sameZ, column, nodesOf, edgesOf, facesOf}
 use Rattle.ranges.specs.Ranges.{lent}
 use Rattle.answers.specs.Outcomes.{Formed}
-use Rattle.answers.proofs.Formed.{ranges, formed-map, nodes-count, edges-count, edge-next, node-rows, edge-rows}
+use Rattle.answers.proofs.Formed.{ranges, formed-map, nodes-count, edges-count, edge-next, node-rows, edge-rows, numbers-rise}
 use Rattle.redraws.specs.Holds.{Held, Counted}
 use Rattle.redraws.proofs.Words.{count-natural, count-abs}
-use Rattle.redraws.proofs.Filled.{whole-size, nodes-room, edges-room}
+use Rattle.redraws.proofs.Filled.{nodes-room, edges-room}
 
 module _ {nodes edges faces : List ℤ} {h : Head} (f : Formed nodes edges faces h) where
-  two-whole : wholeRows nodeWidth 0 maxNodes nodes && wholeRows edgeWidth 0 maxEdges edges ≡ true
-  unfolding whole
-  two-whole = and-left (wholeRows nodeWidth 0 maxNodes nodes && wholeRows edgeWidth 0 maxEdges edges) (wholeRows faceWidth 1 maxFaces faces) (f .whole)
-
-  numbers-rise : numbers (mapOf (lent nodes edges faces h)) ≡ true
-  unfolding formed
-  numbers-rise =
-      let m = mapOf (lent nodes edges faces h) in
-      and-left (numbers m) (named m) (and-left _ (all (curveFits m) (m .edges)) (and-left _ (departuresDiffer m) (and-left _ (bareMarked m) (and-left _ (linksOnce m) (and-left _ (linksMeet m) (and-left _ (ringsBearOne m) (formed-map f)))))))
-
-  below : numbered 1 (natAbs (h .«next_edge»)) (map (λ e. e .number) (edgesOf edges (natAbs (h .edges)))) ≡ true
-  unfolding mapOf numbers
-  below =
-      let a = numbered 1 (natAbs (h .«next_node»)) (map (λ r. r .number) (nodesOf nodes (natAbs (h .nodes)))) in
-      let b = numbered 1 (natAbs (h .«next_edge»)) (map (λ r. r .number) (edgesOf edges (natAbs (h .edges)))) in
-      let c = numbered 0 (natAbs (h .«next_face»)) (facesOf faces (natAbs (h .faces))) in
-      and-right a b (and-left (a && b) c (and-left (a && b && c) (same (firstOr 1 (facesOf faces (natAbs (h .faces)))) 0) numbers-rise))
-
   pub held : Held nodes edges h
   held =
       record {
-        node-table = record { rows = node-rows f; rest = ranges f .node-rest; whole = and-left (wholeRows nodeWidth 0 maxNodes nodes) (wholeRows edgeWidth 0 maxEdges edges) two-whole };
-        edge-table = record { rows = edge-rows f; rest = ranges f .edge-rest; whole = and-right (wholeRows nodeWidth 0 maxNodes nodes) (wholeRows edgeWidth 0 maxEdges edges) two-whole };
+        node-table = record { rows = node-rows f; rest = ranges f .node-rest; whole = whole-tables (lent nodes edges faces h) (f .whole) .0 };
+        edge-table = record { rows = edge-rows f; rest = ranges f .edge-rest; whole = whole-tables (lent nodes edges faces h) (f .whole) .1 };
         nodes-count = nodes-count f .0;
         edges-count = edges-count f .0;
         next = edge-next f .0;
         next-least = edge-next f .1;
         next-most = edge-next f .2;
-        below = below;
+        below = numbers-rise f .1;
       }
 
 module _ {nodes edges : List ℤ} {h : Head} (d : Held nodes edges h) where
@@ -62,13 +45,13 @@ module _ {nodes edges : List ℤ} {h : Head} (d : Held nodes edges h) where
   counted-held =
       record {
         count = d .edges-count;
-        few = let a = edges-room (d .edge-table) in let b = whole-size edgeWidth 0 maxEdges edges (d .edge-table .whole) .1 in omega arith;
+        few = let a = edges-room (d .edge-table) in let b = whole-rows edgeWidth 0 maxEdges edges (d .edge-table .whole) .most in omega arith;
         next = d .next;
         most = d .next-most;
       }
 
   pub nodes-held : natAbs (h .nodes) ≤ 1000000
-  nodes-held = let a = nodes-room (d .node-table) in let b = whole-size nodeWidth 0 maxNodes nodes (d .node-table .whole) .1 in omega arith
+  nodes-held = let a = nodes-room (d .node-table) in let b = whole-rows nodeWidth 0 maxNodes nodes (d .node-table .whole) .most in omega arith
 
 -- a count or a next number as it is read
 module _ {nodes edges faces : List ℤ} {h : Head} (f : Formed nodes edges faces h) where

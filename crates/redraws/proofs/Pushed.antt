@@ -17,7 +17,7 @@ use Rattle.curves.proofs.Runs.{and-left, and-right}
 use Rattle.map.specs.Limits.{maxEdges, lastNumber, edgeWidth}
 use Rattle.map.specs.Rows.{Edge, Map, Sizes, rows, mapOf, lentOf, filled, edgeCells, hasEdge, wholeRows}
 use Rattle.map.specs.Form.{isZero, edgeRanges, numbered}
-use Rattle.map.proofs.RoundTrip.{Holds, reads-back}
+use Rattle.map.proofs.RoundTrip.{Holds, reads-back, whole-rows}
 use Rattle.tables.specs.Tables.{edgesOf, edgeAt, edgeMap, EdgeRows}
 use Rattle.tables.proofs.Rows.{edges-table, edges-length, all-table, edge-row-of, edge-number-in}
 use Rattle.tables.proofs.RowCurves.{edge-few}
@@ -25,7 +25,7 @@ use Rattle.tables.proofs.Writes.{Wide, wide-append, flat-length, rows-flat, pus
 use Rattle.links.proofs.Positions.{row-there}
 use Rattle.redraws.specs.Holds.{EdgeTable}
 use Rattle.redraws.proofs.Lists.{all-append, all-more, find-more, find-last, table-in, numbered-push}
-use Rattle.redraws.proofs.Filled.{whole-size, edges-filled}
+use Rattle.redraws.proofs.Filled.{edges-filled}
 
 -- a row that can follow the others
 pub record Follows (l : List ℤ) (n : ℕ) (row : Edge) : Type 0 where
@@ -83,7 +83,7 @@ module _ {l : List ℤ} {n : ℕ} (t : EdgeTable l n) (row : Edge) (f : Follows 
   written = paste l (n * edgeWidth) (edgeCells row) edgeWidth
 
   size : length l / edgeWidth * edgeWidth ≡ length l
-  size = whole-size edgeWidth 0 maxEdges l (t .whole) .0
+  size = whole-rows edgeWidth 0 maxEdges l (t .whole) .size
 
   count : length after ≡ n + 1
   unfolding after

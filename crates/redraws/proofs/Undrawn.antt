@@ -23,6 +23,7 @@ use Rattle.map.specs.Form.{isZero}
 use Rattle.map.specs.Darts.{edgeEnds}
 use Rattle.map.specs.Links.{unlinkEdge, redirect}
 use Rattle.map.specs.Edits.{withFace, isEither, undrawn}
+use Rattle.map.proofs.RoundTrip.{whole-rows}
 use Rattle.tables.specs.Tables.{sameZ, column, closed, nodesOf, edgesOf, nodeAt, edgeAt, edgeMap, NodeRows, EdgeRows}
 use Rattle.tables.proofs.Rows.{edges-length, edges-getD}
 use Rattle.tables.proofs.Lookups.{node-found, node-missing}
@@ -34,7 +35,7 @@ use Rattle.linking.proofs.Kept.{rest-kept, number-kept}
 use Rattle.linking.proofs.LinkedEdges.{unlinked-alone, unlinked-edge-kept, unlinked-edge-relinked, unlinked-edge-gone}
 use Rattle.redraws.specs.Holds.{NodeTable, EdgeTable, Held, Counted, Undrawable, Undrawn, undrawnHead, bareAt, facedWhere, facedIf}
 use Rattle.redraws.proofs.Words.{natural-is}
-use Rattle.redraws.proofs.Filled.{whole-size, nodes-room, edges-room, nodes-filled, edges-filled}
+use Rattle.redraws.proofs.Filled.{nodes-room, edges-room, nodes-filled, edges-filled}
 use Rattle.redraws.proofs.NodeFaces.{faced-nodes, faced-table}
 use Rattle.redraws.proofs.Ends.{without-row, bare-is}
 
@@ -221,13 +222,13 @@ module _ {nodes edges : List ℤ} {h : Head} {i : ℕ} {face : ℤ} (d : Undrawa
   -- ---- what the call asks
 
   pub nodes-few : natAbs (h .nodes) ≤ 1000000
-  nodes-few = let a = nodes-room (d .held .node-table) in let b = whole-size nodeWidth 0 maxNodes nodes (d .held .node-table .whole) .1 in omega arith
+  nodes-few = let a = nodes-room (d .held .node-table) in let b = whole-rows nodeWidth 0 maxNodes nodes (d .held .node-table .whole) .most in omega arith
 
   pub undrawn-counted : Counted h
   undrawn-counted =
       record {
         count = d .held .edges-count;
-        few = let a = edges-room table in let b = whole-size edgeWidth 0 maxEdges edges (table .whole) .1 in omega arith;
+        few = let a = edges-room table in let b = whole-rows edgeWidth 0 maxEdges edges (table .whole) .most in omega arith;
         next = d .held .next;
         most = d .held .next-most;
       }
