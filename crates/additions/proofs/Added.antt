@@ -1,35 +1,34 @@
 -- What kinds 11 and 12 leave and answer, where nothing turns them down. Assumes nothing.
 use mathlib.Core.Path.{_≡_, refl, sym, ap, ap₂, _∙_, subst, subst₂}
 use mathlib.Core.Bool.{Bool, true, false}
-use mathlib.Core.List.{List, flatMap}
+use mathlib.Core.List.{List}
 use Prim.Native.Nat.{ℕ, _-_}
 use native.Mathlib.Omega.{arith}
 use lib.IntN.{ℤ, pos, natAbs}
-use lib.ListN.{length}
 use lib.Signed.{nonNeg}
 use mir.Syntax.{w64}
 use mir.Val.{toZ, ofZ}
 use Rattle.curves.specs.Curves.{Curve, curveOf, startWay}
 use Rattle.map.specs.declared.Head.{Head}
-use Rattle.map.specs.Rows.{Map, Sizes, mapOf, lentOf, sizesOf, filled, nodeCells, edgeCells}
+use Rattle.map.specs.Rows.{Map, Sizes, mapOf, lentOf, sizesOf}
 use Rattle.map.specs.Links.{cornerFace}
 use Rattle.map.specs.Edits.{drawnIn, splitsFace, splitFace, addEdge}
 use Rattle.map.specs.Reasons.{firstReason, reasons}
 use Rattle.map.specs.Ticket.{carried}
 use Rattle.tables.specs.Tables.{edgeAt}
-use Rattle.tables.proofs.Rows.{nodes-length, edges-length, faces-length}
 use Rattle.ranges.specs.Ranges.{lent}
 use Rattle.answers.specs.Outcomes.{Formed}
-use Rattle.answers.proofs.Formed.{edge-next, nodes-size, edges-size, faces-size, lent-is}
+use Rattle.answers.proofs.Formed.{edge-next}
 use Rattle.edge_reasons.specs.declared.Judged.{Judged}
 use Rattle.edge_reasons.specs.Kinds.{addTicket}
 use Rattle.edge_reasons.specs.Judging.{JudgedAdd}
 use Rattle.edge_reasons.proofs.Adding.{row-below, room-known, number-known}
 use Rattle.redraws.specs.Holds.{Drawable, Drawn, drawnHead}
-use Rattle.redraws.proofs.Words.{count-read}
 use Rattle.redraws.proofs.Formed.{held}
-use Rattle.face_edits.specs.Holds.{facesIn, Held, Splittable, Holds}
+use Rattle.face_edits.specs.Holds.{Held, Splittable, Holds}
 use Rattle.grown.proofs.Numbers.{Outline}
+use Rattle.redraws.proofs.Words.{count-read}
+use Rattle.face_edits.proofs.Formed.{held-holds, holds-lent}
 use Rattle.additions.proofs.Drawn.{drawn-held, map-is, last, splits}
 
 -- ---- the map of kinds 11 and 12
@@ -49,40 +48,12 @@ module _ (news : Bool) (u v : ℕ) (c : Curve) (m : Map) where
   unfolding addEdge
   add-parted e = rw e
 
--- ---- tables that hold a map
-
-held-holds : {nodes edges faces : List ℤ} {h : Head} → Held nodes edges faces h → Holds nodes edges faces (mapOf (lent nodes edges faces h)) nodes edges faces h
-unfolding mapOf
-held-holds {nodes} {edges} {faces} {h} k =
-    record {
-      node-cells = k .node-cells;
-      edge-cells = k .edge-cells;
-      face-cells = k .face-table .cells;
-      head = λ i.
-          record {
-            nodes = (ap pos (nodes-length nodes (natAbs (h .nodes))) ∙ sym (k .nodes-count)) i;
-            edges = (ap pos (edges-length edges (natAbs (h .edges))) ∙ sym (k .edges-count)) i;
-            faces = (ap pos (faces-length faces (natAbs (h .faces))) ∙ sym (k .faces-count)) i;
-            «next_node» = sym (k .next-node) i;
-            «next_edge» = sym (k .next-edge) i;
-            «next_face» = sym (k .next-face) i;
-          };
-    }
-
 module _ {nodes edges faces : List ℤ} {h : Head} (f : Formed nodes edges faces h) where
   abbrev m : Map
   m = mapOf (lent nodes edges faces h)
 
   abbrev s : Sizes
   s = sizesOf (lent nodes edges faces h)
-
-  holds-lent : {nodes′ edges′ nodes″ edges″ faces″ : List ℤ} {M : Map} {h″ : Head} → length nodes′ ≡ length nodes → length edges′ ≡ length edges → Holds nodes′ edges′ faces M nodes″ edges″ faces″ h″ → lentOf s M ≡ lent nodes″ edges″ faces″ h″
-  holds-lent {M = M} p q k =
-      lent-is s M
-      (ap (λ (n : ℕ). filled n (flatMap nodeCells (M .nodes))) (nodes-size f .0 ∙ sym p) ∙ k .node-cells)
-      (ap (λ (n : ℕ). filled n (flatMap edgeCells (M .edges))) (edges-size f .0 ∙ sym q) ∙ k .edge-cells)
-      (ap (λ (n : ℕ). facesIn n (M .faces)) (faces-size f .0) ∙ k .face-cells)
-      (k .head)
 
   -- the value is the edge's number, as it was read from the head
   pub add-value : (news : Bool) (a b : ℤ) (c : List ℤ) → carried m (addTicket news a b c) .1 ≡ toZ w64 (ofZ w64 (h .«next_edge»))
@@ -124,7 +95,7 @@ module _ {nodes edges faces : List ℤ} {h : Head} (f : Formed nodes edges faces
       joined-lent e =
           ap (λ (x : Map × ℤ). lentOf s (x .0)) (add-carried m a b c news)
           ∙ ap (lentOf s) (add-joined news (natAbs a) (natAbs b) (curveOf c) m (sym (j .known z .splits) ∙ e) ∙ sym map-drawn)
-          ∙ holds-lent (d .nodes-long) (d .edges-long) (held-holds (subst (Held nodes′ edges′ faces) (sym (d .head)) (drawn-held f (k .held))))
+          ∙ holds-lent f (d .nodes-long) (d .edges-long) (held-holds (subst (Held nodes′ edges′ faces) (sym (d .head)) (drawn-held f (k .held))))
 
       last-number : edgeAt edges′ (natAbs (h′ .edges) - 1) .number ≡ m .nextEdge
       last-number = ap (λ (x : Head). edgeAt edges′ (natAbs (x .edges) - 1) .number) (d .head) ∙ ap (λ (o : Outline). o .arc .num) (last f news a b c (r .start) (r .end) (j .start z) (j .end z) clear corner k)
@@ -136,7 +107,7 @@ module _ {nodes edges faces : List ℤ} {h : Head} (f : Formed nodes edges faces
       parted-lent e w =
           ap (λ (x : Map × ℤ). lentOf s (x .0)) (add-carried m a b c news)
           ∙ ap (lentOf s) (add-parted news (natAbs a) (natAbs b) (curveOf c) m (sym (j .known z .splits) ∙ e) ∙ sym (ap₂ (splitFace news) last-number map-drawn))
-          ∙ holds-lent (d .nodes-long) (d .edges-long) w
+          ∙ holds-lent f (d .nodes-long) (d .edges-long) w
 
 -- what was judged of numbers as they were passed
 pub judged-told : {news : Bool} {nodes edges faces : List ℤ} {h : Head} {x y a b : ℤ} {c : List ℤ} {r : Judged} → x ≡ a → y ≡ b → JudgedAdd news nodes edges faces h x y c r → JudgedAdd news nodes edges faces h a b c r

@@ -1,56 +1,38 @@
 -- What tables in form hold: rows in range and in rising order, counts and next numbers, each table as its map's rows with zeros behind.
 -- What a call on them answers: turned down by the first reason, or the map carried out. Assumes nothing.
 use mathlib.Core.Path.{_≡_, refl, ap}
-use mathlib.Core.Bool.{Bool, true, false, _&&_, _||_, false≢true}
-use mathlib.Core.List.{List, [], _∷_, map, flatMap}
+use mathlib.Core.Bool.{true, false, _&&_, _||_}
+use mathlib.Core.List.{List, map, flatMap}
 use Prim.Native.Nat.{ℕ, zero, suc, _+_, _*_, _/_, _≤_, _<_}
 use native.Mathlib.Omega.{arith}
-use lib.Dec.{leb, ltb}
+use lib.Dec.{ltb}
 use lib.IntN.{ℤ, pos, negsuc, natAbs}
 use lib.ListN.{length}
-use borrow.Author.Tests.{leb-true, ltb-true, lt-ltb, le-ltb}
+use borrow.Author.Tests.{le-ltb}
 use Rattle.lists.specs.Tests.{same}
-use Rattle.lists.specs.Scans.{all, firstOr, linked}
+use Rattle.lists.specs.Scans.{all, firstOr}
 use Rattle.lists.specs.Members.{Distinct}
+use Rattle.lists.specs.Tables.{place}
+use Rattle.lists.specs.declared.Found.the-variants.{Missing}
 use Rattle.curves.proofs.Runs.{and-left, and-right}
 use Rattle.map.specs.declared.Head.{Head}
 use Rattle.map.specs.Limits.{maxNodes, maxEdges, maxFaces, lastNumber, nodeWidth, edgeWidth, faceWidth}
 use Rattle.map.specs.Rows.{Edge, Map, Lent, Sizes, mapOf, lentOf, sizesOf, headOf, filled, nodeCells, edgeCells, faceCells, whole, hasNode, hasEdge, hasFace}
-use Rattle.map.specs.Form.{within, numbered, numbers, inFace, edgeNames, named, ranged, formed, inForm}
+use Rattle.map.specs.Form.{numbered, numbers, inFace, edgeNames, named, ranged, formed, inForm}
 use Rattle.map.specs.Tickets.{Ticket}
-use Rattle.map.specs.Reasons.{firstReason, reasons, full, spent}
+use Rattle.map.specs.Reasons.{firstReason, reasons, full, spent, noNode, noEdge}
 use Rattle.map.specs.Ticket.{carried}
 use Rattle.map.proofs.RoundTrip.{Ranged, ranged-is, WholeRows, whole-rows, whole-tables}
 use Rattle.map.proofs.Laws.{formed-is, in-form-back}
-use Rattle.tables.specs.Tables.{nodesOf, edgesOf, facesOf, edgeMap, NodeRows, EdgeRows, FaceRows}
+use Rattle.tables.specs.Tables.{nodesOf, edgesOf, facesOf, edgeMap, NodeRows, EdgeRows, FaceRows, sameZ, column}
 use Rattle.tables.proofs.Rows.{nodes-length, edges-length, faces-length}
 use Rattle.tables.proofs.Writes.{Wide, table-edges-wide}
+use Rattle.tables.proofs.RowCurves.{within-pos}
+use Rattle.tables.proofs.Lookups.{node-missing, edge-missing}
 use Rattle.ranges.specs.Ranges.{lent}
+use Rattle.ranges.proofs.Columns.{all-weaker, numbered-wider}
 use Rattle.answers.specs.declared.Done.{Done}
 use Rattle.answers.specs.Outcomes.{Formed, decided, outcome}
-
--- ---- numbers
-
--- a number from a to b
-pub within-is : (a b : ℕ) (z : ℤ) → within a b z ≡ true → (z ≡ pos (natAbs z)) × (a ≤ natAbs z) × (natAbs z ≤ b)
-within-is a b (pos n) h = (refl, leb-true a n (and-left (leb a n) (leb n b) h), leb-true n b (and-right (leb a n) (leb n b) h))
-within-is a b (negsuc n) h = absurd (false≢true h)
-
--- a test that takes more
-all-more : {A : Type 0} (p q : A → Bool) → ((x : A) → p x ≡ true → q x ≡ true) → (l : List A) → all p l ≡ true → all q l ≡ true
-all-more p q h [] e = refl
-all-more p q h (x ∷ l) e = rw (h x (and-left (p x) (all p l) e)) (all-more p q h l (and-right (p x) (all p l) e))
-
--- numbers below the next number are below a greater one
-numbered-more : (least a b : ℕ) (ns : List ℕ) → a ≤ b → numbered least a ns ≡ true → numbered least b ns ≡ true
-numbered-more least a b ns k h =
-    rw (and-left (linked ltb ns) (all (λ n. leb least n && ltb n a) ns) h)
-    (all-more (λ n. leb least n && ltb n a) (λ n. leb least n && ltb n b) more ns (and-right (linked ltb ns) (all (λ n. leb least n && ltb n a) ns) h))
-  where
-    more : (n : ℕ) → leb least n && ltb n a ≡ true → leb least n && ltb n b ≡ true
-    more n e =
-        let t = ltb-true n a (and-right (leb least n) (ltb n a) e) in
-        rw (and-left (leb least n) (ltb n a) e, lt-ltb n b (omega arith))
 
 -- ---- tables in form
 
@@ -65,23 +47,23 @@ module _ {nodes edges faces : List ℤ} {h : Head} (f : Formed nodes edges faces
 
   -- counts
   pub nodes-count : (h .nodes ≡ pos (natAbs (h .nodes))) × (0 ≤ natAbs (h .nodes)) × (natAbs (h .nodes) ≤ length nodes / nodeWidth)
-  nodes-count = within-is 0 (length nodes / nodeWidth) (h .nodes) (ranges .nodes)
+  nodes-count = within-pos 0 (length nodes / nodeWidth) (h .nodes) (ranges .nodes)
 
   pub edges-count : (h .edges ≡ pos (natAbs (h .edges))) × (0 ≤ natAbs (h .edges)) × (natAbs (h .edges) ≤ length edges / edgeWidth)
-  edges-count = within-is 0 (length edges / edgeWidth) (h .edges) (ranges .edges)
+  edges-count = within-pos 0 (length edges / edgeWidth) (h .edges) (ranges .edges)
 
   pub faces-count : (h .faces ≡ pos (natAbs (h .faces))) × (1 ≤ natAbs (h .faces)) × (natAbs (h .faces) ≤ length faces / faceWidth)
-  faces-count = within-is 1 (length faces / faceWidth) (h .faces) (ranges .faces)
+  faces-count = within-pos 1 (length faces / faceWidth) (h .faces) (ranges .faces)
 
   -- next numbers
   pub node-next : (h .«next_node» ≡ pos (natAbs (h .«next_node»))) × (1 ≤ natAbs (h .«next_node»)) × (natAbs (h .«next_node») ≤ suc lastNumber)
-  node-next = within-is 1 (suc lastNumber) (h .«next_node») (ranges .next-node)
+  node-next = within-pos 1 (suc lastNumber) (h .«next_node») (ranges .next-node)
 
   pub edge-next : (h .«next_edge» ≡ pos (natAbs (h .«next_edge»))) × (1 ≤ natAbs (h .«next_edge»)) × (natAbs (h .«next_edge») ≤ suc lastNumber)
-  edge-next = within-is 1 (suc lastNumber) (h .«next_edge») (ranges .next-edge)
+  edge-next = within-pos 1 (suc lastNumber) (h .«next_edge») (ranges .next-edge)
 
   pub face-next : (h .«next_face» ≡ pos (natAbs (h .«next_face»))) × (1 ≤ natAbs (h .«next_face»)) × (natAbs (h .«next_face») ≤ suc lastNumber)
-  face-next = within-is 1 (suc lastNumber) (h .«next_face») (ranges .next-face)
+  face-next = within-pos 1 (suc lastNumber) (h .«next_face») (ranges .next-face)
 
   -- whole rows, and not more than the limit
   nodes-whole : WholeRows nodeWidth 0 maxNodes nodes
@@ -130,7 +112,7 @@ module _ {nodes edges faces : List ℤ} {h : Head} (f : Formed nodes edges faces
       record {
         fits = nodes-fit;
         ranges = ranges .node-rows;
-        rising = numbered-more 1 (natAbs (h .«next_node»)) (suc lastNumber) (map (λ r. r .number) (nodesOf nodes (natAbs (h .nodes)))) (node-next .2) (numbers-rise .0);
+        rising = numbered-wider 1 (natAbs (h .«next_node»)) (suc lastNumber) (map (λ r. r .number) (nodesOf nodes (natAbs (h .nodes)))) (node-next .2) (numbers-rise .0);
       }
 
   links-named : (e : Edge) → edgeNames (mapOf (lent nodes edges faces h)) e ≡ true → hasEdge (edgeMap edges (natAbs (h .edges))) (e .nextLeft .edge) && hasEdge (edgeMap edges (natAbs (h .edges))) (e .nextRight .edge) ≡ true
@@ -153,8 +135,8 @@ module _ {nodes edges faces : List ℤ} {h : Head} (f : Formed nodes edges faces
       record {
         fits = edges-fit;
         ranges = ranges .edge-rows;
-        rising = numbered-more 1 (natAbs (h .«next_edge»)) (suc lastNumber) (map (λ r. r .number) (edgesOf edges (natAbs (h .edges)))) (edge-next .2) (numbers-rise .1);
-        named = all-more (edgeNames (mapOf (lent nodes edges faces h))) (λ e. hasEdge (edgeMap edges (natAbs (h .edges))) (e .nextLeft .edge) && hasEdge (edgeMap edges (natAbs (h .edges))) (e .nextRight .edge)) links-named (edgesOf edges (natAbs (h .edges))) edges-named;
+        rising = numbered-wider 1 (natAbs (h .«next_edge»)) (suc lastNumber) (map (λ r. r .number) (edgesOf edges (natAbs (h .edges)))) (edge-next .2) (numbers-rise .1);
+        named = all-weaker (edgeNames (mapOf (lent nodes edges faces h))) (λ e. hasEdge (edgeMap edges (natAbs (h .edges))) (e .nextLeft .edge) && hasEdge (edgeMap edges (natAbs (h .edges))) (e .nextRight .edge)) links-named (edgesOf edges (natAbs (h .edges))) edges-named;
       }
 
   pub face-rows : FaceRows faces (natAbs (h .faces))
@@ -162,8 +144,19 @@ module _ {nodes edges faces : List ℤ} {h : Head} (f : Formed nodes edges faces
       record {
         fits = faces-fit;
         ranges = ranges .face-rows;
-        rising = numbered-more 0 (natAbs (h .«next_face»)) (suc lastNumber) (facesOf faces (natAbs (h .faces))) (face-next .2) (numbers-rise .2);
+        rising = numbered-wider 0 (natAbs (h .«next_face»)) (suc lastNumber) (facesOf faces (natAbs (h .faces))) (face-next .2) (numbers-rise .2);
       }
+
+  -- a named row that is missing
+  pub node-none : (z : ℤ) → place (sameZ z) 0 (column nodeWidth nodes (natAbs (h .nodes))) ≡ Missing → noNode (mapOf (lent nodes edges faces h)) z ≡ true
+  unfolding mapOf
+  node-none (pos k) e = rw (node-missing nodes (natAbs (h .nodes)) (ranges .node-rows) k e)
+  node-none (negsuc k) e = refl
+
+  pub edge-none : (z : ℤ) → place (sameZ z) 0 (column edgeWidth edges (natAbs (h .edges))) ≡ Missing → noEdge (mapOf (lent nodes edges faces h)) z ≡ true
+  unfolding mapOf
+  edge-none (pos k) e = rw (edge-missing edges (natAbs (h .edges)) (ranges .edge-rows) k e)
+  edge-none (negsuc k) e = refl
 
   -- no number stands twice
   pub node-numbers-once : Distinct (map (λ r. r .number) (nodesOf nodes (natAbs (h .nodes))))
@@ -178,6 +171,10 @@ module _ {nodes edges faces : List ℤ} {h : Head} (f : Formed nodes edges faces
 
   back : lentOf (sizesOf (lent nodes edges faces h)) (mapOf (lent nodes edges faces h)) ≡ lent nodes edges faces h
   back = in-form-back (lent nodes edges faces h) (f .whole) (f .in-form)
+
+  pub head-back : headOf (mapOf (lent nodes edges faces h)) ≡ h
+  unfolding lentOf
+  head-back = ap (λ (l : Lent). l .head) back
 
   pub nodes-filled : filled (length nodes / nodeWidth * nodeWidth) (flatMap nodeCells (nodesOf nodes (natAbs (h .nodes)))) ≡ nodes
   unfolding lentOf mapOf

@@ -7,7 +7,7 @@ use Prim.Native.Nat.{ℕ, suc, _+_, _*_, _-_, _≤_, _<_}
 use native.Mathlib.Nat.{mul-one}
 use native.Mathlib.Omega.{arith}
 use lib.IntN.{ℤ, pos, natAbs}
-use lib.ListN.{length, getD, set, take, drop, replicate, length-append, length-replicate}
+use lib.ListN.{length, getD, set, take, drop, replicate}
 use lib.Seq.{paste, set-split}
 use Rattle.lists.specs.Tests.{same}
 use Rattle.lists.specs.Scans.{any, all}
@@ -17,8 +17,9 @@ use Rattle.lists.specs.declared.Found.the-variants.{At, Missing}
 use Rattle.lists.proofs.Bools.{which, same-true, same-eq, same-false, differ}
 use Rattle.lists.proofs.Keeps.{keep-all}
 use Rattle.map.specs.Limits.{faceWidth, lastNumber}
-use Rattle.map.specs.Rows.{rows, filled, faceCells, faceRowOf}
+use Rattle.map.specs.Rows.{rows, faceCells, faceRowOf}
 use Rattle.map.specs.Form.{faceRanges, numbered}
+use Rattle.map.proofs.RoundTrip.{filled-length}
 use Rattle.tables.specs.Tables.{FaceRows, Rising, sameZ, column, facesOf, closed}
 use Rattle.tables.proofs.Rows.{faces-getD}
 use Rattle.tables.proofs.Lookups.{face-found, face-missing}
@@ -28,9 +29,6 @@ use Rattle.grown.proofs.Scanning as scanning
 use Rattle.face_edits.specs.Holds.{facesIn, FaceTable, withoutFace}
 
 -- ---- a table read
-
-pub filled-length : (N : ℕ) (xs : List ℤ) → length xs ≤ N → length (filled N xs) ≡ N
-filled-length N xs h = simp (length-append, length-replicate) (omega arith)
 
 faces-flat : (fs : List ℕ) → length (flatMap faceCells fs) ≡ length fs
 faces-flat fs = flat-length faceWidth faceCells fs (faces-wide fs) ∙ mul-one (length fs)

@@ -1,24 +1,25 @@
--- Tables in form are what a heal asks for: an edge row with two faces. Assumes nothing.
+-- Tables in form hold a map, and are what a heal asks for: an edge row with two faces. Assumes nothing.
 use mathlib.Core.Path.{_≡_, refl, sym, ap, _∙_}
 use mathlib.Core.Bool.{Bool, true, false, _&&_, true≢false}
 use mathlib.Core.List.{List, [], _∷_, flatMap, List·Memᴰ, List·Memᴰ·head, List·Memᴰ·tail}
 use Prim.Native.Nat.{ℕ, _<_}
 use native.Mathlib.Omega.{arith}
 use lib.IntN.{ℤ, pos, natAbs}
+use lib.ListN.{length}
 use Rattle.lists.specs.Tests.{same}
 use Rattle.lists.specs.Scans.{all, any}
 use Rattle.lists.proofs.Bools.{same-true}
 use Rattle.curves.proofs.Runs.{and-left, and-right}
 use Rattle.map.specs.declared.Head.{Head}
-use Rattle.map.specs.Rows.{mapOf, filled, nodeCells, edgeCells, hasNode, hasEdge, hasFace}
+use Rattle.map.specs.Rows.{mapOf, filled, nodeCells, edgeCells, hasNode, hasEdge, hasFace, Map, lentOf, sizesOf}
 use Rattle.map.specs.Form.{inFace, edgeNames, named}
 use Rattle.map.proofs.Laws.{formed-is, face-below}
 use Rattle.tables.specs.Tables.{nodesOf, edgesOf, facesOf, edgeAt}
-use Rattle.tables.proofs.Rows.{all-table, edges-table, faces-length}
+use Rattle.tables.proofs.Rows.{all-table, edges-table, faces-length, nodes-length, edges-length}
 use Rattle.ranges.specs.Ranges.{lent}
 use Rattle.answers.specs.Outcomes.{Formed}
-use Rattle.answers.proofs.Formed.{formed-map, nodes-count, edges-count, faces-count, node-next, edge-next, face-next, nodes-size, edges-size, faces-size, faces-fit, node-rows, edge-rows, face-rows, nodes-filled, edges-filled, faces-filled}
-use Rattle.face_edits.specs.Holds.{facesIn, Held, Healable}
+use Rattle.answers.proofs.Formed.{formed-map, nodes-count, edges-count, faces-count, node-next, edge-next, face-next, nodes-size, edges-size, faces-size, faces-fit, node-rows, edge-rows, face-rows, nodes-filled, edges-filled, faces-filled, lent-is}
+use Rattle.face_edits.specs.Holds.{facesIn, Held, Healable, Holds}
 
 -- a face that is there is one of them
 any-member : (f : ℕ) (gs : List ℕ) → any (same f) gs ≡ true → List·Memᴰ f gs
@@ -28,6 +29,26 @@ any-member f (g ∷ gs) e = go (same f g) refl (any-member f gs)
     go : (b : Bool) → same f g ≡ b → (any (same f) gs ≡ true → List·Memᴰ f gs) → List·Memᴰ f (g ∷ gs)
     go true k rest = List·Memᴰ·head (same-true f g k)
     go false k rest = List·Memᴰ·tail (rest (rw k at e))
+
+-- ---- tables that hold a map
+
+pub held-holds : {nodes edges faces : List ℤ} {h : Head} → Held nodes edges faces h → Holds nodes edges faces (mapOf (lent nodes edges faces h)) nodes edges faces h
+unfolding mapOf
+held-holds {nodes} {edges} {faces} {h} k =
+    record {
+      node-cells = k .node-cells;
+      edge-cells = k .edge-cells;
+      face-cells = k .face-table .cells;
+      head = λ i.
+          record {
+            nodes = (ap pos (nodes-length nodes (natAbs (h .nodes))) ∙ sym (k .nodes-count)) i;
+            edges = (ap pos (edges-length edges (natAbs (h .edges))) ∙ sym (k .edges-count)) i;
+            faces = (ap pos (faces-length faces (natAbs (h .faces))) ∙ sym (k .faces-count)) i;
+            «next_node» = sym (k .next-node) i;
+            «next_edge» = sym (k .next-edge) i;
+            «next_face» = sym (k .next-face) i;
+          };
+    }
 
 module _ {nodes edges faces : List ℤ} {h : Head} (f : Formed nodes edges faces h) where
   pub formed-held : Held nodes edges faces h
@@ -54,6 +75,18 @@ module _ {nodes edges faces : List ℤ} {h : Head} (f : Formed nodes edges faces
         few-faces = omega (arith, faces-count f .2, faces-size f .1);
         next-most = face-next f .2;
       }
+
+  pub holds-before : Holds nodes edges faces (mapOf (lent nodes edges faces h)) nodes edges faces h
+  holds-before = held-holds formed-held
+
+  -- what is lent, in tables as long
+  pub holds-lent : {nodes′ edges′ nodes″ edges″ faces″ : List ℤ} {M : Map} {h″ : Head} → length nodes′ ≡ length nodes → length edges′ ≡ length edges → Holds nodes′ edges′ faces M nodes″ edges″ faces″ h″ → lentOf (sizesOf (lent nodes edges faces h)) M ≡ lent nodes″ edges″ faces″ h″
+  holds-lent {M = M} p q k =
+      lent-is (sizesOf (lent nodes edges faces h)) M
+      (ap (λ (n : ℕ). filled n (flatMap nodeCells (M .nodes))) (nodes-size f .0 ∙ sym p) ∙ k .node-cells)
+      (ap (λ (n : ℕ). filled n (flatMap edgeCells (M .edges))) (edges-size f .0 ∙ sym q) ∙ k .edge-cells)
+      (ap (λ (n : ℕ). facesIn n (M .faces)) (faces-size f .0) ∙ k .face-cells)
+      (k .head)
 
   module _ (i : ℕ) (t : i < natAbs (h .edges)) where
     -- the row's names are of rows

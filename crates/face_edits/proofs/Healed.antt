@@ -4,12 +4,13 @@ use mathlib.Core.Bool.{Bool, cond, _&&_}
 use mathlib.Core.Logic.{inl, inr}
 use mathlib.Core.List.{List, [], _∷_, _++_, map, flatMap}
 use mathlib.Core.Option.{Option, none, some}
-use Prim.Native.Nat.{ℕ, suc, _-_}
+use Prim.Native.Nat.{ℕ, suc, _-_, _<_}
 use lib.IntN.{ℤ, pos, natAbs}
-use lib.ListN.{length, drop, replicate}
+use lib.ListN.{length, drop, replicate, getD}
 use Rattle.lists.specs.Tests.{same, bit}
 use Rattle.lists.specs.Scans.{all, find, isSome, firstOr, keep}
 use Rattle.lists.proofs.Bools.{which}
+use Rattle.lists.proofs.Scans.{getD-table}
 use Rattle.map.specs.declared.Head.{Head}
 use Rattle.map.specs.Limits.{edgeWidth, lastNumber}
 use Rattle.map.specs.Rows.{Node, Edge, Map, rows, filled, nodeCells, edgeCells, edgeOf, mapOf, edge, hasEdge, setFaces, given, atNodes}
@@ -17,14 +18,16 @@ use Rattle.map.specs.Darts.{leaves, next, departures}
 use Rattle.map.specs.Links.{redirect, unlinkEdge}
 use Rattle.map.specs.Form.{edgeRanges, numbered}
 use Rattle.map.specs.Edits.{withSides, undrawn, renamed, renamedNode, renamedFaces, makesFace, faceLeft, removeEdge}
-use Rattle.tables.specs.Tables.{NodeRows, EdgeRows, nodesOf, edgesOf, facesOf, edgeMap}
-use Rattle.tables.proofs.Rows.{nodes-length, edges-length}
-use Rattle.tables.proofs.Writes.{Wide, rows-flat, flat-length, table-edges-wide}
+use Rattle.tables.specs.Tables.{NodeRows, EdgeRows, nodesOf, edgesOf, facesOf, edgeMap, edgeAt}
+use Rattle.tables.proofs.Rows.{nodes-length, edges-length, edge-numbers}
+use Rattle.tables.proofs.Writes.{Wide, rows-flat, table-edges-wide, wide-map}
 use Rattle.ranges.specs.Ranges.{lent}
+use Rattle.answers.proofs.Filled.{filled-long}
+use native.Mathlib.Nat.{zero-add}
 use Rattle.face_edits.specs.Holds.{Held, Holds, faceKept, healed}
-use Rattle.face_edits.proofs.FaceRows.{filled-length, faces-read}
-use Rattle.face_edits.proofs.Renames.{sides-wide, map-size, wide-map}
-use Rattle.face_edits.proofs.Shares.{node-rows-after, nodes-after}
+use Rattle.face_edits.proofs.FaceRows.{faces-read}
+use Rattle.face_edits.proofs.Renames.{sides-wide, map-size}
+use Rattle.face_edits.proofs.Shares.{node-rows-after, nodes-after, long-after}
 
 -- ---- the edge undrawn
 
@@ -74,7 +77,7 @@ module _ (u v : Edge → ℕ) where
     wide = table-edges-wide l n (rows-are .fits) (rows-are .ranges)
 
     wide-after : Wide edgeWidth edgeCells (map sided (edgesOf l n))
-    wide-after = wide-map edgeWidth edgeCells sided (λ x. sides-wide (u x) (v x) x) (edgesOf l n) wide
+    wide-after = wide-map edgeWidth edgeCells sided (λ x e. sides-wide (u x) (v x) x ∙ e) (edgesOf l n) wide
 
     size-after : length (map sided (edgesOf l n)) ≡ n
     size-after = map-size sided (edgesOf l n) n (edges-length l n)
@@ -95,9 +98,10 @@ module _ (u v : Edge → ℕ) where
     edges-after = ap (map edgeOf) rows-after ∙ back-map (edgesOf l n) (sym (ap (map edgeOf) rows-before))
 
     pub edges-long : length l′ ≡ length l
-    edges-long =
-        let k = flat-length edgeWidth edgeCells (map sided (edgesOf l n)) wide-after in
-        ap length (sym after) ∙ filled-length (length l) (flatMap edgeCells (map sided (edgesOf l n))) (rw (k, size-after) (rows-are .fits))
+    edges-long = filled-long edgeWidth edgeCells (length l) (map sided (edgesOf l n)) n wide-after size-after after (rows-are .fits)
+
+    pub numbers-after : map (λ r. r .number) (edgesOf l′ n) ≡ map (λ r. r .number) (edgesOf l n)
+    numbers-after = ap (map (λ (r : Edge). r .number)) edges-after ∙ numbers-map (edgesOf l n)
 
     has-after : (k : ℕ) → hasEdge (edgeMap l′ n) k ≡ hasEdge (edgeMap l n) k
     has-after k = ap (λ (xs : List Edge). isSome (find (λ r. same (r .number) k) xs)) edges-after ∙ find-some k (edgesOf l n)
@@ -107,7 +111,7 @@ module _ (u v : Edge → ℕ) where
         record {
           fits = rw edges-long (rows-are .fits);
           ranges = ap (all edgeRanges) rows-after ∙ ranges-map (edgesOf l n) ∙ ap (all edgeRanges) (sym rows-before) ∙ rows-are .ranges;
-          rising = ap (λ (xs : List Edge). numbered 1 (suc lastNumber) (map (λ r. r .number) xs)) edges-after ∙ ap (numbered 1 (suc lastNumber)) (numbers-map (edgesOf l n)) ∙ rows-are .rising;
+          rising = ap (numbered 1 (suc lastNumber)) numbers-after ∙ rows-are .rising;
           named = ap (all (λ e. hasEdge (edgeMap l′ n) (e .nextLeft .edge) && hasEdge (edgeMap l′ n) (e .nextRight .edge))) edges-after ∙ named-map (hasEdge (edgeMap l′ n)) (hasEdge (edgeMap l n)) has-after (edgesOf l n) ∙ rows-are .named;
         }
 
@@ -148,11 +152,27 @@ module _ {nodes edges faces : List ℤ} {h : Head} (held : Held nodes edges face
   unfolding renamedFaces mapOf
   healed-edges = edges-after (λ r. renamed row face (r .left)) (λ r. renamed row face (r .right)) (held .edge-rows) (held .edge-cells) edge-cells-are
 
-  node-count : natAbs (h′ .nodes) ≡ natAbs (h .nodes)
-  node-count = ap (λ (x : Head). natAbs (x .nodes)) (sym (after .head)) ∙ ap length (sym healed-nodes) ∙ nodes-length nodes′ (natAbs (h .nodes))
+  pub healed-nodes-long : length nodes′ ≡ length nodes
+  healed-nodes-long = long-after (λ x. renamedNode row face x (x .face)) (λ x. renamed-number row face x (x .face)) (λ x. renamed-at row face x (x .face)) (held .node-rows) (held .node-cells) node-cells-are
 
-  edge-count : natAbs (h′ .edges) ≡ natAbs (h .edges)
-  edge-count = ap (λ (x : Head). natAbs (x .edges)) (sym (after .head)) ∙ ap length (sym healed-edges) ∙ edges-length edges′ (natAbs (h .edges))
+  pub healed-edges-long : length edges′ ≡ length edges
+  healed-edges-long = edges-long (λ r. renamed row face (r .left)) (λ r. renamed row face (r .right)) (held .edge-rows) (held .edge-cells) edge-cells-are
+
+  -- a renaming of faces keeps the edges' numbers
+  pub healed-numbers : map (λ r. r .number) (edgesOf edges′ (natAbs (h .edges))) ≡ map (λ r. r .number) (edgesOf edges (natAbs (h .edges)))
+  healed-numbers = numbers-after (λ r. renamed row face (r .left)) (λ r. renamed row face (r .right)) (held .edge-rows) (held .edge-cells) edge-cells-are
+
+  pub healed-number : (i : ℕ) → i < natAbs (h .edges) → edgeAt edges′ i .number ≡ edgeAt edges i .number
+  healed-number i t = sym (at edges′) ∙ ap (λ (l : List ℕ). getD l i 0) healed-numbers ∙ at edges
+    where
+      at : (l : List ℤ) → getD (map (λ r. r .number) (edgesOf l (natAbs (h .edges)))) i 0 ≡ edgeAt l i .number
+      at l = ap (λ (x : List ℕ). getD x i 0) (edge-numbers l (natAbs (h .edges))) ∙ getD-table (λ i. edgeAt l i .number) 0 (natAbs (h .edges)) i 0 t ∙ ap (λ (k : ℕ). edgeAt l k .number) (zero-add i)
+
+  pub healed-node-count : natAbs (h′ .nodes) ≡ natAbs (h .nodes)
+  healed-node-count = ap (λ (x : Head). natAbs (x .nodes)) (sym (after .head)) ∙ ap length (sym healed-nodes) ∙ nodes-length nodes′ (natAbs (h .nodes))
+
+  pub healed-edge-count : natAbs (h′ .edges) ≡ natAbs (h .edges)
+  healed-edge-count = ap (λ (x : Head). natAbs (x .edges)) (sym (after .head)) ∙ ap length (sym healed-edges) ∙ edges-length edges′ (natAbs (h .edges))
 
   -- the map that is lent after it
   pub healed-map : mapOf (lent nodes′ edges′ faces′ h′) ≡ healed makes row (mapOf (lent nodes edges faces h))
@@ -162,8 +182,8 @@ module _ {nodes edges faces : List ℤ} {h : Head} (held : Held nodes edges face
       let back = sym (after .head) in
       λ i.
       record {
-        nodes = (ap (nodesOf nodes′) node-count ∙ healed-nodes) i;
-        edges = (ap (edgesOf edges′) edge-count ∙ healed-edges) i;
+        nodes = (ap (nodesOf nodes′) healed-node-count ∙ healed-nodes) i;
+        edges = (ap (edgesOf edges′) healed-edge-count ∙ healed-edges) i;
         faces = (ap (λ (x : Head). facesOf faces′ (natAbs (x .faces))) back ∙ faces-read (length faces) (m .faces) (after .face-cells)) i;
         nextNode = ap (λ (x : Head). natAbs (x .«next_node»)) back i;
         nextEdge = ap (λ (x : Head). natAbs (x .«next_edge»)) back i;

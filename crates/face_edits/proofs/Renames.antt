@@ -6,26 +6,18 @@ use mathlib.Core.List.{List, [], _∷_, map, flatMap}
 use mathlib.Core.Option.{Option, none, some}
 use Prim.Native.Nat.{ℕ, suc, _+_, _*_}
 use lib.Dec.{lit<}
-use lib.IntN.{ℤ, pos, natAbs}
+use lib.IntN.{ℤ, pos}
 use lib.ListN.{length}
 use Rattle.lists.specs.Tests.{same}
 use Rattle.lists.specs.Tables.{sweep}
-use Rattle.lists.proofs.Bools.{which, same-true, differ}
+use Rattle.lists.proofs.Bools.{which}
 use Rattle.map.specs.Limits.{nodeWidth, edgeWidth}
 use Rattle.map.specs.Rows.{Node, Edge, Map, filled, nodeCells, edgeCells, faceCell}
 use Rattle.map.specs.Edits.{withFace, withSides, renamed, renamedNode, renamedFaces}
-use Rattle.tables.specs.Tables.{sameZ, replaceAt, nodesOf, edgesOf, EdgeRows}
-use Rattle.tables.proofs.Order.{is-same, not-same}
+use Rattle.tables.specs.Tables.{replaceAt, nodesOf, edgesOf, EdgeRows}
+use Rattle.tables.proofs.Order.{same-pos}
 use Rattle.tables.proofs.Rows.{nodes-length, edges-length}
-use Rattle.tables.proofs.Writes.{Wide, column-swept, nodes-wide, table-edges-wide}
-
--- numbers of the tables compared
-pub same-nat : (a b : ℕ) → sameZ (pos a) (pos b) ≡ same a b
-same-nat a b =
-    elim (which (same a b)) [
-      | inl e ↦ is-same (pos a) (pos b) (ap pos (same-true a b e)) ∙ sym e
-      | inr e ↦ not-same (pos a) (pos b) (λ q. differ a b e (ap natAbs q)) ∙ sym e
-    ]
+use Rattle.tables.proofs.Writes.{Wide, column-swept, nodes-wide, table-edges-wide, wide-map}
 
 -- f for the face o
 abbrev once : ℕ → ℕ → ℕ → ℕ
@@ -50,24 +42,21 @@ node-row o f n = go (n .face)
   where
     go : (q : Option ℕ) → replaceAt (pos o) (pos f) (pos (n .number) ∷ pos (n .at .x) ∷ pos (n .at .y) ∷ faceCell q ∷ []) 3 ≡ pos (n .number) ∷ pos (n .at .x) ∷ pos (n .at .y) ∷ faceCell (onceIn o f q) ∷ []
     go none = refl
-    go (some g) = elim (which (same g o)) [ inl e ↦ rw (same-nat g o, e) | inr e ↦ rw (same-nat g o, e) ]
+    go (some g) = elim (which (same g o)) [ inl e ↦ rw (same-pos g o, e) | inr e ↦ rw (same-pos g o, e) ]
 
 left-row : (o f : ℕ) (e : Edge) → replaceAt (pos o) (pos f) (edgeCells e) 5 ≡ edgeCells (onceLeft o f e)
 unfolding edgeCells
-left-row o f e = elim (which (same (e .left) o)) [ inl h ↦ rw (same-nat (e .left) o, h) | inr h ↦ rw (same-nat (e .left) o, h) ]
+left-row o f e = elim (which (same (e .left) o)) [ inl h ↦ rw (same-pos (e .left) o, h) | inr h ↦ rw (same-pos (e .left) o, h) ]
 
 right-row : (o f : ℕ) (e : Edge) → replaceAt (pos o) (pos f) (edgeCells e) 6 ≡ edgeCells (onceRight o f e)
 unfolding edgeCells
-right-row o f e = elim (which (same (e .right) o)) [ inl h ↦ rw (same-nat (e .right) o, h) | inr h ↦ rw (same-nat (e .right) o, h) ]
+right-row o f e = elim (which (same (e .right) o)) [ inl h ↦ rw (same-pos (e .right) o, h) | inr h ↦ rw (same-pos (e .right) o, h) ]
 
 -- a face renamed in all rows of a column
 abbrev pub sweptColumn : ℕ → ℕ → ℕ → ℕ → ℤ → ℤ → List ℤ → List ℤ
 sweptColumn w k a n old new l = sweep (λ l i. replaceAt old new l (i * w + k)) l a n
 
 -- rows as long as they were
-pub wide-map : {A : Type 0} (w : ℕ) (cells : A → List ℤ) (f : A → A) → ((x : A) → length (cells (f x)) ≡ length (cells x)) → (xs : List A) → Wide w cells xs → Wide w cells (map f xs)
-wide-map w cells f h [] k = tt
-wide-map w cells f h (x ∷ xs) k = (h x ∙ k .0, wide-map w cells f h xs (k .1))
 
 pub sides-wide : (l r : ℕ) (e : Edge) → length (edgeCells (withSides l r e)) ≡ length (edgeCells e)
 unfolding edgeCells
@@ -131,7 +120,7 @@ module _ (row : Edge) (f : ℕ) where
   one-both o N n es e w =
       let es₁ = map (onceLeft o f) es in
       ap (sweptColumn edgeWidth 6 0 n (pos o) (pos f)) (one-left o N n es e w)
-      ∙ one-right o N n es₁ (map-size (onceLeft o f) es n e) (wide-map edgeWidth edgeCells (onceLeft o f) (λ x. sides-wide (once o f (x .left)) (x .right) x) es w)
+      ∙ one-right o N n es₁ (map-size (onceLeft o f) es n e) (wide-map edgeWidth edgeCells (onceLeft o f) (λ x e. sides-wide (once o f (x .left)) (x .right) x ∙ e) es w)
       ∙ ap (λ (r : List Edge). filled N (flatMap edgeCells r)) (map-both (onceLeft o f) (onceRight o f) (bothSides o) (λ x. refl) es)
 
   pub edges-renamed : (N n : ℕ) (es : List Edge) → length es ≡ n → Wide edgeWidth edgeCells es
@@ -140,7 +129,7 @@ module _ (row : Edge) (f : ℕ) where
   edges-renamed N n es e w =
       let es₁ = map (bothSides (row .left)) es in
       ap (λ (l : List ℤ). sweptColumn edgeWidth 6 0 n (pos (row .right)) (pos f) (sweptColumn edgeWidth 5 0 n (pos (row .right)) (pos f) l)) (one-both (row .left) N n es e w)
-      ∙ one-both (row .right) N n es₁ (map-size (bothSides (row .left)) es n e) (wide-map edgeWidth edgeCells (bothSides (row .left)) (λ x. sides-wide (once (row .left) f (x .left)) (once (row .left) f (x .right)) x) es w)
+      ∙ one-both (row .right) N n es₁ (map-size (bothSides (row .left)) es n e) (wide-map edgeWidth edgeCells (bothSides (row .left)) (λ x e. sides-wide (once (row .left) f (x .left)) (once (row .left) f (x .right)) x ∙ e) es w)
       ∙ ap (λ (r : List Edge). filled N (flatMap edgeCells r)) (map-both (bothSides (row .left)) (bothSides (row .right)) (λ r. withSides (renamed row f (r .left)) (renamed row f (r .right)) r) (twice-edge row f) es)
 
 -- what the two sweeps leave in the tables

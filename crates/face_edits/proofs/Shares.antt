@@ -20,23 +20,25 @@ use Rattle.curves.specs.Curves.{coordinate}
 use Rattle.curves.proofs.Runs.{and-left, and-right}
 use Rattle.planar.specs.Map.{Dart, fwd, bwd, rev}
 use Rattle.map.specs.Limits.{nodeWidth, edgeWidth, lastNumber}
-use Rattle.map.specs.Rows.{Node, Edge, Map, rows, filled, nodeCells, edgeCells, faceCell, faceOf, nodeOf, node, edge, hasNode}
+use Rattle.map.specs.Rows.{Node, Edge, Map, rows, filled, nodeCells, edgeCells, faceCell, nodeOf, node, edge, hasNode}
 use Rattle.map.specs.Darts.{next, bears, course, ring, among, lowestEdge}
 use Rattle.map.specs.Faces.{encloses}
 use Rattle.map.specs.Form.{nodeRanges, numbered}
 use Rattle.map.specs.Edits.{Shares, sideOfPoint, sideOfRing, sideOfDart, sideOfNode, withFace, withSides, sharedOut}
+use Rattle.map.proofs.RoundTrip.{face-back}
 use Rattle.tables.specs.Tables.{NodeRows, sameZ, nodeAt, edgeAt, nodesOf, edgesOf, nodeMap}
 use Rattle.tables.proofs.Rows.{nodes-table, edges-table, nodes-length, map-table, edge-row}
 use Rattle.tables.proofs.RowCurves.{edge-few}
-use Rattle.tables.proofs.Writes.{rows-flat, nodes-wide, set-mid, edge-wide, flat-length}
+use Rattle.tables.proofs.Writes.{rows-flat, nodes-wide, set-mid, edge-wide}
+use Rattle.tables.proofs.Order.{same-pos}
 use Rattle.links.specs.Positions.{dartAt, reverseOf, sidePlace}
 use Rattle.links.proofs.Positions.{dart-even, dart-odd, dart-reverse}
 use Rattle.sharing.specs.declared.Sides.{Sides}
 use Rattle.sharing.specs.Sharing.{Shared, sharesOf, nodeShared, edgeShared}
 use Rattle.sharing.proofs.Rings.{ring-same}
+use Rattle.answers.proofs.Filled.{filled-long}
 use Rattle.face_edits.specs.Holds.{sharesIn}
-use Rattle.face_edits.proofs.FaceRows.{filled-length}
-use Rattle.face_edits.proofs.Renames.{same-nat, sides-wide}
+use Rattle.face_edits.proofs.Renames.{sides-wide}
 use Rattle.face_edits.proofs.Sweeps.{cell-mid, swept-rows, both, sweep-pairs}
 
 -- ---- rings and sides depend on nodes and edges alone
@@ -103,7 +105,7 @@ node-step K S old eo p rest a x e = go (x .face) refl
 
     go : (q : Option ℕ) → x .face ≡ q → cond (sameZ (getD t (a * nodeWidth + 3) (pos 0)) old) (set t (a * nodeWidth + 3) v) t ≡ p ++ (nodeCells (sideOfNode K S x q) ++ rest)
     go none eq = ap (λ (b : Bool). cond b (set t (a * nodeWidth + 3) v) t) (test none eq)
-    go (some f) eq = ap (λ (b : Bool). cond b (set t (a * nodeWidth + 3) v) t) (test (some f) eq ∙ same-nat f (S .old)) ∙ pick (same f (S .old))
+    go (some f) eq = ap (λ (b : Bool). cond b (set t (a * nodeWidth + 3) v) t) (test (some f) eq ∙ same-pos f (S .old)) ∙ pick (same f (S .old))
 
 -- number and point are kept
 side-number : (K : Map) (S : Shares) (x : Node) (q : Option ℕ) → sideOfNode K S x q .number ≡ x .number
@@ -130,11 +132,7 @@ node-wide x = refl
 
 node-back : (x : Node) → nodeOf (nodeCells x) ≡ x
 unfolding nodeOf nodeCells
-node-back x = λ i. record { number = x .number; at = x .at; face = back (x .face) i }
-  where
-    back : (q : Option ℕ) → faceOf (faceCell q) ≡ q
-    back none = refl
-    back (some f) = refl
+node-back x = λ i. record { number = x .number; at = x .at; face = face-back (x .face) i }
 
 nodes-back : (xs : List Node) → map nodeOf (map nodeCells xs) ≡ xs
 nodes-back [] = refl
@@ -194,10 +192,7 @@ module _ (F : Node → Node) (number : (x : Node) → F x .number ≡ x .number)
     nodes-after = ap (map nodeOf) rows-after ∙ nodes-back (map F (nodesOf l n))
 
     pub long-after : length l′ ≡ length l
-    long-after =
-        let k = flat-length nodeWidth nodeCells (map F (nodesOf l n)) (nodes-wide (map F (nodesOf l n))) in
-        let j : length (map F (nodesOf l n)) ≡ n = size-map (nodesOf l n) ∙ nodes-length l n in
-        ap length (sym after) ∙ filled-length (length l) (flatMap nodeCells (map F (nodesOf l n))) (rw (k, j) (rows-are .fits))
+    long-after = filled-long nodeWidth nodeCells (length l) (map F (nodesOf l n)) n (nodes-wide (map F (nodesOf l n))) (size-map (nodesOf l n) ∙ nodes-length l n) after (rows-are .fits)
 
     pub node-rows-after : NodeRows l′ n
     node-rows-after =

@@ -33,10 +33,10 @@ use Rattle.conditions.proofs.Others.{edges-but}
 use Rattle.conditions.proofs.Reasons.{first-hit, first-miss}
 use Rattle.turning.proofs.Alone.{taken-alone, order-alone}
 use Rattle.answers.specs.Outcomes.{Formed}
-use Rattle.answers.proofs.Formed.{formed-map, edge-rows, nodes-count, edges-count, faces-count, node-next, edge-next, face-next, edge-numbers-once, nodes-filled, edges-filled, faces-filled, edges-are-wide, lent-is}
+use Rattle.answers.proofs.Formed.{formed-map, edge-rows, nodes-count, edges-count, faces-count, node-next, edge-next, face-next, edge-numbers-once, nodes-filled, edges-filled, faces-filled, edges-are-wide, lent-is, edge-none}
 use Rattle.redraws.specs.Change.{takenAt, changeReasons}
 use Rattle.redraws.proofs.Drawn.{points-few}
-use Rattle.redraws.proofs.Removed.{none-there, row-in, number-is, there, edge-is}
+use Rattle.redraws.proofs.Removed.{row-in, number-is, there, edge-is}
 use Rattle.redraws.proofs.Added.{node-row-is}
 
 -- a node that is there is not missing
@@ -48,7 +48,7 @@ module _ {nodes edges faces : List ℤ} {h : Head} (f : Formed nodes edges faces
   -- a row that is missing is reason 4
   pub change-missing : place (sameZ z) 0 (column edgeWidth edges (natAbs (h .edges))) ≡ Missing → firstReason (reasons (sizesOf (lent nodes edges faces h)) (mapOf (lent nodes edges faces h)) (ChangeEdgeGeom z c)) ≡ 4
   unfolding reasons
-  change-missing e = first-hit 4 (noEdge (mapOf (lent nodes edges faces h)) z) _ (none-there f z e)
+  change-missing e = first-hit 4 (noEdge (mapOf (lent nodes edges faces h)) z) _ (edge-none f z e)
 
   module _ (i : ℕ) (e : place (sameZ z) 0 (column edgeWidth edges (natAbs (h .edges))) ≡ At i) where
     inside : i < length (edgesOf edges (natAbs (h .edges)))

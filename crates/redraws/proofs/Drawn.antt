@@ -1,20 +1,18 @@
 -- An edge drawn in the tables is drawn in the map. Assumes nothing.
 use mathlib.Core.Path.{_≡_, refl, sym, ap, ap₂, _∙_, subst}
 use mathlib.Core.Bool.{Bool, true, false, cond, _&&_, _||_}
-use mathlib.Core.List.{List, [], _∷_, _++_, map, append-assoc}
-use mathlib.Core.Option.{Option, none}
-use Prim.Native.Nat.{ℕ, zero, suc, _+_, _*_, _-_, _/_, _≤_, _<_}
+use mathlib.Core.List.{List, [], _∷_, _++_, map, map-append}
+use mathlib.Core.Option.{none}
+use Prim.Native.Nat.{ℕ, suc, _+_, _*_, _-_, _/_, _≤_, _<_}
 use native.Mathlib.Nat.{add-zero}
 use native.Mathlib.Omega.{arith}
-use lib.Dec.{leb, lit<}
+use lib.Dec.{leb}
 use lib.IntN.{ℤ, pos, negsuc, natAbs}
-use lib.ListN.{length, getD, set, take, drop, replicate, length-append, length-replicate, length-set, replicate-append-replicate}
+use lib.ListN.{length, getD, set, replicate, length-set}
 use lib.Seq.{paste, take-at, drop-at, getD-at}
-use lib.Signed.{nonNeg}
 use borrow.Author.Tests.{le-leb}
 use Rattle.lists.specs.Tests.{same}
 use Rattle.lists.specs.Scans.{all}
-use Rattle.lists.proofs.Bools.{same-refl, eq2}
 use Rattle.lists.proofs.Scans.{length-table, table-same}
 use Rattle.plane.specs.declared.Point.{Point}
 use Rattle.curves.specs.Curves.{Curve, Run, isRun, points, pointsOf, through, curveOf, pointAt, coordinates, coordinate, maxPoints}
@@ -25,30 +23,26 @@ use Rattle.rowing.specs.declared.Sides.{Sides}
 use Rattle.rowing.specs.Cells.{cellsOf}
 use Rattle.rowing.proofs.Cells.{row-cells}
 use Rattle.map.specs.declared.Head.{Head}
-use Rattle.map.specs.Limits.{maxEdges, lastNumber, nodeWidth, edgeWidth}
-use Rattle.map.specs.Rows.{Node, Edge, Map, mapOf, edgeCells, filled, cell, dartCell, atNodes, atEdge, setEdges, given}
-use Rattle.map.specs.Form.{within, isZero, nodeRanges, edgeRanges, numbered}
+use Rattle.map.specs.Limits.{maxEdges, nodeWidth, edgeWidth}
+use Rattle.map.specs.Rows.{Node, Edge, Map, mapOf, edgeCells, dartCell, atNodes, atEdge, setEdges, given}
+use Rattle.map.specs.Form.{isZero, nodeRanges, edgeRanges, numbered}
 use Rattle.map.specs.Links.{linkEdge, linkIn, lead, redirect}
 use Rattle.map.specs.Edits.{withFace, isEither, drawn}
-use Rattle.map.proofs.RoundTrip.{whole-rows}
-use Rattle.tables.specs.Tables.{nodesOf, edgesOf, facesOf, nodeAt, edgeAt, edgeMap}
-use Rattle.tables.proofs.Rows.{edges-getD, edges-length, edge-numbers, node-cells, node-number-in, rows-all}
+use Rattle.map.proofs.RoundTrip.{whole-rows, coordinates-length}
+use Rattle.map.proofs.Facts.{zeros}
+use Rattle.tables.specs.Tables.{nodesOf, edgesOf, facesOf, nodeAt, edgeAt}
+use Rattle.tables.proofs.Rows.{edges-getD, edges-length, edge-numbers, node-cells, node-number-in, rows-all, pos-abs}
 use Rattle.tables.proofs.Cells.{row-room}
 use Rattle.ranges.specs.Ranges.{lent}
 use Rattle.linking.specs.Linking.{linkedEdge}
 use Rattle.linking.proofs.Kept.{rest-kept, number-kept}
-use Rattle.linking.proofs.LinkedEdges.{alone, linked-alone, linked-edge-kept, linked-edge-relinked, linked-edge-map}
+use Rattle.linking.proofs.LinkedEdges.{linked-alone, linked-edge-kept, linked-edge-relinked, linked-edge-map}
 use Rattle.redraws.specs.Holds.{NodeTable, EdgeTable, Held, Counted, Drawable, Drawn, drawnHead, newRow}
-use Rattle.redraws.proofs.Words.{natural-is}
 use Rattle.redraws.proofs.Lists.{numbered-push}
-use Rattle.redraws.proofs.Pushed.{Follows, zeros, map-append, pushed-long, pushed-edges, pushed-table}
+use Rattle.redraws.proofs.Pushed.{Follows, pushed-long, pushed-edges, pushed-table}
 use Rattle.redraws.proofs.NodeFaces.{faced-nodes, faced-number, faced-table}
 
 -- ---- the row of a curve sent
-
-coordinates-length : (ps : List Point) → length (coordinates ps) ≡ 2 * length ps
-coordinates-length [] = refl
-coordinates-length (p ∷ ps) = let h = coordinates-length ps in omega arith
 
 natural : (z : ℤ) → coordinate z ≡ true → coordinate (pos (natAbs z)) ≡ true
 natural (pos n) h = h
@@ -165,7 +159,7 @@ module _ {nodes edges : List ℤ} {h : Head} {u v : ℕ} {c : List ℤ} {face : 
       ∙ table-same (λ i. edgeAt linkedTable i .number) (λ i. edgeAt pushedTable i .number) 0 k (λ i _ b. number-kept r (pushed-held .rows .fits) i (omega arith))
       ∙ sym (edge-numbers pushedTable k)
       ∙ ap (map (λ (e : Edge). e .number)) pushed-are
-      ∙ map-append (λ (e : Edge). e .number) (edgesOf edges (natAbs (h .edges))) row
+      ∙ map-append (λ (e : Edge). e .number) (edgesOf edges (natAbs (h .edges))) (row ∷ [])
 
   -- ---- the nodes
 
@@ -262,7 +256,7 @@ module _ {nodes edges : List ℤ} {h : Head} {u v : ℕ} {c : List ℤ} {face : 
   end-small = let k = node-number-in (d .held .node-table .rows) v (d .end) .1 in omega arith
 
   pub face-is : face ≡ pos (natAbs face)
-  face-is = natural-is face (d .natural)
+  face-is = pos-abs face (d .natural)
 
   pub new-fits : natAbs (h .edges) * edgeWidth + edgeWidth ≤ length edges
   new-fits = let s = whole-rows edgeWidth 0 maxEdges edges (d .held .edge-table .whole) .size in let r = d .room in omega arith

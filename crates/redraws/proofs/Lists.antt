@@ -1,5 +1,5 @@
 -- Lists of rows with one more at the end, and tables element by element. Assumes nothing.
-use mathlib.Core.Path.{_≡_, refl, sym, ap, _∙_}
+use mathlib.Core.Path.{_≡_, refl, sym}
 use mathlib.Core.Bool.{Bool, true, false, _&&_}
 use mathlib.Core.Logic.{inl, inr, ⊎-elim}
 use mathlib.Core.List.{List, [], _∷_, _++_, List·Memᴰ, List·Memᴰ·cases-cons, List·Memᴰ·not-nil}
@@ -12,15 +12,12 @@ use Rattle.lists.specs.Tables.{table}
 use Rattle.lists.proofs.Bools.{which}
 use Rattle.curves.proofs.Runs.{and-left, and-right}
 use Rattle.map.specs.Form.{numbered}
+use Rattle.ranges.proofs.Columns.{all-weaker}
 
 module _ {A : Type 0} (p : A → Bool) where
   pub all-append : (xs ys : List A) → all p xs ≡ true → all p ys ≡ true → all p (xs ++ ys) ≡ true
   all-append [] ys h k = k
   all-append (x ∷ xs) ys h k = rw (and-left (p x) (all p xs) h) (all-append xs ys (and-right (p x) (all p xs) h) k)
-
-  pub all-more : (q : A → Bool) → ((x : A) → p x ≡ true → q x ≡ true) → (xs : List A) → all p xs ≡ true → all q xs ≡ true
-  all-more q h [] e = refl
-  all-more q h (x ∷ xs) e = rw (h x (and-left (p x) (all p xs) e)) (all-more q h xs (and-right (p x) (all p xs) e))
 
   all-from : (f : ℕ → A) (a n : ℕ) → ((i : ℕ) → i < a + n → p (f i) ≡ true) → all p (table f a n) ≡ true
   all-from f a zero h = refl
@@ -60,8 +57,8 @@ numbered-push least k top ns h from to =
     let rise = and-left (linked ltb ns) (all (λ n. leb least n && ltb n k) ns) h in
     let each = and-right (linked ltb ns) (all (λ n. leb least n && ltb n k) ns) h in
     let ends : all (λ n. leb least n && ltb n top) (k ∷ []) ≡ true = rw (le-leb least k from, lt-ltb k top to) in
-    rw (linked-push k ns rise (all-more (λ n. leb least n && ltb n k) (λ n. ltb n k) (λ n. and-right (leb least n) (ltb n k)) ns each))
-    (all-append (λ n. leb least n && ltb n top) ns (k ∷ []) (all-more (λ n. leb least n && ltb n k) (λ n. leb least n && ltb n top) below ns each) ends)
+    rw (linked-push k ns rise (all-weaker (λ n. leb least n && ltb n k) (λ n. ltb n k) (λ n. and-right (leb least n) (ltb n k)) ns each))
+    (all-append (λ n. leb least n && ltb n top) ns (k ∷ []) (all-weaker (λ n. leb least n && ltb n k) (λ n. leb least n && ltb n top) below ns each) ends)
   where
     below : (n : ℕ) → leb least n && ltb n k ≡ true → leb least n && ltb n top ≡ true
     below n e =

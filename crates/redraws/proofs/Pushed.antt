@@ -1,30 +1,31 @@
 -- A new last edge row: the rows are those before and the new one, in range, in rising order, with links that name rows. Assumes nothing.
-use mathlib.Core.Path.{_≡_, refl, sym, ap, _∙_, subst}
-use mathlib.Core.Bool.{Bool, true, _&&_}
+use mathlib.Core.Path.{_≡_, sym, ap, _∙_, subst}
+use mathlib.Core.Bool.{true, _&&_}
 use mathlib.Core.Logic.{⊎-elim}
-use mathlib.Core.List.{List, [], _∷_, _++_, map, flatMap, List·Memᴰ, List·Memᴰ·append-cases, List·Memᴰ·eq-of-singleton, Memᴰ·cast}
-use Prim.Native.Nat.{ℕ, zero, suc, _+_, _*_, _-_, _/_, _≤_, _<_}
-use native.Mathlib.Nat.{add-mul}
+use mathlib.Core.List.{List, [], _∷_, _++_, map, flatMap, List·Memᴰ, List·Memᴰ·append-cases, List·Memᴰ·eq-of-singleton, map-append}
+use Prim.Native.Nat.{ℕ, suc, _+_, _*_, _-_, _/_, _≤_, _<_}
 use native.Mathlib.Omega.{arith}
 use lib.IntN.{ℤ, pos}
-use lib.ListN.{length, drop, replicate, length-append, length-map}
-use lib.Seq.{paste, drop-at, length-paste}
+use lib.ListN.{length, replicate, length-append}
+use lib.Seq.{paste, length-paste}
 use Rattle.lists.specs.Tests.{same}
 use Rattle.lists.specs.Scans.{all, find, isSome}
-use Rattle.lists.proofs.Bools.{same-refl, same-eq}
+use Rattle.lists.proofs.Bools.{same-eq}
 use Rattle.curves.specs.Curves.{points, maxPoints}
 use Rattle.curves.proofs.Runs.{and-left, and-right}
 use Rattle.map.specs.Limits.{maxEdges, lastNumber, edgeWidth}
-use Rattle.map.specs.Rows.{Edge, Map, Sizes, rows, mapOf, lentOf, filled, edgeCells, hasEdge, wholeRows}
-use Rattle.map.specs.Form.{isZero, edgeRanges, numbered}
+use Rattle.map.specs.Rows.{Edge, Map, Sizes, rows, mapOf, lentOf, filled, edgeCells, hasEdge}
+use Rattle.map.specs.Form.{edgeRanges, numbered}
 use Rattle.map.proofs.RoundTrip.{Holds, reads-back, whole-rows}
 use Rattle.tables.specs.Tables.{edgesOf, edgeAt, edgeMap, EdgeRows}
 use Rattle.tables.proofs.Rows.{edges-table, edges-length, all-table, edge-row-of, edge-number-in}
 use Rattle.tables.proofs.RowCurves.{edge-few}
-use Rattle.tables.proofs.Writes.{Wide, wide-append, flat-length, rows-flat, pushed, edge-wide, table-edges-wide}
+use Rattle.tables.proofs.Writes.{Wide, wide-append, rows-flat, pushed, edge-wide, table-edges-wide}
+use Rattle.ranges.proofs.Columns.{all-weaker}
 use Rattle.links.proofs.Positions.{row-there}
+use Rattle.answers.proofs.Filled.{filled-rest}
 use Rattle.redraws.specs.Holds.{EdgeTable}
-use Rattle.redraws.proofs.Lists.{all-append, all-more, find-more, find-last, table-in, numbered-push}
+use Rattle.redraws.proofs.Lists.{all-append, find-more, find-last, table-in, numbered-push}
 use Rattle.redraws.proofs.Filled.{edges-filled}
 
 -- a row that can follow the others
@@ -36,14 +37,6 @@ pub record Follows (l : List ℤ) (n : ℕ) (row : Edge) : Type 0 where
   pub most : row .number ≤ lastNumber
   pub left : row .nextLeft .edge ≡ row .number
   pub right : row .nextRight .edge ≡ row .number
-
-pub zeros : (k : ℕ) → all isZero (replicate k (pos 0)) ≡ true
-zeros zero = refl
-zeros (suc k) = rw (same-refl 0) (zeros k)
-
-pub map-append : {A B : Type 0} (g : A → B) (xs : List A) (y : A) → map g (xs ++ y ∷ []) ≡ map g xs ++ g y ∷ []
-map-append g [] y = refl
-map-append {A} {B} g (x ∷ xs) y = ap (λ (r : List B). g x ∷ r) (map-append g xs y)
 
 -- what is named in the table is a row, from 1 on
 named-least : {l : List ℤ} {n : ℕ} → EdgeRows l n → (e : ℕ) → hasEdge (edgeMap l n) e ≡ true → 1 ≤ e
@@ -141,7 +134,7 @@ module _ {l : List ℤ} {n : ℕ} (t : EdgeTable l n) (row : Edge) (f : Follows 
   unfolding after
   named =
       all-append (λ e. isSome (find (λ r. same (r .number) (e .nextLeft .edge)) after) && isSome (find (λ r. same (r .number) (e .nextRight .edge)) after)) (edgesOf l n) (row ∷ [])
-      (all-more (λ (e : Edge). hasEdge (edgeMap l n) (e .nextLeft .edge) && hasEdge (edgeMap l n) (e .nextRight .edge)) _
+      (all-weaker (λ (e : Edge). hasEdge (edgeMap l n) (e .nextLeft .edge) && hasEdge (edgeMap l n) (e .nextRight .edge)) _
       (λ (e : Edge) h. rw (has (e .nextLeft .edge) (and-left (hasEdge (edgeMap l n) (e .nextLeft .edge)) (hasEdge (edgeMap l n) (e .nextRight .edge)) h), has (e .nextRight .edge) (and-right (hasEdge (edgeMap l n) (e .nextLeft .edge)) (hasEdge (edgeMap l n) (e .nextRight .edge)) h)))
       (edgesOf l n) (t .rows .named))
       (rw (has-row (row .nextLeft .edge) (f .left), has-row (row .nextRight .edge) (f .right)))
@@ -153,13 +146,10 @@ module _ {l : List ℤ} {n : ℕ} (t : EdgeTable l n) (row : Edge) (f : Follows 
         rows =
             record {
               fits = let a = pushed-long in let b = fits in omega arith;
-              ranges = ap (all edgeRanges) (pushed-rows ∙ map-append edgeCells (edgesOf l n) row) ∙ all-append edgeRanges (map edgeCells (edgesOf l n)) (edgeCells row ∷ []) (ap (all edgeRanges) (sym old-rows) ∙ t .rows .ranges) (rw (f .ranges));
-              rising = ap (λ (es : List Edge). numbered 1 (suc lastNumber) (map (λ e. e .number) es)) pushed-edges ∙ ap (numbered 1 (suc lastNumber)) (map-append (λ (e : Edge). e .number) (edgesOf l n) row) ∙ numbered-push 1 (row .number) (suc lastNumber) (map (λ e. e .number) (edgesOf l n)) (f .above) (f .least) (let m = f .most in omega arith);
+              ranges = ap (all edgeRanges) (pushed-rows ∙ map-append edgeCells (edgesOf l n) (row ∷ [])) ∙ all-append edgeRanges (map edgeCells (edgesOf l n)) (edgeCells row ∷ []) (ap (all edgeRanges) (sym old-rows) ∙ t .rows .ranges) (rw (f .ranges));
+              rising = ap (λ (es : List Edge). numbered 1 (suc lastNumber) (map (λ e. e .number) es)) pushed-edges ∙ ap (numbered 1 (suc lastNumber)) (map-append (λ (e : Edge). e .number) (edgesOf l n) (row ∷ [])) ∙ numbered-push 1 (row .number) (suc lastNumber) (map (λ e. e .number) (edgesOf l n)) (f .above) (f .least) (let m = f .most in omega arith);
               named = ap (λ (es : List Edge). all (λ e. isSome (find (λ r. same (r .number) (e .nextLeft .edge)) es) && isSome (find (λ r. same (r .number) (e .nextRight .edge)) es)) es) pushed-edges ∙ named;
             };
-        rest =
-            ap (λ (r : List ℤ). all isZero (drop ((n + 1) * edgeWidth) r)) written-filled
-            ∙ ap (all isZero) (drop-at (flatMap edgeCells after) (replicate (length l - length (flatMap edgeCells after)) (pos 0)) ((n + 1) * edgeWidth) (flat-length edgeWidth edgeCells after wide ∙ ap (λ (k : ℕ). k * edgeWidth) count))
-            ∙ zeros (length l - length (flatMap edgeCells after));
+        rest = filled-rest edgeWidth edgeCells (length l) after (n + 1) wide count (sym written-filled);
         whole = rw pushed-long (t .whole);
       }

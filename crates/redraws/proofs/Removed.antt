@@ -1,19 +1,16 @@
 -- What kind 5 answers: the reasons against it, and the tables it leaves. Assumes nothing.
-use mathlib.Core.Path.{_≡_, refl, sym, ap, ap₂, _∙_, subst}
+use mathlib.Core.Path.{_≡_, refl, sym, ap, ap₂, _∙_}
 use mathlib.Core.Bool.{Bool, true, false, cond, not, _&&_}
-use mathlib.Core.List.{List, [], _∷_, map, flatMap}
-use mathlib.Core.Option.{none, some}
+use mathlib.Core.List.{List, [], flatMap}
+use mathlib.Core.Option.{some}
 use Prim.Native.Nat.{ℕ, _*_, _-_, _/_, _<_}
-use native.Mathlib.Omega.{arith}
-use lib.IntN.{ℤ, pos, negsuc, natAbs}
+use lib.IntN.{ℤ, pos, natAbs}
 use lib.ListN.{length, length-map}
-use lib.Signed.{nonNeg}
 use Rattle.lists.specs.Tests.{same}
-use Rattle.lists.specs.Scans.{isSome}
 use Rattle.lists.specs.Tables.{place}
 use Rattle.lists.specs.declared.Found.the-variants.{At, Missing}
 use Rattle.map.specs.declared.Head.{Head}
-use Rattle.map.specs.Limits.{nodeWidth, edgeWidth, faceWidth}
+use Rattle.map.specs.Limits.{edgeWidth, faceWidth}
 use Rattle.map.specs.Rows.{Node, Edge, Map, mapOf, lentOf, sizesOf, headOf, edge, filled, nodeCells, edgeCells, faceCells, atNodes}
 use Rattle.map.specs.Links.{unlinkEdge, redirect}
 use Rattle.map.specs.Darts.{edgeEnds}
@@ -21,27 +18,32 @@ use Rattle.map.specs.Edits.{withFace, isEither, undrawn, removeIsoEdge}
 use Rattle.map.specs.Tickets.{RemoveIsoEdge}
 use Rattle.map.specs.Reasons.{firstReason, reasons, noEdge, edgeIsolated}
 use Rattle.map.specs.Ticket.{carried}
-use Rattle.tables.specs.Tables.{sameZ, column, edgesOf, nodesOf, edgeAt, edgeMap}
-use Rattle.tables.proofs.Rows.{nodes-length, faces-length}
-use Rattle.tables.proofs.Lookups.{edge-found, edge-missing}
+use Rattle.tables.specs.Tables.{sameZ, column, edgeAt, edgeMap}
+use Rattle.tables.proofs.Lookups.{edge-found}
 use Rattle.links.proofs.Positions.{edge-of}
 use Rattle.ranges.specs.Ranges.{lent}
 use Rattle.conditions.proofs.Reasons.{first-hit, first-miss, first-none}
 use Rattle.turning.proofs.Alone.{isolated-alone}
 use Rattle.answers.specs.Outcomes.{Formed}
-use Rattle.answers.proofs.Formed.{ranges, edge-rows, nodes-count, faces-count, node-next, edge-next, face-next, nodes-size, edges-size, faces-filled, lent-is}
+use Rattle.answers.proofs.Formed.{ranges, edge-rows, nodes-size, edges-size, faces-filled, lent-is, edge-none, head-back}
 use Rattle.redraws.specs.Holds.{Undrawn, undrawnHead}
 
-module _ {nodes edges faces : List ℤ} {h : Head} (f : Formed nodes edges faces h) (z : ℤ) where
-  -- a named row that is missing
-  pub none-there : place (sameZ z) 0 (column edgeWidth edges (natAbs (h .edges))) ≡ Missing → noEdge (mapOf (lent nodes edges faces h)) z ≡ true
-  unfolding mapOf
-  none-there e = go z e
-    where
-      go : (z : ℤ) → place (sameZ z) 0 (column edgeWidth edges (natAbs (h .edges))) ≡ Missing → noEdge (mapOf (lent nodes edges faces h)) z ≡ true
-      go (pos k) e = rw (edge-missing edges (natAbs (h .edges)) (ranges f .edge-rows) k e)
-      go (negsuc k) e = refl
+-- an edge less, and nothing else in the head
+pub undrawn-head : (k g : ℕ) (m : Map) {h : Head} → headOf m ≡ h → length (undrawn k g m .edges) ≡ natAbs (h .edges) - 1 → headOf (undrawn k g m) ≡ undrawnHead h
+unfolding undrawn atNodes unlinkEdge redirect
+undrawn-head k g m e fewer =
+    let bare : Node → Bool = λ x. isEither (edge m k .start) (edge m k .end) x && same (edgeEnds (unlinkEdge k m) (x .number)) 0 in
+    λ j.
+    record {
+      nodes = (ap pos (length-map (m .nodes) (λ (x : Node). cond (bare x) (withFace (some g) x) x)) ∙ ap (λ (x : Head). x .nodes) e) j;
+      edges = pos (fewer j);
+      faces = e j .faces;
+      «next_node» = e j .«next_node»;
+      «next_edge» = e j .«next_edge»;
+      «next_face» = e j .«next_face»;
+    }
 
+module _ {nodes edges faces : List ℤ} {h : Head} (f : Formed nodes edges faces h) (z : ℤ) where
   module _ (i : ℕ) (e : place (sameZ z) 0 (column edgeWidth edges (natAbs (h .edges))) ≡ At i) where
     pub row-in : i < natAbs (h .edges)
     row-in = edge-found edges (natAbs (h .edges)) (ranges f .edge-rows) z i e .0
@@ -77,22 +79,6 @@ module _ {nodes edges faces : List ℤ} {h : Head} (f : Formed nodes edges faces
     unfolding undrawn atNodes unlinkEdge redirect mapOf
     same-faces g = faces-filled f
 
-    head-is : (g : ℕ) → length (undrawn (edgeAt edges i .number) g (mapOf (lent nodes edges faces h)) .edges) ≡ natAbs (h .edges) - 1 → headOf (undrawn (edgeAt edges i .number) g (mapOf (lent nodes edges faces h))) ≡ undrawnHead h
-    unfolding undrawn atNodes unlinkEdge redirect mapOf
-    head-is g e =
-        let m = mapOf (lent nodes edges faces h) in
-        let k = edgeAt edges i .number in
-        let ns = nodesOf nodes (natAbs (h .nodes)) in
-        λ j.
-        record {
-          nodes = (ap pos (length-map ns (λ (x : Node). cond (isEither (edge m k .start) (edge m k .end) x && same (edgeEnds (unlinkEdge k m) (x .number)) 0) (withFace (some g) x) x) ∙ nodes-length nodes (natAbs (h .nodes))) ∙ sym (nodes-count f .0)) j;
-          edges = pos (e j);
-          faces = (ap pos (faces-length faces (natAbs (h .faces))) ∙ sym (faces-count f .0)) j;
-          «next_node» = sym (node-next f .0) j;
-          «next_edge» = sym (edge-next f .0) j;
-          «next_face» = sym (face-next f .0) j;
-        }
-
     pub remove-lent : {face : ℤ} {nodes′ edges′ : List ℤ} {h′ : Head} → face ≡ pos (edgeAt edges i .left) → Undrawn nodes edges h i face nodes′ edges′ h′
         → lentOf (sizesOf (lent nodes edges faces h)) (carried (mapOf (lent nodes edges faces h)) (RemoveIsoEdge z) .0) ≡ lent nodes′ edges′ faces h′
     unfolding carried removeIsoEdge
@@ -103,12 +89,12 @@ module _ {nodes edges faces : List ℤ} {h : Head} (f : Formed nodes edges faces
         (ap (λ (k : ℕ). filled k (flatMap nodeCells (undrawn (edgeAt edges i .number) (natAbs face) m .nodes))) (nodes-size f .0) ∙ u .node-cells faces)
         (ap (λ (k : ℕ). filled k (flatMap edgeCells (undrawn (edgeAt edges i .number) (natAbs face) m .edges))) (edges-size f .0) ∙ u .edge-cells faces)
         (same-faces (natAbs face))
-        (head-is (natAbs face) (u .edges-left faces) ∙ sym (u .head))
+        (undrawn-head (edgeAt edges i .number) (natAbs face) m (head-back f) (u .edges-left faces) ∙ sym (u .head))
 
 -- a row that is missing is reason 4
 pub remove-missing : {nodes edges faces : List ℤ} {h : Head} → Formed nodes edges faces h → (z : ℤ) → place (sameZ z) 0 (column edgeWidth edges (natAbs (h .edges))) ≡ Missing → firstReason (reasons (sizesOf (lent nodes edges faces h)) (mapOf (lent nodes edges faces h)) (RemoveIsoEdge z)) ≡ 4
 unfolding reasons
-remove-missing {nodes} {edges} {faces} {h} f z e = first-hit 4 (noEdge (mapOf (lent nodes edges faces h)) z) _ (none-there f z e)
+remove-missing {nodes} {edges} {faces} {h} f z e = first-hit 4 (noEdge (mapOf (lent nodes edges faces h)) z) _ (edge-none f z e)
 
 pub remove-value : (nodes edges faces : List ℤ) (h : Head) (z : ℤ) → carried (mapOf (lent nodes edges faces h)) (RemoveIsoEdge z) .1 ≡ pos 0
 unfolding carried

@@ -1,51 +1,34 @@
 -- What is left in tables that hold a map once an edge row is undrawn: after a heal, or where both its sides are one face. Assumes nothing.
 use mathlib.Core.Path.{_≡_, refl, sym, ap, ap₂, subst, _∙_}
-use mathlib.Core.Bool.{Bool, true, false, cond, _&&_, _||_}
+use mathlib.Core.Bool.{Bool, true, false, _||_}
 use mathlib.Core.Logic.{_⊎_, inl, inr}
 use mathlib.Core.List.{List, map-id, flatMap}
 use mathlib.Core.Option.{Option, none, some}
-use Prim.Native.Nat.{ℕ, _-_, _<_, min}
+use Prim.Native.Nat.{ℕ, _<_, min}
 use native.Mathlib.Nat.{add-zero, min-eq-left}
 use native.Mathlib.Omega.{arith}
 use lib.IntN.{ℤ, pos, natAbs}
-use lib.ListN.{length, length-map}
+use lib.ListN.{length}
 use Rattle.lists.specs.Tests.{same}
 use Rattle.lists.proofs.Bools.{which, same-true, same-eq, or-true}
 use Rattle.lists.proofs.Keeps.{keep-all}
 use Rattle.lists.proofs.Members.{map-cong}
 use Rattle.map.specs.declared.Head.{Head}
-use Rattle.map.specs.Rows.{Node, Edge, Map, mapOf, edge, filled, nodeCells, edgeCells, headOf, atNodes}
-use Rattle.map.specs.Darts.{edgeEnds}
+use Rattle.map.specs.Rows.{Node, Edge, Map, mapOf, filled, nodeCells, edgeCells, atNodes}
 use Rattle.map.specs.Links.{unlinkEdge, redirect}
-use Rattle.map.specs.Edits.{withFace, isEither, undrawn, withSides, renamed, renamedNode, renamedFaces}
+use Rattle.map.specs.Edits.{withFace, undrawn, withSides, renamed, renamedNode, renamedFaces}
 use Rattle.tables.specs.Tables.{edgeAt}
-use Rattle.tables.proofs.Rows.{nodes-length, edges-length, faces-length}
 use Rattle.ranges.specs.Ranges.{lent}
 use Rattle.answers.specs.declared.Done.{Done}
 use Rattle.answers.specs.Outcomes.{Formed}
-use Rattle.redraws.specs.Holds.{Undrawn, undrawnHead}
+use Rattle.redraws.specs.Holds.{Undrawn}
+use Rattle.redraws.proofs.Removed.{undrawn-head}
 use Rattle.face_edits.specs.Holds.{facesIn, Holds, faceKept, healed}
-use Rattle.face_edits.proofs.Formed.{formed-held}
-use Rattle.face_edits.proofs.Healed.{healed-map}
+use Rattle.face_edits.proofs.Formed.{formed-held, holds-before}
+use Rattle.face_edits.proofs.Healed.{healed-map, healed-nodes-long, healed-edges-long, healed-number}
 use Rattle.removals.specs.Cleared.{Cleared, cleared, valueLeft}
-use Rattle.removals.proofs.Heal.{nodes-long, edges-long, number-is}
 
 -- ---- the edge undrawn
-
--- an edge less, and nothing else in the head
-head-is : (k g : ℕ) (m : Map) {h : Head} → headOf m ≡ h → length (undrawn k g m .edges) ≡ natAbs (h .edges) - 1 → headOf (undrawn k g m) ≡ undrawnHead h
-unfolding undrawn atNodes unlinkEdge redirect
-head-is k g m e fewer =
-    let bare : Node → Bool = λ x. isEither (edge m k .start) (edge m k .end) x && same (edgeEnds (unlinkEdge k m) (x .number)) 0 in
-    λ j.
-    record {
-      nodes = (ap pos (length-map (m .nodes) (λ (x : Node). cond (bare x) (withFace (some g) x) x)) ∙ ap (λ (x : Head). x .nodes) e) j;
-      edges = pos (fewer j);
-      faces = e j .faces;
-      «next_node» = e j .«next_node»;
-      «next_edge» = e j .«next_edge»;
-      «next_face» = e j .«next_face»;
-    }
 
 same-faces : (k g : ℕ) (m : Map) → undrawn k g m .faces ≡ m .faces
 unfolding undrawn atNodes unlinkEdge redirect
@@ -61,7 +44,7 @@ module _ {nodes edges faces nodes₁ edges₁ faces₁ : List ℤ} {m : Map} {h�
         node-cells = ap₂ (λ (n : ℕ) (x : Map). filled n (flatMap nodeCells (x .nodes))) (sym nodes-same) same ∙ u .node-cells faces₁;
         edge-cells = ap₂ (λ (n : ℕ) (x : Map). filled n (flatMap edgeCells (x .edges))) (sym edges-same) same ∙ u .edge-cells faces₁;
         face-cells = ap (facesIn (length faces)) (same-faces k g m) ∙ before .face-cells;
-        head = head-is k g m (before .head) (ap (λ (x : Map). length (x .edges)) same ∙ u .edges-left faces₁) ∙ sym (u .head);
+        head = undrawn-head k g m (before .head) (ap (λ (x : Map). length (x .edges)) same ∙ u .edges-left faces₁) ∙ sym (u .head);
       }
 
 -- ---- one face on both sides: nothing is healed
@@ -109,37 +92,17 @@ module _ {nodes edges faces : List ℤ} {h : Head} (f : Formed nodes edges faces
   abbrev row : Edge
   row = edgeAt edges i
 
-  holds-before : Holds nodes edges faces whole nodes edges faces h
-  unfolding mapOf
-  holds-before =
-      let d = formed-held f in
-      record {
-        node-cells = d .node-cells;
-        edge-cells = d .edge-cells;
-        face-cells = d .face-table .cells;
-        head =
-            λ j.
-            record {
-              nodes = (ap pos (nodes-length nodes (natAbs (h .nodes))) ∙ sym (d .nodes-count)) j;
-              edges = (ap pos (edges-length edges (natAbs (h .edges))) ∙ sym (d .edges-count)) j;
-              faces = (ap pos (faces-length faces (natAbs (h .faces))) ∙ sym (d .faces-count)) j;
-              «next_node» = sym (d .next-node) j;
-              «next_edge» = sym (d .next-edge) j;
-              «next_face» = sym (d .next-face) j;
-            };
-      }
-
   pub cleared-one : row .left ≡ row .right → makes ≡ false → {face : ℤ} {nodes′ edges′ : List ℤ} {h′ : Head} → face ≡ pos (row .left) → Undrawn nodes edges h i face nodes′ edges′ h′
       → Holds nodes edges faces (cleared makes row whole) nodes′ edges′ faces h′
   cleared-one one kept {face} {nodes′} {edges′} {h′} ef u =
       let same : undrawn (row .number) (row .left) whole ≡ cleared false row whole = ap₂ (undrawn (row .number)) (sym (lower-is row one)) (sym (unhealed row one whole)) in
-      subst (λ (x : Map). Holds nodes edges faces x nodes′ edges′ faces h′) (same ∙ ap (λ (b : Bool). cleared b row whole) (sym kept)) (holds-undrawn holds-before refl refl refl i (row .number) refl ef u)
+      subst (λ (x : Map). Holds nodes edges faces x nodes′ edges′ faces h′) (same ∙ ap (λ (b : Bool). cleared b row whole) (sym kept)) (holds-undrawn (holds-before f) refl refl refl i (row .number) refl ef u)
 
   pub cleared-two : i < natAbs (h .edges) → {nodes₁ edges₁ faces₁ : List ℤ} {h₁ : Head} → Holds nodes edges faces (healed makes row whole) nodes₁ edges₁ faces₁ h₁
       → {face : ℤ} {nodes′ edges′ : List ℤ} {h′ : Head} → face ≡ pos (faceKept makes row whole) → Undrawn nodes₁ edges₁ h₁ i face nodes′ edges′ h′
       → Holds nodes edges faces (cleared makes row whole) nodes′ edges′ faces₁ h′
   cleared-two t {nodes₁} {edges₁} {faces₁} {h₁} after ef u =
-      holds-undrawn after (healed-map (formed-held f) row makes nodes₁ edges₁ faces₁ h₁ after) (nodes-long f row makes after) (edges-long f row makes after) i (row .number) (number-is f row makes after i t) ef u
+      holds-undrawn after (healed-map (formed-held f) row makes nodes₁ edges₁ faces₁ h₁ after) (healed-nodes-long (formed-held f) row makes nodes₁ edges₁ faces₁ h₁ after) (healed-edges-long (formed-held f) row makes nodes₁ edges₁ faces₁ h₁ after) i (row .number) (healed-number (formed-held f) row makes nodes₁ edges₁ faces₁ h₁ after i t) ef u
 
   -- what a call left and answered
   pub cleared-as : {nodes′ edges′ faces′ : List ℤ} {h′ : Head} {v : ℤ} {r : Done} → r ≡ record { head = h′; answer = record { refusal = 0; value = v } } → Holds nodes edges faces (cleared makes row whole) nodes′ edges′ faces′ h′ → v ≡ valueLeft makes row whole

@@ -6,17 +6,18 @@ use mathlib.Core.List.{List}
 use Prim.Native.Nat.{ℕ, zero, suc, _+_, _<_, _≤_}
 use native.Mathlib.Nat.{le-of-lt, le-antisymm, eq-or-lt-of-le}
 use native.Mathlib.Omega.{arith}
-use lib.IntN.{ℤ, pos, negsuc}
+use lib.IntN.{ℤ, pos, negsuc, natAbs}
 use lib.ListN.{length, getD, set, length-set}
-use lib.Dec.{T, ltb, leb, ltb→lt, le→leb}
+use lib.Dec.{T, eqb, ltb, leb, ltb→lt, le→leb}
 use lib.Signed.{ltZ, leZ, <ℤ-≤ℤ-trans, <ℤ-irrefl, ≤ℤ-refl}
-use borrow.Author.Tests.{leb-true, ltb-true, ltb-false, lt-ltb}
+use borrow.Author.Tests.{eqb-true, eqb-false, leb-true, ltb-true, ltb-false, lt-ltb}
 use mir.Syntax.{w64}
 use mir.Val.{ofZ, toZ, SFits}
 use mir.Facts.{toZ-ofZ}
 use Rattle.lists.specs.Scans.{linked}
 use Rattle.lists.specs.Tables.{table}
-use Rattle.lists.proofs.Bools.{T→≡, ≡→T, not-true, which}
+use Rattle.lists.specs.Tests.{same}
+use Rattle.lists.proofs.Bools.{T→≡, ≡→T, not-true, which, same-true, differ}
 use Rattle.curves.proofs.Runs.{and-left, and-right}
 use Rattle.tables.specs.Tables.{sameZ, replaceAt}
 
@@ -66,6 +67,18 @@ greater (negsuc a) (negsuc b) h n = let g = ltb-false b a h in lt-ltb a b (⊎-e
 -- two words are one exactly where their numbers are
 pub word-is : {a b : ℤ} → SFits w64 a → SFits w64 b → ofZ w64 a ≡ ofZ w64 b → a ≡ b
 word-is f g e = sym (toZ-ofZ {w = w64} f) ∙ ap (toZ w64) e ∙ toZ-ofZ {w = w64} g
+
+pub word-test : {a b : ℤ} → SFits w64 a → SFits w64 b → eqb (ofZ w64 a) (ofZ w64 b) ≡ sameZ a b
+word-test {a} {b} f g =
+    elim (which (eqb (ofZ w64 a) (ofZ w64 b))) [
+      | inl e ↦ e ∙ sym (is-same a b (word-is f g (eqb-true (ofZ w64 a) (ofZ w64 b) e)))
+      | inr e ↦ e ∙ sym (not-same a b (λ q. eqb-false (ofZ w64 a) (ofZ w64 b) e (ap (ofZ w64) q)))
+    ]
+
+-- numbers that are not negative
+pub same-pos : (m k : ℕ) → sameZ (pos m) (pos k) ≡ same m k
+same-pos m k =
+    elim (which (same m k)) [ inl e ↦ is-same (pos m) (pos k) (ap pos (same-true m k e)) ∙ sym e | inr e ↦ not-same (pos m) (pos k) (λ q. differ m k e (ap natAbs q)) ∙ sym e ]
 
 pub lt-or-ge : (a b : ℕ) → (a < b) ⊎ (b ≤ a)
 lt-or-ge a b = elim (which (ltb a b)) [ inl e ↦ inl (ltb-true a b e) | inr e ↦ inr (ltb-false a b e) ]

@@ -31,7 +31,7 @@ drop-take {A} (suc k) n (x ∷ l) = ap (drop (suc k)) (ap (λ (m : ℕ). take m 
 
 -- ---- the curve of an edge row
 
-within-pos : (a b : ℕ) (z : ℤ) → within a b z ≡ true → (z ≡ pos (natAbs z)) × (a ≤ natAbs z) × (natAbs z ≤ b)
+pub within-pos : (a b : ℕ) (z : ℤ) → within a b z ≡ true → (z ≡ pos (natAbs z)) × (a ≤ natAbs z) × (natAbs z ≤ b)
 within-pos a b (pos n) h = (refl, leb-true a n (and-left (leb a n) (leb n b) h), leb-true n b (and-right (leb a n) (leb n b) h))
 within-pos a b (negsuc n) h = absurd (false≢true h)
 

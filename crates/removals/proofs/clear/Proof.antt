@@ -5,14 +5,15 @@ use lib.IntN.{pos, natAbs}
 use lib.Signed.{nonNeg}
 use mir.Syntax.{w64}
 use mir.Val.{ofZ}
-use mir.Facts.{toZ-ofZ}
+use Rattle.integers.specs.Signs.{sent}
 use Rattle.lists.proofs.Bools.{same-eq, same-false}
 use Rattle.tables.specs.Tables.{edgeAt}
 use Rattle.tables.proofs.Rows.{edge-cells}
 use Rattle.tables.proofs.Order.{word-is}
 use Rattle.redraws.proofs.Formed.{held}
-use Rattle.face_edits.proofs.Formed.{formed-healable}
-use Rattle.removals.proofs.Heal.{edge-count, healed-held}
+use Rattle.face_edits.proofs.Formed.{formed-healable, formed-held}
+use Rattle.face_edits.proofs.Healed.{healed-edge-count}
+use Rattle.removals.proofs.Heal.{healed-held}
 use Rattle.removals.proofs.Undraw.{cleared-one, cleared-two, cleared-as}
 use Rattle.removals.proofs.clear.Statement.{statement}
 use Rattle.removals.proofs.clear.Tie as tie
@@ -23,7 +24,7 @@ undraw-requires c κs =
     let s = b .before in
     let a = s .args in
     let cells = edge-cells (a .edges .now) (a .i) (s .pre .cells .ranges) in
-    record { held = held (s .pre .formed); row = s .pre .row; natural = ap nonNeg (toZ-ofZ {w = w64} (sfits-of (b .left .given)) ∙ cells .left) }
+    record { held = held (s .pre .formed); row = s .pre .row; natural = ap nonNeg (sent (b .left .given) ∙ cells .left) }
 
 returns : tie.Need-returns
 returns c =
@@ -36,7 +37,7 @@ returns c =
     let cells = edge-cells (a .edges .now) (a .i) (s .pre .cells .ranges) in
     let one : row .left ≡ row .right = ap natAbs (sym (cells .left) ∙ word-is (sfits-of (b .left .given)) (sfits-of (t .before .right .given)) (t .if1 .taken) ∙ cells .right) in
     cleared-as (s .pre .formed) (a .i) (a .makes) (c .carried .ensures)
-    (cleared-one (s .pre .formed) (a .i) (a .makes) one (s .pre .kept one) (toZ-ofZ {w = w64} (sfits-of (b .left .given)) ∙ cells .left) (u .undraw .ensures))
+    (cleared-one (s .pre .formed) (a .i) (a .makes) one (s .pre .kept one) (sent (b .left .given) ∙ cells .left) (u .undraw .ensures))
     (rw (same-eq (row .left) (row .right) one))
 
 heal-faces-requires : tie.Need-heal-faces-requires
@@ -46,7 +47,7 @@ heal-faces-requires c κs =
     let s = b .before in
     let a = s .args in
     let cells = edge-cells (a .edges .now) (a .i) (s .pre .cells .ranges) in
-    rw (toZ-ofZ {w = w64} (sfits-of (b .left .given)) ∙ cells .left, toZ-ofZ {w = w64} (sfits-of (t .before .right .given)) ∙ cells .right)
+    rw (sent (b .left .given) ∙ cells .left, sent (t .before .right .given) ∙ cells .right)
     (formed-healable (s .pre .formed) (a .i) (s .pre .row) (λ e. t .if1 .left (ap (ofZ w64) (cells .left ∙ ap pos e ∙ sym (cells .right)))))
 
 undraw-requires-2 : tie.Need-undraw-requires-2
@@ -58,11 +59,11 @@ undraw-requires-2 c κs =
     let a = s .args in
     let row = edgeAt (a .edges .now) (a .i) in
     let cells = edge-cells (a .edges .now) (a .i) (s .pre .cells .ranges) in
-    let r = g .heal-faces .ensures row (sym (ap natAbs (toZ-ofZ {w = w64} (sfits-of (b .left .given)) ∙ cells .left))) (sym (ap natAbs (toZ-ofZ {w = w64} (sfits-of (t .before .right .given)) ∙ cells .right))) in
-    let v = toZ-ofZ {w = w64} (sfits-of (c .before .before .struct-told .given .1 .0 .1 .1 .1 .0 .1)) in
+    let r = g .heal-faces .ensures row (sym (ap natAbs (sent (b .left .given) ∙ cells .left))) (sym (ap natAbs (sent (t .before .right .given) ∙ cells .right))) in
+    let v = sent (c .before .before .struct-told .given .1 .0 .1 .1 .1 .0 .1) in
     record {
       held = healed-held (s .pre .formed) row (a .makes) (r .0);
-      row = rw (edge-count (s .pre .formed) row (a .makes) (r .0)) (s .pre .row);
+      row = rw (healed-edge-count (formed-held (s .pre .formed)) row (a .makes) _ _ _ _ (r .0)) (s .pre .row);
       natural = ap nonNeg (v ∙ r .1);
     }
 
@@ -77,8 +78,8 @@ returns-2 c =
     let a = s .args in
     let row = edgeAt (a .edges .now) (a .i) in
     let cells = edge-cells (a .edges .now) (a .i) (s .pre .cells .ranges) in
-    let r = g .heal-faces .ensures row (sym (ap natAbs (toZ-ofZ {w = w64} (sfits-of (b .left .given)) ∙ cells .left))) (sym (ap natAbs (toZ-ofZ {w = w64} (sfits-of (t .before .right .given)) ∙ cells .right))) in
-    let v = toZ-ofZ {w = w64} (sfits-of (d .struct-told .given .1 .0 .1 .1 .1 .0 .1)) ∙ r .1 in
+    let r = g .heal-faces .ensures row (sym (ap natAbs (sent (b .left .given) ∙ cells .left))) (sym (ap natAbs (sent (t .before .right .given) ∙ cells .right))) in
+    let v = sent (d .struct-told .given .1 .0 .1 .1 .1 .0 .1) ∙ r .1 in
     let two = same-false (row .left) (row .right) (λ e. t .if1 .left (ap (ofZ w64) (cells .left ∙ ap pos e ∙ sym (cells .right)))) in
     cleared-as (s .pre .formed) (a .i) (a .makes) (c .carried2 .ensures)
     (cleared-two (s .pre .formed) (a .i) (a .makes) (s .pre .row) (r .0) v (u .undraw2 .ensures))

@@ -1,5 +1,5 @@
 -- `removals::remove_edge` meets its contract: the first reason turns it down, and else the edge goes. Assumes nothing.
-use borrow.Author.Needs.{needs, sfits-of}
+use borrow.Author.Needs.{needs}
 use mathlib.Core.Path.{sym, ap, _∙_}
 use mathlib.Core.Bool.{cond}
 use native.Mathlib.Omega.{arith}
@@ -7,6 +7,7 @@ use lib.IntN.{ℤ, pos}
 use mir.Syntax.{w64}
 use mir.Val.{toZ, ofZ}
 use mir.Facts.{toZ-ofZ}
+use Rattle.integers.specs.Signs.{sent}
 use Rattle.answers.proofs.Formed.{decided-refused, decided-carried}
 use Rattle.edge_reasons.specs.Kinds.{removeTicket}
 use Rattle.removals.proofs.Removal.{clearable, removed-lent, removed-value}
@@ -45,12 +46,12 @@ carried c =
     let zero = e .if1 .left in
     let l = k .clear .last in
     let v = c .before .value-of in
-    let face = toZ-ofZ {w = w64} (sfits-of (t .struct-told .given .1 .0 .1 .1 .1 .0 .1)) ∙ k .clear .ensures .value in
+    let face = sent (t .struct-told .given .1 .0 .1 .1 .1 .0 .1) ∙ k .clear .ensures .value in
     decided-carried (a .nodes .now) (a .edges .now) (a .faces .now) (a .h) (removeTicket (a .news) (a .edge)) (l .0) (l .1 .0) (l .1 .1 .0) (k .clear .result .head) (toZ w64 (ofZ w64 (v .result)))
     (c .carried .ensures)
     (sym (j .reason) ∙ zero)
     (removed-lent (s .pre) (a .news) (r .makes) (a .edge) (r .row) (j .row zero) (j .makes zero) (k .clear .ensures))
-    (removed-value (s .pre) (a .news) (r .makes) (a .edge) (r .row) (j .row zero) (j .makes zero) ∙ sym (toZ-ofZ {w = w64} (sfits-of (v .ok)) ∙ v .ensures ∙ ap (λ (z : ℤ). cond (a .news) z (pos 0)) face))
+    (removed-value (s .pre) (a .news) (r .makes) (a .edge) (r .row) (j .row zero) (j .makes zero) ∙ sym (sent (v .ok) ∙ v .ensures ∙ ap (λ (z : ℤ). cond (a .news) z (pos 0)) face))
 
 pub remove-edge-spec : {M : Type 1} → statement M
 remove-edge-spec =
