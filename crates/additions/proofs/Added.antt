@@ -27,7 +27,7 @@ use Rattle.redraws.specs.Holds.{Drawable, Drawn, drawnHead}
 use Rattle.redraws.proofs.Formed.{held}
 use Rattle.face_edits.specs.Holds.{Held, Splittable, Holds}
 use Rattle.grown.proofs.Numbers.{Outline}
-use Rattle.redraws.proofs.Words.{count-read}
+use Rattle.answers.proofs.Words.{count-read}
 use Rattle.face_edits.proofs.Formed.{held-holds, holds-lent}
 use Rattle.additions.proofs.Drawn.{drawn-held, map-is, last, splits}
 

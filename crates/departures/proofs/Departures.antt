@@ -30,14 +30,14 @@ use Rattle.map.specs.Rows.{Node, Edge, edge, hasNode, cell, faceOf}
 use Rattle.map.specs.Darts.{directed, leaves, departures, course, way}
 use Rattle.map.specs.Form.{nodeRanges, waysDiffer, departuresDiffer, bareMarked}
 use Rattle.tables.specs.Tables.{sameZ, column, rowAt, nodeAt, edgeAt, nodesOf, edgesOf, edgeMap, nodeMap, NodeRows, EdgeRows}
-use Rattle.tables.proofs.Order.{is-same, same-is, not-same}
+use Rattle.tables.proofs.Order.{is-same, same-is, not-same, same-pos}
 use Rattle.tables.proofs.Rows.{all-table, nodes-table, edges-table, rows-all, row-cell, node-cells, node-rows-rising}
 use Rattle.tables.proofs.Lookups.{node-found, node-missing, row-place}
 use Rattle.links.specs.Positions.{dartAt, sideCell, wayAt}
 use Rattle.links.proofs.Positions.{side, directed-table, cell-leaves, way-is, edge-of}
 use Rattle.departures.specs.Chains.{latest, someBelow, fromNode, alike}
 use Rattle.departures.specs.Drawn.{drawnMap}
-use Rattle.departures.proofs.Links.{all-of-table, pos-same}
+use Rattle.departures.proofs.Links.{all-of-table}
 use Rattle.departures.proofs.Chains.{latest-on, latest-off, latest-none, latest-zero, below-some, below-none}
 
 -- ---- scans of what is kept of a table
@@ -165,7 +165,7 @@ module _ {nodes : List ℤ} {r : ℕ} {l : List ℤ} {n : ℕ} (s : NodeRows nod
 
   -- the test of a node's departures
   from-is : (i : ℕ) → i < r → (p : ℕ) → p < n * 2 → fromNode l (getD nodes (i * nodeWidth) (pos 0)) p ≡ same (leaves (drawnMap nodes r l n) (dartAt l p)) (nodeAt nodes i .number)
-  from-is i k p h = ap₂ sameZ (leaves-at p h) (node-cell i k) ∙ pos-same (leaves (drawnMap nodes r l n) (dartAt l p)) (nodeAt nodes i .number)
+  from-is i k p h = ap₂ sameZ (leaves-at p h) (node-cell i k) ∙ same-pos (leaves (drawnMap nodes r l n) (dartAt l p)) (nodeAt nodes i .number)
 
   -- two that leave one node
   together : (x p q : ℕ) → p < n * 2 → q < n * 2 → same (leaves (drawnMap nodes r l n) (dartAt l p)) x ≡ true → same (leaves (drawnMap nodes r l n) (dartAt l q)) x ≡ true → fromNode l (sideCell l q 1) p ≡ true

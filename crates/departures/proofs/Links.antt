@@ -6,7 +6,7 @@ use mathlib.Core.List.{List, [], _∷_, map, List·Memᴰ, List·Memᴰ·head, L
 use Prim.Native.Nat.{ℕ, zero, suc, _+_, _*_, _<_, _≤_}
 use native.Mathlib.Nat.{eq-or-lt-of-le}
 use native.Mathlib.Omega.{arith}
-use lib.IntN.{ℤ, pos, natAbs}
+use lib.IntN.{ℤ, pos}
 use lib.ListN.{length, getD, set, replicate, length-set, length-replicate}
 use lib.Seq.{getD-set-same, getD-set-other}
 use borrow.Author.Count.{below-more}
@@ -14,7 +14,7 @@ use Rattle.lists.specs.Tests.{same, bit}
 use Rattle.lists.specs.Scans.{all, count}
 use Rattle.lists.specs.Members.{Distinct}
 use Rattle.lists.specs.Tables.{table}
-use Rattle.lists.proofs.Bools.{which, same-true, same-eq, differ, not-true, equal?}
+use Rattle.lists.proofs.Bools.{which, same-true, same-eq, not-true, equal?}
 use Rattle.lists.proofs.Counts.{count-perm}
 use Rattle.lists.proofs.Perms.{perm-of-injective}
 use Rattle.curves.proofs.Runs.{and-left, and-right}
@@ -25,7 +25,7 @@ use Rattle.map.specs.Rows.{Map}
 use Rattle.map.specs.Darts.{directed, leaves, arrives, next, bears}
 use Rattle.map.specs.Form.{linksOnce, linksMeet, ringsBearOne}
 use Rattle.tables.specs.Tables.{sameZ, edgeMap, EdgeRows}
-use Rattle.tables.proofs.Order.{is-same, not-same, lt-or-ge}
+use Rattle.tables.proofs.Order.{lt-or-ge, same-pos}
 use Rattle.tables.proofs.Rows.{map-table, all-table}
 use Rattle.links.specs.Positions.{reverseOf, dartAt, sideCell}
 use Rattle.links.proofs.Positions.{directed-table, dart-injective, position-in, next-there, cell-leaves, cell-arrives, cell-bears}
@@ -100,9 +100,6 @@ stands-once (c ∷ l) dis d m =
 
 -- ---- the links
 
-pub pos-same : (a b : ℕ) → sameZ (pos a) (pos b) ≡ same a b
-pos-same a b = elim (which (same a b)) [ inl e ↦ is-same (pos a) (pos b) (ap pos (same-true a b e)) ∙ sym e | inr e ↦ not-same (pos a) (pos b) (λ q. differ a b e (ap natAbs q)) ∙ sym e ]
-
 -- the next of p leaves the node where p arrives, and bears its face
 abbrev pub meets : List ℤ → ℕ → ℕ → Bool
 meets l n p = same (leaves (edgeMap l n) (next (edgeMap l n) (dartAt l p))) (arrives (edgeMap l n) (dartAt l p))
@@ -140,8 +137,8 @@ module _ {l : List ℤ} {n : ℕ} (t : EdgeRows l n) where
       → (sameZ (sideCell l q 1) (sideCell l (reverseOf p) 1) && sameZ (sideCell l q 5) (sideCell l p 5)) ≡ (meets l n p && keeps l n p)
   columns-fit p q h k e =
       let m = edgeMap l n in
-      let a : sameZ (sideCell l q 1) (sideCell l (reverseOf p) 1) ≡ meets l n p = ap₂ sameZ (cell-leaves t q k ∙ ap (λ (d : Dart). pos (leaves m d)) e) (cell-arrives t p h) ∙ pos-same (leaves m (next m (dartAt l p))) (arrives m (dartAt l p)) in
-      let b : sameZ (sideCell l q 5) (sideCell l p 5) ≡ keeps l n p = ap₂ sameZ (cell-bears t q k ∙ ap (λ (d : Dart). pos (bears m d)) e) (cell-bears t p h) ∙ pos-same (bears m (next m (dartAt l p))) (bears m (dartAt l p)) in
+      let a : sameZ (sideCell l q 1) (sideCell l (reverseOf p) 1) ≡ meets l n p = ap₂ sameZ (cell-leaves t q k ∙ ap (λ (d : Dart). pos (leaves m d)) e) (cell-arrives t p h) ∙ same-pos (leaves m (next m (dartAt l p))) (arrives m (dartAt l p)) in
+      let b : sameZ (sideCell l q 5) (sideCell l p 5) ≡ keeps l n p = ap₂ sameZ (cell-bears t q k ∙ ap (λ (d : Dart). pos (bears m d)) e) (cell-bears t p h) ∙ same-pos (bears m (next m (dartAt l p))) (bears m (dartAt l p)) in
       ap₂ _&&_ a b
 
   directed-distinct : Distinct (directed (edgeMap l n))

@@ -1,45 +1,40 @@
 -- The first reason of kinds 11 and 12 from its parts, on tables in form. Assumes nothing.
 use mathlib.Core.Path.{_≡_, refl, sym, ap, ap₂, _∙_}
-use mathlib.Core.Bool.{Bool, true, false, _&&_, _||_, true≢false}
-use mathlib.Core.List.{List, [], _∷_, _++_, map}
+use mathlib.Core.Bool.{Bool, true, false, _||_, true≢false}
+use mathlib.Core.List.{List, [], _∷_, _++_}
 use Prim.Native.Nat.{ℕ, suc, _+_, _/_, _<_, _≤_}
 use native.Mathlib.Omega.{arith}
 use lib.Dec.{ltb, lit<}
-use lib.IntN.{ℤ, pos, negsuc, natAbs}
+use lib.IntN.{ℤ, pos, natAbs}
 use lib.ListN.{length}
 use lib.Signed.{nonNeg}
 use borrow.Author.Tests.{not-false, ltb-false}
-use Rattle.lists.specs.Tests.{same, bit}
-use Rattle.lists.specs.Scans.{all}
+use Rattle.lists.specs.Tests.{bit}
 use Rattle.lists.specs.Tables.{place}
 use Rattle.lists.proofs.Bools.{or-right}
-use Rattle.lists.specs.declared.Found.{Found}
 use Rattle.lists.specs.declared.Found.the-variants.{At, Missing}
 use mathlib.Core.Option.{some}
 use Rattle.plane.specs.Directions.{Way}
 use Rattle.curves.specs.Curves.{Run, isRun, curveOf, startWay}
-use Rattle.curves.proofs.Runs.{and-left, and-right}
 use Rattle.map.specs.declared.Head.{Head}
 use Rattle.map.specs.Limits.{nodeWidth, lastNumber}
 use Rattle.map.specs.Rows.{Map, Sizes, mapOf, sizesOf, findNode}
-use Rattle.map.specs.Form.{formed, numbers, numbered, named, curveFits, departuresDiffer, bareMarked, linksOnce, linksMeet, ringsBearOne}
 use Rattle.map.specs.Links.{cornerFace}
 use Rattle.map.specs.Edits.{splitsFace}
-use Rattle.map.specs.Reasons.{Reasons, firstReason, reasons, curveReasons, noNode, full, spent}
+use Rattle.map.specs.Reasons.{firstReason, reasons, noNode, full, spent}
 use Rattle.map.proofs.Laws.{formed-is}
-use Rattle.tables.specs.Tables.{sameZ, column, nodeAt, NodeRows, EdgeRows}
-use Rattle.tables.proofs.Lookups.{node-found, node-missing}
-use Rattle.lists.specs.Scans.{firstOr}
+use Rattle.tables.specs.Tables.{sameZ, column, nodeAt}
+use Rattle.tables.proofs.Lookups.{node-found}
 use Rattle.ranges.specs.Ranges.{lent}
 use Rattle.answers.specs.Outcomes.{Formed}
-use Rattle.answers.proofs.Formed.{ranges, formed-map, nodes-count, edges-count, faces-count, edge-next, face-next, nodes-size, edges-size, faces-size, node-rows, edge-rows, full-is, spent-is, nodes-room, node-left, numbers-rise}
+use Rattle.answers.proofs.Formed.{ranges, formed-map, nodes-count, edges-count, faces-count, edge-next, face-next, nodes-size, edges-size, faces-size, node-rows, edge-rows, full-is, spent-is, nodes-room, node-left, numbers-rise, node-none}
 use Rattle.conditions.proofs.Reasons.{first-hit, first-miss, first-zero, first-append, first-after}
 use Rattle.faces.specs.Corners.{cornerCell}
 use Rattle.faces.proofs.Corners.{corner-in-form}
 use Rattle.edge_reasons.specs.declared.Judged.{Judged}
 use Rattle.edge_reasons.specs.Kinds.{addTicket}
 use Rattle.edge_reasons.specs.Parts.{drawingReasons, growthReasons, roomReasons, makesSecond}
-use Rattle.edge_reasons.specs.Judging.{Counted, Held, Known, JudgedRows, JudgedAdd}
+use Rattle.edge_reasons.specs.Judging.{Counted, Held, JudgedRows, JudgedAdd}
 
 -- none of three tests holds
 none-of : (a b c : Bool) → a || b || c ≡ false → (b ≡ false) × (c ≡ false)
@@ -53,10 +48,6 @@ room-told l fs more ex ey e = sym (λ i. ltb (length l / 32) (ex i + 1) || ltb (
 
 pub spent-told : (more : ℕ) {a b x y : ℕ} {v : Bool} → x ≡ a → y ≡ b → ltb 1000000 (x + 1) || ltb 1000000 (y + more) ≡ v → ltb 1000000 (a + 1) || ltb 1000000 (b + more) ≡ v
 spent-told more ex ey e = sym (λ i. ltb 1000000 (ex i + 1) || ltb 1000000 (ey i + more)) ∙ e
-
--- the place of the number as it was passed
-pub place-told : (w : ℕ) (l : List ℤ) {a n : ℕ} {u z : ℤ} {r v : Found} → a ≡ n → u ≡ z → r ≡ place (sameZ u) 0 (column w l a) → r ≡ v → place (sameZ z) 0 (column w l n) ≡ v
-place-told w l ea eu er ev = sym (λ j. place (sameZ (eu j)) 0 (column w l (ea j))) ∙ sym er ∙ ev
 
 module _ {nodes edges faces : List ℤ} {h : Head} (f : Formed nodes edges faces h) where
   abbrev m : Map
@@ -152,13 +143,8 @@ module _ {nodes edges faces : List ℤ} {h : Head} (f : Formed nodes edges faces
   parts true u v sent = refl
   parts false u v sent = refl
 
-  pub node-none : (z : ℤ) → place (sameZ z) 0 (column nodeWidth nodes (natAbs (h .nodes))) ≡ Missing → noNode m z ≡ true
-  unfolding mapOf
-  node-none (pos k) e = rw (node-missing nodes (natAbs (h .nodes)) (ranges f .node-rows) k e)
-  node-none (negsuc k) e = refl
-
   pub end-none : (u v : ℤ) → place (sameZ v) 0 (column nodeWidth nodes (natAbs (h .nodes))) ≡ Missing → noNode m u || noNode m v ≡ true
-  end-none u v e = or-right (noNode m u) (noNode m v) (node-none v e)
+  end-none u v e = or-right (noNode m u) (noNode m v) (node-none f v e)
 
   pub add-missing : (news : Bool) (u v : ℤ) (sent : List ℤ) {r : Judged} → noNode m u || noNode m v ≡ true → r .reason ≡ 4 → JudgedAdd news nodes edges faces h u v sent r
   add-missing news u v sent e er =

@@ -2,17 +2,17 @@
 use mathlib.Core.Path.{_≡_, refl, sym, ap, _∙_, subst}
 use mathlib.Core.Bool.{Bool, true, false, cond, not, _&&_, _||_}
 use mathlib.Core.List.{List, [], _∷_, _++_, flatMap}
-use Prim.Native.Nat.{ℕ, _+_, _*_, _-_, _≤_, _<_}
+use Prim.Native.Nat.{ℕ, _+_, _*_, _-_, _<_}
 use native.Mathlib.Nat.{add-zero}
 use native.Mathlib.Omega.{arith}
 use lib.IntN.{ℤ, pos, natAbs}
 use lib.ListN.{length, length-append, length-map}
-use lib.Dec.{lit≤}
 use lib.Signed.{nonNeg}
 use Rattle.integers.specs.Order.{sgn}
-use Rattle.lists.specs.Tests.{same, bit}
+use Rattle.lists.specs.Tests.{same}
 use Rattle.lists.specs.Scans.{any, keep}
 use Rattle.lists.proofs.Bools.{≡→T}
+use Rattle.lists.proofs.Counts.{bit-most}
 use Rattle.plane.specs.Areas.{isPositive}
 use Rattle.planar.specs.Map.{Dart, fwd, bwd}
 use Rattle.map.specs.declared.Head.{Head}
@@ -27,14 +27,11 @@ use Rattle.links.proofs.Positions.{dart-even, dart-odd, edge-of}
 use Rattle.ranges.specs.Ranges.{lent}
 use Rattle.sharing.specs.declared.Sides.{Sides}
 use Rattle.sharing.specs.Sharing.{Shared}
+use Rattle.answers.proofs.Words.{is-natural}
 use Rattle.face_edits.specs.Holds.{facesIn, FaceTable, withoutFace, Splittable, Holds, sharesIn, sidesOf, splitFaces, splitHead}
-use Rattle.face_edits.proofs.Words.{is-natural, natural-either}
+use Rattle.face_edits.proofs.Words.{natural-either}
 use Rattle.face_edits.proofs.FaceRows.{table-distinct, without-length}
 use Rattle.face_edits.proofs.Shares.{ring-any}
-
-bit-most : (b : Bool) → bit b ≤ 1
-bit-most true = lit≤ tt
-bit-most false = lit≤ tt
 
 -- one face more
 one-more : (goes : Bool) (o a n : ℕ) {N : ℕ} {fs : List ℕ} {t : List ℤ} → FaceTable N fs t → length fs ≡ n → any (same o) fs ≡ true → length (splitFaces goes o a fs) ≡ n + 1

@@ -1,11 +1,11 @@
 -- The corner face as the numbers of the tables show it is that of the map which they hold. Assumes nothing.
 use mathlib.Core.Path.{_≡_, refl, sym, ap, ap₂, _∙_}
-use mathlib.Core.Bool.{Bool, true, false, not, _&&_, false≢true, Bool·beq}
+use mathlib.Core.Bool.{Bool, true, false, not, _&&_, Bool·beq}
 use mathlib.Core.List.{List, [], _∷_, map, List·Memᴰ}
 use mathlib.Core.Option.{Option, Option·getD}
 use Prim.Native.Nat.{ℕ, _+_, _*_, _<_}
 use native.Mathlib.Omega.{arith}
-use lib.IntN.{ℤ, pos, negsuc}
+use lib.IntN.{ℤ, pos}
 use lib.ListN.{length, getD}
 use Rattle.lists.specs.Tests.{same}
 use Rattle.lists.specs.Scans.{all, isSome, keep}
@@ -16,23 +16,25 @@ use Rattle.lists.proofs.Keeps.{keep-in}
 use Rattle.plane.specs.Directions.{Way}
 use Rattle.curves.specs.Curves.{Run, curveOf, startWay, endWay}
 use Rattle.curves.specs.Edits.{course}
-use Rattle.curves.proofs.Reverses.{end-way}
 use Rattle.planar.specs.Map.{Dart}
+use Rattle.curves.proofs.Reverses.{end-way}
 use Rattle.rotation.specs.Law.{firstClockwise}
 use Rattle.map.specs.Limits.{nodeWidth}
-use Rattle.map.specs.Rows.{Node, Edge, Map, node, edge, faceOf}
+use Rattle.map.specs.Rows.{Node, Edge, Map, node, edge}
 use Rattle.map.specs.Form.{nodeRanges, bareMarked}
 use Rattle.map.specs.Darts.{leaves, bears, course as courseOf, way, departures, edgeEnds}
 use Rattle.map.specs.Links.{cornerOf, cornerFace}
 use Rattle.map.specs.Reasons.{cornersDiffer}
+use Rattle.map.proofs.RoundTrip.{face-pos}
 use Rattle.tables.specs.Tables.{sameZ, column, nodesOf, edgesOf, nodeAt, edgeMap, NodeRows, EdgeRows}
 use Rattle.tables.proofs.Rows.{NodeCells, node-cells, rows-all, all-table, nodes-table, node-rows-rising}
 use Rattle.tables.proofs.Lookups.{row-place, node-found}
+use Rattle.tables.proofs.Order.{same-pos}
 use Rattle.links.specs.Positions.{dartAt, wayAt, wayWith}
 use Rattle.links.proofs.Positions.{half-below, cell-bears}
 use Rattle.linking.specs.Linking.{positions, leavesNode, leaving, firstMet}
 use Rattle.linking.proofs.FirstMet.{met-same, met-in, leaving-below, position-below, keep-same, with-none}
-use Rattle.linking.proofs.Departures.{same-pos, departures-map, met-found}
+use Rattle.linking.proofs.Departures.{departures-map, met-found}
 use Rattle.faces.specs.Corners.{cornerBy, cornerCell}
 
 -- ---- the first departure met
@@ -68,11 +70,6 @@ module _ (l : List ℤ) (n : ℕ) (m : Map) (E : m .edges ≡ edgesOf l n) (k : 
   unfolding bears way courseOf edge
   corner-alone v d ds = ap (λ (es : List Edge). bears (alone es) (firstClockwise (way (alone es)) v d (d ∷ ds))) E
 
--- a containing face as it is written
-face-written : (z : ℤ) → isSome (faceOf z) ≡ true → z ≡ pos (Option·getD (faceOf z) 0)
-face-written (pos f) h = refl
-face-written (negsuc f) h = absurd (false≢true h)
-
 -- ---- the corner face
 
 module _ {nodes : List ℤ} {r : ℕ} {l : List ℤ} {n : ℕ} (s : NodeRows nodes r) (t : EdgeRows l n) (m : Map) (N : m .nodes ≡ nodesOf nodes r) (E : m .edges ≡ edgesOf l n) where
@@ -98,7 +95,7 @@ module _ {nodes : List ℤ} {r : ℕ} {l : List ℤ} {n : ℕ} (s : NodeRows nod
     corner-by : (v : Way) (ds : List ℕ) → ((p : ℕ) → List·Memᴰ p ds → p < n * 2) → (ds ≡ [] → isSome (nodeAt nodes i .face) ≡ true) → cornerBy nodes i l (firstMet (wayAt l) v ds) ≡ pos (cornerOf m number v (map (dartAt l) ds))
     corner-by v [] below face =
         let e = cells .face in
-        face-written (getD nodes (i * nodeWidth + 3) (pos 0)) (ap isSome e ∙ face refl) ∙ ap (λ (f : Option ℕ). pos (Option·getD f 0)) (e ∙ ap (λ (x : Node). x .face) (sym node-is))
+        face-pos (getD nodes (i * nodeWidth + 3) (pos 0)) (ap isSome e ∙ face refl) ∙ ap (λ (f : Option ℕ). pos (Option·getD f 0)) (e ∙ ap (λ (x : Node). x .face) (sym node-is))
     corner-by v (p ∷ ps) below face =
         let q = firstClockwise (wayAt l) v p (p ∷ ps) in
         cell-bears t q (below q (met-in (wayAt l) v (p ∷ ps) q refl))

@@ -1,7 +1,7 @@
 -- The curve of a directed edge as numbers: a run, from which the curve is read again. Assumes nothing.
 use mathlib.Core.Path.{_≡_, refl, sym, ap, _∙_}
 use mathlib.Core.Bool.{Bool, true, false}
-use mathlib.Core.List.{List, [], _∷_, _++_}
+use mathlib.Core.List.{List, _++_}
 use Prim.Native.Nat.{ℕ, zero, suc, _+_, _*_, _-_, _/_, _≤_}
 use native.Mathlib.Omega.{arith}
 use lib.IntN.{ℤ, pos}
@@ -13,7 +13,7 @@ use Rattle.lists.specs.Tables.{table}
 use Rattle.lists.proofs.Scans.{length-table}
 use Rattle.plane.specs.declared.Point.{Point}
 use Rattle.plane.specs.Points.{InRange, maxCoordinate}
-use Rattle.curves.specs.Curves.{Curve, Run, isRun, points, pointAt, pointsOf, curveOf, coordinates, coordinate, maxPoints}
+use Rattle.curves.specs.Curves.{Curve, Run, isRun, points, pointAt, curveOf, coordinates, coordinate, maxPoints}
 use Rattle.curves.specs.Edits.{course, reversed}
 use Rattle.curves.proofs.Runs.{two-points, few-points, point-in}
 use Rattle.cutting.specs.declared.Line.{Line}
@@ -98,13 +98,3 @@ module _ {ps : List Point} (k : Listed ps) where
 
     pub line-curve : curveOf (take (x .count * 2 - 0) (x .cells)) ≡ curveOf (coordinates ps)
     line-curve = ap curveOf line-part
-
--- ---- read again
-
-read-again : (ps : List Point) → pointsOf (coordinates ps) ≡ ps
-read-again [] = refl
-read-again (p ∷ ps) = ap (λ (r : List Point). p ∷ r) (read-again ps)
-
-pub curve-again : (c : Curve) → curveOf (coordinates (points c)) ≡ c
-unfolding curveOf
-curve-again c = ap (λ (r : List Point). record { first = c .first; rest = r }) (read-again (c .rest))

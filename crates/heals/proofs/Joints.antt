@@ -17,9 +17,9 @@ use Rattle.map.specs.Rows.{Edge, Map, edge}
 use Rattle.map.specs.Darts.{leaves, arrives, edgeEnds}
 use Rattle.map.specs.Edits.{sharedNodes, joint, parts}
 use Rattle.tables.specs.Tables.{sameZ, edgeAt, edgeMap, EdgeRows}
+use Rattle.tables.proofs.Order.{same-pos}
 use Rattle.links.specs.Positions.{dartAt}
 use Rattle.links.proofs.Positions.{dart-even, dart-odd, edge-of}
-use Rattle.linking.proofs.Departures.{same-pos}
 use Rattle.turning.specs.Turning.{joinsAt}
 use Rattle.turning.proofs.Ends.{start-cell, end-cell}
 use Rattle.heals.specs.Heals.{leavingAt, arrivingAt, PartsOf}

@@ -1,7 +1,6 @@
--- `Words`: counts and next numbers as words. `Sides`: the row of a reverse, the place of a number. `Lists`: a list with one row less. `Joints`: the
+-- `Sides`: the row of a reverse, the place of a number. `Lists`: a list with one row less. `Joints`: the
 -- joint and the two directed edges. `Courses`: their curves as numbers. `Renamed`: links renamed in a table and in the map. `Placed`: the healed row
 -- in its place. `Told`: the first reason from its parts. `Healed`: what is lent after a heal.
-pub mod Words
 pub mod Sides
 pub mod Lists
 pub mod Joints

@@ -5,28 +5,25 @@ use mathlib.Core.List.{List, [], _∷_, _++_}
 use Prim.Native.Nat.{ℕ, suc, _+_, _≤_, _<_}
 use native.Mathlib.Omega.{arith}
 use lib.Dec.{ltb, lit<}
-use lib.IntN.{ℤ, pos, negsuc, natAbs}
+use lib.IntN.{ℤ, pos, natAbs}
 use lib.ListN.{length}
 use borrow.Author.Tests.{not-false, ltb-false}
 use Rattle.lists.specs.Tests.{same}
 use Rattle.lists.specs.Scans.{isSome}
-use Rattle.lists.specs.Tables.{place}
-use Rattle.lists.specs.declared.Found.the-variants.{Missing}
 use Rattle.lists.proofs.Bools.{differ, eq1}
 use Rattle.curves.specs.Curves.{points, maxPoints}
 use Rattle.map.specs.declared.Head.{Head}
-use Rattle.map.specs.Limits.{edgeWidth, lastNumber}
+use Rattle.map.specs.Limits.{lastNumber}
 use Rattle.map.specs.Rows.{Map, mapOf, sizesOf, edge}
 use Rattle.map.specs.Darts.{departures, leaves, course}
 use Rattle.map.specs.Edits.{sharedNodes, joint, parts, healedCurve}
 use Rattle.map.specs.Reasons.{Reasons, firstReason, reasons, noEdge, spent}
-use Rattle.tables.specs.Tables.{sameZ, column, edgeAt, edgeMap}
-use Rattle.tables.proofs.Lookups.{edge-missing}
+use Rattle.tables.specs.Tables.{edgeAt, edgeMap}
 use Rattle.linking.proofs.Darts.{row-named}
 use Rattle.turning.specs.Turning.{jointReasons}
 use Rattle.ranges.specs.Ranges.{lent}
 use Rattle.answers.specs.Outcomes.{Formed}
-use Rattle.answers.proofs.Formed.{ranges, edge-rows, nodes-count, nodes-size, edges-count, edges-size, edge-next, spent-is, node-left, face-left}
+use Rattle.answers.proofs.Formed.{edge-rows, nodes-count, nodes-size, edges-count, edges-size, edge-next, spent-is, node-left, face-left}
 use Rattle.conditions.proofs.Reasons.{first-hit, first-miss, first-zero, first-append, first-after}
 use Rattle.heals.specs.Kinds.{healTicket}
 use Rattle.heals.specs.Heals.{Numbered, lateReasons}
@@ -60,11 +57,6 @@ module _ {nodes edges faces : List ℤ} {h : Head} (f : Formed nodes edges faces
       }
 
   -- ---- 4
-
-  pub edge-none : (z : ℤ) → place (sameZ z) 0 (column edgeWidth edges (natAbs (h .edges))) ≡ Missing → noEdge (mapOf (lent nodes edges faces h)) z ≡ true
-  unfolding mapOf
-  edge-none (pos k) e = rw (edge-missing edges (natAbs (h .edges)) (ranges f .edge-rows) k e)
-  edge-none (negsuc k) e = refl
 
   pub row-missing : (keeps : Bool) (y z : ℤ) → noEdge (mapOf (lent nodes edges faces h)) y || noEdge (mapOf (lent nodes edges faces h)) z ≡ true
       → firstReason (reasons (sizesOf (lent nodes edges faces h)) (mapOf (lent nodes edges faces h)) (healTicket keeps y z)) ≡ 4

@@ -4,23 +4,14 @@ use mathlib.Core.Bool.{true, false, _||_}
 use mathlib.Core.Logic.{inl, inr}
 use mathlib.Core.List.{List, [], _∷_}
 use mathlib.Core.Option.{none, some}
-use Prim.Native.Nat.{ℕ, _%_, _^_, _≤_, _<_}
+use Prim.Native.Nat.{ℕ, _%_, _≤_}
 use native.Mathlib.Omega.{arith}
 use lib.Dec.{ltb, eqb}
 use lib.IntN.{ℤ, pos}
 use lib.ListN.{length, getD, drop}
-use lib.Signed.{mag}
-use mir.Syntax.{w64}
-use mir.Val.{ofZ, toZ, hbits}
-use mir.Facts.{toZ-ofZ}
-use borrow.Author.Needs.{sfits-of}
 use borrow.Author.Tests.{ltb-true, ltb-false, eqb-true, eqb-false}
 use Rattle.lists.proofs.Bools.{same-eq, same-false, or-true, or-false}
 use Rattle.map.specs.Tickets.{Ticket, one, two, three, oneCurve, twoCurve}
-
--- a number handed on is the number that was sent
-pub sent : {z : ℤ} → mag z < 2 ^ hbits w64 → toZ w64 (ofZ w64 z) ≡ z
-sent p = toZ-ofZ {w = w64} (sfits-of p)
 
 -- ---- numbers
 

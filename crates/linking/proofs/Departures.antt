@@ -1,16 +1,14 @@
 -- Positions and the map: departures of a node by position are those of the map, and so is the first one met clockwise. Assumes nothing.
 use mathlib.Core.Path.{_≡_, refl, sym, ap, _∙_}
-use mathlib.Core.Logic.{inl, inr}
 use mathlib.Core.Bool.{Bool, true, false, cond}
 use mathlib.Core.List.{List, [], _∷_, map, List·Memᴰ}
 use Prim.Native.Nat.{ℕ, suc, _+_, _*_, _<_}
 use native.Mathlib.Omega.{arith}
-use lib.IntN.{ℤ, pos, natAbs}
+use lib.IntN.{ℤ, pos}
 use lib.ListN.{length, length-map}
 use Rattle.lists.specs.Tests.{same, bit}
 use Rattle.lists.specs.declared.Found.the-variants.{At, Missing}
 use Rattle.lists.specs.Scans.{keep, count}
-use Rattle.lists.proofs.Bools.{which, same-true, differ}
 use Rattle.lists.proofs.Keeps.{keep-map}
 use Rattle.plane.specs.Directions.{Way}
 use Rattle.planar.specs.Map.{Dart}
@@ -18,16 +16,11 @@ use Rattle.rotation.specs.Law.{firstClockwise}
 use Rattle.map.specs.Darts.{directed, leaves, departures, edgeEnds, way}
 use Rattle.tables.specs.Tables.{sameZ, edgeMap, EdgeRows}
 use Rattle.tables.proofs.Rows.{map-table}
-use Rattle.tables.proofs.Order.{is-same, not-same}
+use Rattle.tables.proofs.Order.{same-pos}
 use Rattle.links.specs.Positions.{dartAt, wayAt}
 use Rattle.links.proofs.Positions.{directed-table, cell-leaves, way-is}
 use Rattle.linking.specs.Linking.{positions, leavesNode, firstMet}
 use Rattle.linking.proofs.FirstMet.{first-map, first-any, met-at, met-none, position-below}
-
--- numbers that are not negative
-pub same-pos : (m k : ℕ) → sameZ (pos m) (pos k) ≡ same m k
-same-pos m k =
-    elim (which (same m k)) [ inl e ↦ is-same (pos m) (pos k) (ap pos (same-true m k e)) ∙ sym e | inr e ↦ not-same (pos m) (pos k) (λ q. differ m k e (ap natAbs q)) ∙ sym e ]
 
 -- what is counted is what is kept
 pub count-keep : {A : Type 0} (p : A → Bool) (l : List A) → count p l ≡ length (keep p l)

@@ -95,6 +95,9 @@ pub which : (b : Bool) → (b ≡ true) ⊎ (b ≡ false)
 which true = inl refl
 which false = inr refl
 
+pub same-sym : (a b : ℕ) → same a b ≡ same b a
+same-sym a b = elim (which (same a b)) [ inl e ↦ e ∙ sym (same-eq b a (sym (same-true a b e))) | inr e ↦ e ∙ sym (same-false b a (λ q. differ a b e (sym q))) ]
+
 pub equal? : (a b : ℕ) → (a ≡ b) ⊎ ((a ≡ b) → ⊥)
 equal? a b = elim (which (same a b)) [ inl e ↦ inl (same-true a b e) | inr e ↦ inr (differ a b e) ]
 

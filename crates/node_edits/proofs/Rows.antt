@@ -1,18 +1,17 @@
 -- What a search for a node's row answered, in the map's terms, and the first reason of kinds 2 and 3 from it. Assumes nothing.
-use mathlib.Core.Path.{_≡_, refl, sym, ap, ap₂, _∙_}
+use mathlib.Core.Path.{_≡_, sym, ap, ap₂, _∙_}
 use mathlib.Core.Bool.{Bool, true, false, not, _&&_, _||_}
 use mathlib.Core.List.{List, [], _∷_}
 use mathlib.Core.Option.{some}
 use Prim.Native.Nat.{ℕ, _<_}
 use lib.Dec.{lit<}
-use lib.IntN.{ℤ, pos, negsuc, natAbs}
+use lib.IntN.{ℤ, pos, natAbs}
 use lib.Signed.{nonNeg}
 use borrow.Author.Tests.{not-false}
 use Rattle.lists.specs.Scans.{any, isSome}
 use Rattle.lists.specs.Tests.{same}
 use Rattle.lists.specs.Tables.{table, place}
-use Rattle.lists.specs.declared.Found.{Found}
-use Rattle.lists.specs.declared.Found.the-variants.{At, Missing}
+use Rattle.lists.specs.declared.Found.the-variants.{At}
 use Rattle.plane.specs.Points.{samePoint}
 use Rattle.curves.specs.Curves.{point, coordinate}
 use Rattle.map.specs.declared.Head.{Head}
@@ -22,7 +21,7 @@ use Rattle.map.specs.Tickets.{MoveIsoNode, RemoveIsoNode}
 use Rattle.map.specs.Reasons as reasons
 use Rattle.map.specs.Reasons.{firstReason, noNode, isolated, outside, edgeThrough}
 use Rattle.tables.specs.Tables.{sameZ, column, nodeAt, nodesOf, edgeMap}
-use Rattle.tables.proofs.Lookups.{node-found, node-missing}
+use Rattle.tables.proofs.Lookups.{node-found}
 use Rattle.ranges.specs.Ranges.{lent}
 use Rattle.answers.specs.Outcomes.{Formed}
 use Rattle.answers.proofs.Formed.{ranges, node-rows}
@@ -33,11 +32,6 @@ use Rattle.node_edits.specs.Parts.{moveReasons}
 
 module _ {nodes edges faces : List ℤ} {h : Head} (f : Formed nodes edges faces h) where
   -- the row is missing
-  pub node-none : (z : ℤ) → place (sameZ z) 0 (column nodeWidth nodes (natAbs (h .nodes))) ≡ Missing → noNode (mapOf (lent nodes edges faces h)) z ≡ true
-  unfolding mapOf
-  node-none (pos k) e = rw (node-missing nodes (natAbs (h .nodes)) (ranges f .node-rows) k e)
-  node-none (negsuc k) e = refl
-
   pub move-missing : (z x y : ℤ) → noNode (mapOf (lent nodes edges faces h)) z ≡ true → firstReason (reasons.reasons (sizesOf (lent nodes edges faces h)) (mapOf (lent nodes edges faces h)) (MoveIsoNode z x y)) ≡ 4
   unfolding reasons.reasons
   move-missing z x y e = first-hit 4 _ _ e
@@ -93,7 +87,3 @@ move-point l n es k i x y e = not-false (coordinate x && coordinate y) (first-ze
 -- the reasons of numbers as they were passed
 pub move-told : (l : List ℤ) (n : ℕ) (es : List ℤ) (k i : ℕ) {x y u v : ℤ} {a b r : ℕ} → a ≡ n → b ≡ k → u ≡ x → v ≡ y → r ≡ firstReason (moveReasons l a es b i u v) → r ≡ firstReason (moveReasons l n es k i x y)
 move-told l n es k i ea eb eu ev e = e ∙ (λ j. firstReason (moveReasons l (ea j) es (eb j) i (eu j) (ev j)))
-
--- the place of the number as it was passed
-pub place-told : (l : List ℤ) {a n : ℕ} {u z : ℤ} {r v : Found} → a ≡ n → u ≡ z → r ≡ place (sameZ u) 0 (column nodeWidth l a) → r ≡ v → place (sameZ z) 0 (column nodeWidth l n) ≡ v
-place-told l ea eu er ev = sym (λ j. place (sameZ (eu j)) 0 (column nodeWidth l (ea j))) ∙ sym er ∙ ev

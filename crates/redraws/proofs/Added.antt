@@ -1,13 +1,13 @@
 -- What kind 4 answers: the reasons against it, and the tables it leaves. Assumes nothing.
-use mathlib.Core.Path.{_≡_, refl, sym, ap, ap₂, _∙_, subst}
-use mathlib.Core.Bool.{Bool, true, false, not, _&&_, _||_}
+use mathlib.Core.Path.{_≡_, refl, sym, ap, ap₂, _∙_}
+use mathlib.Core.Bool.{Bool, true, false, _||_}
 use mathlib.Core.Logic.{inl, inr}
-use mathlib.Core.List.{List, [], _∷_, _++_, map, flatMap}
-use mathlib.Core.Option.{none, some, Option·getD}
+use mathlib.Core.List.{List, map, flatMap}
+use mathlib.Core.Option.{Option·getD}
 use Prim.Native.Nat.{ℕ, suc, _+_, _*_, _/_, _<_}
 use native.Mathlib.Omega.{arith}
 use lib.Dec.{ltb}
-use lib.IntN.{ℤ, pos, negsuc, natAbs}
+use lib.IntN.{ℤ, pos, natAbs}
 use lib.ListN.{length}
 use Rattle.lists.specs.Tests.{same}
 use Rattle.lists.specs.Tables.{place}
@@ -16,36 +16,28 @@ use Rattle.lists.proofs.Bools.{equal?, same-eq, same-false, or-right}
 use Rattle.curves.specs.Curves.{curveOf}
 use Rattle.map.specs.declared.Head.{Head}
 use Rattle.map.specs.Limits.{nodeWidth, edgeWidth, faceWidth, lastNumber}
-use Rattle.map.specs.Rows.{Node, Edge, Map, mapOf, lentOf, sizesOf, headOf, node, filled, nodeCells, edgeCells, faceCells}
+use Rattle.map.specs.Rows.{Node, mapOf, lentOf, sizesOf, headOf, node, filled, nodeCells, edgeCells, faceCells}
 use Rattle.map.specs.Edits.{drawn, addIsoEdge}
 use Rattle.map.specs.Tickets.{AddIsoEdge}
-use Rattle.map.specs.Reasons.{firstReason, reasons, noNode, nodeInside, edgeWrong, full, spent}
+use Rattle.map.specs.Reasons.{firstReason, reasons, noNode, nodeInside, full, spent}
 use Rattle.map.specs.Ticket.{carried}
 use Rattle.tables.specs.Tables.{sameZ, column, nodesOf, edgesOf, facesOf, nodeAt, nodeMap}
 use Rattle.tables.proofs.Rows.{nodes-length, edges-length, faces-length}
-use Rattle.tables.proofs.Lookups.{node-found, node-missing}
+use Rattle.tables.proofs.Lookups.{node-found}
 use Rattle.ranges.specs.Ranges.{lent}
 use Rattle.conditions.specs.Sent.{edgesBut}
 use Rattle.conditions.proofs.Maps.{node-is, inside-alike}
 use Rattle.conditions.proofs.Others.{edges-all}
 use Rattle.conditions.proofs.Reasons.{first-hit, first-miss}
 use Rattle.answers.specs.Outcomes.{Formed}
-use Rattle.answers.proofs.Formed.{ranges, node-rows, nodes-count, faces-count, node-next, edge-next, face-next, nodes-size, edges-size, faces-filled, full-is, spent-is, nodes-room, faces-room, node-left, face-left, lent-is}
-use Rattle.redraws.specs.Holds.{Drawn, drawnHead}
+use Rattle.answers.proofs.Formed.{ranges, node-rows, nodes-count, faces-count, node-next, edge-next, face-next, nodes-size, edges-size, faces-filled, full-is, spent-is, nodes-room, faces-room, node-left, face-left, lent-is, node-none}
+use Rattle.redraws.specs.Holds.{Drawn}
 use Rattle.redraws.specs.Lone.{loneReasons}
 use Rattle.redraws.proofs.Filled.{nodes-filled, edges-filled}
 use Rattle.redraws.proofs.NodeFaces.{node-once}
 
 module _ {nodes edges faces : List ℤ} {h : Head} (f : Formed nodes edges faces h) where
   module _ (z : ℤ) where
-    pub no-node : place (sameZ z) 0 (column nodeWidth nodes (natAbs (h .nodes))) ≡ Missing → noNode (mapOf (lent nodes edges faces h)) z ≡ true
-    unfolding mapOf
-    no-node e = go z e
-      where
-        go : (z : ℤ) → place (sameZ z) 0 (column nodeWidth nodes (natAbs (h .nodes))) ≡ Missing → noNode (mapOf (lent nodes edges faces h)) z ≡ true
-        go (pos k) e = rw (node-missing nodes (natAbs (h .nodes)) (ranges f .node-rows) k e)
-        go (negsuc k) e = refl
-
     module _ (i : ℕ) (e : place (sameZ z) 0 (column nodeWidth nodes (natAbs (h .nodes))) ≡ At i) where
       pub node-in : i < natAbs (h .nodes)
       node-in = node-found nodes (natAbs (h .nodes)) (ranges f .node-rows) z i e .0
@@ -64,11 +56,11 @@ module _ {nodes edges faces : List ℤ} {h : Head} (f : Formed nodes edges faces
   -- a node that is missing
   pub start-missing : (a b : ℤ) (c : List ℤ) → place (sameZ a) 0 (column nodeWidth nodes (natAbs (h .nodes))) ≡ Missing → firstReason (reasons (sizesOf (lent nodes edges faces h)) (mapOf (lent nodes edges faces h)) (AddIsoEdge a b c)) ≡ 4
   unfolding reasons
-  start-missing a b c e = let m = mapOf (lent nodes edges faces h) in first-hit 4 (noNode m a || noNode m b) _ (rw (no-node a e))
+  start-missing a b c e = let m = mapOf (lent nodes edges faces h) in first-hit 4 (noNode m a || noNode m b) _ (rw (node-none f a e))
 
   pub end-missing : (a b : ℤ) (c : List ℤ) → place (sameZ b) 0 (column nodeWidth nodes (natAbs (h .nodes))) ≡ Missing → firstReason (reasons (sizesOf (lent nodes edges faces h)) (mapOf (lent nodes edges faces h)) (AddIsoEdge a b c)) ≡ 4
   unfolding reasons
-  end-missing a b c e = let m = mapOf (lent nodes edges faces h) in first-hit 4 (noNode m a || noNode m b) _ (or-right (noNode m a) (noNode m b) (no-node b e))
+  end-missing a b c e = let m = mapOf (lent nodes edges faces h) in first-hit 4 (noNode m a || noNode m b) _ (or-right (noNode m a) (noNode m b) (node-none f b e))
 
   or-none : (a b c : Bool) → a ≡ false → c ≡ false → a || b || c ≡ b
   or-none a true c e g = rw e

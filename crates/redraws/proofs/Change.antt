@@ -11,9 +11,9 @@ use Rattle.map.specs.declared.Head.{Head}
 use Rattle.map.specs.Reasons.{Reasons, firstReason, meetingReasons, orderChanges}
 use Rattle.tables.specs.Tables.{nodeAt, nodeMap, edgeAt, edgeMap}
 use Rattle.conditions.specs.Sent.{sentReasons, edgesBut}
-use Rattle.conditions.proofs.Reasons.{first-hit, first-miss, first-none, first-after}
+use Rattle.conditions.proofs.Reasons.{first-hit, first-miss, first-none, first-after, first-zero}
 use Rattle.redraws.specs.Change.{takenAt, turnReasons, changeReasons}
-use Rattle.redraws.proofs.Lone.{first-of, front-none}
+use Rattle.redraws.proofs.Lone.{first-of}
 
 -- from 11 on
 module _ (nodes : List ℤ) (n : ℕ) (edges : List ℤ) (count i : ℕ) (c : List ℤ) where
@@ -59,4 +59,4 @@ module _ (nodes edges : List ℤ) (h : Head) (i u v : ℕ) (c : List ℤ) where
 
   -- a curve without a reason against it is a run
   pub change-run : firstReason (changeReasons nodes edges h i u v c) ≡ 0 → Run c
-  change-run e = record { is = not-false (isRun c) (front-none 5 (not (isRun c)) _ (omega arith) e .0) }
+  change-run e = record { is = not-false (isRun c) (first-zero 5 (not (isRun c)) _ (omega arith) e .0) }

@@ -1,9 +1,9 @@
 -- Edge ends by rows: so many at a node, and none but those of one row. Assumes nothing.
 use mathlib.Core.Path.{_≡_, refl, sym, ap, ap₂, _∙_, subst}
-use mathlib.Core.Logic.{_⊎_, inl, inr, ⊎-elim}
+use mathlib.Core.Logic.{inl, inr}
 use mathlib.Core.Bool.{Bool, true, false, cond, not}
 use mathlib.Core.List.{List, [], _∷_, _++_, map, List·Memᴰ, List·Memᴰ·head, List·Memᴰ·tail, Memᴰ·map, Memᴰ·of-map, Memᴰ·cast}
-use Prim.Native.Nat.{ℕ, zero, suc, _+_, _*_, _<_}
+use Prim.Native.Nat.{ℕ, suc, _+_, _*_, _<_}
 use native.Mathlib.Omega.{arith}
 use lib.IntN.{ℤ, pos}
 use lib.ListN.{length, getD, take, drop}
@@ -11,9 +11,9 @@ use lib.Seq.{split-at}
 use Rattle.lists.specs.Tests.{same, bit}
 use Rattle.lists.specs.Scans.{keep, count}
 use Rattle.lists.specs.Members.{Distinct}
-use Rattle.lists.proofs.Bools.{which, equal?, same-eq, same-false, same-true}
+use Rattle.lists.proofs.Bools.{equal?, same-eq, same-false}
 use Rattle.lists.proofs.Keeps.{keep-in}
-use Rattle.planar.specs.Map.{Arc, Dart, fwd, bwd, darts}
+use Rattle.planar.specs.Map.{Arc, fwd, bwd, darts}
 use Rattle.map.specs.Limits.{lastNumber, edgeWidth}
 use Rattle.map.specs.Rows.{Edge, Map, edge, withoutEdge}
 use Rattle.map.specs.Darts.{leaves, departures, edgeEnds}
@@ -21,9 +21,10 @@ use Rattle.map.proofs.Laws.{edge-row, numbered-is}
 use Rattle.tables.specs.Tables.{sameZ, edgesOf, edgeAt, edgeMap, EdgeRows}
 use Rattle.tables.proofs.Rows.{edges-length, edges-getD}
 use Rattle.tables.proofs.Numbers.{without-at}
+use Rattle.tables.proofs.Order.{same-pos}
 use Rattle.links.proofs.Positions.{cells-of}
 use Rattle.linking.specs.Linking.{positions, leavesNode}
-use Rattle.linking.proofs.Departures.{same-pos, ends-count}
+use Rattle.linking.proofs.Departures.{ends-count}
 use Rattle.redraws.specs.Holds.{bareAt}
 
 -- how many ends rows have at a node

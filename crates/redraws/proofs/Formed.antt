@@ -1,29 +1,22 @@
 -- Tables in form hold a map. Assumes nothing.
-use mathlib.Core.Path.{_≡_, sym, ap₂, _∙_}
-use mathlib.Core.Bool.{true, _&&_}
-use mathlib.Core.List.{List, map}
-use Prim.Native.Nat.{ℕ, suc, _≤_}
+use mathlib.Core.Path.{_≡_, _∙_}
+use mathlib.Core.Bool.{true}
+use mathlib.Core.List.{List}
+use Prim.Native.Nat.{ℕ, _≤_}
 use native.Mathlib.Omega.{arith}
 use lib.IntN.{ℤ, natAbs}
 use lib.Signed.{nonNeg}
 use mir.Syntax.{w64}
 use mir.Val.{toZ, ofZ}
-use Rattle.lists.specs.declared.Found.{Found}
-use Rattle.lists.specs.Tests.{same}
-use Rattle.lists.specs.Tables.{place}
-use Rattle.lists.specs.Scans.{all, firstOr}
-use Rattle.curves.proofs.Runs.{and-left, and-right}
 use Rattle.map.specs.declared.Head.{Head}
-use Rattle.map.specs.Limits.{maxNodes, maxEdges, maxFaces, lastNumber, nodeWidth, edgeWidth, faceWidth}
-use Rattle.map.specs.Rows.{mapOf, wholeRows, whole}
-use Rattle.map.specs.Form.{numbered, numbers, named, curveFits, departuresDiffer, bareMarked, linksOnce, linksMeet, ringsBearOne, formed}
-use Rattle.map.proofs.RoundTrip.{whole-rows, whole-tables}
-use Rattle.tables.specs.Tables.{sameZ, column, nodesOf, edgesOf, facesOf}
+use Rattle.map.specs.Limits.{maxNodes, maxEdges, nodeWidth, edgeWidth}
+use Rattle.map.specs.Rows.{whole}
+use Rattle.map.proofs.RoundTrip.{whole-tables, whole-rows}
 use Rattle.ranges.specs.Ranges.{lent}
 use Rattle.answers.specs.Outcomes.{Formed}
-use Rattle.answers.proofs.Formed.{ranges, formed-map, nodes-count, edges-count, edge-next, node-rows, edge-rows, numbers-rise}
+use Rattle.answers.proofs.Formed.{ranges, nodes-count, edges-count, edge-next, node-rows, edge-rows, numbers-rise}
+use Rattle.answers.proofs.Words.{count-natural, count-abs}
 use Rattle.redraws.specs.Holds.{Held, Counted}
-use Rattle.redraws.proofs.Words.{count-natural, count-abs}
 use Rattle.redraws.proofs.Filled.{nodes-room, edges-room}
 
 module _ {nodes edges faces : List ℤ} {h : Head} (f : Formed nodes edges faces h) where
@@ -66,7 +59,3 @@ module _ {nodes edges faces : List ℤ} {h : Head} (f : Formed nodes edges faces
 
   pub nodes-read : {n : ℕ} → n ≡ natAbs (toZ w64 (ofZ w64 (h .nodes))) → n ≡ natAbs (h .nodes)
   nodes-read e = e ∙ count-abs (h .nodes) (held f .nodes-count) (nodes-held (held f))
-
--- the answer of a search, for a number and a count as they were
-pub place-read : (w : ℕ) (l : List ℤ) {r q : Found} {n n′ : ℕ} {z z′ : ℤ} → r ≡ place (sameZ z′) 0 (column w l n′) → n′ ≡ n → z′ ≡ z → r ≡ q → place (sameZ z) 0 (column w l n) ≡ q
-place-read w l e en ez eq = sym (ap₂ (λ (x : ℤ) (k : ℕ). place (sameZ x) 0 (column w l k)) ez en) ∙ sym e ∙ eq

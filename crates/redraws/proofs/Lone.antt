@@ -1,8 +1,7 @@
 -- The first reason of kind 4, test by test. Assumes nothing.
-use mathlib.Core.Path.{_≡_, refl, sym, ap, _∙_}
+use mathlib.Core.Path.{_≡_, refl, sym, _∙_}
 use mathlib.Core.Bool.{Bool, true, false, not, _&&_, _||_}
-use mathlib.Core.Logic.{inl, inr}
-use mathlib.Core.List.{List, [], _∷_, _++_}
+use mathlib.Core.List.{List, _∷_, _++_}
 use mathlib.Core.Option.{Option·getD}
 use Prim.Native.Nat.{ℕ, zero, suc, _+_, _/_, _≤_, _<_}
 use lib.Dec.{ltb}
@@ -12,21 +11,14 @@ use native.Mathlib.Omega.{arith}
 use lib.IntN.{ℤ, natAbs}
 use Rattle.lists.specs.Tests.{same}
 use Rattle.lists.specs.Scans.{isSome}
-use Rattle.lists.proofs.Bools.{which}
 use Rattle.curves.specs.Curves.{Run, isRun, curveOf}
 use Rattle.map.specs.declared.Head.{Head}
-use Rattle.map.specs.Limits.{nodeWidth, edgeWidth, lastNumber}
-use Rattle.map.specs.Form.{nodeRanges}
+use Rattle.map.specs.Limits.{edgeWidth, lastNumber}
 use Rattle.map.specs.Reasons.{Reasons, firstReason, meetingReasons}
-use Rattle.tables.specs.Tables.{nodeAt, nodeMap, NodeRow, NodeRows}
-use Rattle.tables.proofs.Rows.{rows-all}
-use Rattle.tables.proofs.Cells.{row-room}
+use Rattle.tables.specs.Tables.{nodeAt, nodeMap}
 use Rattle.conditions.specs.Sent.{sentReasons, edgesBut}
-use Rattle.conditions.proofs.Reasons.{first-hit, first-miss, first-append, first-after}
+use Rattle.conditions.proofs.Reasons.{first-hit, first-miss, first-append, first-after, first-zero}
 use Rattle.redraws.specs.Lone.{roomReasons, loneReasons}
-
-pub node-row : {l : List ℤ} {n : ℕ} → NodeRows l n → (i : ℕ) → i < n → NodeRow l i
-node-row {l} {n} t i h = record { fits = let r = row-room nodeWidth n i h in let f = t .fits in omega arith; ranges = rows-all nodeWidth l nodeRanges n (t .ranges) i h }
 
 -- a reason that is not 0 is the first of both
 pub first-of : (rs ss : Reasons) (n : ℕ) → n ≡ firstReason rs → (n ≡ 0 → ⊥) → n ≡ firstReason (rs ++ ss)
@@ -34,13 +26,6 @@ first-of rs ss zero e d = absurd (d refl)
 first-of rs ss (suc n) e d = sym (first-append rs ss (suc n) (omega arith) (sym e))
 
 -- no reason at the front
-pub front-none : (n : ℕ) (b : Bool) (rs : Reasons) → 0 < n → firstReason ((n, b) ∷ rs) ≡ 0 → (b ≡ false) × (firstReason rs ≡ 0)
-front-none n b rs h e =
-    elim (which b) [
-      | inl q ↦ let z : n ≡ 0 = sym (first-hit n b rs q) ∙ e in absurd (omega arith)
-      | inr q ↦ (q, sym (first-miss n b rs q) ∙ e)
-    ]
-
 module _ (nodes edges : List ℤ) (h : Head) (u v : ℕ) (c : List ℤ) where
   abbrev sent : Reasons
   sent = sentReasons c (nodeAt nodes u .at) (nodeAt nodes v .at)
@@ -50,7 +35,7 @@ module _ (nodes edges : List ℤ) (h : Head) (u v : ℕ) (c : List ℤ) where
 
   -- a curve without a reason against it is a run
   pub sent-run : firstReason (sentReasons c (nodeAt nodes u .at) (nodeAt nodes v .at)) ≡ 0 → Run c
-  sent-run e = record { is = not-false (isRun c) (front-none 5 (not (isRun c)) _ (omega arith) e .0) }
+  sent-run e = record { is = not-false (isRun c) (first-zero 5 (not (isRun c)) _ (omega arith) e .0) }
 
   abbrev joint : Bool
   joint = same u v || not (isSome (nodeAt nodes u .face) && isSome (nodeAt nodes v .face))
@@ -97,16 +82,16 @@ module _ (nodes edges : List ℤ) (h : Head) (u v : ℕ) (c : List ℤ) where
   -- no reason at all
   pub lone-free : firstReason (loneReasons nodes edges h u v c) ≡ 0 → Run c × (isSome (nodeAt nodes u .face) ≡ true) × (natAbs (h .edges) < length edges / edgeWidth) × (natAbs (h .«next_edge») ≤ lastNumber)
   lone-free e =
-      let e₅ = front-none 5 _ _ (omega arith) e in
-      let e₆ = front-none 6 _ _ (omega arith) (e₅ .1) in
-      let e₇ = front-none 7 _ _ (omega arith) (e₆ .1) in
-      let e₈ = front-none 8 _ _ (omega arith) (e₇ .1) in
-      let e₉ = front-none 9 joint _ (omega arith) (e₈ .1) in
-      let e₁₂ = front-none 12 _ _ (omega arith) (e₉ .1) in
-      let e₁₄ = front-none 14 _ _ (omega arith) (e₁₂ .1) in
-      let e₁₅ = front-none 15 _ _ (omega arith) (e₁₄ .1) in
-      let e₂₀ = front-none 20 (ltb (length edges / edgeWidth) (natAbs (h .edges) + 1)) _ (omega arith) (e₁₅ .1) in
-      let e₂₁ = front-none 21 (ltb (suc lastNumber) (natAbs (h .«next_edge») + 1)) _ (omega arith) (e₂₀ .1) in
+      let e₅ = first-zero 5 _ _ (omega arith) e in
+      let e₆ = first-zero 6 _ _ (omega arith) (e₅ .1) in
+      let e₇ = first-zero 7 _ _ (omega arith) (e₆ .1) in
+      let e₈ = first-zero 8 _ _ (omega arith) (e₇ .1) in
+      let e₉ = first-zero 9 joint _ (omega arith) (e₈ .1) in
+      let e₁₂ = first-zero 12 _ _ (omega arith) (e₉ .1) in
+      let e₁₄ = first-zero 14 _ _ (omega arith) (e₁₂ .1) in
+      let e₁₅ = first-zero 15 _ _ (omega arith) (e₁₄ .1) in
+      let e₂₀ = first-zero 20 (ltb (length edges / edgeWidth) (natAbs (h .edges) + 1)) _ (omega arith) (e₁₅ .1) in
+      let e₂₁ = first-zero 21 (ltb (suc lastNumber) (natAbs (h .«next_edge») + 1)) _ (omega arith) (e₂₀ .1) in
       let r = ltb-false (length edges / edgeWidth) (natAbs (h .edges) + 1) (e₂₀ .0) in
       let g = ltb-false (suc lastNumber) (natAbs (h .«next_edge») + 1) (e₂₁ .0) in
       (record { is = not-false (isRun c) (e₅ .0) }, lone-of (e₉ .0), omega arith, omega arith)

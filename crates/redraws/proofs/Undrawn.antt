@@ -1,13 +1,13 @@
 -- An edge undrawn in the tables is undrawn in the map. Assumes nothing.
-use mathlib.Core.Path.{_≡_, refl, sym, ap, ap₂, _∙_, subst}
+use mathlib.Core.Path.{_≡_, refl, sym, ap, ap₂, _∙_}
 use mathlib.Core.Logic.{inl, inr}
 use mathlib.Core.Bool.{Bool, true, false, cond, _&&_, _||_}
-use mathlib.Core.List.{List, [], _∷_, _++_, map, flatMap}
+use mathlib.Core.List.{List, [], _∷_, map, flatMap}
 use mathlib.Core.Option.{Option, none, some}
-use Prim.Native.Nat.{ℕ, suc, _+_, _*_, _-_, _/_, _≤_, _<_}
+use Prim.Native.Nat.{ℕ, suc, _+_, _*_, _-_, _≤_}
 use native.Mathlib.Omega.{arith}
 use lib.IntN.{ℤ, pos, negsuc, natAbs}
-use lib.ListN.{length, getD, set, take, drop, length-set, length-append, length-drop}
+use lib.ListN.{length, getD, take, drop, length-set, length-append, length-drop}
 use lib.Seq.{length-take-le}
 use lib.Signed.{leZ, nonNeg}
 use Rattle.lists.specs.Tests.{same}
@@ -17,15 +17,15 @@ use Rattle.lists.specs.declared.Found.{Found}
 use Rattle.lists.specs.declared.Found.the-variants.{At, Missing}
 use Rattle.lists.proofs.Bools.{which, same-true, eq3}
 use Rattle.map.specs.declared.Head.{Head}
-use Rattle.map.specs.Limits.{maxNodes, maxEdges, lastNumber, nodeWidth, edgeWidth}
+use Rattle.map.specs.Limits.{maxNodes, maxEdges, nodeWidth, edgeWidth}
 use Rattle.map.specs.Rows.{Node, Edge, Map, mapOf, edge, faceOf, filled, nodeCells, edgeCells, atNodes, withoutEdge}
 use Rattle.map.specs.Form.{isZero}
 use Rattle.map.specs.Darts.{edgeEnds}
 use Rattle.map.specs.Links.{unlinkEdge, redirect}
 use Rattle.map.specs.Edits.{withFace, isEither, undrawn}
 use Rattle.map.proofs.RoundTrip.{whole-rows}
-use Rattle.tables.specs.Tables.{sameZ, column, closed, nodesOf, edgesOf, nodeAt, edgeAt, edgeMap, NodeRows, EdgeRows}
-use Rattle.tables.proofs.Rows.{edges-length, edges-getD}
+use Rattle.tables.specs.Tables.{sameZ, column, closed, nodesOf, edgesOf, nodeAt, edgeAt, NodeRows}
+use Rattle.tables.proofs.Rows.{edges-length}
 use Rattle.tables.proofs.Lookups.{node-found, node-missing}
 use Rattle.tables.proofs.Writes.{removed-at, table-edges-wide}
 use Rattle.links.proofs.Positions.{cells-of, edge-of}
@@ -33,8 +33,7 @@ use Rattle.ranges.specs.Ranges.{lent}
 use Rattle.linking.specs.Linking.{unlinkedEdge}
 use Rattle.linking.proofs.Kept.{rest-kept, number-kept}
 use Rattle.linking.proofs.LinkedEdges.{unlinked-alone, unlinked-edge-kept, unlinked-edge-relinked, unlinked-edge-gone}
-use Rattle.redraws.specs.Holds.{NodeTable, EdgeTable, Held, Counted, Undrawable, Undrawn, undrawnHead, bareAt, facedWhere, facedIf}
-use Rattle.redraws.proofs.Words.{natural-is}
+use Rattle.redraws.specs.Holds.{NodeTable, EdgeTable, Counted, Undrawable, Undrawn, undrawnHead, bareAt, facedWhere, facedIf}
 use Rattle.redraws.proofs.Filled.{nodes-room, edges-room, nodes-filled, edges-filled}
 use Rattle.redraws.proofs.NodeFaces.{faced-nodes, faced-table}
 use Rattle.redraws.proofs.Ends.{without-row, bare-is}

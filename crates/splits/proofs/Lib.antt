@@ -1,5 +1,4 @@
--- `Words`: counts and next numbers as words. `Halves`: how many points a half has. `Rows`: links redirected in a table with zeros behind.
-pub mod Words
+-- `Halves`: how many points a half has. `Rows`: rows of a table with zeros behind. `Cut`: the rows of a split. `Told`: its reasons. `Lent`: what is lent after it.
 pub mod Halves
 pub mod Rows
 pub mod Cut

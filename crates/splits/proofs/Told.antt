@@ -1,56 +1,42 @@
 -- The reasons of a split from what the searches and tests answered, in the map's terms. Assumes nothing.
-use mathlib.Core.Path.{_≡_, refl, sym, ap, ap₂, _∙_}
-use mathlib.Core.Logic.{_⊎_, inl, inr}
+use mathlib.Core.Path.{_≡_, refl, sym, ap, _∙_}
 use mathlib.Core.Bool.{Bool, true, false, not, _&&_, _||_}
 use mathlib.Core.List.{List, [], _∷_, _++_}
 use mathlib.Core.Option.{some}
-use Prim.Native.Nat.{ℕ, zero, suc, _+_, _/_, _<_, _≤_}
+use Prim.Native.Nat.{ℕ, suc, _+_, _/_, _<_, _≤_}
 use native.Mathlib.Omega.{arith}
 use lib.Dec.{ltb}
-use lib.IntN.{ℤ, pos, negsuc, natAbs}
+use lib.IntN.{ℤ, pos, natAbs}
 use lib.ListN.{length}
 use lib.Signed.{nonNeg}
 use borrow.Author.Tests.{not-false, ltb-false}
 use Rattle.lists.specs.Tables.{place}
-use Rattle.lists.specs.declared.Found.{Found}
 use Rattle.lists.specs.declared.Found.the-variants.{At, Missing}
-use Rattle.lists.proofs.Bools.{which, eq2, or-false}
+use Rattle.lists.proofs.Bools.{eq2, or-false}
 use Rattle.curves.specs.Curves.{point, coordinate}
 use Rattle.curves.specs.Tests.{onCurve}
 use Rattle.map.specs.declared.Head.{Head}
 use Rattle.map.specs.Limits.{nodeWidth, edgeWidth, lastNumber}
 use Rattle.map.specs.Rows.{Edge, mapOf, sizesOf, findEdge, edge}
 use Rattle.map.specs.Reasons as reasons
-use Rattle.map.specs.Reasons.{Reasons, firstReason, noEdge, outside, full, spent, splitReasons}
+use Rattle.map.specs.Reasons.{firstReason, noEdge, outside, full, spent, splitReasons}
 use Rattle.tables.specs.Tables.{sameZ, column, edgeAt, nodesOf}
-use Rattle.tables.proofs.Lookups.{edge-found, edge-missing}
+use Rattle.tables.proofs.Lookups.{edge-found}
 use Rattle.ranges.specs.Ranges.{lent}
 use Rattle.answers.specs.Outcomes.{Formed}
-use Rattle.answers.proofs.Formed.{ranges, nodes-count, edges-count, node-next, edge-next, nodes-size, edges-size, full-is, spent-is, faces-room, face-left}
-use Rattle.conditions.proofs.Reasons.{first-hit, first-miss, first-append, first-after}
+use Rattle.answers.proofs.Formed.{ranges, nodes-count, edges-count, node-next, edge-next, nodes-size, edges-size, full-is, spent-is, faces-room, face-left, edge-none}
+use Rattle.conditions.proofs.Reasons.{first-hit, first-miss, first-append, first-after, first-zero}
 use Rattle.conditions.proofs.Maps.{edge-is}
 use Rattle.splits.specs.Kinds.{splitTicket}
 use Rattle.splits.specs.Cuts.{pointReasons, given, roomReasons, Numbered}
-
--- the place of the number as it was passed
-pub place-told : (l : List ℤ) {a n : ℕ} {u z : ℤ} {r v : Found} → a ≡ n → u ≡ z → r ≡ place (sameZ u) 0 (column edgeWidth l a) → r ≡ v → place (sameZ z) 0 (column edgeWidth l n) ≡ v
-place-told l ea eu er ev = sym (λ j. place (sameZ (eu j)) 0 (column edgeWidth l (ea j))) ∙ sym er ∙ ev
 
 -- the reasons of numbers as they were passed
 pub point-told : (l : List ℤ) {a n : ℕ} (es : List ℤ) (i : ℕ) {u v x y : ℤ} {r : ℕ} → a ≡ n → u ≡ x → v ≡ y → r ≡ firstReason (pointReasons l a es i u v) → r ≡ firstReason (pointReasons l n es i x y)
 point-told l es i ea eu ev e = e ∙ (λ j. firstReason (pointReasons l (ea j) es i (eu j) (ev j)))
 
--- a reason that does not hold
-missed : (n : ℕ) (b : Bool) (rs : Reasons) → 0 < n → firstReason ((n, b) ∷ rs) ≡ 0 → (b ≡ false) × (firstReason rs ≡ 0)
-missed n b rs h e = go (which b)
-  where
-    go : (b ≡ true) ⊎ (b ≡ false) → (b ≡ false) × (firstReason rs ≡ 0)
-    go (inl q) = let z : n ≡ 0 = sym (first-hit n b rs q) ∙ e in absurd (omega arith)
-    go (inr q) = (q, sym (first-miss n b rs q) ∙ e)
-
 -- a point that was not turned down is in range
 pub point-in : (l : List ℤ) (n : ℕ) (es : List ℤ) (i : ℕ) (x y : ℤ) → firstReason (pointReasons l n es i x y) ≡ 0 → coordinate x && coordinate y ≡ true
-point-in l n es i x y e = not-false (coordinate x && coordinate y) (missed 5 _ _ (omega arith) e .0)
+point-in l n es i x y e = not-false (coordinate x && coordinate y) (first-zero 5 _ _ (omega arith) e .0)
 
 or-last : (a b : Bool) → a || b || false ≡ a || b
 or-last = eq2 (λ p q. p || q || false) (λ p q. p || q) tt
@@ -58,7 +44,7 @@ or-last = eq2 (λ p q. p || q || false) (λ p q. p || q) tt
 -- there are rows and numbers
 pub room-left : (l es : List ℤ) (h : Head) (keeps : Bool) → firstReason (roomReasons l es h keeps) ≡ 0 → (natAbs (h .nodes) + 1 ≤ length l / nodeWidth) × (natAbs (h .edges) + 1 ≤ length es / edgeWidth)
 room-left l es h keeps e =
-    let q = or-false _ _ (missed 20 _ _ (omega arith) e .0) in
+    let q = or-false _ _ (first-zero 20 _ _ (omega arith) e .0) in
     (ltb-false _ _ (q .0), ltb-false _ _ (q .1))
 
 module _ {nodes edges faces : List ℤ} {h : Head} (f : Formed nodes edges faces h) where
@@ -85,13 +71,8 @@ module _ {nodes edges faces : List ℤ} {h : Head} (f : Formed nodes edges faces
         go false = refl
 
     -- the row is missing
-    edge-none : (w : ℤ) → place (sameZ w) 0 (column edgeWidth edges (natAbs (h .edges))) ≡ Missing → noEdge (mapOf (lent nodes edges faces h)) w ≡ true
-    unfolding mapOf
-    edge-none (pos k) e = rw (edge-missing edges (natAbs (h .edges)) (ranges f .edge-rows) k e)
-    edge-none (negsuc k) e = refl
-
     pub split-missing : place (sameZ z) 0 (column edgeWidth edges (natAbs (h .edges))) ≡ Missing → firstReason (reasons.reasons (sizesOf (lent nodes edges faces h)) (mapOf (lent nodes edges faces h)) (splitTicket keeps z x y)) ≡ 4
-    split-missing e = ap firstReason split-is ∙ first-hit 4 _ _ (edge-none z e)
+    split-missing e = ap firstReason split-is ∙ first-hit 4 _ _ (edge-none f z e)
 
     -- it is row i
     module _ (i : ℕ) (e : place (sameZ z) 0 (column edgeWidth edges (natAbs (h .edges))) ≡ At i) where

@@ -32,10 +32,11 @@ use Rattle.links.specs.Positions.{odd, dartAt, wayWith}
 use Rattle.links.proofs.Positions.{edge-of, row-there}
 use Rattle.linking.proofs.FirstMet.{first-map}
 use Rattle.linking.proofs.Darts.{dart-named, row-named}
-use Rattle.linking.proofs.Departures.{departures-map, same-pos}
+use Rattle.linking.proofs.Departures.{departures-map}
 use Rattle.grown.proofs.Readings.{Relinked, numberOf, arcOf, has-number, nums-rows, edge-row, row-has, dart-has, departs, edge-by, tailIn, nextIn, leaves-row, next-row, course-row, way-row, next-by, keep-cong}
 use Rattle.grown.proofs.RowChanges.{more-old, more-new, more-directed, keep-append}
 use Rattle.grown.proofs.EdgesDrawn.{drawnRow, appended, linkIn-relinked, linkIn-next, linked-in}
+use Rattle.tables.proofs.Order.{same-pos}
 use Rattle.splitting.specs.Drawing.{drawnDart, departing, atEnd, startCorner, endCorner, Joined}
 use Rattle.splitting.proofs.Ends.{departing-below, at-end-below, start-way, end-way}
 use Rattle.splitting.proofs.Places.{place-old, place-forward, place-backward}

@@ -13,13 +13,13 @@ use Rattle.lists.specs.Scans.{any, all, find, isSome}
 use Rattle.lists.specs.Tables.{table, place}
 use Rattle.lists.specs.declared.Found.{Found}
 use Rattle.lists.specs.declared.Found.the-variants.{At, Missing}
-use Rattle.lists.proofs.Bools.{which, same-true, same-eq, same-false, differ}
+use Rattle.lists.proofs.Bools.{which, same-true, same-sym}
 use Rattle.lists.proofs.Scans.{place-none, place-at}
 use Rattle.map.specs.Limits.{nodeWidth, edgeWidth, faceWidth}
 use Rattle.map.specs.Rows.{rows, findEdge}
 use Rattle.map.specs.Form.{nodeRanges, edgeRanges, faceRanges}
 use Rattle.tables.specs.Tables.{sameZ, column, nodesOf, facesOf, nodeAt, edgeAt, faceAt, edgeMap, Rising}
-use Rattle.tables.proofs.Order.{same-self, is-same, not-same, below-other, rise}
+use Rattle.tables.proofs.Order.{same-self, same-pos, below-other, rise}
 use Rattle.tables.proofs.Rows.{nodes-table, edges-table, faces-table, rows-all, node-cells, edge-cells, face-cell}
 
 -- ---- the place in a list, and the scans `find` and `any`
@@ -71,19 +71,12 @@ any-same : {A : Type 0} (p q : A → Bool) → ((r : A) → p r ≡ q r) → (l 
 any-same p q h [] = refl
 any-same p q h (r ∷ l) = rw (h r, any-same p q h l)
 
-same-sym : (a b : ℕ) → same a b ≡ same b a
-same-sym a b = elim (which (same a b)) [ inl e ↦ e ∙ sym (same-eq b a (sym (same-true a b e))) | inr e ↦ e ∙ sym (same-false b a (λ q. differ a b e (sym q))) ]
-
 -- two tables that two tests take alike have one place
 place-same : {A B : Type 0} (p : A → Bool) (q : B → Bool) (f : ℕ → A) (g : ℕ → B) (a n : ℕ) → ((i : ℕ) → a ≤ i → i < a + n → p (f i) ≡ q (g i)) → place p a (table f a n) ≡ place q a (table g a n)
 place-same p q f g a zero h = refl
 place-same p q f g a (suc n) h = rw (h a (omega arith) (omega arith), place-same p q f g (a + 1) n (λ i s t. h i (omega arith) (omega arith)))
 
 -- ---- a number looked up in the first column
-
--- a number is another exactly where they are one as natural numbers
-same-pos : (m k : ℕ) → sameZ (pos m) (pos k) ≡ same k m
-same-pos m k = elim (which (same k m)) [ inl e ↦ is-same (pos m) (pos k) (ap pos (sym (same-true k m e))) ∙ sym e | inr e ↦ not-same (pos m) (pos k) (λ q. differ k m e (sym (ap natAbs q))) ∙ sym e ]
 
 -- z is the number of row i, which is found by it
 pub record Hit {A : Type 0} (number : A → ℕ) (f : ℕ → A) (n : ℕ) (z : ℤ) (i : ℕ) : Type 0 where
@@ -94,7 +87,7 @@ pub record Hit {A : Type 0} (number : A → ℕ) (f : ℕ → A) (n : ℕ) (z : 
 module _ {A : Type 0} (w : ℕ) (l : List ℤ) (n : ℕ) (number : A → ℕ) (f : ℕ → A) (cells : (i : ℕ) → i < n → getD l (i * w) (pos 0) ≡ pos (number (f i))) where
   -- the place in the column is the place of the row
   pub place-column : (m : ℕ) → place (sameZ (pos m)) 0 (column w l n) ≡ place (λ r. same (number r) m) 0 (table f 0 n)
-  place-column m = place-same (sameZ (pos m)) (λ r. same (number r) m) (λ i. getD l (i * w) (pos 0)) f 0 n (λ i s t. ap (sameZ (pos m)) (cells i (omega arith)) ∙ same-pos m (number (f i)))
+  place-column m = place-same (sameZ (pos m)) (λ r. same (number r) m) (λ i. getD l (i * w) (pos 0)) f 0 n (λ i s t. ap (sameZ (pos m)) (cells i (omega arith)) ∙ same-pos m (number (f i)) ∙ same-sym m (number (f i)))
 
   -- a negative number is missing
   pub place-negative : (m : ℕ) → place (sameZ (negsuc m)) 0 (column w l n) ≡ Missing

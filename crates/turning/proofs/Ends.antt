@@ -9,20 +9,18 @@ use lib.IntN.{ℤ, pos}
 use lib.ListN.{length, getD}
 use Rattle.lists.specs.Tests.{same}
 use Rattle.lists.specs.Scans.{keep, find, isSome, count}
-use Rattle.lists.proofs.Bools.{which, same-eq, same-false, same-true, differ}
+use Rattle.lists.proofs.Bools.{which, same-eq, same-false, same-true, differ, same-sym}
 use Rattle.map.specs.Limits.{edgeWidth}
 use Rattle.map.specs.Rows.{Edge, Map, edge}
 use Rattle.map.specs.Darts.{edgeEnds}
 use Rattle.map.specs.Edits.{sharedNodes, joint}
 use Rattle.map.specs.Reasons.{edgeIsolated, firstReason}
 use Rattle.tables.specs.Tables.{sameZ, edgeAt, edgeMap, EdgeRows}
+use Rattle.tables.proofs.Order.{same-pos}
 use Rattle.links.proofs.Positions.{cells-of, edge-of, number-injective}
 use Rattle.linking.specs.Linking.{positions, leavesNode}
-use Rattle.linking.proofs.Departures.{same-pos, ends-count}
+use Rattle.linking.proofs.Departures.{ends-count}
 use Rattle.turning.specs.Turning.{endsAt, joinsAt, jointReasons}
-
-pub same-sym : (a b : ℕ) → same a b ≡ same b a
-same-sym a b = elim (which (same a b)) [ inl e ↦ e ∙ sym (same-eq b a (sym (same-true a b e))) | inr e ↦ e ∙ sym (same-false b a (λ q. differ a b e (sym q))) ]
 
 module _ {l : List ℤ} {n : ℕ} (t : EdgeRows l n) where
   -- rows are one exactly where their numbers are

@@ -1,10 +1,11 @@
 -- `additions::add_edge` meets its contract: the first reason, or the edge drawn, and where it splits a face, that split. Assumes nothing.
-use borrow.Author.Needs.{needs, sfits-of}
+use borrow.Author.Needs.{needs}
 use mathlib.Core.Path.{sym, _∙_}
 use native.Mathlib.Omega.{arith}
 use borrow.Author.Tests.{not-true, not-false}
 use mir.Syntax.{w64}
 use mir.Facts.{toZ-ofZ}
+use Rattle.integers.specs.Signs.{sent}
 use Rattle.answers.proofs.Formed.{decided-refused, decided-carried}
 use Rattle.edge_reasons.specs.Kinds.{addTicket}
 use Rattle.additions.proofs.Added.{judged-told, add-value, add-drawable, drawn-splittable, joined-lent, parted-lent}
@@ -26,7 +27,7 @@ draw-requires c κs =
     let l = e .before in
     let s = l .before .before .before .before in
     let j = judged-told (toZ-ofZ {w = w64} (s .fits .start)) (toZ-ofZ {w = w64} (s .fits .end)) (l .judge-add .ensures) in
-    add-drawable (s .pre) j (e .if1 .left) (toZ-ofZ {w = w64} (sfits-of (n .struct-told2 .given .1 .1 .1 .0 .1)))
+    add-drawable (s .pre) j (e .if1 .left) (sent (n .struct-told2 .given .1 .1 .1 .0 .1))
 
 joined : tie.Need-returns-2
 joined c =
@@ -37,7 +38,7 @@ joined c =
     let s = l .before .before .before .before in
     let a = s .args in
     let j = judged-told (toZ-ofZ {w = w64} (s .fits .start)) (toZ-ofZ {w = w64} (s .fits .end)) (l .judge-add .ensures) in
-    let face = toZ-ofZ {w = w64} (sfits-of (n .struct-told2 .given .1 .1 .1 .0 .1)) in
+    let face = sent (n .struct-told2 .given .1 .1 .1 .0 .1) in
     decided-carried (a .nodes .now) (a .edges .now) (a .faces .now) (a .h) (addTicket (a .news) (a .start) (a .end) (a .c .now)) (d .draw .last .0) (d .draw .last .1 .0) (a .faces .now) (d .draw .result) _ (c .carried .ensures)
     (sym (j .reason) ∙ e .if1 .left)
     (joined-lent (s .pre) j (e .if1 .left) face (d .draw .ensures) (not-true (l .judge-add .result .splits) (c .before .if2 .taken)))
@@ -51,7 +52,7 @@ split-face-requires c κs =
     let l = e .before in
     let s = l .before .before .before .before in
     let j = judged-told (toZ-ofZ {w = w64} (s .fits .start)) (toZ-ofZ {w = w64} (s .fits .end)) (l .judge-add .ensures) in
-    let face = toZ-ofZ {w = w64} (sfits-of (n .struct-told2 .given .1 .1 .1 .0 .1)) in
+    let face = sent (n .struct-told2 .given .1 .1 .1 .0 .1) in
     drawn-splittable (s .pre) j (e .if1 .left) face (d .draw .ensures) (not-false (l .judge-add .result .splits) (c .before .before .before .if2 .left))
 
 parted : tie.Need-returns-3
@@ -64,7 +65,7 @@ parted c =
     let s = l .before .before .before .before in
     let a = s .args in
     let j = judged-told (toZ-ofZ {w = w64} (s .fits .start)) (toZ-ofZ {w = w64} (s .fits .end)) (l .judge-add .ensures) in
-    let face = toZ-ofZ {w = w64} (sfits-of (n .struct-told2 .given .1 .1 .1 .0 .1)) in
+    let face = sent (n .struct-told2 .given .1 .1 .1 .0 .1) in
     decided-carried (a .nodes .now) (a .edges .now) (a .faces .now) (a .h) (addTicket (a .news) (a .start) (a .end) (a .c .now)) (p .split-face .last .0) (p .split-face .last .1 .0) (p .split-face .last .1 .1 .0) (p .split-face .result) _ (c .carried2 .ensures)
     (sym (j .reason) ∙ e .if1 .left)
     (parted-lent (s .pre) j (e .if1 .left) face (d .draw .ensures) (not-false (l .judge-add .result .splits) (p .before .before .before .before .if2 .left)) (p .split-face .ensures))

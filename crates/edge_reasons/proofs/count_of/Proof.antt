@@ -3,7 +3,7 @@ use mathlib.Core.Path.{ap}
 use lib.IntN.{natAbs}
 use mir.Syntax.{w64}
 use mir.Facts.{toZ-ofZ}
-use Rattle.edge_reasons.proofs.Words.{natural-cast}
+use Rattle.integers.specs.Signs.{natural-cast}
 use Rattle.edge_reasons.proofs.count_of.Statement.{statement}
 use Rattle.edge_reasons.proofs.count_of.Tie as tie
 

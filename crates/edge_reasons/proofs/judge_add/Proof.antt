@@ -4,9 +4,9 @@ use mathlib.Core.Path.{_∙_}
 use mir.Syntax.{w64}
 use mir.Facts.{toZ-ofZ}
 use Rattle.tables.proofs.Rows.{node-rows-rising}
-use Rattle.answers.proofs.Formed.{nodes-count, node-rows}
-use Rattle.edge_reasons.proofs.Words.{count-natural, count-abs}
-use Rattle.edge_reasons.proofs.Adding.{few-nodes, place-told, node-none, end-none, row-below, add-missing, add-found}
+use Rattle.answers.proofs.Formed.{nodes-count, node-rows, node-none}
+use Rattle.answers.proofs.Words.{count-natural, count-abs, place-told}
+use Rattle.edge_reasons.proofs.Adding.{few-nodes, end-none, row-below, add-missing, add-found}
 use Rattle.edge_reasons.proofs.judge_add.Statement.{statement}
 use Rattle.edge_reasons.proofs.judge_add.Tie as tie
 

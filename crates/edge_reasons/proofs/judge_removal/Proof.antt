@@ -4,10 +4,11 @@ use mathlib.Core.Path.{refl, _∙_}
 use native.Mathlib.Omega.{arith}
 use mir.Syntax.{w64}
 use mir.Facts.{toZ-ofZ}
+use Rattle.lists.proofs.Counts.{bit-most}
 use Rattle.tables.proofs.Rows.{edge-row-of, edge-rows-rising}
 use Rattle.answers.proofs.Formed.{edges-count, edge-rows}
-use Rattle.edge_reasons.proofs.Words.{count-natural, count-abs, bit-most}
-use Rattle.edge_reasons.proofs.Adding.{few-edges, counted, place-told}
+use Rattle.answers.proofs.Words.{count-natural, count-abs, place-told}
+use Rattle.edge_reasons.proofs.Adding.{few-edges, counted}
 use Rattle.edge_reasons.proofs.Removing.{removal-missing, edge-below, removal-found}
 use Rattle.edge_reasons.proofs.judge_removal.Statement.{statement}
 use Rattle.edge_reasons.proofs.judge_removal.Tie as tie

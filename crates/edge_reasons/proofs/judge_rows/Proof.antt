@@ -4,16 +4,15 @@ use Prim.Native.Nat.{_<_}
 use native.Mathlib.Omega.{arith}
 use lib.IntN.{natAbs}
 use lib.Signed.{nonNeg}
-use borrow.Author.Needs.{sfits-of}
-use mir.Syntax.{w64}
-use mir.Facts.{toZ-ofZ}
+use Rattle.integers.specs.Signs.{sent}
 use Rattle.lists.specs.Tests.{bit}
+use Rattle.lists.proofs.Counts.{bit-most}
 use Rattle.map.specs.Rows.{mapOf}
 use Rattle.ranges.specs.Ranges.{lent}
 use Rattle.answers.proofs.Formed.{nodes-count, edges-count, node-rows, edge-rows}
 use Rattle.conditions.proofs.Points.{node-row-of}
+use Rattle.answers.proofs.Words.{count-natural, count-abs}
 use Rattle.edge_reasons.specs.Parts.{makesSecond}
-use Rattle.edge_reasons.proofs.Words.{count-natural, count-abs, bit-most}
 use Rattle.edge_reasons.proofs.Adding.{few-nodes, few-edges, counted, held, held-at, run-drawn, corner-told, rows-turned, rows-known}
 use Rattle.edge_reasons.proofs.judge_rows.Statement.{statement}
 use Rattle.edge_reasons.proofs.judge_rows.Tie as tie
@@ -37,7 +36,7 @@ judged c =
     let r = c .before .before .before .before .before .before .before .before .drawing-reason .ensures (mapOf (lent (a .nodes .now) (a .edges .now) (a .faces .now) (a .h))) (held-at f n k) in
     let clear = sym r ∙ c .before .before .before .before .before .before .before .if1 .left in
     let run = run-drawn f (a .news) (a .u) (a .v) (c .before .before .before .before .before .before .before .before .before .before .before .before .before .pre .1) (a .c .now) clear in
-    let z = toZ-ofZ {w = w64} (sfits-of (c .before .before .before .before .before .corner-face .ok)) ∙ corner-told f (a .news) (a .u) (a .v) (c .before .before .before .before .before .before .before .before .before .before .before .before .before .pre .1) (a .c .now) k (c .before .before .before .before .before .before .first-step .ensures .way) (c .before .before .before .before .before .corner-face .ensures) in
+    let z = sent (c .before .before .before .before .before .corner-face .ok) ∙ corner-told f (a .news) (a .u) (a .v) (c .before .before .before .before .before .before .before .before .before .before .before .before .before .pre .1) (a .c .now) k (c .before .before .before .before .before .before .first-step .ensures .way) (c .before .before .before .before .before .corner-face .ensures) in
     let w = c .before .before .before .before .splits-face .ensures (mapOf (lent (a .nodes .now) (a .edges .now) (a .faces .now) (a .h))) (held-at f n k .edge-rows) (held f .rising) in
     rows-known f (a .news) (a .u) (a .v) (c .before .before .before .before .before .before .before .before .before .before .before .before .before .pre .1) (a .c .now) clear run refl refl z w (c .before .before .before .bit-of .ensures ∙ ap bit w)
     (c .before .bit-of2 .ensures ∙ ap bit (c .before .before .makes-second .ensures ∙ (λ i. makesSecond (w i) (a .news) (natAbs (z i))))) (c .room-reason .ensures)
@@ -84,7 +83,7 @@ makes-second-requires c κs =
     let a = c .before .before .before .before .before .before .before .before .before .before .args in
     let f = c .before .before .before .before .before .before .before .before .before .before .pre .0 in
     let k = c .before .before .before .before .before .before .before .before .count-of .ensures ∙ count-abs (a .h .edges) (edges-count f .0) (omega (arith, few-edges f)) in
-    let z = toZ-ofZ {w = w64} (sfits-of (c .before .before .corner-face .ok)) ∙ corner-told f (a .news) (a .u) (a .v) (c .before .before .before .before .before .before .before .before .before .before .pre .1) (a .c .now) k (c .before .before .before .first-step .ensures .way) (c .before .before .corner-face .ensures) in
+    let z = sent (c .before .before .corner-face .ok) ∙ corner-told f (a .news) (a .u) (a .v) (c .before .before .before .before .before .before .before .before .before .before .pre .1) (a .c .now) k (c .before .before .before .first-step .ensures .way) (c .before .before .corner-face .ensures) in
     ap nonNeg z
 
 room-reason-requires : tie.Need-room-reason-requires

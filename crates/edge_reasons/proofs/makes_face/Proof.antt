@@ -5,11 +5,13 @@ use mathlib.Core.Bool.{Bool, not, _&&_}
 use Prim.Native.Nat.{_+_, _*_}
 use lib.IntN.{pos}
 use lib.ListN.{getD}
+use lib.Dec.{lit≤}
 use Rattle.lists.specs.Tests.{same}
 use Rattle.lists.proofs.Bools.{eq4}
 use Rattle.tables.specs.Tables.{edgeAt}
 use Rattle.tables.proofs.Rows.{edge-cells}
-use Rattle.edge_reasons.proofs.Words.{face-test, zero-fits, lower-zero}
+use Rattle.answers.proofs.Words.{number-test, small-fits}
+use Rattle.edge_reasons.proofs.Words.{lower-zero}
 use Rattle.edge_reasons.proofs.makes_face.Statement.{statement}
 use Rattle.edge_reasons.proofs.makes_face.Tie as tie
 
@@ -25,7 +27,7 @@ returns c =
     let right = edgeAt l i .right in
     let fx = sfits-of (c .before .left .given) in
     let fy = sfits-of (c .right .given) in
-    rw (face-test x y left right fx fy (cells .left) (cells .right), face-test x (pos 0) left 0 fx zero-fits (cells .left) refl, face-test y (pos 0) right 0 fy zero-fits (cells .right) refl)
+    rw (number-test x y left right fx fy (cells .left) (cells .right), number-test x (pos 0) left 0 fx (small-fits 0 (lit≤ tt)) (cells .left) refl, number-test y (pos 0) right 0 fy (small-fits 0 (lit≤ tt)) (cells .right) refl)
     (eq4 (λ n d p q. n && d && p && q) (λ n d p q. n && d && (p && q)) tt (a .news) (not (same left right)) (not (same left 0)) (not (same right 0)) ∙ ap (λ (b : Bool). a .news && not (same left right) && b) (lower-zero left right))
 
 pub makes-face-spec : {M : Type 1} → statement M

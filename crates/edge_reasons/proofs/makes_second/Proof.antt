@@ -2,14 +2,16 @@
 use mathlib.Core.Path.{refl, ap}
 use mathlib.Core.Bool.{Bool, not, _&&_}
 use lib.IntN.{pos, natAbs}
-use Rattle.edge_reasons.proofs.Words.{natural-is, face-test, zero-fits}
+use lib.Dec.{lit≤}
+use Rattle.tables.proofs.Rows.{pos-abs}
+use Rattle.answers.proofs.Words.{number-test, small-fits}
 use Rattle.edge_reasons.proofs.makes_second.Statement.{statement}
 use Rattle.edge_reasons.proofs.makes_second.Tie as tie
 
 returns : tie.Need-returns
 returns c =
     let a = c .args in
-    ap (λ (b : Bool). a .splits && a .news && not b) (face-test (a .face) (pos 0) (natAbs (a .face)) 0 (c .fits .face) zero-fits (natural-is (a .face) (c .pre)) refl)
+    ap (λ (b : Bool). a .splits && a .news && not b) (number-test (a .face) (pos 0) (natAbs (a .face)) 0 (c .fits .face) (small-fits 0 (lit≤ tt)) (pos-abs (a .face) (c .pre)) refl)
 
 pub makes-second-spec : {M : Type 1} → statement M
 makes-second-spec = tie.close (tie.spec returns)

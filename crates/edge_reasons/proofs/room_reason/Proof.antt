@@ -3,7 +3,7 @@ use mathlib.Core.Path.{sym, _∙_}
 use native.Mathlib.Omega.{arith}
 use Rattle.map.specs.Reasons.{firstReason}
 use Rattle.conditions.proofs.Reasons.{first-hit, first-miss, first-none}
-use Rattle.edge_reasons.proofs.Words.{count-natural, count-abs}
+use Rattle.answers.proofs.Words.{count-natural, count-abs}
 use Rattle.edge_reasons.proofs.Adding.{room-told, spent-told}
 use Rattle.edge_reasons.proofs.room_reason.Statement.{statement}
 use Rattle.edge_reasons.proofs.room_reason.Tie as tie

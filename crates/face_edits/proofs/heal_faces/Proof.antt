@@ -1,5 +1,5 @@
 -- `face_edits::heal_faces` meets its contract. Assumes nothing.
-use borrow.Author.Needs.{needs, sfits-of}
+use borrow.Author.Needs.{needs}
 use mathlib.Core.Path.{_≡_, sym, ap, _∙_}
 use mathlib.Core.Bool.{cond}
 use Prim.Native.Nat.{min}
@@ -10,6 +10,7 @@ use lib.Signed.{nonNeg}
 use mir.Syntax.{w64}
 use mir.Val.{ofZ, toZ}
 use mir.Facts.{toZ-ofZ}
+use Rattle.integers.specs.Signs.{sent}
 use Rattle.lists.specs.Tests.{same}
 use Rattle.lists.specs.Scans.{any}
 use Rattle.map.specs.Rows.{mapOf}
@@ -17,8 +18,8 @@ use Rattle.tables.specs.Tables.{nodesOf, edgesOf, facesOf}
 use Rattle.tables.proofs.Rows.{faces-length}
 use Rattle.ranges.specs.Ranges.{lent}
 use Rattle.answers.specs.declared.Done.{Done}
+use Rattle.answers.proofs.Words.{is-natural, count-natural, count-abs}
 use Rattle.face_edits.specs.Holds.{faceKept}
-use Rattle.face_edits.proofs.Words.{is-natural, count-natural, count-abs}
 use Rattle.face_edits.proofs.FaceRows.{table-distinct, without-length}
 use Rattle.face_edits.proofs.Heals.{map-nodes, map-edges, map-next, healed-holds}
 use Rattle.face_edits.proofs.heal_faces.Statement.{statement}
@@ -40,7 +41,7 @@ rename-faces-requires c κs =
     let vl = toZ-ofZ {w = w64} {z = a .left} (s .fits .left) in
     let vr = toZ-ofZ {w = w64} {z = a .right} (s .fits .right) in
     let fl = c .before .before .before .before .before .before .face-left in
-    let vf = toZ-ofZ {w = w64} {z = fl .result} (sfits-of (fl .ok)) in
+    let vf = sent {z = fl .result} (fl .ok) in
     rw (n, e, vl, vr, vf) (k .node-rows, k .edge-rows, k .node-cells, k .edge-cells, s .pre .left-face, s .pre .right-face, fl .ensures ∙ ap (λ (z : ℤ). pos (natAbs z)) (sym (fl .ensures)))
 
 count-of-requires-3 : tie.Need-count-of-requires-3
@@ -56,7 +57,7 @@ heal-row-requires c κs =
     let vl = toZ-ofZ {w = w64} {z = a .left} (s .fits .left) in
     let vr = toZ-ofZ {w = w64} {z = a .right} (s .fits .right) in
     let fl = c .before .before .before .before .before .before .before .before .before .before .before .before .face-left in
-    let vf = toZ-ofZ {w = w64} {z = fl .result} (sfits-of (fl .ok)) in
+    let vf = sent {z = fl .result} (fl .ok) in
     rw (f, vl, vr, vf) ((length (a .faces .now), facesOf (a .faces .now) (natAbs (a .h .faces)), k .face-table, faces-length (a .faces .now) (natAbs (a .h .faces)), p .left-there, p .right-there), is-natural (a .left) (p .left-face), is-natural (a .right) (p .right-face), ap nonNeg (fl .ensures), p .differ)
 
 without-face-requires : tie.Need-without-face-requires
@@ -82,7 +83,7 @@ returns c row el er =
     let f = c .before .before .before .before .count-of3 .ensures ∙ count-abs (a .h .faces) (k .faces-count) (omega (arith, k .few-faces)) in
     let vl = toZ-ofZ {w = w64} {z = a .left} (s .fits .left) in
     let vr = toZ-ofZ {w = w64} {z = a .right} (s .fits .right) in
-    let vf = toZ-ofZ {w = w64} {z = fl .result} (sfits-of (fl .ok)) in
+    let vf = sent {z = fl .result} (fl .ok) in
     let nx : natAbs (toZ w64 (ofZ w64 (a .h .«next_face»))) ≡ m .nextFace = count-abs (a .h .«next_face») (k .next-face) (k .next-most) ∙ sym (map-next (a .nodes .now) (a .edges .now) (a .faces .now) (a .h)) in
     let face : fl .result ≡ pos (faceKept (a .makes) row m) = fl .ensures ∙ (λ i. pos (cond (a .makes) (nx i) (min ((ap natAbs vl ∙ sym el) i) ((ap natAbs vr ∙ sym er) i)))) in
     let rows = c .before .before .before .before .before .before .before .before .before .rename-faces .ensures row m (el ∙ sym (ap natAbs vl)) (er ∙ sym (ap natAbs vr))

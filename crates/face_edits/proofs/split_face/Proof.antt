@@ -1,10 +1,10 @@
 -- `face_edits::split_face` meets its contract. Assumes nothing.
 use borrow.Author.Needs.{needs}
-use mathlib.Core.Path.{_≡_, sym, ap, _∙_, subst}
+use mathlib.Core.Path.{_≡_, sym, ap, _∙_, subst, refl}
 use mathlib.Core.Bool.{Bool, not, _&&_}
 use Prim.Native.Nat.{ℕ, _*_, _-_, _<_}
 use native.Mathlib.Omega.{arith}
-use lib.Dec.{eqb}
+use lib.Dec.{eqb, lit≤}
 use lib.IntN.{ℤ, pos, natAbs}
 use lib.ListN.{length}
 use mir.Syntax.{w64}
@@ -22,7 +22,7 @@ use Rattle.tables.proofs.Rows.{faces-length}
 use Rattle.links.specs.Positions.{dartAt}
 use Rattle.ranges.specs.Ranges.{lent}
 use Rattle.sharing.specs.Sharing.{Shared}
-use Rattle.face_edits.proofs.Words.{is-natural, count-natural, count-abs, count-back, zero-test}
+use Rattle.answers.proofs.Words.{is-natural, count-natural, count-abs, count-back, number-test, small-fits}
 use Rattle.face_edits.proofs.Heals.{map-nodes, map-edges}
 use Rattle.face_edits.proofs.Splits.{area-is, split-holds, sides-shared}
 use Rattle.face_edits.proofs.split_face.Statement.{statement}
@@ -105,7 +105,7 @@ returns c =
     let table = rw (vo, vn) at (c .before .before .split-row .ensures (length (a .faces .now)) (facesOf (a .faces .now) (natAbs (a .h .faces))) (k .face-table) (faces-length (a .faces .now) (natAbs (a .h .faces)) ∙ sym f)
     (subst (λ (j : ℕ). j < length (a .faces .now)) (sym f) (p .room))
     (ap (λ (z : ℤ). any (same (natAbs z)) (facesOf (a .faces .now) (natAbs (a .h .faces)))) vo ∙ p .there)) in
-    split-holds p (a .news) isLeft goes (ap (λ (z : ℤ). isPositive (sgn z)) (area-is p)) (ap (λ (b : Bool). a .news && not b) (sym (zero-test (a .old) (self (p .borne)) (s .fits .old)))) (c .before .before .before .before .before .before .before .before .before .before .before .before .before .sides-of .result) sides _ _ _ _ (rows .0) (rows .1) table (c .with-face .ensures)
+    split-holds p (a .news) isLeft goes (ap (λ (z : ℤ). isPositive (sgn z)) (area-is p)) (ap (λ (b : Bool). a .news && not b) (sym (number-test (a .old) (pos 0) (natAbs (a .old)) 0 (s .fits .old) (small-fits 0 (lit≤ tt)) (self (p .borne)) refl))) (c .before .before .before .before .before .before .before .before .before .before .before .before .before .sides-of .result) sides _ _ _ _ (rows .0) (rows .1) table (c .with-face .ensures)
 
 pub split-face-spec : {M : Type 1} → statement M
 split-face-spec =

@@ -1,31 +1,31 @@
 -- `face_edits::with_face` meets its contract: counts and next numbers are small. Assumes nothing.
 use borrow.Author.Needs.{needs}
-use mathlib.Core.Path.{refl}
 use mathlib.Core.Bool.{cond}
 use native.Mathlib.Omega.{arith}
 use lib.Dec.{lit≤}
-use lib.IntN.{pos}
-use Rattle.face_edits.proofs.Words.{picked, cond-most, plus-fits, plus-is}
+use lib.IntN.{natAbs}
+use Rattle.answers.proofs.Words.{plus-fits, plus-is, more-fits, more-is}
+use Rattle.face_edits.proofs.Words.{picked, cond-most}
 use Rattle.face_edits.proofs.with_face.Statement.{statement}
 use Rattle.face_edits.proofs.with_face.Tie as tie
 
 add-after : tie.Need-add-after
 add-after c =
     let s = c .before .before .before in
-    plus-fits (s .args .h .faces) (s .pre .0) (omega (arith, s .pre .1)) (pos 1) 1 refl (lit≤ tt)
+    plus-fits (s .args .h .faces) (s .pre .0) (omega (arith, s .pre .1))
 
 add-after-2 : tie.Need-add-after-2
 add-after-2 c =
     let s = c .before .before .before in
-    plus-fits (s .args .h .«next_face») (s .pre .2) (s .pre .3) _ (cond (s .args .goes) 2 1) (picked (s .args .goes) 2 1 (c .pick .ensures) (lit≤ tt) (lit≤ tt)) (cond-most (s .args .goes) 2 1 2 (lit≤ tt) (lit≤ tt))
+    more-fits (natAbs (s .args .h .«next_face»)) (cond (s .args .goes) 2 1) (s .pre .2) (picked (s .args .goes) 2 1 (c .pick .ensures) (lit≤ tt) (lit≤ tt)) (omega (arith, s .pre .3, cond-most (s .args .goes) 2 1 2 (lit≤ tt) (lit≤ tt)))
 
 returns : tie.Need-returns
 returns c =
     let s = c .before .before .before in
     let h = s .args .h in
     rw (
-      plus-is (h .faces) (s .pre .0) (omega (arith, s .pre .1)) (pos 1) 1 refl (lit≤ tt),
-      plus-is (h .«next_face») (s .pre .2) (s .pre .3) _ (cond (s .args .goes) 2 1) (picked (s .args .goes) 2 1 (c .pick .ensures) (lit≤ tt) (lit≤ tt)) (cond-most (s .args .goes) 2 1 2 (lit≤ tt) (lit≤ tt)),
+      plus-is (h .faces) (s .pre .0) (omega (arith, s .pre .1)),
+      more-is (natAbs (h .«next_face»)) (cond (s .args .goes) 2 1) (s .pre .2) (picked (s .args .goes) 2 1 (c .pick .ensures) (lit≤ tt) (lit≤ tt)) (omega (arith, s .pre .3, cond-most (s .args .goes) 2 1 2 (lit≤ tt) (lit≤ tt))),
     )
 
 pub with-face-spec : {M : Type 1} → statement M

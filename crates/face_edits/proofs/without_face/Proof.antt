@@ -4,11 +4,13 @@ use mathlib.Core.Path.{_≡_, refl}
 use mathlib.Core.Bool.{Bool, true, false, cond}
 use native.Mathlib.Omega.{arith}
 use lib.Dec.{lit≤}
-use lib.IntN.{ℤ, pos}
+use lib.IntN.{ℤ, pos, natAbs}
 use Rattle.lists.specs.Tests.{bit}
+use Rattle.lists.proofs.Counts.{bit-most}
+use Rattle.answers.proofs.Words.{minus-fits, minus-is, more-fits, more-is}
 use mir.Syntax.{w64}
 use mir.Val.{ofZ, toZ}
-use Rattle.face_edits.proofs.Words.{picked, cond-most, plus-fits, plus-is, minus-fits, minus-is}
+use Rattle.face_edits.proofs.Words.{picked}
 use Rattle.face_edits.proofs.without_face.Statement.{statement}
 use Rattle.face_edits.proofs.without_face.Tie as tie
 
@@ -27,7 +29,7 @@ sub-after c =
 add-after : tie.Need-add-after
 add-after c =
     let s = c .before .before .before in
-    plus-fits (s .args .h .«next_face») (s .pre .3) (s .pre .4) _ (bit (s .args .makes)) (given (s .args .makes) (c .pick .ensures)) (rw (← bits (s .args .makes)) (cond-most (s .args .makes) 1 0 2 (lit≤ tt) (lit≤ tt)))
+    more-fits (natAbs (s .args .h .«next_face»)) (bit (s .args .makes)) (s .pre .3) (given (s .args .makes) (c .pick .ensures)) (omega (arith, s .pre .4, bit-most (s .args .makes)))
 
 returns : tie.Need-returns
 returns c =
@@ -35,7 +37,7 @@ returns c =
     let h = s .args .h in
     rw (
       minus-is (h .faces) (s .pre .0) (omega (arith, s .pre .1)) (s .pre .2),
-      plus-is (h .«next_face») (s .pre .3) (s .pre .4) _ (bit (s .args .makes)) (given (s .args .makes) (c .pick .ensures)) (rw (← bits (s .args .makes)) (cond-most (s .args .makes) 1 0 2 (lit≤ tt) (lit≤ tt))),
+      more-is (natAbs (h .«next_face»)) (bit (s .args .makes)) (s .pre .3) (given (s .args .makes) (c .pick .ensures)) (omega (arith, s .pre .4, bit-most (s .args .makes))),
     )
 
 pub without-face-spec : {M : Type 1} → statement M

@@ -5,14 +5,15 @@ use lib.IntN.{pos}
 use lib.ListN.{getD}
 use mir.Syntax.{w64}
 use mir.Facts.{toZ-ofZ}
-use Rattle.floors.proofs.Cells.{face-cast, face-small}
+use Rattle.integers.specs.Signs.{natural-cast}
+use Rattle.floors.proofs.Cells.{face-small}
 use Rattle.floors.proofs.face_at.Statement.{statement}
 use Rattle.floors.proofs.face_at.Tie as tie
 
 cast-z : tie.Need-cast-result
 cast-z c =
     let z = getD (c .before .args .edges .now) (c .before .args .j) (pos 0) in
-    rw (toZ-ofZ {w = w64} {z = z} (sfits-of (c .z .given))) (face-cast z (c .before .pre .1) (sfits-of (c .z .given)))
+    rw (toZ-ofZ {w = w64} {z = z} (sfits-of (c .z .given))) (natural-cast z (c .before .pre .1) (sfits-of (c .z .given)))
 
 returns : tie.Need-returns
 returns c =

@@ -1,10 +1,9 @@
 -- `heals::after_heal` meets its contract: counts and next numbers are small. Assumes nothing.
-use borrow.Author.Needs.{needs, sfits-of}
+use borrow.Author.Needs.{needs}
 use mathlib.Core.Path.{_∙_}
 use native.Mathlib.Omega.{arith}
-use mir.Syntax.{w64}
-use mir.Facts.{toZ-ofZ}
-use Rattle.heals.proofs.Words.{minus-fits, minus-is}
+use Rattle.integers.specs.Signs.{sent}
+use Rattle.answers.proofs.Words.{minus-fits, minus-is}
 use Rattle.heals.proofs.after_heal.Statement.{statement}
 use Rattle.heals.proofs.after_heal.Tie as tie
 
@@ -19,7 +18,7 @@ returns c =
     let s = c .before .before .before in
     let h = s .args .h in
     let p = s .pre in
-    rw (minus-is (h .nodes) (p .0 .nodes) (omega (arith, p .0 .few-nodes)) (p .1), minus-is (h .edges) (p .0 .edges) (omega (arith, p .0 .few-edges)) (p .2), toZ-ofZ {w = w64} (sfits-of (c .next-after .ok)) ∙ c .next-after .ensures)
+    rw (minus-is (h .nodes) (p .0 .nodes) (omega (arith, p .0 .few-nodes)) (p .1), minus-is (h .edges) (p .0 .edges) (omega (arith, p .0 .few-edges)) (p .2), sent (c .next-after .ok) ∙ c .next-after .ensures)
 
 pub after-heal-spec : {M : Type 1} → statement M
 after-heal-spec =

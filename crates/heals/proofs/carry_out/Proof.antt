@@ -1,5 +1,5 @@
 -- `heals::carry_out` meets its contract. Assumes nothing.
-use borrow.Author.Needs.{needs, sfits-of}
+use borrow.Author.Needs.{needs}
 use mathlib.Core.Path.{_≡_, ap, ap₂, _∙_}
 use mathlib.Core.Bool.{Bool, true, false}
 use Prim.Native.Nat.{ℕ, _*_}
@@ -10,12 +10,13 @@ use lib.Signed.{nonNeg}
 use mir.Syntax.{w64}
 use mir.Val.{SFits}
 use mir.Facts.{toZ-ofZ}
+use Rattle.integers.specs.Signs.{sent}
 use Rattle.lists.specs.Tables.{place}
 use Rattle.map.specs.declared.Head.{Head}
 use Rattle.tables.specs.Tables.{sameZ, column, closed}
 use Rattle.links.proofs.Positions.{cells-of}
+use Rattle.answers.proofs.Words.{count-natural, count-abs}
 use Rattle.heals.specs.Heals.{Numbered, healedNumber, healedRows}
-use Rattle.heals.proofs.Words.{count-natural, count-abs}
 use Rattle.heals.proofs.carry_out.Statement.{statement}
 use Rattle.heals.proofs.carry_out.Tie as tie
 
@@ -33,7 +34,7 @@ heal-rows-requires c κs =
     let p = s .pre in
     let e : c .count-of .result ≡ natAbs (a .h .edges) = c .count-of .ensures ∙ count-abs (a .h .edges) (p .0 .edges) (omega (arith, p .0 .few-edges)) in
     let r = c .before .before .before .healed-number in
-    let z = toZ-ofZ {w = w64} (sfits-of (r .ok)) ∙ r .ensures ∙ ap (healedNumber (a .h) (a .keeps)) (toZ-ofZ {w = w64} (sfits-of (c .before .before .before .before .healed-number-arg .given))) in
+    let z = sent (r .ok) ∙ r .ensures ∙ ap (healedNumber (a .h) (a .keeps)) (sent (c .before .before .before .before .healed-number-arg .given)) in
     let g = ap nonNeg z ∙ natural (a .h) (p .0) (a .keeps) (getD (a .edges .now) (a .i * 32) (pos 0)) _ (cells-of (p .2) (a .i) (p .4) .number) in
     rw e (p .2, p .0 .few-edges, p .7, p .8, g, p .4, p .5, p .6, p .9)
 
@@ -55,10 +56,10 @@ returns c =
     let e : c .before .before .before .before .before .before .before .before .before .before .before .count-of .result ≡ natAbs (a .h .edges) = c .before .before .before .before .before .before .before .before .before .before .before .count-of .ensures ∙ count-abs (a .h .edges) (p .0 .edges) (omega (arith, p .0 .few-edges)) in
     let n : c .before .before .before .before .before .count-of2 .result ≡ natAbs (a .h .nodes) = c .before .before .before .before .before .count-of2 .ensures ∙ count-abs (a .h .nodes) (p .0 .nodes) (omega (arith, p .0 .few-nodes)) in
     let r = c .before .before .before .before .before .before .before .before .before .before .before .before .before .before .healed-number in
-    let z = toZ-ofZ {w = w64} (sfits-of (r .ok)) ∙ r .ensures ∙ ap (healedNumber (a .h) (a .keeps)) (toZ-ofZ {w = w64} (sfits-of (c .before .before .before .before .before .before .before .before .before .before .before .before .before .before .before .healed-number-arg .given))) in
+    let z = sent (r .ok) ∙ r .ensures ∙ ap (healedNumber (a .h) (a .keeps)) (sent (c .before .before .before .before .before .before .before .before .before .before .before .before .before .before .before .healed-number-arg .given)) in
     let g = s .good .1 .1 .1 .1 .1 .1 .0 in
     let f : SFits w64 (a .s .joint) = search (needs, g) in
-    let v = toZ-ofZ {w = w64} (sfits-of (c .before .healed-value .ok)) ∙ c .before .healed-value .ensures in (
+    let v = sent (c .before .healed-value .ok) ∙ c .before .healed-value .ensures in (
       c .before .before .before .before .before .before .before .before .before .before .heal-rows .ensures ∙ ap₂ (λ (k : ℕ) (x : ℤ). healedRows l k (a .i) (a .j) (a .s .first) (a .s .second) (a .keeps) x (a .l)) e z,
       λ k at. c .before .before .before .before .remove-joint .ensures k ((λ t. place (sameZ (toZ-ofZ {w = w64} f t)) 0 (column 4 (a .nodes .now) (n t))) ∙ at) ∙ ap (λ (x : ℕ). closed 4 (a .nodes .now) x k) n,
       c .carried .ensures ∙ (λ t. record { head = c .before .before .after-heal .ensures t; answer = record { refusal = 0; value = v t } }),

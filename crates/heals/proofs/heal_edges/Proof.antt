@@ -1,29 +1,24 @@
 -- `heals::heal_edges` meets its contract: a missing row is turned down, and the rows that are found are healed. Assumes nothing.
 use borrow.Author.Needs.{needs}
-use mathlib.Core.Path.{_≡_, refl, sym, ap₂, _∙_}
-use mathlib.Core.Bool.{Bool, true, false, _||_}
+use mathlib.Core.Path.{_≡_, sym, ap₂, _∙_}
 use native.Mathlib.Omega.{arith}
 use lib.Dec.{lit<}
 use lib.IntN.{ℤ, natAbs}
 use mir.Syntax.{w64}
 use mir.Facts.{toZ-ofZ}
+use Rattle.lists.proofs.Bools.{or-right}
 use Rattle.map.specs.Rows.{mapOf}
 use Rattle.map.specs.Reasons.{noEdge}
 use Rattle.tables.proofs.Rows.{edge-rows-rising}
 use Rattle.tables.proofs.Lookups.{edge-found}
 use Rattle.ranges.specs.Ranges.{lent}
 use Rattle.answers.specs.Outcomes.{decided}
-use Rattle.answers.proofs.Formed.{ranges, edge-rows, decided-refused}
+use Rattle.answers.proofs.Formed.{ranges, edge-rows, decided-refused, edge-none}
+use Rattle.answers.proofs.Words.{count-natural, count-abs, place-told}
 use Rattle.heals.specs.Kinds.{healTicket}
-use Rattle.heals.proofs.Words.{count-natural, count-abs}
-use Rattle.heals.proofs.Sides.{place-told}
-use Rattle.heals.proofs.Told.{numbered-of, edge-none, row-missing}
+use Rattle.heals.proofs.Told.{numbered-of, row-missing}
 use Rattle.heals.proofs.heal_edges.Statement.{statement}
 use Rattle.heals.proofs.heal_edges.Tie as tie
-
-or-right : (x y : Bool) → y ≡ true → x || y ≡ true
-or-right true y e = refl
-or-right false y e = e
 
 count-of-requires : tie.Need-count-of-requires
 count-of-requires c κs = let s = c .before in let q = numbered-of (s .pre .1) in count-natural (s .args .h .edges) (q .edges) (omega (arith, q .few-edges))

@@ -11,9 +11,9 @@ use Rattle.tables.specs.Tables.{edgeAt, edgeMap}
 use Rattle.tables.proofs.Rows.{edge-row-of}
 use Rattle.turning.specs.Turning.{jointReasons}
 use Rattle.answers.proofs.Formed.{node-rows, edge-rows, decided-refused, decided-carried}
+use Rattle.answers.proofs.Words.{count-natural, count-abs}
 use Rattle.heals.specs.Kinds.{healTicket}
 use Rattle.heals.specs.Heals.{PartsOf, lateReasons, healedHead, healedValue, healedRows, healedNumber}
-use Rattle.heals.proofs.Words.{count-natural, count-abs}
 use Rattle.heals.proofs.Told.{numbered-of, late-few, joint-some, edges-differ, early-reason, late-reason}
 use Rattle.heals.proofs.Healed.{line-counted, heal-carried, joint-row, some-node, value-carried}
 use Rattle.heals.proofs.heal_rows_of.Statement.{statement}

@@ -1,10 +1,11 @@
 -- `heals::healed_sides` meets its contract. Assumes nothing.
-use borrow.Author.Needs.{needs, sfits-of}
+use borrow.Author.Needs.{needs}
 use mathlib.Core.Path.{_≡_, ap, _∙_}
 use Prim.Native.Nat.{ℕ, _/_}
 use native.Mathlib.Omega.{arith}
 use mir.Syntax.{w64}
 use mir.Facts.{toZ-ofZ}
+use Rattle.integers.specs.Signs.{sent}
 use Rattle.links.specs.Positions.{sideCell}
 use Rattle.heals.proofs.Sides.{reverse-half}
 use Rattle.heals.proofs.healed_sides.Statement.{statement}
@@ -31,12 +32,12 @@ returns c =
     let left = c .before .before .before .before .dart-cell3 in
     let right = c .before .before .dart-cell4 in
     let n = toZ-ofZ {w = w64} (s .fits .number) in
-    let e₁ = toZ-ofZ {w = w64} (sfits-of (start .ok)) ∙ start .ensures in
-    let e₂ = toZ-ofZ {w = w64} (sfits-of (end .ok)) ∙ end .ensures ∙ ap (λ (k : ℕ). sideCell l k 1) (c .before .before .before .before .before .before .reverse .ensures) in
-    let e₃ = toZ-ofZ {w = w64} (sfits-of (left .ok)) ∙ left .ensures in
-    let e₄ = toZ-ofZ {w = w64} (sfits-of (right .ok)) ∙ right .ensures ∙ ap (λ (k : ℕ). sideCell l k 3) (c .before .before .before .reverse2 .ensures) in
-    let e₅ = toZ-ofZ {w = w64} (sfits-of (c .before .left .given)) in
-    let e₆ = toZ-ofZ {w = w64} (sfits-of (c .right .given)) in
+    let e₁ = sent (start .ok) ∙ start .ensures in
+    let e₂ = sent (end .ok) ∙ end .ensures ∙ ap (λ (k : ℕ). sideCell l k 1) (c .before .before .before .before .before .before .reverse .ensures) in
+    let e₃ = sent (left .ok) ∙ left .ensures in
+    let e₄ = sent (right .ok) ∙ right .ensures ∙ ap (λ (k : ℕ). sideCell l k 3) (c .before .before .before .reverse2 .ensures) in
+    let e₅ = sent (c .before .left .given) in
+    let e₆ = sent (c .right .given) in
     λ t. record { number = n t; start = e₁ t; end = e₂ t; «next_left» = e₃ t; «next_right» = e₄ t; left = e₅ t; right = e₆ t }
 
 pub healed-sides-spec : {M : Type 1} → statement M

@@ -5,9 +5,10 @@ use native.Mathlib.Omega.{arith}
 use Rattle.curves.specs.Curves.{Curve, points}
 use Rattle.curves.specs.Edits.{joined}
 use Rattle.cutting.specs.Lines.{lineOf}
+use Rattle.map.proofs.RoundTrip.{curve-back}
 use Rattle.links.specs.Positions.{odd}
 use Rattle.heals.specs.Heals.{courseAt}
-use Rattle.heals.proofs.Courses.{course-listed, points-few, line-count, line-long, line-run, line-curve, curve-again}
+use Rattle.heals.proofs.Courses.{course-listed, points-few, line-count, line-long, line-run, line-curve}
 use Rattle.heals.proofs.joined_line.Statement.{statement}
 use Rattle.heals.proofs.joined_line.Tie as tie
 
@@ -54,8 +55,8 @@ returns c =
     let l = s .args .edges .now in
     c .joined-of .ensures
     ∙ ap₂ (λ (a d : Curve). lineOf (points (joined a d)))
-    (line-curve (course-listed (s .pre .0) (odd (s .args .p))) (x .result) (x .ensures) ∙ curve-again (courseAt l (s .args .p)))
-    (line-curve (course-listed (s .pre .1) (odd (s .args .q))) (y .result) (y .ensures) ∙ curve-again (courseAt l (s .args .q)))
+    (line-curve (course-listed (s .pre .0) (odd (s .args .p))) (x .result) (x .ensures) ∙ curve-back (courseAt l (s .args .p)))
+    (line-curve (course-listed (s .pre .1) (odd (s .args .q))) (y .result) (y .ensures) ∙ curve-back (courseAt l (s .args .q)))
 
 pub joined-line-spec : {M : Type 1} → statement M
 joined-line-spec =

@@ -5,7 +5,7 @@ use Prim.Native.Nat.{_+_}
 use native.Mathlib.Omega.{arith}
 use lib.IntN.{natAbs}
 use Rattle.map.specs.Reasons.{firstReason}
-use Rattle.heals.proofs.Words.{count-natural, count-abs}
+use Rattle.answers.proofs.Words.{count-natural, count-abs}
 use Rattle.heals.proofs.late_reason.Statement.{statement}
 use Rattle.heals.proofs.late_reason.Tie as tie
 

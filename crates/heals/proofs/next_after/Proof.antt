@@ -3,7 +3,7 @@ use mathlib.Core.Path.{sym, ap, _∙_}
 use native.Mathlib.Nat.{add-zero}
 use native.Mathlib.Omega.{arith}
 use lib.IntN.{pos, natAbs}
-use Rattle.heals.proofs.Words.{count-read, plus-fits, plus-is}
+use Rattle.answers.proofs.Words.{count-read, plus-fits, plus-is}
 use Rattle.heals.proofs.next_after.Statement.{statement}
 use Rattle.heals.proofs.next_after.Tie as tie
 

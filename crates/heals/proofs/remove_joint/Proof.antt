@@ -9,7 +9,7 @@ use Rattle.lists.specs.declared.Found.the-variants.{At, Missing}
 use Rattle.tables.specs.Tables.{closed}
 use Rattle.tables.proofs.Rows.{node-rows-rising}
 use Rattle.tables.proofs.Lookups.{node-found}
-use Rattle.heals.proofs.Sides.{place-told}
+use Rattle.answers.proofs.Words.{place-told}
 use Rattle.heals.proofs.remove_joint.Statement.{statement}
 use Rattle.heals.proofs.remove_joint.Tie as tie
 

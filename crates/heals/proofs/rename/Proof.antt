@@ -1,5 +1,5 @@
 -- `heals::rename` meets its contract. Assumes nothing.
-use borrow.Author.Needs.{needs, sfits-of}
+use borrow.Author.Needs.{needs}
 use mathlib.Core.Path.{_≡_, sym, ap, ap₂, _∙_, subst}
 use mathlib.Core.List.{List}
 use Prim.Native.Nat.{ℕ, _/_}
@@ -8,6 +8,7 @@ use lib.IntN.{ℤ, negℤ}
 use mir.Syntax.{w64}
 use mir.Val.{toZ, ofZ}
 use mir.Facts.{toZ-ofZ}
+use Rattle.integers.specs.Signs.{sent}
 use Rattle.map.specs.Rows.{dartCell}
 use Rattle.tables.specs.Tables.{EdgeRow}
 use Rattle.tables.proofs.Rows.{edge-row-of}
@@ -34,10 +35,10 @@ returns c =
     let q = s .args .q in
     let d = c .before .before .before .before .before .before .before .before .before .before .dart-at in
     let back = c .before .before .before .before .before .before .before .dart-at2 in
-    let e₁ : toZ w64 (ofZ w64 (d .result)) ≡ dartCell (dartAt l p) = toZ-ofZ {w = w64} (sfits-of (d .ok)) ∙ d .ensures in
+    let e₁ : toZ w64 (ofZ w64 (d .result)) ≡ dartCell (dartAt l p) = sent (d .ok) ∙ d .ensures in
     let e₂ : toZ w64 (ofZ w64 (s .args .number)) ≡ s .args .number = toZ-ofZ {w = w64} (s .fits .number) in
-    let e₃ : toZ w64 (ofZ w64 (back .result)) ≡ dartCell (dartAt l (reverseOf q)) = toZ-ofZ {w = w64} (sfits-of (back .ok)) ∙ back .ensures ∙ ap (λ (k : ℕ). dartCell (dartAt l k)) (c .before .before .before .before .before .before .before .before .reverse .ensures) in
-    let e₄ : toZ w64 (ofZ w64 (c .before .before .turned .result)) ≡ negℤ (s .args .number) = toZ-ofZ {w = w64} (sfits-of (c .before .before .turned .ok)) ∙ c .before .before .turned .ensures ∙ ap negℤ e₂ in
+    let e₃ : toZ w64 (ofZ w64 (back .result)) ≡ dartCell (dartAt l (reverseOf q)) = sent (back .ok) ∙ back .ensures ∙ ap (λ (k : ℕ). dartCell (dartAt l k)) (c .before .before .before .before .before .before .before .before .reverse .ensures) in
+    let e₄ : toZ w64 (ofZ w64 (c .before .before .turned .result)) ≡ negℤ (s .args .number) = sent (c .before .before .turned .ok) ∙ c .before .before .turned .ensures ∙ ap negℤ e₂ in
     let t = redirected (dartCell (dartAt l p)) (s .args .number) l n in
     let f : c .before .before .before .before .before .redirect .last .0 ≡ t = c .before .before .before .before .before .redirect .ensures ∙ ap₂ (λ (x y : ℤ). redirected x y l n) e₁ e₂ in
     c .before .redirect2 .ensures ∙ ap (λ (u : List ℤ). redirected (toZ w64 (ofZ w64 (back .result))) (toZ w64 (ofZ w64 (c .before .before .turned .result))) u n) f ∙ ap₂ (λ (x y : ℤ). redirected x y t n) e₃ e₄

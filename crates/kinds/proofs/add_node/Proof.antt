@@ -1,10 +1,11 @@
 -- `kinds::add_node` meets its contract. Assumes nothing.
 use borrow.Author.Needs.{needs}
 use mathlib.Core.Path.{ap, _∙_}
+use Rattle.integers.specs.Signs.{sent}
 use Rattle.map.specs.Tickets.{AddIsoNode}
 use Rattle.ranges.specs.Ranges.{lent}
 use Rattle.kinds.specs.Shaped.{shaped}
-use Rattle.kinds.proofs.Counts.{sent, three-none, three-read}
+use Rattle.kinds.proofs.Counts.{three-none, three-read}
 use Rattle.kinds.proofs.Reading.{shaped-none}
 use Rattle.kinds.proofs.add_node.Statement.{statement}
 use Rattle.kinds.proofs.add_node.Tie as tie

@@ -4,10 +4,11 @@ use mathlib.Core.Path.{ap, _∙_}
 use native.Mathlib.Omega.{arith}
 use lib.ListN.{length}
 use borrow.Rule.Slice.PartAt.{part-to-end}
+use Rattle.integers.specs.Signs.{sent}
 use Rattle.map.specs.Tickets.{ChangeEdgeGeom}
 use Rattle.ranges.specs.Ranges.{lent}
 use Rattle.kinds.specs.Shaped.{shaped}
-use Rattle.kinds.proofs.Counts.{sent, test-left, test-taken, one-curve-none, one-curve-read}
+use Rattle.kinds.proofs.Counts.{test-left, test-taken, one-curve-none, one-curve-read}
 use Rattle.kinds.proofs.Reading.{shaped-none}
 use Rattle.kinds.proofs.change_curve.Statement.{statement}
 use Rattle.kinds.proofs.change_curve.Tie as tie

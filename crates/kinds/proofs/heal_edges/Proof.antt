@@ -1,10 +1,11 @@
 -- `kinds::heal_edges` meets its contract. Assumes nothing.
 use borrow.Author.Needs.{needs}
 use mathlib.Core.Path.{ap, _∙_}
+use Rattle.integers.specs.Signs.{sent}
 use Rattle.ranges.specs.Ranges.{lent}
 use Rattle.heals.specs.Kinds.{healTicket}
 use Rattle.kinds.specs.Shaped.{shaped}
-use Rattle.kinds.proofs.Counts.{sent, two-none, two-read}
+use Rattle.kinds.proofs.Counts.{two-none, two-read}
 use Rattle.kinds.proofs.Reading.{shaped-none}
 use Rattle.kinds.proofs.heal_edges.Statement.{statement}
 use Rattle.kinds.proofs.heal_edges.Tie as tie

@@ -1,10 +1,11 @@
 -- `kinds::remove_lone_edge` meets its contract. Assumes nothing.
 use borrow.Author.Needs.{needs}
 use mathlib.Core.Path.{ap, _∙_}
+use Rattle.integers.specs.Signs.{sent}
 use Rattle.map.specs.Tickets.{RemoveIsoEdge}
 use Rattle.ranges.specs.Ranges.{lent}
 use Rattle.kinds.specs.Shaped.{shaped}
-use Rattle.kinds.proofs.Counts.{sent, one-none, one-read}
+use Rattle.kinds.proofs.Counts.{one-none, one-read}
 use Rattle.kinds.proofs.Reading.{shaped-none}
 use Rattle.kinds.proofs.remove_lone_edge.Statement.{statement}
 use Rattle.kinds.proofs.remove_lone_edge.Tie as tie

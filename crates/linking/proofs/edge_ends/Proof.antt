@@ -10,9 +10,10 @@ use borrow.Author.Needs.{sfits-of}
 use Rattle.lists.specs.Tests.{bit}
 use Rattle.lists.proofs.Scans.{count-step, count-end}
 use Rattle.links.specs.Positions.{sideCell}
-use Rattle.linking.proofs.Words.{sameWord, cell-test, byte-bit, byte-most}
+use Rattle.linking.proofs.Words.{sameWord, cell-test}
 use Rattle.lists.specs.Scans.{count as count-of}
 use Rattle.lists.specs.Tables.{table}
+use Rattle.lists.proofs.Counts.{byte-bit, byte-most}
 use Rattle.linking.specs.Linking.{positions, leavesNode}
 use Rattle.linking.proofs.edge_ends.Statement.{statement}
 use Rattle.linking.proofs.edge_ends.Tie as tie

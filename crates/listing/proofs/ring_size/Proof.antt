@@ -13,10 +13,10 @@ use mir.Val.{ofZ}
 use Rattle.lists.specs.Tests.{same}
 use Rattle.lists.proofs.Bools.{which, T→≡, ≡→T, same-true, differ}
 use Rattle.curves.proofs.Runs.{and-left, and-right}
+use Rattle.tables.proofs.Order.{same-pos}
 use Rattle.links.specs.Positions.{dartAt}
 use Rattle.links.proofs.Positions.{cell-bears}
 use Rattle.departures.proofs.Words.{word-test}
-use Rattle.departures.proofs.Links.{pos-same}
 use Rattle.listing.specs.Listing.{borne}
 use Rattle.listing.proofs.Walks.{marked-other, marked-old, marked-new, old-first, new-first, left-taken, left-later, left-other, ring-length}
 use Rattle.listing.proofs.ring_size.Statement.{statement}
@@ -41,7 +41,7 @@ face-is c =
     let f = a .face in
     let b = borne (a .edges .now) (a .count) (a .p) in
     word-test (d .result) (pos f) (pos b) (pos f) (sfits-of (d .ok)) (record { sfits = omega (arith, s .pre .1) }) (d .ensures ∙ cell-bears (s .pre .0 .rows) (a .p) (s .pre .2)) refl
-    ∙ pos-same b f
+    ∙ same-pos b f
 
 add-result : tie.Need-add-result
 add-result c =

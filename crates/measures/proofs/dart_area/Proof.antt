@@ -1,5 +1,5 @@
 -- `measures::dart_area` meets its contract: the area of the edge, or its opposite. Assumes nothing.
-use borrow.Author.Needs.{needs, sfits-of}
+use borrow.Author.Needs.{needs}
 use mathlib.Core.Path.{_≡_, sym, ap, _∙_, subst}
 use Prim.Native.Nat.{_/_}
 use native.Mathlib.Omega.{arith}
@@ -9,6 +9,7 @@ use mir.Syntax.{w64}
 use mir.Val.{toZ, ofZ, SFits}
 use mir.Facts.{toZ-ofZ}
 use Rattle.integers.specs.Machine.{fits-within}
+use Rattle.integers.specs.Signs.{sent}
 use Rattle.curves.specs.Measures.{curveArea}
 use Rattle.tables.specs.Tables.{edgeAt}
 use Rattle.tables.proofs.RowCurves.{run-at, curve-at}
@@ -25,7 +26,7 @@ use Rattle.tables.proofs.curve_of.Reads as curve-of-reads
 module _ (c : lts.After-area-of (curve-of-reads.Asked, curve-of-reads.Learnt, area-of-reads.Asked, area-of-reads.Learnt) reads.Pre reads.Post) where
   -- the edge's area as it is read
   read : toZ w64 (ofZ w64 (c .area-of .result)) ≡ curveArea (edgeAt (c .before .before .args .edges .now) (c .before .before .args .p / 2) .curve)
-  read = toZ-ofZ {w = w64} {z = c .area-of .result} (sfits-of (c .area-of .ok)) ∙ c .area-of .ensures ∙ ap curveArea (c .before .curve-of .ensures .1)
+  read = sent {z = c .area-of .result} (c .area-of .ok) ∙ c .area-of .ensures ∙ ap curveArea (c .before .curve-of .ensures .1)
 
   opposite : pos 0 -ℤ toZ w64 (ofZ w64 (c .area-of .result)) ≡ negℤ (curveArea (edgeAt (c .before .before .args .edges .now) (c .before .before .args .p / 2) .curve))
   opposite = negative-is (toZ w64 (ofZ w64 (c .area-of .result))) ∙ ap negℤ read

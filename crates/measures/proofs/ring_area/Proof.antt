@@ -1,6 +1,5 @@
 -- `measures::ring_area` meets its contract: the sum, with the area of what is left of the ring, is the ring's; it is at most a curve's greatest area
 -- for each step. Assumes nothing.
-use borrow.Author.Needs.{sfits-of}
 use mathlib.Core.Path.{_≡_, sym, ap, _∙_, subst}
 use Prim.Native.Nat.{_+_, _*_, _-_, _/_, _<_, _≤_}
 use native.Mathlib.Omega.{arith}
@@ -8,6 +7,7 @@ use lib.IntN.{ℤ, _+ℤ_}
 use mir.Syntax.{w64}
 use mir.Val.{toZ, ofZ, SFits}
 use mir.Facts.{toZ-ofZ}
+use Rattle.integers.specs.Signs.{sent}
 use Rattle.tables.specs.Tables.{EdgeRow}
 use Rattle.tables.proofs.Rows.{edge-row-of}
 use Rattle.rings.proofs.Walks.{steps, ringAt}
@@ -42,7 +42,7 @@ module _ (c : lts.After-dart-area (dart-area-reads.Asked, dart-area-reads.Learnt
   row = edge-row-of (c .before .before .before .pre .0) (c .before .before .loop .c / 2) (omega (arith, c .before .before .loop .inv .0))
 
   step : toZ w64 (c .before .before .loop .sum) +ℤ toZ w64 (ofZ w64 (c .dart-area .result)) ≡ toZ w64 (c .before .before .loop .sum) +ℤ areaAt (c .before .before .before .args .edges .now) (c .before .before .loop .c)
-  step = ap (λ (z : ℤ). toZ w64 (c .before .before .loop .sum) +ℤ z) (toZ-ofZ {w = w64} {z = c .dart-area .result} (sfits-of (c .dart-area .ok)) ∙ c .dart-area .ensures)
+  step = ap (λ (z : ℤ). toZ w64 (c .before .before .loop .sum) +ℤ z) (sent {z = c .dart-area .result} (c .dart-area .ok) ∙ c .dart-area .ensures)
 
   within : Within (curveMost * (c .before .before .loop .k + 1)) (toZ w64 (c .before .before .loop .sum) +ℤ areaAt (c .before .before .before .args .edges .now) (c .before .before .loop .c))
   within = sum-within (c .before .before .loop .k) (c .before .before .loop .inv .2) (area-within (c .before .before .loop .c) row)

@@ -1,5 +1,5 @@
 -- `node_edits::add_node` meets its contract: turned down by the first reason, or a row more. Assumes nothing.
-use borrow.Author.Needs.{needs, sfits-of}
+use borrow.Author.Needs.{needs}
 use mathlib.Core.Path.{refl, sym, ap, ap₂, _∙_}
 use mathlib.Core.List.{[], _∷_}
 use Prim.Native.Nat.{_*_, _<_}
@@ -10,13 +10,14 @@ use lib.Seq.{paste}
 use lib.Signed.{nonNeg}
 use mir.Syntax.{w64}
 use mir.Facts.{toZ-ofZ}
+use Rattle.integers.specs.Signs.{sent}
 use Rattle.curves.specs.Curves.{point}
 use Rattle.map.specs.Rows.{mapOf}
 use Rattle.map.specs.Tickets.{AddIsoNode}
 use Rattle.ranges.specs.Ranges.{lent}
 use Rattle.answers.proofs.Formed.{edges-count, edge-rows, nodes-size, decided-refused, decided-carried}
+use Rattle.answers.proofs.Words.{count-natural, count-abs}
 use Rattle.node_edits.specs.Heads.{added}
-use Rattle.node_edits.proofs.Words.{count-natural, count-abs}
 use Rattle.node_edits.proofs.Told.{few-edges, numbered-of, early-told, other-told, around-told, add-early, early-face, early-point, add-other, add-room, room-left}
 use Rattle.node_edits.proofs.Nodes.{add-carried}
 use Rattle.node_edits.proofs.add_node.Statement.{statement}
@@ -43,7 +44,7 @@ other c =
     let zy = toZ-ofZ {w = w64} {z = a .y} (s .fits .y) in
     let early = sym (early-told m zf zx zy (c .before .before .before .before .before .before .before .before .add-reason .ensures)) ∙ c .before .before .before .before .before .before .before .if1 .left in
     let k = c .before .before .before .before .before .count-of .ensures ∙ count-abs (a .h .edges) (edges-count (s .pre) .0) (few-edges (s .pre)) in
-    let za = toZ-ofZ {w = w64} {z = c .before .before .before .face-of-point .result} (sfits-of (c .before .before .before .face-of-point .ok)) ∙ c .before .before .before .face-of-point .ensures ∙ ap pos (around-told (s .pre) _ _ (point (a .x) (a .y)) k (c .before .before .before .before .point-of .ensures .0 ∙ ap₂ point zx zy)) in
+    let za = sent {z = c .before .before .before .face-of-point .result} (c .before .before .before .face-of-point .ok) ∙ c .before .before .before .face-of-point .ensures ∙ ap pos (around-told (s .pre) _ _ (point (a .x) (a .y)) k (c .before .before .before .before .point-of .ensures .0 ∙ ap₂ point zx zy)) in
     decided-refused (a .nodes .now) (a .edges .now) (a .faces .now) (a .h) (AddIsoNode (a .face) (a .x) (a .y)) 12 (lit< tt) (c .refused2 .ensures)
     (add-other (s .pre) (a .face) (a .x) (a .y) early (other-told _ zf za (c .before .before .other-face .ensures) (c .before .if2 .taken)))
 
@@ -57,7 +58,7 @@ no-room c =
     let zy = toZ-ofZ {w = w64} {z = a .y} (s .fits .y) in
     let early = sym (early-told m zf zx zy (c .before .before .before .before .before .before .before .before .before .before .before .add-reason .ensures)) ∙ c .before .before .before .before .before .before .before .before .before .before .if1 .left in
     let k = c .before .before .before .before .before .before .before .before .count-of .ensures ∙ count-abs (a .h .edges) (edges-count (s .pre) .0) (few-edges (s .pre)) in
-    let za = toZ-ofZ {w = w64} {z = c .before .before .before .before .before .before .face-of-point .result} (sfits-of (c .before .before .before .before .before .before .face-of-point .ok)) ∙ c .before .before .before .before .before .before .face-of-point .ensures ∙ ap pos (around-told (s .pre) _ _ (point (a .x) (a .y)) k (c .before .before .before .before .before .before .before .point-of .ensures .0 ∙ ap₂ point zx zy)) in
+    let za = sent {z = c .before .before .before .before .before .before .face-of-point .result} (c .before .before .before .before .before .before .face-of-point .ok) ∙ c .before .before .before .before .before .before .face-of-point .ensures ∙ ap pos (around-told (s .pre) _ _ (point (a .x) (a .y)) k (c .before .before .before .before .before .before .before .point-of .ensures .0 ∙ ap₂ point zx zy)) in
     let some : 0 < c .before .before .room-reason .result = omega (arith, c .before .if3 .taken) in
     decided-refused (a .nodes .now) (a .edges .now) (a .faces .now) (a .h) (AddIsoNode (a .face) (a .x) (a .y)) _ some (c .refused3 .ensures)
     (add-room (s .pre) (a .face) (a .x) (a .y) early (other-told _ zf za (c .before .before .before .before .before .other-face .ensures) (c .before .before .before .before .if2 .left)) ∙ sym (c .before .before .room-reason .ensures))
@@ -72,7 +73,7 @@ more c =
     let zy = toZ-ofZ {w = w64} {z = a .y} (s .fits .y) in
     let early = sym (early-told m zf zx zy (c .before .before .before .before .before .before .before .before .before .before .before .before .before .add-reason .ensures)) ∙ c .before .before .before .before .before .before .before .before .before .before .before .before .if1 .left in
     let k = c .before .before .before .before .before .before .before .before .before .before .count-of .ensures ∙ count-abs (a .h .edges) (edges-count (s .pre) .0) (few-edges (s .pre)) in
-    let za = toZ-ofZ {w = w64} {z = c .before .before .before .before .before .before .before .before .face-of-point .result} (sfits-of (c .before .before .before .before .before .before .before .before .face-of-point .ok)) ∙ c .before .before .before .before .before .before .before .before .face-of-point .ensures ∙ ap pos (around-told (s .pre) _ _ (point (a .x) (a .y)) k (c .before .before .before .before .before .before .before .before .before .point-of .ensures .0 ∙ ap₂ point zx zy)) in
+    let za = sent {z = c .before .before .before .before .before .before .before .before .face-of-point .result} (c .before .before .before .before .before .before .before .before .face-of-point .ok) ∙ c .before .before .before .before .before .before .before .before .face-of-point .ensures ∙ ap pos (around-told (s .pre) _ _ (point (a .x) (a .y)) k (c .before .before .before .before .before .before .before .before .before .point-of .ensures .0 ∙ ap₂ point zx zy)) in
     let room = sym (c .before .before .before .before .room-reason .ensures) ∙ c .before .before .before .if3 .left in
     let row = c .before .push-node .ensures .0 ∙ (λ i. paste (a .nodes .now) (natAbs (a .h .nodes) * 4) (a .h .«next_node» ∷ zx i ∷ zy i ∷ za i ∷ []) 4) in
     let done = add-carried (s .pre) (a .face) (a .x) (a .y) (early-point (s .pre) (a .face) (a .x) (a .y) early) (room-left (a .nodes .now) (a .h) room) refl row in
@@ -106,7 +107,7 @@ other-face-requires c κs =
     let zy = toZ-ofZ {w = w64} {z = a .y} (s .fits .y) in
     let early = sym (early-told m zf zx zy (c .before .before .before .before .before .add-reason .ensures)) ∙ c .before .before .before .before .if1 .left in
     let k = c .before .before .count-of .ensures ∙ count-abs (a .h .edges) (edges-count (s .pre) .0) (few-edges (s .pre)) in
-    let za = toZ-ofZ {w = w64} {z = c .face-of-point .result} (sfits-of (c .face-of-point .ok)) ∙ c .face-of-point .ensures ∙ ap pos (around-told (s .pre) _ _ (point (a .x) (a .y)) k (c .before .point-of .ensures .0 ∙ ap₂ point zx zy)) in
+    let za = sent {z = c .face-of-point .result} (c .face-of-point .ok) ∙ c .face-of-point .ensures ∙ ap pos (around-told (s .pre) _ _ (point (a .x) (a .y)) k (c .before .point-of .ensures .0 ∙ ap₂ point zx zy)) in
     (rw zf (early-face (s .pre) (a .face) (a .x) (a .y) early), ap nonNeg za)
 
 push-node-requires : tie.Need-push-node-requires

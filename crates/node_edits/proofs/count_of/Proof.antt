@@ -3,12 +3,12 @@ use mathlib.Core.Path.{ap}
 use lib.IntN.{natAbs}
 use mir.Syntax.{w64}
 use mir.Facts.{toZ-ofZ}
-use Rattle.floors.proofs.Cells.{face-cast}
+use Rattle.integers.specs.Signs.{natural-cast}
 use Rattle.node_edits.proofs.count_of.Statement.{statement}
 use Rattle.node_edits.proofs.count_of.Tie as tie
 
 cast-z : tie.Need-cast-result
-cast-z c = rw (toZ-ofZ {w = w64} {z = c .args .z} (c .fits .z)) (face-cast (c .args .z) (c .pre) (c .fits .z))
+cast-z c = rw (toZ-ofZ {w = w64} {z = c .args .z} (c .fits .z)) (natural-cast (c .args .z) (c .pre) (c .fits .z))
 
 returns : tie.Need-returns
 returns c = ap natAbs (toZ-ofZ {w = w64} {z = c .args .z} (c .fits .z))

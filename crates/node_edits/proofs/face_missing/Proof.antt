@@ -12,7 +12,7 @@ use Rattle.map.specs.Reasons.{minusOne}
 use Rattle.tables.specs.Tables.{sameZ, column}
 use Rattle.tables.proofs.Rows.{face-rows-rising}
 use Rattle.tables.proofs.Lookups.{face-found}
-use Rattle.node_edits.proofs.Words.{face-none}
+use Rattle.node_edits.proofs.Faces.{face-none}
 use Rattle.node_edits.proofs.face_missing.Statement.{statement}
 use Rattle.node_edits.proofs.face_missing.Tie as tie
 

@@ -3,7 +3,8 @@ use mathlib.Core.Path.{_∙_}
 use lib.Dec.{lit<}
 use lib.IntN.{negsuc}
 use borrow.Author.Needs.{sfits-of}
-use Rattle.node_edits.proofs.Words.{word-test, minus-one-is}
+use Rattle.tables.proofs.Order.{word-test}
+use Rattle.node_edits.proofs.Faces.{minus-one-is}
 use Rattle.node_edits.proofs.is_none.Statement.{statement}
 use Rattle.node_edits.proofs.is_none.Tie as tie
 

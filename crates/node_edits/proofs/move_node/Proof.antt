@@ -1,5 +1,5 @@
 -- `node_edits::move_node` meets its contract: turned down by the first reason, or the row written anew. Assumes nothing.
-use borrow.Author.Needs.{needs, sfits-of}
+use borrow.Author.Needs.{needs}
 use mathlib.Core.Path.{refl, sym, ap, ap₂, _∙_}
 use mathlib.Core.List.{[], _∷_}
 use Prim.Native.Nat.{_*_, _<_}
@@ -9,14 +9,15 @@ use lib.IntN.{pos, natAbs}
 use lib.Seq.{paste}
 use mir.Syntax.{w64}
 use mir.Facts.{toZ-ofZ}
+use Rattle.integers.specs.Signs.{sent}
 use Rattle.curves.specs.Curves.{point}
 use Rattle.map.specs.Tickets.{MoveIsoNode}
 use Rattle.tables.proofs.Cells.{row-room}
 use Rattle.tables.proofs.Rows.{node-rows-rising}
-use Rattle.answers.proofs.Formed.{nodes-count, edges-count, nodes-fit, node-rows, edge-rows, decided-refused, decided-carried}
-use Rattle.node_edits.proofs.Words.{count-natural, count-abs}
+use Rattle.answers.proofs.Formed.{nodes-count, edges-count, nodes-fit, node-rows, edge-rows, decided-refused, decided-carried, node-none}
+use Rattle.answers.proofs.Words.{count-natural, count-abs, place-told}
 use Rattle.node_edits.proofs.Told.{few-nodes, few-edges, around-told}
-use Rattle.node_edits.proofs.Rows.{place-told, node-none, move-missing, row-below, row-number, move-row, move-told, move-point}
+use Rattle.node_edits.proofs.Rows.{move-missing, row-below, row-number, move-row, move-told, move-point}
 use Rattle.node_edits.proofs.Nodes.{move-carried}
 use Rattle.node_edits.proofs.move_node.Statement.{statement}
 use Rattle.node_edits.proofs.move_node.Tie as tie
@@ -28,7 +29,7 @@ missing c faces f =
     let g = s .pre .1 in
     let n = c .before .before .before .before .before .count-of .ensures ∙ count-abs (a .h .nodes) (nodes-count g .0) (few-nodes g) in
     let z = toZ-ofZ {w = w64} {z = a .node} (s .fits .node) in
-    let e = place-told (a .nodes .now) n z (c .before .before .before .find-row .ensures) (c .before .enum-told .given .1) in
+    let e = place-told 4 (a .nodes .now) n z (c .before .before .before .find-row .ensures) (c .before .enum-told .given .1) in
     decided-refused (a .nodes .now) (a .edges .now) faces (a .h) (MoveIsoNode (a .node) (a .x) (a .y)) 4 (lit< tt) (c .refused .ensures) (move-missing f (a .node) (a .x) (a .y) (node-none f (a .node) e))
 
 turned-down : tie.Need-returns-2
@@ -38,7 +39,7 @@ turned-down c faces f =
     let g = s .pre .1 in
     let n = c .before .before .before .before .before .before .before .before .before .before .before .count-of .ensures ∙ count-abs (a .h .nodes) (nodes-count g .0) (few-nodes g) in
     let z = toZ-ofZ {w = w64} {z = a .node} (s .fits .node) in
-    let e = place-told (a .nodes .now) n z (c .before .before .before .before .before .before .before .before .before .find-row .ensures) (c .before .before .before .before .before .before .before .found .given .1) in
+    let e = place-told 4 (a .nodes .now) n z (c .before .before .before .before .before .before .before .before .before .find-row .ensures) (c .before .before .before .before .before .before .before .found .given .1) in
     let zx = toZ-ofZ {w = w64} {z = a .x} (s .fits .x) in
     let zy = toZ-ofZ {w = w64} {z = a .y} (s .fits .y) in
     let k = c .before .before .before .before .count-of2 .ensures ∙ count-abs (a .h .edges) (edges-count g .0) (few-edges g) in
@@ -53,13 +54,13 @@ moved c faces f =
     let g = s .pre .1 in
     let n = c .before .before .before .before .before .before .before .before .before .before .before .before .before .before .before .before .count-of .ensures ∙ count-abs (a .h .nodes) (nodes-count g .0) (few-nodes g) in
     let z = toZ-ofZ {w = w64} {z = a .node} (s .fits .node) in
-    let e = place-told (a .nodes .now) n z (c .before .before .before .before .before .before .before .before .before .before .before .before .before .before .find-row .ensures) (c .before .before .before .before .before .before .before .before .before .before .before .before .found .given .1) in
+    let e = place-told 4 (a .nodes .now) n z (c .before .before .before .before .before .before .before .before .before .before .before .before .before .before .find-row .ensures) (c .before .before .before .before .before .before .before .before .before .before .before .before .found .given .1) in
     let zx = toZ-ofZ {w = w64} {z = a .x} (s .fits .x) in
     let zy = toZ-ofZ {w = w64} {z = a .y} (s .fits .y) in
     let k = c .before .before .before .before .before .before .before .before .before .count-of2 .ensures ∙ count-abs (a .h .edges) (edges-count g .0) (few-edges g) in
     let r = move-told (a .nodes .now) (natAbs (a .h .nodes)) (a .edges .now) (natAbs (a .h .edges)) (c .before .before .before .before .before .before .before .before .before .before .before .before .found .given .0 .0) n k zx zy (c .before .before .before .before .before .before .before .move-reason .ensures) in
     let none = sym r ∙ c .before .before .before .before .before .before .if1 .left in
-    let za = toZ-ofZ {w = w64} {z = c .before .before .before .before .face-of-point .result} (sfits-of (c .before .before .before .before .face-of-point .ok)) ∙ c .before .before .before .before .face-of-point .ensures ∙ ap pos (around-told f _ _ (point (a .x) (a .y)) k (c .before .before .before .before .before .point-of .ensures .0 ∙ ap₂ point zx zy)) in
+    let za = sent {z = c .before .before .before .before .face-of-point .result} (c .before .before .before .before .face-of-point .ok) ∙ c .before .before .before .before .face-of-point .ensures ∙ ap pos (around-told f _ _ (point (a .x) (a .y)) k (c .before .before .before .before .before .point-of .ensures .0 ∙ ap₂ point zx zy)) in
     let row = c .before .before .write-node .ensures ∙ (λ j. paste (a .nodes .now) (c .before .before .before .before .before .before .before .before .before .before .before .before .found .given .0 .0 * 4) (z j ∷ zx j ∷ zy j ∷ za j ∷ []) 4) in
     let point-in = move-point (a .nodes .now) (natAbs (a .h .nodes)) (a .edges .now) (natAbs (a .h .edges)) (c .before .before .before .before .before .before .before .before .before .before .before .before .found .given .0 .0) (a .x) (a .y) none in
     let done = move-carried f _ (row-below f (a .node) _ e) (a .node) (a .x) (a .y) (row-number f (a .node) _ e) point-in refl row in
@@ -79,7 +80,7 @@ move-reason-requires c κs =
     let g = s .pre .1 in
     let n = c .before .before .before .before .before .before .before .before .count-of .ensures ∙ count-abs (a .h .nodes) (nodes-count g .0) (few-nodes g) in
     let z = toZ-ofZ {w = w64} {z = a .node} (s .fits .node) in
-    let e = place-told (a .nodes .now) n z (c .before .before .before .before .before .before .find-row .ensures) (c .before .before .before .before .found .given .1) in
+    let e = place-told 4 (a .nodes .now) n z (c .before .before .before .before .before .before .find-row .ensures) (c .before .before .before .before .found .given .1) in
     let zx = toZ-ofZ {w = w64} {z = a .x} (s .fits .x) in
     let zy = toZ-ofZ {w = w64} {z = a .y} (s .fits .y) in
     let k = c .before .count-of2 .ensures ∙ count-abs (a .h .edges) (edges-count g .0) (few-edges g) in
@@ -92,7 +93,7 @@ point-of-requires c κs =
     let g = s .pre .1 in
     let n = c .before .before .before .before .before .before .before .before .before .before .count-of .ensures ∙ count-abs (a .h .nodes) (nodes-count g .0) (few-nodes g) in
     let z = toZ-ofZ {w = w64} {z = a .node} (s .fits .node) in
-    let e = place-told (a .nodes .now) n z (c .before .before .before .before .before .before .before .before .find-row .ensures) (c .before .before .before .before .before .before .found .given .1) in
+    let e = place-told 4 (a .nodes .now) n z (c .before .before .before .before .before .before .before .before .find-row .ensures) (c .before .before .before .before .before .before .found .given .1) in
     let zx = toZ-ofZ {w = w64} {z = a .x} (s .fits .x) in
     let zy = toZ-ofZ {w = w64} {z = a .y} (s .fits .y) in
     let k = c .before .before .before .count-of2 .ensures ∙ count-abs (a .h .edges) (edges-count g .0) (few-edges g) in
@@ -113,7 +114,7 @@ write-node-requires c κs =
     let g = s .pre .1 in
     let n = c .before .before .before .before .before .before .before .before .before .before .before .before .before .count-of .ensures ∙ count-abs (a .h .nodes) (nodes-count g .0) (few-nodes g) in
     let z = toZ-ofZ {w = w64} {z = a .node} (s .fits .node) in
-    let e = place-told (a .nodes .now) n z (c .before .before .before .before .before .before .before .before .before .before .before .find-row .ensures) (c .before .before .before .before .before .before .before .before .before .found .given .1) in
+    let e = place-told 4 (a .nodes .now) n z (c .before .before .before .before .before .before .before .before .before .before .before .find-row .ensures) (c .before .before .before .before .before .before .before .before .before .found .given .1) in
     let t = row-room 4 (natAbs (a .h .nodes)) _ (row-below g (a .node) _ e) in
     omega (arith, nodes-fit g)
 

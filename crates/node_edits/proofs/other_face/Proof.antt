@@ -3,7 +3,8 @@ use mathlib.Core.Path.{ap, _∙_}
 use mir.Syntax.{w64}
 use mir.Facts.{toZ-ofZ}
 use Rattle.map.specs.Reasons.{minusOne}
-use Rattle.node_edits.proofs.Words.{word-test, other-is}
+use Rattle.tables.proofs.Order.{word-test}
+use Rattle.node_edits.proofs.Faces.{other-is}
 use Rattle.node_edits.proofs.other_face.Statement.{statement}
 use Rattle.node_edits.proofs.other_face.Tie as tie
 

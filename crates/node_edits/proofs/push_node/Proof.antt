@@ -7,7 +7,7 @@ use mir.Syntax.{w64}
 use mir.Facts.{toZ-ofZ}
 use Rattle.map.specs.declared.Head.{Head}
 use Rattle.answers.specs.declared.Done.{Done}
-use Rattle.node_edits.proofs.Words.{count-natural, count-abs, count-fits}
+use Rattle.answers.proofs.Words.{count-natural, count-abs, count-fits}
 use Rattle.node_edits.proofs.push_node.Statement.{statement}
 use Rattle.node_edits.proofs.push_node.Tie as tie
 

@@ -11,11 +11,11 @@ use Rattle.map.specs.Tickets.{RemoveIsoNode}
 use Rattle.tables.specs.Tables.{closed}
 use Rattle.tables.proofs.Rows.{node-rows-rising}
 use Rattle.conditions.proofs.Points.{node-row-of}
-use Rattle.answers.proofs.Formed.{nodes-count, nodes-fit, node-rows, decided-refused, decided-carried}
+use Rattle.answers.proofs.Formed.{nodes-count, nodes-fit, node-rows, decided-refused, decided-carried, node-none}
+use Rattle.answers.proofs.Words.{count-natural, count-abs, place-told}
 use Rattle.node_edits.specs.Heads.{removed}
-use Rattle.node_edits.proofs.Words.{count-natural, count-abs}
 use Rattle.node_edits.proofs.Told.{few-nodes, numbered-of}
-use Rattle.node_edits.proofs.Rows.{place-told, node-none, remove-missing, row-below, row-number, remove-bare, remove-free}
+use Rattle.node_edits.proofs.Rows.{remove-missing, row-below, row-number, remove-bare, remove-free}
 use Rattle.node_edits.proofs.Nodes.{remove-carried}
 use Rattle.node_edits.proofs.remove_node.Statement.{statement}
 use Rattle.node_edits.proofs.remove_node.Tie as tie
@@ -27,7 +27,7 @@ missing c edges faces f =
     let g = s .pre .2 in
     let n = c .before .before .before .before .before .count-of .ensures ∙ count-abs (a .h .nodes) (nodes-count g .0) (few-nodes g) in
     let z = toZ-ofZ {w = w64} {z = a .node} (s .fits .node) in
-    let e = place-told (a .nodes .now) n z (c .before .before .before .find-row .ensures) (c .before .enum-told .given .1) in
+    let e = place-told 4 (a .nodes .now) n z (c .before .before .before .find-row .ensures) (c .before .enum-told .given .1) in
     decided-refused (a .nodes .now) edges faces (a .h) (RemoveIsoNode (a .node)) 4 (lit< tt) (c .refused .ensures) (remove-missing f (a .node) (node-none f (a .node) e))
 
 bare : tie.Need-returns-2
@@ -37,7 +37,7 @@ bare c edges faces f =
     let g = s .pre .2 in
     let n = c .before .before .before .before .before .before .before .before .before .count-of .ensures ∙ count-abs (a .h .nodes) (nodes-count g .0) (few-nodes g) in
     let z = toZ-ofZ {w = w64} {z = a .node} (s .fits .node) in
-    let e = place-told (a .nodes .now) n z (c .before .before .before .before .before .before .before .find-row .ensures) (c .before .before .before .before .before .found .given .1) in
+    let e = place-told 4 (a .nodes .now) n z (c .before .before .before .before .before .before .before .find-row .ensures) (c .before .before .before .before .before .found .given .1) in
     decided-refused (a .nodes .now) edges faces (a .h) (RemoveIsoNode (a .node)) 9 (lit< tt) (c .refused2 .ensures) (remove-bare f (a .node) _ e (c .before .before .is-isolated .ensures) (c .before .if1 .taken))
 
 gone : tie.Need-returns-3
@@ -47,7 +47,7 @@ gone c edges faces f =
     let g = s .pre .2 in
     let n = c .before .before .before .before .before .before .before .before .before .before .before .before .before .count-of .ensures ∙ count-abs (a .h .nodes) (nodes-count g .0) (few-nodes g) in
     let z = toZ-ofZ {w = w64} {z = a .node} (s .fits .node) in
-    let e = place-told (a .nodes .now) n z (c .before .before .before .before .before .before .before .before .before .before .before .find-row .ensures) (c .before .before .before .before .before .before .before .before .before .found .given .1) in
+    let e = place-told 4 (a .nodes .now) n z (c .before .before .before .before .before .before .before .before .before .before .before .find-row .ensures) (c .before .before .before .before .before .before .before .before .before .found .given .1) in
     let row = c .before .before .before .remove-row .ensures ∙ ap (λ (k : ℕ). closed 4 (a .nodes .now) k (c .before .before .before .before .before .before .before .before .before .found .given .0 .0)) n in
     let done = remove-carried f _ (row-below f (a .node) _ e) (a .node) (row-number f (a .node) _ e) row in
     decided-carried (a .nodes .now) edges faces (a .h) (RemoveIsoNode (a .node)) _ edges faces (removed (a .h)) (pos 0) (c .carried .ensures ∙ ap (λ h. record { head = h; answer = record { refusal = 0; value = pos 0 } }) (c .before .without-node .ensures))
@@ -66,7 +66,7 @@ is-isolated-requires c κs =
     let g = s .pre .2 in
     let n = c .before .before .before .before .before .before .count-of .ensures ∙ count-abs (a .h .nodes) (nodes-count g .0) (few-nodes g) in
     let z = toZ-ofZ {w = w64} {z = a .node} (s .fits .node) in
-    let e = place-told (a .nodes .now) n z (c .before .before .before .before .find-row .ensures) (c .before .before .found .given .1) in
+    let e = place-told 4 (a .nodes .now) n z (c .before .before .before .before .find-row .ensures) (c .before .before .found .given .1) in
     node-row-of (node-rows g) _ (row-below g (a .node) _ e)
 
 remove-row-requires : tie.Need-remove-row-requires
@@ -76,7 +76,7 @@ remove-row-requires c κs =
     let g = s .pre .2 in
     let n = c .before .before .before .before .before .before .before .before .before .count-of .ensures ∙ count-abs (a .h .nodes) (nodes-count g .0) (few-nodes g) in
     let z = toZ-ofZ {w = w64} {z = a .node} (s .fits .node) in
-    let e = place-told (a .nodes .now) n z (c .before .before .before .before .before .before .before .find-row .ensures) (c .before .before .before .before .before .found .given .1) in
+    let e = place-told 4 (a .nodes .now) n z (c .before .before .before .before .before .before .before .find-row .ensures) (c .before .before .before .before .before .found .given .1) in
     rw n (row-below g (a .node) _ e, nodes-fit g)
 
 without-node-requires : tie.Need-without-node-requires
@@ -86,7 +86,7 @@ without-node-requires c κs =
     let g = s .pre .2 in
     let n = c .before .before .before .before .before .before .before .before .before .before .before .count-of .ensures ∙ count-abs (a .h .nodes) (nodes-count g .0) (few-nodes g) in
     let z = toZ-ofZ {w = w64} {z = a .node} (s .fits .node) in
-    let e = place-told (a .nodes .now) n z (c .before .before .before .before .before .before .before .before .before .find-row .ensures) (c .before .before .before .before .before .before .before .found .given .1) in
+    let e = place-told 4 (a .nodes .now) n z (c .before .before .before .before .before .before .before .before .before .find-row .ensures) (c .before .before .before .before .before .before .before .found .given .1) in
     let t = row-below g (a .node) _ e in
     (numbered-of g, omega arith)
 

@@ -1,6 +1,6 @@
 -- `node_edits::with_node` meets its contract: counts and next numbers are small. Assumes nothing.
 use native.Mathlib.Omega.{arith}
-use Rattle.node_edits.proofs.Words.{plus-fits, plus-is}
+use Rattle.answers.proofs.Words.{plus-fits, plus-is}
 use Rattle.node_edits.proofs.with_node.Statement.{statement}
 use Rattle.node_edits.proofs.with_node.Tie as tie
 

@@ -1,6 +1,6 @@
 -- `node_edits::without_node` meets its contract. Assumes nothing.
 use native.Mathlib.Omega.{arith}
-use Rattle.node_edits.proofs.Words.{minus-fits, minus-is}
+use Rattle.answers.proofs.Words.{minus-fits, minus-is}
 use Rattle.node_edits.proofs.without_node.Statement.{statement}
 use Rattle.node_edits.proofs.without_node.Tie as tie
 

@@ -1,20 +1,20 @@
 -- `redraws::add_lone_edge` meets its contract: each reason is answered in order, and else the edge is drawn. Assumes nothing.
-use borrow.Author.Needs.{needs, sfits-of}
-use mathlib.Core.Path.{_≡_, refl, sym, ap, _∙_}
-use Prim.Native.Nat.{ℕ, _<_}
+use borrow.Author.Needs.{needs}
+use mathlib.Core.Path.{sym, ap, _∙_}
 use native.Mathlib.Omega.{arith}
 use lib.Dec.{lit<}
-use lib.IntN.{ℤ, pos, natAbs}
 use lib.Signed.{nonNeg}
 use mir.Syntax.{w64}
 use mir.Facts.{toZ-ofZ}
+use Rattle.integers.specs.Signs.{sent}
 use Rattle.map.specs.Limits.{nodeWidth}
 use Rattle.map.specs.Tickets.{AddIsoEdge}
 use Rattle.tables.proofs.Rows.{node-rows-rising}
+use Rattle.conditions.proofs.Points.{node-row-of}
 use Rattle.answers.proofs.Formed.{node-rows, edge-next, decided-refused, decided-carried}
-use Rattle.redraws.proofs.Words.{count-read}
-use Rattle.redraws.proofs.Formed.{held, nodes-natural, nodes-read, place-read}
-use Rattle.redraws.proofs.Lone.{node-row, lone-free}
+use Rattle.answers.proofs.Words.{count-read, place-told}
+use Rattle.redraws.proofs.Formed.{held, nodes-natural, nodes-read}
+use Rattle.redraws.proofs.Lone.{lone-free}
 use Rattle.redraws.proofs.Added.{node-in, start-missing, end-missing, add-reasons, add-lent, add-value}
 use Rattle.redraws.proofs.add_lone_edge.Statement.{statement}
 use Rattle.redraws.proofs.add_lone_edge.Tie as tie
@@ -29,7 +29,7 @@ no-start c =
     let a = s .args in
     λ faces f.
     decided-refused (a .nodes .now) (a .edges .now) faces (a .h) (AddIsoEdge (a .start) (a .end) (a .c .now)) 4 (lit< tt) (c .refused .ensures)
-    (start-missing f (a .start) (a .end) (a .c .now) (place-read nodeWidth (a .nodes .now) (m .find-row .ensures) (nodes-read f (m .before .before .count-of .ensures)) (toZ-ofZ {w = w64} (s .fits .start)) (c .before .enum-told .given .1)))
+    (start-missing f (a .start) (a .end) (a .c .now) (place-told nodeWidth (a .nodes .now) (nodes-read f (m .before .before .count-of .ensures)) (toZ-ofZ {w = w64} (s .fits .start)) (m .find-row .ensures) (c .before .enum-told .given .1)))
 
 find-row-requires-2 : tie.Need-find-row-requires-2
 find-row-requires-2 c κs =
@@ -45,7 +45,7 @@ no-end c =
     let a = s .args in
     λ faces f.
     decided-refused (a .nodes .now) (a .edges .now) faces (a .h) (AddIsoEdge (a .start) (a .end) (a .c .now)) 4 (lit< tt) (c .refused2 .ensures)
-    (end-missing f (a .start) (a .end) (a .c .now) (place-read nodeWidth (a .nodes .now) (m₂ .find-row2 .ensures) (nodes-read f (m .before .before .count-of .ensures)) (toZ-ofZ {w = w64} (s .fits .end)) (c .before .enum-told2 .given .1)))
+    (end-missing f (a .start) (a .end) (a .c .now) (place-told nodeWidth (a .nodes .now) (nodes-read f (m .before .before .count-of .ensures)) (toZ-ofZ {w = w64} (s .fits .end)) (m₂ .find-row2 .ensures) (c .before .enum-told2 .given .1)))
 
 lone-reason-requires : tie.Need-lone-reason-requires
 lone-reason-requires c κs =
@@ -60,8 +60,8 @@ lone-reason-requires c κs =
     let v = fv .found-end .given .0 .0 in
     let f = s .pre .1 in
     let n = nodes-read f (m .before .before .count-of .ensures) in
-    let eu = place-read nodeWidth l (m .find-row .ensures) n (toZ-ofZ {w = w64} (s .fits .start)) (fu .found .given .1) in
-    let ev = place-read nodeWidth l (m₂ .find-row2 .ensures) n (toZ-ofZ {w = w64} (s .fits .end)) (fv .found-end .given .1) in
+    let eu = place-told nodeWidth l n (toZ-ofZ {w = w64} (s .fits .start)) (m .find-row .ensures) (fu .found .given .1) in
+    let ev = place-told nodeWidth l n (toZ-ofZ {w = w64} (s .fits .end)) (m₂ .find-row2 .ensures) (fv .found-end .given .1) in
     (held f, node-in f (a .start) u eu, node-in f (a .end) v ev)
 
 refused : tie.Need-returns-3
@@ -77,8 +77,8 @@ refused c =
     let v = fv .found-end .given .0 .0 in
     λ faces f.
     let n = nodes-read f (m .before .before .count-of .ensures) in
-    let eu = place-read nodeWidth l (m .find-row .ensures) n (toZ-ofZ {w = w64} (s .fits .start)) (fu .found .given .1) in
-    let ev = place-read nodeWidth l (m₂ .find-row2 .ensures) n (toZ-ofZ {w = w64} (s .fits .end)) (fv .found-end .given .1) in
+    let eu = place-told nodeWidth l n (toZ-ofZ {w = w64} (s .fits .start)) (m .find-row .ensures) (fu .found .given .1) in
+    let ev = place-told nodeWidth l n (toZ-ofZ {w = w64} (s .fits .end)) (m₂ .find-row2 .ensures) (fv .found-end .given .1) in
     decided-refused l (a .edges .now) faces (a .h) (AddIsoEdge (a .start) (a .end) (a .c .now)) (c .before .before .lone-reason .result) (let d = c .before .if1 .taken in omega arith) (c .refused3 .ensures)
     (add-reasons f (a .start) (a .end) (a .c .now) u v eu ev ∙ sym (c .before .before .lone-reason .ensures))
 
@@ -95,10 +95,10 @@ face-of-requires c κs =
     let v = fv .found-end .given .0 .0 in
     let f = s .pre .1 in
     let n = nodes-read f (m .before .before .count-of .ensures) in
-    let eu = place-read nodeWidth l (m .find-row .ensures) n (toZ-ofZ {w = w64} (s .fits .start)) (fu .found .given .1) in
-    let ev = place-read nodeWidth l (m₂ .find-row2 .ensures) n (toZ-ofZ {w = w64} (s .fits .end)) (fv .found-end .given .1) in
+    let eu = place-told nodeWidth l n (toZ-ofZ {w = w64} (s .fits .start)) (m .find-row .ensures) (fu .found .given .1) in
+    let ev = place-told nodeWidth l n (toZ-ofZ {w = w64} (s .fits .end)) (m₂ .find-row2 .ensures) (fv .found-end .given .1) in
     let free = lone-free l (a .edges .now) (a .h) u v (a .c .now) (sym (c .before .before .before .lone-reason .ensures) ∙ c .before .before .if1 .left) in
-    (node-row (node-rows f) u (node-in f (a .start) u eu), free .1)
+    (node-row-of (node-rows f) u (node-in f (a .start) u eu), free .1)
 
 draw-requires : tie.Need-draw-requires
 draw-requires c κs =
@@ -113,11 +113,11 @@ draw-requires c κs =
     let v = fv .found-end .given .0 .0 in
     let f = s .pre .1 in
     let n = nodes-read f (m .before .before .count-of .ensures) in
-    let eu = place-read nodeWidth l (m .find-row .ensures) n (toZ-ofZ {w = w64} (s .fits .start)) (fu .found .given .1) in
-    let ev = place-read nodeWidth l (m₂ .find-row2 .ensures) n (toZ-ofZ {w = w64} (s .fits .end)) (fv .found-end .given .1) in
+    let eu = place-told nodeWidth l n (toZ-ofZ {w = w64} (s .fits .start)) (m .find-row .ensures) (fu .found .given .1) in
+    let ev = place-told nodeWidth l n (toZ-ofZ {w = w64} (s .fits .end)) (m₂ .find-row2 .ensures) (fv .found-end .given .1) in
     let free = lone-free l (a .edges .now) (a .h) u v (a .c .now) (sym (c .before .before .before .before .before .before .lone-reason .ensures) ∙ c .before .before .before .before .before .if1 .left) in
     let g = c .before .before .face-of in
-    let q = toZ-ofZ {w = w64} (sfits-of (g .ok)) ∙ g .ensures in
+    let q = sent (g .ok) ∙ g .ensures in
     record { held = held f; start = node-in f (a .start) u eu; end = node-in f (a .end) v ev; run = free .0; room = free .2; number = free .3; natural = ap nonNeg q }
 
 drawn : tie.Need-returns-4
@@ -132,12 +132,12 @@ drawn c =
     let u = fu .found .given .0 .0 in
     let v = fv .found-end .given .0 .0 in
     let g = c .before .before .before .before .before .before .face-of in
-    let q = toZ-ofZ {w = w64} (sfits-of (g .ok)) ∙ g .ensures in
+    let q = sent (g .ok) ∙ g .ensures in
     let d = c .before .before .before .draw in
     λ faces f.
     let n = nodes-read f (m .before .before .count-of .ensures) in
-    let eu = place-read nodeWidth l (m .find-row .ensures) n (toZ-ofZ {w = w64} (s .fits .start)) (fu .found .given .1) in
-    let ev = place-read nodeWidth l (m₂ .find-row2 .ensures) n (toZ-ofZ {w = w64} (s .fits .end)) (fv .found-end .given .1) in
+    let eu = place-told nodeWidth l n (toZ-ofZ {w = w64} (s .fits .start)) (m .find-row .ensures) (fu .found .given .1) in
+    let ev = place-told nodeWidth l n (toZ-ofZ {w = w64} (s .fits .end)) (m₂ .find-row2 .ensures) (fv .found-end .given .1) in
     let k = edge-next f in
     decided-carried l (a .edges .now) faces (a .h) (AddIsoEdge (a .start) (a .end) (a .c .now)) (d .last .0) (d .last .1 .0) faces (d .result) _ (c .carried .ensures)
     (add-reasons f (a .start) (a .end) (a .c .now) u v eu ev ∙ sym (c .before .before .before .before .before .before .before .before .before .before .lone-reason .ensures) ∙ c .before .before .before .before .before .before .before .before .before .if1 .left)

@@ -1,5 +1,5 @@
 -- `redraws::change_curve` meets its contract: each reason is answered in order, and else the curve is written. Assumes nothing.
-use borrow.Author.Needs.{needs, sfits-of}
+use borrow.Author.Needs.{needs}
 use mathlib.Core.Path.{refl, sym, ap, ap₂, _∙_}
 use Prim.Native.Nat.{ℕ}
 use native.Mathlib.Omega.{arith}
@@ -8,13 +8,15 @@ use lib.IntN.{ℤ, pos, natAbs}
 use lib.Signed.{nonNeg}
 use mir.Syntax.{w64}
 use mir.Facts.{toZ-ofZ}
+use Rattle.integers.specs.Signs.{sent}
 use Rattle.map.specs.Limits.{nodeWidth, edgeWidth}
 use Rattle.map.specs.Rows.{hasNode}
 use Rattle.map.specs.Tickets.{ChangeEdgeGeom}
 use Rattle.tables.specs.Tables.{nodeMap, edgeAt}
 use Rattle.tables.proofs.Rows.{edge-rows-rising, edge-row-of}
 use Rattle.answers.proofs.Formed.{node-rows, edge-rows, decided-refused, decided-carried}
-use Rattle.redraws.proofs.Formed.{held, edges-natural, edges-read, nodes-natural, nodes-read, place-read}
+use Rattle.answers.proofs.Words.{place-told}
+use Rattle.redraws.proofs.Formed.{held, edges-natural, edges-read, nodes-natural, nodes-read}
 use Rattle.redraws.proofs.Removed.{row-in}
 use Rattle.redraws.proofs.Added.{node-in}
 use Rattle.redraws.proofs.Change.{change-run}
@@ -34,7 +36,7 @@ missing c =
     let a = s .args in
     λ faces f.
     decided-refused (a .nodes .now) (a .edges .now) faces (a .h) (ChangeEdgeGeom (a .edge) (a .c .now)) 4 (lit< tt) (c .refused .ensures)
-    (change-missing f (a .edge) (a .c .now) (place-read edgeWidth (a .edges .now) (m .find-row .ensures) (edges-read f (m .before .before .count-of .ensures)) (toZ-ofZ {w = w64} (s .fits .edge)) (c .before .enum-told .given .1)))
+    (change-missing f (a .edge) (a .c .now) (place-told edgeWidth (a .edges .now) (edges-read f (m .before .before .count-of .ensures)) (toZ-ofZ {w = w64} (s .fits .edge)) (m .find-row .ensures) (c .before .enum-told .given .1)))
 
 start-of-requires : tie.Need-start-of-requires
 start-of-requires c κs =
@@ -45,7 +47,7 @@ start-of-requires c κs =
     let l = a .nodes .now in
     let i = d .found .given .0 .0 in
     let f = s .pre .1 in
-    let p = place-read edgeWidth (a .edges .now) (m .find-row .ensures) (edges-read f (m .before .before .count-of .ensures)) (toZ-ofZ {w = w64} (s .fits .edge)) (d .found .given .1) in
+    let p = place-told edgeWidth (a .edges .now) (edges-read f (m .before .before .count-of .ensures)) (toZ-ofZ {w = w64} (s .fits .edge)) (m .find-row .ensures) (d .found .given .1) in
     edge-row-of (edge-rows f) i (row-in f (a .edge) i p)
 
 row-of-requires : tie.Need-row-of-requires
@@ -57,10 +59,10 @@ row-of-requires c κs =
     let l = a .nodes .now in
     let i = d .found .given .0 .0 in
     let f = s .pre .1 in
-    let p = place-read edgeWidth (a .edges .now) (m .find-row .ensures) (edges-read f (m .before .before .count-of .ensures)) (toZ-ofZ {w = w64} (s .fits .edge)) (d .found .given .1) in
+    let p = place-told edgeWidth (a .edges .now) (edges-read f (m .before .before .count-of .ensures)) (toZ-ofZ {w = w64} (s .fits .edge)) (m .find-row .ensures) (d .found .given .1) in
     let n = nodes-read f (c .before .before .count-of2 .ensures) in
     let x = c .start-of in
-    let qu = toZ-ofZ {w = w64} (sfits-of (x .ok)) ∙ x .ensures in
+    let qu = sent (x .ok) ∙ x .ensures in
     (rw n (node-rows f), ap nonNeg qu, ap₂ (λ (k : ℕ) (z : ℤ). hasNode (nodeMap l k) (natAbs z)) n qu ∙ start-there f (a .edge) (a .c .now) i p)
 
 end-of-requires : tie.Need-end-of-requires
@@ -72,7 +74,7 @@ end-of-requires c κs =
     let l = a .nodes .now in
     let i = d .found .given .0 .0 in
     let f = s .pre .1 in
-    let p = place-read edgeWidth (a .edges .now) (m .find-row .ensures) (edges-read f (m .before .before .count-of .ensures)) (toZ-ofZ {w = w64} (s .fits .edge)) (d .found .given .1) in
+    let p = place-told edgeWidth (a .edges .now) (edges-read f (m .before .before .count-of .ensures)) (toZ-ofZ {w = w64} (s .fits .edge)) (m .find-row .ensures) (d .found .given .1) in
     edge-row-of (edge-rows f) i (row-in f (a .edge) i p)
 
 row-of-requires-2 : tie.Need-row-of-requires-2
@@ -84,10 +86,10 @@ row-of-requires-2 c κs =
     let l = a .nodes .now in
     let i = d .found .given .0 .0 in
     let f = s .pre .1 in
-    let p = place-read edgeWidth (a .edges .now) (m .find-row .ensures) (edges-read f (m .before .before .count-of .ensures)) (toZ-ofZ {w = w64} (s .fits .edge)) (d .found .given .1) in
+    let p = place-told edgeWidth (a .edges .now) (edges-read f (m .before .before .count-of .ensures)) (toZ-ofZ {w = w64} (s .fits .edge)) (m .find-row .ensures) (d .found .given .1) in
     let n = nodes-read f (c .before .before .before .before .before .count-of2 .ensures) in
     let y = c .end-of in
-    let qv = toZ-ofZ {w = w64} (sfits-of (y .ok)) ∙ y .ensures in
+    let qv = sent (y .ok) ∙ y .ensures in
     (rw n (node-rows f), ap nonNeg qv, ap₂ (λ (k : ℕ) (z : ℤ). hasNode (nodeMap l k) (natAbs z)) n qv ∙ end-there f (a .edge) (a .c .now) i p)
 
 change-reason-requires : tie.Need-change-reason-requires
@@ -99,16 +101,16 @@ change-reason-requires c κs =
     let l = a .nodes .now in
     let i = d .found .given .0 .0 in
     let f = s .pre .1 in
-    let p = place-read edgeWidth (a .edges .now) (m .find-row .ensures) (edges-read f (m .before .before .count-of .ensures)) (toZ-ofZ {w = w64} (s .fits .edge)) (d .found .given .1) in
+    let p = place-told edgeWidth (a .edges .now) (edges-read f (m .before .before .count-of .ensures)) (toZ-ofZ {w = w64} (s .fits .edge)) (m .find-row .ensures) (d .found .given .1) in
     let n = nodes-read f (c .before .before .before .before .before .before .before .count-of2 .ensures) in
     let x = c .before .before .before .before .before .start-of in
-    let qu = toZ-ofZ {w = w64} (sfits-of (x .ok)) ∙ x .ensures in
+    let qu = sent (x .ok) ∙ x .ensures in
     let u = c .before .before .before .before .row-of in
-    let eu = place-read nodeWidth l refl n qu (u .ensures) in
+    let eu = place-told nodeWidth l n qu refl (u .ensures) in
     let y = c .before .before .end-of in
-    let qv = toZ-ofZ {w = w64} (sfits-of (y .ok)) ∙ y .ensures in
+    let qv = sent (y .ok) ∙ y .ensures in
     let v = c .before .row-of2 in
-    let ev = place-read nodeWidth l refl n qv (v .ensures) in
+    let ev = place-told nodeWidth l n qv refl (v .ensures) in
     (held f, row-in f (a .edge) i p, node-in f (pos (edgeAt (a .edges .now) i .start)) (u .result) eu, node-in f (pos (edgeAt (a .edges .now) i .end)) (v .result) ev)
 
 refused : tie.Need-returns-2
@@ -120,16 +122,16 @@ refused c =
     let l = a .nodes .now in
     let i = d .found .given .0 .0 in
     λ faces f.
-    let p = place-read edgeWidth (a .edges .now) (m .find-row .ensures) (edges-read f (m .before .before .count-of .ensures)) (toZ-ofZ {w = w64} (s .fits .edge)) (d .found .given .1) in
+    let p = place-told edgeWidth (a .edges .now) (edges-read f (m .before .before .count-of .ensures)) (toZ-ofZ {w = w64} (s .fits .edge)) (m .find-row .ensures) (d .found .given .1) in
     let n = nodes-read f (c .before .before .before .before .before .before .before .before .before .before .count-of2 .ensures) in
     let x = c .before .before .before .before .before .before .before .before .start-of in
-    let qu = toZ-ofZ {w = w64} (sfits-of (x .ok)) ∙ x .ensures in
+    let qu = sent (x .ok) ∙ x .ensures in
     let u = c .before .before .before .before .before .before .before .row-of in
-    let eu = place-read nodeWidth l refl n qu (u .ensures) in
+    let eu = place-told nodeWidth l n qu refl (u .ensures) in
     let y = c .before .before .before .before .before .end-of in
-    let qv = toZ-ofZ {w = w64} (sfits-of (y .ok)) ∙ y .ensures in
+    let qv = sent (y .ok) ∙ y .ensures in
     let v = c .before .before .before .before .row-of2 in
-    let ev = place-read nodeWidth l refl n qv (v .ensures) in
+    let ev = place-told nodeWidth l n qv refl (v .ensures) in
     decided-refused l (a .edges .now) faces (a .h) (ChangeEdgeGeom (a .edge) (a .c .now)) (c .before .before .change-reason .result) (let z = c .before .if1 .taken in omega arith) (c .refused2 .ensures)
     (change-reasons f (a .edge) (a .c .now) i p (u .result) (v .result) eu ev ∙ sym (c .before .before .change-reason .ensures))
 
@@ -142,7 +144,7 @@ write-curve-requires c κs =
     let l = a .nodes .now in
     let i = d .found .given .0 .0 in
     let f = s .pre .1 in
-    let p = place-read edgeWidth (a .edges .now) (m .find-row .ensures) (edges-read f (m .before .before .count-of .ensures)) (toZ-ofZ {w = w64} (s .fits .edge)) (d .found .given .1) in
+    let p = place-told edgeWidth (a .edges .now) (edges-read f (m .before .before .count-of .ensures)) (toZ-ofZ {w = w64} (s .fits .edge)) (m .find-row .ensures) (d .found .given .1) in
     let u = c .before .before .before .before .before .before .before .row-of .result in
     let v = c .before .before .before .before .row-of2 .result in
     (edge-row-of (edge-rows f) i (row-in f (a .edge) i p), change-run l (a .edges .now) (a .h) i u v (a .c .now) (sym (c .before .before .change-reason .ensures) ∙ c .before .if1 .left))
@@ -156,16 +158,16 @@ written c =
     let l = a .nodes .now in
     let i = d .found .given .0 .0 in
     λ faces f.
-    let p = place-read edgeWidth (a .edges .now) (m .find-row .ensures) (edges-read f (m .before .before .count-of .ensures)) (toZ-ofZ {w = w64} (s .fits .edge)) (d .found .given .1) in
+    let p = place-told edgeWidth (a .edges .now) (edges-read f (m .before .before .count-of .ensures)) (toZ-ofZ {w = w64} (s .fits .edge)) (m .find-row .ensures) (d .found .given .1) in
     let n = nodes-read f (c .before .before .before .before .before .before .before .before .before .before .before .before .before .count-of2 .ensures) in
     let x = c .before .before .before .before .before .before .before .before .before .before .before .start-of in
-    let qu = toZ-ofZ {w = w64} (sfits-of (x .ok)) ∙ x .ensures in
+    let qu = sent (x .ok) ∙ x .ensures in
     let u = c .before .before .before .before .before .before .before .before .before .before .row-of in
-    let eu = place-read nodeWidth l refl n qu (u .ensures) in
+    let eu = place-told nodeWidth l n qu refl (u .ensures) in
     let y = c .before .before .before .before .before .before .before .before .end-of in
-    let qv = toZ-ofZ {w = w64} (sfits-of (y .ok)) ∙ y .ensures in
+    let qv = sent (y .ok) ∙ y .ensures in
     let v = c .before .before .before .before .before .before .before .row-of2 in
-    let ev = place-read nodeWidth l refl n qv (v .ensures) in
+    let ev = place-told nodeWidth l n qv refl (v .ensures) in
     let r = c .before .before .before .before .before .change-reason .ensures in
     let none = c .before .before .before .before .if1 .left in
     let w = c .before .before .write-curve in

@@ -3,16 +3,17 @@ use mathlib.Core.Path.{sym, ap₂, _∙_}
 use Prim.Native.Nat.{ℕ}
 use native.Mathlib.Omega.{arith}
 use Rattle.map.specs.Reasons.{firstReason}
+use Rattle.conditions.proofs.Points.{node-row-of}
+use Rattle.answers.proofs.Words.{count-natural, count-abs}
 use Rattle.redraws.specs.Change.{turnReasons}
-use Rattle.redraws.proofs.Words.{count-natural, count-abs}
 use Rattle.redraws.proofs.Formed.{counted-held, nodes-held}
-use Rattle.redraws.proofs.Lone.{node-row, sent-run}
+use Rattle.redraws.proofs.Lone.{sent-run}
 use Rattle.redraws.proofs.Change.{change-sent, change-turns}
 use Rattle.redraws.proofs.change_reason.Statement.{statement}
 use Rattle.redraws.proofs.change_reason.Tie as tie
 
 curve-reason-requires : tie.Need-curve-reason-requires
-curve-reason-requires c κs = let p = c .pre in (node-row (p .0 .node-table .rows) (c .args .u) (p .2), node-row (p .0 .node-table .rows) (c .args .v) (p .3))
+curve-reason-requires c κs = let p = c .pre in (node-row-of (p .0 .node-table .rows) (c .args .u) (p .2), node-row-of (p .0 .node-table .rows) (c .args .v) (p .3))
 
 sent : tie.Need-returns
 sent c =

@@ -1,20 +1,18 @@
 -- `redraws::draw` meets its contract: the row written last and linked in, and its nodes without a face, are the edge drawn. Assumes nothing.
 use borrow.Author.Needs.{needs}
-use mathlib.Core.Path.{_≡_, refl, sym, ap, ap₂, _∙_, subst}
+use mathlib.Core.Path.{ap, ap₂, _∙_}
 use mathlib.Core.List.{List}
-use Prim.Native.Nat.{ℕ, _+_, _*_, _≤_}
+use Prim.Native.Nat.{ℕ, _+_, _*_}
 use native.Mathlib.Omega.{arith}
-use lib.IntN.{ℤ, pos, negsuc, natAbs}
-use lib.ListN.{length, set, length-set}
+use lib.IntN.{ℤ, negsuc, natAbs}
+use lib.ListN.{set, length-set}
 use lib.Seq.{paste}
 use mir.Syntax.{w64}
 use mir.Facts.{toZ-ofZ}
-use Rattle.map.specs.declared.Head.{Head}
 use Rattle.map.specs.Rows.{edgeCells}
-use Rattle.tables.specs.Tables.{EdgeRows}
 use Rattle.linking.specs.Linking.{linkedEdge}
-use Rattle.redraws.specs.Holds.{Drawn, newRow, drawnHead}
-use Rattle.redraws.proofs.Words.{count-natural, count-abs}
+use Rattle.answers.proofs.Words.{count-natural, count-abs}
+use Rattle.redraws.specs.Holds.{newRow}
 use Rattle.redraws.proofs.Drawn.{drawn-as, pushed-held, counted, start-fits, end-fits}
 use Rattle.redraws.proofs.draw.Statement.{statement}
 use Rattle.redraws.proofs.draw.Tie as tie

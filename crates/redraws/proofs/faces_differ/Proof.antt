@@ -1,7 +1,7 @@
 -- `redraws::faces_differ` meets its contract. Assumes nothing.
 use borrow.Author.Needs.{needs, sfits-of}
-use mathlib.Core.Path.{_≡_, sym, ap, ap₂, _∙_}
-use mathlib.Core.Bool.{true, not}
+use mathlib.Core.Path.{ap, ap₂, _∙_}
+use mathlib.Core.Bool.{not}
 use mathlib.Core.Option.{Option, Option·getD}
 use Prim.Native.Nat.{ℕ, _+_, _*_}
 use lib.IntN.{pos}
@@ -9,7 +9,8 @@ use lib.ListN.{getD}
 use Rattle.lists.specs.Tests.{same}
 use Rattle.lists.specs.Scans.{isSome}
 use Rattle.tables.proofs.Rows.{node-cells}
-use Rattle.redraws.proofs.Words.{word-test, face-test}
+use Rattle.tables.proofs.Order.{word-test}
+use Rattle.redraws.proofs.Words.{face-test}
 use Rattle.redraws.proofs.faces_differ.Statement.{statement}
 use Rattle.redraws.proofs.faces_differ.Tie as tie
 

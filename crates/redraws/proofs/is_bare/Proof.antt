@@ -1,19 +1,19 @@
 -- `redraws::is_bare` meets its contract: all ends at the node are the row's own. Assumes nothing.
 use borrow.Author.Needs.{needs, sfits-of}
-use mathlib.Core.Path.{_≡_, refl, sym, ap, ap₂, _∙_}
+use mathlib.Core.Path.{ap, ap₂, _∙_}
 use mathlib.Core.Bool.{Bool, true, false}
 use Prim.Native.Nat.{ℕ, _+_, _*_}
 use lib.Dec.{eqb, lit<}
 use lib.IntN.{ℤ, pos}
 use lib.ListN.{getD}
 use mir.Syntax.{w64}
-use mir.Val.{toZ, ofZ, Fits, boolByte}
+use mir.Val.{ofZ, Fits, boolByte}
 use mir.Facts.{toZ-ofZ, fits-of-lt}
 use Rattle.lists.specs.Tests.{same, bit}
 use Rattle.lists.specs.Scans.{count}
+use Rattle.lists.proofs.Counts.{byte-bit}
+use Rattle.tables.proofs.Order.{word-test}
 use Rattle.linking.specs.Linking.{positions, leavesNode}
-use Rattle.linking.proofs.Words.{byte-bit}
-use Rattle.redraws.proofs.Words.{word-test}
 use Rattle.redraws.proofs.is_bare.Statement.{statement}
 use Rattle.redraws.proofs.is_bare.Tie as tie
 

@@ -1,9 +1,8 @@
 -- `redraws::is_taken` meets its contract: the nodes are those of the row. Assumes nothing.
-use borrow.Author.Needs.{needs, sfits-of}
+use borrow.Author.Needs.{needs}
 use mathlib.Core.Path.{refl, _∙_}
 use native.Mathlib.Omega.{arith}
-use mir.Syntax.{w64}
-use mir.Facts.{toZ-ofZ}
+use Rattle.integers.specs.Signs.{sent}
 use Rattle.tables.specs.Tables.{edgeAt}
 use Rattle.links.proofs.Positions.{cells-of}
 use Rattle.redraws.proofs.is_taken.Statement.{statement}
@@ -18,7 +17,7 @@ returns c =
     let h = s .pre .1 in
     let k = cells-of (s .pre .0) i h in
     c .direction-taken .ensures (edgeAt l i .number) (edgeAt l i .start) (edgeAt l i .end) (record { is = λ t. refl; none = λ t j b q. absurd (omega arith) })
-    (toZ-ofZ {w = w64} (sfits-of (c .before .before .start .given)) ∙ k .start) (toZ-ofZ {w = w64} (sfits-of (c .before .end .given)) ∙ k .end)
+    (sent (c .before .before .start .given) ∙ k .start) (sent (c .before .end .given) ∙ k .end)
 
 pub is-taken-spec : {M : Type 1} → statement M
 is-taken-spec =

@@ -1,14 +1,13 @@
 -- `redraws::left_face` meets its contract. Assumes nothing.
-use borrow.Author.Needs.{needs, sfits-of}
+use borrow.Author.Needs.{needs}
 use mathlib.Core.Path.{_∙_}
-use mir.Syntax.{w64}
-use mir.Facts.{toZ-ofZ}
+use Rattle.integers.specs.Signs.{sent}
 use Rattle.tables.proofs.Rows.{edge-cells}
 use Rattle.redraws.proofs.left_face.Statement.{statement}
 use Rattle.redraws.proofs.left_face.Tie as tie
 
 returns : tie.Need-returns
-returns c = toZ-ofZ {w = w64} (sfits-of (c .result .given)) ∙ edge-cells (c .before .args .edges .now) (c .before .args .i) (c .before .pre .ranges) .left
+returns c = sent (c .result .given) ∙ edge-cells (c .before .args .edges .now) (c .before .args .i) (c .before .pre .ranges) .left
 
 pub left-face-spec : {M : Type 1} → statement M
 left-face-spec = tie.close (tie.spec (λ c. search needs) (λ c. search needs) (λ c. search needs) (λ c. search needs) returns)

@@ -1,21 +1,20 @@
 -- `redraws::lone_reason` meets its contract: each test answers its reason, in order. Assumes nothing.
-use borrow.Author.Needs.{needs}
-use mathlib.Core.Path.{_≡_, sym, ap, ap₂, _∙_}
+use mathlib.Core.Path.{sym, ap₂, _∙_}
 use Prim.Native.Nat.{ℕ}
 use native.Mathlib.Omega.{arith}
-use lib.IntN.{natAbs}
 use Rattle.curves.specs.Curves.{curveOf}
 use Rattle.map.specs.Reasons.{firstReason, meetingReasons}
 use Rattle.tables.specs.Tables.{nodeMap}
 use Rattle.conditions.specs.Sent.{edgesBut}
-use Rattle.redraws.proofs.Words.{count-natural, count-abs}
+use Rattle.conditions.proofs.Points.{node-row-of}
+use Rattle.answers.proofs.Words.{count-natural, count-abs}
 use Rattle.redraws.proofs.Formed.{counted-held, nodes-held}
-use Rattle.redraws.proofs.Lone.{node-row, sent-run, lone-sent, lone-joined, both-lone, lone-apart, lone-meeting, lone-room}
+use Rattle.redraws.proofs.Lone.{sent-run, lone-sent, lone-joined, both-lone, lone-apart, lone-meeting, lone-room}
 use Rattle.redraws.proofs.lone_reason.Statement.{statement}
 use Rattle.redraws.proofs.lone_reason.Tie as tie
 
 curve-reason-requires : tie.Need-curve-reason-requires
-curve-reason-requires c κs = let p = c .pre in (node-row (p .0 .node-table .rows) (c .args .u) (p .1), node-row (p .0 .node-table .rows) (c .args .v) (p .2))
+curve-reason-requires c κs = let p = c .pre in (node-row-of (p .0 .node-table .rows) (c .args .u) (p .1), node-row-of (p .0 .node-table .rows) (c .args .v) (p .2))
 
 sent : tie.Need-returns
 sent c =
@@ -24,7 +23,7 @@ sent c =
     lone-sent (a .nodes .now) (a .edges .now) (a .h) (a .u) (a .v) (a .c .now) (c .before .curve-reason .ensures) (c .if1 .taken)
 
 joined-requires : tie.Need-joined-requires
-joined-requires c κs = let s = c .before .before in let p = s .pre in (node-row (p .0 .node-table .rows) (s .args .u) (p .1), node-row (p .0 .node-table .rows) (s .args .v) (p .2))
+joined-requires c κs = let s = c .before .before in let p = s .pre in (node-row-of (p .0 .node-table .rows) (s .args .u) (p .1), node-row-of (p .0 .node-table .rows) (s .args .v) (p .2))
 
 joined : tie.Need-returns-2
 joined c =
@@ -40,7 +39,7 @@ faces-differ-requires c κs =
     let e = sym (c .before .before .before .curve-reason .ensures) ∙ c .before .before .if1 .left in
     let p = s .pre in
     let w = both-lone (a .nodes .now) (a .edges .now) (a .h) (a .u) (a .v) (a .c .now) e (c .before .joined .ensures) (c .if2 .left) in
-    (node-row (p .0 .node-table .rows) (a .u) (p .1), node-row (p .0 .node-table .rows) (a .v) (p .2), w .0, w .1)
+    (node-row-of (p .0 .node-table .rows) (a .u) (p .1), node-row-of (p .0 .node-table .rows) (a .v) (p .2), w .0, w .1)
 
 apart : tie.Need-returns-3
 apart c =

@@ -1,22 +1,22 @@
 -- `redraws::remove_lone_edge` meets its contract: each reason is answered in order, and else the edge is undrawn. Assumes nothing.
-use borrow.Author.Needs.{needs, sfits-of}
+use borrow.Author.Needs.{needs}
 use borrow.Author.Tests.{not-true, not-false}
-use mathlib.Core.Path.{_≡_, refl, sym, ap, _∙_}
-use mathlib.Core.Bool.{Bool, true, false, not}
+use mathlib.Core.Path.{ap, _∙_}
 use Prim.Native.Nat.{ℕ}
-use native.Mathlib.Omega.{arith}
 use lib.Dec.{lit<}
-use lib.IntN.{ℤ, pos, natAbs}
+use lib.IntN.{pos}
 use lib.Signed.{nonNeg}
 use mir.Syntax.{w64}
 use mir.Facts.{toZ-ofZ}
+use Rattle.integers.specs.Signs.{sent}
 use Rattle.map.specs.Limits.{edgeWidth}
 use Rattle.map.specs.Tickets.{RemoveIsoEdge}
 use Rattle.map.specs.Reasons.{edgeIsolated}
 use Rattle.tables.specs.Tables.{edgeAt, edgeMap}
 use Rattle.tables.proofs.Rows.{edge-rows-rising, edge-row-of}
 use Rattle.answers.proofs.Formed.{edge-rows, decided-refused, decided-carried}
-use Rattle.redraws.proofs.Formed.{held, edges-natural, edges-read, place-read}
+use Rattle.answers.proofs.Words.{place-told}
+use Rattle.redraws.proofs.Formed.{held, edges-natural, edges-read}
 use Rattle.redraws.proofs.Removed.{row-in, remove-missing, remove-joined, remove-free, remove-lent, remove-value}
 use Rattle.redraws.proofs.remove_lone_edge.Statement.{statement}
 use Rattle.redraws.proofs.remove_lone_edge.Tie as tie
@@ -33,7 +33,7 @@ missing c =
     let a = s .args in
     λ faces f.
     decided-refused (a .nodes .now) (a .edges .now) faces (a .h) (RemoveIsoEdge (a .edge)) 4 (lit< tt) (c .refused .ensures)
-    (remove-missing f (a .edge) (place-read edgeWidth (a .edges .now) (m .find-row .ensures) (edges-read f (m .before .before .count-of .ensures)) (toZ-ofZ {w = w64} (s .fits .edge)) (c .before .enum-told .given .1)))
+    (remove-missing f (a .edge) (place-told edgeWidth (a .edges .now) (edges-read f (m .before .before .count-of .ensures)) (toZ-ofZ {w = w64} (s .fits .edge)) (m .find-row .ensures) (c .before .enum-told .given .1)))
 
 edge-isolated-requires : tie.Need-edge-isolated-requires
 edge-isolated-requires c κs =
@@ -42,7 +42,7 @@ edge-isolated-requires c κs =
     let s = m .before .before .before .before in
     let f = s .pre .1 in
     let n = edges-read f (m .before .before .count-of .ensures) in
-    let p = place-read edgeWidth (s .args .edges .now) (m .find-row .ensures) n (toZ-ofZ {w = w64} (s .fits .edge)) (d .found .given .1) in
+    let p = place-told edgeWidth (s .args .edges .now) n (toZ-ofZ {w = w64} (s .fits .edge)) (m .find-row .ensures) (d .found .given .1) in
     (rw n (edge-rows f), rw n (row-in f (s .args .edge) (d .found .given .0 .0) p))
 
 joined : tie.Need-returns-2
@@ -54,7 +54,7 @@ joined c =
     let a = s .args in
     λ faces f.
     let n = edges-read f (m .before .before .count-of .ensures) in
-    let p = place-read edgeWidth (a .edges .now) (m .find-row .ensures) n (toZ-ofZ {w = w64} (s .fits .edge)) (d .found .given .1) in
+    let p = place-told edgeWidth (a .edges .now) n (toZ-ofZ {w = w64} (s .fits .edge)) (m .find-row .ensures) (d .found .given .1) in
     decided-refused (a .nodes .now) (a .edges .now) faces (a .h) (RemoveIsoEdge (a .edge)) 9 (lit< tt) (c .refused2 .ensures)
     (remove-joined f (a .edge) (d .found .given .0 .0) p (g .edge-isolated .ensures ∙ ap (λ (k : ℕ). edgeIsolated (edgeMap (a .edges .now) k) (edgeAt (a .edges .now) (d .found .given .0 .0) .number)) n) (not-true (g .edge-isolated .result) (c .before .if1 .taken)))
 
@@ -65,7 +65,7 @@ left-face-requires c κs =
     let s = m .before .before .before .before in
     let f = s .pre .1 in
     let n = edges-read f (m .before .before .count-of .ensures) in
-    let p = place-read edgeWidth (s .args .edges .now) (m .find-row .ensures) n (toZ-ofZ {w = w64} (s .fits .edge)) (d .found .given .1) in
+    let p = place-told edgeWidth (s .args .edges .now) n (toZ-ofZ {w = w64} (s .fits .edge)) (m .find-row .ensures) (d .found .given .1) in
     edge-row-of (edge-rows f) (d .found .given .0 .0) (row-in f (s .args .edge) (d .found .given .0 .0) p)
 
 undraw-requires : tie.Need-undraw-requires
@@ -75,9 +75,9 @@ undraw-requires c κs =
     let s = m .before .before .before .before in
     let f = s .pre .1 in
     let n = edges-read f (m .before .before .count-of .ensures) in
-    let p = place-read edgeWidth (s .args .edges .now) (m .find-row .ensures) n (toZ-ofZ {w = w64} (s .fits .edge)) (d .found .given .1) in
+    let p = place-told edgeWidth (s .args .edges .now) n (toZ-ofZ {w = w64} (s .fits .edge)) (m .find-row .ensures) (d .found .given .1) in
     let l = c .before .before .left-face in
-    let q = toZ-ofZ {w = w64} (sfits-of (l .ok)) ∙ l .ensures in
+    let q = sent (l .ok) ∙ l .ensures in
     record { held = held f; row = row-in f (s .args .edge) (d .found .given .0 .0) p; natural = ap nonNeg q }
 
 undrawn : tie.Need-returns-3
@@ -87,11 +87,11 @@ undrawn c =
     let s = m .before .before .before .before in
     let a = s .args in
     let l = c .before .before .before .before .before .before .left-face in
-    let q = toZ-ofZ {w = w64} (sfits-of (l .ok)) ∙ l .ensures in
+    let q = sent (l .ok) ∙ l .ensures in
     let u = c .before .before .before .undraw in
     λ faces f.
     let n = edges-read f (m .before .before .count-of .ensures) in
-    let p = place-read edgeWidth (a .edges .now) (m .find-row .ensures) n (toZ-ofZ {w = w64} (s .fits .edge)) (d .found .given .1) in
+    let p = place-told edgeWidth (a .edges .now) n (toZ-ofZ {w = w64} (s .fits .edge)) (m .find-row .ensures) (d .found .given .1) in
     let i = d .found .given .0 .0 in
     decided-carried (a .nodes .now) (a .edges .now) faces (a .h) (RemoveIsoEdge (a .edge)) (u .last .0) (u .last .1 .0) faces (u .result) (pos 0) (c .carried .ensures)
     (remove-free f (a .edge) i p (c .before .before .before .before .before .before .before .before .before .edge-isolated .ensures ∙ ap (λ (k : ℕ). edgeIsolated (edgeMap (a .edges .now) k) (edgeAt (a .edges .now) i .number)) n) (not-false _ (c .before .before .before .before .before .before .before .before .if1 .left)))

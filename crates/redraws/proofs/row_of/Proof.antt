@@ -5,7 +5,7 @@ use mir.Syntax.{w64}
 use mir.Facts.{toZ-ofZ}
 use Rattle.map.specs.Limits.{nodeWidth}
 use Rattle.tables.proofs.Rows.{node-rows-rising}
-use Rattle.redraws.proofs.Formed.{place-read}
+use Rattle.answers.proofs.Words.{place-told}
 use Rattle.redraws.proofs.Changed.{node-there}
 use Rattle.redraws.proofs.row_of.Statement.{statement}
 use Rattle.redraws.proofs.row_of.Tie as tie
@@ -15,14 +15,14 @@ missing c =
     let m = c .before .before in
     let s = m .before in
     let a = s .args in
-    let e = place-read nodeWidth (a .nodes .now) {n = a .count} (m .find-row .ensures) refl (toZ-ofZ {w = w64} (s .fits .node)) (c .enum-told .given .1) in
+    let e = place-told nodeWidth (a .nodes .now) {n = a .count} refl (toZ-ofZ {w = w64} (s .fits .node)) (m .find-row .ensures) (c .enum-told .given .1) in
     absurd (node-there (s .pre .0) (a .node) (s .pre .1) (s .pre .2) e)
 
 found : tie.Need-returns-2
 found c =
     let m = c .before .before .before in
     let s = m .before in
-    place-read nodeWidth (s .args .nodes .now) {n = s .args .count} (m .find-row .ensures) refl (toZ-ofZ {w = w64} (s .fits .node)) (c .before .found .given .1)
+    place-told nodeWidth (s .args .nodes .now) {n = s .args .count} refl (toZ-ofZ {w = w64} (s .fits .node)) (m .find-row .ensures) (c .before .found .given .1)
 
 pub row-of-spec : {M : Type 1} → statement M
 row-of-spec =

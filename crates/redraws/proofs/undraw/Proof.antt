@@ -1,17 +1,17 @@
 -- `redraws::undraw` meets its contract: the row unlinked and closed up, and the bare nodes with their face, are the edge undrawn. Assumes nothing.
-use borrow.Author.Needs.{needs, sfits-of}
-use mathlib.Core.Path.{_≡_, refl, sym, ap, ap₂, _∙_, subst}
-use mathlib.Core.List.{List}
-use Prim.Native.Nat.{ℕ, _+_, _*_, _≤_}
+use borrow.Author.Needs.{needs}
+use mathlib.Core.Path.{refl, ap, _∙_}
+use Prim.Native.Nat.{ℕ, _+_, _*_}
 use native.Mathlib.Omega.{arith}
-use lib.IntN.{ℤ, pos, natAbs}
+use lib.IntN.{pos, natAbs}
 use lib.ListN.{getD}
 use mir.Syntax.{w64}
 use mir.Val.{toZ, ofZ}
 use mir.Facts.{toZ-ofZ}
-use Rattle.tables.specs.Tables.{closed, edgeAt, NodeRows, EdgeRows}
+use Rattle.integers.specs.Signs.{sent}
+use Rattle.tables.specs.Tables.{closed, edgeAt}
 use Rattle.linking.specs.Linking.{unlinkedEdge}
-use Rattle.redraws.proofs.Words.{count-natural, count-abs}
+use Rattle.answers.proofs.Words.{count-natural, count-abs}
 use Rattle.redraws.proofs.Undrawn.{undrawn-as, nodes-few, undrawn-counted, start-cell, end-cell, start-rows, faced-alike, bare-alike}
 use Rattle.redraws.proofs.undraw.Statement.{statement}
 use Rattle.redraws.proofs.undraw.Tie as tie
@@ -46,7 +46,7 @@ give-face-requires-2 c κs =
     let k = undrawn-counted (s .pre) in
     let n = c .before .before .before .before .before .before .before .before .before .before .before .count-of .ensures ∙ count-abs (a .h .nodes) (s .pre .held .nodes-count) (nodes-few (s .pre)) in
     let e = c .before .before .before .before .before .before .before .before .before .count-of2 .ensures ∙ count-abs (a .h .edges) (k .count) (omega (arith, k .few)) in
-    let zu = toZ-ofZ {w = w64} (sfits-of (c .before .before .before .before .before .before .before .before .u .given)) ∙ start-cell (s .pre) in
+    let zu = sent (c .before .before .before .before .before .before .before .before .u .given) ∙ start-cell (s .pre) in
     let f = toZ-ofZ {w = w64} (s .fits .face) in
     let bu = c .before .before .before .before .before .undraw-edge .ensures .1 ∙ bare-alike l (a .i) (c .before .before .before .before .before .before .before .before .before .count-of2 .result) (natAbs (a .h .edges)) (toZ w64 (ofZ w64 (getD l (a .i * 32 + 1) (pos 0)))) (pos (edgeAt l (a .i) .start)) e zu in
     let first = c .before .before .give-face .ensures ∙ faced-alike {l = a .nodes .now} {l′ = a .nodes .now} refl n zu f bu in
@@ -60,11 +60,11 @@ returns c =
     let k = undrawn-counted (s .pre) in
     let n = c .before .before .before .before .before .before .before .before .before .before .before .before .before .before .count-of .ensures ∙ count-abs (a .h .nodes) (s .pre .held .nodes-count) (nodes-few (s .pre)) in
     let e = c .before .before .before .before .before .before .before .before .before .before .before .before .count-of2 .ensures ∙ count-abs (a .h .edges) (k .count) (omega (arith, k .few)) in
-    let zu = toZ-ofZ {w = w64} (sfits-of (c .before .before .before .before .before .before .before .before .before .before .before .u .given)) ∙ start-cell (s .pre) in
+    let zu = sent (c .before .before .before .before .before .before .before .before .before .before .before .u .given) ∙ start-cell (s .pre) in
     let f = toZ-ofZ {w = w64} (s .fits .face) in
     let bu = c .before .before .before .before .before .before .before .before .undraw-edge .ensures .1 ∙ bare-alike l (a .i) (c .before .before .before .before .before .before .before .before .before .before .before .before .count-of2 .result) (natAbs (a .h .edges)) (toZ w64 (ofZ w64 (getD l (a .i * 32 + 1) (pos 0)))) (pos (edgeAt l (a .i) .start)) e zu in
     let first = c .before .before .before .before .before .give-face .ensures ∙ faced-alike {l = a .nodes .now} {l′ = a .nodes .now} refl n zu f bu in
-    let zv = toZ-ofZ {w = w64} (sfits-of (c .before .before .before .before .before .before .before .before .before .before .v .given)) ∙ end-cell (s .pre) in
+    let zv = sent (c .before .before .before .before .before .before .before .before .before .before .v .given) ∙ end-cell (s .pre) in
     let bv = c .before .before .before .before .before .before .before .before .undraw-edge .ensures .2 ∙ bare-alike l (a .i) (c .before .before .before .before .before .before .before .before .before .before .before .before .count-of2 .result) (natAbs (a .h .edges)) (toZ w64 (ofZ w64 (getD l (a .i * 32 + 2) (pos 0)))) (pos (edgeAt l (a .i) .end)) e zv in
     undrawn-as (s .pre)
     (c .before .before .give-face2 .ensures ∙ faced-alike first n zv f bv)

@@ -1,5 +1,5 @@
 -- `redraws::write_curve` meets its contract: the numbers written are those of the row with the other curve. Assumes nothing.
-use borrow.Author.Needs.{needs, sfits-of}
+use borrow.Author.Needs.{needs}
 use mathlib.Core.Path.{sym, ap, _∙_}
 use mathlib.Core.List.{List}
 use Prim.Native.Nat.{_*_, _+_}
@@ -7,8 +7,7 @@ use native.Mathlib.Omega.{arith}
 use lib.IntN.{ℤ, pos}
 use lib.ListN.{getD}
 use lib.Seq.{paste}
-use mir.Syntax.{w64}
-use mir.Facts.{toZ-ofZ}
+use Rattle.integers.specs.Signs.{sent}
 use Rattle.curves.specs.Curves.{points, curveOf}
 use Rattle.cutting.specs.declared.Line.{Line}
 use Rattle.map.specs.Rows.{dartCell}
@@ -35,13 +34,13 @@ returns c =
     let i = a .i in
     let k = edge-cells l i (s .pre .0 .ranges) in
     let row = withCurve (curveOf (a .c .now)) (edgeAt l i) in
-    let number = toZ-ofZ {w = w64} (sfits-of (c .before .before .before .before .before .before .before .before .before .before .number .given)) ∙ k .number in
-    let start = toZ-ofZ {w = w64} (sfits-of (c .before .before .before .before .before .before .before .before .before .start .given)) ∙ k .start in
-    let end = toZ-ofZ {w = w64} (sfits-of (c .before .before .before .before .before .before .before .before .end .given)) ∙ k .end in
-    let next-left = toZ-ofZ {w = w64} (sfits-of (c .before .before .before .before .before .before .before .next-left .given)) ∙ sym (dart-back (getD l (i * 32 + 3) (pos 0))) ∙ ap dartCell (k .nextLeft) in
-    let next-right = toZ-ofZ {w = w64} (sfits-of (c .before .before .before .before .before .before .next-right .given)) ∙ sym (dart-back (getD l (i * 32 + 4) (pos 0))) ∙ ap dartCell (k .nextRight) in
-    let left = toZ-ofZ {w = w64} (sfits-of (c .before .before .before .before .before .left .given)) ∙ k .left in
-    let right = toZ-ofZ {w = w64} (sfits-of (c .before .before .before .before .right .given)) ∙ k .right in
+    let number = sent (c .before .before .before .before .before .before .before .before .before .before .number .given) ∙ k .number in
+    let start = sent (c .before .before .before .before .before .before .before .before .before .start .given) ∙ k .start in
+    let end = sent (c .before .before .before .before .before .before .before .before .end .given) ∙ k .end in
+    let next-left = sent (c .before .before .before .before .before .before .before .next-left .given) ∙ sym (dart-back (getD l (i * 32 + 3) (pos 0))) ∙ ap dartCell (k .nextLeft) in
+    let next-right = sent (c .before .before .before .before .before .before .next-right .given) ∙ sym (dart-back (getD l (i * 32 + 4) (pos 0))) ∙ ap dartCell (k .nextRight) in
+    let left = sent (c .before .before .before .before .before .left .given) ∙ k .left in
+    let right = sent (c .before .before .before .before .right .given) ∙ k .right in
     let cells = row-written (c .before .before .whole-of .result) row (c .before .before .whole-of .ensures) number start end next-left next-right left right (points-few (s .pre .1)) in
     c .before .write-edge .ensures ∙ ap (λ (r : List ℤ). paste l (i * 32) r 32) cells
 

@@ -1,11 +1,10 @@
 -- `redraws::write_last` meets its contract: the numbers written are those of the new row. Assumes nothing.
 use borrow.Author.Needs.{needs}
-use mathlib.Core.Path.{_≡_, refl, sym, ap, ap₂, _∙_}
+use mathlib.Core.Path.{ap, ap₂, _∙_}
 use mathlib.Core.List.{List}
-use Prim.Native.Nat.{ℕ, _*_, _≤_}
+use Prim.Native.Nat.{ℕ, _*_}
 use native.Mathlib.Omega.{arith}
-use lib.IntN.{ℤ, pos, natAbs}
-use lib.ListN.{length}
+use lib.IntN.{ℤ, natAbs}
 use lib.Seq.{paste}
 use mir.Syntax.{w64}
 use mir.Facts.{toZ-ofZ}
@@ -14,7 +13,8 @@ use Rattle.cutting.specs.declared.Line.{Line}
 use Rattle.tables.specs.Tables.{nodeAt}
 use Rattle.redraws.specs.Holds.{newRow}
 use Rattle.rowing.proofs.Cells.{line-count}
-use Rattle.redraws.proofs.Words.{count-natural, count-abs, count-read, small-read, back-read}
+use Rattle.answers.proofs.Words.{count-natural, count-abs, count-read, small-read}
+use Rattle.redraws.proofs.Words.{back-read}
 use Rattle.redraws.proofs.Drawn.{points-few, row-written, counted, start-number, end-number, start-small, end-small, face-is, new-fits}
 use Rattle.redraws.proofs.write_last.Statement.{statement}
 use Rattle.redraws.proofs.write_last.Tie as tie
@@ -40,8 +40,8 @@ returns c =
     let n = c .before .before .before .before .before .before .before .before .count-of .ensures ∙ count-abs (a .h .edges) (k .count) (omega (arith, k .few)) in
     let row = newRow (a .nodes .now) (a .h) (a .u) (a .v) (a .c .now) (a .face) in
     let number = count-read (a .h .«next_edge») (k .next) (k .most) in
-    let start = small-read (nodeAt (a .nodes .now) (a .u) .number) (start-number d) (start-small d) in
-    let end = small-read (nodeAt (a .nodes .now) (a .v) .number) (end-number d) (end-small d) in
+    let start = small-read (nodeAt (a .nodes .now) (a .u) .number) (start-number d) (omega (arith, start-small d)) in
+    let end = small-read (nodeAt (a .nodes .now) (a .v) .number) (end-number d) (omega (arith, end-small d)) in
     let back = back-read (natAbs (a .h .«next_edge»)) (c .before .before .before .before .back-of .ensures) number (k .most) in
     let face = toZ-ofZ {w = w64} {z = a .face} (s .fits .face) ∙ face-is d in
     let cells = row-written (c .before .before .whole-of .result) row (c .before .before .whole-of .ensures) number start end back number face face (points-few (d .run)) in

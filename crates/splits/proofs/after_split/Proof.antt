@@ -1,12 +1,12 @@
 -- `splits::after_split` meets its contract: counts and next numbers are small. Assumes nothing.
-use borrow.Author.Needs.{needs, sfits-of}
+use borrow.Author.Needs.{needs}
 use mathlib.Core.Path.{_≡_, refl, ap, _∙_}
 use mathlib.Core.Bool.{Bool, true, false, cond}
 use Prim.Native.Nat.{ℕ, _+_, _≤_}
 use native.Mathlib.Omega.{arith}
-use lib.IntN.{ℤ, pos, natAbs}
+use lib.IntN.{pos, natAbs}
+use Rattle.answers.proofs.Words.{plus-fits, plus-is, more-fits, more-is}
 use Rattle.splits.specs.Cuts.{given}
-use Rattle.splits.proofs.Words.{plus-fits, plus-is}
 use Rattle.splits.proofs.after_split.Statement.{statement}
 use Rattle.splits.proofs.after_split.Tie as tie
 
@@ -19,17 +19,11 @@ given-last : (b : Bool) (n : ℕ) → cond b n (n + 1) + 1 ≡ n + given b
 given-last true n = refl
 given-last false n = omega arith
 
-few : (z : ℤ) (n : ℕ) → z ≡ pos n → n ≤ 1000001 → natAbs z ≤ 1000001
-few z n e h = rw e h
-
-is-abs : (z : ℤ) (n : ℕ) → z ≡ pos n → z ≡ pos (natAbs z)
-is-abs z n e = rw e
-
 add-last : tie.Need-add-after-4
 add-last c =
     let s = c .before .before .before .before in
     let k = few-last (s .args .keeps) (natAbs (s .args .h .«next_edge»)) (s .pre .edge-given) in
-    plus-fits (c .end-number .result) (is-abs _ _ (c .end-number .ensures)) (few _ _ (c .end-number .ensures) k)
+    more-fits (cond (s .args .keeps) (natAbs (s .args .h .«next_edge»)) (natAbs (s .args .h .«next_edge») + 1)) 1 (c .end-number .ensures) refl (omega (arith, k))
 
 returns : tie.Need-returns
 returns c =
@@ -37,7 +31,7 @@ returns c =
     let h = s .args .h in
     let p = s .pre in
     let k = few-last (s .args .keeps) (natAbs (h .«next_edge»)) (p .edge-given) in
-    let e = plus-is (c .end-number .result) (is-abs _ _ (c .end-number .ensures)) (few _ _ (c .end-number .ensures) k) ∙ ap (λ (z : ℤ). pos (natAbs z + 1)) (c .end-number .ensures) ∙ ap pos (given-last (s .args .keeps) (natAbs (h .«next_edge»))) in
+    let e = more-is (cond (s .args .keeps) (natAbs (h .«next_edge»)) (natAbs (h .«next_edge») + 1)) 1 (c .end-number .ensures) refl (omega (arith, k)) ∙ ap pos (given-last (s .args .keeps) (natAbs (h .«next_edge»))) in
     rw (plus-is (h .nodes) (p .nodes) (omega (arith, p .few-nodes)), plus-is (h .edges) (p .edges) (omega (arith, p .few-edges)), plus-is (h .«next_node») (p .next-node) (omega (arith, p .node-given)), e)
 
 pub after-split-spec : {M : Type 1} → statement M

@@ -1,17 +1,17 @@
 -- `splits::cut_edge` meets its contract. Assumes nothing.
-use borrow.Author.Needs.{needs, sfits-of}
-use mathlib.Core.Path.{_≡_, refl, sym, ap, ap₂, _∙_}
+use borrow.Author.Needs.{needs}
+use mathlib.Core.Path.{_≡_, ap, ap₂, _∙_}
 use mathlib.Core.Bool.{Bool, true, false}
-use Prim.Native.Nat.{_+_, _*_, _≤_}
 use native.Mathlib.Omega.{arith}
-use lib.IntN.{ℤ, pos, natAbs}
+use lib.IntN.{ℤ}
 use lib.Signed.{nonNeg}
 use mir.Syntax.{w64}
 use mir.Val.{toZ, ofZ}
 use mir.Facts.{toZ-ofZ}
+use Rattle.integers.specs.Signs.{sent}
 use Rattle.curves.specs.Curves.{point}
+use Rattle.answers.proofs.Words.{count-natural, count-abs, count-fits}
 use Rattle.splits.specs.Cuts.{cutRow, startNumber, endNumber, Numbered}
-use Rattle.splits.proofs.Words.{count-natural, count-abs, count-read, count-fits}
 use Rattle.splits.proofs.cut_edge.Statement.{statement}
 use Rattle.splits.proofs.cut_edge.Tie as tie
 
@@ -25,8 +25,8 @@ cut-row-requires c κs =
     let a = s .args in
     let p = s .pre in
     let e = c .before .before .before .before .count-of .ensures ∙ count-abs (a .h .edges) (p .0 .edges) (omega (arith, p .0 .few-edges)) in
-    let za : toZ w64 (ofZ w64 (c .before .before .start-number .result)) ≡ startNumber (a .h) (a .keeps) (a .edge) = toZ-ofZ {w = w64} (sfits-of (c .before .before .start-number .ok)) ∙ c .before .before .start-number .ensures ∙ ap (startNumber (a .h) (a .keeps)) (toZ-ofZ {w = w64} {z = a .edge} (s .fits .edge)) in
-    let zb : toZ w64 (ofZ w64 (c .before .end-number .result)) ≡ endNumber (a .h) (a .keeps) = toZ-ofZ {w = w64} (sfits-of (c .before .end-number .ok)) ∙ c .before .end-number .ensures in (
+    let za : toZ w64 (ofZ w64 (c .before .before .start-number .result)) ≡ startNumber (a .h) (a .keeps) (a .edge) = sent (c .before .before .start-number .ok) ∙ c .before .before .start-number .ensures ∙ ap (startNumber (a .h) (a .keeps)) (toZ-ofZ {w = w64} {z = a .edge} (s .fits .edge)) in
+    let zb : toZ w64 (ofZ w64 (c .before .end-number .result)) ≡ endNumber (a .h) (a .keeps) = sent (c .before .end-number .ok) ∙ c .before .end-number .ensures in (
       p .1,
       c .before .before .before .point-of .ensures .1,
       omega (arith, p .2),
@@ -44,8 +44,8 @@ returns c =
     let e = c .before .before .before .before .before .before .count-of .ensures ∙ count-abs (a .h .edges) (p .0 .edges) (omega (arith, p .0 .few-edges)) in
     let zn : toZ w64 (ofZ w64 (a .h .«next_node»)) ≡ a .h .«next_node» = toZ-ofZ {w = w64} (count-fits (a .h .«next_node») (p .0 .next-node) (omega (arith, p .0 .node-given))) in
     let zp = c .before .before .before .before .before .point-of .ensures .0 ∙ ap₂ point (toZ-ofZ {w = w64} {z = a .x} (s .fits .x)) (toZ-ofZ {w = w64} {z = a .y} (s .fits .y)) in
-    let za : toZ w64 (ofZ w64 (c .before .before .before .before .start-number .result)) ≡ startNumber (a .h) (a .keeps) (a .edge) = toZ-ofZ {w = w64} (sfits-of (c .before .before .before .before .start-number .ok)) ∙ c .before .before .before .before .start-number .ensures ∙ ap (startNumber (a .h) (a .keeps)) (toZ-ofZ {w = w64} {z = a .edge} (s .fits .edge)) in
-    let zb : toZ w64 (ofZ w64 (c .before .before .before .end-number .result)) ≡ endNumber (a .h) (a .keeps) = toZ-ofZ {w = w64} (sfits-of (c .before .before .before .end-number .ok)) ∙ c .before .before .before .end-number .ensures in
+    let za : toZ w64 (ofZ w64 (c .before .before .before .before .start-number .result)) ≡ startNumber (a .h) (a .keeps) (a .edge) = sent (c .before .before .before .before .start-number .ok) ∙ c .before .before .before .before .start-number .ensures ∙ ap (startNumber (a .h) (a .keeps)) (toZ-ofZ {w = w64} {z = a .edge} (s .fits .edge)) in
+    let zb : toZ w64 (ofZ w64 (c .before .before .before .end-number .result)) ≡ endNumber (a .h) (a .keeps) = sent (c .before .before .before .end-number .ok) ∙ c .before .before .before .end-number .ensures in
     c .before .cut-row .ensures ∙ (λ j. cutRow (a .edges .now) (e j) (a .i) (zn j) (zp j) (a .keeps) (za j) (zb j))
 
 pub cut-edge-spec : {M : Type 1} → statement M

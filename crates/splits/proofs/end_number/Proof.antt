@@ -1,6 +1,6 @@
 -- `splits::end_number` meets its contract: a next number is small. Assumes nothing.
 use native.Mathlib.Omega.{arith}
-use Rattle.splits.proofs.Words.{count-read, plus-fits, plus-is}
+use Rattle.answers.proofs.Words.{count-read, plus-fits, plus-is}
 use Rattle.splits.proofs.end_number.Statement.{statement}
 use Rattle.splits.proofs.end_number.Tie as tie
 

@@ -1,15 +1,15 @@
 -- `splits::room_reason` meets its contract: each test answers its reason, in order. Assumes nothing.
 use borrow.Author.Needs.{needs}
 use borrow.Author.Tests.{lt-ltb, le-ltb}
-use mathlib.Core.Path.{_≡_, sym, ap, _∙_}
+use mathlib.Core.Path.{_∙_}
 use mathlib.Core.Bool.{Bool, true, false}
 use Prim.Native.Nat.{_+_, _/_, _≤_}
 use native.Mathlib.Omega.{arith}
 use lib.IntN.{natAbs}
 use lib.ListN.{length}
 use Rattle.map.specs.Reasons.{firstReason}
+use Rattle.answers.proofs.Words.{count-natural, count-abs}
 use Rattle.splits.specs.Cuts.{given}
-use Rattle.splits.proofs.Words.{count-natural, count-abs}
 use Rattle.splits.proofs.room_reason.Statement.{statement}
 use Rattle.splits.proofs.room_reason.Tie as tie
 

@@ -3,24 +3,24 @@ use borrow.Author.Needs.{needs}
 use mathlib.Core.Path.{_≡_, sym, ap, _∙_}
 use mathlib.Core.Bool.{true}
 use mathlib.Core.List.{[], _∷_}
-use Prim.Native.Nat.{ℕ, _+_, _*_, _<_}
+use Prim.Native.Nat.{_*_, _<_}
 use native.Mathlib.Omega.{arith}
 use lib.Dec.{lit<}
-use lib.IntN.{ℤ, pos, negsuc, natAbs}
+use lib.IntN.{ℤ, negsuc, natAbs}
 use lib.Seq.{paste}
 use lib.Signed.{nonNeg}
 use mir.Syntax.{w64}
 use mir.Val.{toZ, ofZ}
 use mir.Facts.{toZ-ofZ}
-use Rattle.curves.specs.Curves.{point, coordinate}
+use Rattle.curves.specs.Curves.{point}
 use Rattle.map.specs.declared.Head.{Head}
 use Rattle.tables.proofs.Rows.{edge-rows-rising, edge-row-of}
 use Rattle.answers.specs.declared.Done.{Done}
 use Rattle.answers.proofs.Formed.{node-rows, edge-rows, nodes-size, edges-size, decided-refused, decided-carried}
+use Rattle.answers.proofs.Words.{count-natural, count-abs, count-fits, place-told}
 use Rattle.splits.specs.Kinds.{splitTicket}
 use Rattle.splits.specs.Cuts.{Numbered, cutRow, startNumber, endNumber, splitHead}
-use Rattle.splits.proofs.Words.{count-natural, count-abs, count-fits}
-use Rattle.splits.proofs.Told.{place-told, point-told, point-in, room-left, numbered-of, split-missing, row-below, row-is, split-early, split-late}
+use Rattle.splits.proofs.Told.{point-told, point-in, room-left, numbered-of, split-missing, row-below, row-is, split-early, split-late}
 use Rattle.splits.proofs.Lent.{split-lent}
 use Rattle.splits.proofs.split_edge.Statement.{statement}
 use Rattle.splits.proofs.split_edge.Tie as tie
@@ -52,7 +52,7 @@ missing c faces f =
     let a = s .args in
     let g = numbered-of (s .pre .1) in
     let ze = toZ-ofZ {w = w64} {z = a .edge} (s .fits .edge) in
-    let e = place-told (a .edges .now) (c .before .before .before .before .count-of .ensures ∙ edges-read (a .h) g) ze (c .before .before .before .find-row .ensures) (c .before .enum-told .given .1) in
+    let e = place-told 32 (a .edges .now) (c .before .before .before .before .count-of .ensures ∙ edges-read (a .h) g) ze (c .before .before .before .find-row .ensures) (c .before .enum-told .given .1) in
     decided-refused (a .nodes .now) (a .edges .now) faces (a .h) (splitTicket (a .keeps) (a .edge) (a .x) (a .y)) 4 (lit< tt) (c .refused .ensures) (split-missing f (a .keeps) (a .edge) (a .x) (a .y) e)
 
 early : tie.Need-returns-2
@@ -64,7 +64,7 @@ early c faces f =
     let zx = toZ-ofZ {w = w64} {z = a .x} (s .fits .x) in
     let zy = toZ-ofZ {w = w64} {z = a .y} (s .fits .y) in
     let i = c .before .before .before .before .before .before .before .before .found .given .0 .0 in
-    let e = place-told (a .edges .now) (c .before .before .before .before .before .before .before .before .before .before .before .count-of .ensures ∙ edges-read (a .h) g) ze (c .before .before .before .before .before .before .before .before .before .before .find-row .ensures) (c .before .before .before .before .before .before .before .before .found .given .1) in
+    let e = place-told 32 (a .edges .now) (c .before .before .before .before .before .before .before .before .before .before .before .count-of .ensures ∙ edges-read (a .h) g) ze (c .before .before .before .before .before .before .before .before .before .before .find-row .ensures) (c .before .before .before .before .before .before .before .before .found .given .1) in
     let r = point-told (a .nodes .now) (a .edges .now) i (c .before .before .before .before .count-of2 .ensures ∙ nodes-read (a .h) g) zx zy (c .before .before .point-reason .ensures) in
     let some : 0 < c .before .before .point-reason .result = omega (arith, c .before .if1 .taken) in
     decided-refused (a .nodes .now) (a .edges .now) faces (a .h) (splitTicket (a .keeps) (a .edge) (a .x) (a .y)) _ some (c .refused2 .ensures) (split-early f (a .keeps) (a .edge) (a .x) (a .y) i e _ some r)
@@ -78,7 +78,7 @@ late c faces f =
     let zx = toZ-ofZ {w = w64} {z = a .x} (s .fits .x) in
     let zy = toZ-ofZ {w = w64} {z = a .y} (s .fits .y) in
     let i = c .before .before .before .before .before .before .before .before .before .before .before .before .found .given .0 .0 in
-    let e = place-told (a .edges .now) (c .before .before .before .before .before .before .before .before .before .before .before .before .before .before .before .count-of .ensures ∙ edges-read (a .h) g) ze (c .before .before .before .before .before .before .before .before .before .before .before .before .before .before .find-row .ensures) (c .before .before .before .before .before .before .before .before .before .before .before .before .found .given .1) in
+    let e = place-told 32 (a .edges .now) (c .before .before .before .before .before .before .before .before .before .before .before .before .before .before .before .count-of .ensures ∙ edges-read (a .h) g) ze (c .before .before .before .before .before .before .before .before .before .before .before .before .before .before .find-row .ensures) (c .before .before .before .before .before .before .before .before .before .before .before .before .found .given .1) in
     let r = point-told (a .nodes .now) (a .edges .now) i (c .before .before .before .before .before .before .before .before .count-of2 .ensures ∙ nodes-read (a .h) g) zx zy (c .before .before .before .before .before .before .point-reason .ensures) in
     let some : 0 < c .before .before .room-reason .result = omega (arith, c .before .if2 .taken) in
     decided-refused (a .nodes .now) (a .edges .now) faces (a .h) (splitTicket (a .keeps) (a .edge) (a .x) (a .y)) _ some (c .refused3 .ensures)
@@ -94,7 +94,7 @@ carried c faces f =
     let zy = toZ-ofZ {w = w64} {z = a .y} (s .fits .y) in
     let zn = node-read (a .h) g in
     let i = c .before .before .before .before .before .before .before .before .before .before .before .before .before .before .before .before .before .before .before .before .before .before .found .given .0 .0 in
-    let e = place-told (a .edges .now) (c .before .before .before .before .before .before .before .before .before .before .before .before .before .before .before .before .before .before .before .before .before .before .before .before .before .count-of .ensures ∙ edges-read (a .h) g) ze (c .before .before .before .before .before .before .before .before .before .before .before .before .before .before .before .before .before .before .before .before .before .before .before .before .find-row .ensures) (c .before .before .before .before .before .before .before .before .before .before .before .before .before .before .before .before .before .before .before .before .before .before .found .given .1) in
+    let e = place-told 32 (a .edges .now) (c .before .before .before .before .before .before .before .before .before .before .before .before .before .before .before .before .before .before .before .before .before .before .before .before .before .count-of .ensures ∙ edges-read (a .h) g) ze (c .before .before .before .before .before .before .before .before .before .before .before .before .before .before .before .before .before .before .before .before .before .before .before .before .find-row .ensures) (c .before .before .before .before .before .before .before .before .before .before .before .before .before .before .before .before .before .before .before .before .before .before .found .given .1) in
     let none = sym (point-told (a .nodes .now) (a .edges .now) i (c .before .before .before .before .before .before .before .before .before .before .before .before .before .before .before .before .before .before .count-of2 .ensures ∙ nodes-read (a .h) g) zx zy (c .before .before .before .before .before .before .before .before .before .before .before .before .before .before .before .before .point-reason .ensures)) ∙ c .before .before .before .before .before .before .before .before .before .before .before .before .before .before .before .if1 .left in
     let left = sym (c .before .before .before .before .before .before .before .before .before .before .before .before .room-reason .ensures) ∙ c .before .before .before .before .before .before .before .before .before .before .before .if2 .left in
     let room = room-left (a .nodes .now) (a .edges .now) (a .h) (a .keeps) left in
@@ -118,7 +118,7 @@ point-reason-requires c κs =
     let f = s .pre .1 in
     let g = numbered-of f in
     let ze = toZ-ofZ {w = w64} {z = a .edge} (s .fits .edge) in
-    let e = place-told (a .edges .now) (c .before .before .before .before .before .before .before .before .count-of .ensures ∙ edges-read (a .h) g) ze (c .before .before .before .before .before .before .before .find-row .ensures) (c .before .before .before .before .before .found .given .1) in
+    let e = place-told 32 (a .edges .now) (c .before .before .before .before .before .before .before .before .count-of .ensures ∙ edges-read (a .h) g) ze (c .before .before .before .before .before .before .before .find-row .ensures) (c .before .before .before .before .before .found .given .1) in
     (rw (c .before .count-of2 .ensures ∙ nodes-read (a .h) g) (node-rows f), edge-row-of (edge-rows f) (c .before .before .before .before .before .found .given .0 .0) (row-below f (a .keeps) (a .edge) (a .x) (a .y) _ e))
 
 cut-edge-requires : tie.Need-cut-edge-requires
@@ -131,7 +131,7 @@ cut-edge-requires c κs =
     let zx = toZ-ofZ {w = w64} {z = a .x} (s .fits .x) in
     let zy = toZ-ofZ {w = w64} {z = a .y} (s .fits .y) in
     let i = c .before .before .before .before .before .before .before .before .before .before .before .before .before .found .given .0 .0 in
-    let e = place-told (a .edges .now) (c .before .before .before .before .before .before .before .before .before .before .before .before .before .before .before .before .count-of .ensures ∙ edges-read (a .h) g) ze (c .before .before .before .before .before .before .before .before .before .before .before .before .before .before .before .find-row .ensures) (c .before .before .before .before .before .before .before .before .before .before .before .before .before .found .given .1) in
+    let e = place-told 32 (a .edges .now) (c .before .before .before .before .before .before .before .before .before .before .before .before .before .before .before .before .count-of .ensures ∙ edges-read (a .h) g) ze (c .before .before .before .before .before .before .before .before .before .before .before .before .before .before .before .find-row .ensures) (c .before .before .before .before .before .before .before .before .before .before .before .before .before .found .given .1) in
     let none = sym (point-told (a .nodes .now) (a .edges .now) i (c .before .before .before .before .before .before .before .before .before .count-of2 .ensures ∙ nodes-read (a .h) g) zx zy (c .before .before .before .before .before .before .before .point-reason .ensures)) ∙ c .before .before .before .before .before .before .if1 .left in
     let room = room-left (a .nodes .now) (a .edges .now) (a .h) (a .keeps) (sym (c .before .before .before .room-reason .ensures) ∙ c .before .before .if2 .left) in
     let below = row-below f (a .keeps) (a .edge) (a .x) (a .y) i e in (

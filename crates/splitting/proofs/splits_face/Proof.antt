@@ -1,12 +1,11 @@
 -- `splitting::splits_face` meets its contract. Assumes nothing.
-use borrow.Author.Needs.{needs, sfits-of}
+use borrow.Author.Needs.{needs}
 use mathlib.Core.Path.{_≡_, sym, ap, ap₂, _∙_, subst}
 use mathlib.Core.Bool.{false}
 use Prim.Native.Nat.{ℕ, _+_, _*_, _<_}
 use native.Mathlib.Omega.{arith}
 use lib.IntN.{pos}
-use mir.Syntax.{w64}
-use mir.Facts.{toZ-ofZ}
+use Rattle.integers.specs.Signs.{sent}
 use Rattle.curves.specs.Curves.{curveOf, startWay}
 use Rattle.map.specs.Links.{cornerFace}
 use Rattle.map.specs.Edits.{drawn, splitsFace}
@@ -32,8 +31,8 @@ corners : (c : lts.After-end-corner (corner-reads.Asked, corner-reads.Learnt, en
 corners c =
     let s = c .before .before .before .before in
     let a = s .args in
-    let from = toZ-ofZ {w = w64} (sfits-of (c .before .before .before .from .given)) ∙ node-cells (a .nodes .now) (a .u) (s .pre .0 .ranges) .number in
-    let to = toZ-ofZ {w = w64} (sfits-of (c .before .before .to .given)) ∙ node-cells (a .nodes .now) (a .v) (s .pre .1 .ranges) .number in (
+    let from = sent (c .before .before .before .from .given) ∙ node-cells (a .nodes .now) (a .u) (s .pre .0 .ranges) .number in
+    let to = sent (c .before .before .to .given) ∙ node-cells (a .nodes .now) (a .v) (s .pre .1 .ranges) .number in (
       c .before .corner .ensures ∙ ap (startCorner (a .edges .now) (a .e) (a .c .now)) from,
       c .end-corner .ensures ∙ ap₂ (endCorner (a .edges .now) (a .e) (a .c .now)) from to,
     )
