@@ -1,0 +1,9 @@
+-- `Finding`: a search from a row on. `Packing`: nodes as rows of numbers. `Refused`: too many nodes. `Heads`: the answer of a call that takes the head by value.
+-- `Shared`, `Again`: a mutable slice lent for a call, as a shared one and as a mutable one. `Arrays`: a local array lent as a slice.
+pub mod Finding
+pub mod Packing
+pub mod Refused
+pub mod Heads
+pub mod Shared
+pub mod Again
+pub mod Arrays

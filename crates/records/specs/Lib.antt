@@ -1,0 +1,2 @@
+-- `Records`: nodes as records.
+pub mod Records

@@ -1,0 +1,34 @@
+-- Nodes as records: the same four numbers as a row of the node table.
+use mathlib.Core.List.{List, [], _∷_, flatMap, map}
+use Prim.Native.Nat.{ℕ, _+_, _*_}
+use lib.IntN.{ℤ, pos}
+use lib.ListN.{getD, take, set}
+use Rattle.lists.specs.declared.Found.{Found}
+use Rattle.lists.specs.declared.Found.the-variants.{At, Missing}
+use Rattle.lists.specs.Tables.{place}
+use Rattle.tables.specs.Tables.{sameZ}
+use Rattle.records.specs.declared.Node.{Node}
+
+-- number, x, y and containing face
+abbrev pub nodeCells : Node → List ℤ
+nodeCells n = n .number ∷ n .x ∷ n .y ∷ n .face ∷ []
+
+-- the node table that the records are
+abbrev pub nodeTable : List Node → List ℤ
+nodeTable ns = flatMap nodeCells ns
+
+-- the node that row i of a node table is
+abbrev pub rowNode : List ℤ → ℕ → Node
+rowNode l i = record { number = getD l (i * 4) (pos 0); x = getD l (i * 4 + 1) (pos 0); y = getD l (i * 4 + 2) (pos 0); face = getD l (i * 4 + 3) (pos 0) }
+
+abbrev pub noNode : Node
+noNode = record { number = pos 0; x = pos 0; y = pos 0; face = pos 0 }
+
+-- the row of a number among the first n records, or that it is missing
+abbrev pub nodeRow : List Node → ℕ → ℤ → Found
+nodeRow ns n number = place (sameZ number) 0 (map (λ r. r .number) (take n ns))
+
+-- the record at the row that was found; a missing one changes nothing
+abbrev pub changedAt : List Node → Node → Found → List Node
+changedAt ns n (At i) = set ns i n
+changedAt ns n Missing = ns

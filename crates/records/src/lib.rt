@@ -1,0 +1,186 @@
+// Nodes as rows of records that are lent, and the head as one record lent beside the tables. Each function over such a loan is thin: it copies records out,
+// calls a covered function on numbers, and puts the answer back.
+use answers::Done;
+use lists::Found;
+use map::Answer;
+use map::Head;
+use map::Map;
+ghost use mathlib.Core.Path.{_≡_};
+ghost use Prim.Native.Nat.{_+_, _*_, _≤_, _<_};
+ghost use lib.ListN.{length, take};
+ghost use lib.Seq.{paste};
+ghost use Rattle.lists.specs.Tables.{table};
+ghost use Rattle.map.specs.Ticket.{ticket, emptied};
+ghost use Rattle.ranges.specs.Ranges.{lent};
+ghost use Rattle.answers.specs.Outcomes.{outcome};
+ghost use Rattle.records.specs.Records.{nodeCells, nodeTable, rowNode, nodeRow, changedAt};
+
+pub struct Node {
+    pub number: i64,
+    pub x: i64,
+    pub y: i64,
+    pub face: i64,
+}
+
+// ---- nodes
+
+// The row of a node among the first `count`: found, or missing.
+pub fn find_node(nodes: &[Node], count: usize, number: i64) -> Found
+    ensures { λ r. ⌜ r ≡ nodeRow (now (nodes .entry)) count number ⌝ }
+{
+    let mut i = 0;
+    while (i < nodes.len()) & (i < count) {
+        if nodes[i].number == number {
+            return Found::At(i);
+        }
+        i += 1;
+    }
+    Found::Missing
+}
+
+// A node is changed where it is found; the answer says whether it was.
+pub fn change_node(nodes: &mut [Node], count: usize, n: Node) -> Found
+    ensures { λ r. ⌜ (r ≡ nodeRow (now (nodes .entry)) count (n .number)) × (now (nodes .exit) ≡ changedAt (now (nodes .entry)) n (nodeRow (now (nodes .entry)) count (n .number))) ⌝ }
+{
+    let found = find_node(nodes, count, n.number);
+    let Found::At(i) = found else {
+        return found;
+    };
+    nodes[i] = n;
+    found
+}
+
+// ---- nodes as records and as numbers
+
+// A node's numbers are row i.
+fn put_row(flat: &mut [i64], i: usize, n: Node)
+    requires { ⌜ i * 4 + 4 ≤ length (now flat) ⌝ }
+    ensures { λ _. ⌜ now (flat .exit) ≡ paste (now (flat .entry)) (i * 4) (nodeCells n) 4 ⌝ }
+{
+    let row = [n.number, n.x, n.y, n.face];
+    tables::write(flat, i * 4, &row);
+}
+
+// The node of row i.
+fn row_at(flat: &[i64], i: usize) -> Node
+    requires { ⌜ i * 4 + 4 ≤ length (now flat) ⌝ }
+    ensures { λ r. ⌜ r ≡ rowNode (now (flat .entry)) i ⌝ }
+{
+    let number = flat[i * 4];
+    let x = flat[i * 4 + 1];
+    let y = flat[i * 4 + 2];
+    let face = flat[i * 4 + 3];
+    Node { number, x, y, face }
+}
+
+// The nodes as the first rows of a node table.
+fn pack(nodes: &[Node], flat: &mut [i64])
+    requires { ⌜ length (now nodes) * 4 ≤ length (now flat) ⌝ }
+    ensures { λ _. ⌜ now (flat .exit) ≡ paste (now (flat .entry)) 0 (nodeTable (now (nodes .entry))) (length (now (nodes .entry)) * 4) ⌝ }
+{
+    let mut i = 0;
+    while i < nodes.len() {
+        let n = nodes[i];
+        put_row(flat, i, n);
+        i += 1;
+    }
+}
+
+// The first rows of a node table as nodes.
+fn unpack(flat: &[i64], nodes: &mut [Node])
+    requires { ⌜ length (now nodes) * 4 ≤ length (now flat) ⌝ }
+    ensures { λ _. ⌜ now (nodes .exit) ≡ table (rowNode (now (flat .entry))) 0 (length (now (nodes .entry))) ⌝ }
+{
+    let mut i = 0;
+    while i < nodes.len() {
+        let n = row_at(flat, i);
+        nodes[i] = n;
+        i += 1;
+    }
+}
+
+// ---- the head, with nodes as numbers
+
+// One ticket; the head is changed through its loan.
+pub fn ticket(
+    nodes: &mut [i64],
+    edges: &mut [i64],
+    faces: &mut [i64],
+    head: &mut Head,
+    t: &[i64],
+) -> Answer
+    ensures { λ r. ⌜ record { lent = lent (now (nodes .exit)) (now (edges .exit)) (now (faces .exit)) (now (head .exit)); answer = r } ≡ ticket (lent (now (nodes .entry)) (now (edges .entry)) (now (faces .entry)) (now (head .entry))) (now (t .entry)) ⌝ }
+{
+    let h = *head;
+    let done = engine::ticket(nodes, edges, faces, h, t);
+    *head = done.head;
+    done.answer
+}
+
+// The empty map.
+pub fn empty_map(nodes: &mut [i64], edges: &mut [i64], faces: &mut [i64], head: &mut Head) -> Answer
+    ensures { λ r. ⌜ record { lent = lent (now (nodes .exit)) (now (edges .exit)) (now (faces .exit)) (now (head .exit)); answer = r } ≡ emptied (lent (now (nodes .entry)) (now (edges .entry)) (now (faces .entry)) (now (head .entry))) ⌝ }
+{
+    let h = *head;
+    let done = engine::empty_map(nodes, edges, faces, h);
+    *head = done.head;
+    done.answer
+}
+
+// ---- the head, with nodes as records
+
+// One ticket on the first k numbers.
+fn ticket_front(
+    flat: &mut [i64],
+    k: usize,
+    edges: &mut [i64],
+    faces: &mut [i64],
+    h: Head,
+    t: &[i64],
+) -> Done
+    requires { ⌜ k ≤ length (now flat) ⌝ }
+    ensures { λ r. ⌜ outcome (take k (now (flat .exit))) (now (edges .exit)) (now (faces .exit)) r ≡ ticket (lent (take k (now (flat .entry))) (now (edges .entry)) (now (faces .entry)) h) (now (t .entry)) ⌝ }
+{
+    engine::ticket(&mut flat[..k], edges, faces, h, t)
+}
+
+// One ticket by way of a node table.
+fn ticket_by(
+    nodes: &mut [Node],
+    flat: &mut [i64],
+    edges: &mut [i64],
+    faces: &mut [i64],
+    head: &mut Head,
+    t: &[i64],
+) -> Answer
+    requires { ⌜ length (now nodes) * 4 ≤ length (now flat) ⌝ }
+    ensures { λ r. ⌜ record { lent = lent (nodeTable (now (nodes .exit))) (now (edges .exit)) (now (faces .exit)) (now (head .exit)); answer = r } ≡ ticket (lent (nodeTable (now (nodes .entry))) (now (edges .entry)) (now (faces .entry)) (now (head .entry))) (now (t .entry)) ⌝ }
+{
+    pack(nodes, flat);
+    let k = nodes.len() * 4;
+    let h = *head;
+    let done = ticket_front(flat, k, edges, faces, h, t);
+    unpack(flat, nodes);
+    *head = done.head;
+    done.answer
+}
+
+// One ticket; more nodes than a map may have are refusal 1.
+pub fn ticket_on(
+    nodes: &mut [Node],
+    edges: &mut [i64],
+    faces: &mut [i64],
+    head: &mut Head,
+    t: &[i64],
+) -> Answer
+    ensures { λ r. ⌜ record { lent = lent (nodeTable (now (nodes .exit))) (now (edges .exit)) (now (faces .exit)) (now (head .exit)); answer = r } ≡ ticket (lent (nodeTable (now (nodes .entry))) (now (edges .entry)) (now (faces .entry)) (now (head .entry))) (now (t .entry)) ⌝ }
+{
+    if Map::NODES < nodes.len() {
+        return Answer {
+            refusal: 1,
+            value: 0,
+        };
+    }
+    let mut flat = [0; 4000];
+    ticket_by(nodes, &mut flat, edges, faces, head, t)
+}
