@@ -7,17 +7,9 @@
 use std::hint::black_box;
 use std::time::Instant;
 
-extern "C" {
-    fn solgwid_empty_map(
-        nodes: *mut i64, nodes_length: usize, edges: *mut i64, edges_length: usize,
-        faces: *mut i64, faces_length: usize, head: *mut [i64; 6],
-    ) -> u64;
-    fn solgwid_ticket(
-        nodes: *mut i64, nodes_length: usize, edges: *mut i64, edges_length: usize,
-        faces: *mut i64, faces_length: usize, head: *mut [i64; 6],
-        numbers: *const i64, numbers_length: usize, value: *mut i64,
-    ) -> u64;
-}
+#[path = "../include/solgwid.rs"]
+mod solgwid;
+use solgwid::Sheet;
 
 const SIDE: i64 = 100;
 const KINDS: usize = 14;
@@ -25,67 +17,34 @@ const PLACES: usize = 60;
 /// Calls at each place; the least counts, since a call is now and then interrupted.
 const ROUNDS: usize = 5;
 
-#[derive(Clone)]
-struct Sheet {
-    nodes: Vec<i64>,
-    edges: Vec<i64>,
-    faces: Vec<i64>,
-    head: [i64; 6],
+fn must(s: &mut Sheet, numbers: &[i64]) -> i64 {
+    let (refusal, value) = s.ticket(numbers);
+    assert_eq!(refusal, 0, "{numbers:?}");
+    value
 }
 
-impl Sheet {
-    fn new(nodes: usize, edges: usize, faces: usize) -> Sheet {
-        let mut s = Sheet { nodes: vec![0; nodes * 4], edges: vec![0; edges * 32], faces: vec![0; faces], head: [0; 6] };
-        unsafe {
-            solgwid_empty_map(
-                s.nodes.as_mut_ptr(), s.nodes.len(), s.edges.as_mut_ptr(), s.edges.len(),
-                s.faces.as_mut_ptr(), s.faces.len(), &mut s.head,
-            );
-        }
-        s
+/// The same rows in tables with so many rows to spare.
+fn roomy(s: &Sheet, spare: usize) -> Sheet {
+    let fit = |t: &[i64], w: usize, count: i64, most: usize| {
+        let rows = (count as usize + spare).min(most);
+        let mut l = vec![0; rows * w];
+        let used = count as usize * w;
+        l[..used].copy_from_slice(&t[..used]);
+        l
+    };
+    Sheet {
+        nodes: fit(&s.nodes, 4, s.head[0], 1000),
+        edges: fit(&s.edges, 32, s.head[1], 2000),
+        faces: fit(&s.faces, 1, s.head[2], 1000),
+        head: s.head,
     }
+}
 
-    fn ticket(&mut self, numbers: &[i64]) -> (u64, i64) {
-        let mut value = 0;
-        let refusal = unsafe {
-            solgwid_ticket(
-                self.nodes.as_mut_ptr(), self.nodes.len(), self.edges.as_mut_ptr(), self.edges.len(),
-                self.faces.as_mut_ptr(), self.faces.len(), &mut self.head,
-                numbers.as_ptr(), numbers.len(), &mut value,
-            )
-        };
-        (refusal, value)
-    }
-
-    fn must(&mut self, numbers: &[i64]) -> i64 {
-        let (refusal, value) = self.ticket(numbers);
-        assert_eq!(refusal, 0, "{numbers:?}");
-        value
-    }
-
-    /// The same rows in tables with so many rows to spare.
-    fn roomy(&self, spare: usize) -> Sheet {
-        let fit = |t: &[i64], w: usize, count: i64, most: usize| {
-            let rows = (count as usize + spare).min(most);
-            let mut l = vec![0; rows * w];
-            let used = count as usize * w;
-            l[..used].copy_from_slice(&t[..used]);
-            l
-        };
-        Sheet {
-            nodes: fit(&self.nodes, 4, self.head[0], 1000),
-            edges: fit(&self.edges, 32, self.head[1], 2000),
-            faces: fit(&self.faces, 1, self.head[2], 1000),
-            head: self.head,
-        }
-    }
-
-    fn bare_pass(&self) -> i64 {
-        let sum = |t: &[i64], n: i64| t[..n as usize].iter().fold(0i64, |a, &b| a.wrapping_add(b));
-        sum(&self.nodes, self.head[0] * 4)
-            .wrapping_add(sum(&self.edges, self.head[1] * 32))
-            .wrapping_add(sum(&self.faces, self.head[2]))
-    }
+fn bare_pass(s: &Sheet) -> i64 {
+    let sum = |t: &[i64], n: i64| t[..n as usize].iter().fold(0i64, |a, &b| a.wrapping_add(b));
+    sum(&s.nodes, s.head[0] * 4)
+        .wrapping_add(sum(&s.edges, s.head[1] * 32))
+        .wrapping_add(sum(&s.faces, s.head[2]))
 }
 
 /// What stands in one plot of the grid.
@@ -106,10 +65,10 @@ fn grid(k: i64, target: i64, gaps: bool) -> (Sheet, Vec<Plot>) {
     for y in 0..=k {
         for x in 0..=k {
             if gaps && (x + y) % 3 == 0 {
-                let n = s.must(&[1, -1, x * SIDE + 7, y * SIDE + 7]);
-                s.must(&[3, n]);
+                let n = must(&mut s, &[1, -1, x * SIDE + 7, y * SIDE + 7]);
+                must(&mut s, &[3, n]);
             }
-            number.insert((x, y), s.must(&[1, -1, x * SIDE, y * SIDE]));
+            number.insert((x, y), must(&mut s, &[1, -1, x * SIDE, y * SIDE]));
         }
     }
     let mut bottom = std::collections::HashMap::new();
@@ -118,14 +77,14 @@ fn grid(k: i64, target: i64, gaps: bool) -> (Sheet, Vec<Plot>) {
             let (a, b) = (x * SIDE, y * SIDE);
             if x < k {
                 if gaps && (x + y) % 4 == 0 {
-                    let e = s.must(&[12, number[&(x, y)], number[&(x + 1, y)], a, b, a + SIDE, b]);
-                    s.must(&[14, e]);
+                    let e = must(&mut s, &[12, number[&(x, y)], number[&(x + 1, y)], a, b, a + SIDE, b]);
+                    must(&mut s, &[14, e]);
                 }
-                let e = s.must(&[12, number[&(x, y)], number[&(x + 1, y)], a, b, a + SIDE, b]);
+                let e = must(&mut s, &[12, number[&(x, y)], number[&(x + 1, y)], a, b, a + SIDE, b]);
                 bottom.insert((x, y), e);
             }
             if y < k {
-                s.must(&[12, number[&(x, y)], number[&(x, y + 1)], a, b, a, b + SIDE]);
+                must(&mut s, &[12, number[&(x, y)], number[&(x, y + 1)], a, b, a, b + SIDE]);
             }
         }
     }
@@ -148,15 +107,15 @@ fn grid(k: i64, target: i64, gaps: bool) -> (Sheet, Vec<Plot>) {
         let place = |m: usize| ((3 * j + m) * step) % count;
         let p = &mut plots[place(0)];
         let (x, y) = p.at;
-        let a = s.must(&[1, -1, x + 60, y + 30]);
-        let b = s.must(&[1, -1, x + 80, y + 30]);
-        p.island = Some(s.must(&[4, a, b, x + 60, y + 30, x + 80, y + 30]));
+        let a = must(&mut s, &[1, -1, x + 60, y + 30]);
+        let b = must(&mut s, &[1, -1, x + 80, y + 30]);
+        p.island = Some(must(&mut s, &[4, a, b, x + 60, y + 30, x + 80, y + 30]));
         let p = &mut plots[place(1)];
         let (x, y) = p.at;
-        p.wells = vec![s.must(&[1, -1, x + 60, y + 30]), s.must(&[1, -1, x + 80, y + 30])];
+        p.wells = vec![must(&mut s, &[1, -1, x + 60, y + 30]), must(&mut s, &[1, -1, x + 80, y + 30])];
         let p = &mut plots[place(2)];
         let (x, y) = p.at;
-        s.must(&[8, p.bottom, x + 50, y]);
+        must(&mut s, &[8, p.bottom, x + 50, y]);
         p.sluice = Some((p.bottom, s.head[4] - 1));
     }
     for i in 0..count {
@@ -166,7 +125,7 @@ fn grid(k: i64, target: i64, gaps: bool) -> (Sheet, Vec<Plot>) {
         let p = &mut plots[(i * 11) % count];
         if p.boundary.is_none() {
             let (x, y) = p.at;
-            p.boundary = Some(s.must(&[12, p.corners[0], p.corners[2], x, y, x + SIDE, y + SIDE]));
+            p.boundary = Some(must(&mut s, &[12, p.corners[0], p.corners[2], x, y, x + SIDE, y + SIDE]));
         }
     }
     (s, plots)
@@ -225,7 +184,7 @@ struct Times {
 }
 
 fn measure(sheet: &Sheet, plots: &[Plot]) -> Times {
-    let pass = median((0..200).map(|_| least(|| micros(|| { black_box(black_box(sheet).bare_pass()); }))).collect());
+    let pass = median((0..200).map(|_| least(|| micros(|| { black_box(bare_pass(black_box(sheet))); }))).collect());
     let (mut carried, mut refused) = ([0.0; KINDS], [0.0; KINDS]);
     for kind in 1..=KINDS {
         let pairs: Vec<_> = plots.iter().filter_map(|p| tickets(kind, p)).collect();
@@ -324,7 +283,7 @@ fn main() {
             .iter()
             .map(|&(k, target)| {
                 let (sheet, plots) = grid(k, target, gaps);
-                measure(&sheet.roomy(spare), &plots)
+                measure(&roomy(&sheet, spare), &plots)
             })
             .collect();
         report(title, &all);
