@@ -2,12 +2,22 @@
 use map::Answer;
 use map::Head;
 ghost use mathlib.Core.Path.{_≡_};
-ghost use lib.IntN.{pos};
+ghost use mathlib.Core.Bool.{true};
+ghost use lib.IntN.{pos, natAbs};
+ghost use lib.Signed.{nonNeg};
 
 // The head after a call and its answer.
 pub struct Done {
     pub head: Head,
     pub answer: Answer,
+}
+
+// A count or a next number of a head in form.
+pub fn count_of(z: i64) -> usize
+    requires { ⌜ nonNeg z ≡ true ⌝ }
+    ensures { λ r. ⌜ r ≡ natAbs z ⌝ }
+{
+    z as usize
 }
 
 // Turned down: the head as it was, and value 0.

@@ -31,14 +31,6 @@ pub struct Removal {
 
 // ---- leaves
 
-// A count or a next number.
-fn count_of(z: i64) -> usize
-    requires { ⌜ nonNeg z ≡ true ⌝ }
-    ensures { λ r. ⌜ r ≡ natAbs z ⌝ }
-{
-    z as usize
-}
-
 fn bit_of(b: bool) -> usize
     ensures { λ r. ⌜ r ≡ bit b ⌝ }
 {
@@ -99,12 +91,12 @@ fn room_reason(edges: &[i64], faces: &[i64], h: Head, more: usize, numbers: usiz
     requires { ⌜ Counted h × (more ≤ 1) × (numbers ≤ 2) ⌝ }
     ensures { λ r. ⌜ r ≡ firstReason (roomReasons (now (edges .entry)) (now (faces .entry)) h more numbers) ⌝ }
 {
-    let full = edges.len() / 32 < count_of(h.edges) + 1;
-    if full | (faces.len() < count_of(h.faces) + more) {
+    let full = edges.len() / 32 < answers::count_of(h.edges) + 1;
+    if full | (faces.len() < answers::count_of(h.faces) + more) {
         return 20;
     }
-    let spent = 1000000 < count_of(h.next_edge) + 1;
-    if spent | (1000000 < count_of(h.next_face) + numbers) {
+    let spent = 1000000 < answers::count_of(h.next_edge) + 1;
+    if spent | (1000000 < answers::count_of(h.next_face) + numbers) {
         21
     } else {
         0
@@ -125,8 +117,8 @@ fn judge_rows(
     requires { ⌜ Formed (now nodes) (now edges) (now faces) h × (u < natAbs (h .nodes)) × (v < natAbs (h .nodes)) ⌝ }
     ensures { λ r. ⌜ JudgedRows news (now (nodes .entry)) (now (edges .entry)) (now (faces .entry)) h u v (now (c .entry)) r ⌝ }
 {
-    let e = count_of(h.edges);
-    let reason = drawing_reason(nodes, count_of(h.nodes), edges, e, u, v, c);
+    let e = answers::count_of(h.edges);
+    let reason = drawing_reason(nodes, answers::count_of(h.nodes), edges, e, u, v, c);
     if reason != 0 {
         return turned_down(reason);
     }
@@ -157,7 +149,7 @@ pub fn judge_add(
     requires { ⌜ Formed (now nodes) (now edges) (now faces) h ⌝ }
     ensures { λ r. ⌜ JudgedAdd news (now (nodes .entry)) (now (edges .entry)) (now (faces .entry)) h start end (now (c .entry)) r ⌝ }
 {
-    let n = count_of(h.nodes);
+    let n = answers::count_of(h.nodes);
     let found = tables::find_row(nodes, 4, n, start);
     let Found::At(u) = found else {
         return turned_down(4);
@@ -186,7 +178,7 @@ fn face_reason(h: Head, numbers: usize) -> u64
     requires { ⌜ Counted h × (numbers ≤ 1) ⌝ }
     ensures { λ r. ⌜ r ≡ firstReason (faceReasons h numbers) ⌝ }
 {
-    if 1000000 < count_of(h.next_face) + numbers {
+    if 1000000 < answers::count_of(h.next_face) + numbers {
         21
     } else {
         0
@@ -197,7 +189,7 @@ pub fn judge_removal(edges: &[i64], h: Head, news: bool, edge: i64) -> Removal
     requires { ⌜ ((nodes : _) × (faces : _) × Formed nodes (now edges) faces h) ⌝ }
     ensures { λ r. ⌜ ((nodes : _) (faces : _) → Formed nodes (now (edges .entry)) faces h → JudgedRemoval news nodes (now (edges .entry)) faces h edge r) ⌝ }
 {
-    let e = count_of(h.edges);
+    let e = answers::count_of(h.edges);
     let found = tables::find_row(edges, 32, e, edge);
     let Found::At(row) = found else {
         return Removal {

@@ -27,14 +27,6 @@ ghost use Rattle.face_edits.specs.Holds.{facesIn, FaceTable, withoutFace
 
 // ---- leaves
 
-// A count or a next number.
-fn count_of(z: i64) -> usize
-    requires { ⌜ nonNeg z ≡ true ⌝ }
-    ensures { λ r. ⌜ r ≡ natAbs z ⌝ }
-{
-    z as usize
-}
-
 // One of two numbers.
 fn pick(first: bool, a: i64, b: i64) -> i64
     ensures { λ r. ⌜ r ≡ cond first a b ⌝ }
@@ -160,12 +152,12 @@ pub fn split_face(
     requires { ⌜ Splittable (now nodes) (now edges) (now faces) h old ⌝ }
     ensures { λ r. ⌜ Holds (now (nodes .entry)) (now (edges .entry)) (now (faces .entry)) (splitFace news (edgeAt (now (edges .entry)) (natAbs (h .edges) - 1) .number) (mapOf (lent (now (nodes .entry)) (now (edges .entry)) (now (faces .entry)) h))) (now (nodes .exit)) (now (edges .exit)) (now (faces .exit)) r ⌝ }
 {
-    let e = count_of(h.edges);
+    let e = answers::count_of(h.edges);
     let a = h.next_face;
     let goes = news & (old != 0);
     let s = sides_of(edges, e, old, a, goes);
-    share_rows(nodes, count_of(h.nodes), edges, e, s);
-    split_row(faces, count_of(h.faces), old, a, goes);
+    share_rows(nodes, answers::count_of(h.nodes), edges, e, s);
+    split_row(faces, answers::count_of(h.faces), old, a, goes);
     with_face(h, goes)
 }
 
@@ -212,13 +204,13 @@ pub fn heal_faces(
     let face = face_left(h.next_face, left, right, makes);
     rename_faces(
         nodes,
-        count_of(h.nodes),
+        answers::count_of(h.nodes),
         edges,
-        count_of(h.edges),
+        answers::count_of(h.edges),
         left,
         right,
         face,
     );
-    heal_row(faces, count_of(h.faces), left, right, face, makes);
+    heal_row(faces, answers::count_of(h.faces), left, right, face, makes);
     answers::carried(without_face(h, makes), face)
 }

@@ -107,14 +107,6 @@ fn joined_line(edges: &[i64], p: usize, q: usize) -> Line
 
 // ---- the edge rows
 
-// The number -z.
-fn turned(z: i64) -> i64
-    requires { ⌜ nonNeg z ≡ true ⌝ }
-    ensures { λ r. ⌜ r ≡ negℤ z ⌝ }
-{
-    -z
-}
-
 // What led to p leads to the edge `number`, and what led to the reverse of q to its reverse.
 fn rename(edges: &mut [i64], e: usize, p: usize, q: usize, number: i64)
     requires { ⌜ EdgeRows (now edges) e × (e ≤ 2000) × (p < e * 2) × (q < e * 2) × (nonNeg number ≡ true) ⌝ }
@@ -123,7 +115,7 @@ fn rename(edges: &mut [i64], e: usize, p: usize, q: usize, number: i64)
     let c = links::dart_at(edges, p);
     let d = links::dart_at(edges, links::reverse(q));
     linking::redirect(edges, e, c, number);
-    linking::redirect(edges, e, d, turned(number));
+    linking::redirect(edges, e, d, linking::turned(number));
 }
 
 // The numbers of the healed edge, with the faces of row i.
@@ -204,14 +196,6 @@ fn remove_joint(nodes: &mut [i64], n: usize, joint: i64)
     }
 }
 
-// A count or a next number.
-fn count_of(z: i64) -> usize
-    requires { ⌜ nonNeg z ≡ true ⌝ }
-    ensures { λ r. ⌜ r ≡ natAbs z ⌝ }
-{
-    z as usize
-}
-
 // The number of the healed edge, and the value.
 fn healed_number(h: Head, keeps: bool, edge: i64) -> i64
     ensures { λ r. ⌜ r ≡ healedNumber h keeps edge ⌝ }
@@ -264,7 +248,7 @@ fn late_reason(count: usize, h: Head, keeps: bool) -> u64
     if keeps {
         return 0;
     }
-    if 1000000 < count_of(h.next_edge) + 1 {
+    if 1000000 < answers::count_of(h.next_edge) + 1 {
         21
     } else {
         0
@@ -288,7 +272,7 @@ fn carry_out(
     let number = healed_number(h, keeps, edges[i * 32]);
     heal_rows(
         edges,
-        count_of(h.edges),
+        answers::count_of(h.edges),
         i,
         j,
         s.first,
@@ -298,7 +282,7 @@ fn carry_out(
         l,
     );
     let joint = s.joint;
-    remove_joint(nodes, count_of(h.nodes), joint);
+    remove_joint(nodes, answers::count_of(h.nodes), joint);
     answers::carried(after_heal(h, keeps), healed_value(h, keeps))
 }
 
@@ -314,7 +298,7 @@ fn heal_rows_of(
     requires { ⌜ ((faces : _) × Formed (now nodes) (now edges) faces h) × (i < natAbs (h .edges)) × (j < natAbs (h .edges)) ⌝ }
     ensures { λ r. ⌜ ((faces : _) → Formed (now (nodes .entry)) (now (edges .entry)) faces h → outcome (now (nodes .exit)) (now (edges .exit)) faces r ≡ decided (lent (now (nodes .entry)) (now (edges .entry)) faces h) (healTicket keeps (pos (edgeAt (now (edges .entry)) i .number)) (pos (edgeAt (now (edges .entry)) j .number)))) ⌝ }
 {
-    let e = count_of(h.edges);
+    let e = answers::count_of(h.edges);
     let early = turning::joint_reason(edges, e, i, j);
     if early != 0 {
         return answers::refused(h, early);
@@ -339,7 +323,7 @@ pub fn heal_edges(
     requires { ⌜ ((faces : _) × Formed (now nodes) (now edges) faces h) ⌝ }
     ensures { λ r. ⌜ ((faces : _) → Formed (now (nodes .entry)) (now (edges .entry)) faces h → outcome (now (nodes .exit)) (now (edges .exit)) faces r ≡ decided (lent (now (nodes .entry)) (now (edges .entry)) faces h) (healTicket keeps edge other)) ⌝ }
 {
-    let e = count_of(h.edges);
+    let e = answers::count_of(h.edges);
     let found = tables::find_row(edges, 32, e, edge);
     let Found::At(i) = found else {
         return answers::refused(h, 4);

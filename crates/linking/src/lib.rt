@@ -4,7 +4,9 @@ use lists::Found;
 ghost use mathlib.Core.Path.{_≡_};
 ghost use mathlib.Core.Bool.{true, false, not, _&&_};
 ghost use Prim.Native.Nat.{ℕ, _+_, _*_, _/_, _<_, _≤_};
+ghost use lib.IntN.{negℤ};
 ghost use lib.ListN.{length};
+ghost use lib.Signed.{nonNeg};
 ghost use Rattle.lists.specs.Tests.{same};
 ghost use Rattle.lists.specs.Scans.{any, count as countOf, keep};
 ghost use Rattle.plane.specs.Points.{InRange};
@@ -146,6 +148,14 @@ pub fn edge_ends(edges: &[i64], count: usize, node: i64) -> usize
 }
 
 // ---- links changed
+
+// The reverse of an edge as it is written.
+pub fn turned(z: i64) -> i64
+    requires { ⌜ nonNeg z ≡ true ⌝ }
+    ensures { λ r. ⌜ r ≡ negℤ z ⌝ }
+{
+    -z
+}
 
 // What led to `old` leads to `new`.
 pub fn redirect(edges: &mut [i64], count: usize, old: i64, new: i64)

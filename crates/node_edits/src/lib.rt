@@ -26,14 +26,6 @@ ghost use Rattle.node_edits.specs.Parts.{addEarly, roomReasons, moveReas
 
 // ---- leaves
 
-// A count or a next number.
-fn count_of(z: i64) -> usize
-    requires { ⌜ nonNeg z ≡ true ⌝ }
-    ensures { λ r. ⌜ r ≡ natAbs z ⌝ }
-{
-    z as usize
-}
-
 // No face is given.
 fn is_none(face: i64) -> bool
     ensures { λ r. ⌜ r ≡ minusOne face ⌝ }
@@ -132,18 +124,18 @@ fn add_reason(
     requires { ⌜ Formed (now nodes) (now edges) (now faces) h ⌝ }
     ensures { λ r. ⌜ r ≡ firstReason (addEarly (mapOf (lent (now (nodes .entry)) (now (edges .entry)) (now (faces .entry)) h)) face x y) ⌝ }
 {
-    if face_missing(faces, count_of(h.faces), face) {
+    if face_missing(faces, answers::count_of(h.faces), face) {
         return 4;
     }
     if !conditions::in_range(x, y) {
         return 5;
     }
-    let n = count_of(h.nodes);
+    let n = answers::count_of(h.nodes);
     if is_taken(
         nodes,
         n,
         edges,
-        count_of(h.edges),
+        answers::count_of(h.edges),
         n,
         conditions::point_of(x, y),
     ) {
@@ -158,10 +150,10 @@ fn room_reason(nodes: &[i64], h: Head) -> u64
     requires { ⌜ Numbered h ⌝ }
     ensures { λ r. ⌜ r ≡ firstReason (roomReasons (now (nodes .entry)) h) ⌝ }
 {
-    if nodes.len() / 4 < count_of(h.nodes) + 1 {
+    if nodes.len() / 4 < answers::count_of(h.nodes) + 1 {
         return 20;
     }
-    if 1000000 < count_of(h.next_node) + 1 {
+    if 1000000 < answers::count_of(h.next_node) + 1 {
         21
     } else {
         0
@@ -202,7 +194,7 @@ fn push_node(nodes: &mut [i64], h: Head, x: i64, y: i64, around: i64) -> Done
     ensures { λ r. ⌜ (now (nodes .exit) ≡ paste (now (nodes .entry)) (natAbs (h .nodes) * 4) (h .«next_node» ∷ x ∷ y ∷ around ∷ []) 4) × (r ≡ record { head = added h; answer = record { refusal = 0; value = h .«next_node» } }) ⌝ }
 {
     let number = h.next_node;
-    write_node(nodes, count_of(h.nodes), number, x, y, around);
+    write_node(nodes, answers::count_of(h.nodes), number, x, y, around);
     answers::carried(with_node(h), number)
 }
 
@@ -222,7 +214,11 @@ pub fn add_node(
     if early != 0 {
         return answers::refused(h, early);
     }
-    let around = floors::face_of_point(edges, count_of(h.edges), conditions::point_of(x, y));
+    let around = floors::face_of_point(
+        edges,
+        answers::count_of(h.edges),
+        conditions::point_of(x, y),
+    );
     if other_face(face, around) {
         return answers::refused(h, 12);
     }
@@ -237,12 +233,12 @@ pub fn move_node(nodes: &mut [i64], edges: &[i64], h: Head, node: i64, x: i64, y
     requires { ⌜ ((faces : _) × Formed (now nodes) (now edges) faces h) ⌝ }
     ensures { λ r. ⌜ ((faces : _) → Formed (now (nodes .entry)) (now (edges .entry)) faces h → outcome (now (nodes .exit)) (now (edges .entry)) faces r ≡ decided (lent (now (nodes .entry)) (now (edges .entry)) faces h) (MoveIsoNode node x y)) ⌝ }
 {
-    let n = count_of(h.nodes);
+    let n = answers::count_of(h.nodes);
     let found = tables::find_row(nodes, 4, n, node);
     let Found::At(i) = found else {
         return answers::refused(h, 4);
     };
-    let count = count_of(h.edges);
+    let count = answers::count_of(h.edges);
     let reason = move_reason(nodes, n, edges, count, i, x, y);
     if reason != 0 {
         return answers::refused(h, reason);
@@ -256,7 +252,7 @@ pub fn remove_node(nodes: &mut [i64], h: Head, node: i64) -> Done
     requires { ⌜ ((edges : _) × (faces : _) × Formed (now nodes) edges faces h) ⌝ }
     ensures { λ r. ⌜ ((edges : _) (faces : _) → Formed (now (nodes .entry)) edges faces h → outcome (now (nodes .exit)) edges faces r ≡ decided (lent (now (nodes .entry)) edges faces h) (RemoveIsoNode node)) ⌝ }
 {
-    let n = count_of(h.nodes);
+    let n = answers::count_of(h.nodes);
     let found = tables::find_row(nodes, 4, n, node);
     let Found::At(i) = found else {
         return answers::refused(h, 4);

@@ -4,7 +4,7 @@ use mathlib.Core.Bool.{true, false≢true}
 use mathlib.Core.Option.{Option·getD}
 use Prim.Native.Nat.{ℕ, _≤_}
 use native.Mathlib.Omega.{arith}
-use lib.IntN.{ℤ, pos, negsuc, natAbs, negℤ, _-ℤ_}
+use lib.IntN.{ℤ, pos, negsuc, negℤ, _-ℤ_}
 use mir.Syntax.{w64}
 use mir.Val.{ofZ, toZ, SFits}
 use mir.Facts.{toZ-ofZ}
@@ -14,18 +14,11 @@ use Rattle.map.specs.Rows.{faceOf}
 use Rattle.tables.specs.Tables.{sameZ}
 use Rattle.tables.proofs.Order.{same-pos}
 use Rattle.links.proofs.Steps.{negative-is, minus-fits}
-use Rattle.answers.proofs.Words.{small-fits, count-read}
+use Rattle.answers.proofs.Words.{small-fits}
 
 -- the reverse of an edge, as it is written
 back : (n : ℕ) → n ≤ 1000000 → SFits w64 (pos 0 -ℤ pos n)
 back n h = minus-fits (pos n) n refl (small-fits n (omega arith))
-
-module _ (z : ℤ) (is : z ≡ pos (natAbs z)) (few : natAbs z ≤ 1000000) where
-  pub back-fits : SFits w64 (pos 0 -ℤ toZ w64 (ofZ w64 z))
-  back-fits = rw (count-read z is few) (back (natAbs z) few)
-
-  pub back-is : toZ w64 (ofZ w64 (pos 0 -ℤ toZ w64 (ofZ w64 z))) ≡ negℤ z
-  back-is = ap (λ (k : ℤ). toZ w64 (ofZ w64 (pos 0 -ℤ k))) (count-read z is few) ∙ toZ-ofZ {w = w64} (back (natAbs z) few) ∙ negative-is (pos (natAbs z)) ∙ ap negℤ (sym is)
 
 pub back-read : {r z : ℤ} (n : ℕ) → r ≡ negℤ z → z ≡ pos n → n ≤ 1000000 → toZ w64 (ofZ w64 r) ≡ negℤ (pos n)
 back-read n e f h = ap (λ (k : ℤ). toZ w64 (ofZ w64 k)) (e ∙ ap negℤ f ∙ sym (negative-is (pos n))) ∙ toZ-ofZ {w = w64} (back n h) ∙ negative-is (pos n)

@@ -30,22 +30,6 @@ ghost use Rattle.redraws.specs.Change.{takenAt, turnReasons, changeReaso
 
 // ---- leaves
 
-// A count or a next number.
-fn count_of(z: i64) -> usize
-    requires { ⌜ nonNeg z ≡ true ⌝ }
-    ensures { λ r. ⌜ r ≡ natAbs z ⌝ }
-{
-    z as usize
-}
-
-// The reverse of an edge as it is written.
-fn back_of(number: i64) -> i64
-    requires { ⌜ (number ≡ pos (natAbs number)) × (natAbs number ≤ 1000000) ⌝ }
-    ensures { λ r. ⌜ r ≡ negℤ number ⌝ }
-{
-    0 - number
-}
-
 // The head with an edge more, and its number given.
 fn with_edge(h: Head) -> Head
     requires { ⌜ Counted h ⌝ }
@@ -85,11 +69,11 @@ fn write_last(nodes: &[i64], edges: &mut [i64], h: Head, u: usize, v: usize, c: 
     requires { ⌜ Drawable (now nodes) (now edges) h u v (now c) face ⌝ }
     ensures { λ r. ⌜ now (edges .exit) ≡ paste (now (edges .entry)) (natAbs (h .edges) * 32) (edgeCells (newRow (now (nodes .entry)) h u v (now (c .entry)) face)) 32 ⌝ }
 {
-    let e = count_of(h.edges);
+    let e = answers::count_of(h.edges);
     let number = h.next_edge;
     let start = nodes[u * 4];
     let end = nodes[v * 4];
-    let back = back_of(number);
+    let back = linking::turned(number);
     let row = Sides {
         number,
         start,
@@ -116,7 +100,7 @@ pub fn draw(
     ensures { λ r. ⌜ Drawn (now (nodes .entry)) (now (edges .entry)) h u v (now (c .entry)) face (now (nodes .exit)) (now (edges .exit)) r ⌝ }
 {
     write_last(nodes, edges, h, u, v, c, face);
-    let e = count_of(h.edges);
+    let e = answers::count_of(h.edges);
     linking::link_edge(edges, e + 1);
     set_face(nodes, u, -1);
     set_face(nodes, v, -1);
@@ -172,8 +156,8 @@ pub fn undraw(nodes: &mut [i64], edges: &mut [i64], h: Head, i: usize, face: i64
     requires { ⌜ Undrawable (now nodes) (now edges) h i face ⌝ }
     ensures { λ r. ⌜ Undrawn (now (nodes .entry)) (now (edges .entry)) h i face (now (nodes .exit)) (now (edges .exit)) r ⌝ }
 {
-    let n = count_of(h.nodes);
-    let e = count_of(h.edges);
+    let n = answers::count_of(h.nodes);
+    let e = answers::count_of(h.edges);
     let u = edges[i * 32 + 1];
     let v = edges[i * 32 + 2];
     let bare = undraw_edge(edges, e, i, u, v);
@@ -196,7 +180,7 @@ pub fn remove_lone_edge(nodes: &mut [i64], edges: &mut [i64], h: Head, edge: i64
     requires { ⌜ ((faces : _) × Formed (now nodes) (now edges) faces h) ⌝ }
     ensures { λ r. ⌜ ((faces : _) → Formed (now (nodes .entry)) (now (edges .entry)) faces h → outcome (now (nodes .exit)) (now (edges .exit)) faces r ≡ decided (lent (now (nodes .entry)) (now (edges .entry)) faces h) (RemoveIsoEdge edge)) ⌝ }
 {
-    let e = count_of(h.edges);
+    let e = answers::count_of(h.edges);
     let found = tables::find_row(edges, 32, e, edge);
     let Found::At(i) = found else {
         return answers::refused(h, 4);
@@ -247,10 +231,10 @@ fn room_reason(edges: &[i64], h: Head) -> u64
     requires { ⌜ Counted h ⌝ }
     ensures { λ r. ⌜ r ≡ firstReason (roomReasons (now (edges .entry)) h) ⌝ }
 {
-    if edges.len() / 32 < count_of(h.edges) + 1 {
+    if edges.len() / 32 < answers::count_of(h.edges) + 1 {
         return 20;
     }
-    if 1000000 < count_of(h.next_edge) + 1 {
+    if 1000000 < answers::count_of(h.next_edge) + 1 {
         21
     } else {
         0
@@ -272,8 +256,8 @@ fn lone_reason(nodes: &[i64], edges: &[i64], h: Head, u: usize, v: usize, c: &[i
     if faces_differ(nodes, u, v) {
         return 12;
     }
-    let n = count_of(h.nodes);
-    let e = count_of(h.edges);
+    let n = answers::count_of(h.nodes);
+    let e = answers::count_of(h.edges);
     let meeting = conditions::meeting_reason(nodes, n, edges, e, e, c);
     if meeting != 0 {
         return meeting;
@@ -300,7 +284,7 @@ pub fn add_lone_edge(
     requires { ⌜ ((faces : _) × Formed (now nodes) (now edges) faces h) ⌝ }
     ensures { λ r. ⌜ ((faces : _) → Formed (now (nodes .entry)) (now (edges .entry)) faces h → outcome (now (nodes .exit)) (now (edges .exit)) faces r ≡ decided (lent (now (nodes .entry)) (now (edges .entry)) faces h) (AddIsoEdge start end (now (c .entry)))) ⌝ }
 {
-    let n = count_of(h.nodes);
+    let n = answers::count_of(h.nodes);
     let found = tables::find_row(nodes, 4, n, start);
     let Found::At(u) = found else {
         return answers::refused(h, 4);
@@ -365,8 +349,8 @@ fn change_reason(
     if reason != 0 {
         return reason;
     }
-    let n = count_of(h.nodes);
-    let e = count_of(h.edges);
+    let n = answers::count_of(h.nodes);
+    let e = answers::count_of(h.edges);
     turn_reason(nodes, n, edges, e, i, c)
 }
 
@@ -425,12 +409,12 @@ pub fn change_curve(nodes: &[i64], edges: &mut [i64], h: Head, edge: i64, c: &[i
     requires { ⌜ ((faces : _) × Formed (now nodes) (now edges) faces h) ⌝ }
     ensures { λ r. ⌜ ((faces : _) → Formed (now (nodes .entry)) (now (edges .entry)) faces h → outcome (now (nodes .entry)) (now (edges .exit)) faces r ≡ decided (lent (now (nodes .entry)) (now (edges .entry)) faces h) (ChangeEdgeGeom edge (now (c .entry)))) ⌝ }
 {
-    let e = count_of(h.edges);
+    let e = answers::count_of(h.edges);
     let found = tables::find_row(edges, 32, e, edge);
     let Found::At(i) = found else {
         return answers::refused(h, 4);
     };
-    let n = count_of(h.nodes);
+    let n = answers::count_of(h.nodes);
     let u = row_of(nodes, n, start_of(edges, i));
     let v = row_of(nodes, n, end_of(edges, i));
     let reason = change_reason(nodes, edges, h, i, u, v, c);

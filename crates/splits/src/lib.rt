@@ -28,14 +28,6 @@ ghost use Rattle.splits.specs.Cuts.{renamed, startSides, endSides, place
 
 // ---- an edge row cut in two
 
-// The number -z.
-fn turned(z: i64) -> i64
-    requires { ⌜ nonNeg z ≡ true ⌝ }
-    ensures { λ r. ⌜ r ≡ negℤ z ⌝ }
-{
-    -z
-}
-
 // Edge row i up to p, and from p on.
 fn start_line(edges: &[i64], i: usize, p: Point) -> Line
     requires { ⌜ EdgeRow (now edges) i × InRange p ⌝ }
@@ -59,7 +51,7 @@ fn rename(edges: &mut [i64], e: usize, i: usize, a: i64, b: i64)
     let d = links::dart_at(edges, i * 2);
     let back = links::dart_at(edges, i * 2 + 1);
     linking::redirect(edges, e, d, a);
-    linking::redirect(edges, e, back, turned(b));
+    linking::redirect(edges, e, back, linking::turned(b));
 }
 
 // The numbers of the half a from the start of row i to the new node, and of the half b from there to its end.
@@ -95,7 +87,7 @@ fn end_half(edges: &[i64], i: usize, node: i64, a: i64, b: i64) -> Sides
         start: node,
         end,
         next_left,
-        next_right: turned(a),
+        next_right: linking::turned(a),
         left,
         right,
     }
@@ -129,14 +121,6 @@ fn cut_row(edges: &mut [i64], e: usize, i: usize, node: i64, p: Point, keeps: bo
 }
 
 // ---- reasons
-
-// A count or a next number.
-fn count_of(z: i64) -> usize
-    requires { ⌜ nonNeg z ≡ true ⌝ }
-    ensures { λ r. ⌜ r ≡ natAbs z ⌝ }
-{
-    z as usize
-}
 
 // The point lies on the curve of edge row i.
 fn lies_on(edges: &[i64], i: usize, p: Point) -> bool
@@ -173,16 +157,16 @@ fn room_reason(nodes: &[i64], edges: &[i64], h: Head, keeps: bool) -> u64
     requires { ⌜ Numbered h ⌝ }
     ensures { λ r. ⌜ r ≡ firstReason (roomReasons (now (nodes .entry)) (now (edges .entry)) h keeps) ⌝ }
 {
-    if nodes.len() / 4 < count_of(h.nodes) + 1 {
+    if nodes.len() / 4 < answers::count_of(h.nodes) + 1 {
         return 20;
     }
-    if edges.len() / 32 < count_of(h.edges) + 1 {
+    if edges.len() / 32 < answers::count_of(h.edges) + 1 {
         return 20;
     }
-    if 1000000 < count_of(h.next_node) + 1 {
+    if 1000000 < answers::count_of(h.next_node) + 1 {
         return 21;
     }
-    if 1000000 < count_of(h.next_edge) + given_of(keeps) {
+    if 1000000 < answers::count_of(h.next_edge) + given_of(keeps) {
         21
     } else {
         0
@@ -239,7 +223,7 @@ fn cut_edge(edges: &mut [i64], h: Head, i: usize, keeps: bool, edge: i64, x: i64
     ensures { λ r. ⌜ now (edges .exit) ≡ cutRow (now (edges .entry)) (natAbs (h .edges)) i (h .«next_node») (point x y) keeps (startNumber h keeps edge) (endNumber h keeps) ⌝ }
 {
     let node = h.next_node;
-    let e = count_of(h.edges);
+    let e = answers::count_of(h.edges);
     let p = conditions::point_of(x, y);
     let a = start_number(h, keeps, edge);
     let b = end_number(h, keeps);
@@ -258,11 +242,11 @@ pub fn split_edge(
     requires { ⌜ ((faces : _) × Formed (now nodes) (now edges) faces h) ⌝ }
     ensures { λ r. ⌜ ((faces : _) → Formed (now (nodes .entry)) (now (edges .entry)) faces h → outcome (now (nodes .exit)) (now (edges .exit)) faces r ≡ decided (lent (now (nodes .entry)) (now (edges .entry)) faces h) (splitTicket keeps edge x y)) ⌝ }
 {
-    let found = tables::find_row(edges, 32, count_of(h.edges), edge);
+    let found = tables::find_row(edges, 32, answers::count_of(h.edges), edge);
     let Found::At(i) = found else {
         return answers::refused(h, 4);
     };
-    let early = point_reason(nodes, count_of(h.nodes), edges, i, x, y);
+    let early = point_reason(nodes, answers::count_of(h.nodes), edges, i, x, y);
     if early != 0 {
         return answers::refused(h, early);
     }
@@ -272,6 +256,6 @@ pub fn split_edge(
     }
     let node = h.next_node;
     cut_edge(edges, h, i, keeps, edge, x, y);
-    write_node(nodes, count_of(h.nodes), node, x, y);
+    write_node(nodes, answers::count_of(h.nodes), node, x, y);
     answers::carried(after_split(h, keeps), node)
 }

@@ -22,6 +22,12 @@ use Rattle.redraws.proofs.write_last.Tie as tie
 count-of-requires : tie.Need-count-of-requires
 count-of-requires c κs = let k = counted (c .before .pre) in count-natural (c .before .args .h .edges) (k .count) (omega (arith, k .few))
 
+turned-requires : tie.Need-turned-requires
+turned-requires c κs =
+    let s = c .before .before .before .before .before in
+    let k = counted (s .pre) in
+    count-natural (s .args .h .«next_edge») (k .next) (omega (arith, k .most))
+
 write-edge-requires : tie.Need-write-edge-requires
 write-edge-requires c κs =
     let s = c .before .before .before .before .before .before .before .before in
@@ -42,7 +48,7 @@ returns c =
     let number = count-read (a .h .«next_edge») (k .next) (k .most) in
     let start = small-read (nodeAt (a .nodes .now) (a .u) .number) (start-number d) (omega (arith, start-small d)) in
     let end = small-read (nodeAt (a .nodes .now) (a .v) .number) (end-number d) (omega (arith, end-small d)) in
-    let back = back-read (natAbs (a .h .«next_edge»)) (c .before .before .before .before .back-of .ensures) number (k .most) in
+    let back = back-read (natAbs (a .h .«next_edge»)) (c .before .before .before .before .turned .ensures) number (k .most) in
     let face = toZ-ofZ {w = w64} {z = a .face} (s .fits .face) ∙ face-is d in
     let cells = row-written (c .before .before .whole-of .result) row (c .before .before .whole-of .ensures) number start end back number face face (points-few (d .run)) in
     c .before .write-edge .ensures ∙ ap₂ (λ (j : ℕ) (r : List ℤ). paste (a .edges .now) (j * 32) r 32) n cells
@@ -58,7 +64,7 @@ write-last-spec =
     (λ c. search needs)
     (λ c. search needs)
     (λ c. search needs)
-    (λ c κs. search needs)
+    turned-requires
     (λ c κs. search needs)
     write-edge-requires
     (λ c. search needs)

@@ -1,11 +1,11 @@
--- `redraws::count_of` meets its contract: a number that is not negative keeps its value. Assumes nothing.
+-- `answers::count_of` meets its contract: a number that is not negative keeps its value. Assumes nothing.
 use mathlib.Core.Path.{ap}
 use lib.IntN.{natAbs}
 use mir.Syntax.{w64}
 use mir.Facts.{toZ-ofZ}
 use Rattle.integers.specs.Signs.{natural-cast}
-use Rattle.redraws.proofs.count_of.Statement.{statement}
-use Rattle.redraws.proofs.count_of.Tie as tie
+use Rattle.answers.proofs.count_of.Statement.{statement}
+use Rattle.answers.proofs.count_of.Tie as tie
 
 cast-z : tie.Need-cast-result
 cast-z c = rw (toZ-ofZ {w = w64} {z = c .args .z} (c .fits .z)) (natural-cast (c .args .z) (c .pre) (c .fits .z))

@@ -1,13 +1,13 @@
--- `heals::turned` meets its contract: a number that is not negative has a negative. Assumes nothing.
-use mathlib.Core.Path.{ap, _∙_}
-use lib.IntN.{negℤ, natAbs}
+-- `linking::turned` meets its contract: a number that is not negative has a negative. Assumes nothing.
+use mathlib.Core.Path.{_≡_, ap, _∙_}
+use lib.IntN.{ℤ, pos, negℤ, natAbs}
 use mir.Syntax.{w64}
 use mir.Val.{toZ, ofZ}
 use mir.Facts.{toZ-ofZ}
 use Rattle.tables.proofs.Rows.{pos-abs}
 use Rattle.links.proofs.Steps.{negative-is, minus-fits}
-use Rattle.heals.proofs.turned.Statement.{statement}
-use Rattle.heals.proofs.turned.Tie as tie
+use Rattle.linking.proofs.turned.Statement.{statement}
+use Rattle.linking.proofs.turned.Tie as tie
 
 sub-result : tie.Need-sub-result
 sub-result c = rw (toZ-ofZ {w = w64} {z = c .args .z} (c .fits .z)) (minus-fits (c .args .z) (natAbs (c .args .z)) (pos-abs (c .args .z) (c .pre)) (c .fits .z))
@@ -16,8 +16,4 @@ returns : tie.Need-returns
 returns c = toZ-ofZ {w = w64} (sub-result c) ∙ negative-is (toZ w64 (ofZ w64 (c .args .z))) ∙ ap negℤ (toZ-ofZ {w = w64} {z = c .args .z} (c .fits .z))
 
 pub turned-spec : {M : Type 1} → statement M
-turned-spec =
-    tie.close
-    (tie.spec
-    sub-result
-    returns)
+turned-spec = tie.close (tie.spec sub-result returns)
