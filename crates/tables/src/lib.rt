@@ -58,15 +58,15 @@ fn one_less(n: usize) -> usize {
     if n == 0 { 0 } else { n - 1 }
 }
 
-// The row of a number: jumps, then halves.
-fn search_row(t: &[i64], w: usize, count: usize, number: i64) -> Found
+// The row of a number: jumps, the first of them from `from` as the number below the first row, then halves.
+fn search_row(t: &[i64], w: usize, count: usize, number: i64, from: usize) -> Found
     requires { ⌜ Rising w (now t) count ⌝ }
     ensures { λ r. ⌜ r ≡ place (sameZ number) 0 (column w (now (t .entry)) count) ⌝ }
 {
     let mut lo = 0;
     let mut hi = count;
-    let mut seen = 0;
-    let mut jumps = 3;
+    let mut seen = from;
+    let mut jumps = 4;
     while lo < hi {
         let mid = probe(lo, hi, seen, number, jumps);
         let z = t[mid * w];
@@ -84,14 +84,38 @@ fn search_row(t: &[i64], w: usize, count: usize, number: i64) -> Found
     Found::Missing
 }
 
-// How far the number is from that of the first row; 0 where it is less.
-fn steps_from(first: i64, number: i64) -> usize {
-    let a = natural(first);
-    let b = natural(number);
-    if a < b { b - a } else { 0 }
+// How far a number is above another; 0 where it is less.
+fn steps(from: usize, to: usize) -> usize {
+    if from < to { to - from } else { 0 }
 }
 
-// The row of a number. In a table from which no row after the first was removed the first look meets it.
+// The rows to d steps, where `span` steps are spread evenly over so many rows.
+fn share(d: usize, span: usize, rows: usize) -> usize {
+    if span == 0 {
+        return rows;
+    }
+    if 4294967295 < d {
+        return rows;
+    }
+    if 4294967295 < rows {
+        return rows;
+    }
+    d * rows / span
+}
+
+// The number below the first row, where one jump leads from it to the row.
+fn below(number: usize, row: usize) -> usize {
+    if row < number { number - 1 - row } else { 0 }
+}
+
+fn lesser(a: usize, b: usize) -> usize
+    ensures { λ r. ⌜ (r ≤ a) × (r ≤ b) ⌝ }
+{
+    if a < b { a } else { b }
+}
+
+// The row of a number. In a table from which no row after the first was removed the first look meets it; otherwise the search starts where
+// the number stands if those up to the row of that look are spread evenly.
 pub fn find_row(t: &[i64], w: usize, count: usize, number: i64) -> Found
     requires { ⌜ Rising w (now t) count ⌝ }
     ensures { λ r. ⌜ r ≡ place (sameZ number) 0 (column w (now (t .entry)) count) ⌝ }
@@ -99,14 +123,16 @@ pub fn find_row(t: &[i64], w: usize, count: usize, number: i64) -> Found
     if count == 0 {
         return Found::Missing;
     }
-    let i = steps_from(t[0], number);
-    if i < count {
-        let z = t[i * w];
-        if z == number {
-            return Found::At(i);
-        }
+    let first = natural(t[0]);
+    let n = natural(number);
+    let d = steps(first, n);
+    let i = lesser(d, count - 1);
+    let z = t[i * w];
+    if z == number {
+        return Found::At(i);
     }
-    search_row(t, w, count, number)
+    let guess = share(d, steps(first, natural(z)), i);
+    search_row(t, w, count, number, below(n, guess))
 }
 
 // n numbers from `from` on are moved down to `at` on.

@@ -23,13 +23,13 @@ use Rattle.tables.proofs.search_row.Statement.{statement}
 use Rattle.tables.proofs.search_row.Tie as tie
 
 abbrev Inv-loop : tie.InvT-loop
-Inv-loop t w count number lo₀ hi₀ seen₀ jumps₀ lo hi seen jumps =
+Inv-loop t w count number from lo₀ hi₀ seen₀ jumps₀ lo hi seen jumps =
     (lo ≤ hi) × (hi ≤ count)
     × ((k : ℕ) → k < lo → ltZ (getD t (k * w) (pos 0)) (toZ w64 number) ≡ true)
     × ((k : ℕ) → hi ≤ k → k < count → ltZ (toZ w64 number) (getD t (k * w) (pos 0)) ≡ true)
 
 abbrev μ-loop : tie.MeasureT-loop
-μ-loop t w count number lo₀ hi₀ seen₀ jumps₀ lo hi seen jumps = hi - lo
+μ-loop t w count number from lo₀ hi₀ seen₀ jumps₀ lo hi seen jumps = hi - lo
 
 loop-holds : tie.Need-loop-holds Inv-loop μ-loop
 loop-holds c = (omega arith, omega arith, (λ k h. absurd (omega arith)), (λ k h l. absurd (omega arith)))
