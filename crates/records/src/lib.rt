@@ -10,9 +10,10 @@ ghost use Prim.Native.Nat.{_+_, _*_, _≤_, _<_};
 ghost use lib.ListN.{length, take};
 ghost use lib.Seq.{paste};
 ghost use Rattle.lists.specs.Tables.{table};
-ghost use Rattle.map.specs.Ticket.{ticket, emptied};
+ghost use Rattle.map.specs.Ticket.{ticket, emptied, edgesOfFace};
 ghost use Rattle.ranges.specs.Ranges.{lent};
 ghost use Rattle.answers.specs.Outcomes.{outcome};
+ghost use Rattle.engine.specs.Runs.{Runs};
 ghost use Rattle.records.specs.Records.{nodeCells, nodeTable, rowNode, nodeRow, changedAt};
 
 pub struct Node {
@@ -123,6 +124,40 @@ pub fn empty_map(nodes: &mut [i64], edges: &mut [i64], faces: &mut [i64], head: 
 {
     let h = *head;
     let done = engine::empty_map(nodes, edges, faces, h);
+    *head = done.head;
+    done.answer
+}
+
+// The edges of a face.
+pub fn edges_of_face(
+    nodes: &[i64],
+    edges: &[i64],
+    faces: &[i64],
+    head: &Head,
+    face: i64,
+    list: &mut [i64],
+) -> Answer
+    ensures { λ r. ⌜ record { list = now (list .exit); answer = r } ≡ edgesOfFace (lent (now (nodes .entry)) (now (edges .entry)) (now (faces .entry)) (now (head .entry))) face (now (list .entry)) ⌝ }
+{
+    let h = *head;
+    engine::edges_of_face(nodes, edges, faces, h, face, list)
+}
+
+// A list of tickets from the empty map on.
+pub fn run(
+    nodes: &mut [i64],
+    edges: &mut [i64],
+    faces: &mut [i64],
+    head: &mut Head,
+    numbers: &[i64],
+    lengths: &[usize],
+    refusals: &mut [u64],
+    values: &mut [i64],
+) -> Answer
+    ensures { λ r. ⌜ Runs (lent (now (nodes .entry)) (now (edges .entry)) (now (faces .entry)) (now (head .entry))) (now (numbers .entry)) (now (lengths .entry)) (now (refusals .entry)) (now (values .entry)) (record { lent = lent (now (nodes .exit)) (now (edges .exit)) (now (faces .exit)) (now (head .exit)); refusals = now (refusals .exit); values = now (values .exit); answer = r }) ⌝ }
+{
+    let h = *head;
+    let done = engine::run(nodes, edges, faces, h, numbers, lengths, refusals, values);
     *head = done.head;
     done.answer
 }

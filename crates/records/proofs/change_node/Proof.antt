@@ -21,9 +21,9 @@ use contract.Monad.{Fun, fact}
 use contract.Running.{givenOf, tables, tablesOf}
 use types.Kit.{Given, Item, ‵, raw, some, later, _⊛_, ⋆, runs, anyQ, atRet, Sq, _$_, _∵_, !, qed, by, move, keep, drop, use1, use2, split, join, pick, rewrite, fsplit, fjoin, suffices, frame, await, done}
 use types.Kit as Kit
-use types.Part.{agg, whole, sub, look-in}
+use types.Part.{whole, sub, look-in}
 use types.Match.{vrt, look-tag, in-variant}
-use types.Run.{look, init, store-raw, forget, stop, hop, fld, from, load, lit, addr, of-opd, bin, and-then, no-more, assigns, assigns-last, land, first, switches-on, exec, returns, returns-within, enter, alloc1, alloc0, params1, pass1, pass0, free1, free0}
+use types.Run.{look, init, store-raw, forget, stop, hop, fld, from, load, lit, of-opd, bin, and-then, no-more, assigns, assigns-last, land, first, switches-on, exec, returns, returns-within, enter, alloc1, alloc0, params1, pass1, pass0, free1, free0}
 use types.Tokens.{lft-new, lft-end}
 use sound.WpLaws.{FmC, fmOf, WpFn-mono}
 use denote.RattleType.{RattleType, owns}
@@ -54,6 +54,7 @@ use Rattle.lists.proofs.Found as S
 use Rattle.lists.proofs.Found.Laws as S′
 use Rattle.records.specs.declared.Node.{Node}
 use Rattle.records.specs.Records.{nodeRow, changedAt}
+use Rattle.records.proofs.Heads.{relends}
 use Rattle.records.proofs.Finding.{found-below}
 use Rattle.records.proofs.Shared.{LentShared, lends-shared, comes-back}
 use Rattle.records.proofs.Node as T
@@ -206,8 +207,7 @@ module _ {M : Type 1} (𝓤 : URA M) (H : Heap 𝓤) (A : Atoms 𝓤) (W : Given
         qed W ((‵ (flft κ q) ⊛ ‵ ftrue) ∷ ‵ (owns (MutSlice (named 0) κ R ∷ usize ∷ R ∷ []) a at) ∷ []) ∵ enter ! C Λ code.function (sliceVal (b, o) n ∷ vint w64 c ∷ T′.lowered v ∷ []) _ $
         alloc1 ! (λ l₀. alloc1 ! (λ l₁. alloc1 ! (λ l₂. alloc1 ! (λ l₃. alloc1 ! (λ l₄. alloc1 ! (λ l₅. alloc1 ! (λ l₆. alloc1 ! (λ l₇. alloc1 ! (λ l₈. alloc1 ! (λ l₉. alloc0 ! $ params1 ! $
         pass1 ! (init ! 16 refl (tt, (tt, (record { fits = room .0 }, tt)))) $ pass1 ! (init ! 14 refl (tt, record { fits = gc })) $ pass1 ! (init ! 12 refl (LL.lawful T.the-type T′.the-laws 𝓤 H A W .typed v _ is-v .0)) $ pass0 ! $
-        assigns ! (addr ! (from ! (fld ! refl (hop ! (look-in ! 16 (sub ! 0 refl (whole !))) (stop !))))) (from ! (stop !)) (init ! 6 refl (tt, tt)) $
-        assigns ! (agg ! (and-then ! (load ! (from ! (stop !)) (look ! 6 refl)) (and-then ! (load ! (from ! (fld ! refl (stop !))) (look-in ! 16 (sub ! 1 refl (whole !)))) (no-more !)))) (from ! (stop !)) (init ! 4 refl (tt, (tt, (record { fits = room .0 }, tt)))) $
+        relends ! 16 6 4 (room .0) (refl, refl, refl) (refl, refl) (refl, refl, refl) $
         -- the slice is lent for a lifetime of the call
         move ! (21 ∷ []) $ fsplit ! $ move ! (22 ∷ []) $ split ! $ lft-new ! tt (λ ν. move ! (3 ∷ 1 ∷ []) $
         use2 W (later (some (λ (δ : GName). ‵ (ShrSlice (named 0) (ν ∷ []) R .own (x δ ys) vs) ⊛ ‵ (LentShared R κ (ν ∷ []) q γ b o n ys refl)))) (lends-shared R κ (ν ∷ []) q γ b o n ys refl 𝓤 H A W (named 0) (named 0) room) $ await ! tt $ pick ! (λ δ. split ! $

@@ -26,8 +26,8 @@ use ghost.Atoms.{Atoms, sem}
 use contract.Monad.{Fun, fact}
 use contract.Running.{givenOf, tables, tablesOf}
 use types.Kit.{Given, Item, ‵, raw, some, later, _⊛_, ⋆, runs, anyQ, atRet, Sq, _$_, _∵_, !, qed, by, move, keep, use1, use2, use3, split, join, pick, rewrite, fsplit, fjoin, feqL, feqI, suffices, frame, await, done}
-use types.Part.{agg, whole, sub, look-in}
-use types.Run.{look, look-raw, init, store, forget, stop, hop, fld, from, load, lit, unit-lit, addr, of-opd, bin, and-then, no-more, assigns, assigns-last, land, first, blocks, stays, leaves-loop, returns, enter, alloc1, alloc0, params1, pass1, pass0, free1, free0, exec, Below, again, loops}
+use types.Part.{whole, sub, look-in}
+use types.Run.{look, look-raw, init, store, forget, stop, hop, fld, from, load, lit, unit-lit, of-opd, bin, and-then, no-more, assigns, assigns-last, land, first, blocks, stays, leaves-loop, returns, enter, alloc1, alloc0, params1, pass1, pass0, free1, free0, exec, Below, again, loops}
 use types.Tokens.{lft-new, lft-end}
 use sound.WpLaws.{fmOf, WpFn-mono}
 use denote.RattleType.{RattleType, owns}
@@ -53,7 +53,7 @@ use borrow.Author.Tests.{ltb-true, ltb-false}
 use Rattle.lists.proofs.Bools.{which}
 use Rattle.records.specs.declared.Node.{Node}
 use Rattle.records.specs.Records.{noNode, nodeCells, nodeTable}
-use Rattle.records.proofs.Heads.{vals}
+use Rattle.records.proofs.Heads.{vals, relends}
 use Rattle.records.proofs.Packing.{pack-turn}
 use Rattle.records.proofs.Again.{LentAgain, lends-again, comes-back}
 use Rattle.records.proofs.Node as T
@@ -218,8 +218,7 @@ module _ {M : Type 1} (𝓤 : URA M) (H : Heap 𝓤) (A : Atoms 𝓤) (W : Given
         elem-back ! R q′ ys (j .i) noNode (T′.lowered elem ∷ []) b o within $ shuts-slice ! tt R q′ ys b o $
         move ! (2 ∷ 1 ∷ []) $ fjoin ! $ move ! (2 ∷ 0 ∷ []) $ fjoin ! $
         -- [what nodes owns; its token; what flat owns; its token; _11; …; _10; …; …; _1; …; room for _0; …]
-        assigns ! (addr ! (from ! (fld ! refl (hop ! (look-in ! 22 (sub ! 0 refl (whole !))) (stop !))))) (from ! (stop !)) (init ! 6 refl (tt, tt)) $
-        assigns ! (agg ! (and-then ! (load ! (from ! (stop !)) (look ! 6 refl)) (and-then ! (load ! (from ! (fld ! refl (stop !))) (look-in ! 22 (sub ! 1 refl (whole !)))) (no-more !)))) (from ! (stop !)) (init ! 4 refl (tt, (tt, (record { fits = room-d .0 }, tt)))) $
+        relends ! 22 6 4 (room-d .0) (refl, refl, refl) (refl, refl) (refl, refl, refl) $
         lft-new ! tt (λ ν. move ! (3 ∷ 4 ∷ []) $
         use2 W (later (some (λ (δ : GName). ‵ (MutSlice (named 0) (ν ∷ []) i64 .own (y δ (j .zs)) vy) ⊛ ‵ (LentAgain i64 κ₁ (ν ∷ []) q₁ γ′ b′ o′ (length d) (j .zs) (j .long) δ)))) (lends-again i64 κ₁ (ν ∷ []) q₁ γ′ b′ o′ (length d) (j .zs) (j .long) 𝓤 H A W (named 1) (named 0) room-d) $ await ! tt $ pick ! (λ δ. split ! $
         -- [the table; what the lender keeps; the new token; what nodes owns; its token; _11; …; _10; …; …; _1; …; room for _0; …]

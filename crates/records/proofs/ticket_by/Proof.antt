@@ -21,8 +21,8 @@ use ghost.Atoms.{Atoms}
 use contract.Monad.{Fun, fact}
 use contract.Running.{givenOf, tables, tablesOf}
 use types.Kit.{Given, ‵, raw, some, later, _⊛_, ⋆, _$_, _∵_, !, qed, by, move, keep, use1, use2, use3, split, join, pick, rewrite, fsplit, fsplit3, fjoin, fjoin3, feqL, feqI, suffices, frame, await, done}
-use types.Part.{agg, whole, sub, look-in}
-use types.Run.{look, look-raw, init, store, store-raw, forget, stop, hop, fld, from, load, lit, addr, of-opd, bin, and-then, no-more, assigns, land, returns, enter, alloc1, alloc0, params1, pass1, pass0, free1, free0}
+use types.Part.{whole, sub, look-in}
+use types.Run.{look, look-raw, init, store, store-raw, forget, stop, hop, fld, from, load, lit, of-opd, bin, and-then, no-more, assigns, land, returns, enter, alloc1, alloc0, params1, pass1, pass0, free1, free0}
 use types.SemTy.{Body}
 use types.Tokens.{lft-new, lft-end}
 use sound.WpLaws.{FmC, fmOf, WpFn-mono}
@@ -59,7 +59,7 @@ use Rattle.answers.proofs.Done as D
 use Rattle.answers.proofs.Done.Laws as D′
 use Rattle.records.specs.declared.Node.{Node}
 use Rattle.records.specs.Records.{nodeTable, rowNode}
-use Rattle.records.proofs.Heads.{vals, is-head, is-answer}
+use Rattle.records.proofs.Heads.{vals, is-head, is-answer, relends}
 use Rattle.records.proofs.Packing.{packed, unpacked}
 use Rattle.records.proofs.Shared.{LentShared, lends-shared, comes-back as shared-back}
 use Rattle.records.proofs.Again.{LentAgain, lends-again, comes-back}
@@ -194,8 +194,8 @@ module _ {M : Type 1} (𝓤 : URA M) (H : Heap 𝓤) (A : Atoms 𝓤) (W : Given
         move ! (53 ∷ []) $ fsplit ! $ move ! (1 ∷ []) $ fsplit ! $ move ! (1 ∷ []) $ fsplit ! $ move ! (1 ∷ []) $ fsplit ! $ move ! (1 ∷ []) $ fsplit ! $ move ! (1 ∷ []) $ fsplit ! $
         move ! (59 ∷ []) $ split ! $ move ! (1 ∷ []) $ split ! $ move ! (1 ∷ []) $ split ! $ move ! (1 ∷ []) $ split ! $ move ! (1 ∷ []) $ split ! $ move ! (1 ∷ []) $ split ! $
         keep ! (0 ∷ 2 ∷ 3 ∷ 4 ∷ 5 ∷ 6 ∷ 7 ∷ 9 ∷ 10 ∷ 11 ∷ 12 ∷ 13 ∷ 14 ∷ 15 ∷ 16 ∷ 17 ∷ 18 ∷ 19 ∷ 20 ∷ 21 ∷ 22 ∷ 23 ∷ 24 ∷ 25 ∷ 26 ∷ 27 ∷ 28 ∷ 29 ∷ 30 ∷ 31 ∷ 32 ∷ 33 ∷ 34 ∷ 35 ∷ 36 ∷ 37 ∷ 38 ∷ 39 ∷ 40 ∷ 41 ∷ 42 ∷ 43 ∷ 44 ∷ 45 ∷ 46 ∷ 47 ∷ 48 ∷ 49 ∷ 50 ∷ 51 ∷ 52 ∷ 53 ∷ 54 ∷ 55 ∷ 56 ∷ 57 ∷ 58 ∷ 59 ∷ 60 ∷ 61 ∷ 62 ∷ 63 ∷ 64 ∷ 65 ∷ []) $
-        assigns ! (addr ! (from ! (fld ! refl (hop ! (look-in ! 60 (sub ! 0 refl (whole !))) (stop !))))) (from ! (stop !)) (init ! 40 refl (tt, tt)) $ assigns ! (agg ! (and-then ! (load ! (from ! (stop !)) (look ! 40 refl)) (and-then ! (load ! (from ! (fld ! refl (stop !))) (look-in ! 60 (sub ! 1 refl (whole !)))) (no-more !)))) (from ! (stop !)) (init ! 38 refl (tt, (tt, (record { fits = room .0 }, tt)))) $
-        assigns ! (addr ! (from ! (fld ! refl (hop ! (look-in ! 58 (sub ! 0 refl (whole !))) (stop !))))) (from ! (stop !)) (init ! 36 refl (tt, tt)) $ assigns ! (agg ! (and-then ! (load ! (from ! (stop !)) (look ! 36 refl)) (and-then ! (load ! (from ! (fld ! refl (stop !))) (look-in ! 58 (sub ! 1 refl (whole !)))) (no-more !)))) (from ! (stop !)) (init ! 34 refl (tt, (tt, (record { fits = room-d .0 }, tt)))) $
+        relends ! 60 40 38 (room .0) (refl, refl, refl) (refl, refl) (refl, refl, refl) $
+        relends ! 58 36 34 (room-d .0) (refl, refl, refl) (refl, refl) (refl, refl, refl) $
         -- the nodes are lent as shared ones and the table again, each for a lifetime of the first call
         lft-new ! tt (λ ν.
         move ! (12 ∷ 6 ∷ []) $ use2 W (later (some (λ (δ : GName). ‵ (ShrSlice (named 0) (ν ∷ []) R .own (x δ ys) vx) ⊛ ‵ (LentShared R κ₀ (ν ∷ []) q₀ γ b o n ys refl)))) (lends-shared R κ₀ (ν ∷ []) q₀ γ b o n ys refl 𝓤 H A W (named 0) (named 0) room) $ await ! tt $ pick ! (λ δ. split ! $
@@ -223,9 +223,9 @@ module _ {M : Type 1} (𝓤 : URA M) (H : Heap 𝓤) (A : Atoms 𝓤) (W : Given
         opens ! tt Q {h = h} c a (λ vs. spelt ! Q (Is Q) (shows 𝓤 H A Q) (LL.vals S.the-type S′.the-laws) (LL.tells S.the-type S′.the-laws) fullShare h vs c a $
         move ! (1 ∷ []) $ peeks ! Q (Is Q) (shows 𝓤 H A Q) h (S′.lowered h ∷ []) (λ is-h. move ! (1 ∷ []) $
         assigns ! (of-opd ! (load ! (from ! (hop ! (look ! 56 refl) (stop !))) (look-raw ! 0 refl))) (from ! (stop !)) (init ! 50 refl (LL.lawful S.the-type S′.the-laws 𝓤 H A W .typed h _ is-h .0)) $
-        assigns ! (addr ! (from ! (fld ! refl (hop ! (look-in ! 62 (sub ! 0 refl (whole !))) (stop !))))) (from ! (stop !)) (init ! 34 refl (tt, tt)) $ assigns ! (agg ! (and-then ! (load ! (from ! (stop !)) (look ! 34 refl)) (and-then ! (load ! (from ! (fld ! refl (stop !))) (look-in ! 62 (sub ! 1 refl (whole !)))) (no-more !)))) (from ! (stop !)) (init ! 32 refl (tt, (tt, (record { fits = room-d .0 }, tt)))) $
-        assigns ! (addr ! (from ! (fld ! refl (hop ! (look-in ! 60 (sub ! 0 refl (whole !))) (stop !))))) (from ! (stop !)) (init ! 30 refl (tt, tt)) $ assigns ! (agg ! (and-then ! (load ! (from ! (stop !)) (look ! 30 refl)) (and-then ! (load ! (from ! (fld ! refl (stop !))) (look-in ! 60 (sub ! 1 refl (whole !)))) (no-more !)))) (from ! (stop !)) (init ! 28 refl (tt, (tt, (record { fits = room-e .0 }, tt)))) $
-        assigns ! (addr ! (from ! (fld ! refl (hop ! (look-in ! 58 (sub ! 0 refl (whole !))) (stop !))))) (from ! (stop !)) (init ! 26 refl (tt, tt)) $ assigns ! (agg ! (and-then ! (load ! (from ! (stop !)) (look ! 26 refl)) (and-then ! (load ! (from ! (fld ! refl (stop !))) (look-in ! 58 (sub ! 1 refl (whole !)))) (no-more !)))) (from ! (stop !)) (init ! 24 refl (tt, (tt, (record { fits = room-s .0 }, tt)))) $
+        relends ! 62 34 32 (room-d .0) (refl, refl, refl) (refl, refl) (refl, refl, refl) $
+        relends ! 60 30 28 (room-e .0) (refl, refl, refl) (refl, refl) (refl, refl, refl) $
+        relends ! 58 26 24 (room-s .0) (refl, refl, refl) (refl, refl) (refl, refl, refl) $
         -- the second call
         move ! (13 ∷ []) $ use1 W (‵ (ShrSlice (named 5) κ₅ i64 .own t (vals t)) ⊛ ‵ (ShrSlice (named 5) κ₅ i64 .own t (vals t))) (shr-slice-copy 𝓤 H A W (named 5) κ₅ i64 .twice t (vals t)) $ split ! $
         lft-new ! tt (λ μ.
@@ -244,8 +244,8 @@ module _ {M : Type 1} (𝓤 : URA M) (H : Heap 𝓤) (A : Atoms 𝓤) (W : Given
         move ! (4 ∷ []) $ lft-end ! tt $ move ! (0 ∷ 11 ∷ 10 ∷ []) $ use3 W (later (‵ (MutSlice (named 1) κ₁ i64 .own (y γ′ (zs .0)) vy) ⊛ ‵ (flft κ₁ q₁))) (comes-back i64 κ₁ (μ ∷ []) q₁ γ′ b′ o′ m (us .1 .0) long₁ 𝓤 H A W (named 1) (named 0) room-d ε (zs .0) (long₂ ∙ long₁)) $ await ! tt $ split ! $
         keep ! (0 ∷ 1 ∷ 2 ∷ 4 ∷ 5 ∷ 7 ∷ 9 ∷ 11 ∷ 12 ∷ 13 ∷ 14 ∷ 15 ∷ 16 ∷ 18 ∷ 19 ∷ 20 ∷ 21 ∷ 22 ∷ 23 ∷ 24 ∷ 25 ∷ 26 ∷ 27 ∷ 28 ∷ 29 ∷ 30 ∷ 31 ∷ 32 ∷ 33 ∷ 34 ∷ 35 ∷ 36 ∷ 37 ∷ 38 ∷ 39 ∷ 40 ∷ 41 ∷ 42 ∷ 43 ∷ 44 ∷ 45 ∷ 46 ∷ 47 ∷ 48 ∷ 49 ∷ 50 ∷ 51 ∷ 52 ∷ 53 ∷ 54 ∷ 55 ∷ 56 ∷ 57 ∷ 58 ∷ 59 ∷ 60 ∷ 61 ∷ 62 ∷ 63 ∷ 64 ∷ 65 ∷ 66 ∷ 67 ∷ 68 ∷ 69 ∷ 70 ∷ 71 ∷ []) $
         -- [what flat owns; κ₁; κ₅; κ₃; κ₂; the last faces; the last edges; what t owns; the head's cell; what h owns; its open borrow; obs; auth; what nodes owns; κ₀; the locals, the last first]
-        assigns ! (addr ! (from ! (fld ! refl (hop ! (look-in ! 61 (sub ! 0 refl (whole !))) (stop !))))) (from ! (stop !)) (init ! 21 refl (tt, tt)) $ assigns ! (agg ! (and-then ! (load ! (from ! (stop !)) (look ! 21 refl)) (and-then ! (load ! (from ! (fld ! refl (stop !))) (look-in ! 61 (sub ! 1 refl (whole !)))) (no-more !)))) (from ! (stop !)) (init ! 19 refl (tt, (tt, (record { fits = room-d .0 }, tt)))) $
-        assigns ! (addr ! (from ! (fld ! refl (hop ! (look-in ! 63 (sub ! 0 refl (whole !))) (stop !))))) (from ! (stop !)) (init ! 17 refl (tt, tt)) $ assigns ! (agg ! (and-then ! (load ! (from ! (stop !)) (look ! 17 refl)) (and-then ! (load ! (from ! (fld ! refl (stop !))) (look-in ! 63 (sub ! 1 refl (whole !)))) (no-more !)))) (from ! (stop !)) (init ! 15 refl (tt, (tt, (record { fits = room .0 }, tt)))) $
+        relends ! 61 21 19 (room-d .0) (refl, refl, refl) (refl, refl) (refl, refl, refl) $
+        relends ! 63 17 15 (room .0) (refl, refl, refl) (refl, refl) (refl, refl, refl) $
         -- the third call
         lft-new ! tt (λ ν.
         move ! (1 ∷ 2 ∷ []) $ use2 W (later (some (λ (δ : GName). ‵ (ShrSlice (named 0) (ν ∷ []) i64 .own (y δ (zs .0)) vy) ⊛ ‵ (LentShared i64 κ₁ (ν ∷ []) q₁ γ′ b′ o′ m (zs .0) (long₂ ∙ long₁))))) (lends-shared i64 κ₁ (ν ∷ []) q₁ γ′ b′ o′ m (zs .0) (long₂ ∙ long₁) 𝓤 H A W (named 1) (named 0) room-d) $ await ! tt $ pick ! (λ δ. split ! $

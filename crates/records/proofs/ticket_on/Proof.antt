@@ -55,7 +55,7 @@ use Rattle.map.proofs.Answer.Laws as B′
 use Rattle.ranges.specs.Ranges.{lent}
 use Rattle.records.specs.declared.Node.{Node}
 use Rattle.records.specs.Records.{nodeTable}
-use Rattle.records.proofs.Heads.{vals, slice-last, ref-last}
+use Rattle.records.proofs.Heads.{vals, slice-last, ref-last, relends}
 use Rattle.records.proofs.Refused.{crowded}
 use Rattle.records.proofs.Arrays.{zeros, numbers, typed-zeros, lies-in, lies-out, big-lit}
 use Rattle.records.proofs.Node as T
@@ -201,10 +201,10 @@ module _ {M : Type 1} (𝓤 : URA M) (H : Heap 𝓤) (A : Atoms 𝓤) (W : Given
     accepts : n ≤ 1000 → Sq W Before (runs C Λ En body.t-4 (atRet En Post))
     accepts few =
         assigns ! (rep ! 4000 (lit ! tt)) (from ! (stop !)) (init ! 32 refl (typed-zeros 𝓤 H A W 4000)) $
-        assigns ! (addr ! (from ! (fld ! refl (hop ! (look-in ! 42 (sub ! 0 refl (whole !))) (stop !))))) (from ! (stop !)) (init ! 26 refl (tt, tt)) $ assigns ! (agg ! (and-then ! (load ! (from ! (stop !)) (look ! 26 refl)) (and-then ! (load ! (from ! (fld ! refl (stop !))) (look-in ! 42 (sub ! 1 refl (whole !)))) (no-more !)))) (from ! (stop !)) (init ! 24 refl (tt, (tt, (record { fits = room .0 }, tt)))) $
+        relends ! 42 26 24 (room .0) (refl, refl, refl) (refl, refl) (refl, refl, refl) $
         assigns ! (addr ! (from ! (stop !))) (from ! (stop !)) (init ! 22 refl (tt, tt)) $ assigns ! (agg ! (and-then ! (load ! (from ! (stop !)) (look ! 22 refl)) (and-then ! (big-lit ! (record { fits = lit< tt })) (no-more !)))) (from ! (stop !)) (init ! 20 refl (tt, (tt, (record { fits = lit< tt }, tt)))) $
-        assigns ! (addr ! (from ! (fld ! refl (hop ! (look-in ! 40 (sub ! 0 refl (whole !))) (stop !))))) (from ! (stop !)) (init ! 18 refl (tt, tt)) $ assigns ! (agg ! (and-then ! (load ! (from ! (stop !)) (look ! 18 refl)) (and-then ! (load ! (from ! (fld ! refl (stop !))) (look-in ! 40 (sub ! 1 refl (whole !)))) (no-more !)))) (from ! (stop !)) (init ! 16 refl (tt, (tt, (record { fits = room-e .0 }, tt)))) $
-        assigns ! (addr ! (from ! (fld ! refl (hop ! (look-in ! 38 (sub ! 0 refl (whole !))) (stop !))))) (from ! (stop !)) (init ! 14 refl (tt, tt)) $ assigns ! (agg ! (and-then ! (load ! (from ! (stop !)) (look ! 14 refl)) (and-then ! (load ! (from ! (fld ! refl (stop !))) (look-in ! 38 (sub ! 1 refl (whole !)))) (no-more !)))) (from ! (stop !)) (init ! 12 refl (tt, (tt, (record { fits = room-s .0 }, tt)))) $
+        relends ! 40 18 16 (room-e .0) (refl, refl, refl) (refl, refl) (refl, refl, refl) $
+        relends ! 38 14 12 (room-s .0) (refl, refl, refl) (refl, refl) (refl, refl, refl) $
         assigns ! (addr ! (from ! (hop ! (look ! 36 refl) (stop !)))) (from ! (stop !)) (init ! 10 refl (tt, tt)) $
         -- the array is lent for a lifetime of the call
         lft-new ! tt (λ ν. move ! (33 ∷ []) $ use1 W (‵ (cells (mem i64) (zeros 4000) l₆ 0)) (lies-in 𝓤 H A W 4000 l₆) $ use1 W (later (some (λ (ε : GName). ‵ (MutSlice (named 1) (ν ∷ []) i64 .own (y l₆ ε) (sliceVal (l₆, 0) (length (zeros 4000)) ∷ [])) ⊛ ‵ (flent (ν ∷ []) (Held i64 (length (zeros 4000)) l₆ 0 ε))))) (lends-slice 𝓤 H A W i64 (named 1) (ν ∷ []) (zeros 4000) l₆ 0 room-zeros) $ await ! tt $ pick ! (λ ε. split ! $ rewrite ! 0 (λ (k : ℕ). ‵ (MutSlice (named 1) (ν ∷ []) i64 .own (y l₆ ε) (sliceVal (l₆, 0) k ∷ []))) long-zeros refl $
