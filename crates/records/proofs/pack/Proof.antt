@@ -53,7 +53,7 @@ use borrow.Author.Tests.{ltb-true, ltb-false}
 use Rattle.lists.proofs.Bools.{which}
 use Rattle.records.specs.declared.Node.{Node}
 use Rattle.records.specs.Records.{noNode, nodeCells, nodeTable}
-use Rattle.records.proofs.Heads.{vals, relends}
+use Rattle.records.proofs.Heads.{relends}
 use Rattle.records.proofs.Packing.{pack-turn}
 use Rattle.records.proofs.Again.{LentAgain, lends-again, comes-back}
 use Rattle.records.proofs.Node as T
