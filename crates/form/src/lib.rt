@@ -16,10 +16,10 @@ fn is_formed(nodes: &[i64], edges: &[i64], faces: &[i64], c: Counts, h: Head) ->
     if !ranges::numbers_fit(nodes, edges, faces, c, h) {
         return false;
     }
-    if !ranges::names_exist(nodes, edges, faces, c) {
+    if !names::names_exist(nodes, edges, faces, c) {
         return false;
     }
-    if !ranges::curves_fit(nodes, edges, c) {
+    if !names::curves_fit(nodes, edges, c) {
         return false;
     }
     if !departures::departures_formed(nodes, c.nodes, edges, c.edges) {

@@ -12,8 +12,8 @@ use Rattle.form.proofs.is_formed.Reads as reads
 use Rattle.form.proofs.is_formed.Lts as lts
 use Rattle.departures.proofs.departures_formed.Reads as departures-formed-reads
 use Rattle.departures.proofs.links_formed.Reads as links-formed-reads
-use Rattle.ranges.proofs.curves_fit.Reads as curves-fit-reads
-use Rattle.ranges.proofs.names_exist.Reads as names-exist-reads
+use Rattle.names.proofs.curves_fit.Reads as curves-fit-reads
+use Rattle.names.proofs.names_exist.Reads as names-exist-reads
 use Rattle.ranges.proofs.numbers_fit.Reads as numbers-fit-reads
 
 -- ---- what is known after each part

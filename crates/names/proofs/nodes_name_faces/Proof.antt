@@ -1,4 +1,4 @@
--- `ranges::nodes_name_faces` meets its contract: the faces of the nodes from row i on exist if and only if all do. Assumes nothing.
+-- `names::nodes_name_faces` meets its contract: the faces of the nodes from row i on exist if and only if all do. Assumes nothing.
 use Prim.Native.Nat.{ℕ, _-_, _≤_}
 use mathlib.Core.Path.{_≡_, sym, ap, _∙_}
 use mathlib.Core.List.{List}
@@ -14,10 +14,10 @@ use Rattle.map.specs.Rows.{nodeOf}
 use Rattle.map.specs.Form.{inFace}
 use Rattle.tables.specs.Tables.{nodesOf, nodeAt}
 use Rattle.tables.proofs.Rows.{nodes-table}
 use Rattle.ranges.specs.Ranges.{faceMap}
 use Rattle.ranges.proofs.Scans.{row-part, row-length}
-use Rattle.ranges.proofs.nodes_name_faces.Statement.{statement}
-use Rattle.ranges.proofs.nodes_name_faces.Tie as tie
+use Rattle.names.proofs.nodes_name_faces.Statement.{statement}
+use Rattle.names.proofs.nodes_name_faces.Tie as tie
 
 abbrev Inv-loop : tie.InvT-loop
 Inv-loop nodes n faces f i₀ i =

@@ -1,4 +1,4 @@
--- `ranges::edge_of` meets its contract. Assumes nothing.
+-- `names::edge_of` meets its contract. Assumes nothing.
 use borrow.Author.Needs.{sfits-of}
 use mathlib.Core.Path.{_≡_, sym, ap, subst, _∙_}
 use mathlib.Core.Bool.{true, false}
@@ -9,9 +9,9 @@ use lib.Signed.{ltZ}
 use mir.Syntax.{w64}
 use mir.Val.{toZ, ofZ, SFits}
 use mir.Facts.{toZ-ofZ}
-use Rattle.ranges.proofs.Names.{turned, edge-most, kept}
-use Rattle.ranges.proofs.edge_of.Statement.{statement}
-use Rattle.ranges.proofs.edge_of.Tie as tie
+use Rattle.names.proofs.Names.{turned, edge-most, kept}
+use Rattle.names.proofs.edge_of.Statement.{statement}
+use Rattle.names.proofs.edge_of.Tie as tie
 
 -- minus d, as it is read
 minus : (d : ℤ) → SFits w64 d → ltZ (toZ w64 (ofZ w64 d)) (pos 0) ≡ true → pos 0 -ℤ toZ w64 (ofZ w64 d) ≡ pos (natAbs d)

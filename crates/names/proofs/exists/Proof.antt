@@ -1,4 +1,4 @@
--- `ranges::exists` meets its contract: a row is found where its number stands in the column. Assumes nothing.
+-- `names::exists` meets its contract: a row is found where its number stands in the column. Assumes nothing.
 use borrow.Author.Needs.{needs}
 use mathlib.Core.Path.{sym, ap, _∙_}
 use lib.IntN.{ℤ}
@@ -7,9 +7,9 @@ use mir.Val.{toZ, ofZ}
 use mir.Facts.{toZ-ofZ}
 use Rattle.lists.specs.Scans.{any}
 use Rattle.tables.specs.Tables.{sameZ, column}
-use Rattle.ranges.proofs.Names.{column-at, column-missing}
-use Rattle.ranges.proofs.exists.Statement.{statement}
-use Rattle.ranges.proofs.exists.Tie as tie
+use Rattle.names.proofs.Names.{column-at, column-missing}
+use Rattle.names.proofs.exists.Statement.{statement}
+use Rattle.names.proofs.exists.Tie as tie
 
 returns : tie.Need-returns
 returns c =

@@ -1,4 +1,4 @@
--- `ranges::names_edge` meets its contract: a link below -999,999 names no edge. Assumes nothing.
+-- `names::names_edge` meets its contract: a link below -999,999 names no edge. Assumes nothing.
 use borrow.Author.Needs.{needs, sfits-of}
 use mathlib.Core.Path.{_≡_, sym, ap, subst, _∙_}
 use mathlib.Core.Bool.{true}
@@ -9,9 +9,9 @@ use mir.Syntax.{w64}
 use mir.Facts.{toZ-ofZ}
 use Rattle.lists.specs.Scans.{any}
 use Rattle.tables.specs.Tables.{sameZ, column}
-use Rattle.ranges.proofs.Names.{edge-more, edge-past, edge-named, edges-in-order-rise}
-use Rattle.ranges.proofs.names_edge.Statement.{statement}
-use Rattle.ranges.proofs.names_edge.Tie as tie
+use Rattle.names.proofs.Names.{edge-more, edge-past, edge-named, edges-in-order-rise}
+use Rattle.names.proofs.names_edge.Statement.{statement}
+use Rattle.names.proofs.names_edge.Tie as tie
 
 returns : tie.Need-returns
 returns c =

@@ -1,4 +1,4 @@
--- `ranges::edge_names` meets its contract. Assumes nothing.
+-- `names::edge_names` meets its contract. Assumes nothing.
 use borrow.Author.Needs.{needs}
 use mathlib.Core.Bool.{_&&_}
 use mathlib.Core.Path.{ap, ap₂, _∙_}
@@ -7,10 +7,10 @@ use lib.IntN.{pos}
 use lib.ListN.{getD}
 use Rattle.map.specs.Rows.{edgeOf, hasEdge}
 use Rattle.tables.specs.Tables.{edgeMap}
 use Rattle.ranges.proofs.Parts.{edge-signs}
-use Rattle.ranges.proofs.Names.{dart-edge}
-use Rattle.ranges.proofs.edge_names.Statement.{statement}
-use Rattle.ranges.proofs.edge_names.Tie as tie
+use Rattle.names.proofs.Names.{dart-edge}
+use Rattle.names.proofs.edge_names.Statement.{statement}
+use Rattle.names.proofs.edge_names.Tie as tie
 
 names-node-requires : tie.Need-names-node-requires
 names-node-requires c κs = (omega arith, edge-signs (c .args .row .now) (c .pre .1) .0, c .pre .2)

@@ -1,4 +1,4 @@
--- `ranges::node_names` meets its contract: a negative number is no face. Assumes nothing.
+-- `names::node_names` meets its contract: a negative number is no face. Assumes nothing.
 use borrow.Author.Needs.{needs, sfits-of}
 use mathlib.Core.Path.{_≡_, subst, _∙_}
 use mathlib.Core.Bool.{true, false}
@@ -9,10 +9,10 @@ use lib.Signed.{ltZ}
 use mir.Syntax.{w64}
 use mir.Facts.{toZ-ofZ}
 use Rattle.map.specs.Rows.{nodeOf}
 use Rattle.ranges.specs.Ranges.{faceMap}
-use Rattle.ranges.proofs.Names.{no-face, not-negative, a-face}
-use Rattle.ranges.proofs.node_names.Statement.{statement}
-use Rattle.ranges.proofs.node_names.Tie as tie
+use Rattle.names.proofs.Names.{no-face, not-negative, a-face}
+use Rattle.names.proofs.node_names.Statement.{statement}
+use Rattle.names.proofs.node_names.Tie as tie
 
 returns : tie.Need-returns
 unfolding nodeOf

@@ -1,4 +1,4 @@
--- `ranges::curve_fits` meets its contract. Assumes nothing.
+-- `names::curve_fits` meets its contract. Assumes nothing.
 use borrow.Author.Needs.{needs}
 use mathlib.Core.Bool.{_&&_}
 use mathlib.Core.Path.{_≡_, ap, ap₂, _∙_}
@@ -15,9 +15,9 @@ use Rattle.curves.proofs.Runs.{two-points}
 use Rattle.map.specs.Rows.{node}
 use Rattle.tables.specs.Tables.{nodeMap}
 use Rattle.tables.proofs.Rows.{edge-cells}
-use Rattle.ranges.proofs.Names.{curve-first, curve-last}
-use Rattle.ranges.proofs.curve_fits.Statement.{statement}
-use Rattle.ranges.proofs.curve_fits.Tie as tie
+use Rattle.names.proofs.Names.{curve-first, curve-last}
+use Rattle.names.proofs.curve_fits.Statement.{statement}
+use Rattle.names.proofs.curve_fits.Tie as tie
 
 point-at-requires : tie.Need-point-at-requires
 point-at-requires c κs = let r = c .before .curve-of .ensures .0 in (r, omega (arith, two-points r))

@@ -1,4 +1,4 @@
--- `ranges::names_node` meets its contract. Assumes nothing.
+-- `names::names_node` meets its contract. Assumes nothing.
 use borrow.Author.Needs.{needs, sfits-of}
 use mathlib.Core.Path.{sym, ap, _∙_}
 use lib.IntN.{ℤ, pos, natAbs}
@@ -9,9 +9,9 @@ use mir.Facts.{toZ-ofZ}
 use Rattle.lists.specs.Scans.{any}
 use Rattle.tables.specs.Tables.{sameZ, column}
 use Rattle.tables.proofs.Rows.{node-rows-rising}
-use Rattle.ranges.proofs.Names.{node-named}
-use Rattle.ranges.proofs.names_node.Statement.{statement}
-use Rattle.ranges.proofs.names_node.Tie as tie
+use Rattle.names.proofs.Names.{node-named}
+use Rattle.names.proofs.names_node.Statement.{statement}
+use Rattle.names.proofs.names_node.Tie as tie
 
 exists-requires : tie.Need-exists-requires
 exists-requires c κs = node-rows-rising (c .before .pre .2)

@@ -1,4 +1,4 @@
--- `ranges::point_of` meets its contract: what is found is a row in range. Assumes nothing.
+-- `names::point_of` meets its contract: what is found is a row in range. Assumes nothing.
 use borrow.Author.Needs.{needs}
 use mathlib.Core.Path.{_≡_, sym, ap, ap₂, _∙_}
 use mathlib.Core.List.{List}
@@ -11,9 +11,9 @@ use Rattle.lists.specs.declared.Found.{Found}
 use Rattle.tables.specs.Tables.{sameZ, column}
 use Rattle.tables.proofs.Cells.{row-room}
 use Rattle.tables.proofs.Rows.{node-rows-rising}
-use Rattle.ranges.proofs.Names.{found-node, missing-node}
-use Rattle.ranges.proofs.point_of.Statement.{statement}
-use Rattle.ranges.proofs.point_of.Tie as tie
+use Rattle.names.proofs.Names.{found-node, missing-node}
+use Rattle.names.proofs.point_of.Statement.{statement}
+use Rattle.names.proofs.point_of.Tie as tie
 
 -- the answer at the number itself
 answer : (w : ℕ) (l : List ℤ) (n : ℕ) {z x : ℤ} {r f : Found} → r ≡ place (sameZ x) 0 (column w l n) → x ≡ z → r ≡ f → place (sameZ z) 0 (column w l n) ≡ f

@@ -1,4 +1,4 @@
--- `ranges::at_node` meets its contract. Assumes nothing.
+-- `names::at_node` meets its contract. Assumes nothing.
 use borrow.Author.Needs.{needs, sfits-of}
 use mathlib.Core.Path.{ap, _∙_}
 use lib.IntN.{ℤ, pos, natAbs}
@@ -8,8 +8,8 @@ use mir.Facts.{toZ-ofZ}
 use Rattle.plane.specs.Points.{samePoint}
 use Rattle.map.specs.Rows.{node}
 use Rattle.tables.specs.Tables.{nodeMap}
-use Rattle.ranges.proofs.at_node.Statement.{statement}
-use Rattle.ranges.proofs.at_node.Tie as tie
+use Rattle.names.proofs.at_node.Statement.{statement}
+use Rattle.names.proofs.at_node.Tie as tie
 
 returns : tie.Need-returns
 returns c =

@@ -1,4 +1,4 @@
--- `ranges::curves_fit` meets its contract: the curves from row i on fit if and only if all do. Assumes nothing.
+-- `names::curves_fit` meets its contract: the curves from row i on fit if and only if all do. Assumes nothing.
 use Prim.Native.Nat.{ℕ, _-_, _≤_}
 use mathlib.Core.Path.{_≡_, sym, ap, _∙_}
 use native.Mathlib.Nat.{sub-zero}
@@ -10,8 +10,8 @@ use Rattle.lists.proofs.Scans.{all-hit, all-miss, all-end}
 use Rattle.map.specs.Form.{curveFits}
 use Rattle.tables.specs.Tables.{edgesOf, edgeAt, nodeMap}
 use Rattle.tables.proofs.Rows.{edges-table, edge-row-of}
-use Rattle.ranges.proofs.curves_fit.Statement.{statement}
-use Rattle.ranges.proofs.curves_fit.Tie as tie
+use Rattle.names.proofs.curves_fit.Statement.{statement}
+use Rattle.names.proofs.curves_fit.Tie as tie
 
 abbrev Inv-loop : tie.InvT-loop
 Inv-loop nodes edges c i₀ i-end i =

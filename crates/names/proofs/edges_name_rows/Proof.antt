@@ -1,4 +1,4 @@
--- `ranges::edges_name_rows` meets its contract: the rows that the edges from row i on name exist if and only if all do. Assumes nothing.
+-- `names::edges_name_rows` meets its contract: the rows that the edges from row i on name exist if and only if all do. Assumes nothing.
 use Prim.Native.Nat.{ℕ, _-_, _≤_}
 use mathlib.Core.Path.{_≡_, sym, ap, _∙_}
 use mathlib.Core.List.{List}
@@ -15,10 +15,10 @@ use Rattle.map.specs.Rows.{edgeOf}
 use Rattle.map.specs.Form.{edgeNames, edgeRanges}
 use Rattle.tables.specs.Tables.{edgesOf, edgeAt}
 use Rattle.tables.proofs.Rows.{edges-table, rows-all}
 use Rattle.ranges.specs.Ranges.{mapIn}
 use Rattle.ranges.proofs.Scans.{row-part, row-length}
-use Rattle.ranges.proofs.edges_name_rows.Statement.{statement}
-use Rattle.ranges.proofs.edges_name_rows.Tie as tie
+use Rattle.names.proofs.edges_name_rows.Statement.{statement}
+use Rattle.names.proofs.edges_name_rows.Tie as tie
 
 abbrev Inv-loop : tie.InvT-loop
 Inv-loop nodes edges faces c i₀ i-end i =

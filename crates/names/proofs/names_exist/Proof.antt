@@ -1,4 +1,4 @@
--- `ranges::names_exist` meets its contract. Assumes nothing.
+-- `names::names_exist` meets its contract. Assumes nothing.
 use borrow.Author.Tests.{not-true, not-false}
 use mathlib.Core.Path.{_≡_, refl, sym, _∙_}
 use mathlib.Core.Bool.{Bool, true, false}
@@ -12,11 +12,11 @@ use Rattle.map.specs.Rows.{Map}
 use Rattle.map.specs.Form.{inFace, edgeNames, named}
 use Rattle.tables.specs.declared.Counts.{Counts}
 use Rattle.tables.specs.Tables.{nodesOf}
 use Rattle.ranges.specs.Ranges.{mapIn, faceMap}
 use Rattle.ranges.proofs.Columns.{all-same}
 use Rattle.ranges.proofs.Parts.{node-rows, edges-in-order, face-rows}
-use Rattle.ranges.proofs.names_exist.Statement.{statement}
-use Rattle.ranges.proofs.names_exist.Tie as tie
+use Rattle.names.proofs.names_exist.Statement.{statement}
+use Rattle.names.proofs.names_exist.Tie as tie
 
 -- faces are looked up among the faces
 module _ (nodes edges faces : List ℤ) (c : Counts) (h : Head) where

@@ -1,0 +1,2 @@
+-- `Names`: named rows, and what is read of them.
+pub mod Names
