@@ -2,7 +2,7 @@
 //!
 //! A sheet is a grid of plots with wells (isolated nodes), islands (isolated edges), boundaries across some plots and ditches split at a sluice.
 //! Each ticket is timed alone on a fresh copy of the sheet's tables, at many places of the sheet, once as it is carried out and once as it is
-//! turned down: the least of some calls at each place, then the median over the places. The bare pass adds up every number of the rows in use. Prints a table, and writes a plot to the path given.
+//! turned down: the least of some calls at each place, then the median over the places. The bare pass adds up every number of the rows in use; beside it the time of one that compares each with a bound. Prints a table, and writes a plot to the path given.
 
 use std::hint::black_box;
 use std::time::Instant;
@@ -45,6 +45,12 @@ fn bare_pass(s: &Sheet) -> i64 {
     sum(&s.nodes, s.head[0] * 4)
         .wrapping_add(sum(&s.edges, s.head[1] * 32))
         .wrapping_add(sum(&s.faces, s.head[2]))
+}
+
+/// The same rows, each number compared with a bound: what a check costs that finds nothing. It may stop at each number, so it is not made into vector instructions.
+fn tested_pass(s: &Sheet) -> bool {
+    let tested = |t: &[i64], n: i64| t[..n as usize].iter().all(|&z| z >= -1_000_000);
+    tested(&s.nodes, s.head[0] * 4) && tested(&s.edges, s.head[1] * 32) && tested(&s.faces, s.head[2])
 }
 
 /// What stands in one plot of the grid.
@@ -179,18 +185,22 @@ struct Times {
     edges: i64,
     rows: [i64; 3],
     pass: f64,
+    tested: f64,
     carried: [f64; KINDS],
     refused: [f64; KINDS],
 }
 
 fn measure(sheet: &Sheet, plots: &[Plot]) -> Times {
-    let pass = median((0..200).map(|_| least(|| micros(|| { black_box(bare_pass(black_box(sheet))); }))).collect());
+    // the passes are timed among the tickets: the machine's clock changes within a run
+    let (mut passes, mut tests) = (vec![], vec![]);
     let (mut carried, mut refused) = ([0.0; KINDS], [0.0; KINDS]);
     for kind in 1..=KINDS {
         let pairs: Vec<_> = plots.iter().filter_map(|p| tickets(kind, p)).collect();
         assert!(!pairs.is_empty(), "kind {kind} has no place");
         let (mut yes, mut no) = (vec![], vec![]);
         for i in 0..PLACES {
+            passes.push(least(|| micros(|| { black_box(bare_pass(black_box(sheet))); })));
+            tests.push(least(|| micros(|| { black_box(tested_pass(black_box(sheet))); })));
             let (good, bad) = &pairs[(i * 13) % pairs.len()];
             for (numbers, times, carried_out) in [(good, &mut yes, true), (bad, &mut no, false)] {
                 times.push(least(|| {
@@ -205,7 +215,7 @@ fn measure(sheet: &Sheet, plots: &[Plot]) -> Times {
         carried[kind - 1] = median(yes);
         refused[kind - 1] = median(no);
     }
-    Times { edges: sheet.head[1], rows: [sheet.head[0], sheet.head[1], sheet.head[2]], pass, carried, refused }
+    Times { edges: sheet.head[1], rows: [sheet.head[0], sheet.head[1], sheet.head[2]], pass: median(passes), tested: median(tests), carried, refused }
 }
 
 fn mean(v: &[f64]) -> f64 {
@@ -219,6 +229,8 @@ fn report(title: &str, all: &[Times]) {
     println!();
     print!("{:>24}", "bare pass, us");
     for t in all { print!("{:>20.2}", t.pass); }
+    print!("\n{:>24}", "pass that tests, us");
+    for t in all { print!("{:>20.2}", t.tested); }
     println!("\n{:>24}   carried out / turned down, us", "kind");
     for kind in 0..KINDS {
         print!("{:>24}", kind + 1);

@@ -11,7 +11,7 @@ use Rattle.lists.specs.Tests.{same}
 use Rattle.lists.specs.Scans.{all, any}
 use Rattle.lists.specs.Tables.{place}
 use Rattle.lists.specs.declared.Found.the-variants.{At}
-use Rattle.geometry.proofs.Booleans.{and-is}
+use Rattle.lists.proofs.Bools.{and-is}
 use Rattle.curves.specs.Curves.{curveOf, startWay}
 use Rattle.map.specs.declared.Head.{Head}
 use Rattle.map.specs.Limits.{maxNodes, maxEdges, nodeWidth, edgeWidth}

@@ -1,6 +1,6 @@
 -- What tables in form hold: rows in range and in rising order, counts and next numbers, each table as its map's rows with zeros behind.
 -- What a call on them answers: turned down by the first reason, or the map carried out. Assumes nothing.
-use mathlib.Core.Path.{_≡_, refl, ap}
+use mathlib.Core.Path.{_≡_, refl, ap, _∙_}
 use mathlib.Core.Bool.{true, false, _&&_, _||_}
 use mathlib.Core.List.{List, map, flatMap}
 use Prim.Native.Nat.{ℕ, zero, suc, _+_, _*_, _/_, _≤_, _<_}
@@ -234,6 +234,10 @@ unfolding lentOf
 lent-is s m a b c d = λ i. record { nodes = a i; edges = b i; faces = c i; head = d i }
 
 -- ---- what a call answers
+
+-- the answer, with head and number as they were passed
+pub done : {h g : Head} {v u : ℤ} {d : Done} → g ≡ h → u ≡ v → d ≡ record { head = g; answer = record { refusal = 0; value = u } } → d ≡ record { head = h; answer = record { refusal = 0; value = v } }
+done eg eu e = e ∙ (λ i. record { head = eg i; answer = record { refusal = 0; value = eu i } })
 
 module _ (nodes edges faces : List ℤ) (h : Head) (t : Ticket) where
   -- turned down by the first reason r: the head as it was, and value 0

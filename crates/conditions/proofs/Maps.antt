@@ -6,9 +6,8 @@ use Prim.Native.Nat.{ℕ}
 use lib.IntN.{ℤ}
 use Rattle.plane.specs.declared.Point.{Point}
 use Rattle.curves.specs.Curves.{Curve}
-use Rattle.map.specs.Rows.{Node, Edge, Map, findNode, findEdge, node, edge}
-use Rattle.map.specs.Faces.{faceOfPoint, floors}
-use Rattle.map.specs.Reasons.{edgeThrough, nodeInside, meetingReasons, curveReasons}
+use Rattle.map.specs.Rows.{Node, Edge, Map, findNode, node}
+use Rattle.map.specs.Reasons.{nodeInside, meetingReasons, curveReasons}
 use Rattle.conditions.specs.Sent.{sentReasons}
 
 -- a row that is found is the row
@@ -16,20 +15,8 @@ pub node-is : (m : Map) (k : ℕ) (r : Node) → findNode m k ≡ some r → nod
 unfolding node
 node-is m k r e = rw e
 
-pub edge-is : (m : Map) (k : ℕ) (r : Edge) → findEdge m k ≡ some r → edge m k ≡ r
-unfolding edge
-edge-is m k r e = rw e
-
 -- maps with the same edges, or the same nodes
 module _ (m m′ : Map) where
-  pub through-alike : (p : Point) → m .edges ≡ m′ .edges → edgeThrough m p ≡ edgeThrough m′ p
-  unfolding edgeThrough
-  through-alike p e = rw e
-
-  pub face-alike : (p : Point) → m .edges ≡ m′ .edges → faceOfPoint m p ≡ faceOfPoint m′ p
-  unfolding faceOfPoint floors
-  face-alike p e = rw e
-
   pub inside-alike : (c : Curve) → m .nodes ≡ m′ .nodes → nodeInside m c ≡ nodeInside m′ c
   unfolding nodeInside
   inside-alike c e = rw e

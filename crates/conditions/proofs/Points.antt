@@ -22,10 +22,8 @@ use Rattle.curves.proofs.Runs.{and-left, and-right, two-points, curve-is, last-
 use Rattle.curves.proofs.Turns.{on}
 use Rattle.map.specs.Limits.{nodeWidth}
 use Rattle.map.specs.Rows.{cell, nodeOf}
-use Rattle.map.specs.Form.{nodeRanges}
-use Rattle.tables.specs.Tables.{NodeRow, NodeRows, nodeAt, rowAt}
-use Rattle.tables.proofs.Cells.{row-room}
-use Rattle.tables.proofs.Rows.{row-cell, rows-all}
+use Rattle.tables.specs.Tables.{NodeRow, nodeAt, rowAt}
+use Rattle.tables.proofs.Rows.{row-cell}
 
 -- ---- coordinates
 
@@ -51,10 +49,6 @@ module _ {l : List ℤ} {i : ℕ} (row : NodeRow l i) where
   pub node-point-is : point (getD l (i * 4 + 1) (pos 0)) (getD l (i * 4 + 2) (pos 0)) ≡ nodeAt l i .at
   unfolding nodeOf
   node-point-is = rw (row-cell nodeWidth l i 1 (lit< tt), row-cell nodeWidth l i 2 (lit< tt))
-
-pub node-row-of : {l : List ℤ} {n : ℕ} → NodeRows l n → (i : ℕ) → i < n → NodeRow l i
-node-row-of {l} {n} r i t =
-    record { fits = let k = row-room nodeWidth n i t in let f = r .fits in omega arith; ranges = rows-all nodeWidth l nodeRanges n (r .ranges) i t }
 
 -- ---- places on a curve
 

@@ -153,9 +153,13 @@ fn edge_wrong(edges: &[i64], count: usize, own: usize, c: &[i64]) -> bool
     requires { ⌜ EdgeRows (now edges) count × Run (now c) ⌝ }
     ensures { λ r. ⌜ r ≡ edgeWrong (edgesBut (now (edges .entry)) count own) (curveOf (now (c .entry))) ⌝ }
 {
+    let e = extents::extent_of(c);
     for i in 0..count {
-        if (i != own) & curves::curves_wrong(c, tables::curve_of(edges, i)) {
-            return true;
+        let d = tables::curve_of(edges, i);
+        if !extents::lie_apart(e, extents::extent_of(d)) {
+            if (i != own) & curves::curves_wrong(c, d) {
+                return true;
+            }
         }
     }
     false

@@ -19,16 +19,9 @@ use borrow.Author.Tests.{leb-true, ltb-true, ltb-false, le-leb, lt-leb, le-ltb}
 use Rattle.lists.specs.Scans.{all}
 use Rattle.lists.specs.Tables.{table}
 use Rattle.lists.proofs.Bools.{&&-false}
+pub use Rattle.lists.proofs.Bools.{and-left, and-right}
 use Rattle.plane.specs.Points.{maxCoordinate, InRange}
 use Rattle.curves.specs.Curves.{Run, isRun, maxPoints, coordinate, pointAt, pointsFrom, pointsOf, curveOf, lastOf, through}
-
-pub and-left : (a b : Bool) → a && b ≡ true → a ≡ true
-and-left true b e = refl
-and-left false b e = e
-
-pub and-right : (a b : Bool) → a && b ≡ true → b ≡ true
-and-right true b e = e
-and-right false b e = absurd (false≢true e)
 
 -- ---- tables
 
@@ -55,6 +48,9 @@ coordinate-pos (negsuc n) e = absurd (false≢true e)
 pub coordinate-le : (z : ℤ) → coordinate z ≡ true → natAbs z ≤ maxCoordinate
 coordinate-le (pos n) e = leb-true n maxCoordinate (and-right (leZ (pos 0) (pos n)) (leb n maxCoordinate) e)
 coordinate-le (negsuc n) e = absurd (false≢true e)
+
+pub coordinate-of : (n : ℕ) → n ≤ maxCoordinate → coordinate (pos n) ≡ true
+coordinate-of n h = rw (le-leb 0 n (omega arith), le-leb n maxCoordinate h)
 
 coordinate-fits : (z : ℤ) → coordinate z ≡ true → SFits w64 z
 coordinate-fits (pos n) e = sfits-of (lt-of-le-of-lt (coordinate-le (pos n) e) (lit< tt))
@@ -87,9 +83,6 @@ module _ {l : List ℤ} (run : Run l) where
   cells = and-right (leb 2 (length l / 2) && leb (length l / 2) maxPoints) _ (run .is)
 
   -- each number of a run is a coordinate
-  pub cell-pos : (i : ℕ) → getD l i (pos 0) ≡ pos (natAbs (getD l i (pos 0)))
-  cell-pos i = coordinate-pos (getD l i (pos 0)) (all-getD coordinate l i (pos 0) refl cells)
-
   pub cell-le : (i : ℕ) → natAbs (getD l i (pos 0)) ≤ maxCoordinate
   cell-le i = coordinate-le (getD l i (pos 0)) (all-getD coordinate l i (pos 0) refl cells)
 

@@ -7,15 +7,14 @@ use Prim.Native.Nat.{ℕ, zero, suc, _+_, _-_, _≤_, _<_}
 use native.Mathlib.Nat.{add-zero}
 use native.Mathlib.Omega.{arith}
 use Rattle.lists.specs.Tables.{table, place}
-use Rattle.lists.specs.Tests.{same}
 use Rattle.lists.specs.declared.Found.the-variants.{At, Missing}
-use Rattle.lists.proofs.Bools.{which, same-true}
+use Rattle.lists.proofs.Bools.{which}
 use Rattle.plane.specs.declared.Point.{Point}
 use Rattle.plane.specs.Points.{samePoint}
 use Rattle.plane.specs.Segments.{onSegment}
+use Rattle.plane.proofs.Laws.{samePoint-true}
 use Rattle.curves.specs.Curves.{lastOf, segmentsOf}
 use Rattle.curves.specs.Edits.{Halves, cut, cutHere, join, joinHere, dropped, turned}
-use Rattle.curves.proofs.Runs.{and-left, and-right}
 use Rattle.curves.proofs.Turns.{on}
 
 -- one row more
@@ -37,13 +36,6 @@ points-more f from i ps {p} h e =
 
 pub points-none : (f : ℕ → Point) (from : ℕ) (ps : List Point) → ps ++ table f from (from - from) ≡ ps
 points-none f from ps = let e : from - from ≡ 0 = omega arith in rw e (append-nil ps)
-
-pub same-point-is : (p q : Point) → samePoint p q ≡ true → p ≡ q
-unfolding samePoint
-same-point-is p q e =
-    let ex = same-true (p .x) (q .x) (and-left (same (p .x) (q .x)) (same (p .y) (q .y)) e) in
-    let ey = same-true (p .y) (q .y) (and-right (same (p .x) (q .x)) (same (p .y) (q .y)) e) in
-    λ i. record { x = ex i; y = ey i }
 
 module _ (f : ℕ → Point) where
   -- ---- reversed
@@ -80,7 +72,7 @@ module _ (f : ℕ → Point) where
       pub back-in : samePoint m (f (j + 1)) ≡ false → cut m (f i) (table f (i + 1) k) .back ≡ table f (j + 1) (i + k - j)
 
     at-vertex : (t : Bool) (b : Point) (r : List Point) (h : Halves) → samePoint m b ≡ t → cutHere true t m b r h .front ≡ m ∷ []
-    at-vertex true b r h e = ap (λ q. q ∷ []) (sym (same-point-is m b e))
+    at-vertex true b r h e = ap (λ q. q ∷ []) (sym (samePoint-true m b e))
     at-vertex false b r h e = refl
 
     pub cut-found : (k i j : ℕ) → place (on m) i (segmentsOf (f i) (table f (i + 1) k)) ≡ At j → Found-at i k j

@@ -3,7 +3,7 @@ use lists::Found;
 use plane::Point;
 ghost use mathlib.Core.Path.{_≡_};
 ghost use mathlib.Core.List.{List, [], _∷_, _++_};
-ghost use Prim.Native.Nat.{ℕ, _+_, _*_, _-_, _≤_, _<_, _/_};
+ghost use Prim.Native.Nat.{_+_, _*_, _-_, _≤_, _<_, _/_};
 ghost use lib.ListN.{length};
 ghost use Rattle.lists.specs.Tables.{table};
 ghost use Rattle.plane.specs.Points.{InRange};

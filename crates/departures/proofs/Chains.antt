@@ -1,16 +1,16 @@
--- Departures by position: a chain meets the earlier departures of one node, and so the conditions on departures are tests of positions. Assumes nothing.
-use mathlib.Core.Path.{_≡_, refl, sym, _∙_}
-use mathlib.Core.Bool.{Bool, true, false, _&&_, _||_, false≢true}
+-- A chain meets the earlier positions of its slot, and a departure that joins it lengthens it by one. Assumes nothing.
+use mathlib.Core.Path.{_≡_, refl, sym, ap, _∙_}
+use mathlib.Core.Bool.{Bool, true, false, _&&_, false≢true}
 use mathlib.Core.Logic.{inl, inr}
 use mathlib.Core.List.{List}
 use Prim.Native.Nat.{ℕ, zero, suc, _+_, _-_, _<_, _≤_}
 use native.Mathlib.Numerals.{add-one}
 use native.Mathlib.Omega.{arith}
-use lib.IntN.{ℤ}
-use Rattle.lists.proofs.Bools.{which, equal?}
-use Rattle.plane.specs.Directions.{sameWay}
-use Rattle.links.specs.Positions.{sideCell, wayAt}
-use Rattle.departures.specs.Chains.{latest, someBelow, fromNode, alike}
+use lib.ListN.{length, getD, set}
+use lib.Seq.{getD-set-same, getD-set-other}
+use Rattle.lists.specs.Tests.{same}
+use Rattle.lists.proofs.Bools.{which, equal?, &&-false, same-true, same-eq, same-false}
+use Rattle.departures.specs.Chains.{latest, someBelow, Leads, Chained}
 
 -- ---- the latest that is taken
 
@@ -19,45 +19,45 @@ module _ (p : ℕ → Bool) where
   latest-le zero = omega arith
   latest-le (suc k) = let later = latest-le k in elim (which (p k)) [ inl e ↦ rw e (omega arith) | inr e ↦ rw e (omega arith) ]
 
-  pub latest-on : (k : ℕ) → p k ≡ true → latest p (k + 1) ≡ k + 1
+  latest-on : (k : ℕ) → p k ≡ true → latest p (k + 1) ≡ k + 1
   latest-on k e = rw (add-one k, e)
 
-  pub latest-off : (k : ℕ) → p k ≡ false → latest p (k + 1) ≡ latest p k
+  latest-off : (k : ℕ) → p k ≡ false → latest p (k + 1) ≡ latest p k
   latest-off k e = rw (add-one k, e)
 
-  -- none is taken exactly where it is 0
-  pub latest-none : (k : ℕ) → latest p k ≡ 0 → (i : ℕ) → i < k → p i ≡ false
-  latest-none zero e i h = absurd (omega arith)
-  latest-none (suc k) e i h =
-      let later = latest-none k in
-      elim (which (p k)) [
-        | inl f ↦ let z : suc k ≡ 0 = rw f at e in absurd (omega arith)
-        | inr f ↦ elim (equal? i k) [ inl g ↦ rw g f | inr g ↦ later (rw f at e) i (omega arith) ]
-      ]
+  -- the latest below it is itself
+  pub latest-again : (k : ℕ) → latest p (latest p k) ≡ latest p k
+  latest-again zero = refl
+  latest-again (suc k) = let later = latest-again k in elim (which (p k)) [ inl e ↦ rw (e, e) | inr e ↦ rw e later ]
 
-  pub latest-zero : (k : ℕ) → ((i : ℕ) → i < k → p i ≡ false) → latest p k ≡ 0
-  latest-zero zero h = refl
-  latest-zero (suc k) h = rw (h k (omega arith)) (latest-zero k (λ i l. h i (omega arith)))
+  -- and it is taken
+  pub latest-taken : (c : ℕ) → (c ≡ 0 → ⊥) → c ≡ latest p c → p (c - 1) ≡ true
+  latest-taken zero some e = absurd (some refl)
+  latest-taken (suc k) some e =
+      let le = latest-le k in
+      let last : suc k - 1 ≡ k = omega arith in
+      rw last (elim (which (p k)) [ inl f ↦ f | inr f ↦ let g : suc k ≡ latest p k = rw f at e in absurd (omega arith) ])
 
-  -- the last link of a chain: it is taken, and what q takes besides lies before it
-  pub latest-is : (q : ℕ → Bool) (k c : ℕ) → latest p k ≡ suc c → (c < k) × (p c ≡ true) × (someBelow (λ i. p i && q i) k ≡ (q c || someBelow (λ i. p i && q i) c))
-  latest-is q zero c e = absurd (omega arith)
-  latest-is q (suc k) c e =
-      let later = latest-is q k c in
-      elim (which (p k)) [
-        | inl f ↦
-            let g : suc k ≡ suc c = rw f at e in
-            let h : k ≡ c = omega arith in
-            (omega arith, rw (← h) f, rw (f, h))
-        | inr f ↦ let r = later (rw f at e) in let h = r .0 in (omega arith, r .1, rw f (r .2))
-      ]
+  -- what q takes besides lies below it
+  pub below-latest : (q : ℕ → Bool) (k : ℕ) → someBelow (λ i. p i && q i) (latest p k) ≡ someBelow (λ i. p i && q i) k
+  below-latest q zero = refl
+  below-latest q (suc k) = let later = below-latest q k in elim (which (p k)) [ inl e ↦ rw (e, e) | inr e ↦ rw e later ]
 
-  -- the chain's end: none is left
-  pub latest-end : (q : ℕ → Bool) (k : ℕ) → latest p k ≡ 0 → someBelow (λ i. p i && q i) k ≡ false
-  latest-end q zero e = refl
-  latest-end q (suc k) e =
-      let later = latest-end q k in
-      elim (which (p k)) [ inl f ↦ let z : suc k ≡ 0 = rw f at e in absurd (omega arith) | inr f ↦ rw f (later (rw f at e)) ]
+-- a chain walked: link c is met, or what is before it is left
+module _ (f q : ℕ → Bool) where
+  pub chain-met : (c : ℕ) → (c ≡ 0 → ⊥) → c ≡ latest f c → q (c - 1) ≡ true → someBelow (λ i. f i && q i) c ≡ true
+  chain-met zero some e met = absurd (some refl)
+  chain-met (suc k) some e met =
+      let last : suc k - 1 ≡ k = omega arith in
+      let taken = latest-taken f (suc k) some e in
+      rw (rw last at taken, rw last at met)
+
+  pub chain-on : (c : ℕ) → (c ≡ 0 → ⊥) → q (c - 1) ≡ false → (b : ℕ) → b ≡ latest f (c - 1) → someBelow (λ i. f i && q i) b ≡ someBelow (λ i. f i && q i) c
+  chain-on zero some other b e = absurd (some refl)
+  chain-on (suc k) some other b e =
+      let last : suc k - 1 ≡ k = omega arith in
+      let missed : f k && q k ≡ false = ap (λ (x : Bool). f k && x) (rw last at other) ∙ &&-false (f k) in
+      rw (missed, e, last) (below-latest f q k)
 
 pub below-some : (p : ℕ → Bool) (k : ℕ) → someBelow p k ≡ true → (i : ℕ) × (i < k) × (p i ≡ true)
 below-some p zero e = absurd (false≢true e)
@@ -74,37 +74,38 @@ below-none p (suc k) e i h =
       | inr f ↦ elim (equal? i k) [ inl g ↦ rw g f | inr g ↦ later (rw f at e) i (omega arith) ]
     ]
 
--- ---- a chain walked
+-- ---- the chains
 
--- the chain from link c on meets the positions below some k, and none above it is alike
-pub record Chain (l : List ℤ) (p c : ℕ) : Type 0 where
-  pub k : ℕ
-  pub le : k ≤ p
-  pub is : c ≡ latest (fromNode l (sideCell l p 1)) k
-  pub rest : someBelow (alike l p) p ≡ someBelow (alike l p) k
+module _ {f : ℕ → ℕ} {p : ℕ} {last back : List ℕ} (w : Chained f p last back) where
+  pub chained-leads : Leads p last back
+  chained-leads =
+      record {
+        lasts = λ j. rw (w .lasts j) (latest-le (λ q. same (f q) j) p);
+        backs = λ q h. rw (w .backs q h) (latest-le (λ r. same (f r) (f q)) q);
+      }
 
--- what is known of a link
-pub record Link (l : List ℤ) (p c : ℕ) : Type 0 where
-  pub below : c - 1 < p
-  pub taken : fromNode l (sideCell l p 1) (c - 1) ≡ true
-  pub rest : someBelow (alike l p) p ≡ (sameWay (wayAt l (c - 1)) (wayAt l p) || someBelow (alike l p) (c - 1))
+  -- the links of the slot of p
+  pub last-is : {j : ℕ} → f p ≡ j → getD last j 0 ≡ latest (λ q. same (f q) (f p)) p
+  last-is {j} e = w .lasts j ∙ ap (λ (x : ℕ). latest (λ q. same (f q) x) p) (sym e)
 
-module _ {l : List ℤ} {p c : ℕ} where
-  pub chain-link : Chain l p c → 0 < c → Link l p c
-  chain-link w h =
-      let e : latest (fromNode l (sideCell l p 1)) (w .k) ≡ suc (c - 1) = sym (w .is) ∙ more in
-      let r = latest-is (fromNode l (sideCell l p 1)) (λ q. sameWay (wayAt l q) (wayAt l p)) (w .k) (c - 1) e in
-      let s = r .0 in
-      record { below = omega (arith, w .le); taken = r .1; rest = w .rest ∙ r .2 }
-    where
-      more : c ≡ suc (c - 1)
-      more = omega arith
+  pub back-is : (q : ℕ) → q < p → same (f q) (f p) ≡ true → getD back q 0 ≡ latest (λ r. same (f r) (f p)) q
+  back-is q h e = w .backs q h ∙ ap (λ (x : ℕ). latest (λ r. same (f r) x) q) (same-true (f q) (f p) e)
 
-  pub chain-met : Link l p c → sameWay (wayAt l (c - 1)) (wayAt l p) ≡ true → someBelow (alike l p) p ≡ true
-  chain-met w e = w .rest ∙ rw e
+  -- p joins its chain
+  pub chained-on : {j : ℕ} → f p ≡ j → j < length last → (links : List ℕ) → getD links p 0 ≡ getD last j 0 → ((q : ℕ) → (q ≡ p → ⊥) → getD links q 0 ≡ getD back q 0) → Chained f (p + 1) (set last j (p + 1)) links
+  chained-on {j} e room links here others =
+      record {
+        lasts = λ i. elim (equal? i j) [
+          | inl g ↦ ap (λ (x : ℕ). getD (set last j (p + 1)) x 0) g ∙ getD-set-same last j (p + 1) 0 room ∙ sym (latest-on (λ q. same (f q) i) p (same-eq (f p) i (e ∙ sym g)))
+          | inr g ↦ getD-set-other last j i (p + 1) 0 g ∙ w .lasts i ∙ sym (latest-off (λ q. same (f q) i) p (same-false (f p) i (λ d. g (sym d ∙ e))))
+        ];
+        backs = λ q h. elim (equal? q p) [
+          | inl g ↦ ap (λ (x : ℕ). getD links x 0) g ∙ here ∙ last-is e ∙ ap (λ (x : ℕ). latest (λ r. same (f r) (f x)) x) (sym g)
+          | inr g ↦ others q g ∙ w .backs q (omega arith)
+        ];
+        clear = λ q h. others q (λ g. omega arith) ∙ w .clear q (omega arith);
+      }
 
-  pub chain-on : Link l p c → sameWay (wayAt l (c - 1)) (wayAt l p) ≡ false → (b : ℕ) → b ≡ latest (fromNode l (sideCell l p 1)) (c - 1) → Chain l p b
-  chain-on w e b f = record { k = c - 1; le = omega (arith, w .below); is = f; rest = w .rest ∙ rw e }
-
-  pub chain-end : Chain l p c → c ≡ 0 → someBelow (alike l p) p ≡ false
-  chain-end w e = w .rest ∙ latest-end (fromNode l (sideCell l p 1)) (λ q. sameWay (wayAt l q) (wayAt l p)) (w .k) (sym (w .is) ∙ e)
+-- no position is passed
+pub none-chained : (f : ℕ → ℕ) {last back : List ℕ} → ((i : ℕ) → getD last i 0 ≡ 0) → ((i : ℕ) → getD back i 0 ≡ 0) → Chained f 0 last back
+none-chained f clear none = record { lasts = clear; backs = λ q h. absurd (omega arith); clear = λ q h. none q }

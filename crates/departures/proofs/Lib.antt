@@ -1,5 +1,7 @@
--- `Words`: cells compared. `Links`: what the links name. `Chains`: the earlier departures of one node. `Departures`: the conditions on them.
+-- `Words`: cells compared. `Named`: the rows that are named. `Links`: what the links name. `Chains`: the earlier departures of one slot.
+-- `Departures`: the conditions on them.
 pub mod Words
+pub mod Named
 pub mod Links
 pub mod Chains
 pub mod Departures

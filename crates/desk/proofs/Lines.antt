@@ -12,7 +12,7 @@ use Rattle.lists.proofs.Bools.{same-eq, same-false}
 use Rattle.map.specs.Rows.{Lent}
 use Rattle.text.specs.declared.Parsed.{Parsed}
 use Rattle.text.specs.Parsed.{ParsedAs}
-use Rattle.desk.specs.Lines.{countOf, lineAnswered, deskOf, served}
+use Rattle.desk.specs.Lines.{countOf, lineAnswered, deskOf, keptBytes, served}
 
 -- the numbers stand at the front of the list
 pub parsed-numbers : (o : Option (List ℤ)) (before : List ℤ) (r : Parsed) (after : List ℤ) → ParsedAs o before r after
@@ -21,7 +21,7 @@ parsed-numbers (some zs) before r after (e, f) = rw (e, f) (simp length-append (
 parsed-numbers none before r after (e, f) = rw e (omega arith, refl)
 
 -- one byte more, after n bytes of a line that has not ended
-module _ (l : Lent) (buffer : List ℕ) (n b : ℕ) (size : length buffer ≡ 1001) (h : n ≤ 1001) where
+module _ (l : Lent) (buffer : List ℕ) (n b : ℕ) (size : length buffer ≡ keptBytes) (h : n ≤ keptBytes) where
   count : length (take n buffer) ≡ n
   count = length-take-le n buffer (omega arith)
 
@@ -29,13 +29,13 @@ module _ (l : Lent) (buffer : List ℕ) (n b : ℕ) (size : length buffer ≡ 10
   unfolding served
   line-ended after e q = rw (same-eq b 10 e, q)
 
-  pub line-longer : (b ≡ 10 → ⊥) → n < 1001 → deskOf l (set buffer n b) (n + 1) ≡ served (deskOf l buffer n) b
+  pub line-longer : (b ≡ 10 → ⊥) → n < keptBytes → deskOf l (set buffer n b) (n + 1) ≡ served (deskOf l buffer n) b
   unfolding served
   line-longer e g =
       let more = take-suc-set buffer n b (omega arith) in
-      let all = take-all 1001 (take n buffer ++ b ∷ []) (simp (length-append, count) (omega arith)) in
+      let all = take-all keptBytes (take n buffer ++ b ∷ []) (simp (length-append, count) (omega arith)) in
       rw (same-false b 10 e, add-one n, more, all)
 
-  pub line-full : (b ≡ 10 → ⊥) → 1001 ≤ n → deskOf l buffer n ≡ served (deskOf l buffer n) b
+  pub line-full : (b ≡ 10 → ⊥) → keptBytes ≤ n → deskOf l buffer n ≡ served (deskOf l buffer n) b
   unfolding served
-  line-full e g = rw (same-false b 10 e, take-at (take n buffer) (b ∷ []) 1001 (omega (arith, count)))
+  line-full e g = rw (same-false b 10 e, take-at (take n buffer) (b ∷ []) keptBytes (omega (arith, count)))

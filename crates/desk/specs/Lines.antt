@@ -2,7 +2,7 @@
 use mathlib.Core.Bool.{cond}
 use mathlib.Core.List.{List, [], _∷_, _++_}
 use mathlib.Core.Option.{Option·getD}
-use Prim.Native.Nat.{ℕ}
+use Prim.Native.Nat.{ℕ, suc}
 use lib.IntN.{ℤ}
 use lib.ListN.{take}
 use Rattle.lists.specs.Tests.{same}
@@ -10,7 +10,7 @@ use Rattle.map.specs.Rows.{Lent}
 use Rattle.map.specs.Ticket.{Outcome, ticket}
 use Rattle.text.specs.declared.Parsed.{Parsed}
 use Rattle.text.specs.declared.Parsed.the-variants.{Numbers, Wrong}
-use Rattle.text.specs.Lines.{lineNumbers}
+use Rattle.text.specs.Lines.{maxLine, lineNumbers}
 
 -- how many numbers a line was parsed to
 abbrev pub countOf : Parsed → ℕ
@@ -33,6 +33,10 @@ pub record Desk : Type 0 where
 abbrev pub deskOf : Lent → List ℕ → ℕ → Desk
 deskOf l buffer n = record { lent = l; line = take n buffer }
 
--- one byte more; a line of more than 1,000 bytes is wrong whatever follows, so no more than 1,001 are kept
+-- a line that is too long is wrong whatever follows: no more of it is kept than tells so
+abbrev pub keptBytes : ℕ
+keptBytes = suc maxLine
+
+-- one byte more
 unfoldable pub served : Desk → ℕ → Desk
-served d b = cond (same b 10) (record { lent = lineAnswered (d .lent) (d .line) .lent; line = [] }) (record { lent = d .lent; line = take 1001 (d .line ++ b ∷ []) })
+served d b = cond (same b 10) (record { lent = lineAnswered (d .lent) (d .line) .lent; line = [] }) (record { lent = d .lent; line = take keptBytes (d .line ++ b ∷ []) })

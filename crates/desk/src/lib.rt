@@ -9,7 +9,10 @@ ghost use Rattle.io.specs.Counts.{Counts};
 ghost use Rattle.lists.specs.Scans.{fold};
 ghost use Rattle.ranges.specs.Ranges.{lent};
 ghost use Rattle.answers.specs.Outcomes.{outcome};
-ghost use Rattle.desk.specs.Lines.{countOf, lineAnswered, deskOf, served};
+ghost use Rattle.desk.specs.Lines.{countOf, lineAnswered, deskOf, keptBytes, served};
+
+// The bytes of a line that are kept: one more than a line may have.
+const KEPT: usize = text::LINE + 1;
 
 // After some bytes of the input: the head after the lines that ended, and the length of the line that did not.
 pub struct State {
@@ -139,8 +142,8 @@ fn serve_byte(
     b: u8,
     rows: bool,
 ) -> State
-    requires { ⌜ (length (now line) ≡ 1001) × (state .length ≤ 1001) ⌝ }
-    ensures { λ r. ⌜ (deskOf (lent (now (nodes .exit)) (now (edges .exit)) (now (faces .exit)) (r .head)) (now (line .exit)) (r .length) ≡ served (deskOf (lent (now (nodes .entry)) (now (edges .entry)) (now (faces .entry)) (state .head)) (now (line .entry)) (state .length)) b) × (r .length ≤ 1001) ⌝ }
+    requires { ⌜ (length (now line) ≡ keptBytes) × (state .length ≤ keptBytes) ⌝ }
+    ensures { λ r. ⌜ (deskOf (lent (now (nodes .exit)) (now (edges .exit)) (now (faces .exit)) (r .head)) (now (line .exit)) (r .length) ≡ served (deskOf (lent (now (nodes .entry)) (now (edges .entry)) (now (faces .entry)) (state .head)) (now (line .entry)) (state .length)) b) × (r .length ≤ keptBytes) ⌝ }
 {
     let n = state.length;
     let head = state.head;
@@ -151,7 +154,7 @@ fn serve_byte(
             length: 0,
         };
     }
-    if n < 1001 {
+    if n < KEPT {
         line[n] = b;
         return State {
             head,
@@ -171,8 +174,8 @@ fn serve_bytes(
     bytes: &[u8],
     rows: bool,
 ) -> State
-    requires { ⌜ (length (now line) ≡ 1001) × (state .length ≤ 1001) ⌝ }
-    ensures { λ r. ⌜ (deskOf (lent (now (nodes .exit)) (now (edges .exit)) (now (faces .exit)) (r .head)) (now (line .exit)) (r .length) ≡ fold served (deskOf (lent (now (nodes .entry)) (now (edges .entry)) (now (faces .entry)) (state .head)) (now (line .entry)) (state .length)) (now (bytes .entry))) × (r .length ≤ 1001) ⌝ }
+    requires { ⌜ (length (now line) ≡ keptBytes) × (state .length ≤ keptBytes) ⌝ }
+    ensures { λ r. ⌜ (deskOf (lent (now (nodes .exit)) (now (edges .exit)) (now (faces .exit)) (r .head)) (now (line .exit)) (r .length) ≡ fold served (deskOf (lent (now (nodes .entry)) (now (edges .entry)) (now (faces .entry)) (state .head)) (now (line .entry)) (state .length)) (now (bytes .entry))) × (r .length ≤ keptBytes) ⌝ }
 {
     let mut at = state;
     for i in 0..bytes.len() {
@@ -197,8 +200,8 @@ fn serve_input(
     line: &mut [u8],
     rows: bool,
 ) -> State
-    requires { ⌜ length (now line) ≡ 1001 ⌝ }
-    ensures { λ r. ⌜ r .length ≤ 1001 ⌝ }
+    requires { ⌜ length (now line) ≡ keptBytes ⌝ }
+    ensures { λ r. ⌜ r .length ≤ keptBytes ⌝ }
 {
     let mut buf = [0u8; 4096];
     let mut state = State { head: h, length: 0 };
@@ -230,7 +233,7 @@ pub fn serve(rows: bool) {
     let mut nodes = [0i64; 800];
     let mut edges = [0i64; 6400];
     let mut faces = [0i64; 200];
-    let mut line = [0u8; 1001];
+    let mut line = [0u8; KEPT];
     let empty = engine::empty_map(&mut nodes, &mut edges, &mut faces, no_map());
     let start = empty.head;
     let state = serve_input(&mut nodes, &mut edges, &mut faces, start, &mut line, rows);

@@ -2,13 +2,13 @@
 use plane::Point;
 use plane::Turn;
 ghost use mathlib.Core.Path.{_≡_};
-ghost use mathlib.Core.Bool.{Bool, true, false};
-ghost use Prim.Native.Nat.{ℕ, _+_, _*_, _≤_, _<_};
+ghost use mathlib.Core.Bool.{true, false};
+ghost use Prim.Native.Nat.{_+_, _*_, _≤_, _<_};
 ghost use lib.IntN.{pos, _-ℤ_};
 ghost use Rattle.integers.specs.Order.{sgn};
 ghost use Rattle.plane.specs.Points.{InRange};
 ghost use Rattle.plane.specs.Areas.{turn, isLeft};
-ghost use Rattle.plane.specs.Directions.{wayTo, class, signPlace, cross, before, sameWay};
+ghost use Rattle.plane.specs.Directions.{wayTo, signPlace, signs, class, cross, before, sameWay};
 ghost use Rattle.plane.specs.Below.{isBelow, passesBelow, higher};
 
 // The eight direction classes by the signs of dx and dy, below, at and above 0; 8 where there is no direction.
@@ -25,6 +25,15 @@ fn sign_of(from: u64, to: u64) -> usize
         return 2;
     }
     1
+}
+
+// The place of the signs of the direction from p to q among the nine.
+pub fn signs_of(p: Point, q: Point) -> usize
+    ensures { λ r. ⌜ (r ≡ signs (wayTo p q)) × (r < 9) ⌝ }
+{
+    let i = sign_of(p.x, q.x);
+    let j = sign_of(p.y, q.y);
+    i * 3 + j
 }
 
 // The class of the direction from p to q.

@@ -17,10 +17,9 @@ use Rattle.map.specs.Limits.{nodeWidth}
 use Rattle.map.specs.Rows.{Node, Edge, Map, node}
 use Rattle.map.specs.Reasons.{Reasons, firstReason, curveReasons, meetingReasons, directionTaken, cornersDiffer}
 use Rattle.tables.specs.Tables.{sameZ, column, nodeAt, nodesOf, nodeMap, edgeMap, NodeRows, EdgeRows}
-use Rattle.tables.proofs.Rows.{node-cells, node-rows-rising}
+use Rattle.tables.proofs.Rows.{node-cells, node-rows-rising, node-row-of}
 use Rattle.tables.proofs.Lookups.{node-found, row-place}
 use Rattle.conditions.specs.Sent.{sentReasons, edgesBut}
-use Rattle.conditions.proofs.Points.{node-row-of}
 use Rattle.conditions.proofs.Reasons.{first-hit, first-miss, first-zero, first-append, first-after}
 use Rattle.conditions.proofs.Maps.{meeting-alike, sent-is}
 use Rattle.conditions.proofs.Others.{edges-all}

@@ -3,26 +3,25 @@ use mathlib.Core.Path.{_≡_, refl, sym, ap, _∙_}
 use mathlib.Core.Bool.{Bool, true, false}
 use mathlib.Core.List.{List, [], _∷_}
 use mathlib.Core.Option.{some}
-use Prim.Native.Nat.{ℕ, suc, _+_, _<_}
+use Prim.Native.Nat.{ℕ, _<_}
 use native.Mathlib.Omega.{arith}
-use lib.Dec.{ltb}
 use lib.IntN.{ℤ, pos, negsuc, natAbs}
 use lib.Signed.{nonNeg}
 use Rattle.lists.specs.Tests.{bit}
 use Rattle.lists.specs.Tables.{place}
 use Rattle.lists.specs.declared.Found.the-variants.{At, Missing}
 use Rattle.map.specs.declared.Head.{Head}
-use Rattle.map.specs.Limits.{edgeWidth, lastNumber}
-use Rattle.map.specs.Rows.{Edge, Map, Sizes, mapOf, sizesOf, edge, findEdge}
+use Rattle.map.specs.Limits.{edgeWidth}
+use Rattle.map.specs.Rows.{Map, Sizes, mapOf, sizesOf, findEdge}
 use Rattle.map.specs.Edits.{makesFace, healsFaces}
-use Rattle.map.specs.Reasons.{firstReason, reasons, noEdge, spent}
+use Rattle.map.specs.Reasons.{firstReason, reasons, noEdge}
 use Rattle.tables.specs.Tables.{sameZ, column, edgeAt}
 use Rattle.tables.proofs.Lookups.{edge-found, edge-missing}
 use Rattle.ranges.specs.Ranges.{lent}
 use Rattle.answers.specs.Outcomes.{Formed}
 use Rattle.answers.proofs.Formed.{ranges, spent-is, node-left, edge-left, face-left}
 use Rattle.conditions.proofs.Reasons.{first-hit, first-miss, first-none}
-use Rattle.conditions.proofs.Maps.{edge-is}
+use Rattle.map.proofs.Laws.{edge-is}
 use Rattle.edge_reasons.specs.declared.Removal.{Removal}
 use Rattle.edge_reasons.specs.Kinds.{removeTicket}
 use Rattle.edge_reasons.specs.Parts.{makesOf, faceReasons}

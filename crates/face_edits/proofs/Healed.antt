@@ -1,7 +1,6 @@
 -- After two faces are healed: the edge can be undrawn as `removeEdge` does it, and the tables are rows in range of the healed map. Assumes nothing.
 use mathlib.Core.Path.{_≡_, refl, sym, ap, _∙_}
 use mathlib.Core.Bool.{Bool, cond, _&&_}
-use mathlib.Core.Logic.{inl, inr}
 use mathlib.Core.List.{List, [], _∷_, _++_, map, flatMap}
 use mathlib.Core.Option.{Option, none, some}
 use Prim.Native.Nat.{ℕ, suc, _-_, _<_}
@@ -9,7 +8,6 @@ use lib.IntN.{ℤ, pos, natAbs}
 use lib.ListN.{length, drop, replicate, getD}
 use Rattle.lists.specs.Tests.{same, bit}
 use Rattle.lists.specs.Scans.{all, find, isSome, firstOr, keep}
-use Rattle.lists.proofs.Bools.{which}
 use Rattle.lists.proofs.Scans.{getD-table}
 use Rattle.map.specs.declared.Head.{Head}
 use Rattle.map.specs.Limits.{edgeWidth, lastNumber}
@@ -18,6 +16,7 @@ use Rattle.map.specs.Darts.{leaves, next, departures}
 use Rattle.map.specs.Links.{redirect, unlinkEdge}
 use Rattle.map.specs.Form.{edgeRanges, numbered}
 use Rattle.map.specs.Edits.{withSides, undrawn, renamed, renamedNode, renamedFaces, makesFace, faceLeft, removeEdge}
+use Rattle.map.proofs.Scans.{has-map}
 use Rattle.tables.specs.Tables.{NodeRows, EdgeRows, nodesOf, edgesOf, facesOf, edgeMap, edgeAt}
 use Rattle.tables.proofs.Rows.{nodes-length, edges-length, edge-numbers}
 use Rattle.tables.proofs.Writes.{Wide, rows-flat, table-edges-wide, wide-map}
@@ -64,10 +63,6 @@ module _ (u v : Edge → ℕ) where
   numbers-map [] = refl
   numbers-map (x ∷ xs) = ap (λ (r : List ℕ). x .number ∷ r) (numbers-map xs)
 
-  find-some : (k : ℕ) (xs : List Edge) → isSome (find (λ r. same (r .number) k) (map sided xs)) ≡ isSome (find (λ r. same (r .number) k) xs)
-  find-some k [] = refl
-  find-some k (x ∷ xs) = let later = find-some k xs in elim (which (same (x .number) k)) [ inl e ↦ rw e | inr e ↦ rw e later ]
-
   named-map : (p q : ℕ → Bool) → ((k : ℕ) → p k ≡ q k) → (xs : List Edge) → all (λ e. p (e .nextLeft .edge) && p (e .nextRight .edge)) (map sided xs) ≡ all (λ e. q (e .nextLeft .edge) && q (e .nextRight .edge)) xs
   named-map p q h [] = refl
   named-map p q h (x ∷ xs) = λ i. h (x .nextLeft .edge) i && h (x .nextRight .edge) i && named-map p q h xs i
@@ -104,7 +99,7 @@ module _ (u v : Edge → ℕ) where
     numbers-after = ap (map (λ (r : Edge). r .number)) edges-after ∙ numbers-map (edgesOf l n)
 
     has-after : (k : ℕ) → hasEdge (edgeMap l′ n) k ≡ hasEdge (edgeMap l n) k
-    has-after k = ap (λ (xs : List Edge). isSome (find (λ r. same (r .number) k) xs)) edges-after ∙ find-some k (edgesOf l n)
+    has-after k = ap (λ (xs : List Edge). isSome (find (λ r. same (r .number) k) xs)) edges-after ∙ has-map (λ (r : Edge). r .number) sided (edgesOf l n) k (λ r i. refl)
 
     pub edge-rows-after : EdgeRows l′ n
     edge-rows-after =

@@ -25,7 +25,9 @@ use Rattle.map.specs.Darts.{next, bears, course, ring, among, lowestEdge}
 use Rattle.map.specs.Faces.{encloses}
 use Rattle.map.specs.Form.{nodeRanges, numbered}
 use Rattle.map.specs.Edits.{Shares, sideOfPoint, sideOfRing, sideOfDart, sideOfNode, withFace, withSides, sharedOut}
-use Rattle.map.proofs.RoundTrip.{face-back}
+use Rattle.map.proofs.RoundTrip.{node-back}
+use Rattle.map.proofs.Scans.{has-map}
+use Rattle.grown.proofs.EdgesSplit.{side-number}
 use Rattle.tables.specs.Tables.{NodeRows, sameZ, nodeAt, edgeAt, nodesOf, edgesOf, nodeMap}
 use Rattle.tables.proofs.Rows.{nodes-table, edges-table, nodes-length, map-table, edge-row}
 use Rattle.tables.proofs.RowCurves.{edge-few}
@@ -107,15 +109,7 @@ node-step K S old eo p rest a x e = go (x .face) refl
     go none eq = ap (λ (b : Bool). cond b (set t (a * nodeWidth + 3) v) t) (test none eq)
     go (some f) eq = ap (λ (b : Bool). cond b (set t (a * nodeWidth + 3) v) t) (test (some f) eq ∙ same-pos f (S .old)) ∙ pick (same f (S .old))
 
--- number and point are kept
-side-number : (K : Map) (S : Shares) (x : Node) (q : Option ℕ) → sideOfNode K S x q .number ≡ x .number
-side-number K S x none = refl
-side-number K S x (some f) = go (same f (S .old))
-  where
-    go : (b : Bool) → cond b (withFace (some (sideOfPoint K S (x .at))) x) x .number ≡ x .number
-    go true = refl
-    go false = refl
-
+-- the point is kept
 side-at : (K : Map) (S : Shares) (x : Node) (q : Option ℕ) → sideOfNode K S x q .at ≡ x .at
 side-at K S x none = refl
 side-at K S x (some f) = go (same f (S .old))
@@ -129,10 +123,6 @@ unfolding nodeCells
 node-wide x = refl
 
 -- ---- nodes of which the faces alone are changed
-
-node-back : (x : Node) → nodeOf (nodeCells x) ≡ x
-unfolding nodeOf nodeCells
-node-back x = λ i. record { number = x .number; at = x .at; face = face-back (x .face) i }
 
 nodes-back : (xs : List Node) → map nodeOf (map nodeCells xs) ≡ xs
 nodes-back [] = refl
@@ -171,10 +161,6 @@ module _ (F : Node → Node) (number : (x : Node) → F x .number ≡ x .number)
   find-at k [] = refl
   find-at k (x ∷ xs) = let later = find-at k xs in elim (which (same (x .number) k)) [ inl e ↦ rw (number x, e) (at x) | inr e ↦ rw (number x, e) later ]
 
-  find-some : (k : ℕ) (xs : List Node) → isSome (find (λ r. same (r .number) k) (map F xs)) ≡ isSome (find (λ r. same (r .number) k) xs)
-  find-some k [] = refl
-  find-some k (x ∷ xs) = let later = find-some k xs in elim (which (same (x .number) k)) [ inl e ↦ rw (number x, e) | inr e ↦ rw (number x, e) later ]
-
   module _ {l l′ : List ℤ} {n : ℕ} (rows-are : NodeRows l n) (cells : filled (length l) (flatMap nodeCells (nodesOf l n)) ≡ l) (after : filled (length l) (flatMap nodeCells (map F (nodesOf l n))) ≡ l′) where
     rows-before : rows nodeWidth n l ≡ map nodeCells (nodesOf l n)
     rows-before =
@@ -203,7 +189,7 @@ module _ (F : Node → Node) (number : (x : Node) → F x .number ≡ x .number)
         }
 
     pub has-after : (k : ℕ) → hasNode (nodeMap l′ n) k ≡ hasNode (nodeMap l n) k
-    has-after k = ap (λ (xs : List Node). isSome (find (λ r. same (r .number) k) xs)) nodes-after ∙ find-some k (nodesOf l n)
+    has-after k = ap (λ (xs : List Node). isSome (find (λ r. same (r .number) k) xs)) nodes-after ∙ has-map (λ (r : Node). r .number) F (nodesOf l n) k (λ r i. number r)
 
     pub at-after : (k : ℕ) → Option·getD (find (λ r. same (r .number) k) (nodesOf l′ n)) spare .at ≡ Option·getD (find (λ r. same (r .number) k) (nodesOf l n)) spare .at
     at-after k = ap (λ (xs : List Node). Option·getD (find (λ r. same (r .number) k) xs) spare .at) nodes-after ∙ find-at k (nodesOf l n)

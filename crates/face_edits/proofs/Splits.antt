@@ -11,7 +11,7 @@ use lib.Signed.{nonNeg}
 use Rattle.integers.specs.Order.{sgn}
 use Rattle.lists.specs.Tests.{same}
 use Rattle.lists.specs.Scans.{any, keep}
-use Rattle.lists.proofs.Bools.{≡→T}
+use Rattle.lists.proofs.Bools.{≡→T, cond-has}
 use Rattle.lists.proofs.Counts.{bit-most}
 use Rattle.plane.specs.Areas.{isPositive}
 use Rattle.planar.specs.Map.{Dart, fwd, bwd}
@@ -29,7 +29,6 @@ use Rattle.sharing.specs.declared.Sides.{Sides}
 use Rattle.sharing.specs.Sharing.{Shared}
 use Rattle.answers.proofs.Words.{is-natural}
 use Rattle.face_edits.specs.Holds.{facesIn, FaceTable, withoutFace, Splittable, Holds, sharesIn, sidesOf, splitFaces, splitHead}
-use Rattle.face_edits.proofs.Words.{natural-either}
 use Rattle.face_edits.proofs.FaceRows.{table-distinct, without-length}
 use Rattle.face_edits.proofs.Shares.{ring-any}
 
@@ -154,7 +153,8 @@ module _ {nodes edges faces : List ℤ} {h : Head} {old : ℤ} (p : Splittable n
       let k = p .held in
       let o = is-natural old (p .borne ∙ ap (λ (z : ℤ). pos (natAbs z)) (sym (p .borne))) in
       let a = is-natural (h .«next_face») (k .next-face) in
-      let b = natural-either goes (pos (natAbs (h .«next_face») + 1)) old refl o in
+      let natural : ℤ → Type 0 = λ z. nonNeg z ≡ true in
+      let b = cond-has natural goes {x = pos (natAbs (h .«next_face») + 1)} refl o in
       let first = isLeft || not goes in
       record {
         nodes = k .node-rows;
@@ -162,7 +162,7 @@ module _ {nodes edges faces : List ℤ} {h : Head} {old : ℤ} (p : Splittable n
         few = k .few-edges;
         ring = let j = p .drawn in let t = bit-most (not isLeft) in omega arith;
         old = ≡→T (nonNeg old) o;
-        inside = ≡→T (nonNeg (cond first (h .«next_face») (cond goes (pos (natAbs (h .«next_face») + 1)) old))) (natural-either first (h .«next_face») (cond goes (pos (natAbs (h .«next_face») + 1)) old) a b);
-        other = ≡→T (nonNeg (cond first (cond goes (pos (natAbs (h .«next_face») + 1)) old) (h .«next_face»))) (natural-either first (cond goes (pos (natAbs (h .«next_face») + 1)) old) (h .«next_face») b a);
+        inside = ≡→T (nonNeg (cond first (h .«next_face») (cond goes (pos (natAbs (h .«next_face») + 1)) old))) (cond-has natural first a b);
+        other = ≡→T (nonNeg (cond first (cond goes (pos (natAbs (h .«next_face») + 1)) old) (h .«next_face»))) (cond-has natural first b a);
         ends = p .ends;
       }

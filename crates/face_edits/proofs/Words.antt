@@ -7,13 +7,13 @@ use native.Mathlib.Nat.{min-comm, min-eq-left}
 use native.Mathlib.Omega.{arith}
 use lib.Dec.{ltb}
 use lib.IntN.{ℤ, pos, negsuc, natAbs}
-use lib.Signed.{ltZ, nonNeg}
+use lib.Signed.{ltZ}
 use mir.Syntax.{w64}
 use mir.Val.{ofZ, toZ, SFits}
 use mir.Facts.{toZ-ofZ}
 use borrow.Author.Tests.{ltb-true, ltb-false, lt-ltb}
 use Rattle.integers.specs.Order.{sgn}
-use Rattle.lists.proofs.Bools.{which}
+use Rattle.lists.proofs.Bools.{which, cond-has}
 use Rattle.plane.specs.Areas.{isPositive}
 use Rattle.answers.proofs.Words.{small-read}
 
@@ -22,21 +22,9 @@ pub picked : (b : Bool) (x y : ℕ) {r : ℤ} → r ≡ cond b (pos x) (pos y) �
 picked true x y e hx hy = small-read x e hx
 picked false x y e hx hy = small-read y e hy
 
-pub cond-most : (b : Bool) (x y n : ℕ) → x ≤ n → y ≤ n → cond b x y ≤ n
-cond-most true x y n hx hy = hx
-cond-most false x y n hx hy = hy
-
 -- one of two numbers as it was passed
-pub fits-either : (b : Bool) {x y : ℤ} → SFits w64 x → SFits w64 y → SFits w64 (cond b x y)
-fits-either true f g = f
-fits-either false f g = g
-
 pub either : (b : Bool) {x y r : ℤ} → SFits w64 x → SFits w64 y → r ≡ cond b x y → toZ w64 (ofZ w64 r) ≡ cond b x y
-either b f g e = ap (λ (z : ℤ). toZ w64 (ofZ w64 z)) e ∙ toZ-ofZ {w = w64} (fits-either b f g)
-
-pub natural-either : (b : Bool) (x y : ℤ) → nonNeg x ≡ true → nonNeg y ≡ true → nonNeg (cond b x y) ≡ true
-natural-either true x y h k = h
-natural-either false x y h k = k
+either b f g e = ap (λ (z : ℤ). toZ w64 (ofZ w64 z)) e ∙ toZ-ofZ {w = w64} (cond-has (SFits w64) b f g)
 
 -- the lower of two
 pub lower-is : (a b : ℕ) → cond (ltZ (pos a) (pos b)) (pos a) (pos b) ≡ pos (min a b)

@@ -2,10 +2,11 @@
 use mathlib.Core.Path.{_≡_, refl, sym, ap, _∙_}
 use mathlib.Core.Bool.{Bool, cond}
 use mathlib.Core.Logic.{inl, inr}
-use mathlib.Core.List.{List, [], _∷_, _++_, map, flatMap}
+use mathlib.Core.List.{List, [], _∷_, map, flatMap}
 use mathlib.Core.Option.{Option, none, some}
 use Prim.Native.Nat.{ℕ}
 use Rattle.lists.specs.Scans.{keep, fold}
+use Rattle.lists.proofs.Appends.{fold-append}
 use Rattle.lists.proofs.Bools.{which}
 use Rattle.plane.specs.declared.Point.{Point}
 use Rattle.plane.specs.Below.{passesBelow, higher}
@@ -15,14 +16,10 @@ use Rattle.map.specs.Faces.{Floor, floorOf, floors, highest, faceAbove, faceOfP
 use Rattle.floors.specs.Highest.{over, rowed}
 
 module _ {A S : Type 0} (g : S → A → S) where
-  fold-append : (s : S) (l r : List A) → fold g s (l ++ r) ≡ fold g (fold g s l) r
-  fold-append s [] r = refl
-  fold-append s (a ∷ l) r = fold-append (g s a) l r
-
   fold-flat : {B : Type 0} (f : B → List A) (s : S) (l : List B) → fold g s (flatMap f l) ≡ fold (λ t b. fold g t (f b)) s l
   unfolding flatMap
   fold-flat f s [] = refl
-  fold-flat f s (b ∷ l) = fold-append s (f b) (flatMap f l) ∙ fold-flat f (fold g s (f b)) l
+  fold-flat f s (b ∷ l) = fold-append g s (f b) (flatMap f l) ∙ fold-flat f (fold g s (f b)) l
 
   -- a fold over the images of the elements that are kept
   fold-kept : {B : Type 0} (f : B → A) (k : B → Bool) (s : S) (l : List B) → fold g s (map f (keep k l)) ≡ fold (λ t b. cond (k b) (g t (f b)) t) s l

@@ -1,6 +1,6 @@
 -- Condition 2 by its parts: each is read from the rows that it needs, and the first that does not hold decides. Assumes nothing.
 use mathlib.Core.Path.{_≡_, refl, sym, ap, ap₂, _∙_}
-use mathlib.Core.Bool.{Bool, true, false, _&&_}
+use mathlib.Core.Bool.{Bool, true, false, _&&_, and-assoc}
 use mathlib.Core.List.{List}
 use Prim.Native.Nat.{ℕ, _/_, _≤_}
 use native.Mathlib.Omega.{arith}
@@ -11,15 +11,14 @@ use lib.Signed.{nonNeg}
 use Rattle.lists.specs.Scans.{all}
 use Rattle.curves.proofs.Runs.{and-left, and-right}
 use Rattle.map.specs.declared.Head.{Head}
-use Rattle.map.specs.Rows.{whole, sizesOf, edge, hasNode, hasEdge, hasFace}
+use Rattle.map.specs.Rows.{whole, sizesOf, edge}
 use Rattle.map.specs.Darts.{leaves, next, bears, course, way, departures}
-use Rattle.map.specs.Form.{countsFit, nextsFit, edgeNames, inFace, curveFits, numbers, named, departuresDiffer, bareMarked, linksOnce, linksMeet, ringsBearOne, formed, inForm}
+use Rattle.map.specs.Form.{countsFit, nextsFit, curveFits, numbers, named, departuresDiffer, bareMarked, linksOnce, linksMeet, ringsBearOne, formed, inForm}
 use Rattle.map.specs.Limits.{maxNodes, maxEdges, maxFaces, nodeWidth, edgeWidth, faceWidth}
 use Rattle.map.proofs.RoundTrip.{whole-rows, whole-tables}
 use Rattle.tables.specs.declared.Counts.{Counts}
-use Rattle.tables.specs.Tables.{nodesOf, edgesOf, nodeMap, edgeMap}
+use Rattle.tables.specs.Tables.{edgesOf, nodeMap, edgeMap}
 use Rattle.ranges.specs.Ranges.{lent, countsOf, mapIn, rangedRows, Named}
-use Rattle.ranges.proofs.Columns.{all-weaker}
 use Rattle.ranges.proofs.Parts.{ranged-is, map-is, curves-are, counted, counts-natural}
 use Rattle.departures.specs.Drawn.{drawnMap}
 
@@ -100,17 +99,6 @@ module _ (nodes edges faces : List ℤ) (c : Counts) (h : Head) where
   pub stop₁ : numbers (mapIn nodes edges faces c h) ≡ false → formed (mapIn nodes edges faces c h) ≡ false
   stop₁ e = formed-is ∙ rw e
 
-  -- the ends of edges are nodes
-  pub ends-named : named (mapIn nodes edges faces c h) ≡ true → all (λ e. hasNode (nodeMap nodes (c .nodes)) (e .start) && hasNode (nodeMap nodes (c .nodes)) (e .end)) (edgesOf edges (c .edges)) ≡ true
-  unfolding named
-  ends-named e =
-      let m = mapIn nodes edges faces c h in
-      all-weaker (edgeNames m) (λ e. hasNode m (e .start) && hasNode m (e .end)) (λ e q. first-two (hasNode m (e .start) && hasNode m (e .end)) (hasEdge m (e .nextLeft .edge)) (hasEdge m (e .nextRight .edge)) (hasFace m (e .left)) (hasFace m (e .right)) q) (edgesOf edges (c .edges))
-      (and-right (all (λ n. inFace m (n .face)) (nodesOf nodes (c .nodes))) (all (edgeNames m) (edgesOf edges (c .edges))) e)
-    where
-      first-two : (a b c d e : Bool) → a && b && c && d && e ≡ true → a ≡ true
-      first-two a b c d e h = and-left a b (and-left (a && b) c (and-left (a && b && c) d (and-left (a && b && c && d) e h)))
-
 -- ---- in form
 
 module _ (nodes edges faces : List ℤ) (h : Head) where
@@ -118,11 +106,7 @@ module _ (nodes edges faces : List ℤ) (h : Head) where
   unfolding inForm
   in-form-is =
       ap₂ _&&_ (ranged-is nodes edges faces h) (ap formed (map-is nodes edges faces h))
-      ∙ assoc (countsFit (lent nodes edges faces h) && nextsFit h) (rangedRows nodes edges faces (countsOf h)) (formed (mapIn nodes edges faces (countsOf h) h))
-    where
-      assoc : (a b c : Bool) → a && b && c ≡ a && (b && c)
-      assoc true b c = refl
-      assoc false b c = refl
+      ∙ and-assoc (countsFit (lent nodes edges faces h) && nextsFit h) (rangedRows nodes edges faces (countsOf h)) (formed (mapIn nodes edges faces (countsOf h) h))
 
   pub unfit-head : countsFit (lent nodes edges faces h) && nextsFit h ≡ false → inForm (lent nodes edges faces h) ≡ false
   unfit-head e = in-form-is ∙ rw e

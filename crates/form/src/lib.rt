@@ -2,30 +2,32 @@
 use map::Head;
 use tables::Counts;
 ghost use mathlib.Core.Path.{_≡_};
-ghost use mathlib.Core.Bool.{Bool, true, _&&_};
-ghost use Prim.Native.Nat.{ℕ, _*_, _≤_, _<_};
-ghost use lib.ListN.{length};
+ghost use mathlib.Core.Bool.{true};
+ghost use Prim.Native.Nat.{_≤_};
 ghost use Rattle.map.specs.Rows.{whole};
 ghost use Rattle.map.specs.Form.{formed, inForm};
 ghost use Rattle.ranges.specs.Ranges.{lent, mapIn, InRanges};
 
 fn is_formed(nodes: &[i64], edges: &[i64], faces: &[i64], c: Counts, h: Head) -> bool
-    requires { ⌜ InRanges (now nodes) (now edges) (now faces) c h × (c .nodes ≤ 1000) × (c .edges ≤ 2000) ⌝ }
+    requires { ⌜ InRanges (now nodes) (now edges) (now faces) c h × (c .nodes ≤ 1000) × (c .edges ≤ 2000) × (c .faces ≤ 1000) ⌝ }
     ensures { λ r. ⌜ r ≡ formed (mapIn (now (nodes .entry)) (now (edges .entry)) (now (faces .entry)) c h) ⌝ }
 {
     if !ranges::numbers_fit(nodes, edges, faces, c, h) {
         return false;
     }
-    if !names::names_exist(nodes, edges, faces, c) {
+    let mut starts = [0u16; 4000];
+    let mut nexts = [0u16; 4000];
+    let mut bears = [0u16; 4000];
+    if !names::names_exist(nodes, edges, faces, c, &mut starts, &mut nexts, &mut bears) {
         return false;
     }
-    if !names::curves_fit(nodes, edges, c) {
+    if !names::curves_fit(nodes, c.nodes, edges, c.edges, &starts) {
         return false;
     }
-    if !departures::departures_formed(nodes, c.nodes, edges, c.edges) {
+    if !departures::departures_formed(nodes, c.nodes, edges, c.edges, &starts) {
         return false;
     }
-    departures::links_formed(edges, c.edges)
+    departures::links_formed(c.edges, &starts, &nexts, &bears)
 }
 
 // Whether tables that are whole are in form.

@@ -19,7 +19,7 @@ use Rattle.plane.specs.Areas.{area, turnOf, turn}
 use Rattle.plane.specs.Segments.{overlap, apart, straddle, meets}
 use Rattle.plane.proofs.Laws.{areaE, solve₃, solve₄}
 use Rattle.geometry.specs.Spots.{spot, OnSeg}
-use Rattle.geometry.proofs.Booleans.{and-true}
+use Rattle.lists.proofs.Bools.{and-true}
 use Rattle.geometry.proofs.Segments.{flip, at-first, at-last, at-spot}
 use Rattle.geometry.proofs.Sound.{Common, spot-common, swap}
 

@@ -5,7 +5,7 @@ use mathlib.Core.Logic.{_⊎_, inl, inr, _≢_}
 use Prim.Native.Nat.{ℕ, _+_, _*_, _<_}
 use native.Mathlib.Nat.{eq-of-mul-eq-mul-left, mul-left-comm, mul-comm}
 use native.Mathlib.Omega.{arith}
-use Rattle.lists.proofs.Bools.{or-true}
+use Rattle.lists.proofs.Bools.{or-true, or-false}
 use Rattle.plane.specs.declared.Point.{Point}
 use Rattle.plane.specs.Segments.{meets, onSegment, stretches, ended, contactOf, contact}
 use Rattle.plane.specs.declared.Contact.{Contact}
@@ -13,7 +13,6 @@ use Rattle.plane.specs.declared.Contact.the-variants.{None, Touch, Crossing, St
 use Rattle.geometry.specs.Spots.{Spot, spot, Same, At, OnSeg}
 use Rattle.geometry.specs.Meaning.{Shared, Single, Inner, Double, Means}
 use Rattle.geometry.proofs.Segments.{at-first, at-last, at-spot, at-one}
-use Rattle.geometry.proofs.Booleans.{or-false}
 use Rattle.geometry.proofs.Meeting.{meets-true, meets-false, onSegment-true, onSegment-is}
 use Rattle.geometry.proofs.Stretch.{unique, same-at}
 use Rattle.geometry.proofs.Double.{stretch-two}

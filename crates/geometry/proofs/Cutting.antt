@@ -8,12 +8,13 @@ use lib.ListN.{length}
 use Rattle.plane.specs.declared.Point.{Point}
 use Rattle.plane.specs.Points.{samePoint}
 use Rattle.plane.specs.Segments.{onSegment}
+use Rattle.plane.proofs.Laws.{samePoint-true}
 use Rattle.curves.specs.Curves.{lastOf, secondOf, beforeLast}
 use Rattle.curves.specs.Edits.{Halves, cutHere, cut}
 use Rattle.geometry.specs.Spots.{Spot, spot, At, OnSeg, SameWay}
 use Rattle.geometry.specs.Meaning.{On, Differ, Arc, Simple, Some}
 use Rattle.geometry.proofs.Segments.{at-last, at-spot}
-use Rattle.geometry.proofs.Meeting.{samePoint-true, samePoint-differ, onSegment-true, onSegment-false}
+use Rattle.geometry.proofs.Meeting.{samePoint-differ, onSegment-true, onSegment-false}
 use Rattle.geometry.proofs.Alike.{Alike, alike-refl, alike-cons, alike-insert}
 use Rattle.geometry.proofs.Chains.{on-front, on-back, on-split, last-append, differ-front, differ-back, Cut, simple-cut}
 

@@ -10,7 +10,7 @@ use lib.IntN.{ℤ, pos, negℤ, _+ℤ_, _-ℤ_, _*ℤ_}
 use Rattle.integers.specs.Solver.{con, ⊝_, _⊕_, _⊖_, _⊗_, _≐_, solve}
 use Rattle.integers.specs.Linear.{linear, _≗_, _⇒_}
 use Rattle.integers.specs.Order.{Sign, negative, null, positive, sgn, signed, pos-<, sub-pos, *-pos-zero}
-use Rattle.lists.proofs.Bools.{or-true}
+use Rattle.lists.proofs.Bools.{or-true, and-true}
 use Rattle.plane.specs.declared.Point.{Point}
 use Rattle.plane.specs.Areas.{area, isNull}
 use Rattle.plane.specs.Segments.{overlapMore, stretches}
@@ -18,7 +18,6 @@ use Rattle.geometry.specs.Spots.{spot, At, OnSeg}
 use Rattle.plane.proofs.Laws.{areaE, solve₄}
 use Rattle.geometry.proofs.Segments.{combine, at-first, at-last, at-spot}
 use Rattle.geometry.proofs.Complete.{areas, area-mirror, mirror, on-x}
-use Rattle.geometry.proofs.Booleans.{and-true}
 
 -- the four points are on one line
 record Line (a b c d : Point) : Type 0 where

@@ -5,6 +5,7 @@ use mathlib.Core.List.{List, [], _∷_, _++_}
 use mathlib.Core.Logic.{_⊎_, inl, inr, _≢_}
 use Rattle.plane.specs.declared.Point.{Point}
 use Rattle.lists.specs.Members.{All, Pairs}
+use Rattle.lists.proofs.Appends.{each-append}
 use Rattle.curves.specs.Curves.{lastOf, Curve, lastPoint}
 use Rattle.curves.specs.Tests.{meetWrongly, isSimple}
 use Rattle.curves.specs.Edits.{cut, join, front, back, joined, course}
@@ -21,10 +22,6 @@ use Rattle.geometry.proofs.Truth.{wrong-clear, simple-true}
 -- ---- lists
 
 module _ {A : Type 0} (R : A → Type 0) where
-  all-append : (xs ys : List A) → All R xs → All R ys → All R (xs ++ ys)
-  all-append [] ys h k = k
-  all-append (x ∷ xs) ys h k = (h .0, all-append xs ys (h .1) k)
-
   all-front : (xs ys : List A) → All R (xs ++ ys) → All R xs
   all-front [] ys h = tt
   all-front (x ∷ xs) ys h = (h .0, all-front xs ys (h .1))
@@ -34,10 +31,10 @@ module _ {A : Type 0} (R : A → Type 0) where
   all-back (x ∷ xs) ys h = all-back xs ys (h .1)
 
   pub all-put : (xs ys : List A) (c : A) → R c → All R (xs ++ ys) → All R (xs ++ (c ∷ ys))
-  all-put xs ys c r h = all-append xs (c ∷ ys) (all-front xs ys h) (r, all-back xs ys h)
+  all-put xs ys c r h = each-append R xs (c ∷ ys) (all-front xs ys h) (r, all-back xs ys h)
 
   pub all-take : (xs ys : List A) (c : A) → All R (xs ++ (c ∷ ys)) → R c × All R (xs ++ ys)
-  all-take xs ys c h = (all-back xs (c ∷ ys) h .0, all-append xs ys (all-front xs (c ∷ ys) h) (all-back xs (c ∷ ys) h .1))
+  all-take xs ys c h = (all-back xs (c ∷ ys) h .0, each-append R xs ys (all-front xs (c ∷ ys) h) (all-back xs (c ∷ ys) h .1))
 
 pub all-map : {A : Type 0} (R S : A → Type 0) → ((x : A) → R x → S x) → (l : List A) → All R l → All S l
 all-map R S f [] h = tt

@@ -9,17 +9,17 @@ use native.Mathlib.Omega.{arith}
 use lib.IntN.{pos}
 use Rattle.integers.specs.Solver.{con, _⊕_, _⊗_, _≐_, solve}
 use Rattle.integers.specs.Linear.{pos-injective}
-use Rattle.lists.proofs.Bools.{which, or-right}
+use Rattle.lists.proofs.Bools.{which, or-right, and-is, or-left, or-no}
 use Rattle.plane.specs.declared.Point.{Point}
 use Rattle.plane.specs.Points.{samePoint}
 use Rattle.plane.specs.Segments.{meets, onSegment, stretches}
+use Rattle.plane.proofs.Laws.{point-path}
 use Rattle.curves.specs.Curves.{lastOf}
 use Rattle.curves.specs.Tests.{shares, segWrong, mayShare, commonEnds, segCurve, curveCurve, wrong, free, after, arc, simple}
 use Rattle.geometry.specs.Spots.{Spot, spot, At, OnSeg, Among}
 use Rattle.geometry.specs.Meaning.{On, Differ, Arc, Simple, End, Clear}
-use Rattle.geometry.proofs.Segments.{point-path, at-one, at-spot, at-first, at-last}
+use Rattle.geometry.proofs.Segments.{at-one, at-spot, at-first, at-last}
 use Rattle.geometry.proofs.Chains.{end-on, arc-open}
-use Rattle.geometry.proofs.Booleans.{and-is, or-left, or-no}
 use Rattle.geometry.proofs.Meeting.{samePoint-refl, meets-true, onSegment-is}
 use Rattle.geometry.proofs.Double.{Two, stretch-two}
 use Rattle.geometry.proofs.Contact.{at-on}

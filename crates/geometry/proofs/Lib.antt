@@ -2,11 +2,10 @@
 -- `Segments`: spots of a segment, its ends, its parts, directions. `Sound`, `Complete`: the sign test of two segments. `Meeting`: the tests of points.
 -- `Stretch`, `Double`, `Contact`: the four contacts. `Chains`: curves made of two. `Truth`, `Exact`: the tests of curves say neither too little nor too much.
 -- `Nth`: simple, by the numbers of segments. `Alike`: lists of points that draw one curve. `Cutting`, `Joining`, `Turning`, `Undo`: the edits of curves.
--- `Ways`: departures differ. `Drawing`: one curve more or less in a list of curves. `Booleans`: `&&` and `||`.
+-- `Ways`: departures differ. `Drawing`: one curve more or less in a list of curves.
 pub mod Theorems
 pub mod Edits
 pub mod Examples
-pub mod Booleans
 pub mod Segments
 pub mod Sound
 pub mod Complete

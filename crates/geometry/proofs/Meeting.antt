@@ -10,26 +10,19 @@ use borrow.Author.Tests.{not-true}
 use lib.IntN.{pos}
 use Rattle.integers.specs.Solver.{_⊕_, _⊗_, _≐_, solve}
 use Rattle.integers.specs.Linear.{pos-injective}
-use Rattle.lists.specs.Tests.{same}
-use Rattle.lists.proofs.Bools.{which, same-true, same-refl, or-true, or-right}
+use Rattle.lists.proofs.Bools.{which, same-refl, or-true, or-right, and-true, and-is, or-left}
 use Rattle.plane.specs.declared.Point.{Point}
 use Rattle.plane.specs.Points.{samePoint}
 use Rattle.plane.specs.Segments.{meets, onSegment, straightBetween}
+use Rattle.plane.proofs.Laws.{samePoint-true}
 use Rattle.curves.specs.Tests.{differs, passes}
 use Rattle.geometry.specs.Spots.{Spot, spot, OnSeg, Between}
 use Rattle.geometry.specs.Meaning.{On, Differ}
-use Rattle.geometry.proofs.Booleans.{and-true, and-is, or-left}
-use Rattle.geometry.proofs.Segments.{point-path, at-first, at-spot}
+use Rattle.geometry.proofs.Segments.{at-first, at-spot}
 use Rattle.geometry.proofs.Sound.{spot-common, common-spot, sound}
 use Rattle.geometry.proofs.Complete.{complete}
 
 -- ---- points
-
-pub samePoint-true : (p q : Point) → samePoint p q ≡ true → p ≡ q
-unfolding samePoint
-samePoint-true p q e =
-    let h = and-true (same (p .x) (q .x)) (same (p .y) (q .y)) e in
-    point-path (same-true (p .x) (q .x) (h .0)) (same-true (p .y) (q .y) (h .1))
 
 pub samePoint-refl : (p : Point) → samePoint p p ≡ true
 unfolding samePoint

@@ -10,10 +10,8 @@ use Rattle.integers.specs.Solver.{con, ⊝_, _⊕_, _⊖_, _⊗_, _≐_, solve}
 use Rattle.integers.specs.Linear.{linear, _≗_, _⇒_, pos-injective}
 use Rattle.integers.specs.Order.{pos-<, pos-sub, *-pos-zero}
 use Rattle.plane.specs.declared.Point.{Point}
+use Rattle.plane.proofs.Laws.{point-path}
 use Rattle.geometry.specs.Spots.{Spot, spot, At, OnSeg, Between, SameWay}
-
-pub point-path : {p q : Point} → p .x ≡ q .x → p .y ≡ q .y → p ≡ q
-point-path u v = λ t. record { x = u t; y = v t }
 
 -- ---- equations of one coordinate, in ℤ
 

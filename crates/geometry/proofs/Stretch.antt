@@ -12,13 +12,12 @@ use lib.Signed.{_<ℤ_}
 use Rattle.integers.specs.Solver.{con, ⊝_, _⊕_, _⊖_, _⊗_, _≐_, solve}
 use Rattle.integers.specs.Linear.{linear, _≺_, _⇒_}
 use Rattle.integers.specs.Order.{sgn, pos-<, sub-pos, *-pos-zero, weighted-not-pos, weighted-not-neg}
-use Rattle.lists.proofs.Bools.{or-right}
+use Rattle.lists.proofs.Bools.{or-right, or-left}
 use Rattle.plane.specs.declared.Point.{Point}
 use Rattle.plane.specs.Areas.{area, isNull}
 use Rattle.plane.specs.Segments.{overlapMore, stretches}
 use Rattle.geometry.specs.Spots.{Spot, spot, Same, At, OnSeg}
 use Rattle.plane.proofs.Laws.{areaE}
-use Rattle.geometry.proofs.Booleans.{or-left}
 use Rattle.geometry.proofs.Segments.{combine, off, balance, flip}
 
 -- ---- on one line

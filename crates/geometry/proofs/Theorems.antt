@@ -12,13 +12,14 @@ use Rattle.plane.specs.declared.Contact.the-variants.{None, Touch, Crossing, St
 use Rattle.plane.specs.Points.{samePoint}
 use Rattle.plane.specs.Segments.{meets, onSegment, straightBetween, contact}
 use Rattle.plane.specs.Directions.{wayTo, sameWay}
+use Rattle.plane.proofs.Laws.{samePoint-true}
 use Rattle.curves.specs.Curves.{Curve, lastOf, beforeLast, lastPoint, startWay, endWay}
 use Rattle.curves.specs.Tests.{neighboursDiffer, straightInside, onCurve, isSimple, meetWrongly}
 use Rattle.curves.specs.Edits.{cut, join, front, back, joined, reversed, course}
 use Rattle.geometry.specs.Spots.{Spot, spot, At, OnSeg, Between, SameWay}
 use Rattle.geometry.specs.Meaning.{Shared, Single, Inner, Double, Means, Some, On, OnNth, pointOf, Differ, Simple}
 use Rattle.geometry.specs.Drawing.{OnCurve, Good, ClearCurves}
-use Rattle.geometry.proofs.Meeting.{samePoint-true, samePoint-refl, meets-true, meets-spot, onSegment-true, onSegment-is, straightBetween-true, straightBetween-is, differs-true, differs-is, passes-true, passes-is}
+use Rattle.geometry.proofs.Meeting.{samePoint-refl, meets-true, meets-spot, onSegment-true, onSegment-is, straightBetween-true, straightBetween-is, differs-true, differs-is, passes-true, passes-is}
 use Rattle.geometry.proofs.Contact.{contact-means, contact-is}
 use Rattle.geometry.proofs.Chains.{simple-arc}
 use Rattle.geometry.proofs.Truth.{wrong-clear, simple-true}

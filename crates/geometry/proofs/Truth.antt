@@ -4,16 +4,16 @@ use mathlib.Core.Bool.{Bool, true, false, not, false≢true, _&&_, _||_}
 use mathlib.Core.List.{List, [], _∷_}
 use mathlib.Core.Logic.{_⊎_, inl, inr, _≢_}
 use borrow.Author.Tests.{not-true, not-false}
-use Rattle.lists.proofs.Bools.{or-true}
+use Rattle.lists.proofs.Bools.{or-true, and-true, or-false}
 use Rattle.plane.specs.declared.Point.{Point}
 use Rattle.plane.specs.Points.{samePoint}
 use Rattle.plane.specs.Segments.{onSegment, stretches}
+use Rattle.plane.proofs.Laws.{samePoint-true}
 use Rattle.curves.specs.Curves.{lastOf}
 use Rattle.curves.specs.Tests.{shares, segWrong, mayShare, commonEnds, segCurve, curveCurve, wrong, lastly, free, after, arc, simple}
 use Rattle.geometry.specs.Spots.{Spot, At, OnSeg, Among}
 use Rattle.geometry.specs.Meaning.{On, Arc, Simple, End, Clear}
-use Rattle.geometry.proofs.Booleans.{and-true, or-false}
-use Rattle.geometry.proofs.Meeting.{samePoint-true, onSegment-true, meets-spot}
+use Rattle.geometry.proofs.Meeting.{onSegment-true, meets-spot}
 use Rattle.geometry.proofs.Stretch.{unique, same-at}
 
 -- ---- two segments

@@ -3,18 +3,18 @@ use mathlib.Core.Path.{_≡_, refl, sym, ap, _∙_, subst}
 use mathlib.Core.Bool.{Bool, true, false}
 use mathlib.Core.List.{List, [], _∷_}
 use mathlib.Core.Logic.{_⊎_, inl, inr, _≢_}
-use Rattle.lists.proofs.Bools.{which}
+use Rattle.lists.proofs.Bools.{which, or-false}
 use Rattle.plane.specs.declared.Point.{Point}
 use Rattle.plane.specs.Points.{samePoint}
 use Rattle.plane.specs.Segments.{onSegment, straightBetween}
+use Rattle.plane.proofs.Laws.{samePoint-true}
 use Rattle.curves.specs.Curves.{lastOf}
 use Rattle.curves.specs.Tests.{straightIn}
 use Rattle.curves.specs.Edits.{Halves, cutHere, cut, dropped, joinHere, join}
 use Rattle.geometry.specs.Spots.{spot, At, OnSeg}
 use Rattle.geometry.specs.Meaning.{On, Some, Differ, Arc}
 use Rattle.geometry.proofs.Segments.{at-last, at-spot, at-one}
-use Rattle.geometry.proofs.Booleans.{or-false}
-use Rattle.geometry.proofs.Meeting.{samePoint-true, samePoint-differ, samePoint-false, samePoint-refl, onSegment-true, onSegment-false, onSegment-is, straightBetween-true, straightBetween-is}
+use Rattle.geometry.proofs.Meeting.{samePoint-differ, samePoint-false, samePoint-refl, onSegment-true, onSegment-false, onSegment-is, straightBetween-true, straightBetween-is}
 use Rattle.geometry.proofs.Chains.{end-on, arc-open}
 use Rattle.geometry.proofs.Cutting.{Place, cut-place}
 
@@ -24,7 +24,7 @@ join-cons : (a b : Point) (f s : List Point) → Some f → join a (b ∷ f) s �
 join-cons a b [] s h = absurd h
 join-cons a b (c ∷ f) s h = refl
 
-straight-tail : (a b : Point) (r : List Point) → straightIn a (b ∷ r) ≡ false → straightIn b r ≡ false
+pub straight-tail : (a b : Point) (r : List Point) → straightIn a (b ∷ r) ≡ false → straightIn b r ≡ false
 straight-tail a b [] e = refl
 straight-tail a b (c ∷ r) e = or-false (straightBetween a b c) (straightIn b (c ∷ r)) e .1
 

@@ -13,16 +13,16 @@ use Rattle.integers.specs.Solver.{con, ⊝_, _⊕_, _⊖_, _⊗_, _≐_, solve}
 use Rattle.integers.specs.Linear.{pos-injective}
 use Rattle.integers.specs.Order.{Sign, negative, null, positive, sgn, product, sgn-*, sgn-positive, signed, neg-pos, natural, <→≤, pos-<, pos-<-back, pos-sub}
 use Rattle.lists.specs.Tests.{same}
-use Rattle.lists.proofs.Bools.{same-true, same-eq, not-true}
+use Rattle.lists.proofs.Bools.{same-true, same-eq, not-true, and-true, and-is}
 use Rattle.plane.specs.declared.Point.{Point}
 use Rattle.plane.specs.Areas.{isNull}
 use Rattle.plane.specs.Directions.{Way, wayTo, classes, class, cross, sameWay}
+use Rattle.plane.proofs.Laws.{point-path}
 use Rattle.curves.specs.Curves.{lastOf, beforeLast, secondOf, Curve, lastPoint, startWay, endWay}
 use Rattle.geometry.specs.Spots.{Spot, spot, At, OnSeg, SameWay}
 use Rattle.geometry.specs.Meaning.{On, Some, Differ, Simple, Clear}
 use Rattle.geometry.specs.Drawing.{Good, ClearCurves}
-use Rattle.geometry.proofs.Segments.{point-path, zero-of, of-zero, at-first, at-last, at-spot, flip, way-back}
-use Rattle.geometry.proofs.Booleans.{and-true, and-is}
+use Rattle.geometry.proofs.Segments.{zero-of, of-zero, at-first, at-last, at-spot, flip, way-back}
 use Rattle.geometry.proofs.Double.{Two, null-is}
 use Rattle.geometry.proofs.Exact.{no-two}
 

@@ -8,6 +8,7 @@ use native.Mathlib.Omega.{arith}
 use lib.ListN.{length}
 use Rattle.lists.specs.Members.{Pairs}
 use Rattle.lists.proofs.Bools.{equal?}
+use Rattle.lists.proofs.Members.{each-of}
 use Rattle.plane.specs.declared.Point.{Point}
 use Rattle.plane.specs.Directions.{Way, sameWay}
 use Rattle.curves.specs.Curves.{points, startWay}
@@ -23,7 +24,6 @@ use Rattle.geometry.proofs.Theorems.{departures-differ, closed-differ, reverse-
 use Rattle.map.specs.Rows.{Edge, Map, node, edge}
 use Rattle.map.specs.Darts.{directed, leaves, way, departures}
 use Rattle.grown.specs.Good.{Surveyed}
-use Rattle.grown.proofs.Scanning.{each-of}
 use Rattle.grown.proofs.Readings.{tailIn, courseIn, leaves-row, course-row, way-row, edge-row, dart-has, departs}
 
 -- what holds of all pairs holds of any two

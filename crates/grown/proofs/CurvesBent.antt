@@ -9,19 +9,20 @@ use native.Mathlib.Omega.{arith}
 use lib.IntN.{pos}
 use Rattle.integers.specs.Solver.{con, _⊕_, _⊖_, _⊗_, _≐_, solve}
 use Rattle.integers.specs.Linear.{pos-injective}
-use Rattle.lists.proofs.Bools.{which}
+use Rattle.lists.proofs.Bools.{which, or-false, or-no}
 use Rattle.plane.specs.declared.Point.{Point}
 use Rattle.plane.specs.Points.{samePoint}
 use Rattle.plane.specs.Segments.{onSegment, straightBetween}
+use Rattle.plane.proofs.Laws.{samePoint-true}
 use Rattle.curves.specs.Curves.{lastOf, secondOf, beforeLast}
 use Rattle.curves.specs.Tests.{straightIn}
 use Rattle.curves.specs.Edits.{Halves, cutHere, cut, joinHere, join, turned}
 use Rattle.geometry.specs.Spots.{spot, At, OnSeg, Between}
 use Rattle.geometry.specs.Meaning.{On, Some}
 use Rattle.geometry.proofs.Segments.{flip, at-last, at-one, at-spot, first-part, far-weight, parts, pin, between-differ, zero-of, of-zero, combine}
-use Rattle.geometry.proofs.Meeting.{samePoint-true, samePoint-differ, onSegment-true, onSegment-false, straightBetween-true, straightBetween-is}
-use Rattle.geometry.proofs.Booleans.{or-false, or-no}
+use Rattle.geometry.proofs.Meeting.{samePoint-differ, onSegment-true, onSegment-false, straightBetween-true, straightBetween-is}
 use Rattle.geometry.proofs.Turning.{last-turned, before-turned}
+use Rattle.geometry.proofs.Undo.{straight-tail}
 
 -- ---- three points on a segment
 
@@ -83,10 +84,6 @@ unless-between {a} {m} {b} f e = elim (which (straightBetween a m b)) [
 
 -- ---- one point before a curve
 
-bent-tail : (a b : Point) (r : List Point) → straightIn a (b ∷ r) ≡ false → straightIn b r ≡ false
-bent-tail a b [] e = refl
-bent-tail a b (c ∷ r) e = or-false (straightBetween a b c) (straightIn b (c ∷ r)) e .1
-
 bent-second : (a b : Point) (r : List Point) → Some r → straightIn a (b ∷ r) ≡ false → straightBetween a b (secondOf b r) ≡ false
 bent-second a b [] h e = absurd h
 bent-second a b (c ∷ r) h e = or-false (straightBetween a b c) (straightIn b (c ∷ r)) e .0
@@ -114,12 +111,12 @@ cut-bent m a (b ∷ r) n o w = go (onSegment m a b) (samePoint m b) refl refl (c
   where
     go : (p q : Bool) → onSegment m a b ≡ p → samePoint m b ≡ q → (b ≢ m → On (spot m) b r → straightIn b r ≡ false → Halved m b r (cut m b r))
         → Halved m a (b ∷ r) (cutHere p q m b r (cut m b r))
-    go true true e f next = record { front = refl; back = subst (λ (z : Point). straightIn z r ≡ false) (sym (samePoint-true m b f)) (bent-tail a b r w); second = inl refl }
+    go true true e f next = record { front = refl; back = subst (λ (z : Point). straightIn z r ≡ false) (sym (samePoint-true m b f)) (straight-tail a b r w); second = inl refl }
     go true false e f next = record { front = refl; back = bent-first a m b r (λ c. extend s) w; second = inr s }
       where
         s : Between a m b
         s = record { on = onSegment-true m a b e; not-first = n; not-last = samePoint-differ m b f }
-    go false q e f next = onward (next n′ o′ (bent-tail a b r w))
+    go false q e f next = onward (next n′ o′ (straight-tail a b r w))
       where
         n′ : b ≢ m
         n′ k = onSegment-false m a b e (at-last a (subst (At (spot m)) (sym k) (at-spot m)))
@@ -159,7 +156,7 @@ join-bent a (m ∷ []) (y ∷ s) h k u v = go (straightBetween a m y) refl
         let t : Between a m y = straightBetween-true a m y e in
         record { bent = bent-first m a y s (λ c. shorten t) v; second = inr t }
     go false e = record { bent = or-no e v; second = inl refl }
-join-bent a (b ∷ c ∷ r) s h k u v = onward (join-bent b (c ∷ r) s tt k (bent-tail a b (c ∷ r) u) v)
+join-bent a (b ∷ c ∷ r) s h k u v = onward (join-bent b (c ∷ r) s tt k (straight-tail a b (c ∷ r) u) v)
   where
     turn : (z : Point) → (z ≡ c) ⊎ Between b c z → straightBetween a b z ≡ false
     turn z (inl e) = subst (λ (y : Point). straightBetween a b y ≡ false) (sym e) (bent-second a b (c ∷ r) tt u)
@@ -181,7 +178,7 @@ bent-snoc a (b ∷ c ∷ r) z h e =
 pub turned-bent : (a : Point) (r : List Point) → straightIn a r ≡ false → straightIn (lastOf a r) (turned a r) ≡ false
 turned-bent a [] e = refl
 turned-bent a (b ∷ []) e = refl
-turned-bent a (b ∷ c ∷ r) e = bent-snoc (lastOf c r) (turned b (c ∷ r)) a (λ k. around) (turned-bent b (c ∷ r) (bent-tail a b (c ∷ r) e))
+turned-bent a (b ∷ c ∷ r) e = bent-snoc (lastOf c r) (turned b (c ∷ r)) a (λ k. around) (turned-bent b (c ∷ r) (straight-tail a b (c ∷ r) e))
   where
     around : straightBetween (beforeLast (lastOf c r) (turned b (c ∷ r))) (lastOf (lastOf c r) (turned b (c ∷ r))) a ≡ false
     around = rw (before-turned b (c ∷ r) tt, last-turned b (c ∷ r)) (unless-between between-sym (bent-second a b (c ∷ r) tt e))

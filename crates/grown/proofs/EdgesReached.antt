@@ -7,11 +7,10 @@ use Prim.Native.Nat.{ℕ}
 use Rattle.lists.specs.Tests.{same}
 use Rattle.lists.specs.Scans.{any}
 use Rattle.lists.specs.Members.{Distinct}
-use Rattle.lists.proofs.Bools.{which, same-refl, same-true, or-true}
+use Rattle.lists.proofs.Bools.{which, same-refl, same-true, or-true, or-false}
 use Rattle.planar.specs.Map.{Dart, fwd, bwd, rev}
 use Rattle.planar.specs.Pieces.{nums}
 use Rattle.planar.proofs.Cycles.{fwd-in, bwd-in}
-use Rattle.geometry.proofs.Booleans.{or-false}
 use Rattle.map.specs.Rows.{Edge, Map, edge}
 use Rattle.map.specs.Darts.{arcs, directed, bears}
 use Rattle.grown.proofs.Readings.{faceIn, bears-row, edge-row, edge-at, arc-at, dart-has}

@@ -9,11 +9,10 @@ use borrow.Author.Tests.{not-true}
 use lib.ListN.{length, length-append}
 use Rattle.lists.specs.Tests.{same}
 use Rattle.lists.specs.Members.{Distinct}
-use Rattle.lists.proofs.Bools.{which, same-refl, same-true, same-false, equal?, differ}
+use Rattle.lists.proofs.Bools.{which, same-refl, same-true, same-false, equal?, differ, and-true}
 use Rattle.lists.proofs.Keeps.{keep-in}
 use Rattle.planar.specs.Map.{fwd, bwd}
 use Rattle.planar.proofs.Bridges.{Either}
-use Rattle.geometry.proofs.Booleans.{and-true}
 use Rattle.rotation.proofs.Clock.{le-or}
 use Rattle.map.specs.Rows.{Map, edge, hasEdge}
 use Rattle.map.specs.Darts.{bears}

@@ -39,7 +39,7 @@ pub record Faced (m : Map) : Type 0 where
   pub below : (g : ℕ) → List·Memᴰ g (m .faces) → g < m .nextFace
   pub borne : (d : Dart) → List·Memᴰ d (directed m) → List·Memᴰ (bears m d) (m .faces)
 
-side-number : (m : Map) (s : Shares) (n : Node) (f : Option ℕ) → sideOfNode m s n f .number ≡ n .number
+pub side-number : (m : Map) (s : Shares) (n : Node) (f : Option ℕ) → sideOfNode m s n f .number ≡ n .number
 side-number m s n none = refl
 side-number m s n (some f) = go (same f (s .old))
   where

@@ -6,11 +6,10 @@ use Prim.Native.Nat.{_+_}
 use Rattle.lists.specs.Tests.{bit}
 use Rattle.lists.specs.Scans.{any, count, keep}
 use Rattle.lists.specs.Members.{Distinct}
-use Rattle.lists.proofs.Bools.{same-eq, not-true}
+use Rattle.lists.proofs.Bools.{same-eq, not-true, and-is}
 use Rattle.lists.proofs.Counts.{count-perm}
 use Rattle.lists.proofs.Perms.{extract, perm-distinct}
 use Rattle.lists.proofs.Keeps.{keep-in}
-use Rattle.geometry.proofs.Booleans.{and-is}
 use Rattle.geometry.proofs.Meeting.{samePoint-refl}
 use Rattle.geometry.proofs.Theorems.{neighboursDiffer-iff}
 use Rattle.plane.specs.Points.{samePoint}

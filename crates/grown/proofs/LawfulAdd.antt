@@ -6,7 +6,7 @@ use mathlib.Core.List.{List, _∷_, map, List·Memᴰ, List·Memᴰ·head, List�
 use mathlib.Core.Option.{none, Option·getD}
 use Prim.Native.Nat.{ℕ}
 use Rattle.lists.specs.Tests.{same}
-use Rattle.lists.proofs.Bools.{same-false}
+use Rattle.lists.proofs.Bools.{same-false, or-false}
 use Rattle.lists.proofs.Members.{each-cons}
 use Rattle.plane.specs.Directions.{Way, sameWay}
 use Rattle.curves.specs.Curves.{Curve, startWay, endWay}
@@ -26,7 +26,6 @@ use Rattle.rotation.proofs.Node.{first-none}
 use Rattle.rotation.proofs.Whole.{link-edge-law}
 use Rattle.rotation.proofs.Ties.{tells}
 use Rattle.geometry.specs.Drawing as drawing
-use Rattle.geometry.proofs.Booleans.{or-false}
 use Rattle.geometry.proofs.Theorems.{good-iff, reverse-ways, closed-differ}
 use Rattle.map.specs.Rows.{Node, Map, Sizes, node, hasNode, atNodes}
 use Rattle.map.specs.Darts.{arcs, directed, leaves, next, bears, way, departures}

@@ -6,7 +6,7 @@ use mathlib.Core.List.{List·Memᴰ}
 use Prim.Native.Nat.{ℕ}
 use borrow.Author.Tests.{not-false}
 use Rattle.lists.specs.Tests.{same}
-use Rattle.lists.proofs.Bools.{equal?}
+use Rattle.lists.proofs.Bools.{equal?, or-false}
 use Rattle.plane.specs.declared.Point.{Point}
 use Rattle.plane.specs.Directions.{sameWay}
 use Rattle.curves.specs.Curves.{Curve}
@@ -15,7 +15,6 @@ use Rattle.planar.specs.Rings.{sameDart}
 use Rattle.planar.proofs.Rings.{sameDart-true}
 use Rattle.rotation.specs.Law.{lawfulNext}
 use Rattle.rotation.proofs.Order.{sameWay-refl}
-use Rattle.geometry.proofs.Booleans.{or-false}
 use Rattle.map.specs.Rows.{Edge, Map, edge, atNodes, atEdge}
 use Rattle.map.specs.Darts.{arcs, leaves, next, bears, course, way, departures}
 use Rattle.map.specs.Links.{clockwise}

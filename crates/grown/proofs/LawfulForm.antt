@@ -10,10 +10,11 @@ use lib.ListN.{length}
 use Rattle.lists.specs.Tests.{same}
 use Rattle.lists.specs.Scans.{any, isSome}
 use Rattle.lists.specs.Members.{Distinct}
-use Rattle.lists.proofs.Bools.{same-true, beq-true}
+use Rattle.lists.proofs.Bools.{same-true, beq-true, and-true}
 use Rattle.plane.specs.declared.Point.{Point}
 use Rattle.plane.specs.Points.{samePoint}
 use Rattle.plane.specs.Directions.{Way, sameWay}
+use Rattle.plane.proofs.Laws.{samePoint-true}
 use Rattle.curves.specs.Curves.{points, lastPoint}
 use Rattle.curves.specs.Tests.{neighboursDiffer}
 use Rattle.planar.specs.Map.{Dart, rev, Linked}
@@ -28,8 +29,6 @@ use Rattle.rotation.proofs.Ways.{alike-is, alike-sym}
 use Rattle.rotation.proofs.Tells.{is-yes}
 use Rattle.rotation.proofs.Ties.{tells}
 use Rattle.geometry.specs.Meaning.{Some}
-use Rattle.geometry.proofs.Booleans.{and-true}
-use Rattle.geometry.proofs.Meeting.{samePoint-true}
 use Rattle.map.specs.Rows.{Node, Edge, Map, node, hasNode}
 use Rattle.map.specs.Darts.{arcs, directed, leaves, next, bears, way, departures, edgeEnds}
 use Rattle.map.specs.Links.{clockwise, obeysLaw}

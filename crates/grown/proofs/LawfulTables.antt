@@ -11,12 +11,11 @@ use lib.IntN.{ℤ, natAbs}
 use lib.ListN.{length}
 use Rattle.lists.specs.Tests.{same}
 use Rattle.lists.specs.Members.{Distinct}
-use Rattle.lists.proofs.Bools.{same-true}
+use Rattle.lists.proofs.Bools.{same-true, and-true}
 use Rattle.lists.proofs.Members.{map-cong}
 use Rattle.lists.proofs.Keeps.{keep-in, keep-map}
 use Rattle.lists.proofs.Perms.{perm-distinct}
 use Rattle.plane.specs.declared.Point.{Point}
-use Rattle.geometry.proofs.Booleans.{and-true}
 use Rattle.curves.specs.Curves.{points, point, curveOf, maxPoints}
 use Rattle.curves.specs.Edits.{front, back}
 use Rattle.planar.specs.Map.{Dart, fwd, bwd, rev}

@@ -10,8 +10,7 @@ use lib.ListN.{length}
 use Rattle.lists.specs.Tests.{same}
 use Rattle.lists.specs.Scans.{all, firstOr, isSome}
 use Rattle.lists.specs.Members.{Distinct}
-use Rattle.lists.proofs.Bools.{same-refl, same-true, same-false, same-eq, beq-true, beq-refl}
-use Rattle.geometry.proofs.Booleans.{and-true, and-is}
+use Rattle.lists.proofs.Bools.{same-refl, same-true, same-false, same-eq, beq-true, beq-refl, and-true, and-is}
 use Rattle.planar.specs.Map.{Arc, Dart, fwd, bwd}
 use Rattle.planar.specs.Pieces.{nums}
 use Rattle.planar.proofs.Rings.{next-in}

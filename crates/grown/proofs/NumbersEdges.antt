@@ -9,9 +9,8 @@ use native.Mathlib.Omega.{arith}
 use Rattle.lists.specs.Tests.{same}
 use Rattle.lists.specs.Scans.{isSome}
 use Rattle.lists.specs.Members.{Distinct}
-use Rattle.lists.proofs.Bools.{same-true, same-eq, which, or-true}
+use Rattle.lists.proofs.Bools.{same-true, same-eq, which, or-true, or-false}
 use Rattle.lists.proofs.Keeps.{keep-in, keep-has, keep-map}
-use Rattle.geometry.proofs.Booleans.{or-false}
 use Rattle.curves.specs.Curves.{Curve}
 use Rattle.planar.specs.Pieces.{nums}
 use Rattle.map.specs.Rows.{Node, Edge, Map, node, edge, hasNode, hasEdge, atNodes}

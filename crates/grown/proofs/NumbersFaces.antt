@@ -11,10 +11,9 @@ use borrow.Author.Tests.{not-true}
 use Rattle.lists.specs.Tests.{same}
 use Rattle.lists.specs.Scans.{keep, firstOr, isSome}
 use Rattle.lists.specs.Members.{Distinct}
-use Rattle.lists.proofs.Bools.{same-false, differ}
+use Rattle.lists.proofs.Bools.{same-false, differ, and-true, cond-has}
 use Rattle.lists.proofs.Keeps.{keep-has}
 use Rattle.lists.proofs.Members.{map-cong}
-use Rattle.geometry.proofs.Booleans.{and-true}
 use Rattle.plane.specs.declared.Point.{Point}
 use Rattle.plane.specs.Areas.{isPositive}
 use Rattle.integers.specs.Order.{sgn}
@@ -213,13 +212,9 @@ split-face-ranked news e m dis h r =
     } in
     ranked-shape {m = splitFace news e m} (record { nodes = refl; outlines = refl; faces = refl; next-node = add-zero (m .nextNode); next-edge = add-zero (m .nextEdge); next-face = refl })
     (shared-ranked m s dis {fs = splitList goes old a (m .faces)}
-    (either (isLeft || not goes) (new-in old a (m .faces) k goes) (second-in old a (m .faces) k goes))
-    (either (isLeft || not goes) (second-in old a (m .faces) k goes) (new-in old a (m .faces) k goes))
+    (cond-has (λ (f : ℕ). List·Memᴰ f (splitList goes old a (m .faces))) (isLeft || not goes) (new-in old a (m .faces) k goes) (second-in old a (m .faces) k goes))
+    (cond-has (λ (f : ℕ). List·Memᴰ f (splitList goes old a (m .faces))) (isLeft || not goes) (second-in old a (m .faces) k goes) (new-in old a (m .faces) k goes))
     (rest-in old a (m .faces) k goes)
     r
     (split-rising old a (m .faces) k goes (r .faces))
     (split-zero goes old a (m .faces) (λ g. differ old 0 (not-true (same old 0) (and-true news (not (same old 0)) g .1))) (r .zero)))
-  where
-    either : {l : List ℕ} {x y : ℕ} (c : Bool) → List·Memᴰ x l → List·Memᴰ y l → List·Memᴰ (cond c x y) l
-    either true p q = p
-    either false p q = q

@@ -10,9 +10,8 @@ use native.Mathlib.Omega.{arith}
 use borrow.Author.Tests.{not-true}
 use Rattle.lists.specs.Tests.{same}
 use Rattle.lists.specs.Scans.{isSome}
-use Rattle.lists.proofs.Bools.{same-true, same-false, differ, or-true}
+use Rattle.lists.proofs.Bools.{same-true, same-false, differ, or-true, or-false, or-no}
 use Rattle.lists.proofs.Keeps.{keep-in, keep-has, keep-map}
-use Rattle.geometry.proofs.Booleans.{or-false, or-no}
 use Rattle.planar.specs.Map.{Dart, fwd, bwd, rev}
 use Rattle.map.specs.Rows.{Node, Edge, Map, edge, hasEdge, atEdge, withoutNode, withoutEdge}
 use Rattle.map.specs.Darts.{leaves, arrives, next}

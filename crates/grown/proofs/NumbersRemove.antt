@@ -5,15 +5,14 @@ use mathlib.Core.Bool.{Bool, true, false, cond, not, _&&_, _||_}
 use mathlib.Core.List.{List, [], _∷_, _++_, map, List·Memᴰ, List·Memᴰ·head, Memᴰ·append-left, Memᴰ·append-right, Memᴰ·map, Memᴰ·cast}
 use mathlib.Core.Option.{Option, none, some}
 use Prim.Native.Nat.{ℕ, _+_, min}
-use native.Mathlib.Nat.{add-zero, zero-min, min-zero, min-comm, min-eq-left}
+use native.Mathlib.Nat.{add-zero, zero-min, min-zero}
 use native.Mathlib.Omega.{arith}
-use borrow.Author.Tests.{not-true, leb-true, leb-false}
-use lib.Dec.{leb}
+use borrow.Author.Tests.{not-true}
 use Rattle.lists.specs.Tests.{same, bit}
 use Rattle.lists.specs.Scans.{keep, firstOr, isSome}
-use Rattle.lists.proofs.Bools.{same-refl, same-true, same-eq, differ, which, or-true}
+use Rattle.lists.proofs.Bools.{same-refl, same-true, same-eq, differ, or-true, and-true, either}
 use Rattle.lists.proofs.Keeps.{keep-has}
-use Rattle.geometry.proofs.Booleans.{and-true}
+use Rattle.planar.proofs.Chains.{min-one}
 use Rattle.map.specs.Rows.{Node, Edge, Map, edge, hasEdge}
 use Rattle.map.specs.Edits.{removeIsoEdge, withSides, renamed, renamedNode, renamedFaces, healsFaces, lowerFace, makesFace, faceLeft, removeEdge}
 use Rattle.grown.proofs.Readings.{edge-row}
@@ -49,17 +48,10 @@ module _ (x : Edge) (a : ℕ) (fs : List ℕ) (l : List·Memᴰ (x .left) fs) (r
   renamed-rising false h = subst (λ (n : ℕ). Rising 0 n (stay x (min (x .left) (x .right)) fs)) (sym (add-zero a)) (rising-keep 0 a (λ g. same g (renamed x (min (x .left) (x .right)) g)) fs h)
 
   lower-in : List·Memᴰ (min (x .left) (x .right)) fs
-  lower-in = elim (lower (x .left) (x .right)) [ inl e ↦ Memᴰ·cast e l | inr e ↦ Memᴰ·cast e r ]
-    where
-      lower : (p q : ℕ) → (min p q ≡ p) ⊎ (min p q ≡ q)
-      lower p q = elim (which (leb p q)) [ inl h ↦ inl (min-eq-left (leb-true p q h)) | inr h ↦ let k = leb-false p q h in inr (min-comm p q ∙ min-eq-left (omega arith)) ]
+  lower-in = elim (min-one (x .left) (x .right)) [ inl e ↦ Memᴰ·cast e l | inr e ↦ Memᴰ·cast e r ]
 
   renamed-self : (f : ℕ) → same f (renamed x f f) ≡ true
-  renamed-self f = go (same f (x .left) || same f (x .right))
-    where
-      go : (b : Bool) → same f (cond b f f) ≡ true
-      go true = same-refl f
-      go false = same-refl f
+  renamed-self f = rw (either (same f (x .left) || same f (x .right)) f) (same-refl f)
 
   left-in : (makes : Bool) → List·Memᴰ (leftFace makes) (renamedList makes x (leftFace makes) fs)
   left-in true = Memᴰ·append-right (stay x a fs) (List·Memᴰ·head refl)

@@ -1,28 +1,30 @@
 -- A good map that fits is in form in its tables, and is read back from them. Assumes nothing.
 use mathlib.Core.Path.{_≡_, refl, sym, ap, _∙_}
 use mathlib.Core.Bool.{true}
-use mathlib.Core.List.{List, [], _∷_, _++_, map, flatMap, append-assoc, List·Memᴰ, List·Memᴰ·head, List·Memᴰ·tail, Memᴰ·of-map}
+use mathlib.Core.List.{List, [], _∷_, _++_, map, flatMap, List·Memᴰ, List·Memᴰ·head, List·Memᴰ·tail, Memᴰ·of-map}
 use mathlib.Core.Option.{Option, none, some}
 use Prim.Native.Nat.{ℕ, zero, suc, _*_, _-_, _/_, _%_, _≤_}
-use native.Mathlib.Nat.{suc-mul, zero-mul, mul-le-mul-right, mul-div-cancel, mul-mod-left}
+use native.Mathlib.Nat.{mul-le-mul-right, mul-div-cancel, mul-mod-left}
 use native.Mathlib.Omega.{arith}
 use borrow.Author.Tests.{le-leb}
-use lib.Dec.{leb, leb·zero}
+use lib.Dec.{leb}
 use lib.IntN.{ℤ, pos, negsuc}
-use lib.ListN.{length, take, drop, replicate, length-append}
+use lib.ListN.{length, take, drop, replicate}
 use lib.Seq.{take-append-seam, drop-append-seam}
 use lib.Signed.{leZ}
 use Rattle.lists.specs.Tests.{same}
 use Rattle.lists.specs.Scans.{all, firstOr}
-use Rattle.lists.proofs.Bools.{same-refl}
-use Rattle.geometry.proofs.Booleans.{and-is}
+use Rattle.lists.proofs.Bools.{same-refl, and-is}
+use Rattle.lists.proofs.Members.{all-of}
 use Rattle.plane.specs.declared.Point.{Point}
-use Rattle.plane.specs.Points.{InRange, maxCoordinate}
+use Rattle.plane.specs.Points.{InRange}
 use Rattle.curves.specs.Curves.{points, coordinates, coordinate, maxPoints}
+use Rattle.curves.proofs.Runs.{coordinate-of}
 use Rattle.map.specs.Limits.{maxNodes, maxEdges, maxFaces, lastNumber, nodeWidth, edgeWidth, faceWidth}
-use Rattle.map.specs.Rows.{Node, Edge, Map, Sizes, rows, filled, nodeCells, edgeCells, faceCells, faceCell, lentOf, mapOf, sizesOf, whole, wholeRows, nodeRows, edgeRows, faceRows}
+use Rattle.map.specs.Rows.{Node, Edge, Map, Sizes, filled, nodeCells, edgeCells, faceCells, faceCell, lentOf, mapOf, sizesOf, whole, wholeRows, nodeRows, edgeRows, faceRows}
 use Rattle.map.specs.Form.{within, isZero, restZero, nodeRanges, edgeRanges, faceRanges, ranged, formed, inForm, countsFit, nextsFit}
-use Rattle.map.proofs.RoundTrip.{coordinates-length, filled-length}
+use Rattle.map.proofs.Facts.{zeros}
+use Rattle.map.proofs.RoundTrip.{Wide, flat-length, rows-flat, nodes-wide, edge-wide, faces-wide, coordinates-length, filled-length}
 use Rattle.map.proofs.Laws.{formed-back}
 use Rattle.grown.specs.Good.{Good, Fits}
 use Rattle.grown.proofs.Scanning.{each-all}
@@ -33,65 +35,19 @@ use Rattle.grown.proofs.Forms.{good-formed}
 
 -- ---- rows one after the other, and zeros behind
 
-zeros : (n : ℕ) → all isZero (replicate n (pos 0)) ≡ true
-zeros zero = refl
-zeros (suc n) = rw (same-refl 0) (zeros n)
-
 module _ {A : Type 0} (w : ℕ) (cells : A → List ℤ) where
-  abbrev Wide : List A → Type 0
-  Wide xs = (x : A) → List·Memᴰ x xs → length (cells x) ≡ w
-
-  flat-length : (xs : List A) → Wide xs → length (flatMap cells xs) ≡ length xs * w
-  unfolding flatMap
-  flat-length [] h = sym (zero-mul w)
-  flat-length (x ∷ xs) h =
-      let e = suc-mul (length xs) w in
-      let ih = flat-length xs (λ y k. h y (List·Memᴰ·tail k)) in
-      let f = h x (List·Memᴰ·head refl) in
-      length-append (cells x) (flatMap cells xs) ∙ (omega arith)
-
-  -- the rows in use are those that were written
-  flat-rows : (xs : List A) (rest : List ℤ) → Wide xs → rows w (length xs) (flatMap cells xs ++ rest) ≡ map cells xs
-  unfolding flatMap
-  flat-rows [] rest h = refl
-  flat-rows (x ∷ xs) rest h =
-      let e = h x (List·Memᴰ·head refl) in
-      let front : take w ((cells x ++ flatMap cells xs) ++ rest) ≡ cells x = rw (append-assoc, ← e) (take-append-seam (cells x) (flatMap cells xs ++ rest)) in
-      let later : drop w ((cells x ++ flatMap cells xs) ++ rest) ≡ flatMap cells xs ++ rest = rw (append-assoc, ← e) (drop-append-seam (cells x) (flatMap cells xs ++ rest)) in
-      rw (front, later) (ap (λ (l : List (List ℤ)). cells x ∷ l) (flat-rows xs rest (λ y k. h y (List·Memᴰ·tail k))))
-
   -- zeros behind them
-  flat-rest : (n : ℕ) (xs : List A) → Wide xs → restZero w (pos (length xs)) (filled n (flatMap cells xs)) ≡ true
+  flat-rest : (n : ℕ) (xs : List A) → Wide w cells xs → restZero w (pos (length xs)) (filled n (flatMap cells xs)) ≡ true
   flat-rest n xs h =
-      let e = flat-length xs h in
+      let e = flat-length w cells xs h in
       let k = n - length (flatMap cells xs) in
       rw (← e, drop-append-seam (flatMap cells xs) (replicate k (pos 0))) (zeros k)
 
   -- the table is as long as it was meant to be
-  table-length : (n : ℕ) (xs : List A) → Wide xs → length xs ≤ n → length (filled (n * w) (flatMap cells xs)) ≡ n * w
-  table-length n xs h le = let e = flat-length xs h in let k = mul-le-mul-right w le in filled-length (n * w) (flatMap cells xs) (omega arith)
-
--- ---- widths
-
-node-wide : (ns : List Node) → Wide nodeWidth nodeCells ns
-unfolding nodeCells
-node-wide ns n k = refl
-
-face-wide : (fs : List ℕ) → Wide faceWidth faceCells fs
-face-wide fs f k = refl
-
-edge-wide : (es : List Edge) → ((e : Edge) → List·Memᴰ e es → length (points (e .curve)) ≤ maxPoints) → Wide edgeWidth edgeCells es
-unfolding edgeCells
-edge-wide es h e k =
-    let c = coordinates-length (points (e .curve)) in
-    let j = h e k in
-    let f = filled-length (2 * maxPoints) (coordinates (points (e .curve))) (omega arith) in
-    omega arith
+  table-length : (n : ℕ) (xs : List A) → Wide w cells xs → length xs ≤ n → length (filled (n * w) (flatMap cells xs)) ≡ n * w
+  table-length n xs h le = let e = flat-length w cells xs h in let k = mul-le-mul-right w le in filled-length (n * w) (flatMap cells xs) (omega arith)
 
 -- ---- ranges of a row
-
-in-coordinates : (n : ℕ) → n ≤ maxCoordinate → coordinate (pos n) ≡ true
-in-coordinates n h = and-is (leb·zero n) (le-leb n maxCoordinate h)
 
 face-low : (o : Option ℕ) → leZ (negsuc 0) (faceCell o) ≡ true
 face-low none = refl
@@ -99,13 +55,13 @@ face-low (some f) = refl
 
 node-ranges : (n : Node) → InRange (n .at) → nodeRanges (nodeCells n) ≡ true
 unfolding nodeCells
-node-ranges n h = and-is (and-is (in-coordinates (n .at .x) (h .x)) (in-coordinates (n .at .y) (h .y))) (face-low (n .face))
+node-ranges n h = and-is (and-is (coordinate-of (n .at .x) (h .x)) (coordinate-of (n .at .y) (h .y))) (face-low (n .face))
 
 coordinates-in : (ps : List Point) → ((p : Point) → List·Memᴰ p ps → InRange p) → all coordinate (coordinates ps) ≡ true
 coordinates-in [] h = refl
 coordinates-in (p ∷ ps) h =
     let k = h p (List·Memᴰ·head refl) in
-    and-is (in-coordinates (p .x) (k .x)) (and-is (in-coordinates (p .y) (k .y)) (coordinates-in ps (λ q j. h q (List·Memᴰ·tail j))))
+    and-is (coordinate-of (p .x) (k .x)) (and-is (coordinate-of (p .y) (k .y)) (coordinates-in ps (λ q j. h q (List·Memᴰ·tail j))))
 
 edge-ranges : (e : Edge) → 2 ≤ length (points (e .curve)) → length (points (e .curve)) ≤ maxPoints → ((p : Point) → List·Memᴰ p (points (e .curve)) → InRange p) → edgeRanges (edgeCells e) ≡ true
 unfolding edgeCells
@@ -128,6 +84,9 @@ module _ (m : Map) (g : Good m) where
   few : (e : Edge) → List·Memᴰ e (m .edges) → length (points (e .curve)) ≤ maxPoints
   few e k = g .surveyed .kept e k .most
 
+  edges-wide : Wide edgeWidth edgeCells (m .edges)
+  edges-wide = all-of (m .edges) (λ e k. edge-wide e (few e k))
+
   -- a good map is read back from its tables
   pub good-back : (s : Sizes) → mapOf (lentOf s m) ≡ m
   good-back s = formed-back m (good-formed m g) s few
@@ -135,15 +94,15 @@ module _ (m : Map) (g : Good m) where
   module _ (s : Sizes) (f : Fits s m) where
     node-room : length (lentOf s m .nodes) / nodeWidth ≡ s .nodes
     unfolding lentOf
-    node-room = rw (table-length nodeWidth nodeCells (s .nodes) (m .nodes) (node-wide (m .nodes)) (f .nodes)) (mul-div-cancel (s .nodes) (omega arith))
+    node-room = rw (table-length nodeWidth nodeCells (s .nodes) (m .nodes) (nodes-wide (m .nodes)) (f .nodes)) (mul-div-cancel (s .nodes) (omega arith))
 
     edge-room : length (lentOf s m .edges) / edgeWidth ≡ s .edges
     unfolding lentOf
-    edge-room = rw (table-length edgeWidth edgeCells (s .edges) (m .edges) (edge-wide (m .edges) few) (f .edges)) (mul-div-cancel (s .edges) (omega arith))
+    edge-room = rw (table-length edgeWidth edgeCells (s .edges) (m .edges) edges-wide (f .edges)) (mul-div-cancel (s .edges) (omega arith))
 
     face-room : length (lentOf s m .faces) / faceWidth ≡ s .faces
     unfolding lentOf
-    face-room = rw (table-length faceWidth faceCells (s .faces) (m .faces) (face-wide (m .faces)) (f .faces)) (mul-div-cancel (s .faces) (omega arith))
+    face-room = rw (table-length faceWidth faceCells (s .faces) (m .faces) (faces-wide (m .faces)) (f .faces)) (mul-div-cancel (s .faces) (omega arith))
 
     -- so are the sizes
     pub sizes-back : sizesOf (lentOf s m) ≡ s
@@ -169,28 +128,28 @@ module _ (m : Map) (g : Good m) where
 
     node-row-ranges : all nodeRanges (nodeRows (lentOf s m)) ≡ true
     unfolding lentOf
-    node-row-ranges = ap (all nodeRanges) (flat-rows nodeWidth nodeCells (m .nodes) _ (node-wide (m .nodes))) ∙ each-all nodeRanges (map nodeCells (m .nodes)) (λ r k. go r (Memᴰ·of-map nodeCells (m .nodes) k))
+    node-row-ranges = ap (all nodeRanges) (rows-flat nodeWidth nodeCells (m .nodes) _ (nodes-wide (m .nodes))) ∙ each-all nodeRanges (map nodeCells (m .nodes)) (λ r k. go r (Memᴰ·of-map nodeCells (m .nodes) k))
       where
         go : (r : List ℤ) → (n : Node) × List·Memᴰ n (m .nodes) × (nodeCells n ≡ r) → nodeRanges r ≡ true
         go r x = ap nodeRanges (sym (x .2)) ∙ node-ranges (x .0) (g .surveyed .nodes-in-range (x .0) (x .1))
 
     edge-row-ranges : all edgeRanges (edgeRows (lentOf s m)) ≡ true
     unfolding lentOf
-    edge-row-ranges = ap (all edgeRanges) (flat-rows edgeWidth edgeCells (m .edges) _ (edge-wide (m .edges) few)) ∙ each-all edgeRanges (map edgeCells (m .edges)) (λ r k. go r (Memᴰ·of-map edgeCells (m .edges) k))
+    edge-row-ranges = ap (all edgeRanges) (rows-flat edgeWidth edgeCells (m .edges) _ edges-wide) ∙ each-all edgeRanges (map edgeCells (m .edges)) (λ r k. go r (Memᴰ·of-map edgeCells (m .edges) k))
       where
         go : (r : List ℤ) → (e : Edge) × List·Memᴰ e (m .edges) × (edgeCells e ≡ r) → edgeRanges r ≡ true
         go r x = ap edgeRanges (sym (x .2)) ∙ edge-ranges (x .0) (curve-long m (g .surveyed) (x .0) (x .1)) (few (x .0) (x .1)) (g .surveyed .kept (x .0) (x .1) .in-range)
 
     face-row-ranges : all faceRanges (faceRows (lentOf s m)) ≡ true
     unfolding lentOf
-    face-row-ranges = ap (all faceRanges) (flat-rows faceWidth faceCells (m .faces) _ (face-wide (m .faces))) ∙ each-all faceRanges (map faceCells (m .faces)) (λ r k. go r (Memᴰ·of-map faceCells (m .faces) k))
+    face-row-ranges = ap (all faceRanges) (rows-flat faceWidth faceCells (m .faces) _ (faces-wide (m .faces))) ∙ each-all faceRanges (map faceCells (m .faces)) (λ r k. go r (Memᴰ·of-map faceCells (m .faces) k))
       where
         go : (r : List ℤ) → (n : ℕ) × List·Memᴰ n (m .faces) × (faceCells n ≡ r) → faceRanges r ≡ true
         go r x = ap faceRanges (sym (x .2))
 
     good-ranged : ranged (lentOf s m) ≡ true
     unfolding ranged lentOf
-    good-ranged = and-is (and-is (and-is (and-is (and-is (and-is (and-is counts nexts) (flat-rest nodeWidth nodeCells _ (m .nodes) (node-wide (m .nodes)))) (flat-rest edgeWidth edgeCells _ (m .edges) (edge-wide (m .edges) few))) (flat-rest faceWidth faceCells _ (m .faces) (face-wide (m .faces)))) node-row-ranges) edge-row-ranges) face-row-ranges
+    good-ranged = and-is (and-is (and-is (and-is (and-is (and-is (and-is counts nexts) (flat-rest nodeWidth nodeCells _ (m .nodes) (nodes-wide (m .nodes)))) (flat-rest edgeWidth edgeCells _ (m .edges) edges-wide)) (flat-rest faceWidth faceCells _ (m .faces) (faces-wide (m .faces)))) node-row-ranges) edge-row-ranges) face-row-ranges
 
     -- a good map in its tables is in form
     pub good-in-form : inForm (lentOf s m) ≡ true
@@ -209,6 +168,6 @@ unfolding whole lentOf
 good-whole m g s f h a b c =
     and-is
     (and-is
-    (whole-table nodeWidth 0 maxNodes (s .nodes) (lentOf s m .nodes) (table-length nodeWidth nodeCells (s .nodes) (m .nodes) (node-wide (m .nodes)) (f .nodes)) (node-room m g s f) (omega arith) a)
-    (whole-table edgeWidth 0 maxEdges (s .edges) (lentOf s m .edges) (table-length edgeWidth edgeCells (s .edges) (m .edges) (edge-wide (m .edges) (few m g)) (f .edges)) (edge-room m g s f) (omega arith) b))
-    (whole-table faceWidth 1 maxFaces (s .faces) (lentOf s m .faces) (table-length faceWidth faceCells (s .faces) (m .faces) (face-wide (m .faces)) (f .faces)) (face-room m g s f) h c)
+    (whole-table nodeWidth 0 maxNodes (s .nodes) (lentOf s m .nodes) (table-length nodeWidth nodeCells (s .nodes) (m .nodes) (nodes-wide (m .nodes)) (f .nodes)) (node-room m g s f) (omega arith) a)
+    (whole-table edgeWidth 0 maxEdges (s .edges) (lentOf s m .edges) (table-length edgeWidth edgeCells (s .edges) (m .edges) (edges-wide m g) (f .edges)) (edge-room m g s f) (omega arith) b))
+    (whole-table faceWidth 1 maxFaces (s .faces) (lentOf s m .faces) (table-length faceWidth faceCells (s .faces) (m .faces) (faces-wide (m .faces)) (f .faces)) (face-room m g s f) h c)

@@ -21,6 +21,9 @@ use Rattle.planar.proofs.Rings.{dart-cases}
 use Rattle.map.specs.Rows.{Edge, Map, edge, hasEdge, atEdge}
 use Rattle.map.specs.Darts.{arcs, directed, leaves, next, bears, course, way, departures}
 use Rattle.map.specs.Links.{withLinks, instead, redirect, lead}
+use Rattle.map.proofs.Scans.{find-map, has-map}
+pub use Rattle.map.proofs.Redirects.{redirect-next}
+pub use Rattle.map.proofs.Linked.{arcOf, nums-rows}
 
 -- ---- rows looked up by number, nodes and edges alike: `look` is what `node` and `edge` read, `has` what `hasNode` and `hasEdge` say
 
@@ -73,24 +76,9 @@ module _ {A : Type 0} (num : A → ℕ) where
 
   -- rows mapped by a function that keeps their numbers
   module _ (f : A → A) where
-    find-map : (rs : List A) (n : ℕ) → ((r : A) → List·Memᴰ r rs → num (f r) ≡ num r) → find (numbered n) (map f rs) ≡ Option·map f (find (numbered n) rs)
-    find-map [] n h = refl
-    find-map (q ∷ rs) n h = rw (h q (List·Memᴰ·head refl), find-map rs n (λ r m. h r (List·Memᴰ·tail m))) (step (same (num q) n))
-      where
-        step : (b : Bool) → cond b (some (f q)) (Option·map f (find (numbered n) rs)) ≡ Option·map f (cond b (some q) (find (numbered n) rs))
-        step true = refl
-        step false = refl
-
-    has-map : (rs : List A) (n : ℕ) → ((r : A) → List·Memᴰ r rs → num (f r) ≡ num r) → has (map f rs) n ≡ has rs n
-    has-map rs n h = rw (find-map rs n h) (step (find (numbered n) rs))
-      where
-        step : (o : Option A) → isSome (Option·map f o) ≡ isSome o
-        step none = refl
-        step (some a) = refl
-
     -- the row is mapped
     look-map : (u : A) (rs : List A) (n : ℕ) → ((r : A) → List·Memᴰ r rs → num (f r) ≡ num r) → has rs n ≡ true → look u (map f rs) n ≡ f (look u rs n)
-    look-map u rs n h k = rw (find-map rs n h) (step (find (numbered n) rs) k)
+    look-map u rs n h k = rw (find-map num f rs n h) (step (find (numbered n) rs) k)
       where
         step : (o : Option A) → isSome o ≡ true → Option·getD (Option·map f o) u ≡ f (Option·getD o u)
         step none e = absurd (true≢false (sym e))
@@ -98,7 +86,7 @@ module _ {A : Type 0} (num : A → ℕ) where
 
     -- what f leaves of a row is read as it was, whatever the number
     look-kept : {B : Type 0} (g : A → B) (u : A) (rs : List A) (n : ℕ) → ((r : A) → List·Memᴰ r rs → num (f r) ≡ num r) → ((r : A) → g (f r) ≡ g r) → g (look u (map f rs) n) ≡ g (look u rs n)
-    look-kept {B} g u rs n h k = rw (find-map rs n h) (step (find (numbered n) rs))
+    look-kept {B} g u rs n h k = rw (find-map num f rs n h) (step (find (numbered n) rs))
       where
         step : (o : Option A) → g (Option·getD (Option·map f o) u) ≡ g (Option·getD o u)
         step none = refl
@@ -184,20 +172,12 @@ module _ (m : Map) (d : Dart) where
 
 -- ---- the rows of a map
 
--- the arc of a row
-abbrev pub arcOf : Edge → Arc
-arcOf e = record { num = e .number; from = e .start; to = e .end }
-
 abbrev pub numberOf : Edge → ℕ
 numberOf e = e .number
 
 -- what is read where the row is missing
 abbrev pub missing : Edge
 missing = record { number = 0; start = 0; end = 0; nextLeft = fwd 0; nextRight = fwd 0; left = 0; right = 0; curve = through [] }
-
--- the numbers of the arcs are those of the rows
-pub nums-rows : (m : Map) → nums (arcs m) ≡ map numberOf (m .edges)
-nums-rows m = map-map (λ (a : Arc). a .num) arcOf (m .edges)
 
 module _ (m : Map) where
   -- a number that is found is that of the row
@@ -364,16 +344,6 @@ module _ (old new : Dart) (m : Map) where
   pub redirect-relinked : Relinked m (redirect old new m)
   unfolding redirect
   redirect-relinked = relinks m _ (λ e. instead old new (e .nextLeft)) (λ e. instead old new (e .nextRight)) refl refl refl
-
-  -- what led to `old` leads to `new`
-  pub redirect-next : (d : Dart) → hasEdge m (d .edge) ≡ true → next (redirect old new m) d ≡ instead old new (next m d)
-  unfolding redirect
-  redirect-next d h =
-      rw (next-row, next-row, mapped-edge m (redirect old new m) (λ e. withLinks (instead old new (e .nextLeft)) (instead old new (e .nextRight)) e) refl (λ r k. refl) (d .edge) h) (step (d .back))
-    where
-      step : (b : Bool) → nextIn b (withLinks (instead old new (edge m (d .edge) .nextLeft)) (instead old new (edge m (d .edge) .nextRight)) (edge m (d .edge))) ≡ instead old new (nextIn b (edge m (d .edge)))
-      step true = refl
-      step false = refl
 
 module _ (x c : Dart) (m : Map) where
   abbrev led : Edge → Edge

@@ -8,18 +8,18 @@ use Prim.Native.Nat.{ℕ, suc, _+_, _/_, _≤_}
 use native.Mathlib.Omega.{arith}
 use borrow.Author.Tests.{ltb-false, leb-true, not-true, not-false}
 use lib.Dec.{leb, ltb}
-use lib.IntN.{ℤ, pos, negsuc, natAbs}
+use lib.IntN.{ℤ, natAbs}
 use lib.ListN.{length}
 use lib.Signed.{nonNeg}
 use Rattle.lists.specs.Tests.{same, bit}
 use Rattle.lists.specs.Scans.{all, isSome}
-use Rattle.lists.proofs.Bools.{same-true, differ}
+use Rattle.lists.proofs.Bools.{same-true, differ, and-true, or-false}
 use Rattle.plane.specs.declared.Point.{Point}
-use Rattle.plane.specs.Points.{InRange, samePoint, maxCoordinate}
+use Rattle.plane.specs.Points.{InRange, samePoint}
+use Rattle.plane.proofs.Laws.{samePoint-true}
 use Rattle.curves.specs.Curves.{Curve, points, pointsOf, lastPoint, startWay, endWay, point, curveOf, coordinate, isRun, maxPoints}
 use Rattle.curves.specs.Tests.{neighboursDiffer, straightInside, onCurve, isSimple}
-use Rattle.geometry.proofs.Booleans.{and-true, or-false}
-use Rattle.geometry.proofs.Meeting.{samePoint-true}
+use Rattle.curves.proofs.Runs.{coordinate-le}
 use Rattle.map.specs.Limits.{lastNumber}
 use Rattle.map.specs.Rows.{Map, Sizes, node, edge, hasNode, hasEdge, withoutNode, withoutEdge}
 use Rattle.map.specs.Darts.{edgeEnds}
@@ -156,12 +156,8 @@ has-node m z h = and-true (nonNeg z) (hasNode m (natAbs z)) (not-false (nonNeg z
 has-edge : (m : Map) (z : ℤ) → noEdge m z ≡ false → hasEdge m (natAbs z) ≡ true
 has-edge m z h = and-true (nonNeg z) (hasEdge m (natAbs z)) (not-false (nonNeg z && hasEdge m (natAbs z)) h) .1
 
-coordinate-most : (z : ℤ) → coordinate z ≡ true → natAbs z ≤ maxCoordinate
-coordinate-most (pos n) h = leb-true n maxCoordinate (and-true (leb 0 n) (leb n maxCoordinate) h .1)
-coordinate-most (negsuc n) h = absurd (true≢false (sym h))
-
 inside : (x y : ℤ) → outside x y ≡ false → InRange (point x y)
-inside x y h = let k = and-true (coordinate x) (coordinate y) (not-false (coordinate x && coordinate y) h) in record { x = coordinate-most x (k .0); y = coordinate-most y (k .1) }
+inside x y h = let k = and-true (coordinate x) (coordinate y) (not-false (coordinate x && coordinate y) h) in record { x = coordinate-le x (k .0); y = coordinate-le y (k .1) }
 
 points-count : (l : List ℤ) → length (pointsOf l) ≡ length l / 2
 points-count [] = refl
@@ -180,7 +176,7 @@ points-in-range (x ∷ y ∷ l) h p k = step (points-in-range l (h₂ .1) p) (Li
     h₂ = and-true (coordinate y) (all coordinate l) (h₁ .1)
 
     step : (List·Memᴰ p (pointsOf l) → InRange p) → (p ≡ point x y) ⊎ List·Memᴰ p (pointsOf l) → InRange p
-    step ih (inl e) = rw e (record { x = coordinate-most x (h₁ .0); y = coordinate-most y (h₂ .0) })
+    step ih (inl e) = rw e (record { x = coordinate-le x (h₁ .0); y = coordinate-le y (h₂ .0) })
     step ih (inr j) = ih j
 
 -- the points of a run are the curve's

@@ -10,9 +10,9 @@ use borrow.Author.Tests.{ltb-true, leb-true, lt-ltb, le-leb}
 use lib.Dec.{leb, ltb}
 use Rattle.lists.specs.Scans.{any, all, find, isSome, keep, linked}
 use Rattle.lists.specs.Members.{All, Pairs, Distinct}
-use Rattle.lists.proofs.Bools.{or-true, or-right}
+use Rattle.lists.proofs.Bools.{or-true, or-right, and-true, and-is, or-left, or-false}
 use Rattle.lists.proofs.Keeps.{keep-in}
-use Rattle.geometry.proofs.Booleans.{and-true, and-is, or-left, or-false}
+use Rattle.lists.proofs.Members.{all-of, each-of}
 use Rattle.map.specs.Form.{numbered}
 use Rattle.map.proofs.Scans as scans
 
@@ -48,18 +48,6 @@ none-has p (y ∷ l) h x m = let k = or-false (p y) (any p l) h in elim (List·M
 -- what is found is an element that p takes
 pub found : {A : Type 0} (p : A → Bool) (u : A) (l : List A) → isSome (find p l) ≡ true → List·Memᴰ (Option·getD (find p l) u) l × (p (Option·getD (find p l) u) ≡ true)
 found p u l h = let r = scans.find-some p l h in rw (r .3) (r .1, r .2)
-
-all-of : {A : Type 0} {R : A → Type 0} (l : List A) → ((x : A) → List·Memᴰ x l → R x) → All R l
-all-of [] h = tt
-all-of (y ∷ l) h = (h y (List·Memᴰ·head refl), all-of l (λ x k. h x (List·Memᴰ·tail k)))
-
-pub each-of : {A : Type 0} (R : A → Type 0) (l : List A) → All R l → (x : A) → List·Memᴰ x l → R x
-each-of R [] h x k = absurd (List·Memᴰ·not-nil k)
-each-of {A} R (y ∷ l) h x k = step (each-of R l (h .1) x) (List·Memᴰ·cases-cons k)
-  where
-    step : (List·Memᴰ x l → R x) → (x ≡ y) ⊎ List·Memᴰ x l → R x
-    step ih (inl e) = rw e (h .0)
-    step ih (inr j) = ih j
 
 -- ---- numbers that rise from `least` on and stay below `next`
 

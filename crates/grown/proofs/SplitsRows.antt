@@ -1,9 +1,10 @@
 -- Rows where an edge is split or healed: the new names of departures, and a row replaced or left out. Assumes nothing.
 use mathlib.Core.Path.{_≡_, refl, sym, ap, ap₂, _∙_, subst}
 use mathlib.Core.Logic.{inl, inr, _≢_}
-use mathlib.Core.Bool.{Bool, true, false, cond, not}
+use mathlib.Core.Bool.{true, cond, not}
 use mathlib.Core.List.{List, _∷_, map, map-map, List·Memᴰ, List·Permᴰ, Permᴰ·map, [], _++_, List·Permᴰ·cons, List·Permᴰ·trans, Permᴰ·middle, Permᴰ·append-nil}
 use Prim.Native.Nat.{ℕ, _+_}
+use borrow.Author.Tests.{not-true}
 use Rattle.lists.specs.Members.{Distinct}
 use Rattle.lists.proofs.Bools.{equal?, same-refl, same-false, differ}
 use Rattle.planar.specs.Map.{Dart, fwd, bwd}
@@ -51,11 +52,7 @@ one-last l x = List·Permᴰ·trans (Permᴰ·middle x l []) (List·Permᴰ·con
 
 -- the others are not e
 pub rest-other : (e : ℕ) (es : List Edge) {q : Edge} → List·Memᴰ q (withoutEdge e es) → q .number ≢ e
-rest-other e es {q} k = differ (q .number) e (no (same (q .number) e) (keep-in (λ (r : Edge). not (same (r .number) e)) es k .1))
-  where
-    no : (b : Bool) → not b ≡ true → b ≡ false
-    no true h = sym h
-    no false h = refl
+rest-other e es {q} k = differ (q .number) e (not-true (same (q .number) e) (keep-in (λ (r : Edge). not (same (r .number) e)) es k .1))
 
 module _ (m : Map) (e : ℕ) (f : Edge → Edge) (keeps : (r : Edge) → f r .number ≡ r .number) (once : Distinct (map numberOf (m .edges))) (has : hasEdge m e ≡ true) where
   -- the row e before the others

@@ -12,10 +12,10 @@ use Rattle.lists.specs.Scans.{all}
 use Rattle.lists.specs.Tables.{table}
 use Rattle.lists.proofs.Scans.{length-table}
 use Rattle.plane.specs.declared.Point.{Point}
-use Rattle.plane.specs.Points.{InRange, maxCoordinate}
+use Rattle.plane.specs.Points.{InRange}
 use Rattle.curves.specs.Curves.{Curve, Run, isRun, points, pointAt, curveOf, coordinates, coordinate, maxPoints}
 use Rattle.curves.specs.Edits.{course, reversed}
-use Rattle.curves.proofs.Runs.{two-points, few-points, point-in}
+use Rattle.curves.proofs.Runs.{two-points, few-points, point-in, coordinate-of}
 use Rattle.cutting.specs.declared.Line.{Line}
 use Rattle.cutting.specs.Lines.{lineOf}
 use Rattle.cutting.proofs.Lines.{length-coordinates}
@@ -53,9 +53,6 @@ course-listed {l} {i} row true =
       least = two-points (run-at row);
       most = few-points (run-at row);
     }
-
-coordinate-of : (x : ℕ) → x ≤ maxCoordinate → coordinate (pos x) ≡ true
-coordinate-of x h = rw (le-leb 0 x (omega arith), le-leb x maxCoordinate h)
 
 coordinates-of : (f : ℕ → Point) → ((i : ℕ) → InRange (f i)) → (n a : ℕ) → all coordinate (coordinates (table f a n)) ≡ true
 coordinates-of f h zero a = refl

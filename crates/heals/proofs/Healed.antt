@@ -30,6 +30,7 @@ use Rattle.map.specs.Edits.{sharedNodes, joint, parts, healedCurve, heal}
 use Rattle.map.specs.Ticket.{carried}
 use Rattle.map.proofs.Laws.{formed-is}
 use Rattle.map.proofs.Scans.{all-each}
+use Rattle.map.proofs.Redirects.{redirect-has, redirect-next}
 use Rattle.tables.specs.Tables.{sameZ, column, nodesOf, edgesOf, nodeAt, edgeAt, edgeMap, closed, EdgeRows}
 use Rattle.tables.proofs.Rows.{nodes-length, edges-length, faces-length, nodes-getD, edges-getD}
 use Rattle.tables.proofs.Writes.{Wide, removed-at, nodes-wide, edge-wide}
@@ -49,7 +50,7 @@ use Rattle.heals.specs.declared.Parts.{Parts}
 use Rattle.heals.specs.Kinds.{healTicket}
 use Rattle.heals.specs.Heals.{PartsOf, courseAt, lineAt, renamed, healedSides, healedRows, placed, healedNumber, healedValue, healedHead}
 use Rattle.heals.proofs.Joints.{joint-is}
-use Rattle.heals.proofs.Renamed.{cell-instead, redirect-wide, redirect-numbers, redirect-length, redirect-filled, redirect-has, redirect-next}
+use Rattle.heals.proofs.Renamed.{cell-instead, redirect-wide, redirect-numbers, redirect-length, redirect-filled}
 use Rattle.heals.proofs.Placed.{placedEdges, placed-table, placed-length}
 
 -- ---- the map after the ticket
@@ -190,7 +191,7 @@ module _ {nodes edges faces : List ℤ} {h : Head} (f : Formed nodes edges faces
       ∙ (λ y. newFor (dartCell (back-is y)) (negℤ (number-is y)) (newFor (dartCell (ps .first y)) (number-is y) (cell-next (edge-rows f) p k y)))
       ∙ ap (newFor (dartCell (rev d)) (dartCell (bwd number))) (cell-instead c (fwd number) c-least (next m x))
       ∙ cell-instead (rev d) (bwd number) d-least (instead c (fwd number) (next m x))
-      ∙ ap dartCell (sym (redirect-next (rev d) (bwd number) d-least m₁ x (redirect-has c (fwd number) c-least m (x .edge) has) ∙ ap (instead (rev d) (bwd number)) (redirect-next c (fwd number) c-least m x has)))
+      ∙ ap dartCell (sym (redirect-next (rev d) (bwd number) m₁ x (redirect-has c (fwd number) m (x .edge) ∙ has) ∙ ap (instead (rev d) (bwd number)) (redirect-next c (fwd number) m x has)))
 
   module _ (few : length (points (healedCurve m a b)) ≤ 12) where
     row-written : cellsOf (healedSides t i (s .first) (s .second) z) (lineAt edges (s .first) (s .second)) ≡ edgeCells row

@@ -10,7 +10,7 @@ use lib.IntN.{ℤ, pos}
 use lib.ListN.{getD}
 use Rattle.lists.specs.Tests.{same}
 use Rattle.lists.specs.Scans.{keep, find, isSome}
-use Rattle.lists.proofs.Bools.{which, same-refl, same-true, not-true}
+use Rattle.lists.proofs.Bools.{which, same-refl, same-true, not-true, cond-has}
 use Rattle.curves.proofs.Runs.{and-left, and-right}
 use Rattle.planar.specs.Map.{Dart, fwd, bwd}
 use Rattle.map.specs.Rows.{Edge, Map, edge}
@@ -85,8 +85,7 @@ module _ {l : List ℤ} {n : ℕ} (t : EdgeRows l n) (i j : ℕ) (hi : i < n) (h
   either false = dart-odd l j
 
   either-below : (x : Bool) → cond x (j * 2) (j * 2 + 1) < n * 2
-  either-below true = omega arith
-  either-below false = omega arith
+  either-below x = cond-has (λ (p : ℕ). p < n * 2) x (omega arith) (omega arith)
 
   leaving-is : (k : ℕ) → dartAt l (leavingAt l j (pos k)) ≡ cond (same (leaves m (fwd b)) k) (fwd b) (bwd b)
   unfolding leaves

@@ -7,7 +7,7 @@ use rowing::Sides;
 ghost use mathlib.Core.Path.{_≡_};
 ghost use mathlib.Core.Bool.{true};
 ghost use Prim.Native.Nat.{ℕ, _+_, _*_, _/_, _≤_, _<_};
-ghost use lib.IntN.{pos, negℤ, natAbs};
+ghost use lib.IntN.{pos, natAbs};
 ghost use lib.ListN.{length, getD};
 ghost use lib.Signed.{nonNeg};
 ghost use Rattle.lists.specs.Scans.{isSome};

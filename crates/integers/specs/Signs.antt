@@ -3,6 +3,7 @@ use mathlib.Core.Path.{_≡_, refl, sym, ap, subst}
 use mathlib.Core.Bool.{true, false, true≢false}
 use Prim.Native.Nat.{ℕ, zero, suc, _+_, _-_, _^_, _≤_, _<_}
 use native.Mathlib.Nat.{zero-add, lt-of-le-of-lt}
+use native.Mathlib.Numerals.{add-one}
 use native.Mathlib.Omega.{arith}
 use lib.Dec.{T}
 use lib.IntN.{ℤ, pos, negsuc, natAbs, _+ℤ_, _-ℤ_}
@@ -17,7 +18,7 @@ use borrow.Author.Needs.{sfits-of}
 pub sent : {z : ℤ} → mag z < 2 ^ hbits w64 → toZ w64 (ofZ w64 z) ≡ z
 sent p = toZ-ofZ {w = w64} (sfits-of p)
 
-not-negative : (z : ℤ) → ltZ z (pos 0) ≡ false → T (nonNeg z)
+pub not-negative : (z : ℤ) → ltZ z (pos 0) ≡ false → T (nonNeg z)
 not-negative (pos n) e = tt
 not-negative (negsuc n) e = absurd (true≢false e)
 
@@ -53,14 +54,14 @@ next-mag zero = omega arith
 next-mag (suc k) = rw (next k) (omega arith)
 
 sums-fit : (z : ℤ) → SFits w64 z → ltZ z (pos 0) ≡ true
-    → SFits w64 (z +ℤ pos 1) × SFits w64 (pos 0 -ℤ (z +ℤ pos 1)) × T (nonNeg (pos 0 -ℤ (z +ℤ pos 1))) × (natAbs (pos 0 -ℤ (z +ℤ pos 1)) + 1 < 2 ^ 64)
+    → SFits w64 (z +ℤ pos 1) × SFits w64 (pos 0 -ℤ (z +ℤ pos 1)) × T (nonNeg (pos 0 -ℤ (z +ℤ pos 1))) × (natAbs (pos 0 -ℤ (z +ℤ pos 1)) + 1 ≡ natAbs z)
 sums-fit (pos n) f e = absurd (omega (arith, ltb-true n 0 e))
 sums-fit (negsuc n) f e =
     let b : n < 2 ^ 63 = f .sfits in
-    (sfits-of (lt-of-le-of-lt (next-mag n) b), rw (turned n) (sfits-of b), rw (turned n) tt, rw (turned n) (omega arith))
+    (sfits-of (lt-of-le-of-lt (next-mag n) b), rw (turned n) (sfits-of b), rw (turned n) tt, rw (turned n) (add-one n))
 
 module _ {z : ℤ} (f : SFits w64 z) (e : ltZ (toZ w64 (ofZ w64 z)) (pos 0) ≡ true) where
-  all : SFits w64 (z +ℤ pos 1) × SFits w64 (pos 0 -ℤ (z +ℤ pos 1)) × T (nonNeg (pos 0 -ℤ (z +ℤ pos 1))) × (natAbs (pos 0 -ℤ (z +ℤ pos 1)) + 1 < 2 ^ 64)
+  all : SFits w64 (z +ℤ pos 1) × SFits w64 (pos 0 -ℤ (z +ℤ pos 1)) × T (nonNeg (pos 0 -ℤ (z +ℤ pos 1))) × (natAbs (pos 0 -ℤ (z +ℤ pos 1)) + 1 ≡ natAbs z)
   all = sums-fit z f (rw (toZ-ofZ f) at e)
 
   pub next-fits : SFits w64 (toZ w64 (ofZ w64 z) +ℤ pos 1)
@@ -75,5 +76,8 @@ module _ {z : ℤ} (f : SFits w64 z) (e : ltZ (toZ w64 (ofZ w64 z)) (pos 0) ≡ 
       rw (toZ-ofZ f, toZ-ofZ (all .0), toZ-ofZ (all .1))
       (all .2, fits-natAbs {w = w64} {w′ = w64} {z = pos 0 -ℤ (z +ℤ pos 1)} tt (all .1))
 
-  pub turned-next : natAbs (toZ w64 (ofZ w64 (pos 0 -ℤ toZ w64 (ofZ w64 (toZ w64 (ofZ w64 z) +ℤ pos 1))))) + 1 < 2 ^ 64
+  pub turned-next : natAbs (toZ w64 (ofZ w64 (pos 0 -ℤ toZ w64 (ofZ w64 (toZ w64 (ofZ w64 z) +ℤ pos 1))))) + 1 ≡ natAbs z
   turned-next = rw (toZ-ofZ f, toZ-ofZ (all .0), toZ-ofZ (all .1)) (all .3)
+
+  pub turned-word : Fits w64 (natAbs (toZ w64 (ofZ w64 (pos 0 -ℤ toZ w64 (ofZ w64 (toZ w64 (ofZ w64 z) +ℤ pos 1))))) + 1)
+  turned-word = subst (Fits w64) (sym turned-next) (fits-natAbs {w = w64} {w′ = w64} {z = z} tt f)

@@ -1,14 +1,14 @@
 -- The scan for the first departure met clockwise: a choice, with the departures that are left, answers what the law says of them all. Assumes nothing.
 use mathlib.Core.Path.{_≡_, refl, sym, ap, _∙_}
-use mathlib.Core.Bool.{Bool, true, false, cond, not}
+use mathlib.Core.Bool.{Bool, true, false, cond}
 use mathlib.Core.List.{List, [], _∷_}
 use Prim.Native.Nat.{ℕ, _+_, _-_, _<_, _≤_}
-use native.Mathlib.Omega.{arith}
 use Rattle.lists.specs.declared.Found.{Found}
 use Rattle.lists.specs.declared.Found.the-variants.{At}
 use Rattle.lists.specs.Scans.{keep, fold}
 use Rattle.lists.specs.Tables.{table}
 use Rattle.lists.proofs.Scans.{table-step, table-end}
+use Rattle.lists.proofs.Bools.{cond-has}
 use Rattle.plane.specs.Directions.{Way, before}
 use Rattle.rotation.specs.Law.{greatest, pick, firstClockwise}
 use Rattle.linking.specs.declared.Choice.{Choice}
@@ -54,6 +54,11 @@ module _ (way : ℕ → Way) (v : Way) where
   unfolding met
   scan-all ds = scan noChoice ds
 
+  -- and of all from what is no choice yet, whatever stands there
+  pub scan-none : (a b : ℕ) (ds : List ℕ) → answer (fold (chosenOf way v) (record { any = false; all = a; under = false; below = b }) ds) ≡ firstMet way v ds
+  unfolding met
+  scan-none a b ds = scan (record { any = false; all = a; under = false; below = b }) ds
+
   -- ---- a turn of the loop at position i
 
   module _ (f : ℕ → Bool) (h : Choice) (i n : ℕ) where
@@ -89,27 +94,18 @@ module _ (way : ℕ → Way) (v : Way) where
         choice-is (all ∙ ap (laterOf way (h .any) (h .all) p) is) (ap (λ (t : Bool). cond t true (h .under)) (sym f))
         (g ∙ ap (laterOf way (h .under) (h .below) p) is ∙ ap (λ (t : Bool). cond t (laterOf way (h .under) (h .below) p (way p)) (h .below)) (sym f))
 
-  -- what is chosen is a position passed
-  later-below : (s : Bool) (k p : ℕ) (t : Bool) → k ≤ p → cond s (cond t p k) p ≤ p
-  later-below true k p true h = omega arith
-  later-below true k p false h = h
-  later-below false k p t h = omega arith
+  -- what is chosen has what all that are passed have
+  module _ (P : ℕ → Type 0) where
+    later-has : (s t : Bool) (k p : ℕ) → P p → (s ≡ true → P k) → P (cond s (cond t p k) p)
+    later-has true t k p h g = cond-has P t h (g refl)
+    later-has false t k p h g = h
 
-  either-below : (t : Bool) (x y p : ℕ) → x ≤ p → y ≤ p → cond t x y ≤ p
-  either-below true x y p h k = h
-  either-below false x y p h k = k
+    below-has : (t s u : Bool) (k p : ℕ) → P p → (s ≡ true → P k) → cond t true s ≡ true → P (cond t (cond s (cond u p k) p) k)
+    below-has true s u k p h g e = later-has s u k p h g
+    below-has false s u k p h g e = g e
 
-  pub chosen-below : (h : Choice) (p : ℕ) → h .all ≤ p → h .below ≤ p → (chosenOf way v h p .all ≤ p) × (chosenOf way v h p .below ≤ p)
-  chosen-below h p a b = (
-    later-below (h .any) (h .all) p (before (way (h .all)) (way p)) a,
-    either-below (before (way p) v) (laterOf way (h .under) (h .below) p (way p)) (h .below) p (later-below (h .under) (h .below) p (before (way (h .below)) (way p)) b) b,
-  )
-
--- a test that is turned
-pub turned-true : (b : Bool) → not b ≡ true → b ≡ false
-turned-true true e = sym e
-turned-true false e = refl
-
-pub turned-false : (b : Bool) → not b ≡ false → b ≡ true
-turned-false true e = refl
-turned-false false e = sym e
+    pub chosen-has : (h : Choice) (p : ℕ) → P p → (h .any ≡ true → P (h .all)) → (h .under ≡ true → P (h .below)) → P (chosenOf way v h p .all) × (chosenOf way v h p .under ≡ true → P (chosenOf way v h p .below))
+    chosen-has h p a x y = (
+      later-has (h .any) (before (way (h .all)) (way p)) (h .all) p a x,
+      below-has (before (way p) v) (h .under) (before (way (h .below)) (way p)) (h .below) p a y,
+    )

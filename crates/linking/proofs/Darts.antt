@@ -17,12 +17,13 @@ use Rattle.planar.proofs.Rings.{sameDart-refl, sameDart-true}
 use Rattle.map.specs.Limits.{edgeWidth}
 use Rattle.map.specs.Rows.{dartOf, dartCell, hasEdge, findEdge}
 use Rattle.map.specs.Links.{instead}
+use Rattle.map.proofs.RoundTrip.{dart-cell-back}
 use Rattle.tables.specs.Tables.{sameZ, column, edgeAt, edgeMap, EdgeRows}
 use Rattle.tables.proofs.Order.{is-same, same-is}
 use Rattle.tables.proofs.Rows.{edge-rows-rising, edge-number-in}
 use Rattle.tables.proofs.Lookups.{row-place, edge-found}
 use Rattle.links.specs.Positions.{dartAt, sideCell}
-use Rattle.links.proofs.Positions.{dart-back, cells-of, link-is, next-named}
+use Rattle.links.proofs.Positions.{cells-of, link-is, next-named}
 use Rattle.linking.proofs.Kept.{newFor}
 
 -- ---- as they are written
@@ -40,7 +41,7 @@ pub cell-test : (z : ℤ) (d : Dart) → 1 ≤ d .edge → sameZ z (dartCell d) 
 cell-test z d h =
     elim (which (sameZ z (dartCell d))) [
       | inl e ↦ e ∙ sym (ap (λ (c : Dart). sameDart c d) (ap dartOf (same-is z (dartCell d) e) ∙ cell-dart d h) ∙ sameDart-refl d)
-      | inr e ↦ e ∙ sym (not-true (sameDart (dartOf z) d) (λ t. let q : z ≡ dartCell d = sym (dart-back z) ∙ ap dartCell (sameDart-true (dartOf z) d t) in let k : true ≡ false = sym (is-same z (dartCell d) q) ∙ e in let n : _≡_ {A = ℕ} 0 1 = cc in omega arith))
+      | inr e ↦ e ∙ sym (not-true (sameDart (dartOf z) d) (λ t. let q : z ≡ dartCell d = sym (dart-cell-back z) ∙ ap dartCell (sameDart-true (dartOf z) d t) in let k : true ≡ false = sym (is-same z (dartCell d) q) ∙ e in let n : _≡_ {A = ℕ} 0 1 = cc in omega arith))
     ]
 
 -- one directed edge is another if and only if they are written alike

@@ -13,6 +13,7 @@ use Rattle.lists.proofs.Keeps.{keep-map}
 use Rattle.plane.specs.Directions.{Way}
 use Rattle.planar.specs.Map.{Dart}
 use Rattle.rotation.specs.Law.{firstClockwise}
+use Rattle.rotation.proofs.Rename.{first-map}
 use Rattle.map.specs.Darts.{directed, leaves, departures, edgeEnds, way}
 use Rattle.tables.specs.Tables.{sameZ, edgeMap, EdgeRows}
 use Rattle.tables.proofs.Rows.{map-table}
@@ -20,7 +21,7 @@ use Rattle.tables.proofs.Order.{same-pos}
 use Rattle.links.specs.Positions.{dartAt, wayAt}
 use Rattle.links.proofs.Positions.{directed-table, cell-leaves, way-is}
 use Rattle.linking.specs.Linking.{positions, leavesNode, firstMet}
-use Rattle.linking.proofs.FirstMet.{first-map, first-any, met-at, met-none, position-below}
+use Rattle.linking.proofs.FirstMet.{first-any, met-at, met-none, position-below}
 
 -- what is counted is what is kept
 pub count-keep : {A : Type 0} (p : A → Bool) (l : List A) → count p l ≡ length (keep p l)
@@ -62,7 +63,3 @@ module _ {l : List ℤ} {n : ℕ} (t : EdgeRows l n) where
 
     pub met-nothing : firstMet (wayAt l) v ds ≡ Missing → map (dartAt l) ds ≡ []
     met-nothing e = ap (map (dartAt l)) (met-none (wayAt l) v ds e)
-
-    -- where a departure stands in for none
-    pub met-or : (u : ℕ) → firstClockwise (way (edgeMap l n)) v (dartAt l u) (map (dartAt l) ds) ≡ dartAt l (firstClockwise (wayAt l) v u ds)
-    met-or u = first-map (dartAt l) (wayAt l) (way (edgeMap l n)) v u ds ways

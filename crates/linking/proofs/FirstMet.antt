@@ -1,8 +1,8 @@
 -- The first departure met clockwise: under other names, whichever stands in for none, and what the answer tells. Assumes nothing.
-use mathlib.Core.Path.{_≡_, refl, sym, ap, ap₂, _∙_}
+use mathlib.Core.Path.{_≡_, refl, sym, ap, _∙_}
 use mathlib.Core.Logic.{inl, inr, ⊎-elim}
 use mathlib.Core.Bool.{Bool, true, false, cond, _&&_}
-use mathlib.Core.List.{List, [], _∷_, map, map-id, List·Memᴰ, List·Memᴰ·head, List·Memᴰ·tail, List·Memᴰ·cases-cons, List·Memᴰ·not-nil}
+use mathlib.Core.List.{List, [], _∷_, map-id, List·Memᴰ, List·Memᴰ·head, List·Memᴰ·tail, List·Memᴰ·cases-cons, List·Memᴰ·not-nil}
 use Prim.Native.Nat.{ℕ, zero, suc, _+_, _*_, _/_, _<_, _≤_}
 use native.Mathlib.Omega.{arith}
 use lib.IntN.{ℤ}
@@ -11,33 +11,12 @@ use Rattle.lists.specs.Scans.{keep}
 use Rattle.lists.specs.Tables.{table}
 use Rattle.lists.proofs.Keeps.{keep-in, keep-map}
 use Rattle.lists.proofs.Bools.{equal?, same-false}
-use Rattle.plane.specs.Directions.{Way, before}
-use Rattle.rotation.specs.Law.{greatest, pick, firstClockwise}
+use Rattle.plane.specs.Directions.{Way}
+use Rattle.rotation.specs.Law.{pick, firstClockwise}
 use Rattle.rotation.proofs.Node.{first-in}
+use Rattle.rotation.proofs.Rename.{first-map}
 use Rattle.links.specs.Positions.{wayAt, wayWith}
 use Rattle.linking.specs.Linking.{positions, leaving, firstMet}
-
--- ---- other names
-
-module _ {D E : Type 0} (f : D → E) (way : D → Way) (way′ : E → Way) where
-  greatest-map : (u : D) (ds : List D) → ((d : D) → List·Memᴰ d (u ∷ ds) → way′ (f d) ≡ way d) → greatest way′ (f u) (map f ds) ≡ f (greatest way u ds)
-  greatest-map u [] h = refl
-  greatest-map u (d ∷ ds) h = ap (λ (b : Bool). greatest way′ (cond b (f d) (f u)) (map f ds)) (ap₂ before (h u (List·Memᴰ·head refl)) (h d (List·Memᴰ·tail (List·Memᴰ·head refl)))) ∙ go (before (way u) (way d)) (λ w g. greatest-map w ds g)
-    where
-      go : (b : Bool) → ((w : D) → ((d : D) → List·Memᴰ d (w ∷ ds) → way′ (f d) ≡ way d) → greatest way′ (f w) (map f ds) ≡ f (greatest way w ds)) → greatest way′ (cond b (f d) (f u)) (map f ds) ≡ f (greatest way (cond b d u) ds)
-      go true ih = ih d (λ c m. h c (List·Memᴰ·tail m))
-      go false ih = ih u (λ c m. elim (List·Memᴰ·cases-cons m) [ inl e ↦ h c (List·Memᴰ·head e) | inr k ↦ h c (List·Memᴰ·tail (List·Memᴰ·tail k)) ])
-
-  pick-map : (u : D) (ds : List D) → ((d : D) → List·Memᴰ d ds → way′ (f d) ≡ way d) → pick way′ (f u) (map f ds) ≡ f (pick way u ds)
-  unfolding pick
-  pick-map u [] h = refl
-  pick-map u (d ∷ ds) h = greatest-map d ds h
-
-  pub first-map : (v : Way) (u : D) (ds : List D) → ((d : D) → List·Memᴰ d ds → way′ (f d) ≡ way d) → firstClockwise way′ v (f u) (map f ds) ≡ f (firstClockwise way v u ds)
-  unfolding firstClockwise
-  first-map v u ds h =
-      ap₂ (λ (c : E) (l : List E). pick way′ c l) (pick-map u ds h) (keep-map f (λ d. before (way d) v) (λ d. before (way′ d) v) ds (λ d m. ap (λ (w : Way). before w v) (h d m)))
-      ∙ pick-map (pick way u ds) (keep (λ d. before (way d) v) ds) (λ d m. h d (keep-in (λ d. before (way d) v) ds m .0))
 
 -- directions that are the same
 pub met-same : (way way′ : ℕ → Way) (v : Way) (ds : List ℕ) → ((d : ℕ) → List·Memᴰ d ds → way′ d ≡ way d) → firstMet way′ v ds ≡ firstMet way v ds

@@ -1,7 +1,7 @@
 -- An edge linked in and unlinked in the table is so in the map. Assumes nothing.
 use mathlib.Core.Path.{_≡_, refl, sym, ap, ap₂, _∙_, subst}
 use mathlib.Core.Logic.{_⊎_, inl, inr}
-use mathlib.Core.Bool.{Bool, not, _&&_}
+use mathlib.Core.Bool.{Bool, not, _&&_, and-assoc}
 use mathlib.Core.List.{List, [], map}
 use Prim.Native.Nat.{ℕ, _+_, _*_, _-_, _/_, _%_, _<_, _≤_}
 use native.Mathlib.Omega.{arith}
@@ -10,7 +10,7 @@ use Rattle.lists.specs.Tests.{same}
 use Rattle.lists.specs.Scans.{keep}
 use Rattle.lists.specs.declared.Found.{Found}
 use Rattle.lists.specs.declared.Found.the-variants.{At, Missing}
-use Rattle.lists.proofs.Bools.{equal?, same-eq, same-false, not-true, eq2, eq3}
+use Rattle.lists.proofs.Bools.{equal?, same-eq, same-false, not-true, eq2}
 use Rattle.lists.proofs.Keeps.{keep-in, keep-map}
 use Rattle.lists.proofs.Members.{map-cong}
 use Rattle.plane.specs.Directions.{Way}
@@ -148,9 +148,6 @@ module _ {l : List ℤ} {n : ℕ} (t : EdgeRows l n) (some : 0 < n) where
       ∙ ap₂ (λ (d : Dart) (ds : List Dart). linkIn d ds (edgeMap l₁ n)) (dart-kept t r (p + 1) b₁ ∙ dart-odd l i) (leaving-kept t r (p + 1) (p + 1) (p + 1) b₁ ∙ end)
       ∙ ap (linkIn (bwd e) (keep (λ d. not (sameDart d (bwd e))) (departures m (leaves m (bwd e)))))
       (linked-in-map t p b₀ (p + 1) ∙ ap₂ (λ (d : Dart) (ds : List Dart). linkIn d ds m) (dart-even l i) start)
-    where
-      and-assoc : (a b c : Bool) → a && b && c ≡ a && (b && c)
-      and-assoc = eq3 (λ a b c. a && b && c) (λ a b c. a && (b && c)) tt
 
 -- ---- a row unlinked
 

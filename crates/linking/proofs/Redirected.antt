@@ -5,19 +5,18 @@ use mathlib.Core.Bool.{cond}
 use mathlib.Core.List.{List, map}
 use Prim.Native.Nat.{ℕ, _+_, _*_, _/_, _<_, _≤_}
 use native.Mathlib.Omega.{arith}
-use lib.IntN.{ℤ, pos}
-use lib.ListN.{getD, set}
+use lib.IntN.{ℤ}
+use lib.ListN.{set}
 use Rattle.lists.specs.Tests.{same}
 use Rattle.lists.proofs.Bools.{equal?, same-eq, same-false}
 use Rattle.lists.proofs.Scans.{table-same}
 use Rattle.planar.specs.Map.{Dart}
-use Rattle.map.specs.Limits.{edgeWidth}
 use Rattle.map.specs.Rows.{Edge, dartOf, dartCell, setEdges, atEdge}
 use Rattle.map.specs.Links.{withLinks, instead, redirect, lead}
 use Rattle.tables.specs.Tables.{edgesOf, edgeAt, edgeMap, EdgeRows}
 use Rattle.tables.proofs.Rows.{map-table, edges-table}
 use Rattle.links.specs.Positions.{odd, dartAt, sidePlace, sideCell}
-use Rattle.links.proofs.Positions.{Even, Odd, side, cells-of, number-injective}
+use Rattle.links.proofs.Positions.{Even, Odd, side, cells-of, number-injective, side-even, side-odd}
 use Rattle.linking.specs.Linking.{redirected}
 use Rattle.linking.proofs.Kept.{Relinked, redirected-relinked, redirected-link, stored-relinked, stored-here, stored-there, edge-relinked, number-kept}
 use Rattle.linking.proofs.Darts.{cell-dart, new-dart}
@@ -31,21 +30,15 @@ links-are : {a b c d : Dart} (e : Edge) → a ≡ b → c ≡ d → withLinks a 
 links-are e f g = ap₂ (λ (x y : Dart). withLinks x y e) f g
 
 module _ {l l′ : List ℤ} {n : ℕ} (t : EdgeRows l n) (r : Relinked l l′ n) (i : ℕ) (h : i < n) where
-  left-place : (u : List ℤ) → getD u (i * edgeWidth + 3) (pos 0) ≡ sideCell u (i * 2) 3
-  left-place u = let e : i * edgeWidth + 3 ≡ sidePlace (i * 2) 3 = omega arith in ap (λ (j : ℕ). getD u j (pos 0)) e
-
-  right-place : (u : List ℤ) → getD u (i * edgeWidth + 4) (pos 0) ≡ sideCell u (i * 2 + 1) 3
-  right-place u = let e : i * edgeWidth + 4 ≡ sidePlace (i * 2 + 1) 3 = omega arith in ap (λ (j : ℕ). getD u j (pos 0)) e
-
   -- a row by its two links
   row-relinked : edgeAt l′ i ≡ withLinks (dartOf (sideCell l′ (i * 2) 3)) (dartOf (sideCell l′ (i * 2 + 1) 3)) (edgeAt l i)
-  row-relinked = edge-relinked r (t .fits) i h ∙ links-are (edgeAt l i) (ap dartOf (left-place l′)) (ap dartOf (right-place l′))
+  row-relinked = edge-relinked r (t .fits) i h ∙ links-are (edgeAt l i) (ap dartOf (sym (side-even l′ i 3))) (ap dartOf (sym (side-odd l′ i 3)))
 
   left-was : dartOf (sideCell l (i * 2) 3) ≡ edgeAt l i .nextLeft
-  left-was = sym (ap dartOf (left-place l)) ∙ cells-of t i h .nextLeft
+  left-was = ap dartOf (side-even l i 3) ∙ cells-of t i h .nextLeft
 
   right-was : dartOf (sideCell l (i * 2 + 1) 3) ≡ edgeAt l i .nextRight
-  right-was = sym (ap dartOf (right-place l)) ∙ cells-of t i h .nextRight
+  right-was = ap dartOf (side-odd l i 3) ∙ cells-of t i h .nextRight
 
 -- a position has its directed edge still
 pub dart-kept : {l l′ : List ℤ} {n : ℕ} → EdgeRows l n → Relinked l l′ n → (p : ℕ) → p < n * 2 → dartAt l′ p ≡ dartAt l p

@@ -1,6 +1,6 @@
 -- Numbers compared as words. Assumes nothing.
 use mathlib.Core.Path.{_≡_, sym, ap₂, _∙_}
-use mathlib.Core.Bool.{Bool, true, false, _&&_}
+use mathlib.Core.Bool.{Bool, false, _&&_}
 use lib.Dec.{eqb}
 use lib.IntN.{ℤ}
 use mir.Syntax.{w64}
@@ -19,9 +19,6 @@ pub cell-test : (z n cell : ℤ) → SFits w64 z → SFits w64 n → z ≡ cell 
 cell-test z n cell f g e = word-test f g ∙ ap₂ sameZ e (sym (toZ-ofZ {w = w64} g))
 
 -- two tests
-pub and-both : {a b : Bool} → a ≡ true → b ≡ true → a && b ≡ true
-and-both e f = rw (e, f)
-
 pub and-left-none : (a b : Bool) → a ≡ false → a && b ≡ false
 and-left-none a b e = rw e
 

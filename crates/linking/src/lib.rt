@@ -5,7 +5,7 @@ ghost use mathlib.Core.Path.{_≡_};
 ghost use mathlib.Core.Bool.{true, false, not, _&&_};
 ghost use Prim.Native.Nat.{ℕ, _+_, _*_, _/_, _<_, _≤_};
 ghost use lib.IntN.{negℤ};
-ghost use lib.ListN.{length};
+ghost use lib.ListN.{length, getD, take};
 ghost use lib.Signed.{nonNeg};
 ghost use Rattle.lists.specs.Tests.{same};
 ghost use Rattle.lists.specs.Scans.{any, count as countOf, keep};
@@ -27,7 +27,7 @@ struct Choice {
 
 // The later of the chosen departure k, if there is one, and p, with p's first step w.
 fn later(edges: &[i64], own: usize, c: &[i64], some: bool, k: usize, p: usize, w: Step) -> usize
-    requires { ⌜ Known (now edges) own (now c) k × (InRange (w .from)) × (InRange (w .to)) ⌝ }
+    requires { ⌜ (some ≡ true → Known (now edges) own (now c) k) × (InRange (w .from)) × (InRange (w .to)) ⌝ }
     ensures { λ r. ⌜ r ≡ laterOf (wayWith (now (edges .entry)) own (now (c .entry))) some k p (wayTo (w .from) (w .to)) ⌝ }
 {
     if !some {
@@ -42,7 +42,7 @@ fn later(edges: &[i64], own: usize, c: &[i64], some: bool, k: usize, p: usize, w
 
 // The choice with the departure p besides, for the direction v.
 fn chosen(edges: &[i64], own: usize, c: &[i64], h: Choice, p: usize, v: Step) -> Choice
-    requires { ⌜ ((q : ℕ) → q ≤ p → Known (now edges) own (now c) q) × (h .all ≤ p) × (h .below ≤ p) × (InRange (v .from)) × (InRange (v .to)) ⌝ }
+    requires { ⌜ Known (now edges) own (now c) p × (h .any ≡ true → Known (now edges) own (now c) (h .all)) × (h .under ≡ true → Known (now edges) own (now c) (h .below)) × (InRange (v .from)) × (InRange (v .to)) ⌝ }
     ensures { λ r. ⌜ r ≡ chosenOf (wayWith (now (edges .entry)) own (now (c .entry))) (wayTo (v .from) (v .to)) h p ⌝ }
 {
     let w = links::step_with(edges, own, c, p);
@@ -83,9 +83,17 @@ pub fn first_clockwise(
         under: false,
         below: 0,
     };
-    for p in 0..count * 2 {
-        if (links::dart_cell(edges, p, 1) == node) & (p != a) & (p != b) {
-            h = chosen(edges, own, c, h, p, v);
+    for i in 0..count {
+        let p = i * 2;
+        if edges[i * 32 + 1] == node {
+            if (p != a) & (p != b) {
+                h = chosen(edges, own, c, h, p, v);
+            }
+        }
+        if edges[i * 32 + 2] == node {
+            if (p + 1 != a) & (p + 1 != b) {
+                h = chosen(edges, own, c, h, p + 1, v);
+            }
         }
     }
     if h.under {
@@ -98,26 +106,44 @@ pub fn first_clockwise(
     }
 }
 
-// The first departure met turning clockwise from the departure p, where edge row `own` has the curve c; with no other, p.
-pub fn clockwise(edges: &[i64], count: usize, own: usize, c: &[i64], p: usize) -> usize
-    requires { ⌜ EdgeRows (now edges) count × (own < count → Run (now c)) × (p < count * 2) ⌝ }
-    ensures { λ r. ⌜ r ≡ lawfulNext (wayWith (now (edges .entry)) own (now (c .entry))) same p (keep (leavesNode (now (edges .entry)) (sideCell (now (edges .entry)) p 1)) (positions count)) ⌝ }
+// The departures from the node are written to the front of the list; their count.
+pub fn departures_at(edges: &[i64], count: usize, node: i64, list: &mut [u16]) -> usize
+    requires { ⌜ EdgeRows (now edges) count × (count ≤ 2000) × (count * 2 ≤ length (now list)) ⌝ }
+    ensures { λ r. ⌜ (r ≤ count * 2) × (length (now (list .exit)) ≡ length (now (list .entry))) × (take r (now (list .exit)) ≡ keep (leavesNode (now (edges .entry)) node) (positions count)) ⌝ }
 {
-    let node = links::dart_cell(edges, p, 1);
-    let found = first_clockwise(
-        edges,
-        count,
-        own,
-        c,
-        node,
-        links::step_with(edges, own, c, p),
-        p,
-        p,
-    );
-    let Found::At(q) = found else {
-        return p;
+    let mut k = 0;
+    for i in 0..count {
+        if edges[i * 32 + 1] == node {
+            list[k] = (i * 2) as u16;
+            k += 1;
+        }
+        if edges[i * 32 + 2] == node {
+            list[k] = (i * 2 + 1) as u16;
+            k += 1;
+        }
+    }
+    k
+}
+
+// The first of the listed departures met turning clockwise from the departure p, where edge row `own` has the curve c; with no other, p.
+pub fn clockwise(edges: &[i64], own: usize, c: &[i64], list: &[u16], p: usize) -> usize
+    requires { ⌜ Known (now edges) own (now c) p × ((k : ℕ) → k < length (now list) → Known (now edges) own (now c) (getD (now list) k 0)) ⌝ }
+    ensures { λ r. ⌜ r ≡ lawfulNext (wayWith (now (edges .entry)) own (now (c .entry))) same p (now (list .entry)) ⌝ }
+{
+    let v = links::step_with(edges, own, c, p);
+    let mut h = Choice {
+        any: false,
+        all: p,
+        under: false,
+        below: p,
     };
-    q
+    for k in 0..list.len() {
+        let q = list[k] as usize;
+        if q != p {
+            h = chosen(edges, own, c, h, q, v);
+        }
+    }
+    if h.under { h.below } else { h.all }
 }
 
 // Whether a departure from the node, but of edge row `own`, has the direction v.
@@ -125,9 +151,14 @@ pub fn way_taken(edges: &[i64], count: usize, node: i64, own: usize, v: Step) ->
     requires { ⌜ EdgeRows (now edges) count × (InRange (v .from)) × (InRange (v .to)) ⌝ }
     ensures { λ r. ⌜ r ≡ any (λ p. leavesNode (now (edges .entry)) node p && not (same (p / 2) own) && sameWay (wayAt (now (edges .entry)) p) (wayTo (v .from) (v .to))) (positions count) ⌝ }
 {
-    for p in 0..count * 2 {
-        if (links::dart_cell(edges, p, 1) == node) & (p / 2 != own) {
-            if links::same_way(links::step_at(edges, p), v) {
+    for i in 0..count {
+        if (edges[i * 32 + 1] == node) & (i != own) {
+            if links::same_way(links::step_at(edges, i * 2), v) {
+                return true;
+            }
+        }
+        if (edges[i * 32 + 2] == node) & (i != own) {
+            if links::same_way(links::step_at(edges, i * 2 + 1), v) {
                 return true;
             }
         }
@@ -162,8 +193,14 @@ pub fn redirect(edges: &mut [i64], count: usize, old: i64, new: i64)
     requires { ⌜ count * 32 ≤ length (now edges) ⌝ }
     ensures { λ r. ⌜ now (edges .exit) ≡ redirected old new (now (edges .entry)) count ⌝ }
 {
-    tables::replace_column(edges, 32, count, 3, old, new);
-    tables::replace_column(edges, 32, count, 4, old, new);
+    for i in 0..count {
+        if edges[i * 32 + 3] == old {
+            edges[i * 32 + 3] = new;
+        }
+        if edges[i * 32 + 4] == old {
+            edges[i * 32 + 4] = new;
+        }
+    }
 }
 
 // The new departure p linked in where c is the first one met clockwise from it.

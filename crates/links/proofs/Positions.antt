@@ -2,8 +2,8 @@
 -- Assumes nothing.
 use mathlib.Core.Path.{_≡_, refl, sym, ap, _∙_, subst}
 use mathlib.Core.Bool.{Bool, true, false, not, _&&_, _||_, false≢true}
-use mathlib.Core.Logic.{_⊎_, inl, inr, ⊎-elim}
-use mathlib.Core.List.{List, map, List·Memᴰ, List·Memᴰ·not-nil, List·Memᴰ·cases-cons}
+use mathlib.Core.Logic.{_⊎_, inl, inr}
+use mathlib.Core.List.{List, map, List·Memᴰ}
 use Prim.Native.Nat.{ℕ, zero, suc, _+_, _*_, _-_, _/_, _%_, _<_}
 use native.Mathlib.Omega.{arith}
 use lib.IntN.{ℤ, pos, negsuc, natAbs, _-ℤ_}
@@ -18,14 +18,15 @@ use Rattle.lists.specs.Tables.{table, place}
 use Rattle.lists.specs.declared.Found.{Found}
 use Rattle.lists.specs.declared.Found.the-variants.{At, Missing}
 use Rattle.lists.proofs.Bools.{which, same-true, same-eq, same-false, differ, not-true}
-use Rattle.lists.proofs.Scans.{place-at, place-none}
+use Rattle.lists.proofs.Scans.{place-at, place-none, table-in}
 use Rattle.curves.proofs.Runs.{and-left, and-right}
 use Rattle.planar.specs.Map.{Dart, fwd, bwd, rev, darts}
 use Rattle.planar.specs.Rings.{sameDart}
-use Rattle.planar.proofs.Rings.{sameDart-refl, sameDart-true}
+use Rattle.planar.proofs.Rings.{sameDart-refl, sameDart-true, dart-is}
 use Rattle.map.specs.Limits.{edgeWidth, lastNumber}
 use Rattle.map.specs.Rows.{Edge, edge, hasEdge, dartOf, dartCell}
 use Rattle.map.specs.Darts.{directed, leaves, arrives, next, bears, course, way}
+use Rattle.map.proofs.RoundTrip.{dart-cell-back}
 use Rattle.tables.specs.Tables.{sameZ, column, edgeAt, edgeMap, EdgeRows}
 use Rattle.tables.proofs.Rows.{all-table, edges-table, EdgeCells, edge-cells, edge-row-of, edge-rows-rising, edge-number-in}
 use Rattle.tables.proofs.Lookups.{which-place, row-place, edge-found, edge-missing}
@@ -58,13 +59,13 @@ reverse-even e = rw (e .test)
 pub reverse-odd : {p : ℕ} → Odd p → reverseOf p ≡ p - 1
 reverse-odd e = rw (e .test)
 
--- what is written and read again
-pub dart-back : (z : ℤ) → dartCell (dartOf z) ≡ z
-dart-back (pos n) = refl
-dart-back (negsuc n) = refl
+-- a column of both in row i
+module _ (l : List ℤ) (i k : ℕ) where
+  pub side-even : sideCell l (i * 2) k ≡ getD l (i * edgeWidth + k) (pos 0)
+  side-even = let e : sidePlace (i * 2) k ≡ i * edgeWidth + k = omega arith in ap (λ (j : ℕ). getD l j (pos 0)) e
 
-dart-is : {a b : ℕ} {c d : Bool} → a ≡ b → c ≡ d → _≡_ {A = Dart} (record { edge = a; back = c }) (record { edge = b; back = d })
-dart-is e f = cc
+  pub side-odd : sideCell l (i * 2 + 1) k ≡ getD l (i * edgeWidth + (k + 1)) (pos 0)
+  side-odd = let e : sidePlace (i * 2 + 1) k ≡ i * edgeWidth + (k + 1) = omega arith in ap (λ (j : ℕ). getD l j (pos 0)) e
 
 module _ (l : List ℤ) where
   pub dart-even : (i : ℕ) → dartAt l (i * 2) ≡ fwd (edgeAt l i .number)
@@ -173,11 +174,7 @@ module _ {l : List ℤ} {n : ℕ} (t : EdgeRows l n) where
 
   -- each directed edge of the map has one
   pub position-in : (d : Dart) → List·Memᴰ d (directed (edgeMap l n)) → (p : ℕ) × (p < n * 2) × (dartAt l p ≡ d)
-  position-in d m = let r = table-in (dartAt l) 0 (n * 2) (subst (λ (r : List Dart). List·Memᴰ d r) (directed-table l n) m) in let h = r .1 in (r .0, omega arith, r .2)
-    where
-      table-in : (f : ℕ → Dart) (a k : ℕ) → List·Memᴰ d (table f a k) → (p : ℕ) × (p < a + k) × (f p ≡ d)
-      table-in f a zero m = absurd (List·Memᴰ·not-nil m)
-      table-in f a (suc k) m = ⊎-elim (λ e. (a, omega arith, sym e)) (λ r. let s = table-in f (a + 1) k r in let h : s .0 < a + 1 + k = s .1 in (s .0, omega arith, s .2)) (List·Memᴰ·cases-cons m)
+  position-in d m = let r = table-in (dartAt l) 0 (n * 2) (subst (λ (r : List Dart). List·Memᴰ d r) (directed-table l n) m) in let h = r .2 in (r .0, omega arith, r .3)
 
   -- ---- what the columns say
 
@@ -212,7 +209,7 @@ module _ {l : List ℤ} {n : ℕ} (t : EdgeRows l n) where
         ]
 
     pub cell-next : sideCell l p 3 ≡ dartCell (next (edgeMap l n) (dartAt l p))
-    cell-next = sym (dart-back (sideCell l p 3)) ∙ ap dartCell link-is
+    cell-next = sym (dart-cell-back (sideCell l p 3)) ∙ ap dartCell link-is
 
     pub cell-bears : sideCell l p 5 ≡ pos (bears (edgeMap l n) (dartAt l p))
     unfolding bears

@@ -2,7 +2,7 @@
 use mathlib.Core.Path.{_≡_}
 use mathlib.Core.Bool.{Bool, cond}
 use mathlib.Core.List.{List}
-use Prim.Native.Nat.{ℕ, _+_, _*_, _-_, _/_, _%_}
+use Prim.Native.Nat.{ℕ, _+_, _*_, _-_, _/_, _%_, _<_}
 use lib.IntN.{ℤ, pos}
 use lib.ListN.{getD}
 use Rattle.lists.specs.Tests.{same}
@@ -12,6 +12,7 @@ use Rattle.curves.specs.Curves.{curveOf, startWay}
 use Rattle.curves.specs.Edits.{course}
 use Rattle.planar.specs.Map.{Dart}
 use Rattle.map.specs.Limits.{edgeWidth}
+use Rattle.map.specs.Rows.{dartOf}
 use Rattle.tables.specs.Tables.{edgeAt}
 use Rattle.links.specs.declared.Step.{Step}
 
@@ -32,6 +33,14 @@ sidePlace p k = p / 2 * edgeWidth + k + p % 2
 
 abbrev pub sideCell : List ℤ → ℕ → ℕ → ℤ
 sideCell l p k = getD l (sidePlace p k) (pos 0)
+
+-- the rows of a table, by its first column, that the first m directed edges name in a column pair
+abbrev pub RowsNamed : ℕ → List ℤ → ℕ → List ℤ → ℕ → List ℕ → ℕ → Type 0
+RowsNamed w t n l k rows m = (p : ℕ) → p < m → (getD rows p 0 < n) × (getD t (getD rows p 0 * w) (pos 0) ≡ sideCell l p k)
+
+-- the positions, among n edges, of what follows them
+abbrev pub NextsNamed : List ℤ → ℕ → List ℕ → ℕ → Type 0
+NextsNamed l n nexts m = (p : ℕ) → p < m → (getD nexts p 0 < n * 2) × (dartAt l (getD nexts p 0) ≡ dartOf (sideCell l p 3))
 
 -- its direction, and the same where edge row `own` has the curve c
 abbrev pub wayAt : List ℤ → ℕ → Way

@@ -3,11 +3,11 @@
 use lists::Found;
 use plane::Point;
 ghost use mathlib.Core.Path.{_≡_};
-ghost use Prim.Native.Nat.{ℕ, _+_, _*_, _/_, _<_, _≤_};
+ghost use Prim.Native.Nat.{_+_, _*_, _/_, _<_, _≤_};
 ghost use lib.ListN.{length, set};
 ghost use Rattle.lists.specs.Tables.{place};
 ghost use Rattle.plane.specs.Points.{InRange};
-ghost use Rattle.plane.specs.Directions.{wayTo, class, before as beforeWay, sameWay};
+ghost use Rattle.plane.specs.Directions.{wayTo, signs, before as beforeWay, sameWay};
 ghost use Rattle.curves.specs.Curves.{Run, curveOf, startWay};
 ghost use Rattle.curves.specs.Edits.{course};
 ghost use Rattle.planar.specs.Rings.{sameDart};
@@ -97,6 +97,13 @@ pub fn first_step(c: &[i64], back: bool) -> Step
 {
     let n = curves::point_count(c);
     if back {
+        // most edges are straight: where the count is known the compiler need not work out the place
+        if n == 2 {
+            return Step {
+                from: curves::point_at(c, 1),
+                to: curves::point_at(c, 0),
+            };
+        }
         Step {
             from: curves::point_at(c, n - 1),
             to: curves::point_at(c, n - 2),
@@ -117,13 +124,13 @@ pub fn step_at(edges: &[i64], p: usize) -> Step
     first_step(tables::curve_of(edges, p / 2), p % 2 == 1)
 }
 
-// The class of that step's direction.
-pub fn class_at(edges: &[i64], p: usize) -> usize
+// The place of that step's signs among the nine.
+pub fn signs_at(edges: &[i64], p: usize) -> usize
     requires { ⌜ EdgeRow (now edges) (p / 2) ⌝ }
-    ensures { λ r. ⌜ (r ≡ class (wayAt (now (edges .entry)) p)) × (r < 9) ⌝ }
+    ensures { λ r. ⌜ (r ≡ signs (wayAt (now (edges .entry)) p)) × (r < 9) ⌝ }
 {
     let v = step_at(edges, p);
-    directions::class_of(v.from, v.to) as usize
+    directions::signs_of(v.from, v.to)
 }
 
 // The first step where edge row `own` has the curve c; no row is, where `own` is past them all.

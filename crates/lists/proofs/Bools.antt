@@ -1,7 +1,7 @@
 -- Equations of Booleans by their truth tables, and what `same` tells. Assumes nothing.
 use mathlib.Core.Path.{_≡_, refl, sym, _∙_, subst}
 use mathlib.Core.Logic.{_⊎_, inl, inr}
-use mathlib.Core.Bool.{Bool, true, false, _&&_, _||_, Bool·beq, true≢false}
+use mathlib.Core.Bool.{Bool, true, false, _&&_, _||_, cond, Bool·beq, true≢false}
 use Prim.Native.Nat.{ℕ}
 use lib.Dec.{T, eqb, eqb→eq, eqb-refl}
 use Rattle.lists.specs.Tests.{_⊕_, same}
@@ -101,6 +101,15 @@ same-sym a b = elim (which (same a b)) [ inl e ↦ e ∙ sym (same-eq b a (sym (
 pub equal? : (a b : ℕ) → (a ≡ b) ⊎ ((a ≡ b) → ⊥)
 equal? a b = elim (which (same a b)) [ inl e ↦ inl (same-true a b e) | inr e ↦ inr (differ a b e) ]
 
+pub either : {A : Type 0} (b : Bool) (v : A) → cond b v v ≡ v
+either true v = refl
+either false v = refl
+
+-- what two have, the one of them that is taken has
+pub cond-has : {A : Type 0} (P : A → Type 0) (b : Bool) {x y : A} → P x → P y → P (cond b x y)
+cond-has P true h k = h
+cond-has P false h k = k
+
 pub or-true : (a b : Bool) → a || b ≡ true → (a ≡ true) ⊎ (b ≡ true)
 or-true true b e = inl refl
 or-true false b e = inr e
@@ -112,3 +121,22 @@ or-false false b e = (refl, e)
 pub or-right : (a b : Bool) → b ≡ true → a || b ≡ true
 or-right true b e = refl
 or-right false b e = e
+
+pub or-left : {a : Bool} (b : Bool) → a ≡ true → a || b ≡ true
+or-left b e = λ i. e i || b
+
+pub or-no : {a b : Bool} → a ≡ false → b ≡ false → a || b ≡ false
+or-no e f = λ i. e i || f i
+
+pub and-true : (a b : Bool) → a && b ≡ true → (a ≡ true) × (b ≡ true)
+and-true true b e = (refl, e)
+and-true false b e = absurd (true≢false (sym e))
+
+pub and-left : (a b : Bool) → a && b ≡ true → a ≡ true
+and-left a b e = and-true a b e .0
+
+pub and-right : (a b : Bool) → a && b ≡ true → b ≡ true
+and-right a b e = and-true a b e .1
+
+pub and-is : {a b : Bool} → a ≡ true → b ≡ true → a && b ≡ true
+and-is e f = λ i. e i && f i

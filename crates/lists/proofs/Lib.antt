@@ -7,3 +7,4 @@ pub mod Sums
 pub mod Counts
 pub mod Keeps
 pub mod Parts
+pub mod Appends

@@ -2,9 +2,19 @@
 use mathlib.Core.Path.{_≡_, refl, ap₂}
 use mathlib.Core.Logic.{_⊎_, inl, inr}
 use mathlib.Core.List.{List, [], _∷_, map, List·Memᴰ, List·Memᴰ·head, List·Memᴰ·tail, List·Memᴰ·cases-cons, List·Memᴰ·not-nil}
+use Rattle.lists.specs.Members.{All}
 
 pub each-cons : {A : Type 0} {p : A → Type 0} {x : A} {l : List A} → p x → ((y : A) → List·Memᴰ y l → p y) → (y : A) → List·Memᴰ y (x ∷ l) → p y
 each-cons {p = p} px h y m = elim (List·Memᴰ·cases-cons m) [ inl e ↦ rw e px | inr k ↦ h y k ]
+
+-- `All` by members, and members of `All`
+pub all-of : {A : Type 0} {R : A → Type 0} (l : List A) → ((x : A) → List·Memᴰ x l → R x) → All R l
+all-of [] h = tt
+all-of (y ∷ l) h = (h y (List·Memᴰ·head refl), all-of l (λ x k. h x (List·Memᴰ·tail k)))
+
+pub each-of : {A : Type 0} (R : A → Type 0) (l : List A) → All R l → (x : A) → List·Memᴰ x l → R x
+each-of R [] h x k = absurd (List·Memᴰ·not-nil k)
+each-of R (y ∷ l) h x k = each-cons {p = R} (h .0) (each-of R l (h .1)) x k
 
 pub map-cong : {A B : Type 0} (f g : A → B) (l : List A) → ((x : A) → List·Memᴰ x l → f x ≡ g x) → map f l ≡ map g l
 map-cong f g [] h = refl

@@ -1,7 +1,8 @@
 -- Laws of scans over a table's rows, each at the rows that are left from i on, `table f i (n - i)`:
 -- a turn of the loop is `-hit` or `-miss` (`count-step`, `fold-step`, `sweep-step`), and the loop's end is `-end`. Assumes nothing.
 use mathlib.Core.Path.{_≡_, refl, sym, ap, _∙_, subst}
-use mathlib.Core.List.{List, [], _∷_}
+use mathlib.Core.Logic.{inl, inr}
+use mathlib.Core.List.{List, [], _∷_, List·Memᴰ, List·Memᴰ·cases-cons, List·Memᴰ·not-nil}
 use mathlib.Core.Bool.{Bool, true, false}
 use Prim.Native.Nat.{ℕ, zero, suc, _+_, _-_, _<_, _≤_}
 use native.Mathlib.Nat.{add-zero, sub-zero}
@@ -128,3 +129,19 @@ module _ {A : Type 0} (f : ℕ → A) where
 
     pub place-none : (n : ℕ) → ((k : ℕ) → k < n → p (f k) ≡ false) → place p 0 (table f 0 n) ≡ Missing
     place-none n all = sym (place-skip n n (omega arith) all) ∙ place-end f n n p (omega arith)
+
+module _ {A : Type 0} where
+  -- what takes each element takes all
+  pub all-of-table : (p : A → Bool) (f : ℕ → A) (a n : ℕ) → ((i : ℕ) → a ≤ i → i < a + n → p (f i) ≡ true) → all p (table f a n) ≡ true
+  all-of-table p f a zero h = refl
+  all-of-table p f a (suc n) h = rw (h a (omega arith) (omega arith)) (all-of-table p f (a + 1) n (λ i s t. h i (omega arith) (omega arith)))
+
+  -- an element has a place
+  pub table-in : (f : ℕ → A) (a n : ℕ) {x : A} → List·Memᴰ x (table f a n) → (i : ℕ) × (a ≤ i) × (i < a + n) × (f i ≡ x)
+  table-in f a zero m = absurd (List·Memᴰ·not-nil m)
+  table-in f a (suc n) {x} m =
+      let later = table-in f (a + 1) n {x = x} in
+      elim (List·Memᴰ·cases-cons m) [
+        | inl e ↦ (a, omega arith, omega arith, sym e)
+        | inr k ↦ let r = later k in let s : a + 1 ≤ r .0 = r .1 in let t : r .0 < a + 1 + n = r .2 in (r .0, omega arith, omega arith, r .3)
+      ]

@@ -11,8 +11,7 @@ use lib.ListN.{length}
 use Rattle.lists.specs.Tests.{same}
 use Rattle.lists.specs.Scans.{all, firstOr, linked}
 use Rattle.lists.specs.Members.{Distinct}
-use Rattle.lists.proofs.Bools.{≡→T, same-true}
-use Rattle.geometry.proofs.Booleans.{and-true}
+use Rattle.lists.proofs.Bools.{≡→T, same-true, and-true}
 use Rattle.curves.specs.Curves.{points, maxPoints}
 use Rattle.map.specs.Rows.{Node, Edge, Map, Lent, Sizes, mapOf, lentOf, sizesOf, whole, findNode, findEdge, hasNode, hasEdge, hasFace, node, edge}
 use Rattle.map.specs.Form.{ranged, numbered, numbers, inFace, edgeNames, named, curveFits, departuresDiffer, bareMarked, linksOnce, linksMeet, ringsBearOne, formed, inForm}
@@ -31,6 +30,11 @@ module _ (m : Map) where
   pub edge-row : Distinct (map (λ e. e .number) (m .edges)) → (r : Edge) → List·Memᴰ r (m .edges) → edge m (r .number) ≡ r
   unfolding edge
   edge-row dis r k = rw (find-edge dis r k)
+
+  -- a row that is found is the row
+  pub edge-is : (e : ℕ) (r : Edge) → findEdge m e ≡ some r → edge m e ≡ r
+  unfolding edge
+  edge-is e r q = rw q
 
   -- a row that exists is a row of its number
   pub node-there : (n : ℕ) → hasNode m n ≡ true → List·Memᴰ (node m n) (m .nodes) × (node m n .number ≡ n)

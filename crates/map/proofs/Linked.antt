@@ -2,14 +2,14 @@
 -- Assumes nothing.
 use mathlib.Core.Path.{_≡_, refl, sym, ap, subst, _∙_}
 use mathlib.Core.Bool.{true, _&&_}
-use mathlib.Core.List.{List, [], _∷_, map, List·Memᴰ, List·Permᴰ, Memᴰ·map, Memᴰ·of-map, Memᴰ·cast, Permᴰ·symm}
+use mathlib.Core.List.{List, map, map-map, List·Memᴰ, List·Permᴰ, Memᴰ·map, Memᴰ·of-map, Memᴰ·cast, Permᴰ·symm}
 use Prim.Native.Nat.{ℕ, zero, suc}
 use native.Mathlib.Omega.{arith}
 use lib.ListN.{length-map}
 use Rattle.lists.specs.Tests.{same, iterate}
 use Rattle.lists.specs.Scans.{count}
 use Rattle.lists.specs.Members.{Distinct}
-use Rattle.lists.proofs.Bools.{same-true}
+use Rattle.lists.proofs.Bools.{same-true, and-true}
 use Rattle.lists.proofs.Perms.{perm-of-distinct}
 use Rattle.lists.proofs.Counts.{count-in}
 use Rattle.planar.specs.Map.{Arc, Dart, fwd, bwd, Linked}
@@ -17,40 +17,49 @@ use Rattle.planar.specs.Rings.{sameDart, Leads}
 use Rattle.planar.specs.Pieces.{Within, nums}
 use Rattle.planar.proofs.Hooks.{distinct-darts}
 use Rattle.planar.proofs.Rings.{sameDart-true, next-in}
-use Rattle.geometry.proofs.Booleans.{and-true}
 use Rattle.map.specs.Rows.{Node, Edge, Map, edge, hasNode, hasEdge, hasFace}
 use Rattle.map.specs.Darts.{arcs, directed, leaves, arrives, next, bears}
 use Rattle.map.specs.Form.{linksOnce, linksMeet, ringsBearOne, formed}
 use Rattle.map.proofs.Scans.{all-each}
 use Rattle.map.proofs.Laws.{Formed, formed-is, edge-found, node-there, names}
 
-abbrev arcOf : Edge → Arc
+-- the arc of a row
+abbrev pub arcOf : Edge → Arc
 arcOf e = record { num = e .number; from = e .start; to = e .end }
 
-module _ (m : Map) (h : formed m ≡ true) where
-  form : Formed m
-  form = formed-is m h
+module _ (m : Map) where
+  -- the numbers of the arcs are those of the rows
+  pub nums-rows : nums (arcs m) ≡ map (λ e. e .number) (m .edges)
+  nums-rows = map-map (λ (a : Arc). a .num) arcOf (m .edges)
 
-  nums-are : (es : List Edge) → nums (map arcOf es) ≡ map (λ e. e .number) es
-  nums-are [] = refl
-  nums-are (e ∷ es) = ap (λ (l : List ℕ). e .number ∷ l) (nums-are es)
-
-  pub edges-once : Distinct (nums (arcs m))
-  edges-once = rw (nums-are (m .edges)) (form .numbers .edges .distinct)
-
-  -- the links name every directed edge exactly once
-  pub links-once : List·Permᴰ (map (next m) (directed m)) (directed m)
+  -- links that name every directed edge exactly once
+  pub links-perm : Distinct (nums (arcs m)) → linksOnce m ≡ true → List·Permᴰ (map (next m) (directed m)) (directed m)
   unfolding linksOnce
-  links-once = Permᴰ·symm (perm-of-distinct (directed m) links (distinct-darts (arcs m) edges-once) named (omega (arith, length-map (directed m) (next m))))
+  links-perm dis h = Permᴰ·symm (perm-of-distinct (directed m) links (distinct-darts (arcs m) dis) named (omega (arith, length-map (directed m) (next m))))
     where
       links : List Dart
       links = map (next m) (directed m)
 
       named : (d : Dart) → List·Memᴰ d (directed m) → List·Memᴰ d links
       named d k =
-          let one = same-true (count (sameDart d) links) 1 (all-each (λ d. same (count (sameDart d) links) 1) (directed m) (form .once) d k) in
+          let one = same-true (count (sameDart d) links) 1 (all-each (λ d. same (count (sameDart d) links) 1) (directed m) h d k) in
           let r = count-in (sameDart d) links (omega arith) in
           Memᴰ·cast (sameDart-true d (r .0) (r .2)) (r .1)
+
+  -- links that keep the face
+  pub links-keep : ringsBearOne m ≡ true → (d : Dart) → List·Memᴰ d (directed m) → bears m (next m d) ≡ bears m d
+  unfolding ringsBearOne
+  links-keep h d k = same-true _ _ (all-each (λ d. same (bears m (next m d)) (bears m d)) (directed m) h d k)
+
+module _ (m : Map) (h : formed m ≡ true) where
+  form : Formed m
+  form = formed-is m h
+
+  pub edges-once : Distinct (nums (arcs m))
+  edges-once = rw (nums-rows m) (form .numbers .edges .distinct)
+
+  pub links-once : List·Permᴰ (map (next m) (directed m)) (directed m)
+  links-once = links-perm m edges-once (form .once)
 
   pub starts : (a : Arc) → List·Memᴰ a (arcs m) → leaves m (fwd (a .num)) ≡ a .from
   unfolding leaves
@@ -69,8 +78,7 @@ module _ (m : Map) (h : formed m ≡ true) where
   meets d k = same-true _ _ (all-each (λ d. same (leaves m (next m d)) (arrives m d)) (directed m) (form .meet) d k)
 
   pub keeps : (d : Dart) → List·Memᴰ d (directed m) → bears m (next m d) ≡ bears m d
-  unfolding ringsBearOne
-  keeps d k = same-true _ _ (all-each (λ d. same (bears m (next m d)) (bears m d)) (directed m) (form .rings) d k)
+  keeps = links-keep m (form .rings)
 
   pub linked : Linked (arcs m) (leaves m) (next m) (bears m)
   linked = record { starts = starts; ends = ends; perm = links-once; meets = meets; keeps = keeps }

@@ -3,16 +3,15 @@ use mathlib.Core.Path.{_≡_, refl}
 use mathlib.Core.Logic.{_⊎_, inl, inr}
 use mathlib.Core.Bool.{Bool, true, false, cond, false≢true}
 use mathlib.Core.List.{List, [], _∷_, map, List·Memᴰ, List·Memᴰ·head, List·Memᴰ·tail, List·Memᴰ·cases-cons, List·Memᴰ·not-nil, Memᴰ·map, Memᴰ·cast}
-use mathlib.Core.Option.{some}
+use mathlib.Core.Option.{Option, none, some, Option·map}
 use Prim.Native.Nat.{ℕ, _<_}
 use native.Mathlib.Omega.{arith}
 use lib.Dec.{ltb, ltb→lt}
 use Rattle.lists.specs.Tests.{same}
 use Rattle.lists.specs.Scans.{any, all, find, linked, isSome}
 use Rattle.lists.specs.Members.{Distinct}
-use Rattle.lists.proofs.Bools.{≡→T, same-refl, same-false}
+use Rattle.lists.proofs.Bools.{≡→T, same-refl, same-false, and-true}
 use Rattle.lists.proofs.Members.{each-cons}
-use Rattle.geometry.proofs.Booleans.{and-true}
 
 -- ---- elements
 
@@ -65,3 +64,23 @@ module _ {A : Type 0} (number : A → ℕ) where
       go : (List·Memᴰ r l → find (λ x. same (number x) (number r)) l ≡ some r) → (r ≡ y) ⊎ List·Memᴰ r l → find (λ x. same (number x) (number r)) (y ∷ l) ≡ some r
       go later (inl e) = rw (e, same-refl (number y))
       go later (inr k) = rw (same-false (number y) (number r) (λ e. dis .0 (Memᴰ·cast e (Memᴰ·map number k)))) (later k)
+
+  -- rows mapped by a function that keeps their numbers
+  module _ (f : A → A) (l : List A) (n : ℕ) (keeps : (r : A) → List·Memᴰ r l → number (f r) ≡ number r) where
+    pub find-map : find (λ x. same (number x) n) (map f l) ≡ Option·map f (find (λ x. same (number x) n) l)
+    find-map = go l keeps
+      where
+        step : (b : Bool) (q : A) (o : Option A) → cond b (some (f q)) (Option·map f o) ≡ Option·map f (cond b (some q) o)
+        step true q o = refl
+        step false q o = refl
+
+        go : (l : List A) → ((r : A) → List·Memᴰ r l → number (f r) ≡ number r) → find (λ x. same (number x) n) (map f l) ≡ Option·map f (find (λ x. same (number x) n) l)
+        go [] h = refl
+        go (q ∷ l) h = rw (h q (List·Memᴰ·head refl), go l (λ r k. h r (List·Memᴰ·tail k))) (step (same (number q) n) q (find (λ x. same (number x) n) l))
+
+    pub has-map : isSome (find (λ x. same (number x) n) (map f l)) ≡ isSome (find (λ x. same (number x) n) l)
+    has-map = rw find-map (step (find (λ x. same (number x) n) l))
+      where
+        step : (o : Option A) → isSome (Option·map f o) ≡ isSome o
+        step none = refl
+        step (some a) = refl

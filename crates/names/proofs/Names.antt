@@ -1,29 +1,26 @@
--- Named rows: a search of the first column tells whether the map has the row. Points of nodes, containing faces, edges of links, ends of curves.
+-- Named rows: a search of the first column tells whether the map has the row. Containing faces, edges of links, ends of curves.
 -- Assumes nothing.
-use mathlib.Core.Path.{_≡_, refl, sym, ap, ap₂, _∙_}
+use mathlib.Core.Path.{_≡_, refl, sym, ap, _∙_}
 use mathlib.Core.Bool.{Bool, true, false, true≢false}
 use mathlib.Core.Logic.{inl, inr}
 use mathlib.Core.List.{List}
-use mathlib.Core.Option.{Option, none, Option·getD}
-use Prim.Native.Nat.{ℕ, suc, _+_, _*_, _/_, _<_, _≤_}
+use Prim.Native.Nat.{ℕ, suc, _+_, _*_, _/_, _≤_}
 use native.Mathlib.Nat.{zero-add}
 use native.Mathlib.Omega.{arith}
 use lib.IntN.{ℤ, pos, negsuc, natAbs, _-ℤ_}
-use lib.Dec.{T}
 use lib.ListN.{length, getD}
-use lib.Signed.{ltZ, nonNeg}
+use lib.Signed.{ltZ}
 use borrow.Author.Tests.{ltb-true, ltb-false}
+pub use Rattle.integers.specs.Signs.{not-negative}
 use Rattle.lists.specs.Scans.{any, isSome}
 use Rattle.lists.specs.Tables.{table, place}
 use Rattle.lists.specs.declared.Found.the-variants.{At, Missing}
-use Rattle.lists.proofs.Bools.{≡→T}
-use Rattle.plane.specs.Points.{origin}
-use Rattle.curves.specs.Curves.{Curve, Run, point, pointAt, curveOf, lastPoint}
+use Rattle.curves.specs.Curves.{Curve, Run, pointAt, curveOf, lastPoint}
 use Rattle.map.specs.Limits.{lastNumber}
-use Rattle.map.specs.Rows.{Node, Map, hasNode, hasEdge, hasFace, node, faceOf, dartOf}
-use Rattle.map.specs.Form.{nodeRanges, numbered, inFace}
+use Rattle.map.specs.Rows.{Map, hasNode, hasEdge, hasFace, faceOf, dartOf}
+use Rattle.map.specs.Form.{numbered, inFace}
 use Rattle.tables.specs.Tables.{sameZ, column, edgeAt, nodeMap, edgeMap, Rising, NodeRows, FaceRows}
-use Rattle.tables.proofs.Rows.{rows-all, node-cells, edge-numbers, edges-rising, number-in}
+use Rattle.tables.proofs.Rows.{edge-numbers, edges-rising, number-in}
 use Rattle.tables.proofs.Lookups.{place-first, place-missing, any-find, which-place, node-found, node-missing, edge-found, edge-missing, face-found, face-missing}
 use Rattle.curves.proofs.Runs.{and-left, curve-is, last-is}
 use Rattle.ranges.specs.Ranges.{faceMap, EdgesInOrder}
@@ -57,13 +54,6 @@ module _ {l : List ℤ} {n : ℕ} where
         | inr e ↦ column-missing 1 l n (pos m) e ∙ sym (face-missing l n (r .ranges) m e)
       ]
 
-  pub edge-named : EdgesInOrder l n → (m : ℕ) → any (sameZ (pos m)) (column 32 l n) ≡ hasEdge (edgeMap l n) m
-  edge-named r m =
-      elim (which-place (place (sameZ (pos m)) 0 (column 32 l n))) [
-        | inl (i, e) ↦ column-at 32 l n (pos m) i e ∙ sym (ap isSome (edge-found l n (r .ranges) (pos m) i e .2))
-        | inr e ↦ column-missing 32 l n (pos m) e ∙ sym (ap isSome (edge-missing l n (r .ranges) m e))
-      ]
-
   pub edges-in-order-rise : EdgesInOrder l n → Rising 32 l n
   edges-in-order-rise r = edges-rising l n (r .fits) (r .ranges) (and-left _ _ (r .rising))
 
@@ -79,36 +69,6 @@ module _ {l : List ℤ} {n : ℕ} where
           let t : m ≡ edgeAt l i .number = ap natAbs (q .1) in
           omega arith
 
--- ---- the point of a node
-
--- the node with the number z stands in row i
-pub record FoundNode (l : List ℤ) (n : ℕ) (z : ℤ) (i : ℕ) : Type 0 where
-  pub below : i < n
-  pub x-natural : T (nonNeg (getD l (i * 4 + 1) (pos 0)))
-  pub y-natural : T (nonNeg (getD l (i * 4 + 2) (pos 0)))
-  pub point : node (nodeMap l n) (natAbs z) .at ≡ point (getD l (i * 4 + 1) (pos 0)) (getD l (i * 4 + 2) (pos 0))
-
-module _ {l : List ℤ} {n : ℕ} (r : NodeRows l n) where
-  pub found-node : (z : ℤ) (i : ℕ) → place (sameZ z) 0 (column 4 l n) ≡ At i → FoundNode l n z i
-  unfolding node
-  found-node z i e =
-      let f = node-found l n (r .ranges) z i e in
-      let k = node-cells l i (rows-all 4 l nodeRanges n (r .ranges) i (f .0)) in
-      record {
-        below = f .0;
-        x-natural = ≡→T (nonNeg (getD l (i * 4 + 1) (pos 0))) (ap nonNeg (k .x));
-        y-natural = ≡→T (nonNeg (getD l (i * 4 + 2) (pos 0))) (ap nonNeg (k .y));
-        point = ap (λ (o : Option Node). Option·getD o zeros .at) (f .2) ∙ sym (ap₂ point (k .x) (k .y));
-      }
-    where
-      zeros : Node
-      zeros = record { number = 0; at = origin; face = none }
-
-  pub missing-node : (z : ℤ) → T (nonNeg z) → place (sameZ z) 0 (column 4 l n) ≡ Missing → node (nodeMap l n) (natAbs z) .at ≡ origin
-  unfolding node
-  missing-node (pos m) t e = rw (node-missing l n (r .ranges) m e)
-  missing-node (negsuc m) t e = absurd t
-
 -- ---- the containing face
 
 module _ (m : Map) where
@@ -119,10 +79,6 @@ module _ (m : Map) where
   pub a-face : (z : ℤ) → ltZ z (pos 0) ≡ false → hasFace m (natAbs z) ≡ inFace m (faceOf z)
   a-face (pos n) h = refl
   a-face (negsuc n) h = absurd (true≢false h)
-
-pub not-negative : (z : ℤ) → ltZ z (pos 0) ≡ false → T (nonNeg z)
-not-negative (pos n) h = tt
-not-negative (negsuc n) h = absurd (true≢false h)
 
 -- ---- the edge of a link
 

@@ -76,15 +76,6 @@ fn is_taken(nodes: &[i64], n: usize, edges: &[i64], count: usize, own: usize, p:
     conditions::edge_through(edges, count, p)
 }
 
-// Row i of the nodes is written.
-fn write_node(nodes: &mut [i64], i: usize, number: i64, x: i64, y: i64, face: i64)
-    requires { ⌜ i * 4 + 4 ≤ length (now nodes) ⌝ }
-    ensures { λ r. ⌜ now (nodes .exit) ≡ paste (now (nodes .entry)) (i * 4) (number ∷ x ∷ y ∷ face ∷ []) 4 ⌝ }
-{
-    let row = [number, x, y, face];
-    tables::write(nodes, i * 4, &row);
-}
-
 // The head with a node more, and its number given.
 fn with_node(h: Head) -> Head
     requires { ⌜ Numbered h ⌝ }
@@ -194,7 +185,7 @@ fn push_node(nodes: &mut [i64], h: Head, x: i64, y: i64, around: i64) -> Done
     ensures { λ r. ⌜ (now (nodes .exit) ≡ paste (now (nodes .entry)) (natAbs (h .nodes) * 4) (h .«next_node» ∷ x ∷ y ∷ around ∷ []) 4) × (r ≡ record { head = added h; answer = record { refusal = 0; value = h .«next_node» } }) ⌝ }
 {
     let number = h.next_node;
-    write_node(nodes, answers::count_of(h.nodes), number, x, y, around);
+    rowing::write_node(nodes, answers::count_of(h.nodes), number, x, y, around);
     answers::carried(with_node(h), number)
 }
 
@@ -244,7 +235,7 @@ pub fn move_node(nodes: &mut [i64], edges: &[i64], h: Head, node: i64, x: i64, y
         return answers::refused(h, reason);
     }
     let around = floors::face_of_point(edges, count, conditions::point_of(x, y));
-    write_node(nodes, i, node, x, y, around);
+    rowing::write_node(nodes, i, node, x, y, around);
     answers::carried(h, 0)
 }
 

@@ -1,6 +1,6 @@
 -- Laws of the plane that the functions' proofs share. Assumes nothing.
 use mathlib.Core.Path.{_≡_, refl, sym, ap, _∙_}
-use mathlib.Core.Bool.{Bool}
+use mathlib.Core.Bool.{Bool, true}
 use Prim.Native.Nat.{ℕ, _+_, _*_, _≤_, _<_}
 use native.Mathlib.Nat.{mul-le-mul}
 use native.Mathlib.Omega.{arith}
@@ -9,11 +9,24 @@ use mathlib.Core.List.{[], _∷_}
 use lib.Dec.{T}
 use Rattle.integers.specs.Solver.{Expr, _⊕_, _⊖_, _⊗_, _≐_, Vars, equation, valid, Holds, holds}
 use Rattle.integers.specs.Order.{Sign, negative, null, positive, sgn, sgn-sub-lt, sgn-sub-gt, sgn-sub-eq}
+use Rattle.lists.specs.Tests.{same}
+use Rattle.lists.proofs.Bools.{same-true, and-true}
 use Rattle.plane.specs.declared.Point.{Point}
 use Rattle.plane.specs.declared.Turn.{Turn}
 use Rattle.plane.specs.declared.Turn.the-variants.{Left, Straight, Right}
+use Rattle.plane.specs.Points.{samePoint}
 use Rattle.plane.specs.Areas.{area, turnOf, turn, isLeft, straight, isNull, isPositive}
 use Rattle.plane.specs.Directions.{wayTo, cross}
+
+-- a point is its coordinates
+pub point-path : {p q : Point} → p .x ≡ q .x → p .y ≡ q .y → p ≡ q
+point-path u v = λ t. record { x = u t; y = v t }
+
+pub samePoint-true : (p q : Point) → samePoint p q ≡ true → p ≡ q
+unfolding samePoint
+samePoint-true p q e =
+    let h = and-true (same (p .x) (q .x)) (same (p .y) (q .y)) e in
+    point-path (same-true (p .x) (q .x) (h .0)) (same-true (p .y) (q .y) (h .1))
 
 pub product-le : (m : ℕ) {a b : ℕ} → a ≤ m → b ≤ m → a * b ≤ m * m
 product-le m h k = mul-le-mul h k

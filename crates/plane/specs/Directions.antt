@@ -1,7 +1,7 @@
 -- Directions: eight direction classes by the signs of dx and dy; within a class the sign of the cross product orders two departures.
 -- Together this is counterclockwise order.
 use mathlib.Core.Bool.{Bool, _&&_, _||_}
-use Prim.Native.Nat.{ℕ}
+use Prim.Native.Nat.{ℕ, _+_, _*_}
 use lib.Dec.{ltb}
 use lib.IntN.{ℤ, pos, _-ℤ_, _*ℤ_}
 use Rattle.integers.specs.Order.{Sign, negative, null, positive, sgn}
@@ -35,6 +35,10 @@ abbrev pub signPlace : Sign → ℕ
 signPlace negative = 0
 signPlace null = 1
 signPlace positive = 2
+
+-- the place of a direction's two signs in a table of nine
+abbrev pub signs : Way → ℕ
+signs v = signPlace (sgn (v .dx)) * 3 + signPlace (sgn (v .dy))
 
 unfoldable pub class : Way → ℕ
 class v = classes (sgn (v .dx)) (sgn (v .dy))

@@ -1,7 +1,7 @@
 -- What is printed of a number is read back as that number. Assumes nothing.
 use mathlib.Core.Path.{_≡_, refl, sym, _∙_}
 use mathlib.Core.Logic.{inl, inr}
-use mathlib.Core.Bool.{Bool, true, false, cond, _&&_, true≢false}
+use mathlib.Core.Bool.{Bool, true, false, cond, true≢false}
 use mathlib.Core.List.{List, [], _∷_, _++_}
 use mathlib.Core.Option.{some}
 use Prim.Native.Nat.{ℕ, zero, suc, _+_, _-_, _*_, _/_, _%_, _^_, _≤_, _<_}
@@ -13,25 +13,14 @@ use lib.ListN.{length, getD, length-append}
 use mir.Syntax.{w64}
 use mir.Val.{SFits}
 use borrow.Author.Tests.{le-leb, lt-ltb, ltb-true, leb-true}
-use Rattle.lists.specs.Scans.{all, fold}
+use Rattle.lists.specs.Scans.{all}
+use Rattle.lists.proofs.Appends.{fold-append, all-append}
 use Rattle.lists.proofs.Bools.{which, same-refl}
 use Rattle.text.specs.Lines.{digit, valueOf, signedNumber, numberOf}
 use Rattle.text.specs.Steps.{step, most}
 use Rattle.text.proofs.Values.{is-digit}
 use Rattle.text.proofs.Signs.{number-plain}
 use Rattle.printing.specs.Texts.{digitsOf, naturalText, numberText}
-
-value-snoc : (n b : ℕ) (ds : List ℕ) → fold step n (ds ++ b ∷ []) ≡ step (fold step n ds) b
-value-snoc n b [] = refl
-value-snoc n b (d ∷ ds) = value-snoc (step n d) b ds
-
-&&-both : (a b : Bool) → a && b ≡ true → (a ≡ true) × (b ≡ true)
-&&-both true b e = (refl, e)
-&&-both false b e = absurd (true≢false (sym e))
-
-digits-snoc : (b : ℕ) (ds : List ℕ) → all digit ds ≡ true → digit b ≡ true → all digit (ds ++ b ∷ []) ≡ true
-digits-snoc b [] a e = rw e
-digits-snoc b (d ∷ ds) a e = let h = &&-both (digit d) (all digit ds) a in rw (h .0, digits-snoc b ds (h .1) e)
 
 -- digits of a number that k of them hold
 record Spells (n : ℕ) (ds : List ℕ) : Type 0 where
@@ -43,8 +32,8 @@ record Spells (n : ℕ) (ds : List ℕ) : Type 0 where
 module _ (n m : ℕ) (ds : List ℕ) (v : valueOf ds ≡ m) (a : all digit ds ≡ true) (e : m * 10 + n % 10 ≡ n) where
   spells-more : Spells n (ds ++ (48 + n % 10) ∷ [])
   spells-more = record {
-    value = value-snoc 0 (48 + n % 10) ds ∙ rw v (omega arith);
-    digits = digits-snoc (48 + n % 10) ds a (is-digit (48 + n % 10) (omega arith) (omega arith));
+    value = fold-append step 0 ds ((48 + n % 10) ∷ []) ∙ rw v (omega arith);
+    digits = all-append digit ds ((48 + n % 10) ∷ []) a (rw (is-digit (48 + n % 10) (omega arith) (omega arith)));
     some-digit = λ z. omega (arith, z, length-append ds ((48 + n % 10) ∷ []));
   }
 

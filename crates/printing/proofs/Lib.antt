@@ -1,6 +1,5 @@
--- `Digits`: the fewest digits that hold a number are its text. `Signs`: the magnitude of a number. `Rows`: a row's text, number by number.
+-- `Digits`: the fewest digits that hold a number are its text. `Rows`: a row's text, number by number.
 -- `Back`: what is printed is read back.
 pub mod Digits
-pub mod Signs
 pub mod Rows
 pub mod Back

@@ -3,13 +3,13 @@ use mathlib.Core.Path.{_≡_, ap, _∙_}
 use mathlib.Core.Bool.{Bool, true, false, cond}
 use mathlib.Core.List.{List, [], _∷_, _++_, append-assoc, flatMap}
 use Prim.Native.Nat.{ℕ, zero, suc, _+_, _*_, _/_, _%_, _≤_, _<_}
-use native.Mathlib.Nat.{add-zero, add-suc, suc-add}
 use native.Mathlib.Numerals.{add-one}
 use native.Mathlib.Omega.{arith}
 use lib.Dec.{ltb}
 use lib.IntN.{ℤ, pos, negsuc}
 use lib.ListN.{length, getD, drop, set, length-append, drop-of-length-le}
 use lib.Seq.{sets, drop-cons}
+use Rattle.lists.proofs.Appends.{sets-append}
 use Rattle.printing.specs.Texts.{digitsOf, naturalText, numberText, rowText}
 
 digits-few : (k n : ℕ) → length (digitsOf k n) ≤ k
@@ -27,11 +27,6 @@ natural-few n = digits-few 20 n
 pub number-few : (z : ℤ) → length (numberText z) ≤ 21
 number-few (pos n) = let h = digits-few 20 n in omega arith
 number-few (negsuc k) = let h = digits-few 20 (suc k) in omega arith
-
--- one run of stores and then another
-sets-append : (xs ys l : List ℕ) (i : ℕ) → sets l i (xs ++ ys) ≡ sets (sets l i xs) (i + length xs) ys
-sets-append [] ys l i = rw (add-zero i)
-sets-append (x ∷ xs) ys l i = sets-append xs ys (set l i x) (suc i) ∙ rw (suc-add i (length xs), add-suc i (length xs))
 
 row-cons : (z : ℤ) (row : List ℤ) → rowText (z ∷ row) ≡ 32 ∷ numberText z ++ rowText row
 unfolding flatMap

@@ -15,7 +15,7 @@ use Rattle.lists.specs.Scans.{all, linked, firstOr}
 use Rattle.lists.specs.Tables.{table}
 use Rattle.lists.proofs.Bools.{which, eq3, &&-false}
 pub use Rattle.lists.proofs.Bools.{or-false}
-use Rattle.lists.proofs.Scans.{table-step, table-end, table-same}
+use Rattle.lists.proofs.Scans.{table-step, table-end, table-same, all-of-table}
 use Rattle.curves.proofs.Runs.{and-left, and-right}
 use Rattle.map.specs.Rows.{rows, nodeOf, edgeOf}
 use Rattle.map.specs.Form.{nodeRanges, edgeRanges, faceRanges, numbered}
@@ -32,10 +32,6 @@ module _ {A : Type 0} where
   pub all-same : (p q : A → Bool) → ((r : A) → p r ≡ q r) → (l : List A) → all p l ≡ all q l
   all-same p q h [] = refl
   all-same p q h (r ∷ l) = rw (h r, all-same p q h l)
-
-  pub all-of : (p : A → Bool) (f : ℕ → A) (a n : ℕ) → ((i : ℕ) → a ≤ i → i < a + n → p (f i) ≡ true) → all p (table f a n) ≡ true
-  all-of p f a zero h = refl
-  all-of p f a (suc n) h = rw (h a (omega arith) (omega arith)) (all-of p f (a + 1) n (λ i s t. h i (omega arith) (omega arith)))
 
 -- ---- numbers in order
 
@@ -104,13 +100,13 @@ numbered-end g low next i n h = ap (numbered low next) (table-end g i n h)
 module _ (l : List ℤ) (n : ℕ) where
   -- its numbers are not negative in rows that are in range
   pub node-naturals : all nodeRanges (rows 4 n l) ≡ true → all nonNeg (column 4 l n) ≡ true
-  node-naturals r = all-of nonNeg (λ i. getD l (i * 4) (pos 0)) 0 n (λ i s t. ap nonNeg (node-cells l i (rows-all 4 l nodeRanges n r i (omega arith)) .number))
+  node-naturals r = all-of-table nonNeg (λ i. getD l (i * 4) (pos 0)) 0 n (λ i s t. ap nonNeg (node-cells l i (rows-all 4 l nodeRanges n r i (omega arith)) .number))
 
   pub edge-naturals : all edgeRanges (rows 32 n l) ≡ true → all nonNeg (column 32 l n) ≡ true
-  edge-naturals r = all-of nonNeg (λ i. getD l (i * 32) (pos 0)) 0 n (λ i s t. ap nonNeg (edge-cells l i (rows-all 32 l edgeRanges n r i (omega arith)) .number))
+  edge-naturals r = all-of-table nonNeg (λ i. getD l (i * 32) (pos 0)) 0 n (λ i s t. ap nonNeg (edge-cells l i (rows-all 32 l edgeRanges n r i (omega arith)) .number))
 
   pub face-naturals : all faceRanges (rows 1 n l) ≡ true → all nonNeg (column 1 l n) ≡ true
-  face-naturals r = all-of nonNeg (λ i. getD l (i * 1) (pos 0)) 0 n (λ i s t. ap nonNeg (face-cell l i (rows-all 1 l faceRanges n r i (omega arith))))
+  face-naturals r = all-of-table nonNeg (λ i. getD l (i * 1) (pos 0)) 0 n (λ i s t. ap nonNeg (face-cell l i (rows-all 1 l faceRanges n r i (omega arith))))
 
   -- they are the rows' numbers
   pub node-column : table (λ i. natAbs (getD l (i * 4) (pos 0))) 0 n ≡ map (λ r. r .number) (nodesOf l n)

@@ -6,7 +6,7 @@ use Prim.Native.Nat.{ℕ, suc, _*_, _/_, _≤_}
 use native.Mathlib.Nat.{lt-of-le-of-lt, le-trans, mul-le-mul-right, div-mul-le-self}
 use lib.Dec.{T, leb, lit<}
 use lib.IntN.{ℤ, pos, negsuc, natAbs}
-use lib.ListN.{length, take, drop}
+use lib.ListN.{length}
 use lib.Signed.{nonNeg}
 use mir.Syntax.{w64}
 use mir.Val.{SFits}
@@ -14,13 +14,12 @@ use borrow.Author.Needs.{sfits-of}
 use borrow.Author.Tests.{leb-true}
 use Rattle.lists.specs.Tests.{same}
 use Rattle.lists.specs.Scans.{all, firstOr}
-use Rattle.lists.proofs.Bools.{≡→T}
-use Rattle.curves.specs.Curves.{coordinate}
 use Rattle.curves.proofs.Runs.{and-left, and-right}
 use Rattle.map.specs.declared.Head.{Head}
 use Rattle.map.specs.Limits.{nodeWidth, edgeWidth, faceWidth, lastNumber}
-use Rattle.map.specs.Rows.{Edge, rows, cell, mapOf, node, hasNode, hasEdge, hasFace}
-use Rattle.map.specs.Form.{within, isZero, countsFit, nextsFit, restZero, nodeRanges, edgeRanges, faceRanges, ranged, numbered, numbers, named, edgeNames, inFace, curveFits}
+use Rattle.map.specs.Rows.{Edge, rows, mapOf, node, hasNode, hasEdge, hasFace}
+use Rattle.map.specs.Form.{within, countsFit, nextsFit, restZero, nodeRanges, edgeRanges, faceRanges, ranged, numbered, numbers, named, edgeNames, inFace, curveFits}
+use Rattle.map.proofs.RoundTrip.{within-least}
 use Rattle.tables.specs.declared.Counts.{Counts}
 use Rattle.tables.specs.Tables.{nodesOf, edgesOf, facesOf, nodeMap, NodeRows, EdgeRows, FaceRows}
 use Rattle.ranges.specs.Ranges.{lent, countsOf, mapIn, rangedRows, Counted, EdgesInOrder, InRanges, InOrder, Named}
@@ -43,10 +42,6 @@ module _ (a b c d e f : Bool) (h : a && b && c && d && e && f ≡ true) where
 pub within-in : (a b : ℕ) (z : ℤ) → within a b z ≡ true → T (nonNeg z) × (natAbs z ≤ b)
 within-in a b (pos n) h = (tt, leb-true n b (and-right (leb a n) (leb n b) h))
 within-in a b (negsuc n) h = absurd (false≢true h)
-
-within-least : (a b : ℕ) (z : ℤ) → within a b z ≡ true → a ≤ natAbs z
-within-least a b (pos n) h = leb-true a n (and-left (leb a n) (leb n b) h)
-within-least a b (negsuc n) h = absurd (false≢true h)
 
 -- z is a next number: not negative, and at most 1,000,000
 pub record Next (z : ℤ) : Type 0 where
@@ -127,24 +122,6 @@ module _ (nodes edges faces : List ℤ) (h : Head) where
 pub curves-are : (nodes edges faces : List ℤ) (c : Counts) (h : Head) (l : List Edge) → all (curveFits (nodeMap nodes (c .nodes))) l ≡ all (curveFits (mapIn nodes edges faces c h)) l
 unfolding node
 curves-are nodes edges faces c h l = all-same (curveFits (nodeMap nodes (c .nodes))) (curveFits (mapIn nodes edges faces c h)) (λ e. refl) l
-
--- ---- the numbers of an edge row that name nodes and faces
-
-pub edge-signs : (r : List ℤ) → edgeRanges r ≡ true → T (nonNeg (cell r 1)) × T (nonNeg (cell r 2)) × T (nonNeg (cell r 5)) × T (nonNeg (cell r 6))
-edge-signs r h =
-    let a = nonNeg (cell r 0) && (nonNeg (cell r 1) && (nonNeg (cell r 2) && (nonNeg (cell r 5) && (nonNeg (cell r 6) && true)))) in
-    let w = within 2 12 (cell r 7) in
-    let p = all coordinate (take (2 * natAbs (cell r 7)) (drop 8 r)) in
-    let e = and-left a w (and-left (a && w) p (and-left (a && w && p) (all isZero (drop (2 * natAbs (cell r 7)) (drop 8 r))) h)) in
-    let e₁ = and-right (nonNeg (cell r 0)) (nonNeg (cell r 1) && (nonNeg (cell r 2) && (nonNeg (cell r 5) && (nonNeg (cell r 6) && true)))) e in
-    let e₂ = and-right (nonNeg (cell r 1)) (nonNeg (cell r 2) && (nonNeg (cell r 5) && (nonNeg (cell r 6) && true))) e₁ in
-    let e₅ = and-right (nonNeg (cell r 2)) (nonNeg (cell r 5) && (nonNeg (cell r 6) && true)) e₂ in
-    let e₆ = and-right (nonNeg (cell r 5)) (nonNeg (cell r 6) && true) e₅ in (
-      ≡→T (nonNeg (cell r 1)) (and-left (nonNeg (cell r 1)) (nonNeg (cell r 2) && (nonNeg (cell r 5) && (nonNeg (cell r 6) && true))) e₁),
-      ≡→T (nonNeg (cell r 2)) (and-left (nonNeg (cell r 2)) (nonNeg (cell r 5) && (nonNeg (cell r 6) && true)) e₂),
-      ≡→T (nonNeg (cell r 5)) (and-left (nonNeg (cell r 5)) (nonNeg (cell r 6) && true) e₅),
-      ≡→T (nonNeg (cell r 6)) (and-left (nonNeg (cell r 6)) true e₆),
-    )
 
 module _ {nodes edges faces : List ℤ} {c : Counts} {h : Head} where
   -- ---- rows in range

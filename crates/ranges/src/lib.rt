@@ -170,7 +170,12 @@ fn edge_ranges(row: &[i64]) -> bool
     if !(edge_naturals(row) & within(z, 2, 12)) {
         return false;
     }
-    points_ranged(row, natural(row, 7))
+    let n = natural(row, 7);
+    // most edges are straight: the compiler unrolls the tests of two points
+    if n == 2 {
+        return points_ranged(row, 2);
+    }
+    points_ranged(row, n)
 }
 
 fn edges_ranged(edges: &[i64], n: usize) -> bool

@@ -18,7 +18,8 @@ use Rattle.lists.proofs.Bools.{which}
 use Rattle.tables.specs.Tables.{sameZ}
 use Rattle.tables.proofs.Order.{is-same, not-same}
 use Rattle.records.specs.declared.Node.{Node}
-use Rattle.records.specs.Records.{noNode, nodeRow}
+use Rattle.records.specs.Records.{nodeRow}
+pub use Rattle.records.proofs.Packing.{noNode, place-fits}
 
 -- the answer of a search from row i on
 abbrev pub searched : List Node → ℕ → ℤ → ℕ → Found

@@ -1,7 +1,7 @@
 -- Nodes as rows of four numbers, and back. Assumes nothing.
 use mathlib.Core.Path.{_≡_, refl, sym, ap, _∙_}
 use mathlib.Core.List.{List, [], _∷_, _++_, flatMap, append-nil}
-use Prim.Native.Nat.{ℕ, zero, suc, _+_, _*_, _<_, _≤_}
+use Prim.Native.Nat.{ℕ, zero, suc, _+_, _*_, _^_, _<_, _≤_}
 use native.Mathlib.Nat.{zero-add}
 use native.Mathlib.Omega.{arith}
 use native.Mathlib.Numerals.{add-one}
@@ -11,7 +11,15 @@ use lib.Seq.{paste, paste-suc, take-paste, drop-paste, take-add, take-all, drop-
 use Rattle.lists.specs.Tables.{table}
 use Rattle.lists.proofs.Scans.{length-table, getD-table}
 use Rattle.records.specs.declared.Node.{Node}
-use Rattle.records.specs.Records.{noNode, nodeCells, nodeTable, rowNode}
+use Rattle.records.specs.Records.{nodeCells, nodeTable, rowNode}
+
+-- what is read past the last record
+abbrev pub noNode : Node
+noNode = record { number = pos 0; x = pos 0; y = pos 0; face = pos 0 }
+
+-- the first byte of record i of l records that there is room for
+pub place-fits : {i l : ℕ} → l * 32 < 2 ^ 63 → i < l → i * 32 < 2 ^ 64
+place-fits room within = omega arith
 
 pub length-cells : (ys : List Node) → length (nodeTable ys) ≡ length ys * 4
 unfolding flatMap

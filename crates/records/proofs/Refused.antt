@@ -2,7 +2,6 @@
 use mathlib.Core.Path.{_≡_, ap, _∙_}
 use mathlib.Core.Bool.{Bool, false, _&&_}
 use mathlib.Core.List.{List}
-use mathlib.Core.Option.{Option, none, some}
 use Prim.Native.Nat.{_<_, _/_, _%_}
 use native.Mathlib.Omega.{arith}
 use lib.IntN.{ℤ}
@@ -12,22 +11,12 @@ use borrow.Author.Tests.{lt-leb}
 use Rattle.lists.specs.Tests.{same}
 use Rattle.lists.proofs.Bools.{&&-false}
 use Rattle.map.specs.Limits.{nodeWidth, maxNodes}
-use Rattle.map.specs.Rows.{Lent, whole, wholeRows, mapOf}
-use Rattle.map.specs.Tickets.{Ticket, read}
-use Rattle.map.specs.Reasons.{firstReason}
-use Rattle.map.specs.Ticket.{ticket, judged, refused}
+use Rattle.map.specs.Rows.{Lent, whole, wholeRows}
+use Rattle.map.specs.Ticket.{ticket, refused}
+use Rattle.engine.proofs.Answers.{ticket-1}
 use Rattle.records.specs.declared.Node.{Node}
 use Rattle.records.specs.Records.{nodeTable}
 use Rattle.records.proofs.Packing.{length-cells}
-
-judged-refused : (l : Lent) (o : Option Ticket) → whole l ≡ false → judged l (mapOf l) o ≡ refused l 1
-unfolding firstReason
-judged-refused l none w = rw w
-judged-refused l (some t) w = rw w
-
-ticket-refused : (l : Lent) (t : List ℤ) → whole l ≡ false → ticket l t ≡ refused l 1
-unfolding ticket
-ticket-refused l t w = judged-refused l (read t) w
 
 too-many : (ys : List Node) → 1000 < length ys → wholeRows nodeWidth 0 maxNodes (nodeTable ys) ≡ false
 too-many ys h =
@@ -37,4 +26,4 @@ too-many ys h =
 
 pub crowded : (l : Lent) (t : List ℤ) (ys : List Node) → l .nodes ≡ nodeTable ys → 1000 < length ys → ticket l t ≡ refused l 1
 unfolding whole
-crowded l t ys e h = ticket-refused l t (rw (e, too-many ys h))
+crowded l t ys e h = ticket-1 l t (rw (e, too-many ys h))

@@ -6,6 +6,7 @@ use lib.ListN.{getD, take, set}
 use Rattle.lists.specs.declared.Found.{Found}
 use Rattle.lists.specs.declared.Found.the-variants.{At, Missing}
 use Rattle.lists.specs.Tables.{place}
+use Rattle.map.specs.Limits.{nodeWidth}
 use Rattle.tables.specs.Tables.{sameZ}
 use Rattle.records.specs.declared.Node.{Node}
 
@@ -19,10 +20,7 @@ nodeTable ns = flatMap nodeCells ns
 
 -- the node that row i of a node table is
 abbrev pub rowNode : List ℤ → ℕ → Node
-rowNode l i = record { number = getD l (i * 4) (pos 0); x = getD l (i * 4 + 1) (pos 0); y = getD l (i * 4 + 2) (pos 0); face = getD l (i * 4 + 3) (pos 0) }
-
-abbrev pub noNode : Node
-noNode = record { number = pos 0; x = pos 0; y = pos 0; face = pos 0 }
+rowNode l i = record { number = getD l (i * nodeWidth) (pos 0); x = getD l (i * nodeWidth + 1) (pos 0); y = getD l (i * nodeWidth + 2) (pos 0); face = getD l (i * nodeWidth + 3) (pos 0) }
 
 -- the row of a number among the first n records, or that it is missing
 abbrev pub nodeRow : List Node → ℕ → ℤ → Found

@@ -13,11 +13,12 @@ use Rattle.lists.specs.Scans.{keep, count}
 use Rattle.lists.specs.Members.{Distinct}
 use Rattle.lists.proofs.Bools.{equal?, same-eq, same-false}
 use Rattle.lists.proofs.Keeps.{keep-in}
-use Rattle.planar.specs.Map.{Arc, fwd, bwd, darts}
+use Rattle.planar.specs.Map.{fwd, bwd, darts}
 use Rattle.map.specs.Limits.{lastNumber, edgeWidth}
 use Rattle.map.specs.Rows.{Edge, Map, edge, withoutEdge}
 use Rattle.map.specs.Darts.{leaves, departures, edgeEnds}
 use Rattle.map.proofs.Laws.{edge-row, numbered-is}
+use Rattle.map.proofs.Linked.{arcOf}
 use Rattle.tables.specs.Tables.{sameZ, edgesOf, edgeAt, edgeMap, EdgeRows}
 use Rattle.tables.proofs.Rows.{edges-length, edges-getD}
 use Rattle.tables.proofs.Numbers.{without-at}
@@ -41,11 +42,8 @@ keep-two p a b ds = go (p a) (p b)
     go false true = omega arith
     go false false = omega arith
 
-arcOf : Edge → Arc
-arcOf e = record { num = e .number; from = e .start; to = e .end }
-
 ends-from : (m : Map) (k : ℕ) (es : List Edge) → ((r : Edge) → List·Memᴰ r es → edge m (r .number) ≡ r) → length (keep (λ d. same (leaves m d) k) (darts (map arcOf es))) ≡ endsOf k es
-unfolding leaves arcOf
+unfolding leaves
 ends-from m k [] h = refl
 ends-from m k (e ∷ es) h =
     let r = h e (List·Memᴰ·head refl) in
@@ -54,7 +52,7 @@ ends-from m k (e ∷ es) h =
     ∙ ap₂ (λ (x : Edge) (j : ℕ). bit (same (x .start) k) + bit (same (x .end) k) + j) r later
 
 pub ends-are : (m : Map) (k : ℕ) → Distinct (map (λ e. e .number) (m .edges)) → edgeEnds m k ≡ endsOf k (m .edges)
-unfolding departures arcOf
+unfolding departures
 ends-are m k dis = ends-from m k (m .edges) (edge-row m dis)
 
 -- ---- rows but one

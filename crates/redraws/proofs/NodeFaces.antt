@@ -1,5 +1,5 @@
 -- A node's face stored in its row: the row has the face, and the others are as they were. Assumes nothing.
-use mathlib.Core.Path.{_≡_, refl, sym, ap, _∙_, subst}
+use mathlib.Core.Path.{_≡_, refl, sym, ap, _∙_}
 use mathlib.Core.Bool.{Bool, true, false, cond, _&&_}
 use mathlib.Core.Logic.{_⊎_, inl, inr}
 use mathlib.Core.List.{List, map}
@@ -14,11 +14,11 @@ use Rattle.lists.specs.Scans.{all}
 use Rattle.lists.specs.Tables.{place}
 use Rattle.lists.specs.declared.Found.the-variants.{At}
 use Rattle.lists.proofs.Bools.{equal?, same-eq, same-false}
-use Rattle.lists.proofs.Scans.{table-same}
+use Rattle.lists.proofs.Scans.{table-same, all-of-table}
 use Rattle.curves.specs.Curves.{coordinate}
-use Rattle.curves.proofs.Runs.{and-left, and-right}
+use Rattle.curves.proofs.Runs.{and-left}
 use Rattle.map.specs.Limits.{lastNumber, nodeWidth}
-use Rattle.map.specs.Rows.{Node, cell, nodeOf, faceOf, wholeRows}
+use Rattle.map.specs.Rows.{Node, cell, nodeOf, faceOf}
 use Rattle.map.specs.Form.{isZero, nodeRanges, numbered}
 use Rattle.map.specs.Edits.{withFace}
 use Rattle.tables.specs.Tables.{sameZ, column, nodesOf, nodeAt, rowAt, NodeRows}
@@ -26,7 +26,6 @@ use Rattle.tables.proofs.Rows.{map-table, rows-table, rows-all, nodes-table, no
 use Rattle.tables.proofs.Cells.{row-room}
 use Rattle.tables.proofs.Lookups.{row-place}
 use Rattle.redraws.specs.Holds.{NodeTable}
-use Rattle.redraws.proofs.Lists.{table-all}
 
 -- rows with one number are one row
 pub node-once : {l : List ℤ} {n : ℕ} → NodeRows l n → (i j : ℕ) → i < n → j < n → nodeAt l i .number ≡ nodeAt l j .number → i ≡ j
@@ -108,7 +107,7 @@ module _ {l : List ℤ} {n : ℕ} (t : NodeTable l n) (i : ℕ) (h : i < n) (z :
         rows =
             record {
               fits = rw (length-set l (i * nodeWidth + 3) z) (t .rows .fits);
-              ranges = ap (all nodeRanges) (rows-table nodeWidth (stored l i z) n) ∙ table-all nodeRanges (rowAt nodeWidth (stored l i z)) n row-ranges;
+              ranges = ap (all nodeRanges) (rows-table nodeWidth (stored l i z) n) ∙ all-of-table nodeRanges (rowAt nodeWidth (stored l i z)) 0 n (λ j _ k. row-ranges j (omega arith));
               rising = ap (numbered 1 (suc lastNumber)) (node-numbers (stored l i z) n ∙ table-same (λ j. nodeAt (stored l i z) j .number) (λ j. nodeAt l j .number) 0 n (λ j _ k. faced-number j (omega arith)) ∙ sym (node-numbers l n)) ∙ t .rows .rising;
             };
         rest = ap (all isZero) (drop-set-lt (n * nodeWidth) l (i * nodeWidth + 3) z (let r = row-room nodeWidth n i h in omega arith)) ∙ t .rest;

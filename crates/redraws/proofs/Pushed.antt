@@ -10,7 +10,9 @@ use lib.ListN.{length, replicate, length-append}
 use lib.Seq.{paste, length-paste}
 use Rattle.lists.specs.Tests.{same}
 use Rattle.lists.specs.Scans.{all, find, isSome}
+use Rattle.lists.proofs.Appends.{all-append, each-append}
 use Rattle.lists.proofs.Bools.{same-eq}
+use Rattle.lists.proofs.Scans.{table-in}
 use Rattle.curves.specs.Curves.{points, maxPoints}
 use Rattle.curves.proofs.Runs.{and-left, and-right}
 use Rattle.map.specs.Limits.{maxEdges, lastNumber, edgeWidth}
@@ -20,12 +22,12 @@ use Rattle.map.proofs.RoundTrip.{Holds, reads-back, whole-rows}
 use Rattle.tables.specs.Tables.{edgesOf, edgeAt, edgeMap, EdgeRows}
 use Rattle.tables.proofs.Rows.{edges-table, edges-length, all-table, edge-row-of, edge-number-in}
 use Rattle.tables.proofs.RowCurves.{edge-few}
-use Rattle.tables.proofs.Writes.{Wide, wide-append, rows-flat, pushed, edge-wide, table-edges-wide}
+use Rattle.tables.proofs.Writes.{Wide, rows-flat, pushed, edge-wide, table-edges-wide}
 use Rattle.ranges.proofs.Columns.{all-weaker}
 use Rattle.links.proofs.Positions.{row-there}
 use Rattle.answers.proofs.Filled.{filled-rest}
 use Rattle.redraws.specs.Holds.{EdgeTable}
-use Rattle.redraws.proofs.Lists.{all-append, find-more, find-last, table-in, numbered-push}
+use Rattle.redraws.proofs.Lists.{find-more, find-last, numbered-push}
 use Rattle.redraws.proofs.Filled.{edges-filled}
 
 -- a row that can follow the others
@@ -58,7 +60,7 @@ module _ {l : List ℤ} {n : ℕ} (t : EdgeTable l n) where
       }
 
   pub rows-hold : (e : Edge) → List·Memᴰ e (edgesOf l n) → Holds e
-  rows-hold e m = let r = table-in (edgeAt l) n (subst (List·Memᴰ e) (edges-table l n) m) in subst Holds (r .2) (row-holds (r .0) (r .1))
+  rows-hold e m = let r = table-in (edgeAt l) 0 n (subst (List·Memᴰ e) (edges-table l n) m) in let h = r .2 in subst Holds (r .3) (row-holds (r .0) (omega arith))
 
 -- edges written into a table are read back
 pub edges-read : (N : ℕ) (es : List Edge) → ((e : Edge) → List·Memᴰ e es → Holds e) → edgesOf (filled (N * edgeWidth) (flatMap edgeCells es)) (length es) ≡ es
@@ -84,7 +86,7 @@ module _ {l : List ℤ} {n : ℕ} (t : EdgeTable l n) (row : Edge) (f : Follows 
 
   wide : Wide edgeWidth edgeCells after
   unfolding after
-  wide = wide-append edgeWidth edgeCells (edgesOf l n) (row ∷ []) (table-edges-wide l n (t .rows .fits) (t .rows .ranges)) (edge-wide row (f .few), tt)
+  wide = each-append (λ e. length (edgeCells e) ≡ edgeWidth) (edgesOf l n) (row ∷ []) (table-edges-wide l n (t .rows .fits) (t .rows .ranges)) (edge-wide row (f .few), tt)
 
   fits : n * edgeWidth + edgeWidth ≤ length l
   fits = let s = size in omega arith

@@ -6,8 +6,8 @@ use rowing::Sides;
 ghost use mathlib.Core.Path.{_≡_};
 ghost use mathlib.Core.Bool.{true, not, _&&_, _||_};
 ghost use mathlib.Core.Option.{Option·getD};
-ghost use Prim.Native.Nat.{ℕ, _+_, _*_, _≤_, _<_};
-ghost use lib.IntN.{pos, natAbs, negℤ};
+ghost use Prim.Native.Nat.{_+_, _*_, _≤_, _<_};
+ghost use lib.IntN.{pos, natAbs};
 ghost use lib.ListN.{length, set};
 ghost use lib.Seq.{paste};
 ghost use lib.Signed.{nonNeg};
@@ -315,7 +315,7 @@ fn is_taken(edges: &[i64], count: usize, i: usize, c: &[i64]) -> bool
 
 // The first reason from 11 on against a curve for the edge of row i; 0 for none.
 fn turn_reason(nodes: &[i64], n: usize, edges: &[i64], count: usize, i: usize, c: &[i64]) -> u64
-    requires { ⌜ NodeRows (now nodes) n × EdgeRows (now edges) count × (i < count) × Run (now c) ⌝ }
+    requires { ⌜ NodeRows (now nodes) n × EdgeRows (now edges) count × (count ≤ 2000) × (i < count) × Run (now c) ⌝ }
     ensures { λ r. ⌜ r ≡ firstReason (turnReasons (now (nodes .entry)) n (now (edges .entry)) count i (now (c .entry))) ⌝ }
 {
     if is_taken(edges, count, i, c) {

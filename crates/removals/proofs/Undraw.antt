@@ -14,9 +14,9 @@ use Rattle.lists.proofs.Bools.{which, same-true, same-eq, or-true}
 use Rattle.lists.proofs.Keeps.{keep-all}
 use Rattle.lists.proofs.Members.{map-cong}
 use Rattle.map.specs.declared.Head.{Head}
-use Rattle.map.specs.Rows.{Node, Edge, Map, mapOf, filled, nodeCells, edgeCells, atNodes}
-use Rattle.map.specs.Links.{unlinkEdge, redirect}
+use Rattle.map.specs.Rows.{Node, Edge, Map, mapOf, filled, nodeCells, edgeCells}
 use Rattle.map.specs.Edits.{withFace, undrawn, withSides, renamed, renamedNode, renamedFaces}
+use Rattle.grown.proofs.NumbersEdges.{undrawn-face-list}
 use Rattle.tables.specs.Tables.{edgeAt}
 use Rattle.ranges.specs.Ranges.{lent}
 use Rattle.answers.specs.declared.Done.{Done}
@@ -30,10 +30,6 @@ use Rattle.removals.specs.Cleared.{Cleared, cleared, valueLeft}
 
 -- ---- the edge undrawn
 
-same-faces : (k g : ℕ) (m : Map) → undrawn k g m .faces ≡ m .faces
-unfolding undrawn atNodes unlinkEdge redirect
-same-faces k g m = refl
-
 module _ {nodes edges faces nodes₁ edges₁ faces₁ : List ℤ} {m : Map} {h₁ : Head} (before : Holds nodes edges faces m nodes₁ edges₁ faces₁ h₁) (is : mapOf (lent nodes₁ edges₁ faces₁ h₁) ≡ m)
     (nodes-same : length nodes₁ ≡ length nodes) (edges-same : length edges₁ ≡ length edges) where
   holds-undrawn : (i k : ℕ) {face : ℤ} {g : ℕ} {nodes′ edges′ : List ℤ} {h′ : Head} → edgeAt edges₁ i .number ≡ k → face ≡ pos g → Undrawn nodes₁ edges₁ h₁ i face nodes′ edges′ h′
@@ -43,7 +39,7 @@ module _ {nodes edges faces nodes₁ edges₁ faces₁ : List ℤ} {m : Map} {h�
       record {
         node-cells = ap₂ (λ (n : ℕ) (x : Map). filled n (flatMap nodeCells (x .nodes))) (sym nodes-same) same ∙ u .node-cells faces₁;
         edge-cells = ap₂ (λ (n : ℕ) (x : Map). filled n (flatMap edgeCells (x .edges))) (sym edges-same) same ∙ u .edge-cells faces₁;
-        face-cells = ap (facesIn (length faces)) (same-faces k g m) ∙ before .face-cells;
+        face-cells = ap (facesIn (length faces)) (undrawn-face-list k g m) ∙ before .face-cells;
         head = undrawn-head k g m (before .head) (ap (λ (x : Map). length (x .edges)) same ∙ u .edges-left faces₁) ∙ sym (u .head);
       }
 

@@ -1,5 +1,5 @@
 -- What is left of the ring of p from position c on, with the steps that are left. A walk's turn takes its first directed edge off. Assumes nothing.
-use mathlib.Core.Path.{_≡_, refl, sym, ap, _∙_}
+use mathlib.Core.Path.{_≡_, sym, ap, _∙_}
 use mathlib.Core.Bool.{Bool, true, false, cond}
 use mathlib.Core.Logic.{inl, inr}
 use mathlib.Core.List.{List, [], _∷_, map}
@@ -9,7 +9,7 @@ use native.Mathlib.Omega.{arith}
 use lib.IntN.{ℤ, pos}
 use lib.ListN.{length, getD, set, drop, length-drop, length-map}
 use lib.Seq.{getD-drop, drop-drop, getD-set-same, getD-set-other}
-use Rattle.lists.proofs.Bools.{not-true, equal?}
+use Rattle.lists.proofs.Bools.{not-true, equal?, either}
 use Rattle.planar.specs.Map.{Dart}
 use Rattle.planar.specs.Rings.{sameDart}
 use Rattle.planar.proofs.Rings.{sameDart-refl, sameDart-true}
@@ -36,10 +36,6 @@ ring-steps l n p = let e : 2 * length (edgeMap l n .edges) ≡ n * 2 - 0 = omega
 -- as it is written
 abbrev pub cells : List ℤ → ℕ → ℕ → List ℤ
 cells l n p = map dartCell (ringAt l n p)
-
-either : {A : Type 0} (b : Bool) (v : A) → cond b v v ≡ v
-either true v = refl
-either false v = refl
 
 -- position s follows position c
 pub record Follows (l : List ℤ) (n c s : ℕ) : Type 0 where

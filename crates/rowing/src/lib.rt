@@ -1,10 +1,20 @@
-// Edge rows written.
+// Node and edge rows written.
 use cutting::Line;
 ghost use mathlib.Core.Path.{_≡_};
-ghost use Prim.Native.Nat.{ℕ, _+_, _*_, _≤_, _<_};
+ghost use mathlib.Core.List.{[], _∷_};
+ghost use Prim.Native.Nat.{_+_, _*_, _≤_};
 ghost use lib.ListN.{length};
 ghost use lib.Seq.{paste};
 ghost use Rattle.rowing.specs.Cells.{cellsOf};
+
+// The node row with these numbers at row i.
+pub fn write_node(nodes: &mut [i64], i: usize, number: i64, x: i64, y: i64, face: i64)
+    requires { ⌜ i * 4 + 4 ≤ length (now nodes) ⌝ }
+    ensures { λ r. ⌜ now (nodes .exit) ≡ paste (now (nodes .entry)) (i * 4) (number ∷ x ∷ y ∷ face ∷ []) 4 ⌝ }
+{
+    let row = [number, x, y, face];
+    tables::write(nodes, i * 4, &row);
+}
 
 // The numbers of an edge row before its points.
 pub struct Sides {

@@ -14,9 +14,9 @@ use lib.Seq.{getD-set-other, set-getD}
 use lib.Signed.{nonNeg, leZ, pos-natAbs}
 use mir.Syntax.{w64}
 use mir.Val.{toZ, ofZ, Fits}
-use mir.Facts.{toZ-ofZ, fits-of-lt}
-use borrow.Author.Needs.{sfits-of}
+use mir.Facts.{fits-of-lt}
 use borrow.Author.Tests.{leb-true}
+use Rattle.integers.specs.Signs.{sent}
 use Rattle.lists.specs.Tests.{same}
 use Rattle.lists.specs.Scans.{all, isSome}
 use Rattle.lists.specs.Tables.{sweep, place}
@@ -82,7 +82,7 @@ pub record Read (z : ℤ) : Type 0 where
 pub coordinate-read : (z : ℤ) → coordinate z ≡ true → Read z
 coordinate-read (pos k) e =
     let h = leb-true k maxCoordinate (and-right (leZ (pos 0) (pos k)) (leb k maxCoordinate) e) in
-    record { back = toZ-ofZ {w = w64} {z = pos k} (sfits-of (lt-of-le-of-lt h (lit< tt))); natural = tt; small = h }
+    record { back = sent {z = pos k} (lt-of-le-of-lt h (lit< tt)); natural = tt; small = h }
 coordinate-read (negsuc k) e = absurd (false≢true e)
 
 pub read-cast : {z : ℤ} → Read z → T (nonNeg (toZ w64 (ofZ w64 z))) × Fits w64 (natAbs (toZ w64 (ofZ w64 z)))

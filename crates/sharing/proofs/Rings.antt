@@ -4,26 +4,23 @@ use mathlib.Core.Path.{_≡_, refl, sym, ap, _∙_, subst}
 use mathlib.Core.Logic.{_⊎_, inl, inr}
 use mathlib.Core.Bool.{Bool, true, false, cond}
 use mathlib.Core.Option.{Option·getD, some}
-use mathlib.Core.List.{List, [], _∷_, map, List·Memᴰ, List·Memᴰ·head, List·Memᴰ·tail, List·Memᴰ·cases-cons, List·Memᴰ·not-nil, List·Permᴰ, Memᴰ·cast, Permᴰ·symm}
+use mathlib.Core.List.{List, [], _∷_, map, map-map, List·Memᴰ, List·Memᴰ·head, List·Memᴰ·tail, List·Memᴰ·cases-cons, List·Memᴰ·not-nil, List·Permᴰ}
 use Prim.Native.Nat.{ℕ, zero, suc, _*_, _≤_, min}
 use native.Mathlib.Omega.{arith}
 use lib.ListN.{length, length-map}
 use Rattle.lists.specs.Tests.{same, iterate}
-use Rattle.lists.specs.Scans.{count, find}
+use Rattle.lists.specs.Scans.{find}
 use Rattle.lists.specs.Members.{Distinct}
-use Rattle.lists.proofs.Bools.{same-true}
-use Rattle.lists.proofs.Perms.{perm-of-distinct}
-use Rattle.lists.proofs.Counts.{count-in}
+use Rattle.lists.proofs.Bools.{either}
 use Rattle.curves.specs.Curves.{through}
 use Rattle.planar.specs.Map.{Arc, Dart, fwd, bwd, darts, Linked}
 use Rattle.planar.specs.Pieces.{nums}
-use Rattle.planar.specs.Rings.{sameDart, Leads}
-use Rattle.planar.proofs.Rings.{next-in, sameDart-true}
-use Rattle.planar.proofs.Hooks.{distinct-darts}
+use Rattle.planar.specs.Rings.{Leads}
+use Rattle.planar.proofs.Rings.{next-in}
 use Rattle.map.specs.Rows.{Edge, Map, edge, setEdges}
 use Rattle.map.specs.Darts.{arcs, directed, leaves, next, bears, stepsTo, ring, among, lowestEdge}
 use Rattle.map.specs.Form.{linksOnce, ringsBearOne}
-use Rattle.grown.proofs.Scanning.{all-each}
+use Rattle.map.proofs.Linked.{arcOf, nums-rows, links-perm, links-keep}
 use Rattle.grown.proofs.EdgesRings.{among-in, among-has, ring-here, ring-leads, ring-alike, lowest-same}
 
 -- two maps whose links are the same have the same rings
@@ -48,9 +45,6 @@ bare m = setEdges (map loop (m .edges)) m
 abbrev noEdge : Edge
 noEdge = record { number = 0; start = 0; end = 0; nextLeft = fwd 0; nextRight = fwd 0; left = 0; right = 0; curve = through [] }
 
-abbrev arcOf : Edge → Arc
-arcOf e = record { num = e .number; from = e .start; to = e .end }
-
 find-loop : (k : ℕ) (es : List Edge) → Option·getD (find (λ r. same (r .number) k) (map loop es)) noEdge ≡ loop (Option·getD (find (λ r. same (r .number) k) es) noEdge)
 find-loop k [] = refl
 find-loop k (r ∷ es) = pick (same (r .number) k) (find-loop k es)
@@ -59,10 +53,6 @@ find-loop k (r ∷ es) = pick (same (r .number) k) (find-loop k es)
         → Option·getD (cond b (some (loop r)) (find (λ r. same (r .number) k) (map loop es))) noEdge ≡ loop (Option·getD (cond b (some r) (find (λ r. same (r .number) k) es)) noEdge)
     pick true later = refl
     pick false later = later
-
-either : {A : Type 0} (b : Bool) (v : A) → cond b v v ≡ v
-either true v = refl
-either false v = refl
 
 module _ (m : Map) where
   edge-bare : (k : ℕ) → edge (bare m) k ≡ loop (edge m k)
@@ -91,14 +81,6 @@ directed-loop : (es : List Edge) → darts (map arcOf (map loop es)) ≡ darts (
 directed-loop [] = refl
 directed-loop (e ∷ es) = ap (λ (ds : List Dart). fwd (e .number) ∷ bwd (e .number) ∷ ds) (directed-loop es)
 
-nums-loop : (es : List Edge) → nums (map arcOf (map loop es)) ≡ map (λ e. e .number) es
-nums-loop [] = refl
-nums-loop (e ∷ es) = ap (λ (ns : List ℕ). e .number ∷ ns) (nums-loop es)
-
-nums-are : (es : List Edge) → nums (map arcOf es) ≡ map (λ e. e .number) es
-nums-are [] = refl
-nums-are (e ∷ es) = ap (λ (ns : List ℕ). e .number ∷ ns) (nums-are es)
-
 loops-at : (es : List Edge) (a : Arc) → List·Memᴰ a (map arcOf (map loop es)) → (a .from ≡ 0) × (a .to ≡ 0)
 loops-at [] a k = absurd (List·Memᴰ·not-nil k)
 loops-at (e ∷ es) a k = go (List·Memᴰ·cases-cons k) (loops-at es a)
@@ -117,23 +99,6 @@ lowest-here e (d ∷ r) h = let q : min e (d .edge) ≡ e = omega (arith, h d (L
 -- ---- rings
 
 module _ (m : Map) (dis : Distinct (map (λ e. e .number) (m .edges))) (once : linksOnce m ≡ true) (one : ringsBearOne m ≡ true) where
-  links-perm : List·Permᴰ (map (next m) (directed m)) (directed m)
-  unfolding linksOnce
-  links-perm = Permᴰ·symm (perm-of-distinct (directed m) links (distinct-darts (arcs m) (rw (nums-are (m .edges)) dis)) named (omega (arith, length-map (directed m) (next m))))
-    where
-      links : List Dart
-      links = map (next m) (directed m)
-
-      named : (d : Dart) → List·Memᴰ d (directed m) → List·Memᴰ d links
-      named d k =
-          let q = same-true (count (sameDart d) links) 1 (all-each (λ d. same (count (sameDart d) links) 1) (directed m) once d k) in
-          let r = count-in (sameDart d) links (omega arith) in
-          Memᴰ·cast (sameDart-true d (r .0) (r .2)) (r .1)
-
-  keeps : (d : Dart) → List·Memᴰ d (directed m) → bears m (next m d) ≡ bears m d
-  unfolding ringsBearOne
-  keeps d k = same-true _ _ (all-each (λ d. same (bears m (next m d)) (bears m d)) (directed m) one d k)
-
   here : {d : Dart} → List·Memᴰ d (directed m) → List·Memᴰ d (directed (bare m))
   here {d} k = subst (λ (ds : List Dart). List·Memᴰ d ds) (sym (directed-loop (m .edges))) k
 
@@ -145,13 +110,13 @@ module _ (m : Map) (dis : Distinct (map (λ e. e .number) (m .edges))) (once : l
       record {
         starts = λ a k. leaves-bare m (fwd (a .num)) ∙ sym (loops-at (m .edges) a k .0);
         ends = λ a k. leaves-bare m (bwd (a .num)) ∙ sym (loops-at (m .edges) a k .1);
-        perm = subst (λ (ds : List Dart). List·Permᴰ (map (next (bare m)) ds) ds) (sym (directed-loop (m .edges))) (subst (λ (f : Dart → Dart). List·Permᴰ (map f (directed m)) (directed m)) (sym (nexts-bare m)) links-perm);
+        perm = subst (λ (ds : List Dart). List·Permᴰ (map (next (bare m)) ds) ds) (sym (directed-loop (m .edges))) (subst (λ (f : Dart → Dart). List·Permᴰ (map f (directed m)) (directed m)) (sym (nexts-bare m)) (links-perm m (rw (nums-rows m) dis) once));
         meets = λ d k. leaves-bare m (next (bare m) d) ∙ sym (leaves-bare m _);
-        keeps = λ d k. bears-bare m (next (bare m) d) ∙ ap (bears m) (next-bare m d) ∙ keeps d (back k) ∙ sym (bears-bare m d);
+        keeps = λ d k. bears-bare m (next (bare m) d) ∙ ap (bears m) (next-bare m d) ∙ links-keep m one d (back k) ∙ sym (bears-bare m d);
       }
 
   once-bare : Distinct (nums (arcs (bare m)))
-  once-bare = rw (nums-loop (m .edges)) dis
+  once-bare = rw (nums-rows (bare m), map-map (λ (e : Edge). e .number) loop (m .edges)) dis
 
   -- what is alike along `next` is alike all over a ring
   along : {A : Type 0} (f : Dart → A) → ((x : Dart) → List·Memᴰ x (directed (bare m)) → f (next (bare m) x) ≡ f x) → {d x : Dart} → List·Memᴰ d (directed (bare m)) → Leads (next (bare m)) d x → List·Memᴰ x (directed (bare m)) × (f x ≡ f d)

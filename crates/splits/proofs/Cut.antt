@@ -11,6 +11,7 @@ use lib.ListN.{length, getD, set, take, drop, length-map, length-set, length-app
 use lib.Seq.{paste, length-take-le}
 use Rattle.lists.specs.Tests.{same}
 use Rattle.lists.specs.Members.{Distinct}
+use Rattle.lists.proofs.Appends.{each-append}
 use Rattle.plane.specs.declared.Point.{Point}
 use Rattle.curves.specs.Curves.{points}
 use Rattle.curves.specs.Edits.{front, back}
@@ -22,13 +23,13 @@ use Rattle.map.specs.Links.{redirect}
 use Rattle.map.specs.Edits.{startHalf, endHalf, split}
 use Rattle.tables.specs.Tables.{closed, edgeAt, EdgeRow}
 use Rattle.tables.proofs.Numbers.{without-at, changed-at}
-use Rattle.tables.proofs.Writes.{Wide, wide-append, pushed, replaced-at, removed-at, edge-wide, wide-set}
+use Rattle.tables.proofs.Writes.{Wide, pushed, replaced-at, removed-at, edge-wide, wide-set}
 use Rattle.links.proofs.Positions.{dart-even, dart-odd}
 use Rattle.linking.specs.Linking.{redirected}
 use Rattle.linking.proofs.Filled.{renamedRow, renamed-wide, redirected-filled}
 use Rattle.rowing.specs.Cells.{cellsOf}
 use Rattle.rowing.proofs.Cells.{row-cells}
-use Rattle.conditions.proofs.Maps.{edge-is}
+use Rattle.map.proofs.Laws.{edge-is}
 use Rattle.splits.specs.Cuts.{renamed, startSides, endSides, placed, cutRow}
 use Rattle.splits.proofs.Halves.{front-few, back-few}
 use Rattle.splits.proofs.Rows.{found-at, wide-without, row-number}
@@ -145,7 +146,7 @@ module _ (l : List ℤ) (N n : ℕ) (xs : List Edge) (is : filled N (flatMap edg
       ap (λ (r : List ℤ). paste (paste r ((n - 1) * 32) (edgeCells first) 32) (n * 32) (edgeCells second) 32) gone
       ∙ ap (λ (r : List ℤ). paste r (n * 32) (edgeCells second) 32) one
       ∙ ap (λ (k : ℕ). paste (filled N (flatMap edgeCells us)) (k * 32) (edgeCells second) 32) (sym ul)
-      ∙ pushed edgeWidth edgeCells N us second (wide-append edgeWidth edgeCells zs (first ∷ []) zw (first-wide, tt)) second-wide (rw ul fits)
+      ∙ pushed edgeWidth edgeCells N us second (each-append (λ e. length (edgeCells e) ≡ edgeWidth) zs (first ∷ []) zw (first-wide, tt)) second-wide (rw ul fits)
       ∙ ap (λ (r : List Edge). filled N (flatMap edgeCells r)) (append-assoc zs (first ∷ []) (second ∷ []) ∙ ap (λ (r : List Edge). r ++ first ∷ second ∷ []) (sym new-is))
 
   cut-rows : (keeps : Bool) → cutRow l n i (pos node) p keeps (pos a) (pos b) ≡ filled N (flatMap edgeCells (cond keeps kept new))

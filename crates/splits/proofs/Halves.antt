@@ -7,7 +7,7 @@ use lib.ListN.{length}
 use Rattle.plane.specs.declared.Point.{Point}
 use Rattle.plane.specs.Points.{samePoint}
 use Rattle.plane.specs.Segments.{onSegment}
-use Rattle.curves.specs.Curves.{Curve, points, maxPoints}
+use Rattle.curves.specs.Curves.{points, maxPoints}
 use Rattle.curves.specs.Edits.{Halves, cutHere, cut, front, back}
 use Rattle.tables.specs.Tables.{EdgeRow, edgeAt}
 use Rattle.tables.proofs.RowCurves.{edge-few}

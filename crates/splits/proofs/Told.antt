@@ -26,7 +26,7 @@ use Rattle.ranges.specs.Ranges.{lent}
 use Rattle.answers.specs.Outcomes.{Formed}
 use Rattle.answers.proofs.Formed.{ranges, nodes-count, edges-count, node-next, edge-next, nodes-size, edges-size, full-is, spent-is, faces-room, face-left, edge-none}
 use Rattle.conditions.proofs.Reasons.{first-hit, first-miss, first-append, first-after, first-zero}
-use Rattle.conditions.proofs.Maps.{edge-is}
+use Rattle.map.proofs.Laws.{edge-is}
 use Rattle.splits.specs.Kinds.{splitTicket}
 use Rattle.splits.specs.Cuts.{pointReasons, given, roomReasons, Numbered}
 

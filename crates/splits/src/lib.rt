@@ -6,12 +6,10 @@ use map::Head;
 use plane::Point;
 use rowing::Sides;
 ghost use mathlib.Core.Path.{_≡_};
-ghost use mathlib.Core.Bool.{true, cond, _&&_};
-ghost use mathlib.Core.List.{[], _∷_};
-ghost use Prim.Native.Nat.{ℕ, _+_, _*_, _-_, _≤_, _<_};
-ghost use lib.IntN.{pos, negsuc, negℤ, natAbs};
+ghost use mathlib.Core.Bool.{true, _&&_};
+ghost use Prim.Native.Nat.{_+_, _*_, _-_, _≤_, _<_};
+ghost use lib.IntN.{natAbs};
 ghost use lib.ListN.{length};
-ghost use lib.Seq.{paste};
 ghost use lib.Signed.{nonNeg};
 ghost use Rattle.plane.specs.Points.{InRange};
 ghost use Rattle.curves.specs.Curves.{points, point, coordinate};
@@ -208,15 +206,6 @@ fn after_split(h: Head, keeps: bool) -> Head
     after
 }
 
-// The node of a split, where edges end.
-fn write_node(nodes: &mut [i64], i: usize, number: i64, x: i64, y: i64)
-    requires { ⌜ i * 4 + 4 ≤ length (now nodes) ⌝ }
-    ensures { λ r. ⌜ now (nodes .exit) ≡ paste (now (nodes .entry)) (i * 4) (number ∷ x ∷ y ∷ negsuc 0 ∷ []) 4 ⌝ }
-{
-    let row = [number, x, y, -1];
-    tables::write(nodes, i * 4, &row);
-}
-
 // The edge of row i cut, and the new node.
 fn cut_edge(edges: &mut [i64], h: Head, i: usize, keeps: bool, edge: i64, x: i64, y: i64)
     requires { ⌜ Numbered h × EdgeRow (now edges) i × (i < natAbs (h .edges)) × (natAbs (h .edges) * 32 + 32 ≤ length (now edges)) × (nonNeg edge ≡ true) × ((coordinate x && coordinate y) ≡ true) ⌝ }
@@ -256,6 +245,6 @@ pub fn split_edge(
     }
     let node = h.next_node;
     cut_edge(edges, h, i, keeps, edge, x, y);
-    write_node(nodes, answers::count_of(h.nodes), node, x, y);
+    rowing::write_node(nodes, answers::count_of(h.nodes), node, x, y, -1);
     answers::carried(after_split(h, keeps), node)
 }

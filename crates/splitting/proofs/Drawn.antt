@@ -21,6 +21,7 @@ use Rattle.planar.proofs.Bridges.{Fresh}
 use Rattle.planar.proofs.Rings.{sameDart-refl}
 use Rattle.planar.proofs.Hooks.{fwd≢bwd, sameDart-false}
 use Rattle.rotation.specs.Law.{firstClockwise}
+use Rattle.rotation.proofs.Rename.{first-map}
 use Rattle.map.specs.Rows.{Edge, Map, edge, hasEdge, atNodes}
 use Rattle.map.specs.Darts.{arcs, directed, leaves, next, way, departures}
 use Rattle.map.specs.Form.{numbered}
@@ -30,7 +31,6 @@ use Rattle.tables.specs.Tables.{sameZ, edgesOf, edgeAt, edgeMap, EdgeRows}
 use Rattle.tables.proofs.Rows.{edges-length, edge-numbers, number-in}
 use Rattle.links.specs.Positions.{odd, dartAt, wayWith}
 use Rattle.links.proofs.Positions.{edge-of, row-there}
-use Rattle.linking.proofs.FirstMet.{first-map}
 use Rattle.linking.proofs.Darts.{dart-named, row-named}
 use Rattle.linking.proofs.Departures.{departures-map}
 use Rattle.grown.proofs.Readings.{Relinked, numberOf, arcOf, has-number, nums-rows, edge-row, row-has, dart-has, departs, edge-by, tailIn, nextIn, leaves-row, next-row, course-row, way-row, next-by, keep-cong}

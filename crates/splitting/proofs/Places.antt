@@ -10,15 +10,12 @@ use Rattle.lists.specs.Tests.{same}
 use Rattle.lists.proofs.Bools.{equal?, same-eq, same-false, same-true, differ, not-true}
 use Rattle.planar.specs.Map.{Dart, fwd, bwd}
 use Rattle.planar.specs.Rings.{sameDart}
-use Rattle.planar.proofs.Rings.{sameDart-refl, sameDart-true}
+use Rattle.planar.proofs.Rings.{sameDart-refl, sameDart-true, dart-is}
 use Rattle.map.specs.Links.{instead}
 use Rattle.tables.specs.Tables.{edgeAt, EdgeRows}
 use Rattle.links.specs.Positions.{odd, dartAt}
 use Rattle.links.proofs.Positions.{side, even-of, odd-of, number-injective}
 use Rattle.splitting.specs.Drawing.{drawnDart}
-
-dart-is : {a b : ℕ} {c d : Bool} → a ≡ b → c ≡ d → _≡_ {A = Dart} (record { edge = a; back = c }) (record { edge = b; back = d })
-dart-is e f = cc
 
 module _ (l : List ℤ) (e new : ℕ) where
   -- the rows' positions

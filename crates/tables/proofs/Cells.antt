@@ -5,8 +5,8 @@ use Prim.Native.Nat.{ℕ, _+_, _-_, _*_, _<_, _≤_}
 use native.Mathlib.Nat.{suc-mul, mul-le-mul-right}
 use native.Mathlib.Numerals.{add-one}
 use native.Mathlib.Omega.{arith}
-use lib.ListN.{length, getD, set, take, drop, List·getD-append, length-drop}
-use lib.Seq.{paste, paste-suc, length-paste-head, getD-append-add, getD-take, getD-drop, length-take-le}
+use lib.ListN.{length, getD, set, take, drop, length-drop}
+use lib.Seq.{paste, paste-suc, length-paste-head, getD-append-add, getD-drop}
 
 module _ {A : Type 0} (d : List A) (at : ℕ) (s : List A) where
   pub paste-more : (j : ℕ) (z : A) → at + j < length d → j < length s → set (paste d at s j) (at + j) (getD s j z) ≡ paste d at s (j + 1)
@@ -23,19 +23,6 @@ module _ {A : Type 0} (d : List A) (at : ℕ) (s : List A) where
   module _ (n : ℕ) (z : A) (hd : at + n ≤ length d) (hs : n ≤ length s) where
     head : length (take at d ++ take n s) ≡ at + n
     head = length-paste-head d at s n (omega arith) hs
-
-    pub paste-before : (k : ℕ) → k < at → getD (paste d at s n) k z ≡ getD d k z
-    paste-before k h =
-        List·getD-append (take at d ++ take n s) (drop (at + n) d) z k (omega (arith, head))
-        ∙ List·getD-append (take at d) (take n s) z k (omega (arith, length-take-le at d (omega arith)))
-        ∙ getD-take at d k z h
-
-    pub paste-in : (k : ℕ) → k < n → getD (paste d at s n) (at + k) z ≡ getD s k z
-    paste-in k h =
-        List·getD-append (take at d ++ take n s) (drop (at + n) d) z (at + k) (omega (arith, head))
-        ∙ ap (λ (m : ℕ). getD (take at d ++ take n s) (m + k) z) (sym (length-take-le at d (omega arith)))
-        ∙ getD-append-add (take at d) (take n s) k z
-        ∙ getD-take n s k z h
 
     pub paste-after : (k : ℕ) → at + n ≤ k → getD (paste d at s n) k z ≡ getD d k z
     paste-after k h =

@@ -1,13 +1,15 @@
 -- What `find_row` answers, in the map's terms: a place is a row that is found, and missing is a row that does not exist. Assumes nothing.
-use mathlib.Core.Path.{_≡_, refl, sym, ap, _∙_}
+use mathlib.Core.Path.{_≡_, refl, sym, ap, _∙_, subst}
 use mathlib.Core.Bool.{Bool, true, false}
-use mathlib.Core.Logic.{_⊎_, inl, inr}
+use mathlib.Core.Logic.{_⊎_, inl, inr, ⊎-elim}
 use mathlib.Core.List.{List, [], _∷_}
 use mathlib.Core.Option.{none, some}
 use Prim.Native.Nat.{ℕ, zero, suc, _+_, _*_, _<_, _≤_}
+use native.Mathlib.Nat.{eq-or-lt-of-le, mul-le-mul-right}
 use native.Mathlib.Omega.{arith}
 use lib.IntN.{ℤ, pos, negsuc, natAbs}
 use lib.ListN.{getD}
+use lib.Signed.{ltZ}
 use Rattle.lists.specs.Tests.{same}
 use Rattle.lists.specs.Scans.{any, all, find, isSome}
 use Rattle.lists.specs.Tables.{table, place}
@@ -19,7 +21,7 @@ use Rattle.map.specs.Limits.{nodeWidth, edgeWidth, faceWidth}
 use Rattle.map.specs.Rows.{rows, findEdge}
 use Rattle.map.specs.Form.{nodeRanges, edgeRanges, faceRanges}
 use Rattle.tables.specs.Tables.{sameZ, column, nodesOf, facesOf, nodeAt, edgeAt, faceAt, edgeMap, Rising}
-use Rattle.tables.proofs.Order.{same-self, same-pos, below-other, rise}
+use Rattle.tables.proofs.Order.{same-self, same-pos, below-other, above-other, less-trans, rise, rising-first}
 use Rattle.tables.proofs.Rows.{nodes-table, edges-table, faces-table, rows-all, node-cells, edge-cells, face-cell}
 
 -- ---- the place in a list, and the scans `find` and `any`
@@ -61,6 +63,13 @@ module _ {A : Type 0} (p : A → Bool) (f : ℕ → A) where
 
   pub place-missing : (n : ℕ) → place p 0 (table f 0 n) ≡ Missing → find p (table f 0 n) ≡ none
   place-missing n e = missing-from 0 n e
+
+  -- p takes none after the first m
+  place-fewer : (a m n : ℕ) → m ≤ n → ((k : ℕ) → a + m ≤ k → k < a + n → p (f k) ≡ false) → place p a (table f a m) ≡ place p a (table f a n)
+  place-fewer a zero zero s h = refl
+  place-fewer a zero (suc n) s h = rw (h a (omega arith) (omega arith)) (place-fewer (a + 1) zero n (omega arith) (λ k t u. h k (omega arith) (omega arith)))
+  place-fewer a (suc m) zero s h = absurd (omega arith)
+  place-fewer a (suc m) (suc n) s h = rw (place-fewer (a + 1) m n (omega arith) (λ k t u. h k (omega arith) (omega arith)))
 
 -- some element is taken exactly where one is found
 pub any-find : {A : Type 0} (p : A → Bool) (l : List A) → any p l ≡ isSome (find p l)
@@ -120,6 +129,20 @@ row-place w l n r i h =
 pub row-met : {w : ℕ} {l : List ℤ} {n : ℕ} → Rising w l n → (i : ℕ) → i < n → {z : ℤ} → getD l (i * w) (pos 0) ≡ z → At i ≡ place (sameZ z) 0 (column w l n)
 row-met {w} {l} {n} r i h e = rw (← e) (sym (row-place w l n r i h))
 
+-- the first rows of those that rise
+pub rows-first : {w : ℕ} {l : List ℤ} {n : ℕ} → Rising w l n → (m : ℕ) → m ≤ n → Rising w l m
+rows-first {w} {l} {n} r m h =
+    record { fits = omega (arith, mul-le-mul-right w h, r .fits); some = r .some; rising = rising-first (λ k. getD l (k * w) (pos 0)) 0 m n h (r .rising) }
+
+-- a number less than that of row m has its row before it
+pub place-before : {w : ℕ} {l : List ℤ} {n : ℕ} → Rising w l n → (m : ℕ) → m < n → (z : ℤ) → ltZ z (getD l (m * w) (pos 0)) ≡ true → place (sameZ z) 0 (column w l m) ≡ place (sameZ z) 0 (column w l n)
+place-before {w} {l} {n} r m h z less =
+    let f : ℕ → ℤ = λ k. getD l (k * w) (pos 0) in
+    place-fewer (sameZ z) f 0 m n (omega arith)
+    (λ k s t.
+    let at-most : m ≤ k = omega arith in
+    above-other z (f k) (⊎-elim (λ e. subst (λ (j : ℕ). ltZ z (f j) ≡ true) e less) (λ g. less-trans z (f m) (f k) less (rise f n (r .rising) m k g (omega arith))) (eq-or-lt-of-le at-most)))
+
 -- ---- nodes, edges and faces
 
 module _ (l : List ℤ) (n : ℕ) where
@@ -135,9 +158,6 @@ module _ (l : List ℤ) (n : ℕ) where
     pub node-missing : (m : ℕ) → place (sameZ (pos m)) 0 (column nodeWidth l n) ≡ Missing → find (λ r. same (r .number) m) (nodesOf l n) ≡ none
     node-missing m e = ap (find (λ r. same (r .number) m)) (nodes-table l n) ∙ row-missing nodeWidth l n (λ r. r .number) (nodeAt l) node-first m e
 
-    pub node-negative : (m : ℕ) → place (sameZ (negsuc m)) 0 (column nodeWidth l n) ≡ Missing
-    node-negative = place-negative nodeWidth l n (λ r. r .number) (nodeAt l) node-first
-
   module _ (ranges : all edgeRanges (rows edgeWidth n l) ≡ true) where
     edge-first : (i : ℕ) → i < n → getD l (i * edgeWidth) (pos 0) ≡ pos (edgeAt l i .number)
     edge-first i t = edge-cells l i (rows-all edgeWidth l edgeRanges n ranges i t) .number
@@ -149,9 +169,6 @@ module _ (l : List ℤ) (n : ℕ) where
 
     pub edge-missing : (m : ℕ) → place (sameZ (pos m)) 0 (column edgeWidth l n) ≡ Missing → findEdge (edgeMap l n) m ≡ none
     edge-missing m e = ap (find (λ r. same (r .number) m)) (edges-table l n) ∙ row-missing edgeWidth l n (λ r. r .number) (edgeAt l) edge-first m e
-
-    pub edge-negative : (m : ℕ) → place (sameZ (negsuc m)) 0 (column edgeWidth l n) ≡ Missing
-    edge-negative = place-negative edgeWidth l n (λ r. r .number) (edgeAt l) edge-first
 
   module _ (ranges : all faceRanges (rows faceWidth n l) ≡ true) where
     face-first : (i : ℕ) → i < n → getD l (i * faceWidth) (pos 0) ≡ pos (faceAt l i)
@@ -168,6 +185,3 @@ module _ (l : List ℤ) (n : ℕ) where
 
     pub face-missing : (m : ℕ) → place (sameZ (pos m)) 0 (column faceWidth l n) ≡ Missing → any (same m) (facesOf l n) ≡ false
     face-missing m e = has-face m ∙ ap isSome (row-missing faceWidth l n (λ k. k) (faceAt l) face-first m e)
-
-    pub face-negative : (m : ℕ) → place (sameZ (negsuc m)) 0 (column faceWidth l n) ≡ Missing
-    face-negative = place-negative faceWidth l n (λ k. k) (faceAt l) face-first

@@ -118,3 +118,13 @@ module _ (f : ℕ → ℤ) where
 
   pub rise : (n : ℕ) → linked ltZ (table f 0 n) ≡ true → (p q : ℕ) → p < q → q < n → ltZ (f p) (f q) ≡ true
   rise n h p q l m = rise-from 0 n h p q (omega arith) l (omega arith)
+
+  -- the first of them
+  pub rising-first : (a m n : ℕ) → m ≤ n → linked ltZ (table f a n) ≡ true → linked ltZ (table f a m) ≡ true
+  rising-first a zero n s h = refl
+  rising-first a (suc zero) n s h = refl
+  rising-first a (suc (suc m)) zero s h = absurd (omega arith)
+  rising-first a (suc (suc m)) (suc zero) s h = absurd (omega arith)
+  rising-first a (suc (suc m)) (suc (suc n)) s h =
+      let rest = linked ltZ (table f (a + 1) (suc n)) in
+      rw (and-left (ltZ (f a) (f (a + 1))) rest h) (rising-first (a + 1) (suc m) (suc n) (omega arith) (and-right (ltZ (f a) (f (a + 1))) rest h))

@@ -89,7 +89,7 @@ module _ {l : List ℤ} {i : ℕ} (row : EdgeRow l i) where
   unfolding edgeOf
   curve-at = ap curveOf (sym same-run)
 
-  -- its points, 2 to 12
+  -- its points, at most 12
   points-at : length (points (edgeAt l i .curve)) ≡ pointCount l i
   points-at =
       let e : length (runAt l i) / 2 ≡ pointCount l i = omega (arith, run-length) in
@@ -97,6 +97,3 @@ module _ {l : List ℤ} {i : ℕ} (row : EdgeRow l i) where
 
   pub edge-few : length (points (edgeAt l i .curve)) ≤ maxPoints
   edge-few = rw points-at count-most
-
-  pub edge-two : 2 ≤ length (points (edgeAt l i .curve))
-  edge-two = rw points-at count-least

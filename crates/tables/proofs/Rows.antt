@@ -22,7 +22,7 @@ use Rattle.curves.proofs.Runs.{and-left, and-right, coordinate-pos}
 use Rattle.map.specs.Limits.{nodeWidth, edgeWidth, faceWidth, lastNumber}
 use Rattle.map.specs.Rows.{Node, Edge, rows, cell, nodeOf, edgeOf, faceRowOf, faceOf, dartOf}
 use Rattle.map.specs.Form.{within, isZero, nodeRanges, edgeRanges, faceRanges, numbered}
-use Rattle.tables.specs.Tables.{Rising, rowAt, nodesOf, edgesOf, facesOf, nodeAt, edgeAt, faceAt, EdgeRow, NodeRows, EdgeRows, FaceRows}
+use Rattle.tables.specs.Tables.{Rising, rowAt, nodesOf, edgesOf, facesOf, nodeAt, edgeAt, faceAt, NodeRow, EdgeRow, NodeRows, EdgeRows, FaceRows}
 use Rattle.tables.proofs.Cells.{row-room}
 
 -- ---- tables of elements
@@ -119,6 +119,9 @@ module _ (l : List ℤ) (n : ℕ) where
 -- each row of a table in range is in range
 pub edge-row : (l : List ℤ) (n i : ℕ) → n * edgeWidth ≤ length l → all edgeRanges (rows edgeWidth n l) ≡ true → i < n → EdgeRow l i
 edge-row l n i fits h t = record { fits = let r = row-room edgeWidth n i t in omega arith; ranges = rows-all edgeWidth l edgeRanges n h i t }
+
+pub node-row-of : {l : List ℤ} {n : ℕ} → NodeRows l n → (i : ℕ) → i < n → NodeRow l i
+node-row-of {l} {n} r i t = record { fits = omega (arith, row-room nodeWidth n i t, r .fits); ranges = rows-all nodeWidth l nodeRanges n (r .ranges) i t }
 
 pub edge-row-of : {l : List ℤ} {n : ℕ} → EdgeRows l n → (i : ℕ) → i < n → EdgeRow l i
 edge-row-of {l} {n} r i t = edge-row l n i (r .fits) (r .ranges) t

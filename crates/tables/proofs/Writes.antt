@@ -1,5 +1,5 @@
 -- What a table holds after a write. A table of rows `xs`, each w numbers by `cells`, with zeros behind, is `filled N (flatMap cells xs)`:
--- so is the table after a row is pushed, replaced or removed, a number of a row is stored, and a column is swept. Assumes nothing.
+-- so is the table after a row is pushed, replaced or removed, and a column is swept. Assumes nothing.
 use mathlib.Core.Path.{_≡_, refl, sym, ap, _∙_, subst}
 use mathlib.Core.Bool.{true}
 use mathlib.Core.List.{List, [], _∷_, _++_, map, flatMap, append-assoc}
@@ -12,14 +12,13 @@ use lib.ListN.{length, getD, set, take, drop, replicate, length-append, length-r
 use lib.Seq.{paste, split-at, set-split, drop-drop, take-at, drop-at, take-all, drop-append-add, getD-append-add, set-append-left, length-take-le}
 use Rattle.tables.proofs.Order.{replace-length}
 use mathlib.Core.Logic.{inl, inr}
-use Rattle.lists.specs.Members.{All}
 use Rattle.lists.specs.Tables.{sweep}
 use Rattle.lists.proofs.Bools.{which}
 use Rattle.lists.specs.Scans.{all}
-use Rattle.curves.specs.Curves.{points, coordinates, maxPoints}
-use Rattle.map.specs.Limits.{nodeWidth, edgeWidth, faceWidth}
+use Rattle.map.specs.Limits.{edgeWidth}
 use Rattle.map.specs.Form.{edgeRanges}
-use Rattle.map.specs.Rows.{Node, Edge, rows, filled, nodeCells, edgeCells, faceCells}
+use Rattle.map.specs.Rows.{rows, filled, edgeCells}
+pub use Rattle.map.proofs.RoundTrip.{Wide, flat-length, rows-flat, nodes-wide, faces-wide, edge-wide}
 use Rattle.tables.specs.Tables.{sameZ, replaceAt, closed, edgesOf, edgeAt}
 use Rattle.tables.proofs.Rows.{each-table, edge-row, edges-table}
 use Rattle.tables.proofs.RowCurves.{edge-few}
@@ -58,33 +57,10 @@ set-mid a b c m k v ha hk = rw (← ha, set-past a (b ++ c) k v, set-append-left
 -- ---- rows of w numbers
 
 module _ {A : Type 0} (w : ℕ) (cells : A → List ℤ) where
-  -- each row has w numbers
-  abbrev pub Wide : List A → Type 0
-  Wide xs = All (λ x. length (cells x) ≡ w) xs
-
-  pub wide-append : (xs ys : List A) → Wide xs → Wide ys → Wide (xs ++ ys)
-  wide-append [] ys h k = k
-  wide-append (x ∷ xs) ys h k = (h .0, wide-append xs ys (h .1) k)
-
   pub flat-append : (xs ys : List A) → flatMap cells (xs ++ ys) ≡ flatMap cells xs ++ flatMap cells ys
   unfolding flatMap
   flat-append [] ys = refl
   flat-append (x ∷ xs) ys = rw (flat-append xs ys) (sym (append-assoc (cells x) (flatMap cells xs) (flatMap cells ys)))
-
-  pub flat-length : (xs : List A) → Wide xs → length (flatMap cells xs) ≡ length xs * w
-  unfolding flatMap
-  flat-length [] h = sym (zero-mul w)
-  flat-length (x ∷ xs) h =
-      let e = flat-length xs (h .1) in
-      let s = suc-mul (length xs) w in
-      length-append (cells x) (flatMap cells xs) ∙ omega (arith, h .0)
-
-  -- the rows of the table are the rows
-  pub rows-flat : (xs : List A) (rest : List ℤ) → Wide xs → rows w (length xs) (flatMap cells xs ++ rest) ≡ map cells xs
-  unfolding flatMap
-  rows-flat [] rest h = refl
-  rows-flat (x ∷ xs) rest h =
-      rw (append-assoc, take-at (cells x) (flatMap cells xs ++ rest) w (h .0), drop-at (cells x) (flatMap cells xs ++ rest) w (h .0), rows-flat xs rest (h .1))
 
   -- a row in the middle
   split : (pre post : List A) (x : A) (rest : List ℤ) → flatMap cells (pre ++ x ∷ post) ++ rest ≡ flatMap cells pre ++ (cells x ++ (flatMap cells post ++ rest))
@@ -93,11 +69,11 @@ module _ {A : Type 0} (w : ℕ) (cells : A → List ℤ) where
 
   -- ---- a row pushed after the last
 
-  pub pushed : (N : ℕ) (xs : List A) (x : A) → Wide xs → length (cells x) ≡ w → length xs * w + w ≤ N → paste (filled N (flatMap cells xs)) (length xs * w) (cells x) w ≡ filled N (flatMap cells (xs ++ x ∷ []))
+  pub pushed : (N : ℕ) (xs : List A) (x : A) → Wide w cells xs → length (cells x) ≡ w → length xs * w + w ≤ N → paste (filled N (flatMap cells xs)) (length xs * w) (cells x) w ≡ filled N (flatMap cells (xs ++ x ∷ []))
   unfolding flatMap
   pushed N xs x h k fits =
       let z = N - length (flatMap cells xs) - w in
-      let long = flat-length xs h in
+      let long = flat-length w cells xs h in
       let room : N - length (flatMap cells xs) ≡ w + z = omega arith in
       let more : length (flatMap cells (xs ++ x ∷ [])) ≡ length (flatMap cells xs) + w = rw (flat-append xs (x ∷ [])) (simp length-append (omega arith)) in
       let left : N - length (flatMap cells (xs ++ x ∷ [])) ≡ z = omega arith in
@@ -108,16 +84,15 @@ module _ {A : Type 0} (w : ℕ) (cells : A → List ℤ) where
 
   -- ---- a row in the middle
 
-  module _ (N : ℕ) (pre post : List A) (x y : A) (h : Wide pre) (hx : length (cells x) ≡ w) (hy : length (cells y) ≡ w) where
+  module _ (N : ℕ) (pre post : List A) (x y : A) (h : Wide w cells pre) (hx : length (cells x) ≡ w) (hy : length (cells y) ≡ w) where
     -- as many numbers as before
     long-as : length (flatMap cells (pre ++ y ∷ post)) ≡ length (flatMap cells (pre ++ x ∷ post))
     unfolding flatMap
     long-as = rw (flat-append pre (x ∷ post), flat-append pre (y ∷ post)) (simp length-append (omega arith))
 
-    refill : (b : List ℤ) → b ≡ cells y → flatMap cells pre ++ (b ++ (flatMap cells post ++ replicate (N - length (flatMap cells (pre ++ x ∷ post))) (pos 0))) ≡ filled N (flatMap cells (pre ++ y ∷ post))
-    refill b e =
-        ap (λ (r : List ℤ). flatMap cells pre ++ (r ++ (flatMap cells post ++ replicate (N - length (flatMap cells (pre ++ x ∷ post))) (pos 0)))) e
-        ∙ sym (split pre post y (replicate (N - length (flatMap cells (pre ++ x ∷ post))) (pos 0)))
+    refill : flatMap cells pre ++ (cells y ++ (flatMap cells post ++ replicate (N - length (flatMap cells (pre ++ x ∷ post))) (pos 0))) ≡ filled N (flatMap cells (pre ++ y ∷ post))
+    refill =
+        sym (split pre post y (replicate (N - length (flatMap cells (pre ++ x ∷ post))) (pos 0)))
         ∙ ap (λ (n : ℕ). flatMap cells (pre ++ y ∷ post) ++ replicate (N - n) (pos 0)) (sym long-as)
 
     -- it is replaced
@@ -125,27 +100,19 @@ module _ {A : Type 0} (w : ℕ) (cells : A → List ℤ) where
     replaced =
         let z = replicate (N - length (flatMap cells (pre ++ x ∷ post))) (pos 0) in
         ap (λ (r : List ℤ). paste r (length pre * w) (cells y) w) (split pre post x z)
-        ∙ paste-mid (flatMap cells pre) (cells x) (flatMap cells post ++ z) (cells y) (length pre * w) w (flat-length pre h) hx hy
-        ∙ refill (cells y) refl
-
-    -- a number of it is stored
-    pub stored : (k : ℕ) (v : ℤ) → k < w → set (cells x) k v ≡ cells y → set (filled N (flatMap cells (pre ++ x ∷ post))) (length pre * w + k) v ≡ filled N (flatMap cells (pre ++ y ∷ post))
-    stored k v t e =
-        let z = replicate (N - length (flatMap cells (pre ++ x ∷ post))) (pos 0) in
-        ap (λ (r : List ℤ). set r (length pre * w + k) v) (split pre post x z)
-        ∙ set-mid (flatMap cells pre) (cells x) (flatMap cells post ++ z) (length pre * w) k v (flat-length pre h) (omega arith)
-        ∙ refill (set (cells x) k v) e
+        ∙ paste-mid (flatMap cells pre) (cells x) (flatMap cells post ++ z) (cells y) (length pre * w) w (flat-length w cells pre h) hx hy
+        ∙ refill
 
   -- it is gone
-  pub removed : (N : ℕ) (pre post : List A) (x : A) (n : ℕ) → Wide pre → length (cells x) ≡ w → Wide post → length pre + suc (length post) ≡ n → n * w ≤ N → closed w (filled N (flatMap cells (pre ++ x ∷ post))) n (length pre) ≡ filled N (flatMap cells (pre ++ post))
+  pub removed : (N : ℕ) (pre post : List A) (x : A) (n : ℕ) → Wide w cells pre → length (cells x) ≡ w → Wide w cells post → length pre + suc (length post) ≡ n → n * w ≤ N → closed w (filled N (flatMap cells (pre ++ x ∷ post))) n (length pre) ≡ filled N (flatMap cells (pre ++ post))
   unfolding flatMap
   removed N pre post x n h hx hp en fits =
       let m = length pre * w in
       let k = length post * w in
       let all = length (flatMap cells (pre ++ x ∷ post)) in
       let size : n * w ≡ m + w + k = rw (← en) (scaled (length pre) (length post)) in
-      let long : all ≡ m + w + k = rw (flat-append pre (x ∷ post)) (simp length-append (omega (arith, flat-length pre h, flat-length post hp))) in
-      let short : length (flatMap cells (pre ++ post)) ≡ m + k = rw (flat-append pre post) (simp length-append (omega (arith, flat-length pre h, flat-length post hp))) in
+      let long : all ≡ m + w + k = rw (flat-append pre (x ∷ post)) (simp length-append (omega (arith, flat-length w cells pre h, flat-length w cells post hp))) in
+      let short : length (flatMap cells (pre ++ post)) ≡ m + k = rw (flat-append pre post) (simp length-append (omega (arith, flat-length w cells pre h, flat-length w cells post hp))) in
       let e₁ : n * w - (m + w) ≡ k = omega arith in
       let e₂ : n * w - w ≡ m + k = omega arith in
       let left : w + (N - all) ≡ N - length (flatMap cells (pre ++ post)) = omega arith in
@@ -154,7 +121,7 @@ module _ {A : Type 0} (w : ℕ) (cells : A → List ℤ) where
       ap (λ (r : List ℤ). closed w r n (length pre)) (split pre post x z)
       ∙ ap (λ (j : ℕ). paste (paste l m (drop (m + w) l) j) (n * w - w) (replicate w (pos 0)) w) e₁
       ∙ ap (λ (j : ℕ). paste (paste l m (drop (m + w) l) k) j (replicate w (pos 0)) w) e₂
-      ∙ close-up (flatMap cells pre) (cells x) (flatMap cells post) z (replicate w (pos 0)) m w k (flat-length pre h) hx (flat-length post hp) (length-replicate w (pos 0))
+      ∙ close-up (flatMap cells pre) (cells x) (flatMap cells post) z (replicate w (pos 0)) m w k (flat-length w cells pre h) hx (flat-length w cells post hp) (length-replicate w (pos 0))
       ∙ ap (λ (r : List ℤ). flatMap cells pre ++ (flatMap cells post ++ r)) (replicate-append-replicate w (N - all) (pos 0) ∙ ap (λ (j : ℕ). replicate j (pos 0)) left)
       ∙ sym (append-assoc (flatMap cells pre) (flatMap cells post) _)
       ∙ ap (λ (r : List ℤ). r ++ replicate (N - length (flatMap cells (pre ++ post))) (pos 0)) (sym (flat-append pre post))
@@ -164,22 +131,22 @@ module _ {A : Type 0} (w : ℕ) (cells : A → List ℤ) where
 
   -- ---- the same by its place
 
-  wide-take : (i : ℕ) (xs : List A) → Wide xs → Wide (take i xs)
+  wide-take : (i : ℕ) (xs : List A) → Wide w cells xs → Wide w cells (take i xs)
   wide-take zero xs h = tt
   wide-take (suc i) [] h = tt
   wide-take (suc i) (x ∷ xs) h = (h .0, wide-take i xs (h .1))
 
-  wide-drop : (i : ℕ) (xs : List A) → Wide xs → Wide (drop i xs)
+  wide-drop : (i : ℕ) (xs : List A) → Wide w cells xs → Wide w cells (drop i xs)
   wide-drop zero xs h = h
   wide-drop (suc i) [] h = tt
   wide-drop (suc i) (x ∷ xs) h = wide-drop i xs (h .1)
 
-  wide-at : (xs : List A) (i : ℕ) (d : A) → Wide xs → i < length xs → length (cells (getD xs i d)) ≡ w
+  wide-at : (xs : List A) (i : ℕ) (d : A) → Wide w cells xs → i < length xs → length (cells (getD xs i d)) ≡ w
   wide-at [] i d h t = absurd (omega arith)
   wide-at (x ∷ xs) zero d h t = h .0
   wide-at (x ∷ xs) (suc i) d h t = wide-at xs i d (h .1) (omega arith)
 
-  module _ (N : ℕ) (xs : List A) (i : ℕ) (d : A) (h : Wide xs) (t : i < length xs) where
+  module _ (N : ℕ) (xs : List A) (i : ℕ) (d : A) (h : Wide w cells xs) (t : i < length xs) where
     place : length (take i xs) ≡ i
     place = length-take-le i xs (omega arith)
 
@@ -191,13 +158,6 @@ module _ {A : Type 0} (w : ℕ) (cells : A → List ℤ) where
           ∙ replaced N (take i xs) (drop (suc i) xs) (getD xs i d) y (wide-take i xs h) (wide-at xs i d h t) hy
           ∙ ap (λ (r : List A). filled N (flatMap cells r)) (sym (set-split xs i y t))
 
-      pub stored-at : (k : ℕ) (v : ℤ) → k < w → set (cells (getD xs i d)) k v ≡ cells y → set (filled N (flatMap cells xs)) (i * w + k) v ≡ filled N (flatMap cells (set xs i y))
-      stored-at k v b e =
-          ap (λ (r : List A). set (filled N (flatMap cells r)) (i * w + k) v) (split-at xs i d t)
-          ∙ ap (λ (j : ℕ). set (filled N (flatMap cells (take i xs ++ getD xs i d ∷ drop (suc i) xs))) (j * w + k) v) (sym place)
-          ∙ stored N (take i xs) (drop (suc i) xs) (getD xs i d) y (wide-take i xs h) (wide-at xs i d h t) hy k v b e
-          ∙ ap (λ (r : List A). filled N (flatMap cells r)) (sym (set-split xs i y t))
-
     pub removed-at : length xs * w ≤ N → closed w (filled N (flatMap cells xs)) (length xs) i ≡ filled N (flatMap cells (take i xs ++ drop (suc i) xs))
     removed-at fits =
         let n = length xs in
@@ -206,21 +166,21 @@ module _ {A : Type 0} (w : ℕ) (cells : A → List ℤ) where
         ∙ ap (closed w (filled N (flatMap cells (take i xs ++ getD xs i d ∷ drop (suc i) xs))) n) (sym place)
         ∙ removed N (take i xs) (drop (suc i) xs) (getD xs i d) n (wide-take i xs h) (wide-at xs i d h t) (wide-drop (suc i) xs h) parts fits
 
-  pub wide-set : (xs : List A) (i : ℕ) (y : A) → Wide xs → length (cells y) ≡ w → Wide (set xs i y)
+  pub wide-set : (xs : List A) (i : ℕ) (y : A) → Wide w cells xs → length (cells y) ≡ w → Wide w cells (set xs i y)
   wide-set [] i y h k = tt
   wide-set (x ∷ xs) zero y h k = (k, h .1)
   wide-set (x ∷ xs) (suc i) y h k = (h .0, wide-set xs i y (h .1) k)
 
   -- ---- a sweep of the rows
 
-  pub wide-map : (f : A → A) → ((x : A) → length (cells x) ≡ w → length (cells (f x)) ≡ w) → (xs : List A) → Wide xs → Wide (map f xs)
+  pub wide-map : (f : A → A) → ((x : A) → length (cells x) ≡ w → length (cells (f x)) ≡ w) → (xs : List A) → Wide w cells xs → Wide w cells (map f xs)
   wide-map f width [] h = tt
   wide-map f width (x ∷ xs) h = (width x (h .0), wide-map f width xs (h .1))
 
   module _ (g : List ℤ → ℕ → List ℤ) (f : A → A)
       (step : (p rest : List ℤ) (a : ℕ) (x : A) → length p ≡ a * w → length (cells x) ≡ w → g (p ++ (cells x ++ rest)) a ≡ p ++ (cells (f x) ++ rest))
       (width : (x : A) → length (cells x) ≡ w → length (cells (f x)) ≡ w) where
-    swept-from : (xs : List A) (p rest : List ℤ) (a : ℕ) → Wide xs → length p ≡ a * w → sweep g (p ++ (flatMap cells xs ++ rest)) a (length xs) ≡ p ++ (flatMap cells (map f xs) ++ rest)
+    swept-from : (xs : List A) (p rest : List ℤ) (a : ℕ) → Wide w cells xs → length p ≡ a * w → sweep g (p ++ (flatMap cells xs ++ rest)) a (length xs) ≡ p ++ (flatMap cells (map f xs) ++ rest)
     unfolding flatMap
     swept-from [] p rest a h e = refl
     swept-from (x ∷ xs) p rest a h e =
@@ -233,9 +193,9 @@ module _ {A : Type 0} (w : ℕ) (cells : A → List ℤ) where
         ∙ append-assoc p (cells (f x)) (flatMap cells (map f xs) ++ rest)
         ∙ ap (λ (r : List ℤ). p ++ r) (sym (append-assoc (cells (f x)) (flatMap cells (map f xs)) rest))
 
-    pub swept : (N : ℕ) (xs : List A) → Wide xs → sweep g (filled N (flatMap cells xs)) 0 (length xs) ≡ filled N (flatMap cells (map f xs))
+    pub swept : (N : ℕ) (xs : List A) → Wide w cells xs → sweep g (filled N (flatMap cells xs)) 0 (length xs) ≡ filled N (flatMap cells (map f xs))
     swept N xs h =
-        let e : length (flatMap cells xs) ≡ length (flatMap cells (map f xs)) = flat-length xs h ∙ ap (λ (n : ℕ). n * w) (sym (length-map xs f)) ∙ sym (flat-length (map f xs) (wide-map f width xs h)) in
+        let e : length (flatMap cells xs) ≡ length (flatMap cells (map f xs)) = flat-length w cells xs h ∙ ap (λ (n : ℕ). n * w) (sym (length-map xs f)) ∙ sym (flat-length w cells (map f xs) (wide-map f width xs h)) in
         swept-from xs [] (replicate (N - length (flatMap cells xs)) (pos 0)) 0 h (sym (zero-mul w))
         ∙ ap (λ (n : ℕ). flatMap cells (map f xs) ++ replicate (N - n) (pos 0)) e
 
@@ -254,35 +214,8 @@ module _ {A : Type 0} (w : ℕ) (cells : A → List ℤ) where
         replace-alike : getD (p ++ (cells x ++ rest)) (a * w + k) (pos 0) ≡ getD (cells x) k (pos 0) → set (p ++ (cells x ++ rest)) (a * w + k) new ≡ p ++ (set (cells x) k new ++ rest) → replaceAt old new (p ++ (cells x ++ rest)) (a * w + k) ≡ p ++ (replaceAt old new (cells x) k ++ rest)
         replace-alike here stores = elim (which (sameZ (getD (cells x) k (pos 0)) old)) [ inl q ↦ rw (here, q) stores | inr q ↦ rw (here, q) refl ]
 
-    pub column-swept : (N : ℕ) (xs : List A) → Wide xs → sweep (λ l i. replaceAt old new l (i * w + k)) (filled N (flatMap cells xs)) 0 (length xs) ≡ filled N (flatMap cells (map f xs))
+    pub column-swept : (N : ℕ) (xs : List A) → Wide w cells xs → sweep (λ l i. replaceAt old new l (i * w + k)) (filled N (flatMap cells xs)) 0 (length xs) ≡ filled N (flatMap cells (map f xs))
     column-swept = swept (λ l i. replaceAt old new l (i * w + k)) f replace-step replace-width
-
--- ---- nodes, edges and faces
-
-pub nodes-wide : (ns : List Node) → Wide nodeWidth nodeCells ns
-unfolding nodeCells
-nodes-wide [] = tt
-nodes-wide (n ∷ ns) = (refl, nodes-wide ns)
-
-pub faces-wide : (fs : List ℕ) → Wide faceWidth faceCells fs
-faces-wide [] = tt
-faces-wide (f ∷ fs) = (refl, faces-wide fs)
-
-coordinates-length : (ps : List _) → length (coordinates ps) ≡ 2 * length ps
-coordinates-length [] = refl
-coordinates-length (p ∷ ps) = let h = coordinates-length ps in omega arith
-
--- a row of at most 12 points
-pub edge-wide : (e : Edge) → length (points (e .curve)) ≤ maxPoints → length (edgeCells e) ≡ edgeWidth
-unfolding edgeCells
-edge-wide e h =
-    let k = coordinates-length (points (e .curve)) in
-    let j : length (filled (2 * maxPoints) (coordinates (points (e .curve)))) ≡ 2 * maxPoints = simp (length-append, length-replicate) (omega arith) in
-    omega arith
-
-pub edges-wide : (es : List Edge) → All (λ e. length (points (e .curve)) ≤ maxPoints) es → Wide edgeWidth edgeCells es
-edges-wide [] h = tt
-edges-wide (e ∷ es) h = (edge-wide e (h .0), edges-wide es (h .1))
 
 -- the edges of a table in range
 pub table-edges-wide : (l : List ℤ) (n : ℕ) → n * edgeWidth ≤ length l → all edgeRanges (rows edgeWidth n l) ≡ true → Wide edgeWidth edgeCells (edgesOf l n)

@@ -7,9 +7,8 @@ use lib.IntN.{ℤ, pos}
 use lib.ListN.{length, getD, take, drop, replicate, set}
 use lib.Seq.{paste}
 use lib.Signed.{leZ, ltZ}
-use Rattle.lists.specs.declared.Found.{Found}
 use Rattle.lists.specs.Scans.{all, linked}
-use Rattle.lists.specs.Tables.{table, place}
+use Rattle.lists.specs.Tables.{table}
 use Rattle.map.specs.Limits.{nodeWidth, edgeWidth, faceWidth, lastNumber}
 use Rattle.map.specs.Rows.{Node, Edge, Map, rows, nodeOf, edgeOf, faceRowOf, hasEdge}
 use Rattle.map.specs.Form.{nodeRanges, edgeRanges, faceRanges, numbered}

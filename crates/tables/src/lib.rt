@@ -1,14 +1,15 @@
 // Rows in lent slices of numbers: w numbers to a row, rows from the front in rising number order, zeros behind.
 use lists::Found;
 ghost use mathlib.Core.Path.{_≡_};
+ghost use mathlib.Core.Bool.{true};
 ghost use Prim.Native.Nat.{ℕ, _+_, _*_, _-_, _<_, _≤_};
-ghost use lib.ListN.{getD, length, drop, take, replicate};
+ghost use lib.ListN.{getD, length, drop, replicate};
 ghost use lib.Seq.{paste};
-ghost use lib.IntN.{pos, natAbs};
+ghost use lib.IntN.{pos};
+ghost use lib.Signed.{ltZ};
 ghost use Rattle.lists.specs.Tables.{place, sweep};
 ghost use Rattle.curves.specs.Curves.{Run, curveOf};
-ghost use Rattle.map.specs.Rows.{cell};
-ghost use Rattle.tables.specs.Tables.{sameZ, column, Rising, replaceAt, closed, EdgeRow, edgeCellsAt, edgeAt};
+ghost use Rattle.tables.specs.Tables.{sameZ, column, Rising, replaceAt, closed, EdgeRow, edgeAt};
 
 // How many rows of each table are in use.
 pub struct Counts {
@@ -27,85 +28,9 @@ fn natural(z: i64) -> usize {
     z as usize
 }
 
-// Where the number stands if none is missing between it and `seen`, the number of the row below the window or of that above it.
-fn jump(lo: usize, hi: usize, seen: usize, number: usize) -> usize
-    requires { ⌜ lo < hi ⌝ }
-    ensures { λ r. ⌜ (lo ≤ r) × (r < hi) ⌝ }
-{
-    if seen < number {
-        let d = number - seen - 1;
-        return if d < hi - lo { lo + d } else { hi - 1 };
-    }
-    let d = seen - number;
-    if d == 0 {
-        return lo;
-    }
-    if d < hi - lo { hi - d } else { lo }
-}
-
-// Where to look next: by jumps first, then by halves.
-fn probe(lo: usize, hi: usize, seen: usize, number: i64, jumps: usize) -> usize
-    requires { ⌜ lo < hi ⌝ }
-    ensures { λ r. ⌜ (lo ≤ r) × (r < hi) ⌝ }
-{
-    if 0 < jumps {
-        return jump(lo, hi, seen, natural(number));
-    }
-    lo + (hi - lo) / 2
-}
-
-fn one_less(n: usize) -> usize {
-    if n == 0 { 0 } else { n - 1 }
-}
-
-// The row of a number: jumps, the first of them from `from` as the number below the first row, then halves.
-fn search_row(t: &[i64], w: usize, count: usize, number: i64, from: usize) -> Found
-    requires { ⌜ Rising w (now t) count ⌝ }
-    ensures { λ r. ⌜ r ≡ place (sameZ number) 0 (column w (now (t .entry)) count) ⌝ }
-{
-    let mut lo = 0;
-    let mut hi = count;
-    let mut seen = from;
-    let mut jumps = 4;
-    while lo < hi {
-        let mid = probe(lo, hi, seen, number, jumps);
-        let z = t[mid * w];
-        if z == number {
-            return Found::At(mid);
-        }
-        seen = natural(z);
-        jumps = one_less(jumps);
-        if z < number {
-            lo = mid + 1;
-        } else {
-            hi = mid;
-        }
-    }
-    Found::Missing
-}
-
 // How far a number is above another; 0 where it is less.
 fn steps(from: usize, to: usize) -> usize {
     if from < to { to - from } else { 0 }
-}
-
-// The rows to d steps, where `span` steps are spread evenly over so many rows.
-fn share(d: usize, span: usize, rows: usize) -> usize {
-    if span == 0 {
-        return rows;
-    }
-    if 4294967295 < d {
-        return rows;
-    }
-    if 4294967295 < rows {
-        return rows;
-    }
-    d * rows / span
-}
-
-// The number below the first row, where one jump leads from it to the row.
-fn below(number: usize, row: usize) -> usize {
-    if row < number { number - 1 - row } else { 0 }
 }
 
 fn lesser(a: usize, b: usize) -> usize
@@ -114,8 +39,27 @@ fn lesser(a: usize, b: usize) -> usize
     if a < b { a } else { b }
 }
 
-// The row of a number. In a table from which no row after the first was removed the first look meets it; otherwise the search starts where
-// the number stands if those up to the row of that look are spread evenly.
+// The row, among the first hi, of a number greater than those of the rows before lo: by halves. A function that calls itself is compiled once, and
+// stays out of the loops that look.
+fn search_row(t: &[i64], w: usize, lo: usize, hi: usize, number: i64) -> Found
+    requires { ⌜ Rising w (now t) hi × ((k : ℕ) → k < lo → ltZ (getD (now t) (k * w) (pos 0)) number ≡ true) ⌝ }
+    ensures { λ r. ⌜ r ≡ place (sameZ number) 0 (column w (now (t .entry)) hi) ⌝ }
+{
+    if hi <= lo {
+        return Found::Missing;
+    }
+    let mid = lo + (hi - lo) / 2;
+    let z = t[mid * w];
+    if z == number {
+        return Found::At(mid);
+    }
+    if z < number {
+        return search_row(t, w, mid + 1, hi, number);
+    }
+    search_row(t, w, lo, mid, number)
+}
+
+// The row of a number. In a table from which no row after the first was removed the first look meets it.
 pub fn find_row(t: &[i64], w: usize, count: usize, number: i64) -> Found
     requires { ⌜ Rising w (now t) count ⌝ }
     ensures { λ r. ⌜ r ≡ place (sameZ number) 0 (column w (now (t .entry)) count) ⌝ }
@@ -123,16 +67,43 @@ pub fn find_row(t: &[i64], w: usize, count: usize, number: i64) -> Found
     if count == 0 {
         return Found::Missing;
     }
-    let first = natural(t[0]);
-    let n = natural(number);
-    let d = steps(first, n);
+    let d = steps(natural(t[0]), natural(number));
     let i = lesser(d, count - 1);
-    let z = t[i * w];
-    if z == number {
+    if t[i * w] == number {
         return Found::At(i);
     }
-    let guess = share(d, steps(first, natural(z)), i);
-    search_row(t, w, count, number, below(n, guess))
+    search_row(t, w, 0, count, number)
+}
+
+// A number's last 12 bits.
+fn last_bits(z: i64) -> usize
+    ensures { λ r. ⌜ r < 4096 ⌝ }
+{
+    (z & 4095) as usize
+}
+
+// Each row stands in the index under its number's last 12 bits, unless a later one took the place. An index says where to look first, and no more.
+pub fn index_rows(t: &[i64], w: usize, count: usize, index: &mut [u16])
+    requires { ⌜ (1 ≤ w) × (count * w ≤ length (now t)) × (length (now index) ≡ 4096) ⌝ }
+    ensures { λ r. ⌜ length (now (index .exit)) ≡ 4096 ⌝ }
+{
+    for i in 0..count {
+        index[last_bits(t[i * w])] = (i % 65536) as u16;
+    }
+}
+
+// The row of a number, where the index tells at the first look.
+pub fn find_indexed(t: &[i64], w: usize, count: usize, number: i64, index: &[u16]) -> Found
+    requires { ⌜ Rising w (now t) count × (length (now index) ≡ 4096) ⌝ }
+    ensures { λ r. ⌜ r ≡ place (sameZ number) 0 (column w (now (t .entry)) count) ⌝ }
+{
+    let i = index[last_bits(number)] as usize;
+    if i < count {
+        if t[i * w] == number {
+            return Found::At(i);
+        }
+    }
+    search_row(t, w, 0, count, number)
 }
 
 // n numbers from `from` on are moved down to `at` on.

@@ -10,7 +10,7 @@ use native.Mathlib.Numerals.{add-one}
 use native.Mathlib.Omega.{arith}
 use lib.IntN.{ℤ}
 use lib.ListN.{length, getD, set, take, drop, drop-of-length-le}
-use Rattle.text.specs.Lines.{blank, numberOf, consNumber, numbersOf, words}
+use Rattle.text.specs.Lines.{maxLine, blank, numberOf, consNumber, numbersOf, words}
 use Rattle.text.specs.Steps.{Run, numberAs, numbersFrom, parsedOf, Room, written}
 use Rattle.text.specs.declared.Parsed.the-variants.{Numbers}
 use Rattle.text.specs.declared.Number.the-variants.{Value, Wrong as WrongNumber}
@@ -27,7 +27,7 @@ numbers-length (w ∷ ws) zs e = pick (numberOf w) (numbersOf ws) e (λ ys. numb
     pick none os q rest = let p : _≡_ {A = ℕ} 0 1 = cc in absurd (omega arith)
 
 -- 1,000 bytes have at most 500 numbers
-pub numbers-few : (l : List ℕ) (zs : List ℤ) → length l ≤ 1000 → numbersOf (words l) ≡ some zs → length zs ≤ 500
+pub numbers-few : (l : List ℕ) (zs : List ℤ) → length l ≤ maxLine → numbersOf (words l) ≡ some zs → length zs ≤ 500
 numbers-few l zs h e = omega (arith, words-few l, numbers-length (words l) zs e)
 
 -- what a word's answer tells

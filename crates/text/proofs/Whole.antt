@@ -9,24 +9,24 @@ use lib.IntN.{ℤ}
 use lib.ListN.{length, drop}
 use lib.Seq.{sets-eq}
 use borrow.Author.Tests.{le-leb, lt-leb}
-use Rattle.text.specs.Lines.{lineNumbers, numbersOf, words}
+use Rattle.text.specs.Lines.{maxLine, lineNumbers, numbersOf, words}
 use Rattle.text.specs.Parsed.{ParsedAs}
 use Rattle.text.specs.Steps.{parsedOf, Room, written}
 use Rattle.text.specs.declared.Parsed.the-variants.{Numbers, Wrong}
 use Rattle.text.proofs.Numbers.{numbers-few}
 
-short : (l : List ℕ) → length l ≤ 1000 → numbersOf (words l) ≡ lineNumbers l
+short : (l : List ℕ) → length l ≤ maxLine → numbersOf (words l) ≡ lineNumbers l
 unfolding lineNumbers
-short l h = rw (le-leb (length l) 1000 h)
+short l h = rw (le-leb (length l) maxLine h)
 
-long : (l : List ℕ) → 1000 < length l → none ≡ lineNumbers l
+long : (l : List ℕ) → maxLine < length l → none ≡ lineNumbers l
 unfolding lineNumbers
-long l h = rw (lt-leb (length l) 1000 h)
+long l h = rw (lt-leb (length l) maxLine h)
 
-pub too-long : (l : List ℕ) (before : List ℤ) → 1000 < length l → ParsedAs (lineNumbers l) before Wrong before
+pub too-long : (l : List ℕ) (before : List ℤ) → maxLine < length l → ParsedAs (lineNumbers l) before Wrong before
 too-long l before h = rw (← (long l h)) (refl, refl)
 
-module _ (l : List ℕ) (before : List ℤ) (h : length l ≤ 1000) where
+module _ (l : List ℕ) (before : List ℤ) (h : length l ≤ maxLine) where
   pub wrong-line : Wrong ≡ parsedOf 0 (numbersOf (words l)) → ParsedAs (lineNumbers l) before Wrong before
   wrong-line e = subst (λ (o : Option (List ℤ)). ParsedAs o before Wrong before) (short l h) (told (numbersOf (words l)) e)
     where

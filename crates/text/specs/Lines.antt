@@ -59,6 +59,9 @@ abbrev pub numbersOf : List (List ℕ) → Option (List ℤ)
 numbersOf [] = some []
 numbersOf (w ∷ ws) = consNumber (numberOf w) (numbersOf ws)
 
--- the numbers of a line; none where the line is longer than 1,000 bytes or has anything but such numbers
+abbrev pub maxLine : ℕ
+maxLine = 1000
+
+-- the numbers of a line; none where the line is longer or has anything but such numbers
 unfoldable pub lineNumbers : List ℕ → Option (List ℤ)
-lineNumbers l = cond (leb (length l) 1000) (numbersOf (words l)) none
+lineNumbers l = cond (leb (length l) maxLine) (numbersOf (words l)) none

@@ -8,6 +8,9 @@ ghost use Rattle.text.specs.Lines.{lineNumbers, blank, numberOf, signedN
 ghost use Rattle.text.specs.Parsed.{ParsedAs};
 ghost use Rattle.text.specs.Steps.{Run, most, magnitudeOf, numberAs, NextAs, parsedOf, Room, written};
 
+// The most bytes of a line.
+pub const LINE: usize = 1000;
+
 // How many numbers a line has, or that it is wrong.
 pub enum Parsed {
     Numbers(usize),
@@ -200,7 +203,7 @@ fn write_numbers(line: &[u8], list: &mut [i64])
 pub fn parse(line: &[u8], list: &mut [i64; 500]) -> Parsed
     ensures { λ r. ⌜ ParsedAs (lineNumbers (now (line .entry))) (now (list .entry)) r (now (list .exit)) ⌝ }
 {
-    if 1000 < line.len() {
+    if LINE < line.len() {
         return Parsed::Wrong;
     }
     let Parsed::Numbers(n) = count_numbers(line) else {

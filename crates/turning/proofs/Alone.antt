@@ -5,10 +5,9 @@ use Rattle.curves.specs.Curves.{Curve}
 use Rattle.map.specs.Rows.{Map, edge, atEdge}
 use Rattle.map.specs.Darts.{leaves, departures, course, way}
 use Rattle.map.specs.Links.{clockwise}
-use Rattle.map.specs.Edits.{changeEdgeGeom, sharedNodes, joint}
-use Rattle.map.specs.Reasons.{edgeIsolated, directionTaken, orderChanges, firstReason}
+use Rattle.map.specs.Edits.{changeEdgeGeom}
+use Rattle.map.specs.Reasons.{edgeIsolated, directionTaken, orderChanges}
 use Rattle.linking.proofs.LinkedEdges.{alone}
-use Rattle.turning.specs.Turning.{joinsAt, jointReasons}
 
 module _ (m : Map) where
   pub isolated-alone : (e : ℕ) → edgeIsolated m e ≡ edgeIsolated (alone m) e
@@ -22,11 +21,3 @@ module _ (m : Map) where
   pub order-alone : (e : ℕ) (c : Curve) → orderChanges m e c ≡ orderChanges (alone m) e c
   unfolding orderChanges changeEdgeGeom atEdge clockwise departures leaves edge way course
   order-alone e c = refl
-
-  pub joins-alone : (f k : ℕ) → joinsAt m f k ≡ joinsAt (alone m) f k
-  unfolding departures leaves edge
-  joins-alone f k = refl
-
-  pub reasons-alone : (a b : ℕ) → firstReason (jointReasons m a b) ≡ firstReason (jointReasons (alone m) a b)
-  unfolding sharedNodes joint departures leaves edge
-  reasons-alone a b = refl

@@ -17,11 +17,13 @@ use Rattle.planar.specs.Rings.{sameDart}
 use Rattle.rotation.specs.Law.{lawfulNext}
 use Rattle.rotation.proofs.Node.{lawful-in}
 use Rattle.rotation.proofs.Rename.{lawful-map}
-use Rattle.map.specs.Rows.{Edge, Map, edge, findEdge, atEdge}
+use Rattle.map.specs.Rows.{Edge, Map, edge, atEdge}
 use Rattle.map.specs.Darts.{directed, leaves, departures, course, way}
 use Rattle.map.specs.Links.{clockwise}
 use Rattle.map.specs.Edits.{withCurve, changeEdgeGeom}
 use Rattle.map.specs.Reasons.{turnChanges, orderChanges}
+use Rattle.map.proofs.Laws.{edge-is}
+use Rattle.map.proofs.Linked.{arcOf}
 use Rattle.tables.specs.Tables.{edgesOf, edgeAt, edgeMap, EdgeRows}
 use Rattle.tables.proofs.Order.{same-self}
 use Rattle.links.specs.Positions.{odd, dartAt, sideCell, wayWith}
@@ -77,10 +79,6 @@ found-changed g keeps (d ∷ es) x r e = ap (λ (k : ℕ). cond (same k x) (some
         rw (q, j)
     go false q ih = rw q (ih (rw q at e))
 
-edge-some : (m : Map) (x : ℕ) (r : Edge) → findEdge m x ≡ some r → edge m x ≡ r
-unfolding edge
-edge-some m x r e = rw e
-
 module _ (e : ℕ) (c : Curve) where
   abbrev drawn : Edge → Edge
   drawn r = cond (same (r .number) e) (withCurve c r) r
@@ -113,9 +111,6 @@ module _ (e : ℕ) (c : Curve) where
       go true = refl
       go false = refl
 
-  abbrev arcOf : Edge → Arc
-  arcOf r = record { num = r .number; from = r .start; to = r .end }
-
   arc-is : {a b f g x y : ℕ} → a ≡ b → f ≡ g → x ≡ y → _≡_ {A = Arc} (record { num = a; from = f; to = x }) (record { num = b; from = g; to = y })
   arc-is p q r = cc
 
@@ -131,7 +126,7 @@ module _ {l : List ℤ} {n : ℕ} (t : EdgeRows l n) (own : ℕ) (o : own < n) (
   row-changed : (i : ℕ) → i < n → edge changed (edgeAt l i .number) ≡ drawn (edgeAt l own .number) (curveOf c) (edgeAt l i)
   unfolding changed changeEdgeGeom atEdge
   row-changed i h =
-      edge-some changed (edgeAt l i .number) (drawn (edgeAt l own .number) (curveOf c) (edgeAt l i))
+      edge-is changed (edgeAt l i .number) (drawn (edgeAt l own .number) (curveOf c) (edgeAt l i))
       (found-changed (drawn (edgeAt l own .number) (curveOf c)) (drawn-number (edgeAt l own .number) (curveOf c)) (edgesOf l n) (edgeAt l i .number) (edgeAt l i) (row-found t i h))
 
   leaves-kept : (q : ℕ) → q < n * 2 → leaves changed (dartAt l q) ≡ leaves (edgeMap l n) (dartAt l q)

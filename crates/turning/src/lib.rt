@@ -42,23 +42,24 @@ pub fn direction_taken(edges: &[i64], count: usize, own: usize, u: i64, v: i64, 
 
 // Whether the first departure met clockwise from a departure at the node changes where edge row `own` gets the curve c.
 fn turn_changes(edges: &[i64], count: usize, own: usize, c: &[i64], node: i64) -> bool
-    requires { ⌜ EdgeRows (now edges) count × Run (now c) ⌝ }
+    requires { ⌜ EdgeRows (now edges) count × (count ≤ 2000) × Run (now c) ⌝ }
     ensures { λ r. ⌜ r ≡ any (λ p. leavesNode (now (edges .entry)) node p && not (same (turnsAt (now (edges .entry)) count count (now (c .entry)) p) (turnsAt (now (edges .entry)) count own (now (c .entry)) p))) (positions count) ⌝ }
 {
-    for p in 0..count * 2 {
-        if links::dart_cell(edges, p, 1) == node {
-            if linking::clockwise(edges, count, count, c, p)
-                != linking::clockwise(edges, count, own, c, p)
-            {
-                return true;
-            }
+    let mut list = [0u16; 4000];
+    let n = linking::departures_at(edges, count, node, &mut list);
+    for k in 0..n {
+        let p = list[k] as usize;
+        let before = linking::clockwise(edges, count, c, &list[..n], p);
+        let after = linking::clockwise(edges, own, c, &list[..n], p);
+        if before != after {
+            return true;
         }
     }
     false
 }
 
 pub fn order_changes(edges: &[i64], count: usize, own: usize, c: &[i64]) -> bool
-    requires { ⌜ EdgeRows (now edges) count × (own < count) × Run (now c) ⌝ }
+    requires { ⌜ EdgeRows (now edges) count × (count ≤ 2000) × (own < count) × Run (now c) ⌝ }
     ensures { λ r. ⌜ r ≡ orderChanges (edgeMap (now (edges .entry)) count) (edgeAt (now (edges .entry)) own .number) (curveOf (now (c .entry))) ⌝ }
 {
     if turn_changes(edges, count, own, c, edges[own * 32 + 1]) {

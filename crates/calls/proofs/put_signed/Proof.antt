@@ -1,6 +1,6 @@
 -- `calls::put_signed` is safe. Assumes nothing.
 use borrow.Author.Needs.{needs}
-use Rattle.integers.specs.Signs.{cast-natural, next-fits, turned-fits, cast-turned, turned-next}
+use Rattle.integers.specs.Signs.{cast-natural, next-fits, turned-fits, cast-turned, turned-word}
 use Rattle.calls.proofs.put_signed.Statement.{statement}
 use Rattle.calls.proofs.put_signed.Tie as tie
 
@@ -14,7 +14,7 @@ cast-put : tie.Need-cast-put
 cast-put c = cast-turned (c .before .before .before .fits .z) (c .before .before .if1 .taken)
 
 add-put : tie.Need-add-put
-add-put c = record { fits = turned-next (c .before .before .before .fits .z) (c .before .before .if1 .taken) }
+add-put c = turned-word (c .before .before .before .fits .z) (c .before .before .if1 .taken)
 
 cast-put-2 : tie.Need-cast-put-2
 cast-put-2 c = cast-natural (c .before .fits .z) (c .if1 .left)

@@ -14,7 +14,7 @@ use Rattle.lists.proofs.Scans.{any-hit, any-miss, any-end}
 use Rattle.plane.specs.declared.Point.{Point}
 use Rattle.plane.specs.Points.{samePoint}
 use Rattle.tables.specs.Tables.{nodeAt}
-use Rattle.conditions.proofs.Points.{node-row-of}
+use Rattle.tables.proofs.Rows.{node-row-of}
 use Rattle.conditions.proofs.node_at.Statement.{statement}
 use Rattle.conditions.proofs.node_at.Tie as tie
 

@@ -13,8 +13,7 @@ use Rattle.curves.specs.Tests.{onCurve}
 use Rattle.map.specs.Rows.{Node}
 use Rattle.map.specs.Reasons.{nodeInside, isEnd}
 use Rattle.tables.specs.Tables.{nodeAt, nodeMap}
-use Rattle.tables.proofs.Rows.{nodes-table}
-use Rattle.conditions.proofs.Points.{node-row-of}
+use Rattle.tables.proofs.Rows.{nodes-table, node-row-of}
 use Rattle.conditions.proofs.node_inside.Statement.{statement}
 use Rattle.conditions.proofs.node_inside.Tie as tie
 

@@ -1,101 +1,114 @@
--- `departures::links_formed` meets its contract: the marks are those of the positions that are passed. Assumes nothing.
-use mathlib.Core.Path.{_≡_, refl, sym, _∙_, subst}
-use mathlib.Core.Bool.{Bool, true, false, not, _&&_, _||_, false≢true}
-use mathlib.Core.Logic.{_⊎_, inl, inr}
-use Prim.Native.Nat.{ℕ, _*_, _-_, _≤_}
+-- `departures::links_formed` meets its contract: the marks are those of the positions that are passed, two in each row. Assumes nothing.
+use mathlib.Core.Path.{_≡_, sym, subst}
+use mathlib.Core.List.{List}
+use Prim.Native.Nat.{ℕ, _+_, _*_, _-_, _<_, _≤_}
 use native.Mathlib.Omega.{arith}
-use lib.Dec.{eqb, eqb→eq, eqb-refl}
-use lib.ListN.{getD}
-use Rattle.lists.proofs.Bools.{≡→T, T→≡}
-use Rattle.departures.proofs.Links.{Marked, meets, keeps, columns-fit, none-marked, named-before, named-now, unfit, all-linked}
+use lib.ListN.{getD, set}
+use Rattle.links.specs.Positions.{reverseOf}
+use Rattle.links.proofs.Positions.{even-of, odd-of, reverse-even, reverse-odd}
+use Rattle.departures.proofs.Links.{Marked, none-marked, step-passed, step-refused, all-linked}
 use Rattle.departures.proofs.links_formed.Statement.{statement}
 use Rattle.departures.proofs.links_formed.Tie as tie
 use Rattle.departures.proofs.links_formed.Reads as reads
 use Rattle.departures.proofs.links_formed.Lts as lts
 use Rattle.departures.proofs.link_fits.Reads as link-fits-reads
-use Rattle.links.proofs.next_position.Reads as next-position-reads
 
 abbrev Inv-loop : tie.InvT-loop
-Inv-loop edges count marks₀ p₀ p-end marks p = (p ≤ count * 2) × Marked edges count p marks
+Inv-loop count starts nexts bears marks₀ i₀ marks i = (i ≤ count) × Marked starts nexts bears (i * 2) marks
 
 abbrev μ-loop : tie.MeasureT-loop
-μ-loop edges count marks₀ p₀ p-end marks p = p-end - p
+μ-loop count starts nexts bears marks₀ i₀ marks i = count - i
 
--- the test of a turn
-taken-cases : (a b : Bool) → a || not b ≡ true → (a ≡ true) ⊎ (b ≡ false)
-taken-cases true b e = inl refl
-taken-cases false true e = absurd (false≢true e)
-taken-cases false false e = inr refl
+-- the two positions of a row are the reverse of each other
+forth : (i : ℕ) → reverseOf (i * 2) ≡ i * 2 + 1
+forth i = reverse-even (even-of (i * 2) (omega arith))
 
-left-both : (a b : Bool) → a || not b ≡ false → (a ≡ false) × (b ≡ true)
-left-both true b e = absurd (false≢true (sym e))
-left-both false true e = (refl, refl)
-left-both false false e = absurd (false≢true (sym e))
+back : (i : ℕ) → reverseOf (i * 2 + 1) ≡ i * 2
+back i = let e = reverse-odd (odd-of (i * 2 + 1) (omega arith)) in omega arith
 
--- the test of the columns is the links'
-fits-is : (c : lts.After-link-fits (next-position-reads.Asked, next-position-reads.Learnt, link-fits-reads.Asked, link-fits-reads.Learnt) reads.Pre reads.Post Inv-loop μ-loop) → c .link-fits .result ≡ (meets (c .before .before .before .before .args .edges .now) (c .before .before .before .before .args .count) (c .before .before .before .loop .p) && keeps (c .before .before .before .before .args .edges .now) (c .before .before .before .before .args .count) (c .before .before .before .loop .p))
-fits-is c =
-    let s = c .before .before .before .before in
-    let w = c .before .before .before .loop in
-    let n = c .before .next-position in
-    c .link-fits .ensures ∙ columns-fit (s .pre .0) (w .p) (n .result) (c .before .before .loop-test .taken) (n .ensures .0) (n .ensures .1)
+-- of a turn: the call, the row, the next of a position, and what the marks tell
+abbrev start : lts.In-loop (link-fits-reads.Asked, link-fits-reads.Learnt) reads.Pre reads.Post Inv-loop μ-loop → lts.Start (link-fits-reads.Asked, link-fits-reads.Learnt) reads.Pre reads.Post Inv-loop μ-loop
+start b = b .before .before .before .before .before
 
-mul-p-end : tie.Need-mul-p-end Inv-loop μ-loop
-mul-p-end c = omega (arith, c .pre .1)
+abbrev row : lts.In-loop (link-fits-reads.Asked, link-fits-reads.Learnt) reads.Pre reads.Post Inv-loop μ-loop → ℕ
+row b = b .before .loop .i
+
+abbrev next : lts.In-loop (link-fits-reads.Asked, link-fits-reads.Learnt) reads.Pre reads.Post Inv-loop μ-loop → ℕ → ℕ
+next b p = getD (start b .args .nexts .now) p 0
+
+abbrev marked : lts.In-loop (link-fits-reads.Asked, link-fits-reads.Learnt) reads.Pre reads.Post Inv-loop μ-loop → ℕ → List ℕ → Type 0
+marked b = Marked (start b .args .starts .now) (start b .args .nexts .now) (start b .args .bears .now)
+
+-- its next has a mark
+below-marks : (b : lts.In-loop (link-fits-reads.Asked, link-fits-reads.Learnt) reads.Pre reads.Post Inv-loop μ-loop) (p : ℕ) → p < start b .args .count * 2 → next b p < 4000
+below-marks b p h = omega (arith, start b .pre .4 p h, start b .pre .0)
+
+below-first : (b : lts.In-loop (link-fits-reads.Asked, link-fits-reads.Learnt) reads.Pre reads.Post Inv-loop μ-loop) → next b (row b * 2) < 4000
+below-first b = below-marks b (row b * 2) (omega (arith, b .loop-test .taken))
+
+below-second : (b : lts.In-loop (link-fits-reads.Asked, link-fits-reads.Learnt) reads.Pre reads.Post Inv-loop μ-loop) → next b (row b * 2 + 1) < 4000
+below-second b = below-marks b (row b * 2 + 1) (omega (arith, b .loop-test .taken))
+
+-- the marks after the first position of a row
+first : (c : lts.Else1 (link-fits-reads.Asked, link-fits-reads.Learnt) reads.Pre reads.Post Inv-loop μ-loop) → marked (c .before .before .before) (row (c .before .before .before) * 2 + 1) (set (c .before .before .before .before .loop .marks) (next (c .before .before .before) (row (c .before .before .before) * 2)) 1)
+first c =
+    let b = c .before .before .before in
+    step-passed (b .before .loop .inv .1) (forth (row b)) (c .before .link-fits .ensures) (below-first b) (c .if1 .left)
 
 loop-holds : tie.Need-loop-holds Inv-loop μ-loop
-loop-holds c = (omega arith, none-marked (c .args .edges .now) (c .args .count))
+loop-holds c = let a = c .before .before .before .args in (omega arith, none-marked (a .starts .now) (a .nexts .now) (a .bears .now))
 
-next-position-requires : tie.Need-next-position-requires Inv-loop μ-loop
-next-position-requires c κs = (c .before .before .pre .0, omega arith)
+shared-slice-read-q : tie.Need-shared-slice-read-q Inv-loop μ-loop
+shared-slice-read-q c = omega (arith, c .before .loop-test .taken, start (c .before) .pre .2)
 
-array-read-if1 : tie.Need-array-read-if1 Inv-loop μ-loop
-array-read-if1 c = omega (arith, c .next-position .ensures .0, c .before .before .before .pre .1)
+cast-q : tie.Need-cast-q Inv-loop μ-loop
+cast-q c = omega (arith, below-first (c .before))
 
 link-fits-requires : tie.Need-link-fits-requires Inv-loop μ-loop
 link-fits-requires c κs =
-    let s = c .before .before .before in
-    let w = c .before .before .loop in
-    let n = c .next-position in
-    (omega (arith, s .pre .1), omega (arith, s .pre .0 .fits), omega (arith, s .pre .0 .fits, n .ensures .0))
+    let s = start (c .before) in
+    let h = c .before .loop-test .taken in
+    let q = s .pre .4 (row (c .before) * 2) (omega arith) in
+    (omega (arith, s .pre .1), omega (arith, s .pre .1), omega (arith, s .pre .3), omega (arith, s .pre .3))
 
 returns : tie.Need-returns Inv-loop μ-loop
 returns c =
     let b = c .before .before .before in
-    let s = b .before .before in
-    let w = b .before .loop in
-    let n = c .before .before .next-position in
-    elim (taken-cases (eqb (getD (w .marks) (n .result) 0) 1) (c .before .link-fits .result) (c .if1 .taken)) [
-      | inl e ↦ sym (named-before (s .pre .0) (w .inv .1) (b .loop-test .taken) (n .result) (n .ensures .0) (n .ensures .1) (eqb→eq (getD (w .marks) (n .result) 0) 1 (≡→T (eqb (getD (w .marks) (n .result) 0) 1) e)))
-      | inr e ↦ sym (unfit (s .pre .0) (w .p) (b .loop-test .taken) (sym (fits-is (c .before)) ∙ e))
-    ]
+    λ nodes edges faces n f s t u named follow borne.
+    sym (step-refused (b .before .loop .inv .1) (forth (row b)) (c .before .link-fits .ensures) s t u named follow borne (omega (arith, b .loop-test .taken)) (c .if1 .taken))
 
-array-write-marks : tie.Need-array-write-marks Inv-loop μ-loop
-array-write-marks c = omega (arith, c .before .before .next-position .ensures .0, c .before .before .before .before .before .pre .1)
+shared-slice-read-s : tie.Need-shared-slice-read-s Inv-loop μ-loop
+shared-slice-read-s c = let b = c .before .before .before .before in omega (arith, b .loop-test .taken, start b .pre .2)
 
-add-p : tie.Need-add-p Inv-loop μ-loop
-add-p c = omega arith
-
-loop-less : tie.Need-loop-less Inv-loop μ-loop
-loop-less c = omega arith
-
-loop-again : tie.Need-loop-again Inv-loop μ-loop
-loop-again c =
-    let b = c .before .before .before in
-    let s = b .before .before in
-    let w = b .before .loop in
-    let n = c .before .before .next-position in
-    let e = left-both (eqb (getD (w .marks) (n .result) 0) 1) (c .before .link-fits .result) (c .if1 .left) in (
-      omega (arith, b .loop-test .taken),
-      named-now (s .pre .0) (w .inv .1) (b .loop-test .taken) (n .result) (n .ensures .0) (n .ensures .1) (s .pre .1) (λ q. false≢true (sym (e .0) ∙ T→≡ (eqb (getD (w .marks) (n .result) 0) 1) (rw q (eqb-refl 1)))) (sym (fits-is (c .before)) ∙ e .1),
-    )
+link-fits-requires-2 : tie.Need-link-fits-requires-2 Inv-loop μ-loop
+link-fits-requires-2 c κs =
+    let b = c .before .before .before .before in
+    let s = start b in
+    let h = b .loop-test .taken in
+    let q = s .pre .4 (row b * 2 + 1) (omega arith) in
+    (omega (arith, s .pre .1), omega (arith, s .pre .1), omega (arith, s .pre .3), omega (arith, s .pre .3))
 
 returns-2 : tie.Need-returns-2 Inv-loop μ-loop
 returns-2 c =
-    let s = c .before .before in
+    let e = c .before .before .before in
+    let b = e .before .before .before in
+    λ nodes edges faces n f s t u named follow borne.
+    sym (step-refused (first e) (back (row b)) (c .before .link-fits2 .ensures) s t u named follow borne (omega (arith, b .loop-test .taken)) (c .if2 .taken))
+
+loop-again : tie.Need-loop-again Inv-loop μ-loop
+loop-again c =
+    let e = c .before .before .before in
+    let b = e .before .before .before in
+    let on : (row b + 1) * 2 ≡ row b * 2 + 1 + 1 = omega arith in
+    (omega (arith, b .loop-test .taken), rw on (step-passed (first e) (back (row b)) (c .before .link-fits2 .ensures) (below-second b) (c .if2 .left)))
+
+returns-3 : tie.Need-returns-3 Inv-loop μ-loop
+returns-3 c =
     let w = c .before .loop in
-    let e : w .p ≡ s .args .count * 2 = omega (arith, w .inv .0, c .loop-test .left) in
-    sym (all-linked (s .pre .0) (subst (λ (p : ℕ). Marked (s .args .edges .now) (s .args .count) p (w .marks)) e (w .inv .1)))
+    let a = c .before .before .before .before .before .args in
+    let e : w .i ≡ a .count = omega (arith, w .inv .0, c .loop-test .left) in
+    λ nodes edges faces n f s t u named follow borne.
+    sym (all-linked (a .starts .now) (a .nexts .now) (a .bears .now) s t u named follow borne (subst (λ (i : ℕ). Marked (a .starts .now) (a .nexts .now) (a .bears .now) (i * 2) (w .marks)) e (w .inv .1)))
 
 pub links-formed-spec : {M : Type 1} → statement M
 links-formed-spec =
@@ -103,14 +116,24 @@ links-formed-spec =
     (tie.spec
     Inv-loop
     μ-loop
-    mul-p-end
     loop-holds
-    next-position-requires
-    array-read-if1
+    (λ c. omega (arith, c .loop-test .taken, start c .pre .0))
+    (λ c. omega (arith, c .loop-test .taken, start c .pre .0))
+    (λ c. omega (arith, c .loop-test .taken, start c .pre .0))
+    shared-slice-read-q
+    cast-q
+    (λ c. below-first (c .before))
     link-fits-requires
     returns
-    array-write-marks
-    add-p
-    loop-less
+    (λ c. below-first (c .before .before .before))
+    (λ c. let b = c .before .before .before in omega (arith, b .loop-test .taken, start b .pre .0))
+    shared-slice-read-s
+    (λ c. omega (arith, below-second (c .before .before .before .before)))
+    (λ c. below-second (c .before .before .before .before))
+    link-fits-requires-2
+    returns-2
+    (λ c. below-second (c .before .before .before .before .before .before))
+    (λ c. let b = c .before .before .before .before .before .before in omega (arith, b .loop-test .taken, start b .pre .0))
+    (λ c. omega (arith, c .before .before .before .before .before .before .loop-test .taken))
     loop-again
-    returns-2)
+    returns-3)

@@ -1,6 +1,6 @@
 -- `desk::natural` is safe: a number that is not below 0 fits. Assumes nothing.
 use borrow.Author.Needs.{needs}
-use Rattle.printing.proofs.Signs.{cast-natural}
+use Rattle.integers.specs.Signs.{cast-natural}
 use Rattle.desk.proofs.natural.Statement.{statement}
 use Rattle.desk.proofs.natural.Tie as tie
 

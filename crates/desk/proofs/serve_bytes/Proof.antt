@@ -8,7 +8,7 @@ use lib.ListN.{length, getD, drop, drop-of-length-le}
 use lib.Seq.{drop-cons}
 use Rattle.lists.specs.Scans.{fold}
 use Rattle.ranges.specs.Ranges.{lent}
-use Rattle.desk.specs.Lines.{Desk, deskOf, served}
+use Rattle.desk.specs.Lines.{Desk, deskOf, keptBytes, served}
 use Rattle.desk.proofs.serve_bytes.Statement.{statement}
 use Rattle.desk.proofs.serve_bytes.Tie as tie
 
@@ -16,7 +16,7 @@ abbrev Inv-loop : tie.InvT-loop
 Inv-loop nodes₀ edges₀ faces₀ line₀ bytes rows at₀ i₀ i-end nodes edges faces line at i =
     (i ≤ i-end) × (i-end ≡ length bytes)
     × (length nodes ≡ length nodes₀) × (length edges ≡ length edges₀) × (length faces ≡ length faces₀) × (length line ≡ length line₀)
-    × (at .length ≤ 1001)
+    × (at .length ≤ keptBytes)
     × (fold served (deskOf (lent nodes₀ edges₀ faces₀ (at₀ .head)) line₀ (at₀ .length)) bytes ≡ fold served (deskOf (lent nodes edges faces (at .head)) line (at .length)) (drop i bytes))
 
 abbrev μ-loop : tie.MeasureT-loop

@@ -4,12 +4,13 @@ use mathlib.Core.Path.{_≡_, refl, _∙_}
 use Prim.Native.Nat.{_≤_}
 use native.Mathlib.Omega.{arith}
 use lib.ListN.{length}
+use Rattle.desk.specs.Lines.{keptBytes}
 use Rattle.desk.proofs.serve_input.Statement.{statement}
 use Rattle.desk.proofs.serve_input.Tie as tie
 
 abbrev Inv-loop : tie.InvT-loop
 Inv-loop nodes₀ edges₀ faces₀ line₀ rows buf₀ state₀ turns₀ nodes edges faces line buf state turns =
-    (length nodes ≡ length nodes₀) × (length edges ≡ length edges₀) × (length faces ≡ length faces₀) × (length line ≡ length line₀) × (state .length ≤ 1001)
+    (length nodes ≡ length nodes₀) × (length edges ≡ length edges₀) × (length faces ≡ length faces₀) × (length line ≡ length line₀) × (state .length ≤ keptBytes)
 
 abbrev μ-loop : tie.MeasureT-loop
 μ-loop nodes₀ edges₀ faces₀ line₀ rows buf₀ state₀ turns₀ nodes edges faces line buf state turns = turns

@@ -4,7 +4,7 @@ use mathlib.Core.Path.{sym, _∙_}
 use Prim.Native.Nat.{_<_}
 use native.Mathlib.Omega.{arith}
 use Rattle.integers.specs.Signs.{sent}
-use Rattle.conditions.proofs.Points.{node-row-of}
+use Rattle.tables.proofs.Rows.{node-row-of}
 use Rattle.edge_reasons.proofs.Drawing.{number-cell, run-early, own-none, drawn-early, drawn-taken, drawn-differ, drawn-meets}
 use Rattle.edge_reasons.proofs.drawing_reason.Statement.{statement}
 use Rattle.edge_reasons.proofs.drawing_reason.Tie as tie

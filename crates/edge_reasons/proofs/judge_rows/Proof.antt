@@ -10,7 +10,7 @@ use Rattle.lists.proofs.Counts.{bit-most}
 use Rattle.map.specs.Rows.{mapOf}
 use Rattle.ranges.specs.Ranges.{lent}
 use Rattle.answers.proofs.Formed.{nodes-count, edges-count, node-rows, edge-rows}
-use Rattle.conditions.proofs.Points.{node-row-of}
+use Rattle.tables.proofs.Rows.{node-row-of}
 use Rattle.answers.proofs.Words.{count-natural, count-abs}
 use Rattle.edge_reasons.specs.Parts.{makesSecond}
 use Rattle.edge_reasons.proofs.Adding.{few-nodes, few-edges, counted, held, held-at, run-drawn, corner-told, rows-turned, rows-known}

@@ -3,8 +3,10 @@ use borrow.Author.Needs.{needs}
 use mathlib.Core.Path.{_∙_}
 use lib.Signed.{ltZ}
 use mir.Syntax.{w64}
+use mir.Val.{SFits}
 use mir.Facts.{toZ-ofZ}
-use Rattle.face_edits.proofs.Words.{either, fits-either, kept-is}
+use Rattle.lists.proofs.Bools.{cond-has}
+use Rattle.face_edits.proofs.Words.{either, kept-is}
 use Rattle.face_edits.proofs.face_left.Statement.{statement}
 use Rattle.face_edits.proofs.face_left.Tie as tie
 
@@ -18,7 +20,7 @@ returns c =
     let vn = toZ-ofZ {w = w64} {z = a .next} (s .fits .next) in
     let t = ltZ (a .left) (a .right) in
     let inner = either t (s .fits .left) (s .fits .right) (rw (vl, vr) at (c .before .pick .ensures)) in
-    either (a .makes) (s .fits .next) (fits-either t (s .fits .left) (s .fits .right)) (rw (vn, inner) at (c .pick2 .ensures)) ∙ kept-is (a .makes) (p .0) (p .1) (p .2)
+    either (a .makes) (s .fits .next) (cond-has (SFits w64) t (s .fits .left) (s .fits .right)) (rw (vn, inner) at (c .pick2 .ensures)) ∙ kept-is (a .makes) (p .0) (p .1) (p .2)
 
 pub face-left-spec : {M : Type 1} → statement M
 face-left-spec = tie.close (tie.spec (λ c κs. search needs) (λ c κs. search needs) returns)

@@ -12,8 +12,9 @@ use mir.Syntax.{w64}
 use mir.Facts.{toZ-ofZ}
 use Rattle.lists.specs.Tests.{same}
 use Rattle.lists.specs.Scans.{any}
+use Rattle.lists.proofs.Bools.{cond-has}
 use Rattle.face_edits.specs.Holds.{facesIn, FaceTable, withoutFace}
-use Rattle.face_edits.proofs.Words.{either, natural-either}
+use Rattle.face_edits.proofs.Words.{either}
 use Rattle.face_edits.proofs.FaceRows.{table-distinct, without-length, still-there}
 use Rattle.face_edits.proofs.heal_row.Statement.{statement}
 use Rattle.face_edits.proofs.heal_row.Tie as tie
@@ -79,7 +80,7 @@ remove-face-requires-3 c κs =
     let o = toZ-ofZ {w = w64} {z = a .left} (s .fits .left) in
     let o′ = toZ-ofZ {w = w64} {z = a .right} (s .fits .right) in
     let told = either (ltZ (a .left) (a .right)) (s .fits .right) (s .fits .left) (rw (o, o′) at (c .pick .ensures)) in
-    ((p .0 .0, p .0 .1, p .0 .2, p .0 .3), ap nonNeg told ∙ natural-either (ltZ (a .left) (a .right)) (a .right) (a .left) (p .2) (p .1))
+    ((p .0 .0, p .0 .1, p .0 .2, p .0 .3), ap nonNeg told ∙ cond-has (λ (z : ℤ). nonNeg z ≡ true) (ltZ (a .left) (a .right)) (p .2) (p .1))
 
 returns : tie.Need-returns
 returns c n gs t₀ len hl hr =

@@ -7,10 +7,11 @@ use native.Mathlib.Omega.{arith}
 use lib.IntN.{pos, natAbs}
 use lib.Signed.{ltZ}
 use mir.Syntax.{w64}
-use mir.Val.{ofZ, toZ, boolByte}
+use mir.Val.{ofZ, toZ, boolByte, SFits}
 use mir.Facts.{toZ-ofZ}
 use Rattle.integers.specs.Order.{sgn}
 use Rattle.integers.specs.Signs.{sent}
+use Rattle.lists.proofs.Bools.{cond-has}
 use Rattle.lists.proofs.Counts.{byte-bit, byte-most}
 use Rattle.plane.specs.Areas.{isPositive}
 use Rattle.map.specs.Darts.{ring}
@@ -18,7 +19,7 @@ use Rattle.map.specs.Faces.{ringArea}
 use Rattle.tables.specs.Tables.{edgeMap}
 use Rattle.links.specs.Positions.{dartAt}
 use Rattle.answers.proofs.Words.{small-fits, plus-fits, plus-is}
-use Rattle.face_edits.proofs.Words.{fits-either, either, positive-is}
+use Rattle.face_edits.proofs.Words.{either, positive-is}
 use Rattle.face_edits.proofs.sides_of.Statement.{statement}
 use Rattle.face_edits.proofs.sides_of.Tie as tie
 
@@ -43,7 +44,7 @@ returns c =
     let va = toZ-ofZ {w = w64} {z = a .a} (s .fits .a) in
     let first = ltZ (pos 0) (toZ w64 (ofZ w64 (area .result))) || not (a .goes) in
     let b = cond (a .goes) (pos (natAbs (a .a) + 1)) (a .old) in
-    let fb = fits-either (a .goes) (small-fits (natAbs (a .a) + 1) (omega (arith, p .4))) (s .fits .old) in
+    let fb = cond-has (SFits w64) (a .goes) (small-fits (natAbs (a .a) + 1) (omega (arith, p .4))) (s .fits .old) in
     let vb = either (a .goes) (small-fits (natAbs (a .a) + 1) (omega (arith, p .4))) (s .fits .old) (rw (plus-is (a .a) (p .3) (p .4), vo) at (c .before .before .pick .ensures)) in
     let inside = either first (s .fits .a) fb (rw (va, vb) at (c .before .pick2 .ensures)) ∙ ap (λ (x : Bool). cond (x || not (a .goes)) (a .a) b) isLeft in
     let other = either first fb (s .fits .a) (rw (va, vb) at (c .pick3 .ensures)) ∙ ap (λ (x : Bool). cond (x || not (a .goes)) b (a .a)) isLeft in

@@ -1,5 +1,5 @@
 -- `faces::corner_face` meets its contract: no edge row has another curve, and what is met is among the positions. Assumes nothing.
-use borrow.Author.Needs.{needs, sfits-of}
+use borrow.Author.Needs.{needs}
 use mathlib.Core.Path.{_≡_, sym, ap, _∙_}
 use Prim.Native.Nat.{_*_}
 use native.Mathlib.Omega.{arith}
@@ -7,7 +7,7 @@ use lib.IntN.{ℤ, pos}
 use lib.ListN.{getD}
 use mir.Syntax.{w64}
 use mir.Val.{toZ, ofZ}
-use mir.Facts.{toZ-ofZ}
+use Rattle.integers.specs.Signs.{sent}
 use Rattle.plane.specs.Directions.{wayTo}
 use Rattle.links.specs.Positions.{wayAt}
 use Rattle.links.proofs.Positions.{half-below}
@@ -36,7 +36,7 @@ found c =
     let n = a .count in
     let v = wayTo (a .v .from) (a .v .to) in
     let z = getD (a .nodes .now) (a .i * 4) (pos 0) in
-    let e : toZ w64 (ofZ w64 z) ≡ z = toZ-ofZ {w = w64} (sfits-of (c .before .first-clockwise-arg2 .given)) in
+    let e : toZ w64 (ofZ w64 z) ≡ z = sent (c .before .first-clockwise-arg2 .given) in
     c .first-clockwise .ensures ∙ met-alike l n (toZ w64 (ofZ w64 z)) (n * 2) (n * 2) v ∙ ap (λ (x : ℤ). firstMet (wayAt l) v (leaving l n x (n * 2) (n * 2))) e
 
 dart-cell-requires : tie.Need-dart-cell-requires
@@ -56,13 +56,13 @@ returns : tie.Need-returns
 returns c =
     let f = c .before .before in
     let a = f .before .before .before .before .before .args in
-    toZ-ofZ {w = w64} (sfits-of (c .dart-cell .ok)) ∙ c .dart-cell .ensures ∙ ap (cornerBy (a .nodes .now) (a .i) (a .edges .now)) (sym (f .found .given .1) ∙ found (f .before .before))
+    sent (c .dart-cell .ok) ∙ c .dart-cell .ensures ∙ ap (cornerBy (a .nodes .now) (a .i) (a .edges .now)) (sym (f .found .given .1) ∙ found (f .before .before))
 
 returns-2 : tie.Need-returns-2
 returns-2 c =
     let f = c .before in
     let a = f .before .before .before .before .before .args in
-    toZ-ofZ {w = w64} (sfits-of (c .result .given)) ∙ ap (cornerBy (a .nodes .now) (a .i) (a .edges .now)) (sym (f .enum-told .given .1) ∙ found (f .before .before))
+    sent (c .result .given) ∙ ap (cornerBy (a .nodes .now) (a .i) (a .edges .now)) (sym (f .enum-told .given .1) ∙ found (f .before .before))
 
 pub corner-face-spec : {M : Type 1} → statement M
 corner-face-spec =

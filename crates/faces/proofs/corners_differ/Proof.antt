@@ -4,8 +4,7 @@ use mathlib.Core.Path.{_≡_, ap, _∙_}
 use mathlib.Core.Bool.{false, not}
 use Prim.Native.Nat.{ℕ}
 use lib.IntN.{ℤ}
-use mir.Syntax.{w64}
-use mir.Facts.{toZ-ofZ}
+use Rattle.integers.specs.Signs.{sent}
 use Rattle.plane.specs.Directions.{Way}
 use Rattle.curves.specs.Curves.{curveOf, startWay}
 use Rattle.curves.specs.Edits.{course}
@@ -14,10 +13,6 @@ use Rattle.linking.proofs.Words.{cell-test}
 use Rattle.faces.specs.Corners.{cornerCell}
 use Rattle.faces.proofs.corners_differ.Statement.{statement}
 use Rattle.faces.proofs.corners_differ.Tie as tie
-use Rattle.faces.proofs.corners_differ.Reads as reads
-use Rattle.faces.proofs.corners_differ.Lts as lts
-use Rattle.faces.proofs.corner_face.Reads as corner-face-reads
-use Rattle.links.proofs.first_step.Reads as first-step-reads
 
 corner-face-requires : tie.Need-corner-face-requires
 corner-face-requires c κs = search needs
@@ -33,7 +28,7 @@ returns c =
     let corner : ℕ → Way → ℤ = λ k. cornerCell (a .nodes .now) k (a .edges .now) (a .count) in
     let first = corner (a .u) (startWay (course false (curveOf (a .c .now)))) in
     let e : start .result ≡ first = start .ensures ∙ ap (corner (a .u)) (c .before .before .before .first-step .ensures .way) in
-    let f = toZ-ofZ {w = w64} (sfits-of (end .ok)) ∙ end .ensures ∙ ap (corner (a .v)) (c .before .first-step2 .ensures .way) in
+    let f = sent (end .ok) ∙ end .ensures ∙ ap (corner (a .v)) (c .before .first-step2 .ensures .way) in
     ap not (cell-test (start .result) (end .result) first (sfits-of (start .ok)) (sfits-of (end .ok)) e ∙ ap (sameZ first) f)
 
 pub corners-differ-spec : {M : Type 1} → statement M

@@ -3,9 +3,7 @@ use borrow.Author.Needs.{needs, sfits-of}
 use mathlib.Core.Path.{refl}
 use lib.IntN.{pos}
 use lib.ListN.{getD}
-use mir.Syntax.{w64}
-use mir.Facts.{toZ-ofZ}
-use Rattle.integers.specs.Signs.{natural-cast}
+use Rattle.integers.specs.Signs.{natural-cast, sent}
 use Rattle.floors.proofs.Cells.{face-small}
 use Rattle.floors.proofs.face_at.Statement.{statement}
 use Rattle.floors.proofs.face_at.Tie as tie
@@ -13,12 +11,12 @@ use Rattle.floors.proofs.face_at.Tie as tie
 cast-z : tie.Need-cast-result
 cast-z c =
     let z = getD (c .before .args .edges .now) (c .before .args .j) (pos 0) in
-    rw (toZ-ofZ {w = w64} {z = z} (sfits-of (c .z .given))) (natural-cast z (c .before .pre .1) (sfits-of (c .z .given)))
+    rw (sent {z = z} (c .z .given)) (natural-cast z (c .before .pre .1) (sfits-of (c .z .given)))
 
 returns : tie.Need-returns
 returns c =
     let z = getD (c .before .args .edges .now) (c .before .args .j) (pos 0) in
-    rw (toZ-ofZ {w = w64} {z = z} (sfits-of (c .z .given))) (refl, face-small z (c .before .pre .1) (sfits-of (c .z .given)))
+    rw (sent {z = z} (c .z .given)) (refl, face-small z (c .before .pre .1) (sfits-of (c .z .given)))
 
 pub face-at-spec : {M : Type 1} → statement M
 face-at-spec = tie.close (tie.spec (λ c. search needs) (λ c. search needs) cast-z returns)

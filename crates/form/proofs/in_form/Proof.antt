@@ -71,6 +71,7 @@ is-formed-requires c κs =
       record { counted = k; ranged = sym (r .is-ranged .ensures) ∙ flipped (r .is-ranged .result) false (c .if2 .left) },
       omega (arith, k .nodes-fit, w .0),
       omega (arith, k .edges-fit, w .1),
+      omega (arith, k .faces-fit, w .2),
     )
 
 returns-3 : tie.Need-returns-3

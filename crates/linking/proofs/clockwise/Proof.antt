@@ -1,81 +1,98 @@
--- `linking::clockwise` meets its contract. Assumes nothing.
-use borrow.Author.Needs.{sfits-of}
-use mathlib.Core.Path.{_≡_, sym, ap, ap₂, _∙_}
-use mathlib.Core.Bool.{not, _&&_}
-use Prim.Native.Nat.{_/_}
+-- `linking::clockwise` meets its contract: the choice, with what is left of the list, is the choice of all. Assumes nothing.
+use mathlib.Core.Path.{_≡_, refl, sym, ap, _∙_}
+use mathlib.Core.Bool.{Bool, true, false, cond, not, true≢false}
+use mathlib.Core.Logic.{⊎-elim}
+use Prim.Native.Nat.{ℕ, _+_, _-_, _≤_}
 use native.Mathlib.Omega.{arith}
-use lib.IntN.{ℤ}
-use mir.Syntax.{w64}
-use mir.Val.{toZ, ofZ}
-use mir.Facts.{toZ-ofZ}
+use lib.ListN.{length, getD}
 use Rattle.lists.specs.Tests.{same}
-use Rattle.lists.specs.Scans.{keep}
-use Rattle.lists.specs.declared.Found.the-variants.{At, Missing}
-use Rattle.lists.proofs.Bools.{eq2}
-use Rattle.plane.specs.Directions.{Way}
+use Rattle.lists.specs.Scans.{fold}
+use Rattle.lists.proofs.Bools.{same-eq, same-false}
+use Rattle.plane.specs.Directions.{Way, wayTo}
 use Rattle.rotation.specs.Law.{others, firstClockwise}
-use Rattle.tables.proofs.Rows.{edge-row-of}
-use Rattle.links.specs.Positions.{sideCell, wayWith}
-use Rattle.linking.specs.Linking.{positions, leavesNode, leaving, firstMet}
-use Rattle.linking.proofs.FirstMet.{met-at, met-none, first-none, keep-same, keep-both}
-use borrow.Author.Needs.{needs}
+use Rattle.links.specs.Positions.{wayWith}
+use Rattle.linking.specs.declared.Choice.{Choice}
+use Rattle.linking.specs.Linking.{Known, chosenOf}
+use Rattle.linking.proofs.Choices.{chosen-has}
+use Rattle.linking.proofs.Listed.{settled, settled-all, chosenFrom, chosen-hit, chosen-miss, chosen-end}
 use Rattle.linking.proofs.clockwise.Statement.{statement}
 use Rattle.linking.proofs.clockwise.Tie as tie
-use Rattle.linking.proofs.clockwise.Reads as reads
-use Rattle.linking.proofs.clockwise.Lts as lts
-use Rattle.linking.proofs.first_clockwise.Reads as first-clockwise-reads
-use Rattle.links.proofs.dart_cell.Reads as dart-cell-reads
-use Rattle.links.proofs.step_with.Reads as step-with-reads
 
-step-with-requires : tie.Need-step-with-requires
-step-with-requires c κs =
-    let s = c .before in
-    let h = s .pre .2 in
-    ((λ e. s .pre .1 (omega arith)), (λ e. edge-row-of (s .pre .0) (s .args .p / 2) (omega arith)))
+-- no choice yet, p standing for none
+abbrev none : ℕ → Choice
+none p = record { any = false; all = p; under = false; below = p }
 
-enum-told : tie.Need-enum-told
-enum-told c = search needs
+-- not p itself
+abbrev but : ℕ → ℕ → Bool
+but p q = not (same q p)
 
--- what the search answers
-found : (c : lts.After-first-clockwise (dart-cell-reads.Asked, dart-cell-reads.Learnt, step-with-reads.Asked, step-with-reads.Learnt, first-clockwise-reads.Asked, first-clockwise-reads.Learnt) reads.Pre reads.Post)
-    → c .first-clockwise .result ≡ firstMet (wayWith (c .before .before .before .args .edges .now) (c .before .before .before .args .own) (c .before .before .before .args .c .now)) (wayWith (c .before .before .before .args .edges .now) (c .before .before .before .args .own) (c .before .before .before .args .c .now) (c .before .before .before .args .p)) (others same (c .before .before .before .args .p) (keep (leavesNode (c .before .before .before .args .edges .now) (sideCell (c .before .before .before .args .edges .now) (c .before .before .before .args .p) 1)) (positions (c .before .before .before .args .count))))
-found c =
-    let a = c .before .before .before .args in
+abbrev Inv-loop : tie.InvT-loop
+Inv-loop edges own c list p v h₀ k₀ k-end h k =
+    (k ≤ length list) × (h .any ≡ true → Known edges own c (h .all)) × (h .under ≡ true → Known edges own c (h .below))
+    × (chosenFrom (wayWith edges own c) (wayTo (v .from) (v .to)) (but p) list h k ≡ fold (chosenOf (wayWith edges own c) (wayTo (v .from) (v .to))) (none p) (others same p list))
+
+abbrev μ-loop : tie.MeasureT-loop
+μ-loop edges own c list p v h₀ k₀ k-end h k = k-end - k
+
+loop-holds : tie.Need-loop-holds Inv-loop μ-loop
+loop-holds c = (omega arith, (λ e. absurd (true≢false (sym e))), (λ e. absurd (true≢false (sym e))), refl)
+
+chosen-requires : tie.Need-chosen-requires Inv-loop μ-loop
+chosen-requires c κs =
+    let l = c .before .before .before .loop in
+    let b = c .before .before .before .before in
+    let s = b .before .before in
+    (s .pre .1 (l .k) (c .before .before .loop-test .taken), l .inv .1, l .inv .2, b .step-with .ensures .from, b .step-with .ensures .to)
+
+loop-again : tie.Need-loop-again Inv-loop μ-loop
+loop-again c =
+    let l = c .before .before .before .loop in
+    let b = c .before .before .before .before in
+    let s = b .before .before in
+    let a = s .args in
     let w = wayWith (a .edges .now) (a .own) (a .c .now) in
-    let node = c .before .before .dart-cell in
-    let e : toZ w64 (ofZ w64 (node .result)) ≡ sideCell (a .edges .now) (a .p) 1 = toZ-ofZ {w = w64} (sfits-of (node .ok)) ∙ node .ensures in
-    let f = leavesNode (a .edges .now) (sideCell (a .edges .now) (a .p) 1) in
-    c .first-clockwise .ensures
-    ∙ ap₂ (λ (v : Way) (z : ℤ). firstMet w v (leaving (a .edges .now) (a .count) z (a .p) (a .p))) (c .before .step-with .ensures .way) e
-    ∙ ap (firstMet w (w (a .p))) (keep-same (λ q. f q && not (same q (a .p)) && not (same q (a .p))) (λ q. f q && not (same q (a .p))) (positions (a .count)) (λ q m. eq2 (λ x y. x && y && y) (λ x y. x && y) tt (f q) (not (same q (a .p))))
-    ∙ sym (keep-both f (λ q. not (same q (a .p))) (positions (a .count))))
+    let v = wayTo (b .step-with .result .from) (b .step-with .result .to) in
+    let t = c .before .before .loop-test .taken in
+    let q = getD (a .list .now) (l .k) 0 in
+    ⊎-elim
+    (λ k.
+    let e : c .if1 .h ≡ chosenOf w v (l .h) q = k .2 ∙ k .1 .ensures in
+    let has = chosen-has w v (Known (a .edges .now) (a .own) (a .c .now)) (l .h) q (s .pre .1 (l .k) t) (l .inv .1) (l .inv .2) in
+    (omega arith, rw e (λ x. has .0), rw e (has .1), ap (λ (h : Choice). chosenFrom w v (but (a .p)) (a .list .now) h (l .k + 1)) e ∙ sym (chosen-hit w v (but (a .p)) (a .list .now) (l .h) (l .k) t (ap not (same-false q (a .p) (k .0 .taken)))) ∙ l .inv .3))
+    (λ k. (omega arith, rw (k .1) (l .inv .1), rw (k .1) (l .inv .2), ap (λ (h : Choice). chosenFrom w v (but (a .p)) (a .list .now) h (l .k + 1)) (k .1) ∙ sym (chosen-miss w v (but (a .p)) (a .list .now) (l .h) (l .k) t (ap not (same-eq q (a .p) (k .0 .left)))) ∙ l .inv .3))
+    (c .if1 .came)
 
-returns : tie.Need-returns
-returns c =
+-- what the choice answers is the law's
+answered : (c : tie.After-loop Inv-loop μ-loop) → (let a = c .before .before .before .before .args in settled (c .before .loop .h) ≡ firstClockwise (wayWith (a .edges .now) (a .own) (a .c .now)) (wayWith (a .edges .now) (a .own) (a .c .now) (a .p)) (a .p) (others same (a .p) (a .list .now)))
+answered c =
+    let l = c .before .loop in
     let b = c .before .before in
-    let a = b .before .before .before .args in
+    let a = b .before .before .args in
     let w = wayWith (a .edges .now) (a .own) (a .c .now) in
-    let ds = others same (a .p) (keep (leavesNode (a .edges .now) (sideCell (a .edges .now) (a .p) 1)) (positions (a .count))) in
-    let e : firstMet w (w (a .p)) ds ≡ Missing = sym (found b) ∙ c .enum-told .given .1 in
-    sym (ap (firstClockwise w (w (a .p)) (a .p)) (met-none w (w (a .p)) ds e) ∙ first-none w (w (a .p)) (a .p))
+    let v = wayTo (b .step-with .result .from) (b .step-with .result .to) in
+    ap settled (sym (chosen-end w v (but (a .p)) (a .list .now) (l .h) (l .k) (c .loop-test .left)) ∙ l .inv .3) ∙ settled-all w v (a .p) (others same (a .p) (a .list .now))
+    ∙ ap (λ (x : Way). firstClockwise w x (a .p) (others same (a .p) (a .list .now))) (b .step-with .ensures .way)
 
-returns-2 : tie.Need-returns-2
-returns-2 c =
-    let b = c .before .before .before in
-    let a = b .before .before .before .args in
-    let w = wayWith (a .edges .now) (a .own) (a .c .now) in
-    let ds = others same (a .p) (keep (leavesNode (a .edges .now) (sideCell (a .edges .now) (a .p) 1)) (positions (a .count))) in
-    let e : firstMet w (w (a .p)) ds ≡ At (c .before .found .given .0 .0) = sym (found b) ∙ c .before .found .given .1 in
-    sym (met-at w (w (a .p)) ds (c .before .found .given .0 .0) e (a .p))
+returns : tie.Need-returns Inv-loop μ-loop
+returns c = ap (λ (t : Bool). cond t (c .before .before .loop .h .below) (c .before .before .loop .h .all)) (sym (c .if2 .taken)) ∙ answered (c .before)
+
+returns-2 : tie.Need-returns-2 Inv-loop μ-loop
+returns-2 c = ap (λ (t : Bool). cond t (c .before .before .loop .h .below) (c .before .before .loop .h .all)) (sym (c .if2 .left)) ∙ answered (c .before)
 
 pub clockwise-spec : {M : Type 1} → statement M
 clockwise-spec =
     tie.close
     (tie.spec
-    (λ c κs. search needs)
-    step-with-requires
-    (λ c κs. search needs)
-    (λ c. search needs)
-    enum-told
+    Inv-loop
+    μ-loop
+    (λ c κs. c .before .pre .0)
+    loop-holds
+    (λ c. omega arith)
+    (λ c. omega arith)
+    (λ c. omega (arith, c .shared-slice-known2 .given (c .before .before .loop .k)))
+    chosen-requires
+    (λ c. omega arith)
+    (λ c. omega arith)
+    loop-again
     returns
     returns-2)

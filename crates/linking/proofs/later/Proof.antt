@@ -1,8 +1,8 @@
 -- `linking::later` meets its contract. Assumes nothing.
 use mathlib.Core.Path.{_≡_, sym, ap, _∙_}
+use borrow.Author.Tests.{not-true, not-false}
 use Rattle.plane.specs.Directions.{Way, wayTo, before}
 use Rattle.links.specs.Positions.{wayWith}
-use Rattle.linking.proofs.Choices.{turned-true, turned-false}
 use borrow.Author.Needs.{needs}
 use Rattle.linking.proofs.later.Statement.{statement}
 use Rattle.linking.proofs.later.Tie as tie
@@ -12,7 +12,10 @@ use Rattle.links.proofs.before.Reads as before-reads
 use Rattle.links.proofs.step_with.Reads as step-with-reads
 
 returns : tie.Need-returns
-returns c = rw (turned-true (c .before .args .some) (c .if1 .taken))
+returns c = rw (not-true (c .before .args .some) (c .if1 .taken))
+
+step-with-requires : tie.Need-step-with-requires
+step-with-requires c κs = c .before .pre .0 (not-false (c .before .args .some) (c .if1 .left))
 
 -- the test, in the direction of k
 test : (c : lts.After-before2 (step-with-reads.Asked, step-with-reads.Learnt, before-reads.Asked, before-reads.Learnt) reads.Pre reads.Post)
@@ -20,10 +23,10 @@ test : (c : lts.After-before2 (step-with-reads.Asked, step-with-reads.Learnt, be
 test c = ap (λ (v : Way). before v (wayTo (c .before .before .before .args .w .from) (c .before .before .before .args .w .to))) (sym (c .before .step-with .ensures .way)) ∙ sym (c .before2 .ensures)
 
 returns-2 : tie.Need-returns-2
-returns-2 c = rw (turned-false (c .before .before .before .before .args .some) (c .before .before .before .if1 .left), test (c .before), c .if2 .taken)
+returns-2 c = rw (not-false (c .before .before .before .before .args .some) (c .before .before .before .if1 .left), test (c .before), c .if2 .taken)
 
 returns-3 : tie.Need-returns-3
-returns-3 c = rw (turned-false (c .before .before .before .before .args .some) (c .before .before .before .if1 .left), test (c .before), c .if2 .left)
+returns-3 c = rw (not-false (c .before .before .before .before .args .some) (c .before .before .before .if1 .left), test (c .before), c .if2 .left)
 
 pub later-spec : {M : Type 1} → statement M
-later-spec = tie.close (tie.spec returns (λ c κs. search needs) (λ c κs. search needs) returns-2 returns-3)
+later-spec = tie.close (tie.spec returns step-with-requires (λ c κs. search needs) returns-2 returns-3)

@@ -1,6 +1,6 @@
 -- `linking::turned` meets its contract: a number that is not negative has a negative. Assumes nothing.
-use mathlib.Core.Path.{_≡_, ap, _∙_}
-use lib.IntN.{ℤ, pos, negℤ, natAbs}
+use mathlib.Core.Path.{ap, _∙_}
+use lib.IntN.{negℤ, natAbs}
 use mir.Syntax.{w64}
 use mir.Val.{toZ, ofZ}
 use mir.Facts.{toZ-ofZ}

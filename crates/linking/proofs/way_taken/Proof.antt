@@ -1,107 +1,177 @@
 -- `linking::way_taken` meets its contract. Assumes nothing.
-use mathlib.Core.Path.{_≡_, sym, ap, _∙_}
+use mathlib.Core.Path.{_≡_, sym, _∙_, subst}
 use mathlib.Core.Logic.{⊎-elim}
-use mathlib.Core.Bool.{Bool, false, not, _&&_}
-use mathlib.Core.List.{List}
-use Prim.Native.Nat.{ℕ, _*_, _-_, _/_, _≤_}
+use mathlib.Core.Bool.{Bool}
+use Prim.Native.Nat.{ℕ, _+_, _*_, _-_, _/_, _≤_}
 use native.Mathlib.Omega.{arith}
-use lib.IntN.{ℤ}
 use mir.Syntax.{w64}
 use mir.Val.{toZ, ofZ}
 use mir.Facts.{toZ-ofZ}
 use native.Mathlib.Nat.{sub-zero}
-use lib.Dec.{eqb}
 use borrow.Author.Needs.{sfits-of}
 use Rattle.lists.proofs.Scans.{any-hit, any-miss, any-end}
 use Rattle.tables.proofs.Rows.{edge-row-of}
-use Rattle.linking.proofs.Words.{sameWord, cell-test, and-both, and-left-none, and-right-none}
 use Rattle.lists.specs.Tests.{same}
 use Rattle.lists.specs.Scans.{any}
 use Rattle.lists.specs.Tables.{table}
-use Rattle.plane.specs.Directions.{Way, wayTo, sameWay}
-use Rattle.links.specs.Positions.{sideCell, wayAt}
-use Rattle.links.specs.declared.Step.{Step}
-use Rattle.linking.specs.Linking.{positions, leavesNode}
+use Rattle.plane.specs.Directions.{wayTo}
+use Rattle.linking.specs.Linking.{positions}
+use Rattle.linking.proofs.ByRows.{taken, near-start, near-end, taken-none, taken-here, taken-past}
 use Rattle.linking.proofs.way_taken.Statement.{statement}
 use Rattle.linking.proofs.way_taken.Tie as tie
 use Rattle.linking.proofs.way_taken.Reads as reads
 use Rattle.linking.proofs.way_taken.Lts as lts
-use Rattle.links.proofs.dart_cell.Reads as dart-cell-reads
 use Rattle.links.proofs.same_way.Reads as same-way-reads
 use Rattle.links.proofs.step_at.Reads as step-at-reads
 
--- the test of a position
-abbrev taken : List ℤ → ℤ → ℕ → Step → ℕ → Bool
-taken l node own v p = leavesNode l node p && not (same (p / 2) own) && sameWay (wayAt l p) (wayTo (v .from) (v .to))
+-- whether one of the positions left has the direction
+abbrev anyFrom : (ℕ → Bool) → ℕ → ℕ → Bool
+anyFrom f p n = any f (table (λ q. q) p (n - p))
 
 abbrev Inv-loop : tie.InvT-loop
-Inv-loop edges count node own v p₀ p-end p =
-    (p ≤ count * 2) × (any (taken edges (toZ w64 node) own v) (table (λ q. q) p (count * 2 - p)) ≡ any (taken edges (toZ w64 node) own v) (positions count))
+Inv-loop edges count node own v i₀ i =
+    let f = taken edges (toZ w64 node) own (wayTo (v .from) (v .to)) in
+    (i ≤ count) × (anyFrom f (i * 2) (count * 2) ≡ any f (positions count))
 
 abbrev μ-loop : tie.MeasureT-loop
-μ-loop edges count node own v p₀ p-end p = p-end - p
-
-mul-p-end : tie.Need-mul-p-end Inv-loop μ-loop
-mul-p-end c = omega (arith, c .pre .0 .fits)
+μ-loop edges count node own v i₀ i = count - i
 
 loop-holds : tie.Need-loop-holds Inv-loop μ-loop
 loop-holds c = (omega arith, rw sub-zero)
 
-dart-cell-requires : tie.Need-dart-cell-requires Inv-loop μ-loop
-dart-cell-requires c κs = omega (arith, c .before .before .pre .0 .fits)
+mul-if1 : tie.Need-mul-if1 Inv-loop μ-loop
+mul-if1 c = omega (arith, c .before .before .pre .0 .fits)
+
+add-if1 : tie.Need-add-if1 Inv-loop μ-loop
+add-if1 c = omega (arith, c .before .before .pre .0 .fits)
+
+mul-if1-2 : tie.Need-mul-if1-2 Inv-loop μ-loop
+mul-if1-2 c = omega (arith, c .before .before .pre .0 .fits)
+
+shared-slice-copy-out-if1 : tie.Need-shared-slice-copy-out-if1 Inv-loop μ-loop
+shared-slice-copy-out-if1 c = omega (arith, c .before .before .pre .0 .fits)
+
+mul-step-at : tie.Need-mul-step-at Inv-loop μ-loop
+mul-step-at c = omega (arith, c .before .before .before .before .pre .0 .fits)
 
 step-at-requires : tie.Need-step-at-requires Inv-loop μ-loop
-step-at-requires c κs = let s = c .before .before .before .before in edge-row-of (s .pre .0) (c .before .before .before .loop .p / 2) (omega arith)
+step-at-requires c κs =
+    let l = c .before .before in
+    let t = l .loop-test .taken in
+    edge-row-of (l .before .before .pre .0) (l .before .loop .i * 2 / 2) (omega arith)
 
 same-way-requires : tie.Need-same-way-requires Inv-loop μ-loop
-same-way-requires c κs = let s = c .before .before .before .before .before in (c .step-at .ensures .from, c .step-at .ensures .to, s .pre .1, s .pre .2)
-
--- a departure from the node, of another edge
-near : (c : lts.After-dart-cell (dart-cell-reads.Asked, dart-cell-reads.Learnt, step-at-reads.Asked, step-at-reads.Learnt, same-way-reads.Asked, same-way-reads.Learnt) reads.Pre reads.Post Inv-loop μ-loop) → sameWord (c .dart-cell .result) (c .before .before .before .args .node) && not (eqb (c .before .before .loop .p / 2) (c .before .before .before .args .own)) ≡ leavesNode (c .before .before .before .args .edges .now) (toZ w64 (ofZ w64 (c .before .before .before .args .node))) (c .before .before .loop .p) && not (same (c .before .before .loop .p / 2) (c .before .before .before .args .own))
-unfolding same
-near c =
-    let s = c .before .before .before in
-    let a = s .args in
-    let l = c .before .before .loop in
-    let r = c .dart-cell in
-    ap (λ (t : Bool). t && not (same (l .p / 2) (a .own))) (cell-test (r .result) (a .node) (sideCell (a .edges .now) (l .p) 1) (sfits-of (r .ok)) (s .fits .node) (r .ensures))
-
--- and of the direction
-along : (c : lts.After-same-way (dart-cell-reads.Asked, dart-cell-reads.Learnt, step-at-reads.Asked, step-at-reads.Learnt, same-way-reads.Asked, same-way-reads.Learnt) reads.Pre reads.Post Inv-loop μ-loop) → c .same-way .result ≡ sameWay (wayAt (c .before .before .before .before .before .before .args .edges .now) (c .before .before .before .before .before .loop .p)) (wayTo (c .before .before .before .before .before .before .args .v .from) (c .before .before .before .before .before .before .args .v .to))
-along c =
-    let a = c .before .before .before .before .before .before .args in
-    c .same-way .ensures ∙ ap (λ (w : Way). sameWay w (wayTo (a .v .from) (a .v .to))) (c .before .step-at .ensures .way)
+same-way-requires c κs =
+    let s = c .before .before .before .before .before in
+    (c .step-at .ensures .from, c .step-at .ensures .to, s .pre .1, s .pre .2)
 
 returns : tie.Need-returns Inv-loop μ-loop
+unfolding same
 returns c =
-    let t = c .before .before .before in
-    let l = t .before .before .before .loop in
-    let s = t .before .before .before .before in
+    let b = c .before .before .before .before in
+    let l = b .before .before .loop in
+    let s = b .before .before .before in
     let a = s .args in
+    let node = toZ w64 (ofZ w64 (a .node)) in
+    let v = wayTo (a .v .from) (a .v .to) in
+    let t = b .before .loop-test .taken in
+    let near = near-start (a .edges .now) (a .own) (l .i) (s .fits .node) (sfits-of (b .if12 .given)) in
     rw (toZ-ofZ {w = w64} (s .fits .node)) at
-    (sym (any-hit (λ q. q) (l .p) (a .count * 2) (taken (a .edges .now) (toZ w64 (ofZ w64 (a .node))) (a .own) (a .v)) (t .before .before .loop-test .taken)
-    (and-both (sym (near (t .before)) ∙ t .if1 .taken) (sym (along (c .before)) ∙ c .if2 .taken))) ∙ l .inv .1)
+    (sym (any-hit (λ q. q) (l .i * 2) (a .count * 2) (taken (a .edges .now) node (a .own) v) (omega arith)
+    (taken-here (a .edges .now) node (a .own) v (l .i * 2) near (c .before .same-way .ensures) (c .before .before .step-at .ensures .way) (c .before .before .before .if1 .taken) (c .if2 .taken))) ∙ l .inv .1)
 
-add-p : tie.Need-add-p Inv-loop μ-loop
-add-p c = omega (arith, c .before .before .before .before .pre .0 .fits)
-
-loop-again : tie.Need-loop-again Inv-loop μ-loop
-loop-again c =
-    let l = c .before .before .before .loop in
-    let s = c .before .before .before .before in
+-- the edge of row i passed
+halfway : (c : lts.Joined1 (step-at-reads.Asked, step-at-reads.Learnt, same-way-reads.Asked, same-way-reads.Learnt) reads.Pre reads.Post Inv-loop μ-loop)
+    → (let a = c .before .before .before .before .args in let f = taken (a .edges .now) (toZ w64 (ofZ w64 (a .node))) (a .own) (wayTo (a .v .from) (a .v .to)) in anyFrom f (c .before .before .before .loop .i * 2 + 1) (a .count * 2) ≡ any f (positions (a .count)))
+unfolding same
+halfway c =
+    let b = c .before in
+    let l = b .before .before .loop in
+    let s = b .before .before .before in
     let a = s .args in
-    let f = taken (a .edges .now) (toZ w64 (ofZ w64 (a .node))) (a .own) (a .v) in
-    let miss : f (l .p) ≡ false =
-    ⊎-elim (λ k. and-right-none (leavesNode (a .edges .now) (toZ w64 (ofZ w64 (a .node))) (l .p) && not (same (l .p / 2) (a .own))) _ (sym (along (record { before = record { before = record { before = c .before; if1 = k .0 }; step-at = k .1 }; same-way = k .2 })) ∙ k .3 .left)) (λ k. and-left-none _ (sameWay (wayAt (a .edges .now) (l .p)) (wayTo (a .v .from) (a .v .to))) (sym (near (c .before)) ∙ k .left)) (c .if1 .came) in
-    (omega arith, sym (any-miss (λ q. q) (l .p) (a .count * 2) f (c .before .before .loop-test .taken) miss) ∙ l .inv .1)
+    let node = toZ w64 (ofZ w64 (a .node)) in
+    let v = wayTo (a .v .from) (a .v .to) in
+    let t = b .before .loop-test .taken in
+    let near = near-start (a .edges .now) (a .own) (l .i) (s .fits .node) (sfits-of (b .if12 .given)) in
+    sym (any-miss (λ q. q) (l .i * 2) (a .count * 2) (taken (a .edges .now) node (a .own) v) (omega arith)
+    (⊎-elim (λ k. taken-past (a .edges .now) node (a .own) v (l .i * 2) near (k .2 .ensures) (k .1 .ensures .way) (k .3 .left)) (λ k. taken-none (a .edges .now) node (a .own) v (l .i * 2) near (k .left)) (c .if1 .came))) ∙ l .inv .1
+
+mul-if3 : tie.Need-mul-if3 Inv-loop μ-loop
+mul-if3 c = omega (arith, c .before .before .before .before .pre .0 .fits)
+
+add-if3 : tie.Need-add-if3 Inv-loop μ-loop
+add-if3 c = omega (arith, c .before .before .before .before .pre .0 .fits)
+
+mul-if3-2 : tie.Need-mul-if3-2 Inv-loop μ-loop
+mul-if3-2 c = omega (arith, c .before .before .before .before .pre .0 .fits)
+
+shared-slice-copy-out-if3 : tie.Need-shared-slice-copy-out-if3 Inv-loop μ-loop
+shared-slice-copy-out-if3 c = omega (arith, c .before .before .before .before .pre .0 .fits)
+
+mul-step-at-2 : tie.Need-mul-step-at-2 Inv-loop μ-loop
+mul-step-at-2 c = omega (arith, c .before .before .before .before .before .before .pre .0 .fits)
+
+add-step-at : tie.Need-add-step-at Inv-loop μ-loop
+add-step-at c = omega (arith, c .before .before .before .before .before .before .pre .0 .fits)
+
+step-at-requires-2 : tie.Need-step-at-requires-2 Inv-loop μ-loop
+step-at-requires-2 c κs =
+    let l = c .before .before .before .before in
+    let t = l .loop-test .taken in
+    edge-row-of (l .before .before .pre .0) ((l .before .loop .i * 2 + 1) / 2) (omega arith)
+
+same-way-requires-2 : tie.Need-same-way-requires-2 Inv-loop μ-loop
+same-way-requires-2 c κs =
+    let s = c .before .before .before .before .before .before .before in
+    (c .step-at2 .ensures .from, c .step-at2 .ensures .to, s .pre .1, s .pre .2)
 
 returns-2 : tie.Need-returns-2 Inv-loop μ-loop
+unfolding same
 returns-2 c =
+    let d = c .before .before .before .before in
+    let j = d .before in
+    let l = j .before .before .before .loop in
+    let s = j .before .before .before .before in
+    let a = s .args in
+    let node = toZ w64 (ofZ w64 (a .node)) in
+    let v = wayTo (a .v .from) (a .v .to) in
+    let t = j .before .before .loop-test .taken in
+    let near = near-end (a .edges .now) (a .own) (l .i) (s .fits .node) (sfits-of (d .if32 .given)) in
+    rw (toZ-ofZ {w = w64} (s .fits .node)) at
+    (sym (any-hit (λ q. q) (l .i * 2 + 1) (a .count * 2) (taken (a .edges .now) node (a .own) v) (omega arith)
+    (taken-here (a .edges .now) node (a .own) v (l .i * 2 + 1) near (c .before .same-way2 .ensures) (c .before .before .step-at2 .ensures .way) (c .before .before .before .if3 .taken) (c .if4 .taken))) ∙ halfway j)
+
+add-i : tie.Need-add-i Inv-loop μ-loop
+add-i c = omega (arith, c .before .before .before .before .before .before .pre .0 .fits)
+
+loop-again : tie.Need-loop-again Inv-loop μ-loop
+unfolding same
+loop-again c =
+    let d = c .before in
+    let j = d .before in
+    let l = j .before .before .before .loop in
+    let s = j .before .before .before .before in
+    let a = s .args in
+    let node = toZ w64 (ofZ w64 (a .node)) in
+    let v = wayTo (a .v .from) (a .v .to) in
+    let f = taken (a .edges .now) node (a .own) v in
+    let t = j .before .before .loop-test .taken in
+    let near = near-end (a .edges .now) (a .own) (l .i) (s .fits .node) (sfits-of (d .if32 .given)) in
+    let e : l .i * 2 + 1 + 1 ≡ (l .i + 1) * 2 = omega arith in (
+      omega arith,
+      subst (λ (p : ℕ). anyFrom f p (a .count * 2) ≡ any f (positions (a .count))) e
+          (sym (any-miss (λ q. q) (l .i * 2 + 1) (a .count * 2) f (omega arith)
+          (⊎-elim (λ k. taken-past (a .edges .now) node (a .own) v (l .i * 2 + 1) near (k .2 .ensures) (k .1 .ensures .way) (k .3 .left)) (λ k. taken-none (a .edges .now) node (a .own) v (l .i * 2 + 1) near (k .left)) (c .if3 .came))) ∙ halfway j),
+    )
+
+returns-3 : tie.Need-returns-3 Inv-loop μ-loop
+returns-3 c =
     let l = c .before .loop in
     let s = c .before .before in
     let a = s .args in
-    let f = taken (a .edges .now) (toZ w64 (ofZ w64 (a .node))) (a .own) (a .v) in
-    rw (toZ-ofZ {w = w64} (s .fits .node)) at (sym (any-end (λ q. q) (l .p) (a .count * 2) f (c .loop-test .left)) ∙ l .inv .1)
+    let t = c .loop-test .left in
+    rw (toZ-ofZ {w = w64} (s .fits .node)) at
+    (sym (any-end (λ q. q) (l .i * 2) (a .count * 2) (taken (a .edges .now) (toZ w64 (ofZ w64 (a .node))) (a .own) (wayTo (a .v .from) (a .v .to))) (omega arith)) ∙ l .inv .1)
 
 pub way-taken-spec : {M : Type 1} → statement M
 way-taken-spec =
@@ -109,13 +179,25 @@ way-taken-spec =
     (tie.spec
     Inv-loop
     μ-loop
-    mul-p-end
     loop-holds
-    dart-cell-requires
+    mul-if1
+    add-if1
+    mul-if1-2
+    shared-slice-copy-out-if1
+    mul-step-at
     step-at-requires
     same-way-requires
     returns
-    add-p
+    mul-if3
+    add-if3
+    mul-if3-2
+    shared-slice-copy-out-if3
+    mul-step-at-2
+    add-step-at
+    step-at-requires-2
+    same-way-requires-2
+    returns-2
+    add-i
     (λ c. omega arith)
     loop-again
-    returns-2)
+    returns-3)

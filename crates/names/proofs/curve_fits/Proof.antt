@@ -1,61 +1,80 @@
--- `names::curve_fits` meets its contract. Assumes nothing.
+-- `names::curve_fits` meets its contract: the rows that are written down have the points of the nodes. Assumes nothing.
 use borrow.Author.Needs.{needs}
-use mathlib.Core.Bool.{_&&_}
+use mathlib.Core.Bool.{Bool, _&&_}
 use mathlib.Core.Path.{_≡_, ap, ap₂, _∙_}
-use Prim.Native.Nat.{ℕ, _+_, _-_, _/_}
+use mathlib.Core.List.{List}
+use Prim.Native.Nat.{ℕ, _+_, _*_}
 use native.Mathlib.Omega.{arith}
-use lib.IntN.{natAbs}
-use lib.ListN.{length}
-use lib.Signed.{nonNeg}
-use Rattle.lists.proofs.Bools.{≡→T}
+use lib.IntN.{ℤ}
+use lib.ListN.{getD}
 use Rattle.plane.specs.declared.Point.{Point}
 use Rattle.plane.specs.Points.{samePoint}
+use Rattle.curves.specs.Curves.{Curve, lastPoint}
 use Rattle.curves.specs.Tests.{neighboursDiffer}
-use Rattle.curves.proofs.Runs.{two-points}
-use Rattle.map.specs.Rows.{node}
-use Rattle.tables.specs.Tables.{nodeMap}
-use Rattle.tables.proofs.Rows.{edge-cells}
-use Rattle.names.proofs.Names.{curve-first, curve-last}
+use Rattle.map.specs.Form.{curveFits}
+use Rattle.tables.specs.Tables.{NodeRows, EdgeRow, nodeAt, nodeMap, edgeAt}
+use Rattle.tables.proofs.Rows.{edge-cells, node-row-of}
+use Rattle.links.specs.Positions.{RowsNamed}
+use Rattle.links.proofs.Positions.{side-even, side-odd}
+use Rattle.names.proofs.Nexts.{row-point}
 use Rattle.names.proofs.curve_fits.Statement.{statement}
 use Rattle.names.proofs.curve_fits.Tie as tie
 
-point-at-requires : tie.Need-point-at-requires
-point-at-requires c κs = let r = c .before .curve-of .ensures .0 in (r, omega (arith, two-points r))
+-- a curve that runs between the points of the rows of its nodes
+fits : {nodes edges : List ℤ} {n i : ℕ} (starts : List ℕ) → NodeRows nodes n → EdgeRow edges i → RowsNamed 4 nodes n edges 1 starts (i * 2 + 2) → {k : Curve} {u v : Point} {r : Bool} → k ≡ edgeAt edges i .curve → u ≡ nodeAt nodes (getD starts (i * 2) 0) .at → v ≡ nodeAt nodes (getD starts (i * 2 + 1) 0) .at → r ≡ (samePoint (k .first) u && samePoint (lastPoint k) v && neighboursDiffer k) → r ≡ curveFits (nodeMap nodes n) (edgeAt edges i)
+fits {nodes} {edges} {n} {i} starts rows row named ek eu ev e =
+    let k = edge-cells edges i (row .ranges) in
+    let u = named (i * 2) (omega arith) in
+    let v = named (i * 2 + 1) (omega arith) in
+    e
+    ∙ ap₂ _&&_
+    (ap₂ _&&_
+    (ap₂ samePoint (ap (λ (c : Curve). c .first) ek) (eu ∙ row-point rows _ (u .0) _ (u .1 ∙ side-even edges i 1 ∙ k .start)))
+    (ap₂ samePoint (ap lastPoint ek) (ev ∙ row-point rows _ (v .0) _ (v .1 ∙ side-odd edges i 1 ∙ k .end))))
+    (ap neighboursDiffer ek)
 
-at-node-requires : tie.Need-at-node-requires
-at-node-requires c κs =
-    let s = c .before .before .before in
-    let k = edge-cells (s .args .edges .now) (s .args .i) (s .pre .1 .ranges) in
-    let f = s .pre .1 .fits in
-    (omega arith, ≡→T _ (ap nonNeg (k .start)), s .pre .0)
+cast-u : tie.Need-cast-u
+cast-u c = let s = c .before .before .before in omega (arith, c .shared-slice-known2 .given (s .args .i * 2))
 
-sub-point-at : tie.Need-sub-point-at
-sub-point-at c = omega (arith, c .before .before .point-count .ensures, two-points (c .before .before .before .curve-of .ensures .0))
+cast-v : tie.Need-cast-v
+cast-v c = let s = c .before .before .before .before in omega (arith, c .shared-slice-known3 .given (s .args .i * 2 + 1))
 
-point-at-requires-2 : tie.Need-point-at-requires-2
-point-at-requires-2 c κs = let r = c .before .before .before .curve-of .ensures .0 in (r, omega (arith, c .before .before .point-count .ensures, two-points r))
+point-of-requires : tie.Need-point-of-requires
+point-of-requires c κs = let s = c .before .before .before .before in node-row-of (s .pre .0) _ (s .pre .3 (s .args .i * 2) (omega arith) .0)
 
-at-node-requires-2 : tie.Need-at-node-requires-2
-at-node-requires-2 c κs =
-    let s = c .before .before .before .before .before in
-    let k = edge-cells (s .args .edges .now) (s .args .i) (s .pre .1 .ranges) in
-    let f = s .pre .1 .fits in
-    (omega arith, ≡→T _ (ap nonNeg (k .end)), s .pre .0)
+point-of-requires-2 : tie.Need-point-of-requires-2
+point-of-requires-2 c κs = let s = c .before .before .before .before .before in node-row-of (s .pre .0) _ (s .pre .3 (s .args .i * 2 + 1) (omega arith) .0)
 
 returns : tie.Need-returns
 returns c =
-    let s = c .before .before .before .before .before .before .before in
-    let a = s .args in
-    let m = nodeMap (a .nodes .now) (a .n) in
-    let k = edge-cells (a .edges .now) (a .i) (s .pre .1 .ranges) in
-    let q = c .before .before .before .before .before .before .curve-of .ensures in
-    let n = c .before .before .before .before .before .point-count .result in
-    let e : n - 1 + 1 ≡ length (c .before .before .before .before .before .before .curve-of .result .now) / 2 = omega (arith, c .before .before .before .before .before .point-count .ensures, two-points (q .0)) in
-    ap₂ _&&_
-    (ap₂ _&&_
-    (c .before .before .before .at-node .ensures ∙ ap₂ (λ (p : Point) (j : ℕ). samePoint p (node m j .at)) (c .before .before .before .before .point-at .ensures .0 ∙ curve-first (q .0) (q .1)) (ap natAbs (k .start)))
-    (c .before .at-node2 .ensures ∙ ap₂ (λ (p : Point) (j : ℕ). samePoint p (node m j .at)) (c .before .before .point-at2 .ensures .0 ∙ curve-last (q .0) (q .1) (n - 1) e) (ap natAbs (k .end))))
-    (c .neighbours-differ .ensures ∙ ap neighboursDiffer (q .1))
+    let t = c .before .before .before in
+    let s = t .before .before .before .before .before .before in
+    fits (s .args .starts .now) (s .pre .0) (s .pre .1) (s .pre .3) (t .before .before .before .before .curve-of .ensures .1) (t .before .point-of .ensures) (t .point-of2 .ensures) (c .runs-between .ensures)
+
+returns-2 : tie.Need-returns-2
+returns-2 c =
+    let t = c .before .before .before in
+    let s = t .before .before .before .before .before .before in
+    fits (s .args .starts .now) (s .pre .0) (s .pre .1) (s .pre .3) (t .before .before .before .before .curve-of .ensures .1) (t .before .point-of .ensures) (t .point-of2 .ensures) (c .runs-between2 .ensures)
 
 pub curve-fits-spec : {M : Type 1} → statement M
-curve-fits-spec = tie.close (tie.spec (λ c κs. search needs) (λ c κs. search needs) point-at-requires (λ c. search needs) (λ c. search needs) at-node-requires sub-point-at point-at-requires-2 (λ c. search needs) (λ c. search needs) at-node-requires-2 (λ c κs. search needs) returns)
+curve-fits-spec =
+    tie.close
+    (tie.spec
+    (λ c κs. search needs)
+    (λ c. omega arith)
+    (λ c. omega arith)
+    (λ c. omega arith)
+    cast-u
+    (λ c. omega arith)
+    (λ c. omega arith)
+    (λ c. omega arith)
+    (λ c. omega arith)
+    cast-v
+    point-of-requires
+    point-of-requires-2
+    (λ c κs. search needs)
+    (λ c κs. search needs)
+    returns
+    (λ c κs. search needs)
+    returns-2)

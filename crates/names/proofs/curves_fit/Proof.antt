@@ -14,39 +14,42 @@ use Rattle.names.proofs.curves_fit.Statement.{statement}
 use Rattle.names.proofs.curves_fit.Tie as tie
 
 abbrev Inv-loop : tie.InvT-loop
-Inv-loop nodes edges c i₀ i-end i =
-    (i ≤ c .edges) × (all (curveFits (nodeMap nodes (c .nodes))) (table (edgeAt edges) i (c .edges - i)) ≡ all (curveFits (nodeMap nodes (c .nodes))) (edgesOf edges (c .edges)))
+Inv-loop nodes n edges count starts i₀ i =
+    (i ≤ count) × (all (curveFits (nodeMap nodes n)) (table (edgeAt edges) i (count - i)) ≡ all (curveFits (nodeMap nodes n)) (edgesOf edges count))
 
 abbrev μ-loop : tie.MeasureT-loop
-μ-loop nodes edges c i₀ i-end i = c .edges - i
+μ-loop nodes n edges count starts i₀ i = count - i
 
 loop-holds : tie.Need-loop-holds Inv-loop μ-loop
 loop-holds c =
-    let a = c .args in
-    let p = curveFits (nodeMap (a .nodes .now) (a .c .nodes)) in
-    (omega arith, ap (λ (k : ℕ). all p (table (edgeAt (a .edges .now)) 0 k)) (sub-zero (a .c .edges)) ∙ ap (all p) (sym (edges-table (a .edges .now) (a .c .edges))))
+    let a = c .before .args in
+    let p = curveFits (nodeMap (a .nodes .now) (a .n)) in
+    (omega arith, ap (λ (k : ℕ). all p (table (edgeAt (a .edges .now)) 0 k)) (sub-zero (a .count)) ∙ ap (all p) (sym (edges-table (a .edges .now) (a .count))))
 
 curve-fits-requires : tie.Need-curve-fits-requires Inv-loop μ-loop
-curve-fits-requires c κs = let s = c .before .before in (s .pre .0, edge-row-of (s .pre .1) (c .before .loop .i) (c .loop-test .taken))
+curve-fits-requires c κs =
+    let s = c .before .before .before in
+    let t = c .loop-test .taken in
+    (s .pre .0, edge-row-of (s .pre .1) (c .before .loop .i) t, omega (arith, s .pre .2), λ p h. s .pre .3 p (omega arith))
 
 returns : tie.Need-returns Inv-loop μ-loop
 returns c =
-    let a = c .before .before .before .before .args in
+    let a = c .before .before .before .before .before .args in
     let l = c .before .before .before .loop in
-    let p = curveFits (nodeMap (a .nodes .now) (a .c .nodes)) in
-    sym (all-miss (edgeAt (a .edges .now)) (l .i) (a .c .edges) p (c .before .before .loop-test .taken) (sym (c .before .curve-fits .ensures) ∙ not-true (c .before .curve-fits .result) (c .if1 .taken))) ∙ l .inv .1
+    let p = curveFits (nodeMap (a .nodes .now) (a .n)) in
+    sym (all-miss (edgeAt (a .edges .now)) (l .i) (a .count) p (c .before .before .loop-test .taken) (sym (c .before .curve-fits .ensures) ∙ not-true (c .before .curve-fits .result) (c .if1 .taken))) ∙ l .inv .1
 
 loop-again : tie.Need-loop-again Inv-loop μ-loop
 loop-again c =
-    let a = c .before .before .before .before .args in
+    let a = c .before .before .before .before .before .args in
     let l = c .before .before .before .loop in
-    let p = curveFits (nodeMap (a .nodes .now) (a .c .nodes)) in
-    (omega arith, sym (all-hit (edgeAt (a .edges .now)) (l .i) (a .c .edges) p (c .before .before .loop-test .taken) (sym (c .before .curve-fits .ensures) ∙ not-false (c .before .curve-fits .result) (c .if1 .left))) ∙ l .inv .1)
+    let p = curveFits (nodeMap (a .nodes .now) (a .n)) in
+    (omega arith, sym (all-hit (edgeAt (a .edges .now)) (l .i) (a .count) p (c .before .before .loop-test .taken) (sym (c .before .curve-fits .ensures) ∙ not-false (c .before .curve-fits .result) (c .if1 .left))) ∙ l .inv .1)
 
 returns-2 : tie.Need-returns-2 Inv-loop μ-loop
 returns-2 c =
-    let a = c .before .before .args in
-    sym (all-end (edgeAt (a .edges .now)) (c .before .loop .i) (a .c .edges) (curveFits (nodeMap (a .nodes .now) (a .c .nodes))) (c .loop-test .left)) ∙ c .before .loop .inv .1
+    let a = c .before .before .before .args in
+    sym (all-end (edgeAt (a .edges .now)) (c .before .loop .i) (a .count) (curveFits (nodeMap (a .nodes .now) (a .n))) (c .loop-test .left)) ∙ c .before .loop .inv .1
 
 pub curves-fit-spec : {M : Type 1} → statement M
 curves-fit-spec = tie.close (tie.spec Inv-loop μ-loop loop-holds curve-fits-requires returns (λ c. omega arith) (λ c. omega arith) loop-again returns-2)

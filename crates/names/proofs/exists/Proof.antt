@@ -13,16 +13,16 @@ use Rattle.names.proofs.exists.Tie as tie
 
 returns : tie.Need-returns
 returns c =
-    let s = c .before .before .before .before in
+    let s = c .before .before .before .before .before in
     let a = s .args in
-    sym (column-at (a .w) (a .t .now) (a .count) (toZ w64 (ofZ w64 (a .number))) _ (sym (c .before .before .before .find-row .ensures) ∙ c .before .found .given .1))
+    sym (column-at (a .w) (a .t .now) (a .count) (toZ w64 (ofZ w64 (a .number))) _ (sym (c .before .before .before .find-indexed .ensures) ∙ c .before .found .given .1))
     ∙ ap (λ (z : ℤ). any (sameZ z) (column (a .w) (a .t .now) (a .count))) (toZ-ofZ (s .fits .number))
 
 returns-2 : tie.Need-returns-2
 returns-2 c =
-    let s = c .before .before .before in
+    let s = c .before .before .before .before in
     let a = s .args in
-    sym (column-missing (a .w) (a .t .now) (a .count) (toZ w64 (ofZ w64 (a .number))) (sym (c .before .before .find-row .ensures) ∙ c .enum-told .given .1))
+    sym (column-missing (a .w) (a .t .now) (a .count) (toZ w64 (ofZ w64 (a .number))) (sym (c .before .before .find-indexed .ensures) ∙ c .enum-told .given .1))
     ∙ ap (λ (z : ℤ). any (sameZ z) (column (a .w) (a .t .now) (a .count))) (toZ-ofZ (s .fits .number))
 
 pub exists-spec : {M : Type 1} → statement M

@@ -1,57 +1,127 @@
--- `names::names_exist` meets its contract. Assumes nothing.
+-- `names::names_exist` meets its contract: four passes tell, and leave the rows that are named. Assumes nothing.
+use borrow.Author.Needs.{needs}
 use borrow.Author.Tests.{not-true, not-false}
-use mathlib.Core.Path.{_≡_, refl, sym, _∙_}
-use mathlib.Core.Bool.{Bool, true, false}
-use mathlib.Core.List.{List}
-use mathlib.Core.Option.{Option, none, some}
-use Prim.Native.Nat.{ℕ}
-use lib.IntN.{ℤ}
-use Rattle.lists.specs.Scans.{all}
-use Rattle.map.specs.declared.Head.{Head}
-use Rattle.map.specs.Rows.{Map}
-use Rattle.map.specs.Form.{inFace, edgeNames, named}
-use Rattle.tables.specs.declared.Counts.{Counts}
-use Rattle.tables.specs.Tables.{nodesOf}
-use Rattle.ranges.specs.Ranges.{mapIn, faceMap}
-use Rattle.ranges.proofs.Columns.{all-same}
+use mathlib.Core.Path.{_≡_, sym, _∙_}
+use mathlib.Core.Bool.{true, false≢true}
+use native.Mathlib.Omega.{arith}
+use lib.Dec.{lit≤}
+use Rattle.tables.proofs.Rows.{node-rows-rising, face-rows-rising}
 use Rattle.ranges.proofs.Parts.{node-rows, edges-in-order, face-rows}
+use Rattle.names.proofs.Rows.{facesPass, sidesPass, endsPass, no-faces, no-sides, no-ends, links-tell}
 use Rattle.names.proofs.names_exist.Statement.{statement}
 use Rattle.names.proofs.names_exist.Tie as tie
 
--- faces are looked up among the faces
-module _ (nodes edges faces : List ℤ) (c : Counts) (h : Head) where
-  in-faces : (o : Option ℕ) → inFace (faceMap faces (c .faces)) o ≡ inFace (mapIn nodes edges faces c h) o
-  in-faces none = refl
-  in-faces (some f) = refl
+-- what the passes that succeed tell
+faces-pass : (c : tie.Else1) → let a = c .before .before .before .before .before .before .before .before .before .args in facesPass (a .nodes .now) (a .edges .now) (a .faces .now) (a .c) ≡ true
+faces-pass c = sym (c .before .nodes-name-faces .ensures) ∙ not-false (c .before .nodes-name-faces .result) (c .if1 .left)
 
-  faces-asked : {r b : Bool} → r ≡ all (λ n. inFace (faceMap faces (c .faces)) (n .face)) (nodesOf nodes (c .nodes)) → r ≡ b → all (λ n. inFace (mapIn nodes edges faces c h) (n .face)) (nodesOf nodes (c .nodes)) ≡ b
-  faces-asked e f =
-      sym (all-same (λ n. inFace (faceMap faces (c .faces)) (n .face)) (λ n. inFace (mapIn nodes edges faces c h) (n .face)) (λ n. in-faces (n .face)) (nodesOf nodes (c .nodes))) ∙ sym e ∙ f
+sides-found : (c : tie.Else2) → c .before .before .before .find-rows .result ≡ true
+sides-found c = not-false (c .before .before .before .find-rows .result) (c .if2 .left)
 
-module _ (m : Map) where
-  no-faces : all (λ n. inFace m (n .face)) (m .nodes) ≡ false → false ≡ named m
-  unfolding named
-  no-faces e = rw e
+sides-pass : (c : tie.Else2) → let a = c .before .before .before .before .before .before .before .before .before .before .before .before .before .before .before .args in sidesPass (a .nodes .now) (a .edges .now) (a .faces .now) (a .c) ≡ true
+sides-pass c = sym (c .before .before .before .find-rows .ensures .0) ∙ sides-found c
 
-  edges-left : {r : Bool} → all (λ n. inFace m (n .face)) (m .nodes) ≡ true → r ≡ all (edgeNames m) (m .edges) → r ≡ named m
-  unfolding named
-  edges-left e f = rw (e, f)
+ends-found : (c : tie.Else3) → c .before .before .before .find-rows2 .result ≡ true
+ends-found c = not-false (c .before .before .before .find-rows2 .result) (c .if3 .left)
+
+ends-pass : (c : tie.Else3) → let a = c .before .before .before .before .before .before .before .before .before .before .before .before .before .before .before .before .before .before .before .before .before .before .before .before .args in endsPass (a .nodes .now) (a .edges .now) (a .faces .now) (a .c) ≡ true
+ends-pass c = sym (c .before .before .before .find-rows2 .ensures .0) ∙ ends-found c
+
+index-rows-requires : tie.Need-index-rows-requires
+index-rows-requires c κs = search needs
 
 nodes-name-faces-requires : tie.Need-nodes-name-faces-requires
-nodes-name-faces-requires c κs = let p = c .pre .1 in (p .in-ranges .counted .nodes-fit, face-rows p)
+nodes-name-faces-requires c κs = let p = c .before .before .before .before .before .before .before .pre .0 .1 in (p .in-ranges .counted .nodes-fit, face-rows p, c .before .before .index-rows .ensures)
 
 returns : tie.Need-returns
-returns c h =
-    let a = c .before .before .args in
-    no-faces (mapIn (a .nodes .now) (a .edges .now) (a .faces .now) (a .c) h) (faces-asked (a .nodes .now) (a .edges .now) (a .faces .now) (a .c) h (c .before .nodes-name-faces .ensures) (not-true (c .before .nodes-name-faces .result) (c .if1 .taken)))
+returns c =
+    let s = c .before .before .before .before .before .before .before .before .before in
+    let f = sym (c .before .nodes-name-faces .ensures) ∙ not-true (c .before .nodes-name-faces .result) (c .if1 .taken) in
+    ((λ h. no-faces (s .pre .0 .1) h f), s .pre .4, s .pre .5, s .pre .6, (λ e. absurd (false≢true e)))
 
-edges-name-rows-requires : tie.Need-edges-name-rows-requires
-edges-name-rows-requires c κs = let p = c .before .before .pre .1 in (node-rows p, edges-in-order p, face-rows p)
+find-rows-requires : tie.Need-find-rows-requires
+find-rows-requires c κs =
+    let s = c .before .before .before .before .before .before .before .before .before .before .before in
+    let p = s .pre .0 .1 in
+    (face-rows-rising (face-rows p), omega (arith, s .pre .3), p .in-ranges .counted .edges-fit, lit≤ tt, c .before .before .before .before .before .before .index-rows .ensures, omega (arith, s .pre .2, s .pre .6))
 
 returns-2 : tie.Need-returns-2
-returns-2 c h =
-    let a = c .before .before .before .args in
-    edges-left (mapIn (a .nodes .now) (a .edges .now) (a .faces .now) (a .c) h) (faces-asked (a .nodes .now) (a .edges .now) (a .faces .now) (a .c) h (c .before .before .nodes-name-faces .ensures) (not-false (c .before .before .nodes-name-faces .result) (c .before .if1 .left))) (c .edges-name-rows .ensures h)
+returns-2 c =
+    let k = c .before .before .before .before .before .before in
+    let s = k .before .before .before .before .before .before .before .before .before in
+    let d = c .before .before .before .find-rows in
+    let f = sym (d .ensures .0) ∙ not-true (d .result) (c .if2 .taken) in
+    ((λ h. no-sides (s .pre .0 .1) h (faces-pass k) f), s .pre .4, s .pre .5, d .ensures .1 ∙ s .pre .6, (λ e. absurd (false≢true e)))
+
+index-rows-requires-2 : tie.Need-index-rows-requires-2
+index-rows-requires-2 c κs = search needs
+
+find-rows-requires-2 : tie.Need-find-rows-requires-2
+find-rows-requires-2 c κs =
+    let s = c .before .before .before .before .before .before .before .before .before .before .before .before .before .before .before .before .before .before .before .before in
+    let p = s .pre .0 .1 in
+    (node-rows-rising (node-rows p), omega (arith, s .pre .1), p .in-ranges .counted .edges-fit, lit≤ tt, c .before .before .before .index-rows2 .ensures, omega (arith, s .pre .2, s .pre .4))
+
+returns-3 : tie.Need-returns-3
+returns-3 c =
+    let m = c .before .before .before .before .before .before .before .before .before in
+    let k = m .before .before .before .before .before .before in
+    let s = k .before .before .before .before .before .before .before .before .before in
+    let d = c .before .before .before .find-rows2 in
+    let f = sym (d .ensures .0) ∙ not-true (d .result) (c .if3 .taken) in
+    ((λ h. no-ends (s .pre .0 .1) h (faces-pass k) (sides-pass m) f), d .ensures .1 ∙ s .pre .4, s .pre .5, m .before .before .before .find-rows .ensures .1 ∙ s .pre .6, (λ e. absurd (false≢true e)))
+
+index-rows-requires-3 : tie.Need-index-rows-requires-3
+index-rows-requires-3 c κs =
+    let k = c .before .before .before .before .before .before .before .before in
+    (lit≤ tt, k .before .before .before .before .before .before .before .before .before .before .before .before .before .before .before .before .before .pre .0 .1 .in-ranges .counted .edges-fit, k .index-rows2 .ensures)
+
+find-nexts-requires : tie.Need-find-nexts-requires
+find-nexts-requires c κs =
+    let s = c .before .before .before .before .before .before .before .before .before .before .before .before .before .before .before .before .before .before .before .before .before .before .before .before .before .before .before .before .before in
+    (edges-in-order (s .pre .0 .1), s .pre .2, c .before .before .before .index-rows3 .ensures, omega (arith, s .pre .2, s .pre .5))
+
+returns-4 : tie.Need-returns-4
+returns-4 c =
+    let l = c .before .before .before .before .before .before .before .before in
+    let m = l .before .before .before .before .before .before .before .before .before in
+    let k = m .before .before .before .before .before .before in
+    let s = k .before .before .before .before .before .before .before .before .before in
+    let d = m .before .before .before .find-rows .ensures in
+    let g = l .before .before .before .find-rows2 .ensures in
+    let n = c .before .before .find-nexts .ensures in (
+      (λ h. links-tell (s .pre .0 .1) h (faces-pass k) (sides-pass m) (ends-pass l) (n .0)),
+      g .1 ∙ s .pre .4,
+      n .1 ∙ s .pre .5,
+      d .1 ∙ s .pre .6,
+      (λ e. (g .2 (ends-found l), n .2 e, d .2 (sides-found m))),
+    )
 
 pub names-exist-spec : {M : Type 1} → statement M
-names-exist-spec = tie.close (tie.spec nodes-name-faces-requires returns edges-name-rows-requires returns-2)
+names-exist-spec =
+    tie.close
+    (tie.spec
+    (λ c. search needs)
+    index-rows-requires
+    (λ c. search needs)
+    nodes-name-faces-requires
+    returns
+    (λ c. search needs)
+    find-rows-requires
+    (λ c. search needs)
+    returns-2
+    (λ c. search needs)
+    index-rows-requires-2
+    (λ c. search needs)
+    find-rows-requires-2
+    (λ c. search needs)
+    (λ c. search needs)
+    returns-3
+    (λ c. search needs)
+    index-rows-requires-3
+    (λ c. search needs)
+    find-nexts-requires
+    (λ c. search needs)
+    (λ c. search needs)
+    (λ c. search needs)
+    returns-4)

@@ -1,19 +1,13 @@
 -- `node_edits::push_node` meets its contract. Assumes nothing.
 use borrow.Author.Needs.{needs}
-use mathlib.Core.Path.{_≡_, _∙_}
+use mathlib.Core.Path.{_∙_}
 use native.Mathlib.Omega.{arith}
-use lib.IntN.{ℤ}
 use mir.Syntax.{w64}
 use mir.Facts.{toZ-ofZ}
-use Rattle.map.specs.declared.Head.{Head}
-use Rattle.answers.specs.declared.Done.{Done}
+use Rattle.answers.proofs.Formed.{done}
 use Rattle.answers.proofs.Words.{count-natural, count-abs, count-fits}
 use Rattle.node_edits.proofs.push_node.Statement.{statement}
 use Rattle.node_edits.proofs.push_node.Tie as tie
-
--- the answer, with head and number as they were passed
-done : {h g : Head} {v u : ℤ} {d : Done} → g ≡ h → u ≡ v → d ≡ record { head = g; answer = record { refusal = 0; value = u } } → d ≡ record { head = h; answer = record { refusal = 0; value = v } }
-done eg eu e = e ∙ (λ i. record { head = eg i; answer = record { refusal = 0; value = eu i } })
 
 returns : tie.Need-returns
 returns c =

@@ -9,8 +9,7 @@ use mir.Syntax.{w64}
 use mir.Facts.{toZ-ofZ}
 use Rattle.map.specs.Tickets.{RemoveIsoNode}
 use Rattle.tables.specs.Tables.{closed}
-use Rattle.tables.proofs.Rows.{node-rows-rising}
-use Rattle.conditions.proofs.Points.{node-row-of}
+use Rattle.tables.proofs.Rows.{node-rows-rising, node-row-of}
 use Rattle.answers.proofs.Formed.{nodes-count, nodes-fit, node-rows, decided-refused, decided-carried, node-none}
 use Rattle.answers.proofs.Words.{count-natural, count-abs, place-told}
 use Rattle.node_edits.specs.Heads.{removed}

@@ -1,5 +1,4 @@
 -- `printing::write_row` meets its contract: the numbers from i on are still to be written. Assumes nothing.
-use borrow.Author.Needs.{sfits-of}
 use mathlib.Core.Path.{_≡_, refl, sym, ap, _∙_}
 use mathlib.Core.List.{List}
 use Prim.Native.Nat.{ℕ, _+_, _*_, _-_, _≤_, _<_}
@@ -9,7 +8,7 @@ use lib.ListN.{length, getD, drop, length-set}
 use lib.Seq.{sets}
 use mir.Syntax.{w64}
 use mir.Val.{ofZ, toZ}
-use mir.Facts.{toZ-ofZ}
+use Rattle.integers.specs.Signs.{sent}
 use Rattle.printing.specs.Texts.{numberText, rowText}
 use Rattle.printing.proofs.Rows.{number-few, row-turn, row-length, row-end}
 use Rattle.printing.proofs.write_row.Statement.{statement}
@@ -30,7 +29,7 @@ loop-again c =
     let row = s .args .row .now in
     let l = c .before .before .before .before .before .before .loop in
     let w = c .before .before .write-number in
-    let read : toZ w64 (ofZ w64 (getD row (l .i) (pos 0))) ≡ getD row (l .i) (pos 0) = toZ-ofZ {w = w64} (sfits-of (c .before .before .before .write-number-arg2 .given)) in
+    let read : toZ w64 (ofZ w64 (getD row (l .i) (pos 0))) ≡ getD row (l .i) (pos 0) = sent (c .before .before .before .write-number-arg2 .given) in
     let z = toZ w64 (ofZ w64 (getD row (l .i) (pos 0))) in
     let within : l .i < length row = omega arith in
     let rest = rowText (drop (l .i + 1) row) in (

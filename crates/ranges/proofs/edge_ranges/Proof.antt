@@ -20,6 +20,12 @@ use Rattle.map.specs.Form.{within, isZero, edgeRanges}
 use Rattle.ranges.proofs.Parts.{within-in}
 use Rattle.ranges.proofs.edge_ranges.Statement.{statement}
 use Rattle.ranges.proofs.edge_ranges.Tie as tie
+use Rattle.ranges.proofs.edge_ranges.Reads as reads
+use Rattle.ranges.proofs.edge_ranges.Lts as lts
+use Rattle.ranges.proofs.edge_naturals.Reads as edge-naturals-reads
+use Rattle.ranges.proofs.natural.Reads as natural-reads
+use Rattle.ranges.proofs.points_ranged.Reads as points-ranged-reads
+use Rattle.ranges.proofs.within.Reads as within-reads
 
 module _ (row : List ℤ) where
   abbrev naturals : Bool
@@ -49,20 +55,36 @@ natural-requires c κs =
     let t = tested row (c .before .before .edge-naturals .ensures) (c .before .within .ensures) (sfits-of (c .before .before .before .z .given)) (not-false (c .before .before .edge-naturals .result && c .before .within .result) (c .if1 .left)) in
     (omega arith, within-in 2 12 (cell row 7) (and-right (naturals row) (within 2 12 (cell row 7)) t) .0)
 
-points-ranged-requires : tie.Need-points-ranged-requires
-points-ranged-requires c κs =
-    let s = c .before .before .before .before .before in
-    let row = s .args .row .now in
-    let t = tested row (c .before .before .before .edge-naturals .ensures) (c .before .before .within .ensures) (sfits-of (c .before .before .before .before .z .given)) (not-false (c .before .before .before .edge-naturals .result && c .before .before .within .result) (c .before .if1 .left)) in
-    let h = within-in 2 12 (cell row 7) (and-right (naturals row) (within 2 12 (cell row 7)) t) .1 in
-    let e = c .natural .ensures in
-    (s .pre, omega arith)
+-- both tests are passed
+both : (n : lts.After-natural (edge-naturals-reads.Asked, edge-naturals-reads.Learnt, within-reads.Asked, within-reads.Learnt, natural-reads.Asked, natural-reads.Learnt, points-ranged-reads.Asked, points-ranged-reads.Learnt) reads.Pre reads.Post) → naturals (n .before .before .before .before .before .args .row .now) && within 2 12 (cell (n .before .before .before .before .before .args .row .now) 7) ≡ true
+both n =
+    let c = n .before in
+    tested (c .before .before .before .before .args .row .now) (c .before .before .edge-naturals .ensures) (c .before .within .ensures) (sfits-of (c .before .before .before .z .given)) (not-false (c .before .before .edge-naturals .result && c .before .within .result) (c .if1 .left))
 
+points-ranged-requires : tie.Need-points-ranged-requires
+points-ranged-requires c κs = (c .before .before .before .before .before .before .pre, omega arith)
+
+-- two points
 returns-2 : tie.Need-returns-2
 returns-2 c =
-    let row = c .before .before .before .before .before .before .args .row .now in
-    let t = tested row (c .before .before .before .before .edge-naturals .ensures) (c .before .before .before .within .ensures) (sfits-of (c .before .before .before .before .before .z .given)) (not-false (c .before .before .before .before .edge-naturals .result && c .before .before .before .within .result) (c .before .before .if1 .left)) in
-    c .points-ranged .ensures ∙ ap (points row) (c .before .natural .ensures) ∙ sym (passed row t)
+    let n = c .before .before in
+    let row = n .before .before .before .before .before .args .row .now in
+    c .points-ranged .ensures ∙ ap (points row) (sym (c .before .if2 .taken) ∙ n .natural .ensures) ∙ sym (passed row (both n))
+
+points-ranged-requires-2 : tie.Need-points-ranged-requires-2
+points-ranged-requires-2 c κs =
+    let n = c .before in
+    let s = n .before .before .before .before .before in
+    let row = s .args .row .now in
+    let h = within-in 2 12 (cell row 7) (and-right (naturals row) (within 2 12 (cell row 7)) (both n)) .1 in
+    let e = n .natural .ensures in
+    (s .pre, omega arith)
+
+returns-3 : tie.Need-returns-3
+returns-3 c =
+    let n = c .before .before in
+    let row = n .before .before .before .before .before .args .row .now in
+    c .points-ranged2 .ensures ∙ ap (points row) (n .natural .ensures) ∙ sym (passed row (both n))
 
 pub edge-ranges-spec : {M : Type 1} → statement M
-edge-ranges-spec = tie.close (tie.spec (λ c. search needs) (λ c κs. search needs) (λ c κs. search needs) returns natural-requires points-ranged-requires returns-2)
+edge-ranges-spec = tie.close (tie.spec (λ c. search needs) (λ c κs. search needs) (λ c κs. search needs) returns natural-requires points-ranged-requires returns-2 points-ranged-requires-2 returns-3)

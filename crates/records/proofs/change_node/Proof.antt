@@ -2,7 +2,7 @@
 -- the borrow is opened, the row is written whole, and the borrow is closed at the list with it.
 -- All that the proof knows of `find_node` is that it meets its contract. Assumes nothing.
 use mathlib.Core.Path.{_≡_, refl, sym, ap, subst}
-use Prim.Native.Nat.{ℕ, _<_, _*_, _^_}
+use Prim.Native.Nat.{ℕ, _<_, _^_}
 use native.Mathlib.Omega.{arith}
 use mathlib.Core.List.{List, [], _∷_}
 use lib.IntN.{ℤ}
@@ -55,7 +55,7 @@ use Rattle.lists.proofs.Found.Laws as S′
 use Rattle.records.specs.declared.Node.{Node}
 use Rattle.records.specs.Records.{nodeRow, changedAt}
 use Rattle.records.proofs.Heads.{relends}
-use Rattle.records.proofs.Finding.{found-below}
+use Rattle.records.proofs.Finding.{place-fits, found-below}
 use Rattle.records.proofs.Shared.{LentShared, lends-shared, comes-back}
 use Rattle.records.proofs.Node as T
 use Rattle.records.proofs.Node.Laws as T′
@@ -101,9 +101,6 @@ G 𝓤 H A mem run = tripleOf 𝓤 H A g.signature (g.spec 𝓤 H A mem run)
 
 abbrev val : Found → Val
 val r = EL.val S.the-type S′.the-laws r
-
-place-fits : {i l : ℕ} → l * 32 < 2 ^ 63 → i < l → i * 32 < 2 ^ 64
-place-fits room within = omega arith
 
 module _ {M : Type 1} (𝓤 : URA M) (H : Heap 𝓤) (A : Atoms 𝓤) (W : Given 𝓤 H A) (mem : Memory → SProp 𝓤) (run : Routine → Fun 𝓤) (κ : Lft) (q : Share) (b o : ℕ) (γ : GName) (ys : List Node) (c : ℕ) (v : Node) (room : Room R (length ys)) (gc : c < 2 ^ 64) (is-v : Is R v (T′.lowered v ∷ [])) where
   abbrev n : ℕ

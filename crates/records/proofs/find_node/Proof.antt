@@ -5,7 +5,7 @@ use mathlib.Core.Path.{_≡_, refl, sym, _∙_, subst}
 use mathlib.Core.Logic.{inl, inr}
 use mathlib.Core.Bool.{Bool, true, false, not, _&&_}
 use mathlib.Core.WellFounded.{WellFounded, InvImage·wf}
-use Prim.Native.Nat.{ℕ, _+_, _-_, _≤_, _<_, _*_, _^_}
+use Prim.Native.Nat.{ℕ, _+_, _-_, _≤_, _<_, _^_}
 use native.Mathlib.Omega.{arith}
 use mathlib.Core.List.{List, [], _∷_}
 use lib.IntN.{ℤ}
@@ -58,8 +58,8 @@ use Rattle.lists.proofs.Found.Laws as S′
 use Rattle.curves.proofs.Runs.{and-left, and-right}
 use Rattle.tables.proofs.Order.{word-is}
 use Rattle.records.specs.declared.Node.{Node}
-use Rattle.records.specs.Records.{noNode, nodeRow}
-use Rattle.records.proofs.Finding.{searched, hits, misses, ended}
+use Rattle.records.specs.Records.{nodeRow}
+use Rattle.records.proofs.Finding.{noNode, place-fits, searched, hits, misses, ended}
 use Rattle.records.proofs.Node as T
 use Rattle.records.proofs.Node.Laws as T′
 use Rattle.records.proofs.find_node.Key.{name as #f}
@@ -67,9 +67,6 @@ use Rattle.records.proofs.find_node as f
 use Rattle.records.proofs.find_node.Statement as stated
 use Rattle.records.proofs.find_node.Code as code
 use Rattle.records.proofs.find_node.Code.Mir as body
-
-place-fits : {i l : ℕ} → l * 32 < 2 ^ 63 → i < l → i * 32 < 2 ^ 64
-place-fits room within = omega arith
 
 -- words that differ are those of two numbers
 differ : (a b : ℤ) → T (not (eqb (ofZ w64 a) (ofZ w64 b))) → a ≡ b → ⊥

@@ -52,9 +52,9 @@ use denote.Exit.{yes}
 use borrow.Author.Tests.{ltb-true, ltb-false}
 use Rattle.lists.proofs.Bools.{which}
 use Rattle.records.specs.declared.Node.{Node}
-use Rattle.records.specs.Records.{noNode, nodeCells, nodeTable}
+use Rattle.records.specs.Records.{nodeCells, nodeTable}
 use Rattle.records.proofs.Heads.{relends}
-use Rattle.records.proofs.Packing.{pack-turn}
+use Rattle.records.proofs.Packing.{noNode, place-fits, pack-turn}
 use Rattle.records.proofs.Again.{LentAgain, lends-again, comes-back}
 use Rattle.records.proofs.Node as T
 use Rattle.records.proofs.Node.Laws as T′
@@ -67,9 +67,6 @@ use Rattle.records.proofs.pack as f
 use Rattle.records.proofs.pack.Statement as stated
 use Rattle.records.proofs.pack.Code as code
 use Rattle.records.proofs.pack.Code.Mir as body
-
-place-fits : {i l : ℕ} → l * 32 < 2 ^ 63 → i < l → i * 32 < 2 ^ 64
-place-fits room within = omega arith
 
 abbrev R : RattleType
 R = T.the-row

@@ -53,9 +53,9 @@ use borrow.Author.Tests.{ltb-true, ltb-false}
 use Rattle.lists.specs.Tables.{table}
 use Rattle.lists.proofs.Bools.{which}
 use Rattle.records.specs.declared.Node.{Node}
-use Rattle.records.specs.Records.{noNode, rowNode}
+use Rattle.records.specs.Records.{rowNode}
 use Rattle.records.proofs.Heads.{vals}
-use Rattle.records.proofs.Packing.{unpack-turn, unpack-end}
+use Rattle.records.proofs.Packing.{noNode, place-fits, unpack-turn, unpack-end}
 use Rattle.records.proofs.Node as T
 use Rattle.records.proofs.Node.Laws as T′
 use Rattle.records.proofs.row_at as g
@@ -67,9 +67,6 @@ use Rattle.records.proofs.unpack as f
 use Rattle.records.proofs.unpack.Statement as stated
 use Rattle.records.proofs.unpack.Code as code
 use Rattle.records.proofs.unpack.Code.Mir as body
-
-place-fits : {i l : ℕ} → l * 32 < 2 ^ 63 → i < l → i * 32 < 2 ^ 64
-place-fits room within = omega arith
 
 abbrev R : RattleType
 R = T.the-row

@@ -3,7 +3,7 @@ use mathlib.Core.Path.{sym, ap₂, _∙_}
 use Prim.Native.Nat.{ℕ}
 use native.Mathlib.Omega.{arith}
 use Rattle.map.specs.Reasons.{firstReason}
-use Rattle.conditions.proofs.Points.{node-row-of}
+use Rattle.tables.proofs.Rows.{node-row-of}
 use Rattle.answers.proofs.Words.{count-natural, count-abs}
 use Rattle.redraws.specs.Change.{turnReasons}
 use Rattle.redraws.proofs.Formed.{counted-held, nodes-held}
@@ -28,7 +28,7 @@ turn-reason-requires c κs =
     let k = counted-held (p .0) in
     let n = c .before .before .count-of .ensures ∙ count-abs (a .h .nodes) (p .0 .nodes-count) (nodes-held (p .0)) in
     let j = c .count-of2 .ensures ∙ count-abs (a .h .edges) (k .count) (omega (arith, k .few)) in
-    (rw n (p .0 .node-table .rows), rw j (p .0 .edge-table .rows), rw j (p .1), sent-run (a .nodes .now) (a .edges .now) (a .h) (a .u) (a .v) (a .c .now) (sym (c .before .before .before .before .before .curve-reason .ensures) ∙ c .before .before .before .before .if1 .left))
+    (rw n (p .0 .node-table .rows), rw j (p .0 .edge-table .rows), omega (arith, j, k .few), rw j (p .1), sent-run (a .nodes .now) (a .edges .now) (a .h) (a .u) (a .v) (a .c .now) (sym (c .before .before .before .before .before .curve-reason .ensures) ∙ c .before .before .before .before .if1 .left))
 
 turns : tie.Need-returns-2
 turns c =

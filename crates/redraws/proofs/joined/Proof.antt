@@ -1,8 +1,8 @@
 -- `redraws::joined` meets its contract: each test in order. Assumes nothing.
 use borrow.Author.Needs.{needs}
 use borrow.Author.Tests.{not-true, not-false}
-use mathlib.Core.Path.{_≡_, sym, ap, _∙_}
-use mathlib.Core.Bool.{Bool, true, false, not, _&&_, _||_}
+use mathlib.Core.Path.{sym, _∙_}
+use mathlib.Core.Bool.{not, _&&_}
 use Rattle.lists.specs.Tests.{same}
 use Rattle.lists.specs.Scans.{isSome}
 use Rattle.lists.proofs.Bools.{same-eq, same-false, or-right}

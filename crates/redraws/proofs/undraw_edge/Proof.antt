@@ -1,12 +1,12 @@
 -- `redraws::undraw_edge` meets its contract: the tests look at the row unlinked and not yet gone. Assumes nothing.
 use borrow.Author.Needs.{needs}
-use mathlib.Core.Path.{_≡_, refl, sym, ap, ap₂, _∙_}
+use mathlib.Core.Path.{ap, ap₂, _∙_}
 use mathlib.Core.List.{List}
 use lib.IntN.{ℤ}
 use mir.Syntax.{w64}
 use mir.Facts.{toZ-ofZ}
-use Rattle.tables.specs.Tables.{closed, EdgeRows}
-use Rattle.linking.proofs.LinkedEdges.{unlinked-edge-kept, unlinked-edge-relinked}
+use Rattle.tables.specs.Tables.{closed}
+use Rattle.linking.proofs.LinkedEdges.{unlinked-edge-kept}
 use Rattle.redraws.specs.Holds.{bareAt}
 use Rattle.redraws.proofs.undraw_edge.Statement.{statement}
 use Rattle.redraws.proofs.undraw_edge.Tie as tie

@@ -14,7 +14,7 @@ use Rattle.map.specs.Rows.{dartCell}
 use Rattle.map.specs.Edits.{withCurve}
 use Rattle.tables.specs.Tables.{edgeAt}
 use Rattle.tables.proofs.Rows.{edge-cells}
-use Rattle.links.proofs.Positions.{dart-back}
+use Rattle.map.proofs.RoundTrip.{dart-cell-back}
 use Rattle.rowing.proofs.Cells.{line-count}
 use Rattle.redraws.proofs.Drawn.{points-few, row-written}
 use Rattle.redraws.proofs.write_curve.Statement.{statement}
@@ -37,8 +37,8 @@ returns c =
     let number = sent (c .before .before .before .before .before .before .before .before .before .before .number .given) ∙ k .number in
     let start = sent (c .before .before .before .before .before .before .before .before .before .start .given) ∙ k .start in
     let end = sent (c .before .before .before .before .before .before .before .before .end .given) ∙ k .end in
-    let next-left = sent (c .before .before .before .before .before .before .before .next-left .given) ∙ sym (dart-back (getD l (i * 32 + 3) (pos 0))) ∙ ap dartCell (k .nextLeft) in
-    let next-right = sent (c .before .before .before .before .before .before .next-right .given) ∙ sym (dart-back (getD l (i * 32 + 4) (pos 0))) ∙ ap dartCell (k .nextRight) in
+    let next-left = sent (c .before .before .before .before .before .before .before .next-left .given) ∙ sym (dart-cell-back (getD l (i * 32 + 3) (pos 0))) ∙ ap dartCell (k .nextLeft) in
+    let next-right = sent (c .before .before .before .before .before .before .next-right .given) ∙ sym (dart-cell-back (getD l (i * 32 + 4) (pos 0))) ∙ ap dartCell (k .nextRight) in
     let left = sent (c .before .before .before .before .before .left .given) ∙ k .left in
     let right = sent (c .before .before .before .before .right .given) ∙ k .right in
     let cells = row-written (c .before .before .whole-of .result) row (c .before .before .whole-of .ensures) number start end next-left next-right left right (points-few (s .pre .1)) in

@@ -1,5 +1,4 @@
 -- `rings::write_ring` meets its contract: k numbers of the ring are written, and c is the next of it. Assumes nothing.
-use borrow.Author.Needs.{sfits-of}
 use mathlib.Core.Path.{_≡_, refl, sym, ap, _∙_}
 use mathlib.Core.List.{map}
 use Prim.Native.Nat.{_+_, _*_, _-_, _/_, _<_, _≤_}
@@ -9,7 +8,7 @@ use lib.ListN.{length, drop, length-set, length-map}
 use lib.Seq.{paste, paste-zero}
 use mir.Syntax.{w64}
 use mir.Val.{toZ, ofZ}
-use mir.Facts.{toZ-ofZ}
+use Rattle.integers.specs.Signs.{sent}
 use Rattle.map.specs.Rows.{dartCell}
 use Rattle.tables.proofs.Cells.{copy-more, copy-end}
 use Rattle.tables.proofs.Rows.{edge-row-of}
@@ -46,7 +45,7 @@ loop-again c =
     let left = w .inv .4 (b .loop-test .taken) in
     let many : length (cells (a .edges .now) (a .count) (a .p)) ≡ length (ringAt (a .edges .now) (a .count) (a .p)) = length-map (ringAt (a .edges .now) (a .count) (a .p)) dartCell in
     let v = toZ w64 (ofZ w64 (c .before .dart-at .result)) in
-    let read = toZ-ofZ {w = w64} {z = c .before .dart-at .result} (sfits-of (c .before .dart-at .ok)) ∙ c .before .dart-at .ensures in (
+    let read = sent {z = c .before .dart-at .result} (c .before .dart-at .ok) ∙ c .before .dart-at .ensures in (
       f .below,
       omega arith,
       length-set (w .list) (a .at + w .k) v ∙ w .inv .2,

@@ -1,16 +1,14 @@
 -- `sharing::number_of` meets its contract. Assumes nothing.
-use borrow.Author.Needs.{sfits-of}
-use mir.Syntax.{w64}
-use mir.Facts.{toZ-ofZ}
+use Rattle.integers.specs.Signs.{sent}
 use Rattle.lists.proofs.Bools.{same-eq, same-false}
 use Rattle.sharing.proofs.number_of.Statement.{statement}
 use Rattle.sharing.proofs.number_of.Tie as tie
 
 returns : tie.Need-returns
-returns c = rw (same-eq (c .before .before .args .mark) 1 (c .before .if1 .taken)) (toZ-ofZ {w = w64} (sfits-of (c .struct-told .given .1 .1 .0 .1)))
+returns c = rw (same-eq (c .before .before .args .mark) 1 (c .before .if1 .taken)) (sent (c .struct-told .given .1 .1 .0 .1))
 
 returns-2 : tie.Need-returns-2
-returns-2 c = rw (same-false (c .before .before .args .mark) 1 (c .before .if1 .left)) (toZ-ofZ {w = w64} (sfits-of (c .struct-told2 .given .1 .1 .1 .0 .1)))
+returns-2 c = rw (same-false (c .before .before .args .mark) 1 (c .before .if1 .left)) (sent (c .struct-told2 .given .1 .1 .1 .0 .1))
 
 pub number-of-spec : {M : Type 1} → statement M
 number-of-spec = tie.close (tie.spec returns returns-2)

@@ -11,7 +11,7 @@ use lib.IntN.{ℤ, pos}
 use lib.ListN.{length, getD}
 use mir.Syntax.{w64}
 use mir.Val.{toZ, ofZ, SFits}
-use mir.Facts.{toZ-ofZ}
+use Rattle.integers.specs.Signs.{sent}
 use Rattle.lists.specs.Tables.{sweep}
 use Rattle.lists.proofs.Scans.{sweep-step, sweep-end}
 use Rattle.tables.proofs.Order.{word-is}
@@ -83,7 +83,7 @@ loop-again c =
     let q = x .2 in
     let side = x .3 in
     x .4
-    ∙ node-hit (a .nodes .now) (a .n) (a .edges .now) (a .count) (a .s) (s .pre) (w .nodes) (w .i) (word-is fits-z fits-old (x .0 .taken)) (w .inv .2) (q .result) (q .ensures .0) (toZ w64 (ofZ w64 (side .result))) (toZ-ofZ {w = w64} {z = side .result} (sfits-of (side .ok)) ∙ side .ensures))
+    ∙ node-hit (a .nodes .now) (a .n) (a .edges .now) (a .count) (a .s) (s .pre) (w .nodes) (w .i) (word-is fits-z fits-old (x .0 .taken)) (w .inv .2) (q .result) (q .ensures .0) (toZ w64 (ofZ w64 (side .result))) (sent {z = side .result} (side .ok) ∙ side .ensures))
     (λ x. x .1 ∙ node-miss (a .nodes .now) (a .n) (a .edges .now) (a .count) (a .s) (s .pre) (w .nodes) (w .i) (λ e. x .0 .left (ap (ofZ w64) e)))
     (c .if1 .came) in (
       omega (arith, t .loop-test .taken),

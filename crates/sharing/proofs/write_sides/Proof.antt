@@ -10,7 +10,7 @@ use lib.IntN.{ℤ}
 use lib.ListN.{length}
 use mir.Syntax.{w64}
 use mir.Val.{toZ, ofZ, SFits}
-use mir.Facts.{toZ-ofZ}
+use Rattle.integers.specs.Signs.{sent}
 use Rattle.lists.specs.Tables.{sweep}
 use Rattle.lists.proofs.Scans.{sweep-step, sweep-end}
 use Rattle.tables.proofs.Order.{word-is}
@@ -66,7 +66,7 @@ loop-again c =
     (λ x.
     let num = x .3 in
     x .6 ∙ x .4 .ensures
-    ∙ side-hit (a .s) (a .marks .now) (w .edges) (w .p) (sym (cell .ensures) ∙ word-is (sfits-of (cell .ok)) fits-old (x .0 .taken)) (toZ w64 (ofZ w64 (num .result))) (toZ-ofZ {w = w64} {z = num .result} (sfits-of (num .ok)) ∙ num .ensures))
+    ∙ side-hit (a .s) (a .marks .now) (w .edges) (w .p) (sym (cell .ensures) ∙ word-is (sfits-of (cell .ok)) fits-old (x .0 .taken)) (toZ w64 (ofZ w64 (num .result))) (sent {z = num .result} (num .ok) ∙ num .ensures))
     (λ x. x .1 ∙ side-miss (a .s) (a .marks .now) (w .edges) (w .p) (λ e. x .0 .left (ap (ofZ w64) (cell .ensures ∙ e))))
     (c .if1 .came) in (
       omega (arith, t .loop-test .taken),

@@ -1,22 +1,13 @@
 -- `splits::cut_row` meets its contract. Assumes nothing.
 use borrow.Author.Needs.{needs}
-use mathlib.Core.Path.{_≡_, refl, sym, ap, ap₂, _∙_}
-use mathlib.Core.List.{List}
-use Prim.Native.Nat.{_+_, _*_, _≤_}
+use mathlib.Core.Path.{_≡_, _∙_}
+use Prim.Native.Nat.{_*_, _≤_}
 use native.Mathlib.Omega.{arith}
-use lib.IntN.{ℤ}
-use lib.ListN.{length}
 use lib.Seq.{paste}
 use mir.Syntax.{w64}
 use mir.Facts.{toZ-ofZ}
-use Rattle.cutting.specs.declared.Line.{Line}
-use Rattle.cutting.specs.Lines.{lineOf}
-use Rattle.curves.specs.Curves.{points}
-use Rattle.curves.specs.Edits.{front, back}
-use Rattle.rowing.specs.declared.Sides.{Sides}
 use Rattle.rowing.specs.Cells.{cellsOf}
 use Rattle.rowing.proofs.Cells.{line-count}
-use Rattle.tables.specs.Tables.{edgeAt}
 use Rattle.splits.specs.Cuts.{renamed, startSides, endSides, placed}
 use Rattle.splits.proofs.Halves.{front-few, back-few}
 use Rattle.splits.proofs.cut_row.Statement.{statement}

@@ -1,14 +1,12 @@
 -- `splits::point_reason` meets its contract: each test answers its reason, in order. Assumes nothing.
 use borrow.Author.Needs.{needs}
 use borrow.Author.Tests.{not-false}
-use mathlib.Core.Path.{_≡_, refl, sym, ap, ap₂, _∙_}
-use mathlib.Core.Bool.{Bool, true, false, not, _&&_}
-use Prim.Native.Nat.{ℕ}
+use mathlib.Core.Path.{_≡_, sym, ap, ap₂, _∙_}
+use mathlib.Core.Bool.{true, false, not, _&&_}
 use native.Mathlib.Omega.{arith}
 use lib.IntN.{ℤ}
 use mir.Syntax.{w64}
 use mir.Facts.{toZ-ofZ}
-use Rattle.plane.specs.declared.Point.{Point}
 use Rattle.curves.specs.Curves.{point, coordinate}
 use Rattle.curves.specs.Tests.{onCurve}
 use Rattle.map.specs.Reasons as reasons

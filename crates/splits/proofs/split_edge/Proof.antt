@@ -6,7 +6,7 @@ use mathlib.Core.List.{[], _∷_}
 use Prim.Native.Nat.{_*_, _<_}
 use native.Mathlib.Omega.{arith}
 use lib.Dec.{lit<}
-use lib.IntN.{ℤ, negsuc, natAbs}
+use lib.IntN.{negsuc, natAbs}
 use lib.Seq.{paste}
 use lib.Signed.{nonNeg}
 use mir.Syntax.{w64}
@@ -15,8 +15,7 @@ use mir.Facts.{toZ-ofZ}
 use Rattle.curves.specs.Curves.{point}
 use Rattle.map.specs.declared.Head.{Head}
 use Rattle.tables.proofs.Rows.{edge-rows-rising, edge-row-of}
-use Rattle.answers.specs.declared.Done.{Done}
-use Rattle.answers.proofs.Formed.{node-rows, edge-rows, nodes-size, edges-size, decided-refused, decided-carried}
+use Rattle.answers.proofs.Formed.{node-rows, edge-rows, nodes-size, edges-size, decided-refused, decided-carried, done}
 use Rattle.answers.proofs.Words.{count-natural, count-abs, count-fits, place-told}
 use Rattle.splits.specs.Kinds.{splitTicket}
 use Rattle.splits.specs.Cuts.{Numbered, cutRow, startNumber, endNumber, splitHead}
@@ -41,10 +40,6 @@ module _ (h : Head) (p : Numbered h) where
 
   node-read : toZ w64 (ofZ w64 (h .«next_node»)) ≡ h .«next_node»
   node-read = toZ-ofZ {w = w64} (count-fits (h .«next_node») (p .next-node) (omega (arith, p .node-given)))
-
--- the answer, with head and number as they were passed
-done : {h g : Head} {v u : ℤ} {d : Done} → g ≡ h → u ≡ v → d ≡ record { head = g; answer = record { refusal = 0; value = u } } → d ≡ record { head = h; answer = record { refusal = 0; value = v } }
-done eg eu e = e ∙ (λ i. record { head = eg i; answer = record { refusal = 0; value = eu i } })
 
 missing : tie.Need-returns
 missing c faces f =

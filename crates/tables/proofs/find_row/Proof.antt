@@ -17,20 +17,20 @@ copy-out-first c =
     omega (arith, row-room (s .args .w) (s .args .count) 0 h, s .pre .fits, s .pre .some)
 
 -- row i lies in the table
-mul-z : tie.Need-mul-z
-mul-z c =
+mul-if2 : tie.Need-mul-if2
+mul-if2 c =
     let s = c .before .before .before .before .before .before in
     let h : c .lesser .result < s .args .count = omega arith in
     omega (arith, row-room (s .args .w) (s .args .count) (c .lesser .result) h, s .pre .fits)
 
-mul-z-2 : tie.Need-mul-z-2
-mul-z-2 c =
+mul-if2-2 : tie.Need-mul-if2-2
+mul-if2-2 c =
     let s = c .before .before .before .before .before .before in
     let h : c .lesser .result < s .args .count = omega arith in
     omega (arith, row-room (s .args .w) (s .args .count) (c .lesser .result) h, s .pre .fits)
 
-copy-out-z : tie.Need-shared-slice-copy-out-z
-copy-out-z c =
+copy-out-if2 : tie.Need-shared-slice-copy-out-if2
+copy-out-if2 c =
     let s = c .before .before .before .before .before .before in
     let h : c .lesser .result < s .args .count = omega arith in
     omega (arith, row-room (s .args .w) (s .args .count) (c .lesser .result) h, s .pre .fits, s .pre .some)
@@ -40,13 +40,13 @@ returns-2 c =
     let l = c .before .before in
     let s = l .before .before .before .before .before .before in
     let h : l .lesser .result < s .args .count = omega arith in
-    row-met (s .pre) (l .lesser .result) h (word-is (sfits-of (c .before .z .given)) (s .fits .number) (c .if2 .taken))
+    row-met (s .pre) (l .lesser .result) h (word-is (sfits-of (c .before .if22 .given)) (s .fits .number) (c .if2 .taken))
+
+search-row-requires : tie.Need-search-row-requires
+search-row-requires c κs = (c .before .before .before .before .before .before .before .before .pre, (λ k h. absurd (omega arith)))
 
 returns-3 : tie.Need-returns-3
-returns-3 c =
-    let looked = c .before .before .before .before .before in
-    let s = looked .before .before .before .before .before .before .before .before in
-    rw (toZ-ofZ (s .fits .number)) at (c .search-row .ensures)
+returns-3 c = rw (toZ-ofZ (c .before .before .before .before .before .before .before .before .before .fits .number)) at (c .search-row .ensures)
 
 pub find-row-spec : {M : Type 1} → statement M
 find-row-spec =
@@ -59,13 +59,9 @@ find-row-spec =
     (λ c κs. tt)
     (λ c. omega arith)
     (λ c κs. tt)
-    mul-z
-    mul-z-2
-    copy-out-z
+    mul-if2
+    mul-if2-2
+    copy-out-if2
     returns-2
-    (λ c κs. tt)
-    (λ c κs. tt)
-    (λ c κs. tt)
-    (λ c κs. tt)
-    (λ c κs. search needs)
+    search-row-requires
     returns-3)

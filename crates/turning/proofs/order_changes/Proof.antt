@@ -32,7 +32,7 @@ start c =
     let s = c .before .before in
     let a = s .args in
     c .turn-changes .ensures
-    ∙ ap (atNode (a .edges .now) (a .count) (a .own) (a .c .now)) (toZ-ofZ {w = w64} (sfits-of (c .before .turn-changes-arg .given)) ∙ start-cell (s .pre .0) (a .own) (s .pre .1))
+    ∙ ap (atNode (a .edges .now) (a .count) (a .own) (a .c .now)) (toZ-ofZ {w = w64} (sfits-of (c .before .turn-changes-arg .given)) ∙ start-cell (s .pre .0) (a .own) (s .pre .2))
 
 returns : tie.Need-returns
 unfolding atNode
@@ -41,7 +41,7 @@ returns c =
     let a = s .args in
     let l = a .edges .now in
     let y = atNode l (a .count) (a .own) (a .c .now) (pos (edge (edgeMap l (a .count)) (edgeAt l (a .own) .number) .end)) in
-    ap (λ (b : Bool). b || y) (sym (c .if1 .taken)) ∙ order-is (s .pre .0) (a .own) (s .pre .1) (a .c .now) (c .before .turn-changes .result) y (start (c .before)) refl
+    ap (λ (b : Bool). b || y) (sym (c .if1 .taken)) ∙ order-is (s .pre .0) (a .own) (s .pre .2) (a .c .now) (c .before .turn-changes .result) y (start (c .before)) refl
 
 returns-2 : tie.Need-returns-2
 unfolding atNode
@@ -50,8 +50,8 @@ returns-2 c =
     let a = s .args in
     let l = a .edges .now in
     let y = c .turn-changes2 .result in
-    let end = c .turn-changes2 .ensures ∙ ap (atNode l (a .count) (a .own) (a .c .now)) (toZ-ofZ {w = w64} (sfits-of (c .before .turn-changes-arg2 .given)) ∙ end-cell (s .pre .0) (a .own) (s .pre .1)) in
-    ap (λ (b : Bool). b || y) (sym (c .before .before .if1 .left)) ∙ order-is (s .pre .0) (a .own) (s .pre .1) (a .c .now) (c .before .before .before .turn-changes .result) y (start (c .before .before .before)) end
+    let end = c .turn-changes2 .ensures ∙ ap (atNode l (a .count) (a .own) (a .c .now)) (toZ-ofZ {w = w64} (sfits-of (c .before .turn-changes-arg2 .given)) ∙ end-cell (s .pre .0) (a .own) (s .pre .2)) in
+    ap (λ (b : Bool). b || y) (sym (c .before .before .if1 .left)) ∙ order-is (s .pre .0) (a .own) (s .pre .2) (a .c .now) (c .before .before .before .turn-changes .result) y (start (c .before .before .before)) end
 
 pub order-changes-spec : {M : Type 1} → statement M
 order-changes-spec =

@@ -1,107 +1,119 @@
--- `turning::turn_changes` meets its contract. Assumes nothing.
-use borrow.Author.Needs.{sfits-of}
-use mathlib.Core.Path.{_≡_, sym, ap, ap₂, _∙_}
-use mathlib.Core.Logic.{⊎-elim}
-use mathlib.Core.Bool.{Bool, false, not, _&&_}
+-- `turning::turn_changes` meets its contract: the departures from the node are listed, and a scan of those is a scan of all. Assumes nothing.
+use mathlib.Core.Path.{_≡_, refl, sym, ap, ap₂, _∙_}
+use mathlib.Core.Bool.{Bool, true, false, not}
 use mathlib.Core.List.{List}
-use Prim.Native.Nat.{ℕ, _*_, _-_, _≤_}
-use native.Mathlib.Nat.{sub-zero}
+use Prim.Native.Nat.{ℕ, _-_, _≤_}
 use native.Mathlib.Omega.{arith}
 use lib.IntN.{ℤ}
+use lib.ListN.{getD, take, drop}
 use mir.Syntax.{w64}
 use mir.Val.{toZ, ofZ}
 use mir.Facts.{toZ-ofZ}
 use Rattle.lists.specs.Tests.{same}
 use Rattle.lists.specs.Scans.{any}
-use Rattle.lists.specs.Tables.{table}
 use Rattle.lists.proofs.Bools.{same-eq, same-false}
-use Rattle.lists.proofs.Scans.{any-hit, any-miss, any-end}
-use Rattle.links.specs.Positions.{sideCell}
-use Rattle.linking.specs.Linking.{positions, leavesNode}
-use Rattle.linking.proofs.Words.{sameWord, cell-test, and-both, and-left-none, and-right-none}
+use Rattle.linking.proofs.ByRows.{known-of}
 use Rattle.turning.specs.Turning.{turnsAt}
+use Rattle.turning.proofs.Listed.{Listing, listed-any, listed-end, listed-below, listed-turn, listed-hit, listed-miss, listed-long, listed-known}
 use Rattle.turning.proofs.turn_changes.Statement.{statement}
 use Rattle.turning.proofs.turn_changes.Tie as tie
-use Rattle.turning.proofs.turn_changes.Reads as reads
-use Rattle.turning.proofs.turn_changes.Lts as lts
-use Rattle.linking.proofs.clockwise.Reads as clockwise-reads
-use Rattle.links.proofs.dart_cell.Reads as dart-cell-reads
 
--- the test of a position
-abbrev changes : List ℤ → ℕ → ℕ → List ℤ → ℤ → ℕ → Bool
-changes l n own c node p = leavesNode l node p && not (same (turnsAt l n n c p) (turnsAt l n own c p))
+-- the turn from p changes
+abbrev changes : List ℤ → ℕ → ℕ → List ℤ → ℕ → Bool
+changes l n own c p = not (same (turnsAt l n n c p) (turnsAt l n own c p))
 
 abbrev Inv-loop : tie.InvT-loop
-Inv-loop edges count own c node p₀ p-end p =
-    (p ≤ count * 2) × (any (changes edges count own c (toZ w64 node)) (table (λ q. q) p (count * 2 - p)) ≡ any (changes edges count own c (toZ w64 node)) (positions count))
+Inv-loop edges count own c node list n k₀ k =
+    (k ≤ n) × (any (changes edges count own c) (drop k (take n list)) ≡ any (changes edges count own c) (take n list))
 
 abbrev μ-loop : tie.MeasureT-loop
-μ-loop edges count own c node p₀ p-end p = p-end - p
+μ-loop edges count own c node list n k₀ k = n - k
 
-mul-p-end : tie.Need-mul-p-end Inv-loop μ-loop
-mul-p-end c = omega (arith, c .pre .0 .fits)
+-- the departures as they are listed
+listing : (c : tie.After-departures-at Inv-loop μ-loop) → (let a = c .before .before .args in Listing (a .edges .now) (a .count) (toZ w64 (ofZ w64 (a .node))) (c .departures-at .last .1 .1 .1 .0) (c .departures-at .result))
+listing c =
+    let e = c .departures-at .ensures in
+    let s = c .before .before in
+    record { room = omega (arith, e .0, e .1, s .pre .1); is = e .2 }
 
 loop-holds : tie.Need-loop-holds Inv-loop μ-loop
-loop-holds c = (omega arith, rw sub-zero)
+loop-holds c = (omega arith, refl)
 
-dart-cell-requires : tie.Need-dart-cell-requires Inv-loop μ-loop
-dart-cell-requires c κs = omega (arith, c .before .before .pre .0 .fits)
+array-read-p : tie.Need-array-read-p Inv-loop μ-loop
+array-read-p c = let d = c .before .before .before in omega (arith, d .departures-at .ensures .0, d .before .before .pre .1)
+
+cast-p : tie.Need-cast-p Inv-loop μ-loop
+cast-p c =
+    let d = c .before .before .before in
+    let b = listed-below (listing d) (c .before .loop .k) (c .loop-test .taken) in
+    omega (arith, b, d .before .before .pre .1)
+
+array-share-prefix-list : tie.Need-array-share-prefix-list Inv-loop μ-loop
+array-share-prefix-list c = listing (c .before .before .before) .room
+
+slice-aggregate-clockwise : tie.Need-slice-aggregate-clockwise Inv-loop μ-loop
+slice-aggregate-clockwise c = sym (listed-long (listing (c .before .before .before .before)))
 
 clockwise-requires : tie.Need-clockwise-requires Inv-loop μ-loop
-clockwise-requires c κs = let s = c .before .before .before .before in (s .pre .0, (λ h. s .pre .1), c .before .before .loop-test .taken)
+clockwise-requires c κs =
+    let d = c .before .before .before .before in
+    let s = d .before .before in
+    let a = s .args in
+    (known-of (s .pre .0) (λ o. s .pre .2) _ (listed-below (listing d) (c .before .before .loop .k) (c .before .loop-test .taken)), listed-known (listing d) (s .pre .0) (a .count) (a .c .now) (s .pre .2))
+
+array-share-prefix-list-2 : tie.Need-array-share-prefix-list-2 Inv-loop μ-loop
+array-share-prefix-list-2 c = listing (c .before .before .before .before .before) .room
+
+slice-aggregate-clockwise-2 : tie.Need-slice-aggregate-clockwise-2 Inv-loop μ-loop
+slice-aggregate-clockwise-2 c = sym (listed-long (listing (c .before .before .before .before .before .before)))
 
 clockwise-requires-2 : tie.Need-clockwise-requires-2 Inv-loop μ-loop
-clockwise-requires-2 c κs = let s = c .before .before .before .before .before in (s .pre .0, (λ h. s .pre .1), c .before .before .before .loop-test .taken)
+clockwise-requires-2 c κs =
+    let b = c .before .before .before .before in
+    let d = b .before .before in
+    let s = d .before .before in
+    let a = s .args in
+    (known-of (s .pre .0) (λ o. s .pre .2) _ (listed-below (listing d) (b .loop .k) (c .before .before .before .loop-test .taken)), listed-known (listing d) (s .pre .0) (a .own) (a .c .now) (s .pre .2))
 
--- a departure from the node
-near : (c : lts.After-dart-cell (dart-cell-reads.Asked, dart-cell-reads.Learnt, clockwise-reads.Asked, clockwise-reads.Learnt) reads.Pre reads.Post Inv-loop μ-loop) → sameWord (c .dart-cell .result) (c .before .before .before .args .node) ≡ leavesNode (c .before .before .before .args .edges .now) (toZ w64 (ofZ w64 (c .before .before .before .args .node))) (c .before .before .loop .p)
-near c =
-    let s = c .before .before .before in
-    let r = c .dart-cell in
-    cell-test (r .result) (s .args .node) (sideCell (s .args .edges .now) (c .before .before .loop .p) 1) (sfits-of (r .ok)) (s .fits .node) (r .ensures)
-
--- whose turn changes
-turns : (c : lts.After-clockwise2 (dart-cell-reads.Asked, dart-cell-reads.Learnt, clockwise-reads.Asked, clockwise-reads.Learnt) reads.Pre reads.Post Inv-loop μ-loop) → same (c .before .clockwise .result) (c .clockwise2 .result) ≡ same (turnsAt (c .before .before .before .before .before .before .args .edges .now) (c .before .before .before .before .before .before .args .count) (c .before .before .before .before .before .before .args .count) (c .before .before .before .before .before .before .args .c .now) (c .before .before .before .before .before .loop .p)) (turnsAt (c .before .before .before .before .before .before .args .edges .now) (c .before .before .before .before .before .before .args .count) (c .before .before .before .before .before .before .args .own) (c .before .before .before .before .before .before .args .c .now) (c .before .before .before .before .before .loop .p))
-turns c = ap₂ same (c .before .clockwise .ensures) (c .clockwise2 .ensures)
+-- both turns from the departure at k
+turns : (c : tie.After-clockwise2 Inv-loop μ-loop) → (let b = c .before .before .before .before .before in let d = b .before .before in let a = d .before .before .args in let p = getD (d .departures-at .last .1 .1 .1 .0) (b .loop .k) 0 in same (c .before .before .clockwise .result) (c .clockwise2 .result) ≡ same (turnsAt (a .edges .now) (a .count) (a .count) (a .c .now) p) (turnsAt (a .edges .now) (a .count) (a .own) (a .c .now) p))
+turns c =
+    let b = c .before .before .before .before .before in
+    let d = b .before .before in
+    let a = d .before .before .args in
+    let t = c .before .before .before .before .loop-test .taken in
+    ap₂ same (c .before .before .clockwise .ensures ∙ listed-turn (listing d) (b .loop .k) t (a .count) (a .c .now)) (c .clockwise2 .ensures ∙ listed-turn (listing d) (b .loop .k) t (a .own) (a .c .now))
 
 returns : tie.Need-returns Inv-loop μ-loop
-unfolding same
 returns c =
-    let t = c .before .before .before in
-    let l = t .before .before .before .loop in
-    let s = t .before .before .before .before in
+    let e = c .before in
+    let b = e .before .before .before .before .before in
+    let d = b .before .before in
+    let s = d .before .before in
     let a = s .args in
-    let other : same (c .before .before .clockwise .result) (c .before .clockwise2 .result) ≡ false = same-false _ _ (c .if2 .taken) in
-    rw (toZ-ofZ {w = w64} (s .fits .node)) at
-    (sym (any-hit (λ q. q) (l .p) (a .count * 2) (changes (a .edges .now) (a .count) (a .own) (a .c .now) (toZ w64 (ofZ w64 (a .node)))) (t .before .before .loop-test .taken)
-    (and-both (sym (near (t .before)) ∙ same-eq (ofZ w64 (t .before .dart-cell .result)) (ofZ w64 (a .node)) (t .if1 .taken)) (ap not (sym (turns (c .before)) ∙ other)))) ∙ l .inv .1)
-
-add-p : tie.Need-add-p Inv-loop μ-loop
-add-p c = omega (arith, c .before .before .before .before .pre .0 .fits)
+    let f = changes (a .edges .now) (a .count) (a .own) (a .c .now) in
+    let hit : f (getD (d .departures-at .last .1 .1 .1 .0) (b .loop .k) 0) ≡ true = ap not (sym (turns e) ∙ same-false (e .before .before .clockwise .result) (e .clockwise2 .result) (c .if1 .taken)) in
+    rw (toZ-ofZ {w = w64} (s .fits .node)) at (sym (listed-hit (listing d) (b .loop .k) (e .before .before .before .before .loop-test .taken) f hit) ∙ b .loop .inv .1 ∙ listed-any (listing d) f)
 
 loop-again : tie.Need-loop-again Inv-loop μ-loop
-unfolding same
 loop-again c =
-    let l = c .before .before .before .loop in
-    let s = c .before .before .before .before in
-    let a = s .args in
-    let f = changes (a .edges .now) (a .count) (a .own) (a .c .now) (toZ w64 (ofZ w64 (a .node))) in
-    let miss : f (l .p) ≡ false =
-    ⊎-elim
-    (λ k.
-    let d : lts.After-clockwise2 (dart-cell-reads.Asked, dart-cell-reads.Learnt, clockwise-reads.Asked, clockwise-reads.Learnt) reads.Pre reads.Post Inv-loop μ-loop = record { before = record { before = record { before = c .before; if1 = k .0 }; clockwise = k .1 }; clockwise2 = k .2 } in
-    and-right-none (leavesNode (a .edges .now) (toZ w64 (ofZ w64 (a .node))) (l .p)) _ (ap not (sym (turns d) ∙ same-eq (k .1 .result) (k .2 .result) (k .3 .left))))
-    (λ k. and-left-none _ (not (same (turnsAt (a .edges .now) (a .count) (a .count) (a .c .now) (l .p)) (turnsAt (a .edges .now) (a .count) (a .own) (a .c .now) (l .p)))) (sym (near (c .before)) ∙ same-false (ofZ w64 (c .before .dart-cell .result)) (ofZ w64 (a .node)) (k .left)))
-    (c .if1 .came) in
-    (omega arith, sym (any-miss (λ q. q) (l .p) (a .count * 2) f (c .before .before .loop-test .taken) miss) ∙ l .inv .1)
+    let e = c .before in
+    let b = e .before .before .before .before .before in
+    let d = b .before .before in
+    let a = d .before .before .args in
+    let f = changes (a .edges .now) (a .count) (a .own) (a .c .now) in
+    let t = e .before .before .before .before .loop-test .taken in
+    let miss : f (getD (d .departures-at .last .1 .1 .1 .0) (b .loop .k) 0) ≡ false = ap not (sym (turns e) ∙ same-eq (e .before .before .clockwise .result) (e .clockwise2 .result) (c .if1 .left)) in
+    (omega arith, sym (listed-miss (listing d) (b .loop .k) t f miss) ∙ b .loop .inv .1)
 
 returns-2 : tie.Need-returns-2 Inv-loop μ-loop
 returns-2 c =
     let l = c .before .loop in
-    let s = c .before .before in
+    let d = c .before .before .before in
+    let s = d .before .before in
     let a = s .args in
-    let f = changes (a .edges .now) (a .count) (a .own) (a .c .now) (toZ w64 (ofZ w64 (a .node))) in
-    rw (toZ-ofZ {w = w64} (s .fits .node)) at (sym (any-end (λ q. q) (l .p) (a .count * 2) f (c .loop-test .left)) ∙ l .inv .1)
+    let f = changes (a .edges .now) (a .count) (a .own) (a .c .now) in
+    rw (toZ-ofZ {w = w64} (s .fits .node)) at (sym (listed-end (listing d) (l .k) (c .loop-test .left) f) ∙ l .inv .1 ∙ listed-any (listing d) f)
 
 pub turn-changes-spec : {M : Type 1} → statement M
 turn-changes-spec =
@@ -109,13 +121,20 @@ turn-changes-spec =
     (tie.spec
     Inv-loop
     μ-loop
-    mul-p-end
+    (λ c. refl)
+    (λ c κs. (c .before .pre .0, c .before .pre .1, omega (arith, c .before .pre .1)))
     loop-holds
-    dart-cell-requires
+    (λ c. omega (arith, array-read-p c))
+    array-read-p
+    cast-p
+    array-share-prefix-list
+    slice-aggregate-clockwise
     clockwise-requires
+    array-share-prefix-list-2
+    slice-aggregate-clockwise-2
     clockwise-requires-2
     returns
-    add-p
+    (λ c. omega arith)
     (λ c. omega arith)
     loop-again
     returns-2)

@@ -1,0 +1,29 @@
+-- One list after another. Assumes nothing.
+use mathlib.Core.Path.{_≡_, refl, _∙_}
+use mathlib.Core.Bool.{Bool, true}
+use mathlib.Core.List.{List, [], _∷_, _++_}
+use Prim.Native.Nat.{ℕ, suc, _+_}
+use native.Mathlib.Nat.{add-zero, add-suc, suc-add}
+use lib.ListN.{length, set}
+use lib.Seq.{sets}
+use Rattle.lists.specs.Scans.{all, fold}
+use Rattle.lists.specs.Members.{All}
+use Rattle.lists.proofs.Bools.{and-true, and-is}
+
+module _ {A : Type 0} where
+  pub fold-append : {S : Type 0} (g : S → A → S) (s : S) (xs ys : List A) → fold g s (xs ++ ys) ≡ fold g (fold g s xs) ys
+  fold-append g s [] ys = refl
+  fold-append g s (x ∷ xs) ys = fold-append g (g s x) xs ys
+
+  pub all-append : (p : A → Bool) (xs ys : List A) → all p xs ≡ true → all p ys ≡ true → all p (xs ++ ys) ≡ true
+  all-append p [] ys h k = k
+  all-append p (x ∷ xs) ys h k = let t = and-true (p x) (all p xs) h in and-is (t .0) (all-append p xs ys (t .1) k)
+
+  pub each-append : (R : A → Type 0) (xs ys : List A) → All R xs → All R ys → All R (xs ++ ys)
+  each-append R [] ys h k = k
+  each-append R (x ∷ xs) ys h k = (h .0, each-append R xs ys (h .1) k)
+
+  -- one run of stores and then another
+  pub sets-append : (xs ys l : List A) (i : ℕ) → sets l i (xs ++ ys) ≡ sets (sets l i xs) (i + length xs) ys
+  sets-append [] ys l i = rw (add-zero i)
+  sets-append (x ∷ xs) ys l i = sets-append xs ys (set l i x) (suc i) ∙ rw (suc-add i (length xs), add-suc i (length xs))

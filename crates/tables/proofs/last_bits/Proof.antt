@@ -1,0 +1,27 @@
+-- `tables::last_bits` meets its contract: what 12 bits hold is less than 4096, and not negative. Assumes nothing.
+use Prim.Native.Nat.{_<_}
+use mathlib.Core.Path.{_≡_}
+use native.Mathlib.Omega.{arith}
+use lib.IntN.{ℤ, pos}
+use lib.Bits.{bitAnd, mask-lt}
+use mir.Syntax.{w64}
+use mir.Val.{toZ, ofZ}
+use mir.Facts.{toZ-pos}
+use Rattle.tables.proofs.last_bits.Statement.{statement}
+use Rattle.tables.proofs.last_bits.Tie as tie
+
+module _ (z : ℤ) where
+  below : bitAnd (ofZ w64 z) 4095 < 4096
+  below = mask-lt (ofZ w64 z) 12
+
+  as-read : toZ w64 (bitAnd (ofZ w64 z) 4095) ≡ pos (bitAnd (ofZ w64 z) 4095)
+  as-read = toZ-pos w64 (omega (arith, below))
+
+cast-result : tie.Need-cast-result
+cast-result c = rw (as-read (c .args .z)) (tt, omega (arith, below (c .args .z)))
+
+returns : tie.Need-returns
+returns c = rw (as-read (c .args .z)) (below (c .args .z))
+
+pub last-bits-spec : {M : Type 1} → statement M
+last-bits-spec = tie.close (tie.spec cast-result returns)
