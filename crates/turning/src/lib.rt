@@ -100,5 +100,8 @@ pub fn joins_at(edges: &[i64], count: usize, j: usize, node: i64) -> bool
     requires { ⌜ EdgeRows (now edges) count × (j < count) ⌝ }
     ensures { λ r. ⌜ ((k : ℕ) → node ≡ pos k → r ≡ joinsAt (edgeMap (now (edges .entry)) count) (edgeAt (now (edges .entry)) j .number) k) ⌝ }
 {
-    ends_at(edges, j, node) & (linking::edge_ends(edges, count, node) == 2)
+    if !ends_at(edges, j, node) {
+        return false;
+    }
+    linking::edge_ends(edges, count, node) == 2
 }

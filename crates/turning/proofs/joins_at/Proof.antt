@@ -1,5 +1,5 @@
 -- `turning::joins_at` meets its contract. Assumes nothing.
-use mathlib.Core.Path.{_≡_, ap, _∙_}
+use mathlib.Core.Path.{_≡_, refl, sym, ap, _∙_}
 use mathlib.Core.Bool.{Bool, _&&_}
 use lib.IntN.{ℤ, pos}
 use mir.Syntax.{w64}
@@ -11,18 +11,32 @@ use Rattle.linking.specs.Linking.{positions, leavesNode}
 use Rattle.turning.specs.Turning.{endsAt}
 use Rattle.turning.proofs.Ends.{joins-is}
 use borrow.Author.Needs.{needs}
+use borrow.Author.Tests.{not-true, not-false}
 use Rattle.turning.proofs.joins_at.Statement.{statement}
 use Rattle.turning.proofs.joins_at.Tie as tie
 
+-- the edge does not end there
 returns : tie.Need-returns
-unfolding same
 returns c k e =
     let s = c .before .before in
     let a = s .args in
     let l = a .edges .now in
     let z : toZ w64 (ofZ w64 (a .node)) ≡ pos k = toZ-ofZ {w = w64} (s .fits .node) ∙ e in
-    ap (λ (b : Bool). b && same (c .edge-ends .result) 2) (c .before .ends-at .ensures ∙ ap (endsAt l (a .j)) z)
+    let n = count (leavesNode l (pos k)) (positions (a .count)) in
+    let f = sym (ap (endsAt l (a .j)) z) ∙ sym (c .before .ends-at .ensures) ∙ not-true (c .before .ends-at .result) (c .if1 .taken) in
+    sym (ap (λ (b : Bool). b && same n 2) f) ∙ joins-is (s .pre .0) (a .j) (s .pre .1) k n refl
+
+returns-2 : tie.Need-returns-2
+unfolding same
+returns-2 c k e =
+    let d = c .before .before in
+    let s = d .before in
+    let a = s .args in
+    let l = a .edges .now in
+    let z : toZ w64 (ofZ w64 (a .node)) ≡ pos k = toZ-ofZ {w = w64} (s .fits .node) ∙ e in
+    let f = sym (ap (endsAt l (a .j)) z) ∙ sym (d .ends-at .ensures) ∙ not-false (d .ends-at .result) (c .before .if1 .left) in
+    sym (ap (λ (b : Bool). b && same (c .edge-ends .result) 2) f)
     ∙ joins-is (s .pre .0) (a .j) (s .pre .1) k (c .edge-ends .result) (c .edge-ends .ensures .0 ∙ ap (λ (z : ℤ). count (leavesNode l z) (positions (a .count))) z)
 
 pub joins-at-spec : {M : Type 1} → statement M
-joins-at-spec = tie.close (tie.spec (λ c κs. search needs) (λ c κs. search needs) returns)
+joins-at-spec = tie.close (tie.spec (λ c κs. search needs) returns (λ c κs. search needs) returns-2)
