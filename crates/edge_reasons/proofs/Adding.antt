@@ -28,7 +28,7 @@ use Rattle.tables.proofs.Lookups.{node-found}
 use Rattle.ranges.specs.Ranges.{lent}
 use Rattle.answers.specs.Outcomes.{Formed}
 use Rattle.answers.proofs.Formed.{ranges, formed-map, nodes-count, edges-count, faces-count, edge-next, face-next, nodes-size, edges-size, faces-size, node-rows, edge-rows, full-is, spent-is, nodes-room, node-left, numbers-rise, node-none}
-use Rattle.conditions.proofs.Reasons.{first-hit, first-miss, first-zero, first-append, first-after}
+use Rattle.map.proofs.Reasons.{first-hit, first-miss, first-zero, first-append, first-after}
 use Rattle.faces.specs.Corners.{cornerCell}
 use Rattle.faces.proofs.Corners.{corner-in-form}
 use Rattle.edge_reasons.specs.declared.Judged.{Judged}

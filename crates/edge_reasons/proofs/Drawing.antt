@@ -20,7 +20,7 @@ use Rattle.tables.specs.Tables.{sameZ, column, nodeAt, nodesOf, nodeMap, edgeMa
 use Rattle.tables.proofs.Rows.{node-cells, node-rows-rising, node-row-of}
 use Rattle.tables.proofs.Lookups.{node-found, row-place}
 use Rattle.conditions.specs.Sent.{sentReasons, edgesBut}
-use Rattle.conditions.proofs.Reasons.{first-hit, first-miss, first-zero, first-append, first-after}
+use Rattle.map.proofs.Reasons.{first-hit, first-miss, first-zero, first-append, first-after}
 use Rattle.conditions.proofs.Maps.{meeting-alike, sent-is}
 use Rattle.conditions.proofs.Others.{edges-all}
 use Rattle.turning.specs.Turning.{Own}

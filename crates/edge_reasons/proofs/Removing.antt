@@ -20,7 +20,7 @@ use Rattle.tables.proofs.Lookups.{edge-found, edge-missing}
 use Rattle.ranges.specs.Ranges.{lent}
 use Rattle.answers.specs.Outcomes.{Formed}
 use Rattle.answers.proofs.Formed.{ranges, spent-is, node-left, edge-left, face-left}
-use Rattle.conditions.proofs.Reasons.{first-hit, first-miss, first-none}
+use Rattle.map.proofs.Reasons.{first-hit, first-miss, first-none}
 use Rattle.map.proofs.Laws.{edge-is}
 use Rattle.edge_reasons.specs.declared.Removal.{Removal}
 use Rattle.edge_reasons.specs.Kinds.{removeTicket}

@@ -3,21 +3,19 @@ use mathlib.Core.Path.{_≡_, sym, ap, _∙_, subst}
 use mathlib.Core.Bool.{Bool, true, false, _||_}
 use mathlib.Core.List.{List, map}
 use mathlib.Core.Option.{Option, none, some}
-use Prim.Native.Nat.{ℕ, _≤_}
+use Prim.Native.Nat.{ℕ}
 use native.Mathlib.Omega.{arith}
 use lib.Dec.{ltb}
 use lib.IntN.{ℤ, pos}
 use lib.ListN.{length}
-use Rattle.map.specs.Limits.{faceWidth, maxFaces}
 use Rattle.map.specs.Rows.{Lent, mapOf, sizesOf, whole}
 use Rattle.map.specs.Form.{inForm}
 use Rattle.map.specs.Tickets.{Ticket, read}
 use Rattle.map.specs.Reasons.{firstReason}
 use Rattle.map.specs.Ticket.{refused, judged, ticket, emptied}
 use Rattle.map.specs.Grow.{Grown, after, grow}
-use Rattle.map.proofs.RoundTrip.{whole-rows, whole-tables}
 use Rattle.grown.specs.Claims.{GrownMap}
-use Rattle.grown.proofs.Grows.{grows}
+use Rattle.grown.proofs.Grows.{grows, whole-limited}
 use Rattle.engine.specs.Runs.{ticketsOf, Ran, front, ranUnless, ran, Runs}
 
 -- ---- one ticket: 1 and 2 answer whatever the numbers read as
@@ -42,10 +40,6 @@ module _ (l : Lent) where
   ticket-2 t w e = judged-2 w e (read t)
 
 -- ---- a list of tickets
-
--- a table of faces that is whole has a row
-some-face : (l : Lent) → whole l ≡ true → 1 ≤ sizesOf l .faces
-some-face l w = whole-rows faceWidth 1 maxFaces (l .faces) (whole-tables l w .2) .least
 
 -- from the empty map on
 grow-is : (l : Lent) (ts : List (List ℤ)) → whole l ≡ true → grow (sizesOf l) ts ≡ after (emptied l .lent) ts
@@ -87,5 +81,5 @@ module _ (l : Lent) (numbers : List ℤ) (lengths refusals : List ℕ) (values :
         let is : g ≡ grow (sizesOf l) (ticketsOf numbers lengths) = d ∙ sym (grow-is l (ticketsOf numbers lengths) w) in
         record {
           gives = (λ i. record { lent = k .0 i; refusals = k .1 i; values = k .2 i; answer = record { refusal = 0; value = pos 0 } }) ∙ ap (λ (x : Grown). ranUnless l refusals values x 0) is ∙ sym (ran-0 e);
-          grown = λ z. subst GrownMap (sym (k .0 ∙ ap (λ (x : Grown). x .lent) is)) (grows (sizesOf l) (some-face l w) (ticketsOf numbers lengths));
+          grown = λ z. subst GrownMap (sym (k .0 ∙ ap (λ (x : Grown). x .lent) is)) (grows (sizesOf l) (whole-limited l w .some-face) (ticketsOf numbers lengths));
         }

@@ -7,7 +7,7 @@ use mathlib.Core.Logic.{_⊎_, inl, inr, _≢_}
 use Prim.Native.Nat.{ℕ, _≤_}
 use lib.ListN.{length}
 use Rattle.lists.proofs.Bools.{same-false}
-use Rattle.lists.proofs.Keeps.{keep-swap}
+use Rattle.lists.proofs.Keeps.{keep-swap, keep-append}
 use Rattle.curves.specs.Curves.{Curve, points, maxPoints}
 use Rattle.curves.specs.Edits as edits
 use Rattle.curves.specs.Edits.{joined}
@@ -17,7 +17,6 @@ use Rattle.map.specs.Darts.{directed, leaves}
 use Rattle.map.specs.Edits.{heal, joint, parts, healedCurve}
 use Rattle.grown.specs.Good.{Surveyed, Good}
 use Rattle.grown.proofs.Readings.{without, edge-row, edge-at, row-has, dart-has, has-dart, leaves-row, course-row}
-use Rattle.grown.proofs.RowChanges.{keep-append}
 use Rattle.grown.proofs.Reasons.{Heal}
 use Rattle.grown.proofs.Joint.{Seamed, seamed}
 use Rattle.grown.proofs.CurvesLists.{Found, found}

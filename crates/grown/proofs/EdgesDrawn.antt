@@ -8,7 +8,7 @@ use Rattle.lists.specs.Tests.{same}
 use Rattle.lists.specs.Scans.{keep}
 use Rattle.lists.proofs.Bools.{same-refl, same-false, not-true}
 use Rattle.lists.proofs.Members.{each-cons, some?}
-use Rattle.lists.proofs.Keeps.{keep-in, keep-has, keep-swap, keep-all}
+use Rattle.lists.proofs.Keeps.{keep-in, keep-has, keep-swap, keep-all, keep-append}
 use Rattle.plane.specs.Directions.{Way}
 use Rattle.curves.specs.Curves.{Curve, startWay}
 use Rattle.curves.specs.Edits as edits
@@ -27,7 +27,7 @@ use Rattle.map.specs.Rows.{Edge, Map, edge, hasEdge, setEdges, given}
 use Rattle.map.specs.Darts.{arcs, directed, leaves, next, bears, course, way, departures}
 use Rattle.map.specs.Links.{redirect, linkIn, linkEdge}
 use Rattle.grown.proofs.Readings.{Relinked, relinked-join, redirect-relinked, redirect-next, lead-relinked, lead-next, arcOf, numberOf, missing, nums-rows, number-has, departs, departing, tailIn, nextIn, faceIn, courseIn, leaves-row, next-row, bears-row, course-row, way-row, dart-has}
-use Rattle.grown.proofs.RowChanges.{more-old, more-new, more-directed, keep-append}
+use Rattle.grown.proofs.RowChanges.{more-old, more-new, more-directed}
 use Rattle.grown.proofs.EdgesLaw.{from-alike, differ-part, from-in, from-has}
 
 -- ---- a departure linked in

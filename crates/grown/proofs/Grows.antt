@@ -8,6 +8,7 @@ use Prim.Native.Nat.{ℕ, zero, suc, _≤_}
 use native.Mathlib.Omega.{arith}
 use lib.IntN.{ℤ}
 use Rattle.planar.specs.Map.{Dart}
+use Rattle.map.specs.Limits.{maxNodes, maxEdges, maxFaces, nodeWidth, edgeWidth, faceWidth}
 use Rattle.map.specs.Rows.{Map, Lent, Sizes, emptyMap, mapOf, lentOf, sizesOf, whole}
 use Rattle.map.specs.Darts.{directed, bears}
 use Rattle.map.specs.Form.{inForm}
@@ -17,8 +18,9 @@ use Rattle.map.specs.Reasons.{firstReason, reasons}
 use Rattle.map.specs.Ticket.{carried, lentReasons, unless, judged, ticket}
 use Rattle.map.specs.Grow.{after, grow}
 use Rattle.map.specs.Sound.{Sound}
+use Rattle.map.proofs.RoundTrip.{whole-rows, whole-tables}
 use Rattle.grown.specs.Good.{Good, Fits}
-use Rattle.grown.specs.Claims.{GrownMap, Grows, NeverLent}
+use Rattle.grown.specs.Claims.{GrownMap, Grows, Limited, NeverLent}
 use Rattle.grown.proofs.Reasons.{no-reason}
 use Rattle.grown.proofs.EdgesReached.{Reached}
 use Rattle.grown.proofs.LawfulForm.{law-is}
@@ -42,7 +44,7 @@ module _ (s : Sizes) (m : Map) (g : Good m) (r : Reached m) (f : Fits s m) where
   here = record { map = m; good = g; reached = r; fits = f; lent = refl }
 
   -- what nothing turns down in the tables nothing turns down in the map
-  free : (t : Ticket) → firstReason (lentReasons (lentOf s m) ++ reasons (sizesOf (lentOf s m)) (mapOf (lentOf s m)) t) ≡ 0 → firstReason (reasons s m t) ≡ 0
+  pub free : (t : Ticket) → firstReason (lentReasons (lentOf s m) ++ reasons (sizesOf (lentOf s m)) (mapOf (lentOf s m)) t) ≡ 0 → firstReason (reasons s m t) ≡ 0
   free t h =
       let l = lentOf s m in
       let h₁ = no-reason 0 (not (whole l)) _ h in
@@ -74,9 +76,21 @@ unfolding after
 steps s l [] x = x
 steps s l (t ∷ ts) x = steps s (ticket l t .lent) ts (step s l t x)
 
-grown-state : (s : Sizes) → 1 ≤ s .faces → (ts : List (List ℤ)) → State s (grow s ts .lent)
+pub grown-state : (s : Sizes) → 1 ≤ s .faces → (ts : List (List ℤ)) → State s (grow s ts .lent)
 unfolding grow
 grown-state s h ts = steps s (lentOf s emptyMap) ts (here s emptyMap empty-good empty-reached (record { nodes = omega arith; edges = omega arith; faces = h }))
+
+-- whole tables are within the limits
+pub whole-limited : (l : Lent) → whole l ≡ true → Limited (sizesOf l)
+whole-limited l h =
+    let w = whole-tables l h in
+    let f = whole-rows faceWidth 1 maxFaces (l .faces) (w .2) in
+    record {
+      some-face = f .least;
+      nodes = whole-rows nodeWidth 0 maxNodes (l .nodes) (w .0) .most;
+      edges = whole-rows edgeWidth 0 maxEdges (l .edges) (w .1) .most;
+      faces = f .most;
+    }
 
 -- ---- the theorem
 

@@ -1,14 +1,14 @@
 -- The rows of a heal: the new names of departures and the healed row. The arc of a row by one of its directed edges. Assumes nothing.
-use mathlib.Core.Path.{_≡_, refl, sym, ap₂, _∙_}
+use mathlib.Core.Path.{_≡_, refl, sym, ap, ap₂, _∙_}
 use mathlib.Core.Bool.{Bool, true, false, not, cond}
-use mathlib.Core.List.{List·Memᴰ}
+use mathlib.Core.List.{map, map-map, List·Memᴰ}
 use Prim.Native.Nat.{ℕ}
 use Rattle.curves.specs.Edits.{joined}
 use Rattle.planar.specs.Map.{Dart, fwd, bwd, rev}
-use Rattle.map.specs.Rows.{Edge, Map, edge}
+use Rattle.map.specs.Rows.{Edge, Map, edge, hasEdge}
 use Rattle.map.specs.Darts.{directed, leaves, next, course}
-use Rattle.map.specs.Links.{withLinks, instead}
-use Rattle.grown.proofs.Readings.{arcOf, tailIn, leaves-row, edge-row, dart-has}
+use Rattle.map.specs.Links.{withLinks, instead, redirect}
+use Rattle.grown.proofs.Readings.{arcOf, tailIn, leaves-row, edge-row, dart-has, redirect-next, redirect-relinked}
 use Rattle.grown.proofs.Renumber.{runs}
 
 -- the new names of departures
@@ -18,6 +18,20 @@ wholeNames h c d z = instead (rev d) (bwd h) (instead c (fwd h) z)
 -- the row with the new names
 abbrev pub relinked : ℕ → Dart → Dart → Edge → Edge
 relinked h c d r = withLinks (wholeNames h c d (r .nextLeft)) (wholeNames h c d (r .nextRight)) r
+
+-- the joined departures c and d renamed in all rows
+module _ (m : Map) (h : ℕ) (c d : Dart) where
+  abbrev pub rejoined : Map
+  rejoined = redirect (rev d) (bwd h) (redirect c (fwd h) m)
+
+  pub rejoined-edges : rejoined .edges ≡ map (relinked h c d) (m .edges)
+  unfolding redirect
+  rejoined-edges = map-map _ _ (m .edges)
+
+  pub rejoined-next : (z : Dart) → hasEdge m (z .edge) ≡ true → next rejoined z ≡ wholeNames h c d (next m z)
+  rejoined-next z k =
+      redirect-next (rev d) (bwd h) (redirect c (fwd h) m) z (redirect-relinked c (fwd h) m .has (z .edge) ∙ k)
+      ∙ ap (λ x. instead (rev d) (bwd h) x) (redirect-next c (fwd h) m z k)
 
 -- the healed row
 abbrev pub healedRow : Map → ℕ → ℕ → Dart → Dart → Edge

@@ -14,18 +14,16 @@ use Rattle.lists.proofs.Perms.{perm-distinct}
 use Rattle.curves.specs.Edits.{joined}
 use Rattle.planar.specs.Map.{Arc, Dart, fwd, bwd, rev}
 use Rattle.planar.specs.Pieces.{nums}
-use Rattle.planar.proofs.Rings.{rev-in}
 use Rattle.planar.proofs.Hooks.{fwd≢bwd}
 use Rattle.map.specs.Rows.{Edge, Map, edge, hasEdge, setEdges, atEdge, withoutEdge}
-use Rattle.map.specs.Darts.{arcs, directed, leaves, next, course}
-use Rattle.map.specs.Links.{instead, redirect}
+use Rattle.map.specs.Darts.{leaves, next, course}
 use Rattle.map.specs.Edits.{joint, parts, healedCurve, heal}
-use Rattle.grown.proofs.Readings.{arcOf, numberOf, nums-rows, edge-row, dart-has, redirect-next, redirect-relinked}
+use Rattle.grown.proofs.Readings.{arcOf, numberOf, nums-rows, edge-row, dart-has}
 use Rattle.grown.proofs.RowChanges.{less-has, less-edge}
 use Rattle.grown.proofs.Reasons.{Heal}
 use Rattle.grown.proofs.Joint.{Seamed, seamed}
 use Rattle.grown.proofs.SplitsRows.{one-last, rest-other, rows-m, replaced, left-out}
-use Rattle.grown.proofs.HealsRows.{wholeNames, relinked, healedRow}
+use Rattle.grown.proofs.HealsRows.{relinked, rejoined, rejoined-edges, rejoined-next, healedRow}
 use Rattle.grown.proofs.LawfulForm.{Obeys, Lawful}
 use Rattle.grown.proofs.LawfulWhole.{Healed, whole-obeys}
 
@@ -101,24 +99,13 @@ module _ (m : Map) (L : Lawful m) (e f : ℕ) (q : Heal m e f) where
       omega arith
 
   module _ (h : ℕ) where
-    renamed-map : Map
-    renamed-map = redirect (rev d) (bwd h) (redirect c (fwd h) m)
-
-    renamed-edges : renamed-map .edges ≡ map (relinked h c d) (m .edges)
-    unfolding renamed-map redirect
-    renamed-edges = map-map _ _ (m .edges)
-
-    renamed-next : (z : Dart) → List·Memᴰ z (directed m) → next renamed-map z ≡ wholeNames h c d (next m z)
-    unfolding renamed-map
-    renamed-next z k = redirect-next (rev d) (bwd h) (redirect c (fwd h) m) z (redirect-relinked c (fwd h) m .has (z .edge) ∙ dart-has m k) ∙ ap (λ x. instead (rev d) (bwd h) x) (redirect-next c (fwd h) m z (dart-has m k))
-
     healed : Edge
     healed = record {
       number = h;
       start = leaves m c;
       end = leaves m (rev d);
-      nextLeft = next renamed-map d;
-      nextRight = next renamed-map (rev c);
+      nextLeft = next (rejoined m h c d) d;
+      nextRight = next (rejoined m h c d) (rev c);
       left = edge m e .left;
       right = edge m e .right;
       curve = healedCurve m e f;
@@ -130,22 +117,22 @@ module _ (m : Map) (L : Lawful m) (e f : ℕ) (q : Heal m e f) where
       number = h;
       start = leaves m c;
       end = leaves m (rev d);
-      nextLeft = renamed-next d (seam .second-in) i;
-      nextRight = renamed-next (rev c) (rev-in (arcs m) (seam .first-in)) i;
+      nextLeft = rejoined-next m h c d d (dart-has m (seam .second-in)) i;
+      nextRight = rejoined-next m h c d (rev c) (dart-has m (seam .first-in)) i;
       left = edge m e .left;
       right = edge m e .right;
       curve = joined (course m c) (course m d);
     }
 
     -- the healed row last
-    new-rows : List·Permᴰ (withoutEdge e (withoutEdge f (renamed-map .edges)) ++ healed ∷ []) (healedRow m e h c d ∷ map (relinked h c d) rest)
+    new-rows : List·Permᴰ (withoutEdge e (withoutEdge f (rejoined m h c d .edges)) ++ healed ∷ []) (healedRow m e h c d ∷ map (relinked h c d) rest)
     new-rows = subst (λ (l : List Edge). List·Permᴰ (l ++ healed ∷ []) (healedRow m e h c d ∷ map (relinked h c d) rest)) (sym others) (subst (λ (x : Edge). List·Permᴰ (map (relinked h c d) rest ++ x ∷ []) (healedRow m e h c d ∷ map (relinked h c d) rest)) (sym healed-is) (one-last (map (relinked h c d) rest) (healedRow m e h c d)))
       where
-        others : withoutEdge e (withoutEdge f (renamed-map .edges)) ≡ map (relinked h c d) rest
-        others = ap (λ l. withoutEdge e (withoutEdge f l)) renamed-edges ∙ ap (withoutEdge e) (left-out m f (relinked h c d) (λ r. refl) once-m (q .has-other)) ∙ left-out less e (relinked h c d) (λ r. refl) once-less has-less
+        others : withoutEdge e (withoutEdge f (rejoined m h c d .edges)) ≡ map (relinked h c d) rest
+        others = ap (λ l. withoutEdge e (withoutEdge f l)) (rejoined-edges m h c d) ∙ ap (withoutEdge e) (left-out m f (relinked h c d) (λ r. refl) once-m (q .has-other)) ∙ left-out less e (relinked h c d) (λ r. refl) once-less has-less
 
     -- or in the place of e, whose number it has
-    kept-rows : h ≡ e → List·Permᴰ (withoutEdge f (map (λ r. cond (same (r .number) e) healed r) (renamed-map .edges))) (healedRow m e h c d ∷ map (relinked h c d) rest)
+    kept-rows : h ≡ e → List·Permᴰ (withoutEdge f (map (λ r. cond (same (r .number) e) healed r) (rejoined m h c d .edges))) (healedRow m e h c d ∷ map (relinked h c d) rest)
     unfolding healed
     kept-rows he = subst (λ (l : List Edge). List·Permᴰ l (healedRow m e h c d ∷ map (relinked h c d) rest)) (sym others) (subst (λ (x : Edge). List·Permᴰ (map put (map (relinked h c d) (withoutEdge f (m .edges)))) (x ∷ map (relinked h c d) rest)) healed-is (replaced less e (relinked h c d) (λ r. refl) once-less has-less healed))
       where
@@ -159,13 +146,13 @@ module _ (m : Map) (L : Lawful m) (e f : ℕ) (q : Heal m e f) where
             go true p = he ∙ sym (same-true (r .number) e p)
             go false p = refl
 
-        others : withoutEdge f (map put (renamed-map .edges)) ≡ map put (map (relinked h c d) (withoutEdge f (m .edges)))
-        others = ap (λ l. withoutEdge f (map put l)) renamed-edges
+        others : withoutEdge f (map put (rejoined m h c d .edges)) ≡ map put (map (relinked h c d) (withoutEdge f (m .edges)))
+        others = ap (λ l. withoutEdge f (map put l)) (rejoined-edges m h c d)
             ∙ keep-map put (λ r. not (same (r .number) f)) (λ r. not (same (r .number) f)) (map (relinked h c d) (m .edges)) (λ r k. ap (λ (x : ℕ). not (same x f)) (put-number r))
             ∙ ap (map put) (left-out m f (relinked h c d) (λ r. refl) once-m (q .has-other))
 
   pub new-healed : Healed m (heal false e f m) e (m .nextEdge) c d rest
-  unfolding heal healed renamed-map
+  unfolding heal healed
   new-healed = record { rows = new-rows (m .nextEdge); old-rows = old-rows; own = own-part m e f; named = named; new-h = new-next }
     where
       named : fwd (m .nextEdge) ≢ rev d
@@ -175,7 +162,7 @@ module _ (m : Map) (L : Lawful m) (e f : ℕ) (q : Heal m e f) where
           omega arith
 
   pub kept-healed : Healed m (heal true e f m) e e c d rest
-  unfolding heal atEdge healed renamed-map
+  unfolding heal atEdge healed
   kept-healed = record { rows = kept-rows e refl; old-rows = old-rows; own = own-part m e f; named = named; new-h = new-e }
     where
       named : fwd e ≢ rev d

@@ -23,16 +23,15 @@ use Rattle.rotation.proofs.Order.{sameWay-refl}
 use Rattle.geometry.proofs.Meeting.{samePoint-refl}
 use Rattle.map.specs.Rows.{Edge, Map, node, edge, hasEdge, atEdge, withoutEdge}
 use Rattle.map.specs.Darts.{arcs, directed, leaves, next, bears, way}
-use Rattle.map.specs.Links.{redirect}
 use Rattle.map.specs.Edits.{startHalf, endHalf, split}
 use Rattle.map.specs.Reasons.{nodeAt}
 use Rattle.grown.proofs.Scanning.{none-has}
-use Rattle.grown.proofs.Readings.{nextIn, leaves-row, next-row, bears-row, course-row, way-row, has-number, arcOf, numberOf, nums-rows, edge-row, mapped-edge}
+use Rattle.grown.proofs.Readings.{nextIn, leaves-row, next-row, bears-row, course-row, way-row, has-number, arcOf, numberOf, nums-rows, edge-row}
 use Rattle.grown.proofs.RowChanges.{nodeNumber, node-row}
 use Rattle.grown.proofs.RowDarts.{dart-move, dart-row, leaves-of, next-of, bears-of, way-of}
 use Rattle.grown.proofs.Halved.{Halved, departs, arrives, whole, each-whole, f-fwd, f-bwd, f-old, g-fwd, g-bwd, g-old}
 use Rattle.grown.proofs.HalvedLaw.{split-lawful}
-use Rattle.grown.proofs.SplitsRows.{halfNames, relinked, names-are, one-last, rest-other, rows-m, replaced, left-out}
+use Rattle.grown.proofs.SplitsRows.{halfNames, relinked, names-are, parted, parted-edges, parted-row, one-last, rest-other, rows-m, replaced, left-out}
 use Rattle.grown.proofs.LawfulForm.{Obeys, Lawful}
 use Rattle.grown.proofs.LawfulCurves.{reverse-way, front-way, back-some, back-way}
 
@@ -95,26 +94,26 @@ module _ (m m′ : Map) (e n a b : ℕ) (p : Point) (L : Lawful m) (h : InHalves
   once : Distinct (a ∷ b ∷ nums r)
   once = (λ k. elim (List·Memᴰ·cases-cons k) [ inl q ↦ h .differ q | inr j ↦ h .new-a j ], (h .new-b, old-once .1))
 
-  once-m′ : Distinct (nums (arcs m′))
+  pub once-m′ : Distinct (nums (arcs m′))
   once-m′ = perm-distinct (Permᴰ·map (λ (x : Arc). x .num) (Permᴰ·symm arcs-m′)) once
 
   in-rest : {q : Edge} → List·Memᴰ q (withoutEdge e (m .edges)) → List·Memᴰ q (m .edges)
   in-rest k = perm-in (Permᴰ·symm rows-old) (List·Memᴰ·tail k)
 
-  in-first : List·Memᴰ first (m′ .edges)
+  pub in-first : List·Memᴰ first (m′ .edges)
   in-first = perm-in (Permᴰ·symm (h .rows)) (List·Memᴰ·head refl)
 
-  in-second : List·Memᴰ second (m′ .edges)
+  pub in-second : List·Memᴰ second (m′ .edges)
   in-second = perm-in (Permᴰ·symm (h .rows)) (List·Memᴰ·tail (List·Memᴰ·head refl))
 
   in-other : {q : Edge} → List·Memᴰ q (withoutEdge e (m .edges)) → List·Memᴰ (relinked e a b q) (m′ .edges)
   in-other k = perm-in (Permᴰ·symm (h .rows)) (List·Memᴰ·tail (List·Memᴰ·tail (Memᴰ·map (relinked e a b) k)))
 
   -- the point is no end of the curve
-  starts-off : edge m e .curve .first ≢ p
+  pub starts-off : edge m e .curve .first ≢ p
   starts-off q = off-nodes m p (h .free) s (L .within .starts (arcOf (edge m e)) (Memᴰ·map arcOf row)) (sym (L .anchored (edge m e) row .start) ∙ q)
 
-  ends-off : lastPoint (edge m e .curve) ≢ p
+  pub ends-off : lastPoint (edge m e .curve) ≢ p
   ends-off q = off-nodes m p (h .free) t (L .within .ends (arcOf (edge m e)) (Memᴰ·map arcOf row)) (sym (L .anchored (edge m e) row .end) ∙ q)
 
   abbrev by : (P : Dart → Type 0) → P (fwd e) → P (bwd e) → ((z : Dart) → List·Memᴰ z (darts r) → P z) → (z : Dart) → List·Memᴰ z (whole e s t r) → P z
@@ -204,16 +203,6 @@ module _ (m : Map) (e : ℕ) (p : Point) (L : Lawful m) (has : hasEdge m e ≡ t
   node-new k = let h = L .nodes-below (m .nextNode) k in omega arith
 
   module _ (a b : ℕ) where
-    renamed-map : Map
-    renamed-map = redirect (bwd e) (bwd b) (redirect (fwd e) (fwd a) m)
-
-    renamed-edges : renamed-map .edges ≡ map (relinked e a b) (m .edges)
-    unfolding renamed-map redirect
-    renamed-edges = map-map _ _ (m .edges)
-
-    renamed-row : edge renamed-map e ≡ relinked e a b (edge m e)
-    renamed-row = mapped-edge m renamed-map (relinked e a b) renamed-edges (λ r k. refl) e has
-
     first-of : Edge → Edge
     first-of x = startHalf x (m .nextNode) a b p
 
@@ -224,21 +213,21 @@ module _ (m : Map) (e : ℕ) (p : Point) (L : Lawful m) (has : hasEdge m e ≡ t
     target = first-of (relinked e a b (edge m e)) ∷ second-of (relinked e a b (edge m e)) ∷ map (relinked e a b) (withoutEdge e (m .edges))
 
     -- the start half in the place of e, the end half last
-    kept-rows : List·Permᴰ (map (λ r. cond (same (r .number) e) (first-of (edge renamed-map e)) r) (renamed-map .edges) ++ second-of (edge renamed-map e) ∷ []) target
+    kept-rows : List·Permᴰ (map (λ r. cond (same (r .number) e) (first-of (edge (parted m e a b) e)) r) (parted m e a b .edges) ++ second-of (edge (parted m e a b) e) ∷ []) target
     unfolding target
-    kept-rows = subst (λ (y : Edge). List·Permᴰ (map (λ r. cond (same (r .number) e) (first-of y) r) (renamed-map .edges) ++ second-of y ∷ []) target) (sym renamed-row)
-        (subst (λ (l : List Edge). List·Permᴰ (map (λ r. cond (same (r .number) e) (first-of (relinked e a b (edge m e))) r) l ++ second-of (relinked e a b (edge m e)) ∷ []) target) (sym renamed-edges)
+    kept-rows = subst (λ (y : Edge). List·Permᴰ (map (λ r. cond (same (r .number) e) (first-of y) r) (parted m e a b .edges) ++ second-of y ∷ []) target) (sym (parted-row m e a b has))
+        (subst (λ (l : List Edge). List·Permᴰ (map (λ r. cond (same (r .number) e) (first-of (relinked e a b (edge m e))) r) l ++ second-of (relinked e a b (edge m e)) ∷ []) target) (sym (parted-edges m e a b))
         (List·Permᴰ·trans (one-last _ _) (List·Permᴰ·trans (List·Permᴰ·cons refl (replaced m e (relinked e a b) (λ r. refl) once-m has (first-of (relinked e a b (edge m e))))) (List·Permᴰ·swap refl refl))))
 
     -- both halves last
-    new-rows : List·Permᴰ (withoutEdge e (renamed-map .edges) ++ first-of (edge renamed-map e) ∷ second-of (edge renamed-map e) ∷ []) target
+    new-rows : List·Permᴰ (withoutEdge e (parted m e a b .edges) ++ first-of (edge (parted m e a b) e) ∷ second-of (edge (parted m e a b) e) ∷ []) target
     unfolding target
-    new-rows = subst (λ (y : Edge). List·Permᴰ (withoutEdge e (renamed-map .edges) ++ first-of y ∷ second-of y ∷ []) target) (sym renamed-row)
-        (subst (λ (l : List Edge). List·Permᴰ (l ++ first-of (relinked e a b (edge m e)) ∷ second-of (relinked e a b (edge m e)) ∷ []) target) (sym (ap (withoutEdge e) renamed-edges ∙ left-out m e (relinked e a b) (λ r. refl) once-m has))
+    new-rows = subst (λ (y : Edge). List·Permᴰ (withoutEdge e (parted m e a b .edges) ++ first-of y ∷ second-of y ∷ []) target) (sym (parted-row m e a b has))
+        (subst (λ (l : List Edge). List·Permᴰ (l ++ first-of (relinked e a b (edge m e)) ∷ second-of (relinked e a b (edge m e)) ∷ []) target) (sym (ap (withoutEdge e) (parted-edges m e a b) ∙ left-out m e (relinked e a b) (λ r. refl) once-m has))
         (List·Permᴰ·trans (Permᴰ·middle (first-of (relinked e a b (edge m e))) (map (relinked e a b) (withoutEdge e (m .edges))) (second-of (relinked e a b (edge m e)) ∷ [])) (List·Permᴰ·cons refl (one-last _ _))))
 
   pub new-halves : InHalves m (split false e p m) e (m .nextNode) (m .nextEdge) (m .nextEdge + 1) p
-  unfolding split target first-of second-of renamed-map
+  unfolding split target first-of second-of
   new-halves = record {
     has = has;
     free = free;
@@ -251,7 +240,7 @@ module _ (m : Map) (e : ℕ) (p : Point) (L : Lawful m) (has : hasEdge m e ≡ t
   }
 
   pub kept-halves : InHalves m (split true e p m) e (m .nextNode) e (m .nextEdge) p
-  unfolding split atEdge target first-of second-of renamed-map
+  unfolding split atEdge target first-of second-of
   kept-halves = record {
     has = has;
     free = free;

@@ -80,3 +80,8 @@ pub mod EdgesRemoved
 -- every ticket leaves a good map good; the theorems
 pub mod Growth
 pub mod Grows
+-- a split that is healed at once
+pub mod Rejoined
+pub mod HealsBack
+pub mod SplitHeal
+pub mod SplitHealCases

@@ -57,14 +57,6 @@ darts-keep e (x ∷ xs) = step (same (x .num) e) (darts-keep e xs)
     step true ih = ih
     step false ih = ap (λ (l : List Dart). fwd (x .num) ∷ bwd (x .num) ∷ l) ih
 
-pub keep-append : {D : Type 0} (p : D → Bool) (xs ys : List D) → keep p (xs ++ ys) ≡ keep p xs ++ keep p ys
-keep-append p [] ys = refl
-keep-append {D} p (x ∷ xs) ys = rw (keep-append p xs ys) (step (p x))
-  where
-    step : (b : Bool) → cond b (x ∷ (keep p xs ++ keep p ys)) (keep p xs ++ keep p ys) ≡ cond b (x ∷ keep p xs) (keep p xs) ++ keep p ys
-    step true = refl
-    step false = refl
-
 -- ---- edges
 
 edge-missing : (m : Map) (e : ℕ) → hasEdge m e ≡ false → edge m e ≡ missing

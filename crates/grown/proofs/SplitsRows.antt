@@ -11,8 +11,8 @@ use Rattle.planar.specs.Map.{Dart, fwd, bwd}
 use Rattle.planar.proofs.Rings.{sameDart-refl}
 use Rattle.planar.proofs.Hooks.{sameDart-false, fwd≢bwd, with-fwd, with-bwd, with-other}
 use Rattle.map.specs.Rows.{Edge, Map, edge, hasEdge, withoutEdge}
-use Rattle.map.specs.Links.{withLinks, instead}
-use Rattle.grown.proofs.Readings.{numberOf, missing, edge-row}
+use Rattle.map.specs.Links.{withLinks, instead, redirect}
+use Rattle.grown.proofs.Readings.{numberOf, missing, edge-row, mapped-edge}
 use Rattle.grown.proofs.RowChanges.{without-perm}
 use Rattle.grown.proofs.Renumber.{ways}
 use Rattle.grown.proofs.Halved.{departs}
@@ -43,6 +43,18 @@ names-are e a b d = elim (equal? (d .edge) e) [
   ]
   | inr ne ↦ ap (instead (bwd e) (bwd b)) (instead-other (fwd e) (fwd a) d (λ p. ne (ap (λ (d : Dart). d .edge) p))) ∙ instead-other (bwd e) (bwd b) d (λ p. ne (ap (λ (d : Dart). d .edge) p)) ∙ sym (with-other e (fwd a) (bwd b) (λ z. z) d ne)
 ]
+
+-- the departures of e renamed in all rows
+module _ (m : Map) (e a b : ℕ) where
+  abbrev pub parted : Map
+  parted = redirect (bwd e) (bwd b) (redirect (fwd e) (fwd a) m)
+
+  pub parted-edges : parted .edges ≡ map (relinked e a b) (m .edges)
+  unfolding redirect
+  parted-edges = map-map _ _ (m .edges)
+
+  pub parted-row : hasEdge m e ≡ true → edge parted e ≡ relinked e a b (edge m e)
+  parted-row has = mapped-edge m parted (relinked e a b) parted-edges (λ r k. refl) e has
 
 -- ---- rows replaced and left out
 

@@ -1,18 +1,21 @@
--- What is claimed of every list of tickets, kinds mixed, senseless and refused ones included. Proved in proofs/Grows.antt (`grows`, `never-lent`).
+-- What is claimed of every list of tickets, kinds mixed, senseless and refused ones included. Proved in proofs/:
+-- Grows.antt (`grows`, `never-lent`), SplitHeal.antt (`split-cancelled`, `split-renewed`, `split-spent`).
 use mathlib.Core.Path.{_≡_}
-use mathlib.Core.Bool.{true}
-use mathlib.Core.List.{List, List·Memᴰ}
+use mathlib.Core.Bool.{true, cond}
+use mathlib.Core.List.{List, [], _∷_, _++_, map, List·Memᴰ}
 use mathlib.Core.Logic.{_≢_}
-use Prim.Native.Nat.{ℕ, _≤_}
-use lib.IntN.{ℤ}
+use Prim.Native.Nat.{ℕ, _+_, _≤_, _<_}
+use lib.IntN.{ℤ, pos, natAbs, _+ℤ_}
+use Rattle.lists.specs.Tests.{same}
 use Rattle.planar.specs.Map.{Dart}
-use Rattle.map.specs.Limits.{maxNodes, maxEdges, maxFaces}
-use Rattle.map.specs.Rows.{Lent, Sizes, mapOf}
+use Rattle.map.specs.declared.Head.{Head}
+use Rattle.map.specs.Limits.{maxNodes, maxEdges, maxFaces, lastNumber}
+use Rattle.map.specs.Rows.{Edge, Map, Lent, Sizes, mapOf, lentOf, sizesOf, edge, setEdges, withoutEdge}
 use Rattle.map.specs.Darts.{directed, bears}
 use Rattle.map.specs.Form.{inForm}
-use Rattle.map.specs.Links.{obeysLaw}
+use Rattle.map.specs.Links.{withLinks, obeysLaw}
 use Rattle.map.specs.Reasons.{firstReason}
-use Rattle.map.specs.Ticket.{lentReasons}
+use Rattle.map.specs.Ticket.{Outcome, refused, lentReasons, ticket}
 use Rattle.map.specs.Grow.{grow}
 use Rattle.map.specs.Sound.{Sound}
 
@@ -25,7 +28,9 @@ pub record GrownMap (l : Lent) : Type 0 where
   -- all links obey the link law
   pub lawful : obeysLaw (mapOf l) ≡ true
   -- every face number but 0 is borne by some directed edge
-  pub borne : (f : ℕ) → List·Memᴰ f (mapOf l .faces) → f ≢ 0 → (d : Dart) × List·Memᴰ d (directed (mapOf l)) × (bears (mapOf l) d ≡ f)
+  pub borne :
+      (f : ℕ) → List·Memᴰ f (mapOf l .faces) → f ≢ 0
+      → (d : Dart) × List·Memᴰ d (directed (mapOf l)) × (bears (mapOf l) d ≡ f)
 
 -- for all sizes that hold the empty map and all lists of tickets
 abbrev pub Grows : Type 0
@@ -41,3 +46,88 @@ pub record Limited (s : Sizes) : Type 0 where
 -- for all sizes within the limits and all lists of tickets neither 1 nor 2 ever answers
 abbrev pub NeverLent : Type 0
 NeverLent = (s : Sizes) → Limited s → (ts : List (List ℤ)) → firstReason (lentReasons (grow s ts .lent)) ≡ 0
+
+-- ---- document 02 (vi): on every grown map a split that is healed at once gives the sheet back
+
+-- so many numbers more given to nodes and edges
+abbrev pub raised : ℕ → ℕ → Head → Head
+raised a b h =
+    record {
+      nodes = h .nodes;
+      edges = h .edges;
+      faces = h .faces;
+      «next_node» = h .«next_node» +ℤ pos a;
+      «next_edge» = h .«next_edge» +ℤ pos b;
+      «next_face» = h .«next_face»;
+    }
+
+-- carried out; every row of all three tables is as before, only the next node and edge numbers have risen
+abbrev pub restored : Lent → Outcome
+restored l =
+    record {
+      lent = record { nodes = l .nodes; edges = l .edges; faces = l .faces; head = raised 1 1 (l .head) };
+      answer = record { refusal = 0; value = pos 0 };
+    }
+
+-- kind 8 carried out, then kind 10 on the kept edge and the new one
+abbrev pub Cancels : Lent → Type 0
+Cancels l =
+    (e x y : ℤ) → let o = ticket l (pos 8 ∷ e ∷ x ∷ y ∷ []) in o .answer .refusal ≡ 0
+    → ticket (o .lent) (pos 10 ∷ e ∷ l .head .«next_edge» ∷ []) ≡ restored l
+
+abbrev pub SplitCancelled : Type 0
+SplitCancelled = (s : Sizes) → 1 ≤ s .faces → (ts : List (List ℤ)) → Cancels (grow s ts .lent)
+
+-- h for e in a link, in the links of a row, and as a row's own number
+abbrev pub linkRenamed : ℕ → ℕ → Dart → Dart
+linkRenamed e h d = record { edge = cond (same (d .edge) e) h (d .edge); back = d .back }
+
+abbrev pub linksRenamed : ℕ → ℕ → Edge → Edge
+linksRenamed e h r = withLinks (linkRenamed e h (r .nextLeft)) (linkRenamed e h (r .nextRight)) r
+
+abbrev pub withNumber : ℕ → Edge → Edge
+withNumber h r =
+    record {
+      number = h;
+      start = r .start;
+      end = r .end;
+      nextLeft = r .nextLeft;
+      nextRight = r .nextRight;
+      left = r .left;
+      right = r .right;
+      curve = r .curve;
+    }
+
+-- the edge e with the number h: its row is the last, the rows behind it have moved up, and links that named e name h
+unfoldable pub renumbered : ℕ → ℕ → Map → Map
+renumbered e h m =
+    setEdges (map (linksRenamed e h) (withoutEdge e (m .edges)) ++ withNumber h (linksRenamed e h (edge m e)) ∷ []) m
+
+-- carried out; nodes and faces are as before, the edge e has the number h, and the next numbers have risen
+abbrev pub renewed : ℕ → ℕ → Lent → Outcome
+renewed e h l =
+    let edges = lentOf (sizesOf l) (renumbered e h (mapOf l)) .edges in
+    record {
+      lent = record { nodes = l .nodes; edges = edges; faces = l .faces; head = raised 1 3 (l .head) };
+      answer = record { refusal = 0; value = pos h };
+    }
+
+-- kind 7 carried out, then kind 9 on the start half and the other, if an edge number is left for it
+abbrev pub Renews : Lent → Type 0
+Renews l =
+    (e x y : ℤ) → let o = ticket l (pos 7 ∷ e ∷ x ∷ y ∷ []) in o .answer .refusal ≡ 0
+    → let h = mapOf l .nextEdge + 2 in h ≤ lastNumber
+    → ticket (o .lent) (pos 9 ∷ l .head .«next_edge» ∷ (l .head .«next_edge» +ℤ pos 1) ∷ []) ≡ renewed (natAbs e) h l
+
+abbrev pub SplitRenewed : Type 0
+SplitRenewed = (s : Sizes) → 1 ≤ s .faces → (ts : List (List ℤ)) → Renews (grow s ts .lent)
+
+-- and if none is left, kind 9 gets 21
+abbrev pub Spends : Lent → Type 0
+Spends l =
+    (e x y : ℤ) → let o = ticket l (pos 7 ∷ e ∷ x ∷ y ∷ []) in o .answer .refusal ≡ 0
+    → lastNumber < mapOf l .nextEdge + 2
+    → ticket (o .lent) (pos 9 ∷ l .head .«next_edge» ∷ (l .head .«next_edge» +ℤ pos 1) ∷ []) ≡ refused (o .lent) 21
+
+abbrev pub SplitSpent : Type 0
+SplitSpent = (s : Sizes) → 1 ≤ s .faces → (ts : List (List ℤ)) → Spends (grow s ts .lent)

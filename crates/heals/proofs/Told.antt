@@ -24,7 +24,7 @@ use Rattle.turning.specs.Turning.{jointReasons}
 use Rattle.ranges.specs.Ranges.{lent}
 use Rattle.answers.specs.Outcomes.{Formed}
 use Rattle.answers.proofs.Formed.{edge-rows, nodes-count, nodes-size, edges-count, edges-size, edge-next, spent-is, node-left, face-left}
-use Rattle.conditions.proofs.Reasons.{first-hit, first-miss, first-zero, first-append, first-after}
+use Rattle.map.proofs.Reasons.{first-hit, first-miss, first-zero, first-append, first-after}
 use Rattle.heals.specs.Kinds.{healTicket}
 use Rattle.heals.specs.Heals.{Numbered, lateReasons}
 

@@ -21,7 +21,7 @@ use Rattle.map.specs.Tickets.{Ticket, read, kinds}
 use Rattle.map.specs.Reasons.{Reasons, firstReason}
 use Rattle.map.specs.Ticket.{ticket, judged, refused, lentReasons}
 use Rattle.ranges.specs.Ranges.{lent}
-use Rattle.conditions.proofs.Reasons.{first-hit, first-miss}
+use Rattle.map.proofs.Reasons.{first-hit, first-miss}
 use Rattle.answers.specs.declared.Done.{Done}
 use Rattle.answers.specs.Outcomes.{Formed, outcome}
 use Rattle.kinds.specs.Shaped.{shaped}

@@ -1,14 +1,14 @@
 -- Positions and the map: departures of a node by position are those of the map, and so is the first one met clockwise. Assumes nothing.
-use mathlib.Core.Path.{_≡_, refl, sym, ap, _∙_}
-use mathlib.Core.Bool.{Bool, true, false, cond}
+use mathlib.Core.Path.{_≡_, sym, ap, _∙_}
 use mathlib.Core.List.{List, [], _∷_, map, List·Memᴰ}
-use Prim.Native.Nat.{ℕ, suc, _+_, _*_, _<_}
+use Prim.Native.Nat.{ℕ, _*_, _<_}
 use native.Mathlib.Omega.{arith}
 use lib.IntN.{ℤ, pos}
 use lib.ListN.{length, length-map}
-use Rattle.lists.specs.Tests.{same, bit}
+use Rattle.lists.specs.Tests.{same}
 use Rattle.lists.specs.declared.Found.the-variants.{At, Missing}
 use Rattle.lists.specs.Scans.{keep, count}
+use Rattle.lists.proofs.Counts.{count-keep}
 use Rattle.lists.proofs.Keeps.{keep-map}
 use Rattle.plane.specs.Directions.{Way}
 use Rattle.planar.specs.Map.{Dart}
@@ -22,15 +22,6 @@ use Rattle.links.specs.Positions.{dartAt, wayAt}
 use Rattle.links.proofs.Positions.{directed-table, cell-leaves, way-is}
 use Rattle.linking.specs.Linking.{positions, leavesNode, firstMet}
 use Rattle.linking.proofs.FirstMet.{first-any, met-at, met-none, position-below}
-
--- what is counted is what is kept
-pub count-keep : {A : Type 0} (p : A → Bool) (l : List A) → count p l ≡ length (keep p l)
-count-keep p [] = refl
-count-keep p (x ∷ l) = go (p x) (count-keep p l)
-  where
-    go : (b : Bool) → count p l ≡ length (keep p l) → bit b + count p l ≡ length (cond b (x ∷ keep p l) (keep p l))
-    go true e = let k : 1 + count p l ≡ suc (count p l) = omega arith in k ∙ ap suc e
-    go false e = let k : 0 + count p l ≡ count p l = omega arith in k ∙ e
 
 module _ {l : List ℤ} {n : ℕ} (t : EdgeRows l n) where
   pub directed-map : directed (edgeMap l n) ≡ map (dartAt l) (positions n)

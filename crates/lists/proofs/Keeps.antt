@@ -2,7 +2,7 @@
 use mathlib.Core.Path.{_≡_, refl, sym, ap, _∙_}
 use mathlib.Core.Logic.{_⊎_, inl, inr}
 use mathlib.Core.Bool.{Bool, true, false, cond, true≢false}
-use mathlib.Core.List.{List, [], _∷_, map, List·Memᴰ, List·Memᴰ·head, List·Memᴰ·tail, List·Memᴰ·cases-cons, List·Memᴰ·not-nil}
+use mathlib.Core.List.{List, [], _∷_, _++_, map, append-nil, List·Memᴰ, List·Memᴰ·head, List·Memᴰ·tail, List·Memᴰ·cases-cons, List·Memᴰ·not-nil}
 use Rattle.lists.specs.Scans.{keep}
 
 pub keep-in : {D : Type 0} (f : D → Bool) (ds : List D) {x : D} → List·Memᴰ x (keep f ds) → List·Memᴰ x ds × (f x ≡ true)
@@ -40,6 +40,24 @@ keep-swap {D} f g (d ∷ ds) = go (f d) refl (g d) refl (keep-swap f g ds)
 pub keep-none : {D : Type 0} (p : D → Bool) (ds : List D) → ((d : D) → List·Memᴰ d ds → p d ≡ false) → keep p ds ≡ []
 keep-none p [] h = refl
 keep-none p (d ∷ ds) h = rw (h d (List·Memᴰ·head refl)) (keep-none p ds (λ c m. h c (List·Memᴰ·tail m)))
+
+pub keep-append : {D : Type 0} (p : D → Bool) (xs ys : List D) → keep p (xs ++ ys) ≡ keep p xs ++ keep p ys
+keep-append p [] ys = refl
+keep-append {D} p (x ∷ xs) ys = rw (keep-append p xs ys) (step (p x))
+  where
+    step : (b : Bool) → cond b (x ∷ (keep p xs ++ keep p ys)) (keep p xs ++ keep p ys)
+        ≡ cond b (x ∷ keep p xs) (keep p xs) ++ keep p ys
+    step true = refl
+    step false = refl
+
+-- all are kept but one, which was put last
+pub keep-last : {D : Type 0} (p : D → Bool) (ds : List D) (x : D)
+    → ((d : D) → List·Memᴰ d ds → p d ≡ true) → p x ≡ false → keep p (ds ++ x ∷ []) ≡ ds
+keep-last {D} p ds x h e =
+    keep-append p ds (x ∷ [])
+    ∙ ap (λ (b : Bool). keep p ds ++ cond b (x ∷ []) []) e
+    ∙ append-nil (keep p ds)
+    ∙ keep-all p ds h
 
 module _ {D E : Type 0} (f : D → E) where
   pub keep-map : (p : D → Bool) (q : E → Bool) (ds : List D) → ((d : D) → List·Memᴰ d ds → q (f d) ≡ p d) → keep q (map f ds) ≡ map f (keep p ds)

@@ -25,7 +25,7 @@ use Rattle.tables.proofs.Lookups.{node-found}
 use Rattle.ranges.specs.Ranges.{lent}
 use Rattle.answers.specs.Outcomes.{Formed}
 use Rattle.answers.proofs.Formed.{ranges, node-rows}
-use Rattle.conditions.proofs.Reasons.{first-hit, first-miss, first-zero, first-none}
+use Rattle.map.proofs.Reasons.{first-hit, first-miss, first-zero, first-none}
 use Rattle.conditions.proofs.Others.{node-at-but}
 use Rattle.conditions.proofs.Maps.{node-is}
 use Rattle.node_edits.specs.Parts.{moveReasons}

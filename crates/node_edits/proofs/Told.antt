@@ -27,7 +27,7 @@ use Rattle.tables.specs.Tables.{facesOf, nodeAt, edgeMap}
 use Rattle.ranges.specs.Ranges.{lent}
 use Rattle.answers.specs.Outcomes.{Formed}
 use Rattle.answers.proofs.Formed.{nodes-count, edges-count, faces-count, nodes-size, edges-size, faces-size, node-next, full-is, spent-is, edges-room, faces-room, edge-left, face-left}
-use Rattle.conditions.proofs.Reasons.{first-hit, first-miss, first-zero, first-append, first-after}
+use Rattle.map.proofs.Reasons.{first-hit, first-miss, first-zero, first-append, first-after}
 use Rattle.conditions.proofs.Others.{node-at-all}
 use Rattle.node_edits.specs.Heads.{Numbered}
 use Rattle.node_edits.specs.Parts.{addEarly, addLate, roomReasons}

@@ -28,7 +28,7 @@ use Rattle.ranges.specs.Ranges.{lent}
 use Rattle.conditions.specs.Sent.{edgesBut}
 use Rattle.conditions.proofs.Maps.{node-is, inside-alike}
 use Rattle.conditions.proofs.Others.{edges-all}
-use Rattle.conditions.proofs.Reasons.{first-hit, first-miss}
+use Rattle.map.proofs.Reasons.{first-hit, first-miss}
 use Rattle.answers.specs.Outcomes.{Formed}
 use Rattle.answers.proofs.Formed.{ranges, node-rows, nodes-count, faces-count, node-next, edge-next, face-next, nodes-size, edges-size, faces-filled, full-is, spent-is, nodes-room, faces-room, node-left, face-left, lent-is, node-none}
 use Rattle.redraws.specs.Holds.{Drawn}

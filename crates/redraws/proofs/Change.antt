@@ -11,7 +11,7 @@ use Rattle.map.specs.declared.Head.{Head}
 use Rattle.map.specs.Reasons.{Reasons, firstReason, meetingReasons, orderChanges}
 use Rattle.tables.specs.Tables.{nodeAt, nodeMap, edgeAt, edgeMap}
 use Rattle.conditions.specs.Sent.{sentReasons, edgesBut}
-use Rattle.conditions.proofs.Reasons.{first-hit, first-miss, first-none, first-after, first-zero}
+use Rattle.map.proofs.Reasons.{first-hit, first-miss, first-none, first-after, first-zero}
 use Rattle.redraws.specs.Change.{takenAt, turnReasons, changeReasons}
 use Rattle.redraws.proofs.Lone.{first-of}
 

@@ -30,7 +30,7 @@ use Rattle.ranges.specs.Ranges.{lent}
 use Rattle.conditions.specs.Sent.{edgesBut}
 use Rattle.conditions.proofs.Maps.{inside-alike}
 use Rattle.conditions.proofs.Others.{edges-but}
-use Rattle.conditions.proofs.Reasons.{first-hit, first-miss}
+use Rattle.map.proofs.Reasons.{first-hit, first-miss}
 use Rattle.turning.proofs.Alone.{taken-alone, order-alone}
 use Rattle.answers.specs.Outcomes.{Formed}
 use Rattle.answers.proofs.Formed.{formed-map, edge-rows, nodes-count, edges-count, faces-count, node-next, edge-next, face-next, edge-numbers-once, nodes-filled, edges-filled, faces-filled, edges-are-wide, lent-is, edge-none}

@@ -22,7 +22,7 @@ use Rattle.tables.specs.Tables.{sameZ, column, edgeAt, edgeMap}
 use Rattle.tables.proofs.Lookups.{edge-found}
 use Rattle.links.proofs.Positions.{edge-of}
 use Rattle.ranges.specs.Ranges.{lent}
-use Rattle.conditions.proofs.Reasons.{first-hit, first-miss, first-none}
+use Rattle.map.proofs.Reasons.{first-hit, first-miss, first-none}
 use Rattle.turning.proofs.Alone.{isolated-alone}
 use Rattle.answers.specs.Outcomes.{Formed}
 use Rattle.answers.proofs.Formed.{ranges, edge-rows, nodes-size, edges-size, faces-filled, lent-is, edge-none, head-back}

@@ -25,7 +25,7 @@ use Rattle.tables.proofs.Lookups.{edge-found}
 use Rattle.ranges.specs.Ranges.{lent}
 use Rattle.answers.specs.Outcomes.{Formed}
 use Rattle.answers.proofs.Formed.{ranges, nodes-count, edges-count, node-next, edge-next, nodes-size, edges-size, full-is, spent-is, faces-room, face-left, edge-none}
-use Rattle.conditions.proofs.Reasons.{first-hit, first-miss, first-append, first-after, first-zero}
+use Rattle.map.proofs.Reasons.{first-hit, first-miss, first-append, first-after, first-zero}
 use Rattle.map.proofs.Laws.{edge-is}
 use Rattle.splits.specs.Kinds.{splitTicket}
 use Rattle.splits.specs.Cuts.{pointReasons, given, roomReasons, Numbered}

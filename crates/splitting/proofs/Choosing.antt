@@ -6,12 +6,11 @@ use mathlib.Core.List.{List, [], _∷_, _++_, append-nil, List·Memᴰ, List·Me
 use Prim.Native.Nat.{ℕ, _<_}
 use Rattle.lists.specs.Scans.{keep}
 use Rattle.lists.proofs.Bools.{not-true}
-use Rattle.lists.proofs.Keeps.{keep-in, keep-has}
+use Rattle.lists.proofs.Keeps.{keep-in, keep-has, keep-append}
 use Rattle.lists.proofs.Members.{some?}
 use Rattle.plane.specs.Directions.{Way, before}
 use Rattle.rotation.specs.Law.{greatest, pick, firstClockwise}
 use Rattle.rotation.proofs.Node.{first-in, first-none}
-use Rattle.grown.proofs.RowChanges.{keep-append}
 use Rattle.splitting.specs.Drawing.{firstOf}
 
 module _ (way : ℕ → Way) (v : Way) where

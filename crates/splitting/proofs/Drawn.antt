@@ -10,7 +10,7 @@ use lib.ListN.{length, length-map, length-append}
 use Rattle.lists.specs.Tests.{same}
 use Rattle.lists.specs.Scans.{find, isSome, keep}
 use Rattle.lists.proofs.Bools.{equal?, same-eq, same-refl, same-false, not-true}
-use Rattle.lists.proofs.Keeps.{keep-swap, keep-all}
+use Rattle.lists.proofs.Keeps.{keep-swap, keep-all, keep-append}
 use Rattle.lists.proofs.Members.{map-cong}
 use Rattle.plane.specs.Directions.{Way}
 use Rattle.curves.specs.Curves.{Curve, curveOf, startWay}
@@ -34,7 +34,7 @@ use Rattle.links.proofs.Positions.{edge-of, row-there}
 use Rattle.linking.proofs.Darts.{dart-named, row-named}
 use Rattle.linking.proofs.Departures.{departures-map}
 use Rattle.grown.proofs.Readings.{Relinked, numberOf, arcOf, has-number, nums-rows, edge-row, row-has, dart-has, departs, edge-by, tailIn, nextIn, leaves-row, next-row, course-row, way-row, next-by, keep-cong}
-use Rattle.grown.proofs.RowChanges.{more-old, more-new, more-directed, keep-append}
+use Rattle.grown.proofs.RowChanges.{more-old, more-new, more-directed}
 use Rattle.grown.proofs.EdgesDrawn.{drawnRow, appended, linkIn-relinked, linkIn-next, linked-in}
 use Rattle.tables.proofs.Order.{same-pos}
 use Rattle.splitting.specs.Drawing.{drawnDart, departing, atEnd, startCorner, endCorner, Joined}

@@ -1,7 +1,7 @@
 -- `edge_reasons::room_reason` meets its contract: each test answers its reason, in order. Assumes nothing.
 use mathlib.Core.Path.{sym, _∙_}
 use native.Mathlib.Omega.{arith}
-use Rattle.conditions.proofs.Reasons.{first-hit, first-miss, first-none}
+use Rattle.map.proofs.Reasons.{first-hit, first-miss, first-none}
 use Rattle.answers.proofs.Words.{count-natural, count-abs}
 use Rattle.edge_reasons.proofs.Adding.{room-told, spent-told}
 use Rattle.edge_reasons.proofs.room_reason.Statement.{statement}

@@ -7,7 +7,7 @@ use borrow.Author.Tests.{not-false}
 use Rattle.curves.specs.Curves.{point}
 use Rattle.map.specs.Reasons.{firstReason}
 use Rattle.answers.proofs.Formed.{nodes-count, edges-count, faces-count, node-rows, edge-rows, face-rows}
-use Rattle.conditions.proofs.Reasons.{first-hit}
+use Rattle.map.proofs.Reasons.{first-hit}
 use Rattle.answers.proofs.Words.{count-natural, count-abs}
 use Rattle.node_edits.proofs.Told.{few-nodes, few-edges, few-faces, face-told, range-told, taken-told}
 use Rattle.node_edits.proofs.add_reason.Statement.{statement}

@@ -14,7 +14,7 @@ use Rattle.curves.specs.Curves.{point}
 use Rattle.map.specs.Reasons.{firstReason, edgeThrough}
 use Rattle.tables.specs.Tables.{nodeAt, edgeMap}
 use Rattle.tables.proofs.Rows.{node-row-of}
-use Rattle.conditions.proofs.Reasons.{first-hit}
+use Rattle.map.proofs.Reasons.{first-hit}
 use Rattle.node_edits.proofs.Told.{range-told}
 use Rattle.node_edits.proofs.move_reason.Statement.{statement}
 use Rattle.node_edits.proofs.move_reason.Tie as tie

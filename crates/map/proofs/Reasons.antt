@@ -8,9 +8,8 @@ use native.Mathlib.Omega.{arith}
 use lib.Dec.{ltb}
 use borrow.Author.Tests.{ltb-true}
 use Rattle.lists.specs.Scans.{all}
-use Rattle.lists.proofs.Bools.{which}
-use Rattle.curves.proofs.Runs.{and-left, and-right}
+use Rattle.lists.proofs.Bools.{which, and-left, and-right}
 use Rattle.map.specs.Reasons.{Reasons, firstReason}
 
 -- the reason at the front holds, or the others are looked at
 pub first-hit : (n : ℕ) (b : Bool) (rs : Reasons) → b ≡ true → firstReason ((n, b) ∷ rs) ≡ n

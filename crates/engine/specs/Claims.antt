@@ -1,0 +1,50 @@
+-- What a caller of `engine::run` may count on beside its contract: document 02 (vi), a split that is healed at once.
+-- Proved in proofs/SplitHeal.antt (`run-cancels`, `run-renews`).
+use mathlib.Core.Path.{_≡_}
+use mathlib.Core.List.{List, [], _∷_, _++_}
+use Prim.Native.Nat.{ℕ, _+_, _≤_}
+use lib.IntN.{ℤ, pos, natAbs, _+ℤ_}
+use lib.ListN.{length, getD}
+use Rattle.map.specs.Limits.{lastNumber}
+use Rattle.map.specs.Rows.{Lent, mapOf, sizesOf}
+use Rattle.map.specs.Ticket.{Outcome}
+use Rattle.map.specs.Grow.{grow}
+use Rattle.grown.specs.Claims.{restored, renewed}
+use Rattle.engine.specs.Runs.{ticketsOf, Ran, Runs}
+
+-- a call of `run` on the tables l with the list ts was carried out, and left and answered r
+pub record Called (l : Lent) (ts : List (List ℤ)) (r : Ran) : Type 0 where
+  pub numbers : List ℤ
+  pub lengths : List ℕ
+  pub refusals : List ℕ
+  pub values : List ℤ
+  pub list : ticketsOf numbers lengths ≡ ts
+  pub runs : Runs l numbers lengths refusals values r
+  pub carried : r .answer .refusal ≡ 0
+
+-- the refusal of ticket i; what the call left, with its answer to ticket i
+abbrev pub refusalAt : Ran → ℕ → ℕ
+refusalAt r i = getD (r .refusals) i 0
+
+abbrev pub outcomeAt : Ran → ℕ → Outcome
+outcomeAt r i =
+    record { lent = r .lent; answer = record { refusal = refusalAt r i; value = getD (r .values) i (pos 0) } }
+
+-- the list ends with kind 8 and then kind 10 on the kept edge and the new one: if the split was carried out, so was the
+-- heal, and every row is as the list without the two leaves it
+abbrev pub RunCancels : Type 0
+RunCancels =
+    (l : Lent) (ts : List (List ℤ)) (e x y : ℤ) (r : Ran) → let g = grow (sizesOf l) ts .lent in
+    Called l (ts ++ (pos 8 ∷ e ∷ x ∷ y ∷ []) ∷ (pos 10 ∷ e ∷ g .head .«next_edge» ∷ []) ∷ []) r
+    → refusalAt r (length ts) ≡ 0
+    → outcomeAt r (length ts + 1) ≡ restored g
+
+-- the list ends with kind 7 and then kind 9 on the start half and the other, and a number is left for the healed edge
+abbrev pub RunRenews : Type 0
+RunRenews =
+    (l : Lent) (ts : List (List ℤ)) (e x y : ℤ) (r : Ran) → let g = grow (sizesOf l) ts .lent in
+    let a = g .head .«next_edge» in
+    Called l (ts ++ (pos 7 ∷ e ∷ x ∷ y ∷ []) ∷ (pos 9 ∷ a ∷ (a +ℤ pos 1) ∷ []) ∷ []) r
+    → refusalAt r (length ts) ≡ 0
+    → let h = mapOf g .nextEdge + 2 in h ≤ lastNumber
+    → outcomeAt r (length ts + 1) ≡ renewed (natAbs e) h g
