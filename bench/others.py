@@ -3,6 +3,7 @@
 
   others.py [SIZE ...]    microseconds a ticket, by kind, on the grid sheets of bench.rs with about SIZE edges (default 100 500)
   others.py --links       every link after a split (kinds 7 and 8) on small sheets, held against the link law of document 01
+  others.py --sluices     each of these splits healed at once (kinds 9 and 10): whether the edge rows are as before
 
 PostGIS runs in a server of its own: started in a temporary folder as an unprivileged user, reached through a socket there, stopped and
 removed at the end. SpatiaLite runs inside this process on a database in memory. What is not installed is named and left out.
@@ -176,6 +177,7 @@ CREATE FUNCTION answer(call text) RETURNS text LANGUAGE plpgsql AS $body$
 DECLARE value text;
 BEGIN
   EXECUTE call INTO value;
+  SET CONSTRAINTS ALL IMMEDIATE;  -- what a commit would refuse is refused here
   RETURN 'done ' || coalesce(value, '');
 EXCEPTION WHEN OTHERS THEN RETURN 'refused ' || translate(SQLERRM, E'|\\n', '  ');
 END $body$;
@@ -655,9 +657,50 @@ def hold_links(engine):
     sys.stdout.flush()
 
 
+# --- sluices --------------------------------------------------------------------------------------------------------------------------
+
+def renamed(rows, e, h):
+    """The rows with the edge e numbered h, in links too; by number."""
+    names = {e: h, -e: -h}
+    return sorted(((names.get(n, n), start, end, names.get(left, left), names.get(right, right)), curve)
+                  for (n, start, end, left, right), curve in rows)
+
+
+def sluice_fault(kind, e, h, history):
+    """What is not as before after a split and its heal, in words; nothing where all is."""
+    (_, before), (split, _), (heal, after) = history[-3:]
+    if not split.startswith('done') or not heal.startswith('done'):
+        return 'turned down'
+    want = renamed(before, e, h) if kind == 7 else before
+    if [row for row, _ in after] != [row for row, _ in want]:
+        return 'other links or numbers'
+    return '' if after == want else 'another curve'
+
+
+def hold_sluices(engine):
+    """Every cut sheet with the heal behind it; the smallest fault of each sort is shown."""
+    sheets = []
+    for name, tickets in cut_sheets():
+        kind, e = tickets[-1][:2]
+        n = sum(t[0] == 12 for t in tickets)
+        sheets.append((name, kind, e, n + 3, tickets + [(10, e, n + 1) if kind == 8 else (9, n + 1, n + 2)]))
+    found = {}
+    for sheet, history in zip(sheets, engine.histories([s[-1] for s in sheets]), strict=True):
+        found.setdefault((sheet[1], sluice_fault(*sheet[1:4], history)), []).append((sheet, history))
+    print(f'\n{engine.version}')
+    for (kind, fault), cases in sorted(found.items()):
+        print(f"  kind {kind}, then {kind + 2}: {fault or 'edge rows as before'} on {len(cases)} sheets")
+        if fault:
+            (name, *_, tickets), history = min(cases, key=lambda c: sum(map(len, c[0][-1])))
+            print(f'    {name}: ' + '; '.join(' '.join(map(str, t)) for t in tickets))
+            for label, (answer, rows) in zip(('before', 'split', 'healed'), history[-3:]):
+                print(f'    {label} ({answer}):', '; '.join(f"{row} {', '.join(f'{x} {y}' for x, y in c)}" for row, c in rows))
+    sys.stdout.flush()
+
+
 def main(args):
-    links = args == ['--links']
-    if not links and not all(a.isdigit() and int(a) >= 20 for a in args):
+    hold = {('--links',): hold_links, ('--sluices',): hold_sluices}.get(tuple(args))
+    if not hold and not all(a.isdigit() and int(a) >= 20 for a in args):
         print(__doc__, file=sys.stderr)
         return 2
     signal.signal(signal.SIGTERM, lambda *_: sys.exit(1))  # so that the server is stopped then too
@@ -668,8 +711,8 @@ def main(args):
             print(f'\n{kind.NAME}: left out, {e}')
             continue
         with contextlib.closing(engine):
-            if links:
-                hold_links(engine)
+            if hold:
+                hold(engine)
             else:
                 report(engine, [measure(engine, int(size)) for size in args or ('100', '500')])
     return 0

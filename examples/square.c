@@ -1,5 +1,7 @@
-/* The square sheet from C: a node, a loop around a plot, the loop split, and a boundary across the plot. */
+/* The square sheet from C: a node, a loop around a plot, the loop split, a boundary across the plot. Then a split taken
+   back. */
 #include <stdio.h>
+#include <string.h>
 #include "solgwid.h"
 
 static int64_t nodes[200 * 4], edges[200 * 32], faces[200], head[6];
@@ -40,5 +42,17 @@ int main(void) {
     printf("run: %llu", (unsigned long long)refusal);
     for (int i = 0; i < 6; i++) printf(" %llu/%lld", (unsigned long long)refusals[i], (long long)values[i]);
     printf("\n");
+
+    /* a ditch is split where a sluice will stand; the sluice is cancelled, and every row is as before */
+    static int64_t before[3][6400];
+    memcpy(before[0], nodes, sizeof nodes);
+    memcpy(before[1], edges, sizeof edges);
+    memcpy(before[2], faces, sizeof faces);
+    int64_t next_edge = head[4];
+    TICKET(8, 1, 10, 4);
+    TICKET(10, 1, next_edge);
+    int same = !memcmp(before[0], nodes, sizeof nodes) && !memcmp(before[1], edges, sizeof edges)
+        && !memcmp(before[2], faces, sizeof faces);
+    printf("taken back: %s\n", same ? "every row as before" : "rows differ");
     return 0;
 }

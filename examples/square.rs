@@ -1,4 +1,5 @@
-// The square sheet from Rust: a node, a loop around a plot, the loop split, and a boundary across the plot.
+// The square sheet from Rust: a node, a loop around a plot, the loop split, a boundary across the plot. Then a split
+// taken back.
 
 #[path = "../include/solgwid.rs"]
 mod solgwid;
@@ -26,4 +27,13 @@ fn main() {
     }
     let answers = Sheet::new(200, 200, 200).run(&tickets).expect("the tables are whole");
     println!("run: 0{}", answers.iter().map(|(r, v)| format!(" {r}/{v}")).collect::<String>());
+
+    // a ditch is split where a sluice will stand; the sluice is cancelled, and every row is as before
+    let before = sheet.clone();
+    for t in [[8, 1, 10, 4].as_slice(), &[10, 1, before.head[4]]] {
+        let (refusal, value) = sheet.ticket(t);
+        println!("{refusal} {value}");
+    }
+    let same = sheet.nodes == before.nodes && sheet.edges == before.edges && sheet.faces == before.faces;
+    println!("taken back: {}", if same { "every row as before" } else { "rows differ" });
 }

@@ -3,8 +3,8 @@
 
   sheets.py [--seed S]     REFERENCE names the reference's folder (default: ../shared/reference beside the repository)
 
-The square sheet's P cases first, then lists by hand and random ones, each from a map that the removals before it made bare; wrong lines among them, and for
-`ticket` a full node table at the end. Fails where a kind is not carried out, a reason of a kind never answers, or one of 3 to 19 is missing.
+The square sheet's P cases first, then lists by hand and random ones, each from a map that the removals before it made bare; wrong lines among them; for
+`ticket` a full node table at the end, for `sheet` every edge of a sheet with islands split and healed at once. Fails where a kind is not carried out, a reason of a kind never answers, or one of 3 to 19 is missing.
 """
 
 import argparse
@@ -17,6 +17,7 @@ from collections import Counter
 ROOT = pathlib.Path(__file__).resolve().parent.parent
 sys.path[:0] = [os.environ.get('REFERENCE', str(ROOT.parent / 'shared' / 'reference')), str(ROOT / 'tests')]
 
+import check              # noqa: E402
 import fuzz               # noqa: E402
 import islands            # noqa: E402
 import plotmap as pm      # noqa: E402
@@ -32,6 +33,10 @@ CASES = [SQUARE + ['8 1 0 0', '8 1 5 5', '8 1 10 10', '12 1 2 0 0 10 10', '10 1 
 RARE = ['1 -1 10 10', '1 -1 20 10', '1 -1 10 20', '1 -1 0 10', '12 1 2 10 10 20 10', '12 1 3 10 10 10 20', '11 4 1 0 10 10 10', '1 -1 30 30', '1 -1 40 40',
         '2 5 0 1048576', '2 1 5 5', '3 1', '4 5 6 30 30 41 40', '7 1 -1 0', '8 1 1048576 0', '11 5 6 31 30 40 40', '12 5 6 30 30 41 40',
         '6 1 10 10 21 10', '6 1 10 10 5 30 15 30 20 10', '6 3 0 10 5 30 15 30 10 10']
+# a plot with a boundary across it, a walled tank and a ditch apart from all others in it, a well, and a stub
+SLUICES = ['1 -1 0 0', '12 1 1 0 0 100 0 100 60 0 60 0 0', '8 1 100 60', '12 1 2 0 0 50 20 100 60',
+           '1 -1 70 20', '12 3 3 70 20 80 20 80 30 70 30 70 20', '1 -1 20 40', '1 -1 40 50', '4 4 5 20 40 30 48 40 50',
+           '1 -1 10 30', '1 -1 90 5', '12 2 7 100 60 90 5']
 # what a number of a ticket names, by kind: a face, nodes, edges
 NAMES = {1: 'f', 2: 'n', 3: 'n', 4: 'nn', 5: 'e', 6: 'e', 7: 'e', 8: 'e', 9: 'ee', 10: 'ee', 11: 'nn', 12: 'nn', 13: 'e', 14: 'e'}
 # a ticket of each kind, to read its reasons off
@@ -73,6 +78,19 @@ class Sheet:
             if self.rng.random() < 0.05:
                 self.lines.append(self.rng.choice(WRONG))
             self.put(islands.ticket(self.rng, self.map, world) if world else fuzz.make_ticket(self.rng, self.map, grid, fuzz.MIXES[mix]))
+
+    def cancel(self):
+        """Request (vi): each edge split inside a segment and at a point, by 8 and healed by 10, by 7 and healed by 9."""
+        for mod in (True, False):
+            for e in self.map.edges:
+                between = [q for _ in range(40) if (q := fuzz.along(self.rng, e)) not in e.points][:1]
+                number = e.number
+                for at in between + list(e.points[1:2] if len(e.points) > 2 else []):
+                    assert check.sluice_faults(self.map, ROOM, number, at) == []
+                    new = self.map.next_edge
+                    self.put((8 if mod else 7, number, *at))
+                    self.put((10, number, new) if mod else (9, new, new + 1))
+                    number = number if mod else new + 2
 
     def fill(self):
         """Nodes until no row is free, an edge that is split in vain, and a row freed and taken again."""
@@ -137,6 +155,8 @@ def sheet_lines(rng):
     by_hand(s)
     for mix in MIXES:
         s.grow(mix, 50)
+    s.chapter(SLUICES)
+    s.cancel()
     s.clear()
     return s.lines
 

@@ -56,8 +56,8 @@ healedMap keeps a b n es x m =
     let new = withoutEdge a (withoutEdge b es) ++ x ∷ [] in
     setNodes (withoutNode n (m .nodes)) (setEdges (cond keeps kept new) (given 0 (cond keeps 0 1) 0 m))
 
-abbrev healedRow : Map → ℕ → ℕ → Dart → Dart → Curve → Edge
-healedRow m a h c d curve =
+abbrev healRow : Map → ℕ → ℕ → Dart → Dart → Curve → Edge
+healRow m a h c d curve =
     record {
       number = h;
       start = leaves m c;
@@ -72,7 +72,7 @@ healedRow m a h c d curve =
 abbrev healedBy : Bool → ℕ → ℕ → ℕ → Dart → Dart → Curve → Map → Map
 healedBy keeps a b n c d curve m =
     let h = cond keeps a (m .nextEdge) in
-    healedMap keeps a b n (whole.rejoined m h c d .edges) (healedRow m a h c d curve) m
+    healedMap keeps a b n (whole.rejoined m h c d .edges) (healRow m a h c d curve) m
 
 heal-by : (keeps : Bool) (a b : ℕ) (m : Map) → heal keeps a b m
     ≡ healedBy keeps a b (Option·getD (joint m a b) 0) (parts m a b .0) (parts m a b .1) (healedCurve m a b) m
@@ -100,8 +100,8 @@ module _ (m : Map) (e : ℕ) (g : Good m) (has : hasEdge m e ≡ true) where
       subst (λ (i : ℕ). i < m .nextEdge) (z .1 ∙ ap (λ (c : Dart). c .edge) q) (below (z .0))
 
   -- the row e, healed to the number h
-  abbrev mended : ℕ → Edge
-  mended h = withNumber h (linksRenamed e h (edge m e))
+  abbrev renumbered-row : ℕ → Edge
+  renumbered-row h = withNumber h (linksRenamed e h (edge m e))
 
   -- links are renamed there and back
   abbrev Back : ℕ → ℕ → ℕ → Type 0
@@ -119,11 +119,12 @@ module _ (m : Map) (e : ℕ) (g : Good m) (has : hasEdge m e ≡ true) where
   -- the heal of halves of e: departures are renamed, and the healed row is that of e with the number h
   heal-is : (m′ : Map) (n a b : ℕ) (keeps : Bool) (h : ℕ)
       → h ≡ cond keeps a (m′ .nextEdge) → Rejoin m m′ e n a b → Back a b h
-      → heal keeps a b m′ ≡ healedMap keeps a b n (map (whole.relinked h (fwd a) (fwd b)) (m′ .edges)) (mended h) m′
+      → heal keeps a b m′
+      ≡ healedMap keeps a b n (map (whole.relinked h (fwd a) (fwd b)) (m′ .edges)) (renumbered-row h) m′
   heal-is m′ n a b keeps h is j back =
       heal-by keeps a b m′
       ∙ (λ i. healedBy keeps a b (Option·getD (j .joint i) 0) (j .parts i .0) (j .parts i .1) (j .curve i) m′)
-      ∙ ap (λ (i : ℕ). by (whole.rejoined m′ i c d .edges) (healedRow m′ a i c d (edge m e .curve))) (sym is)
+      ∙ ap (λ (i : ℕ). by (whole.rejoined m′ i c d .edges) (healRow m′ a i c d (edge m e .curve))) (sym is)
       ∙ ap₂ by (whole.rejoined-edges m′ h c d) row
     where
       by : List Edge → Edge → Map
@@ -142,7 +143,7 @@ module _ (m : Map) (e : ℕ) (g : Good m) (has : hasEdge m e ≡ true) where
           → next (whole.rejoined m′ h c d) z ≡ linkRenamed e h l
       renamed z l q u v = whole.rejoined-next m′ h c d z q ∙ ap (whole.wholeNames h c d) u ∙ back l v
 
-      row : healedRow m′ a h c d (edge m e .curve) ≡ mended h
+      row : healRow m′ a h c d (edge m e .curve) ≡ renumbered-row h
       row = λ i. record {
         number = h;
         start = j .start i;
@@ -193,18 +194,19 @@ module _ (m : Map) (e : ℕ) (p : Point) (g : Good m) (has : hasEdge m e ≡ tru
   kept-names : Back m e g has e x e
   kept-names d h = names-back e e x e d (λ ne. ne) (λ j. omega arith)
 
-  abbrev W : Edge → Edge
-  W = whole.relinked e (fwd e) (fwd x)
+  -- links renamed by kind 10, and the row e put back
+  abbrev by-10 : Edge → Edge
+  by-10 = whole.relinked e (fwd e) (fwd x)
 
   abbrev back : Edge → Edge
-  back = put e (mended m e g has e)
+  back = put e (renumbered-row m e g has e)
 
   -- each row is as it was
-  each-back : (r : Edge) → List·Memᴰ r (m .edges) → back (W (put e first (relinked e e x r))) ≡ r
+  each-back : (r : Edge) → List·Memᴰ r (m .edges) → back (by-10 (put e first (relinked e e x r))) ≡ r
   each-back r k = elim (which (same (r .number) e)) [
     | inl q ↦
-        ap (λ (b : Bool). back (W (cond b first (relinked e e x r)))) q
-        ∙ ap (λ (b : Bool). cond b (mended m e g has e) (W first)) (same-refl e)
+        ap (λ (b : Bool). back (by-10 (cond b first (relinked e e x r)))) q
+        ∙ ap (λ (b : Bool). cond b (renumbered-row m e g has e) (by-10 first)) (same-refl e)
         ∙ (λ i. record {
           number = sym (edge-row m e has .1) i;
           start = edge m e .start;
@@ -218,37 +220,39 @@ module _ (m : Map) (e : ℕ) (p : Point) (g : Good m) (has : hasEdge m e ≡ tru
         ∙ ap (edge m) (sym (same-true (r .number) e q))
         ∙ edge-at m (good-lawful m g .once) k
     | inr q ↦
-        ap (λ (b : Bool). back (W (cond b first (relinked e e x r)))) q
-        ∙ ap (λ (b : Bool). cond b (mended m e g has e) (W (relinked e e x r))) q
+        ap (λ (b : Bool). back (by-10 (cond b first (relinked e e x r)))) q
+        ∙ ap (λ (b : Bool). cond b (renumbered-row m e g has e) (by-10 (relinked e e x r))) q
         ∙ row-names m e g has e x e kept-names r k
         ∙ ap₂ (λ (u v : Dart). withLinks u v r) (renamed-self e (r .nextLeft)) (renamed-self e (r .nextRight))
   ]
 
-  kept-edges : withoutEdge x (map back (map W (split true e p m .edges))) ≡ m .edges
+  kept-edges : withoutEdge x (map back (map by-10 (split true e p m .edges))) ≡ m .edges
   kept-edges =
-      ap (λ (l : List Edge). withoutEdge x (map back (map W l))) kept-list
-      ∙ ap (withoutEdge x) (map-map back W (rows ++ second ∷ []) ∙ map-append (λ r. back (W r)) rows (second ∷ []))
-      ∙ ap (λ (l : List Edge). withoutEdge x (l ++ back (W second) ∷ [])) rows-back
-      ∙ keep-last (λ r. not (same (r .number) x)) (m .edges) (back (W second)) others out
+      ap (λ (l : List Edge). withoutEdge x (map back (map by-10 l))) kept-list
+      ∙ ap (withoutEdge x) (map-map back by-10 (rows ++ second ∷ []))
+      ∙ ap (withoutEdge x) (map-append (λ r. back (by-10 r)) rows (second ∷ []))
+      ∙ ap (λ (l : List Edge). withoutEdge x (l ++ back (by-10 second) ∷ [])) rows-back
+      ∙ keep-last (λ r. not (same (r .number) x)) (m .edges) (back (by-10 second)) others out
     where
       rows : List Edge
       rows = map (put e first) (map (relinked e e x) (m .edges))
 
-      rows-back : map (λ r. back (W r)) rows ≡ m .edges
+      rows-back : map (λ r. back (by-10 r)) rows ≡ m .edges
       rows-back =
-          map-map (λ r. back (W r)) (put e first) (map (relinked e e x) (m .edges))
-          ∙ map-map (λ r. back (W (put e first r))) (relinked e e x) (m .edges)
-          ∙ map-cong (λ r. back (W (put e first (relinked e e x r)))) (λ r. r) (m .edges) each-back
+          map-map (λ r. back (by-10 r)) (put e first) (map (relinked e e x) (m .edges))
+          ∙ map-map (λ r. back (by-10 (put e first r))) (relinked e e x) (m .edges)
+          ∙ map-cong (λ r. back (by-10 (put e first (relinked e e x r)))) (λ r. r) (m .edges) each-back
           ∙ map-id (m .edges)
 
       others : (r : Edge) → List·Memᴰ r (m .edges) → not (same (r .number) x) ≡ true
       others r k = let i = below m e g has k in ap not (same-false (r .number) x (λ j. omega arith))
 
-      out : not (same (back (W second) .number) x) ≡ false
+      out : not (same (back (by-10 second) .number) x) ≡ false
       out =
           let i = e-below m e g has in
           let q = same-false x e (λ j. omega arith) in
-          ap (λ (b : Bool). not (same (cond b (mended m e g has e) (W second) .number) x)) q ∙ ap not (same-refl x)
+          ap (λ (b : Bool). not (same (cond b (renumbered-row m e g has e) (by-10 second) .number) x)) q
+          ∙ ap not (same-refl x)
 
   -- the map is as before, but for the next numbers
   pub kept-back : heal true e x (split true e p m) ≡ given 1 1 0 m
@@ -283,17 +287,18 @@ module _ (m : Map) (e : ℕ) (p : Point) (g : Good m) (has : hasEdge m e ≡ tru
     new-names : Back m e g has x (x + 1) h
     new-names d k = names-back e x (x + 1) h d (λ ne j. omega arith) (λ j. omega arith)
 
-    abbrev V′ : Edge → Edge
-    V′ = whole.relinked h (fwd x) (fwd (x + 1))
+    -- links renamed by kind 9
+    abbrev by-9 : Edge → Edge
+    by-9 = whole.relinked h (fwd x) (fwd (x + 1))
 
     abbrev others : List Edge
     others = map (linksRenamed e h) (withoutEdge e (m .edges))
 
-    others-are : map V′ (withoutEdge e (map (relinked e x (x + 1)) (m .edges))) ≡ others
+    others-are : map by-9 (withoutEdge e (map (relinked e x (x + 1)) (m .edges))) ≡ others
     others-are =
-        ap (map V′) (keep-map (relinked e x (x + 1)) not-e not-e (m .edges) (λ r k. refl))
-        ∙ map-map V′ (relinked e x (x + 1)) (withoutEdge e (m .edges))
-        ∙ map-cong (λ r. V′ (relinked e x (x + 1) r)) (linksRenamed e h) (withoutEdge e (m .edges))
+        ap (map by-9) (keep-map (relinked e x (x + 1)) not-e not-e (m .edges) (λ r k. refl))
+        ∙ map-map by-9 (relinked e x (x + 1)) (withoutEdge e (m .edges))
+        ∙ map-cong (λ r. by-9 (relinked e x (x + 1) r)) (linksRenamed e h) (withoutEdge e (m .edges))
         (λ r k. row-names m e g has x (x + 1) h new-names r (keep-in not-e (m .edges) k .0))
       where
         not-e : Edge → Bool
@@ -307,27 +312,27 @@ module _ (m : Map) (e : ℕ) (p : Point) (g : Good m) (has : hasEdge m e ≡ tru
         let q = ap (λ (z : Edge). z .number) (y .2) in
         ap not (same-false (r .number) k (λ w. omega arith))
 
-    new-edges : withoutEdge x (withoutEdge (x + 1) (map V′ (split false e p m .edges))) ≡ others
+    new-edges : withoutEdge x (withoutEdge (x + 1) (map by-9 (split false e p m .edges))) ≡ others
     new-edges =
         ap (λ (l : List Edge). withoutEdge x (withoutEdge (x + 1) l)) listed
         ∙ ap (withoutEdge x) rear-out
-        ∙ keep-last (λ r. not (same (r .number) x)) others (V′ front) (kept-others x (omega arith)) front-out
+        ∙ keep-last (λ r. not (same (r .number) x)) others (by-9 front) (kept-others x (omega arith)) front-out
       where
-        listed : map V′ (split false e p m .edges) ≡ others ++ V′ front ∷ V′ rear ∷ []
+        listed : map by-9 (split false e p m .edges) ≡ others ++ by-9 front ∷ by-9 rear ∷ []
         listed =
-            ap (map V′) new-list
-            ∙ map-append V′ (withoutEdge e (map (relinked e x (x + 1)) (m .edges))) (front ∷ rear ∷ [])
-            ∙ ap (λ (l : List Edge). l ++ V′ front ∷ V′ rear ∷ []) others-are
+            ap (map by-9) new-list
+            ∙ map-append by-9 (withoutEdge e (map (relinked e x (x + 1)) (m .edges))) (front ∷ rear ∷ [])
+            ∙ ap (λ (l : List Edge). l ++ by-9 front ∷ by-9 rear ∷ []) others-are
 
-        last : withoutEdge (x + 1) (V′ front ∷ V′ rear ∷ []) ≡ V′ front ∷ []
+        last : withoutEdge (x + 1) (by-9 front ∷ by-9 rear ∷ []) ≡ by-9 front ∷ []
         last = rw (same-false x (x + 1) (λ j. omega (arith, j)), same-refl (x + 1))
 
-        rear-out : withoutEdge (x + 1) (others ++ V′ front ∷ V′ rear ∷ []) ≡ others ++ V′ front ∷ []
+        rear-out : withoutEdge (x + 1) (others ++ by-9 front ∷ by-9 rear ∷ []) ≡ others ++ by-9 front ∷ []
         rear-out =
-            keep-append (λ r. not (same (r .number) (x + 1))) others (V′ front ∷ V′ rear ∷ [])
+            keep-append (λ r. not (same (r .number) (x + 1))) others (by-9 front ∷ by-9 rear ∷ [])
             ∙ ap₂ _++_ (keep-all _ others (kept-others (x + 1) (omega arith))) last
 
-        front-out : not (same (V′ front .number) x) ≡ false
+        front-out : not (same (by-9 front .number) x) ≡ false
         front-out = ap not (same-refl x)
 
   -- the edge has the next number but two, its row is the last, and the links name it so
@@ -338,7 +343,7 @@ module _ (m : Map) (e : ℕ) (p : Point) (g : Good m) (has : hasEdge m e ≡ tru
       (rejoin m _ e n x (x + 1) p g (new-halves m e p (good-lawful m g) has free on)) (new-names (x + 2))
       ∙ (λ i. record {
         nodes = nodes-back i;
-        edges = new-edges (x + 2) i ++ mended m e g has (x + 2) ∷ [];
+        edges = new-edges (x + 2) i ++ renumbered-row m e g has (x + 2) ∷ [];
         faces = m .faces;
         nextNode = add-zero (m .nextNode + 1) i;
         nextEdge = three (m .nextEdge) i;

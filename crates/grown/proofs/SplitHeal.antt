@@ -109,6 +109,7 @@ module _ (s : Sizes) (m : Map) (g : Good m) (f : Fits s m) (t : Ticket) where
 
 -- ---- no reason against the heal, but that no number is left
 
+-- rows are named by plain numbers
 plain : (m : Map) (e : ℤ) (rs : Reasons) → firstReason ((4, noEdge m e) ∷ rs) ≡ 0 → nonNeg e ≡ true
 plain m e rs h =
     let has = not-false (nonNeg e && hasEdge m (natAbs e)) (no-reason 3 (noEdge m e) rs h .0) in
@@ -178,7 +179,7 @@ module _ (s : Sizes) (m : Map) (g : Good m) (f : Fits s m) where
     head = (head-raised 1 3 (renumbered e h m) ∙ ap (raised 1 3) (renumbered-head e h has)) i;
   }
 
--- ---- kinds 8 and 10, kinds 7 and 9
+-- ---- the two pairs, on a good map
 
 module _ (s : Sizes) (m : Map) (g : Good m) (r : Reached m) (f : Fits s m) (e x y : ℤ) where
   abbrev k : ℕ
