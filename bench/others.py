@@ -666,15 +666,22 @@ def renamed(rows, e, h):
                   for (n, start, end, left, right), curve in rows)
 
 
-def sluice_fault(kind, e, h, history):
+def sluice_fault(kind, e, h, at, history):
     """What is not as before after a split and its heal, in words; nothing where all is."""
     (_, before), (split, _), (heal, after) = history[-3:]
     if not split.startswith('done') or not heal.startswith('done'):
-        return 'turned down'
+        return (heal if split.startswith('done') else 'split ' + split).replace('refused', 'turned down,')
     want = renamed(before, e, h) if kind == 7 else before
+    numbers = {row[0] for row, _ in after}
+    if any(abs(link) not in numbers for row, _ in after for link in row[3:]):
+        return 'a link to an edge that is gone'
     if [row for row, _ in after] != [row for row, _ in want]:
         return 'other links or numbers'
-    return '' if after == want else 'another curve'
+    if after == want:
+        return ''
+    healed = h if kind == 7 else e
+    without = [(row, tuple(p for p in c if p != at) if row[0] == healed else c) for row, c in after]
+    return 'the cut point left in the curve' if without == want else 'another curve'
 
 
 def hold_sluices(engine):
@@ -683,10 +690,11 @@ def hold_sluices(engine):
     for name, tickets in cut_sheets():
         kind, e = tickets[-1][:2]
         n = sum(t[0] == 12 for t in tickets)
-        sheets.append((name, kind, e, n + 3, tickets + [(10, e, n + 1) if kind == 8 else (9, n + 1, n + 2)]))
+        heal = (10, e, n + 1) if kind == 8 else (9, n + 1, n + 2)
+        sheets.append((name, kind, e, n + 3, tickets[-1][2:], tickets + [heal]))
     found = {}
     for sheet, history in zip(sheets, engine.histories([s[-1] for s in sheets]), strict=True):
-        found.setdefault((sheet[1], sluice_fault(*sheet[1:4], history)), []).append((sheet, history))
+        found.setdefault((sheet[1], sluice_fault(*sheet[1:5], history)), []).append((sheet, history))
     print(f'\n{engine.version}')
     for (kind, fault), cases in sorted(found.items()):
         print(f"  kind {kind}, then {kind + 2}: {fault or 'edge rows as before'} on {len(cases)} sheets")

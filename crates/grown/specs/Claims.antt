@@ -103,7 +103,7 @@ unfoldable pub renumbered : ℕ → ℕ → Map → Map
 renumbered e h m =
     setEdges (map (linksRenamed e h) (withoutEdge e (m .edges)) ++ withNumber h (linksRenamed e h (edge m e)) ∷ []) m
 
--- carried out; nodes and faces are as before, the edge e has the number h, and the next numbers have risen
+-- carried out; nodes and faces are as before, the edge e has the number h, the next node and edge numbers have risen
 abbrev pub renewed : ℕ → ℕ → Lent → Outcome
 renewed e h l =
     let edges = lentOf (sizesOf l) (renumbered e h (mapOf l)) .edges in
