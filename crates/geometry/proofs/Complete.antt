@@ -54,7 +54,7 @@ on-less a b p h lo hi e =
     ei = pos-sub (p .x) (a .x) lo
 
 -- areas with two points exchanged, or with the axes exchanged
-area-swap : (a b c : Point) → area b a c ≡ negℤ (area a b c)
+pub area-swap : (a b c : Point) → area b a c ≡ negℤ (area a b c)
 unfolding area
 area-swap a b c =
     solve₃ (λ ax ay bx by cx cy. areaE bx by ax ay cx cy ≐ ⊝ areaE ax ay bx by cx cy) tt a b c
@@ -137,7 +137,7 @@ collinear a b c d s fx fy =
 -- ---- the lines cross
 
 -- the doubled area of a b c is above that of a b d
-crossing : (a b c d : Point) → pos 0 ≤ℤ area a b c → area a b d ≤ℤ pos 0 → area c d a ≤ℤ pos 0 → pos 0 ≤ℤ area c d b → area a b d <ℤ area a b c → Common a b c d
+pub crossing : (a b c d : Point) → pos 0 ≤ℤ area a b c → area a b d ≤ℤ pos 0 → area c d a ≤ℤ pos 0 → pos 0 ≤ℤ area c d b → area a b d <ℤ area a b c → Common a b c d
 unfolding area
 crossing a b c d h₁ h₂ h₃ h₄ h =
     record {
@@ -231,7 +231,7 @@ areas a b c d =
     solve₄ (λ ax ay bx by cx cy dx dy. areaE cx cy dx dy bx by ⊖ areaE cx cy dx dy ax ay ≐ areaE ax ay bx by cx cy ⊖ areaE ax ay bx by dx dy) tt a b c d
 
 -- the second segment's ends exchanged
-common-turned : (a b c d : Point) → Common a b d c → Common a b c d
+pub common-turned : (a b c d : Point) → Common a b d c → Common a b c d
 common-turned a b c d s =
     record {
       j = s .j;

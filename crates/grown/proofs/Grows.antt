@@ -40,7 +40,7 @@ pub record State (s : Sizes) (l : Lent) : Type 0 where
   pub lent : l ≡ lentOf s map
 
 module _ (s : Sizes) (m : Map) (g : Good m) (r : Reached m) (f : Fits s m) where
-  here : State s (lentOf s m)
+  pub here : State s (lentOf s m)
   here = record { map = m; good = g; reached = r; fits = f; lent = refl }
 
   -- what nothing turns down in the tables nothing turns down in the map
@@ -71,7 +71,7 @@ unfolding ticket
 step s l t x = subst (λ (k : Lent). State s (judged k (mapOf k) (read t) .lent)) (sym (x .lent)) (judge s (x .map) (x .good) (x .reached) (x .fits) (read t))
 
 -- a list of tickets
-steps : (s : Sizes) (l : Lent) (ts : List (List ℤ)) → State s l → State s (after l ts .lent)
+pub steps : (s : Sizes) (l : Lent) (ts : List (List ℤ)) → State s l → State s (after l ts .lent)
 unfolding after
 steps s l [] x = x
 steps s l (t ∷ ts) x = steps s (ticket l t .lent) ts (step s l t x)
@@ -94,19 +94,20 @@ whole-limited l h =
 
 -- ---- the theorem
 
+-- what is lent in such a state
+pub state-grown : {s : Sizes} {l : Lent} → State s l → GrownMap l
+state-grown {s} {l} x =
+    let m = x .map in
+    let back : mapOf l ≡ m = ap mapOf (x .lent) ∙ good-back m (x .good) s in
+    record {
+      sound = subst Sound (sym back) (good-sound m (x .good));
+      in-form = ap inForm (x .lent) ∙ good-in-form m (x .good) s (x .fits);
+      lawful = ap obeysLaw back ∙ law-is m (x .good .woven .law);
+      borne = subst (λ (q : Map). (f : ℕ) → List·Memᴰ f (q .faces) → f ≢ 0 → (d : Dart) × List·Memᴰ d (directed q) × (bears q d ≡ f)) (sym back) (x .good .woven .borne);
+    }
+
 pub grows : Grows
-grows s h ts = go (grown-state s h ts)
-  where
-    go : State s (grow s ts .lent) → GrownMap (grow s ts .lent)
-    go x =
-        let m = x .map in
-        let back : mapOf (grow s ts .lent) ≡ m = ap mapOf (x .lent) ∙ good-back m (x .good) s in
-        record {
-          sound = subst Sound (sym back) (good-sound m (x .good));
-          in-form = ap inForm (x .lent) ∙ good-in-form m (x .good) s (x .fits);
-          lawful = ap obeysLaw back ∙ law-is m (x .good .woven .law);
-          borne = subst (λ (q : Map). (f : ℕ) → List·Memᴰ f (q .faces) → f ≢ 0 → (d : Dart) × List·Memᴰ d (directed q) × (bears q d ≡ f)) (sym back) (x .good .woven .borne);
-        }
+grows s h ts = state-grown (grown-state s h ts)
 
 pub never-lent : NeverLent
 unfolding firstReason

@@ -8,3 +8,4 @@ pub mod Counts
 pub mod Keeps
 pub mod Parts
 pub mod Appends
+pub mod Linear

@@ -1,5 +1,6 @@
--- Scans of lists (`Scans`), rows counted from a place on (`Tables`), tests of numbers and sums mod 2 (`Tests`), and what stands twice (`Members`).
+-- Scans of lists (`Scans`), rows counted from a place on (`Tables`), tests of numbers and sums mod 2 (`Tests`), what stands twice (`Members`), and additive tests of sets (`Forms`).
 pub mod Tests
 pub mod Scans
 pub mod Tables
 pub mod Members
+pub mod Forms

@@ -4,14 +4,14 @@ use mathlib.Core.Logic.{inl, inr}
 use mathlib.Core.Bool.{Bool, true, false, cond, not, true≢false}
 use mathlib.Core.List.{List, _∷_, List·Memᴰ, List·Memᴰ·tail, List·Memᴰ·cases-cons, Memᴰ·cast}
 use Prim.Native.Nat.{ℕ}
-use Rattle.lists.specs.Tests.{same}
+use Rattle.lists.specs.Tests.{same, iterate}
 use Rattle.lists.proofs.Bools.{which, same-refl, same-true, same-eq, same-false, equal?}
 use Rattle.lists.proofs.Members.{some?}
 use Rattle.lists.proofs.Keeps.{keep-in, keep-has, keep-all, keep-swap}
 use Rattle.plane.specs.Directions.{Way}
 use Rattle.rotation.specs.Law.{Tells, firstClockwise, Differ, others, Lawful, redirect, put, from, back, Law, Apart, link, unlink, linkEdge, unlinkEdge}
 use Rattle.rotation.proofs.Tells.{is-no}
-use Rattle.rotation.proofs.Node.{lawful-in, first-in, first-none, put-lawful, take-lawful}
+use Rattle.rotation.proofs.Node.{lawful-in, first-in, first-none, put-lawful, take-lawful, lawful-reach}
 
 module _ {D : Type 0} (is : D → D → Bool) (rev : D → D) (tail : D → ℕ) (way : D → Way) (tells : Tells is) (rev-rev : (d : D) → rev (rev d) ≡ d) where
   is-rev : (a b : D) → is (rev a) (rev b) ≡ is a b
@@ -96,3 +96,7 @@ module _ {D : Type 0} (is : D → D → Bool) (rev : D → D) (tail : D → ℕ)
       unlink-law (others is e all) (unlink is rev e next) (unlink-law all next l e me (apart (tail e)))
       (rev e) (keep-has (λ q. not (is q e)) all me′ (ap not (is-no tells (rev e) e ne)))
       (sub-differ (λ d m. let k = from-in (others is e all) m in from-has all (keep-in (λ q. not (is q e)) all (k .0) .0) (k .1)) (apart (tail (rev e))))
+
+  -- the departures of a node are met in one turn
+  pub law-reach : (all : List D) (next : D → D) → Law is rev tail way all next → Apart tail way all → (d c : D) → List·Memᴰ d all → List·Memᴰ c all → tail d ≡ tail c → (k : ℕ) × (iterate k (back rev next) d ≡ c)
+  law-reach all next l apart d c md mc e = lawful-reach way is tells (from tail all (tail d)) (back rev next) (apart (tail d)) (l (tail d)) d c (from-has all md refl) (from-has all mc (sym e))

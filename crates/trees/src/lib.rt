@@ -1,0 +1,1 @@
+// Trees: no code, only theorems in proofs/, for other crates to cite.
