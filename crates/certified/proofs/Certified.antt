@@ -52,7 +52,10 @@ module _ (m : Map) where
 
   numbered-is : Numbered m → nextsFit m ≡ true
   unfolding nextsFit
-  numbered-is n = and-is (and-is (and-is (and-is (le-leb _ _ (n .first-node)) (le-leb _ _ (n .first-edge))) (le-leb _ _ (n .next-node))) (le-leb _ _ (n .next-edge))) (le-leb _ _ (n .next-face))
+  numbered-is n =
+      and-is
+      (and-is (and-is (and-is (le-leb _ _ (n .first-node)) (le-leb _ _ (n .first-edge))) (le-leb _ _ (n .next-node)))
+      (le-leb _ _ (n .next-edge))) (le-leb _ _ (n .next-face))
 
   pub certified-good : certified m ≡ true → Good m
   unfolding certified inPlane
@@ -63,7 +66,11 @@ module _ (m : Map) where
       let h₄ = and-true _ (reaches m) (h₃ .0) in
       let h₅ = and-true (obeysLaw m) (sumHolds m) (h₄ .0) in
       let l : Lawful m = formed-lawful m (h₂ .0) (surveys-long m (h₃ .1)) (h₅ .0) in
-      record { numbered = numbered-says (h₂ .0) (h₂ .1); woven = woven m (h₂ .0) l (sum-says m (h₅ .1)) (reaches-says m (h₄ .1)); surveyed = surveys-says m (h₂ .0) l (h₃ .1) }
+      record {
+        numbered = numbered-says (h₂ .0) (h₂ .1);
+        woven = woven m (h₂ .0) l (sum-says m (h₅ .1)) (reaches-says m (h₄ .1));
+        surveyed = surveys-says m (h₂ .0) l (h₃ .1);
+      }
 
   -- every face is reached in a good map
   module _ (g : Good m) where
@@ -73,7 +80,8 @@ module _ (m : Map) where
     zero-face : List·Memᴰ 0 (m .faces)
     unfolding numbers
     zero-face = zero-in (m .faces) (same-true (firstOr 1 (m .faces)) 0 (and-right
-        (numbered 1 (m .nextNode) (map (λ n. n .number) (m .nodes)) && numbered 1 (m .nextEdge) (map (λ e. e .number) (m .edges)) && numbered 0 (m .nextFace) (m .faces))
+        (numbered 1 (m .nextNode) (map (λ n. n .number) (m .nodes))
+        && numbered 1 (m .nextEdge) (map (λ e. e .number) (m .edges)) && numbered 0 (m .nextFace) (m .faces))
         (same (firstOr 1 (m .faces)) 0) (g .numbered .numbers)))
 
     face-there : (f : ℕ) → hasFace m f ≡ true → List·Memᴰ f (m .faces)
@@ -82,22 +90,33 @@ module _ (m : Map) where
     beside : (e : Edge) → List·Memᴰ e (m .edges) → List·Memᴰ (e .left) (m .faces) × List·Memᴰ (e .right) (m .faces)
     beside e k =
         let h₁ = and-true _ (hasFace m (e .right)) (names m (good-formed m g) e k) in
-        let h₂ = and-true (hasNode m (e .start) && hasNode m (e .end) && hasEdge m (e .nextLeft .edge) && hasEdge m (e .nextRight .edge)) (hasFace m (e .left)) (h₁ .0) in
+        let h₂ =
+        and-true (hasNode m (e .start) && hasNode m (e .end) && hasEdge m (e .nextLeft .edge)
+        && hasEdge m (e .nextRight .edge)) (hasFace m (e .left)) (h₁ .0) in
         (face-there (e .left) (h₂ .1), face-there (e .right) (h₁ .1))
 
-    sides : (a : Arc) → List·Memᴰ a (arcs m) → List·Memᴰ (bears m (fwd (a .num))) (m .faces) × List·Memᴰ (bears m (bwd (a .num))) (m .faces)
+    sides : (a : Arc) → List·Memᴰ a (arcs m)
+        → List·Memᴰ (bears m (fwd (a .num))) (m .faces) × List·Memᴰ (bears m (bwd (a .num))) (m .faces)
     sides a k =
         let r = Memᴰ·of-map arcOf (m .edges) k in
         let b = beside (r .0) (r .1) in
-        subst (λ (c : Arc). List·Memᴰ (bears m (fwd (c .num))) (m .faces) × List·Memᴰ (bears m (bwd (c .num))) (m .faces)) (r .2) (Memᴰ·cast (bears-left m once (r .1)) (b .0), Memᴰ·cast (bears-right m once (r .1)) (b .1))
+        subst (λ (c : Arc). List·Memᴰ (bears m (fwd (c .num))) (m .faces)
+        × List·Memᴰ (bears m (bwd (c .num))) (m .faces)) (r .2) (
+          Memᴰ·cast (bears-left m once (r .1)) (b .0),
+          Memᴰ·cast (bears-right m once (r .1)) (b .1),
+        )
 
     pub good-reached : Reached m
-    good-reached S even = reached-of-colouring (map (λ n. n .number) (m .nodes)) (arcs m) (bears m) (m .faces) 0 (g .woven .planar .nodes-once) once (g .woven .planar .within) (g .woven .planar .colouring) (g .woven .planar .euler)
+    good-reached S even = reached-of-colouring (map (λ n. n .number) (m .nodes)) (arcs m) (bears m) (m .faces) 0
+        (g .woven .planar .nodes-once) once (g .woven .planar .within) (g .woven .planar .colouring)
+        (g .woven .planar .euler)
         zero-face sides S (λ a k. even-darts m S even (fwd (a .num)) (fwd-in k))
 
   pub good-plane : Good m → inPlane m ≡ true
   unfolding inPlane
-  good-plane g = and-is (and-is (and-is (law-is m (g .woven .law)) (sum-is m (g .woven .planar .euler))) (reaches-is m (good-reached g))) (surveys-is m (g .surveyed))
+  good-plane g =
+      and-is (and-is (and-is (law-is m (g .woven .law)) (sum-is m (g .woven .planar .euler)))
+      (reaches-is m (good-reached g))) (surveys-is m (g .surveyed))
 
   pub good-certified : Good m → certified m ≡ true
   unfolding certified

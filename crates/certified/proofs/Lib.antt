@@ -1,4 +1,5 @@
--- Tables that pass the tests stay, whatever tickets come, as grown ones are, and all grown tables pass (`Tables`): a map passes just when it is good (`Certified`).
+-- Tables that pass the tests stay, whatever tickets come, as grown ones are, and all grown tables pass (`Tables`): a
+-- map passes just when it is good (`Certified`).
 pub mod Woven
 pub mod Surveys
 pub mod Certified

@@ -35,7 +35,8 @@ not-says false e = refl
 -- ---- points
 
 range-says : (p : Point) → inRange p ≡ true → InRange p
-range-says p h = let k = and-true (leb (p .x) maxCoordinate) (leb (p .y) maxCoordinate) h in record { x = leb-true _ _ (k .0); y = leb-true _ _ (k .1) }
+range-says p h = let k = and-true (leb (p .x) maxCoordinate) (leb (p .y) maxCoordinate) h in
+    record { x = leb-true _ _ (k .0); y = leb-true _ _ (k .1) }
 
 range-is : (p : Point) → InRange p → inRange p ≡ true
 range-is p h = and-is (le-leb _ _ (h .x)) (le-leb _ _ (h .y))
@@ -45,11 +46,14 @@ range-is p h = and-is (le-leb _ _ (h .x)) (le-leb _ _ (h .y))
 module _ {A : Type 0} (r : A → A → Bool) where
   noTwo-says : (l : List A) → noTwo r l ≡ true → Pairs (λ x y. r x y ≡ false) l
   noTwo-says [] h = tt
-  noTwo-says (x ∷ l) h = let k = and-true (all (λ y. not (r x y)) l) (noTwo r l) h in (all-of l (λ y m. not-says (r x y) (all-each (λ y. not (r x y)) l (k .0) y m)), noTwo-says l (k .1))
+  noTwo-says (x ∷ l) h = let k = and-true (all (λ y. not (r x y)) l) (noTwo r l) h in
+      (all-of l (λ y m. not-says (r x y) (all-each (λ y. not (r x y)) l (k .0) y m)), noTwo-says l (k .1))
 
   noTwo-is : (l : List A) → Pairs (λ x y. r x y ≡ false) l → noTwo r l ≡ true
   noTwo-is [] h = refl
-  noTwo-is (x ∷ l) h = and-is (each-all (λ y. not (r x y)) l (λ y m. ap not (each-of (λ y. r x y ≡ false) l (h .0) y m))) (noTwo-is l (h .1))
+  noTwo-is (x ∷ l) h =
+      and-is (each-all (λ y. not (r x y)) l (λ y m. ap not (each-of (λ y. r x y ≡ false) l (h .0) y m)))
+      (noTwo-is l (h .1))
 
 pairs-by : {A : Type 0} (P Q : A → A → Type 0) → ((x y : A) → P x y → Q x y) → (l : List A) → Pairs P l → Pairs Q l
 pairs-by P Q f [] h = tt
@@ -61,14 +65,21 @@ points-says l h = go l (noTwo-says samePoint l h)
   where
     go : (l : List Point) → Pairs (λ p q. samePoint p q ≡ false) l → Distinct l
     go [] k = tt
-    go (p ∷ l) k = (λ m. true≢false (sym (samePoint-iff p p .1 refl) ∙ each-of (λ q. samePoint p q ≡ false) l (k .0) p m), go l (k .1))
+    go (p ∷ l) k = (
+      λ m. true≢false (sym (samePoint-iff p p .1 refl) ∙ each-of (λ q. samePoint p q ≡ false) l (k .0) p m),
+      go l (k .1),
+    )
 
 points-is : (l : List Point) → Distinct l → noTwo samePoint l ≡ true
 points-is l d = noTwo-is samePoint l (go l d)
   where
     go : (l : List Point) → Distinct l → Pairs (λ p q. samePoint p q ≡ false) l
     go [] k = tt
-    go (p ∷ l) k = (all-of l (λ q m. not-true (samePoint p q) (λ e. k .0 (subst (λ (z : Point). List·Memᴰ z l) (sym (samePoint-iff p q .0 e)) m))), go l (k .1))
+    go (p ∷ l) k = (
+      all-of l (λ q m. not-true (samePoint p q) (λ e.
+          k .0 (subst (λ (z : Point). List·Memᴰ z l) (sym (samePoint-iff p q .0 e)) m))),
+      go l (k .1),
+    )
 
 -- ---- curves
 
@@ -93,12 +104,20 @@ kept-says c h =
     let h₄ = and-true (leb 2 (length (points c))) (leb (length (points c)) maxPoints) (h₃ .0) in
     record {
       least = leb-true _ _ (h₄ .0);
-      kept = record { most = leb-true _ _ (h₄ .1); in-range = λ p m. range-says p (all-each inRange (points c) (h₃ .1) p m); bent = not-says (straightInside c) (h₁ .1) };
+      kept =
+          record {
+            most = leb-true _ _ (h₄ .1);
+            in-range = λ p m. range-says p (all-each inRange (points c) (h₃ .1) p m);
+            bent = not-says (straightInside c) (h₁ .1);
+          };
       simple = h₂ .1;
     }
 
 kept-is : (c : Curve) → Parts c → curveKept c ≡ true
-kept-is c k = and-is (and-is (and-is (and-is (le-leb _ _ (k .least)) (le-leb _ _ (k .kept .most))) (each-all inRange (points c) (λ p m. range-is p (k .kept .in-range p m)))) (k .simple)) (ap not (k .kept .bent))
+kept-is c k =
+    and-is
+    (and-is (and-is (and-is (le-leb _ _ (k .least)) (le-leb _ _ (k .kept .most)))
+    (each-all inRange (points c) (λ p m. range-is p (k .kept .in-range p m)))) (k .simple)) (ap not (k .kept .bent))
 
 -- ---- the map
 
@@ -121,11 +140,17 @@ module _ (m : Map) where
       record { each = h₃ .0; clear = h₃ .1; nodes = h₂ .1; places = h₁ .1 }
 
   pub surveys-long : surveys m ≡ true → (e : Edge) → List·Memᴰ e (m .edges) → 2 ≤ length (points (e .curve))
-  surveys-long h e k = kept-says (e .curve) (all-each (λ e. curveKept (e .curve)) (m .edges) (surveys-parts h .each) e k) .least
+  surveys-long h e k =
+      kept-says (e .curve) (all-each (λ e. curveKept (e .curve)) (m .edges) (surveys-parts h .each) e k) .least
 
   pub surveys-says : formed m ≡ true → Lawful m → surveys m ≡ true → Surveyed m
   surveys-says form l h = record {
-    drawn = record { good = goods; clear = pairs-by (λ c d. meetWrongly c d ≡ false) ClearCurves (λ c d. meetWrongly-iff c d .0) curves (noTwo-says meetWrongly curves (d .clear)) };
+    drawn =
+        record {
+          good = goods;
+          clear = pairs-by (λ c d. meetWrongly c d ≡ false) ClearCurves (λ c d. meetWrongly-iff c d .0) curves
+              (noTwo-says meetWrongly curves (d .clear));
+        };
     kept = λ e k. part e k .kept;
     anchored = l .anchored;
     nodes-in-range = λ n k. range-says (n .at) (all-each (λ n. inRange (n .at)) (m .nodes) (d .nodes) n k);
@@ -141,17 +166,27 @@ module _ (m : Map) where
       good : (e : Edge) → List·Memᴰ e (m .edges) → drawing.Good (e .curve)
       good e k = good-iff (e .curve) .1 (
         some-says (e .curve) (part e k .least),
-        and-true (samePoint (e .curve .first) (node m (e .start) .at) && samePoint (lastPoint (e .curve)) (node m (e .end) .at)) (neighboursDiffer (e .curve)) (all-each (curveFits m) (m .edges) (formed-is m form .curves) e k) .1,
+        and-true (samePoint (e .curve .first) (node m (e .start) .at)
+            && samePoint (lastPoint (e .curve)) (node m (e .end) .at)) (neighboursDiffer (e .curve))
+            (all-each (curveFits m) (m .edges) (formed-is m form .curves) e k) .1,
         part e k .simple,
       )
 
       goods : All drawing.Good curves
-      goods = all-of curves (λ c k. let r = Memᴰ·of-map (λ (e : Edge). e .curve) (m .edges) k in subst drawing.Good (r .2) (good (r .0) (r .1)))
+      goods =
+          all-of curves (λ c k. let r = Memᴰ·of-map (λ (e : Edge). e .curve) (m .edges) k in
+          subst drawing.Good (r .2) (good (r .0) (r .1)))
 
   pub surveys-is : Surveyed m → surveys m ≡ true
   unfolding surveys
   surveys-is s = and-is (and-is (and-is
-      (each-all (λ e. curveKept (e .curve)) (m .edges) (λ e k. kept-is (e .curve) (record { least = curve-long m s e k; kept = s .kept e k; simple = good-iff (e .curve) .0 (curve-good m s e k) .2 })))
-      (noTwo-is meetWrongly curves (pairs-by ClearCurves (λ c d. meetWrongly c d ≡ false) (λ c d. meetWrongly-iff c d .1) curves (s .drawn .clear))))
+      (each-all (λ e. curveKept (e .curve)) (m .edges)
+      (λ e k. kept-is (e .curve) (record {
+        least = curve-long m s e k;
+        kept = s .kept e k;
+        simple = good-iff (e .curve) .0 (curve-good m s e k) .2;
+      })))
+      (noTwo-is meetWrongly curves (pairs-by ClearCurves (λ c d. meetWrongly c d ≡ false)
+      (λ c d. meetWrongly-iff c d .1) curves (s .drawn .clear))))
       (each-all (λ n. inRange (n .at)) (m .nodes) (λ n k. range-is (n .at) (s .nodes-in-range n k))))
       (points-is (map (λ n. n .at) (m .nodes)) (s .places))

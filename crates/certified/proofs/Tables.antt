@@ -1,4 +1,5 @@
--- Tables that pass the tests, grown or not, are after every list of tickets as grown tables are, and pass again; grown tables pass. Assumes nothing.
+-- Tables that pass the tests, grown or not, are after every list of tickets as grown tables are, and pass again; grown
+-- tables pass. Assumes nothing.
 use mathlib.Core.Path.{_≡_, refl, sym, ap, _∙_}
 use mathlib.Core.Bool.{true, _&&_}
 use mathlib.Core.List.{List, map}
@@ -9,7 +10,8 @@ use lib.IntN.{ℤ, natAbs}
 use lib.ListN.{length, length-map, drop}
 use Rattle.lists.proofs.Bools.{and-true, and-is}
 use Rattle.map.specs.Limits.{lastNumber, maxNodes, maxEdges, maxFaces, nodeWidth, edgeWidth, faceWidth}
-use Rattle.map.specs.Rows.{Lent, Sizes, rows, nodeOf, edgeOf, faceRowOf, nodeRows, edgeRows, faceRows, mapOf, sizesOf, whole}
+use Rattle.map.specs.Rows.{Lent, Sizes, rows, nodeOf, edgeOf, faceRowOf, nodeRows, edgeRows, faceRows, mapOf, sizesOf}
+use Rattle.map.specs.Rows.{whole}
 use Rattle.map.specs.Form.{ranged, formed, inForm}
 use Rattle.map.specs.Grow.{after, grow}
 use Rattle.map.proofs.RoundTrip.{Ranged, ranged-is, within-least, within-most, writes-back, whole-tables, whole-rows}
@@ -35,15 +37,35 @@ module _ (l : Lent) (w : whole l ≡ true) (h : inForm l ≡ true) where
   fits : Fits (sizesOf l) (mapOf l)
   unfolding mapOf
   fits = record {
-    nodes = omega (arith, within-most _ _ (l .head .nodes) (r .nodes), rows-length nodeWidth (natAbs (l .head .nodes)) (l .nodes), length-map (nodeRows l) nodeOf);
-    edges = omega (arith, within-most _ _ (l .head .edges) (r .edges), rows-length edgeWidth (natAbs (l .head .edges)) (l .edges), length-map (edgeRows l) edgeOf);
-    faces = omega (arith, within-most _ _ (l .head .faces) (r .faces), rows-length faceWidth (natAbs (l .head .faces)) (l .faces), length-map (faceRows l) faceRowOf);
+    nodes = omega (
+      arith,
+      within-most _ _ (l .head .nodes) (r .nodes),
+      rows-length nodeWidth (natAbs (l .head .nodes)) (l .nodes),
+      length-map (nodeRows l) nodeOf,
+    );
+    edges = omega (
+      arith,
+      within-most _ _ (l .head .edges) (r .edges),
+      rows-length edgeWidth (natAbs (l .head .edges)) (l .edges),
+      length-map (edgeRows l) edgeOf,
+    );
+    faces = omega (
+      arith,
+      within-most _ _ (l .head .faces) (r .faces),
+      rows-length faceWidth (natAbs (l .head .faces)) (l .faces),
+      length-map (faceRows l) faceRowOf,
+    );
   }
 
   nexts : nextsFit (mapOf l) ≡ true
   unfolding nextsFit mapOf
-  nexts = and-is (and-is (and-is (and-is (le-leb _ _ (within-least 1 (suc lastNumber) (l .head .«next_node») (r .next-node))) (le-leb _ _ (within-least 1 (suc lastNumber) (l .head .«next_edge») (r .next-edge))))
-      (le-leb _ _ (within-most 1 (suc lastNumber) (l .head .«next_node») (r .next-node)))) (le-leb _ _ (within-most 1 (suc lastNumber) (l .head .«next_edge») (r .next-edge))))
+  nexts =
+      and-is
+      (and-is
+      (and-is (and-is (le-leb _ _ (within-least 1 (suc lastNumber) (l .head .«next_node») (r .next-node)))
+      (le-leb _ _ (within-least 1 (suc lastNumber) (l .head .«next_edge») (r .next-edge))))
+      (le-leb _ _ (within-most 1 (suc lastNumber) (l .head .«next_node») (r .next-node))))
+      (le-leb _ _ (within-most 1 (suc lastNumber) (l .head .«next_edge») (r .next-edge))))
       (le-leb _ _ (within-most 1 (suc lastNumber) (l .head .«next_face») (r .next-face)))
 
   plane-good : inPlane (mapOf l) ≡ true → Good (mapOf l)
@@ -70,7 +92,13 @@ passed l h =
     let g = plane-good l (h₂ .0) (h₂ .1) (h₁ .1) in
     record {
       limited = limited l (h₂ .0) (h₂ .1);
-      state = record { map = mapOf l; good = g; reached = good-reached (mapOf l) g; fits = fits l (h₂ .0) (h₂ .1); lent = sym (writes-back l (h₂ .0) (both l (h₂ .0) (h₂ .1) .0)) };
+      state = record {
+        map = mapOf l;
+        good = g;
+        reached = good-reached (mapOf l) g;
+        fits = fits l (h₂ .0) (h₂ .1);
+        lent = sym (writes-back l (h₂ .0) (both l (h₂ .0) (h₂ .1) .0));
+      };
     }
 
 state-certifies : {s : Sizes} {l : Lent} → Limited s → State s l → certifies l ≡ true
@@ -78,7 +106,8 @@ unfolding certifies
 state-certifies {s} {l} h x = and-is (and-is
     (ap whole (x .lent) ∙ good-whole (x .map) (x .good) s (x .fits) (h .some-face) (h .nodes) (h .edges) (h .faces))
     (ap inForm (x .lent) ∙ good-in-form (x .map) (x .good) s (x .fits)))
-    (ap (λ k. inPlane (mapOf k)) (x .lent) ∙ ap inPlane (good-back (x .map) (x .good) s) ∙ good-plane (x .map) (x .good))
+    (ap (λ k. inPlane (mapOf k)) (x .lent) ∙ ap inPlane (good-back (x .map) (x .good) s)
+    ∙ good-plane (x .map) (x .good))
 
 -- ---- the theorems
 

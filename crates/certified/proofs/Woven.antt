@@ -32,14 +32,18 @@ module _ (m : Map) where
 
   pub reaches-says : reaches m ≡ true → reach.Reached m
   unfolding reaches
-  reaches-says h S even f k = chain-alike S sides (chain-of-label steps f 0 (same-true _ _ (all-each (λ g. same (label steps g) (label steps 0)) (m .faces) h f k)))
+  reaches-says h S even f k =
+      chain-alike S sides
+      (chain-of-label steps f 0 (same-true _ _ (all-each (λ g. same (label steps g) (label steps 0)) (m .faces) h f k)))
     where
       sides : (a : Arc) → List·Memᴰ a steps → S (a .from) ≡ S (a .to)
-      sides a j = let r = Memᴰ·of-map crossing (m .edges) j in subst (λ (b : Arc). S (b .from) ≡ S (b .to)) (r .2) (even (r .0) (r .1))
+      sides a j = let r = Memᴰ·of-map crossing (m .edges) j in
+          subst (λ (b : Arc). S (b .from) ≡ S (b .to)) (r .2) (even (r .0) (r .1))
 
   pub reaches-is : reach.Reached m → reaches m ≡ true
   unfolding reaches
-  reaches-is r = each-all (λ g. same (label steps g) (label steps 0)) (m .faces) (λ f k. r (λ g. same (label steps g) (label steps 0)) even f k ∙ same-refl (label steps 0))
+  reaches-is r = each-all (λ g. same (label steps g) (label steps 0)) (m .faces)
+      (λ f k. r (λ g. same (label steps g) (label steps 0)) even f k ∙ same-refl (label steps 0))
     where
       even : reach.Even m (λ g. same (label steps g) (label steps 0))
       even e k = ap (λ x. same x (label steps 0)) (label-of-chain (along (crossing e) (Memᴰ·map crossing k) stay))
@@ -49,23 +53,28 @@ module _ (m : Map) where
 
   pub sum-says : sumHolds m ≡ true → Sum
   unfolding sumHolds
-  sum-says h = let n = length-map (m .nodes) (λ (n : Node). n .number) in let e = length-map (m .edges) arcOf in omega (arith, same-true _ _ h)
+  sum-says h = let n = length-map (m .nodes) (λ (n : Node). n .number) in let e = length-map (m .edges) arcOf in
+      omega (arith, same-true _ _ h)
 
   pub sum-is : Sum → sumHolds m ≡ true
   unfolding sumHolds
-  sum-is h = let n = length-map (m .nodes) (λ (n : Node). n .number) in let e = length-map (m .edges) arcOf in same-eq _ _ (omega (arith, h))
+  sum-is h = let n = length-map (m .nodes) (λ (n : Node). n .number) in let e = length-map (m .edges) arcOf in
+      same-eq _ _ (omega (arith, h))
 
   module _ (form : formed m ≡ true) (l : Lawful m) (sum : Sum) (r : reach.Reached m) where
     -- the same by arcs
     across : Reached (arcs m) (bears m) (m .faces) 0
-    across S even = r S (λ e k. ap S (sym (reach.bears-left m (l .once) k)) ∙ even (arcOf e) (arc-at m k) ∙ ap S (reach.bears-right m (l .once) k))
+    across S even =
+        r S (λ e k. ap S (sym (reach.bears-left m (l .once) k)) ∙ even (arcOf e) (arc-at m k)
+        ∙ ap S (reach.bears-right m (l .once) k))
 
     one-turn : OneTurn (arcs m) (leaves m) (next m)
     one-turn = law-reach sameDart rev (leaves m) (way m) tells rev-rev (directed m) (next m) (l .law) (l .apart)
 
     pub woven : Woven m
     woven = record {
-      planar = planar-of-sum (m .faces) 0 (formed-is m form .numbers .nodes .distinct) (formed-is m form .numbers .faces .distinct) (l .within) (l .linked) sum across (l .once) one-turn;
+      planar = planar-of-sum (m .faces) 0 (formed-is m form .numbers .nodes .distinct)
+          (formed-is m form .numbers .faces .distinct) (l .within) (l .linked) sum across (l .once) one-turn;
       law = l .law;
       borne = reach.reached-borne m (l .once) r;
     }

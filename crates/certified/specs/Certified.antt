@@ -1,4 +1,5 @@
--- The tests that a map must pass so that tickets go on from it as from one that tickets have grown: `certified`. Definitions only. Assumes nothing.
+-- The tests that a map must pass so that tickets go on from it as from one that tickets have grown: `certified`.
+-- Definitions only. Assumes nothing.
 use mathlib.Core.Bool.{Bool, true, not, _&&_}
 use mathlib.Core.List.{List, [], _∷_, map}
 use Prim.Native.Nat.{suc, _+_}
@@ -35,7 +36,8 @@ inRange p = leb (p .x) maxCoordinate && leb (p .y) maxCoordinate
 
 -- 2 to 12 points in range, simple, no inner point straight between its neighbours
 abbrev pub curveKept : Curve → Bool
-curveKept c = leb 2 (length (points c)) && leb (length (points c)) maxPoints && all inRange (points c) && isSimple c && not (straightInside c)
+curveKept c = leb 2 (length (points c)) && leb (length (points c)) maxPoints && all inRange (points c) && isSimple c
+    && not (straightInside c)
 
 -- r holds of no element and a later one
 abbrev pub noTwo : {A : Type 0} → (A → A → Bool) → List A → Bool
@@ -45,12 +47,14 @@ noTwo r (x ∷ l) = let rest = noTwo r l in all (λ y. not (r x y)) l && rest
 -- curves are simple and share common ends only; no two nodes lie on one point
 unfoldable pub surveys : Map → Bool
 surveys m =
-    all (λ e. curveKept (e .curve)) (m .edges) && noTwo meetWrongly (map (λ e. e .curve) (m .edges)) && all (λ n. inRange (n .at)) (m .nodes) && noTwo samePoint (map (λ n. n .at) (m .nodes))
+    all (λ e. curveKept (e .curve)) (m .edges) && noTwo meetWrongly (map (λ e. e .curve) (m .edges))
+    && all (λ n. inRange (n .at)) (m .nodes) && noTwo samePoint (map (λ n. n .at) (m .nodes))
 
 -- the next numbers are 1 to 1,000,000
 unfoldable pub nextsFit : Map → Bool
 nextsFit m =
-    leb 1 (m .nextNode) && leb 1 (m .nextEdge) && leb (m .nextNode) (suc lastNumber) && leb (m .nextEdge) (suc lastNumber) && leb (m .nextFace) (suc lastNumber)
+    leb 1 (m .nextNode) && leb 1 (m .nextEdge) && leb (m .nextNode) (suc lastNumber)
+    && leb (m .nextEdge) (suc lastNumber) && leb (m .nextFace) (suc lastNumber)
 
 -- the links obey the law, Euler's sum holds, all faces are reached, the curves are drawn well
 unfoldable pub inPlane : Map → Bool

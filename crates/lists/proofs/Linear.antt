@@ -1,8 +1,10 @@
--- Fewer additive tests than there are numbers: some set of the numbers, not empty, is missed by all of them. Assumes nothing.
+-- Fewer additive tests than there are numbers: some set of the numbers, not empty, is missed by all of them. Assumes
+-- nothing.
 use mathlib.Core.Path.{_≡_, refl, sym, ap, _∙_}
 use mathlib.Core.Logic.{_⊎_, inl, inr}
 use mathlib.Core.Bool.{Bool, true, false, _&&_}
-use mathlib.Core.List.{List, [], _∷_, map, List·Memᴰ, List·Memᴰ·head, List·Memᴰ·tail, List·Memᴰ·cases-cons, List·Memᴰ·not-nil, Memᴰ·map, Memᴰ·cast}
+use mathlib.Core.List.{List, [], _∷_, map, List·Memᴰ, List·Memᴰ·head, List·Memᴰ·tail, List·Memᴰ·cases-cons}
+use mathlib.Core.List.{List·Memᴰ·not-nil, Memᴰ·map, Memᴰ·cast}
 use Prim.Native.Nat.{ℕ, _<_}
 use native.Mathlib.Omega.{arith}
 use lib.ListN.{length, length-map}
@@ -25,7 +27,8 @@ point n = record { at = λ S. S n; adds = λ S R b. refl }
 abbrev pub scaled : Bool → Form → Form
 scaled k φ = record {
   at = λ S. k && φ .at S;
-  adds = λ S R b. ap (λ v. k && v) (φ .adds S R b) ∙ eq4 (λ k s b r. k && (s ⊕ (b && r))) (λ k s b r. k && s ⊕ (b && (k && r))) tt k (φ .at S) b (φ .at R);
+  adds = λ S R b. ap (λ v. k && v) (φ .adds S R b)
+      ∙ eq4 (λ k s b r. k && (s ⊕ (b && r))) (λ k s b r. k && s ⊕ (b && (k && r))) tt k (φ .at S) b (φ .at R);
 }
 
 abbrev pub plus : Form → Form → Form
@@ -43,11 +46,16 @@ module _ (φ : Form) (x : ℕ) where
   moved-adds : (S R : ℕ → Bool) (b : Bool) (n : ℕ) → moved (λ m. S m ⊕ (b && R m)) n ≡ moved S n ⊕ (b && moved R n)
   unfolding moved
   moved-adds S R b n = ap (λ v. S n ⊕ (b && R n) ⊕ (v && same n x)) (φ .adds S R b)
-      ∙ ap (λ v. S n ⊕ (b && R n) ⊕ v) (eq4 (λ p b q s. (p ⊕ (b && q)) && s) (λ p b q s. p && s ⊕ (b && (q && s))) tt (φ .at S) b (φ .at R) (same n x))
+      ∙ ap (λ v. S n ⊕ (b && R n) ⊕ v) (eq4 (λ p b q s. (p ⊕ (b && q)) && s) (λ p b q s. p && s ⊕ (b && (q && s))) tt
+      (φ .at S) b (φ .at R) (same n x))
       ∙ sums (S n) (R n) (φ .at S && same n x) (φ .at R && same n x) b
 
   behind : Form → Form
-  behind ψ = record { at = λ S. ψ .at (moved S); adds = λ S R b. ap (ψ .at) (λ i n. moved-adds S R b n i) ∙ ψ .adds (moved S) (moved R) b }
+  behind ψ =
+      record {
+        at = λ S. ψ .at (moved S);
+        adds = λ S R b. ap (ψ .at) (λ i n. moved-adds S R b n i) ∙ ψ .adds (moved S) (moved R) b;
+      }
 
   moved-missed : φ .at (λ n. same n x) ≡ true → (S : ℕ → Bool) → φ .at (moved S) ≡ false
   unfolding moved
@@ -58,12 +66,17 @@ module _ (φ : Form) (x : ℕ) where
   moved-other S n ne = rw (same-false n x ne) (eq2 (λ s p. s ⊕ (p && false)) (λ s p. s) tt (S n) (φ .at S))
 
 -- a test that takes the set of x alone, or none does
-pivot : (x : ℕ) (fs : List Form) → ((φ : Form) × List·Memᴰ φ fs × (φ .at (λ n. same n x) ≡ true)) ⊎ ((φ : Form) → List·Memᴰ φ fs → φ .at (λ n. same n x) ≡ false)
+pivot : (x : ℕ) (fs : List Form)
+    → ((φ : Form) × List·Memᴰ φ fs × (φ .at (λ n. same n x) ≡ true))
+    ⊎ ((φ : Form) → List·Memᴰ φ fs → φ .at (λ n. same n x) ≡ false)
 pivot x [] = inr (λ φ m. absurd (List·Memᴰ·not-nil m))
 pivot x (ψ ∷ fs) = step (pivot x fs) (which (ψ .at (λ n. same n x)))
   where
-    step : ((φ : Form) × List·Memᴰ φ fs × (φ .at (λ n. same n x) ≡ true)) ⊎ ((φ : Form) → List·Memᴰ φ fs → φ .at (λ n. same n x) ≡ false) → (ψ .at (λ n. same n x) ≡ true) ⊎ (ψ .at (λ n. same n x) ≡ false)
-        → ((φ : Form) × List·Memᴰ φ (ψ ∷ fs) × (φ .at (λ n. same n x) ≡ true)) ⊎ ((φ : Form) → List·Memᴰ φ (ψ ∷ fs) → φ .at (λ n. same n x) ≡ false)
+    step : ((φ : Form) × List·Memᴰ φ fs × (φ .at (λ n. same n x) ≡ true))
+        ⊎ ((φ : Form) → List·Memᴰ φ fs → φ .at (λ n. same n x) ≡ false)
+        → (ψ .at (λ n. same n x) ≡ true) ⊎ (ψ .at (λ n. same n x) ≡ false)
+        → ((φ : Form) × List·Memᴰ φ (ψ ∷ fs) × (φ .at (λ n. same n x) ≡ true))
+        ⊎ ((φ : Form) → List·Memᴰ φ (ψ ∷ fs) → φ .at (λ n. same n x) ≡ false)
     step later (inl e) = inl (ψ, List·Memᴰ·head refl, e)
     step (inl r) (inr e) = inl (r .0, List·Memᴰ·tail (r .1), r .2)
     step (inr h) (inr e) = inr (each-cons {p = λ φ. φ .at (λ n. same n x) ≡ false} e h)
@@ -71,17 +84,35 @@ pivot x (ψ ∷ fs) = step (pivot x fs) (which (ψ .at (λ n. same n x)))
 pub missed : (xs : List ℕ) → Distinct xs → (fs : List Form) → length fs < length xs → Missed xs fs
 unfolding behind
 missed [] dis fs h = absurd (omega arith)
-missed (x ∷ xs) dis fs h = elim (pivot x fs) [ inr none ↦ ((λ n. same n x), none, (x, List·Memᴰ·head refl, same-refl x)) | inl p ↦ step (p .0) (p .1) (p .2) (missed xs (dis .1)) ]
+missed (x ∷ xs) dis fs h =
+    elim (pivot x fs) [
+      | inr none ↦ ((λ n. same n x), none, (x, List·Memᴰ·head refl, same-refl x))
+      | inl p ↦ step (p .0) (p .1) (p .2) (missed xs (dis .1))
+    ]
   where
-    step : (φ : Form) → List·Memᴰ φ fs → φ .at (λ n. same n x) ≡ true → ((gs : List Form) → length gs < length xs → Missed xs gs) → Missed (x ∷ xs) fs
+    step : (φ : Form) → List·Memᴰ φ fs → φ .at (λ n. same n x) ≡ true
+        → ((gs : List Form) → length gs < length xs → Missed xs gs) → Missed (x ∷ xs) fs
     step φ m e ih = (
       moved φ x S,
-      λ ψ k. elim (List·Memᴰ·cases-cons (perm-in (extract m .1) k)) [ inl q ↦ rw q (moved-missed φ x e S) | inr n ↦ r .1 (behind φ x ψ) (Memᴰ·map (behind φ x) n) ],
-      (r .2 .0, List·Memᴰ·tail (r .2 .1), moved-other φ x S (r .2 .0) (λ q. dis .0 (Memᴰ·cast (sym q) (r .2 .1))) ∙ r .2 .2),
+      λ ψ k. elim (List·Memᴰ·cases-cons (perm-in (extract m .1) k)) [
+        | inl q ↦ rw q (moved-missed φ x e S)
+        | inr n ↦ r .1 (behind φ x ψ) (Memᴰ·map (behind φ x) n)
+      ],
+      (
+        r .2 .0,
+        List·Memᴰ·tail (r .2 .1),
+        moved-other φ x S (r .2 .0) (λ q. dis .0 (Memᴰ·cast (sym q) (r .2 .1)))
+            ∙ r .2 .2,
+      ),
     )
       where
         r : Missed xs (map (behind φ x) (extract m .0))
-        r = ih (map (behind φ x) (extract m .0)) (omega (arith, length-map (extract m .0) (behind φ x), perm-length (extract m .1)))
+        r =
+            ih (map (behind φ x) (extract m .0)) (omega (
+              arith,
+              length-map (extract m .0) (behind φ x),
+              perm-length (extract m .1),
+            ))
 
         S : ℕ → Bool
         S = r .0

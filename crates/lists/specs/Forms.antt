@@ -11,4 +11,5 @@ pub record Form : Type 0 where
 
 -- a set that has one of the numbers xs, and that every test of fs misses
 abbrev pub Missed : List ℕ → List Form → Type 0
-Missed xs fs = (S : ℕ → Bool) × ((φ : Form) → List·Memᴰ φ fs → φ .at S ≡ false) × ((x : ℕ) × List·Memᴰ x xs × (S x ≡ true))
+Missed xs fs = (S : ℕ → Bool) × ((φ : Form) → List·Memᴰ φ fs → φ .at S ≡ false)
+    × ((x : ℕ) × List·Memᴰ x xs × (S x ≡ true))

@@ -46,14 +46,24 @@ pub record Claim : Type 0 where
 abbrev line : ℕ → ℕ → ℕ → List ℤ → List ℤ
 line d k n l = pos d ∷ pos k ∷ pos n ∷ l
 
--- the empty map; wells alone; a loop in which lie a well and a ditch, a well outside; a loop cut in two, a well in one part; a loop in a loop
+-- the empty map; wells alone; a loop in which lie a well and a ditch, a well outside; a loop cut in two, a well in one
+-- part; a loop in a loop
 abbrev pub claims : List Claim
 claims =
     record { tickets = []; lines = line 0 0 0 [] }
     ∷ record { tickets = well 0 0 ∷ well 5 5 ∷ []; lines = line 0 0 0 (line 1 1 1 (line 1 1 2 [])) }
-    ∷ record { tickets = well 0 0 ∷ loop ∷ well 5 5 ∷ well 2 2 ∷ well 4 2 ∷ ditch ∷ well 20 20 ∷ []; lines = line 0 0 0 (line 1 1 1 (line 2 0 1 (line 3 1 2 (line 3 1 3 (line 1 1 5 []))))) }
-    ∷ record { tickets = well 0 0 ∷ loop ∷ split ∷ across ∷ well 7 2 ∷ []; lines = line 0 0 0 (line 1 1 1 (line 2 0 1 (line 3 1 3 (line 2 0 2 [])))) }
-    ∷ record { tickets = well 0 0 ∷ loop ∷ well 2 2 ∷ inner ∷ []; lines = line 0 0 0 (line 1 1 1 (line 2 0 1 (line 3 1 2 (line 4 0 2 [])))) }
+    ∷ record {
+      tickets = well 0 0 ∷ loop ∷ well 5 5 ∷ well 2 2 ∷ well 4 2 ∷ ditch ∷ well 20 20 ∷ [];
+      lines = line 0 0 0 (line 1 1 1 (line 2 0 1 (line 3 1 2 (line 3 1 3 (line 1 1 5 [])))));
+    }
+    ∷ record {
+      tickets = well 0 0 ∷ loop ∷ split ∷ across ∷ well 7 2 ∷ [];
+      lines = line 0 0 0 (line 1 1 1 (line 2 0 1 (line 3 1 3 (line 2 0 2 []))));
+    }
+    ∷ record {
+      tickets = well 0 0 ∷ loop ∷ well 2 2 ∷ inner ∷ [];
+      lines = line 0 0 0 (line 1 1 1 (line 2 0 1 (line 3 1 2 (line 4 0 2 []))));
+    }
     ∷ []
 
 -- a list of sevens
@@ -66,12 +76,14 @@ written l = record { list = l; answer = record { refusal = 0; value = pos (lengt
 abbrev refused : List ℤ → ℕ → Listed
 refused l r = record { list = l; answer = record { refusal = r; value = pos 0 } }
 
-pub grown-lines : map (λ c. contentsOf (grow small (c .tickets) .lent) (sevens (length (c .lines)))) claims ≡ map (λ c. written (c .lines)) claims
+pub grown-lines : map (λ c. contentsOf (grow small (c .tickets) .lent) (sevens (length (c .lines)))) claims
+    ≡ map (λ c. written (c .lines)) claims
 unfolding opened pieceRows isIn under lines contents contentsOf
 grown-lines = refl
 
 -- the remainder is untouched; a list one number too short
-pub longer : contentsOf (grow small (well 0 0 ∷ []) .lent) (sevens 8) ≡ record { list = line 0 0 0 (line 1 1 1 (sevens 2)); answer = record { refusal = 0; value = pos 6 } }
+pub longer : contentsOf (grow small (well 0 0 ∷ []) .lent) (sevens 8)
+    ≡ record { list = line 0 0 0 (line 1 1 1 (sevens 2)); answer = record { refusal = 0; value = pos 6 } }
 unfolding opened pieceRows isIn under lines contents contentsOf
 longer = refl
 
@@ -94,8 +106,26 @@ twice =
     record {
       nodes = record { number = 1; at = at 0 0; face = none } ∷ record { number = 2; at = at 2 2; face = none } ∷ [];
       edges =
-          record { number = 1; start = 1; end = 1; nextLeft = fwd 1; nextRight = bwd 1; left = 1; right = 0; curve = through (at 0 0 ∷ at 10 0 ∷ at 10 10 ∷ at 0 10 ∷ at 0 0 ∷ []) }
-          ∷ record { number = 2; start = 2; end = 2; nextLeft = fwd 2; nextRight = bwd 2; left = 0; right = 1; curve = through (at 2 2 ∷ at 4 2 ∷ at 4 4 ∷ at 2 2 ∷ []) } ∷ [];
+          record {
+            number = 1;
+            start = 1;
+            end = 1;
+            nextLeft = fwd 1;
+            nextRight = bwd 1;
+            left = 1;
+            right = 0;
+            curve = through (at 0 0 ∷ at 10 0 ∷ at 10 10 ∷ at 0 10 ∷ at 0 0 ∷ []);
+          }
+          ∷ record {
+            number = 2;
+            start = 2;
+            end = 2;
+            nextLeft = fwd 2;
+            nextRight = bwd 2;
+            left = 0;
+            right = 1;
+            curve = through (at 2 2 ∷ at 4 2 ∷ at 4 4 ∷ at 2 2 ∷ []);
+          } ∷ [];
       faces = 0 ∷ 1 ∷ [];
       nextNode = 3;
       nextEdge = 3;

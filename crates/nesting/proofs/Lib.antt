@@ -1,4 +1,5 @@
--- `Listed`: the contents of every grown map list each face and each piece once. `Tree`: its faces and pieces are a tree.
+-- `Listed`: the contents of every grown map list each face and each piece once. `Tree`: its faces and pieces are a
+-- tree.
 -- `Examples`: contents of small sheets, by computation.
 pub mod Tree
 pub mod Listed

@@ -22,7 +22,8 @@ use Rattle.nesting.proofs.Tree.{good-contents}
 
 -- in any state
 pub state-contents : {s : Sizes} {l : Lent} → State s l → HasContents (mapOf l)
-state-contents {s} x = subst HasContents (sym (ap mapOf (x .lent) ∙ good-back (x .map) (x .good) s)) (good-contents (x .map) (x .good) (x .reached))
+state-contents {s} x = subst HasContents (sym (ap mapOf (x .lent) ∙ good-back (x .map) (x .good) s))
+    (good-contents (x .map) (x .good) (x .reached))
 
 pub contents-listed : ContentsListed
 contents-listed s h ts = state-contents (grown-state s h ts)
@@ -30,7 +31,8 @@ contents-listed s h ts = state-contents (grown-state s h ts)
 pub contents-never-28 : ContentsNever28
 unfolding contentsOf firstReason
 contents-never-28 s h ts list e = not-28 (whole l) (inForm l) (ltb (length list) (length written))
-    (sym (ap (λ b. reason (whole l) (inForm l) b (ltb (length list) (length written))) (ap isSome (contents-listed s h ts .listed)))
+    (sym (ap (λ b. reason (whole l) (inForm l) b (ltb (length list) (length written)))
+    (ap isSome (contents-listed s h ts .listed)))
     ∙ sym (refusal-is list written _) ∙ e)
   where
     l : Lent

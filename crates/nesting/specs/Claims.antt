@@ -14,7 +14,8 @@ use Rattle.nesting.specs.Contents.{Line, pieceRows, contents, contentsOf
 pub record HasContents (m : Map) : Type 0 where
   pub lines : List Line
   pub listed : contents m ≡ some lines
-  pub once : List·Permᴰ {A = Bool × ℕ} (map (λ l. (l .piece, l .number)) lines) (map (λ f. (false, f)) (m .faces) ++ map (λ p. (true, p)) (pieceRows m))
+  pub once : List·Permᴰ {A = Bool × ℕ} (map (λ l. (l .piece, l .number)) lines)
+      (map (λ f. (false, f)) (m .faces) ++ map (λ p. (true, p)) (pieceRows m))
 
 -- for all sizes that hold the empty map and all lists of tickets: each face and each piece is listed, and none twice
 abbrev pub ContentsListed : Type 0
@@ -22,4 +23,5 @@ ContentsListed = (s : Sizes) → 1 ≤ s .faces → (ts : List (List ℤ)) → H
 
 -- so 28 never answers, whatever list is lent
 abbrev pub ContentsNever28 : Type 0
-ContentsNever28 = (s : Sizes) → 1 ≤ s .faces → (ts : List (List ℤ)) (list : List ℤ) → contentsOf (grow s ts .lent) list .answer .refusal ≢ 28
+ContentsNever28 = (s : Sizes) → 1 ≤ s .faces → (ts : List (List ℤ)) (list : List ℤ)
+    → contentsOf (grow s ts .lent) list .answer .refusal ≢ 28

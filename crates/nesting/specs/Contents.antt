@@ -38,7 +38,8 @@ isIt x (some y) = same x y
 
 -- a piece is in a face that one of its rings, or its lone node, bears
 unfoldable pub isIn : Map → ℕ → ℕ → Bool
-isIn m p f = any (λ d. same (pieceOf m (leaves m d)) p && same (bears m d) f) (directed m) || any (λ r. same (r .number) p && isIt f (r .face)) (m .nodes)
+isIn m p f = any (λ d. same (pieceOf m (leaves m d)) p && same (bears m d) f) (directed m) || any
+    (λ r. same (r .number) p && isIt f (r .face)) (m .nodes)
 
 -- the pieces in a face, by lowest node number; the faces that a piece is in, by number
 unfoldable pub under : Map → Bool → ℕ → List ℕ
@@ -60,12 +61,13 @@ abbrev pub fresh : Bool → List Line → Line → Option (List Line)
 fresh true ls l = none
 fresh false ls l = some (ls ++ l ∷ [])
 
--- the lines so far, and those of a face (false) or piece (true) at depth d; the one that led to it is not listed again under it.
--- None where one would be listed twice. k bounds the depth: all faces and pieces and one more are enough
+-- the lines so far, and those of a face (false) or piece (true) at depth d; the one that led to it is not listed again
+-- under it. None where one would be listed twice. k bounds the depth: all faces and pieces and one more are enough
 unfoldable pub lines : ℕ → Map → Bool → ℕ → Option ℕ → ℕ → List Line → Option (List Line)
 lines zero m b x led d ls = none
 lines (suc k) m b x led d ls =
-    each (λ y. lines k m (not b) y (some x) (suc d)) (keep (λ y. not (isIt y led)) (under m b x)) (fresh (listed ls b x) ls (line d b x))
+    each (λ y. lines k m (not b) y (some x) (suc d)) (keep (λ y. not (isIt y led)) (under m b x))
+    (fresh (listed ls b x) ls (line d b x))
 
 -- none where one is missed
 abbrev pub complete : ℕ → Option (List Line) → Option (List Line)
@@ -84,4 +86,5 @@ unfoldable pub contentsOf : Lent → List ℤ → Listed
 contentsOf l list =
     let c = contents (mapOf l) in
     let written = flatMap lineNumbers (Option·getD c []) in
-    listUnless list written (firstReason (lentReasons l ++ (28, not (isSome c)) ∷ (20, ltb (length list) (length written)) ∷ []))
+    listUnless list written
+    (firstReason (lentReasons l ++ (28, not (isSome c)) ∷ (20, ltb (length list) (length written)) ∷ []))

@@ -44,14 +44,24 @@ chords-none : length (chords []) ≡ 0
 unfolding chords
 chords-none = refl
 
-pub chords-length : (nodes : List ℕ) (es : List Arc) → Distinct nodes → Within nodes es → length (chords es) + length nodes ≡ length es + pieces nodes es
+pub chords-length : (nodes : List ℕ) (es : List Arc) → Distinct nodes → Within nodes es
+    → length (chords es) + length nodes ≡ length es + pieces nodes es
 unfolding closes
 chords-length nodes [] dis w = omega (arith, chords-none, pieces-none nodes)
 chords-length nodes (a ∷ es) dis w = step (chords-length nodes es dis (within-rest w)) (which (closes a es))
   where
-    step : length (chords es) + length nodes ≡ length es + pieces nodes es → (closes a es ≡ true) ⊎ (closes a es ≡ false) → length (chords (a ∷ es)) + length nodes ≡ suc (length es) + pieces nodes (a ∷ es)
+    step : length (chords es) + length nodes ≡ length es + pieces nodes es
+        → (closes a es ≡ true) ⊎ (closes a es ≡ false)
+        → length (chords (a ∷ es)) + length nodes ≡ suc (length es) + pieces nodes (a ∷ es)
     step ih (inl e) = rw (chords-yes a es e) (omega (arith, ih, pieces-loop nodes a es (closes-chain a es e)))
-    step ih (inr e) = rw (chords-no a es e) (omega (arith, ih, pieces-bridge nodes a es dis w (λ p. differ (label es (a .from)) (label es (a .to)) e (label-of-chain p))))
+    step ih (inr e) =
+        rw (chords-no a es e)
+        (omega (
+          arith,
+          ih,
+          pieces-bridge nodes a es dis w
+              (λ p. differ (label es (a .from)) (label es (a .to)) e (label-of-chain p)),
+        ))
 
 -- an edge that closes no circle is in no cycle: the nodes connected with its start are a cut that it alone crosses
 bridge-out : (a : Arc) (es : List Arc) (c : ℕ → Bool) → closes a es ≡ false → Cycle (a ∷ es) c → c (a .num) ≡ false
@@ -62,20 +72,24 @@ bridge-out a es c e cycle = eq1 (λ x. x) (λ x. x && true ⊕ false) tt (c (a .
     X n = same (label es (a .from)) (label es n)
 
     rest : sum es (λ b. c (b .num) && across X b) ≡ false
-    rest = sum-zero es (λ b. c (b .num) && across X b) (λ b m. rw (label-of-chain (along b m stay), ⊕-self (same (label es (a .from)) (label es (b .to)))) (&&-false (c (b .num))))
+    rest = sum-zero es (λ b. c (b .num) && across X b)
+        (λ b m. rw (label-of-chain (along b m stay), ⊕-self (same (label es (a .from)) (label es (b .to))))
+        (&&-false (c (b .num))))
 
     split : c (a .num) && across X a ⊕ sum es (λ b. c (b .num) && across X b) ≡ c (a .num) && true ⊕ false
     split = rw (rest, same-refl (label es (a .from)), e)
 
 -- a cycle that has no chord has no edge
-pub cycle-of-chords : (es : List Arc) (c : ℕ → Bool) → Cycle es c → ((a : Arc) → List·Memᴰ a (chords es) → c (a .num) ≡ false) → (a : Arc) → List·Memᴰ a es → c (a .num) ≡ false
+pub cycle-of-chords : (es : List Arc) (c : ℕ → Bool) → Cycle es c
+    → ((a : Arc) → List·Memᴰ a (chords es) → c (a .num) ≡ false) → (a : Arc) → List·Memᴰ a es → c (a .num) ≡ false
 cycle-of-chords [] c cycle h = λ a m. absurd (List·Memᴰ·not-nil m)
 cycle-of-chords (a ∷ es) c cycle h = step (cycle-of-chords es c) (which (closes a es))
   where
     before : c (a .num) ≡ false → Cycle es c
     before out X = rw out at (cycle X)
 
-    step : (Cycle es c → ((b : Arc) → List·Memᴰ b (chords es) → c (b .num) ≡ false) → (b : Arc) → List·Memᴰ b es → c (b .num) ≡ false) → (closes a es ≡ true) ⊎ (closes a es ≡ false)
+    step : (Cycle es c → ((b : Arc) → List·Memᴰ b (chords es) → c (b .num) ≡ false) → (b : Arc) → List·Memᴰ b es
+        → c (b .num) ≡ false) → (closes a es ≡ true) ⊎ (closes a es ≡ false)
         → (b : Arc) → List·Memᴰ b (a ∷ es) → c (b .num) ≡ false
     step ih (inl e) = each-cons {p = λ b. c (b .num) ≡ false} out (ih (before out) (λ b m. all b (List·Memᴰ·tail m)))
       where

@@ -22,11 +22,15 @@ use Rattle.lists.proofs.Linear.{point, scaled, plus, missed}
 use Rattle.planar.proofs.Circles.{chords-length, cycle-of-chords}
 
 cycle-scaled : (es : List Arc) (c : ℕ → Bool) (b : Bool) → Cycle es c → Cycle es (λ e. c e && b)
-cycle-scaled es c true cycle X = sum-cong es _ _ (λ a m. eq2 (λ x y. x && true && y) (λ x y. x && y) tt (c (a .num)) (across X a)) ∙ cycle X
-cycle-scaled es c false cycle X = sum-zero es _ (λ a m. eq2 (λ x y. x && false && y) (λ x y. false) tt (c (a .num)) (across X a))
+cycle-scaled es c true cycle X = sum-cong es _ _
+    (λ a m. eq2 (λ x y. x && true && y) (λ x y. x && y) tt (c (a .num)) (across X a)) ∙ cycle X
+cycle-scaled es c false cycle X =
+    sum-zero es _ (λ a m. eq2 (λ x y. x && false && y) (λ x y. false) tt (c (a .num)) (across X a))
 
-module _ {nodes : List ℕ} {es : List Arc} {tail : Dart → ℕ} {next : Dart → Dart} {face : Dart → ℕ} (faces : List ℕ) (f : ℕ)
-    (nodes-once : Distinct nodes) (faces-once : Distinct faces) (within : Within nodes es) (linked : Linked es tail next face)
+module _ {nodes : List ℕ} {es : List Arc} {tail : Dart → ℕ} {next : Dart → Dart} {face : Dart → ℕ} (faces : List ℕ)
+    (f : ℕ)
+    (nodes-once : Distinct nodes) (faces-once : Distinct faces) (within : Within nodes es)
+    (linked : Linked es tail next face)
     (euler : Euler nodes es (length faces)) (reached : Reached es face faces f) where
   pub colouring-of-sum : Colouring es face
   colouring-of-sum c cycle = elim (which (S f)) [ inl e ↦ (kept, divides e) | inr e ↦ absurd (none e) ]
@@ -36,10 +40,12 @@ module _ {nodes : List ℕ} {es : List Arc} {tail : Dart → ℕ} {next : Dart �
       without n = scaled (not (same n f)) (point n)
 
       form : Arc → Form
-      form a = plus (scaled (c (a .num)) (point f)) (plus (without (face (fwd (a .num)))) (without (face (bwd (a .num)))))
+      form a =
+          plus (scaled (c (a .num)) (point f)) (plus (without (face (fwd (a .num)))) (without (face (bwd (a .num)))))
 
       r : Missed faces (map form (chords es))
-      r = missed faces faces-once (map form (chords es)) (omega (arith, euler, length-map (chords es) form, chords-length nodes es nodes-once within))
+      r = missed faces faces-once (map form (chords es))
+          (omega (arith, euler, length-map (chords es) form, chords-length nodes es nodes-once within))
 
       S : ℕ → Bool
       S = r .0
@@ -52,7 +58,9 @@ module _ {nodes : List ℕ} {es : List Arc} {tail : Dart → ℕ} {next : Dart �
 
       every : (a : Arc) → List·Memᴰ a es → c (a .num) && S f ≡ rim (λ d. kept (face d)) (a .num)
       every a m = ⊕-equal (c (a .num) && S f) (rim (λ d. kept (face d)) (a .num))
-          (cycle-of-chords es (λ e. c e && S f ⊕ rim (λ d. kept (face d)) e) (cycle-⊕ es (λ e. c e && S f) (rim (λ d. kept (face d))) (cycle-scaled es c (S f) cycle) (face-cycle linked kept)) equation a m)
+          (cycle-of-chords es (λ e. c e && S f ⊕ rim (λ d. kept (face d)) e)
+          (cycle-⊕ es (λ e. c e && S f) (rim (λ d. kept (face d))) (cycle-scaled es c (S f) cycle)
+          (face-cycle linked kept)) equation a m)
 
       divides : S f ≡ true → Divides es face c kept
       divides e a m = eq1 (λ x. x) (λ x. x && true) tt (c (a .num)) ∙ ap (λ v. c (a .num) && v) (sym e) ∙ every a m
@@ -64,13 +72,23 @@ module _ {nodes : List ℕ} {es : List Arc} {tail : Dart → ℕ} {next : Dart �
           g = r .2 .0
 
           even : Even es face kept
-          even a m = ⊕-equal (kept (face (fwd (a .num)))) (kept (face (bwd (a .num)))) (sym (every a m) ∙ ap (λ v. c (a .num) && v) e ∙ eq1 (λ x. x && false) (λ x. false) tt (c (a .num)))
+          even a m = ⊕-equal (kept (face (fwd (a .num)))) (kept (face (bwd (a .num))))
+              (sym (every a m) ∙ ap (λ v. c (a .num) && v) e ∙ eq1 (λ x. x && false) (λ x. false) tt (c (a .num)))
 
           out : not (same g f) && true ≡ false
-          out = ap (λ v. not (same g f) && v) (sym (r .2 .2)) ∙ reached kept even g (r .2 .1) ∙ ap (λ v. not v && S f) (same-refl f)
+          out = ap (λ v. not (same g f) && v) (sym (r .2 .2)) ∙ reached kept even g (r .2 .1)
+              ∙ ap (λ v. not v && S f) (same-refl f)
 
           at-f : same g f ≡ true
           at-f = eq1 (λ x. x) (λ x. not (not x && true)) tt (same g f) ∙ ap not out
 
   pub planar-of-sum : Distinct (nums es) → OneTurn es tail next → Planar nodes es tail next face (length faces)
-  planar-of-sum edges-once one-turn = record { nodes-once = nodes-once; edges-once = edges-once; within = within; linked = linked; one-turn = one-turn; colouring = colouring-of-sum; euler = euler }
+  planar-of-sum edges-once one-turn = record {
+    nodes-once = nodes-once;
+    edges-once = edges-once;
+    within = within;
+    linked = linked;
+    one-turn = one-turn;
+    colouring = colouring-of-sum;
+    euler = euler;
+  }

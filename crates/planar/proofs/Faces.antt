@@ -2,14 +2,16 @@
 use mathlib.Core.Path.{_≡_, refl, sym, ap, ap₂, _∙_, subst}
 use mathlib.Core.Logic.{_⊎_, inl, inr}
 use mathlib.Core.Bool.{Bool, true, false, _&&_, true≢false}
-use mathlib.Core.List.{List, [], _∷_, map, List·Memᴰ, List·Memᴰ·head, List·Memᴰ·tail, List·Memᴰ·cases-cons, List·Memᴰ·not-nil, Memᴰ·map, Memᴰ·of-map, Memᴰ·cast, List·Permᴰ}
+use mathlib.Core.List.{List, [], _∷_, map, List·Memᴰ, List·Memᴰ·head, List·Memᴰ·tail, List·Memᴰ·cases-cons}
+use mathlib.Core.List.{List·Memᴰ·not-nil, Memᴰ·map, Memᴰ·of-map, Memᴰ·cast, List·Permᴰ}
 use Prim.Native.Nat.{ℕ, _<_}
 use native.Mathlib.Omega.{arith}
 use lib.ListN.{length, length-map}
 use Rattle.lists.specs.Tests.{_⊕_, same}
 use Rattle.lists.specs.Scans.{sum}
 use Rattle.lists.specs.Members.{Distinct}
-use Rattle.lists.proofs.Bools.{eq1, eq2, eq3, ⊕-self, ⊕-equal, &&-false, which, same-refl, same-true, same-false, not-true}
+use Rattle.lists.proofs.Bools.{eq1, eq2, eq3, ⊕-self, ⊕-equal, &&-false, which, same-refl, same-true, same-false}
+use Rattle.lists.proofs.Bools.{not-true}
 use Rattle.lists.proofs.Members.{each-cons}
 use Rattle.lists.proofs.Perms.{extract, perm-in, perm-length}
 use Rattle.lists.proofs.Sums.{sum-cong, sum-⊕, sum-zero}
@@ -28,49 +30,78 @@ unfolding chords
 chords-in [] m = m
 chords-in (b ∷ es) {a} m = step (chords-in es) (which (closes b es))
   where
-    step : (List·Memᴰ a (chords es) → List·Memᴰ a es) → (closes b es ≡ true) ⊎ (closes b es ≡ false) → List·Memᴰ a (b ∷ es)
-    step ih (inl e) = elim (List·Memᴰ·cases-cons (subst (List·Memᴰ a) (chords-yes b es e) m)) [ inl q ↦ List·Memᴰ·head q | inr k ↦ List·Memᴰ·tail (ih k) ]
+    step : (List·Memᴰ a (chords es) → List·Memᴰ a es) → (closes b es ≡ true) ⊎ (closes b es ≡ false)
+        → List·Memᴰ a (b ∷ es)
+    step ih (inl e) = elim (List·Memᴰ·cases-cons (subst (List·Memᴰ a) (chords-yes b es e) m)) [
+      | inl q ↦ List·Memᴰ·head q
+      | inr k ↦ List·Memᴰ·tail (ih k)
+    ]
     step ih (inr e) = List·Memᴰ·tail (ih (subst (List·Memᴰ a) (chords-no b es e) m))
 
 nums-in : (es : List Arc) {n : ℕ} → List·Memᴰ n (nums (chords es)) → List·Memᴰ n (nums es)
-nums-in es {n} m = let r = Memᴰ·of-map (λ (a : Arc). a .num) (chords es) m in subst (λ k. List·Memᴰ k (nums es)) (r .2) (Memᴰ·map (λ (a : Arc). a .num) (chords-in es (r .1)))
+nums-in es {n} m = let r = Memᴰ·of-map (λ (a : Arc). a .num) (chords es) m in
+    subst (λ k. List·Memᴰ k (nums es)) (r .2) (Memᴰ·map (λ (a : Arc). a .num) (chords-in es (r .1)))
 
 chords-once : (es : List Arc) → Distinct (nums es) → Distinct (nums (chords es))
 unfolding chords
 chords-once [] d = tt
 chords-once (a ∷ es) d = step (chords-once es (d .1)) (which (closes a es))
   where
-    step : Distinct (nums (chords es)) → (closes a es ≡ true) ⊎ (closes a es ≡ false) → Distinct (nums (chords (a ∷ es)))
+    step : Distinct (nums (chords es)) → (closes a es ≡ true) ⊎ (closes a es ≡ false)
+        → Distinct (nums (chords (a ∷ es)))
     step ih (inl e) = subst (λ l. Distinct (nums l)) (sym (chords-yes a es e)) (λ m. d .0 (nums-in es m), ih)
     step ih (inr e) = subst (λ l. Distinct (nums l)) (sym (chords-no a es e)) ih
 
 -- ---- a chain as a set of edges: it crosses a cut as often as its ends lie on two sides
 
-single : (es : List Arc) → Distinct (nums es) → (b : Arc) → List·Memᴰ b es → (X : ℕ → Bool) → crossings es (λ n. same n (b .num)) X ≡ across X b
+single : (es : List Arc) → Distinct (nums es) → (b : Arc) → List·Memᴰ b es → (X : ℕ → Bool)
+    → crossings es (λ n. same n (b .num)) X ≡ across X b
 single [] d b m X = absurd (List·Memᴰ·not-nil m)
 single (a ∷ es) d b m X = step (single es (d .1) b) (List·Memᴰ·cases-cons m)
   where
     none : b ≡ a → crossings es (λ n. same n (b .num)) X ≡ false
-    none e = sum-zero es (λ c. same (c .num) (b .num) && across X c) (λ c k. rw (same-false (c .num) (b .num) (λ q. d .0 (Memᴰ·cast (ap (λ (x : Arc). x .num) (sym e) ∙ sym q) (Memᴰ·map (λ (x : Arc). x .num) k)))))
+    none e = sum-zero es (λ c. same (c .num) (b .num) && across X c)
+        (λ c k.
+        rw (same-false (c .num) (b .num) (λ q. d .0 (Memᴰ·cast (ap (λ (x : Arc). x .num) (sym e) ∙ sym q)
+        (Memᴰ·map (λ (x : Arc). x .num) k)))))
 
-    step : (List·Memᴰ b es → (X : ℕ → Bool) → crossings es (λ n. same n (b .num)) X ≡ across X b) → (b ≡ a) ⊎ List·Memᴰ b es → same (a .num) (b .num) && across X a ⊕ crossings es (λ n. same n (b .num)) X ≡ across X b
-    step ih (inl e) = ap₂ (λ v w. v && across X a ⊕ w) (ap (λ (x : Arc). same (a .num) (x .num)) e ∙ same-refl (a .num)) (none e) ∙ eq1 (λ x. x ⊕ false) (λ x. x) tt (across X a) ∙ ap (across X) (sym e)
-    step ih (inr k) = ap₂ (λ v w. v && across X a ⊕ w) (same-false (a .num) (b .num) (λ q. d .0 (Memᴰ·cast q (Memᴰ·map (λ (x : Arc). x .num) k)))) (ih k X)
+    step : (List·Memᴰ b es → (X : ℕ → Bool) → crossings es (λ n. same n (b .num)) X ≡ across X b)
+        → (b ≡ a) ⊎ List·Memᴰ b es → same (a .num) (b .num) && across X a ⊕ crossings es (λ n. same n (b .num)) X
+        ≡ across X b
+    step ih (inl e) = ap₂ (λ v w. v && across X a ⊕ w) (ap (λ (x : Arc). same (a .num) (x .num)) e ∙ same-refl (a .num))
+        (none e) ∙ eq1 (λ x. x ⊕ false) (λ x. x) tt (across X a) ∙ ap (across X) (sym e)
+    step ih (inr k) = ap₂ (λ v w. v && across X a ⊕ w)
+        (same-false (a .num) (b .num) (λ q. d .0 (Memᴰ·cast q (Memᴰ·map (λ (x : Arc). x .num) k)))) (ih k X)
 
-crossings-⊕ : (es : List Arc) (b c : ℕ → Bool) (X : ℕ → Bool) → crossings es (λ n. b n ⊕ c n) X ≡ crossings es b X ⊕ crossings es c X
+crossings-⊕ : (es : List Arc) (b c : ℕ → Bool) (X : ℕ → Bool)
+    → crossings es (λ n. b n ⊕ c n) X ≡ crossings es b X ⊕ crossings es c X
 crossings-⊕ es b c X =
-    sum-cong es _ _ (λ a m. eq3 (λ x y z. (x ⊕ y) && z) (λ x y z. x && z ⊕ (y && z)) tt (b (a .num)) (c (a .num)) (across X a)) ∙ sum-⊕ es (λ a. b (a .num) && across X a) (λ a. c (a .num) && across X a)
+    sum-cong es _ _ (λ a m. eq3 (λ x y z. (x ⊕ y) && z) (λ x y z. x && z ⊕ (y && z)) tt (b (a .num)) (c (a .num))
+    (across X a)) ∙ sum-⊕ es (λ a. b (a .num) && across X a) (λ a. c (a .num) && across X a)
 
-chain-set : (es : List Arc) → Distinct (nums es) → {x y : ℕ} → Chain es x y → (c : ℕ → Bool) × ((X : ℕ → Bool) → crossings es c X ≡ X x ⊕ X y)
+chain-set : (es : List Arc) → Distinct (nums es) → {x y : ℕ} → Chain es x y
+    → (c : ℕ → Bool) × ((X : ℕ → Bool) → crossings es c X ≡ X x ⊕ X y)
 chain-set es d (stay {n = n}) = ((λ k. false), λ X. sum-zero es _ (λ a m. refl) ∙ sym (⊕-self (X n)))
 chain-set es d (along {n = n} a m p) = go (chain-set es d p)
   where
-    go : (c : ℕ → Bool) × ((X : ℕ → Bool) → crossings es c X ≡ X (a .to) ⊕ X n) → (c : ℕ → Bool) × ((X : ℕ → Bool) → crossings es c X ≡ X (a .from) ⊕ X n)
-    go r = ((λ k. r .0 k ⊕ same k (a .num)), λ X. crossings-⊕ es (r .0) (λ k. same k (a .num)) X ∙ ap₂ _⊕_ (r .1 X) (single es d a m X) ∙ eq3 (λ f t n. t ⊕ n ⊕ (f ⊕ t)) (λ f t n. f ⊕ n) tt (X (a .from)) (X (a .to)) (X n))
+    go : (c : ℕ → Bool) × ((X : ℕ → Bool) → crossings es c X ≡ X (a .to) ⊕ X n)
+        → (c : ℕ → Bool) × ((X : ℕ → Bool) → crossings es c X ≡ X (a .from) ⊕ X n)
+    go r = (
+      (λ k. r .0 k ⊕ same k (a .num)),
+      λ X. crossings-⊕ es (r .0) (λ k. same k (a .num)) X
+          ∙ ap₂ _⊕_ (r .1 X) (single es d a m X) ∙ eq3 (λ f t n. t ⊕ n ⊕ (f ⊕ t)) (λ f t n. f ⊕ n) tt (X (a .from))
+          (X (a .to)) (X n),
+    )
 chain-set es d (against {n = n} a m p) = go (chain-set es d p)
   where
-    go : (c : ℕ → Bool) × ((X : ℕ → Bool) → crossings es c X ≡ X (a .from) ⊕ X n) → (c : ℕ → Bool) × ((X : ℕ → Bool) → crossings es c X ≡ X (a .to) ⊕ X n)
-    go r = ((λ k. r .0 k ⊕ same k (a .num)), λ X. crossings-⊕ es (r .0) (λ k. same k (a .num)) X ∙ ap₂ _⊕_ (r .1 X) (single es d a m X) ∙ eq3 (λ f t n. f ⊕ n ⊕ (f ⊕ t)) (λ f t n. t ⊕ n) tt (X (a .from)) (X (a .to)) (X n))
+    go : (c : ℕ → Bool) × ((X : ℕ → Bool) → crossings es c X ≡ X (a .from) ⊕ X n)
+        → (c : ℕ → Bool) × ((X : ℕ → Bool) → crossings es c X ≡ X (a .to) ⊕ X n)
+    go r = (
+      (λ k. r .0 k ⊕ same k (a .num)),
+      λ X. crossings-⊕ es (r .0) (λ k. same k (a .num)) X
+          ∙ ap₂ _⊕_ (r .1 X) (single es d a m X) ∙ eq3 (λ f t n. f ⊕ n ⊕ (f ⊕ t)) (λ f t n. t ⊕ n) tt (X (a .from))
+          (X (a .to)) (X n),
+    )
 
 -- ---- some cycle takes an odd number of the chords of a set that has any
 
@@ -93,11 +124,14 @@ module _ (a : Arc) (es : List Arc) (d : Distinct (nums (a ∷ es))) (y : ℕ →
   other : {b : Arc} → List·Memᴰ b es → (b .num ≡ a .num) → ⊥
   other k q = d .0 (Memᴰ·cast (sym q) (Memᴰ·map (λ (x : Arc). x .num) k))
 
-  set-sum : (c : ℕ → Bool) (v : Bool) (l : List Arc) → ((b : Arc) → List·Memᴰ b l → List·Memᴰ b es) → (w : Arc → Bool) → sum l (λ b. w b && set c (a .num) v (b .num)) ≡ sum l (λ b. w b && c (b .num))
+  set-sum : (c : ℕ → Bool) (v : Bool) (l : List Arc) → ((b : Arc) → List·Memᴰ b l → List·Memᴰ b es) → (w : Arc → Bool)
+      → sum l (λ b. w b && set c (a .num) v (b .num)) ≡ sum l (λ b. w b && c (b .num))
   set-sum c v l sub w = sum-cong l _ _ (λ b k. ap (λ x. w b && x) (set-there c (a .num) v (b .num) (other (sub b k))))
 
-  set-crossings : (c : ℕ → Bool) (v : Bool) (X : ℕ → Bool) → crossings (a ∷ es) (set c (a .num) v) X ≡ v && across X a ⊕ crossings es c X
-  set-crossings c v X = ap₂ (λ u w. u && across X a ⊕ w) (set-here c (a .num) v) (sum-cong es _ _ (λ b k. ap (λ x. x && across X b) (set-there c (a .num) v (b .num) (other k))))
+  set-crossings : (c : ℕ → Bool) (v : Bool) (X : ℕ → Bool)
+      → crossings (a ∷ es) (set c (a .num) v) X ≡ v && across X a ⊕ crossings es c X
+  set-crossings c v X = ap₂ (λ u w. u && across X a ⊕ w) (set-here c (a .num) v)
+      (sum-cong es _ _ (λ b k. ap (λ x. x && across X b) (set-there c (a .num) v (b .num) (other k))))
 
   -- one that takes an odd number later on leaves the edge out
   later : Odd es y → Odd (a ∷ es) y
@@ -105,7 +139,9 @@ module _ (a : Arc) (es : List Arc) (d : Distinct (nums (a ∷ es))) (y : ℕ →
     set (r .0) (a .num) false,
     (λ X. set-crossings (r .0) false X ∙ r .1 X),
     elim (which (closes a es)) [
-      | inl e ↦ ap (λ l. sum l (λ b. y (b .num) && set (r .0) (a .num) false (b .num))) (chords-yes a es e) ∙ ap₂ (λ u w. y (a .num) && u ⊕ w) (set-here (r .0) (a .num) false) rest ∙ eq1 (λ x. x && false ⊕ true) (λ x. true) tt (y (a .num))
+      | inl e ↦ ap (λ l. sum l (λ b. y (b .num) && set (r .0) (a .num) false (b .num))) (chords-yes a es e)
+          ∙ ap₂ (λ u w. y (a .num) && u ⊕ w) (set-here (r .0) (a .num) false) rest
+          ∙ eq1 (λ x. x && false ⊕ true) (λ x. true) tt (y (a .num))
       | inr e ↦ ap (λ l. sum l (λ b. y (b .num) && set (r .0) (a .num) false (b .num))) (chords-no a es e) ∙ rest
     ],
   )
@@ -114,12 +150,15 @@ module _ (a : Arc) (es : List Arc) (d : Distinct (nums (a ∷ es))) (y : ℕ →
       rest = set-sum (r .0) false (chords es) (λ b k. chords-in es k) (λ b. y (b .num)) ∙ r .2
 
   -- the last chord of the set, with a chain back
-  last : closes a es ≡ true → y (a .num) ≡ true → ((b : Arc) → List·Memᴰ b (chords es) → y (b .num) ≡ false) → Odd (a ∷ es) y
+  last : closes a es ≡ true → y (a .num) ≡ true → ((b : Arc) → List·Memᴰ b (chords es) → y (b .num) ≡ false)
+      → Odd (a ∷ es) y
   last e at none = (
     set c (a .num) true,
-    (λ X. set-crossings c true X ∙ ap (λ w. across X a ⊕ w) (r .1 X) ∙ eq2 (λ f t. f ⊕ t ⊕ (f ⊕ t)) (λ f t. false) tt (X (a .from)) (X (a .to))),
+    (λ X. set-crossings c true X ∙ ap (λ w. across X a ⊕ w) (r .1 X)
+        ∙ eq2 (λ f t. f ⊕ t ⊕ (f ⊕ t)) (λ f t. false) tt (X (a .from)) (X (a .to))),
     ap (λ l. sum l (λ b. y (b .num) && set c (a .num) true (b .num))) (chords-yes a es e)
-        ∙ ap₂ (λ u w. u ⊕ w) (ap₂ _&&_ at (set-here c (a .num) true)) (sum-zero (chords es) (λ b. y (b .num) && set c (a .num) true (b .num)) (λ b k. rw (none b k))),
+        ∙ ap₂ (λ u w. u ⊕ w) (ap₂ _&&_ at (set-here c (a .num) true))
+        (sum-zero (chords es) (λ b. y (b .num) && set c (a .num) true (b .num)) (λ b k. rw (none b k))),
   )
     where
       r : (c : ℕ → Bool) × ((X : ℕ → Bool) → crossings es c X ≡ X (a .from) ⊕ X (a .to))
@@ -129,22 +168,28 @@ module _ (a : Arc) (es : List Arc) (d : Distinct (nums (a ∷ es))) (y : ℕ →
       c = r .0
 
 -- the set has a chord, or none
-some-chord : (l : List Arc) (y : ℕ → Bool) → ((b : Arc) × List·Memᴰ b l × (y (b .num) ≡ true)) ⊎ ((b : Arc) → List·Memᴰ b l → y (b .num) ≡ false)
+some-chord : (l : List Arc) (y : ℕ → Bool)
+    → ((b : Arc) × List·Memᴰ b l × (y (b .num) ≡ true)) ⊎ ((b : Arc) → List·Memᴰ b l → y (b .num) ≡ false)
 some-chord [] y = inr (λ b m. absurd (List·Memᴰ·not-nil m))
 some-chord (a ∷ l) y = step (some-chord l y) (which (y (a .num)))
   where
-    step : ((b : Arc) × List·Memᴰ b l × (y (b .num) ≡ true)) ⊎ ((b : Arc) → List·Memᴰ b l → y (b .num) ≡ false) → (y (a .num) ≡ true) ⊎ (y (a .num) ≡ false)
-        → ((b : Arc) × List·Memᴰ b (a ∷ l) × (y (b .num) ≡ true)) ⊎ ((b : Arc) → List·Memᴰ b (a ∷ l) → y (b .num) ≡ false)
+    step : ((b : Arc) × List·Memᴰ b l × (y (b .num) ≡ true)) ⊎ ((b : Arc) → List·Memᴰ b l → y (b .num) ≡ false)
+        → (y (a .num) ≡ true) ⊎ (y (a .num) ≡ false)
+        → ((b : Arc) × List·Memᴰ b (a ∷ l) × (y (b .num) ≡ true))
+        ⊎ ((b : Arc) → List·Memᴰ b (a ∷ l) → y (b .num) ≡ false)
     step later (inl e) = inl (a, List·Memᴰ·head refl, e)
     step (inl r) (inr e) = inl (r .0, List·Memᴰ·tail (r .1), r .2)
     step (inr h) (inr e) = inr (each-cons {p = λ b. y (b .num) ≡ false} e h)
 
-odd : (es : List Arc) → Distinct (nums es) → (y : ℕ → Bool) (b : Arc) → List·Memᴰ b (chords es) → y (b .num) ≡ true → Odd es y
+odd : (es : List Arc) → Distinct (nums es) → (y : ℕ → Bool) (b : Arc) → List·Memᴰ b (chords es) → y (b .num) ≡ true
+    → Odd es y
 unfolding chords
 odd [] d y b m e = absurd (List·Memᴰ·not-nil m)
 odd (a ∷ es) d y b m e = step (odd es (d .1) y) (some-chord (chords es) y) (which (closes a es))
   where
-    step : ((b : Arc) → List·Memᴰ b (chords es) → y (b .num) ≡ true → Odd es y) → ((b : Arc) × List·Memᴰ b (chords es) × (y (b .num) ≡ true)) ⊎ ((b : Arc) → List·Memᴰ b (chords es) → y (b .num) ≡ false)
+    step : ((b : Arc) → List·Memᴰ b (chords es) → y (b .num) ≡ true → Odd es y)
+        → ((b : Arc) × List·Memᴰ b (chords es) × (y (b .num) ≡ true))
+        ⊎ ((b : Arc) → List·Memᴰ b (chords es) → y (b .num) ≡ false)
         → (closes a es ≡ true) ⊎ (closes a es ≡ false) → Odd (a ∷ es) y
     step ih (inl r) q = later a es d y (ih (r .0) (r .1) (r .2))
     step ih (inr none) (inl q) = elim (List·Memᴰ·cases-cons (subst (List·Memᴰ b) (chords-yes a es q) m)) [
@@ -168,11 +213,14 @@ cleared : List ℕ → (ℕ → Bool) → ℕ → Bool
 cleared [] T = T
 cleared (x ∷ xs) T = cleared xs (λ n. T n ⊕ (T x && same n x))
 
-cleared-at : (φ : Form) (xs : List ℕ) → ((x : ℕ) → List·Memᴰ x xs → φ .at (λ n. same n x) ≡ false) → (T : ℕ → Bool) → φ .at (cleared xs T) ≡ φ .at T
+cleared-at : (φ : Form) (xs : List ℕ) → ((x : ℕ) → List·Memᴰ x xs → φ .at (λ n. same n x) ≡ false) → (T : ℕ → Bool)
+    → φ .at (cleared xs T) ≡ φ .at T
 unfolding cleared
 cleared-at φ [] h T = refl
-cleared-at φ (x ∷ xs) h T = cleared-at φ xs (λ z k. h z (List·Memᴰ·tail k)) (λ n. T n ⊕ (T x && same n x)) ∙ φ .adds T (λ n. same n x) (T x)
-    ∙ ap (λ v. φ .at T ⊕ (T x && v)) (h x (List·Memᴰ·head refl)) ∙ eq2 (λ p q. p ⊕ (q && false)) (λ p q. p) tt (φ .at T) (T x)
+cleared-at φ (x ∷ xs) h T = cleared-at φ xs (λ z k. h z (List·Memᴰ·tail k)) (λ n. T n ⊕ (T x && same n x))
+    ∙ φ .adds T (λ n. same n x) (T x)
+    ∙ ap (λ v. φ .at T ⊕ (T x && v)) (h x (List·Memᴰ·head refl))
+    ∙ eq2 (λ p q. p ⊕ (q && false)) (λ p q. p) tt (φ .at T) (T x)
 
 cleared-false : (xs : List ℕ) (T : ℕ → Bool) (n : ℕ) → T n ≡ false → cleared xs T n ≡ false
 unfolding cleared
@@ -186,97 +234,136 @@ cleared-in : (xs : List ℕ) (T : ℕ → Bool) (n : ℕ) → List·Memᴰ n xs 
 unfolding cleared
 cleared-in [] T n m = absurd (List·Memᴰ·not-nil m)
 cleared-in (x ∷ xs) T n m = elim (List·Memᴰ·cases-cons m) [
-  | inl q ↦ cleared-false xs (λ n. T n ⊕ (T x && same n x)) n (rw (q, same-refl x) (eq1 (λ t. t ⊕ (t && true)) (λ t. false) tt (T x)))
+  | inl q ↦ cleared-false xs (λ n. T n ⊕ (T x && same n x)) n
+      (rw (q, same-refl x) (eq1 (λ t. t ⊕ (t && true)) (λ t. false) tt (T x)))
   | inr k ↦ cleared-in xs (λ n. T n ⊕ (T x && same n x)) n k
 ]
 
 -- ---- faces that are not reached would leave one test more than there are chords
 
-module _ (nodes : List ℕ) (es : List Arc) (face : Dart → ℕ) (faces : List ℕ) (f : ℕ) (nodes-once : Distinct nodes) (edges-once : Distinct (nums es)) (within : Within nodes es)
+module _ (nodes : List ℕ) (es : List Arc) (face : Dart → ℕ) (faces : List ℕ) (f : ℕ) (nodes-once : Distinct nodes)
+    (edges-once : Distinct (nums es)) (within : Within nodes es)
     (colouring : Colouring es face) (euler : Euler nodes es (length faces)) (first : List·Memᴰ f faces)
-    (sides : (a : Arc) → List·Memᴰ a es → List·Memᴰ (face (fwd (a .num))) faces × List·Memᴰ (face (bwd (a .num))) faces) where
-  module _ (R : ℕ → Bool) (even : Even es face R) (out : R f ≡ false) (g : ℕ) (there : List·Memᴰ g faces) (has : R g ≡ true) where
-    abbrev one : (r : List ℕ) × List·Permᴰ faces (f ∷ r)
-    one = extract first
+    (sides : (a : Arc) → List·Memᴰ a es → List·Memᴰ (face (fwd (a .num))) faces × List·Memᴰ (face (bwd (a .num))) faces)
+  where
+    module _ (R : ℕ → Bool) (even : Even es face R) (out : R f ≡ false) (g : ℕ) (there : List·Memᴰ g faces)
+        (has : R g ≡ true) where
+      abbrev one : (r : List ℕ) × List·Permᴰ faces (f ∷ r)
+      one = extract first
 
-    second : List·Memᴰ g (one .0)
-    second = elim (List·Memᴰ·cases-cons (perm-in (one .1) there)) [ inl e ↦ absurd (true≢false (sym has ∙ ap R e ∙ out)) | inr k ↦ k ]
-
-    abbrev two : (r : List ℕ) × List·Permᴰ (one .0) (g ∷ r)
-    two = extract second
-
-    -- the faces but f and g
-    abbrev rest : List ℕ
-    rest = two .0
-
-    parts : (n : ℕ) → List·Memᴰ n faces → (n ≡ f) ⊎ ((n ≡ g) ⊎ List·Memᴰ n rest)
-    parts n m = elim (List·Memᴰ·cases-cons (perm-in (one .1) m)) [ inl e ↦ inl e | inr k ↦ inr (List·Memᴰ·cases-cons (perm-in (two .1) k)) ]
-
-    abbrev beside : ℕ → Arc → Bool
-    beside x a = same (face (fwd (a .num))) x ⊕ same (face (bwd (a .num))) x
-
-    abbrev ring : ℕ → Form
-    ring x = total (chords es) (λ a. scaled (beside x a) (point (a .num)))
-
-    few : length (map ring rest) < length (nums (chords es))
-    few = omega (arith, euler, chords-length nodes es nodes-once within, length-map rest ring, length-map (chords es) (λ (a : Arc). a .num), perm-length (one .1), perm-length (two .1))
-
-    missing : Missed (nums (chords es)) (map ring rest)
-    missing = missed (nums (chords es)) (chords-once es edges-once) (map ring rest) few
-
-    abbrev y : ℕ → Bool
-    y = missing .0
-
-    -- how many chords of y lie between two colours
-    abbrev between : Form
-    between = total (chords es) (λ a. scaled (y (a .num)) (plus (point (face (fwd (a .num)))) (point (face (bwd (a .num))))))
-
-    between-at : (T : ℕ → Bool) → between .at T ≡ sum (chords es) (λ a. y (a .num) && (T (face (fwd (a .num))) ⊕ T (face (bwd (a .num)))))
-    between-at T = total-sum (chords es) (λ a. scaled (y (a .num)) (plus (point (face (fwd (a .num)))) (point (face (bwd (a .num)))))) T
-
-    between-one : (x : ℕ) → List·Memᴰ x rest → between .at (λ n. same n x) ≡ false
-    between-one x k = between-at (λ n. same n x) ∙ sum-cong (chords es) _ (λ a. beside x a && y (a .num)) (λ a j. eq2 (λ p s. p && s) (λ p s. s && p) tt (y (a .num)) (beside x a))
-        ∙ sym (total-sum (chords es) (λ a. scaled (beside x a) (point (a .num))) y) ∙ missing .1 (ring x) (Memᴰ·map ring k)
-
-    between-even : (T : ℕ → Bool) → Even es face T → between .at T ≡ false
-    between-even T h = between-at T ∙ sum-zero (chords es) _ (λ a k. ap (λ v. y (a .num) && (v ⊕ T (face (bwd (a .num))))) (h a (chords-in es k)) ∙ eq2 (λ p t. p && (t ⊕ t)) (λ p t. false) tt (y (a .num)) (T (face (bwd (a .num)))))
-
-    abbrev lifted : (ℕ → Bool) → ℕ → Bool
-    lifted T n = T n ⊕ (T f && true)
-
-    abbrev flat : (ℕ → Bool) → ℕ → Bool
-    flat T n = lifted T n ⊕ (lifted T g && R n)
-
-    same-lifted : (T : ℕ → Bool) → between .at (lifted T) ≡ between .at T
-    same-lifted T = between .adds T (λ n. true) (T f) ∙ ap (λ v. between .at T ⊕ (T f && v)) (between-even (λ n. true) (λ a k. refl)) ∙ eq2 (λ p q. p ⊕ (q && false)) (λ p q. p) tt (between .at T) (T f)
-
-    same-flat : (T : ℕ → Bool) → between .at (flat T) ≡ between .at (lifted T)
-    same-flat T = between .adds (lifted T) R (lifted T g) ∙ ap (λ v. between .at (lifted T) ⊕ (lifted T g && v)) (between-even R even) ∙ eq2 (λ p q. p ⊕ (q && false)) (λ p q. p) tt (between .at (lifted T)) (lifted T g)
-
-    empty : (T : ℕ → Bool) (n : ℕ) → List·Memᴰ n faces → cleared rest (flat T) n ≡ false
-    empty T n m = elim (parts n m) [
-      | inl e ↦ cleared-false rest (flat T) n (ap (flat T) e ∙ ap (λ v. lifted T f ⊕ (lifted T g && v)) out ∙ eq2 (λ t u. t ⊕ (t && true) ⊕ (u && false)) (λ t u. false) tt (T f) (lifted T g))
-      | inr o ↦ elim o [
-        | inl e ↦ cleared-false rest (flat T) n (ap (flat T) e ∙ ap (λ v. lifted T g ⊕ (lifted T g && v)) has ∙ eq1 (λ t. t ⊕ (t && true)) (λ t. false) tt (lifted T g))
-        | inr k ↦ cleared-in rest (flat T) n k
+      second : List·Memᴰ g (one .0)
+      second = elim (List·Memᴰ·cases-cons (perm-in (one .1) there)) [
+        | inl e ↦ absurd (true≢false (sym has ∙ ap R e ∙ out))
+        | inr k ↦ k
       ]
-    ]
 
-    between-none : (T : ℕ → Bool) → between .at T ≡ false
-    between-none T = sym (same-lifted T) ∙ sym (same-flat T) ∙ sym (cleared-at between rest between-one (flat T))
-        ∙ between-even (cleared rest (flat T)) (λ a k. empty T _ (sides a k .0) ∙ sym (empty T _ (sides a k .1)))
+      abbrev two : (r : List ℕ) × List·Permᴰ (one .0) (g ∷ r)
+      two = extract second
 
-    impossible : ⊥
-    impossible = true≢false (sym (o .2) ∙ sum-cong (chords es) _ _ (λ a k. ap (λ v. y (a .num) && v) (colouring (o .0) (o .1) .1 a (chords-in es k))) ∙ sym (between-at T) ∙ between-none T)
-      where
-        chord : (a : Arc) × List·Memᴰ a (chords es) × (a .num ≡ missing .2 .0)
-        chord = Memᴰ·of-map (λ (a : Arc). a .num) (chords es) (missing .2 .1)
+      -- the faces but f and g
+      abbrev rest : List ℕ
+      rest = two .0
 
-        o : Odd es y
-        o = odd es edges-once y (chord .0) (chord .1) (ap y (chord .2) ∙ missing .2 .2)
+      parts : (n : ℕ) → List·Memᴰ n faces → (n ≡ f) ⊎ ((n ≡ g) ⊎ List·Memᴰ n rest)
+      parts n m = elim (List·Memᴰ·cases-cons (perm-in (one .1) m)) [
+        | inl e ↦ inl e
+        | inr k ↦ inr (List·Memᴰ·cases-cons (perm-in (two .1) k))
+      ]
 
-        T : ℕ → Bool
-        T = colouring (o .0) (o .1) .0
+      abbrev beside : ℕ → Arc → Bool
+      beside x a = same (face (fwd (a .num))) x ⊕ same (face (bwd (a .num))) x
 
-  pub reached-of-colouring : Reached es face faces f
-  reached-of-colouring S even g m = ⊕-equal (S g) (S f) (not-true (S g ⊕ S f) (impossible (λ n. S n ⊕ S f) (λ a k. ap (λ v. v ⊕ S f) (even a k)) (⊕-self (S f)) g m))
+      abbrev ring : ℕ → Form
+      ring x = total (chords es) (λ a. scaled (beside x a) (point (a .num)))
+
+      few : length (map ring rest) < length (nums (chords es))
+      few = omega (
+        arith,
+        euler,
+        chords-length nodes es nodes-once within,
+        length-map rest ring,
+        length-map (chords es) (λ (a : Arc). a .num),
+        perm-length (one .1),
+        perm-length (two .1),
+      )
+
+      missing : Missed (nums (chords es)) (map ring rest)
+      missing = missed (nums (chords es)) (chords-once es edges-once) (map ring rest) few
+
+      abbrev y : ℕ → Bool
+      y = missing .0
+
+      -- how many chords of y lie between two colours
+      abbrev between : Form
+      between =
+          total (chords es)
+          (λ a. scaled (y (a .num)) (plus (point (face (fwd (a .num)))) (point (face (bwd (a .num))))))
+
+      between-at : (T : ℕ → Bool)
+          → between .at T ≡ sum (chords es) (λ a. y (a .num) && (T (face (fwd (a .num))) ⊕ T (face (bwd (a .num)))))
+      between-at T =
+          total-sum (chords es) (λ a. scaled (y (a .num))
+          (plus (point (face (fwd (a .num)))) (point (face (bwd (a .num)))))) T
+
+      between-one : (x : ℕ) → List·Memᴰ x rest → between .at (λ n. same n x) ≡ false
+      between-one x k = between-at (λ n. same n x) ∙ sum-cong (chords es) _ (λ a. beside x a && y (a .num))
+          (λ a j. eq2 (λ p s. p && s) (λ p s. s && p) tt (y (a .num)) (beside x a))
+          ∙ sym (total-sum (chords es) (λ a. scaled (beside x a) (point (a .num))) y)
+          ∙ missing .1 (ring x) (Memᴰ·map ring k)
+
+      between-even : (T : ℕ → Bool) → Even es face T → between .at T ≡ false
+      between-even T h = between-at T ∙ sum-zero (chords es) _
+          (λ a k. ap (λ v. y (a .num) && (v ⊕ T (face (bwd (a .num))))) (h a (chords-in es k))
+          ∙ eq2 (λ p t. p && (t ⊕ t)) (λ p t. false) tt (y (a .num)) (T (face (bwd (a .num)))))
+
+      abbrev lifted : (ℕ → Bool) → ℕ → Bool
+      lifted T n = T n ⊕ (T f && true)
+
+      abbrev flat : (ℕ → Bool) → ℕ → Bool
+      flat T n = lifted T n ⊕ (lifted T g && R n)
+
+      same-lifted : (T : ℕ → Bool) → between .at (lifted T) ≡ between .at T
+      same-lifted T = between .adds T (λ n. true) (T f)
+          ∙ ap (λ v. between .at T ⊕ (T f && v)) (between-even (λ n. true) (λ a k. refl))
+          ∙ eq2 (λ p q. p ⊕ (q && false)) (λ p q. p) tt (between .at T) (T f)
+
+      same-flat : (T : ℕ → Bool) → between .at (flat T) ≡ between .at (lifted T)
+      same-flat T = between .adds (lifted T) R (lifted T g)
+          ∙ ap (λ v. between .at (lifted T) ⊕ (lifted T g && v)) (between-even R even)
+          ∙ eq2 (λ p q. p ⊕ (q && false)) (λ p q. p) tt (between .at (lifted T)) (lifted T g)
+
+      empty : (T : ℕ → Bool) (n : ℕ) → List·Memᴰ n faces → cleared rest (flat T) n ≡ false
+      empty T n m = elim (parts n m) [
+        | inl e ↦
+            cleared-false rest (flat T) n (ap (flat T) e ∙ ap (λ v. lifted T f ⊕ (lifted T g && v)) out
+            ∙ eq2 (λ t u. t ⊕ (t && true) ⊕ (u && false)) (λ t u. false) tt (T f) (lifted T g))
+        | inr o ↦ elim o [
+          | inl e ↦
+              cleared-false rest (flat T) n (ap (flat T) e ∙ ap (λ v. lifted T g ⊕ (lifted T g && v)) has
+              ∙ eq1 (λ t. t ⊕ (t && true)) (λ t. false) tt (lifted T g))
+          | inr k ↦ cleared-in rest (flat T) n k
+        ]
+      ]
+
+      between-none : (T : ℕ → Bool) → between .at T ≡ false
+      between-none T = sym (same-lifted T) ∙ sym (same-flat T) ∙ sym (cleared-at between rest between-one (flat T))
+          ∙ between-even (cleared rest (flat T)) (λ a k. empty T _ (sides a k .0) ∙ sym (empty T _ (sides a k .1)))
+
+      impossible : ⊥
+      impossible =
+          true≢false (sym (o .2) ∙ sum-cong (chords es) _ _
+          (λ a k. ap (λ v. y (a .num) && v) (colouring (o .0) (o .1) .1 a (chords-in es k))) ∙ sym (between-at T)
+          ∙ between-none T)
+        where
+          chord : (a : Arc) × List·Memᴰ a (chords es) × (a .num ≡ missing .2 .0)
+          chord = Memᴰ·of-map (λ (a : Arc). a .num) (chords es) (missing .2 .1)
+
+          o : Odd es y
+          o = odd es edges-once y (chord .0) (chord .1) (ap y (chord .2) ∙ missing .2 .2)
+
+          T : ℕ → Bool
+          T = colouring (o .0) (o .1) .0
+
+    pub reached-of-colouring : Reached es face faces f
+    reached-of-colouring S even g m = ⊕-equal (S g) (S f)
+        (not-true (S g ⊕ S f) (impossible (λ n. S n ⊕ S f) (λ a k. ap (λ v. v ⊕ S f) (even a k)) (⊕-self (S f)) g m))
