@@ -1,4 +1,4 @@
--- Curves cut, joined and reversed. Over a ∷ r first, then over a curve.
+-- Curves cut, joined, reversed, and without surplus points. Over a ∷ r first, then over a curve.
 use mathlib.Core.Bool.{Bool, true, false}
 use mathlib.Core.List.{List, [], _∷_, _++_}
 use Rattle.plane.specs.declared.Point.{Point}
@@ -36,6 +36,12 @@ join a [] s = s
 join a (m ∷ []) s = joinHere (dropped a m s) m s
 join a (b ∷ c ∷ r) s = b ∷ join b (c ∷ r) s
 
+-- the points after a, without the inner ones that lie straight between their given neighbours
+abbrev pub thinned : Point → List Point → List Point
+thinned a [] = []
+thinned a (b ∷ []) = b ∷ []
+thinned a (b ∷ c ∷ r) = joinHere (straightBetween a b c) b (thinned b (c ∷ r))
+
 -- the curve a ∷ r the other way round is lastOf a r ∷ turned a r
 abbrev pub turned : Point → List Point → List Point
 turned a [] = []
@@ -53,6 +59,10 @@ back m c = record { first = m; rest = cut m (c .first) (c .rest) .back }
 -- one curve after the other
 abbrev pub joined : Curve → Curve → Curve
 joined c d = record { first = c .first; rest = join (c .first) (c .rest) (d .rest) }
+
+-- without surplus points
+abbrev pub withoutSurplus : Curve → Curve
+withoutSurplus c = record { first = c .first; rest = thinned (c .first) (c .rest) }
 
 abbrev pub reversed : Curve → Curve
 reversed c = record { first = lastPoint c; rest = turned (c .first) (c .rest) }

@@ -6,7 +6,7 @@ use Rattle.plane.specs.declared.Point.{Point}
 use Rattle.curves.specs.Curves.{lastOf, secondOf, beforeLast}
 use Rattle.geometry.specs.Spots.{Spot, At, OnSeg, Between, SameWay}
 use Rattle.geometry.specs.Meaning.{On, Differ, Arc, Simple, Some}
-use Rattle.geometry.proofs.Segments.{at-first, at-last, at-one, first-part, last-part, parts, pin, same-way, first-way, last-way, way-back, turn-way, between-differ}
+use Rattle.geometry.proofs.Segments.{at-first, at-last, at-one, first-part, last-part, parts, pin, same-way, first-way, last-way, way-back, way-trans, turn-way, between-differ}
 
 pub record Alike (a : Point) (r s : List Point) : Type 0 where
   pub some : Some r
@@ -57,6 +57,24 @@ alike-sym h =
       differ′ = h .differ;
       start = way-back (h .start);
       finish = way-back (h .finish);
+    }
+
+pub alike-trans : {a : Point} {r s t : List Point} → Alike a r s → Alike a s t → Alike a r t
+alike-trans h k =
+    record {
+      some = h .some;
+      some′ = k .some′;
+      on = λ P o. k .on P (h .on P o);
+      on′ = λ P o. h .on′ P (k .on′ P o);
+      last = h .last ∙ k .last;
+      arc = λ o. k .arc (h .arc o);
+      arc′ = λ o. h .arc′ (k .arc′ o);
+      simple = λ o. k .simple (h .simple o);
+      simple′ = λ o. h .simple′ (k .simple′ o);
+      differ = λ o. k .differ (h .differ o);
+      differ′ = λ o. h .differ′ (k .differ′ o);
+      start = way-trans (h .start) (k .start);
+      finish = way-trans (h .finish) (k .finish);
     }
 
 -- ---- after one point more

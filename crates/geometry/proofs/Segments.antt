@@ -223,6 +223,25 @@ unfoldable pub way-back : {a b c d : Point} → SameWay a b c d → SameWay c d 
 way-back {a} {b} {c} {d} s =
     record { n = s .k; k = s .n; n-some = s .k-some; k-some = s .n-some; x = omega (arith, s .x); y = omega (arith, s .y) }
 
+pub way-trans : {a b c d e f : Point} → SameWay a b c d → SameWay c d e f → SameWay a b e f
+way-trans {a} {b} {c} {d} {e} {f} s t =
+    record {
+      n = s .n * t .n;
+      k = s .k * t .k;
+      n-some = mul-pos (s .n-some) (t .n-some);
+      k-some = mul-pos (s .k-some) (t .k-some);
+      x = go (s .n) (s .k) (t .n) (t .k) (a .x) (b .x) (c .x) (d .x) (e .x) (f .x) (s .x) (t .x);
+      y = go (s .n) (s .k) (t .n) (t .k) (a .y) (b .y) (c .y) (d .y) (e .y) (f .y) (s .y) (t .y);
+    }
+  where
+    go : (n k p q a b c d e f : ℕ) → n * b + k * c ≡ n * a + k * d → p * d + q * e ≡ p * c + q * f → n * p * b + k * q * e ≡ n * p * a + k * q * f
+    go n k p q a b c d e f g h =
+        pos-injective (of-zero _ _
+        (solve 10 (λ n k p q a b c d e f. n ⊗ p ⊗ b ⊕ k ⊗ q ⊗ e ⊖ (n ⊗ p ⊗ a ⊕ k ⊗ q ⊗ f)
+        ≐ p ⊗ (n ⊗ b ⊕ k ⊗ c ⊖ (n ⊗ a ⊕ k ⊗ d)) ⊕ k ⊗ (p ⊗ d ⊕ q ⊗ e ⊖ (p ⊗ c ⊕ q ⊗ f))) tt
+        (pos n) (pos k) (pos p) (pos q) (pos a) (pos b) (pos c) (pos d) (pos e) (pos f)
+        ∙ combine (pos p) (pos k) (zero-of (ap pos g)) (zero-of (ap pos h))))
+
 pub turn-way : {a b c d : Point} → SameWay a b c d → SameWay b a d c
 turn-way s = record { n = s .n; k = s .k; n-some = s .n-some; k-some = s .k-some; x = sym (s .x); y = sym (s .y) }
 
