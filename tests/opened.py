@@ -1,29 +1,69 @@
 #!/usr/bin/env python3
-"""Writes crates/map/specs/Opened.antt: every shut definition that the map's definitions use, opened at once for closed examples."""
+"""Writes Opened.antt of the crates whose closed examples compute: every shut definition that a crate's definitions
+use, opened at once. The map's stands in specs/ and has those of the crates below it; the others stand in proofs/."""
 
 import pathlib
 import re
 
 CRATES = pathlib.Path(__file__).resolve().parent.parent / 'crates'
-BELOW = ('lists', 'plane', 'curves', 'planar', 'rotation')
+HEADER = """-- Every definition opened at once: `unfolding opened` lets closed examples compute. Written by tests/opened.py.
+"""
+# a crate, where its file stands, the crates below whose definitions it opens itself, and what is opened already
+OPENED = (
+    ('map', 'specs', ('lists', 'plane', 'curves', 'planar', 'rotation'), None),
+    ('network', 'proofs', (), 'Rattle.map.specs.Opened'),
+    ('paths', 'proofs', (), 'Rattle.network.proofs.Opened'),
+    ('joining', 'proofs', (), 'Rattle.map.specs.Opened'),
+    ('mending', 'proofs', (), 'Rattle.map.specs.Opened'),
+    ('nesting', 'proofs', (), 'Rattle.map.specs.Opened'),
+)
 
 
 def shut(path):
     return re.findall(r'^ *unfoldable pub (\S+) ', path.read_text(), re.M)
 
 
-def main():
-    uses, names = ['use mathlib.Core.List.{flatMap}'], ['flatMap']
-    for crate in (*BELOW, 'map'):
-        for path in sorted((CRATES / crate / 'specs').glob('*.antt')):
+def filled(line, words):
+    """The words behind the first, in lines of at most 120 columns."""
+    lines = []
+    for w in words:
+        if len(line) + 1 + len(w) > 120:
+            lines.append(line)
+            line = '   '
+        line += ' ' + w
+    return '\n'.join([*lines, line])
+
+
+def uses(module, names):
+    """Imports of at most 120 columns each."""
+    out, now = [], []
+    for n in names:
+        if now and len(f'use {module}.{{{", ".join((*now, n))}}}') > 120:
+            out.append(now)
+            now = []
+        now.append(n)
+    return [f'use {module}.{{{", ".join(part)}}}' for part in (*out, now)]
+
+
+def write(crate, place, below, base):
+    lines, names = ['use mathlib.Core.List.{flatMap}'], ['flatMap']
+    if base:
+        lines, names = [f'use {base} as below'], ['below.opened']
+    for c in (*below, crate):
+        for path in sorted((CRATES / c / 'specs').glob('*.antt')):
             found = [] if path.stem == 'Opened' else shut(path)
             if found:
-                module = f'Rattle.map.specs.{path.stem}' if crate == 'map' else f'Rattle.{crate}.specs.{path.stem}'
-                uses.append(f'use {module}.{{{", ".join(found)}}}')
+                lines += uses(f'Rattle.{c}.specs.{path.stem}' if c == crate else f'Rattle.{c}.specs.{path.stem}',
+                              found)
                 names += found
-    text = '-- Every definition opened at once: `unfolding opened` lets closed examples compute. Written by tests/opened.py.\n'
-    text += '\n'.join(uses) + '\n\nunfoldable pub opened : Unit {0}\nunfolding ' + ' '.join(names) + '\nopened = tt\n'
-    (CRATES / 'map' / 'specs' / 'Opened.antt').write_text(text)
+    text = HEADER + '\n'.join(lines) + '\n\nunfoldable pub opened : Unit {0}\n'
+    text += filled('unfolding', names) + '\nopened = tt\n'
+    (CRATES / crate / place / 'Opened.antt').write_text(text)
+
+
+def main():
+    for row in OPENED:
+        write(*row)
 
 
 main()

@@ -11,8 +11,8 @@ use Rattle.planar.specs.Map.{fwd, bwd}
 use Rattle.map.specs.Rows.{Map, Sizes, lentOf}
 use Rattle.map.specs.Grow.{grow}
 use Rattle.map.specs.Ticket.{Listed}
-use Rattle.nesting.specs.Contents.{pieceRows, isIn, under, lines, contents, contentsOf}
-use Rattle.map.specs.Opened.{opened}
+use Rattle.nesting.specs.Contents.{contentsOf}
+use Rattle.nesting.proofs.Opened.{opened}
 
 abbrev small : Sizes
 small = record { nodes = 6; edges = 4; faces = 4 }
@@ -78,17 +78,17 @@ refused l r = record { list = l; answer = record { refusal = r; value = pos 0 } 
 
 pub grown-lines : map (λ c. contentsOf (grow small (c .tickets) .lent) (sevens (length (c .lines)))) claims
     ≡ map (λ c. written (c .lines)) claims
-unfolding opened pieceRows isIn under lines contents contentsOf
+unfolding opened
 grown-lines = refl
 
 -- the remainder is untouched; a list one number too short
 pub longer : contentsOf (grow small (well 0 0 ∷ []) .lent) (sevens 8)
     ≡ record { list = line 0 0 0 (line 1 1 1 (sevens 2)); answer = record { refusal = 0; value = pos 6 } }
-unfolding opened pieceRows isIn under lines contents contentsOf
+unfolding opened
 longer = refl
 
 pub shorter : contentsOf (grow small (well 0 0 ∷ []) .lent) (sevens 5) ≡ refused (sevens 5) 20
-unfolding opened pieceRows isIn under lines contents contentsOf
+unfolding opened
 shorter = refl
 
 -- ---- maps in form that no tickets grow
@@ -133,5 +133,5 @@ twice =
     }
 
 pub not-grown : map (λ m. contentsOf (lentOf small m) []) (missed ∷ twice ∷ []) ≡ refused [] 28 ∷ refused [] 28 ∷ []
-unfolding opened pieceRows isIn under lines contents contentsOf
+unfolding opened
 not-grown = refl
