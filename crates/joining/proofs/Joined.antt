@@ -1,5 +1,5 @@
--- A joined sheet is what its tickets leave, on any tables, and its answer is that of the first reason (specs/Claims.antt).
--- Assumes nothing.
+-- A joined sheet is what its tickets leave, on any tables, and its answer is that of the first reason
+-- (specs/Claims.antt). Assumes nothing.
 use mathlib.Core.Path.{_≡_, refl, sym, ap, ap₂, _∙_, subst}
 use mathlib.Core.Bool.{Bool, true, false, cond, not}
 use mathlib.Core.List.{List, [], _∷_, _++_, map, append-assoc}
@@ -67,7 +67,7 @@ joined-after l second =
     let o = enterAll l fs in
     let ts = ticketsFor l fs in
     let left : o .answer .refusal ≡ 0 → o .lent ≡ after l (unlessRefused (asIs (o .lent)) ts) .lent =
-        λ z. rw (same-refl 0) (all-after l fs z) in
+    λ z. rw (same-refl 0) (all-after l fs z) in
     unless-after (firstReason (lentReasons l ++ lentReasons second)) l
     (unlessReason (o .answer .refusal) l (asIs (o .lent))) ts
     (λ z. unless-after (o .answer .refusal) l (asIs (o .lent)) ts left)
