@@ -1,8 +1,7 @@
 -- Widths, fields and bytes by computation. Assumes nothing.
 use mathlib.Core.Path.{_≡_, refl}
 use mathlib.Core.Bool.{true, false}
-use mathlib.Core.List.{List, [], _∷_, _++_, map, flatMap}
-use Prim.Native.Nat.{ℕ}
+use mathlib.Core.List.{[], _∷_, _++_, map, flatMap}
 use lib.Count.{leadingZeros}
 use Rattle.lists.specs.Tests.{same}
 use Rattle.fields.specs.Bits.{width, bits, field, bitsOf, bytesOf}

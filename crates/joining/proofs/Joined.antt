@@ -1,9 +1,9 @@
 -- A joined sheet is what its tickets leave, on any tables, and its answer is that of the first reason
 -- (specs/Claims.antt). Assumes nothing.
-use mathlib.Core.Path.{_≡_, refl, sym, ap, ap₂, _∙_, subst}
-use mathlib.Core.Bool.{Bool, true, false, cond, not}
-use mathlib.Core.List.{List, [], _∷_, _++_, map, append-assoc}
-use mathlib.Core.Logic.{_≢_, inl, inr}
+use mathlib.Core.Path.{_≡_, refl, sym, ap, _∙_, subst}
+use mathlib.Core.Bool.{true, cond, not}
+use mathlib.Core.List.{List, [], _∷_, _++_, map}
+use mathlib.Core.Logic.{_≢_}
 use mathlib.Core.Option.{Option, none, some}
 use Prim.Native.Nat.{ℕ, zero, suc}
 use lib.Dec.{ltb}
@@ -11,7 +11,7 @@ use lib.IntN.{ℤ, pos}
 use native.Mathlib.Omega.{arith}
 use Rattle.lists.specs.Tests.{same}
 use Rattle.lists.specs.Scans.{all}
-use Rattle.lists.proofs.Bools.{same-refl, same-false, same-true, which}
+use Rattle.lists.proofs.Bools.{same-refl, same-false}
 use Rattle.map.specs.declared.Answer.{Answer}
 use Rattle.map.specs.Rows.{Lent, emptyMap, mapOf, lentOf}
 use Rattle.map.specs.Reasons.{Reasons, firstReason}
@@ -24,9 +24,9 @@ use Rattle.joining.specs.Join.{Entry, entries, asIs, enter, unlessReason
 use Rattle.joining.specs.Join.{ticketsFor, joinTickets}
 use Rattle.joining.specs.Claims.{JoinedAfter, JoinRefused, turnedDown, JoinedAnswer, JoinedGrown, JoinedMap}
 
--- ---- one row's ticket, or none, and what follows it
+-- ---- no ticket turned down
 
--- nothing turned down: what is left
+-- what a row's ticket, or none, leaves to those behind it
 handed-lent : (l : Lent) (t : Option (List ℤ)) (ts : List (List ℤ))
     → after (enter l t .lent) ts .lent ≡ after l (handedIn t ts) .lent
 unfolding after
@@ -37,7 +37,7 @@ unless-zero : (r : ℕ) (l : Lent) (o : Outcome) → unlessReason r l o .answer 
 unless-zero zero l o z = refl
 unless-zero (suc r) l o z = z
 
--- where no ticket is turned down the rows' tickets leave what is left
+-- what is left is what the rows' tickets leave
 all-after : (l : Lent) (fs : List Entry) → enterAll l fs .answer .refusal ≡ 0
     → enterAll l fs .lent ≡ after l (ticketsFor l fs) .lent
 unfolding enterAll ticketsFor after

@@ -1,18 +1,20 @@
--- What is claimed of two sheets joined. Proved in proofs/Joined.antt.
+-- What is claimed of two sheets joined. Proved in proofs/: Joined.antt, Ranged.antt (`join-ranged`).
 use mathlib.Core.Path.{_≡_}
-use mathlib.Core.Bool.{Bool, not}
+use mathlib.Core.Bool.{Bool, true, not}
 use mathlib.Core.List.{List, _++_, map}
 use mathlib.Core.Logic.{_≢_}
 use Prim.Native.Nat.{ℕ, _≤_}
 use lib.IntN.{ℤ, pos}
+use lib.ListN.{take}
 use Rattle.lists.specs.Tests.{same}
 use Rattle.map.specs.declared.Answer.{Answer}
 use Rattle.map.specs.Rows.{Lent, Sizes, mapOf}
+use Rattle.map.specs.Form.{ranged}
 use Rattle.map.specs.Reasons.{firstReason}
 use Rattle.map.specs.Ticket.{lentReasons, refused}
 use Rattle.map.specs.Grow.{after, grow}
 use Rattle.grown.specs.Claims.{GrownMap}
-use Rattle.joining.specs.Join.{entries, joined, ticketsFor, joinTickets}
+use Rattle.joining.specs.Join.{entries, enterAll, joined, ticketsFor, joinTickets}
 
 -- ---- any two sheets
 
@@ -28,12 +30,19 @@ JoinRefused = (l second : Lent) → let r = joined l second .answer .refusal in 
 abbrev pub turnedDown : Answer → ℕ × Bool
 turnedDown a = (a .refusal, not (same (a .refusal) 0))
 
--- the answer is the first of: 1 and 2 of the first sheet, 1 and 2 of the second, what the tickets get one by one
+-- the answer is the first of these: 1 and 2 of the first sheet, 1 and 2 of the second, what the tickets get one by one
 abbrev pub JoinedAnswer : Type 0
 JoinedAnswer =
     (l second : Lent) → let tickets = ticketsFor l (entries (mapOf second)) in
     let reasons = lentReasons l ++ lentReasons second ++ map turnedDown (after l tickets .answers) in
     joined l second .answer ≡ record { refusal = firstReason reasons; value = pos 0 }
+
+-- counts, ranges and zero rows are as in form wherever a ticket is worked out, also behind one that left the first
+-- sheet out of form
+abbrev pub JoinRanged : Type 0
+JoinRanged =
+    (l second : Lent) → ranged l ≡ true → (n : ℕ)
+    → ranged (enterAll l (take n (entries (mapOf second))) .lent) ≡ true
 
 -- ---- a grown sheet and any other
 
