@@ -1,6 +1,6 @@
 -- Worked examples, by computation: grown sheets, their links spoiled, and mended; and each reason against it.
 use mathlib.Core.Path.{_≡_, refl}
-use mathlib.Core.Bool.{true, false}
+use mathlib.Core.Bool.{true}
 use mathlib.Core.List.{List, [], _∷_, _++_, map}
 use mathlib.Core.Option.{none}
 use Prim.Native.Nat.{ℕ}
@@ -11,7 +11,6 @@ use Rattle.planar.specs.Map.{Dart, fwd, bwd}
 use Rattle.map.specs.Rows.{Node, Edge, Map, Sizes, dartCell, lentOf}
 use Rattle.map.specs.Form.{inForm}
 use Rattle.map.specs.Grow.{grow}
-use Rattle.map.specs.Links.{obeysLaw}
 use Rattle.mending.specs.Mend.{mend}
 use Rattle.mending.proofs.Opened.{opened}
 
@@ -37,9 +36,9 @@ edge e u v nl nr l r ps =
       curve = through (map (λ p. record { x = p .0; y = p .1 }) ps);
     }
 
--- the list after it, and the value: the sheet is mended
-abbrev Mends : Map → List ℤ → Map → List ℤ → ℕ → Type 0
-Mends before list after list′ n =
+-- the sheet before and after, the list before and after, and the value
+abbrev MendsTo : Map → List ℤ → Map → List ℤ → ℕ → Type 0
+MendsTo before list after list′ n =
     mend (lentOf small before) list
     ≡ record { lent = lentOf small after; list = list′; answer = record { refusal = 0; value = pos n } }
 
@@ -87,25 +86,26 @@ unfolding opened
 loop-grows = refl
 
 -- lawful: no room is needed
-pub loop-lawful : Mends loopGrown [] loopGrown [] 0
+pub loop-lawful : MendsTo loopGrown [] loopGrown [] 0
 unfolding opened
 loop-lawful = refl
 
 -- 0 stands in a link
-pub no-link : Mends (loop (fwd 0) (bwd 2) (fwd 1) (bwd 1) 1) (sevens 5) loopGrown (changed 1 (fwd 0) (bwd 2) (fwd 2) (bwd 2)) 5
+pub no-link : MendsTo (loop (fwd 0) (bwd 2) (fwd 1) (bwd 1) 1) (sevens 5) loopGrown
+    (changed 1 (fwd 0) (bwd 2) (fwd 2) (bwd 2)) 5
 unfolding opened
 no-link = refl
 
 -- the least number of 64 bits; the list's remainder is untouched
 pub unknown-link :
-    Mends (loop (fwd 2) (bwd 2) (fwd 1) (bwd 9223372036854775808) 1) (sevens 6)
+    MendsTo (loop (fwd 2) (bwd 2) (fwd 1) (bwd 9223372036854775808) 1) (sevens 6)
     loopGrown (pos 2 ∷ pos 1 ∷ negsuc 9223372036854775807 ∷ pos 1 ∷ negsuc 0 ∷ pos 7 ∷ []) 5
 unfolding opened
 unknown-link = refl
 
 -- links of both edges, by rising number
 pub links-of-both :
-    Mends (loop (fwd 1) (fwd 1) (bwd 2) (fwd 9) 1) (sevens 10)
+    MendsTo (loop (fwd 1) (fwd 1) (bwd 2) (fwd 9) 1) (sevens 10)
     loopGrown (changed 1 (fwd 1) (fwd 1) (fwd 2) (bwd 2) ++ changed 2 (bwd 2) (fwd 9) (fwd 1) (bwd 1)) 10
 unfolding opened
 links-of-both = refl
@@ -116,7 +116,8 @@ unfolding opened
 no-room = refl
 
 -- the ring inside would bear 1 and 0; so with a spoiled link and no room
-pub two-faces : Refuses 31 (loop (fwd 2) (bwd 2) (fwd 1) (bwd 1) 0) [] × Refuses 31 (loop (fwd 0) (bwd 2) (fwd 1) (bwd 1) 0) []
+pub two-faces : Refuses 31 (loop (fwd 2) (bwd 2) (fwd 1) (bwd 1) 0) []
+    × Refuses 31 (loop (fwd 0) (bwd 2) (fwd 1) (bwd 1) 0) []
 unfolding opened
 two-faces = (refl, refl)
 
@@ -157,7 +158,7 @@ unfolding opened
 row-grows = refl
 
 -- the wrong half, as NewEdgesSplit of PostGIS writes it
-pub wrong-half : Mends (row (bwd 3)) (sevens 5) (row (bwd 4)) (changed 2 (bwd 2) (bwd 3) (bwd 2) (bwd 4)) 5
+pub wrong-half : MendsTo (row (bwd 3)) (sevens 5) (row (bwd 4)) (changed 2 (bwd 2) (bwd 3) (bwd 2) (bwd 4)) 5
 unfolding opened
 wrong-half = refl
 
@@ -184,7 +185,7 @@ unfolding opened
 counterclockwise-in-form = refl
 
 pub counterclockwise :
-    Mends (star (fwd 2) (fwd 3) (fwd 1)) (sevens 15) (star (fwd 3) (fwd 1) (fwd 2))
+    MendsTo (star (fwd 2) (fwd 3) (fwd 1)) (sevens 15) (star (fwd 3) (fwd 1) (fwd 2))
     (changed 1 (bwd 1) (fwd 2) (bwd 1) (fwd 3)
     ++ changed 2 (bwd 2) (fwd 3) (bwd 2) (fwd 1)
     ++ changed 3 (bwd 3) (fwd 1) (bwd 3) (fwd 2)) 15

@@ -1,19 +1,21 @@
 -- A mended map is in form, where departures differ in direction and a mended ring bears one face. Assumes nothing.
 use mathlib.Core.Path.{_≡_, refl, sym, ap, subst, fun-ext, _∙_}
 use mathlib.Core.Logic.{_⊎_, inl, inr}
-use mathlib.Core.Bool.{Bool, true, false, Bool·beq, cond, _&&_}
-use mathlib.Core.List.{List, map, map-map, List·Memᴰ, Memᴰ·map, Memᴰ·of-map, Memᴰ·cast, List·Permᴰ, Permᴰ·symm}
+use mathlib.Core.Bool.{Bool, true, false, Bool·beq, cond, not, _&&_, true≢false}
+use mathlib.Core.List.{List, [], _∷_, map, map-map, List·Memᴰ, List·Memᴰ·cases-cons, List·Memᴰ·not-nil, Memᴰ·map}
+use mathlib.Core.List.{Memᴰ·of-map, Memᴰ·cast, List·Permᴰ, Permᴰ·symm}
 use mathlib.Core.Option.{Option, none, some}
 use Prim.Native.Nat.{ℕ}
 use native.Mathlib.Omega.{arith}
+use borrow.Author.Tests.{not-true}
 use lib.ListN.{length, length-map}
 use Rattle.lists.specs.Tests.{same}
-use Rattle.lists.specs.Scans.{all, firstOr, isSome}
+use Rattle.lists.specs.Scans.{any, all, firstOr, isSome}
 use Rattle.lists.specs.Members.{Distinct}
 use Rattle.lists.proofs.Bools.{same-eq, and-true, and-is}
 use Rattle.lists.proofs.Maps.{all-mapped}
 use Rattle.lists.proofs.Perms.{perm-of-distinct}
-use Rattle.plane.specs.Directions.{Way}
+use Rattle.plane.specs.Directions.{Way, sameWay}
 use Rattle.planar.specs.Map.{Arc, Dart, fwd, bwd, rev, Linked}
 use Rattle.planar.specs.Pieces.{nums}
 use Rattle.planar.specs.Rings.{sameDart}
@@ -21,26 +23,28 @@ use Rattle.planar.proofs.Cycles.{fwd-in, bwd-in}
 use Rattle.planar.proofs.Hooks.{distinct-darts}
 use Rattle.planar.proofs.Rings.{rev-in}
 use Rattle.planar.proofs.Turns.{rev-rev}
-use Rattle.rotation.specs.Law.{Apart}
+use Rattle.rotation.specs.Ways.{Alike}
+use Rattle.rotation.specs.Law.{Differ, Apart}
+use Rattle.rotation.proofs.Ways.{alike-is, alike-sym}
 use Rattle.rotation.proofs.Node.{lawful-in}
 use Rattle.rotation.proofs.Ties.{tells}
 use Rattle.rotation.proofs.Whole.{law-onto}
-use Rattle.map.specs.Rows.{Node, Edge, Map, edge, node, hasNode, hasEdge}
+use Rattle.map.specs.Rows.{Edge, Map, edge, node, hasNode, hasEdge}
 use Rattle.map.specs.Darts.{arcs, directed, leaves, arrives, next, bears, way, departures}
 use Rattle.map.specs.Form.{numbered, numbers, inFace, curveFits, waysDiffer, departuresDiffer, bareMarked}
-use Rattle.map.specs.Form.{linksOnce, linksMeet, ringsBearOne, formed}
+use Rattle.map.specs.Form.{linksMeet, ringsBearOne, formed}
 use Rattle.map.specs.Links.{clockwise}
-use Rattle.map.proofs.Laws.{numbered-is}
+use Rattle.map.proofs.Laws.{numbers-are}
 use Rattle.map.proofs.Linked.{arcOf, nums-rows, links-keep}
-use Rattle.grown.proofs.Scanning.{all-each, each-all}
+use Rattle.grown.proofs.Scanning.{all-each, each-all, none-has}
 use Rattle.grown.proofs.Readings.{leaves-row, edge-row, edge-at, arc-at, dart-has, departs, departing}
 use Rattle.grown.proofs.RowChanges.{node-row}
-use Rattle.grown.proofs.EdgesLaw.{from-in, from-has}
+use Rattle.grown.proofs.EdgesLaw.{from-in}
 use Rattle.grown.proofs.Forms.{linked-once}
 use Rattle.mending.specs.Mend.{sidesNamed, mended}
 use Rattle.mending.specs.Claims.{linksNamed}
-use Rattle.mending.proofs.Sketched.{Sketch, Linking, parts-formed}
-use Rattle.mending.proofs.Mended.{relinked, mended-rows, mended-relinked, directed-kept, next-now, law-now, differ-says}
+use Rattle.mending.proofs.Sketched.{Sketch, parts-formed}
+use Rattle.mending.proofs.Mended.{relinked, mended-relinked, directed-kept, next-now, law-now}
 
 -- ---- what does not look at links stays
 
@@ -49,8 +53,8 @@ module _ (m : Map) (s : Sketch m) where
   unfolding numbers mended
   rising-now =
       ap (λ (ns : List ℕ).
-        numbered 1 (m .nextNode) (map (λ n. n .number) (m .nodes)) && numbered 1 (m .nextEdge) ns
-        && numbered 0 (m .nextFace) (m .faces) && same (firstOr 1 (m .faces)) 0)
+      numbered 1 (m .nextNode) (map (λ n. n .number) (m .nodes)) && numbered 1 (m .nextEdge) ns
+      && numbered 0 (m .nextFace) (m .faces) && same (firstOr 1 (m .faces)) 0)
       (map-map (λ (e : Edge). e .number) (relinked m) (m .edges)) ∙ s .rising
 
   faces-now : all (λ n. inFace (mended m) (n .face)) (m .nodes) ≡ true
@@ -86,16 +90,31 @@ differ-now m h =
     ∙ ap (λ (w : Dart → Way). all (λ n. waysDiffer (map w (departures m (n .number)))) (m .nodes))
     (fun-ext (mended-relinked m .way)) ∙ h
 
--- ---- the links
+-- ---- departures that differ in direction
 
--- no edge number stands twice
-pub rising-once : (m : Map) → numbers m ≡ true → Distinct (map (λ e. e .number) (m .edges))
-unfolding numbers
-rising-once m h =
-    let h₁ = and-true _ (same (firstOr 1 (m .faces)) 0) h in
-    let h₂ = and-true _ (numbered 0 (m .nextFace) (m .faces)) (h₁ .0) in
-    let h₃ = and-true (numbered 1 (m .nextNode) (map (λ n. n .number) (m .nodes))) _ (h₂ .0) in
-    numbered-is 1 (m .nextEdge) (map (λ e. e .number) (m .edges)) (h₃ .1) .distinct
+-- what differs by the test
+differ-says : {D : Type 0} (way : D → Way) (ds : List D) → waysDiffer (map way ds) ≡ true → Differ way ds
+differ-says way [] h d c i j e = absurd (List·Memᴰ·not-nil i)
+differ-says {D} way (x ∷ ds) h d c i j e =
+    go (differ-says way ds (k .1) d c) (List·Memᴰ·cases-cons i) (List·Memᴰ·cases-cons j)
+  where
+    k : (not (any (sameWay (way x)) (map way ds)) ≡ true) × (waysDiffer (map way ds) ≡ true)
+    k = and-true (not (any (sameWay (way x)) (map way ds))) (waysDiffer (map way ds)) h
+
+    free : (y : D) → List·Memᴰ y ds → Alike (way x) (way y) → ⊥
+    free y m a = true≢false (sym (alike-is (way x) (way y) a)
+        ∙ none-has (sameWay (way x)) (map way ds) (not-true (any (sameWay (way x)) (map way ds)) (k .0)) (way y)
+        (Memᴰ·map way m))
+
+    go : (List·Memᴰ d ds → List·Memᴰ c ds → Alike (way d) (way c) → d ≡ c)
+        → (d ≡ x) ⊎ List·Memᴰ d ds → (c ≡ x) ⊎ List·Memᴰ c ds → d ≡ c
+    go ih (inl p) (inl q) = p ∙ sym q
+    go ih (inl p) (inr q) = absurd (free c q (subst (λ (z : D). Alike (way z) (way c)) p e))
+    go ih (inr p) (inl q) =
+        absurd (free d p (alike-sym (way d) (way x) (subst (λ (z : D). Alike (way d) (way z)) q e)))
+    go ih (inr p) (inr q) = ih p q e
+
+-- ---- the links
 
 -- where a directed edge leaves, by its arc
 module _ (m : Map) (once : Distinct (nums (arcs m))) where
@@ -159,24 +178,27 @@ module _ (m : Map) where
         d c i j e
 
     once : Distinct (nums (arcs m))
-    once = rw (nums-rows m) (rising-once m (s .rising))
+    once = rw (nums-rows m) (numbers-are m (s .rising) .edges .distinct)
 
     -- mended links name every directed edge once
     perm-now : List·Permᴰ (map (next (mended m)) (directed m)) (directed m)
     perm-now =
-        Permᴰ·symm (perm-of-distinct (directed m) (map (next (mended m)) (directed m)) (distinct-darts (arcs m) once) named
+        Permᴰ·symm (perm-of-distinct (directed m) (map (next (mended m)) (directed m))
+        (distinct-darts (arcs m) once) named
         (omega (arith, length-map (directed m) (next (mended m)))))
       where
         named : (d : Dart) → List·Memᴰ d (directed m) → List·Memᴰ d (map (next (mended m)) (directed m))
         named d k =
-            let r = law-onto sameDart rev (leaves m) (way m) tells rev-rev (directed m) (next (mended m)) (law-now m) apart d k in
+            let r = law-onto sameDart rev (leaves m) (way m) tells rev-rev (directed m) (next (mended m))
+            (law-now m) apart d k in
             Memᴰ·cast (sym (r .2)) (Memᴰ·map (next (mended m)) (rev-in (arcs m) (r .1)))
 
     module _ (rings : ringsBearOne (mended m) ≡ true) where
       once-now : Distinct (nums (arcs (mended m)))
       once-now = subst (λ (es : List Arc). Distinct (nums es)) (sym (mended-relinked m .arcs)) once
 
-      meet-now : (d : Dart) → List·Memᴰ d (directed (mended m)) → leaves (mended m) (next (mended m) d) ≡ arrives (mended m) d
+      meet-now : (d : Dart) → List·Memᴰ d (directed (mended m))
+          → leaves (mended m) (next (mended m) d) ≡ arrives (mended m) d
       meet-now d k =
           mended-relinked m .leaves (next (mended m) d)
           ∙ meets-now d (subst (List·Memᴰ d) (directed-kept m) k)
@@ -187,7 +209,8 @@ module _ (m : Map) where
           record {
             starts = starts (mended m) once-now;
             ends = ends (mended m) once-now;
-            perm = subst (λ (ds : List Dart). List·Permᴰ (map (next (mended m)) ds) ds) (sym (directed-kept m)) perm-now;
+            perm = subst (λ (ds : List Dart). List·Permᴰ (map (next (mended m)) ds) ds)
+                (sym (directed-kept m)) perm-now;
             meets = meet-now;
             keeps = links-keep (mended m) rings;
           }

@@ -1,7 +1,7 @@
 -- The claims on mended links, for all tables and lists. Assumes nothing.
 use mathlib.Core.Path.{_≡_, refl, sym, ap, ap₂, _∙_}
-use mathlib.Core.Bool.{Bool, true, false, not}
-use mathlib.Core.List.{List, [], _∷_, List·Memᴰ}
+use mathlib.Core.Bool.{true, false, not}
+use mathlib.Core.List.{List, [], List·Memᴰ}
 use mathlib.Core.Logic.{_≢_}
 use Prim.Native.Nat.{ℕ, zero, suc, _≤_}
 use native.Mathlib.Omega.{arith}
@@ -15,14 +15,14 @@ use Rattle.map.specs.Rows.{Edge, Map, Lent, Sizes, mapOf, lentOf, sizesOf, whol
 use Rattle.map.specs.Form.{departuresDiffer, ringsBearOne, ranged, formed, inForm}
 use Rattle.map.specs.Links.{obeysLaw}
 use Rattle.map.specs.Reasons.{firstReason}
-use Rattle.map.specs.Ticket.{Listed, listUnless}
+use Rattle.map.specs.Ticket.{listUnless}
 use Rattle.map.proofs.RoundTrip.{writes-back, ranged-points}
 use Rattle.map.proofs.Reasons.{first-miss, first-none}
 use Rattle.map.proofs.Laws.{formed-back, in-form-back}
 use Rattle.map.proofs.Linked.{edges-once}
 use Rattle.grown.proofs.Reasons.{no-reason}
 use Rattle.mending.specs.Mend.{sketched, mended, changes, mendReasons, mendUnless, Mended, mend}
-use Rattle.mending.specs.Claims.{Mends, untouched, MendedLawful, MendedInForm, LinksAlone, MendedLinksAlone}
+use Rattle.mending.specs.Claims.{Mends, MendedLawful, MendedInForm, LinksAlone, MendedLinksAlone}
 use Rattle.mending.specs.Claims.{LawfulUntouched, MendedTwice, RefusedUntouched}
 use Rattle.mending.proofs.Sketched.{Sketch, sketched-is, in-form-sketched}
 use Rattle.mending.proofs.Mended.{mended-lawful}
@@ -167,7 +167,8 @@ lawful-untouched l w f law list =
     none : reason l list ≡ 0
     none =
         let k = in-form-sketched l f in
-        let room : ltb (length list) (length (changes (mapOf l))) ≡ false = rw empty (le-ltb (length list) 0 (omega arith)) in
+        let room : ltb (length list) (length (changes (mapOf l))) ≡ false =
+        rw empty (le-ltb (length list) 0 (omega arith)) in
         first-miss 1 _ _ (ap not w)
         ∙ first-miss 2 _ _ (ap not (k .0))
         ∙ first-miss 11 _ _ (ap not (k .1 .departures))

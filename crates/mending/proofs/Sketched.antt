@@ -67,8 +67,7 @@ module _ (m : Map) where
   formed-parts h =
       let f = formed-is m h in
       let row : (e : Edge) → List·Memᴰ e (m .edges) → (sidesNamed m e ≡ true) × (linksNamed m e ≡ true) =
-          λ e k. name-both e (names m h e k) in
-      (
+      λ e k. name-both e (names m h e k) in (
         record {
           rising = f .rising;
           faces = and-true (all (λ n. inFace m (n .face)) (m .nodes)) (all (edgeNames m) (m .edges)) (f .named) .0;
@@ -89,11 +88,11 @@ module _ (m : Map) where
   unfolding formed named
   parts-formed s k =
       let row : (e : Edge) → List·Memᴰ e (m .edges) → edgeNames m e ≡ true =
-          λ e i. both-name e (all-each (sidesNamed m) (m .edges) (s .sides) e i)
-              (all-each (linksNamed m) (m .edges) (k .links) e i) in
+      λ e i. both-name e (all-each (sidesNamed m) (m .edges) (s .sides) e i)
+      (all-each (linksNamed m) (m .edges) (k .links) e i) in
       let names = and-is (s .faces) (each-all (edgeNames m) (m .edges) row) in
       and-is (and-is (and-is (and-is (and-is (and-is (and-is (s .rising) names) (s .curves)) (k .departures)) (s .bare))
-          (k .once)) (k .meet)) (k .rings)
+      (k .once)) (k .meet)) (k .rings)
 
 pub in-form-sketched : (l : Lent) → inForm l ≡ true → (sketched l ≡ true) × Linking (mapOf l)
 unfolding inForm
@@ -117,7 +116,8 @@ sketched-but-for l =
     m = mapOf l
 
     rest : Bool
-    rest = sketched l && departuresDiffer m && all (linksNamed m) (m .edges) && linksOnce m && linksMeet m && ringsBearOne m
+    rest = sketched l && departuresDiffer m && all (linksNamed m) (m .edges) && linksOnce m && linksMeet m
+        && ringsBearOne m
 
     there : inForm l ≡ true → rest ≡ true
     there h =

@@ -1,4 +1,5 @@
--- What is claimed of links mended from the drawing, for all tables and lists that are lent. Proved in proofs/Mends.antt.
+-- What is claimed of links mended from the drawing, for all tables and lists that are lent. Proved in
+-- proofs/Mends.antt.
 use mathlib.Core.Path.{_≡_}
 use mathlib.Core.Bool.{Bool, true, _&&_}
 use mathlib.Core.List.{List}
