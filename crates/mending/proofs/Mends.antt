@@ -1,6 +1,6 @@
 -- The claims on mended links, for all tables and lists. Assumes nothing.
 use mathlib.Core.Path.{_≡_, refl, sym, ap, ap₂, _∙_}
-use mathlib.Core.Bool.{true, false, not}
+use mathlib.Core.Bool.{true, not}
 use mathlib.Core.List.{List, [], List·Memᴰ}
 use mathlib.Core.Logic.{_≢_}
 use Prim.Native.Nat.{ℕ, zero, suc, _≤_}
@@ -27,7 +27,7 @@ use Rattle.mending.specs.Claims.{LawfulUntouched, MendedTwice, RefusedUn
 use Rattle.mending.proofs.Sketched.{Sketch, sketched-is, in-form-sketched}
 use Rattle.mending.proofs.Mended.{mended-lawful}
 use Rattle.mending.proofs.Formed.{mended-formed}
-use Rattle.mending.proofs.Tables.{nodes-now, faces-now, head-now, few-now, whole-now, ranged-now}
+use Rattle.mending.proofs.Tables.{nodes-now, faces-now, head-now, few-now, size-now, whole-now, ranged-now}
 use Rattle.mending.proofs.Lawful.{lawful-empty, lawful-kept}
 
 -- ---- a call by its first reason
@@ -120,9 +120,10 @@ module _ (l : Lent) (list : List ℤ) (h : Mends l list) where
   links-alone : LinksAlone l (lentOf s (mended m))
   links-alone =
       record {
-        nodes = nodes-now s m few ∙ ap (λ (x : Lent). x .nodes) back;
-        faces = faces-now s m few ∙ ap (λ (x : Lent). x .faces) back;
-        head = head-now s m few ∙ ap (λ (x : Lent). x .head) back;
+        nodes = nodes-now s m ∙ ap (λ (x : Lent). x .nodes) back;
+        faces = faces-now s m ∙ ap (λ (x : Lent). x .faces) back;
+        head = head-now s m ∙ ap (λ (x : Lent). x .head) back;
+        size = size-now s m few ∙ ap (λ (x : Lent). length (x .edges)) back;
         edges = reads;
       }
 
@@ -167,8 +168,8 @@ lawful-untouched l w f law list =
     none : reason l list ≡ 0
     none =
         let k = in-form-sketched l f in
-        let room : ltb (length list) (length (changes (mapOf l))) ≡ false =
-        rw empty (le-ltb (length list) 0 (omega arith)) in
+        let room = ap (λ (written : List ℤ). ltb (length list) (length written)) empty
+        ∙ le-ltb (length list) 0 (omega arith) in
         first-miss 1 _ _ (ap not w)
         ∙ first-miss 2 _ _ (ap not (k .0))
         ∙ first-miss 11 _ _ (ap not (k .1 .departures))

@@ -20,32 +20,34 @@ use Rattle.map.proofs.RoundTrip.{Wide, flat-length, rows-flat, edge-wide, range
 use Rattle.mending.specs.Mend.{mended}
 use Rattle.mending.proofs.Mended.{relinked}
 
-module _ (s : Sizes) (m : Map) (few : (e : Edge) → List·Memᴰ e (m .edges) → length (points (e .curve)) ≤ maxPoints)
-  where
-    -- as many rows
-    rows-now : length (mended m .edges) ≡ length (m .edges)
-    unfolding mended
-    rows-now = length-map (m .edges) (relinked m)
+module _ (s : Sizes) (m : Map) where
+  -- as many rows
+  rows-now : length (mended m .edges) ≡ length (m .edges)
+  unfolding mended
+  rows-now = length-map (m .edges) (relinked m)
 
-    pub nodes-now : lentOf s (mended m) .nodes ≡ lentOf s m .nodes
-    unfolding lentOf mended
-    nodes-now = refl
+  pub nodes-now : lentOf s (mended m) .nodes ≡ lentOf s m .nodes
+  unfolding lentOf mended
+  nodes-now = refl
 
-    pub faces-now : lentOf s (mended m) .faces ≡ lentOf s m .faces
-    unfolding lentOf mended
-    faces-now = refl
+  pub faces-now : lentOf s (mended m) .faces ≡ lentOf s m .faces
+  unfolding lentOf mended
+  faces-now = refl
 
-    pub head-now : lentOf s (mended m) .head ≡ lentOf s m .head
-    unfolding lentOf mended
-    head-now = ap (λ (n : ℕ). record {
-      nodes = pos (length (m .nodes));
-      edges = pos n;
-      faces = pos (length (m .faces));
-      «next_node» = pos (m .nextNode);
-      «next_edge» = pos (m .nextEdge);
-      «next_face» = pos (m .nextFace);
-    }) rows-now
+  pub head-now : lentOf s (mended m) .head ≡ lentOf s m .head
+  unfolding lentOf mended
+  head-now =
+      ap (λ (n : ℕ). record {
+        nodes = pos (length (m .nodes));
+        edges = pos n;
+        faces = pos (length (m .faces));
+        «next_node» = pos (m .nextNode);
+        «next_edge» = pos (m .nextEdge);
+        «next_face» = pos (m .nextFace);
+      }) rows-now
 
+  -- curves that a row holds
+  module _ (few : (e : Edge) → List·Memᴰ e (m .edges) → length (points (e .curve)) ≤ maxPoints) where
     pub few-now : (e : Edge) → List·Memᴰ e (mended m .edges) → length (points (e .curve)) ≤ maxPoints
     unfolding mended
     few-now e k =
@@ -59,7 +61,7 @@ module _ (s : Sizes) (m : Map) (few : (e : Edge) → List·Memᴰ e (m .edges) �
     wide-now = all-of (mended m .edges) (λ e k. edge-wide e (few-now e k))
 
     -- as many numbers
-    size-now : length (lentOf s (mended m) .edges) ≡ length (lentOf s m .edges)
+    pub size-now : length (lentOf s (mended m) .edges) ≡ length (lentOf s m .edges)
     unfolding lentOf
     size-now =
         let a = flat-length edgeWidth edgeCells (m .edges) wide in

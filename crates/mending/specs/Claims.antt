@@ -1,10 +1,11 @@
--- What is claimed of links mended from the drawing, for all tables and lists that are lent. Proved in
--- proofs/Mends.antt.
+-- What is claimed of links mended from the drawing, for all tables and lists that are lent. Proved in proofs/:
+-- Sketched.antt (`SketchedButFor`) and Mends.antt (all others).
 use mathlib.Core.Path.{_≡_}
 use mathlib.Core.Bool.{Bool, true, _&&_}
 use mathlib.Core.List.{List}
 use mathlib.Core.Logic.{_≢_}
 use lib.IntN.{ℤ, pos}
+use lib.ListN.{length}
 use Rattle.lists.specs.Scans.{all}
 use Rattle.map.specs.Rows.{Edge, Map, Lent, mapOf, whole, hasEdge}
 use Rattle.map.specs.Form.{departuresDiffer, linksOnce, linksMeet, ringsBearOne, inForm}
@@ -49,11 +50,12 @@ MendedInForm =
     (l : Lent) (list : List ℤ) → Mends l list
     → (whole (mend l list .lent) ≡ true) × (inForm (mend l list .lent) ≡ true)
 
--- the same nodes, faces and head, and the same edges but for the links
+-- the same numbers in nodes, faces and head, as many in edges, and a map whose edges differ in links alone
 pub record LinksAlone (before after : Lent) : Type 0 where
   pub nodes : after .nodes ≡ before .nodes
   pub faces : after .faces ≡ before .faces
   pub head : after .head ≡ before .head
+  pub size : length (after .edges) ≡ length (before .edges)
   pub edges : mapOf after ≡ mended (mapOf before)
 
 -- only links change
