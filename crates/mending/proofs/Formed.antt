@@ -1,4 +1,5 @@
--- A mended map is in form, where departures differ in direction and a mended ring bears one face. Assumes nothing.
+-- A mended map is in form, where departures differ in direction and a mended ring bears one face: by the law the links
+-- about a node make one turn, so they name each departure once. Assumes nothing.
 use mathlib.Core.Path.{_≡_, refl, sym, ap, subst, fun-ext, _∙_}
 use mathlib.Core.Logic.{_⊎_, inl, inr}
 use mathlib.Core.Bool.{Bool, true, false, Bool·beq, cond, not, _&&_, true≢false}
@@ -71,7 +72,7 @@ module _ (m : Map) (s : Sketch m) where
       ap (λ (f : ℕ → List Dart). all (λ n. Bool·beq (isSome (n .face)) (same (length (f (n .number))) 0)) (m .nodes))
       (fun-ext (mended-relinked m .departures)) ∙ s .bare
 
-  pub mended-sketch : Sketch (mended m)
+  mended-sketch : Sketch (mended m)
   unfolding mended node
   mended-sketch =
       record {

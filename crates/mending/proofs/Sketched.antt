@@ -62,7 +62,7 @@ module _ (m : Map) where
       let k₁ = and-true (hasEdge m (e .nextLeft .edge)) (hasEdge m (e .nextRight .edge)) k in
       and-is (and-is (and-is (and-is (h₂ .0) (k₁ .0)) (k₁ .1)) (h₂ .1)) (h₁ .1)
 
-  pub formed-parts : formed m ≡ true → Sketch m × Linking m
+  formed-parts : formed m ≡ true → Sketch m × Linking m
   unfolding named
   formed-parts h =
       let f = formed-is m h in
@@ -101,7 +101,7 @@ in-form-sketched l h =
     let p = formed-parts (mapOf l) (k .1) in
     (is-sketched l (k .0) (p .0), p .1)
 
-pub sketched-in-form : (l : Lent) → sketched l ≡ true → Linking (mapOf l) → inForm l ≡ true
+sketched-in-form : (l : Lent) → sketched l ≡ true → Linking (mapOf l) → inForm l ≡ true
 unfolding inForm
 sketched-in-form l h k = let s = sketched-is l h in and-is (s .0) (parts-formed (mapOf l) (s .1) k)
 
