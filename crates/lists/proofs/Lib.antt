@@ -6,6 +6,7 @@ pub mod Perms
 pub mod Sums
 pub mod Counts
 pub mod Keeps
+pub mod Maps
 pub mod Parts
 pub mod Appends
 pub mod Linear

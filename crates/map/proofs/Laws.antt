@@ -68,7 +68,7 @@ pub record Numbers (m : Map) : Type 0 where
   pub edges : Numbered 1 (m .nextEdge) (map (λ e. e .number) (m .edges))
   pub faces : Numbered 0 (m .nextFace) (m .faces)
 
-numbers-are : (m : Map) → numbers m ≡ true → Numbers m
+pub numbers-are : (m : Map) → numbers m ≡ true → Numbers m
 unfolding numbers
 numbers-are m h =
     let h₁ = and-true _ (same (firstOr 1 (m .faces)) 0) h in

@@ -3,7 +3,7 @@ use mathlib.Core.Path.{_≡_, refl, sym, ap, _∙_, subst}
 use mathlib.Core.Logic.{inl, inr}
 use mathlib.Core.Bool.{Bool, true, false, cond, not, true≢false}
 use mathlib.Core.List.{List, _∷_, List·Memᴰ, List·Memᴰ·tail, List·Memᴰ·cases-cons, Memᴰ·cast}
-use Prim.Native.Nat.{ℕ}
+use Prim.Native.Nat.{ℕ, zero, suc}
 use Rattle.lists.specs.Tests.{same, iterate}
 use Rattle.lists.proofs.Bools.{which, same-refl, same-true, same-eq, same-false, equal?}
 use Rattle.lists.proofs.Members.{some?}
@@ -100,3 +100,20 @@ module _ {D : Type 0} (is : D → D → Bool) (rev : D → D) (tail : D → ℕ)
   -- the departures of a node are met in one turn
   pub law-reach : (all : List D) (next : D → D) → Law is rev tail way all next → Apart tail way all → (d c : D) → List·Memᴰ d all → List·Memᴰ c all → tail d ≡ tail c → (k : ℕ) × (iterate k (back rev next) d ≡ c)
   law-reach all next l apart d c md mc e = lawful-reach way is tells (from tail all (tail d)) (back rev next) (apart (tail d)) (l (tail d)) d c (from-has all md refl) (from-has all mc (sym e))
+
+  -- each departure is the lawful next of some departure's reverse
+  pub law-onto : (all : List D) (next : D → D) → Law is rev tail way all next → Apart tail way all
+      → (c : D) → List·Memᴰ c all → (d : D) × List·Memᴰ d all × (next (rev d) ≡ c)
+  law-onto all next l apart c mc =
+      let first = from-in all (along zero) in
+      let r = law-reach all next l apart (next (rev c)) c (first .0) mc (first .1) in
+      go (r .0) (r .1)
+    where
+      -- a turn from c on stays at its node
+      along : (k : ℕ) → List·Memᴰ (iterate k (back rev next) (next (rev c))) (from tail all (tail c))
+      along zero = law-stays all next (tail c) l c (from-has all mc refl)
+      along (suc k) = law-stays all next (tail c) l (iterate k (back rev next) (next (rev c))) (along k)
+
+      go : (k : ℕ) → iterate k (back rev next) (next (rev c)) ≡ c → (d : D) × List·Memᴰ d all × (next (rev d) ≡ c)
+      go zero e = (c, mc, e)
+      go (suc k) e = (iterate k (back rev next) (next (rev c)), from-in all (along k) .0, e)
