@@ -1,29 +1,34 @@
 -- Contents of any map (specs/Claims.antt): a greater bound on the depth changes nothing, and for a map in form they are
 -- the list by its rule where that has each face and each piece once. Assumes nothing.
 use mathlib.Core.Path.{_≡_, refl, sym, ap, _∙_, subst}
+use mathlib.Core.Logic.{_↔_}
 use mathlib.Core.Bool.{Bool, true, false, cond, not, _&&_, true≢false}
-use mathlib.Core.List.{List, [], _∷_, map, List·Memᴰ, List·Memᴰ·head, List·Memᴰ·tail, List·Memᴰ·not-nil}
+use mathlib.Core.List.{List, [], _∷_, map, flatMap, List·Memᴰ, List·Memᴰ·head, List·Memᴰ·tail, List·Memᴰ·not-nil}
 use mathlib.Core.List.{Memᴰ·append-left, Memᴰ·append-right, Memᴰ·map, Memᴰ·of-map, List·Permᴰ, Permᴰ·symm}
-use mathlib.Core.Option.{Option, none, some}
-use Prim.Native.Nat.{ℕ, suc, _+_, _≤_}
+use mathlib.Core.Option.{Option, none, some, Option·getD}
+use Prim.Native.Nat.{ℕ, zero, suc, _+_, _≤_}
 use native.Mathlib.Omega.{arith}
 use borrow.Author.Tests.{ltb-false, le-ltb}
 use lib.Dec.{ltb}
+use lib.IntN.{ℤ}
 use lib.ListN.{length, length-map, length-append}
 use Rattle.lists.specs.Tests.{same}
-use Rattle.lists.specs.Scans.{firstOr}
+use Rattle.lists.specs.Scans.{firstOr, isSome}
 use Rattle.lists.specs.Members.{Distinct}
 use Rattle.lists.proofs.Bools.{and-right, same-true}
 use Rattle.lists.proofs.Counts.{count-keep}
 use Rattle.lists.proofs.Keeps.{keep-in, distinct-keep}
 use Rattle.lists.proofs.Perms.{perm-length, perm-of-distinct, perm-distinct, distinct-map, distinct-append}
 use Rattle.planar.specs.Pieces.{pieces}
-use Rattle.map.specs.Rows.{Map}
+use Rattle.map.specs.Rows.{Map, Lent, mapOf, whole}
 use Rattle.map.specs.Darts.{pieceCount}
-use Rattle.map.specs.Form.{numbered, numbers, formed}
+use Rattle.map.specs.Form.{numbered, numbers, formed, ranged, inForm}
+use Rattle.map.specs.Reasons.{firstReason}
+use Rattle.map.specs.Ticket.{listUnless}
 use Rattle.map.proofs.Laws.{formed-is}
 use Rattle.nesting.specs.Contents.{pieceOf, pieceRows, partCount, isIn, under, Line, lines, complete, contents}
-use Rattle.nesting.specs.Claims.{Part, partOf, parts, Once, unchecked, DepthEnough, ContentsExact}
+use Rattle.nesting.specs.Contents.{lineNumbers, contentsOf}
+use Rattle.nesting.specs.Claims.{Part, partOf, parts, Once, byRule, DepthEnough, ContentsExact, Exactly28}
 use Rattle.nesting.proofs.Walks.{keys, Sound, lines-rule, rule-lines, lines-sound, depth-alike}
 
 -- ---- faces and pieces
@@ -131,12 +136,12 @@ module _ (m : Map) (h : formed m ≡ true) where
 pub contents-exact : ContentsExact
 contents-exact m h k le ls = (there, back)
   where
-    there : contents m ≡ some ls → (unchecked k (under m) false 0 none 0 ≡ ls) × Once m ls
+    there : contents m ≡ some ls → (byRule k m ≡ ls) × Once m ls
     there e =
         let r = contents-lines m (zero-in m h) k le ls e in
         (sym (lines-rule (under m) k false 0 none 0 [] ls (r .0) .0), lines-once m (zero-in m h) k ls (r .0) (r .1))
 
-    back : (unchecked k (under m) false 0 none 0 ≡ ls) × Once m ls → contents m ≡ some ls
+    back : (byRule k m ≡ ls) × Once m ls → contents m ≡ some ls
     back (e, once) = lines-contents m (zero-in m h) k le ls
         (rule-lines (under m) k (partCount m) false 0 none 0 [] (subst (λ l. Distinct (keys l)) (sym e) distinct)
         (omega (arith, ap length e, all)) (omega arith) ∙ ap some e) (omega (arith, all))
@@ -146,3 +151,54 @@ contents-exact m h k le ls = (there, back)
 
         all : length ls ≡ partCount m
         all = sym (length-map ls partOf) ∙ perm-length once ∙ parts-are m
+
+-- ---- the answer
+
+-- 1 not whole, 2 not in form, 28 no contents, 20 too short
+abbrev pub reason : Bool → Bool → Bool → Bool → ℕ
+reason a b c d = firstReason ((1, not a) ∷ (2, not b) ∷ (28, not c) ∷ (20, d) ∷ [])
+
+abbrev pub short : Lent → List ℤ → Bool
+short l list = ltb (length list) (length (flatMap lineNumbers (Option·getD (contents (mapOf l)) [])))
+
+pub refusal-is : (l : Lent) (list : List ℤ)
+    → contentsOf l list .answer .refusal ≡ reason (whole l) (inForm l) (isSome (contents (mapOf l))) (short l list)
+unfolding contentsOf
+refusal-is l list = go (flatMap lineNumbers (Option·getD (contents (mapOf l)) []))
+    (reason (whole l) (inForm l) (isSome (contents (mapOf l))) (short l list))
+  where
+    go : (written : List ℤ) (n : ℕ) → listUnless list written n .answer .refusal ≡ n
+    go written zero = refl
+    go written (suc n) = refl
+
+-- where there are contents 28 is no reason, where there are none it is the first after 1 and 2
+pub not-28 : (a b d : Bool) → reason a b true d ≡ 28 → ⊥
+unfolding firstReason
+not-28 true true true e = omega arith
+not-28 true true false e = omega arith
+not-28 true false d e = omega arith
+not-28 false b d e = omega arith
+
+is-28 : (a b d : Bool) → a ≡ true → b ≡ true → reason a b false d ≡ 28
+unfolding firstReason
+is-28 a b d p q = rw (p, q)
+
+in-formed : (l : Lent) → inForm l ≡ true → formed (mapOf l) ≡ true
+unfolding inForm
+in-formed l h = and-right (ranged l) (formed (mapOf l)) h
+
+pub exactly-28 : Exactly28
+exactly-28 l list w f k le = (there, λ off. refusal-is l list ∙ back off (contents (mapOf l)) refl)
+  where
+    exact : (ls : List Line) → (contents (mapOf l) ≡ some ls) ↔ (byRule k (mapOf l) ≡ ls) × Once (mapOf l) ls
+    exact = contents-exact (mapOf l) (in-formed l f) k le
+
+    there : contentsOf l list .answer .refusal ≡ 28 → Once (mapOf l) (byRule k (mapOf l)) → ⊥
+    there e once = not-28 (whole l) (inForm l) (short l list)
+        (sym (ap (λ o. reason (whole l) (inForm l) (isSome o) (short l list)) (exact _ .1 (refl, once)))
+        ∙ sym (refusal-is l list) ∙ e)
+
+    back : (Once (mapOf l) (byRule k (mapOf l)) → ⊥) → (o : Option (List Line)) → contents (mapOf l) ≡ o
+        → reason (whole l) (inForm l) (isSome o) (short l list) ≡ 28
+    back off none e = is-28 (whole l) (inForm l) (short l list) w f
+    back off (some ls) e = absurd (off (subst (Once (mapOf l)) (sym (exact ls .0 e .0)) (exact ls .0 e .1)))

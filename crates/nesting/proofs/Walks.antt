@@ -89,8 +89,7 @@ module _ (beneath : Bool → ℕ → List ℕ) where
         go none q e rest = absurd (none-some (sym (each-none (down k b x d) ws) ∙ e))
         go (some mid) q e rest =
             let p = ih (not b) w (some x) (suc d) ls mid q in
-            let r = rest mid after e in
-            (
+            let r = rest mid after e in (
               r .0 ∙ ap (λ l. l ++ flatMap (branch k b x d) ws) (p .0)
                   ∙ append-assoc ls (branch k b x d w) (flatMap (branch k b x d) ws),
               λ h. r .1 (p .1 h),

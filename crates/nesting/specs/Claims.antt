@@ -6,8 +6,8 @@ use mathlib.Core.Logic.{_≢_, _↔_}
 use mathlib.Core.Option.{Option, none, some}
 use Prim.Native.Nat.{ℕ, zero, suc, _≤_}
 use lib.IntN.{ℤ}
-use Rattle.map.specs.Rows.{Map, Sizes, mapOf}
-use Rattle.map.specs.Form.{formed}
+use Rattle.map.specs.Rows.{Map, Lent, Sizes, mapOf, whole}
+use Rattle.map.specs.Form.{formed, inForm}
 use Rattle.map.specs.Grow.{grow}
 use Rattle.nesting.specs.Contents.{pieceRows, partCount, under, Line, line, others, lines, contents, contentsOf}
 
@@ -32,17 +32,25 @@ abbrev pub DepthEnough : Type 0
 DepthEnough = (m : Map) (k : ℕ) → suc (partCount m) ≤ k
     → lines k (under m) false 0 none 0 [] ≡ lines (suc (partCount m)) (under m) false 0 none 0 []
 
--- the list by its rule alone, to a depth of k: x, and what is under it but the one that led there; one may come twice
+-- the list by its rule alone, cut at depth k: x, and what is under it but the one that led there; one may come twice
 abbrev pub unchecked : ℕ → (Bool → ℕ → List ℕ) → Bool → ℕ → Option ℕ → ℕ → List Line
 unchecked zero beneath b x led d = []
 unchecked (suc k) beneath b x led d =
     line d b x ∷ flatMap (λ y. unchecked k beneath (not b) y (some x) (suc d)) (others led (beneath b x))
 
--- for every map in form, grown or not: its contents are the list by its rule, where that has each face and each piece
--- once; so there are none exactly where one would be listed twice or missed
+abbrev pub byRule : ℕ → Map → List Line
+byRule k m = unchecked k (under m) false 0 none 0
+
+-- for every map in form, grown or not: the contents are the list by its rule, where that has each face and each piece
+-- once
 abbrev pub ContentsExact : Type 0
 ContentsExact = (m : Map) → formed m ≡ true → (k : ℕ) → suc (partCount m) ≤ k → (ls : List Line)
-    → (contents m ≡ some ls) ↔ (unchecked k (under m) false 0 none 0 ≡ ls) × Once m ls
+    → (contents m ≡ some ls) ↔ (byRule k m ≡ ls) × Once m ls
+
+-- so 28 answers exactly where that would list one twice or miss one, whatever list is lent
+abbrev pub Exactly28 : Type 0
+Exactly28 = (l : Lent) (list : List ℤ) → whole l ≡ true → inForm l ≡ true → (k : ℕ) → suc (partCount (mapOf l)) ≤ k
+    → (contentsOf l list .answer .refusal ≡ 28) ↔ (Once (mapOf l) (byRule k (mapOf l)) → ⊥)
 
 -- ---- of grown maps
 
