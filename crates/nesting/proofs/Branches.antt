@@ -1,6 +1,6 @@
 -- A graph of two kinds of vertices, each kind a list of numbers: an edge joins a vertex of the kind false and one of
 -- the kind true. What is beyond a bridge. Assumes nothing.
-use mathlib.Core.Path.{_≡_, refl, sym, ap, ap₂, _∙_}
+use mathlib.Core.Path.{_≡_, sym, ap, ap₂, _∙_}
 use mathlib.Core.Logic.{_⊎_, inl, inr, _≢_}
 use mathlib.Core.Bool.{Bool, true, false, not, _&&_, true≢false}
 use mathlib.Core.List.{List, List·Memᴰ}

@@ -4,7 +4,7 @@ use mathlib.Core.Path.{_≡_, refl, sym, ap, _∙_, subst}
 use mathlib.Core.Logic.{_↔_}
 use mathlib.Core.Bool.{Bool, true, false, cond, not, _&&_, true≢false}
 use mathlib.Core.List.{List, [], _∷_, map, flatMap, List·Memᴰ, List·Memᴰ·head, List·Memᴰ·tail, List·Memᴰ·not-nil}
-use mathlib.Core.List.{Memᴰ·append-left, Memᴰ·append-right, Memᴰ·map, Memᴰ·of-map, List·Permᴰ, Permᴰ·symm}
+use mathlib.Core.List.{Memᴰ·append-left, Memᴰ·append-right, Memᴰ·map, Memᴰ·of-map, Permᴰ·symm}
 use mathlib.Core.Option.{Option, none, some, Option·getD}
 use Prim.Native.Nat.{ℕ, zero, suc, _+_, _≤_}
 use native.Mathlib.Omega.{arith}
@@ -56,9 +56,10 @@ under-part m true p f k = face-part m (keep-in (λ f. isIn m p f) (m .faces) k .
 
 pub depth-enough : DepthEnough
 depth-enough m k le =
-    depth-alike (under m) ((false, 0) ∷ parts m) (λ b x y h. List·Memᴰ·tail (under-part m b x y h)) k (suc (partCount m))
-    false 0 none 0 [] (List·Memᴰ·head refl) (record { once = tt; inside = λ z h. absurd (List·Memᴰ·not-nil h) })
-    (omega (arith, parts-are m)) (omega (arith, parts-are m))
+    depth-alike (under m) ((false, 0) ∷ parts m) (λ b x y h. List·Memᴰ·tail (under-part m b x y h)) k
+    (suc (partCount m)) false 0 none 0 [] (List·Memᴰ·head refl)
+    (record { once = tt; inside = λ z h. absurd (List·Memᴰ·not-nil h) }) (omega (arith, parts-are m))
+    (omega (arith, parts-are m))
 
 -- ---- contents
 
@@ -86,8 +87,8 @@ module _ (m : Map) (zero-in : List·Memᴰ 0 (m .faces)) where
       s = lines-sound (under m) (parts m) (under-part m) k false 0 none 0 [] ls (face-part m zero-in) e
           (record { once = tt; inside = λ z h. absurd (List·Memᴰ·not-nil h) })
 
-  pub lines-contents : (k : ℕ) → suc (partCount m) ≤ k → (ls : List Line) → lines k (under m) false 0 none 0 [] ≡ some ls
-      → partCount m ≤ length ls → contents m ≡ some ls
+  pub lines-contents : (k : ℕ) → suc (partCount m) ≤ k → (ls : List Line)
+      → lines k (under m) false 0 none 0 [] ≡ some ls → partCount m ≤ length ls → contents m ≡ some ls
   unfolding contents
   lines-contents k le ls e full = some-complete (partCount m) _ ls (sym (depth-enough m k le) ∙ e) full
 

@@ -1,5 +1,5 @@
--- Contents of small sheets, by computation: grown maps, lists that are longer or too short, maps in form that no tickets
--- grow, and reasons that come before.
+-- Contents of small sheets, by computation: grown maps, lists that are longer or too short, maps in form that no
+-- tickets grow, and reasons that come before.
 use mathlib.Core.Path.{_≡_, refl}
 use mathlib.Core.List.{List, [], _∷_, _++_, map}
 use mathlib.Core.Option.{Option, none, some}

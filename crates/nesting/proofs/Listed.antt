@@ -1,13 +1,12 @@
 -- The contents of every grown map list each face and each piece once, so that 28 never answers (specs/Claims.antt).
 -- Assumes nothing.
-use mathlib.Core.Path.{_≡_, sym, ap, _∙_, subst}
+use mathlib.Core.Path.{sym, ap, _∙_, subst}
 use Rattle.lists.specs.Scans.{isSome}
 use Rattle.map.specs.Rows.{Lent, Sizes, mapOf, whole}
 use Rattle.map.specs.Form.{inForm}
 use Rattle.map.specs.Grow.{grow}
 use Rattle.grown.proofs.Ranges.{good-back}
 use Rattle.grown.proofs.Grows.{State, grown-state}
-use Rattle.nesting.specs.Contents.{contentsOf}
 use Rattle.nesting.specs.Claims.{HasContents, ContentsListed, ContentsNever28}
 use Rattle.nesting.proofs.Exact.{reason, short, refusal-is, not-28}
 use Rattle.nesting.proofs.Tree.{good-contents}

@@ -229,7 +229,8 @@ module _ (G : Graph) (beneath : Bool → ℕ → List ℕ) where
           inner = λ w m e S h c x j on. refl;
         }) (omega (arith, count-all (G .vertices false), count-all (G .vertices true)))
 
-        near : (c : Bool) (x y : ℕ) → List·Memᴰ y (beneath c x) → listed (r .0) c x ≡ true → listed (r .0) (not c) y ≡ true
+        near : (c : Bool) (x y : ℕ) → List·Memᴰ y (beneath c x) → listed (r .0) c x ≡ true
+            → listed (r .0) (not c) y ≡ true
         near c x y m e = elim (r .2 .closed c x e) [ inl q ↦ absurd (true≢false (sym q)) | inr q ↦ q y m ]
 
         even : Even G (listed (r .0))

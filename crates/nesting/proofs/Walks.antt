@@ -1,12 +1,11 @@
--- What `lines` lists, over any neighbours: the list by its rule alone, nothing twice, whatever the bound on the depth
--- where that is large enough. Assumes nothing.
+-- What `lines` lists, over any neighbours: the list by its rule alone, and nothing twice; a bound on the depth changes
+-- nothing where it is no less than what is not yet listed. Assumes nothing.
 use mathlib.Core.Path.{_≡_, refl, sym, ap, _∙_, subst}
 use mathlib.Core.Logic.{inl, inr}
 use mathlib.Core.Bool.{Bool, true, false, not, Bool·beq, _&&_, true≢false}
 use mathlib.Core.List.{List, [], _∷_, _++_, map, flatMap, append-nil, append-assoc, map-append, List·Memᴰ}
 use mathlib.Core.List.{List·Memᴰ·head, List·Memᴰ·tail, List·Memᴰ·cases-cons, List·Memᴰ·not-nil}
-use mathlib.Core.List.{List·Memᴰ·append-cases, List·Memᴰ·eq-of-singleton, Memᴰ·cast, Memᴰ·map, Memᴰ·of-map}
-use mathlib.Core.List.{Permᴰ·symm}
+use mathlib.Core.List.{List·Memᴰ·append-cases, List·Memᴰ·eq-of-singleton, Memᴰ·cast, Permᴰ·symm}
 use mathlib.Core.Option.{Option, none, some}
 use Prim.Native.Nat.{ℕ, zero, suc, _+_, _<_, _≤_}
 use native.Mathlib.Omega.{arith}
@@ -54,48 +53,48 @@ pub each-none : (f : ℕ → List Line → Option (List Line)) (ws : List ℕ) �
 each-none f [] = refl
 each-none f (w ∷ ws) = refl
 
--- what one of many leads to is not none
 none-some : {A : Type 0} {a : A} → none ≡ some a → ⊥
 none-some e = let z : _≡_ {A = ℕ} 0 1 = cc in omega arith
 
 module _ (beneath : Bool → ℕ → List ℕ) where
-  -- a step down, and what is under x as the rule has it
+  -- what is listed for y under x, and the list by its rule
   abbrev down : ℕ → Bool → ℕ → ℕ → ℕ → List Line → Option (List Line)
   down k b x d y = lines k beneath (not b) y (some x) (suc d)
 
-  abbrev branch : ℕ → Bool → ℕ → ℕ → ℕ → List Line
-  branch k b x d y = unchecked k beneath (not b) y (some x) (suc d)
+  abbrev ruled : ℕ → Bool → ℕ → ℕ → ℕ → List Line
+  ruled k b x d y = unchecked k beneath (not b) y (some x) (suc d)
 
   -- ---- what is listed is the list by its rule, and nothing twice
 
   abbrev More : List Line → List Line → List Line → Type 0
   More ls new after = (after ≡ ls ++ new) × (Distinct (keys ls) → Distinct (keys after))
 
-  abbrev Lists : ℕ → Type 0
-  Lists k = (b : Bool) (x : ℕ) (led : Option ℕ) (d : ℕ) (ls after : List Line)
+  abbrev LinesRule : ℕ → Type 0
+  LinesRule k = (b : Bool) (x : ℕ) (led : Option ℕ) (d : ℕ) (ls after : List Line)
       → lines k beneath b x led d ls ≡ some after → More ls (unchecked k beneath b x led d) after
 
-  module _ (k : ℕ) (ih : Lists k) (b : Bool) (x d : ℕ) where
+  module _ (k : ℕ) (ih : LinesRule k) (b : Bool) (x d : ℕ) where
     listing : (ws : List ℕ) (ls after : List Line) → each (down k b x d) ws (some ls) ≡ some after
-        → More ls (flatMap (branch k b x d) ws) after
+        → More ls (flatMap (ruled k b x d) ws) after
     unfolding flatMap
-    listing [] ls after e = let q : ls ≡ after = cc in (sym q ∙ sym (append-nil ls), λ h. subst (λ l. Distinct (keys l)) q h)
+    listing [] ls after e = let q : ls ≡ after = cc in
+        (sym q ∙ sym (append-nil ls), λ h. subst (λ l. Distinct (keys l)) q h)
     listing (w ∷ ws) ls after e = go (down k b x d w ls) refl e (listing ws)
       where
         go : (o : Option (List Line)) → down k b x d w ls ≡ o → each (down k b x d) ws o ≡ some after
             → ((mid after : List Line) → each (down k b x d) ws (some mid) ≡ some after
-            → More mid (flatMap (branch k b x d) ws) after)
-            → More ls (branch k b x d w ++ flatMap (branch k b x d) ws) after
+            → More mid (flatMap (ruled k b x d) ws) after)
+            → More ls (ruled k b x d w ++ flatMap (ruled k b x d) ws) after
         go none q e rest = absurd (none-some (sym (each-none (down k b x d) ws) ∙ e))
         go (some mid) q e rest =
             let p = ih (not b) w (some x) (suc d) ls mid q in
             let r = rest mid after e in (
-              r .0 ∙ ap (λ l. l ++ flatMap (branch k b x d) ws) (p .0)
-                  ∙ append-assoc ls (branch k b x d w) (flatMap (branch k b x d) ws),
+              r .0 ∙ ap (λ l. l ++ flatMap (ruled k b x d) ws) (p .0)
+                  ∙ append-assoc ls (ruled k b x d w) (flatMap (ruled k b x d) ws),
               λ h. r .1 (p .1 h),
             )
 
-  pub lines-rule : (k : ℕ) → Lists k
+  pub lines-rule : (k : ℕ) → LinesRule k
   unfolding lines
   lines-rule zero b x led d ls after e = absurd (none-some e)
   lines-rule (suc k) b x led d ls after e =
@@ -104,26 +103,26 @@ module _ (beneath : Bool → ℕ → List ℕ) where
       go : (o : Bool) → listed ls b x ≡ o
           → each (down k b x d) (others led (beneath b x)) (fresh o ls (line d b x)) ≡ some after
           → ((mid after : List Line) → each (down k b x d) (others led (beneath b x)) (some mid) ≡ some after
-          → More mid (flatMap (branch k b x d) (others led (beneath b x))) after)
-          → More ls (line d b x ∷ flatMap (branch k b x d) (others led (beneath b x))) after
+          → More mid (flatMap (ruled k b x d) (others led (beneath b x))) after)
+          → More ls (line d b x ∷ flatMap (ruled k b x d) (others led (beneath b x))) after
       go true q e rest = absurd (none-some (sym (each-none (down k b x d) (others led (beneath b x))) ∙ e))
       go false q e rest = let r = rest (ls ++ line d b x ∷ []) after e in (
-        r .0 ∙ append-assoc ls (line d b x ∷ []) (flatMap (branch k b x d) (others led (beneath b x))),
+        r .0 ∙ append-assoc ls (line d b x ∷ []) (flatMap (ruled k b x d) (others led (beneath b x))),
         λ h. r .1 (keys-more ls d b x q h),
       )
 
   -- ---- where the list by its rule has nothing twice, it is listed
 
   -- n is no less than all that is listed in the end
-  abbrev Listed : ℕ → Type 0
-  Listed k = (n : ℕ) (b : Bool) (x : ℕ) (led : Option ℕ) (d : ℕ) (ls : List Line)
+  abbrev RuleLines : ℕ → Type 0
+  RuleLines k = (n : ℕ) (b : Bool) (x : ℕ) (led : Option ℕ) (d : ℕ) (ls : List Line)
       → Distinct (keys (ls ++ unchecked k beneath b x led d)) → length (ls ++ unchecked k beneath b x led d) ≤ n
       → n < length ls + k → lines k beneath b x led d ls ≡ some (ls ++ unchecked k beneath b x led d)
 
-  module _ (k : ℕ) (ih : Listed k) (n : ℕ) (b : Bool) (x d : ℕ) where
-    each-listed : (ws : List ℕ) (ls : List Line) → Distinct (keys (ls ++ flatMap (branch k b x d) ws))
-        → length (ls ++ flatMap (branch k b x d) ws) ≤ n → n < length ls + k
-        → each (down k b x d) ws (some ls) ≡ some (ls ++ flatMap (branch k b x d) ws)
+  module _ (k : ℕ) (ih : RuleLines k) (n : ℕ) (b : Bool) (x d : ℕ) where
+    each-listed : (ws : List ℕ) (ls : List Line) → Distinct (keys (ls ++ flatMap (ruled k b x d) ws))
+        → length (ls ++ flatMap (ruled k b x d) ws) ≤ n → n < length ls + k
+        → each (down k b x d) ws (some ls) ≡ some (ls ++ flatMap (ruled k b x d) ws)
     unfolding flatMap
     each-listed [] ls dis le lt = ap some (sym (append-nil ls))
     each-listed (w ∷ ws) ls dis le lt =
@@ -132,16 +131,16 @@ module _ (beneath : Bool → ℕ → List ℕ) where
         (omega (arith, grown)) ∙ ap some assoc
       where
         mid : List Line
-        mid = ls ++ branch k b x d w
+        mid = ls ++ ruled k b x d w
 
         rest : List Line
-        rest = flatMap (branch k b x d) ws
+        rest = flatMap (ruled k b x d) ws
 
-        assoc : mid ++ rest ≡ ls ++ (branch k b x d w ++ rest)
-        assoc = append-assoc ls (branch k b x d w) rest
+        assoc : mid ++ rest ≡ ls ++ (ruled k b x d w ++ rest)
+        assoc = append-assoc ls (ruled k b x d w) rest
 
-        grown : length mid ≡ length ls + length (branch k b x d w)
-        grown = length-append ls (branch k b x d w)
+        grown : length mid ≡ length ls + length (ruled k b x d w)
+        grown = length-append ls (ruled k b x d w)
 
         long : length (mid ++ rest) ≡ length mid + length rest
         long = length-append mid rest
@@ -150,7 +149,7 @@ module _ (beneath : Bool → ℕ → List ℕ) where
         front = distinct-front (keys mid) (keys rest)
             (subst Distinct (map-append partOf mid rest) (subst (λ l. Distinct (keys l)) (sym assoc) dis))
 
-  pub rule-lines : (k : ℕ) → Listed k
+  pub rule-lines : (k : ℕ) → RuleLines k
   unfolding lines
   rule-lines zero n b x led d ls dis le lt = absurd (omega (arith, length-append ls []))
   rule-lines (suc k) n b x led d ls dis le lt =
@@ -162,47 +161,49 @@ module _ (beneath : Bool → ℕ → List ℕ) where
       ws : List ℕ
       ws = others led (beneath b x)
 
-      assoc : (ls ++ line d b x ∷ []) ++ flatMap (branch k b x d) ws ≡ ls ++ line d b x ∷ flatMap (branch k b x d) ws
-      assoc = append-assoc ls (line d b x ∷ []) (flatMap (branch k b x d) ws)
+      assoc : (ls ++ line d b x ∷ []) ++ flatMap (ruled k b x d) ws ≡ ls ++ line d b x ∷ flatMap (ruled k b x d) ws
+      assoc = append-assoc ls (line d b x ∷ []) (flatMap (ruled k b x d) ws)
 
       off : listed ls b x ≡ false
       off = not-true (listed ls b x) (λ h.
-          distinct-apart (keys ls) (keys (line d b x ∷ flatMap (branch k b x d) ws))
-          (subst Distinct (map-append partOf ls (line d b x ∷ flatMap (branch k b x d) ws)) dis) (b, x)
+          distinct-apart (keys ls) (keys (line d b x ∷ flatMap (ruled k b x d) ws))
+          (subst Distinct (map-append partOf ls (line d b x ∷ flatMap (ruled k b x d) ws)) dis) (b, x)
           (in-keys ls b x h) (List·Memᴰ·head refl))
 
   -- ---- within a list of faces and pieces that has all neighbours
 
-  module _ (all : List Part) (closed : (b : Bool) (x y : ℕ) → List·Memᴰ y (beneath b x) → List·Memᴰ (not b, y) all) where
+  module _ (all : List Part)
+      (closed : (b : Bool) (x y : ℕ) → List·Memᴰ y (beneath b x) → List·Memᴰ (not b, y) all) where
     -- the neighbours but one
-    near : (b : Bool) (x : ℕ) (led : Option ℕ) (w : ℕ) → List·Memᴰ w (others led (beneath b x)) → List·Memᴰ (not b, w) all
+    near : (b : Bool) (x : ℕ) (led : Option ℕ) (w : ℕ) → List·Memᴰ w (others led (beneath b x))
+        → List·Memᴰ (not b, w) all
     near b x led w m = closed b x w (keep-in (λ y. not (isIt y led)) (beneath b x) m .0)
 
     -- it has all that the rule lists
-    abbrev Within : ℕ → Type 0
-    Within k = (b : Bool) (x : ℕ) (led : Option ℕ) (d : ℕ) → List·Memᴰ (b, x) all → (z : Part)
+    abbrev RuleWithin : ℕ → Type 0
+    RuleWithin k = (b : Bool) (x : ℕ) (led : Option ℕ) (d : ℕ) → List·Memᴰ (b, x) all → (z : Part)
         → List·Memᴰ z (keys (unchecked k beneath b x led d)) → List·Memᴰ z all
 
-    each-within : (k : ℕ) → Within k → (b : Bool) (x d : ℕ) (ws : List ℕ)
+    each-within : (k : ℕ) → RuleWithin k → (b : Bool) (x d : ℕ) (ws : List ℕ)
         → ((w : ℕ) → List·Memᴰ w ws → List·Memᴰ (not b, w) all) → (z : Part)
-        → List·Memᴰ z (keys (flatMap (branch k b x d) ws)) → List·Memᴰ z all
+        → List·Memᴰ z (keys (flatMap (ruled k b x d) ws)) → List·Memᴰ z all
     unfolding flatMap
     each-within k ih b x d [] at z m = absurd (List·Memᴰ·not-nil m)
     each-within k ih b x d (w ∷ ws) at z m =
-        elim (List·Memᴰ·append-cases (keys (branch k b x d w))
-        (subst (List·Memᴰ z) (map-append partOf (branch k b x d w) (flatMap (branch k b x d) ws)) m)) [
+        elim (List·Memᴰ·append-cases (keys (ruled k b x d w))
+        (subst (List·Memᴰ z) (map-append partOf (ruled k b x d w) (flatMap (ruled k b x d) ws)) m)) [
           | inl j ↦ ih (not b) w (some x) (suc d) (at w (List·Memᴰ·head refl)) z j
           | inr j ↦ each-within k ih b x d ws (λ v n. at v (List·Memᴰ·tail n)) z j
         ]
 
-    pub rule-within : (k : ℕ) → Within k
+    pub rule-within : (k : ℕ) → RuleWithin k
     rule-within zero b x led d m z h = absurd (List·Memᴰ·not-nil h)
     rule-within (suc k) b x led d m z h = elim (List·Memᴰ·cases-cons h) [
       | inl e ↦ Memᴰ·cast e m
       | inr j ↦ each-within k (rule-within k) b x d (others led (beneath b x)) (near b x led) z j
     ]
 
-    -- nothing is listed twice, and nothing else
+    -- nothing is listed twice, and only what is in it
     pub record Sound (ls : List Line) : Type 0 where
       pub once : Distinct (keys ls)
       pub inside : (z : Part) → List·Memᴰ z (keys ls) → List·Memᴰ z all
@@ -238,14 +239,14 @@ module _ (beneath : Bool → ℕ → List ℕ) where
     full ls s le b x m = key-in ls b x (perm-in (Permᴰ·symm
         (perm-of-distinct (keys ls) all (s .once) (s .inside) (omega (arith, length-map ls partOf)))) m)
 
-    -- ---- bounds on the depth that leave room for each face and piece not yet listed list the same
+    -- ---- all bounds on the depth list the same that are no less than the count of what is not yet listed
 
-    abbrev Alike : ℕ → ℕ → Type 0
-    Alike k k′ = (b : Bool) (x : ℕ) (led : Option ℕ) (d : ℕ) (ls : List Line) → List·Memᴰ (b, x) all → Sound ls
+    abbrev DepthAlike : ℕ → ℕ → Type 0
+    DepthAlike k k′ = (b : Bool) (x : ℕ) (led : Option ℕ) (d : ℕ) (ls : List Line) → List·Memᴰ (b, x) all → Sound ls
         → length all ≤ length ls + k → length all ≤ length ls + k′
         → lines k beneath b x led d ls ≡ lines k′ beneath b x led d ls
 
-    module _ (k k′ : ℕ) (ih : Alike k k′) (b : Bool) (x d : ℕ) where
+    module _ (k k′ : ℕ) (ih : DepthAlike k k′) (b : Bool) (x d : ℕ) where
       each-alike : (ws : List ℕ) → ((w : ℕ) → List·Memᴰ w ws → List·Memᴰ (not b, w) all) → (ls : List Line) → Sound ls
           → length all ≤ length ls + k → length all ≤ length ls + k′
           → each (down k b x d) ws (some ls) ≡ each (down k′ b x d) ws (some ls)
@@ -267,17 +268,17 @@ module _ (beneath : Bool → ℕ → List ℕ) where
           go none e rest = each-none (down k b x d) ws ∙ sym (each-none (down k′ b x d) ws)
           go (some mid) e rest =
               let r = lines-rule k (not b) w (some x) (suc d) ls mid (sym e) in
-              let long = ap length (r .0) ∙ length-append ls (branch k b x d w) in
+              let long = ap length (r .0) ∙ length-append ls (ruled k b x d w) in
               rest mid (lines-sound k (not b) w (some x) (suc d) ls mid here (sym e) s) (omega arith) (omega arith)
 
-    -- nothing more is to be listed
+    -- one would be listed twice
     stop : (k : ℕ) (b : Bool) (x : ℕ) (led : Option ℕ) (d : ℕ) (ls : List Line) → listed ls b x ≡ true
         → lines (suc k) beneath b x led d ls ≡ none
     unfolding lines
     stop k b x led d ls e = ap (λ o. each (down k b x d) (others led (beneath b x)) (fresh o ls (line d b x))) e
         ∙ each-none (down k b x d) (others led (beneath b x))
 
-    pub depth-alike : (k k′ : ℕ) → Alike k k′
+    pub depth-alike : (k k′ : ℕ) → DepthAlike k k′
     unfolding lines
     depth-alike zero zero b x led d ls m s p q = refl
     depth-alike zero (suc k′) b x led d ls m s p q = sym (stop k′ b x led d ls (full ls s (omega arith) b x m))

@@ -80,8 +80,8 @@ each f [] ls = ls
 each f (x ∷ xs) none = none
 each f (x ∷ xs) (some ls) = each f xs (f x ls)
 
--- the lines so far, then face (false) or piece (true) x at depth d, followed at once by what is under it; none where one
--- would be listed twice. k bounds the depth: one more than there are faces and pieces is enough (`DepthEnough`)
+-- the lines so far, then face (false) or piece (true) x at depth d, followed at once by what is under it; none where
+-- one would be listed twice. k bounds the depth: one more than there are faces and pieces is enough (`DepthEnough`)
 unfoldable pub lines : ℕ → (Bool → ℕ → List ℕ) → Bool → ℕ → Option ℕ → ℕ → List Line → Option (List Line)
 lines zero beneath b x led d ls = none
 lines (suc k) beneath b x led d ls =
