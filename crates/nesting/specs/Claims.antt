@@ -38,11 +38,11 @@ unchecked zero beneath b x led d = []
 unchecked (suc k) beneath b x led d =
     line d b x ∷ flatMap (λ y. unchecked k beneath (not b) y (some x) (suc d)) (others led (beneath b x))
 
+-- from face 0 on
 abbrev pub byRule : ℕ → Map → List Line
 byRule k m = unchecked k (under m) false 0 none 0
 
--- for every map in form, grown or not: the contents are the list by its rule, where that has each face and each piece
--- once
+-- for every map in form, grown or not: contents are the list by its rule, where that has each face and each piece once
 abbrev pub ContentsExact : Type 0
 ContentsExact = (m : Map) → formed m ≡ true → (k : ℕ) → suc (partCount m) ≤ k → (ls : List Line)
     → (contents m ≡ some ls) ↔ (byRule k m ≡ ls) × Once m ls
