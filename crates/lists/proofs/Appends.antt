@@ -1,14 +1,14 @@
 -- One list after another. Assumes nothing.
 use mathlib.Core.Path.{_≡_, refl, _∙_}
-use mathlib.Core.Bool.{Bool, true}
+use mathlib.Core.Bool.{Bool, true, _||_}
 use mathlib.Core.List.{List, [], _∷_, _++_}
 use Prim.Native.Nat.{ℕ, suc, _+_}
 use native.Mathlib.Nat.{add-zero, add-suc, suc-add}
 use lib.ListN.{length, set}
 use lib.Seq.{sets}
-use Rattle.lists.specs.Scans.{all, fold}
+use Rattle.lists.specs.Scans.{any, all, fold}
 use Rattle.lists.specs.Members.{All}
-use Rattle.lists.proofs.Bools.{and-true, and-is}
+use Rattle.lists.proofs.Bools.{eq3, and-true, and-is}
 
 module _ {A : Type 0} where
   pub fold-append : {S : Type 0} (g : S → A → S) (s : S) (xs ys : List A) → fold g s (xs ++ ys) ≡ fold g (fold g s xs) ys
@@ -27,3 +27,8 @@ module _ {A : Type 0} where
   pub sets-append : (xs ys l : List A) (i : ℕ) → sets l i (xs ++ ys) ≡ sets (sets l i xs) (i + length xs) ys
   sets-append [] ys l i = rw (add-zero i)
   sets-append (x ∷ xs) ys l i = sets-append xs ys (set l i x) (suc i) ∙ rw (suc-add i (length xs), add-suc i (length xs))
+
+  pub any-append : (p : A → Bool) (xs ys : List A) → any p (xs ++ ys) ≡ any p xs || any p ys
+  any-append p [] ys = refl
+  any-append p (x ∷ xs) ys = rw (any-append p xs ys)
+      (eq3 (λ a b c. a || (b || c)) (λ a b c. a || b || c) tt (p x) (any p xs) (any p ys))

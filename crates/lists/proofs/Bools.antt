@@ -140,3 +140,11 @@ and-right a b e = and-true a b e .1
 
 pub and-is : {a b : Bool} → a ≡ true → b ≡ true → a && b ≡ true
 and-is e f = λ i. e i && f i
+
+pub ⊕-differ : (a b : Bool) → ((a ≡ b) → ⊥) → a ⊕ b ≡ true
+⊕-differ a b h = elim (which (a ⊕ b)) [ inl e ↦ e | inr e ↦ absurd (h (⊕-equal a b e)) ]
+
+pub agree : (a b : Bool) → (a ≡ true → b ≡ true) → (b ≡ true → a ≡ true) → a ≡ b
+agree true b p q = sym (p refl)
+agree false true p q = q refl
+agree false false p q = refl

@@ -4,6 +4,7 @@ use mathlib.Core.Logic.{_⊎_, inl, inr}
 use mathlib.Core.Bool.{Bool, true, false, cond, true≢false}
 use mathlib.Core.List.{List, [], _∷_, _++_, map, append-nil, List·Memᴰ, List·Memᴰ·head, List·Memᴰ·tail, List·Memᴰ·cases-cons, List·Memᴰ·not-nil}
 use Rattle.lists.specs.Scans.{keep}
+use Rattle.lists.specs.Members.{Distinct}
 
 pub keep-in : {D : Type 0} (f : D → Bool) (ds : List D) {x : D} → List·Memᴰ x (keep f ds) → List·Memᴰ x ds × (f x ≡ true)
 keep-in f [] m = absurd (List·Memᴰ·not-nil m)
@@ -67,3 +68,11 @@ module _ {D E : Type 0} (f : D → E) where
       go : (b : Bool) → q (f d) ≡ b → keep q (map f ds) ≡ map f (keep p ds) → cond (q (f d)) (f d ∷ keep q (map f ds)) (keep q (map f ds)) ≡ map f (cond b (d ∷ keep p ds) (keep p ds))
       go true e ih = rw e (ap (λ (l : List E). f d ∷ l) ih)
       go false e ih = rw e ih
+
+pub distinct-keep : {D : Type 0} (p : D → Bool) (ds : List D) → Distinct ds → Distinct (keep p ds)
+distinct-keep p [] dis = tt
+distinct-keep p (d ∷ ds) dis = go (p d) (distinct-keep p ds (dis .1))
+  where
+    go : (b : Bool) → Distinct (keep p ds) → Distinct (cond b (d ∷ keep p ds) (keep p ds))
+    go true r = (λ m. dis .0 (keep-in p ds m .0), r)
+    go false r = r

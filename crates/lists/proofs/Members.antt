@@ -1,7 +1,10 @@
 -- Members of a list: one by one, none at all, and what two functions do to them. Assumes nothing.
-use mathlib.Core.Path.{_≡_, refl, ap₂}
+use mathlib.Core.Path.{_≡_, refl, sym, ap, ap₂, _∙_}
 use mathlib.Core.Logic.{_⊎_, inl, inr}
+use mathlib.Core.Bool.{Bool, true, false, cond, true≢false}
 use mathlib.Core.List.{List, [], _∷_, map, List·Memᴰ, List·Memᴰ·head, List·Memᴰ·tail, List·Memᴰ·cases-cons, List·Memᴰ·not-nil}
+use mathlib.Core.Option.{some}
+use Rattle.lists.specs.Scans.{find, isSome}
 use Rattle.lists.specs.Members.{All}
 
 pub each-cons : {A : Type 0} {p : A → Type 0} {x : A} {l : List A} → p x → ((y : A) → List·Memᴰ y l → p y) → (y : A) → List·Memᴰ y (x ∷ l) → p y
@@ -23,3 +26,14 @@ map-cong f g (x ∷ l) h = ap₂ _∷_ (h x (List·Memᴰ·head refl)) (map-cong
 pub some? : {A : Type 0} (ds : List A) → ((d : A) × List·Memᴰ d ds) ⊎ ((d : A) → List·Memᴰ d ds → ⊥)
 some? [] = inr (λ d m. List·Memᴰ·not-nil m)
 some? (d ∷ ds) = inl (d, List·Memᴰ·head refl)
+
+-- where there is an element that p takes, one is found
+pub find-has : {A : Type 0} (p : A → Bool) (l : List A) {x : A} → List·Memᴰ x l → p x ≡ true → isSome (find p l) ≡ true
+find-has p [] m e = absurd (List·Memᴰ·not-nil m)
+find-has {A} p (y ∷ l) {x} m e = go (p y) refl (List·Memᴰ·cases-cons m) (λ k. find-has p l k e)
+  where
+    go : (b : Bool) → p y ≡ b → (x ≡ y) ⊎ List·Memᴰ x l → (List·Memᴰ x l → isSome (find p l) ≡ true)
+        → isSome (cond b (some y) (find p l)) ≡ true
+    go true q k ih = refl
+    go false q (inl z) ih = absurd (true≢false (sym e ∙ ap p z ∙ q))
+    go false q (inr k) ih = ih k

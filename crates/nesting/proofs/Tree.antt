@@ -2,25 +2,22 @@
 -- `ContentsListed`). Assumes nothing.
 use mathlib.Core.Path.{_≡_, refl, sym, ap, ap₂, _∙_, subst}
 use mathlib.Core.Logic.{_⊎_, inl, inr}
-use mathlib.Core.Bool.{Bool, true, false, cond, _&&_, true≢false, false≢true}
-use mathlib.Core.List.{List, [], _∷_, map, List·Memᴰ, List·Memᴰ·head, List·Memᴰ·cases-cons, List·Memᴰ·not-nil}
-use mathlib.Core.List.{List·Permᴰ, Memᴰ·map, Memᴰ·of-map}
+use mathlib.Core.Bool.{Bool, true, false, _&&_, true≢false, false≢true}
+use mathlib.Core.List.{List, [], map, List·Memᴰ, List·Memᴰ·append-cases, Memᴰ·map, Memᴰ·of-map}
 use mathlib.Core.Option.{Option, none, some, Option·getD}
-use Prim.Native.Nat.{ℕ, suc, _+_, _≤_}
+use Prim.Native.Nat.{ℕ, suc, _≤_}
 use native.Mathlib.Omega.{arith}
-use borrow.Author.Tests.{le-ltb}
-use lib.ListN.{length, length-map, length-append}
-use Rattle.lists.specs.Tests.{_⊕_, same, bit}
-use Rattle.lists.specs.Scans.{any, keep, find, isSome, count, firstOr}
+use lib.ListN.{length, length-map}
+use Rattle.lists.specs.Tests.{_⊕_, same}
+use Rattle.lists.specs.Scans.{find, isSome}
 use Rattle.lists.specs.Members.{Distinct}
 use Rattle.lists.proofs.Bools.{which, ⊕-false, same-refl, same-true, same-eq, or-true, or-left, or-right, and-true}
 use Rattle.lists.proofs.Bools.{and-is}
-use Rattle.lists.proofs.Keeps.{keep-in, keep-has}
-use Rattle.lists.proofs.Perms.{perm-length, distinct-injective}
-use Rattle.trees.proofs.Branches.{Set, Graph, Edge, Only, Connected, Bridges, endFalse, endTrue}
-use Rattle.trees.proofs.Listing.{Neighbours, Lines, Key, all-keys, all-listed, distinct-keep}
+use Rattle.lists.proofs.Keeps.{keep-in, keep-has, distinct-keep}
+use Rattle.lists.proofs.Members.{find-has}
+use Rattle.lists.proofs.Perms.{distinct-injective, distinct-length}
 use Rattle.planar.specs.Map.{Arc, Dart, fwd, bwd, rev}
-use Rattle.planar.specs.Pieces.{Chain, label, pieces, Isolated}
+use Rattle.planar.specs.Pieces.{Chain, label, Isolated}
 use Rattle.planar.specs.Planar.{Planar}
 use Rattle.planar.proofs.Cycles.{fwd-in, bwd-in}
 use Rattle.planar.proofs.Chains.{chain-back, label-chain, label-idem, chain-within, isolated-chain}
@@ -28,57 +25,38 @@ use Rattle.planar.proofs.Rings.{dart-cases, rev-in, Parted, label-rev, ring-par
 use Rattle.planar.proofs.Splitting.{tail-in}
 use Rattle.map.specs.Rows.{Node, Map, node}
 use Rattle.map.specs.Rows as rows
-use Rattle.map.specs.Darts.{arcs, directed, leaves, next, bears, pieceCount}
-use Rattle.nesting.specs.Contents.{Line, line, pieceOf, pieceRows, isIt, isIn, under, lines, complete, contents}
+use Rattle.map.specs.Darts.{arcs, directed, leaves, next, bears}
+use Rattle.map.specs.Form.{formed}
 use Rattle.map.proofs.Scans.{find-some}
 use Rattle.grown.specs.Good.{Good}
-use Rattle.nesting.specs.Claims.{HasContents}
 use Rattle.grown.proofs.Readings.{faceIn, arcOf, bears-row, edge-row, arc-at, dart-has}
 use Rattle.grown.proofs.RowChanges.{nodeNumber, node-at}
-use Rattle.grown.proofs.Scanning.{any-some, some-any, rising-distinct}
+use Rattle.grown.proofs.Scanning.{any-some, some-any}
 use Rattle.grown.proofs.Numbers.{RankedMap, Outline, outlineOf, outlines, Met, numbered-ranked}
+use Rattle.grown.proofs.Forms.{good-formed}
 use Rattle.grown.proofs.EdgesReached.{Reached, darts-even}
+use Rattle.nesting.specs.Contents.{pieceOf, pieceRows, partCount, isIt, ringBears, nodeBears, isIn, under}
+use Rattle.nesting.specs.Contents.{Line, listed, lines}
+use Rattle.nesting.specs.Claims.{Part, partOf, parts, HasContents}
+use Rattle.nesting.proofs.Branches.{Set, Graph, Edge, Only, Connected, Bridges, endFalse, endTrue}
+use Rattle.nesting.proofs.Listing.{Neighbours, all-listed}
+use Rattle.nesting.proofs.Walks.{keys, in-keys}
+use Rattle.nesting.proofs.Exact.{pieces-are, parts-are, zero-in, faces-once, pieces-once, parts-once}
+use Rattle.nesting.proofs.Exact.{lines-once, lines-contents}
 
 -- ---- the graph
 
-abbrev pub parts : Map → Bool → List ℕ
-parts m false = m .faces
-parts m true = pieceRows m
-
 -- faces are of the kind false, pieces of the kind true
-abbrev pub nesting : Map → Graph
-nesting m = record { vertices = parts m; joined = λ f p. isIn m p f }
+abbrev pub vertices : Map → Bool → List ℕ
+vertices m false = m .faces
+vertices m true = pieceRows m
 
--- the listing
-listing : (m : Map) → Lines Line (under m)
-unfolding lines
-listing m = record {
-  kind = λ l. l .piece;
-  num = λ l. l .number;
-  put = line;
-  kind-put = λ d b x. refl;
-  num-put = λ d b x. refl;
-  walk = λ k. lines k m;
-  walk-is = λ k b x led d ls. refl;
-}
+abbrev pub nesting : Map → Graph
+nesting m = record { vertices = vertices m; joined = λ f p. isIn m p f }
 
 is-some : (x : ℕ) (o : Option ℕ) → isIt x o ≡ true → o ≡ some x
 is-some x none e = absurd (false≢true e)
 is-some x (some y) e = ap some (sym (same-true x y e))
-
-is-none : {A : Type 0} (o : Option A) → isSome o ≡ false → o ≡ none
-is-none none e = refl
-is-none (some x) e = absurd (true≢false e)
-
-some-found : {A : Type 0} (p : A → Bool) (l : List A) {x : A} → List·Memᴰ x l → p x ≡ true → isSome (find p l) ≡ true
-some-found p [] k e = absurd (List·Memᴰ·not-nil k)
-some-found p (y ∷ l) {x} k e = go (p y) refl (List·Memᴰ·cases-cons k) (λ j. some-found p l j e)
-  where
-    go : (b : Bool) → p y ≡ b → (x ≡ y) ⊎ List·Memᴰ x l → (List·Memᴰ x l → isSome (find p l) ≡ true)
-        → isSome (cond b (some y) (find p l)) ≡ true
-    go true q j ih = refl
-    go false q (inl z) ih = absurd (true≢false (sym e ∙ ap p z ∙ q))
-    go false q (inr j) ih = ih j
 
 module _ (m : Map) (g : Good m) where
   P : Planar (map nodeNumber (m .nodes)) (arcs m) (leaves m) (next m) (bears m) (length (m .faces))
@@ -103,7 +81,7 @@ module _ (m : Map) (g : Good m) where
     right = keep-has (λ n. same (pieceOf m n) n) (map nodeNumber (m .nodes))
         (chain-within (P .within) (tail-in (P .linked) (P .within) k) (label-chain (arcs m) (leaves m d)))
         (same-eq (label (arcs m) (of d)) (of d) (label-idem (arcs m) (leaves m d)));
-    holds = or-left (any (λ r. same (r .number) (of d) && isIt (bears m d) (r .face)) (m .nodes))
+    holds = or-left (nodeBears m (of d) (bears m d))
         (some-any (λ x. same (of x) (of d) && same (bears m x) (bears m d)) (directed m) k
         (and-is (same-refl (of d)) (same-refl (bears m d))));
   }
@@ -151,7 +129,7 @@ module _ (m : Map) (g : Good m) where
       left = R .placed r k .inside f e;
       right = keep-has (λ n. same (pieceOf m n) n) (map nodeNumber (m .nodes)) (Memᴰ·map nodeNumber k)
           (same-eq (pieceOf m (r .number)) (r .number) (isolated-chain lone (label-chain (arcs m) (r .number))));
-      holds = or-right (any (λ x. same (of x) (r .number) && same (bears m x) f) (directed m)) _
+      holds = or-right (ringBears m (r .number) f) _
           (some-any (λ z. same (z .number) (r .number) && isIt f (z .face)) (m .nodes) k
           (and-is (same-refl (r .number)) (ap (isIt f) e ∙ same-refl f)));
     }
@@ -166,8 +144,7 @@ module _ (m : Map) (g : Good m) where
   edge-cases : {f p : ℕ} → Edge (nesting m) f p → InDart f p ⊎ InNode f p
   unfolding isIn
   edge-cases {f} {p} e =
-      elim (or-true (any (λ d. same (of d) p && same (bears m d) f) (directed m))
-      (any (λ r. same (r .number) p && isIt f (r .face)) (m .nodes)) (e .holds)) [
+      elim (or-true (ringBears m p f) (nodeBears m p f) (e .holds)) [
         | inl h ↦
             let x = any-some (λ d. same (of d) p && same (bears m d) f) (directed m) h in
             let q = and-true (same (of (x .0)) p) (same (bears m (x .0)) f) (x .2) in
@@ -207,7 +184,7 @@ module _ (m : Map) (g : Good m) where
                 (P .linked .ends (arcOf (x .0)) (arc-at m (x .1)) ∙ ap (λ (o : Outline). o .arc .to) (x .2) ∙ q)
           ]
 
-      go : (b : Bool) (x : ℕ) → List·Memᴰ x (parts m b) → T b x ≡ T false 0
+      go : (b : Bool) (x : ℕ) → List·Memᴰ x (vertices m b) → T b x ≡ T false 0
       go false f k = faces f k
       go true p k =
           let q = keep-in (λ n. same (pieceOf m n) n) (map nodeNumber (m .nodes)) k in
@@ -260,7 +237,7 @@ module _ (m : Map) (g : Good m) where
     unfolding sides
     at-dart {x} k p q =
         go (find-some (λ x. same (of x) p) (directed m)
-        (some-found (λ x. same (of x) p) (directed m) k (same-eq (of x) p q)))
+        (find-has (λ x. same (of x) p) (directed m) k (same-eq (of x) p q)))
       where
         go : (c : Dart) × List·Memᴰ c (directed m) × (same (of c) p ≡ true)
             × (find (λ x. same (of x) p) (directed m) ≡ some c) → sides true p ≡ w .side (bears m x) ⊕ w .on x
@@ -268,14 +245,12 @@ module _ (m : Map) (g : Good m) where
 
     at-node : {r : Node} → List·Memᴰ r (m .nodes) → {f : ℕ} → r .face ≡ some f → sides true (r .number) ≡ w .side f
     unfolding sides
-    at-node {r} k {f} e = go (which (isSome (find (λ x. same (of x) (r .number)) (directed m))))
+    at-node {r} k {f} e = go (find (λ x. same (of x) (r .number)) (directed m)) refl
       where
-        go : (isSome (find (λ x. same (of x) (r .number)) (directed m)) ≡ true)
-            ⊎ (isSome (find (λ x. same (of x) (r .number)) (directed m)) ≡ false) → sides true (r .number) ≡ w .side f
-        go (inl h) = let c = find-some (λ x. same (of x) (r .number)) (directed m) h in
+        go : (o : Option Dart) → find (λ x. same (of x) (r .number)) (directed m) ≡ o → value o (r .number) ≡ w .side f
+        go (some x) h = let c = find-some (λ x. same (of x) (r .number)) (directed m) (ap isSome h) in
             absurd (lone-apart k e (c .1) (same-true (of (c .0)) (r .number) (c .2)))
-        go (inr h) = ap (λ o. value o (r .number)) (is-none (find (λ x. same (of x) (r .number)) (directed m)) h)
-            ∙ ap (λ (z : Node). w .side (Option·getD (z .face) 0)) (node-at m (P .nodes-once) k)
+        go none h = ap (λ (z : Node). w .side (Option·getD (z .face) 0)) (node-at m (P .nodes-once) k)
             ∙ ap (λ o. w .side (Option·getD o 0)) e
 
     by-ring : {u v : ℕ} → of d₁ ≡ v → bears m d₁ ≡ u → Bridge u v
@@ -301,26 +276,18 @@ module _ (m : Map) (g : Good m) where
 
   -- ---- the listing
 
-  faces-once : Distinct (m .faces)
-  faces-once = rising-distinct (m .faces) (R .faces .rises)
-
-  pieces-once : Distinct (pieceRows m)
-  unfolding pieceRows
-  pieces-once = distinct-keep (λ n. same (pieceOf m n) n) (map nodeNumber (m .nodes)) (P .nodes-once)
-
-  parts-once : (b : Bool) → Distinct (parts m b)
-  parts-once false = faces-once
-  parts-once true = pieces-once
+  form : formed m ≡ true
+  form = good-formed m g
 
   neighbours : Neighbours (nesting m) (under m)
   unfolding under
   neighbours = record { once = once; joined = joined; near = near }
     where
       once : (b : Bool) (v : ℕ) → Distinct (under m b v)
-      once false f = distinct-keep (λ p. isIn m p f) (pieceRows m) pieces-once
-      once true p = distinct-keep (λ f. isIn m p f) (m .faces) faces-once
+      once false f = distinct-keep (λ p. isIn m p f) (pieceRows m) (pieces-once m form)
+      once true p = distinct-keep (λ f. isIn m p f) (m .faces) (faces-once m form)
 
-      joined : (b : Bool) (v x : ℕ) → List·Memᴰ v (parts m b) → List·Memᴰ x (under m b v)
+      joined : (b : Bool) (v x : ℕ) → List·Memᴰ v (vertices m b) → List·Memᴰ x (under m b v)
           → Edge (nesting m) (endFalse b v x) (endTrue b v x)
       joined false f p k j = let q = keep-in (λ p. isIn m p f) (pieceRows m) j in
           record { left = k; right = q .0; holds = q .1 }
@@ -331,54 +298,40 @@ module _ (m : Map) (g : Good m) where
       near false f p e = keep-has (λ p. isIn m p f) (pieceRows m) (e .right) (e .holds)
       near true p f e = keep-has (λ f. isIn m p f) (m .faces) (e .left) (e .holds)
 
-  zero-in : List·Memᴰ 0 (m .faces)
-  zero-in = go (m .faces) (R .zero)
-    where
-      go : (fs : List ℕ) → firstOr 1 fs ≡ 0 → List·Memᴰ 0 fs
-      go [] e = absurd (omega arith)
-      go (f ∷ fs) e = List·Memᴰ·head (sym e)
+  -- all faces and pieces are under face 0
+  lines-of : Reached m → (k : ℕ) → partCount m ≤ k → (ls : List Line) × (lines k (under m) false 0 none 0 [] ≡ some ls)
+      × ((b : Bool) (x : ℕ) → List·Memᴰ x (vertices m b) → listed ls b x ≡ true)
+  lines-of reach k le = all-listed (nesting m) (under m) neighbours (connected reach) bridges (zero-in m form) k
+      (omega (arith, pieces-are m))
 
-  -- the lines of a grown map: face 0 and all faces and pieces under it, each once
-  pub lines-of : Reached m → (k : ℕ) → length (m .faces) + length (pieceRows m) ≤ k
-      → (ls : List Line) × (lines k m false 0 none 0 [] ≡ some ls)
-      × List·Permᴰ (map (λ l. (l .piece, l .number)) ls) (all-keys (nesting m))
-  unfolding listing
-  lines-of reach k le = all-listed (listing m) (nesting m) neighbours (connected reach) bridges parts-once zero-in k le
-
--- ---- the theorem
-
-keep-length : {A : Type 0} (p : A → Bool) (l : List A) → length (keep p l) ≡ count p l
-keep-length p [] = refl
-keep-length p (x ∷ l) = go (p x) (keep-length p l)
+-- a face or a piece as a vertex
+part-vertex : (m : Map) (z : Part) → List·Memᴰ z (parts m) → List·Memᴰ (z .1) (vertices m (z .0))
+part-vertex m z k = elim (List·Memᴰ·append-cases (map (λ f. (false, f)) (m .faces)) k) [
+  | inl j ↦ of false j
+  | inr j ↦ of true j
+]
   where
-    go : (b : Bool) → length (keep p l) ≡ count p l → length (cond b (x ∷ keep p l) (keep p l)) ≡ bit b + count p l
-    go true e = omega arith
-    go false e = omega arith
+    of : (b : Bool) → List·Memᴰ z (map (λ x. (b, x)) (vertices m b)) → List·Memᴰ (z .1) (vertices m (z .0))
+    of b j = let q = Memᴰ·of-map (λ (x : ℕ). (b, x)) (vertices m b) j in
+        subst (λ (w : Part). List·Memᴰ (w .1) (vertices m (w .0))) (q .2) (q .1)
 
--- a good, reached map has contents: a line for each face and each piece, and no other
+-- a good, reached map has contents
 pub good-contents : (m : Map) → Good m → Reached m → HasContents m
-unfolding contents pieces pieceRows
 good-contents m g reach = record {
   lines = r .0;
-  listed = ap (complete n) (r .1) ∙ ap (λ b. cond b none (some (r .0))) (le-ltb (length (r .0)) n (omega (arith, all)));
-  once = r .2;
+  listed = lines-contents m zero (suc (partCount m)) (omega arith) (r .0) (r .1) all;
+  once = lines-once m zero (suc (partCount m)) (r .0) (r .1) all;
 }
   where
-    n : ℕ
-    n = length (m .faces) + pieceCount m
+    zero : List·Memᴰ 0 (m .faces)
+    zero = zero-in m (good-formed m g)
 
-    pieces-are : length (pieceRows m) ≡ pieceCount m
-    pieces-are = keep-length (λ n. same (pieceOf m n) n) (map nodeNumber (m .nodes))
+    r : (ls : List Line) × (lines (suc (partCount m)) (under m) false 0 none 0 [] ≡ some ls)
+        × ((b : Bool) (x : ℕ) → List·Memᴰ x (vertices m b) → listed ls b x ≡ true)
+    r = lines-of m g reach (suc (partCount m)) (omega arith)
 
-    r : (ls : List Line) × (lines (suc n) m false 0 none 0 [] ≡ some ls)
-        × List·Permᴰ (map (λ l. (l .piece, l .number)) ls) (all-keys (nesting m))
-    r = lines-of m g reach (suc n) (omega (arith, pieces-are))
-
-    all : n ≤ length (r .0)
+    all : partCount m ≤ length (r .0)
     all =
-        let e = perm-length (r .2) in
-        let f = length-map {B = Key} (r .0) (λ (l : Line). (l .piece, l .number)) in
-        let h = length-append {A = Key} (map (λ x. (false, x)) (m .faces)) (map (λ x. (true, x)) (pieceRows m)) in
-        let i = length-map {B = Key} (m .faces) (λ (x : ℕ). (false, x)) in
-        let j = length-map {B = Key} (pieceRows m) (λ (x : ℕ). (true, x)) in
-        omega (arith, e, f, h, i, j, pieces-are)
+        let le = distinct-length (parts m) (keys (r .0)) (parts-once m (good-formed m g))
+        (λ z k. in-keys (r .0) (z .0) (z .1) (r .2 (z .0) (z .1) (part-vertex m z k))) in
+        omega (arith, parts-are m, length-map (r .0) partOf)

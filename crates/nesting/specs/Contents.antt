@@ -14,14 +14,7 @@ use Rattle.map.specs.Darts.{arcs, directed, leaves, bears, pieceCount}
 use Rattle.map.specs.Reasons.{firstReason}
 use Rattle.map.specs.Ticket.{Listed, lentReasons, listUnless}
 
--- a line: depth, face or piece, and the face number or the piece's lowest node number
-pub record Line : Type 0 where
-  pub depth : ℕ
-  pub piece : Bool
-  pub number : ℕ
-
-abbrev pub line : ℕ → Bool → ℕ → Line
-line d b x = record { depth = d; piece = b; number = x }
+-- ---- what is in what
 
 -- the piece of a node, by its lowest node number
 abbrev pub pieceOf : Map → ℕ → ℕ
@@ -31,24 +24,55 @@ pieceOf m n = label (arcs m) n
 unfoldable pub pieceRows : Map → List ℕ
 pieceRows m = keep (λ n. same (pieceOf m n) n) (map (λ r. r .number) (m .nodes))
 
+-- how many faces and pieces there are
+abbrev pub partCount : Map → ℕ
+partCount m = length (m .faces) + pieceCount m
+
 -- it is that number
 abbrev pub isIt : ℕ → Option ℕ → Bool
 isIt x none = false
 isIt x (some y) = same x y
 
+-- a ring of piece p bears face f: one of its directed edges does
+abbrev pub ringBears : Map → ℕ → ℕ → Bool
+ringBears m p f = any (λ d. same (pieceOf m (leaves m d)) p && same (bears m d) f) (directed m)
+
+-- node p, alone in its piece, bears face f
+abbrev pub nodeBears : Map → ℕ → ℕ → Bool
+nodeBears m p f = any (λ r. same (r .number) p && isIt f (r .face)) (m .nodes)
+
 -- a piece is in a face that one of its rings, or its lone node, bears
 unfoldable pub isIn : Map → ℕ → ℕ → Bool
-isIn m p f = any (λ d. same (pieceOf m (leaves m d)) p && same (bears m d) f) (directed m) || any
-    (λ r. same (r .number) p && isIt f (r .face)) (m .nodes)
+isIn m p f = ringBears m p f || nodeBears m p f
 
--- the pieces in a face, by lowest node number; the faces that a piece is in, by number
+-- under a face (false) the pieces in it, by lowest node number; under a piece (true) the faces it is in, by number
 unfoldable pub under : Map → Bool → ℕ → List ℕ
 under m false f = keep (λ p. isIn m p f) (pieceRows m)
 under m true p = keep (λ f. isIn m p f) (m .faces)
 
+-- ---- lines
+
+-- a line: depth, face or piece, and the face number or the piece's lowest node number
+pub record Line : Type 0 where
+  pub depth : ℕ
+  pub piece : Bool
+  pub number : ℕ
+
+abbrev pub line : ℕ → Bool → ℕ → Line
+line d b x = record { depth = d; piece = b; number = x }
+
 -- it is listed
 abbrev pub listed : List Line → Bool → ℕ → Bool
 listed ls b x = any (λ l. Bool·beq (l .piece) b && same (l .number) x) ls
+
+-- its own line, unless it is listed already
+abbrev pub fresh : Bool → List Line → Line → Option (List Line)
+fresh true ls l = none
+fresh false ls l = some (ls ++ l ∷ [])
+
+-- all but the one that led here
+abbrev pub others : Option ℕ → List ℕ → List ℕ
+others led ys = keep (λ y. not (isIt y led)) ys
 
 -- one after the other, as long as none is listed twice
 abbrev pub each : (ℕ → List Line → Option (List Line)) → List ℕ → Option (List Line) → Option (List Line)
@@ -56,17 +80,12 @@ each f [] ls = ls
 each f (x ∷ xs) none = none
 each f (x ∷ xs) (some ls) = each f xs (f x ls)
 
--- its own line, unless it is listed already
-abbrev pub fresh : Bool → List Line → Line → Option (List Line)
-fresh true ls l = none
-fresh false ls l = some (ls ++ l ∷ [])
-
--- the lines so far, and those of a face (false) or piece (true) at depth d; the one that led to it is not listed again
--- under it. None where one would be listed twice. k bounds the depth: all faces and pieces and one more are enough
-unfoldable pub lines : ℕ → Map → Bool → ℕ → Option ℕ → ℕ → List Line → Option (List Line)
-lines zero m b x led d ls = none
-lines (suc k) m b x led d ls =
-    each (λ y. lines k m (not b) y (some x) (suc d)) (keep (λ y. not (isIt y led)) (under m b x))
+-- the lines so far, then face (false) or piece (true) x at depth d, followed at once by what is under it; none where
+-- one would be listed twice. k bounds the depth: one more than there are faces and pieces is enough (`DepthEnough`)
+unfoldable pub lines : ℕ → (Bool → ℕ → List ℕ) → Bool → ℕ → Option ℕ → ℕ → List Line → Option (List Line)
+lines zero beneath b x led d ls = none
+lines (suc k) beneath b x led d ls =
+    each (λ y. lines k beneath (not b) y (some x) (suc d)) (others led (beneath b x))
     (fresh (listed ls b x) ls (line d b x))
 
 -- none where one is missed
@@ -76,8 +95,11 @@ complete n (some ls) = cond (ltb (length ls) n) none (some ls)
 
 -- from face 0 on
 unfoldable pub contents : Map → Option (List Line)
-contents m = let n = length (m .faces) + pieceCount m in complete n (lines (suc n) m false 0 none 0 [])
+contents m = complete (partCount m) (lines (suc (partCount m)) (under m) false 0 none 0 [])
 
+-- ---- the call
+
+-- 0 for a face, 1 for a piece
 abbrev pub lineNumbers : Line → List ℤ
 lineNumbers l = pos (l .depth) ∷ pos (bit (l .piece)) ∷ pos (l .number) ∷ []
 

@@ -1,6 +1,6 @@
 -- A graph of two kinds of vertices, each kind a list of numbers: an edge joins a vertex of the kind false and one of
 -- the kind true. What is beyond a bridge. Assumes nothing.
-use mathlib.Core.Path.{_≡_, refl, sym, ap, ap₂, _∙_}
+use mathlib.Core.Path.{_≡_, sym, ap, ap₂, _∙_}
 use mathlib.Core.Logic.{_⊎_, inl, inr, _≢_}
 use mathlib.Core.Bool.{Bool, true, false, not, _&&_, true≢false}
 use mathlib.Core.List.{List, List·Memᴰ}
@@ -8,7 +8,7 @@ use Prim.Native.Nat.{ℕ, _+_, _<_, _≤_}
 use native.Mathlib.Omega.{arith}
 use Rattle.lists.specs.Tests.{_⊕_}
 use Rattle.lists.specs.Scans.{count}
-use Rattle.lists.proofs.Bools.{⊕-self, &&-false}
+use Rattle.lists.proofs.Bools.{⊕-self, ⊕-differ, &&-false}
 use Rattle.lists.proofs.Counts.{count-mono, count-tight}
 
 -- a set of vertices, by kind and number
@@ -57,12 +57,6 @@ pub record Branch (G : Graph) (b : Bool) (v w : ℕ) (T : Set) : Type 0 where
   pub on : T (not b) w ≡ true
   pub only : Only G (endFalse b v w) (endTrue b v w) T
 
-unlike : (a b : Bool) → ((a ≡ b) → ⊥) → a ⊕ b ≡ true
-unlike true true h = absurd (h refl)
-unlike true false h = refl
-unlike false true h = refl
-unlike false false h = absurd (h refl)
-
 -- how many vertices the set has
 abbrev pub size : Graph → Set → ℕ
 size G T = count (T false) (G .vertices false) + count (T true) (G .vertices true)
@@ -78,8 +72,8 @@ module _ (G : Graph) where
 
       far : (b : Bool) → ((r .0 false (endFalse b v w) ≡ r .0 true (endTrue b v w)) → ⊥)
           → r .0 (not b) w ⊕ r .0 b v ≡ true
-      far false h = unlike (r .0 true w) (r .0 false v) (λ k. h (sym k))
-      far true h = unlike (r .0 false w) (r .0 true v) h
+      far false h = ⊕-differ (r .0 true w) (r .0 false v) (λ k. h (sym k))
+      far true h = ⊕-differ (r .0 false w) (r .0 true v) h
 
       only : Only G (endFalse b v w) (endTrue b v w) (λ c x. r .0 c x ⊕ r .0 b v)
       only x y k = elim (r .2 x y k) [ inl q ↦ inl q | inr q ↦ inr (ap (λ z. z ⊕ r .0 b v) q) ]
@@ -112,15 +106,10 @@ module _ (G : Graph) where
   pub disjoint : Connected G → {v w w′ : ℕ} {S S′ : Set} (b : Bool) → List·Memᴰ v (G .vertices b) → Branch G b v w S
       → Branch G b v w′ S′ → w ≢ w′ → (c : Bool) (x : ℕ) → List·Memᴰ x (G .vertices c) → S c x ≡ true → S′ c x ≡ false
   disjoint C {v} {w} {w′} {S} {S′} b m h h′ ne c x k on =
-      last (S′ c x) (sym (ap (λ z. z && S′ c x) on) ∙ C X even c x k ∙ sym (C X even b v m)
-      ∙ ap (λ z. z && S′ b v) (h .off))
+      sym (ap (λ z. z && S′ c x) on) ∙ C X even c x k ∙ sym (C X even b v m) ∙ ap (λ z. z && S′ b v) (h .off)
     where
       X : Set
       X c x = S c x && S′ c x
-
-      last : (z : Bool) → true && z ≡ false → z ≡ false
-      last true e = e
-      last false e = refl
 
       even : Even G X
       even x y e = go (h .only x y e) (h′ .only x y e)

@@ -1,1 +1,0 @@
-// Trees: no code, only theorems in proofs/, for other crates to cite.
