@@ -113,7 +113,8 @@ module _ (φ : Functional) (x : ℕ) where
   unfolding moved
   moved-other S n ne = rw (same-false n x ne) (eq2 (λ s p. s ⊕ (p && false)) (λ s p. s) tt (S n) (φ .at S))
 
--- an equation that sees the first unknown is solved for it and put into the others; where none sees it, it is a solution
+-- an equation that sees the first unknown is solved for it and put into the others; where none sees it, it is a
+-- solution
 pub solution : (xs : List ℕ) → Distinct xs → (fs : List Functional) → length fs < length xs → Solution xs fs
 unfolding behind
 solution [] dis fs h = absurd (omega arith)

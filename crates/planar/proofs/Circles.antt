@@ -1,5 +1,5 @@
--- Chords close circles (specs/Chords.antt). With Euler's sum there are as many as faces but one (`chords-length`), and a
--- cycle, a set of edges that crosses each cut an even number of times, is known from the chords in it
+-- Chords close circles (specs/Chords.antt). With Euler's sum there are as many as faces but one (`chords-length`), and
+-- a cycle, a set of edges that crosses each cut an even number of times, is known from the chords in it
 -- (`cycle-of-chords`): in a forest no set of edges but the empty one is a cycle. Assumes nothing.
 use mathlib.Core.Path.{_≡_, refl, sym, _∙_}
 use mathlib.Core.Logic.{_⊎_, inl, inr}

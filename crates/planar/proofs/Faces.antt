@@ -1,8 +1,8 @@
--- The other way round: in a map in the plane every face is reached. Else some set R of faces has both or no side of each
--- edge, has the face g and not f. For each face but these two ask that a set of chords has an even number of sides in
--- it: fewer equations than chords, so some set y that is not empty solves them all. Then y has an even number of chords
--- between any two colours (`between-none`); but some cycle takes an odd number of y (`odd`), and is coloured. Assumes
--- nothing.
+-- The other way round: in a map in the plane every face is reached. Else some set R of faces has both or no side of
+-- each edge, has the face g and not f. For each face but these two ask that a set of chords has an even number of sides
+-- in it: fewer equations than chords, so some set y that is not empty solves them all. Then y has an even number of
+-- chords between any two colours (`between-none`); but some cycle takes an odd number of y (`odd`), and is coloured.
+-- Assumes nothing.
 use mathlib.Core.Path.{_≡_, refl, sym, ap, ap₂, _∙_, subst}
 use mathlib.Core.Logic.{_⊎_, inl, inr}
 use mathlib.Core.Bool.{Bool, true, false, _&&_, true≢false}
@@ -300,8 +300,8 @@ module _ {nodes : List ℕ} {es : List Arc} {tail : Dart → ℕ} {next : Dart �
       impossible : ⊥
       impossible =
           true≢false (sym (o .2) ∙ sum-cong (chords es) _ _
-          (λ a k. ap (λ v. y (a .num) && v) (planar .colouring (o .0) (o .1) .1 a (chords-in es k))) ∙ sym (between-at T)
-          ∙ between-none T)
+          (λ a k. ap (λ v. y (a .num) && v) (planar .colouring (o .0) (o .1) .1 a (chords-in es k)))
+          ∙ sym (between-at T) ∙ between-none T)
         where
           chord : (a : Arc) × List·Memᴰ a (chords es) × (a .num ≡ solved .2 .0)
           chord = Memᴰ·of-map (λ (a : Arc). a .num) (chords es) (solved .2 .1)
