@@ -2,12 +2,15 @@
 -- Assumes nothing.
 use mathlib.Core.Path.{_≡_, sym, _∙_}
 use mathlib.Core.Logic.{inl, inr, _≢_}
+use mathlib.Core.Bool.{Bool}
 use mathlib.Core.List.{List·Memᴰ}
 use Prim.Native.Nat.{ℕ}
 use Rattle.lists.specs.Tests.{same}
+use Rattle.lists.specs.Members.{Distinct}
 use Rattle.lists.proofs.Bools.{same-refl, same-true}
 use Rattle.lists.proofs.Members.{takes?}
-use Rattle.planar.specs.Map.{Dart, fwd, bwd}
+use Rattle.planar.specs.Map.{Dart, fwd, bwd, rev}
+use Rattle.planar.specs.Pieces.{nums}
 use Rattle.planar.specs.Reached as planar
 use Rattle.planar.proofs.Cycles.{fwd-in, bwd-in}
 use Rattle.planar.proofs.Faces.{planar-reached}
@@ -24,6 +27,11 @@ use Rattle.grown.proofs.Carried.{ranks}
 -- a set of faces that has both or no side of each edge has all faces or none
 abbrev pub Reached : Map → Type 0
 Reached m = planar.Reached (arcs m) (bears m) (m .faces) 0
+
+-- a set that has each directed edge's face with that of its reverse
+pub darts-even : (m : Map) → Distinct (nums (arcs m)) → (S : ℕ → Bool)
+    → ((d : Dart) → List·Memᴰ d (directed m) → S (bears m d) ≡ S (bears m (rev d))) → planar.Even (arcs m) (bears m) S
+darts-even m once S h a k = h (fwd (a .num)) (fwd-in k)
 
 pub plane-reached : (m : Map) → InPlane m → RankedMap m → Reached m
 plane-reached m o r = planar-reached (m .faces) 0 o (zero-in (m .faces) (r .zero)) (λ a k. (

@@ -15,6 +15,7 @@ use Rattle.map.specs.Reasons.{firstReason}
 use Rattle.map.specs.Ticket.{listUnless}
 use Rattle.map.specs.Grow.{grow}
 use Rattle.grown.proofs.Ranges.{good-back}
+use Rattle.grown.proofs.EdgesReached.{good-reached}
 use Rattle.grown.proofs.Grows.{State, grown-state}
 use Rattle.nesting.specs.Contents.{contents, lineNumbers, contentsOf}
 use Rattle.nesting.specs.Claims.{HasContents, ContentsListed, ContentsNever28}
@@ -23,7 +24,7 @@ use Rattle.nesting.proofs.Tree.{good-contents}
 -- in any state
 pub state-contents : {s : Sizes} {l : Lent} → State s l → HasContents (mapOf l)
 state-contents {s} x = subst HasContents (sym (ap mapOf (x .lent) ∙ good-back (x .map) (x .good) s))
-    (good-contents (x .map) (x .good) (x .reached))
+    (good-contents (x .map) (x .good) (good-reached (x .map) (x .good)))
 
 pub contents-listed : ContentsListed
 contents-listed s h ts = state-contents (grown-state s h ts)
