@@ -1,21 +1,20 @@
--- The tests of a map's curves and points, and what they say. Assumes nothing.
+-- The tests of a map's curves and places, and what they say. Assumes nothing.
 use mathlib.Core.Path.{_≡_, refl, sym, ap, _∙_, subst}
 use mathlib.Core.Bool.{Bool, true, false, not, _&&_, true≢false}
-use mathlib.Core.List.{List, [], _∷_, map, List·Memᴰ, Memᴰ·of-map}
-use Prim.Native.Nat.{suc, _≤_}
-use native.Mathlib.Omega.{arith}
+use mathlib.Core.List.{List, [], _∷_, map, List·Memᴰ, Memᴰ·of-map, Memᴰ·cast}
+use Prim.Native.Nat.{_≤_}
 use borrow.Author.Tests.{leb-true, le-leb}
+use borrow.Author.Tests as tests
 use lib.Dec.{leb}
 use lib.ListN.{length}
 use Rattle.lists.specs.Scans.{all}
-use Rattle.lists.specs.Members.{All, Pairs, Distinct}
+use Rattle.lists.specs.Members.{Pairs, Distinct}
 use Rattle.lists.proofs.Bools.{and-true, and-is, not-true}
 use Rattle.lists.proofs.Members.{all-of, each-of}
 use Rattle.plane.specs.declared.Point.{Point}
 use Rattle.plane.specs.Points.{InRange, maxCoordinate, samePoint}
 use Rattle.curves.specs.Curves.{Curve, points, lastPoint, maxPoints}
 use Rattle.curves.specs.Tests.{neighboursDiffer, isSimple, meetWrongly, straightInside}
-use Rattle.geometry.specs.Meaning.{Some}
 use Rattle.geometry.specs.Drawing as drawing
 use Rattle.geometry.specs.Drawing.{ClearCurves}
 use Rattle.geometry.proofs.Theorems.{samePoint-iff, meetWrongly-iff, good-iff}
@@ -26,11 +25,7 @@ use Rattle.grown.specs.Good.{Kept, Surveyed}
 use Rattle.grown.proofs.Scanning.{all-each, each-all}
 use Rattle.grown.proofs.LawfulForm.{Lawful}
 use Rattle.grown.proofs.Apart.{curve-good, curve-long}
-use Rattle.certified.specs.Certified.{inRange, curveKept, noTwo, surveys}
-
-not-says : (b : Bool) → not b ≡ true → b ≡ false
-not-says true e = absurd (true≢false (sym e))
-not-says false e = refl
+use Rattle.certified.specs.Certified.{inRange, countFits, curveKept, noTwo, curvesClear, placesDiffer}
 
 -- ---- points
 
@@ -43,52 +38,33 @@ range-is p h = and-is (le-leb _ _ (h .x)) (le-leb _ _ (h .y))
 
 -- ---- pairs
 
-module _ {A : Type 0} (r : A → A → Bool) where
-  noTwo-says : (l : List A) → noTwo r l ≡ true → Pairs (λ x y. r x y ≡ false) l
-  noTwo-says [] h = tt
-  noTwo-says (x ∷ l) h = let k = and-true (all (λ y. not (r x y)) l) (noTwo r l) h in
-      (all-of l (λ y m. not-says (r x y) (all-each (λ y. not (r x y)) l (k .0) y m)), noTwo-says l (k .1))
+module _ {A : Type 0} (r : A → A → Bool) (R : A → A → Type 0) where
+  noTwo-says : ((x y : A) → r x y ≡ false → R x y) → (l : List A) → noTwo r l ≡ true → Pairs R l
+  noTwo-says f [] h = tt
+  noTwo-says f (x ∷ l) h = let k = and-true (all (λ y. not (r x y)) l) (noTwo r l) h in (
+    all-of l (λ y m. f x y (tests.not-true (r x y) (all-each (λ y. not (r x y)) l (k .0) y m))),
+    noTwo-says f l (k .1),
+  )
 
-  noTwo-is : (l : List A) → Pairs (λ x y. r x y ≡ false) l → noTwo r l ≡ true
-  noTwo-is [] h = refl
-  noTwo-is (x ∷ l) h =
-      and-is (each-all (λ y. not (r x y)) l (λ y m. ap not (each-of (λ y. r x y ≡ false) l (h .0) y m)))
-      (noTwo-is l (h .1))
-
-pairs-by : {A : Type 0} (P Q : A → A → Type 0) → ((x y : A) → P x y → Q x y) → (l : List A) → Pairs P l → Pairs Q l
-pairs-by P Q f [] h = tt
-pairs-by P Q f (x ∷ l) h = (all-of l (λ y m. f x y (each-of (P x) l (h .0) y m)), pairs-by P Q f l (h .1))
+  noTwo-is : ((x y : A) → R x y → r x y ≡ false) → (l : List A) → Pairs R l → noTwo r l ≡ true
+  noTwo-is f [] h = refl
+  noTwo-is f (x ∷ l) h =
+      and-is (each-all (λ y. not (r x y)) l (λ y m. ap not (f x y (each-of (R x) l (h .0) y m)))) (noTwo-is f l (h .1))
 
 -- no two points are one
-points-says : (l : List Point) → noTwo samePoint l ≡ true → Distinct l
-points-says l h = go l (noTwo-says samePoint l h)
-  where
-    go : (l : List Point) → Pairs (λ p q. samePoint p q ≡ false) l → Distinct l
-    go [] k = tt
-    go (p ∷ l) k = (
-      λ m. true≢false (sym (samePoint-iff p p .1 refl) ∙ each-of (λ q. samePoint p q ≡ false) l (k .0) p m),
-      go l (k .1),
-    )
+places-says : (l : List Point) → noTwo samePoint l ≡ true → Distinct l
+places-says [] h = tt
+places-says (p ∷ l) h = let k = and-true (all (λ q. not (samePoint p q)) l) (noTwo samePoint l) h in (
+  λ m. true≢false (sym (all-each (λ q. not (samePoint p q)) l (k .0) p m) ∙ ap not (samePoint-iff p p .1 refl)),
+  places-says l (k .1),
+)
 
-points-is : (l : List Point) → Distinct l → noTwo samePoint l ≡ true
-points-is l d = noTwo-is samePoint l (go l d)
-  where
-    go : (l : List Point) → Distinct l → Pairs (λ p q. samePoint p q ≡ false) l
-    go [] k = tt
-    go (p ∷ l) k = (
-      all-of l (λ q m. not-true (samePoint p q) (λ e.
-          k .0 (subst (λ (z : Point). List·Memᴰ z l) (sym (samePoint-iff p q .0 e)) m))),
-      go l (k .1),
-    )
+places-is : (l : List Point) → Distinct l → noTwo samePoint l ≡ true
+places-is [] d = refl
+places-is (p ∷ l) d = and-is (each-all (λ q. not (samePoint p q)) l (λ q m. ap not
+    (not-true (samePoint p q) (λ e. d .0 (Memᴰ·cast (samePoint-iff p q .0 e) m))))) (places-is l (d .1))
 
 -- ---- curves
-
-some-says : (c : Curve) → 2 ≤ length (points c) → Some (c .rest)
-some-says c h = go (c .rest) h
-  where
-    go : (l : List Point) → 2 ≤ suc (length l) → Some l
-    go [] h = absurd (omega arith)
-    go (p ∷ l) h = tt
 
 -- what `curveKept` says, one by one
 record Parts (c : Curve) : Type 0 where
@@ -100,23 +76,20 @@ kept-says : (c : Curve) → curveKept c ≡ true → Parts c
 kept-says c h =
     let h₁ = and-true _ (not (straightInside c)) h in
     let h₂ = and-true _ (isSimple c) (h₁ .0) in
-    let h₃ = and-true _ (all inRange (points c)) (h₂ .0) in
+    let h₃ = and-true (countFits c) (all inRange (points c)) (h₂ .0) in
     let h₄ = and-true (leb 2 (length (points c))) (leb (length (points c)) maxPoints) (h₃ .0) in
     record {
       least = leb-true _ _ (h₄ .0);
-      kept =
-          record {
-            most = leb-true _ _ (h₄ .1);
-            in-range = λ p m. range-says p (all-each inRange (points c) (h₃ .1) p m);
-            bent = not-says (straightInside c) (h₁ .1);
-          };
+      kept = record {
+        most = leb-true _ _ (h₄ .1);
+        in-range = λ p m. range-says p (all-each inRange (points c) (h₃ .1) p m);
+        bent = tests.not-true (straightInside c) (h₁ .1);
+      };
       simple = h₂ .1;
     }
 
 kept-is : (c : Curve) → Parts c → curveKept c ≡ true
-kept-is c k =
-    and-is
-    (and-is (and-is (and-is (le-leb _ _ (k .least)) (le-leb _ _ (k .kept .most)))
+kept-is c k = and-is (and-is (and-is (and-is (le-leb _ _ (k .least)) (le-leb _ _ (k .kept .most)))
     (each-all inRange (points c) (λ p m. range-is p (k .kept .in-range p m)))) (k .simple)) (ap not (k .kept .bent))
 
 -- ---- the map
@@ -125,68 +98,63 @@ module _ (m : Map) where
   abbrev curves : List Curve
   curves = map (λ e. e .curve) (m .edges)
 
-  pub record Drawing : Type 0 where
-    pub each : all (λ e. curveKept (e .curve)) (m .edges) ≡ true
-    pub clear : noTwo meetWrongly curves ≡ true
-    pub nodes : all (λ n. inRange (n .at)) (m .nodes) ≡ true
-    pub places : noTwo samePoint (map (λ n. n .at) (m .nodes)) ≡ true
+  abbrev places : List Point
+  places = map (λ n. n .at) (m .nodes)
 
-  pub surveys-parts : surveys m ≡ true → Drawing
-  unfolding surveys
-  surveys-parts h =
-      let h₁ = and-true _ (noTwo samePoint (map (λ n. n .at) (m .nodes))) h in
-      let h₂ = and-true _ (all (λ n. inRange (n .at)) (m .nodes)) (h₁ .0) in
-      let h₃ = and-true (all (λ e. curveKept (e .curve)) (m .edges)) (noTwo meetWrongly curves) (h₂ .0) in
-      record { each = h₃ .0; clear = h₃ .1; nodes = h₂ .1; places = h₁ .1 }
+  -- the two halves of both tests
+  curves-halves : curvesClear m ≡ true
+      → (all (λ e. curveKept (e .curve)) (m .edges) ≡ true) × (noTwo meetWrongly curves ≡ true)
+  unfolding curvesClear
+  curves-halves h = and-true (all (λ e. curveKept (e .curve)) (m .edges)) (noTwo meetWrongly curves) h
 
-  pub surveys-long : surveys m ≡ true → (e : Edge) → List·Memᴰ e (m .edges) → 2 ≤ length (points (e .curve))
-  surveys-long h e k =
-      kept-says (e .curve) (all-each (λ e. curveKept (e .curve)) (m .edges) (surveys-parts h .each) e k) .least
+  places-halves : placesDiffer m ≡ true
+      → (all (λ n. inRange (n .at)) (m .nodes) ≡ true) × (noTwo samePoint places ≡ true)
+  unfolding placesDiffer
+  places-halves h = and-true (all (λ n. inRange (n .at)) (m .nodes)) (noTwo samePoint places) h
 
-  pub surveys-says : formed m ≡ true → Lawful m → surveys m ≡ true → Surveyed m
-  surveys-says form l h = record {
-    drawn =
-        record {
-          good = goods;
-          clear = pairs-by (λ c d. meetWrongly c d ≡ false) ClearCurves (λ c d. meetWrongly-iff c d .0) curves
-              (noTwo-says meetWrongly curves (d .clear));
-        };
-    kept = λ e k. part e k .kept;
+  part : curvesClear m ≡ true → (e : Edge) → List·Memᴰ e (m .edges) → Parts (e .curve)
+  part h e k =
+      kept-says (e .curve) (all-each (λ e. curveKept (e .curve)) (m .edges) (curves-halves h .0) e k)
+
+  pub curves-long : curvesClear m ≡ true → (e : Edge) → List·Memᴰ e (m .edges) → 2 ≤ length (points (e .curve))
+  curves-long h e k = part h e k .least
+
+  pub surveys-says : formed m ≡ true → Lawful m → curvesClear m ≡ true → placesDiffer m ≡ true → Surveyed m
+  surveys-says form l h j = record {
+    drawn = record {
+      good = all-of curves (λ c k. let r = Memᴰ·of-map (λ (e : Edge). e .curve) (m .edges) k in
+          subst drawing.Good (r .2) (good (r .0) (r .1)));
+      clear = noTwo-says meetWrongly ClearCurves (λ c d. meetWrongly-iff c d .0) curves (curves-halves h .1);
+    };
+    kept = λ e k. part h e k .kept;
     anchored = l .anchored;
-    nodes-in-range = λ n k. range-says (n .at) (all-each (λ n. inRange (n .at)) (m .nodes) (d .nodes) n k);
-    places = points-says (map (λ n. n .at) (m .nodes)) (d .places);
+    nodes-in-range =
+        λ n k. range-says (n .at) (all-each (λ n. inRange (n .at)) (m .nodes) (places-halves j .0) n k);
+    places = places-says places (places-halves j .1);
   }
     where
-      d : Drawing
-      d = surveys-parts h
-
-      part : (e : Edge) → List·Memᴰ e (m .edges) → Parts (e .curve)
-      part e k = kept-says (e .curve) (all-each (λ e. curveKept (e .curve)) (m .edges) (d .each) e k)
-
       good : (e : Edge) → List·Memᴰ e (m .edges) → drawing.Good (e .curve)
       good e k = good-iff (e .curve) .1 (
-        some-says (e .curve) (part e k .least),
+        l .some e k,
         and-true (samePoint (e .curve .first) (node m (e .start) .at)
             && samePoint (lastPoint (e .curve)) (node m (e .end) .at)) (neighboursDiffer (e .curve))
             (all-each (curveFits m) (m .edges) (formed-is m form .curves) e k) .1,
-        part e k .simple,
+        part h e k .simple,
       )
 
-      goods : All drawing.Good curves
-      goods =
-          all-of curves (λ c k. let r = Memᴰ·of-map (λ (e : Edge). e .curve) (m .edges) k in
-          subst drawing.Good (r .2) (good (r .0) (r .1)))
+  module _ (s : Surveyed m) where
+    pub curves-are : curvesClear m ≡ true
+    unfolding curvesClear
+    curves-are = and-is
+        (each-all (λ e. curveKept (e .curve)) (m .edges) (λ e k. kept-is (e .curve) (record {
+          least = curve-long m s e k;
+          kept = s .kept e k;
+          simple = good-iff (e .curve) .0 (curve-good m s e k) .2;
+        })))
+        (noTwo-is meetWrongly ClearCurves (λ c d. meetWrongly-iff c d .1) curves (s .drawn .clear))
 
-  pub surveys-is : Surveyed m → surveys m ≡ true
-  unfolding surveys
-  surveys-is s = and-is (and-is (and-is
-      (each-all (λ e. curveKept (e .curve)) (m .edges)
-      (λ e k. kept-is (e .curve) (record {
-        least = curve-long m s e k;
-        kept = s .kept e k;
-        simple = good-iff (e .curve) .0 (curve-good m s e k) .2;
-      })))
-      (noTwo-is meetWrongly curves (pairs-by ClearCurves (λ c d. meetWrongly c d ≡ false)
-      (λ c d. meetWrongly-iff c d .1) curves (s .drawn .clear))))
-      (each-all (λ n. inRange (n .at)) (m .nodes) (λ n k. range-is (n .at) (s .nodes-in-range n k))))
-      (points-is (map (λ n. n .at) (m .nodes)) (s .places))
+    pub places-are : placesDiffer m ≡ true
+    unfolding placesDiffer
+    places-are = and-is
+        (each-all (λ n. inRange (n .at)) (m .nodes) (λ n k. range-is (n .at) (s .nodes-in-range n k)))
+        (places-is places (s .places))

@@ -1,8 +1,9 @@
--- The tests that a map must pass so that tickets go on from it as from one that tickets have grown: `certified`.
--- Definitions only. Assumes nothing.
+-- The tests that a map must pass so that tickets go on from it as from one that tickets have grown, whatever made it:
+-- `certified` of a map, `certifies` of lent tables. They stand in the order in which they are made: whole tables, in
+-- form, links, curves, places, the sum, faces reached. Definitions only. Assumes nothing.
 use mathlib.Core.Bool.{Bool, true, not, _&&_}
 use mathlib.Core.List.{List, [], _∷_, map}
-use Prim.Native.Nat.{suc, _+_}
+use Prim.Native.Nat.{ℕ, suc, _+_}
 use lib.Dec.{leb}
 use lib.ListN.{length}
 use Rattle.lists.specs.Tests.{same}
@@ -19,6 +20,45 @@ use Rattle.map.specs.Darts.{pieceCount}
 use Rattle.map.specs.Form.{formed, inForm}
 use Rattle.map.specs.Links.{obeysLaw}
 
+-- a next number is 1 to 1,000,000; of tables `inForm` says it
+abbrev pub nextInRange : ℕ → Bool
+nextInRange n = leb 1 n && leb n (suc lastNumber)
+
+unfoldable pub nextsInRange : Map → Bool
+nextsInRange m = nextInRange (m .nextNode) && nextInRange (m .nextEdge) && nextInRange (m .nextFace)
+
+-- ---- curves and places
+
+abbrev pub inRange : Point → Bool
+inRange p = leb (p .x) maxCoordinate && leb (p .y) maxCoordinate
+
+-- 2 to 12 points
+abbrev pub countFits : Curve → Bool
+countFits c = leb 2 (length (points c)) && leb (length (points c)) maxPoints
+
+-- a curve that a ticket may have left: simple, and no inner point straight between its neighbours
+abbrev pub curveKept : Curve → Bool
+curveKept c = countFits c && all inRange (points c) && isSimple c && not (straightInside c)
+
+-- r holds of no element and a later one
+abbrev pub noTwo : {A : Type 0} → (A → A → Bool) → List A → Bool
+noTwo r [] = true
+noTwo r (x ∷ l) = let rest = noTwo r l in all (λ y. not (r x y)) l && rest
+
+-- every curve is such a curve, and no two share more than common ends
+unfoldable pub curvesClear : Map → Bool
+curvesClear m =
+    all (λ e. curveKept (e .curve)) (m .edges)
+    && noTwo meetWrongly (map (λ e. e .curve) (m .edges))
+
+-- every node lies in range, and no two lie on one place
+unfoldable pub placesDiffer : Map → Bool
+placesDiffer m =
+    all (λ n. inRange (n .at)) (m .nodes)
+    && noTwo samePoint (map (λ n. n .at) (m .nodes))
+
+-- ---- the plane
+
 -- nodes + faces = edges + pieces + 1
 unfoldable pub sumHolds : Map → Bool
 sumHolds m = same (length (m .nodes) + length (m .faces)) (length (m .edges) + pieceCount m + 1)
@@ -28,41 +68,21 @@ abbrev pub crossing : Edge → Arc
 crossing e = record { num = e .number; from = e .left; to = e .right }
 
 -- every face is reached from face 0 across edges
-unfoldable pub reaches : Map → Bool
-reaches m = let steps = map crossing (m .edges) in all (λ f. same (label steps f) (label steps 0)) (m .faces)
+unfoldable pub facesReached : Map → Bool
+facesReached m =
+    let steps = map crossing (m .edges) in
+    all (λ f. same (label steps f) (label steps 0)) (m .faces)
 
-abbrev pub inRange : Point → Bool
-inRange p = leb (p .x) maxCoordinate && leb (p .y) maxCoordinate
+-- ---- all of them
 
--- 2 to 12 points in range, simple, no inner point straight between its neighbours
-abbrev pub curveKept : Curve → Bool
-curveKept c = leb 2 (length (points c)) && leb (length (points c)) maxPoints && all inRange (points c) && isSimple c
-    && not (straightInside c)
-
--- r holds of no element and a later one
-abbrev pub noTwo : {A : Type 0} → (A → A → Bool) → List A → Bool
-noTwo r [] = true
-noTwo r (x ∷ l) = let rest = noTwo r l in all (λ y. not (r x y)) l && rest
-
--- curves are simple and share common ends only; no two nodes lie on one point
-unfoldable pub surveys : Map → Bool
-surveys m =
-    all (λ e. curveKept (e .curve)) (m .edges) && noTwo meetWrongly (map (λ e. e .curve) (m .edges))
-    && all (λ n. inRange (n .at)) (m .nodes) && noTwo samePoint (map (λ n. n .at) (m .nodes))
-
--- the next numbers are 1 to 1,000,000
-unfoldable pub nextsFit : Map → Bool
-nextsFit m =
-    leb 1 (m .nextNode) && leb 1 (m .nextEdge) && leb (m .nextNode) (suc lastNumber)
-    && leb (m .nextEdge) (suc lastNumber) && leb (m .nextFace) (suc lastNumber)
-
--- the links obey the law, Euler's sum holds, all faces are reached, the curves are drawn well
+-- in the plane, as its links, curves, places and faces tell
 unfoldable pub inPlane : Map → Bool
-inPlane m = obeysLaw m && sumHolds m && reaches m && surveys m
+inPlane m = obeysLaw m && curvesClear m && placesDiffer m && sumHolds m && facesReached m
 
+-- a map
 unfoldable pub certified : Map → Bool
-certified m = formed m && nextsFit m && inPlane m
+certified m = formed m && nextsInRange m && inPlane m
 
--- the same of lent tables
+-- lent tables
 unfoldable pub certifies : Lent → Bool
 certifies l = whole l && inForm l && inPlane (mapOf l)

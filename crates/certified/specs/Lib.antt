@@ -1,2 +1,3 @@
--- The tests that a map, or lent tables, must pass (`Certified`).
+-- The tests that a map, or lent tables, must pass (`Certified`), and what they say (`Claims`).
 pub mod Certified
+pub mod Claims

@@ -110,7 +110,11 @@ module _ (s : Sizes) (m : Map) (g : Good m) where
       let t = remove-edge-taken false (natAbs e) m k (ranks m g) in
       record { ranked = remove-edge-ranked false (natAbs e) m k (ranks m g); limited = limits t (no-face (natAbs e) (enough (g .numbered))); fits = λ p. fit t (no-more p) }
 
-  -- numbers rise and are below the next, named rows exist, nodes are marked
+  -- numbers rise and are below the next, nodes and sides of edges are in faces that exist
+  pub ranked-kept : (t : Ticket) → firstReason (reasons s m t) ≡ 0 → RankedMap (carried m t .0)
+  ranked-kept t h = kept t h .ranked
+
+  -- and named rows exist, nodes are marked
   pub numbered-kept : (t : Ticket) → firstReason (reasons s m t) ≡ 0 → Woven (carried m t .0) → Numbered (carried m t .0)
   numbered-kept t h w = ranked-numbered (carried m t .0) w (kept t h .ranked) (kept t h .limited)
 

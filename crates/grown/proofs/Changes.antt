@@ -1,8 +1,10 @@
--- Kinds 1, 2, 3 and 6: isolated nodes added, moved and removed, and an edge redrawn, keep a map in the plane, and its faces reached. Assumes nothing.
+-- Kinds 1, 2, 3 and 6: isolated nodes added, moved and removed, and an edge redrawn, keep a map in the plane. Assumes
+-- nothing.
 use mathlib.Core.Path.{_≡_, refl, sym, _∙_, subst}
 use mathlib.Core.Logic.{inl, inr}
-use mathlib.Core.Bool.{Bool, true, false, cond}
-use mathlib.Core.List.{List, [], _∷_, _++_, map, map-append, map-map, Memᴰ·map, List·Permᴰ, List·Permᴰ·cons, List·Permᴰ·trans, Permᴰ·map, Permᴰ·symm, Permᴰ·middle, Permᴰ·append-nil}
+use mathlib.Core.Bool.{true, cond}
+use mathlib.Core.List.{List, [], _∷_, _++_, map, map-append, map-map}
+use mathlib.Core.List.{List·Permᴰ, List·Permᴰ·cons, List·Permᴰ·trans, Permᴰ·map, Permᴰ·symm, Permᴰ·middle, Permᴰ·append-nil}
 use Prim.Native.Nat.{ℕ}
 use native.Mathlib.Omega.{arith}
 use lib.ListN.{length}
@@ -20,12 +22,11 @@ use Rattle.planar.specs.Planar.{Planar}
 use Rattle.planar.proofs.Cycles.{fwd-in, bwd-in}
 use Rattle.planar.proofs.Moves.{planar-node, planar-node-off}
 use Rattle.planar.proofs.Agree.{planar-agree}
-use Rattle.map.specs.Rows.{Node, Edge, Map, node, edge, hasNode, atNodes, atEdge, withoutNode}
+use Rattle.map.specs.Rows.{Node, Map, node, edge, hasNode, atNodes, atEdge, withoutNode}
 use Rattle.map.specs.Darts.{arcs, leaves, next, bears}
-use Rattle.map.specs.Edits.{lone, addIsoNode, moveIsoNode, removeIsoNode, withCurve, changeEdgeGeom}
+use Rattle.map.specs.Edits.{lone, addIsoNode, moveIsoNode, removeIsoNode, changeEdgeGeom}
 use Rattle.map.specs.Reasons.{isolated}
 use Rattle.grown.proofs.RowChanges.{nodeNumber, InPlane, noNode, node-row, without-perm}
-use Rattle.grown.proofs.EdgesReached.{Reached}
 use Rattle.grown.proofs.LawfulForm.{Lawful}
 use Rattle.grown.proofs.LawfulChange.{same-arcs, same-leaves, same-next, same-bears}
 
@@ -84,28 +85,8 @@ planar-3 m n L o has iso = planar-node-off (planar-nodes (node-first m n has (o 
   ends = λ a k e. L .bare n has iso (bwd (a .num)) (bwd-in k) (o .linked .ends a k ∙ e);
 })
 
-pub reached-1 : (m : Map) (p : Point) → Reached m → Reached (addIsoNode p m)
-unfolding addIsoNode
-reached-1 m p r = r
-
-pub reached-2 : (m : Map) (n : ℕ) (p : Point) → Reached m → Reached (moveIsoNode n p m)
-unfolding moveIsoNode atNodes
-reached-2 m n p r = r
-
-pub reached-3 : (m : Map) (n : ℕ) → Reached m → Reached (removeIsoNode n m)
-unfolding removeIsoNode
-reached-3 m n r = r
-
 -- ---- kind 6
 
 pub planar-6 : (m : Map) (e : ℕ) (c : Curve) → InPlane m → InPlane (changeEdgeGeom e c m)
 unfolding changeEdgeGeom atEdge
 planar-6 m e c o = planar-agree (λ d k. same-leaves m e c d) (λ d k. same-next m e c d) (λ d k. same-bears m e c d) (subst (λ (es : List Arc). Planar (map nodeNumber (m .nodes)) es (leaves m) (next m) (bears m) (length (m .faces))) (sym (same-arcs m e c)) o)
-
-pub reached-6 : (m : Map) (e : ℕ) (c : Curve) → Reached m → Reached (changeEdgeGeom e c m)
-unfolding changeEdgeGeom atEdge
-reached-6 m e c r S even = r S (λ q k. go (same (q .number) e) q (even (cond (same (q .number) e) (withCurve c q) q) (Memᴰ·map (λ q. cond (same (q .number) e) (withCurve c q) q) k)))
-  where
-    go : (b : Bool) (q : Edge) → S (cond b (withCurve c q) q .left) ≡ S (cond b (withCurve c q) q .right) → S (q .left) ≡ S (q .right)
-    go true q h = h
-    go false q h = h

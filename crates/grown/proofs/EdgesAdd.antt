@@ -1,16 +1,15 @@
--- Kind 4, and kinds 11 and 12 where no face is split, keep a map in the plane, and its faces reached. Assumes nothing.
-use mathlib.Core.Path.{_≡_, refl, sym, ap, _∙_, subst}
+-- Kind 4, and kinds 11 and 12 where no face is split, keep a map in the plane. Assumes nothing.
+use mathlib.Core.Path.{_≡_, refl, sym, ap, _∙_}
 use mathlib.Core.Logic.{inl, inr}
 use mathlib.Core.Bool.{Bool, true, false}
-use mathlib.Core.List.{List, _∷_, List·Memᴰ, List·Memᴰ·head, List·Memᴰ·cases-cons}
+use mathlib.Core.List.{_∷_, List·Memᴰ, List·Memᴰ·head, List·Memᴰ·cases-cons}
 use mathlib.Core.Option.{Option·getD}
 use Prim.Native.Nat.{ℕ}
 use borrow.Author.Tests.{not-false}
 use Rattle.curves.specs.Curves.{Curve, startWay}
-use Rattle.planar.specs.Map.{Dart, fwd, bwd, rev}
+use Rattle.planar.specs.Map.{Dart, fwd, bwd}
 use Rattle.planar.specs.Rings.{Leads}
 use Rattle.planar.specs.Weave.{with-edge}
-use Rattle.planar.proofs.Rings.{rev-in}
 use Rattle.planar.proofs.Hooks.{fresh-dart, with-fwd, with-bwd, with-other}
 use Rattle.rotation.specs.Law.{from}
 use Rattle.map.specs.Rows.{Map, Sizes, node, hasNode}
@@ -22,11 +21,10 @@ use Rattle.grown.proofs.RowChanges.{nodeNumber, noNode, InPlane}
 use Rattle.grown.proofs.Reasons.{AddLone, AddEdge}
 use Rattle.grown.proofs.Apart.{apart}
 use Rattle.grown.proofs.EdgesRings.{among-in, ring-leads}
-use Rattle.grown.proofs.EdgesReached.{Reached, even-darts, darts-even}
 use Rattle.grown.proofs.EdgesLaw.{from-in}
 use Rattle.grown.proofs.LawfulForm.{Lawful, edge-new}
 use Rattle.grown.proofs.LawfulAdd.{lawful-lone, D-alone}
-use Rattle.grown.proofs.EdgesJoined.{Draws, draws-edge, all-D, D-still, D-kept, D-faces, D-linked, D-once, D-join}
+use Rattle.grown.proofs.EdgesJoined.{Draws, draws-edge, all-D, D-linked, D-once, D-join}
 
 -- ---- what the tickets' facts give
 
@@ -47,17 +45,8 @@ module _ (m : Map) (L : Lawful m) (s : Sizes) (u v : ℕ) (c : Curve) where
 -- ---- both sides on one ring
 
 module _ (m : Map) (u v : ℕ) (c : Curve) (φ : ℕ) (draws : Draws m u v c φ) where
-  abbrev D : Map
-  D = drawn u v c φ m
-
-  same-faces : {f : ℕ} → List·Memᴰ f (D .faces) → List·Memᴰ f (m .faces)
-  same-faces {f} k = subst (λ (l : List ℕ). List·Memᴰ f l) (D-faces m u v c φ draws) k
-
   joined-planar : hasNode m u ≡ true → hasNode m v ≡ true → Leads (next (drawn u v c φ m)) (fwd (m .nextEdge)) (bwd (m .nextEdge)) → InPlane m → InPlane (drawn u v c φ m)
   joined-planar has-u has-v leads o = D-join m u v c φ draws o (number-has nodeNumber noNode (m .nodes) u has-u) (number-has nodeNumber noNode (m .nodes) v has-v) leads
-
-  joined-reached : Reached m → Reached (drawn u v c φ m)
-  joined-reached r S even f i = r S (darts-even m (draws .once) S (λ d k. ap S (sym (D-kept m u v c φ draws d k)) ∙ even-darts D S even d (D-still m u v c φ draws k) ∙ ap S (D-kept m u v c φ draws (rev d) (rev-in (arcs m) k)))) f (same-faces i)
 
 -- ---- kind 4
 
@@ -87,10 +76,6 @@ module _ (s : Sizes) (m : Map) (u v : ℕ) (c : Curve) (L : Lawful m) (h : AddLo
   unfolding addIsoEdge φ
   planar-4 = joined-planar m u v c φ (draws-lone m L s u v c φ h) (h .has-start) (h .has-end) alone
 
-  pub reached-4 : Reached m → Reached (addIsoEdge u v c m)
-  unfolding addIsoEdge φ
-  reached-4 = joined-reached m u v c φ (draws-lone m L s u v c φ h)
-
 -- ---- kinds 11 and 12, with e and -e on one ring
 
 module _ (news : Bool) (s : Sizes) (m : Map) (u v : ℕ) (c : Curve) (L : Lawful m) (h : AddEdge news s m u v c) (whole : splitsFace u v c m ≡ false) where
@@ -104,6 +89,3 @@ module _ (news : Bool) (s : Sizes) (m : Map) (u v : ℕ) (c : Curve) (L : Lawful
 
   pub planar-joining : InPlane m → InPlane (drawnIn u v c m)
   planar-joining = joined-planar m u v c (cornerFace m u (startWay c)) (draws-added m L s u v c news h) (h .has-start) (h .has-end) one-ring
-
-  pub reached-joining : Reached m → Reached (drawnIn u v c m)
-  reached-joining = joined-reached m u v c (cornerFace m u (startWay c)) (draws-added m L s u v c news h)

@@ -1,4 +1,4 @@
--- Kinds 11 and 12 keep a map in the plane, and its faces reached. Assumes nothing.
+-- Kinds 11 and 12 keep a map in the plane. Assumes nothing.
 use mathlib.Core.Path.{_≡_}
 use mathlib.Core.Logic.{inl, inr}
 use mathlib.Core.Bool.{Bool, true, false}
@@ -19,9 +19,8 @@ use Rattle.grown.proofs.Scanning.{rising-distinct}
 use Rattle.grown.proofs.NumbersFaces.{bears-in}
 use Rattle.grown.proofs.NumbersAdd.{corner-in}
 use Rattle.grown.proofs.Carried.{ranks}
-use Rattle.grown.proofs.EdgesReached.{Reached}
-use Rattle.grown.proofs.EdgesAdd.{draws-added, planar-joining, reached-joining}
-use Rattle.grown.proofs.EdgesSplit.{Faced, split-planar, split-reached}
+use Rattle.grown.proofs.EdgesAdd.{draws-added, planar-joining}
+use Rattle.grown.proofs.EdgesSplit.{Faced, split-planar}
 use Rattle.grown.proofs.LawfulForm.{Lawful, good-lawful}
 
 pub faced : (m : Map) → Good m → Faced m
@@ -40,11 +39,4 @@ module _ (news : Bool) (s : Sizes) (m : Map) (u v : ℕ) (c : Curve) (good : Goo
   planar-added = elim (which (splitsFace u v c m)) [
     | inl e ↦ rw e (split-planar news m u v c (cornerFace m u (startWay c)) (draws-added m L s u v c news h) (faced m good) (corner-in m u (startWay c) (h .has-start) (ranks m good)) (rings-apart e) (h .has-start) (h .has-end) (good .woven .planar))
     | inr e ↦ rw e (planar-joining news s m u v c L h e (good .woven .planar))
-  ]
-
-  pub reached-added : Reached m → Reached (addEdge news u v c m)
-  unfolding addEdge
-  reached-added r = elim (which (splitsFace u v c m)) [
-    | inl e ↦ rw e (split-reached news m u v c (cornerFace m u (startWay c)) (draws-added m L s u v c news h) (faced m good) (corner-in m u (startWay c) (h .has-start) (ranks m good)) (rings-apart e) r)
-    | inr e ↦ rw e (reached-joining news s m u v c L h e r)
   ]

@@ -134,9 +134,6 @@ module _ (m : Map) (u v : ℕ) (c : Curve) (φ : ℕ) (draws : Draws m u v c φ)
   D-bears = drawing.D-bears m u v c φ (draws .free)
 
   -- old directed edges are there, and bear what they bore
-  pub D-still : {d : Dart} → List·Memᴰ d (directed m) → List·Memᴰ d (directed D)
-  D-still k = all-D (List·Memᴰ·tail (List·Memᴰ·tail k))
-
   pub D-kept : (d : Dart) → List·Memᴰ d (directed m) → bears D d ≡ bears m d
   D-kept d k = D-bears d (List·Memᴰ·tail (List·Memᴰ·tail k)) ∙ old φ φ (bears m) d k
 

@@ -1,17 +1,14 @@
--- An edge taken out: a map stays in the plane, and its faces reached, where the faces on the two sides become one. Kind 5. Assumes nothing.
+-- An edge taken out: a map stays in the plane where the faces on the two sides become one. Kind 5. Assumes nothing.
 use mathlib.Core.Path.{_≡_, sym, ap, _∙_, subst, refl}
 use mathlib.Core.Logic.{_⊎_, inl, inr, _≢_}
 use mathlib.Core.List.{List, List·Memᴰ, [], _∷_, List·Memᴰ·not-nil, List·Memᴰ·eq-of-singleton}
 use Prim.Native.Nat.{ℕ, suc}
 use lib.ListN.{length}
-use Rattle.lists.specs.Members.{Distinct}
-use Rattle.lists.proofs.Bools.{equal?}
-use Rattle.planar.specs.Map.{Dart, fwd, bwd, rev}
-use Rattle.planar.specs.Pieces.{nums}
+use Rattle.planar.specs.Map.{fwd, bwd, rev}
 use Rattle.planar.specs.Rings.{sameDart}
 use Rattle.planar.specs.Planar.{Planar}
 use Rattle.planar.proofs.Bridges.{Either, Shrunk}
-use Rattle.planar.proofs.Rings.{rev-in, next-in}
+use Rattle.planar.proofs.Rings.{next-in}
 use Rattle.planar.proofs.Moves.{planar-perm}
 use Rattle.planar.proofs.Agree.{planar-agree}
 use Rattle.rotation.specs.Law.{others}
@@ -20,12 +17,10 @@ use Rattle.map.specs.Rows.{Map, edge}
 use Rattle.map.specs.Darts.{arcs, directed, leaves, next, bears, departures}
 use Rattle.map.specs.Links.{unlinkEdge}
 use Rattle.grown.proofs.RowChanges.{InPlane}
-use Rattle.grown.proofs.EdgesReached.{Reached, even-darts, darts-even}
 use Rattle.grown.proofs.EdgesTaken.{taken-part, taken-merge}
 use Rattle.grown.proofs.EdgesCorners.{nodeNumbers}
 use Rattle.grown.proofs.EdgesSplit.{Faced}
-use Rattle.grown.proofs.Renumber.{ways}
-use Rattle.grown.proofs.LawfulRemove.{Taken, left, stays, lone-taken}
+use Rattle.grown.proofs.LawfulRemove.{Taken, left, lone-taken}
 use native.Mathlib.Omega.{arith}
 use Rattle.map.specs.Edits.{removeIsoEdge}
 use Rattle.grown.specs.Good.{Good}
@@ -35,13 +30,11 @@ use Rattle.grown.proofs.EdgesAdded.{faced}
 use Rattle.grown.proofs.LawfulForm.{Lawful, good-lawful}
 use Rattle.grown.proofs.NumbersEdges.{undrawn-face-list}
 
--- the faces fs after the edge e is gone, each that of some old one by μ; the two sides of the edge become one
+-- the faces fs after the edge e is gone, the old ones by μ; the two sides of the edge become one
 pub record Merging (m : Map) (e : ℕ) (μ : ℕ → ℕ) (fs : List ℕ) : Type 0 where
   pub one : μ (bears m (fwd e)) ≡ μ (bears m (bwd e))
   pub back : ℕ → ℕ
   pub goes-back : (g : ℕ) → List·Memᴰ g (m .faces) → (back (μ g) ≡ g) ⊎ (Either (bears m (fwd e)) (bears m (bwd e)) (back (μ g)) × Either (bears m (fwd e)) (bears m (bwd e)) g)
-  pub zero : μ 0 ≡ 0
-  pub faces : (g : ℕ) → List·Memᴰ g fs → (h : ℕ) × List·Memᴰ h (m .faces) × (μ h ≡ g)
   pub count : ((bears m (fwd e) ≡ bears m (bwd e)) × (length fs ≡ length (m .faces))) ⊎ ((bears m (fwd e) ≢ bears m (bwd e)) × (length (m .faces) ≡ suc (length fs)))
 
 module _ (m X : Map) (e : ℕ) (μ : ℕ → ℕ) (t : Taken m X e μ) (faced : Faced m) (merging : Merging m e μ (X .faces)) where
@@ -56,18 +49,6 @@ module _ (m X : Map) (e : ℕ) (μ : ℕ → ℕ) (t : Taken m X e μ) (faced : 
     | inl q ↦ subst (λ (n : ℕ). Planar (nodeNumbers X) (arcs X) (leaves X) (next X) (bears X) n) (sym (q .1)) (after (taken-part (planar-perm (t .perm) o) μ (merging .back) (merging .one) shrunk (q .0)))
     | inr q ↦ after (taken-merge (planar-perm (t .perm) o) μ (merging .back) (merging .one) shrunk (length (X .faces)) (q .1) (q .0))
   ]
-
-  pub taken-reached : Distinct (nums (arcs m)) → Reached m → Reached X
-  taken-reached once r S even g k = let x = merging .faces g k in ap S (sym (x .2)) ∙ r (λ h. S (μ h)) (darts-even m once (λ h. S (μ h)) sides) (x .0) (x .1) ∙ ap S (merging .zero)
-    where
-      sides : (d : Dart) → List·Memᴰ d (directed m) → S (μ (bears m d)) ≡ S (μ (bears m (rev d)))
-      sides d k = elim (equal? (d .edge) e) [
-        | inl p ↦ elim (ways d) [
-          | inl w ↦ let q = w ∙ ap fwd p in ap (λ x. S (μ (bears m x))) q ∙ ap S (merging .one) ∙ ap (λ x. S (μ (bears m (rev x)))) (sym q)
-          | inr w ↦ let q = w ∙ ap bwd p in ap (λ x. S (μ (bears m x))) q ∙ ap S (sym (merging .one)) ∙ ap (λ x. S (μ (bears m (rev x)))) (sym q)
-        ]
-        | inr ne ↦ ap S (sym (t .bears d (stays t k ne))) ∙ even-darts X S even d (stays t k ne) ∙ ap S (t .bears (rev d) (stays t (rev-in (arcs m) k) ne))
-      ]
 
 -- ---- kind 5
 
@@ -98,13 +79,8 @@ module _ (m : Map) (e : ℕ) (good : Good m) (h : RemoveLone m e) where
     one = one-face;
     back = λ g. g;
     goes-back = λ g k. inl refl;
-    zero = refl;
-    faces = λ g k. (g, subst (λ (l : List ℕ). List·Memᴰ g l) (undrawn-face-list e (edge m e .left) m) k, refl);
     count = inl (one-face, ap length (undrawn-face-list e (edge m e .left) m));
   }
 
   pub planar-5 : InPlane (removeIsoEdge e m)
   planar-5 = taken-planar m (removeIsoEdge e m) e (λ g. g) (lone-taken m L e (h .has)) (faced m good) lone-merging (good .woven .planar)
-
-  pub reached-5 : Reached m → Reached (removeIsoEdge e m)
-  reached-5 = taken-reached m (removeIsoEdge e m) e (λ g. g) (lone-taken m L e (h .has)) (faced m good) lone-merging (L .once)

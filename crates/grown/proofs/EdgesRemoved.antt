@@ -1,16 +1,15 @@
--- Kinds 13 and 14 keep a map in the plane, and its faces reached. Assumes nothing.
+-- Kinds 13 and 14 keep a map in the plane. Assumes nothing.
 use mathlib.Core.Path.{_≡_, refl, sym, ap, _∙_, subst}
 use mathlib.Core.Logic.{_⊎_, inl, inr, _≢_}
 use mathlib.Core.Bool.{Bool, true, false, cond, not, _&&_}
-use mathlib.Core.List.{List, [], _∷_, _++_, List·Memᴰ, List·Memᴰ·append-cases, List·Memᴰ·eq-of-singleton}
+use mathlib.Core.List.{List, [], _∷_, _++_, List·Memᴰ}
 use Prim.Native.Nat.{ℕ, suc, _+_}
 use native.Mathlib.Omega.{arith}
 use borrow.Author.Tests.{not-true}
 use lib.ListN.{length, length-append}
 use Rattle.lists.specs.Tests.{same}
 use Rattle.lists.specs.Members.{Distinct}
-use Rattle.lists.proofs.Bools.{which, same-refl, same-true, same-false, equal?, differ, and-true}
-use Rattle.lists.proofs.Keeps.{keep-in}
+use Rattle.lists.proofs.Bools.{which, same-refl, same-false, equal?, differ, and-true}
 use Rattle.planar.specs.Map.{fwd, bwd}
 use Rattle.planar.proofs.Bridges.{Either}
 use Rattle.rotation.proofs.Clock.{le-or}
@@ -19,24 +18,21 @@ use Rattle.map.specs.Darts.{bears}
 use Rattle.map.specs.Edits.{healsFaces, lowerFace, makesFace, faceLeft, renamed, removeEdge}
 use Rattle.grown.specs.Good.{Good}
 use Rattle.grown.proofs.Readings.{bears-row, has-dart}
-use Rattle.grown.proofs.EdgesReached.{Reached}
 use Rattle.grown.proofs.EdgesAdded.{faced}
-use Rattle.grown.proofs.EdgesMerged.{merged, merged-left, merged-right, merged-other, stay, stay-all, stay-one, stay-none}
-use Rattle.grown.proofs.EdgesRemove.{Merging, taken-planar, taken-reached}
+use Rattle.grown.proofs.EdgesMerged.{merged-left, merged-right, merged-other}
+use Rattle.grown.proofs.EdgesMerged.{stay, stay-all, stay-one, stay-none}
+use Rattle.grown.proofs.EdgesRemove.{Merging, taken-planar}
 use Rattle.grown.proofs.LawfulForm.{good-lawful}
 use Rattle.grown.proofs.LawfulRemove.{edge-taken}
 use Rattle.grown.proofs.RowChanges.{InPlane}
 
-not-same : (x y : ℕ) → not (same x y) ≡ true → x ≢ y
-not-same x y h = differ x y (not-true (same x y) h)
-
--- a face is made where the two differ and neither is 0
-made-facts : (news : Bool) (e : ℕ) (m : Map) → makesFace news e m ≡ true → (edge m e .left ≢ edge m e .right) × (lowerFace e m ≢ 0)
+-- a face is made only where the two differ
+made-apart : (news : Bool) (e : ℕ) (m : Map) → makesFace news e m ≡ true → edge m e .left ≢ edge m e .right
 unfolding makesFace healsFaces
-made-facts news e m q =
+made-apart news e m q =
     let k = and-true (news && not (same (edge m e .left) (edge m e .right))) (not (same (lowerFace e m) 0)) q in
     let j = and-true news (not (same (edge m e .left) (edge m e .right))) (k .0) in
-    (not-same (edge m e .left) (edge m e .right) (j .1), not-same (lowerFace e m) 0 (k .1))
+    differ (edge m e .left) (edge m e .right) (not-true (same (edge m e .left) (edge m e .right)) (j .1))
 
 module _ (news : Bool) (e : ℕ) (m : Map) (good : Good m) (has : hasEdge m e ≡ true) where
   abbrev L : ℕ
@@ -92,18 +88,6 @@ module _ (news : Bool) (e : ℕ) (m : Map) (good : Good m) (has : hasEdge m e �
     | inr q ↦ elim (left-one q) [ inl t ↦ l (p ∙ t) | inr t ↦ r (p ∙ t) ]
   ]
 
-  zero-left : (0 ≡ L) ⊎ (0 ≡ R) → g₀ ≡ 0
-  zero-left z = elim (which (makesFace news e m)) [ inl q ↦ absurd (made-facts news e m q .1 low) | inr q ↦ left-low q ∙ low ]
-    where
-      low : lowerFace e m ≡ 0
-      low = elim z [ inl p ↦ omega arith | inr p ↦ omega arith ]
-
-  zero-stays : μ 0 ≡ 0
-  zero-stays = elim (equal? 0 L) [
-    | inl p ↦ ap μ p ∙ merged-left L R g₀ ∙ zero-left (inl p)
-    | inr l ↦ elim (equal? 0 R) [ inl p ↦ ap μ p ∙ merged-right L R g₀ ∙ zero-left (inr p) | inr r ↦ merged-other L R g₀ 0 l r ]
-  ]
-
   back : ℕ → ℕ
   back h = cond (same h g₀) L h
 
@@ -121,20 +105,13 @@ module _ (news : Bool) (e : ℕ) (m : Map) (good : Good m) (has : hasEdge m e �
     ]
   ]
 
-  -- each face that is left was one before, or comes of the two
-  face-before : (g : ℕ) → List·Memᴰ g (X .faces) → (h : ℕ) × List·Memᴰ h (m .faces) × (μ h ≡ g)
-  face-before g k = go (makesFace news e m) (subst (λ (fs : List ℕ). List·Memᴰ g fs) X-faces k)
-    where
-      stayed : List·Memᴰ g (stay L R g₀ (m .faces)) → (h : ℕ) × List·Memᴰ h (m .faces) × (μ h ≡ g)
-      stayed i = let j = keep-in (λ h. same h (merged L R g₀ h)) (m .faces) i in (g, j .0, sym (same-true g (μ g) (j .1)))
-
-      go : (b : Bool) → List·Memᴰ g (cond b (stay L R g₀ (m .faces) ++ g₀ ∷ []) (stay L R g₀ (m .faces))) → (h : ℕ) × List·Memᴰ h (m .faces) × (μ h ≡ g)
-      go true i = elim (List·Memᴰ·append-cases (stay L R g₀ (m .faces)) i) [ inl j ↦ stayed j | inr j ↦ (L, in-left, merged-left L R g₀ ∙ sym (List·Memᴰ·eq-of-singleton j)) ]
-      go false i = stayed i
-
   face-count : ((bears m (fwd e) ≡ bears m (bwd e)) × (length (X .faces) ≡ length (m .faces))) ⊎ ((bears m (fwd e) ≢ bears m (bwd e)) × (length (m .faces) ≡ suc (length (X .faces))))
   face-count = elim (which (makesFace news e m)) [
-    | inl q ↦ inr (apart-sides (made-facts news e m q .0), fewer q (stay-none L R g₀ (m .faces) once in-left in-right (made-facts news e m q .0) (λ h k p. let b = faced m good .below h k in let t = p ∙ left-new q in omega arith)))
+    | inl q ↦ inr (
+      apart-sides (made-apart news e m q),
+      fewer q (stay-none L R g₀ (m .faces) once in-left in-right (made-apart news e m q)
+          (λ h k p. let b = faced m good .below h k in let t = p ∙ left-new q in omega arith)),
+    )
     | inr q ↦ elim (equal? L R) [
       | inl p ↦ inl (on-f ∙ p ∙ sym on-b, ap length (plain q ∙ stay-all L R g₀ (m .faces) once in-left in-right p (elim (left-one q) [ inl t ↦ t | inr t ↦ t ∙ sym p ])))
       | inr ne ↦ inr (apart-sides ne, stay-one L R g₀ (m .faces) once in-left in-right ne (left-one q) ∙ ap (λ (fs : List ℕ). suc (length fs)) (sym (plain q)))
@@ -158,13 +135,8 @@ module _ (news : Bool) (e : ℕ) (m : Map) (good : Good m) (has : hasEdge m e �
     one = ap μ on-f ∙ merged-left L R g₀ ∙ sym (merged-right L R g₀) ∙ sym (ap μ on-b);
     back = back;
     goes-back = goes-back;
-    zero = zero-stays;
-    faces = face-before;
     count = face-count;
   }
 
   pub planar-removed : InPlane (removeEdge news e m)
   planar-removed = taken-planar m X e μ (edge-taken m (good-lawful m good) e has news) (faced m good) merging (good .woven .planar)
-
-  pub reached-removed : Reached m → Reached (removeEdge news e m)
-  reached-removed = taken-reached m X e μ (edge-taken m (good-lawful m good) e has news) (faced m good) merging (good .woven .planar .edges-once)

@@ -2,15 +2,14 @@
 use mathlib.Core.Path.{_≡_, refl, sym, ap, _∙_, subst}
 use mathlib.Core.Logic.{_⊎_, inl, inr, _≢_}
 use mathlib.Core.Bool.{Bool, true, false, cond, not, _||_, true≢false}
-use mathlib.Core.List.{List, [], _∷_, _++_, map-id, List·Memᴰ, List·Memᴰ·cases-cons, List·Memᴰ·append-cases, List·Memᴰ·eq-of-singleton}
+use mathlib.Core.List.{List, [], _∷_, _++_, map-id, List·Memᴰ}
 use Prim.Native.Nat.{ℕ, suc, _+_, _≤_, _<_}
 use native.Mathlib.Omega.{arith}
 use lib.ListN.{length, length-append}
 use Rattle.lists.specs.Tests.{same}
 use Rattle.lists.specs.Scans.{keep}
 use Rattle.lists.specs.Members.{Distinct}
-use Rattle.lists.proofs.Bools.{same-false, same-eq, equal?, not-true}
-use Rattle.lists.proofs.Keeps.{keep-in}
+use Rattle.lists.proofs.Bools.{same-false, same-eq, not-true}
 use Rattle.lists.proofs.Perms.{perm-length}
 use Rattle.planar.specs.Map.{Dart, rev, Linked}
 use Rattle.planar.specs.Pieces.{nums}
@@ -85,9 +84,7 @@ pub record Sharing (s : Shares) (fresh : ℕ) (fs fs′ : List ℕ) : Type 0 whe
   pub differ : s .ref ≢ s .other
   pub ref-new : (s .ref ≡ s .old) ⊎ (fresh ≤ s .ref)
   pub other-new : (s .other ≡ s .old) ⊎ (fresh ≤ s .other)
-  pub faces : (g : ℕ) → List·Memᴰ g fs′ → ((g ≡ s .ref) ⊎ (g ≡ s .other)) ⊎ (List·Memᴰ g fs × (g ≢ s .old))
   pub count : length fs′ ≡ suc (length fs)
-  pub zero : s .old ≡ 0 → (s .ref ≡ 0) ⊎ (s .other ≡ 0)
 
 -- one number left out of a list that has it once
 pub length-without : (g : ℕ) (fs : List ℕ) → Distinct fs → List·Memᴰ g fs → length fs ≡ suc (length (keep (λ f. not (same f g)) fs))
@@ -101,28 +98,24 @@ abbrev pub facesOf : Bool → ℕ → ℕ → List ℕ → List ℕ
 facesOf goes old a fs = cond goes (keep (λ f. not (same f old)) fs ++ a ∷ cond goes (a + 1) old ∷ []) (fs ++ a ∷ [])
 
 module _ (old a : ℕ) (fs : List ℕ) (dis : Distinct fs) (below : (g : ℕ) → List·Memᴰ g fs → g < a) (there : List·Memᴰ old fs) (left right : List Dart) where
-  -- the numbers a and b, of which b is new or the old one
-  listed : (goes : Bool) (g : ℕ) → List·Memᴰ g (facesOf goes old a fs) → ((g ≡ a) ⊎ (g ≡ cond goes (a + 1) old)) ⊎ (List·Memᴰ g fs × (g ≢ old))
-  listed true g k = elim (List·Memᴰ·append-cases (keep (λ f. not (same f old)) fs) k) [
-    | inl i ↦ inr (kept (keep-in (λ f. not (same f old)) fs i))
-    | inr i ↦ inl (elim (List·Memᴰ·cases-cons i) [ inl p ↦ inl p | inr j ↦ inr (List·Memᴰ·eq-of-singleton j) ])
-  ]
-    where
-      kept : List·Memᴰ g fs × (not (same g old) ≡ true) → List·Memᴰ g fs × (g ≢ old)
-      kept i = (i .0, λ p. true≢false (sym (i .1) ∙ ap not (same-eq g old p)))
-  listed false g k = elim (List·Memᴰ·append-cases fs k) [ inl i ↦ elim (equal? g old) [ inl p ↦ inl (inr p) | inr ne ↦ inr (i, ne) ] | inr i ↦ inl (inl (List·Memᴰ·eq-of-singleton i)) ]
-
   counted : (goes : Bool) → length (facesOf goes old a fs) ≡ suc (length fs)
   counted true = omega (arith, length-append (keep (λ f. not (same f old)) fs) (a ∷ (a + 1) ∷ []), length-without old fs dis there)
   counted false = omega (arith, length-append fs (a ∷ []))
 
-  swap : {g x y : ℕ} {R : Type 0} → ((g ≡ x) ⊎ (g ≡ y)) ⊎ R → ((g ≡ y) ⊎ (g ≡ x)) ⊎ R
-  swap (inl (inl p)) = inl (inr p)
-  swap (inl (inr p)) = inl (inl p)
-  swap (inr r) = inr r
-
-  pub sharing : (goes isLeft : Bool) → (goes ≡ true → old ≢ 0) → Sharing (sharesOf goes isLeft old a left right) a fs (facesOf goes old a fs)
-  sharing true true h = record { differ = λ p. omega arith; ref-new = inr (omega arith); other-new = inr (omega arith); faces = listed true; count = counted true; zero = λ p. absurd (h refl p) }
-  sharing true false h = record { differ = λ p. omega arith; ref-new = inr (omega arith); other-new = inr (omega arith); faces = λ g k. swap (listed true g k); count = counted true; zero = λ p. absurd (h refl p) }
-  sharing false true h = record { differ = λ p. omega (arith, below old there); ref-new = inr (omega arith); other-new = inl refl; faces = listed false; count = counted false; zero = λ p. inr p }
-  sharing false false h = record { differ = λ p. omega (arith, below old there); ref-new = inr (omega arith); other-new = inl refl; faces = listed false; count = counted false; zero = λ p. inr p }
+  pub sharing : (goes isLeft : Bool) → Sharing (sharesOf goes isLeft old a left right) a fs (facesOf goes old a fs)
+  sharing true true =
+      record { differ = λ p. omega arith; ref-new = inr (omega arith); other-new = inr (omega arith); count = counted true }
+  sharing true false =
+      record { differ = λ p. omega arith; ref-new = inr (omega arith); other-new = inr (omega arith); count = counted true }
+  sharing false true = record {
+    differ = λ p. omega (arith, below old there);
+    ref-new = inr (omega arith);
+    other-new = inl refl;
+    count = counted false;
+  }
+  sharing false false = record {
+    differ = λ p. omega (arith, below old there);
+    ref-new = inr (omega arith);
+    other-new = inl refl;
+    count = counted false;
+  }

@@ -1,7 +1,7 @@
--- Kinds 11 and 12 where a face is split keep a map in the plane, and its faces reached. Assumes nothing.
+-- Kinds 11 and 12 where a face is split keep a map in the plane. Assumes nothing.
 use mathlib.Core.Path.{_≡_, refl, sym, ap, _∙_, subst}
 use mathlib.Core.Logic.{_⊎_, inl, inr, _≢_}
-use mathlib.Core.Bool.{Bool, true, false, cond, not, _&&_, _||_, true≢false}
+use mathlib.Core.Bool.{Bool, true, false, cond, not, _&&_, _||_}
 use mathlib.Core.List.{List, map, map-map, List·Memᴰ, List·Memᴰ·head, List·Memᴰ·tail}
 use mathlib.Core.Option.{Option, none, some}
 use Prim.Native.Nat.{ℕ, suc, _+_, _≤_, _<_}
@@ -9,15 +9,14 @@ use native.Mathlib.Omega.{arith}
 use lib.ListN.{length}
 use Rattle.lists.specs.Tests.{same}
 use Rattle.lists.specs.Members.{Distinct}
-use Rattle.lists.proofs.Bools.{same-refl, same-false, same-eq, equal?, or-right}
+use Rattle.lists.proofs.Bools.{same-refl, same-false, equal?, or-right}
 use Rattle.lists.proofs.Members.{map-cong}
 use Rattle.integers.specs.Order.{sgn}
 use Rattle.plane.specs.Areas.{isPositive}
 use Rattle.curves.specs.Curves.{Curve}
-use Rattle.planar.specs.Map.{Arc, Dart, fwd, bwd, rev, darts, Linked}
+use Rattle.planar.specs.Map.{Dart, fwd, bwd, Linked}
 use Rattle.planar.specs.Planar.{Planar}
 use Rattle.planar.proofs.Cycles.{Grown}
-use Rattle.planar.proofs.Rings.{rev-in}
 use Rattle.planar.proofs.Hooks.{with-fwd, with-bwd}
 use Rattle.map.specs.Rows.{Node, Map, hasNode, atNodes, atEdge}
 use Rattle.map.specs.Darts.{arcs, directed, leaves, next, bears, ring, among}
@@ -26,12 +25,11 @@ use Rattle.map.specs.Faces.{ringArea}
 use Rattle.map.specs.Edits.{Shares, withSides, drawn, sideOfDart, sideOfNode, sideOfPoint, sharedOut, splitFace}
 use Rattle.grown.proofs.Readings.{arcOf, number-has}
 use Rattle.grown.proofs.RowChanges.{nodeNumber, noNode, InPlane}
-use Rattle.grown.proofs.EdgesReached.{Reached, even-darts, darts-even}
-use Rattle.grown.proofs.EdgesSides.{sides-arcs, sides-bears, sides-planar}
+use Rattle.grown.proofs.EdgesSides.{sides-bears, sides-planar}
 use Rattle.grown.proofs.EdgesShared.{side-new, side-old, side-keeps, side-x, side-rev, apart-rev, Sharing, sharesOf, facesOf, sharing}
 use Rattle.grown.proofs.EdgesDrawn.{drawnRow}
 use Rattle.grown.proofs.EdgesCorners.{nodeNumbers}
-use Rattle.grown.proofs.EdgesJoined.{Draws, all-D, D-still, D-kept, D-bears, D-faces, D-linked, D-once, D-split}
+use Rattle.grown.proofs.EdgesJoined.{Draws, all-D, D-kept, D-bears, D-faces, D-linked, D-once, D-split}
 
 -- what the faces of a map give
 pub record Faced (m : Map) : Type 0 where
@@ -46,10 +44,6 @@ side-number m s n (some f) = go (same f (s .old))
     go : (b : Bool) → cond b (record { number = n .number; at = n .at; face = some (sideOfPoint m s (n .at)) }) n .number ≡ n .number
     go true = refl
     go false = refl
-
-goes-old : (news : Bool) (old : ℕ) → news && not (same old 0) ≡ true → old ≢ 0
-goes-old true old h p = true≢false (sym h ∙ ap not (same-eq old 0 p))
-goes-old false old h p = true≢false (sym h)
 
 module _ (news : Bool) (m : Map) (u v : ℕ) (c : Curve) (φ : ℕ) (draws : Draws m u v c φ) (faced : Faced m) (there : List·Memᴰ φ (m .faces)) (split : among (ring (drawn u v c φ m) (fwd (m .nextEdge))) (bwd (m .nextEdge)) ≡ false) where
   abbrev D : Map
@@ -101,7 +95,9 @@ module _ (news : Bool) (m : Map) (u v : ℕ) (c : Curve) (φ : ℕ) (draws : Dra
   -- ---- the sides
 
   shared : Sharing s (D .nextFace) (m .faces) (facesOf goes old (D .nextFace) (m .faces))
-  shared = sharing old (D .nextFace) (m .faces) (faced .once) (λ g k. let h = faced .below g k in let q = next-face in omega arith) (subst (λ (g : ℕ). List·Memᴰ g (m .faces)) (sym on-f) there) (ring D f) (ring D b) goes isLeft (goes-old news old)
+  shared = sharing old (D .nextFace) (m .faces) (faced .once)
+      (λ g k. let h = faced .below g k in let q = next-face in omega arith)
+      (subst (λ (g : ℕ). List·Memᴰ g (m .faces)) (sym on-f) there) (ring D f) (ring D b) goes isLeft
 
   -- the two ways of the edge have the two numbers, one way or the other
   two-sides : ((new f ≡ s .ref) × (new b ≡ s .other)) ⊎ ((new f ≡ s .other) × (new b ≡ s .ref))
@@ -187,44 +183,3 @@ module _ (news : Bool) (m : Map) (u v : ℕ) (c : Curve) (φ : ℕ) (draws : Dra
   split-planar has-u has-v o = subst (λ (k : ℕ). Planar (nodeNumbers X) (arcs X) (leaves X) (next X) (bears X) k) (sym (ap length X-faces ∙ shared .count))
       (subst (λ (ns : List ℕ). Planar ns (arcs X) (leaves X) (next X) (bears X) (suc (length (m .faces)))) (sym X-nodes)
       (sides-planar D X (λ e. new (fwd (e .number))) (λ e. new (bwd (e .number))) X-edges X-bears (D-split m u v c φ draws o (number-has nodeNumber noNode (m .nodes) u has-u) (number-has nodeNumber noNode (m .nodes) v has-v) new back grown new-apart new-keeps)))
-
-  in-X : {d : Dart} → List·Memᴰ d (directed D) → List·Memᴰ d (directed X)
-  in-X {d} k = subst (λ (es : List Arc). List·Memᴰ d (darts es)) (sym (sides-arcs D X (λ e. new (fwd (e .number))) (λ e. new (bwd (e .number))) X-edges)) k
-
-  pub split-reached : Reached m → Reached (splitFace news (m .nextEdge) (drawn u v c φ m))
-  split-reached reached S even g i = elim (shared .faces g (subst (λ (l : List ℕ). List·Memᴰ g l) X-faces i)) [
-    | inl (inl p) ↦ ap S p ∙ sym at-φ ∙ all φ there
-    | inl (inr p) ↦ ap S p ∙ sym sides ∙ sym at-φ ∙ all φ there
-    | inr q ↦ sym (at-other g (λ p. q .1 (p ∙ sym on-f))) ∙ all g (q .0)
-  ]
-    where
-      -- S on the old faces
-      S₀ : ℕ → Bool
-      S₀ g = cond (same g φ) (S (s .ref)) (S g)
-
-      at-φ : S₀ φ ≡ S (s .ref)
-      at-φ = ap (λ x. cond x (S (s .ref)) (S φ)) (same-refl φ)
-
-      at-other : (g : ℕ) → g ≢ φ → S₀ g ≡ S g
-      at-other g ne = ap (λ x. cond x (S (s .ref)) (S g)) (same-false g φ ne)
-
-      sides : S (s .ref) ≡ S (s .other)
-      sides = elim two-sides [
-        | inl q ↦ ap S (sym (q .0) ∙ sym (X-bears f in-f)) ∙ even-darts X S even f (in-X in-f) ∙ ap S (X-bears b in-b ∙ q .1)
-        | inr q ↦ ap S (sym (q .1) ∙ sym (X-bears b in-b)) ∙ even-darts X S even b (in-X in-b) ∙ ap S (X-bears f in-f ∙ q .0)
-      ]
-
-      same-side : (d : Dart) → List·Memᴰ d (directed m) → S₀ (bears m d) ≡ S (bears X d)
-      same-side d k = elim (old-side d k) [
-        | inl q ↦ ap S₀ (q .0) ∙ at-φ ∙ elim (q .1) [ inl p ↦ ap S (sym p) | inr p ↦ sides ∙ ap S (sym p) ] ∙ ap S (sym (X-bears d (D-still m u v c φ draws k)))
-        | inr q ↦ at-other (bears m d) (q .0) ∙ ap S (sym (q .1) ∙ sym (X-bears d (D-still m u v c φ draws k)))
-      ]
-
-      zero : S₀ 0 ≡ S 0
-      zero = elim (equal? 0 φ) [
-        | inl p ↦ ap S₀ p ∙ at-φ ∙ elim (shared .zero (on-f ∙ sym p)) [ inl q ↦ ap S q | inr q ↦ sides ∙ ap S q ]
-        | inr ne ↦ at-other 0 ne
-      ]
-
-      all : (g : ℕ) → List·Memᴰ g (m .faces) → S₀ g ≡ S 0
-      all g k = reached S₀ (darts-even m (draws .once) S₀ (λ d k. same-side d k ∙ even-darts X S even d (in-X (D-still m u v c φ draws k)) ∙ sym (same-side (rev d) (rev-in (arcs m) k)))) g k ∙ zero

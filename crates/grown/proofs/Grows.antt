@@ -22,12 +22,11 @@ use Rattle.map.proofs.RoundTrip.{whole-rows, whole-tables}
 use Rattle.grown.specs.Good.{Good, Fits}
 use Rattle.grown.specs.Claims.{GrownMap, Grows, Limited, NeverLent}
 use Rattle.grown.proofs.Reasons.{no-reason}
-use Rattle.grown.proofs.EdgesReached.{Reached}
 use Rattle.grown.proofs.LawfulForm.{law-is}
 use Rattle.grown.proofs.Carried.{fits-kept}
 use Rattle.grown.proofs.Sounds.{good-sound}
 use Rattle.grown.proofs.Ranges.{good-back, sizes-back, good-in-form, good-whole}
-use Rattle.grown.proofs.Growth.{good-kept, reached-kept, empty-good, empty-reached}
+use Rattle.grown.proofs.Growth.{good-kept, empty-good}
 
 -- ---- what is carried from ticket to ticket
 
@@ -35,13 +34,12 @@ use Rattle.grown.proofs.Growth.{good-kept, reached-kept, empty-good, em
 pub record State (s : Sizes) (l : Lent) : Type 0 where
   pub map : Map
   pub good : Good map
-  pub reached : Reached map
   pub fits : Fits s map
   pub lent : l ≡ lentOf s map
 
-module _ (s : Sizes) (m : Map) (g : Good m) (r : Reached m) (f : Fits s m) where
+module _ (s : Sizes) (m : Map) (g : Good m) (f : Fits s m) where
   pub here : State s (lentOf s m)
-  here = record { map = m; good = g; reached = r; fits = f; lent = refl }
+  here = record { map = m; good = g; fits = f; lent = refl }
 
   -- what nothing turns down in the tables nothing turns down in the map
   pub free : (t : Ticket) → firstReason (lentReasons (lentOf s m) ++ reasons (sizesOf (lentOf s m)) (mapOf (lentOf s m)) t) ≡ 0 → firstReason (reasons s m t) ≡ 0
@@ -54,8 +52,7 @@ module _ (s : Sizes) (m : Map) (g : Good m) (r : Reached m) (f : Fits s m) where
   carry : (t : Ticket) (n : ℕ) → firstReason (lentReasons (lentOf s m) ++ reasons (sizesOf (lentOf s m)) (mapOf (lentOf s m)) t) ≡ n → State s (unless (lentOf s m) n (carried (mapOf (lentOf s m)) t) .lent)
   carry t zero h = record {
     map = carried m t .0;
-    good = good-kept s m g r t (free t h);
-    reached = reached-kept s m g r t (free t h);
+    good = good-kept s m g t (free t h);
     fits = fits-kept s m g t (free t h) f;
     lent = ap₂ (λ (z : Sizes) (x : Map). lentOf z (carried x t .0)) (sizes-back m g s f) (good-back m g s);
   }
@@ -68,7 +65,8 @@ module _ (s : Sizes) (m : Map) (g : Good m) (r : Reached m) (f : Fits s m) where
 -- one ticket
 step : (s : Sizes) (l : Lent) (t : List ℤ) → State s l → State s (ticket l t .lent)
 unfolding ticket
-step s l t x = subst (λ (k : Lent). State s (judged k (mapOf k) (read t) .lent)) (sym (x .lent)) (judge s (x .map) (x .good) (x .reached) (x .fits) (read t))
+step s l t x = subst (λ (k : Lent). State s (judged k (mapOf k) (read t) .lent)) (sym (x .lent))
+    (judge s (x .map) (x .good) (x .fits) (read t))
 
 -- a list of tickets
 pub steps : (s : Sizes) (l : Lent) (ts : List (List ℤ)) → State s l → State s (after l ts .lent)
@@ -78,7 +76,8 @@ steps s l (t ∷ ts) x = steps s (ticket l t .lent) ts (step s l t x)
 
 pub grown-state : (s : Sizes) → 1 ≤ s .faces → (ts : List (List ℤ)) → State s (grow s ts .lent)
 unfolding grow
-grown-state s h ts = steps s (lentOf s emptyMap) ts (here s emptyMap empty-good empty-reached (record { nodes = omega arith; edges = omega arith; faces = h }))
+grown-state s h ts = steps s (lentOf s emptyMap) ts
+    (here s emptyMap empty-good (record { nodes = omega arith; edges = omega arith; faces = h }))
 
 -- whole tables are within the limits
 pub whole-limited : (l : Lent) → whole l ≡ true → Limited (sizesOf l)

@@ -1,5 +1,5 @@
 -- A ticket that nothing turns down leaves a good map good, for all fourteen kinds; the empty map is good. Assumes nothing.
-use mathlib.Core.Path.{_≡_, refl, ap}
+use mathlib.Core.Path.{_≡_, refl}
 use mathlib.Core.Bool.{true, false}
 use mathlib.Core.List.{List·Memᴰ·not-nil, List·Memᴰ·eq-of-singleton}
 use native.Mathlib.Omega.{arith}
@@ -14,28 +14,27 @@ use Rattle.map.specs.Ticket.{carried}
 use Rattle.map.specs.Opened.{opened}
 use Rattle.grown.specs.Good.{Good, Numbered, Woven, Surveyed}
 use Rattle.grown.proofs.Reasons.{add-node, move-node, remove-node, add-lone, remove-lone, change, split-new, split-mod, heal-new, heal-mod, add-new, add-mod, remove-new, remove-mod}
-use Rattle.grown.proofs.Carried.{numbered-kept}
+use Rattle.grown.proofs.Carried.{ranked-kept, numbered-kept}
 use Rattle.grown.proofs.CurvesKinds.{surveyed-1, surveyed-2, surveyed-3, surveyed-4, surveyed-5, surveyed-6, surveyed-7, surveyed-8, surveyed-add, surveyed-remove}
 use Rattle.grown.proofs.CurvesHeal.{surveyed-9, surveyed-10}
 use Rattle.grown.proofs.RowChanges.{InPlane}
 use Rattle.grown.proofs.LawfulForm.{Lawful, good-lawful}
 use Rattle.grown.proofs.LawfulKept.{carried-obeys}
-use Rattle.grown.proofs.Changes.{planar-1, reached-1, planar-2, reached-2, planar-3, reached-3, planar-6, reached-6}
-use Rattle.grown.proofs.SplitsPlane.{planar-7, reached-7, planar-8, reached-8}
-use Rattle.grown.proofs.HealsPlane.{planar-9, reached-9, planar-10, reached-10}
-use Rattle.grown.proofs.EdgesReached.{Reached, reached-borne}
-use Rattle.grown.proofs.EdgesAdd.{planar-4, reached-4}
-use Rattle.grown.proofs.EdgesAdded.{planar-added, reached-added}
-use Rattle.grown.proofs.EdgesRemove.{planar-5, reached-5}
-use Rattle.grown.proofs.EdgesRemoved.{planar-removed, reached-removed}
+use Rattle.grown.proofs.Changes.{planar-1, planar-2, planar-3, planar-6}
+use Rattle.grown.proofs.SplitsPlane.{planar-7, planar-8}
+use Rattle.grown.proofs.HealsPlane.{planar-9, planar-10}
+use Rattle.grown.proofs.EdgesReached.{plane-reached, reached-borne}
+use Rattle.grown.proofs.EdgesAdd.{planar-4}
+use Rattle.grown.proofs.EdgesAdded.{planar-added}
+use Rattle.grown.proofs.EdgesRemove.{planar-5}
+use Rattle.grown.proofs.EdgesRemoved.{planar-removed}
 
 -- links and face numbers, and curves
 record Kept (m : Map) : Type 0 where
   planar : InPlane m
-  reached : Reached m
   surveyed : Surveyed m
 
-module _ (s : Sizes) (m : Map) (g : Good m) (r : Reached m) where
+module _ (s : Sizes) (m : Map) (g : Good m) where
   abbrev L : Lawful m
   L = good-lawful m g
 
@@ -45,69 +44,76 @@ module _ (s : Sizes) (m : Map) (g : Good m) (r : Reached m) where
   kept : (t : Ticket) → firstReason (reasons s m t) ≡ 0 → Kept (carried m t .0)
   unfolding carried
   kept (AddIsoNode f x y) h =
-      record { planar = planar-1 m (point x y) L o; reached = reached-1 m (point x y) r; surveyed = surveyed-1 m g s (point x y) (add-node s m f x y h) }
+      record { planar = planar-1 m (point x y) L o; surveyed = surveyed-1 m g s (point x y) (add-node s m f x y h) }
   kept (MoveIsoNode n x y) h =
-      record { planar = planar-2 m (natAbs n) (point x y) o; reached = reached-2 m (natAbs n) (point x y) r; surveyed = surveyed-2 m g (natAbs n) (point x y) (move-node s m n x y h) }
+      record {
+        planar = planar-2 m (natAbs n) (point x y) o;
+        surveyed = surveyed-2 m g (natAbs n) (point x y) (move-node s m n x y h);
+      }
   kept (RemoveIsoNode n) h =
       let k = remove-node s m n h in
-      record { planar = planar-3 m (natAbs n) L o (k .has) (k .isolated); reached = reached-3 m (natAbs n) r; surveyed = surveyed-3 m g (natAbs n) k }
+      record { planar = planar-3 m (natAbs n) L o (k .has) (k .isolated); surveyed = surveyed-3 m g (natAbs n) k }
   kept (AddIsoEdge u v c) h =
       let k = add-lone s m u v c h in
       record {
         planar = planar-4 s m (natAbs u) (natAbs v) (curveOf c) L k o;
-        reached = reached-4 s m (natAbs u) (natAbs v) (curveOf c) L k r;
         surveyed = surveyed-4 m g s (natAbs u) (natAbs v) (curveOf c) k;
       }
   kept (RemoveIsoEdge e) h =
       let k = remove-lone s m e h in
-      record { planar = planar-5 m (natAbs e) g k; reached = reached-5 m (natAbs e) g k r; surveyed = surveyed-5 m g (natAbs e) }
+      record { planar = planar-5 m (natAbs e) g k; surveyed = surveyed-5 m g (natAbs e) }
   kept (ChangeEdgeGeom e c) h =
       let k = change s m e c h in
-      record { planar = planar-6 m (natAbs e) (curveOf c) o; reached = reached-6 m (natAbs e) (curveOf c) r; surveyed = surveyed-6 m g (natAbs e) (curveOf c) k }
+      record { planar = planar-6 m (natAbs e) (curveOf c) o; surveyed = surveyed-6 m g (natAbs e) (curveOf c) k }
   kept (NewEdgesSplit e x y) h =
       let k = split-new s m e x y h in
-      record { planar = planar-7 m L s (natAbs e) (point x y) k o; reached = reached-7 m L s (natAbs e) (point x y) k r; surveyed = surveyed-7 m g 2 s (natAbs e) (point x y) k }
+      record {
+        planar = planar-7 m L s (natAbs e) (point x y) k o;
+        surveyed = surveyed-7 m g 2 s (natAbs e) (point x y) k;
+      }
   kept (ModEdgeSplit e x y) h =
       let k = split-mod s m e x y h in
-      record { planar = planar-8 m L s (natAbs e) (point x y) k o; reached = reached-8 m L s (natAbs e) (point x y) k r; surveyed = surveyed-8 m g 1 s (natAbs e) (point x y) k }
+      record {
+        planar = planar-8 m L s (natAbs e) (point x y) k o;
+        surveyed = surveyed-8 m g 1 s (natAbs e) (point x y) k;
+      }
   kept (NewEdgeHeal e f) h =
       let k = heal-new s m e f h .0 in
-      record { planar = planar-9 m L (natAbs e) (natAbs f) k o; reached = reached-9 m L (natAbs e) (natAbs f) k r; surveyed = surveyed-9 m g (natAbs e) (natAbs f) k }
+      record { planar = planar-9 m L (natAbs e) (natAbs f) k o; surveyed = surveyed-9 m g (natAbs e) (natAbs f) k }
   kept (ModEdgeHeal e f) h =
       let k = heal-mod s m e f h in
-      record { planar = planar-10 m L (natAbs e) (natAbs f) k o; reached = reached-10 m L (natAbs e) (natAbs f) k r; surveyed = surveyed-10 m g (natAbs e) (natAbs f) k }
+      record { planar = planar-10 m L (natAbs e) (natAbs f) k o; surveyed = surveyed-10 m g (natAbs e) (natAbs f) k }
   kept (AddEdgeNewFaces u v c) h =
       let k = add-new s m u v c h in
       record {
         planar = planar-added true s m (natAbs u) (natAbs v) (curveOf c) g k;
-        reached = reached-added true s m (natAbs u) (natAbs v) (curveOf c) g k r;
         surveyed = surveyed-add m g true s (natAbs u) (natAbs v) (curveOf c) k;
       }
   kept (AddEdgeModFace u v c) h =
       let k = add-mod s m u v c h in
       record {
         planar = planar-added false s m (natAbs u) (natAbs v) (curveOf c) g k;
-        reached = reached-added false s m (natAbs u) (natAbs v) (curveOf c) g k r;
         surveyed = surveyed-add m g false s (natAbs u) (natAbs v) (curveOf c) k;
       }
   kept (RemEdgeNewFace e) h =
       let k = remove-new s m e h .has in
-      record { planar = planar-removed true (natAbs e) m g k; reached = reached-removed true (natAbs e) m g k r; surveyed = surveyed-remove m g true (natAbs e) }
+      record { planar = planar-removed true (natAbs e) m g k; surveyed = surveyed-remove m g true (natAbs e) }
   kept (RemEdgeModFace e) h =
       let k = remove-mod s m e h in
-      record { planar = planar-removed false (natAbs e) m g k; reached = reached-removed false (natAbs e) m g k r; surveyed = surveyed-remove m g false (natAbs e) }
+      record { planar = planar-removed false (natAbs e) m g k; surveyed = surveyed-remove m g false (natAbs e) }
 
   -- the map after it is good
   pub good-kept : (t : Ticket) → firstReason (reasons s m t) ≡ 0 → Good (carried m t .0)
   good-kept t h = record { numbered = numbered-kept s m g t h woven; woven = woven; surveyed = kept t h .surveyed }
     where
-      -- the law is kept on all tables, and a face that is reached is borne
+      -- the law is kept on all tables, and each face is reached, hence borne
       woven : Woven (carried m t .0)
-      woven = record { planar = kept t h .planar; law = carried-obeys s m L t h; borne = reached-borne (carried m t .0) (kept t h .planar .edges-once) (kept t h .reached) }
-
-  -- and from face 0 every face is still reached
-  pub reached-kept : (t : Ticket) → firstReason (reasons s m t) ≡ 0 → Reached (carried m t .0)
-  reached-kept t h = kept t h .reached
+      woven = record {
+        planar = kept t h .planar;
+        law = carried-obeys s m L t h;
+        borne =
+            reached-borne (carried m t .0) (plane-reached (carried m t .0) (kept t h .planar) (ranked-kept s m g t h));
+      }
 
 -- ---- the empty map
 
@@ -131,6 +137,3 @@ empty-good = record {
     places = tt;
   };
 }
-
-pub empty-reached : Reached emptyMap
-empty-reached S even f k = ap S (List·Memᴰ·eq-of-singleton k)

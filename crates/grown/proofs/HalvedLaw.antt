@@ -8,7 +8,7 @@ use Rattle.lists.specs.Tests.{same}
 use Rattle.lists.proofs.Bools.{same-true, same-eq, equal?}
 use Rattle.lists.proofs.Keeps.{keep-in, keep-has}
 use Rattle.plane.specs.Directions.{Way, sameWay}
-use Rattle.planar.specs.Map.{Arc, Dart, fwd, bwd, rev, darts}
+use Rattle.planar.specs.Map.{Arc, Dart, rev}
 use Rattle.planar.specs.Rings.{sameDart}
 use Rattle.planar.proofs.Rings.{rev-in}
 use Rattle.planar.proofs.Hooks.{sameDart?}
@@ -22,7 +22,8 @@ use Rattle.rotation.proofs.Node.{first-in}
 use Rattle.rotation.proofs.Halves.{Halves, split-law, heal-law}
 use Rattle.rotation.proofs.Ties.{tells}
 use Rattle.grown.proofs.LawOrder.{law-order-at, law-order, law-alike}
-use Rattle.grown.proofs.Halved.{Halved, departs, whole, halved, each-whole, each-halved, f-fwd, f-bwd, f-old, turned, joint-c, joint-d, f-in, kind, f-one, joint-differs}
+use Rattle.grown.proofs.Halved.{Halved, departs, whole, halved, turned, f-in, f-one, kind}
+use Rattle.grown.proofs.Halved.{joint-c, joint-d, joint-differs}
 
 -- of two departures alone at a node, the one that is not a
 pub lawful-other : {D : Type 0} (way : D → Way) (is : D → D → Bool) → Tells is → (ds : List D) (a b : D) → List·Memᴰ b ds → b ≢ a → ((c : D) → List·Memᴰ c ds → (c ≡ a) ⊎ (c ≡ b)) → lawfulNext way is a ds ≡ b
@@ -156,31 +157,3 @@ module _ (h : ℕ) (c d : Dart) (s n t : ℕ) (r : List Arc) {tail tail′ : Dar
       (heal-law sameDart tells (departs h c d) tail tail′ (λ z. way′ (departs h c d z)) way′ (back rev next) (back rev next′) all n (rev c) d names
       (λ z k. of-whole (next (rev z)) (H .into (rev z) (rev-in (arc h s t ∷ r) (in-whole z k))))
       (law-order sameDart tells tail′ way′ all′ listed to-listed of-listed (back rev next′) apart l))
-
-  -- ---- faces
-
-  face-whole : face′ c ≡ face (fwd h)
-  face-whole = ap face′ (sym (f-fwd h c d s n t r (H .fresh) (H .once))) ∙ H .faces (fwd h) (List·Memᴰ·head refl)
-
-  face-back : face′ (rev d) ≡ face (bwd h)
-  face-back = ap face′ (sym (f-bwd h c d s n t r (H .fresh) (H .once))) ∙ H .faces (bwd h) (List·Memᴰ·tail (List·Memᴰ·head refl))
-
-  face-old : (z : Dart) → List·Memᴰ z (darts r) → face′ z ≡ face z
-  face-old z m = ap face′ (sym (f-old h c d s n t r (H .fresh) (H .once) z m)) ∙ H .faces z (List·Memᴰ·tail (List·Memᴰ·tail m))
-
-  -- a set of faces with both or no side of each half has both or no side of each whole edge, and the other way round
-  pub split-sides : (S : ℕ → Bool) → ((z : Dart) → List·Memᴰ z all′ → S (face′ z) ≡ S (face′ (rev z))) → (z : Dart) → List·Memᴰ z all → S (face z) ≡ S (face (rev z))
-  split-sides S g z k = each-whole h c d s n t r (H .fresh) (H .once) (λ z. S (face z) ≡ S (face (rev z))) both (sym both)
-      (λ z m. ap S (sym (face-old z m)) ∙ g z (of-halved z (List·Memᴰ·tail (List·Memᴰ·tail (List·Memᴰ·tail (List·Memᴰ·tail m))))) ∙ ap S (face-old (rev z) (rev-in r m))) z (in-whole z k)
-    where
-      both : S (face (fwd h)) ≡ S (face (bwd h))
-      both = ap S (sym (H .face-d)) ∙ g d (of-halved d (joint-d h c d s n t r (H .fresh) (H .once))) ∙ ap S face-back
-
-  pub heal-sides : (S : ℕ → Bool) → ((z : Dart) → List·Memᴰ z all → S (face z) ≡ S (face (rev z))) → (z : Dart) → List·Memᴰ z all′ → S (face′ z) ≡ S (face′ (rev z))
-  heal-sides S g z k = each-halved h c d s n t r (H .fresh) (H .once) (λ z. S (face′ z) ≡ S (face′ (rev z)))
-      (ap S face-whole ∙ both ∙ ap S (sym (H .face-c))) (ap S (H .face-c) ∙ sym both ∙ ap S (sym face-whole) ∙ ap (λ z. S (face′ z)) (sym (rev-rev c)))
-      (ap S (H .face-d) ∙ both ∙ ap S (sym face-back)) (ap S face-back ∙ sym both ∙ ap S (sym (H .face-d)) ∙ ap (λ z. S (face′ z)) (sym (rev-rev d)))
-      (λ z m. ap S (face-old z m) ∙ g z (of-whole z (List·Memᴰ·tail (List·Memᴰ·tail m))) ∙ ap S (sym (face-old (rev z) (rev-in r m)))) z (in-halved z k)
-    where
-      both : S (face (fwd h)) ≡ S (face (bwd h))
-      both = g (fwd h) (of-whole (fwd h) (List·Memᴰ·head refl))

@@ -1,4 +1,4 @@
--- Kinds 9 and 10: a heal keeps a map in the plane, and its faces reached. Assumes nothing.
+-- Kinds 9 and 10: a heal keeps a map in the plane. Assumes nothing.
 use mathlib.Core.Path.{_≡_, refl, sym, ap, _∙_, subst}
 use mathlib.Core.Logic.{inl, inr, _≢_}
 use mathlib.Core.Bool.{true, false}
@@ -15,18 +15,15 @@ use Rattle.planar.proofs.Cycles.{fwd-in, bwd-in}
 use Rattle.planar.proofs.Moves.{planar-perm}
 use Rattle.planar.proofs.Splitting.{tail-in}
 use Rattle.map.specs.Rows.{Edge, Map, edge, atEdge, withoutNode, withoutEdge}
-use Rattle.map.specs.Darts.{arcs, directed, leaves, next, bears}
+use Rattle.map.specs.Darts.{arcs, leaves, next, bears}
 use Rattle.map.specs.Links.{redirect}
 use Rattle.map.specs.Edits.{joint, parts, heal}
 use Rattle.grown.proofs.Readings.{arcOf, numberOf, edge-row, has-number}
 use Rattle.grown.proofs.RowChanges.{nodeNumber, InPlane}
 use Rattle.grown.proofs.Reasons.{Heal}
 use Rattle.grown.proofs.Joint.{Seamed}
-use Rattle.grown.proofs.RowDarts.{dart-move}
 use Rattle.grown.proofs.Changes.{planar-nodes, node-first}
-use Rattle.grown.proofs.HalvedLaw.{heal-sides}
 use Rattle.grown.proofs.Heals.{heal-planar}
-use Rattle.grown.proofs.EdgesReached.{Reached, even-darts, darts-even}
 use Rattle.grown.proofs.LawfulForm.{Lawful}
 use Rattle.grown.proofs.LawfulWhole.{Healed, arcs-m, arcs-m′, old-m, old-c, old-d, halves}
 use Rattle.grown.proofs.LawfulHeal.{seam, new-f, new-healed, kept-healed}
@@ -49,11 +46,6 @@ module _ (m : Map) (L : Lawful m) (e f n : ℕ) (c d : Dart) (s : Seamed m e f n
   planar-whole nodes not-f new-f o = subst (λ (k : ℕ). Planar (map nodeNumber (m′ .nodes)) (arcs m′) (leaves m′) (next m′) (bears m′) k) (ap length (sym faces))
       (planar-perm (Permᴰ·symm (arcs-m′ m L e f n c d s m′ h rest q)) (heal-planar h f c d (leaves m c) n (leaves m (rev d)) r (halves m L e f n c d s m′ h rest q) not-f new-f
       (planar-nodes nodes (planar-perm (arcs-m m L e f n c d s m′ h rest q) o)) lone (s .from) (s .to)))
-
-  reached-whole : Reached m → Reached m′
-  reached-whole reached S even φ k = reached S
-      (darts-even m (L .once) S (heal-sides h c d (leaves m c) n (leaves m (rev d)) r (halves m L e f n c d s m′ h rest q) (directed m′) (directed m) (dart-move (arcs-m′ m L e f n c d s m′ h rest q)) (dart-move (Permᴰ·symm (arcs-m′ m L e f n c d s m′ h rest q)))
-      (dart-move (arcs-m m L e f n c d s m′ h rest q)) (dart-move (Permᴰ·symm (arcs-m m L e f n c d s m′ h rest q))) S (even-darts m′ S even))) φ (subst (List·Memᴰ φ) faces k)
 
 -- ---- the kinds
 
@@ -80,14 +72,6 @@ module _ (m : Map) (L : Lawful m) (e f : ℕ) (q : Heal m e f) where
   unfolding heal redirect
   planar-9 o = planar-whole m L e f n₀ c₀ d₀ (seam m L e f q) (heal false e f m) (m .nextEdge) others (new-healed m L e f q) refl (nodes o) (λ p. omega (arith, f-below, p)) (new-f m L e f q) o
 
-  pub reached-9 : Reached m → Reached (heal false e f m)
-  unfolding heal redirect
-  reached-9 = reached-whole m L e f n₀ c₀ d₀ (seam m L e f q) (heal false e f m) (m .nextEdge) others (new-healed m L e f q) refl
-
   pub planar-10 : InPlane m → InPlane (heal true e f m)
   unfolding heal redirect atEdge
   planar-10 o = planar-whole m L e f n₀ c₀ d₀ (seam m L e f q) (heal true e f m) e others (kept-healed m L e f q) refl (nodes o) (λ p. q .differ (sym p)) (new-f m L e f q) o
-
-  pub reached-10 : Reached m → Reached (heal true e f m)
-  unfolding heal redirect atEdge
-  reached-10 = reached-whole m L e f n₀ c₀ d₀ (seam m L e f q) (heal true e f m) e others (kept-healed m L e f q) refl

@@ -24,11 +24,12 @@ use Rattle.rotation.proofs.Ties.{tells}
 use Rattle.map.specs.Rows.{Map, edge, hasEdge, Node, Edge, atNodes}
 use Rattle.map.specs.Darts.{arcs, directed, leaves, next, bears, way, edgeEnds}
 use Rattle.map.specs.Links.{instead, redirect, unlinkEdge}
-use Rattle.grown.proofs.Readings.{Relinked, relinked-join, redirect-relinked, redirect-next, tailIn, nextIn, faceIn, courseIn, leaves-row, next-row, bears-row, course-row, way-row, edge-row, dart-has, has-dart}
+use Rattle.grown.proofs.Readings.{Relinked, relinked-join, redirect-relinked, redirect-next}
+use Rattle.grown.proofs.Readings.{tailIn, nextIn, faceIn, courseIn, leaves-row, next-row, bears-row, course-row}
+use Rattle.grown.proofs.Readings.{way-row, edge-row, bears-left, bears-right, dart-has, has-dart}
 use Rattle.grown.proofs.RowChanges.{less-edge, less-directed, less-perm}
 use Rattle.grown.proofs.LawOrder.{law-order}
 use Rattle.grown.proofs.EdgesLaw.{from-in, from-has, law-agree, differ-part}
-use Rattle.grown.proofs.EdgesReached.{bears-left, bears-right}
 use Rattle.grown.proofs.EdgesCorners.{nodeNumbers, numbers-kept}
 use mathlib.Core.Option.{Option, none, some}
 use Rattle.lists.proofs.Members.{map-cong}

@@ -60,7 +60,8 @@ pub mod LawfulAdd
 pub mod LawfulRemove
 pub mod LawfulKept
 pub mod LawfulTables
--- a map in the plane stays one, and its faces reached: kinds 1, 2, 3 and 6 (`Changes`), 7 and 8, 9 and 10, 4 and 11 and 12 (`EdgesAdd`, `EdgesSplit`, `EdgesAdded`), 5 (`EdgesRemove`), 13 and 14 (`EdgesRemoved`)
+-- a map in the plane stays one: kinds 1, 2, 3 and 6 (`Changes`), 7 and 8, 9 and 10, 4 and 11 and 12 (`EdgesAdd`,
+-- `EdgesSplit`, `EdgesAdded`), 5 (`EdgesRemove`), 13 and 14 (`EdgesRemoved`)
 pub mod Renumber
 pub mod Changes
 pub mod Splits

@@ -193,6 +193,14 @@ module _ (m : Map) where
   unfolding edge
   edge-at dis k = look-at numberOf _ (m .edges) (subst Distinct (nums-rows m) dis) k
 
+  -- its two ways bear its two sides
+  pub bears-left : {r : Edge} → Distinct (nums (arcs m)) → List·Memᴰ r (m .edges) → bears m (fwd (r .number)) ≡ r .left
+  bears-left {r} dis k = bears-row m (fwd (r .number)) ∙ ap (λ (e : Edge). e .left) (edge-at dis k)
+
+  pub bears-right : {r : Edge} → Distinct (nums (arcs m)) → List·Memᴰ r (m .edges)
+      → bears m (bwd (r .number)) ≡ r .right
+  bears-right {r} dis k = bears-row m (bwd (r .number)) ∙ ap (λ (e : Edge). e .right) (edge-at dis k)
+
   pub arc-at : {r : Edge} → List·Memᴰ r (m .edges) → List·Memᴰ (arcOf r) (arcs m)
   arc-at k = Memᴰ·map arcOf k
 

@@ -44,7 +44,6 @@ use Rattle.grown.specs.Claims.{
 }
 use Rattle.grown.proofs.Readings.{numberOf, nums-rows}
 use Rattle.grown.proofs.Reasons.{no-reason, Split, split-new, split-mod}
-use Rattle.grown.proofs.EdgesReached.{Reached}
 use Rattle.grown.proofs.Carried.{fits-kept}
 use Rattle.grown.proofs.Growth.{good-kept}
 use Rattle.grown.proofs.Ranges.{good-back, sizes-back, good-in-form, good-whole}
@@ -73,16 +72,16 @@ module _ (s : Sizes) (m : Map) (g : Good m) (f : Fits s m) (t : Ticket) where
     fits : Fits s (carried m t .0)
     lent : tried (lentOf s m) t .lent ≡ lentOf s (carried m t .0)
 
-  carried-out : Reached m → tried (lentOf s m) t .answer .refusal ≡ 0 → Out
-  carried-out r h =
+  carried-out : tried (lentOf s m) t .answer .refusal ≡ 0 → Out
+  carried-out h =
       let l = lentOf s m in
       let z = unless-zero l _ (carried (mapOf l) t) h in
       let w = not-false (whole l) (no-reason 0 (not (whole l)) _ z .0) in
-      let q = free s m g r f t z in
+      let q = free s m g f t z in
       record {
         limited = subst Limited (sizes-back m g s f) (whole-limited l w);
         free = q;
-        good = good-kept s m g r t q;
+        good = good-kept s m g t q;
         fits = fits-kept s m g t q f;
         lent =
             ap (λ (n : ℕ). unless l n (carried (mapOf l) t) .lent) z
@@ -181,7 +180,7 @@ module _ (s : Sizes) (m : Map) (g : Good m) (f : Fits s m) where
 
 -- ---- the two pairs, on a good map
 
-module _ (s : Sizes) (m : Map) (g : Good m) (r : Reached m) (f : Fits s m) (e x y : ℤ) where
+module _ (s : Sizes) (m : Map) (g : Good m) (f : Fits s m) (e x y : ℤ) where
   abbrev k : ℕ
   k = natAbs e
 
@@ -208,7 +207,7 @@ module _ (s : Sizes) (m : Map) (g : Good m) (r : Reached m) (f : Fits s m) (e x 
       zero-answer = record { refusal = 0; value = pos 0 }
 
       o : Out s m g f t₈
-      o = carried-out s m g f t₈ r h
+      o = carried-out s m g f t₈ h
 
       q : Split 1 s m k p
       q = split-mod s m e x y (o .free)
@@ -235,7 +234,7 @@ module _ (s : Sizes) (m : Map) (g : Good m) (r : Reached m) (f : Fits s m) (e x 
 
   module _ (h : tried (lentOf s m) t₇ .answer .refusal ≡ 0) where
     o : Out s m g f t₇
-    o = carried-out s m g f t₇ r h
+    o = carried-out s m g f t₇ h
 
     q : Split 2 s m k p
     q = split-new s m e x y (o .free)
@@ -309,7 +308,7 @@ module _ (s : Sizes) (m : Map) (g : Good m) (r : Reached m) (f : Fits s m) (e x 
 module _ (s : Sizes) (l : Lent) (z : State s l) where
   pub state-cancels : Cancels l
   unfolding ticket read lentOf
-  state-cancels = subst Cancels (sym (z .lent)) (λ e x y. cancel s (z .map) (z .good) (z .reached) (z .fits) e x y)
+  state-cancels = subst Cancels (sym (z .lent)) (λ e x y. cancel s (z .map) (z .good) (z .fits) e x y)
 
   -- the next edge number as the head has it
   head-next : mapOf (lentOf s (z .map)) .nextEdge ≡ z .map .nextEdge
@@ -325,12 +324,12 @@ module _ (s : Sizes) (l : Lent) (z : State s l) where
   pub state-renews : Renews l
   unfolding ticket read lentOf
   state-renews = subst Renews (sym (z .lent)) (λ e x y h.
-      subst (Renewing e x y) (sym head-next) (renew s (z .map) (z .good) (z .reached) (z .fits) e x y h))
+      subst (Renewing e x y) (sym head-next) (renew s (z .map) (z .good) (z .fits) e x y h))
 
   pub state-spends : Spends l
   unfolding ticket read lentOf
   state-spends = subst Spends (sym (z .lent)) (λ e x y h high.
-      spend s (z .map) (z .good) (z .reached) (z .fits) e x y h (subst (λ (n : ℕ). lastNumber < n + 2) head-next high))
+      spend s (z .map) (z .good) (z .fits) e x y h (subst (λ (n : ℕ). lastNumber < n + 2) head-next high))
 
 pub split-cancelled : SplitCancelled
 split-cancelled s h ts = state-cancels s (grow s ts .lent) (grown-state s h ts)

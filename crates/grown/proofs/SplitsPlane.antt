@@ -1,25 +1,22 @@
--- Kinds 7 and 8: a split keeps a map in the plane, and its faces reached. Assumes nothing.
+-- Kinds 7 and 8: a split keeps a map in the plane. Assumes nothing.
 use mathlib.Core.Path.{_≡_, refl, sym, ap, subst}
 use mathlib.Core.Bool.{true, false}
-use mathlib.Core.List.{List, _∷_, map, List·Memᴰ, List·Permᴰ, Permᴰ·symm}
+use mathlib.Core.List.{List, _∷_, map, List·Permᴰ, Permᴰ·symm}
 use Prim.Native.Nat.{ℕ, _+_}
 use lib.ListN.{length}
 use Rattle.plane.specs.declared.Point.{Point}
-use Rattle.planar.specs.Map.{Arc, fwd}
+use Rattle.planar.specs.Map.{Arc}
 use Rattle.planar.specs.Planar.{Planar}
 use Rattle.planar.proofs.Moves.{planar-perm}
 use Rattle.map.specs.Rows.{Map, Sizes, edge, atEdge, withoutEdge}
 use Rattle.map.specs.Links.{redirect}
-use Rattle.map.specs.Darts.{arcs, directed, leaves, next, bears}
+use Rattle.map.specs.Darts.{arcs, leaves, next, bears}
 use Rattle.map.specs.Edits.{split}
 use Rattle.grown.proofs.Readings.{arcOf}
 use Rattle.grown.proofs.RowChanges.{nodeNumber, InPlane}
 use Rattle.grown.proofs.Reasons.{Split}
-use Rattle.grown.proofs.RowDarts.{dart-move}
 use Rattle.grown.proofs.Changes.{planar-nodes, last-first}
-use Rattle.grown.proofs.HalvedLaw.{split-sides}
 use Rattle.grown.proofs.Splits.{split-planar}
-use Rattle.grown.proofs.EdgesReached.{Reached, even-darts, darts-even}
 use Rattle.grown.proofs.LawfulForm.{Lawful}
 use Rattle.grown.proofs.LawfulSplit.{InHalves, arcs-m, arcs-m′, halves, new-halves, kept-halves}
 
@@ -31,12 +28,6 @@ module _ (m m′ : Map) (e n a b : ℕ) (p : Point) (L : Lawful m) (h : InHalves
   planar-halves o = subst (λ (k : ℕ). Planar (map nodeNumber (m′ .nodes)) (arcs m′) (leaves m′) (next m′) (bears m′) k) (ap length (sym faces))
       (planar-nodes nodes (planar-perm (Permᴰ·symm (arcs-m′ m m′ e n a b p L h)) (split-planar e a b (edge m e .start) n (edge m e .end) r (halves m m′ e n a b p L h) (planar-perm (arcs-m m m′ e n a b p L h) o) (h .new-node))))
 
-  reached-halves : Reached m → Reached m′
-  reached-halves reached S even f k = reached S
-      (darts-even m (L .once) S (split-sides e (fwd a) (fwd b) (edge m e .start) n (edge m e .end) r (halves m m′ e n a b p L h) (directed m) (directed m′) (dart-move (arcs-m m m′ e n a b p L h)) (dart-move (Permᴰ·symm (arcs-m m m′ e n a b p L h)))
-      (dart-move (arcs-m′ m m′ e n a b p L h)) (dart-move (Permᴰ·symm (arcs-m′ m m′ e n a b p L h))) S (even-darts m′ S even)))
-      f (subst (List·Memᴰ f) faces k)
-
 -- ---- the kinds
 
 module _ (m : Map) (L : Lawful m) (s : Sizes) (e : ℕ) (p : Point) where
@@ -44,14 +35,6 @@ module _ (m : Map) (L : Lawful m) (s : Sizes) (e : ℕ) (p : Point) where
   unfolding split redirect
   planar-7 h = planar-halves m (split false e p m) e (m .nextNode) (m .nextEdge) (m .nextEdge + 1) p L (new-halves m e p L (h .has) (h .free) (h .on)) refl (last-first nodeNumber (m .nodes) _)
 
-  pub reached-7 : Split 2 s m e p → Reached m → Reached (split false e p m)
-  unfolding split redirect
-  reached-7 h = reached-halves m (split false e p m) e (m .nextNode) (m .nextEdge) (m .nextEdge + 1) p L (new-halves m e p L (h .has) (h .free) (h .on)) refl (last-first nodeNumber (m .nodes) _)
-
   pub planar-8 : Split 1 s m e p → InPlane m → InPlane (split true e p m)
   unfolding split redirect atEdge
   planar-8 h = planar-halves m (split true e p m) e (m .nextNode) e (m .nextEdge) p L (kept-halves m e p L (h .has) (h .free) (h .on)) refl (last-first nodeNumber (m .nodes) _)
-
-  pub reached-8 : Split 1 s m e p → Reached m → Reached (split true e p m)
-  unfolding split redirect atEdge
-  reached-8 h = reached-halves m (split true e p m) e (m .nextNode) e (m .nextEdge) p L (kept-halves m e p L (h .has) (h .free) (h .on)) refl (last-first nodeNumber (m .nodes) _)

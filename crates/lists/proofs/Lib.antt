@@ -1,4 +1,5 @@
--- Booleans and the test `same` (`Bools`), turns of loops over rows (`Scans`), and laws of lists.
+-- Booleans and the test `same` (`Bools`), turns of loops over rows (`Scans`), laws of lists, and linear equations over
+-- bits (`Linear`).
 pub mod Bools
 pub mod Scans
 pub mod Members

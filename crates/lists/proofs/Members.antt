@@ -6,6 +6,7 @@ use mathlib.Core.List.{List, [], _∷_, map, List·Memᴰ, List·Memᴰ·head, L
 use mathlib.Core.Option.{some}
 use Rattle.lists.specs.Scans.{find, isSome}
 use Rattle.lists.specs.Members.{All}
+use Rattle.lists.proofs.Bools.{which}
 
 pub each-cons : {A : Type 0} {p : A → Type 0} {x : A} {l : List A} → p x → ((y : A) → List·Memᴰ y l → p y) → (y : A) → List·Memᴰ y (x ∷ l) → p y
 each-cons {p = p} px h y m = elim (List·Memᴰ·cases-cons m) [ inl e ↦ rw e px | inr k ↦ h y k ]
@@ -22,6 +23,19 @@ each-of R (y ∷ l) h x k = each-cons {p = R} (h .0) (each-of R l (h .1)) x k
 pub map-cong : {A B : Type 0} (f g : A → B) (l : List A) → ((x : A) → List·Memᴰ x l → f x ≡ g x) → map f l ≡ map g l
 map-cong f g [] h = refl
 map-cong f g (x ∷ l) h = ap₂ _∷_ (h x (List·Memᴰ·head refl)) (map-cong f g l (λ y m. h y (List·Memᴰ·tail m)))
+
+-- p takes one of them, or none
+pub takes? : {A : Type 0} (p : A → Bool) (l : List A)
+    → ((x : A) × List·Memᴰ x l × (p x ≡ true)) ⊎ ((x : A) → List·Memᴰ x l → p x ≡ false)
+takes? p [] = inr (λ x m. absurd (List·Memᴰ·not-nil m))
+takes? {A} p (y ∷ l) = step (which (p y)) (takes? p l)
+  where
+    step : (p y ≡ true) ⊎ (p y ≡ false)
+        → ((x : A) × List·Memᴰ x l × (p x ≡ true)) ⊎ ((x : A) → List·Memᴰ x l → p x ≡ false)
+        → ((x : A) × List·Memᴰ x (y ∷ l) × (p x ≡ true)) ⊎ ((x : A) → List·Memᴰ x (y ∷ l) → p x ≡ false)
+    step (inl e) later = inl (y, List·Memᴰ·head refl, e)
+    step (inr e) (inl r) = inl (r .0, List·Memᴰ·tail (r .1), r .2)
+    step (inr e) (inr h) = inr (each-cons {p = λ x. p x ≡ false} e h)
 
 pub some? : {A : Type 0} (ds : List A) → ((d : A) × List·Memᴰ d ds) ⊎ ((d : A) → List·Memᴰ d ds → ⊥)
 some? [] = inr (λ d m. List·Memᴰ·not-nil m)

@@ -14,7 +14,7 @@ use Rattle.nesting.proofs.Tree.{good-contents}
 -- in any state
 pub state-contents : {s : Sizes} {l : Lent} → State s l → HasContents (mapOf l)
 state-contents {s} x = subst HasContents (sym (ap mapOf (x .lent) ∙ good-back (x .map) (x .good) s))
-    (good-contents (x .map) (x .good) (x .reached))
+    (good-contents (x .map) (x .good))
 
 pub contents-listed : ContentsListed
 contents-listed s h ts = state-contents (grown-state s h ts)

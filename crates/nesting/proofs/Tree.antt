@@ -34,7 +34,7 @@ use Rattle.grown.proofs.RowChanges.{nodeNumber, node-at}
 use Rattle.grown.proofs.Scanning.{any-some, some-any}
 use Rattle.grown.proofs.Numbers.{RankedMap, Outline, outlineOf, outlines, Met, numbered-ranked}
 use Rattle.grown.proofs.Forms.{good-formed}
-use Rattle.grown.proofs.EdgesReached.{Reached, darts-even}
+use Rattle.grown.proofs.EdgesReached.{good-reached}
 use Rattle.nesting.specs.Contents.{pieceOf, pieceRows, partCount, isIt, ringBears, nodeBears, isIn, under}
 use Rattle.nesting.specs.Contents.{Line, listed, lines}
 use Rattle.nesting.specs.Claims.{Part, partOf, parts, HasContents}
@@ -155,16 +155,16 @@ module _ (m : Map) (g : Good m) where
             inr (x .0, x .1, same-true (x .0 .number) p (q .0), is-some f (x .0 .face) (q .1))
       ]
 
-  -- ---- T1: connected, since from face 0 every face is reached across edges
+  -- ---- connected, since from face 0 every face is reached across edges
 
-  pub connected : Reached m → Connected (nesting m)
+  connected : Connected (nesting m)
   unfolding pieceRows
-  connected reach T even = go
+  connected T even = go
     where
       faces : (f : ℕ) → List·Memᴰ f (m .faces) → T false f ≡ T false 0
-      faces = reach (T false) (darts-even m (P .edges-once) (T false) (λ d k.
+      faces = good-reached m g (T false) (λ a j. let d = fwd (a .num) in let k = fwd-in j in
           even (bears m d) (of d) (dart-edge k) ∙ ap (T true) (sym (label-rev (P .linked) d k))
-          ∙ sym (even (bears m (rev d)) (of (rev d)) (dart-edge (rev-in (arcs m) k)))))
+          ∙ sym (even (bears m (rev d)) (of (rev d)) (dart-edge (rev-in (arcs m) k))))
 
       -- a piece is in the face of its lone node, or of a directed edge from its lowest node
       node-piece : (r : Node) → List·Memᴰ r (m .nodes) → pieceOf m (r .number) ≡ r .number → (o : Option ℕ)
@@ -192,7 +192,7 @@ module _ (m : Map) (g : Good m) where
           ap (T true) (sym (x .2)) ∙ node-piece (x .0) (x .1)
           (ap (pieceOf m) (x .2) ∙ same-true (pieceOf m p) p (q .1) ∙ sym (x .2)) (x .0 .face) refl
 
-  -- ---- T2: where a face and a piece meet is a bridge
+  -- ---- where a face and a piece meet is a bridge
 
   abbrev Bridge : ℕ → ℕ → Type 0
   Bridge u v = (T : Set) × ((T false u ≡ T true v) → ⊥) × Only (nesting m) u v T
@@ -299,9 +299,9 @@ module _ (m : Map) (g : Good m) where
       near true p f e = keep-has (λ f. isIn m p f) (m .faces) (e .left) (e .holds)
 
   -- all faces and pieces are under face 0
-  lines-of : Reached m → (k : ℕ) → partCount m ≤ k → (ls : List Line) × (lines k (under m) false 0 none 0 [] ≡ some ls)
+  lines-of : (k : ℕ) → partCount m ≤ k → (ls : List Line) × (lines k (under m) false 0 none 0 [] ≡ some ls)
       × ((b : Bool) (x : ℕ) → List·Memᴰ x (vertices m b) → listed ls b x ≡ true)
-  lines-of reach k le = all-listed (nesting m) (under m) neighbours (connected reach) bridges (zero-in m form) k
+  lines-of k le = all-listed (nesting m) (under m) neighbours connected bridges (zero-in m form) k
       (omega (arith, pieces-are m))
 
 -- a face or a piece as a vertex
@@ -315,9 +315,9 @@ part-vertex m z k = elim (List·Memᴰ·append-cases (map (λ f. (false, f)) (m 
     of b j = let q = Memᴰ·of-map (λ (x : ℕ). (b, x)) (vertices m b) j in
         subst (λ (w : Part). List·Memᴰ (w .1) (vertices m (w .0))) (q .2) (q .1)
 
--- a good, reached map has contents
-pub good-contents : (m : Map) → Good m → Reached m → HasContents m
-good-contents m g reach = record {
+-- a good map has contents
+pub good-contents : (m : Map) → Good m → HasContents m
+good-contents m g = record {
   lines = r .0;
   listed = lines-contents m zero (suc (partCount m)) (omega arith) (r .0) (r .1) all;
   once = lines-once m zero (suc (partCount m)) (r .0) (r .1) all;
@@ -328,7 +328,7 @@ good-contents m g reach = record {
 
     r : (ls : List Line) × (lines (suc (partCount m)) (under m) false 0 none 0 [] ≡ some ls)
         × ((b : Bool) (x : ℕ) → List·Memᴰ x (vertices m b) → listed ls b x ≡ true)
-    r = lines-of m g reach (suc (partCount m)) (omega arith)
+    r = lines-of m g (suc (partCount m)) (omega arith)
 
     all : partCount m ≤ length (r .0)
     all =

@@ -1,4 +1,6 @@
--- How many edges close a circle, and that a cycle is known from them. Assumes nothing.
+-- Chords close circles (specs/Chords.antt). With Euler's sum there are as many as faces but one (`chords-length`), and
+-- a cycle, a set of edges that crosses each cut an even number of times, is known from the chords in it
+-- (`cycle-of-chords`): in a forest no set of edges but the empty one is a cycle. Assumes nothing.
 use mathlib.Core.Path.{_≡_, refl, sym, _∙_}
 use mathlib.Core.Logic.{_⊎_, inl, inr}
 use mathlib.Core.Bool.{Bool, true, false, _&&_}
@@ -18,6 +20,7 @@ use Rattle.planar.specs.Pieces.{Chain, label, pieces, Within, along, sta
 use Rattle.planar.proofs.Chains.{label-of-chain, chain-of-label, pieces-loop, pieces-bridge}
 use Rattle.planar.specs.Chords.{chords}
 
+-- an edge put before es closes a circle: its ends are connected
 pub closes : Arc → List Arc → Bool
 closes a es = same (label es (a .from)) (label es (a .to))
 
@@ -44,6 +47,7 @@ chords-none : length (chords []) ≡ 0
 unfolding chords
 chords-none = refl
 
+-- each edge is a chord or connects two pieces
 pub chords-length : (nodes : List ℕ) (es : List Arc) → Distinct nodes → Within nodes es
     → length (chords es) + length nodes ≡ length es + pieces nodes es
 unfolding closes

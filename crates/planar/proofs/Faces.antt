@@ -1,4 +1,8 @@
--- The other way round: in a map in the plane every face is reached. Assumes nothing.
+-- The other way round: in a map in the plane every face is reached. Else some set R of faces has both or no side of
+-- each edge, has the face g and not f. For each face but these two ask that a set of chords has an even number of sides
+-- in it: fewer equations than chords, so some set y that is not empty solves them all. Then y has an even number of
+-- chords between any two colours (`between-none`); but some cycle takes an odd number of y (`odd`), and is coloured.
+-- Assumes nothing.
 use mathlib.Core.Path.{_≡_, refl, sym, ap, ap₂, _∙_, subst}
 use mathlib.Core.Logic.{_⊎_, inl, inr}
 use mathlib.Core.Bool.{Bool, true, false, _&&_, true≢false}
@@ -10,17 +14,18 @@ use lib.ListN.{length, length-map}
 use Rattle.lists.specs.Tests.{_⊕_, same}
 use Rattle.lists.specs.Scans.{sum}
 use Rattle.lists.specs.Members.{Distinct}
-use Rattle.lists.proofs.Bools.{eq1, eq2, eq3, ⊕-self, ⊕-equal, &&-false, which, same-refl, same-true, same-false}
-use Rattle.lists.proofs.Bools.{not-true}
-use Rattle.lists.proofs.Members.{each-cons}
+use Rattle.lists.specs.Functionals.{Functional, Solution}
+use Rattle.lists.proofs.Bools.{eq1, eq2, eq3, ⊕-self, ⊕-equal, not-true, which, same-refl, same-false}
+use Rattle.lists.proofs.Members.{takes?}
 use Rattle.lists.proofs.Perms.{extract, perm-in, perm-length}
 use Rattle.lists.proofs.Sums.{sum-cong, sum-⊕, sum-zero}
-use Rattle.planar.specs.Map.{Arc, Dart, fwd, bwd, across, crossings, Cycle, Colouring}
-use Rattle.planar.specs.Pieces.{Chain, stay, along, against, Within, Euler, nums}
-use Rattle.lists.specs.Forms.{Form, Missed}
+use Rattle.lists.proofs.Linear.{point, scaled, plus, plusAll, plus-all, unseen, solution}
+use Rattle.lists.proofs.Linear.{cleared, cleared-at, cleared-false, cleared-in}
+use Rattle.planar.specs.Map.{Arc, Dart, fwd, bwd, across, crossings, Cycle}
+use Rattle.planar.specs.Pieces.{Chain, stay, along, against, nums}
 use Rattle.planar.specs.Chords.{chords}
 use Rattle.planar.specs.Reached.{Even, Reached}
-use Rattle.lists.proofs.Linear.{point, scaled, plus, missed}
+use Rattle.planar.specs.Planar.{Planar}
 use Rattle.planar.proofs.Circles.{closes, closes-chain, chords-yes, chords-no, chords-length}
 
 -- ---- chords are edges
@@ -167,25 +172,11 @@ module _ (a : Arc) (es : List Arc) (d : Distinct (nums (a ∷ es))) (y : ℕ →
       c : ℕ → Bool
       c = r .0
 
--- the set has a chord, or none
-some-chord : (l : List Arc) (y : ℕ → Bool)
-    → ((b : Arc) × List·Memᴰ b l × (y (b .num) ≡ true)) ⊎ ((b : Arc) → List·Memᴰ b l → y (b .num) ≡ false)
-some-chord [] y = inr (λ b m. absurd (List·Memᴰ·not-nil m))
-some-chord (a ∷ l) y = step (some-chord l y) (which (y (a .num)))
-  where
-    step : ((b : Arc) × List·Memᴰ b l × (y (b .num) ≡ true)) ⊎ ((b : Arc) → List·Memᴰ b l → y (b .num) ≡ false)
-        → (y (a .num) ≡ true) ⊎ (y (a .num) ≡ false)
-        → ((b : Arc) × List·Memᴰ b (a ∷ l) × (y (b .num) ≡ true))
-        ⊎ ((b : Arc) → List·Memᴰ b (a ∷ l) → y (b .num) ≡ false)
-    step later (inl e) = inl (a, List·Memᴰ·head refl, e)
-    step (inl r) (inr e) = inl (r .0, List·Memᴰ·tail (r .1), r .2)
-    step (inr h) (inr e) = inr (each-cons {p = λ b. y (b .num) ≡ false} e h)
-
 odd : (es : List Arc) → Distinct (nums es) → (y : ℕ → Bool) (b : Arc) → List·Memᴰ b (chords es) → y (b .num) ≡ true
     → Odd es y
 unfolding chords
 odd [] d y b m e = absurd (List·Memᴰ·not-nil m)
-odd (a ∷ es) d y b m e = step (odd es (d .1) y) (some-chord (chords es) y) (which (closes a es))
+odd (a ∷ es) d y b m e = step (odd es (d .1) y) (takes? (λ b. y (b .num)) (chords es)) (which (closes a es))
   where
     step : ((b : Arc) → List·Memᴰ b (chords es) → y (b .num) ≡ true → Odd es y)
         → ((b : Arc) × List·Memᴰ b (chords es) × (y (b .num) ≡ true))
@@ -198,52 +189,10 @@ odd (a ∷ es) d y b m e = step (odd es (d .1) y) (some-chord (chords es) y) (wh
     ]
     step ih (inr none) (inr q) = absurd (true≢false (sym e ∙ none b (subst (List·Memᴰ b) (chords-no a es q) m)))
 
--- ---- sums of tests, and sets cleared of numbers that a test does not see
+-- ---- a face that is not reached
 
-total : List Arc → (Arc → Form) → Form
-total [] f = record { at = λ S. false; adds = λ S R b. eq1 (λ b. false) (λ b. b && false) tt b }
-total (a ∷ l) f = plus (f a) (total l f)
-
-total-sum : (l : List Arc) (f : Arc → Form) (S : ℕ → Bool) → total l f .at S ≡ sum l (λ a. f a .at S)
-unfolding total
-total-sum [] f S = refl
-total-sum (a ∷ l) f S = ap (λ v. f a .at S ⊕ v) (total-sum l f S)
-
-cleared : List ℕ → (ℕ → Bool) → ℕ → Bool
-cleared [] T = T
-cleared (x ∷ xs) T = cleared xs (λ n. T n ⊕ (T x && same n x))
-
-cleared-at : (φ : Form) (xs : List ℕ) → ((x : ℕ) → List·Memᴰ x xs → φ .at (λ n. same n x) ≡ false) → (T : ℕ → Bool)
-    → φ .at (cleared xs T) ≡ φ .at T
-unfolding cleared
-cleared-at φ [] h T = refl
-cleared-at φ (x ∷ xs) h T = cleared-at φ xs (λ z k. h z (List·Memᴰ·tail k)) (λ n. T n ⊕ (T x && same n x))
-    ∙ φ .adds T (λ n. same n x) (T x)
-    ∙ ap (λ v. φ .at T ⊕ (T x && v)) (h x (List·Memᴰ·head refl))
-    ∙ eq2 (λ p q. p ⊕ (q && false)) (λ p q. p) tt (φ .at T) (T x)
-
-cleared-false : (xs : List ℕ) (T : ℕ → Bool) (n : ℕ) → T n ≡ false → cleared xs T n ≡ false
-unfolding cleared
-cleared-false [] T n e = e
-cleared-false (x ∷ xs) T n e = cleared-false xs (λ n. T n ⊕ (T x && same n x)) n (elim (which (same n x)) [
-  | inl q ↦ rw (← same-true n x q, e)
-  | inr q ↦ rw (e, q) (&&-false (T x))
-])
-
-cleared-in : (xs : List ℕ) (T : ℕ → Bool) (n : ℕ) → List·Memᴰ n xs → cleared xs T n ≡ false
-unfolding cleared
-cleared-in [] T n m = absurd (List·Memᴰ·not-nil m)
-cleared-in (x ∷ xs) T n m = elim (List·Memᴰ·cases-cons m) [
-  | inl q ↦ cleared-false xs (λ n. T n ⊕ (T x && same n x)) n
-      (rw (q, same-refl x) (eq1 (λ t. t ⊕ (t && true)) (λ t. false) tt (T x)))
-  | inr k ↦ cleared-in xs (λ n. T n ⊕ (T x && same n x)) n k
-]
-
--- ---- faces that are not reached would leave one test more than there are chords
-
-module _ (nodes : List ℕ) (es : List Arc) (face : Dart → ℕ) (faces : List ℕ) (f : ℕ) (nodes-once : Distinct nodes)
-    (edges-once : Distinct (nums es)) (within : Within nodes es)
-    (colouring : Colouring es face) (euler : Euler nodes es (length faces)) (first : List·Memᴰ f faces)
+module _ {nodes : List ℕ} {es : List Arc} {tail : Dart → ℕ} {next : Dart → Dart} {face : Dart → ℕ} (faces : List ℕ)
+    (f : ℕ) (planar : Planar nodes es tail next face (length faces)) (first : List·Memᴰ f faces)
     (sides : (a : Arc) → List·Memᴰ a es → List·Memᴰ (face (fwd (a .num))) faces × List·Memᴰ (face (bwd (a .num))) faces)
   where
     module _ (R : ℕ → Bool) (even : Even es face R) (out : R f ≡ false) (g : ℕ) (there : List·Memᴰ g faces)
@@ -270,52 +219,55 @@ module _ (nodes : List ℕ) (es : List Arc) (face : Dart → ℕ) (faces : List 
         | inr k ↦ inr (List·Memᴰ·cases-cons (perm-in (two .1) k))
       ]
 
+      -- one side of the edge is in the face x and not both
       abbrev beside : ℕ → Arc → Bool
       beside x a = same (face (fwd (a .num))) x ⊕ same (face (bwd (a .num))) x
 
-      abbrev ring : ℕ → Form
-      ring x = total (chords es) (λ a. scaled (beside x a) (point (a .num)))
+      -- whether a set has an odd number of chords with one side in x
+      abbrev sidesIn : ℕ → Functional
+      sidesIn x = plusAll (chords es) (λ a. scaled (beside x a) (point (a .num)))
 
-      few : length (map ring rest) < length (nums (chords es))
+      few : length (map sidesIn rest) < length (nums (chords es))
       few = omega (
         arith,
-        euler,
-        chords-length nodes es nodes-once within,
-        length-map rest ring,
+        planar .euler,
+        chords-length nodes es (planar .nodes-once) (planar .within),
+        length-map rest sidesIn,
         length-map (chords es) (λ (a : Arc). a .num),
         perm-length (one .1),
         perm-length (two .1),
       )
 
-      missing : Missed (nums (chords es)) (map ring rest)
-      missing = missed (nums (chords es)) (chords-once es edges-once) (map ring rest) few
+      solved : Solution (nums (chords es)) (map sidesIn rest)
+      solved = solution (nums (chords es)) (chords-once es (planar .edges-once)) (map sidesIn rest) few
 
       abbrev y : ℕ → Bool
-      y = missing .0
+      y = solved .0
 
-      -- how many chords of y lie between two colours
-      abbrev between : Form
+      -- whether an odd number of the chords of y lie between two colours
+      abbrev between : Functional
       between =
-          total (chords es)
+          plusAll (chords es)
           (λ a. scaled (y (a .num)) (plus (point (face (fwd (a .num)))) (point (face (bwd (a .num))))))
 
       between-at : (T : ℕ → Bool)
           → between .at T ≡ sum (chords es) (λ a. y (a .num) && (T (face (fwd (a .num))) ⊕ T (face (bwd (a .num)))))
       between-at T =
-          total-sum (chords es) (λ a. scaled (y (a .num))
+          plus-all (chords es) (λ a. scaled (y (a .num))
           (plus (point (face (fwd (a .num)))) (point (face (bwd (a .num)))))) T
 
       between-one : (x : ℕ) → List·Memᴰ x rest → between .at (λ n. same n x) ≡ false
       between-one x k = between-at (λ n. same n x) ∙ sum-cong (chords es) _ (λ a. beside x a && y (a .num))
           (λ a j. eq2 (λ p s. p && s) (λ p s. s && p) tt (y (a .num)) (beside x a))
-          ∙ sym (total-sum (chords es) (λ a. scaled (beside x a) (point (a .num))) y)
-          ∙ missing .1 (ring x) (Memᴰ·map ring k)
+          ∙ sym (plus-all (chords es) (λ a. scaled (beside x a) (point (a .num))) y)
+          ∙ solved .1 (sidesIn x) (Memᴰ·map sidesIn k)
 
       between-even : (T : ℕ → Bool) → Even es face T → between .at T ≡ false
       between-even T h = between-at T ∙ sum-zero (chords es) _
           (λ a k. ap (λ v. y (a .num) && (v ⊕ T (face (bwd (a .num))))) (h a (chords-in es k))
           ∙ eq2 (λ p t. p && (t ⊕ t)) (λ p t. false) tt (y (a .num)) (T (face (bwd (a .num)))))
 
+      -- from any colours we come to all faces of one: f's is taken from all, then g's from R, then the others singly
       abbrev lifted : (ℕ → Bool) → ℕ → Bool
       lifted T n = T n ⊕ (T f && true)
 
@@ -323,14 +275,10 @@ module _ (nodes : List ℕ) (es : List Arc) (face : Dart → ℕ) (faces : List 
       flat T n = lifted T n ⊕ (lifted T g && R n)
 
       same-lifted : (T : ℕ → Bool) → between .at (lifted T) ≡ between .at T
-      same-lifted T = between .adds T (λ n. true) (T f)
-          ∙ ap (λ v. between .at T ⊕ (T f && v)) (between-even (λ n. true) (λ a k. refl))
-          ∙ eq2 (λ p q. p ⊕ (q && false)) (λ p q. p) tt (between .at T) (T f)
+      same-lifted T = unseen between T (λ n. true) (T f) (between-even (λ n. true) (λ a k. refl))
 
       same-flat : (T : ℕ → Bool) → between .at (flat T) ≡ between .at (lifted T)
-      same-flat T = between .adds (lifted T) R (lifted T g)
-          ∙ ap (λ v. between .at (lifted T) ⊕ (lifted T g && v)) (between-even R even)
-          ∙ eq2 (λ p q. p ⊕ (q && false)) (λ p q. p) tt (between .at (lifted T)) (lifted T g)
+      same-flat T = unseen between (lifted T) R (lifted T g) (between-even R even)
 
       empty : (T : ℕ → Bool) (n : ℕ) → List·Memᴰ n faces → cleared rest (flat T) n ≡ false
       empty T n m = elim (parts n m) [
@@ -352,18 +300,18 @@ module _ (nodes : List ℕ) (es : List Arc) (face : Dart → ℕ) (faces : List 
       impossible : ⊥
       impossible =
           true≢false (sym (o .2) ∙ sum-cong (chords es) _ _
-          (λ a k. ap (λ v. y (a .num) && v) (colouring (o .0) (o .1) .1 a (chords-in es k))) ∙ sym (between-at T)
-          ∙ between-none T)
+          (λ a k. ap (λ v. y (a .num) && v) (planar .colouring (o .0) (o .1) .1 a (chords-in es k)))
+          ∙ sym (between-at T) ∙ between-none T)
         where
-          chord : (a : Arc) × List·Memᴰ a (chords es) × (a .num ≡ missing .2 .0)
-          chord = Memᴰ·of-map (λ (a : Arc). a .num) (chords es) (missing .2 .1)
+          chord : (a : Arc) × List·Memᴰ a (chords es) × (a .num ≡ solved .2 .0)
+          chord = Memᴰ·of-map (λ (a : Arc). a .num) (chords es) (solved .2 .1)
 
           o : Odd es y
-          o = odd es edges-once y (chord .0) (chord .1) (ap y (chord .2) ∙ missing .2 .2)
+          o = odd es (planar .edges-once) y (chord .0) (chord .1) (ap y (chord .2) ∙ solved .2 .2)
 
           T : ℕ → Bool
-          T = colouring (o .0) (o .1) .0
+          T = planar .colouring (o .0) (o .1) .0
 
-    pub reached-of-colouring : Reached es face faces f
-    reached-of-colouring S even g m = ⊕-equal (S g) (S f)
+    pub planar-reached : Reached es face faces f
+    planar-reached S even g m = ⊕-equal (S g) (S f)
         (not-true (S g ⊕ S f) (impossible (λ n. S n ⊕ S f) (λ a k. ap (λ v. v ⊕ S f) (even a k)) (⊕-self (S f)) g m))
