@@ -1,14 +1,14 @@
 -- Routes on what is lent: the claims. Assumes nothing.
-use mathlib.Core.Path.{_≡_, refl, sym, ap}
+use mathlib.Core.Path.{_≡_, refl, sym}
 use mathlib.Core.Logic.{_⊎_, inl, inr}
 use mathlib.Core.Bool.{Bool, true, false, not, true≢false, _&&_, _||_}
-use mathlib.Core.List.{List, [], _∷_, _++_, map}
+use mathlib.Core.List.{List, []}
 use Prim.Native.Nat.{ℕ, zero, suc, _+_, _≤_}
 use native.Mathlib.Omega.{arith}
 use borrow.Author.Tests.{ltb-false, le-ltb, not-false}
 use lib.Dec.{ltb}
 use lib.IntN.{ℤ, pos, natAbs}
-use lib.ListN.{length, drop, length-map, length-append, length-drop}
+use lib.ListN.{length, length-map, length-append, length-drop}
 use Rattle.lists.specs.Scans.{isSome}
 use Rattle.lists.proofs.Bools.{which, &&-false}
 use Rattle.map.specs.declared.Answer.{Answer}
@@ -17,10 +17,10 @@ use Rattle.map.proofs.Reasons.{first-zero}
 use Rattle.network.specs.Rows.{Lent, networkOf, whole}
 use Rattle.network.specs.Form.{inForm}
 use Rattle.network.specs.Reasons.{noNode}
-use Rattle.paths.specs.Walks.{Hop, hops, Walk, walkLength}
-use Rattle.paths.specs.Nearest.{Near, isExamined, steps, nextNearest}
-use Rattle.paths.specs.Route.{toGoal, examined, allCurved, routeReasons, refusalOf, Run, written, Routed}
-use Rattle.paths.specs.Claims.{Reaches, Sound, RoutesSound, RouteFits, RouteAnswered, RouteShorter}
+use Rattle.paths.specs.Walks.{hops}
+use Rattle.paths.specs.Nearest.{isExamined, steps, nextNearest}
+use Rattle.paths.specs.Route.{toGoal, examined, allCurved, routeReasons, refusalOf, written, Routed}
+use Rattle.paths.specs.Claims.{Reaches, RoutesSound, RouteFits, RoutedExists, RouteShorter}
 use Rattle.paths.proofs.Lengths.{positive}
 use Rattle.paths.proofs.Routes.{next-some, sound, fits}
 
@@ -95,7 +95,7 @@ route-fits l start goal k room e =
     let few : length (w .0) ≤ length (examined l start k) = w .3 in
     (record { walk = w .0; leads = w .1; long = w .2; fits = omega arith }, few)
 
-pub routed-exists : RouteAnswered
+pub routed-exists : RoutedExists
 routed-exists l start goal k list = go (refusalOf l start goal k (length list)) refl
   where
     go : (r : ℕ) → refusalOf l start goal k (length list) ≡ r
