@@ -77,9 +77,9 @@ pub out-of-reach : map (route (made row) (pos 1) (pos 5)) (pos 0 ∷ pos 1 ∷ p
 unfolding opened made
 out-of-reach = refl
 
-pub apart : map (route (made row) (pos 5) (pos 1)) (pos 0 ∷ pos 1 ∷ pos 2 ∷ []) ≡ no 33 ∷ no 32 ∷ no 32 ∷ []
+pub alone : map (route (made row) (pos 5) (pos 1)) (pos 0 ∷ pos 1 ∷ pos 2 ∷ []) ≡ no 33 ∷ no 32 ∷ no 32 ∷ []
 unfolding opened made
-apart = refl
+alone = refl
 
 -- two hops to go, and no link: 33 with a small k, a route with a larger one
 pub larger : map (route (made row) (pos 2) (pos 4)) (pos 1 ∷ pos 2 ∷ pos 3 ∷ pos 4 ∷ [])
