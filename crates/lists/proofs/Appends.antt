@@ -1,12 +1,13 @@
 -- One list after another. Assumes nothing.
 use mathlib.Core.Path.{_≡_, refl, _∙_}
-use mathlib.Core.Bool.{Bool, true, _||_}
-use mathlib.Core.List.{List, [], _∷_, _++_}
+use mathlib.Core.Bool.{Bool, true, false, cond, _||_}
+use mathlib.Core.List.{List, [], _∷_, _++_, List·Memᴰ, List·Memᴰ·head, List·Memᴰ·tail}
+use mathlib.Core.Option.{some, Option·none-ne-some}
 use Prim.Native.Nat.{ℕ, suc, _+_}
 use native.Mathlib.Nat.{add-zero, add-suc, suc-add}
 use lib.ListN.{length, set}
 use lib.Seq.{sets}
-use Rattle.lists.specs.Scans.{any, all, fold}
+use Rattle.lists.specs.Scans.{any, all, find, fold, linked}
 use Rattle.lists.specs.Members.{All}
 use Rattle.lists.proofs.Bools.{eq3, and-true, and-is}
 
@@ -32,3 +33,22 @@ module _ {A : Type 0} where
   any-append p [] ys = refl
   any-append p (x ∷ xs) ys = rw (any-append p xs ys)
       (eq3 (λ a b c. a || (b || c)) (λ a b c. a || b || c) tt (p x) (any p xs) (any p ys))
+
+  -- what is found is found in a longer list
+  pub find-left : (p : A → Bool) (xs ys : List A) (a : A) → find p xs ≡ some a → find p (xs ++ ys) ≡ some a
+  find-left p [] ys a e = absurd (Option·none-ne-some a e)
+  find-left p (x ∷ xs) ys a e = go (p x) e (find-left p xs ys a)
+    where
+      go : (b : Bool) → cond b (some x) (find p xs) ≡ some a → (find p xs ≡ some a → find p (xs ++ ys) ≡ some a)
+          → cond b (some x) (find p (xs ++ ys)) ≡ some a
+      go true q later = q
+      go false q later = later q
+
+  -- one element more, to which each is related
+  pub linked-last : (r : A → A → Bool) (xs : List A) (c : A) → linked r xs ≡ true
+      → ((x : A) → List·Memᴰ x xs → r x c ≡ true) → linked r (xs ++ c ∷ []) ≡ true
+  linked-last r [] c l h = refl
+  linked-last r (a ∷ []) c l h = rw (h a (List·Memᴰ·head refl))
+  linked-last r (a ∷ b ∷ xs) c l h =
+      let k = and-true (r a b) (linked r (b ∷ xs)) l in
+      and-is (k .0) (linked-last r (b ∷ xs) c (k .1) (λ x m. h x (List·Memᴰ·tail m)))

@@ -3,6 +3,7 @@ use mathlib.Core.Path.{_≡_, refl, sym, ap, ap₂, _∙_}
 use mathlib.Core.Logic.{_⊎_, inl, inr}
 use mathlib.Core.Bool.{Bool, true, false, cond, true≢false}
 use mathlib.Core.List.{List, [], _∷_, map, List·Memᴰ, List·Memᴰ·head, List·Memᴰ·tail, List·Memᴰ·cases-cons, List·Memᴰ·not-nil}
+use mathlib.Core.List.{flatMap, Memᴰ·append-left, Memᴰ·append-right, List·Memᴰ·append-cases}
 use mathlib.Core.Option.{some}
 use Rattle.lists.specs.Scans.{find, isSome}
 use Rattle.lists.specs.Members.{All}
@@ -51,3 +52,26 @@ find-has {A} p (y ∷ l) {x} m e = go (p y) refl (List·Memᴰ·cases-cons m) (�
     go true q k ih = refl
     go false q (inl z) ih = absurd (true≢false (sym e ∙ ap p z ∙ q))
     go false q (inr k) ih = ih k
+
+-- what stands in one of several lists
+pub in-flatMap : {A B : Type 0} (f : A → List B) (l : List A) (y : B) → List·Memᴰ y (flatMap f l)
+    → (x : A) × List·Memᴰ x l × List·Memᴰ y (f x)
+unfolding flatMap
+in-flatMap f [] y m = absurd (List·Memᴰ·not-nil m)
+in-flatMap f (x ∷ l) y m =
+    let later = in-flatMap f l y in
+    elim (List·Memᴰ·append-cases (f x) m) [
+      | inl k ↦ (x, List·Memᴰ·head refl, k)
+      | inr k ↦ let r = later k in (r .0, List·Memᴰ·tail (r .1), r .2)
+    ]
+
+pub flatMap-has : {A B : Type 0} (f : A → List B) (l : List A) {x : A} {y : B} → List·Memᴰ x l → List·Memᴰ y (f x)
+    → List·Memᴰ y (flatMap f l)
+unfolding flatMap
+flatMap-has f [] m k = absurd (List·Memᴰ·not-nil m)
+flatMap-has f (a ∷ l) {x} {y} m k =
+    let later : List·Memᴰ x l → List·Memᴰ y (flatMap f l) = λ j. flatMap-has f l j k in
+    elim (List·Memᴰ·cases-cons m) [
+      | inl e ↦ Memᴰ·append-left (flatMap f l) (rw e at k)
+      | inr j ↦ Memᴰ·append-right (f a) (later j)
+    ]
