@@ -20,9 +20,9 @@ use Rattle.map.specs.Darts.{arcs, bears}
 use Rattle.map.specs.Form.{numbered, numbers, formed}
 use Rattle.map.specs.Links.{obeysLaw}
 use Rattle.map.proofs.Laws.{formed-is, names}
+use Rattle.map.proofs.Scans.{any-some}
 use Rattle.grown.specs.Good.{Good, Numbered}
 use Rattle.grown.proofs.EdgesReached.{Reached, even-darts, bears-left, bears-right}
-use Rattle.grown.proofs.Scanning.{any-some}
 use Rattle.grown.proofs.Readings.{arcOf}
 use Rattle.grown.proofs.NumbersNodes.{zero-in}
 use Rattle.grown.proofs.Forms.{good-formed}

@@ -17,8 +17,8 @@ use Rattle.map.specs.Rows.{Node, Map}
 use Rattle.map.specs.Darts.{arcs, directed, leaves, next, bears, way}
 use Rattle.map.specs.Form.{formed}
 use Rattle.map.proofs.Laws.{formed-is}
+use Rattle.map.proofs.Scans.{all-each, each-all}
 use Rattle.grown.specs.Good.{Woven}
-use Rattle.grown.proofs.Scanning.{all-each, each-all}
 use Rattle.grown.proofs.Readings.{arcOf, arc-at}
 use Rattle.grown.proofs.EdgesReached as reach
 use Rattle.grown.proofs.LawfulForm.{Lawful}

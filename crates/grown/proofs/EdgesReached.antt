@@ -13,8 +13,8 @@ use Rattle.planar.specs.Pieces.{nums}
 use Rattle.planar.proofs.Cycles.{fwd-in, bwd-in}
 use Rattle.map.specs.Rows.{Edge, Map, edge}
 use Rattle.map.specs.Darts.{arcs, directed, bears}
+use Rattle.map.proofs.Scans.{any-some, none-has}
 use Rattle.grown.proofs.Readings.{faceIn, bears-row, edge-row, edge-at, arc-at, dart-has}
-use Rattle.grown.proofs.Scanning.{any-some, none-has}
 
 -- a set of faces that has both or no side of each edge
 abbrev pub Even : Map → (ℕ → Bool) → Type 0

@@ -30,12 +30,11 @@ use Rattle.map.specs.Rows.{Node, Map, node}
 use Rattle.map.specs.Rows as rows
 use Rattle.map.specs.Darts.{arcs, directed, leaves, next, bears, pieceCount}
 use Rattle.nesting.specs.Contents.{Line, line, pieceOf, pieceRows, isIt, isIn, under, lines, complete, contents}
-use Rattle.map.proofs.Scans.{find-some}
+use Rattle.map.proofs.Scans.{find-some, any-some, some-any, rising-distinct}
 use Rattle.grown.specs.Good.{Good}
 use Rattle.nesting.specs.Claims.{HasContents}
 use Rattle.grown.proofs.Readings.{faceIn, arcOf, bears-row, edge-row, arc-at, dart-has}
 use Rattle.grown.proofs.RowChanges.{nodeNumber, node-at}
-use Rattle.grown.proofs.Scanning.{any-some, some-any, rising-distinct}
 use Rattle.grown.proofs.Numbers.{RankedMap, Outline, outlineOf, outlines, Met, numbered-ranked}
 use Rattle.grown.proofs.EdgesReached.{Reached, darts-even}
 
