@@ -6,6 +6,7 @@ use mathlib.Core.List.{List, [], _∷_, _++_, List·Memᴰ, List·Memᴰ·head, 
 use mathlib.Core.List.{List·Memᴰ·eq-of-singleton}
 use mathlib.Core.Logic.{_↔_, _⊎_, inl, inr, _≢_}
 use Prim.Native.Nat.{ℕ, suc, _+_, _≤_}
+use native.Mathlib.Nat.{add-zero, zero-add}
 use native.Mathlib.Omega.{arith}
 use borrow.Author.Tests.{not-true}
 use lib.ListN.{length, length-append}
@@ -18,7 +19,7 @@ use Rattle.plane.specs.Segments.{onSegment}
 use Rattle.plane.proofs.Laws.{samePoint-true}
 use Rattle.curves.specs.Curves.{Curve, points, lastOf, lastPoint}
 use Rattle.curves.specs.Tests.{neighboursDiffer}
-use Rattle.curves.specs.Edits.{Halves, cutHere}
+use Rattle.curves.specs.Edits.{Halves, cutHere, cut, front, back}
 use Rattle.curves.specs.Inner.{isLast, inside, insideFrom, innerPlace, cutAt, cutFound, innerFront, innerBack}
 use Rattle.geometry.specs.Spots as spots
 use Rattle.geometry.specs.Spots.{Spot, spot}
@@ -217,3 +218,63 @@ module _ (c : Curve) (m : Point) (n : ℕ) (differ : neighboursDiffer c ≡ true
     | inl e ↦ inl e
     | inr j ↦ inr (List·Memᴰ·tail (parts .back-given p j))
   ]
+
+-- ---- where m is no end of the curve, this is the cut at the first place of all
+
+-- o is the place on a ∷ r, counted from k, and h the halves there
+abbrev Answers : ℕ → Point → Point → List Point → Found → Halves → Type 0
+Answers k m a r o h = ((o ≡ Missing) × (h ≡ record { front = r; back = [] }))
+    ⊎ ((n : ℕ) × (o ≡ At (k + n)) × (h ≡ cutAt n m a r))
+
+-- inside its ends is on it
+inside-on : (starts : Bool) (m a b : Point) (r : List Point) → (starts ≡ true → samePoint m a ≡ false)
+    → lastOf b r ≢ m → inside starts m a b r ≡ onSegment m a b
+inside-on starts m a b r u l = rw (first starts u, last r l) (always (onSegment m a b))
+  where
+    first : (t : Bool) → (t ≡ true → samePoint m a ≡ false) → t && samePoint m a ≡ false
+    first true h = h refl
+    first false h = refl
+
+    last : (r : List Point) → lastOf b r ≢ m → isLast r && samePoint m b ≡ false
+    last [] h = samePoint-false m b (λ e. h (sym e))
+    last (c ∷ r) h = refl
+
+    always : (t : Bool) → t && true && true ≡ t
+    always true = refl
+    always false = refl
+
+cut-answers : (starts : Bool) (k : ℕ) (m a : Point) (r : List Point) → (starts ≡ true → samePoint m a ≡ false)
+    → lastOf a r ≢ m → Answers k m a r (insideFrom starts k m a r) (cut m a r)
+cut-answers starts k m a [] u l = inl (refl, refl)
+cut-answers starts k m a (b ∷ r) u l =
+    subst (λ (t : Bool). Answers k m a (b ∷ r) (cond t (At k) later) (cutHere (onSegment m a b) (samePoint m b) m b r
+    (cut m b r))) (sym (inside-on starts m a b r u l))
+    (go (onSegment m a b) (samePoint m b) refl (cut-answers false (k + 1) m b r (λ e. absurd (false≢true e)) l))
+  where
+    later : Found
+    later = insideFrom false (k + 1) m b r
+
+    front-first : Halves → Halves
+    front-first h = record { front = b ∷ h .front; back = h .back }
+
+    go : (t e : Bool) → samePoint m b ≡ e → Answers (k + 1) m b r later (cut m b r)
+        → Answers k m a (b ∷ r) (cond t (At k) later) (cutHere t (samePoint m b) m b r (cut m b r))
+    go true true q h = inr (0, ap At (sym (add-zero k)), rw q)
+    go true false q h = inr (0, ap At (sym (add-zero k)), rw q)
+    go false e q (inl h) = inl (h .0, ap front-first (h .1))
+    go false e q (inr h) = let n : k + 1 + h .0 ≡ k + suc (h .0) = omega arith in
+        inr (suc (h .0), h .1 ∙ ap At n, ap front-first (h .2))
+
+pub inner-cut : (c : Curve) (m : Point) → c .first ≢ m → lastPoint c ≢ m
+    → (innerFront m c ≡ front m c) × (innerBack m c ≡ back m c)
+unfolding innerPlace innerFront innerBack
+inner-cut c m n l = let e = go (insideFrom true 0 m (c .first) (c .rest))
+    (cut-answers true 0 m (c .first) (c .rest) (λ t. samePoint-false m (c .first) (λ q. n (sym q))) l) in (
+      (λ i. record { first = c .first; rest = e i .front }),
+      λ i. record { first = m; rest = e i .back },
+    )
+  where
+    go : (o : Found) → Answers 0 m (c .first) (c .rest) o (cut m (c .first) (c .rest))
+        → cutFound o m c ≡ cut m (c .first) (c .rest)
+    go o (inl h) = ap (λ (o : Found). cutFound o m c) (h .0) ∙ sym (h .1)
+    go o (inr h) = ap (λ (o : Found). cutFound o m c) (h .1 ∙ ap At (zero-add (h .0))) ∙ sym (h .2)
