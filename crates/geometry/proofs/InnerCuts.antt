@@ -29,7 +29,8 @@ use Rattle.geometry.proofs.Segments.{at-last, at-spot}
 use Rattle.geometry.proofs.Meeting.{samePoint-differ, samePoint-false, onSegment-true, onSegment-is}
 use Rattle.geometry.proofs.Meeting.{differs-true, differs-is}
 use Rattle.geometry.proofs.Alike.{alike-refl, alike-cons, alike-insert}
-use Rattle.geometry.proofs.Chains.{on-front, on-back, on-split, last-append, differ-front, differ-back, some-length}
+use Rattle.geometry.proofs.Chains.{on-front, on-back, on-split, last-append, differ-front, differ-back}
+use Rattle.geometry.proofs.Chains.{some-length}
 use Rattle.geometry.proofs.Cutting.{Place}
 
 -- h are halves of a ∷ r that join at m, and m alone may be new

@@ -16,9 +16,8 @@ use Rattle.lists.proofs.Bools.{same-true, differ, and-true, or-false}
 use Rattle.plane.specs.declared.Point.{Point}
 use Rattle.plane.specs.Points.{InRange, samePoint}
 use Rattle.plane.proofs.Laws.{samePoint-true}
-use Rattle.curves.specs.Curves.{Curve, points, lastPoint, startWay, endWay, point, curveOf, coordinate, isRun, maxPoints}
+use Rattle.curves.specs.Curves.{Curve, points, lastPoint, startWay, endWay, point, curveOf, isRun, maxPoints}
 use Rattle.curves.specs.Tests.{neighboursDiffer, straightInside, onCurve, isSimple}
-use Rattle.curves.proofs.Runs.{coordinate-le}
 use Rattle.map.specs.Limits.{lastNumber}
 use Rattle.map.specs.Rows.{Map, Sizes, node, edge, hasNode, hasEdge, withoutNode, withoutEdge}
 use Rattle.map.specs.Darts.{edgeEnds}
@@ -26,7 +25,7 @@ use Rattle.map.specs.Links.{cornerFace}
 use Rattle.map.specs.Tickets.{AddIsoNode, MoveIsoNode, RemoveIsoNode, AddIsoEdge, RemoveIsoEdge, ChangeEdgeGeom, NewEdgesSplit, ModEdgeSplit, NewEdgeHeal, ModEdgeHeal, AddEdgeNewFaces, AddEdgeModFace, RemEdgeNewFace, RemEdgeModFace}
 use Rattle.map.specs.Edits.{sharedNodes, joint, healedCurve, splitsFace, makesFace}
 use Rattle.map.specs.Reasons.{Reasons, firstReason, reasons, noNode, noEdge, outside, endsDiffer, isolated, edgeIsolated, nodeAt, edgeThrough, directionTaken, containingDiffer, cornersDiffer, nodeInside, edgeWrong, orderChanges, full, spent, splitReasons, healReasons, addEdgeReasons}
-use Rattle.map.proofs.Reasons.{first-zero}
+use Rattle.map.proofs.Reasons.{first-zero, point-in-range}
 use Rattle.map.proofs.RoundTrip.{run-stored}
 
 -- ---- the facts
@@ -151,9 +150,6 @@ has-node m z h = and-true (nonNeg z) (hasNode m (natAbs z)) (not-false (nonNeg z
 has-edge : (m : Map) (z : ℤ) → noEdge m z ≡ false → hasEdge m (natAbs z) ≡ true
 has-edge m z h = and-true (nonNeg z) (hasEdge m (natAbs z)) (not-false (nonNeg z && hasEdge m (natAbs z)) h) .1
 
-inside : (x y : ℤ) → outside x y ≡ false → InRange (point x y)
-inside x y h = let k = and-true (coordinate x) (coordinate y) (not-false (coordinate x && coordinate y) h) in record { x = coordinate-le x (k .0); y = coordinate-le y (k .1) }
-
 -- 5 to 8, and what follows them
 sent : (m : Map) (l : List ℤ) (u v : ℕ) (rest : Reasons) → firstReason ((5, not (isRun l)) ∷ (6, not (neighboursDiffer (curveOf l)) || straightInside (curveOf l)) ∷ (7, not (isSimple (curveOf l))) ∷ (8, endsDiffer m (curveOf l) u v) ∷ rest) ≡ 0 → Sent m (curveOf l) u v × (firstReason rest ≡ 0)
 sent m l u v rest h =
@@ -211,7 +207,7 @@ module _ (s : Sizes) (m : Map) where
       let h₂₀ = first-zero 20 (full s m 1 0 0) _ (lit< tt) (h₁₂ .1) in
       let h₂₁ = first-zero 21 (spent m 1 0 0) _ (lit< tt) (h₂₀ .1) in
       let apart = or-false (nodeAt (m .nodes) (point x y)) (edgeThrough m (point x y)) (h₁₀ .0) in
-      record { in-range = inside x y (h₅ .0); free = apart .0; off = apart .1; room = room s m 1 0 0 (h₂₀ .0); supply = supply m 1 0 0 (h₂₁ .0) }
+      record { in-range = point-in-range x y (h₅ .0); free = apart .0; off = apart .1; room = room s m 1 0 0 (h₂₀ .0); supply = supply m 1 0 0 (h₂₁ .0) }
 
   pub move-node : (n x y : ℤ) → firstReason (reasons s m (MoveIsoNode n x y)) ≡ 0 → MoveNode m (natAbs n) (point x y)
   unfolding reasons
@@ -221,7 +217,7 @@ module _ (s : Sizes) (m : Map) where
       let h₉ = first-zero 9 (not (isolated m (natAbs n))) _ (lit< tt) (h₅ .1) in
       let h₁₀ = first-zero 10 (nodeAt (withoutNode (natAbs n) (m .nodes)) (point x y) || edgeThrough m (point x y)) _ (lit< tt) (h₉ .1) in
       let apart = or-false (nodeAt (withoutNode (natAbs n) (m .nodes)) (point x y)) (edgeThrough m (point x y)) (h₁₀ .0) in
-      record { has = has-node m n (h₄ .0); in-range = inside x y (h₅ .0); isolated = not-false (isolated m (natAbs n)) (h₉ .0); free = apart .0; off = apart .1 }
+      record { has = has-node m n (h₄ .0); in-range = point-in-range x y (h₅ .0); isolated = not-false (isolated m (natAbs n)) (h₉ .0); free = apart .0; off = apart .1 }
 
   pub remove-node : (n : ℤ) → firstReason (reasons s m (RemoveIsoNode n)) ≡ 0 → RemoveNode m (natAbs n)
   unfolding reasons
@@ -298,7 +294,7 @@ module _ (s : Sizes) (m : Map) where
       let h₂₁ = first-zero 21 (spent m 1 more 0) _ (lit< tt) (h₂₀ .1) in
       record {
         has = has-edge m e (h₄ .0);
-        in-range = inside x y (h₅ .0);
+        in-range = point-in-range x y (h₅ .0);
         free = h₁₀ .0;
         on = not-false (onCurve (edge m (natAbs e) .curve) (point x y)) (h₁₃ .0);
         room = room s m 1 1 0 (h₂₀ .0);
