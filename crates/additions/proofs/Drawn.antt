@@ -23,6 +23,7 @@ use Rattle.map.specs.Reasons.{firstReason, reasons}
 use Rattle.map.proofs.Laws.{formed-is}
 use Rattle.map.proofs.RoundTrip.{whole-rows}
 use Rattle.map.proofs.Linked as formedLinks
+use Rattle.map.proofs.Scans.{each-all}
 use Rattle.tables.specs.Tables.{sameZ, column, nodesOf, edgesOf, facesOf, nodeAt, edgeAt, nodeMap}
 use Rattle.tables.proofs.Rows.{edges-length, edges-getD}
 use Rattle.tables.proofs.Lookups.{node-found}
@@ -39,7 +40,6 @@ use Rattle.face_edits.proofs.Formed.{formed-held}
 use Rattle.grown.proofs.Readings.{missing, has-number}
 use Rattle.grown.proofs.RowChanges.{nodeNumber}
 use Rattle.grown.proofs.Reasons.{AddEdge, add-new, add-mod}
-use Rattle.grown.proofs.Scanning.{each-all}
 use Rattle.grown.proofs.Numbers.{Outline, outlineOf, outlines, RankedMap, numbered-ranked, has-face}
 use Rattle.grown.proofs.NumbersAdd.{corner-in}
 use Rattle.grown.proofs.Outlines.{drawnOutline, drawn-shape}

@@ -20,8 +20,8 @@ use Rattle.map.specs.Rows.{Edge, Map}
 use Rattle.map.specs.Darts.{arcs, directed, leaves, next, bears, way}
 use Rattle.map.specs.Form.{formed}
 use Rattle.map.proofs.Laws.{formed-is}
+use Rattle.map.proofs.Scans.{all-each, each-all}
 use Rattle.grown.specs.Good.{Woven}
-use Rattle.grown.proofs.Scanning.{all-each, each-all}
 use Rattle.grown.proofs.Readings.{arcOf, arc-at, bears-left, bears-right}
 use Rattle.grown.proofs.RowChanges.{nodeNumber}
 use Rattle.grown.proofs.EdgesReached.{Reached, reached-borne}

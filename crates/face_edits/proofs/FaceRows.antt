@@ -20,12 +20,12 @@ use Rattle.map.specs.Limits.{faceWidth, lastNumber}
 use Rattle.map.specs.Rows.{rows, faceCells, faceRowOf}
 use Rattle.map.specs.Form.{faceRanges, numbered}
 use Rattle.map.proofs.RoundTrip.{filled-length}
+use Rattle.map.proofs.Scans as scanning
 use Rattle.tables.specs.Tables.{FaceRows, Rising, sameZ, column, facesOf, closed}
 use Rattle.tables.proofs.Rows.{faces-getD}
 use Rattle.tables.proofs.Lookups.{face-found, face-missing}
 use Rattle.tables.proofs.Numbers.{without-at}
 use Rattle.tables.proofs.Writes.{rows-flat, flat-length, faces-wide, pushed, removed-at}
-use Rattle.grown.proofs.Scanning as scanning
 use Rattle.face_edits.specs.Holds.{facesIn, FaceTable, withoutFace}
 
 -- ---- a table read

@@ -17,12 +17,12 @@ use Rattle.lists.proofs.Bools.{which, same-true, same-refl, same-false, differ}
 use Rattle.map.specs.declared.Head.{Head}
 use Rattle.map.specs.Rows.{Edge, mapOf, headOf, filled, nodeCells, edgeCells}
 use Rattle.map.specs.Edits.{renamed, renamedNode, renamedFaces, withSides}
+use Rattle.map.proofs.Scans as scanning
 use Rattle.tables.specs.Tables.{nodesOf, edgesOf, facesOf}
 use Rattle.tables.proofs.Rows.{nodes-length, edges-length, faces-length}
 use Rattle.ranges.specs.Ranges.{lent}
 use Rattle.face_edits.specs.Holds.{facesIn, FaceTable, withoutFace, Healable, Holds, healedHead, faceKept, healed}
 use Rattle.face_edits.proofs.FaceRows.{table-rising, table-distinct, without-length, still-there}
-use Rattle.grown.proofs.Scanning as scanning
 
 -- ---- the map that is lent
 

@@ -2,11 +2,24 @@
 use mathlib.Core.Path.{_≡_, refl, sym, _∙_, subst}
 use mathlib.Core.List.{List, [], _∷_, _++_}
 use mathlib.Core.Logic.{_⊎_, inl, inr, _≢_}
+use Prim.Native.Nat.{_≤_}
+use native.Mathlib.Omega.{arith}
+use lib.ListN.{length}
 use Rattle.plane.specs.declared.Point.{Point}
 use Rattle.curves.specs.Curves.{lastOf}
 use Rattle.geometry.specs.Spots.{Spot, spot, At, OnSeg}
-use Rattle.geometry.specs.Meaning.{On, Differ, Arc, Simple, End}
+use Rattle.geometry.specs.Meaning.{On, Differ, Arc, Simple, Some, End}
 use Rattle.geometry.proofs.Segments.{at-first, at-last, at-one, at-spot}
+
+-- ---- two points or more
+
+pub some-length : (r : List Point) → Some r → 1 ≤ length r
+some-length [] h = absurd h
+some-length (b ∷ r) h = omega arith
+
+pub length-some : (r : List Point) → 1 ≤ length r → Some r
+length-some [] h = absurd (omega arith)
+length-some (b ∷ r) h = tt
 
 -- ---- spots
 

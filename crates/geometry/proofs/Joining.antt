@@ -1,7 +1,7 @@
 -- The join of two arcs at a common end. Assumes nothing.
 use mathlib.Core.Path.{_≡_, refl, sym, ap, _∙_}
 use mathlib.Core.Bool.{Bool, true, false}
-use mathlib.Core.List.{List, [], _∷_, _++_}
+use mathlib.Core.List.{List, [], _∷_, _++_, List·Memᴰ, List·Memᴰ·head, List·Memᴰ·tail, List·Memᴰ·cases-cons}
 use mathlib.Core.Logic.{_⊎_, inl, inr, _≢_}
 use Prim.Native.Nat.{ℕ, suc, _+_}
 use lib.ListN.{length}
@@ -41,6 +41,32 @@ join-count a (b ∷ c ∷ r) s = go (join-count b (c ∷ r) s)
     go (inl e) = inl (ap suc e)
     go (inr e) = inr (ap suc e)
 
+module _ (a : Point) (r s : List Point) (h : Some r) (k : Some s) where
+  pub join-some : Some (join a r s)
+  join-some = join-alike a r s h k .some′
+
+  pub join-last : lastOf a (join a r s) ≡ lastOf (lastOf a r) s
+  join-last = sym (join-alike a r s h k .last) ∙ last-append a r s
+
+  pub join-differ : Differ a r → Differ (lastOf a r) s → Differ a (join a r s)
+  join-differ d e = join-alike a r s h k .differ (differ-join a r s d e)
+
+-- no point is new
+pub join-given : (a : Point) (r s : List Point) {p : Point} → List·Memᴰ p (join a r s)
+    → List·Memᴰ p r ⊎ List·Memᴰ p s
+join-given a [] s k = inr k
+join-given a (m ∷ []) s {p} k = go (dropped a m s) k
+  where
+    go : (t : Bool) → List·Memᴰ p (joinHere t m s) → List·Memᴰ p (m ∷ []) ⊎ List·Memᴰ p s
+    go true j = inr j
+    go false j = elim (List·Memᴰ·cases-cons j) [ inl e ↦ inl (List·Memᴰ·head e) | inr i ↦ inr i ]
+join-given a (b ∷ c ∷ r) s {p} k = go (λ j. join-given b (c ∷ r) s j) (List·Memᴰ·cases-cons k)
+  where
+    go : (List·Memᴰ p (join b (c ∷ r) s) → List·Memᴰ p (c ∷ r) ⊎ List·Memᴰ p s)
+        → (p ≡ b) ⊎ List·Memᴰ p (join b (c ∷ r) s) → List·Memᴰ p (b ∷ c ∷ r) ⊎ List·Memᴰ p s
+    go ih (inl e) = inl (List·Memᴰ·head e)
+    go ih (inr j) = elim (ih j) [ inl i ↦ inl (List·Memᴰ·tail i) | inr i ↦ inr i ]
+
 -- j ∷ is what a ∷ r and m ∷ s, with m the last point of a ∷ r, become
 pub record Joined (a : Point) (r s j : List Point) : Type 0 where
   pub some : Some j
@@ -63,9 +89,9 @@ join-joined a r s h k n n′ f g c =
     let w = join-alike a r s h k in
     record {
       some = w .some′;
-      last = sym (w .last) ∙ last-append a r s;
+      last = join-last a r s h k;
       simple = w .simple (simple-some a r s h n (record { front = f; back = g; closing = c }));
-      differ = w .differ (differ-join a r s n n′);
+      differ = join-differ a r s h k n n′;
       on-first = λ P o. w .on P (on-front P a r s o);
       on-second = λ P o. w .on P (on-back P a r s o);
       on-either = λ P o. on-split P a r s (w .on′ P o);

@@ -1,6 +1,7 @@
 -- A curve the other way round. Assumes nothing.
 use mathlib.Core.Path.{_≡_, refl, sym, ap, _∙_, subst}
-use mathlib.Core.List.{List, [], _∷_, _++_}
+use mathlib.Core.List.{List, [], _∷_, _++_, List·Memᴰ, List·Memᴰ·head, List·Memᴰ·tail, List·Memᴰ·append-cases}
+use mathlib.Core.List.{List·Memᴰ·eq-of-singleton}
 use mathlib.Core.Logic.{_⊎_, inl, inr}
 use Prim.Native.Nat.{suc, _+_}
 use native.Mathlib.Omega.{arith}
@@ -31,6 +32,17 @@ some-turned a (b ∷ r) h = go (turned b r)
 pub length-turned : (a : Point) (r : List Point) → length (turned a r) ≡ length r
 length-turned a [] = refl
 length-turned a (b ∷ r) = length-append (turned b r) (a ∷ []) ∙ let e : length (turned b r) + 1 ≡ suc (length r) = omega (arith, length-turned b r) in e
+
+-- no point is new
+pub turned-given : (a : Point) (r : List Point) {p : Point} → List·Memᴰ p (lastOf a r ∷ turned a r)
+    → List·Memᴰ p (a ∷ r)
+turned-given a [] k = k
+turned-given a (b ∷ r) {p} k = go (λ j. turned-given b r j) (List·Memᴰ·append-cases (lastOf b r ∷ turned b r) k)
+  where
+    go : (List·Memᴰ p (lastOf b r ∷ turned b r) → List·Memᴰ p (b ∷ r))
+        → List·Memᴰ p (lastOf b r ∷ turned b r) ⊎ List·Memᴰ p (a ∷ []) → List·Memᴰ p (a ∷ b ∷ r)
+    go ih (inl j) = List·Memᴰ·tail (ih j)
+    go ih (inr j) = List·Memᴰ·head (List·Memᴰ·eq-of-singleton j)
 
 turned-snoc : (a b : Point) (r : List Point) → turned a (r ++ (b ∷ [])) ≡ lastOf a r ∷ turned a r
 turned-snoc a b [] = refl

@@ -1,7 +1,7 @@
 -- `Kept` of the new curves: halves, joins, reverses and curves that a ticket sends. Assumes nothing.
 use mathlib.Core.Path.{_≡_, refl, sym, subst}
 use mathlib.Core.Bool.{Bool, true, false}
-use mathlib.Core.List.{List, [], _∷_, _++_, List·Memᴰ, List·Memᴰ·head, List·Memᴰ·tail, List·Memᴰ·cases-cons, List·Memᴰ·not-nil, List·Memᴰ·append-cases}
+use mathlib.Core.List.{List, [], _∷_, List·Memᴰ, List·Memᴰ·head, List·Memᴰ·tail, List·Memᴰ·cases-cons, List·Memᴰ·not-nil}
 use mathlib.Core.Logic.{_⊎_, inl, inr, _≢_}
 use Prim.Native.Nat.{ℕ, suc, _+_, _≤_}
 use native.Mathlib.Omega.{arith}
@@ -11,10 +11,13 @@ use Rattle.plane.specs.Points.{InRange, samePoint}
 use Rattle.plane.specs.Segments.{onSegment}
 use Rattle.curves.specs.Curves.{Curve, lastOf, points, lastPoint, maxPoints}
 use Rattle.curves.specs.Tests.{straightIn}
-use Rattle.curves.specs.Edits.{cutHere, cut, front, back, dropped, joinHere, join, joined, turned, course}
+use Rattle.curves.specs.Edits.{cutHere, cut, front, back, join, joined, turned, course}
 use Rattle.geometry.specs.Spots.{spot}
 use Rattle.geometry.specs.Meaning.{Some}
 use Rattle.geometry.specs.Drawing.{OnCurve, Good}
+use Rattle.geometry.proofs.Chains.{some-length, length-some}
+use Rattle.geometry.proofs.Joining.{join-given}
+use Rattle.geometry.proofs.Turning.{turned-given}
 use Rattle.geometry.proofs.Theorems.{cut-count, cut-good, reverse-count}
 use Rattle.map.specs.Rows.{Map}
 use Rattle.grown.specs.Good.{Kept}
@@ -39,9 +42,6 @@ module _ (R : Point → Type 0) where
   each-tail : {a : Point} {l : List Point} → Each (a ∷ l) → Each l
   each-tail h p m = h p (List·Memᴰ·tail m)
 
-  each-append : (l k : List Point) → Each l → Each k → Each (l ++ k)
-  each-append l k h g p m = elim (List·Memᴰ·append-cases l m) [ inl n ↦ h p n | inr n ↦ g p n ]
-
   each-cut : (m a : Point) (r : List Point) → R m → Each r → Each (cut m a r .front) × Each (cut m a r .back)
   each-cut m a [] k h = (each-nil, each-nil)
   each-cut m a (b ∷ r) k h = go (onSegment m a b) (samePoint m b) (each-cut m b r k (each-tail h))
@@ -52,23 +52,12 @@ module _ (R : Point → Type 0) where
       go false q f = (each-cons (each-head h) (f .0), f .1)
 
   each-join : (a : Point) (r s : List Point) → Each r → Each s → Each (join a r s)
-  each-join a [] s h k = k
-  each-join a (m ∷ []) s h k = go (dropped a m s)
-    where
-      go : (b : Bool) → Each (joinHere b m s)
-      go true = k
-      go false = each-cons (each-head h) k
-  each-join a (b ∷ c ∷ r) s h k = each-cons (each-head h) (each-join b (c ∷ r) s (each-tail h) k)
+  each-join a r s h k p m = elim (join-given a r s m) [ inl j ↦ h p j | inr j ↦ k p j ]
 
   each-turned : (a : Point) (r : List Point) → R a → Each r → Each (lastOf a r ∷ turned a r)
-  each-turned a [] k h = each-cons k each-nil
-  each-turned a (b ∷ r) k h = each-append (lastOf b r ∷ turned b r) (a ∷ []) (each-turned b r (each-head h) (each-tail h)) (each-cons k each-nil)
+  each-turned a r k h p m = each-cons k h p (turned-given a r m)
 
 -- ---- the cut at a point inside
-
-some-length : (r : List Point) → Some r → 1 ≤ length r
-some-length [] h = absurd h
-some-length (b ∷ r) h = omega arith
 
 module _ (m : Point) (c : Curve) (n : c .first ≢ m) (l : lastPoint c ≢ m) (o : OnCurve (spot m) c) (g : Good c) (k : Kept c) (i : InRange m) where
   -- both halves have a point more than none, so neither has more points than the curve
@@ -127,8 +116,4 @@ pub sent-kept : {m : Map} {c : Curve} {u v : ℕ} → Sent m c u v → Kept c
 sent-kept s = record { most = s .most; in-range = s .in-range; bent = s .bent }
 
 pub sent-some : {m : Map} (c : Curve) {u v : ℕ} → Sent m c u v → Some (c .rest)
-sent-some c s = go (c .rest) (s .least)
-  where
-    go : (r : List Point) → 2 ≤ suc (length r) → Some r
-    go [] h = absurd (omega arith)
-    go (b ∷ r) h = tt
+sent-some c s = length-some (c .rest) (omega (arith, s .least))

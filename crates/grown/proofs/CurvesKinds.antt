@@ -15,13 +15,13 @@ use Rattle.geometry.proofs.Meeting.{samePoint-differ, differs-true}
 use Rattle.map.specs.Rows.{Edge, Map, Sizes, node, edge, hasNode, hasEdge, withoutNode, withoutEdge}
 use Rattle.map.specs.Edits.{addIsoNode, moveIsoNode, removeIsoNode, addIsoEdge, removeIsoEdge, changeEdgeGeom, split, addEdge, removeEdge}
 use Rattle.map.specs.Reasons.{isolated, nodeAt, edgeWrong}
+use Rattle.map.proofs.Scans.{none-has}
 use Rattle.grown.specs.Good.{Surveyed, Good}
 use Rattle.grown.proofs.Readings.{without, edge-row}
 use Rattle.grown.proofs.RowChanges.{node-row}
 use Rattle.grown.proofs.Reasons.{Sent, AddNode, MoveNode, RemoveNode, AddLone, Change, Split, AddEdge}
 use Rattle.grown.proofs.Numbers.{outlineOf, numbered-ranked}
 use Rattle.grown.proofs.CurvesKept.{sent-kept, sent-some}
-use Rattle.grown.proofs.Scanning.{none-has}
 use Rattle.grown.proofs.CurvesSurvey.{Line, Place, lineOf, placeOf, lines, places, atIn, placeNumber, lineNumber, Sited, Survey, lines-once, place-fresh, named-nodes, place-in, survey, surveyed-by}
 use Rattle.grown.proofs.CurvesSites.{Clear, Drawable, survey-plot, survey-unplot, survey-move, survey-keep, survey-append, survey-change}
 use Rattle.grown.proofs.CurvesCut.{firstHalf, secondHalf, survey-split-new, survey-split-mod}

@@ -11,11 +11,11 @@ use Rattle.map.specs.Rows.{Map, Sizes}
 use Rattle.map.specs.Darts.{ring, among}
 use Rattle.map.specs.Links.{cornerFace}
 use Rattle.map.specs.Edits.{drawnIn, splitsFace, addEdge}
+use Rattle.map.proofs.Scans.{rising-distinct}
 use Rattle.grown.specs.Good.{Good}
 use Rattle.grown.proofs.Readings.{dart-has}
 use Rattle.grown.proofs.RowChanges.{InPlane}
 use Rattle.grown.proofs.Reasons.{AddEdge}
-use Rattle.grown.proofs.Scanning.{rising-distinct}
 use Rattle.grown.proofs.NumbersFaces.{bears-in}
 use Rattle.grown.proofs.NumbersAdd.{corner-in}
 use Rattle.grown.proofs.Carried.{ranks}

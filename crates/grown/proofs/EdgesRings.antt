@@ -20,7 +20,7 @@ use Rattle.planar.proofs.Joins.{leads-keep}
 use Rattle.rotation.proofs.Clock.{le-or}
 use Rattle.map.specs.Rows.{Map}
 use Rattle.map.specs.Darts.{arcs, directed, leaves, next, bears, stepsTo, ring, among, lowestEdge}
-use Rattle.grown.proofs.Scanning.{any-some, some-any}
+use Rattle.map.proofs.Scans.{any-some, some-any}
 
 -- a list in which nothing stands twice, part of another, is no longer than it
 distinct-length : {A : Type 0} (l k : List A) → Distinct l → ((x : A) → List·Memᴰ x l → List·Memᴰ x k) → length l ≤ length k

@@ -24,8 +24,8 @@ use Rattle.rotation.proofs.Ways.{alike-says}
 use Rattle.map.specs.Rows.{Edge, Map}
 use Rattle.map.specs.Darts.{arcs, directed, leaves, next, bears, departures, way}
 use Rattle.map.specs.Form.{numbers, named, curveFits, waysDiffer, departuresDiffer, linksOnce, linksMeet, ringsBearOne, formed}
+use Rattle.map.proofs.Scans.{each-all, any-some}
 use Rattle.grown.specs.Good.{Good}
-use Rattle.grown.proofs.Scanning.{each-all, any-some}
 use Rattle.grown.proofs.Apart.{curve-good, apart}
 
 pub distinct-keep : {A : Type 0} (p : A → Bool) (l : List A) → Distinct l → Distinct (keep p l)

@@ -19,9 +19,9 @@ use Rattle.map.specs.Ticket.{carried, lentReasons, unless, judged, ticket}
 use Rattle.map.specs.Grow.{after, grow}
 use Rattle.map.specs.Sound.{Sound}
 use Rattle.map.proofs.RoundTrip.{whole-rows, whole-tables}
+use Rattle.map.proofs.Reasons.{first-zero}
 use Rattle.grown.specs.Good.{Good, Fits}
 use Rattle.grown.specs.Claims.{GrownMap, Grows, Limited, NeverLent}
-use Rattle.grown.proofs.Reasons.{no-reason}
 use Rattle.grown.proofs.LawfulForm.{law-is}
 use Rattle.grown.proofs.Carried.{fits-kept}
 use Rattle.grown.proofs.Sounds.{good-sound}
@@ -45,8 +45,8 @@ module _ (s : Sizes) (m : Map) (g : Good m) (f : Fits s m) where
   pub free : (t : Ticket) → firstReason (lentReasons (lentOf s m) ++ reasons (sizesOf (lentOf s m)) (mapOf (lentOf s m)) t) ≡ 0 → firstReason (reasons s m t) ≡ 0
   free t h =
       let l = lentOf s m in
-      let h₁ = no-reason 0 (not (whole l)) _ h in
-      let h₂ = no-reason 1 (not (inForm l)) (reasons (sizesOf l) (mapOf l) t) (h₁ .1) in
+      let h₁ = first-zero 1 (not (whole l)) _ (omega arith) h in
+      let h₂ = first-zero 2 (not (inForm l)) (reasons (sizesOf l) (mapOf l) t) (omega arith) (h₁ .1) in
       ap₂ (λ (z : Sizes) (x : Map). firstReason (reasons z x t)) (sym (sizes-back m g s f)) (sym (good-back m g s)) ∙ h₂ .1
 
   carry : (t : Ticket) (n : ℕ) → firstReason (lentReasons (lentOf s m) ++ reasons (sizesOf (lentOf s m)) (mapOf (lentOf s m)) t) ≡ n → State s (unless (lentOf s m) n (carried (mapOf (lentOf s m)) t) .lent)

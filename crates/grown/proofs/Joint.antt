@@ -15,8 +15,8 @@ use Rattle.planar.specs.Map.{Dart, fwd, bwd, rev}
 use Rattle.map.specs.Rows.{Map, edge, hasEdge}
 use Rattle.map.specs.Darts.{directed, leaves, departures, edgeEnds}
 use Rattle.map.specs.Edits.{sharedNodes, joint, parts}
+use Rattle.map.proofs.Scans.{found}
 use Rattle.grown.proofs.Readings.{leaves-row, has-dart, departing}
-use Rattle.grown.proofs.Scanning.{found}
 use Rattle.grown.proofs.Reasons.{Heal}
 
 -- the directed edges c and d meet at n: c arrives, d departs

@@ -32,7 +32,7 @@ use Rattle.map.specs.Darts.{arcs, directed, leaves, next, bears, way, departure
 use Rattle.map.specs.Links.{linkEdge, cornerFace}
 use Rattle.map.specs.Edits.{withFace, isEither, drawn, addIsoEdge, drawnIn, splitsFace, sharedOut, splitFace, addEdge}
 use Rattle.map.specs.Reasons.{isolated, wayTaken, directionTaken}
-use Rattle.grown.proofs.Scanning.{none-has}
+use Rattle.map.proofs.Scans.{none-has}
 use Rattle.grown.proofs.Readings.{Relinked, arcOf, departs, departing, leaves-by, next-by, bears-by, way-by}
 use Rattle.grown.proofs.RowChanges.{more-perm}
 use Rattle.grown.proofs.LawOrder.{law-order}

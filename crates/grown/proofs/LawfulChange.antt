@@ -20,7 +20,7 @@ use Rattle.map.specs.Darts.{arcs, leaves, next, bears, course, way, departures}
 use Rattle.map.specs.Links.{clockwise}
 use Rattle.map.specs.Edits.{addIsoNode, moveIsoNode, removeIsoNode, withCurve, changeEdgeGeom}
 use Rattle.map.specs.Reasons.{turnChanges, orderChanges}
-use Rattle.grown.proofs.Scanning.{none-has}
+use Rattle.map.proofs.Scans.{none-has}
 use Rattle.grown.proofs.Readings.{tailIn, nextIn, faceIn, leaves-row, next-row, bears-row, course-row, way-row, departs, departures-by, mapped-kept, mapped-arcs}
 use Rattle.grown.proofs.RowChanges.{at-other}
 use Rattle.grown.proofs.LawOrder.{lawful-alike}

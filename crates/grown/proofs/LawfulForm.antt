@@ -36,10 +36,10 @@ use Rattle.map.specs.Form.{waysDiffer, curveFits, departuresDiffer, bareMarked,
 use Rattle.map.specs.Reasons.{isolated}
 use Rattle.map.proofs.Laws.{formed-is}
 use Rattle.map.proofs.Linked as formedLinks
+use Rattle.map.proofs.Scans.{all-each, each-all, none-has}
 use Rattle.grown.specs.Good.{Anchored, Good}
 use Rattle.grown.proofs.Readings.{numberOf, nums-rows, departing}
 use Rattle.grown.proofs.RowChanges.{nodeNumber, node-row}
-use Rattle.grown.proofs.Scanning.{all-each, each-all, none-has}
 use Rattle.grown.proofs.Apart.{curve-long}
 use Rattle.grown.proofs.Forms.{good-formed}
 use Rattle.grown.proofs.EdgesLaw.{from-in, from-has}

@@ -25,7 +25,7 @@ use Rattle.map.specs.Rows.{Edge, Map, node, edge, hasEdge, atEdge, withoutEdge}
 use Rattle.map.specs.Darts.{arcs, directed, leaves, next, bears, way}
 use Rattle.map.specs.Edits.{startHalf, endHalf, split}
 use Rattle.map.specs.Reasons.{nodeAt}
-use Rattle.grown.proofs.Scanning.{none-has}
+use Rattle.map.proofs.Scans.{none-has}
 use Rattle.grown.proofs.Readings.{nextIn, leaves-row, next-row, bears-row, course-row, way-row, has-number, arcOf, numberOf, nums-rows, edge-row}
 use Rattle.grown.proofs.RowChanges.{nodeNumber, node-row}
 use Rattle.grown.proofs.RowDarts.{dart-move, dart-row, leaves-of, next-of, bears-of, way-of}

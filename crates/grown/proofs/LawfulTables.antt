@@ -34,12 +34,13 @@ use Rattle.map.specs.Tickets.{Ticket, AddIsoNode, MoveIsoNode, RemoveIsoNode, A
 use Rattle.map.specs.Reasons.{firstReason, reasons}
 use Rattle.map.specs.Ticket.{carried, lentReasons, unless, judged, ticket}
 use Rattle.map.proofs.RoundTrip.{Holds, reads-back, within-least, ranged-is}
+use Rattle.map.proofs.Reasons.{first-zero}
 use Rattle.map.proofs.Laws.{formed-is, in-form-points}
 use Rattle.grown.proofs.Readings.{arcOf, numberOf, nums-rows, next-row, edge-row, edge-at, row-has, has-dart, dart-has, without}
 use Rattle.grown.proofs.Changes.{last-first}
 use Rattle.grown.proofs.Forms.{distinct-keep}
 use Rattle.grown.proofs.Reasons as facts
-use Rattle.grown.proofs.Reasons.{no-reason, Split}
+use Rattle.grown.proofs.Reasons.{Split}
 use Rattle.grown.proofs.EdgesLaw.{from-in, from-has}
 use Rattle.grown.proofs.CurvesSurvey.{Line, lineOf, lines, lineNumber}
 use Rattle.grown.proofs.CurvesRows.{redrawn, addIsoNode-becomes, moveIsoNode-becomes, removeIsoNode-becomes, addIsoEdge-becomes, removeIsoEdge-becomes, changeEdgeGeom-becomes, addEdge-becomes, removeEdge-becomes}
@@ -224,8 +225,8 @@ ticket-lawful l t law = judge (read t)
   where
     carry : (k : Ticket) (n : ℕ) → firstReason (lentReasons l ++ reasons (sizesOf l) (mapOf l) k) ≡ n → obeysLaw (mapOf (unless l n (carried (mapOf l) k) .lent)) ≡ true
     carry k zero h =
-        let h₁ = no-reason 0 (not (whole l)) _ h in
-        let h₂ = no-reason 1 (not (inForm l)) (reasons (sizesOf l) (mapOf l) k) (h₁ .1) in
+        let h₁ = first-zero 1 (not (whole l)) _ (omega arith) h in
+        let h₂ = first-zero 2 (not (inForm l)) (reasons (sizesOf l) (mapOf l) k) (omega arith) (h₁ .1) in
         carried-lawful l (not-false (inForm l) (h₂ .0)) law k (h₂ .1)
     carry k (suc n) h = law
 

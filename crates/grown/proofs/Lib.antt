@@ -1,7 +1,6 @@
 -- Every grown map is good, hence sound and in form, and its links obey the law: `Grows`. Good is Numbered, Surveyed and Woven (specs/Good.antt): a map in the plane whose links obey the law.
 
--- Rows: what a map reads in them, and after each way of changing them; directed edges; lists
-pub mod Scanning
+-- Rows: what a map reads in them, and after each way of changing them; directed edges
 pub mod Readings
 pub mod RowChanges
 pub mod RowDarts

@@ -18,10 +18,10 @@ use Rattle.map.specs.Limits.{lastNumber}
 use Rattle.map.specs.Rows.{Node, Edge, Map, edge, hasNode, hasEdge, hasFace}
 use Rattle.map.specs.Darts.{arcs, directed, leaves, next, departures, edgeEnds}
 use Rattle.map.specs.Form.{numbered, numbers, inFace, edgeNames, named, bareMarked}
+use Rattle.map.proofs.Scans.{all-each, each-all, any-some, some-any, Rising, rising, rising-numbered}
 use Rattle.grown.specs.Good.{Numbered, Woven}
 use Rattle.grown.proofs.Readings.{numberOf, arcOf, edge-row, edge-at, row-has, has-dart, dart-has, leaves-row, next-row, departs, departing, has-number, tailIn}
 use Rattle.grown.proofs.RowChanges.{nodeNumber}
-use Rattle.grown.proofs.Scanning.{all-each, each-all, any-some, some-any, Rising, rising, rising-numbered}
 
 -- a row without its links and its curve
 pub record Outline : Type 0 where

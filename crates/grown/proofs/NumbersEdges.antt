@@ -17,9 +17,9 @@ use Rattle.map.specs.Rows.{Node, Edge, Map, node, edge, hasNode, hasEdge, atNod
 use Rattle.map.specs.Darts.{arcs, edgeEnds}
 use Rattle.map.specs.Links.{unlinkEdge}
 use Rattle.map.specs.Edits.{withFace, isEither, drawn, undrawn}
+use Rattle.map.proofs.Scans.{Rising, rising-append, rising-keep, rising-distinct}
 use Rattle.grown.proofs.Readings.{edge-at, numberOf, has-number}
 use Rattle.grown.proofs.RowChanges.{node-row}
-use Rattle.grown.proofs.Scanning.{Rising, rising-append, rising-keep, rising-distinct}
 use Rattle.grown.proofs.Numbers.{Outline, outlineOf, outlines, outlineNumber, Met, EndsAt, Placed, Sided, Ranked, RankedMap, ends-met, met-ends}
 use Rattle.grown.proofs.Outlines.{ranked-shape, drawnOutline, drawn-shape, marked, lessOutline, unlink-shape}
 use Rattle.grown.proofs.NumbersNodes.{rising-nodes, placed-map, lone-placed}

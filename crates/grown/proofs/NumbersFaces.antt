@@ -23,8 +23,8 @@ use Rattle.map.specs.Rows.{Node, Edge, Map, edge, hasEdge}
 use Rattle.map.specs.Darts.{arcs, bears, among, ring}
 use Rattle.map.specs.Faces.{encloses, ringArea}
 use Rattle.map.specs.Edits.{withFace, Shares, sideOfPoint, sideOfRing, sideOfDart, sideOfNode, withSides, sharedOut, splitFace}
+use Rattle.map.proofs.Scans.{Rising, rising-append, rising-keep}
 use Rattle.grown.proofs.Readings.{edge-row, edge-at, bears-row}
-use Rattle.grown.proofs.Scanning.{Rising, rising-append, rising-keep}
 use Rattle.grown.proofs.Numbers.{Outline, outlineOf, outlines, outlineNumber, Met, EndsAt, Sided, Ranked, RankedMap}
 use Rattle.grown.proofs.Outlines.{ranked-shape, outlines-map}
 use Rattle.grown.proofs.NumbersNodes.{rising-nodes, placed-map}

@@ -16,10 +16,10 @@ use Rattle.planar.specs.Map.{Dart, fwd, bwd, rev}
 use Rattle.map.specs.Rows.{Node, Edge, Map, edge, hasEdge, atEdge, withoutNode, withoutEdge}
 use Rattle.map.specs.Darts.{leaves, arrives, next}
 use Rattle.map.specs.Edits.{joint, parts, healedCurve, heal}
+use Rattle.map.proofs.Scans.{Rising, rising-keep}
 use Rattle.grown.proofs.Readings.{edge-row, leaves-row, tailIn}
 use Rattle.planar.proofs.Turns.{rev-rev}
 use Rattle.grown.proofs.Joint.{meets}
-use Rattle.grown.proofs.Scanning.{Rising, rising-keep}
 use Rattle.grown.proofs.Numbers.{Outline, outlineOf, outlines, outlineNumber, EndsAt, Sided, RankedMap}
 use Rattle.grown.proofs.Outlines.{ranked-shape, outlines-map, outlines-without, lessOutline}
 use Rattle.grown.proofs.NumbersNodes.{ranked-less-nodes}

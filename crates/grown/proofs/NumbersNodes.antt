@@ -21,9 +21,9 @@ use Rattle.map.specs.Rows.{Node, Edge, Map, node, atNodes, withoutNode}
 use Rattle.map.specs.Faces.{Floor, floorOf, floors, highest, faceAbove, faceOfPoint}
 use Rattle.map.specs.Edits.{lone, addIsoNode, moveIsoNode, removeIsoNode, withCurve, changeEdgeGeom}
 use Rattle.map.specs.Reasons.{isolated}
+use Rattle.map.proofs.Scans.{Rising, rising-append, rising-keep}
 use Rattle.grown.specs.Good.{Woven}
 use Rattle.grown.proofs.RowChanges.{nodeNumber, node-at}
-use Rattle.grown.proofs.Scanning.{Rising, rising-append, rising-keep}
 use Rattle.grown.proofs.Numbers.{Outline, outlineOf, outlines, Met, EndsAt, Placed, Sided, Ranked, RankedMap}
 use Rattle.grown.proofs.Outlines.{ranked-shape, framed-ranked, at-framed}
 

@@ -15,8 +15,8 @@ use Rattle.lists.proofs.Keeps.{keep-has}
 use Rattle.planar.proofs.Chains.{min-one}
 use Rattle.map.specs.Rows.{Node, Edge, Map, edge, hasEdge}
 use Rattle.map.specs.Edits.{removeIsoEdge, withSides, renamed, renamedNode, renamedFaces, healsFaces, lowerFace, makesFace, faceLeft, removeEdge}
+use Rattle.map.proofs.Scans.{Rising, rising-append, rising-keep}
 use Rattle.grown.proofs.Readings.{edge-row}
-use Rattle.grown.proofs.Scanning.{Rising, rising-append, rising-keep}
 use Rattle.grown.proofs.Numbers.{Outline, outlineOf, outlines, Sided, Ranked, RankedMap}
 use Rattle.grown.proofs.Outlines.{ranked-shape, outlines-map}
 use Rattle.grown.proofs.NumbersEdges.{outlines-distinct, undrawn-ranked, undrawn-map, undrawn-next-node, undrawn-next-edge, undrawn-next-face}

@@ -2,7 +2,7 @@
 use mathlib.Core.Path.{_≡_, refl, sym, ap, _∙_, subst}
 use mathlib.Core.Logic.{_⊎_, inl, inr, _≢_}
 use mathlib.Core.Bool.{Bool, true, false, cond, not}
-use mathlib.Core.List.{List, [], _∷_, _++_, map, map-map, map-append, append-assoc, List·Memᴰ, List·Memᴰ·head, List·Memᴰ·tail, List·Memᴰ·cases-cons, List·Memᴰ·append-cases, List·Memᴰ·eq-of-singleton, Memᴰ·append-left, Memᴰ·append-right, Memᴰ·map, Memᴰ·of-map, Memᴰ·cast}
+use mathlib.Core.List.{List, [], _∷_, _++_, map, map-append, append-assoc, List·Memᴰ, List·Memᴰ·head, List·Memᴰ·tail, List·Memᴰ·cases-cons, List·Memᴰ·append-cases, List·Memᴰ·eq-of-singleton, Memᴰ·append-left, Memᴰ·append-right, Memᴰ·map, Memᴰ·cast}
 use mathlib.Core.Option.{Option, none, some}
 use Prim.Native.Nat.{ℕ, _+_, _≤_}
 use native.Mathlib.Nat.{add-zero}
@@ -10,16 +10,15 @@ use native.Mathlib.Omega.{arith}
 use borrow.Author.Tests.{not-true}
 use Rattle.lists.specs.Tests.{same}
 use Rattle.lists.proofs.Bools.{same-true, same-eq, which}
-use Rattle.lists.proofs.Members.{map-cong}
 use Rattle.lists.proofs.Keeps.{keep-in, keep-has, keep-map}
 use Rattle.plane.specs.declared.Point.{Point}
 use Rattle.planar.specs.Map.{Dart, fwd, bwd}
 use Rattle.map.specs.Rows.{Node, Edge, Map, edge, hasEdge, atEdge, withoutEdge}
 use Rattle.map.specs.Links.{withLinks, instead, redirect}
 use Rattle.map.specs.Edits.{startHalf, endHalf, split}
+use Rattle.map.proofs.Scans.{Rising, rising-keep, replaced-numbers, replaced-in}
 use Rattle.grown.proofs.Readings.{edge-row, mapped-kept}
 use Rattle.grown.proofs.RowChanges.{nodeNumber}
-use Rattle.grown.proofs.Scanning.{Rising, rising-keep}
 use Rattle.grown.proofs.Numbers.{Outline, outlineOf, outlines, outlineNumber, Met, EndsAt, Sided, Ranked, RankedMap}
 use Rattle.grown.proofs.Outlines.{ranked-shape, Framed, framed-join, redirect-framed, outlines-map, outlines-without, lessOutline}
 use Rattle.grown.proofs.NumbersNodes.{ranked-more-node}
@@ -66,11 +65,7 @@ abbrev pub placing : ℕ → Outline → Outline → Outline
 placing e x o = cond (same (o .arc .num) e) x o
 
 pub placing-numbers : (e : ℕ) (x : Outline) (os : List Outline) → x .arc .num ≡ e → map outlineNumber (map (placing e x) os) ≡ map outlineNumber os
-placing-numbers e x os h = map-map outlineNumber (placing e x) os ∙ map-cong (λ o. placing e x o .arc .num) outlineNumber os (λ o k. go (same (o .arc .num) e) o refl)
-  where
-    go : (b : Bool) (o : Outline) → same (o .arc .num) e ≡ b → cond b x o .arc .num ≡ o .arc .num
-    go true o q = h ∙ sym (same-true (o .arc .num) e q)
-    go false o q = refl
+placing-numbers e x os h = replaced-numbers outlineNumber e x os h
 
 pub placing-in : (e : ℕ) (x o : Outline) (os : List Outline) → List·Memᴰ o os → o .arc .num ≡ e → List·Memᴰ x (map (placing e x) os)
 placing-in e x o os k h = Memᴰ·cast (ap (λ (b : Bool). cond b x o) (sym (same-eq (o .arc .num) e h))) (Memᴰ·map (placing e x) k)
@@ -79,13 +74,7 @@ pub placing-rest : (e : ℕ) (x o : Outline) (os : List Outline) → List·Mem�
 placing-rest e x o os k h = Memᴰ·cast (ap (λ (b : Bool). cond b x o) (sym h)) (Memᴰ·map (placing e x) k)
 
 pub placing-back : (e : ℕ) (x o : Outline) (os : List Outline) → List·Memᴰ o (map (placing e x) os) → (o ≡ x) ⊎ (List·Memᴰ o os × (same (o .arc .num) e ≡ false))
-placing-back e x o os k = go (Memᴰ·of-map (placing e x) os k)
-  where
-    go : (y : Outline) × List·Memᴰ y os × (placing e x y ≡ o) → (o ≡ x) ⊎ (List·Memᴰ o os × (same (o .arc .num) e ≡ false))
-    go y = elim (which (same (y .0 .arc .num) e)) [
-      | inl h ↦ inl (sym (y .2) ∙ ap (λ (b : Bool). cond b x (y .0)) h)
-      | inr h ↦ let q : y .0 ≡ o = sym (ap (λ (b : Bool). cond b x (y .0)) h) ∙ y .2 in inr (Memᴰ·cast (sym q) (y .1), ap (λ (z : Outline). same (z .arc .num) e) (sym q) ∙ h)
-    ]
+placing-back e x o os k = replaced-in outlineNumber e x os k
 
 -- ---- a split
 

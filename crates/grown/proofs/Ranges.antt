@@ -1,51 +1,34 @@
 -- A good map that fits is in form in its tables, and is read back from them. Assumes nothing.
-use mathlib.Core.Path.{_≡_, refl, sym, ap, _∙_}
+use mathlib.Core.Path.{_≡_, refl, ap, _∙_}
 use mathlib.Core.Bool.{true}
-use mathlib.Core.List.{List, [], _∷_, _++_, map, flatMap, List·Memᴰ, List·Memᴰ·head, List·Memᴰ·tail, Memᴰ·of-map}
+use mathlib.Core.List.{List, [], _∷_, List·Memᴰ}
 use mathlib.Core.Option.{Option, none, some}
-use Prim.Native.Nat.{ℕ, zero, suc, _*_, _-_, _/_, _%_, _≤_}
-use native.Mathlib.Nat.{mul-le-mul-right, mul-div-cancel, mul-mod-left}
+use Prim.Native.Nat.{ℕ, zero, suc, _/_, _≤_}
+use native.Mathlib.Nat.{mul-div-cancel}
 use native.Mathlib.Omega.{arith}
 use borrow.Author.Tests.{le-leb}
-use lib.Dec.{leb}
-use lib.IntN.{ℤ, pos, negsuc}
-use lib.ListN.{length, take, drop, replicate}
-use lib.Seq.{take-append-seam, drop-append-seam}
+use lib.IntN.{pos, negsuc}
+use lib.ListN.{length}
 use lib.Signed.{leZ}
-use Rattle.lists.specs.Tests.{same}
 use Rattle.lists.specs.Scans.{all, firstOr}
-use Rattle.lists.proofs.Bools.{same-refl, and-is}
+use Rattle.lists.proofs.Bools.{and-is}
 use Rattle.lists.proofs.Members.{all-of}
-use Rattle.plane.specs.declared.Point.{Point}
 use Rattle.plane.specs.Points.{InRange}
-use Rattle.curves.specs.Curves.{points, coordinates, coordinate, maxPoints}
+use Rattle.curves.specs.Curves.{points, maxPoints}
 use Rattle.curves.proofs.Runs.{coordinate-of}
 use Rattle.map.specs.Limits.{maxNodes, maxEdges, maxFaces, lastNumber, nodeWidth, edgeWidth, faceWidth}
-use Rattle.map.specs.Rows.{Node, Edge, Map, Sizes, filled, nodeCells, edgeCells, faceCells, faceCell, lentOf, mapOf, sizesOf, whole, wholeRows, nodeRows, edgeRows, faceRows}
-use Rattle.map.specs.Form.{within, isZero, restZero, nodeRanges, edgeRanges, faceRanges, ranged, formed, inForm, countsFit, nextsFit}
-use Rattle.map.proofs.Facts.{zeros}
-use Rattle.map.proofs.RoundTrip.{Wide, flat-length, rows-flat, nodes-wide, edge-wide, faces-wide, coordinates-length, filled-length}
+use Rattle.map.specs.Rows.{Node, Edge, Map, Sizes, nodeCells, edgeCells, faceCells, faceCell, lentOf, mapOf, sizesOf}
+use Rattle.map.specs.Rows.{whole, nodeRows, edgeRows, faceRows}
+use Rattle.map.specs.Form.{within, nodeRanges, edgeRanges, faceRanges, ranged, formed, inForm, countsFit}
+use Rattle.map.specs.Form.{nextsFit}
+use Rattle.map.proofs.RoundTrip.{Wide, each-row, flat-rest, table-length, nodes-wide, edge-wide, faces-wide}
+use Rattle.map.proofs.RoundTrip.{in-bounds, Stored, points-ranged, whole-table}
 use Rattle.map.proofs.Laws.{formed-back}
 use Rattle.grown.specs.Good.{Good, Fits}
-use Rattle.grown.proofs.Scanning.{each-all}
 use Rattle.grown.proofs.NumbersNodes.{zero-in}
 use Rattle.grown.proofs.Carried.{ranks}
 use Rattle.grown.proofs.Apart.{curve-long}
 use Rattle.grown.proofs.Forms.{good-formed}
-
--- ---- rows one after the other, and zeros behind
-
-module _ {A : Type 0} (w : ℕ) (cells : A → List ℤ) where
-  -- zeros behind them
-  flat-rest : (n : ℕ) (xs : List A) → Wide w cells xs → restZero w (pos (length xs)) (filled n (flatMap cells xs)) ≡ true
-  flat-rest n xs h =
-      let e = flat-length w cells xs h in
-      let k = n - length (flatMap cells xs) in
-      rw (← e, drop-append-seam (flatMap cells xs) (replicate k (pos 0))) (zeros k)
-
-  -- the table is as long as it was meant to be
-  table-length : (n : ℕ) (xs : List A) → Wide w cells xs → length xs ≤ n → length (filled (n * w) (flatMap cells xs)) ≡ n * w
-  table-length n xs h le = let e = flat-length w cells xs h in let k = mul-le-mul-right w le in filled-length (n * w) (flatMap cells xs) (omega arith)
 
 -- ---- ranges of a row
 
@@ -55,30 +38,17 @@ face-low (some f) = refl
 
 node-ranges : (n : Node) → InRange (n .at) → nodeRanges (nodeCells n) ≡ true
 unfolding nodeCells
-node-ranges n h = and-is (and-is (coordinate-of (n .at .x) (h .x)) (coordinate-of (n .at .y) (h .y))) (face-low (n .face))
+node-ranges n h = and-is (and-is (coordinate-of (n .at .x) (h .x)) (coordinate-of (n .at .y) (h .y)))
+    (face-low (n .face))
 
-coordinates-in : (ps : List Point) → ((p : Point) → List·Memᴰ p ps → InRange p) → all coordinate (coordinates ps) ≡ true
-coordinates-in [] h = refl
-coordinates-in (p ∷ ps) h =
-    let k = h p (List·Memᴰ·head refl) in
-    and-is (coordinate-of (p .x) (k .x)) (and-is (coordinate-of (p .y) (k .y)) (coordinates-in ps (λ q j. h q (List·Memᴰ·tail j))))
-
-edge-ranges : (e : Edge) → 2 ≤ length (points (e .curve)) → length (points (e .curve)) ≤ maxPoints → ((p : Point) → List·Memᴰ p (points (e .curve)) → InRange p) → edgeRanges (edgeCells e) ≡ true
+edge-ranges : (e : Edge) → Stored (e .curve) → edgeRanges (edgeCells e) ≡ true
 unfolding edgeCells
-edge-ranges e low high h =
-    let ps = points (e .curve) in
-    let cs = coordinates ps in
-    let k = 2 * maxPoints - length cs in
-    let c = coordinates-length ps in
-    let used : take (2 * length ps) (cs ++ replicate k (pos 0)) ≡ cs = rw (← c) (take-append-seam cs (replicate k (pos 0))) in
-    let rest : drop (2 * length ps) (cs ++ replicate k (pos 0)) ≡ replicate k (pos 0) = rw (← c) (drop-append-seam cs (replicate k (pos 0))) in
-    and-is (and-is (and-is (le-leb 2 (length ps) low) (le-leb (length ps) maxPoints high)) (ap (all coordinate) used ∙ coordinates-in ps h)) (ap (all isZero) rest ∙ zeros k)
+edge-ranges e h =
+    let n = length (points (e .curve)) in
+    let r = points-ranged (e .curve) h in
+    and-is (and-is (and-is (le-leb 2 n (h .least)) (le-leb n maxPoints (h .most))) (r .0)) (r .1)
 
 -- ---- the tables
-
--- from a to b
-in-bounds : (a b n : ℕ) → a ≤ n → n ≤ b → within a b (pos n) ≡ true
-in-bounds a b n h k = and-is (le-leb a n h) (le-leb n b k)
 
 module _ (m : Map) (g : Good m) where
   few : (e : Edge) → List·Memᴰ e (m .edges) → length (points (e .curve)) ≤ maxPoints
@@ -94,15 +64,18 @@ module _ (m : Map) (g : Good m) where
   module _ (s : Sizes) (f : Fits s m) where
     node-room : length (lentOf s m .nodes) / nodeWidth ≡ s .nodes
     unfolding lentOf
-    node-room = rw (table-length nodeWidth nodeCells (s .nodes) (m .nodes) (nodes-wide (m .nodes)) (f .nodes)) (mul-div-cancel (s .nodes) (omega arith))
+    node-room = rw (table-length nodeWidth nodeCells (s .nodes) (m .nodes) (nodes-wide (m .nodes)) (f .nodes))
+        (mul-div-cancel (s .nodes) (omega arith))
 
     edge-room : length (lentOf s m .edges) / edgeWidth ≡ s .edges
     unfolding lentOf
-    edge-room = rw (table-length edgeWidth edgeCells (s .edges) (m .edges) edges-wide (f .edges)) (mul-div-cancel (s .edges) (omega arith))
+    edge-room = rw (table-length edgeWidth edgeCells (s .edges) (m .edges) edges-wide (f .edges))
+        (mul-div-cancel (s .edges) (omega arith))
 
     face-room : length (lentOf s m .faces) / faceWidth ≡ s .faces
     unfolding lentOf
-    face-room = rw (table-length faceWidth faceCells (s .faces) (m .faces) (faces-wide (m .faces)) (f .faces)) (mul-div-cancel (s .faces) (omega arith))
+    face-room = rw (table-length faceWidth faceCells (s .faces) (m .faces) (faces-wide (m .faces)) (f .faces))
+        (mul-div-cancel (s .faces) (omega arith))
 
     -- so are the sizes
     pub sizes-back : sizesOf (lentOf s m) ≡ s
@@ -117,57 +90,69 @@ module _ (m : Map) (g : Good m) where
 
     counts : countsFit (lentOf s m) ≡ true
     unfolding lentOf
-    counts = and-is (and-is (ap (λ (n : ℕ). within 0 n (pos (length (m .nodes)))) node-room ∙ in-bounds 0 (s .nodes) (length (m .nodes)) (omega arith) (f .nodes)) (ap (λ (n : ℕ). within 0 n (pos (length (m .edges)))) edge-room ∙ in-bounds 0 (s .edges) (length (m .edges)) (omega arith) (f .edges))) (ap (λ (n : ℕ). within 1 n (pos (length (m .faces)))) face-room ∙ in-bounds 1 (s .faces) (length (m .faces)) some-face (f .faces))
+    counts =
+        and-is
+        (and-is (ap (λ (n : ℕ). within 0 n (pos (length (m .nodes)))) node-room
+        ∙ in-bounds 0 (s .nodes) (length (m .nodes)) (omega arith) (f .nodes))
+        (ap (λ (n : ℕ). within 0 n (pos (length (m .edges)))) edge-room
+        ∙ in-bounds 0 (s .edges) (length (m .edges)) (omega arith) (f .edges)))
+        (ap (λ (n : ℕ). within 1 n (pos (length (m .faces)))) face-room
+        ∙ in-bounds 1 (s .faces) (length (m .faces)) some-face (f .faces))
 
     nexts : nextsFit (lentOf s m .head) ≡ true
     unfolding lentOf
     nexts =
         let n = g .numbered in
         let z = ranks m g .faces .bounds 0 (zero-in (m .faces) (ranks m g .zero)) .1 in
-        and-is (in-bounds 1 (suc lastNumber) (m .nextNode) (n .first-node) (n .next-node)) (and-is (in-bounds 1 (suc lastNumber) (m .nextEdge) (n .first-edge) (n .next-edge)) (and-is (in-bounds 1 (suc lastNumber) (m .nextFace) (omega arith) (n .next-face)) refl))
+        and-is (in-bounds 1 (suc lastNumber) (m .nextNode) (n .first-node) (n .next-node))
+        (and-is (in-bounds 1 (suc lastNumber) (m .nextEdge) (n .first-edge) (n .next-edge))
+        (and-is (in-bounds 1 (suc lastNumber) (m .nextFace) (omega arith) (n .next-face)) refl))
 
     node-row-ranges : all nodeRanges (nodeRows (lentOf s m)) ≡ true
     unfolding lentOf
-    node-row-ranges = ap (all nodeRanges) (rows-flat nodeWidth nodeCells (m .nodes) _ (nodes-wide (m .nodes))) ∙ each-all nodeRanges (map nodeCells (m .nodes)) (λ r k. go r (Memᴰ·of-map nodeCells (m .nodes) k))
-      where
-        go : (r : List ℤ) → (n : Node) × List·Memᴰ n (m .nodes) × (nodeCells n ≡ r) → nodeRanges r ≡ true
-        go r x = ap nodeRanges (sym (x .2)) ∙ node-ranges (x .0) (g .surveyed .nodes-in-range (x .0) (x .1))
+    node-row-ranges = each-row nodeWidth nodeCells nodeRanges (m .nodes) _ (nodes-wide (m .nodes))
+        (λ n k. node-ranges n (g .surveyed .nodes-in-range n k))
 
     edge-row-ranges : all edgeRanges (edgeRows (lentOf s m)) ≡ true
     unfolding lentOf
-    edge-row-ranges = ap (all edgeRanges) (rows-flat edgeWidth edgeCells (m .edges) _ edges-wide) ∙ each-all edgeRanges (map edgeCells (m .edges)) (λ r k. go r (Memᴰ·of-map edgeCells (m .edges) k))
-      where
-        go : (r : List ℤ) → (e : Edge) × List·Memᴰ e (m .edges) × (edgeCells e ≡ r) → edgeRanges r ≡ true
-        go r x = ap edgeRanges (sym (x .2)) ∙ edge-ranges (x .0) (curve-long m (g .surveyed) (x .0) (x .1)) (few (x .0) (x .1)) (g .surveyed .kept (x .0) (x .1) .in-range)
+    edge-row-ranges = each-row edgeWidth edgeCells edgeRanges (m .edges) _ edges-wide
+        (λ e k. edge-ranges e (record {
+          least = curve-long m (g .surveyed) e k;
+          most = few e k;
+          in-range = g .surveyed .kept e k .in-range;
+        }))
 
     face-row-ranges : all faceRanges (faceRows (lentOf s m)) ≡ true
     unfolding lentOf
-    face-row-ranges = ap (all faceRanges) (rows-flat faceWidth faceCells (m .faces) _ (faces-wide (m .faces))) ∙ each-all faceRanges (map faceCells (m .faces)) (λ r k. go r (Memᴰ·of-map faceCells (m .faces) k))
-      where
-        go : (r : List ℤ) → (n : ℕ) × List·Memᴰ n (m .faces) × (faceCells n ≡ r) → faceRanges r ≡ true
-        go r x = ap faceRanges (sym (x .2))
+    face-row-ranges = each-row faceWidth faceCells faceRanges (m .faces) _ (faces-wide (m .faces)) (λ f k. refl)
 
     good-ranged : ranged (lentOf s m) ≡ true
     unfolding ranged lentOf
-    good-ranged = and-is (and-is (and-is (and-is (and-is (and-is (and-is counts nexts) (flat-rest nodeWidth nodeCells _ (m .nodes) (nodes-wide (m .nodes)))) (flat-rest edgeWidth edgeCells _ (m .edges) edges-wide)) (flat-rest faceWidth faceCells _ (m .faces) (faces-wide (m .faces)))) node-row-ranges) edge-row-ranges) face-row-ranges
+    good-ranged =
+        and-is
+        (and-is
+        (and-is
+        (and-is
+        (and-is (and-is (and-is counts nexts) (flat-rest nodeWidth nodeCells _ (m .nodes) (nodes-wide (m .nodes))))
+        (flat-rest edgeWidth edgeCells _ (m .edges) edges-wide))
+        (flat-rest faceWidth faceCells _ (m .faces) (faces-wide (m .faces)))) node-row-ranges) edge-row-ranges)
+        face-row-ranges
 
     -- a good map in its tables is in form
     pub good-in-form : inForm (lentOf s m) ≡ true
     unfolding inForm
     good-in-form = and-is good-ranged (ap formed (good-back s) ∙ good-formed m g)
 
--- ---- whole rows, within the limits
-
-whole-table : (w least most n : ℕ) (l : List ℤ) → length l ≡ n * w → length l / w ≡ n → least ≤ n → n ≤ most → wholeRows w least most l ≡ true
-whole-table w least most n l size room low high =
-    and-is (and-is (ap (λ (k : ℕ). same (k % w) 0) size ∙ ap (λ (k : ℕ). same k 0) (mul-mod-left n w) ∙ same-refl 0) (ap (leb least) room ∙ le-leb least n low)) (ap (λ (k : ℕ). leb k most) room ∙ le-leb n most high)
-
 -- tables of these sizes are whole
-pub good-whole : (m : Map) (g : Good m) (s : Sizes) (f : Fits s m) → 1 ≤ s .faces → s .nodes ≤ maxNodes → s .edges ≤ maxEdges → s .faces ≤ maxFaces → whole (lentOf s m) ≡ true
+pub good-whole : (m : Map) (g : Good m) (s : Sizes) (f : Fits s m) → 1 ≤ s .faces → s .nodes ≤ maxNodes
+    → s .edges ≤ maxEdges → s .faces ≤ maxFaces → whole (lentOf s m) ≡ true
 unfolding whole lentOf
 good-whole m g s f h a b c =
     and-is
     (and-is
-    (whole-table nodeWidth 0 maxNodes (s .nodes) (lentOf s m .nodes) (table-length nodeWidth nodeCells (s .nodes) (m .nodes) (nodes-wide (m .nodes)) (f .nodes)) (node-room m g s f) (omega arith) a)
-    (whole-table edgeWidth 0 maxEdges (s .edges) (lentOf s m .edges) (table-length edgeWidth edgeCells (s .edges) (m .edges) (edges-wide m g) (f .edges)) (edge-room m g s f) (omega arith) b))
-    (whole-table faceWidth 1 maxFaces (s .faces) (lentOf s m .faces) (table-length faceWidth faceCells (s .faces) (m .faces) (faces-wide (m .faces)) (f .faces)) (face-room m g s f) h c)
+    (whole-table nodeWidth 0 maxNodes (s .nodes) (lentOf s m .nodes) (omega arith)
+    (table-length nodeWidth nodeCells (s .nodes) (m .nodes) (nodes-wide (m .nodes)) (f .nodes)) (omega arith) a)
+    (whole-table edgeWidth 0 maxEdges (s .edges) (lentOf s m .edges) (omega arith)
+    (table-length edgeWidth edgeCells (s .edges) (m .edges) (edges-wide m g) (f .edges)) (omega arith) b))
+    (whole-table faceWidth 1 maxFaces (s .faces) (lentOf s m .faces) (omega arith)
+    (table-length faceWidth faceCells (s .faces) (m .faces) (faces-wide (m .faces)) (f .faces)) h c)

@@ -2,13 +2,13 @@
 use mathlib.Core.Path.{_≡_, refl, sym, ap, _∙_, subst}
 use mathlib.Core.Logic.{_⊎_, inl, inr, _≢_}
 use mathlib.Core.Bool.{Bool, true, false, cond, not, _&&_, Bool·beq, true≢false}
-use mathlib.Core.List.{List, [], _∷_, _++_, map, map-map, List·Memᴰ, List·Memᴰ·head, List·Memᴰ·tail, List·Memᴰ·cases-cons, List·Memᴰ·not-nil, Memᴰ·map, Memᴰ·of-map, Memᴰ·cast}
+use mathlib.Core.List.{List, [], _∷_, _++_, map, map-map, List·Memᴰ, List·Memᴰ·head, List·Memᴰ·tail, Memᴰ·map, Memᴰ·of-map, Memᴰ·cast}
 use mathlib.Core.Option.{Option, none, some, Option·getD, Option·map}
 use Prim.Native.Nat.{ℕ}
 use Rattle.lists.specs.Tests.{same}
 use Rattle.lists.specs.Scans.{find, isSome, keep}
 use Rattle.lists.specs.Members.{Distinct}
-use Rattle.lists.proofs.Bools.{same-refl, same-true, same-false, same-eq, differ}
+use Rattle.lists.proofs.Bools.{same-refl, same-true, same-false, same-eq}
 use Rattle.lists.proofs.Keeps.{keep-in, keep-has}
 use Rattle.lists.proofs.Members.{map-cong}
 use Rattle.curves.specs.Curves.{Curve, startWay, through}
@@ -22,62 +22,20 @@ use Rattle.map.specs.Rows.{Edge, Map, edge, hasEdge, atEdge}
 use Rattle.map.specs.Darts.{arcs, directed, leaves, next, bears, course, way, departures}
 use Rattle.map.specs.Links.{withLinks, instead, redirect, lead}
 use Rattle.map.proofs.Scans.{find-map, has-map}
+pub use Rattle.map.proofs.Scans.{look, has, without, look-at, look-row, has-number, number-has}
 pub use Rattle.map.proofs.Redirects.{redirect-next}
 pub use Rattle.map.proofs.Linked.{arcOf, nums-rows}
 
--- ---- rows looked up by number, nodes and edges alike: `look` is what `node` and `edge` read, `has` what `hasNode` and `hasEdge` say
+-- ---- rows looked up by number, nodes and edges alike
 
 module _ {A : Type 0} (num : A → ℕ) where
   abbrev pub numbered : ℕ → A → Bool
   numbered n r = same (num r) n
 
-  abbrev pub look : A → List A → ℕ → A
-  look u rs n = Option·getD (find (numbered n) rs) u
-
-  abbrev pub has : List A → ℕ → Bool
-  has rs n = isSome (find (numbered n) rs)
-
-  -- a row is found by its number
-  pub look-at : (u : A) (rs : List A) {r : A} → Distinct (map num rs) → List·Memᴰ r rs → look u rs (num r) ≡ r
-  look-at u [] dis m = absurd (List·Memᴰ·not-nil m)
-  look-at u (q ∷ rs) {r} dis m = step (look-at u rs (dis .1)) (List·Memᴰ·cases-cons m)
-    where
-      step : (List·Memᴰ r rs → look u rs (num r) ≡ r) → (r ≡ q) ⊎ List·Memᴰ r rs → Option·getD (cond (same (num q) (num r)) (some q) (find (numbered (num r)) rs)) u ≡ r
-      step ih (inl e) = rw (e, same-refl (num q))
-      step ih (inr k) = rw (same-false (num q) (num r) (λ p. dis .0 (Memᴰ·cast p (Memᴰ·map num k)))) (ih k)
-
-  has-at : (rs : List A) {r : A} → List·Memᴰ r rs → has rs (num r) ≡ true
-  has-at [] m = absurd (List·Memᴰ·not-nil m)
-  has-at (q ∷ rs) {r} m = step (same (num q) (num r)) refl (has-at rs) (List·Memᴰ·cases-cons m)
-    where
-      step : (b : Bool) → same (num q) (num r) ≡ b → (List·Memᴰ r rs → has rs (num r) ≡ true) → (r ≡ q) ⊎ List·Memᴰ r rs → isSome (cond b (some q) (find (numbered (num r)) rs)) ≡ true
-      step true s ih k = refl
-      step false s ih (inl e) = absurd (differ (num q) (num r) s (ap num (sym e)))
-      step false s ih (inr k) = ih k
-
-  -- a number that is found is that of a row
-  pub look-row : (u : A) (rs : List A) (n : ℕ) → has rs n ≡ true → List·Memᴰ (look u rs n) rs × (num (look u rs n) ≡ n)
-  look-row u [] n h = absurd (true≢false (sym h))
-  look-row u (q ∷ rs) n h = step (same (num q) n) refl (look-row u rs n) h
-    where
-      step : (b : Bool) → same (num q) n ≡ b → (has rs n ≡ true → List·Memᴰ (look u rs n) rs × (num (look u rs n) ≡ n)) → isSome (cond b (some q) (find (numbered n) rs)) ≡ true
-          → List·Memᴰ (Option·getD (cond b (some q) (find (numbered n) rs)) u) (q ∷ rs) × (num (Option·getD (cond b (some q) (find (numbered n) rs)) u) ≡ n)
-      step true s ih k = (List·Memᴰ·head refl, same-true (num q) n s)
-      step false s ih k = (List·Memᴰ·tail (ih k .0), ih k .1)
-
-  pub has-number : (rs : List A) (n : ℕ) → List·Memᴰ n (map num rs) → has rs n ≡ true
-  has-number rs n m = go (Memᴰ·of-map num rs m)
-    where
-      go : (a : A) × List·Memᴰ a rs × (num a ≡ n) → has rs n ≡ true
-      go x = rw (← x .2) (has-at rs (x .1))
-
-  pub number-has : (u : A) (rs : List A) (n : ℕ) → has rs n ≡ true → List·Memᴰ n (map num rs)
-  number-has u rs n h = Memᴰ·cast (sym (look-row u rs n h .1)) (Memᴰ·map num (look-row u rs n h .0))
-
   -- rows mapped by a function that keeps their numbers
   module _ (f : A → A) where
     -- the row is mapped
-    look-map : (u : A) (rs : List A) (n : ℕ) → ((r : A) → List·Memᴰ r rs → num (f r) ≡ num r) → has rs n ≡ true → look u (map f rs) n ≡ f (look u rs n)
+    look-map : (u : A) (rs : List A) (n : ℕ) → ((r : A) → List·Memᴰ r rs → num (f r) ≡ num r) → has num rs n ≡ true → look num u (map f rs) n ≡ f (look num u rs n)
     look-map u rs n h k = rw (find-map num f rs n h) (step (find (numbered n) rs) k)
       where
         step : (o : Option A) → isSome o ≡ true → Option·getD (Option·map f o) u ≡ f (Option·getD o u)
@@ -85,7 +43,7 @@ module _ {A : Type 0} (num : A → ℕ) where
         step (some a) e = refl
 
     -- what f leaves of a row is read as it was, whatever the number
-    look-kept : {B : Type 0} (g : A → B) (u : A) (rs : List A) (n : ℕ) → ((r : A) → List·Memᴰ r rs → num (f r) ≡ num r) → ((r : A) → g (f r) ≡ g r) → g (look u (map f rs) n) ≡ g (look u rs n)
+    look-kept : {B : Type 0} (g : A → B) (u : A) (rs : List A) (n : ℕ) → ((r : A) → List·Memᴰ r rs → num (f r) ≡ num r) → ((r : A) → g (f r) ≡ g r) → g (look num u (map f rs) n) ≡ g (look num u rs n)
     look-kept {B} g u rs n h k = rw (find-map num f rs n h) (step (find (numbered n) rs))
       where
         step : (o : Option A) → g (Option·getD (Option·map f o) u) ≡ g (Option·getD o u)
@@ -93,47 +51,44 @@ module _ {A : Type 0} (num : A → ℕ) where
         step (some a) = k a
 
   -- rows appended
-  find-append : (rs ss : List A) (n : ℕ) → find (numbered n) (rs ++ ss) ≡ cond (has rs n) (find (numbered n) rs) (find (numbered n) ss)
+  find-append : (rs ss : List A) (n : ℕ) → find (numbered n) (rs ++ ss) ≡ cond (has num rs n) (find (numbered n) rs) (find (numbered n) ss)
   find-append [] ss n = refl
   find-append (q ∷ rs) ss n = rw (find-append rs ss n) (step (same (num q) n))
     where
-      step : (b : Bool) → cond b (some q) (cond (has rs n) (find (numbered n) rs) (find (numbered n) ss)) ≡ cond (isSome (cond b (some q) (find (numbered n) rs))) (cond b (some q) (find (numbered n) rs)) (find (numbered n) ss)
+      step : (b : Bool) → cond b (some q) (cond (has num rs n) (find (numbered n) rs) (find (numbered n) ss)) ≡ cond (isSome (cond b (some q) (find (numbered n) rs))) (cond b (some q) (find (numbered n) rs)) (find (numbered n) ss)
       step true = refl
       step false = refl
 
-  pub look-first : (u : A) (rs ss : List A) (n : ℕ) → has rs n ≡ true → look u (rs ++ ss) n ≡ look u rs n
+  pub look-first : (u : A) (rs ss : List A) (n : ℕ) → has num rs n ≡ true → look num u (rs ++ ss) n ≡ look num u rs n
   look-first u rs ss n h = rw (find-append rs ss n, h)
 
-  pub look-second : (u : A) (rs ss : List A) (n : ℕ) → has rs n ≡ false → look u (rs ++ ss) n ≡ look u ss n
+  pub look-second : (u : A) (rs ss : List A) (n : ℕ) → has num rs n ≡ false → look num u (rs ++ ss) n ≡ look num u ss n
   look-second u rs ss n h = rw (find-append rs ss n, h)
 
-  pub look-one : (u q : A) → look u (q ∷ []) (num q) ≡ q
+  pub look-one : (u q : A) → look num u (q ∷ []) (num q) ≡ q
   look-one u q = rw (same-refl (num q))
 
   -- rows left out
-  abbrev pub without : ℕ → List A → List A
-  without e rs = keep (λ r. not (same (num r) e)) rs
-
-  find-without : (e : ℕ) (rs : List A) (n : ℕ) → n ≢ e → find (numbered n) (without e rs) ≡ find (numbered n) rs
+  find-without : (e : ℕ) (rs : List A) (n : ℕ) → n ≢ e → find (numbered n) (without num e rs) ≡ find (numbered n) rs
   find-without e [] n h = refl
   find-without e (q ∷ rs) n h = step (same (num q) e) refl (find-without e rs n h)
     where
-      step : (b : Bool) → same (num q) e ≡ b → find (numbered n) (without e rs) ≡ find (numbered n) rs → find (numbered n) (cond (not b) (q ∷ without e rs) (without e rs)) ≡ find (numbered n) (q ∷ rs)
+      step : (b : Bool) → same (num q) e ≡ b → find (numbered n) (without num e rs) ≡ find (numbered n) rs → find (numbered n) (cond (not b) (q ∷ without num e rs) (without num e rs)) ≡ find (numbered n) (q ∷ rs)
       step true s ih = rw (same-false (num q) n (λ p. h (sym p ∙ same-true (num q) e s))) ih
       step false s ih = rw ih
 
-  pub has-without : (e : ℕ) (rs : List A) (n : ℕ) → n ≢ e → has (without e rs) n ≡ has rs n
+  pub has-without : (e : ℕ) (rs : List A) (n : ℕ) → n ≢ e → has num (without num e rs) n ≡ has num rs n
   has-without e rs n h = ap isSome (find-without e rs n h)
 
-  has-without-it : (e : ℕ) (rs : List A) → has (without e rs) e ≡ false
+  has-without-it : (e : ℕ) (rs : List A) → has num (without num e rs) e ≡ false
   has-without-it e [] = refl
   has-without-it e (q ∷ rs) = step (same (num q) e) refl (has-without-it e rs)
     where
-      step : (b : Bool) → same (num q) e ≡ b → has (without e rs) e ≡ false → has (cond (not b) (q ∷ without e rs) (without e rs)) e ≡ false
+      step : (b : Bool) → same (num q) e ≡ b → has num (without num e rs) e ≡ false → has num (cond (not b) (q ∷ without num e rs) (without num e rs)) e ≡ false
       step true s ih = ih
       step false s ih = rw s ih
 
-  pub look-without : (u : A) (e : ℕ) (rs : List A) (n : ℕ) → n ≢ e → look u (without e rs) n ≡ look u rs n
+  pub look-without : (u : A) (e : ℕ) (rs : List A) (n : ℕ) → n ≢ e → look num u (without num e rs) n ≡ look num u rs n
   look-without u e rs n h = ap (λ (o : Option A). Option·getD o u) (find-without e rs n h)
 
 -- ---- a directed edge reads its row: what each side of a row says
@@ -186,7 +141,7 @@ module _ (m : Map) where
   edge-row e h = look-row numberOf _ (m .edges) e h
 
   pub row-has : {r : Edge} → List·Memᴰ r (m .edges) → hasEdge m (r .number) ≡ true
-  row-has k = has-at numberOf (m .edges) k
+  row-has {r} k = has-number numberOf (m .edges) (r .number) (Memᴰ·map numberOf k)
 
   -- a row is found by its number
   pub edge-at : {r : Edge} → Distinct (nums (arcs m)) → List·Memᴰ r (m .edges) → edge m (r .number) ≡ r

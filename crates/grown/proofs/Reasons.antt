@@ -1,25 +1,23 @@
 -- What holds of a ticket that nothing turns down: for each kind the facts, from `firstReason .. ≡ 0`. Assumes nothing.
-use mathlib.Core.Path.{_≡_, refl, sym, ap}
-use mathlib.Core.Bool.{Bool, true, false, not, _&&_, _||_, true≢false}
-use mathlib.Core.List.{List, [], _∷_, _++_, List·Memᴰ, List·Memᴰ·cases-cons, List·Memᴰ·not-nil}
-use mathlib.Core.Logic.{_⊎_, inl, inr, _≢_}
+use mathlib.Core.Path.{_≡_}
+use mathlib.Core.Bool.{Bool, true, false, not, _&&_, _||_}
+use mathlib.Core.List.{List, [], _∷_, _++_, List·Memᴰ}
+use mathlib.Core.Logic.{_≢_}
 use mathlib.Core.Option.{Option·getD}
-use Prim.Native.Nat.{ℕ, suc, _+_, _/_, _≤_}
-use native.Mathlib.Omega.{arith}
-use borrow.Author.Tests.{ltb-false, leb-true, not-true, not-false}
-use lib.Dec.{leb, ltb}
+use Prim.Native.Nat.{ℕ, suc, _+_, _≤_}
+use borrow.Author.Tests.{ltb-false, not-true, not-false}
+use lib.Dec.{ltb, lit<}
 use lib.IntN.{ℤ, natAbs}
 use lib.ListN.{length}
 use lib.Signed.{nonNeg}
 use Rattle.lists.specs.Tests.{same, bit}
-use Rattle.lists.specs.Scans.{all, isSome}
+use Rattle.lists.specs.Scans.{isSome}
 use Rattle.lists.proofs.Bools.{same-true, differ, and-true, or-false}
 use Rattle.plane.specs.declared.Point.{Point}
 use Rattle.plane.specs.Points.{InRange, samePoint}
 use Rattle.plane.proofs.Laws.{samePoint-true}
-use Rattle.curves.specs.Curves.{Curve, points, pointsOf, lastPoint, startWay, endWay, point, curveOf, coordinate, isRun, maxPoints}
+use Rattle.curves.specs.Curves.{Curve, points, lastPoint, startWay, endWay, point, curveOf, isRun, maxPoints}
 use Rattle.curves.specs.Tests.{neighboursDiffer, straightInside, onCurve, isSimple}
-use Rattle.curves.proofs.Runs.{coordinate-le}
 use Rattle.map.specs.Limits.{lastNumber}
 use Rattle.map.specs.Rows.{Map, Sizes, node, edge, hasNode, hasEdge, withoutNode, withoutEdge}
 use Rattle.map.specs.Darts.{edgeEnds}
@@ -27,12 +25,8 @@ use Rattle.map.specs.Links.{cornerFace}
 use Rattle.map.specs.Tickets.{AddIsoNode, MoveIsoNode, RemoveIsoNode, AddIsoEdge, RemoveIsoEdge, ChangeEdgeGeom, NewEdgesSplit, ModEdgeSplit, NewEdgeHeal, ModEdgeHeal, AddEdgeNewFaces, AddEdgeModFace, RemEdgeNewFace, RemEdgeModFace}
 use Rattle.map.specs.Edits.{sharedNodes, joint, healedCurve, splitsFace, makesFace}
 use Rattle.map.specs.Reasons.{Reasons, firstReason, reasons, noNode, noEdge, outside, endsDiffer, isolated, edgeIsolated, nodeAt, edgeThrough, directionTaken, containingDiffer, cornersDiffer, nodeInside, edgeWrong, orderChanges, full, spent, splitReasons, healReasons, addEdgeReasons}
-
--- no reason: the first does not hold, nor do the others
-pub no-reason : (n : ℕ) (b : Bool) (rs : Reasons) → firstReason ((suc n, b) ∷ rs) ≡ 0 → (b ≡ false) × (firstReason rs ≡ 0)
-unfolding firstReason
-no-reason n true rs h = absurd (omega arith)
-no-reason n false rs h = (refl, h)
+use Rattle.map.proofs.Reasons.{first-zero, point-in-range}
+use Rattle.map.proofs.RoundTrip.{run-stored}
 
 -- ---- the facts
 
@@ -156,67 +150,21 @@ has-node m z h = and-true (nonNeg z) (hasNode m (natAbs z)) (not-false (nonNeg z
 has-edge : (m : Map) (z : ℤ) → noEdge m z ≡ false → hasEdge m (natAbs z) ≡ true
 has-edge m z h = and-true (nonNeg z) (hasEdge m (natAbs z)) (not-false (nonNeg z && hasEdge m (natAbs z)) h) .1
 
-inside : (x y : ℤ) → outside x y ≡ false → InRange (point x y)
-inside x y h = let k = and-true (coordinate x) (coordinate y) (not-false (coordinate x && coordinate y) h) in record { x = coordinate-le x (k .0); y = coordinate-le y (k .1) }
-
-points-count : (l : List ℤ) → length (pointsOf l) ≡ length l / 2
-points-count [] = refl
-points-count (x ∷ []) = refl
-points-count (x ∷ y ∷ l) = let ih = points-count l in omega arith
-
-points-in-range : (l : List ℤ) → all coordinate l ≡ true → (p : Point) → List·Memᴰ p (pointsOf l) → InRange p
-points-in-range [] h p k = absurd (List·Memᴰ·not-nil k)
-points-in-range (x ∷ []) h p k = absurd (List·Memᴰ·not-nil k)
-points-in-range (x ∷ y ∷ l) h p k = step (points-in-range l (h₂ .1) p) (List·Memᴰ·cases-cons k)
-  where
-    h₁ : (coordinate x ≡ true) × (all coordinate (y ∷ l) ≡ true)
-    h₁ = and-true (coordinate x) (all coordinate (y ∷ l)) h
-
-    h₂ : (coordinate y ≡ true) × (all coordinate l ≡ true)
-    h₂ = and-true (coordinate y) (all coordinate l) (h₁ .1)
-
-    step : (List·Memᴰ p (pointsOf l) → InRange p) → (p ≡ point x y) ⊎ List·Memᴰ p (pointsOf l) → InRange p
-    step ih (inl e) = rw e (record { x = coordinate-le x (h₁ .0); y = coordinate-le y (h₂ .0) })
-    step ih (inr j) = ih j
-
--- the points of a run are the curve's
-run-points : (l : List ℤ) → isRun l ≡ true → points (curveOf l) ≡ pointsOf l
-unfolding isRun curveOf
-run-points [] h = absurd (true≢false (sym h))
-run-points (x ∷ []) h = absurd (true≢false (sym h))
-run-points (x ∷ y ∷ l) h = refl
-
--- 2 to 12 points in range
-record Run (l : List ℤ) : Type 0 where
-  least : 2 ≤ length l / 2
-  most : length l / 2 ≤ maxPoints
-  coordinates : all coordinate l ≡ true
-
-run : (l : List ℤ) → isRun l ≡ true → Run l
-unfolding isRun
-run l h =
-    let k = and-true (leb 2 (length l / 2) && leb (length l / 2) maxPoints) (all coordinate l) h in
-    let j = and-true (leb 2 (length l / 2)) (leb (length l / 2) maxPoints) (k .0) in
-    record { least = leb-true 2 (length l / 2) (j .0); most = leb-true (length l / 2) maxPoints (j .1); coordinates = k .1 }
-
 -- 5 to 8, and what follows them
 sent : (m : Map) (l : List ℤ) (u v : ℕ) (rest : Reasons) → firstReason ((5, not (isRun l)) ∷ (6, not (neighboursDiffer (curveOf l)) || straightInside (curveOf l)) ∷ (7, not (isSimple (curveOf l))) ∷ (8, endsDiffer m (curveOf l) u v) ∷ rest) ≡ 0 → Sent m (curveOf l) u v × (firstReason rest ≡ 0)
 sent m l u v rest h =
     let c = curveOf l in
-    let h₅ = no-reason 4 (not (isRun l)) _ h in
-    let h₆ = no-reason 5 (not (neighboursDiffer c) || straightInside c) _ (h₅ .1) in
-    let h₇ = no-reason 6 (not (isSimple c)) _ (h₆ .1) in
-    let h₈ = no-reason 7 (endsDiffer m c u v) rest (h₇ .1) in
-    let is = not-false (isRun l) (h₅ .0) in
-    let r = run l is in
-    let e = run-points l is in
-    let n = points-count l in
+    let h₅ = first-zero 5 (not (isRun l)) _ (lit< tt) h in
+    let h₆ = first-zero 6 (not (neighboursDiffer c) || straightInside c) _ (lit< tt) (h₅ .1) in
+    let h₇ = first-zero 7 (not (isSimple c)) _ (lit< tt) (h₆ .1) in
+    let h₈ = first-zero 8 (endsDiffer m c u v) rest (lit< tt) (h₇ .1) in
+    let r = run-stored l (not-false (isRun l) (h₅ .0)) in
     let bends = or-false (not (neighboursDiffer c)) (straightInside c) (h₆ .0) in
     let ends = and-true (samePoint (c .first) (node m u .at)) (samePoint (lastPoint c) (node m v .at)) (not-false (samePoint (c .first) (node m u .at) && samePoint (lastPoint c) (node m v .at)) (h₈ .0)) in (
       record {
-        least = omega (arith, r .least, ap length e);
-        most = omega (arith, r .most, ap length e);
-        in-range = rw e (points-in-range l (r .coordinates));
+        least = r .least;
+        most = r .most;
+        in-range = r .in-range;
         differ = not-false (neighboursDiffer c) (bends .0);
         bent = bends .1;
         simple = not-false (isSimple c) (h₇ .0);
@@ -252,30 +200,30 @@ module _ (s : Sizes) (m : Map) where
   pub add-node : (f x y : ℤ) → firstReason (reasons s m (AddIsoNode f x y)) ≡ 0 → AddNode s m (point x y)
   unfolding reasons
   add-node f x y h =
-      let h₄ = no-reason 3 _ _ h in
-      let h₅ = no-reason 4 (outside x y) _ (h₄ .1) in
-      let h₁₀ = no-reason 9 (nodeAt (m .nodes) (point x y) || edgeThrough m (point x y)) _ (h₅ .1) in
-      let h₁₂ = no-reason 11 _ _ (h₁₀ .1) in
-      let h₂₀ = no-reason 19 (full s m 1 0 0) _ (h₁₂ .1) in
-      let h₂₁ = no-reason 20 (spent m 1 0 0) _ (h₂₀ .1) in
+      let h₄ = first-zero 4 _ _ (lit< tt) h in
+      let h₅ = first-zero 5 (outside x y) _ (lit< tt) (h₄ .1) in
+      let h₁₀ = first-zero 10 (nodeAt (m .nodes) (point x y) || edgeThrough m (point x y)) _ (lit< tt) (h₅ .1) in
+      let h₁₂ = first-zero 12 _ _ (lit< tt) (h₁₀ .1) in
+      let h₂₀ = first-zero 20 (full s m 1 0 0) _ (lit< tt) (h₁₂ .1) in
+      let h₂₁ = first-zero 21 (spent m 1 0 0) _ (lit< tt) (h₂₀ .1) in
       let apart = or-false (nodeAt (m .nodes) (point x y)) (edgeThrough m (point x y)) (h₁₀ .0) in
-      record { in-range = inside x y (h₅ .0); free = apart .0; off = apart .1; room = room s m 1 0 0 (h₂₀ .0); supply = supply m 1 0 0 (h₂₁ .0) }
+      record { in-range = point-in-range x y (h₅ .0); free = apart .0; off = apart .1; room = room s m 1 0 0 (h₂₀ .0); supply = supply m 1 0 0 (h₂₁ .0) }
 
   pub move-node : (n x y : ℤ) → firstReason (reasons s m (MoveIsoNode n x y)) ≡ 0 → MoveNode m (natAbs n) (point x y)
   unfolding reasons
   move-node n x y h =
-      let h₄ = no-reason 3 (noNode m n) _ h in
-      let h₅ = no-reason 4 (outside x y) _ (h₄ .1) in
-      let h₉ = no-reason 8 (not (isolated m (natAbs n))) _ (h₅ .1) in
-      let h₁₀ = no-reason 9 (nodeAt (withoutNode (natAbs n) (m .nodes)) (point x y) || edgeThrough m (point x y)) _ (h₉ .1) in
+      let h₄ = first-zero 4 (noNode m n) _ (lit< tt) h in
+      let h₅ = first-zero 5 (outside x y) _ (lit< tt) (h₄ .1) in
+      let h₉ = first-zero 9 (not (isolated m (natAbs n))) _ (lit< tt) (h₅ .1) in
+      let h₁₀ = first-zero 10 (nodeAt (withoutNode (natAbs n) (m .nodes)) (point x y) || edgeThrough m (point x y)) _ (lit< tt) (h₉ .1) in
       let apart = or-false (nodeAt (withoutNode (natAbs n) (m .nodes)) (point x y)) (edgeThrough m (point x y)) (h₁₀ .0) in
-      record { has = has-node m n (h₄ .0); in-range = inside x y (h₅ .0); isolated = not-false (isolated m (natAbs n)) (h₉ .0); free = apart .0; off = apart .1 }
+      record { has = has-node m n (h₄ .0); in-range = point-in-range x y (h₅ .0); isolated = not-false (isolated m (natAbs n)) (h₉ .0); free = apart .0; off = apart .1 }
 
   pub remove-node : (n : ℤ) → firstReason (reasons s m (RemoveIsoNode n)) ≡ 0 → RemoveNode m (natAbs n)
   unfolding reasons
   remove-node n h =
-      let h₄ = no-reason 3 (noNode m n) _ h in
-      let h₉ = no-reason 8 (not (isolated m (natAbs n))) _ (h₄ .1) in
+      let h₄ = first-zero 4 (noNode m n) _ (lit< tt) h in
+      let h₉ = first-zero 9 (not (isolated m (natAbs n))) _ (lit< tt) (h₄ .1) in
       record { has = has-node m n (h₄ .0); isolated = not-false (isolated m (natAbs n)) (h₉ .0) }
 
   pub add-lone : (u v : ℤ) (l : List ℤ) → firstReason (reasons s m (AddIsoEdge u v l)) ≡ 0 → AddLone s m (natAbs u) (natAbs v) (curveOf l)
@@ -283,14 +231,14 @@ module _ (s : Sizes) (m : Map) where
   add-lone u v l h =
       let a = natAbs u in
       let b = natAbs v in
-      let h₄ = no-reason 3 (noNode m u || noNode m v) _ h in
+      let h₄ = first-zero 4 (noNode m u || noNode m v) _ (lit< tt) h in
       let h₅ = sent m l a b _ (h₄ .1) in
-      let h₉ = no-reason 8 (same a b || not (isolated m a && isolated m b)) _ (h₅ .1) in
-      let h₁₂ = no-reason 11 (containingDiffer m a b) _ (h₉ .1) in
-      let h₁₄ = no-reason 13 (nodeInside m (curveOf l)) _ (h₁₂ .1) in
-      let h₁₅ = no-reason 14 (edgeWrong (m .edges) (curveOf l)) _ (h₁₄ .1) in
-      let h₂₀ = no-reason 19 (full s m 0 1 0) _ (h₁₅ .1) in
-      let h₂₁ = no-reason 20 (spent m 0 1 0) _ (h₂₀ .1) in
+      let h₉ = first-zero 9 (same a b || not (isolated m a && isolated m b)) _ (lit< tt) (h₅ .1) in
+      let h₁₂ = first-zero 12 (containingDiffer m a b) _ (lit< tt) (h₉ .1) in
+      let h₁₄ = first-zero 14 (nodeInside m (curveOf l)) _ (lit< tt) (h₁₂ .1) in
+      let h₁₅ = first-zero 15 (edgeWrong (m .edges) (curveOf l)) _ (lit< tt) (h₁₄ .1) in
+      let h₂₀ = first-zero 20 (full s m 0 1 0) _ (lit< tt) (h₁₅ .1) in
+      let h₂₁ = first-zero 21 (spent m 0 1 0) _ (lit< tt) (h₂₀ .1) in
       let rows = or-false (noNode m u) (noNode m v) (h₄ .0) in
       let alone = or-false (same a b) (not (isolated m a && isolated m b)) (h₉ .0) in
       let both = and-true (isolated m a) (isolated m b) (not-false (isolated m a && isolated m b) (alone .1)) in
@@ -312,8 +260,8 @@ module _ (s : Sizes) (m : Map) where
   unfolding reasons edgeIsolated
   remove-lone e h =
       let r = edge m (natAbs e) in
-      let h₄ = no-reason 3 (noEdge m e) _ h in
-      let h₉ = no-reason 8 (not (edgeIsolated m (natAbs e))) _ (h₄ .1) in
+      let h₄ = first-zero 4 (noEdge m e) _ (lit< tt) h in
+      let h₉ = first-zero 9 (not (edgeIsolated m (natAbs e))) _ (lit< tt) (h₄ .1) in
       let k₁ = and-true (not (same (r .start) (r .end)) && same (edgeEnds m (r .start)) 1) (same (edgeEnds m (r .end)) 1) (not-false (edgeIsolated m (natAbs e)) (h₉ .0)) in
       let k₂ = and-true (not (same (r .start) (r .end))) (same (edgeEnds m (r .start)) 1) (k₁ .0) in
       record {
@@ -328,25 +276,25 @@ module _ (s : Sizes) (m : Map) where
   change e l h =
       let a = edge m (natAbs e) .start in
       let b = edge m (natAbs e) .end in
-      let h₄ = no-reason 3 (noEdge m e) _ h in
+      let h₄ = first-zero 4 (noEdge m e) _ (lit< tt) h in
       let h₅ = sent m l a b _ (h₄ .1) in
-      let h₁₁ = no-reason 10 (directionTaken m (natAbs e) a b (curveOf l)) _ (h₅ .1) in
-      let h₁₄ = no-reason 13 (nodeInside m (curveOf l)) _ (h₁₁ .1) in
-      let h₁₅ = no-reason 14 (edgeWrong (withoutEdge (natAbs e) (m .edges)) (curveOf l)) _ (h₁₄ .1) in
-      let h₁₉ = no-reason 18 (orderChanges m (natAbs e) (curveOf l)) _ (h₁₅ .1) in
+      let h₁₁ = first-zero 11 (directionTaken m (natAbs e) a b (curveOf l)) _ (lit< tt) (h₅ .1) in
+      let h₁₄ = first-zero 14 (nodeInside m (curveOf l)) _ (lit< tt) (h₁₁ .1) in
+      let h₁₅ = first-zero 15 (edgeWrong (withoutEdge (natAbs e) (m .edges)) (curveOf l)) _ (lit< tt) (h₁₄ .1) in
+      let h₁₉ = first-zero 19 (orderChanges m (natAbs e) (curveOf l)) _ (lit< tt) (h₁₅ .1) in
       record { has = has-edge m e (h₄ .0); sent = h₅ .0; ways-free = h₁₁ .0; nodes-off = h₁₄ .0; clear = h₁₅ .0; order = h₁₉ .0 }
 
   split : (more : ℕ) (e x y : ℤ) → firstReason (splitReasons more s m e x y) ≡ 0 → Split more s m (natAbs e) (point x y)
   split more e x y h =
-      let h₄ = no-reason 3 (noEdge m e) _ h in
-      let h₅ = no-reason 4 (outside x y) _ (h₄ .1) in
-      let h₁₀ = no-reason 9 (nodeAt (m .nodes) (point x y)) _ (h₅ .1) in
-      let h₁₃ = no-reason 12 (not (onCurve (edge m (natAbs e) .curve) (point x y))) _ (h₁₀ .1) in
-      let h₂₀ = no-reason 19 (full s m 1 1 0) _ (h₁₃ .1) in
-      let h₂₁ = no-reason 20 (spent m 1 more 0) _ (h₂₀ .1) in
+      let h₄ = first-zero 4 (noEdge m e) _ (lit< tt) h in
+      let h₅ = first-zero 5 (outside x y) _ (lit< tt) (h₄ .1) in
+      let h₁₀ = first-zero 10 (nodeAt (m .nodes) (point x y)) _ (lit< tt) (h₅ .1) in
+      let h₁₃ = first-zero 13 (not (onCurve (edge m (natAbs e) .curve) (point x y))) _ (lit< tt) (h₁₀ .1) in
+      let h₂₀ = first-zero 20 (full s m 1 1 0) _ (lit< tt) (h₁₃ .1) in
+      let h₂₁ = first-zero 21 (spent m 1 more 0) _ (lit< tt) (h₂₀ .1) in
       record {
         has = has-edge m e (h₄ .0);
-        in-range = inside x y (h₅ .0);
+        in-range = point-in-range x y (h₅ .0);
         free = h₁₀ .0;
         on = not-false (onCurve (edge m (natAbs e) .curve) (point x y)) (h₁₃ .0);
         room = room s m 1 1 0 (h₂₀ .0);
@@ -365,10 +313,10 @@ module _ (s : Sizes) (m : Map) where
   heals e f rest h =
       let a = natAbs e in
       let b = natAbs f in
-      let h₄ = no-reason 3 (noEdge m e || noEdge m f) _ h in
-      let h₁₆ = no-reason 15 (same a b || same (length (sharedNodes m a b)) 0) _ (h₄ .1) in
-      let h₁₇ = no-reason 16 (not (isSome (joint m a b))) _ (h₁₆ .1) in
-      let h₁₈ = no-reason 17 (ltb maxPoints (length (points (healedCurve m a b)))) rest (h₁₇ .1) in
+      let h₄ = first-zero 4 (noEdge m e || noEdge m f) _ (lit< tt) h in
+      let h₁₆ = first-zero 16 (same a b || same (length (sharedNodes m a b)) 0) _ (lit< tt) (h₄ .1) in
+      let h₁₇ = first-zero 17 (not (isSome (joint m a b))) _ (lit< tt) (h₁₆ .1) in
+      let h₁₈ = first-zero 18 (ltb maxPoints (length (points (healedCurve m a b)))) rest (lit< tt) (h₁₇ .1) in
       let rows = or-false (noEdge m e) (noEdge m f) (h₄ .0) in (
         record {
           has = has-edge m e (rows .0);
@@ -382,7 +330,7 @@ module _ (s : Sizes) (m : Map) where
 
   pub heal-new : (e f : ℤ) → firstReason (reasons s m (NewEdgeHeal e f)) ≡ 0 → Heal m (natAbs e) (natAbs f) × Supply m 0 1 0
   unfolding reasons
-  heal-new e f h = let k = heals e f _ h in (k .0, supply m 0 1 0 (no-reason 20 (spent m 0 1 0) [] (k .1) .0))
+  heal-new e f h = let k = heals e f _ h in (k .0, supply m 0 1 0 (first-zero 21 (spent m 0 1 0) [] (lit< tt) (k .1) .0))
 
   pub heal-mod : (e f : ℤ) → firstReason (reasons s m (ModEdgeHeal e f)) ≡ 0 → Heal m (natAbs e) (natAbs f)
   unfolding reasons
@@ -397,14 +345,14 @@ module _ (s : Sizes) (m : Map) where
       let a = natAbs u in
       let b = natAbs v in
       let c = curveOf l in
-      let h₄ = no-reason 3 (noNode m u || noNode m v) _ h in
+      let h₄ = first-zero 4 (noNode m u || noNode m v) _ (lit< tt) h in
       let h₅ = sent m l a b _ (h₄ .1) in
-      let h₁₁ = no-reason 10 (directionTaken m (m .nextEdge) a b c) _ (h₅ .1) in
-      let h₁₂ = no-reason 11 (cornersDiffer m a b c) _ (h₁₁ .1) in
-      let h₁₄ = no-reason 13 (nodeInside m c) _ (h₁₂ .1) in
-      let h₁₅ = no-reason 14 (edgeWrong (m .edges) c) _ (h₁₄ .1) in
-      let h₂₀ = no-reason 19 (full s m 0 1 (bit (splitsFace a b c m))) _ (h₁₅ .1) in
-      let h₂₁ = no-reason 20 (spent m 0 1 (newFaces news m a b c)) _ (h₂₀ .1) in
+      let h₁₁ = first-zero 11 (directionTaken m (m .nextEdge) a b c) _ (lit< tt) (h₅ .1) in
+      let h₁₂ = first-zero 12 (cornersDiffer m a b c) _ (lit< tt) (h₁₁ .1) in
+      let h₁₄ = first-zero 14 (nodeInside m c) _ (lit< tt) (h₁₂ .1) in
+      let h₁₅ = first-zero 15 (edgeWrong (m .edges) c) _ (lit< tt) (h₁₄ .1) in
+      let h₂₀ = first-zero 20 (full s m 0 1 (bit (splitsFace a b c m))) _ (lit< tt) (h₁₅ .1) in
+      let h₂₁ = first-zero 21 (spent m 0 1 (newFaces news m a b c)) _ (lit< tt) (h₂₀ .1) in
       let rows = or-false (noNode m u) (noNode m v) (h₄ .0) in
       record {
         has-start = has-node m u (rows .0);
@@ -429,10 +377,10 @@ module _ (s : Sizes) (m : Map) where
   pub remove-new : (e : ℤ) → firstReason (reasons s m (RemEdgeNewFace e)) ≡ 0 → RemoveEdge m (natAbs e)
   unfolding reasons
   remove-new e h =
-      let h₄ = no-reason 3 (noEdge m e) _ h in
-      let h₂₁ = no-reason 20 (spent m 0 0 (bit (makesFace true (natAbs e) m))) _ (h₄ .1) in
+      let h₄ = first-zero 4 (noEdge m e) _ (lit< tt) h in
+      let h₂₁ = first-zero 21 (spent m 0 0 (bit (makesFace true (natAbs e) m))) _ (lit< tt) (h₄ .1) in
       record { has = has-edge m e (h₄ .0); supply = supply m 0 0 (bit (makesFace true (natAbs e) m)) (h₂₁ .0) }
 
   pub remove-mod : (e : ℤ) → firstReason (reasons s m (RemEdgeModFace e)) ≡ 0 → hasEdge m (natAbs e) ≡ true
   unfolding reasons
-  remove-mod e h = has-edge m e (no-reason 3 (noEdge m e) _ h .0)
+  remove-mod e h = has-edge m e (first-zero 4 (noEdge m e) _ (lit< tt) h .0)

@@ -1,16 +1,15 @@
 -- How many rows and numbers each edit takes. Assumes nothing.
 use mathlib.Core.Path.{_≡_, refl, sym, ap, _∙_, subst}
-use mathlib.Core.Logic.{_⊎_, inl, inr, _≢_}
-use mathlib.Core.Bool.{Bool, true, false, cond, not, _&&_, true≢false}
-use mathlib.Core.List.{List, [], _∷_, map, List·Memᴰ, List·Memᴰ·head, List·Memᴰ·cases-cons, List·Memᴰ·not-nil, Memᴰ·append-right, Memᴰ·map}
+use mathlib.Core.Logic.{_≢_}
+use mathlib.Core.Bool.{Bool, true, false, cond, not, _&&_}
+use mathlib.Core.List.{List, [], _∷_, map, List·Memᴰ, List·Memᴰ·head, Memᴰ·append-right, Memᴰ·map}
 use Prim.Native.Nat.{ℕ, suc, _+_, _≤_, min}
 use native.Mathlib.Nat.{add-zero}
 use native.Mathlib.Omega.{arith}
 use lib.ListN.{length, length-map, length-append}
 use Rattle.lists.specs.Tests.{same, bit}
-use Rattle.lists.specs.Scans.{keep}
 use Rattle.lists.proofs.Bools.{same-refl, same-eq, same-false}
-use Rattle.lists.proofs.Keeps.{keep-has}
+use Rattle.lists.proofs.Keeps.{keep-has, keep-le, keep-lt}
 use Rattle.plane.specs.declared.Point.{Point}
 use Rattle.curves.specs.Curves.{Curve, startWay}
 use Rattle.planar.specs.Map.{fwd}
@@ -28,25 +27,6 @@ use Rattle.grown.proofs.NumbersAdd.{corner-in, drawn-has}
 use Rattle.grown.proofs.NumbersRemove.{row-sides, renamedList, renamed-next}
 use Rattle.grown.proofs.NumbersSplit.{splitOutlines, split-outlines, placing}
 use Rattle.grown.proofs.NumbersHeal.{jointOf, healedOutline, healOutlines, heal-outlines}
-
--- ---- lengths
-
-keep-le : {A : Type 0} (p : A → Bool) (l : List A) → length (keep p l) ≤ length l
-keep-le p [] = omega arith
-keep-le {A} p (x ∷ l) = go (p x) (keep-le p l)
-  where
-    go : (b : Bool) → length (keep p l) ≤ length l → length (cond b (x ∷ keep p l) (keep p l)) ≤ suc (length l)
-    go true h = omega arith
-    go false h = omega arith
-
-keep-lt : {A : Type 0} (p : A → Bool) (l : List A) {x : A} → List·Memᴰ x l → p x ≡ false → suc (length (keep p l)) ≤ length l
-keep-lt p [] k e = absurd (List·Memᴰ·not-nil k)
-keep-lt {A} p (y ∷ l) {x} k e = go (p y) refl (List·Memᴰ·cases-cons k) (λ j. keep-lt p l j e)
-  where
-    go : (b : Bool) → p y ≡ b → (x ≡ y) ⊎ List·Memᴰ x l → (List·Memᴰ x l → suc (length (keep p l)) ≤ length l) → suc (length (cond b (y ∷ keep p l) (keep p l))) ≤ suc (length l)
-    go true q (inl z) ih = absurd (true≢false (sym q ∙ sym (ap p z) ∙ e))
-    go true q (inr j) ih = let h = ih j in omega arith
-    go false q j ih = let h = keep-le p l in omega arith
 
 -- m′ has at most so many more rows than m, and has given out so many numbers
 pub record Taken (m m′ : Map) (a b c x y z : ℕ) : Type 0 where

@@ -8,7 +8,7 @@ use Prim.Native.Nat.{ℕ, zero, suc, _+_, _≤_, _<_}
 use native.Mathlib.Nat.{add-zero}
 use native.Mathlib.Omega.{arith}
 use borrow.Author.Tests.{le-ltb, lt-ltb, not-false}
-use lib.Dec.{ltb}
+use lib.Dec.{ltb, lit<}
 use lib.IntN.{ℤ, pos, natAbs}
 use lib.ListN.{length, length-append, length-map}
 use lib.Signed.{nonNeg}
@@ -26,7 +26,7 @@ use Rattle.map.specs.Edits.{split, heal, healedCurve}
 use Rattle.map.specs.Reasons.{Reasons, firstReason, reasons, healReasons, noEdge, spent}
 use Rattle.map.specs.Ticket.{Outcome, refused, carried, lentReasons, unless, judged, ticket}
 use Rattle.map.specs.Grow.{grow}
-use Rattle.map.proofs.Reasons.{first-hit, first-miss, first-none, first-after}
+use Rattle.map.proofs.Reasons.{first-hit, first-miss, first-none, first-zero, first-after}
 use Rattle.grown.specs.Good.{Good, Fits}
 use Rattle.grown.specs.Claims.{
   Limited,
@@ -43,7 +43,7 @@ use Rattle.grown.specs.Claims.{
   SplitSpent,
 }
 use Rattle.grown.proofs.Readings.{numberOf, nums-rows}
-use Rattle.grown.proofs.Reasons.{no-reason, Split, split-new, split-mod}
+use Rattle.grown.proofs.Reasons.{Split, split-new, split-mod}
 use Rattle.grown.proofs.Carried.{fits-kept}
 use Rattle.grown.proofs.Growth.{good-kept}
 use Rattle.grown.proofs.Ranges.{good-back, sizes-back, good-in-form, good-whole}
@@ -76,7 +76,7 @@ module _ (s : Sizes) (m : Map) (g : Good m) (f : Fits s m) (t : Ticket) where
   carried-out h =
       let l = lentOf s m in
       let z = unless-zero l _ (carried (mapOf l) t) h in
-      let w = not-false (whole l) (no-reason 0 (not (whole l)) _ z .0) in
+      let w = not-false (whole l) (first-zero 1 (not (whole l)) _ (lit< tt) z .0) in
       let q = free s m g f t z in
       record {
         limited = subst Limited (sizes-back m g s f) (whole-limited l w);
@@ -111,7 +111,7 @@ module _ (s : Sizes) (m : Map) (g : Good m) (f : Fits s m) (t : Ticket) where
 -- rows are named by plain numbers
 plain : (m : Map) (e : ℤ) (rs : Reasons) → firstReason ((4, noEdge m e) ∷ rs) ≡ 0 → nonNeg e ≡ true
 plain m e rs h =
-    let has = not-false (nonNeg e && hasEdge m (natAbs e)) (no-reason 3 (noEdge m e) rs h .0) in
+    let has = not-false (nonNeg e && hasEdge m (natAbs e)) (first-zero 4 (noEdge m e) rs (lit< tt) h .0) in
     and-true (nonNeg e) (hasEdge m (natAbs e)) has .0
 
 heal-free : (m m′ : Map) (e n : ℕ) (a b : ℤ) → Rejoin m m′ e n (natAbs a) (natAbs b) → nonNeg a ≡ true → nonNeg b ≡ true

@@ -9,6 +9,7 @@ use mathlib.Core.Option.{Option, none, some}
 use Prim.Native.Nat.{ℕ, zero, suc, _*_, _%_, _≤_}
 use native.Mathlib.Omega.{arith}
 use borrow.Author.Tests.{not-false}
+use lib.Dec.{lit<}
 use lib.IntN.{ℤ, pos, negsuc, natAbs}
 use lib.ListN.{length, length-map, take, drop}
 use lib.Signed.{leZ, nonNeg}
@@ -42,7 +43,8 @@ use Rattle.map.proofs.Scans.{all-each}
 use Rattle.map.proofs.Laws.{formed-is, names}
 use Rattle.map.proofs.Linked.{edges-once}
 use Rattle.map.proofs.RoundTrip.{ranged-is, ranged-points, within-least, within-most}
-use Rattle.grown.proofs.Reasons.{Room, Supply, AddNode, Split, AddEdge, no-reason, add-node, split-mod, add-mod}
+use Rattle.map.proofs.Reasons.{first-zero}
+use Rattle.grown.proofs.Reasons.{Room, Supply, AddNode, Split, AddEdge, add-node, split-mod, add-mod}
 use Rattle.grown.proofs.Readings.{edge-row}
 use Rattle.grown.proofs.RowChanges.{nodeNumber, node-row}
 use Rattle.grown.proofs.Numbers.{outlineOf, RankedMap, numbered-ranked}
@@ -341,8 +343,8 @@ module _ (l : Lent) (r : ranged l ≡ true) where
       → ranged (unless l n (carried (mapOf l) t) .lent) ≡ true
   unfolding inForm
   carry t then zero e =
-      let h₁ = no-reason 0 (not (whole l)) _ e in
-      let h₂ = no-reason 1 (not (inForm l)) (reasons (sizesOf l) (mapOf l) t) (h₁ .1) in
+      let h₁ = first-zero 1 (not (whole l)) _ (lit< tt) e in
+      let h₂ = first-zero 2 (not (inForm l)) (reasons (sizesOf l) (mapOf l) t) (lit< tt) (h₁ .1) in
       let form = and-true (ranged l) (formed (mapOf l)) (not-false (inForm l) (h₂ .0)) in
       tabled-ranged (sizesOf l) (carried (mapOf l) t .0) (then (form .1) (h₂ .1))
   carry t then (suc n) e = r

@@ -26,7 +26,7 @@ use Rattle.map.proofs.Facts.{zeros}
 use Rattle.map.proofs.RoundTrip.{Wide, flat-length, rows-flat, nodes-wide, edge-wide, faces-wide, coordinates-length}
 use Rattle.map.proofs.RoundTrip.{filled-length}
 use Rattle.grown.specs.Good.{Fits}
-use Rattle.grown.proofs.Scanning.{each-all}
+use Rattle.map.proofs.Scans.{each-all}
 
 -- ---- what is written in range
 

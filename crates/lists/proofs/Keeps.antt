@@ -3,6 +3,9 @@ use mathlib.Core.Path.{_≡_, refl, sym, ap, _∙_}
 use mathlib.Core.Logic.{_⊎_, inl, inr}
 use mathlib.Core.Bool.{Bool, true, false, cond, true≢false}
 use mathlib.Core.List.{List, [], _∷_, _++_, map, append-nil, List·Memᴰ, List·Memᴰ·head, List·Memᴰ·tail, List·Memᴰ·cases-cons, List·Memᴰ·not-nil}
+use Prim.Native.Nat.{suc, _≤_}
+use native.Mathlib.Omega.{arith}
+use lib.ListN.{length}
 use Rattle.lists.specs.Scans.{keep}
 use Rattle.lists.specs.Members.{Distinct}
 
@@ -76,3 +79,24 @@ distinct-keep p (d ∷ ds) dis = go (p d) (distinct-keep p ds (dis .1))
     go : (b : Bool) → Distinct (keep p ds) → Distinct (cond b (d ∷ keep p ds) (keep p ds))
     go true r = (λ m. dis .0 (keep-in p ds m .0), r)
     go false r = r
+
+-- how many are kept
+module _ {D : Type 0} (p : D → Bool) where
+  pub keep-le : (ds : List D) → length (keep p ds) ≤ length ds
+  keep-le [] = omega arith
+  keep-le (d ∷ ds) = go (p d) (keep-le ds)
+    where
+      go : (b : Bool) → length (keep p ds) ≤ length ds → length (cond b (d ∷ keep p ds) (keep p ds)) ≤ suc (length ds)
+      go true h = omega arith
+      go false h = omega arith
+
+  pub keep-lt : (ds : List D) {x : D} → List·Memᴰ x ds → p x ≡ false → suc (length (keep p ds)) ≤ length ds
+  keep-lt [] k e = absurd (List·Memᴰ·not-nil k)
+  keep-lt (d ∷ ds) {x} k e = go (p d) refl (List·Memᴰ·cases-cons k) (λ j. keep-lt ds j e)
+    where
+      go : (b : Bool) → p d ≡ b → (x ≡ d) ⊎ List·Memᴰ x ds
+          → (List·Memᴰ x ds → suc (length (keep p ds)) ≤ length ds)
+          → suc (length (cond b (d ∷ keep p ds) (keep p ds))) ≤ suc (length ds)
+      go true q (inl z) ih = absurd (true≢false (sym q ∙ sym (ap p z) ∙ e))
+      go true q (inr j) ih = let h = ih j in omega arith
+      go false q j ih = let h = keep-le ds in omega arith

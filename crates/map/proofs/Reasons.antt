@@ -1,15 +1,19 @@
--- The first reason of a list, reason by reason. Assumes nothing.
+-- The first reason of a list, reason by reason; what a reason tells that does not hold. Assumes nothing.
 use mathlib.Core.Path.{_≡_, refl, sym, _∙_}
-use mathlib.Core.Bool.{Bool, true, false, cond}
+use mathlib.Core.Bool.{Bool, true, false, cond, _&&_}
 use mathlib.Core.Logic.{inl, inr}
 use mathlib.Core.List.{[], _∷_, _++_}
 use Prim.Native.Nat.{ℕ, _<_}
 use native.Mathlib.Omega.{arith}
 use lib.Dec.{ltb}
-use borrow.Author.Tests.{ltb-true}
+use lib.IntN.{ℤ}
+use borrow.Author.Tests.{ltb-true, not-false}
 use Rattle.lists.specs.Scans.{all}
-use Rattle.lists.proofs.Bools.{which, and-left, and-right}
-use Rattle.map.specs.Reasons.{Reasons, firstReason}
+use Rattle.lists.proofs.Bools.{which, and-true, and-left, and-right}
+use Rattle.plane.specs.Points.{InRange}
+use Rattle.curves.specs.Curves.{point, coordinate}
+use Rattle.curves.proofs.Runs.{coordinate-le}
+use Rattle.map.specs.Reasons.{Reasons, firstReason, outside}
 
 -- the reason at the front holds, or the others are looked at
 pub first-hit : (n : ℕ) (b : Bool) (rs : Reasons) → b ≡ true → firstReason ((n, b) ∷ rs) ≡ n
@@ -30,7 +34,8 @@ unfolding firstReason
 first-step n b rs = refl
 
 -- no reason holds: not the first, nor one of the others
-pub first-zero : (n : ℕ) (b : Bool) (rs : Reasons) → 0 < n → firstReason ((n, b) ∷ rs) ≡ 0 → (b ≡ false) × (firstReason rs ≡ 0)
+pub first-zero : (n : ℕ) (b : Bool) (rs : Reasons) → 0 < n → firstReason ((n, b) ∷ rs) ≡ 0
+    → (b ≡ false) × (firstReason rs ≡ 0)
 first-zero n b rs some e =
     elim (which b) [
       | inl h ↦ let z : n ≡ 0 = sym (first-hit n b rs h) ∙ e in absurd (omega arith)
@@ -48,7 +53,8 @@ first-append (r ∷ rs) ss n some e =
     ]
 
 -- no reason of the first holds, and none is numbered 0: those of the second are looked at
-pub first-after : (rs ss : Reasons) → all (λ r. ltb 0 (r .0)) rs ≡ true → firstReason rs ≡ 0 → firstReason (rs ++ ss) ≡ firstReason ss
+pub first-after : (rs ss : Reasons) → all (λ r. ltb 0 (r .0)) rs ≡ true → firstReason rs ≡ 0
+    → firstReason (rs ++ ss) ≡ firstReason ss
 first-after [] ss a e = refl
 first-after (r ∷ rs) ss a e =
     let later = first-after rs ss (and-right (ltb 0 (r .0)) (all (λ r. ltb 0 (r .0)) rs) a) in
@@ -57,3 +63,9 @@ first-after (r ∷ rs) ss a e =
       | inl h ↦ let z : r .0 ≡ 0 = sym (first-hit (r .0) (r .1) rs h) ∙ e in absurd (omega arith)
       | inr h ↦ first-miss (r .0) (r .1) (rs ++ ss) h ∙ later (sym (first-miss (r .0) (r .1) rs h) ∙ e)
     ]
+
+-- ---- reason 5
+
+pub point-in-range : (x y : ℤ) → outside x y ≡ false → InRange (point x y)
+point-in-range x y h = let k = and-true (coordinate x) (coordinate y) (not-false (coordinate x && coordinate y) h) in
+    record { x = coordinate-le x (k .0); y = coordinate-le y (k .1) }

@@ -37,7 +37,7 @@ use Rattle.map.specs.Form.{linksMeet, ringsBearOne, formed}
 use Rattle.map.specs.Links.{clockwise}
 use Rattle.map.proofs.Laws.{numbers-are}
 use Rattle.map.proofs.Linked.{arcOf, nums-rows, links-keep}
-use Rattle.grown.proofs.Scanning.{all-each, each-all, none-has}
+use Rattle.map.proofs.Scans.{all-each, each-all, none-has}
 use Rattle.grown.proofs.Readings.{leaves-row, edge-row, edge-at, arc-at, dart-has, departs, departing}
 use Rattle.grown.proofs.RowChanges.{node-row}
 use Rattle.grown.proofs.EdgesLaw.{from-in}

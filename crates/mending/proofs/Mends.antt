@@ -6,7 +6,7 @@ use mathlib.Core.Logic.{_≢_}
 use Prim.Native.Nat.{ℕ, zero, suc, _≤_}
 use native.Mathlib.Omega.{arith}
 use borrow.Author.Tests.{not-false, le-ltb}
-use lib.Dec.{ltb}
+use lib.Dec.{ltb, lit<}
 use lib.IntN.{ℤ, pos}
 use lib.ListN.{length}
 use Rattle.lists.proofs.Bools.{and-true, and-is}
@@ -17,10 +17,9 @@ use Rattle.map.specs.Links.{obeysLaw}
 use Rattle.map.specs.Reasons.{firstReason}
 use Rattle.map.specs.Ticket.{listUnless}
 use Rattle.map.proofs.RoundTrip.{writes-back, ranged-points}
-use Rattle.map.proofs.Reasons.{first-miss, first-none}
+use Rattle.map.proofs.Reasons.{first-miss, first-none, first-zero}
 use Rattle.map.proofs.Laws.{formed-back, in-form-back}
 use Rattle.map.proofs.Linked.{edges-once}
-use Rattle.grown.proofs.Reasons.{no-reason}
 use Rattle.mending.specs.Mend.{sketched, mended, changes, mendReasons, mendUnless, Mended, mend}
 use Rattle.mending.specs.Claims.{Mends, MendedLawful, MendedInForm, LinksAlone, MendedLinksAlone}
 use Rattle.mending.specs.Claims.{LawfulUntouched, MendedTwice, RefusedUntouched}
@@ -80,10 +79,10 @@ record Taken (l : Lent) (list : List ℤ) : Type 0 where
 taken : (l : Lent) (list : List ℤ) → Mends l list → Taken l list
 taken l list h =
     let none : reason l list ≡ 0 = sym (refusal-is l list) ∙ h in
-    let h₁ = no-reason 0 _ _ none in
-    let h₂ = no-reason 1 _ _ (h₁ .1) in
-    let h₁₁ = no-reason 10 _ _ (h₂ .1) in
-    let h₃₁ = no-reason 30 _ _ (h₁₁ .1) in
+    let h₁ = first-zero 1 _ _ (lit< tt) none in
+    let h₂ = first-zero 2 _ _ (lit< tt) (h₁ .1) in
+    let h₁₁ = first-zero 11 _ _ (lit< tt) (h₂ .1) in
+    let h₃₁ = first-zero 31 _ _ (lit< tt) (h₁₁ .1) in
     let drawn = sketched-is l (not-false (sketched l) (h₂ .0)) in
     record {
       whole = not-false (whole l) (h₁ .0);

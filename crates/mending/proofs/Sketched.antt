@@ -9,7 +9,7 @@ use Rattle.map.specs.Rows.{Edge, Map, Lent, mapOf, hasNode, hasEdge, hasFace}
 use Rattle.map.specs.Form.{ranged, numbers, inFace, edgeNames, named, curveFits, departuresDiffer, bareMarked}
 use Rattle.map.specs.Form.{linksOnce, linksMeet, ringsBearOne, formed, inForm}
 use Rattle.map.proofs.Laws.{formed-is, names}
-use Rattle.grown.proofs.Scanning.{all-each, each-all}
+use Rattle.map.proofs.Scans.{all-each, each-all}
 use Rattle.mending.specs.Mend.{sidesNamed, sketched}
 use Rattle.mending.specs.Claims.{linksNamed, SketchedButFor}
 

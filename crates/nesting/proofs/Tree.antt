@@ -27,11 +27,10 @@ use Rattle.map.specs.Rows.{Node, Map, node}
 use Rattle.map.specs.Rows as rows
 use Rattle.map.specs.Darts.{arcs, directed, leaves, next, bears}
 use Rattle.map.specs.Form.{formed}
-use Rattle.map.proofs.Scans.{find-some}
+use Rattle.map.proofs.Scans.{find-some, any-some, some-any}
 use Rattle.grown.specs.Good.{Good}
 use Rattle.grown.proofs.Readings.{faceIn, arcOf, bears-row, edge-row, arc-at, dart-has}
 use Rattle.grown.proofs.RowChanges.{nodeNumber, node-at}
-use Rattle.grown.proofs.Scanning.{any-some, some-any}
 use Rattle.grown.proofs.Numbers.{RankedMap, Outline, outlineOf, outlines, Met, numbered-ranked}
 use Rattle.grown.proofs.Forms.{good-formed}
 use Rattle.grown.proofs.EdgesReached.{good-reached}

@@ -18,7 +18,7 @@ use Rattle.planar.specs.Map.{Dart}
 use Rattle.map.specs.Limits.{edgeWidth, lastNumber}
 use Rattle.map.specs.Rows.{Edge, edge}
 use Rattle.map.specs.Darts.{directed, ring, among, lowestEdge}
-use Rattle.grown.proofs.Scanning.{rising, rising-distinct}
+use Rattle.map.proofs.Scans.{rising, rising-distinct}
 use Rattle.grown.proofs.EdgesRings.{among-has}
 use Rattle.tables.specs.Tables.{EdgeRows, edgesOf, edgeMap, edgeAt}
 use Rattle.tables.proofs.Order.{rise, lt-or-ge}
