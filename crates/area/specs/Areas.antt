@@ -9,8 +9,8 @@ use Rattle.curves.specs.Curves.{Curve}
 use Rattle.geometry.specs.Spots.{Spot, OnSeg}
 use Rattle.geometry.specs.Drawing.{OnCurve}
 
--- the doubled areas of the triangles of the origin and each segment, added up; that of closed segments does not depend
--- on the origin, and is positive if they run counterclockwise
+-- the doubled areas of the triangles of the origin and each segment, added up: the doubled area of closed segments,
+-- positive if they run counterclockwise
 abbrev pub areaOf : List Segment → ℤ
 areaOf l = total (λ s. area origin (s .from) (s .to)) l
 

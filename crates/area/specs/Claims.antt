@@ -26,24 +26,34 @@ ColumnFormula =
     → ((s : Segment) → List·Memᴰ s l → Divides D s) → ((s : Segment) → List·Memᴰ s l → Inside D W J s)
     → sumTo W (λ x. sumTo J (windingAt D l x)) ≡ pos D *ℤ areaOf l
 
--- the sign of the doubled area of the curves cs, by their winding numbers around the points off a drawing ds
+-- cs wind nowhere backwards, nowhere forwards: around no rational point off the curves ds of a drawing
+abbrev pub Forwards : List Curve → List Curve → Type 0
+Forwards cs ds = (P : Spot) → OffCurves P ds → pos 0 ≤ℤ windingAround P (allSegments cs)
+
+abbrev pub Backwards : List Curve → List Curve → Type 0
+Backwards cs ds = (P : Spot) → OffCurves P ds → windingAround P (allSegments cs) ≤ℤ pos 0
+
+-- they wind forwards around the points just above each of their segments that runs to greater x
+abbrev pub AboveForwards : List Curve → List Curve → Type 0
+AboveForwards cs ds =
+    (s : Segment) → List·Memᴰ s (allSegments cs) → s .from .x < s .to .x
+    → (A : Above (allSegments cs ++ allSegments ds) s) → pos 0 <ℤ windingAround (A .P) (allSegments cs)
+
+abbrev pub Upright : List Segment → Type 0
+Upright l = (s : Segment) → List·Memᴰ s l → s .from .x ≡ s .to .x
+
+-- the sign of the doubled area of the curves cs
 pub record RingArea (cs ds : List Curve) : Type 0 where
-  -- nowhere below 0, and above 0 around some point off cs: positive
+  -- nowhere backwards, and forwards around some point: positive
   pub inner-positive :
-      ((P : Spot) → OffCurves P ds → pos 0 ≤ℤ windingAround P (allSegments cs))
-      → (P : Spot) → OffCurves P cs → pos 0 <ℤ windingAround P (allSegments cs)
+      Forwards cs ds → (P : Spot) → OffCurves P cs → pos 0 <ℤ windingAround P (allSegments cs)
       → isPositive (sgn (total curveArea cs)) ≡ true
-  -- the same by points just above segments that run to greater x, unless all segments are upright
+  -- the same with the point to look at: just above a segment
   pub inner-by-floor :
-      ((P : Spot) → OffCurves P ds → pos 0 ≤ℤ windingAround P (allSegments cs))
-      → ((s : Segment) → List·Memᴰ s (allSegments cs) → s .from .x < s .to .x
-      → (A : Above (allSegments cs ++ allSegments ds) s) → pos 0 <ℤ windingAround (A .P) (allSegments cs))
-      → (((s : Segment) → List·Memᴰ s (allSegments cs) → s .from .x ≡ s .to .x) → ⊥)
+      Forwards cs ds → AboveForwards cs ds → (Upright (allSegments cs) → ⊥)
       → isPositive (sgn (total curveArea cs)) ≡ true
-  -- nowhere above 0: not positive
-  pub outer-not-positive :
-      ((P : Spot) → OffCurves P ds → windingAround P (allSegments cs) ≤ℤ pos 0)
-      → isPositive (sgn (total curveArea cs)) ≡ false
+  -- nowhere forwards: not positive
+  pub outer-not-positive : Backwards cs ds → isPositive (sgn (total curveArea cs)) ≡ false
 
 -- for all closed curves and all drawings
 abbrev pub RingAreas : Type 0

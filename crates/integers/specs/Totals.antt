@@ -1,4 +1,5 @@
--- Integers added up, over a list (`total`) and over the numbers below n (`sumTo`), and the laws of both. Assumes nothing.
+-- Integers added up, over a list (`total`) and over the numbers below n (`sumTo`), and the laws of both. Assumes
+-- nothing.
 use mathlib.Core.Path.{_≡_, refl, sym, ap, ap₂, _∙_, subst}
 use mathlib.Core.List.{List, [], _∷_, _++_, map, foldr, List·Memᴰ, List·Memᴰ·head, List·Memᴰ·tail, List·Permᴰ}
 use mathlib.Core.List.{List·Permᴰ·nil, List·Permᴰ·cons, List·Permᴰ·swap, List·Permᴰ·trans}

@@ -1,5 +1,5 @@
--- How often segments wind around what lies just left, and just right, of a departure from a point: around the point
--- itself, and what departs from it, counted counterclockwise from straight down. Definitions only.
+-- How often segments wind around what lies just left, and just right, of a departure from a point: their winding number
+-- around the point itself, and what departs up to there, counterclockwise from straight down. Definitions only.
 use mathlib.Core.Bool.{Bool, not, _&&_, _||_}
 use mathlib.Core.List.{List}
 use Prim.Native.Nat.{ℕ, _+_, _%_}
