@@ -26,7 +26,7 @@ ColumnFormula =
     → ((s : Segment) → List·Memᴰ s l → Divides D s) → ((s : Segment) → List·Memᴰ s l → Inside D W J s)
     → sumTo W (λ x. sumTo J (windingAt D l x)) ≡ pos D *ℤ areaOf l
 
--- cs wind nowhere backwards, nowhere forwards: around no rational point off the curves ds of a drawing
+-- cs wind backwards, or forwards, around no rational point off the curves ds of a drawing
 abbrev pub Forwards : List Curve → List Curve → Type 0
 Forwards cs ds = (P : Spot) → OffCurves P ds → pos 0 ≤ℤ windingAround P (allSegments cs)
 
