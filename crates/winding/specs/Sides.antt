@@ -15,13 +15,15 @@ use Rattle.plane.specs.Directions.{Way, wayTo, class, cross}
 use Rattle.plane.specs.Below.{Segment}
 use Rattle.winding.specs.Winding.{one, signedBelow}
 
--- the class of a direction, counterclockwise from just after straight down: (+,-) comes first, straight down last
-abbrev pub sinceDown : Way → ℕ
-sinceDown v = (class v + 1) % 8
+-- the classes of directions, counterclockwise from just after straight down: (+,-) comes first, straight down last
+abbrev pub sinceDown : ℕ → ℕ
+sinceDown c = (c + 1) % 8
 
 -- so counted, w comes no later than v
 unfoldable pub upTo : Way → Way → Bool
-upTo v w = ltb (sinceDown w) (sinceDown v) || same (sinceDown w) (sinceDown v) && not (isPositive (sgn (cross v w)))
+upTo v w =
+    ltb (sinceDown (class w)) (sinceDown (class v))
+    || same (sinceDown (class w)) (sinceDown (class v)) && not (isPositive (sgn (cross v w)))
 
 -- 1 or -1 where the segment, or its reverse, departs from v no later than w
 unfoldable pub departsUpTo : Point → Way → Segment → ℤ
