@@ -10,14 +10,15 @@ use Rattle.winding.specs.Enlarged.{timesSegment, asPoint}
 use Rattle.area.specs.Areas.{OffAll}
 
 -- t passes below both P and R, and s is higher; or t passes below neither
-pub data Apart (P R : Spot) (s t : Segment) : Type 0 where
-  lower :
+pub data BothOrNeither (P R : Spot) (s t : Segment) : Type 0 where
+  both :
       passesBelow (asPoint P) (timesSegment (P .d) t) ≡ true → passesBelow (asPoint R) (timesSegment (R .d) t) ≡ true
       → higher (P .x) (ordered (timesSegment (P .d) s)) (ordered (timesSegment (P .d) t)) ≡ true
-      → higher (P .x) (ordered (timesSegment (P .d) t)) (ordered (timesSegment (P .d) s)) ≡ false → Apart P R s t
-  aside :
+      → higher (P .x) (ordered (timesSegment (P .d) t)) (ordered (timesSegment (P .d) s)) ≡ false
+      → BothOrNeither P R s t
+  neither :
       passesBelow (asPoint P) (timesSegment (P .d) t) ≡ false → passesBelow (asPoint R) (timesSegment (R .d) t) ≡ false
-      → Apart P R s t
+      → BothOrNeither P R s t
 
 -- P is off the drawing m, and straight above R, an inner point of the segment s: s passes below P and not below R, and
 -- what does not pass through R passes below both or neither
@@ -31,4 +32,4 @@ pub record Above (m : List Segment) (s : Segment) : Type 0 where
   pub on : OnSeg R (s .from) (s .to)
   pub inner : (a : Point) → At R a → ⊥
   pub not-below : passesBelow (asPoint R) (timesSegment (R .d) s) ≡ false
-  pub others : (t : Segment) → List·Memᴰ t m → OnSeg R (t .from) (t .to) ⊎ Apart P R s t
+  pub others : (t : Segment) → List·Memᴰ t m → OnSeg R (t .from) (t .to) ⊎ BothOrNeither P R s t
