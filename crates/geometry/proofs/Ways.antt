@@ -229,7 +229,7 @@ sameWay-false a b c d n h = not-true (sameWay (wayTo a b) (wayTo c d)) (λ e. h 
 
 -- ---- the same of curves
 
-second-differs : (c : Curve) → Good c → c .first ≢ secondOf (c .first) (c .rest)
+pub second-differs : (c : Curve) → Good c → c .first ≢ secondOf (c .first) (c .rest)
 second-differs c g = go (c .rest) (g .some) (g .differ)
   where
     go : (r : List Point) → Some r → Differ (c .first) r → c .first ≢ secondOf (c .first) r

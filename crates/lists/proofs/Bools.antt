@@ -23,7 +23,7 @@ right : (a b : Bool) → T (a && b) → T b
 right true b t = t
 right false b t = absurd t
 
-by : (p : Bool → Bool) → T (both p) → (b : Bool) → T (p b)
+pub by : (p : Bool → Bool) → T (both p) → (b : Bool) → T (p b)
 by p t true = left (p true) (p false) t
 by p t false = right (p true) (p false) t
 

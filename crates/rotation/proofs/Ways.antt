@@ -93,7 +93,7 @@ one-side : (a b : Way) → class a ≡ class b → sgn (a .dx) ≡ sgn (b .dx)
 unfolding class
 one-side a b e = sym (side-classes _ (sgn (a .dy))) ∙ ap side e ∙ side-classes _ (sgn (b .dy))
 
-cross-swap : (a b : Way) → cross b a ≡ negℤ (cross a b)
+pub cross-swap : (a b : Way) → cross b a ≡ negℤ (cross a b)
 unfolding cross
 cross-swap a b = solve 4 (λ ax ay bx by. bx ⊗ ay ⊖ by ⊗ ax ≐ ⊝ (ax ⊗ by ⊖ ay ⊗ bx)) tt (a .dx) (a .dy) (b .dx) (b .dy)
 
