@@ -1,0 +1,181 @@
+"""The tests that a map must pass so that tickets go on from it: crates/certified against check.py.
+
+The reference has no call for them. Here they are read from the words of the definition, with the geometry of check.py,
+which is by fractions and apart from plotmap.py's.
+"""
+
+import random
+from dataclasses import astuple, replace
+from itertools import combinations
+
+import check
+import fuzz
+import fuzz_tables as ft
+import grown
+import plotmap as pm
+import raw_gen
+
+from . import antt
+from .scratch import Case, Claim
+
+CRATES = ('certified',)
+HEADER = """use Rattle.map.specs.Rows.{Lent, mapOf}
+use Rattle.map.specs.Links.{obeysLaw}
+use Rattle.certified.specs.Certified.{certifies, certified, sumHolds, reaches, surveys}
+
+abbrev parts : Lent → List Bool
+parts l = let m = mapOf l in obeysLaw m ∷ sumHolds m ∷ reaches m ∷ surveys m ∷ certified m ∷ []
+"""
+PARTS = ('law', 'sum', 'faces', 'drawing')
+REFUSALS = (0, 'form', *PARTS)
+
+
+# ---- the reading
+
+def lawful(m):
+    a = check.arcs(m)
+    return all(x[2] == check.law_next(a, d) for d, x in a.items())
+
+
+def sum_holds(m):
+    """Nodes + faces = edges + pieces + 1."""
+    return len(m.nodes) + len(m.faces) == len(m.edges) + len(set(check.component(m).values())) + 1
+
+
+def reaches(m):
+    """Every face is reached from face 0 across edges."""
+    reached = {0}
+    for _ in m.faces:
+        reached |= {f for e in m.edges for f in (e.left, e.right) if {e.left, e.right} & reached}
+    return set(m.faces) <= reached
+
+
+def simple(c):
+    """Neighbouring segments share their common point only, others none, first and last of a closed curve its end."""
+    segs = check.segs(c)
+    for (i, s), (j, t) in combinations(enumerate(segs), 2):
+        x = check.shared(*s, *t)
+        closed = c[0] == c[-1] and i == 0 and j == len(segs) - 1
+        if x is not None and not (j == i + 1 and x == s[1]) and not (closed and x == s[0]):
+            return False
+    return True
+
+
+def straight_inside(c):
+    """An inner point lies straight between its neighbours."""
+    return any(check.on(p, a, b) and p not in (a, b) for a, p, b in zip(c, c[1:], c[2:]))
+
+
+def meet_wrongly(c, d):
+    """They share a point that is not an end of both."""
+    ends = {c[0], c[-1]} & {d[0], d[-1]}
+    return any(x not in ends for x in check.curve_points(c, d))
+
+
+def surveys(m):
+    """Curves of 2 to 12 points are simple and share common ends only; no two nodes lie on one point."""
+    places = [(n.x, n.y) for n in m.nodes]
+    return (all(2 <= len(e.points) <= 12 and simple(e.points) and not straight_inside(e.points) for e in m.edges)
+            and not any(meet_wrongly(e.points, f.points) for e, f in combinations(m.edges, 2))
+            and all(0 <= c < 2 ** 20 for p in [*places, *(p for e in m.edges for p in e.points)] for c in p)
+            and len(set(places)) == len(places))
+
+
+def call(t, h):
+    lent, formed = f'({antt.sheet(t, h)})', pm.whole_tables(t, 0) and pm.in_form(t, h)
+    parts = [f(pm.decode(t, h, 0)) for f in (lawful, sum_holds, reaches, surveys)] if formed else []
+    good = formed and all(parts)
+    claims = [Claim(f'certifies {lent}', antt.truth(good), 'Bool')]
+    if formed:
+        claims.append(Claim(f'parts {lent}', antt.listed(map(antt.truth, [*parts, good])), 'List Bool'))
+    said = ' | '.join(' '.join(map(str, x)) for x in (*astuple(t), astuple(h)))
+    missed = [p for p, holds in zip(PARTS, parts) if not holds] if formed else ['form']
+    return Case('call', said, tuple(claims), tuple(('certified', p) for p in missed or [0]))
+
+
+# ---- maps that are not grown, each off in one way
+
+def node_moved(rng, m, grid):
+    """A lone node elsewhere, or a node with the ends of its edges."""
+    if not m.nodes:
+        return m
+    n, (x, y) = rng.choice(m.nodes), fuzz.spot(rng, grid)
+    moved = lambda e: ((x, y),) * (e.start == n.number) + e.points[e.start == n.number:len(e.points) - (e.end == n.number)] \
+        + ((x, y),) * (e.end == n.number)
+    return replace(m, nodes=pm.changed(m.nodes, replace(n, x=x, y=y)),
+                   edges=tuple(replace(e, points=moved(e)) for e in m.edges))
+
+
+def on_one_point(rng, m, grid):
+    """A lone node more where another node is."""
+    if not m.nodes:
+        return m
+    n = rng.choice(m.nodes)
+    f = rng.choice(m.faces)
+    return replace(m, nodes=m.nodes + (pm.Node(m.next_node, n.x, n.y, f),), next_node=m.next_node + 1)
+
+
+def redrawn(rng, m, grid):
+    """One curve by way of other points: anywhere, or those of another curve."""
+    if not m.edges:
+        return m
+    e, f = rng.choice(m.edges), rng.choice(m.edges)
+    inner = f.points[1:-1] if rng.random() < 0.3 else [fuzz.spot(rng, grid) for _ in range(rng.randint(0, 3))]
+    return pm.with_curve(m, e.number, (e.points[0], *inner, e.points[-1]))
+
+
+def straightened(rng, m, grid):
+    """One curve with a straight point more."""
+    for e in rng.sample(m.edges, len(m.edges)):
+        for i, ((a, b), (c, d)) in enumerate(zip(e.points, e.points[1:])):
+            p = ((a + c) // 2, (b + d) // 2)
+            if pm.straight_between(p, (a, b), (c, d)) and len(e.points) < 12:
+                return pm.with_curve(m, e.number, (*e.points[:i + 1], p, *e.points[i + 1:]))
+    return m
+
+
+def unborne(rng, m, grid):
+    """A face that nothing bears, or one that a lone node alone bears."""
+    f = m.next_face
+    lone = [n for n in m.nodes if n.face != -1]
+    if lone and rng.random() < 0.5:
+        m = replace(m, nodes=pm.changed(m.nodes, replace(rng.choice(lone), face=f)))
+    return replace(m, faces=m.faces + (f,), next_face=f + 1)
+
+
+def off_law(rng, m, grid):
+    return ft.off_law(rng, m)
+
+
+def reborne(rng, m, grid):
+    """One ring bears another face."""
+    rings = pm.rings(m)
+    return pm.with_borne(m, rng.choice(rings), rng.choice(m.faces)) if rings else m
+
+
+def bent(rng, m, grid):
+    return raw_gen.bend(rng, m, grid)
+
+
+def spoilt(rng, t, h):
+    t, h = ft.spoil(rng, t, h, 0)
+    return pm.Tables(*(x[:400] for x in astuple(t))), h
+
+
+WAYS = (node_moved, on_one_point, redrawn, redrawn, straightened, unborne, off_law, reborne, bent)
+
+
+def some(rng):
+    grid = (0, 0, rng.choice([5, 7, 9, 14, 30, pm.MAX_COORDINATE + 1]))
+    m = grown.grow(rng, rng.choice([5, 15, 25, 40]), 0, grid=grid)
+    if rng.random() < 0.75:
+        way = rng.choice(WAYS)
+        tries = (way(rng, m, grid) for _ in range(8))
+        m = next((x for x in tries if x != m and pm.in_form(*grown.exact(x, 0))), m)
+    t, h = grown.exact(m, 0, more=rng.choice([0, 1]))
+    return spoilt(rng, t, h) if rng.random() < 0.06 else (t, h)
+
+
+def cases(count, seed):
+    rng = random.Random(seed)
+    return [call(*some(rng)) for _ in range(count)]

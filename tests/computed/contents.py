@@ -1,0 +1,66 @@
+"""Contents of a sheet: crates/nesting against contents.py."""
+
+import random
+from dataclasses import astuple, replace
+
+import contents as ct
+import fuzz_tables as ft
+import grown
+import plotmap as pm
+
+from . import antt
+from .scratch import Case, Claim
+
+CRATES = ('nesting',)
+HEADER = """use Rattle.map.specs.Ticket.{Listed}
+use Rattle.nesting.specs.Contents.{contentsOf}
+"""
+REFUSALS = (0, 1, 2, 20, 28)
+
+
+def call(t, h, out):
+    after, r, v = ct.list_contents(t, h, out, 0)
+    said = ' | '.join(' '.join(map(str, x)) for x in (*astuple(t), astuple(h))) + f' | {len(out)}'
+    claim = Claim(f'contentsOf ({antt.sheet(t, h)}) ({antt.zs(out)})', antt.written(after, r, v), 'Listed')
+    return Case('call', said, (claim,), (('contents', r),))
+
+
+def reborne(rng, m):
+    """Some rings and lone nodes bear other faces, now and then a face more that nothing bears."""
+    for r in pm.rings(m):
+        if rng.random() < 0.2:
+            m = pm.with_borne(m, r, rng.choice(m.faces))
+    m = replace(m, nodes=tuple(replace(n, face=rng.choice(m.faces)) if n.face != -1 and rng.random() < 0.3 else n
+                               for n in m.nodes))
+    if rng.random() < 0.1:
+        m = replace(m, faces=m.faces + (m.next_face,), next_face=m.next_face + 1)
+    return m
+
+
+def without_unborne(m):
+    """Without the faces that nothing bears."""
+    borne = {pm.borne(m, d) for d in pm.directed_edges(m)} | {n.face for n in m.nodes} | {0}
+    return replace(m, faces=tuple(f for f in m.faces if f in borne))
+
+
+def some(rng):
+    m = grown.grow(rng, rng.choice([10, 30, 60]), 0, mix=rng.choice(['islands', 'islands', 'islands', 'faces', 'even']))
+    c = rng.random()
+    if c < 0.25:
+        m = reborne(rng, m)
+    elif c < 0.4:
+        m = grown.distort(rng, m, (0, 0, 9))
+    if 0.15 < c < 0.35:
+        m = without_unborne(m)
+    t, h = grown.exact(m, 0, more=rng.choice([0, 1]))
+    if rng.random() < 0.06:
+        t, h = ft.spoil(rng, t, h, 0)
+        t = pm.Tables(*(x[:400] for x in astuple(t)))
+    lines = ct.contents(m) if pm.in_form(*grown.exact(m, 0)) else None
+    wanted = 3 * len(lines if lines is not None else m.faces)
+    return t, h, (77,) * max(0, wanted + rng.choice([0, 0, 1, 5, -1, -3]))
+
+
+def cases(count, seed):
+    rng = random.Random(seed)
+    return [call(*some(rng)) for _ in range(count)]

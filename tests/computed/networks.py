@@ -1,0 +1,159 @@
+"""Networks of both editions: crates/network against networks.py."""
+
+import random
+from dataclasses import astuple, replace
+
+import fuzz_tables as ft
+import grown
+import networks as nw
+import plotmap as pm
+
+from . import antt
+from .scratch import Case, Claim
+
+CRATES = ('network',)
+HEADER = """use Rattle.map.specs.declared.Answer.{Answer}
+use Rattle.network.specs.Rows.{Lent}
+use Rattle.network.specs.Operation.{Outcome, operation, created, fromMap}
+use Rattle.network.specs.Claims.{after}
+
+abbrev answers : Lent → List (List ℤ) → List Answer
+answers l [] = []
+answers l (t ∷ ts) = let o = operation l t in o .answer ∷ answers (o .lent) ts
+"""
+REFUSALS = (0, 1, 2, 3, 4, 5, 6, 7, 8, 9, 13, 16, 18, 20, 21, 25, 26, 27)
+JUNK = nw.Head(7, -7, 7, 7, 7)
+
+
+def lent(t, h):
+    names = ('nodes', 'links', 'next_node', 'next_link', 'year')
+    return antt.record(nodes=antt.zs(t.nodes), links=antt.zs(t.links), head=antt.head(astuple(h), *names))
+
+
+def outcome(t, h, r, v):
+    return antt.outcome(lent(t, h), r, v)
+
+
+def said(*parts):
+    return ' | '.join(' '.join(map(str, p)) if isinstance(p, tuple) else str(p) for p in parts)
+
+
+def tables(t, h):
+    return said(t.nodes, t.links, astuple(h))
+
+
+# ---- lists of operations
+
+def listed(rng):
+    """A list of operations, now and then near the last number."""
+    year, w = rng.choice(nw.YEARS), rng.choice([3, 5, 8, 12, 40, 2 ** 20])
+    room = nw.Sizes(rng.choice([3, 12, 20]), rng.choice([3, 12, 20]))
+    t, h, _, _ = nw.make_empty(nw.Tables((5,) * (4 * room.nodes), (5,) * (28 * room.links)), JUNK, year)
+    if rng.random() < 0.15:
+        h = replace(h, next_node=rng.randint(999_990, 999_999), next_link=rng.randint(999_985, 999_999))
+    start, ops, answers = lent(t, h), [], []
+    for _ in range(rng.choice([6, 15, 30])):
+        ops.append(grown.net_op(rng, nw.decode(t, h), w))
+        t, h, *a = nw.run(t, h, ops[-1])
+        answers.append(a)
+    args = f'({start}) ({antt.runs(ops)})'
+    claims = (Claim(f'after {args}', lent(t, h), 'Lent'),
+              Claim(f'answers {args}', antt.listed(antt.answer(*a) for a in answers), 'List Answer'))
+    return Case('list', said(year, room, *ops), claims,
+                tuple((op[0] if op else 0, r) for op, (r, _) in zip(ops, answers)))
+
+
+# ---- whole calls on tables not grown
+
+def drawn(rng, w):
+    """In form for the most part: curves end on such nodes as have points, and go through these points again, along
+    straight runs and back, in up to 12 points."""
+    spot = lambda: (rng.randrange(w), rng.randrange(w))
+    numbers = sorted(rng.sample(range(1, 9), rng.randint(3, 5)))
+    at = {n: spot() if rng.random() < 0.7 else None for n in numbers}
+    spots = [p for p in at.values() if p] + [spot() for _ in range(3)]
+
+    def link(k):
+        u, v = rng.choice(numbers), rng.choice(numbers)
+        c, end = [at[u] or rng.choice(spots)], at[v] or rng.choice(spots)
+        for _ in range(rng.choice([0, 1, 2, 4, 7, 10])):
+            c.append(rng.choice([p for p in spots if p != c[-1]] or [end]))
+        c = (*c[:-1], *c[-1:] * (c[-1] != end), end)
+        return nw.Link(k, u, v, c if rng.random() < 0.85 and len(c) > 1 else ())
+    links = tuple(link(k) for k in sorted(rng.sample(range(1, 9), rng.randint(1, 6))))
+    return nw.Net(tuple(nw.Node(n, p) for n, p in at.items()), links, 9, 9, rng.choice(nw.YEARS))
+
+
+def spoiled(rng, t, h):
+    flat = [list(t.nodes), list(t.links), list(astuple(h))]
+    for _ in range(rng.randint(1, 2)):
+        x = rng.choice(flat)
+        if x:
+            i = rng.randrange(len(x) if x is flat[2] else max(1, len(x) - 20))
+            x[i] = rng.choice([x[i] + 1, x[i] - 1, -x[i], 0, 1, 2, 13, 2 ** 63 - 1, -2 ** 63, 1_000_000, 1_000_001,
+                               rng.choice(x)])
+    if rng.random() < 0.15:
+        x = flat[rng.randrange(2)]
+        x.extend([0] * rng.choice([1, 3, 4, 27, 28])) if rng.random() < 0.7 else x.pop() if x else None
+    return nw.Tables(tuple(flat[0]), tuple(flat[1])), nw.Head(*flat[2])
+
+
+def of_tables(rng, bad):
+    w = rng.choice([3, 5, 8, 30])
+    net = drawn(rng, w) if rng.random() < 0.7 else grown.grow_net(rng, rng.randint(0, 30), rng.choice(nw.YEARS), w)
+    if rng.random() < 0.1:
+        net = replace(net, next_node=rng.choice([999_999, 1_000_000]), next_link=rng.choice([999_998, 999_999, 1_000_000]))
+    more = rng.choice([0, 1, 1, 2])
+    t, h = nw.encode(net, nw.Sizes(len(net.nodes) + more, len(net.links) + rng.choice([more, 1])))
+    return net, w, *(spoiled(rng, t, h) if bad else (t, h))
+
+
+def called(rng):
+    bad, kind = rng.random() < 0.2, rng.randint(1, 12)
+    net, w, t, h = of_tables(rng, bad)
+    for _ in range(60):                        # for the most part of that kind, and past 3 and 4
+        op = grown.net_op(rng, net, w)
+        t2, h2, r, v = nw.run(t, h, op)
+        if op[:1] == (kind,) and r not in (3, 4) or rng.random() < 0.002:
+            break
+    claim = Claim(f'operation ({lent(t, h)}) ({antt.zs(op)})', outcome(t2, h2, r, v), 'Outcome')
+    return Case('call', said(tables(t, h), op), (claim,), ((op[0] if op else 0, r),))
+
+
+def made(rng):
+    """Created in any tables, under any year."""
+    _, _, t, h = of_tables(rng, rng.random() < 0.5)
+    year = rng.choice([2004, 2005, 2004, 2005, 2003, 2006, 0, -2004, 2 ** 63 - 1, -2 ** 63])
+    t2, h2, r, v = nw.make_empty(t, h, year)
+    claim = Claim(f'created ({lent(t, h)}) ({antt.z(year)})', outcome(t2, h2, r, v), 'Outcome')
+    return Case('call', said('created', tables(t, h), year), (claim,), (('created', r),))
+
+
+# ---- networks made from a map
+
+def from_map(rng):
+    m = grown.grow(rng, rng.choice([0, 8, 20, 30]), 0)
+    if rng.random() < 0.3:
+        m = grown.distort(rng, m, (0, 0, 9))
+    s, sh = grown.exact(m, 0, more=rng.choice([0, 1]))
+    if rng.random() < 0.15:
+        s, sh = ft.spoil(rng, s, sh, 0)
+        s = pm.Tables(*(x[:300] for x in astuple(s)))
+    less = rng.choice([0, 0, 0, 0, 1])
+    room = nw.Sizes(max(0, len(m.nodes) + rng.choice([0, 2]) - less), max(0, len(m.edges) + rng.choice([0, 1]) - less))
+    t, h = nw.encode(nw.empty_net(rng.choice(nw.YEARS)), room)
+    c = rng.random()
+    if c < 0.1:
+        t, h = spoiled(rng, t, h)
+    elif c < 0.2:                              # it had a row
+        t, h = nw.run(*nw.run(t, h, (1,))[:2], (3, 1))[:2] if c < 0.15 else nw.run(t, h, (1, 3, 4))[:2]
+    spatial = rng.random() < 0.6
+    t2, h2, r, v = nw.make_from_map(t, h, s, sh, spatial, 0)
+    left = f'fromMap {antt.truth(spatial)} ({antt.sheet(s, sh)}) ({lent(t, h)})'
+    return Case('call', said('from map', spatial, *astuple(s), astuple(sh), tables(t, h)),
+                (Claim(left, outcome(t2, h2, r, v), 'Outcome'),), (('from map', r),))
+
+
+def cases(count, seed):
+    rng = random.Random(seed)
+    return [rng.choices((listed, called, made, from_map), (4, 10, 1, 3))[0](rng) for _ in range(count)]
