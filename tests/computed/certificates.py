@@ -5,7 +5,7 @@ which is by fractions and apart from plotmap.py's.
 """
 
 import random
-from dataclasses import astuple, replace
+from dataclasses import replace
 from itertools import combinations
 
 import check
@@ -15,7 +15,7 @@ import grown
 import plotmap as pm
 import raw_gen
 
-from . import antt
+from . import antt, lent
 from .scratch import Case, Claim
 
 CRATES = ('certified',)
@@ -82,15 +82,14 @@ def surveys(m):
 
 
 def call(t, h):
-    lent, formed = f'({antt.sheet(t, h)})', pm.whole_tables(t, 0) and pm.in_form(t, h)
+    sheet, formed = f'({antt.sheet(t, h)})', pm.whole_tables(t, 0) and pm.in_form(t, h)
     parts = [f(pm.decode(t, h, 0)) for f in (lawful, sum_holds, reaches, surveys)] if formed else []
     good = formed and all(parts)
-    claims = [Claim(f'certifies {lent}', antt.truth(good), 'Bool')]
+    claims = [Claim(f'certifies {sheet}', antt.truth(good), 'Bool')]
     if formed:
-        claims.append(Claim(f'parts {lent}', antt.listed(map(antt.truth, [*parts, good])), 'List Bool'))
-    said = ' | '.join(' '.join(map(str, x)) for x in (*astuple(t), astuple(h)))
+        claims.append(Claim(f'parts {sheet}', antt.listed(map(antt.truth, [*parts, good])), 'List Bool'))
     missed = [p for p, holds in zip(PARTS, parts) if not holds] if formed else ['form']
-    return Case('call', said, tuple(claims), tuple(('certified', p) for p in missed or [0]))
+    return Case('call', lent.tables(t, h), tuple(claims), tuple(('certified', p) for p in missed or [0]))
 
 
 # ---- maps that are not grown, each off in one way
@@ -99,11 +98,11 @@ def node_moved(rng, m, grid):
     """A lone node elsewhere, or a node with the ends of its edges."""
     if not m.nodes:
         return m
-    n, (x, y) = rng.choice(m.nodes), fuzz.spot(rng, grid)
-    moved = lambda e: ((x, y),) * (e.start == n.number) + e.points[e.start == n.number:len(e.points) - (e.end == n.number)] \
-        + ((x, y),) * (e.end == n.number)
-    return replace(m, nodes=pm.changed(m.nodes, replace(n, x=x, y=y)),
-                   edges=tuple(replace(e, points=moved(e)) for e in m.edges))
+    n, p = rng.choice(m.nodes), fuzz.spot(rng, grid)
+    first = lambda e: p if e.start == n.number else e.points[0]
+    last = lambda e: p if e.end == n.number else e.points[-1]
+    return replace(m, nodes=pm.changed(m.nodes, replace(n, x=p[0], y=p[1])),
+                   edges=tuple(replace(e, points=(first(e), *e.points[1:-1], last(e))) for e in m.edges))
 
 
 def on_one_point(rng, m, grid):
@@ -125,13 +124,7 @@ def redrawn(rng, m, grid):
 
 
 def straightened(rng, m, grid):
-    """One curve with a straight point more."""
-    for e in rng.sample(m.edges, len(m.edges)):
-        for i, ((a, b), (c, d)) in enumerate(zip(e.points, e.points[1:])):
-            p = ((a + c) // 2, (b + d) // 2)
-            if pm.straight_between(p, (a, b), (c, d)) and len(e.points) < 12:
-                return pm.with_curve(m, e.number, (*e.points[:i + 1], p, *e.points[i + 1:]))
-    return m
+    return lent.straightened(rng, m)
 
 
 def unborne(rng, m, grid):
@@ -157,11 +150,6 @@ def bent(rng, m, grid):
     return raw_gen.bend(rng, m, grid)
 
 
-def spoilt(rng, t, h):
-    t, h = ft.spoil(rng, t, h, 0)
-    return pm.Tables(*(x[:400] for x in astuple(t))), h
-
-
 WAYS = (node_moved, on_one_point, redrawn, redrawn, straightened, unborne, off_law, reborne, bent)
 
 
@@ -173,7 +161,7 @@ def some(rng):
         tries = (way(rng, m, grid) for _ in range(8))
         m = next((x for x in tries if x != m and pm.in_form(*grown.exact(x, 0))), m)
     t, h = grown.exact(m, 0, more=rng.choice([0, 1]))
-    return spoilt(rng, t, h) if rng.random() < 0.06 else (t, h)
+    return lent.spoiled(rng, t, h) if rng.random() < 0.06 else (t, h)
 
 
 def cases(count, seed):

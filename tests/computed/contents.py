@@ -1,14 +1,13 @@
 """Contents of a sheet: crates/nesting against contents.py."""
 
 import random
-from dataclasses import astuple, replace
+from dataclasses import replace
 
 import contents as ct
-import fuzz_tables as ft
 import grown
 import plotmap as pm
 
-from . import antt
+from . import antt, lent
 from .scratch import Case, Claim
 
 CRATES = ('nesting',)
@@ -20,9 +19,8 @@ REFUSALS = (0, 1, 2, 20, 28)
 
 def call(t, h, out):
     after, r, v = ct.list_contents(t, h, out, 0)
-    said = ' | '.join(' '.join(map(str, x)) for x in (*astuple(t), astuple(h))) + f' | {len(out)}'
     claim = Claim(f'contentsOf ({antt.sheet(t, h)}) ({antt.zs(out)})', antt.written(after, r, v), 'Listed')
-    return Case('call', said, (claim,), (('contents', r),))
+    return Case('call', lent.said(lent.tables(t, h), len(out)), (claim,), (('contents', r),))
 
 
 def reborne(rng, m):
@@ -54,8 +52,7 @@ def some(rng):
         m = without_unborne(m)
     t, h = grown.exact(m, 0, more=rng.choice([0, 1]))
     if rng.random() < 0.06:
-        t, h = ft.spoil(rng, t, h, 0)
-        t = pm.Tables(*(x[:400] for x in astuple(t)))
+        t, h = lent.spoiled(rng, t, h)
     lines = ct.contents(m) if pm.in_form(*grown.exact(m, 0)) else None
     wanted = 3 * len(lines if lines is not None else m.faces)
     return t, h, (77,) * max(0, wanted + rng.choice([0, 0, 1, 5, -1, -3]))

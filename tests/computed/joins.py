@@ -1,14 +1,13 @@
 """Two sheets joined: crates/joining against join.py."""
 
 import random
-from dataclasses import astuple, replace
+from dataclasses import replace
 
-import fuzz_tables as ft
 import grown
 import join as jn
 import plotmap as pm
 
-from . import antt
+from . import antt, lent
 from .scratch import Case, Claim
 
 CRATES = ('joining',)
@@ -20,25 +19,9 @@ REFUSALS = (0, 1, 2, 6, 7, 11, 12, 14, 15, 20, 21)     # what kinds 1, 8 and 12 
 
 def call(first, second):
     t, h, r, v = jn.join(*first, *second, 0)
-    claim = Claim(f'joined ({antt.sheet(*first)}) ({antt.sheet(*second)})', antt.outcome(antt.sheet(t, h), r, v), 'Outcome')
-    said = ' | '.join(' '.join(map(str, x)) for t, h in (first, second) for x in (*astuple(t), astuple(h)))
-    return Case('call', said, (claim,), (('joined', r),))
-
-
-def distorted(rng, m, grid):
-    """In form, seldom grown; the map itself where that fails."""
-    tries = (grown.distort(rng, m, grid) for _ in range(6))
-    return next((x for x in tries if x != m and pm.in_form(*grown.exact(x, 0))), m)
-
-
-def with_surplus(rng, m):
-    """A straight point more in some curves."""
-    def longer(e):
-        (a, b), (c, d) = e.points[:2]
-        p = ((a + c) // 2, (b + d) // 2)
-        fits = len(e.points) < 12 and pm.straight_between(p, (a, b), (c, d))
-        return replace(e, points=(e.points[0], p, *e.points[1:])) if fits and rng.random() < 0.5 else e
-    return replace(m, edges=tuple(map(longer, m.edges)))
+    left = f'joined ({antt.sheet(*first)}) ({antt.sheet(*second)})'
+    return Case('call', lent.said(lent.tables(*first), lent.tables(*second)),
+                (Claim(left, antt.outcome(antt.sheet(t, h), r, v), 'Outcome'),), (('joined', r),))
 
 
 def moved(m, dx, dy):
@@ -64,23 +47,18 @@ def some(rng):
     else:
         b = more(rng.choice([0, 3, 6, 9]), base)
     if rng.random() < 0.3:
-        b = with_surplus(rng, b) if rng.random() < 0.3 else distorted(rng, b, grid)
+        b = lent.straightened(rng, b) if rng.random() < 0.3 else lent.distorted(rng, b, grid)
     if rng.random() < 0.3:
-        a = distorted(rng, a, grid)
+        a = lent.distorted(rng, a, grid)
     if rng.random() < 0.08:
         a = replace(a, **{f'next_{x}': rng.choice([999_999, 1_000_000]) for x in ('node', 'edge', 'face')})
     free = rng.choice([0, 1, 3, 6, 6, 6])
     first, second = grown.exact(a, 0, more=free), grown.exact(b, 0, more=rng.choice([0, 1]))
     if rng.random() < 0.06:
-        first = short(*ft.spoil(rng, *first, 0))
+        first = lent.spoiled(rng, *first)
     if rng.random() < 0.06:
-        second = short(*ft.spoil(rng, *second, 0))
+        second = lent.spoiled(rng, *second)
     return first, second
-
-
-def short(t, h):
-    """Not above 300 numbers a table."""
-    return pm.Tables(*(x[:300] for x in astuple(t))), h
 
 
 def cases(count, seed):

@@ -1,14 +1,13 @@
 """Links mended from the drawing: crates/mending against mend.py."""
 
 import random
-from dataclasses import astuple, replace
+from dataclasses import replace
 
-import fuzz_tables as ft
 import grown
 import mend as md
 import plotmap as pm
 
-from . import antt
+from . import antt, lent
 from .scratch import Case, Claim
 
 CRATES = ('mending',)
@@ -20,8 +19,8 @@ REFUSALS = (0, 1, 2, 11, 20, 31)
 def call(t, h, out):
     t2, h2, after, r, v = md.mend(t, h, out, 0)
     right = antt.record(lent=antt.sheet(t2, h2), list=antt.zs(after), answer=antt.answer(r, v))
-    said = ' | '.join(' '.join(map(str, x)) for x in (*astuple(t), astuple(h))) + f' | {len(out)}'
-    return Case('call', said, (Claim(f'mend ({antt.sheet(t, h)}) ({antt.zs(out)})', right, 'Mended'),), (('mended', r),))
+    claim = Claim(f'mend ({antt.sheet(t, h)}) ({antt.zs(out)})', right, 'Mended')
+    return Case('call', lent.said(lent.tables(t, h), len(out)), (claim,), (('mended', r),))
 
 
 def spoilt(rng, m):
@@ -64,8 +63,7 @@ def some(rng):
         m = spoilt(rng, m)
     t, h = grown.exact(m, 0, more=rng.choice([0, 1]))
     if rng.random() < 0.06:
-        t, h = ft.spoil(rng, t, h, 0)
-        t = pm.Tables(*(x[:400] for x in astuple(t)))
+        t, h = lent.spoiled(rng, t, h)
     wanted = 5 * len(m.edges)
     try:
         wanted = len(md.changes(m))

@@ -3,12 +3,11 @@
 import random
 from dataclasses import astuple, replace
 
-import fuzz_tables as ft
 import grown
 import networks as nw
-import plotmap as pm
 
-from . import antt
+from . import antt, lent as sheets
+from .lent import said
 from .scratch import Case, Claim
 
 CRATES = ('network',)
@@ -32,14 +31,6 @@ def lent(t, h):
 
 def outcome(t, h, r, v):
     return antt.outcome(lent(t, h), r, v)
-
-
-def said(*parts):
-    return ' | '.join(' '.join(map(str, p)) if isinstance(p, tuple) else str(p) for p in parts)
-
-
-def tables(t, h):
-    return said(t.nodes, t.links, astuple(h))
 
 
 # ---- lists of operations
@@ -102,7 +93,7 @@ def of_tables(rng, bad):
     w = rng.choice([3, 5, 8, 30])
     net = drawn(rng, w) if rng.random() < 0.7 else grown.grow_net(rng, rng.randint(0, 30), rng.choice(nw.YEARS), w)
     if rng.random() < 0.1:
-        net = replace(net, next_node=rng.choice([999_999, 1_000_000]), next_link=rng.choice([999_998, 999_999, 1_000_000]))
+        net = replace(net, next_node=rng.choice([999_999, 1_000_000]), next_link=rng.randint(999_998, 1_000_000))
     more = rng.choice([0, 1, 1, 2])
     t, h = nw.encode(net, nw.Sizes(len(net.nodes) + more, len(net.links) + rng.choice([more, 1])))
     return net, w, *(spoiled(rng, t, h) if bad else (t, h))
@@ -117,7 +108,7 @@ def called(rng):
         if op[:1] == (kind,) and r not in (3, 4) or rng.random() < 0.002:
             break
     claim = Claim(f'operation ({lent(t, h)}) ({antt.zs(op)})', outcome(t2, h2, r, v), 'Outcome')
-    return Case('call', said(tables(t, h), op), (claim,), ((op[0] if op else 0, r),))
+    return Case('call', said(sheets.tables(t, h), op), (claim,), ((op[0] if op else 0, r),))
 
 
 def made(rng):
@@ -126,7 +117,7 @@ def made(rng):
     year = rng.choice([2004, 2005, 2004, 2005, 2003, 2006, 0, -2004, 2 ** 63 - 1, -2 ** 63])
     t2, h2, r, v = nw.make_empty(t, h, year)
     claim = Claim(f'created ({lent(t, h)}) ({antt.z(year)})', outcome(t2, h2, r, v), 'Outcome')
-    return Case('call', said('created', tables(t, h), year), (claim,), (('created', r),))
+    return Case('call', said('created', sheets.tables(t, h), year), (claim,), (('created', r),))
 
 
 # ---- networks made from a map
@@ -137,8 +128,7 @@ def from_map(rng):
         m = grown.distort(rng, m, (0, 0, 9))
     s, sh = grown.exact(m, 0, more=rng.choice([0, 1]))
     if rng.random() < 0.15:
-        s, sh = ft.spoil(rng, s, sh, 0)
-        s = pm.Tables(*(x[:300] for x in astuple(s)))
+        s, sh = sheets.spoiled(rng, s, sh)
     less = rng.choice([0, 0, 0, 0, 1])
     room = nw.Sizes(max(0, len(m.nodes) + rng.choice([0, 2]) - less), max(0, len(m.edges) + rng.choice([0, 1]) - less))
     t, h = nw.encode(nw.empty_net(rng.choice(nw.YEARS)), room)
@@ -150,7 +140,7 @@ def from_map(rng):
     spatial = rng.random() < 0.6
     t2, h2, r, v = nw.make_from_map(t, h, s, sh, spatial, 0)
     left = f'fromMap {antt.truth(spatial)} ({antt.sheet(s, sh)}) ({lent(t, h)})'
-    return Case('call', said('from map', spatial, *astuple(s), astuple(sh), tables(t, h)),
+    return Case('call', said('from map', spatial, sheets.tables(s, sh), sheets.tables(t, h)),
                 (Claim(left, outcome(t2, h2, r, v), 'Outcome'),), (('from map', r),))
 
 
