@@ -39,8 +39,8 @@ class Case:
 # ---- the crates
 
 def needed(crates):
-    """The crates map, and these and all that their definitions name, each with what it needs and whether it is linked
-    whole: those below map with their proofs, which their functions need, the others by source and definitions alone."""
+    """The crate map, these, and all that they need: of each what it needs, and those that are taken whole. That are the
+    map and what is below it, whose functions need their proofs; of the others the definitions are enough."""
     lines = [l.split('#')[0].partition(':') for l in (ROOT / 'crates.txt').read_text().splitlines()]
     named = {c.strip(): ds.split() for c, _, ds in lines if c.strip()}
     whole = reached(['map'], named.get)
@@ -82,9 +82,8 @@ def repository(crates):
     found, whole = needed(crates)
     for c in found:
         for part in ('src', 'specs', 'proofs') if c in whole else ('src', 'specs'):
-            if (ROOT / 'crates' / c / part).exists():
-                (REPOSITORY / 'crates' / c).mkdir(parents=True, exist_ok=True)
-                (REPOSITORY / 'crates' / c / part).symlink_to(ROOT / 'crates' / c / part)
+            if (ROOT / 'crates' / c / part).exists():      # copied: rt sees no change behind a link
+                shutil.copytree(ROOT / 'crates' / c / part, REPOSITORY / 'crates' / c / part)
     lines = [f'{c}: {" ".join(ds)}' for c, ds in found.items()] + [f'scratch: {" ".join(found)}']
     (REPOSITORY / 'crates.txt').write_text('\n'.join(lines) + '\n')
     (SCRATCH / 'src').mkdir(parents=True)
@@ -148,7 +147,7 @@ def run(kind, cases, per, rng=None):
         return 1 if untold else 0
     bad = sorted({int(re.match(r'case(\d+)', n)[1]) for n in failed})
     print(line(kind, cases, bad, spent))
-    for i in bad[:5]:
+    for i in sorted(bad, key=lambda i: len(cases[i].said))[:5]:
         print(f'case{i}', *sorted(n for n in failed if n.startswith(f'case{i}-')), '\n ', cases[i].said)
     return 1 if bad else 0
 
