@@ -23,6 +23,15 @@ def call(t, h, out):
     return Case('call', lent.said(lent.tables(t, h), len(out)), (claim,), (('contents', r),))
 
 
+def by_hand():
+    """A loop that bears 0 on both sides is listed once; one that bears 0 inside 1 leads to 0 again; no list at all."""
+    loop = ('1 -1 0 0', '12 1 1 0 0 10 0 10 10 0 10 0 0')
+    inner = lent.played(*loop, '1 -1 2 2', '12 2 2 2 2 4 2 4 4 2 2')
+    flat = replace(pm.with_borne(lent.played(*loop), (1,), 0), faces=(0,))
+    maps = (pm.EMPTY_MAP, flat, lent.played(*loop), inner, *(pm.with_borne(inner, (d,), 0) for d in (2, -2)))
+    return [(*grown.exact(m, 0), (77,) * n) for m in maps for n in (0, 20)]
+
+
 def reborne(rng, m):
     """Some rings and lone nodes bear other faces, now and then a face more that nothing bears."""
     for r in pm.rings(m):
@@ -60,4 +69,4 @@ def some(rng):
 
 def cases(count, seed):
     rng = random.Random(seed)
-    return [call(*some(rng)) for _ in range(count)]
+    return [call(*c) for c in by_hand()] + [call(*some(rng)) for _ in range(count)]

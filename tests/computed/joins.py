@@ -24,6 +24,22 @@ def call(first, second):
                 (Claim(left, antt.outcome(antt.sheet(t, h), r, v), 'Outcome'),), (('joined', r),))
 
 
+def by_hand():
+    """A square and its neighbour, which has a node inside the square's side, both ways round; a line with a straight
+    point more; one curve that turns back, which kind 8 leaves out of form at the turn: then another ticket gets 2."""
+    square = lent.played('1 -1 0 0', '12 1 1 0 0 10 0 10 10 0 10 0 0')
+    beside = lent.played('1 -1 10 0', '1 -1 10 10', '12 1 2 10 0 10 10', '12 1 2 10 0 20 0 20 10 10 10')
+    line = lent.played('1 -1 0 0', '1 -1 9 0', '4 1 2 0 0 9 0')
+    longer = pm.with_curve(line, 1, ((0, 0), (4, 0), (9, 0)))
+    back = pm.with_curve(lent.played('1 -1 0 0', '1 -1 3 0', '4 1 2 0 0 3 0'), 1, ((0, 0), (9, 0), (3, 0)))
+    turn, more = lent.played('1 -1 9 0'), lent.played('1 -1 9 0', '1 -1 20 20')
+    halves = lent.played('1 -1 0 0', '1 -1 5 0', '1 -1 9 0', '4 1 2 0 0 5 0', '12 2 3 5 0 9 0')
+    twice = replace(turn, nodes=(*turn.nodes, replace(turn.nodes[0], number=2)), next_node=3)
+    pairs = ((square, beside), (beside, square), (line, longer), (longer, longer), (pm.EMPTY_MAP, longer), (back, turn),
+             (back, more), (halves, line), (line, halves), (square, twice), (twice, square))
+    return [(grown.exact(a, 0, more=5), grown.exact(b, 0)) for a, b in pairs]
+
+
 def moved(m, dx, dy):
     """The sheet shifted, where it stays in range."""
     to = lambda p: (p[0] + dx, p[1] + dy)
@@ -63,4 +79,4 @@ def some(rng):
 
 def cases(count, seed):
     rng = random.Random(seed)
-    return [call(*some(rng)) for _ in range(count)]
+    return [call(*c) for c in by_hand()] + [call(*some(rng)) for _ in range(count)]

@@ -5,6 +5,7 @@ from dataclasses import astuple
 import fuzz_tables as ft
 import grown
 import plotmap as pm
+import ticket as tk
 
 
 def said(*parts):
@@ -14,6 +15,12 @@ def said(*parts):
 
 def tables(t, h):
     return said(*astuple(t), astuple(h))
+
+
+def played(*lines):
+    """The map that tickets, one a line, leave."""
+    *_, (_, _, t, h) = tk.answers([l.encode() for l in lines])
+    return pm.decode(t, h, 0)
 
 
 def spoiled(rng, t, h, most=400):
