@@ -50,6 +50,17 @@ def twin(rng, m):
     return pm.with_curve(m, abs(d), c if d > 0 else c[::-1]) if len(c) <= 12 and not pm.equal_neighbours(c) else m
 
 
+def by_hand():
+    """Rows that name a missing row, at the origin, where a missing node would stand; a loop whose ends leave alike."""
+    m = lent.played('1 -1 0 0', '12 1 1 0 0 10 0 10 10 0 10 0 0', '1 -1 2 3', '12 1 2 0 0 2 3', '12 2 1 2 3 1 5 0 0',
+                    '1 -1 8 1')
+    maps = [replace(m, edges=pm.changed(m.edges, replace(e, **{side: 9})))
+            for e in m.edges for side in ('start', 'end', 'left', 'right')]
+    maps += [replace(m, nodes=pm.changed(m.nodes, replace(n, face=9))) for n in m.nodes]
+    maps.append(pm.with_curve(m, 1, ((0, 0), (10, 0), (10, 10), (5, 0), (0, 0))))
+    return [(*grown.exact(x, 0), (77,) * 15) for x in (m, *maps)]
+
+
 def some(rng):
     m = grown.grow(rng, rng.choice([12, 25, 40]), 0)
     c = rng.random()
@@ -74,4 +85,4 @@ def some(rng):
 
 def cases(count, seed):
     rng = random.Random(seed)
-    return [call(*some(rng)) for _ in range(count)]
+    return [call(*c) for c in by_hand()] + [call(*some(rng)) for _ in range(count)]

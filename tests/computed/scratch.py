@@ -9,6 +9,8 @@ import time
 from collections import Counter
 from dataclasses import dataclass
 
+from opened import shut
+
 from . import ROOT, antt
 
 REPOSITORY = ROOT / 'target/definitions'
@@ -70,10 +72,10 @@ def opened(crates):
     uses, names = [f'use {m}.{{{n}}}' for m, n in KIT], [n for _, n in KIT]
     for c in crates:
         for path in sorted((ROOT / 'crates' / c / 'specs').glob('*.antt')):
-            shut = re.findall(r'^ *unfoldable pub (\S+) ', path.read_text(), re.M) if path.stem != 'Opened' else []
-            if shut:
+            found = [] if path.stem == 'Opened' else shut(path)
+            if found:
                 uses.append(f'use Rattle.{c}.specs.{path.stem} as {c}-{path.stem}')
-                names += [f'{c}-{path.stem}.{n}' for n in shut]
+                names += [f'{c}-{path.stem}.{n}' for n in found]
     return '\n'.join(uses) + f'\n\nunfoldable pub opened : Unit {{0}}\nunfolding {" ".join(names)}\nopened = tt\n'
 
 
@@ -107,16 +109,16 @@ unfolding opened expected-{name}
 
 def spoiled(rng, claim):
     """The claim with one number or truth of what is expected changed; None where there is none."""
-    places = list(re.finditer(r'(?<=[ (])\d+|\btrue\b|\bfalse\b', ' ' + claim.right))
+    places = list(re.finditer(r'\b(\d+|true|false)\b', claim.right))
     if not places:
         return None
     at = rng.choice(places)
-    other = {'true': 'false', 'false': 'true'}.get(at[0]) or str(int(at[0]) + 1)
-    return Claim(claim.left, (' ' + claim.right)[1:at.start()] + other + (' ' + claim.right)[at.end():], claim.type_)
+    other = {'true': 'false', 'false': 'true'}.get(at[0]) or int(at[0]) + 1
+    return Claim(claim.left, f'{claim.right[:at.start()]}{other}{claim.right[at.end():]}', claim.type_)
 
 
 def check(kind, theorems, per):
-    """The names of the theorems that fail, the seconds spent, and what rt said."""
+    """The names of the theorems that fail, and the seconds spent; what rt said stands in target/definitions/out."""
     repository(kind.CRATES)
     texts = [theorem(n, c) for n, c in theorems.items()]
     header = f'-- {WRITTEN}\n{antt.HEADER}use Rattle.scratch.specs.Opened.{{opened}}\n{kind.HEADER}'
