@@ -110,17 +110,19 @@ def drawn(rng, w):
 
 
 def spoiled(rng, t, h):
-    flat = [list(t.nodes), list(t.links), list(astuple(h))]
-    for _ in range(rng.randint(1, 2)):
-        x = rng.choice(flat)
+    """One or two numbers of rows or head at will, now and then a length; most often the first numbers of a link."""
+    nodes, links, head = list(t.nodes), list(t.links), list(astuple(h))
+    for _ in range(rng.choice([1, 1, 2])):
+        x = rng.choice([nodes, links, links, head])
         if x:
-            i = rng.randrange(len(x) if x is flat[2] else max(1, len(x) - 20))
-            x[i] = rng.choice([x[i] + 1, x[i] - 1, -x[i], 0, 1, 2, 13, 2 ** 63 - 1, -2 ** 63, 1_000_000, 1_000_001,
-                               rng.choice(x)])
-    if rng.random() < 0.15:
-        x = flat[rng.randrange(2)]
-        x.extend([0] * rng.choice([1, 3, 4, 27, 28])) if rng.random() < 0.7 else x.pop() if x else None
-    return nw.Tables(tuple(flat[0]), tuple(flat[1])), nw.Head(*flat[2])
+            i = rng.randrange(len(x))
+            if x is links and rng.random() < 0.7:
+                i -= i % 28 - rng.randrange(5)
+            x[i] = rng.choice([-x[i], -x[i], x[i] + 1, x[i] - 1, 0, 1, 2, 13, 1_000_000, 1_000_001, 2 ** 63 - 1,
+                               -2 ** 63, rng.choice(x)])
+    if rng.random() < 0.1:
+        rng.choice([nodes, links]).extend([0] * rng.choice([1, 3, 4, 27, 28]))
+    return nw.Tables(tuple(nodes), tuple(links)), nw.Head(*head)
 
 
 def of_tables(rng, bad):
@@ -134,7 +136,7 @@ def of_tables(rng, bad):
 
 
 def called(rng):
-    bad, kind = rng.random() < 0.2, rng.randint(1, 12)
+    bad, kind = rng.random() < 0.3, rng.randint(1, 12)
     net, w, t, h = of_tables(rng, bad)
     for _ in range(60):                        # for the most part of that kind, and past 3 and 4
         op = grown.net_op(rng, net, w)
