@@ -110,8 +110,17 @@ def on_one_point(rng, m, grid):
     if not m.nodes:
         return m
     n = rng.choice(m.nodes)
-    f = rng.choice(m.faces)
-    return replace(m, nodes=m.nodes + (pm.Node(m.next_node, n.x, n.y, f),), next_node=m.next_node + 1)
+    node = pm.Node(m.next_node, n.x, n.y, rng.choice(m.faces))
+    return replace(m, nodes=m.nodes + (node,), next_node=m.next_node + 1)
+
+
+def inside(rng, m, grid):
+    """A lone node more inside an edge, which no list of tickets leaves; the tests take it."""
+    inner = [p for e in m.edges for p in e.points[1:-1]]
+    if not inner:
+        return m
+    node = pm.Node(m.next_node, *rng.choice(inner), rng.choice(m.faces))
+    return replace(m, nodes=m.nodes + (node,), next_node=m.next_node + 1)
 
 
 def redrawn(rng, m, grid):
@@ -123,10 +132,6 @@ def redrawn(rng, m, grid):
     return pm.with_curve(m, e.number, (e.points[0], *inner, e.points[-1]))
 
 
-def straightened(rng, m, grid):
-    return lent.straightened(rng, m)
-
-
 def unborne(rng, m, grid):
     """A face that nothing bears, or one that a lone node alone bears."""
     f = m.next_face
@@ -136,21 +141,14 @@ def unborne(rng, m, grid):
     return replace(m, faces=m.faces + (f,), next_face=f + 1)
 
 
-def off_law(rng, m, grid):
-    return ft.off_law(rng, m)
-
-
 def reborne(rng, m, grid):
     """One ring bears another face."""
     rings = pm.rings(m)
     return pm.with_borne(m, rng.choice(rings), rng.choice(m.faces)) if rings else m
 
 
-def bent(rng, m, grid):
-    return raw_gen.bend(rng, m, grid)
-
-
-WAYS = (node_moved, on_one_point, redrawn, redrawn, straightened, unborne, off_law, reborne, bent)
+WAYS = (node_moved, on_one_point, inside, redrawn, redrawn, unborne, reborne, raw_gen.bend,
+        lambda rng, m, grid: ft.off_law(rng, m), lambda rng, m, grid: lent.straightened(rng, m))
 
 
 def some(rng):

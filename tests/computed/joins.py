@@ -26,17 +26,20 @@ def call(first, second):
 
 def by_hand():
     """A square and its neighbour, which has a node inside the square's side, both ways round; a line with a straight
-    point more; one curve that turns back, which kind 8 leaves out of form at the turn: then another ticket gets 2."""
+    point more, and one that goes on from its end and comes back; one curve that turns back, which kind 8 leaves out of
+    form at the turn: then another ticket gets 2."""
     square = lent.played('1 -1 0 0', '12 1 1 0 0 10 0 10 10 0 10 0 0')
     beside = lent.played('1 -1 10 0', '1 -1 10 10', '12 1 2 10 0 10 10', '12 1 2 10 0 20 0 20 10 10 10')
     line = lent.played('1 -1 0 0', '1 -1 9 0', '4 1 2 0 0 9 0')
     longer = pm.with_curve(line, 1, ((0, 0), (4, 0), (9, 0)))
+    beyond = pm.with_curve(line, 1, ((0, 0), (9, 0), (12, 3), (9, 0)))
     back = pm.with_curve(lent.played('1 -1 0 0', '1 -1 3 0', '4 1 2 0 0 3 0'), 1, ((0, 0), (9, 0), (3, 0)))
     turn, more = lent.played('1 -1 9 0'), lent.played('1 -1 9 0', '1 -1 20 20')
     halves = lent.played('1 -1 0 0', '1 -1 5 0', '1 -1 9 0', '4 1 2 0 0 5 0', '12 2 3 5 0 9 0')
     twice = replace(turn, nodes=(*turn.nodes, replace(turn.nodes[0], number=2)), next_node=3)
-    pairs = ((square, beside), (beside, square), (line, longer), (longer, longer), (pm.EMPTY_MAP, longer), (back, turn),
-             (back, more), (halves, line), (line, halves), (square, twice), (twice, square))
+    pairs = ((square, beside), (beside, square), (line, longer), (longer, longer), (pm.EMPTY_MAP, longer),
+             (line, beyond), (beyond, line), (beyond, beyond), (back, turn), (back, more), (halves, line),
+             (line, halves), (square, twice), (twice, square))
     return [(grown.exact(a, 0, more=5), grown.exact(b, 0)) for a, b in pairs]
 
 
