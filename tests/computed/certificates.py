@@ -72,13 +72,25 @@ def meet_wrongly(c, d):
     return any(x not in ends for x in check.curve_points(c, d))
 
 
+def points(m):
+    return [(n.x, n.y) for n in m.nodes] + [p for e in m.edges for p in e.points]
+
+
 def surveys(m):
     """Curves of 2 to 12 points are simple and share common ends only; no two nodes lie on one point."""
     places = [(n.x, n.y) for n in m.nodes]
     return (all(2 <= len(e.points) <= 12 and simple(e.points) and not straight_inside(e.points) for e in m.edges)
             and not any(meet_wrongly(e.points, f.points) for e, f in combinations(m.edges, 2))
-            and all(0 <= c < 2 ** 20 for p in [*places, *(p for e in m.edges for p in e.points)] for c in p)
+            and all(0 <= c < 2 ** 20 for p in points(m) for c in p)
             and len(set(places)) == len(places))
+
+
+def drawn(t, h):
+    """Rows in use with curves that can be looked at, whatever else is out of form."""
+    if not (pm.whole_tables(t, 0) and pm.counts_fit(t, h, 0) and pm.edge_rows_shaped(t, h, 0)):
+        return False
+    m = pm.decode(t, h, 0)
+    return not any(pm.equal_neighbours(e.points) for e in m.edges) and min((c for p in points(m) for c in p), default=0) >= 0
 
 
 def call(t, h):
@@ -88,21 +100,28 @@ def call(t, h):
     claims = [Claim(f'certifies {sheet}', antt.truth(good), 'Bool')]
     if formed:
         claims.append(Claim(f'parts {sheet}', antt.listed(map(antt.truth, [*parts, good])), 'List Bool'))
+    elif drawn(t, h):
+        claims.append(Claim(f'surveys (mapOf {sheet})', antt.truth(surveys(pm.decode(t, h, 0))), 'Bool'))
     missed = [p for p, holds in zip(PARTS, parts) if not holds] if formed else ['form']
     return Case('call', lent.tables(t, h), tuple(claims), tuple(('certified', p) for p in missed or [0]))
 
 
 # ---- maps that are not grown, each off in one way
 
-def node_moved(rng, m, grid):
+def node_moved(rng, m, grid, to=None):
     """A lone node elsewhere, or a node with the ends of its edges."""
     if not m.nodes:
         return m
-    n, p = rng.choice(m.nodes), fuzz.spot(rng, grid)
+    n, p = rng.choice(m.nodes), to or fuzz.spot(rng, grid)
     first = lambda e: p if e.start == n.number else e.points[0]
     last = lambda e: p if e.end == n.number else e.points[-1]
     return replace(m, nodes=pm.changed(m.nodes, replace(n, x=p[0], y=p[1])),
                    edges=tuple(replace(e, points=(first(e), *e.points[1:-1], last(e))) for e in m.edges))
+
+
+def beyond(rng, m):
+    """A node and the ends of its edges past the last coordinate, so out of form."""
+    return node_moved(rng, m, None, rng.choice([(2 ** 20, 5), (5, 2 ** 20), (2 ** 20 - 1, 2 ** 20 - 1)]))
 
 
 def on_one_point(rng, m, grid):
@@ -158,6 +177,10 @@ def some(rng):
         way = rng.choice(WAYS)
         tries = (way(rng, m, grid) for _ in range(8))
         m = next((x for x in tries if x != m and pm.in_form(*grown.exact(x, 0))), m)
+    elif rng.random() < 0.2:
+        m = beyond(rng, m)
+    if rng.random() < 0.1:
+        m = replace(m, **{f'next_{row}': rng.choice([999_999, 1_000_000]) for row in ('node', 'edge', 'face')})
     t, h = grown.exact(m, 0, more=rng.choice([0, 1]))
     return lent.spoiled(rng, t, h) if rng.random() < 0.06 else (t, h)
 

@@ -135,16 +135,36 @@ def of_tables(rng, bad):
     return net, w, *(spoiled(rng, t, h) if bad else (t, h))
 
 
+def call(t, h, op):
+    t2, h2, r, v = nw.run(t, h, op)
+    claim = Claim(f'operation ({lent(t, h)}) ({antt.zs(op)})', outcome(t2, h2, r, v), 'Outcome')
+    return Case('call', said(sheets.tables(t, h), op), (claim,), ((op[0] if op else 0, r),))
+
+
 def called(rng):
     bad, kind = rng.random() < 0.3, rng.randint(1, 12)
     net, w, t, h = of_tables(rng, bad)
     for _ in range(60):                        # for the most part of that kind, and past 3 and 4
         op = grown.net_op(rng, net, w)
-        t2, h2, r, v = nw.run(t, h, op)
-        if op[:1] == (kind,) and r not in (3, 4) or rng.random() < 0.002:
+        if op[:1] == (kind,) and nw.refusal(t, h, op) not in (3, 4) or rng.random() < 0.002:
             break
-    claim = Claim(f'operation ({lent(t, h)}) ({antt.zs(op)})', outcome(t2, h2, r, v), 'Outcome')
-    return Case('call', said(sheets.tables(t, h), op), (claim,), ((op[0] if op else 0, r),))
+    return call(t, h, op)
+
+
+def at_limits():
+    """A small network with each number of its first rows and head off in turn, and each operation at the last numbers
+    and in tables with and without a free row."""
+    net = nw.Net((nw.Node(1, (0, 0)), nw.Node(2, None), nw.Node(4, (9, 0))),
+                 (nw.Link(1, 1, 2, ((0, 0), (3, 4), (9, 0))), nw.Link(3, 2, 4, ((9, 0), (5, 0), (9, 0)))), 5, 4, 2005)
+    t, h = nw.encode(net, nw.Sizes(4, 3))
+    flat = t.nodes + t.links + astuple(h)
+    off = [flat[:i] + (v,) + flat[i + 1:] for i in (*range(9), 12, *range(16, 28), 30, 72, *range(100, 105))
+           for v in (-flat[i], flat[i] + 1, 0, 1, 13, 1_048_576, 1_000_000, 1_000_001) if v != flat[i]]
+    ops = ((1, 5, 5), (4, 1, 1), (7, 1), (8, 1), (9, 1, 3, 4), (10, 1, 3, 4), (11, 1, 3), (12, 1, 3))
+    last = [replace(h, **{f'next_{row}': n}) for row in ('node', 'link') for n in (999_998, 999_999, 1_000_000)]
+    return [call(nw.Tables(x[:16], x[16:100]), nw.Head(*x[100:]), (3, 4)) for x in off] + \
+        [call(t, x, op) for x in last for op in ops] + \
+        [call(*nw.encode(net, nw.Sizes(n, k)), op) for n in (3, 4) for k in (2, 3) for op in ops]
 
 
 def made(rng):
@@ -182,4 +202,4 @@ def from_map(rng):
 
 def cases(count, seed):
     rng, makers = random.Random(seed), (random_list, called, made, from_map)
-    return by_hand() + [rng.choices(makers, (4, 10, 1, 3))[0](rng) for _ in range(count)]
+    return by_hand() + at_limits() + [rng.choices(makers, (4, 10, 1, 3))[0](rng) for _ in range(count)]
