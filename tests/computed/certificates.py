@@ -90,7 +90,7 @@ def drawn(t, h):
     if not (pm.whole_tables(t, 0) and pm.counts_fit(t, h, 0) and pm.edge_rows_shaped(t, h, 0)):
         return False
     m = pm.decode(t, h, 0)
-    return not any(pm.equal_neighbours(e.points) for e in m.edges) and min((c for p in points(m) for c in p), default=0) >= 0
+    return not any(pm.equal_neighbours(e.points) for e in m.edges) and all(c >= 0 for p in points(m) for c in p)
 
 
 def call(t, h):

@@ -40,7 +40,9 @@ def by_hand():
     pairs = ((square, beside), (beside, square), (line, longer), (longer, longer), (pm.EMPTY_MAP, longer),
              (line, beyond), (beyond, line), (beyond, beyond), (back, turn), (back, more), (halves, line),
              (line, halves), (square, twice), (twice, square))
-    return [(grown.exact(a, 0, more=5), grown.exact(b, 0)) for a, b in pairs]
+    t, h = grown.exact(square, 0)
+    bad = ((t, replace(h, face_count=0)), (replace(t, faces=()), h), (t, h))       # the first is looked at first
+    return [(grown.exact(a, 0, more=5), grown.exact(b, 0)) for a, b in pairs] + [(a, b) for a in bad for b in bad]
 
 
 def moved(m, dx, dy):

@@ -154,17 +154,32 @@ def called(rng):
 def at_limits():
     """A small network with each number of its first rows and head off in turn, and each operation at the last numbers
     and in tables with and without a free row."""
-    net = nw.Net((nw.Node(1, (0, 0)), nw.Node(2, None), nw.Node(4, (9, 0))),
-                 (nw.Link(1, 1, 2, ((0, 0), (3, 4), (9, 0))), nw.Link(3, 2, 4, ((9, 0), (5, 0), (9, 0)))), 5, 4, 2005)
-    t, h = nw.encode(net, nw.Sizes(4, 3))
+    net = nw.Net((nw.Node(1, (5, 6)), nw.Node(2, None), nw.Node(4, (0, 0)), nw.Node(5, (9, 0))),
+                 (nw.Link(1, 4, 2, ((0, 0), (3, 4), (9, 0))), nw.Link(3, 2, 5, ((9, 0), (5, 0), (9, 0)))), 6, 4, 2005)
+    t, h = nw.encode(net, nw.Sizes(5, 3))
     flat = t.nodes + t.links + astuple(h)
-    off = [flat[:i] + (v,) + flat[i + 1:] for i in (*range(9), 12, *range(16, 28), 30, 72, *range(100, 105))
+    off = [flat[:i] + (v,) + flat[i + 1:] for i in (*range(9), 18, *range(20, 32), 80, *range(104, 109))
            for v in (-flat[i], flat[i] + 1, 0, 1, 13, 1_048_576, 1_000_000, 1_000_001) if v != flat[i]]
     ops = ((1, 5, 5), (4, 1, 1), (7, 1), (8, 1), (9, 1, 3, 4), (10, 1, 3, 4), (11, 1, 3), (12, 1, 3))
     last = [replace(h, **{f'next_{row}': n}) for row in ('node', 'link') for n in (999_998, 999_999, 1_000_000)]
-    return [call(nw.Tables(x[:16], x[16:100]), nw.Head(*x[100:]), (3, 4)) for x in off] + \
+    return [call(nw.Tables(x[:20], x[20:104]), nw.Head(*x[104:]), (3, 4)) for x in off] + \
         [call(t, x, op) for x in last for op in ops] + \
-        [call(*nw.encode(net, nw.Sizes(n, k)), op) for n in (3, 4) for k in (2, 3) for op in ops]
+        [call(*nw.encode(net, nw.Sizes(n, k)), op) for n in (4, 5) for k in (2, 3) for op in ops] + \
+        [copied(t, x, *sheet, spatial) for t, x in used() for sheet in some_sheets() for spatial in (False, True)]
+
+
+def used():
+    """Networks without a row, of which some had one; the last two have too little room for some."""
+    none = nw.Tables((0,) * 8, (0,) * 56)
+    heads = [nw.Head(0, 0, n, k, 2004) for n, k in ((1, 1), (2, 1), (1, 2), (2, 2))]
+    return [(none, x) for x in heads] + [(nw.Tables(none.nodes[:4 * n], none.links[:28 * k]), heads[0])
+                                         for n, k in ((1, 2), (2, 1))]
+
+
+def some_sheets():
+    """Two nodes and two edges, and the same out of form, or not whole."""
+    t, h = grown.exact(sheets.played('1 -1 0 0', '1 -1 9 0', '4 1 2 0 0 9 0', '12 1 2 0 0 5 5 9 0'), 0)
+    return (t, h), (t, replace(h, node_count=1)), (replace(t, faces=()), h)
 
 
 def made(rng):
@@ -193,7 +208,10 @@ def from_map(rng):
         t, h = spoiled(rng, t, h)
     elif c < 0.2:                              # it had a row
         t, h = nw.run(*nw.run(t, h, (1,))[:2], (3, 1))[:2] if c < 0.15 else nw.run(t, h, (1, 3, 4))[:2]
-    spatial = rng.random() < 0.6
+    return copied(t, h, s, sh, rng.random() < 0.6)
+
+
+def copied(t, h, s, sh, spatial):
     t2, h2, r, v = nw.make_from_map(t, h, s, sh, spatial, 0)
     left = f'fromMap {antt.truth(spatial)} ({antt.sheet(s, sh)}) ({lent(t, h)})'
     return Case('call', said('from map', spatial, sheets.tables(s, sh), sheets.tables(t, h)),
