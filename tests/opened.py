@@ -20,6 +20,7 @@ OPENED = (
 
 
 def shut(path):
+    """The names of the shut definitions of a file."""
     return re.findall(r'^ *unfoldable pub (\S+) ', path.read_text(), re.M)
 
 
@@ -66,4 +67,5 @@ def main():
         write(*row)
 
 
-main()
+if __name__ == '__main__':
+    main()

@@ -1,0 +1,87 @@
+"""Two sheets joined: crates/joining against join.py."""
+
+import random
+from dataclasses import replace
+
+import grown
+import join as jn
+import plotmap as pm
+
+from . import antt, lent
+from .scratch import Case, Claim
+
+CRATES = ('joining',)
+HEADER = """use Rattle.map.specs.Ticket.{Outcome}
+use Rattle.joining.specs.Join.{joined}
+"""
+REFUSALS = (0, 1, 2, 6, 7, 11, 12, 14, 15, 20, 21)     # what kinds 1, 8 and 12 can get on places and rows that exist
+
+
+def call(first, second):
+    t, h, r, v = jn.join(*first, *second, 0)
+    left = f'joined ({antt.sheet(*first)}) ({antt.sheet(*second)})'
+    return Case('call', lent.said(lent.tables(*first), lent.tables(*second)),
+                (Claim(left, antt.outcome(antt.sheet(t, h), r, v), 'Outcome'),), (('joined', r),))
+
+
+def by_hand():
+    """A square and its neighbour, which has a node inside the square's side, both ways round; a line with a straight
+    point more, and one that goes on from its end and comes back; one curve that turns back, which kind 8 leaves out of
+    form at the turn: then another ticket gets 2."""
+    square = lent.played('1 -1 0 0', '12 1 1 0 0 10 0 10 10 0 10 0 0')
+    beside = lent.played('1 -1 10 0', '1 -1 10 10', '12 1 2 10 0 10 10', '12 1 2 10 0 20 0 20 10 10 10')
+    line = lent.played('1 -1 0 0', '1 -1 9 0', '4 1 2 0 0 9 0')
+    longer = pm.with_curve(line, 1, ((0, 0), (4, 0), (9, 0)))
+    beyond = pm.with_curve(line, 1, ((0, 0), (9, 0), (12, 3), (9, 0)))
+    back = pm.with_curve(lent.played('1 -1 0 0', '1 -1 3 0', '4 1 2 0 0 3 0'), 1, ((0, 0), (9, 0), (3, 0)))
+    turn, more = lent.played('1 -1 9 0'), lent.played('1 -1 9 0', '1 -1 20 20')
+    halves = lent.played('1 -1 0 0', '1 -1 5 0', '1 -1 9 0', '4 1 2 0 0 5 0', '12 2 3 5 0 9 0')
+    twice = replace(turn, nodes=(*turn.nodes, replace(turn.nodes[0], number=2)), next_node=3)
+    pairs = ((square, beside), (beside, square), (line, longer), (longer, longer), (pm.EMPTY_MAP, longer),
+             (line, beyond), (beyond, line), (beyond, beyond), (back, turn), (back, more), (halves, line),
+             (line, halves), (square, twice), (twice, square))
+    t, h = grown.exact(square, 0)
+    bad = ((t, replace(h, face_count=0)), (replace(t, faces=()), h), (t, h))       # the first is looked at first
+    return [(grown.exact(a, 0, more=5), grown.exact(b, 0)) for a, b in pairs] + [(a, b) for a in bad for b in bad]
+
+
+def moved(m, dx, dy):
+    """The sheet shifted, where it stays in range."""
+    to = lambda p: (p[0] + dx, p[1] + dy)
+    x = replace(m, nodes=tuple(replace(n, x=n.x + dx, y=n.y + dy) for n in m.nodes),
+                edges=tuple(replace(e, points=tuple(map(to, e.points))) for e in m.edges))
+    return x if pm.coordinates_ok(x) else m
+
+
+def some(rng):
+    """Two sheets grown from one, one sheet twice, a sheet and its neighbour; some of them distorted or spoiled."""
+    w = rng.choice([5, 7, 9, 14])
+    grid, mix = (0, 0, w), rng.choice(['even', 'faces', 'stitch'])
+    more = lambda n, m=pm.EMPTY_MAP: grown.grow(rng, n, 0, m, grid, mix)
+    base = more(rng.choice([0, 6, 12, 18]))
+    a = more(rng.choice([0, 4, 8]), base)
+    c = rng.random()
+    if c < 0.1:
+        b = a
+    elif c < 0.4:
+        b = moved(more(rng.choice([3, 6, 12])), rng.choice([0, 1, w - 1, w]), rng.choice([0, 0, 1, w - 1]))
+    else:
+        b = more(rng.choice([0, 3, 6, 9]), base)
+    if rng.random() < 0.3:
+        b = lent.straightened(rng, b) if rng.random() < 0.3 else lent.distorted(rng, b, grid)
+    if rng.random() < 0.3:
+        a = lent.distorted(rng, a, grid)
+    if rng.random() < 0.08:
+        a = replace(a, **{f'next_{x}': rng.choice([999_999, 1_000_000]) for x in ('node', 'edge', 'face')})
+    free = rng.choice([0, 1, 3, 6, 6, 6])
+    first, second = grown.exact(a, 0, more=free), grown.exact(b, 0, more=rng.choice([0, 1]))
+    if rng.random() < 0.06:
+        first = lent.spoiled(rng, *first)
+    if rng.random() < 0.06:
+        second = lent.spoiled(rng, *second)
+    return first, second
+
+
+def cases(count, seed):
+    rng = random.Random(seed)
+    return [call(*c) for c in by_hand()] + [call(*some(rng)) for _ in range(count)]

@@ -1,0 +1,93 @@
+"""Lists of tickets from the empty map, and whole calls on tables not grown: crates/map against plotmap.py.
+
+The pieces and the link law are held against it too, and the empty map on the tables of calls.
+"""
+
+import io
+from contextlib import redirect_stdout
+
+import compare
+import plotmap as pm
+import raw_gen
+import telling
+import ticket as tk
+
+from . import antt
+from .scratch import Case, Claim
+
+CRATES = ('map',)
+HEADER = """use Rattle.map.specs.Rows.{Lent, mapOf}
+use Rattle.map.specs.Darts.{pieceCount}
+use Rattle.map.specs.Links.{obeysLaw}
+use Rattle.map.specs.Ticket.{Outcome, Listed, ticket, emptied, edgesOfFace}
+use Rattle.map.specs.Grow.{Grown, grow}
+
+abbrev told : Lent → ℕ × Bool
+told l = (pieceCount (mapOf l), obeysLaw (mapOf l))
+"""
+REFUSALS = ()
+
+
+def told(t, h):
+    """The pieces of the map in these tables, and whether its links obey the law."""
+    m = pm.decode(t, h, 0)
+    return Claim(f'told ({antt.sheet(t, h)})', f'({pm.piece_count(m)}, {antt.truth(pm.lawful(m))})', 'ℕ × Bool')
+
+
+def grown(lines, room):
+    cap = (room,) * 3
+    t, h = tk.blank(cap, 0)
+    said = []
+    for r, v, t, h in tk.answers([l.encode() for l in lines], cap, 0):
+        said.append((r, v))
+    tickets = [tuple(map(int, l.split())) for l in lines]
+    left = f'grow ({antt.record(nodes=room, edges=room, faces=room)}) ({antt.runs(tickets)})'
+    right = antt.record(lent=antt.sheet(t, h), answers=antt.listed(antt.answer(*a) for a in said))
+    return Case('list', '\n  '.join(lines), (Claim(left, right, 'Grown'), told(t, h)),
+                tuple((k[0] if k else 0, r) for k, (r, _) in zip(tickets, said)))
+
+
+def outcome(t, h, r, v):
+    return antt.outcome(antt.sheet(t, h), r, v)
+
+
+def call(text):
+    words = text.split()
+    cut = next(i for i, w in enumerate(words) if w in 'TL')
+    numbers, letter, rest = list(map(int, words[:cut])), words[cut], tuple(map(int, words[cut + 1:]))
+    tables = []
+    for _ in range(3):
+        n = numbers[0]
+        tables.append(tuple(numbers[1:n + 1]))
+        numbers = numbers[n + 1:]
+    t, h = pm.Tables(*tables), pm.Head(*numbers)
+    lent = antt.sheet(t, h)
+    if letter == 'L':
+        out = (77,) * rest[1]
+        after, r, v = pm.list_edges_of_face(t, h, rest[0], out)
+        claim = Claim(f'edgesOfFace ({lent}) ({antt.z(rest[0])}) ({antt.zs(out)})', antt.written(after, r, v), 'Listed')
+        return Case('call', text, (claim,), (('edges of a face', r),))
+    t2, h2, r, v = pm.run(t, h, rest)
+    claims = (Claim(f'ticket ({lent}) ({antt.zs(rest)})', outcome(t2, h2, r, v), 'Outcome'),
+              Claim(f'emptied ({lent})', outcome(*pm.make_empty(t, h)), 'Outcome'))
+    return Case('call', text, claims + (() if r in (1, 2) else (told(t, h),)), ((rest[0] if rest else 0, r),))
+
+
+def cases(count, seed, size=20, mix='all', room=0):
+    """Ticket lists, in tables of four sizes or of one."""
+    return [grown(compare.make(seed + i, size, mix, 0, set()), room or (3, 5, 9, 20)[i % 4]) for i in range(count)]
+
+
+def raw(count, seed):
+    """Calls on tables not grown."""
+    out = io.StringIO()
+    with redirect_stdout(out):
+        raw_gen.main(count // 5 + 1, seed)
+    return [call(text) for text in out.getvalue().splitlines()[:count]]
+
+
+def tell(seconds, seed):
+    """Lists and calls that tell slips (telling.py)."""
+    lists, calls, never, seldom = telling.pick(seed, seconds)
+    print(f'{len(telling.SLIPS)} slips; told by nothing found: {never}; by one: {seldom}', flush=True)
+    return [grown(*l) for l in lists] + [call(c) for c in calls]
