@@ -177,7 +177,8 @@ def heals():
     links = [(nw.Link(1, *e, curve(*e, (3, 3))), nw.Link(2, *f, curve(*f, (7, 1)) if drawn else ()))
              for e in ends[:2] for f in ends for drawn in (True, False)]
     nets = [nw.Net(nodes, two, 4, 3, 2005) for two in links]
-    return [call(*nw.encode(net, nw.Sizes(3, 2)), (11 + i % 2, *o)) for i, net in enumerate(nets) for o in ((1, 2), (2, 1))]
+    return [call(*nw.encode(net, nw.Sizes(3, 2)), (11 + i % 2, *two))
+            for i, net in enumerate(nets) for two in ((1, 2), (2, 1))]
 
 
 def used():
