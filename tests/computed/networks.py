@@ -168,6 +168,19 @@ def at_limits():
         [copied(t, x, *sheet, spatial) for t, x in used() for sheet in some_sheets() for spatial in (False, True)]
 
 
+def heals():
+    """Every way in which two links meet, loops too, with curves and without."""
+    at = {1: (0, 0), 2: (9, 0), 3: (5, 5)}
+    nodes = tuple(nw.Node(n, p) for n, p in at.items())
+    ends = [(u, v) for u in at for v in at]
+    curve = lambda u, v, mid: (at[u], mid, at[v])
+    links = [(nw.Link(1, *e, curve(*e, (3, 3))), nw.Link(2, *f, curve(*f, (7, 1)) if drawn else ()))
+             for e in ends[:2] for f in ends for drawn in (True, False)]
+    nets = [nw.Net(nodes, two, 4, 3, 2005) for two in links]
+    return [call(*nw.encode(net, nw.Sizes(3, 2)), (11 + i % 2, *two))
+            for i, net in enumerate(nets) for two in ((1, 2), (2, 1))]
+
+
 def used():
     """Networks without a row, of which some had one; the last two have too little room for some."""
     none = nw.Tables((0,) * 8, (0,) * 56)
@@ -220,4 +233,4 @@ def copied(t, h, s, sh, spatial):
 
 def cases(count, seed):
     rng, makers = random.Random(seed), (random_list, called, made, from_map)
-    return by_hand() + at_limits() + [rng.choices(makers, (4, 10, 1, 3))[0](rng) for _ in range(count)]
+    return by_hand() + at_limits() + heals() + [rng.choices(makers, (4, 10, 1, 3))[0](rng) for _ in range(count)]
