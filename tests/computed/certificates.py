@@ -21,12 +21,17 @@ from .scratch import Case, Claim
 CRATES = ('certified',)
 HEADER = """use Rattle.map.specs.Rows.{Lent, mapOf}
 use Rattle.map.specs.Links.{obeysLaw}
-use Rattle.certified.specs.Certified.{certifies, certified, sumHolds, reaches, surveys}
+use Rattle.certified.specs.Certified.{certifies, certified, curvesClear, placesDiffer, sumHolds, facesReached}
+
+abbrev drawing : Lent → List Bool
+drawing l = curvesClear (mapOf l) ∷ placesDiffer (mapOf l) ∷ []
 
 abbrev parts : Lent → List Bool
-parts l = let m = mapOf l in obeysLaw m ∷ sumHolds m ∷ reaches m ∷ surveys m ∷ certified m ∷ []
+parts l =
+    let m = mapOf l in
+    obeysLaw m ∷ curvesClear m ∷ placesDiffer m ∷ sumHolds m ∷ facesReached m ∷ certified m ∷ []
 """
-PARTS = ('law', 'sum', 'faces', 'drawing')
+PARTS = ('law', 'curves', 'places', 'sum', 'faces')
 REFUSALS = (0, 'form', *PARTS)
 
 
@@ -42,7 +47,7 @@ def sum_holds(m):
     return len(m.nodes) + len(m.faces) == len(m.edges) + len(set(check.component(m).values())) + 1
 
 
-def reaches(m):
+def faces_reached(m):
     """Every face is reached from face 0 across edges."""
     reached = {0}
     for _ in m.faces:
@@ -72,17 +77,24 @@ def meet_wrongly(c, d):
     return any(x not in ends for x in check.curve_points(c, d))
 
 
-def points(m):
-    return [(n.x, n.y) for n in m.nodes] + [p for e in m.edges for p in e.points]
+def in_range(points):
+    return all(0 <= c < 2 ** 20 for p in points for c in p)
 
 
-def surveys(m):
-    """Curves of 2 to 12 points are simple and share common ends only; no two nodes lie on one point."""
-    places = [(n.x, n.y) for n in m.nodes]
-    return (all(2 <= len(e.points) <= 12 and simple(e.points) and not straight_inside(e.points) for e in m.edges)
-            and not any(meet_wrongly(e.points, f.points) for e, f in combinations(m.edges, 2))
-            and all(0 <= c < 2 ** 20 for p in points(m) for c in p)
-            and len(set(places)) == len(places))
+def curves_clear(m):
+    """Curves of 2 to 12 points in range are simple, have no straight inner point and share common ends only."""
+    return (all(2 <= len(e.points) <= 12 and in_range(e.points) and simple(e.points) and not straight_inside(e.points)
+                for e in m.edges)
+            and not any(meet_wrongly(e.points, f.points) for e, f in combinations(m.edges, 2)))
+
+
+def places(m):
+    return [(n.x, n.y) for n in m.nodes]
+
+
+def places_differ(m):
+    """Nodes lie in range, and no two on one point."""
+    return in_range(places(m)) and len(set(places(m))) == len(m.nodes)
 
 
 def drawn(t, h):
@@ -90,18 +102,22 @@ def drawn(t, h):
     if not (pm.whole_tables(t, 0) and pm.counts_fit(t, h, 0) and pm.edge_rows_shaped(t, h, 0)):
         return False
     m = pm.decode(t, h, 0)
-    return not any(pm.equal_neighbours(e.points) for e in m.edges) and all(c >= 0 for p in points(m) for c in p)
+    points = places(m) + [p for e in m.edges for p in e.points]
+    return not any(pm.equal_neighbours(e.points) for e in m.edges) and all(c >= 0 for p in points for c in p)
 
 
 def call(t, h):
     sheet, formed = f'({antt.sheet(t, h)})', pm.whole_tables(t, 0) and pm.in_form(t, h)
-    parts = [f(pm.decode(t, h, 0)) for f in (lawful, sum_holds, reaches, surveys)] if formed else []
+    m = pm.decode(t, h, 0) if formed or drawn(t, h) else None
+    tests = lawful, curves_clear, places_differ, sum_holds, faces_reached
+    parts = [test(m) for test in tests] if formed else []
     good = formed and all(parts)
     claims = [Claim(f'certifies {sheet}', antt.truth(good), 'Bool')]
     if formed:
         claims.append(Claim(f'parts {sheet}', antt.listed(map(antt.truth, [*parts, good])), 'List Bool'))
-    elif drawn(t, h):
-        claims.append(Claim(f'surveys (mapOf {sheet})', antt.truth(surveys(pm.decode(t, h, 0))), 'Bool'))
+    elif m:
+        seen = antt.listed(map(antt.truth, (curves_clear(m), places_differ(m))))
+        claims.append(Claim(f'drawing {sheet}', seen, 'List Bool'))
     missed = [p for p, holds in zip(PARTS, parts) if not holds] if formed else ['form']
     return Case('call', lent.tables(t, h), tuple(claims), tuple(('certified', p) for p in missed or [0]))
 
