@@ -67,7 +67,7 @@ module _ (m : Map) where
 -- ---- directions
 
 -- what differs in direction, by the test
-differ-says : {D : Type 0} (way : D → Way) (ds : List D) → waysDiffer (map way ds) ≡ true → Differ way ds
+pub differ-says : {D : Type 0} (way : D → Way) (ds : List D) → waysDiffer (map way ds) ≡ true → Differ way ds
 differ-says way [] h d c i j e = absurd (List·Memᴰ·not-nil i)
 differ-says {D} way (x ∷ ds) h d c i j e = go (differ-says way ds (k .1) d c) (List·Memᴰ·cases-cons i) (List·Memᴰ·cases-cons j)
   where
