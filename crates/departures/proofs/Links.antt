@@ -136,7 +136,8 @@ module _ {l : List ℤ} {n : ℕ} (t : EdgeRows l n) where
   named-once apart =
       subst (λ (r : List Dart). all (λ d. same (count (sameDart d) links) 1) r ≡ true) (sym (directed-table l n))
       (all-of-table (λ d. same (count (sameDart d) links) 1) (dartAt l) 0 (n * 2)
-      (λ p s h. same-eq (count (sameDart (dartAt l p)) links) 1 (count-perm (sameDart (dartAt l p)) perm ∙ dart-once (directed m) directed-distinct (has-position p (omega arith)))))
+      (λ p s h. same-eq (count (sameDart (dartAt l p)) links) 1 (count-perm (sameDart (dartAt l p)) perm
+      ∙ dart-once (directed m) directed-distinct (has-position p (omega arith)))))
     where
       m : Map
       m = edgeMap l n

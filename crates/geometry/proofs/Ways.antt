@@ -11,7 +11,8 @@ use lib.IntN.{ℤ, pos, negℤ, _+ℤ_, _-ℤ_, _*ℤ_}
 use lib.Signed.{_<ℤ_}
 use Rattle.integers.specs.Solver.{con, ⊝_, _⊕_, _⊖_, _⊗_, _≐_, solve}
 use Rattle.integers.specs.Linear.{pos-injective}
-use Rattle.integers.specs.Order.{Sign, negative, null, positive, sgn, signed, neg-pos, natural, <→≤, pos-<, pos-<-back, pos-sub}
+use Rattle.integers.specs.Order.{Sign, negative, null, positive, sgn, signed, neg-pos, natural}
+use Rattle.integers.specs.Order.{<→≤, pos-<, pos-<-back, pos-sub}
 use Rattle.integers.specs.Positive.{sgn-scaled}
 use Rattle.lists.specs.Tests.{same}
 use Rattle.lists.proofs.Bools.{same-true, same-eq, not-true, and-true, and-is}
@@ -35,15 +36,22 @@ way-is n k a b c d e =
 
 module _ {a b c d : Point} (w : SameWay a b c d) where
   pub way-x : sgn (pos (b .x) -ℤ pos (a .x)) ≡ sgn (pos (d .x) -ℤ pos (c .x))
-  way-x = sym (sgn-scaled (pos (w .n)) (pos (b .x) -ℤ pos (a .x)) (pos-< (w .n-some))) ∙ ap sgn (way-is (w .n) (w .k) (a .x) (b .x) (c .x) (d .x) (w .x)) ∙ sgn-scaled (pos (w .k)) (pos (d .x) -ℤ pos (c .x)) (pos-< (w .k-some))
+  way-x =
+      sym (sgn-scaled (pos (w .n)) (pos (b .x) -ℤ pos (a .x)) (pos-< (w .n-some)))
+      ∙ ap sgn (way-is (w .n) (w .k) (a .x) (b .x) (c .x) (d .x) (w .x))
+      ∙ sgn-scaled (pos (w .k)) (pos (d .x) -ℤ pos (c .x)) (pos-< (w .k-some))
 
   pub way-y : sgn (pos (b .y) -ℤ pos (a .y)) ≡ sgn (pos (d .y) -ℤ pos (c .y))
-  way-y = sym (sgn-scaled (pos (w .n)) (pos (b .y) -ℤ pos (a .y)) (pos-< (w .n-some))) ∙ ap sgn (way-is (w .n) (w .k) (a .y) (b .y) (c .y) (d .y) (w .y)) ∙ sgn-scaled (pos (w .k)) (pos (d .y) -ℤ pos (c .y)) (pos-< (w .k-some))
+  way-y =
+      sym (sgn-scaled (pos (w .n)) (pos (b .y) -ℤ pos (a .y)) (pos-< (w .n-some)))
+      ∙ ap sgn (way-is (w .n) (w .k) (a .y) (b .y) (c .y) (d .y) (w .y))
+      ∙ sgn-scaled (pos (w .k)) (pos (d .y) -ℤ pos (c .y)) (pos-< (w .k-some))
 
   -- the cross product with any third way has one sign for both
   pub way-cross : (x y : ℤ) → sgn ((pos (b .x) -ℤ pos (a .x)) *ℤ y -ℤ (pos (b .y) -ℤ pos (a .y)) *ℤ x) ≡ sgn ((pos (d .x) -ℤ pos (c .x)) *ℤ y -ℤ (pos (d .y) -ℤ pos (c .y)) *ℤ x)
   way-cross x y =
-      sym (sgn-scaled (pos (w .n)) ((pos (b .x) -ℤ pos (a .x)) *ℤ y -ℤ (pos (b .y) -ℤ pos (a .y)) *ℤ x) (pos-< (w .n-some)))
+      sym (sgn-scaled (pos (w .n)) ((pos (b .x) -ℤ pos (a .x)) *ℤ y -ℤ (pos (b .y) -ℤ pos (a .y)) *ℤ x)
+      (pos-< (w .n-some)))
       ∙ ap sgn (solve 5 (λ n u v x y. n ⊗ (u ⊗ y ⊖ v ⊗ x) ≐ (n ⊗ u) ⊗ y ⊖ (n ⊗ v) ⊗ x) tt (pos (w .n)) (pos (b .x) -ℤ pos (a .x)) (pos (b .y) -ℤ pos (a .y)) x y
       ∙ (λ t. way-is (w .n) (w .k) (a .x) (b .x) (c .x) (d .x) (w .x) t *ℤ y -ℤ way-is (w .n) (w .k) (a .y) (b .y) (c .y) (d .y) (w .y) t *ℤ x)
       ∙ solve 5 (λ k u v x y. (k ⊗ u) ⊗ y ⊖ (k ⊗ v) ⊗ x ≐ k ⊗ (u ⊗ y ⊖ v ⊗ x)) tt (pos (w .k)) (pos (d .x) -ℤ pos (c .x)) (pos (d .y) -ℤ pos (c .y)) x y)

@@ -52,7 +52,8 @@ module _ (R : Point → Type 0) where
       go true false f = (each-cons k each-nil, h)
       go false q f = (each-cons (each-head h) (f .0), f .1)
 
-  pub each-halves : (m : Point) (c : Curve) → R m → Each (points c) → Each (points (front m c)) × Each (points (back m c))
+  pub each-halves : (m : Point) (c : Curve) → R m → Each (points c)
+      → Each (points (front m c)) × Each (points (back m c))
   each-halves m c k h =
       let parts = each-cut m (c .first) (c .rest) k (each-tail h) in
       (each-cons (each-head h) (parts .0), each-cons k (parts .1))
@@ -65,7 +66,8 @@ module _ (R : Point → Type 0) where
 
 -- ---- the cut at a point inside
 
-module _ (m : Point) (c : Curve) (n : c .first ≢ m) (l : lastPoint c ≢ m) (o : OnCurve (spot m) c) (k : Kept c) (i : InRange m) where
+module _ (m : Point) (c : Curve) (n : c .first ≢ m) (l : lastPoint c ≢ m) (o : OnCurve (spot m) c)
+    (k : Kept c) (i : InRange m) where
   few : (length (points (front m c)) ≤ length (points c)) × (length (points (back m c)) ≤ length (points c))
   few = halves-few m c n l (onCurve-iff c m .1 o)
 

@@ -30,7 +30,8 @@ use Rattle.grown.proofs.Apart.{curve-good, apart}
 module _ (m : Map) (l : Linked (arcs m) (leaves m) (next m) (bears m)) where
   pub linked-once : Distinct (nums (arcs m)) → linksOnce m ≡ true
   unfolding linksOnce
-  linked-once dis = each-all _ (directed m) (λ d k. same-eq (count (sameDart d) (map (next m) (directed m))) 1 (count-perm (sameDart d) (l .perm) ∙ dart-once (directed m) (distinct-darts (arcs m) dis) k))
+  linked-once dis = each-all _ (directed m) (λ d k. same-eq (count (sameDart d) (map (next m) (directed m))) 1
+      (count-perm (sameDart d) (l .perm) ∙ dart-once (directed m) (distinct-darts (arcs m) dis) k))
 
   linked-meet : linksMeet m ≡ true
   unfolding linksMeet

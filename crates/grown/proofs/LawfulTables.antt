@@ -36,7 +36,8 @@ use Rattle.map.specs.Ticket.{carried, lentReasons, unless, judged, ticket}
 use Rattle.map.proofs.RoundTrip.{Holds, reads-back, within-least, ranged-is}
 use Rattle.map.proofs.Reasons.{first-zero}
 use Rattle.map.proofs.Laws.{formed-is, in-form-points}
-use Rattle.grown.proofs.Readings.{numberOf, nums-rows, next-row, edge-row, edge-at, row-has, has-dart, dart-has, without}
+use Rattle.grown.proofs.Readings.{numberOf, nums-rows, next-row, edge-row, edge-at, row-has}
+use Rattle.grown.proofs.Readings.{has-dart, dart-has, without}
 use Rattle.grown.proofs.Changes.{last-first}
 use Rattle.grown.proofs.Reasons as facts
 use Rattle.grown.proofs.Reasons.{Split}

@@ -97,8 +97,10 @@ module _ (s : Sizes) (m : Map) (t : Tabled s m) where
   counts =
       let f = t .fits in
       and-is
-      (and-is (count-fits nodeWidth nodeCells (s .nodes) (m .nodes) (nodes-wide (m .nodes)) (omega arith) 0 (omega arith)
-      (f .nodes)) (count-fits edgeWidth edgeCells (s .edges) (m .edges) wide (omega arith) 0 (omega arith) (f .edges)))
+      (and-is
+      (count-fits nodeWidth nodeCells (s .nodes) (m .nodes) (nodes-wide (m .nodes)) (omega arith) 0 (omega arith)
+      (f .nodes))
+      (count-fits edgeWidth edgeCells (s .edges) (m .edges) wide (omega arith) 0 (omega arith) (f .edges)))
       (count-fits faceWidth faceCells (s .faces) (m .faces) (faces-wide (m .faces)) (omega arith) 1 (t .some-face)
       (f .faces))
 

@@ -38,13 +38,15 @@ module _ (m : Map) where
     unfolding leaves
     starts a k =
         let r = Memᴰ·of-map arcOf (m .edges) k in
-        subst (λ (a : Arc). edge m (a .num) .start ≡ a .from) (r .2) (ap (λ (e : Edge). e .start) (edge-row m (subst Distinct nums-rows once) (r .0) (r .1)))
+        subst (λ (a : Arc). edge m (a .num) .start ≡ a .from) (r .2)
+        (ap (λ (e : Edge). e .start) (edge-row m (subst Distinct nums-rows once) (r .0) (r .1)))
 
     pub ends : (a : Arc) → List·Memᴰ a (arcs m) → leaves m (bwd (a .num)) ≡ a .to
     unfolding leaves
     ends a k =
         let r = Memᴰ·of-map arcOf (m .edges) k in
-        subst (λ (a : Arc). edge m (a .num) .end ≡ a .to) (r .2) (ap (λ (e : Edge). e .end) (edge-row m (subst Distinct nums-rows once) (r .0) (r .1)))
+        subst (λ (a : Arc). edge m (a .num) .end ≡ a .to) (r .2)
+        (ap (λ (e : Edge). e .end) (edge-row m (subst Distinct nums-rows once) (r .0) (r .1)))
 
   -- links that name every directed edge exactly once
   pub links-perm : Distinct (nums (arcs m)) → linksOnce m ≡ true → List·Permᴰ (map (next m) (directed m)) (directed m)
@@ -83,7 +85,13 @@ module _ (m : Map) (h : formed m ≡ true) where
   keeps = links-keep m (form .rings)
 
   pub linked : Linked (arcs m) (leaves m) (next m) (bears m)
-  linked = record { starts = starts m edges-once; ends = ends m edges-once; perm = links-once; meets = meets; keeps = keeps }
+  linked = record {
+    starts = starts m edges-once;
+    ends = ends m edges-once;
+    perm = links-once;
+    meets = meets;
+    keeps = keeps;
+  }
 
   -- all directed edges of a ring bear one face
   pub rings-bear-one : (d d′ : Dart) → List·Memᴰ d (directed m) → Leads (next m) d d′ → bears m d′ ≡ bears m d

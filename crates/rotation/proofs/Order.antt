@@ -42,6 +42,6 @@ respects-right u v w e = agree (before u v) (before u w)
     (λ h. before-is u w (before-alike u v w (before-says u v h) (alike-says v w e)))
     (λ h. before-is u v (before-alike u w v (before-says u w h) (alike-says w v (sameWay-sym v w e))))
 
--- one way round alone
+-- of two directions at most one is before the other
 pub not-after : (v w : Way) → before v w ≡ true → before w v ≡ false
 not-after v w e = not-true (before w v) (λ f. true≢false (sym (transitive v w v e f) ∙ irreflexive v))
