@@ -1,7 +1,7 @@
 -- A map passes the tests just when it is good. Assumes nothing.
 use mathlib.Core.Path.{_≡_}
 use mathlib.Core.Bool.{true, _&&_}
-use Prim.Native.Nat.{ℕ, suc, _≤_}
+use Prim.Native.Nat.{ℕ, suc}
 use native.Mathlib.Omega.{arith}
 use borrow.Author.Tests.{leb-true, le-leb}
 use lib.Dec.{leb}
@@ -15,6 +15,7 @@ use Rattle.grown.specs.Good.{Good, Numbered}
 use Rattle.grown.proofs.NumbersNodes.{zero-in}
 use Rattle.grown.proofs.Carried.{ranks}
 use Rattle.grown.proofs.Forms.{good-formed}
+use Rattle.grown.proofs.Ranges.{NextInRange}
 use Rattle.grown.proofs.EdgesReached.{good-reached}
 use Rattle.grown.proofs.LawfulForm.{Lawful, formed-lawful, law-is}
 use Rattle.certified.specs.Certified.{nextInRange, nextsInRange, curvesClear, placesDiffer, sumHolds}
@@ -24,10 +25,6 @@ use Rattle.certified.proofs.Woven.{reached-says, reached-is, sum-says, 
 use Rattle.certified.proofs.Surveys.{curves-long, surveys-says, curves-are, places-are}
 
 -- ---- next numbers
-
-pub record NextInRange (n : ℕ) : Type 0 where
-  pub least : 1 ≤ n
-  pub most : n ≤ suc lastNumber
 
 in-range : (n : ℕ) → nextInRange n ≡ true → NextInRange n
 in-range n h = let k = and-true (leb 1 n) (leb n (suc lastNumber)) h in

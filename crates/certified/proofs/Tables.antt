@@ -2,22 +2,21 @@
 -- tables pass (specs/Claims.antt). Assumes nothing.
 use mathlib.Core.Path.{_≡_, sym, ap, _∙_}
 use mathlib.Core.Bool.{true, _&&_}
-use Prim.Native.Nat.{suc}
 use native.Mathlib.Omega.{arith}
-use lib.IntN.{ℤ, natAbs}
+use lib.IntN.{natAbs}
 use lib.ListN.{length-map}
 use Rattle.lists.proofs.Bools.{and-true, and-is}
-use Rattle.map.specs.Limits.{lastNumber, nodeWidth, edgeWidth, faceWidth}
+use Rattle.map.specs.Limits.{nodeWidth, edgeWidth, faceWidth}
 use Rattle.map.specs.Rows.{Lent, Sizes, nodeOf, edgeOf, faceRowOf, nodeRows, edgeRows, faceRows, mapOf, sizesOf, whole}
-use Rattle.map.specs.Form.{within, ranged, formed, inForm}
-use Rattle.map.proofs.RoundTrip.{Ranged, ranged-is, rows-count, within-least, within-most, writes-back}
+use Rattle.map.specs.Form.{ranged, formed, inForm}
+use Rattle.map.proofs.RoundTrip.{Ranged, ranged-is, rows-count, within-most, writes-back}
 use Rattle.grown.specs.Good.{Good, Fits}
 use Rattle.grown.specs.Claims.{Limited}
-use Rattle.grown.proofs.Ranges.{good-back, good-in-form, good-whole}
+use Rattle.grown.proofs.Ranges.{next-in-range, good-back, good-in-form, good-whole}
 use Rattle.grown.proofs.Grows.{State, steps, grown-state, state-grown, whole-limited}
 use Rattle.certified.specs.Certified.{nextsInRange, inPlane, certified, certifies}
 use Rattle.certified.specs.Claims.{CertifiesIff, CertifiedGrows, CertifiedStays, GrownCertified}
-use Rattle.certified.proofs.Certified.{NextInRange, nexts-are, certified-good, good-plane}
+use Rattle.certified.proofs.Certified.{nexts-are, certified-good, good-plane}
 
 module _ (l : Lent) (h : inForm l ≡ true) where
   parts : (ranged l ≡ true) × (formed (mapOf l) ≡ true)
@@ -51,13 +50,10 @@ module _ (l : Lent) (h : inForm l ≡ true) where
     );
   }
 
-  in-range : (z : ℤ) → within 1 (suc lastNumber) z ≡ true → NextInRange (natAbs z)
-  in-range z h = record { least = within-least 1 (suc lastNumber) z h; most = within-most 1 (suc lastNumber) z h }
-
   nexts : nextsInRange (mapOf l) ≡ true
   unfolding mapOf
-  nexts = nexts-are (mapOf l) (in-range (l .head .«next_node») (r .next-node))
-      (in-range (l .head .«next_edge») (r .next-edge)) (in-range (l .head .«next_face») (r .next-face))
+  nexts = nexts-are (mapOf l) (next-in-range (l .head .«next_node») (r .next-node))
+      (next-in-range (l .head .«next_edge») (r .next-edge)) (next-in-range (l .head .«next_face») (r .next-face))
 
   -- the map of tables in form is good if it is in the plane
   plane-good : inPlane (mapOf l) ≡ true → Good (mapOf l)

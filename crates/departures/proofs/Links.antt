@@ -2,7 +2,7 @@
 use mathlib.Core.Path.{_≡_, refl, sym, ap, ap₂, _∙_, subst}
 use mathlib.Core.Bool.{Bool, true, false, not, _&&_, _||_, false≢true}
 use mathlib.Core.Logic.{inl, inr}
-use mathlib.Core.List.{List, [], _∷_, map, List·Memᴰ, List·Memᴰ·head, List·Memᴰ·tail, List·Memᴰ·cases-cons, List·Memᴰ·not-nil, Memᴰ·cast, List·Permᴰ}
+use mathlib.Core.List.{List, map, List·Memᴰ, List·Memᴰ·head, List·Memᴰ·tail, Memᴰ·cast, List·Permᴰ}
 use Prim.Native.Nat.{ℕ, zero, suc, _+_, _*_, _<_, _≤_}
 use native.Mathlib.Nat.{eq-or-lt-of-le}
 use native.Mathlib.Omega.{arith}
@@ -23,7 +23,7 @@ use Rattle.lists.proofs.Scans.{all-of-table, table-in}
 use Rattle.curves.proofs.Runs.{and-left, and-right}
 use Rattle.planar.specs.Map.{Dart}
 use Rattle.planar.specs.Rings.{sameDart}
-use Rattle.planar.proofs.Rings.{sameDart-refl, sameDart-true}
+use Rattle.planar.proofs.Rings.{sameDart-refl, dart-once}
 use Rattle.map.specs.Limits.{nodeWidth, faceWidth}
 use Rattle.map.specs.Rows.{Map}
 use Rattle.map.specs.Darts.{directed, leaves, arrives, next, bears}
@@ -57,10 +57,6 @@ module _ {A : Type 0} where
   all-alike p q f g a (suc n) h = rw (h a (omega arith) (omega arith), all-alike p q f g (a + 1) n (λ i s t. h i (omega arith) (omega arith)))
 
   module _ (p : A → Bool) where
-    count-none : (l : List A) → ((x : A) → List·Memᴰ x l → p x ≡ false) → count p l ≡ 0
-    count-none [] h = refl
-    count-none (x ∷ l) h = rw (h x (List·Memᴰ·head refl)) (let e = count-none l (λ y m. h y (List·Memᴰ·tail m)) in omega arith)
-
     taken-once : (f : ℕ → A) (a n i : ℕ) → a ≤ i → i < a + n → p (f i) ≡ true → 1 ≤ count p (table f a n)
     taken-once f a zero i s t e = absurd (omega arith)
     taken-once f a (suc n) i s t e =
@@ -78,22 +74,6 @@ module _ {A : Type 0} where
           | inl q ↦ let b : bit (p (f a)) ≡ 1 = ap bit (ap (λ (k : ℕ). p (f k)) q ∙ d) in let r = taken-once f (a + 1) n j (omega arith) (omega arith) e in omega arith
           | inr h ↦ let r = later (omega arith) t (omega arith) d e in omega arith
         ]
-
--- each element of a list in which nothing stands twice stands once
-stands-once : (l : List Dart) → Distinct l → (d : Dart) → List·Memᴰ d l → count (sameDart d) l ≡ 1
-stands-once [] dis d m = absurd (List·Memᴰ·not-nil m)
-stands-once (c ∷ l) dis d m =
-    let later = stands-once l (dis .1) d in
-    elim (List·Memᴰ·cases-cons m) [
-      | inl e ↦
-          let b : bit (sameDart d c) ≡ 1 = ap bit (ap (sameDart d) (sym e) ∙ sameDart-refl d) in
-          let z = count-none (sameDart d) l (λ x k. not-true (sameDart d x) (λ q. dis .0 (Memᴰ·cast (sym e ∙ sameDart-true d x q) k))) in
-          omega arith
-      | inr k ↦
-          let b : bit (sameDart d c) ≡ 0 = ap bit (not-true (sameDart d c) (λ q. dis .0 (Memᴰ·cast (sym (sameDart-true d c q)) k))) in
-          let r = later k in
-          omega arith
-    ]
 
 -- ---- the links
 
@@ -156,7 +136,8 @@ module _ {l : List ℤ} {n : ℕ} (t : EdgeRows l n) where
   named-once apart =
       subst (λ (r : List Dart). all (λ d. same (count (sameDart d) links) 1) r ≡ true) (sym (directed-table l n))
       (all-of-table (λ d. same (count (sameDart d) links) 1) (dartAt l) 0 (n * 2)
-      (λ p s h. same-eq (count (sameDart (dartAt l p)) links) 1 (count-perm (sameDart (dartAt l p)) perm ∙ stands-once (directed m) directed-distinct (dartAt l p) (has-position p (omega arith)))))
+      (λ p s h. same-eq (count (sameDart (dartAt l p)) links) 1 (count-perm (sameDart (dartAt l p)) perm
+      ∙ dart-once (directed m) directed-distinct (has-position p (omega arith)))))
     where
       m : Map
       m = edgeMap l n

@@ -14,7 +14,8 @@ use Rattle.map.specs.declared.Answer.{Answer}
 use Rattle.map.specs.Rows.{Lent, emptyMap, lentOf, sizesOf, whole}
 use Rattle.map.specs.Reasons.{firstReason}
 use Rattle.map.specs.Ticket.{ticket}
-use Rattle.map.specs.Grow.{Grown, answered, after, grow}
+use Rattle.map.specs.Grow.{Grown, after, grow}
+use Rattle.map.proofs.Facts.{followed, after-append}
 use Rattle.map.proofs.Reasons.{first-zero}
 use Rattle.grown.proofs.Grows.{whole-limited}
 use Rattle.grown.proofs.SplitHeal.{split-cancelled, split-renewed}
@@ -22,16 +23,6 @@ use Rattle.engine.specs.Runs.{ticketsOf, Ran, front, ranUnless, ran}
 use Rattle.engine.specs.Claims.{Called, refusalAt, outcomeAt, RunCancels, RunRenews}
 
 -- ---- two tickets more
-
--- what is left and answered by g and then by h
-abbrev joined : Grown → Grown → Grown
-joined g h = record { lent = h .lent; answers = g .answers ++ h .answers }
-
-after-append : (l : Lent) (ts us : List (List ℤ))
-    → after l (ts ++ us) ≡ joined (after l ts) (after (after l ts .lent) us)
-unfolding after
-after-append l [] us = refl
-after-append l (t ∷ ts) us = ap (answered (ticket l t .answer)) (after-append (ticket l t .lent) ts us)
 
 after-length : (l : Lent) (ts : List (List ℤ)) → length (after l ts .answers) ≡ length ts
 unfolding after
@@ -73,7 +64,7 @@ module _ (l : Lent) (ts : List (List ℤ)) (t u : List ℤ) (r : Ran) (c : Calle
   some-face = whole-limited l (not-false (whole l) (first-zero 1 (not (whole l)) _ (omega arith) reason .0)) .some-face
 
   abbrev all : Grown
-  all = joined (grow (sizesOf l) ts) (after g (t ∷ u ∷ []))
+  all = followed (grow (sizesOf l) ts) (after g (t ∷ u ∷ []))
 
   ran-is : r ≡ ranUnless l (c .refusals) (c .values) all 0
   unfolding ran grow

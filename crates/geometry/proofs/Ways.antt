@@ -3,7 +3,7 @@ use mathlib.Core.Path.{_≡_, refl, sym, ap, _∙_, subst}
 use mathlib.Core.Bool.{true, false}
 use mathlib.Core.List.{List, [], _∷_}
 use mathlib.Core.Logic.{_⊎_, inl, inr, _≢_}
-use Prim.Native.Nat.{ℕ, _+_, _*_, _-_, _≤_, _<_}
+use Prim.Native.Nat.{ℕ, _+_, _*_, _-_, _≤_}
 use native.Mathlib.Decide.{decLe}
 use native.Mathlib.Omega.{arith}
 use lib.ListN.{getD}
@@ -11,7 +11,9 @@ use lib.IntN.{ℤ, pos, negℤ, _+ℤ_, _-ℤ_, _*ℤ_}
 use lib.Signed.{_<ℤ_}
 use Rattle.integers.specs.Solver.{con, ⊝_, _⊕_, _⊖_, _⊗_, _≐_, solve}
 use Rattle.integers.specs.Linear.{pos-injective}
-use Rattle.integers.specs.Order.{Sign, negative, null, positive, sgn, product, sgn-*, sgn-positive, signed, neg-pos, natural, <→≤, pos-<, pos-<-back, pos-sub}
+use Rattle.integers.specs.Order.{Sign, negative, null, positive, sgn, signed, neg-pos, natural}
+use Rattle.integers.specs.Order.{<→≤, pos-<, pos-<-back, pos-sub}
+use Rattle.integers.specs.Positive.{sgn-scaled}
 use Rattle.lists.specs.Tests.{same}
 use Rattle.lists.proofs.Bools.{same-true, same-eq, not-true, and-true, and-is}
 use Rattle.plane.specs.declared.Point.{Point}
@@ -32,29 +34,28 @@ way-is : (n k a b c d : ℕ) → n * b + k * c ≡ n * a + k * d → pos n *ℤ 
 way-is n k a b c d e =
     of-zero _ _ (solve 6 (λ n k a b c d. n ⊗ (b ⊖ a) ⊖ k ⊗ (d ⊖ c) ≐ (n ⊗ b ⊕ k ⊗ c) ⊖ (n ⊗ a ⊕ k ⊗ d)) tt (pos n) (pos k) (pos a) (pos b) (pos c) (pos d) ∙ zero-of (ap pos e))
 
-sgn-times : (n : ℕ) (z : ℤ) → 0 < n → sgn (pos n *ℤ z) ≡ sgn z
-sgn-times n z h = sgn-* (pos n) z ∙ ap (λ (s : Sign). product s (sgn z)) (sgn-positive (pos n) (pos-< h)) ∙ go (sgn z)
-  where
-    go : (s : Sign) → product positive s ≡ s
-    go negative = refl
-    go null = refl
-    go positive = refl
-
 module _ {a b c d : Point} (w : SameWay a b c d) where
   pub way-x : sgn (pos (b .x) -ℤ pos (a .x)) ≡ sgn (pos (d .x) -ℤ pos (c .x))
-  way-x = sym (sgn-times (w .n) (pos (b .x) -ℤ pos (a .x)) (w .n-some)) ∙ ap sgn (way-is (w .n) (w .k) (a .x) (b .x) (c .x) (d .x) (w .x)) ∙ sgn-times (w .k) (pos (d .x) -ℤ pos (c .x)) (w .k-some)
+  way-x =
+      sym (sgn-scaled (pos (w .n)) (pos (b .x) -ℤ pos (a .x)) (pos-< (w .n-some)))
+      ∙ ap sgn (way-is (w .n) (w .k) (a .x) (b .x) (c .x) (d .x) (w .x))
+      ∙ sgn-scaled (pos (w .k)) (pos (d .x) -ℤ pos (c .x)) (pos-< (w .k-some))
 
   pub way-y : sgn (pos (b .y) -ℤ pos (a .y)) ≡ sgn (pos (d .y) -ℤ pos (c .y))
-  way-y = sym (sgn-times (w .n) (pos (b .y) -ℤ pos (a .y)) (w .n-some)) ∙ ap sgn (way-is (w .n) (w .k) (a .y) (b .y) (c .y) (d .y) (w .y)) ∙ sgn-times (w .k) (pos (d .y) -ℤ pos (c .y)) (w .k-some)
+  way-y =
+      sym (sgn-scaled (pos (w .n)) (pos (b .y) -ℤ pos (a .y)) (pos-< (w .n-some)))
+      ∙ ap sgn (way-is (w .n) (w .k) (a .y) (b .y) (c .y) (d .y) (w .y))
+      ∙ sgn-scaled (pos (w .k)) (pos (d .y) -ℤ pos (c .y)) (pos-< (w .k-some))
 
   -- the cross product with any third way has one sign for both
   pub way-cross : (x y : ℤ) → sgn ((pos (b .x) -ℤ pos (a .x)) *ℤ y -ℤ (pos (b .y) -ℤ pos (a .y)) *ℤ x) ≡ sgn ((pos (d .x) -ℤ pos (c .x)) *ℤ y -ℤ (pos (d .y) -ℤ pos (c .y)) *ℤ x)
   way-cross x y =
-      sym (sgn-times (w .n) ((pos (b .x) -ℤ pos (a .x)) *ℤ y -ℤ (pos (b .y) -ℤ pos (a .y)) *ℤ x) (w .n-some))
+      sym (sgn-scaled (pos (w .n)) ((pos (b .x) -ℤ pos (a .x)) *ℤ y -ℤ (pos (b .y) -ℤ pos (a .y)) *ℤ x)
+      (pos-< (w .n-some)))
       ∙ ap sgn (solve 5 (λ n u v x y. n ⊗ (u ⊗ y ⊖ v ⊗ x) ≐ (n ⊗ u) ⊗ y ⊖ (n ⊗ v) ⊗ x) tt (pos (w .n)) (pos (b .x) -ℤ pos (a .x)) (pos (b .y) -ℤ pos (a .y)) x y
       ∙ (λ t. way-is (w .n) (w .k) (a .x) (b .x) (c .x) (d .x) (w .x) t *ℤ y -ℤ way-is (w .n) (w .k) (a .y) (b .y) (c .y) (d .y) (w .y) t *ℤ x)
       ∙ solve 5 (λ k u v x y. (k ⊗ u) ⊗ y ⊖ (k ⊗ v) ⊗ x ≐ k ⊗ (u ⊗ y ⊖ v ⊗ x)) tt (pos (w .k)) (pos (d .x) -ℤ pos (c .x)) (pos (d .y) -ℤ pos (c .y)) x y)
-      ∙ sgn-times (w .k) ((pos (d .x) -ℤ pos (c .x)) *ℤ y -ℤ (pos (d .y) -ℤ pos (c .y)) *ℤ x) (w .k-some)
+      ∙ sgn-scaled (pos (w .k)) ((pos (d .x) -ℤ pos (c .x)) *ℤ y -ℤ (pos (d .y) -ℤ pos (c .y)) *ℤ x) (pos-< (w .k-some))
 
 -- ---- two segments from one point in one direction
 

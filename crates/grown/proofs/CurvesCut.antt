@@ -64,7 +64,7 @@ module _ (ls : List Line) (ps : List Place) (l : Line) (n a b : ℕ) (p : Point)
   first-sited : Sited (ps ++ (place ∷ [])) (firstHalf l n a p)
   first-sited =
       record {
-        kept = kept-front p (l .curve) not-first not-last on-curve good (S .sited l i .kept) r;
+        kept = kept-front p (l .curve) not-first not-last on-curve (S .sited l i .kept) r;
         start = Memᴰ·append-left (place ∷ []) (S .sited l i .start);
         end = Memᴰ·cast (λ t. record { number = n; at = ends .0 t }) there;
       }
@@ -72,7 +72,7 @@ module _ (ls : List Line) (ps : List Place) (l : Line) (n a b : ℕ) (p : Point)
   second-sited : Sited (ps ++ (place ∷ [])) (secondHalf l n b p)
   second-sited =
       record {
-        kept = kept-back p (l .curve) not-first not-last on-curve good (S .sited l i .kept) r;
+        kept = kept-back p (l .curve) not-first not-last on-curve (S .sited l i .kept) r;
         start = there;
         end = Memᴰ·cast (λ t. record { number = l .end; at = ends .1 t }) (Memᴰ·append-left (place ∷ []) (S .sited l i .end));
       }

@@ -2,8 +2,8 @@
 use mathlib.Core.Path.{_≡_, refl, sym, subst}
 use mathlib.Core.Bool.{Bool, true, false}
 use mathlib.Core.List.{List, [], _∷_, List·Memᴰ, List·Memᴰ·head, List·Memᴰ·tail, List·Memᴰ·cases-cons, List·Memᴰ·not-nil}
-use mathlib.Core.Logic.{_⊎_, inl, inr, _≢_}
-use Prim.Native.Nat.{ℕ, suc, _+_, _≤_}
+use mathlib.Core.Logic.{inl, inr, _≢_}
+use Prim.Native.Nat.{ℕ, _≤_}
 use native.Mathlib.Omega.{arith}
 use lib.ListN.{length}
 use Rattle.plane.specs.declared.Point.{Point}
@@ -14,20 +14,21 @@ use Rattle.curves.specs.Tests.{straightIn}
 use Rattle.curves.specs.Edits.{cutHere, cut, front, back, join, joined, turned, course}
 use Rattle.geometry.specs.Spots.{spot}
 use Rattle.geometry.specs.Meaning.{Some}
-use Rattle.geometry.specs.Drawing.{OnCurve, Good}
-use Rattle.geometry.proofs.Chains.{some-length, length-some}
+use Rattle.geometry.specs.Drawing.{OnCurve}
+use Rattle.geometry.proofs.Chains.{length-some}
 use Rattle.geometry.proofs.Joining.{join-given}
 use Rattle.geometry.proofs.Turning.{turned-given}
-use Rattle.geometry.proofs.Theorems.{cut-count, cut-good, reverse-count}
+use Rattle.geometry.proofs.Theorems.{onCurve-iff, reverse-count}
 use Rattle.map.specs.Rows.{Map}
 use Rattle.grown.specs.Good.{Kept}
 use Rattle.grown.proofs.Reasons.{Sent}
+use Rattle.grown.proofs.LawfulCurves.{halves-few}
 use Rattle.grown.proofs.CurvesBent.{cut-bent, join-bent, turned-bent}
 
 -- ---- points of the new curves are points of the old ones
 
 module _ (R : Point → Type 0) where
-  abbrev Each : List Point → Type 0
+  abbrev pub Each : List Point → Type 0
   Each l = (p : Point) → List·Memᴰ p l → R p
 
   each-nil : Each []
@@ -51,6 +52,12 @@ module _ (R : Point → Type 0) where
       go true false f = (each-cons k each-nil, h)
       go false q f = (each-cons (each-head h) (f .0), f .1)
 
+  pub each-halves : (m : Point) (c : Curve) → R m → Each (points c)
+      → Each (points (front m c)) × Each (points (back m c))
+  each-halves m c k h =
+      let parts = each-cut m (c .first) (c .rest) k (each-tail h) in
+      (each-cons (each-head h) (parts .0), each-cons k (parts .1))
+
   each-join : (a : Point) (r s : List Point) → Each r → Each s → Each (join a r s)
   each-join a r s h k p m = elim (join-given a r s m) [ inl j ↦ h p j | inr j ↦ k p j ]
 
@@ -59,35 +66,24 @@ module _ (R : Point → Type 0) where
 
 -- ---- the cut at a point inside
 
-module _ (m : Point) (c : Curve) (n : c .first ≢ m) (l : lastPoint c ≢ m) (o : OnCurve (spot m) c) (g : Good c) (k : Kept c) (i : InRange m) where
-  -- both halves have a point more than none, so neither has more points than the curve
-  shorter : (length (front m c .rest) ≤ length (c .rest)) × (length (back m c .rest) ≤ length (c .rest))
-  shorter = go (cut-count m c n l o g)
-    where
-      f : 1 ≤ length (front m c .rest)
-      f = some-length (front m c .rest) (cut-good m c n l o g .0 .some)
-
-      b : 1 ≤ length (back m c .rest)
-      b = some-length (back m c .rest) (cut-good m c n l o g .1 .some)
-
-      go : (length (front m c .rest) + length (back m c .rest) ≡ length (c .rest)) ⊎ (length (front m c .rest) + length (back m c .rest) ≡ suc (length (c .rest)))
-          → (length (front m c .rest) ≤ length (c .rest)) × (length (back m c .rest) ≤ length (c .rest))
-      go (inl e) = (omega (arith, f, b), omega (arith, f, b))
-      go (inr e) = (omega (arith, f, b), omega (arith, f, b))
+module _ (m : Point) (c : Curve) (n : c .first ≢ m) (l : lastPoint c ≢ m) (o : OnCurve (spot m) c)
+    (k : Kept c) (i : InRange m) where
+  few : (length (points (front m c)) ≤ length (points c)) × (length (points (back m c)) ≤ length (points c))
+  few = halves-few m c n l (onCurve-iff c m .1 o)
 
   pub kept-front : Kept (front m c)
   kept-front =
       record {
-        most = omega (arith, shorter .0, k .most);
-        in-range = each-cons InRange (each-head InRange (k .in-range)) (each-cut InRange m (c .first) (c .rest) i (each-tail InRange (k .in-range)) .0);
+        most = omega (arith, few .0, k .most);
+        in-range = each-halves InRange m c i (k .in-range) .0;
         bent = cut-bent m (c .first) (c .rest) n o (k .bent) .front;
       }
 
   pub kept-back : Kept (back m c)
   kept-back =
       record {
-        most = omega (arith, shorter .1, k .most);
-        in-range = each-cons InRange i (each-cut InRange m (c .first) (c .rest) i (each-tail InRange (k .in-range)) .1);
+        most = omega (arith, few .1, k .most);
+        in-range = each-halves InRange m c i (k .in-range) .1;
         bent = cut-bent m (c .first) (c .rest) n o (k .bent) .back;
       }
 

@@ -1,15 +1,12 @@
 -- The links of a linked map, and the rows of a good one, are as condition 2 asks. Assumes nothing.
-use mathlib.Core.Path.{_≡_, refl, sym, ap, ap₂, _∙_}
-use mathlib.Core.Bool.{Bool, true, false, cond, not}
+use mathlib.Core.Path.{_≡_, refl, sym, ap, _∙_}
+use mathlib.Core.Bool.{true, false, not}
 use mathlib.Core.List.{List, [], _∷_, map, List·Memᴰ, List·Memᴰ·head, List·Memᴰ·tail, Memᴰ·of-map, Memᴰ·cast}
-use Prim.Native.Nat.{_+_}
-use Rattle.lists.specs.Tests.{bit}
-use Rattle.lists.specs.Scans.{any, count, keep}
+use Rattle.lists.specs.Scans.{any, count}
 use Rattle.lists.specs.Members.{Distinct}
 use Rattle.lists.proofs.Bools.{same-eq, not-true, and-is}
 use Rattle.lists.proofs.Counts.{count-perm}
-use Rattle.lists.proofs.Perms.{extract, perm-distinct}
-use Rattle.lists.proofs.Keeps.{keep-in}
+use Rattle.lists.proofs.Keeps.{distinct-keep}
 use Rattle.geometry.proofs.Meeting.{samePoint-refl}
 use Rattle.geometry.proofs.Theorems.{neighboursDiffer-iff}
 use Rattle.plane.specs.Points.{samePoint}
@@ -18,7 +15,7 @@ use Rattle.curves.specs.Curves.{lastPoint}
 use Rattle.planar.specs.Map.{Dart, Linked}
 use Rattle.planar.specs.Pieces.{nums}
 use Rattle.planar.specs.Rings.{sameDart}
-use Rattle.planar.proofs.Rings.{sameDart-refl, sameDart-true}
+use Rattle.planar.proofs.Rings.{dart-once}
 use Rattle.planar.proofs.Hooks.{distinct-darts}
 use Rattle.rotation.proofs.Ways.{alike-says}
 use Rattle.map.specs.Rows.{Edge, Map}
@@ -28,28 +25,13 @@ use Rattle.map.proofs.Scans.{each-all, any-some}
 use Rattle.grown.specs.Good.{Good}
 use Rattle.grown.proofs.Apart.{curve-good, apart}
 
-pub distinct-keep : {A : Type 0} (p : A → Bool) (l : List A) → Distinct l → Distinct (keep p l)
-distinct-keep p [] h = tt
-distinct-keep {A} p (x ∷ l) h = go (p x) (distinct-keep p l (h .1))
-  where
-    go : (b : Bool) → Distinct (keep p l) → Distinct (cond b (x ∷ keep p l) (keep p l))
-    go true ih = (λ k. h .0 (keep-in p l k .0), ih)
-    go false ih = ih
-
--- a directed edge stands once among all
-count-none : (d : Dart) (ds : List Dart) → (List·Memᴰ d ds → ⊥) → count (sameDart d) ds ≡ 0
-count-none d [] h = refl
-count-none d (c ∷ ds) h = ap₂ (λ b n. bit b + n) (not-true (sameDart d c) (λ e. h (List·Memᴰ·head (sameDart-true d c e)))) (count-none d ds (λ k. h (List·Memᴰ·tail k)))
-
-count-once : (d : Dart) (ds : List Dart) → Distinct ds → List·Memᴰ d ds → count (sameDart d) ds ≡ 1
-count-once d ds dis k = let r = extract k in count-perm (sameDart d) (r .1) ∙ ap₂ (λ b n. bit b + n) (sameDart-refl d) (count-none d (r .0) (perm-distinct (r .1) dis .0))
-
 -- ---- a linked map passes the tests of form on its links
 
 module _ (m : Map) (l : Linked (arcs m) (leaves m) (next m) (bears m)) where
   pub linked-once : Distinct (nums (arcs m)) → linksOnce m ≡ true
   unfolding linksOnce
-  linked-once dis = each-all _ (directed m) (λ d k. same-eq (count (sameDart d) (map (next m) (directed m))) 1 (count-perm (sameDart d) (l .perm) ∙ count-once d (directed m) (distinct-darts (arcs m) dis) k))
+  linked-once dis = each-all _ (directed m) (λ d k. same-eq (count (sameDart d) (map (next m) (directed m))) 1
+      (count-perm (sameDart d) (l .perm) ∙ dart-once (directed m) (distinct-darts (arcs m) dis) k))
 
   linked-meet : linksMeet m ≡ true
   unfolding linksMeet

@@ -67,7 +67,7 @@ module _ (m : Map) where
 -- ---- directions
 
 -- what differs in direction, by the test
-differ-says : {D : Type 0} (way : D → Way) (ds : List D) → waysDiffer (map way ds) ≡ true → Differ way ds
+pub differ-says : {D : Type 0} (way : D → Way) (ds : List D) → waysDiffer (map way ds) ≡ true → Differ way ds
 differ-says way [] h d c i j e = absurd (List·Memᴰ·not-nil i)
 differ-says {D} way (x ∷ ds) h d c i j e = go (differ-says way ds (k .1) d c) (List·Memᴰ·cases-cons i) (List·Memᴰ·cases-cons j)
   where
@@ -136,7 +136,7 @@ module _ (m : Map) (h : formed m ≡ true) where
           ∙ sym (beq-true (isSome (node m n .face)) (same (edgeEnds m (node m n .number)) 0) (all-each (λ r. Bool·beq (isSome (r .face)) (same (edgeEnds m (r .number)) 0)) (m .nodes) (formed-is m h .bare) (node m n) (node-row m n has .0)))
           ∙ iso
 
-  formed-anchored : (r : Edge) → List·Memᴰ r (m .edges) → Anchored m r
+  pub formed-anchored : (r : Edge) → List·Memᴰ r (m .edges) → Anchored m r
   formed-anchored r k =
       let fits = all-each (curveFits m) (m .edges) (formed-is m h .curves) r k in
       let ends = and-true (samePoint (r .curve .first) (node m (r .start) .at)) (samePoint (lastPoint (r .curve)) (node m (r .end) .at)) (and-true _ (neighboursDiffer (r .curve)) fits .0) in

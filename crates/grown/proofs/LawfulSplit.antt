@@ -15,7 +15,7 @@ use Rattle.curves.specs.Curves.{lastPoint, startWay}
 use Rattle.curves.specs.Tests.{onCurve}
 use Rattle.curves.specs.Edits.{back}
 use Rattle.planar.specs.Map.{Arc, Dart, fwd, bwd, darts}
-use Rattle.planar.specs.Pieces.{nums}
+use Rattle.planar.specs.Pieces.{Within, nums}
 use Rattle.planar.proofs.Rings.{next-in}
 use Rattle.planar.proofs.Splitting.{tail-in}
 use Rattle.planar.proofs.Subdivide.{arc}
@@ -26,6 +26,7 @@ use Rattle.map.specs.Darts.{arcs, directed, leaves, next, bears, way}
 use Rattle.map.specs.Edits.{startHalf, endHalf, split}
 use Rattle.map.specs.Reasons.{nodeAt}
 use Rattle.map.proofs.Scans.{none-has}
+use Rattle.grown.specs.Good.{Anchored}
 use Rattle.grown.proofs.Readings.{nextIn, leaves-row, next-row, bears-row, course-row, way-row, has-number, arcOf, numberOf, nums-rows, edge-row}
 use Rattle.grown.proofs.RowChanges.{nodeNumber, node-row}
 use Rattle.grown.proofs.RowDarts.{dart-move, dart-row, leaves-of, next-of, bears-of, way-of}
@@ -36,9 +37,21 @@ use Rattle.grown.proofs.LawfulForm.{Obeys, Lawful}
 use Rattle.grown.proofs.LawfulCurves.{reverse-way, front-way, back-some, back-way}
 
 -- the points of nodes are not p
-pub off-nodes : (m : Map) (p : Point) → nodeAt (m .nodes) p ≡ false → (k : ℕ) → List·Memᴰ k (map nodeNumber (m .nodes)) → node m k .at ≢ p
+off-nodes : (m : Map) (p : Point) → nodeAt (m .nodes) p ≡ false → (k : ℕ)
+    → List·Memᴰ k (map nodeNumber (m .nodes)) → node m k .at ≢ p
 unfolding nodeAt
-off-nodes m p free k j q = true≢false (sym (ap (samePoint (node m k .at)) (sym q) ∙ samePoint-refl (node m k .at)) ∙ none-has (λ x. samePoint (x .at) p) (m .nodes) free (node m k) (node-row m k (has-number nodeNumber (m .nodes) k j) .0))
+off-nodes m p free k j q =
+    true≢false (sym (ap (samePoint (node m k .at)) (sym q) ∙ samePoint-refl (node m k .at))
+    ∙ none-has (λ x. samePoint (x .at) p) (m .nodes) free (node m k)
+    (node-row m k (has-number nodeNumber (m .nodes) k j) .0))
+
+-- nor are the ends of a curve between nodes
+pub off-ends : (m : Map) (p : Point) → nodeAt (m .nodes) p ≡ false → Within (map nodeNumber (m .nodes)) (arcs m)
+    → {r : Edge} → List·Memᴰ r (m .edges) → Anchored m r → (r .curve .first ≢ p) × (lastPoint (r .curve) ≢ p)
+off-ends m p free w {r} k a = (
+  λ q. off-nodes m p free (r .start) (w .starts (arcOf r) (Memᴰ·map arcOf k)) (sym (a .start) ∙ q),
+  λ q. off-nodes m p free (r .end) (w .ends (arcOf r) (Memᴰ·map arcOf k)) (sym (a .end) ∙ q),
+)
 
 -- ---- a map m′ whose rows are those of m but for the edge e, which stands in halves a and b that meet at the node n
 
@@ -110,11 +123,14 @@ module _ (m m′ : Map) (e n a b : ℕ) (p : Point) (L : Lawful m) (h : InHalves
   in-other k = perm-in (Permᴰ·symm (h .rows)) (List·Memᴰ·tail (List·Memᴰ·tail (Memᴰ·map (relinked e a b) k)))
 
   -- the point is no end of the curve
+  off : (edge m e .curve .first ≢ p) × (lastPoint (edge m e .curve) ≢ p)
+  off = off-ends m p (h .free) (L .within) row (L .anchored (edge m e) row)
+
   pub starts-off : edge m e .curve .first ≢ p
-  starts-off q = off-nodes m p (h .free) s (L .within .starts (arcOf (edge m e)) (Memᴰ·map arcOf row)) (sym (L .anchored (edge m e) row .start) ∙ q)
+  starts-off = off .0
 
   pub ends-off : lastPoint (edge m e .curve) ≢ p
-  ends-off q = off-nodes m p (h .free) t (L .within .ends (arcOf (edge m e)) (Memᴰ·map arcOf row)) (sym (L .anchored (edge m e) row .end) ∙ q)
+  ends-off = off .1
 
   abbrev by : (P : Dart → Type 0) → P (fwd e) → P (bwd e) → ((z : Dart) → List·Memᴰ z (darts r) → P z) → (z : Dart) → List·Memᴰ z (whole e s t r) → P z
   by = each-whole e (fwd a) (fwd b) s n t r (old-once .0) once

@@ -13,7 +13,7 @@ use Rattle.lists.specs.Tests.{same}
 use Rattle.lists.specs.Members.{Distinct}
 use Rattle.lists.proofs.Bools.{same-true, and-true}
 use Rattle.lists.proofs.Members.{map-cong}
-use Rattle.lists.proofs.Keeps.{keep-in, keep-map}
+use Rattle.lists.proofs.Keeps.{keep-in, keep-map, distinct-keep}
 use Rattle.lists.proofs.Perms.{perm-distinct}
 use Rattle.plane.specs.declared.Point.{Point}
 use Rattle.curves.specs.Curves.{points, point, curveOf, maxPoints}
@@ -36,9 +36,9 @@ use Rattle.map.specs.Ticket.{carried, lentReasons, unless, judged, ticket}
 use Rattle.map.proofs.RoundTrip.{Holds, reads-back, within-least, ranged-is}
 use Rattle.map.proofs.Reasons.{first-zero}
 use Rattle.map.proofs.Laws.{formed-is, in-form-points}
-use Rattle.grown.proofs.Readings.{arcOf, numberOf, nums-rows, next-row, edge-row, edge-at, row-has, has-dart, dart-has, without}
+use Rattle.grown.proofs.Readings.{numberOf, nums-rows, next-row, edge-row, edge-at, row-has}
+use Rattle.grown.proofs.Readings.{has-dart, dart-has, without}
 use Rattle.grown.proofs.Changes.{last-first}
-use Rattle.grown.proofs.Forms.{distinct-keep}
 use Rattle.grown.proofs.Reasons as facts
 use Rattle.grown.proofs.Reasons.{Split}
 use Rattle.grown.proofs.EdgesLaw.{from-in, from-has}
@@ -48,7 +48,7 @@ use Rattle.grown.proofs.CurvesCut.{firstHalf, secondHalf}
 use Rattle.grown.proofs.CurvesHalves.{healedRow, split-new-becomes, split-mod-becomes, heal-new-becomes, heal-mod-becomes}
 use Rattle.grown.proofs.LawfulForm.{Obeys, Lawful, law-is, formed-lawful}
 use Rattle.grown.proofs.LawfulCurves.{halves-few}
-use Rattle.grown.proofs.LawfulSplit.{off-nodes}
+use Rattle.grown.proofs.LawfulSplit.{off-ends}
 use Rattle.grown.proofs.LawfulKept.{carried-obeys}
 
 -- ---- lines that can be written: numbers from 1 to below N, each once, and at most 12 points
@@ -120,10 +120,9 @@ module _ (s : Sizes) (m : Map) (L : Lawful m) (one : 1 ≤ m .nextEdge) (sheet :
   few-halves : (more e : ℕ) (p : Point) → Split more s m e p → (length (points (front p (edge m e .curve))) ≤ maxPoints) × (length (points (back p (edge m e .curve))) ≤ maxPoints)
   few-halves more e p h =
       let row = edge-row m e (h .has) .0 in
-      let arc-in = Memᴰ·map arcOf row in
       let few = sheet .few (lineOf (edge m e)) (Memᴰ·map lineOf row) in
-      let k = halves-few p (edge m e .curve) (λ q. off-nodes m p (h .free) (edge m e .start) (L .within .starts _ arc-in) (sym (L .anchored (edge m e) row .start) ∙ q))
-      (λ q. off-nodes m p (h .free) (edge m e .end) (L .within .ends _ arc-in) (sym (L .anchored (edge m e) row .end) ∙ q)) (h .on) in
+      let off = off-ends m p (h .free) (L .within) row (L .anchored (edge m e) row) in
+      let k = halves-few p (edge m e .curve) (off .0) (off .1) (h .on) in
       let k₀ = k .0 in
       let k₁ = k .1 in
       (omega arith, omega arith)

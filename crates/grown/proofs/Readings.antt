@@ -263,7 +263,9 @@ pub record Relinked (m m′ : Map) : Type 0 where
   pub way : (d : Dart) → way m′ d ≡ way m d
   pub departures : (n : ℕ) → departures m′ n ≡ departures m n
 
-relinks : (m m′ : Map) (l r : Edge → Dart) → m′ .nodes ≡ m .nodes → m′ .faces ≡ m .faces → m′ .edges ≡ map (λ e. withLinks (l e) (r e) e) (m .edges) → Relinked m m′
+-- rows alike but for their links
+pub relinks : (m m′ : Map) (l r : Edge → Dart) → m′ .nodes ≡ m .nodes → m′ .faces ≡ m .faces
+    → m′ .edges ≡ map (λ e. withLinks (l e) (r e) e) (m .edges) → Relinked m m′
 relinks m m′ l r N F E = record {
   nodes = N;
   faces = F;

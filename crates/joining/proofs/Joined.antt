@@ -16,7 +16,8 @@ use Rattle.map.specs.declared.Answer.{Answer}
 use Rattle.map.specs.Rows.{Lent, emptyMap, mapOf, lentOf}
 use Rattle.map.specs.Reasons.{Reasons, firstReason}
 use Rattle.map.specs.Ticket.{Outcome, lentReasons, refused, ticket}
-use Rattle.map.specs.Grow.{after, grow}
+use Rattle.map.specs.Grow.{Grown, after, grow}
+use Rattle.map.proofs.Facts.{after-append}
 use Rattle.map.proofs.Reasons.{first-hit, first-miss, first-none, first-append, first-after}
 use Rattle.grown.specs.Claims.{GrownMap}
 use Rattle.grown.proofs.Grows.{grows}
@@ -141,16 +142,10 @@ joined-answer l second =
 
 -- ---- a grown sheet and any other
 
--- tickets after tickets
-after-append : (l : Lent) (ts us : List (List ℤ)) → after l (ts ++ us) .lent ≡ after (after l ts .lent) us .lent
-unfolding after
-after-append l [] us = refl
-after-append l (t ∷ ts) us = after-append (ticket l t .lent) ts us
-
 pub joined-grown : JoinedGrown
 unfolding grow
 joined-grown s ts second = joined-after (grow s ts .lent) second
-    ∙ sym (after-append (lentOf s emptyMap) ts (joinTickets (grow s ts .lent) second))
+    ∙ sym (ap (λ (g : Grown). g .lent) (after-append (lentOf s emptyMap) ts (joinTickets (grow s ts .lent) second)))
 
 pub joined-map : JoinedMap
 joined-map s h ts second =

@@ -1,52 +1,42 @@
 -- The tickets of a join keep counts, ranges and zero rows, on a first sheet in form as on a grown one
 -- (specs/Claims.antt). Assumes nothing.
-use mathlib.Core.Path.{_≡_, refl, sym, _∙_, subst}
+use mathlib.Core.Path.{_≡_, refl, sym, subst}
 use mathlib.Core.Bool.{Bool, true, false, cond, not}
 use mathlib.Core.List.{List, [], _∷_, _++_, map, List·Memᴰ, List·Memᴰ·append-cases, List·Memᴰ·eq-of-singleton}
-use mathlib.Core.List.{Memᴰ·map, Memᴰ·of-map, Memᴰ·cast}
+use mathlib.Core.List.{Memᴰ·map, Memᴰ·of-map}
 use mathlib.Core.Logic.{inl, inr, _≢_}
 use mathlib.Core.Option.{Option, none, some}
-use Prim.Native.Nat.{ℕ, zero, suc, _*_, _%_, _≤_}
+use Prim.Native.Nat.{ℕ, zero, suc, _%_, _≤_}
 use native.Mathlib.Omega.{arith}
 use borrow.Author.Tests.{not-false}
 use lib.Dec.{lit<}
-use lib.IntN.{ℤ, pos, negsuc, natAbs}
-use lib.ListN.{length, length-map, take, drop}
-use lib.Signed.{leZ, nonNeg}
+use lib.IntN.{ℤ, pos, negsuc}
+use lib.ListN.{length, length-map, take}
 use Rattle.lists.specs.Tests.{same}
-use Rattle.lists.specs.Scans.{all, firstOr}
 use Rattle.lists.specs.Members.{All}
 use Rattle.lists.proofs.Bools.{and-true, cond-has}
-use Rattle.lists.proofs.Members.{all-of}
 use Rattle.lists.proofs.Appends.{each-append}
 use Rattle.plane.specs.declared.Point.{Point}
-use Rattle.plane.specs.Points.{InRange, samePoint}
-use Rattle.plane.specs.Segments.{onSegment}
-use Rattle.plane.proofs.Laws.{samePoint-true}
-use Rattle.curves.specs.Curves.{Curve, points, pointsOf, point, through, curveOf, lastPoint, coordinate, coordinates}
-use Rattle.curves.specs.Curves.{maxPoints}
-use Rattle.curves.specs.Tests.{onCurve, neighboursDiffer}
-use Rattle.curves.specs.Edits.{cutHere, cut, front, back}
-use Rattle.curves.proofs.Runs.{coordinate-le}
+use Rattle.plane.specs.Points.{InRange}
+use Rattle.curves.specs.Curves.{Curve, points, point, curveOf, lastPoint, coordinates}
+use Rattle.curves.specs.Tests.{onCurve}
+use Rattle.curves.specs.Edits.{front, back}
 use Rattle.geometry.specs.Meaning.{Some}
 use Rattle.geometry.proofs.Cutting.{cut-place}
 use Rattle.geometry.proofs.Theorems.{onCurve-iff}
-use Rattle.map.specs.Limits.{lastNumber}
-use Rattle.map.specs.Rows.{Node, Edge, Map, Lent, Sizes, cell, nodeOf, edgeOf, nodeRows, edgeRows, mapOf, sizesOf}
-use Rattle.map.specs.Rows.{whole, node, edge, hasNode, hasEdge, hasFace}
+use Rattle.map.specs.Rows.{Node, Edge, Map, Lent, Sizes, mapOf, sizesOf}
+use Rattle.map.specs.Rows.{whole, edge}
 use Rattle.map.specs.Tickets.{Ticket, AddIsoNode, ModEdgeSplit, AddEdgeModFace, read}
 use Rattle.map.specs.Reasons.{firstReason, reasons}
 use Rattle.map.specs.Ticket.{Outcome, lentReasons, unless, judged, carried, ticket}
 use Rattle.map.specs.Edits.{addIsoNode, split, addEdge}
-use Rattle.map.specs.Form.{within, isZero, nodeRanges, edgeRanges, ranged, curveFits, formed, inForm}
-use Rattle.map.proofs.Scans.{all-each}
-use Rattle.map.proofs.Laws.{formed-is, names}
-use Rattle.map.proofs.Linked.{edges-once}
-use Rattle.map.proofs.RoundTrip.{ranged-is, ranged-points, within-least, within-most}
+use Rattle.map.specs.Form.{ranged, formed, inForm}
+use Rattle.map.proofs.Laws.{formed-is}
+use Rattle.map.proofs.Linked.{edges-once, within-nodes}
+use Rattle.map.proofs.RoundTrip.{Stored, ranged-is, ranged-nodes, ranged-curves}
 use Rattle.map.proofs.Reasons.{first-zero}
 use Rattle.grown.proofs.Reasons.{Room, Supply, AddNode, Split, AddEdge, add-node, split-mod, add-mod}
 use Rattle.grown.proofs.Readings.{edge-row}
-use Rattle.grown.proofs.RowChanges.{nodeNumber, node-row}
 use Rattle.grown.proofs.Numbers.{outlineOf, RankedMap, numbered-ranked}
 use Rattle.grown.proofs.NumbersAdd.{add-edge-ranked}
 use Rattle.grown.proofs.Sizes.{Taken, add-node-taken, split-taken, add-edge-taken}
@@ -54,98 +44,37 @@ use Rattle.grown.proofs.CurvesSurvey.{Line, Place, lineOf, placeOf, lines, plac
 use Rattle.grown.proofs.CurvesRows.{Becomes, addIsoNode-becomes, addEdge-becomes}
 use Rattle.grown.proofs.CurvesCut.{firstHalf}
 use Rattle.grown.proofs.CurvesHalves.{replaced, split-mod-becomes}
-use Rattle.grown.proofs.LawfulSplit.{off-nodes}
+use Rattle.grown.proofs.CurvesKept.{each-halves}
+use Rattle.grown.proofs.LawfulForm.{formed-anchored}
+use Rattle.grown.proofs.LawfulSplit.{off-ends}
 use Rattle.grown.proofs.LawfulCurves.{halves-few}
+use Rattle.grown.proofs.Ranges.{NextInRange, next-in-range, Tabled, tabled-ranged, some-face}
 use Rattle.joining.specs.Join.{nodeThere, edgeThere, placing, unlessServed, nodeTicket, serving, edgeExists}
 use Rattle.joining.specs.Join.{edgeTicket, Entry, entries, enter, unlessReason, enterAll}
 use Rattle.joining.specs.Claims.{JoinRanged}
-use Rattle.joining.proofs.Tables.{Drawable, Next, Tabled, tabled-ranged}
-
--- ---- rows in range are read in range
-
-points-in : (q : List ℤ) → all coordinate q ≡ true → All InRange (pointsOf q)
-points-in [] h = tt
-points-in (x ∷ []) h = tt
-points-in (x ∷ y ∷ q) h =
-    let h₁ = and-true (coordinate x) (all coordinate (y ∷ q)) h in
-    let h₂ = and-true (coordinate y) (all coordinate q) (h₁ .1) in
-    (record { x = coordinate-le x (h₁ .0); y = coordinate-le y (h₂ .0) }, points-in q (h₂ .1))
-
-through-in : (ps : List Point) → All InRange ps → All InRange (points (through ps))
-through-in [] h = (record { x = omega arith; y = omega arith }, tt)
-through-in (p ∷ ps) h = h
-
-node-point : (r : List ℤ) → nodeRanges r ≡ true → InRange (nodeOf r .at)
-unfolding nodeOf
-node-point r h =
-    let h₁ = and-true _ (leZ (negsuc 0) (cell r 3)) h in
-    let h₂ = and-true _ (coordinate (cell r 2)) (h₁ .0) in
-    let h₃ = and-true (nonNeg (cell r 0)) (coordinate (cell r 1)) (h₂ .0) in
-    record { x = coordinate-le (cell r 1) (h₃ .1); y = coordinate-le (cell r 2) (h₂ .1) }
-
-edge-points : (r : List ℤ) → edgeRanges r ≡ true → All InRange (points (edgeOf r .curve))
-unfolding edgeOf curveOf
-edge-points r h =
-    let q = take (2 * natAbs (cell r 7)) (drop 8 r) in
-    let h₁ = and-true _ (all isZero (drop (2 * natAbs (cell r 7)) (drop 8 r))) h in
-    let h₂ = and-true _ (all coordinate q) (h₁ .0) in
-    let h₃ = and-true (all nonNeg (cell r 0 ∷ cell r 1 ∷ cell r 2 ∷ cell r 5 ∷ cell r 6 ∷ []))
-    (within 2 maxPoints (cell r 7)) (h₂ .0) in
-    through-in (pointsOf q) (points-in q (h₂ .1))
-
-module _ (l : Lent) (r : ranged l ≡ true) where
-  node-in : (n : Node) → List·Memᴰ n (mapOf l .nodes) → InRange (n .at)
-  unfolding mapOf
-  node-in n k =
-      let row = Memᴰ·of-map nodeOf (nodeRows l) k in
-      subst (λ (n : Node). InRange (n .at)) (row .2)
-      (node-point (row .0) (all-each nodeRanges (nodeRows l) (ranged-is l r .node-rows) (row .0) (row .1)))
-
-  edge-in : (e : Edge) → List·Memᴰ e (mapOf l .edges) → Drawable (e .curve)
-  unfolding mapOf
-  edge-in e k =
-      let row = Memᴰ·of-map edgeOf (edgeRows l) k in
-      let n = ranged-points l r e k in
-      record {
-        least = n .least;
-        most = n .most;
-        in-range = subst (λ (e : Edge). All InRange (points (e .curve))) (row .2)
-            (edge-points (row .0) (all-each edgeRanges (edgeRows l) (ranged-is l r .edge-rows) (row .0) (row .1)));
-      }
 
 -- ---- a curve cut at a point inside
-
-cut-in : (R : Point → Type 0) (m a : Point) (r : List Point) → R m → All R r
-    → All R (cut m a r .front) × All R (cut m a r .back)
-cut-in R m a [] k h = (tt, tt)
-cut-in R m a (b ∷ r) k h = go (onSegment m a b) (samePoint m b) (cut-in R m b r k (h .1))
-  where
-    go : (p q : Bool) → All R (cut m b r .front) × All R (cut m b r .back)
-        → All R (cutHere p q m b r (cut m b r) .front) × All R (cutHere p q m b r (cut m b r) .back)
-    go true true f = ((h .0, tt), h .1)
-    go true false f = ((k, tt), h)
-    go false q f = ((h .0, f .0), f .1)
 
 some-two : (a : Point) (r : List Point) → Some r → 2 ≤ length (a ∷ r)
 some-two a [] h = absurd h
 some-two a (b ∷ r) h = omega arith
 
-halves-in : (p : Point) (c : Curve) → c .first ≢ p → lastPoint c ≢ p → onCurve c p ≡ true → InRange p → Drawable c
-    → Drawable (front p c) × Drawable (back p c)
+halves-in : (p : Point) (c : Curve) → c .first ≢ p → lastPoint c ≢ p → onCurve c p ≡ true → InRange p → Stored c
+    → Stored (front p c) × Stored (back p c)
 halves-in p c n l o i d =
     let place = cut-place p (c .first) (c .rest) n l (onCurve-iff c p .0 o) in
     let few = halves-few p c n l o in
     let most = d .most in
-    let parts = cut-in InRange p (c .first) (c .rest) i (d .in-range .1) in (
+    let parts = each-halves InRange p c i (d .in-range) in (
       record {
         least = some-two (c .first) (front p c .rest) (place .some-front);
         most = omega (arith, few .0, most);
-        in-range = (d .in-range .0, parts .0);
+        in-range = parts .0;
       },
       record {
         least = some-two p (back p c .rest) (place .some-back);
         most = omega (arith, few .1, most);
-        in-range = (i, parts .1);
+        in-range = parts .1;
       },
     )
 
@@ -159,10 +88,6 @@ more R xs h k y j = elim (List·Memᴰ·append-cases xs j) [
   | inr i ↦ subst R (sym (List·Memᴰ·eq-of-singleton i)) k
 ]
 
-zero-first : (fs : List ℕ) → firstOr 1 fs ≡ 0 → 1 ≤ length fs
-zero-first [] e = absurd (omega arith)
-zero-first (f ∷ fs) e = omega arith
-
 node-faces : (p : Point) (m : Map) → addIsoNode p m .faces ≡ m .faces
 unfolding addIsoNode
 node-faces p m = refl
@@ -173,7 +98,7 @@ split-faces e p m = refl
 
 -- a line and a place in range
 abbrev Drawn : Line → Type 0
-Drawn k = Drawable (k .curve)
+Drawn k = Stored (k .curve)
 
 abbrev Plotted : Place → Type 0
 Plotted p = InRange (p .at)
@@ -185,26 +110,17 @@ module _ (l : Lent) (r : ranged l ≡ true) (f : formed (mapOf l) ≡ true) wher
   abbrev s : Sizes
   s = sizesOf l
 
-  next-node : Next (m .nextNode)
+  next-node : NextInRange (m .nextNode)
   unfolding mapOf
-  next-node =
-      let h = ranged-is l r .next-node in
-      let z = l .head .«next_node» in
-      record { least = within-least 1 (suc lastNumber) z h; most = within-most 1 (suc lastNumber) z h }
+  next-node = next-in-range (l .head .«next_node») (ranged-is l r .next-node)
 
-  next-edge : Next (m .nextEdge)
+  next-edge : NextInRange (m .nextEdge)
   unfolding mapOf
-  next-edge =
-      let h = ranged-is l r .next-edge in
-      let z = l .head .«next_edge» in
-      record { least = within-least 1 (suc lastNumber) z h; most = within-most 1 (suc lastNumber) z h }
+  next-edge = next-in-range (l .head .«next_edge») (ranged-is l r .next-edge)
 
-  next-face : Next (m .nextFace)
+  next-face : NextInRange (m .nextFace)
   unfolding mapOf
-  next-face =
-      let h = ranged-is l r .next-face in
-      let z = l .head .«next_face» in
-      record { least = within-least 1 (suc lastNumber) z h; most = within-most 1 (suc lastNumber) z h }
+  next-face = next-in-range (l .head .«next_face») (ranged-is l r .next-face)
 
   ranks : RankedMap m
   ranks =
@@ -221,18 +137,15 @@ module _ (l : Lent) (r : ranged l ≡ true) (f : formed (mapOf l) ≡ true) wher
         next-face = next-face .most;
       })
 
-  some-face : 1 ≤ length (m .faces)
-  some-face = zero-first (m .faces) (ranks .zero)
-
   old-line : (k : Line) → List·Memᴰ k (lines m) → Drawn k
   old-line k j =
       let e = Memᴰ·of-map lineOf (m .edges) j in
-      subst Drawn (e .2) (edge-in l r (e .0) (e .1))
+      subst Drawn (e .2) (ranged-curves l r (e .0) (e .1))
 
   old-place : (p : Place) → List·Memᴰ p (places m) → Plotted p
   old-place p j =
       let n = Memᴰ·of-map placeOf (m .nodes) j in
-      subst Plotted (n .2) (node-in l r (n .0) (n .1))
+      subst Plotted (n .2) (ranged-nodes l r (n .0) (n .1))
 
   -- a map of such lines and places that takes no more than there is
   tabled : (m′ : Map) {ls : List Line} {ps : List Place} {a b c x y z : ℕ} → Becomes m′ ls ps
@@ -270,47 +183,24 @@ module _ (l : Lent) (r : ranged l ≡ true) (f : formed (mapOf l) ≡ true) wher
   node-tabled : (p : Point) → AddNode s m p → Tabled s (addIsoNode p m)
   node-tabled p h =
       tabled (addIsoNode p m) (addIsoNode-becomes p m) (add-node-taken p m) (h .room) (h .supply)
-      (rw (node-faces p m) some-face) old-line
+      (rw (node-faces p m) (some-face (m .faces) (ranks .zero))) old-line
       (more Plotted (places m) old-place (h .in-range))
 
   split-tabled : (e : ℕ) (p : Point) → Split 1 s m e p → Tabled s (split true e p m)
   split-tabled e p h =
       tabled (split true e p m) (split-mod-becomes e p m) (split-taken true e p m (h .has)) (h .room) (h .supply)
-      (rw (split-faces e p m) some-face)
+      (rw (split-faces e p m) (some-face (m .faces) (ranks .zero)))
       (more Drawn _ kept (halves .1))
       (more Plotted (places m) old-place (h .in-range))
     where
       here : List·Memᴰ (edge m e) (m .edges)
       here = edge-row m e (h .has) .0
 
-      fits : (samePoint (edge m e .curve .first) (node m (edge m e .start) .at) ≡ true)
-          × (samePoint (lastPoint (edge m e .curve)) (node m (edge m e .end) .at) ≡ true)
-      fits =
-          let h₁ = and-true _ (neighboursDiffer (edge m e .curve))
-          (all-each (curveFits m) (m .edges) (formed-is m f .curves) (edge m e) here) in
-          and-true (samePoint (edge m e .curve .first) (node m (edge m e .start) .at))
-          (samePoint (lastPoint (edge m e .curve)) (node m (edge m e .end) .at)) (h₁ .0)
+      off : (edge m e .curve .first ≢ p) × (lastPoint (edge m e .curve) ≢ p)
+      off = off-ends m p (h .free) (within-nodes m f) here (formed-anchored m f (edge m e) here)
 
-      named : (hasNode m (edge m e .start) ≡ true) × (hasNode m (edge m e .end) ≡ true)
-      named =
-          let row = edge m e in
-          let h₁ = and-true _ (hasFace m (row .right)) (names m f row here) in
-          let h₂ = and-true _ (hasFace m (row .left)) (h₁ .0) in
-          let h₃ = and-true _ (hasEdge m (row .nextRight .edge)) (h₂ .0) in
-          let h₄ = and-true _ (hasEdge m (row .nextLeft .edge)) (h₃ .0) in
-          and-true (hasNode m (row .start)) (hasNode m (row .end)) (h₄ .0)
-
-      off : (n : ℕ) → hasNode m n ≡ true → node m n .at ≢ p
-      off n k =
-          let there = node-row m n k in
-          off-nodes m p (h .free) n (Memᴰ·cast (sym (there .1)) (Memᴰ·map nodeNumber (there .0)))
-
-      halves : Drawable (front p (edge m e .curve)) × Drawable (back p (edge m e .curve))
-      halves =
-          halves-in p (edge m e .curve)
-          (λ q. off (edge m e .start) (named .0) (sym (samePoint-true (edge m e .curve .first) _ (fits .0)) ∙ q))
-          (λ q. off (edge m e .end) (named .1) (sym (samePoint-true (lastPoint (edge m e .curve)) _ (fits .1)) ∙ q))
-          (h .on) (h .in-range) (edge-in l r (edge m e) here)
+      halves : Stored (front p (edge m e .curve)) × Stored (back p (edge m e .curve))
+      halves = halves-in p (edge m e .curve) (off .0) (off .1) (h .on) (h .in-range) (ranged-curves l r (edge m e) here)
 
       kept : (k : Line) → List·Memᴰ k (map (replaced e (firstHalf (lineOf (edge m e)) (m .nextNode) e p)) (lines m))
           → Drawn k
@@ -323,15 +213,11 @@ module _ (l : Lent) (r : ranged l ≡ true) (f : formed (mapOf l) ≡ true) wher
   edge-tabled u v c h =
       tabled (addEdge false u v c m) (addEdge-becomes false u v c m)
       (add-edge-taken false u v c m (h .has-start) ranks) (h .room) (h .supply)
-      (zero-first (addEdge false u v c m .faces) (add-edge-ranked false u v c m (h .has-start) ranks .zero))
+      (some-face (addEdge false u v c m .faces) (add-edge-ranked false u v c m (h .has-start) ranks .zero))
       (more Drawn (lines m) old-line sent) old-place
     where
-      sent : Drawable c
-      sent = record {
-        least = h .sent .least;
-        most = h .sent .most;
-        in-range = all-of (points c) (h .sent .in-range);
-      }
+      sent : Stored c
+      sent = record { least = h .sent .least; most = h .sent .most; in-range = h .sent .in-range }
 
 -- ---- a ticket of these kinds, on any sheet in range
 

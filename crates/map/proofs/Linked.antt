@@ -21,7 +21,7 @@ use Rattle.map.specs.Rows.{Node, Edge, Map, edge, hasNode, hasEdge, hasF
 use Rattle.map.specs.Darts.{arcs, directed, leaves, arrives, next, bears}
 use Rattle.map.specs.Form.{linksOnce, linksMeet, ringsBearOne, formed}
 use Rattle.map.proofs.Scans.{all-each}
-use Rattle.map.proofs.Laws.{Formed, formed-is, edge-found, node-there, names}
+use Rattle.map.proofs.Laws.{Formed, formed-is, edge-row, node-there, names}
 
 -- the arc of a row
 abbrev pub arcOf : Edge → Arc
@@ -31,6 +31,22 @@ module _ (m : Map) where
   -- the numbers of the arcs are those of the rows
   pub nums-rows : nums (arcs m) ≡ map (λ e. e .number) (m .edges)
   nums-rows = map-map (λ (a : Arc). a .num) arcOf (m .edges)
+
+  -- where a directed edge leaves, by its arc
+  module _ (once : Distinct (nums (arcs m))) where
+    pub starts : (a : Arc) → List·Memᴰ a (arcs m) → leaves m (fwd (a .num)) ≡ a .from
+    unfolding leaves
+    starts a k =
+        let r = Memᴰ·of-map arcOf (m .edges) k in
+        subst (λ (a : Arc). edge m (a .num) .start ≡ a .from) (r .2)
+        (ap (λ (e : Edge). e .start) (edge-row m (subst Distinct nums-rows once) (r .0) (r .1)))
+
+    pub ends : (a : Arc) → List·Memᴰ a (arcs m) → leaves m (bwd (a .num)) ≡ a .to
+    unfolding leaves
+    ends a k =
+        let r = Memᴰ·of-map arcOf (m .edges) k in
+        subst (λ (a : Arc). edge m (a .num) .end ≡ a .to) (r .2)
+        (ap (λ (e : Edge). e .end) (edge-row m (subst Distinct nums-rows once) (r .0) (r .1)))
 
   -- links that name every directed edge exactly once
   pub links-perm : Distinct (nums (arcs m)) → linksOnce m ≡ true → List·Permᴰ (map (next m) (directed m)) (directed m)
@@ -61,18 +77,6 @@ module _ (m : Map) (h : formed m ≡ true) where
   pub links-once : List·Permᴰ (map (next m) (directed m)) (directed m)
   links-once = links-perm m edges-once (form .once)
 
-  pub starts : (a : Arc) → List·Memᴰ a (arcs m) → leaves m (fwd (a .num)) ≡ a .from
-  unfolding leaves
-  starts a k =
-      let r = Memᴰ·of-map arcOf (m .edges) k in
-      subst (λ (a : Arc). edge m (a .num) .start ≡ a .from) (r .2) (ap (λ (e : Edge). e .start) (edge-found m h (r .0) (r .1)))
-
-  pub ends : (a : Arc) → List·Memᴰ a (arcs m) → leaves m (bwd (a .num)) ≡ a .to
-  unfolding leaves
-  ends a k =
-      let r = Memᴰ·of-map arcOf (m .edges) k in
-      subst (λ (a : Arc). edge m (a .num) .end ≡ a .to) (r .2) (ap (λ (e : Edge). e .end) (edge-found m h (r .0) (r .1)))
-
   pub meets : (d : Dart) → List·Memᴰ d (directed m) → leaves m (next m d) ≡ arrives m d
   unfolding linksMeet
   meets d k = same-true _ _ (all-each (λ d. same (leaves m (next m d)) (arrives m d)) (directed m) (form .meet) d k)
@@ -81,7 +85,13 @@ module _ (m : Map) (h : formed m ≡ true) where
   keeps = links-keep m (form .rings)
 
   pub linked : Linked (arcs m) (leaves m) (next m) (bears m)
-  linked = record { starts = starts; ends = ends; perm = links-once; meets = meets; keeps = keeps }
+  linked = record {
+    starts = starts m edges-once;
+    ends = ends m edges-once;
+    perm = links-once;
+    meets = meets;
+    keeps = keeps;
+  }
 
   -- all directed edges of a ring bear one face
   pub rings-bear-one : (d d′ : Dart) → List·Memᴰ d (directed m) → Leads (next m) d d′ → bears m d′ ≡ bears m d

@@ -1,32 +1,28 @@
 -- A mended map is in form, where departures differ in direction and a mended ring bears one face: by the law the links
 -- about a node make one turn, so they name each departure once. Assumes nothing.
 use mathlib.Core.Path.{_≡_, refl, sym, ap, subst, fun-ext, _∙_}
-use mathlib.Core.Logic.{_⊎_, inl, inr}
-use mathlib.Core.Bool.{Bool, true, false, Bool·beq, cond, not, _&&_, true≢false}
-use mathlib.Core.List.{List, [], _∷_, map, map-map, List·Memᴰ, List·Memᴰ·cases-cons, List·Memᴰ·not-nil, Memᴰ·map}
-use mathlib.Core.List.{Memᴰ·of-map, Memᴰ·cast, List·Permᴰ, Permᴰ·symm}
+use mathlib.Core.Bool.{Bool, true, false, Bool·beq, cond, _&&_}
+use mathlib.Core.List.{List, map, map-map, List·Memᴰ, Memᴰ·map}
+use mathlib.Core.List.{Memᴰ·cast, List·Permᴰ, Permᴰ·symm}
 use mathlib.Core.Option.{Option, none, some}
 use Prim.Native.Nat.{ℕ}
 use native.Mathlib.Omega.{arith}
-use borrow.Author.Tests.{not-true}
 use lib.ListN.{length, length-map}
 use Rattle.lists.specs.Tests.{same}
-use Rattle.lists.specs.Scans.{any, all, firstOr, isSome}
+use Rattle.lists.specs.Scans.{all, firstOr, isSome}
 use Rattle.lists.specs.Members.{Distinct}
 use Rattle.lists.proofs.Bools.{same-eq, and-true, and-is}
 use Rattle.lists.proofs.Maps.{all-mapped}
 use Rattle.lists.proofs.Perms.{perm-of-distinct}
-use Rattle.plane.specs.Directions.{Way, sameWay}
-use Rattle.planar.specs.Map.{Arc, Dart, fwd, bwd, rev, Linked}
+use Rattle.plane.specs.Directions.{Way}
+use Rattle.planar.specs.Map.{Arc, Dart, rev, Linked}
 use Rattle.planar.specs.Pieces.{nums}
 use Rattle.planar.specs.Rings.{sameDart}
 use Rattle.planar.proofs.Cycles.{fwd-in, bwd-in}
 use Rattle.planar.proofs.Hooks.{distinct-darts}
 use Rattle.planar.proofs.Rings.{rev-in}
 use Rattle.planar.proofs.Turns.{rev-rev}
-use Rattle.rotation.specs.Ways.{Alike}
-use Rattle.rotation.specs.Law.{Differ, Apart}
-use Rattle.rotation.proofs.Ways.{alike-is, alike-sym}
+use Rattle.rotation.specs.Law.{Apart}
 use Rattle.rotation.proofs.Node.{lawful-in}
 use Rattle.rotation.proofs.Ties.{tells}
 use Rattle.rotation.proofs.Whole.{law-onto}
@@ -36,12 +32,13 @@ use Rattle.map.specs.Form.{numbered, numbers, inFace, curveFits, waysDiffer, de
 use Rattle.map.specs.Form.{linksMeet, ringsBearOne, formed}
 use Rattle.map.specs.Links.{clockwise}
 use Rattle.map.proofs.Laws.{numbers-are}
-use Rattle.map.proofs.Linked.{arcOf, nums-rows, links-keep}
-use Rattle.map.proofs.Scans.{all-each, each-all, none-has}
-use Rattle.grown.proofs.Readings.{leaves-row, edge-row, edge-at, arc-at, dart-has, departs, departing}
+use Rattle.map.proofs.Linked.{nums-rows, starts, ends, links-keep}
+use Rattle.map.proofs.Scans.{all-each, each-all}
+use Rattle.grown.proofs.Readings.{leaves-row, edge-row, arc-at, dart-has, departs, departing}
 use Rattle.grown.proofs.RowChanges.{node-row}
 use Rattle.grown.proofs.EdgesLaw.{from-in}
 use Rattle.grown.proofs.Forms.{linked-once}
+use Rattle.grown.proofs.LawfulForm.{differ-says}
 use Rattle.mending.specs.Mend.{sidesNamed, mended}
 use Rattle.mending.specs.Claims.{linksNamed}
 use Rattle.mending.proofs.Sketched.{Sketch, parts-formed}
@@ -91,45 +88,7 @@ differ-now m h =
     ∙ ap (λ (w : Dart → Way). all (λ n. waysDiffer (map w (departures m (n .number)))) (m .nodes))
     (fun-ext (mended-relinked m .way)) ∙ h
 
--- ---- departures that differ in direction
-
--- what differs by the test
-differ-says : {D : Type 0} (way : D → Way) (ds : List D) → waysDiffer (map way ds) ≡ true → Differ way ds
-differ-says way [] h d c i j e = absurd (List·Memᴰ·not-nil i)
-differ-says {D} way (x ∷ ds) h d c i j e =
-    go (differ-says way ds (k .1) d c) (List·Memᴰ·cases-cons i) (List·Memᴰ·cases-cons j)
-  where
-    k : (not (any (sameWay (way x)) (map way ds)) ≡ true) × (waysDiffer (map way ds) ≡ true)
-    k = and-true (not (any (sameWay (way x)) (map way ds))) (waysDiffer (map way ds)) h
-
-    free : (y : D) → List·Memᴰ y ds → Alike (way x) (way y) → ⊥
-    free y m a = true≢false (sym (alike-is (way x) (way y) a)
-        ∙ none-has (sameWay (way x)) (map way ds) (not-true (any (sameWay (way x)) (map way ds)) (k .0)) (way y)
-        (Memᴰ·map way m))
-
-    go : (List·Memᴰ d ds → List·Memᴰ c ds → Alike (way d) (way c) → d ≡ c)
-        → (d ≡ x) ⊎ List·Memᴰ d ds → (c ≡ x) ⊎ List·Memᴰ c ds → d ≡ c
-    go ih (inl p) (inl q) = p ∙ sym q
-    go ih (inl p) (inr q) = absurd (free c q (subst (λ (z : D). Alike (way z) (way c)) p e))
-    go ih (inr p) (inl q) =
-        absurd (free d p (alike-sym (way d) (way x) (subst (λ (z : D). Alike (way d) (way z)) q e)))
-    go ih (inr p) (inr q) = ih p q e
-
 -- ---- the links
-
--- where a directed edge leaves, by its arc
-module _ (m : Map) (once : Distinct (nums (arcs m))) where
-  starts : (a : Arc) → List·Memᴰ a (arcs m) → leaves m (fwd (a .num)) ≡ a .from
-  starts a k =
-      let r = Memᴰ·of-map arcOf (m .edges) k in
-      subst (λ (a : Arc). leaves m (fwd (a .num)) ≡ a .from) (r .2)
-      (leaves-row m (fwd (r .0 .number)) ∙ ap (λ (e : Edge). e .start) (edge-at m once (r .1)))
-
-  ends : (a : Arc) → List·Memᴰ a (arcs m) → leaves m (bwd (a .num)) ≡ a .to
-  ends a k =
-      let r = Memᴰ·of-map arcOf (m .edges) k in
-      subst (λ (a : Arc). leaves m (bwd (a .num)) ≡ a .to) (r .2)
-      (leaves-row m (bwd (r .0 .number)) ∙ ap (λ (e : Edge). e .end) (edge-at m once (r .1)))
 
 module _ (m : Map) where
   -- clockwise from a departure, another of its node is met

@@ -26,6 +26,7 @@ use Rattle.map.specs.Form.{numbered, numbers, formed, ranged, inForm}
 use Rattle.map.specs.Reasons.{firstReason}
 use Rattle.map.specs.Ticket.{listUnless}
 use Rattle.map.proofs.Laws.{formed-is}
+use Rattle.grown.proofs.NumbersNodes.{zero-in as first-in}
 use Rattle.nesting.specs.Contents.{pieceOf, pieceRows, partCount, isIn, under, Line, lines, complete, contents}
 use Rattle.nesting.specs.Contents.{lineNumbers, contentsOf}
 use Rattle.nesting.specs.Claims.{Part, partOf, parts, Once, byRule, DepthEnough, ContentsExact, Exactly28}
@@ -101,16 +102,12 @@ module _ (m : Map) (zero-in : List·Memᴰ 0 (m .faces)) where
 module _ (m : Map) (h : formed m ≡ true) where
   pub zero-in : List·Memᴰ 0 (m .faces)
   unfolding numbers
-  zero-in = go (m .faces) (same-true (firstOr 1 (m .faces)) 0 (and-right rise (same (firstOr 1 (m .faces)) 0)
+  zero-in = first-in (m .faces) (same-true (firstOr 1 (m .faces)) 0 (and-right rise (same (firstOr 1 (m .faces)) 0)
       (formed-is m h .rising)))
     where
       rise : Bool
       rise = numbered 1 (m .nextNode) (map (λ n. n .number) (m .nodes))
           && numbered 1 (m .nextEdge) (map (λ e. e .number) (m .edges)) && numbered 0 (m .nextFace) (m .faces)
-
-      go : (fs : List ℕ) → firstOr 1 fs ≡ 0 → List·Memᴰ 0 fs
-      go [] e = absurd (omega arith)
-      go (f ∷ fs) e = List·Memᴰ·head (sym e)
 
   pub faces-once : Distinct (m .faces)
   faces-once = formed-is m h .numbers .faces .distinct

@@ -2,8 +2,8 @@
 -- in one counterclockwise order. Assumes nothing.
 use mathlib.Core.Path.{_≡_, refl, sym, ap, _∙_}
 use mathlib.Core.Logic.{_⊎_, inl, inr}
-use mathlib.Core.Bool.{Bool, true, false, true≢false}
-use Rattle.lists.proofs.Bools.{not-true}
+use mathlib.Core.Bool.{true, false, true≢false}
+use Rattle.lists.proofs.Bools.{not-true, agree}
 use Rattle.integers.specs.Order.{sgn}
 use Rattle.plane.specs.Directions.{Way, before, sameWay}
 use Rattle.rotation.specs.Ways.{Met, first, alike, last}
@@ -32,12 +32,6 @@ sameWay-sym v w e = alike-is w v (alike-sym v w (alike-says v w e))
 pub sameWay-trans : (u v w : Way) → sameWay u v ≡ true → sameWay v w ≡ true → sameWay u w ≡ true
 sameWay-trans u v w e f = alike-is u w (alike-trans u v w (alike-says u v e) (alike-says v w f))
 
--- two tests, each true where the other is
-agree : (a b : Bool) → (a ≡ true → b ≡ true) → (b ≡ true → a ≡ true) → a ≡ b
-agree true b f g = sym (f refl)
-agree false true f g = g refl
-agree false false f g = refl
-
 pub respects-left : (u v w : Way) → sameWay u v ≡ true → before u w ≡ before v w
 respects-left u v w e = agree (before u w) (before v w)
     (λ h. before-is v w (alike-before v u w (alike-says v u (sameWay-sym u v e)) (before-says u w h)))
@@ -48,9 +42,6 @@ respects-right u v w e = agree (before u v) (before u w)
     (λ h. before-is u w (before-alike u v w (before-says u v h) (alike-says v w e)))
     (λ h. before-is u v (before-alike u w v (before-says u w h) (alike-says w v (sameWay-sym v w e))))
 
--- so of the three cases of `total` there is just one
-pub not-before : (v w : Way) → sameWay v w ≡ true → before v w ≡ false
-not-before v w e = respects-left v w w e ∙ irreflexive w
-
+-- of two directions at most one is before the other
 pub not-after : (v w : Way) → before v w ≡ true → before w v ≡ false
 not-after v w e = not-true (before w v) (λ f. true≢false (sym (transitive v w v e f) ∙ irreflexive v))

@@ -66,9 +66,6 @@ pub signed-is : (p a b : Point) → signedBelow p (seg a b) ≡ one (isBelow p (
 unfolding signedBelow passesBelow
 signed-is p a b = go (decLe (a .x) (b .x)) (decLe (b .x) (a .x))
   where
-    sides : Bool → Bool → Segment → ℤ
-    sides l m t = cond (isBelow p t) (cond m (pos 1) (negsuc 0)) (pos 0)
-
     go : Dec (a .x ≤ b .x) → Dec (b .x ≤ a .x)
         → cond (isBelow p (ordered (seg a b))) (cond (ltb (a .x) (b .x)) (pos 1) (negsuc 0)) (pos 0)
         ≡ one (isBelow p (seg a b)) -ℤ one (isBelow p (seg b a))
