@@ -21,10 +21,10 @@ from .scratch import Case, Claim
 CRATES = ('certified',)
 HEADER = """use Rattle.map.specs.Rows.{Lent, mapOf}
 use Rattle.map.specs.Links.{obeysLaw}
-use Rattle.certified.specs.Certified.{certifies, certified, sumHolds, reaches, surveys}
+use Rattle.certified.specs.Certified.{certifies, certified, sumHolds, inPlane}
 
 abbrev parts : Lent → List Bool
-parts l = let m = mapOf l in obeysLaw m ∷ sumHolds m ∷ reaches m ∷ surveys m ∷ certified m ∷ []
+parts l = let m = mapOf l in obeysLaw m ∷ sumHolds m ∷ inPlane m ∷ certified m ∷ []
 """
 PARTS = ('law', 'sum', 'faces', 'drawing')
 REFUSALS = (0, 'form', *PARTS)
@@ -85,24 +85,26 @@ def surveys(m):
             and len(set(places)) == len(places))
 
 
-def drawn(t, h):
-    """Rows in use with curves that can be looked at, whatever else is out of form."""
+def readable(t, h):
+    """In form, or but for curve ends and the range of coordinates, so that each test can be read."""
     if not (pm.whole_tables(t, 0) and pm.counts_fit(t, h, 0) and pm.edge_rows_shaped(t, h, 0)):
         return False
     m = pm.decode(t, h, 0)
-    return not any(pm.equal_neighbours(e.points) for e in m.edges) and all(c >= 0 for p in points(m) for c in p)
+    return (pm.numbers_ok(m) and pm.named_rows_exist(m) and pm.named_edges_exist(m) and pm.links_ok(m)
+            and not any(pm.equal_neighbours(e.points) for e in m.edges) and pm.departures_differ(m)
+            and all(c >= 0 for p in points(m) for c in p))
 
 
 def call(t, h):
     sheet, formed = f'({antt.sheet(t, h)})', pm.whole_tables(t, 0) and pm.in_form(t, h)
-    parts = [f(pm.decode(t, h, 0)) for f in (lawful, sum_holds, reaches, surveys)] if formed else []
-    good = formed and all(parts)
-    claims = [Claim(f'certifies {sheet}', antt.truth(good), 'Bool')]
+    tests = [f(pm.decode(t, h, 0)) for f in (lawful, sum_holds, reaches, surveys)] if readable(t, h) else []
+    claims = [Claim(f'certifies {sheet}', antt.truth(formed and all(tests)), 'Bool')]
     if formed:
-        claims.append(Claim(f'parts {sheet}', antt.listed(map(antt.truth, [*parts, good])), 'List Bool'))
-    elif drawn(t, h):
-        claims.append(Claim(f'surveys (mapOf {sheet})', antt.truth(surveys(pm.decode(t, h, 0))), 'Bool'))
-    missed = [p for p, holds in zip(PARTS, parts) if not holds] if formed else ['form']
+        told = (*tests[:2], all(tests), all(tests))
+        claims.append(Claim(f'parts {sheet}', antt.listed(map(antt.truth, told)), 'List Bool'))
+    elif tests:
+        claims.append(Claim(f'inPlane (mapOf {sheet})', antt.truth(all(tests)), 'Bool'))
+    missed = [p for p, holds in zip(PARTS, tests) if not holds] + ['form'] * (not formed)
     return Case('call', lent.tables(t, h), tuple(claims), tuple(('certified', p) for p in missed or [0]))
 
 
