@@ -163,9 +163,11 @@ def unborne(rng, m, grid):
 
 
 def reborne(rng, m, grid):
-    """One ring bears another face."""
-    rings = pm.rings(m)
-    return pm.with_borne(m, rng.choice(rings), rng.choice(m.faces)) if rings else m
+    """One ring bears another face; mostly a face that nothing bears then goes."""
+    if not m.edges:
+        return m
+    m = pm.with_borne(m, rng.choice(pm.rings(m)), rng.choice(m.faces))
+    return lent.without_unborne(m) if rng.random() < 0.7 else m
 
 
 WAYS = (node_moved, on_one_point, inside, redrawn, redrawn, unborne, reborne, raw_gen.bend,
