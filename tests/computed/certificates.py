@@ -23,13 +23,8 @@ HEADER = """use Rattle.map.specs.Rows.{Lent, mapOf}
 use Rattle.map.specs.Links.{obeysLaw}
 use Rattle.certified.specs.Certified.{certifies, certified, curvesClear, placesDiffer, sumHolds, facesReached}
 
-abbrev drawing : Lent → List Bool
-drawing l = curvesClear (mapOf l) ∷ placesDiffer (mapOf l) ∷ []
-
 abbrev parts : Lent → List Bool
-parts l =
-    let m = mapOf l in
-    obeysLaw m ∷ curvesClear m ∷ placesDiffer m ∷ sumHolds m ∷ facesReached m ∷ certified m ∷ []
+parts l = let m = mapOf l in obeysLaw m ∷ curvesClear m ∷ placesDiffer m ∷ sumHolds m ∷ facesReached m ∷ []
 """
 PARTS = ('law', 'curves', 'places', 'sum', 'faces')
 REFUSALS = (0, 'form', *PARTS)
@@ -97,28 +92,28 @@ def places_differ(m):
     return in_range(places(m)) and len(set(places(m))) == len(m.nodes)
 
 
-def drawn(t, h):
-    """Rows in use with curves that can be looked at, whatever else is out of form."""
+def readable(t, h):
+    """In form, or but for curve ends and the range of coordinates, so that each test can be read."""
     if not (pm.whole_tables(t, 0) and pm.counts_fit(t, h, 0) and pm.edge_rows_shaped(t, h, 0)):
         return False
     m = pm.decode(t, h, 0)
     points = places(m) + [p for e in m.edges for p in e.points]
-    return not any(pm.equal_neighbours(e.points) for e in m.edges) and all(c >= 0 for p in points for c in p)
+    return (pm.numbers_ok(m) and pm.named_rows_exist(m) and pm.named_edges_exist(m) and pm.links_ok(m)
+            and not any(pm.equal_neighbours(e.points) for e in m.edges) and pm.departures_differ(m)
+            and all(c >= 0 for p in points for c in p))
 
 
 def call(t, h):
     sheet, formed = f'({antt.sheet(t, h)})', pm.whole_tables(t, 0) and pm.in_form(t, h)
-    m = pm.decode(t, h, 0) if formed or drawn(t, h) else None
     tests = lawful, curves_clear, places_differ, sum_holds, faces_reached
-    parts = [test(m) for test in tests] if formed else []
-    good = formed and all(parts)
-    claims = [Claim(f'certifies {sheet}', antt.truth(good), 'Bool')]
+    parts = [test(pm.decode(t, h, 0)) for test in tests] if readable(t, h) else []
+    good = antt.truth(formed and all(parts))
+    claims = [Claim(f'certifies {sheet}', good, 'Bool')]
+    if parts:
+        claims.append(Claim(f'parts {sheet}', antt.listed(map(antt.truth, parts)), 'List Bool'))
     if formed:
-        claims.append(Claim(f'parts {sheet}', antt.listed(map(antt.truth, [*parts, good])), 'List Bool'))
-    elif m:
-        seen = antt.listed(map(antt.truth, (curves_clear(m), places_differ(m))))
-        claims.append(Claim(f'drawing {sheet}', seen, 'List Bool'))
-    missed = [p for p, holds in zip(PARTS, parts) if not holds] if formed else ['form']
+        claims.append(Claim(f'certified (mapOf {sheet})', good, 'Bool'))
+    missed = [p for p, holds in zip(PARTS, parts) if not holds] + ['form'] * (not formed)
     return Case('call', lent.tables(t, h), tuple(claims), tuple(('certified', p) for p in missed or [0]))
 
 
@@ -177,9 +172,11 @@ def unborne(rng, m, grid):
 
 
 def reborne(rng, m, grid):
-    """One ring bears another face."""
-    rings = pm.rings(m)
-    return pm.with_borne(m, rng.choice(rings), rng.choice(m.faces)) if rings else m
+    """One ring bears another face; mostly a face that nothing bears then goes."""
+    if not m.edges:
+        return m
+    m = pm.with_borne(m, rng.choice(pm.rings(m)), rng.choice(m.faces))
+    return lent.without_unborne(m) if rng.random() < 0.7 else m
 
 
 WAYS = (node_moved, on_one_point, inside, redrawn, redrawn, unborne, reborne, raw_gen.bend,

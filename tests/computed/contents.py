@@ -44,12 +44,6 @@ def reborne(rng, m):
     return m
 
 
-def without_unborne(m):
-    """Without the faces that nothing bears."""
-    borne = {pm.borne(m, d) for d in pm.directed_edges(m)} | {n.face for n in m.nodes} | {0}
-    return replace(m, faces=tuple(f for f in m.faces if f in borne))
-
-
 def some(rng):
     m = grown.grow(rng, rng.choice([10, 30, 60]), 0, mix=rng.choice(['islands', 'islands', 'islands', 'faces', 'even']))
     c = rng.random()
@@ -58,7 +52,7 @@ def some(rng):
     elif c < 0.4:
         m = grown.distort(rng, m, (0, 0, 9))
     if 0.15 < c < 0.35:
-        m = without_unborne(m)
+        m = lent.without_unborne(m)
     t, h = grown.exact(m, 0, more=rng.choice([0, 1]))
     if rng.random() < 0.06:
         t, h = lent.spoiled(rng, t, h)

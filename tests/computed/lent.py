@@ -1,6 +1,6 @@
 """Maps in lent tables that are not grown, and how they are printed."""
 
-from dataclasses import astuple
+from dataclasses import astuple, replace
 
 import fuzz_tables as ft
 import grown
@@ -45,3 +45,9 @@ def straightened(rng, m):
         if len(e.points) < pm.MAX_POINTS and pm.straight_between(p, (a, b), (c, d)) and rng.random() < 0.5:
             m = pm.with_curve(m, e.number, (e.points[0], p, *e.points[1:]))
     return m
+
+
+def without_unborne(m):
+    """Without the faces that nothing bears."""
+    borne = {pm.borne(m, d) for d in pm.directed_edges(m)} | {n.face for n in m.nodes} | {0}
+    return replace(m, faces=tuple(f for f in m.faces if f in borne))

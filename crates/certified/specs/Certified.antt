@@ -1,6 +1,7 @@
 -- The tests that a map must pass so that tickets go on from it as from one that tickets have grown, whatever made it:
 -- `certified` of a map, `certifies` of lent tables. They stand in the order in which they are made: whole tables, in
--- form, links, curves, places, the sum, faces reached. Definitions only. Assumes nothing.
+-- form, links, curves, places, the sum, faces reached. A lone node on an edge passes, though no ticket puts one there:
+-- nothing that is proved of grown maps speaks of it. Definitions only. Assumes nothing.
 use mathlib.Core.Bool.{Bool, true, not, _&&_}
 use mathlib.Core.List.{List, [], _∷_, map}
 use Prim.Native.Nat.{ℕ, suc, _+_}
