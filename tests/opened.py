@@ -6,7 +6,8 @@ import pathlib
 import re
 
 CRATES = pathlib.Path(__file__).resolve().parent.parent / 'crates'
-HEADER = """-- Every definition opened at once: `unfolding opened` lets closed examples compute. Written by tests/opened.py.
+HEADER = """\
+-- Every definition opened at once: `unfolding opened` lets closed examples compute. Written by tests/opened.py.
 """
 # a crate, where its file stands, the crates below whose definitions it opens itself, and what is opened already
 OPENED = (

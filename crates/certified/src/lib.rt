@@ -1,1 +1,1 @@
-// Maps that were not grown, certified by tests: no code, only definitions in specs/ and theorems in proofs/, for other crates to cite.
+// Maps that were not grown, certified by tests: no code, only definitions in specs/ and theorems in proofs/.

@@ -1,5 +1,6 @@
--- The first place of a curve at a point inside its ends, and the cut there: places of the way, not of the plane. A curve
--- that comes again through the point where it starts or ends has a place there; its first and last point are none.
+-- The first place of a curve at a point inside its ends, and the cut there: places of the way, not of the plane. A
+-- curve that comes again through the point where it starts or ends has a place there; its first and last point are
+-- none.
 use mathlib.Core.Bool.{Bool, true, false, cond, not, _&&_}
 use mathlib.Core.List.{List, [], _∷_}
 use Prim.Native.Nat.{ℕ, zero, suc, _+_}

@@ -1,4 +1,5 @@
--- Two lists of points that draw one curve from a: with a point more or less that is straight between its neighbours. Assumes nothing.
+-- Two lists of points that draw one curve from a: with a point more or less that is straight between its neighbours.
+-- Assumes nothing.
 use mathlib.Core.Path.{_≡_, refl, sym, _∙_}
 use mathlib.Core.List.{List, [], _∷_}
 use mathlib.Core.Logic.{_⊎_, inl, inr}
@@ -6,7 +7,8 @@ use Rattle.plane.specs.declared.Point.{Point}
 use Rattle.curves.specs.Curves.{lastOf, secondOf, beforeLast}
 use Rattle.geometry.specs.Spots.{Spot, At, OnSeg, Between, SameWay}
 use Rattle.geometry.specs.Meaning.{On, Differ, Arc, Simple, Some}
-use Rattle.geometry.proofs.Segments.{at-first, at-last, at-one, first-part, last-part, parts, pin, same-way, first-way, last-way, way-back, way-trans, turn-way, between-differ}
+use Rattle.geometry.proofs.Segments.{at-first, at-last, at-one, first-part, last-part, parts, pin, same-way}
+use Rattle.geometry.proofs.Segments.{first-way, last-way, way-back, way-trans, turn-way, between-differ}
 
 pub record Alike (a : Point) (r s : List Point) : Type 0 where
   pub some : Some r
@@ -108,7 +110,8 @@ alike-cons a b {r} {s} h =
     onward u v f P (inl o) = inl o
     onward u v f P (inr k) = inr (f P k)
 
-    closed : (u v : List Point) → lastOf b u ≡ lastOf b v → (P : Spot) → At P b ⊎ (At P a × (lastOf b u ≡ a)) → At P b ⊎ (At P a × (lastOf b v ≡ a))
+    closed : (u v : List Point) → lastOf b u ≡ lastOf b v → (P : Spot) → At P b ⊎ (At P a × (lastOf b u ≡ a))
+        → At P b ⊎ (At P a × (lastOf b v ≡ a))
     closed u v e P (inl k) = inl k
     closed u v e P (inr k) = inr (k .0, sym e ∙ k .1)
 
@@ -177,7 +180,8 @@ module _ {a m b : Point} (s : Between a m b) (r : List Point) where
       go P k (inl o) = stop P k (h .0 P o (inr k))
       go P k (inr o) = inl (h .1 .0 P o k)
 
-finish-way : {a m b : Point} (s : Between a m b) (r : List Point) → SameWay (lastOf b r) (beforeLast a (b ∷ r)) (lastOf b r) (beforeLast a (m ∷ b ∷ r))
+finish-way : {a m b : Point} (s : Between a m b) (r : List Point)
+    → SameWay (lastOf b r) (beforeLast a (b ∷ r)) (lastOf b r) (beforeLast a (m ∷ b ∷ r))
 finish-way s [] = turn-way (way-back (last-way s))
 finish-way {a} {m} {b} s (c ∷ r) = same-way (lastOf c r) (beforeLast b (c ∷ r))
 

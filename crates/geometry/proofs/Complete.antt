@@ -1,5 +1,6 @@
--- The sign test says no more than is right: segments that pass it share a point (`complete`). Where the lines cross, the point's weights are the
--- doubled areas. Where all four ends lie on one line, an end of one segment lies on the other. Assumes nothing.
+-- The sign test says no more than is right: segments that pass it share a point (`complete`). Where the lines cross,
+-- the point's weights are the doubled areas. Where all four ends lie on one line, an end of one segment lies on the
+-- other. Assumes nothing.
 use mathlib.Core.Path.{_≡_, sym, ap, _∙_, subst}
 use mathlib.Core.Bool.{true, false≢true}
 use mathlib.Core.Logic.{_⊎_, inl, inr, _≢_}
@@ -34,12 +35,14 @@ on-less a b p h lo hi e =
       i = p .x - a .x;
       weight = omega arith;
       x = times-one (pos-injective ((λ t. (ej t +ℤ ei t) *ℤ pos (p .x))
-          ∙ solve 3 (λ ax bx px. ((bx ⊖ px) ⊕ (px ⊖ ax)) ⊗ px ≐ (bx ⊖ px) ⊗ ax ⊕ (px ⊖ ax) ⊗ bx) tt (pos (a .x)) (pos (b .x)) (pos (p .x))
+          ∙ solve 3 (λ ax bx px. ((bx ⊖ px) ⊕ (px ⊖ ax)) ⊗ px ≐ (bx ⊖ px) ⊗ ax ⊕ (px ⊖ ax) ⊗ bx) tt (pos (a .x))
+          (pos (b .x)) (pos (p .x))
           ∙ sym (λ t. ej t *ℤ pos (a .x) +ℤ ei t *ℤ pos (b .x))));
       y = times-one (pos-injective ((λ t. (ej t +ℤ ei t) *ℤ pos (p .y))
           ∙ solve₃ (λ ax ay bx by px py.
           ((bx ⊖ px) ⊕ (px ⊖ ax)) ⊗ py ≐ ((bx ⊖ px) ⊗ ay ⊕ (px ⊖ ax) ⊗ by) ⊕ areaE ax ay bx by px py) tt a b p
-          ∙ ap (λ (z : ℤ). ((pos (b .x) -ℤ pos (p .x)) *ℤ pos (a .y) +ℤ (pos (p .x) -ℤ pos (a .x)) *ℤ pos (b .y)) +ℤ z) e
+          ∙ ap (λ (z : ℤ). ((pos (b .x) -ℤ pos (p .x)) *ℤ pos (a .y) +ℤ (pos (p .x) -ℤ pos (a .x)) *ℤ pos (b .y)) +ℤ z)
+          e
           ∙ +ℤ-idr _
           ∙ sym (λ t. ej t *ℤ pos (a .y) +ℤ ei t *ℤ pos (b .y))));
     }
@@ -68,7 +71,8 @@ area-mirror a b c =
     solve₃ (λ ax ay bx by cx cy. areaE ay ax by bx cy cx ≐ ⊝ areaE ax ay bx by cx cy) tt a b c
 
 -- the ends' abscissas differ, and the point's is between them
-pub on-x : (a b p : Point) → a .x ≢ b .x → min (a .x) (b .x) ≤ p .x → p .x ≤ max (a .x) (b .x) → area a b p ≡ pos 0 → OnSeg (spot p) a b
+pub on-x : (a b p : Point) → a .x ≢ b .x → min (a .x) (b .x) ≤ p .x → p .x ≤ max (a .x) (b .x) → area a b p ≡ pos 0
+    → OnSeg (spot p) a b
 on-x a b p ne lo hi e = go (decLe (a .x) (b .x))
   where
     go : Dec (a .x ≤ b .x) → OnSeg (spot p) a b
@@ -115,29 +119,45 @@ record Line (a b c d : Point) : Type 0 where
   cdb : area c d b ≡ pos 0
 
 line-mirror : (a b c d : Point) → Line a b c d → Line (mirror a) (mirror b) (mirror c) (mirror d)
-line-mirror a b c d s = record { abc = area-mirror a b c ∙ ap negℤ (s .abc); cda = area-mirror c d a ∙ ap negℤ (s .cda); cdb = area-mirror c d b ∙ ap negℤ (s .cdb) }
+line-mirror a b c d s = record {
+  abc = area-mirror a b c ∙ ap negℤ (s .abc);
+  cda = area-mirror c d a ∙ ap negℤ (s .cda);
+  cdb = area-mirror c d b ∙ ap negℤ (s .cdb);
+}
 
 common-mirror : (a b c d : Point) → Common (mirror a) (mirror b) (mirror c) (mirror d) → Common a b c d
 common-mirror a b c d s =
     record { j = s .j; i = s .i; l = s .l; k = s .k; ab = s .ab; cd = s .cd; same-x = s .same-y; same-y = s .same-x }
 
 -- by the abscissas, or, where those are all equal, by `rest`
-by-x : (a b c d : Point) → Line a b c d → Found (a .x) (b .x) (c .x) (d .x) → (a .x ≡ b .x → c .x ≡ d .x → a .x ≡ c .x → Common a b c d) → Common a b c d
+by-x : (a b c d : Point) → Line a b c d → Found (a .x) (b .x) (c .x) (d .x)
+    → (a .x ≡ b .x → c .x ≡ d .x → a .x ≡ c .x → Common a b c d) → Common a b c d
 by-x a b c d s (cd-a n lo hi) rest = common-first a b c d (on-x c d a n lo hi (s .cda))
 by-x a b c d s (cd-b n lo hi) rest = common-second a b c d (on-x c d b n lo hi (s .cdb))
 by-x a b c d s (ab-c n lo hi) rest = swap (common-first c d a b (on-x a b c n lo hi (s .abc)))
 by-x a b c d s (same p q r) rest = rest p q r
 
-collinear : (a b c d : Point) → Line a b c d → Found (a .x) (b .x) (c .x) (d .x) → Found (a .y) (b .y) (c .y) (d .y) → Common a b c d
+collinear : (a b c d : Point) → Line a b c d → Found (a .x) (b .x) (c .x) (d .x) → Found (a .y) (b .y) (c .y) (d .y)
+    → Common a b c d
 collinear a b c d s fx fy =
     by-x a b c d s fx
     (λ p q r. common-mirror a b c d (by-x (mirror a) (mirror b) (mirror c) (mirror d) (line-mirror a b c d s) fy
-    (λ p′ q′ r′. record { j = 1; i = 0; l = 1; k = 0; ab = omega arith; cd = omega arith; same-x = omega arith; same-y = omega arith })))
+    (λ p′ q′ r′. record {
+      j = 1;
+      i = 0;
+      l = 1;
+      k = 0;
+      ab = omega arith;
+      cd = omega arith;
+      same-x = omega arith;
+      same-y = omega arith;
+    })))
 
 -- ---- the lines cross
 
 -- the doubled area of a b c is above that of a b d
-pub crossing : (a b c d : Point) → pos 0 ≤ℤ area a b c → area a b d ≤ℤ pos 0 → area c d a ≤ℤ pos 0 → pos 0 ≤ℤ area c d b → area a b d <ℤ area a b c → Common a b c d
+pub crossing : (a b c d : Point) → pos 0 ≤ℤ area a b c → area a b d ≤ℤ pos 0 → area c d a ≤ℤ pos 0 → pos 0 ≤ℤ area c d b
+    → area a b d <ℤ area a b c → Common a b c d
 unfolding area
 crossing a b c d h₁ h₂ h₃ h₄ h =
     record {
@@ -149,13 +169,17 @@ crossing a b c d h₁ h₂ h₃ h₄ h =
       cd = pos-<-back (subst (λ (z : ℤ). pos 0 <ℤ z) (sym cd-is) (above _ _ h));
       same-x = pos-injective ((λ t. (L .1 t +ℤ K .1 t) *ℤ (J .1 t *ℤ pos (a .x) +ℤ I .1 t *ℤ pos (b .x)))
           ∙ solve₄ (λ ax ay bx by cx cy dx dy.
-          (⊝ areaE ax ay bx by dx dy ⊕ areaE ax ay bx by cx cy) ⊗ (areaE cx cy dx dy bx by ⊗ ax ⊕ (⊝ areaE cx cy dx dy ax ay) ⊗ bx)
-          ≐ (areaE cx cy dx dy bx by ⊕ ⊝ areaE cx cy dx dy ax ay) ⊗ ((⊝ areaE ax ay bx by dx dy) ⊗ cx ⊕ areaE ax ay bx by cx cy ⊗ dx)) tt a b c d
+          (⊝ areaE ax ay bx by dx dy ⊕ areaE ax ay bx by cx cy)
+          ⊗ (areaE cx cy dx dy bx by ⊗ ax ⊕ (⊝ areaE cx cy dx dy ax ay) ⊗ bx)
+          ≐ (areaE cx cy dx dy bx by ⊕ ⊝ areaE cx cy dx dy ax ay)
+          ⊗ ((⊝ areaE ax ay bx by dx dy) ⊗ cx ⊕ areaE ax ay bx by cx cy ⊗ dx)) tt a b c d
           ∙ sym (λ t. (J .1 t +ℤ I .1 t) *ℤ (L .1 t *ℤ pos (c .x) +ℤ K .1 t *ℤ pos (d .x))));
       same-y = pos-injective ((λ t. (L .1 t +ℤ K .1 t) *ℤ (J .1 t *ℤ pos (a .y) +ℤ I .1 t *ℤ pos (b .y)))
           ∙ solve₄ (λ ax ay bx by cx cy dx dy.
-          (⊝ areaE ax ay bx by dx dy ⊕ areaE ax ay bx by cx cy) ⊗ (areaE cx cy dx dy bx by ⊗ ay ⊕ (⊝ areaE cx cy dx dy ax ay) ⊗ by)
-          ≐ (areaE cx cy dx dy bx by ⊕ ⊝ areaE cx cy dx dy ax ay) ⊗ ((⊝ areaE ax ay bx by dx dy) ⊗ cy ⊕ areaE ax ay bx by cx cy ⊗ dy)) tt a b c d
+          (⊝ areaE ax ay bx by dx dy ⊕ areaE ax ay bx by cx cy)
+          ⊗ (areaE cx cy dx dy bx by ⊗ ay ⊕ (⊝ areaE cx cy dx dy ax ay) ⊗ by)
+          ≐ (areaE cx cy dx dy bx by ⊕ ⊝ areaE cx cy dx dy ax ay)
+          ⊗ ((⊝ areaE ax ay bx by dx dy) ⊗ cy ⊕ areaE ax ay bx by cx cy ⊗ dy)) tt a b c d
           ∙ sym (λ t. (J .1 t +ℤ I .1 t) *ℤ (L .1 t *ℤ pos (c .y) +ℤ K .1 t *ℤ pos (d .y))));
     }
   where
@@ -182,7 +206,8 @@ crossing a b c d h₁ h₂ h₃ h₄ h =
 
     ab-is : pos (J .0 + I .0) ≡ area a b c -ℤ area a b d
     ab-is = (λ t. J .1 t +ℤ I .1 t)
-        ∙ solve₄ (λ ax ay bx by cx cy dx dy. areaE cx cy dx dy bx by ⊕ ⊝ areaE cx cy dx dy ax ay ≐ areaE ax ay bx by cx cy ⊖ areaE ax ay bx by dx dy) tt a b c d
+        ∙ solve₄ (λ ax ay bx by cx cy dx dy. areaE cx cy dx dy bx by ⊕ ⊝ areaE cx cy dx dy ax ay
+        ≐ areaE ax ay bx by cx cy ⊖ areaE ax ay bx by dx dy) tt a b c d
 
 -- ---- from the test
 
@@ -207,7 +232,8 @@ between s t h lt = (low (≤-or-> (pos 0) s), high (≤-or-> t (pos 0)))
   where
     low : (pos 0 ≤ℤ s) ⊎ (s <ℤ pos 0) → pos 0 ≤ℤ s
     low (inl p) = p
-    low (inr p) = absurd (h .down p (linear 2 (λ s t. s ≺ con (pos 0) ⇒ t ≺ s ⇒ t ≺ con (pos 0)) (omega arith) s t p lt))
+    low (inr p) =
+        absurd (h .down p (linear 2 (λ s t. s ≺ con (pos 0) ⇒ t ≺ s ⇒ t ≺ con (pos 0)) (omega arith) s t p lt))
 
     high : (t ≤ℤ pos 0) ⊎ (pos 0 <ℤ t) → t ≤ℤ pos 0
     high (inl p) = p
@@ -228,7 +254,8 @@ apart-same s t h e = ≤-antisym s (pos 0) (high (≤-or-> s (pos 0))) (low (≤
 pub areas : (a b c d : Point) → area c d b -ℤ area c d a ≡ area a b c -ℤ area a b d
 unfolding area
 areas a b c d =
-    solve₄ (λ ax ay bx by cx cy dx dy. areaE cx cy dx dy bx by ⊖ areaE cx cy dx dy ax ay ≐ areaE ax ay bx by cx cy ⊖ areaE ax ay bx by dx dy) tt a b c d
+    solve₄ (λ ax ay bx by cx cy dx dy. areaE cx cy dx dy bx by ⊖ areaE cx cy dx dy ax ay ≐ areaE ax ay bx by cx cy
+    ⊖ areaE ax ay bx by dx dy) tt a b c d
 
 -- the second segment's ends exchanged
 pub common-turned : (a b c d : Point) → Common a b d c → Common a b c d
@@ -250,7 +277,8 @@ module _ (a b c d : Point) (fx : Found (a .x) (b .x) (c .x) (d .x)) (fy : Found 
   down-case : area a b d <ℤ area a b c → Common a b c d
   down-case h =
       let k : area c d a <ℤ area c d b =
-      linear 4 (λ s t u v. v ⊖ u ≗ s ⊖ t ⇒ t ≺ s ⇒ u ≺ v) (omega arith) (area a b c) (area a b d) (area c d a) (area c d b) (areas a b c d) h in
+      linear 4 (λ s t u v. v ⊖ u ≗ s ⊖ t ⇒ t ≺ s ⇒ u ≺ v) (omega arith) (area a b c) (area a b d) (area c d a)
+      (area c d b) (areas a b c d) h in
       let p = between (area a b c) (area a b d) ab h in
       let q = between (area c d b) (area c d a) (apart-sym cd) k in
       crossing a b c d (p .0) (p .1) (q .1) (q .0) h
@@ -258,24 +286,29 @@ module _ (a b c d : Point) (fx : Found (a .x) (b .x) (c .x) (d .x)) (fy : Found 
   up-case : area a b c <ℤ area a b d → Common a b c d
   up-case h =
       let k : area c d b <ℤ area c d a =
-      linear 4 (λ s t u v. v ⊖ u ≗ s ⊖ t ⇒ s ≺ t ⇒ v ≺ u) (omega arith) (area a b c) (area a b d) (area c d a) (area c d b) (areas a b c d) h in
+      linear 4 (λ s t u v. v ⊖ u ≗ s ⊖ t ⇒ s ≺ t ⇒ v ≺ u) (omega arith) (area a b c) (area a b d) (area c d a)
+      (area c d b) (areas a b c d) h in
       let p = between (area a b d) (area a b c) (apart-sym ab) h in
       let q = between (area c d a) (area c d b) cd k in
       common-turned a b c d (crossing a b d c (p .0) (p .1)
-      (subst (λ (z : ℤ). z ≤ℤ pos 0) (sym (area-swap c d a)) (linear 1 (λ z. con (pos 0) ≼ z ⇒ ⊝ z ≼ con (pos 0)) (omega arith) (area c d a) (q .0)))
-      (subst (λ (z : ℤ). pos 0 ≤ℤ z) (sym (area-swap c d b)) (linear 1 (λ z. z ≼ con (pos 0) ⇒ con (pos 0) ≼ ⊝ z) (omega arith) (area c d b) (q .1))) h)
+      (subst (λ (z : ℤ). z ≤ℤ pos 0) (sym (area-swap c d a))
+      (linear 1 (λ z. con (pos 0) ≼ z ⇒ ⊝ z ≼ con (pos 0)) (omega arith) (area c d a) (q .0)))
+      (subst (λ (z : ℤ). pos 0 ≤ℤ z) (sym (area-swap c d b))
+      (linear 1 (λ z. z ≼ con (pos 0) ⇒ con (pos 0) ≼ ⊝ z) (omega arith) (area c d b) (q .1))) h)
 
   line-case : area a b c ≡ area a b d → Common a b c d
   line-case e =
       let f : area c d a ≡ area c d b =
-      linear 4 (λ s t u v. v ⊖ u ≗ s ⊖ t ⇒ s ≗ t ⇒ u ≗ v) (omega arith) (area a b c) (area a b d) (area c d a) (area c d b) (areas a b c d) e in
+      linear 4 (λ s t u v. v ⊖ u ≗ s ⊖ t ⇒ s ≗ t ⇒ u ≗ v) (omega arith) (area a b c) (area a b d) (area c d a)
+      (area c d b) (areas a b c d) e in
       let z : area c d a ≡ pos 0 = apart-same (area c d a) (area c d b) cd f in
       collinear a b c d (record { abc = apart-same (area a b c) (area a b d) ab e; cda = z; cdb = sym f ∙ z }) fx fy
 
   passes-common : Common a b c d
   passes-common = go (≤-or-> (area a b c) (area a b d)) (≤-or-> (area a b d) (area a b c))
     where
-      go : (area a b c ≤ℤ area a b d) ⊎ (area a b d <ℤ area a b c) → (area a b d ≤ℤ area a b c) ⊎ (area a b c <ℤ area a b d) → Common a b c d
+      go : (area a b c ≤ℤ area a b d) ⊎ (area a b d <ℤ area a b c)
+          → (area a b d ≤ℤ area a b c) ⊎ (area a b c <ℤ area a b d) → Common a b c d
       go (inl p) (inl q) = line-case (≤-antisym _ _ p q)
       go (inl p) (inr q) = up-case q
       go (inr p) q = down-case p
@@ -296,4 +329,5 @@ complete a b c d e =
     let h = and-true _ _ e in
     let k = and-true _ _ (h .1) in
     let m = and-true _ _ (k .1) in
-    passes-common a b c d (overlap-found _ _ _ _ (h .0)) (overlap-found _ _ _ _ (k .0)) (straddle-apart a b c d (m .0)) (straddle-apart c d a b (m .1))
+    passes-common a b c d (overlap-found _ _ _ _ (h .0)) (overlap-found _ _ _ _ (k .0)) (straddle-apart a b c d (m .0))
+    (straddle-apart c d a b (m .1))

@@ -1,7 +1,8 @@
 -- `Kept` of the new curves: halves, joins, reverses and curves that a ticket sends. Assumes nothing.
 use mathlib.Core.Path.{_≡_, refl, sym, subst}
 use mathlib.Core.Bool.{Bool, true, false}
-use mathlib.Core.List.{List, [], _∷_, List·Memᴰ, List·Memᴰ·head, List·Memᴰ·tail, List·Memᴰ·cases-cons, List·Memᴰ·not-nil}
+use mathlib.Core.List.{List, [], _∷_, List·Memᴰ, List·Memᴰ·head, List·Memᴰ·tail, List·Memᴰ·cases-cons}
+use mathlib.Core.List.{List·Memᴰ·not-nil}
 use mathlib.Core.Logic.{inl, inr, _≢_}
 use Prim.Native.Nat.{ℕ, _≤_}
 use native.Mathlib.Omega.{arith}
@@ -47,7 +48,8 @@ module _ (R : Point → Type 0) where
   each-cut m a [] k h = (each-nil, each-nil)
   each-cut m a (b ∷ r) k h = go (onSegment m a b) (samePoint m b) (each-cut m b r k (each-tail h))
     where
-      go : (p q : Bool) → Each (cut m b r .front) × Each (cut m b r .back) → Each (cutHere p q m b r (cut m b r) .front) × Each (cutHere p q m b r (cut m b r) .back)
+      go : (p q : Bool) → Each (cut m b r .front) × Each (cut m b r .back)
+          → Each (cutHere p q m b r (cut m b r) .front) × Each (cutHere p q m b r (cut m b r) .back)
       go true true f = (each-cons (each-head h) each-nil, each-tail h)
       go true false f = (each-cons k each-nil, h)
       go false q f = (each-cons (each-head h) (f .0), f .1)
@@ -94,16 +96,21 @@ kept-course false c k = k
 kept-course true c k =
     record {
       most = omega (arith, reverse-count c, k .most);
-      in-range = each-turned InRange (c .first) (c .rest) (each-head InRange (k .in-range)) (each-tail InRange (k .in-range));
+      in-range = each-turned InRange (c .first) (c .rest) (each-head InRange (k .in-range))
+          (each-tail InRange (k .in-range));
       bent = turned-bent (c .first) (c .rest) (k .bent);
     }
 
-pub kept-joined : (c d : Curve) → Some (c .rest) → Some (d .rest) → d .first ≡ lastPoint c → length (points (joined c d)) ≤ maxPoints → Kept c → Kept d → Kept (joined c d)
+pub kept-joined : (c d : Curve) → Some (c .rest) → Some (d .rest) → d .first ≡ lastPoint c
+    → length (points (joined c d)) ≤ maxPoints → Kept c → Kept d → Kept (joined c d)
 kept-joined c d s t e l k h =
     record {
       most = l;
-      in-range = each-cons InRange (each-head InRange (k .in-range)) (each-join InRange (c .first) (c .rest) (d .rest) (each-tail InRange (k .in-range)) (each-tail InRange (h .in-range)));
-      bent = join-bent (c .first) (c .rest) (d .rest) s t (k .bent) (subst (λ (z : Point). straightIn z (d .rest) ≡ false) e (h .bent)) .bent;
+      in-range = each-cons InRange (each-head InRange (k .in-range))
+          (each-join InRange (c .first) (c .rest) (d .rest) (each-tail InRange (k .in-range))
+          (each-tail InRange (h .in-range)));
+      bent = join-bent (c .first) (c .rest) (d .rest) s t (k .bent)
+          (subst (λ (z : Point). straightIn z (d .rest) ≡ false) e (h .bent)) .bent;
     }
 
 -- ---- a curve as it was sent

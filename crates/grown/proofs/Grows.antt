@@ -1,4 +1,5 @@
--- What holds after every list of tickets (specs/Claims.antt), proved ticket by ticket: the tables always hold a good map that fits. Assumes nothing.
+-- What holds after every list of tickets (specs/Claims.antt), proved ticket by ticket: the tables always hold a good
+-- map that fits. Assumes nothing.
 use mathlib.Core.Path.{_≡_, refl, sym, ap, ap₂, _∙_, subst}
 use mathlib.Core.Logic.{_≢_}
 use mathlib.Core.Bool.{true, not}
@@ -42,14 +43,19 @@ module _ (s : Sizes) (m : Map) (g : Good m) (f : Fits s m) where
   here = record { map = m; good = g; fits = f; lent = refl }
 
   -- what nothing turns down in the tables nothing turns down in the map
-  pub free : (t : Ticket) → firstReason (lentReasons (lentOf s m) ++ reasons (sizesOf (lentOf s m)) (mapOf (lentOf s m)) t) ≡ 0 → firstReason (reasons s m t) ≡ 0
+  pub free : (t : Ticket)
+      → firstReason (lentReasons (lentOf s m) ++ reasons (sizesOf (lentOf s m)) (mapOf (lentOf s m)) t) ≡ 0
+      → firstReason (reasons s m t) ≡ 0
   free t h =
       let l = lentOf s m in
       let h₁ = first-zero 1 (not (whole l)) _ (omega arith) h in
       let h₂ = first-zero 2 (not (inForm l)) (reasons (sizesOf l) (mapOf l) t) (omega arith) (h₁ .1) in
-      ap₂ (λ (z : Sizes) (x : Map). firstReason (reasons z x t)) (sym (sizes-back m g s f)) (sym (good-back m g s)) ∙ h₂ .1
+      ap₂ (λ (z : Sizes) (x : Map). firstReason (reasons z x t)) (sym (sizes-back m g s f)) (sym (good-back m g s))
+      ∙ h₂ .1
 
-  carry : (t : Ticket) (n : ℕ) → firstReason (lentReasons (lentOf s m) ++ reasons (sizesOf (lentOf s m)) (mapOf (lentOf s m)) t) ≡ n → State s (unless (lentOf s m) n (carried (mapOf (lentOf s m)) t) .lent)
+  carry : (t : Ticket) (n : ℕ)
+      → firstReason (lentReasons (lentOf s m) ++ reasons (sizesOf (lentOf s m)) (mapOf (lentOf s m)) t) ≡ n
+      → State s (unless (lentOf s m) n (carried (mapOf (lentOf s m)) t) .lent)
   carry t zero h = record {
     map = carried m t .0;
     good = good-kept s m g t (free t h);
@@ -102,7 +108,9 @@ state-grown {s} {l} x =
       sound = subst Sound (sym back) (good-sound m (x .good));
       in-form = ap inForm (x .lent) ∙ good-in-form m (x .good) s (x .fits);
       lawful = ap obeysLaw back ∙ law-is m (x .good .woven .law);
-      borne = subst (λ (q : Map). (f : ℕ) → List·Memᴰ f (q .faces) → f ≢ 0 → (d : Dart) × List·Memᴰ d (directed q) × (bears q d ≡ f)) (sym back) (x .good .woven .borne);
+      borne =
+          subst (λ (q : Map). (f : ℕ) → List·Memᴰ f (q .faces) → f ≢ 0
+          → (d : Dart) × List·Memᴰ d (directed q) × (bears q d ≡ f)) (sym back) (x .good .woven .borne);
     }
 
 pub grows : Grows
@@ -114,5 +122,6 @@ never-lent s h ts = go (grown-state s (h .some-face) ts)
   where
     go : State s (grow s ts .lent) → firstReason (lentReasons (grow s ts .lent)) ≡ 0
     go x =
-        let w : whole (grow s ts .lent) ≡ true = ap whole (x .lent) ∙ good-whole (x .map) (x .good) s (x .fits) (h .some-face) (h .nodes) (h .edges) (h .faces) in
+        let w : whole (grow s ts .lent) ≡ true = ap whole (x .lent)
+        ∙ good-whole (x .map) (x .good) s (x .fits) (h .some-face) (h .nodes) (h .edges) (h .faces) in
         rw (w, grows s (h .some-face) ts .in-form)

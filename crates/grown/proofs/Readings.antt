@@ -1,8 +1,10 @@
--- What a map reads in its rows, and after each way of changing them: rows mapped, appended, left out, redirected. Assumes nothing.
+-- What a map reads in its rows, and after each way of changing them: rows mapped, appended, left out, redirected.
+-- Assumes nothing.
 use mathlib.Core.Path.{_≡_, refl, sym, ap, _∙_, subst}
 use mathlib.Core.Logic.{_⊎_, inl, inr, _≢_}
 use mathlib.Core.Bool.{Bool, true, false, cond, not, _&&_, Bool·beq, true≢false}
-use mathlib.Core.List.{List, [], _∷_, _++_, map, map-map, List·Memᴰ, List·Memᴰ·head, List·Memᴰ·tail, Memᴰ·map, Memᴰ·of-map, Memᴰ·cast}
+use mathlib.Core.List.{List, [], _∷_, _++_, map, map-map, List·Memᴰ, List·Memᴰ·head, List·Memᴰ·tail, Memᴰ·map}
+use mathlib.Core.List.{Memᴰ·of-map, Memᴰ·cast}
 use mathlib.Core.Option.{Option, none, some, Option·getD, Option·map}
 use Prim.Native.Nat.{ℕ}
 use Rattle.lists.specs.Tests.{same}
@@ -35,7 +37,8 @@ module _ {A : Type 0} (num : A → ℕ) where
   -- rows mapped by a function that keeps their numbers
   module _ (f : A → A) where
     -- the row is mapped
-    look-map : (u : A) (rs : List A) (n : ℕ) → ((r : A) → List·Memᴰ r rs → num (f r) ≡ num r) → has num rs n ≡ true → look num u (map f rs) n ≡ f (look num u rs n)
+    look-map : (u : A) (rs : List A) (n : ℕ) → ((r : A) → List·Memᴰ r rs → num (f r) ≡ num r) → has num rs n ≡ true
+        → look num u (map f rs) n ≡ f (look num u rs n)
     look-map u rs n h k = rw (find-map num f rs n h) (step (find (numbered n) rs) k)
       where
         step : (o : Option A) → isSome o ≡ true → Option·getD (Option·map f o) u ≡ f (Option·getD o u)
@@ -43,7 +46,8 @@ module _ {A : Type 0} (num : A → ℕ) where
         step (some a) e = refl
 
     -- what f leaves of a row is read as it was, whatever the number
-    look-kept : {B : Type 0} (g : A → B) (u : A) (rs : List A) (n : ℕ) → ((r : A) → List·Memᴰ r rs → num (f r) ≡ num r) → ((r : A) → g (f r) ≡ g r) → g (look num u (map f rs) n) ≡ g (look num u rs n)
+    look-kept : {B : Type 0} (g : A → B) (u : A) (rs : List A) (n : ℕ) → ((r : A) → List·Memᴰ r rs → num (f r) ≡ num r)
+        → ((r : A) → g (f r) ≡ g r) → g (look num u (map f rs) n) ≡ g (look num u rs n)
     look-kept {B} g u rs n h k = rw (find-map num f rs n h) (step (find (numbered n) rs))
       where
         step : (o : Option A) → g (Option·getD (Option·map f o) u) ≡ g (Option·getD o u)
@@ -51,11 +55,14 @@ module _ {A : Type 0} (num : A → ℕ) where
         step (some a) = k a
 
   -- rows appended
-  find-append : (rs ss : List A) (n : ℕ) → find (numbered n) (rs ++ ss) ≡ cond (has num rs n) (find (numbered n) rs) (find (numbered n) ss)
+  find-append : (rs ss : List A) (n : ℕ)
+      → find (numbered n) (rs ++ ss) ≡ cond (has num rs n) (find (numbered n) rs) (find (numbered n) ss)
   find-append [] ss n = refl
   find-append (q ∷ rs) ss n = rw (find-append rs ss n) (step (same (num q) n))
     where
-      step : (b : Bool) → cond b (some q) (cond (has num rs n) (find (numbered n) rs) (find (numbered n) ss)) ≡ cond (isSome (cond b (some q) (find (numbered n) rs))) (cond b (some q) (find (numbered n) rs)) (find (numbered n) ss)
+      step : (b : Bool) → cond b (some q) (cond (has num rs n) (find (numbered n) rs) (find (numbered n) ss))
+          ≡ cond (isSome (cond b (some q) (find (numbered n) rs))) (cond b (some q) (find (numbered n) rs))
+          (find (numbered n) ss)
       step true = refl
       step false = refl
 
@@ -73,7 +80,8 @@ module _ {A : Type 0} (num : A → ℕ) where
   find-without e [] n h = refl
   find-without e (q ∷ rs) n h = step (same (num q) e) refl (find-without e rs n h)
     where
-      step : (b : Bool) → same (num q) e ≡ b → find (numbered n) (without num e rs) ≡ find (numbered n) rs → find (numbered n) (cond (not b) (q ∷ without num e rs) (without num e rs)) ≡ find (numbered n) (q ∷ rs)
+      step : (b : Bool) → same (num q) e ≡ b → find (numbered n) (without num e rs) ≡ find (numbered n) rs
+          → find (numbered n) (cond (not b) (q ∷ without num e rs) (without num e rs)) ≡ find (numbered n) (q ∷ rs)
       step true s ih = rw (same-false (num q) n (λ p. h (sym p ∙ same-true (num q) e s))) ih
       step false s ih = rw ih
 
@@ -84,7 +92,8 @@ module _ {A : Type 0} (num : A → ℕ) where
   has-without-it e [] = refl
   has-without-it e (q ∷ rs) = step (same (num q) e) refl (has-without-it e rs)
     where
-      step : (b : Bool) → same (num q) e ≡ b → has num (without num e rs) e ≡ false → has num (cond (not b) (q ∷ without num e rs) (without num e rs)) e ≡ false
+      step : (b : Bool) → same (num q) e ≡ b → has num (without num e rs) e ≡ false
+          → has num (cond (not b) (q ∷ without num e rs) (without num e rs)) e ≡ false
       step true s ih = ih
       step false s ih = rw s ih
 
@@ -132,7 +141,16 @@ numberOf e = e .number
 
 -- what is read where the row is missing
 abbrev pub missing : Edge
-missing = record { number = 0; start = 0; end = 0; nextLeft = fwd 0; nextRight = fwd 0; left = 0; right = 0; curve = through [] }
+missing = record {
+  number = 0;
+  start = 0;
+  end = 0;
+  nextLeft = fwd 0;
+  nextRight = fwd 0;
+  left = 0;
+  right = 0;
+  curve = through [];
+}
 
 module _ (m : Map) where
   -- a number that is found is that of the row
@@ -190,7 +208,8 @@ module _ (m : Map) where
 
 -- ---- departures
 
-pub keep-cong : {D : Type 0} (p q : D → Bool) (ds : List D) → ((d : D) → List·Memᴰ d ds → p d ≡ q d) → keep p ds ≡ keep q ds
+pub keep-cong : {D : Type 0} (p q : D → Bool) (ds : List D) → ((d : D) → List·Memᴰ d ds → p d ≡ q d)
+    → keep p ds ≡ keep q ds
 keep-cong p q [] h = refl
 keep-cong p q (d ∷ ds) h = rw (h d (List·Memᴰ·head refl), keep-cong p q ds (λ c k. h c (List·Memᴰ·tail k)))
 
@@ -226,13 +245,16 @@ module _ (m m′ : Map) (E : m′ .edges ≡ m .edges) where
   way-by d = rw (way-row, way-row, course-by d)
 
 -- departures are told by the directed edges and where they leave
-pub departures-by : (m m′ : Map) → arcs m′ ≡ arcs m → ((d : Dart) → List·Memᴰ d (directed m) → leaves m′ d ≡ leaves m d) → (n : ℕ) → departures m′ n ≡ departures m n
+pub departures-by : (m m′ : Map) → arcs m′ ≡ arcs m → ((d : Dart) → List·Memᴰ d (directed m) → leaves m′ d ≡ leaves m d)
+    → (n : ℕ) → departures m′ n ≡ departures m n
 unfolding departures
-departures-by m m′ E h n = ap (λ (es : List Arc). keep (λ d. same (leaves m′ d) n) (darts es)) E ∙ keep-cong (λ d. same (leaves m′ d) n) (λ d. same (leaves m d) n) (directed m) (λ d k. rw (h d k))
+departures-by m m′ E h n = ap (λ (es : List Arc). keep (λ d. same (leaves m′ d) n) (darts es)) E
+    ∙ keep-cong (λ d. same (leaves m′ d) n) (λ d. same (leaves m d) n) (directed m) (λ d k. rw (h d k))
 
 -- ---- rows mapped by a function that keeps their numbers
 
-module _ (m m′ : Map) (f : Edge → Edge) (E : m′ .edges ≡ map f (m .edges)) (keeps : (r : Edge) → List·Memᴰ r (m .edges) → f r .number ≡ r .number) where
+module _ (m m′ : Map) (f : Edge → Edge) (E : m′ .edges ≡ map f (m .edges))
+    (keeps : (r : Edge) → List·Memᴰ r (m .edges) → f r .number ≡ r .number) where
   pub mapped-has : (e : ℕ) → hasEdge m′ e ≡ hasEdge m e
   mapped-has e = ap (λ (es : List Edge). has numberOf es e) E ∙ has-map numberOf f (m .edges) e keeps
 
@@ -243,7 +265,8 @@ module _ (m m′ : Map) (f : Edge → Edge) (E : m′ .edges ≡ map f (m .edges
   -- what f leaves is read as it was, in missing rows too
   pub mapped-kept : {B : Type 0} (g : Edge → B) → ((r : Edge) → g (f r) ≡ g r) → (e : ℕ) → g (edge m′ e) ≡ g (edge m e)
   unfolding edge
-  mapped-kept g h e = ap (λ (es : List Edge). g (look numberOf missing es e)) E ∙ look-kept numberOf f g _ (m .edges) e keeps h
+  mapped-kept g h e = ap (λ (es : List Edge). g (look numberOf missing es e)) E
+      ∙ look-kept numberOf f g _ (m .edges) e keeps h
 
   pub mapped-arcs : ((r : Edge) → List·Memᴰ r (m .edges) → arcOf (f r) ≡ arcOf r) → arcs m′ ≡ arcs m
   mapped-arcs h = ap (map arcOf) E ∙ map-map arcOf f (m .edges) ∙ map-cong (λ r. arcOf (f r)) arcOf (m .edges) h
@@ -286,10 +309,12 @@ relinks m m′ l r N F E = record {
     same-arcs = mapped-arcs m m′ f E (λ r k. refl) (λ r k. refl)
 
     same-leaves : (d : Dart) → leaves m′ d ≡ leaves m d
-    same-leaves d = rw (leaves-row, leaves-row) (mapped-kept m m′ f E (λ r k. refl) (tailIn (d .back)) (λ r. refl) (d .edge))
+    same-leaves d =
+        rw (leaves-row, leaves-row) (mapped-kept m m′ f E (λ r k. refl) (tailIn (d .back)) (λ r. refl) (d .edge))
 
     same-course : (d : Dart) → course m′ d ≡ course m d
-    same-course d = rw (course-row, course-row) (mapped-kept m m′ f E (λ r k. refl) (courseIn (d .back)) (λ r. refl) (d .edge))
+    same-course d =
+        rw (course-row, course-row) (mapped-kept m m′ f E (λ r k. refl) (courseIn (d .back)) (λ r. refl) (d .edge))
 
 pub relinked-join : {a b c : Map} → Relinked a b → Relinked b c → Relinked a c
 relinked-join x y = record {
@@ -308,31 +333,43 @@ relinked-join x y = record {
 module _ (old new : Dart) (m : Map) where
   pub redirect-relinked : Relinked m (redirect old new m)
   unfolding redirect
-  redirect-relinked = relinks m _ (λ e. instead old new (e .nextLeft)) (λ e. instead old new (e .nextRight)) refl refl refl
+  redirect-relinked = relinks m _ (λ e. instead old new (e .nextLeft)) (λ e. instead old new (e .nextRight)) refl refl
+      refl
 
 module _ (x c : Dart) (m : Map) where
   abbrev led : Edge → Edge
-  led e = withLinks (cond (same (e .number) (x .edge) && not (x .back)) c (e .nextLeft)) (cond (same (e .number) (x .edge) && x .back) c (e .nextRight)) e
+  led e = withLinks (cond (same (e .number) (x .edge) && not (x .back)) c (e .nextLeft))
+      (cond (same (e .number) (x .edge) && x .back) c (e .nextRight)) e
 
   lead-edges : lead x c m .edges ≡ map led (m .edges)
   unfolding lead atEdge
   lead-edges = map-cong _ led (m .edges) (λ e k. go (same (e .number) (x .edge)) (x .back) e)
     where
-      go : (b s : Bool) (e : Edge) → cond b (cond s (withLinks (e .nextLeft) c e) (withLinks c (e .nextRight) e)) e ≡ withLinks (cond (b && not s) c (e .nextLeft)) (cond (b && s) c (e .nextRight)) e
+      go : (b s : Bool) (e : Edge) → cond b (cond s (withLinks (e .nextLeft) c e) (withLinks c (e .nextRight) e)) e
+          ≡ withLinks (cond (b && not s) c (e .nextLeft)) (cond (b && s) c (e .nextRight)) e
       go true true e = refl
       go true false e = refl
       go false s e = refl
 
   pub lead-relinked : Relinked m (lead x c m)
   unfolding lead atEdge
-  lead-relinked = relinks m (lead x c m) (λ e. cond (same (e .number) (x .edge) && not (x .back)) c (e .nextLeft)) (λ e. cond (same (e .number) (x .edge) && x .back) c (e .nextRight)) refl refl lead-edges
+  lead-relinked = relinks m (lead x c m) (λ e. cond (same (e .number) (x .edge) && not (x .back)) c (e .nextLeft))
+      (λ e. cond (same (e .number) (x .edge) && x .back) c (e .nextRight)) refl refl lead-edges
 
   -- x leads to c
   pub lead-next : (d : Dart) → hasEdge m (d .edge) ≡ true → next (lead x c m) d ≡ cond (sameDart d x) c (next m d)
   unfolding sameDart
-  lead-next d h = rw (next-row, next-row, mapped-edge m (lead x c m) led lead-edges (λ r k. refl) (d .edge) h, edge-row m (d .edge) h .1) (step (same (d .edge) (x .edge)) (d .back) (x .back))
+  lead-next d h = rw (
+    next-row,
+    next-row,
+    mapped-edge m (lead x c m) led lead-edges (λ r k. refl) (d .edge) h,
+    edge-row m (d .edge) h .1,
+  ) (step (same (d .edge) (x .edge)) (d .back) (x .back))
     where
-      step : (b s t : Bool) → nextIn s (withLinks (cond (b && not t) c (edge m (d .edge) .nextLeft)) (cond (b && t) c (edge m (d .edge) .nextRight)) (edge m (d .edge))) ≡ cond (b && Bool·beq s t) c (nextIn s (edge m (d .edge)))
+      step : (b s t : Bool)
+          → nextIn s (withLinks (cond (b && not t) c (edge m (d .edge) .nextLeft))
+          (cond (b && t) c (edge m (d .edge) .nextRight)) (edge m (d .edge)))
+          ≡ cond (b && Bool·beq s t) c (nextIn s (edge m (d .edge)))
       step true true true = refl
       step true true false = refl
       step true false true = refl

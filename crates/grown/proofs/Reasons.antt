@@ -22,9 +22,14 @@ use Rattle.map.specs.Limits.{lastNumber}
 use Rattle.map.specs.Rows.{Map, Sizes, node, edge, hasNode, hasEdge, withoutNode, withoutEdge}
 use Rattle.map.specs.Darts.{edgeEnds}
 use Rattle.map.specs.Links.{cornerFace}
-use Rattle.map.specs.Tickets.{AddIsoNode, MoveIsoNode, RemoveIsoNode, AddIsoEdge, RemoveIsoEdge, ChangeEdgeGeom, NewEdgesSplit, ModEdgeSplit, NewEdgeHeal, ModEdgeHeal, AddEdgeNewFaces, AddEdgeModFace, RemEdgeNewFace, RemEdgeModFace}
+use Rattle.map.specs.Tickets.{AddIsoNode, MoveIsoNode, RemoveIsoNode, AddIsoEdge, RemoveIsoEdge, ChangeEdgeGeom}
+use Rattle.map.specs.Tickets.{NewEdgesSplit, ModEdgeSplit, NewEdgeHeal, ModEdgeHeal, AddEdgeNewFaces, AddEdgeModFace}
+use Rattle.map.specs.Tickets.{RemEdgeNewFace, RemEdgeModFace}
 use Rattle.map.specs.Edits.{sharedNodes, joint, healedCurve, splitsFace, makesFace}
-use Rattle.map.specs.Reasons.{Reasons, firstReason, reasons, noNode, noEdge, outside, endsDiffer, isolated, edgeIsolated, nodeAt, edgeThrough, directionTaken, containingDiffer, cornersDiffer, nodeInside, edgeWrong, orderChanges, full, spent, splitReasons, healReasons, addEdgeReasons}
+use Rattle.map.specs.Reasons.{Reasons, firstReason, reasons, noNode, noEdge, outside, endsDiffer, isolated}
+use Rattle.map.specs.Reasons.{edgeIsolated, nodeAt, edgeThrough, directionTaken, containingDiffer, cornersDiffer}
+use Rattle.map.specs.Reasons.{nodeInside, edgeWrong, orderChanges, full, spent, splitReasons, healReasons}
+use Rattle.map.specs.Reasons.{addEdgeReasons}
 use Rattle.map.proofs.Reasons.{first-zero, point-in-range}
 use Rattle.map.proofs.RoundTrip.{run-stored}
 
@@ -123,7 +128,8 @@ pub record Heal (m : Map) (e f : ℕ) : Type 0 where
 
 -- how many new faces an edge that splits one takes: 11 takes two, unless it is face 0
 abbrev pub newFaces : Bool → Map → ℕ → ℕ → Curve → ℕ
-newFaces news m u v c = bit (splitsFace u v c m) + bit (splitsFace u v c m && news && not (same (cornerFace m u (startWay c)) 0))
+newFaces news m u v c = bit (splitsFace u v c m)
+    + bit (splitsFace u v c m && news && not (same (cornerFace m u (startWay c)) 0))
 
 -- kinds 11 (news) and 12
 pub record AddEdge (news : Bool) (s : Sizes) (m : Map) (u v : ℕ) (c : Curve) : Type 0 where
@@ -151,7 +157,10 @@ has-edge : (m : Map) (z : ℤ) → noEdge m z ≡ false → hasEdge m (natAbs z)
 has-edge m z h = and-true (nonNeg z) (hasEdge m (natAbs z)) (not-false (nonNeg z && hasEdge m (natAbs z)) h) .1
 
 -- 5 to 8, and what follows them
-sent : (m : Map) (l : List ℤ) (u v : ℕ) (rest : Reasons) → firstReason ((5, not (isRun l)) ∷ (6, not (neighboursDiffer (curveOf l)) || straightInside (curveOf l)) ∷ (7, not (isSimple (curveOf l))) ∷ (8, endsDiffer m (curveOf l) u v) ∷ rest) ≡ 0 → Sent m (curveOf l) u v × (firstReason rest ≡ 0)
+sent : (m : Map) (l : List ℤ) (u v : ℕ) (rest : Reasons)
+    → firstReason ((5, not (isRun l)) ∷ (6, not (neighboursDiffer (curveOf l)) || straightInside (curveOf l))
+    ∷ (7, not (isSimple (curveOf l))) ∷ (8, endsDiffer m (curveOf l) u v) ∷ rest) ≡ 0
+    → Sent m (curveOf l) u v × (firstReason rest ≡ 0)
 sent m l u v rest h =
     let c = curveOf l in
     let h₅ = first-zero 5 (not (isRun l)) _ (lit< tt) h in
@@ -160,7 +169,8 @@ sent m l u v rest h =
     let h₈ = first-zero 8 (endsDiffer m c u v) rest (lit< tt) (h₇ .1) in
     let r = run-stored l (not-false (isRun l) (h₅ .0)) in
     let bends = or-false (not (neighboursDiffer c)) (straightInside c) (h₆ .0) in
-    let ends = and-true (samePoint (c .first) (node m u .at)) (samePoint (lastPoint c) (node m v .at)) (not-false (samePoint (c .first) (node m u .at) && samePoint (lastPoint c) (node m v .at)) (h₈ .0)) in (
+    let ends = and-true (samePoint (c .first) (node m u .at)) (samePoint (lastPoint c) (node m v .at))
+    (not-false (samePoint (c .first) (node m u .at) && samePoint (lastPoint c) (node m v .at)) (h₈ .0)) in (
       record {
         least = r .least;
         most = r .most;
@@ -176,7 +186,8 @@ sent m l u v rest h =
 
 room : (s : Sizes) (m : Map) (a b c : ℕ) → full s m a b c ≡ false → Room s m a b c
 room s m a b c h =
-    let h₁ = or-false (ltb (s .nodes) (length (m .nodes) + a) || ltb (s .edges) (length (m .edges) + b)) (ltb (s .faces) (length (m .faces) + c)) h in
+    let h₁ = or-false (ltb (s .nodes) (length (m .nodes) + a) || ltb (s .edges) (length (m .edges) + b))
+    (ltb (s .faces) (length (m .faces) + c)) h in
     let h₂ = or-false (ltb (s .nodes) (length (m .nodes) + a)) (ltb (s .edges) (length (m .edges) + b)) (h₁ .0) in
     record {
       nodes = ltb-false (s .nodes) (length (m .nodes) + a) (h₂ .0);
@@ -186,7 +197,8 @@ room s m a b c h =
 
 supply : (m : Map) (a b c : ℕ) → spent m a b c ≡ false → Supply m a b c
 supply m a b c h =
-    let h₁ = or-false (ltb (suc lastNumber) (m .nextNode + a) || ltb (suc lastNumber) (m .nextEdge + b)) (ltb (suc lastNumber) (m .nextFace + c)) h in
+    let h₁ = or-false (ltb (suc lastNumber) (m .nextNode + a) || ltb (suc lastNumber) (m .nextEdge + b))
+    (ltb (suc lastNumber) (m .nextFace + c)) h in
     let h₂ = or-false (ltb (suc lastNumber) (m .nextNode + a)) (ltb (suc lastNumber) (m .nextEdge + b)) (h₁ .0) in
     record {
       nodes = ltb-false (suc lastNumber) (m .nextNode + a) (h₂ .0);
@@ -207,7 +219,13 @@ module _ (s : Sizes) (m : Map) where
       let h₂₀ = first-zero 20 (full s m 1 0 0) _ (lit< tt) (h₁₂ .1) in
       let h₂₁ = first-zero 21 (spent m 1 0 0) _ (lit< tt) (h₂₀ .1) in
       let apart = or-false (nodeAt (m .nodes) (point x y)) (edgeThrough m (point x y)) (h₁₀ .0) in
-      record { in-range = point-in-range x y (h₅ .0); free = apart .0; off = apart .1; room = room s m 1 0 0 (h₂₀ .0); supply = supply m 1 0 0 (h₂₁ .0) }
+      record {
+        in-range = point-in-range x y (h₅ .0);
+        free = apart .0;
+        off = apart .1;
+        room = room s m 1 0 0 (h₂₀ .0);
+        supply = supply m 1 0 0 (h₂₁ .0);
+      }
 
   pub move-node : (n x y : ℤ) → firstReason (reasons s m (MoveIsoNode n x y)) ≡ 0 → MoveNode m (natAbs n) (point x y)
   unfolding reasons
@@ -215,9 +233,17 @@ module _ (s : Sizes) (m : Map) where
       let h₄ = first-zero 4 (noNode m n) _ (lit< tt) h in
       let h₅ = first-zero 5 (outside x y) _ (lit< tt) (h₄ .1) in
       let h₉ = first-zero 9 (not (isolated m (natAbs n))) _ (lit< tt) (h₅ .1) in
-      let h₁₀ = first-zero 10 (nodeAt (withoutNode (natAbs n) (m .nodes)) (point x y) || edgeThrough m (point x y)) _ (lit< tt) (h₉ .1) in
-      let apart = or-false (nodeAt (withoutNode (natAbs n) (m .nodes)) (point x y)) (edgeThrough m (point x y)) (h₁₀ .0) in
-      record { has = has-node m n (h₄ .0); in-range = point-in-range x y (h₅ .0); isolated = not-false (isolated m (natAbs n)) (h₉ .0); free = apart .0; off = apart .1 }
+      let h₁₀ = first-zero 10 (nodeAt (withoutNode (natAbs n) (m .nodes)) (point x y) || edgeThrough m (point x y)) _
+      (lit< tt) (h₉ .1) in
+      let apart = or-false (nodeAt (withoutNode (natAbs n) (m .nodes)) (point x y)) (edgeThrough m (point x y))
+      (h₁₀ .0) in
+      record {
+        has = has-node m n (h₄ .0);
+        in-range = point-in-range x y (h₅ .0);
+        isolated = not-false (isolated m (natAbs n)) (h₉ .0);
+        free = apart .0;
+        off = apart .1;
+      }
 
   pub remove-node : (n : ℤ) → firstReason (reasons s m (RemoveIsoNode n)) ≡ 0 → RemoveNode m (natAbs n)
   unfolding reasons
@@ -226,7 +252,8 @@ module _ (s : Sizes) (m : Map) where
       let h₉ = first-zero 9 (not (isolated m (natAbs n))) _ (lit< tt) (h₄ .1) in
       record { has = has-node m n (h₄ .0); isolated = not-false (isolated m (natAbs n)) (h₉ .0) }
 
-  pub add-lone : (u v : ℤ) (l : List ℤ) → firstReason (reasons s m (AddIsoEdge u v l)) ≡ 0 → AddLone s m (natAbs u) (natAbs v) (curveOf l)
+  pub add-lone : (u v : ℤ) (l : List ℤ) → firstReason (reasons s m (AddIsoEdge u v l)) ≡ 0
+      → AddLone s m (natAbs u) (natAbs v) (curveOf l)
   unfolding reasons
   add-lone u v l h =
       let a = natAbs u in
@@ -249,7 +276,8 @@ module _ (s : Sizes) (m : Map) where
         differ = differ a b (alone .0);
         isolated-start = both .0;
         isolated-end = both .1;
-        one-face = same-true _ _ (not-false (same (Option·getD (node m a .face) 0) (Option·getD (node m b .face) 0)) (h₁₂ .0));
+        one-face =
+            same-true _ _ (not-false (same (Option·getD (node m a .face) 0) (Option·getD (node m b .face) 0)) (h₁₂ .0));
         nodes-off = h₁₄ .0;
         clear = h₁₅ .0;
         room = room s m 0 1 0 (h₂₀ .0);
@@ -262,7 +290,8 @@ module _ (s : Sizes) (m : Map) where
       let r = edge m (natAbs e) in
       let h₄ = first-zero 4 (noEdge m e) _ (lit< tt) h in
       let h₉ = first-zero 9 (not (edgeIsolated m (natAbs e))) _ (lit< tt) (h₄ .1) in
-      let k₁ = and-true (not (same (r .start) (r .end)) && same (edgeEnds m (r .start)) 1) (same (edgeEnds m (r .end)) 1) (not-false (edgeIsolated m (natAbs e)) (h₉ .0)) in
+      let k₁ = and-true (not (same (r .start) (r .end)) && same (edgeEnds m (r .start)) 1)
+      (same (edgeEnds m (r .end)) 1) (not-false (edgeIsolated m (natAbs e)) (h₉ .0)) in
       let k₂ = and-true (not (same (r .start) (r .end))) (same (edgeEnds m (r .start)) 1) (k₁ .0) in
       record {
         has = has-edge m e (h₄ .0);
@@ -271,7 +300,8 @@ module _ (s : Sizes) (m : Map) where
         end-alone = same-true (edgeEnds m (r .end)) 1 (k₁ .1);
       }
 
-  pub change : (e : ℤ) (l : List ℤ) → firstReason (reasons s m (ChangeEdgeGeom e l)) ≡ 0 → Change m (natAbs e) (curveOf l)
+  pub change : (e : ℤ) (l : List ℤ) → firstReason (reasons s m (ChangeEdgeGeom e l)) ≡ 0
+      → Change m (natAbs e) (curveOf l)
   unfolding reasons
   change e l h =
       let a = edge m (natAbs e) .start in
@@ -282,7 +312,14 @@ module _ (s : Sizes) (m : Map) where
       let h₁₄ = first-zero 14 (nodeInside m (curveOf l)) _ (lit< tt) (h₁₁ .1) in
       let h₁₅ = first-zero 15 (edgeWrong (withoutEdge (natAbs e) (m .edges)) (curveOf l)) _ (lit< tt) (h₁₄ .1) in
       let h₁₉ = first-zero 19 (orderChanges m (natAbs e) (curveOf l)) _ (lit< tt) (h₁₅ .1) in
-      record { has = has-edge m e (h₄ .0); sent = h₅ .0; ways-free = h₁₁ .0; nodes-off = h₁₄ .0; clear = h₁₅ .0; order = h₁₉ .0 }
+      record {
+        has = has-edge m e (h₄ .0);
+        sent = h₅ .0;
+        ways-free = h₁₁ .0;
+        nodes-off = h₁₄ .0;
+        clear = h₁₅ .0;
+        order = h₁₉ .0;
+      }
 
   split : (more : ℕ) (e x y : ℤ) → firstReason (splitReasons more s m e x y) ≡ 0 → Split more s m (natAbs e) (point x y)
   split more e x y h =
@@ -309,7 +346,8 @@ module _ (s : Sizes) (m : Map) where
   unfolding reasons
   split-mod e x y h = split 1 e x y h
 
-  heals : (e f : ℤ) (rest : Reasons) → firstReason (healReasons m e f ++ rest) ≡ 0 → Heal m (natAbs e) (natAbs f) × (firstReason rest ≡ 0)
+  heals : (e f : ℤ) (rest : Reasons) → firstReason (healReasons m e f ++ rest) ≡ 0
+      → Heal m (natAbs e) (natAbs f) × (firstReason rest ≡ 0)
   heals e f rest h =
       let a = natAbs e in
       let b = natAbs f in
@@ -328,19 +366,25 @@ module _ (s : Sizes) (m : Map) where
         h₁₈ .1,
       )
 
-  pub heal-new : (e f : ℤ) → firstReason (reasons s m (NewEdgeHeal e f)) ≡ 0 → Heal m (natAbs e) (natAbs f) × Supply m 0 1 0
+  pub heal-new : (e f : ℤ) → firstReason (reasons s m (NewEdgeHeal e f)) ≡ 0
+      → Heal m (natAbs e) (natAbs f) × Supply m 0 1 0
   unfolding reasons
-  heal-new e f h = let k = heals e f _ h in (k .0, supply m 0 1 0 (first-zero 21 (spent m 0 1 0) [] (lit< tt) (k .1) .0))
+  heal-new e f h = let k = heals e f _ h in (
+    k .0,
+    supply m 0 1 0 (first-zero 21 (spent m 0 1 0) [] (lit< tt) (k .1) .0),
+  )
 
   pub heal-mod : (e f : ℤ) → firstReason (reasons s m (ModEdgeHeal e f)) ≡ 0 → Heal m (natAbs e) (natAbs f)
   unfolding reasons
   heal-mod e f h = heals e f [] h .0
 
-  corners : (u v : ℕ) (c : Curve) → cornersDiffer m u v c ≡ false → cornerFace m u (startWay c) ≡ cornerFace m v (endWay c)
+  corners : (u v : ℕ) (c : Curve) → cornersDiffer m u v c ≡ false
+      → cornerFace m u (startWay c) ≡ cornerFace m v (endWay c)
   unfolding cornersDiffer
   corners u v c h = same-true _ _ (not-false (same (cornerFace m u (startWay c)) (cornerFace m v (endWay c))) h)
 
-  add : (news : Bool) (u v : ℤ) (l : List ℤ) → firstReason (addEdgeReasons news s m u v l) ≡ 0 → AddEdge news s m (natAbs u) (natAbs v) (curveOf l)
+  add : (news : Bool) (u v : ℤ) (l : List ℤ) → firstReason (addEdgeReasons news s m u v l) ≡ 0
+      → AddEdge news s m (natAbs u) (natAbs v) (curveOf l)
   add news u v l h =
       let a = natAbs u in
       let b = natAbs v in
@@ -366,11 +410,13 @@ module _ (s : Sizes) (m : Map) where
         supply = supply m 0 1 (newFaces news m a b c) (h₂₁ .0);
       }
 
-  pub add-new : (u v : ℤ) (l : List ℤ) → firstReason (reasons s m (AddEdgeNewFaces u v l)) ≡ 0 → AddEdge true s m (natAbs u) (natAbs v) (curveOf l)
+  pub add-new : (u v : ℤ) (l : List ℤ) → firstReason (reasons s m (AddEdgeNewFaces u v l)) ≡ 0
+      → AddEdge true s m (natAbs u) (natAbs v) (curveOf l)
   unfolding reasons
   add-new u v l h = add true u v l h
 
-  pub add-mod : (u v : ℤ) (l : List ℤ) → firstReason (reasons s m (AddEdgeModFace u v l)) ≡ 0 → AddEdge false s m (natAbs u) (natAbs v) (curveOf l)
+  pub add-mod : (u v : ℤ) (l : List ℤ) → firstReason (reasons s m (AddEdgeModFace u v l)) ≡ 0
+      → AddEdge false s m (natAbs u) (natAbs v) (curveOf l)
   unfolding reasons
   add-mod u v l h = add false u v l h
 
