@@ -3,7 +3,7 @@ use map::Head;
 ghost use mathlib.Core.Path.{_≡_};
 ghost use lib.IntN.{pos};
 ghost use Rattle.map.specs.Ticket.{ticket, emptied, edgesOfFace};
-ghost use Rattle.ranges.specs.Ranges.{lent};
+ghost use Rattle.form_ranges.specs.Ranges.{lent};
 ghost use Rattle.engine.specs.Runs.{Runs};
 ghost use Rattle.abi.specs.Heads.{headIn};
 

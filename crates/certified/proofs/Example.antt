@@ -7,7 +7,7 @@ use mathlib.Core.Option.{none, some}
 use Prim.Native.Nat.{ℕ}
 use Rattle.plane.specs.declared.Point.{Point}
 use Rattle.curves.specs.Curves.{through}
-use Rattle.planar.specs.Map.{Dart, fwd, bwd}
+use Rattle.planar_maps.specs.Map.{Dart, fwd, bwd}
 use Rattle.map.specs.Rows.{Node, Edge, Map}
 use Rattle.map.specs.Form.{formed}
 use Rattle.map.specs.Links.{obeysLaw}

@@ -7,13 +7,13 @@ use lib.ListN.{length, length-map}
 use Rattle.lists.specs.Tests.{same}
 use Rattle.lists.specs.Members.{Distinct}
 use Rattle.lists.proofs.Bools.{same-refl, same-true, same-eq}
-use Rattle.planar.specs.Map.{Arc, fwd, bwd, rev}
-use Rattle.planar.specs.Pieces.{label, along, stay, nums, Euler}
-use Rattle.planar.specs.Rings.{sameDart}
-use Rattle.planar.specs.Reached.{Even}
-use Rattle.planar.proofs.Chains.{chain-alike, chain-of-label, label-of-chain}
-use Rattle.planar.proofs.Turns.{rev-rev}
-use Rattle.planar.proofs.Colours.{planar-of-sum}
+use Rattle.planar_maps.specs.Map.{Arc, fwd, bwd, rev}
+use Rattle.planar_maps.specs.Pieces.{label, along, stay, nums, Euler}
+use Rattle.planar_maps.specs.Rings.{sameDart}
+use Rattle.planar_maps.specs.Reached.{Even}
+use Rattle.planar_maps.proofs.Chains.{chain-alike, chain-of-label, label-of-chain}
+use Rattle.planar_maps.proofs.Turns.{rev-rev}
+use Rattle.planar_maps.proofs.Colours.{planar-of-sum}
 use Rattle.rotation.proofs.Ties.{tells}
 use Rattle.rotation.proofs.Whole.{law-reach}
 use Rattle.map.specs.Rows.{Edge, Map}

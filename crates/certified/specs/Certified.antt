@@ -13,8 +13,8 @@ use Rattle.plane.specs.declared.Point.{Point}
 use Rattle.plane.specs.Points.{maxCoordinate, samePoint}
 use Rattle.curves.specs.Curves.{Curve, points, maxPoints}
 use Rattle.curves.specs.Tests.{isSimple, meetWrongly, straightInside}
-use Rattle.planar.specs.Map.{Arc}
-use Rattle.planar.specs.Pieces.{label}
+use Rattle.planar_maps.specs.Map.{Arc}
+use Rattle.planar_maps.specs.Pieces.{label}
 use Rattle.map.specs.Limits.{lastNumber}
 use Rattle.map.specs.Rows.{Edge, Map, Lent, mapOf, whole}
 use Rattle.map.specs.Darts.{pieceCount}

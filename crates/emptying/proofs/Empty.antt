@@ -14,8 +14,8 @@ use Rattle.map.specs.Rows.{Lent, emptyMap, lentOf, sizesOf, filled, wholeRows, 
 use Rattle.map.specs.Reasons.{firstReason}
 use Rattle.map.specs.Ticket.{emptied, refused}
 use Rattle.map.proofs.RoundTrip.{whole-rows, whole-tables}
-use Rattle.ranges.specs.Ranges.{lent}
-use Rattle.answers.proofs.Formed.{lent-is}
+use Rattle.form_ranges.specs.Ranges.{lent}
+use Rattle.outcomes.proofs.Formed.{lent-is}
 
 -- a write over the whole of a list
 pub paste-all : {A : Type 0} (d s : List A) → length s ≡ length d → paste d 0 s (length d) ≡ s

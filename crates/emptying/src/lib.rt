@@ -1,12 +1,12 @@
 // The empty map: face 0 alone.
-use answers::Done;
+use outcomes::Done;
 use map::Head;
 ghost use mathlib.Core.Path.{_≡_};
 ghost use lib.IntN.{pos};
 ghost use lib.ListN.{length, replicate};
 ghost use Rattle.map.specs.Ticket.{emptied};
-ghost use Rattle.ranges.specs.Ranges.{lent};
-ghost use Rattle.answers.specs.Outcomes.{outcome};
+ghost use Rattle.form_ranges.specs.Ranges.{lent};
+ghost use Rattle.outcomes.specs.Outcomes.{outcome};
 
 // Every number of the table is 0.
 fn wipe(t: &mut [i64])
@@ -20,8 +20,8 @@ fn wipe(t: &mut [i64])
 pub fn empty_map(nodes: &mut [i64], edges: &mut [i64], faces: &mut [i64], h: Head) -> Done
     ensures { λ r. ⌜ outcome (now (nodes .exit)) (now (edges .exit)) (now (faces .exit)) r ≡ emptied (lent (now (nodes .entry)) (now (edges .entry)) (now (faces .entry)) h) ⌝ }
 {
-    if !ranges::is_whole(nodes, edges, faces) {
-        return answers::refused(h, 1);
+    if !form_ranges::is_whole(nodes, edges, faces) {
+        return outcomes::refused(h, 1);
     }
     wipe(nodes);
     wipe(edges);
@@ -34,5 +34,5 @@ pub fn empty_map(nodes: &mut [i64], edges: &mut [i64], faces: &mut [i64], h: Hea
         next_edge: 1,
         next_face: 1,
     };
-    answers::carried(empty, 0)
+    outcomes::carried(empty, 0)
 }

@@ -1,5 +1,5 @@
 // The engine: the empty map, one ticket, the edges of a face, a list of tickets.
-use answers::Done;
+use outcomes::Done;
 use map::Answer;
 use map::Head;
 ghost use mathlib.Core.Path.{_≡_};
@@ -8,8 +8,8 @@ ghost use Prim.Native.Nat.{min, _≤_};
 ghost use lib.ListN.{length};
 ghost use Rattle.map.specs.Ticket.{ticket, emptied, edgesOfFace};
 ghost use Rattle.map.specs.Grow.{Grown, after};
-ghost use Rattle.ranges.specs.Ranges.{lent};
-ghost use Rattle.answers.specs.Outcomes.{outcome};
+ghost use Rattle.form_ranges.specs.Ranges.{lent};
+ghost use Rattle.outcomes.specs.Outcomes.{outcome};
 ghost use Rattle.engine.specs.Runs.{ticketsOf, front, Runs};
 
 // The empty map everywhere in the tables, whatever they and the head held; 1 where the tables are not whole.
@@ -23,13 +23,13 @@ pub fn empty_map(nodes: &mut [i64], edges: &mut [i64], faces: &mut [i64], h: Hea
 pub fn ticket(nodes: &mut [i64], edges: &mut [i64], faces: &mut [i64], h: Head, t: &[i64]) -> Done
     ensures { λ r. ⌜ outcome (now (nodes .exit)) (now (edges .exit)) (now (faces .exit)) r ≡ ticket (lent (now (nodes .entry)) (now (edges .entry)) (now (faces .entry)) h) (now (t .entry)) ⌝ }
 {
-    if !ranges::is_whole(nodes, edges, faces) {
-        return answers::refused(h, 1);
+    if !form_ranges::is_whole(nodes, edges, faces) {
+        return outcomes::refused(h, 1);
     }
     if !form::in_form(nodes, edges, faces, h) {
-        return answers::refused(h, 2);
+        return outcomes::refused(h, 2);
     }
-    kinds::edit(nodes, edges, faces, h, t)
+    edit_dispatch::edit(nodes, edges, faces, h, t)
 }
 
 // Each ring of the face as its length and then its directed edges. The value is the count of numbers written.
@@ -43,7 +43,7 @@ pub fn edges_of_face(
 ) -> Answer
     ensures { λ r. ⌜ record { list = now (list .exit); answer = r } ≡ edgesOfFace (lent (now (nodes .entry)) (now (edges .entry)) (now (faces .entry)) h) face (now (list .entry)) ⌝ }
 {
-    listing::edges_of_face(nodes, edges, faces, h, face, list)
+    face_edges::edges_of_face(nodes, edges, faces, h, face, list)
 }
 
 fn least(a: usize, b: usize) -> usize
@@ -93,12 +93,12 @@ pub fn run(
 ) -> Done
     ensures { λ r. ⌜ Runs (lent (now (nodes .entry)) (now (edges .entry)) (now (faces .entry)) h) (now (numbers .entry)) (now (lengths .entry)) (now (refusals .entry)) (now (values .entry)) (record { lent = lent (now (nodes .exit)) (now (edges .exit)) (now (faces .exit)) (r .head); refusals = now (refusals .exit); values = now (values .exit); answer = r .answer }) ⌝ }
 {
-    if !ranges::is_whole(nodes, edges, faces) {
-        return answers::refused(h, 1);
+    if !form_ranges::is_whole(nodes, edges, faces) {
+        return outcomes::refused(h, 1);
     }
     let n = lengths.len();
     if (refusals.len() < n) | (values.len() < n) {
-        return answers::refused(h, 20);
+        return outcomes::refused(h, 20);
     }
     let empty = emptying::empty_map(nodes, edges, faces, h);
     let after = run_tickets(
@@ -111,5 +111,5 @@ pub fn run(
         refusals,
         values,
     );
-    answers::carried(after, 0)
+    outcomes::carried(after, 0)
 }

@@ -18,9 +18,9 @@ use Rattle.map.specs.Limits.{maxNodes, maxEdges, maxFaces, nodeWidth, edgeWidth
 use Rattle.map.proofs.RoundTrip.{whole-rows, whole-tables}
 use Rattle.tables.specs.declared.Counts.{Counts}
 use Rattle.tables.specs.Tables.{edgesOf, nodeMap, edgeMap}
-use Rattle.ranges.specs.Ranges.{lent, countsOf, mapIn, rangedRows, Named}
-use Rattle.ranges.proofs.Parts.{ranged-is, map-is, curves-are, counted, counts-natural}
-use Rattle.departures.specs.Drawn.{drawnMap}
+use Rattle.form_ranges.specs.Ranges.{lent, countsOf, mapIn, rangedRows, Named}
+use Rattle.form_ranges.proofs.Parts.{ranged-is, map-is, curves-are, counted, counts-natural}
+use Rattle.form_links.specs.Drawn.{drawnMap}
 
 -- ---- five tests
 

@@ -6,28 +6,28 @@ ghost use mathlib.Core.Bool.{true};
 ghost use Prim.Native.Nat.{_≤_};
 ghost use Rattle.map.specs.Rows.{whole};
 ghost use Rattle.map.specs.Form.{formed, inForm};
-ghost use Rattle.ranges.specs.Ranges.{lent, mapIn, InRanges};
+ghost use Rattle.form_ranges.specs.Ranges.{lent, mapIn, InRanges};
 
 fn is_formed(nodes: &[i64], edges: &[i64], faces: &[i64], c: Counts, h: Head) -> bool
     requires { ⌜ InRanges (now nodes) (now edges) (now faces) c h × (c .nodes ≤ 1000) × (c .edges ≤ 2000) × (c .faces ≤ 1000) ⌝ }
     ensures { λ r. ⌜ r ≡ formed (mapIn (now (nodes .entry)) (now (edges .entry)) (now (faces .entry)) c h) ⌝ }
 {
-    if !ranges::numbers_fit(nodes, edges, faces, c, h) {
+    if !form_ranges::numbers_fit(nodes, edges, faces, c, h) {
         return false;
     }
     let mut starts = [0u16; 4000];
     let mut nexts = [0u16; 4000];
     let mut bears = [0u16; 4000];
-    if !names::names_exist(nodes, edges, faces, c, &mut starts, &mut nexts, &mut bears) {
+    if !form_references::names_exist(nodes, edges, faces, c, &mut starts, &mut nexts, &mut bears) {
         return false;
     }
-    if !names::curves_fit(nodes, c.nodes, edges, c.edges, &starts) {
+    if !form_references::curves_fit(nodes, c.nodes, edges, c.edges, &starts) {
         return false;
     }
-    if !departures::departures_formed(nodes, c.nodes, edges, c.edges, &starts) {
+    if !form_links::departures_formed(nodes, c.nodes, edges, c.edges, &starts) {
         return false;
     }
-    departures::links_formed(c.edges, &starts, &nexts, &bears)
+    form_links::links_formed(c.edges, &starts, &nexts, &bears)
 }
 
 // Whether tables that are whole are in form.
@@ -35,11 +35,11 @@ pub fn in_form(nodes: &[i64], edges: &[i64], faces: &[i64], h: Head) -> bool
     requires { ⌜ whole (lent (now nodes) (now edges) (now faces) h) ≡ true ⌝ }
     ensures { λ r. ⌜ r ≡ inForm (lent (now (nodes .entry)) (now (edges .entry)) (now (faces .entry)) h) ⌝ }
 {
-    if !ranges::head_fits(h, nodes.len() / 4, edges.len() / 32, faces.len()) {
+    if !form_ranges::head_fits(h, nodes.len() / 4, edges.len() / 32, faces.len()) {
         return false;
     }
-    let c = ranges::counts_of(h);
-    if !ranges::is_ranged(nodes, edges, faces, c) {
+    let c = form_ranges::counts_of(h);
+    if !form_ranges::is_ranged(nodes, edges, faces, c) {
         return false;
     }
     is_formed(nodes, edges, faces, c, h)

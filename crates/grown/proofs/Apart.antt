@@ -12,7 +12,7 @@ use Rattle.lists.proofs.Members.{each-of}
 use Rattle.plane.specs.declared.Point.{Point}
 use Rattle.plane.specs.Directions.{Way, sameWay}
 use Rattle.curves.specs.Curves.{points, startWay}
-use Rattle.planar.specs.Map.{Dart}
+use Rattle.planar_maps.specs.Map.{Dart}
 use Rattle.rotation.specs.Law.{Apart}
 use Rattle.rotation.proofs.Ways.{alike-is}
 use Rattle.rotation.proofs.Order.{sameWay-sym}

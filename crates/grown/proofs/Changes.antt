@@ -17,12 +17,12 @@ use Rattle.lists.proofs.Counts.{count-perm}
 use Rattle.lists.proofs.Perms.{perm-in, perm-length, perm-distinct}
 use Rattle.plane.specs.declared.Point.{Point}
 use Rattle.curves.specs.Curves.{Curve}
-use Rattle.planar.specs.Map.{Arc, Dart, fwd, bwd}
-use Rattle.planar.specs.Pieces.{pieces, label, Euler}
-use Rattle.planar.specs.Planar.{Planar}
-use Rattle.planar.proofs.Cycles.{fwd-in, bwd-in}
-use Rattle.planar.proofs.Moves.{planar-node, planar-node-off}
-use Rattle.planar.proofs.Agree.{planar-agree}
+use Rattle.planar_maps.specs.Map.{Arc, Dart, fwd, bwd}
+use Rattle.planar_maps.specs.Pieces.{pieces, label, Euler}
+use Rattle.planar_maps.specs.Planar.{Planar}
+use Rattle.planar_maps.proofs.Cycles.{fwd-in, bwd-in}
+use Rattle.planar_maps.proofs.Moves.{planar-node, planar-node-off}
+use Rattle.planar_maps.proofs.Agree.{planar-agree}
 use Rattle.map.specs.Rows.{Node, Map, node, edge, hasNode, atNodes, atEdge, withoutNode}
 use Rattle.map.specs.Darts.{arcs, leaves, next, bears}
 use Rattle.map.specs.Edits.{lone, addIsoNode, moveIsoNode, removeIsoNode, changeEdgeGeom}

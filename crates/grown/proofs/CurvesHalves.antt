@@ -6,7 +6,7 @@ use mathlib.Core.Option.{Option·getD}
 use Prim.Native.Nat.{ℕ, _+_}
 use Rattle.lists.specs.Tests.{same}
 use Rattle.plane.specs.declared.Point.{Point}
-use Rattle.planar.specs.Map.{Dart, fwd, bwd, rev}
+use Rattle.planar_maps.specs.Map.{Dart, fwd, bwd, rev}
 use Rattle.map.specs.Rows.{Edge, Map, edge, atEdge, withoutEdge}
 use Rattle.map.specs.Darts.{leaves, arrives}
 use Rattle.map.specs.Links.{redirect}

@@ -11,7 +11,7 @@ use Rattle.lists.proofs.Keeps.{keep-swap, keep-append}
 use Rattle.curves.specs.Curves.{Curve, points, maxPoints}
 use Rattle.curves.specs.Edits as edits
 use Rattle.curves.specs.Edits.{joined}
-use Rattle.planar.specs.Map.{Dart, fwd, bwd, rev}
+use Rattle.planar_maps.specs.Map.{Dart, fwd, bwd, rev}
 use Rattle.map.specs.Rows.{Edge, Map, edge, hasEdge}
 use Rattle.map.specs.Darts.{directed, leaves}
 use Rattle.map.specs.Edits.{heal, joint, parts, healedCurve}

@@ -8,7 +8,7 @@ use Rattle.lists.specs.Tests.{same}
 use Rattle.lists.proofs.Keeps.{keep-map}
 use Rattle.plane.specs.declared.Point.{Point}
 use Rattle.curves.specs.Curves.{Curve, startWay}
-use Rattle.planar.specs.Map.{Dart, fwd, bwd, rev}
+use Rattle.planar_maps.specs.Map.{Dart, fwd, bwd, rev}
 use Rattle.map.specs.Rows.{Node, Edge, Map, edge, setEdges, atNodes, atEdge, withoutNode, withoutEdge}
 use Rattle.map.specs.Links.{withLinks, instead, redirect, lead, linkIn, linkEdge, unlinkEdge, cornerFace}
 use Rattle.map.specs.Edits.{Shares, withFace, withCurve, isEither, drawn, undrawn, addIsoEdge, removeIsoEdge, changeEdgeGeom, sideOfPoint, sideOfNode, sharedOut, splitFace, splitsFace, addEdge, faceLeft, renamedNode, renamedFaces, removeEdge, addIsoNode, moveIsoNode, removeIsoNode}

@@ -7,10 +7,10 @@ use mathlib.Core.Option.{Option·getD}
 use Prim.Native.Nat.{ℕ}
 use borrow.Author.Tests.{not-false}
 use Rattle.curves.specs.Curves.{Curve, startWay}
-use Rattle.planar.specs.Map.{Dart, fwd, bwd}
-use Rattle.planar.specs.Rings.{Leads}
-use Rattle.planar.specs.Weave.{with-edge}
-use Rattle.planar.proofs.Hooks.{fresh-dart, with-fwd, with-bwd, with-other}
+use Rattle.planar_maps.specs.Map.{Dart, fwd, bwd}
+use Rattle.planar_maps.specs.Rings.{Leads}
+use Rattle.planar_maps.specs.Weave.{with-edge}
+use Rattle.planar_maps.proofs.Hooks.{fresh-dart, with-fwd, with-bwd, with-other}
 use Rattle.rotation.specs.Law.{from}
 use Rattle.map.specs.Rows.{Map, Sizes, node, hasNode}
 use Rattle.map.specs.Darts.{arcs, directed, leaves, next, ring, among}

@@ -6,7 +6,7 @@ use Prim.Native.Nat.{ℕ}
 use borrow.Author.Tests.{not-true}
 use Rattle.lists.proofs.Bools.{which}
 use Rattle.curves.specs.Curves.{Curve, startWay}
-use Rattle.planar.specs.Map.{fwd, bwd}
+use Rattle.planar_maps.specs.Map.{fwd, bwd}
 use Rattle.map.specs.Rows.{Map, Sizes}
 use Rattle.map.specs.Darts.{ring, among}
 use Rattle.map.specs.Links.{cornerFace}

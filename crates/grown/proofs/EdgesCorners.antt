@@ -6,8 +6,8 @@ use Prim.Native.Nat.{ℕ, zero, suc}
 use Rattle.lists.specs.Tests.{iterate}
 use Rattle.lists.proofs.Members.{map-cong}
 use Rattle.plane.specs.Directions.{Way}
-use Rattle.planar.specs.Map.{Dart}
-use Rattle.planar.specs.Rings.{Leads}
+use Rattle.planar_maps.specs.Map.{Dart}
+use Rattle.planar_maps.specs.Rings.{Leads}
 use Rattle.rotation.specs.Law.{firstClockwise, pick, from}
 use Rattle.map.specs.Rows.{Node, Map}
 use Rattle.map.specs.Darts.{directed, leaves, bears, way, departures}

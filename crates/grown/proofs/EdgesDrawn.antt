@@ -12,12 +12,12 @@ use Rattle.lists.proofs.Keeps.{keep-in, keep-has, keep-swap, keep-all, keep-app
 use Rattle.plane.specs.Directions.{Way}
 use Rattle.curves.specs.Curves.{Curve, startWay}
 use Rattle.curves.specs.Edits as edits
-use Rattle.planar.specs.Map.{Dart, fwd, bwd, rev, darts}
-use Rattle.planar.specs.Rings.{sameDart}
-use Rattle.planar.specs.Weave.{with-edge, lone}
-use Rattle.planar.proofs.Bridges.{Fresh}
-use Rattle.planar.proofs.Rings.{sameDart-refl}
-use Rattle.planar.proofs.Hooks.{fwd≢bwd, fresh-dart, sameDart-false, with-fwd, with-bwd, with-other}
+use Rattle.planar_maps.specs.Map.{Dart, fwd, bwd, rev, darts}
+use Rattle.planar_maps.specs.Rings.{sameDart}
+use Rattle.planar_maps.specs.Weave.{with-edge, lone}
+use Rattle.planar_maps.proofs.Bridges.{Fresh}
+use Rattle.planar_maps.proofs.Rings.{sameDart-refl}
+use Rattle.planar_maps.proofs.Hooks.{fwd≢bwd, fresh-dart, sameDart-false, with-fwd, with-bwd, with-other}
 use Rattle.rotation.specs.Law.{firstClockwise, Differ, from, Apart}
 use Rattle.rotation.specs.Law as rotation
 use Rattle.rotation.proofs.Node.{first-none}

@@ -8,17 +8,17 @@ use Rattle.lists.specs.Members.{Distinct}
 use Rattle.lists.proofs.Perms.{perm-distinct}
 use Rattle.plane.specs.Directions.{Way, sameWay}
 use Rattle.curves.specs.Curves.{Curve, startWay, endWay}
-use Rattle.planar.specs.Map.{Arc, Dart, fwd, bwd, rev, darts, Linked}
-use Rattle.planar.specs.Pieces.{nums}
-use Rattle.planar.specs.Rings.{sameDart, Leads}
-use Rattle.planar.specs.Weave.{with-edge, lone, Corner, woven, Fits}
-use Rattle.planar.specs.Planar.{Planar}
-use Rattle.planar.proofs.Cycles.{Grown}
-use Rattle.planar.proofs.Rings.{next-in}
-use Rattle.planar.proofs.Agree.{planar-agree}
-use Rattle.planar.proofs.Agree.{linked-agree}
-use Rattle.planar.proofs.Moves.{linked-perm, planar-perm}
-use Rattle.planar.proofs.Weaving.{woven-linked, planar-join, planar-split}
+use Rattle.planar_maps.specs.Map.{Arc, Dart, fwd, bwd, rev, darts, Linked}
+use Rattle.planar_maps.specs.Pieces.{nums}
+use Rattle.planar_maps.specs.Rings.{sameDart, Leads}
+use Rattle.planar_maps.specs.Weave.{with-edge, lone, Corner, woven, Fits}
+use Rattle.planar_maps.specs.Planar.{Planar}
+use Rattle.planar_maps.proofs.Cycles.{Grown}
+use Rattle.planar_maps.proofs.Rings.{next-in}
+use Rattle.planar_maps.proofs.Agree.{planar-agree}
+use Rattle.planar_maps.proofs.Agree.{linked-agree}
+use Rattle.planar_maps.proofs.Moves.{linked-perm, planar-perm}
+use Rattle.planar_maps.proofs.Weaving.{woven-linked, planar-join, planar-split}
 use Rattle.rotation.specs.Law.{firstClockwise, from, Apart}
 use Rattle.rotation.specs.Law as rotation
 use Rattle.rotation.proofs.Order.{sameWay-refl}

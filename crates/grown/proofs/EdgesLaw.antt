@@ -6,8 +6,8 @@ use Rattle.lists.specs.Tests.{same}
 use Rattle.lists.proofs.Bools.{same-eq, same-true}
 use Rattle.lists.proofs.Keeps.{keep-in, keep-has}
 use Rattle.plane.specs.Directions.{Way}
-use Rattle.planar.specs.Map.{Dart, rev}
-use Rattle.planar.specs.Rings.{sameDart}
+use Rattle.planar_maps.specs.Map.{Dart, rev}
+use Rattle.planar_maps.specs.Rings.{sameDart}
 use Rattle.rotation.specs.Law.{firstClockwise, Differ, Lawful, from, back, Law}
 use Rattle.rotation.proofs.Clock.{First, first-one}
 use Rattle.rotation.proofs.Node.{first-first, place, placed, size-of}

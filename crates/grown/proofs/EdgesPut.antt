@@ -10,15 +10,15 @@ use Rattle.lists.proofs.Bools.{which, same-true}
 use Rattle.lists.proofs.Members.{each-cons, some?}
 use Rattle.lists.proofs.Perms.{perm-in, injective-of-perm}
 use Rattle.plane.specs.Directions.{Way}
-use Rattle.planar.specs.Map.{Arc, Dart, fwd, bwd, rev, darts, Linked}
-use Rattle.planar.specs.Pieces.{nums}
-use Rattle.planar.specs.Rings.{sameDart}
-use Rattle.planar.specs.Weave.{with-edge, lone, Corner, alone, after, tie, woven, Fits}
-use Rattle.planar.proofs.Bridges.{Fresh}
-use Rattle.planar.proofs.Rings.{rev-in}
-use Rattle.planar.proofs.Hooks.{fwd≢bwd, fresh-dart, distinct-darts, exchange-other, with-fwd, with-bwd, with-other, lone-linked}
-use Rattle.planar.proofs.Agree.{linked-agree}
-use Rattle.planar.proofs.Weaving.{tie-linked}
+use Rattle.planar_maps.specs.Map.{Arc, Dart, fwd, bwd, rev, darts, Linked}
+use Rattle.planar_maps.specs.Pieces.{nums}
+use Rattle.planar_maps.specs.Rings.{sameDart}
+use Rattle.planar_maps.specs.Weave.{with-edge, lone, Corner, alone, after, tie, woven, Fits}
+use Rattle.planar_maps.proofs.Bridges.{Fresh}
+use Rattle.planar_maps.proofs.Rings.{rev-in}
+use Rattle.planar_maps.proofs.Hooks.{fwd≢bwd, fresh-dart, distinct-darts, exchange-other, with-fwd, with-bwd, with-other, lone-linked}
+use Rattle.planar_maps.proofs.Agree.{linked-agree}
+use Rattle.planar_maps.proofs.Weaving.{tie-linked}
 use Rattle.rotation.specs.Law.{firstClockwise, Differ, redirect, leading, from, Apart, link, linkEdge}
 use Rattle.rotation.proofs.Node.{first-in, first-none}
 use Rattle.rotation.proofs.Ties.{link-is-tie, link-alone-is-tie}

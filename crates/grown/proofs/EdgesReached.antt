@@ -7,10 +7,10 @@ use Prim.Native.Nat.{ℕ}
 use Rattle.lists.specs.Tests.{same}
 use Rattle.lists.proofs.Bools.{same-refl, same-true}
 use Rattle.lists.proofs.Members.{takes?}
-use Rattle.planar.specs.Map.{Dart, fwd, bwd}
-use Rattle.planar.specs.Reached as planar
-use Rattle.planar.proofs.Cycles.{fwd-in, bwd-in}
-use Rattle.planar.proofs.Faces.{planar-reached}
+use Rattle.planar_maps.specs.Map.{Dart, fwd, bwd}
+use Rattle.planar_maps.specs.Reached as planar
+use Rattle.planar_maps.proofs.Cycles.{fwd-in, bwd-in}
+use Rattle.planar_maps.proofs.Faces.{planar-reached}
 use Rattle.map.specs.Rows.{Map}
 use Rattle.map.specs.Darts.{arcs, directed, bears}
 use Rattle.grown.specs.Good.{Good}

@@ -4,13 +4,13 @@ use mathlib.Core.Logic.{_⊎_, inl, inr, _≢_}
 use mathlib.Core.List.{List, List·Memᴰ, [], _∷_, List·Memᴰ·not-nil, List·Memᴰ·eq-of-singleton}
 use Prim.Native.Nat.{ℕ, suc}
 use lib.ListN.{length}
-use Rattle.planar.specs.Map.{fwd, bwd, rev}
-use Rattle.planar.specs.Rings.{sameDart}
-use Rattle.planar.specs.Planar.{Planar}
-use Rattle.planar.proofs.Bridges.{Either, Shrunk}
-use Rattle.planar.proofs.Rings.{next-in}
-use Rattle.planar.proofs.Moves.{planar-perm}
-use Rattle.planar.proofs.Agree.{planar-agree}
+use Rattle.planar_maps.specs.Map.{fwd, bwd, rev}
+use Rattle.planar_maps.specs.Rings.{sameDart}
+use Rattle.planar_maps.specs.Planar.{Planar}
+use Rattle.planar_maps.proofs.Bridges.{Either, Shrunk}
+use Rattle.planar_maps.proofs.Rings.{next-in}
+use Rattle.planar_maps.proofs.Moves.{planar-perm}
+use Rattle.planar_maps.proofs.Agree.{planar-agree}
 use Rattle.rotation.specs.Law.{others}
 use Rattle.rotation.specs.Law as rotation
 use Rattle.map.specs.Rows.{Map, edge}

@@ -10,8 +10,8 @@ use lib.ListN.{length, length-append}
 use Rattle.lists.specs.Tests.{same}
 use Rattle.lists.specs.Members.{Distinct}
 use Rattle.lists.proofs.Bools.{which, same-refl, same-false, equal?, differ, and-true}
-use Rattle.planar.specs.Map.{fwd, bwd}
-use Rattle.planar.proofs.Bridges.{Either}
+use Rattle.planar_maps.specs.Map.{fwd, bwd}
+use Rattle.planar_maps.proofs.Bridges.{Either}
 use Rattle.rotation.proofs.Clock.{le-or}
 use Rattle.map.specs.Rows.{Map, edge, hasEdge}
 use Rattle.map.specs.Darts.{bears}

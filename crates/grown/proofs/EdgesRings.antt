@@ -10,13 +10,13 @@ use Rattle.lists.specs.Tests.{iterate}
 use Rattle.lists.specs.Members.{Distinct}
 use Rattle.lists.proofs.Members.{each-cons}
 use Rattle.lists.proofs.Perms.{perm-of-distinct, perm-length, injective-of-perm}
-use Rattle.planar.specs.Map.{Arc, Dart, darts, Linked}
-use Rattle.planar.specs.Pieces.{nums}
-use Rattle.planar.specs.Rings.{sameDart, Leads}
-use Rattle.planar.proofs.Rings.{next-in, closed-turned, sameDart-true, sameDart-refl}
-use Rattle.planar.proofs.Hooks.{distinct-darts}
-use Rattle.planar.proofs.Turns.{leads-on, leads-join}
-use Rattle.planar.proofs.Joins.{leads-keep}
+use Rattle.planar_maps.specs.Map.{Arc, Dart, darts, Linked}
+use Rattle.planar_maps.specs.Pieces.{nums}
+use Rattle.planar_maps.specs.Rings.{sameDart, Leads}
+use Rattle.planar_maps.proofs.Rings.{next-in, closed-turned, sameDart-true, sameDart-refl}
+use Rattle.planar_maps.proofs.Hooks.{distinct-darts}
+use Rattle.planar_maps.proofs.Turns.{leads-on, leads-join}
+use Rattle.planar_maps.proofs.Joins.{leads-keep}
 use Rattle.rotation.proofs.Clock.{le-or}
 use Rattle.map.specs.Rows.{Map}
 use Rattle.map.specs.Darts.{arcs, directed, leaves, next, bears, stepsTo, ring, among, lowestEdge}

@@ -12,9 +12,9 @@ use Rattle.lists.specs.Scans.{keep}
 use Rattle.lists.specs.Members.{Distinct}
 use Rattle.lists.proofs.Bools.{same-false, same-eq, not-true}
 use Rattle.lists.proofs.Perms.{perm-length}
-use Rattle.planar.specs.Map.{Dart, rev, Linked}
-use Rattle.planar.specs.Pieces.{nums}
-use Rattle.planar.proofs.Rings.{rev-in}
+use Rattle.planar_maps.specs.Map.{Dart, rev, Linked}
+use Rattle.planar_maps.specs.Pieces.{nums}
+use Rattle.planar_maps.proofs.Rings.{rev-in}
 use Rattle.map.specs.Rows.{Map, node, edge}
 use Rattle.map.specs.Darts.{arcs, directed, leaves, next, bears, ring, among, lowestEdge}
 use Rattle.map.specs.Faces.{encloses}

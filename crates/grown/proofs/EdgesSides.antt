@@ -3,10 +3,10 @@ use mathlib.Core.Path.{_≡_, refl, sym, ap, _∙_, subst}
 use mathlib.Core.Bool.{Bool, true, false}
 use mathlib.Core.List.{List, map, List·Memᴰ}
 use Prim.Native.Nat.{ℕ}
-use Rattle.planar.specs.Map.{Arc, Dart, fwd, bwd, rev, darts}
-use Rattle.planar.specs.Rings.{sameDart}
-use Rattle.planar.specs.Planar.{Planar}
-use Rattle.planar.proofs.Agree.{planar-agree}
+use Rattle.planar_maps.specs.Map.{Arc, Dart, fwd, bwd, rev, darts}
+use Rattle.planar_maps.specs.Rings.{sameDart}
+use Rattle.planar_maps.specs.Planar.{Planar}
+use Rattle.planar_maps.proofs.Agree.{planar-agree}
 use Rattle.curves.specs.Curves.{startWay}
 use Rattle.rotation.specs.Law.{Law}
 use Rattle.map.specs.Rows.{Edge, Map, edge, hasEdge}

@@ -14,10 +14,10 @@ use Rattle.lists.proofs.Members.{map-cong}
 use Rattle.integers.specs.Order.{sgn}
 use Rattle.plane.specs.Areas.{isPositive}
 use Rattle.curves.specs.Curves.{Curve}
-use Rattle.planar.specs.Map.{Dart, fwd, bwd, Linked}
-use Rattle.planar.specs.Planar.{Planar}
-use Rattle.planar.proofs.Cycles.{Grown}
-use Rattle.planar.proofs.Hooks.{with-fwd, with-bwd}
+use Rattle.planar_maps.specs.Map.{Dart, fwd, bwd, Linked}
+use Rattle.planar_maps.specs.Planar.{Planar}
+use Rattle.planar_maps.proofs.Cycles.{Grown}
+use Rattle.planar_maps.proofs.Hooks.{with-fwd, with-bwd}
 use Rattle.map.specs.Rows.{Node, Map, hasNode, atNodes, atEdge}
 use Rattle.map.specs.Darts.{arcs, directed, leaves, next, bears, ring, among}
 use Rattle.map.specs.Links.{redirect, lead, linkIn, linkEdge}

@@ -5,14 +5,14 @@ use mathlib.Core.Bool.{cond}
 use mathlib.Core.List.{List, _∷_, map, List·Memᴰ, List·Memᴰ·head, List·Memᴰ·tail, Memᴰ·of-map, List·Permᴰ, Permᴰ·symm}
 use Prim.Native.Nat.{ℕ, suc}
 use Rattle.lists.proofs.Perms.{perm-in, injective-of-perm}
-use Rattle.planar.specs.Map.{Arc, Dart, fwd, bwd, rev, darts, Linked}
-use Rattle.planar.specs.Rings.{sameDart}
-use Rattle.planar.specs.Weave.{after, tie}
-use Rattle.planar.specs.Planar.{Planar}
-use Rattle.planar.proofs.Bridges.{Shrunk}
-use Rattle.planar.proofs.Hooks.{sameDart?, fwd≢bwd, fresh-dart, distinct-darts, hook-linked}
-use Rattle.planar.proofs.Agree.{planar-agree}
-use Rattle.planar.proofs.Unweaving.{planar-part, planar-merge}
+use Rattle.planar_maps.specs.Map.{Arc, Dart, fwd, bwd, rev, darts, Linked}
+use Rattle.planar_maps.specs.Rings.{sameDart}
+use Rattle.planar_maps.specs.Weave.{after, tie}
+use Rattle.planar_maps.specs.Planar.{Planar}
+use Rattle.planar_maps.proofs.Bridges.{Shrunk}
+use Rattle.planar_maps.proofs.Hooks.{sameDart?, fwd≢bwd, fresh-dart, distinct-darts, hook-linked}
+use Rattle.planar_maps.proofs.Agree.{planar-agree}
+use Rattle.planar_maps.proofs.Unweaving.{planar-part, planar-merge}
 use Rattle.rotation.specs.Law.{redirect, unlinkEdge}
 use Rattle.rotation.proofs.Tells.{is-yes, is-no}
 use Rattle.rotation.proofs.Ties.{tells, unlink-is-tie}

@@ -12,11 +12,11 @@ use Rattle.geometry.proofs.Theorems.{neighboursDiffer-iff}
 use Rattle.plane.specs.Points.{samePoint}
 use Rattle.plane.specs.Directions.{Way, sameWay}
 use Rattle.curves.specs.Curves.{lastPoint}
-use Rattle.planar.specs.Map.{Dart, Linked}
-use Rattle.planar.specs.Pieces.{nums}
-use Rattle.planar.specs.Rings.{sameDart}
-use Rattle.planar.proofs.Rings.{dart-once}
-use Rattle.planar.proofs.Hooks.{distinct-darts}
+use Rattle.planar_maps.specs.Map.{Dart, Linked}
+use Rattle.planar_maps.specs.Pieces.{nums}
+use Rattle.planar_maps.specs.Rings.{sameDart}
+use Rattle.planar_maps.proofs.Rings.{dart-once}
+use Rattle.planar_maps.proofs.Hooks.{distinct-darts}
 use Rattle.rotation.proofs.Ways.{alike-says}
 use Rattle.map.specs.Rows.{Edge, Map}
 use Rattle.map.specs.Darts.{arcs, directed, leaves, next, bears, departures, way}

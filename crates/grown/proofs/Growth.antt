@@ -5,7 +5,7 @@ use mathlib.Core.List.{List·Memᴰ·not-nil, List·Memᴰ·eq-of-singleton}
 use native.Mathlib.Omega.{arith}
 use lib.IntN.{natAbs}
 use Rattle.curves.specs.Curves.{point, curveOf}
-use Rattle.planar.proofs.Moves.{planar-empty}
+use Rattle.planar_maps.proofs.Moves.{planar-empty}
 use Rattle.map.specs.Rows.{Map, Sizes, emptyMap}
 use Rattle.map.specs.Darts.{leaves, next, bears}
 use Rattle.map.specs.Tickets.{Ticket, AddIsoNode, MoveIsoNode, RemoveIsoNode, AddIsoEdge, RemoveIsoEdge, ChangeEdgeGeom, NewEdgesSplit, ModEdgeSplit, NewEdgeHeal, ModEdgeHeal, AddEdgeNewFaces, AddEdgeModFace, RemEdgeNewFace, RemEdgeModFace}

@@ -8,13 +8,13 @@ use Prim.Native.Nat.{ℕ}
 use Rattle.lists.specs.Members.{Distinct}
 use Rattle.lists.proofs.Members.{each-cons}
 use Rattle.plane.specs.Directions.{Way, sameWay}
-use Rattle.planar.specs.Map.{Arc, Dart, fwd, bwd, rev, darts}
-use Rattle.planar.specs.Pieces.{nums}
-use Rattle.planar.specs.Weave.{with-edge}
-use Rattle.planar.proofs.Rings.{rev-in}
-use Rattle.planar.proofs.Hooks.{fresh-dart, with-fwd, with-bwd, with-other}
-use Rattle.planar.proofs.Turns.{rev-rev}
-use Rattle.planar.proofs.Subdivide.{arc}
+use Rattle.planar_maps.specs.Map.{Arc, Dart, fwd, bwd, rev, darts}
+use Rattle.planar_maps.specs.Pieces.{nums}
+use Rattle.planar_maps.specs.Weave.{with-edge}
+use Rattle.planar_maps.proofs.Rings.{rev-in}
+use Rattle.planar_maps.proofs.Hooks.{fresh-dart, with-fwd, with-bwd, with-other}
+use Rattle.planar_maps.proofs.Turns.{rev-rev}
+use Rattle.planar_maps.proofs.Subdivide.{arc}
 use Rattle.grown.proofs.Renumber.{runs, ways}
 
 -- the departures of the whole edge as those of the halves, and its arrivals

@@ -8,12 +8,12 @@ use Rattle.lists.specs.Tests.{same}
 use Rattle.lists.proofs.Bools.{same-true, same-eq, equal?}
 use Rattle.lists.proofs.Keeps.{keep-in, keep-has}
 use Rattle.plane.specs.Directions.{Way, sameWay}
-use Rattle.planar.specs.Map.{Arc, Dart, rev}
-use Rattle.planar.specs.Rings.{sameDart}
-use Rattle.planar.proofs.Rings.{rev-in}
-use Rattle.planar.proofs.Hooks.{sameDart?}
-use Rattle.planar.proofs.Turns.{rev-rev}
-use Rattle.planar.proofs.Subdivide.{arc}
+use Rattle.planar_maps.specs.Map.{Arc, Dart, rev}
+use Rattle.planar_maps.specs.Rings.{sameDart}
+use Rattle.planar_maps.proofs.Rings.{rev-in}
+use Rattle.planar_maps.proofs.Hooks.{sameDart?}
+use Rattle.planar_maps.proofs.Turns.{rev-rev}
+use Rattle.planar_maps.proofs.Subdivide.{arc}
 use Rattle.rotation.specs.Law.{Tells, Differ, others, lawfulNext, Lawful, from, back, Apart, AllLawful, Law}
 use Rattle.rotation.proofs.Ways.{alike-says, alike-is}
 use Rattle.rotation.proofs.Order.{sameWay-sym, sameWay-trans}

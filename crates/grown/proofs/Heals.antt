@@ -6,16 +6,16 @@ use Prim.Native.Nat.{ℕ}
 use Rattle.lists.specs.Tests.{same, _⊕_}
 use Rattle.lists.proofs.Bools.{same-refl, same-false, eq2}
 use Rattle.plane.specs.Directions.{Way}
-use Rattle.planar.specs.Map.{Arc, Dart, fwd, bwd, rev, darts}
-use Rattle.planar.specs.Pieces.{nums, Isolated}
-use Rattle.planar.specs.Weave.{with-edge, renamed, heal-next}
-use Rattle.planar.specs.Planar.{Planar}
-use Rattle.planar.proofs.Cycles.{fwd-in}
-use Rattle.planar.proofs.Hooks.{fwd≢bwd, fresh-dart, with-fwd, with-bwd, with-other}
-use Rattle.planar.proofs.Agree.{planar-agree}
-use Rattle.planar.proofs.Subdivide.{arc}
-use Rattle.planar.proofs.Splitting.{renamed-at, renamed-other}
-use Rattle.planar.proofs.Healing.{healed-at, healed-other, planar-heal}
+use Rattle.planar_maps.specs.Map.{Arc, Dart, fwd, bwd, rev, darts}
+use Rattle.planar_maps.specs.Pieces.{nums, Isolated}
+use Rattle.planar_maps.specs.Weave.{with-edge, renamed, heal-next}
+use Rattle.planar_maps.specs.Planar.{Planar}
+use Rattle.planar_maps.proofs.Cycles.{fwd-in}
+use Rattle.planar_maps.proofs.Hooks.{fwd≢bwd, fresh-dart, with-fwd, with-bwd, with-other}
+use Rattle.planar_maps.proofs.Agree.{planar-agree}
+use Rattle.planar_maps.proofs.Subdivide.{arc}
+use Rattle.planar_maps.proofs.Splitting.{renamed-at, renamed-other}
+use Rattle.planar_maps.proofs.Healing.{healed-at, healed-other, planar-heal}
 use Rattle.grown.proofs.Renumber.{runs, named, Named, planar-named}
 use Rattle.grown.proofs.Halved.{Halved, departs, arrives, whole, halved, each-whole, each-halved, f-fwd, f-bwd, f-old, g-fwd, g-bwd, g-old}
 use Rattle.grown.proofs.CurvesLists.{map-same}

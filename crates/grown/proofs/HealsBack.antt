@@ -27,8 +27,8 @@ use Rattle.lists.proofs.Members.{map-cong}
 use Rattle.plane.specs.declared.Point.{Point}
 use Rattle.curves.specs.Curves.{Curve}
 use Rattle.curves.specs.Tests.{onCurve}
-use Rattle.planar.specs.Map.{Dart, fwd, bwd, rev}
-use Rattle.planar.proofs.Rings.{next-in}
+use Rattle.planar_maps.specs.Map.{Dart, fwd, bwd, rev}
+use Rattle.planar_maps.proofs.Rings.{next-in}
 use Rattle.map.specs.Rows.{Node, Edge, Map, edge, hasEdge, atEdge, setNodes, setEdges, given, withoutNode, withoutEdge}
 use Rattle.map.specs.Darts.{leaves, next}
 use Rattle.map.specs.Links.{withLinks}

@@ -8,12 +8,12 @@ use Prim.Native.Nat.{ℕ, _<_}
 use native.Mathlib.Omega.{arith}
 use lib.ListN.{length}
 use Rattle.lists.proofs.Perms.{perm-in}
-use Rattle.planar.specs.Map.{Arc, Dart, fwd, bwd, rev, darts}
-use Rattle.planar.specs.Pieces.{nums, Isolated}
-use Rattle.planar.specs.Planar.{Planar}
-use Rattle.planar.proofs.Cycles.{fwd-in, bwd-in}
-use Rattle.planar.proofs.Moves.{planar-perm}
-use Rattle.planar.proofs.Splitting.{tail-in}
+use Rattle.planar_maps.specs.Map.{Arc, Dart, fwd, bwd, rev, darts}
+use Rattle.planar_maps.specs.Pieces.{nums, Isolated}
+use Rattle.planar_maps.specs.Planar.{Planar}
+use Rattle.planar_maps.proofs.Cycles.{fwd-in, bwd-in}
+use Rattle.planar_maps.proofs.Moves.{planar-perm}
+use Rattle.planar_maps.proofs.Splitting.{tail-in}
 use Rattle.map.specs.Rows.{Edge, Map, edge, atEdge, withoutNode, withoutEdge}
 use Rattle.map.specs.Darts.{arcs, leaves, next, bears}
 use Rattle.map.specs.Links.{redirect}

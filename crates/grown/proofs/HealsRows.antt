@@ -4,7 +4,7 @@ use mathlib.Core.Bool.{Bool, true, false, not, cond}
 use mathlib.Core.List.{map, map-map, List·Memᴰ}
 use Prim.Native.Nat.{ℕ}
 use Rattle.curves.specs.Edits.{joined}
-use Rattle.planar.specs.Map.{Dart, fwd, bwd, rev}
+use Rattle.planar_maps.specs.Map.{Dart, fwd, bwd, rev}
 use Rattle.map.specs.Rows.{Edge, Map, edge, hasEdge}
 use Rattle.map.specs.Darts.{directed, leaves, next, course}
 use Rattle.map.specs.Links.{withLinks, instead, redirect}

@@ -11,13 +11,13 @@ use Rattle.lists.proofs.Members.{each-cons}
 use Rattle.plane.specs.Directions.{Way, sameWay}
 use Rattle.curves.specs.Curves.{Curve, startWay, endWay}
 use Rattle.curves.specs.Edits as edits
-use Rattle.planar.specs.Map.{Arc, Dart, fwd, bwd, rev, darts}
-use Rattle.planar.specs.Pieces.{nums}
-use Rattle.planar.specs.Rings.{sameDart}
-use Rattle.planar.specs.Weave.{with-edge, lone}
-use Rattle.planar.proofs.Rings.{rev-in, sameDart-refl}
-use Rattle.planar.proofs.Hooks.{fwd≢bwd, fresh-dart, with-fwd, with-bwd, with-other}
-use Rattle.planar.proofs.Turns.{rev-rev}
+use Rattle.planar_maps.specs.Map.{Arc, Dart, fwd, bwd, rev, darts}
+use Rattle.planar_maps.specs.Pieces.{nums}
+use Rattle.planar_maps.specs.Rings.{sameDart}
+use Rattle.planar_maps.specs.Weave.{with-edge, lone}
+use Rattle.planar_maps.proofs.Rings.{rev-in, sameDart-refl}
+use Rattle.planar_maps.proofs.Hooks.{fwd≢bwd, fresh-dart, with-fwd, with-bwd, with-other}
+use Rattle.planar_maps.proofs.Turns.{rev-rev}
 use Rattle.rotation.specs.Ways.{Alike}
 use Rattle.rotation.specs.Law.{firstClockwise, from, Apart, Law}
 use Rattle.rotation.specs.Law as rotation

@@ -10,9 +10,9 @@ use Rattle.lists.proofs.Bools.{equal?, or-false}
 use Rattle.plane.specs.declared.Point.{Point}
 use Rattle.plane.specs.Directions.{sameWay}
 use Rattle.curves.specs.Curves.{Curve}
-use Rattle.planar.specs.Map.{Dart, rev}
-use Rattle.planar.specs.Rings.{sameDart}
-use Rattle.planar.proofs.Rings.{sameDart-true}
+use Rattle.planar_maps.specs.Map.{Dart, rev}
+use Rattle.planar_maps.specs.Rings.{sameDart}
+use Rattle.planar_maps.proofs.Rings.{sameDart-true}
 use Rattle.rotation.specs.Law.{lawfulNext}
 use Rattle.rotation.proofs.Order.{sameWay-refl}
 use Rattle.map.specs.Rows.{Edge, Map, edge, atNodes, atEdge}

@@ -17,12 +17,12 @@ use Rattle.plane.specs.Directions.{Way, sameWay}
 use Rattle.plane.proofs.Laws.{samePoint-true}
 use Rattle.curves.specs.Curves.{points, lastPoint}
 use Rattle.curves.specs.Tests.{neighboursDiffer}
-use Rattle.planar.specs.Map.{Dart, rev, Linked}
-use Rattle.planar.specs.Pieces.{Within, nums}
-use Rattle.planar.specs.Rings.{sameDart}
-use Rattle.planar.proofs.Rings.{rev-in, sameDart-true}
-use Rattle.planar.proofs.Splitting.{tail-in}
-use Rattle.planar.proofs.Turns.{rev-rev}
+use Rattle.planar_maps.specs.Map.{Dart, rev, Linked}
+use Rattle.planar_maps.specs.Pieces.{Within, nums}
+use Rattle.planar_maps.specs.Rings.{sameDart}
+use Rattle.planar_maps.proofs.Rings.{rev-in, sameDart-true}
+use Rattle.planar_maps.proofs.Splitting.{tail-in}
+use Rattle.planar_maps.proofs.Turns.{rev-rev}
 use Rattle.rotation.specs.Ways.{Alike}
 use Rattle.rotation.specs.Law.{Differ, lawfulNext, from, Apart, Law}
 use Rattle.rotation.proofs.Ways.{alike-is, alike-sym}

@@ -12,9 +12,9 @@ use Rattle.lists.proofs.Bools.{same-true}
 use Rattle.lists.proofs.Keeps.{keep-in, keep-map}
 use Rattle.lists.proofs.Perms.{perm-distinct}
 use Rattle.curves.specs.Edits.{joined}
-use Rattle.planar.specs.Map.{Arc, Dart, fwd, bwd, rev}
-use Rattle.planar.specs.Pieces.{nums}
-use Rattle.planar.proofs.Hooks.{fwd≢bwd}
+use Rattle.planar_maps.specs.Map.{Arc, Dart, fwd, bwd, rev}
+use Rattle.planar_maps.specs.Pieces.{nums}
+use Rattle.planar_maps.proofs.Hooks.{fwd≢bwd}
 use Rattle.map.specs.Rows.{Edge, Map, edge, hasEdge, setEdges, atEdge, withoutEdge}
 use Rattle.map.specs.Darts.{leaves, next, course}
 use Rattle.map.specs.Edits.{joint, parts, healedCurve, heal}

@@ -10,12 +10,12 @@ use Rattle.lists.specs.Members.{Distinct}
 use Rattle.lists.proofs.Bools.{same-false, same-refl}
 use Rattle.lists.proofs.Keeps.{keep-in, keep-has}
 use Rattle.curves.specs.Curves.{startWay}
-use Rattle.planar.specs.Map.{Arc, Dart, fwd, bwd, rev, darts}
-use Rattle.planar.specs.Pieces.{nums}
-use Rattle.planar.specs.Rings.{sameDart}
-use Rattle.planar.proofs.Rings.{rev-in}
-use Rattle.planar.proofs.Hooks.{fwd≢bwd}
-use Rattle.planar.proofs.Turns.{rev-rev}
+use Rattle.planar_maps.specs.Map.{Arc, Dart, fwd, bwd, rev, darts}
+use Rattle.planar_maps.specs.Pieces.{nums}
+use Rattle.planar_maps.specs.Rings.{sameDart}
+use Rattle.planar_maps.proofs.Rings.{rev-in}
+use Rattle.planar_maps.proofs.Hooks.{fwd≢bwd}
+use Rattle.planar_maps.proofs.Turns.{rev-rev}
 use Rattle.rotation.specs.Law.{Apart, others}
 use Rattle.rotation.specs.Law as rotation
 use Rattle.rotation.proofs.Whole.{unlink-edge-law}

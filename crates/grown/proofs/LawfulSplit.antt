@@ -14,11 +14,11 @@ use Rattle.plane.specs.Directions.{sameWay}
 use Rattle.curves.specs.Curves.{lastPoint, startWay}
 use Rattle.curves.specs.Tests.{onCurve}
 use Rattle.curves.specs.Edits.{back}
-use Rattle.planar.specs.Map.{Arc, Dart, fwd, bwd, darts}
-use Rattle.planar.specs.Pieces.{Within, nums}
-use Rattle.planar.proofs.Rings.{next-in}
-use Rattle.planar.proofs.Splitting.{tail-in}
-use Rattle.planar.proofs.Subdivide.{arc}
+use Rattle.planar_maps.specs.Map.{Arc, Dart, fwd, bwd, darts}
+use Rattle.planar_maps.specs.Pieces.{Within, nums}
+use Rattle.planar_maps.proofs.Rings.{next-in}
+use Rattle.planar_maps.proofs.Splitting.{tail-in}
+use Rattle.planar_maps.proofs.Subdivide.{arc}
 use Rattle.rotation.proofs.Order.{sameWay-refl}
 use Rattle.geometry.proofs.Meeting.{samePoint-refl}
 use Rattle.map.specs.Rows.{Edge, Map, node, edge, hasEdge, atEdge, withoutEdge}

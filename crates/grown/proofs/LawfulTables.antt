@@ -18,11 +18,11 @@ use Rattle.lists.proofs.Perms.{perm-distinct}
 use Rattle.plane.specs.declared.Point.{Point}
 use Rattle.curves.specs.Curves.{points, point, curveOf, maxPoints}
 use Rattle.curves.specs.Edits.{front, back}
-use Rattle.planar.specs.Map.{Dart, fwd, bwd, rev}
-use Rattle.planar.specs.Pieces.{nums}
-use Rattle.planar.specs.Rings.{sameDart}
-use Rattle.planar.proofs.Rings.{rev-in}
-use Rattle.planar.proofs.Turns.{rev-rev}
+use Rattle.planar_maps.specs.Map.{Dart, fwd, bwd, rev}
+use Rattle.planar_maps.specs.Pieces.{nums}
+use Rattle.planar_maps.specs.Rings.{sameDart}
+use Rattle.planar_maps.proofs.Rings.{rev-in}
+use Rattle.planar_maps.proofs.Turns.{rev-rev}
 use Rattle.rotation.specs.Law.{from}
 use Rattle.rotation.proofs.Node.{lawful-in}
 use Rattle.map.specs.Limits.{lastNumber}

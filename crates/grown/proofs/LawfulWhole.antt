@@ -9,13 +9,13 @@ use Rattle.lists.proofs.Perms.{perm-in, perm-distinct}
 use Rattle.plane.specs.Directions.{sameWay}
 use Rattle.curves.specs.Curves.{Curve, lastPoint, startWay, endWay}
 use Rattle.curves.specs.Edits.{joined, reversed}
-use Rattle.planar.specs.Map.{Arc, Dart, fwd, bwd, rev, darts}
-use Rattle.planar.specs.Pieces.{nums}
-use Rattle.planar.specs.Rings.{sameDart}
-use Rattle.planar.proofs.Rings.{rev-in, next-in}
-use Rattle.planar.proofs.Hooks.{fresh-dart}
-use Rattle.planar.proofs.Turns.{rev-rev}
-use Rattle.planar.proofs.Subdivide.{arc}
+use Rattle.planar_maps.specs.Map.{Arc, Dart, fwd, bwd, rev, darts}
+use Rattle.planar_maps.specs.Pieces.{nums}
+use Rattle.planar_maps.specs.Rings.{sameDart}
+use Rattle.planar_maps.proofs.Rings.{rev-in, next-in}
+use Rattle.planar_maps.proofs.Hooks.{fresh-dart}
+use Rattle.planar_maps.proofs.Turns.{rev-rev}
+use Rattle.planar_maps.proofs.Subdivide.{arc}
 use Rattle.rotation.proofs.Order.{sameWay-refl, sameWay-sym}
 use Rattle.rotation.proofs.Ties.{tells}
 use Rattle.geometry.specs.Meaning.{Some}

@@ -11,9 +11,9 @@ use Rattle.lists.specs.Tests.{same}
 use Rattle.lists.specs.Scans.{all, firstOr, isSome}
 use Rattle.lists.specs.Members.{Distinct}
 use Rattle.lists.proofs.Bools.{same-refl, same-true, same-false, same-eq, beq-true, beq-refl, and-true, and-is}
-use Rattle.planar.specs.Map.{Arc, Dart, fwd, bwd}
-use Rattle.planar.specs.Pieces.{nums}
-use Rattle.planar.proofs.Rings.{next-in}
+use Rattle.planar_maps.specs.Map.{Arc, Dart, fwd, bwd}
+use Rattle.planar_maps.specs.Pieces.{nums}
+use Rattle.planar_maps.proofs.Rings.{next-in}
 use Rattle.map.specs.Limits.{lastNumber}
 use Rattle.map.specs.Rows.{Node, Edge, Map, edge, hasNode, hasEdge, hasFace}
 use Rattle.map.specs.Darts.{arcs, directed, leaves, next, departures, edgeEnds}

@@ -6,7 +6,7 @@ use mathlib.Core.Option.{Option, none, some, Option·getD}
 use Prim.Native.Nat.{ℕ}
 use Rattle.plane.specs.Directions.{Way}
 use Rattle.curves.specs.Curves.{Curve, startWay}
-use Rattle.planar.specs.Map.{Dart}
+use Rattle.planar_maps.specs.Map.{Dart}
 use Rattle.rotation.specs.Law.{firstClockwise}
 use Rattle.rotation.proofs.Node.{first-in}
 use Rattle.map.specs.Rows.{Map, node, hasNode, hasEdge}

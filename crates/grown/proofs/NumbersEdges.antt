@@ -12,7 +12,7 @@ use Rattle.lists.specs.Members.{Distinct}
 use Rattle.lists.proofs.Bools.{same-true, same-eq, which, or-true, or-false}
 use Rattle.lists.proofs.Keeps.{keep-in, keep-has, keep-map}
 use Rattle.curves.specs.Curves.{Curve}
-use Rattle.planar.specs.Pieces.{nums}
+use Rattle.planar_maps.specs.Pieces.{nums}
 use Rattle.map.specs.Rows.{Node, Edge, Map, node, edge, hasNode, hasEdge, atNodes}
 use Rattle.map.specs.Darts.{arcs, edgeEnds}
 use Rattle.map.specs.Links.{unlinkEdge}

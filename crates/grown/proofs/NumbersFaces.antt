@@ -17,8 +17,8 @@ use Rattle.lists.proofs.Members.{map-cong}
 use Rattle.plane.specs.declared.Point.{Point}
 use Rattle.plane.specs.Areas.{isPositive}
 use Rattle.integers.specs.Order.{sgn}
-use Rattle.planar.specs.Map.{Arc, Dart, fwd, bwd}
-use Rattle.planar.specs.Pieces.{nums}
+use Rattle.planar_maps.specs.Map.{Arc, Dart, fwd, bwd}
+use Rattle.planar_maps.specs.Pieces.{nums}
 use Rattle.map.specs.Rows.{Node, Edge, Map, edge, hasEdge}
 use Rattle.map.specs.Darts.{arcs, bears, among, ring}
 use Rattle.map.specs.Faces.{encloses, ringArea}

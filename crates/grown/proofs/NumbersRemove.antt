@@ -12,7 +12,7 @@ use Rattle.lists.specs.Tests.{same, bit}
 use Rattle.lists.specs.Scans.{keep, firstOr, isSome}
 use Rattle.lists.proofs.Bools.{same-refl, same-true, same-eq, differ, or-true, and-true, either}
 use Rattle.lists.proofs.Keeps.{keep-has}
-use Rattle.planar.proofs.Chains.{min-one}
+use Rattle.planar_maps.proofs.Chains.{min-one}
 use Rattle.map.specs.Rows.{Node, Edge, Map, edge, hasEdge}
 use Rattle.map.specs.Edits.{removeIsoEdge, withSides, renamed, renamedNode, renamedFaces, healsFaces, lowerFace, makesFace, faceLeft, removeEdge}
 use Rattle.map.proofs.Scans.{Rising, rising-append, rising-keep}

@@ -14,7 +14,7 @@ use Rattle.lists.specs.Tests.{same}
 use Rattle.lists.proofs.Bools.{same-true, same-eq, which}
 use Rattle.lists.proofs.Keeps.{keep-in, keep-has, keep-map}
 use Rattle.plane.specs.declared.Point.{Point}
-use Rattle.planar.specs.Map.{Dart, fwd, bwd}
+use Rattle.planar_maps.specs.Map.{Dart, fwd, bwd}
 use Rattle.map.specs.Rows.{Node, Edge, Map, edge, hasEdge, atEdge, withoutEdge}
 use Rattle.map.specs.Links.{withLinks, instead, redirect}
 use Rattle.map.specs.Edits.{startHalf, endHalf, split}

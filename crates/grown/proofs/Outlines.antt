@@ -10,7 +10,7 @@ use Rattle.lists.specs.Scans.{keep}
 use Rattle.lists.proofs.Members.{map-cong}
 use Rattle.lists.proofs.Keeps.{keep-map}
 use Rattle.curves.specs.Curves.{Curve}
-use Rattle.planar.specs.Map.{Dart, fwd, bwd}
+use Rattle.planar_maps.specs.Map.{Dart, fwd, bwd}
 use Rattle.map.specs.Rows.{Node, Edge, Map, edge, setEdges, given, atNodes, atEdge, withoutEdge}
 use Rattle.map.specs.Darts.{next}
 use Rattle.map.specs.Links.{redirect, lead, linkIn, linkEdge, unlinkEdge}

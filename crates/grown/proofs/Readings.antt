@@ -15,11 +15,11 @@ use Rattle.lists.proofs.Keeps.{keep-in, keep-has}
 use Rattle.lists.proofs.Members.{map-cong}
 use Rattle.curves.specs.Curves.{Curve, startWay, through}
 use Rattle.curves.specs.Edits as edits
-use Rattle.planar.specs.Map.{Arc, Dart, fwd, bwd, darts}
-use Rattle.planar.specs.Pieces.{nums}
-use Rattle.planar.specs.Rings.{sameDart}
-use Rattle.planar.proofs.Cycles.{fwd-in, bwd-in}
-use Rattle.planar.proofs.Rings.{dart-cases}
+use Rattle.planar_maps.specs.Map.{Arc, Dart, fwd, bwd, darts}
+use Rattle.planar_maps.specs.Pieces.{nums}
+use Rattle.planar_maps.specs.Rings.{sameDart}
+use Rattle.planar_maps.proofs.Cycles.{fwd-in, bwd-in}
+use Rattle.planar_maps.proofs.Rings.{dart-cases}
 use Rattle.map.specs.Rows.{Edge, Map, edge, hasEdge, atEdge}
 use Rattle.map.specs.Darts.{arcs, directed, leaves, next, bears, course, way, departures}
 use Rattle.map.specs.Links.{withLinks, instead, redirect, lead}

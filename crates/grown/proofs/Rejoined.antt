@@ -16,9 +16,9 @@ use Rattle.lists.proofs.Keeps.{keep-none}
 use Rattle.plane.specs.declared.Point.{Point}
 use Rattle.curves.specs.Curves.{Curve, points, maxPoints}
 use Rattle.curves.specs.Edits.{joined}
-use Rattle.planar.specs.Map.{Arc, Dart, fwd, bwd, darts}
-use Rattle.planar.proofs.Hooks.{fwd≢bwd}
-use Rattle.planar.proofs.Moves.{darts-perm}
+use Rattle.planar_maps.specs.Map.{Arc, Dart, fwd, bwd, darts}
+use Rattle.planar_maps.proofs.Hooks.{fwd≢bwd}
+use Rattle.planar_maps.proofs.Moves.{darts-perm}
 use Rattle.geometry.proofs.Theorems.{heal-split, onCurve-iff}
 use Rattle.map.specs.Rows.{Edge, Map, edge, hasEdge, withoutEdge}
 use Rattle.map.specs.Darts.{directed, leaves, next, bears, way, course, departures, edgeEnds}

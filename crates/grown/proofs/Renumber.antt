@@ -12,13 +12,13 @@ use Rattle.lists.proofs.Bools.{eq2}
 use Rattle.lists.proofs.Members.{map-cong}
 use Rattle.lists.proofs.Sums.{sum-cong, sum-map}
 use Rattle.lists.proofs.Perms.{perm-in, distinct-map, distinct-injective}
-use Rattle.planar.specs.Map.{Arc, Dart, fwd, bwd, rev, darts, across, Linked, Cycle, Colouring}
-use Rattle.planar.specs.Pieces.{Chain, stay, along, against, Within, Euler, nums}
-use Rattle.planar.specs.Rings.{Leads, turn, OneTurn}
-use Rattle.planar.specs.Planar.{Planar}
-use Rattle.planar.proofs.Cycles.{fwd-in, bwd-in}
-use Rattle.planar.proofs.Rings.{rev-in, next-in}
-use Rattle.planar.proofs.Chains.{chain-image, pieces-of-chains}
+use Rattle.planar_maps.specs.Map.{Arc, Dart, fwd, bwd, rev, darts, across, Linked, Cycle, Colouring}
+use Rattle.planar_maps.specs.Pieces.{Chain, stay, along, against, Within, Euler, nums}
+use Rattle.planar_maps.specs.Rings.{Leads, turn, OneTurn}
+use Rattle.planar_maps.specs.Planar.{Planar}
+use Rattle.planar_maps.proofs.Cycles.{fwd-in, bwd-in}
+use Rattle.planar_maps.proofs.Rings.{rev-in, next-in}
+use Rattle.planar_maps.proofs.Chains.{chain-image, pieces-of-chains}
 
 -- the edge that d runs along, from s to t
 abbrev pub runs : Dart → ℕ → ℕ → Arc

@@ -12,9 +12,9 @@ use Rattle.lists.specs.Members.{Distinct}
 use Rattle.lists.proofs.Bools.{same-true, same-false, which}
 use Rattle.lists.proofs.Keeps.{keep-map, keep-all}
 use Rattle.plane.specs.Points.{origin}
-use Rattle.planar.specs.Map.{Arc, Dart, fwd, bwd, darts}
-use Rattle.planar.specs.Pieces.{nums}
-use Rattle.planar.specs.Planar.{Planar}
+use Rattle.planar_maps.specs.Map.{Arc, Dart, fwd, bwd, darts}
+use Rattle.planar_maps.specs.Pieces.{nums}
+use Rattle.planar_maps.specs.Planar.{Planar}
 use Rattle.map.specs.Rows.{Node, Edge, Map, node, edge, hasNode, hasEdge, atEdge, withoutEdge}
 use Rattle.map.specs.Darts.{arcs, directed, leaves, next, bears}
 use Rattle.grown.proofs.Readings.{numbered, look, has, look-row, look-at, look-first, look-second, look-one, without, look-without, has-without, numberOf, missing, arcOf, nums-rows, edge-row, mapped-edge, mapped-has}

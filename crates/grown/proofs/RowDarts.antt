@@ -5,10 +5,10 @@ use mathlib.Core.List.{List, map, List·Memᴰ, Memᴰ·of-map, List·Permᴰ}
 use Rattle.lists.specs.Members.{Distinct}
 use Rattle.lists.proofs.Perms.{perm-in}
 use Rattle.curves.specs.Curves.{startWay}
-use Rattle.planar.specs.Map.{Arc, Dart, fwd, bwd, darts}
-use Rattle.planar.specs.Pieces.{nums}
-use Rattle.planar.proofs.Rings.{dart-cases}
-use Rattle.planar.proofs.Moves.{darts-perm}
+use Rattle.planar_maps.specs.Map.{Arc, Dart, fwd, bwd, darts}
+use Rattle.planar_maps.specs.Pieces.{nums}
+use Rattle.planar_maps.proofs.Rings.{dart-cases}
+use Rattle.planar_maps.proofs.Moves.{darts-perm}
 use Rattle.map.specs.Rows.{Edge, Map, edge}
 use Rattle.map.specs.Darts.{arcs, leaves, next, bears, way}
 use Rattle.grown.proofs.Readings.{tailIn, nextIn, faceIn, courseIn, leaves-row, next-row, bears-row, course-row, way-row, arcOf, edge-at}

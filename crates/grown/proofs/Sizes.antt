@@ -12,7 +12,7 @@ use Rattle.lists.proofs.Bools.{same-refl, same-eq, same-false}
 use Rattle.lists.proofs.Keeps.{keep-has, keep-le, keep-lt}
 use Rattle.plane.specs.declared.Point.{Point}
 use Rattle.curves.specs.Curves.{Curve, startWay}
-use Rattle.planar.specs.Map.{fwd}
+use Rattle.planar_maps.specs.Map.{fwd}
 use Rattle.map.specs.Rows.{Edge, Map, edge, hasNode, hasEdge, atNodes, atEdge}
 use Rattle.map.specs.Darts.{bears}
 use Rattle.map.specs.Links.{cornerFace}

@@ -5,16 +5,16 @@ use mathlib.Core.List.{List, _∷_, map, List·Memᴰ, List·Memᴰ·head, List�
 use Prim.Native.Nat.{ℕ}
 use Rattle.lists.proofs.Members.{each-cons}
 use Rattle.plane.specs.Directions.{Way}
-use Rattle.planar.specs.Map.{Arc, Dart, fwd, bwd, rev, darts}
-use Rattle.planar.specs.Pieces.{nums}
-use Rattle.planar.specs.Weave.{with-edge, renamed, split-tail, split-face, split-next}
-use Rattle.planar.specs.Planar.{Planar}
-use Rattle.planar.proofs.Cycles.{fwd-in}
-use Rattle.planar.proofs.Rings.{rev-in}
-use Rattle.planar.proofs.Hooks.{fwd≢bwd, fresh-dart, with-fwd, with-bwd, with-other}
-use Rattle.planar.proofs.Agree.{planar-agree}
-use Rattle.planar.proofs.Subdivide.{arc}
-use Rattle.planar.proofs.Splitting.{renamed-at, renamed-other, planar-subdivide}
+use Rattle.planar_maps.specs.Map.{Arc, Dart, fwd, bwd, rev, darts}
+use Rattle.planar_maps.specs.Pieces.{nums}
+use Rattle.planar_maps.specs.Weave.{with-edge, renamed, split-tail, split-face, split-next}
+use Rattle.planar_maps.specs.Planar.{Planar}
+use Rattle.planar_maps.proofs.Cycles.{fwd-in}
+use Rattle.planar_maps.proofs.Rings.{rev-in}
+use Rattle.planar_maps.proofs.Hooks.{fwd≢bwd, fresh-dart, with-fwd, with-bwd, with-other}
+use Rattle.planar_maps.proofs.Agree.{planar-agree}
+use Rattle.planar_maps.proofs.Subdivide.{arc}
+use Rattle.planar_maps.proofs.Splitting.{renamed-at, renamed-other, planar-subdivide}
 use Rattle.grown.proofs.CurvesLists.{map-same}
 use Rattle.grown.proofs.Renumber.{runs, named, Named, planar-named}
 use Rattle.grown.proofs.Halved.{Halved, departs, whole, each-whole, f-fwd, f-bwd, f-old, g-fwd, g-bwd, g-old}

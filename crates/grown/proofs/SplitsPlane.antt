@@ -5,9 +5,9 @@ use mathlib.Core.List.{List, _∷_, map, List·Permᴰ, Permᴰ·symm}
 use Prim.Native.Nat.{ℕ, _+_}
 use lib.ListN.{length}
 use Rattle.plane.specs.declared.Point.{Point}
-use Rattle.planar.specs.Map.{Arc}
-use Rattle.planar.specs.Planar.{Planar}
-use Rattle.planar.proofs.Moves.{planar-perm}
+use Rattle.planar_maps.specs.Map.{Arc}
+use Rattle.planar_maps.specs.Planar.{Planar}
+use Rattle.planar_maps.proofs.Moves.{planar-perm}
 use Rattle.map.specs.Rows.{Map, Sizes, edge, atEdge, withoutEdge}
 use Rattle.map.specs.Links.{redirect}
 use Rattle.map.specs.Darts.{arcs, leaves, next, bears}

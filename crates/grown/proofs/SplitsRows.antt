@@ -7,9 +7,9 @@ use Prim.Native.Nat.{ℕ, _+_}
 use borrow.Author.Tests.{not-true}
 use Rattle.lists.specs.Members.{Distinct}
 use Rattle.lists.proofs.Bools.{equal?, same-refl, same-false, differ}
-use Rattle.planar.specs.Map.{Dart, fwd, bwd}
-use Rattle.planar.proofs.Rings.{sameDart-refl}
-use Rattle.planar.proofs.Hooks.{sameDart-false, fwd≢bwd, with-fwd, with-bwd, with-other}
+use Rattle.planar_maps.specs.Map.{Dart, fwd, bwd}
+use Rattle.planar_maps.proofs.Rings.{sameDart-refl}
+use Rattle.planar_maps.proofs.Hooks.{sameDart-false, fwd≢bwd, with-fwd, with-bwd, with-other}
 use Rattle.map.specs.Rows.{Edge, Map, edge, hasEdge, withoutEdge}
 use Rattle.map.specs.Links.{withLinks, instead, redirect}
 use Rattle.grown.proofs.Readings.{numberOf, missing, edge-row, mapped-edge}

@@ -7,7 +7,7 @@ use mathlib.Core.Logic.{_≢_}
 use Prim.Native.Nat.{ℕ, _+_, _≤_, _<_}
 use lib.IntN.{ℤ, pos, natAbs, _+ℤ_}
 use Rattle.lists.specs.Tests.{same}
-use Rattle.planar.specs.Map.{Dart}
+use Rattle.planar_maps.specs.Map.{Dart}
 use Rattle.map.specs.declared.Head.{Head}
 use Rattle.map.specs.Limits.{maxNodes, maxEdges, maxFaces, lastNumber}
 use Rattle.map.specs.Rows.{Edge, Map, Lent, Sizes, mapOf, lentOf, sizesOf, edge, setEdges, withoutEdge}

@@ -10,9 +10,9 @@ use Rattle.plane.specs.declared.Point.{Point}
 use Rattle.plane.specs.Points.{InRange}
 use Rattle.curves.specs.Curves.{Curve, points, lastPoint, maxPoints}
 use Rattle.curves.specs.Tests.{straightInside}
-use Rattle.planar.specs.Map.{Dart, rev}
-use Rattle.planar.specs.Rings.{sameDart}
-use Rattle.planar.specs.Planar.{Planar}
+use Rattle.planar_maps.specs.Map.{Dart, rev}
+use Rattle.planar_maps.specs.Rings.{sameDart}
+use Rattle.planar_maps.specs.Planar.{Planar}
 use Rattle.rotation.specs.Law.{Law}
 use Rattle.geometry.specs.Drawing.{Drawn}
 use Rattle.map.specs.Limits.{lastNumber}

@@ -8,7 +8,7 @@ use Prim.Native.Nat.{ℕ}
 use lib.IntN.{ℤ, pos, negsuc}
 use Rattle.plane.specs.declared.Point.{Point}
 use Rattle.curves.specs.Curves.{through, coordinates}
-use Rattle.planar.specs.Map.{Dart, fwd, bwd}
+use Rattle.planar_maps.specs.Map.{Dart, fwd, bwd}
 use Rattle.map.specs.declared.Answer.{Answer}
 use Rattle.map.specs.Rows.{Node, Edge, Map, Lent, Sizes, mapOf, lentOf}
 use Rattle.map.specs.Form.{inForm}

@@ -1,2 +1,2 @@
--- `Positions`: directed edges by their place in the table.
-pub mod Positions
+-- `Linking`: departures by position, and links changed in the numbers.
+pub mod Linking

@@ -1,160 +1,266 @@
-// Directed edges by position: twice the row, and one more for the reverse. Their columns stand side by side in an edge row: start and end,
-// next left and next right, left and right face.
+// The first departure met turning clockwise, and the only ways in which links change.
+use darts::Step;
 use lists::Found;
-use plane::Point;
 ghost use mathlib.Core.Path.{_≡_};
-ghost use Prim.Native.Nat.{_+_, _*_, _/_, _<_, _≤_};
-ghost use lib.ListN.{length, set};
-ghost use Rattle.lists.specs.Tables.{place};
+ghost use mathlib.Core.Bool.{true, false, not, _&&_};
+ghost use Prim.Native.Nat.{ℕ, _+_, _*_, _/_, _<_, _≤_};
+ghost use lib.IntN.{negℤ};
+ghost use lib.ListN.{length, getD, take};
+ghost use lib.Signed.{nonNeg};
+ghost use Rattle.lists.specs.Tests.{same};
+ghost use Rattle.lists.specs.Scans.{any, count as countOf, keep};
 ghost use Rattle.plane.specs.Points.{InRange};
-ghost use Rattle.plane.specs.Directions.{wayTo, signs, before as beforeWay, sameWay};
-ghost use Rattle.curves.specs.Curves.{Run, curveOf, startWay};
-ghost use Rattle.curves.specs.Edits.{course};
-ghost use Rattle.planar.specs.Rings.{sameDart};
-ghost use Rattle.map.specs.Rows.{dartOf, dartCell};
-ghost use Rattle.map.specs.Darts.{directed, next};
-ghost use Rattle.tables.specs.Tables.{EdgeRow, EdgeRows, edgeMap};
-ghost use Rattle.links.specs.Positions.{reverseOf, dartAt, sidePlace, sideCell, wayAt, wayWith, Along};
+ghost use Rattle.plane.specs.Directions.{wayTo, sameWay};
+ghost use Rattle.curves.specs.Curves.{Run};
+ghost use Rattle.rotation.specs.Law.{lawfulNext};
+ghost use Rattle.tables.specs.Tables.{EdgeRows};
+ghost use Rattle.darts.specs.Positions.{sideCell, wayAt, wayWith};
+ghost use Rattle.links.specs.Linking.{Known, laterOf, chosenOf, positions, leavesNode, leaving, firstMet, redirected, linkedAt, linkedIn, linkedEdge, unlinkedEdge};
 
-// A column pair of the edge rows: 1 the node that a directed edge leaves, 3 its next, 5 the face that it bears.
-pub fn dart_cell(edges: &[i64], p: usize, k: usize) -> i64
-    requires { ⌜ (p / 2 * 32 + 32 ≤ length (now edges)) × (k ≤ 30) ⌝ }
-    ensures { λ r. ⌜ r ≡ sideCell (now (edges .entry)) p k ⌝ }
-{
-    edges[p / 2 * 32 + k + p % 2]
+// A choice among departures so far: the last counterclockwise of all, and of those before a direction.
+struct Choice {
+    any: bool,
+    all: usize,
+    under: bool,
+    below: usize,
 }
 
-pub fn set_dart_cell(edges: &mut [i64], p: usize, k: usize, v: i64)
-    requires { ⌜ (p / 2 * 32 + 32 ≤ length (now edges)) × (k ≤ 30) ⌝ }
-    ensures { λ r. ⌜ now (edges .exit) ≡ set (now (edges .entry)) (sidePlace p k) v ⌝ }
+// The later of the chosen departure k, if there is one, and p, with p's first step w.
+fn later(edges: &[i64], own: usize, c: &[i64], some: bool, k: usize, p: usize, w: Step) -> usize
+    requires { ⌜ (some ≡ true → Known (now edges) own (now c) k) × (InRange (w .from)) × (InRange (w .to)) ⌝ }
+    ensures { λ r. ⌜ r ≡ laterOf (wayWith (now (edges .entry)) own (now (c .entry))) some k p (wayTo (w .from) (w .to)) ⌝ }
 {
-    edges[p / 2 * 32 + k + p % 2] = v;
-}
-
-// The position of the reverse.
-pub fn reverse(p: usize) -> usize
-    requires { ⌜ p < 5000 ⌝ }
-    ensures { λ r. ⌜ r ≡ reverseOf p ⌝ }
-{
-    if p % 2 == 0 { p + 1 } else { p - 1 }
-}
-
-// The directed edge at a position, as the tables write it.
-pub fn dart_at(edges: &[i64], p: usize) -> i64
-    requires { ⌜ EdgeRow (now edges) (p / 2) ⌝ }
-    ensures { λ r. ⌜ r ≡ dartCell (dartAt (now (edges .entry)) p) ⌝ }
-{
-    let e = edges[p / 2 * 32];
-    if p % 2 == 0 { e } else { -e }
-}
-
-// The position of a directed edge.
-pub fn position_of(edges: &[i64], count: usize, d: i64) -> Found
-    requires { ⌜ EdgeRows (now edges) count ⌝ }
-    ensures { λ r. ⌜ r ≡ place (λ c. sameDart c (dartOf d)) 0 (directed (edgeMap (now (edges .entry)) count)) ⌝ }
-{
-    if (d < -999999) | (999999 < d) {
-        return Found::Missing;
-    }
-    if d < 0 {
-        let found = tables::find_row(edges, 32, count, -d);
-        let Found::At(i) = found else {
-            return Found::Missing;
-        };
-        return Found::At(i * 2 + 1);
-    }
-    let found = tables::find_row(edges, 32, count, d);
-    let Found::At(i) = found else {
-        return Found::Missing;
-    };
-    Found::At(i * 2)
-}
-
-// The position of what follows; in form it is never missing.
-pub fn next_position(edges: &[i64], count: usize, p: usize) -> usize
-    requires { ⌜ EdgeRows (now edges) count × (p < count * 2) ⌝ }
-    ensures { λ r. ⌜ (r < count * 2) × (dartAt (now (edges .entry)) r ≡ next (edgeMap (now (edges .entry)) count) (dartAt (now (edges .entry)) p)) ⌝ }
-{
-    let found = position_of(edges, count, dart_cell(edges, p, 3));
-    let Found::At(q) = found else {
+    if !some {
         return p;
+    }
+    if darts::before(darts::step_with(edges, own, c, k), w) {
+        p
+    } else {
+        k
+    }
+}
+
+// The choice with the departure p besides, for the direction v.
+fn chosen(edges: &[i64], own: usize, c: &[i64], h: Choice, p: usize, v: Step) -> Choice
+    requires { ⌜ Known (now edges) own (now c) p × (h .any ≡ true → Known (now edges) own (now c) (h .all)) × (h .under ≡ true → Known (now edges) own (now c) (h .below)) × (InRange (v .from)) × (InRange (v .to)) ⌝ }
+    ensures { λ r. ⌜ r ≡ chosenOf (wayWith (now (edges .entry)) own (now (c .entry))) (wayTo (v .from) (v .to)) h p ⌝ }
+{
+    let w = darts::step_with(edges, own, c, p);
+    let all = later(edges, own, c, h.any, h.all, p, w);
+    if !darts::before(w, v) {
+        return Choice {
+            any: true,
+            all,
+            under: h.under,
+            below: h.below,
+        };
+    }
+    Choice {
+        any: true,
+        all,
+        under: true,
+        below: later(edges, own, c, h.under, h.below, p, w),
+    }
+}
+
+// The first departure from the node met turning clockwise from v, but for the positions a and b, where edge row `own` has the curve c.
+pub fn first_clockwise(
+    edges: &[i64],
+    count: usize,
+    own: usize,
+    c: &[i64],
+    node: i64,
+    v: Step,
+    a: usize,
+    b: usize,
+) -> Found
+    requires { ⌜ EdgeRows (now edges) count × (own < count → Run (now c)) × (InRange (v .from)) × (InRange (v .to)) ⌝ }
+    ensures { λ r. ⌜ r ≡ firstMet (wayWith (now (edges .entry)) own (now (c .entry))) (wayTo (v .from) (v .to)) (leaving (now (edges .entry)) count node a b) ⌝ }
+{
+    let mut h = Choice {
+        any: false,
+        all: 0,
+        under: false,
+        below: 0,
     };
-    q
-}
-
-// ---- directions
-
-// Two points.
-pub struct Step {
-    pub from: Point,
-    pub to: Point,
-}
-
-// The first step along a curve, or along its reverse.
-pub fn first_step(c: &[i64], back: bool) -> Step
-    requires { ⌜ Run (now c) ⌝ }
-    ensures { λ r. ⌜ Along r (startWay (course back (curveOf (now (c .entry))))) ⌝ }
-{
-    let n = curves::point_count(c);
-    if back {
-        // most edges are straight: where the count is known the compiler need not work out the place
-        if n == 2 {
-            return Step {
-                from: curves::point_at(c, 1),
-                to: curves::point_at(c, 0),
-            };
+    for i in 0..count {
+        let p = i * 2;
+        if edges[i * 32 + 1] == node {
+            if (p != a) & (p != b) {
+                h = chosen(edges, own, c, h, p, v);
+            }
         }
-        Step {
-            from: curves::point_at(c, n - 1),
-            to: curves::point_at(c, n - 2),
+        if edges[i * 32 + 2] == node {
+            if (p + 1 != a) & (p + 1 != b) {
+                h = chosen(edges, own, c, h, p + 1, v);
+            }
         }
+    }
+    if h.under {
+        return Found::At(h.below);
+    }
+    if h.any {
+        Found::At(h.all)
     } else {
-        Step {
-            from: curves::point_at(c, 0),
-            to: curves::point_at(c, 1),
+        Found::Missing
+    }
+}
+
+// The departures from the node are written to the front of the list; their count.
+pub fn departures_at(edges: &[i64], count: usize, node: i64, list: &mut [u16]) -> usize
+    requires { ⌜ EdgeRows (now edges) count × (count ≤ 2000) × (count * 2 ≤ length (now list)) ⌝ }
+    ensures { λ r. ⌜ (r ≤ count * 2) × (length (now (list .exit)) ≡ length (now (list .entry))) × (take r (now (list .exit)) ≡ keep (leavesNode (now (edges .entry)) node) (positions count)) ⌝ }
+{
+    let mut k = 0;
+    for i in 0..count {
+        if edges[i * 32 + 1] == node {
+            list[k] = (i * 2) as u16;
+            k += 1;
+        }
+        if edges[i * 32 + 2] == node {
+            list[k] = (i * 2 + 1) as u16;
+            k += 1;
+        }
+    }
+    k
+}
+
+// The first of the listed departures met turning clockwise from the departure p, where edge row `own` has the curve c; with no other, p.
+pub fn clockwise(edges: &[i64], own: usize, c: &[i64], list: &[u16], p: usize) -> usize
+    requires { ⌜ Known (now edges) own (now c) p × ((k : ℕ) → k < length (now list) → Known (now edges) own (now c) (getD (now list) k 0)) ⌝ }
+    ensures { λ r. ⌜ r ≡ lawfulNext (wayWith (now (edges .entry)) own (now (c .entry))) same p (now (list .entry)) ⌝ }
+{
+    let v = darts::step_with(edges, own, c, p);
+    let mut h = Choice {
+        any: false,
+        all: p,
+        under: false,
+        below: p,
+    };
+    for k in 0..list.len() {
+        let q = list[k] as usize;
+        if q != p {
+            h = chosen(edges, own, c, h, q, v);
+        }
+    }
+    if h.under { h.below } else { h.all }
+}
+
+// Whether a departure from the node, but of edge row `own`, has the direction v.
+pub fn way_taken(edges: &[i64], count: usize, node: i64, own: usize, v: Step) -> bool
+    requires { ⌜ EdgeRows (now edges) count × (InRange (v .from)) × (InRange (v .to)) ⌝ }
+    ensures { λ r. ⌜ r ≡ any (λ p. leavesNode (now (edges .entry)) node p && not (same (p / 2) own) && sameWay (wayAt (now (edges .entry)) p) (wayTo (v .from) (v .to))) (positions count) ⌝ }
+{
+    for i in 0..count {
+        if (edges[i * 32 + 1] == node) & (i != own) {
+            if darts::same_way(darts::step_at(edges, i * 2), v) {
+                return true;
+            }
+        }
+        if (edges[i * 32 + 2] == node) & (i != own) {
+            if darts::same_way(darts::step_at(edges, i * 2 + 1), v) {
+                return true;
+            }
+        }
+    }
+    false
+}
+
+// How many edge ends are at the node.
+pub fn edge_ends(edges: &[i64], count: usize, node: i64) -> usize
+    requires { ⌜ EdgeRows (now edges) count ⌝ }
+    ensures { λ r. ⌜ (r ≡ countOf (leavesNode (now (edges .entry)) node) (positions count)) × (r ≤ count * 2) ⌝ }
+{
+    let mut n: usize = 0;
+    for p in 0..count * 2 {
+        n += (darts::dart_cell(edges, p, 1) == node) as usize;
+    }
+    n
+}
+
+// ---- links changed
+
+// The reverse of an edge as it is written.
+pub fn turned(z: i64) -> i64
+    requires { ⌜ nonNeg z ≡ true ⌝ }
+    ensures { λ r. ⌜ r ≡ negℤ z ⌝ }
+{
+    -z
+}
+
+// What led to `old` leads to `new`.
+pub fn redirect(edges: &mut [i64], count: usize, old: i64, new: i64)
+    requires { ⌜ count * 32 ≤ length (now edges) ⌝ }
+    ensures { λ r. ⌜ now (edges .exit) ≡ redirected old new (now (edges .entry)) count ⌝ }
+{
+    for i in 0..count {
+        if edges[i * 32 + 3] == old {
+            edges[i * 32 + 3] = new;
+        }
+        if edges[i * 32 + 4] == old {
+            edges[i * 32 + 4] = new;
         }
     }
 }
 
-// The first step of the directed edge at a position.
-pub fn step_at(edges: &[i64], p: usize) -> Step
-    requires { ⌜ EdgeRow (now edges) (p / 2) ⌝ }
-    ensures { λ r. ⌜ Along r (wayAt (now (edges .entry)) p) ⌝ }
+// The new departure p linked in where c is the first one met clockwise from it.
+fn link_at(edges: &mut [i64], count: usize, p: usize, c: i64)
+    requires { ⌜ EdgeRows (now edges) count × (p < count * 2) × (count ≤ 2001) ⌝ }
+    ensures { λ r. ⌜ now (edges .exit) ≡ linkedAt (now (edges .entry)) count p c ⌝ }
 {
-    first_step(tables::curve_of(edges, p / 2), p % 2 == 1)
+    let d = darts::dart_at(edges, p);
+    redirect(edges, count, c, d);
+    darts::set_dart_cell(edges, darts::reverse(p), 3, c);
 }
 
-// The place of that step's signs among the nine.
-pub fn signs_at(edges: &[i64], p: usize) -> usize
-    requires { ⌜ EdgeRow (now edges) (p / 2) ⌝ }
-    ensures { λ r. ⌜ (r ≡ signs (wayAt (now (edges .entry)) p)) × (r < 9) ⌝ }
+// The first departure met turning clockwise from the departure p, where `other` is not there yet.
+fn met(edges: &[i64], count: usize, p: usize, other: usize) -> Found
+    requires { ⌜ EdgeRows (now edges) count × (p < count * 2) ⌝ }
+    ensures { λ r. ⌜ r ≡ firstMet (wayAt (now (edges .entry))) (wayAt (now (edges .entry)) p) (leaving (now (edges .entry)) count (sideCell (now (edges .entry)) p 1) p other) ⌝ }
 {
-    let v = step_at(edges, p);
-    directions::signs_of(v.from, v.to)
+    let node = darts::dart_cell(edges, p, 1);
+    let v = darts::step_at(edges, p);
+    first_clockwise(edges, count, count, &edges[0..0], node, v, p, other)
 }
 
-// The first step where edge row `own` has the curve c; no row is, where `own` is past them all.
-pub fn step_with(edges: &[i64], own: usize, c: &[i64], p: usize) -> Step
-    requires { ⌜ (p / 2 ≡ own → Run (now c)) × (((p / 2 ≡ own) → ⊥) → EdgeRow (now edges) (p / 2)) ⌝ }
-    ensures { λ r. ⌜ Along r (wayWith (now (edges .entry)) own (now (c .entry)) p) ⌝ }
+// The new departure p linked in, `other` not being there yet.
+pub fn link_in(edges: &mut [i64], count: usize, p: usize, other: usize)
+    requires { ⌜ EdgeRows (now edges) count × (p < count * 2) × (count ≤ 2001) ⌝ }
+    ensures { λ r. ⌜ now (edges .exit) ≡ linkedIn (now (edges .entry)) count p other ⌝ }
 {
-    if p / 2 == own {
-        first_step(c, p % 2 == 1)
-    } else {
-        step_at(edges, p)
+    let found = met(edges, count, p, other);
+    match found {
+        Found::At(q) => {
+            let c = darts::dart_at(edges, q);
+            link_at(edges, count, p, c);
+        }
+        Found::Missing => {
+            let c = darts::dart_at(edges, p);
+            link_at(edges, count, p, c);
+        }
     }
 }
 
-pub fn before(v: Step, w: Step) -> bool
-    requires { ⌜ (InRange (v .from)) × (InRange (v .to)) × (InRange (w .from)) × (InRange (w .to)) ⌝ }
-    ensures { λ r. ⌜ r ≡ beforeWay (wayTo (v .from) (v .to)) (wayTo (w .from) (w .to)) ⌝ }
+// The new last row linked in, start first, then end.
+pub fn link_edge(edges: &mut [i64], count: usize)
+    requires { ⌜ EdgeRows (now edges) count × (0 < count) × (count ≤ 2001) ⌝ }
+    ensures { λ r. ⌜ now (edges .exit) ≡ linkedEdge (now (edges .entry)) count ⌝ }
 {
-    directions::comes_before(v.from, v.to, w.from, w.to)
+    let p = (count - 1) * 2;
+    link_in(edges, count, p, p + 1);
+    link_in(edges, count, p + 1, p + 1);
 }
 
-pub fn same_way(v: Step, w: Step) -> bool
-    requires { ⌜ (InRange (v .from)) × (InRange (v .to)) × (InRange (w .from)) × (InRange (w .to)) ⌝ }
-    ensures { λ r. ⌜ r ≡ sameWay (wayTo (v .from) (v .to)) (wayTo (w .from) (w .to)) ⌝ }
+// Row i unlinked: what led to a removed departure leads where its reverse led, the start's departure first.
+pub fn unlink_edge(edges: &mut [i64], count: usize, i: usize)
+    requires { ⌜ EdgeRows (now edges) count × (i < count) ⌝ }
+    ensures { λ r. ⌜ now (edges .exit) ≡ unlinkedEdge (now (edges .entry)) count i ⌝ }
 {
-    directions::same_direction(v.from, v.to, w.from, w.to)
+    let p = i * 2;
+    let d = darts::dart_at(edges, p);
+    let back = darts::dart_at(edges, p + 1);
+    let to = darts::dart_cell(edges, p + 1, 3);
+    redirect(edges, count, d, to);
+    let then = darts::dart_cell(edges, p, 3);
+    redirect(edges, count, back, then);
 }

@@ -12,11 +12,11 @@ use Rattle.lists.specs.Members.{Distinct}
 use Rattle.lists.proofs.Bools.{same-true, and-true}
 use Rattle.lists.proofs.Perms.{perm-of-distinct}
 use Rattle.lists.proofs.Counts.{count-in}
-use Rattle.planar.specs.Map.{Arc, Dart, fwd, bwd, Linked}
-use Rattle.planar.specs.Rings.{sameDart, Leads}
-use Rattle.planar.specs.Pieces.{Within, nums}
-use Rattle.planar.proofs.Hooks.{distinct-darts}
-use Rattle.planar.proofs.Rings.{sameDart-true, next-in}
+use Rattle.planar_maps.specs.Map.{Arc, Dart, fwd, bwd, Linked}
+use Rattle.planar_maps.specs.Rings.{sameDart, Leads}
+use Rattle.planar_maps.specs.Pieces.{Within, nums}
+use Rattle.planar_maps.proofs.Hooks.{distinct-darts}
+use Rattle.planar_maps.proofs.Rings.{sameDart-true, next-in}
 use Rattle.map.specs.Rows.{Node, Edge, Map, edge, hasNode, hasEdge, hasFace}
 use Rattle.map.specs.Darts.{arcs, directed, leaves, arrives, next, bears}
 use Rattle.map.specs.Form.{linksOnce, linksMeet, ringsBearOne, formed}

@@ -4,7 +4,7 @@ use mathlib.Core.Bool.{Bool, true, false, cond}
 use mathlib.Core.Option.{some, Option·map}
 use Prim.Native.Nat.{ℕ}
 use Rattle.lists.specs.Tests.{same}
-use Rattle.planar.specs.Map.{Dart}
+use Rattle.planar_maps.specs.Map.{Dart}
 use Rattle.map.specs.Rows.{Edge, Map, findEdge, edge, hasEdge}
 use Rattle.map.specs.Darts.{next}
 use Rattle.map.specs.Links.{withLinks, instead, redirect}

@@ -9,9 +9,9 @@ use Rattle.lists.specs.Scans.{any, keep}
 use Rattle.plane.specs.Directions.{Way}
 use Rattle.curves.specs.Curves.{Curve, startWay}
 use Rattle.curves.specs.Edits as edits
-use Rattle.planar.specs.Map.{Arc, Dart, rev, darts}
-use Rattle.planar.specs.Rings.{sameDart}
-use Rattle.planar.specs.Pieces.{pieces}
+use Rattle.planar_maps.specs.Map.{Arc, Dart, rev, darts}
+use Rattle.planar_maps.specs.Rings.{sameDart}
+use Rattle.planar_maps.specs.Pieces.{pieces}
 use Rattle.map.specs.Rows.{Map, edge}
 
 -- an edge as its number and the nodes where it starts and ends

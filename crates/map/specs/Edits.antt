@@ -10,7 +10,7 @@ use Rattle.plane.specs.declared.Point.{Point}
 use Rattle.plane.specs.Areas.{isPositive}
 use Rattle.curves.specs.Curves.{Curve, startWay}
 use Rattle.curves.specs.Edits.{front, back, joined}
-use Rattle.planar.specs.Map.{Dart, fwd, bwd, rev}
+use Rattle.planar_maps.specs.Map.{Dart, fwd, bwd, rev}
 use Rattle.map.specs.Rows.{Node, Edge, Map, node, edge, setNodes, setEdges, setFaces, given, atNodes, atEdge, withoutNode, withoutEdge}
 use Rattle.map.specs.Darts.{leaves, arrives, next, bears, course, edgeEnds, ring, among, lowestEdge}
 use Rattle.map.specs.Links.{redirect, linkEdge, unlinkEdge, cornerFace}

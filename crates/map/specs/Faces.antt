@@ -9,7 +9,7 @@ use Rattle.plane.specs.declared.Point.{Point}
 use Rattle.plane.specs.Below.{Segment, ordered, passesBelow, higher}
 use Rattle.curves.specs.Curves.{segments}
 use Rattle.curves.specs.Measures.{curveArea, oddBelow}
-use Rattle.planar.specs.Map.{Dart}
+use Rattle.planar_maps.specs.Map.{Dart}
 use Rattle.map.specs.Rows.{Edge, Map}
 use Rattle.map.specs.Darts.{course}
 

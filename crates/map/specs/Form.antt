@@ -13,7 +13,7 @@ use Rattle.plane.specs.Points.{samePoint}
 use Rattle.plane.specs.Directions.{Way, sameWay}
 use Rattle.curves.specs.Curves.{maxPoints, coordinate, lastPoint}
 use Rattle.curves.specs.Tests.{neighboursDiffer}
-use Rattle.planar.specs.Rings.{sameDart}
+use Rattle.planar_maps.specs.Rings.{sameDart}
 use Rattle.map.specs.declared.Head.{Head}
 use Rattle.map.specs.Limits.{lastNumber, nodeWidth, edgeWidth, faceWidth}
 use Rattle.map.specs.Rows.{Edge, Map, Lent, cell, nodeRows, edgeRows, faceRows, mapOf, sizesOf, node, hasNode, hasEdge, hasFace}

@@ -6,8 +6,8 @@ use Prim.Native.Nat.{ℕ}
 use Rattle.lists.specs.Tests.{same}
 use Rattle.lists.specs.Scans.{all, keep}
 use Rattle.plane.specs.Directions.{Way}
-use Rattle.planar.specs.Map.{Dart, fwd, bwd, rev}
-use Rattle.planar.specs.Rings.{sameDart}
+use Rattle.planar_maps.specs.Map.{Dart, fwd, bwd, rev}
+use Rattle.planar_maps.specs.Rings.{sameDart}
 use Rattle.rotation.specs.Law.{firstClockwise, lawfulNext}
 use Rattle.map.specs.Rows.{Edge, Map, node, setEdges, atEdge, withoutEdge}
 use Rattle.map.specs.Darts.{directed, departures, leaves, next, bears, way}

@@ -14,7 +14,7 @@ use Rattle.plane.specs.Points.{samePoint}
 use Rattle.plane.specs.Directions.{Way, sameWay}
 use Rattle.curves.specs.Curves.{Curve, points, lastPoint, startWay, endWay, point, curveOf, coordinate, isRun, maxPoints}
 use Rattle.curves.specs.Tests.{neighboursDiffer, straightInside, onCurve, isSimple, meetWrongly}
-use Rattle.planar.specs.Rings.{sameDart}
+use Rattle.planar_maps.specs.Rings.{sameDart}
 use Rattle.map.specs.Limits.{lastNumber}
 use Rattle.map.specs.Rows.{Node, Edge, Map, Sizes, node, edge, hasNode, hasEdge, hasFace, withoutNode, withoutEdge}
 use Rattle.map.specs.Darts.{departures, edgeEnds, way}

@@ -11,7 +11,7 @@ use Rattle.lists.specs.Scans.{any, find, isSome, keep}
 use Rattle.plane.specs.declared.Point.{Point}
 use Rattle.plane.specs.Points.{origin}
 use Rattle.curves.specs.Curves.{Curve, points, point, through, curveOf, coordinates, maxPoints}
-use Rattle.planar.specs.Map.{Dart, fwd, bwd}
+use Rattle.planar_maps.specs.Map.{Dart, fwd, bwd}
 use Rattle.map.specs.declared.Head.{Head}
 use Rattle.map.specs.Limits.{maxNodes, maxEdges, maxFaces, nodeWidth, edgeWidth, faceWidth}
 

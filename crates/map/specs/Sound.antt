@@ -4,8 +4,8 @@ use mathlib.Core.Logic.{_⊎_}
 use mathlib.Core.List.{map, List·Memᴰ, List·Permᴰ}
 use Prim.Native.Nat.{_+_}
 use lib.ListN.{length}
-use Rattle.planar.specs.Map.{Dart}
-use Rattle.planar.specs.Rings.{Leads}
+use Rattle.planar_maps.specs.Map.{Dart}
+use Rattle.planar_maps.specs.Rings.{Leads}
 use Rattle.geometry.specs.Spots.{Spot, At}
 use Rattle.geometry.specs.Drawing.{OnCurve}
 use Rattle.map.specs.Rows.{Node, Edge, Map}

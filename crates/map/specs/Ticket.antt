@@ -9,7 +9,7 @@ use lib.ListN.{length, drop}
 use Rattle.lists.specs.Tests.{same}
 use Rattle.lists.specs.Scans.{keep}
 use Rattle.curves.specs.Curves.{point, curveOf}
-use Rattle.planar.specs.Map.{Dart}
+use Rattle.planar_maps.specs.Map.{Dart}
 use Rattle.map.specs.declared.Answer.{Answer}
 use Rattle.map.specs.Rows.{Map, Lent, emptyMap, mapOf, lentOf, sizesOf, whole, dartCell}
 use Rattle.map.specs.Darts.{bears, ring, firsts}

@@ -15,13 +15,13 @@ use Rattle.lists.proofs.Bools.{same-eq, and-true, and-is}
 use Rattle.lists.proofs.Maps.{all-mapped}
 use Rattle.lists.proofs.Perms.{perm-of-distinct}
 use Rattle.plane.specs.Directions.{Way}
-use Rattle.planar.specs.Map.{Arc, Dart, rev, Linked}
-use Rattle.planar.specs.Pieces.{nums}
-use Rattle.planar.specs.Rings.{sameDart}
-use Rattle.planar.proofs.Cycles.{fwd-in, bwd-in}
-use Rattle.planar.proofs.Hooks.{distinct-darts}
-use Rattle.planar.proofs.Rings.{rev-in}
-use Rattle.planar.proofs.Turns.{rev-rev}
+use Rattle.planar_maps.specs.Map.{Arc, Dart, rev, Linked}
+use Rattle.planar_maps.specs.Pieces.{nums}
+use Rattle.planar_maps.specs.Rings.{sameDart}
+use Rattle.planar_maps.proofs.Cycles.{fwd-in, bwd-in}
+use Rattle.planar_maps.proofs.Hooks.{distinct-darts}
+use Rattle.planar_maps.proofs.Rings.{rev-in}
+use Rattle.planar_maps.proofs.Turns.{rev-rev}
 use Rattle.rotation.specs.Law.{Apart}
 use Rattle.rotation.proofs.Node.{lawful-in}
 use Rattle.rotation.proofs.Ties.{tells}

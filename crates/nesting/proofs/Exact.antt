@@ -19,7 +19,7 @@ use Rattle.lists.proofs.Bools.{and-right, same-true}
 use Rattle.lists.proofs.Counts.{count-keep}
 use Rattle.lists.proofs.Keeps.{keep-in, distinct-keep}
 use Rattle.lists.proofs.Perms.{perm-length, perm-of-distinct, perm-distinct, distinct-map, distinct-append}
-use Rattle.planar.specs.Pieces.{pieces}
+use Rattle.planar_maps.specs.Pieces.{pieces}
 use Rattle.map.specs.Rows.{Map, Lent, mapOf, whole}
 use Rattle.map.specs.Darts.{pieceCount}
 use Rattle.map.specs.Form.{numbered, numbers, formed, ranged, inForm}

@@ -8,7 +8,7 @@ use lib.IntN.{ℤ, pos, negsuc}
 use lib.ListN.{length, replicate}
 use Rattle.plane.specs.declared.Point.{Point}
 use Rattle.curves.specs.Curves.{through}
-use Rattle.planar.specs.Map.{fwd, bwd}
+use Rattle.planar_maps.specs.Map.{fwd, bwd}
 use Rattle.map.specs.Rows.{Node, Edge, Map, Sizes, Lent, lentOf}
 use Rattle.map.specs.Grow.{grow}
 use Rattle.map.specs.Ticket.{Listed}

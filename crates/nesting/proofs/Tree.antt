@@ -16,13 +16,13 @@ use Rattle.lists.proofs.Bools.{and-is}
 use Rattle.lists.proofs.Keeps.{keep-in, keep-has, distinct-keep}
 use Rattle.lists.proofs.Members.{find-has}
 use Rattle.lists.proofs.Perms.{distinct-injective, distinct-length}
-use Rattle.planar.specs.Map.{Arc, Dart, fwd, bwd, rev}
-use Rattle.planar.specs.Pieces.{Chain, label, Isolated}
-use Rattle.planar.specs.Planar.{Planar}
-use Rattle.planar.proofs.Cycles.{fwd-in, bwd-in}
-use Rattle.planar.proofs.Chains.{chain-back, label-chain, label-idem, chain-within, isolated-chain}
-use Rattle.planar.proofs.Rings.{dart-cases, rev-in, Parted, label-rev, ring-parts}
-use Rattle.planar.proofs.Splitting.{tail-in}
+use Rattle.planar_maps.specs.Map.{Arc, Dart, fwd, bwd, rev}
+use Rattle.planar_maps.specs.Pieces.{Chain, label, Isolated}
+use Rattle.planar_maps.specs.Planar.{Planar}
+use Rattle.planar_maps.proofs.Cycles.{fwd-in, bwd-in}
+use Rattle.planar_maps.proofs.Chains.{chain-back, label-chain, label-idem, chain-within, isolated-chain}
+use Rattle.planar_maps.proofs.Rings.{dart-cases, rev-in, Parted, label-rev, ring-parts}
+use Rattle.planar_maps.proofs.Splitting.{tail-in}
 use Rattle.map.specs.Rows.{Node, Map, node}
 use Rattle.map.specs.Rows as rows
 use Rattle.map.specs.Darts.{arcs, directed, leaves, next, bears}

@@ -8,7 +8,7 @@ use lib.IntN.{ℤ, pos}
 use lib.ListN.{length}
 use Rattle.lists.specs.Tests.{same, bit}
 use Rattle.lists.specs.Scans.{any, keep, isSome}
-use Rattle.planar.specs.Pieces.{label}
+use Rattle.planar_maps.specs.Pieces.{label}
 use Rattle.map.specs.Rows.{Map, Lent, mapOf}
 use Rattle.map.specs.Darts.{arcs, directed, leaves, bears, pieceCount}
 use Rattle.map.specs.Reasons.{firstReason}

@@ -7,7 +7,7 @@ use lib.IntN.{ℤ, pos, negsuc}
 use lib.ListN.{replicate}
 use Rattle.lists.specs.Tests.{same}
 use Rattle.lists.specs.Scans.{fold}
-use Rattle.planar.specs.Map.{bwd}
+use Rattle.planar_maps.specs.Map.{bwd}
 use Rattle.network.specs.Rows.{Lent, nodeWidth, linkWidth}
 use Rattle.network.specs.Operation.{operation, created}
 use Rattle.paths.specs.Walks.{Hop}

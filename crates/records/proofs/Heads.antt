@@ -37,9 +37,9 @@ use Rattle.map.proofs.Head as S
 use Rattle.map.proofs.Head.Laws as S′
 use Rattle.map.proofs.Answer as U
 use Rattle.map.proofs.Answer.Laws as U′
-use Rattle.answers.specs.declared.Done.{Done}
-use Rattle.answers.proofs.Done as D
-use Rattle.answers.proofs.Done.Laws as D′
+use Rattle.outcomes.specs.declared.Done.{Done}
+use Rattle.outcomes.proofs.Done as D
+use Rattle.outcomes.proofs.Done.Laws as D′
 
 abbrev pub vals : {B : Type 0} → RefT (List B) → List Val
 vals n = sliceVal (n .ptr) (length (n .now)) ∷ []

@@ -1,6 +1,6 @@
 // Nodes as rows of records that are lent, and the head as one record lent beside the tables. Each function over such a loan is thin: it copies records out,
 // calls a covered function on numbers, and puts the answer back.
-use answers::Done;
+use outcomes::Done;
 use lists::Found;
 use map::Answer;
 use map::Head;
@@ -11,8 +11,8 @@ ghost use lib.ListN.{length, take};
 ghost use lib.Seq.{paste};
 ghost use Rattle.lists.specs.Tables.{table};
 ghost use Rattle.map.specs.Ticket.{ticket, emptied, edgesOfFace};
-ghost use Rattle.ranges.specs.Ranges.{lent};
-ghost use Rattle.answers.specs.Outcomes.{outcome};
+ghost use Rattle.form_ranges.specs.Ranges.{lent};
+ghost use Rattle.outcomes.specs.Outcomes.{outcome};
 ghost use Rattle.engine.specs.Runs.{Runs};
 ghost use Rattle.records.specs.Records.{nodeCells, nodeTable, rowNode, nodeRow, changedAt};
 

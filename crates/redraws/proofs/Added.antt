@@ -24,13 +24,13 @@ use Rattle.map.specs.Ticket.{carried}
 use Rattle.tables.specs.Tables.{sameZ, column, nodesOf, edgesOf, facesOf, nodeAt, nodeMap}
 use Rattle.tables.proofs.Rows.{nodes-length, edges-length, faces-length}
 use Rattle.tables.proofs.Lookups.{node-found}
-use Rattle.ranges.specs.Ranges.{lent}
-use Rattle.conditions.specs.Sent.{edgesBut}
-use Rattle.conditions.proofs.Maps.{node-is, inside-alike}
-use Rattle.conditions.proofs.Others.{edges-all}
+use Rattle.form_ranges.specs.Ranges.{lent}
+use Rattle.reason_curves.specs.Sent.{edgesBut}
+use Rattle.reason_curves.proofs.Maps.{node-is, inside-alike}
+use Rattle.reason_curves.proofs.Others.{edges-all}
 use Rattle.map.proofs.Reasons.{first-hit, first-miss}
-use Rattle.answers.specs.Outcomes.{Formed}
-use Rattle.answers.proofs.Formed.{ranges, node-rows, nodes-count, faces-count, node-next, edge-next, face-next, nodes-size, edges-size, faces-filled, full-is, spent-is, nodes-room, faces-room, node-left, face-left, lent-is, node-none}
+use Rattle.outcomes.specs.Outcomes.{Formed}
+use Rattle.outcomes.proofs.Formed.{ranges, node-rows, nodes-count, faces-count, node-next, edge-next, face-next, nodes-size, edges-size, faces-filled, full-is, spent-is, nodes-room, faces-room, node-left, face-left, lent-is, node-none}
 use Rattle.redraws.specs.Holds.{Drawn}
 use Rattle.redraws.specs.Lone.{loneReasons}
 use Rattle.redraws.proofs.Filled.{nodes-filled, edges-filled}

@@ -10,7 +10,7 @@ use Rattle.curves.specs.Curves.{Run, isRun, curveOf}
 use Rattle.map.specs.declared.Head.{Head}
 use Rattle.map.specs.Reasons.{Reasons, firstReason, meetingReasons, orderChanges}
 use Rattle.tables.specs.Tables.{nodeAt, nodeMap, edgeAt, edgeMap}
-use Rattle.conditions.specs.Sent.{sentReasons, edgesBut}
+use Rattle.reason_curves.specs.Sent.{sentReasons, edgesBut}
 use Rattle.map.proofs.Reasons.{first-hit, first-miss, first-none, first-after, first-zero}
 use Rattle.redraws.specs.Change.{takenAt, turnReasons, changeReasons}
 use Rattle.redraws.proofs.Lone.{first-of}

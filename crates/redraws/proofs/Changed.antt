@@ -26,14 +26,14 @@ use Rattle.tables.proofs.Rows.{nodes-length, edges-length, faces-length, edges-
 use Rattle.tables.proofs.Lookups.{node-missing}
 use Rattle.tables.proofs.Numbers.{getD-in, changed-at}
 use Rattle.tables.proofs.Writes.{edge-wide, replaced-at}
-use Rattle.ranges.specs.Ranges.{lent}
-use Rattle.conditions.specs.Sent.{edgesBut}
-use Rattle.conditions.proofs.Maps.{inside-alike}
-use Rattle.conditions.proofs.Others.{edges-but}
+use Rattle.form_ranges.specs.Ranges.{lent}
+use Rattle.reason_curves.specs.Sent.{edgesBut}
+use Rattle.reason_curves.proofs.Maps.{inside-alike}
+use Rattle.reason_curves.proofs.Others.{edges-but}
 use Rattle.map.proofs.Reasons.{first-hit, first-miss}
-use Rattle.turning.proofs.Alone.{taken-alone, order-alone}
-use Rattle.answers.specs.Outcomes.{Formed}
-use Rattle.answers.proofs.Formed.{formed-map, edge-rows, nodes-count, edges-count, faces-count, node-next, edge-next, face-next, edge-numbers-once, nodes-filled, edges-filled, faces-filled, edges-are-wide, lent-is, edge-none}
+use Rattle.reason_departures.proofs.Alone.{taken-alone, order-alone}
+use Rattle.outcomes.specs.Outcomes.{Formed}
+use Rattle.outcomes.proofs.Formed.{formed-map, edge-rows, nodes-count, edges-count, faces-count, node-next, edge-next, face-next, edge-numbers-once, nodes-filled, edges-filled, faces-filled, edges-are-wide, lent-is, edge-none}
 use Rattle.redraws.specs.Change.{takenAt, changeReasons}
 use Rattle.redraws.proofs.Drawn.{points-few}
 use Rattle.redraws.proofs.Removed.{row-in, number-is, there, edge-is}

@@ -17,11 +17,11 @@ use Rattle.lists.proofs.Scans.{length-table, table-same}
 use Rattle.plane.specs.declared.Point.{Point}
 use Rattle.curves.specs.Curves.{Curve, Run, isRun, points, pointsOf, through, curveOf, pointAt, coordinates, coordinate, maxPoints}
 use Rattle.curves.proofs.Runs.{and-left, and-right, two-points, few-points, curve-is}
-use Rattle.cutting.specs.declared.Line.{Line}
-use Rattle.cutting.specs.Lines.{lineOf}
-use Rattle.rowing.specs.declared.Sides.{Sides}
-use Rattle.rowing.specs.Cells.{cellsOf}
-use Rattle.rowing.proofs.Cells.{row-cells}
+use Rattle.curve_edits.specs.declared.Line.{Line}
+use Rattle.curve_edits.specs.Lines.{lineOf}
+use Rattle.map_rows.specs.declared.Sides.{Sides}
+use Rattle.map_rows.specs.Cells.{cellsOf}
+use Rattle.map_rows.proofs.Cells.{row-cells}
 use Rattle.map.specs.declared.Head.{Head}
 use Rattle.map.specs.Limits.{maxEdges, nodeWidth, edgeWidth}
 use Rattle.map.specs.Rows.{Node, Edge, Map, mapOf, edgeCells, dartCell, atNodes, atEdge, setEdges, given}
@@ -33,10 +33,10 @@ use Rattle.map.proofs.Facts.{zeros}
 use Rattle.tables.specs.Tables.{nodesOf, edgesOf, facesOf, nodeAt, edgeAt}
 use Rattle.tables.proofs.Rows.{edges-getD, edges-length, edge-numbers, node-cells, node-number-in, rows-all, pos-abs}
 use Rattle.tables.proofs.Cells.{row-room}
-use Rattle.ranges.specs.Ranges.{lent}
-use Rattle.linking.specs.Linking.{linkedEdge}
-use Rattle.linking.proofs.Kept.{rest-kept, number-kept}
-use Rattle.linking.proofs.LinkedEdges.{linked-alone, linked-edge-kept, linked-edge-relinked, linked-edge-map}
+use Rattle.form_ranges.specs.Ranges.{lent}
+use Rattle.links.specs.Linking.{linkedEdge}
+use Rattle.links.proofs.Kept.{rest-kept, number-kept}
+use Rattle.links.proofs.LinkedEdges.{linked-alone, linked-edge-kept, linked-edge-relinked, linked-edge-map}
 use Rattle.redraws.specs.Holds.{NodeTable, EdgeTable, Held, Counted, Drawable, Drawn, drawnHead, newRow}
 use Rattle.redraws.proofs.Lists.{numbered-push}
 use Rattle.redraws.proofs.Pushed.{Follows, pushed-long, pushed-edges, pushed-table}

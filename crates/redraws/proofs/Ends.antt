@@ -13,7 +13,7 @@ use Rattle.lists.specs.Scans.{keep, count}
 use Rattle.lists.specs.Members.{Distinct}
 use Rattle.lists.proofs.Bools.{equal?, same-eq, same-false}
 use Rattle.lists.proofs.Keeps.{keep-in}
-use Rattle.planar.specs.Map.{fwd, bwd, darts}
+use Rattle.planar_maps.specs.Map.{fwd, bwd, darts}
 use Rattle.map.specs.Limits.{lastNumber, edgeWidth}
 use Rattle.map.specs.Rows.{Edge, Map, edge, withoutEdge}
 use Rattle.map.specs.Darts.{leaves, departures, edgeEnds}
@@ -23,9 +23,9 @@ use Rattle.tables.specs.Tables.{sameZ, edgesOf, edgeAt, edgeMap, EdgeRows}
 use Rattle.tables.proofs.Rows.{edges-length, edges-getD}
 use Rattle.tables.proofs.Numbers.{without-at}
 use Rattle.tables.proofs.Order.{same-pos}
-use Rattle.links.proofs.Positions.{cells-of}
-use Rattle.linking.specs.Linking.{positions, leavesNode}
-use Rattle.linking.proofs.Departures.{ends-count}
+use Rattle.darts.proofs.Positions.{cells-of}
+use Rattle.links.specs.Linking.{positions, leavesNode}
+use Rattle.links.proofs.Departures.{ends-count}
 use Rattle.redraws.specs.Holds.{bareAt}
 
 -- how many ends rows have at a node

@@ -15,7 +15,7 @@ use Rattle.map.specs.Rows.{Lent, mapOf, lentOf, filled, nodeCells, edgeCells, w
 use Rattle.map.specs.Form.{ranged}
 use Rattle.map.proofs.RoundTrip.{writes-back, whole-rows}
 use Rattle.tables.specs.Tables.{nodesOf, edgesOf}
-use Rattle.ranges.specs.Ranges.{lent}
+use Rattle.form_ranges.specs.Ranges.{lent}
 use Rattle.redraws.specs.Holds.{NodeTable, EdgeTable}
 
 -- beside empty tables and face 0

@@ -12,10 +12,10 @@ use Rattle.map.specs.declared.Head.{Head}
 use Rattle.map.specs.Limits.{maxNodes, maxEdges, nodeWidth, edgeWidth}
 use Rattle.map.specs.Rows.{whole}
 use Rattle.map.proofs.RoundTrip.{whole-tables, whole-rows}
-use Rattle.ranges.specs.Ranges.{lent}
-use Rattle.answers.specs.Outcomes.{Formed}
-use Rattle.answers.proofs.Formed.{ranges, nodes-count, edges-count, edge-next, node-rows, edge-rows, numbers-rise}
-use Rattle.answers.proofs.Words.{count-natural, count-abs}
+use Rattle.form_ranges.specs.Ranges.{lent}
+use Rattle.outcomes.specs.Outcomes.{Formed}
+use Rattle.outcomes.proofs.Formed.{ranges, nodes-count, edges-count, edge-next, node-rows, edge-rows, numbers-rise}
+use Rattle.outcomes.proofs.Words.{count-natural, count-abs}
 use Rattle.redraws.specs.Holds.{Held, Counted}
 use Rattle.redraws.proofs.Filled.{nodes-room, edges-room}
 

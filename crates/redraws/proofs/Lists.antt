@@ -12,7 +12,7 @@ use Rattle.lists.proofs.Appends.{all-append}
 use Rattle.lists.proofs.Bools.{which}
 use Rattle.curves.proofs.Runs.{and-left, and-right}
 use Rattle.map.specs.Form.{numbered}
-use Rattle.ranges.proofs.Columns.{all-weaker}
+use Rattle.form_ranges.proofs.Columns.{all-weaker}
 
 module _ {A : Type 0} (p : A → Bool) where
   -- a row found among fewer, and the last one

@@ -16,7 +16,7 @@ use Rattle.map.specs.declared.Head.{Head}
 use Rattle.map.specs.Limits.{edgeWidth, lastNumber}
 use Rattle.map.specs.Reasons.{Reasons, firstReason, meetingReasons}
 use Rattle.tables.specs.Tables.{nodeAt, nodeMap}
-use Rattle.conditions.specs.Sent.{sentReasons, edgesBut}
+use Rattle.reason_curves.specs.Sent.{sentReasons, edgesBut}
 use Rattle.map.proofs.Reasons.{first-hit, first-miss, first-append, first-after, first-zero}
 use Rattle.redraws.specs.Lone.{roomReasons, loneReasons}
 

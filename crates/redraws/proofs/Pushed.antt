@@ -23,9 +23,9 @@ use Rattle.tables.specs.Tables.{edgesOf, edgeAt, edgeMap, EdgeRows}
 use Rattle.tables.proofs.Rows.{edges-table, edges-length, all-table, edge-row-of, edge-number-in}
 use Rattle.tables.proofs.RowCurves.{edge-few}
 use Rattle.tables.proofs.Writes.{Wide, rows-flat, pushed, edge-wide, table-edges-wide}
-use Rattle.ranges.proofs.Columns.{all-weaker}
-use Rattle.links.proofs.Positions.{row-there}
-use Rattle.answers.proofs.Filled.{filled-rest}
+use Rattle.form_ranges.proofs.Columns.{all-weaker}
+use Rattle.darts.proofs.Positions.{row-there}
+use Rattle.outcomes.proofs.Filled.{filled-rest}
 use Rattle.redraws.specs.Holds.{EdgeTable}
 use Rattle.redraws.proofs.Lists.{find-more, find-last, numbered-push}
 use Rattle.redraws.proofs.Filled.{edges-filled}

@@ -20,12 +20,12 @@ use Rattle.map.specs.Reasons.{firstReason, reasons, noEdge, edgeIsolated}
 use Rattle.map.specs.Ticket.{carried}
 use Rattle.tables.specs.Tables.{sameZ, column, edgeAt, edgeMap}
 use Rattle.tables.proofs.Lookups.{edge-found}
-use Rattle.links.proofs.Positions.{edge-of}
-use Rattle.ranges.specs.Ranges.{lent}
+use Rattle.darts.proofs.Positions.{edge-of}
+use Rattle.form_ranges.specs.Ranges.{lent}
 use Rattle.map.proofs.Reasons.{first-hit, first-miss, first-none}
-use Rattle.turning.proofs.Alone.{isolated-alone}
-use Rattle.answers.specs.Outcomes.{Formed}
-use Rattle.answers.proofs.Formed.{ranges, edge-rows, nodes-size, edges-size, faces-filled, lent-is, edge-none, head-back}
+use Rattle.reason_departures.proofs.Alone.{isolated-alone}
+use Rattle.outcomes.specs.Outcomes.{Formed}
+use Rattle.outcomes.proofs.Formed.{ranges, edge-rows, nodes-size, edges-size, faces-filled, lent-is, edge-none, head-back}
 use Rattle.redraws.specs.Holds.{Undrawn, undrawnHead}
 
 -- an edge less, and nothing else in the head

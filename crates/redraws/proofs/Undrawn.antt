@@ -28,11 +28,11 @@ use Rattle.tables.specs.Tables.{sameZ, column, closed, nodesOf, edgesOf, nodeAt
 use Rattle.tables.proofs.Rows.{edges-length}
 use Rattle.tables.proofs.Lookups.{node-found, node-missing}
 use Rattle.tables.proofs.Writes.{removed-at, table-edges-wide}
-use Rattle.links.proofs.Positions.{cells-of, edge-of}
-use Rattle.ranges.specs.Ranges.{lent}
-use Rattle.linking.specs.Linking.{unlinkedEdge}
-use Rattle.linking.proofs.Kept.{rest-kept, number-kept}
-use Rattle.linking.proofs.LinkedEdges.{unlinked-alone, unlinked-edge-kept, unlinked-edge-relinked, unlinked-edge-gone}
+use Rattle.darts.proofs.Positions.{cells-of, edge-of}
+use Rattle.form_ranges.specs.Ranges.{lent}
+use Rattle.links.specs.Linking.{unlinkedEdge}
+use Rattle.links.proofs.Kept.{rest-kept, number-kept}
+use Rattle.links.proofs.LinkedEdges.{unlinked-alone, unlinked-edge-kept, unlinked-edge-relinked, unlinked-edge-gone}
 use Rattle.redraws.specs.Holds.{NodeTable, EdgeTable, Counted, Undrawable, Undrawn, undrawnHead, bareAt, facedWhere, facedIf}
 use Rattle.redraws.proofs.Filled.{nodes-room, edges-room, nodes-filled, edges-filled}
 use Rattle.redraws.proofs.NodeFaces.{faced-nodes, faced-table}

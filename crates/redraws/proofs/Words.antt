@@ -13,8 +13,8 @@ use Rattle.lists.specs.Scans.{isSome}
 use Rattle.map.specs.Rows.{faceOf}
 use Rattle.tables.specs.Tables.{sameZ}
 use Rattle.tables.proofs.Order.{same-pos}
-use Rattle.links.proofs.Steps.{negative-is, minus-fits}
-use Rattle.answers.proofs.Words.{small-fits}
+use Rattle.darts.proofs.Steps.{negative-is, minus-fits}
+use Rattle.outcomes.proofs.Words.{small-fits}
 
 -- the reverse of an edge, as it is written
 back : (n : ℕ) → n ≤ 1000000 → SFits w64 (pos 0 -ℤ pos n)

@@ -7,7 +7,7 @@ use Rattle.curves.specs.Curves.{curveOf}
 use Rattle.map.specs.declared.Head.{Head}
 use Rattle.map.specs.Reasons.{Reasons, directionTaken, meetingReasons, orderChanges}
 use Rattle.tables.specs.Tables.{nodeAt, nodeMap, edgeAt, edgeMap}
-use Rattle.conditions.specs.Sent.{sentReasons, edgesBut}
+use Rattle.reason_curves.specs.Sent.{sentReasons, edgesBut}
 
 -- 11, for the edge of row i
 abbrev pub takenAt : List ℤ → ℕ → ℕ → List ℤ → Bool

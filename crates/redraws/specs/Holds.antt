@@ -14,13 +14,13 @@ use Rattle.lists.specs.Tables.{place}
 use Rattle.curves.specs.Curves.{Run, curveOf}
 use Rattle.map.specs.declared.Head.{Head}
 use Rattle.map.specs.Limits.{maxNodes, maxEdges, lastNumber, nodeWidth, edgeWidth}
-use Rattle.planar.specs.Map.{fwd, bwd}
+use Rattle.planar_maps.specs.Map.{fwd, bwd}
 use Rattle.map.specs.Rows.{Edge, mapOf, filled, nodeCells, edgeCells, wholeRows}
 use Rattle.map.specs.Form.{isZero, numbered}
 use Rattle.map.specs.Edits.{drawn, undrawn}
 use Rattle.tables.specs.Tables.{sameZ, column, NodeRows, EdgeRows, nodeAt, edgeAt, edgesOf}
-use Rattle.ranges.specs.Ranges.{lent}
-use Rattle.linking.specs.Linking.{positions, leavesNode}
+use Rattle.form_ranges.specs.Ranges.{lent}
+use Rattle.links.specs.Linking.{positions, leavesNode}
 
 -- whole rows, of which n are in use, with zeros behind
 pub record NodeTable (l : List ℤ) (n : ℕ) : Type 0 where

@@ -13,7 +13,7 @@ use Rattle.map.specs.declared.Head.{Head}
 use Rattle.map.specs.Limits.{edgeWidth, lastNumber}
 use Rattle.map.specs.Reasons.{Reasons, meetingReasons}
 use Rattle.tables.specs.Tables.{nodeAt, nodeMap}
-use Rattle.conditions.specs.Sent.{sentReasons, edgesBut}
+use Rattle.reason_curves.specs.Sent.{sentReasons, edgesBut}
 
 -- 20 and 21, of the edges alone
 abbrev pub roomReasons : List ℤ → Head → Reasons

@@ -1,8 +1,8 @@
 // Kinds 4 to 6: an edge drawn between isolated nodes, removed again, redrawn.
-use answers::Done;
+use outcomes::Done;
 use lists::Found;
 use map::Head;
-use rowing::Sides;
+use map_rows::Sides;
 ghost use mathlib.Core.Path.{_≡_};
 ghost use mathlib.Core.Bool.{true, not, _&&_, _||_};
 ghost use mathlib.Core.Option.{Option·getD};
@@ -20,10 +20,10 @@ ghost use Rattle.map.specs.Rows.{edgeCells, hasNode};
 ghost use Rattle.map.specs.Edits.{withCurve};
 ghost use Rattle.map.specs.Reasons.{firstReason};
 ghost use Rattle.map.specs.Tickets.{AddIsoEdge, RemoveIsoEdge, ChangeEdgeGeom};
-ghost use Rattle.ranges.specs.Ranges.{lent};
-ghost use Rattle.answers.specs.Outcomes.{Formed, decided, outcome};
+ghost use Rattle.form_ranges.specs.Ranges.{lent};
+ghost use Rattle.outcomes.specs.Outcomes.{Formed, decided, outcome};
 ghost use Rattle.tables.specs.Tables.{sameZ, column, closed, nodeAt, nodeMap, edgeAt, NodeRow, EdgeRow, NodeRows, EdgeRows};
-ghost use Rattle.linking.specs.Linking.{unlinkedEdge};
+ghost use Rattle.links.specs.Linking.{unlinkedEdge};
 ghost use Rattle.redraws.specs.Holds.{Counted, drawnHead, undrawnHead, newRow, Held, Drawable, Drawn, bareAt, facedIf, Undrawable, Undrawn};
 ghost use Rattle.redraws.specs.Lone.{roomReasons, loneReasons};
 ghost use Rattle.redraws.specs.Change.{takenAt, turnReasons, changeReasons};
@@ -69,11 +69,11 @@ fn write_last(nodes: &[i64], edges: &mut [i64], h: Head, u: usize, v: usize, c: 
     requires { ⌜ Drawable (now nodes) (now edges) h u v (now c) face ⌝ }
     ensures { λ r. ⌜ now (edges .exit) ≡ paste (now (edges .entry)) (natAbs (h .edges) * 32) (edgeCells (newRow (now (nodes .entry)) h u v (now (c .entry)) face)) 32 ⌝ }
 {
-    let e = answers::count_of(h.edges);
+    let e = outcomes::count_of(h.edges);
     let number = h.next_edge;
     let start = nodes[u * 4];
     let end = nodes[v * 4];
-    let back = linking::turned(number);
+    let back = links::turned(number);
     let row = Sides {
         number,
         start,
@@ -83,7 +83,7 @@ fn write_last(nodes: &[i64], edges: &mut [i64], h: Head, u: usize, v: usize, c: 
         left: face,
         right: face,
     };
-    rowing::write_edge(edges, e, row, cutting::whole_of(c));
+    map_rows::write_edge(edges, e, row, curve_edits::whole_of(c));
 }
 
 // A new last edge from node row u to node row v with the face on both sides, linked in.
@@ -100,8 +100,8 @@ pub fn draw(
     ensures { λ r. ⌜ Drawn (now (nodes .entry)) (now (edges .entry)) h u v (now (c .entry)) face (now (nodes .exit)) (now (edges .exit)) r ⌝ }
 {
     write_last(nodes, edges, h, u, v, c, face);
-    let e = answers::count_of(h.edges);
-    linking::link_edge(edges, e + 1);
+    let e = outcomes::count_of(h.edges);
+    links::link_edge(edges, e + 1);
     set_face(nodes, u, -1);
     set_face(nodes, v, -1);
     with_edge(h)
@@ -117,7 +117,7 @@ fn is_bare(edges: &[i64], count: usize, i: usize, node: i64) -> bool
     let u = edges[i * 32 + 1];
     let v = edges[i * 32 + 2];
     let own = (u == node) as usize + (v == node) as usize;
-    linking::edge_ends(edges, count, node) == own
+    links::edge_ends(edges, count, node) == own
 }
 
 // The two ends of an edge that is gone: whether no other edge ends there.
@@ -131,7 +131,7 @@ fn undraw_edge(edges: &mut [i64], count: usize, i: usize, u: i64, v: i64) -> Bar
     requires { ⌜ EdgeRows (now edges) count × (i < count) ⌝ }
     ensures { λ r. ⌜ (now (edges .exit) ≡ closed 32 (unlinkedEdge (now (edges .entry)) count i) count i) × (r .start ≡ bareAt (unlinkedEdge (now (edges .entry)) count i) count i u) × (r .end ≡ bareAt (unlinkedEdge (now (edges .entry)) count i) count i v) ⌝ }
 {
-    linking::unlink_edge(edges, count, i);
+    links::unlink_edge(edges, count, i);
     let start = is_bare(edges, count, i, u);
     let end = is_bare(edges, count, i, v);
     tables::remove_row(edges, 32, count, i);
@@ -156,8 +156,8 @@ pub fn undraw(nodes: &mut [i64], edges: &mut [i64], h: Head, i: usize, face: i64
     requires { ⌜ Undrawable (now nodes) (now edges) h i face ⌝ }
     ensures { λ r. ⌜ Undrawn (now (nodes .entry)) (now (edges .entry)) h i face (now (nodes .exit)) (now (edges .exit)) r ⌝ }
 {
-    let n = answers::count_of(h.nodes);
-    let e = answers::count_of(h.edges);
+    let n = outcomes::count_of(h.nodes);
+    let e = outcomes::count_of(h.edges);
     let u = edges[i * 32 + 1];
     let v = edges[i * 32 + 2];
     let bare = undraw_edge(edges, e, i, u, v);
@@ -180,17 +180,17 @@ pub fn remove_lone_edge(nodes: &mut [i64], edges: &mut [i64], h: Head, edge: i64
     requires { ⌜ ((faces : _) × Formed (now nodes) (now edges) faces h) ⌝ }
     ensures { λ r. ⌜ ((faces : _) → Formed (now (nodes .entry)) (now (edges .entry)) faces h → outcome (now (nodes .exit)) (now (edges .exit)) faces r ≡ decided (lent (now (nodes .entry)) (now (edges .entry)) faces h) (RemoveIsoEdge edge)) ⌝ }
 {
-    let e = answers::count_of(h.edges);
+    let e = outcomes::count_of(h.edges);
     let found = tables::find_row(edges, 32, e, edge);
     let Found::At(i) = found else {
-        return answers::refused(h, 4);
+        return outcomes::refused(h, 4);
     };
-    if !turning::edge_isolated(edges, e, i) {
-        return answers::refused(h, 9);
+    if !reason_departures::edge_isolated(edges, e, i) {
+        return outcomes::refused(h, 9);
     }
     let face = left_face(edges, i);
     let after = undraw(nodes, edges, h, i, face);
-    answers::carried(after, 0)
+    outcomes::carried(after, 0)
 }
 
 // The node of row i has a containing face: no edge ends there.
@@ -231,10 +231,10 @@ fn room_reason(edges: &[i64], h: Head) -> u64
     requires { ⌜ Counted h ⌝ }
     ensures { λ r. ⌜ r ≡ firstReason (roomReasons (now (edges .entry)) h) ⌝ }
 {
-    if edges.len() / 32 < answers::count_of(h.edges) + 1 {
+    if edges.len() / 32 < outcomes::count_of(h.edges) + 1 {
         return 20;
     }
-    if 1000000 < answers::count_of(h.next_edge) + 1 {
+    if 1000000 < outcomes::count_of(h.next_edge) + 1 {
         21
     } else {
         0
@@ -246,7 +246,7 @@ fn lone_reason(nodes: &[i64], edges: &[i64], h: Head, u: usize, v: usize, c: &[i
     requires { ⌜ Held (now nodes) (now edges) h × (u < natAbs (h .nodes)) × (v < natAbs (h .nodes)) ⌝ }
     ensures { λ r. ⌜ r ≡ firstReason (loneReasons (now (nodes .entry)) (now (edges .entry)) h u v (now (c .entry))) ⌝ }
 {
-    let reason = conditions::curve_reason(nodes, u, v, c);
+    let reason = reason_curves::curve_reason(nodes, u, v, c);
     if reason != 0 {
         return reason;
     }
@@ -256,9 +256,9 @@ fn lone_reason(nodes: &[i64], edges: &[i64], h: Head, u: usize, v: usize, c: &[i
     if faces_differ(nodes, u, v) {
         return 12;
     }
-    let n = answers::count_of(h.nodes);
-    let e = answers::count_of(h.edges);
-    let meeting = conditions::meeting_reason(nodes, n, edges, e, e, c);
+    let n = outcomes::count_of(h.nodes);
+    let e = outcomes::count_of(h.edges);
+    let meeting = reason_curves::meeting_reason(nodes, n, edges, e, e, c);
     if meeting != 0 {
         return meeting;
     }
@@ -284,23 +284,23 @@ pub fn add_lone_edge(
     requires { ⌜ ((faces : _) × Formed (now nodes) (now edges) faces h) ⌝ }
     ensures { λ r. ⌜ ((faces : _) → Formed (now (nodes .entry)) (now (edges .entry)) faces h → outcome (now (nodes .exit)) (now (edges .exit)) faces r ≡ decided (lent (now (nodes .entry)) (now (edges .entry)) faces h) (AddIsoEdge start end (now (c .entry)))) ⌝ }
 {
-    let n = answers::count_of(h.nodes);
+    let n = outcomes::count_of(h.nodes);
     let found = tables::find_row(nodes, 4, n, start);
     let Found::At(u) = found else {
-        return answers::refused(h, 4);
+        return outcomes::refused(h, 4);
     };
     let found_end = tables::find_row(nodes, 4, n, end);
     let Found::At(v) = found_end else {
-        return answers::refused(h, 4);
+        return outcomes::refused(h, 4);
     };
     let reason = lone_reason(nodes, edges, h, u, v, c);
     if reason != 0 {
-        return answers::refused(h, reason);
+        return outcomes::refused(h, reason);
     }
     let number = h.next_edge;
     let face = face_of(nodes, u);
     let after = draw(nodes, edges, h, u, v, c, face);
-    answers::carried(after, number)
+    outcomes::carried(after, number)
 }
 
 // A curve for the edge of row i leaves a node in the direction of another edge.
@@ -310,7 +310,7 @@ fn is_taken(edges: &[i64], count: usize, i: usize, c: &[i64]) -> bool
 {
     let start = edges[i * 32 + 1];
     let end = edges[i * 32 + 2];
-    turning::direction_taken(edges, count, i, start, end, c)
+    reason_departures::direction_taken(edges, count, i, start, end, c)
 }
 
 // The first reason from 11 on against a curve for the edge of row i; 0 for none.
@@ -321,11 +321,11 @@ fn turn_reason(nodes: &[i64], n: usize, edges: &[i64], count: usize, i: usize, c
     if is_taken(edges, count, i, c) {
         return 11;
     }
-    let meeting = conditions::meeting_reason(nodes, n, edges, count, i, c);
+    let meeting = reason_curves::meeting_reason(nodes, n, edges, count, i, c);
     if meeting != 0 {
         return meeting;
     }
-    if turning::order_changes(edges, count, i, c) {
+    if reason_departures::order_changes(edges, count, i, c) {
         19
     } else {
         0
@@ -345,12 +345,12 @@ fn change_reason(
     requires { ⌜ Held (now nodes) (now edges) h × (i < natAbs (h .edges)) × (u < natAbs (h .nodes)) × (v < natAbs (h .nodes)) ⌝ }
     ensures { λ r. ⌜ r ≡ firstReason (changeReasons (now (nodes .entry)) (now (edges .entry)) h i u v (now (c .entry))) ⌝ }
 {
-    let reason = conditions::curve_reason(nodes, u, v, c);
+    let reason = reason_curves::curve_reason(nodes, u, v, c);
     if reason != 0 {
         return reason;
     }
-    let n = answers::count_of(h.nodes);
-    let e = answers::count_of(h.edges);
+    let n = outcomes::count_of(h.nodes);
+    let e = outcomes::count_of(h.edges);
     turn_reason(nodes, n, edges, e, i, c)
 }
 
@@ -375,7 +375,7 @@ fn write_curve(edges: &mut [i64], i: usize, c: &[i64])
         left,
         right,
     };
-    rowing::write_edge(edges, i, row, cutting::whole_of(c));
+    map_rows::write_edge(edges, i, row, curve_edits::whole_of(c));
 }
 
 // The nodes where an edge row starts and ends.
@@ -409,18 +409,18 @@ pub fn change_curve(nodes: &[i64], edges: &mut [i64], h: Head, edge: i64, c: &[i
     requires { ⌜ ((faces : _) × Formed (now nodes) (now edges) faces h) ⌝ }
     ensures { λ r. ⌜ ((faces : _) → Formed (now (nodes .entry)) (now (edges .entry)) faces h → outcome (now (nodes .entry)) (now (edges .exit)) faces r ≡ decided (lent (now (nodes .entry)) (now (edges .entry)) faces h) (ChangeEdgeGeom edge (now (c .entry)))) ⌝ }
 {
-    let e = answers::count_of(h.edges);
+    let e = outcomes::count_of(h.edges);
     let found = tables::find_row(edges, 32, e, edge);
     let Found::At(i) = found else {
-        return answers::refused(h, 4);
+        return outcomes::refused(h, 4);
     };
-    let n = answers::count_of(h.nodes);
+    let n = outcomes::count_of(h.nodes);
     let u = row_of(nodes, n, start_of(edges, i));
     let v = row_of(nodes, n, end_of(edges, i));
     let reason = change_reason(nodes, edges, h, i, u, v, c);
     if reason != 0 {
-        return answers::refused(h, reason);
+        return outcomes::refused(h, reason);
     }
     write_curve(edges, i, c);
-    answers::carried(h, 0)
+    outcomes::carried(h, 0)
 }

@@ -10,16 +10,16 @@ use lib.IntN.{ℤ, pos}
 use lib.ListN.{length, getD, set, drop, length-drop, length-map}
 use lib.Seq.{getD-drop, drop-drop, getD-set-same, getD-set-other}
 use Rattle.lists.proofs.Bools.{not-true, equal?, either}
-use Rattle.planar.specs.Map.{Dart}
-use Rattle.planar.specs.Rings.{sameDart}
-use Rattle.planar.proofs.Rings.{sameDart-refl, sameDart-true}
+use Rattle.planar_maps.specs.Map.{Dart}
+use Rattle.planar_maps.specs.Rings.{sameDart}
+use Rattle.planar_maps.proofs.Rings.{sameDart-refl, sameDart-true}
 use Rattle.map.specs.Rows.{dartCell}
 use Rattle.map.specs.Darts.{next, stepsTo, ring, among}
 use Rattle.tables.specs.Tables.{edgeMap, EdgeRows}
 use Rattle.tables.proofs.Order.{lt-or-ge}
 use Rattle.tables.proofs.Rows.{edges-length}
-use Rattle.links.specs.Positions.{dartAt}
-use Rattle.links.proofs.Positions.{dart-injective}
+use Rattle.darts.specs.Positions.{dartAt}
+use Rattle.darts.proofs.Positions.{dart-injective}
 
 -- the steps from position c, k of them at most
 abbrev pub steps : List ℤ → ℕ → ℕ → ℕ → ℕ → List Dart

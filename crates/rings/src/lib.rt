@@ -1,32 +1,19 @@
-// Ring walks by position.
+// Ring walks by position: marks, the list of a ring, its doubled area, and what it encloses.
+use plane::Point;
 ghost use mathlib.Core.Path.{_≡_};
 ghost use mathlib.Core.Bool.{cond};
 ghost use mathlib.Core.List.{map};
-ghost use Prim.Native.Nat.{ℕ, _+_, _*_, _<_, _≤_};
+ghost use Prim.Native.Nat.{ℕ, _+_, _*_, _<_, _≤_, _/_};
 ghost use lib.ListN.{getD, length};
 ghost use lib.Seq.{paste};
 ghost use Rattle.map.specs.Rows.{dartCell};
 ghost use Rattle.map.specs.Darts.{ring, among};
-ghost use Rattle.tables.specs.Tables.{EdgeRows, edgeMap};
-ghost use Rattle.links.specs.Positions.{dartAt};
-
-// Whether q lies on the ring of p.
-pub fn ring_meets(edges: &[i64], count: usize, p: usize, q: usize) -> bool
-    requires { ⌜ EdgeRows (now edges) count × (p < count * 2) × (q < count * 2) ⌝ }
-    ensures { λ r. ⌜ r ≡ among (ring (edgeMap (now (edges .entry)) count) (dartAt (now (edges .entry)) p)) (dartAt (now (edges .entry)) q) ⌝ }
-{
-    let mut c = p;
-    for k in 0..count * 2 {
-        if c == q {
-            return true;
-        }
-        c = links::next_position(edges, count, c);
-        if c == p {
-            return false;
-        }
-    }
-    false
-}
+ghost use Rattle.tables.specs.Tables.{EdgeRows, edgeMap, EdgeRow, edgeAt};
+ghost use Rattle.darts.specs.Positions.{dartAt, odd};
+ghost use Rattle.plane.specs.Points.{InRange};
+ghost use Rattle.curves.specs.Edits.{course};
+ghost use Rattle.curves.specs.Measures.{curveArea};
+ghost use Rattle.map.specs.Faces.{ringArea, encloses as enclosedBy};
 
 // The ring of p marked with v; its length.
 pub fn mark_ring(edges: &[i64], count: usize, p: usize, v: u8, marks: &mut [u8]) -> usize
@@ -36,7 +23,7 @@ pub fn mark_ring(edges: &[i64], count: usize, p: usize, v: u8, marks: &mut [u8])
     let mut c = p;
     for k in 0..count * 2 {
         marks[c] = v;
-        c = links::next_position(edges, count, c);
+        c = darts::next_position(edges, count, c);
         if c == p {
             return k + 1;
         }
@@ -51,7 +38,50 @@ pub fn write_ring(edges: &[i64], count: usize, p: usize, n: usize, list: &mut [i
 {
     let mut c = p;
     for k in 0..n {
-        list[at + k] = links::dart_at(edges, c);
-        c = links::next_position(edges, count, c);
+        list[at + k] = darts::dart_at(edges, c);
+        c = darts::next_position(edges, count, c);
     }
+}
+
+// The doubled area of the directed edge at p.
+fn dart_area(edges: &[i64], p: usize) -> i64
+    requires { ⌜ EdgeRow (now edges) (p / 2) ⌝ }
+    ensures { λ r. ⌜ r ≡ curveArea (course (odd p) (edgeAt (now (edges .entry)) (p / 2) .curve)) ⌝ }
+{
+    let a = curves::area_of(tables::curve_of(edges, p / 2));
+    if p % 2 == 0 { a } else { -a }
+}
+
+// The doubled area of the ring of p.
+pub fn ring_area(edges: &[i64], count: usize, p: usize) -> i64
+    requires { ⌜ EdgeRows (now edges) count × (count ≤ 2000) × (p < count * 2) ⌝ }
+    ensures { λ r. ⌜ r ≡ ringArea (edgeMap (now (edges .entry)) count) (ring (edgeMap (now (edges .entry)) count) (dartAt (now (edges .entry)) p)) ⌝ }
+{
+    let mut c = p;
+    let mut sum: i64 = 0;
+    for k in 0..count * 2 {
+        sum += dart_area(edges, c);
+        c = darts::next_position(edges, count, c);
+        if c == p {
+            return sum;
+        }
+    }
+    sum
+}
+
+// Whether the ring of p encloses a point.
+pub fn encloses(edges: &[i64], count: usize, p: usize, q: Point) -> bool
+    requires { ⌜ EdgeRows (now edges) count × (p < count * 2) × InRange q ⌝ }
+    ensures { λ r. ⌜ r ≡ enclosedBy (edgeMap (now (edges .entry)) count) (ring (edgeMap (now (edges .entry)) count) (dartAt (now (edges .entry)) p)) q ⌝ }
+{
+    let mut c = p;
+    let mut odd = false;
+    for k in 0..count * 2 {
+        odd = odd != curves::odd_below(tables::curve_of(edges, c / 2), q);
+        c = darts::next_position(edges, count, c);
+        if c == p {
+            return odd;
+        }
+    }
+    odd
 }

@@ -4,11 +4,11 @@ use mathlib.Core.Path.{_≡_, sym, ap, _∙_}
 use mathlib.Core.Logic.{inl, inr}
 use mathlib.Core.Bool.{Bool, cond}
 use mathlib.Core.List.{List, _∷_, List·Memᴰ, List·Memᴰ·cases-cons}
-use Rattle.planar.specs.Map.{Dart}
-use Rattle.planar.specs.Rings.{sameDart}
-use Rattle.planar.specs.Weave.{exchange, alone, after, tie}
-use Rattle.planar.proofs.Rings.{sameDart-refl, sameDart-true}
-use Rattle.planar.proofs.Hooks.{sameDart?, exchange-left, exchange-right, exchange-other}
+use Rattle.planar_maps.specs.Map.{Dart}
+use Rattle.planar_maps.specs.Rings.{sameDart}
+use Rattle.planar_maps.specs.Weave.{exchange, alone, after, tie}
+use Rattle.planar_maps.proofs.Rings.{sameDart-refl, sameDart-true}
+use Rattle.planar_maps.proofs.Hooks.{sameDart?, exchange-left, exchange-right, exchange-other}
 use Rattle.rotation.specs.Law.{Tells, redirect, leading}
 use Rattle.rotation.proofs.Tells.{is-yes, is-no}
 

@@ -1,4 +1,4 @@
 // The ticket program with the head and the rows in use printed after each answer: a wrong link is visible.
 fn main() {
-    desk::serve(true);
+    console::serve(true);
 }

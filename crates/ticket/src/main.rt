@@ -1,4 +1,4 @@
 // The ticket program: one ticket a line from standard input; prints refusal and value.
 fn main() {
-    desk::serve(false);
+    console::serve(false);
 }

@@ -4,7 +4,7 @@ use mathlib.Core.Path.{ap, _∙_}
 use lib.IntN.{pos}
 use Rattle.map.specs.declared.Head.{Head}
 use Rattle.map.specs.Rows.{Lent}
-use Rattle.ranges.specs.Ranges.{lent}
+use Rattle.form_ranges.specs.Ranges.{lent}
 use Rattle.map.specs.Ticket.{emptied}
 use Rattle.abi.proofs.Values.{emptied-told}
 use Rattle.abi.proofs.solgwid_empty_map.Statement.{statement}

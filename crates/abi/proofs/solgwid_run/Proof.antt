@@ -4,7 +4,7 @@ use mathlib.Core.Path.{sym, subst}
 use lib.IntN.{pos}
 use Rattle.map.specs.declared.Head.{Head}
 use Rattle.map.specs.Rows.{Lent}
-use Rattle.ranges.specs.Ranges.{lent}
+use Rattle.form_ranges.specs.Ranges.{lent}
 use Rattle.engine.specs.Runs.{Runs}
 use Rattle.abi.specs.Heads.{headIn}
 use Rattle.abi.proofs.Values.{runs-told}

@@ -2,8 +2,8 @@
 use borrow.Author.Needs.{needs}
 use borrow.Author.Tests.{not-true, not-false}
 use mathlib.Core.Path.{sym, ap, _∙_}
-use Rattle.ranges.specs.Ranges.{lent}
-use Rattle.answers.specs.Outcomes.{outcome}
+use Rattle.form_ranges.specs.Ranges.{lent}
+use Rattle.outcomes.specs.Outcomes.{outcome}
 use Rattle.emptying.proofs.Empty.{emptied-done, emptied-refused}
 use Rattle.emptying.proofs.empty_map.Statement.{statement}
 use Rattle.emptying.proofs.empty_map.Tie as tie

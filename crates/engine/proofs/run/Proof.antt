@@ -9,7 +9,7 @@ use Rattle.lists.proofs.Bools.{or-false}
 use Rattle.map.specs.Rows.{whole}
 use Rattle.map.specs.Ticket.{Outcome, emptied}
 use Rattle.map.specs.Grow.{after}
-use Rattle.ranges.specs.Ranges.{lent}
+use Rattle.form_ranges.specs.Ranges.{lent}
 use Rattle.engine.specs.Runs.{ticketsOf}
 use Rattle.engine.proofs.Answers.{runs-1, runs-20, runs-0}
 use Rattle.engine.proofs.run.Statement.{statement}

@@ -10,8 +10,8 @@ use mir.Val.{SFits}
 use mir.Facts.{toZ-ofZ}
 use Rattle.map.specs.Ticket.{ticket}
 use Rattle.map.specs.Grow.{after}
-use Rattle.ranges.specs.Ranges.{lent}
-use Rattle.answers.specs.Outcomes.{outcome}
+use Rattle.form_ranges.specs.Ranges.{lent}
+use Rattle.outcomes.specs.Outcomes.{outcome}
 use Rattle.engine.specs.Runs.{ticketsOf}
 use Rattle.engine.proofs.Turns.{Left, left-all, left-next, left-none}
 use Rattle.engine.proofs.run_tickets.Statement.{statement}

@@ -5,18 +5,18 @@ use native.Mathlib.Omega.{arith}
 use Rattle.map.specs.Form.{countsFit, nextsFit, formed}
 use Rattle.tables.specs.declared.Counts.{Counts}
 use Rattle.curves.proofs.Runs.{and-left, and-right}
-use Rattle.ranges.specs.Ranges.{lent, countsOf, mapIn, rangedRows, Counted}
-use Rattle.ranges.proofs.Parts.{counted, counts-natural}
-use Rattle.departures.proofs.Words.{flipped}
+use Rattle.form_ranges.specs.Ranges.{lent, countsOf, mapIn, rangedRows, Counted}
+use Rattle.form_ranges.proofs.Parts.{counted, counts-natural}
+use Rattle.form_links.proofs.Words.{flipped}
 use Rattle.form.proofs.Parts.{unfit-head, unranged, by-formed, whole-room, sizes-are}
 use Rattle.form.proofs.in_form.Statement.{statement}
 use Rattle.form.proofs.in_form.Tie as tie
 use Rattle.form.proofs.in_form.Reads as reads
 use Rattle.form.proofs.in_form.Lts as lts
 use Rattle.form.proofs.is_formed.Reads as is-formed-reads
-use Rattle.ranges.proofs.counts_of.Reads as counts-of-reads
-use Rattle.ranges.proofs.head_fits.Reads as head-fits-reads
-use Rattle.ranges.proofs.is_ranged.Reads as is-ranged-reads
+use Rattle.form_ranges.proofs.counts_of.Reads as counts-of-reads
+use Rattle.form_ranges.proofs.head_fits.Reads as head-fits-reads
+use Rattle.form_ranges.proofs.is_ranged.Reads as is-ranged-reads
 
 -- ---- what is known after each part
 

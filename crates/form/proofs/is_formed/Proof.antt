@@ -5,20 +5,20 @@ use mathlib.Core.Bool.{true, false}
 use Prim.Native.Nat.{ℕ, _*_}
 use native.Mathlib.Omega.{arith}
 use lib.ListN.{length-replicate}
-use Rattle.ranges.specs.Ranges.{InOrder, Named}
-use Rattle.ranges.proofs.Parts.{node-rows, edge-rows, face-rows}
-use Rattle.links.specs.Positions.{RowsNamed, NextsNamed}
-use Rattle.departures.proofs.Words.{flipped}
+use Rattle.form_ranges.specs.Ranges.{InOrder, Named}
+use Rattle.form_ranges.proofs.Parts.{node-rows, edge-rows, face-rows}
+use Rattle.darts.specs.Positions.{RowsNamed, NextsNamed}
+use Rattle.form_links.proofs.Words.{flipped}
 use Rattle.form.proofs.Parts.{curved, departed, stop₁, stop₂, stop₃, stop₄, last₅}
 use Rattle.form.proofs.is_formed.Statement.{statement}
 use Rattle.form.proofs.is_formed.Tie as tie
 use Rattle.form.proofs.is_formed.Reads as reads
 use Rattle.form.proofs.is_formed.Lts as lts
-use Rattle.departures.proofs.departures_formed.Reads as departures-formed-reads
-use Rattle.departures.proofs.links_formed.Reads as links-formed-reads
-use Rattle.names.proofs.curves_fit.Reads as curves-fit-reads
-use Rattle.names.proofs.names_exist.Reads as names-exist-reads
-use Rattle.ranges.proofs.numbers_fit.Reads as numbers-fit-reads
+use Rattle.form_links.proofs.departures_formed.Reads as departures-formed-reads
+use Rattle.form_links.proofs.links_formed.Reads as links-formed-reads
+use Rattle.form_references.proofs.curves_fit.Reads as curves-fit-reads
+use Rattle.form_references.proofs.names_exist.Reads as names-exist-reads
+use Rattle.form_ranges.proofs.numbers_fit.Reads as numbers-fit-reads
 
 -- ---- what is known after each part
 

@@ -48,7 +48,7 @@ use Rattle.map.proofs.Head as S
 use Rattle.map.proofs.Head.Laws as S′
 use Rattle.map.proofs.Answer as U
 use Rattle.map.proofs.Answer.Laws as U′
-use Rattle.ranges.specs.Ranges.{lent}
+use Rattle.form_ranges.specs.Ranges.{lent}
 use Rattle.records.proofs.Heads.{vals, said-last, frees-local, relends}
 use Rattle.engine.proofs.edges_of_face as g
 use Rattle.engine.proofs.edges_of_face.Symbol as g-def

@@ -42,10 +42,10 @@ use Rattle.map.proofs.Head as S
 use Rattle.map.proofs.Head.Laws as S′
 use Rattle.map.proofs.Answer as U
 use Rattle.map.proofs.Answer.Laws as U′
-use Rattle.ranges.specs.Ranges.{lent}
-use Rattle.answers.specs.declared.Done.{Done}
-use Rattle.answers.proofs.Done as D
-use Rattle.answers.proofs.Done.Laws as D′
+use Rattle.form_ranges.specs.Ranges.{lent}
+use Rattle.outcomes.specs.declared.Done.{Done}
+use Rattle.outcomes.proofs.Done as D
+use Rattle.outcomes.proofs.Done.Laws as D′
 use Rattle.engine.specs.Runs.{Runs}
 use Rattle.records.proofs.Heads.{vals, is-head, is-answer, opens-head, closes-head, said-last, frees-local, relends}
 use Rattle.engine.proofs.run as g

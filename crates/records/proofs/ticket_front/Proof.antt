@@ -5,7 +5,7 @@ use mathlib.Core.List.{List}
 use lib.IntN.{ℤ}
 use lib.ListN.{length, take, drop}
 use lib.Seq.{length-take-le, take-at}
-use Rattle.answers.specs.Outcomes.{outcome}
+use Rattle.outcomes.specs.Outcomes.{outcome}
 use Rattle.records.proofs.ticket_front.Statement.{statement}
 use Rattle.records.proofs.ticket_front.Tie as tie
 

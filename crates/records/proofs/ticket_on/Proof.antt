@@ -52,7 +52,7 @@ use Rattle.map.specs.Ticket.{Outcome, ticket}
 use Rattle.map.proofs.Head as S
 use Rattle.map.proofs.Answer as B
 use Rattle.map.proofs.Answer.Laws as B′
-use Rattle.ranges.specs.Ranges.{lent}
+use Rattle.form_ranges.specs.Ranges.{lent}
 use Rattle.records.specs.declared.Node.{Node}
 use Rattle.records.specs.Records.{nodeTable}
 use Rattle.records.proofs.Heads.{vals, slice-last, ref-last, relends}

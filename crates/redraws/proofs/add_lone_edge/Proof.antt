@@ -10,8 +10,8 @@ use Rattle.integers.specs.Signs.{sent}
 use Rattle.map.specs.Limits.{nodeWidth}
 use Rattle.map.specs.Tickets.{AddIsoEdge}
 use Rattle.tables.proofs.Rows.{node-rows-rising, node-row-of}
-use Rattle.answers.proofs.Formed.{node-rows, edge-next, decided-refused, decided-carried}
-use Rattle.answers.proofs.Words.{count-read, place-told}
+use Rattle.outcomes.proofs.Formed.{node-rows, edge-next, decided-refused, decided-carried}
+use Rattle.outcomes.proofs.Words.{count-read, place-told}
 use Rattle.redraws.proofs.Formed.{held, nodes-natural, nodes-read}
 use Rattle.redraws.proofs.Lone.{lone-free}
 use Rattle.redraws.proofs.Added.{node-in, start-missing, end-missing, add-reasons, add-lent, add-value}

@@ -14,8 +14,8 @@ use Rattle.map.specs.Rows.{hasNode}
 use Rattle.map.specs.Tickets.{ChangeEdgeGeom}
 use Rattle.tables.specs.Tables.{nodeMap, edgeAt}
 use Rattle.tables.proofs.Rows.{edge-rows-rising, edge-row-of}
-use Rattle.answers.proofs.Formed.{node-rows, edge-rows, decided-refused, decided-carried}
-use Rattle.answers.proofs.Words.{place-told}
+use Rattle.outcomes.proofs.Formed.{node-rows, edge-rows, decided-refused, decided-carried}
+use Rattle.outcomes.proofs.Words.{place-told}
 use Rattle.redraws.proofs.Formed.{held, edges-natural, edges-read, nodes-natural, nodes-read}
 use Rattle.redraws.proofs.Removed.{row-in}
 use Rattle.redraws.proofs.Added.{node-in}

@@ -4,7 +4,7 @@ use Prim.Native.Nat.{ℕ}
 use native.Mathlib.Omega.{arith}
 use Rattle.map.specs.Reasons.{firstReason}
 use Rattle.tables.proofs.Rows.{node-row-of}
-use Rattle.answers.proofs.Words.{count-natural, count-abs}
+use Rattle.outcomes.proofs.Words.{count-natural, count-abs}
 use Rattle.redraws.specs.Change.{turnReasons}
 use Rattle.redraws.proofs.Formed.{counted-held, nodes-held}
 use Rattle.redraws.proofs.Lone.{sent-run}

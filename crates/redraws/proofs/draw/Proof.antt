@@ -10,8 +10,8 @@ use lib.Seq.{paste}
 use mir.Syntax.{w64}
 use mir.Facts.{toZ-ofZ}
 use Rattle.map.specs.Rows.{edgeCells}
-use Rattle.linking.specs.Linking.{linkedEdge}
-use Rattle.answers.proofs.Words.{count-natural, count-abs}
+use Rattle.links.specs.Linking.{linkedEdge}
+use Rattle.outcomes.proofs.Words.{count-natural, count-abs}
 use Rattle.redraws.specs.Holds.{newRow}
 use Rattle.redraws.proofs.Drawn.{drawn-as, pushed-held, counted, start-fits, end-fits}
 use Rattle.redraws.proofs.draw.Statement.{statement}

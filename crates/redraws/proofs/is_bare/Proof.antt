@@ -13,7 +13,7 @@ use Rattle.lists.specs.Tests.{same, bit}
 use Rattle.lists.specs.Scans.{count}
 use Rattle.lists.proofs.Counts.{byte-bit}
 use Rattle.tables.proofs.Order.{word-test}
-use Rattle.linking.specs.Linking.{positions, leavesNode}
+use Rattle.links.specs.Linking.{positions, leavesNode}
 use Rattle.redraws.proofs.is_bare.Statement.{statement}
 use Rattle.redraws.proofs.is_bare.Tie as tie
 

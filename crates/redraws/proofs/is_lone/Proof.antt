@@ -15,7 +15,7 @@ use Rattle.map.specs.Rows.{cell}
 use Rattle.tables.specs.Tables.{rowAt}
 use Rattle.tables.proofs.Rows.{row-cell, node-cells}
 use Rattle.tables.proofs.Order.{word-test}
-use Rattle.answers.proofs.Words.{lone-is}
+use Rattle.outcomes.proofs.Words.{lone-is}
 use Rattle.redraws.proofs.is_lone.Statement.{statement}
 use Rattle.redraws.proofs.is_lone.Tie as tie
 

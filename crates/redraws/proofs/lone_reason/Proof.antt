@@ -5,9 +5,9 @@ use native.Mathlib.Omega.{arith}
 use Rattle.curves.specs.Curves.{curveOf}
 use Rattle.map.specs.Reasons.{firstReason, meetingReasons}
 use Rattle.tables.specs.Tables.{nodeMap}
-use Rattle.conditions.specs.Sent.{edgesBut}
+use Rattle.reason_curves.specs.Sent.{edgesBut}
 use Rattle.tables.proofs.Rows.{node-row-of}
-use Rattle.answers.proofs.Words.{count-natural, count-abs}
+use Rattle.outcomes.proofs.Words.{count-natural, count-abs}
 use Rattle.redraws.proofs.Formed.{counted-held, nodes-held}
 use Rattle.redraws.proofs.Lone.{sent-run, lone-sent, lone-joined, both-lone, lone-apart, lone-meeting, lone-room}
 use Rattle.redraws.proofs.lone_reason.Statement.{statement}

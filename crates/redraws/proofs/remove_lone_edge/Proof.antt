@@ -14,8 +14,8 @@ use Rattle.map.specs.Tickets.{RemoveIsoEdge}
 use Rattle.map.specs.Reasons.{edgeIsolated}
 use Rattle.tables.specs.Tables.{edgeAt, edgeMap}
 use Rattle.tables.proofs.Rows.{edge-rows-rising, edge-row-of}
-use Rattle.answers.proofs.Formed.{edge-rows, decided-refused, decided-carried}
-use Rattle.answers.proofs.Words.{place-told}
+use Rattle.outcomes.proofs.Formed.{edge-rows, decided-refused, decided-carried}
+use Rattle.outcomes.proofs.Words.{place-told}
 use Rattle.redraws.proofs.Formed.{held, edges-natural, edges-read}
 use Rattle.redraws.proofs.Removed.{row-in, remove-missing, remove-joined, remove-free, remove-lent, remove-value}
 use Rattle.redraws.proofs.remove_lone_edge.Statement.{statement}

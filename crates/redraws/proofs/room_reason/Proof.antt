@@ -6,7 +6,7 @@ use native.Mathlib.Omega.{arith}
 use lib.IntN.{natAbs}
 use lib.ListN.{length}
 use Rattle.map.specs.Reasons.{firstReason}
-use Rattle.answers.proofs.Words.{count-natural, count-abs}
+use Rattle.outcomes.proofs.Words.{count-natural, count-abs}
 use Rattle.redraws.proofs.room_reason.Statement.{statement}
 use Rattle.redraws.proofs.room_reason.Tie as tie
 

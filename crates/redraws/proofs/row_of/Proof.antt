@@ -5,7 +5,7 @@ use mir.Syntax.{w64}
 use mir.Facts.{toZ-ofZ}
 use Rattle.map.specs.Limits.{nodeWidth}
 use Rattle.tables.proofs.Rows.{node-rows-rising}
-use Rattle.answers.proofs.Words.{place-told}
+use Rattle.outcomes.proofs.Words.{place-told}
 use Rattle.redraws.proofs.Changed.{node-there}
 use Rattle.redraws.proofs.row_of.Statement.{statement}
 use Rattle.redraws.proofs.row_of.Tie as tie

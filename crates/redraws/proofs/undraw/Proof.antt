@@ -10,8 +10,8 @@ use mir.Val.{toZ, ofZ}
 use mir.Facts.{toZ-ofZ}
 use Rattle.integers.specs.Signs.{sent}
 use Rattle.tables.specs.Tables.{closed, edgeAt}
-use Rattle.linking.specs.Linking.{unlinkedEdge}
-use Rattle.answers.proofs.Words.{count-natural, count-abs}
+use Rattle.links.specs.Linking.{unlinkedEdge}
+use Rattle.outcomes.proofs.Words.{count-natural, count-abs}
 use Rattle.redraws.proofs.Undrawn.{undrawn-as, nodes-few, undrawn-counted, start-cell, end-cell, start-rows, faced-alike, bare-alike}
 use Rattle.redraws.proofs.undraw.Statement.{statement}
 use Rattle.redraws.proofs.undraw.Tie as tie

@@ -6,7 +6,7 @@ use lib.IntN.{ℤ}
 use mir.Syntax.{w64}
 use mir.Facts.{toZ-ofZ}
 use Rattle.tables.specs.Tables.{closed}
-use Rattle.linking.proofs.LinkedEdges.{unlinked-edge-kept}
+use Rattle.links.proofs.LinkedEdges.{unlinked-edge-kept}
 use Rattle.redraws.specs.Holds.{bareAt}
 use Rattle.redraws.proofs.undraw_edge.Statement.{statement}
 use Rattle.redraws.proofs.undraw_edge.Tie as tie

@@ -1,6 +1,6 @@
 -- `redraws::with_edge` meets its contract: counts and next numbers are small. Assumes nothing.
 use native.Mathlib.Omega.{arith}
-use Rattle.answers.proofs.Words.{plus-fits, plus-is}
+use Rattle.outcomes.proofs.Words.{plus-fits, plus-is}
 use Rattle.redraws.proofs.with_edge.Statement.{statement}
 use Rattle.redraws.proofs.with_edge.Tie as tie
 

@@ -1,6 +1,6 @@
 -- `redraws::without_edge` meets its contract. Assumes nothing.
 use native.Mathlib.Omega.{arith}
-use Rattle.answers.proofs.Words.{minus-fits, minus-is}
+use Rattle.outcomes.proofs.Words.{minus-fits, minus-is}
 use Rattle.redraws.proofs.without_edge.Statement.{statement}
 use Rattle.redraws.proofs.without_edge.Tie as tie
 

@@ -9,13 +9,13 @@ use lib.ListN.{getD}
 use lib.Seq.{paste}
 use Rattle.integers.specs.Signs.{sent}
 use Rattle.curves.specs.Curves.{points, curveOf}
-use Rattle.cutting.specs.declared.Line.{Line}
+use Rattle.curve_edits.specs.declared.Line.{Line}
 use Rattle.map.specs.Rows.{dartCell}
 use Rattle.map.specs.Edits.{withCurve}
 use Rattle.tables.specs.Tables.{edgeAt}
 use Rattle.tables.proofs.Rows.{edge-cells}
 use Rattle.map.proofs.RoundTrip.{dart-cell-back}
-use Rattle.rowing.proofs.Cells.{line-count}
+use Rattle.map_rows.proofs.Cells.{line-count}
 use Rattle.redraws.proofs.Drawn.{points-few, row-written}
 use Rattle.redraws.proofs.write_curve.Statement.{statement}
 use Rattle.redraws.proofs.write_curve.Tie as tie

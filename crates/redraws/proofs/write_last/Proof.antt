@@ -9,11 +9,11 @@ use lib.Seq.{paste}
 use mir.Syntax.{w64}
 use mir.Facts.{toZ-ofZ}
 use Rattle.curves.specs.Curves.{points, curveOf}
-use Rattle.cutting.specs.declared.Line.{Line}
+use Rattle.curve_edits.specs.declared.Line.{Line}
 use Rattle.tables.specs.Tables.{nodeAt}
 use Rattle.redraws.specs.Holds.{newRow}
-use Rattle.rowing.proofs.Cells.{line-count}
-use Rattle.answers.proofs.Words.{count-natural, count-abs, count-read, small-read}
+use Rattle.map_rows.proofs.Cells.{line-count}
+use Rattle.outcomes.proofs.Words.{count-natural, count-abs, count-read, small-read}
 use Rattle.redraws.proofs.Words.{back-read}
 use Rattle.redraws.proofs.Drawn.{points-few, row-written, counted, start-number, end-number, start-small, end-small, face-is, new-fits}
 use Rattle.redraws.proofs.write_last.Statement.{statement}

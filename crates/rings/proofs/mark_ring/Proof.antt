@@ -6,15 +6,15 @@ use Prim.Native.Nat.{ℕ, suc, _+_, _*_, _-_, _<_, _≤_}
 use native.Mathlib.Nat.{zero-add}
 use native.Mathlib.Omega.{arith}
 use lib.ListN.{length, getD, length-set}
-use Rattle.planar.specs.Map.{Dart}
+use Rattle.planar_maps.specs.Map.{Dart}
 use Rattle.map.specs.Darts.{among}
-use Rattle.links.specs.Positions.{dartAt}
+use Rattle.darts.specs.Positions.{dartAt}
 use Rattle.rings.proofs.Walks.{steps, ringAt, ring-steps, Follows, steps-end, steps-on, steps-last, mark-on, mark-last}
 use Rattle.rings.proofs.mark_ring.Statement.{statement}
 use Rattle.rings.proofs.mark_ring.Tie as tie
 use Rattle.rings.proofs.mark_ring.Reads as reads
 use Rattle.rings.proofs.mark_ring.Lts as lts
-use Rattle.links.proofs.next_position.Reads as next-position-reads
+use Rattle.darts.proofs.next_position.Reads as next-position-reads
 
 abbrev Inv-loop : tie.InvT-loop
 Inv-loop edges count p v marks₀ c₀ k₀ k-end marks c k =

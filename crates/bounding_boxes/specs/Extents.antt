@@ -1,0 +1,23 @@
+-- The extent of a curve: the least box around its points.
+use mathlib.Core.Bool.{Bool, _||_}
+use Prim.Native.Nat.{min, max}
+use lib.Dec.{ltb}
+use Rattle.lists.specs.Scans.{fold}
+use Rattle.plane.specs.declared.Point.{Point}
+use Rattle.curves.specs.Curves.{Curve}
+use Rattle.bounding_boxes.specs.declared.Extent.{Extent}
+
+-- one point
+abbrev pub extentAt : Point → Extent
+extentAt p = record { left = p .x; right = p .x; low = p .y; high = p .y }
+
+-- with a point besides
+abbrev pub widen : Extent → Point → Extent
+widen e p = record { left = min (e .left) (p .x); right = max (e .right) (p .x); low = min (e .low) (p .y); high = max (e .high) (p .y) }
+
+abbrev pub extentOf : Curve → Extent
+extentOf c = fold widen (extentAt (c .first)) (c .rest)
+
+-- no point in common
+abbrev pub apart : Extent → Extent → Bool
+apart e f = ltb (e .right) (f .left) || ltb (f .right) (e .left) || ltb (e .high) (f .low) || ltb (f .high) (e .low)

@@ -1,0 +1,62 @@
+// The extent of a curve: the least box around its points. Curves whose extents lie apart share no point.
+use plane::Point;
+ghost use mathlib.Core.Path.{_≡_};
+ghost use Prim.Native.Nat.{min, max};
+ghost use Rattle.curves.specs.Curves.{Run, curveOf};
+ghost use Rattle.bounding_boxes.specs.Extents.{widen, extentOf, apart};
+
+pub struct Extent {
+    pub left: u64,
+    pub right: u64,
+    pub low: u64,
+    pub high: u64,
+}
+
+fn least(a: u64, b: u64) -> u64
+    ensures { λ r. ⌜ r ≡ min a b ⌝ }
+{
+    if a < b { a } else { b }
+}
+
+fn most(a: u64, b: u64) -> u64
+    ensures { λ r. ⌜ r ≡ max a b ⌝ }
+{
+    if a < b { b } else { a }
+}
+
+// The extent with a point besides.
+fn widened(e: Extent, p: Point) -> Extent
+    ensures { λ r. ⌜ r ≡ widen e p ⌝ }
+{
+    Extent {
+        left: least(e.left, p.x),
+        right: most(e.right, p.x),
+        low: least(e.low, p.y),
+        high: most(e.high, p.y),
+    }
+}
+
+pub fn extent_of(c: &[i64]) -> Extent
+    requires { ⌜ Run (now c) ⌝ }
+    ensures { λ r. ⌜ r ≡ extentOf (curveOf (now (c .entry))) ⌝ }
+{
+    let p = curves::point_at(c, 0);
+    let mut e = Extent {
+        left: p.x,
+        right: p.x,
+        low: p.y,
+        high: p.y,
+    };
+    let n = curves::point_count(c);
+    for i in 1..n {
+        e = widened(e, curves::point_at(c, i));
+    }
+    e
+}
+
+// Whether the extents have no point in common.
+pub fn lie_apart(e: Extent, f: Extent) -> bool
+    ensures { λ r. ⌜ r ≡ apart e f ⌝ }
+{
+    (e.right < f.left) | (f.right < e.left) | (e.high < f.low) | (f.high < e.low)
+}

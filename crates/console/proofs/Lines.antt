@@ -1,0 +1,41 @@
+-- The numbers of a line in a list, and the bytes of lines one after the other. Assumes nothing.
+use mathlib.Core.Path.{_≡_, refl}
+use mathlib.Core.List.{List, [], _∷_, _++_}
+use mathlib.Core.Option.{Option, none, some, Option·getD}
+use Prim.Native.Nat.{ℕ, _+_, _≤_, _<_}
+use native.Mathlib.Numerals.{add-one}
+use native.Mathlib.Omega.{arith}
+use lib.IntN.{ℤ}
+use lib.ListN.{length, take, drop, set, length-append}
+use lib.Seq.{take-append-seam, length-take-le, take-suc-set, take-all, take-at}
+use Rattle.lists.proofs.Bools.{same-eq, same-false}
+use Rattle.map.specs.Rows.{Lent}
+use Rattle.text.specs.declared.Parsed.{Parsed}
+use Rattle.text.specs.Parsed.{ParsedAs}
+use Rattle.console.specs.Lines.{countOf, lineAnswered, deskOf, keptBytes, served}
+
+-- the numbers stand at the front of the list
+pub parsed-numbers : (o : Option (List ℤ)) (before : List ℤ) (r : Parsed) (after : List ℤ) → ParsedAs o before r after
+    → (countOf r ≤ length after) × (take (countOf r) after ≡ Option·getD o [])
+parsed-numbers (some zs) before r after (e, f) = rw (e, f) (simp length-append (omega arith), take-append-seam zs (drop (length zs) before))
+parsed-numbers none before r after (e, f) = rw e (omega arith, refl)
+
+-- one byte more, after n bytes of a line that has not ended
+module _ (l : Lent) (buffer : List ℕ) (n b : ℕ) (size : length buffer ≡ keptBytes) (h : n ≤ keptBytes) where
+  count : length (take n buffer) ≡ n
+  count = length-take-le n buffer (omega arith)
+
+  pub line-ended : (after : Lent) → b ≡ 10 → after ≡ lineAnswered l (take n buffer) .lent → deskOf after buffer 0 ≡ served (deskOf l buffer n) b
+  unfolding served
+  line-ended after e q = rw (same-eq b 10 e, q)
+
+  pub line-longer : (b ≡ 10 → ⊥) → n < keptBytes → deskOf l (set buffer n b) (n + 1) ≡ served (deskOf l buffer n) b
+  unfolding served
+  line-longer e g =
+      let more = take-suc-set buffer n b (omega arith) in
+      let all = take-all keptBytes (take n buffer ++ b ∷ []) (simp (length-append, count) (omega arith)) in
+      rw (same-false b 10 e, add-one n, more, all)
+
+  pub line-full : (b ≡ 10 → ⊥) → keptBytes ≤ n → deskOf l buffer n ≡ served (deskOf l buffer n) b
+  unfolding served
+  line-full e g = rw (same-false b 10 e, take-at (take n buffer) (b ∷ []) keptBytes (omega (arith, count)))

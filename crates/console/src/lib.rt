@@ -1,0 +1,245 @@
+// The desk: tickets as lines of text, answered as they come.
+use outcomes::Done;
+use map::Head;
+use text::Parsed;
+ghost use mathlib.Core.Path.{_≡_};
+ghost use Prim.Native.Nat.{_≤_};
+ghost use lib.ListN.{length};
+ghost use Rattle.io.specs.Counts.{Counts};
+ghost use Rattle.lists.specs.Scans.{fold};
+ghost use Rattle.form_ranges.specs.Ranges.{lent};
+ghost use Rattle.outcomes.specs.Outcomes.{outcome};
+ghost use Rattle.console.specs.Lines.{countOf, lineAnswered, deskOf, keptBytes, served};
+
+// The bytes of a line that are kept: one more than a line may have.
+const KEPT: usize = text::LINE + 1;
+
+// After some bytes of the input: the head after the lines that ended, and the length of the line that did not.
+pub struct State {
+    pub head: Head,
+    pub length: usize,
+}
+
+fn count_of(parsed: Parsed) -> usize
+    ensures { λ r. ⌜ r ≡ countOf parsed ⌝ }
+{
+    match parsed {
+        Parsed::Numbers(n) => n,
+        Parsed::Wrong => 0,
+    }
+}
+
+// One line, without its line end.
+pub fn answer_line(
+    nodes: &mut [i64],
+    edges: &mut [i64],
+    faces: &mut [i64],
+    h: Head,
+    line: &[u8],
+) -> Done
+    ensures { λ r. ⌜ outcome (now (nodes .exit)) (now (edges .exit)) (now (faces .exit)) r ≡ lineAnswered (lent (now (nodes .entry)) (now (edges .entry)) (now (faces .entry)) h) (now (line .entry)) ⌝ }
+{
+    let mut list = [0i64; 500];
+    let n = count_of(text::parse(line, &mut list));
+    engine::ticket(nodes, edges, faces, h, &list[..n])
+}
+
+// ---- what is printed
+
+fn write_answer(refusal: u64, value: i64) {
+    let mut out = [0u8; 50];
+    let at = printing::write_natural(&mut out, 0, refusal);
+    let end = printing::write_row(&mut out, at, &[value]);
+    io::write_all(libc::STDOUT_FILENO, &out[..end]);
+}
+
+// A row of at most 32 numbers, after a letter.
+fn write_tagged(tag: u8, row: &[i64])
+    requires { ⌜ length (now row) ≤ 32 ⌝ }
+{
+    let mut out = [0u8; 710];
+    out[0] = tag;
+    let end = printing::write_row(&mut out, 1, row);
+    io::write_all(libc::STDOUT_FILENO, &out[..end]);
+}
+
+// A count of rows; a number below 0 counts as 0.
+fn natural(z: i64) -> usize {
+    if z < 0 {
+        return 0;
+    }
+    z as usize
+}
+
+// The first `count` rows of a table, as far as it has them.
+fn write_rows(tag: u8, table: &[i64], width: usize, count: i64)
+    requires { ⌜ (1 ≤ width) × (width ≤ 32) ⌝ }
+{
+    let mut left = natural(count);
+    let mut at = 0;
+    while 0 < left {
+        if table.len() - at < width {
+            return;
+        }
+        let end = at + width;
+        write_tagged(tag, &table[at..end]);
+        at = end;
+        left -= 1;
+    }
+}
+
+// The head and the rows in use.
+fn write_sheet(nodes: &[i64], edges: &[i64], faces: &[i64], h: Head) {
+    write_tagged(
+        b'H',
+        &[
+            h.nodes,
+            h.edges,
+            h.faces,
+            h.next_node,
+            h.next_edge,
+            h.next_face,
+        ],
+    );
+    write_rows(b'N', nodes, 4, h.nodes);
+    write_rows(b'E', edges, 32, h.edges);
+    write_rows(b'F', faces, 1, h.faces);
+}
+
+fn write_done(nodes: &[i64], edges: &[i64], faces: &[i64], done: Done, rows: bool) {
+    let head = done.head;
+    write_answer(done.answer.refusal, done.answer.value);
+    if rows {
+        write_sheet(nodes, edges, faces, head);
+    }
+}
+
+// ---- lines as they come
+
+fn serve_line(
+    nodes: &mut [i64],
+    edges: &mut [i64],
+    faces: &mut [i64],
+    h: Head,
+    line: &[u8],
+    rows: bool,
+) -> Head
+    ensures { λ r. ⌜ lent (now (nodes .exit)) (now (edges .exit)) (now (faces .exit)) r ≡ lineAnswered (lent (now (nodes .entry)) (now (edges .entry)) (now (faces .entry)) h) (now (line .entry)) .lent ⌝ }
+{
+    let done = answer_line(nodes, edges, faces, h, line);
+    write_done(nodes, edges, faces, done, rows);
+    let head = done.head;
+    head
+}
+
+// One byte of the input.
+fn serve_byte(
+    nodes: &mut [i64],
+    edges: &mut [i64],
+    faces: &mut [i64],
+    state: State,
+    line: &mut [u8],
+    b: u8,
+    rows: bool,
+) -> State
+    requires { ⌜ (length (now line) ≡ keptBytes) × (state .length ≤ keptBytes) ⌝ }
+    ensures { λ r. ⌜ (deskOf (lent (now (nodes .exit)) (now (edges .exit)) (now (faces .exit)) (r .head)) (now (line .exit)) (r .length) ≡ served (deskOf (lent (now (nodes .entry)) (now (edges .entry)) (now (faces .entry)) (state .head)) (now (line .entry)) (state .length)) b) × (r .length ≤ keptBytes) ⌝ }
+{
+    let n = state.length;
+    let head = state.head;
+    if b == 10 {
+        let next = serve_line(nodes, edges, faces, head, &line[..n], rows);
+        return State {
+            head: next,
+            length: 0,
+        };
+    }
+    if n < KEPT {
+        line[n] = b;
+        return State {
+            head,
+            length: n + 1,
+        };
+    }
+    state
+}
+
+// Some bytes of the input.
+fn serve_bytes(
+    nodes: &mut [i64],
+    edges: &mut [i64],
+    faces: &mut [i64],
+    state: State,
+    line: &mut [u8],
+    bytes: &[u8],
+    rows: bool,
+) -> State
+    requires { ⌜ (length (now line) ≡ keptBytes) × (state .length ≤ keptBytes) ⌝ }
+    ensures { λ r. ⌜ (deskOf (lent (now (nodes .exit)) (now (edges .exit)) (now (faces .exit)) (r .head)) (now (line .exit)) (r .length) ≡ fold served (deskOf (lent (now (nodes .entry)) (now (edges .entry)) (now (faces .entry)) (state .head)) (now (line .entry)) (state .length)) (now (bytes .entry))) × (r .length ≤ keptBytes) ⌝ }
+{
+    let mut at = state;
+    for i in 0..bytes.len() {
+        at = serve_byte(nodes, edges, faces, at, line, bytes[i], rows);
+    }
+    at
+}
+
+fn read_some(buf: &mut [u8; 4096]) -> usize
+    ensures { λ r. ⌜ Counts r (now (buf .exit)) ⌝ }
+{
+    let got = libc::read(libc::STDIN_FILENO, buf);
+    io::count(got, buf)
+}
+
+// Standard input to its end. The loop counts its turns down, from a number that no run uses up.
+fn serve_input(
+    nodes: &mut [i64],
+    edges: &mut [i64],
+    faces: &mut [i64],
+    h: Head,
+    line: &mut [u8],
+    rows: bool,
+) -> State
+    requires { ⌜ length (now line) ≡ keptBytes ⌝ }
+    ensures { λ r. ⌜ r .length ≤ keptBytes ⌝ }
+{
+    let mut buf = [0u8; 4096];
+    let mut state = State { head: h, length: 0 };
+    let mut turns = u64::MAX;
+    while turns > 0 {
+        let got = read_some(&mut buf);
+        if got == 0 {
+            break;
+        }
+        state = serve_bytes(nodes, edges, faces, state, line, &buf[..got], rows);
+        turns -= 1;
+    }
+    state
+}
+
+fn no_map() -> Head {
+    Head {
+        nodes: 0,
+        edges: 0,
+        faces: 0,
+        next_node: 0,
+        next_edge: 0,
+        next_face: 0,
+    }
+}
+
+// Standard input to its end, a ticket a line, in tables of 200 rows; each line is answered on standard output as it comes, with `rows` the head and the rows in use after it.
+pub fn serve(rows: bool) {
+    let mut nodes = [0i64; 800];
+    let mut edges = [0i64; 6400];
+    let mut faces = [0i64; 200];
+    let mut line = [0u8; KEPT];
+    let empty = engine::empty_map(&mut nodes, &mut edges, &mut faces, no_map());
+    let start = empty.head;
+    let state = serve_input(&mut nodes, &mut edges, &mut faces, start, &mut line, rows);
+    let head = state.head;
+    let n = state.length;
+    if 0 < n {
+        serve_line(&mut nodes, &mut edges, &mut faces, head, &line[..n], rows);
+    }
+}

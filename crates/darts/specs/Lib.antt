@@ -1,0 +1,2 @@
+-- `Positions`: directed edges by their place in the table.
+pub mod Positions

@@ -1,0 +1,153 @@
+-- Tables in form with an edge drawn that nothing turns down: they hold the map with the edge linked in, and its face can be split. Assumes nothing.
+use mathlib.Core.Path.{_≡_, sym, ap, _∙_, subst}
+use mathlib.Core.Bool.{Bool, true, false, _&&_}
+use mathlib.Core.List.{List, [], map, List·Memᴰ}
+use Prim.Native.Nat.{ℕ, _+_, _-_}
+use native.Mathlib.Omega.{arith}
+use lib.IntN.{ℤ, pos, natAbs}
+use lib.ListN.{length-map, getD, List·getD-map}
+use lib.Seq.{getD-at}
+use Rattle.lists.specs.Tests.{same}
+use Rattle.lists.specs.Scans.{all, any}
+use Rattle.lists.specs.Tables.{place}
+use Rattle.lists.specs.declared.Found.the-variants.{At}
+use Rattle.lists.proofs.Bools.{and-is}
+use Rattle.curves.specs.Curves.{curveOf, startWay}
+use Rattle.map.specs.declared.Head.{Head}
+use Rattle.map.specs.Limits.{maxNodes, maxEdges, nodeWidth, edgeWidth}
+use Rattle.map.specs.Rows.{Map, Sizes, mapOf, sizesOf, hasNode}
+use Rattle.map.specs.Form.{numbers, named}
+use Rattle.map.specs.Links.{cornerFace}
+use Rattle.map.specs.Edits.{drawn, drawnIn, splitsFace}
+use Rattle.map.specs.Reasons.{firstReason, reasons}
+use Rattle.map.proofs.Laws.{formed-is}
+use Rattle.map.proofs.RoundTrip.{whole-rows}
+use Rattle.map.proofs.Linked as formedLinks
+use Rattle.map.proofs.Scans.{each-all}
+use Rattle.tables.specs.Tables.{sameZ, column, nodesOf, edgesOf, facesOf, nodeAt, edgeAt, nodeMap}
+use Rattle.tables.proofs.Rows.{edges-length, edges-getD}
+use Rattle.tables.proofs.Lookups.{node-found}
+use Rattle.form_ranges.specs.Ranges.{lent}
+use Rattle.outcomes.specs.Outcomes.{Formed}
+use Rattle.outcomes.proofs.Formed.{ranges, formed-map, node-next, edge-next, face-next}
+use Rattle.reason_edges.specs.Kinds.{addTicket}
+use Rattle.reason_edges.proofs.Adding.{room-known}
+use Rattle.redraws.specs.Holds.{Drawn, drawnHead}
+use Rattle.redraws.specs.Holds as redraws
+use Rattle.redraws.proofs.Filled.{nodes-room, edges-room, nodes-filled, edges-filled}
+use Rattle.face_rows.specs.Holds.{Held, Splittable}
+use Rattle.face_rows.proofs.Formed.{formed-held}
+use Rattle.grown.proofs.Readings.{missing, has-number}
+use Rattle.grown.proofs.RowChanges.{nodeNumber}
+use Rattle.grown.proofs.Reasons.{AddEdge, add-new, add-mod}
+use Rattle.grown.proofs.Numbers.{Outline, outlineOf, outlines, RankedMap, numbered-ranked, has-face}
+use Rattle.grown.proofs.NumbersAdd.{corner-in}
+use Rattle.grown.proofs.Outlines.{drawnOutline, drawn-shape}
+use Rattle.edit_add.proofs.Rings.{drawn-ringed, drawn-ends}
+
+-- what holds of a ticket that nothing turns down
+add-facts : (s : Sizes) (m : Map) (news : Bool) (a b : ℤ) (c : List ℤ) → firstReason (reasons s m (addTicket news a b c)) ≡ 0 → AddEdge news s m (natAbs a) (natAbs b) (curveOf c)
+add-facts s m true a b c e = add-new s m a b c e
+add-facts s m false a b c e = add-mod s m a b c e
+
+module _ {nodes edges faces : List ℤ} {h : Head} (f : Formed nodes edges faces h) where
+  abbrev m : Map
+  m = mapOf (lent nodes edges faces h)
+
+  abbrev s : Sizes
+  s = sizesOf (lent nodes edges faces h)
+
+  -- faces that are named exist: `ranked` says so
+  ranked : RankedMap m
+  unfolding mapOf
+  ranked = numbered-ranked m (formedLinks.edges-once m (formed-map f)) (record {
+    numbers = formed-is m (formed-map f) .rising;
+    named = formed-is m (formed-map f) .named;
+    marked = formed-is m (formed-map f) .bare;
+    first-node = node-next f .1;
+    first-edge = edge-next f .1;
+    next-node = node-next f .2;
+    next-edge = edge-next f .2;
+    next-face = face-next f .2;
+  })
+
+  -- the tables with an edge more hold a map, whatever edge it is
+  pub drawn-held : {nodes′ edges′ : List ℤ} → redraws.Held nodes′ edges′ (drawnHead h) → Held nodes′ edges′ faces (drawnHead h)
+  drawn-held {nodes′} {edges′} d =
+      let k = formed-held f in
+      record {
+        node-rows = d .node-table .rows;
+        edge-rows = d .edge-table .rows;
+        node-cells = nodes-filled (d .node-table);
+        edge-cells = edges-filled (d .edge-table);
+        face-table = k .face-table;
+        nodes-count = d .nodes-count;
+        edges-count = d .edges-count;
+        faces-count = k .faces-count;
+        next-node = k .next-node;
+        next-edge = d .next;
+        next-face = k .next-face;
+        few-nodes = omega (arith, nodes-room (d .node-table), whole-rows nodeWidth 0 maxNodes nodes′ (d .node-table .whole) .most);
+        few-edges = omega (arith, edges-room (d .edge-table), whole-rows edgeWidth 0 maxEdges edges′ (d .edge-table .whole) .most);
+        few-faces = k .few-faces;
+        next-most = k .next-most;
+      }
+
+  number-of : (z : ℤ) (i : ℕ) → place (sameZ z) 0 (column nodeWidth nodes (natAbs (h .nodes))) ≡ At i → nodeAt nodes i .number ≡ natAbs z
+  number-of z i e = sym (ap natAbs (node-found nodes (natAbs (h .nodes)) (ranges f .node-rows) z i e .1))
+
+  -- an edge that nothing turns down, with its corner face
+  module _ (news : Bool) (a b : ℤ) (c : List ℤ) (u v : ℕ) (eu : place (sameZ a) 0 (column nodeWidth nodes (natAbs (h .nodes))) ≡ At u) (ev : place (sameZ b) 0 (column nodeWidth nodes (natAbs (h .nodes))) ≡ At v)
+      (clear : firstReason (reasons s m (addTicket news a b c)) ≡ 0) {face : ℤ} (ef : face ≡ pos (cornerFace m (natAbs a) (startWay (curveOf c)))) where
+    abbrev φ : ℕ
+    φ = cornerFace m (natAbs a) (startWay (curveOf c))
+
+    abbrev D : Map
+    D = drawnIn (natAbs a) (natAbs b) (curveOf c) m
+
+    t : AddEdge news s m (natAbs a) (natAbs b) (curveOf c)
+    t = add-facts s m news a b c clear
+
+    module _ {nodes′ edges′ : List ℤ} (d : Drawn nodes edges h u v c face nodes′ edges′ (drawnHead h)) where
+      pub map-is : mapOf (lent nodes′ edges′ faces (drawnHead h)) ≡ D
+      map-is = d .map faces ∙ (λ i. drawn (number-of a u eu i) (number-of b v ev i) (curveOf c) (natAbs (ef i)) m)
+
+      nodes-are : nodesOf nodes′ (natAbs (h .nodes)) ≡ D .nodes
+      unfolding mapOf
+      nodes-are = ap (λ (x : Map). x .nodes) map-is
+
+      edges-are : edgesOf edges′ (natAbs (h .edges) + 1) ≡ D .edges
+      unfolding mapOf
+      edges-are = ap (λ (x : Map). x .edges) map-is
+
+      -- the last row is that of the new edge
+      pub last : outlineOf (edgeAt edges′ (natAbs (h .edges) + 1 - 1)) ≡ drawnOutline (m .nextEdge) (natAbs a) (natAbs b) φ
+      unfolding mapOf
+      last =
+          ap outlineOf (sym (edges-getD edges′ (natAbs (h .edges) + 1) (natAbs (h .edges) + 1 - 1) missing (omega arith)))
+          ∙ sym (List·getD-map outlineOf (edgesOf edges′ (natAbs (h .edges) + 1)) (natAbs (h .edges) + 1 - 1) missing)
+          ∙ ap (λ (os : List Outline). getD os (natAbs (h .edges) + 1 - 1) (outlineOf missing)) (ap (map outlineOf) edges-are ∙ drawn-shape (natAbs a) (natAbs b) (curveOf c) φ m .outlines)
+          ∙ getD-at (outlines m) (drawnOutline (m .nextEdge) (natAbs a) (natAbs b) φ) [] (outlineOf missing) (natAbs (h .edges) + 1 - 1) (omega (arith, length-map (m .edges) outlineOf, edges-length edges (natAbs (h .edges))))
+
+      ends : all (λ r. hasNode (nodeMap nodes′ (natAbs (h .nodes))) (r .start) && hasNode (nodeMap nodes′ (natAbs (h .nodes))) (r .end)) (edgesOf edges′ (natAbs (h .edges) + 1)) ≡ true
+      ends = each-all _ (edgesOf edges′ (natAbs (h .edges) + 1)) (λ r k. let e = drawn-ends m (formed-map f) t r (subst (List·Memᴰ r) edges-are k) in and-is (there (r .start) (e .0)) (there (r .end) (e .1)))
+        where
+          there : (n : ℕ) → List·Memᴰ n (map nodeNumber (D .nodes)) → hasNode (nodeMap nodes′ (natAbs (h .nodes))) n ≡ true
+          there n k = has-number nodeNumber (nodesOf nodes′ (natAbs (h .nodes))) n (rw nodes-are k)
+
+      -- the corner face exists
+      face-there : any (same (natAbs face)) (facesOf faces (natAbs (h .faces))) ≡ true
+      unfolding mapOf
+      face-there = ap (λ (z : ℤ). any (same (natAbs z)) (facesOf faces (natAbs (h .faces)))) ef ∙ has-face m φ (corner-in m (natAbs a) (startWay (curveOf c)) (t .has-start) ranked)
+
+      pub splits : splitsFace (natAbs a) (natAbs b) (curveOf c) m ≡ true → Splittable nodes′ edges′ faces (drawnHead h) face
+      splits e =
+          record {
+            held = drawn-held (d .held);
+            drawn = omega arith;
+            ends = ends;
+            rings = drawn-ringed m (formed-map f) t edges′ (natAbs (h .edges) + 1) (sym edges-are);
+            borne = ef ∙ ap (λ (o : Outline). pos (o .left)) (sym last);
+            there = face-there;
+            room = let r = rw e at (room-known f news a b c clear .1) in omega arith;
+          }

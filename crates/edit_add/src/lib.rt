@@ -1,0 +1,35 @@
+// Kinds 11 and 12: an edge drawn, and where it splits a face, the face shared out.
+use outcomes::Done;
+use map::Head;
+ghost use mathlib.Core.Path.{_≡_};
+ghost use Rattle.form_ranges.specs.Ranges.{lent};
+ghost use Rattle.outcomes.specs.Outcomes.{Formed, decided, outcome};
+ghost use Rattle.reason_edges.specs.Kinds.{addTicket};
+
+pub fn add_edge(
+    nodes: &mut [i64],
+    edges: &mut [i64],
+    faces: &mut [i64],
+    h: Head,
+    news: bool,
+    start: i64,
+    end: i64,
+    c: &[i64],
+) -> Done
+    requires { ⌜ Formed (now nodes) (now edges) (now faces) h ⌝ }
+    ensures { λ r. ⌜ outcome (now (nodes .exit)) (now (edges .exit)) (now (faces .exit)) r ≡ decided (lent (now (nodes .entry)) (now (edges .entry)) (now (faces .entry)) h) (addTicket news start end (now (c .entry))) ⌝ }
+{
+    let judged = reason_edges::judge_add(nodes, edges, faces, h, news, start, end, c);
+    let reason = judged.reason;
+    if reason != 0 {
+        return outcomes::refused(h, reason);
+    }
+    let number = h.next_edge;
+    let face = judged.face;
+    let drawn = redraws::draw(nodes, edges, h, judged.start, judged.end, c, face);
+    if !judged.splits {
+        return outcomes::carried(drawn, number);
+    }
+    let after = face_rows::split_face(nodes, edges, faces, drawn, news, face);
+    outcomes::carried(after, number)
+}

@@ -1,0 +1,36 @@
+-- `edit_dispatch::remove_lone_edge` meets its contract. Assumes nothing.
+use borrow.Author.Needs.{needs}
+use mathlib.Core.Path.{ap, _∙_}
+use Rattle.integers.specs.Signs.{sent}
+use Rattle.map.specs.Tickets.{RemoveIsoEdge}
+use Rattle.form_ranges.specs.Ranges.{lent}
+use Rattle.edit_dispatch.specs.Shaped.{shaped}
+use Rattle.edit_dispatch.proofs.Counts.{one-none, one-read}
+use Rattle.edit_dispatch.proofs.Reading.{shaped-none}
+use Rattle.edit_dispatch.proofs.remove_lone_edge.Statement.{statement}
+use Rattle.edit_dispatch.proofs.remove_lone_edge.Tie as tie
+
+refused : tie.Need-returns
+refused c faces f =
+    let a = c .before .before .args in
+    shaped-none (a .nodes .now) (a .edges .now) faces (a .h) (c .refused .ensures) (one-none RemoveIsoEdge (a .t .now) (c .before .if1 .taken))
+
+returns : tie.Need-returns-2
+returns c faces f =
+    let s = c .before .before .before .before .before .before in
+    let a = s .before .args in
+    c .before .before .remove-lone-edge .ensures faces f
+    ∙ ap (shaped (lent (a .nodes .now) (a .edges .now) faces (a .h)))
+    (one-read RemoveIsoEdge (a .t .now) (s .if1 .left) (sent (c .before .before .before .remove-lone-edge-arg3 .given)))
+
+pub remove-lone-edge-spec : {M : Type 1} → statement M
+remove-lone-edge-spec =
+    tie.close
+    (tie.spec
+    (λ c κs. search needs)
+    refused
+    (λ c. search needs)
+    (λ c κs. search needs)
+    (λ c. search needs)
+    (λ c. search needs)
+    returns)

@@ -1,0 +1,162 @@
+// Fourteen kinds, chosen by the ticket's first number: a match on it decides argument count and edit.
+use outcomes::Done;
+use map::Head;
+ghost use mathlib.Core.Path.{_≡_};
+ghost use lib.ListN.{drop};
+ghost use Rattle.map.specs.Tickets.{AddIsoNode, MoveIsoNode, RemoveIsoNode, AddIsoEdge, RemoveIsoEdge, ChangeEdgeGeom, one, two, three, oneCurve, twoCurve};
+ghost use Rattle.map.specs.Ticket.{ticket};
+ghost use Rattle.form_ranges.specs.Ranges.{lent};
+ghost use Rattle.outcomes.specs.Outcomes.{Formed, outcome};
+ghost use Rattle.edit_split.specs.Kinds.{splitTicket};
+ghost use Rattle.edit_heal.specs.Kinds.{healTicket};
+ghost use Rattle.reason_edges.specs.Kinds.{addTicket, removeTicket};
+ghost use Rattle.edit_dispatch.specs.Shaped.{shaped};
+
+// ---- the argument count of each kind
+
+fn add_node(nodes: &mut [i64], edges: &[i64], faces: &[i64], h: Head, t: &[i64]) -> Done
+    requires { ⌜ Formed (now nodes) (now edges) (now faces) h ⌝ }
+    ensures { λ r. ⌜ outcome (now (nodes .exit)) (now (edges .entry)) (now (faces .entry)) r ≡ shaped (lent (now (nodes .entry)) (now (edges .entry)) (now (faces .entry)) h) (three AddIsoNode (drop 1 (now (t .entry)))) ⌝ }
+{
+    if t.len() != 4 {
+        return outcomes::refused(h, 3);
+    }
+    edit_nodes::add_node(nodes, edges, faces, h, t[1], t[2], t[3])
+}
+
+fn move_node(nodes: &mut [i64], edges: &[i64], h: Head, t: &[i64]) -> Done
+    requires { ⌜ ((faces : _) × Formed (now nodes) (now edges) faces h) ⌝ }
+    ensures { λ r. ⌜ ((faces : _) → Formed (now (nodes .entry)) (now (edges .entry)) faces h → outcome (now (nodes .exit)) (now (edges .entry)) faces r ≡ shaped (lent (now (nodes .entry)) (now (edges .entry)) faces h) (three MoveIsoNode (drop 1 (now (t .entry))))) ⌝ }
+{
+    if t.len() != 4 {
+        return outcomes::refused(h, 3);
+    }
+    edit_nodes::move_node(nodes, edges, h, t[1], t[2], t[3])
+}
+
+fn remove_node(nodes: &mut [i64], h: Head, t: &[i64]) -> Done
+    requires { ⌜ ((edges : _) × (faces : _) × Formed (now nodes) edges faces h) ⌝ }
+    ensures { λ r. ⌜ ((edges : _) (faces : _) → Formed (now (nodes .entry)) edges faces h → outcome (now (nodes .exit)) edges faces r ≡ shaped (lent (now (nodes .entry)) edges faces h) (one RemoveIsoNode (drop 1 (now (t .entry))))) ⌝ }
+{
+    if t.len() != 2 {
+        return outcomes::refused(h, 3);
+    }
+    edit_nodes::remove_node(nodes, h, t[1])
+}
+
+fn add_lone_edge(nodes: &mut [i64], edges: &mut [i64], h: Head, t: &[i64]) -> Done
+    requires { ⌜ ((faces : _) × Formed (now nodes) (now edges) faces h) ⌝ }
+    ensures { λ r. ⌜ ((faces : _) → Formed (now (nodes .entry)) (now (edges .entry)) faces h → outcome (now (nodes .exit)) (now (edges .exit)) faces r ≡ shaped (lent (now (nodes .entry)) (now (edges .entry)) faces h) (twoCurve AddIsoEdge (drop 1 (now (t .entry))))) ⌝ }
+{
+    let n = t.len();
+    if (n < 3) | (n % 2 == 0) {
+        return outcomes::refused(h, 3);
+    }
+    redraws::add_lone_edge(nodes, edges, h, t[1], t[2], &t[3..])
+}
+
+fn remove_lone_edge(nodes: &mut [i64], edges: &mut [i64], h: Head, t: &[i64]) -> Done
+    requires { ⌜ ((faces : _) × Formed (now nodes) (now edges) faces h) ⌝ }
+    ensures { λ r. ⌜ ((faces : _) → Formed (now (nodes .entry)) (now (edges .entry)) faces h → outcome (now (nodes .exit)) (now (edges .exit)) faces r ≡ shaped (lent (now (nodes .entry)) (now (edges .entry)) faces h) (one RemoveIsoEdge (drop 1 (now (t .entry))))) ⌝ }
+{
+    if t.len() != 2 {
+        return outcomes::refused(h, 3);
+    }
+    redraws::remove_lone_edge(nodes, edges, h, t[1])
+}
+
+fn change_curve(nodes: &[i64], edges: &mut [i64], h: Head, t: &[i64]) -> Done
+    requires { ⌜ ((faces : _) × Formed (now nodes) (now edges) faces h) ⌝ }
+    ensures { λ r. ⌜ ((faces : _) → Formed (now (nodes .entry)) (now (edges .entry)) faces h → outcome (now (nodes .entry)) (now (edges .exit)) faces r ≡ shaped (lent (now (nodes .entry)) (now (edges .entry)) faces h) (oneCurve ChangeEdgeGeom (drop 1 (now (t .entry))))) ⌝ }
+{
+    let n = t.len();
+    if (n < 2) | (n % 2 == 1) {
+        return outcomes::refused(h, 3);
+    }
+    redraws::change_curve(nodes, edges, h, t[1], &t[2..])
+}
+
+fn split_edge(nodes: &mut [i64], edges: &mut [i64], h: Head, keeps: bool, t: &[i64]) -> Done
+    requires { ⌜ ((faces : _) × Formed (now nodes) (now edges) faces h) ⌝ }
+    ensures { λ r. ⌜ ((faces : _) → Formed (now (nodes .entry)) (now (edges .entry)) faces h → outcome (now (nodes .exit)) (now (edges .exit)) faces r ≡ shaped (lent (now (nodes .entry)) (now (edges .entry)) faces h) (three (splitTicket keeps) (drop 1 (now (t .entry))))) ⌝ }
+{
+    if t.len() != 4 {
+        return outcomes::refused(h, 3);
+    }
+    edit_split::split_edge(nodes, edges, h, keeps, t[1], t[2], t[3])
+}
+
+fn heal_edges(nodes: &mut [i64], edges: &mut [i64], h: Head, keeps: bool, t: &[i64]) -> Done
+    requires { ⌜ ((faces : _) × Formed (now nodes) (now edges) faces h) ⌝ }
+    ensures { λ r. ⌜ ((faces : _) → Formed (now (nodes .entry)) (now (edges .entry)) faces h → outcome (now (nodes .exit)) (now (edges .exit)) faces r ≡ shaped (lent (now (nodes .entry)) (now (edges .entry)) faces h) (two (healTicket keeps) (drop 1 (now (t .entry))))) ⌝ }
+{
+    if t.len() != 3 {
+        return outcomes::refused(h, 3);
+    }
+    edit_heal::heal_edges(nodes, edges, h, keeps, t[1], t[2])
+}
+
+fn add_edge(
+    nodes: &mut [i64],
+    edges: &mut [i64],
+    faces: &mut [i64],
+    h: Head,
+    news: bool,
+    t: &[i64],
+) -> Done
+    requires { ⌜ Formed (now nodes) (now edges) (now faces) h ⌝ }
+    ensures { λ r. ⌜ outcome (now (nodes .exit)) (now (edges .exit)) (now (faces .exit)) r ≡ shaped (lent (now (nodes .entry)) (now (edges .entry)) (now (faces .entry)) h) (twoCurve (addTicket news) (drop 1 (now (t .entry)))) ⌝ }
+{
+    let n = t.len();
+    if (n < 3) | (n % 2 == 0) {
+        return outcomes::refused(h, 3);
+    }
+    edit_add::add_edge(nodes, edges, faces, h, news, t[1], t[2], &t[3..])
+}
+
+fn remove_edge(
+    nodes: &mut [i64],
+    edges: &mut [i64],
+    faces: &mut [i64],
+    h: Head,
+    news: bool,
+    t: &[i64],
+) -> Done
+    requires { ⌜ Formed (now nodes) (now edges) (now faces) h ⌝ }
+    ensures { λ r. ⌜ outcome (now (nodes .exit)) (now (edges .exit)) (now (faces .exit)) r ≡ shaped (lent (now (nodes .entry)) (now (edges .entry)) (now (faces .entry)) h) (one (removeTicket news) (drop 1 (now (t .entry)))) ⌝ }
+{
+    if t.len() != 2 {
+        return outcomes::refused(h, 3);
+    }
+    edit_remove::remove_edge(nodes, edges, faces, h, news, t[1])
+}
+
+// ---- the kinds
+
+// A ticket on tables in form.
+pub fn edit(nodes: &mut [i64], edges: &mut [i64], faces: &mut [i64], h: Head, t: &[i64]) -> Done
+    requires { ⌜ Formed (now nodes) (now edges) (now faces) h ⌝ }
+    ensures { λ r. ⌜ outcome (now (nodes .exit)) (now (edges .exit)) (now (faces .exit)) r ≡ ticket (lent (now (nodes .entry)) (now (edges .entry)) (now (faces .entry)) h) (now (t .entry)) ⌝ }
+{
+    if t.len() == 0 {
+        return outcomes::refused(h, 3);
+    }
+    let kind = t[0];
+    match kind {
+        1 => add_node(nodes, edges, faces, h, t),
+        2 => move_node(nodes, edges, h, t),
+        3 => remove_node(nodes, h, t),
+        4 => add_lone_edge(nodes, edges, h, t),
+        5 => remove_lone_edge(nodes, edges, h, t),
+        6 => change_curve(nodes, edges, h, t),
+        7 => split_edge(nodes, edges, h, false, t),
+        8 => split_edge(nodes, edges, h, true, t),
+        9 => heal_edges(nodes, edges, h, false, t),
+        10 => heal_edges(nodes, edges, h, true, t),
+        11 => add_edge(nodes, edges, faces, h, true, t),
+        12 => add_edge(nodes, edges, faces, h, false, t),
+        13 => remove_edge(nodes, edges, faces, h, true, t),
+        14 => remove_edge(nodes, edges, faces, h, false, t),
+        _ => outcomes::refused(h, 3),
+    }
+}

@@ -1,0 +1,97 @@
+-- The curve of a directed edge as numbers: a run, from which the curve is read again. Assumes nothing.
+use mathlib.Core.Path.{_≡_, refl, sym, ap, _∙_}
+use mathlib.Core.Bool.{Bool, true, false}
+use mathlib.Core.List.{List, _++_}
+use Prim.Native.Nat.{ℕ, zero, suc, _+_, _*_, _-_, _/_, _≤_}
+use native.Mathlib.Omega.{arith}
+use lib.IntN.{ℤ, pos}
+use lib.ListN.{length, take, replicate, length-append, length-replicate}
+use lib.Seq.{take-take, take-at, length-take-le}
+use borrow.Author.Tests.{le-leb}
+use Rattle.lists.specs.Scans.{all}
+use Rattle.lists.specs.Tables.{table}
+use Rattle.lists.proofs.Scans.{length-table}
+use Rattle.plane.specs.declared.Point.{Point}
+use Rattle.plane.specs.Points.{InRange}
+use Rattle.curves.specs.Curves.{Curve, Run, isRun, points, pointAt, curveOf, coordinates, coordinate, maxPoints}
+use Rattle.curves.specs.Edits.{course, reversed}
+use Rattle.curves.proofs.Runs.{two-points, few-points, point-in, coordinate-of}
+use Rattle.curve_edits.specs.declared.Line.{Line}
+use Rattle.curve_edits.specs.Lines.{lineOf}
+use Rattle.curve_edits.proofs.Lines.{length-coordinates}
+use Rattle.curve_edits.proofs.Curves.{whole-points, reversed-points}
+use Rattle.tables.specs.Tables.{EdgeRow, edgeAt}
+use Rattle.tables.proofs.RowCurves.{runAt, run-at, curve-at}
+
+-- ---- points in range, 2 to 12
+
+pub record Listed (ps : List Point) : Type 0 where
+  pub at : ℕ → Point
+  pub count : ℕ
+  pub is : ps ≡ table at 0 count
+  pub ranges : (i : ℕ) → InRange (at i)
+  pub least : 2 ≤ count
+  pub most : count ≤ 12
+
+-- the curve of an edge row, and its reverse
+pub course-listed : {l : List ℤ} {i : ℕ} → EdgeRow l i → (back : Bool) → Listed (points (course back (edgeAt l i .curve)))
+course-listed {l} {i} row false =
+    record {
+      at = pointAt (runAt l i);
+      count = length (runAt l i) / 2 - 0;
+      is = ap points (sym (curve-at row)) ∙ whole-points (run-at row);
+      ranges = point-in (run-at row);
+      least = omega (arith, two-points (run-at row));
+      most = omega (arith, few-points (run-at row));
+    }
+course-listed {l} {i} row true =
+    record {
+      at = λ j. pointAt (runAt l i) (length (runAt l i) / 2 - 1 - j);
+      count = length (runAt l i) / 2;
+      is = ap (λ (c : Curve). points (reversed c)) (sym (curve-at row)) ∙ reversed-points (run-at row);
+      ranges = λ j. point-in (run-at row) (length (runAt l i) / 2 - 1 - j);
+      least = two-points (run-at row);
+      most = few-points (run-at row);
+    }
+
+coordinates-of : (f : ℕ → Point) → ((i : ℕ) → InRange (f i)) → (n a : ℕ) → all coordinate (coordinates (table f a n)) ≡ true
+coordinates-of f h zero a = refl
+coordinates-of f h (suc n) a = rw (coordinate-of (f a .x) (h a .x), coordinate-of (f a .y) (h a .y)) (coordinates-of f h n (a + 1))
+
+module _ {ps : List Point} (k : Listed ps) where
+  pub points-count : length ps ≡ k .count
+  points-count = ap length (k .is) ∙ length-table (k .at) 0 (k .count)
+
+  pub points-few : length ps ≤ 12
+  points-few = omega (arith, points-count, k .most)
+
+  -- their numbers are a run
+  points-run : Run (coordinates ps)
+  unfolding isRun
+  points-run =
+      let e : length (coordinates ps) / 2 ≡ k .count = omega (arith, length-coordinates ps, points-count) in
+      record { is = rw (e, le-leb 2 (k .count) (k .least), le-leb (k .count) maxPoints (k .most)) (ap (λ (r : List Point). all coordinate (coordinates r)) (k .is) ∙ coordinates-of (k .at) (k .ranges) (k .count) 0) }
+
+  -- the part of a line that is in use
+  module _ (x : Line) (e : x ≡ lineOf ps) where
+    pub line-count : x .count ≡ length ps
+    unfolding lineOf
+    line-count = ap (λ (y : Line). y .count) e
+
+    pub line-long : length (x .cells) ≡ 24
+    unfolding lineOf
+    line-long = ap (λ (y : Line). length (y .cells)) e ∙ length-take-le 24 (coordinates ps ++ replicate 24 (pos 0)) (simp (length-append, length-replicate) (omega arith))
+
+    line-part : take (x .count * 2 - 0) (x .cells) ≡ coordinates ps
+    unfolding lineOf
+    line-part =
+        let n : length ps * 2 - 0 ≡ length (coordinates ps) = omega (arith, length-coordinates ps) in
+        ap (λ (y : Line). take (y .count * 2 - 0) (y .cells)) e
+        ∙ take-take (length ps * 2 - 0) 24 (coordinates ps ++ replicate 24 (pos 0)) (omega (arith, points-few))
+        ∙ take-at (coordinates ps) (replicate 24 (pos 0)) (length ps * 2 - 0) (sym n)
+
+    pub line-run : Run (take (x .count * 2 - 0) (x .cells))
+    line-run = rw line-part points-run
+
+    pub line-curve : curveOf (take (x .count * 2 - 0) (x .cells)) ≡ curveOf (coordinates ps)
+    line-curve = ap curveOf line-part

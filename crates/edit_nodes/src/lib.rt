@@ -1,0 +1,256 @@
+// Kinds 1 to 3: isolated nodes. Each looks at its reasons in order, and writes only where none holds.
+use outcomes::Done;
+use lists::Found;
+use map::Head;
+use plane::Point;
+ghost use mathlib.Core.Path.{_≡_};
+ghost use mathlib.Core.Bool.{true, not, _&&_, _||_};
+ghost use mathlib.Core.List.{[], _∷_};
+ghost use Prim.Native.Nat.{_+_, _*_, _/_, _≤_, _<_};
+ghost use lib.IntN.{natAbs};
+ghost use lib.ListN.{length};
+ghost use lib.Seq.{paste};
+ghost use lib.Signed.{nonNeg};
+ghost use Rattle.lists.specs.Tests.{same};
+ghost use Rattle.lists.specs.Scans.{any, isSome};
+ghost use Rattle.lists.specs.Tables.{table};
+ghost use Rattle.plane.specs.Points.{InRange, samePoint};
+ghost use Rattle.map.specs.Rows.{mapOf};
+ghost use Rattle.map.specs.Tickets.{AddIsoNode, MoveIsoNode, RemoveIsoNode};
+ghost use Rattle.map.specs.Reasons.{firstReason, minusOne, edgeThrough};
+ghost use Rattle.tables.specs.Tables.{FaceRows, NodeRow, NodeRows, EdgeRows, facesOf, nodeAt, edgeMap};
+ghost use Rattle.form_ranges.specs.Ranges.{lent};
+ghost use Rattle.outcomes.specs.Outcomes.{Formed, decided, outcome};
+ghost use Rattle.edit_nodes.specs.Heads.{Numbered, added, removed};
+ghost use Rattle.edit_nodes.specs.Parts.{addEarly, roomReasons, moveReasons};
+
+// ---- leaves
+
+// No face is given.
+fn is_none(face: i64) -> bool
+    ensures { λ r. ⌜ r ≡ minusOne face ⌝ }
+{
+    face == -1
+}
+
+// A face is given that is not the one around the point.
+fn other_face(face: i64, around: i64) -> bool
+    requires { ⌜ ((minusOne face || nonNeg face) ≡ true) × (nonNeg around ≡ true) ⌝ }
+    ensures { λ r. ⌜ r ≡ (not (minusOne face) && not (same (natAbs face) (natAbs around))) ⌝ }
+{
+    !is_none(face) & (face != around)
+}
+
+// A face is given that does not exist.
+fn face_missing(faces: &[i64], count: usize, face: i64) -> bool
+    requires { ⌜ FaceRows (now faces) count ⌝ }
+    ensures { λ r. ⌜ r ≡ (not (minusOne face) && not (nonNeg face && any (same (natAbs face)) (facesOf (now (faces .entry)) count))) ⌝ }
+{
+    if is_none(face) {
+        return false;
+    }
+    let found = tables::find_row(faces, 1, count, face);
+    match found {
+        Found::At(i) => false,
+        Found::Missing => true,
+    }
+}
+
+// The node of row i has a containing face: no edge ends there.
+fn is_isolated(nodes: &[i64], i: usize) -> bool
+    requires { ⌜ NodeRow (now nodes) i ⌝ }
+    ensures { λ r. ⌜ r ≡ isSome (nodeAt (now (nodes .entry)) i .face) ⌝ }
+{
+    let z = nodes[i * 4 + 3];
+    z != -1
+}
+
+// A node but that of row `own` lies on the point, or an edge passes through it.
+fn is_taken(nodes: &[i64], n: usize, edges: &[i64], count: usize, own: usize, p: Point) -> bool
+    requires { ⌜ NodeRows (now nodes) n × EdgeRows (now edges) count × InRange p ⌝ }
+    ensures { λ r. ⌜ r ≡ (any (λ i. not (same i own) && samePoint (nodeAt (now (nodes .entry)) i .at) p) (table (λ i. i) 0 n) || edgeThrough (edgeMap (now (edges .entry)) count) p) ⌝ }
+{
+    if reason_curves::node_at(nodes, n, own, p) {
+        return true;
+    }
+    reason_curves::edge_through(edges, count, p)
+}
+
+// The head with a node more, and its number given.
+fn with_node(h: Head) -> Head
+    requires { ⌜ Numbered h ⌝ }
+    ensures { λ r. ⌜ r ≡ added h ⌝ }
+{
+    let n = h.nodes;
+    let k = h.next_node;
+    let mut after = h;
+    after.nodes = n + 1;
+    after.next_node = k + 1;
+    after
+}
+
+// The head with a node less.
+fn without_node(h: Head) -> Head
+    requires { ⌜ Numbered h × (1 ≤ natAbs (h .nodes)) ⌝ }
+    ensures { λ r. ⌜ r ≡ removed h ⌝ }
+{
+    let n = h.nodes;
+    let mut after = h;
+    after.nodes = n - 1;
+    after
+}
+
+// ---- reasons
+
+// Kind 1: 4, 5 or 10; 0 for none.
+fn add_reason(
+    nodes: &[i64],
+    edges: &[i64],
+    faces: &[i64],
+    h: Head,
+    face: i64,
+    x: i64,
+    y: i64,
+) -> u64
+    requires { ⌜ Formed (now nodes) (now edges) (now faces) h ⌝ }
+    ensures { λ r. ⌜ r ≡ firstReason (addEarly (mapOf (lent (now (nodes .entry)) (now (edges .entry)) (now (faces .entry)) h)) face x y) ⌝ }
+{
+    if face_missing(faces, outcomes::count_of(h.faces), face) {
+        return 4;
+    }
+    if !reason_curves::in_range(x, y) {
+        return 5;
+    }
+    let n = outcomes::count_of(h.nodes);
+    if is_taken(
+        nodes,
+        n,
+        edges,
+        outcomes::count_of(h.edges),
+        n,
+        reason_curves::point_of(x, y),
+    ) {
+        10
+    } else {
+        0
+    }
+}
+
+// 20 or 21 against a node more; 0 for none.
+fn room_reason(nodes: &[i64], h: Head) -> u64
+    requires { ⌜ Numbered h ⌝ }
+    ensures { λ r. ⌜ r ≡ firstReason (roomReasons (now (nodes .entry)) h) ⌝ }
+{
+    if nodes.len() / 4 < outcomes::count_of(h.nodes) + 1 {
+        return 20;
+    }
+    if 1000000 < outcomes::count_of(h.next_node) + 1 {
+        21
+    } else {
+        0
+    }
+}
+
+// Kind 2, of node row i: 5, 9 or 10; 0 for none.
+fn move_reason(
+    nodes: &[i64],
+    n: usize,
+    edges: &[i64],
+    count: usize,
+    i: usize,
+    x: i64,
+    y: i64,
+) -> u64
+    requires { ⌜ NodeRows (now nodes) n × EdgeRows (now edges) count × (i < n) ⌝ }
+    ensures { λ r. ⌜ r ≡ firstReason (moveReasons (now (nodes .entry)) n (now (edges .entry)) count i x y) ⌝ }
+{
+    if !reason_curves::in_range(x, y) {
+        return 5;
+    }
+    if !is_isolated(nodes, i) {
+        return 9;
+    }
+    if is_taken(nodes, n, edges, count, i, reason_curves::point_of(x, y)) {
+        10
+    } else {
+        0
+    }
+}
+
+// ---- kinds 1 to 3
+
+// A node more: the row after the last, and the head.
+fn push_node(nodes: &mut [i64], h: Head, x: i64, y: i64, around: i64) -> Done
+    requires { ⌜ Numbered h × (natAbs (h .nodes) * 4 + 4 ≤ length (now nodes)) ⌝ }
+    ensures { λ r. ⌜ (now (nodes .exit) ≡ paste (now (nodes .entry)) (natAbs (h .nodes) * 4) (h .«next_node» ∷ x ∷ y ∷ around ∷ []) 4) × (r ≡ record { head = added h; answer = record { refusal = 0; value = h .«next_node» } }) ⌝ }
+{
+    let number = h.next_node;
+    map_rows::write_node(nodes, outcomes::count_of(h.nodes), number, x, y, around);
+    outcomes::carried(with_node(h), number)
+}
+
+pub fn add_node(
+    nodes: &mut [i64],
+    edges: &[i64],
+    faces: &[i64],
+    h: Head,
+    face: i64,
+    x: i64,
+    y: i64,
+) -> Done
+    requires { ⌜ Formed (now nodes) (now edges) (now faces) h ⌝ }
+    ensures { λ r. ⌜ outcome (now (nodes .exit)) (now (edges .entry)) (now (faces .entry)) r ≡ decided (lent (now (nodes .entry)) (now (edges .entry)) (now (faces .entry)) h) (AddIsoNode face x y) ⌝ }
+{
+    let early = add_reason(nodes, edges, faces, h, face, x, y);
+    if early != 0 {
+        return outcomes::refused(h, early);
+    }
+    let around = point_location::face_of_point(
+        edges,
+        outcomes::count_of(h.edges),
+        reason_curves::point_of(x, y),
+    );
+    if other_face(face, around) {
+        return outcomes::refused(h, 12);
+    }
+    let late = room_reason(nodes, h);
+    if late != 0 {
+        return outcomes::refused(h, late);
+    }
+    push_node(nodes, h, x, y, around)
+}
+
+pub fn move_node(nodes: &mut [i64], edges: &[i64], h: Head, node: i64, x: i64, y: i64) -> Done
+    requires { ⌜ ((faces : _) × Formed (now nodes) (now edges) faces h) ⌝ }
+    ensures { λ r. ⌜ ((faces : _) → Formed (now (nodes .entry)) (now (edges .entry)) faces h → outcome (now (nodes .exit)) (now (edges .entry)) faces r ≡ decided (lent (now (nodes .entry)) (now (edges .entry)) faces h) (MoveIsoNode node x y)) ⌝ }
+{
+    let n = outcomes::count_of(h.nodes);
+    let found = tables::find_row(nodes, 4, n, node);
+    let Found::At(i) = found else {
+        return outcomes::refused(h, 4);
+    };
+    let count = outcomes::count_of(h.edges);
+    let reason = move_reason(nodes, n, edges, count, i, x, y);
+    if reason != 0 {
+        return outcomes::refused(h, reason);
+    }
+    let around = point_location::face_of_point(edges, count, reason_curves::point_of(x, y));
+    map_rows::write_node(nodes, i, node, x, y, around);
+    outcomes::carried(h, 0)
+}
+
+pub fn remove_node(nodes: &mut [i64], h: Head, node: i64) -> Done
+    requires { ⌜ ((edges : _) × (faces : _) × Formed (now nodes) edges faces h) ⌝ }
+    ensures { λ r. ⌜ ((edges : _) (faces : _) → Formed (now (nodes .entry)) edges faces h → outcome (now (nodes .exit)) edges faces r ≡ decided (lent (now (nodes .entry)) edges faces h) (RemoveIsoNode node)) ⌝ }
+{
+    let n = outcomes::count_of(h.nodes);
+    let found = tables::find_row(nodes, 4, n, node);
+    let Found::At(i) = found else {
+        return outcomes::refused(h, 4);
+    };
+    if !is_isolated(nodes, i) {
+        return outcomes::refused(h, 9);
+    }
+    tables::remove_row(nodes, 4, n, i);
+    outcomes::carried(without_node(h), 0)
+}

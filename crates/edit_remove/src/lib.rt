@@ -1,0 +1,62 @@
+// Kinds 13 and 14: the faces on an edge's two sides healed, and the edge undrawn.
+use outcomes::Done;
+use map::Head;
+ghost use mathlib.Core.Path.{_≡_};
+ghost use mathlib.Core.Bool.{cond};
+ghost use lib.IntN.{pos};
+ghost use Rattle.form_ranges.specs.Ranges.{lent};
+ghost use Rattle.outcomes.specs.Outcomes.{Formed, decided, outcome};
+ghost use Rattle.reason_edges.specs.Kinds.{removeTicket};
+ghost use Rattle.edit_remove.specs.Cleared.{Clearable, Cleared};
+
+// The value of a removal: the face that is left, or 0 for kind 14.
+fn value_of(news: bool, face: i64) -> i64
+    ensures { λ r. ⌜ r ≡ cond news face (pos 0) ⌝ }
+{
+    if news { face } else { 0 }
+}
+
+// Edge row i goes, and the faces on its sides become one: its number is the value, or -1 where they were one before.
+fn clear(
+    nodes: &mut [i64],
+    edges: &mut [i64],
+    faces: &mut [i64],
+    h: Head,
+    i: usize,
+    makes: bool,
+) -> Done
+    requires { ⌜ Clearable (now nodes) (now edges) (now faces) h i makes ⌝ }
+    ensures { λ r. ⌜ Cleared (now (nodes .entry)) (now (edges .entry)) (now (faces .entry)) h i makes (now (nodes .exit)) (now (edges .exit)) (now (faces .exit)) r ⌝ }
+{
+    let left = edges[i * 32 + 5];
+    let right = edges[i * 32 + 6];
+    if left == right {
+        let after = redraws::undraw(nodes, edges, h, i, left);
+        return outcomes::carried(after, -1);
+    }
+    let healed = face_rows::heal_faces(nodes, edges, faces, h, left, right, makes);
+    let face = healed.answer.value;
+    let after = redraws::undraw(nodes, edges, healed.head, i, face);
+    outcomes::carried(after, face)
+}
+
+pub fn remove_edge(
+    nodes: &mut [i64],
+    edges: &mut [i64],
+    faces: &mut [i64],
+    h: Head,
+    news: bool,
+    edge: i64,
+) -> Done
+    requires { ⌜ Formed (now nodes) (now edges) (now faces) h ⌝ }
+    ensures { λ r. ⌜ outcome (now (nodes .exit)) (now (edges .exit)) (now (faces .exit)) r ≡ decided (lent (now (nodes .entry)) (now (edges .entry)) (now (faces .entry)) h) (removeTicket news edge) ⌝ }
+{
+    let judged = reason_edges::judge_removal(edges, h, news, edge);
+    let reason = judged.reason;
+    if reason != 0 {
+        return outcomes::refused(h, reason);
+    }
+    let i = judged.row;
+    let cleared = clear(nodes, edges, faces, h, i, judged.makes);
+    outcomes::carried(cleared.head, value_of(news, cleared.answer.value))
+}

@@ -1,0 +1,90 @@
+// The edges of a face: each ring as its length and then its directed edges, rings by first member.
+use lists::Found;
+use map::Answer;
+use map::Head;
+ghost use mathlib.Core.Path.{_≡_};
+ghost use mathlib.Core.List.{_++_};
+ghost use Prim.Native.Nat.{_+_, _*_, _≤_, _<_};
+ghost use lib.ListN.{length, drop};
+ghost use Rattle.map.specs.Ticket.{faceEdges, edgesOfFace};
+ghost use Rattle.tables.specs.Tables.{edgeMap};
+ghost use Rattle.form_ranges.specs.Ranges.{lent};
+ghost use Rattle.face_edges.specs.Listing.{Rings, Marked, Size};
+
+// How many numbers the ring of p takes, where p is the first member of a ring of the face, and 0 elsewhere; the ring is marked.
+fn ring_size(edges: &[i64], count: usize, face: usize, p: usize, marks: &mut [u8]) -> usize
+    requires { ⌜ Rings (now edges) count × (face ≤ 999999) × (p < count * 2) × Marked (now edges) count face p (now marks) ⌝ }
+    ensures { λ r. ⌜ Marked (now (edges .entry)) count face (p + 1) (now (marks .exit)) × Size (now (edges .entry)) count face p r ⌝ }
+{
+    if (darts::dart_cell(edges, p, 5) == face as i64) & (marks[p] == 0) {
+        return rings::mark_ring(edges, count, p, 1, marks) + 1;
+    }
+    0
+}
+
+// How many numbers the rings of the face take.
+fn rings_size(edges: &[i64], count: usize, face: usize) -> usize
+    requires { ⌜ Rings (now edges) count × (face ≤ 999999) ⌝ }
+    ensures { λ r. ⌜ (r ≡ length (faceEdges (edgeMap (now (edges .entry)) count) face)) × (r ≤ 20000000) ⌝ }
+{
+    let mut marks = [0u8; 4000];
+    let mut size: usize = 0;
+    for p in 0..count * 2 {
+        size += ring_size(edges, count, face, p, &mut marks);
+    }
+    size
+}
+
+// The rings of the face written from the front of the list.
+fn write_rings(edges: &[i64], count: usize, face: usize, list: &mut [i64])
+    requires { ⌜ Rings (now edges) count × (face ≤ 999999) × (length (faceEdges (edgeMap (now edges) count) face) ≤ length (now list)) ⌝ }
+    ensures { λ r. ⌜ now (list .exit) ≡ faceEdges (edgeMap (now (edges .entry)) count) face ++ drop (length (faceEdges (edgeMap (now (edges .entry)) count) face)) (now (list .entry)) ⌝ }
+{
+    let mut marks = [0u8; 4000];
+    let mut at: usize = 0;
+    for p in 0..count * 2 {
+        let n = ring_size(edges, count, face, p, &mut marks);
+        if 0 < n {
+            list[at] = (n - 1) as i64;
+            rings::write_ring(edges, count, p, n - 1, list, at + 1);
+            at += n;
+        }
+    }
+}
+
+fn answered(refusal: u64, value: i64) -> Answer
+    ensures { λ r. ⌜ r ≡ record { refusal = refusal; value = value } ⌝ }
+{
+    Answer { refusal, value }
+}
+
+// The value is the count of numbers written; the list's remainder is untouched, and all of it where the call is turned down.
+pub fn edges_of_face(
+    nodes: &[i64],
+    edges: &[i64],
+    faces: &[i64],
+    h: Head,
+    face: i64,
+    list: &mut [i64],
+) -> Answer
+    ensures { λ r. ⌜ record { list = now (list .exit); answer = r } ≡ edgesOfFace (lent (now (nodes .entry)) (now (edges .entry)) (now (faces .entry)) h) face (now (list .entry)) ⌝ }
+{
+    if !form_ranges::is_whole(nodes, edges, faces) {
+        return answered(1, 0);
+    }
+    if !form::in_form(nodes, edges, faces, h) {
+        return answered(2, 0);
+    }
+    let c = form_ranges::counts_of(h);
+    let found = tables::find_row(faces, 1, c.faces, face);
+    let Found::At(i) = found else {
+        return answered(4, 0);
+    };
+    let f = face as usize;
+    let size = rings_size(edges, c.edges, f);
+    if list.len() < size {
+        return answered(20, 0);
+    }
+    write_rings(edges, c.edges, f, list);
+    answered(0, size as i64)
+}

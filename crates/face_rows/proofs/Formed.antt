@@ -1,0 +1,133 @@
+-- Tables in form hold a map, and are what a heal asks for: an edge row with two faces. Assumes nothing.
+use mathlib.Core.Path.{_≡_, refl, sym, ap, _∙_}
+use mathlib.Core.Bool.{Bool, true, false, _&&_, true≢false}
+use mathlib.Core.List.{List, [], _∷_, flatMap, List·Memᴰ, List·Memᴰ·head, List·Memᴰ·tail}
+use Prim.Native.Nat.{ℕ, _<_}
+use native.Mathlib.Omega.{arith}
+use lib.IntN.{ℤ, pos, natAbs}
+use lib.ListN.{length}
+use Rattle.lists.specs.Tests.{same}
+use Rattle.lists.specs.Scans.{all, any}
+use Rattle.lists.proofs.Bools.{same-true}
+use Rattle.curves.proofs.Runs.{and-left, and-right}
+use Rattle.map.specs.declared.Head.{Head}
+use Rattle.map.specs.Rows.{mapOf, filled, nodeCells, edgeCells, hasNode, hasEdge, hasFace, Map, lentOf, sizesOf}
+use Rattle.map.specs.Form.{inFace, edgeNames, named}
+use Rattle.map.proofs.Laws.{formed-is, face-below}
+use Rattle.tables.specs.Tables.{nodesOf, edgesOf, facesOf, edgeAt}
+use Rattle.tables.proofs.Rows.{all-table, edges-table, faces-length, nodes-length, edges-length}
+use Rattle.form_ranges.specs.Ranges.{lent}
+use Rattle.outcomes.specs.Outcomes.{Formed}
+use Rattle.outcomes.proofs.Formed.{formed-map, nodes-count, edges-count, faces-count, node-next, edge-next, face-next, nodes-size, edges-size, faces-size, faces-fit, node-rows, edge-rows, face-rows, nodes-filled, edges-filled, faces-filled, lent-is}
+use Rattle.face_rows.specs.Holds.{facesIn, Held, Healable, Holds}
+
+-- a face that is there is one of them
+any-member : (f : ℕ) (gs : List ℕ) → any (same f) gs ≡ true → List·Memᴰ f gs
+any-member f [] e = absurd (true≢false (sym e))
+any-member f (g ∷ gs) e = go (same f g) refl (any-member f gs)
+  where
+    go : (b : Bool) → same f g ≡ b → (any (same f) gs ≡ true → List·Memᴰ f gs) → List·Memᴰ f (g ∷ gs)
+    go true k rest = List·Memᴰ·head (same-true f g k)
+    go false k rest = List·Memᴰ·tail (rest (rw k at e))
+
+-- ---- tables that hold a map
+
+pub held-holds : {nodes edges faces : List ℤ} {h : Head} → Held nodes edges faces h → Holds nodes edges faces (mapOf (lent nodes edges faces h)) nodes edges faces h
+unfolding mapOf
+held-holds {nodes} {edges} {faces} {h} k =
+    record {
+      node-cells = k .node-cells;
+      edge-cells = k .edge-cells;
+      face-cells = k .face-table .cells;
+      head = λ i.
+          record {
+            nodes = (ap pos (nodes-length nodes (natAbs (h .nodes))) ∙ sym (k .nodes-count)) i;
+            edges = (ap pos (edges-length edges (natAbs (h .edges))) ∙ sym (k .edges-count)) i;
+            faces = (ap pos (faces-length faces (natAbs (h .faces))) ∙ sym (k .faces-count)) i;
+            «next_node» = sym (k .next-node) i;
+            «next_edge» = sym (k .next-edge) i;
+            «next_face» = sym (k .next-face) i;
+          };
+    }
+
+module _ {nodes edges faces : List ℤ} {h : Head} (f : Formed nodes edges faces h) where
+  pub formed-held : Held nodes edges faces h
+  formed-held =
+      record {
+        node-rows = node-rows f;
+        edge-rows = edge-rows f;
+        node-cells = ap (λ (k : ℕ). filled k (flatMap nodeCells (nodesOf nodes (natAbs (h .nodes))))) (sym (nodes-size f .0)) ∙ nodes-filled f;
+        edge-cells = ap (λ (k : ℕ). filled k (flatMap edgeCells (edgesOf edges (natAbs (h .edges))))) (sym (edges-size f .0)) ∙ edges-filled f;
+        face-table =
+            record {
+              cells = ap (λ (k : ℕ). facesIn k (facesOf faces (natAbs (h .faces)))) (sym (faces-size f .0)) ∙ faces-filled f;
+              rising = face-rows f .rising;
+              fits = rw (faces-length faces (natAbs (h .faces))) (omega (arith, faces-fit f));
+            };
+        nodes-count = nodes-count f .0;
+        edges-count = edges-count f .0;
+        faces-count = faces-count f .0;
+        next-node = node-next f .0;
+        next-edge = edge-next f .0;
+        next-face = face-next f .0;
+        few-nodes = omega (arith, nodes-count f .2, nodes-size f .1);
+        few-edges = omega (arith, edges-count f .2, edges-size f .1);
+        few-faces = omega (arith, faces-count f .2, faces-size f .1);
+        next-most = face-next f .2;
+      }
+
+  pub holds-before : Holds nodes edges faces (mapOf (lent nodes edges faces h)) nodes edges faces h
+  holds-before = held-holds formed-held
+
+  -- what is lent, in tables as long
+  pub holds-lent : {nodes′ edges′ nodes″ edges″ faces″ : List ℤ} {M : Map} {h″ : Head} → length nodes′ ≡ length nodes → length edges′ ≡ length edges → Holds nodes′ edges′ faces M nodes″ edges″ faces″ h″ → lentOf (sizesOf (lent nodes edges faces h)) M ≡ lent nodes″ edges″ faces″ h″
+  holds-lent {M = M} p q k =
+      lent-is (sizesOf (lent nodes edges faces h)) M
+      (ap (λ (n : ℕ). filled n (flatMap nodeCells (M .nodes))) (nodes-size f .0 ∙ sym p) ∙ k .node-cells)
+      (ap (λ (n : ℕ). filled n (flatMap edgeCells (M .edges))) (edges-size f .0 ∙ sym q) ∙ k .edge-cells)
+      (ap (λ (n : ℕ). facesIn n (M .faces)) (faces-size f .0) ∙ k .face-cells)
+      (k .head)
+
+  module _ (i : ℕ) (t : i < natAbs (h .edges)) where
+    -- the row's names are of rows
+    row-names : edgeNames (mapOf (lent nodes edges faces h)) (edgeAt edges i) ≡ true
+    unfolding named mapOf
+    row-names =
+        let m = mapOf (lent nodes edges faces h) in
+        let each = and-right (all (λ n. inFace m (n .face)) (m .nodes)) (all (edgeNames m) (m .edges)) (formed-is m (formed-map f) .named) in
+        all-table (edgeNames m) (edgeAt edges) (natAbs (h .edges)) (ap (all (edgeNames m)) (sym (edges-table edges (natAbs (h .edges)))) ∙ each) i t
+
+    -- what is named besides faces
+    abbrev others : Bool
+    others =
+        let m = mapOf (lent nodes edges faces h) in
+        let r = edgeAt edges i in
+        hasNode m (r .start) && hasNode m (r .end) && hasEdge m (r .nextLeft .edge) && hasEdge m (r .nextRight .edge)
+
+    right-is : any (same (edgeAt edges i .right)) (facesOf faces (natAbs (h .faces))) ≡ true
+    unfolding mapOf
+    right-is = let m = mapOf (lent nodes edges faces h) in and-right (others && hasFace m (edgeAt edges i .left)) (hasFace m (edgeAt edges i .right)) row-names
+
+    left-is : any (same (edgeAt edges i .left)) (facesOf faces (natAbs (h .faces))) ≡ true
+    unfolding mapOf
+    left-is =
+        let m = mapOf (lent nodes edges faces h) in
+        and-right others (hasFace m (edgeAt edges i .left)) (and-left (others && hasFace m (edgeAt edges i .left)) (hasFace m (edgeAt edges i .right)) row-names)
+
+    below : (g : ℕ) → any (same g) (facesOf faces (natAbs (h .faces))) ≡ true → g < natAbs (h .«next_face»)
+    unfolding mapOf
+    below g e = face-below (mapOf (lent nodes edges faces h)) (formed-map f) g (any-member g (facesOf faces (natAbs (h .faces))) e)
+
+    -- edge row i, where its sides differ
+    pub formed-healable : (edgeAt edges i .left ≡ edgeAt edges i .right → ⊥) → Healable nodes edges faces h (pos (edgeAt edges i .left)) (pos (edgeAt edges i .right))
+    formed-healable ne =
+        record {
+          held = formed-held;
+          left-face = refl;
+          right-face = refl;
+          left-there = left-is;
+          right-there = right-is;
+          left-below = below (edgeAt edges i .left) left-is;
+          right-below = below (edgeAt edges i .right) right-is;
+          differ = ne;
+        }

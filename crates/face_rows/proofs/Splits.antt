@@ -1,0 +1,168 @@
+-- A face split: the tables after it are those of the map with the face shared out. Assumes nothing.
+use mathlib.Core.Path.{_≡_, refl, sym, ap, _∙_, subst}
+use mathlib.Core.Bool.{Bool, true, false, cond, not, _&&_, _||_}
+use mathlib.Core.List.{List, [], _∷_, _++_, flatMap}
+use Prim.Native.Nat.{ℕ, _+_, _*_, _-_, _<_}
+use native.Mathlib.Nat.{add-zero}
+use native.Mathlib.Omega.{arith}
+use lib.IntN.{ℤ, pos, natAbs}
+use lib.ListN.{length, length-append, length-map}
+use lib.Signed.{nonNeg}
+use Rattle.integers.specs.Order.{sgn}
+use Rattle.lists.specs.Tests.{same}
+use Rattle.lists.specs.Scans.{any, keep}
+use Rattle.lists.proofs.Bools.{≡→T, cond-has}
+use Rattle.lists.proofs.Counts.{bit-most}
+use Rattle.plane.specs.Areas.{isPositive}
+use Rattle.planar_maps.specs.Map.{Dart, fwd, bwd}
+use Rattle.map.specs.declared.Head.{Head}
+use Rattle.map.specs.Rows.{Edge, Map, mapOf, headOf, filled, nodeCells, edgeCells, edge, setFaces, given}
+use Rattle.map.specs.Darts.{bears, course, ring}
+use Rattle.map.specs.Faces.{ringArea}
+use Rattle.map.specs.Edits.{Shares, sideOfNode, sideOfDart, withSides, sharedOut, splitFace}
+use Rattle.tables.specs.Tables.{nodesOf, edgesOf, facesOf, edgeAt, edgeMap}
+use Rattle.tables.proofs.Rows.{nodes-length, edges-length, faces-length}
+use Rattle.darts.specs.Positions.{dartAt}
+use Rattle.darts.proofs.Positions.{dart-even, dart-odd, edge-of}
+use Rattle.form_ranges.specs.Ranges.{lent}
+use Rattle.face_relabel.specs.declared.Sides.{Sides}
+use Rattle.face_relabel.specs.Sharing.{Shared}
+use Rattle.outcomes.proofs.Words.{is-natural}
+use Rattle.face_rows.specs.Holds.{facesIn, FaceTable, withoutFace, Splittable, Holds, sharesIn, sidesOf, splitFaces, splitHead}
+use Rattle.face_rows.proofs.FaceRows.{table-distinct, without-length}
+use Rattle.face_rows.proofs.Shares.{ring-any}
+
+-- one face more
+one-more : (goes : Bool) (o a n : ℕ) {N : ℕ} {fs : List ℕ} {t : List ℤ} → FaceTable N fs t → length fs ≡ n → any (same o) fs ≡ true → length (splitFaces goes o a fs) ≡ n + 1
+one-more true o a n {N} {fs} t len h = let k = without-length o fs (table-distinct t) h in length-append (withoutFace o fs) (a ∷ (a + 1) ∷ []) ∙ omega arith
+one-more false o a n {N} {fs} t len h = length-append fs (a ∷ []) ∙ omega arith
+
+module _ {nodes edges faces : List ℤ} {h : Head} {old : ℤ} (p : Splittable nodes edges faces h old) where
+  abbrev last : ℕ
+  last = natAbs (h .edges) - 1
+
+  abbrev drawn : Map
+  drawn = mapOf (lent nodes edges faces h)
+
+  abbrev number : ℕ
+  number = edgeAt edges last .number
+
+  below : last < natAbs (h .edges)
+  below = let k = p .drawn in omega arith
+
+  borne-is : bears drawn (fwd number) ≡ natAbs old
+  unfolding bears edge mapOf
+  borne-is = ap (λ (r : Edge). r .left) (edge-of (p .held .edge-rows) last below) ∙ sym (ap natAbs (p .borne))
+
+  pub area-is : ringArea drawn (ring drawn (fwd number)) ≡ ringArea (edgeMap edges (natAbs (h .edges))) (ring (edgeMap edges (natAbs (h .edges))) (dartAt edges (last * 2)))
+  unfolding ringArea course edge mapOf
+  area-is =
+      let es = edgesOf edges (natAbs (h .edges)) in
+      ap (ringArea drawn)
+      (ring-any es (nodesOf nodes (natAbs (h .nodes))) [] (facesOf faces (natAbs (h .faces))) [] (natAbs (h .«next_node»)) (natAbs (h .«next_edge»)) (natAbs (h .«next_face»)) 0 0 0 (fwd number)
+      ∙ ap (ring (edgeMap edges (natAbs (h .edges)))) (sym (dart-even edges last)))
+
+  -- `splitFace` by the old face, which side is the reference side and whether the old face goes
+  abbrev sharesBy : ℕ → Bool → Bool → Shares
+  sharesBy o isLeft goes =
+      let a = drawn .nextFace in
+      let b = cond goes (drawn .nextFace + 1) o in
+      record {
+        old = o;
+        refRing = cond isLeft (ring drawn (fwd number)) (ring drawn (bwd number));
+        otherRing = cond isLeft (ring drawn (bwd number)) (ring drawn (fwd number));
+        ref = cond (isLeft || not goes) a b;
+        other = cond (isLeft || not goes) b a;
+      }
+
+  abbrev facesBy : ℕ → Bool → List ℕ
+  facesBy o goes = cond goes (keep (λ f. not (same f o)) (drawn .faces) ++ drawn .nextFace ∷ cond goes (drawn .nextFace + 1) o ∷ []) (drawn .faces ++ drawn .nextFace ∷ [])
+
+  abbrev splitBy : ℕ → Bool → Bool → Map
+  splitBy o isLeft goes = setFaces (facesBy o goes) (given 0 0 (cond goes 2 1) (sharedOut (sharesBy o isLeft goes) drawn))
+
+  split-by : (news : Bool) → splitFace news number drawn ≡ splitBy (bears drawn (fwd number)) (isPositive (sgn (ringArea drawn (ring drawn (fwd number))))) (news && not (same (bears drawn (fwd number)) 0))
+  unfolding splitFace
+  split-by news = refl
+
+  -- the shares in the terms of the tables
+  shares-are : (isLeft goes : Bool) → sharesBy (natAbs old) isLeft goes ≡ sharesIn drawn (dartAt edges (sidesOf isLeft goes (last * 2) old (h .«next_face») .ring)) (sidesOf isLeft goes (last * 2) old (h .«next_face»))
+  unfolding mapOf
+  shares-are isLeft goes = go isLeft goes
+    where
+      even : fwd number ≡ dartAt edges (last * 2 + 0)
+      even = sym (dart-even edges last) ∙ ap (dartAt edges) (sym (add-zero (last * 2)))
+
+      odd : bwd number ≡ dartAt edges (last * 2 + 1)
+      odd = sym (dart-odd edges last)
+
+      by : Sides → Dart → Shares
+      by s d = sharesIn drawn d s
+
+      go : (l g : Bool) → sharesBy (natAbs old) l g ≡ sharesIn drawn (dartAt edges (sidesOf l g (last * 2) old (h .«next_face») .ring)) (sidesOf l g (last * 2) old (h .«next_face»))
+      go true true = ap (by (sidesOf true true (last * 2) old (h .«next_face»))) even
+      go true false = ap (by (sidesOf true false (last * 2) old (h .«next_face»))) even
+      go false true = ap (by (sidesOf false true (last * 2) old (h .«next_face»))) odd
+      go false false = ap (by (sidesOf false false (last * 2) old (h .«next_face»))) odd
+
+  faces-are : (goes : Bool) → facesBy (natAbs old) goes ≡ splitFaces goes (natAbs old) (natAbs (h .«next_face»)) (facesOf faces (natAbs (h .faces)))
+  unfolding mapOf
+  faces-are true = refl
+  faces-are false = refl
+
+  head-is : (isLeft goes : Bool) → headOf (splitBy (natAbs old) isLeft goes) ≡ splitHead goes h
+  unfolding mapOf sharedOut
+  head-is isLeft goes =
+      let ns = nodesOf nodes (natAbs (h .nodes)) in
+      let es = edgesOf edges (natAbs (h .edges)) in
+      let s = sharesBy (natAbs old) isLeft goes in
+      let held = p .held in
+      λ i.
+      record {
+        nodes = (ap pos (length-map ns (λ n. sideOfNode drawn s n (n .face)) ∙ nodes-length nodes (natAbs (h .nodes))) ∙ sym (held .nodes-count)) i;
+        edges = (ap pos (length-map es (λ e. withSides (sideOfDart drawn s (fwd (e .number))) (sideOfDart drawn s (bwd (e .number))) e) ∙ edges-length edges (natAbs (h .edges))) ∙ sym (held .edges-count)) i;
+        faces = ap pos (ap length (faces-are goes) ∙ one-more goes (natAbs old) (natAbs (h .«next_face»)) (natAbs (h .faces)) (held .face-table) (faces-length faces (natAbs (h .faces))) (p .there)) i;
+        «next_node» = (ap pos (add-zero (natAbs (h .«next_node»))) ∙ sym (held .next-node)) i;
+        «next_edge» = (ap pos (add-zero (natAbs (h .«next_edge»))) ∙ sym (held .next-edge)) i;
+        «next_face» = pos (natAbs (h .«next_face») + cond goes 2 1);
+      }
+
+  -- what the functions below leave, in the map's terms
+  pub split-holds : (news isLeft goes : Bool) → isPositive (sgn (ringArea drawn (ring drawn (fwd number)))) ≡ isLeft → news && not (same (natAbs old) 0) ≡ goes
+      → (s : Sides) → s ≡ sidesOf isLeft goes (last * 2) old (h .«next_face») → (nodes′ edges′ faces′ : List ℤ) (h′ : Head)
+      → filled (length nodes) (flatMap nodeCells (sharedOut (sharesIn drawn (dartAt edges (s .ring)) s) drawn .nodes)) ≡ nodes′
+      → filled (length edges) (flatMap edgeCells (sharedOut (sharesIn drawn (dartAt edges (s .ring)) s) drawn .edges)) ≡ edges′
+      → facesIn (length faces) (splitFaces goes (natAbs old) (natAbs (h .«next_face»)) (facesOf faces (natAbs (h .faces)))) ≡ faces′
+      → h′ ≡ splitHead goes h
+      → Holds nodes edges faces (splitFace news number drawn) nodes′ edges′ faces′ h′
+  split-holds news isLeft goes il ig s es nodes′ edges′ faces′ h′ en ee ef eh =
+      let same-map : splitBy (natAbs old) isLeft goes ≡ splitFace news number drawn =
+      sym (split-by news ∙ (λ i. splitBy (borne-is i) (il i) (news && not (same (borne-is i) 0))) ∙ ap (splitBy (natAbs old) isLeft) ig) in
+      let told : sharesBy (natAbs old) isLeft goes ≡ sharesIn drawn (dartAt edges (s .ring)) s = shares-are isLeft goes ∙ ap (λ (x : Sides). sharesIn drawn (dartAt edges (x .ring)) x) (sym es) in
+      subst (λ (k : Map). Holds nodes edges faces k nodes′ edges′ faces′ h′) same-map
+      (record {
+        node-cells = ap (λ (x : Shares). filled (length nodes) (flatMap nodeCells (sharedOut x drawn .nodes))) told ∙ en;
+        edge-cells = ap (λ (x : Shares). filled (length edges) (flatMap edgeCells (sharedOut x drawn .edges))) told ∙ ee;
+        face-cells = ap (facesIn (length faces)) (faces-are goes) ∙ ef;
+        head = head-is isLeft goes ∙ sym eh;
+      })
+
+  -- what is asked when the face is shared out
+  pub sides-shared : (isLeft goes : Bool) → Shared nodes (natAbs (h .nodes)) edges (natAbs (h .edges)) (sidesOf isLeft goes (last * 2) old (h .«next_face»))
+  sides-shared isLeft goes =
+      let k = p .held in
+      let o = is-natural old (p .borne ∙ ap (λ (z : ℤ). pos (natAbs z)) (sym (p .borne))) in
+      let a = is-natural (h .«next_face») (k .next-face) in
+      let natural : ℤ → Type 0 = λ z. nonNeg z ≡ true in
+      let b = cond-has natural goes {x = pos (natAbs (h .«next_face») + 1)} refl o in
+      let first = isLeft || not goes in
+      record {
+        nodes = k .node-rows;
+        edges = k .edge-rows;
+        few = k .few-edges;
+        ring = let j = p .drawn in let t = bit-most (not isLeft) in omega arith;
+        old = ≡→T (nonNeg old) o;
+        inside = ≡→T (nonNeg (cond first (h .«next_face») (cond goes (pos (natAbs (h .«next_face») + 1)) old))) (cond-has natural first a b);
+        other = ≡→T (nonNeg (cond first (cond goes (pos (natAbs (h .«next_face») + 1)) old) (h .«next_face»))) (cond-has natural first b a);
+        ends = p .ends;
+      }

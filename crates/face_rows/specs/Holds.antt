@@ -1,0 +1,132 @@
+-- Tables with the head beside them that hold a map, and what is asked of them when a face is split or two are healed.
+use mathlib.Core.Path.{_≡_}
+use mathlib.Core.Bool.{Bool, true, cond, not, _&&_, _||_}
+use mathlib.Core.List.{List, [], _∷_, _++_, flatMap}
+use Prim.Native.Nat.{ℕ, suc, _+_, _-_, _≤_, _<_, min}
+use lib.IntN.{ℤ, pos, natAbs}
+use lib.ListN.{length}
+use Rattle.lists.specs.Tests.{same, bit}
+use Rattle.lists.specs.Scans.{any, all, keep}
+use Rattle.map.specs.declared.Head.{Head}
+use Rattle.map.specs.Limits.{maxNodes, maxEdges, maxFaces, lastNumber}
+use Rattle.map.specs.Rows.{Edge, Map, filled, nodeCells, edgeCells, faceCells, headOf, hasNode, setFaces, given}
+use Rattle.map.specs.Form.{numbered}
+use Rattle.planar_maps.specs.Map.{Dart, rev}
+use Rattle.map.specs.Darts.{ring}
+use Rattle.map.specs.Edits.{Shares, renamed, renamedFaces}
+use Rattle.tables.specs.Tables.{NodeRows, EdgeRows, nodesOf, edgesOf, facesOf, edgeAt, nodeMap}
+use Rattle.face_relabel.specs.declared.Sides.{Sides}
+use Rattle.face_relabel.specs.Sharing.{Ringed}
+
+-- the faces in a table of N numbers: from the front, zeros behind
+abbrev pub facesIn : ℕ → List ℕ → List ℤ
+facesIn N fs = filled N (flatMap faceCells fs)
+
+-- the table holds the faces, in rising order
+pub record FaceTable (N : ℕ) (fs : List ℕ) (l : List ℤ) : Type 0 where
+  pub cells : facesIn N fs ≡ l
+  pub rising : numbered 0 (suc lastNumber) fs ≡ true
+  pub fits : length fs ≤ N
+
+-- the faces but one
+abbrev pub withoutFace : ℕ → List ℕ → List ℕ
+withoutFace f fs = keep (λ g. not (same g f)) fs
+
+-- rows in use, zeros behind, as many rows as the head counts
+pub record Held (nodes edges faces : List ℤ) (h : Head) : Type 0 where
+  pub node-rows : NodeRows nodes (natAbs (h .nodes))
+  pub edge-rows : EdgeRows edges (natAbs (h .edges))
+  pub node-cells : filled (length nodes) (flatMap nodeCells (nodesOf nodes (natAbs (h .nodes)))) ≡ nodes
+  pub edge-cells : filled (length edges) (flatMap edgeCells (edgesOf edges (natAbs (h .edges)))) ≡ edges
+  pub face-table : FaceTable (length faces) (facesOf faces (natAbs (h .faces))) faces
+  pub nodes-count : h .nodes ≡ pos (natAbs (h .nodes))
+  pub edges-count : h .edges ≡ pos (natAbs (h .edges))
+  pub faces-count : h .faces ≡ pos (natAbs (h .faces))
+  pub next-node : h .«next_node» ≡ pos (natAbs (h .«next_node»))
+  pub next-edge : h .«next_edge» ≡ pos (natAbs (h .«next_edge»))
+  pub next-face : h .«next_face» ≡ pos (natAbs (h .«next_face»))
+  pub few-nodes : natAbs (h .nodes) ≤ maxNodes
+  pub few-edges : natAbs (h .edges) ≤ maxEdges
+  pub few-faces : natAbs (h .faces) ≤ maxFaces
+  pub next-most : natAbs (h .«next_face») ≤ suc lastNumber
+
+-- the last edge is drawn inside the face `old`, and there is room for a face more
+pub record Splittable (nodes edges faces : List ℤ) (h : Head) (old : ℤ) : Type 0 where
+  pub held : Held nodes edges faces h
+  pub drawn : 1 ≤ natAbs (h .edges)
+  pub ends : all (λ r. hasNode (nodeMap nodes (natAbs (h .nodes))) (r .start) && hasNode (nodeMap nodes (natAbs (h .nodes))) (r .end)) (edgesOf edges (natAbs (h .edges))) ≡ true
+  pub rings : Ringed edges (natAbs (h .edges))
+  pub borne : old ≡ pos (edgeAt edges (natAbs (h .edges) - 1) .left)
+  pub there : any (same (natAbs old)) (facesOf faces (natAbs (h .faces))) ≡ true
+  pub room : natAbs (h .faces) < length faces
+
+-- left and right are two faces
+pub record Healable (nodes edges faces : List ℤ) (h : Head) (left right : ℤ) : Type 0 where
+  pub held : Held nodes edges faces h
+  pub left-face : left ≡ pos (natAbs left)
+  pub right-face : right ≡ pos (natAbs right)
+  pub left-there : any (same (natAbs left)) (facesOf faces (natAbs (h .faces))) ≡ true
+  pub right-there : any (same (natAbs right)) (facesOf faces (natAbs (h .faces))) ≡ true
+  pub left-below : natAbs left < natAbs (h .«next_face»)
+  pub right-below : natAbs right < natAbs (h .«next_face»)
+  pub differ : natAbs left ≡ natAbs right → ⊥
+
+-- tables as long as those before, and the head, are those of the map
+pub record Holds (nodes edges faces : List ℤ) (m : Map) (nodes′ edges′ faces′ : List ℤ) (h′ : Head) : Type 0 where
+  pub node-cells : filled (length nodes) (flatMap nodeCells (m .nodes)) ≡ nodes′
+  pub edge-cells : filled (length edges) (flatMap edgeCells (m .edges)) ≡ edges′
+  pub face-cells : facesIn (length faces) (m .faces) ≡ faces′
+  pub head : headOf m ≡ h′
+
+-- the face to share out in the map's terms: d is on the reference side, its reverse on the other
+abbrev pub sharesIn : Map → Dart → Sides → Shares
+sharesIn m d s = record { old = natAbs (s .old); refRing = ring m d; otherRing = ring m (rev d); ref = natAbs (s .inside); other = natAbs (s .other) }
+
+-- the sides of the edge at position p: the reference side is left where `isLeft`; the old face goes, or is the other side
+abbrev pub sidesOf : Bool → Bool → ℕ → ℤ → ℤ → Sides
+sidesOf isLeft goes p old a =
+    let b = cond goes (pos (natAbs a + 1)) old in
+    record {
+      old = old;
+      ring = p + bit (not isLeft);
+      inside = cond (isLeft || not goes) a b;
+      other = cond (isLeft || not goes) b a;
+    }
+
+-- the faces after a split: a and the number after it for the old face, or a beside it
+abbrev pub splitFaces : Bool → ℕ → ℕ → List ℕ → List ℕ
+splitFaces goes old a fs = cond goes (withoutFace old fs ++ a ∷ (a + 1) ∷ []) (fs ++ a ∷ [])
+
+-- a face more, and so many numbers given; a face less
+abbrev pub splitHead : Bool → Head → Head
+splitHead goes h =
+    record {
+      nodes = h .nodes;
+      edges = h .edges;
+      faces = pos (natAbs (h .faces) + 1);
+      «next_node» = h .«next_node»;
+      «next_edge» = h .«next_edge»;
+      «next_face» = pos (natAbs (h .«next_face») + cond goes 2 1);
+    }
+
+abbrev pub healedHead : Bool → Head → Head
+healedHead makes h =
+    record {
+      nodes = h .nodes;
+      edges = h .edges;
+      faces = pos (natAbs (h .faces) - 1);
+      «next_node» = h .«next_node»;
+      «next_edge» = h .«next_edge»;
+      «next_face» = pos (natAbs (h .«next_face») + bit makes);
+    }
+
+-- the face that is left of the two sides of a row: a new one, or the lower
+abbrev pub faceKept : Bool → Edge → Map → ℕ
+faceKept makes row m = cond makes (m .nextFace) (min (row .left) (row .right))
+
+-- both sides of a row become one face: `removeEdge` but for the edge, which is still drawn
+abbrev pub healed : Bool → Edge → Map → Map
+healed makes row m =
+    let f = faceKept makes row m in
+    let left = keep (λ g. same g (renamed row f g)) (m .faces) in
+    setFaces (cond makes (left ++ f ∷ []) left) (given 0 0 (bit makes) (renamedFaces row f m))

@@ -1,2 +1,0 @@
--- `Corners`: the corner face of the tables is that of the map.
-pub mod Corners

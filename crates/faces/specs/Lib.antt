@@ -1,2 +1,0 @@
--- `Corners`: the corner face as the numbers of the tables show it.
-pub mod Corners

@@ -1,0 +1,189 @@
+-- What the parts of condition 2 tell of the rows: what functions on tables require. Assumes nothing.
+use mathlib.Core.Path.{_≡_, refl}
+use mathlib.Core.Bool.{Bool, true, false, _&&_, false≢true}
+use mathlib.Core.List.{List, [], _∷_, map}
+use Prim.Native.Nat.{ℕ, suc, _*_, _/_, _≤_}
+use native.Mathlib.Nat.{lt-of-le-of-lt, le-trans, mul-le-mul-right, div-mul-le-self}
+use lib.Dec.{T, leb, lit<}
+use lib.IntN.{ℤ, pos, negsuc, natAbs}
+use lib.ListN.{length}
+use lib.Signed.{nonNeg}
+use mir.Syntax.{w64}
+use mir.Val.{SFits}
+use borrow.Author.Needs.{sfits-of}
+use borrow.Author.Tests.{leb-true}
+use Rattle.lists.specs.Tests.{same}
+use Rattle.lists.specs.Scans.{all, firstOr}
+use Rattle.curves.proofs.Runs.{and-left, and-right}
+use Rattle.map.specs.declared.Head.{Head}
+use Rattle.map.specs.Limits.{nodeWidth, edgeWidth, faceWidth, lastNumber}
+use Rattle.map.specs.Rows.{Edge, rows, mapOf, node, hasNode, hasEdge, hasFace}
+use Rattle.map.specs.Form.{within, countsFit, nextsFit, restZero, nodeRanges, edgeRanges, faceRanges, ranged, numbered, numbers, named, edgeNames, inFace, curveFits}
+use Rattle.map.proofs.RoundTrip.{within-least}
+use Rattle.tables.specs.declared.Counts.{Counts}
+use Rattle.tables.specs.Tables.{nodesOf, edgesOf, facesOf, nodeMap, NodeRows, EdgeRows, FaceRows}
+use Rattle.form_ranges.specs.Ranges.{lent, countsOf, mapIn, rangedRows, Counted, EdgesInOrder, InRanges, InOrder, Named}
+use Rattle.form_ranges.proofs.Columns.{all-same, all-weaker, numbered-wider}
+
+module _ (a b c d e f : Bool) (h : a && b && c && d && e && f ≡ true) where
+  pub and₆ : (a ≡ true) × (b ≡ true) × (c ≡ true) × (d ≡ true) × (e ≡ true) × (f ≡ true)
+  and₆ =
+      let h₅ = and-left (a && b && c && d && e) f h in
+      let h₄ = and-left (a && b && c && d) e h₅ in
+      let h₃ = and-left (a && b && c) d h₄ in
+      let h₂ = and-left (a && b) c h₃ in
+      (and-left a b h₂, and-right a b h₂, and-right (a && b) c h₃, and-right (a && b && c) d h₄, and-right (a && b && c && d) e h₅, and-right (a && b && c && d && e) f h)
+
+  links : c && d ≡ true
+  links = rw (and₆ .2, and₆ .3)
+
+-- ---- next numbers
+
+pub within-in : (a b : ℕ) (z : ℤ) → within a b z ≡ true → T (nonNeg z) × (natAbs z ≤ b)
+within-in a b (pos n) h = (tt, leb-true n b (and-right (leb a n) (leb n b) h))
+within-in a b (negsuc n) h = absurd (false≢true h)
+
+-- z is a next number: not negative, and at most 1,000,000
+pub record Next (z : ℤ) : Type 0 where
+  pub natural : T (nonNeg z)
+  pub most : natAbs z ≤ suc lastNumber
+
+pub next-fits : {z : ℤ} → Next z → SFits w64 z
+next-fits {z} n = fits z (n .natural) (n .most)
+  where
+    fits : (z : ℤ) → T (nonNeg z) → natAbs z ≤ suc lastNumber → SFits w64 z
+    fits (pos n) t h = sfits-of (lt-of-le-of-lt h (lit< tt))
+    fits (negsuc n) t h = absurd t
+
+next-of : (z : ℤ) → within 1 (suc lastNumber) z ≡ true → Next z
+next-of z h = let r = within-in 1 (suc lastNumber) z h in record { natural = r .0; most = r .1 }
+
+pub nexts-in : (h : Head) → nextsFit h ≡ true → Next (h .«next_node») × Next (h .«next_edge») × Next (h .«next_face»)
+nexts-in h e =
+    let w : ℤ → Bool = within 1 (suc lastNumber) in
+    let f = and-right (w (h .«next_node»)) (all w (h .«next_edge» ∷ h .«next_face» ∷ [])) e in
+    let g = and-right (w (h .«next_edge»)) (all w (h .«next_face» ∷ [])) f in (
+      next-of (h .«next_node») (and-left (w (h .«next_node»)) (all w (h .«next_edge» ∷ h .«next_face» ∷ [])) e),
+      next-of (h .«next_edge») (and-left (w (h .«next_edge»)) (all w (h .«next_face» ∷ [])) f),
+      next-of (h .«next_face») (and-left (w (h .«next_face»)) true g),
+    )
+
+-- ---- counts
+
+div-room : (a n w : ℕ) → a ≤ n / suc w → a * suc w ≤ n
+div-room a n w h = le-trans (mul-le-mul-right (suc w) h) (div-mul-le-self n (suc w))
+
+-- counts and next numbers that fit, as the other parts require them
+pub counted : (nodes edges faces : List ℤ) (h : Head) → countsFit (lent nodes edges faces h) ≡ true → nextsFit h ≡ true → Counted nodes edges faces (countsOf h) h
+counted nodes edges faces h e f =
+    let p = within 0 (length nodes / nodeWidth) (h .nodes) in
+    let q = within 0 (length edges / edgeWidth) (h .edges) in
+    let s = within 1 (length faces / faceWidth) (h .faces) in
+    let g = and-left (p && q) s e in
+    let k = and-right (p && q) s e in
+    record {
+      nodes-fit = div-room (natAbs (h .nodes)) (length nodes) 3 (within-in 0 (length nodes / nodeWidth) (h .nodes) (and-left p q g) .1);
+      edges-fit = div-room (natAbs (h .edges)) (length edges) 31 (within-in 0 (length edges / edgeWidth) (h .edges) (and-right p q g) .1);
+      faces-fit = div-room (natAbs (h .faces)) (length faces) 0 (within-in 1 (length faces / faceWidth) (h .faces) k .1);
+      a-face = within-least 1 (length faces / faceWidth) (h .faces) k;
+      nexts = f;
+    }
+
+-- the counts are not negative
+pub counts-natural : (nodes edges faces : List ℤ) (h : Head) → countsFit (lent nodes edges faces h) ≡ true → T (nonNeg (h .nodes)) × T (nonNeg (h .edges)) × T (nonNeg (h .faces))
+counts-natural nodes edges faces h e =
+    let p = within 0 (length nodes / nodeWidth) (h .nodes) in
+    let q = within 0 (length edges / edgeWidth) (h .edges) in
+    let s = within 1 (length faces / faceWidth) (h .faces) in
+    let g = and-left (p && q) s e in (
+      within-in 0 (length nodes / nodeWidth) (h .nodes) (and-left p q g) .0,
+      within-in 0 (length edges / edgeWidth) (h .edges) (and-right p q g) .0,
+      within-in 1 (length faces / faceWidth) (h .faces) (and-right (p && q) s e) .0,
+    )
+
+-- ---- the definitions of condition 2, by these parts
+
+module _ (nodes edges faces : List ℤ) (h : Head) where
+  pub ranged-is : ranged (lent nodes edges faces h) ≡ countsFit (lent nodes edges faces h) && nextsFit h && rangedRows nodes edges faces (countsOf h)
+  unfolding ranged
+  ranged-is =
+      regroup (countsFit (lent nodes edges faces h) && nextsFit h) (restZero nodeWidth (h .nodes) nodes) (restZero edgeWidth (h .edges) edges) (restZero faceWidth (h .faces) faces)
+      (all nodeRanges (rows nodeWidth (natAbs (h .nodes)) nodes)) (all edgeRanges (rows edgeWidth (natAbs (h .edges)) edges)) (all faceRanges (rows faceWidth (natAbs (h .faces)) faces))
+    where
+      regroup : (x a b c d e f : Bool) → x && a && b && c && d && e && f ≡ x && (a && b && c && d && e && f)
+      regroup true a b c d e f = refl
+      regroup false a b c d e f = refl
+
+  pub map-is : mapOf (lent nodes edges faces h) ≡ mapIn nodes edges faces (countsOf h) h
+  unfolding mapOf
+  map-is = refl
+
+-- points are looked up among the nodes
+pub curves-are : (nodes edges faces : List ℤ) (c : Counts) (h : Head) (l : List Edge) → all (curveFits (nodeMap nodes (c .nodes))) l ≡ all (curveFits (mapIn nodes edges faces c h)) l
+unfolding node
+curves-are nodes edges faces c h l = all-same (curveFits (nodeMap nodes (c .nodes))) (curveFits (mapIn nodes edges faces c h)) (λ e. refl) l
+
+module _ {nodes edges faces : List ℤ} {c : Counts} {h : Head} where
+  -- ---- rows in range
+
+  module _ (r : InRanges nodes edges faces c h) where
+    pub ranged-rows : (all nodeRanges (rows nodeWidth (c .nodes) nodes) ≡ true) × (all edgeRanges (rows edgeWidth (c .edges) edges) ≡ true) × (all faceRanges (rows faceWidth (c .faces) faces) ≡ true)
+    ranged-rows =
+        let e = and₆ (restZero nodeWidth (pos (c .nodes)) nodes) (restZero edgeWidth (pos (c .edges)) edges) (restZero faceWidth (pos (c .faces)) faces)
+        (all nodeRanges (rows nodeWidth (c .nodes) nodes)) (all edgeRanges (rows edgeWidth (c .edges) edges)) (all faceRanges (rows faceWidth (c .faces) faces)) (r .ranged) in
+        (e .3, e .4, e .5)
+
+  -- ---- rows in order
+
+  module _ (r : InOrder nodes edges faces c h) where
+    in-order : (numbered 1 (natAbs (h .«next_node»)) (map (λ n. n .number) (nodesOf nodes (c .nodes))) ≡ true)
+        × (numbered 1 (natAbs (h .«next_edge»)) (map (λ n. n .number) (edgesOf edges (c .edges))) ≡ true)
+        × (numbered 0 (natAbs (h .«next_face»)) (facesOf faces (c .faces)) ≡ true)
+    unfolding numbers
+    in-order =
+        let p = numbered 1 (natAbs (h .«next_node»)) (map (λ n. n .number) (nodesOf nodes (c .nodes))) in
+        let q = numbered 1 (natAbs (h .«next_edge»)) (map (λ n. n .number) (edgesOf edges (c .edges))) in
+        let f = numbered 0 (natAbs (h .«next_face»)) (facesOf faces (c .faces)) in
+        let e = and-left (p && q && f) (same (firstOr 1 (facesOf faces (c .faces))) 0) (r .numbers) in
+        let g = and-left (p && q) f e in
+        (and-left p q g, and-right p q g, and-right (p && q) f e)
+
+    pub node-rows : NodeRows nodes (c .nodes)
+    node-rows =
+        record {
+          fits = r .in-ranges .counted .nodes-fit;
+          ranges = ranged-rows (r .in-ranges) .0;
+          rising = numbered-wider 1 (natAbs (h .«next_node»)) (suc lastNumber) (map (λ n. n .number) (nodesOf nodes (c .nodes))) (nexts-in h (r .in-ranges .counted .nexts) .0 .most) (in-order .0);
+        }
+
+    pub edges-in-order : EdgesInOrder edges (c .edges)
+    edges-in-order =
+        record {
+          fits = r .in-ranges .counted .edges-fit;
+          ranges = ranged-rows (r .in-ranges) .1;
+          rising = numbered-wider 1 (natAbs (h .«next_edge»)) (suc lastNumber) (map (λ n. n .number) (edgesOf edges (c .edges))) (nexts-in h (r .in-ranges .counted .nexts) .1 .most) (in-order .1);
+        }
+
+    pub face-rows : FaceRows faces (c .faces)
+    face-rows =
+        record {
+          fits = r .in-ranges .counted .faces-fit;
+          ranges = ranged-rows (r .in-ranges) .2;
+          rising = numbered-wider 0 (natAbs (h .«next_face»)) (suc lastNumber) (facesOf faces (c .faces)) (nexts-in h (r .in-ranges .counted .nexts) .2 .most) (in-order .2);
+        }
+
+  -- ---- named rows
+
+  pub edge-rows : Named nodes edges faces c h → EdgeRows edges (c .edges)
+  unfolding named
+  edge-rows r =
+      let m = mapIn nodes edges faces c h in
+      let o = edges-in-order (r .in-order) in
+      record {
+        fits = o .fits;
+        ranges = o .ranges;
+        rising = o .rising;
+        named = all-weaker (edgeNames m) (λ e. hasEdge m (e .nextLeft .edge) && hasEdge m (e .nextRight .edge))
+            (λ e q. links (hasNode m (e .start)) (hasNode m (e .end)) (hasEdge m (e .nextLeft .edge)) (hasEdge m (e .nextRight .edge)) (hasFace m (e .left)) (hasFace m (e .right)) q) (edgesOf edges (c .edges))
+            (and-right (all (λ n. inFace m (n .face)) (nodesOf nodes (c .nodes))) (all (edgeNames m) (edgesOf edges (c .edges))) (r .named));
+      }

@@ -1,3 +1,0 @@
--- `Reversed`: a reversed curve's measures, and how great a run's area is. `Sums`: what is left of a ring's measures, turn by turn.
-pub mod Reversed
-pub mod Sums

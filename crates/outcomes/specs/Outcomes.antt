@@ -1,0 +1,26 @@
+-- What edits promise: on tables in form, tables, head and answer after the call are those that the definitions give.
+use mathlib.Core.Path.{_≡_}
+use mathlib.Core.Bool.{true}
+use mathlib.Core.List.{List}
+use lib.IntN.{ℤ}
+use Rattle.map.specs.declared.Head.{Head}
+use Rattle.map.specs.Rows.{Lent, mapOf, sizesOf, whole}
+use Rattle.map.specs.Form.{inForm}
+use Rattle.map.specs.Tickets.{Ticket}
+use Rattle.map.specs.Reasons.{firstReason, reasons}
+use Rattle.map.specs.Ticket.{Outcome, unless, carried}
+use Rattle.form_ranges.specs.Ranges.{lent}
+use Rattle.outcomes.specs.declared.Done.{Done}
+
+-- the one record that edits require, which `form` establishes: conditions 1 and 2 do not hold
+pub record Formed (nodes edges faces : List ℤ) (h : Head) : Type 0 where
+  pub whole : whole (lent nodes edges faces h) ≡ true
+  pub in-form : inForm (lent nodes edges faces h) ≡ true
+
+-- a ticket of a known kind on tables in form: carried out unless a reason from 4 on holds
+abbrev pub decided : Lent → Ticket → Outcome
+decided l t = unless l (firstReason (reasons (sizesOf l) (mapOf l) t)) (carried (mapOf l) t)
+
+-- what a call left and answered
+abbrev pub outcome : List ℤ → List ℤ → List ℤ → Done → Outcome
+outcome nodes edges faces d = record { lent = lent nodes edges faces (d .head); answer = d .answer }

@@ -1,0 +1,81 @@
+-- `reason_corners::splits_face` meets its contract. Assumes nothing.
+use borrow.Author.Needs.{needs}
+use mathlib.Core.Path.{_≡_, sym, ap, ap₂, _∙_, subst}
+use mathlib.Core.Bool.{false}
+use Prim.Native.Nat.{ℕ, _+_, _*_, _<_}
+use native.Mathlib.Omega.{arith}
+use lib.IntN.{pos}
+use Rattle.integers.specs.Signs.{sent}
+use Rattle.curves.specs.Curves.{curveOf, startWay}
+use Rattle.map.specs.Links.{cornerFace}
+use Rattle.map.specs.Edits.{drawn, splitsFace}
+use Rattle.tables.specs.Tables.{nodeAt}
+use Rattle.tables.proofs.Rows.{node-cells}
+use Rattle.reason_corners.specs.Drawing.{startCorner, endCorner, Joined}
+use Rattle.reason_corners.proofs.Ends.{corner-below, end-below}
+use Rattle.reason_corners.proofs.Drawn.{fresh-number, joined}
+use Rattle.reason_corners.proofs.splits_face.Statement.{statement}
+use Rattle.reason_corners.proofs.splits_face.Tie as tie
+use Rattle.reason_corners.proofs.splits_face.Reads as reads
+use Rattle.reason_corners.proofs.splits_face.Lts as lts
+use Rattle.reason_corners.proofs.corner.Reads as corner-reads
+use Rattle.reason_corners.proofs.end_corner.Reads as end-corner-reads
+use Rattle.reason_corners.proofs.parts_rings.Reads as parts-rings-reads
+
+-- the corners of the two nodes
+corners : (c : lts.After-end-corner (corner-reads.Asked, corner-reads.Learnt, end-corner-reads.Asked, end-corner-reads.Learnt, parts-rings-reads.Asked, parts-rings-reads.Learnt) reads.Pre reads.Post)
+    → (let a = c .before .before .before .before .args in
+    let from = pos (nodeAt (a .nodes .now) (a .u) .number) in
+    let to = pos (nodeAt (a .nodes .now) (a .v) .number) in
+    (c .before .corner .result ≡ startCorner (a .edges .now) (a .e) (a .c .now) from) × (c .end-corner .result ≡ endCorner (a .edges .now) (a .e) (a .c .now) from to))
+corners c =
+    let s = c .before .before .before .before in
+    let a = s .args in
+    let from = sent (c .before .before .before .from .given) ∙ node-cells (a .nodes .now) (a .u) (s .pre .0 .ranges) .number in
+    let to = sent (c .before .before .to .given) ∙ node-cells (a .nodes .now) (a .v) (s .pre .1 .ranges) .number in (
+      c .before .corner .ensures ∙ ap (startCorner (a .edges .now) (a .e) (a .c .now)) from,
+      c .end-corner .ensures ∙ ap₂ (endCorner (a .edges .now) (a .e) (a .c .now)) from to,
+    )
+
+parts-rings-requires : tie.Need-parts-rings-requires
+parts-rings-requires c κs =
+    let s = c .before .before .before .before in
+    let a = s .args in
+    let k = corners c in
+    let from = pos (nodeAt (a .nodes .now) (a .u) .number) in
+    let to = pos (nodeAt (a .nodes .now) (a .v) .number) in
+    let start : c .before .corner .result < a .e * 2 + 2 = rw (k .0) (corner-below (a .edges .now) (a .e) (a .c .now) false from (a .e * 2 + 2) (a .e * 2) (omega arith) (omega arith)) in
+    let end : c .end-corner .result < a .e * 2 + 2 = rw (k .1) (end-below (a .edges .now) (a .e) (a .c .now) from to) in
+    (s .pre .2, s .pre .3, start, end)
+
+returns : tie.Need-returns
+unfolding splitsFace
+returns c = λ m E ok.
+    let s = c .before .before .before .before .before in
+    let a = s .args in
+    let k = corners (c .before) in
+    let l = a .edges .now in
+    let u = nodeAt (a .nodes .now) (a .u) .number in
+    let v = nodeAt (a .nodes .now) (a .v) .number in
+    let d = curveOf (a .c .now) in
+    let φ = cornerFace m u (startWay d) in
+    let j = joined (s .pre .2) (a .c .now) m E (fresh-number l (a .e) m E ok) u v φ in
+    let i = subst (λ (x : ℕ). Joined l (a .e) x (endCorner l (a .e) (a .c .now) (pos u) (pos v)) (m .nextEdge) (drawn u v d φ m)) (sym (k .0)) j in
+    c .parts-rings .ensures (m .nextEdge) (drawn u v d φ m)
+    (subst (λ (x : ℕ). Joined l (a .e) (c .before .before .corner .result) x (m .nextEdge) (drawn u v d φ m)) (sym (k .1)) i)
+
+pub splits-face-spec : {M : Type 1} → statement M
+splits-face-spec =
+    tie.close
+    (tie.spec
+    (λ c. search needs)
+    (λ c. search needs)
+    (λ c. search needs)
+    (λ c. search needs)
+    (λ c. search needs)
+    (λ c. search needs)
+    (λ c. search needs)
+    (λ c κs. search needs)
+    (λ c κs. search needs)
+    parts-rings-requires
+    returns)

@@ -1,0 +1,4 @@
+-- `Corners`: the corner face as the numbers of the tables show it.
+-- `Drawing`: a new edge beside the rows, by position.
+pub mod Corners
+pub mod Drawing

@@ -1,0 +1,29 @@
+-- Tests of points and curves, which look at the nodes alone or at the edges alone, and reasons against a curve sent, in the map's terms. Assumes nothing.
+use mathlib.Core.Path.{_≡_}
+use mathlib.Core.Option.{some}
+use mathlib.Core.List.{List}
+use Prim.Native.Nat.{ℕ}
+use lib.IntN.{ℤ}
+use Rattle.plane.specs.declared.Point.{Point}
+use Rattle.curves.specs.Curves.{Curve}
+use Rattle.map.specs.Rows.{Node, Edge, Map, findNode, node}
+use Rattle.map.specs.Reasons.{nodeInside, meetingReasons, curveReasons}
+use Rattle.reason_curves.specs.Sent.{sentReasons}
+
+-- a row that is found is the row
+pub node-is : (m : Map) (k : ℕ) (r : Node) → findNode m k ≡ some r → node m k ≡ r
+unfolding node
+node-is m k r e = rw e
+
+-- maps with the same edges, or the same nodes
+module _ (m m′ : Map) where
+  pub inside-alike : (c : Curve) → m .nodes ≡ m′ .nodes → nodeInside m c ≡ nodeInside m′ c
+  unfolding nodeInside
+  inside-alike c e = rw e
+
+  pub meeting-alike : {es es′ : List Edge} (c : Curve) → m .nodes ≡ m′ .nodes → es ≡ es′ → meetingReasons m es c ≡ meetingReasons m′ es′ c
+  meeting-alike c e f = rw (inside-alike c e, f)
+
+-- a curve sent between two nodes
+pub sent-is : (m : Map) (sent : List ℤ) (u v : ℕ) {p q : Point} → node m u .at ≡ p → node m v .at ≡ q → sentReasons sent p q ≡ curveReasons m sent u v
+sent-is m sent u v e f = rw (e, f)

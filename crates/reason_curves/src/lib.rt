@@ -1,0 +1,188 @@
+// The tests behind the reasons that look at points and curves alone: 5 to 8, 10, 14 and 15.
+use lists::Found;
+use plane::Point;
+ghost use mathlib.Core.Path.{_≡_};
+ghost use mathlib.Core.Bool.{true, not, _&&_};
+ghost use Prim.Native.Nat.{_*_, _<_};
+ghost use Rattle.lists.specs.Tests.{same};
+ghost use Rattle.lists.specs.Scans.{any};
+ghost use Rattle.lists.specs.Tables.{table};
+ghost use Rattle.plane.specs.Points.{InRange, samePoint};
+ghost use Rattle.curves.specs.Curves.{Run, coordinate, curveOf, lastPoint, point};
+ghost use Rattle.curves.specs.Tests.{onCurve};
+ghost use Rattle.map.specs.Reasons.{firstReason, edgeThrough, isEnd, nodeInside, edgeWrong, meetingReasons};
+ghost use Rattle.tables.specs.Tables.{NodeRow, NodeRows, EdgeRows, nodeAt, nodeMap, edgeMap};
+ghost use Rattle.reason_curves.specs.Sent.{sentReasons, edgesBut};
+
+// ---- 5: coordinate out of range
+
+pub fn in_range(x: i64, y: i64) -> bool
+    ensures { λ r. ⌜ r ≡ (coordinate x && coordinate y) ⌝ }
+{
+    (0 <= x) & (x <= 1048575) & (0 <= y) & (y <= 1048575)
+}
+
+// A point of coordinates in range.
+pub fn point_of(x: i64, y: i64) -> Point
+    requires { ⌜ (coordinate x && coordinate y) ≡ true ⌝ }
+    ensures { λ r. ⌜ (r ≡ point x y) × InRange r ⌝ }
+{
+    Point {
+        x: x as u64,
+        y: y as u64,
+    }
+}
+
+// The point of a node row.
+pub fn node_point(nodes: &[i64], i: usize) -> Point
+    requires { ⌜ NodeRow (now nodes) i ⌝ }
+    ensures { λ r. ⌜ (r ≡ nodeAt (now (nodes .entry)) i .at) × InRange r ⌝ }
+{
+    let x = nodes[i * 4 + 1];
+    let y = nodes[i * 4 + 2];
+    Point {
+        x: x as u64,
+        y: y as u64,
+    }
+}
+
+// The ends of a curve.
+fn first_point(c: &[i64]) -> Point
+    requires { ⌜ Run (now c) ⌝ }
+    ensures { λ r. ⌜ (r ≡ curveOf (now (c .entry)) .first) × InRange r ⌝ }
+{
+    curves::point_at(c, 0)
+}
+
+fn last_point(c: &[i64]) -> Point
+    requires { ⌜ Run (now c) ⌝ }
+    ensures { λ r. ⌜ (r ≡ lastPoint (curveOf (now (c .entry)))) × InRange r ⌝ }
+{
+    curves::point_at(c, curves::point_count(c) - 1)
+}
+
+// ---- 5 to 8: the first reason against a curve sent from node row u to node row v; 0 for none
+
+// The curve runs from the point of node row u to that of node row v.
+fn ends_on(nodes: &[i64], u: usize, v: usize, c: &[i64]) -> bool
+    requires { ⌜ NodeRow (now nodes) u × NodeRow (now nodes) v × Run (now c) ⌝ }
+    ensures { λ r. ⌜ r ≡ (samePoint (curveOf (now (c .entry)) .first) (nodeAt (now (nodes .entry)) u .at) && samePoint (lastPoint (curveOf (now (c .entry)))) (nodeAt (now (nodes .entry)) v .at)) ⌝ }
+{
+    let starts = plane::same_point(first_point(c), node_point(nodes, u));
+    let ends = plane::same_point(last_point(c), node_point(nodes, v));
+    starts & ends
+}
+
+pub fn curve_reason(nodes: &[i64], u: usize, v: usize, c: &[i64]) -> u64
+    requires { ⌜ NodeRow (now nodes) u × NodeRow (now nodes) v ⌝ }
+    ensures { λ r. ⌜ r ≡ firstReason (sentReasons (now (c .entry)) (nodeAt (now (nodes .entry)) u .at) (nodeAt (now (nodes .entry)) v .at)) ⌝ }
+{
+    if !curves::is_run(c) {
+        return 5;
+    }
+    if !curves::neighbours_differ(c) | curves::has_straight_point(c) {
+        return 6;
+    }
+    if !curves::is_simple(c) {
+        return 7;
+    }
+    if ends_on(nodes, u, v, c) { 0 } else { 8 }
+}
+
+// ---- 10: another node at the point, or an edge through it
+
+// A node but that of row `own` lies on the point.
+pub fn node_at(nodes: &[i64], n: usize, own: usize, p: Point) -> bool
+    requires { ⌜ NodeRows (now nodes) n × InRange p ⌝ }
+    ensures { λ r. ⌜ r ≡ any (λ i. not (same i own) && samePoint (nodeAt (now (nodes .entry)) i .at) p) (table (λ i. i) 0 n) ⌝ }
+{
+    for i in 0..n {
+        if (i != own) & plane::same_point(node_point(nodes, i), p) {
+            return true;
+        }
+    }
+    false
+}
+
+pub fn on_curve(c: &[i64], p: Point) -> bool
+    requires { ⌜ Run (now c) × InRange p ⌝ }
+    ensures { λ r. ⌜ r ≡ onCurve (curveOf (now (c .entry))) p ⌝ }
+{
+    let found = curves::first_place(c, p);
+    match found {
+        Found::At(i) => true,
+        Found::Missing => false,
+    }
+}
+
+pub fn edge_through(edges: &[i64], count: usize, p: Point) -> bool
+    requires { ⌜ EdgeRows (now edges) count × InRange p ⌝ }
+    ensures { λ r. ⌜ r ≡ edgeThrough (edgeMap (now (edges .entry)) count) p ⌝ }
+{
+    for i in 0..count {
+        if on_curve(tables::curve_of(edges, i), p) {
+            return true;
+        }
+    }
+    false
+}
+
+// ---- 14: a node inside the curve. 15: the curve meets another edge wrongly
+
+fn is_end(c: &[i64], p: Point) -> bool
+    requires { ⌜ Run (now c) × InRange p ⌝ }
+    ensures { λ r. ⌜ r ≡ isEnd (curveOf (now (c .entry))) p ⌝ }
+{
+    plane::same_point(p, first_point(c)) | plane::same_point(p, last_point(c))
+}
+
+fn node_inside(nodes: &[i64], n: usize, c: &[i64]) -> bool
+    requires { ⌜ NodeRows (now nodes) n × Run (now c) ⌝ }
+    ensures { λ r. ⌜ r ≡ nodeInside (nodeMap (now (nodes .entry)) n) (curveOf (now (c .entry))) ⌝ }
+{
+    for i in 0..n {
+        let p = node_point(nodes, i);
+        if on_curve(c, p) & !is_end(c, p) {
+            return true;
+        }
+    }
+    false
+}
+
+fn edge_wrong(edges: &[i64], count: usize, own: usize, c: &[i64]) -> bool
+    requires { ⌜ EdgeRows (now edges) count × Run (now c) ⌝ }
+    ensures { λ r. ⌜ r ≡ edgeWrong (edgesBut (now (edges .entry)) count own) (curveOf (now (c .entry))) ⌝ }
+{
+    let e = bounding_boxes::extent_of(c);
+    for i in 0..count {
+        let d = tables::curve_of(edges, i);
+        if !bounding_boxes::lie_apart(e, bounding_boxes::extent_of(d)) {
+            if (i != own) & curves::curves_wrong(c, d) {
+                return true;
+            }
+        }
+    }
+    false
+}
+
+// 14, 15 or 0, for a curve of edge row `own`.
+pub fn meeting_reason(
+    nodes: &[i64],
+    n: usize,
+    edges: &[i64],
+    count: usize,
+    own: usize,
+    c: &[i64],
+) -> u64
+    requires { ⌜ NodeRows (now nodes) n × EdgeRows (now edges) count × Run (now c) ⌝ }
+    ensures { λ r. ⌜ r ≡ firstReason (meetingReasons (nodeMap (now (nodes .entry)) n) (edgesBut (now (edges .entry)) count own) (curveOf (now (c .entry)))) ⌝ }
+{
+    if node_inside(nodes, n, c) {
+        return 14;
+    }
+    if edge_wrong(edges, count, own, c) {
+        15
+    } else {
+        0
+    }
+}

@@ -1,0 +1,204 @@
+// The reasons against kinds 11 to 14, in order, and what is known of the edge where none holds.
+use lists::Found;
+use map::Head;
+ghost use mathlib.Core.Path.{_≡_};
+ghost use mathlib.Core.Bool.{true};
+ghost use Prim.Native.Nat.{_≤_, _<_};
+ghost use lib.IntN.{natAbs};
+ghost use lib.Signed.{nonNeg};
+ghost use Rattle.lists.specs.Tests.{bit};
+ghost use Rattle.map.specs.Reasons.{firstReason};
+ghost use Rattle.tables.specs.Tables.{NodeRows, EdgeRows, EdgeRow, nodeAt, edgeAt};
+ghost use Rattle.outcomes.specs.Outcomes.{Formed};
+ghost use Rattle.reason_edges.specs.Parts.{drawingReasons, roomReasons, makesSecond, makesOf, faceReasons};
+ghost use Rattle.reason_edges.specs.Judging.{Counted, Held, JudgedRows, JudgedAdd, JudgedRemoval};
+
+// The first reason against a new edge; where it is 0, the rows of its nodes, its corner face, and whether that is split.
+pub struct Judged {
+    pub reason: u64,
+    pub start: usize,
+    pub end: usize,
+    pub face: i64,
+    pub splits: bool,
+}
+
+// The first reason against removing an edge; where it is 0, its row, and whether a new face is made.
+pub struct Removal {
+    pub reason: u64,
+    pub row: usize,
+    pub makes: bool,
+}
+
+// ---- leaves
+
+fn bit_of(b: bool) -> usize
+    ensures { λ r. ⌜ r ≡ bit b ⌝ }
+{
+    if b { 1 } else { 0 }
+}
+
+// The old face goes, and a second new one is made.
+fn makes_second(splits: bool, news: bool, face: i64) -> bool
+    requires { ⌜ nonNeg face ≡ true ⌝ }
+    ensures { λ r. ⌜ r ≡ makesSecond splits news (natAbs face) ⌝ }
+{
+    splits & news & (face != 0)
+}
+
+// Nothing is known but the reason.
+fn turned_down(reason: u64) -> Judged
+    ensures { λ r. ⌜ r .reason ≡ reason ⌝ }
+{
+    Judged {
+        reason,
+        start: 0,
+        end: 0,
+        face: 0,
+        splits: false,
+    }
+}
+
+// ---- kinds 11 and 12
+
+// 5 to 15, of an edge from node row u to node row v; 0 for none.
+fn drawing_reason(
+    nodes: &[i64],
+    n: usize,
+    edges: &[i64],
+    e: usize,
+    u: usize,
+    v: usize,
+    c: &[i64],
+) -> u64
+    requires { ⌜ NodeRows (now nodes) n × EdgeRows (now edges) e × (u < n) × (v < n) ⌝ }
+    ensures { λ r. ⌜ ((m : _) → Held (now (nodes .entry)) n (now (edges .entry)) e m → r ≡ firstReason (drawingReasons m (nodeAt (now (nodes .entry)) u .number) (nodeAt (now (nodes .entry)) v .number) (now (c .entry)))) ⌝ }
+{
+    let reason = reason_curves::curve_reason(nodes, u, v, c);
+    if reason != 0 {
+        return reason;
+    }
+    if reason_departures::direction_taken(edges, e, e, nodes[u * 4], nodes[v * 4], c) {
+        return 11;
+    }
+    if reason_corners::corners_differ(nodes, u, v, edges, e, c) {
+        return 12;
+    }
+    reason_curves::meeting_reason(nodes, n, edges, e, e, c)
+}
+
+// 20 or 21 against an edge more, so many rows of faces and so many numbers of faces; 0 for none.
+fn room_reason(edges: &[i64], faces: &[i64], h: Head, more: usize, numbers: usize) -> u64
+    requires { ⌜ Counted h × (more ≤ 1) × (numbers ≤ 2) ⌝ }
+    ensures { λ r. ⌜ r ≡ firstReason (roomReasons (now (edges .entry)) (now (faces .entry)) h more numbers) ⌝ }
+{
+    let full = edges.len() / 32 < outcomes::count_of(h.edges) + 1;
+    if full | (faces.len() < outcomes::count_of(h.faces) + more) {
+        return 20;
+    }
+    let spent = 1000000 < outcomes::count_of(h.next_edge) + 1;
+    if spent | (1000000 < outcomes::count_of(h.next_face) + numbers) {
+        21
+    } else {
+        0
+    }
+}
+
+// From 5 on, of an edge from node row u to node row v.
+fn judge_rows(
+    nodes: &[i64],
+    edges: &[i64],
+    faces: &[i64],
+    h: Head,
+    news: bool,
+    u: usize,
+    v: usize,
+    c: &[i64],
+) -> Judged
+    requires { ⌜ Formed (now nodes) (now edges) (now faces) h × (u < natAbs (h .nodes)) × (v < natAbs (h .nodes)) ⌝ }
+    ensures { λ r. ⌜ JudgedRows news (now (nodes .entry)) (now (edges .entry)) (now (faces .entry)) h u v (now (c .entry)) r ⌝ }
+{
+    let e = outcomes::count_of(h.edges);
+    let reason = drawing_reason(nodes, outcomes::count_of(h.nodes), edges, e, u, v, c);
+    if reason != 0 {
+        return turned_down(reason);
+    }
+    let face = reason_corners::corner_face(nodes, u, edges, e, darts::first_step(c, false));
+    let splits = reason_corners::splits_face(nodes, edges, e, u, v, c);
+    let more = bit_of(splits);
+    let second = bit_of(makes_second(splits, news, face));
+    let late = room_reason(edges, faces, h, more, more + second);
+    Judged {
+        reason: late,
+        start: u,
+        end: v,
+        face,
+        splits,
+    }
+}
+
+pub fn judge_add(
+    nodes: &[i64],
+    edges: &[i64],
+    faces: &[i64],
+    h: Head,
+    news: bool,
+    start: i64,
+    end: i64,
+    c: &[i64],
+) -> Judged
+    requires { ⌜ Formed (now nodes) (now edges) (now faces) h ⌝ }
+    ensures { λ r. ⌜ JudgedAdd news (now (nodes .entry)) (now (edges .entry)) (now (faces .entry)) h start end (now (c .entry)) r ⌝ }
+{
+    let n = outcomes::count_of(h.nodes);
+    let found = tables::find_row(nodes, 4, n, start);
+    let Found::At(u) = found else {
+        return turned_down(4);
+    };
+    let found_end = tables::find_row(nodes, 4, n, end);
+    let Found::At(v) = found_end else {
+        return turned_down(4);
+    };
+    judge_rows(nodes, edges, faces, h, news, u, v, c)
+}
+
+// ---- kinds 13 and 14
+
+// Whether a new face is made where edge row i goes.
+fn makes_face(edges: &[i64], i: usize, news: bool) -> bool
+    requires { ⌜ EdgeRow (now edges) i ⌝ }
+    ensures { λ r. ⌜ r ≡ makesOf news (edgeAt (now (edges .entry)) i) ⌝ }
+{
+    let left = edges[i * 32 + 5];
+    let right = edges[i * 32 + 6];
+    news & (left != right) & (left != 0) & (right != 0)
+}
+
+// 21 against so many numbers of faces; 0 for none.
+fn face_reason(h: Head, numbers: usize) -> u64
+    requires { ⌜ Counted h × (numbers ≤ 1) ⌝ }
+    ensures { λ r. ⌜ r ≡ firstReason (faceReasons h numbers) ⌝ }
+{
+    if 1000000 < outcomes::count_of(h.next_face) + numbers {
+        21
+    } else {
+        0
+    }
+}
+
+pub fn judge_removal(edges: &[i64], h: Head, news: bool, edge: i64) -> Removal
+    requires { ⌜ ((nodes : _) × (faces : _) × Formed nodes (now edges) faces h) ⌝ }
+    ensures { λ r. ⌜ ((nodes : _) (faces : _) → Formed nodes (now (edges .entry)) faces h → JudgedRemoval news nodes (now (edges .entry)) faces h edge r) ⌝ }
+{
+    let e = outcomes::count_of(h.edges);
+    let found = tables::find_row(edges, 32, e, edge);
+    let Found::At(row) = found else {
+        return Removal {
+            reason: 4,
+            row: 0,
+            makes: false,
+        };
+    };
+    let makes = makes_face(edges, row, news);
+    let reason = face_reason(h, bit_of(makes));
+    Removal { reason, row, makes }
+}

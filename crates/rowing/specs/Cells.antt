@@ -1,9 +1,0 @@
--- The 32 numbers of an edge row, as a function hands them on.
-use mathlib.Core.List.{List, _∷_}
-use lib.IntN.{ℤ, pos}
-use Rattle.cutting.specs.declared.Line.{Line}
-use Rattle.rowing.specs.declared.Sides.{Sides}
-
-abbrev pub cellsOf : Sides → Line → List ℤ
-cellsOf s l =
-    s .number ∷ s .start ∷ s .end ∷ s .«next_left» ∷ s .«next_right» ∷ s .left ∷ s .right ∷ pos (l .count) ∷ l .cells

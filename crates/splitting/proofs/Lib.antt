@@ -1,7 +1,0 @@
--- `Choosing`: the first departure met clockwise with one more besides. `Ends`: where the new edge is linked in.
--- `Places`: the new edge's positions after those of the rows. `Drawn`: what the map reads with the new edge linked in. `Walked`: its ring, turn by turn.
-pub mod Choosing
-pub mod Ends
-pub mod Places
-pub mod Drawn
-pub mod Walked

@@ -1,2 +1,0 @@
--- `Drawing`: a new edge beside the rows, by position.
-pub mod Drawing
