@@ -1,5 +1,5 @@
 #!/usr/bin/env python3
-"""The stored calls of crates/calls: writes its stdin and stdout, the answers worked out by the reference.
+"""The stored calls of crates/test_face_edges: writes its stdin and stdout, the answers worked out by the reference.
 
   calls.py [CALLS] [--seed S]     REFERENCE names the reference's folder (default: ../shared/reference beside the repository)
 
@@ -80,7 +80,7 @@ def main():
         c = call(rng)
         if fits(*c[:3]):
             calls.append(c)
-    folder = ROOT / 'crates' / 'calls'
+    folder = ROOT / 'crates' / 'test_face_edges'
     (folder / 'stdin').write_text(''.join(record(*c) for c in calls))
     (folder / 'stdout').write_text(''.join(answer(*c) for c in calls))
 

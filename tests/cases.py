@@ -1,5 +1,5 @@
 #!/usr/bin/env python3
-"""The stored cases of crates/cases: writes its stdin and stdout, the answers worked out by the reference.
+"""The stored cases of crates/test_geometry: writes its stdin and stdout, the answers worked out by the reference.
 
   cases.py [CASES] [--seed S]     REFERENCE names the reference's folder (default: ../shared/reference beside the repository)
 
@@ -114,7 +114,7 @@ def main():
     args = args.parse_args()
     rng = random.Random(args.seed)
     cases = [case(rng) for _ in range(args.cases)]
-    folder = ROOT / 'crates' / 'cases'
+    folder = ROOT / 'crates' / 'test_geometry'
     (folder / 'stdin').write_text(''.join(line(*c) for c in cases))
     (folder / 'stdout').write_text(''.join(answers(*c) for c in cases))
 

@@ -1,6 +1,6 @@
 #!/usr/bin/env python3
 """Writes Opened.antt of the crates whose closed examples compute: every shut definition that a crate's definitions
-use, opened at once. The map's stands in specs/ and has those of the crates below it; the others stand in proofs/."""
+use, opened at once. The map's has those of the crates below it."""
 
 import pathlib
 import re
@@ -9,14 +9,14 @@ CRATES = pathlib.Path(__file__).resolve().parent.parent / 'crates'
 HEADER = """\
 -- Every definition opened at once: `unfolding opened` lets closed examples compute. Written by tests/opened.py.
 """
-# a crate, where its file stands, the crates below whose definitions it opens itself, and what is opened already
+# a crate, the crates below whose definitions it opens itself, and what is opened already
 OPENED = (
-    ('map', 'specs', ('lists', 'plane', 'curves', 'planar', 'rotation'), None),
-    ('network', 'proofs', (), 'Rattle.map.specs.Opened'),
-    ('paths', 'proofs', (), 'Rattle.network.proofs.Opened'),
-    ('joining', 'proofs', (), 'Rattle.map.specs.Opened'),
-    ('mending', 'proofs', (), 'Rattle.map.specs.Opened'),
-    ('nesting', 'proofs', (), 'Rattle.map.specs.Opened'),
+    ('map', ('lists', 'plane', 'curves', 'planar_maps', 'rotation'), None),
+    ('network', (), 'Rattle.map.proofs.Opened'),
+    ('paths', (), 'Rattle.network.proofs.Opened'),
+    ('joining', (), 'Rattle.map.proofs.Opened'),
+    ('mending', (), 'Rattle.map.proofs.Opened'),
+    ('nesting', (), 'Rattle.map.proofs.Opened'),
 )
 
 
@@ -47,20 +47,20 @@ def uses(module, names):
     return [f'use {module}.{{{", ".join(part)}}}' for part in (*out, now)]
 
 
-def write(crate, place, below, base):
+def write(crate, below, base):
     lines, names = ['use mathlib.Core.List.{flatMap}'], ['flatMap']
     if base:
         lines, names = [f'use {base} as below'], ['below.opened']
     for c in (*below, crate):
         for path in sorted((CRATES / c / 'specs').glob('*.antt')):
-            found = [] if path.stem == 'Opened' else shut(path)
+            found = shut(path)
             if found:
                 lines += uses(f'Rattle.{c}.specs.{path.stem}' if c == crate else f'Rattle.{c}.specs.{path.stem}',
                               found)
                 names += found
     text = HEADER + '\n'.join(lines) + '\n\nunfoldable pub opened : Unit {0}\n'
     text += filled('unfolding', names) + '\nopened = tt\n'
-    (CRATES / crate / place / 'Opened.antt').write_text(text)
+    (CRATES / crate / 'proofs/Opened.antt').write_text(text)
 
 
 def main():

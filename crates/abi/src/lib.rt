@@ -1,4 +1,5 @@
-// The engine for programs in C and Rust: include/solgwid.h. A slice goes as a pointer and a length, the head as six numbers; each function answers the refusal.
+// The engine for programs in C and Rust: include/solgwid.h. A slice goes as a pointer and a length, the head as six
+// numbers; each function answers the refusal.
 use map::Head;
 ghost use mathlib.Core.Path.{_≡_};
 ghost use lib.IntN.{pos};
@@ -41,7 +42,11 @@ pub extern "C" fn solgwid_empty_map(
     faces: &mut [i64],
     head: &mut [i64; 6],
 ) -> u64
-    ensures { λ r. ⌜ record { lent = lent (now (nodes .exit)) (now (edges .exit)) (now (faces .exit)) (headIn (now (head .exit))); answer = record { refusal = r; value = pos 0 } } ≡ emptied (lent (now (nodes .entry)) (now (edges .entry)) (now (faces .entry)) (headIn (now (head .entry)))) ⌝ }
+    ensures { λ r. ⌜ record {
+      lent = lent (now (nodes .exit)) (now (edges .exit)) (now (faces .exit))
+          (headIn (now (head .exit)));
+      answer = record { refusal = r; value = pos 0 };
+    } ≡ emptied (lent (now (nodes .entry)) (now (edges .entry)) (now (faces .entry)) (headIn (now (head .entry)))) ⌝ }
 {
     let done = engine::empty_map(nodes, edges, faces, head_in(head));
     put_head(head, done.head);
@@ -58,7 +63,12 @@ pub extern "C" fn solgwid_ticket(
     numbers: &[i64],
     value: &mut i64,
 ) -> u64
-    ensures { λ r. ⌜ record { lent = lent (now (nodes .exit)) (now (edges .exit)) (now (faces .exit)) (headIn (now (head .exit))); answer = record { refusal = r; value = now (value .exit) } } ≡ ticket (lent (now (nodes .entry)) (now (edges .entry)) (now (faces .entry)) (headIn (now (head .entry)))) (now (numbers .entry)) ⌝ }
+    ensures { λ r. ⌜ record {
+      lent = lent (now (nodes .exit)) (now (edges .exit)) (now (faces .exit))
+          (headIn (now (head .exit)));
+      answer = record { refusal = r; value = now (value .exit) };
+    } ≡ ticket (lent (now (nodes .entry)) (now (edges .entry)) (now (faces .entry)) (headIn (now (head .entry))))
+        (now (numbers .entry)) ⌝ }
 {
     let done = engine::ticket(nodes, edges, faces, head_in(head), numbers);
     put_head(head, done.head);
@@ -78,7 +88,9 @@ pub extern "C" fn solgwid_edges_of_face(
     list: &mut [i64],
     value: &mut i64,
 ) -> u64
-    ensures { λ r. ⌜ record { list = now (list .exit); answer = record { refusal = r; value = now (value .exit) } } ≡ edgesOfFace (lent (now (nodes .entry)) (now (edges .entry)) (now (faces .entry)) (headIn (now (head .entry)))) face (now (list .entry)) ⌝ }
+    ensures { λ r. ⌜ record { list = now (list .exit); answer = record { refusal = r; value = now (value .exit) } }
+        ≡ edgesOfFace (lent (now (nodes .entry)) (now (edges .entry)) (now (faces .entry))
+        (headIn (now (head .entry)))) face (now (list .entry)) ⌝ }
 {
     let answer = engine::edges_of_face(nodes, edges, faces, head_in(head), face, list);
     let v = answer.value;
@@ -98,7 +110,14 @@ pub extern "C" fn solgwid_run(
     refusals: &mut [u64],
     values: &mut [i64],
 ) -> u64
-    ensures { λ r. ⌜ Runs (lent (now (nodes .entry)) (now (edges .entry)) (now (faces .entry)) (headIn (now (head .entry)))) (now (numbers .entry)) (now (lengths .entry)) (now (refusals .entry)) (now (values .entry)) (record { lent = lent (now (nodes .exit)) (now (edges .exit)) (now (faces .exit)) (headIn (now (head .exit))); refusals = now (refusals .exit); values = now (values .exit); answer = record { refusal = r; value = pos 0 } }) ⌝ }
+    ensures { λ r. ⌜ Runs (lent (now (nodes .entry)) (now (edges .entry)) (now (faces .entry))
+        (headIn (now (head .entry)))) (now (numbers .entry)) (now (lengths .entry)) (now (refusals .entry))
+        (now (values .entry)) (record {
+          lent = lent (now (nodes .exit)) (now (edges .exit)) (now (faces .exit)) (headIn (now (head .exit)));
+          refusals = now (refusals .exit);
+          values = now (values .exit);
+          answer = record { refusal = r; value = pos 0 };
+        }) ⌝ }
 {
     let done = engine::run(
         nodes,

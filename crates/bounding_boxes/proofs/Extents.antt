@@ -48,7 +48,8 @@ within-self : (p : Point) → Within (extentAt p) p
 within-self p = record { left = omega arith; right = omega arith; low = omega arith; high = omega arith }
 
 curve-inside : (c : Curve) → Inside (extentOf c) (points c)
-curve-inside c = more (fold-old (extentAt (c .first)) (c .first) (c .rest) (within-self (c .first))) (fold-new (extentAt (c .first)) (c .rest))
+curve-inside c = more (fold-old (extentAt (c .first)) (c .first) (c .rest) (within-self (c .first)))
+    (fold-new (extentAt (c .first)) (c .rest))
 
 -- ---- ranges that lie apart
 
@@ -82,26 +83,36 @@ module _ (a b c d : Point) where
 module _ (e f : Extent) (away : apart e f ≡ true) where
   clear : (a b c d : Point) → Within e a → Within e b → Within f c → Within f d → meets a b c d ≡ false
   clear a b c d wa wb wc wd =
-      elim (or-true (ltb (e .right) (f .left) || ltb (f .right) (e .left) || ltb (e .high) (f .low)) (ltb (f .high) (e .low)) away) [
+      elim (or-true (ltb (e .right) (f .left) || ltb (f .right) (e .left) || ltb (e .high) (f .low))
+      (ltb (f .high) (e .low)) away) [
         | inl h ↦ elim (or-true (ltb (e .right) (f .left) || ltb (f .right) (e .left)) (ltb (e .high) (f .low)) h) [
           | inl h ↦ elim (or-true (ltb (e .right) (f .left)) (ltb (f .right) (e .left)) h) [
-            | inl h ↦ clear-x a b c d (range-below (a .x) (b .x) (c .x) (d .x) (ltb-true (e .right) (f .left) h) (wa .right) (wb .right) (wc .left) (wd .left))
-            | inr h ↦ clear-x a b c d (range-above (a .x) (b .x) (c .x) (d .x) (ltb-true (f .right) (e .left) h) (wc .right) (wd .right) (wa .left) (wb .left))
+            | inl h ↦ clear-x a b c d (range-below (a .x) (b .x) (c .x) (d .x) (ltb-true (e .right) (f .left) h)
+                (wa .right) (wb .right) (wc .left) (wd .left))
+            | inr h ↦ clear-x a b c d (range-above (a .x) (b .x) (c .x) (d .x) (ltb-true (f .right) (e .left) h)
+                (wc .right) (wd .right) (wa .left) (wb .left))
           ]
-          | inr h ↦ clear-y a b c d (range-below (a .y) (b .y) (c .y) (d .y) (ltb-true (e .high) (f .low) h) (wa .high) (wb .high) (wc .low) (wd .low))
+          | inr h ↦ clear-y a b c d (range-below (a .y) (b .y) (c .y) (d .y) (ltb-true (e .high) (f .low) h) (wa .high)
+              (wb .high) (wc .low) (wd .low))
         ]
-        | inr h ↦ clear-y a b c d (range-above (a .y) (b .y) (c .y) (d .y) (ltb-true (f .high) (e .low) h) (wc .high) (wd .high) (wa .low) (wb .low))
+        | inr h ↦ clear-y a b c d (range-above (a .y) (b .y) (c .y) (d .y) (ltb-true (f .high) (e .low) h) (wc .high)
+            (wd .high) (wa .low) (wb .low))
       ]
 
-  segment-apart : (l : List Point) (a b c : Point) (s : List Point) → Within e a → Within e b → Inside f (c ∷ s) → segCurve l a b c s ≡ false
+  segment-apart : (l : List Point) (a b c : Point) (s : List Point) → Within e a → Within e b → Inside f (c ∷ s)
+      → segCurve l a b c s ≡ false
   segment-apart l a b c [] wa wb i = refl
-  segment-apart l a b c (d ∷ s) wa wb (more wc (more wd i)) = rw (clear-wrong a b c d l (clear a b c d wa wb wc wd)) (segment-apart l a b d s wa wb (more wd i))
+  segment-apart l a b c (d ∷ s) wa wb (more wc (more wd i)) =
+      rw (clear-wrong a b c d l (clear a b c d wa wb wc wd)) (segment-apart l a b d s wa wb (more wd i))
 
-  curve-apart : (l : List Point) (a : Point) (r : List Point) (c : Point) (s : List Point) → Inside e (a ∷ r) → Inside f (c ∷ s) → curveCurve l a r c s ≡ false
+  curve-apart : (l : List Point) (a : Point) (r : List Point) (c : Point) (s : List Point) → Inside e (a ∷ r)
+      → Inside f (c ∷ s) → curveCurve l a r c s ≡ false
   curve-apart l a [] c s i j = refl
-  curve-apart l a (b ∷ r) c s (more wa (more wb i)) j = rw (segment-apart l a b c s wa wb j) (curve-apart l b r c s (more wb i) j)
+  curve-apart l a (b ∷ r) c s (more wa (more wb i)) j =
+      rw (segment-apart l a b c s wa wb j) (curve-apart l b r c s (more wb i) j)
 
 -- curves whose extents lie apart do not meet wrongly
 pub apart-meet : (c d : Curve) → apart (extentOf c) (extentOf d) ≡ true → meetWrongly c d ≡ false
 unfolding wrong
-apart-meet c d h = curve-apart (extentOf c) (extentOf d) h (commonEnds (c .first) (c .rest) (d .first) (d .rest)) (c .first) (c .rest) (d .first) (d .rest) (curve-inside c) (curve-inside d)
+apart-meet c d h = curve-apart (extentOf c) (extentOf d) h (commonEnds (c .first) (c .rest) (d .first) (d .rest))
+    (c .first) (c .rest) (d .first) (d .rest) (curve-inside c) (curve-inside d)

@@ -13,7 +13,12 @@ extentAt p = record { left = p .x; right = p .x; low = p .y; high = p .y }
 
 -- with a point besides
 abbrev pub widen : Extent → Point → Extent
-widen e p = record { left = min (e .left) (p .x); right = max (e .right) (p .x); low = min (e .low) (p .y); high = max (e .high) (p .y) }
+widen e p = record {
+  left = min (e .left) (p .x);
+  right = max (e .right) (p .x);
+  low = min (e .low) (p .y);
+  high = max (e .high) (p .y);
+}
 
 abbrev pub extentOf : Curve → Extent
 extentOf c = fold widen (extentAt (c .first)) (c .rest)

@@ -11,7 +11,7 @@ use Rattle.planar_maps.specs.Map.{Dart, fwd, bwd}
 use Rattle.map.specs.Rows.{Node, Edge, Map}
 use Rattle.map.specs.Form.{formed}
 use Rattle.map.specs.Links.{obeysLaw}
-use Rattle.map.specs.Opened.{opened}
+use Rattle.map.proofs.Opened.{opened}
 use Rattle.certified.specs.Certified.{nextsInRange, curvesClear, placesDiffer, sumHolds, facesReached}
 
 abbrev at : ℕ → ℕ → Point

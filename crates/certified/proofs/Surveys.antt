@@ -7,7 +7,7 @@ use borrow.Author.Tests.{leb-true, le-leb}
 use borrow.Author.Tests as tests
 use lib.Dec.{leb}
 use lib.ListN.{length}
-use Rattle.lists.specs.Scans.{all}
+use Rattle.lists.specs.Scans.{allOf}
 use Rattle.lists.specs.Members.{Pairs, Distinct}
 use Rattle.lists.proofs.Bools.{and-true, and-is, not-true}
 use Rattle.lists.proofs.Members.{all-of, each-of}
@@ -41,7 +41,7 @@ range-is p h = and-is (le-leb _ _ (h .x)) (le-leb _ _ (h .y))
 module _ {A : Type 0} (r : A → A → Bool) (R : A → A → Type 0) where
   noTwo-says : ((x y : A) → r x y ≡ false → R x y) → (l : List A) → noTwo r l ≡ true → Pairs R l
   noTwo-says f [] h = tt
-  noTwo-says f (x ∷ l) h = let k = and-true (all (λ y. not (r x y)) l) (noTwo r l) h in (
+  noTwo-says f (x ∷ l) h = let k = and-true (allOf (λ y. not (r x y)) l) (noTwo r l) h in (
     all-of l (λ y m. f x y (tests.not-true (r x y) (all-each (λ y. not (r x y)) l (k .0) y m))),
     noTwo-says f l (k .1),
   )
@@ -54,7 +54,7 @@ module _ {A : Type 0} (r : A → A → Bool) (R : A → A → Type 0) where
 -- no two points are one
 places-says : (l : List Point) → noTwo samePoint l ≡ true → Distinct l
 places-says [] h = tt
-places-says (p ∷ l) h = let k = and-true (all (λ q. not (samePoint p q)) l) (noTwo samePoint l) h in (
+places-says (p ∷ l) h = let k = and-true (allOf (λ q. not (samePoint p q)) l) (noTwo samePoint l) h in (
   λ m. true≢false (sym (all-each (λ q. not (samePoint p q)) l (k .0) p m) ∙ ap not (samePoint-iff p p .1 refl)),
   places-says l (k .1),
 )
@@ -76,7 +76,7 @@ kept-says : (c : Curve) → curveKept c ≡ true → Parts c
 kept-says c h =
     let h₁ = and-true _ (not (straightInside c)) h in
     let h₂ = and-true _ (isSimple c) (h₁ .0) in
-    let h₃ = and-true (countFits c) (all inRange (points c)) (h₂ .0) in
+    let h₃ = and-true (countFits c) (allOf inRange (points c)) (h₂ .0) in
     let h₄ = and-true (leb 2 (length (points c))) (leb (length (points c)) maxPoints) (h₃ .0) in
     record {
       least = leb-true _ _ (h₄ .0);
@@ -103,14 +103,14 @@ module _ (m : Map) where
 
   -- the two halves of both tests
   curves-halves : curvesClear m ≡ true
-      → (all (λ e. curveKept (e .curve)) (m .edges) ≡ true) × (noTwo meetWrongly curves ≡ true)
+      → (allOf (λ e. curveKept (e .curve)) (m .edges) ≡ true) × (noTwo meetWrongly curves ≡ true)
   unfolding curvesClear
-  curves-halves h = and-true (all (λ e. curveKept (e .curve)) (m .edges)) (noTwo meetWrongly curves) h
+  curves-halves h = and-true (allOf (λ e. curveKept (e .curve)) (m .edges)) (noTwo meetWrongly curves) h
 
   places-halves : placesDiffer m ≡ true
-      → (all (λ n. inRange (n .at)) (m .nodes) ≡ true) × (noTwo samePoint places ≡ true)
+      → (allOf (λ n. inRange (n .at)) (m .nodes) ≡ true) × (noTwo samePoint places ≡ true)
   unfolding placesDiffer
-  places-halves h = and-true (all (λ n. inRange (n .at)) (m .nodes)) (noTwo samePoint places) h
+  places-halves h = and-true (allOf (λ n. inRange (n .at)) (m .nodes)) (noTwo samePoint places) h
 
   part : curvesClear m ≡ true → (e : Edge) → List·Memᴰ e (m .edges) → Parts (e .curve)
   part h e k =
@@ -128,8 +128,7 @@ module _ (m : Map) where
     };
     kept = λ e k. part h e k .kept;
     anchored = l .anchored;
-    nodes-in-range =
-        λ n k. range-says (n .at) (all-each (λ n. inRange (n .at)) (m .nodes) (places-halves j .0) n k);
+    nodes-in-range = λ n k. range-says (n .at) (all-each (λ n. inRange (n .at)) (m .nodes) (places-halves j .0) n k);
     places = places-says places (places-halves j .1);
   }
     where

@@ -8,7 +8,7 @@ use Prim.Native.Nat.{ℕ, suc, _+_}
 use lib.Dec.{leb}
 use lib.ListN.{length}
 use Rattle.lists.specs.Tests.{same}
-use Rattle.lists.specs.Scans.{all}
+use Rattle.lists.specs.Scans.{allOf}
 use Rattle.plane.specs.declared.Point.{Point}
 use Rattle.plane.specs.Points.{maxCoordinate, samePoint}
 use Rattle.curves.specs.Curves.{Curve, points, maxPoints}
@@ -39,23 +39,23 @@ countFits c = leb 2 (length (points c)) && leb (length (points c)) maxPoints
 
 -- a curve that a ticket may have left: simple, and no inner point straight between its neighbours
 abbrev pub curveKept : Curve → Bool
-curveKept c = countFits c && all inRange (points c) && isSimple c && not (straightInside c)
+curveKept c = countFits c && allOf inRange (points c) && isSimple c && not (straightInside c)
 
 -- r holds of no element and a later one
 abbrev pub noTwo : {A : Type 0} → (A → A → Bool) → List A → Bool
 noTwo r [] = true
-noTwo r (x ∷ l) = let rest = noTwo r l in all (λ y. not (r x y)) l && rest
+noTwo r (x ∷ l) = let rest = noTwo r l in allOf (λ y. not (r x y)) l && rest
 
 -- every curve is such a curve, and no two share more than common ends
 unfoldable pub curvesClear : Map → Bool
 curvesClear m =
-    all (λ e. curveKept (e .curve)) (m .edges)
+    allOf (λ e. curveKept (e .curve)) (m .edges)
     && noTwo meetWrongly (map (λ e. e .curve) (m .edges))
 
 -- every node lies in range, and no two lie on one place
 unfoldable pub placesDiffer : Map → Bool
 placesDiffer m =
-    all (λ n. inRange (n .at)) (m .nodes)
+    allOf (λ n. inRange (n .at)) (m .nodes)
     && noTwo samePoint (map (λ n. n .at) (m .nodes))
 
 -- ---- the plane
@@ -72,7 +72,7 @@ crossing e = record { num = e .number; from = e .left; to = e .right }
 unfoldable pub facesReached : Map → Bool
 facesReached m =
     let steps = map crossing (m .edges) in
-    all (λ f. same (label steps f) (label steps 0)) (m .faces)
+    allOf (λ f. same (label steps f) (label steps 0)) (m .faces)
 
 -- ---- all of them
 

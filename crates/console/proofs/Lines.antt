@@ -17,7 +17,8 @@ use Rattle.console.specs.Lines.{countOf, lineAnswered, deskOf, keptBytes
 -- the numbers stand at the front of the list
 pub parsed-numbers : (o : Option (List ℤ)) (before : List ℤ) (r : Parsed) (after : List ℤ) → ParsedAs o before r after
     → (countOf r ≤ length after) × (take (countOf r) after ≡ Option·getD o [])
-parsed-numbers (some zs) before r after (e, f) = rw (e, f) (simp length-append (omega arith), take-append-seam zs (drop (length zs) before))
+parsed-numbers (some zs) before r after (e, f) =
+    rw (e, f) (simp length-append (omega arith), take-append-seam zs (drop (length zs) before))
 parsed-numbers none before r after (e, f) = rw e (omega arith, refl)
 
 -- one byte more, after n bytes of a line that has not ended
@@ -25,7 +26,8 @@ module _ (l : Lent) (buffer : List ℕ) (n b : ℕ) (size : length buffer ≡ ke
   count : length (take n buffer) ≡ n
   count = length-take-le n buffer (omega arith)
 
-  pub line-ended : (after : Lent) → b ≡ 10 → after ≡ lineAnswered l (take n buffer) .lent → deskOf after buffer 0 ≡ served (deskOf l buffer n) b
+  pub line-ended : (after : Lent) → b ≡ 10 → after ≡ lineAnswered l (take n buffer) .lent → deskOf after buffer 0
+      ≡ served (deskOf l buffer n) b
   unfolding served
   line-ended after e q = rw (same-eq b 10 e, q)
 

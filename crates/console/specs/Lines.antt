@@ -39,4 +39,5 @@ keptBytes = suc maxLine
 
 -- one byte more
 unfoldable pub served : Desk → ℕ → Desk
-served d b = cond (same b 10) (record { lent = lineAnswered (d .lent) (d .line) .lent; line = [] }) (record { lent = d .lent; line = take keptBytes (d .line ++ b ∷ []) })
+served d b = cond (same b 10) (record { lent = lineAnswered (d .lent) (d .line) .lent; line = [] })
+    (record { lent = d .lent; line = take keptBytes (d .line ++ b ∷ []) })

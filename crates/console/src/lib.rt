@@ -1,6 +1,6 @@
 // The desk: tickets as lines of text, answered as they come.
-use outcomes::Done;
 use map::Head;
+use outcomes::Done;
 use text::Parsed;
 ghost use mathlib.Core.Path.{_≡_};
 ghost use Prim.Native.Nat.{_≤_};
@@ -37,7 +37,8 @@ pub fn answer_line(
     h: Head,
     line: &[u8],
 ) -> Done
-    ensures { λ r. ⌜ outcome (now (nodes .exit)) (now (edges .exit)) (now (faces .exit)) r ≡ lineAnswered (lent (now (nodes .entry)) (now (edges .entry)) (now (faces .entry)) h) (now (line .entry)) ⌝ }
+    ensures { λ r. ⌜ outcome (now (nodes .exit)) (now (edges .exit)) (now (faces .exit)) r
+        ≡ lineAnswered (lent (now (nodes .entry)) (now (edges .entry)) (now (faces .entry)) h) (now (line .entry)) ⌝ }
 {
     let mut list = [0i64; 500];
     let n = count_of(text::parse(line, &mut list));
@@ -124,7 +125,9 @@ fn serve_line(
     line: &[u8],
     rows: bool,
 ) -> Head
-    ensures { λ r. ⌜ lent (now (nodes .exit)) (now (edges .exit)) (now (faces .exit)) r ≡ lineAnswered (lent (now (nodes .entry)) (now (edges .entry)) (now (faces .entry)) h) (now (line .entry)) .lent ⌝ }
+    ensures { λ r. ⌜ lent (now (nodes .exit)) (now (edges .exit)) (now (faces .exit)) r
+        ≡ lineAnswered (lent (now (nodes .entry)) (now (edges .entry)) (now (faces .entry)) h)
+        (now (line .entry)) .lent ⌝ }
 {
     let done = answer_line(nodes, edges, faces, h, line);
     write_done(nodes, edges, faces, done, rows);
@@ -143,7 +146,10 @@ fn serve_byte(
     rows: bool,
 ) -> State
     requires { ⌜ (length (now line) ≡ keptBytes) × (state .length ≤ keptBytes) ⌝ }
-    ensures { λ r. ⌜ (deskOf (lent (now (nodes .exit)) (now (edges .exit)) (now (faces .exit)) (r .head)) (now (line .exit)) (r .length) ≡ served (deskOf (lent (now (nodes .entry)) (now (edges .entry)) (now (faces .entry)) (state .head)) (now (line .entry)) (state .length)) b) × (r .length ≤ keptBytes) ⌝ }
+    ensures { λ r. ⌜ (deskOf (lent (now (nodes .exit)) (now (edges .exit)) (now (faces .exit)) (r .head))
+        (now (line .exit)) (r .length) ≡ served
+        (deskOf (lent (now (nodes .entry)) (now (edges .entry)) (now (faces .entry)) (state .head)) (now (line .entry))
+        (state .length)) b) × (r .length ≤ keptBytes) ⌝ }
 {
     let n = state.length;
     let head = state.head;
@@ -175,7 +181,10 @@ fn serve_bytes(
     rows: bool,
 ) -> State
     requires { ⌜ (length (now line) ≡ keptBytes) × (state .length ≤ keptBytes) ⌝ }
-    ensures { λ r. ⌜ (deskOf (lent (now (nodes .exit)) (now (edges .exit)) (now (faces .exit)) (r .head)) (now (line .exit)) (r .length) ≡ fold served (deskOf (lent (now (nodes .entry)) (now (edges .entry)) (now (faces .entry)) (state .head)) (now (line .entry)) (state .length)) (now (bytes .entry))) × (r .length ≤ keptBytes) ⌝ }
+    ensures { λ r. ⌜ (deskOf (lent (now (nodes .exit)) (now (edges .exit)) (now (faces .exit)) (r .head))
+        (now (line .exit)) (r .length) ≡ fold served
+        (deskOf (lent (now (nodes .entry)) (now (edges .entry)) (now (faces .entry)) (state .head)) (now (line .entry))
+        (state .length)) (now (bytes .entry))) × (r .length ≤ keptBytes) ⌝ }
 {
     let mut at = state;
     for i in 0..bytes.len() {
@@ -228,7 +237,8 @@ fn no_map() -> Head {
     }
 }
 
-// Standard input to its end, a ticket a line, in tables of 200 rows; each line is answered on standard output as it comes, with `rows` the head and the rows in use after it.
+// Standard input to its end, a ticket a line, in tables of 200 rows; each line is answered on standard output as it
+// comes, with `rows` the head and the rows in use after it.
 pub fn serve(rows: bool) {
     let mut nodes = [0i64; 800];
     let mut edges = [0i64; 6400];

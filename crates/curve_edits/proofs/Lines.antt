@@ -24,15 +24,18 @@ module _ {A : Type 0} (z : A) where
 
   pad-short : (w k : ℕ) (c : List A) → length c + k ≡ w → pad w c ≡ c ++ replicate k z
   pad-short w k c e =
-      ap (λ (n : ℕ). take n (c ++ replicate w z)) (sym e) ∙ take-append-add c (replicate w z) k ∙ ap (λ (l : List A). c ++ l) (take-replicate k w (omega arith))
+      ap (λ (n : ℕ). take n (c ++ replicate w z)) (sym e) ∙ take-append-add c (replicate w z) k
+      ∙ ap (λ (l : List A). c ++ l) (take-replicate k w (omega arith))
 
   pad-long : (w : ℕ) (c d : List A) → w ≤ length c → pad w (c ++ d) ≡ pad w c
   pad-long w c d h = rw (append-assoc, take-append-le w c (d ++ replicate w z) h, take-append-le w c (replicate w z) h)
 
-  pad-set : (w k : ℕ) (c : List A) (x y : A) → length c + suc (suc k) ≡ w → set (set (pad w c) (length c) x) (length c + 1) y ≡ pad w (c ++ x ∷ y ∷ [])
+  pad-set : (w k : ℕ) (c : List A) (x y : A) → length c + suc (suc k) ≡ w
+      → set (set (pad w c) (length c) x) (length c + 1) y ≡ pad w (c ++ x ∷ y ∷ [])
   pad-set w k c x y e =
       ap (λ (l : List A). set (set l (length c) x) (length c + 1) y) (pad-short w (suc (suc k)) c e)
-      ∙ ap (λ (l : List A). set l (length c + 1) y) (set-append-seam c z (z ∷ replicate k z) x ∙ sym (append-assoc c (x ∷ []) (z ∷ replicate k z)))
+      ∙ ap (λ (l : List A). set l (length c + 1) y)
+      (set-append-seam c z (z ∷ replicate k z) x ∙ sym (append-assoc c (x ∷ []) (z ∷ replicate k z)))
       ∙ set-at (c ++ x ∷ []) z (replicate k z) y (length c + 1) (length-append c (x ∷ []))
       ∙ append-assoc c (x ∷ []) (y ∷ replicate k z)
       ∙ sym (append-assoc c (x ∷ y ∷ []) (replicate k z))
@@ -63,22 +66,29 @@ module _ (line : Line) (p : Point) (cells : List ℤ) (ps : List Point) (e : lin
   unfolding lineOf
   filled = ap (λ (l : Line). l .cells) e
 
-  more : cells ≡ pad (pos 0) 24 (coordinates ps ++ pos (p .x) ∷ pos (p .y) ∷ []) → record { count = line .count + 1; cells = cells } ≡ lineOf (ps ++ p ∷ [])
+  more : cells ≡ pad (pos 0) 24 (coordinates ps ++ pos (p .x) ∷ pos (p .y) ∷ [])
+      → record { count = line .count + 1; cells = cells } ≡ lineOf (ps ++ p ∷ [])
   unfolding lineOf
   more f =
       let n : line .count + 1 ≡ length (ps ++ p ∷ []) = omega (arith, counted, length-append ps (p ∷ [])) in
-      let l : cells ≡ pad (pos 0) 24 (coordinates (ps ++ p ∷ [])) = f ∙ ap (pad (pos 0) 24) (sym (coordinates-append ps (p ∷ []))) in
+      let l : cells ≡ pad (pos 0) 24 (coordinates (ps ++ p ∷ [])) = f
+      ∙ ap (pad (pos 0) 24) (sym (coordinates-append ps (p ∷ []))) in
       λ i. record { count = n i; cells = l i }
 
   -- a point that the row has room for
-  pub point-stored : {x y : ℤ} → line .count < 12 → x ≡ pos (p .x) → y ≡ pos (p .y) → cells ≡ set (set (line .cells) (line .count * 2) x) (line .count * 2 + 1) y
+  pub point-stored : {x y : ℤ} → line .count < 12 → x ≡ pos (p .x) → y ≡ pos (p .y) → cells
+      ≡ set (set (line .cells) (line .count * 2) x) (line .count * 2 + 1) y
       → record { count = line .count + 1; cells = cells } ≡ lineOf (ps ++ p ∷ [])
   point-stored h ex ey f =
       let k : line .count * 2 ≡ length (coordinates ps) = omega (arith, counted, length-coordinates ps) in
-      let g : length (coordinates ps) + suc (suc (22 - length (coordinates ps))) ≡ 24 = omega (arith, counted, length-coordinates ps) in
-      more (f ∙ (λ i. set (set (filled i) (k i) (ex i)) (k i + 1) (ey i)) ∙ pad-set (pos 0) 24 (22 - length (coordinates ps)) (coordinates ps) (pos (p .x)) (pos (p .y)) g)
+      let g : length (coordinates ps) + suc (suc (22 - length (coordinates ps))) ≡ 24 =
+      omega (arith, counted, length-coordinates ps) in
+      more (f ∙ (λ i. set (set (filled i) (k i) (ex i)) (k i + 1) (ey i))
+      ∙ pad-set (pos 0) 24 (22 - length (coordinates ps)) (coordinates ps) (pos (p .x)) (pos (p .y)) g)
 
   -- a point beyond the row
-  pub point-counted : 12 ≤ line .count → cells ≡ line .cells → record { count = line .count + 1; cells = cells } ≡ lineOf (ps ++ p ∷ [])
+  pub point-counted : 12 ≤ line .count → cells ≡ line .cells → record { count = line .count + 1; cells = cells }
+      ≡ lineOf (ps ++ p ∷ [])
   point-counted h f =
-      more (f ∙ filled ∙ sym (pad-long (pos 0) 24 (coordinates ps) (pos (p .x) ∷ pos (p .y) ∷ []) (omega (arith, counted, length-coordinates ps))))
+      more (f ∙ filled ∙ sym (pad-long (pos 0) 24 (coordinates ps) (pos (p .x) ∷ pos (p .y) ∷ [])
+      (omega (arith, counted, length-coordinates ps))))

@@ -40,7 +40,8 @@ points-none f from ps = let e : from - from ≡ 0 = omega arith in rw e (append-
 module _ (f : ℕ → Point) where
   -- ---- reversed
 
-  pub turned-table : (k i : ℕ) → lastOf (f i) (table f (i + 1) k) ∷ turned (f i) (table f (i + 1) k) ≡ table (λ j. f (i + k - j)) 0 (suc k)
+  pub turned-table : (k i : ℕ) → lastOf (f i) (table f (i + 1) k) ∷ turned (f i) (table f (i + 1) k)
+      ≡ table (λ j. f (i + k - j)) 0 (suc k)
   turned-table zero i = let e : i ≡ i + 0 - 0 = omega arith in ap (λ n. f n ∷ []) e
   turned-table (suc k) i =
       let e : i + 1 + k ≡ i + suc k = omega arith in
@@ -53,12 +54,14 @@ module _ (f : ℕ → Point) where
   -- ---- joined
 
   pub join-table : (s : List Point) (k i : ℕ)
-      → join (f i) (table f (i + 1) (suc k)) s ≡ table f (i + 1) k ++ joinHere (dropped (f (i + k)) (f (i + k + 1)) s) (f (i + k + 1)) s
+      → join (f i) (table f (i + 1) (suc k)) s ≡ table f (i + 1) k
+      ++ joinHere (dropped (f (i + k)) (f (i + k + 1)) s) (f (i + k + 1)) s
   join-table s zero i = rw (add-zero i)
   join-table s (suc k) i =
       let e : i + 1 + k ≡ i + suc k = omega arith in
       ap (λ l. f (i + 1) ∷ l)
-      (join-table s k (i + 1) ∙ ap (λ n. table f (i + 1 + 1) k ++ joinHere (dropped (f n) (f (n + 1)) s) (f (n + 1)) s) e)
+      (join-table s k (i + 1) ∙ ap (λ n. table f (i + 1 + 1) k
+      ++ joinHere (dropped (f n) (f (n + 1)) s) (f (n + 1)) s) e)
 
   -- ---- cut
 
@@ -68,10 +71,13 @@ module _ (f : ℕ → Point) where
       pub low : i ≤ j
       pub high : j < i + k
       pub front : cut m (f i) (table f (i + 1) k) .front ≡ table f (i + 1) (j - i) ++ m ∷ []
-      pub back-at : samePoint m (f (j + 1)) ≡ true → cut m (f i) (table f (i + 1) k) .back ≡ table f (j + 2) (i + k - (j + 1))
-      pub back-in : samePoint m (f (j + 1)) ≡ false → cut m (f i) (table f (i + 1) k) .back ≡ table f (j + 1) (i + k - j)
+      pub back-at : samePoint m (f (j + 1)) ≡ true → cut m (f i) (table f (i + 1) k) .back
+          ≡ table f (j + 2) (i + k - (j + 1))
+      pub back-in : samePoint m (f (j + 1)) ≡ false → cut m (f i) (table f (i + 1) k) .back
+          ≡ table f (j + 1) (i + k - j)
 
-    at-vertex : (t : Bool) (b : Point) (r : List Point) (h : Halves) → samePoint m b ≡ t → cutHere true t m b r h .front ≡ m ∷ []
+    at-vertex : (t : Bool) (b : Point) (r : List Point) (h : Halves) → samePoint m b ≡ t
+        → cutHere true t m b r h .front ≡ m ∷ []
     at-vertex true b r h e = ap (λ q. q ∷ []) (sym (samePoint-true m b e))
     at-vertex false b r h e = refl
 
@@ -88,7 +94,8 @@ module _ (f : ℕ → Point) where
             record {
               low = omega arith;
               high = omega arith;
-              front = rw (none, q) (at-vertex (samePoint m (f (i + 1))) (f (i + 1)) (table f (i + 1 + 1) k) (cut m (f (i + 1)) (table f (i + 1 + 1) k)) refl);
+              front = rw (none, q) (at-vertex (samePoint m (f (i + 1))) (f (i + 1)) (table f (i + 1 + 1) k)
+                  (cut m (f (i + 1)) (table f (i + 1 + 1) k)) refl);
               back-at = λ t. rw (q, t, left, two);
               back-in = λ t. rw (q, t, left′);
             }
@@ -106,7 +113,8 @@ module _ (f : ℕ → Point) where
             }
 
         pick : (onSegment m (f i) (f (i + 1)) ≡ true) ⊎ (onSegment m (f i) (f (i + 1)) ≡ false)
-            → (place (on m) (i + 1) (segmentsOf (f (i + 1)) (table f (i + 1 + 1) k)) ≡ At j → Found-at (i + 1) k j) → Found-at i (suc k) j
+            → (place (on m) (i + 1) (segmentsOf (f (i + 1)) (table f (i + 1 + 1) k)) ≡ At j → Found-at (i + 1) k j)
+            → Found-at i (suc k) j
         pick (inl q) rest =
             let g : At i ≡ At j = rw q at e in
             let h : i ≡ j = cc in
@@ -120,10 +128,12 @@ module _ (f : ℕ → Point) where
     cut-missing (suc k) i e = pick (which (onSegment m (f i) (f (i + 1)))) (λ q. cut-missing k (i + 1) q)
       where
         pick : (onSegment m (f i) (f (i + 1)) ≡ true) ⊎ (onSegment m (f i) (f (i + 1)) ≡ false)
-            → (place (on m) (i + 1) (segmentsOf (f (i + 1)) (table f (i + 1 + 1) k)) ≡ Missing → cut m (f (i + 1)) (table f (i + 1 + 1) k) ≡ record { front = table f (i + 1 + 1) k; back = [] })
+            → (place (on m) (i + 1) (segmentsOf (f (i + 1)) (table f (i + 1 + 1) k)) ≡ Missing
+            → cut m (f (i + 1)) (table f (i + 1 + 1) k) ≡ record { front = table f (i + 1 + 1) k; back = [] })
             → cut m (f i) (table f (i + 1) (suc k)) ≡ record { front = table f (i + 1) (suc k); back = [] }
         pick (inl q) rest =
             let g : At i ≡ Missing = rw q at e in
             let z : _≡_ {A = ℕ} 0 1 = cc in
             absurd (omega arith)
-        pick (inr q) rest = rw q (ap (λ (h : Halves). record { front = f (i + 1) ∷ h .front; back = h .back }) (rest (rw q at e)))
+        pick (inr q) rest = rw q (ap (λ (h : Halves). record { front = f (i + 1) ∷ h .front; back = h .back })
+            (rest (rw q at e)))

@@ -1,5 +1,6 @@
--- A line as the functions hand it on: the number of its points and the 24 numbers of an edge row, the unused ones 0. A line of more than 12 points,
--- which only a join gives, keeps its first 12 and the true number: the caller's refusal 18.
+-- A line as the functions hand it on: the number of its points and the 24 numbers of an edge row, the unused ones 0. A
+-- line of more than 12 points, which only a join gives, keeps its first 12 and the true number: the caller's refusal
+-- 18.
 use mathlib.Core.List.{List, _++_}
 use Prim.Native.Nat.{_*_}
 use lib.IntN.{pos}

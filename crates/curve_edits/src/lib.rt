@@ -14,7 +14,7 @@ ghost use Rattle.curve_edits.specs.Lines.{lineOf};
 // The points of a curve as the 24 numbers of an edge row, and their number.
 pub struct Line {
     pub count: usize,
-    pub cells: [i64; 24],
+    pub cells: [i64; curves::CELLS],
 }
 
 impl Line {
@@ -24,7 +24,7 @@ impl Line {
     {
         Line {
             count: 0,
-            cells: [0i64; 24],
+            cells: [0i64; curves::CELLS],
         }
     }
 }
@@ -36,7 +36,7 @@ fn with_point(line: Line, p: Point) -> Line
 {
     let n = line.count;
     let mut cells = line.cells;
-    if n < 12 {
+    if n < curves::POINTS {
         let j = n * 2;
         cells[j] = p.x as i64;
         cells[j + 1] = p.y as i64;
@@ -50,7 +50,8 @@ fn with_point(line: Line, p: Point) -> Line
 // The line with the points from `from` on, up to and without `to`, of the curve c.
 fn with_points(line: Line, c: &[i64], from: usize, to: usize) -> Line
     requires { ⌜ Run (now c) × (from ≤ to) × (to ≤ length (now c) / 2) × (line .count < 100) ⌝ }
-    ensures { λ r. ⌜ ((ps : List _) → line ≡ lineOf ps → r ≡ lineOf (ps ++ table (pointAt (now (c .entry))) from (to - from))) × (r .count ≡ line .count + (to - from)) ⌝ }
+    ensures { λ r. ⌜ ((ps : List _) → line ≡ lineOf ps → r
+        ≡ lineOf (ps ++ table (pointAt (now (c .entry))) from (to - from))) × (r .count ≡ line .count + (to - from)) ⌝ }
 {
     let mut out = line;
     for i in from..to {
@@ -97,7 +98,8 @@ pub fn back_of(c: &[i64], m: Point) -> Line
     }
 }
 
-// The curve c and after it d, which starts where c ends; the joint is dropped when it lies straight between its neighbours.
+// The curve c and after it d, which starts where c ends; the joint is dropped when it lies straight between its
+// neighbours.
 pub fn joined_of(c: &[i64], d: &[i64]) -> Line
     requires { ⌜ Run (now c) × Run (now d) ⌝ }
     ensures { λ r. ⌜ r ≡ lineOf (points (joined (curveOf (now (c .entry))) (curveOf (now (d .entry))))) ⌝ }

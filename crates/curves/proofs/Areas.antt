@@ -28,17 +28,22 @@ unfolding curveArea
 area-start {l} run = rw (curve-is run) (add-zero-left (areaFrom l 0))
 
 -- one segment more
-one-more : (p m : ℕ) (a b : Point) (r : ℤ) → pos p -ℤ pos m +ℤ (area origin a b +ℤ r) ≡ pos (p + a .x * b .y) -ℤ pos (m + a .y * b .x) +ℤ r
+one-more : (p m : ℕ) (a b : Point) (r : ℤ) → pos p -ℤ pos m +ℤ (area origin a b +ℤ r)
+    ≡ pos (p + a .x * b .y) -ℤ pos (m + a .y * b .x) +ℤ r
 unfolding area
 one-more p m a b r =
     solve 7 (λ p m x y u v r.
-    p ⊖ m ⊕ ((x ⊖ con (pos 0)) ⊗ (v ⊖ con (pos 0)) ⊖ (y ⊖ con (pos 0)) ⊗ (u ⊖ con (pos 0)) ⊕ r) ≐ (p ⊕ x ⊗ v) ⊖ (m ⊕ y ⊗ u) ⊕ r) tt
+    p ⊖ m ⊕ ((x ⊖ con (pos 0)) ⊗ (v ⊖ con (pos 0)) ⊖ (y ⊖ con (pos 0)) ⊗ (u ⊖ con (pos 0)) ⊕ r) ≐ (p ⊕ x ⊗ v) ⊖
+    (m ⊕ y ⊗ u) ⊕ r) tt
     (pos p) (pos m) (pos (a .x)) (pos (a .y)) (pos (b .x)) (pos (b .y)) r
 
-pub area-step : (l : List ℤ) (i p m u v : ℕ) {n : ℕ} {a b : Point} → n + 1 ≡ length l / 2 → i < n → a ≡ pointAt l i → b ≡ pointAt l (i + 1) → u ≡ a .x * b .y → v ≡ a .y * b .x
+pub area-step : (l : List ℤ) (i p m u v : ℕ) {n : ℕ} {a b : Point} → n + 1 ≡ length l / 2 → i < n → a ≡ pointAt l i → b
+    ≡ pointAt l (i + 1) → u ≡ a .x * b .y → v ≡ a .y * b .x
     → pos p -ℤ pos m +ℤ areaFrom l i ≡ pos (p + u) -ℤ pos (m + v) +ℤ areaFrom l (i + 1)
 area-step l i p m u v all taken ea eb eu ev =
-    rw (segments-step l i all taken, eu, ev, ea, eb) (one-more p m (pointAt l i) (pointAt l (i + 1)) (areaFrom l (i + 1)))
+    rw (segments-step l i all taken, eu, ev, ea, eb)
+    (one-more p m (pointAt l i) (pointAt l (i + 1)) (areaFrom l (i + 1)))
 
-pub area-end : (l : List ℤ) (i : ℕ) (p m : ℕ) {n : ℕ} → n + 1 ≡ length l / 2 → n ≤ i → pos p -ℤ pos m +ℤ areaFrom l i ≡ pos p -ℤ pos m
+pub area-end : (l : List ℤ) (i : ℕ) (p m : ℕ) {n : ℕ} → n + 1 ≡ length l / 2 → n ≤ i → pos p -ℤ pos m +ℤ areaFrom l i
+    ≡ pos p -ℤ pos m
 area-end l i p m all left = rw (segments-end l i all left) (add-zero-right (pos p -ℤ pos m))

@@ -16,12 +16,13 @@ use mir.Val.{ofZ, toZ, SFits, Fits}
 use mir.Facts.{toZ-ofZ, fits-of-lt}
 use borrow.Author.Needs.{sfits-of}
 use borrow.Author.Tests.{leb-true, ltb-true, ltb-false, le-leb, lt-leb, le-ltb}
-use Rattle.lists.specs.Scans.{all}
+use Rattle.lists.specs.Scans.{allOf}
 use Rattle.lists.specs.Tables.{table}
 use Rattle.lists.proofs.Bools.{&&-false}
 pub use Rattle.lists.proofs.Bools.{and-left, and-right}
 use Rattle.plane.specs.Points.{maxCoordinate, InRange}
-use Rattle.curves.specs.Curves.{Run, isRun, maxPoints, coordinate, pointAt, pointsFrom, pointsOf, curveOf, lastOf, through}
+use Rattle.curves.specs.Curves.{Run, isRun, maxPoints, coordinate, pointAt, pointsFrom, pointsOf, curveOf, lastOf}
+use Rattle.curves.specs.Curves.{through}
 
 -- ---- tables
 
@@ -31,13 +32,14 @@ module _ {A : Type 0} where
   table-shift f g h a (suc n) =
       ap (λ (r : A). r ∷ table f (a + 1 + 1) n) (h a) ∙ ap (λ (l : List A). g a ∷ l) (table-shift f g h (a + 1) n)
 
-  pub all-drop : (p : A → Bool) (l : List A) (i : ℕ) (d : A) → i < length l → all p (drop i l) ≡ p (getD l i d) && all p (drop (i + 1) l)
+  pub all-drop : (p : A → Bool) (l : List A) (i : ℕ) (d : A) → i < length l → allOf p (drop i l) ≡ p (getD l i d)
+      && allOf p (drop (i + 1) l)
   all-drop p l i d h = rw (drop-cons l i d h, add-one i)
 
-  pub all-getD : (p : A → Bool) (l : List A) (i : ℕ) (d : A) → p d ≡ true → all p l ≡ true → p (getD l i d) ≡ true
+  pub all-getD : (p : A → Bool) (l : List A) (i : ℕ) (d : A) → p d ≡ true → allOf p l ≡ true → p (getD l i d) ≡ true
   all-getD p [] i d h e = h
-  all-getD p (r ∷ l) zero d h e = and-left (p r) (all p l) e
-  all-getD p (r ∷ l) (suc i) d h e = all-getD p l i d h (and-right (p r) (all p l) e)
+  all-getD p (r ∷ l) zero d h e = and-left (p r) (allOf p l) e
+  all-getD p (r ∷ l) (suc i) d h e = all-getD p l i d h (and-right (p r) (allOf p l) e)
 
 -- ---- coordinates
 
@@ -64,21 +66,25 @@ coordinate-nonneg (negsuc n) e = absurd (false≢true e)
 pub coordinate-read : (z : ℤ) → coordinate z ≡ true → toZ w64 (ofZ w64 z) ≡ z
 coordinate-read z e = toZ-ofZ {w = w64} (coordinate-fits z e)
 
-pub coordinate-cast : (z : ℤ) → coordinate z ≡ true → T (nonNeg (toZ w64 (ofZ w64 z))) × Fits w64 (natAbs (toZ w64 (ofZ w64 z)))
-coordinate-cast z e = rw (coordinate-read z e) (coordinate-nonneg z e, fits-of-lt (lt-of-le-of-lt (coordinate-le z e) (lit< tt)))
+pub coordinate-cast : (z : ℤ) → coordinate z ≡ true → T (nonNeg (toZ w64 (ofZ w64 z)))
+    × Fits w64 (natAbs (toZ w64 (ofZ w64 z)))
+coordinate-cast z e = rw (coordinate-read z e)
+    (coordinate-nonneg z e, fits-of-lt (lt-of-le-of-lt (coordinate-le z e) (lit< tt)))
 
 -- ---- what a run is
 
 module _ {l : List ℤ} (run : Run l) where
   pub two-points : 2 ≤ length l / 2
   unfolding isRun
-  two-points = leb-true 2 (length l / 2) (and-left _ (leb (length l / 2) maxPoints) (and-left _ (all coordinate l) (run .is)))
+  two-points = leb-true 2 (length l / 2)
+      (and-left _ (leb (length l / 2) maxPoints) (and-left _ (allOf coordinate l) (run .is)))
 
   pub few-points : length l / 2 ≤ maxPoints
   unfolding isRun
-  few-points = leb-true (length l / 2) maxPoints (and-right (leb 2 (length l / 2)) _ (and-left _ (all coordinate l) (run .is)))
+  few-points = leb-true (length l / 2) maxPoints
+      (and-right (leb 2 (length l / 2)) _ (and-left _ (allOf coordinate l) (run .is)))
 
-  cells : all coordinate l ≡ true
+  cells : allOf coordinate l ≡ true
   unfolding isRun
   cells = and-right (leb 2 (length l / 2) && leb (length l / 2) maxPoints) _ (run .is)
 
@@ -90,7 +96,8 @@ module _ {l : List ℤ} (run : Run l) where
   pub cell-read : (i : ℕ) → toZ w64 (ofZ w64 (getD l i (pos 0))) ≡ getD l i (pos 0)
   cell-read i = coordinate-read (getD l i (pos 0)) (all-getD coordinate l i (pos 0) refl cells)
 
-  pub cell-cast : (i : ℕ) → T (nonNeg (toZ w64 (ofZ w64 (getD l i (pos 0))))) × Fits w64 (natAbs (toZ w64 (ofZ w64 (getD l i (pos 0)))))
+  pub cell-cast : (i : ℕ) → T (nonNeg (toZ w64 (ofZ w64 (getD l i (pos 0)))))
+      × Fits w64 (natAbs (toZ w64 (ofZ w64 (getD l i (pos 0)))))
   cell-cast i = coordinate-cast (getD l i (pos 0)) (all-getD coordinate l i (pos 0) refl cells)
 
   pub point-in : (i : ℕ) → InRange (pointAt l i)
@@ -108,7 +115,8 @@ few-tested n = go (ltb n 2) refl (ltb maxPoints n) refl
     go false e false f = rw (le-leb 2 n (ltb-false n 2 e), le-leb n maxPoints (ltb-false maxPoints n f))
 
 -- a number, tested
-pub coordinate-tested : {z : ℤ} → SFits w64 z → coordinate z ≡ not (ltZ (toZ w64 (ofZ w64 z)) (pos 0) || ltZ (pos maxCoordinate) (toZ w64 (ofZ w64 z)))
+pub coordinate-tested : {z : ℤ} → SFits w64 z → coordinate z
+    ≡ not (ltZ (toZ w64 (ofZ w64 z)) (pos 0) || ltZ (pos maxCoordinate) (toZ w64 (ofZ w64 z)))
 coordinate-tested {z} f = rw (toZ-ofZ f) (go z)
   where
     go : (z : ℤ) → coordinate z ≡ not (ltZ z (pos 0) || ltZ (pos maxCoordinate) z)
@@ -123,7 +131,7 @@ pub not-few : (l : List ℤ) → ltb (length l / 2) 2 || ltb maxPoints (length l
 unfolding isRun
 not-few l e = rw (few-tested (length l / 2), e)
 
-pub if-few : (l : List ℤ) → ltb (length l / 2) 2 || ltb maxPoints (length l / 2) ≡ false → isRun l ≡ all coordinate l
+pub if-few : (l : List ℤ) → ltb (length l / 2) 2 || ltb maxPoints (length l / 2) ≡ false → isRun l ≡ allOf coordinate l
 unfolding isRun
 if-few l e = rw (few-tested (length l / 2), e)
 
@@ -132,7 +140,11 @@ if-few l e = rw (few-tested (length l / 2), e)
 pub points-table : (l : List ℤ) → pointsOf l ≡ table (pointAt l) 0 (length l / 2)
 points-table [] = refl
 points-table (x ∷ []) = refl
-points-table (x ∷ y ∷ r) = rw (half, table-shift (pointAt (x ∷ y ∷ r)) (pointAt r) next 0 (length r / 2), points-table r)
+points-table (x ∷ y ∷ r) = rw (
+  half,
+  table-shift (pointAt (x ∷ y ∷ r)) (pointAt r) next 0 (length r / 2),
+  points-table r,
+)
   where
     half : suc (suc (length r)) / 2 ≡ suc (length r / 2)
     half = omega arith
@@ -161,7 +173,8 @@ curve-is {l} run =
     ap through (points-table l ∙ ap (table (pointAt l) 0) e)
 
 -- the last point
-pub last-from : (l : List ℤ) (k i : ℕ) → i + k + 1 ≡ length l / 2 → lastOf (pointAt l i) (pointsFrom l (i + 1)) ≡ pointAt l (i + k)
+pub last-from : (l : List ℤ) (k i : ℕ) → i + k + 1 ≡ length l / 2 → lastOf (pointAt l i) (pointsFrom l (i + 1))
+    ≡ pointAt l (i + k)
 last-from l zero i h = rw (from-end l (i + 1) (omega arith), add-zero i)
 last-from l (suc k) i h =
     let e : i + 1 + k ≡ i + suc k = omega arith in

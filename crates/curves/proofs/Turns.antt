@@ -1,5 +1,5 @@
--- The tests of curves over the points of a run that are left from point i on: a turn of the loop is `-hit` or `-miss`, and the loop's end is `-end`.
--- Assumes nothing.
+-- The tests of curves over the points of a run that are left from point i on: a turn of the loop is `-hit` or `-miss`,
+-- and the loop's end is `-end`. Assumes nothing.
 use mathlib.Core.Path.{_≡_, refl, sym, ap, ap₂, _∙_}
 use mathlib.Core.Bool.{Bool, true, false, not, _&&_, _||_, Bool·beq}
 use mathlib.Core.List.{List, [], _∷_}
@@ -10,7 +10,7 @@ use lib.IntN.{ℤ}
 use lib.ListN.{length}
 use borrow.Author.Tests.{eqb-true, eqb-false}
 use Rattle.lists.specs.Tests.{_⊕_}
-use Rattle.lists.specs.Scans.{sum}
+use Rattle.lists.specs.Scans.{oddCount}
 use Rattle.lists.specs.Tables.{place}
 use Rattle.lists.specs.declared.Found.the-variants.{At}
 use Rattle.lists.proofs.Bools.{eq1, eq3, ⊕-false}
@@ -19,14 +19,16 @@ use Rattle.plane.specs.Points.{samePoint}
 use Rattle.plane.specs.Segments.{onSegment, straightBetween}
 use Rattle.plane.specs.Below.{Segment, passesBelow}
 use Rattle.curves.specs.Curves.{Run, pointAt, pointsFrom, segmentsOf, curveOf}
-use Rattle.curves.specs.Tests.{differs, straightIn, shares, segWrong, mayShare, commonEnds, segCurve, curveCurve, lastly, free, after, arc, simple, isSimple}
+use Rattle.curves.specs.Tests.{differs, straightIn, shares, segWrong, mayShare, commonEnds, segCurve, curveCurve}
+use Rattle.curves.specs.Tests.{lastly, free, after, arc, simple, isSimple}
 use Rattle.curves.proofs.Runs.{two-points, from-step, from-end, curve-is, last-is}
 
 -- what a test of two points answered, of the points that they are
 pub asked : (t : Point → Point → Bool) {p q a b : Point} {r v : Bool} → p ≡ a → q ≡ b → r ≡ t p q → r ≡ v → t a b ≡ v
 asked t e f g h = sym (ap₂ t e f) ∙ sym g ∙ h
 
-pub asked₃ : (t : Point → Point → Point → Bool) {p q s a b c : Point} {r v : Bool} → p ≡ a → q ≡ b → s ≡ c → r ≡ t p q s → r ≡ v → t a b c ≡ v
+pub asked₃ : (t : Point → Point → Point → Bool) {p q s a b c : Point} {r v : Bool} → p ≡ a → q ≡ b → s ≡ c → r
+    ≡ t p q s → r ≡ v → t a b c ≡ v
 asked₃ t e f k g h = sym (λ i. t (e i) (f i) (k i)) ∙ sym g ∙ h
 
 -- p lies on the segment
@@ -42,7 +44,8 @@ module _ (l : List ℤ) (i : ℕ) {n : ℕ} (all : n + 1 ≡ length l / 2) (take
   within : i + 1 < length l / 2
   within = omega arith
 
-  pub differs-hit : samePoint (pointAt l i) (pointAt l (i + 1)) ≡ true → differs (pointAt l i) (pointsFrom l (i + 1)) ≡ false
+  pub differs-hit : samePoint (pointAt l i) (pointAt l (i + 1)) ≡ true → differs (pointAt l i) (pointsFrom l (i + 1))
+      ≡ false
   differs-hit e = rw (from-step l (i + 1) within, e)
 
   pub differs-miss : samePoint (pointAt l i) (pointAt l (i + 1)) ≡ false
@@ -61,11 +64,13 @@ module _ (l : List ℤ) (i : ℕ) {n : ℕ} (all : n + 1 ≡ length l / 2) (take
     place-miss e = rw (segments-step, e)
 
   module _ (k : List Point) (a b : Point) where
-    pub segCurve-hit : segWrong k a b (pointAt l i) (pointAt l (i + 1)) ≡ true → segCurve k a b (pointAt l i) (pointsFrom l (i + 1)) ≡ true
+    pub segCurve-hit : segWrong k a b (pointAt l i) (pointAt l (i + 1)) ≡ true
+        → segCurve k a b (pointAt l i) (pointsFrom l (i + 1)) ≡ true
     segCurve-hit e = rw (from-step l (i + 1) within, e)
 
     pub segCurve-miss : segWrong k a b (pointAt l i) (pointAt l (i + 1)) ≡ false
-        → segCurve k a b (pointAt l i) (pointsFrom l (i + 1)) ≡ segCurve k a b (pointAt l (i + 1)) (pointsFrom l (i + 1 + 1))
+        → segCurve k a b (pointAt l i) (pointsFrom l (i + 1))
+        ≡ segCurve k a b (pointAt l (i + 1)) (pointsFrom l (i + 1 + 1))
     segCurve-miss e = rw (from-step l (i + 1) within, e)
 
     pub free-hit : segWrong (lastly k (pointsFrom l (i + 1 + 1))) a b (pointAt l i) (pointAt l (i + 1)) ≡ true
@@ -77,14 +82,17 @@ module _ (l : List ℤ) (i : ℕ) {n : ℕ} (all : n + 1 ≡ length l / 2) (take
     free-miss e = rw (from-step l (i + 1) within, e)
 
   module _ (k : List Point) (c : Point) (s : List Point) where
-    pub curves-hit : segCurve k (pointAt l i) (pointAt l (i + 1)) c s ≡ true → curveCurve k (pointAt l i) (pointsFrom l (i + 1)) c s ≡ true
+    pub curves-hit : segCurve k (pointAt l i) (pointAt l (i + 1)) c s ≡ true
+        → curveCurve k (pointAt l i) (pointsFrom l (i + 1)) c s ≡ true
     curves-hit e = rw (from-step l (i + 1) within, e)
 
     pub curves-miss : segCurve k (pointAt l i) (pointAt l (i + 1)) c s ≡ false
-        → curveCurve k (pointAt l i) (pointsFrom l (i + 1)) c s ≡ curveCurve k (pointAt l (i + 1)) (pointsFrom l (i + 1 + 1)) c s
+        → curveCurve k (pointAt l i) (pointsFrom l (i + 1)) c s
+        ≡ curveCurve k (pointAt l (i + 1)) (pointsFrom l (i + 1 + 1)) c s
     curves-miss e = rw (from-step l (i + 1) within, e)
 
-  pub arc-hit : after [] (pointAt l i) (pointAt l (i + 1)) (pointsFrom l (i + 2)) ≡ false → arc (pointAt l i) (pointsFrom l (i + 1)) ≡ false
+  pub arc-hit : after [] (pointAt l i) (pointAt l (i + 1)) (pointsFrom l (i + 2)) ≡ false
+      → arc (pointAt l i) (pointsFrom l (i + 1)) ≡ false
   arc-hit e = let f : i + 1 + 1 ≡ i + 2 = omega arith in rw (from-step l (i + 1) within, f, e)
 
   pub arc-miss : after [] (pointAt l i) (pointAt l (i + 1)) (pointsFrom l (i + 2)) ≡ true
@@ -93,19 +101,22 @@ module _ (l : List ℤ) (i : ℕ) {n : ℕ} (all : n + 1 ≡ length l / 2) (take
 
   -- one segment more that may pass below p
   pub odd-again : (p : Point) (o r : Bool) {a b : Point} {t : Bool} → a ≡ pointAt l i → b ≡ pointAt l (i + 1)
-      → r ≡ passesBelow p (record { from = a; to = b }) → o ⊕ sum (segmentsFrom l i) (passesBelow p) ≡ t
-      → not (Bool·beq o r) ⊕ sum (segmentsFrom l (i + 1)) (passesBelow p) ≡ t
+      → r ≡ passesBelow p (record { from = a; to = b }) → o ⊕ oddCount (segmentsFrom l i) (passesBelow p) ≡ t
+      → not (Bool·beq o r) ⊕ oddCount (segmentsFrom l (i + 1)) (passesBelow p) ≡ t
   odd-again p o r ea eb e inv =
-      rw (e, ea, eb) (eq3 (λ a b c. not (Bool·beq a b) ⊕ c) (λ a b c. a ⊕ (b ⊕ c)) tt o _ (sum (segmentsFrom l (i + 1)) (passesBelow p)) ∙ rw segments-step at inv)
+      rw (e, ea, eb) (eq3 (λ a b c. not (Bool·beq a b) ⊕ c) (λ a b c. a ⊕ (b ⊕ c)) tt o _
+      (oddCount (segmentsFrom l (i + 1)) (passesBelow p)) ∙ rw segments-step at inv)
 
 module _ (l : List ℤ) (i : ℕ) (n : ℕ) (all : n + 1 ≡ length l / 2) (taken : i < n - 1) where
   straight-step : straightIn (pointAt l i) (pointsFrom l (i + 1))
-      ≡ straightBetween (pointAt l i) (pointAt l (i + 1)) (pointAt l (i + 2)) || straightIn (pointAt l (i + 1)) (pointsFrom l (i + 1 + 1))
+      ≡ straightBetween (pointAt l i) (pointAt l (i + 1)) (pointAt l (i + 2))
+      || straightIn (pointAt l (i + 1)) (pointsFrom l (i + 1 + 1))
   straight-step =
       let f : i + 2 ≡ i + 1 + 1 = omega arith in
       rw (f, from-step l (i + 1) (omega arith), from-step l (i + 1 + 1) (omega arith))
 
-  pub straight-hit : straightBetween (pointAt l i) (pointAt l (i + 1)) (pointAt l (i + 2)) ≡ true → straightIn (pointAt l i) (pointsFrom l (i + 1)) ≡ true
+  pub straight-hit : straightBetween (pointAt l i) (pointAt l (i + 1)) (pointAt l (i + 2)) ≡ true
+      → straightIn (pointAt l i) (pointsFrom l (i + 1)) ≡ true
   straight-hit e = rw (straight-step, e)
 
   pub straight-miss : straightBetween (pointAt l i) (pointAt l (i + 1)) (pointAt l (i + 2)) ≡ false
@@ -123,13 +134,14 @@ module _ (l : List ℤ) (i : ℕ) {n : ℕ} (all : n + 1 ≡ length l / 2) (left
   pub segments-end : segmentsFrom l i ≡ []
   segments-end = rw (from-end l (i + 1) past)
 
-  pub odd-end : (p : Point) (o : Bool) → o ⊕ sum (segmentsFrom l i) (passesBelow p) ≡ o
+  pub odd-end : (p : Point) (o : Bool) → o ⊕ oddCount (segmentsFrom l i) (passesBelow p) ≡ o
   odd-end p o = rw segments-end (⊕-false o)
 
   pub segCurve-end : (k : List Point) (a b : Point) → segCurve k a b (pointAt l i) (pointsFrom l (i + 1)) ≡ false
   segCurve-end k a b = rw (from-end l (i + 1) past)
 
-  pub curves-end : (k : List Point) (c : Point) (s : List Point) → curveCurve k (pointAt l i) (pointsFrom l (i + 1)) c s ≡ false
+  pub curves-end : (k : List Point) (c : Point) (s : List Point)
+      → curveCurve k (pointAt l i) (pointsFrom l (i + 1)) c s ≡ false
   curves-end k c s = rw (from-end l (i + 1) past)
 
   pub free-end : (k : List Point) (a b : Point) → free k a b (pointAt l i) (pointsFrom l (i + 1)) ≡ true
@@ -138,20 +150,24 @@ module _ (l : List ℤ) (i : ℕ) {n : ℕ} (all : n + 1 ≡ length l / 2) (left
   pub arc-end : arc (pointAt l i) (pointsFrom l (i + 1)) ≡ true
   arc-end = rw (from-end l (i + 1) past)
 
-pub straight-end : (l : List ℤ) (i n : ℕ) → n + 1 ≡ length l / 2 → 1 ≤ n → n - 1 ≤ i → i ≤ n - 1 → straightIn (pointAt l i) (pointsFrom l (i + 1)) ≡ false
+pub straight-end : (l : List ℤ) (i n : ℕ) → n + 1 ≡ length l / 2 → 1 ≤ n → n - 1 ≤ i → i ≤ n - 1
+    → straightIn (pointAt l i) (pointsFrom l (i + 1)) ≡ false
 straight-end l i n all one left in-it = rw (from-step l (i + 1) (omega arith), from-end l (i + 1 + 1) (omega arith))
 
 -- the ends of one run that are ends of the other
-pub common-ends-are : {l k : List ℤ} (n m : ℕ) {a z b y : Point} {s t u v : Bool} → Run l → Run k → n + 1 ≡ length l / 2 → m + 1 ≡ length k / 2
+pub common-ends-are : {l k : List ℤ} (n m : ℕ) {a z b y : Point} {s t u v : Bool} → Run l → Run k → n + 1
+    ≡ length l / 2 → m + 1 ≡ length k / 2
     → a ≡ pointAt l 0 → z ≡ pointAt l n → b ≡ pointAt k 0 → y ≡ pointAt k m
     → s ≡ samePoint a b → t ≡ samePoint a y → u ≡ samePoint z b → v ≡ samePoint z y
-    → mayShare (s || t) a (mayShare (u || v) z []) ≡ commonEnds (curveOf l .first) (curveOf l .rest) (curveOf k .first) (curveOf k .rest)
+    → mayShare (s || t) a (mayShare (u || v) z [])
+    ≡ commonEnds (curveOf l .first) (curveOf l .rest) (curveOf k .first) (curveOf k .rest)
 common-ends-are {l} {k} n m run run′ en em ea ez eb ey es et eu ev =
     rw (curve-is run, curve-is run′, last-is l n en, last-is k m em, es, et, eu, ev, ea, ez, eb, ey)
 
 -- the first segment of a run, and the others
 pub simple-is : {l : List ℤ} (n : ℕ) → Run l → n + 1 ≡ length l / 2
-    → isSimple (curveOf l) ≡ after (mayShare (samePoint (pointAt l n) (pointAt l 0)) (pointAt l 0) []) (pointAt l 0) (pointAt l 1) (pointsFrom l 2) && arc (pointAt l 1) (pointsFrom l 2)
+    → isSimple (curveOf l) ≡ after (mayShare (samePoint (pointAt l n) (pointAt l 0)) (pointAt l 0) []) (pointAt l 0)
+    (pointAt l 1) (pointsFrom l 2) && arc (pointAt l 1) (pointsFrom l 2)
 unfolding simple
 simple-is {l} n run e =
     let f = from-step l 1 (two-points run) in
@@ -159,8 +175,10 @@ simple-is {l} n run e =
 
 -- the points that two segments may share, of which at most two are given
 pub shares-is : (m n : Bool) (p q a b c d : Point)
-    → shares (mayShare m p (mayShare n q [])) a b c d ≡ (m && (onSegment p a b && onSegment p c d)) || (n && (onSegment q a b && onSegment q c d))
-shares-is true true p q a b c d = ap (λ (t : Bool). onSegment p a b && onSegment p c d || t) (eq1 (λ t. t || false) (λ t. t) tt (onSegment q a b && onSegment q c d))
+    → shares (mayShare m p (mayShare n q [])) a b c d ≡ (m && (onSegment p a b && onSegment p c d))
+    || (n && (onSegment q a b && onSegment q c d))
+shares-is true true p q a b c d = ap (λ (t : Bool). onSegment p a b && onSegment p c d || t)
+    (eq1 (λ t. t || false) (λ t. t) tt (onSegment q a b && onSegment q c d))
 shares-is true false p q a b c d = refl
 shares-is false true p q a b c d = eq1 (λ t. t || false) (λ t. t) tt (onSegment q a b && onSegment q c d)
 shares-is false false p q a b c d = refl
@@ -185,16 +203,19 @@ share-last l m p i n e h = go (eqb (i + 1) n) refl
         none false = refl
 
 -- what the test of segment i answered
-pub free-told : (l : List ℤ) (i n : ℕ) (m : Bool) (p a b : Point) {q r : Point} {t v : Bool} → n + 1 ≡ length l / 2 → i < n → q ≡ pointAt l i → r ≡ pointAt l (i + 1)
+pub free-told : (l : List ℤ) (i n : ℕ) (m : Bool) (p a b : Point) {q r : Point} {t v : Bool} → n + 1 ≡ length l / 2
+    → i < n → q ≡ pointAt l i → r ≡ pointAt l (i + 1)
     → t ≡ segWrong (mayShare (m && eqb (i + 1) n) p []) a b q r → t ≡ v
     → segWrong (lastly (mayShare m p []) (pointsFrom l (i + 1 + 1))) a b (pointAt l i) (pointAt l (i + 1)) ≡ v
 free-told l i n m p a b all taken eq er et ev =
-    sym (ap (λ (k : List Point). segWrong k a b (pointAt l i) (pointAt l (i + 1))) (share-last l m p i n all (omega arith)))
+    sym (ap (λ (k : List Point). segWrong k a b (pointAt l i) (pointAt l (i + 1)))
+    (share-last l m p i n all (omega arith)))
     ∙ asked (segWrong (mayShare (m && eqb (i + 1) n) p []) a b) eq er et ev
 
 -- segment i has a next one
 module _ (l : List ℤ) (i : ℕ) (h : i + 2 < length l / 2) (k : List Point) (a b : Point) where
-  after-step : after k a b (pointsFrom l (i + 2)) ≡ not (segWrong (b ∷ []) a b b (pointAt l (i + 2))) && free k a b (pointAt l (i + 2)) (pointsFrom l (i + 3))
+  after-step : after k a b (pointsFrom l (i + 2)) ≡ not (segWrong (b ∷ []) a b b (pointAt l (i + 2)))
+      && free k a b (pointAt l (i + 2)) (pointsFrom l (i + 3))
   after-step = let e : i + 2 + 1 ≡ i + 3 = omega arith in rw (from-step l (i + 2) h, e)
 
   pub after-hit : segWrong (b ∷ []) a b b (pointAt l (i + 2)) ≡ true → after k a b (pointsFrom l (i + 2)) ≡ false
@@ -204,14 +225,17 @@ module _ (l : List ℤ) (i : ℕ) (h : i + 2 < length l / 2) (k : List Point) (a
       → after k a b (pointsFrom l (i + 2)) ≡ free k a b (pointAt l (i + 2)) (pointsFrom l (i + 3))
   after-miss e = rw (after-step, e)
 
-pub after-end : (l : List ℤ) (i : ℕ) (k : List Point) (a b : Point) → length l / 2 ≤ i + 2 → after k a b (pointsFrom l (i + 2)) ≡ true
+pub after-end : (l : List ℤ) (i : ℕ) (k : List Point) (a b : Point) → length l / 2 ≤ i + 2
+    → after k a b (pointsFrom l (i + 2)) ≡ true
 after-end l i k a b h = rw (from-end l (i + 2) h)
 
 -- what the test of the first segment answered
-pub first-told : {l : List ℤ} (n : ℕ) {p q : Point} {m t v : Bool} → Run l → n + 1 ≡ length l / 2 → p ≡ pointAt l n → q ≡ pointAt l 0 → m ≡ samePoint p q
+pub first-told : {l : List ℤ} (n : ℕ) {p q : Point} {m t v : Bool} → Run l → n + 1 ≡ length l / 2 → p ≡ pointAt l n → q
+    ≡ pointAt l 0 → m ≡ samePoint p q
     → t ≡ after (mayShare m (pointAt l 0) []) (pointAt l 0) (pointAt l 1) (pointsFrom l 2) → t ≡ v
     → isSimple (curveOf l) ≡ v && arc (pointAt l 1) (pointsFrom l 2)
 first-told {l} n run all ep eq em et ev =
     simple-is n run all
-    ∙ ap (λ (m : Bool). after (mayShare m (pointAt l 0) []) (pointAt l 0) (pointAt l 1) (pointsFrom l 2) && arc (pointAt l 1) (pointsFrom l 2)) (asked samePoint ep eq em refl)
+    ∙ ap (λ (m : Bool). after (mayShare m (pointAt l 0) []) (pointAt l 0) (pointAt l 1) (pointsFrom l 2)
+    && arc (pointAt l 1) (pointsFrom l 2)) (asked samePoint ep eq em refl)
     ∙ ap (λ (t : Bool). t && arc (pointAt l 1) (pointsFrom l 2)) (sym et ∙ ev)

@@ -7,7 +7,7 @@ use lib.Dec.{leb}
 use lib.IntN.{ℤ, pos, natAbs}
 use lib.ListN.{length, getD}
 use lib.Signed.{leZ}
-use Rattle.lists.specs.Scans.{all}
+use Rattle.lists.specs.Scans.{allOf}
 use Rattle.lists.specs.Tables.{table}
 use Rattle.plane.specs.declared.Point.{Point}
 use Rattle.plane.specs.Points.{maxCoordinate, origin}
@@ -95,7 +95,7 @@ coordinate z = leZ (pos 0) z && leZ z (pos maxCoordinate)
 
 -- 2 to 12 points, and every coordinate in range
 unfoldable pub isRun : List ℤ → Bool
-isRun l = leb 2 (length l / 2) && leb (length l / 2) maxPoints && all coordinate l
+isRun l = leb 2 (length l / 2) && leb (length l / 2) maxPoints && allOf coordinate l
 
 -- what the functions on runs require; any other run is the caller's refusal 5
 pub record Run (l : List ℤ) : Type 0 where

@@ -30,7 +30,8 @@ abbrev pub joinHere : Bool → Point → List Point → List Point
 joinHere true m s = s
 joinHere false m s = m ∷ s
 
--- the curve a ∷ r, and after its last point m the curve m ∷ s; the joint is dropped when it lies straight between its neighbours
+-- the curve a ∷ r, and after its last point m the curve m ∷ s; the joint is dropped when it lies straight between its
+-- neighbours
 abbrev pub join : Point → List Point → List Point → List Point
 join a [] s = s
 join a (m ∷ []) s = joinHere (dropped a m s) m s

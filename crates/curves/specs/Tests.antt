@@ -1,5 +1,5 @@
--- What is asked of curves: neighbouring points, straight points, places on a curve, simple curves, and curves that meet wrongly.
--- Over a ∷ r first, then over a curve. What a test may leave out is bound by a `let`, which waits.
+-- What is asked of curves: neighbouring points, straight points, places on a curve, simple curves, and curves that meet
+-- wrongly. Over a ∷ r first, then over a curve. What a test may leave out is bound by a `let`, which waits.
 use mathlib.Core.Bool.{Bool, true, false, not, _&&_, _||_}
 use mathlib.Core.List.{List, [], _∷_}
 use Rattle.lists.specs.declared.Found.{Found}

@@ -9,9 +9,15 @@ ghost use lib.ListN.{length};
 ghost use Rattle.plane.specs.Points.{InRange};
 ghost use Rattle.plane.specs.Segments.{onSegment};
 ghost use Rattle.curves.specs.Curves.{Run, isRun, pointAt, pointsFrom, curveOf};
-ghost use Rattle.curves.specs.Tests.{neighboursDiffer, straightInside, firstPlace, segWrong, mayShare, segCurve, commonEnds, meetWrongly, free, after, isSimple};
+ghost use Rattle.curves.specs.Tests.{neighboursDiffer, straightInside, firstPlace, segWrong, mayShare, segCurve};
+ghost use Rattle.curves.specs.Tests.{commonEnds, meetWrongly, free, after, isSimple};
 ghost use Rattle.curves.specs.Measures.{curveArea, oddBelow};
 ghost use Rattle.curves.specs.Shares.{Shareable, shareable};
+
+// Points of a curve, at most, and their coordinates.
+pub const POINTS: usize = 12;
+
+pub const CELLS: usize = 2 * POINTS;
 
 // Two points that segments may share, each only where its mark is set.
 pub struct Shares {
@@ -43,12 +49,12 @@ pub fn is_run(c: &[i64]) -> bool
     ensures { λ r. ⌜ r ≡ isRun (now (c .entry)) ⌝ }
 {
     let n = point_count(c);
-    if (n < 2) | (12 < n) {
+    if (n < 2) | (POINTS < n) {
         return false;
     }
     for i in 0..c.len() {
         let z = c[i];
-        if (z < 0) | (1048575 < z) {
+        if (z < 0) | (plane::COORDINATE < z) {
             return false;
         }
     }
@@ -153,7 +159,9 @@ fn segments_wrong(l: Shares, a: Point, b: Point, c: Point, d: Point) -> bool
 // The ends of c that are ends of d.
 pub fn common_ends(c: &[i64], d: &[i64]) -> Shares
     requires { ⌜ Run (now c) × Run (now d) ⌝ }
-    ensures { λ r. ⌜ Shareable r × (shareable r ≡ commonEnds (curveOf (now (c .entry)) .first) (curveOf (now (c .entry)) .rest) (curveOf (now (d .entry)) .first) (curveOf (now (d .entry)) .rest)) ⌝ }
+    ensures { λ r. ⌜ Shareable r × (shareable r
+        ≡ commonEnds (curveOf (now (c .entry)) .first) (curveOf (now (c .entry)) .rest)
+        (curveOf (now (d .entry)) .first) (curveOf (now (d .entry)) .rest)) ⌝ }
 {
     let a = point_at(c, 0);
     let z = point_at(c, segment_count(c));
@@ -170,7 +178,8 @@ pub fn common_ends(c: &[i64], d: &[i64]) -> Shares
 // Whether the segment a b shares with one of the curve's a point that they may not share.
 fn segment_wrong(l: Shares, a: Point, b: Point, c: &[i64]) -> bool
     requires { ⌜ (Shareable l) × (InRange a) × (InRange b) × Run (now c) ⌝ }
-    ensures { λ r. ⌜ r ≡ segCurve (shareable l) a b (curveOf (now (c .entry)) .first) (curveOf (now (c .entry)) .rest) ⌝ }
+    ensures { λ r. ⌜ r ≡ segCurve (shareable l) a b (curveOf (now (c .entry)) .first)
+        (curveOf (now (c .entry)) .rest) ⌝ }
 {
     let n = segment_count(c);
     for i in 0..n {
@@ -198,10 +207,12 @@ pub fn curves_wrong(c: &[i64], d: &[i64]) -> bool
 
 // ---- simple curves
 
-// Whether segment i and those from point i + 2 on share nothing, but the last of these may share the first point where the mark is set.
+// Whether segment i and those from point i + 2 on share nothing, but the last of these may share the first point where
+// the mark is set.
 fn segment_free(c: &[i64], i: usize, closed: bool) -> bool
     requires { ⌜ Run (now c) × (i + 2 < length (now c) / 2) ⌝ }
-    ensures { λ r. ⌜ r ≡ free (mayShare closed (pointAt (now (c .entry)) 0) []) (pointAt (now (c .entry)) i) (pointAt (now (c .entry)) (i + 1)) (pointAt (now (c .entry)) (i + 2)) (pointsFrom (now (c .entry)) (i + 3)) ⌝ }
+    ensures { λ r. ⌜ r ≡ free (mayShare closed (pointAt (now (c .entry)) 0) []) (pointAt (now (c .entry)) i)
+        (pointAt (now (c .entry)) (i + 1)) (pointAt (now (c .entry)) (i + 2)) (pointsFrom (now (c .entry)) (i + 3)) ⌝ }
 {
     let n = segment_count(c);
     let a = point_at(c, i);
@@ -221,10 +232,12 @@ fn segment_free(c: &[i64], i: usize, closed: bool) -> bool
     true
 }
 
-// Whether segment i shares with the next only their common point, and with later ones nothing, but the first point where the mark is set.
+// Whether segment i shares with the next only their common point, and with later ones nothing, but the first point
+// where the mark is set.
 fn segment_clear(c: &[i64], i: usize, closed: bool) -> bool
     requires { ⌜ Run (now c) × (i + 1 < length (now c) / 2) ⌝ }
-    ensures { λ r. ⌜ r ≡ after (mayShare closed (pointAt (now (c .entry)) 0) []) (pointAt (now (c .entry)) i) (pointAt (now (c .entry)) (i + 1)) (pointsFrom (now (c .entry)) (i + 2)) ⌝ }
+    ensures { λ r. ⌜ r ≡ after (mayShare closed (pointAt (now (c .entry)) 0) []) (pointAt (now (c .entry)) i)
+        (pointAt (now (c .entry)) (i + 1)) (pointsFrom (now (c .entry)) (i + 2)) ⌝ }
 {
     if segment_count(c) <= i + 1 {
         return true;

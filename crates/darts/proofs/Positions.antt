@@ -1,5 +1,5 @@
--- Directed edges by position: a position names one directed edge of the map, each of which has one, and the columns in a row tell what the map says of it.
--- Assumes nothing.
+-- Directed edges by position: a position names one directed edge of the map, each of which has one, and the columns in
+-- a row tell what the map says of it. Assumes nothing.
 use mathlib.Core.Path.{_≡_, refl, sym, ap, _∙_, subst}
 use mathlib.Core.Bool.{Bool, true, false, not, _&&_, _||_, false≢true}
 use mathlib.Core.Logic.{_⊎_, inl, inr}
@@ -13,7 +13,7 @@ use lib.Signed.{ltZ}
 use borrow.Author.Tests.{ltb-true, ltb-false}
 use mir.Syntax.{w64}
 use mir.Val.{SFits}
-use Rattle.lists.specs.Scans.{all, isSome}
+use Rattle.lists.specs.Scans.{allOf, isSome}
 use Rattle.lists.specs.Tables.{table, place}
 use Rattle.lists.specs.declared.Found.{Found}
 use Rattle.lists.specs.declared.Found.the-variants.{At, Missing}
@@ -28,7 +28,8 @@ use Rattle.map.specs.Rows.{Edge, edge, hasEdge, dartOf, dartCell}
 use Rattle.map.specs.Darts.{directed, leaves, arrives, next, bears, course, way}
 use Rattle.map.proofs.RoundTrip.{dart-cell-back}
 use Rattle.tables.specs.Tables.{sameZ, column, edgeAt, edgeMap, EdgeRows}
-use Rattle.tables.proofs.Rows.{all-table, edges-table, EdgeCells, edge-cells, edge-row-of, edge-rows-rising, edge-number-in}
+use Rattle.tables.proofs.Rows.{all-table, edges-table, EdgeCells, edge-cells, edge-row-of, edge-rows-rising}
+use Rattle.tables.proofs.Rows.{edge-number-in}
 use Rattle.tables.proofs.Lookups.{which-place, row-place, edge-found, edge-missing}
 use Rattle.darts.proofs.Steps.{negative-is}
 use Rattle.darts.specs.Positions.{odd, reverseOf, dartAt, sidePlace, sideCell, wayAt}
@@ -45,7 +46,11 @@ pub record Odd (p : ℕ) : Type 0 where
   pub rest : p % 2 ≡ 1
 
 pub side : (p : ℕ) → Even p ⊎ Odd p
-side p = elim (which (odd p)) [ inl e ↦ inr (record { test = e; rest = same-true (p % 2) 1 e }) | inr e ↦ inl (record { test = e; rest = let d = differ (p % 2) 1 e in omega arith }) ]
+side p = elim (which (odd p)) [
+  | inl e ↦ inr (record { test = e; rest = same-true (p % 2) 1 e })
+  | inr e ↦ inl
+      (record { test = e; rest = let d = differ (p % 2) 1 e in omega arith })
+]
 
 pub even-of : (p : ℕ) → p % 2 ≡ 0 → Even p
 even-of p e = record { test = same-false (p % 2) 1 (λ q. omega arith); rest = e }
@@ -65,7 +70,8 @@ module _ (l : List ℤ) (i k : ℕ) where
   side-even = let e : sidePlace (i * 2) k ≡ i * edgeWidth + k = omega arith in ap (λ (j : ℕ). getD l j (pos 0)) e
 
   pub side-odd : sideCell l (i * 2 + 1) k ≡ getD l (i * edgeWidth + (k + 1)) (pos 0)
-  side-odd = let e : sidePlace (i * 2 + 1) k ≡ i * edgeWidth + (k + 1) = omega arith in ap (λ (j : ℕ). getD l j (pos 0)) e
+  side-odd = let e : sidePlace (i * 2 + 1) k ≡ i * edgeWidth + (k + 1) = omega arith in
+      ap (λ (j : ℕ). getD l j (pos 0)) e
 
 module _ (l : List ℤ) where
   pub dart-even : (i : ℕ) → dartAt l (i * 2) ≡ fwd (edgeAt l i .number)
@@ -85,14 +91,17 @@ module _ (l : List ℤ) where
         | inl e ↦
             let h : (p + 1) / 2 ≡ p / 2 = let r = e .rest in omega arith in
             let o = odd-of (p + 1) (let r = e .rest in omega arith) in
-            ap (dartAt l) (reverse-even e) ∙ dart-is (ap (λ (k : ℕ). edgeAt l k .number) h) (o .test ∙ ap not (sym (e .test)))
+            ap (dartAt l) (reverse-even e)
+            ∙ dart-is (ap (λ (k : ℕ). edgeAt l k .number) h) (o .test ∙ ap not (sym (e .test)))
         | inr e ↦
             let h : (p - 1) / 2 ≡ p / 2 = let r = e .rest in omega arith in
             let o = even-of (p - 1) (let r = e .rest in omega arith) in
-            ap (dartAt l) (reverse-odd e) ∙ dart-is (ap (λ (k : ℕ). edgeAt l k .number) h) (o .test ∙ ap not (sym (e .test)))
+            ap (dartAt l) (reverse-odd e)
+            ∙ dart-is (ap (λ (k : ℕ). edgeAt l k .number) h) (o .test ∙ ap not (sym (e .test)))
       ]
 
-  darts-from : (n a : ℕ) → darts (map (λ e. record { num = e .number; from = e .start; to = e .end }) (table (edgeAt l) a n)) ≡ table (dartAt l) (a * 2) (n * 2)
+  darts-from : (n a : ℕ) → darts (map (λ e. record { num = e .number; from = e .start; to = e .end })
+      (table (edgeAt l) a n)) ≡ table (dartAt l) (a * 2) (n * 2)
   darts-from zero a = refl
   darts-from (suc n) a =
       let e : suc n * 2 ≡ suc (suc (n * 2)) = omega arith in
@@ -101,11 +110,16 @@ module _ (l : List ℤ) where
 
   -- the order of positions is that of the map
   pub directed-table : (n : ℕ) → directed (edgeMap l n) ≡ table (dartAt l) 0 (n * 2)
-  directed-table n = ap (λ (es : List Edge). darts (map (λ e. record { num = e .number; from = e .start; to = e .end }) es)) (edges-table l n) ∙ darts-from n 0
+  directed-table n = ap (λ (es : List Edge). darts
+      (map (λ e. record { num = e .number; from = e .start; to = e .end }) es)) (edges-table l n) ∙ darts-from n 0
 
 pub reverse-below : (n p : ℕ) → p < n * 2 → reverseOf p < n * 2
 reverse-below n p h =
-    elim (side p) [ inl e ↦ rw (reverse-even e) (let r = e .rest in omega arith) | inr e ↦ rw (reverse-odd e) (omega arith) ]
+    elim (side p) [
+      | inl e ↦ rw (reverse-even e) (let r = e .rest in omega arith)
+      | inr e ↦ rw (reverse-odd e)
+          (omega arith)
+    ]
 
 pub half-below : (n p : ℕ) → p < n * 2 → p / 2 < n
 half-below n p h = omega arith
@@ -118,11 +132,13 @@ module _ {l : List ℤ} {n : ℕ} (t : EdgeRows l n) where
 
   -- the row of an edge's number
   row-of : (i : ℕ) → i < n → place (sameZ (pos (edgeAt l i .number))) 0 (column edgeWidth l n) ≡ At i
-  row-of i h = ap (λ (z : ℤ). place (sameZ z) 0 (column edgeWidth l n)) (sym (cells-of i h .number)) ∙ row-place edgeWidth l n (edge-rows-rising t) i h
+  row-of i h = ap (λ (z : ℤ). place (sameZ z) 0 (column edgeWidth l n)) (sym (cells-of i h .number))
+      ∙ row-place edgeWidth l n (edge-rows-rising t) i h
 
   pub number-injective : (i j : ℕ) → i < n → j < n → edgeAt l i .number ≡ edgeAt l j .number → i ≡ j
   number-injective i j h k e =
-      let f : At i ≡ At j = sym (row-of i h) ∙ ap (λ (m : ℕ). place (sameZ (pos m)) 0 (column edgeWidth l n)) e ∙ row-of j k in
+      let f : At i ≡ At j = sym (row-of i h) ∙ ap (λ (m : ℕ). place (sameZ (pos m)) 0 (column edgeWidth l n)) e
+      ∙ row-of j k in
       cc
 
   pub edge-of : (i : ℕ) → i < n → edge (edgeMap l n) (edgeAt l i .number) ≡ edgeAt l i
@@ -132,7 +148,8 @@ module _ {l : List ℤ} {n : ℕ} (t : EdgeRows l n) where
   -- no two positions have one directed edge
   pub dart-injective : (p q : ℕ) → p < n * 2 → q < n * 2 → dartAt l p ≡ dartAt l q → p ≡ q
   dart-injective p q h k e =
-      let f : p / 2 ≡ q / 2 = number-injective (p / 2) (q / 2) (omega arith) (omega arith) (ap (λ (d : Dart). d .edge) e) in
+      let f : p / 2 ≡ q / 2 = number-injective (p / 2) (q / 2) (omega arith) (omega arith)
+      (ap (λ (d : Dart). d .edge) e) in
       let g : odd p ≡ odd q = ap (λ (d : Dart). d .back) e in
       elim (side p) [
         | inl a ↦ let r = a .rest in let s = differ (q % 2) 1 (sym g ∙ a .test) in omega arith
@@ -144,17 +161,22 @@ module _ {l : List ℤ} {n : ℕ} (t : EdgeRows l n) where
   position-is p h =
       ap (place (λ c. sameDart c (dartAt l p)) 0) (directed-table l n)
       ∙ place-at (dartAt l) (λ c. sameDart c (dartAt l p)) (n * 2) p h
-      (λ k s. not-true (sameDart (dartAt l k) (dartAt l p)) (λ e. let q = dart-injective k p (omega arith) h (sameDart-true (dartAt l k) (dartAt l p) e) in omega arith))
+      (λ k s. not-true (sameDart (dartAt l k) (dartAt l p))
+      (λ e. let q = dart-injective k p (omega arith) h (sameDart-true (dartAt l k) (dartAt l p) e) in omega arith))
       (sameDart-refl (dartAt l p))
 
-  found-at : (d : Dart) (p : ℕ) → p < n * 2 → dartAt l p ≡ d → place (λ c. sameDart c d) 0 (directed (edgeMap l n)) ≡ At p
-  found-at d p h e = subst (λ (x : Dart). place (λ c. sameDart c x) 0 (directed (edgeMap l n)) ≡ At p) e (position-is p h)
+  found-at : (d : Dart) (p : ℕ) → p < n * 2 → dartAt l p ≡ d → place (λ c. sameDart c d) 0 (directed (edgeMap l n))
+      ≡ At p
+  found-at d p h e = subst (λ (x : Dart). place (λ c. sameDart c x) 0 (directed (edgeMap l n)) ≡ At p) e
+      (position-is p h)
 
   -- one that has no position is missing
-  pub position-none : (d : Dart) → ((p : ℕ) → p < n * 2 → dartAt l p ≡ d → ⊥) → place (λ c. sameDart c d) 0 (directed (edgeMap l n)) ≡ Missing
+  pub position-none : (d : Dart) → ((p : ℕ) → p < n * 2 → dartAt l p ≡ d → ⊥)
+      → place (λ c. sameDart c d) 0 (directed (edgeMap l n)) ≡ Missing
   position-none d never =
       ap (place (λ c. sameDart c d) 0) (directed-table l n)
-      ∙ place-none (dartAt l) (λ c. sameDart c d) (n * 2) (λ k s. not-true (sameDart (dartAt l k) d) (λ e. never k s (sameDart-true (dartAt l k) d e)))
+      ∙ place-none (dartAt l) (λ c. sameDart c d) (n * 2)
+      (λ k s. not-true (sameDart (dartAt l k) d) (λ e. never k s (sameDart-true (dartAt l k) d e)))
 
   -- the row of an edge that exists
   pub row-there : (e : ℕ) → hasEdge (edgeMap l n) e ≡ true → (i : ℕ) × (i < n) × (edgeAt l i .number ≡ e)
@@ -168,13 +190,15 @@ module _ {l : List ℤ} {n : ℕ} (t : EdgeRows l n) where
   pub position-there : (d : Dart) → hasEdge (edgeMap l n) (d .edge) ≡ true → (p : ℕ) × (p < n * 2) × (dartAt l p ≡ d)
   position-there d h = let r = row-there (d .edge) h in at (d .back) refl (r .0) (r .1) (r .2)
     where
-      at : (b : Bool) → d .back ≡ b → (i : ℕ) → i < n → edgeAt l i .number ≡ d .edge → (p : ℕ) × (p < n * 2) × (dartAt l p ≡ d)
+      at : (b : Bool) → d .back ≡ b → (i : ℕ) → i < n → edgeAt l i .number ≡ d .edge → (p : ℕ) × (p < n * 2)
+          × (dartAt l p ≡ d)
       at false q i s e = (i * 2, omega arith, dart-even l i ∙ dart-is e (sym q))
       at true q i s e = (i * 2 + 1, omega arith, dart-odd l i ∙ dart-is e (sym q))
 
   -- each directed edge of the map has one
   pub position-in : (d : Dart) → List·Memᴰ d (directed (edgeMap l n)) → (p : ℕ) × (p < n * 2) × (dartAt l p ≡ d)
-  position-in d m = let r = table-in (dartAt l) 0 (n * 2) (subst (λ (r : List Dart). List·Memᴰ d r) (directed-table l n) m) in let h = r .2 in (r .0, omega arith, r .3)
+  position-in d m = let r = table-in (dartAt l) 0 (n * 2)
+      (subst (λ (r : List Dart). List·Memᴰ d r) (directed-table l n) m) in let h = r .2 in (r .0, omega arith, r .3)
 
   -- ---- what the columns say
 
@@ -227,8 +251,10 @@ module _ {l : List ℤ} {n : ℕ} (t : EdgeRows l n) where
     pub next-named : hasEdge (edgeMap l n) (next (edgeMap l n) (dartAt l p) .edge) ≡ true
     unfolding next
     next-named =
-        let test : Edge → Bool = λ e. hasEdge (edgeMap l n) (e .nextLeft .edge) && hasEdge (edgeMap l n) (e .nextRight .edge) in
-        let both = all-table test (edgeAt l) n (ap (all test) (sym (edges-table l n)) ∙ t .named) (p / 2) (omega arith) in
+        let test : Edge → Bool = λ e. hasEdge (edgeMap l n) (e .nextLeft .edge)
+        && hasEdge (edgeMap l n) (e .nextRight .edge) in
+        let both = all-table test (edgeAt l) n (ap (allOf test) (sym (edges-table l n)) ∙ t .named) (p / 2)
+        (omega arith) in
         let a = hasEdge (edgeMap l n) (edgeAt l (p / 2) .nextLeft .edge) in
         let b = hasEdge (edgeMap l n) (edgeAt l (p / 2) .nextRight .edge) in
         elim (side p) [ inl e ↦ rw (own, e .test) (and-left a b both) | inr e ↦ rw (own, e .test) (and-right a b both) ]
@@ -237,34 +263,41 @@ module _ {l : List ℤ} {n : ℕ} (t : EdgeRows l n) where
     next-there = position-there (next (edgeMap l n) (dartAt l p)) next-named
 
   -- the place that its number is found at
-  pub next-place : (p : ℕ) (h : p < n * 2) (r : Found) → r ≡ place (λ c. sameDart c (dartOf (sideCell l p 3))) 0 (directed (edgeMap l n)) → r ≡ At (next-there p h .0)
+  pub next-place : (p : ℕ) (h : p < n * 2) (r : Found) → r
+      ≡ place (λ c. sameDart c (dartOf (sideCell l p 3))) 0 (directed (edgeMap l n)) → r ≡ At (next-there p h .0)
   next-place p h r e =
       let q = next-there p h in
-      e ∙ ap (λ (d : Dart). place (λ c. sameDart c d) 0 (directed (edgeMap l n))) (link-is p h) ∙ found-at (next (edgeMap l n) (dartAt l p)) (q .0) (q .1) (q .2)
+      e ∙ ap (λ (d : Dart). place (λ c. sameDart c d) 0 (directed (edgeMap l n))) (link-is p h)
+      ∙ found-at (next (edgeMap l n) (dartAt l p)) (q .0) (q .1) (q .2)
 
   -- the node where it arrives is the one that its reverse leaves
   pub cell-arrives : (p : ℕ) → p < n * 2 → sideCell l (reverseOf p) 1 ≡ pos (arrives (edgeMap l n) (dartAt l p))
-  cell-arrives p h = cell-leaves (reverseOf p) (reverse-below n p h) ∙ ap (λ (d : Dart). pos (leaves (edgeMap l n) d)) (dart-reverse l p)
+  cell-arrives p h = cell-leaves (reverseOf p) (reverse-below n p h)
+      ∙ ap (λ (d : Dart). pos (leaves (edgeMap l n) d)) (dart-reverse l p)
 
   -- ---- a directed edge looked up
 
-  pub forward-found : (m i : ℕ) → place (sameZ (pos m)) 0 (column edgeWidth l n) ≡ At i → (i < n) × (place (λ c. sameDart c (fwd m)) 0 (directed (edgeMap l n)) ≡ At (i * 2))
+  pub forward-found : (m i : ℕ) → place (sameZ (pos m)) 0 (column edgeWidth l n) ≡ At i → (i < n)
+      × (place (λ c. sameDart c (fwd m)) 0 (directed (edgeMap l n)) ≡ At (i * 2))
   forward-found m i e =
       let r = edge-found l n (t .ranges) (pos m) i e in
       let h = r .0 in
       (h, found-at (fwd m) (i * 2) (omega arith) (dart-even l i ∙ ap fwd (sym (ap natAbs (r .1)))))
 
-  pub back-found : (m i : ℕ) → place (sameZ (pos m)) 0 (column edgeWidth l n) ≡ At i → (i < n) × (place (λ c. sameDart c (bwd m)) 0 (directed (edgeMap l n)) ≡ At (i * 2 + 1))
+  pub back-found : (m i : ℕ) → place (sameZ (pos m)) 0 (column edgeWidth l n) ≡ At i → (i < n)
+      × (place (λ c. sameDart c (bwd m)) 0 (directed (edgeMap l n)) ≡ At (i * 2 + 1))
   back-found m i e =
       let r = edge-found l n (t .ranges) (pos m) i e in
       let h = r .0 in
       (h, found-at (bwd m) (i * 2 + 1) (omega arith) (dart-odd l i ∙ ap bwd (sym (ap natAbs (r .1)))))
 
   -- where the edge is missing
-  pub edge-none : (d : Dart) → place (sameZ (pos (d .edge))) 0 (column edgeWidth l n) ≡ Missing → place (λ c. sameDart c d) 0 (directed (edgeMap l n)) ≡ Missing
+  pub edge-none : (d : Dart) → place (sameZ (pos (d .edge))) 0 (column edgeWidth l n) ≡ Missing
+      → place (λ c. sameDart c d) 0 (directed (edgeMap l n)) ≡ Missing
   edge-none d e =
       position-none d (λ p h q.
-      let k : At (p / 2) ≡ Missing = sym (row-of (p / 2) (omega arith)) ∙ ap (λ (x : Dart). place (sameZ (pos (x .edge))) 0 (column edgeWidth l n)) q ∙ e in
+      let k : At (p / 2) ≡ Missing = sym (row-of (p / 2) (omega arith))
+      ∙ ap (λ (x : Dart). place (sameZ (pos (x .edge))) 0 (column edgeWidth l n)) q ∙ e in
       let z : _≡_ {A = ℕ} 0 1 = cc in
       omega arith)
 
@@ -294,26 +327,38 @@ module _ {l : List ℤ} {n : ℕ} (t : EdgeRows l n) where
   far-none (pos m) h = past-none t (fwd m) (ltb-true 999999 m h)
   far-none (negsuc m) h = past-none t (bwd (suc m)) (let k = ltb-true 999998 m (one (ltb 999998 m) h) in omega arith)
 
-  pub negative-found : (z u : ℤ) (i : ℕ) → ltZ z (pos 0) ≡ true → u ≡ pos 0 -ℤ z → place (sameZ u) 0 (column edgeWidth l n) ≡ At i → (i < n) × (place (λ c. sameDart c (dartOf z)) 0 (directed (edgeMap l n)) ≡ At (i * 2 + 1))
+  pub negative-found : (z u : ℤ) (i : ℕ) → ltZ z (pos 0) ≡ true → u ≡ pos 0 -ℤ z
+      → place (sameZ u) 0 (column edgeWidth l n) ≡ At i → (i < n)
+      × (place (λ c. sameDart c (dartOf z)) 0 (directed (edgeMap l n)) ≡ At (i * 2 + 1))
   negative-found (pos m) u i h e f = absurd (not-below m h)
-  negative-found (negsuc m) u i h e f = back-found t (suc m) i (ap (λ (v : ℤ). place (sameZ v) 0 (column edgeWidth l n)) (sym (e ∙ negative-is (negsuc m))) ∙ f)
+  negative-found (negsuc m) u i h e f =
+      back-found t (suc m) i (ap (λ (v : ℤ). place (sameZ v) 0 (column edgeWidth l n))
+      (sym (e ∙ negative-is (negsuc m))) ∙ f)
 
-  pub negative-missing : (z u : ℤ) → ltZ z (pos 0) ≡ true → u ≡ pos 0 -ℤ z → place (sameZ u) 0 (column edgeWidth l n) ≡ Missing → place (λ c. sameDart c (dartOf z)) 0 (directed (edgeMap l n)) ≡ Missing
+  pub negative-missing : (z u : ℤ) → ltZ z (pos 0) ≡ true → u ≡ pos 0 -ℤ z → place (sameZ u) 0 (column edgeWidth l n)
+      ≡ Missing → place (λ c. sameDart c (dartOf z)) 0 (directed (edgeMap l n)) ≡ Missing
   negative-missing (pos m) u h e f = absurd (not-below m h)
-  negative-missing (negsuc m) u h e f = edge-none t (bwd (suc m)) (ap (λ (v : ℤ). place (sameZ v) 0 (column edgeWidth l n)) (sym (e ∙ negative-is (negsuc m))) ∙ f)
+  negative-missing (negsuc m) u h e f =
+      edge-none t (bwd (suc m)) (ap (λ (v : ℤ). place (sameZ v) 0 (column edgeWidth l n))
+      (sym (e ∙ negative-is (negsuc m))) ∙ f)
 
-  pub positive-found : (z u : ℤ) (i : ℕ) → ltZ z (pos 0) ≡ false → u ≡ z → place (sameZ u) 0 (column edgeWidth l n) ≡ At i → (i < n) × (place (λ c. sameDart c (dartOf z)) 0 (directed (edgeMap l n)) ≡ At (i * 2))
-  positive-found (pos m) u i h e f = forward-found t m i (ap (λ (v : ℤ). place (sameZ v) 0 (column edgeWidth l n)) (sym e) ∙ f)
+  pub positive-found : (z u : ℤ) (i : ℕ) → ltZ z (pos 0) ≡ false → u ≡ z → place (sameZ u) 0 (column edgeWidth l n)
+      ≡ At i → (i < n) × (place (λ c. sameDart c (dartOf z)) 0 (directed (edgeMap l n)) ≡ At (i * 2))
+  positive-found (pos m) u i h e f = forward-found t m i
+      (ap (λ (v : ℤ). place (sameZ v) 0 (column edgeWidth l n)) (sym e) ∙ f)
   positive-found (negsuc m) u i h e f = absurd (false≢true (sym h))
 
-  pub positive-missing : (z u : ℤ) → ltZ z (pos 0) ≡ false → u ≡ z → place (sameZ u) 0 (column edgeWidth l n) ≡ Missing → place (λ c. sameDart c (dartOf z)) 0 (directed (edgeMap l n)) ≡ Missing
-  positive-missing (pos m) u h e f = edge-none t (fwd m) (ap (λ (v : ℤ). place (sameZ v) 0 (column edgeWidth l n)) (sym e) ∙ f)
+  pub positive-missing : (z u : ℤ) → ltZ z (pos 0) ≡ false → u ≡ z → place (sameZ u) 0 (column edgeWidth l n) ≡ Missing
+      → place (λ c. sameDart c (dartOf z)) 0 (directed (edgeMap l n)) ≡ Missing
+  positive-missing (pos m) u h e f = edge-none t (fwd m)
+      (ap (λ (v : ℤ). place (sameZ v) 0 (column edgeWidth l n)) (sym e) ∙ f)
   positive-missing (negsuc m) u h e f = absurd (false≢true (sym h))
 
 -- the negative of one that is not far fits
 pub near-fits : (z : ℤ) → far z ≡ false → ltZ z (pos 0) ≡ true → SFits w64 (pos 0 -ℤ z)
 near-fits (pos m) h k = absurd (not-below m k)
-near-fits (negsuc m) h k = rw (negative-is (negsuc m)) (record { sfits = let f = ltb-false 999998 m (or-left (ltb 999998 m) h) in omega arith })
+near-fits (negsuc m) h k = rw (negative-is (negsuc m))
+    (record { sfits = let f = ltb-false 999998 m (or-left (ltb 999998 m) h) in omega arith })
   where
     or-left : (a : Bool) → a || false ≡ false → a ≡ false
     or-left true e = e

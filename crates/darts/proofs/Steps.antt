@@ -1,4 +1,5 @@
--- The first step along a curve and along its reverse, by the points of a run; the negative of a number. Assumes nothing.
+-- The first step along a curve and along its reverse, by the points of a run; the negative of a number. Assumes
+-- nothing.
 use mathlib.Core.Path.{_≡_, sym, ap, _∙_}
 use mathlib.Core.Bool.{true, false}
 use mathlib.Core.List.{List, _∷_}
@@ -18,7 +19,8 @@ use Rattle.curves.proofs.Runs.{two-points, from-step, from-end, curve-is, last-
 use Rattle.curves.proofs.Reverses.{second-turned}
 use Rattle.darts.specs.Positions.{Along}
 
-before-from : (l : List ℤ) (k i : ℕ) → i + k + 2 ≡ length l / 2 → beforeLast (pointAt l i) (pointsFrom l (i + 1)) ≡ pointAt l (i + k)
+before-from : (l : List ℤ) (k i : ℕ) → i + k + 2 ≡ length l / 2 → beforeLast (pointAt l i) (pointsFrom l (i + 1))
+    ≡ pointAt l (i + k)
 before-from l zero i h = rw (from-step l (i + 1) (omega arith), from-end l (i + 1 + 1) (omega arith), add-zero i)
 before-from l (suc k) i h =
     let e : i + 1 + k ≡ i + suc k = omega arith in
@@ -27,22 +29,33 @@ before-from l (suc k) i h =
 
 module _ {l : List ℤ} (run : Run l) where
   pub start-forward : startWay (course false (curveOf l)) ≡ wayTo (pointAt l 0) (pointAt l 1)
-  start-forward = ap startWay (curve-is run) ∙ ap (λ (r : List Point). wayTo (pointAt l 0) (secondOf (pointAt l 0) r)) (from-step l 1 (omega (arith, two-points run)))
+  start-forward = ap startWay (curve-is run)
+      ∙ ap (λ (r : List Point). wayTo (pointAt l 0) (secondOf (pointAt l 0) r))
+      (from-step l 1 (omega (arith, two-points run)))
 
-  pub start-back : (n : ℕ) → n ≡ length l / 2 → startWay (course true (curveOf l)) ≡ wayTo (pointAt l (n - 1)) (pointAt l (n - 2))
+  pub start-back : (n : ℕ) → n ≡ length l / 2 → startWay (course true (curveOf l))
+      ≡ wayTo (pointAt l (n - 1)) (pointAt l (n - 2))
   start-back n e =
       let h = two-points run in
       let first = from-step l 1 (omega arith) in
       let z = lastOf (pointAt l 0) (pointsFrom l 1) in
       let last = last-is l (n - 1) (omega arith) in
-      let second : secondOf z (turned (pointAt l 0) (pointsFrom l 1)) ≡ beforeLast (pointAt l 0) (pointsFrom l 1) = rw first (second-turned (lastOf (pointAt l 0) (pointAt l 1 ∷ pointsFrom l 2)) (pointAt l 0) (pointAt l 1) (pointsFrom l 2)) in
-      let before : beforeLast (pointAt l 0) (pointsFrom l 1) ≡ pointAt l (n - 2) = before-from l (n - 2) 0 (omega arith) ∙ ap (pointAt l) (zero-add (n - 2)) in
+      let second : secondOf z (turned (pointAt l 0) (pointsFrom l 1)) ≡ beforeLast (pointAt l 0) (pointsFrom l 1) =
+      rw first (second-turned (lastOf (pointAt l 0) (pointAt l 1 ∷ pointsFrom l 2)) (pointAt l 0) (pointAt l 1)
+      (pointsFrom l 2)) in
+      let before : beforeLast (pointAt l 0) (pointsFrom l 1) ≡ pointAt l (n - 2) =
+      before-from l (n - 2) 0 (omega arith) ∙ ap (pointAt l) (zero-add (n - 2)) in
       ap (λ (c : Curve). startWay (course true c)) (curve-is run)
       ∙ ap (wayTo z) (second ∙ before)
       ∙ ap (λ (p : Point). wayTo p (pointAt l (n - 2))) last
 
-pub along : {a b p q : Point} {v : Way} → (a ≡ p) × InRange a → (b ≡ q) × InRange b → v ≡ wayTo p q → Along (record { from = a; to = b }) v
-along {b = b} {p} {q} e f h = record { way = ap (λ (x : Point). wayTo x b) (e .0) ∙ ap (wayTo p) (f .0) ∙ sym h; from = e .1; to = f .1 }
+pub along : {a b p q : Point} {v : Way} → (a ≡ p) × InRange a → (b ≡ q) × InRange b → v ≡ wayTo p q
+    → Along (record { from = a; to = b }) v
+along {b = b} {p} {q} e f h = record {
+  way = ap (λ (x : Point). wayTo x b) (e .0) ∙ ap (wayTo p) (f .0) ∙ sym h;
+  from = e .1;
+  to = f .1;
+}
 
 -- ---- the negative of a number that is not negative
 

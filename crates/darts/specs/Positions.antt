@@ -1,4 +1,5 @@
--- Directed edges by position: twice the row, and one more for the reverse. In the order of positions they are `directed`.
+-- Directed edges by position: twice the row, and one more for the reverse. In the order of positions they are
+-- `directed`.
 use mathlib.Core.Path.{_≡_}
 use mathlib.Core.Bool.{Bool, cond}
 use mathlib.Core.List.{List}
@@ -36,11 +37,13 @@ sideCell l p k = getD l (sidePlace p k) (pos 0)
 
 -- the rows of a table, by its first column, that the first m directed edges name in a column pair
 abbrev pub RowsNamed : ℕ → List ℤ → ℕ → List ℤ → ℕ → List ℕ → ℕ → Type 0
-RowsNamed w t n l k rows m = (p : ℕ) → p < m → (getD rows p 0 < n) × (getD t (getD rows p 0 * w) (pos 0) ≡ sideCell l p k)
+RowsNamed w t n l k rows m = (p : ℕ) → p < m → (getD rows p 0 < n)
+    × (getD t (getD rows p 0 * w) (pos 0) ≡ sideCell l p k)
 
 -- the positions, among n edges, of what follows them
 abbrev pub NextsNamed : List ℤ → ℕ → List ℕ → ℕ → Type 0
-NextsNamed l n nexts m = (p : ℕ) → p < m → (getD nexts p 0 < n * 2) × (dartAt l (getD nexts p 0) ≡ dartOf (sideCell l p 3))
+NextsNamed l n nexts m = (p : ℕ) → p < m → (getD nexts p 0 < n * 2)
+    × (dartAt l (getD nexts p 0) ≡ dartOf (sideCell l p 3))
 
 -- its direction, and the same where edge row `own` has the curve c
 abbrev pub wayAt : List ℤ → ℕ → Way

@@ -1,6 +1,7 @@
-// Directed edges by position: twice the row, and one more for the reverse. Their columns stand side by side in an edge row: start and end,
-// next left and next right, left and right face.
+// Directed edges by position: twice the row, and one more for the reverse. Their columns stand side by side in an edge
+// row: start and end, next left and next right, left and right face.
 use lists::Found;
+use map::Map;
 use plane::Point;
 ghost use mathlib.Core.Path.{_≡_};
 ghost use Prim.Native.Nat.{_+_, _*_, _/_, _<_, _≤_};
@@ -21,14 +22,14 @@ pub fn dart_cell(edges: &[i64], p: usize, k: usize) -> i64
     requires { ⌜ (p / 2 * 32 + 32 ≤ length (now edges)) × (k ≤ 30) ⌝ }
     ensures { λ r. ⌜ r ≡ sideCell (now (edges .entry)) p k ⌝ }
 {
-    edges[p / 2 * 32 + k + p % 2]
+    edges[p / 2 * map::EDGE_WIDTH + k + p % 2]
 }
 
 pub fn set_dart_cell(edges: &mut [i64], p: usize, k: usize, v: i64)
     requires { ⌜ (p / 2 * 32 + 32 ≤ length (now edges)) × (k ≤ 30) ⌝ }
     ensures { λ r. ⌜ now (edges .exit) ≡ set (now (edges .entry)) (sidePlace p k) v ⌝ }
 {
-    edges[p / 2 * 32 + k + p % 2] = v;
+    edges[p / 2 * map::EDGE_WIDTH + k + p % 2] = v;
 }
 
 // The position of the reverse.
@@ -44,7 +45,7 @@ pub fn dart_at(edges: &[i64], p: usize) -> i64
     requires { ⌜ EdgeRow (now edges) (p / 2) ⌝ }
     ensures { λ r. ⌜ r ≡ dartCell (dartAt (now (edges .entry)) p) ⌝ }
 {
-    let e = edges[p / 2 * 32];
+    let e = edges[p / 2 * map::EDGE_WIDTH];
     if p % 2 == 0 { e } else { -e }
 }
 
@@ -53,17 +54,17 @@ pub fn position_of(edges: &[i64], count: usize, d: i64) -> Found
     requires { ⌜ EdgeRows (now edges) count ⌝ }
     ensures { λ r. ⌜ r ≡ place (λ c. sameDart c (dartOf d)) 0 (directed (edgeMap (now (edges .entry)) count)) ⌝ }
 {
-    if (d < -999999) | (999999 < d) {
+    if (d < map::LEAST_LINK) | (Map::LAST_NUMBER < d) {
         return Found::Missing;
     }
     if d < 0 {
-        let found = tables::find_row(edges, 32, count, -d);
+        let found = tables::find_row(edges, map::EDGE_WIDTH, count, -d);
         let Found::At(i) = found else {
             return Found::Missing;
         };
         return Found::At(i * 2 + 1);
     }
-    let found = tables::find_row(edges, 32, count, d);
+    let found = tables::find_row(edges, map::EDGE_WIDTH, count, d);
     let Found::At(i) = found else {
         return Found::Missing;
     };
@@ -73,9 +74,10 @@ pub fn position_of(edges: &[i64], count: usize, d: i64) -> Found
 // The position of what follows; in form it is never missing.
 pub fn next_position(edges: &[i64], count: usize, p: usize) -> usize
     requires { ⌜ EdgeRows (now edges) count × (p < count * 2) ⌝ }
-    ensures { λ r. ⌜ (r < count * 2) × (dartAt (now (edges .entry)) r ≡ next (edgeMap (now (edges .entry)) count) (dartAt (now (edges .entry)) p)) ⌝ }
+    ensures { λ r. ⌜ (r < count * 2) × (dartAt (now (edges .entry)) r
+        ≡ next (edgeMap (now (edges .entry)) count) (dartAt (now (edges .entry)) p)) ⌝ }
 {
-    let found = position_of(edges, count, dart_cell(edges, p, 3));
+    let found = position_of(edges, count, dart_cell(edges, p, map::NEXT_LEFT));
     let Found::At(q) = found else {
         return p;
     };

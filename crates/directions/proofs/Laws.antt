@@ -67,7 +67,8 @@ abbrev pub heightPart : ℕ → Point → Point → ℕ
 heightPart x a b = a .y * b .x + x * b .y
 
 abbrev pub liftPart : ℕ → Point → Point → Point → Point → ℕ
-liftPart x a b c d = heightPart x a b * d .x + heightPart x b a * c .x + heightPart x c d * a .x + heightPart x d c * b .x
+liftPart x a b c d = heightPart x a b * d .x + heightPart x b a * c .x + heightPart x c d * a .x + heightPart x d
+    c * b .x
 
 abbrev lifted : ℕ → Segment → Segment → ℤ
 lifted x s t = height x s *ℤ along t .dx -ℤ height x t *ℤ along s .dx
@@ -84,7 +85,8 @@ abbrev heightE : Expr → Expr → Expr → Expr → Expr → Expr
 heightE x ax ay bx by = ay ⊗ (bx ⊖ ax) ⊕ (x ⊖ ax) ⊗ (by ⊖ ay)
 
 lift-parts : (x : ℕ) (a b c d : Point)
-    → pos (liftPart x a b c d) -ℤ pos (liftPart x b a c d) ≡ lifted x (record { from = a; to = b }) (record { from = c; to = d })
+    → pos (liftPart x a b c d) -ℤ pos (liftPart x b a c d)
+    ≡ lifted x (record { from = a; to = b }) (record { from = c; to = d })
 lift-parts x a b c d =
     solve 9 (
     λ x ax ay bx by cx cy dx dy.

@@ -1,4 +1,5 @@
-// Directions in counterclockwise order, and what passes below a point. Both go by signs of cross products: unsigned sums that are compared.
+// Directions in counterclockwise order, and what passes below a point. Both go by signs of cross products: unsigned
+// sums that are compared.
 use plane::Point;
 use plane::Turn;
 ghost use mathlib.Core.Path.{_≡_};
@@ -45,7 +46,8 @@ pub fn class_of(p: Point, q: Point) -> u8
     CLASSES[i][j]
 }
 
-// The part of the cross product of b - a and d - c that is added; with a and b exchanged it is the part that is taken away.
+// The part of the cross product of b - a and d - c that is added; with a and b exchanged it is the part that is taken
+// away.
 fn cross_part(a: Point, b: Point, c: Point, d: Point) -> u64
     requires { ⌜ (InRange a) × (InRange b) × (InRange c) × (InRange d) ⌝ }
     ensures { λ r. ⌜ (r ≡ b .x * d .y + a .x * c .y + b .y * c .x + a .y * d .x) × (r ≤ 4398038122500) ⌝ }
@@ -137,7 +139,8 @@ pub fn passes_below(p: Point, a: Point, b: Point) -> bool
     }
 }
 
-// The part of the height of a b at x, times its run, that is added; with a and b exchanged it is the part that is taken away.
+// The part of the height of a b at x, times its run, that is added; with a and b exchanged it is the part that is taken
+// away.
 fn height_part(x: u64, a: Point, b: Point) -> u64
     requires { ⌜ (x ≤ 1048575) × (InRange a) × (InRange b) ⌝ }
     ensures { λ r. ⌜ (r ≡ a .y * b .x + x * b .y) × (r ≤ 2199019061250) ⌝ }
@@ -153,10 +156,13 @@ fn lift(h: u64, x: u64) -> u64
     h * x
 }
 
-// The part that is added where the heights of a b and c d at x are compared over a common run; with a and b exchanged it is the part taken away.
+// The part that is added where the heights of a b and c d at x are compared over a common run; with a and b exchanged
+// it is the part taken away.
 fn lift_part(x: u64, a: Point, b: Point, c: Point, d: Point) -> u64
     requires { ⌜ (x ≤ 1048575) × (InRange a) × (InRange b) × (InRange c) × (InRange d) ⌝ }
-    ensures { λ r. ⌜ r ≡ (a .y * b .x + x * b .y) * d .x + (b .y * a .x + x * a .y) * c .x + (c .y * d .x + x * d .y) * a .x + (d .y * c .x + x * c .y) * b .x ⌝ }
+    ensures { λ r. ⌜ r
+        ≡ (a .y * b .x + x * b .y) * d .x + (b .y * a .x + x * a .y) * c .x + (c .y * d .x + x * d .y) * a
+        .x + (d .y * c .x + x * c .y) * b .x ⌝ }
 {
     lift(height_part(x, a, b), d.x)
         + lift(height_part(x, b, a), c.x)

@@ -1,4 +1,5 @@
--- Tables in form with an edge drawn that nothing turns down: they hold the map with the edge linked in, and its face can be split. Assumes nothing.
+-- Tables in form with an edge drawn that nothing turns down: they hold the map with the edge linked in, and its face
+-- can be split. Assumes nothing.
 use mathlib.Core.Path.{_≡_, sym, ap, _∙_, subst}
 use mathlib.Core.Bool.{Bool, true, false, _&&_}
 use mathlib.Core.List.{List, [], map, List·Memᴰ}
@@ -8,7 +9,7 @@ use lib.IntN.{ℤ, pos, natAbs}
 use lib.ListN.{length-map, getD, List·getD-map}
 use lib.Seq.{getD-at}
 use Rattle.lists.specs.Tests.{same}
-use Rattle.lists.specs.Scans.{all, any}
+use Rattle.lists.specs.Scans.{allOf, anyOf}
 use Rattle.lists.specs.Tables.{place}
 use Rattle.lists.specs.declared.Found.the-variants.{At}
 use Rattle.lists.proofs.Bools.{and-is}
@@ -46,7 +47,8 @@ use Rattle.grown.proofs.Outlines.{drawnOutline, drawn-shape}
 use Rattle.edit_add.proofs.Rings.{drawn-ringed, drawn-ends}
 
 -- what holds of a ticket that nothing turns down
-add-facts : (s : Sizes) (m : Map) (news : Bool) (a b : ℤ) (c : List ℤ) → firstReason (reasons s m (addTicket news a b c)) ≡ 0 → AddEdge news s m (natAbs a) (natAbs b) (curveOf c)
+add-facts : (s : Sizes) (m : Map) (news : Bool) (a b : ℤ) (c : List ℤ)
+    → firstReason (reasons s m (addTicket news a b c)) ≡ 0 → AddEdge news s m (natAbs a) (natAbs b) (curveOf c)
 add-facts s m true a b c e = add-new s m a b c e
 add-facts s m false a b c e = add-mod s m a b c e
 
@@ -72,7 +74,8 @@ module _ {nodes edges faces : List ℤ} {h : Head} (f : Formed nodes edges faces
   })
 
   -- the tables with an edge more hold a map, whatever edge it is
-  pub drawn-held : {nodes′ edges′ : List ℤ} → redraws.Held nodes′ edges′ (drawnHead h) → Held nodes′ edges′ faces (drawnHead h)
+  pub drawn-held : {nodes′ edges′ : List ℤ} → redraws.Held nodes′ edges′ (drawnHead h)
+      → Held nodes′ edges′ faces (drawnHead h)
   drawn-held {nodes′} {edges′} d =
       let k = formed-held f in
       record {
@@ -87,18 +90,30 @@ module _ {nodes edges faces : List ℤ} {h : Head} (f : Formed nodes edges faces
         next-node = k .next-node;
         next-edge = d .next;
         next-face = k .next-face;
-        few-nodes = omega (arith, nodes-room (d .node-table), whole-rows nodeWidth 0 maxNodes nodes′ (d .node-table .whole) .most);
-        few-edges = omega (arith, edges-room (d .edge-table), whole-rows edgeWidth 0 maxEdges edges′ (d .edge-table .whole) .most);
+        few-nodes = omega (
+          arith,
+          nodes-room (d .node-table),
+          whole-rows nodeWidth 0 maxNodes nodes′ (d .node-table .whole) .most,
+        );
+        few-edges = omega (
+          arith,
+          edges-room (d .edge-table),
+          whole-rows edgeWidth 0 maxEdges edges′ (d .edge-table .whole) .most,
+        );
         few-faces = k .few-faces;
         next-most = k .next-most;
       }
 
-  number-of : (z : ℤ) (i : ℕ) → place (sameZ z) 0 (column nodeWidth nodes (natAbs (h .nodes))) ≡ At i → nodeAt nodes i .number ≡ natAbs z
+  number-of : (z : ℤ) (i : ℕ) → place (sameZ z) 0 (column nodeWidth nodes (natAbs (h .nodes))) ≡ At i
+      → nodeAt nodes i .number ≡ natAbs z
   number-of z i e = sym (ap natAbs (node-found nodes (natAbs (h .nodes)) (ranges f .node-rows) z i e .1))
 
   -- an edge that nothing turns down, with its corner face
-  module _ (news : Bool) (a b : ℤ) (c : List ℤ) (u v : ℕ) (eu : place (sameZ a) 0 (column nodeWidth nodes (natAbs (h .nodes))) ≡ At u) (ev : place (sameZ b) 0 (column nodeWidth nodes (natAbs (h .nodes))) ≡ At v)
-      (clear : firstReason (reasons s m (addTicket news a b c)) ≡ 0) {face : ℤ} (ef : face ≡ pos (cornerFace m (natAbs a) (startWay (curveOf c)))) where
+  module _ (news : Bool) (a b : ℤ) (c : List ℤ) (u v : ℕ)
+      (eu : place (sameZ a) 0 (column nodeWidth nodes (natAbs (h .nodes))) ≡ At u)
+      (ev : place (sameZ b) 0 (column nodeWidth nodes (natAbs (h .nodes))) ≡ At v)
+      (clear : firstReason (reasons s m (addTicket news a b c)) ≡ 0) {face : ℤ}
+      (ef : face ≡ pos (cornerFace m (natAbs a) (startWay (curveOf c)))) where
     abbrev φ : ℕ
     φ = cornerFace m (natAbs a) (startWay (curveOf c))
 
@@ -121,26 +136,37 @@ module _ {nodes edges faces : List ℤ} {h : Head} (f : Formed nodes edges faces
       edges-are = ap (λ (x : Map). x .edges) map-is
 
       -- the last row is that of the new edge
-      pub last : outlineOf (edgeAt edges′ (natAbs (h .edges) + 1 - 1)) ≡ drawnOutline (m .nextEdge) (natAbs a) (natAbs b) φ
+      pub last : outlineOf (edgeAt edges′ (natAbs (h .edges) + 1 - 1))
+          ≡ drawnOutline (m .nextEdge) (natAbs a) (natAbs b) φ
       unfolding mapOf
       last =
-          ap outlineOf (sym (edges-getD edges′ (natAbs (h .edges) + 1) (natAbs (h .edges) + 1 - 1) missing (omega arith)))
+          ap outlineOf (sym (edges-getD edges′ (natAbs (h .edges) + 1) (natAbs (h .edges) + 1 - 1) missing
+          (omega arith)))
           ∙ sym (List·getD-map outlineOf (edgesOf edges′ (natAbs (h .edges) + 1)) (natAbs (h .edges) + 1 - 1) missing)
-          ∙ ap (λ (os : List Outline). getD os (natAbs (h .edges) + 1 - 1) (outlineOf missing)) (ap (map outlineOf) edges-are ∙ drawn-shape (natAbs a) (natAbs b) (curveOf c) φ m .outlines)
-          ∙ getD-at (outlines m) (drawnOutline (m .nextEdge) (natAbs a) (natAbs b) φ) [] (outlineOf missing) (natAbs (h .edges) + 1 - 1) (omega (arith, length-map (m .edges) outlineOf, edges-length edges (natAbs (h .edges))))
+          ∙ ap (λ (os : List Outline). getD os (natAbs (h .edges) + 1 - 1) (outlineOf missing))
+          (ap (map outlineOf) edges-are ∙ drawn-shape (natAbs a) (natAbs b) (curveOf c) φ m .outlines)
+          ∙ getD-at (outlines m) (drawnOutline (m .nextEdge) (natAbs a) (natAbs b) φ) [] (outlineOf missing)
+          (natAbs (h .edges) + 1 - 1) (omega
+          (arith, length-map (m .edges) outlineOf, edges-length edges (natAbs (h .edges))))
 
-      ends : all (λ r. hasNode (nodeMap nodes′ (natAbs (h .nodes))) (r .start) && hasNode (nodeMap nodes′ (natAbs (h .nodes))) (r .end)) (edgesOf edges′ (natAbs (h .edges) + 1)) ≡ true
-      ends = each-all _ (edgesOf edges′ (natAbs (h .edges) + 1)) (λ r k. let e = drawn-ends m (formed-map f) t r (subst (List·Memᴰ r) edges-are k) in and-is (there (r .start) (e .0)) (there (r .end) (e .1)))
+      ends : allOf (λ r. hasNode (nodeMap nodes′ (natAbs (h .nodes))) (r .start)
+          && hasNode (nodeMap nodes′ (natAbs (h .nodes))) (r .end)) (edgesOf edges′ (natAbs (h .edges) + 1)) ≡ true
+      ends = each-all _ (edgesOf edges′ (natAbs (h .edges) + 1))
+          (λ r k. let e = drawn-ends m (formed-map f) t r (subst (List·Memᴰ r) edges-are k) in
+          and-is (there (r .start) (e .0)) (there (r .end) (e .1)))
         where
-          there : (n : ℕ) → List·Memᴰ n (map nodeNumber (D .nodes)) → hasNode (nodeMap nodes′ (natAbs (h .nodes))) n ≡ true
+          there : (n : ℕ) → List·Memᴰ n (map nodeNumber (D .nodes)) → hasNode (nodeMap nodes′ (natAbs (h .nodes))) n
+              ≡ true
           there n k = has-number nodeNumber (nodesOf nodes′ (natAbs (h .nodes))) n (rw nodes-are k)
 
       -- the corner face exists
-      face-there : any (same (natAbs face)) (facesOf faces (natAbs (h .faces))) ≡ true
+      face-there : anyOf (same (natAbs face)) (facesOf faces (natAbs (h .faces))) ≡ true
       unfolding mapOf
-      face-there = ap (λ (z : ℤ). any (same (natAbs z)) (facesOf faces (natAbs (h .faces)))) ef ∙ has-face m φ (corner-in m (natAbs a) (startWay (curveOf c)) (t .has-start) ranked)
+      face-there = ap (λ (z : ℤ). anyOf (same (natAbs z)) (facesOf faces (natAbs (h .faces)))) ef
+          ∙ has-face m φ (corner-in m (natAbs a) (startWay (curveOf c)) (t .has-start) ranked)
 
-      pub splits : splitsFace (natAbs a) (natAbs b) (curveOf c) m ≡ true → Splittable nodes′ edges′ faces (drawnHead h) face
+      pub splits : splitsFace (natAbs a) (natAbs b) (curveOf c) m ≡ true
+          → Splittable nodes′ edges′ faces (drawnHead h) face
       splits e =
           record {
             held = drawn-held (d .held);

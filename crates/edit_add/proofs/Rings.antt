@@ -1,8 +1,10 @@
--- An edge that nothing turns down, drawn into a map in form: links name each directed edge once, rings bear one face, and edges end at nodes. Assumes nothing.
+-- An edge that nothing turns down, drawn into a map in form: links name each directed edge once, rings bear one face,
+-- and edges end at nodes. Assumes nothing.
 use mathlib.Core.Path.{_≡_, refl, sym, ap, _∙_, subst}
 use mathlib.Core.Logic.{inl, inr}
 use mathlib.Core.Bool.{Bool, true}
-use mathlib.Core.List.{List, [], map, List·Memᴰ, List·Memᴰ·append-cases, List·Memᴰ·eq-of-singleton, Memᴰ·map, Memᴰ·of-map}
+use mathlib.Core.List.{List, [], map, List·Memᴰ, List·Memᴰ·append-cases, List·Memᴰ·eq-of-singleton, Memᴰ·map}
+use mathlib.Core.List.{Memᴰ·of-map}
 use mathlib.Core.Option.{none}
 use Prim.Native.Nat.{ℕ}
 use lib.IntN.{ℤ}
@@ -38,7 +40,11 @@ module _ (m : Map) (l : Linked (arcs m) (leaves m) (next m) (bears m)) (dis : Di
   -- so are its rows in a table
   pub linked-ringed : (es : List ℤ) (n : ℕ) → m .edges ≡ edgesOf es n → Ringed es n
   unfolding linksOnce ringsBearOne next bears edge
-  linked-ringed es n E = record { once = sym (ap (λ (l : List Edge). linksOnce (alone l)) E) ∙ linked-once m l dis; one-face = sym (ap (λ (l : List Edge). ringsBearOne (alone l)) E) ∙ linked-bear m l }
+  linked-ringed es n E = record {
+    once = sym (ap (λ (l : List Edge). linksOnce (alone l)) E)
+        ∙ linked-once m l dis;
+    one-face = sym (ap (λ (l : List Edge). ringsBearOne (alone l)) E) ∙ linked-bear m l;
+  }
 
 -- ---- a map in form
 
@@ -49,7 +55,8 @@ Ends ns o = List·Memᴰ (o .arc .from) ns × List·Memᴰ (o .arc .to) ns
 module _ (m : Map) (h : formed m ≡ true) where
   module _ {news : Bool} {s : Sizes} {u v : ℕ} {c : Curve} (t : AddEdge news s m u v c) where
     draws : Draws m u v c (cornerFace m u (startWay c))
-    draws = draws-edge t (formedLinks.linked m h) (formedLinks.edges-once m h) (formed-apart m h) (edge-new m (formed-is m h .numbers .edges .below))
+    draws = draws-edge t (formedLinks.linked m h) (formedLinks.edges-once m h) (formed-apart m h)
+        (edge-new m (formed-is m h .numbers .edges .below))
 
     pub drawn-ringed : (es : List ℤ) (n : ℕ) → drawnIn u v c m .edges ≡ edgesOf es n → Ringed es n
     drawn-ringed = linked-ringed (drawnIn u v c m) (D-linked m u v c _ draws) (D-once m u v c _ draws)
@@ -60,16 +67,25 @@ module _ (m : Map) (h : formed m ≡ true) where
     D = drawnIn u v c m
 
     numbers : map nodeNumber (D .nodes) ≡ map nodeNumber (m .nodes)
-    numbers = ap (map nodeNumber) (drawn-shape u v c (cornerFace m u (startWay c)) m .nodes) ∙ numbers-kept (isEither u v) (withFace none) (m .nodes) (λ n. refl)
+    numbers = ap (map nodeNumber) (drawn-shape u v c (cornerFace m u (startWay c)) m .nodes)
+        ∙ numbers-kept (isEither u v) (withFace none) (m .nodes) (λ n. refl)
 
     ends : (o : Outline) → List·Memᴰ o (outlines D) → Ends (map nodeNumber (m .nodes)) o
-    ends o k = elim (List·Memᴰ·append-cases (outlines m) (subst (List·Memᴰ o) (drawn-shape u v c (cornerFace m u (startWay c)) m .outlines) k)) [
-      | inl i ↦ let r = Memᴰ·of-map outlineOf (m .edges) i in subst (Ends (map nodeNumber (m .nodes))) (r .2) (within .starts _ (arc-at m (r .1)), within .ends _ (arc-at m (r .1)))
-      | inr i ↦ subst (Ends (map nodeNumber (m .nodes))) (sym (List·Memᴰ·eq-of-singleton i)) (number-has nodeNumber noNode (m .nodes) u (t .has-start), number-has nodeNumber noNode (m .nodes) v (t .has-end))
-    ]
+    ends o k = elim (List·Memᴰ·append-cases (outlines m)
+        (subst (List·Memᴰ o) (drawn-shape u v c (cornerFace m u (startWay c)) m .outlines) k)) [
+          | inl i ↦ let r = Memᴰ·of-map outlineOf (m .edges) i in
+              subst (Ends (map nodeNumber (m .nodes))) (r .2)
+              (within .starts _ (arc-at m (r .1)), within .ends _ (arc-at m (r .1)))
+          | inr i ↦ subst (Ends (map nodeNumber (m .nodes))) (sym (List·Memᴰ·eq-of-singleton i)) (
+            number-has nodeNumber noNode (m .nodes) u (t .has-start),
+            number-has nodeNumber noNode (m .nodes) v (t .has-end),
+          )
+        ]
       where
         within : Within (map nodeNumber (m .nodes)) (arcs m)
         within = formedLinks.within-nodes m h
 
-    pub drawn-ends : (r : Edge) → List·Memᴰ r (drawnIn u v c m .edges) → List·Memᴰ (r .start) (map nodeNumber (drawnIn u v c m .nodes)) × List·Memᴰ (r .end) (map nodeNumber (drawnIn u v c m .nodes))
+    pub drawn-ends : (r : Edge) → List·Memᴰ r (drawnIn u v c m .edges)
+        → List·Memᴰ (r .start) (map nodeNumber (drawnIn u v c m .nodes))
+        × List·Memᴰ (r .end) (map nodeNumber (drawnIn u v c m .nodes))
     drawn-ends r k = rw numbers (ends (outlineOf r) (Memᴰ·map outlineOf k))

@@ -1,6 +1,6 @@
 // Kinds 11 and 12: an edge drawn, and where it splits a face, the face shared out.
-use outcomes::Done;
 use map::Head;
+use outcomes::Done;
 ghost use mathlib.Core.Path.{_≡_};
 ghost use Rattle.form_ranges.specs.Ranges.{lent};
 ghost use Rattle.outcomes.specs.Outcomes.{Formed, decided, outcome};
@@ -17,7 +17,9 @@ pub fn add_edge(
     c: &[i64],
 ) -> Done
     requires { ⌜ Formed (now nodes) (now edges) (now faces) h ⌝ }
-    ensures { λ r. ⌜ outcome (now (nodes .exit)) (now (edges .exit)) (now (faces .exit)) r ≡ decided (lent (now (nodes .entry)) (now (edges .entry)) (now (faces .entry)) h) (addTicket news start end (now (c .entry))) ⌝ }
+    ensures { λ r. ⌜ outcome (now (nodes .exit)) (now (edges .exit)) (now (faces .exit)) r
+        ≡ decided (lent (now (nodes .entry)) (now (edges .entry)) (now (faces .entry)) h)
+        (addTicket news start end (now (c .entry))) ⌝ }
 {
     let judged = reason_edges::judge_add(nodes, edges, faces, h, news, start, end, c);
     let reason = judged.reason;

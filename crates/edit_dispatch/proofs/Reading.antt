@@ -41,7 +41,11 @@ NoneOf (suc n) x = NoneOf n x × (x ≡ suc n → ⊥)
 
 none-of : (n k x : ℕ) → NoneOf n x → x ≡ suc k → k < n → ⊥
 none-of zero k x h e l = omega arith
-none-of (suc n) k x h e l = elim (equal? k n) [ inl q ↦ h .1 (omega arith) | inr q ↦ none-of n k x (h .0) e (omega arith) ]
+none-of (suc n) k x h e l = elim (equal? k n) [
+  | inl q ↦ h .1 (omega arith)
+  | inr q ↦ none-of n k x (h .0) e
+      (omega arith)
+]
 
 -- no kind
 read-unknown : (t : List ℤ) → NoneOf 14 (ofZ w64 (getD t 0 (pos 0))) → read t ≡ none
@@ -63,16 +67,20 @@ read-empty (z ∷ r) n = absurd (omega arith)
 
 -- ---- no ticket
 
-pub shaped-none : (nodes edges faces : List ℤ) (h : Head) {o : Option Ticket} {d : Done} → d ≡ record { head = h; answer = record { refusal = 3; value = pos 0 } } → o ≡ none → outcome nodes edges faces d ≡ shaped (lent nodes edges faces h) o
+pub shaped-none : (nodes edges faces : List ℤ) (h : Head) {o : Option Ticket} {d : Done} → d
+    ≡ record { head = h; answer = record { refusal = 3; value = pos 0 } } → o ≡ none → outcome nodes edges faces d
+    ≡ shaped (lent nodes edges faces h) o
 shaped-none nodes edges faces h e n = rw (n, e)
 
 -- ---- tables in form
 
 module _ {nodes edges faces : List ℤ} {h : Head} (f : Formed nodes edges faces h) where
   past : (rs : Reasons) → firstReason (lentReasons (lent nodes edges faces h) ++ rs) ≡ firstReason rs
-  past rs = first-miss 1 (not (whole (lent nodes edges faces h))) ((2, not (inForm (lent nodes edges faces h))) ∷ rs) (ap not (f .whole)) ∙ first-miss 2 (not (inForm (lent nodes edges faces h))) rs (ap not (f .in-form))
+  past rs = first-miss 1 (not (whole (lent nodes edges faces h))) ((2, not (inForm (lent nodes edges faces h))) ∷ rs)
+      (ap not (f .whole)) ∙ first-miss 2 (not (inForm (lent nodes edges faces h))) rs (ap not (f .in-form))
 
-  judged-shaped : (o : Option Ticket) → judged (lent nodes edges faces h) (mapOf (lent nodes edges faces h)) o ≡ shaped (lent nodes edges faces h) o
+  judged-shaped : (o : Option Ticket) → judged (lent nodes edges faces h) (mapOf (lent nodes edges faces h)) o
+      ≡ shaped (lent nodes edges faces h) o
   judged-shaped none = ap (refused (lent nodes edges faces h)) (past ((3, true) ∷ []) ∙ first-hit 3 true [] refl)
   judged-shaped (some t) = rw past
 
@@ -81,13 +89,16 @@ module _ {nodes edges faces : List ℤ} {h : Head} (f : Formed nodes edges faces
   ticket-shaped t = judged-shaped (read t)
 
   module _ (t : List ℤ) where
-    pub ticket-kind : (k : ℕ) → SFits w64 (getD t 0 (pos 0)) → ofZ w64 (getD t 0 (pos 0)) ≡ suc k → k < 14 → shaped (lent nodes edges faces h) (getD kinds k (λ s. none) (drop 1 t)) ≡ ticket (lent nodes edges faces h) t
+    pub ticket-kind : (k : ℕ) → SFits w64 (getD t 0 (pos 0)) → ofZ w64 (getD t 0 (pos 0)) ≡ suc k → k < 14
+        → shaped (lent nodes edges faces h) (getD kinds k (λ s. none) (drop 1 t)) ≡ ticket (lent nodes edges faces h) t
     ticket-kind k s e l =
-        let z : getD t 0 (pos 0) ≡ pos (suc k) = sym (toZ-ofZ {w = w64} s) ∙ ap (toZ w64) e ∙ toZ-pos w64 (omega arith) in
+        let z : getD t 0 (pos 0) ≡ pos (suc k) = sym (toZ-ofZ {w = w64} s) ∙ ap (toZ w64) e
+        ∙ toZ-pos w64 (omega arith) in
         sym (ticket-shaped t ∙ ap (shaped (lent nodes edges faces h)) (read-kind t k z))
 
     module _ {d : Done} (e : d ≡ record { head = h; answer = record { refusal = 3; value = pos 0 } }) where
-      pub ticket-unknown : NoneOf 14 (ofZ w64 (getD t 0 (pos 0))) → outcome nodes edges faces d ≡ ticket (lent nodes edges faces h) t
+      pub ticket-unknown : NoneOf 14 (ofZ w64 (getD t 0 (pos 0))) → outcome nodes edges faces d
+          ≡ ticket (lent nodes edges faces h) t
       ticket-unknown n = shaped-none nodes edges faces h e (read-unknown t n) ∙ sym (ticket-shaped t)
 
       pub ticket-empty : length t ≡ 0 → outcome nodes edges faces d ≡ ticket (lent nodes edges faces h) t

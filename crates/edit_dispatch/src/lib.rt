@@ -1,9 +1,10 @@
 // Fourteen kinds, chosen by the ticket's first number: a match on it decides argument count and edit.
-use outcomes::Done;
 use map::Head;
+use outcomes::Done;
 ghost use mathlib.Core.Path.{_≡_};
 ghost use lib.ListN.{drop};
-ghost use Rattle.map.specs.Tickets.{AddIsoNode, MoveIsoNode, RemoveIsoNode, AddIsoEdge, RemoveIsoEdge, ChangeEdgeGeom, one, two, three, oneCurve, twoCurve};
+ghost use Rattle.map.specs.Tickets.{AddIsoNode, MoveIsoNode, RemoveIsoNode, AddIsoEdge, RemoveIsoEdge, ChangeEdgeGeom};
+ghost use Rattle.map.specs.Tickets.{one, two, three, oneCurve, twoCurve};
 ghost use Rattle.map.specs.Ticket.{ticket};
 ghost use Rattle.form_ranges.specs.Ranges.{lent};
 ghost use Rattle.outcomes.specs.Outcomes.{Formed, outcome};
@@ -16,7 +17,9 @@ ghost use Rattle.edit_dispatch.specs.Shaped.{shaped};
 
 fn add_node(nodes: &mut [i64], edges: &[i64], faces: &[i64], h: Head, t: &[i64]) -> Done
     requires { ⌜ Formed (now nodes) (now edges) (now faces) h ⌝ }
-    ensures { λ r. ⌜ outcome (now (nodes .exit)) (now (edges .entry)) (now (faces .entry)) r ≡ shaped (lent (now (nodes .entry)) (now (edges .entry)) (now (faces .entry)) h) (three AddIsoNode (drop 1 (now (t .entry)))) ⌝ }
+    ensures { λ r. ⌜ outcome (now (nodes .exit)) (now (edges .entry)) (now (faces .entry)) r
+        ≡ shaped (lent (now (nodes .entry)) (now (edges .entry)) (now (faces .entry)) h)
+        (three AddIsoNode (drop 1 (now (t .entry)))) ⌝ }
 {
     if t.len() != 4 {
         return outcomes::refused(h, 3);
@@ -26,7 +29,10 @@ fn add_node(nodes: &mut [i64], edges: &[i64], faces: &[i64], h: Head, t: &[i64])
 
 fn move_node(nodes: &mut [i64], edges: &[i64], h: Head, t: &[i64]) -> Done
     requires { ⌜ ((faces : _) × Formed (now nodes) (now edges) faces h) ⌝ }
-    ensures { λ r. ⌜ ((faces : _) → Formed (now (nodes .entry)) (now (edges .entry)) faces h → outcome (now (nodes .exit)) (now (edges .entry)) faces r ≡ shaped (lent (now (nodes .entry)) (now (edges .entry)) faces h) (three MoveIsoNode (drop 1 (now (t .entry))))) ⌝ }
+    ensures { λ r. ⌜ ((faces : _) → Formed (now (nodes .entry)) (now (edges .entry)) faces h
+        → outcome (now (nodes .exit)) (now (edges .entry)) faces r
+        ≡ shaped (lent (now (nodes .entry)) (now (edges .entry)) faces h)
+        (three MoveIsoNode (drop 1 (now (t .entry))))) ⌝ }
 {
     if t.len() != 4 {
         return outcomes::refused(h, 3);
@@ -36,7 +42,9 @@ fn move_node(nodes: &mut [i64], edges: &[i64], h: Head, t: &[i64]) -> Done
 
 fn remove_node(nodes: &mut [i64], h: Head, t: &[i64]) -> Done
     requires { ⌜ ((edges : _) × (faces : _) × Formed (now nodes) edges faces h) ⌝ }
-    ensures { λ r. ⌜ ((edges : _) (faces : _) → Formed (now (nodes .entry)) edges faces h → outcome (now (nodes .exit)) edges faces r ≡ shaped (lent (now (nodes .entry)) edges faces h) (one RemoveIsoNode (drop 1 (now (t .entry))))) ⌝ }
+    ensures { λ r. ⌜ ((edges : _) (faces : _) → Formed (now (nodes .entry)) edges faces h
+        → outcome (now (nodes .exit)) edges faces r
+        ≡ shaped (lent (now (nodes .entry)) edges faces h) (one RemoveIsoNode (drop 1 (now (t .entry))))) ⌝ }
 {
     if t.len() != 2 {
         return outcomes::refused(h, 3);
@@ -46,7 +54,10 @@ fn remove_node(nodes: &mut [i64], h: Head, t: &[i64]) -> Done
 
 fn add_lone_edge(nodes: &mut [i64], edges: &mut [i64], h: Head, t: &[i64]) -> Done
     requires { ⌜ ((faces : _) × Formed (now nodes) (now edges) faces h) ⌝ }
-    ensures { λ r. ⌜ ((faces : _) → Formed (now (nodes .entry)) (now (edges .entry)) faces h → outcome (now (nodes .exit)) (now (edges .exit)) faces r ≡ shaped (lent (now (nodes .entry)) (now (edges .entry)) faces h) (twoCurve AddIsoEdge (drop 1 (now (t .entry))))) ⌝ }
+    ensures { λ r. ⌜ ((faces : _) → Formed (now (nodes .entry)) (now (edges .entry)) faces h
+        → outcome (now (nodes .exit)) (now (edges .exit)) faces r
+        ≡ shaped (lent (now (nodes .entry)) (now (edges .entry)) faces h)
+        (twoCurve AddIsoEdge (drop 1 (now (t .entry))))) ⌝ }
 {
     let n = t.len();
     if (n < 3) | (n % 2 == 0) {
@@ -57,7 +68,10 @@ fn add_lone_edge(nodes: &mut [i64], edges: &mut [i64], h: Head, t: &[i64]) -> Do
 
 fn remove_lone_edge(nodes: &mut [i64], edges: &mut [i64], h: Head, t: &[i64]) -> Done
     requires { ⌜ ((faces : _) × Formed (now nodes) (now edges) faces h) ⌝ }
-    ensures { λ r. ⌜ ((faces : _) → Formed (now (nodes .entry)) (now (edges .entry)) faces h → outcome (now (nodes .exit)) (now (edges .exit)) faces r ≡ shaped (lent (now (nodes .entry)) (now (edges .entry)) faces h) (one RemoveIsoEdge (drop 1 (now (t .entry))))) ⌝ }
+    ensures { λ r. ⌜ ((faces : _) → Formed (now (nodes .entry)) (now (edges .entry)) faces h
+        → outcome (now (nodes .exit)) (now (edges .exit)) faces r
+        ≡ shaped (lent (now (nodes .entry)) (now (edges .entry)) faces h)
+        (one RemoveIsoEdge (drop 1 (now (t .entry))))) ⌝ }
 {
     if t.len() != 2 {
         return outcomes::refused(h, 3);
@@ -67,7 +81,10 @@ fn remove_lone_edge(nodes: &mut [i64], edges: &mut [i64], h: Head, t: &[i64]) ->
 
 fn change_curve(nodes: &[i64], edges: &mut [i64], h: Head, t: &[i64]) -> Done
     requires { ⌜ ((faces : _) × Formed (now nodes) (now edges) faces h) ⌝ }
-    ensures { λ r. ⌜ ((faces : _) → Formed (now (nodes .entry)) (now (edges .entry)) faces h → outcome (now (nodes .entry)) (now (edges .exit)) faces r ≡ shaped (lent (now (nodes .entry)) (now (edges .entry)) faces h) (oneCurve ChangeEdgeGeom (drop 1 (now (t .entry))))) ⌝ }
+    ensures { λ r. ⌜ ((faces : _) → Formed (now (nodes .entry)) (now (edges .entry)) faces h
+        → outcome (now (nodes .entry)) (now (edges .exit)) faces r
+        ≡ shaped (lent (now (nodes .entry)) (now (edges .entry)) faces h)
+        (oneCurve ChangeEdgeGeom (drop 1 (now (t .entry))))) ⌝ }
 {
     let n = t.len();
     if (n < 2) | (n % 2 == 1) {
@@ -78,7 +95,10 @@ fn change_curve(nodes: &[i64], edges: &mut [i64], h: Head, t: &[i64]) -> Done
 
 fn split_edge(nodes: &mut [i64], edges: &mut [i64], h: Head, keeps: bool, t: &[i64]) -> Done
     requires { ⌜ ((faces : _) × Formed (now nodes) (now edges) faces h) ⌝ }
-    ensures { λ r. ⌜ ((faces : _) → Formed (now (nodes .entry)) (now (edges .entry)) faces h → outcome (now (nodes .exit)) (now (edges .exit)) faces r ≡ shaped (lent (now (nodes .entry)) (now (edges .entry)) faces h) (three (splitTicket keeps) (drop 1 (now (t .entry))))) ⌝ }
+    ensures { λ r. ⌜ ((faces : _) → Formed (now (nodes .entry)) (now (edges .entry)) faces h
+        → outcome (now (nodes .exit)) (now (edges .exit)) faces r
+        ≡ shaped (lent (now (nodes .entry)) (now (edges .entry)) faces h)
+        (three (splitTicket keeps) (drop 1 (now (t .entry))))) ⌝ }
 {
     if t.len() != 4 {
         return outcomes::refused(h, 3);
@@ -88,7 +108,10 @@ fn split_edge(nodes: &mut [i64], edges: &mut [i64], h: Head, keeps: bool, t: &[i
 
 fn heal_edges(nodes: &mut [i64], edges: &mut [i64], h: Head, keeps: bool, t: &[i64]) -> Done
     requires { ⌜ ((faces : _) × Formed (now nodes) (now edges) faces h) ⌝ }
-    ensures { λ r. ⌜ ((faces : _) → Formed (now (nodes .entry)) (now (edges .entry)) faces h → outcome (now (nodes .exit)) (now (edges .exit)) faces r ≡ shaped (lent (now (nodes .entry)) (now (edges .entry)) faces h) (two (healTicket keeps) (drop 1 (now (t .entry))))) ⌝ }
+    ensures { λ r. ⌜ ((faces : _) → Formed (now (nodes .entry)) (now (edges .entry)) faces h
+        → outcome (now (nodes .exit)) (now (edges .exit)) faces r
+        ≡ shaped (lent (now (nodes .entry)) (now (edges .entry)) faces h)
+        (two (healTicket keeps) (drop 1 (now (t .entry))))) ⌝ }
 {
     if t.len() != 3 {
         return outcomes::refused(h, 3);
@@ -105,7 +128,9 @@ fn add_edge(
     t: &[i64],
 ) -> Done
     requires { ⌜ Formed (now nodes) (now edges) (now faces) h ⌝ }
-    ensures { λ r. ⌜ outcome (now (nodes .exit)) (now (edges .exit)) (now (faces .exit)) r ≡ shaped (lent (now (nodes .entry)) (now (edges .entry)) (now (faces .entry)) h) (twoCurve (addTicket news) (drop 1 (now (t .entry)))) ⌝ }
+    ensures { λ r. ⌜ outcome (now (nodes .exit)) (now (edges .exit)) (now (faces .exit)) r
+        ≡ shaped (lent (now (nodes .entry)) (now (edges .entry)) (now (faces .entry)) h)
+        (twoCurve (addTicket news) (drop 1 (now (t .entry)))) ⌝ }
 {
     let n = t.len();
     if (n < 3) | (n % 2 == 0) {
@@ -123,7 +148,9 @@ fn remove_edge(
     t: &[i64],
 ) -> Done
     requires { ⌜ Formed (now nodes) (now edges) (now faces) h ⌝ }
-    ensures { λ r. ⌜ outcome (now (nodes .exit)) (now (edges .exit)) (now (faces .exit)) r ≡ shaped (lent (now (nodes .entry)) (now (edges .entry)) (now (faces .entry)) h) (one (removeTicket news) (drop 1 (now (t .entry)))) ⌝ }
+    ensures { λ r. ⌜ outcome (now (nodes .exit)) (now (edges .exit)) (now (faces .exit)) r
+        ≡ shaped (lent (now (nodes .entry)) (now (edges .entry)) (now (faces .entry)) h)
+        (one (removeTicket news) (drop 1 (now (t .entry)))) ⌝ }
 {
     if t.len() != 2 {
         return outcomes::refused(h, 3);
@@ -136,7 +163,8 @@ fn remove_edge(
 // A ticket on tables in form.
 pub fn edit(nodes: &mut [i64], edges: &mut [i64], faces: &mut [i64], h: Head, t: &[i64]) -> Done
     requires { ⌜ Formed (now nodes) (now edges) (now faces) h ⌝ }
-    ensures { λ r. ⌜ outcome (now (nodes .exit)) (now (edges .exit)) (now (faces .exit)) r ≡ ticket (lent (now (nodes .entry)) (now (edges .entry)) (now (faces .entry)) h) (now (t .entry)) ⌝ }
+    ensures { λ r. ⌜ outcome (now (nodes .exit)) (now (edges .exit)) (now (faces .exit)) r
+        ≡ ticket (lent (now (nodes .entry)) (now (edges .entry)) (now (faces .entry)) h) (now (t .entry)) ⌝ }
 {
     if t.len() == 0 {
         return outcomes::refused(h, 3);

@@ -8,7 +8,7 @@ use lib.IntN.{ℤ, pos}
 use lib.ListN.{length, take, replicate, length-append, length-replicate}
 use lib.Seq.{take-take, take-at, length-take-le}
 use borrow.Author.Tests.{le-leb}
-use Rattle.lists.specs.Scans.{all}
+use Rattle.lists.specs.Scans.{allOf}
 use Rattle.lists.specs.Tables.{table}
 use Rattle.lists.proofs.Scans.{length-table}
 use Rattle.plane.specs.declared.Point.{Point}
@@ -34,7 +34,8 @@ pub record Listed (ps : List Point) : Type 0 where
   pub most : count ≤ 12
 
 -- the curve of an edge row, and its reverse
-pub course-listed : {l : List ℤ} {i : ℕ} → EdgeRow l i → (back : Bool) → Listed (points (course back (edgeAt l i .curve)))
+pub course-listed : {l : List ℤ} {i : ℕ} → EdgeRow l i → (back : Bool)
+    → Listed (points (course back (edgeAt l i .curve)))
 course-listed {l} {i} row false =
     record {
       at = pointAt (runAt l i);
@@ -54,9 +55,11 @@ course-listed {l} {i} row true =
       most = few-points (run-at row);
     }
 
-coordinates-of : (f : ℕ → Point) → ((i : ℕ) → InRange (f i)) → (n a : ℕ) → all coordinate (coordinates (table f a n)) ≡ true
+coordinates-of : (f : ℕ → Point) → ((i : ℕ) → InRange (f i)) → (n a : ℕ) → allOf coordinate (coordinates (table f a n))
+    ≡ true
 coordinates-of f h zero a = refl
-coordinates-of f h (suc n) a = rw (coordinate-of (f a .x) (h a .x), coordinate-of (f a .y) (h a .y)) (coordinates-of f h n (a + 1))
+coordinates-of f h (suc n) a = rw (coordinate-of (f a .x) (h a .x), coordinate-of (f a .y) (h a .y))
+    (coordinates-of f h n (a + 1))
 
 module _ {ps : List Point} (k : Listed ps) where
   pub points-count : length ps ≡ k .count
@@ -70,7 +73,11 @@ module _ {ps : List Point} (k : Listed ps) where
   unfolding isRun
   points-run =
       let e : length (coordinates ps) / 2 ≡ k .count = omega (arith, length-coordinates ps, points-count) in
-      record { is = rw (e, le-leb 2 (k .count) (k .least), le-leb (k .count) maxPoints (k .most)) (ap (λ (r : List Point). all coordinate (coordinates r)) (k .is) ∙ coordinates-of (k .at) (k .ranges) (k .count) 0) }
+      record {
+        is = rw (e, le-leb 2 (k .count) (k .least), le-leb (k .count) maxPoints (k .most))
+            (ap (λ (r : List Point). allOf coordinate (coordinates r)) (k .is)
+            ∙ coordinates-of (k .at) (k .ranges) (k .count) 0);
+      }
 
   -- the part of a line that is in use
   module _ (x : Line) (e : x ≡ lineOf ps) where
@@ -80,7 +87,9 @@ module _ {ps : List Point} (k : Listed ps) where
 
     pub line-long : length (x .cells) ≡ 24
     unfolding lineOf
-    line-long = ap (λ (y : Line). length (y .cells)) e ∙ length-take-le 24 (coordinates ps ++ replicate 24 (pos 0)) (simp (length-append, length-replicate) (omega arith))
+    line-long = ap (λ (y : Line). length (y .cells)) e
+        ∙ length-take-le 24 (coordinates ps ++ replicate 24 (pos 0))
+        (simp (length-append, length-replicate) (omega arith))
 
     line-part : take (x .count * 2 - 0) (x .cells) ≡ coordinates ps
     unfolding lineOf

@@ -11,7 +11,7 @@ use lib.Dec.{lit<}
 use lib.IntN.{ℤ, pos, negℤ, natAbs}
 use lib.ListN.{length, getD, take, drop, length-append, length-drop, List·getD-map}
 use lib.Seq.{length-take-le}
-use Rattle.lists.specs.Scans.{all, isSome}
+use Rattle.lists.specs.Scans.{allOf, isSome}
 use Rattle.lists.specs.Tables.{place}
 use Rattle.lists.specs.declared.Found.the-variants.{At}
 use Rattle.lists.specs.Members.{Distinct}
@@ -22,7 +22,8 @@ use Rattle.curve_edits.specs.Lines.{lineOf}
 use Rattle.planar_maps.specs.Map.{Dart, fwd, bwd, rev}
 use Rattle.map.specs.declared.Head.{Head}
 use Rattle.map.specs.Limits.{nodeWidth, edgeWidth}
-use Rattle.map.specs.Rows.{Node, Edge, Map, mapOf, lentOf, sizesOf, filled, nodeCells, edgeCells, dartCell, edge, hasNode, hasEdge, hasFace, atEdge, withoutNode}
+use Rattle.map.specs.Rows.{Node, Edge, Map, mapOf, lentOf, sizesOf, filled, nodeCells, edgeCells, dartCell, edge}
+use Rattle.map.specs.Rows.{hasNode, hasEdge, hasFace, atEdge, withoutNode}
 use Rattle.map.specs.Darts.{leaves, arrives, next, course, departures}
 use Rattle.map.specs.Links.{redirect, instead}
 use Rattle.map.specs.Form.{edgeNames, inFace, named}
@@ -45,12 +46,16 @@ use Rattle.map_rows.specs.Cells.{cellsOf}
 use Rattle.map_rows.proofs.Cells as cells
 use Rattle.form_ranges.specs.Ranges.{lent}
 use Rattle.outcomes.specs.Outcomes.{Formed}
-use Rattle.outcomes.proofs.Formed.{ranges, formed-map, nodes-count, edges-count, faces-count, node-next, edge-next, face-next, edges-size, edge-rows, node-numbers-once, edge-numbers-once, nodes-filled, edges-filled, faces-filled, edges-are-wide, lent-is}
+use Rattle.outcomes.proofs.Formed.{ranges, formed-map, nodes-count, edges-count, faces-count, node-next, edge-next}
+use Rattle.outcomes.proofs.Formed.{face-next, edges-size, edge-rows, node-numbers-once, edge-numbers-once, nodes-filled}
+use Rattle.outcomes.proofs.Formed.{edges-filled, faces-filled, edges-are-wide, lent-is}
 use Rattle.edit_heal.specs.declared.Parts.{Parts}
 use Rattle.edit_heal.specs.Kinds.{healTicket}
-use Rattle.edit_heal.specs.Heals.{PartsOf, courseAt, lineAt, renamed, healedSides, healedRows, placed, healedNumber, healedValue, healedHead}
+use Rattle.edit_heal.specs.Heals.{PartsOf, courseAt, lineAt, renamed, healedSides, healedRows, placed}
+use Rattle.edit_heal.specs.Heals.{healedNumber, healedValue, healedHead}
 use Rattle.edit_heal.proofs.Joints.{joint-is}
-use Rattle.edit_heal.proofs.Renamed.{cell-instead, redirect-wide, redirect-numbers, redirect-length, redirect-filled}
+use Rattle.edit_heal.proofs.Renamed.{cell-instead, redirect-wide, redirect-numbers, redirect-length}
+use Rattle.edit_heal.proofs.Renamed.{redirect-filled}
 use Rattle.edit_heal.proofs.Placed.{placedEdges, placed-table, placed-length}
 
 -- ---- the map after the ticket
@@ -67,16 +72,20 @@ module _ {l : List ℤ} {n i j : ℕ} {s : Parts} (t : EdgeRows l n) (ps : Parts
   unfolding course
   course-at p h = rw (edge-of t (p / 2) (omega arith))
 
-  pub curve-is : joined (courseAt l (s .first)) (courseAt l (s .second)) ≡ healedCurve (edgeMap l n) (edgeAt l i .number) (edgeAt l j .number)
+  pub curve-is : joined (courseAt l (s .first)) (courseAt l (s .second))
+      ≡ healedCurve (edgeMap l n) (edgeAt l i .number) (edgeAt l j .number)
   unfolding healedCurve
   curve-is =
       ap₂ joined (sym (course-at (s .first) (ps .first-below)) ∙ ap (course (edgeMap l n)) (ps .first))
       (sym (course-at (s .second) (ps .second-below)) ∙ ap (course (edgeMap l n)) (ps .second))
 
-  pub line-counted : lineAt l (s .first) (s .second) .count ≡ length (points (healedCurve (edgeMap l n) (edgeAt l i .number) (edgeAt l j .number)))
-  line-counted = cells.line-count (points (joined (courseAt l (s .first)) (courseAt l (s .second)))) ∙ ap (λ (c : Curve). length (points c)) curve-is
+  pub line-counted : lineAt l (s .first) (s .second) .count
+      ≡ length (points (healedCurve (edgeMap l n) (edgeAt l i .number) (edgeAt l j .number)))
+  line-counted = cells.line-count (points (joined (courseAt l (s .first)) (courseAt l (s .second))))
+      ∙ ap (λ (c : Curve). length (points c)) curve-is
 
-module _ {nodes edges faces : List ℤ} {h : Head} (f : Formed nodes edges faces h) (i j : ℕ) (hi : i < natAbs (h .edges)) (hj : j < natAbs (h .edges)) (keeps : Bool)
+module _ {nodes edges faces : List ℤ} {h : Head} (f : Formed nodes edges faces h) (i j : ℕ)
+    (hi : i < natAbs (h .edges)) (hj : j < natAbs (h .edges)) (keeps : Bool)
     (s : Parts) (ps : PartsOf edges (natAbs (h .edges)) i j s) where
   abbrev n : ℕ
   n = natAbs (h .edges)
@@ -127,7 +136,8 @@ module _ {nodes edges faces : List ℤ} {h : Head} (f : Formed nodes edges faces
   back-is = dart-reverse edges (s .second) ∙ ap rev (ps .second)
 
   d-least : 1 ≤ rev d .edge
-  d-least = subst (λ (x : Dart). 1 ≤ x .edge) back-is (dart-least (edge-rows f) (reverseOf (s .second)) (reverse-below n (s .second) (ps .second-below)))
+  d-least = subst (λ (x : Dart). 1 ≤ x .edge) back-is
+      (dart-least (edge-rows f) (reverseOf (s .second)) (reverse-below n (s .second) (ps .second-below)))
 
   abbrev t : List ℤ
   t = renamed edges n (s .first) (s .second) z
@@ -149,8 +159,10 @@ module _ {nodes edges faces : List ℤ} {h : Head} (f : Formed nodes edges faces
 
   renamed-is : t ≡ filled N (flatMap edgeCells (m₂ .edges))
   renamed-is =
-      (λ x. redirected (dartCell (back-is x)) (negℤ (number-is x)) (redirected (dartCell (ps .first x)) (number-is x) (sym (edges-filled f) x) n) n)
-      ∙ ap (λ (u : List ℤ). redirected (dartCell (rev d)) (dartCell (bwd number)) u n) (redirect-filled c (fwd number) c-least m N n (edges-are-wide f) (edges-length edges n))
+      (λ x. redirected (dartCell (back-is x)) (negℤ (number-is x))
+      (redirected (dartCell (ps .first x)) (number-is x) (sym (edges-filled f) x) n) n)
+      ∙ ap (λ (u : List ℤ). redirected (dartCell (rev d)) (dartCell (bwd number)) u n)
+      (redirect-filled c (fwd number) c-least m N n (edges-are-wide f) (edges-length edges n))
       ∙ redirect-filled (rev d) (bwd number) d-least m₁ N n wide₁ long₁
 
   abbrev t₁ : List ℤ
@@ -160,7 +172,8 @@ module _ {nodes edges faces : List ℤ} {h : Head} (f : Formed nodes edges faces
   first-relinked = redirected-relinked (dartCell (dartAt edges (s .first))) z edges n
 
   relinked : Relinked edges t n
-  relinked = relinked-then first-relinked (redirected-relinked (dartCell (dartAt edges (reverseOf (s .second)))) (negℤ z) t₁ n)
+  relinked = relinked-then first-relinked
+      (redirected-relinked (dartCell (dartAt edges (reverseOf (s .second)))) (negℤ z) t₁ n)
 
   -- ---- the row that is written
 
@@ -180,32 +193,44 @@ module _ {nodes edges faces : List ℤ} {h : Head} (f : Formed nodes edges faces
   node-kept : (p : ℕ) → p < n * 2 → sideCell t p 1 ≡ sideCell edges p 1
   node-kept p k =
       let e : sidePlace p 1 ≡ p / 2 * edgeWidth + (1 + p % 2) = omega arith in
-      ap (λ (x : ℕ). getD t x (pos 0)) e ∙ relinked .row (p / 2) (1 + p % 2) (omega arith) (omega arith) (λ q. omega arith) (λ q. omega arith) ∙ ap (λ (x : ℕ). getD edges x (pos 0)) (sym e)
+      ap (λ (x : ℕ). getD t x (pos 0)) e
+      ∙ relinked .row (p / 2) (1 + p % 2) (omega arith) (omega arith) (λ q. omega arith) (λ q. omega arith)
+      ∙ ap (λ (x : ℕ). getD edges x (pos 0)) (sym e)
 
   link-kept : (p : ℕ) → p < n * 2 → sideCell t p 3 ≡ dartCell (next m₂ (dartAt edges p))
   link-kept p k =
       let x = dartAt edges p in
       let has = dart-named (edge-rows f) p k in
-      redirected-link (dartCell (dartAt edges (reverseOf (s .second)))) (negℤ z) t₁ n (rw (first-relinked .long) (edge-rows f .fits)) p k
-      ∙ ap (newFor (dartCell (dartAt edges (reverseOf (s .second)))) (negℤ z)) (redirected-link (dartCell (dartAt edges (s .first))) z edges n (edge-rows f .fits) p k)
-      ∙ (λ y. newFor (dartCell (back-is y)) (negℤ (number-is y)) (newFor (dartCell (ps .first y)) (number-is y) (cell-next (edge-rows f) p k y)))
+      redirected-link (dartCell (dartAt edges (reverseOf (s .second)))) (negℤ z) t₁ n
+      (rw (first-relinked .long) (edge-rows f .fits)) p k
+      ∙ ap (newFor (dartCell (dartAt edges (reverseOf (s .second)))) (negℤ z))
+      (redirected-link (dartCell (dartAt edges (s .first))) z edges n (edge-rows f .fits) p k)
+      ∙ (λ y. newFor (dartCell (back-is y)) (negℤ (number-is y))
+      (newFor (dartCell (ps .first y)) (number-is y) (cell-next (edge-rows f) p k y)))
       ∙ ap (newFor (dartCell (rev d)) (dartCell (bwd number))) (cell-instead c (fwd number) c-least (next m x))
       ∙ cell-instead (rev d) (bwd number) d-least (instead c (fwd number) (next m x))
-      ∙ ap dartCell (sym (redirect-next (rev d) (bwd number) m₁ x (redirect-has c (fwd number) m (x .edge) ∙ has) ∙ ap (instead (rev d) (bwd number)) (redirect-next c (fwd number) m x has)))
+      ∙ ap dartCell (sym (redirect-next (rev d) (bwd number) m₁ x (redirect-has c (fwd number) m (x .edge) ∙ has)
+      ∙ ap (instead (rev d) (bwd number)) (redirect-next c (fwd number) m x has)))
 
   module _ (few : length (points (healedCurve m a b)) ≤ 12) where
-    row-written : cellsOf (healedSides t i (s .first) (s .second) z) (lineAt edges (s .first) (s .second)) ≡ edgeCells row
+    row-written : cellsOf (healedSides t i (s .first) (s .second) z) (lineAt edges (s .first) (s .second))
+        ≡ edgeCells row
     unfolding row
     row-written =
         let rows = edge-rows f in
         ap (λ (y : Curve). cellsOf (healedSides t i (s .first) (s .second) z) (lineOf (points y))) (curve-is rows ps)
         ∙ cells.row-cells (healedSides t i (s .first) (s .second) z) row number-is
-        (node-kept (s .first) (ps .first-below) ∙ cell-leaves rows (s .first) (ps .first-below) ∙ ap (λ (x : Dart). pos (leaves m x)) (ps .first))
-        (node-kept (reverseOf (s .second)) (reverse-below n (s .second) (ps .second-below)) ∙ cell-arrives rows (s .second) (ps .second-below) ∙ ap (λ (x : Dart). pos (arrives m x)) (ps .second))
+        (node-kept (s .first) (ps .first-below) ∙ cell-leaves rows (s .first) (ps .first-below)
+        ∙ ap (λ (x : Dart). pos (leaves m x)) (ps .first))
+        (node-kept (reverseOf (s .second)) (reverse-below n (s .second) (ps .second-below))
+        ∙ cell-arrives rows (s .second) (ps .second-below) ∙ ap (λ (x : Dart). pos (arrives m x)) (ps .second))
         (link-kept (s .second) (ps .second-below) ∙ ap (λ (x : Dart). dartCell (next m₂ x)) (ps .second))
-        (link-kept (reverseOf (s .first)) (reverse-below n (s .first) (ps .first-below)) ∙ ap (λ (x : Dart). dartCell (next m₂ x)) (dart-reverse edges (s .first) ∙ ap rev (ps .first)))
-        (relinked .row i 5 hi (lit< tt) (λ q. omega arith) (λ q. omega arith) ∙ cells-of rows i hi .left ∙ ap (λ (r : Edge). pos (r .left)) (sym (edge-of rows i hi)))
-        (relinked .row i 6 hi (lit< tt) (λ q. omega arith) (λ q. omega arith) ∙ cells-of rows i hi .right ∙ ap (λ (r : Edge). pos (r .right)) (sym (edge-of rows i hi)))
+        (link-kept (reverseOf (s .first)) (reverse-below n (s .first) (ps .first-below))
+        ∙ ap (λ (x : Dart). dartCell (next m₂ x)) (dart-reverse edges (s .first) ∙ ap rev (ps .first)))
+        (relinked .row i 5 hi (lit< tt) (λ q. omega arith) (λ q. omega arith) ∙ cells-of rows i hi .left
+        ∙ ap (λ (r : Edge). pos (r .left)) (sym (edge-of rows i hi)))
+        (relinked .row i 6 hi (lit< tt) (λ q. omega arith) (λ q. omega arith) ∙ cells-of rows i hi .right
+        ∙ ap (λ (r : Edge). pos (r .right)) (sym (edge-of rows i hi)))
         few
 
     row-wide : length (edgeCells row) ≡ 32
@@ -235,16 +260,20 @@ module _ {nodes edges faces : List ℤ} {h : Head} (f : Formed nodes edges faces
       fits : length (m₂ .edges) * 32 ≤ N
       fits = rw long₂ (omega (arith, edges-count f .2, edges-size f .0))
 
-      edges-healed : healedRows edges n i j (s .first) (s .second) keeps z (lineAt edges (s .first) (s .second)) ≡ filled N (flatMap edgeCells (placedEdges keeps a b row (m₂ .edges)))
+      edges-healed : healedRows edges n i j (s .first) (s .second) keeps z (lineAt edges (s .first) (s .second))
+          ≡ filled N (flatMap edgeCells (placedEdges keeps a b row (m₂ .edges)))
       edges-healed =
           (λ x. placed keeps (renamed-is x) (sym long₂ x) i j (row-written x))
           ∙ placed-table N (m₂ .edges) wide₂ once i j (rw long₂ hi) (rw long₂ hj) apart row row row-wide fits keeps kept
-          ∙ ap₂ (λ (x y : ℕ). filled N (flatMap edgeCells (placedEdges keeps x y row (m₂ .edges)))) (number-at i hi) (number-at j hj)
+          ∙ ap₂ (λ (x y : ℕ). filled N (flatMap edgeCells (placedEdges keeps x y row (m₂ .edges)))) (number-at i hi)
+          (number-at j hj)
 
       edges-fewer : length (placedEdges keeps a b row (m₂ .edges)) ≡ n - 1
       edges-fewer =
-          ap₂ (λ (x y : ℕ). length (placedEdges keeps x y row (m₂ .edges))) (sym (number-at i hi)) (sym (number-at j hj))
-          ∙ placed-length N (m₂ .edges) wide₂ once i j (rw long₂ hi) (rw long₂ hj) apart row row row-wide fits keeps kept
+          ap₂ (λ (x y : ℕ). length (placedEdges keeps x y row (m₂ .edges))) (sym (number-at i hi))
+          (sym (number-at j hj))
+          ∙ placed-length N (m₂ .edges) wide₂ once i j (rw long₂ hi)
+          (rw long₂ hj) apart row row row-wide fits keeps kept
           ∙ ap (λ (k : ℕ). k - 1) long₂
 
       -- ---- the nodes
@@ -265,25 +294,31 @@ module _ {nodes edges faces : List ℤ} {h : Head} (f : Formed nodes edges faces
         in-nodes : k < length (nodesOf nodes nodeCount)
         in-nodes = rw (nodes-length nodes nodeCount) below
 
-        fewer-nodes : withoutNode joined-node (nodesOf nodes nodeCount) ≡ take k (nodesOf nodes nodeCount) ++ drop (suc k) (nodesOf nodes nodeCount)
+        fewer-nodes : withoutNode joined-node (nodesOf nodes nodeCount) ≡ take k (nodesOf nodes nodeCount)
+            ++ drop (suc k) (nodesOf nodes nodeCount)
         fewer-nodes =
             let xs = nodesOf nodes nodeCount in
-            ap (λ (x : ℕ). withoutNode x xs) (is-joint ∙ ap (λ (r : Node). r .number) (sym (nodes-getD nodes nodeCount k (nodeAt nodes k) below)))
+            ap (λ (x : ℕ). withoutNode x xs)
+            (is-joint ∙ ap (λ (r : Node). r .number) (sym (nodes-getD nodes nodeCount k (nodeAt nodes k) below)))
             ∙ without-at (λ (r : Node). r .number) xs (node-numbers-once f) k (nodeAt nodes k) in-nodes
 
-        nodes-healed : filled (length nodes / nodeWidth * nodeWidth) (flatMap nodeCells (withoutNode joined-node (nodesOf nodes nodeCount))) ≡ closed nodeWidth nodes nodeCount k
+        nodes-healed : filled (length nodes / nodeWidth * nodeWidth)
+            (flatMap nodeCells (withoutNode joined-node (nodesOf nodes nodeCount))) ≡ closed nodeWidth nodes nodeCount k
         nodes-healed =
             let xs = nodesOf nodes nodeCount in
             let size = length nodes / nodeWidth * nodeWidth in
             ap (λ (r : List Node). filled size (flatMap nodeCells r)) fewer-nodes
-            ∙ sym (removed-at nodeWidth nodeCells size xs k (nodeAt nodes k) (nodes-wide xs) in-nodes (rw (nodes-length nodes nodeCount) (omega (arith, nodes-count f .2))))
+            ∙ sym (removed-at nodeWidth nodeCells size xs k (nodeAt nodes k) (nodes-wide xs) in-nodes
+            (rw (nodes-length nodes nodeCount) (omega (arith, nodes-count f .2))))
             ∙ ap₂ (λ (l : List ℤ) (x : ℕ). closed nodeWidth l x k) (nodes-filled f) (nodes-length nodes nodeCount)
 
         nodes-fewer : length (withoutNode joined-node (nodesOf nodes nodeCount)) ≡ nodeCount - 1
         nodes-fewer =
             let xs = nodesOf nodes nodeCount in
             let long = nodes-length nodes nodeCount in
-            ap length fewer-nodes ∙ length-append (take k xs) (drop (suc k) xs) ∙ rw (length-take-le k xs (rw long (omega (arith, below))), length-drop (suc k) xs, long) (omega (arith, below))
+            ap length fewer-nodes ∙ length-append (take k xs) (drop (suc k) xs)
+            ∙ rw (length-take-le k xs (rw long (omega (arith, below))), length-drop (suc k) xs, long)
+            (omega (arith, below))
 
         -- ---- the map
 
@@ -299,10 +334,14 @@ module _ {nodes edges faces : List ℤ} {h : Head} (f : Formed nodes edges faces
             }
 
         heal-is : heal keeps a b whole ≡ healed
-        unfolding heal healed row mapOf healedCurve parts joint sharedNodes departures leaves next course edge redirect atEdge
+        unfolding heal healed row mapOf healedCurve parts joint sharedNodes departures leaves next course edge redirect
+            atEdge
         heal-is = refl
 
-        healed-lent : lentOf (sizesOf (lent nodes edges faces h)) healed ≡ lent (closed nodeWidth nodes nodeCount k) (healedRows edges n i j (s .first) (s .second) keeps z (lineAt edges (s .first) (s .second))) faces (healedHead h keeps)
+        healed-lent : lentOf (sizesOf (lent nodes edges faces h)) healed
+            ≡ lent (closed nodeWidth nodes nodeCount k)
+            (healedRows edges n i j (s .first) (s .second) keeps z (lineAt edges (s .first) (s .second))) faces
+            (healedHead h keeps)
         unfolding healed mapOf
         healed-lent =
             lent-is (sizesOf (lent nodes edges faces h)) healed nodes-healed (sym edges-healed) (faces-filled f)
@@ -317,10 +356,13 @@ module _ {nodes edges faces : List ℤ} {h : Head} (f : Formed nodes edges faces
             })
 
         -- the ticket carried out
-        pub heal-carried : {l r : List ℤ} → l ≡ closed nodeWidth nodes nodeCount k → r ≡ healedRows edges n i j (s .first) (s .second) keeps z (lineAt edges (s .first) (s .second))
-            → lentOf (sizesOf (lent nodes edges faces h)) (carried whole (healTicket keeps (pos a) (pos b)) .0) ≡ lent l r faces (healedHead h keeps)
+        pub heal-carried : {l r : List ℤ} → l ≡ closed nodeWidth nodes nodeCount k → r
+            ≡ healedRows edges n i j (s .first) (s .second) keeps z (lineAt edges (s .first) (s .second))
+            → lentOf (sizesOf (lent nodes edges faces h)) (carried whole (healTicket keeps (pos a) (pos b)) .0)
+            ≡ lent l r faces (healedHead h keeps)
         heal-carried el er =
-            ap (lentOf (sizesOf (lent nodes edges faces h))) (map-carried keeps ∙ heal-is) ∙ healed-lent ∙ ap₂ (λ (x y : List ℤ). lent x y faces (healedHead h keeps)) (sym el) (sym er)
+            ap (lentOf (sizesOf (lent nodes edges faces h))) (map-carried keeps ∙ heal-is) ∙ healed-lent
+            ∙ ap₂ (λ (x y : List ℤ). lent x y faces (healedHead h keeps)) (sym el) (sym er)
           where
             map-carried : (x : Bool) → carried whole (healTicket x (pos a) (pos b)) .0 ≡ heal x a b whole
             map-carried x = carried-map whole x a b
@@ -331,24 +373,31 @@ module _ {nodes edges faces : List ℤ} {h : Head} (f : Formed nodes edges faces
   count = natAbs (h .nodes)
 
   edge-in : List·Memᴰ (edgeAt edges i) (edgesOf edges n)
-  edge-in = subst (λ (r : Edge). List·Memᴰ r (edgesOf edges n)) (edges-getD edges n i (edgeAt edges i) hi) (getD-in (edgesOf edges n) i (edgeAt edges i) (rw (edges-length edges n) hi))
+  edge-in = subst (λ (r : Edge). List·Memᴰ r (edgesOf edges n)) (edges-getD edges n i (edgeAt edges i) hi)
+      (getD-in (edgesOf edges n) i (edgeAt edges i) (rw (edges-length edges n) hi))
 
   names : edgeNames whole (edgeAt edges i) ≡ true
   unfolding named mapOf
   names =
-      all-each (edgeNames whole) (edgesOf edges n) (and-right (all (λ r. inFace whole (r .face)) (whole .nodes)) (all (edgeNames whole) (whole .edges)) (formed-is whole (formed-map f) .named)) (edgeAt edges i) edge-in
+      all-each (edgeNames whole) (edgesOf edges n)
+      (and-right (allOf (λ r. inFace whole (r .face)) (whole .nodes)) (allOf (edgeNames whole) (whole .edges))
+      (formed-is whole (formed-map f) .named)) (edgeAt edges i) edge-in
 
   ends-named : hasNode whole (edgeAt edges i .start) && hasNode whole (edgeAt edges i .end) ≡ true
   ends-named =
       let e = edgeAt edges i in
-      and-left _ (hasEdge whole (e .nextLeft .edge)) (and-left _ (hasEdge whole (e .nextRight .edge)) (and-left _ (hasFace whole (e .left)) (and-left _ (hasFace whole (e .right)) names)))
+      and-left _ (hasEdge whole (e .nextLeft .edge))
+      (and-left _ (hasEdge whole (e .nextRight .edge))
+      (and-left _ (hasFace whole (e .left)) (and-left _ (hasFace whole (e .right)) names)))
 
   module _ (some-joint : isSome (joint m a b) ≡ true) where
     joint-named : hasNode whole (Option·getD (joint m a b) 0) ≡ true
     joint-named =
         ⊎-elim
-        (λ e. ap (λ (x : Option ℕ). hasNode whole (Option·getD x 0)) e ∙ and-right (hasNode whole (edgeAt edges i .start)) (hasNode whole (edgeAt edges i .end)) ends-named)
-        (λ e. ap (λ (x : Option ℕ). hasNode whole (Option·getD x 0)) e ∙ and-left (hasNode whole (edgeAt edges i .start)) (hasNode whole (edgeAt edges i .end)) ends-named)
+        (λ e. ap (λ (x : Option ℕ). hasNode whole (Option·getD x 0)) e
+        ∙ and-right (hasNode whole (edgeAt edges i .start)) (hasNode whole (edgeAt edges i .end)) ends-named)
+        (λ e. ap (λ (x : Option ℕ). hasNode whole (Option·getD x 0)) e
+        ∙ and-left (hasNode whole (edgeAt edges i .start)) (hasNode whole (edgeAt edges i .end)) ends-named)
         (joint-is (edge-rows f) i j hi hj some-joint)
 
     pub joint-row : (k : ℕ) × (place (sameZ (s .joint)) 0 (column nodeWidth nodes count) ≡ At k)
@@ -356,14 +405,18 @@ module _ {nodes edges faces : List ℤ} {h : Head} (f : Formed nodes edges faces
     joint-row =
         elim (which-place (place (sameZ (s .joint)) 0 (column nodeWidth nodes count))) [
           | inl q ↦ q
-          | inr e ↦ absurd (false≢true (sym (ap isSome (node-missing nodes count (ranges f .node-rows) (Option·getD (joint m a b) 0) (ap (λ (x : ℤ). place (sameZ x) 0 (column nodeWidth nodes count)) (sym (ps .joint)) ∙ e))) ∙ joint-named))
+          | inr e ↦ absurd (false≢true (sym
+              (ap isSome (node-missing nodes count (ranges f .node-rows) (Option·getD (joint m a b) 0)
+              (ap (λ (x : ℤ). place (sameZ x) 0 (column nodeWidth nodes count)) (sym (ps .joint)) ∙ e))) ∙ joint-named))
         ]
 
     pub some-node : 1 ≤ count
-    some-node = let t = node-found nodes count (ranges f .node-rows) (s .joint) (joint-row .0) (joint-row .1) .0 in omega arith
+    some-node = let t = node-found nodes count (ranges f .node-rows) (s .joint) (joint-row .0) (joint-row .1) .0 in
+        omega arith
 
 -- the value
-pub value-carried : {nodes edges faces : List ℤ} {h : Head} → Formed nodes edges faces h → (keeps : Bool) (x y : ℤ) → carried (mapOf (lent nodes edges faces h)) (healTicket keeps x y) .1 ≡ healedValue h keeps
+pub value-carried : {nodes edges faces : List ℤ} {h : Head} → Formed nodes edges faces h → (keeps : Bool) (x y : ℤ)
+    → carried (mapOf (lent nodes edges faces h)) (healTicket keeps x y) .1 ≡ healedValue h keeps
 unfolding carried mapOf
 value-carried f true x y = refl
 value-carried f false x y = sym (edge-next f .0)

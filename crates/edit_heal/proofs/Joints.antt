@@ -31,10 +31,12 @@ module _ (s t : ℕ → Bool) (x y : ℕ) where
   first-taken e = rw (and-left (s x) (t x) e, and-right (s x) (t x) e)
 
   -- else the second, which both take
-  second-taken : s x && t x ≡ false → isSome (find t (keep s (x ∷ y ∷ []))) ≡ true → (find t (keep s (x ∷ y ∷ [])) ≡ some y) × (s y && t y ≡ true)
+  second-taken : s x && t x ≡ false → isSome (find t (keep s (x ∷ y ∷ []))) ≡ true
+      → (find t (keep s (x ∷ y ∷ [])) ≡ some y) × (s y && t y ≡ true)
   second-taken e h = go (s x) refl (s y) refl (t x) refl (t y) refl
     where
-      go : (a : Bool) → s x ≡ a → (b : Bool) → s y ≡ b → (c : Bool) → t x ≡ c → (d : Bool) → t y ≡ d → (find t (keep s (x ∷ y ∷ [])) ≡ some y) × (s y && t y ≡ true)
+      go : (a : Bool) → s x ≡ a → (b : Bool) → s y ≡ b → (c : Bool) → t x ≡ c → (d : Bool) → t y ≡ d
+          → (find t (keep s (x ∷ y ∷ [])) ≡ some y) × (s y && t y ≡ true)
       go true p b q true r d u = absurd (true≢false (rw (p, r) at e))
       go true p true q false r true u = (rw (p, q, r, u), rw (q, u))
       go true p true q false r false u = absurd (false≢true (rw (p, q, r, u) at h))
@@ -48,24 +50,31 @@ module _ (s t : ℕ → Bool) (x y : ℕ) where
 module _ (m : Map) (a b : ℕ) where
   joint-end : joinsAt m b (edge m a .end) ≡ true → joint m a b ≡ some (edge m a .end)
   unfolding joint sharedNodes
-  joint-end e = first-taken (λ n. same n (edge m b .start) || same n (edge m b .end)) (λ n. same (edgeEnds m n) 2) (edge m a .end) (edge m a .start) e
+  joint-end e = first-taken (λ n. same n (edge m b .start) || same n (edge m b .end)) (λ n. same (edgeEnds m n) 2)
+      (edge m a .end) (edge m a .start) e
 
-  joint-start : joinsAt m b (edge m a .end) ≡ false → isSome (joint m a b) ≡ true → (joint m a b ≡ some (edge m a .start)) × (joinsAt m b (edge m a .start) ≡ true)
+  joint-start : joinsAt m b (edge m a .end) ≡ false → isSome (joint m a b) ≡ true
+      → (joint m a b ≡ some (edge m a .start)) × (joinsAt m b (edge m a .start) ≡ true)
   unfolding joint sharedNodes
   joint-start e h =
-      second-taken (λ n. same n (edge m b .start) || same n (edge m b .end)) (λ n. same (edgeEnds m n) 2) (edge m a .end) (edge m a .start) e h
+      second-taken (λ n. same n (edge m b .start) || same n (edge m b .end)) (λ n. same (edgeEnds m n) 2)
+      (edge m a .end) (edge m a .start) e h
 
-  parts-end : joint m a b ≡ some (edge m a .end) → parts m a b ≡ (fwd a, cond (same (leaves m (fwd b)) (edge m a .end)) (fwd b) (bwd b))
+  parts-end : joint m a b ≡ some (edge m a .end) → parts m a b
+      ≡ (fwd a, cond (same (leaves m (fwd b)) (edge m a .end)) (fwd b) (bwd b))
   unfolding parts
   parts-end e = rw (e, same-refl (edge m a .end))
 
-  parts-start : joint m a b ≡ some (edge m a .start) → same (edge m a .start) (edge m a .end) ≡ false → parts m a b ≡ (cond (same (arrives m (fwd b)) (edge m a .start)) (fwd b) (bwd b), fwd a)
+  parts-start : joint m a b ≡ some (edge m a .start) → same (edge m a .start) (edge m a .end) ≡ false → parts m a b
+      ≡ (cond (same (arrives m (fwd b)) (edge m a .start)) (fwd b) (bwd b), fwd a)
   unfolding parts
   parts-start e d = rw (e, d)
 
   -- the start, where the first edge is not joined at its end, is another node
-  apart : joinsAt m b (edge m a .end) ≡ false → joinsAt m b (edge m a .start) ≡ true → same (edge m a .start) (edge m a .end) ≡ false
-  apart e h = not-true (same (edge m a .start) (edge m a .end)) (λ q. true≢false (sym h ∙ ap (joinsAt m b) (same-true (edge m a .start) (edge m a .end) q) ∙ e))
+  apart : joinsAt m b (edge m a .end) ≡ false → joinsAt m b (edge m a .start) ≡ true
+      → same (edge m a .start) (edge m a .end) ≡ false
+  apart e h = not-true (same (edge m a .start) (edge m a .end))
+      (λ q. true≢false (sym h ∙ ap (joinsAt m b) (same-true (edge m a .start) (edge m a .end) q) ∙ e))
 
 -- ---- by position
 
@@ -89,13 +98,18 @@ module _ {l : List ℤ} {n : ℕ} (t : EdgeRows l n) (i j : ℕ) (hi : i < n) (h
 
   leaving-is : (k : ℕ) → dartAt l (leavingAt l j (pos k)) ≡ cond (same (leaves m (fwd b)) k) (fwd b) (bwd b)
   unfolding leaves
-  leaving-is k = ap (λ (z : ℤ). dartAt l (cond (sameZ z (pos k)) (j * 2) (j * 2 + 1))) (start-cell t j hj) ∙ ap (λ (x : Bool). dartAt l (cond x (j * 2) (j * 2 + 1))) (same-pos (edge m b .start) k) ∙ either (same (edge m b .start) k)
+  leaving-is k = ap (λ (z : ℤ). dartAt l (cond (sameZ z (pos k)) (j * 2) (j * 2 + 1))) (start-cell t j hj)
+      ∙ ap (λ (x : Bool). dartAt l (cond x (j * 2) (j * 2 + 1))) (same-pos (edge m b .start) k)
+      ∙ either (same (edge m b .start) k)
 
   arriving-is : (k : ℕ) → dartAt l (arrivingAt l j (pos k)) ≡ cond (same (arrives m (fwd b)) k) (fwd b) (bwd b)
   unfolding leaves
-  arriving-is k = ap (λ (z : ℤ). dartAt l (cond (sameZ z (pos k)) (j * 2) (j * 2 + 1))) (end-cell t j hj) ∙ ap (λ (x : Bool). dartAt l (cond x (j * 2) (j * 2 + 1))) (same-pos (edge m b .end) k) ∙ either (same (edge m b .end) k)
+  arriving-is k = ap (λ (z : ℤ). dartAt l (cond (sameZ z (pos k)) (j * 2) (j * 2 + 1))) (end-cell t j hj)
+      ∙ ap (λ (x : Bool). dartAt l (cond x (j * 2) (j * 2 + 1))) (same-pos (edge m b .end) k)
+      ∙ either (same (edge m b .end) k)
 
-  pub parts-at-end : (v : ℤ) → v ≡ getD l (i * 32 + 2) (pos 0) → joinsAt m b (edge m a .end) ≡ true → PartsOf l n i j (record { first = i * 2; second = leavingAt l j v; joint = v })
+  pub parts-at-end : (v : ℤ) → v ≡ getD l (i * 32 + 2) (pos 0) → joinsAt m b (edge m a .end) ≡ true
+      → PartsOf l n i j (record { first = i * 2; second = leavingAt l j v; joint = v })
   parts-at-end v ev e =
       let z : v ≡ pos (edge m a .end) = ev ∙ end-cell t i hi in
       let q = joint-end m a b e in
@@ -103,11 +117,13 @@ module _ {l : List ℤ} {n : ℕ} (t : EdgeRows l n) (i j : ℕ) (hi : i < n) (h
         first-below = omega arith;
         second-below = either-below (sameZ (getD l (j * 32 + 1) (pos 0)) v);
         first = dart-even l i ∙ sym (ap (λ (x : Dart × Dart). x .0) (parts-end m a b q));
-        second = ap (λ (x : ℤ). dartAt l (leavingAt l j x)) z ∙ leaving-is (edge m a .end) ∙ sym (ap (λ (x : Dart × Dart). x .1) (parts-end m a b q));
+        second = ap (λ (x : ℤ). dartAt l (leavingAt l j x)) z ∙ leaving-is (edge m a .end)
+            ∙ sym (ap (λ (x : Dart × Dart). x .1) (parts-end m a b q));
         joint = z ∙ sym (ap (λ (x : Option ℕ). pos (Option·getD x 0)) q);
       }
 
-  pub parts-at-start : (u : ℤ) → u ≡ getD l (i * 32 + 1) (pos 0) → joinsAt m b (edge m a .end) ≡ false → isSome (joint m a b) ≡ true → PartsOf l n i j (record { first = arrivingAt l j u; second = i * 2; joint = u })
+  pub parts-at-start : (u : ℤ) → u ≡ getD l (i * 32 + 1) (pos 0) → joinsAt m b (edge m a .end) ≡ false
+      → isSome (joint m a b) ≡ true → PartsOf l n i j (record { first = arrivingAt l j u; second = i * 2; joint = u })
   parts-at-start u eu e h =
       let z : u ≡ pos (edge m a .start) = eu ∙ start-cell t i hi in
       let q = joint-start m a b e h in
@@ -115,13 +131,15 @@ module _ {l : List ℤ} {n : ℕ} (t : EdgeRows l n) (i j : ℕ) (hi : i < n) (h
       record {
         first-below = either-below (sameZ (getD l (j * 32 + 2) (pos 0)) u);
         second-below = omega arith;
-        first = ap (λ (x : ℤ). dartAt l (arrivingAt l j x)) z ∙ arriving-is (edge m a .start) ∙ sym (ap (λ (x : Dart × Dart). x .0) p);
+        first = ap (λ (x : ℤ). dartAt l (arrivingAt l j x)) z ∙ arriving-is (edge m a .start)
+            ∙ sym (ap (λ (x : Dart × Dart). x .0) p);
         second = dart-even l i ∙ sym (ap (λ (x : Dart × Dart). x .1) p);
         joint = z ∙ sym (ap (λ (x : Option ℕ). pos (Option·getD x 0)) (q .0));
       }
 
   -- it is one of the two nodes of the first edge
-  pub joint-is : isSome (joint m a b) ≡ true → (joint m a b ≡ some (edgeAt l i .end)) ⊎ (joint m a b ≡ some (edgeAt l i .start))
+  pub joint-is : isSome (joint m a b) ≡ true → (joint m a b ≡ some (edgeAt l i .end))
+      ⊎ (joint m a b ≡ some (edgeAt l i .start))
   joint-is h =
       elim (which (joinsAt m b (edge m a .end))) [
         | inl e ↦ inl (joint-end m a b e ∙ ap (λ (r : Edge). some (r .end)) (edge-of t i hi))

@@ -33,11 +33,16 @@ closed-after i = rw (lt-ltb 0 (suc i) (omega arith)) (omega arith)
 
 pub closed-below : (n i j : ℕ) → i < n → j < n → (i ≡ j → ⊥) → closedUp i j < n - 1
 closed-below n i j h k d =
-    elim (which (ltb j i)) [ inl e ↦ rw e (let t = ltb-true j i e in omega arith) | inr e ↦ rw e (let t = ltb-false j i e in omega arith) ]
+    elim (which (ltb j i)) [
+      | inl e ↦ rw e (let t = ltb-true j i e in omega arith)
+      | inr e ↦ rw e
+          (let t = ltb-false j i e in omega arith)
+    ]
 
 module _ {A : Type 0} where
   pub less-length : (j : ℕ) (xs : List A) → j < length xs → length (less j xs) ≡ length xs - 1
-  less-length j xs h = length-append (take j xs) (drop (suc j) xs) ∙ rw (length-take-le j xs (omega arith), length-drop (suc j) xs) (omega arith)
+  less-length j xs h = length-append (take j xs) (drop (suc j) xs)
+      ∙ rw (length-take-le j xs (omega arith), length-drop (suc j) xs) (omega arith)
 
   pub less-at : (xs : List A) (i j : ℕ) (d : A) → (i ≡ j → ⊥) → getD (less j xs) (closedUp i j) d ≡ getD xs i d
   less-at [] i zero d n = refl
@@ -45,14 +50,16 @@ module _ {A : Type 0} where
   less-at (x ∷ xs) zero zero d n = absurd (n refl)
   less-at (x ∷ xs) (suc i) zero d n = ap (λ (k : ℕ). getD xs k d) (closed-after i)
   less-at (x ∷ xs) zero (suc j) d n = ap (λ (k : ℕ). getD (x ∷ less j xs) k d) (closed-first j)
-  less-at (x ∷ xs) (suc i) (suc j) d n = ap (λ (k : ℕ). getD (x ∷ less j xs) k d) (closed-step i j) ∙ less-at xs i j d (λ e. n (ap suc e))
+  less-at (x ∷ xs) (suc i) (suc j) d n = ap (λ (k : ℕ). getD (x ∷ less j xs) k d) (closed-step i j)
+      ∙ less-at xs i j d (λ e. n (ap suc e))
 
   module _ (number : A → ℕ) where
     less-in : (j : ℕ) (xs : List A) {k : ℕ} → List·Memᴰ k (map number (less j xs)) → List·Memᴰ k (map number xs)
     less-in zero [] m = m
     less-in (suc j) [] m = m
     less-in zero (x ∷ xs) m = List·Memᴰ·tail m
-    less-in (suc j) (x ∷ xs) m = ⊎-elim (λ e. List·Memᴰ·head e) (λ r. List·Memᴰ·tail (less-in j xs r)) (List·Memᴰ·cases-cons m)
+    less-in (suc j) (x ∷ xs) m = ⊎-elim (λ e. List·Memᴰ·head e) (λ r. List·Memᴰ·tail (less-in j xs r))
+        (List·Memᴰ·cases-cons m)
 
     pub less-distinct : (j : ℕ) (xs : List A) → Distinct (map number xs) → Distinct (map number (less j xs))
     less-distinct zero [] d = tt
@@ -61,7 +68,8 @@ module _ {A : Type 0} where
     less-distinct (suc j) (x ∷ xs) d = (λ m. d .0 (less-in j xs m), less-distinct j xs (d .1))
 
     -- a row of the same number in the place of one
-    pub set-numbers : (xs : List A) (i : ℕ) (y d : A) → number y ≡ number (getD xs i d) → map number (set xs i y) ≡ map number xs
+    pub set-numbers : (xs : List A) (i : ℕ) (y d : A) → number y ≡ number (getD xs i d) → map number (set xs i y)
+        ≡ map number xs
     set-numbers [] i y d e = refl
     set-numbers (x ∷ xs) zero y d e = ap (λ (k : ℕ). k ∷ map number xs) e
     set-numbers (x ∷ xs) (suc i) y d e = ap (λ (l : List ℕ). number x ∷ l) (set-numbers xs i y d e)

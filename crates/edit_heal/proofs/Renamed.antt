@@ -30,7 +30,8 @@ module _ (old new : Dart) (h : 1 ≤ old .edge) where
     unfolding redirect
     redirect-wide w = renamed-wide old new (m .edges) w
 
-    pub redirect-numbers : map (λ (e : Edge). e .number) (redirect old new m .edges) ≡ map (λ (e : Edge). e .number) (m .edges)
+    pub redirect-numbers : map (λ (e : Edge). e .number) (redirect old new m .edges)
+        ≡ map (λ (e : Edge). e .number) (m .edges)
     unfolding redirect
     redirect-numbers = map-map (λ (e : Edge). e .number) (renamedRow old new) (m .edges)
 
@@ -40,6 +41,7 @@ module _ (old new : Dart) (h : 1 ≤ old .edge) where
 
     -- the table of a map with its links renamed
     pub redirect-filled : (N n : ℕ) → Wide edgeWidth edgeCells (m .edges) → length (m .edges) ≡ n
-        → redirected (dartCell old) (dartCell new) (filled N (flatMap edgeCells (m .edges))) n ≡ filled N (flatMap edgeCells (redirect old new m .edges))
+        → redirected (dartCell old) (dartCell new) (filled N (flatMap edgeCells (m .edges))) n
+        ≡ filled N (flatMap edgeCells (redirect old new m .edges))
     unfolding redirect
     redirect-filled N n = redirected-filled old new h N n (m .edges)

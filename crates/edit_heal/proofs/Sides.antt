@@ -8,4 +8,8 @@ use Rattle.darts.proofs.Positions.{side, reverse-even, reverse-odd}
 
 pub reverse-half : (p : ℕ) → reverseOf p / 2 ≡ p / 2
 reverse-half p =
-    elim (side p) [ inl e ↦ rw (reverse-even e) (let r = e .rest in omega arith) | inr e ↦ rw (reverse-odd e) (let r = e .rest in omega arith) ]
+    elim (side p) [
+      | inl e ↦ rw (reverse-even e) (let r = e .rest in omega arith)
+      | inr e ↦ rw (reverse-odd e)
+          (let r = e .rest in omega arith)
+    ]

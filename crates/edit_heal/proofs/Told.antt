@@ -23,7 +23,8 @@ use Rattle.links.proofs.Darts.{row-named}
 use Rattle.reason_departures.specs.Turning.{jointReasons}
 use Rattle.form_ranges.specs.Ranges.{lent}
 use Rattle.outcomes.specs.Outcomes.{Formed}
-use Rattle.outcomes.proofs.Formed.{edge-rows, nodes-count, nodes-size, edges-count, edges-size, edge-next, spent-is, node-left, face-left}
+use Rattle.outcomes.proofs.Formed.{edge-rows, nodes-count, nodes-size, edges-count, edges-size, edge-next, spent-is}
+use Rattle.outcomes.proofs.Formed.{node-left, face-left}
 use Rattle.map.proofs.Reasons.{first-hit, first-miss, first-zero, first-append, first-after}
 use Rattle.edit_heal.specs.Kinds.{healTicket}
 use Rattle.edit_heal.specs.Heals.{Numbered, lateReasons}
@@ -42,7 +43,8 @@ module _ (m : Map) (a b : ℕ) (e : firstReason (jointReasons m a b) ≡ 0) wher
   joint-some = not-false (isSome (joint m a b)) (first-zero 17 _ _ (lit< tt) (first-zero 16 _ _ (lit< tt) e .1) .0)
 
   pub edges-differ : a ≡ b → ⊥
-  edges-differ = differ a b (or-left (same a b) (same (length (sharedNodes m a b)) 0) (first-zero 16 _ _ (lit< tt) e .0))
+  edges-differ = differ a b (or-left (same a b) (same (length (sharedNodes m a b)) 0)
+      (first-zero 16 _ _ (lit< tt) e .0))
 
 module _ {nodes edges faces : List ℤ} {h : Head} (f : Formed nodes edges faces h) where
   pub numbered-of : Numbered h
@@ -58,20 +60,24 @@ module _ {nodes edges faces : List ℤ} {h : Head} (f : Formed nodes edges faces
 
   -- ---- 4
 
-  pub row-missing : (keeps : Bool) (y z : ℤ) → noEdge (mapOf (lent nodes edges faces h)) y || noEdge (mapOf (lent nodes edges faces h)) z ≡ true
-      → firstReason (reasons (sizesOf (lent nodes edges faces h)) (mapOf (lent nodes edges faces h)) (healTicket keeps y z)) ≡ 4
+  pub row-missing : (keeps : Bool) (y z : ℤ) → noEdge (mapOf (lent nodes edges faces h)) y
+      || noEdge (mapOf (lent nodes edges faces h)) z ≡ true
+      → firstReason (reasons (sizesOf (lent nodes edges faces h)) (mapOf (lent nodes edges faces h))
+      (healTicket keeps y z)) ≡ 4
   unfolding reasons
   row-missing true y z e = first-hit 4 _ _ e
   row-missing false y z e = first-hit 4 _ _ e
 
-  edge-there : (i : ℕ) → i < natAbs (h .edges) → noEdge (mapOf (lent nodes edges faces h)) (pos (edgeAt edges i .number)) ≡ false
+  edge-there : (i : ℕ) → i < natAbs (h .edges)
+      → noEdge (mapOf (lent nodes edges faces h)) (pos (edgeAt edges i .number)) ≡ false
   unfolding mapOf
   edge-there i t = ap not (row-named (edge-rows f) i t)
 
   -- ---- the others
 
   numbers-left : spent (mapOf (lent nodes edges faces h)) 0 1 0 ≡ ltb (suc lastNumber) (natAbs (h .«next_edge») + 1)
-  numbers-left = spent-is f 0 1 0 ∙ rw (node-left f, face-left f) (eq1 (λ b. false || b || false) (λ b. b) tt (ltb (suc lastNumber) (natAbs (h .«next_edge») + 1)))
+  numbers-left = spent-is f 0 1 0 ∙ rw (node-left f, face-left f)
+      (eq1 (λ b. false || b || false) (λ b. b) tt (ltb (suc lastNumber) (natAbs (h .«next_edge») + 1)))
 
   module _ (i j : ℕ) (hi : i < natAbs (h .edges)) (hj : j < natAbs (h .edges)) where
     abbrev m : Map
@@ -87,21 +93,28 @@ module _ {nodes edges faces : List ℤ} {h : Head} (f : Formed nodes edges faces
     late keeps = lateReasons (length (points (healedCurve m a b))) h keeps
 
     abbrev listed : Bool → Reasons
-    listed keeps = reasons (sizesOf (lent nodes edges faces h)) (mapOf (lent nodes edges faces h)) (healTicket keeps (pos a) (pos b))
+    listed keeps = reasons (sizesOf (lent nodes edges faces h)) (mapOf (lent nodes edges faces h))
+        (healTicket keeps (pos a) (pos b))
 
     abbrev four : Bool
     four = noEdge (mapOf (lent nodes edges faces h)) (pos a) || noEdge (mapOf (lent nodes edges faces h)) (pos b)
 
-    in-parts : (keeps : Bool) → firstReason (listed keeps) ≡ firstReason ((4, four) ∷ (jointReasons m a b ++ late keeps))
+    in-parts : (keeps : Bool) → firstReason (listed keeps)
+        ≡ firstReason ((4, four) ∷ (jointReasons m a b ++ late keeps))
     unfolding reasons mapOf firstReason healedCurve parts joint sharedNodes departures leaves course edge
     in-parts true = refl
-    in-parts false = ap (λ (x : Bool). firstReason ((4, four) ∷ (jointReasons m a b ++ ((18, ltb maxPoints (length (points (healedCurve m a b)))) ∷ (21, x) ∷ [])))) numbers-left
+    in-parts false = ap (λ (x : Bool). firstReason
+        ((4, four) ∷ (jointReasons m a b
+        ++ ((18, ltb maxPoints (length (points (healedCurve m a b)))) ∷ (21, x) ∷ [])))) numbers-left
 
     known : four ≡ false
     known = rw (edge-there i hi, edge-there j hj)
 
-    pub early-reason : (keeps : Bool) (r : ℕ) → 0 < r → r ≡ firstReason (jointReasons m a b) → firstReason (listed keeps) ≡ r
-    early-reason keeps r some e = in-parts keeps ∙ first-miss 4 _ _ known ∙ first-append (jointReasons m a b) (late keeps) r some (sym e)
+    pub early-reason : (keeps : Bool) (r : ℕ) → 0 < r → r ≡ firstReason (jointReasons m a b)
+        → firstReason (listed keeps) ≡ r
+    early-reason keeps r some e = in-parts keeps ∙ first-miss 4 _ _ known
+        ∙ first-append (jointReasons m a b) (late keeps) r some (sym e)
 
-    pub late-reason : (keeps : Bool) → firstReason (jointReasons m a b) ≡ 0 → firstReason (listed keeps) ≡ firstReason (late keeps)
+    pub late-reason : (keeps : Bool) → firstReason (jointReasons m a b) ≡ 0 → firstReason (listed keeps)
+        ≡ firstReason (late keeps)
     late-reason keeps e = in-parts keeps ∙ first-miss 4 _ _ known ∙ first-after (jointReasons m a b) (late keeps) refl e

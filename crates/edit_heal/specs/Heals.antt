@@ -75,17 +75,20 @@ closedUp i j = cond (ltb j i) (i - 1) i
 -- the row r in the place of row i, or last after row i is gone; row j is gone
 abbrev pub placed : Bool → List ℤ → ℕ → ℕ → ℕ → List ℤ → List ℤ
 placed keeps t n i j r =
-    cond keeps (closed 32 (paste t (i * 32) r 32) n j) (paste (closed 32 (closed 32 t n j) (n - 1) (closedUp i j)) ((n - 2) * 32) r 32)
+    cond keeps (closed 32 (paste t (i * 32) r 32) n j)
+    (paste (closed 32 (closed 32 t n j) (n - 1) (closedUp i j)) ((n - 2) * 32) r 32)
 
 -- rows i and j of n healed along p and q
 abbrev pub healedRows : List ℤ → ℕ → ℕ → ℕ → ℕ → ℕ → Bool → ℤ → Line → List ℤ
-healedRows l n i j p q keeps a line = let t = renamed l n p q a in placed keeps t n i j (cellsOf (healedSides t i p q a) line)
+healedRows l n i j p q keeps a line = let t = renamed l n p q a in
+    placed keeps t n i j (cellsOf (healedSides t i p q a) line)
 
 -- ---- the reasons
 
 -- 18 and 21, of the number of points and the next edge's number
 abbrev pub lateReasons : ℕ → Head → Bool → Reasons
-lateReasons count h keeps = (18, ltb maxPoints count) ∷ (21, not keeps && ltb (suc lastNumber) (natAbs (h .«next_edge») + 1)) ∷ []
+lateReasons count h keeps = (18, ltb maxPoints count)
+    ∷ (21, not keeps && ltb (suc lastNumber) (natAbs (h .«next_edge») + 1)) ∷ []
 
 -- ---- the head
 

@@ -1,3 +1,4 @@
--- `Kinds`: the two kinds that one function carries out. `Heals`: two edge rows healed, in the numbers, and the reasons in parts.
+-- `Kinds`: the two kinds that one function carries out. `Heals`: two edge rows healed, in the numbers, and the reasons
+-- in parts.
 pub mod Kinds
 pub mod Heals

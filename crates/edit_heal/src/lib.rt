@@ -1,9 +1,10 @@
 // Kinds 9 and 10: two edges healed into one.
-use outcomes::Done;
 use curve_edits::Line;
 use lists::Found;
 use map::Head;
+use map::Map;
 use map_rows::Sides;
+use outcomes::Done;
 ghost use mathlib.Core.Path.{_≡_};
 ghost use mathlib.Core.Bool.{true};
 ghost use Prim.Native.Nat.{ℕ, _+_, _*_, _/_, _≤_, _<_};
@@ -22,7 +23,9 @@ ghost use Rattle.form_ranges.specs.Ranges.{lent};
 ghost use Rattle.map_rows.specs.Cells.{cellsOf};
 ghost use Rattle.outcomes.specs.Outcomes.{Formed, decided, outcome};
 ghost use Rattle.edit_heal.specs.Kinds.{healTicket};
-ghost use Rattle.edit_heal.specs.Heals.{leavingAt, arrivingAt, PartsOf, courseAt, lineAt, renamed, healedSides, closedUp, placed, healedRows, lateReasons, Numbered, healedNumber, healedValue, nextAfter, healedHead};
+ghost use Rattle.edit_heal.specs.Heals.{leavingAt, arrivingAt, PartsOf, courseAt, lineAt, renamed, healedSides};
+ghost use Rattle.edit_heal.specs.Heals.{closedUp, placed, healedRows, lateReasons, Numbered, healedNumber};
+ghost use Rattle.edit_heal.specs.Heals.{healedValue, nextAfter, healedHead};
 
 // ---- the two directed edges that are joined
 
@@ -38,7 +41,7 @@ fn leaving(edges: &[i64], j: usize, node: i64) -> usize
     requires { ⌜ (j * 32 + 32 ≤ length (now edges)) × (j ≤ 2000) ⌝ }
     ensures { λ r. ⌜ r ≡ leavingAt (now (edges .entry)) j node ⌝ }
 {
-    if edges[j * 32 + 1] == node {
+    if edges[j * map::EDGE_WIDTH + map::START] == node {
         j * 2
     } else {
         j * 2 + 1
@@ -50,7 +53,7 @@ fn arriving(edges: &[i64], j: usize, node: i64) -> usize
     requires { ⌜ (j * 32 + 32 ≤ length (now edges)) × (j ≤ 2000) ⌝ }
     ensures { λ r. ⌜ r ≡ arrivingAt (now (edges .entry)) j node ⌝ }
 {
-    if edges[j * 32 + 2] == node {
+    if edges[j * map::EDGE_WIDTH + map::END] == node {
         j * 2
     } else {
         j * 2 + 1
@@ -59,11 +62,13 @@ fn arriving(edges: &[i64], j: usize, node: i64) -> usize
 
 // The two directed edges that are joined, in the direction of edge row i.
 fn parts_of(edges: &[i64], e: usize, i: usize, j: usize) -> Parts
-    requires { ⌜ EdgeRows (now edges) e × (e ≤ 2000) × (i < e) × (j < e) × (isSome (joint (edgeMap (now edges) e) (edgeAt (now edges) i .number) (edgeAt (now edges) j .number)) ≡ true) ⌝ }
+    requires { ⌜ EdgeRows (now edges) e × (e ≤ 2000) × (i < e) × (j < e)
+        × (isSome (joint (edgeMap (now edges) e) (edgeAt (now edges) i .number) (edgeAt (now edges) j .number))
+        ≡ true) ⌝ }
     ensures { λ r. ⌜ PartsOf (now (edges .entry)) e i j r ⌝ }
 {
-    let u = edges[i * 32 + 1];
-    let v = edges[i * 32 + 2];
+    let u = edges[i * map::EDGE_WIDTH + map::START];
+    let v = edges[i * map::EDGE_WIDTH + map::END];
     if reason_departures::joins_at(edges, e, j, v) {
         return Parts {
             first: i * 2,
@@ -115,20 +120,21 @@ fn rename(edges: &mut [i64], e: usize, p: usize, q: usize, number: i64)
     let c = darts::dart_at(edges, p);
     let d = darts::dart_at(edges, darts::reverse(q));
     links::redirect(edges, e, c, number);
-    links::redirect(edges, e, d, links::turned(number));
+    links::redirect(edges, e, d, links::negated(number));
 }
 
 // The numbers of the healed edge, with the faces of row i.
 fn healed_sides(edges: &[i64], i: usize, p: usize, q: usize, number: i64) -> Sides
-    requires { ⌜ (i * 32 + 32 ≤ length (now edges)) × (p / 2 * 32 + 32 ≤ length (now edges)) × (q / 2 * 32 + 32 ≤ length (now edges)) × (p < 5000) × (q < 5000) ⌝ }
+    requires { ⌜ (i * 32 + 32 ≤ length (now edges)) × (p / 2 * 32 + 32 ≤ length (now edges))
+        × (q / 2 * 32 + 32 ≤ length (now edges)) × (p < 5000) × (q < 5000) ⌝ }
     ensures { λ r. ⌜ r ≡ healedSides (now (edges .entry)) i p q number ⌝ }
 {
-    let start = darts::dart_cell(edges, p, 1);
-    let end = darts::dart_cell(edges, darts::reverse(q), 1);
-    let next_left = darts::dart_cell(edges, q, 3);
-    let next_right = darts::dart_cell(edges, darts::reverse(p), 3);
-    let left = edges[i * 32 + 5];
-    let right = edges[i * 32 + 6];
+    let start = darts::dart_cell(edges, p, map::START);
+    let end = darts::dart_cell(edges, darts::reverse(q), map::START);
+    let next_left = darts::dart_cell(edges, q, map::NEXT_LEFT);
+    let next_right = darts::dart_cell(edges, darts::reverse(p), map::NEXT_LEFT);
+    let left = edges[i * map::EDGE_WIDTH + map::LEFT];
+    let right = edges[i * map::EDGE_WIDTH + map::RIGHT];
     Sides {
         number,
         start,
@@ -154,10 +160,10 @@ fn place_row(edges: &mut [i64], e: usize, i: usize, j: usize, keeps: bool, s: Si
 {
     if keeps {
         map_rows::write_edge(edges, i, s, l);
-        tables::remove_row(edges, 32, e, j);
+        tables::remove_row(edges, map::EDGE_WIDTH, e, j);
     } else {
-        tables::remove_row(edges, 32, e, j);
-        tables::remove_row(edges, 32, e - 1, closed_up(i, j));
+        tables::remove_row(edges, map::EDGE_WIDTH, e, j);
+        tables::remove_row(edges, map::EDGE_WIDTH, e - 1, closed_up(i, j));
         map_rows::write_edge(edges, e - 2, s, l);
     }
 }
@@ -174,7 +180,8 @@ fn heal_rows(
     number: i64,
     l: Line,
 )
-    requires { ⌜ EdgeRows (now edges) e × (e ≤ 2000) × (p < e * 2) × (q < e * 2) × (nonNeg number ≡ true) × (i < e) × (j < e) × (i ≡ j → ⊥) × (l .count ≤ 1000) ⌝ }
+    requires { ⌜ EdgeRows (now edges) e × (e ≤ 2000) × (p < e * 2) × (q < e * 2) × (nonNeg number ≡ true) × (i < e)
+        × (j < e) × (i ≡ j → ⊥) × (l .count ≤ 1000) ⌝ }
     ensures { λ r. ⌜ now (edges .exit) ≡ healedRows (now (edges .entry)) e i j p q keeps number l ⌝ }
 {
     rename(edges, e, p, q, number);
@@ -187,11 +194,12 @@ fn heal_rows(
 // The row of the joint goes.
 fn remove_joint(nodes: &mut [i64], n: usize, joint: i64)
     requires { ⌜ NodeRows (now nodes) n ⌝ }
-    ensures { λ r. ⌜ ((k : ℕ) → place (sameZ joint) 0 (column 4 (now (nodes .entry)) n) ≡ At k → now (nodes .exit) ≡ closed 4 (now (nodes .entry)) n k) ⌝ }
+    ensures { λ r. ⌜ ((k : ℕ) → place (sameZ joint) 0 (column 4 (now (nodes .entry)) n) ≡ At k → now (nodes .exit)
+        ≡ closed 4 (now (nodes .entry)) n k) ⌝ }
 {
-    let found = tables::find_row(nodes, 4, n, joint);
+    let found = tables::find_row(nodes, map::NODE_WIDTH, n, joint);
     match found {
-        Found::At(k) => tables::remove_row(nodes, 4, n, k),
+        Found::At(k) => tables::remove_row(nodes, map::NODE_WIDTH, n, k),
         Found::Missing => {}
     }
 }
@@ -242,13 +250,13 @@ fn late_reason(count: usize, h: Head, keeps: bool) -> u64
     requires { ⌜ Numbered h ⌝ }
     ensures { λ r. ⌜ r ≡ firstReason (lateReasons count h keeps) ⌝ }
 {
-    if 12 < count {
+    if Map::POINTS < count {
         return 18;
     }
     if keeps {
         return 0;
     }
-    if 1000000 < outcomes::count_of(h.next_edge) + 1 {
+    if map::NUMBERS < outcomes::to_usize(h.next_edge) + 1 {
         21
     } else {
         0
@@ -266,13 +274,20 @@ fn carry_out(
     s: Parts,
     l: Line,
 ) -> Done
-    requires { ⌜ Numbered h × NodeRows (now nodes) (natAbs (h .nodes)) × EdgeRows (now edges) (natAbs (h .edges)) × (1 ≤ natAbs (h .nodes)) × (i < natAbs (h .edges)) × (j < natAbs (h .edges)) × (i ≡ j → ⊥) × (s .first < natAbs (h .edges) * 2) × (s .second < natAbs (h .edges) * 2) × (l .count ≤ 1000) ⌝ }
-    ensures { λ r. ⌜ (now (edges .exit) ≡ healedRows (now (edges .entry)) (natAbs (h .edges)) i j (s .first) (s .second) keeps (healedNumber h keeps (getD (now (edges .entry)) (i * 32) (pos 0))) l) × ((k : ℕ) → place (sameZ (s .joint)) 0 (column 4 (now (nodes .entry)) (natAbs (h .nodes))) ≡ At k → now (nodes .exit) ≡ closed 4 (now (nodes .entry)) (natAbs (h .nodes)) k) × (r ≡ record { head = healedHead h keeps; answer = record { refusal = 0; value = healedValue h keeps } }) ⌝ }
+    requires { ⌜ Numbered h × NodeRows (now nodes) (natAbs (h .nodes)) × EdgeRows (now edges) (natAbs (h .edges))
+        × (1 ≤ natAbs (h .nodes)) × (i < natAbs (h .edges)) × (j < natAbs (h .edges)) × (i ≡ j → ⊥)
+        × (s .first < natAbs (h .edges) * 2) × (s .second < natAbs (h .edges) * 2) × (l .count ≤ 1000) ⌝ }
+    ensures { λ r. ⌜ (now (edges .exit)
+        ≡ healedRows (now (edges .entry)) (natAbs (h .edges)) i j (s .first) (s .second) keeps
+        (healedNumber h keeps (getD (now (edges .entry)) (i * 32) (pos 0))) l)
+        × ((k : ℕ) → place (sameZ (s .joint)) 0 (column 4 (now (nodes .entry)) (natAbs (h .nodes))) ≡ At k
+        → now (nodes .exit) ≡ closed 4 (now (nodes .entry)) (natAbs (h .nodes)) k)
+        × (r ≡ record { head = healedHead h keeps; answer = record { refusal = 0; value = healedValue h keeps } }) ⌝ }
 {
-    let number = healed_number(h, keeps, edges[i * 32]);
+    let number = healed_number(h, keeps, edges[i * map::EDGE_WIDTH]);
     heal_rows(
         edges,
-        outcomes::count_of(h.edges),
+        outcomes::to_usize(h.edges),
         i,
         j,
         s.first,
@@ -282,7 +297,7 @@ fn carry_out(
         l,
     );
     let joint = s.joint;
-    remove_joint(nodes, outcomes::count_of(h.nodes), joint);
+    remove_joint(nodes, outcomes::to_usize(h.nodes), joint);
     outcomes::carried(after_heal(h, keeps), healed_value(h, keeps))
 }
 
@@ -295,10 +310,15 @@ fn heal_rows_of(
     i: usize,
     j: usize,
 ) -> Done
-    requires { ⌜ ((faces : _) × Formed (now nodes) (now edges) faces h) × (i < natAbs (h .edges)) × (j < natAbs (h .edges)) ⌝ }
-    ensures { λ r. ⌜ ((faces : _) → Formed (now (nodes .entry)) (now (edges .entry)) faces h → outcome (now (nodes .exit)) (now (edges .exit)) faces r ≡ decided (lent (now (nodes .entry)) (now (edges .entry)) faces h) (healTicket keeps (pos (edgeAt (now (edges .entry)) i .number)) (pos (edgeAt (now (edges .entry)) j .number)))) ⌝ }
+    requires { ⌜ ((faces : _) × Formed (now nodes) (now edges) faces h) × (i < natAbs (h .edges))
+        × (j < natAbs (h .edges)) ⌝ }
+    ensures { λ r. ⌜ ((faces : _) → Formed (now (nodes .entry)) (now (edges .entry)) faces h
+        → outcome (now (nodes .exit)) (now (edges .exit)) faces r
+        ≡ decided (lent (now (nodes .entry)) (now (edges .entry)) faces h)
+        (healTicket keeps (pos (edgeAt (now (edges .entry)) i .number))
+        (pos (edgeAt (now (edges .entry)) j .number)))) ⌝ }
 {
-    let e = outcomes::count_of(h.edges);
+    let e = outcomes::to_usize(h.edges);
     let early = reason_departures::joint_reason(edges, e, i, j);
     if early != 0 {
         return outcomes::refused(h, early);
@@ -321,14 +341,16 @@ pub fn heal_edges(
     other: i64,
 ) -> Done
     requires { ⌜ ((faces : _) × Formed (now nodes) (now edges) faces h) ⌝ }
-    ensures { λ r. ⌜ ((faces : _) → Formed (now (nodes .entry)) (now (edges .entry)) faces h → outcome (now (nodes .exit)) (now (edges .exit)) faces r ≡ decided (lent (now (nodes .entry)) (now (edges .entry)) faces h) (healTicket keeps edge other)) ⌝ }
+    ensures { λ r. ⌜ ((faces : _) → Formed (now (nodes .entry)) (now (edges .entry)) faces h
+        → outcome (now (nodes .exit)) (now (edges .exit)) faces r
+        ≡ decided (lent (now (nodes .entry)) (now (edges .entry)) faces h) (healTicket keeps edge other)) ⌝ }
 {
-    let e = outcomes::count_of(h.edges);
-    let found = tables::find_row(edges, 32, e, edge);
+    let e = outcomes::to_usize(h.edges);
+    let found = tables::find_row(edges, map::EDGE_WIDTH, e, edge);
     let Found::At(i) = found else {
         return outcomes::refused(h, 4);
     };
-    let found_other = tables::find_row(edges, 32, e, other);
+    let found_other = tables::find_row(edges, map::EDGE_WIDTH, e, other);
     let Found::At(j) = found_other else {
         return outcomes::refused(h, 4);
     };

@@ -7,7 +7,7 @@ use Prim.Native.Nat.{ℕ}
 use lib.IntN.{ℤ, pos, negsuc, natAbs}
 use lib.Signed.{nonNeg}
 use Rattle.lists.specs.Tests.{same}
-use Rattle.lists.specs.Scans.{any, all}
+use Rattle.lists.specs.Scans.{anyOf, allOf}
 use Rattle.lists.specs.Tables.{place}
 use Rattle.lists.specs.declared.Found.the-variants.{Missing}
 use Rattle.lists.proofs.Bools.{which, same-true, differ}
@@ -28,16 +28,19 @@ minus-one-is (negsuc n) =
     ]
 
 -- a face that is none or a number, compared with a number
-pub other-is : (a b : ℤ) → minusOne a || nonNeg a ≡ true → nonNeg b ≡ true → not (minusOne a) && not (sameZ a b) ≡ not (minusOne a) && not (same (natAbs a) (natAbs b))
+pub other-is : (a b : ℤ) → minusOne a || nonNeg a ≡ true → nonNeg b ≡ true → not (minusOne a) && not (sameZ a b)
+    ≡ not (minusOne a) && not (same (natAbs a) (natAbs b))
 other-is (pos a) (pos b) h k = ap not (same-pos a b)
 other-is (pos a) (negsuc b) h k = absurd (false≢true k)
 other-is (negsuc a) b h k = go (same a 0) refl
   where
-    go : (t : Bool) → same a 0 ≡ t → not (same a 0) && not (sameZ (negsuc a) b) ≡ not (same a 0) && not (same (natAbs (negsuc a)) (natAbs b))
+    go : (t : Bool) → same a 0 ≡ t → not (same a 0) && not (sameZ (negsuc a) b) ≡ not (same a 0)
+        && not (same (natAbs (negsuc a)) (natAbs b))
     go true e = rw e
     go false e = absurd (false≢true (rw e at h))
 
 -- a face that was not found
-pub face-none : (l : List ℤ) (n : ℕ) → all faceRanges (rows faceWidth n l) ≡ true → (z : ℤ) → place (sameZ z) 0 (column faceWidth l n) ≡ Missing → nonNeg z && any (same (natAbs z)) (facesOf l n) ≡ false
+pub face-none : (l : List ℤ) (n : ℕ) → allOf faceRanges (rows faceWidth n l) ≡ true → (z : ℤ)
+    → place (sameZ z) 0 (column faceWidth l n) ≡ Missing → nonNeg z && anyOf (same (natAbs z)) (facesOf l n) ≡ false
 face-none l n ranges (pos m) e = face-missing l n ranges m e
 face-none l n ranges (negsuc m) e = refl

@@ -25,24 +25,42 @@ use Rattle.tables.proofs.Writes.{pushed, replaced-at, removed-at, nodes-wide}
 use Rattle.tables.proofs.Numbers.{without-at, changed-at}
 use Rattle.form_ranges.specs.Ranges.{lent}
 use Rattle.outcomes.specs.Outcomes.{Formed}
-use Rattle.outcomes.proofs.Formed.{nodes-count, edges-count, faces-count, node-next, edge-next, face-next, nodes-filled, edges-filled, faces-filled, node-numbers-once, lent-is}
+use Rattle.outcomes.proofs.Formed.{nodes-count, edges-count, faces-count, node-next, edge-next, face-next, nodes-filled}
+use Rattle.outcomes.proofs.Formed.{edges-filled, faces-filled, node-numbers-once, lent-is}
 use Rattle.edit_nodes.specs.Heads.{added, removed}
 
 -- the numbers of a node with the face of its point
-row-cells : (m : Map) (k : ℕ) (number x y face : ℤ) → coordinate x && coordinate y ≡ true → number ≡ pos k → face ≡ pos (faceOfPoint m (point x y)) → nodeCells (lone m k (point x y)) ≡ number ∷ x ∷ y ∷ face ∷ []
+row-cells : (m : Map) (k : ℕ) (number x y face : ℤ) → coordinate x && coordinate y ≡ true → number ≡ pos k → face
+    ≡ pos (faceOfPoint m (point x y)) → nodeCells (lone m k (point x y)) ≡ number ∷ x ∷ y ∷ face ∷ []
 unfolding nodeCells
 row-cells m k number x y face e en ef =
-    λ i. sym en i ∷ sym (coordinate-pos x (and-left (coordinate x) (coordinate y) e)) i ∷ sym (coordinate-pos y (and-right (coordinate x) (coordinate y) e)) i ∷ sym ef i ∷ []
+    λ i. sym en i ∷ sym (coordinate-pos x (and-left (coordinate x) (coordinate y) e)) i
+    ∷ sym (coordinate-pos y (and-right (coordinate x) (coordinate y) e)) i ∷ sym ef i ∷ []
 
 module _ {nodes edges faces : List ℤ} {h : Head} (f : Formed nodes edges faces h) where
   -- a map with other nodes and next numbers
   abbrev changed : List Node → ℕ → ℕ → ℕ → Map
-  changed ns a b c = record { nodes = ns; edges = edgesOf edges (natAbs (h .edges)); faces = facesOf faces (natAbs (h .faces)); nextNode = a; nextEdge = b; nextFace = c }
+  changed ns a b c = record {
+    nodes = ns;
+    edges = edgesOf edges (natAbs (h .edges));
+    faces = facesOf faces (natAbs (h .faces));
+    nextNode = a;
+    nextEdge = b;
+    nextFace = c;
+  }
 
-  nodes-lent : (ns : List Node) (a b c : ℕ) {l : List ℤ} {v w : ℤ} → filled (length nodes / nodeWidth * nodeWidth) (flatMap nodeCells ns) ≡ l → pos (length ns) ≡ v → pos a ≡ w
+  nodes-lent : (ns : List Node) (a b c : ℕ) {l : List ℤ} {v w : ℤ}
+      → filled (length nodes / nodeWidth * nodeWidth) (flatMap nodeCells ns) ≡ l → pos (length ns) ≡ v → pos a ≡ w
       → b ≡ natAbs (h .«next_edge») → c ≡ natAbs (h .«next_face»)
       → lentOf (sizesOf (lent nodes edges faces h)) (changed ns a b c)
-      ≡ lent l edges faces (record { nodes = v; edges = h .edges; faces = h .faces; «next_node» = w; «next_edge» = h .«next_edge»; «next_face» = h .«next_face» })
+      ≡ lent l edges faces (record {
+        nodes = v;
+        edges = h .edges;
+        faces = h .faces;
+        «next_node» = w;
+        «next_edge» = h .«next_edge»;
+        «next_face» = h .«next_face»;
+      })
   nodes-lent ns a b c e count next eb ec =
       lent-is (sizesOf (lent nodes edges faces h)) (changed ns a b c) e (edges-filled f) (faces-filled f)
       (λ i.
@@ -58,15 +76,19 @@ module _ {nodes edges faces : List ℤ} {h : Head} (f : Formed nodes edges faces
   -- kind 1
   pub add-lent : (p : Point) → natAbs (h .nodes) + 1 ≤ length nodes / nodeWidth
       → lentOf (sizesOf (lent nodes edges faces h)) (addIsoNode p (mapOf (lent nodes edges faces h)))
-      ≡ lent (paste nodes (natAbs (h .nodes) * nodeWidth) (nodeCells (lone (mapOf (lent nodes edges faces h)) (natAbs (h .«next_node»)) p)) nodeWidth) edges faces (added h)
+      ≡ lent (paste nodes (natAbs (h .nodes) * nodeWidth)
+      (nodeCells (lone (mapOf (lent nodes edges faces h)) (natAbs (h .«next_node»)) p)) nodeWidth) edges faces (added h)
   unfolding mapOf addIsoNode nodeCells
   add-lent p room =
       let xs = nodesOf nodes (natAbs (h .nodes)) in
       let x = lone (mapOf (lent nodes edges faces h)) (natAbs (h .«next_node»)) p in
       let long = nodes-length nodes (natAbs (h .nodes)) in
-      nodes-lent (xs ++ x ∷ []) (natAbs (h .«next_node») + 1) (natAbs (h .«next_edge») + 0) (natAbs (h .«next_face») + 0)
-      (sym (pushed nodeWidth nodeCells (length nodes / nodeWidth * nodeWidth) xs x (nodes-wide xs) refl (rw long (omega arith))) ∙ rw (nodes-filled f, long))
-      (ap pos (length-append xs (x ∷ []) ∙ ap (λ (j : ℕ). j + 1) long)) refl (add-zero (natAbs (h .«next_edge»))) (add-zero (natAbs (h .«next_face»)))
+      nodes-lent (xs ++ x ∷ []) (natAbs (h .«next_node») + 1) (natAbs (h .«next_edge») + 0)
+      (natAbs (h .«next_face») + 0)
+      (sym (pushed nodeWidth nodeCells (length nodes / nodeWidth * nodeWidth) xs x (nodes-wide xs) refl
+      (rw long (omega arith))) ∙ rw (nodes-filled f, long))
+      (ap pos (length-append xs (x ∷ []) ∙ ap (λ (j : ℕ). j + 1) long)) refl (add-zero (natAbs (h .«next_edge»)))
+      (add-zero (natAbs (h .«next_face»)))
 
   module _ (i : ℕ) (t : i < natAbs (h .nodes)) where
     row-in : i < length (nodesOf nodes (natAbs (h .nodes)))
@@ -77,34 +99,44 @@ module _ {nodes edges faces : List ℤ} {h : Head} (f : Formed nodes edges faces
 
     -- kind 2
     pub move-lent : (p : Point)
-        → lentOf (sizesOf (lent nodes edges faces h)) (moveIsoNode (nodeAt nodes i .number) p (mapOf (lent nodes edges faces h)))
-        ≡ lent (paste nodes (i * nodeWidth) (nodeCells (lone (mapOf (lent nodes edges faces h)) (nodeAt nodes i .number) p)) nodeWidth) edges faces h
+        → lentOf (sizesOf (lent nodes edges faces h))
+        (moveIsoNode (nodeAt nodes i .number) p (mapOf (lent nodes edges faces h)))
+        ≡ lent (paste nodes (i * nodeWidth)
+        (nodeCells (lone (mapOf (lent nodes edges faces h)) (nodeAt nodes i .number) p)) nodeWidth) edges faces h
     unfolding mapOf moveIsoNode atNodes nodeCells
     move-lent p =
         let xs = nodesOf nodes (natAbs (h .nodes)) in
         let k = nodeAt nodes i .number in
         let y = lone (mapOf (lent nodes edges faces h)) k p in
         let ys = map (λ (r : Node). cond (same (r .number) k) y r) xs in
-        let is : ys ≡ set xs i y = rw row-is at (changed-at (λ (r : Node). r .number) (λ (r : Node). y) xs (node-numbers-once f) i (nodeAt nodes i) row-in) in
+        let is : ys ≡ set xs i y = rw row-is at
+        (changed-at (λ (r : Node). r .number) (λ (r : Node). y) xs (node-numbers-once f) i (nodeAt nodes i) row-in) in
         nodes-lent ys (natAbs (h .«next_node»)) (natAbs (h .«next_edge»)) (natAbs (h .«next_face»))
         (ap (λ (r : List Node). filled (length nodes / nodeWidth * nodeWidth) (flatMap nodeCells r)) is
-        ∙ sym (replaced-at nodeWidth nodeCells (length nodes / nodeWidth * nodeWidth) xs i (nodeAt nodes i) (nodes-wide xs) row-in y refl)
+        ∙ sym (replaced-at nodeWidth nodeCells (length nodes / nodeWidth * nodeWidth) xs i (nodeAt nodes i)
+        (nodes-wide xs) row-in y refl)
         ∙ rw (nodes-filled f))
-        (ap pos (length-map xs (λ (r : Node). cond (same (r .number) k) y r) ∙ nodes-length nodes (natAbs (h .nodes))) ∙ sym (nodes-count f .0)) (sym (node-next f .0)) refl refl
+        (ap pos (length-map xs (λ (r : Node). cond (same (r .number) k) y r) ∙ nodes-length nodes (natAbs (h .nodes)))
+        ∙ sym (nodes-count f .0)) (sym (node-next f .0)) refl refl
 
     -- kind 3
-    pub remove-lent : lentOf (sizesOf (lent nodes edges faces h)) (removeIsoNode (nodeAt nodes i .number) (mapOf (lent nodes edges faces h)))
+    pub remove-lent : lentOf (sizesOf (lent nodes edges faces h))
+        (removeIsoNode (nodeAt nodes i .number) (mapOf (lent nodes edges faces h)))
         ≡ lent (closed nodeWidth nodes (natAbs (h .nodes)) i) edges faces (removed h)
     unfolding mapOf removeIsoNode
     remove-lent =
         let n = natAbs (h .nodes) in
         let xs = nodesOf nodes n in
         let long = nodes-length nodes n in
-        let is : withoutNode (nodeAt nodes i .number) xs ≡ take i xs ++ drop (suc i) xs = rw row-is at (without-at (λ (r : Node). r .number) xs (node-numbers-once f) i (nodeAt nodes i) row-in) in
-        let fewer : length (take i xs ++ drop (suc i) xs) ≡ n - 1 = length-append (take i xs) (drop (suc i) xs) ∙ rw (length-take-le i xs (rw long (omega arith)), length-drop (suc i) xs, long) (omega arith) in
-        nodes-lent (withoutNode (nodeAt nodes i .number) xs) (natAbs (h .«next_node»)) (natAbs (h .«next_edge»)) (natAbs (h .«next_face»))
+        let is : withoutNode (nodeAt nodes i .number) xs ≡ take i xs ++ drop (suc i) xs =
+        rw row-is at (without-at (λ (r : Node). r .number) xs (node-numbers-once f) i (nodeAt nodes i) row-in) in
+        let fewer : length (take i xs ++ drop (suc i) xs) ≡ n - 1 = length-append (take i xs) (drop (suc i) xs)
+        ∙ rw (length-take-le i xs (rw long (omega arith)), length-drop (suc i) xs, long) (omega arith) in
+        nodes-lent (withoutNode (nodeAt nodes i .number) xs) (natAbs (h .«next_node»)) (natAbs (h .«next_edge»))
+        (natAbs (h .«next_face»))
         (ap (λ (r : List Node). filled (length nodes / nodeWidth * nodeWidth) (flatMap nodeCells r)) is
-        ∙ sym (removed-at nodeWidth nodeCells (length nodes / nodeWidth * nodeWidth) xs i (nodeAt nodes i) (nodes-wide xs) row-in (rw long (omega (arith, nodes-count f .2))))
+        ∙ sym (removed-at nodeWidth nodeCells (length nodes / nodeWidth * nodeWidth) xs i (nodeAt nodes i)
+        (nodes-wide xs) row-in (rw long (omega (arith, nodes-count f .2))))
         ∙ rw (nodes-filled f, long))
         (ap (λ (r : List Node). pos (length r)) is ∙ ap pos fewer) (sym (node-next f .0)) refl refl
 
@@ -114,35 +146,50 @@ module _ {nodes edges faces : List ℤ} {h : Head} (f : Formed nodes edges faces
   unfolding mapOf
   next-is = sym (node-next f .0)
 
-  pub add-carried : (face x y : ℤ) {a : ℤ} {l : List ℤ} → coordinate x && coordinate y ≡ true → natAbs (h .nodes) + 1 ≤ length nodes / nodeWidth → a ≡ pos (faceOfPoint (mapOf (lent nodes edges faces h)) (point x y))
+  pub add-carried : (face x y : ℤ) {a : ℤ} {l : List ℤ} → coordinate x && coordinate y ≡ true
+      → natAbs (h .nodes) + 1 ≤ length nodes / nodeWidth → a
+      ≡ pos (faceOfPoint (mapOf (lent nodes edges faces h)) (point x y))
       → l ≡ paste nodes (natAbs (h .nodes) * nodeWidth) (h .«next_node» ∷ x ∷ y ∷ a ∷ []) nodeWidth
-      → (lentOf (sizesOf (lent nodes edges faces h)) (carried (mapOf (lent nodes edges faces h)) (AddIsoNode face x y) .0) ≡ lent l edges faces (added h))
+      → (lentOf (sizesOf (lent nodes edges faces h))
+      (carried (mapOf (lent nodes edges faces h)) (AddIsoNode face x y) .0) ≡ lent l edges faces (added h))
       × (carried (mapOf (lent nodes edges faces h)) (AddIsoNode face x y) .1 ≡ h .«next_node»)
   unfolding carried
   add-carried face x y {a} e room ea el = (
     add-lent (point x y) room
-        ∙ ap (λ (r : List ℤ). lent r edges faces (added h)) (ap (λ (r : List ℤ). paste nodes (natAbs (h .nodes) * nodeWidth) r nodeWidth) (row-cells (mapOf (lent nodes edges faces h)) (natAbs (h .«next_node»)) (h .«next_node») x y a e (node-next f .0) ea) ∙ sym el),
+        ∙ ap (λ (r : List ℤ). lent r edges faces (added h))
+        (ap (λ (r : List ℤ). paste nodes (natAbs (h .nodes) * nodeWidth) r nodeWidth)
+        (row-cells (mapOf (lent nodes edges faces h)) (natAbs (h .«next_node»)) (h .«next_node») x y a e
+        (node-next f .0) ea) ∙ sym el),
     next-is,
   )
 
-  pub move-carried : (i : ℕ) → i < natAbs (h .nodes) → (node x y : ℤ) {a : ℤ} {l : List ℤ} → node ≡ pos (nodeAt nodes i .number) → coordinate x && coordinate y ≡ true → a ≡ pos (faceOfPoint (mapOf (lent nodes edges faces h)) (point x y))
+  pub move-carried : (i : ℕ) → i < natAbs (h .nodes) → (node x y : ℤ) {a : ℤ} {l : List ℤ} → node
+      ≡ pos (nodeAt nodes i .number) → coordinate x && coordinate y ≡ true → a
+      ≡ pos (faceOfPoint (mapOf (lent nodes edges faces h)) (point x y))
       → l ≡ paste nodes (i * nodeWidth) (node ∷ x ∷ y ∷ a ∷ []) nodeWidth
-      → (lentOf (sizesOf (lent nodes edges faces h)) (carried (mapOf (lent nodes edges faces h)) (MoveIsoNode node x y) .0) ≡ lent l edges faces h)
+      → (lentOf (sizesOf (lent nodes edges faces h))
+      (carried (mapOf (lent nodes edges faces h)) (MoveIsoNode node x y) .0) ≡ lent l edges faces h)
       × (carried (mapOf (lent nodes edges faces h)) (MoveIsoNode node x y) .1 ≡ pos 0)
   unfolding carried
   move-carried i t node x y {a} en e ea el = (
-    ap (λ (k : ℕ). lentOf (sizesOf (lent nodes edges faces h)) (moveIsoNode k (point x y) (mapOf (lent nodes edges faces h)))) (ap natAbs en)
+    ap (λ (k : ℕ). lentOf (sizesOf (lent nodes edges faces h))
+        (moveIsoNode k (point x y) (mapOf (lent nodes edges faces h)))) (ap natAbs en)
         ∙ move-lent i t (point x y)
-        ∙ ap (λ (r : List ℤ). lent r edges faces h) (ap (λ (r : List ℤ). paste nodes (i * nodeWidth) r nodeWidth) (row-cells (mapOf (lent nodes edges faces h)) (nodeAt nodes i .number) node x y a e en ea) ∙ sym el),
+        ∙ ap (λ (r : List ℤ). lent r edges faces h)
+        (ap (λ (r : List ℤ). paste nodes (i * nodeWidth) r nodeWidth)
+        (row-cells (mapOf (lent nodes edges faces h)) (nodeAt nodes i .number) node x y a e en ea) ∙ sym el),
     refl,
   )
 
-  pub remove-carried : (i : ℕ) → i < natAbs (h .nodes) → (node : ℤ) {l : List ℤ} → node ≡ pos (nodeAt nodes i .number) → l ≡ closed nodeWidth nodes (natAbs (h .nodes)) i
-      → (lentOf (sizesOf (lent nodes edges faces h)) (carried (mapOf (lent nodes edges faces h)) (RemoveIsoNode node) .0) ≡ lent l edges faces (removed h))
+  pub remove-carried : (i : ℕ) → i < natAbs (h .nodes) → (node : ℤ) {l : List ℤ} → node ≡ pos (nodeAt nodes i .number)
+      → l ≡ closed nodeWidth nodes (natAbs (h .nodes)) i
+      → (lentOf (sizesOf (lent nodes edges faces h))
+      (carried (mapOf (lent nodes edges faces h)) (RemoveIsoNode node) .0) ≡ lent l edges faces (removed h))
       × (carried (mapOf (lent nodes edges faces h)) (RemoveIsoNode node) .1 ≡ pos 0)
   unfolding carried
   remove-carried i t node en el = (
-    ap (λ (k : ℕ). lentOf (sizesOf (lent nodes edges faces h)) (removeIsoNode k (mapOf (lent nodes edges faces h)))) (ap natAbs en)
+    ap (λ (k : ℕ). lentOf (sizesOf (lent nodes edges faces h)) (removeIsoNode k (mapOf (lent nodes edges faces h))))
+        (ap natAbs en)
         ∙ remove-lent i t
         ∙ ap (λ (r : List ℤ). lent r edges faces (removed h)) (sym el),
     refl,

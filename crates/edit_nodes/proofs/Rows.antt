@@ -1,4 +1,5 @@
--- What a search for a node's row answered, in the map's terms, and the first reason of kinds 2 and 3 from it. Assumes nothing.
+-- What a search for a node's row answered, in the map's terms, and the first reason of kinds 2 and 3 from it. Assumes
+-- nothing.
 use mathlib.Core.Path.{_≡_, sym, ap, ap₂, _∙_}
 use mathlib.Core.Bool.{Bool, true, false, not, _&&_, _||_}
 use mathlib.Core.List.{List, [], _∷_}
@@ -8,7 +9,7 @@ use lib.Dec.{lit<}
 use lib.IntN.{ℤ, pos, natAbs}
 use lib.Signed.{nonNeg}
 use borrow.Author.Tests.{not-false}
-use Rattle.lists.specs.Scans.{any, isSome}
+use Rattle.lists.specs.Scans.{anyOf, isSome}
 use Rattle.lists.specs.Tests.{same}
 use Rattle.lists.specs.Tables.{table, place}
 use Rattle.lists.specs.declared.Found.the-variants.{At}
@@ -32,17 +33,22 @@ use Rattle.edit_nodes.specs.Parts.{moveReasons}
 
 module _ {nodes edges faces : List ℤ} {h : Head} (f : Formed nodes edges faces h) where
   -- the row is missing
-  pub move-missing : (z x y : ℤ) → noNode (mapOf (lent nodes edges faces h)) z ≡ true → firstReason (reasons.reasons (sizesOf (lent nodes edges faces h)) (mapOf (lent nodes edges faces h)) (MoveIsoNode z x y)) ≡ 4
+  pub move-missing : (z x y : ℤ) → noNode (mapOf (lent nodes edges faces h)) z ≡ true
+      → firstReason (reasons.reasons (sizesOf (lent nodes edges faces h)) (mapOf (lent nodes edges faces h))
+      (MoveIsoNode z x y)) ≡ 4
   unfolding reasons.reasons
   move-missing z x y e = first-hit 4 _ _ e
 
-  pub remove-missing : (z : ℤ) → noNode (mapOf (lent nodes edges faces h)) z ≡ true → firstReason (reasons.reasons (sizesOf (lent nodes edges faces h)) (mapOf (lent nodes edges faces h)) (RemoveIsoNode z)) ≡ 4
+  pub remove-missing : (z : ℤ) → noNode (mapOf (lent nodes edges faces h)) z ≡ true
+      → firstReason (reasons.reasons (sizesOf (lent nodes edges faces h)) (mapOf (lent nodes edges faces h))
+      (RemoveIsoNode z)) ≡ 4
   unfolding reasons.reasons
   remove-missing z e = first-hit 4 _ _ e
 
   -- it is row i
   module _ (z : ℤ) (i : ℕ) (e : place (sameZ z) 0 (column nodeWidth nodes (natAbs (h .nodes))) ≡ At i) where
-    hit : (i < natAbs (h .nodes)) × (z ≡ pos (nodeAt nodes i .number)) × (findNode (mapOf (lent nodes edges faces h)) (natAbs z) ≡ some (nodeAt nodes i))
+    hit : (i < natAbs (h .nodes)) × (z ≡ pos (nodeAt nodes i .number))
+        × (findNode (mapOf (lent nodes edges faces h)) (natAbs z) ≡ some (nodeAt nodes i))
     unfolding mapOf
     hit = node-found nodes (natAbs (h .nodes)) (ranges f .node-rows) z i e
 
@@ -56,34 +62,46 @@ module _ {nodes edges faces : List ℤ} {h : Head} (f : Formed nodes edges faces
     there = rw (ap nonNeg row-number, hit .2)
 
     isolated-row : isolated (mapOf (lent nodes edges faces h)) (natAbs z) ≡ isSome (nodeAt nodes i .face)
-    isolated-row = ap (λ (r : Node). isSome (r .face)) (node-is (mapOf (lent nodes edges faces h)) (natAbs z) (nodeAt nodes i) (hit .2))
+    isolated-row = ap (λ (r : Node). isSome (r .face))
+        (node-is (mapOf (lent nodes edges faces h)) (natAbs z) (nodeAt nodes i) (hit .2))
 
     -- kind 3
-    pub remove-bare : {r : Bool} → r ≡ isSome (nodeAt nodes i .face) → not r ≡ true → firstReason (reasons.reasons (sizesOf (lent nodes edges faces h)) (mapOf (lent nodes edges faces h)) (RemoveIsoNode z)) ≡ 9
+    pub remove-bare : {r : Bool} → r ≡ isSome (nodeAt nodes i .face) → not r ≡ true
+        → firstReason (reasons.reasons (sizesOf (lent nodes edges faces h)) (mapOf (lent nodes edges faces h))
+        (RemoveIsoNode z)) ≡ 9
     unfolding reasons.reasons
     remove-bare er et = first-miss 4 _ _ there ∙ first-hit 9 _ _ (ap not (isolated-row ∙ sym er) ∙ et)
 
-    pub remove-free : {r : Bool} → r ≡ isSome (nodeAt nodes i .face) → not r ≡ false → firstReason (reasons.reasons (sizesOf (lent nodes edges faces h)) (mapOf (lent nodes edges faces h)) (RemoveIsoNode z)) ≡ 0
+    pub remove-free : {r : Bool} → r ≡ isSome (nodeAt nodes i .face) → not r ≡ false
+        → firstReason (reasons.reasons (sizesOf (lent nodes edges faces h)) (mapOf (lent nodes edges faces h))
+        (RemoveIsoNode z)) ≡ 0
     unfolding reasons.reasons
     remove-free er et = first-miss 4 _ _ there ∙ first-miss 9 _ _ (ap not (isolated-row ∙ sym er) ∙ et) ∙ first-none
 
     -- kind 2
-    taken-row : (x y : ℤ) → reasons.nodeAt (withoutNode (natAbs z) (mapOf (lent nodes edges faces h) .nodes)) (point x y) || edgeThrough (mapOf (lent nodes edges faces h)) (point x y)
-        ≡ any (λ j. not (same j i) && samePoint (nodeAt nodes j .at) (point x y)) (table (λ j. j) 0 (natAbs (h .nodes))) || edgeThrough (edgeMap edges (natAbs (h .edges))) (point x y)
+    taken-row : (x y : ℤ) → reasons.nodeAt (withoutNode (natAbs z) (mapOf (lent nodes edges faces h) .nodes))
+        (point x y) || edgeThrough (mapOf (lent nodes edges faces h)) (point x y)
+        ≡ anyOf (λ j. not (same j i) && samePoint (nodeAt nodes j .at) (point x y))
+        (table (λ j. j) 0 (natAbs (h .nodes))) || edgeThrough (edgeMap edges (natAbs (h .edges))) (point x y)
     unfolding mapOf edgeThrough
     taken-row x y =
         ap (λ (b : Bool). b || edgeThrough (edgeMap edges (natAbs (h .edges))) (point x y))
-        (ap (λ (k : ℕ). reasons.nodeAt (withoutNode k (nodesOf nodes (natAbs (h .nodes)))) (point x y)) (ap natAbs row-number) ∙ sym (node-at-but nodes (natAbs (h .nodes)) i (point x y) (node-rows f) row-below))
+        (ap (λ (k : ℕ). reasons.nodeAt (withoutNode k (nodesOf nodes (natAbs (h .nodes)))) (point x y))
+        (ap natAbs row-number) ∙ sym (node-at-but nodes (natAbs (h .nodes)) i (point x y) (node-rows f) row-below))
 
-    pub move-row : (x y : ℤ) → firstReason (reasons.reasons (sizesOf (lent nodes edges faces h)) (mapOf (lent nodes edges faces h)) (MoveIsoNode z x y))
+    pub move-row : (x y : ℤ) → firstReason
+        (reasons.reasons (sizesOf (lent nodes edges faces h)) (mapOf (lent nodes edges faces h)) (MoveIsoNode z x y))
         ≡ firstReason (moveReasons nodes (natAbs (h .nodes)) edges (natAbs (h .edges)) i x y)
     unfolding reasons.reasons
-    move-row x y = first-miss 4 _ _ there ∙ ap₂ (λ (a b : Bool). firstReason ((5, outside x y) ∷ (9, not a) ∷ (10, b) ∷ [])) isolated-row (taken-row x y)
+    move-row x y = first-miss 4 _ _ there
+        ∙ ap₂ (λ (a b : Bool). firstReason ((5, outside x y) ∷ (9, not a) ∷ (10, b) ∷ [])) isolated-row (taken-row x y)
 
 -- a point that was not turned down is in range
-pub move-point : (l : List ℤ) (n : ℕ) (es : List ℤ) (k i : ℕ) (x y : ℤ) → firstReason (moveReasons l n es k i x y) ≡ 0 → coordinate x && coordinate y ≡ true
+pub move-point : (l : List ℤ) (n : ℕ) (es : List ℤ) (k i : ℕ) (x y : ℤ) → firstReason (moveReasons l n es k i x y) ≡ 0
+    → coordinate x && coordinate y ≡ true
 move-point l n es k i x y e = not-false (coordinate x && coordinate y) (first-zero 5 _ _ (lit< tt) e .0)
 
 -- the reasons of numbers as they were passed
-pub move-told : (l : List ℤ) (n : ℕ) (es : List ℤ) (k i : ℕ) {x y u v : ℤ} {a b r : ℕ} → a ≡ n → b ≡ k → u ≡ x → v ≡ y → r ≡ firstReason (moveReasons l a es b i u v) → r ≡ firstReason (moveReasons l n es k i x y)
+pub move-told : (l : List ℤ) (n : ℕ) (es : List ℤ) (k i : ℕ) {x y u v : ℤ} {a b r : ℕ} → a ≡ n → b ≡ k → u ≡ x → v ≡ y
+    → r ≡ firstReason (moveReasons l a es b i u v) → r ≡ firstReason (moveReasons l n es k i x y)
 move-told l n es k i ea eb eu ev e = e ∙ (λ j. firstReason (moveReasons l (ea j) es (eb j) i (eu j) (ev j)))

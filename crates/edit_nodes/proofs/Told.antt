@@ -10,7 +10,7 @@ use lib.ListN.{length}
 use lib.Signed.{nonNeg}
 use borrow.Author.Tests.{not-false, ltb-false}
 use Rattle.lists.specs.Tests.{same}
-use Rattle.lists.specs.Scans.{any}
+use Rattle.lists.specs.Scans.{anyOf}
 use Rattle.lists.specs.Tables.{table}
 use Rattle.lists.proofs.Bools.{eq1}
 use Rattle.plane.specs.declared.Point.{Point}
@@ -26,7 +26,8 @@ use Rattle.map.specs.Reasons.{firstReason, minusOne, noFace, outside, edgeThrou
 use Rattle.tables.specs.Tables.{facesOf, nodeAt, edgeMap}
 use Rattle.form_ranges.specs.Ranges.{lent}
 use Rattle.outcomes.specs.Outcomes.{Formed}
-use Rattle.outcomes.proofs.Formed.{nodes-count, edges-count, faces-count, nodes-size, edges-size, faces-size, node-next, full-is, spent-is, edges-room, faces-room, edge-left, face-left}
+use Rattle.outcomes.proofs.Formed.{nodes-count, edges-count, faces-count, nodes-size, edges-size, faces-size, node-next}
+use Rattle.outcomes.proofs.Formed.{full-is, spent-is, edges-room, faces-room, edge-left, face-left}
 use Rattle.map.proofs.Reasons.{first-hit, first-miss, first-zero, first-append, first-after}
 use Rattle.reason_curves.proofs.Others.{node-at-all}
 use Rattle.edit_nodes.specs.Heads.{Numbered}
@@ -39,19 +40,23 @@ given-face false true c e = refl
 given-face false false c e = absurd (true≢false e)
 
 -- the coordinates that were looked at
-pub range-told : {x y u v : ℤ} {r t : Bool} → u ≡ x → v ≡ y → r ≡ coordinate u && coordinate v → not r ≡ t → outside x y ≡ t
+pub range-told : {x y u v : ℤ} {r t : Bool} → u ≡ x → v ≡ y → r ≡ coordinate u && coordinate v → not r ≡ t
+    → outside x y ≡ t
 range-told eu ev er et = rw (← eu, ← ev, ← er) et
 
 -- the first reasons of kind 1, of numbers as they were passed
-pub early-told : (m : Map) {face x y u v w : ℤ} {r : ℕ} → u ≡ face → v ≡ x → w ≡ y → r ≡ firstReason (addEarly m u v w) → r ≡ firstReason (addEarly m face x y)
+pub early-told : (m : Map) {face x y u v w : ℤ} {r : ℕ} → u ≡ face → v ≡ x → w ≡ y → r ≡ firstReason (addEarly m u v w)
+    → r ≡ firstReason (addEarly m face x y)
 early-told m eu ev ew e = e ∙ (λ i. firstReason (addEarly m (eu i) (ev i) (ew i)))
 
 -- the face around the point was compared
-pub other-told : {face u w : ℤ} (k : ℕ) {r v : Bool} → u ≡ face → w ≡ pos k → r ≡ not (minusOne u) && not (same (natAbs u) (natAbs w)) → r ≡ v → not (minusOne face) && not (same (natAbs face) k) ≡ v
+pub other-told : {face u w : ℤ} (k : ℕ) {r v : Bool} → u ≡ face → w ≡ pos k → r ≡ not (minusOne u)
+    && not (same (natAbs u) (natAbs w)) → r ≡ v → not (minusOne face) && not (same (natAbs face) k) ≡ v
 other-told k eu ew er ev = sym (λ i. not (minusOne (eu i)) && not (same (natAbs (eu i)) (natAbs (ew i)))) ∙ sym er ∙ ev
 
 -- there is room for a row
-pub room-left : (l : List ℤ) (h : Head) → firstReason (roomReasons l h) ≡ 0 → natAbs (h .nodes) + 1 ≤ length l / nodeWidth
+pub room-left : (l : List ℤ) (h : Head) → firstReason (roomReasons l h) ≡ 0
+    → natAbs (h .nodes) + 1 ≤ length l / nodeWidth
 room-left l h e = ltb-false (length l / nodeWidth) (natAbs (h .nodes) + 1) (first-zero 20 _ _ (lit< tt) e .0)
 
 module _ {nodes edges faces : List ℤ} {h : Head} (f : Formed nodes edges faces h) where
@@ -65,40 +70,63 @@ module _ {nodes edges faces : List ℤ} {h : Head} (f : Formed nodes edges faces
   few-faces = omega (arith, faces-count f .2, faces-size f .1)
 
   pub numbered-of : Numbered h
-  numbered-of = record { nodes = nodes-count f .0; few = omega (arith, nodes-count f .2, nodes-size f .1); next = node-next f .0; given = node-next f .2 }
+  numbered-of = record {
+    nodes = nodes-count f .0;
+    few = omega (arith, nodes-count f .2, nodes-size f .1);
+    next = node-next f .0;
+    given = node-next f .2;
+  }
 
   -- the face that was looked for
-  pub face-told : (k : ℕ) (face z : ℤ) {r v : Bool} → k ≡ natAbs (h .faces) → z ≡ face → r ≡ not (minusOne z) && not (nonNeg z && any (same (natAbs z)) (facesOf faces k)) → r ≡ v
+  pub face-told : (k : ℕ) (face z : ℤ) {r v : Bool} → k ≡ natAbs (h .faces) → z ≡ face → r ≡ not (minusOne z)
+      && not (nonNeg z && anyOf (same (natAbs z)) (facesOf faces k)) → r ≡ v
       → not (minusOne face) && noFace (mapOf (lent nodes edges faces h)) face ≡ v
   unfolding mapOf
   face-told k face z ek ez er ev = rw (← ek, ← ez) (sym er ∙ ev)
 
   -- the point that was looked for
-  pub taken-told : (n k own : ℕ) (p q : Point) {r v : Bool} → n ≡ natAbs (h .nodes) → k ≡ natAbs (h .edges) → n ≤ own → p ≡ q
-      → r ≡ any (λ i. not (same i own) && samePoint (nodeAt nodes i .at) p) (table (λ i. i) 0 n) || edgeThrough (edgeMap edges k) p → r ≡ v
-      → reasons.nodeAt (mapOf (lent nodes edges faces h) .nodes) q || edgeThrough (mapOf (lent nodes edges faces h)) q ≡ v
+  pub taken-told : (n k own : ℕ) (p q : Point) {r v : Bool} → n ≡ natAbs (h .nodes) → k ≡ natAbs (h .edges) → n ≤ own
+      → p ≡ q
+      → r ≡ anyOf (λ i. not (same i own) && samePoint (nodeAt nodes i .at) p) (table (λ i. i) 0 n)
+      || edgeThrough (edgeMap edges k) p → r ≡ v
+      → reasons.nodeAt (mapOf (lent nodes edges faces h) .nodes) q || edgeThrough (mapOf (lent nodes edges faces h)) q
+      ≡ v
   unfolding mapOf edgeThrough
-  taken-told n k own p q en ek past ep er ev = rw (← en, ← ek, ← ep) (ap (λ (t : Bool). t || edgeThrough (edgeMap edges k) p) (sym (node-at-all nodes n own p past)) ∙ sym er ∙ ev)
+  taken-told n k own p q en ek past ep er ev =
+      rw (← en, ← ek, ← ep) (ap (λ (t : Bool). t || edgeThrough (edgeMap edges k) p)
+      (sym (node-at-all nodes n own p past)) ∙ sym er ∙ ev)
 
   -- the face around a point
-  pub around-told : (k : ℕ) (p q : Point) → k ≡ natAbs (h .edges) → p ≡ q → faceOfPoint (edgeMap edges k) p ≡ faceOfPoint (mapOf (lent nodes edges faces h)) q
+  pub around-told : (k : ℕ) (p q : Point) → k ≡ natAbs (h .edges) → p ≡ q → faceOfPoint (edgeMap edges k) p
+      ≡ faceOfPoint (mapOf (lent nodes edges faces h)) q
   unfolding mapOf faceOfPoint floors
   around-told k p q ek ep = rw (ek, ep)
 
   -- ---- kind 1
 
   module _ (face x y : ℤ) where
-    parts : reasons.reasons (sizesOf (lent nodes edges faces h)) (mapOf (lent nodes edges faces h)) (AddIsoNode face x y)
-        ≡ addEarly (mapOf (lent nodes edges faces h)) face x y ++ addLate (sizesOf (lent nodes edges faces h)) (mapOf (lent nodes edges faces h)) face x y
+    parts : reasons.reasons (sizesOf (lent nodes edges faces h)) (mapOf (lent nodes edges faces h))
+        (AddIsoNode face x y)
+        ≡ addEarly (mapOf (lent nodes edges faces h)) face x y
+        ++ addLate (sizesOf (lent nodes edges faces h)) (mapOf (lent nodes edges faces h)) face x y
     unfolding reasons.reasons
     parts = refl
 
     pub add-early : (r : ℕ) → 0 < r → r ≡ firstReason (addEarly (mapOf (lent nodes edges faces h)) face x y)
-        → firstReason (reasons.reasons (sizesOf (lent nodes edges faces h)) (mapOf (lent nodes edges faces h)) (AddIsoNode face x y)) ≡ r
-    add-early r some e = ap firstReason parts ∙ first-append (addEarly (mapOf (lent nodes edges faces h)) face x y) (addLate (sizesOf (lent nodes edges faces h)) (mapOf (lent nodes edges faces h)) face x y) r some (sym e)
+        → firstReason (reasons.reasons (sizesOf (lent nodes edges faces h)) (mapOf (lent nodes edges faces h))
+        (AddIsoNode face x y)) ≡ r
+    add-early r some e = ap firstReason parts
+        ∙ first-append (addEarly (mapOf (lent nodes edges faces h)) face x y)
+        (addLate (sizesOf (lent nodes edges faces h)) (mapOf (lent nodes edges faces h)) face x y) r some (sym e)
 
     module _ (early : firstReason (addEarly (mapOf (lent nodes edges faces h)) face x y) ≡ 0) where
-      four : (not (minusOne face) && noFace (mapOf (lent nodes edges faces h)) face ≡ false) × (firstReason ((5, outside x y) ∷ (10, reasons.nodeAt (mapOf (lent nodes edges faces h) .nodes) (point x y) || edgeThrough (mapOf (lent nodes edges faces h)) (point x y)) ∷ []) ≡ 0)
+      four : (not (minusOne face) && noFace (mapOf (lent nodes edges faces h)) face ≡ false)
+          × (firstReason ((5, outside x y)
+          ∷ (
+            10,
+            reasons.nodeAt (mapOf (lent nodes edges faces h) .nodes) (point x y)
+                || edgeThrough (mapOf (lent nodes edges faces h)) (point x y),
+          ) ∷ []) ≡ 0)
       four = first-zero 4 _ _ (lit< tt) early
 
       pub early-face : minusOne face || nonNeg face ≡ true
@@ -107,19 +135,30 @@ module _ {nodes edges faces : List ℤ} {h : Head} (f : Formed nodes edges faces
       pub early-point : coordinate x && coordinate y ≡ true
       early-point = not-false (coordinate x && coordinate y) (first-zero 5 _ _ (lit< tt) (four .1) .0)
 
-      late-part : firstReason (reasons.reasons (sizesOf (lent nodes edges faces h)) (mapOf (lent nodes edges faces h)) (AddIsoNode face x y)) ≡ firstReason (addLate (sizesOf (lent nodes edges faces h)) (mapOf (lent nodes edges faces h)) face x y)
-      late-part = ap firstReason parts ∙ first-after (addEarly (mapOf (lent nodes edges faces h)) face x y) (addLate (sizesOf (lent nodes edges faces h)) (mapOf (lent nodes edges faces h)) face x y) refl early
+      late-part : firstReason (reasons.reasons (sizesOf (lent nodes edges faces h)) (mapOf (lent nodes edges faces h))
+          (AddIsoNode face x y)) ≡ firstReason
+          (addLate (sizesOf (lent nodes edges faces h)) (mapOf (lent nodes edges faces h)) face x y)
+      late-part = ap firstReason parts ∙ first-after (addEarly (mapOf (lent nodes edges faces h)) face x y)
+          (addLate (sizesOf (lent nodes edges faces h)) (mapOf (lent nodes edges faces h)) face x y) refl early
 
-      pub add-other : not (minusOne face) && not (same (natAbs face) (faceOfPoint (mapOf (lent nodes edges faces h)) (point x y))) ≡ true
-          → firstReason (reasons.reasons (sizesOf (lent nodes edges faces h)) (mapOf (lent nodes edges faces h)) (AddIsoNode face x y)) ≡ 12
+      pub add-other : not (minusOne face)
+          && not (same (natAbs face) (faceOfPoint (mapOf (lent nodes edges faces h)) (point x y))) ≡ true
+          → firstReason (reasons.reasons (sizesOf (lent nodes edges faces h)) (mapOf (lent nodes edges faces h))
+          (AddIsoNode face x y)) ≡ 12
       add-other e = late-part ∙ first-hit 12 _ _ e
 
-      pub add-room : not (minusOne face) && not (same (natAbs face) (faceOfPoint (mapOf (lent nodes edges faces h)) (point x y))) ≡ false
-          → firstReason (reasons.reasons (sizesOf (lent nodes edges faces h)) (mapOf (lent nodes edges faces h)) (AddIsoNode face x y)) ≡ firstReason (roomReasons nodes h)
-      add-room e = late-part ∙ first-miss 12 _ _ e ∙ ap₂ (λ (a b : Bool). firstReason ((20, a) ∷ (21, b) ∷ [])) room numbers
+      pub add-room : not (minusOne face)
+          && not (same (natAbs face) (faceOfPoint (mapOf (lent nodes edges faces h)) (point x y))) ≡ false
+          → firstReason (reasons.reasons (sizesOf (lent nodes edges faces h)) (mapOf (lent nodes edges faces h))
+          (AddIsoNode face x y)) ≡ firstReason (roomReasons nodes h)
+      add-room e = late-part ∙ first-miss 12 _ _ e
+          ∙ ap₂ (λ (a b : Bool). firstReason ((20, a) ∷ (21, b) ∷ [])) room numbers
         where
-          room : full (sizesOf (lent nodes edges faces h)) (mapOf (lent nodes edges faces h)) 1 0 0 ≡ ltb (length nodes / nodeWidth) (natAbs (h .nodes) + 1)
-          room = full-is f 1 0 0 ∙ rw (edges-room f, faces-room f) (eq1 (λ b. b || false || false) (λ b. b) tt (ltb (length nodes / nodeWidth) (natAbs (h .nodes) + 1)))
+          room : full (sizesOf (lent nodes edges faces h)) (mapOf (lent nodes edges faces h)) 1 0 0
+              ≡ ltb (length nodes / nodeWidth) (natAbs (h .nodes) + 1)
+          room = full-is f 1 0 0 ∙ rw (edges-room f, faces-room f)
+              (eq1 (λ b. b || false || false) (λ b. b) tt (ltb (length nodes / nodeWidth) (natAbs (h .nodes) + 1)))
 
           numbers : spent (mapOf (lent nodes edges faces h)) 1 0 0 ≡ ltb (suc lastNumber) (natAbs (h .«next_node») + 1)
-          numbers = spent-is f 1 0 0 ∙ rw (edge-left f, face-left f) (eq1 (λ b. b || false || false) (λ b. b) tt (ltb (suc lastNumber) (natAbs (h .«next_node») + 1)))
+          numbers = spent-is f 1 0 0 ∙ rw (edge-left f, face-left f)
+              (eq1 (λ b. b || false || false) (λ b. b) tt (ltb (suc lastNumber) (natAbs (h .«next_node») + 1)))

@@ -6,7 +6,7 @@ use lib.Dec.{ltb}
 use lib.IntN.{ℤ, natAbs}
 use lib.ListN.{length}
 use Rattle.lists.specs.Tests.{same}
-use Rattle.lists.specs.Scans.{any, isSome}
+use Rattle.lists.specs.Scans.{anyOf, isSome}
 use Rattle.lists.specs.Tables.{table}
 use Rattle.plane.specs.Points.{samePoint}
 use Rattle.curves.specs.Curves.{point}
@@ -20,19 +20,26 @@ use Rattle.tables.specs.Tables.{nodeAt, edgeMap}
 
 -- kind 1, up to 10, and from 12 on
 abbrev pub addEarly : Map → ℤ → ℤ → ℤ → Reasons
-addEarly m f x y = (4, not (minusOne f) && noFace m f) ∷ (5, outside x y) ∷ (10, reasons.nodeAt (m .nodes) (point x y) || edgeThrough m (point x y)) ∷ []
+addEarly m f x y = (4, not (minusOne f) && noFace m f) ∷ (5, outside x y)
+    ∷ (10, reasons.nodeAt (m .nodes) (point x y) || edgeThrough m (point x y)) ∷ []
 
 abbrev pub addLate : Sizes → Map → ℤ → ℤ → ℤ → Reasons
-addLate s m f x y = (12, not (minusOne f) && not (same (natAbs f) (faceOfPoint m (point x y)))) ∷ (20, full s m 1 0 0) ∷ (21, spent m 1 0 0) ∷ []
+addLate s m f x y = (12, not (minusOne f) && not (same (natAbs f) (faceOfPoint m (point x y)))) ∷ (20, full s m 1 0 0)
+    ∷ (21, spent m 1 0 0) ∷ []
 
 -- 20 and 21, of the nodes alone
 abbrev pub roomReasons : List ℤ → Head → Reasons
-roomReasons l h = (20, ltb (length l / nodeWidth) (natAbs (h .nodes) + 1)) ∷ (21, ltb (suc lastNumber) (natAbs (h .«next_node») + 1)) ∷ []
+roomReasons l h = (20, ltb (length l / nodeWidth) (natAbs (h .nodes) + 1))
+    ∷ (21, ltb (suc lastNumber) (natAbs (h .«next_node») + 1)) ∷ []
 
 -- kind 2, of node row i, from 5 on
 abbrev pub moveReasons : List ℤ → ℕ → List ℤ → ℕ → ℕ → ℤ → ℤ → Reasons
 moveReasons l n es k i x y =
     (5, outside x y)
     ∷ (9, not (isSome (nodeAt l i .face)))
-    ∷ (10, any (λ j. not (same j i) && samePoint (nodeAt l j .at) (point x y)) (table (λ j. j) 0 n) || edgeThrough (edgeMap es k) (point x y))
+    ∷ (
+      10,
+      anyOf (λ j. not (same j i) && samePoint (nodeAt l j .at) (point x y)) (table (λ j. j) 0 n)
+          || edgeThrough (edgeMap es k) (point x y),
+    )
     ∷ []

@@ -1,7 +1,7 @@
 // Kinds 1 to 3: isolated nodes. Each looks at its reasons in order, and writes only where none holds.
-use outcomes::Done;
 use lists::Found;
 use map::Head;
+use outcomes::Done;
 use plane::Point;
 ghost use mathlib.Core.Path.{_≡_};
 ghost use mathlib.Core.Bool.{true, not, _&&_, _||_};
@@ -12,7 +12,7 @@ ghost use lib.ListN.{length};
 ghost use lib.Seq.{paste};
 ghost use lib.Signed.{nonNeg};
 ghost use Rattle.lists.specs.Tests.{same};
-ghost use Rattle.lists.specs.Scans.{any, isSome};
+ghost use Rattle.lists.specs.Scans.{anyOf, isSome};
 ghost use Rattle.lists.specs.Tables.{table};
 ghost use Rattle.plane.specs.Points.{InRange, samePoint};
 ghost use Rattle.map.specs.Rows.{mapOf};
@@ -44,12 +44,13 @@ fn other_face(face: i64, around: i64) -> bool
 // A face is given that does not exist.
 fn face_missing(faces: &[i64], count: usize, face: i64) -> bool
     requires { ⌜ FaceRows (now faces) count ⌝ }
-    ensures { λ r. ⌜ r ≡ (not (minusOne face) && not (nonNeg face && any (same (natAbs face)) (facesOf (now (faces .entry)) count))) ⌝ }
+    ensures { λ r. ⌜ r ≡ (not (minusOne face)
+        && not (nonNeg face && anyOf (same (natAbs face)) (facesOf (now (faces .entry)) count))) ⌝ }
 {
     if is_none(face) {
         return false;
     }
-    let found = tables::find_row(faces, 1, count, face);
+    let found = tables::find_row(faces, map::FACE_WIDTH, count, face);
     match found {
         Found::At(i) => false,
         Found::Missing => true,
@@ -61,14 +62,15 @@ fn is_isolated(nodes: &[i64], i: usize) -> bool
     requires { ⌜ NodeRow (now nodes) i ⌝ }
     ensures { λ r. ⌜ r ≡ isSome (nodeAt (now (nodes .entry)) i .face) ⌝ }
 {
-    let z = nodes[i * 4 + 3];
+    let z = nodes[i * map::NODE_WIDTH + map::NODE_FACE];
     z != -1
 }
 
 // A node but that of row `own` lies on the point, or an edge passes through it.
 fn is_taken(nodes: &[i64], n: usize, edges: &[i64], count: usize, own: usize, p: Point) -> bool
     requires { ⌜ NodeRows (now nodes) n × EdgeRows (now edges) count × InRange p ⌝ }
-    ensures { λ r. ⌜ r ≡ (any (λ i. not (same i own) && samePoint (nodeAt (now (nodes .entry)) i .at) p) (table (λ i. i) 0 n) || edgeThrough (edgeMap (now (edges .entry)) count) p) ⌝ }
+    ensures { λ r. ⌜ r ≡ (anyOf (λ i. not (same i own) && samePoint (nodeAt (now (nodes .entry)) i .at) p)
+        (table (λ i. i) 0 n) || edgeThrough (edgeMap (now (edges .entry)) count) p) ⌝ }
 {
     if reason_curves::node_at(nodes, n, own, p) {
         return true;
@@ -113,20 +115,21 @@ fn add_reason(
     y: i64,
 ) -> u64
     requires { ⌜ Formed (now nodes) (now edges) (now faces) h ⌝ }
-    ensures { λ r. ⌜ r ≡ firstReason (addEarly (mapOf (lent (now (nodes .entry)) (now (edges .entry)) (now (faces .entry)) h)) face x y) ⌝ }
+    ensures { λ r. ⌜ r ≡ firstReason (addEarly
+        (mapOf (lent (now (nodes .entry)) (now (edges .entry)) (now (faces .entry)) h)) face x y) ⌝ }
 {
-    if face_missing(faces, outcomes::count_of(h.faces), face) {
+    if face_missing(faces, outcomes::to_usize(h.faces), face) {
         return 4;
     }
     if !reason_curves::in_range(x, y) {
         return 5;
     }
-    let n = outcomes::count_of(h.nodes);
+    let n = outcomes::to_usize(h.nodes);
     if is_taken(
         nodes,
         n,
         edges,
-        outcomes::count_of(h.edges),
+        outcomes::to_usize(h.edges),
         n,
         reason_curves::point_of(x, y),
     ) {
@@ -141,10 +144,10 @@ fn room_reason(nodes: &[i64], h: Head) -> u64
     requires { ⌜ Numbered h ⌝ }
     ensures { λ r. ⌜ r ≡ firstReason (roomReasons (now (nodes .entry)) h) ⌝ }
 {
-    if nodes.len() / 4 < outcomes::count_of(h.nodes) + 1 {
+    if nodes.len() / map::NODE_WIDTH < outcomes::to_usize(h.nodes) + 1 {
         return 20;
     }
-    if 1000000 < outcomes::count_of(h.next_node) + 1 {
+    if map::NUMBERS < outcomes::to_usize(h.next_node) + 1 {
         21
     } else {
         0
@@ -182,10 +185,12 @@ fn move_reason(
 // A node more: the row after the last, and the head.
 fn push_node(nodes: &mut [i64], h: Head, x: i64, y: i64, around: i64) -> Done
     requires { ⌜ Numbered h × (natAbs (h .nodes) * 4 + 4 ≤ length (now nodes)) ⌝ }
-    ensures { λ r. ⌜ (now (nodes .exit) ≡ paste (now (nodes .entry)) (natAbs (h .nodes) * 4) (h .«next_node» ∷ x ∷ y ∷ around ∷ []) 4) × (r ≡ record { head = added h; answer = record { refusal = 0; value = h .«next_node» } }) ⌝ }
+    ensures { λ r. ⌜ (now (nodes .exit)
+        ≡ paste (now (nodes .entry)) (natAbs (h .nodes) * 4) (h .«next_node» ∷ x ∷ y ∷ around ∷ []) 4)
+        × (r ≡ record { head = added h; answer = record { refusal = 0; value = h .«next_node» } }) ⌝ }
 {
     let number = h.next_node;
-    map_rows::write_node(nodes, outcomes::count_of(h.nodes), number, x, y, around);
+    map_rows::write_node(nodes, outcomes::to_usize(h.nodes), number, x, y, around);
     outcomes::carried(with_node(h), number)
 }
 
@@ -199,7 +204,8 @@ pub fn add_node(
     y: i64,
 ) -> Done
     requires { ⌜ Formed (now nodes) (now edges) (now faces) h ⌝ }
-    ensures { λ r. ⌜ outcome (now (nodes .exit)) (now (edges .entry)) (now (faces .entry)) r ≡ decided (lent (now (nodes .entry)) (now (edges .entry)) (now (faces .entry)) h) (AddIsoNode face x y) ⌝ }
+    ensures { λ r. ⌜ outcome (now (nodes .exit)) (now (edges .entry)) (now (faces .entry)) r
+        ≡ decided (lent (now (nodes .entry)) (now (edges .entry)) (now (faces .entry)) h) (AddIsoNode face x y) ⌝ }
 {
     let early = add_reason(nodes, edges, faces, h, face, x, y);
     if early != 0 {
@@ -207,7 +213,7 @@ pub fn add_node(
     }
     let around = point_location::face_of_point(
         edges,
-        outcomes::count_of(h.edges),
+        outcomes::to_usize(h.edges),
         reason_curves::point_of(x, y),
     );
     if other_face(face, around) {
@@ -222,14 +228,16 @@ pub fn add_node(
 
 pub fn move_node(nodes: &mut [i64], edges: &[i64], h: Head, node: i64, x: i64, y: i64) -> Done
     requires { ⌜ ((faces : _) × Formed (now nodes) (now edges) faces h) ⌝ }
-    ensures { λ r. ⌜ ((faces : _) → Formed (now (nodes .entry)) (now (edges .entry)) faces h → outcome (now (nodes .exit)) (now (edges .entry)) faces r ≡ decided (lent (now (nodes .entry)) (now (edges .entry)) faces h) (MoveIsoNode node x y)) ⌝ }
+    ensures { λ r. ⌜ ((faces : _) → Formed (now (nodes .entry)) (now (edges .entry)) faces h
+        → outcome (now (nodes .exit)) (now (edges .entry)) faces r
+        ≡ decided (lent (now (nodes .entry)) (now (edges .entry)) faces h) (MoveIsoNode node x y)) ⌝ }
 {
-    let n = outcomes::count_of(h.nodes);
-    let found = tables::find_row(nodes, 4, n, node);
+    let n = outcomes::to_usize(h.nodes);
+    let found = tables::find_row(nodes, map::NODE_WIDTH, n, node);
     let Found::At(i) = found else {
         return outcomes::refused(h, 4);
     };
-    let count = outcomes::count_of(h.edges);
+    let count = outcomes::to_usize(h.edges);
     let reason = move_reason(nodes, n, edges, count, i, x, y);
     if reason != 0 {
         return outcomes::refused(h, reason);
@@ -241,16 +249,18 @@ pub fn move_node(nodes: &mut [i64], edges: &[i64], h: Head, node: i64, x: i64, y
 
 pub fn remove_node(nodes: &mut [i64], h: Head, node: i64) -> Done
     requires { ⌜ ((edges : _) × (faces : _) × Formed (now nodes) edges faces h) ⌝ }
-    ensures { λ r. ⌜ ((edges : _) (faces : _) → Formed (now (nodes .entry)) edges faces h → outcome (now (nodes .exit)) edges faces r ≡ decided (lent (now (nodes .entry)) edges faces h) (RemoveIsoNode node)) ⌝ }
+    ensures { λ r. ⌜ ((edges : _) (faces : _) → Formed (now (nodes .entry)) edges faces h
+        → outcome (now (nodes .exit)) edges faces r
+        ≡ decided (lent (now (nodes .entry)) edges faces h) (RemoveIsoNode node)) ⌝ }
 {
-    let n = outcomes::count_of(h.nodes);
-    let found = tables::find_row(nodes, 4, n, node);
+    let n = outcomes::to_usize(h.nodes);
+    let found = tables::find_row(nodes, map::NODE_WIDTH, n, node);
     let Found::At(i) = found else {
         return outcomes::refused(h, 4);
     };
     if !is_isolated(nodes, i) {
         return outcomes::refused(h, 9);
     }
-    tables::remove_row(nodes, 4, n, i);
+    tables::remove_row(nodes, map::NODE_WIDTH, n, i);
     outcomes::carried(without_node(h), 0)
 }

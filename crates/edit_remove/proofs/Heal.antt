@@ -20,66 +20,77 @@ use Rattle.redraws.specs.Holds.{NodeTable, EdgeTable, Held}
 use Rattle.redraws.proofs.Formed.{held}
 use Rattle.face_rows.specs.Holds.{Holds, healed}
 use Rattle.face_rows.proofs.Formed.{formed-held}
-use Rattle.face_rows.proofs.Healed.{healed-node-rows, healed-nodes, healed-edge-rows, healed-edges, healed-nodes-long, healed-edges-long, healed-numbers, healed-node-count, healed-edge-count}
+use Rattle.face_rows.proofs.Healed.{healed-node-rows, healed-nodes, healed-edge-rows, healed-edges, healed-nodes-long}
+use Rattle.face_rows.proofs.Healed.{healed-edges-long, healed-numbers, healed-node-count, healed-edge-count}
 
-module _ {nodes edges faces : List ℤ} {h : Head} (f : Formed nodes edges faces h) (row : Edge) (makes : Bool) {nodes′ edges′ faces′ : List ℤ} {h′ : Head}
-    (after : Holds nodes edges faces (healed makes row (mapOf (lent nodes edges faces h))) nodes′ edges′ faces′ h′) where
-  abbrev m : Map
-  m = mapOf (lent nodes edges faces h)
+module _ {nodes edges faces : List ℤ} {h : Head} (f : Formed nodes edges faces h) (row : Edge)
+    (makes : Bool) {nodes′ edges′ faces′ : List ℤ} {h′ : Head}
+    (after : Holds nodes edges faces (healed makes row (mapOf (lent nodes edges faces h))) nodes′ edges′ faces′ h′)
+  where
+    abbrev m : Map
+    m = mapOf (lent nodes edges faces h)
 
-  abbrev n : ℕ
-  n = natAbs (h .nodes)
+    abbrev n : ℕ
+    n = natAbs (h .nodes)
 
-  abbrev e : ℕ
-  e = natAbs (h .edges)
+    abbrev e : ℕ
+    e = natAbs (h .edges)
 
-  nodes-are : nodesOf nodes′ n ≡ healed makes row m .nodes
-  nodes-are = healed-nodes (formed-held f) row makes nodes′ edges′ faces′ h′ after
+    nodes-are : nodesOf nodes′ n ≡ healed makes row m .nodes
+    nodes-are = healed-nodes (formed-held f) row makes nodes′ edges′ faces′ h′ after
 
-  edges-are : edgesOf edges′ e ≡ healed makes row m .edges
-  edges-are = healed-edges (formed-held f) row makes nodes′ edges′ faces′ h′ after
+    edges-are : edgesOf edges′ e ≡ healed makes row m .edges
+    edges-are = healed-edges (formed-held f) row makes nodes′ edges′ faces′ h′ after
 
-  node-cells : filled (length nodes) (flatMap nodeCells (nodesOf nodes′ n)) ≡ nodes′
-  node-cells = ap (λ (xs : List Node). filled (length nodes) (flatMap nodeCells xs)) nodes-are ∙ after .node-cells
+    node-cells : filled (length nodes) (flatMap nodeCells (nodesOf nodes′ n)) ≡ nodes′
+    node-cells = ap (λ (xs : List Node). filled (length nodes) (flatMap nodeCells xs)) nodes-are ∙ after .node-cells
 
-  edge-cells : filled (length edges) (flatMap edgeCells (edgesOf edges′ e)) ≡ edges′
-  edge-cells = ap (λ (xs : List Edge). filled (length edges) (flatMap edgeCells xs)) edges-are ∙ after .edge-cells
+    edge-cells : filled (length edges) (flatMap edgeCells (edgesOf edges′ e)) ≡ edges′
+    edge-cells = ap (λ (xs : List Edge). filled (length edges) (flatMap edgeCells xs)) edges-are ∙ after .edge-cells
 
-  edge-rows : EdgeRows edges′ e
-  edge-rows = healed-edge-rows (formed-held f) row makes nodes′ edges′ faces′ h′ after
+    edge-rows : EdgeRows edges′ e
+    edge-rows = healed-edge-rows (formed-held f) row makes nodes′ edges′ faces′ h′ after
 
-  edges-wide : Wide edgeWidth edgeCells (edgesOf edges′ e)
-  edges-wide = table-edges-wide edges′ e (edge-rows .fits) (edge-rows .ranges)
+    edges-wide : Wide edgeWidth edgeCells (edgesOf edges′ e)
+    edges-wide = table-edges-wide edges′ e (edge-rows .fits) (edge-rows .ranges)
 
-  node-table : NodeTable nodes′ n
-  node-table =
-      record {
-        rows = healed-node-rows (formed-held f) row makes nodes′ edges′ faces′ h′ after;
-        rest = filled-rest nodeWidth nodeCells (length nodes) (nodesOf nodes′ n) n (nodes-wide (nodesOf nodes′ n)) (nodes-length nodes′ n) node-cells;
-        whole = rw (healed-nodes-long (formed-held f) row makes nodes′ edges′ faces′ h′ after) (held f .node-table .whole);
-      }
+    node-table : NodeTable nodes′ n
+    node-table =
+        record {
+          rows = healed-node-rows (formed-held f) row makes nodes′ edges′ faces′ h′ after;
+          rest = filled-rest nodeWidth nodeCells (length nodes) (nodesOf nodes′ n) n (nodes-wide (nodesOf nodes′ n))
+              (nodes-length nodes′ n) node-cells;
+          whole = rw (healed-nodes-long (formed-held f) row makes nodes′ edges′ faces′ h′ after)
+              (held f .node-table .whole);
+        }
 
-  edge-table : EdgeTable edges′ e
-  edge-table =
-      record {
-        rows = edge-rows;
-        rest = filled-rest edgeWidth edgeCells (length edges) (edgesOf edges′ e) e edges-wide (edges-length edges′ e) edge-cells;
-        whole = rw (healed-edges-long (formed-held f) row makes nodes′ edges′ faces′ h′ after) (held f .edge-table .whole);
-      }
+    edge-table : EdgeTable edges′ e
+    edge-table =
+        record {
+          rows = edge-rows;
+          rest = filled-rest edgeWidth edgeCells (length edges) (edgesOf edges′ e) e edges-wide
+              (edges-length edges′ e) edge-cells;
+          whole = rw (healed-edges-long (formed-held f) row makes nodes′ edges′ faces′ h′ after)
+              (held f .edge-table .whole);
+        }
 
-  edge-next : natAbs (h′ .«next_edge») ≡ natAbs (h .«next_edge»)
-  unfolding renamedFaces mapOf
-  edge-next = ap (λ (x : Head). natAbs (x .«next_edge»)) (sym (after .head)) ∙ add-zero (natAbs (h .«next_edge»))
+    edge-next : natAbs (h′ .«next_edge») ≡ natAbs (h .«next_edge»)
+    unfolding renamedFaces mapOf
+    edge-next = ap (λ (x : Head). natAbs (x .«next_edge»)) (sym (after .head)) ∙ add-zero (natAbs (h .«next_edge»))
 
-  pub healed-held : Held nodes′ edges′ h′
-  healed-held =
-      record {
-        node-table = rw (healed-node-count (formed-held f) row makes nodes′ edges′ faces′ h′ after) node-table;
-        edge-table = rw (healed-edge-count (formed-held f) row makes nodes′ edges′ faces′ h′ after) edge-table;
-        nodes-count = subst (λ (x : Head). x .nodes ≡ pos (natAbs (x .nodes))) (after .head) refl;
-        edges-count = subst (λ (x : Head). x .edges ≡ pos (natAbs (x .edges))) (after .head) refl;
-        next = subst (λ (x : Head). x .«next_edge» ≡ pos (natAbs (x .«next_edge»))) (after .head) refl;
-        next-least = rw edge-next (held f .next-least);
-        next-most = rw edge-next (held f .next-most);
-        below = rw (healed-edge-count (formed-held f) row makes nodes′ edges′ faces′ h′ after, edge-next, healed-numbers (formed-held f) row makes nodes′ edges′ faces′ h′ after) (held f .below);
-      }
+    pub healed-held : Held nodes′ edges′ h′
+    healed-held =
+        record {
+          node-table = rw (healed-node-count (formed-held f) row makes nodes′ edges′ faces′ h′ after) node-table;
+          edge-table = rw (healed-edge-count (formed-held f) row makes nodes′ edges′ faces′ h′ after) edge-table;
+          nodes-count = subst (λ (x : Head). x .nodes ≡ pos (natAbs (x .nodes))) (after .head) refl;
+          edges-count = subst (λ (x : Head). x .edges ≡ pos (natAbs (x .edges))) (after .head) refl;
+          next = subst (λ (x : Head). x .«next_edge» ≡ pos (natAbs (x .«next_edge»))) (after .head) refl;
+          next-least = rw edge-next (held f .next-least);
+          next-most = rw edge-next (held f .next-most);
+          below = rw (
+            healed-edge-count (formed-held f) row makes nodes′ edges′ faces′ h′ after,
+            edge-next,
+            healed-numbers (formed-held f) row makes nodes′ edges′ faces′ h′ after,
+          ) (held f .below);
+        }

@@ -25,7 +25,8 @@ use Rattle.face_rows.specs.Holds.{faceKept, healed}
 use Rattle.face_rows.proofs.Healed.{removed-is}
 use Rattle.edit_remove.specs.Cleared.{Clearable, Cleared, cleared, valueLeft}
 
-module _ {nodes edges faces : List ℤ} {h : Head} (f : Formed nodes edges faces h) (news makes : Bool) (z : ℤ) (i : ℕ) (at : place (sameZ z) 0 (column edgeWidth edges (natAbs (h .edges))) ≡ At i)
+module _ {nodes edges faces : List ℤ} {h : Head} (f : Formed nodes edges faces h) (news makes : Bool) (z : ℤ) (i : ℕ)
+    (at : place (sameZ z) 0 (column edgeWidth edges (natAbs (h .edges))) ≡ At i)
     (made : makes ≡ makesFace news (natAbs z) (mapOf (lent nodes edges faces h))) where
   abbrev m : Map
   m = mapOf (lent nodes edges faces h)
@@ -46,7 +47,8 @@ module _ {nodes edges faces : List ℤ} {h : Head} (f : Formed nodes edges faces
       ∙ ap (λ (b : Bool). b && lower) (&&-false news)
 
   pub clearable : Clearable nodes edges faces h i makes
-  clearable = let t = row-in f z i at in record { formed = f; row = t; cells = edge-row-of (edge-rows f) i t; kept = none-made }
+  clearable = let t = row-in f z i at in
+      record { formed = f; row = t; cells = edge-row-of (edge-rows f) i t; kept = none-made }
 
   removed-map : removeEdge news (natAbs z) m ≡ cleared makes row m
   removed-map =
@@ -59,8 +61,10 @@ module _ {nodes edges faces : List ℤ} {h : Head} (f : Formed nodes edges faces
   carried-map true = refl
   carried-map false = refl
 
-  pub removed-lent : {nodes′ edges′ faces′ : List ℤ} {r : Done} → Cleared nodes edges faces h i makes nodes′ edges′ faces′ r
-      → lentOf (sizesOf (lent nodes edges faces h)) (carried m (removeTicket news z) .0) ≡ lent nodes′ edges′ faces′ (r .head)
+  pub removed-lent : {nodes′ edges′ faces′ : List ℤ} {r : Done}
+      → Cleared nodes edges faces h i makes nodes′ edges′ faces′ r
+      → lentOf (sizesOf (lent nodes edges faces h)) (carried m (removeTicket news z) .0)
+      ≡ lent nodes′ edges′ faces′ (r .head)
   removed-lent c =
       let x = cleared makes row m in
       ap (lentOf (sizesOf (lent nodes edges faces h))) (carried-map news ∙ removed-map)
@@ -74,10 +78,13 @@ module _ {nodes edges faces : List ℤ} {h : Head} (f : Formed nodes edges faces
   turned true x y = refl
   turned false x y = refl
 
-  carried-value : (b : Bool) → carried m (removeTicket b z) .1 ≡ cond b (valueLeft (makesFace b (natAbs z) m) (edge m (natAbs z)) m) (pos 0)
+  carried-value : (b : Bool) → carried m (removeTicket b z) .1
+      ≡ cond b (valueLeft (makesFace b (natAbs z) m) (edge m (natAbs z)) m) (pos 0)
   unfolding carried healsFaces
-  carried-value true = turned (same (edge m (natAbs z) .left) (edge m (natAbs z) .right)) (pos (faceKept (makesFace true (natAbs z) m) (edge m (natAbs z)) m)) (negsuc 0)
+  carried-value true = turned (same (edge m (natAbs z) .left) (edge m (natAbs z) .right))
+      (pos (faceKept (makesFace true (natAbs z) m) (edge m (natAbs z)) m)) (negsuc 0)
   carried-value false = refl
 
   pub removed-value : carried m (removeTicket news z) .1 ≡ cond news (valueLeft makes row m) (pos 0)
-  removed-value = carried-value news ∙ ap₂ (λ (b : Bool) (r : Edge). cond news (valueLeft b r m) (pos 0)) (sym made) row-is
+  removed-value = carried-value news ∙ ap₂ (λ (b : Bool) (r : Edge). cond news (valueLeft b r m) (pos 0))
+      (sym made) row-is

@@ -1,4 +1,5 @@
--- What is left in tables that hold a map once an edge row is undrawn: after a heal, or where both its sides are one face. Assumes nothing.
+-- What is left in tables that hold a map once an edge row is undrawn: after a heal, or where both its sides are one
+-- face. Assumes nothing.
 use mathlib.Core.Path.{_≡_, refl, sym, ap, ap₂, subst, _∙_}
 use mathlib.Core.Bool.{Bool, true, false, _||_}
 use mathlib.Core.Logic.{_⊎_, inl, inr}
@@ -30,17 +31,24 @@ use Rattle.edit_remove.specs.Cleared.{Cleared, cleared, valueLeft}
 
 -- ---- the edge undrawn
 
-module _ {nodes edges faces nodes₁ edges₁ faces₁ : List ℤ} {m : Map} {h₁ : Head} (before : Holds nodes edges faces m nodes₁ edges₁ faces₁ h₁) (is : mapOf (lent nodes₁ edges₁ faces₁ h₁) ≡ m)
+module _ {nodes edges faces nodes₁ edges₁ faces₁ : List ℤ} {m : Map} {h₁ : Head}
+    (before : Holds nodes edges faces m nodes₁ edges₁ faces₁ h₁) (is : mapOf (lent nodes₁ edges₁ faces₁ h₁) ≡ m)
     (nodes-same : length nodes₁ ≡ length nodes) (edges-same : length edges₁ ≡ length edges) where
-  holds-undrawn : (i k : ℕ) {face : ℤ} {g : ℕ} {nodes′ edges′ : List ℤ} {h′ : Head} → edgeAt edges₁ i .number ≡ k → face ≡ pos g → Undrawn nodes₁ edges₁ h₁ i face nodes′ edges′ h′
+  holds-undrawn : (i k : ℕ) {face : ℤ} {g : ℕ} {nodes′ edges′ : List ℤ} {h′ : Head} → edgeAt edges₁ i .number ≡ k
+      → face ≡ pos g → Undrawn nodes₁ edges₁ h₁ i face nodes′ edges′ h′
       → Holds nodes edges faces (undrawn k g m) nodes′ edges′ faces₁ h′
   holds-undrawn i k {face} {g} ek ef u =
-      let same : undrawn k g m ≡ undrawn (edgeAt edges₁ i .number) (natAbs face) (mapOf (lent nodes₁ edges₁ faces₁ h₁)) = λ j. undrawn (sym ek j) (natAbs (sym ef j)) (sym is j) in
+      let same : undrawn k g m
+      ≡ undrawn (edgeAt edges₁ i .number) (natAbs face) (mapOf (lent nodes₁ edges₁ faces₁ h₁)) =
+      λ j. undrawn (sym ek j) (natAbs (sym ef j)) (sym is j) in
       record {
-        node-cells = ap₂ (λ (n : ℕ) (x : Map). filled n (flatMap nodeCells (x .nodes))) (sym nodes-same) same ∙ u .node-cells faces₁;
-        edge-cells = ap₂ (λ (n : ℕ) (x : Map). filled n (flatMap edgeCells (x .edges))) (sym edges-same) same ∙ u .edge-cells faces₁;
+        node-cells = ap₂ (λ (n : ℕ) (x : Map). filled n (flatMap nodeCells (x .nodes))) (sym nodes-same) same
+            ∙ u .node-cells faces₁;
+        edge-cells = ap₂ (λ (n : ℕ) (x : Map). filled n (flatMap edgeCells (x .edges))) (sym edges-same) same
+            ∙ u .edge-cells faces₁;
         face-cells = ap (facesIn (length faces)) (undrawn-face-list k g m) ∙ before .face-cells;
-        head = undrawn-head k g m (before .head) (ap (λ (x : Map). length (x .edges)) same ∙ u .edges-left faces₁) ∙ sym (u .head);
+        head = undrawn-head k g m (before .head) (ap (λ (x : Map). length (x .edges)) same ∙ u .edges-left faces₁)
+            ∙ sym (u .head);
       }
 
 -- ---- one face on both sides: nothing is healed
@@ -71,9 +79,12 @@ module _ (row : Edge) (one : row .left ≡ row .right) where
   unhealed m =
       λ j.
       record {
-        nodes = (map-cong (λ x. renamedNode row f x (x .face)) (λ x. x) (m .nodes) (λ x k. node-kept x (x .face) refl) ∙ map-id (m .nodes)) j;
-        edges = (map-cong (λ r. withSides (renamed row f (r .left)) (renamed row f (r .right)) r) (λ r. r) (m .edges) (λ r k. ap₂ (λ (a b : ℕ). withSides a b r) (kept (r .left)) (kept (r .right))) ∙ map-id (m .edges)) j;
-        faces = keep-all (λ g. same g (renamed row f g)) (m .faces) (λ g k. same-eq g (renamed row f g) (sym (kept g))) j;
+        nodes = (map-cong (λ x. renamedNode row f x (x .face)) (λ x. x) (m .nodes) (λ x k. node-kept x (x .face) refl)
+            ∙ map-id (m .nodes)) j;
+        edges = (map-cong (λ r. withSides (renamed row f (r .left)) (renamed row f (r .right)) r) (λ r. r) (m .edges)
+            (λ r k. ap₂ (λ (a b : ℕ). withSides a b r) (kept (r .left)) (kept (r .right))) ∙ map-id (m .edges)) j;
+        faces = keep-all (λ g. same g (renamed row f g)) (m .faces)
+            (λ g k. same-eq g (renamed row f g) (sym (kept g))) j;
         nextNode = add-zero (m .nextNode) j;
         nextEdge = add-zero (m .nextEdge) j;
         nextFace = add-zero (m .nextFace) j;
@@ -88,19 +99,30 @@ module _ {nodes edges faces : List ℤ} {h : Head} (f : Formed nodes edges faces
   abbrev row : Edge
   row = edgeAt edges i
 
-  pub cleared-one : row .left ≡ row .right → makes ≡ false → {face : ℤ} {nodes′ edges′ : List ℤ} {h′ : Head} → face ≡ pos (row .left) → Undrawn nodes edges h i face nodes′ edges′ h′
+  pub cleared-one : row .left ≡ row .right → makes ≡ false → {face : ℤ} {nodes′ edges′ : List ℤ} {h′ : Head} → face
+      ≡ pos (row .left) → Undrawn nodes edges h i face nodes′ edges′ h′
       → Holds nodes edges faces (cleared makes row whole) nodes′ edges′ faces h′
   cleared-one one kept {face} {nodes′} {edges′} {h′} ef u =
-      let same : undrawn (row .number) (row .left) whole ≡ cleared false row whole = ap₂ (undrawn (row .number)) (sym (lower-is row one)) (sym (unhealed row one whole)) in
-      subst (λ (x : Map). Holds nodes edges faces x nodes′ edges′ faces h′) (same ∙ ap (λ (b : Bool). cleared b row whole) (sym kept)) (holds-undrawn (holds-before f) refl refl refl i (row .number) refl ef u)
+      let same : undrawn (row .number) (row .left) whole ≡ cleared false row whole =
+      ap₂ (undrawn (row .number)) (sym (lower-is row one)) (sym (unhealed row one whole)) in
+      subst (λ (x : Map). Holds nodes edges faces x nodes′ edges′ faces h′)
+      (same ∙ ap (λ (b : Bool). cleared b row whole) (sym kept))
+      (holds-undrawn (holds-before f) refl refl refl i (row .number) refl ef u)
 
-  pub cleared-two : i < natAbs (h .edges) → {nodes₁ edges₁ faces₁ : List ℤ} {h₁ : Head} → Holds nodes edges faces (healed makes row whole) nodes₁ edges₁ faces₁ h₁
-      → {face : ℤ} {nodes′ edges′ : List ℤ} {h′ : Head} → face ≡ pos (faceKept makes row whole) → Undrawn nodes₁ edges₁ h₁ i face nodes′ edges′ h′
+  pub cleared-two : i < natAbs (h .edges) → {nodes₁ edges₁ faces₁ : List ℤ} {h₁ : Head}
+      → Holds nodes edges faces (healed makes row whole) nodes₁ edges₁ faces₁ h₁
+      → {face : ℤ} {nodes′ edges′ : List ℤ} {h′ : Head} → face ≡ pos (faceKept makes row whole)
+      → Undrawn nodes₁ edges₁ h₁ i face nodes′ edges′ h′
       → Holds nodes edges faces (cleared makes row whole) nodes′ edges′ faces₁ h′
   cleared-two t {nodes₁} {edges₁} {faces₁} {h₁} after ef u =
-      holds-undrawn after (healed-map (formed-held f) row makes nodes₁ edges₁ faces₁ h₁ after) (healed-nodes-long (formed-held f) row makes nodes₁ edges₁ faces₁ h₁ after) (healed-edges-long (formed-held f) row makes nodes₁ edges₁ faces₁ h₁ after) i (row .number) (healed-number (formed-held f) row makes nodes₁ edges₁ faces₁ h₁ after i t) ef u
+      holds-undrawn after (healed-map (formed-held f) row makes nodes₁ edges₁ faces₁ h₁ after)
+      (healed-nodes-long (formed-held f) row makes nodes₁ edges₁ faces₁ h₁ after)
+      (healed-edges-long (formed-held f) row makes nodes₁ edges₁ faces₁ h₁ after) i (row .number)
+      (healed-number (formed-held f) row makes nodes₁ edges₁ faces₁ h₁ after i t) ef u
 
   -- what a call left and answered
-  pub cleared-as : {nodes′ edges′ faces′ : List ℤ} {h′ : Head} {v : ℤ} {r : Done} → r ≡ record { head = h′; answer = record { refusal = 0; value = v } } → Holds nodes edges faces (cleared makes row whole) nodes′ edges′ faces′ h′ → v ≡ valueLeft makes row whole
+  pub cleared-as : {nodes′ edges′ faces′ : List ℤ} {h′ : Head} {v : ℤ} {r : Done} → r
+      ≡ record { head = h′; answer = record { refusal = 0; value = v } }
+      → Holds nodes edges faces (cleared makes row whole) nodes′ edges′ faces′ h′ → v ≡ valueLeft makes row whole
       → Cleared nodes edges faces h i makes nodes′ edges′ faces′ r
   cleared-as e holds value = record { holds = rw e holds; value = ap (λ (d : Done). d .answer .value) e ∙ value }

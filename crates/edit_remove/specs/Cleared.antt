@@ -29,6 +29,8 @@ pub record Clearable (nodes edges faces : List ℤ) (h : Head) (i : ℕ) (makes 
   pub cells : EdgeRow edges i
   pub kept : edgeAt edges i .left ≡ edgeAt edges i .right → makes ≡ false
 
-pub record Cleared (nodes edges faces : List ℤ) (h : Head) (i : ℕ) (makes : Bool) (nodes′ edges′ faces′ : List ℤ) (r : Done) : Type 0 where
-  pub holds : Holds nodes edges faces (cleared makes (edgeAt edges i) (mapOf (lent nodes edges faces h))) nodes′ edges′ faces′ (r .head)
+pub record Cleared (nodes edges faces : List ℤ) (h : Head) (i : ℕ) (makes : Bool) (nodes′ edges′ faces′ : List ℤ)
+    (r : Done) : Type 0 where
+  pub holds : Holds nodes edges faces (cleared makes (edgeAt edges i)
+      (mapOf (lent nodes edges faces h))) nodes′ edges′ faces′ (r .head)
   pub value : r .answer .value ≡ valueLeft makes (edgeAt edges i) (mapOf (lent nodes edges faces h))

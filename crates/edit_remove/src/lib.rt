@@ -1,6 +1,6 @@
 // Kinds 13 and 14: the faces on an edge's two sides healed, and the edge undrawn.
-use outcomes::Done;
 use map::Head;
+use outcomes::Done;
 ghost use mathlib.Core.Path.{_≡_};
 ghost use mathlib.Core.Bool.{cond};
 ghost use lib.IntN.{pos};
@@ -17,7 +17,7 @@ fn value_of(news: bool, face: i64) -> i64
 }
 
 // Edge row i goes, and the faces on its sides become one: its number is the value, or -1 where they were one before.
-fn clear(
+fn remove_and_heal(
     nodes: &mut [i64],
     edges: &mut [i64],
     faces: &mut [i64],
@@ -26,10 +26,11 @@ fn clear(
     makes: bool,
 ) -> Done
     requires { ⌜ Clearable (now nodes) (now edges) (now faces) h i makes ⌝ }
-    ensures { λ r. ⌜ Cleared (now (nodes .entry)) (now (edges .entry)) (now (faces .entry)) h i makes (now (nodes .exit)) (now (edges .exit)) (now (faces .exit)) r ⌝ }
+    ensures { λ r. ⌜ Cleared (now (nodes .entry)) (now (edges .entry)) (now (faces .entry)) h i makes
+        (now (nodes .exit)) (now (edges .exit)) (now (faces .exit)) r ⌝ }
 {
-    let left = edges[i * 32 + 5];
-    let right = edges[i * 32 + 6];
+    let left = edges[i * map::EDGE_WIDTH + map::LEFT];
+    let right = edges[i * map::EDGE_WIDTH + map::RIGHT];
     if left == right {
         let after = redraws::undraw(nodes, edges, h, i, left);
         return outcomes::carried(after, -1);
@@ -49,7 +50,8 @@ pub fn remove_edge(
     edge: i64,
 ) -> Done
     requires { ⌜ Formed (now nodes) (now edges) (now faces) h ⌝ }
-    ensures { λ r. ⌜ outcome (now (nodes .exit)) (now (edges .exit)) (now (faces .exit)) r ≡ decided (lent (now (nodes .entry)) (now (edges .entry)) (now (faces .entry)) h) (removeTicket news edge) ⌝ }
+    ensures { λ r. ⌜ outcome (now (nodes .exit)) (now (edges .exit)) (now (faces .exit)) r
+        ≡ decided (lent (now (nodes .entry)) (now (edges .entry)) (now (faces .entry)) h) (removeTicket news edge) ⌝ }
 {
     let judged = reason_edges::judge_removal(edges, h, news, edge);
     let reason = judged.reason;
@@ -57,6 +59,6 @@ pub fn remove_edge(
         return outcomes::refused(h, reason);
     }
     let i = judged.row;
-    let cleared = clear(nodes, edges, faces, h, i, judged.makes);
+    let cleared = remove_and_heal(nodes, edges, faces, h, i, judged.makes);
     outcomes::carried(cleared.head, value_of(news, cleared.answer.value))
 }

@@ -35,8 +35,10 @@ use Rattle.edit_split.proofs.Halves.{front-few, back-few}
 use Rattle.edit_split.proofs.Rows.{found-at, wide-without, row-number}
 
 -- a table l of rows xs in form, row i of it, and the new numbers
-module _ (l : List ℤ) (N n : ℕ) (xs : List Edge) (is : filled N (flatMap edgeCells xs) ≡ l) (wide : Wide edgeWidth edgeCells xs) (long : length xs ≡ n)
-    (dis : Distinct (map (λ r. r .number) xs)) (fits : n * 32 + 32 ≤ N) (i : ℕ) (t : i < n) (row : EdgeRow l i) (at : getD xs i (edgeAt l i) ≡ edgeAt l i)
+module _ (l : List ℤ) (N n : ℕ) (xs : List Edge) (is : filled N (flatMap edgeCells xs) ≡ l)
+    (wide : Wide edgeWidth edgeCells xs) (long : length xs ≡ n)
+    (dis : Distinct (map (λ r. r .number) xs)) (fits : n * 32 + 32 ≤ N) (i : ℕ) (t : i < n) (row : EdgeRow l i)
+    (at : getD xs i (edgeAt l i) ≡ edgeAt l i)
     (some : 1 ≤ edgeAt l i .number) (node a b : ℕ) (p : Point) where
   -- the edge's number
   abbrev own : ℕ
@@ -54,10 +56,12 @@ module _ (l : List ℤ) (N n : ℕ) (xs : List Edge) (is : filled N (flatMap edg
   y = rename (edgeAt l i)
 
   ys-wide : Wide edgeWidth edgeCells ys
-  ys-wide = renamed-wide (bwd own) (bwd b) (map (renamedRow (fwd own) (fwd a)) xs) (renamed-wide (fwd own) (fwd a) xs wide)
+  ys-wide = renamed-wide (bwd own) (bwd b) (map (renamedRow (fwd own) (fwd a)) xs)
+      (renamed-wide (fwd own) (fwd a) xs wide)
 
   ys-long : length ys ≡ n
-  ys-long = length-map (map (renamedRow (fwd own) (fwd a)) xs) (renamedRow (bwd own) (bwd b)) ∙ length-map xs (renamedRow (fwd own) (fwd a)) ∙ long
+  ys-long = length-map (map (renamedRow (fwd own) (fwd a)) xs) (renamedRow (bwd own) (bwd b))
+      ∙ length-map xs (renamedRow (fwd own) (fwd a)) ∙ long
 
   within : i < length ys
   within = omega (arith, ys-long)
@@ -75,14 +79,19 @@ module _ (l : List ℤ) (N n : ℕ) (xs : List Edge) (is : filled N (flatMap edg
   table-is : renamed l n i (pos a) (pos b) ≡ filled N (flatMap edgeCells ys)
   table-is =
       let mid = redirected-filled (fwd own) (fwd a) some N n xs wide long in
-      let end = redirected-filled (bwd own) (bwd b) some N n (map (renamedRow (fwd own) (fwd a)) xs) (renamed-wide (fwd own) (fwd a) xs wide) (length-map xs (renamedRow (fwd own) (fwd a)) ∙ long) in
-      ap₂ (λ (c d : Dart). redirected (dartCell d) (negℤ (pos b)) (redirected (dartCell c) (pos a) l n) n) (dart-even l i) (dart-odd l i)
-      ∙ ap (λ (r : List ℤ). redirected (dartCell (bwd own)) (negℤ (pos b)) (redirected (dartCell (fwd own)) (pos a) r n) n) (sym is)
+      let end = redirected-filled (bwd own) (bwd b) some N n (map (renamedRow (fwd own) (fwd a)) xs)
+      (renamed-wide (fwd own) (fwd a) xs wide) (length-map xs (renamedRow (fwd own) (fwd a)) ∙ long) in
+      ap₂ (λ (c d : Dart). redirected (dartCell d) (negℤ (pos b)) (redirected (dartCell c) (pos a) l n) n)
+      (dart-even l i) (dart-odd l i)
+      ∙ ap (λ (r : List ℤ). redirected (dartCell (bwd own)) (negℤ (pos b))
+      (redirected (dartCell (fwd own)) (pos a) r n) n) (sym is)
       ∙ ap (λ (r : List ℤ). redirected (dartCell (bwd own)) (negℤ (pos b)) r n) mid ∙ end
 
   -- number k of row i there
   cell-is : (k : ℕ) → k < 32 → getD (renamed l n i (pos a) (pos b)) (i * 32 + k) (pos 0) ≡ getD (edgeCells y) k (pos 0)
-  cell-is k h = ap (λ (r : List ℤ). getD r (i * 32 + k) (pos 0)) table-is ∙ row-number edgeWidth edgeCells ys _ ys-wide i y within k h ∙ ap (λ (r : Edge). getD (edgeCells r) k (pos 0)) here
+  cell-is k h = ap (λ (r : List ℤ). getD r (i * 32 + k) (pos 0)) table-is
+      ∙ row-number edgeWidth edgeCells ys _ ys-wide i y within k h
+      ∙ ap (λ (r : Edge). getD (edgeCells r) k (pos 0)) here
 
   first : Edge
   first = startHalf y node a b p
@@ -98,13 +107,18 @@ module _ (l : List ℤ) (N n : ℕ) (xs : List Edge) (is : filled N (flatMap edg
   unfolding second
   second-wide = edge-wide second (back-few row p)
 
-  first-cells : cellsOf (startSides (renamed l n i (pos a) (pos b)) i (pos node) (pos a) (pos b)) (lineOf (points (front p (edgeAt l i .curve)))) ≡ edgeCells first
+  first-cells : cellsOf (startSides (renamed l n i (pos a) (pos b)) i (pos node) (pos a) (pos b))
+      (lineOf (points (front p (edgeAt l i .curve)))) ≡ edgeCells first
   unfolding first edgeCells
-  first-cells = row-cells (startSides (renamed l n i (pos a) (pos b)) i (pos node) (pos a) (pos b)) first refl (cell-is 1 (lit< tt)) refl refl (cell-is 4 (lit< tt)) (cell-is 5 (lit< tt)) (cell-is 6 (lit< tt)) (front-few row p)
+  first-cells = row-cells (startSides (renamed l n i (pos a) (pos b)) i (pos node) (pos a) (pos b)) first refl
+      (cell-is 1 (lit< tt)) refl refl (cell-is 4 (lit< tt)) (cell-is 5 (lit< tt)) (cell-is 6 (lit< tt))
+      (front-few row p)
 
-  second-cells : cellsOf (endSides (renamed l n i (pos a) (pos b)) i (pos node) (pos a) (pos b)) (lineOf (points (back p (edgeAt l i .curve)))) ≡ edgeCells second
+  second-cells : cellsOf (endSides (renamed l n i (pos a) (pos b)) i (pos node) (pos a) (pos b))
+      (lineOf (points (back p (edgeAt l i .curve)))) ≡ edgeCells second
   unfolding second edgeCells
-  second-cells = row-cells (endSides (renamed l n i (pos a) (pos b)) i (pos node) (pos a) (pos b)) second refl refl (cell-is 2 (lit< tt)) (cell-is 3 (lit< tt)) refl (cell-is 5 (lit< tt)) (cell-is 6 (lit< tt)) (back-few row p)
+  second-cells = row-cells (endSides (renamed l n i (pos a) (pos b)) i (pos node) (pos a) (pos b)) second refl refl
+      (cell-is 2 (lit< tt)) (cell-is 3 (lit< tt)) refl (cell-is 5 (lit< tt)) (cell-is 6 (lit< tt)) (back-few row p)
 
   -- ---- the rows after it
 
@@ -121,45 +135,59 @@ module _ (l : List ℤ) (N n : ℕ) (xs : List Edge) (is : filled N (flatMap edg
   new-is = rw here at (without-at (λ (r : Edge). r .number) ys ys-once i y within)
 
   new-long : length (take i ys ++ drop (suc i) ys) ≡ n - 1
-  new-long = length-append (take i ys) (drop (suc i) ys) ∙ rw (length-take-le i ys (omega (arith, within)), length-drop (suc i) ys, ys-long) (omega arith)
+  new-long = length-append (take i ys) (drop (suc i) ys)
+      ∙ rw (length-take-le i ys (omega (arith, within)), length-drop (suc i) ys, ys-long) (omega arith)
 
-  in-place : paste (paste (filled N (flatMap edgeCells ys)) (i * 32) (edgeCells first) 32) (n * 32) (edgeCells second) 32 ≡ filled N (flatMap edgeCells kept)
+  in-place : paste (paste (filled N (flatMap edgeCells ys)) (i * 32) (edgeCells first) 32) (n * 32)
+      (edgeCells second) 32 ≡ filled N (flatMap edgeCells kept)
   unfolding kept
   in-place =
       let zs = set ys i first in
       let zl : length zs ≡ n = length-set ys i first ∙ ys-long in
-      ap (λ (r : List ℤ). paste r (n * 32) (edgeCells second) 32) (replaced-at edgeWidth edgeCells N ys i y ys-wide within first first-wide)
+      ap (λ (r : List ℤ). paste r (n * 32) (edgeCells second) 32)
+      (replaced-at edgeWidth edgeCells N ys i y ys-wide within first first-wide)
       ∙ ap (λ (k : ℕ). paste (filled N (flatMap edgeCells zs)) (k * 32) (edgeCells second) 32) (sym zl)
-      ∙ pushed edgeWidth edgeCells N zs second (wide-set edgeWidth edgeCells ys i first ys-wide first-wide) second-wide (rw zl fits)
+      ∙ pushed edgeWidth edgeCells N zs second (wide-set edgeWidth edgeCells ys i first ys-wide first-wide) second-wide
+      (rw zl fits)
       ∙ ap (λ (r : List Edge). filled N (flatMap edgeCells (r ++ second ∷ []))) (sym kept-is)
 
-  at-end : paste (paste (closed 32 (filled N (flatMap edgeCells ys)) n i) ((n - 1) * 32) (edgeCells first) 32) (n * 32) (edgeCells second) 32 ≡ filled N (flatMap edgeCells new)
+  at-end : paste (paste (closed 32 (filled N (flatMap edgeCells ys)) n i) ((n - 1) * 32) (edgeCells first) 32) (n * 32)
+      (edgeCells second) 32 ≡ filled N (flatMap edgeCells new)
   unfolding new
   at-end =
       let zs = take i ys ++ drop (suc i) ys in
       let zw = wide-without edgeWidth edgeCells ys i ys-wide in
       let us = zs ++ first ∷ [] in
       let ul : length us ≡ n = length-append zs (first ∷ []) ∙ omega (arith, new-long) in
-      let gone : closed 32 (filled N (flatMap edgeCells ys)) n i ≡ filled N (flatMap edgeCells zs) = ap (λ (k : ℕ). closed 32 (filled N (flatMap edgeCells ys)) k i) (sym ys-long) ∙ removed-at edgeWidth edgeCells N ys i y ys-wide within (rw ys-long (omega arith)) in
-      let one : paste (filled N (flatMap edgeCells zs)) ((n - 1) * 32) (edgeCells first) 32 ≡ filled N (flatMap edgeCells us) =
-      ap (λ (k : ℕ). paste (filled N (flatMap edgeCells zs)) (k * 32) (edgeCells first) 32) (sym new-long) ∙ pushed edgeWidth edgeCells N zs first zw first-wide (rw new-long (omega arith)) in
+      let gone : closed 32 (filled N (flatMap edgeCells ys)) n i ≡ filled N (flatMap edgeCells zs) =
+      ap (λ (k : ℕ). closed 32 (filled N (flatMap edgeCells ys)) k i) (sym ys-long)
+      ∙ removed-at edgeWidth edgeCells N ys i y ys-wide within (rw ys-long (omega arith)) in
+      let one : paste (filled N (flatMap edgeCells zs)) ((n - 1) * 32) (edgeCells first) 32
+      ≡ filled N (flatMap edgeCells us) =
+      ap (λ (k : ℕ). paste (filled N (flatMap edgeCells zs)) (k * 32) (edgeCells first) 32) (sym new-long)
+      ∙ pushed edgeWidth edgeCells N zs first zw first-wide (rw new-long (omega arith)) in
       ap (λ (r : List ℤ). paste (paste r ((n - 1) * 32) (edgeCells first) 32) (n * 32) (edgeCells second) 32) gone
       ∙ ap (λ (r : List ℤ). paste r (n * 32) (edgeCells second) 32) one
       ∙ ap (λ (k : ℕ). paste (filled N (flatMap edgeCells us)) (k * 32) (edgeCells second) 32) (sym ul)
-      ∙ pushed edgeWidth edgeCells N us second (each-append (λ e. length (edgeCells e) ≡ edgeWidth) zs (first ∷ []) zw (first-wide, tt)) second-wide (rw ul fits)
-      ∙ ap (λ (r : List Edge). filled N (flatMap edgeCells r)) (append-assoc zs (first ∷ []) (second ∷ []) ∙ ap (λ (r : List Edge). r ++ first ∷ second ∷ []) (sym new-is))
+      ∙ pushed edgeWidth edgeCells N us second
+      (each-append (λ e. length (edgeCells e) ≡ edgeWidth) zs (first ∷ []) zw (first-wide, tt)) second-wide (rw ul fits)
+      ∙ ap (λ (r : List Edge). filled N (flatMap edgeCells r))
+      (append-assoc zs (first ∷ []) (second ∷ []) ∙ ap (λ (r : List Edge). r ++ first ∷ second ∷ []) (sym new-is))
 
-  cut-rows : (keeps : Bool) → cutRow l n i (pos node) p keeps (pos a) (pos b) ≡ filled N (flatMap edgeCells (cond keeps kept new))
+  cut-rows : (keeps : Bool) → cutRow l n i (pos node) p keeps (pos a) (pos b)
+      ≡ filled N (flatMap edgeCells (cond keeps kept new))
   cut-rows keeps =
       (λ j. paste (placed keeps (table-is j) n i (first-cells j)) (n * 32) (second-cells j) 32) ∙ go keeps
     where
-      go : (k : Bool) → paste (placed k (filled N (flatMap edgeCells ys)) n i (edgeCells first)) (n * 32) (edgeCells second) 32 ≡ filled N (flatMap edgeCells (cond k kept new))
+      go : (k : Bool) → paste (placed k (filled N (flatMap edgeCells ys)) n i (edgeCells first)) (n * 32)
+          (edgeCells second) 32 ≡ filled N (flatMap edgeCells (cond k kept new))
       go true = in-place
       go false = at-end
 
   kept-long : length kept ≡ n + 1
   unfolding kept
-  kept-long = length-append (map (λ r. cond (same (r .number) own) first r) ys) (second ∷ []) ∙ rw (length-map ys (λ (r : Edge). cond (same (r .number) own) first r), ys-long) refl
+  kept-long = length-append (map (λ r. cond (same (r .number) own) first r) ys) (second ∷ [])
+      ∙ rw (length-map ys (λ (r : Edge). cond (same (r .number) own) first r), ys-long) refl
 
   new-length : length new ≡ n + 1
   unfolding new
@@ -177,16 +205,20 @@ module _ (l : List ℤ) (N n : ℕ) (xs : List Edge) (is : filled N (flatMap edg
     abbrev rowsOf : Bool → ℕ → ℕ → ℕ → List Edge → Edge → List Edge
     rowsOf keeps k c d es r =
         let zs = map (renamedRow (bwd own) (bwd d)) (map (renamedRow (fwd own) (fwd c)) es) in
-        cond keeps (map (λ q. cond (same (q .number) own) (startHalf r k c d p) q) zs ++ endHalf r k c d p ∷ []) (withoutEdge own zs ++ startHalf r k c d p ∷ endHalf r k c d p ∷ [])
+        cond keeps (map (λ q. cond (same (q .number) own) (startHalf r k c d p) q) zs ++ endHalf r k c d p ∷ [])
+        (withoutEdge own zs ++ startHalf r k c d p ∷ endHalf r k c d p ∷ [])
 
-    module _ (keeps : Bool) (ea : a ≡ cond keeps own (m .nextEdge)) (eb : b ≡ cond keeps (m .nextEdge) (m .nextEdge + 1)) (ek : node ≡ m .nextNode) where
+    module _ (keeps : Bool) (ea : a ≡ cond keeps own (m .nextEdge))
+        (eb : b ≡ cond keeps (m .nextEdge) (m .nextEdge + 1)) (ek : node ≡ m .nextNode) where
       split-rows : split keeps own p m .edges ≡ cond keeps kept new
       unfolding split atEdge redirect kept new first second
       split-rows =
-          (λ j. rowsOf keeps (sym ek j) (sym ea j) (sym eb j) (em j) (edge (redirect (bwd own) (bwd (sym eb j)) (redirect (fwd own) (fwd (sym ea j)) m)) own))
+          (λ j. rowsOf keeps (sym ek j) (sym ea j) (sym eb j) (em j)
+          (edge (redirect (bwd own) (bwd (sym eb j)) (redirect (fwd own) (fwd (sym ea j)) m)) own))
           ∙ ap (rowsOf keeps node a b xs) edge-here
 
-      pub cut-map : cutRow l n i (pos node) p keeps (pos a) (pos b) ≡ filled N (flatMap edgeCells (split keeps own p m .edges))
+      pub cut-map : cutRow l n i (pos node) p keeps (pos a) (pos b)
+          ≡ filled N (flatMap edgeCells (split keeps own p m .edges))
       cut-map = cut-rows keeps ∙ ap (λ (r : List Edge). filled N (flatMap edgeCells r)) (sym split-rows)
 
       pub split-count : length (split keeps own p m .edges) ≡ n + 1

@@ -16,7 +16,8 @@ use Rattle.tables.proofs.RowCurves.{edge-few}
 abbrev Few : Halves → ℕ → Type 0
 Few h n = (length (h .front) ≤ n) × (length (h .back) ≤ n)
 
-here-few : (t v : Bool) (m b : Point) (r : List Point) (h : Halves) → Few h (length r) → Few (cutHere t v m b r h) (suc (length r))
+here-few : (t v : Bool) (m b : Point) (r : List Point) (h : Halves) → Few h (length r)
+    → Few (cutHere t v m b r h) (suc (length r))
 here-few true true m b r h k = (omega arith, omega arith)
 here-few true false m b r h k = (omega arith, omega arith)
 here-few false v m b r h k = (let q = k .0 in omega arith, let q = k .1 in omega arith)

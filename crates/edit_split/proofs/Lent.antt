@@ -21,28 +21,35 @@ use Rattle.tables.proofs.Rows.{nodes-length, edges-length, faces-length, edges-
 use Rattle.tables.proofs.Writes.{pushed, nodes-wide}
 use Rattle.form_ranges.specs.Ranges.{lent}
 use Rattle.outcomes.specs.Outcomes.{Formed}
-use Rattle.outcomes.proofs.Formed.{faces-count, node-next, edge-next, face-next, nodes-filled, edges-filled, faces-filled, edge-rows, edges-are-wide, edge-numbers-once, lent-is}
+use Rattle.outcomes.proofs.Formed.{faces-count, node-next, edge-next, face-next, nodes-filled, edges-filled}
+use Rattle.outcomes.proofs.Formed.{faces-filled, edge-rows, edges-are-wide, edge-numbers-once, lent-is}
 use Rattle.edit_split.specs.Kinds.{splitTicket}
 use Rattle.edit_split.specs.Cuts.{cutRow, startNumber, endNumber, splitHead}
 use Rattle.edit_split.proofs.Cut.{cut-map, split-count}
 
 -- the numbers of a node where edges end
-node-cells-are : (k : ℕ) (number x y : ℤ) → coordinate x && coordinate y ≡ true → number ≡ pos k → nodeCells (record { number = k; at = point x y; face = none }) ≡ number ∷ x ∷ y ∷ negsuc 0 ∷ []
+node-cells-are : (k : ℕ) (number x y : ℤ) → coordinate x && coordinate y ≡ true → number ≡ pos k
+    → nodeCells (record { number = k; at = point x y; face = none }) ≡ number ∷ x ∷ y ∷ negsuc 0 ∷ []
 unfolding nodeCells
 node-cells-are k number x y e en =
-    λ i. sym en i ∷ sym (coordinate-pos x (and-left (coordinate x) (coordinate y) e)) i ∷ sym (coordinate-pos y (and-right (coordinate x) (coordinate y) e)) i ∷ negsuc 0 ∷ []
+    λ i. sym en i ∷ sym (coordinate-pos x (and-left (coordinate x) (coordinate y) e)) i
+    ∷ sym (coordinate-pos y (and-right (coordinate x) (coordinate y) e)) i ∷ negsuc 0 ∷ []
 
-carried-is : (keeps : Bool) (z x y : ℤ) (q : Map) → carried q (splitTicket keeps z x y) ≡ (split keeps (natAbs z) (point x y) q, pos (q .nextNode))
+carried-is : (keeps : Bool) (z x y : ℤ) (q : Map) → carried q (splitTicket keeps z x y)
+    ≡ (split keeps (natAbs z) (point x y) q, pos (q .nextNode))
 unfolding carried
 carried-is true z x y q = refl
 carried-is false z x y q = refl
 
-start-pos : (keeps : Bool) (h : Head) (z : ℤ) (own : ℕ) → z ≡ pos own → h .«next_edge» ≡ pos (natAbs (h .«next_edge»)) → startNumber h keeps z ≡ pos (cond keeps own (natAbs (h .«next_edge»)))
+start-pos : (keeps : Bool) (h : Head) (z : ℤ) (own : ℕ) → z ≡ pos own → h .«next_edge» ≡ pos (natAbs (h .«next_edge»))
+    → startNumber h keeps z ≡ pos (cond keeps own (natAbs (h .«next_edge»)))
 start-pos true h z own e k = e
 start-pos false h z own e k = k
 
-module _ {nodes edges faces : List ℤ} {h : Head} (f : Formed nodes edges faces h) (i : ℕ) (t : i < natAbs (h .edges)) (keeps : Bool) (z x y : ℤ) (ez : z ≡ pos (edgeAt edges i .number))
-    (range : coordinate x && coordinate y ≡ true) (node-room : natAbs (h .nodes) + 1 ≤ length nodes / nodeWidth) (edge-room : natAbs (h .edges) + 1 ≤ length edges / edgeWidth) where
+module _ {nodes edges faces : List ℤ} {h : Head} (f : Formed nodes edges faces h) (i : ℕ) (t : i < natAbs (h .edges))
+    (keeps : Bool) (z x y : ℤ) (ez : z ≡ pos (edgeAt edges i .number))
+    (range : coordinate x && coordinate y ≡ true) (node-room : natAbs (h .nodes) + 1 ≤ length nodes / nodeWidth)
+    (edge-room : natAbs (h .edges) + 1 ≤ length edges / edgeWidth) where
   own : ℕ
   own = edgeAt edges i .number
 
@@ -53,7 +60,8 @@ module _ {nodes edges faces : List ℤ} {h : Head} (f : Formed nodes edges faces
   after = split keeps own (point x y) m
 
   -- the rows of the edges, and how many
-  rows-after : (cutRow edges (natAbs (h .edges)) i (h .«next_node») (point x y) keeps (startNumber h keeps z) (endNumber h keeps) ≡ filled (length edges / edgeWidth * edgeWidth) (flatMap edgeCells (after .edges)))
+  rows-after : (cutRow edges (natAbs (h .edges)) i (h .«next_node») (point x y) keeps (startNumber h keeps z)
+      (endNumber h keeps) ≡ filled (length edges / edgeWidth * edgeWidth) (flatMap edgeCells (after .edges)))
       × (length (after .edges) ≡ natAbs (h .edges) + 1)
   unfolding mapOf own m after
   rows-after =
@@ -66,12 +74,16 @@ module _ {nodes edges faces : List ℤ} {h : Head} (f : Formed nodes edges faces
       let row = edge-row-of (edge-rows f) i t in
       let at = edges-getD edges n i (edgeAt edges i) t in
       let least = edge-number-in (edge-rows f) i t .0 in (
-        ap₂ (λ (u v : ℤ). cutRow edges n i u (point x y) keeps v (endNumber h keeps)) (node-next f .0) (start-pos keeps h z own ez (edge-next f .0))
-            ∙ cut-map edges N n xs (edges-filled f) (edges-are-wide f) (edges-length edges n) (edge-numbers-once f) (omega arith) i t row at least (natAbs (h .«next_node»)) a b (point x y) m refl keeps refl refl refl,
-        split-count edges N n xs (edges-filled f) (edges-are-wide f) (edges-length edges n) (edge-numbers-once f) (omega arith) i t row at least (natAbs (h .«next_node»)) a b (point x y) m refl keeps refl refl refl,
+        ap₂ (λ (u v : ℤ). cutRow edges n i u (point x y) keeps v (endNumber h keeps)) (node-next f .0)
+            (start-pos keeps h z own ez (edge-next f .0))
+            ∙ cut-map edges N n xs (edges-filled f) (edges-are-wide f) (edges-length edges n) (edge-numbers-once f)
+            (omega arith) i t row at least (natAbs (h .«next_node»)) a b (point x y) m refl keeps refl refl refl,
+        split-count edges N n xs (edges-filled f) (edges-are-wide f) (edges-length edges n) (edge-numbers-once f)
+            (omega arith) i t row at least (natAbs (h .«next_node»)) a b (point x y) m refl keeps refl refl refl,
       )
 
-  nodes-after : filled (length nodes / nodeWidth * nodeWidth) (flatMap nodeCells (after .nodes)) ≡ paste nodes (natAbs (h .nodes) * 4) (h .«next_node» ∷ x ∷ y ∷ negsuc 0 ∷ []) 4
+  nodes-after : filled (length nodes / nodeWidth * nodeWidth) (flatMap nodeCells (after .nodes))
+      ≡ paste nodes (natAbs (h .nodes) * 4) (h .«next_node» ∷ x ∷ y ∷ negsuc 0 ∷ []) 4
   unfolding mapOf split own m after
   nodes-after =
       let n = natAbs (h .nodes) in
@@ -79,18 +91,28 @@ module _ {nodes edges faces : List ℤ} {h : Head} (f : Formed nodes edges faces
       let r : Node = record { number = natAbs (h .«next_node»); at = point x y; face = none } in
       let long = nodes-length nodes n in
       let cells = node-cells-are (natAbs (h .«next_node»)) (h .«next_node») x y range (node-next f .0) in
-      sym (pushed nodeWidth nodeCells (length nodes / nodeWidth * nodeWidth) xs r (nodes-wide xs) (nodes-wide (r ∷ []) .0) (rw long (omega arith)))
+      sym (pushed nodeWidth nodeCells (length nodes / nodeWidth * nodeWidth) xs r (nodes-wide xs)
+      (nodes-wide (r ∷ []) .0) (rw long (omega arith)))
       ∙ rw (nodes-filled f, long, cells)
 
   head-after : Map → Head
-  head-after q = record { nodes = pos (length (q .nodes)); edges = pos (length (q .edges)); faces = pos (length (q .faces)); «next_node» = pos (q .nextNode); «next_edge» = pos (q .nextEdge); «next_face» = pos (q .nextFace) }
+  head-after q = record {
+    nodes = pos (length (q .nodes));
+    edges = pos (length (q .edges));
+    faces = pos (length (q .faces));
+    «next_node» = pos (q .nextNode);
+    «next_edge» = pos (q .nextEdge);
+    «next_face» = pos (q .nextFace);
+  }
 
   head-is : head-after after ≡ splitHead h keeps
   unfolding mapOf split own m after head-after
   head-is =
       λ j.
       record {
-        nodes = ap pos (length-append (nodesOf nodes (natAbs (h .nodes))) (record { number = natAbs (h .«next_node»); at = point x y; face = none } ∷ []) ∙ ap (λ (q : ℕ). q + 1) (nodes-length nodes (natAbs (h .nodes)))) j;
+        nodes = ap pos (length-append (nodesOf nodes (natAbs (h .nodes)))
+            (record { number = natAbs (h .«next_node»); at = point x y; face = none } ∷ [])
+            ∙ ap (λ (q : ℕ). q + 1) (nodes-length nodes (natAbs (h .nodes)))) j;
         edges = ap pos (rows-after .1) j;
         faces = (ap pos (faces-length faces (natAbs (h .faces))) ∙ sym (faces-count f .0)) j;
         «next_node» = pos (natAbs (h .«next_node») + 1);
@@ -106,13 +128,21 @@ module _ {nodes edges faces : List ℤ} {h : Head} (f : Formed nodes edges faces
   unfolding mapOf m
   number-is = sym (node-next f .0)
 
-  pub split-lent : {nodes′ edges′ : List ℤ} → nodes′ ≡ paste nodes (natAbs (h .nodes) * 4) (h .«next_node» ∷ x ∷ y ∷ negsuc 0 ∷ []) 4
-      → edges′ ≡ cutRow edges (natAbs (h .edges)) i (h .«next_node») (point x y) keeps (startNumber h keeps z) (endNumber h keeps)
-      → (lentOf (sizesOf (lent nodes edges faces h)) (carried (mapOf (lent nodes edges faces h)) (splitTicket keeps z x y) .0) ≡ lent nodes′ edges′ faces (splitHead h keeps))
+  pub split-lent : {nodes′ edges′ : List ℤ} → nodes′
+      ≡ paste nodes (natAbs (h .nodes) * 4) (h .«next_node» ∷ x ∷ y ∷ negsuc 0 ∷ []) 4
+      → edges′ ≡ cutRow edges (natAbs (h .edges)) i (h .«next_node») (point x y) keeps (startNumber h keeps z)
+      (endNumber h keeps)
+      → (lentOf (sizesOf (lent nodes edges faces h))
+      (carried (mapOf (lent nodes edges faces h)) (splitTicket keeps z x y) .0)
+      ≡ lent nodes′ edges′ faces (splitHead h keeps))
       × (carried (mapOf (lent nodes edges faces h)) (splitTicket keeps z x y) .1 ≡ h .«next_node»)
   unfolding own m after head-after
   split-lent en ee = (
-    ap (λ (q : Map). lentOf (sizesOf (lent nodes edges faces h)) q) (ap (λ (c : Map × ℤ). c .0) (carried-is keeps z x y m) ∙ ap (λ (k : ℕ). split keeps k (point x y) m) (ap natAbs ez))
-        ∙ lent-is (sizesOf (lent nodes edges faces h)) after (nodes-after ∙ sym en) (sym (rows-after .0) ∙ sym ee) (ap (λ (r : List ℕ). filled (length faces / 1 * 1) (flatMap (λ k. pos k ∷ []) r)) faces-after ∙ faces-filled f) head-is,
+    ap (λ (q : Map). lentOf (sizesOf (lent nodes edges faces h)) q)
+        (ap (λ (c : Map × ℤ). c .0) (carried-is keeps z x y m)
+        ∙ ap (λ (k : ℕ). split keeps k (point x y) m) (ap natAbs ez))
+        ∙ lent-is (sizesOf (lent nodes edges faces h)) after (nodes-after ∙ sym en) (sym (rows-after .0) ∙ sym ee)
+        (ap (λ (r : List ℕ). filled (length faces / 1 * 1) (flatMap (λ k. pos k ∷ []) r)) faces-after
+        ∙ faces-filled f) head-is,
     ap (λ (c : Map × ℤ). c .1) (carried-is keeps z x y m) ∙ number-is,
   )

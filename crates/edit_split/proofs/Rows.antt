@@ -19,10 +19,12 @@ use Rattle.tables.proofs.Writes.{Wide}
 
 module _ {A : Type 0} (number : A → ℕ) where
   -- the row with the number of row i
-  pub found-at : (xs : List A) → Distinct (map number xs) → (i : ℕ) (d : A) → i < length xs → find (λ r. same (number r) (number (getD xs i d))) xs ≡ some (getD xs i d)
+  pub found-at : (xs : List A) → Distinct (map number xs) → (i : ℕ) (d : A) → i < length xs
+      → find (λ r. same (number r) (number (getD xs i d))) xs ≡ some (getD xs i d)
   found-at [] dis i d t = absurd (omega arith)
   found-at (x ∷ xs) dis zero d t = rw (same-refl (number x))
-  found-at (x ∷ xs) dis (suc i) d t = rw (other number x xs dis (getD xs i d) (getD-in xs i d (omega arith))) (found-at xs (dis .1) i d (omega arith))
+  found-at (x ∷ xs) dis (suc i) d t = rw (other number x xs dis (getD xs i d) (getD-in xs i d (omega arith)))
+      (found-at xs (dis .1) i d (omega arith))
 
 -- ---- rows of w numbers
 
@@ -34,11 +36,14 @@ module _ {A : Type 0} (w : ℕ) (cells : A → List ℤ) where
   wide-without (x ∷ xs) (suc i) h = (h .0, wide-without xs i (h .1))
 
   -- number k of row i
-  pub row-number : (xs : List A) (rest : List ℤ) → Wide w cells xs → (i : ℕ) (d : A) → i < length xs → (k : ℕ) → k < w → getD (flatMap cells xs ++ rest) (i * w + k) (pos 0) ≡ getD (cells (getD xs i d)) k (pos 0)
+  pub row-number : (xs : List A) (rest : List ℤ) → Wide w cells xs → (i : ℕ) (d : A) → i < length xs → (k : ℕ) → k < w
+      → getD (flatMap cells xs ++ rest) (i * w + k) (pos 0) ≡ getD (cells (getD xs i d)) k (pos 0)
   unfolding flatMap
   row-number [] rest h i d t k b = absurd (omega arith)
   row-number (x ∷ xs) rest h zero d t k b =
-      rw (append-assoc, zero-mul, zero-add) (List·getD-append (cells x) (flatMap cells xs ++ rest) (pos 0) k (omega (arith, h .0)))
+      rw (append-assoc, zero-mul, zero-add)
+      (List·getD-append (cells x) (flatMap cells xs ++ rest) (pos 0) k (omega (arith, h .0)))
   row-number (x ∷ xs) rest h (suc i) d t k b =
       let e : suc i * w + k ≡ length (cells x) + (i * w + k) = omega (arith, h .0, suc-mul i w) in
-      rw (append-assoc, e) (getD-append-add (cells x) (flatMap cells xs ++ rest) (i * w + k) (pos 0) ∙ row-number xs rest (h .1) i d (omega arith) k b)
+      rw (append-assoc, e) (getD-append-add (cells x) (flatMap cells xs ++ rest) (i * w + k) (pos 0)
+      ∙ row-number xs rest (h .1) i d (omega arith) k b)

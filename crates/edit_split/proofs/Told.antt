@@ -24,25 +24,29 @@ use Rattle.tables.specs.Tables.{sameZ, column, edgeAt, nodesOf}
 use Rattle.tables.proofs.Lookups.{edge-found}
 use Rattle.form_ranges.specs.Ranges.{lent}
 use Rattle.outcomes.specs.Outcomes.{Formed}
-use Rattle.outcomes.proofs.Formed.{ranges, nodes-count, edges-count, node-next, edge-next, nodes-size, edges-size, full-is, spent-is, faces-room, face-left, edge-none}
+use Rattle.outcomes.proofs.Formed.{ranges, nodes-count, edges-count, node-next, edge-next, nodes-size, edges-size}
+use Rattle.outcomes.proofs.Formed.{full-is, spent-is, faces-room, face-left, edge-none}
 use Rattle.map.proofs.Reasons.{first-hit, first-miss, first-append, first-after, first-zero}
 use Rattle.map.proofs.Laws.{edge-is}
 use Rattle.edit_split.specs.Kinds.{splitTicket}
 use Rattle.edit_split.specs.Cuts.{pointReasons, given, roomReasons, Numbered}
 
 -- the reasons of numbers as they were passed
-pub point-told : (l : List ℤ) {a n : ℕ} (es : List ℤ) (i : ℕ) {u v x y : ℤ} {r : ℕ} → a ≡ n → u ≡ x → v ≡ y → r ≡ firstReason (pointReasons l a es i u v) → r ≡ firstReason (pointReasons l n es i x y)
+pub point-told : (l : List ℤ) {a n : ℕ} (es : List ℤ) (i : ℕ) {u v x y : ℤ} {r : ℕ} → a ≡ n → u ≡ x → v ≡ y → r
+    ≡ firstReason (pointReasons l a es i u v) → r ≡ firstReason (pointReasons l n es i x y)
 point-told l es i ea eu ev e = e ∙ (λ j. firstReason (pointReasons l (ea j) es i (eu j) (ev j)))
 
 -- a point that was not turned down is in range
-pub point-in : (l : List ℤ) (n : ℕ) (es : List ℤ) (i : ℕ) (x y : ℤ) → firstReason (pointReasons l n es i x y) ≡ 0 → coordinate x && coordinate y ≡ true
+pub point-in : (l : List ℤ) (n : ℕ) (es : List ℤ) (i : ℕ) (x y : ℤ) → firstReason (pointReasons l n es i x y) ≡ 0
+    → coordinate x && coordinate y ≡ true
 point-in l n es i x y e = not-false (coordinate x && coordinate y) (first-zero 5 _ _ (omega arith) e .0)
 
 or-last : (a b : Bool) → a || b || false ≡ a || b
 or-last = eq2 (λ p q. p || q || false) (λ p q. p || q) tt
 
 -- there are rows and numbers
-pub room-left : (l es : List ℤ) (h : Head) (keeps : Bool) → firstReason (roomReasons l es h keeps) ≡ 0 → (natAbs (h .nodes) + 1 ≤ length l / nodeWidth) × (natAbs (h .edges) + 1 ≤ length es / edgeWidth)
+pub room-left : (l es : List ℤ) (h : Head) (keeps : Bool) → firstReason (roomReasons l es h keeps) ≡ 0
+    → (natAbs (h .nodes) + 1 ≤ length l / nodeWidth) × (natAbs (h .edges) + 1 ≤ length es / edgeWidth)
 room-left l es h keeps e =
     let q = or-false _ _ (first-zero 20 _ _ (omega arith) e .0) in
     (ltb-false _ _ (q .0), ltb-false _ _ (q .1))
@@ -62,21 +66,28 @@ module _ {nodes edges faces : List ℤ} {h : Head} (f : Formed nodes edges faces
       }
 
   module _ (keeps : Bool) (z x y : ℤ) where
-    split-is : reasons.reasons (sizesOf (lent nodes edges faces h)) (mapOf (lent nodes edges faces h)) (splitTicket keeps z x y) ≡ splitReasons (given keeps) (sizesOf (lent nodes edges faces h)) (mapOf (lent nodes edges faces h)) z x y
+    split-is : reasons.reasons (sizesOf (lent nodes edges faces h)) (mapOf (lent nodes edges faces h))
+        (splitTicket keeps z x y) ≡ splitReasons (given keeps) (sizesOf (lent nodes edges faces h))
+        (mapOf (lent nodes edges faces h)) z x y
     unfolding reasons.reasons
     split-is = go keeps
       where
-        go : (k : Bool) → reasons.reasons (sizesOf (lent nodes edges faces h)) (mapOf (lent nodes edges faces h)) (splitTicket k z x y) ≡ splitReasons (given k) (sizesOf (lent nodes edges faces h)) (mapOf (lent nodes edges faces h)) z x y
+        go : (k : Bool) → reasons.reasons (sizesOf (lent nodes edges faces h)) (mapOf (lent nodes edges faces h))
+            (splitTicket k z x y) ≡ splitReasons (given k) (sizesOf (lent nodes edges faces h))
+            (mapOf (lent nodes edges faces h)) z x y
         go true = refl
         go false = refl
 
     -- the row is missing
-    pub split-missing : place (sameZ z) 0 (column edgeWidth edges (natAbs (h .edges))) ≡ Missing → firstReason (reasons.reasons (sizesOf (lent nodes edges faces h)) (mapOf (lent nodes edges faces h)) (splitTicket keeps z x y)) ≡ 4
+    pub split-missing : place (sameZ z) 0 (column edgeWidth edges (natAbs (h .edges))) ≡ Missing
+        → firstReason (reasons.reasons (sizesOf (lent nodes edges faces h)) (mapOf (lent nodes edges faces h))
+        (splitTicket keeps z x y)) ≡ 4
     split-missing e = ap firstReason split-is ∙ first-hit 4 _ _ (edge-none f z e)
 
     -- it is row i
     module _ (i : ℕ) (e : place (sameZ z) 0 (column edgeWidth edges (natAbs (h .edges))) ≡ At i) where
-      hit : (i < natAbs (h .edges)) × (z ≡ pos (edgeAt edges i .number)) × (findEdge (mapOf (lent nodes edges faces h)) (natAbs z) ≡ some (edgeAt edges i))
+      hit : (i < natAbs (h .edges)) × (z ≡ pos (edgeAt edges i .number))
+          × (findEdge (mapOf (lent nodes edges faces h)) (natAbs z) ≡ some (edgeAt edges i))
       unfolding mapOf
       hit = edge-found edges (natAbs (h .edges)) (ranges f .edge-rows) z i e
 
@@ -90,22 +101,41 @@ module _ {nodes edges faces : List ℤ} {h : Head} (f : Formed nodes edges faces
       there = rw (ap nonNeg row-is, hit .2)
 
       tests : splitReasons (given keeps) (sizesOf (lent nodes edges faces h)) (mapOf (lent nodes edges faces h)) z x y
-          ≡ (4, noEdge (mapOf (lent nodes edges faces h)) z) ∷ pointReasons nodes (natAbs (h .nodes)) edges i x y ++ roomReasons nodes edges h keeps
+          ≡ (4, noEdge (mapOf (lent nodes edges faces h)) z) ∷ pointReasons nodes (natAbs (h .nodes)) edges i x y
+          ++ roomReasons nodes edges h keeps
       unfolding mapOf
       tests =
           let m = mapOf (lent nodes edges faces h) in
-          let c : onCurve (edge m (natAbs z) .curve) (point x y) ≡ onCurve (edgeAt edges i .curve) (point x y) = ap (λ (r : Edge). onCurve (r .curve) (point x y)) (edge-is m (natAbs z) (edgeAt edges i) (hit .2)) in
-          let g : full (sizesOf (lent nodes edges faces h)) m 1 1 0 ≡ ltb (length nodes / nodeWidth) (natAbs (h .nodes) + 1) || ltb (length edges / edgeWidth) (natAbs (h .edges) + 1) =
-          full-is f 1 1 0 ∙ rw (faces-room f) (or-last (ltb (length nodes / nodeWidth) (natAbs (h .nodes) + 1)) (ltb (length edges / edgeWidth) (natAbs (h .edges) + 1))) in
-          let s : spent m 1 (given keeps) 0 ≡ ltb (suc lastNumber) (natAbs (h .«next_node») + 1) || ltb (suc lastNumber) (natAbs (h .«next_edge») + given keeps) =
-          spent-is f 1 (given keeps) 0 ∙ rw (face-left f) (or-last (ltb (suc lastNumber) (natAbs (h .«next_node») + 1)) (ltb (suc lastNumber) (natAbs (h .«next_edge») + given keeps))) in
-          λ j. (4, noEdge m z) ∷ (5, outside x y) ∷ (10, reasons.nodeAt (nodesOf nodes (natAbs (h .nodes))) (point x y)) ∷ (13, not (c j)) ∷ (20, g j) ∷ (21, s j) ∷ []
+          let c : onCurve (edge m (natAbs z) .curve) (point x y) ≡ onCurve (edgeAt edges i .curve) (point x y) =
+          ap (λ (r : Edge). onCurve (r .curve) (point x y)) (edge-is m (natAbs z) (edgeAt edges i) (hit .2)) in
+          let g : full (sizesOf (lent nodes edges faces h)) m 1 1 0
+          ≡ ltb (length nodes / nodeWidth) (natAbs (h .nodes) + 1)
+          || ltb (length edges / edgeWidth) (natAbs (h .edges) + 1) =
+          full-is f 1 1 0 ∙ rw (faces-room f)
+          (or-last (ltb (length nodes / nodeWidth) (natAbs (h .nodes) + 1))
+          (ltb (length edges / edgeWidth) (natAbs (h .edges) + 1))) in
+          let s : spent m 1 (given keeps) 0 ≡ ltb (suc lastNumber) (natAbs (h .«next_node») + 1)
+          || ltb (suc lastNumber) (natAbs (h .«next_edge») + given keeps) =
+          spent-is f 1 (given keeps) 0 ∙ rw (face-left f)
+          (or-last (ltb (suc lastNumber) (natAbs (h .«next_node») + 1))
+          (ltb (suc lastNumber) (natAbs (h .«next_edge») + given keeps))) in
+          λ j. (4, noEdge m z) ∷ (5, outside x y)
+          ∷ (10, reasons.nodeAt (nodesOf nodes (natAbs (h .nodes))) (point x y)) ∷ (13, not (c j)) ∷ (20, g j)
+          ∷ (21, s j) ∷ []
 
-      found-first : firstReason (reasons.reasons (sizesOf (lent nodes edges faces h)) (mapOf (lent nodes edges faces h)) (splitTicket keeps z x y)) ≡ firstReason (pointReasons nodes (natAbs (h .nodes)) edges i x y ++ roomReasons nodes edges h keeps)
+      found-first : firstReason (reasons.reasons (sizesOf (lent nodes edges faces h))
+          (mapOf (lent nodes edges faces h)) (splitTicket keeps z x y))
+          ≡ firstReason (pointReasons nodes (natAbs (h .nodes)) edges i x y ++ roomReasons nodes edges h keeps)
       found-first = ap firstReason (split-is ∙ tests) ∙ first-miss 4 _ _ there
 
-      pub split-early : (r : ℕ) → 0 < r → r ≡ firstReason (pointReasons nodes (natAbs (h .nodes)) edges i x y) → firstReason (reasons.reasons (sizesOf (lent nodes edges faces h)) (mapOf (lent nodes edges faces h)) (splitTicket keeps z x y)) ≡ r
-      split-early r k q = found-first ∙ first-append (pointReasons nodes (natAbs (h .nodes)) edges i x y) (roomReasons nodes edges h keeps) r k (sym q)
+      pub split-early : (r : ℕ) → 0 < r → r ≡ firstReason (pointReasons nodes (natAbs (h .nodes)) edges i x y)
+          → firstReason (reasons.reasons (sizesOf (lent nodes edges faces h)) (mapOf (lent nodes edges faces h))
+          (splitTicket keeps z x y)) ≡ r
+      split-early r k q = found-first ∙ first-append (pointReasons nodes (natAbs (h .nodes)) edges i x y)
+          (roomReasons nodes edges h keeps) r k (sym q)
 
-      pub split-late : firstReason (pointReasons nodes (natAbs (h .nodes)) edges i x y) ≡ 0 → firstReason (reasons.reasons (sizesOf (lent nodes edges faces h)) (mapOf (lent nodes edges faces h)) (splitTicket keeps z x y)) ≡ firstReason (roomReasons nodes edges h keeps)
-      split-late q = found-first ∙ first-after (pointReasons nodes (natAbs (h .nodes)) edges i x y) (roomReasons nodes edges h keeps) refl q
+      pub split-late : firstReason (pointReasons nodes (natAbs (h .nodes)) edges i x y) ≡ 0
+          → firstReason (reasons.reasons (sizesOf (lent nodes edges faces h)) (mapOf (lent nodes edges faces h))
+          (splitTicket keeps z x y)) ≡ firstReason (roomReasons nodes edges h keeps)
+      split-late q = found-first ∙ first-after (pointReasons nodes (natAbs (h .nodes)) edges i x y)
+          (roomReasons nodes edges h keeps) refl q

@@ -26,7 +26,8 @@ use Rattle.map_rows.specs.Cells.{cellsOf}
 
 -- row i renamed in the links: a departs from its start, b arrives at its end
 abbrev pub renamed : List ℤ → ℕ → ℕ → ℤ → ℤ → List ℤ
-renamed l n i a b = redirected (dartCell (dartAt l (i * 2 + 1))) (negℤ b) (redirected (dartCell (dartAt l (i * 2))) a l n) n
+renamed l n i a b = redirected (dartCell (dartAt l (i * 2 + 1))) (negℤ b)
+    (redirected (dartCell (dartAt l (i * 2))) a l n) n
 
 -- the numbers of the half a from the start of row i to the new node, and of the half b from there to its end
 abbrev pub startSides : List ℤ → ℕ → ℤ → ℤ → ℤ → Sides
@@ -71,7 +72,8 @@ cutRow l n i node p keeps a b =
 -- 5, 10 and 13, of the point and edge row i
 abbrev pub pointReasons : List ℤ → ℕ → List ℤ → ℕ → ℤ → ℤ → Reasons
 pointReasons nodes n edges i x y =
-    (5, outside x y) ∷ (10, nodeAt (nodesOf nodes n) (point x y)) ∷ (13, not (onCurve (edgeAt edges i .curve) (point x y))) ∷ []
+    (5, outside x y) ∷ (10, nodeAt (nodesOf nodes n) (point x y))
+    ∷ (13, not (onCurve (edgeAt edges i .curve) (point x y))) ∷ []
 
 -- how many edge numbers are given
 abbrev pub given : Bool → ℕ
@@ -79,9 +81,16 @@ given keeps = cond keeps 1 2
 
 -- 20 and 21, of nodes and edges alone
 abbrev pub roomReasons : List ℤ → List ℤ → Head → Bool → Reasons
-roomReasons nodes edges h keeps =
-    (20, ltb (length nodes / nodeWidth) (natAbs (h .nodes) + 1) || ltb (length edges / edgeWidth) (natAbs (h .edges) + 1))
-    ∷ (21, ltb (suc lastNumber) (natAbs (h .«next_node») + 1) || ltb (suc lastNumber) (natAbs (h .«next_edge») + given keeps))
+roomReasons nodes edges h keeps = (
+  20,
+  ltb (length nodes / nodeWidth) (natAbs (h .nodes) + 1)
+      || ltb (length edges / edgeWidth) (natAbs (h .edges) + 1),
+)
+    ∷ (
+      21,
+      ltb (suc lastNumber) (natAbs (h .«next_node») + 1)
+          || ltb (suc lastNumber) (natAbs (h .«next_edge») + given keeps),
+    )
     ∷ []
 
 -- ---- the head

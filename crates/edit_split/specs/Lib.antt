@@ -1,3 +1,4 @@
--- `Kinds`: the two kinds that one function carries out. `Cuts`: an edge row cut in two, in the numbers, and the reasons in parts.
+-- `Kinds`: the two kinds that one function carries out. `Cuts`: an edge row cut in two, in the numbers, and the reasons
+-- in parts.
 pub mod Kinds
 pub mod Cuts

@@ -1,10 +1,10 @@
 // Kinds 7 and 8: an edge split.
-use outcomes::Done;
 use curve_edits::Line;
 use lists::Found;
 use map::Head;
-use plane::Point;
 use map_rows::Sides;
+use outcomes::Done;
+use plane::Point;
 ghost use mathlib.Core.Path.{_≡_};
 ghost use mathlib.Core.Bool.{true, _&&_};
 ghost use Prim.Native.Nat.{_+_, _*_, _-_, _≤_, _<_};
@@ -22,7 +22,8 @@ ghost use Rattle.form_ranges.specs.Ranges.{lent};
 ghost use Rattle.map_rows.specs.Cells.{cellsOf};
 ghost use Rattle.outcomes.specs.Outcomes.{Formed, decided, outcome};
 ghost use Rattle.edit_split.specs.Kinds.{splitTicket};
-ghost use Rattle.edit_split.specs.Cuts.{renamed, startSides, endSides, placed, cutRow, pointReasons, given, roomReasons, Numbered, startNumber, endNumber, splitHead};
+ghost use Rattle.edit_split.specs.Cuts.{renamed, startSides, endSides, placed, cutRow, pointReasons, given};
+ghost use Rattle.edit_split.specs.Cuts.{roomReasons, Numbered, startNumber, endNumber, splitHead};
 
 // ---- an edge row cut in two
 
@@ -49,7 +50,7 @@ fn rename(edges: &mut [i64], e: usize, i: usize, a: i64, b: i64)
     let d = darts::dart_at(edges, i * 2);
     let back = darts::dart_at(edges, i * 2 + 1);
     links::redirect(edges, e, d, a);
-    links::redirect(edges, e, back, links::turned(b));
+    links::redirect(edges, e, back, links::negated(b));
 }
 
 // The numbers of the half a from the start of row i to the new node, and of the half b from there to its end.
@@ -57,10 +58,10 @@ fn start_half(edges: &[i64], i: usize, node: i64, a: i64, b: i64) -> Sides
     requires { ⌜ i * 32 + 32 ≤ length (now edges) ⌝ }
     ensures { λ r. ⌜ r ≡ startSides (now (edges .entry)) i node a b ⌝ }
 {
-    let start = edges[i * 32 + 1];
-    let next_right = edges[i * 32 + 4];
-    let left = edges[i * 32 + 5];
-    let right = edges[i * 32 + 6];
+    let start = edges[i * map::EDGE_WIDTH + map::START];
+    let next_right = edges[i * map::EDGE_WIDTH + map::NEXT_RIGHT];
+    let left = edges[i * map::EDGE_WIDTH + map::LEFT];
+    let right = edges[i * map::EDGE_WIDTH + map::RIGHT];
     Sides {
         number: a,
         start,
@@ -76,16 +77,16 @@ fn end_half(edges: &[i64], i: usize, node: i64, a: i64, b: i64) -> Sides
     requires { ⌜ (i * 32 + 32 ≤ length (now edges)) × (nonNeg a ≡ true) ⌝ }
     ensures { λ r. ⌜ r ≡ endSides (now (edges .entry)) i node a b ⌝ }
 {
-    let end = edges[i * 32 + 2];
-    let next_left = edges[i * 32 + 3];
-    let left = edges[i * 32 + 5];
-    let right = edges[i * 32 + 6];
+    let end = edges[i * map::EDGE_WIDTH + map::END];
+    let next_left = edges[i * map::EDGE_WIDTH + map::NEXT_LEFT];
+    let left = edges[i * map::EDGE_WIDTH + map::LEFT];
+    let right = edges[i * map::EDGE_WIDTH + map::RIGHT];
     Sides {
         number: b,
         start: node,
         end,
         next_left,
-        next_right: links::turned(a),
+        next_right: links::negated(a),
         left,
         right,
     }
@@ -99,14 +100,15 @@ fn place(edges: &mut [i64], e: usize, i: usize, keeps: bool, s: Sides, l: Line)
     if keeps {
         map_rows::write_edge(edges, i, s, l);
     } else {
-        tables::remove_row(edges, 32, e, i);
+        tables::remove_row(edges, map::EDGE_WIDTH, e, i);
         map_rows::write_edge(edges, e - 1, s, l);
     }
 }
 
 // The two halves a and b of edge row i, renamed in the links, at the new node; b's row goes last.
 fn cut_row(edges: &mut [i64], e: usize, i: usize, node: i64, p: Point, keeps: bool, a: i64, b: i64)
-    requires { ⌜ EdgeRow (now edges) i × InRange p × (i < e) × (e ≤ 2000) × (e * 32 + 32 ≤ length (now edges)) × (nonNeg a ≡ true) × (nonNeg b ≡ true) ⌝ }
+    requires { ⌜ EdgeRow (now edges) i × InRange p × (i < e) × (e ≤ 2000) × (e * 32 + 32 ≤ length (now edges))
+        × (nonNeg a ≡ true) × (nonNeg b ≡ true) ⌝ }
     ensures { λ r. ⌜ now (edges .exit) ≡ cutRow (now (edges .entry)) e i node p keeps a b ⌝ }
 {
     let front = start_line(edges, i, p);
@@ -155,16 +157,16 @@ fn room_reason(nodes: &[i64], edges: &[i64], h: Head, keeps: bool) -> u64
     requires { ⌜ Numbered h ⌝ }
     ensures { λ r. ⌜ r ≡ firstReason (roomReasons (now (nodes .entry)) (now (edges .entry)) h keeps) ⌝ }
 {
-    if nodes.len() / 4 < outcomes::count_of(h.nodes) + 1 {
+    if nodes.len() / map::NODE_WIDTH < outcomes::to_usize(h.nodes) + 1 {
         return 20;
     }
-    if edges.len() / 32 < outcomes::count_of(h.edges) + 1 {
+    if edges.len() / map::EDGE_WIDTH < outcomes::to_usize(h.edges) + 1 {
         return 20;
     }
-    if 1000000 < outcomes::count_of(h.next_node) + 1 {
+    if map::NUMBERS < outcomes::to_usize(h.next_node) + 1 {
         return 21;
     }
-    if 1000000 < outcomes::count_of(h.next_edge) + given_of(keeps) {
+    if map::NUMBERS < outcomes::to_usize(h.next_edge) + given_of(keeps) {
         21
     } else {
         0
@@ -208,11 +210,14 @@ fn after_split(h: Head, keeps: bool) -> Head
 
 // The edge of row i cut, and the new node.
 fn cut_edge(edges: &mut [i64], h: Head, i: usize, keeps: bool, edge: i64, x: i64, y: i64)
-    requires { ⌜ Numbered h × EdgeRow (now edges) i × (i < natAbs (h .edges)) × (natAbs (h .edges) * 32 + 32 ≤ length (now edges)) × (nonNeg edge ≡ true) × ((coordinate x && coordinate y) ≡ true) ⌝ }
-    ensures { λ r. ⌜ now (edges .exit) ≡ cutRow (now (edges .entry)) (natAbs (h .edges)) i (h .«next_node») (point x y) keeps (startNumber h keeps edge) (endNumber h keeps) ⌝ }
+    requires { ⌜ Numbered h × EdgeRow (now edges) i × (i < natAbs (h .edges))
+        × (natAbs (h .edges) * 32 + 32 ≤ length (now edges)) × (nonNeg edge ≡ true)
+        × ((coordinate x && coordinate y) ≡ true) ⌝ }
+    ensures { λ r. ⌜ now (edges .exit) ≡ cutRow (now (edges .entry)) (natAbs (h .edges)) i (h .«next_node»)
+        (point x y) keeps (startNumber h keeps edge) (endNumber h keeps) ⌝ }
 {
     let node = h.next_node;
-    let e = outcomes::count_of(h.edges);
+    let e = outcomes::to_usize(h.edges);
     let p = reason_curves::point_of(x, y);
     let a = start_number(h, keeps, edge);
     let b = end_number(h, keeps);
@@ -229,13 +234,15 @@ pub fn split_edge(
     y: i64,
 ) -> Done
     requires { ⌜ ((faces : _) × Formed (now nodes) (now edges) faces h) ⌝ }
-    ensures { λ r. ⌜ ((faces : _) → Formed (now (nodes .entry)) (now (edges .entry)) faces h → outcome (now (nodes .exit)) (now (edges .exit)) faces r ≡ decided (lent (now (nodes .entry)) (now (edges .entry)) faces h) (splitTicket keeps edge x y)) ⌝ }
+    ensures { λ r. ⌜ ((faces : _) → Formed (now (nodes .entry)) (now (edges .entry)) faces h
+        → outcome (now (nodes .exit)) (now (edges .exit)) faces r
+        ≡ decided (lent (now (nodes .entry)) (now (edges .entry)) faces h) (splitTicket keeps edge x y)) ⌝ }
 {
-    let found = tables::find_row(edges, 32, outcomes::count_of(h.edges), edge);
+    let found = tables::find_row(edges, map::EDGE_WIDTH, outcomes::to_usize(h.edges), edge);
     let Found::At(i) = found else {
         return outcomes::refused(h, 4);
     };
-    let early = point_reason(nodes, outcomes::count_of(h.nodes), edges, i, x, y);
+    let early = point_reason(nodes, outcomes::to_usize(h.nodes), edges, i, x, y);
     if early != 0 {
         return outcomes::refused(h, early);
     }
@@ -245,6 +252,6 @@ pub fn split_edge(
     }
     let node = h.next_node;
     cut_edge(edges, h, i, keeps, edge, x, y);
-    map_rows::write_node(nodes, outcomes::count_of(h.nodes), node, x, y, -1);
+    map_rows::write_node(nodes, outcomes::to_usize(h.nodes), node, x, y, -1);
     outcomes::carried(after_split(h, keeps), node)
 }

@@ -20,7 +20,12 @@ use Rattle.outcomes.proofs.Formed.{lent-is}
 -- a write over the whole of a list
 pub paste-all : {A : Type 0} (d s : List A) → length s ≡ length d → paste d 0 s (length d) ≡ s
 paste-all d s e =
-    rw (zero-add (length d), take-all (length d) s (omega arith), drop-of-length-le d {i = length d} (omega arith), append-nil s)
+    rw (
+      zero-add (length d),
+      take-all (length d) s (omega arith),
+      drop-of-length-le d {i = length d} (omega arith),
+      append-nil s,
+    )
 
 abbrev pub zeros : List ℤ → List ℤ
 zeros l = replicate (length l) (pos 0)
@@ -37,10 +42,18 @@ face-zero (suc n) h =
     ap (λ (k : ℕ). pos 0 ∷ replicate k (pos 0)) e
 
 abbrev pub emptyHead : Head
-emptyHead = record { nodes = pos 0; edges = pos 0; faces = pos 1; «next_node» = pos 1; «next_edge» = pos 1; «next_face» = pos 1 }
+emptyHead = record {
+  nodes = pos 0;
+  edges = pos 0;
+  faces = pos 1;
+  «next_node» = pos 1;
+  «next_edge» = pos 1;
+  «next_face» = pos 1;
+}
 
 module _ (nodes edges faces : List ℤ) (h : Head) (w : whole (lent nodes edges faces h) ≡ true) where
-  parts : (wholeRows nodeWidth 0 maxNodes nodes ≡ true) × (wholeRows edgeWidth 0 maxEdges edges ≡ true) × (wholeRows faceWidth 1 maxFaces faces ≡ true)
+  parts : (wholeRows nodeWidth 0 maxNodes nodes ≡ true) × (wholeRows edgeWidth 0 maxEdges edges ≡ true)
+      × (wholeRows faceWidth 1 maxFaces faces ≡ true)
   parts = whole-tables (lent nodes edges faces h) w
 
   face-table : filled (length faces / faceWidth * faceWidth) (pos 0 ∷ []) ≡ zeros faces
@@ -48,15 +61,24 @@ module _ (nodes edges faces : List ℤ) (h : Head) (w : whole (lent nodes edges 
       let r = whole-rows faceWidth 1 maxFaces faces (parts .2) in
       rw (r .size) (face-zero (length faces) (omega (arith, r .size, r .least)))
 
-  pub empty-lent : lentOf (sizesOf (lent nodes edges faces h)) emptyMap ≡ lent (zeros nodes) (zeros edges) (zeros faces) emptyHead
+  pub empty-lent : lentOf (sizesOf (lent nodes edges faces h)) emptyMap
+      ≡ lent (zeros nodes) (zeros edges) (zeros faces) emptyHead
   unfolding flatMap
   empty-lent =
       lent-is (sizesOf (lent nodes edges faces h)) emptyMap
-      (filled-none nodeWidth 0 maxNodes nodes (parts .0)) (filled-none edgeWidth 0 maxEdges edges (parts .1)) face-table refl
+      (filled-none nodeWidth 0 maxNodes nodes (parts .0))
+      (filled-none edgeWidth 0 maxEdges edges (parts .1)) face-table refl
 
-  pub emptied-done : emptied (lent nodes edges faces h) ≡ record { lent = lent (zeros nodes) (zeros edges) (zeros faces) emptyHead; answer = record { refusal = 0; value = pos 0 } }
+  pub emptied-done : emptied (lent nodes edges faces h)
+      ≡ record {
+        lent = lent (zeros nodes) (zeros edges) (zeros faces) emptyHead;
+        answer = record { refusal = 0; value = pos 0 };
+      }
   unfolding emptied firstReason
-  emptied-done = rw w (ap (λ (l : Lent). record { lent = l; answer = record { refusal = 0; value = pos 0 } }) empty-lent)
+  emptied-done = rw w (ap (λ (l : Lent). record {
+    lent = l;
+    answer = record { refusal = 0; value = pos 0 };
+  }) empty-lent)
 
 pub emptied-refused : (l : Lent) → whole l ≡ false → emptied l ≡ refused l 1
 unfolding emptied firstReason

@@ -1,6 +1,6 @@
 // The empty map: face 0 alone.
-use outcomes::Done;
 use map::Head;
+use outcomes::Done;
 ghost use mathlib.Core.Path.{_≡_};
 ghost use lib.IntN.{pos};
 ghost use lib.ListN.{length, replicate};
@@ -18,7 +18,8 @@ fn wipe(t: &mut [i64])
 
 // The empty map everywhere in the tables, whatever they and the head held; 1 where the tables are not whole.
 pub fn empty_map(nodes: &mut [i64], edges: &mut [i64], faces: &mut [i64], h: Head) -> Done
-    ensures { λ r. ⌜ outcome (now (nodes .exit)) (now (edges .exit)) (now (faces .exit)) r ≡ emptied (lent (now (nodes .entry)) (now (edges .entry)) (now (faces .entry)) h) ⌝ }
+    ensures { λ r. ⌜ outcome (now (nodes .exit)) (now (edges .exit)) (now (faces .exit)) r
+        ≡ emptied (lent (now (nodes .entry)) (now (edges .entry)) (now (faces .entry)) h) ⌝ }
 {
     if !form_ranges::is_whole(nodes, edges, faces) {
         return outcomes::refused(h, 1);

@@ -68,18 +68,27 @@ module _ (l : Lent) (numbers : List ℤ) (lengths refusals : List ℕ) (values :
     pub runs-20 : short ≡ true → Runs l numbers lengths refusals values (turned 20)
     runs-20 e = record { gives = sym (ran-20 e); grown = λ z. absurd (omega arith) }
 
-    ran-0 : short ≡ false → ran l numbers lengths refusals values ≡ ranUnless l refusals values (grow (sizesOf l) (ticketsOf numbers lengths)) 0
+    ran-0 : short ≡ false → ran l numbers lengths refusals values
+        ≡ ranUnless l refusals values (grow (sizesOf l) (ticketsOf numbers lengths)) 0
     unfolding ran firstReason
     ran-0 e = rw (w, e)
 
     -- carried out: g is what the tickets give from the empty map on
     pub runs-0 : short ≡ false → (g : Grown) → g ≡ after (emptied l .lent) (ticketsOf numbers lengths)
         → {l′ : Lent} {refusals′ : List ℕ} {values′ : List ℤ}
-        → (l′ ≡ g .lent) × (refusals′ ≡ front (map (λ a. a .refusal) (g .answers)) refusals) × (values′ ≡ front (map (λ a. a .value) (g .answers)) values)
-        → Runs l numbers lengths refusals values (record { lent = l′; refusals = refusals′; values = values′; answer = record { refusal = 0; value = pos 0 } })
+        → (l′ ≡ g .lent) × (refusals′ ≡ front (map (λ a. a .refusal) (g .answers)) refusals)
+        × (values′ ≡ front (map (λ a. a .value) (g .answers)) values)
+        → Runs l numbers lengths refusals values
+        (record { lent = l′; refusals = refusals′; values = values′; answer = record { refusal = 0; value = pos 0 } })
     runs-0 e g d k =
         let is : g ≡ grow (sizesOf l) (ticketsOf numbers lengths) = d ∙ sym (grow-is l (ticketsOf numbers lengths) w) in
         record {
-          gives = (λ i. record { lent = k .0 i; refusals = k .1 i; values = k .2 i; answer = record { refusal = 0; value = pos 0 } }) ∙ ap (λ (x : Grown). ranUnless l refusals values x 0) is ∙ sym (ran-0 e);
-          grown = λ z. subst GrownMap (sym (k .0 ∙ ap (λ (x : Grown). x .lent) is)) (grows (sizesOf l) (whole-limited l w .some-face) (ticketsOf numbers lengths));
+          gives = (λ i. record {
+            lent = k .0 i;
+            refusals = k .1 i;
+            values = k .2 i;
+            answer = record { refusal = 0; value = pos 0 };
+          }) ∙ ap (λ (x : Grown). ranUnless l refusals values x 0) is ∙ sym (ran-0 e);
+          grown = λ z. subst GrownMap (sym (k .0 ∙ ap (λ (x : Grown). x .lent) is))
+              (grows (sizesOf l) (whole-limited l w .some-face) (ticketsOf numbers lengths));
         }

@@ -1,4 +1,5 @@
--- Every list of tickets is one that two slices hold: nothing that could be sent is out of reach of a call for a whole list. Assumes nothing.
+-- Every list of tickets is one that two slices hold: nothing that could be sent is out of reach of a call for a whole
+-- list. Assumes nothing.
 use mathlib.Core.Path.{_≡_, refl, ap, ap₂, _∙_}
 use mathlib.Core.List.{List, [], _∷_, map, flatten}
 use lib.IntN.{ℤ}

@@ -12,7 +12,8 @@ use Rattle.map.specs.Reasons.{firstReason}
 use Rattle.map.specs.Grow.{Grown, grow}
 use Rattle.grown.specs.Claims.{GrownMap}
 
--- the tickets that two slices hold: their numbers one after the other, and how many each has; the last ones have what is left
+-- the tickets that two slices hold: their numbers one after the other, and how many each has; the last ones have what
+-- is left
 abbrev pub ticketsOf : List ℤ → List ℕ → List (List ℤ)
 ticketsOf numbers [] = []
 ticketsOf numbers (n ∷ ns) = take n numbers ∷ ticketsOf (drop n numbers) ns
@@ -37,13 +38,15 @@ ranUnless l refusals values g zero =
       values = front (map (λ a. a .value) (g .answers)) values;
       answer = record { refusal = 0; value = pos 0 };
     }
-ranUnless l refusals values g (suc r) = record { lent = l; refusals = refusals; values = values; answer = record { refusal = suc r; value = pos 0 } }
+ranUnless l refusals values g (suc r) =
+    record { lent = l; refusals = refusals; values = values; answer = record { refusal = suc r; value = pos 0 } }
 
 -- the tickets from the empty map on, in tables of these sizes: 1 the tables are not whole, 20 the answers would not fit
 unfoldable pub ran : Lent → List ℤ → List ℕ → List ℕ → List ℤ → Ran
 ran l numbers lengths refusals values =
     let n = length lengths in
-    ranUnless l refusals values (grow (sizesOf l) (ticketsOf numbers lengths)) (firstReason ((1, not (whole l)) ∷ (20, ltb (length refusals) n || ltb (length values) n) ∷ []))
+    ranUnless l refusals values (grow (sizesOf l) (ticketsOf numbers lengths))
+    (firstReason ((1, not (whole l)) ∷ (20, ltb (length refusals) n || ltb (length values) n) ∷ []))
 
 -- demand 3: the call gives what the definitions give from the sizes and the tickets alone, and that is a grown map
 pub record Runs (l : Lent) (numbers : List ℤ) (lengths refusals : List ℕ) (values : List ℤ) (r : Ran) : Type 0 where

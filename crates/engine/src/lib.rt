@@ -1,7 +1,7 @@
 // The engine: the empty map, one ticket, the edges of a face, a list of tickets.
-use outcomes::Done;
 use map::Answer;
 use map::Head;
+use outcomes::Done;
 ghost use mathlib.Core.Path.{_≡_};
 ghost use mathlib.Core.List.{map};
 ghost use Prim.Native.Nat.{min, _≤_};
@@ -14,14 +14,16 @@ ghost use Rattle.engine.specs.Runs.{ticketsOf, front, Runs};
 
 // The empty map everywhere in the tables, whatever they and the head held; 1 where the tables are not whole.
 pub fn empty_map(nodes: &mut [i64], edges: &mut [i64], faces: &mut [i64], h: Head) -> Done
-    ensures { λ r. ⌜ outcome (now (nodes .exit)) (now (edges .exit)) (now (faces .exit)) r ≡ emptied (lent (now (nodes .entry)) (now (edges .entry)) (now (faces .entry)) h) ⌝ }
+    ensures { λ r. ⌜ outcome (now (nodes .exit)) (now (edges .exit)) (now (faces .exit)) r
+        ≡ emptied (lent (now (nodes .entry)) (now (edges .entry)) (now (faces .entry)) h) ⌝ }
 {
     emptying::empty_map(nodes, edges, faces, h)
 }
 
 // One ticket, on any tables and any run of numbers.
 pub fn ticket(nodes: &mut [i64], edges: &mut [i64], faces: &mut [i64], h: Head, t: &[i64]) -> Done
-    ensures { λ r. ⌜ outcome (now (nodes .exit)) (now (edges .exit)) (now (faces .exit)) r ≡ ticket (lent (now (nodes .entry)) (now (edges .entry)) (now (faces .entry)) h) (now (t .entry)) ⌝ }
+    ensures { λ r. ⌜ outcome (now (nodes .exit)) (now (edges .exit)) (now (faces .exit)) r
+        ≡ ticket (lent (now (nodes .entry)) (now (edges .entry)) (now (faces .entry)) h) (now (t .entry)) ⌝ }
 {
     if !form_ranges::is_whole(nodes, edges, faces) {
         return outcomes::refused(h, 1);
@@ -41,7 +43,9 @@ pub fn edges_of_face(
     face: i64,
     list: &mut [i64],
 ) -> Answer
-    ensures { λ r. ⌜ record { list = now (list .exit); answer = r } ≡ edgesOfFace (lent (now (nodes .entry)) (now (edges .entry)) (now (faces .entry)) h) face (now (list .entry)) ⌝ }
+    ensures { λ r. ⌜ record { list = now (list .exit); answer = r }
+        ≡ edgesOfFace (lent (now (nodes .entry)) (now (edges .entry)) (now (faces .entry)) h) face
+        (now (list .entry)) ⌝ }
 {
     face_edges::edges_of_face(nodes, edges, faces, h, face, list)
 }
@@ -64,7 +68,11 @@ fn run_tickets(
     values: &mut [i64],
 ) -> Head
     requires { ⌜ (length (now lengths) ≤ length (now refusals)) × (length (now lengths) ≤ length (now values)) ⌝ }
-    ensures { λ r. ⌜ ((g : Grown) → g ≡ after (lent (now (nodes .entry)) (now (edges .entry)) (now (faces .entry)) h) (ticketsOf (now (numbers .entry)) (now (lengths .entry))) → (lent (now (nodes .exit)) (now (edges .exit)) (now (faces .exit)) r ≡ g .lent) × (now (refusals .exit) ≡ front (map (λ a. a .refusal) (g .answers)) (now (refusals .entry))) × (now (values .exit) ≡ front (map (λ a. a .value) (g .answers)) (now (values .entry)))) ⌝ }
+    ensures { λ r. ⌜ ((g : Grown) → g ≡ after (lent (now (nodes .entry)) (now (edges .entry)) (now (faces .entry)) h)
+        (ticketsOf (now (numbers .entry)) (now (lengths .entry)))
+        → (lent (now (nodes .exit)) (now (edges .exit)) (now (faces .exit)) r ≡ g .lent)
+        × (now (refusals .exit) ≡ front (map (λ a. a .refusal) (g .answers)) (now (refusals .entry)))
+        × (now (values .exit) ≡ front (map (λ a. a .value) (g .answers)) (now (values .entry)))) ⌝ }
 {
     let mut head = h;
     let mut at = 0;
@@ -80,7 +88,8 @@ fn run_tickets(
     head
 }
 
-// A list of tickets from the empty map on. `numbers` has the tickets one after the other, and `lengths` how many numbers each has.
+// A list of tickets from the empty map on. `numbers` has the tickets one after the other, and `lengths` how many
+// numbers each has.
 pub fn run(
     nodes: &mut [i64],
     edges: &mut [i64],
@@ -91,7 +100,14 @@ pub fn run(
     refusals: &mut [u64],
     values: &mut [i64],
 ) -> Done
-    ensures { λ r. ⌜ Runs (lent (now (nodes .entry)) (now (edges .entry)) (now (faces .entry)) h) (now (numbers .entry)) (now (lengths .entry)) (now (refusals .entry)) (now (values .entry)) (record { lent = lent (now (nodes .exit)) (now (edges .exit)) (now (faces .exit)) (r .head); refusals = now (refusals .exit); values = now (values .exit); answer = r .answer }) ⌝ }
+    ensures { λ r. ⌜ Runs (lent (now (nodes .entry)) (now (edges .entry)) (now (faces .entry)) h)
+        (now (numbers .entry)) (now (lengths .entry)) (now (refusals .entry)) (now (values .entry))
+        (record {
+          lent = lent (now (nodes .exit)) (now (edges .exit)) (now (faces .exit)) (r .head);
+          refusals = now (refusals .exit);
+          values = now (values .exit);
+          answer = r .answer;
+        }) ⌝ }
 {
     if !form_ranges::is_whole(nodes, edges, faces) {
         return outcomes::refused(h, 1);

@@ -9,7 +9,7 @@ use lib.IntN.{ℤ, pos, negsuc, natAbs}
 use lib.ListN.{length, drop}
 use lib.Signed.{nonNeg}
 use Rattle.lists.specs.Tests.{same}
-use Rattle.lists.specs.Scans.{any, keep}
+use Rattle.lists.specs.Scans.{anyOf, keep}
 use Rattle.lists.specs.Tables.{place}
 use Rattle.lists.specs.declared.Found.the-variants.{At, Missing}
 use Rattle.planar_maps.specs.Map.{Dart, Linked}
@@ -55,7 +55,11 @@ module _ (l : Lent) (f : ℤ) (list : List ℤ) where
         unfolding edgesOfFace firstReason
         no-room e = rw (w, g, k, is, e)
 
-        pub listed : ltb (length list) (length written) ≡ false → edgesOfFace l f list ≡ record { list = written ++ drop (length written) list; answer = record { refusal = 0; value = pos (length written) } }
+        pub listed : ltb (length list) (length written) ≡ false → edgesOfFace l f list
+            ≡ record {
+              list = written ++ drop (length written) list;
+              answer = record { refusal = 0; value = pos (length written) };
+            }
         unfolding edgesOfFace firstReason
         listed e = rw (w, g, k, is, e)
 
@@ -71,7 +75,8 @@ flat-same f g h [] = refl
 flat-same f g h (d ∷ l) = rw (h d, flat-same f g h l)
 
 module _ (nodes edges faces : List ℤ) (h : Head) where
-  steps-same : (d : Dart) (k : ℕ) (c : Dart) → stepsTo (mapIn nodes edges faces (countsOf h) h) d k c ≡ stepsTo (edgeMap edges (natAbs (h .edges))) d k c
+  steps-same : (d : Dart) (k : ℕ) (c : Dart) → stepsTo (mapIn nodes edges faces (countsOf h) h) d k c
+      ≡ stepsTo (edgeMap edges (natAbs (h .edges))) d k c
   unfolding stepsTo next edge
   steps-same d zero c = refl
   steps-same d (suc k) c =
@@ -82,25 +87,34 @@ module _ (nodes edges faces : List ℤ) (h : Head) where
   unfolding ring
   ring-same d = steps-same d (2 * length (edgeMap edges (natAbs (h .edges)) .edges)) d
 
-  bears-same : (f : ℕ) (l : List Dart) → keep (λ d. same (bears (mapIn nodes edges faces (countsOf h) h) d) f) l ≡ keep (λ d. same (bears (edgeMap edges (natAbs (h .edges))) d) f) l
+  bears-same : (f : ℕ) (l : List Dart) → keep (λ d. same (bears (mapIn nodes edges faces (countsOf h) h) d) f) l
+      ≡ keep (λ d. same (bears (edgeMap edges (natAbs (h .edges))) d) f) l
   unfolding bears edge
   bears-same f l = refl
 
   firsts-same : firsts (mapIn nodes edges faces (countsOf h) h) ≡ firsts (edgeMap edges (natAbs (h .edges)))
   unfolding firsts
-  firsts-same = keep-same (λ d. not (any (λ c. lower c d) (ring (mapIn nodes edges faces (countsOf h) h) d))) (λ d. not (any (λ c. lower c d) (ring (edgeMap edges (natAbs (h .edges))) d))) (λ d. ap (λ (r : List Dart). not (any (λ c. lower c d) r)) (ring-same d)) (directed (edgeMap edges (natAbs (h .edges))))
+  firsts-same = keep-same (λ d. not (anyOf (λ c. lower c d) (ring (mapIn nodes edges faces (countsOf h) h) d)))
+      (λ d. not (anyOf (λ c. lower c d) (ring (edgeMap edges (natAbs (h .edges))) d)))
+      (λ d. ap (λ (r : List Dart). not (anyOf (λ c. lower c d) r)) (ring-same d))
+      (directed (edgeMap edges (natAbs (h .edges))))
 
-  pub edges-are : (f : ℕ) → faceEdges (mapOf (lent nodes edges faces h)) f ≡ faceEdges (edgeMap edges (natAbs (h .edges))) f
+  pub edges-are : (f : ℕ) → faceEdges (mapOf (lent nodes edges faces h)) f
+      ≡ faceEdges (edgeMap edges (natAbs (h .edges))) f
   unfolding faceEdges
   edges-are f =
       let m = mapIn nodes edges faces (countsOf h) h in
       let e = edgeMap edges (natAbs (h .edges)) in
-      ap (λ (m : Map). flatMap (λ d. ringNumbers (ring m d)) (keep (λ d. same (bears m d) f) (firsts m))) (map-is nodes edges faces h)
-      ∙ flat-same (λ d. ringNumbers (ring m d)) (λ d. ringNumbers (ring e d)) (λ d. ap ringNumbers (ring-same d)) (keep (λ d. same (bears m d) f) (firsts m))
-      ∙ ap (flatMap (λ d. ringNumbers (ring e d))) (bears-same f (firsts m) ∙ ap (keep (λ d. same (bears e d) f)) firsts-same)
+      ap (λ (m : Map). flatMap (λ d. ringNumbers (ring m d)) (keep (λ d. same (bears m d) f) (firsts m)))
+      (map-is nodes edges faces h)
+      ∙ flat-same (λ d. ringNumbers (ring m d)) (λ d. ringNumbers (ring e d)) (λ d. ap ringNumbers (ring-same d))
+      (keep (λ d. same (bears m d) f) (firsts m))
+      ∙ ap (flatMap (λ d. ringNumbers (ring e d)))
+      (bears-same f (firsts m) ∙ ap (keep (λ d. same (bears e d) f)) firsts-same)
 
   module _ (k : InForm nodes edges faces (countsOf h) h) where
-    linked-edges : Linked (arcs (edgeMap edges (natAbs (h .edges)))) (leaves (edgeMap edges (natAbs (h .edges)))) (next (edgeMap edges (natAbs (h .edges)))) (bears (edgeMap edges (natAbs (h .edges))))
+    linked-edges : Linked (arcs (edgeMap edges (natAbs (h .edges)))) (leaves (edgeMap edges (natAbs (h .edges))))
+        (next (edgeMap edges (natAbs (h .edges)))) (bears (edgeMap edges (natAbs (h .edges))))
     unfolding leaves next bears edge
     linked-edges = form-linked.linked (mapIn nodes edges faces (countsOf h) h) (k .formed)
 
@@ -116,13 +130,20 @@ module _ (nodes edges faces : List ℤ) (h : Head) where
 
     -- ---- the face
 
-    pub face-there : (z : ℤ) (i : ℕ) → place (sameZ z) 0 (column faceWidth faces (natAbs (h .faces))) ≡ At i → (z ≡ pos (faceAt faces i)) × (faceAt faces i ≤ 999999) × (noFace (mapOf (lent nodes edges faces h)) z ≡ false)
+    pub face-there : (z : ℤ) (i : ℕ) → place (sameZ z) 0 (column faceWidth faces (natAbs (h .faces))) ≡ At i
+        → (z ≡ pos (faceAt faces i)) × (faceAt faces i ≤ 999999) × (noFace (mapOf (lent nodes edges faces h)) z ≡ false)
     face-there z i e =
         let r = face-rows (k .named .in-order) in
         let f = face-found faces (natAbs (h .faces)) (r .ranges) z i e in
-        let n = face-number-in r i (f .0) .1 in
-        (f .1, omega (arith, n), ap (λ (m : Map). noFace m z) (map-is nodes edges faces h) ∙ ap₂ (λ (a b : Bool). not (a && b)) (ap nonNeg (f .1)) (f .2))
+        let n = face-number-in r i (f .0) .1 in (
+          f .1,
+          omega (arith, n),
+          ap (λ (m : Map). noFace m z) (map-is nodes edges faces h)
+              ∙ ap₂ (λ (a b : Bool). not (a && b)) (ap nonNeg (f .1)) (f .2),
+        )
 
-    pub face-none : (z : ℤ) → place (sameZ z) 0 (column faceWidth faces (natAbs (h .faces))) ≡ Missing → noFace (mapOf (lent nodes edges faces h)) z ≡ true
-    face-none (pos m) e = ap (λ (x : Map). noFace x (pos m)) (map-is nodes edges faces h) ∙ ap not (face-missing faces (natAbs (h .faces)) (face-rows (k .named .in-order) .ranges) m e)
+    pub face-none : (z : ℤ) → place (sameZ z) 0 (column faceWidth faces (natAbs (h .faces))) ≡ Missing
+        → noFace (mapOf (lent nodes edges faces h)) z ≡ true
+    face-none (pos m) e = ap (λ (x : Map). noFace x (pos m)) (map-is nodes edges faces h)
+        ∙ ap not (face-missing faces (natAbs (h .faces)) (face-rows (k .named .in-order) .ranges) m e)
     face-none (negsuc m) e = refl

@@ -7,7 +7,7 @@ use Prim.Native.Nat.{ℕ, _+_, _*_, _-_, _<_, _≤_}
 use lib.IntN.{ℤ}
 use lib.ListN.{length, getD}
 use Rattle.lists.specs.Tests.{same}
-use Rattle.lists.specs.Scans.{any, keep}
+use Rattle.lists.specs.Scans.{anyOf, keep}
 use Rattle.lists.specs.Members.{Distinct}
 use Rattle.lists.specs.Tables.{table}
 use Rattle.planar_maps.specs.Map.{Dart, Linked}
@@ -37,18 +37,21 @@ onRing l n p q = among (ringAt l n p) (dartAt l q)
 
 -- d is the first member of its ring
 abbrev pub isFirst : List ℤ → ℕ → Dart → Bool
-isFirst l n d = not (any (λ c. lower c d) (ring (edgeMap l n) d))
+isFirst l n d = not (anyOf (λ c. lower c d) (ring (edgeMap l n) d))
 
 -- the marks after p positions: those of the rings of the face that were met
 pub record Marked (l : List ℤ) (n f p : ℕ) (marks : List ℕ) : Type 0 where
   pub room : length marks ≡ 4000
-  pub by : (q : ℕ) → q < n * 2 → (getD marks q 0 ≡ 0 → ⊥) → (k : ℕ) × (k < p) × (borne l n k ≡ f) × (onRing l n k q ≡ true)
+  pub by : (q : ℕ) → q < n * 2 → (getD marks q 0 ≡ 0 → ⊥) → (k : ℕ) × (k < p) × (borne l n k ≡ f)
+      × (onRing l n k q ≡ true)
   pub at : (k q : ℕ) → k < p → q < n * 2 → borne l n k ≡ f → onRing l n k q ≡ true → getD marks q 0 ≡ 0 → ⊥
 
 -- the rings of the face whose first members stand from position p on, as they are written
 abbrev pub left : List ℤ → ℕ → ℕ → ℕ → List ℤ
-left l n f p = flatMap (λ d. ringNumbers (ring (edgeMap l n) d)) (keep (λ d. same (bears (edgeMap l n) d) f) (keep (isFirst l n) (table (dartAt l) p (n * 2 - p))))
+left l n f p = flatMap (λ d. ringNumbers (ring (edgeMap l n) d))
+    (keep (λ d. same (bears (edgeMap l n) d) f) (keep (isFirst l n) (table (dartAt l) p (n * 2 - p))))
 
 -- r numbers are written at position p: none, or the ring of p
 abbrev pub Size : List ℤ → ℕ → ℕ → ℕ → ℕ → Type 0
-Size l n f p r = ((r ≡ 0) × (left l n f p ≡ left l n f (p + 1))) ⊎ ((r ≡ length (ringAt l n p) + 1) × (left l n f p ≡ ringNumbers (ringAt l n p) ++ left l n f (p + 1)))
+Size l n f p r = ((r ≡ 0) × (left l n f p ≡ left l n f (p + 1)))
+    ⊎ ((r ≡ length (ringAt l n p) + 1) × (left l n f p ≡ ringNumbers (ringAt l n p) ++ left l n f (p + 1)))

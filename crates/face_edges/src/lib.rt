@@ -11,12 +11,15 @@ ghost use Rattle.tables.specs.Tables.{edgeMap};
 ghost use Rattle.form_ranges.specs.Ranges.{lent};
 ghost use Rattle.face_edges.specs.Listing.{Rings, Marked, Size};
 
-// How many numbers the ring of p takes, where p is the first member of a ring of the face, and 0 elsewhere; the ring is marked.
+// How many numbers the ring of p takes, where p is the first member of a ring of the face, and 0 elsewhere; the ring is
+// marked.
 fn ring_size(edges: &[i64], count: usize, face: usize, p: usize, marks: &mut [u8]) -> usize
-    requires { ⌜ Rings (now edges) count × (face ≤ 999999) × (p < count * 2) × Marked (now edges) count face p (now marks) ⌝ }
-    ensures { λ r. ⌜ Marked (now (edges .entry)) count face (p + 1) (now (marks .exit)) × Size (now (edges .entry)) count face p r ⌝ }
+    requires { ⌜ Rings (now edges) count × (face ≤ 999999) × (p < count * 2)
+        × Marked (now edges) count face p (now marks) ⌝ }
+    ensures { λ r. ⌜ Marked (now (edges .entry)) count face (p + 1) (now (marks .exit))
+        × Size (now (edges .entry)) count face p r ⌝ }
 {
-    if (darts::dart_cell(edges, p, 5) == face as i64) & (marks[p] == 0) {
+    if (darts::dart_cell(edges, p, map::LEFT) == face as i64) & (marks[p] == 0) {
         return rings::mark_ring(edges, count, p, 1, marks) + 1;
     }
     0
@@ -27,7 +30,7 @@ fn rings_size(edges: &[i64], count: usize, face: usize) -> usize
     requires { ⌜ Rings (now edges) count × (face ≤ 999999) ⌝ }
     ensures { λ r. ⌜ (r ≡ length (faceEdges (edgeMap (now (edges .entry)) count) face)) × (r ≤ 20000000) ⌝ }
 {
-    let mut marks = [0u8; 4000];
+    let mut marks = [0u8; map::DARTS];
     let mut size: usize = 0;
     for p in 0..count * 2 {
         size += ring_size(edges, count, face, p, &mut marks);
@@ -37,10 +40,12 @@ fn rings_size(edges: &[i64], count: usize, face: usize) -> usize
 
 // The rings of the face written from the front of the list.
 fn write_rings(edges: &[i64], count: usize, face: usize, list: &mut [i64])
-    requires { ⌜ Rings (now edges) count × (face ≤ 999999) × (length (faceEdges (edgeMap (now edges) count) face) ≤ length (now list)) ⌝ }
-    ensures { λ r. ⌜ now (list .exit) ≡ faceEdges (edgeMap (now (edges .entry)) count) face ++ drop (length (faceEdges (edgeMap (now (edges .entry)) count) face)) (now (list .entry)) ⌝ }
+    requires { ⌜ Rings (now edges) count × (face ≤ 999999)
+        × (length (faceEdges (edgeMap (now edges) count) face) ≤ length (now list)) ⌝ }
+    ensures { λ r. ⌜ now (list .exit) ≡ faceEdges (edgeMap (now (edges .entry)) count) face
+        ++ drop (length (faceEdges (edgeMap (now (edges .entry)) count) face)) (now (list .entry)) ⌝ }
 {
-    let mut marks = [0u8; 4000];
+    let mut marks = [0u8; map::DARTS];
     let mut at: usize = 0;
     for p in 0..count * 2 {
         let n = ring_size(edges, count, face, p, &mut marks);
@@ -58,7 +63,8 @@ fn answered(refusal: u64, value: i64) -> Answer
     Answer { refusal, value }
 }
 
-// The value is the count of numbers written; the list's remainder is untouched, and all of it where the call is turned down.
+// The value is the count of numbers written; the list's remainder is untouched, and all of it where the call is turned
+// down.
 pub fn edges_of_face(
     nodes: &[i64],
     edges: &[i64],
@@ -67,7 +73,9 @@ pub fn edges_of_face(
     face: i64,
     list: &mut [i64],
 ) -> Answer
-    ensures { λ r. ⌜ record { list = now (list .exit); answer = r } ≡ edgesOfFace (lent (now (nodes .entry)) (now (edges .entry)) (now (faces .entry)) h) face (now (list .entry)) ⌝ }
+    ensures { λ r. ⌜ record { list = now (list .exit); answer = r }
+        ≡ edgesOfFace (lent (now (nodes .entry)) (now (edges .entry)) (now (faces .entry)) h) face
+        (now (list .entry)) ⌝ }
 {
     if !form_ranges::is_whole(nodes, edges, faces) {
         return answered(1, 0);
@@ -76,7 +84,7 @@ pub fn edges_of_face(
         return answered(2, 0);
     }
     let c = form_ranges::counts_of(h);
-    let found = tables::find_row(faces, 1, c.faces, face);
+    let found = tables::find_row(faces, map::FACE_WIDTH, c.faces, face);
     let Found::At(i) = found else {
         return answered(4, 0);
     };

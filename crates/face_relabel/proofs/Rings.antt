@@ -1,10 +1,11 @@
--- Where the links name each directed edge once, two rings are one or have nothing in common, and where each link keeps the face, a ring bears one.
--- Assumes nothing.
+-- Where the links name each directed edge once, two rings are one or have nothing in common, and where each link keeps
+-- the face, a ring bears one. Assumes nothing.
 use mathlib.Core.Path.{_≡_, refl, sym, ap, _∙_, subst}
 use mathlib.Core.Logic.{_⊎_, inl, inr}
 use mathlib.Core.Bool.{Bool, true, false, cond}
 use mathlib.Core.Option.{Option·getD, some}
-use mathlib.Core.List.{List, [], _∷_, map, map-map, List·Memᴰ, List·Memᴰ·head, List·Memᴰ·tail, List·Memᴰ·cases-cons, List·Memᴰ·not-nil, List·Permᴰ}
+use mathlib.Core.List.{List, [], _∷_, map, map-map, List·Memᴰ, List·Memᴰ·head, List·Memᴰ·tail, List·Memᴰ·cases-cons}
+use mathlib.Core.List.{List·Memᴰ·not-nil, List·Permᴰ}
 use Prim.Native.Nat.{ℕ, zero, suc, _*_, _≤_, min}
 use native.Mathlib.Omega.{arith}
 use lib.ListN.{length, length-map}
@@ -37,20 +38,41 @@ module _ (m k : Map) (h : (d : Dart) → next m d ≡ next k d) where
 -- ---- the map with every edge a loop at node 0: its rings are the map's, and its links meet
 
 abbrev loop : Edge → Edge
-loop e = record { number = e .number; start = 0; end = 0; nextLeft = e .nextLeft; nextRight = e .nextRight; left = e .left; right = e .right; curve = e .curve }
+loop e = record {
+  number = e .number;
+  start = 0;
+  end = 0;
+  nextLeft = e .nextLeft;
+  nextRight = e .nextRight;
+  left = e .left;
+  right = e .right;
+  curve = e .curve;
+}
 
 abbrev bare : Map → Map
 bare m = setEdges (map loop (m .edges)) m
 
 abbrev noEdge : Edge
-noEdge = record { number = 0; start = 0; end = 0; nextLeft = fwd 0; nextRight = fwd 0; left = 0; right = 0; curve = through [] }
+noEdge = record {
+  number = 0;
+  start = 0;
+  end = 0;
+  nextLeft = fwd 0;
+  nextRight = fwd 0;
+  left = 0;
+  right = 0;
+  curve = through [];
+}
 
-find-loop : (k : ℕ) (es : List Edge) → Option·getD (find (λ r. same (r .number) k) (map loop es)) noEdge ≡ loop (Option·getD (find (λ r. same (r .number) k) es) noEdge)
+find-loop : (k : ℕ) (es : List Edge) → Option·getD (find (λ r. same (r .number) k) (map loop es)) noEdge
+    ≡ loop (Option·getD (find (λ r. same (r .number) k) es) noEdge)
 find-loop k [] = refl
 find-loop k (r ∷ es) = pick (same (r .number) k) (find-loop k es)
   where
-    pick : (b : Bool) → Option·getD (find (λ r. same (r .number) k) (map loop es)) noEdge ≡ loop (Option·getD (find (λ r. same (r .number) k) es) noEdge)
-        → Option·getD (cond b (some (loop r)) (find (λ r. same (r .number) k) (map loop es))) noEdge ≡ loop (Option·getD (cond b (some r) (find (λ r. same (r .number) k) es)) noEdge)
+    pick : (b : Bool) → Option·getD (find (λ r. same (r .number) k) (map loop es)) noEdge
+        ≡ loop (Option·getD (find (λ r. same (r .number) k) es) noEdge)
+        → Option·getD (cond b (some (loop r)) (find (λ r. same (r .number) k) (map loop es))) noEdge
+        ≡ loop (Option·getD (cond b (some r) (find (λ r. same (r .number) k) es)) noEdge)
     pick true later = refl
     pick false later = later
 
@@ -85,7 +107,8 @@ loops-at : (es : List Edge) (a : Arc) → List·Memᴰ a (map arcOf (map loop es
 loops-at [] a k = absurd (List·Memᴰ·not-nil k)
 loops-at (e ∷ es) a k = go (List·Memᴰ·cases-cons k) (loops-at es a)
   where
-    go : (a ≡ arcOf (loop e)) ⊎ List·Memᴰ a (map arcOf (map loop es)) → (List·Memᴰ a (map arcOf (map loop es)) → (a .from ≡ 0) × (a .to ≡ 0)) → (a .from ≡ 0) × (a .to ≡ 0)
+    go : (a ≡ arcOf (loop e)) ⊎ List·Memᴰ a (map arcOf (map loop es))
+        → (List·Memᴰ a (map arcOf (map loop es)) → (a .from ≡ 0) × (a .to ≡ 0)) → (a .from ≡ 0) × (a .to ≡ 0)
     go (inl q) later = (ap (λ (a : Arc). a .from) q, ap (λ (a : Arc). a .to) q)
     go (inr j) later = later j
 
@@ -94,11 +117,13 @@ loops-at (e ∷ es) a k = go (List·Memᴰ·cases-cons k) (loops-at es a)
 -- an edge that is no higher than any is the lowest
 pub lowest-here : (e : ℕ) (r : List Dart) → ((x : Dart) → List·Memᴰ x r → e ≤ x .edge) → lowestEdge e r ≡ e
 lowest-here e [] h = refl
-lowest-here e (d ∷ r) h = let q : min e (d .edge) ≡ e = omega (arith, h d (List·Memᴰ·head refl)) in rw q (lowest-here e r (λ x k. h x (List·Memᴰ·tail k)))
+lowest-here e (d ∷ r) h = let q : min e (d .edge) ≡ e = omega (arith, h d (List·Memᴰ·head refl)) in
+    rw q (lowest-here e r (λ x k. h x (List·Memᴰ·tail k)))
 
 -- ---- rings
 
-module _ (m : Map) (dis : Distinct (map (λ e. e .number) (m .edges))) (once : linksOnce m ≡ true) (one : ringsBearOne m ≡ true) where
+module _ (m : Map) (dis : Distinct (map (λ e. e .number) (m .edges))) (once : linksOnce m ≡ true)
+    (one : ringsBearOne m ≡ true) where
   here : {d : Dart} → List·Memᴰ d (directed m) → List·Memᴰ d (directed (bare m))
   here {d} k = subst (λ (ds : List Dart). List·Memᴰ d ds) (sym (directed-loop (m .edges))) k
 
@@ -110,28 +135,36 @@ module _ (m : Map) (dis : Distinct (map (λ e. e .number) (m .edges))) (once : l
       record {
         starts = λ a k. leaves-bare m (fwd (a .num)) ∙ sym (loops-at (m .edges) a k .0);
         ends = λ a k. leaves-bare m (bwd (a .num)) ∙ sym (loops-at (m .edges) a k .1);
-        perm = subst (λ (ds : List Dart). List·Permᴰ (map (next (bare m)) ds) ds) (sym (directed-loop (m .edges))) (subst (λ (f : Dart → Dart). List·Permᴰ (map f (directed m)) (directed m)) (sym (nexts-bare m)) (links-perm m (rw (nums-rows m) dis) once));
+        perm = subst (λ (ds : List Dart). List·Permᴰ (map (next (bare m)) ds) ds) (sym (directed-loop (m .edges)))
+            (subst (λ (f : Dart → Dart). List·Permᴰ (map f (directed m)) (directed m)) (sym (nexts-bare m))
+            (links-perm m (rw (nums-rows m) dis) once));
         meets = λ d k. leaves-bare m (next (bare m) d) ∙ sym (leaves-bare m _);
-        keeps = λ d k. bears-bare m (next (bare m) d) ∙ ap (bears m) (next-bare m d) ∙ links-keep m one d (back k) ∙ sym (bears-bare m d);
+        keeps = λ d k. bears-bare m (next (bare m) d) ∙ ap (bears m) (next-bare m d) ∙ links-keep m one d (back k)
+            ∙ sym (bears-bare m d);
       }
 
   once-bare : Distinct (nums (arcs (bare m)))
   once-bare = rw (nums-rows (bare m), map-map (λ (e : Edge). e .number) loop (m .edges)) dis
 
   -- what is alike along `next` is alike all over a ring
-  along : {A : Type 0} (f : Dart → A) → ((x : Dart) → List·Memᴰ x (directed (bare m)) → f (next (bare m) x) ≡ f x) → {d x : Dart} → List·Memᴰ d (directed (bare m)) → Leads (next (bare m)) d x → List·Memᴰ x (directed (bare m)) × (f x ≡ f d)
+  along : {A : Type 0} (f : Dart → A) → ((x : Dart) → List·Memᴰ x (directed (bare m)) → f (next (bare m) x) ≡ f x)
+      → {d x : Dart} → List·Memᴰ d (directed (bare m)) → Leads (next (bare m)) d x → List·Memᴰ x (directed (bare m))
+      × (f x ≡ f d)
   along {A} f h {d} {x} i r = subst (λ (y : Dart). List·Memᴰ y (directed (bare m)) × (f y ≡ f d)) (r .1) (go (r .0))
     where
-      go : (k : ℕ) → List·Memᴰ (iterate k (next (bare m)) d) (directed (bare m)) × (f (iterate k (next (bare m)) d) ≡ f d)
+      go : (k : ℕ) → List·Memᴰ (iterate k (next (bare m)) d) (directed (bare m))
+          × (f (iterate k (next (bare m)) d) ≡ f d)
       go zero = (i, refl)
       go (suc k) = let q = go k in (next-in linked (q .0), h (iterate k (next (bare m)) d) (q .0) ∙ q .1)
 
   pub ring-self : (d : Dart) → List·Memᴰ d (directed m) → among (ring m d) d ≡ true
-  ring-self d i = ap (λ (r : List Dart). among r d) (sym (ring-bare m d)) ∙ among-has (ring (bare m) d) (ring-here (bare m) linked once-bare d (here i))
+  ring-self d i = ap (λ (r : List Dart). among r d) (sym (ring-bare m d))
+      ∙ among-has (ring (bare m) d) (ring-here (bare m) linked once-bare d (here i))
 
   module _ (d x : Dart) (i : List·Memᴰ d (directed m)) (on : among (ring m d) x ≡ true) where
     leads : Leads (next (bare m)) d x
-    leads = ring-leads (bare m) linked once-bare d (here i) (among-in (ring (bare m) d) x (ap (λ (r : List Dart). among r x) (ring-bare m d) ∙ on))
+    leads = ring-leads (bare m) linked once-bare d (here i)
+        (among-in (ring (bare m) d) x (ap (λ (r : List Dart). among r x) (ring-bare m d) ∙ on))
 
     pub ring-in : List·Memᴰ x (directed m)
     ring-in = back (along (bears (bare m)) (linked .keeps) (here i) leads .0)
@@ -148,4 +181,5 @@ module _ (m : Map) (dis : Distinct (map (λ e. e .number) (m .edges))) (once : l
 
     pub ring-lowest : lowestEdge (x .edge) (ring m x) ≡ lowestEdge (d .edge) (ring m d)
     ring-lowest =
-        ap (lowestEdge (x .edge)) (sym (ring-bare m x)) ∙ lowest-same (bare m) linked once-bare (here i) leads ∙ ap (lowestEdge (d .edge)) (ring-bare m d)
+        ap (lowestEdge (x .edge)) (sym (ring-bare m x)) ∙ lowest-same (bare m) linked once-bare (here i) leads
+        ∙ ap (lowestEdge (d .edge)) (ring-bare m d)

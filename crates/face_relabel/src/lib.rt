@@ -10,7 +10,8 @@ ghost use Rattle.lists.specs.Tables.{sweep};
 ghost use Rattle.plane.specs.Points.{InRange};
 ghost use Rattle.tables.specs.Tables.{EdgeRows, replaceAt, edgeAt};
 ghost use Rattle.darts.specs.Positions.{sideCell};
-ghost use Rattle.face_relabel.specs.Sharing.{Ringed, Shared, Placed, placeAt, Whole, encloses as enclosedBy, startOf, markOf, ringMark, sideShared, nodeShared, edgeShared};
+ghost use Rattle.face_relabel.specs.Sharing.{Ringed, Shared, Placed, placeAt, Whole, encloses as enclosedBy};
+ghost use Rattle.face_relabel.specs.Sharing.{startOf, markOf, ringMark, sideShared, nodeShared, edgeShared};
 
 // A face to share out: its number, a directed edge on the reference side and its ring's numbers for the two sides.
 pub struct Sides {
@@ -37,8 +38,8 @@ fn point_in(nodes: &[i64], i: usize) -> Point
     requires { ⌜ Placed (now nodes) i ⌝ }
     ensures { λ r. ⌜ (r ≡ placeAt (now (nodes .entry)) i) × InRange r ⌝ }
 {
-    let x = nodes[i * 4 + 1];
-    let y = nodes[i * 4 + 2];
+    let x = nodes[i * map::NODE_WIDTH + map::X];
+    let y = nodes[i * map::NODE_WIDTH + map::Y];
     Point {
         x: x as u64,
         y: y as u64,
@@ -48,22 +49,30 @@ fn point_in(nodes: &[i64], i: usize) -> Point
 // Isolated nodes of the old face.
 pub fn share_nodes(nodes: &mut [i64], n: usize, edges: &[i64], count: usize, s: Sides)
     requires { ⌜ Shared (now nodes) n (now edges) count s ⌝ }
-    ensures { λ r. ⌜ now (nodes .exit) ≡ sweep (nodeShared (now (nodes .entry)) n (now (edges .entry)) count s) (now (nodes .entry)) 0 n ⌝ }
+    ensures { λ r. ⌜ now (nodes .exit) ≡ sweep (nodeShared (now (nodes .entry)) n (now (edges .entry)) count s)
+        (now (nodes .entry)) 0 n ⌝ }
 {
     for i in 0..n {
-        if nodes[i * 4 + 3] == s.old {
+        if nodes[i * map::NODE_WIDTH + map::NODE_FACE] == s.old {
             let side = side_of(edges, count, s, point_in(nodes, i));
-            nodes[i * 4 + 3] = side;
+            nodes[i * map::NODE_WIDTH + map::NODE_FACE] = side;
         }
     }
 }
 
-// The mark of a ring whose lowest edge is row i, by the start node of that edge: 1 for the reference side, 2 for the other.
+// The mark of a ring whose lowest edge is row i, by the start node of that edge: 1 for the reference side, 2 for the
+// other.
 fn mark_of_ring(nodes: &[i64], n: usize, edges: &[i64], count: usize, s: Sides, i: usize) -> u8
     requires { ⌜ Shared (now nodes) n (now edges) count s × (i < count) ⌝ }
-    ensures { λ r. ⌜ r ≡ markOf (now (edges .entry)) count (s .ring) (startOf (now (nodes .entry)) n (edgeAt (now (edges .entry)) i)) ⌝ }
+    ensures { λ r. ⌜ r ≡ markOf (now (edges .entry)) count (s .ring)
+        (startOf (now (nodes .entry)) n (edgeAt (now (edges .entry)) i)) ⌝ }
 {
-    let found = tables::find_row(nodes, 4, n, edges[i * 32 + 1]);
+    let found = tables::find_row(
+        nodes,
+        map::NODE_WIDTH,
+        n,
+        edges[i * map::EDGE_WIDTH + map::START],
+    );
     let Found::At(k) = found else {
         return 2;
     };
@@ -76,11 +85,15 @@ fn mark_of_ring(nodes: &[i64], n: usize, edges: &[i64], count: usize, s: Sides, 
 
 // The rings of the old face that are not marked, marked by their sides.
 fn mark_sides(nodes: &[i64], n: usize, edges: &[i64], count: usize, s: Sides, marks: &mut [u8])
-    requires { ⌜ Shared (now nodes) n (now edges) count s × Ringed (now edges) count × Whole (now edges) count (now marks) ⌝ }
-    ensures { λ r. ⌜ (length (now (marks .exit)) ≡ length (now (marks .entry))) × ((q : ℕ) → q < count * 2 → sideCell (now (edges .entry)) q 5 ≡ s .old → getD (now (marks .exit)) q 0 ≡ cond (same (getD (now (marks .entry)) q 0) 0) (ringMark (now (nodes .entry)) n (now (edges .entry)) count (s .ring) q) (getD (now (marks .entry)) q 0)) ⌝ }
+    requires { ⌜ Shared (now nodes) n (now edges) count s × Ringed (now edges) count
+        × Whole (now edges) count (now marks) ⌝ }
+    ensures { λ r. ⌜ (length (now (marks .exit)) ≡ length (now (marks .entry)))
+        × ((q : ℕ) → q < count * 2 → sideCell (now (edges .entry)) q 5 ≡ s .old → getD (now (marks .exit)) q 0
+        ≡ cond (same (getD (now (marks .entry)) q 0) 0)
+        (ringMark (now (nodes .entry)) n (now (edges .entry)) count (s .ring) q) (getD (now (marks .entry)) q 0)) ⌝ }
 {
     for p in 0..count * 2 {
-        if (darts::dart_cell(edges, p, 5) == s.old) & (marks[p] == 0) {
+        if (darts::dart_cell(edges, p, map::LEFT) == s.old) & (marks[p] == 0) {
             let side = mark_of_ring(nodes, n, edges, count, s, p / 2);
             rings::mark_ring(edges, count, p, side, marks);
         }
@@ -97,11 +110,12 @@ fn number_of(s: Sides, mark: u8) -> i64
 // The directed edges of the old face bear the number of their side.
 fn write_sides(edges: &mut [i64], count: usize, s: Sides, marks: &[u8])
     requires { ⌜ (count * 32 ≤ length (now edges)) × (count * 2 ≤ length (now marks)) ⌝ }
-    ensures { λ r. ⌜ now (edges .exit) ≡ sweep (sideShared s (now (marks .entry))) (now (edges .entry)) 0 (count * 2) ⌝ }
+    ensures { λ r. ⌜ now (edges .exit) ≡ sweep (sideShared s (now (marks .entry))) (now (edges .entry)) 0
+        (count * 2) ⌝ }
 {
     for p in 0..count * 2 {
-        if darts::dart_cell(edges, p, 5) == s.old {
-            darts::set_dart_cell(edges, p, 5, number_of(s, marks[p]));
+        if darts::dart_cell(edges, p, map::LEFT) == s.old {
+            darts::set_dart_cell(edges, p, map::LEFT, number_of(s, marks[p]));
         }
     }
 }
@@ -116,9 +130,10 @@ pub fn share_edges(
     across: usize,
 )
     requires { ⌜ Shared (now nodes) n (now edges) count s × Ringed (now edges) count × (across < count * 2) ⌝ }
-    ensures { λ r. ⌜ now (edges .exit) ≡ sweep (edgeShared (now (nodes .entry)) n (now (edges .entry)) count s across) (now (edges .entry)) 0 (count * 2) ⌝ }
+    ensures { λ r. ⌜ now (edges .exit) ≡ sweep (edgeShared (now (nodes .entry)) n (now (edges .entry)) count s across)
+        (now (edges .entry)) 0 (count * 2) ⌝ }
 {
-    let mut marks = [0u8; 4000];
+    let mut marks = [0u8; map::DARTS];
     rings::mark_ring(edges, count, across, 2, &mut marks);
     rings::mark_ring(edges, count, s.ring, 1, &mut marks);
     mark_sides(nodes, n, edges, count, s, &mut marks);
@@ -128,9 +143,11 @@ pub fn share_edges(
 // `new` for the face `old` in all rows of nodes and edges.
 pub fn rename_face(nodes: &mut [i64], n: usize, edges: &mut [i64], count: usize, old: i64, new: i64)
     requires { ⌜ (n * 4 ≤ length (now nodes)) × (count * 32 ≤ length (now edges)) ⌝ }
-    ensures { λ r. ⌜ (now (nodes .exit) ≡ sweep (λ l i. replaceAt old new l (i * 4 + 3)) (now (nodes .entry)) 0 n) × (now (edges .exit) ≡ sweep (λ l i. replaceAt old new l (i * 32 + 6)) (sweep (λ l i. replaceAt old new l (i * 32 + 5)) (now (edges .entry)) 0 count) 0 count) ⌝ }
+    ensures { λ r. ⌜ (now (nodes .exit) ≡ sweep (λ l i. replaceAt old new l (i * 4 + 3)) (now (nodes .entry)) 0 n)
+        × (now (edges .exit) ≡ sweep (λ l i. replaceAt old new l (i * 32 + 6))
+        (sweep (λ l i. replaceAt old new l (i * 32 + 5)) (now (edges .entry)) 0 count) 0 count) ⌝ }
 {
-    tables::replace_column(nodes, 4, n, 3, old, new);
-    tables::replace_column(edges, 32, count, 5, old, new);
-    tables::replace_column(edges, 32, count, 6, old, new);
+    tables::replace_column(nodes, map::NODE_WIDTH, n, map::NODE_FACE, old, new);
+    tables::replace_column(edges, map::EDGE_WIDTH, count, map::LEFT, old, new);
+    tables::replace_column(edges, map::EDGE_WIDTH, count, map::RIGHT, old, new);
 }

@@ -10,7 +10,7 @@ use lib.IntN.{ℤ, pos, natAbs}
 use lib.ListN.{length, getD, set, take, drop, replicate}
 use lib.Seq.{paste, set-split}
 use Rattle.lists.specs.Tests.{same}
-use Rattle.lists.specs.Scans.{any, all}
+use Rattle.lists.specs.Scans.{anyOf, allOf}
 use Rattle.lists.specs.Members.{Distinct}
 use Rattle.lists.specs.Tables.{place}
 use Rattle.lists.specs.declared.Found.the-variants.{At, Missing}
@@ -43,12 +43,13 @@ cells-back : (fs : List ℕ) → map faceRowOf (map faceCells fs) ≡ fs
 cells-back [] = refl
 cells-back (f ∷ fs) = ap (λ (r : List ℕ). f ∷ r) (cells-back fs)
 
-cells-ranges : (fs : List ℕ) → all faceRanges (map faceCells fs) ≡ true
+cells-ranges : (fs : List ℕ) → allOf faceRanges (map faceCells fs) ≡ true
 cells-ranges [] = refl
 cells-ranges (f ∷ fs) = cells-ranges fs
 
 pub faces-read : (N : ℕ) (fs : List ℕ) {l : List ℤ} → facesIn N fs ≡ l → facesOf l (length fs) ≡ fs
-faces-read N fs e = ap (λ (r : List ℤ). facesOf r (length fs)) (sym e) ∙ ap (map faceRowOf) (rows-in N fs) ∙ cells-back fs
+faces-read N fs e = ap (λ (r : List ℤ). facesOf r (length fs)) (sym e) ∙ ap (map faceRowOf) (rows-in N fs)
+    ∙ cells-back fs
 
 map-self : (fs : List ℕ) → map (λ (f : ℕ). f) fs ≡ fs
 map-self [] = refl
@@ -56,22 +57,27 @@ map-self (f ∷ fs) = ap (λ (r : List ℕ). f ∷ r) (map-self fs)
 
 -- ---- one face out of the list
 
-any-none : (f : ℕ) (fs : List ℕ) → any (same f) fs ≡ false → (g : ℕ) → List·Memᴰ g fs → not (same g f) ≡ true
+any-none : (f : ℕ) (fs : List ℕ) → anyOf (same f) fs ≡ false → (g : ℕ) → List·Memᴰ g fs → not (same g f) ≡ true
 any-none f fs h g i = ap not (same-false g f (λ e. true≢false (sym (any-in fs i e) ∙ h)))
   where
-    any-in : (gs : List ℕ) → List·Memᴰ g gs → g ≡ f → any (same f) gs ≡ true
+    any-in : (gs : List ℕ) → List·Memᴰ g gs → g ≡ f → anyOf (same f) gs ≡ true
     any-in (x ∷ gs) (List·Memᴰ·head e) q = rw (same-eq f x (sym q ∙ e))
-    any-in (x ∷ gs) (List·Memᴰ·tail k) q = let later = any-in gs k q in elim (which (same f x)) [ inl t ↦ rw t | inr t ↦ rw t later ]
+    any-in (x ∷ gs) (List·Memᴰ·tail k) q = let later = any-in gs k q in
+        elim (which (same f x)) [ inl t ↦ rw t | inr t ↦ rw t later ]
 
 -- a face that is there is one of them
-pub without-length : (f : ℕ) (fs : List ℕ) → Distinct fs → any (same f) fs ≡ true → length (withoutFace f fs) + 1 ≡ length fs
+pub without-length : (f : ℕ) (fs : List ℕ) → Distinct fs → anyOf (same f) fs ≡ true → length (withoutFace f fs) + 1
+    ≡ length fs
 without-length f [] dis h = absurd (true≢false (sym h))
 without-length f (g ∷ fs) dis h = go (same g f) refl (without-length f fs (dis .1))
   where
-    go : (b : Bool) → same g f ≡ b → (any (same f) fs ≡ true → length (withoutFace f fs) + 1 ≡ length fs) → length (withoutFace f (g ∷ fs)) + 1 ≡ length (g ∷ fs)
+    go : (b : Bool) → same g f ≡ b → (anyOf (same f) fs ≡ true → length (withoutFace f fs) + 1 ≡ length fs)
+        → length (withoutFace f (g ∷ fs)) + 1 ≡ length (g ∷ fs)
     go true e rest =
         let is = same-true g f e in
-        let others : withoutFace f fs ≡ fs = keep-all (λ x. not (same x f)) fs (λ x k. ap not (same-false x f (λ q. dis .0 (subst (λ (y : ℕ). List·Memᴰ y fs) (q ∙ sym is) k)))) in
+        let others : withoutFace f fs ≡ fs =
+        keep-all (λ x. not (same x f)) fs
+        (λ x k. ap not (same-false x f (λ q. dis .0 (subst (λ (y : ℕ). List·Memᴰ y fs) (q ∙ sym is) k)))) in
         let short : withoutFace f (g ∷ fs) ≡ fs = rw e others in
         rw short (omega arith)
     go false e rest =
@@ -80,11 +86,14 @@ without-length f (g ∷ fs) dis h = go (same g f) refl (without-length f fs (dis
         rw short (omega arith)
 
 -- another face that was there is there still
-pub still-there : (f g : ℕ) (fs : List ℕ) → (f ≡ g → ⊥) → any (same g) fs ≡ true → any (same g) (withoutFace f fs) ≡ true
+pub still-there : (f g : ℕ) (fs : List ℕ) → (f ≡ g → ⊥) → anyOf (same g) fs ≡ true → anyOf (same g) (withoutFace f fs)
+    ≡ true
 still-there f g [] ne h = h
 still-there f g (x ∷ fs) ne h = go (same x f) (same g x) refl refl (still-there f g fs ne)
   where
-    go : (a b : Bool) → same x f ≡ a → same g x ≡ b → (any (same g) fs ≡ true → any (same g) (withoutFace f fs) ≡ true) → any (same g) (withoutFace f (x ∷ fs)) ≡ true
+    go : (a b : Bool) → same x f ≡ a → same g x ≡ b
+        → (anyOf (same g) fs ≡ true → anyOf (same g) (withoutFace f fs) ≡ true)
+        → anyOf (same g) (withoutFace f (x ∷ fs)) ≡ true
     go true true e k rest = absurd (ne (sym (same-true g x k ∙ same-true x f e)))
     go true false e k rest = rw e (rest (rw k at h))
     go false true e k rest = rw (e, k)
@@ -106,38 +115,52 @@ module _ {N : ℕ} {fs : List ℕ} {l : List ℤ} (t : FaceTable N fs l) where
   face-rows =
       record {
         fits = let f = t .fits in let e = table-long in omega arith;
-        ranges = ap (λ (r : List ℤ). all faceRanges (rows faceWidth (length fs) r)) (sym (t .cells)) ∙ ap (all faceRanges) (rows-in N fs) ∙ cells-ranges fs;
+        ranges = ap (λ (r : List ℤ). allOf faceRanges (rows faceWidth (length fs) r)) (sym (t .cells))
+            ∙ ap (allOf faceRanges) (rows-in N fs) ∙ cells-ranges fs;
         rising = ap (numbered 0 (suc lastNumber)) (faces-read N fs (t .cells)) ∙ t .rising;
       }
 
   module _ (f : ℕ) where
     less-rising : numbered 0 (suc lastNumber) (withoutFace f fs) ≡ true
-    less-rising = scanning.rising-numbered 0 (suc lastNumber) (withoutFace f fs) (scanning.rising-keep 0 (suc lastNumber) (λ g. not (same g f)) fs table-rising)
+    less-rising = scanning.rising-numbered 0 (suc lastNumber) (withoutFace f fs)
+        (scanning.rising-keep 0 (suc lastNumber) (λ g. not (same g f)) fs table-rising)
 
     -- the row that was found goes
-    pub found-gone : (i : ℕ) → place (sameZ (pos f)) 0 (column faceWidth l (length fs)) ≡ At i → (i < length fs) × FaceTable N (withoutFace f fs) (closed faceWidth l (length fs) i)
+    pub found-gone : (i : ℕ) → place (sameZ (pos f)) 0 (column faceWidth l (length fs)) ≡ At i → (i < length fs)
+        × FaceTable N (withoutFace f fs) (closed faceWidth l (length fs) i)
     found-gone i e =
         let r = face-found l (length fs) (face-rows .ranges) (pos f) i e in
-        let at : getD fs i 0 ≡ f = ap (λ (gs : List ℕ). getD gs i 0) (sym (faces-read N fs (t .cells))) ∙ faces-getD l (length fs) i 0 (r .0) ∙ sym (ap natAbs (r .1)) in
+        let at : getD fs i 0 ≡ f = ap (λ (gs : List ℕ). getD gs i 0) (sym (faces-read N fs (t .cells)))
+        ∙ faces-getD l (length fs) i 0 (r .0) ∙ sym (ap natAbs (r .1)) in
         let is : withoutFace f fs ≡ take i fs ++ drop (suc i) fs =
-        ap (λ (k : ℕ). withoutFace k fs) (sym at) ∙ without-at (λ (g : ℕ). g) fs (subst Distinct (sym (map-self fs)) table-distinct) i 0 (r .0) in (
+        ap (λ (k : ℕ). withoutFace k fs) (sym at)
+        ∙ without-at (λ (g : ℕ). g) fs (subst Distinct (sym (map-self fs)) table-distinct) i 0 (r .0) in (
           r .0,
           record {
-            cells = ap (facesIn N) is ∙ sym (removed-at faceWidth faceCells N fs i 0 (faces-wide fs) (r .0) (let k = t .fits in omega arith)) ∙ ap (λ (k : List ℤ). closed faceWidth k (length fs) i) (t .cells);
+            cells = ap (facesIn N) is ∙ sym
+                (removed-at faceWidth faceCells N fs i 0 (faces-wide fs) (r .0) (let k = t .fits in omega arith))
+                ∙ ap (λ (k : List ℤ). closed faceWidth k (length fs) i) (t .cells);
             rising = less-rising;
-            fits = let k = t .fits in let s = without-length f fs table-distinct (ap (any (same f)) (sym (faces-read N fs (t .cells))) ∙ r .2) in omega arith;
+            fits = let k = t .fits in let s =
+                without-length f fs table-distinct (ap (anyOf (same f)) (sym (faces-read N fs (t .cells))) ∙ r .2) in
+                omega arith;
           },
         )
 
     -- no row is found, and none goes
-    pub missing-gone : place (sameZ (pos f)) 0 (column faceWidth l (length fs)) ≡ Missing → FaceTable N (withoutFace f fs) l
+    pub missing-gone : place (sameZ (pos f)) 0 (column faceWidth l (length fs)) ≡ Missing
+        → FaceTable N (withoutFace f fs) l
     missing-gone e =
-        let is : withoutFace f fs ≡ fs = keep-all (λ g. not (same g f)) fs (any-none f fs (ap (any (same f)) (sym (faces-read N fs (t .cells))) ∙ face-missing l (length fs) (face-rows .ranges) f e)) in
+        let is : withoutFace f fs ≡ fs =
+        keep-all (λ g. not (same g f)) fs
+        (any-none f fs (ap (anyOf (same f)) (sym (faces-read N fs (t .cells)))
+        ∙ face-missing l (length fs) (face-rows .ranges) f e)) in
         subst (λ (gs : List ℕ). FaceTable N gs l) (sym is) t
 
 -- ---- a face after the last
 
-pub face-pushed : (N : ℕ) (fs : List ℕ) (l : List ℤ) (f : ℕ) → facesIn N fs ≡ l → length fs < N → facesIn N (fs ++ f ∷ []) ≡ set l (length fs) (pos f)
+pub face-pushed : (N : ℕ) (fs : List ℕ) (l : List ℤ) (f : ℕ) → facesIn N fs ≡ l → length fs < N
+    → facesIn N (fs ++ f ∷ []) ≡ set l (length fs) (pos f)
 face-pushed N fs l f e room =
     let n = length fs in
     let long = faces-long N fs (omega arith) e in

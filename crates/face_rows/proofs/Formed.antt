@@ -7,7 +7,7 @@ use native.Mathlib.Omega.{arith}
 use lib.IntN.{ℤ, pos, natAbs}
 use lib.ListN.{length}
 use Rattle.lists.specs.Tests.{same}
-use Rattle.lists.specs.Scans.{all, any}
+use Rattle.lists.specs.Scans.{allOf, anyOf}
 use Rattle.lists.proofs.Bools.{same-true}
 use Rattle.curves.proofs.Runs.{and-left, and-right}
 use Rattle.map.specs.declared.Head.{Head}
@@ -18,21 +18,24 @@ use Rattle.tables.specs.Tables.{nodesOf, edgesOf, facesOf, edgeAt}
 use Rattle.tables.proofs.Rows.{all-table, edges-table, faces-length, nodes-length, edges-length}
 use Rattle.form_ranges.specs.Ranges.{lent}
 use Rattle.outcomes.specs.Outcomes.{Formed}
-use Rattle.outcomes.proofs.Formed.{formed-map, nodes-count, edges-count, faces-count, node-next, edge-next, face-next, nodes-size, edges-size, faces-size, faces-fit, node-rows, edge-rows, face-rows, nodes-filled, edges-filled, faces-filled, lent-is}
+use Rattle.outcomes.proofs.Formed.{formed-map, nodes-count, edges-count, faces-count, node-next, edge-next, face-next}
+use Rattle.outcomes.proofs.Formed.{nodes-size, edges-size, faces-size, faces-fit, node-rows, edge-rows, face-rows}
+use Rattle.outcomes.proofs.Formed.{nodes-filled, edges-filled, faces-filled, lent-is}
 use Rattle.face_rows.specs.Holds.{facesIn, Held, Healable, Holds}
 
 -- a face that is there is one of them
-any-member : (f : ℕ) (gs : List ℕ) → any (same f) gs ≡ true → List·Memᴰ f gs
+any-member : (f : ℕ) (gs : List ℕ) → anyOf (same f) gs ≡ true → List·Memᴰ f gs
 any-member f [] e = absurd (true≢false (sym e))
 any-member f (g ∷ gs) e = go (same f g) refl (any-member f gs)
   where
-    go : (b : Bool) → same f g ≡ b → (any (same f) gs ≡ true → List·Memᴰ f gs) → List·Memᴰ f (g ∷ gs)
+    go : (b : Bool) → same f g ≡ b → (anyOf (same f) gs ≡ true → List·Memᴰ f gs) → List·Memᴰ f (g ∷ gs)
     go true k rest = List·Memᴰ·head (same-true f g k)
     go false k rest = List·Memᴰ·tail (rest (rw k at e))
 
 -- ---- tables that hold a map
 
-pub held-holds : {nodes edges faces : List ℤ} {h : Head} → Held nodes edges faces h → Holds nodes edges faces (mapOf (lent nodes edges faces h)) nodes edges faces h
+pub held-holds : {nodes edges faces : List ℤ} {h : Head} → Held nodes edges faces h
+    → Holds nodes edges faces (mapOf (lent nodes edges faces h)) nodes edges faces h
 unfolding mapOf
 held-holds {nodes} {edges} {faces} {h} k =
     record {
@@ -56,11 +59,14 @@ module _ {nodes edges faces : List ℤ} {h : Head} (f : Formed nodes edges faces
       record {
         node-rows = node-rows f;
         edge-rows = edge-rows f;
-        node-cells = ap (λ (k : ℕ). filled k (flatMap nodeCells (nodesOf nodes (natAbs (h .nodes))))) (sym (nodes-size f .0)) ∙ nodes-filled f;
-        edge-cells = ap (λ (k : ℕ). filled k (flatMap edgeCells (edgesOf edges (natAbs (h .edges))))) (sym (edges-size f .0)) ∙ edges-filled f;
+        node-cells = ap (λ (k : ℕ). filled k (flatMap nodeCells (nodesOf nodes (natAbs (h .nodes)))))
+            (sym (nodes-size f .0)) ∙ nodes-filled f;
+        edge-cells = ap (λ (k : ℕ). filled k (flatMap edgeCells (edgesOf edges (natAbs (h .edges)))))
+            (sym (edges-size f .0)) ∙ edges-filled f;
         face-table =
             record {
-              cells = ap (λ (k : ℕ). facesIn k (facesOf faces (natAbs (h .faces)))) (sym (faces-size f .0)) ∙ faces-filled f;
+              cells = ap (λ (k : ℕ). facesIn k (facesOf faces (natAbs (h .faces)))) (sym (faces-size f .0))
+                  ∙ faces-filled f;
               rising = face-rows f .rising;
               fits = rw (faces-length faces (natAbs (h .faces))) (omega (arith, faces-fit f));
             };
@@ -80,7 +86,9 @@ module _ {nodes edges faces : List ℤ} {h : Head} (f : Formed nodes edges faces
   holds-before = held-holds formed-held
 
   -- what is lent, in tables as long
-  pub holds-lent : {nodes′ edges′ nodes″ edges″ faces″ : List ℤ} {M : Map} {h″ : Head} → length nodes′ ≡ length nodes → length edges′ ≡ length edges → Holds nodes′ edges′ faces M nodes″ edges″ faces″ h″ → lentOf (sizesOf (lent nodes edges faces h)) M ≡ lent nodes″ edges″ faces″ h″
+  pub holds-lent : {nodes′ edges′ nodes″ edges″ faces″ : List ℤ} {M : Map} {h″ : Head} → length nodes′ ≡ length nodes
+      → length edges′ ≡ length edges → Holds nodes′ edges′ faces M nodes″ edges″ faces″ h″
+      → lentOf (sizesOf (lent nodes edges faces h)) M ≡ lent nodes″ edges″ faces″ h″
   holds-lent {M = M} p q k =
       lent-is (sizesOf (lent nodes edges faces h)) M
       (ap (λ (n : ℕ). filled n (flatMap nodeCells (M .nodes))) (nodes-size f .0 ∙ sym p) ∙ k .node-cells)
@@ -94,8 +102,10 @@ module _ {nodes edges faces : List ℤ} {h : Head} (f : Formed nodes edges faces
     unfolding named mapOf
     row-names =
         let m = mapOf (lent nodes edges faces h) in
-        let each = and-right (all (λ n. inFace m (n .face)) (m .nodes)) (all (edgeNames m) (m .edges)) (formed-is m (formed-map f) .named) in
-        all-table (edgeNames m) (edgeAt edges) (natAbs (h .edges)) (ap (all (edgeNames m)) (sym (edges-table edges (natAbs (h .edges)))) ∙ each) i t
+        let each = and-right (allOf (λ n. inFace m (n .face)) (m .nodes)) (allOf (edgeNames m) (m .edges))
+        (formed-is m (formed-map f) .named) in
+        all-table (edgeNames m) (edgeAt edges) (natAbs (h .edges))
+        (ap (allOf (edgeNames m)) (sym (edges-table edges (natAbs (h .edges)))) ∙ each) i t
 
     -- what is named besides faces
     abbrev others : Bool
@@ -104,22 +114,26 @@ module _ {nodes edges faces : List ℤ} {h : Head} (f : Formed nodes edges faces
         let r = edgeAt edges i in
         hasNode m (r .start) && hasNode m (r .end) && hasEdge m (r .nextLeft .edge) && hasEdge m (r .nextRight .edge)
 
-    right-is : any (same (edgeAt edges i .right)) (facesOf faces (natAbs (h .faces))) ≡ true
+    right-is : anyOf (same (edgeAt edges i .right)) (facesOf faces (natAbs (h .faces))) ≡ true
     unfolding mapOf
-    right-is = let m = mapOf (lent nodes edges faces h) in and-right (others && hasFace m (edgeAt edges i .left)) (hasFace m (edgeAt edges i .right)) row-names
+    right-is = let m = mapOf (lent nodes edges faces h) in
+        and-right (others && hasFace m (edgeAt edges i .left)) (hasFace m (edgeAt edges i .right)) row-names
 
-    left-is : any (same (edgeAt edges i .left)) (facesOf faces (natAbs (h .faces))) ≡ true
+    left-is : anyOf (same (edgeAt edges i .left)) (facesOf faces (natAbs (h .faces))) ≡ true
     unfolding mapOf
     left-is =
         let m = mapOf (lent nodes edges faces h) in
-        and-right others (hasFace m (edgeAt edges i .left)) (and-left (others && hasFace m (edgeAt edges i .left)) (hasFace m (edgeAt edges i .right)) row-names)
+        and-right others (hasFace m (edgeAt edges i .left))
+        (and-left (others && hasFace m (edgeAt edges i .left)) (hasFace m (edgeAt edges i .right)) row-names)
 
-    below : (g : ℕ) → any (same g) (facesOf faces (natAbs (h .faces))) ≡ true → g < natAbs (h .«next_face»)
+    below : (g : ℕ) → anyOf (same g) (facesOf faces (natAbs (h .faces))) ≡ true → g < natAbs (h .«next_face»)
     unfolding mapOf
-    below g e = face-below (mapOf (lent nodes edges faces h)) (formed-map f) g (any-member g (facesOf faces (natAbs (h .faces))) e)
+    below g e = face-below (mapOf (lent nodes edges faces h)) (formed-map f) g
+        (any-member g (facesOf faces (natAbs (h .faces))) e)
 
     -- edge row i, where its sides differ
-    pub formed-healable : (edgeAt edges i .left ≡ edgeAt edges i .right → ⊥) → Healable nodes edges faces h (pos (edgeAt edges i .left)) (pos (edgeAt edges i .right))
+    pub formed-healable : (edgeAt edges i .left ≡ edgeAt edges i .right → ⊥)
+        → Healable nodes edges faces h (pos (edgeAt edges i .left)) (pos (edgeAt edges i .right))
     formed-healable ne =
         record {
           held = formed-held;

@@ -12,7 +12,7 @@ use lib.ListN.{length, length-append, length-map}
 use lib.Signed.{ltZ}
 use borrow.Author.Tests.{ltb-true, ltb-false}
 use Rattle.lists.specs.Tests.{same, bit}
-use Rattle.lists.specs.Scans.{any, keep}
+use Rattle.lists.specs.Scans.{anyOf, keep}
 use Rattle.lists.proofs.Bools.{which, same-true, same-refl, same-false, differ}
 use Rattle.map.specs.declared.Head.{Head}
 use Rattle.map.specs.Rows.{Edge, mapOf, headOf, filled, nodeCells, edgeCells}
@@ -52,11 +52,16 @@ keep-twice p q (f ∷ fs) =
 
 module _ (l r : ℕ) (ne : l ≡ r → ⊥) where
   -- a new face: both go
-  new-stays : (f g : ℕ) → (l ≡ f → ⊥) → (r ≡ f → ⊥) → same g (cond (same g l || same g r) f g) ≡ not (same g l) && not (same g r)
+  new-stays : (f g : ℕ) → (l ≡ f → ⊥) → (r ≡ f → ⊥) → same g (cond (same g l || same g r) f g) ≡ not (same g l)
+      && not (same g r)
   new-stays f g nl nr =
       elim (which (same g l)) [
         | inl e ↦ rw e (same-false g f (λ q. nl (sym (same-true g l e) ∙ q)))
-        | inr e ↦ elim (which (same g r)) [ inl k ↦ rw (e, k) (same-false g f (λ q. nr (sym (same-true g r k) ∙ q))) | inr k ↦ rw (e, k) (same-refl g) ]
+        | inr e ↦ elim (which (same g r)) [
+          | inl k ↦ rw (e, k)
+              (same-false g f (λ q. nr (sym (same-true g r k) ∙ q)))
+          | inr k ↦ rw (e, k) (same-refl g)
+        ]
       ]
 
   -- the left one stays
@@ -76,7 +81,8 @@ module _ (l r : ℕ) (ne : l ≡ r → ⊥) where
       ]
 
   -- the lower one stays
-  low-stays : (fs : List ℕ) → keep (λ g. same g (cond (same g l || same g r) (min l r) g)) fs ≡ withoutFace (natAbs (cond (ltZ (pos l) (pos r)) (pos r) (pos l))) fs
+  low-stays : (fs : List ℕ) → keep (λ g. same g (cond (same g l || same g r) (min l r) g)) fs
+      ≡ withoutFace (natAbs (cond (ltZ (pos l) (pos r)) (pos r) (pos l))) fs
   low-stays fs =
       elim (which (ltb l r)) [
         | inl e ↦
@@ -90,28 +96,38 @@ module _ (l r : ℕ) (ne : l ≡ r → ⊥) where
       ]
 
   pub stays : (makes : Bool) (next : ℕ) (fs : List ℕ) → (l ≡ next → ⊥) → (r ≡ next → ⊥)
-      → cond makes (keep (λ g. same g (cond (same g l || same g r) (cond makes next (min l r)) g)) fs ++ cond makes next (min l r) ∷ []) (keep (λ g. same g (cond (same g l || same g r) (cond makes next (min l r)) g)) fs)
-      ≡ cond makes (withoutFace r (withoutFace l fs) ++ cond makes next (min l r) ∷ []) (withoutFace (natAbs (cond (ltZ (pos l) (pos r)) (pos r) (pos l))) fs)
-  stays true next fs nl nr = ap (λ (gs : List ℕ). gs ++ next ∷ []) ((λ i. keep (λ g. new-stays next g nl nr i) fs) ∙ sym (keep-twice (λ g. not (same g r)) (λ g. not (same g l)) fs))
+      → cond makes (keep (λ g. same g (cond (same g l || same g r) (cond makes next (min l r)) g)) fs
+      ++ cond makes next (min l r) ∷ [])
+      (keep (λ g. same g (cond (same g l || same g r) (cond makes next (min l r)) g)) fs)
+      ≡ cond makes (withoutFace r (withoutFace l fs) ++ cond makes next (min l r) ∷ [])
+      (withoutFace (natAbs (cond (ltZ (pos l) (pos r)) (pos r) (pos l))) fs)
+  stays true next fs nl nr = ap (λ (gs : List ℕ). gs ++ next ∷ [])
+      ((λ i. keep (λ g. new-stays next g nl nr i) fs) ∙ sym (keep-twice (λ g. not (same g r)) (λ g. not (same g l)) fs))
   stays false next fs nl nr = low-stays fs
 
 -- one face less either way
-high-there : (l r : ℕ) (fs : List ℕ) → any (same l) fs ≡ true → any (same r) fs ≡ true → any (same (natAbs (cond (ltZ (pos l) (pos r)) (pos r) (pos l)))) fs ≡ true
+high-there : (l r : ℕ) (fs : List ℕ) → anyOf (same l) fs ≡ true → anyOf (same r) fs ≡ true
+    → anyOf (same (natAbs (cond (ltZ (pos l) (pos r)) (pos r) (pos l)))) fs ≡ true
 high-there l r fs hl hr = elim (which (ltb l r)) [ inl e ↦ rw e hr | inr e ↦ rw e hl ]
 
-one-less : (makes : Bool) (l r f n : ℕ) {N : ℕ} {fs : List ℕ} {t : List ℤ} → FaceTable N fs t → length fs ≡ n → (l ≡ r → ⊥) → any (same l) fs ≡ true → any (same r) fs ≡ true
-    → length (cond makes (withoutFace r (withoutFace l fs) ++ f ∷ []) (withoutFace (natAbs (cond (ltZ (pos l) (pos r)) (pos r) (pos l))) fs)) ≡ n - 1
+one-less : (makes : Bool) (l r f n : ℕ) {N : ℕ} {fs : List ℕ} {t : List ℤ} → FaceTable N fs t → length fs ≡ n
+    → (l ≡ r → ⊥) → anyOf (same l) fs ≡ true → anyOf (same r) fs ≡ true
+    → length (cond makes (withoutFace r (withoutFace l fs) ++ f ∷ [])
+    (withoutFace (natAbs (cond (ltZ (pos l) (pos r)) (pos r) (pos l))) fs)) ≡ n - 1
 one-less true l r f n {N} {fs} t len ne hl hr =
     let d = table-distinct t in
     let a = without-length l fs d hl in
     let keeps = scanning.rising-keep 0 1000000 (λ g. not (same g l)) fs (table-rising t) in
-    let b = without-length r (withoutFace l fs) (scanning.rising-distinct (withoutFace l fs) (keeps .rises)) (still-there l r fs ne hr) in
+    let b = without-length r (withoutFace l fs) (scanning.rising-distinct (withoutFace l fs) (keeps .rises))
+    (still-there l r fs ne hr) in
     length-append (withoutFace r (withoutFace l fs)) (f ∷ []) ∙ omega arith
 one-less false l r f n {N} {fs} t len ne hl hr =
-    let a = without-length (natAbs (cond (ltZ (pos l) (pos r)) (pos r) (pos l))) fs (table-distinct t) (high-there l r fs hl hr) in
+    let a = without-length (natAbs (cond (ltZ (pos l) (pos r)) (pos r) (pos l))) fs (table-distinct t)
+    (high-there l r fs hl hr) in
     omega arith
 
-module _ {nodes edges faces : List ℤ} {h : Head} {left right : ℤ} (p : Healable nodes edges faces h left right) (row : Edge) (el : row .left ≡ natAbs left) (er : row .right ≡ natAbs right) (makes : Bool) where
+module _ {nodes edges faces : List ℤ} {h : Head} {left right : ℤ} (p : Healable nodes edges faces h left right)
+    (row : Edge) (el : row .left ≡ natAbs left) (er : row .right ≡ natAbs right) (makes : Bool) where
   -- the row's sides are left and right
   row-left : pos (row .left) ≡ left
   row-left = ap pos el ∙ sym (p .left-face)
@@ -122,23 +138,26 @@ module _ {nodes edges faces : List ℤ} {h : Head} {left right : ℤ} (p : Heala
   sides-differ : row .left ≡ row .right → ⊥
   sides-differ e = p .differ (sym el ∙ e ∙ er)
 
-  there-left : any (same (row .left)) (facesOf faces (natAbs (h .faces))) ≡ true
-  there-left = ap (λ (k : ℕ). any (same k) (facesOf faces (natAbs (h .faces)))) el ∙ p .left-there
+  there-left : anyOf (same (row .left)) (facesOf faces (natAbs (h .faces))) ≡ true
+  there-left = ap (λ (k : ℕ). anyOf (same k) (facesOf faces (natAbs (h .faces)))) el ∙ p .left-there
 
-  there-right : any (same (row .right)) (facesOf faces (natAbs (h .faces))) ≡ true
-  there-right = ap (λ (k : ℕ). any (same k) (facesOf faces (natAbs (h .faces)))) er ∙ p .right-there
+  there-right : anyOf (same (row .right)) (facesOf faces (natAbs (h .faces))) ≡ true
+  there-right = ap (λ (k : ℕ). anyOf (same k) (facesOf faces (natAbs (h .faces)))) er ∙ p .right-there
 
   -- the faces in the terms of the tables
   abbrev facesLeft : List ℕ
   facesLeft =
-      cond makes (withoutFace (row .right) (withoutFace (row .left) (facesOf faces (natAbs (h .faces)))) ++ faceKept makes row (mapOf (lent nodes edges faces h)) ∷ [])
-      (withoutFace (natAbs (cond (ltZ (pos (row .left)) (pos (row .right))) (pos (row .right)) (pos (row .left)))) (facesOf faces (natAbs (h .faces))))
+      cond makes (withoutFace (row .right) (withoutFace (row .left) (facesOf faces (natAbs (h .faces))))
+      ++ faceKept makes row (mapOf (lent nodes edges faces h)) ∷ [])
+      (withoutFace (natAbs (cond (ltZ (pos (row .left)) (pos (row .right))) (pos (row .right)) (pos (row .left))))
+      (facesOf faces (natAbs (h .faces))))
 
   faces-are : healed makes row (mapOf (lent nodes edges faces h)) .faces ≡ facesLeft
   unfolding mapOf
   faces-are =
       stays (row .left) (row .right) sides-differ makes (natAbs (h .«next_face»)) (facesOf faces (natAbs (h .faces)))
-      (λ e. let k = p .left-below in let j = el in omega arith) (λ e. let k = p .right-below in let j = er in omega arith)
+      (λ e. let k = p .left-below in let j = el in omega arith)
+      (λ e. let k = p .right-below in let j = er in omega arith)
 
   head-is : headOf (healed makes row (mapOf (lent nodes edges faces h))) ≡ healedHead makes h
   unfolding mapOf renamedFaces
@@ -149,29 +168,43 @@ module _ {nodes edges faces : List ℤ} {h : Head} {left right : ℤ} (p : Heala
       let held = p .held in
       λ i.
       record {
-        nodes = (ap pos (length-map ns (λ n. renamedNode row f n (n .face)) ∙ nodes-length nodes (natAbs (h .nodes))) ∙ sym (held .nodes-count)) i;
-        edges = (ap pos (length-map es (λ r. withSides (renamed row f (r .left)) (renamed row f (r .right)) r) ∙ edges-length edges (natAbs (h .edges))) ∙ sym (held .edges-count)) i;
-        faces = ap pos (ap length faces-are ∙ one-less makes (row .left) (row .right) f (natAbs (h .faces)) (held .face-table) (faces-length faces (natAbs (h .faces))) sides-differ there-left there-right) i;
+        nodes = (ap pos (length-map ns (λ n. renamedNode row f n (n .face)) ∙ nodes-length nodes (natAbs (h .nodes)))
+            ∙ sym (held .nodes-count)) i;
+        edges = (ap pos (length-map es (λ r. withSides (renamed row f (r .left)) (renamed row f (r .right)) r)
+            ∙ edges-length edges (natAbs (h .edges))) ∙ sym (held .edges-count)) i;
+        faces = ap pos (ap length faces-are
+            ∙ one-less makes (row .left) (row .right) f (natAbs (h .faces)) (held .face-table)
+            (faces-length faces (natAbs (h .faces))) sides-differ there-left there-right) i;
         «next_node» = (ap pos (add-zero (natAbs (h .«next_node»))) ∙ sym (held .next-node)) i;
         «next_edge» = (ap pos (add-zero (natAbs (h .«next_edge»))) ∙ sym (held .next-edge)) i;
         «next_face» = pos (natAbs (h .«next_face») + bit makes);
       }
 
   -- what the functions below leave, in the map's terms
-  pub healed-holds : (f : ℕ) → f ≡ faceKept makes row (mapOf (lent nodes edges faces h)) → (nodes′ edges′ faces′ : List ℤ) (h′ : Head)
-      → filled (length nodes) (flatMap nodeCells (renamedFaces row f (mapOf (lent nodes edges faces h)) .nodes)) ≡ nodes′
-      → filled (length edges) (flatMap edgeCells (renamedFaces row f (mapOf (lent nodes edges faces h)) .edges)) ≡ edges′
-      → facesIn (length faces) (cond makes (withoutFace (natAbs right) (withoutFace (natAbs left) (facesOf faces (natAbs (h .faces)))) ++ f ∷ []) (withoutFace (natAbs (cond (ltZ left right) right left)) (facesOf faces (natAbs (h .faces))))) ≡ faces′
+  pub healed-holds : (f : ℕ) → f ≡ faceKept makes row (mapOf (lent nodes edges faces h))
+      → (nodes′ edges′ faces′ : List ℤ) (h′ : Head)
+      → filled (length nodes) (flatMap nodeCells (renamedFaces row f (mapOf (lent nodes edges faces h)) .nodes))
+      ≡ nodes′
+      → filled (length edges) (flatMap edgeCells (renamedFaces row f (mapOf (lent nodes edges faces h)) .edges))
+      ≡ edges′
+      → facesIn (length faces) (cond makes
+      (withoutFace (natAbs right) (withoutFace (natAbs left) (facesOf faces (natAbs (h .faces)))) ++ f ∷ [])
+      (withoutFace (natAbs (cond (ltZ left right) right left)) (facesOf faces (natAbs (h .faces))))) ≡ faces′
       → h′ ≡ healedHead makes h
       → Holds nodes edges faces (healed makes row (mapOf (lent nodes edges faces h))) nodes′ edges′ faces′ h′
   healed-holds f ef nodes′ edges′ faces′ h′ en ee efs eh =
       let m = mapOf (lent nodes edges faces h) in
       record {
-        node-cells = ap (λ (k : ℕ). filled (length nodes) (flatMap nodeCells (renamedFaces row k m .nodes))) (sym ef) ∙ en;
-        edge-cells = ap (λ (k : ℕ). filled (length edges) (flatMap edgeCells (renamedFaces row k m .edges))) (sym ef) ∙ ee;
+        node-cells = ap (λ (k : ℕ). filled (length nodes) (flatMap nodeCells (renamedFaces row k m .nodes))) (sym ef)
+            ∙ en;
+        edge-cells = ap (λ (k : ℕ). filled (length edges) (flatMap edgeCells (renamedFaces row k m .edges))) (sym ef)
+            ∙ ee;
         face-cells =
             ap (facesIn (length faces)) faces-are
-            ∙ (λ i. facesIn (length faces) (cond makes (withoutFace (er i) (withoutFace (el i) (facesOf faces (natAbs (h .faces)))) ++ sym ef i ∷ []) (withoutFace (natAbs (cond (ltZ (row-left i) (row-right i)) (row-right i) (row-left i))) (facesOf faces (natAbs (h .faces))))))
+            ∙ (λ i. facesIn (length faces)
+            (cond makes (withoutFace (er i) (withoutFace (el i) (facesOf faces (natAbs (h .faces)))) ++ sym ef i ∷ [])
+            (withoutFace (natAbs (cond (ltZ (row-left i) (row-right i)) (row-right i) (row-left i)))
+            (facesOf faces (natAbs (h .faces))))))
             ∙ efs;
         head = head-is ∙ sym eh;
       }

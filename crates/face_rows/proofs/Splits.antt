@@ -10,7 +10,7 @@ use lib.ListN.{length, length-append, length-map}
 use lib.Signed.{nonNeg}
 use Rattle.integers.specs.Order.{sgn}
 use Rattle.lists.specs.Tests.{same}
-use Rattle.lists.specs.Scans.{any, keep}
+use Rattle.lists.specs.Scans.{anyOf, keep}
 use Rattle.lists.proofs.Bools.{≡→T, cond-has}
 use Rattle.lists.proofs.Counts.{bit-most}
 use Rattle.plane.specs.Areas.{isPositive}
@@ -28,13 +28,16 @@ use Rattle.form_ranges.specs.Ranges.{lent}
 use Rattle.face_relabel.specs.declared.Sides.{Sides}
 use Rattle.face_relabel.specs.Sharing.{Shared}
 use Rattle.outcomes.proofs.Words.{is-natural}
-use Rattle.face_rows.specs.Holds.{facesIn, FaceTable, withoutFace, Splittable, Holds, sharesIn, sidesOf, splitFaces, splitHead}
+use Rattle.face_rows.specs.Holds.{facesIn, FaceTable, withoutFace, Splittable, Holds, sharesIn, sidesOf}
+use Rattle.face_rows.specs.Holds.{splitFaces, splitHead}
 use Rattle.face_rows.proofs.FaceRows.{table-distinct, without-length}
 use Rattle.face_rows.proofs.Shares.{ring-any}
 
 -- one face more
-one-more : (goes : Bool) (o a n : ℕ) {N : ℕ} {fs : List ℕ} {t : List ℤ} → FaceTable N fs t → length fs ≡ n → any (same o) fs ≡ true → length (splitFaces goes o a fs) ≡ n + 1
-one-more true o a n {N} {fs} t len h = let k = without-length o fs (table-distinct t) h in length-append (withoutFace o fs) (a ∷ (a + 1) ∷ []) ∙ omega arith
+one-more : (goes : Bool) (o a n : ℕ) {N : ℕ} {fs : List ℕ} {t : List ℤ} → FaceTable N fs t → length fs ≡ n
+    → anyOf (same o) fs ≡ true → length (splitFaces goes o a fs) ≡ n + 1
+one-more true o a n {N} {fs} t len h = let k = without-length o fs (table-distinct t) h in
+    length-append (withoutFace o fs) (a ∷ (a + 1) ∷ []) ∙ omega arith
 one-more false o a n {N} {fs} t len h = length-append fs (a ∷ []) ∙ omega arith
 
 module _ {nodes edges faces : List ℤ} {h : Head} {old : ℤ} (p : Splittable nodes edges faces h old) where
@@ -54,12 +57,15 @@ module _ {nodes edges faces : List ℤ} {h : Head} {old : ℤ} (p : Splittable n
   unfolding bears edge mapOf
   borne-is = ap (λ (r : Edge). r .left) (edge-of (p .held .edge-rows) last below) ∙ sym (ap natAbs (p .borne))
 
-  pub area-is : ringArea drawn (ring drawn (fwd number)) ≡ ringArea (edgeMap edges (natAbs (h .edges))) (ring (edgeMap edges (natAbs (h .edges))) (dartAt edges (last * 2)))
+  pub area-is : ringArea drawn (ring drawn (fwd number))
+      ≡ ringArea (edgeMap edges (natAbs (h .edges)))
+      (ring (edgeMap edges (natAbs (h .edges))) (dartAt edges (last * 2)))
   unfolding ringArea course edge mapOf
   area-is =
       let es = edgesOf edges (natAbs (h .edges)) in
       ap (ringArea drawn)
-      (ring-any es (nodesOf nodes (natAbs (h .nodes))) [] (facesOf faces (natAbs (h .faces))) [] (natAbs (h .«next_node»)) (natAbs (h .«next_edge»)) (natAbs (h .«next_face»)) 0 0 0 (fwd number)
+      (ring-any es (nodesOf nodes (natAbs (h .nodes))) [] (facesOf faces (natAbs (h .faces))) []
+      (natAbs (h .«next_node»)) (natAbs (h .«next_edge»)) (natAbs (h .«next_face»)) 0 0 0 (fwd number)
       ∙ ap (ring (edgeMap edges (natAbs (h .edges)))) (sym (dart-even edges last)))
 
   -- `splitFace` by the old face, which side is the reference side and whether the old face goes
@@ -76,17 +82,23 @@ module _ {nodes edges faces : List ℤ} {h : Head} {old : ℤ} (p : Splittable n
       }
 
   abbrev facesBy : ℕ → Bool → List ℕ
-  facesBy o goes = cond goes (keep (λ f. not (same f o)) (drawn .faces) ++ drawn .nextFace ∷ cond goes (drawn .nextFace + 1) o ∷ []) (drawn .faces ++ drawn .nextFace ∷ [])
+  facesBy o goes = cond goes (keep (λ f. not (same f o)) (drawn .faces) ++ drawn .nextFace
+      ∷ cond goes (drawn .nextFace + 1) o ∷ []) (drawn .faces ++ drawn .nextFace ∷ [])
 
   abbrev splitBy : ℕ → Bool → Bool → Map
-  splitBy o isLeft goes = setFaces (facesBy o goes) (given 0 0 (cond goes 2 1) (sharedOut (sharesBy o isLeft goes) drawn))
+  splitBy o isLeft goes = setFaces (facesBy o goes)
+      (given 0 0 (cond goes 2 1) (sharedOut (sharesBy o isLeft goes) drawn))
 
-  split-by : (news : Bool) → splitFace news number drawn ≡ splitBy (bears drawn (fwd number)) (isPositive (sgn (ringArea drawn (ring drawn (fwd number))))) (news && not (same (bears drawn (fwd number)) 0))
+  split-by : (news : Bool) → splitFace news number drawn
+      ≡ splitBy (bears drawn (fwd number)) (isPositive (sgn (ringArea drawn (ring drawn (fwd number)))))
+      (news && not (same (bears drawn (fwd number)) 0))
   unfolding splitFace
   split-by news = refl
 
   -- the shares in the terms of the tables
-  shares-are : (isLeft goes : Bool) → sharesBy (natAbs old) isLeft goes ≡ sharesIn drawn (dartAt edges (sidesOf isLeft goes (last * 2) old (h .«next_face») .ring)) (sidesOf isLeft goes (last * 2) old (h .«next_face»))
+  shares-are : (isLeft goes : Bool) → sharesBy (natAbs old) isLeft goes
+      ≡ sharesIn drawn (dartAt edges (sidesOf isLeft goes (last * 2) old (h .«next_face») .ring))
+      (sidesOf isLeft goes (last * 2) old (h .«next_face»))
   unfolding mapOf
   shares-are isLeft goes = go isLeft goes
     where
@@ -99,13 +111,16 @@ module _ {nodes edges faces : List ℤ} {h : Head} {old : ℤ} (p : Splittable n
       by : Sides → Dart → Shares
       by s d = sharesIn drawn d s
 
-      go : (l g : Bool) → sharesBy (natAbs old) l g ≡ sharesIn drawn (dartAt edges (sidesOf l g (last * 2) old (h .«next_face») .ring)) (sidesOf l g (last * 2) old (h .«next_face»))
+      go : (l g : Bool) → sharesBy (natAbs old) l g
+          ≡ sharesIn drawn (dartAt edges (sidesOf l g (last * 2) old (h .«next_face») .ring))
+          (sidesOf l g (last * 2) old (h .«next_face»))
       go true true = ap (by (sidesOf true true (last * 2) old (h .«next_face»))) even
       go true false = ap (by (sidesOf true false (last * 2) old (h .«next_face»))) even
       go false true = ap (by (sidesOf false true (last * 2) old (h .«next_face»))) odd
       go false false = ap (by (sidesOf false false (last * 2) old (h .«next_face»))) odd
 
-  faces-are : (goes : Bool) → facesBy (natAbs old) goes ≡ splitFaces goes (natAbs old) (natAbs (h .«next_face»)) (facesOf faces (natAbs (h .faces)))
+  faces-are : (goes : Bool) → facesBy (natAbs old) goes
+      ≡ splitFaces goes (natAbs old) (natAbs (h .«next_face»)) (facesOf faces (natAbs (h .faces)))
   unfolding mapOf
   faces-are true = refl
   faces-are false = refl
@@ -119,36 +134,51 @@ module _ {nodes edges faces : List ℤ} {h : Head} {old : ℤ} (p : Splittable n
       let held = p .held in
       λ i.
       record {
-        nodes = (ap pos (length-map ns (λ n. sideOfNode drawn s n (n .face)) ∙ nodes-length nodes (natAbs (h .nodes))) ∙ sym (held .nodes-count)) i;
-        edges = (ap pos (length-map es (λ e. withSides (sideOfDart drawn s (fwd (e .number))) (sideOfDart drawn s (bwd (e .number))) e) ∙ edges-length edges (natAbs (h .edges))) ∙ sym (held .edges-count)) i;
-        faces = ap pos (ap length (faces-are goes) ∙ one-more goes (natAbs old) (natAbs (h .«next_face»)) (natAbs (h .faces)) (held .face-table) (faces-length faces (natAbs (h .faces))) (p .there)) i;
+        nodes = (ap pos (length-map ns (λ n. sideOfNode drawn s n (n .face)) ∙ nodes-length nodes (natAbs (h .nodes)))
+            ∙ sym (held .nodes-count)) i;
+        edges = (ap pos (length-map es (λ e. withSides (sideOfDart drawn s (fwd (e .number)))
+            (sideOfDart drawn s (bwd (e .number))) e) ∙ edges-length edges (natAbs (h .edges)))
+            ∙ sym (held .edges-count)) i;
+        faces = ap pos (ap length (faces-are goes)
+            ∙ one-more goes (natAbs old) (natAbs (h .«next_face»)) (natAbs (h .faces)) (held .face-table)
+            (faces-length faces (natAbs (h .faces))) (p .there)) i;
         «next_node» = (ap pos (add-zero (natAbs (h .«next_node»))) ∙ sym (held .next-node)) i;
         «next_edge» = (ap pos (add-zero (natAbs (h .«next_edge»))) ∙ sym (held .next-edge)) i;
         «next_face» = pos (natAbs (h .«next_face») + cond goes 2 1);
       }
 
   -- what the functions below leave, in the map's terms
-  pub split-holds : (news isLeft goes : Bool) → isPositive (sgn (ringArea drawn (ring drawn (fwd number)))) ≡ isLeft → news && not (same (natAbs old) 0) ≡ goes
-      → (s : Sides) → s ≡ sidesOf isLeft goes (last * 2) old (h .«next_face») → (nodes′ edges′ faces′ : List ℤ) (h′ : Head)
-      → filled (length nodes) (flatMap nodeCells (sharedOut (sharesIn drawn (dartAt edges (s .ring)) s) drawn .nodes)) ≡ nodes′
-      → filled (length edges) (flatMap edgeCells (sharedOut (sharesIn drawn (dartAt edges (s .ring)) s) drawn .edges)) ≡ edges′
-      → facesIn (length faces) (splitFaces goes (natAbs old) (natAbs (h .«next_face»)) (facesOf faces (natAbs (h .faces)))) ≡ faces′
+  pub split-holds : (news isLeft goes : Bool) → isPositive (sgn (ringArea drawn (ring drawn (fwd number)))) ≡ isLeft
+      → news && not (same (natAbs old) 0) ≡ goes
+      → (s : Sides) → s ≡ sidesOf isLeft goes (last * 2) old (h .«next_face»)
+      → (nodes′ edges′ faces′ : List ℤ) (h′ : Head)
+      → filled (length nodes) (flatMap nodeCells (sharedOut (sharesIn drawn (dartAt edges (s .ring)) s) drawn .nodes))
+      ≡ nodes′
+      → filled (length edges) (flatMap edgeCells (sharedOut (sharesIn drawn (dartAt edges (s .ring)) s) drawn .edges))
+      ≡ edges′
+      → facesIn (length faces) (splitFaces goes (natAbs old) (natAbs (h .«next_face»))
+      (facesOf faces (natAbs (h .faces)))) ≡ faces′
       → h′ ≡ splitHead goes h
       → Holds nodes edges faces (splitFace news number drawn) nodes′ edges′ faces′ h′
   split-holds news isLeft goes il ig s es nodes′ edges′ faces′ h′ en ee ef eh =
       let same-map : splitBy (natAbs old) isLeft goes ≡ splitFace news number drawn =
-      sym (split-by news ∙ (λ i. splitBy (borne-is i) (il i) (news && not (same (borne-is i) 0))) ∙ ap (splitBy (natAbs old) isLeft) ig) in
-      let told : sharesBy (natAbs old) isLeft goes ≡ sharesIn drawn (dartAt edges (s .ring)) s = shares-are isLeft goes ∙ ap (λ (x : Sides). sharesIn drawn (dartAt edges (x .ring)) x) (sym es) in
+      sym (split-by news ∙ (λ i. splitBy (borne-is i) (il i) (news && not (same (borne-is i) 0)))
+      ∙ ap (splitBy (natAbs old) isLeft) ig) in
+      let told : sharesBy (natAbs old) isLeft goes ≡ sharesIn drawn (dartAt edges (s .ring)) s = shares-are isLeft goes
+      ∙ ap (λ (x : Sides). sharesIn drawn (dartAt edges (x .ring)) x) (sym es) in
       subst (λ (k : Map). Holds nodes edges faces k nodes′ edges′ faces′ h′) same-map
       (record {
-        node-cells = ap (λ (x : Shares). filled (length nodes) (flatMap nodeCells (sharedOut x drawn .nodes))) told ∙ en;
-        edge-cells = ap (λ (x : Shares). filled (length edges) (flatMap edgeCells (sharedOut x drawn .edges))) told ∙ ee;
+        node-cells = ap (λ (x : Shares). filled (length nodes) (flatMap nodeCells (sharedOut x drawn .nodes))) told
+            ∙ en;
+        edge-cells = ap (λ (x : Shares). filled (length edges) (flatMap edgeCells (sharedOut x drawn .edges))) told
+            ∙ ee;
         face-cells = ap (facesIn (length faces)) (faces-are goes) ∙ ef;
         head = head-is isLeft goes ∙ sym eh;
       })
 
   -- what is asked when the face is shared out
-  pub sides-shared : (isLeft goes : Bool) → Shared nodes (natAbs (h .nodes)) edges (natAbs (h .edges)) (sidesOf isLeft goes (last * 2) old (h .«next_face»))
+  pub sides-shared : (isLeft goes : Bool)
+      → Shared nodes (natAbs (h .nodes)) edges (natAbs (h .edges)) (sidesOf isLeft goes (last * 2) old (h .«next_face»))
   sides-shared isLeft goes =
       let k = p .held in
       let o = is-natural old (p .borne ∙ ap (λ (z : ℤ). pos (natAbs z)) (sym (p .borne))) in
@@ -162,7 +192,9 @@ module _ {nodes edges faces : List ℤ} {h : Head} {old : ℤ} (p : Splittable n
         few = k .few-edges;
         ring = let j = p .drawn in let t = bit-most (not isLeft) in omega arith;
         old = ≡→T (nonNeg old) o;
-        inside = ≡→T (nonNeg (cond first (h .«next_face») (cond goes (pos (natAbs (h .«next_face») + 1)) old))) (cond-has natural first a b);
-        other = ≡→T (nonNeg (cond first (cond goes (pos (natAbs (h .«next_face») + 1)) old) (h .«next_face»))) (cond-has natural first b a);
+        inside = ≡→T (nonNeg (cond first (h .«next_face») (cond goes (pos (natAbs (h .«next_face») + 1)) old)))
+            (cond-has natural first a b);
+        other = ≡→T (nonNeg (cond first (cond goes (pos (natAbs (h .«next_face») + 1)) old) (h .«next_face»)))
+            (cond-has natural first b a);
         ends = p .ends;
       }

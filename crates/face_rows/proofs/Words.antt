@@ -18,7 +18,8 @@ use Rattle.plane.specs.Areas.{isPositive}
 use Rattle.outcomes.proofs.Words.{small-read}
 
 -- one of two small numbers
-pub picked : (b : Bool) (x y : ℕ) {r : ℤ} → r ≡ cond b (pos x) (pos y) → x ≤ 1000002 → y ≤ 1000002 → toZ w64 (ofZ w64 r) ≡ pos (cond b x y)
+pub picked : (b : Bool) (x y : ℕ) {r : ℤ} → r ≡ cond b (pos x) (pos y) → x ≤ 1000002 → y ≤ 1000002
+    → toZ w64 (ofZ w64 r) ≡ pos (cond b x y)
 picked true x y e hx hy = small-read x e hx
 picked false x y e hx hy = small-read y e hy
 
@@ -35,7 +36,8 @@ lower-is a b =
     ]
 
 -- a new face, or the lower of two
-pub kept-is : (b : Bool) {n l r : ℤ} → n ≡ pos (natAbs n) → l ≡ pos (natAbs l) → r ≡ pos (natAbs r) → cond b n (cond (ltZ l r) l r) ≡ pos (cond b (natAbs n) (min (natAbs l) (natAbs r)))
+pub kept-is : (b : Bool) {n l r : ℤ} → n ≡ pos (natAbs n) → l ≡ pos (natAbs l) → r ≡ pos (natAbs r)
+    → cond b n (cond (ltZ l r) l r) ≡ pos (cond b (natAbs n) (min (natAbs l) (natAbs r)))
 kept-is true en el er = en
 kept-is false {n} {l} {r} en el er = (λ i. cond (ltZ (el i) (er i)) (el i) (er i)) ∙ lower-is (natAbs l) (natAbs r)
 

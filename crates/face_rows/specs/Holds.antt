@@ -6,7 +6,7 @@ use Prim.Native.Nat.{ℕ, suc, _+_, _-_, _≤_, _<_, min}
 use lib.IntN.{ℤ, pos, natAbs}
 use lib.ListN.{length}
 use Rattle.lists.specs.Tests.{same, bit}
-use Rattle.lists.specs.Scans.{any, all, keep}
+use Rattle.lists.specs.Scans.{anyOf, allOf, keep}
 use Rattle.map.specs.declared.Head.{Head}
 use Rattle.map.specs.Limits.{maxNodes, maxEdges, maxFaces, lastNumber}
 use Rattle.map.specs.Rows.{Edge, Map, filled, nodeCells, edgeCells, faceCells, headOf, hasNode, setFaces, given}
@@ -54,10 +54,11 @@ pub record Held (nodes edges faces : List ℤ) (h : Head) : Type 0 where
 pub record Splittable (nodes edges faces : List ℤ) (h : Head) (old : ℤ) : Type 0 where
   pub held : Held nodes edges faces h
   pub drawn : 1 ≤ natAbs (h .edges)
-  pub ends : all (λ r. hasNode (nodeMap nodes (natAbs (h .nodes))) (r .start) && hasNode (nodeMap nodes (natAbs (h .nodes))) (r .end)) (edgesOf edges (natAbs (h .edges))) ≡ true
+  pub ends : allOf (λ r. hasNode (nodeMap nodes (natAbs (h .nodes))) (r .start)
+      && hasNode (nodeMap nodes (natAbs (h .nodes))) (r .end)) (edgesOf edges (natAbs (h .edges))) ≡ true
   pub rings : Ringed edges (natAbs (h .edges))
   pub borne : old ≡ pos (edgeAt edges (natAbs (h .edges) - 1) .left)
-  pub there : any (same (natAbs old)) (facesOf faces (natAbs (h .faces))) ≡ true
+  pub there : anyOf (same (natAbs old)) (facesOf faces (natAbs (h .faces))) ≡ true
   pub room : natAbs (h .faces) < length faces
 
 -- left and right are two faces
@@ -65,8 +66,8 @@ pub record Healable (nodes edges faces : List ℤ) (h : Head) (left right : ℤ)
   pub held : Held nodes edges faces h
   pub left-face : left ≡ pos (natAbs left)
   pub right-face : right ≡ pos (natAbs right)
-  pub left-there : any (same (natAbs left)) (facesOf faces (natAbs (h .faces))) ≡ true
-  pub right-there : any (same (natAbs right)) (facesOf faces (natAbs (h .faces))) ≡ true
+  pub left-there : anyOf (same (natAbs left)) (facesOf faces (natAbs (h .faces))) ≡ true
+  pub right-there : anyOf (same (natAbs right)) (facesOf faces (natAbs (h .faces))) ≡ true
   pub left-below : natAbs left < natAbs (h .«next_face»)
   pub right-below : natAbs right < natAbs (h .«next_face»)
   pub differ : natAbs left ≡ natAbs right → ⊥
@@ -80,9 +81,16 @@ pub record Holds (nodes edges faces : List ℤ) (m : Map) (nodes′ edges′ fac
 
 -- the face to share out in the map's terms: d is on the reference side, its reverse on the other
 abbrev pub sharesIn : Map → Dart → Sides → Shares
-sharesIn m d s = record { old = natAbs (s .old); refRing = ring m d; otherRing = ring m (rev d); ref = natAbs (s .inside); other = natAbs (s .other) }
+sharesIn m d s = record {
+  old = natAbs (s .old);
+  refRing = ring m d;
+  otherRing = ring m (rev d);
+  ref = natAbs (s .inside);
+  other = natAbs (s .other);
+}
 
--- the sides of the edge at position p: the reference side is left where `isLeft`; the old face goes, or is the other side
+-- the sides of the edge at position p: the reference side is left where `isLeft`; the old face goes, or is the other
+-- side
 abbrev pub sidesOf : Bool → Bool → ℕ → ℤ → ℤ → Sides
 sidesOf isLeft goes p old a =
     let b = cond goes (pos (natAbs a + 1)) old in

@@ -1,8 +1,8 @@
 // Faces split and healed in all rows that name them.
-use outcomes::Done;
+use face_relabel::Sides;
 use lists::Found;
 use map::Head;
-use face_relabel::Sides;
+use outcomes::Done;
 ghost use mathlib.Core.Path.{_≡_};
 ghost use mathlib.Core.Bool.{true, cond};
 ghost use mathlib.Core.List.{[], _∷_, _++_, flatMap};
@@ -12,7 +12,7 @@ ghost use lib.ListN.{length};
 ghost use lib.Signed.{nonNeg, ltZ};
 ghost use Rattle.integers.specs.Order.{sgn};
 ghost use Rattle.lists.specs.Tests.{same};
-ghost use Rattle.lists.specs.Scans.{any};
+ghost use Rattle.lists.specs.Scans.{anyOf};
 ghost use Rattle.plane.specs.Areas.{isPositive};
 ghost use Rattle.map.specs.Limits.{maxEdges, maxFaces, lastNumber};
 ghost use Rattle.map.specs.Rows.{Edge, Map, filled, nodeCells, edgeCells, mapOf};
@@ -23,12 +23,13 @@ ghost use Rattle.tables.specs.Tables.{NodeRows, EdgeRows, nodesOf, edgesOf, edg
 ghost use Rattle.darts.specs.Positions.{dartAt};
 ghost use Rattle.face_relabel.specs.Sharing.{Shared, Ringed};
 ghost use Rattle.form_ranges.specs.Ranges.{lent};
-ghost use Rattle.face_rows.specs.Holds.{facesIn, FaceTable, withoutFace, Splittable, Healable, Holds, sharesIn, sidesOf, splitFaces, splitHead, healedHead, faceKept, healed};
+ghost use Rattle.face_rows.specs.Holds.{facesIn, FaceTable, withoutFace, Splittable, Healable, Holds, sharesIn};
+ghost use Rattle.face_rows.specs.Holds.{sidesOf, splitFaces, splitHead, healedHead, faceKept, healed};
 
 // ---- leaves
 
 // One of two numbers.
-fn pick(first: bool, a: i64, b: i64) -> i64
+fn select(first: bool, a: i64, b: i64) -> i64
     ensures { λ r. ⌜ r ≡ cond first a b ⌝ }
 {
     if first { a } else { b }
@@ -36,12 +37,13 @@ fn pick(first: bool, a: i64, b: i64) -> i64
 
 // The head with a face more, and one or two numbers given.
 fn with_face(h: Head, goes: bool) -> Head
-    requires { ⌜ (h .faces ≡ pos (natAbs (h .faces))) × (natAbs (h .faces) ≤ maxFaces) × (h .«next_face» ≡ pos (natAbs (h .«next_face»))) × (natAbs (h .«next_face») ≤ suc lastNumber) ⌝ }
+    requires { ⌜ (h .faces ≡ pos (natAbs (h .faces))) × (natAbs (h .faces) ≤ maxFaces)
+        × (h .«next_face» ≡ pos (natAbs (h .«next_face»))) × (natAbs (h .«next_face») ≤ suc lastNumber) ⌝ }
     ensures { λ r. ⌜ r ≡ splitHead goes h ⌝ }
 {
     let n = h.faces;
     let k = h.next_face;
-    let more = pick(goes, 2, 1);
+    let more = select(goes, 2, 1);
     let mut after = h;
     after.faces = n + 1;
     after.next_face = k + more;
@@ -50,12 +52,13 @@ fn with_face(h: Head, goes: bool) -> Head
 
 // The head with a face less, and a number given where one is made.
 fn without_face(h: Head, makes: bool) -> Head
-    requires { ⌜ (h .faces ≡ pos (natAbs (h .faces))) × (natAbs (h .faces) ≤ maxFaces) × (1 ≤ natAbs (h .faces)) × (h .«next_face» ≡ pos (natAbs (h .«next_face»))) × (natAbs (h .«next_face») ≤ suc lastNumber) ⌝ }
+    requires { ⌜ (h .faces ≡ pos (natAbs (h .faces))) × (natAbs (h .faces) ≤ maxFaces) × (1 ≤ natAbs (h .faces))
+        × (h .«next_face» ≡ pos (natAbs (h .«next_face»))) × (natAbs (h .«next_face») ≤ suc lastNumber) ⌝ }
     ensures { λ r. ⌜ r ≡ healedHead makes h ⌝ }
 {
     let n = h.faces;
     let k = h.next_face;
-    let more = pick(makes, 1, 0);
+    let more = select(makes, 1, 0);
     let mut after = h;
     after.faces = n - 1;
     after.next_face = k + more;
@@ -67,27 +70,34 @@ fn without_face(h: Head, makes: bool) -> Head
 // The face's row goes, where it has one.
 fn remove_face(faces: &mut [i64], count: usize, face: i64)
     requires { ⌜ ((n : _) × (fs : _) × FaceTable n fs (now faces) × (length fs ≡ count)) × (nonNeg face ≡ true) ⌝ }
-    ensures { λ r. ⌜ ((n : _) (fs : _) → FaceTable n fs (now (faces .entry)) → length fs ≡ count → FaceTable n (withoutFace (natAbs face) fs) (now (faces .exit))) ⌝ }
+    ensures { λ r. ⌜ ((n : _) (fs : _) → FaceTable n fs (now (faces .entry)) → length fs ≡ count
+        → FaceTable n (withoutFace (natAbs face) fs) (now (faces .exit))) ⌝ }
 {
-    let found = tables::find_row(faces, 1, count, face);
+    let found = tables::find_row(faces, map::FACE_WIDTH, count, face);
     match found {
-        Found::At(i) => tables::remove_row(faces, 1, count, i),
+        Found::At(i) => tables::remove_row(faces, map::FACE_WIDTH, count, i),
         Found::Missing => {}
     }
 }
 
 // A face after the last.
 fn push_face(faces: &mut [i64], count: usize, face: i64)
-    requires { ⌜ ((n : _) × (fs : _) × (facesIn n fs ≡ now faces) × (length fs ≡ count) × (count < n)) × (nonNeg face ≡ true) ⌝ }
-    ensures { λ r. ⌜ ((n : _) (fs : _) → facesIn n fs ≡ now (faces .entry) → length fs ≡ count → count < n → facesIn n (fs ++ natAbs face ∷ []) ≡ now (faces .exit)) ⌝ }
+    requires { ⌜ ((n : _) × (fs : _) × (facesIn n fs ≡ now faces) × (length fs ≡ count) × (count < n))
+        × (nonNeg face ≡ true) ⌝ }
+    ensures { λ r. ⌜ ((n : _) (fs : _) → facesIn n fs ≡ now (faces .entry) → length fs ≡ count → count < n
+        → facesIn n (fs ++ natAbs face ∷ []) ≡ now (faces .exit)) ⌝ }
 {
     faces[count] = face;
 }
 
 // The faces after a split: `a` and the number after it for the old face, or `a` beside it.
 fn split_row(faces: &mut [i64], count: usize, old: i64, a: i64, goes: bool)
-    requires { ⌜ ((n : _) × (fs : _) × FaceTable n fs (now faces) × (length fs ≡ count) × (count < n) × (any (same (natAbs old)) fs ≡ true)) × (nonNeg old ≡ true) × (nonNeg a ≡ true) × (natAbs a ≤ suc lastNumber) ⌝ }
-    ensures { λ r. ⌜ ((n : _) (fs : _) → FaceTable n fs (now (faces .entry)) → length fs ≡ count → count < n → any (same (natAbs old)) fs ≡ true → facesIn n (splitFaces goes (natAbs old) (natAbs a) fs) ≡ now (faces .exit)) ⌝ }
+    requires { ⌜ ((n : _) × (fs : _) × FaceTable n fs (now faces) × (length fs ≡ count) × (count < n)
+        × (anyOf (same (natAbs old)) fs ≡ true)) × (nonNeg old ≡ true) × (nonNeg a ≡ true)
+        × (natAbs a ≤ suc lastNumber) ⌝ }
+    ensures { λ r. ⌜ ((n : _) (fs : _) → FaceTable n fs (now (faces .entry)) → length fs ≡ count → count < n
+        → anyOf (same (natAbs old)) fs ≡ true → facesIn n (splitFaces goes (natAbs old) (natAbs a) fs)
+        ≡ now (faces .exit)) ⌝ }
 {
     if goes {
         remove_face(faces, count, old);
@@ -100,15 +110,20 @@ fn split_row(faces: &mut [i64], count: usize, old: i64, a: i64, goes: bool)
 
 // The faces after a heal: `face` for both, or the lower alone.
 fn heal_row(faces: &mut [i64], count: usize, left: i64, right: i64, face: i64, makes: bool)
-    requires { ⌜ ((n : _) × (fs : _) × FaceTable n fs (now faces) × (length fs ≡ count) × (any (same (natAbs left)) fs ≡ true) × (any (same (natAbs right)) fs ≡ true)) × (nonNeg left ≡ true) × (nonNeg right ≡ true) × (nonNeg face ≡ true) × (natAbs left ≡ natAbs right → ⊥) ⌝ }
-    ensures { λ r. ⌜ ((n : _) (fs : _) → FaceTable n fs (now (faces .entry)) → length fs ≡ count → any (same (natAbs left)) fs ≡ true → any (same (natAbs right)) fs ≡ true → facesIn n (cond makes (withoutFace (natAbs right) (withoutFace (natAbs left) fs) ++ natAbs face ∷ []) (withoutFace (natAbs (cond (ltZ left right) right left)) fs)) ≡ now (faces .exit)) ⌝ }
+    requires { ⌜ ((n : _) × (fs : _) × FaceTable n fs (now faces) × (length fs ≡ count)
+        × (anyOf (same (natAbs left)) fs ≡ true) × (anyOf (same (natAbs right)) fs ≡ true)) × (nonNeg left ≡ true)
+        × (nonNeg right ≡ true) × (nonNeg face ≡ true) × (natAbs left ≡ natAbs right → ⊥) ⌝ }
+    ensures { λ r. ⌜ ((n : _) (fs : _) → FaceTable n fs (now (faces .entry)) → length fs ≡ count
+        → anyOf (same (natAbs left)) fs ≡ true → anyOf (same (natAbs right)) fs ≡ true
+        → facesIn n (cond makes (withoutFace (natAbs right) (withoutFace (natAbs left) fs) ++ natAbs face ∷ [])
+        (withoutFace (natAbs (cond (ltZ left right) right left)) fs)) ≡ now (faces .exit)) ⌝ }
 {
     if makes {
         remove_face(faces, count, left);
         remove_face(faces, count - 1, right);
         push_face(faces, count - 2, face);
     } else {
-        remove_face(faces, count, pick(left < right, right, left));
+        remove_face(faces, count, select(left < right, right, left));
     }
 }
 
@@ -116,25 +131,37 @@ fn heal_row(faces: &mut [i64], count: usize, left: i64, right: i64, face: i64, m
 
 // The sides of the last edge: the reference side is left if the left ring's doubled area is positive, else right.
 fn sides_of(edges: &[i64], count: usize, old: i64, a: i64, goes: bool) -> Sides
-    requires { ⌜ EdgeRows (now edges) count × (1 ≤ count) × (count ≤ maxEdges) × (a ≡ pos (natAbs a)) × (natAbs a ≤ suc lastNumber) ⌝ }
-    ensures { λ r. ⌜ r ≡ sidesOf (isPositive (sgn (ringArea (edgeMap (now (edges .entry)) count) (ring (edgeMap (now (edges .entry)) count) (dartAt (now (edges .entry)) ((count - 1) * 2)))))) goes ((count - 1) * 2) old a ⌝ }
+    requires { ⌜ EdgeRows (now edges) count × (1 ≤ count) × (count ≤ maxEdges) × (a ≡ pos (natAbs a))
+        × (natAbs a ≤ suc lastNumber) ⌝ }
+    ensures { λ r. ⌜ r ≡ sidesOf (isPositive
+        (sgn (ringArea (edgeMap (now (edges .entry)) count)
+        (ring (edgeMap (now (edges .entry)) count) (dartAt (now (edges .entry)) ((count - 1) * 2)))))) goes
+        ((count - 1) * 2) old a ⌝ }
 {
     let p = (count - 1) * 2;
     let is_left = 0 < rings::ring_area(edges, count, p);
-    let b = pick(goes, a + 1, old);
+    let b = select(goes, a + 1, old);
     let first = is_left | !goes;
     Sides {
         old,
         ring: p + !is_left as usize,
-        inside: pick(first, a, b),
-        other: pick(first, b, a),
+        inside: select(first, a, b),
+        other: select(first, b, a),
     }
 }
 
 // All rows that named the old face.
 fn share_rows(nodes: &mut [i64], n: usize, edges: &mut [i64], count: usize, s: Sides)
-    requires { ⌜ Shared (now nodes) n (now edges) count s × Ringed (now edges) count × (filled (length (now nodes)) (flatMap nodeCells (nodesOf (now nodes) n)) ≡ now nodes) × (filled (length (now edges)) (flatMap edgeCells (edgesOf (now edges) count)) ≡ now edges) ⌝ }
-    ensures { λ r. ⌜ ((m : Map) → m .nodes ≡ nodesOf (now (nodes .entry)) n → m .edges ≡ edgesOf (now (edges .entry)) count → (filled (length (now (nodes .entry))) (flatMap nodeCells (sharedOut (sharesIn m (dartAt (now (edges .entry)) (s .ring)) s) m .nodes)) ≡ now (nodes .exit)) × (filled (length (now (edges .entry))) (flatMap edgeCells (sharedOut (sharesIn m (dartAt (now (edges .entry)) (s .ring)) s) m .edges)) ≡ now (edges .exit))) ⌝ }
+    requires { ⌜ Shared (now nodes) n (now edges) count s × Ringed (now edges) count
+        × (filled (length (now nodes)) (flatMap nodeCells (nodesOf (now nodes) n)) ≡ now nodes)
+        × (filled (length (now edges)) (flatMap edgeCells (edgesOf (now edges) count)) ≡ now edges) ⌝ }
+    ensures { λ r. ⌜ ((m : Map) → m .nodes ≡ nodesOf (now (nodes .entry)) n → m .edges
+        ≡ edgesOf (now (edges .entry)) count
+        → (filled (length (now (nodes .entry)))
+        (flatMap nodeCells (sharedOut (sharesIn m (dartAt (now (edges .entry)) (s .ring)) s) m .nodes))
+        ≡ now (nodes .exit)) × (filled (length (now (edges .entry)))
+        (flatMap edgeCells (sharedOut (sharesIn m (dartAt (now (edges .entry)) (s .ring)) s) m .edges))
+        ≡ now (edges .exit))) ⌝ }
 {
     face_relabel::share_nodes(nodes, n, edges, count, s);
     face_relabel::share_edges(nodes, n, edges, count, s, darts::reverse(s.ring));
@@ -150,14 +177,17 @@ pub fn split_face(
     old: i64,
 ) -> Head
     requires { ⌜ Splittable (now nodes) (now edges) (now faces) h old ⌝ }
-    ensures { λ r. ⌜ Holds (now (nodes .entry)) (now (edges .entry)) (now (faces .entry)) (splitFace news (edgeAt (now (edges .entry)) (natAbs (h .edges) - 1) .number) (mapOf (lent (now (nodes .entry)) (now (edges .entry)) (now (faces .entry)) h))) (now (nodes .exit)) (now (edges .exit)) (now (faces .exit)) r ⌝ }
+    ensures { λ r. ⌜ Holds (now (nodes .entry)) (now (edges .entry)) (now (faces .entry))
+        (splitFace news (edgeAt (now (edges .entry)) (natAbs (h .edges) - 1) .number)
+        (mapOf (lent (now (nodes .entry)) (now (edges .entry)) (now (faces .entry)) h))) (now (nodes .exit))
+        (now (edges .exit)) (now (faces .exit)) r ⌝ }
 {
-    let e = outcomes::count_of(h.edges);
+    let e = outcomes::to_usize(h.edges);
     let a = h.next_face;
     let goes = news & (old != 0);
     let s = sides_of(edges, e, old, a, goes);
-    share_rows(nodes, outcomes::count_of(h.nodes), edges, e, s);
-    split_row(faces, outcomes::count_of(h.faces), old, a, goes);
+    share_rows(nodes, outcomes::to_usize(h.nodes), edges, e, s);
+    split_row(faces, outcomes::to_usize(h.faces), old, a, goes);
     with_face(h, goes)
 }
 
@@ -168,7 +198,7 @@ fn face_left(next: i64, left: i64, right: i64, makes: bool) -> i64
     requires { ⌜ (next ≡ pos (natAbs next)) × (left ≡ pos (natAbs left)) × (right ≡ pos (natAbs right)) ⌝ }
     ensures { λ r. ⌜ r ≡ pos (cond makes (natAbs next) (min (natAbs left) (natAbs right))) ⌝ }
 {
-    pick(makes, next, pick(left < right, left, right))
+    select(makes, next, select(left < right, left, right))
 }
 
 // `face` for left and right in all rows of nodes and edges.
@@ -181,8 +211,15 @@ fn rename_faces(
     right: i64,
     face: i64,
 )
-    requires { ⌜ NodeRows (now nodes) n × EdgeRows (now edges) count × (filled (length (now nodes)) (flatMap nodeCells (nodesOf (now nodes) n)) ≡ now nodes) × (filled (length (now edges)) (flatMap edgeCells (edgesOf (now edges) count)) ≡ now edges) × (left ≡ pos (natAbs left)) × (right ≡ pos (natAbs right)) × (face ≡ pos (natAbs face)) ⌝ }
-    ensures { λ r. ⌜ ((row : Edge) (m : Map) → row .left ≡ natAbs left → row .right ≡ natAbs right → m .nodes ≡ nodesOf (now (nodes .entry)) n → m .edges ≡ edgesOf (now (edges .entry)) count → (filled (length (now (nodes .entry))) (flatMap nodeCells (renamedFaces row (natAbs face) m .nodes)) ≡ now (nodes .exit)) × (filled (length (now (edges .entry))) (flatMap edgeCells (renamedFaces row (natAbs face) m .edges)) ≡ now (edges .exit))) ⌝ }
+    requires { ⌜ NodeRows (now nodes) n × EdgeRows (now edges) count
+        × (filled (length (now nodes)) (flatMap nodeCells (nodesOf (now nodes) n)) ≡ now nodes)
+        × (filled (length (now edges)) (flatMap edgeCells (edgesOf (now edges) count)) ≡ now edges)
+        × (left ≡ pos (natAbs left)) × (right ≡ pos (natAbs right)) × (face ≡ pos (natAbs face)) ⌝ }
+    ensures { λ r. ⌜ ((row : Edge) (m : Map) → row .left ≡ natAbs left → row .right ≡ natAbs right → m .nodes
+        ≡ nodesOf (now (nodes .entry)) n → m .edges ≡ edgesOf (now (edges .entry)) count
+        → (filled (length (now (nodes .entry))) (flatMap nodeCells (renamedFaces row (natAbs face) m .nodes))
+        ≡ now (nodes .exit)) × (filled (length (now (edges .entry)))
+        (flatMap edgeCells (renamedFaces row (natAbs face) m .edges)) ≡ now (edges .exit))) ⌝ }
 {
     face_relabel::rename_face(nodes, n, edges, count, left, face);
     face_relabel::rename_face(nodes, n, edges, count, right, face);
@@ -199,18 +236,23 @@ pub fn heal_faces(
     makes: bool,
 ) -> Done
     requires { ⌜ Healable (now nodes) (now edges) (now faces) h left right ⌝ }
-    ensures { λ r. ⌜ ((row : Edge) → row .left ≡ natAbs left → row .right ≡ natAbs right → Holds (now (nodes .entry)) (now (edges .entry)) (now (faces .entry)) (healed makes row (mapOf (lent (now (nodes .entry)) (now (edges .entry)) (now (faces .entry)) h))) (now (nodes .exit)) (now (edges .exit)) (now (faces .exit)) (r .head) × (r .answer .value ≡ pos (faceKept makes row (mapOf (lent (now (nodes .entry)) (now (edges .entry)) (now (faces .entry)) h))))) ⌝ }
+    ensures { λ r. ⌜ ((row : Edge) → row .left ≡ natAbs left → row .right ≡ natAbs right
+        → Holds (now (nodes .entry)) (now (edges .entry)) (now (faces .entry))
+        (healed makes row (mapOf (lent (now (nodes .entry)) (now (edges .entry)) (now (faces .entry)) h)))
+        (now (nodes .exit)) (now (edges .exit)) (now (faces .exit)) (r .head)
+        × (r .answer .value ≡ pos (faceKept makes row
+        (mapOf (lent (now (nodes .entry)) (now (edges .entry)) (now (faces .entry)) h))))) ⌝ }
 {
     let face = face_left(h.next_face, left, right, makes);
     rename_faces(
         nodes,
-        outcomes::count_of(h.nodes),
+        outcomes::to_usize(h.nodes),
         edges,
-        outcomes::count_of(h.edges),
+        outcomes::to_usize(h.edges),
         left,
         right,
         face,
     );
-    heal_row(faces, outcomes::count_of(h.faces), left, right, face, makes);
+    heal_row(faces, outcomes::to_usize(h.faces), left, right, face, makes);
     outcomes::carried(without_face(h, makes), face)
 }

@@ -1,4 +1,5 @@
--- Condition 2 by its parts: each is read from the rows that it needs, and the first that does not hold decides. Assumes nothing.
+-- Condition 2 by its parts: each is read from the rows that it needs, and the first that does not hold decides. Assumes
+-- nothing.
 use mathlib.Core.Path.{_≡_, refl, sym, ap, ap₂, _∙_}
 use mathlib.Core.Bool.{Bool, true, false, _&&_, and-assoc}
 use mathlib.Core.List.{List}
@@ -8,12 +9,13 @@ use lib.Dec.{T}
 use lib.IntN.{ℤ}
 use lib.ListN.{length}
 use lib.Signed.{nonNeg}
-use Rattle.lists.specs.Scans.{all}
+use Rattle.lists.specs.Scans.{allOf}
 use Rattle.curves.proofs.Runs.{and-left, and-right}
 use Rattle.map.specs.declared.Head.{Head}
 use Rattle.map.specs.Rows.{whole, sizesOf, edge}
 use Rattle.map.specs.Darts.{leaves, next, bears, course, way, departures}
-use Rattle.map.specs.Form.{countsFit, nextsFit, curveFits, numbers, named, departuresDiffer, bareMarked, linksOnce, linksMeet, ringsBearOne, formed, inForm}
+use Rattle.map.specs.Form.{countsFit, nextsFit, curveFits, numbers, named, departuresDiffer, bareMarked, linksOnce}
+use Rattle.map.specs.Form.{linksMeet, ringsBearOne, formed, inForm}
 use Rattle.map.specs.Limits.{maxNodes, maxEdges, maxFaces, nodeWidth, edgeWidth, faceWidth}
 use Rattle.map.proofs.RoundTrip.{whole-rows, whole-tables}
 use Rattle.tables.specs.declared.Counts.{Counts}
@@ -31,7 +33,8 @@ module _ (a b c d e : Bool) where
   regroup : (u v x y z : Bool) → d ≡ u && v → e ≡ x && y && z → a && b && c && u && v && x && y && z ≡ five
   regroup u v x y z p q = rw (p, q) (spread a b c u v x y z)
     where
-      spread : (a b c u v x y z : Bool) → a && b && c && u && v && x && y && z ≡ a && (b && (c && (u && v && (x && y && z))))
+      spread : (a b c u v x y z : Bool) → a && b && c && u && v && x && y && z ≡ a
+          && (b && (c && (u && v && (x && y && z))))
       spread true true true true true x y z = refl
       spread true true true true false x y z = refl
       spread true true true false v x y z = refl
@@ -42,7 +45,8 @@ module _ (a b c d e : Bool) where
 -- ---- the conditions on rows
 
 module _ (nodes edges faces : List ℤ) (c : Counts) (h : Head) where
-  differ-drawn : departuresDiffer (drawnMap nodes (c .nodes) edges (c .edges)) ≡ departuresDiffer (mapIn nodes edges faces c h)
+  differ-drawn : departuresDiffer (drawnMap nodes (c .nodes) edges (c .edges))
+      ≡ departuresDiffer (mapIn nodes edges faces c h)
   unfolding departuresDiffer departures leaves way course edge
   differ-drawn = refl
 
@@ -64,20 +68,24 @@ module _ (nodes edges faces : List ℤ) (c : Counts) (h : Head) where
 
   -- the five tests
   abbrev pub curved : Bool
-  curved = all (curveFits (nodeMap nodes (c .nodes))) (edgesOf edges (c .edges))
+  curved = allOf (curveFits (nodeMap nodes (c .nodes))) (edgesOf edges (c .edges))
 
   abbrev pub departed : Bool
-  departed = departuresDiffer (drawnMap nodes (c .nodes) edges (c .edges)) && bareMarked (drawnMap nodes (c .nodes) edges (c .edges))
+  departed = departuresDiffer (drawnMap nodes (c .nodes) edges (c .edges))
+      && bareMarked (drawnMap nodes (c .nodes) edges (c .edges))
 
   abbrev pub linked : Bool
-  linked = linksOnce (edgeMap edges (c .edges)) && linksMeet (edgeMap edges (c .edges)) && ringsBearOne (edgeMap edges (c .edges))
+  linked = linksOnce (edgeMap edges (c .edges)) && linksMeet (edgeMap edges (c .edges))
+      && ringsBearOne (edgeMap edges (c .edges))
 
-  formed-is : formed (mapIn nodes edges faces c h) ≡ five (numbers (mapIn nodes edges faces c h)) (named (mapIn nodes edges faces c h)) curved departed linked
+  formed-is : formed (mapIn nodes edges faces c h)
+      ≡ five (numbers (mapIn nodes edges faces c h)) (named (mapIn nodes edges faces c h)) curved departed linked
   unfolding formed
   formed-is =
       let m = mapIn nodes edges faces c h in
       rw (← curves-are nodes edges faces c h (edgesOf edges (c .edges)))
-      (regroup (numbers m) (named m) curved departed linked (departuresDiffer m) (bareMarked m) (linksOnce m) (linksMeet m) (ringsBearOne m)
+      (regroup (numbers m) (named m) curved departed linked (departuresDiffer m) (bareMarked m) (linksOnce m)
+      (linksMeet m) (ringsBearOne m)
       (ap₂ _&&_ differ-drawn bare-drawn) (ap₂ _&&_ (ap₂ _&&_ once-linked meet-linked) bear-linked))
 
   -- the first that does not hold decides
@@ -102,38 +110,49 @@ module _ (nodes edges faces : List ℤ) (c : Counts) (h : Head) where
 -- ---- in form
 
 module _ (nodes edges faces : List ℤ) (h : Head) where
-  in-form-is : inForm (lent nodes edges faces h) ≡ (countsFit (lent nodes edges faces h) && nextsFit h) && (rangedRows nodes edges faces (countsOf h) && formed (mapIn nodes edges faces (countsOf h) h))
+  in-form-is : inForm (lent nodes edges faces h) ≡ (countsFit (lent nodes edges faces h) && nextsFit h)
+      && (rangedRows nodes edges faces (countsOf h) && formed (mapIn nodes edges faces (countsOf h) h))
   unfolding inForm
   in-form-is =
       ap₂ _&&_ (ranged-is nodes edges faces h) (ap formed (map-is nodes edges faces h))
-      ∙ and-assoc (countsFit (lent nodes edges faces h) && nextsFit h) (rangedRows nodes edges faces (countsOf h)) (formed (mapIn nodes edges faces (countsOf h) h))
+      ∙ and-assoc (countsFit (lent nodes edges faces h) && nextsFit h) (rangedRows nodes edges faces (countsOf h))
+      (formed (mapIn nodes edges faces (countsOf h) h))
 
-  pub unfit-head : countsFit (lent nodes edges faces h) && nextsFit h ≡ false → inForm (lent nodes edges faces h) ≡ false
+  pub unfit-head : countsFit (lent nodes edges faces h) && nextsFit h ≡ false → inForm (lent nodes edges faces h)
+      ≡ false
   unfit-head e = in-form-is ∙ rw e
 
   module _ (e : countsFit (lent nodes edges faces h) && nextsFit h ≡ true) where
     pub unranged : rangedRows nodes edges faces (countsOf h) ≡ false → inForm (lent nodes edges faces h) ≡ false
     unranged f = in-form-is ∙ rw (e, f)
 
-    pub by-formed : rangedRows nodes edges faces (countsOf h) ≡ true → inForm (lent nodes edges faces h) ≡ formed (mapIn nodes edges faces (countsOf h) h)
+    pub by-formed : rangedRows nodes edges faces (countsOf h) ≡ true → inForm (lent nodes edges faces h)
+        ≡ formed (mapIn nodes edges faces (countsOf h) h)
     by-formed f = in-form-is ∙ rw (e, f)
 
   -- room of whole tables
-  pub whole-room : whole (lent nodes edges faces h) ≡ true → (length nodes / 4 ≤ 1000) × (length edges / 32 ≤ 2000) × (length faces ≤ 1000)
+  pub whole-room : whole (lent nodes edges faces h) ≡ true → (length nodes / 4 ≤ 1000) × (length edges / 32 ≤ 2000)
+      × (length faces ≤ 1000)
   whole-room e =
       let t = whole-tables (lent nodes edges faces h) e in
-      let f = whole-rows faceWidth 1 maxFaces faces (t .2) .most in
-      (whole-rows nodeWidth 0 maxNodes nodes (t .0) .most, whole-rows edgeWidth 0 maxEdges edges (t .1) .most, omega arith)
+      let f = whole-rows faceWidth 1 maxFaces faces (t .2) .most in (
+        whole-rows nodeWidth 0 maxNodes nodes (t .0) .most,
+        whole-rows edgeWidth 0 maxEdges edges (t .1) .most,
+        omega arith,
+      )
 
-  pub sizes-are : sizesOf (lent nodes edges faces h) ≡ record { nodes = length nodes / 4; edges = length edges / 32; faces = length faces }
-  sizes-are = let e : length faces / 1 ≡ length faces = omega arith in ap (λ (k : ℕ). record { nodes = length nodes / 4; edges = length edges / 32; faces = k }) e
+  pub sizes-are : sizesOf (lent nodes edges faces h)
+      ≡ record { nodes = length nodes / 4; edges = length edges / 32; faces = length faces }
+  sizes-are = let e : length faces / 1 ≡ length faces = omega arith in
+      ap (λ (k : ℕ). record { nodes = length nodes / 4; edges = length edges / 32; faces = k }) e
 
 -- what a map in form is known to be
 pub record InForm (nodes edges faces : List ℤ) (c : Counts) (h : Head) : Type 0 where
   pub named : Named nodes edges faces c h
   pub formed : formed (mapIn nodes edges faces c h) ≡ true
 
-pub in-form-known : (nodes edges faces : List ℤ) (h : Head) → inForm (lent nodes edges faces h) ≡ true → InForm nodes edges faces (countsOf h) h
+pub in-form-known : (nodes edges faces : List ℤ) (h : Head) → inForm (lent nodes edges faces h) ≡ true
+    → InForm nodes edges faces (countsOf h) h
 in-form-known nodes edges faces h e =
     let m = mapIn nodes edges faces (countsOf h) h in
     let p = countsFit (lent nodes edges faces h) in
@@ -142,12 +161,16 @@ in-form-known nodes edges faces h e =
     let head = and-left (p && nextsFit h) (q && formed m) f in
     let rows = and-right (p && nextsFit h) (q && formed m) f in
     let g = and-right q (formed m) rows in
-    let k = curved nodes edges faces (countsOf h) h && (departed nodes edges faces (countsOf h) h && linked nodes edges faces (countsOf h) h) in
+    let k = curved nodes edges faces (countsOf h) h
+    && (departed nodes edges faces (countsOf h) h && linked nodes edges faces (countsOf h) h) in
     let five = sym (formed-is nodes edges faces (countsOf h) h) ∙ g in
     record {
       named = record {
         in-order = record {
-          in-ranges = record { counted = counted nodes edges faces h (and-left p (nextsFit h) head) (and-right p (nextsFit h) head); ranged = and-left q (formed m) rows };
+          in-ranges = record {
+            counted = counted nodes edges faces h (and-left p (nextsFit h) head) (and-right p (nextsFit h) head);
+            ranged = and-left q (formed m) rows;
+          };
           numbers = and-left (numbers m) (named m && k) five;
         };
         named = and-left (named m) k (and-right (numbers m) (named m && k) five);
@@ -156,8 +179,10 @@ in-form-known nodes edges faces h e =
     }
 
 -- the counts of a map in form
-pub in-form-natural : (nodes edges faces : List ℤ) (h : Head) → inForm (lent nodes edges faces h) ≡ true → T (nonNeg (h .nodes)) × T (nonNeg (h .edges)) × T (nonNeg (h .faces))
+pub in-form-natural : (nodes edges faces : List ℤ) (h : Head) → inForm (lent nodes edges faces h) ≡ true
+    → T (nonNeg (h .nodes)) × T (nonNeg (h .edges)) × T (nonNeg (h .faces))
 in-form-natural nodes edges faces h e =
     let p = countsFit (lent nodes edges faces h) in
     let rest = rangedRows nodes edges faces (countsOf h) && formed (mapIn nodes edges faces (countsOf h) h) in
-    counts-natural nodes edges faces h (and-left p (nextsFit h) (and-left (p && nextsFit h) rest (sym (in-form-is nodes edges faces h) ∙ e)))
+    counts-natural nodes edges faces h (and-left p (nextsFit h)
+    (and-left (p && nextsFit h) rest (sym (in-form-is nodes edges faces h) ∙ e)))

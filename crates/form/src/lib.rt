@@ -9,15 +9,16 @@ ghost use Rattle.map.specs.Form.{formed, inForm};
 ghost use Rattle.form_ranges.specs.Ranges.{lent, mapIn, InRanges};
 
 fn is_formed(nodes: &[i64], edges: &[i64], faces: &[i64], c: Counts, h: Head) -> bool
-    requires { ⌜ InRanges (now nodes) (now edges) (now faces) c h × (c .nodes ≤ 1000) × (c .edges ≤ 2000) × (c .faces ≤ 1000) ⌝ }
+    requires { ⌜ InRanges (now nodes) (now edges) (now faces) c h × (c .nodes ≤ 1000) × (c .edges ≤ 2000)
+        × (c .faces ≤ 1000) ⌝ }
     ensures { λ r. ⌜ r ≡ formed (mapIn (now (nodes .entry)) (now (edges .entry)) (now (faces .entry)) c h) ⌝ }
 {
     if !form_ranges::numbers_fit(nodes, edges, faces, c, h) {
         return false;
     }
-    let mut starts = [0u16; 4000];
-    let mut nexts = [0u16; 4000];
-    let mut bears = [0u16; 4000];
+    let mut starts = [0u16; map::DARTS];
+    let mut nexts = [0u16; map::DARTS];
+    let mut bears = [0u16; map::DARTS];
     if !form_references::names_exist(nodes, edges, faces, c, &mut starts, &mut nexts, &mut bears) {
         return false;
     }
@@ -35,7 +36,12 @@ pub fn in_form(nodes: &[i64], edges: &[i64], faces: &[i64], h: Head) -> bool
     requires { ⌜ whole (lent (now nodes) (now edges) (now faces) h) ≡ true ⌝ }
     ensures { λ r. ⌜ r ≡ inForm (lent (now (nodes .entry)) (now (edges .entry)) (now (faces .entry)) h) ⌝ }
 {
-    if !form_ranges::head_fits(h, nodes.len() / 4, edges.len() / 32, faces.len()) {
+    if !form_ranges::head_fits(
+        h,
+        nodes.len() / map::NODE_WIDTH,
+        edges.len() / map::EDGE_WIDTH,
+        faces.len(),
+    ) {
         return false;
     }
     let c = form_ranges::counts_of(h);

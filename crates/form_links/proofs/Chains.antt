@@ -17,7 +17,8 @@ use Rattle.form_links.specs.Chains.{latest, someBelow, Leads, Chained}
 module _ (p : ℕ → Bool) where
   pub latest-le : (k : ℕ) → latest p k ≤ k
   latest-le zero = omega arith
-  latest-le (suc k) = let later = latest-le k in elim (which (p k)) [ inl e ↦ rw e (omega arith) | inr e ↦ rw e (omega arith) ]
+  latest-le (suc k) = let later = latest-le k in
+      elim (which (p k)) [ inl e ↦ rw e (omega arith) | inr e ↦ rw e (omega arith) ]
 
   latest-on : (k : ℕ) → p k ≡ true → latest p (k + 1) ≡ k + 1
   latest-on k e = rw (add-one k, e)
@@ -36,7 +37,11 @@ module _ (p : ℕ → Bool) where
   latest-taken (suc k) some e =
       let le = latest-le k in
       let last : suc k - 1 ≡ k = omega arith in
-      rw last (elim (which (p k)) [ inl f ↦ f | inr f ↦ let g : suc k ≡ latest p k = rw f at e in absurd (omega arith) ])
+      rw last (elim (which (p k)) [
+        | inl f ↦ f
+        | inr f ↦ let g : suc k ≡ latest p k = rw f at e in
+            absurd (omega arith)
+      ])
 
   -- what q takes besides lies below it
   pub below-latest : (q : ℕ → Bool) (k : ℕ) → someBelow (λ i. p i && q i) (latest p k) ≡ someBelow (λ i. p i && q i) k
@@ -52,7 +57,8 @@ module _ (f q : ℕ → Bool) where
       let taken = latest-taken f (suc k) some e in
       rw (rw last at taken, rw last at met)
 
-  pub chain-on : (c : ℕ) → (c ≡ 0 → ⊥) → q (c - 1) ≡ false → (b : ℕ) → b ≡ latest f (c - 1) → someBelow (λ i. f i && q i) b ≡ someBelow (λ i. f i && q i) c
+  pub chain-on : (c : ℕ) → (c ≡ 0 → ⊥) → q (c - 1) ≡ false → (b : ℕ) → b ≡ latest f (c - 1)
+      → someBelow (λ i. f i && q i) b ≡ someBelow (λ i. f i && q i) c
   chain-on zero some other b e = absurd (some refl)
   chain-on (suc k) some other b e =
       let last : suc k - 1 ≡ k = omega arith in
@@ -63,7 +69,11 @@ pub below-some : (p : ℕ → Bool) (k : ℕ) → someBelow p k ≡ true → (i 
 below-some p zero e = absurd (false≢true e)
 below-some p (suc k) e =
     let later = below-some p k in
-    elim (which (p k)) [ inl f ↦ (k, omega arith, f) | inr f ↦ let r = later (rw f at e) in let h = r .1 in (r .0, omega arith, r .2) ]
+    elim (which (p k)) [
+      | inl f ↦ (k, omega arith, f)
+      | inr f ↦ let r = later (rw f at e) in let h = r .1 in
+          (r .0, omega arith, r .2)
+    ]
 
 pub below-none : (p : ℕ → Bool) (k : ℕ) → someBelow p k ≡ false → (i : ℕ) → i < k → p i ≡ false
 below-none p zero e i h = absurd (omega arith)
@@ -92,20 +102,25 @@ module _ {f : ℕ → ℕ} {p : ℕ} {last back : List ℕ} (w : Chained f p las
   back-is q h e = w .backs q h ∙ ap (λ (x : ℕ). latest (λ r. same (f r) x) q) (same-true (f q) (f p) e)
 
   -- p joins its chain
-  pub chained-on : {j : ℕ} → f p ≡ j → j < length last → (links : List ℕ) → getD links p 0 ≡ getD last j 0 → ((q : ℕ) → (q ≡ p → ⊥) → getD links q 0 ≡ getD back q 0) → Chained f (p + 1) (set last j (p + 1)) links
+  pub chained-on : {j : ℕ} → f p ≡ j → j < length last → (links : List ℕ) → getD links p 0 ≡ getD last j 0
+      → ((q : ℕ) → (q ≡ p → ⊥) → getD links q 0 ≡ getD back q 0) → Chained f (p + 1) (set last j (p + 1)) links
   chained-on {j} e room links here others =
       record {
         lasts = λ i. elim (equal? i j) [
-          | inl g ↦ ap (λ (x : ℕ). getD (set last j (p + 1)) x 0) g ∙ getD-set-same last j (p + 1) 0 room ∙ sym (latest-on (λ q. same (f q) i) p (same-eq (f p) i (e ∙ sym g)))
-          | inr g ↦ getD-set-other last j i (p + 1) 0 g ∙ w .lasts i ∙ sym (latest-off (λ q. same (f q) i) p (same-false (f p) i (λ d. g (sym d ∙ e))))
+          | inl g ↦ ap (λ (x : ℕ). getD (set last j (p + 1)) x 0) g ∙ getD-set-same last j (p + 1) 0 room
+              ∙ sym (latest-on (λ q. same (f q) i) p (same-eq (f p) i (e ∙ sym g)))
+          | inr g ↦ getD-set-other last j i (p + 1) 0 g ∙ w .lasts i
+              ∙ sym (latest-off (λ q. same (f q) i) p (same-false (f p) i (λ d. g (sym d ∙ e))))
         ];
         backs = λ q h. elim (equal? q p) [
-          | inl g ↦ ap (λ (x : ℕ). getD links x 0) g ∙ here ∙ last-is e ∙ ap (λ (x : ℕ). latest (λ r. same (f r) (f x)) x) (sym g)
+          | inl g ↦ ap (λ (x : ℕ). getD links x 0) g ∙ here ∙ last-is e
+              ∙ ap (λ (x : ℕ). latest (λ r. same (f r) (f x)) x) (sym g)
           | inr g ↦ others q g ∙ w .backs q (omega arith)
         ];
         clear = λ q h. others q (λ g. omega arith) ∙ w .clear q (omega arith);
       }
 
 -- no position is passed
-pub none-chained : (f : ℕ → ℕ) {last back : List ℕ} → ((i : ℕ) → getD last i 0 ≡ 0) → ((i : ℕ) → getD back i 0 ≡ 0) → Chained f 0 last back
+pub none-chained : (f : ℕ → ℕ) {last back : List ℕ} → ((i : ℕ) → getD last i 0 ≡ 0) → ((i : ℕ) → getD back i 0 ≡ 0)
+    → Chained f 0 last back
 none-chained f clear none = record { lasts = clear; backs = λ q h. absurd (omega arith); clear = λ q h. none q }

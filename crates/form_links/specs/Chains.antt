@@ -1,4 +1,5 @@
--- Departures chained, each to the one before it in its slot: its node and the signs of its direction. A link of a chain is one more than a position, and 0 ends the chain.
+-- Departures chained, each to the one before it in its slot: its node and the signs of its direction. A link of a chain
+-- is one more than a position, and 0 ends the chain.
 use mathlib.Core.Path.{_≡_}
 use mathlib.Core.Bool.{Bool, false, cond, _&&_, _||_}
 use mathlib.Core.List.{List}

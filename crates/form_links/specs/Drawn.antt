@@ -6,4 +6,11 @@ use Rattle.map.specs.Rows.{Map}
 use Rattle.tables.specs.Tables.{nodesOf, edgesOf}
 
 abbrev pub drawnMap : List ℤ → ℕ → List ℤ → ℕ → Map
-drawnMap nodes n edges e = record { nodes = nodesOf nodes n; edges = edgesOf edges e; faces = []; nextNode = 0; nextEdge = 0; nextFace = 0 }
+drawnMap nodes n edges e = record {
+  nodes = nodesOf nodes n;
+  edges = edgesOf edges e;
+  faces = [];
+  nextNode = 0;
+  nextEdge = 0;
+  nextFace = 0;
+}

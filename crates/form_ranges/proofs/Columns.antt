@@ -1,4 +1,5 @@
--- The first column of a table: numbers that are not negative, and numbers that rise from the least one allowed. Assumes nothing.
+-- The first column of a table: numbers that are not negative, and numbers that rise from the least one allowed. Assumes
+-- nothing.
 use mathlib.Core.Path.{_≡_, refl, sym, ap, _∙_}
 use mathlib.Core.Bool.{Bool, true, false, _&&_}
 use mathlib.Core.Logic.{inl, inr}
@@ -11,7 +12,7 @@ use lib.ListN.{getD}
 use lib.Seq.{getD-take}
 use lib.Signed.{nonNeg}
 use borrow.Author.Tests.{leb-true, ltb-true, ltb-false, le-leb, lt-leb, lt-ltb, le-ltb}
-use Rattle.lists.specs.Scans.{all, linked, firstOr}
+use Rattle.lists.specs.Scans.{allOf, linked, firstOr}
 use Rattle.lists.specs.Tables.{table}
 use Rattle.lists.proofs.Bools.{which, eq3, &&-false}
 pub use Rattle.lists.proofs.Bools.{or-false}
@@ -20,58 +21,82 @@ use Rattle.curves.proofs.Runs.{and-left, and-right}
 use Rattle.map.specs.Rows.{rows, nodeOf, edgeOf}
 use Rattle.map.specs.Form.{nodeRanges, edgeRanges, faceRanges, numbered}
 use Rattle.tables.specs.Tables.{column, nodesOf, edgesOf, facesOf, nodeAt, edgeAt, faceAt}
-use Rattle.tables.proofs.Rows.{row-first, rows-all, node-cells, edge-cells, face-cell, node-numbers, edge-numbers, faces-table}
+use Rattle.tables.proofs.Rows.{row-first, rows-all, node-cells, edge-cells, face-cell, node-numbers, edge-numbers}
+use Rattle.tables.proofs.Rows.{faces-table}
 
 -- ---- tests of all elements
 
 module _ {A : Type 0} where
-  pub all-weaker : (p q : A → Bool) → ((r : A) → p r ≡ true → q r ≡ true) → (l : List A) → all p l ≡ true → all q l ≡ true
+  pub all-weaker : (p q : A → Bool) → ((r : A) → p r ≡ true → q r ≡ true) → (l : List A) → allOf p l ≡ true → allOf q l
+      ≡ true
   all-weaker p q h [] e = refl
-  all-weaker p q h (r ∷ l) e = rw (h r (and-left (p r) (all p l) e)) (all-weaker p q h l (and-right (p r) (all p l) e))
+  all-weaker p q h (r ∷ l) e = rw (h r (and-left (p r) (allOf p l) e))
+      (all-weaker p q h l (and-right (p r) (allOf p l) e))
 
-  pub all-same : (p q : A → Bool) → ((r : A) → p r ≡ q r) → (l : List A) → all p l ≡ all q l
+  pub all-same : (p q : A → Bool) → ((r : A) → p r ≡ q r) → (l : List A) → allOf p l ≡ allOf q l
   all-same p q h [] = refl
   all-same p q h (r ∷ l) = rw (h r, all-same p q h l)
 
 -- ---- numbers in order
 
 ltb-suc : (a b : ℕ) → ltb a b ≡ leb (a + 1) b
-ltb-suc a b = elim (which (ltb a b)) [ inl e ↦ e ∙ sym (le-leb (a + 1) b (let h = ltb-true a b e in omega arith)) | inr e ↦ e ∙ sym (lt-leb (a + 1) b (let h = ltb-false a b e in omega arith)) ]
+ltb-suc a b = elim (which (ltb a b)) [
+  | inl e ↦ e
+      ∙ sym (le-leb (a + 1) b (let h = ltb-true a b e in omega arith))
+  | inr e ↦ e ∙ sym (lt-leb (a + 1) b (let h = ltb-false a b e in omega arith))
+]
 
 -- after a, numbers that rise are from a + 1 on
-rise-after : (low next a : ℕ) (l : List ℕ) → low ≤ a + 1 → linked ltb (a ∷ l) && all (λ n. leb low n && ltb n next) l ≡ numbered (a + 1) next l
+rise-after : (low next a : ℕ) (l : List ℕ) → low ≤ a + 1 → linked ltb (a ∷ l) && allOf (λ n. leb low n && ltb n next) l
+    ≡ numbered (a + 1) next l
 rise-after low next a [] h = refl
-rise-after low next a (b ∷ l) h = elim (which (ltb a b)) [ inl e ↦ above e (λ k. rise-after k next b l) | inr e ↦ below e ]
+rise-after low next a (b ∷ l) h = elim (which (ltb a b)) [
+  | inl e ↦ above e
+      (λ k. rise-after k next b l)
+  | inr e ↦ below e
+]
   where
-    below : ltb a b ≡ false → linked ltb (a ∷ b ∷ l) && all (λ n. leb low n && ltb n next) (b ∷ l) ≡ numbered (a + 1) next (b ∷ l)
+    below : ltb a b ≡ false → linked ltb (a ∷ b ∷ l) && allOf (λ n. leb low n && ltb n next) (b ∷ l)
+        ≡ numbered (a + 1) next (b ∷ l)
     below e = rw (e, sym (ltb-suc a b) ∙ e) (sym (&&-false (linked ltb (b ∷ l))))
 
-    above : ltb a b ≡ true → ((k : ℕ) → k ≤ b + 1 → linked ltb (b ∷ l) && all (λ n. leb k n && ltb n next) l ≡ numbered (b + 1) next l) → linked ltb (a ∷ b ∷ l) && all (λ n. leb low n && ltb n next) (b ∷ l) ≡ numbered (a + 1) next (b ∷ l)
+    above : ltb a b ≡ true → ((k : ℕ) → k ≤ b + 1 → linked ltb (b ∷ l) && allOf (λ n. leb k n && ltb n next) l
+        ≡ numbered (b + 1) next l) → linked ltb (a ∷ b ∷ l) && allOf (λ n. leb low n && ltb n next) (b ∷ l)
+        ≡ numbered (a + 1) next (b ∷ l)
     above e later =
         let g : a < b = ltb-true a b e in
         let s = later low (omega arith) in
         let t = later (a + 1) (omega arith) in
-        let swap : (x y z : Bool) → x && (y && z) ≡ y && (x && z) = eq3 (λ x y z. x && (y && z)) (λ x y z. y && (x && z)) tt in
+        let swap : (x y z : Bool) → x && (y && z) ≡ y && (x && z) =
+        eq3 (λ x y z. x && (y && z)) (λ x y z. y && (x && z)) tt in
         rw (e, le-leb low b (omega arith), le-leb (a + 1) b (omega arith))
-        (swap (linked ltb (b ∷ l)) (ltb b next) (all (λ n. leb low n && ltb n next) l)
+        (swap (linked ltb (b ∷ l)) (ltb b next) (allOf (λ n. leb low n && ltb n next) l)
         ∙ ap (λ (x : Bool). ltb b next && x) (s ∙ sym t)
-        ∙ sym (swap (linked ltb (b ∷ l)) (ltb b next) (all (λ n. leb (a + 1) n && ltb n next) l)))
+        ∙ sym (swap (linked ltb (b ∷ l)) (ltb b next) (allOf (λ n. leb (a + 1) n && ltb n next) l)))
 
 -- the first number is in range, and those after it rise from it
-pub numbered-cons : (low next a : ℕ) (l : List ℕ) → numbered low next (a ∷ l) ≡ (leb low a && ltb a next) && numbered (a + 1) next l
-numbered-cons low next a l = elim (which (leb low a)) [ inl e ↦ within e | inr e ↦ rw e (&&-false (linked ltb (a ∷ l))) ]
+pub numbered-cons : (low next a : ℕ) (l : List ℕ) → numbered low next (a ∷ l) ≡ (leb low a && ltb a next)
+    && numbered (a + 1) next l
+numbered-cons low next a l = elim (which (leb low a)) [
+  | inl e ↦ within e
+  | inr e ↦ rw e
+      (&&-false (linked ltb (a ∷ l)))
+]
   where
     within : leb low a ≡ true → numbered low next (a ∷ l) ≡ (leb low a && ltb a next) && numbered (a + 1) next l
     within e =
         let g : low ≤ a = leb-true low a e in
-        let swap : (x y z : Bool) → x && (y && z) ≡ y && (x && z) = eq3 (λ x y z. x && (y && z)) (λ x y z. y && (x && z)) tt in
-        rw e (swap (linked ltb (a ∷ l)) (ltb a next) (all (λ n. leb low n && ltb n next) l) ∙ ap (λ (x : Bool). ltb a next && x) (rise-after low next a l (omega arith)))
+        let swap : (x y z : Bool) → x && (y && z) ≡ y && (x && z) =
+        eq3 (λ x y z. x && (y && z)) (λ x y z. y && (x && z)) tt in
+        rw e (swap (linked ltb (a ∷ l)) (ltb a next) (allOf (λ n. leb low n && ltb n next) l)
+        ∙ ap (λ (x : Bool). ltb a next && x) (rise-after low next a l (omega arith)))
 
 -- a next number further on
-pub numbered-wider : (least next top : ℕ) (l : List ℕ) → next ≤ top → numbered least next l ≡ true → numbered least top l ≡ true
+pub numbered-wider : (least next top : ℕ) (l : List ℕ) → next ≤ top → numbered least next l ≡ true
+    → numbered least top l ≡ true
 numbered-wider least next top l h e =
-    let s : linked ltb l ≡ true = and-left (linked ltb l) (all (λ n. leb least n && ltb n next) l) e in
-    let t = and-right (linked ltb l) (all (λ n. leb least n && ltb n next) l) e in
+    let s : linked ltb l ≡ true = and-left (linked ltb l) (allOf (λ n. leb least n && ltb n next) l) e in
+    let t = and-right (linked ltb l) (allOf (λ n. leb least n && ltb n next) l) e in
     rw s (all-weaker (λ n. leb least n && ltb n next) (λ n. leb least n && ltb n top) wider l t)
   where
     wider : (n : ℕ) → leb least n && ltb n next ≡ true → leb least n && ltb n top ≡ true
@@ -80,10 +105,13 @@ numbered-wider least next top l h e =
         rw (and-left (leb least n) (ltb n next) q, lt-ltb n top (omega arith))
 
 module _ (g : ℕ → ℕ) (low next i n : ℕ) (h : i < n) where
-  numbered-step : numbered low next (table g i (n - i)) ≡ (leb low (g i) && ltb (g i) next) && numbered (g i + 1) next (table g (i + 1) (n - (i + 1)))
-  numbered-step = ap (numbered low next) (table-step g i n h) ∙ numbered-cons low next (g i) (table g (i + 1) (n - (i + 1)))
+  numbered-step : numbered low next (table g i (n - i)) ≡ (leb low (g i) && ltb (g i) next)
+      && numbered (g i + 1) next (table g (i + 1) (n - (i + 1)))
+  numbered-step = ap (numbered low next) (table-step g i n h)
+      ∙ numbered-cons low next (g i) (table g (i + 1) (n - (i + 1)))
 
-  pub numbered-hit : low ≤ g i → g i < next → numbered low next (table g i (n - i)) ≡ numbered (g i + 1) next (table g (i + 1) (n - (i + 1)))
+  pub numbered-hit : low ≤ g i → g i < next → numbered low next (table g i (n - i))
+      ≡ numbered (g i + 1) next (table g (i + 1) (n - (i + 1)))
   numbered-hit s t = numbered-step ∙ rw (le-leb low (g i) s, lt-ltb (g i) next t)
 
   pub numbered-low : g i < low → numbered low next (table g i (n - i)) ≡ false
@@ -99,26 +127,32 @@ numbered-end g low next i n h = ap (numbered low next) (table-end g i n h)
 
 module _ (l : List ℤ) (n : ℕ) where
   -- its numbers are not negative in rows that are in range
-  pub node-naturals : all nodeRanges (rows 4 n l) ≡ true → all nonNeg (column 4 l n) ≡ true
-  node-naturals r = all-of-table nonNeg (λ i. getD l (i * 4) (pos 0)) 0 n (λ i s t. ap nonNeg (node-cells l i (rows-all 4 l nodeRanges n r i (omega arith)) .number))
+  pub node-naturals : allOf nodeRanges (rows 4 n l) ≡ true → allOf nonNeg (column 4 l n) ≡ true
+  node-naturals r = all-of-table nonNeg (λ i. getD l (i * 4) (pos 0)) 0 n
+      (λ i s t. ap nonNeg (node-cells l i (rows-all 4 l nodeRanges n r i (omega arith)) .number))
 
-  pub edge-naturals : all edgeRanges (rows 32 n l) ≡ true → all nonNeg (column 32 l n) ≡ true
-  edge-naturals r = all-of-table nonNeg (λ i. getD l (i * 32) (pos 0)) 0 n (λ i s t. ap nonNeg (edge-cells l i (rows-all 32 l edgeRanges n r i (omega arith)) .number))
+  pub edge-naturals : allOf edgeRanges (rows 32 n l) ≡ true → allOf nonNeg (column 32 l n) ≡ true
+  edge-naturals r = all-of-table nonNeg (λ i. getD l (i * 32) (pos 0)) 0 n
+      (λ i s t. ap nonNeg (edge-cells l i (rows-all 32 l edgeRanges n r i (omega arith)) .number))
 
-  pub face-naturals : all faceRanges (rows 1 n l) ≡ true → all nonNeg (column 1 l n) ≡ true
-  face-naturals r = all-of-table nonNeg (λ i. getD l (i * 1) (pos 0)) 0 n (λ i s t. ap nonNeg (face-cell l i (rows-all 1 l faceRanges n r i (omega arith))))
+  pub face-naturals : allOf faceRanges (rows 1 n l) ≡ true → allOf nonNeg (column 1 l n) ≡ true
+  face-naturals r = all-of-table nonNeg (λ i. getD l (i * 1) (pos 0)) 0 n
+      (λ i s t. ap nonNeg (face-cell l i (rows-all 1 l faceRanges n r i (omega arith))))
 
   -- they are the rows' numbers
   pub node-column : table (λ i. natAbs (getD l (i * 4) (pos 0))) 0 n ≡ map (λ r. r .number) (nodesOf l n)
   unfolding nodeOf
-  node-column = sym (node-numbers l n ∙ table-same (λ i. nodeAt l i .number) (λ i. natAbs (getD l (i * 4) (pos 0))) 0 n (λ i s t. ap natAbs (row-first 4 l i (lit< tt))))
+  node-column = sym (node-numbers l n ∙ table-same (λ i. nodeAt l i .number) (λ i. natAbs (getD l (i * 4) (pos 0))) 0 n
+      (λ i s t. ap natAbs (row-first 4 l i (lit< tt))))
 
   pub edge-column : table (λ i. natAbs (getD l (i * 32) (pos 0))) 0 n ≡ map (λ r. r .number) (edgesOf l n)
   unfolding edgeOf
-  edge-column = sym (edge-numbers l n ∙ table-same (λ i. edgeAt l i .number) (λ i. natAbs (getD l (i * 32) (pos 0))) 0 n (λ i s t. ap natAbs (row-first 32 l i (lit< tt))))
+  edge-column = sym (edge-numbers l n ∙ table-same (λ i. edgeAt l i .number)
+      (λ i. natAbs (getD l (i * 32) (pos 0))) 0 n (λ i s t. ap natAbs (row-first 32 l i (lit< tt))))
 
   pub face-column : table (λ i. natAbs (getD l (i * 1) (pos 0))) 0 n ≡ facesOf l n
-  face-column = sym (faces-table l n ∙ table-same (faceAt l) (λ i. natAbs (getD l (i * 1) (pos 0))) 0 n (λ i s t. ap natAbs (row-first 1 l i (lit< tt))))
+  face-column = sym (faces-table l n ∙ table-same (faceAt l) (λ i. natAbs (getD l (i * 1) (pos 0))) 0 n
+      (λ i s t. ap natAbs (row-first 1 l i (lit< tt))))
 
 -- the first face
 pub first-face : (l : List ℤ) (n : ℕ) → 1 ≤ n → firstOr 1 (facesOf l n) ≡ natAbs (getD l 0 (pos 0))

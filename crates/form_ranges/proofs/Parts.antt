@@ -13,16 +13,18 @@ use mir.Val.{SFits}
 use borrow.Author.Needs.{sfits-of}
 use borrow.Author.Tests.{leb-true}
 use Rattle.lists.specs.Tests.{same}
-use Rattle.lists.specs.Scans.{all, firstOr}
+use Rattle.lists.specs.Scans.{allOf, firstOr}
 use Rattle.curves.proofs.Runs.{and-left, and-right}
 use Rattle.map.specs.declared.Head.{Head}
 use Rattle.map.specs.Limits.{nodeWidth, edgeWidth, faceWidth, lastNumber}
 use Rattle.map.specs.Rows.{Edge, rows, mapOf, node, hasNode, hasEdge, hasFace}
-use Rattle.map.specs.Form.{within, countsFit, nextsFit, restZero, nodeRanges, edgeRanges, faceRanges, ranged, numbered, numbers, named, edgeNames, inFace, curveFits}
+use Rattle.map.specs.Form.{within, countsFit, nextsFit, restZero, nodeRanges, edgeRanges, faceRanges, ranged, numbered}
+use Rattle.map.specs.Form.{numbers, named, edgeNames, inFace, curveFits}
 use Rattle.map.proofs.RoundTrip.{within-least}
 use Rattle.tables.specs.declared.Counts.{Counts}
 use Rattle.tables.specs.Tables.{nodesOf, edgesOf, facesOf, nodeMap, NodeRows, EdgeRows, FaceRows}
-use Rattle.form_ranges.specs.Ranges.{lent, countsOf, mapIn, rangedRows, Counted, EdgesInOrder, InRanges, InOrder, Named}
+use Rattle.form_ranges.specs.Ranges.{lent, countsOf, mapIn, rangedRows, Counted, EdgesInOrder, InRanges, InOrder}
+use Rattle.form_ranges.specs.Ranges.{Named}
 use Rattle.form_ranges.proofs.Columns.{all-same, all-weaker, numbered-wider}
 
 module _ (a b c d e f : Bool) (h : a && b && c && d && e && f ≡ true) where
@@ -31,8 +33,14 @@ module _ (a b c d e f : Bool) (h : a && b && c && d && e && f ≡ true) where
       let h₅ = and-left (a && b && c && d && e) f h in
       let h₄ = and-left (a && b && c && d) e h₅ in
       let h₃ = and-left (a && b && c) d h₄ in
-      let h₂ = and-left (a && b) c h₃ in
-      (and-left a b h₂, and-right a b h₂, and-right (a && b) c h₃, and-right (a && b && c) d h₄, and-right (a && b && c && d) e h₅, and-right (a && b && c && d && e) f h)
+      let h₂ = and-left (a && b) c h₃ in (
+        and-left a b h₂,
+        and-right a b h₂,
+        and-right (a && b) c h₃,
+        and-right (a && b && c) d h₄,
+        and-right (a && b && c && d) e h₅,
+        and-right (a && b && c && d && e) f h,
+      )
 
   links : c && d ≡ true
   links = rw (and₆ .2, and₆ .3)
@@ -61,10 +69,10 @@ next-of z h = let r = within-in 1 (suc lastNumber) z h in record { natural = r .
 pub nexts-in : (h : Head) → nextsFit h ≡ true → Next (h .«next_node») × Next (h .«next_edge») × Next (h .«next_face»)
 nexts-in h e =
     let w : ℤ → Bool = within 1 (suc lastNumber) in
-    let f = and-right (w (h .«next_node»)) (all w (h .«next_edge» ∷ h .«next_face» ∷ [])) e in
-    let g = and-right (w (h .«next_edge»)) (all w (h .«next_face» ∷ [])) f in (
-      next-of (h .«next_node») (and-left (w (h .«next_node»)) (all w (h .«next_edge» ∷ h .«next_face» ∷ [])) e),
-      next-of (h .«next_edge») (and-left (w (h .«next_edge»)) (all w (h .«next_face» ∷ [])) f),
+    let f = and-right (w (h .«next_node»)) (allOf w (h .«next_edge» ∷ h .«next_face» ∷ [])) e in
+    let g = and-right (w (h .«next_edge»)) (allOf w (h .«next_face» ∷ [])) f in (
+      next-of (h .«next_node») (and-left (w (h .«next_node»)) (allOf w (h .«next_edge» ∷ h .«next_face» ∷ [])) e),
+      next-of (h .«next_edge») (and-left (w (h .«next_edge»)) (allOf w (h .«next_face» ∷ [])) f),
       next-of (h .«next_face») (and-left (w (h .«next_face»)) true g),
     )
 
@@ -74,7 +82,8 @@ div-room : (a n w : ℕ) → a ≤ n / suc w → a * suc w ≤ n
 div-room a n w h = le-trans (mul-le-mul-right (suc w) h) (div-mul-le-self n (suc w))
 
 -- counts and next numbers that fit, as the other parts require them
-pub counted : (nodes edges faces : List ℤ) (h : Head) → countsFit (lent nodes edges faces h) ≡ true → nextsFit h ≡ true → Counted nodes edges faces (countsOf h) h
+pub counted : (nodes edges faces : List ℤ) (h : Head) → countsFit (lent nodes edges faces h) ≡ true → nextsFit h ≡ true
+    → Counted nodes edges faces (countsOf h) h
 counted nodes edges faces h e f =
     let p = within 0 (length nodes / nodeWidth) (h .nodes) in
     let q = within 0 (length edges / edgeWidth) (h .edges) in
@@ -82,15 +91,19 @@ counted nodes edges faces h e f =
     let g = and-left (p && q) s e in
     let k = and-right (p && q) s e in
     record {
-      nodes-fit = div-room (natAbs (h .nodes)) (length nodes) 3 (within-in 0 (length nodes / nodeWidth) (h .nodes) (and-left p q g) .1);
-      edges-fit = div-room (natAbs (h .edges)) (length edges) 31 (within-in 0 (length edges / edgeWidth) (h .edges) (and-right p q g) .1);
-      faces-fit = div-room (natAbs (h .faces)) (length faces) 0 (within-in 1 (length faces / faceWidth) (h .faces) k .1);
+      nodes-fit = div-room (natAbs (h .nodes)) (length nodes) 3
+          (within-in 0 (length nodes / nodeWidth) (h .nodes) (and-left p q g) .1);
+      edges-fit = div-room (natAbs (h .edges)) (length edges) 31
+          (within-in 0 (length edges / edgeWidth) (h .edges) (and-right p q g) .1);
+      faces-fit = div-room (natAbs (h .faces)) (length faces) 0
+          (within-in 1 (length faces / faceWidth) (h .faces) k .1);
       a-face = within-least 1 (length faces / faceWidth) (h .faces) k;
       nexts = f;
     }
 
 -- the counts are not negative
-pub counts-natural : (nodes edges faces : List ℤ) (h : Head) → countsFit (lent nodes edges faces h) ≡ true → T (nonNeg (h .nodes)) × T (nonNeg (h .edges)) × T (nonNeg (h .faces))
+pub counts-natural : (nodes edges faces : List ℤ) (h : Head) → countsFit (lent nodes edges faces h) ≡ true
+    → T (nonNeg (h .nodes)) × T (nonNeg (h .edges)) × T (nonNeg (h .faces))
 counts-natural nodes edges faces h e =
     let p = within 0 (length nodes / nodeWidth) (h .nodes) in
     let q = within 0 (length edges / edgeWidth) (h .edges) in
@@ -104,11 +117,15 @@ counts-natural nodes edges faces h e =
 -- ---- the definitions of condition 2, by these parts
 
 module _ (nodes edges faces : List ℤ) (h : Head) where
-  pub ranged-is : ranged (lent nodes edges faces h) ≡ countsFit (lent nodes edges faces h) && nextsFit h && rangedRows nodes edges faces (countsOf h)
+  pub ranged-is : ranged (lent nodes edges faces h) ≡ countsFit (lent nodes edges faces h) && nextsFit h
+      && rangedRows nodes edges faces (countsOf h)
   unfolding ranged
   ranged-is =
-      regroup (countsFit (lent nodes edges faces h) && nextsFit h) (restZero nodeWidth (h .nodes) nodes) (restZero edgeWidth (h .edges) edges) (restZero faceWidth (h .faces) faces)
-      (all nodeRanges (rows nodeWidth (natAbs (h .nodes)) nodes)) (all edgeRanges (rows edgeWidth (natAbs (h .edges)) edges)) (all faceRanges (rows faceWidth (natAbs (h .faces)) faces))
+      regroup (countsFit (lent nodes edges faces h) && nextsFit h) (restZero nodeWidth (h .nodes) nodes)
+      (restZero edgeWidth (h .edges) edges) (restZero faceWidth (h .faces) faces)
+      (allOf nodeRanges (rows nodeWidth (natAbs (h .nodes)) nodes))
+      (allOf edgeRanges (rows edgeWidth (natAbs (h .edges)) edges))
+      (allOf faceRanges (rows faceWidth (natAbs (h .faces)) faces))
     where
       regroup : (x a b c d e f : Bool) → x && a && b && c && d && e && f ≡ x && (a && b && c && d && e && f)
       regroup true a b c d e f = refl
@@ -119,18 +136,24 @@ module _ (nodes edges faces : List ℤ) (h : Head) where
   map-is = refl
 
 -- points are looked up among the nodes
-pub curves-are : (nodes edges faces : List ℤ) (c : Counts) (h : Head) (l : List Edge) → all (curveFits (nodeMap nodes (c .nodes))) l ≡ all (curveFits (mapIn nodes edges faces c h)) l
+pub curves-are : (nodes edges faces : List ℤ) (c : Counts) (h : Head) (l : List Edge)
+    → allOf (curveFits (nodeMap nodes (c .nodes))) l ≡ allOf (curveFits (mapIn nodes edges faces c h)) l
 unfolding node
-curves-are nodes edges faces c h l = all-same (curveFits (nodeMap nodes (c .nodes))) (curveFits (mapIn nodes edges faces c h)) (λ e. refl) l
+curves-are nodes edges faces c h l = all-same (curveFits (nodeMap nodes (c .nodes)))
+    (curveFits (mapIn nodes edges faces c h)) (λ e. refl) l
 
 module _ {nodes edges faces : List ℤ} {c : Counts} {h : Head} where
   -- ---- rows in range
 
   module _ (r : InRanges nodes edges faces c h) where
-    pub ranged-rows : (all nodeRanges (rows nodeWidth (c .nodes) nodes) ≡ true) × (all edgeRanges (rows edgeWidth (c .edges) edges) ≡ true) × (all faceRanges (rows faceWidth (c .faces) faces) ≡ true)
+    pub ranged-rows : (allOf nodeRanges (rows nodeWidth (c .nodes) nodes) ≡ true)
+        × (allOf edgeRanges (rows edgeWidth (c .edges) edges) ≡ true)
+        × (allOf faceRanges (rows faceWidth (c .faces) faces) ≡ true)
     ranged-rows =
-        let e = and₆ (restZero nodeWidth (pos (c .nodes)) nodes) (restZero edgeWidth (pos (c .edges)) edges) (restZero faceWidth (pos (c .faces)) faces)
-        (all nodeRanges (rows nodeWidth (c .nodes) nodes)) (all edgeRanges (rows edgeWidth (c .edges) edges)) (all faceRanges (rows faceWidth (c .faces) faces)) (r .ranged) in
+        let e = and₆ (restZero nodeWidth (pos (c .nodes)) nodes) (restZero edgeWidth (pos (c .edges)) edges)
+        (restZero faceWidth (pos (c .faces)) faces)
+        (allOf nodeRanges (rows nodeWidth (c .nodes) nodes)) (allOf edgeRanges (rows edgeWidth (c .edges) edges))
+        (allOf faceRanges (rows faceWidth (c .faces) faces)) (r .ranged) in
         (e .3, e .4, e .5)
 
   -- ---- rows in order
@@ -153,7 +176,9 @@ module _ {nodes edges faces : List ℤ} {c : Counts} {h : Head} where
         record {
           fits = r .in-ranges .counted .nodes-fit;
           ranges = ranged-rows (r .in-ranges) .0;
-          rising = numbered-wider 1 (natAbs (h .«next_node»)) (suc lastNumber) (map (λ n. n .number) (nodesOf nodes (c .nodes))) (nexts-in h (r .in-ranges .counted .nexts) .0 .most) (in-order .0);
+          rising = numbered-wider 1 (natAbs (h .«next_node»)) (suc lastNumber)
+              (map (λ n. n .number) (nodesOf nodes (c .nodes))) (nexts-in h (r .in-ranges .counted .nexts) .0 .most)
+              (in-order .0);
         }
 
     pub edges-in-order : EdgesInOrder edges (c .edges)
@@ -161,7 +186,9 @@ module _ {nodes edges faces : List ℤ} {c : Counts} {h : Head} where
         record {
           fits = r .in-ranges .counted .edges-fit;
           ranges = ranged-rows (r .in-ranges) .1;
-          rising = numbered-wider 1 (natAbs (h .«next_edge»)) (suc lastNumber) (map (λ n. n .number) (edgesOf edges (c .edges))) (nexts-in h (r .in-ranges .counted .nexts) .1 .most) (in-order .1);
+          rising = numbered-wider 1 (natAbs (h .«next_edge»)) (suc lastNumber)
+              (map (λ n. n .number) (edgesOf edges (c .edges))) (nexts-in h (r .in-ranges .counted .nexts) .1 .most)
+              (in-order .1);
         }
 
     pub face-rows : FaceRows faces (c .faces)
@@ -169,7 +196,8 @@ module _ {nodes edges faces : List ℤ} {c : Counts} {h : Head} where
         record {
           fits = r .in-ranges .counted .faces-fit;
           ranges = ranged-rows (r .in-ranges) .2;
-          rising = numbered-wider 0 (natAbs (h .«next_face»)) (suc lastNumber) (facesOf faces (c .faces)) (nexts-in h (r .in-ranges .counted .nexts) .2 .most) (in-order .2);
+          rising = numbered-wider 0 (natAbs (h .«next_face»)) (suc lastNumber) (facesOf faces (c .faces))
+              (nexts-in h (r .in-ranges .counted .nexts) .2 .most) (in-order .2);
         }
 
   -- ---- named rows
@@ -184,6 +212,8 @@ module _ {nodes edges faces : List ℤ} {c : Counts} {h : Head} where
         ranges = o .ranges;
         rising = o .rising;
         named = all-weaker (edgeNames m) (λ e. hasEdge m (e .nextLeft .edge) && hasEdge m (e .nextRight .edge))
-            (λ e q. links (hasNode m (e .start)) (hasNode m (e .end)) (hasEdge m (e .nextLeft .edge)) (hasEdge m (e .nextRight .edge)) (hasFace m (e .left)) (hasFace m (e .right)) q) (edgesOf edges (c .edges))
-            (and-right (all (λ n. inFace m (n .face)) (nodesOf nodes (c .nodes))) (all (edgeNames m) (edgesOf edges (c .edges))) (r .named));
+            (λ e q. links (hasNode m (e .start)) (hasNode m (e .end)) (hasEdge m (e .nextLeft .edge))
+            (hasEdge m (e .nextRight .edge)) (hasFace m (e .left)) (hasFace m (e .right)) q) (edgesOf edges (c .edges))
+            (and-right (allOf (λ n. inFace m (n .face)) (nodesOf nodes (c .nodes)))
+            (allOf (edgeNames m) (edgesOf edges (c .edges))) (r .named));
       }

@@ -5,7 +5,7 @@ use mathlib.Core.List.{List, [], map}
 use Prim.Native.Nat.{ℕ, suc, _*_, _≤_}
 use lib.IntN.{ℤ, pos, natAbs}
 use lib.ListN.{length}
-use Rattle.lists.specs.Scans.{all}
+use Rattle.lists.specs.Scans.{allOf}
 use Rattle.map.specs.declared.Head.{Head}
 use Rattle.map.specs.Limits.{nodeWidth, edgeWidth, faceWidth, lastNumber}
 use Rattle.map.specs.Rows.{Map, Lent, rows}
@@ -47,9 +47,9 @@ rangedRows nodes edges faces c =
     restZero nodeWidth (pos (c .nodes)) nodes
     && restZero edgeWidth (pos (c .edges)) edges
     && restZero faceWidth (pos (c .faces)) faces
-    && all nodeRanges (rows nodeWidth (c .nodes) nodes)
-    && all edgeRanges (rows edgeWidth (c .edges) edges)
-    && all faceRanges (rows faceWidth (c .faces) faces)
+    && allOf nodeRanges (rows nodeWidth (c .nodes) nodes)
+    && allOf edgeRanges (rows edgeWidth (c .edges) edges)
+    && allOf faceRanges (rows faceWidth (c .faces) faces)
 
 pub record InRanges (nodes edges faces : List ℤ) (c : Counts) (h : Head) : Type 0 where
   pub counted : Counted nodes edges faces c h
@@ -62,7 +62,7 @@ faceMap l n = record { nodes = []; edges = []; faces = facesOf l n; nextNode = 0
 -- edges in range, in rising order: `EdgeRows` before it is known that their links name edges
 pub record EdgesInOrder (l : List ℤ) (n : ℕ) : Type 0 where
   pub fits : n * edgeWidth ≤ length l
-  pub ranges : all edgeRanges (rows edgeWidth n l) ≡ true
+  pub ranges : allOf edgeRanges (rows edgeWidth n l) ≡ true
   pub rising : numbered 1 (suc lastNumber) (map (λ r. r .number) (edgesOf l n)) ≡ true
 
 -- numbers rise and are below the next number

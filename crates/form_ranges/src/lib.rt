@@ -1,5 +1,6 @@
 // Condition 1, and of condition 2 what needs no walk: counts, ranges and zero rows, numbers.
 use map::Head;
+use map::Map;
 use tables::Counts;
 ghost use mathlib.Core.Path.{_≡_};
 ghost use mathlib.Core.Bool.{true, false, _&&_};
@@ -9,13 +10,15 @@ ghost use lib.Dec.{T};
 ghost use lib.IntN.{pos, natAbs};
 ghost use lib.Signed.{leZ, nonNeg};
 ghost use lib.ListN.{length, getD, take, drop};
-ghost use Rattle.lists.specs.Scans.{all};
+ghost use Rattle.lists.specs.Scans.{allOf};
 ghost use Rattle.lists.specs.Tables.{table};
 ghost use Rattle.curves.specs.Curves.{coordinate};
 ghost use Rattle.map.specs.Rows.{cell, whole, wholeRows, sizesOf, rows};
 ghost use Rattle.map.specs.Form.{isZero, countsFit, nextsFit, nodeRanges, edgeRanges, faceRanges, numbered, numbers};
 ghost use Rattle.tables.specs.Tables.{column};
 ghost use Rattle.form_ranges.specs.Ranges.{lent, countsOf, mapIn, rangedRows, InRanges};
+
+const POINTS: i64 = Map::POINTS as i64;
 
 // ---- 1: whole rows within the limits, and a face row
 
@@ -30,7 +33,9 @@ fn whole_rows(t: &[i64], w: usize, least: usize, most: usize) -> bool
 pub fn is_whole(nodes: &[i64], edges: &[i64], faces: &[i64]) -> bool
     ensures { λ r. ⌜ ((h : _) → r ≡ whole (lent (now (nodes .entry)) (now (edges .entry)) (now (faces .entry)) h)) ⌝ }
 {
-    whole_rows(nodes, 4, 0, 1000) & whole_rows(edges, 32, 0, 2000) & whole_rows(faces, 1, 1, 1000)
+    whole_rows(nodes, map::NODE_WIDTH, 0, Map::NODES)
+        & whole_rows(edges, map::EDGE_WIDTH, 0, Map::EDGES)
+        & whole_rows(faces, map::FACE_WIDTH, 1, Map::FACES)
 }
 
 // ---- 2: numbers as they stand
@@ -44,14 +49,15 @@ fn within(z: i64, a: i64, b: i64) -> bool
 // Counts within the tables, and next numbers 1 to 1,000,000.
 pub fn head_fits(h: Head, nodes: usize, edges: usize, faces: usize) -> bool
     requires { ⌜ (nodes ≤ 1000) × (edges ≤ 2000) × (faces ≤ 1000) ⌝ }
-    ensures { λ r. ⌜ ((l : _) → sizesOf l ≡ record { nodes = nodes; edges = edges; faces = faces } → r ≡ (countsFit (record { nodes = l .nodes; edges = l .edges; faces = l .faces; head = h }) && nextsFit h)) ⌝ }
+    ensures { λ r. ⌜ ((l : _) → sizesOf l ≡ record { nodes = nodes; edges = edges; faces = faces } → r
+        ≡ (countsFit (record { nodes = l .nodes; edges = l .edges; faces = l .faces; head = h }) && nextsFit h)) ⌝ }
 {
     let counts = within(h.nodes, 0, nodes as i64)
         & within(h.edges, 0, edges as i64)
         & within(h.faces, 1, faces as i64);
-    let nexts = within(h.next_node, 1, 1000000)
-        & within(h.next_edge, 1, 1000000)
-        & within(h.next_face, 1, 1000000);
+    let nexts = within(h.next_node, 1, map::LAST_NEXT)
+        & within(h.next_edge, 1, map::LAST_NEXT)
+        & within(h.next_face, 1, map::LAST_NEXT);
     counts & nexts
 }
 
@@ -86,11 +92,11 @@ fn is_coordinate(t: &[i64], k: usize) -> bool
     ensures { λ r. ⌜ r ≡ coordinate (getD (now (t .entry)) k (pos 0)) ⌝ }
 {
     let z = t[k];
-    within(z, 0, 1048575)
+    within(z, 0, Map::COORDINATE)
 }
 
 fn are_zero(t: &[i64]) -> bool
-    ensures { λ r. ⌜ r ≡ all isZero (now (t .entry)) ⌝ }
+    ensures { λ r. ⌜ r ≡ allOf isZero (now (t .entry)) ⌝ }
 {
     let mut bits = 0;
     for i in 0..t.len() {
@@ -101,7 +107,7 @@ fn are_zero(t: &[i64]) -> bool
 }
 
 fn are_coordinates(t: &[i64]) -> bool
-    ensures { λ r. ⌜ r ≡ all coordinate (now (t .entry)) ⌝ }
+    ensures { λ r. ⌜ r ≡ allOf coordinate (now (t .entry)) ⌝ }
 {
     for i in 0..t.len() {
         if !is_coordinate(t, i) {
@@ -114,7 +120,7 @@ fn are_coordinates(t: &[i64]) -> bool
 // All numbers from `at` on are 0.
 fn rest_zero(t: &[i64], at: usize) -> bool
     requires { ⌜ at ≤ length (now t) ⌝ }
-    ensures { λ r. ⌜ r ≡ all isZero (drop at (now (t .entry))) ⌝ }
+    ensures { λ r. ⌜ r ≡ allOf isZero (drop at (now (t .entry))) ⌝ }
 {
     are_zero(&t[at..])
 }
@@ -123,17 +129,17 @@ fn node_ranges(row: &[i64]) -> bool
     requires { ⌜ length (now row) ≡ 4 ⌝ }
     ensures { λ r. ⌜ r ≡ nodeRanges (now (row .entry)) ⌝ }
 {
-    let z = row[3];
-    is_natural(row, 0) & is_coordinate(row, 1) & is_coordinate(row, 2) & (-1 <= z)
+    let z = row[map::NODE_FACE];
+    is_natural(row, 0) & is_coordinate(row, map::X) & is_coordinate(row, map::Y) & (-1 <= z)
 }
 
 fn nodes_ranged(nodes: &[i64], n: usize) -> bool
     requires { ⌜ n * 4 ≤ length (now nodes) ⌝ }
-    ensures { λ r. ⌜ r ≡ all nodeRanges (rows 4 n (now (nodes .entry))) ⌝ }
+    ensures { λ r. ⌜ r ≡ allOf nodeRanges (rows 4 n (now (nodes .entry))) ⌝ }
 {
     for i in 0..n {
-        let a = i * 4;
-        let b = a + 4;
+        let a = i * map::NODE_WIDTH;
+        let b = a + map::NODE_WIDTH;
         if !node_ranges(&nodes[a..b]) {
             return false;
         }
@@ -144,33 +150,35 @@ fn nodes_ranged(nodes: &[i64], n: usize) -> bool
 // The numbers of a row that may not be negative.
 fn edge_naturals(row: &[i64]) -> bool
     requires { ⌜ length (now row) ≡ 32 ⌝ }
-    ensures { λ r. ⌜ r ≡ all nonNeg (cell (now (row .entry)) 0 ∷ cell (now (row .entry)) 1 ∷ cell (now (row .entry)) 2 ∷ cell (now (row .entry)) 5 ∷ cell (now (row .entry)) 6 ∷ []) ⌝ }
+    ensures { λ r. ⌜ r ≡ allOf nonNeg (cell (now (row .entry)) 0 ∷ cell (now (row .entry)) 1
+        ∷ cell (now (row .entry)) 2 ∷ cell (now (row .entry)) 5 ∷ cell (now (row .entry)) 6 ∷ []) ⌝ }
 {
     is_natural(row, 0)
-        & is_natural(row, 1)
-        & is_natural(row, 2)
-        & is_natural(row, 5)
-        & is_natural(row, 6)
+        & is_natural(row, map::START)
+        & is_natural(row, map::END)
+        & is_natural(row, map::LEFT)
+        & is_natural(row, map::RIGHT)
 }
 
 // Coordinates of n points, and zeros behind them.
 fn points_ranged(row: &[i64], n: usize) -> bool
     requires { ⌜ (length (now row) ≡ 32) × (n ≤ 12) ⌝ }
-    ensures { λ r. ⌜ r ≡ (all coordinate (take (2 * n) (drop 8 (now (row .entry)))) && all isZero (drop (2 * n) (drop 8 (now (row .entry))))) ⌝ }
+    ensures { λ r. ⌜ r ≡ (allOf coordinate (take (2 * n) (drop 8 (now (row .entry))))
+        && allOf isZero (drop (2 * n) (drop 8 (now (row .entry))))) ⌝ }
 {
-    let end = 8 + 2 * n;
-    are_coordinates(&row[8..end]) & rest_zero(row, end)
+    let end = map::POINTS_AT + 2 * n;
+    are_coordinates(&row[map::POINTS_AT..end]) & rest_zero(row, end)
 }
 
 fn edge_ranges(row: &[i64]) -> bool
     requires { ⌜ length (now row) ≡ 32 ⌝ }
     ensures { λ r. ⌜ r ≡ edgeRanges (now (row .entry)) ⌝ }
 {
-    let z = row[7];
-    if !(edge_naturals(row) & within(z, 2, 12)) {
+    let z = row[map::POINT_COUNT];
+    if !(edge_naturals(row) & within(z, 2, POINTS)) {
         return false;
     }
-    let n = natural(row, 7);
+    let n = natural(row, map::POINT_COUNT);
     // most edges are straight: the compiler unrolls the tests of two points
     if n == 2 {
         return points_ranged(row, 2);
@@ -180,11 +188,11 @@ fn edge_ranges(row: &[i64]) -> bool
 
 fn edges_ranged(edges: &[i64], n: usize) -> bool
     requires { ⌜ n * 32 ≤ length (now edges) ⌝ }
-    ensures { λ r. ⌜ r ≡ all edgeRanges (rows 32 n (now (edges .entry))) ⌝ }
+    ensures { λ r. ⌜ r ≡ allOf edgeRanges (rows 32 n (now (edges .entry))) ⌝ }
 {
     for i in 0..n {
-        let a = i * 32;
-        let b = a + 32;
+        let a = i * map::EDGE_WIDTH;
+        let b = a + map::EDGE_WIDTH;
         if !edge_ranges(&edges[a..b]) {
             return false;
         }
@@ -194,7 +202,7 @@ fn edges_ranged(edges: &[i64], n: usize) -> bool
 
 fn faces_ranged(faces: &[i64], n: usize) -> bool
     requires { ⌜ n ≤ length (now faces) ⌝ }
-    ensures { λ r. ⌜ r ≡ all faceRanges (rows 1 n (now (faces .entry))) ⌝ }
+    ensures { λ r. ⌜ r ≡ allOf faceRanges (rows 1 n (now (faces .entry))) ⌝ }
 {
     for i in 0..n {
         if !is_natural(faces, i) {
@@ -205,11 +213,12 @@ fn faces_ranged(faces: &[i64], n: usize) -> bool
 }
 
 pub fn is_ranged(nodes: &[i64], edges: &[i64], faces: &[i64], c: Counts) -> bool
-    requires { ⌜ (c .nodes * 4 ≤ length (now nodes)) × (c .edges * 32 ≤ length (now edges)) × (c .faces ≤ length (now faces)) ⌝ }
+    requires { ⌜ (c .nodes * 4 ≤ length (now nodes)) × (c .edges * 32 ≤ length (now edges))
+        × (c .faces ≤ length (now faces)) ⌝ }
     ensures { λ r. ⌜ r ≡ rangedRows (now (nodes .entry)) (now (edges .entry)) (now (faces .entry)) c ⌝ }
 {
-    if !(rest_zero(nodes, c.nodes * 4)
-        & rest_zero(edges, c.edges * 32)
+    if !(rest_zero(nodes, c.nodes * map::NODE_WIDTH)
+        & rest_zero(edges, c.edges * map::EDGE_WIDTH)
         & rest_zero(faces, c.faces)) {
         return false;
     }
@@ -220,7 +229,7 @@ pub fn is_ranged(nodes: &[i64], edges: &[i64], faces: &[i64], c: Counts) -> bool
 
 // The first column rises from `least` on and is below `next`.
 fn numbers_rise(t: &[i64], w: usize, count: usize, least: usize, next: usize) -> bool
-    requires { ⌜ (1 ≤ w) × (count * w ≤ length (now t)) × (all nonNeg (column w (now t) count) ≡ true) ⌝ }
+    requires { ⌜ (1 ≤ w) × (count * w ≤ length (now t)) × (allOf nonNeg (column w (now t) count) ≡ true) ⌝ }
     ensures { λ r. ⌜ r ≡ numbered least next (table (λ i. natAbs (getD (now (t .entry)) (i * w) (pos 0))) 0 count) ⌝ }
 {
     let mut low = least;
@@ -238,14 +247,14 @@ pub fn numbers_fit(nodes: &[i64], edges: &[i64], faces: &[i64], c: Counts, h: He
     requires { ⌜ InRanges (now nodes) (now edges) (now faces) c h ⌝ }
     ensures { λ r. ⌜ r ≡ numbers (mapIn (now (nodes .entry)) (now (edges .entry)) (now (faces .entry)) c h) ⌝ }
 {
-    if !numbers_rise(nodes, 4, c.nodes, 1, magnitude(h.next_node)) {
+    if !numbers_rise(nodes, map::NODE_WIDTH, c.nodes, 1, magnitude(h.next_node)) {
         return false;
     }
-    if !numbers_rise(edges, 32, c.edges, 1, magnitude(h.next_edge)) {
+    if !numbers_rise(edges, map::EDGE_WIDTH, c.edges, 1, magnitude(h.next_edge)) {
         return false;
     }
     let first = natural(faces, 0);
-    numbers_rise(faces, 1, c.faces, 0, magnitude(h.next_face)) & (first == 0)
+    numbers_rise(faces, map::FACE_WIDTH, c.faces, 0, magnitude(h.next_face)) & (first == 0)
 }
 
 pub fn counts_of(h: Head) -> Counts

@@ -1,5 +1,5 @@
--- Named rows: a search of the first column tells whether the map has the row. Containing faces, edges of links, ends of curves.
--- Assumes nothing.
+-- Named rows: a search of the first column tells whether the map has the row. Containing faces, edges of links, ends of
+-- curves. Assumes nothing.
 use mathlib.Core.Path.{_≡_, refl, sym, ap, _∙_}
 use mathlib.Core.Bool.{Bool, true, false, true≢false}
 use mathlib.Core.Logic.{inl, inr}
@@ -12,7 +12,7 @@ use lib.ListN.{length, getD}
 use lib.Signed.{ltZ}
 use borrow.Author.Tests.{ltb-true, ltb-false}
 pub use Rattle.integers.specs.Signs.{not-negative}
-use Rattle.lists.specs.Scans.{any, isSome}
+use Rattle.lists.specs.Scans.{anyOf, isSome}
 use Rattle.lists.specs.Tables.{table, place}
 use Rattle.lists.specs.declared.Found.the-variants.{At, Missing}
 use Rattle.curves.specs.Curves.{Curve, Run, pointAt, curveOf, lastPoint}
@@ -21,33 +21,34 @@ use Rattle.map.specs.Rows.{Map, hasNode, hasEdge, hasFace, faceOf, dartOf}
 use Rattle.map.specs.Form.{numbered, inFace}
 use Rattle.tables.specs.Tables.{sameZ, column, edgeAt, nodeMap, edgeMap, Rising, NodeRows, FaceRows}
 use Rattle.tables.proofs.Rows.{edge-numbers, edges-rising, number-in}
-use Rattle.tables.proofs.Lookups.{place-first, place-missing, any-find, which-place, node-found, node-missing, edge-found, edge-missing, face-found, face-missing}
+use Rattle.tables.proofs.Lookups.{place-first, place-missing, any-find, which-place, node-found, node-missing}
+use Rattle.tables.proofs.Lookups.{edge-found, edge-missing, face-found, face-missing}
 use Rattle.curves.proofs.Runs.{and-left, curve-is, last-is}
 use Rattle.form_ranges.specs.Ranges.{faceMap, EdgesInOrder}
 
 module _ {A : Type 0} (p : A → Bool) (f : ℕ → A) (n : ℕ) where
-  pub any-at : (i : ℕ) → place p 0 (table f 0 n) ≡ At i → any p (table f 0 n) ≡ true
+  pub any-at : (i : ℕ) → place p 0 (table f 0 n) ≡ At i → anyOf p (table f 0 n) ≡ true
   any-at i e = any-find p (table f 0 n) ∙ ap isSome (place-first p f n i e .found)
 
-  pub any-missing : place p 0 (table f 0 n) ≡ Missing → any p (table f 0 n) ≡ false
+  pub any-missing : place p 0 (table f 0 n) ≡ Missing → anyOf p (table f 0 n) ≡ false
   any-missing e = any-find p (table f 0 n) ∙ ap isSome (place-missing p f n e)
 
 module _ (w : ℕ) (l : List ℤ) (n : ℕ) (z : ℤ) where
-  pub column-at : (i : ℕ) → place (sameZ z) 0 (column w l n) ≡ At i → any (sameZ z) (column w l n) ≡ true
+  pub column-at : (i : ℕ) → place (sameZ z) 0 (column w l n) ≡ At i → anyOf (sameZ z) (column w l n) ≡ true
   column-at = any-at (sameZ z) (λ i. getD l (i * w) (pos 0)) n
 
-  pub column-missing : place (sameZ z) 0 (column w l n) ≡ Missing → any (sameZ z) (column w l n) ≡ false
+  pub column-missing : place (sameZ z) 0 (column w l n) ≡ Missing → anyOf (sameZ z) (column w l n) ≡ false
   column-missing = any-missing (sameZ z) (λ i. getD l (i * w) (pos 0)) n
 
 module _ {l : List ℤ} {n : ℕ} where
-  pub node-named : NodeRows l n → (m : ℕ) → any (sameZ (pos m)) (column 4 l n) ≡ hasNode (nodeMap l n) m
+  pub node-named : NodeRows l n → (m : ℕ) → anyOf (sameZ (pos m)) (column 4 l n) ≡ hasNode (nodeMap l n) m
   node-named r m =
       elim (which-place (place (sameZ (pos m)) 0 (column 4 l n))) [
         | inl (i, e) ↦ column-at 4 l n (pos m) i e ∙ sym (ap isSome (node-found l n (r .ranges) (pos m) i e .2))
         | inr e ↦ column-missing 4 l n (pos m) e ∙ sym (ap isSome (node-missing l n (r .ranges) m e))
       ]
 
-  pub face-named : FaceRows l n → (m : ℕ) → any (sameZ (pos m)) (column 1 l n) ≡ hasFace (faceMap l n) m
+  pub face-named : FaceRows l n → (m : ℕ) → anyOf (sameZ (pos m)) (column 1 l n) ≡ hasFace (faceMap l n) m
   face-named r m =
       elim (which-place (place (sameZ (pos m)) 0 (column 1 l n))) [
         | inl (i, e) ↦ column-at 1 l n (pos m) i e ∙ sym (face-found l n (r .ranges) (pos m) i e .2)
@@ -60,12 +61,17 @@ module _ {l : List ℤ} {n : ℕ} where
   -- no edge has a number past the last
   pub edge-past : EdgesInOrder l n → (m : ℕ) → suc lastNumber ≤ m → hasEdge (edgeMap l n) m ≡ false
   edge-past r m h =
-      elim (which-place (place (sameZ (pos m)) 0 (column 32 l n))) [ inl (i, e) ↦ absurd (past i e) | inr e ↦ ap isSome (edge-missing l n (r .ranges) m e) ]
+      elim (which-place (place (sameZ (pos m)) 0 (column 32 l n))) [
+        | inl (i, e) ↦ absurd (past i e)
+        | inr e ↦ ap isSome
+            (edge-missing l n (r .ranges) m e)
+      ]
     where
       past : (i : ℕ) → place (sameZ (pos m)) 0 (column 32 l n) ≡ At i → ⊥
       past i e =
           let q = edge-found l n (r .ranges) (pos m) i e in
-          let s = number-in 1 (suc lastNumber) (λ k. edgeAt l k .number) n (ap (numbered 1 (suc lastNumber)) (sym (edge-numbers l n)) ∙ r .rising) i (q .0) .1 in
+          let s = number-in 1 (suc lastNumber) (λ k. edgeAt l k .number) n
+          (ap (numbered 1 (suc lastNumber)) (sym (edge-numbers l n)) ∙ r .rising) i (q .0) .1 in
           let t : m ≡ edgeAt l i .number = ap natAbs (q .1) in
           omega arith
 

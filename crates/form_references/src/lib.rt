@@ -1,4 +1,5 @@
-// Of condition 2: named rows exist, and curves run from node to node. The rows that are found are written down for what follows.
+// Of condition 2: named rows exist, and curves run from node to node. The rows that are found are written down for what
+// follows.
 use lists::Found;
 use plane::Point;
 use tables::Counts;
@@ -8,7 +9,7 @@ ghost use Prim.Native.Nat.{ℕ, _+_, _*_, _/_, _≤_, _<_};
 ghost use lib.IntN.{pos, negsuc, natAbs};
 ghost use lib.Signed.{ltZ};
 ghost use lib.ListN.{length, getD};
-ghost use Rattle.lists.specs.Scans.{any, all};
+ghost use Rattle.lists.specs.Scans.{anyOf, allOf};
 ghost use Rattle.lists.specs.Tables.{table};
 ghost use Rattle.lists.specs.declared.Found.the-variants.{At, Missing};
 ghost use Rattle.plane.specs.Points.{samePoint};
@@ -16,7 +17,8 @@ ghost use Rattle.curves.specs.Curves.{Run, curveOf, lastPoint};
 ghost use Rattle.curves.specs.Tests.{neighboursDiffer};
 ghost use Rattle.map.specs.Rows.{hasEdge, nodeOf, dartOf};
 ghost use Rattle.map.specs.Form.{inFace, named, curveFits};
-ghost use Rattle.tables.specs.Tables.{NodeRow, NodeRows, EdgeRow, EdgeRows, FaceRows, Rising, sameZ, column, nodesOf, nodeAt, edgesOf, edgeAt, nodeMap, edgeMap};
+ghost use Rattle.tables.specs.Tables.{NodeRow, NodeRows, EdgeRow, EdgeRows, FaceRows, Rising, sameZ, column, nodesOf};
+ghost use Rattle.tables.specs.Tables.{nodeAt, edgesOf, edgeAt, nodeMap, edgeMap};
 ghost use Rattle.darts.specs.Positions.{dartAt, RowsNamed, NextsNamed};
 ghost use Rattle.form_ranges.specs.Ranges.{mapIn, faceMap, EdgesInOrder, InOrder};
 
@@ -24,7 +26,7 @@ ghost use Rattle.form_ranges.specs.Ranges.{mapIn, faceMap, EdgesInOrder, InOrde
 
 fn exists(t: &[i64], w: usize, count: usize, number: i64, index: &[u16]) -> bool
     requires { ⌜ Rising w (now t) count × (length (now index) ≡ 4096) ⌝ }
-    ensures { λ r. ⌜ r ≡ any (sameZ number) (column w (now (t .entry)) count) ⌝ }
+    ensures { λ r. ⌜ r ≡ anyOf (sameZ number) (column w (now (t .entry)) count) ⌝ }
 {
     let found = tables::find_indexed(t, w, count, number, index);
     match found {
@@ -38,20 +40,21 @@ fn node_names(row: &[i64], faces: &[i64], n: usize, index: &[u16]) -> bool
     requires { ⌜ (length (now row) ≡ 4) × FaceRows (now faces) n × (length (now index) ≡ 4096) ⌝ }
     ensures { λ r. ⌜ r ≡ inFace (faceMap (now (faces .entry)) n) (nodeOf (now (row .entry)) .face) ⌝ }
 {
-    let z = row[3];
+    let z = row[map::NODE_FACE];
     if z < 0 {
         return true;
     }
-    exists(faces, 1, n, z, index)
+    exists(faces, map::FACE_WIDTH, n, z, index)
 }
 
 fn nodes_name_faces(nodes: &[i64], n: usize, faces: &[i64], f: usize, index: &[u16]) -> bool
     requires { ⌜ (n * 4 ≤ length (now nodes)) × FaceRows (now faces) f × (length (now index) ≡ 4096) ⌝ }
-    ensures { λ r. ⌜ r ≡ all (λ k. inFace (faceMap (now (faces .entry)) f) (k .face)) (nodesOf (now (nodes .entry)) n) ⌝ }
+    ensures { λ r. ⌜ r ≡ allOf (λ k. inFace (faceMap (now (faces .entry)) f) (k .face))
+        (nodesOf (now (nodes .entry)) n) ⌝ }
 {
     for i in 0..n {
-        let a = i * 4;
-        let b = a + 4;
+        let a = i * map::NODE_WIDTH;
+        let b = a + map::NODE_WIDTH;
         if !node_names(&nodes[a..b], faces, f, index) {
             return false;
         }
@@ -70,15 +73,20 @@ fn find_rows(
     index: &[u16],
     rows: &mut [u16],
 ) -> bool
-    requires { ⌜ Rising w (now t) n × (n ≤ 2000) × (count * 32 ≤ length (now edges)) × (k ≤ 30) × (length (now index) ≡ 4096) × (count * 2 ≤ length (now rows)) ⌝ }
-    ensures { λ r. ⌜ (r ≡ all (λ i. any (sameZ (getD (now (edges .entry)) (i * 32 + k) (pos 0))) (column w (now (t .entry)) n) && any (sameZ (getD (now (edges .entry)) (i * 32 + k + 1) (pos 0))) (column w (now (t .entry)) n)) (table (λ i. i) 0 count)) × (length (now (rows .exit)) ≡ length (now (rows .entry))) × (r ≡ true → RowsNamed w (now (t .entry)) n (now (edges .entry)) k (now (rows .exit)) (count * 2)) ⌝ }
+    requires { ⌜ Rising w (now t) n × (n ≤ 2000) × (count * 32 ≤ length (now edges)) × (k ≤ 30)
+        × (length (now index) ≡ 4096) × (count * 2 ≤ length (now rows)) ⌝ }
+    ensures { λ r. ⌜ (r ≡ allOf (λ i. anyOf (sameZ (getD (now (edges .entry)) (i * 32 + k) (pos 0)))
+        (column w (now (t .entry)) n) && anyOf (sameZ (getD (now (edges .entry)) (i * 32 + k + 1) (pos 0)))
+        (column w (now (t .entry)) n)) (table (λ i. i) 0 count))
+        × (length (now (rows .exit)) ≡ length (now (rows .entry)))
+        × (r ≡ true → RowsNamed w (now (t .entry)) n (now (edges .entry)) k (now (rows .exit)) (count * 2)) ⌝ }
 {
     for i in 0..count {
-        let a = tables::find_indexed(t, w, n, edges[i * 32 + k], index);
+        let a = tables::find_indexed(t, w, n, edges[i * map::EDGE_WIDTH + k], index);
         let Found::At(x) = a else {
             return false;
         };
-        let b = tables::find_indexed(t, w, n, edges[i * 32 + k + 1], index);
+        let b = tables::find_indexed(t, w, n, edges[i * map::EDGE_WIDTH + k + 1], index);
         let Found::At(y) = b else {
             return false;
         };
@@ -102,12 +110,14 @@ fn edge_of(d: i64) -> i64
 // The position of the directed edge that a link names.
 fn find_position(edges: &[i64], count: usize, d: i64, index: &[u16]) -> Found
     requires { ⌜ EdgesInOrder (now edges) count × (length (now index) ≡ 4096) ⌝ }
-    ensures { λ r. ⌜ (r ≡ Missing → hasEdge (edgeMap (now (edges .entry)) count) (natAbs d) ≡ false) × ((q : ℕ) → r ≡ At q → (q < count * 2) × (dartAt (now (edges .entry)) q ≡ dartOf d) × (hasEdge (edgeMap (now (edges .entry)) count) (natAbs d) ≡ true)) ⌝ }
+    ensures { λ r. ⌜ (r ≡ Missing → hasEdge (edgeMap (now (edges .entry)) count) (natAbs d) ≡ false)
+        × ((q : ℕ) → r ≡ At q → (q < count * 2) × (dartAt (now (edges .entry)) q ≡ dartOf d)
+        × (hasEdge (edgeMap (now (edges .entry)) count) (natAbs d) ≡ true)) ⌝ }
 {
-    if d < -999999 {
+    if d < map::LEAST_LINK {
         return Found::Missing;
     }
-    let found = tables::find_indexed(edges, 32, count, edge_of(d), index);
+    let found = tables::find_indexed(edges, map::EDGE_WIDTH, count, edge_of(d), index);
     let Found::At(i) = found else {
         return Found::Missing;
     };
@@ -116,15 +126,29 @@ fn find_position(edges: &[i64], count: usize, d: i64, index: &[u16]) -> Found
 
 // The positions that both links of each edge name.
 fn find_nexts(edges: &[i64], count: usize, index: &[u16], nexts: &mut [u16]) -> bool
-    requires { ⌜ EdgesInOrder (now edges) count × (count ≤ 2000) × (length (now index) ≡ 4096) × (count * 2 ≤ length (now nexts)) ⌝ }
-    ensures { λ r. ⌜ (r ≡ all (λ e. hasEdge (edgeMap (now (edges .entry)) count) (e .nextLeft .edge) && hasEdge (edgeMap (now (edges .entry)) count) (e .nextRight .edge)) (edgesOf (now (edges .entry)) count)) × (length (now (nexts .exit)) ≡ length (now (nexts .entry))) × (r ≡ true → NextsNamed (now (edges .entry)) count (now (nexts .exit)) (count * 2)) ⌝ }
+    requires { ⌜ EdgesInOrder (now edges) count × (count ≤ 2000) × (length (now index) ≡ 4096)
+        × (count * 2 ≤ length (now nexts)) ⌝ }
+    ensures { λ r. ⌜ (r ≡ allOf (λ e. hasEdge (edgeMap (now (edges .entry)) count) (e .nextLeft .edge)
+        && hasEdge (edgeMap (now (edges .entry)) count) (e .nextRight .edge)) (edgesOf (now (edges .entry)) count))
+        × (length (now (nexts .exit)) ≡ length (now (nexts .entry)))
+        × (r ≡ true → NextsNamed (now (edges .entry)) count (now (nexts .exit)) (count * 2)) ⌝ }
 {
     for i in 0..count {
-        let a = find_position(edges, count, edges[i * 32 + 3], index);
+        let a = find_position(
+            edges,
+            count,
+            edges[i * map::EDGE_WIDTH + map::NEXT_LEFT],
+            index,
+        );
         let Found::At(x) = a else {
             return false;
         };
-        let b = find_position(edges, count, edges[i * 32 + 4], index);
+        let b = find_position(
+            edges,
+            count,
+            edges[i * map::EDGE_WIDTH + map::NEXT_RIGHT],
+            index,
+        );
         let Found::At(y) = b else {
             return false;
         };
@@ -134,7 +158,8 @@ fn find_nexts(edges: &[i64], count: usize, index: &[u16], nexts: &mut [u16]) -> 
     true
 }
 
-// Named rows exist. For each directed edge it leaves the row of the node where that starts, the position of its next, and the row of the face that it bears.
+// Named rows exist. For each directed edge it leaves the row of the node where that starts, the position of its next,
+// and the row of the face that it bears.
 pub fn names_exist(
     nodes: &[i64],
     edges: &[i64],
@@ -144,23 +169,48 @@ pub fn names_exist(
     nexts: &mut [u16],
     bears: &mut [u16],
 ) -> bool
-    requires { ⌜ ((h : _) × InOrder (now nodes) (now edges) (now faces) c h) × (c .nodes ≤ 1000) × (c .edges ≤ 2000) × (c .faces ≤ 1000) × (length (now starts) ≡ 4000) × (length (now nexts) ≡ 4000) × (length (now bears) ≡ 4000) ⌝ }
-    ensures { λ r. ⌜ ((h : _) → r ≡ named (mapIn (now (nodes .entry)) (now (edges .entry)) (now (faces .entry)) c h)) × (length (now (starts .exit)) ≡ 4000) × (length (now (nexts .exit)) ≡ 4000) × (length (now (bears .exit)) ≡ 4000) × (r ≡ true → RowsNamed 4 (now (nodes .entry)) (c .nodes) (now (edges .entry)) 1 (now (starts .exit)) (c .edges * 2) × NextsNamed (now (edges .entry)) (c .edges) (now (nexts .exit)) (c .edges * 2) × RowsNamed 1 (now (faces .entry)) (c .faces) (now (edges .entry)) 5 (now (bears .exit)) (c .edges * 2)) ⌝ }
+    requires { ⌜ ((h : _) × InOrder (now nodes) (now edges) (now faces) c h) × (c .nodes ≤ 1000) × (c .edges ≤ 2000)
+        × (c .faces ≤ 1000) × (length (now starts) ≡ 4000) × (length (now nexts) ≡ 4000)
+        × (length (now bears) ≡ 4000) ⌝ }
+    ensures { λ r. ⌜ ((h : _) → r ≡ named (mapIn (now (nodes .entry)) (now (edges .entry)) (now (faces .entry)) c h))
+        × (length (now (starts .exit)) ≡ 4000) × (length (now (nexts .exit)) ≡ 4000)
+        × (length (now (bears .exit)) ≡ 4000)
+        × (r ≡ true → RowsNamed 4 (now (nodes .entry)) (c .nodes) (now (edges .entry)) 1 (now (starts .exit))
+        (c .edges * 2) × NextsNamed (now (edges .entry)) (c .edges) (now (nexts .exit)) (c .edges * 2)
+        × RowsNamed 1 (now (faces .entry)) (c .faces) (now (edges .entry)) 5 (now (bears .exit)) (c .edges * 2)) ⌝ }
 {
     // one index for the three tables in turn: what is left of the last is only a wrong first look
-    let mut index = [0u16; 4096];
-    tables::index_rows(faces, 1, c.faces, &mut index);
+    let mut index = [0u16; tables::INDEX];
+    tables::index_rows(faces, map::FACE_WIDTH, c.faces, &mut index);
     if !nodes_name_faces(nodes, c.nodes, faces, c.faces, &index) {
         return false;
     }
-    if !find_rows(faces, 1, c.faces, edges, c.edges, 5, &index, bears) {
+    if !find_rows(
+        faces,
+        map::FACE_WIDTH,
+        c.faces,
+        edges,
+        c.edges,
+        map::LEFT,
+        &index,
+        bears,
+    ) {
         return false;
     }
-    tables::index_rows(nodes, 4, c.nodes, &mut index);
-    if !find_rows(nodes, 4, c.nodes, edges, c.edges, 1, &index, starts) {
+    tables::index_rows(nodes, map::NODE_WIDTH, c.nodes, &mut index);
+    if !find_rows(
+        nodes,
+        map::NODE_WIDTH,
+        c.nodes,
+        edges,
+        c.edges,
+        map::START,
+        &index,
+        starts,
+    ) {
         return false;
     }
-    tables::index_rows(edges, 32, c.edges, &mut index);
+    tables::index_rows(edges, map::EDGE_WIDTH, c.edges, &mut index);
     find_nexts(edges, c.edges, &index, nexts)
 }
 
@@ -171,17 +221,18 @@ fn point_of(nodes: &[i64], i: usize) -> Point
     requires { ⌜ NodeRow (now nodes) i ⌝ }
     ensures { λ r. ⌜ r ≡ nodeAt (now (nodes .entry)) i .at ⌝ }
 {
-    let j = i * 4;
+    let j = i * map::NODE_WIDTH;
     Point {
-        x: form_ranges::natural(nodes, j + 1) as u64,
-        y: form_ranges::natural(nodes, j + 2) as u64,
+        x: form_ranges::natural(nodes, j + map::X) as u64,
+        y: form_ranges::natural(nodes, j + map::Y) as u64,
     }
 }
 
 // Whether a curve of k points runs from u to v.
 fn runs_between(c: &[i64], k: usize, u: Point, v: Point) -> bool
     requires { ⌜ Run (now c) × (k ≡ length (now c) / 2) ⌝ }
-    ensures { λ r. ⌜ r ≡ (samePoint (curveOf (now (c .entry)) .first) u && samePoint (lastPoint (curveOf (now (c .entry)))) v && neighboursDiffer (curveOf (now (c .entry)))) ⌝ }
+    ensures { λ r. ⌜ r ≡ (samePoint (curveOf (now (c .entry)) .first) u
+        && samePoint (lastPoint (curveOf (now (c .entry)))) v && neighboursDiffer (curveOf (now (c .entry)))) ⌝ }
 {
     let first = plane::same_point(curves::point_at(c, 0), u);
     let last = plane::same_point(curves::point_at(c, k - 1), v);
@@ -189,7 +240,8 @@ fn runs_between(c: &[i64], k: usize, u: Point, v: Point) -> bool
 }
 
 fn curve_fits(nodes: &[i64], n: usize, edges: &[i64], i: usize, starts: &[u16]) -> bool
-    requires { ⌜ NodeRows (now nodes) n × EdgeRow (now edges) i × (i * 2 + 2 ≤ length (now starts)) × RowsNamed 4 (now nodes) n (now edges) 1 (now starts) (i * 2 + 2) ⌝ }
+    requires { ⌜ NodeRows (now nodes) n × EdgeRow (now edges) i × (i * 2 + 2 ≤ length (now starts))
+        × RowsNamed 4 (now nodes) n (now edges) 1 (now starts) (i * 2 + 2) ⌝ }
     ensures { λ r. ⌜ r ≡ curveFits (nodeMap (now (nodes .entry)) n) (edgeAt (now (edges .entry)) i) ⌝ }
 {
     let c = tables::curve_of(edges, i);
@@ -206,8 +258,9 @@ fn curve_fits(nodes: &[i64], n: usize, edges: &[i64], i: usize, starts: &[u16]) 
 }
 
 pub fn curves_fit(nodes: &[i64], n: usize, edges: &[i64], count: usize, starts: &[u16]) -> bool
-    requires { ⌜ NodeRows (now nodes) n × EdgeRows (now edges) count × (count * 2 ≤ length (now starts)) × RowsNamed 4 (now nodes) n (now edges) 1 (now starts) (count * 2) ⌝ }
-    ensures { λ r. ⌜ r ≡ all (curveFits (nodeMap (now (nodes .entry)) n)) (edgesOf (now (edges .entry)) count) ⌝ }
+    requires { ⌜ NodeRows (now nodes) n × EdgeRows (now edges) count × (count * 2 ≤ length (now starts))
+        × RowsNamed 4 (now nodes) n (now edges) 1 (now starts) (count * 2) ⌝ }
+    ensures { λ r. ⌜ r ≡ allOf (curveFits (nodeMap (now (nodes .entry)) n)) (edgesOf (now (edges .entry)) count) ⌝ }
 {
     for i in 0..count {
         if !curve_fits(nodes, n, edges, i, starts) {

@@ -1,4 +1,5 @@
--- Curves made of two: spots, arcs and simple curves of a ∷ (r ++ s), whose joint is the last point of a ∷ r. Assumes nothing.
+-- Curves made of two: spots, arcs and simple curves of a ∷ (r ++ s), whose joint is the last point of a ∷ r. Assumes
+-- nothing.
 use mathlib.Core.Path.{_≡_, refl, sym, _∙_, subst}
 use mathlib.Core.List.{List, [], _∷_, _++_}
 use mathlib.Core.Logic.{_⊎_, inl, inr, _≢_}
@@ -83,7 +84,8 @@ arc-back a (b ∷ r) s h = arc-back b r s (h .1)
 pub arc-joint : (a : Point) (r s : List Point) → Arc a (r ++ s) → Joint a r s
 arc-joint a [] s h P k l = absurd k
 arc-joint a (b ∷ r) s h P (inr k) l = arc-joint b r s (h .1) P k l
-arc-joint a (b ∷ r) s h P (inl o) l = go (first-on b r (h .0 P o (on-back P b r s l))) (λ k. arc-joint b r s (h .1) P k l)
+arc-joint a (b ∷ r) s h P (inl o) l = go (first-on b r (h .0 P o (on-back P b r s l)))
+    (λ k. arc-joint b r s (h .1) P k l)
   where
     go : At P (lastOf b r) ⊎ On P b r → (On P b r → At P (lastOf b r)) → At P (lastOf b r)
     go (inl e) f = e
@@ -144,8 +146,13 @@ pub record Cut (a : Point) (r s : List Point) : Type 0 where
   pub back : Arc (lastOf a r) s
   pub closing : Closing a r s
 
-pub simple-cut : (a b : Point) (r : List Point) (c : Point) (s : List Point) → Differ a (b ∷ r ++ (c ∷ s)) → Simple a (b ∷ r ++ (c ∷ s)) → Cut a (b ∷ r) (c ∷ s)
-simple-cut a b r c s n h = record { front = ((λ P o k. first P o k (h .0 P o (on-front P b r (c ∷ s) k))), arc-front b r (c ∷ s) (h .1)); back = back; closing = closing }
+pub simple-cut : (a b : Point) (r : List Point) (c : Point) (s : List Point) → Differ a (b ∷ r ++ (c ∷ s))
+    → Simple a (b ∷ r ++ (c ∷ s)) → Cut a (b ∷ r) (c ∷ s)
+simple-cut a b r c s n h = record {
+  front = ((λ P o k. first P o k (h .0 P o (on-front P b r (c ∷ s) k))), arc-front b r (c ∷ s) (h .1));
+  back = back;
+  closing = closing;
+}
   where
     m : Point
     m = lastOf b r
@@ -170,7 +177,8 @@ simple-cut a b r c s n h = record { front = ((λ P o k. first P o k (h .0 P o (o
     side P l (inl e) = e
     side P l (inr k) = joint P k l
 
-    start : (P : Spot) → On P m (c ∷ s) → At P b ⊎ (At P a × (lastOf b (r ++ (c ∷ s)) ≡ a)) → At P m ⊎ (At P a × (lastOf c s ≡ a))
+    start : (P : Spot) → On P m (c ∷ s) → At P b ⊎ (At P a × (lastOf b (r ++ (c ∷ s)) ≡ a)) → At P m
+        ⊎ (At P a × (lastOf c s ≡ a))
     start P l (inl e) = inl (side P l (first-on b r e))
     start P l (inr e) = inr (e .0, closed (e .1))
 
@@ -179,7 +187,10 @@ simple-cut a b r c s n h = record { front = ((λ P o k. first P o k (h .0 P o (o
     closing P (inr k) l = inl (joint P k l)
 
 pub simple-join : (a b : Point) (r s : List Point) → a ≢ b → Cut a (b ∷ r) s → Simple a (b ∷ r ++ s)
-simple-join a b r s n h = ((λ P o k. first P o (on-split P b r s k)), arc-join b r s (h .front .1) (h .back) (λ P k l. joint P k (h .closing P (inr k) l)))
+simple-join a b r s n h = (
+  (λ P o k. first P o (on-split P b r s k)),
+  arc-join b r s (h .front .1) (h .back) (λ P k l. joint P k (h .closing P (inr k) l)),
+)
   where
     m : Point
     m = lastOf b r

@@ -1,4 +1,5 @@
--- The contact of two segments means what it says: none, touch, crossing and stretch, by the spots that they share. Assumes nothing.
+-- The contact of two segments means what it says: none, touch, crossing and stretch, by the spots that they share.
+-- Assumes nothing.
 use mathlib.Core.Path.{_≡_, refl, sym, ap, _∙_}
 use mathlib.Core.Bool.{Bool, true, false, false≢true, _||_}
 use mathlib.Core.Logic.{_⊎_, inl, inr, _≢_}
@@ -21,7 +22,9 @@ use Rattle.geometry.proofs.Double.{stretch-two}
 
 point-on : (D X j i a A : ℕ) → 0 < D → X ≡ D * a → (j + i) * X ≡ D * A → (j + i) * a ≡ 1 * A
 point-on D X j i a A h e f =
-    eq-of-mul-eq-mul-left D h ((j + i) * a) (1 * A) (mul-left-comm D (j + i) a ∙ ap (λ (n : ℕ). (j + i) * n) (sym e) ∙ f ∙ ap (λ (n : ℕ). D * n) (let g : A ≡ 1 * A = omega arith in g))
+    eq-of-mul-eq-mul-left D h ((j + i) * a) (1 * A)
+    (mul-left-comm D (j + i) a ∙ ap (λ (n : ℕ). (j + i) * n) (sym e) ∙ f
+    ∙ ap (λ (n : ℕ). D * n) (let g : A ≡ 1 * A = omega arith in g))
 
 -- where the spot is the point q, the point lies where the spot lies
 pub at-on : {P : Spot} {q a b : Point} → At P q → OnSeg P a b → OnSeg (spot q) a b
@@ -37,7 +40,8 @@ at-on {P} {q} {a} {b} h o =
 -- one spot, given twice
 same-point : (D X D′ X′ a : ℕ) → 0 < D′ → X * D′ ≡ X′ * D → X′ ≡ D′ * a → X ≡ D * a
 same-point D X D′ X′ a h e f =
-    eq-of-mul-eq-mul-left D′ h X (D * a) (mul-comm D′ X ∙ e ∙ ap (λ (n : ℕ). n * D) f ∙ mul-comm (D′ * a) D ∙ mul-left-comm D D′ a)
+    eq-of-mul-eq-mul-left D′ h X (D * a)
+    (mul-comm D′ X ∙ e ∙ ap (λ (n : ℕ). n * D) f ∙ mul-comm (D′ * a) D ∙ mul-left-comm D D′ a)
 
 pub at-same : {P Q : Spot} {a : Point} → Same P Q → At Q a → At P a
 at-same {P} {Q} {a} s h =
@@ -59,7 +63,13 @@ module _ (a b c d : Point) where
   double : stretches a b c d ≡ true → Double a b c d
   double e =
       let t = stretch-two a b c d e in
-      record { one = spot (t .p); two = spot (t .q); on-one = (t .p-ab, t .p-cd); on-two = (t .q-ab, t .q-cd); differ = spots-differ (t .p) (t .q) (t .differ) }
+      record {
+        one = spot (t .p);
+        two = spot (t .q);
+        on-one = (t .p-ab, t .p-cd);
+        on-two = (t .q-ab, t .q-cd);
+        differ = spots-differ (t .p) (t .q) (t .differ);
+      }
 
   touching : stretches a b c d ≡ false → ended a b c d ≡ true → Means Touch a b c d
   unfolding ended single
@@ -76,7 +86,8 @@ module _ (a b c d : Point) where
       next (inl k) = (on b (at-last a (at-spot b)) (onSegment-true b c d k), inr (inl (at-spot b)))
       next (inr k) = last (or-true (onSegment c a b) (onSegment d a b) k)
 
-      go : (onSegment a c d ≡ true) ⊎ (onSegment b c d || (onSegment c a b || onSegment d a b) ≡ true) → Means Touch a b c d
+      go : (onSegment a c d ≡ true) ⊎ (onSegment b c d || (onSegment c a b || onSegment d a b) ≡ true)
+          → Means Touch a b c d
       go (inl k) = (on a (at-first b (at-spot a)) (onSegment-true a c d k), inl (at-spot a))
       go (inr k) = next (or-true (onSegment b c d) (onSegment c a b || onSegment d a b) k)
 
@@ -97,11 +108,13 @@ module _ (a b c d : Point) where
   unfolding contact single
   contact-means = go (meets a b c d) (stretches a b c d) (ended a b c d) refl refl refl
     where
-      go : (m s e : Bool) → meets a b c d ≡ m → stretches a b c d ≡ s → ended a b c d ≡ e → Means (contactOf m s e) a b c d
+      go : (m s e : Bool) → meets a b c d ≡ m → stretches a b c d ≡ s → ended a b c d ≡ e
+          → Means (contactOf m s e) a b c d
       go false s e h k l = λ P o. meets-false h (o .0) (o .1)
       go true true e h k l = double k
       go true false true h k l = touching k l
-      go true false false h k l = let t = meets-true a b c d h in (single (t .0) (t .1, t .2) k, inner (t .0) (t .1, t .2) l)
+      go true false false h k l = let t = meets-true a b c d h in
+          (single (t .0) (t .1, t .2) k, inner (t .0) (t .1, t .2) l)
 
   -- it is the only one
   no-single : Double a b c d → Single a b c d → ⊥
@@ -120,10 +133,12 @@ module _ (a b c d : Point) where
   agree None Stretch u v = absurd (u (v .one) (v .on-one))
   agree Touch None u v = absurd (v (u .0 .spot) (u .0 .on))
   agree Touch Touch u v = refl
-  agree Touch Crossing u v = absurd (no-end (v .0 .spot) (u .0 .spot) (u .0 .only _ _ (v .0 .on) (u .0 .on)) (v .1) (u .1))
+  agree Touch Crossing u v = absurd (no-end (v .0 .spot) (u .0 .spot) (u .0 .only _ _ (v .0 .on) (u .0 .on)) (v .1)
+      (u .1))
   agree Touch Stretch u v = absurd (no-single v (u .0))
   agree Crossing None u v = absurd (v (u .0 .spot) (u .0 .on))
-  agree Crossing Touch u v = absurd (no-end (u .0 .spot) (v .0 .spot) (u .0 .only _ _ (u .0 .on) (v .0 .on)) (u .1) (v .1))
+  agree Crossing Touch u v = absurd (no-end (u .0 .spot) (v .0 .spot) (u .0 .only _ _ (u .0 .on) (v .0 .on)) (u .1)
+      (v .1))
   agree Crossing Crossing u v = refl
   agree Crossing Stretch u v = absurd (no-single v (u .0))
   agree Stretch None u v = absurd (v (u .one) (u .on-one))

@@ -16,7 +16,8 @@ use Rattle.geometry.specs.Meaning.{On, Differ, Arc, Simple, Some}
 use Rattle.geometry.proofs.Segments.{at-last, at-spot}
 use Rattle.geometry.proofs.Meeting.{samePoint-differ, onSegment-true, onSegment-false}
 use Rattle.geometry.proofs.Alike.{Alike, alike-refl, alike-cons, alike-insert}
-use Rattle.geometry.proofs.Chains.{on-front, on-back, on-split, last-append, differ-front, differ-back, Cut, simple-cut}
+use Rattle.geometry.proofs.Chains.{on-front, on-back, on-split, last-append, differ-front, differ-back, Cut}
+use Rattle.geometry.proofs.Chains.{simple-cut}
 
 -- h are halves of a ∷ r that join at m
 pub record Place (m a : Point) (r : List Point) (h : Halves) : Type 0 where
@@ -35,7 +36,8 @@ pub cut-place : (m a : Point) (r : List Point) → a ≢ m → lastOf a r ≢ m 
 cut-place m a [] n l h = absurd h
 cut-place m a (b ∷ r) n l h = go (onSegment m a b) (samePoint m b) refl refl (cut-place m b r)
   where
-    go : (p q : Bool) → onSegment m a b ≡ p → samePoint m b ≡ q → (b ≢ m → lastOf b r ≢ m → On (spot m) b r → Place m b r (cut m b r))
+    go : (p q : Bool) → onSegment m a b ≡ p → samePoint m b ≡ q
+        → (b ≢ m → lastOf b r ≢ m → On (spot m) b r → Place m b r (cut m b r))
         → Place m a (b ∷ r) (cutHere p q m b r (cut m b r))
     go true true e f next =
         record {
@@ -50,10 +52,15 @@ cut-place m a (b ∷ r) n l h = go (onSegment m a b) (samePoint m b) refl refl (
           joint = refl;
           some-front = tt;
           some-back = tt;
-          alike = alike-insert (record { on = onSegment-true m a b e; not-first = n; not-last = samePoint-differ m b f }) r;
+          alike = alike-insert (record {
+            on = onSegment-true m a b e;
+            not-first = n;
+            not-last = samePoint-differ m b f;
+          }) r;
           count = inr refl;
         }
-    go false q e f next = onward (next (λ k. onSegment-false m a b e (at-last a (subst (At (spot m)) (sym k) (at-spot m)))) l (beyond h))
+    go false q e f next = onward (next (λ k. onSegment-false m a b e
+        (at-last a (subst (At (spot m)) (sym k) (at-spot m)))) l (beyond h))
       where
         beyond : OnSeg (spot m) a b ⊎ On (spot m) b r → On (spot m) b r
         beyond (inl o) = absurd (onSegment-false m a b e o)
@@ -108,7 +115,8 @@ cut-some a [] s h k n p = absurd h
 cut-some a (b ∷ r) [] h k n p = absurd k
 cut-some a (b ∷ r) (c ∷ s) h k n p = simple-cut a b r c s n p
 
-cloven : (a : Point) (r : List Point) (h : Halves) → Place (lastOf a (h .front)) a r h → Differ a r → Simple a r → Cloven (lastOf a (h .front)) a r (h .front) (h .back)
+cloven : (a : Point) (r : List Point) (h : Halves) → Place (lastOf a (h .front)) a r h → Differ a r → Simple a r
+    → Cloven (lastOf a (h .front)) a r (h .front) (h .back)
 cloven a r h p n w =
     record {
       some-front = p .some-front;
@@ -124,18 +132,22 @@ cloven a r h p n w =
       on-either = λ P k. on-split P a (h .front) (h .back) (p .alike .on P k);
       shared = λ P k l. end P (c .closing P k l);
       start = rw (second-append a (h .front) (h .back) (p .some-front)) at (p .alike .start);
-      finish = rw (last-append a (h .front) (h .back), before-append a (h .front) (h .back) (p .some-back)) at (p .alike .finish);
+      finish = rw (last-append a (h .front) (h .back), before-append a (h .front) (h .back) (p .some-back)) at
+          (p .alike .finish);
       count = rw lib.ListN.length-append at (p .count);
     }
   where
     c : Cut a (h .front) (h .back)
     c = cut-some a (h .front) (h .back) (p .some-front) (p .some-back) (p .alike .differ n) (p .alike .simple w)
 
-    end : (P : Spot) → At P (lastOf a (h .front)) ⊎ (At P a × (lastOf (lastOf a (h .front)) (h .back) ≡ a)) → At P (lastOf a (h .front)) ⊎ (At P a × (lastOf a r ≡ a))
+    end : (P : Spot) → At P (lastOf a (h .front)) ⊎ (At P a × (lastOf (lastOf a (h .front)) (h .back) ≡ a))
+        → At P (lastOf a (h .front)) ⊎ (At P a × (lastOf a r ≡ a))
     end P (inl e) = inl e
     end P (inr e) = inr (e .0, p .alike .last ∙ last-append a (h .front) (h .back) ∙ e .1)
 
-pub cut-cloven : (m a : Point) (r : List Point) → a ≢ m → lastOf a r ≢ m → On (spot m) a r → Differ a r → Simple a r → Cloven m a r (cut m a r .front) (cut m a r .back)
+pub cut-cloven : (m a : Point) (r : List Point) → a ≢ m → lastOf a r ≢ m → On (spot m) a r → Differ a r → Simple a r
+    → Cloven m a r (cut m a r .front) (cut m a r .back)
 cut-cloven m a r n l o d w =
     let p = cut-place m a r n l o in
-    subst (λ (z : Point). Place z a r (cut m a r) → Cloven z a r (cut m a r .front) (cut m a r .back)) (p .joint) (λ q. cloven a r (cut m a r) q d w) p
+    subst (λ (z : Point). Place z a r (cut m a r) → Cloven z a r (cut m a r .front) (cut m a r .back)) (p .joint)
+    (λ q. cloven a r (cut m a r) q d w) p

@@ -26,14 +26,23 @@ record Line (a b c d : Point) : Type 0 where
   cda : area c d a ≡ pos 0
   cdb : area c d b ≡ pos 0
 
-across : (a b c d : Point) → (pos (b .x) -ℤ pos (a .x)) *ℤ area c d a ≡ (pos (c .x) -ℤ pos (a .x)) *ℤ area a b d +ℤ (pos (a .x) -ℤ pos (d .x)) *ℤ area a b c
+across : (a b c d : Point) → (pos (b .x) -ℤ pos (a .x)) *ℤ area c d a
+    ≡ (pos (c .x) -ℤ pos (a .x)) *ℤ area a b d +ℤ (pos (a .x) -ℤ pos (d .x)) *ℤ area a b c
 unfolding area
 across a b c d =
-    solve₄ (λ ax ay bx by cx cy dx dy. (bx ⊖ ax) ⊗ areaE cx cy dx dy ax ay ≐ (cx ⊖ ax) ⊗ areaE ax ay bx by dx dy ⊕ (ax ⊖ dx) ⊗ areaE ax ay bx by cx cy) tt a b c d
+    solve₄ (λ ax ay bx by cx cy dx dy. (bx ⊖ ax) ⊗ areaE cx cy dx dy ax ay ≐
+    (cx ⊖ ax) ⊗ areaE ax ay bx by dx dy ⊕ (ax ⊖ dx) ⊗ areaE ax ay bx by cx cy) tt a b c d
 
 -- from the first two, where the abscissas of a and b differ
 line-of : (a b c d : Point) → a .x ≢ b .x → area a b c ≡ pos 0 → area a b d ≡ pos 0 → Line a b c d
-line-of a b c d n e f = record { abc = e; abd = f; cda = cda; cdb = linear 4 (λ s t u v. v ⊖ u ≗ s ⊖ t ⇒ s ≗ con (pos 0) ⇒ t ≗ con (pos 0) ⇒ u ≗ con (pos 0) ⇒ v ≗ con (pos 0)) (omega arith) (area a b c) (area a b d) (area c d a) (area c d b) (areas a b c d) e f cda }
+line-of a b c d n e f = record {
+  abc = e;
+  abd = f;
+  cda = cda;
+  cdb =
+      linear 4 (λ s t u v. v ⊖ u ≗ s ⊖ t ⇒ s ≗ con (pos 0) ⇒ t ≗ con (pos 0) ⇒ u ≗ con (pos 0) ⇒ v ≗ con (pos 0))
+      (omega arith) (area a b c) (area a b d) (area c d a) (area c d b) (areas a b c d) e f cda;
+}
   where
     cda : area c d a ≡ pos 0
     cda = go (decLe (a .x) (b .x))
@@ -45,8 +54,10 @@ line-of a b c d n e f = record { abc = e; abd = f; cda = cda; cdb = linear 4 (λ
         down = solve 3 (λ a b z. (a ⊖ b) ⊗ z ≐ ⊝ ((b ⊖ a) ⊗ z)) tt (pos (a .x)) (pos (b .x)) (area c d a) ∙ ap negℤ up
 
         go : Dec (a .x ≤ b .x) → area c d a ≡ pos 0
-        go (yes h) = *-pos-zero (pos (b .x) -ℤ pos (a .x)) (area c d a) (sub-pos (pos (a .x)) (pos (b .x)) (pos-< (omega arith))) up
-        go (no h) = *-pos-zero (pos (a .x) -ℤ pos (b .x)) (area c d a) (sub-pos (pos (b .x)) (pos (a .x)) (pos-< (omega arith))) down
+        go (yes h) = *-pos-zero (pos (b .x) -ℤ pos (a .x)) (area c d a)
+            (sub-pos (pos (a .x)) (pos (b .x)) (pos-< (omega arith))) up
+        go (no h) = *-pos-zero (pos (a .x) -ℤ pos (b .x)) (area c d a)
+            (sub-pos (pos (b .x)) (pos (a .x)) (pos-< (omega arith))) down
 
 -- ---- the ends of the common range
 
@@ -95,7 +106,8 @@ record Hit (a b c d : Point) (x : ℕ) : Type 0 where
   cd : OnSeg (spot p) c d
 
 -- numbers: the bounds l₁, h₁ and l₂, h₂ of two ranges
-bottom : (x l₁ l₂ h₁ h₂ : ℕ) → x ≡ l₁ → l₂ ≤ l₁ → max l₁ l₂ < min h₁ h₂ → (x ≡ max l₁ l₂) × (l₂ ≤ x) × (x < h₁) × (x ≤ h₂)
+bottom : (x l₁ l₂ h₁ h₂ : ℕ) → x ≡ l₁ → l₂ ≤ l₁ → max l₁ l₂ < min h₁ h₂ → (x ≡ max l₁ l₂) × (l₂ ≤ x) × (x < h₁)
+    × (x ≤ h₂)
 bottom x l₁ l₂ h₁ h₂ e k h = (omega arith, omega arith, omega arith, omega arith)
 
 top : (x l₁ l₂ h₁ h₂ : ℕ) → x ≡ h₁ → h₁ ≤ h₂ → max l₁ l₂ < min h₁ h₂ → (x ≡ min h₁ h₂) × (l₂ ≤ x) × (l₁ < x) × (x ≤ h₂)
@@ -127,27 +139,43 @@ wide a b l h k e = go a b e (below (min a b) l (max a b) h k)
 
 module _ (a b c d : Point) (l : Line a b c d) (n : a .x ≢ b .x) (n′ : c .x ≢ d .x) where
   hit-ab : (p : Point) → OneOf a b p → min (c .x) (d .x) ≤ p .x → p .x ≤ max (c .x) (d .x) → Hit a b c d (p .x)
-  hit-ab p k lo hi = record { p = p; at = refl; ab = on-own a b p k; cd = on-x c d p n′ lo hi (line-at (area c d) a b p k (l .cda) (l .cdb)) }
+  hit-ab p k lo hi = record {
+    p = p;
+    at = refl;
+    ab = on-own a b p k;
+    cd = on-x c d p n′ lo hi (line-at (area c d) a b p k (l .cda) (l .cdb));
+  }
 
   hit-cd : (p : Point) → OneOf c d p → min (a .x) (b .x) ≤ p .x → p .x ≤ max (a .x) (b .x) → Hit a b c d (p .x)
-  hit-cd p k lo hi = record { p = p; at = refl; ab = on-x a b p n lo hi (line-at (area a b) c d p k (l .abc) (l .abd)); cd = on-own c d p k }
+  hit-cd p k lo hi = record {
+    p = p;
+    at = refl;
+    ab = on-x a b p n lo hi (line-at (area a b) c d p k (l .abc) (l .abd));
+    cd = on-own c d p k;
+  }
 
   module _ (h : max (min (a .x) (b .x)) (min (c .x) (d .x)) < min (max (a .x) (b .x)) (max (c .x) (d .x))) where
     lower : Hit a b c d (max (min (a .x) (b .x)) (min (c .x) (d .x)))
     lower = go (decLe (min (c .x) (d .x)) (min (a .x) (b .x))) (least a b) (least c d)
       where
-        go : Dec (min (c .x) (d .x) ≤ min (a .x) (b .x)) → (p : Point) × OneOf a b p × (p .x ≡ min (a .x) (b .x)) → (p : Point) × OneOf c d p × (p .x ≡ min (c .x) (d .x))
+        go : Dec (min (c .x) (d .x) ≤ min (a .x) (b .x)) → (p : Point) × OneOf a b p × (p .x ≡ min (a .x) (b .x))
+            → (p : Point) × OneOf c d p × (p .x ≡ min (c .x) (d .x))
             → Hit a b c d (max (min (a .x) (b .x)) (min (c .x) (d .x)))
-        go (yes k) u v = let f = bottom (u .0 .x) _ _ _ _ (u .2) k h in subst (Hit a b c d) (f .0) (hit-ab (u .0) (u .1) (f .1) (f .3))
-        go (no k) u v = let f = bottom (v .0 .x) _ _ _ _ (v .2) (other k) (flipped _ _ _ _ h) in subst (Hit a b c d) (f .0 ∙ max-comm _ _) (hit-cd (v .0) (v .1) (f .1) (f .3))
+        go (yes k) u v = let f = bottom (u .0 .x) _ _ _ _ (u .2) k h in
+            subst (Hit a b c d) (f .0) (hit-ab (u .0) (u .1) (f .1) (f .3))
+        go (no k) u v = let f = bottom (v .0 .x) _ _ _ _ (v .2) (other k) (flipped _ _ _ _ h) in
+            subst (Hit a b c d) (f .0 ∙ max-comm _ _) (hit-cd (v .0) (v .1) (f .1) (f .3))
 
     upper : Hit a b c d (min (max (a .x) (b .x)) (max (c .x) (d .x)))
     upper = go (decLe (max (a .x) (b .x)) (max (c .x) (d .x))) (greatest a b) (greatest c d)
       where
-        go : Dec (max (a .x) (b .x) ≤ max (c .x) (d .x)) → (p : Point) × OneOf a b p × (p .x ≡ max (a .x) (b .x)) → (p : Point) × OneOf c d p × (p .x ≡ max (c .x) (d .x))
+        go : Dec (max (a .x) (b .x) ≤ max (c .x) (d .x)) → (p : Point) × OneOf a b p × (p .x ≡ max (a .x) (b .x))
+            → (p : Point) × OneOf c d p × (p .x ≡ max (c .x) (d .x))
             → Hit a b c d (min (max (a .x) (b .x)) (max (c .x) (d .x)))
-        go (yes k) u v = let f = top (u .0 .x) _ _ _ _ (u .2) k h in subst (Hit a b c d) (f .0) (hit-ab (u .0) (u .1) (f .1) (f .3))
-        go (no k) u v = let f = top (v .0 .x) _ _ _ _ (v .2) (other k) (flipped _ _ _ _ h) in subst (Hit a b c d) (f .0 ∙ min-comm _ _) (hit-cd (v .0) (v .1) (f .1) (f .3))
+        go (yes k) u v = let f = top (u .0 .x) _ _ _ _ (u .2) k h in
+            subst (Hit a b c d) (f .0) (hit-ab (u .0) (u .1) (f .1) (f .3))
+        go (no k) u v = let f = top (v .0 .x) _ _ _ _ (v .2) (other k) (flipped _ _ _ _ h) in
+            subst (Hit a b c d) (f .0 ∙ min-comm _ _) (hit-cd (v .0) (v .1) (f .1) (f .3))
 
     two : Two a b c d
     two =
@@ -163,10 +191,12 @@ module _ (a b c d : Point) (l : Line a b c d) (n : a .x ≢ b .x) (n′ : c .x �
           differ = λ e. apart _ _ h (sym (u .at) ∙ ap (λ (z : Point). z .x) e ∙ v .at);
         }
 
-two-x : (a b c d : Point) → area a b c ≡ pos 0 → area a b d ≡ pos 0 → overlapMore (a .x) (b .x) (c .x) (d .x) ≡ true → Two a b c d
+two-x : (a b c d : Point) → area a b c ≡ pos 0 → area a b d ≡ pos 0 → overlapMore (a .x) (b .x) (c .x) (d .x) ≡ true
+    → Two a b c d
 unfolding overlapMore
 two-x a b c d e f g =
-    let h : max (min (a .x) (b .x)) (min (c .x) (d .x)) < min (max (a .x) (b .x)) (max (c .x) (d .x)) = ltb-true _ _ g in
+    let h : max (min (a .x) (b .x)) (min (c .x) (d .x)) < min (max (a .x) (b .x)) (max (c .x) (d .x)) =
+    ltb-true _ _ g in
     let n : a .x ≢ b .x = wide (a .x) (b .x) _ _ h in
     let n′ : c .x ≢ d .x = wide (c .x) (d .x) _ _ (flipped _ _ _ _ h) in
     two a b c d (line-of a b c d n e f) n n′ h
@@ -174,9 +204,11 @@ two-x a b c d e f g =
 unmirror : {p a b : Point} → OnSeg (spot (mirror p)) (mirror a) (mirror b) → OnSeg (spot p) a b
 unmirror o = record { j = o .j; i = o .i; weight = o .weight; x = o .y; y = o .x }
 
-two-y : (a b c d : Point) → area a b c ≡ pos 0 → area a b d ≡ pos 0 → overlapMore (a .y) (b .y) (c .y) (d .y) ≡ true → Two a b c d
+two-y : (a b c d : Point) → area a b c ≡ pos 0 → area a b d ≡ pos 0 → overlapMore (a .y) (b .y) (c .y) (d .y) ≡ true
+    → Two a b c d
 two-y a b c d e f g =
-    let t = two-x (mirror a) (mirror b) (mirror c) (mirror d) (area-mirror a b c ∙ ap negℤ e) (area-mirror a b d ∙ ap negℤ f) g in
+    let t = two-x (mirror a) (mirror b) (mirror c) (mirror d) (area-mirror a b c ∙ ap negℤ e)
+    (area-mirror a b d ∙ ap negℤ f) g in
     record {
       p = mirror (t .p);
       q = mirror (t .q);
@@ -200,8 +232,10 @@ unfolding stretches
 stretch-two a b c d e =
     let h = and-true _ _ e in
     let k = and-true _ _ (h .1) in
-    go (null-is (area a b c) (h .0)) (null-is (area a b d) (k .0)) (or-true (overlapMore (a .x) (b .x) (c .x) (d .x)) (overlapMore (a .y) (b .y) (c .y) (d .y)) (k .1))
+    go (null-is (area a b c) (h .0)) (null-is (area a b d) (k .0))
+    (or-true (overlapMore (a .x) (b .x) (c .x) (d .x)) (overlapMore (a .y) (b .y) (c .y) (d .y)) (k .1))
   where
-    go : area a b c ≡ pos 0 → area a b d ≡ pos 0 → (overlapMore (a .x) (b .x) (c .x) (d .x) ≡ true) ⊎ (overlapMore (a .y) (b .y) (c .y) (d .y) ≡ true) → Two a b c d
+    go : area a b c ≡ pos 0 → area a b d ≡ pos 0 → (overlapMore (a .x) (b .x) (c .x) (d .x) ≡ true)
+        ⊎ (overlapMore (a .y) (b .y) (c .y) (d .y) ≡ true) → Two a b c d
     go u v (inl f) = two-x a b c d u v f
     go u v (inr f) = two-y a b c d u v f

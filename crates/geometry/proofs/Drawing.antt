@@ -34,13 +34,17 @@ module _ {A : Type 0} (R : A → Type 0) where
   all-put xs ys c r h = each-append R xs (c ∷ ys) (all-front xs ys h) (r, all-back xs ys h)
 
   pub all-take : (xs ys : List A) (c : A) → All R (xs ++ (c ∷ ys)) → R c × All R (xs ++ ys)
-  all-take xs ys c h = (all-back xs (c ∷ ys) h .0, each-append R xs ys (all-front xs (c ∷ ys) h) (all-back xs (c ∷ ys) h .1))
+  all-take xs ys c h = (
+    all-back xs (c ∷ ys) h .0,
+    each-append R xs ys (all-front xs (c ∷ ys) h) (all-back xs (c ∷ ys) h .1),
+  )
 
 pub all-map : {A : Type 0} (R S : A → Type 0) → ((x : A) → R x → S x) → (l : List A) → All R l → All S l
 all-map R S f [] h = tt
 all-map R S f (x ∷ l) h = (f x (h .0), all-map R S f l (h .1))
 
-pub all-map₂ : {A : Type 0} (Q R S : A → Type 0) → ((x : A) → Q x → R x → S x) → (l : List A) → All Q l → All R l → All S l
+pub all-map₂ : {A : Type 0} (Q R S : A → Type 0) → ((x : A) → Q x → R x → S x) → (l : List A) → All Q l → All R l
+    → All S l
 all-map₂ Q R S f [] h k = tt
 all-map₂ Q R S f (x ∷ l) h k = (f x (h .0) (k .0), all-map₂ Q R S f l (h .1) (k .1))
 
@@ -62,8 +66,12 @@ clear-sym c d h P o p = let k = h P p o in (k .1, k .0)
 
 -- ---- one curve more, one less
 
-pub put : (xs ys : List Curve) (c : Curve) → Good c → All (ClearCurves c) (xs ++ ys) → Drawn (xs ++ ys) → Drawn (xs ++ (c ∷ ys))
-put xs ys c g h d = record { good = all-put Good xs ys c g (d .good); clear = pairs-put ClearCurves clear-sym xs ys c h (d .clear) }
+pub put : (xs ys : List Curve) (c : Curve) → Good c → All (ClearCurves c) (xs ++ ys) → Drawn (xs ++ ys)
+    → Drawn (xs ++ (c ∷ ys))
+put xs ys c g h d = record {
+  good = all-put Good xs ys c g (d .good);
+  clear = pairs-put ClearCurves clear-sym xs ys c h (d .clear);
+}
 
 pub record Taken (c : Curve) (l : List Curve) : Type 0 where
   pub good : Good c
@@ -80,11 +88,13 @@ pub put-taken : (xs ys : List Curve) {c : Curve} {l : List Curve} → l ≡ xs +
 put-taken xs ys {c} e t = put xs ys c (t .good) (subst (All (ClearCurves c)) e (t .clear)) (subst Drawn e (t .drawn))
 
 -- a curve that passes the tests (kinds 4, 11, 12; with `take` before it, kind 6)
-pub add : (xs ys : List Curve) (c : Curve) → Some (c .rest) → Differ (c .first) (c .rest) → isSimple c ≡ true → All (λ d. meetWrongly c d ≡ false) (xs ++ ys)
+pub add : (xs ys : List Curve) (c : Curve) → Some (c .rest) → Differ (c .first) (c .rest) → isSimple c ≡ true
+    → All (λ d. meetWrongly c d ≡ false) (xs ++ ys)
     → Drawn (xs ++ ys) → Drawn (xs ++ (c ∷ ys))
 add xs ys c s n e w d =
     put xs ys c (record { some = s; differ = n; simple = simple-true (c .first) (c .rest) e })
-    (all-map (λ d. meetWrongly c d ≡ false) (ClearCurves c) (λ d f. wrong-clear (c .first) (c .rest) (d .first) (d .rest) f) (xs ++ ys) w) d
+    (all-map (λ d. meetWrongly c d ≡ false) (ClearCurves c)
+    (λ d f. wrong-clear (c .first) (c .rest) (d .first) (d .rest) f) (xs ++ ys) w) d
 
 -- ---- halves
 
@@ -131,13 +141,24 @@ pub record Split (m : Point) (c : Curve) (l : List Curve) : Type 0 where
   pub halves : ClearCurves (back m c) (front m c)
   pub cloven : Cloven m (c .first) (c .rest) (front m c .rest) (back m c .rest)
 
-pub split : (m : Point) (c : Curve) (l : List Curve) → c .first ≢ m → lastPoint c ≢ m → OnCurve (spot m) c → Taken c l → Split m c l
+pub split : (m : Point) (c : Curve) (l : List Curve) → c .first ≢ m → lastPoint c ≢ m → OnCurve (spot m) c → Taken c l
+    → Split m c l
 split m c l n e o t =
     record {
-      front-good = record { some = h .some-front; differ = h .front-differ; simple = arc-simple (c .first) (front m c .rest) (h .front-arc) };
-      back-good = record { some = h .some-back; differ = h .back-differ; simple = arc-simple m (back m c .rest) (h .back-arc) };
-      front-clear = all-map (ClearCurves c) (ClearCurves (front m c)) (λ d. front-clear h (d .first) (d .rest)) l (t .clear);
-      back-clear = all-map (ClearCurves c) (ClearCurves (back m c)) (λ d. back-clear h (d .first) (d .rest)) l (t .clear);
+      front-good = record {
+        some = h .some-front;
+        differ = h .front-differ;
+        simple = arc-simple (c .first) (front m c .rest) (h .front-arc);
+      };
+      back-good = record {
+        some = h .some-back;
+        differ = h .back-differ;
+        simple = arc-simple m (back m c .rest) (h .back-arc);
+      };
+      front-clear = all-map (ClearCurves c) (ClearCurves (front m c)) (λ d. front-clear h (d .first) (d .rest)) l
+          (t .clear);
+      back-clear = all-map (ClearCurves c) (ClearCurves (back m c)) (λ d. back-clear h (d .first) (d .rest)) l
+          (t .clear);
       halves = clear-sym (front m c) (back m c) (halves-clear h);
       cloven = h;
     }
@@ -146,12 +167,16 @@ split m c l n e o t =
     h = cut-cloven m (c .first) (c .rest) n e o (t .good .differ) (t .good .simple)
 
 -- the front half stands anywhere in what is left, and the back half anywhere after that
-pub split-drawn : (xs ys us vs ps qs : List Curve) (m : Point) (c : Curve) → c .first ≢ m → lastPoint c ≢ m → OnCurve (spot m) c → Drawn (xs ++ (c ∷ ys))
+pub split-drawn : (xs ys us vs ps qs : List Curve) (m : Point) (c : Curve) → c .first ≢ m → lastPoint c ≢ m
+    → OnCurve (spot m) c → Drawn (xs ++ (c ∷ ys))
     → us ++ vs ≡ xs ++ ys → ps ++ qs ≡ us ++ (front m c ∷ vs) → Drawn (ps ++ (back m c ∷ qs))
 split-drawn xs ys us vs ps qs m c n e o d p q =
     put ps qs (back m c) (s .back-good)
-    (subst (All (ClearCurves (back m c))) (sym q) (all-put (ClearCurves (back m c)) us vs (front m c) (s .halves) (subst (All (ClearCurves (back m c))) (sym p) (s .back-clear))))
-    (subst Drawn (sym q) (put us vs (front m c) (s .front-good) (subst (All (ClearCurves (front m c))) (sym p) (s .front-clear)) (subst Drawn (sym p) (t .drawn))))
+    (subst (All (ClearCurves (back m c))) (sym q)
+    (all-put (ClearCurves (back m c)) us vs (front m c) (s .halves)
+    (subst (All (ClearCurves (back m c))) (sym p) (s .back-clear))))
+    (subst Drawn (sym q) (put us vs (front m c) (s .front-good)
+    (subst (All (ClearCurves (front m c))) (sym p) (s .front-clear)) (subst Drawn (sym p) (t .drawn))))
   where
     t : Taken c (xs ++ ys)
     t = take xs ys c d
@@ -176,7 +201,8 @@ clear-course true c d h = clear-turned (c .first) (c .rest) (d .first) (d .rest)
 
 -- ---- the join
 
-module _ (c d : Curve) (joint : d .first ≡ lastPoint c) (h : Joined (c .first) (c .rest) (d .rest) (join (c .first) (c .rest) (d .rest))) where
+module _ (c d : Curve) (joint : d .first ≡ lastPoint c)
+    (h : Joined (c .first) (c .rest) (d .rest) (join (c .first) (c .rest) (d .rest))) where
   join-clear : (e : Curve) → Away (lastPoint c) e → ClearCurves c e → ClearCurves d e → ClearCurves (joined c d) e
   join-clear e w f g P o p = go (h .on-either P o)
     where
@@ -184,21 +210,24 @@ module _ (c d : Curve) (joint : d .first ≡ lastPoint c) (h : Joined (c .first)
       never k (inl l) = w .first (at-one k l)
       never k (inr l) = w .last (at-one k l)
 
-      on-first : End P (c .first) (c .rest) × End P (e .first) (e .rest) → End P (c .first) (joined c d .rest) × End P (e .first) (e .rest)
+      on-first : End P (c .first) (c .rest) × End P (e .first) (e .rest) → End P (c .first) (joined c d .rest)
+          × End P (e .first) (e .rest)
       on-first k = (ends (k .0), k .1)
         where
           ends : End P (c .first) (c .rest) → End P (c .first) (joined c d .rest)
           ends (inl l) = inl l
           ends (inr l) = absurd (never l (k .1))
 
-      on-second : End P (d .first) (d .rest) × End P (e .first) (e .rest) → End P (c .first) (joined c d .rest) × End P (e .first) (e .rest)
+      on-second : End P (d .first) (d .rest) × End P (e .first) (e .rest) → End P (c .first) (joined c d .rest)
+          × End P (e .first) (e .rest)
       on-second k = (ends (k .0), k .1)
         where
           ends : End P (d .first) (d .rest) → End P (c .first) (joined c d .rest)
           ends (inl l) = absurd (never (subst (At P) joint l) (k .1))
           ends (inr l) = inr (subst (At P) (ap (λ (z : Point). lastOf z (d .rest)) joint ∙ sym (h .last)) l)
 
-      go : On P (c .first) (c .rest) ⊎ On P (lastPoint c) (d .rest) → End P (c .first) (joined c d .rest) × End P (e .first) (e .rest)
+      go : On P (c .first) (c .rest) ⊎ On P (lastPoint c) (d .rest) → End P (c .first) (joined c d .rest)
+          × End P (e .first) (e .rest)
       go (inl k) = on-first (f P k p)
       go (inr k) = on-second (g P (subst (λ (z : Point). On P z (d .rest)) (sym joint) k) p)
 
@@ -209,23 +238,29 @@ pub record Healed (c d : Curve) (l : List Curve) : Type 0 where
 
 -- c and d out of a drawing, in the order of the healed curve; no curve that is left ends at the joint
 pub heal : (c d : Curve) (l : List Curve) → d .first ≡ lastPoint c → lastPoint c ≢ c .first → lastPoint d ≢ d .first
-    → Good c → Good d → ClearCurves c d → All (ClearCurves c) l → All (ClearCurves d) l → All (Away (lastPoint c)) l → Healed c d l
+    → Good c → Good d → ClearCurves c d → All (ClearCurves c) l → All (ClearCurves d) l → All (Away (lastPoint c)) l
+    → Healed c d l
 heal c d l e n n′ g g′ k h h′ w =
     record {
       good = record { some = j .some; differ = j .differ; simple = j .simple };
-      clear = all-map₂ (Away (lastPoint c)) (λ x. ClearCurves c x × ClearCurves d x) (ClearCurves (joined c d)) (λ x a b. join-clear c d e j x a (b .0) (b .1)) l w
+      clear = all-map₂ (Away (lastPoint c)) (λ x. ClearCurves c x × ClearCurves d x) (ClearCurves (joined c d))
+          (λ x a b. join-clear c d e j x a (b .0) (b .1)) l w
           (all-map₂ (ClearCurves c) (ClearCurves d) (λ x. ClearCurves c x × ClearCurves d x) (λ x a b. (a, b)) l h h′);
       is = j;
     }
   where
     j : Joined (c .first) (c .rest) (d .rest) (join (c .first) (c .rest) (d .rest))
-    j = heal-joined (c .first) (c .rest) (d .rest) (g .some) (g′ .some) (g .differ) (subst (λ (z : Point). Differ z (d .rest)) e (g′ .differ)) n
-        (subst (λ (z : Point). lastOf z (d .rest) ≢ z) e n′) (g .simple) (subst (λ (z : Point). Simple z (d .rest)) e (g′ .simple))
+    j = heal-joined (c .first) (c .rest) (d .rest) (g .some) (g′ .some) (g .differ)
+        (subst (λ (z : Point). Differ z (d .rest)) e (g′ .differ)) n
+        (subst (λ (z : Point). lastOf z (d .rest) ≢ z) e n′) (g .simple)
+        (subst (λ (z : Point). Simple z (d .rest)) e (g′ .simple))
         (subst (λ (z : Point). Clear (c .first) (c .rest) z (d .rest)) e k)
 
 -- the two curves go, each taken one way round or the other, and the join can stand anywhere
-pub heal-taken : (xs ys us vs : List Curve) (c d : Curve) (s t : Bool) → xs ++ ys ≡ us ++ (d ∷ vs) → Drawn (xs ++ (c ∷ ys))
-    → course t d .first ≡ lastPoint (course s c) → lastPoint (course s c) ≢ course s c .first → lastPoint (course t d) ≢ course t d .first
+pub heal-taken : (xs ys us vs : List Curve) (c d : Curve) (s t : Bool) → xs ++ ys ≡ us ++ (d ∷ vs)
+    → Drawn (xs ++ (c ∷ ys))
+    → course t d .first ≡ lastPoint (course s c) → lastPoint (course s c) ≢ course s c .first
+    → lastPoint (course t d) ≢ course t d .first
     → All (Away (lastPoint (course s c))) (us ++ vs) → Taken (joined (course s c) (course t d)) (us ++ vs)
 heal-taken xs ys us vs c d s t p w e n n′ f = record { good = h .good; clear = h .clear; drawn = l .drawn }
   where
@@ -251,13 +286,15 @@ heal-taken xs ys us vs c d s t p w e n n′ f = record { good = h .good; clear =
         (all-map (ClearCurves d) (ClearCurves d′) (clear-course t d) (us ++ vs) (l .clear)) f
 
 -- ---- with the points of nodes: what two curves share is one point that ends both
-pub common-point : (c d : Curve) → ClearCurves c d → (P : Spot) → OnCurve P c → OnCurve P d → (q : Point) × At P q × ((q ≡ c .first) ⊎ (q ≡ lastPoint c)) × ((q ≡ d .first) ⊎ (q ≡ lastPoint d))
+pub common-point : (c d : Curve) → ClearCurves c d → (P : Spot) → OnCurve P c → OnCurve P d → (q : Point) × At P q
+    × ((q ≡ c .first) ⊎ (q ≡ lastPoint c)) × ((q ≡ d .first) ⊎ (q ≡ lastPoint d))
 common-point c d h P o p = go (h P o p .0) (h P o p .1)
   where
     same-end : (q : Point) → At P q → End P (d .first) (d .rest) → (q ≡ d .first) ⊎ (q ≡ lastPoint d)
     same-end q k (inl l) = inl (at-one k l)
     same-end q k (inr l) = inr (at-one k l)
 
-    go : End P (c .first) (c .rest) → End P (d .first) (d .rest) → (q : Point) × At P q × ((q ≡ c .first) ⊎ (q ≡ lastPoint c)) × ((q ≡ d .first) ⊎ (q ≡ lastPoint d))
+    go : End P (c .first) (c .rest) → End P (d .first) (d .rest) → (q : Point) × At P q
+        × ((q ≡ c .first) ⊎ (q ≡ lastPoint c)) × ((q ≡ d .first) ⊎ (q ≡ lastPoint d))
     go (inl k) l = (c .first, k, inl refl, same-end (c .first) k l)
     go (inr k) l = (lastPoint c, k, inr refl, same-end (lastPoint c) k l)

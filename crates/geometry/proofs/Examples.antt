@@ -19,33 +19,42 @@ at x y = record { x = x; y = y }
 contacts : _≡_ {A = List Contact}
     (contact (at 0 0) (at 1 1) (at 1 0) (at 0 1) ∷ contact (at 0 2) (at 1 1) (at 0 0) (at 2 3)
     ∷ contact (at 2 2) (at 0 0) (at 1 1) (at 0 0) ∷ contact (at 0 0) (at 0 1) (at 0 1) (at 0 0)
-    ∷ contact (at 1 1) (at 0 1) (at 0 0) (at 0 1) ∷ contact (at 1 2) (at 1 1) (at 0 2) (at 2 0) ∷ contact (at 1 1) (at 0 0) (at 0 0) (at 0 0)
+    ∷ contact (at 1 1) (at 0 1) (at 0 0) (at 0 1) ∷ contact (at 1 2) (at 1 1) (at 0 2) (at 2 0)
+    ∷ contact (at 1 1) (at 0 0) (at 0 0) (at 0 0)
     ∷ contact (at 2 1) (at 1 2) (at 2 0) (at 0 2) ∷ contact (at 0 0) (at 0 0) (at 1 1) (at 2 2) ∷ [])
     (Crossing ∷ Crossing ∷ Stretch ∷ Stretch ∷ Touch ∷ Touch ∷ Touch ∷ None ∷ None ∷ [])
 unfolding meets overlap straddle turn area overlapMore stretches ended contact
 contacts = refl
 
 wrongs : _≡_ {A = List Bool}
-    (wrong (at 2 3) (at 3 3 ∷ at 3 0 ∷ []) (at 0 2) (at 0 3 ∷ at 0 1 ∷ at 0 3 ∷ []) ∷ wrong (at 1 0) (at 3 3 ∷ at 1 3 ∷ []) (at 1 0) (at 0 1 ∷ at 1 3 ∷ [])
-    ∷ wrong (at 1 1) (at 3 1 ∷ at 2 1 ∷ []) (at 1 3) (at 2 1 ∷ []) ∷ wrong (at 1 3) (at 0 2 ∷ []) (at 2 0) (at 0 2 ∷ at 1 3 ∷ [])
+    (wrong (at 2 3) (at 3 3 ∷ at 3 0 ∷ []) (at 0 2) (at 0 3 ∷ at 0 1 ∷ at 0 3 ∷ [])
+    ∷ wrong (at 1 0) (at 3 3 ∷ at 1 3 ∷ []) (at 1 0) (at 0 1 ∷ at 1 3 ∷ [])
+    ∷ wrong (at 1 1) (at 3 1 ∷ at 2 1 ∷ []) (at 1 3) (at 2 1 ∷ [])
+    ∷ wrong (at 1 3) (at 0 2 ∷ []) (at 2 0) (at 0 2 ∷ at 1 3 ∷ [])
     ∷ wrong (at 2 2) (at 2 0 ∷ []) (at 3 0) (at 1 0 ∷ at 3 0 ∷ []) ∷ [])
     (false ∷ false ∷ false ∷ true ∷ true ∷ [])
 unfolding meets overlap straddle turn area same samePoint overlapMore stretches segWrong wrong
 wrongs = refl
 
 simples : _≡_ {A = List Bool}
-    (simple (at 1 1) (at 1 0 ∷ []) ∷ simple (at 5 1) (at 5 4 ∷ at 3 0 ∷ at 5 1 ∷ []) ∷ simple (at 4 5) (at 2 2 ∷ at 5 5 ∷ at 4 5 ∷ [])
-    ∷ simple (at 5 2) (at 1 4 ∷ at 3 0 ∷ at 3 5 ∷ []) ∷ simple (at 1 1) (at 0 1 ∷ at 1 1 ∷ []) ∷ simple (at 0 4) (at 3 0 ∷ at 1 0 ∷ at 2 0 ∷ []) ∷ [])
+    (simple (at 1 1) (at 1 0 ∷ []) ∷ simple (at 5 1) (at 5 4 ∷ at 3 0 ∷ at 5 1 ∷ [])
+    ∷ simple (at 4 5) (at 2 2 ∷ at 5 5 ∷ at 4 5 ∷ [])
+    ∷ simple (at 5 2) (at 1 4 ∷ at 3 0 ∷ at 3 5 ∷ []) ∷ simple (at 1 1) (at 0 1 ∷ at 1 1 ∷ [])
+    ∷ simple (at 0 4) (at 3 0 ∷ at 1 0 ∷ at 2 0 ∷ []) ∷ [])
     (true ∷ true ∷ true ∷ false ∷ false ∷ false ∷ [])
 unfolding meets overlap straddle turn area same samePoint overlapMore stretches segWrong simple
 simples = refl
 
 edits : _≡_ {A = List (List Point)}
-    (cut (at 0 3) (at 3 1) (at 4 1 ∷ at 0 4 ∷ at 0 2 ∷ []) .front ∷ cut (at 0 3) (at 3 1) (at 4 1 ∷ at 0 4 ∷ at 0 2 ∷ []) .back
-    ∷ cut (at 2 4) (at 4 3) (at 4 2 ∷ at 2 4 ∷ at 2 3 ∷ []) .front ∷ cut (at 2 4) (at 4 3) (at 4 2 ∷ at 2 4 ∷ at 2 3 ∷ []) .back
-    ∷ join (at 2 3) (at 2 1 ∷ at 3 1 ∷ []) (at 0 2 ∷ []) ∷ join (at 1 2) (at 3 1 ∷ at 1 1 ∷ []) (at 0 1 ∷ []) ∷ join (at 2 0) (at 3 0 ∷ []) (at 1 0 ∷ at 3 1 ∷ [])
+    (cut (at 0 3) (at 3 1) (at 4 1 ∷ at 0 4 ∷ at 0 2 ∷ []) .front
+    ∷ cut (at 0 3) (at 3 1) (at 4 1 ∷ at 0 4 ∷ at 0 2 ∷ []) .back
+    ∷ cut (at 2 4) (at 4 3) (at 4 2 ∷ at 2 4 ∷ at 2 3 ∷ []) .front
+    ∷ cut (at 2 4) (at 4 3) (at 4 2 ∷ at 2 4 ∷ at 2 3 ∷ []) .back
+    ∷ join (at 2 3) (at 2 1 ∷ at 3 1 ∷ []) (at 0 2 ∷ []) ∷ join (at 1 2) (at 3 1 ∷ at 1 1 ∷ []) (at 0 1 ∷ [])
+    ∷ join (at 2 0) (at 3 0 ∷ []) (at 1 0 ∷ at 3 1 ∷ [])
     ∷ turned (at 1 2) (at 1 1 ∷ at 2 1 ∷ at 0 3 ∷ []) ∷ [])
     ((at 4 1 ∷ at 0 4 ∷ at 0 3 ∷ []) ∷ (at 0 2 ∷ []) ∷ (at 4 2 ∷ at 2 4 ∷ []) ∷ (at 2 3 ∷ [])
-    ∷ (at 2 1 ∷ at 3 1 ∷ at 0 2 ∷ []) ∷ (at 3 1 ∷ at 0 1 ∷ []) ∷ (at 3 0 ∷ at 1 0 ∷ at 3 1 ∷ []) ∷ (at 2 1 ∷ at 1 1 ∷ at 1 2 ∷ []) ∷ [])
+    ∷ (at 2 1 ∷ at 3 1 ∷ at 0 2 ∷ []) ∷ (at 3 1 ∷ at 0 1 ∷ []) ∷ (at 3 0 ∷ at 1 0 ∷ at 3 1 ∷ [])
+    ∷ (at 2 1 ∷ at 1 1 ∷ at 1 2 ∷ []) ∷ [])
 unfolding meets overlap straddle turn area same samePoint straightBetween
 edits = refl

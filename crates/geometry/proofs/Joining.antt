@@ -14,7 +14,8 @@ use Rattle.geometry.specs.Meaning.{On, Differ, Arc, Simple, Some, End, C
 use Rattle.geometry.proofs.Segments.{at-one}
 use Rattle.geometry.proofs.Meeting.{straightBetween-true}
 use Rattle.geometry.proofs.Alike.{Alike, alike-refl, alike-sym, alike-cons, alike-insert}
-use Rattle.geometry.proofs.Chains.{on-front, on-back, on-split, last-append, differ-join, Closing, Cut, simple-join, simple-arc}
+use Rattle.geometry.proofs.Chains.{on-front, on-back, on-split, last-append, differ-join, Closing, Cut}
+use Rattle.geometry.proofs.Chains.{simple-join, simple-arc}
 use Rattle.geometry.proofs.Cutting.{second-append, before-append}
 
 -- with the joint dropped, or not
@@ -28,7 +29,8 @@ join-alike a (m ∷ []) (y ∷ s) h k = go (straightBetween a m y) refl
     go false e = alike-refl a (m ∷ y ∷ s) tt
 join-alike a (b ∷ c ∷ r) s h k = alike-cons a b (join-alike b (c ∷ r) s tt k)
 
-pub join-count : (a : Point) (r s : List Point) → (length (join a r s) ≡ length (r ++ s)) ⊎ (suc (length (join a r s)) ≡ length (r ++ s))
+pub join-count : (a : Point) (r s : List Point) → (length (join a r s) ≡ length (r ++ s))
+    ⊎ (suc (length (join a r s)) ≡ length (r ++ s))
 join-count a [] s = inl refl
 join-count a (m ∷ []) s = go (dropped a m s)
   where
@@ -84,7 +86,8 @@ pub simple-some : (a : Point) (r s : List Point) → Some r → Differ a r → C
 simple-some a [] s h n c = absurd h
 simple-some a (b ∷ r) s h n c = simple-join a b r s (n .0) c
 
-pub join-joined : (a : Point) (r s : List Point) → Some r → Some s → Differ a r → Differ (lastOf a r) s → Arc a r → Arc (lastOf a r) s → Closing a r s → Joined a r s (join a r s)
+pub join-joined : (a : Point) (r s : List Point) → Some r → Some s → Differ a r → Differ (lastOf a r) s → Arc a r
+    → Arc (lastOf a r) s → Closing a r s → Joined a r s (join a r s)
 join-joined a r s h k n n′ f g c =
     let w = join-alike a r s h k in
     record {
@@ -110,6 +113,8 @@ clear-closing a r s h P o p = go (h P o p .0) (h P o p .1)
     go (inl e) (inr f) = inr (e, at-one f e)
 
 -- two simple curves that share common ends only, with far ends that are not the joint
-pub heal-joined : (a : Point) (r s : List Point) → Some r → Some s → Differ a r → Differ (lastOf a r) s → lastOf a r ≢ a → lastOf (lastOf a r) s ≢ lastOf a r
+pub heal-joined : (a : Point) (r s : List Point) → Some r → Some s → Differ a r → Differ (lastOf a r) s
+    → lastOf a r ≢ a → lastOf (lastOf a r) s ≢ lastOf a r
     → Simple a r → Simple (lastOf a r) s → Clear a r (lastOf a r) s → Joined a r s (join a r s)
-heal-joined a r s h k n n′ e e′ f g c = join-joined a r s h k n n′ (simple-arc a r e f) (simple-arc (lastOf a r) s e′ g) (clear-closing a r s c)
+heal-joined a r s h k n n′ e e′ f g c =
+    join-joined a r s h k n n′ (simple-arc a r e f) (simple-arc (lastOf a r) s e′ g) (clear-closing a r s c)

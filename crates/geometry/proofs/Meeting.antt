@@ -1,4 +1,5 @@
--- The tests of points say what they should: one point, on a segment, meeting segments, straight between, neighbours, on a curve. Assumes nothing.
+-- The tests of points say what they should: one point, on a segment, meeting segments, straight between, neighbours, on
+-- a curve. Assumes nothing.
 use mathlib.Core.Path.{_≡_, refl, sym, ap, _∙_}
 use mathlib.Core.Bool.{true, false, not, false≢true}
 use mathlib.Core.List.{List, [], _∷_}
@@ -51,7 +52,8 @@ meets-false e o p = false≢true (sym e ∙ meets-spot o p)
 one-point : (j i l k m A : ℕ) → 0 < j + i → (l + k) * (j * m + i * m) ≡ (j + i) * A → (l + k) * m ≡ 1 * A
 one-point j i l k m A h e =
     eq-of-mul-eq-mul-left (j + i) h ((l + k) * m) (1 * A)
-    (pos-injective (solve 5 (λ j i l k m. (j ⊕ i) ⊗ ((l ⊕ k) ⊗ m) ≐ (l ⊕ k) ⊗ (j ⊗ m ⊕ i ⊗ m)) tt (pos j) (pos i) (pos l) (pos k) (pos m))
+    (pos-injective (solve 5 (λ j i l k m. (j ⊕ i) ⊗ ((l ⊕ k) ⊗ m) ≐ (l ⊕ k) ⊗ (j ⊗ m ⊕ i ⊗ m)) tt (pos j) (pos i)
+    (pos l) (pos k) (pos m))
     ∙ e ∙ ap (λ (n : ℕ). (j + i) * n) (let f : A ≡ 1 * A = omega arith in f))
 
 pub onSegment-true : (m a b : Point) → onSegment m a b ≡ true → OnSeg (spot m) a b
@@ -86,13 +88,15 @@ straightBetween-true a m b e =
 
 pub straightBetween-is : {a m b : Point} → Between a m b → straightBetween a m b ≡ true
 unfolding straightBetween
-straightBetween-is {a} {m} {b} s = and-is (ap not (samePoint-false a m (s .not-first))) (and-is (ap not (samePoint-false m b (s .not-last))) (onSegment-is (s .on)))
+straightBetween-is {a} {m} {b} s = and-is (ap not (samePoint-false a m (s .not-first)))
+    (and-is (ap not (samePoint-false m b (s .not-last))) (onSegment-is (s .on)))
 
 -- ---- points of a curve
 
 pub differs-true : (a : Point) (r : List Point) → differs a r ≡ true → Differ a r
 differs-true a [] e = tt
-differs-true a (b ∷ r) e = let h = and-true (not (samePoint a b)) (differs b r) e in (samePoint-differ a b (not-true _ (h .0)), differs-true b r (h .1))
+differs-true a (b ∷ r) e = let h = and-true (not (samePoint a b)) (differs b r) e in
+    (samePoint-differ a b (not-true _ (h .0)), differs-true b r (h .1))
 
 pub differs-is : (a : Point) (r : List Point) → Differ a r → differs a r ≡ true
 differs-is a [] n = refl
@@ -102,7 +106,8 @@ pub passes-true : (m a : Point) (r : List Point) → passes m a r ≡ true → O
 passes-true m a [] e = absurd (false≢true e)
 passes-true m a (b ∷ r) e = go (or-true (onSegment m a b) (passes m b r) e) (passes-true m b r)
   where
-    go : (onSegment m a b ≡ true) ⊎ (passes m b r ≡ true) → (passes m b r ≡ true → On (spot m) b r) → OnSeg (spot m) a b ⊎ On (spot m) b r
+    go : (onSegment m a b ≡ true) ⊎ (passes m b r ≡ true) → (passes m b r ≡ true → On (spot m) b r)
+        → OnSeg (spot m) a b ⊎ On (spot m) b r
     go (inl k) f = inl (onSegment-true m a b k)
     go (inr k) f = inr (f k)
 

@@ -1,5 +1,5 @@
--- Simple, by the numbers of two segments: neighbours share their common point only, the first and the last of a closed curve its end, others nothing.
--- Assumes nothing.
+-- Simple, by the numbers of two segments: neighbours share their common point only, the first and the last of a closed
+-- curve its end, others nothing. Assumes nothing.
 use mathlib.Core.Path.{_≡_, refl, sym, ap, _∙_, subst}
 use mathlib.Core.List.{List, [], _∷_}
 use mathlib.Core.Logic.{_⊎_, inl, inr}
@@ -32,13 +32,18 @@ module _ {P : Spot} {b : Point} where
   after-first (c ∷ r) zero g n e h = refl
   after-first (c ∷ r) (suc j) g n e h = absurd (n .0 (at-one e (g .0 P (at-first c e) (nth-on P c r j h))))
 
-pub arc-pair : (P : Spot) (a : Point) (r : List Point) (i k : ℕ) → Arc a r → Differ a r → OnNth P a r i → OnNth P a r (suc (i + k)) → (k ≡ zero) × At P (pointOf a r (suc i))
+pub arc-pair : (P : Spot) (a : Point) (r : List Point) (i k : ℕ) → Arc a r → Differ a r → OnNth P a r i
+    → OnNth P a r (suc (i + k)) → (k ≡ zero) × At P (pointOf a r (suc i))
 arc-pair P a [] i k g n o p = absurd o
-arc-pair P a (b ∷ r) zero k g n o p = let q : OnNth P b r k = subst (OnNth P b r) (let e : zero + k ≡ k = omega arith in e) p in let e : At P b = g .0 P o (nth-on P b r k q) in (after-first r k (g .1) (n .1) e q, e)
-arc-pair P a (b ∷ r) (suc i) k g n o p = arc-pair P b r i k (g .1) (n .1) o (subst (OnNth P b r) (let e : suc i + k ≡ suc (i + k) = omega arith in e) p)
+arc-pair P a (b ∷ r) zero k g n o p = let q : OnNth P b r k =
+    subst (OnNth P b r) (let e : zero + k ≡ k = omega arith in e) p in let e : At P b = g .0 P o (nth-on P b r k q) in
+    (after-first r k (g .1) (n .1) e q, e)
+arc-pair P a (b ∷ r) (suc i) k g n o p =
+    arc-pair P b r i k (g .1) (n .1) o (subst (OnNth P b r) (let e : suc i + k ≡ suc (i + k) = omega arith in e) p)
 
 -- the end of a closed arc's first point lies on its last segment only
-last-nth : (P : Spot) (a c : Point) (r : List Point) (j : ℕ) → Arc c r → Differ c r → At P a → lastOf c r ≡ a → OnNth P c r j → suc j ≡ length r
+last-nth : (P : Spot) (a c : Point) (r : List Point) (j : ℕ) → Arc c r → Differ c r → At P a → lastOf c r ≡ a
+    → OnNth P c r j → suc j ≡ length r
 last-nth P a c [] j g n e l h = absurd h
 last-nth P a c (d ∷ []) zero g n e l h = refl
 last-nth P a c (d ∷ []) (suc j) g n e l h = absurd h
@@ -48,17 +53,27 @@ last-nth P a c (d ∷ f ∷ r) zero g n e l h =
 last-nth P a c (d ∷ f ∷ r) (suc j) g n e l h = ap suc (last-nth P a d (f ∷ r) j (g .1) (n .1) e l h)
 
 -- segments i and i + 1 + k share: neighbours, or the first and the last of a closed curve
-pub simple-pair : (P : Spot) (a : Point) (r : List Point) (i k : ℕ) → Simple a r → Differ a r → OnNth P a r i → OnNth P a r (suc (i + k))
+pub simple-pair : (P : Spot) (a : Point) (r : List Point) (i k : ℕ) → Simple a r → Differ a r → OnNth P a r i
+    → OnNth P a r (suc (i + k))
     → ((k ≡ zero) × At P (pointOf a r (suc i))) ⊎ ((i ≡ zero) × (suc (suc k) ≡ length r) × (lastOf a r ≡ a) × At P a)
 simple-pair P a [] i k g n o p = absurd o
-simple-pair P a (b ∷ r) (suc i) k g n o p = inl (arc-pair P b r i k (g .1) (n .1) o (subst (OnNth P b r) (let e : suc i + k ≡ suc (i + k) = omega arith in e) p))
+simple-pair P a (b ∷ r) (suc i) k g n o p =
+    inl (arc-pair P b r i k (g .1) (n .1) o
+    (subst (OnNth P b r) (let e : suc i + k ≡ suc (i + k) = omega arith in e) p))
 simple-pair P a (b ∷ r) zero k g n o p = go r k g n (subst (OnNth P b r) (let e : zero + k ≡ k = omega arith in e) p)
   where
-    go : (r : List Point) (k : ℕ) → Simple a (b ∷ r) → Differ a (b ∷ r) → OnNth P b r k → ((k ≡ zero) × At P b) ⊎ ((_≡_ {A = ℕ} zero zero) × (suc (suc k) ≡ suc (length r)) × (lastOf b r ≡ a) × At P a)
+    go : (r : List Point) (k : ℕ) → Simple a (b ∷ r) → Differ a (b ∷ r) → OnNth P b r k → ((k ≡ zero) × At P b)
+        ⊎ ((_≡_ {A = ℕ} zero zero) × (suc (suc k) ≡ suc (length r)) × (lastOf b r ≡ a) × At P a)
     go [] k g n q = absurd q
     go (c ∷ r) zero g n q = inl (refl, near a b c (n .0) r (g .1) (n .1) P o q (g .0 P o (inl q)) (g .0))
     go (c ∷ r) (suc k) g n q = next (g .0 P o (inr (nth-on P c r k q)))
       where
-        next : At P b ⊎ (At P a × (lastOf c r ≡ a)) → ((suc k ≡ zero) × At P b) ⊎ ((_≡_ {A = ℕ} zero zero) × (suc (suc (suc k)) ≡ suc (suc (length r))) × (lastOf c r ≡ a) × At P a)
+        next : At P b ⊎ (At P a × (lastOf c r ≡ a)) → ((suc k ≡ zero) × At P b)
+            ⊎ ((_≡_ {A = ℕ} zero zero) × (suc (suc (suc k)) ≡ suc (suc (length r))) × (lastOf c r ≡ a) × At P a)
         next (inl e) = absurd (n .1 .0 (at-one e (g .1 .0 P (at-first c e) (nth-on P c r k q))))
-        next (inr e) = inr (refl, ap (λ (m : ℕ). suc (suc m)) (last-nth P a c r k (g .1 .1) (n .1 .1) (e .0) (e .1) q), e .1, e .0)
+        next (inr e) = inr (
+          refl,
+          ap (λ (m : ℕ). suc (suc m)) (last-nth P a c r k (g .1 .1) (n .1 .1) (e .0) (e .1) q),
+          e .1,
+          e .0,
+        )

@@ -8,7 +8,8 @@ use borrow.Author.Tests.{leb-false}
 use lib.Dec.{leb}
 use lib.IntN.{ℤ, pos, _+ℤ_, _-ℤ_, _*ℤ_}
 use Rattle.integers.specs.Solver.{con, _⊕_, _⊖_, _⊗_, _≐_, solve}
-use Rattle.integers.specs.Order.{Sign, negative, null, positive, sgn, signed, pos-<, sub-pos, weighted-pos, weighted-not-pos, weighted-not-neg, *-pos-zero}
+use Rattle.integers.specs.Order.{Sign, negative, null, positive, sgn, signed, pos-<, sub-pos, weighted-pos}
+use Rattle.integers.specs.Order.{weighted-not-pos, weighted-not-neg, *-pos-zero}
 use Rattle.plane.specs.declared.Point.{Point}
 use Rattle.plane.specs.Areas.{area, turnOf, turn}
 use Rattle.plane.specs.Segments.{overlap, apart, straddle, meets}
@@ -32,7 +33,8 @@ pub record Common (a b c d : Point) : Type 0 where
 meet-at : (D X j i l k A B : ℕ) → 0 < D → (j + i) * X ≡ D * A → (l + k) * X ≡ D * B → (l + k) * A ≡ (j + i) * B
 meet-at D X j i l k A B h e f =
     eq-of-mul-eq-mul-left D h ((l + k) * A) ((j + i) * B)
-    (mul-left-comm D (l + k) A ∙ ap (λ (n : ℕ). (l + k) * n) (sym e) ∙ mul-left-comm (l + k) (j + i) X ∙ ap (λ (n : ℕ). (j + i) * n) f ∙ mul-left-comm (j + i) D B)
+    (mul-left-comm D (l + k) A ∙ ap (λ (n : ℕ). (l + k) * n) (sym e) ∙ mul-left-comm (l + k) (j + i) X
+    ∙ ap (λ (n : ℕ). (j + i) * n) f ∙ mul-left-comm (j + i) D B)
 
 -- a spot of both segments
 pub spot-common : {P : Spot} {a b c d : Point} → OnSeg P a b → OnSeg P c d → Common a b c d
@@ -44,8 +46,10 @@ spot-common {P} {a} {b} {c} {d} o p =
       k = p .i;
       ab = o .weight;
       cd = p .weight;
-      same-x = meet-at (P .d) (P .x) (o .j) (o .i) (p .j) (p .i) (o .j * a .x + o .i * b .x) (p .j * c .x + p .i * d .x) (P .some) (o .x) (p .x);
-      same-y = meet-at (P .d) (P .y) (o .j) (o .i) (p .j) (p .i) (o .j * a .y + o .i * b .y) (p .j * c .y + p .i * d .y) (P .some) (o .y) (p .y);
+      same-x = meet-at (P .d) (P .x) (o .j) (o .i) (p .j) (p .i) (o .j * a .x + o .i * b .x)
+          (p .j * c .x + p .i * d .x) (P .some) (o .x) (p .x);
+      same-y = meet-at (P .d) (P .y) (o .j) (o .i) (p .j) (p .i) (o .j * a .y + o .i * b .y)
+          (p .j * c .y + p .i * d .y) (P .some) (o .y) (p .y);
     }
 
 pub common-spot : {a b c d : Point} → Common a b c d → (P : Spot) × OnSeg P a b × OnSeg P c d
@@ -56,18 +60,31 @@ common-spot {a} {b} {c} {d} s = (
 )
 
 pub swap : {a b c d : Point} → Common a b c d → Common c d a b
-swap s = record { j = s .l; i = s .k; l = s .j; k = s .i; ab = s .cd; cd = s .ab; same-x = sym (s .same-x); same-y = sym (s .same-y) }
+swap s = record {
+  j = s .l;
+  i = s .k;
+  l = s .j;
+  k = s .i;
+  ab = s .cd;
+  cd = s .ab;
+  same-x = sym (s .same-x);
+  same-y = sym (s .same-y);
+}
 
 -- ---- the ranges overlap
 
 -- a and b are not both above c and d
-not-above : (j i l k a b c d : ℕ) → 0 < j + i → 0 < l + k → (l + k) * (j * a + i * b) ≡ (j + i) * (l * c + k * d) → max c d < min a b → ⊥
+not-above : (j i l k a b c d : ℕ) → 0 < j + i → 0 < l + k → (l + k) * (j * a + i * b) ≡ (j + i) * (l * c + k * d)
+    → max c d < min a b → ⊥
 not-above j i l k a b c d ab cd e h =
     weighted-not-pos j i (inner a) (inner b) ab
-    (solve 8 (λ j i l k a b c d. j ⊗ (l ⊗ (a ⊖ c) ⊕ k ⊗ (a ⊖ d)) ⊕ i ⊗ (l ⊗ (b ⊖ c) ⊕ k ⊗ (b ⊖ d)) ≐ (l ⊕ k) ⊗ (j ⊗ a ⊕ i ⊗ b) ⊖ (j ⊕ i) ⊗ (l ⊗ c ⊕ k ⊗ d)) tt
+    (solve 8 (λ j i l k a b c d. j ⊗ (l ⊗ (a ⊖ c) ⊕ k ⊗ (a ⊖ d)) ⊕ i ⊗ (l ⊗ (b ⊖ c) ⊕ k ⊗ (b ⊖ d)) ≐ (l ⊕ k) ⊗
+    (j ⊗ a ⊕ i ⊗ b) ⊖ (j ⊕ i) ⊗ (l ⊗ c ⊕ k ⊗ d)) tt
     (pos j) (pos i) (pos l) (pos k) (pos a) (pos b) (pos c) (pos d) ∙ zero-of (ap pos e))
-    (weighted-pos l k _ _ cd (sub-pos (pos c) (pos a) (pos-< (omega arith))) (sub-pos (pos d) (pos a) (pos-< (omega arith))))
-    (weighted-pos l k _ _ cd (sub-pos (pos c) (pos b) (pos-< (omega arith))) (sub-pos (pos d) (pos b) (pos-< (omega arith))))
+    (weighted-pos l k _ _ cd (sub-pos (pos c) (pos a) (pos-< (omega arith)))
+    (sub-pos (pos d) (pos a) (pos-< (omega arith))))
+    (weighted-pos l k _ _ cd (sub-pos (pos c) (pos b) (pos-< (omega arith)))
+    (sub-pos (pos d) (pos b) (pos-< (omega arith))))
   where
     inner : ℕ → ℤ
     inner x = pos l *ℤ (pos x -ℤ pos c) +ℤ pos k *ℤ (pos x -ℤ pos d)
@@ -80,10 +97,14 @@ leb-is m n f = go (leb m n) refl
     go true e = refl
     go false e = absurd (f (leb-false m n e))
 
-overlaps : (j i l k a b c d : ℕ) → 0 < j + i → 0 < l + k → (l + k) * (j * a + i * b) ≡ (j + i) * (l * c + k * d) → overlap a b c d ≡ true
+overlaps : (j i l k a b c d : ℕ) → 0 < j + i → 0 < l + k → (l + k) * (j * a + i * b) ≡ (j + i) * (l * c + k * d)
+    → overlap a b c d ≡ true
 unfolding overlap
 overlaps j i l k a b c d ab cd e =
-    rw (leb-is (min a b) (max c d) (not-above j i l k a b c d ab cd e), leb-is (min c d) (max a b) (not-above l k j i c d a b cd ab (sym e)))
+    rw (
+      leb-is (min a b) (max c d) (not-above j i l k a b c d ab cd e),
+      leb-is (min c d) (max a b) (not-above l k j i c d a b cd ab (sym e)),
+    )
 
 -- ---- each segment's ends are not on one side of the other's line
 
@@ -93,13 +114,18 @@ weighted-areas {a} {b} {c} {d} s =
     *-pos-zero (pos (s .j + s .i)) _ (pos-< (s .ab))
     (solve 12 (λ j i l k ax ay bx by cx cy dx dy.
     (j ⊕ i) ⊗ (l ⊗ areaE ax ay bx by cx cy ⊕ k ⊗ areaE ax ay bx by dx dy)
-    ≐ (by ⊖ ay) ⊗ ((l ⊕ k) ⊗ (j ⊗ ax ⊕ i ⊗ bx) ⊖ (j ⊕ i) ⊗ (l ⊗ cx ⊕ k ⊗ dx)) ⊖ (bx ⊖ ax) ⊗ ((l ⊕ k) ⊗ (j ⊗ ay ⊕ i ⊗ by) ⊖ (j ⊕ i) ⊗ (l ⊗ cy ⊕ k ⊗ dy))) tt
-    (pos (s .j)) (pos (s .i)) (pos (s .l)) (pos (s .k)) (pos (a .x)) (pos (a .y)) (pos (b .x)) (pos (b .y)) (pos (c .x)) (pos (c .y)) (pos (d .x)) (pos (d .y))
-    ∙ (λ t. (pos (b .y) -ℤ pos (a .y)) *ℤ zero-of (ap pos (s .same-x)) t -ℤ (pos (b .x) -ℤ pos (a .x)) *ℤ zero-of (ap pos (s .same-y)) t)
-    ∙ solve 2 (λ u v. u ⊗ con (pos 0) ⊖ v ⊗ con (pos 0) ≐ con (pos 0)) tt (pos (b .y) -ℤ pos (a .y)) (pos (b .x) -ℤ pos (a .x)))
+    ≐ (by ⊖ ay) ⊗ ((l ⊕ k) ⊗ (j ⊗ ax ⊕ i ⊗ bx) ⊖ (j ⊕ i) ⊗ (l ⊗ cx ⊕ k ⊗ dx)) ⊖ (bx ⊖ ax) ⊗
+    ((l ⊕ k) ⊗ (j ⊗ ay ⊕ i ⊗ by) ⊖ (j ⊕ i) ⊗ (l ⊗ cy ⊕ k ⊗ dy))) tt
+    (pos (s .j)) (pos (s .i)) (pos (s .l)) (pos (s .k)) (pos (a .x)) (pos (a .y)) (pos (b .x)) (pos (b .y))
+    (pos (c .x)) (pos (c .y)) (pos (d .x)) (pos (d .y))
+    ∙ (λ t. (pos (b .y) -ℤ pos (a .y)) *ℤ zero-of (ap pos (s .same-x)) t -ℤ (pos (b .x) -ℤ pos (a .x)) *ℤ zero-of
+    (ap pos (s .same-y)) t)
+    ∙ solve 2 (λ u v. u ⊗ con (pos 0) ⊖ v ⊗ con (pos 0) ≐ con (pos 0)) tt (pos (b .y) -ℤ pos (a .y))
+    (pos (b .x) -ℤ pos (a .x)))
 
 -- two signs that are not both positive and not both negative
-apart-if : (u v : Sign) → (u ≡ positive → v ≡ positive → ⊥) → (u ≡ negative → v ≡ negative → ⊥) → apart (turnOf u) (turnOf v) ≡ true
+apart-if : (u v : Sign) → (u ≡ positive → v ≡ positive → ⊥) → (u ≡ negative → v ≡ negative → ⊥)
+    → apart (turnOf u) (turnOf v) ≡ true
 apart-if negative negative f g = absurd (g refl refl)
 apart-if negative null f g = refl
 apart-if negative positive f g = refl
@@ -112,8 +138,10 @@ straddles : {a b c d : Point} → Common a b c d → straddle a b c d ≡ true
 unfolding straddle turn
 straddles {a} {b} {c} {d} s =
     apart-if (sgn (area a b c)) (sgn (area a b d))
-    (λ e f. weighted-not-pos (s .l) (s .k) _ _ (s .cd) (weighted-areas s) (signed positive (area a b c) e) (signed positive (area a b d) f))
-    (λ e f. weighted-not-neg (s .l) (s .k) _ _ (s .cd) (weighted-areas s) (signed negative (area a b c) e) (signed negative (area a b d) f))
+    (λ e f. weighted-not-pos (s .l) (s .k) _ _ (s .cd) (weighted-areas s) (signed positive (area a b c) e)
+    (signed positive (area a b d) f))
+    (λ e f. weighted-not-neg (s .l) (s .k) _ _ (s .cd) (weighted-areas s) (signed negative (area a b c) e)
+    (signed negative (area a b d) f))
 
 -- ---- soundness
 

@@ -1,5 +1,5 @@
--- The theorems of this crate, each in one line from the other files. A spot is a rational point; what stands right of `↔` is defined in specs/.
--- What every edit keeps on the list of all curves is `Edits`. Assumes nothing.
+-- The theorems of this crate, each in one line from the other files. A spot is a rational point; what stands right of
+-- `↔` is defined in specs/. What every edit keeps on the list of all curves is `Edits`. Assumes nothing.
 use mathlib.Core.Path.{_≡_, sym, ap, _∙_, subst}
 use mathlib.Core.Bool.{Bool, true, false}
 use mathlib.Core.List.{[]}
@@ -19,13 +19,16 @@ use Rattle.curves.specs.Edits.{cut, join, front, back, joined, reversed, course
 use Rattle.geometry.specs.Spots.{Spot, spot, At, OnSeg, Between, SameWay}
 use Rattle.geometry.specs.Meaning.{Shared, Single, Inner, Double, Means, Some, On, OnNth, pointOf, Differ, Simple}
 use Rattle.geometry.specs.Drawing.{OnCurve, Good, ClearCurves}
-use Rattle.geometry.proofs.Meeting.{samePoint-refl, meets-true, meets-spot, onSegment-true, onSegment-is, straightBetween-true, straightBetween-is, differs-true, differs-is, passes-true, passes-is}
+use Rattle.geometry.proofs.Meeting.{samePoint-refl, meets-true, meets-spot, onSegment-true, onSegment-is}
+use Rattle.geometry.proofs.Meeting.{straightBetween-true, straightBetween-is, differs-true, differs-is}
+use Rattle.geometry.proofs.Meeting.{passes-true, passes-is}
 use Rattle.geometry.proofs.Contact.{contact-means, contact-is}
 use Rattle.geometry.proofs.Chains.{simple-arc}
 use Rattle.geometry.proofs.Truth.{wrong-clear, simple-true}
 use Rattle.geometry.proofs.Exact.{clear-wrong, simple-is}
 use Rattle.geometry.proofs.Nth.{nth-on, on-nth, simple-pair}
-use Rattle.geometry.proofs.Turning.{last-turned, turned-twice, on-turned, on-turned′, second-turned, before-turned, length-turned}
+use Rattle.geometry.proofs.Turning.{last-turned, turned-twice, on-turned, on-turned′, second-turned}
+use Rattle.geometry.proofs.Turning.{before-turned, length-turned}
 use Rattle.geometry.proofs.Undo.{join-cut, cut-join}
 use Rattle.geometry.proofs.Ways.{sameWay-true, sameWay-is, curves-differ, ends-differ}
 use Rattle.geometry.proofs.Drawing.{Split, split, Healed, heal, good-course, clear-course, clear-sym}
@@ -56,7 +59,8 @@ module _ (a b c d : Point) where
   none-iff = contact-iff None
 
   -- one shared point, an end of one of them
-  pub touch-iff : (contact a b c d ≡ Touch) ↔ ((s : Single a b c d) × (At (s .spot) a ⊎ At (s .spot) b ⊎ At (s .spot) c ⊎ At (s .spot) d))
+  pub touch-iff : (contact a b c d ≡ Touch) ↔
+      ((s : Single a b c d) × (At (s .spot) a ⊎ At (s .spot) b ⊎ At (s .spot) c ⊎ At (s .spot) d))
   touch-iff = contact-iff Touch
 
   -- one shared point, inner to both
@@ -77,7 +81,10 @@ neighboursDiffer-iff c = (differs-true (c .first) (c .rest), differs-is (c .firs
 
 -- the curves share no point but common ends
 pub meetWrongly-iff : (c d : Curve) → (meetWrongly c d ≡ false) ↔ ClearCurves c d
-meetWrongly-iff c d = (wrong-clear (c .first) (c .rest) (d .first) (d .rest), clear-wrong (c .first) (c .rest) (d .first) (d .rest))
+meetWrongly-iff c d = (
+  wrong-clear (c .first) (c .rest) (d .first) (d .rest),
+  clear-wrong (c .first) (c .rest) (d .first) (d .rest),
+)
 
 pub isSimple-iff : (c : Curve) → neighboursDiffer c ≡ true → (isSimple c ≡ true) ↔ Simple (c .first) (c .rest)
 isSimple-iff c n = (simple-true (c .first) (c .rest), simple-is (c .first) (c .rest) (neighboursDiffer-iff c .0 n))
@@ -92,10 +99,12 @@ good-iff c = (
 pub onNth-iff : (c : Curve) (P : Spot) → OnCurve P c ↔ ((i : ℕ) × OnNth P (c .first) (c .rest) i)
 onNth-iff c P = (on-nth P (c .first) (c .rest), λ h. nth-on P (c .first) (c .rest) (h .0) (h .1))
 
--- segments i and i + 1 + k of a simple curve share a point: they are neighbours and it is their common point, or they are the first and the last of a
--- closed curve and it is its end
-pub simple-segments : (c : Curve) → Good c → (P : Spot) (i k : ℕ) → OnNth P (c .first) (c .rest) i → OnNth P (c .first) (c .rest) (suc (i + k))
-    → ((k ≡ zero) × At P (pointOf (c .first) (c .rest) (suc i))) ⊎ ((i ≡ zero) × (suc (suc k) ≡ length (c .rest)) × (lastPoint c ≡ c .first) × At P (c .first))
+-- segments i and i + 1 + k of a simple curve share a point: they are neighbours and it is their common point, or they
+-- are the first and the last of a closed curve and it is its end
+pub simple-segments : (c : Curve) → Good c → (P : Spot) (i k : ℕ) → OnNth P (c .first) (c .rest) i
+    → OnNth P (c .first) (c .rest) (suc (i + k))
+    → ((k ≡ zero) × At P (pointOf (c .first) (c .rest) (suc i)))
+    ⊎ ((i ≡ zero) × (suc (suc k) ≡ length (c .rest)) × (lastPoint c ≡ c .first) × At P (c .first))
 simple-segments c g P i k = simple-pair P (c .first) (c .rest) i k (g .simple) (g .differ)
 
 -- ---- the cut at a point m of the curve that is no end of it
@@ -115,13 +124,18 @@ module _ (m : Point) (c : Curve) (n : c .first ≢ m) (l : lastPoint c ≢ m) (o
     cut-ends = (parts .cloven .joint, parts .cloven .last)
 
     pub cut-points : (P : Spot) → OnCurve P c ↔ (OnCurve P (front m c) ⊎ OnCurve P (back m c))
-    cut-points P = (parts .cloven .on-either P, λ k. elim k [ inl p ↦ parts .cloven .on-front P p | inr p ↦ parts .cloven .on-back P p ])
+    cut-points P = (
+      parts .cloven .on-either P,
+      λ k. elim k [ inl p ↦ parts .cloven .on-front P p | inr p ↦ parts .cloven .on-back P p ],
+    )
 
     -- no point more where m is a point of the list, and else one
-    pub cut-count : (length (front m c .rest) + length (back m c .rest) ≡ length (c .rest)) ⊎ (length (front m c .rest) + length (back m c .rest) ≡ suc (length (c .rest)))
+    pub cut-count : (length (front m c .rest) + length (back m c .rest) ≡ length (c .rest))
+        ⊎ (length (front m c .rest) + length (back m c .rest) ≡ suc (length (c .rest)))
     cut-count = parts .cloven .count
 
-    pub cut-ways : (sameWay (startWay c) (startWay (front m c)) ≡ true) × (sameWay (endWay c) (endWay (back m c)) ≡ true)
+    pub cut-ways : (sameWay (startWay c) (startWay (front m c)) ≡ true)
+        × (sameWay (endWay c) (endWay (back m c)) ≡ true)
     cut-ways = (sameWay-is (parts .cloven .start), sameWay-is (parts .cloven .finish))
 
   -- healing undoes splitting
@@ -130,7 +144,8 @@ module _ (m : Point) (c : Curve) (n : c .first ≢ m) (l : lastPoint c ≢ m) (o
 
 -- ---- the join of two curves that share common ends only, at a common end that is not the far end of either
 
-module _ (c d : Curve) (joint : d .first ≡ lastPoint c) (open-c : lastPoint c ≢ c .first) (g : Good c) (g′ : Good d) where
+module _ (c d : Curve) (joint : d .first ≡ lastPoint c) (open-c : lastPoint c ≢ c .first) (g : Good c)
+    (g′ : Good d) where
   module _ (open-d : lastPoint d ≢ d .first) (k : ClearCurves c d) where
     healed : Healed c d []
     healed = heal c d [] joint open-c open-d g g′ k tt tt tt
@@ -145,18 +160,29 @@ module _ (c d : Curve) (joint : d .first ≡ lastPoint c) (open-c : lastPoint c 
     join-points P = subst (λ (z : Point). OnCurve P (joined c d) ↔ (OnCurve P c ⊎ On P z (d .rest))) (sym joint)
         (healed .is .on-either P, λ k. elim k [ inl p ↦ healed .is .on-first P p | inr p ↦ healed .is .on-second P p ])
 
-    pub join-count : (length (joined c d .rest) ≡ length (c .rest) + length (d .rest)) ⊎ (suc (length (joined c d .rest)) ≡ length (c .rest) + length (d .rest))
+    pub join-count : (length (joined c d .rest) ≡ length (c .rest) + length (d .rest))
+        ⊎ (suc (length (joined c d .rest)) ≡ length (c .rest) + length (d .rest))
     join-count = healed .is .count
 
-    pub join-ways : (sameWay (startWay c) (startWay (joined c d)) ≡ true) × (sameWay (endWay d) (endWay (joined c d)) ≡ true)
-    join-ways = (sameWay-is (healed .is .start), sameWay-is (subst (λ (z : Point). SameWay (lastOf z (d .rest)) (beforeLast z (d .rest)) (lastPoint (joined c d)) (beforeLast (c .first) (joined c d .rest))) (sym joint) (healed .is .finish)))
+    pub join-ways : (sameWay (startWay c) (startWay (joined c d)) ≡ true)
+        × (sameWay (endWay d) (endWay (joined c d)) ≡ true)
+    join-ways = (
+      sameWay-is (healed .is .start),
+      sameWay-is (subst (λ (z : Point). SameWay (lastOf z (d .rest)) (beforeLast z (d .rest)) (lastPoint (joined c d))
+          (beforeLast (c .first) (joined c d .rest))) (sym joint) (healed .is .finish)),
+    )
 
   -- splitting undoes healing
   pub split-heal : (front (lastPoint c) (joined c d) ≡ c) × (back (lastPoint c) (joined c d) ≡ d)
-  split-heal = ((λ t. record { first = c .first; rest = halves t .front }), (λ t. record { first = sym joint t; rest = halves t .back }))
+  split-heal = (
+    (λ t. record { first = c .first; rest = halves t .front }),
+    (λ t. record { first = sym joint t; rest = halves t .back }),
+  )
     where
-      halves : cut (lastPoint c) (c .first) (join (c .first) (c .rest) (d .rest)) ≡ record { front = c .rest; back = d .rest }
-      halves = cut-join (c .first) (c .rest) (d .rest) (g .some) (g′ .some) (simple-arc (c .first) (c .rest) open-c (g .simple)) (g .differ)
+      halves : cut (lastPoint c) (c .first) (join (c .first) (c .rest) (d .rest))
+          ≡ record { front = c .rest; back = d .rest }
+      halves = cut-join (c .first) (c .rest) (d .rest) (g .some) (g′ .some)
+          (simple-arc (c .first) (c .rest) open-c (g .simple)) (g .differ)
           (subst (λ (z : Point). Differ z (d .rest)) joint (g′ .differ))
 
 -- ---- the reverse
@@ -181,8 +207,10 @@ reverse-count c = length-turned (c .first) (c .rest)
 
 -- ---- departures
 
--- curves that share common ends only leave a common end in different directions; s and t say which curve is taken the other way round
-pub departures-differ : (s t : Bool) (c d : Curve) → Good c → Good d → ClearCurves c d → course s c .first ≡ course t d .first
+-- curves that share common ends only leave a common end in different directions; s and t say which curve is taken the
+-- other way round
+pub departures-differ : (s t : Bool) (c d : Curve) → Good c → Good d → ClearCurves c d → course s c .first
+    ≡ course t d .first
     → sameWay (startWay (course s c)) (startWay (course t d)) ≡ false
 departures-differ s t c d g g′ h = curves-differ (course s c) (course t d) (good-course s c g) (good-course t d g′)
     (clear-course s c (course t d) (clear-sym (course t d) c (clear-course t d c (clear-sym c d h))))

@@ -1,4 +1,5 @@
--- The tests of curves tell the truth: `wrong` false means common ends only, `simple` true means simple. Assumes nothing.
+-- The tests of curves tell the truth: `wrong` false means common ends only, `simple` true means simple. Assumes
+-- nothing.
 use mathlib.Core.Path.{_≡_, refl, sym, ap, _∙_, subst}
 use mathlib.Core.Bool.{Bool, true, false, not, false≢true, _&&_, _||_}
 use mathlib.Core.List.{List, [], _∷_}
@@ -10,7 +11,8 @@ use Rattle.plane.specs.Points.{samePoint}
 use Rattle.plane.specs.Segments.{onSegment, stretches}
 use Rattle.plane.proofs.Laws.{samePoint-true}
 use Rattle.curves.specs.Curves.{lastOf}
-use Rattle.curves.specs.Tests.{shares, segWrong, mayShare, commonEnds, segCurve, curveCurve, wrong, lastly, free, after, arc, simple}
+use Rattle.curves.specs.Tests.{shares, segWrong, mayShare, commonEnds, segCurve, curveCurve, wrong, lastly, free, after}
+use Rattle.curves.specs.Tests.{arc, simple}
 use Rattle.geometry.specs.Spots.{Spot, At, OnSeg, Among}
 use Rattle.geometry.specs.Meaning.{On, Arc, Simple, End, Clear}
 use Rattle.geometry.proofs.Meeting.{onSegment-true, meets-spot}
@@ -18,35 +20,46 @@ use Rattle.geometry.proofs.Stretch.{unique, same-at}
 
 -- ---- two segments
 
-among-shared : (P : Spot) (l : List Point) {a b c d : Point} → stretches a b c d ≡ false → OnSeg P a b → OnSeg P c d → shares l a b c d ≡ true → Among P l
+among-shared : (P : Spot) (l : List Point) {a b c d : Point} → stretches a b c d ≡ false → OnSeg P a b → OnSeg P c d
+    → shares l a b c d ≡ true → Among P l
 among-shared P [] e o p s = absurd (false≢true s)
-among-shared P (q ∷ l) {a} {b} {c} {d} e o p s = go (or-true (onSegment q a b && onSegment q c d) (shares l a b c d) s) (among-shared P l e o p)
+among-shared P (q ∷ l) {a} {b} {c} {d} e o p s =
+    go (or-true (onSegment q a b && onSegment q c d) (shares l a b c d) s) (among-shared P l e o p)
   where
-    go : (onSegment q a b && onSegment q c d ≡ true) ⊎ (shares l a b c d ≡ true) → (shares l a b c d ≡ true → Among P l) → At P q ⊎ Among P l
+    go : (onSegment q a b && onSegment q c d ≡ true) ⊎ (shares l a b c d ≡ true)
+        → (shares l a b c d ≡ true → Among P l) → At P q ⊎ Among P l
     go (inl f) k =
         let h = and-true (onSegment q a b) (onSegment q c d) f in
         inl (same-at (unique e o p (onSegment-true q a b (h .0)) (onSegment-true q c d (h .1))))
     go (inr f) k = inr (k f)
 
 -- what they share is in the list
-pub seg-among : (P : Spot) (l : List Point) {a b c d : Point} → segWrong l a b c d ≡ false → OnSeg P a b → OnSeg P c d → Among P l
+pub seg-among : (P : Spot) (l : List Point) {a b c d : Point} → segWrong l a b c d ≡ false → OnSeg P a b → OnSeg P c d
+    → Among P l
 unfolding segWrong
 seg-among P l {a} {b} {c} {d} e o p =
-    let f : stretches a b c d || not (shares l a b c d) ≡ false = sym (ap (λ (t : Bool). t && (stretches a b c d || not (shares l a b c d))) (meets-spot o p)) ∙ e in
+    let f : stretches a b c d || not (shares l a b c d) ≡ false =
+    sym (ap (λ (t : Bool). t && (stretches a b c d || not (shares l a b c d))) (meets-spot o p)) ∙ e in
     let h = or-false (stretches a b c d) (not (shares l a b c d)) f in
     among-shared P l (h .0) o p (not-false _ (h .1))
 
 -- ---- two curves
 
-seg-curve : (P : Spot) (l : List Point) {a b : Point} (c : Point) (s : List Point) → segCurve l a b c s ≡ false → OnSeg P a b → On P c s → Among P l
+seg-curve : (P : Spot) (l : List Point) {a b : Point} (c : Point) (s : List Point) → segCurve l a b c s ≡ false
+    → OnSeg P a b → On P c s → Among P l
 seg-curve P l c [] e o p = absurd p
-seg-curve P l {a} {b} c (d ∷ s) e o (inl p) = seg-among P l (or-false (segWrong l a b c d) (segCurve l a b d s) e .0) o p
-seg-curve P l {a} {b} c (d ∷ s) e o (inr p) = seg-curve P l d s (or-false (segWrong l a b c d) (segCurve l a b d s) e .1) o p
+seg-curve P l {a} {b} c (d ∷ s) e o (inl p) =
+    seg-among P l (or-false (segWrong l a b c d) (segCurve l a b d s) e .0) o p
+seg-curve P l {a} {b} c (d ∷ s) e o (inr p) =
+    seg-curve P l d s (or-false (segWrong l a b c d) (segCurve l a b d s) e .1) o p
 
-curve-curve : (P : Spot) (l : List Point) (a : Point) (r : List Point) (c : Point) (s : List Point) → curveCurve l a r c s ≡ false → On P a r → On P c s → Among P l
+curve-curve : (P : Spot) (l : List Point) (a : Point) (r : List Point) (c : Point) (s : List Point)
+    → curveCurve l a r c s ≡ false → On P a r → On P c s → Among P l
 curve-curve P l a [] c s e o p = absurd o
-curve-curve P l a (b ∷ r) c s e (inl o) p = seg-curve P l c s (or-false (segCurve l a b c s) (curveCurve l b r c s) e .0) o p
-curve-curve P l a (b ∷ r) c s e (inr o) p = curve-curve P l b r c s (or-false (segCurve l a b c s) (curveCurve l b r c s) e .1) o p
+curve-curve P l a (b ∷ r) c s e (inl o) p =
+    seg-curve P l c s (or-false (segCurve l a b c s) (curveCurve l b r c s) e .0) o p
+curve-curve P l a (b ∷ r) c s e (inr o) p =
+    curve-curve P l b r c s (or-false (segCurve l a b c s) (curveCurve l b r c s) e .1) o p
 
 kept : (P : Spot) (t : Bool) (q : Point) (l : List Point) → Among P (mayShare t q l) → ((t ≡ true) × At P q) ⊎ Among P l
 kept P true q l (inl h) = inl (refl, h)
@@ -54,14 +67,16 @@ kept P true q l (inr h) = inr h
 kept P false q l h = inr h
 
 -- a common end is an end of the second curve
-is-end : (P : Spot) (q b : Point) (s : List Point) → At P q → samePoint q b || samePoint q (lastOf b s) ≡ true → End P b s
+is-end : (P : Spot) (q b : Point) (s : List Point) → At P q → samePoint q b || samePoint q (lastOf b s) ≡ true
+    → End P b s
 is-end P q b s h e = go (or-true (samePoint q b) (samePoint q (lastOf b s)) e)
   where
     go : (samePoint q b ≡ true) ⊎ (samePoint q (lastOf b s) ≡ true) → End P b s
     go (inl f) = inl (subst (At P) (samePoint-true q b f) h)
     go (inr f) = inr (subst (At P) (samePoint-true q (lastOf b s) f) h)
 
-ends : (P : Spot) (a : Point) (r : List Point) (b : Point) (s : List Point) → Among P (commonEnds a r b s) → End P a r × End P b s
+ends : (P : Spot) (a : Point) (r : List Point) (b : Point) (s : List Point) → Among P (commonEnds a r b s) → End P a r
+    × End P b s
 ends P a r b s h = go (kept P (hit a) a (mayShare (hit z) z []) h)
   where
     z : Point
@@ -88,24 +103,31 @@ among-lastly : (P : Spot) (l r : List Point) → Among P (lastly l r) → Among 
 among-lastly P l [] h = h
 among-lastly P l (b ∷ r) h = absurd h
 
-free-among : (P : Spot) (l : List Point) {a b : Point} (c : Point) (r : List Point) → free l a b c r ≡ true → OnSeg P a b → On P c r → Among P l
+free-among : (P : Spot) (l : List Point) {a b : Point} (c : Point) (r : List Point) → free l a b c r ≡ true
+    → OnSeg P a b → On P c r → Among P l
 free-among P l c [] e o p = absurd p
 free-among P l {a} {b} c (d ∷ r) e o (inl p) =
-    among-lastly P l r (seg-among P (lastly l r) (not-true _ (and-true (not (segWrong (lastly l r) a b c d)) (free l a b d r) e .0)) o p)
-free-among P l {a} {b} c (d ∷ r) e o (inr p) = free-among P l d r (and-true (not (segWrong (lastly l r) a b c d)) (free l a b d r) e .1) o p
+    among-lastly P l r (seg-among P (lastly l r)
+    (not-true _ (and-true (not (segWrong (lastly l r) a b c d)) (free l a b d r) e .0)) o p)
+free-among P l {a} {b} c (d ∷ r) e o (inr p) =
+    free-among P l d r (and-true (not (segWrong (lastly l r) a b c d)) (free l a b d r) e .1) o p
 
-after-among : (P : Spot) (l : List Point) (a b : Point) (r : List Point) → after l a b r ≡ true → OnSeg P a b → On P b r → At P b ⊎ Among P l
+after-among : (P : Spot) (l : List Point) (a b : Point) (r : List Point) → after l a b r ≡ true → OnSeg P a b
+    → On P b r → At P b ⊎ Among P l
 after-among P l a b [] e o p = absurd p
-after-among P l a b (c ∷ r) e o (inl p) = go (seg-among P (b ∷ []) (not-true _ (and-true (not (segWrong (b ∷ []) a b b c)) (free l a b c r) e .0)) o p)
+after-among P l a b (c ∷ r) e o (inl p) =
+    go (seg-among P (b ∷ []) (not-true _ (and-true (not (segWrong (b ∷ []) a b b c)) (free l a b c r) e .0)) o p)
   where
     go : At P b ⊎ ⊥ → At P b ⊎ Among P l
     go (inl k) = inl k
     go (inr k) = absurd k
-after-among P l a b (c ∷ r) e o (inr p) = inr (free-among P l c r (and-true (not (segWrong (b ∷ []) a b b c)) (free l a b c r) e .1) o p)
+after-among P l a b (c ∷ r) e o (inr p) =
+    inr (free-among P l c r (and-true (not (segWrong (b ∷ []) a b b c)) (free l a b c r) e .1) o p)
 
 pub arc-true : (a : Point) (r : List Point) → arc a r ≡ true → Arc a r
 arc-true a [] e = tt
-arc-true a (b ∷ r) e = let h = and-true (after [] a b r) (arc b r) e in ((λ P o p. go P (after-among P [] a b r (h .0) o p)), arc-true b r (h .1))
+arc-true a (b ∷ r) e = let h = and-true (after [] a b r) (arc b r) e in
+    ((λ P o p. go P (after-among P [] a b r (h .0) o p)), arc-true b r (h .1))
   where
     go : (P : Spot) → At P b ⊎ ⊥ → At P b
     go P (inl k) = k

@@ -13,7 +13,8 @@ use Rattle.curves.proofs.Reverses.{second-turned as second-of-turned}
 use Rattle.geometry.specs.Spots.{Spot, At, OnSeg}
 use Rattle.geometry.specs.Meaning.{On, Differ, Arc, Simple, Some, End, Clear}
 use Rattle.geometry.proofs.Segments.{flip}
-use Rattle.geometry.proofs.Chains.{on-front, on-back, on-split, last-append, differ-join, Joint, arc-join, arc-simple, Closing}
+use Rattle.geometry.proofs.Chains.{on-front, on-back, on-split, last-append, differ-join, Joint, arc-join}
+use Rattle.geometry.proofs.Chains.{arc-simple, Closing}
 use Rattle.geometry.proofs.Joining.{simple-some}
 use Rattle.geometry.proofs.Cutting.{before-append}
 
@@ -31,7 +32,8 @@ some-turned a (b ∷ r) h = go (turned b r)
 
 pub length-turned : (a : Point) (r : List Point) → length (turned a r) ≡ length r
 length-turned a [] = refl
-length-turned a (b ∷ r) = length-append (turned b r) (a ∷ []) ∙ let e : length (turned b r) + 1 ≡ suc (length r) = omega (arith, length-turned b r) in e
+length-turned a (b ∷ r) = length-append (turned b r) (a ∷ []) ∙ let e : length (turned b r) + 1 ≡ suc (length r) =
+    omega (arith, length-turned b r) in e
 
 -- no point is new
 pub turned-given : (a : Point) (r : List Point) {p : Point} → List·Memᴰ p (lastOf a r ∷ turned a r)
@@ -57,14 +59,16 @@ turned-twice a (b ∷ r) = turned-snoc (lastOf b r) a (turned b r) ∙ (λ t. la
 
 pub on-turned : (P : Spot) (a : Point) (r : List Point) → On P a r → On P (lastOf a r) (turned a r)
 on-turned P a [] h = h
-on-turned P a (b ∷ r) (inl o) = on-back P (lastOf b r) (turned b r) (a ∷ []) (inl (subst (λ (z : Point). OnSeg P z a) (sym (last-turned b r)) (flip o)))
+on-turned P a (b ∷ r) (inl o) = on-back P (lastOf b r) (turned b r) (a ∷ [])
+    (inl (subst (λ (z : Point). OnSeg P z a) (sym (last-turned b r)) (flip o)))
 on-turned P a (b ∷ r) (inr k) = on-front P (lastOf b r) (turned b r) (a ∷ []) (on-turned P b r k)
 
 pub on-turned′ : (P : Spot) (a : Point) (r : List Point) → On P (lastOf a r) (turned a r) → On P a r
 on-turned′ P a [] h = h
 on-turned′ P a (b ∷ r) h = go (on-split P (lastOf b r) (turned b r) (a ∷ []) h) (on-turned′ P b r)
   where
-    go : On P (lastOf b r) (turned b r) ⊎ (OnSeg P (lastOf (lastOf b r) (turned b r)) a ⊎ ⊥) → (On P (lastOf b r) (turned b r) → On P b r) → OnSeg P a b ⊎ On P b r
+    go : On P (lastOf b r) (turned b r) ⊎ (OnSeg P (lastOf (lastOf b r) (turned b r)) a ⊎ ⊥)
+        → (On P (lastOf b r) (turned b r) → On P b r) → OnSeg P a b ⊎ On P b r
     go (inl k) f = inr (f k)
     go (inr (inl o)) f = inl (flip (subst (λ (z : Point). OnSeg P z a) (last-turned b r) o))
     go (inr (inr z)) f = absurd z
@@ -76,21 +80,24 @@ one-arc a b = ((λ P o k. absurd k), tt)
 
 pub differ-turned : (a : Point) (r : List Point) → Differ a r → Differ (lastOf a r) (turned a r)
 differ-turned a [] h = tt
-differ-turned a (b ∷ r) h = differ-join (lastOf b r) (turned b r) (a ∷ []) (differ-turned b r (h .1)) ((λ e. h .0 (sym e ∙ last-turned b r)), tt)
+differ-turned a (b ∷ r) h = differ-join (lastOf b r) (turned b r) (a ∷ []) (differ-turned b r (h .1))
+    ((λ e. h .0 (sym e ∙ last-turned b r)), tt)
 
 pub arc-turned : (a : Point) (r : List Point) → Arc a r → Arc (lastOf a r) (turned a r)
 arc-turned a [] h = tt
 arc-turned a (b ∷ r) h = arc-join (lastOf b r) (turned b r) (a ∷ []) (arc-turned b r (h .1)) (one-arc _ a) joint
   where
     joint : Joint (lastOf b r) (turned b r) (a ∷ [])
-    joint P k (inl o) = subst (At P) (sym (last-turned b r)) (h .0 P (flip (subst (λ (z : Point). OnSeg P z a) (last-turned b r) o)) (on-turned′ P b r k))
+    joint P k (inl o) = subst (At P) (sym (last-turned b r))
+        (h .0 P (flip (subst (λ (z : Point). OnSeg P z a) (last-turned b r) o)) (on-turned′ P b r k))
     joint P k (inr z) = absurd z
 
 pub simple-turned : (a : Point) (r : List Point) → Differ a r → Simple a r → Simple (lastOf a r) (turned a r)
 simple-turned a [] n h = tt
 simple-turned a (b ∷ []) n h = arc-simple b (a ∷ []) (one-arc b a)
 simple-turned a (b ∷ c ∷ r) n h =
-    simple-some z t (a ∷ []) (some-turned b (c ∷ r) tt) (differ-turned b (c ∷ r) (n .1)) (record { front = arc-turned b (c ∷ r) (h .1); back = one-arc _ a; closing = closing })
+    simple-some z t (a ∷ []) (some-turned b (c ∷ r) tt) (differ-turned b (c ∷ r) (n .1))
+    (record { front = arc-turned b (c ∷ r) (h .1); back = one-arc _ a; closing = closing })
   where
     z : Point
     z = lastOf c r
@@ -123,5 +130,6 @@ pub end-turned : (P : Spot) (a : Point) (r : List Point) → End P a r → End P
 end-turned P a r (inl e) = inr (subst (At P) (sym (last-turned a r)) e)
 end-turned P a r (inr e) = inl e
 
-pub clear-turned : (a : Point) (r : List Point) (b : Point) (s : List Point) → Clear a r b s → Clear (lastOf a r) (turned a r) b s
+pub clear-turned : (a : Point) (r : List Point) (b : Point) (s : List Point) → Clear a r b s
+    → Clear (lastOf a r) (turned a r) b s
 clear-turned a r b s h P o p = let k = h P (on-turned′ P a r o) p in (end-turned P a r (k .0), k .1)

@@ -1,4 +1,5 @@
--- What the four contacts of two segments mean, which points a curve has, and when curves are simple and share common ends only. Definitions only.
+-- What the four contacts of two segments mean, which points a curve has, and when curves are simple and share common
+-- ends only. Definitions only.
 use mathlib.Core.Path.{_≡_}
 use mathlib.Core.List.{List, [], _∷_}
 use mathlib.Core.Logic.{_⊎_, _≢_}

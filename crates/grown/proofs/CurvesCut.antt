@@ -1,7 +1,9 @@
 -- A survey with one line cut at a point that is no place yet (kinds 7 and 8). Assumes nothing.
 use mathlib.Core.Path.{_≡_, refl, sym, ap, _∙_, subst}
 use mathlib.Core.Bool.{true, cond}
-use mathlib.Core.List.{map-append, List, [], _∷_, _++_, map, List·Memᴰ, List·Memᴰ·head, List·Memᴰ·cases-cons, List·Memᴰ·append-cases, List·Memᴰ·eq-of-singleton, Memᴰ·append-left, Memᴰ·append-right, Memᴰ·map, Memᴰ·cast}
+use mathlib.Core.List.{map-append, List, [], _∷_, _++_, map, List·Memᴰ, List·Memᴰ·head, List·Memᴰ·cases-cons}
+use mathlib.Core.List.{List·Memᴰ·append-cases, List·Memᴰ·eq-of-singleton, Memᴰ·append-left, Memᴰ·append-right, Memᴰ·map}
+use mathlib.Core.List.{Memᴰ·cast}
 use mathlib.Core.Logic.{_⊎_, inl, inr, _≢_}
 use Prim.Native.Nat.{ℕ}
 use Rattle.lists.specs.Members.{Distinct}
@@ -31,8 +33,10 @@ firstHalf l n a p = record { number = a; start = l .start; end = n; curve = fron
 abbrev pub secondHalf : Line → ℕ → ℕ → Point → Line
 secondHalf l n b p = record { number = b; start = n; end = l .end; curve = back p (l .curve) }
 
-module _ (ls : List Line) (ps : List Place) (l : Line) (n a b : ℕ) (p : Point) (S : Survey ls ps) (dis : Distinct (map lineNumber ls)) (i : List·Memᴰ l ls)
-    (on : onCurve (l .curve) p ≡ true) (r : InRange p) (new : List·Memᴰ n (map placeNumber ps) → ⊥) (free : List·Memᴰ p (map atIn ps) → ⊥) where
+module _ (ls : List Line) (ps : List Place) (l : Line) (n a b : ℕ) (p : Point) (S : Survey ls ps)
+    (dis : Distinct (map lineNumber ls)) (i : List·Memᴰ l ls)
+    (on : onCurve (l .curve) p ≡ true) (r : InRange p) (new : List·Memᴰ n (map placeNumber ps) → ⊥)
+    (free : List·Memᴰ p (map atIn ps) → ⊥) where
   abbrev place : Place
   place = record { number = n; at = p }
 
@@ -74,14 +78,16 @@ module _ (ls : List Line) (ps : List Place) (l : Line) (n a b : ℕ) (p : Point)
       record {
         kept = kept-back p (l .curve) not-first not-last on-curve (S .sited l i .kept) r;
         start = there;
-        end = Memᴰ·cast (λ t. record { number = l .end; at = ends .1 t }) (Memᴰ·append-left (place ∷ []) (S .sited l i .end));
+        end = Memᴰ·cast (λ t. record { number = l .end; at = ends .1 t })
+            (Memᴰ·append-left (place ∷ []) (S .sited l i .end));
       }
 
   rest-sited : (k : Line) → List·Memᴰ k (h .before ++ h .after) → Sited (ps ++ (place ∷ [])) k
   rest-sited k m = sited-more ps place k (S .sited k (keep-in _ ls (subst (List·Memᴰ k) (sym (h .others)) m) .0))
 
   -- kind 7: both halves come last
-  pub survey-split-new : Survey (without lineNumber (l .number) ls ++ (firstHalf l n a p ∷ secondHalf l n b p ∷ [])) (ps ++ (place ∷ []))
+  pub survey-split-new : Survey (without lineNumber (l .number) ls ++ (firstHalf l n a p ∷ secondHalf l n b p ∷ []))
+      (ps ++ (place ∷ []))
   survey-split-new = subst (λ (k : List Line). Survey (k ++ halves) (ps ++ (place ∷ []))) (sym (h .others)) survey
     where
       halves : List Line
@@ -99,17 +105,26 @@ module _ (ls : List Line) (ps : List Place) (l : Line) (n a b : ℕ) (p : Point)
       ]
 
       survey : Survey ((h .before ++ h .after) ++ halves) (ps ++ (place ∷ []))
-      survey = record { drawn = drawn; sited = λ k m. sited k (List·Memᴰ·append-cases (h .before ++ h .after) m); plotted = plot ps place (S .plotted) r new free }
+      survey = record {
+        drawn = drawn;
+        sited = λ k m. sited k (List·Memᴰ·append-cases (h .before ++ h .after) m);
+        plotted = plot ps place (S .plotted) r new free;
+      }
 
   -- kind 8: the first half stays where the line was
-  pub survey-split-mod : Survey (map (λ r. cond (same (r .number) (l .number)) (firstHalf l n a p) r) ls ++ (secondHalf l n b p ∷ [])) (ps ++ (place ∷ []))
-  survey-split-mod = subst (λ (k : List Line). Survey (k ++ (secondHalf l n b p ∷ [])) (ps ++ (place ∷ []))) (sym (h .changed (λ r. firstHalf l n a p))) survey
+  pub survey-split-mod : Survey (map (λ r. cond (same (r .number) (l .number)) (firstHalf l n a p) r) ls
+      ++ (secondHalf l n b p ∷ [])) (ps ++ (place ∷ []))
+  survey-split-mod = subst (λ (k : List Line). Survey (k ++ (secondHalf l n b p ∷ [])) (ps ++ (place ∷ [])))
+      (sym (h .changed (λ r. firstHalf l n a p))) survey
     where
       first : List Line
       first = h .before ++ (firstHalf l n a p ∷ h .after)
 
       drawn : Drawn (map curveIn (first ++ (secondHalf l n b p ∷ [])))
-      drawn = rw (map-append curveIn first (secondHalf l n b p ∷ []), map-append curveIn (h .before) (firstHalf l n a p ∷ h .after))
+      drawn = rw (
+        map-append curveIn first (secondHalf l n b p ∷ []),
+        map-append curveIn (h .before) (firstHalf l n a p ∷ h .after),
+      )
           (split-mod (map curveIn (h .before)) (map curveIn (h .after)) p (l .curve) not-first not-last on-curve old)
 
       sited : (k : Line) → List·Memᴰ k first ⊎ List·Memᴰ k (secondHalf l n b p ∷ []) → Sited (ps ++ (place ∷ [])) k
@@ -120,4 +135,8 @@ module _ (ls : List Line) (ps : List Place) (l : Line) (n a b : ℕ) (p : Point)
       sited k (inr m) = subst (Sited (ps ++ (place ∷ []))) (sym (List·Memᴰ·eq-of-singleton m)) second-sited
 
       survey : Survey (first ++ (secondHalf l n b p ∷ [])) (ps ++ (place ∷ []))
-      survey = record { drawn = drawn; sited = λ k m. sited k (List·Memᴰ·append-cases first m); plotted = plot ps place (S .plotted) r new free }
+      survey = record {
+        drawn = drawn;
+        sited = λ k m. sited k (List·Memᴰ·append-cases first m);
+        plotted = plot ps place (S .plotted) r new free;
+      }

@@ -16,11 +16,13 @@ use Rattle.map.specs.Rows.{Edge, Map, edge, hasEdge}
 use Rattle.map.specs.Darts.{directed, leaves}
 use Rattle.map.specs.Edits.{heal, joint, parts, healedCurve}
 use Rattle.grown.specs.Good.{Surveyed, Good}
-use Rattle.grown.proofs.Readings.{without, edge-row, edge-at, row-has, dart-has, has-dart, leaves-row, course-row}
+use Rattle.grown.proofs.Readings.{without, edge-row, edge-at, row-has, dart-has, has-dart, leaves-row}
+use Rattle.grown.proofs.Readings.{course-row}
 use Rattle.grown.proofs.Reasons.{Heal}
 use Rattle.grown.proofs.Joint.{Seamed, seamed}
 use Rattle.grown.proofs.CurvesLists.{Found, found}
-use Rattle.grown.proofs.CurvesSurvey.{Line, lineOf, lines, places, placeNumber, lineNumber, Survey, lines-once, survey, surveyed-by}
+use Rattle.grown.proofs.CurvesSurvey.{Line, lineOf, lines, places, placeNumber, lineNumber, Survey, lines-once}
+use Rattle.grown.proofs.CurvesSurvey.{survey, surveyed-by}
 use Rattle.grown.proofs.CurvesSites.{Clear}
 use Rattle.grown.proofs.CurvesJoin.{tailPlace, headPlace, healedLine, Seam, survey-heal}
 use Rattle.grown.proofs.CurvesHalves.{replaced, healedRow, heal-new-becomes, heal-mod-becomes}
@@ -36,7 +38,8 @@ module _ (m : Map) (d : Dart) where
   arrives-head : leaves m (rev d) ≡ headPlace (d .back) (lineAt m d) .number
   arrives-head = leaves-row m (rev d) ∙ go (d .back)
     where
-      go : (b : Bool) → cond (not b) (edge m (d .edge) .end) (edge m (d .edge) .start) ≡ cond b (edge m (d .edge) .start) (edge m (d .edge) .end)
+      go : (b : Bool) → cond (not b) (edge m (d .edge) .end) (edge m (d .edge) .start)
+          ≡ cond b (edge m (d .edge) .start) (edge m (d .edge) .end)
       go true = refl
       go false = refl
 
@@ -69,15 +72,21 @@ module _ (m : Map) (G : Good m) (e f : ℕ) (h : Heal m e f) where
   other : (r : Edge) → List·Memᴰ r (m .edges) → r .number ≢ c .edge → r .number ≢ d .edge → Clear n (lineOf r)
   other r k u v =
       record {
-        start = λ q. away (fwd (r .number)) u v (has-dart m (fwd (r .number)) (row-has m k)) (leaves-row m (fwd (r .number)) ∙ ap (λ (x : Edge). x .start) row ∙ q);
-        end = λ q. away (bwd (r .number)) u v (has-dart m (bwd (r .number)) (row-has m k)) (leaves-row m (bwd (r .number)) ∙ ap (λ (x : Edge). x .end) row ∙ q);
+        start = λ q. away (fwd (r .number)) u v (has-dart m (fwd (r .number)) (row-has m k))
+            (leaves-row m (fwd (r .number)) ∙ ap (λ (x : Edge). x .start) row ∙ q);
+        end = λ q. away (bwd (r .number)) u v (has-dart m (bwd (r .number)) (row-has m k))
+            (leaves-row m (bwd (r .number)) ∙ ap (λ (x : Edge). x .end) row ∙ q);
       }
     where
       row : edge m (r .number) ≡ r
       row = edge-at m (G .woven .planar .edges-once) k
 
       away : (z : Dart) → z .edge ≢ c .edge → z .edge ≢ d .edge → List·Memᴰ z (directed m) → leaves m z ≡ n → ⊥
-      away z u v i q = elim (w .only z i q) [ inl r ↦ u (ap (λ (x : Dart). x .edge) r) | inr r ↦ v (ap (λ (x : Dart). x .edge) r) ]
+      away z u v i q = elim (w .only z i q) [
+        | inl r ↦ u (ap (λ (x : Dart). x .edge) r)
+        | inr r ↦ v
+            (ap (λ (x : Dart). x .edge) r)
+      ]
 
   seam : Seam (lines m) n (c .back) (lineAt m c) (d .back) (lineAt m d)
   seam =
@@ -90,37 +99,52 @@ module _ (m : Map) (G : Good m) (e f : ℕ) (h : Heal m e f) where
         from = λ q. w .from (leaves-tail m c ∙ q);
         to = λ q. w .to (arrives-head m d ∙ q);
         others = λ k i u v. let x = Memᴰ·of-map lineOf (m .edges) i in subst (Clear n) (x .2)
-            (other (x .0) (x .1) (λ q. u (sym (ap lineNumber (x .2)) ∙ q ∙ sym number-c)) (λ q. v (sym (ap lineNumber (x .2)) ∙ q ∙ sym number-d)));
+            (other (x .0) (x .1) (λ q. u (sym (ap lineNumber (x .2)) ∙ q ∙ sym number-c))
+            (λ q. v (sym (ap lineNumber (x .2)) ∙ q ∙ sym number-d)));
       }
 
-  curves : healedCurve m e f ≡ joined (edits.course (c .back) (lineAt m c .curve)) (edits.course (d .back) (lineAt m d .curve))
+  curves : healedCurve m e f ≡ joined (edits.course (c .back) (lineAt m c .curve))
+      (edits.course (d .back) (lineAt m d .curve))
   unfolding healedCurve
   curves = ap₂ joined (course-row m c) (course-row m d)
 
   -- the line of the healed edge
   healed : (k : ℕ) → healedLine k (c .back) (lineAt m c) (d .back) (lineAt m d) ≡ healedRow k e f m
-  healed k = λ i. record { number = k; start = sym (leaves-tail m c) i; end = sym (arrives-head m d) i; curve = sym curves i }
+  healed k = λ i. record {
+    number = k;
+    start = sym (leaves-tail m c) i;
+    end = sym (arrives-head m d) i;
+    curve = sym curves i;
+  }
 
   -- what is left of the lines, whichever part is of e
-  left : without lineNumber (lineAt m d .number) (without lineNumber (lineAt m c .number) (lines m)) ≡ without lineNumber e (without lineNumber f (lines m))
+  left : without lineNumber (lineAt m d .number) (without lineNumber (lineAt m c .number) (lines m))
+      ≡ without lineNumber e (without lineNumber f (lines m))
   left = rw (number-c, number-d) (go (w .meet .edges))
     where
-      go : ((c .edge ≡ e) × (d .edge ≡ f)) ⊎ ((c .edge ≡ f) × (d .edge ≡ e)) → without lineNumber (d .edge) (without lineNumber (c .edge) (lines m)) ≡ without lineNumber e (without lineNumber f (lines m))
+      go : ((c .edge ≡ e) × (d .edge ≡ f)) ⊎ ((c .edge ≡ f) × (d .edge ≡ e))
+          → without lineNumber (d .edge) (without lineNumber (c .edge) (lines m))
+          ≡ without lineNumber e (without lineNumber f (lines m))
       go (inl q) = (λ i. without lineNumber (q .1 i) (without lineNumber (q .0 i) (lines m))) ∙ keep-swap _ _ (lines m)
       go (inr q) = λ i. without lineNumber (q .1 i) (without lineNumber (q .0 i) (lines m))
 
-  heals : (k : ℕ) (ks js : List Line) → without lineNumber e (without lineNumber f (lines m)) ≡ ks ++ js → Survey (ks ++ (healedRow k e f m ∷ js)) (without placeNumber n (places m))
+  heals : (k : ℕ) (ks js : List Line) → without lineNumber e (without lineNumber f (lines m)) ≡ ks ++ js
+      → Survey (ks ++ (healedRow k e f m ∷ js)) (without placeNumber n (places m))
   heals k ks js q = subst (λ (l : Line). Survey (ks ++ (l ∷ js)) (without placeNumber n (places m))) (healed k)
-      (survey-heal (lines m) (places m) n k (c .back) (lineAt m c) (d .back) (lineAt m d) (survey m G) (lines-once m G) seam
+      (survey-heal (lines m) (places m) n k (c .back) (lineAt m c) (d .back) (lineAt m d) (survey m G)
+      (lines-once m G) seam
       (subst (λ (x : Curve). length (points x) ≤ maxPoints) curves (h .most)) ks js (left ∙ q))
 
   pub surveyed-9 : Surveyed (heal false e f m)
   surveyed-9 = let b = heal-new-becomes e f m in surveyed-by (heal false e f m) (b .lines) (b .places)
-      (heals (m .nextEdge) (without lineNumber e (without lineNumber f (lines m))) [] (sym (append-nil (without lineNumber e (without lineNumber f (lines m))))))
+      (heals (m .nextEdge) (without lineNumber e (without lineNumber f (lines m))) []
+      (sym (append-nil (without lineNumber e (without lineNumber f (lines m))))))
 
   -- the healed line stands where e stood
   pub surveyed-10 : Surveyed (heal true e f m)
-  surveyed-10 = let b = heal-mod-becomes e f m in surveyed-by (heal true e f m) (b .lines ∙ lined) (b .places) (heals e (others (k .before)) (others (k .after)) split)
+  surveyed-10 = let b = heal-mod-becomes e f m in
+      surveyed-by (heal true e f m) (b .lines ∙ lined) (b .places)
+      (heals e (others (k .before)) (others (k .after)) split)
     where
       others : List Line → List Line
       others l = without lineNumber f l
@@ -139,7 +163,9 @@ module _ (m : Map) (G : Good m) (e f : ℕ) (h : Heal m e f) where
 
       lined : others (map (replaced e healed-row) (lines m)) ≡ others (k .before) ++ (healed-row ∷ others (k .after))
       lined = ap others placed ∙ keep-append _ (k .before) (healed-row ∷ k .after)
-          ∙ ap (λ (b : Bool). others (k .before) ++ cond (not b) (healed-row ∷ others (k .after)) (others (k .after))) (same-false e f (h .differ))
+          ∙ ap (λ (b : Bool). others (k .before) ++ cond (not b) (healed-row ∷ others (k .after)) (others (k .after)))
+          (same-false e f (h .differ))
 
       split : without lineNumber e (others (lines m)) ≡ others (k .before) ++ others (k .after)
-      split = keep-swap _ _ (lines m) ∙ ap (λ (i : ℕ). others (without lineNumber i (lines m))) (sym number-e) ∙ ap others (k .others) ∙ keep-append _ (k .before) (k .after)
+      split = keep-swap _ _ (lines m) ∙ ap (λ (i : ℕ). others (without lineNumber i (lines m))) (sym number-e)
+          ∙ ap others (k .others) ∙ keep-append _ (k .before) (k .after)

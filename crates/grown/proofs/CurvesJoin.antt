@@ -35,11 +35,17 @@ tail-in true l h = h .end
 
 head-in : {ps : List Place} (s : Bool) (l : Line) → Sited ps l → List·Memᴰ (headPlace s l) ps
 head-in false l h = h .end
-head-in true l h = Memᴰ·cast (λ t. record { number = l .start; at = last-turned (l .curve .first) (l .curve .rest) t }) (h .start)
+head-in true l h = Memᴰ·cast (λ t. record { number = l .start; at = last-turned (l .curve .first) (l .curve .rest) t })
+    (h .start)
 
 -- the join of c and d, numbered e
 abbrev pub healedLine : ℕ → Bool → Line → Bool → Line → Line
-healedLine e s c t d = record { number = e; start = tailPlace s c .number; end = headPlace t d .number; curve = joined (course s (c .curve)) (course t (d .curve)) }
+healedLine e s c t d = record {
+  number = e;
+  start = tailPlace s c .number;
+  end = headPlace t d .number;
+  curve = joined (course s (c .curve)) (course t (d .curve));
+}
 
 -- c arrives at n and d leaves it; no other end of a line is there
 pub record Seam (ls : List Line) (n : ℕ) (s : Bool) (c : Line) (t : Bool) (d : Line) : Type 0 where
@@ -52,7 +58,8 @@ pub record Seam (ls : List Line) (n : ℕ) (s : Bool) (c : Line) (t : Bool) (d :
   pub to : headPlace t d .number ≢ n
   pub others : (k : Line) → List·Memᴰ k ls → k .number ≢ c .number → k .number ≢ d .number → Clear n k
 
-module _ (ls : List Line) (ps : List Place) (n e : ℕ) (s : Bool) (c : Line) (t : Bool) (d : Line) (S : Survey ls ps) (dis : Distinct (map lineNumber ls)) (w : Seam ls n s c t d)
+module _ (ls : List Line) (ps : List Place) (n e : ℕ) (s : Bool) (c : Line) (t : Bool) (d : Line) (S : Survey ls ps)
+    (dis : Distinct (map lineNumber ls)) (w : Seam ls n s c t d)
     (most : length (points (joined (course s (c .curve)) (course t (d .curve)))) ≤ maxPoints) where
   abbrev rest : List Line
   rest = without lineNumber (d .number) (without lineNumber (c .number) ls)
@@ -88,18 +95,24 @@ module _ (ls : List Line) (ps : List Place) (n e : ℕ) (s : Bool) (c : Line) (t
   other : (k : Line) → List·Memᴰ k rest → List·Memᴰ k ls × Clear n k
   other k m =
       let f = keep-in _ (without lineNumber (c .number) ls) m in
-      let g = keep-in _ ls (f .0) in
-      (g .0, w .others k (g .0) (differ (k .number) (c .number) (not-true _ (g .1))) (differ (k .number) (d .number) (not-true _ (f .1))))
+      let g = keep-in _ ls (f .0) in (
+        g .0,
+        w .others k (g .0) (differ (k .number) (c .number) (not-true _ (g .1)))
+            (differ (k .number) (d .number) (not-true _ (f .1))),
+      )
 
   away : (k : Line) → List·Memᴰ k rest → Away (lastPoint c′) (k .curve)
   away k m =
       let o = other k m in
       record {
-        first = λ q. o .1 .start (sym (ap placeNumber (point-one (S .plotted) head-c (S .sited k (o .0) .start) q)) ∙ w .arrives);
-        last = λ q. o .1 .end (sym (ap placeNumber (point-one (S .plotted) head-c (S .sited k (o .0) .end) q)) ∙ w .arrives);
+        first = λ q. o .1 .start (sym (ap placeNumber (point-one (S .plotted) head-c (S .sited k (o .0) .start) q))
+            ∙ w .arrives);
+        last = λ q. o .1 .end (sym (ap placeNumber (point-one (S .plotted) head-c (S .sited k (o .0) .end) q))
+            ∙ w .arrives);
       }
 
-  away-all : (l : List Line) → ((k : Line) → List·Memᴰ k l → Away (lastPoint c′) (k .curve)) → All (Away (lastPoint c′)) (map curveIn l)
+  away-all : (l : List Line) → ((k : Line) → List·Memᴰ k l → Away (lastPoint c′) (k .curve))
+      → All (Away (lastPoint c′)) (map curveIn l)
   away-all [] h = tt
   away-all (k ∷ l) h = (h k (List·Memᴰ·head refl), away-all l (λ j i. h j (List·Memᴰ·tail i)))
 
@@ -108,7 +121,8 @@ module _ (ls : List Line) (ps : List Place) (n e : ℕ) (s : Bool) (c : Line) (t
 
   -- d among the others of c
   h′ : Found lineNumber d (without lineNumber (c .number) ls)
-  h′ = found lineNumber (without lineNumber (c .number) ls) (distinct-keep lineNumber _ ls dis) (keep-has _ ls (w .second) (ap not (same-false (d .number) (c .number) (w .two))))
+  h′ = found lineNumber (without lineNumber (c .number) ls) (distinct-keep lineNumber _ ls dis)
+      (keep-has _ ls (w .second) (ap not (same-false (d .number) (c .number) (w .two))))
 
   abbrev xs : List Curve
   xs = map curveIn (h .before)
@@ -126,14 +140,16 @@ module _ (ls : List Line) (ps : List Place) (n e : ℕ) (s : Bool) (c : Line) (t
   around-c = subst Drawn (ap (map curveIn) (h .is) ∙ map-append curveIn (h .before) (c ∷ h .after)) (S .drawn)
 
   around-d : xs ++ ys ≡ us ++ (d .curve ∷ vs)
-  around-d = sym (map-append curveIn (h .before) (h .after)) ∙ ap (map curveIn) (sym (h .others) ∙ h′ .is) ∙ map-append curveIn (h′ .before) (d ∷ h′ .after)
+  around-d = sym (map-append curveIn (h .before) (h .after)) ∙ ap (map curveIn) (sym (h .others) ∙ h′ .is)
+      ∙ map-append curveIn (h′ .before) (d ∷ h′ .after)
 
   left : map curveIn rest ≡ us ++ vs
   left = ap (map curveIn) (h′ .others) ∙ map-append curveIn (h′ .before) (h′ .after)
 
   taken : Taken (joined c′ d′) (map curveIn rest)
   taken = subst (Taken (joined c′ d′)) (sym left)
-      (heal-taken xs ys us vs (c .curve) (d .curve) s t around-d around-c joint open-c open-d (subst (All (Away (lastPoint c′))) left (away-all rest away)))
+      (heal-taken xs ys us vs (c .curve) (d .curve) s t around-d around-c joint open-c open-d
+      (subst (All (Away (lastPoint c′))) left (away-all rest away)))
 
   -- the two curves are good and share common ends only
   taken-c : Taken (c .curve) (xs ++ ys)
@@ -149,22 +165,31 @@ module _ (ls : List Line) (ps : List Place) (n e : ℕ) (s : Bool) (c : Line) (t
   good-d = good-course t (d .curve) (taken-d .good)
 
   clear : ClearCurves c′ d′
-  clear = clear-course s (c .curve) d′ (clear-sym d′ (c .curve) (clear-course t (d .curve) (c .curve) (clear-sym (c .curve) (d .curve)
-      (all-take (ClearCurves (c .curve)) us vs (d .curve) (subst (All (ClearCurves (c .curve))) around-d (taken-c .clear)) .0))))
+  clear = clear-course s (c .curve) d′ (clear-sym d′ (c .curve)
+      (clear-course t (d .curve) (c .curve) (clear-sym (c .curve) (d .curve)
+      (all-take (ClearCurves (c .curve)) us vs (d .curve)
+      (subst (All (ClearCurves (c .curve))) around-d (taken-c .clear)) .0))))
 
   healed-sited : Sited (without placeNumber n ps) (healedLine e s c t d)
   healed-sited = sited-without ps n (healedLine e s c t d) (record { start = w .from; end = w .to })
       (record {
-        kept = kept-joined c′ d′ (good-c .some) (good-d .some) joint most (kept-course s (c .curve) (S .sited c (w .first) .kept)) (kept-course t (d .curve) (S .sited d (w .second) .kept));
+        kept = kept-joined c′ d′ (good-c .some) (good-d .some) joint most
+            (kept-course s (c .curve) (S .sited c (w .first) .kept))
+            (kept-course t (d .curve) (S .sited d (w .second) .kept));
         start = tail-c;
-        end = Memᴰ·cast (λ i. record { number = headPlace t d .number; at = join-last c′ d′ joint open-c good-c good-d open-d clear i }) head-d;
+        end = Memᴰ·cast (λ i. record {
+          number = headPlace t d .number;
+          at = join-last c′ d′ joint open-c good-c good-d open-d clear i;
+        }) head-d;
       })
 
   -- the join stands anywhere in what is left
-  pub survey-heal : (ks js : List Line) → rest ≡ ks ++ js → Survey (ks ++ (healedLine e s c t d ∷ js)) (without placeNumber n ps)
+  pub survey-heal : (ks js : List Line) → rest ≡ ks ++ js
+      → Survey (ks ++ (healedLine e s c t d ∷ js)) (without placeNumber n ps)
   survey-heal ks js q =
       record {
-        drawn = rw (map-append curveIn ks (healedLine e s c t d ∷ js)) (put-taken (map curveIn ks) (map curveIn js) (ap (map curveIn) q ∙ map-append curveIn ks js) taken);
+        drawn = rw (map-append curveIn ks (healedLine e s c t d ∷ js))
+            (put-taken (map curveIn ks) (map curveIn js) (ap (map curveIn) q ∙ map-append curveIn ks js) taken);
         sited = λ k m. elim (between-cases ks (healedLine e s c t d) js m) [
           | inl i ↦ subst (Sited (without placeNumber n ps)) (sym i) healed-sited
           | inr i ↦ let o = other k (subst (List·Memᴰ k) (sym q) i) in sited-without ps n k (o .1) (S .sited k (o .0))

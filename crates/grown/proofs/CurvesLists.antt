@@ -1,7 +1,9 @@
 -- Lists as edits change them: one row told apart from the others, rows left out, a row more. Assumes nothing.
 use mathlib.Core.Path.{_≡_, refl, sym, ap, ap₂, subst}
 use mathlib.Core.Bool.{Bool, true, false, not, cond}
-use mathlib.Core.List.{List, [], _∷_, _++_, map, List·Memᴰ, List·Memᴰ·head, List·Memᴰ·tail, List·Memᴰ·cases-cons, List·Memᴰ·not-nil, List·Memᴰ·append-cases, List·Memᴰ·eq-of-singleton, Memᴰ·map, Memᴰ·of-map, Memᴰ·cast}
+use mathlib.Core.List.{List, [], _∷_, _++_, map, List·Memᴰ, List·Memᴰ·head, List·Memᴰ·tail, List·Memᴰ·cases-cons}
+use mathlib.Core.List.{List·Memᴰ·not-nil, List·Memᴰ·append-cases, List·Memᴰ·eq-of-singleton, Memᴰ·map, Memᴰ·of-map}
+use mathlib.Core.List.{Memᴰ·cast}
 use mathlib.Core.Logic.{_⊎_, inl, inr}
 use Prim.Native.Nat.{ℕ}
 use Rattle.lists.specs.Members.{Distinct, All, Pairs}
@@ -15,7 +17,8 @@ use Rattle.grown.proofs.Readings.{without}
 
 module _ {A B : Type 0} (f : A → B) where
   -- what is done to rows is done to their images
-  pub map-commute : (g : A → A) (h : B → B) (l : List A) → ((x : A) → f (g x) ≡ h (f x)) → map f (map g l) ≡ map h (map f l)
+  pub map-commute : (g : A → A) (h : B → B) (l : List A) → ((x : A) → f (g x) ≡ h (f x)) → map f (map g l)
+      ≡ map h (map f l)
   map-commute g h [] k = refl
   map-commute g h (x ∷ l) k = ap₂ _∷_ (k x) (map-commute g h l k)
 
@@ -65,7 +68,11 @@ distinct-of f (x ∷ l) h = ((λ m. h .0 (Memᴰ·map f m)), distinct-of f l (h 
 pub distinct-snoc : {A : Type 0} (l : List A) (x : A) → Distinct l → (List·Memᴰ x l → ⊥) → Distinct (l ++ (x ∷ []))
 distinct-snoc [] x h n = (List·Memᴰ·not-nil, tt)
 distinct-snoc (y ∷ l) x h n = (
-  (λ m. elim (List·Memᴰ·append-cases l m) [ inl k ↦ h .0 k | inr k ↦ n (List·Memᴰ·head (sym (List·Memᴰ·eq-of-singleton k))) ]),
+  (λ m. elim (List·Memᴰ·append-cases l m) [
+    | inl k ↦ h .0 k
+    | inr k ↦ n
+        (List·Memᴰ·head (sym (List·Memᴰ·eq-of-singleton k)))
+  ]),
   distinct-snoc l x (h .1) (λ m. n (List·Memᴰ·tail m)),
 )
 
@@ -91,7 +98,9 @@ module _ {A : Type 0} (num : A → ℕ) where
             after = l;
             is = refl;
             others = rw (same-refl (num q)) (keep-all (λ r. not (same (num r) (num q))) l (λ r k. ap not (other r k)));
-            changed = λ f. rw (same-refl (num q)) (ap (λ (k : List A). f q ∷ k) (map-same (λ r. cond (same (num r) (num q)) (f r) r) l (λ r k. rw (other r k))));
+            changed = λ f. rw (same-refl (num q))
+                (ap (λ (k : List A). f q ∷ k)
+                (map-same (λ r. cond (same (num r) (num q)) (f r) r) l (λ r k. rw (other r k))));
           }
         where
           other : (r : A) → List·Memᴰ r l → same (num r) (num q) ≡ false

@@ -86,7 +86,8 @@ module _ (m : Map) (G : Good m) where
 
   pub place-fresh : List·Memᴰ (m .nextNode) (map placeNumber (places m)) → ⊥
   place-fresh k =
-      let b = numbered-ranked m (G .woven .planar .edges-once) (G .numbered) .nodes .bounds (m .nextNode) (subst (List·Memᴰ (m .nextNode)) (map-map placeNumber placeOf (m .nodes)) k) in
+      let b = numbered-ranked m (G .woven .planar .edges-once) (G .numbered) .nodes .bounds (m .nextNode)
+      (subst (List·Memᴰ (m .nextNode)) (map-map placeNumber placeOf (m .nodes)) k) in
       omega (arith, b .1)
 
   -- the nodes that an edge names are there
@@ -99,23 +100,29 @@ module _ (m : Map) (G : Good m) where
 module _ (m : Map) where
   -- the point of a node that is there
   pub place-in : (n : ℕ) → hasNode m n ≡ true → List·Memᴰ (record { number = n; at = node m n .at }) (places m)
-  place-in n h = Memᴰ·cast (λ i. record { number = sym (node-row m n h .1) i; at = node m n .at }) (Memᴰ·map placeOf (node-row m n h .0))
+  place-in n h = Memᴰ·cast (λ i. record { number = sym (node-row m n h .1) i; at = node m n .at })
+      (Memᴰ·map placeOf (node-row m n h .0))
 
   -- and what its place says
-  at-place : (p : Place) → Distinct (map placeNumber (places m)) → List·Memᴰ p (places m) → p .at ≡ node m (p .number) .at
+  at-place : (p : Place) → Distinct (map placeNumber (places m)) → List·Memᴰ p (places m) → p .at
+      ≡ node m (p .number) .at
   at-place p d k = go (Memᴰ·of-map placeOf (m .nodes) k)
     where
       go : (r : Node) × List·Memᴰ r (m .nodes) × (placeOf r ≡ p) → p .at ≡ node m (p .number) .at
-      go w = subst (λ (q : Place). q .at ≡ node m (q .number) .at) (w .2) (sym (ap (λ (r : Node). r .at) (node-at m (subst Distinct (map-map placeNumber placeOf (m .nodes)) d) (w .1))))
+      go w = subst (λ (q : Place). q .at ≡ node m (q .number) .at) (w .2)
+          (sym (ap (λ (r : Node). r .at)
+          (node-at m (subst Distinct (map-map placeNumber placeOf (m .nodes)) d) (w .1))))
 
 -- what is surveyed
 pub survey : (m : Map) → Good m → Survey (lines m) (places m)
 survey m G =
     record {
       drawn = rw (map-map curveIn lineOf (m .edges)) (G .surveyed .drawn);
-      sited = λ l k. let w = Memᴰ·of-map lineOf (m .edges) k in subst (Sited (places m)) (w .2) (edge-sited (w .0) (w .1));
+      sited = λ l k. let w = Memᴰ·of-map lineOf (m .edges) k in
+          subst (Sited (places m)) (w .2) (edge-sited (w .0) (w .1));
       plotted = record {
-        in-range = λ p k. let w = Memᴰ·of-map placeOf (m .nodes) k in subst (λ (q : Place). InRange (q .at)) (w .2) (G .surveyed .nodes-in-range (w .0) (w .1));
+        in-range = λ p k. let w = Memᴰ·of-map placeOf (m .nodes) k in
+            subst (λ (q : Place). InRange (q .at)) (w .2) (G .surveyed .nodes-in-range (w .0) (w .1));
         apart = rw (map-map atIn placeOf (m .nodes)) (G .surveyed .places);
         numbered = places-once m G;
       };
@@ -125,8 +132,10 @@ survey m G =
     edge-sited e k =
         record {
           kept = G .surveyed .kept e k;
-          start = Memᴰ·cast (λ i. record { number = e .start; at = G .surveyed .anchored e k .start i }) (place-in m (e .start) (named-nodes m G e k .0));
-          end = Memᴰ·cast (λ i. record { number = e .end; at = G .surveyed .anchored e k .end i }) (place-in m (e .end) (named-nodes m G e k .1));
+          start = Memᴰ·cast (λ i. record { number = e .start; at = G .surveyed .anchored e k .start i })
+              (place-in m (e .start) (named-nodes m G e k .0));
+          end = Memᴰ·cast (λ i. record { number = e .end; at = G .surveyed .anchored e k .end i })
+              (place-in m (e .end) (named-nodes m G e k .1));
         }
 
 -- it holds of a map with such lines and places
@@ -147,5 +156,6 @@ surveyed m S =
     at e k = S .sited (lineOf e) (Memᴰ·map lineOf k)
 
 -- the general law: other links and faces change nothing
-pub surveyed-by : (m : Map) {ls : List Line} {ps : List Place} → lines m ≡ ls → places m ≡ ps → Survey ls ps → Surveyed m
+pub surveyed-by : (m : Map) {ls : List Line} {ps : List Place} → lines m ≡ ls → places m ≡ ps → Survey ls ps
+    → Surveyed m
 surveyed-by m e f S = surveyed m (subst (λ (ls : List Line). Survey ls (places m)) (sym e) (subst (Survey _) (sym f) S))

@@ -45,8 +45,10 @@ module _ (m : Map) (L : Lawful m) (s : Sizes) (u v : ℕ) (c : Curve) where
 -- ---- both sides on one ring
 
 module _ (m : Map) (u v : ℕ) (c : Curve) (φ : ℕ) (draws : Draws m u v c φ) where
-  joined-planar : hasNode m u ≡ true → hasNode m v ≡ true → Leads (next (drawn u v c φ m)) (fwd (m .nextEdge)) (bwd (m .nextEdge)) → InPlane m → InPlane (drawn u v c φ m)
-  joined-planar has-u has-v leads o = D-join m u v c φ draws o (number-has nodeNumber noNode (m .nodes) u has-u) (number-has nodeNumber noNode (m .nodes) v has-v) leads
+  joined-planar : hasNode m u ≡ true → hasNode m v ≡ true
+      → Leads (next (drawn u v c φ m)) (fwd (m .nextEdge)) (bwd (m .nextEdge)) → InPlane m → InPlane (drawn u v c φ m)
+  joined-planar has-u has-v leads o = D-join m u v c φ draws o (number-has nodeNumber noNode (m .nodes) u has-u)
+      (number-has nodeNumber noNode (m .nodes) v has-v) leads
 
 -- ---- kind 4
 
@@ -63,7 +65,10 @@ module _ (s : Sizes) (m : Map) (u v : ℕ) (c : Curve) (L : Lawful m) (h : AddLo
       none : (d : Dart) → List·Memᴰ d (from T (fwd (m .nextEdge) ∷ directed m) (T (bwd (m .nextEdge)))) → ⊥
       none d k = elim (List·Memᴰ·cases-cons (j .0)) [
         | inl p ↦ h .differ (sym (with-fwd (m .nextEdge) u v (leaves m)) ∙ ap T (sym p) ∙ at-v)
-        | inr i ↦ L .bare v (h .has-end) (h .isolated-end) d i (sym (with-other (m .nextEdge) u v (leaves m) d (fresh-dart (record { num = m .nextEdge; from = u; to = v }) (arcs m) (edge-new m (L .edges-below)) i)) ∙ at-v)
+        | inr i ↦ L .bare v (h .has-end) (h .isolated-end) d i
+            (sym (with-other (m .nextEdge) u v (leaves m) d
+            (fresh-dart (record { num = m .nextEdge; from = u; to = v }) (arcs m) (edge-new m (L .edges-below)) i))
+            ∙ at-v)
       ]
         where
           j : List·Memᴰ d (fwd (m .nextEdge) ∷ directed m) × (T d ≡ T (bwd (m .nextEdge)))
@@ -78,14 +83,19 @@ module _ (s : Sizes) (m : Map) (u v : ℕ) (c : Curve) (L : Lawful m) (h : AddLo
 
 -- ---- kinds 11 and 12, with e and -e on one ring
 
-module _ (news : Bool) (s : Sizes) (m : Map) (u v : ℕ) (c : Curve) (L : Lawful m) (h : AddEdge news s m u v c) (whole : splitsFace u v c m ≡ false) where
+module _ (news : Bool) (s : Sizes) (m : Map) (u v : ℕ) (c : Curve) (L : Lawful m) (h : AddEdge news s m u v c)
+    (whole : splitsFace u v c m ≡ false) where
   one-ring : Leads (next (drawnIn u v c m)) (fwd (m .nextEdge)) (bwd (m .nextEdge))
   unfolding splitsFace
-  one-ring = ring-leads (drawnIn u v c m) (D-linked m u v c (cornerFace m u (startWay c)) draws) (D-once m u v c (cornerFace m u (startWay c)) draws) (fwd (m .nextEdge)) (all-D m u v c (cornerFace m u (startWay c)) draws (List·Memᴰ·head refl))
-      (among-in (ring (drawnIn u v c m) (fwd (m .nextEdge))) (bwd (m .nextEdge)) (not-false (among (ring (drawnIn u v c m) (fwd (m .nextEdge))) (bwd (m .nextEdge))) whole))
+  one-ring = ring-leads (drawnIn u v c m) (D-linked m u v c (cornerFace m u (startWay c)) draws)
+      (D-once m u v c (cornerFace m u (startWay c)) draws) (fwd (m .nextEdge))
+      (all-D m u v c (cornerFace m u (startWay c)) draws (List·Memᴰ·head refl))
+      (among-in (ring (drawnIn u v c m) (fwd (m .nextEdge))) (bwd (m .nextEdge))
+      (not-false (among (ring (drawnIn u v c m) (fwd (m .nextEdge))) (bwd (m .nextEdge))) whole))
     where
       draws : Draws m u v c (cornerFace m u (startWay c))
       draws = draws-added m L s u v c news h
 
   pub planar-joining : InPlane m → InPlane (drawnIn u v c m)
-  planar-joining = joined-planar m u v c (cornerFace m u (startWay c)) (draws-added m L s u v c news h) (h .has-start) (h .has-end) one-ring
+  planar-joining = joined-planar m u v c (cornerFace m u (startWay c)) (draws-added m L s u v c news h) (h .has-start)
+      (h .has-end) one-ring

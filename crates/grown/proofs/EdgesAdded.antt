@@ -24,19 +24,26 @@ use Rattle.grown.proofs.EdgesSplit.{Faced, split-planar}
 use Rattle.grown.proofs.LawfulForm.{Lawful, good-lawful}
 
 pub faced : (m : Map) → Good m → Faced m
-faced m good = let r = ranks m good in record { once = rising-distinct (m .faces) (r .faces .rises); below = λ g k. r .faces .bounds g k .1; borne = λ d k. bears-in m d (dart-has m k) r }
+faced m good = let r = ranks m good in record {
+  once = rising-distinct (m .faces) (r .faces .rises);
+  below = λ g k. r .faces .bounds g k .1;
+  borne = λ d k. bears-in m d (dart-has m k) r;
+}
 
 module _ (news : Bool) (s : Sizes) (m : Map) (u v : ℕ) (c : Curve) (good : Good m) (h : AddEdge news s m u v c) where
   abbrev L : Lawful m
   L = good-lawful m good
 
-  rings-apart : splitsFace u v c m ≡ true → among (ring (drawnIn u v c m) (fwd (m .nextEdge))) (bwd (m .nextEdge)) ≡ false
+  rings-apart : splitsFace u v c m ≡ true → among (ring (drawnIn u v c m) (fwd (m .nextEdge))) (bwd (m .nextEdge))
+      ≡ false
   unfolding splitsFace
   rings-apart e = not-true (among (ring (drawnIn u v c m) (fwd (m .nextEdge))) (bwd (m .nextEdge))) e
 
   pub planar-added : InPlane (addEdge news u v c m)
   unfolding addEdge
   planar-added = elim (which (splitsFace u v c m)) [
-    | inl e ↦ rw e (split-planar news m u v c (cornerFace m u (startWay c)) (draws-added m L s u v c news h) (faced m good) (corner-in m u (startWay c) (h .has-start) (ranks m good)) (rings-apart e) (h .has-start) (h .has-end) (good .woven .planar))
+    | inl e ↦ rw e (split-planar news m u v c (cornerFace m u (startWay c)) (draws-added m L s u v c news h)
+        (faced m good) (corner-in m u (startWay c) (h .has-start) (ranks m good)) (rings-apart e) (h .has-start)
+        (h .has-end) (good .woven .planar))
     | inr e ↦ rw e (planar-joining news s m u v c L h e (good .woven .planar))
   ]

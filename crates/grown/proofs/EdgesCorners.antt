@@ -15,12 +15,14 @@ use Rattle.map.specs.Links.{cornerOf, cornerFace}
 
 -- ---- the corner face is that of the first departure met
 
-corner-of : (m : Map) (n : ℕ) (w : Way) (u : Dart) (ds : List Dart) {d : Dart} → List·Memᴰ d ds → cornerOf m n w ds ≡ bears m (firstClockwise (way m) w u ds)
+corner-of : (m : Map) (n : ℕ) (w : Way) (u : Dart) (ds : List Dart) {d : Dart} → List·Memᴰ d ds → cornerOf m n w ds
+    ≡ bears m (firstClockwise (way m) w u ds)
 unfolding firstClockwise pick
 corner-of m n w u [] k = absurd (List·Memᴰ·not-nil k)
 corner-of m n w u (d ∷ ds) k = refl
 
-pub corner-first : (m : Map) (n : ℕ) (w : Way) (u : Dart) {d : Dart} → List·Memᴰ d (departures m n) → cornerFace m n w ≡ bears m (firstClockwise (way m) w u (departures m n))
+pub corner-first : (m : Map) (n : ℕ) (w : Way) (u : Dart) {d : Dart} → List·Memᴰ d (departures m n) → cornerFace m n w
+    ≡ bears m (firstClockwise (way m) w u (departures m n))
 unfolding cornerFace
 corner-first m n w u k = corner-of m n w u (departures m n) k
 
@@ -33,20 +35,24 @@ abbrev pub nodeNumbers : Map → List ℕ
 nodeNumbers m = map (λ n. n .number) (m .nodes)
 
 -- rows changed keep their numbers
-pub numbers-kept : (p : Node → Bool) (g : Node → Node) (ns : List Node) → ((n : Node) → g n .number ≡ n .number) → map (λ n. n .number) (map (λ n. cond (p n) (g n) n) ns) ≡ map (λ n. n .number) ns
-numbers-kept p g ns h = map-map (λ (n : Node). n .number) (λ n. cond (p n) (g n) n) ns ∙ map-cong _ (λ (n : Node). n .number) ns (λ n k. go (p n) n)
+pub numbers-kept : (p : Node → Bool) (g : Node → Node) (ns : List Node) → ((n : Node) → g n .number ≡ n .number)
+    → map (λ n. n .number) (map (λ n. cond (p n) (g n) n) ns) ≡ map (λ n. n .number) ns
+numbers-kept p g ns h = map-map (λ (n : Node). n .number) (λ n. cond (p n) (g n) n) ns
+    ∙ map-cong _ (λ (n : Node). n .number) ns (λ n k. go (p n) n)
   where
     go : (b : Bool) (n : Node) → cond b (g n) n .number ≡ n .number
     go true n = h n
     go false n = refl
 
 -- where two functions agree on darts that one of them stays in, they lead alike
-pub leads-agree : (ds : List Dart) (g h : Dart → Dart) → ((d : Dart) → List·Memᴰ d ds → g d ≡ h d) → ((d : Dart) → List·Memᴰ d ds → List·Memᴰ (h d) ds) → {c d : Dart} → List·Memᴰ c ds → Leads g c d → Leads h c d
+pub leads-agree : (ds : List Dart) (g h : Dart → Dart) → ((d : Dart) → List·Memᴰ d ds → g d ≡ h d)
+    → ((d : Dart) → List·Memᴰ d ds → List·Memᴰ (h d) ds) → {c d : Dart} → List·Memᴰ c ds → Leads g c d → Leads h c d
 leads-agree ds g h agree into {c} {d} k r = (r .0, sym (steps (r .0) .1) ∙ r .1)
   where
     steps : (j : ℕ) → List·Memᴰ (iterate j h c) ds × (iterate j g c ≡ iterate j h c)
     steps zero = (k, refl)
     steps (suc j) = go (steps j)
       where
-        go : List·Memᴰ (iterate j h c) ds × (iterate j g c ≡ iterate j h c) → List·Memᴰ (iterate (suc j) h c) ds × (iterate (suc j) g c ≡ iterate (suc j) h c)
+        go : List·Memᴰ (iterate j h c) ds × (iterate j g c ≡ iterate j h c) → List·Memᴰ (iterate (suc j) h c) ds
+            × (iterate (suc j) g c ≡ iterate (suc j) h c)
         go q = (into (iterate j h c) (q .0), ap g (q .1) ∙ agree (iterate j h c) (q .0))

@@ -1,4 +1,5 @@
--- An edge drawn in between two corners of one face: a linked map stays linked. Where both sides of the edge are on one ring, or its faces are told apart, a map in the plane stays one. Assumes nothing.
+-- An edge drawn in between two corners of one face: a linked map stays linked. Where both sides of the edge are on one
+-- ring, or its faces are told apart, a map in the plane stays one. Assumes nothing.
 use mathlib.Core.Path.{_≡_, refl, sym, ap, _∙_, subst}
 use mathlib.Core.Bool.{Bool, true}
 use mathlib.Core.List.{List, _∷_, List·Memᴰ, List·Memᴰ·head, List·Memᴰ·tail, List·Permᴰ, Permᴰ·symm, Permᴰ·map}
@@ -37,7 +38,8 @@ use Rattle.grown.proofs.EdgesCorners.{nodeNumbers, corner-first, depart
 use Rattle.grown.proofs.LawfulAdd as drawing
 use Rattle.grown.proofs.LawfulAdd.{Free, edge-free}
 
--- what an edge needs that is drawn from u to v along c, with the face φ on both sides; neither the plane nor the link law
+-- what an edge needs that is drawn from u to v along c, with the face φ on both sides; neither the plane nor the link
+-- law
 pub record Draws (m : Map) (u v : ℕ) (c : Curve) (φ : ℕ) : Type 0 where
   pub linked : Linked (arcs m) (leaves m) (next m) (bears m)
   pub once : Distinct (nums (arcs m))
@@ -47,9 +49,17 @@ pub record Draws (m : Map) (u v : ℕ) (c : Curve) (φ : ℕ) : Type 0 where
   pub corner-end : (d : Dart) → List·Memᴰ d (departures m v) → cornerFace m v (endWay c) ≡ φ
 
 -- kinds 11 and 12: its corners are in one face
-pub draws-edge : {news : Bool} {s : Sizes} {m : Map} {u v : ℕ} {c : Curve} → AddEdge news s m u v c → Linked (arcs m) (leaves m) (next m) (bears m) → Distinct (nums (arcs m)) → Apart (leaves m) (way m) (directed m) → (List·Memᴰ (m .nextEdge) (nums (arcs m)) → ⊥)
+pub draws-edge : {news : Bool} {s : Sizes} {m : Map} {u v : ℕ} {c : Curve} → AddEdge news s m u v c
+    → Linked (arcs m) (leaves m) (next m) (bears m) → Distinct (nums (arcs m)) → Apart (leaves m) (way m) (directed m)
+    → (List·Memᴰ (m .nextEdge) (nums (arcs m)) → ⊥)
     → Draws m u v c (cornerFace m u (startWay c))
-draws-edge h linked once apart fresh = record { linked = linked; once = once; free = edge-free h apart fresh; corner-start = λ d k. refl; corner-end = λ d k. sym (h .one-face) }
+draws-edge h linked once apart fresh = record {
+  linked = linked;
+  once = once;
+  free = edge-free h apart fresh;
+  corner-start = λ d k. refl;
+  corner-end = λ d k. sym (h .one-face);
+}
 
 module _ (m : Map) (u v : ℕ) (c : Curve) (φ : ℕ) (draws : Draws m u v c φ) where
   abbrev e : ℕ
@@ -84,11 +94,15 @@ module _ (m : Map) (u v : ℕ) (c : Curve) (φ : ℕ) (draws : Draws m u v c φ)
 
   -- ---- corners
 
-  corner : (p : Dart) (n : ℕ) (w : Way) → T p ≡ n → W p ≡ w → ((d : Dart) → List·Memᴰ d (departures m n) → cornerFace m n w ≡ φ) → (d : Dart) → List·Memᴰ d (from T (directed m) (T p)) → F (firstClockwise W (W p) p (from T (directed m) (T p))) ≡ φ
-  corner p n w tp wp face d k = ap (λ (l : List Dart). F (firstClockwise W (W p) p l)) list ∙ ap F first ∙ old φ φ (bears m) c′ (departs m n in-c .0) ∙ sym (corner-first m n w p k′) ∙ face d k′
+  corner : (p : Dart) (n : ℕ) (w : Way) → T p ≡ n → W p ≡ w
+      → ((d : Dart) → List·Memᴰ d (departures m n) → cornerFace m n w ≡ φ) → (d : Dart)
+      → List·Memᴰ d (from T (directed m) (T p)) → F (firstClockwise W (W p) p (from T (directed m) (T p))) ≡ φ
+  corner p n w tp wp face d k = ap (λ (l : List Dart). F (firstClockwise W (W p) p l)) list ∙ ap F first
+      ∙ old φ φ (bears m) c′ (departs m n in-c .0) ∙ sym (corner-first m n w p k′) ∙ face d k′
     where
       list : from T (directed m) (T p) ≡ departures m n
-      list = from-alike (directed m) (leaves m) T (old u v (leaves m)) (T p) ∙ ap (from (leaves m) (directed m)) tp ∙ sym (departures-from m n)
+      list = from-alike (directed m) (leaves m) T (old u v (leaves m)) (T p) ∙ ap (from (leaves m) (directed m)) tp
+          ∙ sym (departures-from m n)
 
       k′ : List·Memᴰ d (departures m n)
       k′ = subst (λ (l : List Dart). List·Memᴰ d l) list k
@@ -103,7 +117,8 @@ module _ (m : Map) (u v : ℕ) (c : Curve) (φ : ℕ) (draws : Draws m u v c φ)
       alike v v′ q = rw q (sameWay-refl v′)
 
       first : firstClockwise W (W p) p (departures m n) ≡ c′
-      first = first-alike W (way m) (W p) w p (departures m n) (alike (W p) w wp) (λ d i. alike (W d) (way m d) (drawing.W-old m u v c φ (draws .free) d (departs m n i .0)))
+      first = first-alike W (way m) (W p) w p (departures m n) (alike (W p) w wp)
+          (λ d i. alike (W d) (way m d) (drawing.W-old m u v c φ (draws .free) d (departs m n i .0)))
 
   -- ---- the links
 
@@ -112,11 +127,14 @@ module _ (m : Map) (u v : ℕ) (c : Curve) (φ : ℕ) (draws : Draws m u v c φ)
   N = rotation.linkEdge sameDart rev W T f (directed m) (lone e (next m))
 
   -- the corners at which the edge is woven in
-  w : (k k′ : Corner) × Fits (darts (arcs m)) T F u φ k × Fits (f ∷ darts (arcs m)) T F v φ k′ × ((d : Dart) → List·Memᴰ d all → N d ≡ woven e k k′ (next m) d)
+  w : (k k′ : Corner) × Fits (darts (arcs m)) T F u φ k × Fits (f ∷ darts (arcs m)) T F v φ k′
+      × ((d : Dart) → List·Memᴰ d all → N d ≡ woven e k k′ (next m) d)
   unfolding N
   w = put-woven (draws .linked) (draws .once) a (draws .free .fresh) φ W (drawing.drawn-apart m u v c φ (draws .free))
-      (corner f u (startWay c) (drawing.T-f m u v c φ (draws .free)) (drawing.W-f m u v c φ (draws .free)) (draws .corner-start))
-      (corner b v (endWay c) (drawing.T-b m u v c φ (draws .free)) (drawing.W-b m u v c φ (draws .free)) (draws .corner-end))
+      (corner f u (startWay c) (drawing.T-f m u v c φ (draws .free)) (drawing.W-f m u v c φ (draws .free))
+      (draws .corner-start))
+      (corner b v (endWay c) (drawing.T-b m u v c φ (draws .free)) (drawing.W-b m u v c φ (draws .free))
+      (draws .corner-end))
 
   w-linked : Linked (a ∷ arcs m) T (woven e (w .0) (w .1) (next m)) F
   w-linked = woven-linked (draws .linked) (draws .once) a (draws .free .fresh) φ (w .0) (w .1) (w .2) (w .3)
@@ -152,16 +170,25 @@ module _ (m : Map) (u v : ℕ) (c : Curve) (φ : ℕ) (draws : Draws m u v c φ)
 
   -- ---- the plane
 
-  module _ (planar : Planar (nodeNumbers m) (arcs m) (leaves m) (next m) (bears m) (length (m .faces))) (start : List·Memᴰ u (nodeNumbers m)) (end : List·Memᴰ v (nodeNumbers m)) where
-    in-nodes : {faces : ℕ} {face : Dart → ℕ} → Planar (nodeNumbers m) (a ∷ arcs m) (leaves D) (next D) face faces → Planar (nodeNumbers D) (arcs D) (leaves D) (next D) face faces
-    in-nodes {faces} {face} p = subst (λ (ns : List ℕ). Planar ns (arcs D) (leaves D) (next D) face faces) (sym (drawing.D-nodes m u v c φ (draws .free))) (planar-perm D-perm p)
+  module _ (planar : Planar (nodeNumbers m) (arcs m) (leaves m) (next m) (bears m) (length (m .faces)))
+      (start : List·Memᴰ u (nodeNumbers m)) (end : List·Memᴰ v (nodeNumbers m)) where
+    in-nodes : {faces : ℕ} {face : Dart → ℕ} → Planar (nodeNumbers m) (a ∷ arcs m) (leaves D) (next D) face faces
+        → Planar (nodeNumbers D) (arcs D) (leaves D) (next D) face faces
+    in-nodes {faces} {face} p = subst (λ (ns : List ℕ). Planar ns (arcs D) (leaves D) (next D) face faces)
+        (sym (drawing.D-nodes m u v c φ (draws .free))) (planar-perm D-perm p)
 
     -- both sides of the edge on one ring
     pub D-join : Leads (next D) f b → Planar (nodeNumbers D) (arcs D) (leaves D) (next D) (bears D) (length (D .faces))
-    D-join r = subst (λ (l : List ℕ). Planar (nodeNumbers D) (arcs D) (leaves D) (next D) (bears D) (length l)) (sym D-faces) (in-nodes (planar-agree D-leaves D-next D-bears
-        (planar-join planar a (draws .free .fresh) start end φ (w .0) (w .1) (w .2) (w .3) (leads-agree all (next D) (woven e (w .0) (w .1) (next m)) D-next (λ d k. next-in w-linked k) (List·Memᴰ·head refl) r))))
+    D-join r = subst (λ (l : List ℕ). Planar (nodeNumbers D) (arcs D) (leaves D) (next D) (bears D) (length l))
+        (sym D-faces) (in-nodes (planar-agree D-leaves D-next D-bears
+        (planar-join planar a (draws .free .fresh) start end φ (w .0) (w .1) (w .2) (w .3)
+        (leads-agree all (next D) (woven e (w .0) (w .1) (next m)) D-next (λ d k. next-in w-linked k)
+        (List·Memᴰ·head refl) r))))
 
     -- the two sides told apart by new labels, which are constant along the links
-    pub D-split : (new : Dart → ℕ) (μ : ℕ → ℕ) → Grown a (arcs m) (bears m) new μ → ((new f ≡ new b) → ⊥) → ((d : Dart) → List·Memᴰ d (directed D) → new (next D d) ≡ new d) → Planar (nodeNumbers D) (arcs D) (leaves D) (next D) new (suc (length (m .faces)))
+    pub D-split : (new : Dart → ℕ) (μ : ℕ → ℕ) → Grown a (arcs m) (bears m) new μ → ((new f ≡ new b) → ⊥)
+        → ((d : Dart) → List·Memᴰ d (directed D) → new (next D d) ≡ new d)
+        → Planar (nodeNumbers D) (arcs D) (leaves D) (next D) new (suc (length (m .faces)))
     D-split new μ grown apart keeps = in-nodes (planar-agree D-leaves D-next (λ d k. refl)
-        (planar-split planar a (draws .free .fresh) start end φ (w .0) (w .1) (w .2) (w .3) new μ grown apart (λ d k. ap new (sym (D-next d k)) ∙ keeps d (all-D k))))
+        (planar-split planar a (draws .free .fresh) start end φ (w .0) (w .1) (w .2) (w .3) new μ grown apart
+        (λ d k. ap new (sym (D-next d k)) ∙ keeps d (all-D k))))

@@ -34,20 +34,28 @@ use Rattle.grown.proofs.NumbersEdges.{undrawn-face-list}
 pub record Merging (m : Map) (e : ℕ) (μ : ℕ → ℕ) (fs : List ℕ) : Type 0 where
   pub one : μ (bears m (fwd e)) ≡ μ (bears m (bwd e))
   pub back : ℕ → ℕ
-  pub goes-back : (g : ℕ) → List·Memᴰ g (m .faces) → (back (μ g) ≡ g) ⊎ (Either (bears m (fwd e)) (bears m (bwd e)) (back (μ g)) × Either (bears m (fwd e)) (bears m (bwd e)) g)
-  pub count : ((bears m (fwd e) ≡ bears m (bwd e)) × (length fs ≡ length (m .faces))) ⊎ ((bears m (fwd e) ≢ bears m (bwd e)) × (length (m .faces) ≡ suc (length fs)))
+  pub goes-back : (g : ℕ) → List·Memᴰ g (m .faces) → (back (μ g) ≡ g)
+      ⊎ (Either (bears m (fwd e)) (bears m (bwd e)) (back (μ g)) × Either (bears m (fwd e)) (bears m (bwd e)) g)
+  pub count : ((bears m (fwd e) ≡ bears m (bwd e)) × (length fs ≡ length (m .faces)))
+      ⊎ ((bears m (fwd e) ≢ bears m (bwd e)) × (length (m .faces) ≡ suc (length fs)))
 
-module _ (m X : Map) (e : ℕ) (μ : ℕ → ℕ) (t : Taken m X e μ) (faced : Faced m) (merging : Merging m e μ (X .faces)) where
-  shrunk : Shrunk (record { num = e; from = t .from; to = t .to }) (arcs X) (bears m) (λ d. μ (bears m d)) (merging .back)
+module _ (m X : Map) (e : ℕ) (μ : ℕ → ℕ) (t : Taken m X e μ) (faced : Faced m)
+    (merging : Merging m e μ (X .faces)) where
+  shrunk : Shrunk (record { num = e; from = t .from; to = t .to }) (arcs X) (bears m) (λ d. μ (bears m d))
+      (merging .back)
   shrunk = record { others = λ d k. merging .goes-back (bears m d) (faced .borne d (left t k .0)) }
 
-  after : {faces : ℕ} → Planar (nodeNumbers m) (arcs X) (leaves m) (rotation.unlinkEdge sameDart rev (fwd e) (next m)) (λ d. μ (bears m d)) faces → Planar (nodeNumbers X) (arcs X) (leaves X) (next X) (bears X) faces
-  after {faces} p = subst (λ (ns : List ℕ). Planar ns (arcs X) (leaves X) (next X) (bears X) faces) (sym (t .nodes)) (planar-agree (t .leaves) (t .next) (t .bears) p)
+  after : {faces : ℕ} → Planar (nodeNumbers m) (arcs X) (leaves m) (rotation.unlinkEdge sameDart rev (fwd e) (next m))
+      (λ d. μ (bears m d)) faces → Planar (nodeNumbers X) (arcs X) (leaves X) (next X) (bears X) faces
+  after {faces} p = subst (λ (ns : List ℕ). Planar ns (arcs X) (leaves X) (next X) (bears X) faces) (sym (t .nodes))
+      (planar-agree (t .leaves) (t .next) (t .bears) p)
 
   pub taken-planar : InPlane m → InPlane X
   taken-planar o = elim (merging .count) [
-    | inl q ↦ subst (λ (n : ℕ). Planar (nodeNumbers X) (arcs X) (leaves X) (next X) (bears X) n) (sym (q .1)) (after (taken-part (planar-perm (t .perm) o) μ (merging .back) (merging .one) shrunk (q .0)))
-    | inr q ↦ after (taken-merge (planar-perm (t .perm) o) μ (merging .back) (merging .one) shrunk (length (X .faces)) (q .1) (q .0))
+    | inl q ↦ subst (λ (n : ℕ). Planar (nodeNumbers X) (arcs X) (leaves X) (next X) (bears X) n) (sym (q .1))
+        (after (taken-part (planar-perm (t .perm) o) μ (merging .back) (merging .one) shrunk (q .0)))
+    | inr q ↦ after (taken-merge (planar-perm (t .perm) o) μ (merging .back) (merging .one) shrunk (length (X .faces))
+        (q .1) (q .0))
   ]
 
 -- ---- kind 5
@@ -65,7 +73,9 @@ module _ (m : Map) (e : ℕ) (good : Good m) (h : RemoveLone m e) where
   -- e turns back at its end, where nothing else departs
   turns : next m (fwd e) ≡ bwd e
   unfolding departures
-  turns = one-member (departures m (edge m e .end)) (h .end-alone) (departing m (edge m e .end) (next-in (L .linked) in-f) (L .linked .meets (fwd e) in-f ∙ leaves-row m (bwd e))) (departing m (edge m e .end) (has-dart m (bwd e) (h .has)) (leaves-row m (bwd e)))
+  turns = one-member (departures m (edge m e .end)) (h .end-alone)
+      (departing m (edge m e .end) (next-in (L .linked) in-f) (L .linked .meets (fwd e) in-f ∙ leaves-row m (bwd e)))
+      (departing m (edge m e .end) (has-dart m (bwd e) (h .has)) (leaves-row m (bwd e)))
     where
       in-f : List·Memᴰ (fwd e) (directed m)
       in-f = has-dart m (fwd e) (h .has)
@@ -83,4 +93,5 @@ module _ (m : Map) (e : ℕ) (good : Good m) (h : RemoveLone m e) where
   }
 
   pub planar-5 : InPlane (removeIsoEdge e m)
-  planar-5 = taken-planar m (removeIsoEdge e m) e (λ g. g) (lone-taken m L e (h .has)) (faced m good) lone-merging (good .woven .planar)
+  planar-5 = taken-planar m (removeIsoEdge e m) e (λ g. g) (lone-taken m L e (h .has)) (faced m good) lone-merging
+      (good .woven .planar)

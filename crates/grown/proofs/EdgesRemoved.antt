@@ -95,7 +95,8 @@ module _ (news : Bool) (e : ℕ) (m : Map) (good : Good m) (has : hasEdge m e �
   unfolding back
   back-left = ap (λ x. cond x L g₀) (same-refl g₀) ∙ sym on-f
 
-  goes-back : (h : ℕ) → List·Memᴰ h (m .faces) → (back (μ h) ≡ h) ⊎ (Either (bears m (fwd e)) (bears m (bwd e)) (back (μ h)) × Either (bears m (fwd e)) (bears m (bwd e)) h)
+  goes-back : (h : ℕ) → List·Memᴰ h (m .faces) → (back (μ h) ≡ h)
+      ⊎ (Either (bears m (fwd e)) (bears m (bwd e)) (back (μ h)) × Either (bears m (fwd e)) (bears m (bwd e)) h)
   unfolding back
   goes-back h k = elim (equal? h L) [
     | inl p ↦ inr (inl (ap back (ap μ p ∙ merged-left L R g₀) ∙ back-left), inl (p ∙ sym on-f))
@@ -105,7 +106,8 @@ module _ (news : Bool) (e : ℕ) (m : Map) (good : Good m) (has : hasEdge m e �
     ]
   ]
 
-  face-count : ((bears m (fwd e) ≡ bears m (bwd e)) × (length (X .faces) ≡ length (m .faces))) ⊎ ((bears m (fwd e) ≢ bears m (bwd e)) × (length (m .faces) ≡ suc (length (X .faces))))
+  face-count : ((bears m (fwd e) ≡ bears m (bwd e)) × (length (X .faces) ≡ length (m .faces)))
+      ⊎ ((bears m (fwd e) ≢ bears m (bwd e)) × (length (m .faces) ≡ suc (length (X .faces))))
   face-count = elim (which (makesFace news e m)) [
     | inl q ↦ inr (
       apart-sides (made-apart news e m q),
@@ -113,8 +115,16 @@ module _ (news : Bool) (e : ℕ) (m : Map) (good : Good m) (has : hasEdge m e �
           (λ h k p. let b = faced m good .below h k in let t = p ∙ left-new q in omega arith)),
     )
     | inr q ↦ elim (equal? L R) [
-      | inl p ↦ inl (on-f ∙ p ∙ sym on-b, ap length (plain q ∙ stay-all L R g₀ (m .faces) once in-left in-right p (elim (left-one q) [ inl t ↦ t | inr t ↦ t ∙ sym p ])))
-      | inr ne ↦ inr (apart-sides ne, stay-one L R g₀ (m .faces) once in-left in-right ne (left-one q) ∙ ap (λ (fs : List ℕ). suc (length fs)) (sym (plain q)))
+      | inl p ↦ inl (
+        on-f ∙ p ∙ sym on-b,
+        ap length (plain q ∙ stay-all L R g₀ (m .faces) once in-left in-right p
+            (elim (left-one q) [ inl t ↦ t | inr t ↦ t ∙ sym p ])),
+      )
+      | inr ne ↦ inr (
+        apart-sides ne,
+        stay-one L R g₀ (m .faces) once in-left in-right ne (left-one q)
+            ∙ ap (λ (fs : List ℕ). suc (length fs)) (sym (plain q)),
+      )
     ]
   ]
     where
@@ -127,8 +137,11 @@ module _ (news : Bool) (e : ℕ) (m : Map) (good : Good m) (has : hasEdge m e �
       plain : makesFace news e m ≡ false → X .faces ≡ stay L R g₀ (m .faces)
       plain q = X-faces ∙ ap (λ x. cond x (stay L R g₀ (m .faces) ++ g₀ ∷ []) (stay L R g₀ (m .faces))) q
 
-      fewer : makesFace news e m ≡ true → length (m .faces) ≡ suc (suc (length (stay L R g₀ (m .faces)))) → length (m .faces) ≡ suc (length (X .faces))
-      fewer q n = let k = ap length (X-faces ∙ ap (λ x. cond x (stay L R g₀ (m .faces) ++ g₀ ∷ []) (stay L R g₀ (m .faces))) q) in let j = length-append (stay L R g₀ (m .faces)) (g₀ ∷ []) in omega arith
+      fewer : makesFace news e m ≡ true → length (m .faces) ≡ suc (suc (length (stay L R g₀ (m .faces))))
+          → length (m .faces) ≡ suc (length (X .faces))
+      fewer q n = let k = ap length (X-faces
+          ∙ ap (λ x. cond x (stay L R g₀ (m .faces) ++ g₀ ∷ []) (stay L R g₀ (m .faces))) q) in let j =
+          length-append (stay L R g₀ (m .faces)) (g₀ ∷ []) in omega arith
 
   merging : Merging m e μ (X .faces)
   merging = record {
@@ -139,4 +152,5 @@ module _ (news : Bool) (e : ℕ) (m : Map) (good : Good m) (has : hasEdge m e �
   }
 
   pub planar-removed : InPlane (removeEdge news e m)
-  planar-removed = taken-planar m X e μ (edge-taken m (good-lawful m good) e has news) (faced m good) merging (good .woven .planar)
+  planar-removed = taken-planar m X e μ (edge-taken m (good-lawful m good) e has news) (faced m good) merging
+      (good .woven .planar)

@@ -26,7 +26,8 @@ use Rattle.map.specs.Edits.{Shares, withSides, drawn, sideOfDart, sideOfNode, s
 use Rattle.grown.proofs.Readings.{arcOf, number-has}
 use Rattle.grown.proofs.RowChanges.{nodeNumber, noNode, InPlane}
 use Rattle.grown.proofs.EdgesSides.{sides-bears, sides-planar}
-use Rattle.grown.proofs.EdgesShared.{side-new, side-old, side-keeps, side-x, side-rev, apart-rev, Sharing, sharesOf, facesOf, sharing}
+use Rattle.grown.proofs.EdgesShared.{side-new, side-old, side-keeps, side-x, side-rev, apart-rev, Sharing}
+use Rattle.grown.proofs.EdgesShared.{sharesOf, facesOf, sharing}
 use Rattle.grown.proofs.EdgesDrawn.{drawnRow}
 use Rattle.grown.proofs.EdgesCorners.{nodeNumbers}
 use Rattle.grown.proofs.EdgesJoined.{Draws, all-D, D-kept, D-bears, D-faces, D-linked, D-once, D-split}
@@ -41,11 +42,17 @@ pub side-number : (m : Map) (s : Shares) (n : Node) (f : Option ℕ) → sideOfN
 side-number m s n none = refl
 side-number m s n (some f) = go (same f (s .old))
   where
-    go : (b : Bool) → cond b (record { number = n .number; at = n .at; face = some (sideOfPoint m s (n .at)) }) n .number ≡ n .number
+    go : (b : Bool) → cond b (record {
+      number = n .number;
+      at = n .at;
+      face = some (sideOfPoint m s (n .at));
+    }) n .number ≡ n .number
     go true = refl
     go false = refl
 
-module _ (news : Bool) (m : Map) (u v : ℕ) (c : Curve) (φ : ℕ) (draws : Draws m u v c φ) (faced : Faced m) (there : List·Memᴰ φ (m .faces)) (split : among (ring (drawn u v c φ m) (fwd (m .nextEdge))) (bwd (m .nextEdge)) ≡ false) where
+module _ (news : Bool) (m : Map) (u v : ℕ) (c : Curve) (φ : ℕ) (draws : Draws m u v c φ) (faced : Faced m)
+    (there : List·Memᴰ φ (m .faces)) (split : among (ring (drawn u v c φ m) (fwd (m .nextEdge))) (bwd (m .nextEdge))
+    ≡ false) where
   abbrev D : Map
   D = drawn u v c φ m
 
@@ -86,7 +93,8 @@ module _ (news : Bool) (m : Map) (u v : ℕ) (c : Curve) (φ : ℕ) (draws : Dra
   on-f = D-bears m u v c φ draws f (List·Memᴰ·head refl) ∙ with-fwd (m .nextEdge) φ φ (bears m)
 
   on-b : bears D b ≡ old
-  on-b = D-bears m u v c φ draws b (List·Memᴰ·tail (List·Memᴰ·head refl)) ∙ with-bwd (m .nextEdge) φ φ (bears m) ∙ sym on-f
+  on-b = D-bears m u v c φ draws b (List·Memᴰ·tail (List·Memᴰ·head refl)) ∙ with-bwd (m .nextEdge) φ φ (bears m)
+      ∙ sym on-f
 
   next-face : D .nextFace ≡ m .nextFace + 0
   unfolding drawn atNodes linkEdge linkIn lead redirect atEdge
@@ -105,12 +113,16 @@ module _ (news : Bool) (m : Map) (u v : ℕ) (c : Curve) (φ : ℕ) (draws : Dra
     where
       go : (t : Bool) → isLeft ≡ t → ((new f ≡ s .ref) × (new b ≡ s .other)) ⊎ ((new f ≡ s .other) × (new b ≡ s .ref))
       go true e = inl (
-        side-x D linked (D-once m u v c φ draws) s f in-f (ap (λ t. cond t (ring D f) (ring D b)) e) (ap (λ t. cond t (ring D b) (ring D f)) e) split refl on-b,
-        side-rev D linked (D-once m u v c φ draws) s f in-f (ap (λ t. cond t (ring D f) (ring D b)) e) (ap (λ t. cond t (ring D b) (ring D f)) e) split refl on-b,
+        side-x D linked (D-once m u v c φ draws) s f in-f (ap (λ t. cond t (ring D f) (ring D b)) e)
+            (ap (λ t. cond t (ring D b) (ring D f)) e) split refl on-b,
+        side-rev D linked (D-once m u v c φ draws) s f in-f (ap (λ t. cond t (ring D f) (ring D b)) e)
+            (ap (λ t. cond t (ring D b) (ring D f)) e) split refl on-b,
       )
       go false e = inr (
-        side-rev D linked (D-once m u v c φ draws) s b in-b (ap (λ t. cond t (ring D f) (ring D b)) e) (ap (λ t. cond t (ring D b) (ring D f)) e) other-way on-b refl,
-        side-x D linked (D-once m u v c φ draws) s b in-b (ap (λ t. cond t (ring D f) (ring D b)) e) (ap (λ t. cond t (ring D b) (ring D f)) e) other-way on-b refl,
+        side-rev D linked (D-once m u v c φ draws) s b in-b (ap (λ t. cond t (ring D f) (ring D b)) e)
+            (ap (λ t. cond t (ring D b) (ring D f)) e) other-way on-b refl,
+        side-x D linked (D-once m u v c φ draws) s b in-b (ap (λ t. cond t (ring D f) (ring D b)) e)
+            (ap (λ t. cond t (ring D b) (ring D f)) e) other-way on-b refl,
       )
         where
           other-way : among (ring D b) f ≡ false
@@ -120,17 +132,28 @@ module _ (news : Bool) (m : Map) (u v : ℕ) (c : Curve) (φ : ℕ) (draws : Dra
   new-keeps = go isLeft refl
     where
       go : (t : Bool) → isLeft ≡ t → (d : Dart) → List·Memᴰ d (directed D) → new (next D d) ≡ new d
-      go true e = side-keeps D linked (D-once m u v c φ draws) s f in-f (ap (λ t. cond t (ring D f) (ring D b)) e) (ap (λ t. cond t (ring D b) (ring D f)) e)
-      go false e = side-keeps D linked (D-once m u v c φ draws) s b in-b (ap (λ t. cond t (ring D f) (ring D b)) e) (ap (λ t. cond t (ring D b) (ring D f)) e)
+      go true e = side-keeps D linked (D-once m u v c φ draws) s f in-f (ap (λ t. cond t (ring D f) (ring D b)) e)
+          (ap (λ t. cond t (ring D b) (ring D f)) e)
+      go false e = side-keeps D linked (D-once m u v c φ draws) s b in-b (ap (λ t. cond t (ring D f) (ring D b)) e)
+          (ap (λ t. cond t (ring D b) (ring D f)) e)
 
   new-apart : (new f ≡ new b) → ⊥
-  new-apart p = elim two-sides [ inl q ↦ shared .differ (sym (q .0) ∙ p ∙ q .1) | inr q ↦ shared .differ (sym (q .1) ∙ sym p ∙ q .0) ]
+  new-apart p = elim two-sides [
+    | inl q ↦ shared .differ (sym (q .0) ∙ p ∙ q .1)
+    | inr q ↦ shared .differ
+        (sym (q .1) ∙ sym p ∙ q .0)
+  ]
 
   -- an old directed edge had the face φ and comes to one of the sides, or bears what it bore
-  old-side : (d : Dart) → List·Memᴰ d (directed m) → ((bears m d ≡ φ) × ((new d ≡ s .ref) ⊎ (new d ≡ s .other))) ⊎ ((bears m d ≢ φ) × (new d ≡ bears m d))
+  old-side : (d : Dart) → List·Memᴰ d (directed m) → ((bears m d ≡ φ) × ((new d ≡ s .ref) ⊎ (new d ≡ s .other)))
+      ⊎ ((bears m d ≢ φ) × (new d ≡ bears m d))
   old-side d k = elim (equal? (bears m d) φ) [
     | inl p ↦ inl (p, side-new D s d (D-kept m u v c φ draws d k ∙ p ∙ sym on-f))
-    | inr ne ↦ inr (ne, side-old D s d (λ p. ne (sym (D-kept m u v c φ draws d k) ∙ p ∙ on-f)) ∙ D-kept m u v c φ draws d k)
+    | inr ne ↦ inr (
+      ne,
+      side-old D s d (λ p. ne (sym (D-kept m u v c φ draws d k) ∙ p ∙ on-f))
+          ∙ D-kept m u v c φ draws d k,
+    )
   ]
 
   -- both new numbers go back to the old face
@@ -143,11 +166,16 @@ module _ (news : Bool) (m : Map) (u v : ℕ) (c : Curve) (φ : ℕ) (draws : Dra
 
   back-other : back (s .other) ≡ φ
   unfolding back
-  back-other = ap (λ x. cond x φ (s .other)) (or-right (same (s .other) (s .ref)) (same (s .other) (s .other)) (same-refl (s .other)))
+  back-other = ap (λ x. cond x φ (s .other))
+      (or-right (same (s .other) (s .ref)) (same (s .other) (s .other)) (same-refl (s .other)))
 
   -- an old face is none of them
   not-new : (g z : ℕ) → (z ≡ old) ⊎ (D .nextFace ≤ z) → List·Memᴰ g (m .faces) → g ≢ φ → same g z ≡ false
-  not-new g z h k ne = same-false g z (λ p. elim h [ inl q ↦ ne (p ∙ q ∙ on-f) | inr q ↦ let r = faced .below g k in let t = next-face in omega arith ])
+  not-new g z h k ne = same-false g z (λ p. elim h [
+    | inl q ↦ ne (p ∙ q ∙ on-f)
+    | inr q ↦ let r = faced .below g k in
+        let t = next-face in omega arith
+  ])
 
   back-old : (g : ℕ) → List·Memᴰ g (m .faces) → g ≢ φ → back g ≡ g
   unfolding back
@@ -159,7 +187,11 @@ module _ (news : Bool) (m : Map) (u v : ℕ) (c : Curve) (φ : ℕ) (draws : Dra
       | inl q ↦ elim (q .1) [ inl p ↦ ap back p ∙ back-ref ∙ sym (q .0) | inr p ↦ ap back p ∙ back-other ∙ sym (q .0) ]
       | inr q ↦ ap back (q .1) ∙ back-old (bears m d) (faced .borne d k) (q .0)
     ];
-    sides = elim two-sides [ inl q ↦ ap back (q .0) ∙ back-ref ∙ sym back-other ∙ sym (ap back (q .1)) | inr q ↦ ap back (q .0) ∙ back-other ∙ sym back-ref ∙ sym (ap back (q .1)) ];
+    sides = elim two-sides [
+      | inl q ↦ ap back (q .0) ∙ back-ref ∙ sym back-other
+          ∙ sym (ap back (q .1))
+      | inr q ↦ ap back (q .0) ∙ back-other ∙ sym back-ref ∙ sym (ap back (q .1))
+    ];
   }
 
   -- ---- the rows after
@@ -169,7 +201,8 @@ module _ (news : Bool) (m : Map) (u v : ℕ) (c : Curve) (φ : ℕ) (draws : Dra
   X-edges = refl
 
   X-bears : (d : Dart) → List·Memᴰ d (directed D) → bears X d ≡ new d
-  X-bears = sides-bears D X (λ e. new (fwd (e .number))) (λ e. new (bwd (e .number))) X-edges new (λ e k. refl) (λ e k. refl)
+  X-bears = sides-bears D X (λ e. new (fwd (e .number))) (λ e. new (bwd (e .number))) X-edges new (λ e k. refl)
+      (λ e k. refl)
 
   X-faces : X .faces ≡ facesOf goes old (D .nextFace) (m .faces)
   unfolding splitFace sharedOut
@@ -177,9 +210,14 @@ module _ (news : Bool) (m : Map) (u v : ℕ) (c : Curve) (φ : ℕ) (draws : Dra
 
   X-nodes : nodeNumbers X ≡ nodeNumbers D
   unfolding splitFace sharedOut
-  X-nodes = map-map (λ (n : Node). n .number) (λ n. sideOfNode D s n (n .face)) (D .nodes) ∙ map-cong _ (λ (n : Node). n .number) (D .nodes) (λ n k. side-number D s n (n .face))
+  X-nodes = map-map (λ (n : Node). n .number) (λ n. sideOfNode D s n (n .face)) (D .nodes)
+      ∙ map-cong _ (λ (n : Node). n .number) (D .nodes) (λ n k. side-number D s n (n .face))
 
-  pub split-planar : hasNode m u ≡ true → hasNode m v ≡ true → InPlane m → InPlane (splitFace news (m .nextEdge) (drawn u v c φ m))
-  split-planar has-u has-v o = subst (λ (k : ℕ). Planar (nodeNumbers X) (arcs X) (leaves X) (next X) (bears X) k) (sym (ap length X-faces ∙ shared .count))
+  pub split-planar : hasNode m u ≡ true → hasNode m v ≡ true → InPlane m
+      → InPlane (splitFace news (m .nextEdge) (drawn u v c φ m))
+  split-planar has-u has-v o = subst (λ (k : ℕ). Planar (nodeNumbers X) (arcs X) (leaves X) (next X) (bears X) k)
+      (sym (ap length X-faces ∙ shared .count))
       (subst (λ (ns : List ℕ). Planar ns (arcs X) (leaves X) (next X) (bears X) (suc (length (m .faces)))) (sym X-nodes)
-      (sides-planar D X (λ e. new (fwd (e .number))) (λ e. new (bwd (e .number))) X-edges X-bears (D-split m u v c φ draws o (number-has nodeNumber noNode (m .nodes) u has-u) (number-has nodeNumber noNode (m .nodes) v has-v) new back grown new-apart new-keeps)))
+      (sides-planar D X (λ e. new (fwd (e .number))) (λ e. new (bwd (e .number))) X-edges X-bears
+      (D-split m u v c φ draws o (number-has nodeNumber noNode (m .nodes) u has-u)
+      (number-has nodeNumber noNode (m .nodes) v has-v) new back grown new-apart new-keeps)))

@@ -2,7 +2,7 @@
 use mathlib.Core.Path.{_≡_, refl, sym, ap, _∙_}
 use mathlib.Core.Bool.{true, false, not}
 use mathlib.Core.List.{List, [], _∷_, map, List·Memᴰ, List·Memᴰ·head, List·Memᴰ·tail, Memᴰ·of-map, Memᴰ·cast}
-use Rattle.lists.specs.Scans.{any, count}
+use Rattle.lists.specs.Scans.{anyOf, countOf}
 use Rattle.lists.specs.Members.{Distinct}
 use Rattle.lists.proofs.Bools.{same-eq, not-true, and-is}
 use Rattle.lists.proofs.Counts.{count-perm}
@@ -20,7 +20,8 @@ use Rattle.planar_maps.proofs.Hooks.{distinct-darts}
 use Rattle.rotation.proofs.Ways.{alike-says}
 use Rattle.map.specs.Rows.{Edge, Map}
 use Rattle.map.specs.Darts.{arcs, directed, leaves, next, bears, departures, way}
-use Rattle.map.specs.Form.{numbers, named, curveFits, waysDiffer, departuresDiffer, linksOnce, linksMeet, ringsBearOne, formed}
+use Rattle.map.specs.Form.{numbers, named, curveFits, waysDiffer, departuresDiffer, linksOnce, linksMeet, ringsBearOne}
+use Rattle.map.specs.Form.{formed}
 use Rattle.map.proofs.Scans.{each-all, any-some}
 use Rattle.grown.specs.Good.{Good}
 use Rattle.grown.proofs.Apart.{curve-good, apart}
@@ -30,7 +31,7 @@ use Rattle.grown.proofs.Apart.{curve-good, apart}
 module _ (m : Map) (l : Linked (arcs m) (leaves m) (next m) (bears m)) where
   pub linked-once : Distinct (nums (arcs m)) → linksOnce m ≡ true
   unfolding linksOnce
-  linked-once dis = each-all _ (directed m) (λ d k. same-eq (count (sameDart d) (map (next m) (directed m))) 1
+  linked-once dis = each-all _ (directed m) (λ d k. same-eq (countOf (sameDart d) (map (next m) (directed m))) 1
       (count-perm (sameDart d) (l .perm) ∙ dart-once (directed m) (distinct-darts (arcs m) dis) k))
 
   linked-meet : linksMeet m ≡ true
@@ -44,32 +45,43 @@ module _ (m : Map) (l : Linked (arcs m) (leaves m) (next m) (bears m)) where
 -- ---- a good map is formed
 
 -- departures that are one where their directions are have different directions
-ways-differ : (way : Dart → Way) (ds : List Dart) → Distinct ds → ((d c : Dart) → List·Memᴰ d ds → List·Memᴰ c ds → sameWay (way d) (way c) ≡ true → d ≡ c) → waysDiffer (map way ds) ≡ true
+ways-differ : (way : Dart → Way) (ds : List Dart) → Distinct ds
+    → ((d c : Dart) → List·Memᴰ d ds → List·Memᴰ c ds → sameWay (way d) (way c) ≡ true → d ≡ c)
+    → waysDiffer (map way ds) ≡ true
 ways-differ way [] dis h = refl
-ways-differ way (d ∷ ds) dis h = and-is (ap not none) (ways-differ way ds (dis .1) (λ x y j k. h x y (List·Memᴰ·tail j) (List·Memᴰ·tail k)))
+ways-differ way (d ∷ ds) dis h = and-is (ap not none)
+    (ways-differ way ds (dis .1) (λ x y j k. h x y (List·Memᴰ·tail j) (List·Memᴰ·tail k)))
   where
     taken : (v : Way) × List·Memᴰ v (map way ds) × (sameWay (way d) v ≡ true) → ⊥
     taken x =
         let c = Memᴰ·of-map way ds (x .1) in
-        dis .0 (Memᴰ·cast (h d (c .0) (List·Memᴰ·head refl) (List·Memᴰ·tail (c .1)) (ap (sameWay (way d)) (c .2) ∙ x .2)) (c .1))
+        dis .0 (Memᴰ·cast (h d (c .0) (List·Memᴰ·head refl) (List·Memᴰ·tail (c .1))
+        (ap (sameWay (way d)) (c .2) ∙ x .2)) (c .1))
 
-    none : any (sameWay (way d)) (map way ds) ≡ false
-    none = not-true (any (sameWay (way d)) (map way ds)) (λ e. taken (any-some (sameWay (way d)) (map way ds) e))
+    none : anyOf (sameWay (way d)) (map way ds) ≡ false
+    none = not-true (anyOf (sameWay (way d)) (map way ds)) (λ e. taken (any-some (sameWay (way d)) (map way ds) e))
 
 module _ (m : Map) (g : Good m) where
   fits-curve : (e : Edge) → List·Memᴰ e (m .edges) → curveFits m e ≡ true
   fits-curve e k =
       let a = g .surveyed .anchored e k in
-      and-is (and-is (ap (samePoint (e .curve .first)) (sym (a .start)) ∙ samePoint-refl (e .curve .first)) (ap (samePoint (lastPoint (e .curve))) (sym (a .end)) ∙ samePoint-refl (lastPoint (e .curve))))
+      and-is (and-is (ap (samePoint (e .curve .first)) (sym (a .start)) ∙ samePoint-refl (e .curve .first))
+      (ap (samePoint (lastPoint (e .curve))) (sym (a .end)) ∙ samePoint-refl (lastPoint (e .curve))))
       (neighboursDiffer-iff (e .curve) .1 (curve-good m (g .surveyed) e k .differ))
 
   differ : departuresDiffer m ≡ true
   unfolding departuresDiffer departures
-  differ = each-all _ (m .nodes) (λ n k. ways-differ (way m) (departures m (n .number)) (distinct-keep _ (directed m) (distinct-darts (arcs m) (g .woven .planar .edges-once))) (λ d c i j e. apart m (g .surveyed) (n .number) d c i j (alike-says (way m d) (way m c) e)))
+  differ = each-all _ (m .nodes) (λ n k. ways-differ (way m) (departures m (n .number))
+      (distinct-keep _ (directed m) (distinct-darts (arcs m) (g .woven .planar .edges-once)))
+      (λ d c i j e. apart m (g .surveyed) (n .number) d c i j (alike-says (way m d) (way m c) e)))
 
   abbrev linked : Linked (arcs m) (leaves m) (next m) (bears m)
   linked = g .woven .planar .linked
 
   pub good-formed : formed m ≡ true
   unfolding formed
-  good-formed = and-is (and-is (and-is (and-is (and-is (and-is (and-is (g .numbered .numbers) (g .numbered .named)) (each-all (curveFits m) (m .edges) fits-curve)) differ) (g .numbered .marked)) (linked-once m linked (g .woven .planar .edges-once))) (linked-meet m linked)) (linked-bear m linked)
+  good-formed =
+      and-is (and-is (and-is (and-is (and-is
+      (and-is (and-is (g .numbered .numbers) (g .numbered .named))
+      (each-all (curveFits m) (m .edges) fits-curve)) differ) (g .numbered .marked))
+      (linked-once m linked (g .woven .planar .edges-once))) (linked-meet m linked)) (linked-bear m linked)

@@ -1,4 +1,5 @@
--- A ticket that nothing turns down leaves a good map good, for all fourteen kinds; the empty map is good. Assumes nothing.
+-- A ticket that nothing turns down leaves a good map good, for all fourteen kinds; the empty map is good. Assumes
+-- nothing.
 use mathlib.Core.Path.{_≡_, refl}
 use mathlib.Core.Bool.{true, false}
 use mathlib.Core.List.{List·Memᴰ·not-nil, List·Memᴰ·eq-of-singleton}
@@ -8,14 +9,18 @@ use Rattle.curves.specs.Curves.{point, curveOf}
 use Rattle.planar_maps.proofs.Moves.{planar-empty}
 use Rattle.map.specs.Rows.{Map, Sizes, emptyMap}
 use Rattle.map.specs.Darts.{leaves, next, bears}
-use Rattle.map.specs.Tickets.{Ticket, AddIsoNode, MoveIsoNode, RemoveIsoNode, AddIsoEdge, RemoveIsoEdge, ChangeEdgeGeom, NewEdgesSplit, ModEdgeSplit, NewEdgeHeal, ModEdgeHeal, AddEdgeNewFaces, AddEdgeModFace, RemEdgeNewFace, RemEdgeModFace}
+use Rattle.map.specs.Tickets.{Ticket, AddIsoNode, MoveIsoNode, RemoveIsoNode, AddIsoEdge, RemoveIsoEdge, ChangeEdgeGeom}
+use Rattle.map.specs.Tickets.{NewEdgesSplit, ModEdgeSplit, NewEdgeHeal, ModEdgeHeal, AddEdgeNewFaces, AddEdgeModFace}
+use Rattle.map.specs.Tickets.{RemEdgeNewFace, RemEdgeModFace}
 use Rattle.map.specs.Reasons.{firstReason, reasons}
 use Rattle.map.specs.Ticket.{carried}
-use Rattle.map.specs.Opened.{opened}
+use Rattle.map.proofs.Opened.{opened}
 use Rattle.grown.specs.Good.{Good, Numbered, Woven, Surveyed}
-use Rattle.grown.proofs.Reasons.{add-node, move-node, remove-node, add-lone, remove-lone, change, split-new, split-mod, heal-new, heal-mod, add-new, add-mod, remove-new, remove-mod}
+use Rattle.grown.proofs.Reasons.{add-node, move-node, remove-node, add-lone, remove-lone, change, split-new}
+use Rattle.grown.proofs.Reasons.{split-mod, heal-new, heal-mod, add-new, add-mod, remove-new, remove-mod}
 use Rattle.grown.proofs.Carried.{ranked-kept, numbered-kept}
-use Rattle.grown.proofs.CurvesKinds.{surveyed-1, surveyed-2, surveyed-3, surveyed-4, surveyed-5, surveyed-6, surveyed-7, surveyed-8, surveyed-add, surveyed-remove}
+use Rattle.grown.proofs.CurvesKinds.{surveyed-1, surveyed-2, surveyed-3, surveyed-4, surveyed-5, surveyed-6}
+use Rattle.grown.proofs.CurvesKinds.{surveyed-7, surveyed-8, surveyed-add, surveyed-remove}
 use Rattle.grown.proofs.CurvesHeal.{surveyed-9, surveyed-10}
 use Rattle.grown.proofs.RowChanges.{InPlane}
 use Rattle.grown.proofs.LawfulForm.{Lawful, good-lawful}
@@ -119,7 +124,16 @@ module _ (s : Sizes) (m : Map) (g : Good m) where
 
 empty-numbered : Numbered emptyMap
 unfolding opened
-empty-numbered = record { numbers = refl; named = refl; marked = refl; first-node = omega arith; first-edge = omega arith; next-node = omega arith; next-edge = omega arith; next-face = omega arith }
+empty-numbered = record {
+  numbers = refl;
+  named = refl;
+  marked = refl;
+  first-node = omega arith;
+  first-edge = omega arith;
+  next-node = omega arith;
+  next-edge = omega arith;
+  next-face = omega arith;
+}
 
 pub empty-good : Good emptyMap
 empty-good = record {

@@ -1,5 +1,6 @@
--- Two maps: one with the edge h from s to t, the other with it in two halves that meet at the node n. c runs along the first half and d along the second, both in the
--- direction of h; either may be an edge the other way round. What is said of the one map is said of the other. Assumes nothing.
+-- Two maps: one with the edge h from s to t, the other with it in two halves that meet at the node n. c runs along the
+-- first half and d along the second, both in the direction of h; either may be an edge the other way round. What is
+-- said of the one map is said of the other. Assumes nothing.
 use mathlib.Core.Path.{_≡_, refl, sym, ap, _∙_, subst}
 use mathlib.Core.Logic.{_⊎_, inl, inr}
 use mathlib.Core.Bool.{true}
@@ -31,7 +32,8 @@ whole h s t r = darts (arc h s t ∷ r)
 abbrev pub halved : Dart → Dart → ℕ → ℕ → ℕ → List Arc → List Dart
 halved c d s n t r = darts (runs c s n ∷ runs d n t ∷ r)
 
-pub record Halved (h : ℕ) (c d : Dart) (s n t : ℕ) (r : List Arc) (tail tail′ : Dart → ℕ) (next next′ : Dart → Dart) (face face′ : Dart → ℕ) (way way′ : Dart → Way) : Type 0 where
+pub record Halved (h : ℕ) (c d : Dart) (s n t : ℕ) (r : List Arc) (tail tail′ : Dart → ℕ) (next next′ : Dart → Dart)
+    (face face′ : Dart → ℕ) (way way′ : Dart → Way) : Type 0 where
   -- numbers stand once
   pub fresh : List·Memᴰ h (nums r) → ⊥
   pub once : Distinct (c .edge ∷ d .edge ∷ nums r)
@@ -51,14 +53,18 @@ pub record Halved (h : ℕ) (c d : Dart) (s n t : ℕ) (r : List Arc) (tail tail
   pub face-c : face′ (rev c) ≡ face (bwd h)
   pub face-d : face′ d ≡ face (fwd h)
 
-module _ (h : ℕ) (c d : Dart) (s n t : ℕ) (r : List Arc) (fresh : List·Memᴰ h (nums r) → ⊥) (once : Distinct (c .edge ∷ d .edge ∷ nums r)) where
+module _ (h : ℕ) (c d : Dart) (s n t : ℕ) (r : List Arc) (fresh : List·Memᴰ h (nums r) → ⊥)
+    (once : Distinct (c .edge ∷ d .edge ∷ nums r)) where
   -- the darts of the whole map, case by case
-  pub each-whole : (p : Dart → Type 0) → p (fwd h) → p (bwd h) → ((z : Dart) → List·Memᴰ z (darts r) → p z) → (z : Dart) → List·Memᴰ z (whole h s t r) → p z
+  pub each-whole : (p : Dart → Type 0) → p (fwd h) → p (bwd h) → ((z : Dart) → List·Memᴰ z (darts r) → p z)
+      → (z : Dart) → List·Memᴰ z (whole h s t r) → p z
   each-whole p pf pb po = each-cons {p = p} pf (each-cons {p = p} pb po)
 
   -- and of the halved one
-  pub each-halved : (p : Dart → Type 0) → p c → p (rev c) → p d → p (rev d) → ((z : Dart) → List·Memᴰ z (darts r) → p z) → (z : Dart) → List·Memᴰ z (halved c d s n t r) → p z
-  each-halved p pc pc′ pd pd′ po = each-cons {p = p} (fore c pc pc′) (each-cons {p = p} (aft c pc pc′) (each-cons {p = p} (fore d pd pd′) (each-cons {p = p} (aft d pd pd′) po)))
+  pub each-halved : (p : Dart → Type 0) → p c → p (rev c) → p d → p (rev d)
+      → ((z : Dart) → List·Memᴰ z (darts r) → p z) → (z : Dart) → List·Memᴰ z (halved c d s n t r) → p z
+  each-halved p pc pc′ pd pd′ po = each-cons {p = p} (fore c pc pc′)
+      (each-cons {p = p} (aft c pc pc′) (each-cons {p = p} (fore d pd pd′) (each-cons {p = p} (aft d pd pd′) po)))
     where
       fore : (x : Dart) → p x → p (rev x) → p (fwd (x .edge))
       fore x a b = elim (ways x) [ inl e ↦ subst p e a | inr e ↦ subst p (ap rev e) b ]
@@ -98,14 +104,19 @@ module _ (h : ℕ) (c d : Dart) (s n t : ℕ) (r : List Arc) (fresh : List·Mem�
 
   -- what departs as f arrives, the other way round, as g
   pub turned : (z : Dart) → List·Memᴰ z (whole h s t r) → rev (departs h c d z) ≡ arrives h c d (rev z)
-  turned = each-whole (λ z. rev (departs h c d z) ≡ arrives h c d (rev z)) (ap rev f-fwd ∙ sym g-bwd) (ap rev f-bwd ∙ rev-rev d ∙ sym g-fwd) (λ z m. ap rev (f-old z m) ∙ sym (g-old (rev z) (rev-in r m)))
+  turned = each-whole (λ z. rev (departs h c d z) ≡ arrives h c d (rev z)) (ap rev f-fwd ∙ sym g-bwd)
+      (ap rev f-bwd ∙ rev-rev d ∙ sym g-fwd) (λ z m. ap rev (f-old z m) ∙ sym (g-old (rev z) (rev-in r m)))
 
   -- where the halves' darts come from
   in-c : List·Memᴰ c (halved c d s n t r)
   in-c = elim (ways c) [ inl e ↦ List·Memᴰ·head e | inr e ↦ List·Memᴰ·tail (List·Memᴰ·head e) ]
 
   in-d : List·Memᴰ d (halved c d s n t r)
-  in-d = elim (ways d) [ inl e ↦ List·Memᴰ·tail (List·Memᴰ·tail (List·Memᴰ·head e)) | inr e ↦ List·Memᴰ·tail (List·Memᴰ·tail (List·Memᴰ·tail (List·Memᴰ·head e))) ]
+  in-d = elim (ways d) [
+    | inl e ↦ List·Memᴰ·tail (List·Memᴰ·tail (List·Memᴰ·head e))
+    | inr e ↦ List·Memᴰ·tail
+        (List·Memᴰ·tail (List·Memᴰ·tail (List·Memᴰ·head e)))
+  ]
 
   rev-halved : {z : Dart} → List·Memᴰ z (halved c d s n t r) → List·Memᴰ (rev z) (halved c d s n t r)
   rev-halved m = rev-in (runs c s n ∷ runs d n t ∷ r) m
@@ -117,31 +128,45 @@ module _ (h : ℕ) (c d : Dart) (s n t : ℕ) (r : List Arc) (fresh : List·Mem�
   joint-d = in-d
 
   pub f-in : (z : Dart) → List·Memᴰ z (whole h s t r) → List·Memᴰ (departs h c d z) (halved c d s n t r)
-  f-in = each-whole (λ z. List·Memᴰ (departs h c d z) (halved c d s n t r)) (Memᴰ·cast f-fwd in-c) (Memᴰ·cast f-bwd (rev-halved in-d)) (λ z m. Memᴰ·cast (f-old z m) (List·Memᴰ·tail (List·Memᴰ·tail (List·Memᴰ·tail (List·Memᴰ·tail m)))))
+  f-in = each-whole (λ z. List·Memᴰ (departs h c d z) (halved c d s n t r)) (Memᴰ·cast f-fwd in-c)
+      (Memᴰ·cast f-bwd (rev-halved in-d))
+      (λ z m. Memᴰ·cast (f-old z m) (List·Memᴰ·tail (List·Memᴰ·tail (List·Memᴰ·tail (List·Memᴰ·tail m)))))
 
   Kind : Dart → Type 0
   Kind z = ((z ≡ rev c) ⊎ (z ≡ d)) ⊎ ((w : Dart) × List·Memᴰ w (whole h s t r) × (departs h c d w ≡ z))
 
   -- two departures of the joint, and the others
-  pub kind : (z : Dart) → List·Memᴰ z (halved c d s n t r) → ((z ≡ rev c) ⊎ (z ≡ d)) ⊎ ((w : Dart) × List·Memᴰ w (whole h s t r) × (departs h c d w ≡ z))
+  pub kind : (z : Dart) → List·Memᴰ z (halved c d s n t r) → ((z ≡ rev c) ⊎ (z ≡ d))
+      ⊎ ((w : Dart) × List·Memᴰ w (whole h s t r) × (departs h c d w ≡ z))
   unfolding Kind
-  kind = each-halved Kind (inr (fwd h, List·Memᴰ·head refl, f-fwd)) (inl (inl refl)) (inl (inr refl)) (inr (bwd h, List·Memᴰ·tail (List·Memᴰ·head refl), f-bwd)) (λ z m. inr (z, List·Memᴰ·tail (List·Memᴰ·tail m), f-old z m))
+  kind = each-halved Kind (inr (fwd h, List·Memᴰ·head refl, f-fwd)) (inl (inl refl)) (inl (inr refl))
+      (inr (bwd h, List·Memᴰ·tail (List·Memᴰ·head refl), f-bwd))
+      (λ z m. inr (z, List·Memᴰ·tail (List·Memᴰ·tail m), f-old z m))
 
   numbers : {x y : Dart} → x ≡ y → x .edge ≡ y .edge
   numbers e = ap (λ (d : Dart). d .edge) e
 
   -- no two depart as one
-  pub f-one : (z w : Dart) → List·Memᴰ z (whole h s t r) → List·Memᴰ w (whole h s t r) → departs h c d z ≡ departs h c d w → z ≡ w
-  f-one z w m k = each-whole (λ z. departs h c d z ≡ departs h c d w → z ≡ w) (first w k) (second w k) (λ z j. third z j w k) z m
+  pub f-one : (z w : Dart) → List·Memᴰ z (whole h s t r) → List·Memᴰ w (whole h s t r) → departs h c d z
+      ≡ departs h c d w → z ≡ w
+  f-one z w m k = each-whole (λ z. departs h c d z ≡ departs h c d w → z ≡ w) (first w k) (second w k)
+      (λ z j. third z j w k) z m
     where
       first : (w : Dart) → List·Memᴰ w (whole h s t r) → departs h c d (fwd h) ≡ departs h c d w → fwd h ≡ w
-      first = each-whole (λ w. departs h c d (fwd h) ≡ departs h c d w → fwd h ≡ w) (λ e. refl) (λ e. absurd (c≢d (numbers (sym f-fwd ∙ e ∙ f-bwd)))) (λ z j e. absurd (old-c j (numbers (sym (f-old z j) ∙ sym e ∙ f-fwd))))
+      first = each-whole (λ w. departs h c d (fwd h) ≡ departs h c d w → fwd h ≡ w) (λ e. refl)
+          (λ e. absurd (c≢d (numbers (sym f-fwd ∙ e ∙ f-bwd))))
+          (λ z j e. absurd (old-c j (numbers (sym (f-old z j) ∙ sym e ∙ f-fwd))))
 
       second : (w : Dart) → List·Memᴰ w (whole h s t r) → departs h c d (bwd h) ≡ departs h c d w → bwd h ≡ w
-      second = each-whole (λ w. departs h c d (bwd h) ≡ departs h c d w → bwd h ≡ w) (λ e. absurd (c≢d (numbers (sym f-fwd ∙ sym e ∙ f-bwd)))) (λ e. refl) (λ z j e. absurd (old-d j (numbers (sym (f-old z j) ∙ sym e ∙ f-bwd))))
+      second = each-whole (λ w. departs h c d (bwd h) ≡ departs h c d w → bwd h ≡ w)
+          (λ e. absurd (c≢d (numbers (sym f-fwd ∙ sym e ∙ f-bwd)))) (λ e. refl)
+          (λ z j e. absurd (old-d j (numbers (sym (f-old z j) ∙ sym e ∙ f-bwd))))
 
-      third : (z : Dart) → List·Memᴰ z (darts r) → (w : Dart) → List·Memᴰ w (whole h s t r) → departs h c d z ≡ departs h c d w → z ≡ w
-      third z j = each-whole (λ w. departs h c d z ≡ departs h c d w → z ≡ w) (λ e. absurd (old-c j (numbers (sym (f-old z j) ∙ e ∙ f-fwd)))) (λ e. absurd (old-d j (numbers (sym (f-old z j) ∙ e ∙ f-bwd)))) (λ w k e. sym (f-old z j) ∙ e ∙ f-old w k)
+      third : (z : Dart) → List·Memᴰ z (darts r) → (w : Dart) → List·Memᴰ w (whole h s t r) → departs h c d z
+          ≡ departs h c d w → z ≡ w
+      third z j = each-whole (λ w. departs h c d z ≡ departs h c d w → z ≡ w)
+          (λ e. absurd (old-c j (numbers (sym (f-old z j) ∙ e ∙ f-fwd))))
+          (λ e. absurd (old-d j (numbers (sym (f-old z j) ∙ e ∙ f-bwd)))) (λ w k e. sym (f-old z j) ∙ e ∙ f-old w k)
 
   pub joint-differs : (rev c ≡ d) → ⊥
   joint-differs e = c≢d (numbers e)

@@ -1,4 +1,5 @@
--- The rows of a heal: the new names of departures and the healed row. The arc of a row by one of its directed edges. Assumes nothing.
+-- The rows of a heal: the new names of departures and the healed row. The arc of a row by one of its directed edges.
+-- Assumes nothing.
 use mathlib.Core.Path.{_≡_, refl, sym, ap, ap₂, _∙_}
 use mathlib.Core.Bool.{Bool, true, false, not, cond}
 use mathlib.Core.List.{map, map-map, List·Memᴰ}
@@ -8,7 +9,8 @@ use Rattle.planar_maps.specs.Map.{Dart, fwd, bwd, rev}
 use Rattle.map.specs.Rows.{Edge, Map, edge, hasEdge}
 use Rattle.map.specs.Darts.{directed, leaves, next, course}
 use Rattle.map.specs.Links.{withLinks, instead, redirect}
-use Rattle.grown.proofs.Readings.{arcOf, tailIn, leaves-row, edge-row, dart-has, redirect-next, redirect-relinked}
+use Rattle.grown.proofs.Readings.{arcOf, tailIn, leaves-row, edge-row, dart-has, redirect-next}
+use Rattle.grown.proofs.Readings.{redirect-relinked}
 use Rattle.grown.proofs.Renumber.{runs}
 
 -- the new names of departures
@@ -48,13 +50,20 @@ healedRow m e h c d =
     }
 
 -- the arc of a row, by one of its directed edges
-pub runs-row : (m : Map) (z : Dart) → List·Memᴰ z (directed m) → arcOf (edge m (z .edge)) ≡ runs z (leaves m z) (leaves m (rev z))
-runs-row m z k = λ i. record { num = edge-row m (z .edge) (dart-has m k) .1 i; from = (at-start (z .back) ∙ ap₂ (λ x y. cond (z .back) y x) (sym (leaves-row m z)) (sym (leaves-row m (rev z)))) i; to = (at-end (z .back) ∙ ap₂ (λ x y. cond (z .back) x y) (sym (leaves-row m z)) (sym (leaves-row m (rev z)))) i }
+pub runs-row : (m : Map) (z : Dart) → List·Memᴰ z (directed m) → arcOf (edge m (z .edge))
+    ≡ runs z (leaves m z) (leaves m (rev z))
+runs-row m z k = λ i. record {
+  num = edge-row m (z .edge) (dart-has m k) .1 i;
+  from = (at-start (z .back) ∙ ap₂ (λ x y. cond (z .back) y x) (sym (leaves-row m z)) (sym (leaves-row m (rev z)))) i;
+  to = (at-end (z .back) ∙ ap₂ (λ x y. cond (z .back) x y) (sym (leaves-row m z)) (sym (leaves-row m (rev z)))) i;
+}
   where
-    at-start : (b : Bool) → edge m (z .edge) .start ≡ cond b (tailIn (not b) (edge m (z .edge))) (tailIn b (edge m (z .edge)))
+    at-start : (b : Bool) → edge m (z .edge) .start
+        ≡ cond b (tailIn (not b) (edge m (z .edge))) (tailIn b (edge m (z .edge)))
     at-start true = refl
     at-start false = refl
 
-    at-end : (b : Bool) → edge m (z .edge) .end ≡ cond b (tailIn b (edge m (z .edge))) (tailIn (not b) (edge m (z .edge)))
+    at-end : (b : Bool) → edge m (z .edge) .end
+        ≡ cond b (tailIn b (edge m (z .edge))) (tailIn (not b) (edge m (z .edge)))
     at-end true = refl
     at-end false = refl

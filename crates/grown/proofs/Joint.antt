@@ -38,7 +38,8 @@ pub record Seamed (m : Map) (e f n : ℕ) (c d : Dart) : Type 0 where
   pub to : leaves m (rev d) ≢ n
 
 -- a list of two elements has no third
-third : {A : Type 0} (l : List A) → length l ≡ 2 → {x y z : A} → x ≢ y → List·Memᴰ x l → List·Memᴰ y l → List·Memᴰ z l → (z ≡ x) ⊎ (z ≡ y)
+third : {A : Type 0} (l : List A) → length l ≡ 2 → {x y z : A} → x ≢ y → List·Memᴰ x l → List·Memᴰ y l → List·Memᴰ z l
+    → (z ≡ x) ⊎ (z ≡ y)
 third [] h n i j k = absurd (List·Memᴰ·not-nil i)
 third (a ∷ []) h n i j k = absurd (n (List·Memᴰ·eq-of-singleton i ∙ sym (List·Memᴰ·eq-of-singleton j)))
 third (a ∷ b ∷ []) h {x} {y} {z} n i j k = go (one i) (one j) (one k)
@@ -68,14 +69,17 @@ module _ (m : Map) (e f : ℕ) (h : isSome (joint m e f) ≡ true) where
   unfolding sharedNodes
   shared = (go (List·Memᴰ·cases-cons (k .0)), other (or-true _ _ (k .1)))
     where
-      k : List·Memᴰ at (edge m e .end ∷ edge m e .start ∷ []) × (same at (edge m f .start) || same at (edge m f .end) ≡ true)
-      k = keep-in (λ n. same n (edge m f .start) || same n (edge m f .end)) (edge m e .end ∷ edge m e .start ∷ []) (found-joint .0)
+      k : List·Memᴰ at (edge m e .end ∷ edge m e .start ∷ [])
+          × (same at (edge m f .start) || same at (edge m f .end) ≡ true)
+      k = keep-in (λ n. same n (edge m f .start) || same n (edge m f .end)) (edge m e .end ∷ edge m e .start ∷ [])
+          (found-joint .0)
 
       go : (at ≡ edge m e .end) ⊎ List·Memᴰ at (edge m e .start ∷ []) → (at ≡ edge m e .end) ⊎ (at ≡ edge m e .start)
       go (inl q) = inl q
       go (inr q) = inr (List·Memᴰ·eq-of-singleton q)
 
-      other : (same at (edge m f .start) ≡ true) ⊎ (same at (edge m f .end) ≡ true) → (at ≡ edge m f .start) ⊎ (at ≡ edge m f .end)
+      other : (same at (edge m f .start) ≡ true) ⊎ (same at (edge m f .end) ≡ true) → (at ≡ edge m f .start)
+          ⊎ (at ≡ edge m f .end)
       other (inl q) = inl (same-true _ _ q)
       other (inr q) = inr (same-true _ _ q)
 
@@ -85,21 +89,33 @@ module _ (m : Map) (e f : ℕ) (h : isSome (joint m e f) ≡ true) where
   meets = go (same at (edge m e .end)) refl
     where
       go : (b : Bool) → same at (edge m e .end) ≡ b
-          → Meet m e f at (cond {A = Dart × Dart} b (fwd e, cond (same (leaves m (fwd f)) at) (fwd f) (bwd f)) (cond (same (leaves m (bwd f)) at) (fwd f) (bwd f), fwd e) .0)
-          (cond {A = Dart × Dart} b (fwd e, cond (same (leaves m (fwd f)) at) (fwd f) (bwd f)) (cond (same (leaves m (bwd f)) at) (fwd f) (bwd f), fwd e) .1)
-      go true q = record { arrives = leaves-row m (bwd e) ∙ sym (same-true _ _ q); departs = leaving (same (leaves m (fwd f)) at) refl (shared .1) .0; edges = inl (refl, leaving (same (leaves m (fwd f)) at) refl (shared .1) .1) }
+          → Meet m e f at (cond {A = Dart × Dart} b (fwd e, cond (same (leaves m (fwd f)) at) (fwd f) (bwd f))
+          (cond (same (leaves m (bwd f)) at) (fwd f) (bwd f), fwd e) .0)
+          (cond {A = Dart × Dart} b (fwd e, cond (same (leaves m (fwd f)) at) (fwd f) (bwd f))
+          (cond (same (leaves m (bwd f)) at) (fwd f) (bwd f), fwd e) .1)
+      go true q = record {
+        arrives = leaves-row m (bwd e) ∙ sym (same-true _ _ q);
+        departs = leaving (same (leaves m (fwd f)) at) refl (shared .1) .0;
+        edges = inl (refl, leaving (same (leaves m (fwd f)) at) refl (shared .1) .1);
+      }
         where
-          leaving : (b : Bool) → same (leaves m (fwd f)) at ≡ b → (at ≡ edge m f .start) ⊎ (at ≡ edge m f .end) → (leaves m (cond b (fwd f) (bwd f)) ≡ at) × (cond {A = Dart} b (fwd f) (bwd f) .edge ≡ f)
+          leaving : (b : Bool) → same (leaves m (fwd f)) at ≡ b → (at ≡ edge m f .start) ⊎ (at ≡ edge m f .end)
+              → (leaves m (cond b (fwd f) (bwd f)) ≡ at) × (cond {A = Dart} b (fwd f) (bwd f) .edge ≡ f)
           leaving true r s = (same-true _ _ r, refl)
           leaving false r (inl s) = absurd (differ _ _ r (leaves-row m (fwd f) ∙ sym s))
           leaving false r (inr s) = (leaves-row m (bwd f) ∙ sym s, refl)
-      go false q = record { arrives = arriving (same (leaves m (bwd f)) at) refl (shared .1) .0; departs = leaves-row m (fwd e) ∙ start (shared .0); edges = inr (arriving (same (leaves m (bwd f)) at) refl (shared .1) .1, refl) }
+      go false q = record {
+        arrives = arriving (same (leaves m (bwd f)) at) refl (shared .1) .0;
+        departs = leaves-row m (fwd e) ∙ start (shared .0);
+        edges = inr (arriving (same (leaves m (bwd f)) at) refl (shared .1) .1, refl);
+      }
         where
           start : (at ≡ edge m e .end) ⊎ (at ≡ edge m e .start) → edge m e .start ≡ at
           start (inl r) = absurd (differ _ _ q r)
           start (inr r) = sym r
 
-          arriving : (b : Bool) → same (leaves m (bwd f)) at ≡ b → (at ≡ edge m f .start) ⊎ (at ≡ edge m f .end) → (leaves m (rev (cond b (fwd f) (bwd f))) ≡ at) × (cond {A = Dart} b (fwd f) (bwd f) .edge ≡ f)
+          arriving : (b : Bool) → same (leaves m (bwd f)) at ≡ b → (at ≡ edge m f .start) ⊎ (at ≡ edge m f .end)
+              → (leaves m (rev (cond b (fwd f) (bwd f))) ≡ at) × (cond {A = Dart} b (fwd f) (bwd f) .edge ≡ f)
           arriving true r s = (same-true _ _ r, refl)
           arriving false r (inl s) = (leaves-row m (fwd f) ∙ sym s, refl)
           arriving false r (inr s) = absurd (differ _ _ r (leaves-row m (bwd f) ∙ sym s))
@@ -113,10 +129,22 @@ module _ (m : Map) (e f : ℕ) (h : Heal m e f) where
   meeting = meets m e f (h .joint)
 
   pub seamed : Seamed m e f n (parts m e f .0) (parts m e f .1)
-  seamed = record { meet = meeting; first-in = first-in; second-in = second-in; two = two; only = only; from = from; to = to }
+  seamed = record {
+    meet = meeting;
+    first-in = first-in;
+    second-in = second-in;
+    two = two;
+    only = only;
+    from = from;
+    to = to;
+  }
     where
       two : parts m e f .0 .edge ≢ parts m e f .1 .edge
-      two q = elim (meeting .edges) [ inl r ↦ h .differ (sym (r .0) ∙ q ∙ r .1) | inr r ↦ h .differ (sym (r .1) ∙ sym q ∙ r .0) ]
+      two q = elim (meeting .edges) [
+        | inl r ↦ h .differ (sym (r .0) ∙ q ∙ r .1)
+        | inr r ↦ h .differ
+            (sym (r .1) ∙ sym q ∙ r .0)
+      ]
 
       has : (z : Dart) → (z .edge ≡ e) ⊎ (z .edge ≡ f) → List·Memᴰ z (directed m)
       has z (inl q) = has-dart m z (ap (hasEdge m) q ∙ h .has)
@@ -135,8 +163,10 @@ module _ (m : Map) (e f : ℕ) (h : Heal m e f) where
       second-in = has (parts m e f .1) of-second
 
       only : (z : Dart) → List·Memᴰ z (directed m) → leaves m z ≡ n → (z ≡ rev (parts m e f .0)) ⊎ (z ≡ parts m e f .1)
-      only z k q = third (departures m n) (same-true _ _ (found-joint m e f (h .joint) .1)) (λ r. two (ap (λ (x : Dart). x .edge) r))
-          (departing m n (has (rev (parts m e f .0)) of-first) (meeting .arrives)) (departing m n second-in (meeting .departs)) (departing m n k q)
+      only z k q = third (departures m n) (same-true _ _ (found-joint m e f (h .joint) .1))
+          (λ r. two (ap (λ (x : Dart). x .edge) r))
+          (departing m n (has (rev (parts m e f .0)) of-first) (meeting .arrives))
+          (departing m n second-in (meeting .departs)) (departing m n k q)
 
       turned : (z : Dart) → rev z ≢ z
       turned z q = go (z .back) (ap (λ (x : Dart). x .back) q)
@@ -146,7 +176,11 @@ module _ (m : Map) (e f : ℕ) (h : Heal m e f) where
           go false r = true≢false r
 
       from : leaves m (parts m e f .0) ≢ n
-      from q = elim (only (parts m e f .0) first-in q) [ inl r ↦ turned (parts m e f .0) (sym r) | inr r ↦ two (ap (λ (x : Dart). x .edge) r) ]
+      from q = elim (only (parts m e f .0) first-in q) [
+        | inl r ↦ turned (parts m e f .0) (sym r)
+        | inr r ↦ two
+            (ap (λ (x : Dart). x .edge) r)
+      ]
 
       to : leaves m (rev (parts m e f .1)) ≢ n
       to q = elim (only (rev (parts m e f .1)) (has (rev (parts m e f .1)) of-second) q) [

@@ -1,8 +1,10 @@
--- Kinds 4, 11 and 12: what a map with an edge drawn in reads, and that it keeps the law, where the edge departs in directions of its own. Curves may cross. Assumes nothing.
+-- Kinds 4, 11 and 12: what a map with an edge drawn in reads, and that it keeps the law, where the edge departs in
+-- directions of its own. Curves may cross. Assumes nothing.
 use mathlib.Core.Path.{_≡_, refl, sym, ap, _∙_, subst}
 use mathlib.Core.Logic.{_⊎_, inl, inr}
 use mathlib.Core.Bool.{Bool, true, false, cond, not, _&&_, true≢false}
-use mathlib.Core.List.{List, _∷_, map, List·Memᴰ, List·Memᴰ·head, List·Memᴰ·tail, List·Memᴰ·cases-cons, List·Permᴰ, Permᴰ·symm}
+use mathlib.Core.List.{List, _∷_, map, List·Memᴰ, List·Memᴰ·head, List·Memᴰ·tail, List·Memᴰ·cases-cons, List·Permᴰ}
+use mathlib.Core.List.{Permᴰ·symm}
 use mathlib.Core.Option.{none, Option·getD}
 use Prim.Native.Nat.{ℕ}
 use Rattle.lists.specs.Tests.{same}
@@ -39,7 +41,8 @@ use Rattle.grown.proofs.LawOrder.{law-order}
 use Rattle.grown.proofs.Reasons.{Sent, AddLone, AddEdge}
 use Rattle.grown.proofs.RowDarts.{dart-move}
 use Rattle.grown.proofs.EdgesLaw.{from-in, from-has, law-agree}
-use Rattle.grown.proofs.EdgesDrawn.{drawnRow, appended, leaves₁, bears₁, way₁, way-f, way-b, linked-in, linkEdge-next}
+use Rattle.grown.proofs.EdgesDrawn.{drawnRow, appended, leaves₁, bears₁, way₁, way-f, way-b, linked-in}
+use Rattle.grown.proofs.EdgesDrawn.{linkEdge-next}
 use Rattle.grown.proofs.EdgesCorners.{nodeNumbers, numbers-kept}
 use Rattle.grown.proofs.EdgesSides.{sides-law}
 use Rattle.grown.proofs.LawfulForm.{Obeys, Lawful, some-rest, edge-new}
@@ -54,7 +57,8 @@ pub record Free (m : Map) (u v : ℕ) (c : Curve) : Type 0 where
   pub loop : u ≡ v → sameWay (startWay c) (endWay c) ≡ false
 
 -- a departure more, in a direction of its own
-apart-more : (T : Dart → ℕ) (W : Dart → Way) (p : Dart) (ds : List Dart) → ((d : Dart) → List·Memᴰ d ds → T d ≡ T p → Alike (W d) (W p) → ⊥) → Apart T W ds → Apart T W (p ∷ ds)
+apart-more : (T : Dart → ℕ) (W : Dart → Way) (p : Dart) (ds : List Dart)
+    → ((d : Dart) → List·Memᴰ d ds → T d ≡ T p → Alike (W d) (W p) → ⊥) → Apart T W ds → Apart T W (p ∷ ds)
 apart-more T W p ds own apart n d x i j alike = go (List·Memᴰ·cases-cons (k .0)) (List·Memᴰ·cases-cons (l .0))
   where
     k : List·Memᴰ d (p ∷ ds) × (T d ≡ n)
@@ -65,7 +69,8 @@ apart-more T W p ds own apart n d x i j alike = go (List·Memᴰ·cases-cons (k 
 
     go : (d ≡ p) ⊎ List·Memᴰ d ds → (x ≡ p) ⊎ List·Memᴰ x ds → d ≡ x
     go (inl e) (inl q) = e ∙ sym q
-    go (inl e) (inr q) = absurd (own x q (l .1 ∙ sym (k .1) ∙ ap T e) (alike-sym (W p) (W x) (subst (λ (z : Dart). Alike (W z) (W x)) e alike)))
+    go (inl e) (inr q) = absurd (own x q (l .1 ∙ sym (k .1) ∙ ap T e)
+        (alike-sym (W p) (W x) (subst (λ (z : Dart). Alike (W z) (W x)) e alike)))
     go (inr q) (inl e) = absurd (own d q (k .1 ∙ sym (l .1) ∙ ap T e) (subst (λ (z : Dart). Alike (W d) (W z)) e alike))
     go (inr q) (inr r) = apart n d x (from-has T ds n q (k .1)) (from-has T ds n r (l .1)) alike
 
@@ -121,8 +126,12 @@ module _ (m : Map) (u v : ℕ) (c : Curve) (φ : ℕ) (free : Free m u v c) wher
 
   -- ---- directions
 
-  old-free : (p : Dart) (n : ℕ) (w : Way) → T p ≡ n → W p ≡ w → ((d : Dart) → List·Memᴰ d (departures m n) → sameWay (way m d) w ≡ false) → (d : Dart) → List·Memᴰ d (directed m) → T d ≡ T p → Alike (W d) (W p) → ⊥
-  old-free p n w tp ep clear d k t alike = true≢false (sym (rw (W-old d k, ep) at (alike-is (W d) (W p) alike)) ∙ clear d (departing m n k (sym (old u v (leaves m) d k) ∙ t ∙ tp)))
+  old-free : (p : Dart) (n : ℕ) (w : Way) → T p ≡ n → W p ≡ w
+      → ((d : Dart) → List·Memᴰ d (departures m n) → sameWay (way m d) w ≡ false) → (d : Dart)
+      → List·Memᴰ d (directed m) → T d ≡ T p → Alike (W d) (W p) → ⊥
+  old-free p n w tp ep clear d k t alike =
+      true≢false (sym (rw (W-old d k, ep) at (alike-is (W d) (W p) alike))
+      ∙ clear d (departing m n k (sym (old u v (leaves m) d k) ∙ t ∙ tp)))
 
   f-b : T f ≡ T b → Alike (W f) (W b) → ⊥
   f-b t h = true≢false (sym (rw (W-f, W-b) at (alike-is (W f) (W b) h)) ∙ free .loop (sym T-f ∙ t ∙ T-b))
@@ -131,10 +140,13 @@ module _ (m : Map) (u v : ℕ) (c : Curve) (φ : ℕ) (free : Free m u v c) wher
   old-apart n d x i j alike =
       let k = from-in T (directed m) n i in
       let l = from-in T (directed m) n j in
-      free .apart n d x (from-has (leaves m) (directed m) n (k .0) (sym (old u v (leaves m) d (k .0)) ∙ k .1)) (from-has (leaves m) (directed m) n (l .0) (sym (old u v (leaves m) x (l .0)) ∙ l .1)) (rw (W-old d (k .0), W-old x (l .0)) at alike)
+      free .apart n d x (from-has (leaves m) (directed m) n (k .0) (sym (old u v (leaves m) d (k .0)) ∙ k .1))
+      (from-has (leaves m) (directed m) n (l .0) (sym (old u v (leaves m) x (l .0)) ∙ l .1))
+      (rw (W-old d (k .0), W-old x (l .0)) at alike)
 
   pub drawn-apart : Apart T W (b ∷ f ∷ directed m)
-  drawn-apart = apart-more T W b (f ∷ directed m) (each-cons {p = λ d. T d ≡ T b → Alike (W d) (W b) → ⊥} f-b (old-free b v (endWay c) T-b W-b (free .end)))
+  drawn-apart = apart-more T W b (f ∷ directed m)
+      (each-cons {p = λ d. T d ≡ T b → Alike (W d) (W b) → ⊥} f-b (old-free b v (endWay c) T-b W-b (free .end)))
       (apart-more T W f (directed m) (old-free f u (startWay c) T-f W-f (free .start)) old-apart)
 
   -- ---- what the map drawn in reads: only nodes change after the links
@@ -148,7 +160,8 @@ module _ (m : Map) (u v : ℕ) (c : Curve) (φ : ℕ) (free : Free m u v c) wher
 
   pub D-perm : List·Permᴰ (arcs D) (a ∷ arcs m)
   unfolding drawn atNodes
-  D-perm = subst (λ (l : List Arc). List·Permᴰ l (a ∷ arcs m)) (sym (relinked .arcs)) (more-perm m m₁ (drawnRow m u v c φ) refl)
+  D-perm = subst (λ (l : List Arc). List·Permᴰ l (a ∷ arcs m)) (sym (relinked .arcs))
+      (more-perm m m₁ (drawnRow m u v c φ) refl)
 
   D-all : {d : Dart} → List·Memᴰ d (directed D) → List·Memᴰ d all
   D-all {d} k = dart-move D-perm d k
@@ -168,13 +181,15 @@ module _ (m : Map) (u v : ℕ) (c : Curve) (φ : ℕ) (free : Free m u v c) wher
   unfolding drawn atNodes
   D-way d = way-by (linkEdge e m₁) D refl d ∙ relinked .way d
 
-  pub D-links : (d : Dart) → List·Memᴰ d all → next D d ≡ rotation.linkEdge sameDart rev W T f (directed m) (lone e (next m)) d
+  pub D-links : (d : Dart) → List·Memᴰ d all → next D d
+      ≡ rotation.linkEdge sameDart rev W T f (directed m) (lone e (next m)) d
   unfolding drawn atNodes
   D-links d k = next-by (linkEdge e m₁) D refl d ∙ linkEdge-next m u v c φ (free .fresh) drawn-apart d k
 
   pub D-nodes : nodeNumbers D ≡ nodeNumbers m
   unfolding drawn atNodes
-  D-nodes = numbers-kept (isEither u v) (withFace none) (linkEdge e m₁ .nodes) (λ n. refl) ∙ ap (map (λ (n : Node). n .number)) (relinked .nodes)
+  D-nodes = numbers-kept (isEither u v) (withFace none) (linkEdge e m₁ .nodes) (λ n. refl)
+      ∙ ap (map (λ (n : Node). n .number)) (relinked .nodes)
 
   pub D-faces : D .faces ≡ m .faces
   unfolding drawn atNodes
@@ -182,7 +197,9 @@ module _ (m : Map) (u v : ℕ) (c : Curve) (φ : ℕ) (free : Free m u v c) wher
 
   -- with nothing at its end, the edge turns back there
   pub D-alone : ((d : Dart) → List·Memᴰ d (from T (f ∷ directed m) (T b)) → ⊥) → next D f ≡ b
-  D-alone bare = D-links f (List·Memᴰ·head refl) ∙ ap (λ (x : Bool). cond x c₂ (cond (sameDart (N₁ f) c₂) b (N₁ f))) (sameDart-refl f) ∙ first-none W (W b) b (from T (f ∷ directed m) (T b)) bare
+  D-alone bare = D-links f (List·Memᴰ·head refl)
+      ∙ ap (λ (x : Bool). cond x c₂ (cond (sameDart (N₁ f) c₂) b (N₁ f))) (sameDart-refl f)
+      ∙ first-none W (W b) b (from T (f ∷ directed m) (T b)) bare
     where
       c₂ : Dart
       c₂ = firstClockwise W (W b) b (from T (f ∷ directed m) (T b))
@@ -195,19 +212,25 @@ module _ (m : Map) (u v : ℕ) (c : Curve) (φ : ℕ) (free : Free m u v c) wher
   put-obeys : Obeys m → Law sameDart rev T W (b ∷ f ∷ directed m) N
   unfolding N
   put-obeys law = link-edge-law sameDart rev T W tells rev-rev (directed m) (lone e (next m)) f
-      (law-agree (directed m) (old u v (leaves m)) W-old (next m) (lone e (next m)) (λ d k. old (bwd e) (fwd e) (next m) (rev d) (rev-in (arcs m) k)) law)
+      (law-agree (directed m) (old u v (leaves m)) W-old (next m) (lone e (next m))
+      (λ d k. old (bwd e) (fwd e) (next m) (rev d) (rev-in (arcs m) k)) law)
       (λ k. other k refl) (λ k. other k refl) (λ p. fwd≢bwd (sym p)) drawn-apart
 
   drawn-obeys : Obeys m → Obeys (drawn u v c φ m)
   unfolding N
-  drawn-obeys law = law-agree (directed D) (λ d k. D-leaves d (D-all k)) (λ d k. D-way d) N (next D) (λ d k. D-links (rev d) (D-all (rev-in (arcs D) k)))
-      (law-order sameDart tells T W (b ∷ f ∷ directed m) (directed D) (λ d k. all-D (swap d k)) (λ d k. swap′ d (D-all k)) (rotation.back rev N) drawn-apart (put-obeys law))
+  drawn-obeys law = law-agree (directed D) (λ d k. D-leaves d (D-all k)) (λ d k. D-way d) N (next D)
+      (λ d k. D-links (rev d) (D-all (rev-in (arcs D) k)))
+      (law-order sameDart tells T W (b ∷ f ∷ directed m) (directed D) (λ d k. all-D (swap d k))
+      (λ d k. swap′ d (D-all k)) (rotation.back rev N) drawn-apart (put-obeys law))
     where
       swap : (d : Dart) → List·Memᴰ d (b ∷ f ∷ directed m) → List·Memᴰ d all
-      swap = each-cons {p = λ d. List·Memᴰ d all} (List·Memᴰ·tail (List·Memᴰ·head refl)) (each-cons {p = λ d. List·Memᴰ d all} (List·Memᴰ·head refl) (λ d i. List·Memᴰ·tail (List·Memᴰ·tail i)))
+      swap = each-cons {p = λ d. List·Memᴰ d all} (List·Memᴰ·tail (List·Memᴰ·head refl))
+          (each-cons {p = λ d. List·Memᴰ d all} (List·Memᴰ·head refl) (λ d i. List·Memᴰ·tail (List·Memᴰ·tail i)))
 
       swap′ : (d : Dart) → List·Memᴰ d all → List·Memᴰ d (b ∷ f ∷ directed m)
-      swap′ = each-cons {p = λ d. List·Memᴰ d (b ∷ f ∷ directed m)} (List·Memᴰ·tail (List·Memᴰ·head refl)) (each-cons {p = λ d. List·Memᴰ d (b ∷ f ∷ directed m)} (List·Memᴰ·head refl) (λ d i. List·Memᴰ·tail (List·Memᴰ·tail i)))
+      swap′ = each-cons {p = λ d. List·Memᴰ d (b ∷ f ∷ directed m)} (List·Memᴰ·tail (List·Memᴰ·head refl))
+          (each-cons {p = λ d. List·Memᴰ d (b ∷ f ∷ directed m)} (List·Memᴰ·head refl)
+          (λ d i. List·Memᴰ·tail (List·Memᴰ·tail i)))
 
 -- ---- what a ticket's facts give
 
@@ -215,11 +238,22 @@ sent-good : (m : Map) (c : Curve) (u v : ℕ) → Sent m c u v → drawing.Good 
 sent-good m c u v h = good-iff c .1 (some-rest (c .first) (c .rest) (h .least), h .differ, h .simple)
 
 -- kind 4: nothing departs from either node
-lone-free : {s : Sizes} {m : Map} {u v : ℕ} {c : Curve} → AddLone s m u v c → Apart (leaves m) (way m) (directed m) → (List·Memᴰ (m .nextEdge) (nums (arcs m)) → ⊥) → ((d : Dart) → List·Memᴰ d (departures m u) → ⊥) → ((d : Dart) → List·Memᴰ d (departures m v) → ⊥) → Free m u v c
-lone-free {m = m} {u} {v} {c} h apart fresh none-u none-v = record { apart = apart; fresh = fresh; ends = reverse-ways c (sent-good m c u v (h .sent)) .0; start = λ d k. absurd (none-u d k); end = λ d k. absurd (none-v d k); loop = λ p. absurd (h .differ p) }
+lone-free : {s : Sizes} {m : Map} {u v : ℕ} {c : Curve} → AddLone s m u v c → Apart (leaves m) (way m) (directed m)
+    → (List·Memᴰ (m .nextEdge) (nums (arcs m)) → ⊥) → ((d : Dart) → List·Memᴰ d (departures m u) → ⊥)
+    → ((d : Dart) → List·Memᴰ d (departures m v) → ⊥) → Free m u v c
+lone-free {m = m} {u} {v} {c} h apart fresh none-u none-v =
+    record {
+      apart = apart;
+      fresh = fresh;
+      ends = reverse-ways c (sent-good m c u v (h .sent)) .0;
+      start = λ d k. absurd (none-u d k);
+      end = λ d k. absurd (none-v d k);
+      loop = λ p. absurd (h .differ p);
+    }
 
 -- kinds 11 and 12: no departure has its directions
-pub edge-free : {news : Bool} {s : Sizes} {m : Map} {u v : ℕ} {c : Curve} → AddEdge news s m u v c → Apart (leaves m) (way m) (directed m) → (List·Memᴰ (m .nextEdge) (nums (arcs m)) → ⊥) → Free m u v c
+pub edge-free : {news : Bool} {s : Sizes} {m : Map} {u v : ℕ} {c : Curve} → AddEdge news s m u v c
+    → Apart (leaves m) (way m) (directed m) → (List·Memᴰ (m .nextEdge) (nums (arcs m)) → ⊥) → Free m u v c
 unfolding directionTaken
 edge-free {m = m} {u} {v} {c} h apart fresh = record {
   apart = apart;
@@ -236,16 +270,20 @@ edge-free {m = m} {u} {v} {c} h apart fresh = record {
     ways : (wayTaken m (m .nextEdge) u (startWay c) ≡ false) × (wayTaken m (m .nextEdge) v (endWay c) ≡ false)
     ways = or-false (wayTaken m (m .nextEdge) u (startWay c)) (wayTaken m (m .nextEdge) v (endWay c)) (h .ways-free)
 
-    way-free : (n : ℕ) (w : Way) → wayTaken m (m .nextEdge) n w ≡ false → (d : Dart) → List·Memᴰ d (departures m n) → sameWay (way m d) w ≡ false
+    way-free : (n : ℕ) (w : Way) → wayTaken m (m .nextEdge) n w ≡ false → (d : Dart) → List·Memᴰ d (departures m n)
+        → sameWay (way m d) w ≡ false
     way-free n w clear d k =
-        sym (ap (λ (x : Bool). not x && sameWay (way m d) w) (same-false (d .edge) (m .nextEdge) (fresh-dart (record { num = m .nextEdge; from = n; to = n }) (arcs m) fresh (departs m n k .0))))
+        sym (ap (λ (x : Bool). not x && sameWay (way m d) w)
+        (same-false (d .edge) (m .nextEdge)
+        (fresh-dart (record { num = m .nextEdge; from = n; to = n }) (arcs m) fresh (departs m n k .0))))
         ∙ none-has (λ d. not (same (d .edge) (m .nextEdge)) && sameWay (way m d) w) (departures m n) clear d k
 
 -- ---- the kinds
 
 module _ (m : Map) (L : Lawful m) (s : Sizes) (u v : ℕ) (c : Curve) where
   pub lawful-lone : AddLone s m u v c → Free m u v c
-  lawful-lone h = lone-free h (L .apart) (edge-new m (L .edges-below)) (bare u (h .has-start) (h .isolated-start)) (bare v (h .has-end) (h .isolated-end))
+  lawful-lone h = lone-free h (L .apart) (edge-new m (L .edges-below)) (bare u (h .has-start) (h .isolated-start))
+      (bare v (h .has-end) (h .isolated-end))
     where
       bare : (n : ℕ) → hasNode m n ≡ true → isolated m n ≡ true → (d : Dart) → List·Memᴰ d (departures m n) → ⊥
       bare n has iso d k = let x = departs m n k in L .bare n has iso d (x .0) (x .1)
@@ -256,7 +294,8 @@ module _ (m : Map) (L : Lawful m) (s : Sizes) (u v : ℕ) (c : Curve) where
 
   module _ (news : Bool) (h : AddEdge news s m u v c) where
     drawn-in-obeys : Obeys (drawnIn u v c m)
-    drawn-in-obeys = drawn-obeys m u v c (cornerFace m u (startWay c)) (edge-free h (L .apart) (edge-new m (L .edges-below))) (L .law)
+    drawn-in-obeys = drawn-obeys m u v c (cornerFace m u (startWay c))
+        (edge-free h (L .apart) (edge-new m (L .edges-below))) (L .law)
 
     -- a face split changes faces only
     split-face-obeys : (e : ℕ) (X : Map) → Obeys X → Obeys (splitFace news e X)

@@ -1,4 +1,5 @@
--- Kinds 1, 2, 3 and 6: isolated nodes, and an edge redrawn that leaves the cyclic order at its ends, keep the law. What a redrawn map reads. Curves may cross. Assumes nothing.
+-- Kinds 1, 2, 3 and 6: isolated nodes, and an edge redrawn that leaves the cyclic order at its ends, keep the law. What
+-- a redrawn map reads. Curves may cross. Assumes nothing.
 use mathlib.Core.Path.{_≡_, refl, sym, ap, _∙_, subst}
 use mathlib.Core.Logic.{inl, inr, _≢_}
 use mathlib.Core.Bool.{Bool, true, false, cond, not}
@@ -21,7 +22,8 @@ use Rattle.map.specs.Links.{clockwise}
 use Rattle.map.specs.Edits.{addIsoNode, moveIsoNode, removeIsoNode, withCurve, changeEdgeGeom}
 use Rattle.map.specs.Reasons.{turnChanges, orderChanges}
 use Rattle.map.proofs.Scans.{none-has}
-use Rattle.grown.proofs.Readings.{tailIn, nextIn, faceIn, leaves-row, next-row, bears-row, course-row, way-row, departs, departures-by, mapped-kept, mapped-arcs}
+use Rattle.grown.proofs.Readings.{tailIn, nextIn, faceIn, leaves-row, next-row, bears-row, course-row, way-row}
+use Rattle.grown.proofs.Readings.{departs, departures-by, mapped-kept, mapped-arcs}
 use Rattle.grown.proofs.RowChanges.{at-other}
 use Rattle.grown.proofs.LawOrder.{lawful-alike}
 use Rattle.grown.proofs.LawfulForm.{Obeys}
@@ -56,13 +58,16 @@ module _ (m : Map) (e : ℕ) (c : Curve) where
       go true = h r
       go false = refl
 
-  kept : {B : Type 0} (g : Edge → B) → ((r : Edge) → g (withCurve c r) ≡ g r) → (x : ℕ) → g (edge redrawn x) ≡ g (edge m x)
+  kept : {B : Type 0} (g : Edge → B) → ((r : Edge) → g (withCurve c r) ≡ g r) → (x : ℕ) → g (edge redrawn x)
+      ≡ g (edge m x)
   unfolding changeEdgeGeom atEdge
-  kept g h = mapped-kept m (changeEdgeGeom e c m) recurved refl (λ r k. by-case (λ r. r .number) (λ r. refl) r) g (by-case g h)
+  kept g h = mapped-kept m (changeEdgeGeom e c m) recurved refl (λ r k. by-case (λ r. r .number) (λ r. refl) r) g
+      (by-case g h)
 
   pub same-arcs : arcs redrawn ≡ arcs m
   unfolding changeEdgeGeom atEdge
-  same-arcs = mapped-arcs m (changeEdgeGeom e c m) recurved refl (λ r k. by-case (λ r. r .number) (λ r. refl) r) (λ r k. by-case (λ r. record { num = r .number; from = r .start; to = r .end }) (λ r. refl) r)
+  same-arcs = mapped-arcs m (changeEdgeGeom e c m) recurved refl (λ r k. by-case (λ r. r .number) (λ r. refl) r)
+      (λ r k. by-case (λ r. record { num = r .number; from = r .start; to = r .end }) (λ r. refl) r)
 
   pub same-leaves : (d : Dart) → leaves redrawn d ≡ leaves m d
   same-leaves d = leaves-row redrawn d ∙ kept (tailIn (d .back)) (λ r. refl) (d .edge) ∙ sym (leaves-row m d)
@@ -82,18 +87,23 @@ module _ (m : Map) (e : ℕ) (c : Curve) where
   same-departures = departures-by m redrawn same-arcs (λ d k. same-leaves d)
 
   -- the first departure met clockwise from each is the one it was, by the cyclic order at the ends of e
-  same-first : (n : ℕ) (d : Dart) → List·Memᴰ d (departures m n) → turnChanges m redrawn n ≡ false → lawfulNext (way m) sameDart d (departures m n) ≡ lawfulNext (way redrawn) sameDart d (departures redrawn n)
+  same-first : (n : ℕ) (d : Dart) → List·Memᴰ d (departures m n) → turnChanges m redrawn n ≡ false
+      → lawfulNext (way m) sameDart d (departures m n) ≡ lawfulNext (way redrawn) sameDart d (departures redrawn n)
   unfolding clockwise
   same-first n d k h = ap (λ (x : ℕ). lawfulNext (way m) sameDart d (departures m x)) (sym (departs m n k .1))
-      ∙ sameDart-true (clockwise m d) (clockwise redrawn d) (not-false _ (none-has (λ d. not (sameDart (clockwise m d) (clockwise redrawn d))) (departures m n) h d k))
+      ∙ sameDart-true (clockwise m d) (clockwise redrawn d)
+      (not-false _ (none-has (λ d. not (sameDart (clockwise m d) (clockwise redrawn d))) (departures m n) h d k))
       ∙ ap (λ (x : ℕ). lawfulNext (way redrawn) sameDart d (departures redrawn x)) (same-leaves d ∙ departs m n k .1)
 
   -- and away from them nothing turns
-  same-elsewhere : (n : ℕ) (d : Dart) → List·Memᴰ d (departures m n) → edge m e .start ≢ n → edge m e .end ≢ n → lawfulNext (way m) sameDart d (departures m n) ≡ lawfulNext (way redrawn) sameDart d (departures redrawn n)
-  same-elsewhere n d k ns nt = lawful-alike (way m) (way redrawn) sameDart (departures m n) alike d k ∙ ap (lawfulNext (way redrawn) sameDart d) (sym (same-departures n))
+  same-elsewhere : (n : ℕ) (d : Dart) → List·Memᴰ d (departures m n) → edge m e .start ≢ n → edge m e .end ≢ n
+      → lawfulNext (way m) sameDart d (departures m n) ≡ lawfulNext (way redrawn) sameDart d (departures redrawn n)
+  same-elsewhere n d k ns nt = lawful-alike (way m) (way redrawn) sameDart (departures m n) alike d k
+      ∙ ap (lawfulNext (way redrawn) sameDart d) (sym (same-departures n))
     where
       other : (x : Dart) → List·Memᴰ x (departures m n) → x .edge ≢ e
-      other x j p = go (x .back) (ap (λ (y : ℕ). tailIn (x .back) (edge m y)) (sym p) ∙ sym (leaves-row m x) ∙ departs m n j .1)
+      other x j p = go (x .back) (ap (λ (y : ℕ). tailIn (x .back) (edge m y)) (sym p) ∙ sym (leaves-row m x)
+          ∙ departs m n j .1)
         where
           go : (b : Bool) → tailIn b (edge m e) ≡ n → ⊥
           go true q = nt q
@@ -106,7 +116,11 @@ module _ (m : Map) (e : ℕ) (c : Curve) where
   unfolding departures orderChanges
   change-obeys order l n d k = same-next (rev d) ∙ l n d old ∙ elim (equal? (edge m e .start) n) [
     | inl p ↦ same-first n d old (subst (λ (x : ℕ). turnChanges m redrawn x ≡ false) p (ends .0))
-    | inr ns ↦ elim (equal? (edge m e .end) n) [ inl p ↦ same-first n d old (subst (λ (x : ℕ). turnChanges m redrawn x ≡ false) p (ends .1)) | inr nt ↦ same-elsewhere n d old ns nt ]
+    | inr ns ↦ elim (equal? (edge m e .end) n) [
+      | inl p ↦ same-first n d old
+          (subst (λ (x : ℕ). turnChanges m redrawn x ≡ false) p (ends .1))
+      | inr nt ↦ same-elsewhere n d old ns nt
+    ]
   ]
     where
       old : List·Memᴰ d (departures m n)

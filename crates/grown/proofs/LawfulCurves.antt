@@ -1,4 +1,5 @@
--- The directions in which a curve's ends depart, when it is turned round, cut or joined. The curve need not be simple. Assumes nothing.
+-- The directions in which a curve's ends depart, when it is turned round, cut or joined. The curve need not be simple.
+-- Assumes nothing.
 use mathlib.Core.Path.{_≡_, sym, ap, subst}
 use mathlib.Core.Bool.{true}
 use mathlib.Core.List.{List, [], _∷_, _++_}
@@ -33,23 +34,31 @@ module _ (p : Point) (c : Curve) (n : c .first ≢ p) (l : lastPoint c ≢ p) (o
   place = cut-place p (c .first) (c .rest) n l (onCurve-iff c p .0 o)
 
   pub front-way : sameWay (startWay c) (startWay (front p c)) ≡ true
-  front-way = sameWay-is (subst (λ (z : Point). SameWay (c .first) (secondOf (c .first) (c .rest)) (c .first) z) (second-append (c .first) (front p c .rest) (back p c .rest) (place .some-front)) (place .alike .start))
+  front-way = sameWay-is (subst (λ (z : Point). SameWay (c .first) (secondOf (c .first) (c .rest)) (c .first) z)
+      (second-append (c .first) (front p c .rest) (back p c .rest) (place .some-front)) (place .alike .start))
 
   pub back-some : Some (back p c .rest)
   back-some = place .some-back
 
   pub back-way : sameWay (endWay c) (endWay (back p c)) ≡ true
-  back-way = sameWay-is (subst (λ (z : Point). SameWay (lastPoint c) (beforeLast (c .first) (c .rest)) (lastOf z (back p c .rest)) (beforeLast z (back p c .rest))) (place .joint)
-      (rw (last-append (c .first) (front p c .rest) (back p c .rest), before-append (c .first) (front p c .rest) (back p c .rest) (place .some-back)) at (place .alike .finish)))
+  back-way = sameWay-is (subst (λ (z : Point). SameWay (lastPoint c) (beforeLast (c .first) (c .rest))
+      (lastOf z (back p c .rest)) (beforeLast z (back p c .rest))) (place .joint)
+      (rw (
+        last-append (c .first) (front p c .rest) (back p c .rest),
+        before-append (c .first) (front p c .rest) (back p c .rest) (place .some-back),
+      ) at (place .alike .finish)))
 
   -- neither half has more points than the curve
   pub halves-few : (length (points (front p c)) ≤ length (points c)) × (length (points (back p c)) ≤ length (points c))
   halves-few = go (front p c .rest) (back p c .rest) (place .some-front) (place .some-back) (place .count)
     where
-      go : (f b : List Point) → Some f → Some b → (length (f ++ b) ≡ length (c .rest)) ⊎ (length (f ++ b) ≡ suc (length (c .rest))) → (suc (length f) ≤ suc (length (c .rest))) × (suc (length b) ≤ suc (length (c .rest)))
+      go : (f b : List Point) → Some f → Some b → (length (f ++ b) ≡ length (c .rest))
+          ⊎ (length (f ++ b) ≡ suc (length (c .rest))) → (suc (length f) ≤ suc (length (c .rest)))
+          × (suc (length b) ≤ suc (length (c .rest)))
       go [] b h k e = absurd h
       go (x ∷ f) [] h k e = absurd k
-      go (x ∷ f) (y ∷ b) h k e = let n = length-append (x ∷ f) (y ∷ b) in elim e [ inl q ↦ (omega arith, omega arith) | inr q ↦ (omega arith, omega arith) ]
+      go (x ∷ f) (y ∷ b) h k e = let n = length-append (x ∷ f) (y ∷ b) in
+          elim e [ inl q ↦ (omega arith, omega arith) | inr q ↦ (omega arith, omega arith) ]
 
 -- the join of two curves
 module _ (c d : Curve) (joint : d .first ≡ lastPoint c) (sc : Some (c .rest)) (sd : Some (d .rest)) where
@@ -60,8 +69,11 @@ module _ (c d : Curve) (joint : d .first ≡ lastPoint c) (sc : Some (c .rest)) 
   joined-some = alike .some′
 
   pub joined-start : sameWay (startWay c) (startWay (joined c d)) ≡ true
-  joined-start = sameWay-is (subst (λ (z : Point). SameWay (c .first) z (c .first) (secondOf (c .first) (joined c d .rest))) (second-append (c .first) (c .rest) (d .rest) sc) (alike .start))
+  joined-start = sameWay-is (subst (λ (z : Point). SameWay (c .first) z (c .first)
+      (secondOf (c .first) (joined c d .rest))) (second-append (c .first) (c .rest) (d .rest) sc) (alike .start))
 
   pub joined-end : sameWay (endWay d) (endWay (joined c d)) ≡ true
-  joined-end = sameWay-is (subst (λ (z : Point). SameWay (lastOf z (d .rest)) (beforeLast z (d .rest)) (lastPoint (joined c d)) (beforeLast (c .first) (joined c d .rest))) (sym joint)
-      (rw (last-append (c .first) (c .rest) (d .rest), before-append (c .first) (c .rest) (d .rest) sd) at (alike .finish)))
+  joined-end = sameWay-is (subst (λ (z : Point). SameWay (lastOf z (d .rest)) (beforeLast z (d .rest))
+      (lastPoint (joined c d)) (beforeLast (c .first) (joined c d .rest))) (sym joint)
+      (rw (last-append (c .first) (c .rest) (d .rest), before-append (c .first) (c .rest) (d .rest) sd) at
+      (alike .finish)))

@@ -1,4 +1,5 @@
--- The link law as a test and as a fact, and what a map in form whose links obey it has. Nothing is said of the plane: curves may cross. Assumes nothing.
+-- The link law as a test and as a fact, and what a map in form whose links obey it has. Nothing is said of the plane:
+-- curves may cross. Assumes nothing.
 use mathlib.Core.Path.{_≡_, refl, sym, ap, _∙_, subst}
 use mathlib.Core.Logic.{_⊎_, inl, inr}
 use mathlib.Core.Bool.{true, not, Bool·beq, true≢false}
@@ -8,7 +9,7 @@ use native.Mathlib.Omega.{arith}
 use borrow.Author.Tests.{not-true}
 use lib.ListN.{length}
 use Rattle.lists.specs.Tests.{same}
-use Rattle.lists.specs.Scans.{any, isSome}
+use Rattle.lists.specs.Scans.{anyOf, isSome}
 use Rattle.lists.specs.Members.{Distinct}
 use Rattle.lists.proofs.Bools.{same-true, beq-true, and-true}
 use Rattle.plane.specs.declared.Point.{Point}
@@ -53,31 +54,39 @@ Obeys m = Law sameDart rev (leaves m) (way m) (directed m) (next m)
 module _ (m : Map) where
   law-says : obeysLaw m ≡ true → Obeys m
   unfolding obeysLaw clockwise departures
-  law-says h n d k = sameDart-true (next m (rev d)) (clockwise m (rev (rev d))) (all-each (λ c. sameDart (next m c) (clockwise m (rev c))) (directed m) h (rev d) (rev-in (arcs m) (x .0)))
-      ∙ ap (clockwise m) (rev-rev d) ∙ ap (λ (i : ℕ). lawfulNext (way m) sameDart d (from (leaves m) (directed m) i)) (x .1)
+  law-says h n d k = sameDart-true (next m (rev d)) (clockwise m (rev (rev d)))
+      (all-each (λ c. sameDart (next m c) (clockwise m (rev c))) (directed m) h (rev d) (rev-in (arcs m) (x .0)))
+      ∙ ap (clockwise m) (rev-rev d) ∙ ap (λ (i : ℕ). lawfulNext (way m) sameDart d (from (leaves m) (directed m) i))
+      (x .1)
     where
       x : List·Memᴰ d (directed m) × (leaves m d ≡ n)
       x = from-in (leaves m) (directed m) n k
 
   pub law-is : Obeys m → obeysLaw m ≡ true
   unfolding obeysLaw clockwise departures
-  law-is l = each-all (λ d. sameDart (next m d) (clockwise m (rev d))) (directed m) (λ d k. is-yes tells (next m d) (clockwise m (rev d))
-      (ap (next m) (sym (rev-rev d)) ∙ l (leaves m (rev d)) (rev d) (from-has (leaves m) (directed m) (leaves m (rev d)) (rev-in (arcs m) k) refl)))
+  law-is l = each-all (λ d. sameDart (next m d) (clockwise m (rev d))) (directed m)
+      (λ d k. is-yes tells (next m d) (clockwise m (rev d))
+      (ap (next m) (sym (rev-rev d)) ∙ l (leaves m (rev d)) (rev d)
+      (from-has (leaves m) (directed m) (leaves m (rev d)) (rev-in (arcs m) k) refl)))
 
 -- ---- directions
 
 -- what differs in direction, by the test
 pub differ-says : {D : Type 0} (way : D → Way) (ds : List D) → waysDiffer (map way ds) ≡ true → Differ way ds
 differ-says way [] h d c i j e = absurd (List·Memᴰ·not-nil i)
-differ-says {D} way (x ∷ ds) h d c i j e = go (differ-says way ds (k .1) d c) (List·Memᴰ·cases-cons i) (List·Memᴰ·cases-cons j)
+differ-says {D} way (x ∷ ds) h d c i j e =
+    go (differ-says way ds (k .1) d c) (List·Memᴰ·cases-cons i) (List·Memᴰ·cases-cons j)
   where
-    k : (not (any (sameWay (way x)) (map way ds)) ≡ true) × (waysDiffer (map way ds) ≡ true)
-    k = and-true (not (any (sameWay (way x)) (map way ds))) (waysDiffer (map way ds)) h
+    k : (not (anyOf (sameWay (way x)) (map way ds)) ≡ true) × (waysDiffer (map way ds) ≡ true)
+    k = and-true (not (anyOf (sameWay (way x)) (map way ds))) (waysDiffer (map way ds)) h
 
     free : (y : D) → List·Memᴰ y ds → Alike (way x) (way y) → ⊥
-    free y m a = true≢false (sym (alike-is (way x) (way y) a) ∙ none-has (sameWay (way x)) (map way ds) (not-true (any (sameWay (way x)) (map way ds)) (k .0)) (way y) (Memᴰ·map way m))
+    free y m a = true≢false (sym (alike-is (way x) (way y) a)
+        ∙ none-has (sameWay (way x)) (map way ds) (not-true (anyOf (sameWay (way x)) (map way ds)) (k .0)) (way y)
+        (Memᴰ·map way m))
 
-    go : (List·Memᴰ d ds → List·Memᴰ c ds → Alike (way d) (way c) → d ≡ c) → (d ≡ x) ⊎ List·Memᴰ d ds → (c ≡ x) ⊎ List·Memᴰ c ds → d ≡ c
+    go : (List·Memᴰ d ds → List·Memᴰ c ds → Alike (way d) (way c) → d ≡ c) → (d ≡ x) ⊎ List·Memᴰ d ds → (c ≡ x)
+        ⊎ List·Memᴰ c ds → d ≡ c
     go ih (inl p) (inl q) = p ∙ sym q
     go ih (inl p) (inr q) = absurd (free c q (subst (λ (z : D). Alike (way z) (way c)) p e))
     go ih (inr p) (inl q) = absurd (free d p (alike-sym (way d) (way x) (subst (λ (z : D). Alike (way d) (way z)) q e)))
@@ -104,12 +113,14 @@ pub record Lawful (m : Map) : Type 0 where
   pub nodes-below : (n : ℕ) → List·Memᴰ n (map nodeNumber (m .nodes)) → n < m .nextNode
   pub edges-below : (e : ℕ) → List·Memᴰ e (map numberOf (m .edges)) → e < m .nextEdge
   -- nothing departs from an isolated node
-  pub bare : (n : ℕ) → hasNode m n ≡ true → isolated m n ≡ true → (d : Dart) → List·Memᴰ d (directed m) → leaves m d ≡ n → ⊥
+  pub bare : (n : ℕ) → hasNode m n ≡ true → isolated m n ≡ true → (d : Dart) → List·Memᴰ d (directed m) → leaves m d
+      ≡ n → ⊥
   pub anchored : (r : Edge) → List·Memᴰ r (m .edges) → Anchored m r
   pub some : (r : Edge) → List·Memᴰ r (m .edges) → Some (r .curve .rest)
 
 -- the next number is new
-pub edge-new : (m : Map) → ((e : ℕ) → List·Memᴰ e (map numberOf (m .edges)) → e < m .nextEdge) → List·Memᴰ (m .nextEdge) (nums (arcs m)) → ⊥
+pub edge-new : (m : Map) → ((e : ℕ) → List·Memᴰ e (map numberOf (m .edges)) → e < m .nextEdge)
+    → List·Memᴰ (m .nextEdge) (nums (arcs m)) → ⊥
 edge-new m below k = let h = below (m .nextEdge) (subst (List·Memᴰ (m .nextEdge)) (nums-rows m) k) in omega arith
 
 module _ (m : Map) (h : formed m ≡ true) where
@@ -122,27 +133,36 @@ module _ (m : Map) (h : formed m ≡ true) where
       x = from-in (leaves m) (directed m) n i
 
       row : (r : Node) × List·Memᴰ r (m .nodes) × (nodeNumber r ≡ n)
-      row = Memᴰ·of-map nodeNumber (m .nodes) (subst (λ (k : ℕ). List·Memᴰ k (map nodeNumber (m .nodes))) (x .1) (tail-in (formedLinks.linked m h) (formedLinks.within-nodes m h) (x .0)))
+      row = Memᴰ·of-map nodeNumber (m .nodes)
+          (subst (λ (k : ℕ). List·Memᴰ k (map nodeNumber (m .nodes))) (x .1)
+          (tail-in (formedLinks.linked m h) (formedLinks.within-nodes m h) (x .0)))
 
       differ : waysDiffer (map (way m) (from (leaves m) (directed m) n)) ≡ true
-      differ = subst (λ (k : ℕ). waysDiffer (map (way m) (departures m k)) ≡ true) (row .2) (all-each (λ r. waysDiffer (map (way m) (departures m (r .number)))) (m .nodes) (formed-is m h .departures) (row .0) (row .1))
+      differ = subst (λ (k : ℕ). waysDiffer (map (way m) (departures m k)) ≡ true) (row .2)
+          (all-each (λ r. waysDiffer (map (way m) (departures m (r .number)))) (m .nodes) (formed-is m h .departures)
+          (row .0) (row .1))
 
-  formed-bare : (n : ℕ) → hasNode m n ≡ true → isolated m n ≡ true → (d : Dart) → List·Memᴰ d (directed m) → leaves m d ≡ n → ⊥
+  formed-bare : (n : ℕ) → hasNode m n ≡ true → isolated m n ≡ true → (d : Dart) → List·Memᴰ d (directed m) → leaves m d
+      ≡ n → ⊥
   unfolding bareMarked
   formed-bare n has iso d k e = no-member (departures m n) (same-true (edgeEnds m n) 0 none) (departing m n k e)
     where
       none : same (edgeEnds m n) 0 ≡ true
       none = ap (λ (x : ℕ). same (edgeEnds m x) 0) (sym (node-row m n has .1))
-          ∙ sym (beq-true (isSome (node m n .face)) (same (edgeEnds m (node m n .number)) 0) (all-each (λ r. Bool·beq (isSome (r .face)) (same (edgeEnds m (r .number)) 0)) (m .nodes) (formed-is m h .bare) (node m n) (node-row m n has .0)))
+          ∙ sym (beq-true (isSome (node m n .face)) (same (edgeEnds m (node m n .number)) 0)
+          (all-each (λ r. Bool·beq (isSome (r .face)) (same (edgeEnds m (r .number)) 0)) (m .nodes)
+          (formed-is m h .bare) (node m n) (node-row m n has .0)))
           ∙ iso
 
   pub formed-anchored : (r : Edge) → List·Memᴰ r (m .edges) → Anchored m r
   formed-anchored r k =
       let fits = all-each (curveFits m) (m .edges) (formed-is m h .curves) r k in
-      let ends = and-true (samePoint (r .curve .first) (node m (r .start) .at)) (samePoint (lastPoint (r .curve)) (node m (r .end) .at)) (and-true _ (neighboursDiffer (r .curve)) fits .0) in
+      let ends = and-true (samePoint (r .curve .first) (node m (r .start) .at))
+      (samePoint (lastPoint (r .curve)) (node m (r .end) .at)) (and-true _ (neighboursDiffer (r .curve)) fits .0) in
       record { start = samePoint-true _ _ (ends .0); end = samePoint-true _ _ (ends .1) }
 
-  pub formed-lawful : ((r : Edge) → List·Memᴰ r (m .edges) → 2 ≤ length (points (r .curve))) → obeysLaw m ≡ true → Lawful m
+  pub formed-lawful : ((r : Edge) → List·Memᴰ r (m .edges) → 2 ≤ length (points (r .curve))) → obeysLaw m ≡ true
+      → Lawful m
   formed-lawful least law = record {
     once = formedLinks.edges-once m h;
     linked = formedLinks.linked m h;

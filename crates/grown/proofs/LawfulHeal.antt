@@ -1,8 +1,10 @@
--- Kinds 9 and 10: the rows of a heal are those of a map with the two edges as one, and the law is kept. Assumes nothing.
+-- Kinds 9 and 10: the rows of a heal are those of a map with the two edges as one, and the law is kept. Assumes
+-- nothing.
 use mathlib.Core.Path.{_≡_, refl, sym, ap, ap₂, _∙_, subst}
 use mathlib.Core.Logic.{_⊎_, inl, inr, _≢_}
 use mathlib.Core.Bool.{Bool, true, false, cond, not}
-use mathlib.Core.List.{List, [], _∷_, _++_, map, map-map, List·Memᴰ, Memᴰ·map, Memᴰ·of-map, List·Permᴰ, List·Permᴰ·cons, List·Permᴰ·swap, List·Permᴰ·trans, Permᴰ·map}
+use mathlib.Core.List.{List, [], _∷_, _++_, map, map-map, List·Memᴰ, Memᴰ·map, Memᴰ·of-map, List·Permᴰ, List·Permᴰ·cons}
+use mathlib.Core.List.{List·Permᴰ·swap, List·Permᴰ·trans, Permᴰ·map}
 use mathlib.Core.Option.{Option·getD}
 use Prim.Native.Nat.{ℕ, _<_}
 use native.Mathlib.Omega.{arith}
@@ -32,7 +34,8 @@ own-part : (m : Map) (e f : ℕ) → (parts m e f .0 ≡ fwd e) ⊎ (parts m e f
 unfolding parts
 own-part m e f = go (same (Option·getD (joint m e f) 0) (edge m e .end)) _ _
   where
-    go : (b : Bool) (x y : Dart) → (cond {A = Dart × Dart} b (fwd e, x) (y, fwd e) .0 ≡ fwd e) ⊎ (cond {A = Dart × Dart} b (fwd e, x) (y, fwd e) .1 ≡ fwd e)
+    go : (b : Bool) (x y : Dart) → (cond {A = Dart × Dart} b (fwd e, x) (y, fwd e) .0 ≡ fwd e)
+        ⊎ (cond {A = Dart × Dart} b (fwd e, x) (y, fwd e) .1 ≡ fwd e)
     go true x y = inl refl
     go false x y = inr refl
 
@@ -69,11 +72,13 @@ module _ (m : Map) (L : Lawful m) (e f : ℕ) (q : Heal m e f) where
   once-less = perm-distinct (Permᴰ·map numberOf rows-f) once-m .1
 
   rows-e : List·Permᴰ (withoutEdge f (m .edges)) (edge m e ∷ rest)
-  rows-e = subst (λ (x : Edge). List·Permᴰ (withoutEdge f (m .edges)) (x ∷ rest)) (less-edge m less f refl e (q .differ)) (rows-m less e (λ r. r) (λ r. refl) once-less has-less)
+  rows-e = subst (λ (x : Edge). List·Permᴰ (withoutEdge f (m .edges)) (x ∷ rest))
+      (less-edge m less f refl e (q .differ)) (rows-m less e (λ r. r) (λ r. refl) once-less has-less)
 
   old-rows : List·Permᴰ (m .edges) (edge m (c .edge) ∷ edge m (d .edge) ∷ rest)
   old-rows = elim (seam .meet .edges) [
-    | inl x ↦ subst (List·Permᴰ (m .edges)) (ap₂ (λ i j. edge m i ∷ edge m j ∷ rest) (sym (x .0)) (sym (x .1))) (List·Permᴰ·trans both (List·Permᴰ·swap refl refl))
+    | inl x ↦ subst (List·Permᴰ (m .edges)) (ap₂ (λ i j. edge m i ∷ edge m j ∷ rest) (sym (x .0)) (sym (x .1)))
+        (List·Permᴰ·trans both (List·Permᴰ·swap refl refl))
     | inr x ↦ subst (List·Permᴰ (m .edges)) (ap₂ (λ i j. edge m i ∷ edge m j ∷ rest) (sym (x .0)) (sym (x .1))) both
   ]
     where
@@ -125,16 +130,28 @@ module _ (m : Map) (L : Lawful m) (e f : ℕ) (q : Heal m e f) where
     }
 
     -- the healed row last
-    new-rows : List·Permᴰ (withoutEdge e (withoutEdge f (rejoined m h c d .edges)) ++ healed ∷ []) (healedRow m e h c d ∷ map (relinked h c d) rest)
-    new-rows = subst (λ (l : List Edge). List·Permᴰ (l ++ healed ∷ []) (healedRow m e h c d ∷ map (relinked h c d) rest)) (sym others) (subst (λ (x : Edge). List·Permᴰ (map (relinked h c d) rest ++ x ∷ []) (healedRow m e h c d ∷ map (relinked h c d) rest)) (sym healed-is) (one-last (map (relinked h c d) rest) (healedRow m e h c d)))
+    new-rows : List·Permᴰ (withoutEdge e (withoutEdge f (rejoined m h c d .edges)) ++ healed ∷ [])
+        (healedRow m e h c d ∷ map (relinked h c d) rest)
+    new-rows = subst (λ (l : List Edge). List·Permᴰ (l ++ healed ∷ [])
+        (healedRow m e h c d ∷ map (relinked h c d) rest)) (sym others)
+        (subst (λ (x : Edge). List·Permᴰ (map (relinked h c d) rest ++ x ∷ [])
+        (healedRow m e h c d ∷ map (relinked h c d) rest)) (sym healed-is)
+        (one-last (map (relinked h c d) rest) (healedRow m e h c d)))
       where
         others : withoutEdge e (withoutEdge f (rejoined m h c d .edges)) ≡ map (relinked h c d) rest
-        others = ap (λ l. withoutEdge e (withoutEdge f l)) (rejoined-edges m h c d) ∙ ap (withoutEdge e) (left-out m f (relinked h c d) (λ r. refl) once-m (q .has-other)) ∙ left-out less e (relinked h c d) (λ r. refl) once-less has-less
+        others = ap (λ l. withoutEdge e (withoutEdge f l)) (rejoined-edges m h c d)
+            ∙ ap (withoutEdge e) (left-out m f (relinked h c d) (λ r. refl) once-m (q .has-other))
+            ∙ left-out less e (relinked h c d) (λ r. refl) once-less has-less
 
     -- or in the place of e, whose number it has
-    kept-rows : h ≡ e → List·Permᴰ (withoutEdge f (map (λ r. cond (same (r .number) e) healed r) (rejoined m h c d .edges))) (healedRow m e h c d ∷ map (relinked h c d) rest)
+    kept-rows : h ≡ e → List·Permᴰ (withoutEdge f
+        (map (λ r. cond (same (r .number) e) healed r) (rejoined m h c d .edges)))
+        (healedRow m e h c d ∷ map (relinked h c d) rest)
     unfolding healed
-    kept-rows he = subst (λ (l : List Edge). List·Permᴰ l (healedRow m e h c d ∷ map (relinked h c d) rest)) (sym others) (subst (λ (x : Edge). List·Permᴰ (map put (map (relinked h c d) (withoutEdge f (m .edges)))) (x ∷ map (relinked h c d) rest)) healed-is (replaced less e (relinked h c d) (λ r. refl) once-less has-less healed))
+    kept-rows he = subst (λ (l : List Edge). List·Permᴰ l (healedRow m e h c d ∷ map (relinked h c d) rest))
+        (sym others) (subst (λ (x : Edge). List·Permᴰ (map put (map (relinked h c d) (withoutEdge f (m .edges))))
+        (x ∷ map (relinked h c d) rest)) healed-is
+        (replaced less e (relinked h c d) (λ r. refl) once-less has-less healed))
       where
         put : Edge → Edge
         put r = cond (same (r .number) e) healed r
@@ -146,14 +163,22 @@ module _ (m : Map) (L : Lawful m) (e f : ℕ) (q : Heal m e f) where
             go true p = he ∙ sym (same-true (r .number) e p)
             go false p = refl
 
-        others : withoutEdge f (map put (rejoined m h c d .edges)) ≡ map put (map (relinked h c d) (withoutEdge f (m .edges)))
+        others : withoutEdge f (map put (rejoined m h c d .edges))
+            ≡ map put (map (relinked h c d) (withoutEdge f (m .edges)))
         others = ap (λ l. withoutEdge f (map put l)) (rejoined-edges m h c d)
-            ∙ keep-map put (λ r. not (same (r .number) f)) (λ r. not (same (r .number) f)) (map (relinked h c d) (m .edges)) (λ r k. ap (λ (x : ℕ). not (same x f)) (put-number r))
+            ∙ keep-map put (λ r. not (same (r .number) f)) (λ r. not (same (r .number) f))
+            (map (relinked h c d) (m .edges)) (λ r k. ap (λ (x : ℕ). not (same x f)) (put-number r))
             ∙ ap (map put) (left-out m f (relinked h c d) (λ r. refl) once-m (q .has-other))
 
   pub new-healed : Healed m (heal false e f m) e (m .nextEdge) c d rest
   unfolding heal healed
-  new-healed = record { rows = new-rows (m .nextEdge); old-rows = old-rows; own = own-part m e f; named = named; new-h = new-next }
+  new-healed = record {
+    rows = new-rows (m .nextEdge);
+    old-rows = old-rows;
+    own = own-part m e f;
+    named = named;
+    new-h = new-next;
+  }
     where
       named : fwd (m .nextEdge) ≢ rev d
       named p = let x = below (edge-row m (d .edge) (dart-has m (seam .second-in)) .0) in
@@ -163,7 +188,13 @@ module _ (m : Map) (L : Lawful m) (e f : ℕ) (q : Heal m e f) where
 
   pub kept-healed : Healed m (heal true e f m) e e c d rest
   unfolding heal atEdge healed
-  kept-healed = record { rows = kept-rows e refl; old-rows = old-rows; own = own-part m e f; named = named; new-h = new-e }
+  kept-healed = record {
+    rows = kept-rows e refl;
+    old-rows = old-rows;
+    own = own-part m e f;
+    named = named;
+    new-h = new-e;
+  }
     where
       named : fwd e ≢ rev d
       named p = elim (own-part m e f) [

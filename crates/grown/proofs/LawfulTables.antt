@@ -2,7 +2,8 @@
 use mathlib.Core.Path.{_≡_, refl, sym, ap, _∙_, subst}
 use mathlib.Core.Logic.{inl, inr}
 use mathlib.Core.Bool.{Bool, true, false, cond, not}
-use mathlib.Core.List.{List, [], _∷_, _++_, map, map-map, append-assoc, List·Memᴰ, List·Memᴰ·append-cases, List·Memᴰ·eq-of-singleton, Memᴰ·map, Memᴰ·of-map}
+use mathlib.Core.List.{List, [], _∷_, _++_, map, map-map, append-assoc, List·Memᴰ, List·Memᴰ·append-cases}
+use mathlib.Core.List.{List·Memᴰ·eq-of-singleton, Memᴰ·map, Memᴰ·of-map}
 use mathlib.Core.Option.{Option, none, some}
 use Prim.Native.Nat.{ℕ, zero, suc, _+_, _≤_, _<_}
 use native.Mathlib.Omega.{arith}
@@ -30,7 +31,9 @@ use Rattle.map.specs.Rows.{Edge, Map, Lent, Sizes, edge, mapOf, lentOf, sizesOf
 use Rattle.map.specs.Darts.{arcs, directed, leaves, next, way}
 use Rattle.map.specs.Links.{obeysLaw}
 use Rattle.map.specs.Form.{within, ranged, formed, inForm}
-use Rattle.map.specs.Tickets.{Ticket, AddIsoNode, MoveIsoNode, RemoveIsoNode, AddIsoEdge, RemoveIsoEdge, ChangeEdgeGeom, NewEdgesSplit, ModEdgeSplit, NewEdgeHeal, ModEdgeHeal, AddEdgeNewFaces, AddEdgeModFace, RemEdgeNewFace, RemEdgeModFace, read}
+use Rattle.map.specs.Tickets.{Ticket, AddIsoNode, MoveIsoNode, RemoveIsoNode, AddIsoEdge, RemoveIsoEdge, ChangeEdgeGeom}
+use Rattle.map.specs.Tickets.{NewEdgesSplit, ModEdgeSplit, NewEdgeHeal, ModEdgeHeal, AddEdgeNewFaces, AddEdgeModFace}
+use Rattle.map.specs.Tickets.{RemEdgeNewFace, RemEdgeModFace, read}
 use Rattle.map.specs.Reasons.{firstReason, reasons}
 use Rattle.map.specs.Ticket.{carried, lentReasons, unless, judged, ticket}
 use Rattle.map.proofs.RoundTrip.{Holds, reads-back, within-least, ranged-is}
@@ -43,9 +46,12 @@ use Rattle.grown.proofs.Reasons as facts
 use Rattle.grown.proofs.Reasons.{Split}
 use Rattle.grown.proofs.EdgesLaw.{from-in, from-has}
 use Rattle.grown.proofs.CurvesSurvey.{Line, lineOf, lines, lineNumber}
-use Rattle.grown.proofs.CurvesRows.{redrawn, addIsoNode-becomes, moveIsoNode-becomes, removeIsoNode-becomes, addIsoEdge-becomes, removeIsoEdge-becomes, changeEdgeGeom-becomes, addEdge-becomes, removeEdge-becomes}
+use Rattle.grown.proofs.CurvesRows.{redrawn, addIsoNode-becomes, moveIsoNode-becomes, removeIsoNode-becomes}
+use Rattle.grown.proofs.CurvesRows.{addIsoEdge-becomes, removeIsoEdge-becomes, changeEdgeGeom-becomes}
+use Rattle.grown.proofs.CurvesRows.{addEdge-becomes, removeEdge-becomes}
 use Rattle.grown.proofs.CurvesCut.{firstHalf, secondHalf}
-use Rattle.grown.proofs.CurvesHalves.{healedRow, split-new-becomes, split-mod-becomes, heal-new-becomes, heal-mod-becomes}
+use Rattle.grown.proofs.CurvesHalves.{healedRow, split-new-becomes, split-mod-becomes, heal-new-becomes}
+use Rattle.grown.proofs.CurvesHalves.{heal-mod-becomes}
 use Rattle.grown.proofs.LawfulForm.{Obeys, Lawful, law-is, formed-lawful}
 use Rattle.grown.proofs.LawfulCurves.{halves-few}
 use Rattle.grown.proofs.LawfulSplit.{off-ends}
@@ -63,7 +69,8 @@ module _ {N : ℕ} {ls : List Line} (s : Sheet N ls) where
   -- a line left out
   sheet-less : (e : ℕ) → Sheet N (without lineNumber e ls)
   sheet-less e = record {
-    once = subst Distinct (keep-map lineNumber (λ l. not (same (l .number) e)) (λ n. not (same n e)) ls (λ l k. refl)) (distinct-keep (λ n. not (same n e)) (map lineNumber ls) (s .once));
+    once = subst Distinct (keep-map lineNumber (λ l. not (same (l .number) e)) (λ n. not (same n e)) ls (λ l k. refl))
+        (distinct-keep (λ n. not (same n e)) (map lineNumber ls) (s .once));
     least = λ l k. s .least l (inside k);
     below = λ l k. s .below l (inside k);
     few = λ l k. s .few l (inside k);
@@ -73,12 +80,25 @@ module _ {N : ℕ} {ls : List Line} (s : Sheet N ls) where
       inside k = keep-in (λ l. not (same (lineNumber l) e)) ls k .0
 
   -- one more, with the next number
-  sheet-more : (x : Line) → x .number ≡ N → 1 ≤ N → length (points (x .curve)) ≤ maxPoints → Sheet (N + 1) (ls ++ x ∷ [])
+  sheet-more : (x : Line) → x .number ≡ N → 1 ≤ N → length (points (x .curve)) ≤ maxPoints
+      → Sheet (N + 1) (ls ++ x ∷ [])
   sheet-more x n one few = record {
     once = perm-distinct (last-first lineNumber ls x) (new, s .once);
-    least = λ l k. elim (List·Memᴰ·append-cases ls k) [ inl i ↦ s .least l i | inr i ↦ (let e = ap lineNumber (List·Memᴰ·eq-of-singleton i) in omega arith) ];
-    below = λ l k. elim (List·Memᴰ·append-cases ls k) [ inl i ↦ (let b = s .below l i in omega arith) | inr i ↦ (let e = ap lineNumber (List·Memᴰ·eq-of-singleton i) in omega arith) ];
-    few = λ l k. elim (List·Memᴰ·append-cases ls k) [ inl i ↦ s .few l i | inr i ↦ subst (λ (y : Line). length (points (y .curve)) ≤ maxPoints) (sym (List·Memᴰ·eq-of-singleton i)) few ];
+    least = λ l k. elim (List·Memᴰ·append-cases ls k) [
+      | inl i ↦ s .least l i
+      | inr i ↦
+          (let e = ap lineNumber (List·Memᴰ·eq-of-singleton i) in omega arith)
+    ];
+    below = λ l k. elim (List·Memᴰ·append-cases ls k) [
+      | inl i ↦ (let b = s .below l i in omega arith)
+      | inr i ↦
+          (let e = ap lineNumber (List·Memᴰ·eq-of-singleton i) in omega arith)
+    ];
+    few = λ l k. elim (List·Memᴰ·append-cases ls k) [
+      | inl i ↦ s .few l i
+      | inr i ↦ subst
+          (λ (y : Line). length (points (y .curve)) ≤ maxPoints) (sym (List·Memᴰ·eq-of-singleton i)) few
+    ];
   }
     where
       new : List·Memᴰ (x .number) (map lineNumber ls) → ⊥
@@ -88,12 +108,18 @@ module _ {N : ℕ} {ls : List Line} (s : Sheet N ls) where
           go y = let b = s .below (y .0) (y .1) in let e = y .2 in omega arith
 
   -- the line e changed to one of its number
-  sheet-at : (e : ℕ) (f : Line → Line) → ((l : Line) → l .number ≡ e → f l .number ≡ e) → ((l : Line) → length (points (f l .curve)) ≤ maxPoints) → Sheet N (map (λ l. cond (same (l .number) e) (f l) l) ls)
+  sheet-at : (e : ℕ) (f : Line → Line) → ((l : Line) → l .number ≡ e → f l .number ≡ e)
+      → ((l : Line) → length (points (f l .curve)) ≤ maxPoints)
+      → Sheet N (map (λ l. cond (same (l .number) e) (f l) l) ls)
   sheet-at e f keeps few = record {
-    once = subst Distinct (sym (map-map lineNumber put ls ∙ map-cong (λ l. put l .number) lineNumber ls (λ l k. number l))) (s .once);
-    least = λ l k. let y = Memᴰ·of-map put ls k in let n = number (y .0) in let e = ap lineNumber (y .2) in let b = s .least (y .0) (y .1) in omega arith;
-    below = λ l k. let y = Memᴰ·of-map put ls k in let n = number (y .0) in let e = ap lineNumber (y .2) in let b = s .below (y .0) (y .1) in omega arith;
-    few = λ l k. let y = Memᴰ·of-map put ls k in subst (λ (z : Line). length (points (z .curve)) ≤ maxPoints) (y .2) (size (y .0) (s .few (y .0) (y .1)));
+    once = subst Distinct (sym (map-map lineNumber put ls
+        ∙ map-cong (λ l. put l .number) lineNumber ls (λ l k. number l))) (s .once);
+    least = λ l k. let y = Memᴰ·of-map put ls k in let n = number (y .0) in let e = ap lineNumber (y .2) in let b =
+        s .least (y .0) (y .1) in omega arith;
+    below = λ l k. let y = Memᴰ·of-map put ls k in let n = number (y .0) in let e = ap lineNumber (y .2) in let b =
+        s .below (y .0) (y .1) in omega arith;
+    few = λ l k. let y = Memᴰ·of-map put ls k in
+        subst (λ (z : Line). length (points (z .curve)) ≤ maxPoints) (y .2) (size (y .0) (s .few (y .0) (y .1)));
   }
     where
       put : Line → Line
@@ -117,7 +143,9 @@ module _ {N : ℕ} {ls : List Line} (s : Sheet N ls) where
 
 module _ (s : Sizes) (m : Map) (L : Lawful m) (one : 1 ≤ m .nextEdge) (sheet : Sheet (m .nextEdge) (lines m)) where
   -- the halves of a curve have no more points than it
-  few-halves : (more e : ℕ) (p : Point) → Split more s m e p → (length (points (front p (edge m e .curve))) ≤ maxPoints) × (length (points (back p (edge m e .curve))) ≤ maxPoints)
+  few-halves : (more e : ℕ) (p : Point) → Split more s m e p
+      → (length (points (front p (edge m e .curve))) ≤ maxPoints)
+      × (length (points (back p (edge m e .curve))) ≤ maxPoints)
   few-halves more e p h =
       let row = edge-row m e (h .has) .0 in
       let few = sheet .few (lineOf (edge m e)) (Memᴰ·map lineOf row) in
@@ -135,25 +163,42 @@ module _ (s : Sizes) (m : Map) (L : Lawful m) (one : 1 ≤ m .nextEdge) (sheet :
   carried-sheet (AddIsoNode f x y) h = by-lines (addIsoNode-becomes (point x y) m .lines) sheet
   carried-sheet (MoveIsoNode n x y) h = by-lines (moveIsoNode-becomes (natAbs n) (point x y) m .lines) sheet
   carried-sheet (RemoveIsoNode n) h = by-lines (removeIsoNode-becomes (natAbs n) m .lines) sheet
-  carried-sheet (AddIsoEdge u v c) h = by-lines (addIsoEdge-becomes (natAbs u) (natAbs v) (curveOf c) m .lines) (sheet-more sheet _ refl one (facts.add-lone s m u v c h .sent .most))
+  carried-sheet (AddIsoEdge u v c) h = by-lines (addIsoEdge-becomes (natAbs u) (natAbs v) (curveOf c) m .lines)
+      (sheet-more sheet _ refl one (facts.add-lone s m u v c h .sent .most))
   carried-sheet (RemoveIsoEdge e) h = by-lines (removeIsoEdge-becomes (natAbs e) m .lines) (sheet-less sheet (natAbs e))
-  carried-sheet (ChangeEdgeGeom e c) h = by-lines (changeEdgeGeom-becomes (natAbs e) (curveOf c) m .lines) (sheet-at sheet (natAbs e) (redrawn (curveOf c)) (λ l q. q) (λ l. facts.change s m e c h .sent .most))
+  carried-sheet (ChangeEdgeGeom e c) h =
+      by-lines (changeEdgeGeom-becomes (natAbs e) (curveOf c) m .lines)
+      (sheet-at sheet (natAbs e) (redrawn (curveOf c)) (λ l q. q) (λ l. facts.change s m e c h .sent .most))
   carried-sheet (NewEdgesSplit e x y) h =
       let k = few-halves 2 (natAbs e) (point x y) (facts.split-new s m e x y h) in
       let a = firstHalf (lineOf (edge m (natAbs e))) (m .nextNode) (m .nextEdge) (point x y) in
       let b = secondHalf (lineOf (edge m (natAbs e))) (m .nextNode) (m .nextEdge + 1) (point x y) in
-      by-lines (split-new-becomes (natAbs e) (point x y) m .lines ∙ sym (append-assoc (without lineNumber (natAbs e) (lines m)) (a ∷ []) (b ∷ []))) (sheet-more (sheet-more (sheet-less sheet (natAbs e)) a refl one (k .0)) b refl (omega arith) (k .1))
+      by-lines (split-new-becomes (natAbs e) (point x y) m .lines
+      ∙ sym (append-assoc (without lineNumber (natAbs e) (lines m)) (a ∷ []) (b ∷ [])))
+      (sheet-more (sheet-more (sheet-less sheet (natAbs e)) a refl one (k .0)) b refl (omega arith) (k .1))
   carried-sheet (ModEdgeSplit e x y) h =
       let k = few-halves 1 (natAbs e) (point x y) (facts.split-mod s m e x y h) in
-      by-lines (split-mod-becomes (natAbs e) (point x y) m .lines) (sheet-more (sheet-at sheet (natAbs e) (λ l. firstHalf (lineOf (edge m (natAbs e))) (m .nextNode) (natAbs e) (point x y)) (λ l q. refl) (λ l. k .0)) _ refl one (k .1))
+      by-lines (split-mod-becomes (natAbs e) (point x y) m .lines)
+      (sheet-more (sheet-at sheet (natAbs e)
+      (λ l. firstHalf (lineOf (edge m (natAbs e))) (m .nextNode) (natAbs e) (point x y)) (λ l q. refl)
+      (λ l. k .0)) _ refl one (k .1))
   carried-sheet (NewEdgeHeal e f) h =
-      by-lines (heal-new-becomes (natAbs e) (natAbs f) m .lines) (sheet-more (sheet-less (sheet-less sheet (natAbs f)) (natAbs e)) _ refl one (facts.heal-new s m e f h .0 .most))
+      by-lines (heal-new-becomes (natAbs e) (natAbs f) m .lines)
+      (sheet-more (sheet-less (sheet-less sheet (natAbs f)) (natAbs e)) _ refl one (facts.heal-new s m e f h .0 .most))
   carried-sheet (ModEdgeHeal e f) h =
-      by-lines (heal-mod-becomes (natAbs e) (natAbs f) m .lines) (sheet-less (sheet-at sheet (natAbs e) (λ l. healedRow (natAbs e) (natAbs e) (natAbs f) m) (λ l q. refl) (λ l. facts.heal-mod s m e f h .most)) (natAbs f))
-  carried-sheet (AddEdgeNewFaces u v c) h = by-lines (addEdge-becomes true (natAbs u) (natAbs v) (curveOf c) m .lines) (sheet-more sheet _ refl one (facts.add-new s m u v c h .sent .most))
-  carried-sheet (AddEdgeModFace u v c) h = by-lines (addEdge-becomes false (natAbs u) (natAbs v) (curveOf c) m .lines) (sheet-more sheet _ refl one (facts.add-mod s m u v c h .sent .most))
-  carried-sheet (RemEdgeNewFace e) h = by-lines (removeEdge-becomes true (natAbs e) m .lines) (sheet-less sheet (natAbs e))
-  carried-sheet (RemEdgeModFace e) h = by-lines (removeEdge-becomes false (natAbs e) m .lines) (sheet-less sheet (natAbs e))
+      by-lines (heal-mod-becomes (natAbs e) (natAbs f) m .lines)
+      (sheet-less (sheet-at sheet (natAbs e) (λ l. healedRow (natAbs e) (natAbs e) (natAbs f) m) (λ l q. refl)
+      (λ l. facts.heal-mod s m e f h .most)) (natAbs f))
+  carried-sheet (AddEdgeNewFaces u v c) h =
+      by-lines (addEdge-becomes true (natAbs u) (natAbs v) (curveOf c) m .lines)
+      (sheet-more sheet _ refl one (facts.add-new s m u v c h .sent .most))
+  carried-sheet (AddEdgeModFace u v c) h =
+      by-lines (addEdge-becomes false (natAbs u) (natAbs v) (curveOf c) m .lines)
+      (sheet-more sheet _ refl one (facts.add-mod s m u v c h .sent .most))
+  carried-sheet (RemEdgeNewFace e) h = by-lines (removeEdge-becomes true (natAbs e) m .lines)
+      (sheet-less sheet (natAbs e))
+  carried-sheet (RemEdgeModFace e) h = by-lines (removeEdge-becomes false (natAbs e) m .lines)
+      (sheet-less sheet (natAbs e))
 
 -- ---- a map with such lines that obeys the law is read back
 
@@ -172,10 +217,13 @@ module _ (m : Map) (law : Obeys m) {N : ℕ} (sheet : Sheet N (lines m)) where
       stays : List·Memᴰ (next m (rev (rev d))) (from (leaves m) (directed m) (leaves m (rev d)))
       stays =
           let at = from-has (leaves m) (directed m) (leaves m (rev d)) (rev-in (arcs m) k) refl in
-          subst (λ (c : Dart). List·Memᴰ c (from (leaves m) (directed m) (leaves m (rev d)))) (sym (law (leaves m (rev d)) (rev d) at)) (lawful-in (way m) sameDart (from (leaves m) (directed m) (leaves m (rev d))) (rev d) at)
+          subst (λ (c : Dart). List·Memᴰ c (from (leaves m) (directed m) (leaves m (rev d))))
+          (sym (law (leaves m (rev d)) (rev d) at))
+          (lawful-in (way m) sameDart (from (leaves m) (directed m) (leaves m (rev d))) (rev d) at)
 
       in-next : List·Memᴰ (next m d) (directed m)
-      in-next = subst (λ (c : Dart). List·Memᴰ (next m c) (directed m)) (rev-rev d) (from-in (leaves m) (directed m) (leaves m (rev d)) stays .0)
+      in-next = subst (λ (c : Dart). List·Memᴰ (next m c) (directed m)) (rev-rev d)
+          (from-in (leaves m) (directed m) (leaves m (rev d)) stays .0)
 
   holds : (r : Edge) → List·Memᴰ r (m .edges) → Holds r
   holds r k =
@@ -205,24 +253,32 @@ module _ (l : Lent) (form : inForm l ≡ true) (law : obeysLaw (mapOf l) ≡ tru
 
   in-form-sheet : Sheet (mapOf l .nextEdge) (lines (mapOf l))
   in-form-sheet = record {
-    once = subst Distinct (sym (map-map lineNumber lineOf (mapOf l .edges))) (formed-is (mapOf l) (both .1) .numbers .edges .distinct);
-    least = λ x k. let y = Memᴰ·of-map lineOf (mapOf l .edges) k in let e = ap lineNumber (y .2) in let b = formed-is (mapOf l) (both .1) .numbers .edges .from (y .0 .number) (Memᴰ·map numberOf (y .1)) in omega arith;
-    below = λ x k. let y = Memᴰ·of-map lineOf (mapOf l .edges) k in let e = ap lineNumber (y .2) in let b = formed-is (mapOf l) (both .1) .numbers .edges .below (y .0 .number) (Memᴰ·map numberOf (y .1)) in omega arith;
-    few = λ x k. let y = Memᴰ·of-map lineOf (mapOf l .edges) k in subst (λ (z : Line). length (points (z .curve)) ≤ maxPoints) (y .2) (in-form-points l form (y .0) (y .1) .most);
+    once = subst Distinct (sym (map-map lineNumber lineOf (mapOf l .edges)))
+        (formed-is (mapOf l) (both .1) .numbers .edges .distinct);
+    least = λ x k. let y = Memᴰ·of-map lineOf (mapOf l .edges) k in let e = ap lineNumber (y .2) in let b =
+        formed-is (mapOf l) (both .1) .numbers .edges .from (y .0 .number) (Memᴰ·map numberOf (y .1)) in omega arith;
+    below = λ x k. let y = Memᴰ·of-map lineOf (mapOf l .edges) k in let e = ap lineNumber (y .2) in let b =
+        formed-is (mapOf l) (both .1) .numbers .edges .below (y .0 .number) (Memᴰ·map numberOf (y .1)) in omega arith;
+    few = λ x k. let y = Memᴰ·of-map lineOf (mapOf l .edges) k in
+        subst (λ (z : Line). length (points (z .curve)) ≤ maxPoints) (y .2) (in-form-points l form (y .0) (y .1) .most);
   }
 
-  carried-lawful : (t : Ticket) → firstReason (reasons (sizesOf l) (mapOf l) t) ≡ 0 → obeysLaw (mapOf (lentOf (sizesOf l) (carried (mapOf l) t .0))) ≡ true
+  carried-lawful : (t : Ticket) → firstReason (reasons (sizesOf l) (mapOf l) t) ≡ 0
+      → obeysLaw (mapOf (lentOf (sizesOf l) (carried (mapOf l) t .0))) ≡ true
   carried-lawful t h =
       let obeys = carried-obeys (sizesOf l) (mapOf l) in-form-lawful t h in
       let sheet = carried-sheet (sizesOf l) (mapOf l) in-form-lawful first-edge in-form-sheet t h in
-      ap obeysLaw (lawful-back (carried (mapOf l) t .0) obeys (sheet .1) (sizesOf l)) ∙ law-is (carried (mapOf l) t .0) obeys
+      ap obeysLaw (lawful-back (carried (mapOf l) t .0) obeys (sheet .1) (sizesOf l))
+      ∙ law-is (carried (mapOf l) t .0) obeys
 
--- after every ticket, carried out or turned down, all links obey the law, given that they did before; whatever the tables
+-- after every ticket, carried out or turned down, all links obey the law, given that they did before; whatever the
+-- tables
 pub ticket-lawful : (l : Lent) (t : List ℤ) → obeysLaw (mapOf l) ≡ true → obeysLaw (mapOf (ticket l t .lent)) ≡ true
 unfolding ticket
 ticket-lawful l t law = judge (read t)
   where
-    carry : (k : Ticket) (n : ℕ) → firstReason (lentReasons l ++ reasons (sizesOf l) (mapOf l) k) ≡ n → obeysLaw (mapOf (unless l n (carried (mapOf l) k) .lent)) ≡ true
+    carry : (k : Ticket) (n : ℕ) → firstReason (lentReasons l ++ reasons (sizesOf l) (mapOf l) k) ≡ n
+        → obeysLaw (mapOf (unless l n (carried (mapOf l) k) .lent)) ≡ true
     carry k zero h =
         let h₁ = first-zero 1 (not (whole l)) _ (omega arith) h in
         let h₂ = first-zero 2 (not (inForm l)) (reasons (sizesOf l) (mapOf l) k) (omega arith) (h₁ .1) in

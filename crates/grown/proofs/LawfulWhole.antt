@@ -1,8 +1,10 @@
--- Two edges healed to one: the law makes the two departures at the joint lead to one another, and is kept. Curves may cross. Assumes nothing.
+-- Two edges healed to one: the law makes the two departures at the joint lead to one another, and is kept. Curves may
+-- cross. Assumes nothing.
 use mathlib.Core.Path.{_≡_, refl, sym, ap, ap₂, _∙_, subst}
 use mathlib.Core.Logic.{_⊎_, inl, inr, _≢_}
 use mathlib.Core.Bool.{Bool, true, false, not, true≢false, false≢true}
-use mathlib.Core.List.{List, _∷_, map, map-map, List·Memᴰ, List·Memᴰ·head, List·Memᴰ·tail, Memᴰ·map, Memᴰ·cast, List·Permᴰ, Permᴰ·map, Permᴰ·symm}
+use mathlib.Core.List.{List, _∷_, map, map-map, List·Memᴰ, List·Memᴰ·head, List·Memᴰ·tail, Memᴰ·map, Memᴰ·cast}
+use mathlib.Core.List.{List·Permᴰ, Permᴰ·map, Permᴰ·symm}
 use Prim.Native.Nat.{ℕ}
 use Rattle.lists.specs.Members.{Distinct}
 use Rattle.lists.proofs.Perms.{perm-in, perm-distinct}
@@ -23,12 +25,14 @@ use Rattle.geometry.proofs.Theorems.{reverse-twice}
 use Rattle.map.specs.Rows.{Edge, Map, node, edge}
 use Rattle.map.specs.Darts.{arcs, directed, leaves, next, bears, course, way, departures}
 use Rattle.map.specs.Links.{instead}
-use Rattle.grown.proofs.Readings.{tailIn, nextIn, courseIn, leaves-row, bears-row, course-row, way-row, arcOf, edge-row, dart-has, departs, departing}
+use Rattle.grown.proofs.Readings.{tailIn, nextIn, courseIn, leaves-row, bears-row, course-row, way-row, arcOf}
+use Rattle.grown.proofs.Readings.{edge-row, dart-has, departs, departing}
 use Rattle.grown.proofs.Joint.{Seamed}
 use Rattle.grown.proofs.Renumber.{runs}
 use Rattle.grown.proofs.RowDarts.{dart-move, dart-row, leaves-of, next-of, bears-of, way-of}
 use Rattle.grown.proofs.Halved as halved
-use Rattle.grown.proofs.Halved.{Halved, arrives, whole, each-whole, each-halved, f-fwd, f-bwd, f-old, g-fwd, g-bwd, g-old}
+use Rattle.grown.proofs.Halved.{Halved, arrives, whole, each-whole, each-halved, f-fwd, f-bwd, f-old, g-fwd}
+use Rattle.grown.proofs.Halved.{g-bwd, g-old}
 use Rattle.grown.proofs.EdgesRings.{next-one}
 use Rattle.grown.proofs.HalvedLaw.{heal-lawful, lawful-other, swap}
 use Rattle.grown.proofs.SplitsRows.{instead-it, instead-other}
@@ -64,11 +68,13 @@ module _ (m : Map) (L : Lawful m) (e f n : ℕ) (c d : Dart) (seam : Seamed m e 
   -- its two departures lead to one another
   over : next m c ≡ d
   unfolding departures
-  over = ap (next m) (sym (rev-rev c)) ∙ L .law n (rev c) joint-c ∙ lawful-other (way m) sameDart tells (departures m n) (rev c) d joint-d differ two
+  over = ap (next m) (sym (rev-rev c)) ∙ L .law n (rev c) joint-c
+      ∙ lawful-other (way m) sameDart tells (departures m n) (rev c) d joint-d differ two
 
   back : next m (rev d) ≡ rev c
   unfolding departures
-  back = L .law n d joint-d ∙ lawful-other (way m) sameDart tells (departures m n) d (rev c) joint-c (λ q. differ (sym q)) (λ z k. swap (two z k))
+  back = L .law n d joint-d ∙ lawful-other (way m) sameDart tells (departures m n) d (rev c) joint-c
+      (λ q. differ (sym q)) (λ z k. swap (two z k))
 
   -- no two lead to one
   one : (y z : Dart) → List·Memᴰ y (directed m) → List·Memᴰ z (directed m) → next m y ≡ next m z → y ≡ z
@@ -105,7 +111,8 @@ module _ (m : Map) (L : Lawful m) (e f n : ℕ) (c d : Dart) (seam : Seamed m e 
 
   -- a course starts on the point of the node that it leaves
   course-starts : (z : Dart) → List·Memᴰ z (directed m) → course m z .first ≡ node m (leaves m z) .at
-  course-starts z k = ap (λ (x : Curve). x .first) (course-row m z) ∙ go (z .back) ∙ ap (λ (x : ℕ). node m x .at) (sym (leaves-row m z))
+  course-starts z k = ap (λ (x : Curve). x .first) (course-row m z) ∙ go (z .back)
+      ∙ ap (λ (x : ℕ). node m x .at) (sym (leaves-row m z))
     where
       go : (b : Bool) → courseIn b (edge m (z .edge)) .first ≡ node m (tailIn b (edge m (z .edge))) .at
       go true = L .anchored (edge m (z .edge)) (row k) .end
@@ -115,7 +122,9 @@ module _ (m : Map) (L : Lawful m) (e f n : ℕ) (c d : Dart) (seam : Seamed m e 
   course-ends z k = ap (λ (x : Curve). x .first) (sym (course-back z)) ∙ course-starts (rev z) (rev-in (arcs m) k)
 
   joins : course m d .first ≡ lastPoint (course m c)
-  joins = course-starts d (seam .second-in) ∙ ap (λ (x : ℕ). node m x .at) (seam .meet .departs ∙ sym (seam .meet .arrives)) ∙ sym (course-ends c (seam .first-in))
+  joins = course-starts d (seam .second-in)
+      ∙ ap (λ (x : ℕ). node m x .at) (seam .meet .departs ∙ sym (seam .meet .arrives))
+      ∙ sym (course-ends c (seam .first-in))
 
   some-c : Some (course m c .rest)
   some-c = course-some c (seam .first-in)
@@ -136,7 +145,8 @@ module _ (m : Map) (L : Lawful m) (e f n : ℕ) (c d : Dart) (seam : Seamed m e 
     to = leaves m (rev d)
 
     pub arcs-m : List·Permᴰ (arcs m) (runs c from n ∷ runs d n to ∷ r)
-    arcs-m = subst (λ (l : List Arc). List·Permᴰ (arcs m) l) (ap₂ (λ x y. x ∷ y ∷ r) first second) (Permᴰ·map arcOf (q .old-rows))
+    arcs-m = subst (λ (l : List Arc). List·Permᴰ (arcs m) l) (ap₂ (λ x y. x ∷ y ∷ r) first second)
+        (Permᴰ·map arcOf (q .old-rows))
       where
         first : arcOf (edge m (c .edge)) ≡ runs c from n
         first = runs-row m c (seam .first-in) ∙ ap (runs c from) (seam .meet .arrives)
@@ -145,7 +155,8 @@ module _ (m : Map) (L : Lawful m) (e f n : ℕ) (c d : Dart) (seam : Seamed m e 
         second = runs-row m d (seam .second-in) ∙ ap (λ (x : ℕ). runs d x to) (seam .meet .departs)
 
     pub arcs-m′ : List·Permᴰ (arcs m′) (arc h from to ∷ r)
-    arcs-m′ = subst (λ (l : List Arc). List·Permᴰ (arcs m′) (arc h from to ∷ l)) (map-map arcOf (relinked h c d) rest) (Permᴰ·map arcOf (q .rows))
+    arcs-m′ = subst (λ (l : List Arc). List·Permᴰ (arcs m′) (arc h from to ∷ l)) (map-map arcOf (relinked h c d) rest)
+        (Permᴰ·map arcOf (q .rows))
 
     once : Distinct (c .edge ∷ d .edge ∷ nums r)
     once = perm-distinct (Permᴰ·map (λ (x : Arc). x .num) arcs-m) (L .once)
@@ -174,7 +185,8 @@ module _ (m : Map) (L : Lawful m) (e f n : ℕ) (c d : Dart) (seam : Seamed m e 
     abbrev δ : Dart → Dart
     δ = halved.departs h c d
 
-    abbrev by : (P : Dart → Type 0) → P (fwd h) → P (bwd h) → ((z : Dart) → List·Memᴰ z (darts r) → P z) → (z : Dart) → List·Memᴰ z (whole h from to r) → P z
+    abbrev by : (P : Dart → Type 0) → P (fwd h) → P (bwd h) → ((z : Dart) → List·Memᴰ z (darts r) → P z) → (z : Dart)
+        → List·Memᴰ z (whole h from to r) → P z
     by = each-whole h c d from n to r (q .new-h) once
 
     ff : δ (fwd h) ≡ c
@@ -210,10 +222,12 @@ module _ (m : Map) (L : Lawful m) (e f n : ℕ) (c d : Dart) (seam : Seamed m e 
     name-c = ap (instead (rev d) (bwd h)) (instead-it c (fwd h)) ∙ instead-other (rev d) (bwd h) (fwd h) (q .named)
 
     name-d : wholeNames h c d (rev d) ≡ bwd h
-    name-d = ap (instead (rev d) (bwd h)) (instead-other c (fwd h) (rev d) (λ q. seam .two (sym (numbers q)))) ∙ instead-it (rev d) (bwd h)
+    name-d = ap (instead (rev d) (bwd h)) (instead-other c (fwd h) (rev d) (λ q. seam .two (sym (numbers q))))
+        ∙ instead-it (rev d) (bwd h)
 
     name-old : (z : Dart) → List·Memᴰ z (darts r) → wholeNames h c d z ≡ z
-    name-old z k = ap (instead (rev d) (bwd h)) (instead-other c (fwd h) z (λ q. old-c z k (numbers q))) ∙ instead-other (rev d) (bwd h) z (λ q. old-d z k (numbers q))
+    name-old z k = ap (instead (rev d) (bwd h)) (instead-other c (fwd h) z (λ q. old-c z k (numbers q)))
+        ∙ instead-other (rev d) (bwd h) z (λ q. old-d z k (numbers q))
 
     Renamed : Dart → Type 0
     Renamed y = y ≢ rev c → y ≢ d → List·Memᴰ (wholeNames h c d y) (whole h from to r) × (δ (wholeNames h c d y) ≡ y)
@@ -221,7 +235,8 @@ module _ (m : Map) (L : Lawful m) (e f n : ℕ) (c d : Dart) (seam : Seamed m e 
     renamed : (y : Dart) → List·Memᴰ y (halved.halved c d from n to r) → Renamed y
     unfolding Renamed
     renamed = each-halved h c d from n to r (q .new-h) once Renamed
-        (λ u v. (List·Memᴰ·head name-c, ap δ name-c ∙ ff)) (λ u v. absurd (u refl)) (λ u v. absurd (v refl)) (λ u v. (List·Memᴰ·tail (List·Memᴰ·head name-d), ap δ name-d ∙ fb))
+        (λ u v. (List·Memᴰ·head name-c, ap δ name-c ∙ ff)) (λ u v. absurd (u refl)) (λ u v. absurd (v refl))
+        (λ u v. (List·Memᴰ·tail (List·Memᴰ·head name-d), ap δ name-d ∙ fb))
         (λ z k u v. (Memᴰ·cast (name-old z k) (List·Memᴰ·tail (List·Memᴰ·tail k)), ap δ (name-old z k) ∙ fo z k))
 
     -- what arrives elsewhere
@@ -243,7 +258,9 @@ module _ (m : Map) (L : Lawful m) (e f n : ℕ) (c d : Dart) (seam : Seamed m e 
             flip false p = true≢false p
 
     -- goes on elsewhere
-    onward : (z : Dart) → List·Memᴰ z (whole h from to r) → List·Memᴰ (wholeNames h c d (next m (arrives h c d z))) (whole h from to r) × (δ (wholeNames h c d (next m (arrives h c d z))) ≡ next m (arrives h c d z))
+    onward : (z : Dart) → List·Memᴰ z (whole h from to r)
+        → List·Memᴰ (wholeNames h c d (next m (arrives h c d z))) (whole h from to r)
+        × (δ (wholeNames h c d (next m (arrives h c d z))) ≡ next m (arrives h c d z))
     unfolding Renamed Elsewhere
     onward z k = renamed (next m x) (of-m (next m x) (next-in (L .linked) (at .0)))
         (λ q. at .2 (one x (rev d) (at .0) (rev-in (arcs m) (seam .second-in)) (q ∙ sym back)))
@@ -258,13 +275,17 @@ module _ (m : Map) (L : Lawful m) (e f n : ℕ) (c d : Dart) (seam : Seamed m e 
     -- ---- what m′ reads
 
     leaves-old : (z : Dart) → List·Memᴰ z (darts r) → leaves m′ z ≡ leaves m z
-    leaves-old z k = let x = dart-row rest z k in leaves-of m′ once-m′ (relinked h c d (x .0)) (in-other (x .1)) z (x .2) ∙ sym (leaves-of m (L .once) (x .0) (in-rest (x .1)) z (x .2))
+    leaves-old z k = let x = dart-row rest z k in
+        leaves-of m′ once-m′ (relinked h c d (x .0)) (in-other (x .1)) z (x .2)
+        ∙ sym (leaves-of m (L .once) (x .0) (in-rest (x .1)) z (x .2))
 
     way-old : (z : Dart) → List·Memᴰ z (darts r) → way m′ z ≡ way m z
-    way-old z k = let x = dart-row rest z k in way-of m′ once-m′ (relinked h c d (x .0)) (in-other (x .1)) z (x .2) ∙ sym (way-of m (L .once) (x .0) (in-rest (x .1)) z (x .2))
+    way-old z k = let x = dart-row rest z k in way-of m′ once-m′ (relinked h c d (x .0)) (in-other (x .1)) z (x .2)
+        ∙ sym (way-of m (L .once) (x .0) (in-rest (x .1)) z (x .2))
 
     bears-old : (z : Dart) → List·Memᴰ z (darts r) → bears m′ z ≡ bears m z
-    bears-old z k = let x = dart-row rest z k in bears-of m′ once-m′ (relinked h c d (x .0)) (in-other (x .1)) z (x .2) ∙ sym (bears-of m (L .once) (x .0) (in-rest (x .1)) z (x .2))
+    bears-old z k = let x = dart-row rest z k in bears-of m′ once-m′ (relinked h c d (x .0)) (in-other (x .1)) z (x .2)
+        ∙ sym (bears-of m (L .once) (x .0) (in-rest (x .1)) z (x .2))
 
     next-in-row : (b : Bool) (q : Edge) → nextIn b (relinked h c d q) ≡ wholeNames h c d (nextIn b q)
     next-in-row true q = refl
@@ -272,7 +293,8 @@ module _ (m : Map) (L : Lawful m) (e f n : ℕ) (c d : Dart) (seam : Seamed m e 
 
     next-old : (z : Dart) → List·Memᴰ z (darts r) → next m′ z ≡ wholeNames h c d (next m z)
     next-old z k = let x = dart-row rest z k in
-        next-of m′ once-m′ (relinked h c d (x .0)) (in-other (x .1)) z (x .2) ∙ next-in-row (z .back) (x .0) ∙ ap (wholeNames h c d) (sym (next-of m (L .once) (x .0) (in-rest (x .1)) z (x .2)))
+        next-of m′ once-m′ (relinked h c d (x .0)) (in-other (x .1)) z (x .2) ∙ next-in-row (z .back) (x .0)
+        ∙ ap (wholeNames h c d) (sym (next-of m (L .once) (x .0) (in-rest (x .1)) z (x .2)))
 
     next-by : (z : Dart) → List·Memᴰ z (whole h from to r) → next m′ z ≡ wholeNames h c d (next m (arrives h c d z))
     next-by = by (λ z. next m′ z ≡ wholeNames h c d (next m (arrives h c d z)))
@@ -282,15 +304,24 @@ module _ (m : Map) (L : Lawful m) (e f n : ℕ) (c d : Dart) (seam : Seamed m e 
 
     tails : (z : Dart) → List·Memᴰ z (whole h from to r) → leaves m (δ z) ≡ leaves m′ z
     tails = by (λ z. leaves m (δ z) ≡ leaves m′ z)
-        (ap (leaves m) ff ∙ sym (leaves-of m′ once-m′ (healedRow m e h c d) in-it (fwd h) refl)) (ap (leaves m) fb ∙ sym (leaves-of m′ once-m′ (healedRow m e h c d) in-it (bwd h) refl))
+        (ap (leaves m) ff ∙ sym (leaves-of m′ once-m′ (healedRow m e h c d) in-it (fwd h) refl))
+        (ap (leaves m) fb ∙ sym (leaves-of m′ once-m′ (healedRow m e h c d) in-it (bwd h) refl))
         (λ z k. ap (leaves m) (fo z k) ∙ sym (leaves-old z k))
 
     -- the sides of both edges are those of e
     left-c : bears m c ≡ edge m e .left
-    left-c = elim (q .own) [ inl p ↦ ap (bears m) p ∙ bears-row m (fwd e) | inr p ↦ sym left-side ∙ ap (bears m) p ∙ bears-row m (fwd e) ]
+    left-c = elim (q .own) [
+      | inl p ↦ ap (bears m) p ∙ bears-row m (fwd e)
+      | inr p ↦ sym left-side ∙ ap (bears m) p
+          ∙ bears-row m (fwd e)
+    ]
 
     right-d : bears m (rev d) ≡ edge m e .right
-    right-d = elim (q .own) [ inl p ↦ sym right-side ∙ ap (λ z. bears m (rev z)) p ∙ bears-row m (bwd e) | inr p ↦ ap (λ z. bears m (rev z)) p ∙ bears-row m (bwd e) ]
+    right-d = elim (q .own) [
+      | inl p ↦ sym right-side ∙ ap (λ z. bears m (rev z)) p
+          ∙ bears-row m (bwd e)
+      | inr p ↦ ap (λ z. bears m (rev z)) p ∙ bears-row m (bwd e)
+    ]
 
     left-it : bears m′ (fwd h) ≡ edge m e .left
     left-it = bears-of m′ once-m′ (healedRow m e h c d) in-it (fwd h) refl
@@ -300,24 +331,37 @@ module _ (m : Map) (L : Lawful m) (e f n : ℕ) (c d : Dart) (seam : Seamed m e 
 
     -- the far ends depart as they did
     way-f : sameWay (way m′ (fwd h)) (way m c) ≡ true
-    way-f = ap₂ sameWay (way-of m′ once-m′ (healedRow m e h c d) in-it (fwd h) refl) (way-row m c) ∙ sameWay-sym _ _ (joined-start (course m c) (course m d) joins some-c some-d)
+    way-f = ap₂ sameWay (way-of m′ once-m′ (healedRow m e h c d) in-it (fwd h) refl) (way-row m c)
+        ∙ sameWay-sym _ _ (joined-start (course m c) (course m d) joins some-c some-d)
 
     way-b : sameWay (way m′ (bwd h)) (way m (rev d)) ≡ true
-    way-b = ap₂ sameWay (way-of m′ once-m′ (healedRow m e h c d) in-it (bwd h) refl ∙ reverse-way (joined (course m c) (course m d)) (joined-some (course m c) (course m d) joins some-c some-d)) (way-back d (seam .second-in))
+    way-b = ap₂ sameWay (way-of m′ once-m′ (healedRow m e h c d) in-it (bwd h) refl
+        ∙ reverse-way (joined (course m c) (course m d)) (joined-some (course m c) (course m d) joins some-c some-d))
+        (way-back d (seam .second-in))
         ∙ sameWay-sym _ _ (joined-end (course m c) (course m d) joins some-c some-d)
 
     away : (z : Dart) → List·Memᴰ z (whole h from to r) → leaves m′ z ≢ n
-    away = by (λ z. leaves m′ z ≢ n) (λ q. seam .from (sym (ap (leaves m) ff) ∙ tails (fwd h) (List·Memᴰ·head refl) ∙ q)) (λ q. seam .to (sym (ap (leaves m) fb) ∙ tails (bwd h) (List·Memᴰ·tail (List·Memᴰ·head refl)) ∙ q))
-        (λ z k q. elim (seam .only z (old-m k) (sym (leaves-old z k) ∙ q)) [ inl p ↦ old-c z k (numbers p) | inr p ↦ old-d z k (numbers p) ])
+    away = by (λ z. leaves m′ z ≢ n) (λ q. seam .from
+        (sym (ap (leaves m) ff) ∙ tails (fwd h) (List·Memᴰ·head refl) ∙ q))
+        (λ q. seam .to (sym (ap (leaves m) fb) ∙ tails (bwd h) (List·Memᴰ·tail (List·Memᴰ·head refl)) ∙ q))
+        (λ z k q. elim (seam .only z (old-m k) (sym (leaves-old z k) ∙ q)) [
+          | inl p ↦ old-c z k
+              (numbers p)
+          | inr p ↦ old-d z k (numbers p)
+        ])
 
     -- the two maps as one with the edge whole and with it in halves
-    pub halves : Halved h c d from n to r (leaves m′) (leaves m) (next m′) (next m) (bears m′) (bears m) (way m′) (way m)
+    pub halves : Halved h c d from n to r (leaves m′) (leaves m) (next m′) (next m) (bears m′) (bears m) (way m′)
+        (way m)
     halves = record {
       fresh = q .new-h;
       once = once;
       tails = tails;
-      faces = by (λ z. bears m (δ z) ≡ bears m′ z) (ap (bears m) ff ∙ left-c ∙ sym left-it) (ap (bears m) fb ∙ right-d ∙ sym right-it) (λ z k. ap (bears m) (fo z k) ∙ sym (bears-old z k));
-      ways = by (λ z. sameWay (way m′ z) (way m (δ z)) ≡ true) (ap (λ z. sameWay (way m′ (fwd h)) (way m z)) ff ∙ way-f) (ap (λ z. sameWay (way m′ (bwd h)) (way m z)) fb ∙ way-b)
+      faces = by (λ z. bears m (δ z) ≡ bears m′ z) (ap (bears m) ff ∙ left-c ∙ sym left-it)
+          (ap (bears m) fb ∙ right-d ∙ sym right-it) (λ z k. ap (bears m) (fo z k) ∙ sym (bears-old z k));
+      ways = by (λ z. sameWay (way m′ z) (way m (δ z)) ≡ true)
+          (ap (λ z. sameWay (way m′ (fwd h)) (way m z)) ff ∙ way-f)
+          (ap (λ z. sameWay (way m′ (bwd h)) (way m z)) fb ∙ way-b)
           (λ z k. ap (sameWay (way m′ z)) (ap (way m) (fo z k) ∙ sym (way-old z k)) ∙ sameWay-refl (way m′ z));
       nexts = λ z k. sym (ap δ (next-by z k) ∙ onward z k .1);
       into = λ z k. Memᴰ·cast (next-by z k) (onward z k .0);
@@ -331,4 +375,5 @@ module _ (m : Map) (L : Lawful m) (e f n : ℕ) (c d : Dart) (seam : Seamed m e 
     }
 
     pub whole-obeys : Obeys m′
-    whole-obeys = heal-lawful h c d from n to r halves (directed m′) (directed m) (dart-move arcs-m′) (dart-move (Permᴰ·symm arcs-m′)) of-m to-m (L .apart) (L .law)
+    whole-obeys = heal-lawful h c d from n to r halves (directed m′) (directed m) (dart-move arcs-m′)
+        (dart-move (Permᴰ·symm arcs-m′)) of-m to-m (L .apart) (L .law)

@@ -1,4 +1,5 @@
--- Every grown map is good, hence sound and in form, and its links obey the law: `Grows`. Good is Numbered, Surveyed and Woven (specs/Good.antt): a map in the plane whose links obey the law.
+-- Every grown map is good, hence sound and in form, and its links obey the law: `Grows`. Good is Numbered, Surveyed and
+-- Woven (specs/Good.antt): a map in the plane whose links obey the law.
 
 -- Rows: what a map reads in them, and after each way of changing them; directed edges
 pub mod Readings
@@ -39,7 +40,8 @@ pub mod Sounds
 -- rings, and faces reached from face 0
 pub mod EdgesRings
 pub mod EdgesReached
--- the link law kept on ALL tables in form whose links obey it (`LawfulKept`, `LawfulTables`), and what maps read after each kind
+-- the link law kept on ALL tables in form whose links obey it (`LawfulKept`, `LawfulTables`), and what maps read after
+-- each kind
 pub mod EdgesLaw
 pub mod LawOrder
 pub mod Halved

@@ -1,14 +1,16 @@
--- Numbers, faces and marks of a map, by its nodes and the outlines of its edges: what `Numbered` says beside what `Woven` has. Assumes nothing.
+-- Numbers, faces and marks of a map, by its nodes and the outlines of its edges: what `Numbered` says beside what
+-- `Woven` has. Assumes nothing.
 use mathlib.Core.Path.{_≡_, refl, sym, ap, _∙_, subst}
 use mathlib.Core.Logic.{_⊎_, inl, inr}
 use mathlib.Core.Bool.{Bool, true, false, true≢false}
-use mathlib.Core.List.{List, [], _∷_, map, map-map, List·Memᴰ, List·Memᴰ·head, List·Memᴰ·not-nil, Memᴰ·map, Memᴰ·of-map, Memᴰ·cast}
+use mathlib.Core.List.{List, [], _∷_, map, map-map, List·Memᴰ, List·Memᴰ·head, List·Memᴰ·not-nil, Memᴰ·map, Memᴰ·of-map}
+use mathlib.Core.List.{Memᴰ·cast}
 use mathlib.Core.Option.{Option, none, some}
 use Prim.Native.Nat.{ℕ, suc, _≤_}
 use native.Mathlib.Omega.{arith}
 use lib.ListN.{length}
 use Rattle.lists.specs.Tests.{same}
-use Rattle.lists.specs.Scans.{all, firstOr, isSome}
+use Rattle.lists.specs.Scans.{allOf, firstOr, isSome}
 use Rattle.lists.specs.Members.{Distinct}
 use Rattle.lists.proofs.Bools.{same-refl, same-true, same-false, same-eq, beq-true, beq-refl, and-true, and-is}
 use Rattle.planar_maps.specs.Map.{Arc, Dart, fwd, bwd}
@@ -20,7 +22,8 @@ use Rattle.map.specs.Darts.{arcs, directed, leaves, next, departures, edgeEnds}
 use Rattle.map.specs.Form.{numbered, numbers, inFace, edgeNames, named, bareMarked}
 use Rattle.map.proofs.Scans.{all-each, each-all, any-some, some-any, Rising, rising, rising-numbered}
 use Rattle.grown.specs.Good.{Numbered, Woven}
-use Rattle.grown.proofs.Readings.{numberOf, arcOf, edge-row, edge-at, row-has, has-dart, dart-has, leaves-row, next-row, departs, departing, has-number, tailIn}
+use Rattle.grown.proofs.Readings.{numberOf, arcOf, edge-row, edge-at, row-has, has-dart, dart-has, leaves-row}
+use Rattle.grown.proofs.Readings.{next-row, departs, departing, has-number, tailIn}
 use Rattle.grown.proofs.RowChanges.{nodeNumber}
 
 -- a row without its links and its curve
@@ -87,7 +90,11 @@ member-some (x ∷ l) k = same-false (suc (length l)) 0 (λ e. omega arith)
 
 -- where there are edge ends, an edge ends, and the other way round
 pub ends-met : (m : Map) (k : ℕ) → same (edgeEnds m k) 0 ≡ false → Met (outlines m) k
-ends-met m k h = (outlineOf row, Memᴰ·map outlineOf (edge-row m (d .edge) found .0), go (d .back) (sym (leaves-row m d) ∙ away .1))
+ends-met m k h = (
+  outlineOf row,
+  Memᴰ·map outlineOf (edge-row m (d .edge) found .0),
+  go (d .back) (sym (leaves-row m d) ∙ away .1),
+)
   where
     d : Dart
     d = some-member (departures m k) h .0
@@ -109,8 +116,12 @@ pub met-ends : (m : Map) (k : ℕ) → Distinct (nums (arcs m)) → Met (outline
 met-ends m k dis h = go (Memᴰ·of-map outlineOf (m .edges) (h .1))
   where
     at : (r : Edge) → List·Memᴰ r (m .edges) → (r .start ≡ k) ⊎ (r .end ≡ k) → same (edgeEnds m k) 0 ≡ false
-    at r j (inl e) = member-some (departures m k) (departing m k (has-dart m (fwd (r .number)) (row-has m j)) (leaves-row m (fwd (r .number)) ∙ ap (λ (x : Edge). x .start) (edge-at m dis j) ∙ e))
-    at r j (inr e) = member-some (departures m k) (departing m k (has-dart m (bwd (r .number)) (row-has m j)) (leaves-row m (bwd (r .number)) ∙ ap (λ (x : Edge). x .end) (edge-at m dis j) ∙ e))
+    at r j (inl e) = member-some (departures m k)
+        (departing m k (has-dart m (fwd (r .number)) (row-has m j))
+        (leaves-row m (fwd (r .number)) ∙ ap (λ (x : Edge). x .start) (edge-at m dis j) ∙ e))
+    at r j (inr e) = member-some (departures m k)
+        (departing m k (has-dart m (bwd (r .number)) (row-has m j))
+        (leaves-row m (bwd (r .number)) ∙ ap (λ (x : Edge). x .end) (edge-at m dis j) ∙ e))
 
     go : (r : Edge) × List·Memᴰ r (m .edges) × (outlineOf r ≡ h .0) → same (edgeEnds m k) 0 ≡ false
     go x = at (x .0) (x .1) (subst (λ (o : Outline). EndsAt o k) (sym (x .2)) (h .2))
@@ -136,7 +147,8 @@ face-in : (m : Map) (o : Option ℕ) → ((f : ℕ) → o ≡ some f → List·M
 face-in m none h = refl
 face-in m (some f) h = has-face m f (h f refl)
 
-marked-met : (m : Map) (n : Node) → bareMarked m ≡ true → List·Memᴰ n (m .nodes) → isSome (n .face) ≡ same (edgeEnds m (n .number)) 0
+marked-met : (m : Map) (n : Node) → bareMarked m ≡ true → List·Memᴰ n (m .nodes) → isSome (n .face)
+    ≡ same (edgeEnds m (n .number)) 0
 unfolding bareMarked
 marked-met m n h k = beq-true (isSome (n .face)) (same (edgeEnds m (n .number)) 0) (all-each _ (m .nodes) h n k)
 
@@ -170,7 +182,8 @@ unfolding numbers
 counted m h =
     let h₃ = and-true _ (same (firstOr 1 (m .faces)) 0) h in
     let h₂ = and-true _ (numbered 0 (m .nextFace) (m .faces)) (h₃ .0) in
-    let h₁ = and-true (numbered 1 (m .nextNode) (map nodeNumber (m .nodes))) (numbered 1 (m .nextEdge) (map numberOf (m .edges))) (h₂ .0) in
+    let h₁ = and-true (numbered 1 (m .nextNode) (map nodeNumber (m .nodes)))
+    (numbered 1 (m .nextEdge) (map numberOf (m .edges))) (h₂ .0) in
     record { nodes = h₁ .0; edges = h₁ .1; faces = h₂ .1; zero = h₃ .1 }
 
 counts : (m : Map) → Counted m → numbers m ≡ true
@@ -185,17 +198,22 @@ record AllNamed (m : Map) : Type 0 where
 all-named : (m : Map) → named m ≡ true → AllNamed m
 unfolding named
 all-named m h =
-    let k = and-true (all (λ n. inFace m (n .face)) (m .nodes)) (all (edgeNames m) (m .edges)) h in
-    record { inside = all-each (λ n. inFace m (n .face)) (m .nodes) (k .0); names = all-each (edgeNames m) (m .edges) (k .1) }
+    let k = and-true (allOf (λ n. inFace m (n .face)) (m .nodes)) (allOf (edgeNames m) (m .edges)) h in
+    record {
+      inside = all-each (λ n. inFace m (n .face)) (m .nodes) (k .0);
+      names = all-each (edgeNames m) (m .edges) (k .1);
+    }
 
 named-all : (m : Map) → AllNamed m → named m ≡ true
 unfolding named
-named-all m a = and-is (each-all (λ n. inFace m (n .face)) (m .nodes) (a .inside)) (each-all (edgeNames m) (m .edges) (a .names))
+named-all m a = and-is (each-all (λ n. inFace m (n .face)) (m .nodes) (a .inside))
+    (each-all (edgeNames m) (m .edges) (a .names))
 
 pub numbered-ranked : (m : Map) → Distinct (nums (arcs m)) → Numbered m → RankedMap m
 numbered-ranked m dis n = record {
   nodes = rising 1 (m .nextNode) (map nodeNumber (m .nodes)) (c .nodes);
-  edges = subst (Rising 1 (m .nextEdge)) (sym (outline-numbers m)) (rising 1 (m .nextEdge) (map numberOf (m .edges)) (c .edges));
+  edges = subst (Rising 1 (m .nextEdge)) (sym (outline-numbers m))
+      (rising 1 (m .nextEdge) (map numberOf (m .edges)) (c .edges));
   faces = rising 0 (m .nextFace) (m .faces) (c .faces);
   zero = same-true (firstOr 1 (m .faces)) 0 (c .zero);
   placed = λ r k. record {
@@ -221,7 +239,8 @@ unfolding bareMarked
 ranked-numbered m w r l = record {
   numbers = counts m (record {
     nodes = rising-numbered 1 (m .nextNode) (map nodeNumber (m .nodes)) (r .nodes);
-    edges = rising-numbered 1 (m .nextEdge) (map numberOf (m .edges)) (subst (Rising 1 (m .nextEdge)) (outline-numbers m) (r .edges));
+    edges = rising-numbered 1 (m .nextEdge) (map numberOf (m .edges))
+        (subst (Rising 1 (m .nextEdge)) (outline-numbers m) (r .edges));
     faces = rising-numbered 0 (m .nextFace) (m .faces) (r .faces);
     zero = same-eq (firstOr 1 (m .faces)) 0 (r .zero);
   });
@@ -246,14 +265,18 @@ ranked-numbered m w r l = record {
         go false p true q = sym (met-ends m (n .number) dis (r .placed n k .met p)) ∙ q
         go false p false q = refl
 
-    linked : (b : Bool) (e : Edge) → List·Memᴰ e (m .edges) → hasEdge m (next m (record { edge = e .number; back = b }) .edge) ≡ true
-    linked b e k = dart-has m (next-in (w .planar .linked) (has-dart m (record { edge = e .number; back = b }) (row-has m k)))
+    linked : (b : Bool) (e : Edge) → List·Memᴰ e (m .edges)
+        → hasEdge m (next m (record { edge = e .number; back = b }) .edge) ≡ true
+    linked b e k = dart-has m (next-in (w .planar .linked)
+        (has-dart m (record { edge = e .number; back = b }) (row-has m k)))
 
     row-names : (e : Edge) → List·Memᴰ e (m .edges) → edgeNames m e ≡ true
     row-names e k =
         let sides = r .sided (outlineOf e) (Memᴰ·map outlineOf k) in
-        let to-left : next m (fwd (e .number)) ≡ e .nextLeft = next-row m (fwd (e .number)) ∙ ap (λ (x : Edge). x .nextLeft) (edge-at m dis k) in
-        let to-right : next m (bwd (e .number)) ≡ e .nextRight = next-row m (bwd (e .number)) ∙ ap (λ (x : Edge). x .nextRight) (edge-at m dis k) in
+        let to-left : next m (fwd (e .number)) ≡ e .nextLeft = next-row m (fwd (e .number))
+        ∙ ap (λ (x : Edge). x .nextLeft) (edge-at m dis k) in
+        let to-right : next m (bwd (e .number)) ≡ e .nextRight = next-row m (bwd (e .number))
+        ∙ ap (λ (x : Edge). x .nextRight) (edge-at m dis k) in
         and-is (and-is (and-is (and-is (and-is
         (has-number nodeNumber (m .nodes) (e .start) (w .planar .within .starts (arcOf e) (Memᴰ·map arcOf k)))
         (has-number nodeNumber (m .nodes) (e .end) (w .planar .within .ends (arcOf e) (Memᴰ·map arcOf k))))

@@ -1,8 +1,10 @@
--- Numbers, faces and marks kept where faces are shared out or renamed: kinds 11 to 14, and 4 and 5 with their one face. Assumes nothing.
+-- Numbers, faces and marks kept where faces are shared out or renamed: kinds 11 to 14, and 4 and 5 with their one face.
+-- Assumes nothing.
 use mathlib.Core.Path.{_≡_, refl, sym, ap, _∙_, subst}
 use mathlib.Core.Logic.{_≢_}
 use mathlib.Core.Bool.{Bool, true, false, cond, not, _&&_, _||_}
-use mathlib.Core.List.{List, [], _∷_, _++_, map, map-map, append-assoc, List·Memᴰ, List·Memᴰ·head, List·Memᴰ·tail, Memᴰ·append-left, Memᴰ·append-right, Memᴰ·map, Memᴰ·of-map, Memᴰ·cast}
+use mathlib.Core.List.{List, [], _∷_, _++_, map, map-map, append-assoc, List·Memᴰ, List·Memᴰ·head, List·Memᴰ·tail}
+use mathlib.Core.List.{Memᴰ·append-left, Memᴰ·append-right, Memᴰ·map, Memᴰ·of-map, Memᴰ·cast}
 use mathlib.Core.Option.{Option, none, some}
 use Prim.Native.Nat.{ℕ, _+_}
 use native.Mathlib.Nat.{add-zero}
@@ -22,24 +24,29 @@ use Rattle.planar_maps.specs.Pieces.{nums}
 use Rattle.map.specs.Rows.{Node, Edge, Map, edge, hasEdge}
 use Rattle.map.specs.Darts.{arcs, bears, among, ring}
 use Rattle.map.specs.Faces.{encloses, ringArea}
-use Rattle.map.specs.Edits.{withFace, Shares, sideOfPoint, sideOfRing, sideOfDart, sideOfNode, withSides, sharedOut, splitFace}
+use Rattle.map.specs.Edits.{withFace, Shares, sideOfPoint, sideOfRing, sideOfDart, sideOfNode, withSides, sharedOut}
+use Rattle.map.specs.Edits.{splitFace}
 use Rattle.map.proofs.Scans.{Rising, rising-append, rising-keep}
 use Rattle.grown.proofs.Readings.{edge-row, edge-at, bears-row}
-use Rattle.grown.proofs.Numbers.{Outline, outlineOf, outlines, outlineNumber, Met, EndsAt, Sided, Ranked, RankedMap}
+use Rattle.grown.proofs.Numbers.{Outline, outlineOf, outlines, outlineNumber, Met, EndsAt, Sided, Ranked}
+use Rattle.grown.proofs.Numbers.{RankedMap}
 use Rattle.grown.proofs.Outlines.{ranked-shape, outlines-map}
 use Rattle.grown.proofs.NumbersNodes.{rising-nodes, placed-map}
 
 -- ---- other faces in the rows
 
 -- h changes only the sides of outlines, g only the faces of nodes that have one
-pub record Refaced (ns : List Node) (os : List Outline) (fs : List ℕ) (g : Node → Node) (h : Outline → Outline) : Type 0 where
+pub record Refaced (ns : List Node) (os : List Outline) (fs : List ℕ) (g : Node → Node)
+    (h : Outline → Outline) : Type 0 where
   pub arc : (o : Outline) → h o .arc ≡ o .arc
   pub number : (n : Node) → g n .number ≡ n .number
   pub bare : (n : Node) → isSome (g n .face) ≡ isSome (n .face)
   pub inside : (n : Node) → List·Memᴰ n ns → (f : ℕ) → g n .face ≡ some f → List·Memᴰ f fs
   pub sides : (o : Outline) → List·Memᴰ o os → Sided fs (h o)
 
-pub refaced : {ns : List Node} {os : List Outline} {fs fs′ : List ℕ} {a b c c′ : ℕ} (g : Node → Node) (h : Outline → Outline) → Refaced ns os fs′ g h → Rising 0 c′ fs′ → firstOr 1 fs′ ≡ 0 → Ranked ns os fs a b c → Ranked (map g ns) (map h os) fs′ a b c′
+pub refaced : {ns : List Node} {os : List Outline} {fs fs′ : List ℕ} {a b c c′ : ℕ} (g : Node → Node)
+    (h : Outline → Outline) → Refaced ns os fs′ g h → Rising 0 c′ fs′ → firstOr 1 fs′ ≡ 0 → Ranked ns os fs a b c
+    → Ranked (map g ns) (map h os) fs′ a b c′
 refaced {ns} {os} {fs′ = fs′} {a = a} {b = b} g h x rise z r = record {
   nodes = rising-nodes a g ns (λ n k. x .number n) (r .nodes);
   edges = subst (Rising 1 b) (sym numbers) (r .edges);
@@ -56,7 +63,8 @@ refaced {ns} {os} {fs′ = fs′} {a = a} {b = b} g h x rise z r = record {
 }
   where
     numbers : map outlineNumber (map h os) ≡ map outlineNumber os
-    numbers = map-map outlineNumber h os ∙ map-cong (λ o. h o .arc .num) outlineNumber os (λ o k. ap (λ (y : Arc). y .num) (x .arc o))
+    numbers = map-map outlineNumber h os
+        ∙ map-cong (λ o. h o .arc .num) outlineNumber os (λ o k. ap (λ (y : Arc). y .num) (x .arc o))
 
     meets : (n : Node) → Met os (n .number) → Met (map h os) (g n .number)
     meets n y = rw (x .number n) (h (y .0), Memᴰ·map h (y .1), rw (x .arc (y .0)) (y .2))
@@ -64,12 +72,14 @@ refaced {ns} {os} {fs′ = fs′} {a = a} {b = b} g h x rise z r = record {
     back : (n : Node) → Met (map h os) (g n .number) → Met os (n .number)
     back n y =
         let o = Memᴰ·of-map h os (y .1) in
-        let ends : EndsAt (h (o .0)) (g n .number) = subst (λ (q : Outline). EndsAt q (g n .number)) (sym (o .2)) (y .2) in
+        let ends : EndsAt (h (o .0)) (g n .number) =
+        subst (λ (q : Outline). EndsAt q (g n .number)) (sym (o .2)) (y .2) in
         (o .0, o .1, rw (x .arc (o .0), x .number n) at ends)
 
 -- ---- faces shared out
 
-module _ (m : Map) (s : Shares) (dis : Distinct (nums (arcs m))) {fs : List ℕ} (ref : List·Memᴰ (s .ref) fs) (other : List·Memᴰ (s .other) fs)
+module _ (m : Map) (s : Shares) (dis : Distinct (nums (arcs m))) {fs : List ℕ} (ref : List·Memᴰ (s .ref) fs)
+    (other : List·Memᴰ (s .other) fs)
     (rest : (f : ℕ) → List·Memᴰ f (m .faces) → f ≢ s .old → List·Memᴰ f fs) (r : RankedMap m) where
   side-of-point : (p : Point) → List·Memᴰ (sideOfPoint m s p) fs
   unfolding sideOfPoint
@@ -83,7 +93,8 @@ module _ (m : Map) (s : Shares) (dis : Distinct (nums (arcs m))) {fs : List ℕ}
   unfolding sideOfDart sideOfRing
   side-of-dart d k = go (same (bears m d) (s .old)) refl (among (s .refRing) d) (among (s .otherRing) d)
     where
-      go : (p : Bool) → same (bears m d) (s .old) ≡ p → (q t : Bool) → List·Memᴰ (cond p (cond q (s .ref) (cond t (s .other) (sideOfRing m s d))) (bears m d)) fs
+      go : (p : Bool) → same (bears m d) (s .old) ≡ p → (q t : Bool)
+          → List·Memᴰ (cond p (cond q (s .ref) (cond t (s .other) (sideOfRing m s d))) (bears m d)) fs
       go true e true t = ref
       go true e false true = other
       go true e false false = side-of-point _
@@ -93,10 +104,20 @@ module _ (m : Map) (s : Shares) (dis : Distinct (nums (arcs m))) {fs : List ℕ}
   shared-node n = sideOfNode m s n (n .face)
 
   abbrev shared-edge : Outline → Outline
-  shared-edge o = record { arc = o .arc; left = sideOfDart m s (fwd (o .arc .num)); right = sideOfDart m s (bwd (o .arc .num)) }
+  shared-edge o = record {
+    arc = o .arc;
+    left = sideOfDart m s (fwd (o .arc .num));
+    right = sideOfDart m s (bwd (o .arc .num));
+  }
 
   shared-refaced : Refaced (m .nodes) (outlines m) fs shared-node shared-edge
-  shared-refaced = record { arc = λ o. refl; number = λ n. number n (n .face); bare = λ n. bare n (n .face) refl; inside = λ n k. inside n (n .face) refl k; sides = λ o k. sides o (Memᴰ·of-map outlineOf (m .edges) k) }
+  shared-refaced = record {
+    arc = λ o. refl;
+    number = λ n. number n (n .face);
+    bare = λ n. bare n (n .face) refl;
+    inside = λ n k. inside n (n .face) refl k;
+    sides = λ o k. sides o (Memᴰ·of-map outlineOf (m .edges) k);
+  }
     where
       number : (n : Node) (o : Option ℕ) → sideOfNode m s n o .number ≡ n .number
       number n none = refl
@@ -114,30 +135,39 @@ module _ (m : Map) (s : Shares) (dis : Distinct (nums (arcs m))) {fs : List ℕ}
           go true = sym (ap isSome e)
           go false = refl
 
-      inside : (n : Node) (o : Option ℕ) → n .face ≡ o → List·Memᴰ n (m .nodes) → (g : ℕ) → sideOfNode m s n o .face ≡ some g → List·Memᴰ g fs
+      inside : (n : Node) (o : Option ℕ) → n .face ≡ o → List·Memᴰ n (m .nodes) → (g : ℕ) → sideOfNode m s n o .face
+          ≡ some g → List·Memᴰ g fs
       inside n none e k g q = let z : _≡_ {A = ℕ} 0 1 = cc in absurd (omega arith)
       inside n (some f) e k g q = go (same f (s .old)) refl q
         where
-          go : (b : Bool) → same f (s .old) ≡ b → cond b (withFace (some (sideOfPoint m s (n .at))) n) n .face ≡ some g → List·Memᴰ g fs
-          go true t q = let y : sideOfPoint m s (n .at) ≡ g = cc in subst (λ (x : ℕ). List·Memᴰ x fs) y (side-of-point (n .at))
+          go : (b : Bool) → same f (s .old) ≡ b → cond b (withFace (some (sideOfPoint m s (n .at))) n) n .face ≡ some g
+              → List·Memᴰ g fs
+          go true t q = let y : sideOfPoint m s (n .at) ≡ g = cc in
+              subst (λ (x : ℕ). List·Memᴰ x fs) y (side-of-point (n .at))
           go false t q = let y : f ≡ g = cc in rest g (r .placed n k .inside g q) (λ w. differ f (s .old) t (y ∙ w))
 
       sides : (o : Outline) → (x : Edge) × List·Memᴰ x (m .edges) × (outlineOf x ≡ o) → Sided fs (shared-edge o)
-      sides o x = subst (λ (y : Outline). Sided fs (shared-edge y)) (x .2) (side-of-dart (fwd (x .0 .number)) left, side-of-dart (bwd (x .0 .number)) right)
+      sides o x = subst (λ (y : Outline). Sided fs (shared-edge y)) (x .2)
+          (side-of-dart (fwd (x .0 .number)) left, side-of-dart (bwd (x .0 .number)) right)
         where
           row : Sided (m .faces) (outlineOf (x .0))
           row = r .sided (outlineOf (x .0)) (Memᴰ·map outlineOf (x .1))
 
           left : List·Memᴰ (bears m (fwd (x .0 .number))) (m .faces)
-          left = Memᴰ·cast (bears-row m (fwd (x .0 .number)) ∙ ap (λ (e : Edge). e .left) (edge-at m dis (x .1))) (row .0)
+          left = Memᴰ·cast (bears-row m (fwd (x .0 .number)) ∙ ap (λ (e : Edge). e .left) (edge-at m dis (x .1)))
+              (row .0)
 
           right : List·Memᴰ (bears m (bwd (x .0 .number))) (m .faces)
-          right = Memᴰ·cast (bears-row m (bwd (x .0 .number)) ∙ ap (λ (e : Edge). e .right) (edge-at m dis (x .1))) (row .1)
+          right = Memᴰ·cast (bears-row m (bwd (x .0 .number)) ∙ ap (λ (e : Edge). e .right) (edge-at m dis (x .1)))
+              (row .1)
 
-  shared-ranked : {c : ℕ} → Rising 0 c fs → firstOr 1 fs ≡ 0 → Ranked (sharedOut s m .nodes) (outlines (sharedOut s m)) fs (m .nextNode) (m .nextEdge) c
+  shared-ranked : {c : ℕ} → Rising 0 c fs → firstOr 1 fs ≡ 0
+      → Ranked (sharedOut s m .nodes) (outlines (sharedOut s m)) fs (m .nextNode) (m .nextEdge) c
   unfolding sharedOut
   shared-ranked rise z =
-      let O : outlines (sharedOut s m) ≡ map shared-edge (outlines m) = outlines-map (λ e. withSides (sideOfDart m s (fwd (e .number))) (sideOfDart m s (bwd (e .number))) e) shared-edge (m .edges) (λ e k. refl) in
+      let O : outlines (sharedOut s m) ≡ map shared-edge (outlines m) =
+      outlines-map (λ e. withSides (sideOfDart m s (fwd (e .number))) (sideOfDart m s (bwd (e .number))) e) shared-edge
+      (m .edges) (λ e k. refl) in
       rw O (refaced shared-node shared-edge shared-refaced rise z r)
 
 -- ---- a face split
@@ -151,7 +181,9 @@ module _ (old a : ℕ) (fs : List ℕ) (k : List·Memᴰ old fs) where
   split-rising true r =
       subst (λ (n : ℕ). Rising 0 n (keep (λ f. not (same f old)) fs ++ a ∷ (a + 1) ∷ [])) (twice a)
       (subst (Rising 0 (a + 1 + 1)) (append-assoc (keep (λ f. not (same f old)) fs) (a ∷ []) ((a + 1) ∷ []))
-      (rising-append 0 (a + 1) (keep (λ f. not (same f old)) fs ++ a ∷ []) (omega arith) (rising-append 0 a (keep (λ f. not (same f old)) fs) (omega arith) (rising-keep 0 a (λ f. not (same f old)) fs r))))
+      (rising-append 0 (a + 1) (keep (λ f. not (same f old)) fs ++ a ∷ []) (omega arith)
+      (rising-append 0 a (keep (λ f. not (same f old)) fs) (omega arith)
+      (rising-keep 0 a (λ f. not (same f old)) fs r))))
     where
       twice : (n : ℕ) → n + 1 + 1 ≡ n + 2
       twice n = omega arith
@@ -166,7 +198,8 @@ module _ (old a : ℕ) (fs : List ℕ) (k : List·Memᴰ old fs) where
   second-in false = Memᴰ·append-left (a ∷ []) k
 
   rest-in : (goes : Bool) (f : ℕ) → List·Memᴰ f fs → f ≢ old → List·Memᴰ f (splitList goes old a fs)
-  rest-in true f j ne = Memᴰ·append-left (a ∷ (a + 1) ∷ []) (keep-has (λ f. not (same f old)) fs j (ap not (same-false f old ne)))
+  rest-in true f j ne = Memᴰ·append-left (a ∷ (a + 1) ∷ [])
+      (keep-has (λ f. not (same f old)) fs j (ap not (same-false f old ne)))
   rest-in false f j ne = Memᴰ·append-left (a ∷ []) j
 
 -- face 0 stays in front
@@ -178,8 +211,10 @@ pub first-keep : (p : ℕ → Bool) (fs : List ℕ) → p 0 ≡ true → firstOr
 first-keep p [] h e = absurd (omega arith)
 first-keep p (f ∷ fs) h e = rw (ap p e ∙ h) e
 
-split-zero : (goes : Bool) (old a : ℕ) (fs : List ℕ) → (goes ≡ true → old ≢ 0) → firstOr 1 fs ≡ 0 → firstOr 1 (splitList goes old a fs) ≡ 0
-split-zero true old a fs h e = first-append (keep (λ f. not (same f old)) fs) (a ∷ (a + 1) ∷ []) (first-keep (λ f. not (same f old)) fs (ap not (same-false 0 old (λ q. h refl (sym q)))) e)
+split-zero : (goes : Bool) (old a : ℕ) (fs : List ℕ) → (goes ≡ true → old ≢ 0) → firstOr 1 fs ≡ 0
+    → firstOr 1 (splitList goes old a fs) ≡ 0
+split-zero true old a fs h e = first-append (keep (λ f. not (same f old)) fs) (a ∷ (a + 1) ∷ [])
+    (first-keep (λ f. not (same f old)) fs (ap not (same-false 0 old (λ q. h refl (sym q)))) e)
 split-zero false old a fs h e = first-append fs (a ∷ []) e
 
 -- the face on either side of an edge
@@ -193,7 +228,8 @@ bears-in m d h r = Memᴰ·cast (bears-row m d) (go (d .back))
     go true = row .1
     go false = row .0
 
-pub split-face-ranked : (news : Bool) (e : ℕ) (m : Map) → Distinct (nums (arcs m)) → hasEdge m e ≡ true → RankedMap m → RankedMap (splitFace news e m)
+pub split-face-ranked : (news : Bool) (e : ℕ) (m : Map) → Distinct (nums (arcs m)) → hasEdge m e ≡ true → RankedMap m
+    → RankedMap (splitFace news e m)
 unfolding splitFace sharedOut
 split-face-ranked news e m dis h r =
     let old = bears m (fwd e) in
@@ -210,11 +246,22 @@ split-face-ranked news e m dis h r =
       ref = cond (isLeft || not goes) a b;
       other = cond (isLeft || not goes) b a;
     } in
-    ranked-shape {m = splitFace news e m} (record { nodes = refl; outlines = refl; faces = refl; next-node = add-zero (m .nextNode); next-edge = add-zero (m .nextEdge); next-face = refl })
+    ranked-shape {m = splitFace news e m}
+    (record {
+      nodes = refl;
+      outlines = refl;
+      faces = refl;
+      next-node = add-zero (m .nextNode);
+      next-edge = add-zero (m .nextEdge);
+      next-face = refl;
+    })
     (shared-ranked m s dis {fs = splitList goes old a (m .faces)}
-    (cond-has (λ (f : ℕ). List·Memᴰ f (splitList goes old a (m .faces))) (isLeft || not goes) (new-in old a (m .faces) k goes) (second-in old a (m .faces) k goes))
-    (cond-has (λ (f : ℕ). List·Memᴰ f (splitList goes old a (m .faces))) (isLeft || not goes) (second-in old a (m .faces) k goes) (new-in old a (m .faces) k goes))
+    (cond-has (λ (f : ℕ). List·Memᴰ f (splitList goes old a (m .faces))) (isLeft || not goes)
+    (new-in old a (m .faces) k goes) (second-in old a (m .faces) k goes))
+    (cond-has (λ (f : ℕ). List·Memᴰ f (splitList goes old a (m .faces))) (isLeft || not goes)
+    (second-in old a (m .faces) k goes) (new-in old a (m .faces) k goes))
     (rest-in old a (m .faces) k goes)
     r
     (split-rising old a (m .faces) k goes (r .faces))
-    (split-zero goes old a (m .faces) (λ g. differ old 0 (not-true (same old 0) (and-true news (not (same old 0)) g .1))) (r .zero)))
+    (split-zero goes old a (m .faces) (λ g. differ old 0
+    (not-true (same old 0) (and-true news (not (same old 0)) g .1))) (r .zero)))

@@ -26,7 +26,8 @@ pub record Shape (m : Map) (ns : List Node) (os : List Outline) (fs : List ℕ) 
   pub next-edge : m .nextEdge ≡ b
   pub next-face : m .nextFace ≡ c
 
-pub ranked-shape : {m : Map} {ns : List Node} {os : List Outline} {fs : List ℕ} {a b c : ℕ} → Shape m ns os fs a b c → Ranked ns os fs a b c → RankedMap m
+pub ranked-shape : {m : Map} {ns : List Node} {os : List Outline} {fs : List ℕ} {a b c : ℕ} → Shape m ns os fs a b c
+    → Ranked ns os fs a b c → RankedMap m
 ranked-shape s r = rw (s .nodes, s .outlines, s .faces, s .next-node, s .next-edge, s .next-face) r
 
 -- m′ has what m has
@@ -52,12 +53,25 @@ framed-join x y = record {
 }
 
 -- the outlines of mapped rows
-pub outlines-map : (f : Edge → Edge) (g : Outline → Outline) (es : List Edge) → ((r : Edge) → List·Memᴰ r es → outlineOf (f r) ≡ g (outlineOf r)) → map outlineOf (map f es) ≡ map g (map outlineOf es)
-outlines-map f g es h = map-map outlineOf f es ∙ map-cong (λ r. outlineOf (f r)) (λ r. g (outlineOf r)) es h ∙ sym (map-map g outlineOf es)
+pub outlines-map : (f : Edge → Edge) (g : Outline → Outline) (es : List Edge)
+    → ((r : Edge) → List·Memᴰ r es → outlineOf (f r) ≡ g (outlineOf r)) → map outlineOf (map f es)
+    ≡ map g (map outlineOf es)
+outlines-map f g es h = map-map outlineOf f es ∙ map-cong (λ r. outlineOf (f r)) (λ r. g (outlineOf r)) es h
+    ∙ sym (map-map g outlineOf es)
 
-pub at-framed : (e : ℕ) (f : Edge → Edge) (m : Map) → ((r : Edge) → outlineOf (f r) ≡ outlineOf r) → Framed m (atEdge e f m)
+pub at-framed : (e : ℕ) (f : Edge → Edge) (m : Map) → ((r : Edge) → outlineOf (f r) ≡ outlineOf r)
+    → Framed m (atEdge e f m)
 unfolding atEdge
-at-framed e f m h = record { nodes = refl; outlines = map-map outlineOf (λ r. cond (same (r .number) e) (f r) r) (m .edges) ∙ map-cong _ outlineOf (m .edges) (λ r k. go (same (r .number) e) r); faces = refl; next-node = refl; next-edge = refl; next-face = refl }
+at-framed e f m h = record {
+  nodes = refl;
+  outlines =
+      map-map outlineOf (λ r. cond (same (r .number) e) (f r) r) (m .edges)
+      ∙ map-cong _ outlineOf (m .edges) (λ r k. go (same (r .number) e) r);
+  faces = refl;
+  next-node = refl;
+  next-edge = refl;
+  next-face = refl;
+}
   where
     go : (b : Bool) (r : Edge) → outlineOf (cond b (f r) r) ≡ outlineOf r
     go true r = h r
@@ -65,13 +79,39 @@ at-framed e f m h = record { nodes = refl; outlines = map-map outlineOf (λ r. c
 
 pub redirect-framed : (old new : Dart) (m : Map) → Framed m (redirect old new m)
 unfolding redirect
-redirect-framed old new m = record { nodes = refl; outlines = map-map outlineOf _ (m .edges); faces = refl; next-node = refl; next-edge = refl; next-face = refl }
+redirect-framed old new m = record {
+  nodes = refl;
+  outlines = map-map outlineOf _ (m .edges);
+  faces = refl;
+  next-node = refl;
+  next-edge = refl;
+  next-face = refl;
+}
 
 lead-framed : (d c : Dart) (m : Map) → Framed m (lead d c m)
 unfolding lead
 lead-framed d c m = at-framed (d .edge) _ m (λ r. go (d .back) r)
   where
-    go : (b : Bool) (e : Edge) → outlineOf (cond b (record { number = e .number; start = e .start; end = e .end; nextLeft = e .nextLeft; nextRight = c; left = e .left; right = e .right; curve = e .curve }) (record { number = e .number; start = e .start; end = e .end; nextLeft = c; nextRight = e .nextRight; left = e .left; right = e .right; curve = e .curve })) ≡ outlineOf e
+    go : (b : Bool) (e : Edge) → outlineOf
+        (cond b (record {
+          number = e .number;
+          start = e .start;
+          end = e .end;
+          nextLeft = e .nextLeft;
+          nextRight = c;
+          left = e .left;
+          right = e .right;
+          curve = e .curve;
+        }) (record {
+          number = e .number;
+          start = e .start;
+          end = e .end;
+          nextLeft = c;
+          nextRight = e .nextRight;
+          left = e .left;
+          right = e .right;
+          curve = e .curve;
+        })) ≡ outlineOf e
     go true e = refl
     go false e = refl
 
@@ -91,7 +131,9 @@ marked u v n = cond (isEither u v n) (withFace none n) n
 abbrev pub drawnOutline : ℕ → ℕ → ℕ → ℕ → Outline
 drawnOutline e u v f = record { arc = record { num = e; from = u; to = v }; left = f; right = f }
 
-pub drawn-shape : (u v : ℕ) (c : Curve) (f : ℕ) (m : Map) → Shape (drawn u v c f m) (map (marked u v) (m .nodes)) (outlines m ++ drawnOutline (m .nextEdge) u v f ∷ []) (m .faces) (m .nextNode) (m .nextEdge + 1) (m .nextFace)
+pub drawn-shape : (u v : ℕ) (c : Curve) (f : ℕ) (m : Map)
+    → Shape (drawn u v c f m) (map (marked u v) (m .nodes)) (outlines m ++ drawnOutline (m .nextEdge) u v f ∷ [])
+    (m .faces) (m .nextNode) (m .nextEdge + 1) (m .nextFace)
 unfolding drawn atNodes
 drawn-shape u v c f m = record {
   nodes = ap (map (marked u v)) (framed .nodes);
@@ -103,9 +145,19 @@ drawn-shape u v c f m = record {
 }
   where
     row : Edge
-    row = record { number = m .nextEdge; start = u; end = v; nextLeft = bwd (m .nextEdge); nextRight = fwd (m .nextEdge); left = f; right = f; curve = c }
+    row = record {
+      number = m .nextEdge;
+      start = u;
+      end = v;
+      nextLeft = bwd (m .nextEdge);
+      nextRight = fwd (m .nextEdge);
+      left = f;
+      right = f;
+      curve = c;
+    }
 
-    framed : Framed (setEdges (m .edges ++ row ∷ []) (given 0 1 0 m)) (linkEdge (m .nextEdge) (setEdges (m .edges ++ row ∷ []) (given 0 1 0 m)))
+    framed : Framed (setEdges (m .edges ++ row ∷ []) (given 0 1 0 m))
+        (linkEdge (m .nextEdge) (setEdges (m .edges ++ row ∷ []) (given 0 1 0 m)))
     framed = link-edge-framed (m .nextEdge) (setEdges (m .edges ++ row ∷ []) (given 0 1 0 m))
 
 -- the edge e left out
@@ -113,7 +165,8 @@ abbrev pub lessOutline : ℕ → List Outline → List Outline
 lessOutline e os = keep (λ o. not (same (o .arc .num) e)) os
 
 pub outlines-without : (e : ℕ) (es : List Edge) → map outlineOf (withoutEdge e es) ≡ lessOutline e (map outlineOf es)
-outlines-without e es = sym (keep-map outlineOf (λ r. not (same (r .number) e)) (λ o. not (same (o .arc .num) e)) es (λ r k. refl))
+outlines-without e es = sym (keep-map outlineOf (λ r. not (same (r .number) e)) (λ o. not (same (o .arc .num) e)) es
+    (λ r k. refl))
 
 -- the links after both ends are taken out
 abbrev startOut : ℕ → Map → Map
@@ -122,7 +175,8 @@ startOut e m = redirect (fwd e) (next m (bwd e)) m
 abbrev bothOut : ℕ → Map → Map
 bothOut e m = redirect (bwd e) (next (startOut e m) (fwd e)) (startOut e m)
 
-pub unlink-shape : (e : ℕ) (m : Map) → Shape (unlinkEdge e m) (m .nodes) (lessOutline e (outlines m)) (m .faces) (m .nextNode) (m .nextEdge) (m .nextFace)
+pub unlink-shape : (e : ℕ) (m : Map) → Shape (unlinkEdge e m) (m .nodes) (lessOutline e (outlines m)) (m .faces)
+    (m .nextNode) (m .nextEdge) (m .nextFace)
 unfolding unlinkEdge
 unlink-shape e m = record {
   nodes = framed .nodes;
@@ -134,4 +188,5 @@ unlink-shape e m = record {
 }
   where
     framed : Framed m (bothOut e m)
-    framed = framed-join (redirect-framed (fwd e) (next m (bwd e)) m) (redirect-framed (bwd e) (next (startOut e m) (fwd e)) (startOut e m))
+    framed = framed-join (redirect-framed (fwd e) (next m (bwd e)) m)
+        (redirect-framed (bwd e) (next (startOut e m) (fwd e)) (startOut e m))

@@ -11,7 +11,7 @@ use borrow.Author.Tests.{le-leb}
 use lib.IntN.{ℤ, pos, negsuc, natAbs}
 use lib.ListN.{length}
 use lib.Signed.{leZ}
-use Rattle.lists.specs.Scans.{all, firstOr}
+use Rattle.lists.specs.Scans.{allOf, firstOr}
 use Rattle.lists.proofs.Bools.{and-is}
 use Rattle.lists.proofs.Members.{all-of}
 use Rattle.plane.specs.Points.{InRange}
@@ -111,16 +111,16 @@ module _ (s : Sizes) (m : Map) (t : Tabled s m) where
       fits : {n : ℕ} → NextInRange n → within 1 (suc lastNumber) (pos n) ≡ true
       fits {n} r = in-bounds 1 (suc lastNumber) n (r .least) (r .most)
 
-  node-row-ranges : all nodeRanges (nodeRows (lentOf s m)) ≡ true
+  node-row-ranges : allOf nodeRanges (nodeRows (lentOf s m)) ≡ true
   unfolding lentOf
   node-row-ranges = each-row nodeWidth nodeCells nodeRanges (m .nodes) _ (nodes-wide (m .nodes))
       (λ n k. node-ranges n (t .nodes n k))
 
-  edge-row-ranges : all edgeRanges (edgeRows (lentOf s m)) ≡ true
+  edge-row-ranges : allOf edgeRanges (edgeRows (lentOf s m)) ≡ true
   unfolding lentOf
   edge-row-ranges = each-row edgeWidth edgeCells edgeRanges (m .edges) _ wide (λ e k. edge-ranges e (t .edges e k))
 
-  face-row-ranges : all faceRanges (faceRows (lentOf s m)) ≡ true
+  face-row-ranges : allOf faceRanges (faceRows (lentOf s m)) ≡ true
   unfolding lentOf
   face-row-ranges = each-row faceWidth faceCells faceRanges (m .faces) _ (faces-wide (m .faces)) (λ f k. refl)
 

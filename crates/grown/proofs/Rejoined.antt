@@ -9,7 +9,7 @@ use Prim.Native.Nat.{ℕ, _≤_}
 use native.Mathlib.Omega.{arith}
 use lib.ListN.{length}
 use Rattle.lists.specs.Tests.{same}
-use Rattle.lists.specs.Scans.{keep, count}
+use Rattle.lists.specs.Scans.{keep, countOf}
 use Rattle.lists.proofs.Bools.{same-refl, same-true, same-false, equal?}
 use Rattle.lists.proofs.Counts.{count-perm, count-keep}
 use Rattle.lists.proofs.Keeps.{keep-none}
@@ -165,7 +165,7 @@ module _ (m m′ : Map) (e n a b : ℕ) (p : Point) (g : Good m) (H : InHalves m
       off-old d k =
           off-n d d (List·Memᴰ·tail (List·Memᴰ·tail k)) (f-old e (fwd a) (fwd b) s n t r (two .fresh) (two .once) d k)
 
-      none : count at-n (darts r) ≡ 0
+      none : countOf at-n (darts r) ≡ 0
       none = count-keep at-n (darts r) ∙ ap length (keep-none at-n (darts r) off-old)
 
       off-first : at-n (fwd a) ≡ false
@@ -177,7 +177,7 @@ module _ (m m′ : Map) (e n a b : ℕ) (p : Point) (g : Good m) (H : InHalves m
           off-n (bwd e) (bwd b) (List·Memᴰ·tail (List·Memᴰ·head refl))
           (f-bwd e (fwd a) (fwd b) s n t r (two .fresh) (two .once))
 
-      counted : count at-n (fwd a ∷ bwd a ∷ fwd b ∷ bwd b ∷ darts r) ≡ 2
+      counted : countOf at-n (fwd a ∷ bwd a ∷ fwd b ∷ bwd b ∷ darts r) ≡ 2
       counted = rw (off-first, off-second, two .tail-c, two .tail-d, same-refl n, none)
 
   shared-are : sharedNodes m′ a b ≡ n ∷ keep (λ k. same k n || same k t) (s ∷ [])

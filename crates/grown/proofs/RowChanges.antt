@@ -2,7 +2,9 @@
 use mathlib.Core.Path.{_≡_, refl, sym, ap, _∙_, subst}
 use mathlib.Core.Logic.{inl, inr, _≢_}
 use mathlib.Core.Bool.{Bool, true, false, cond, not, true≢false}
-use mathlib.Core.List.{List, [], _∷_, _++_, map, map-append, List·Memᴰ, Memᴰ·map, Memᴰ·cast, List·Permᴰ, List·Permᴰ·cons, List·Permᴰ·swap, List·Permᴰ·trans, Permᴰ·refl, Permᴰ·map, Permᴰ·middle, Permᴰ·append-nil}
+use mathlib.Core.List.{List, [], _∷_, _++_, map, map-append, List·Memᴰ, Memᴰ·map, Memᴰ·cast, List·Permᴰ}
+use mathlib.Core.List.{List·Permᴰ·cons, List·Permᴰ·swap, List·Permᴰ·trans, Permᴰ·refl, Permᴰ·map, Permᴰ·middle}
+use mathlib.Core.List.{Permᴰ·append-nil}
 use mathlib.Core.Option.{Option, none, some, Option·getD}
 use Prim.Native.Nat.{ℕ}
 use lib.ListN.{length}
@@ -17,7 +19,9 @@ use Rattle.planar_maps.specs.Pieces.{nums}
 use Rattle.planar_maps.specs.Planar.{Planar}
 use Rattle.map.specs.Rows.{Node, Edge, Map, node, edge, hasNode, hasEdge, atEdge, withoutEdge}
 use Rattle.map.specs.Darts.{arcs, directed, leaves, next, bears}
-use Rattle.grown.proofs.Readings.{numbered, look, has, look-row, look-at, look-first, look-second, look-one, without, look-without, has-without, numberOf, missing, arcOf, nums-rows, edge-row, mapped-edge, mapped-has}
+use Rattle.grown.proofs.Readings.{numbered, look, has, look-row, look-at, look-first, look-second, look-one}
+use Rattle.grown.proofs.Readings.{without, look-without, has-without, numberOf, missing, arcOf, nums-rows}
+use Rattle.grown.proofs.Readings.{edge-row, mapped-edge, mapped-has}
 
 -- ---- lists
 
@@ -34,26 +38,36 @@ module _ {A : Type 0} (num : A → ℕ) where
   without-none e rs h = keep-all _ rs (λ r k. rw (same-false (num r) e (λ p. h (Memᴰ·cast (sym p) (Memᴰ·map num k)))))
 
   -- a row put before the others, which were without it
-  pub without-perm : (u : A) (rs : List A) (e : ℕ) → Distinct (map num rs) → has num rs e ≡ true → List·Permᴰ rs (look num u rs e ∷ without num e rs)
+  pub without-perm : (u : A) (rs : List A) (e : ℕ) → Distinct (map num rs) → has num rs e ≡ true
+      → List·Permᴰ rs (look num u rs e ∷ without num e rs)
   without-perm u [] e dis h = absurd (true≢false (sym h))
   without-perm u (q ∷ rs) e dis h = step (same (num q) e) refl (without-perm u rs e (dis .1)) h
     where
-      step : (b : Bool) → same (num q) e ≡ b → (has num rs e ≡ true → List·Permᴰ rs (look num u rs e ∷ without num e rs)) → isSome (cond b (some q) (find (numbered num e) rs)) ≡ true
-          → List·Permᴰ (q ∷ rs) (Option·getD (cond b (some q) (find (numbered num e) rs)) u ∷ cond (not b) (q ∷ without num e rs) (without num e rs))
-      step true s ih k = List·Permᴰ·cons refl (subst (List·Permᴰ rs) (sym (without-none e rs (λ j. dis .0 (Memᴰ·cast (same-true (num q) e s) j)))) (Permᴰ·refl rs))
+      step : (b : Bool) → same (num q) e ≡ b
+          → (has num rs e ≡ true → List·Permᴰ rs (look num u rs e ∷ without num e rs))
+          → isSome (cond b (some q) (find (numbered num e) rs)) ≡ true
+          → List·Permᴰ (q ∷ rs) (Option·getD (cond b (some q) (find (numbered num e) rs)) u
+          ∷ cond (not b) (q ∷ without num e rs) (without num e rs))
+      step true s ih k = List·Permᴰ·cons refl
+          (subst (List·Permᴰ rs) (sym (without-none e rs (λ j. dis .0 (Memᴰ·cast (same-true (num q) e s) j))))
+          (Permᴰ·refl rs))
       step false s ih k = List·Permᴰ·trans (List·Permᴰ·cons refl (ih k)) (List·Permᴰ·swap refl refl)
 
 darts-append : (xs ys : List Arc) → darts (xs ++ ys) ≡ darts xs ++ darts ys
 darts-append [] ys = refl
 darts-append (x ∷ xs) ys = ap (λ (l : List Dart). fwd (x .num) ∷ bwd (x .num) ∷ l) (darts-append xs ys)
 
-darts-keep : (e : ℕ) (xs : List Arc) → darts (keep (λ a. not (same (a .num) e)) xs) ≡ keep (λ d. not (same (d .edge) e)) (darts xs)
+darts-keep : (e : ℕ) (xs : List Arc) → darts (keep (λ a. not (same (a .num) e)) xs)
+    ≡ keep (λ d. not (same (d .edge) e)) (darts xs)
 darts-keep e [] = refl
 darts-keep e (x ∷ xs) = step (same (x .num) e) (darts-keep e xs)
   where
     step : (b : Bool) → darts (keep (λ a. not (same (a .num) e)) xs) ≡ keep (λ d. not (same (d .edge) e)) (darts xs)
         → darts (cond (not b) (x ∷ keep (λ a. not (same (a .num) e)) xs) (keep (λ a. not (same (a .num) e)) xs))
-        ≡ cond (not b) (fwd (x .num) ∷ cond (not b) (bwd (x .num) ∷ keep (λ d. not (same (d .edge) e)) (darts xs)) (keep (λ d. not (same (d .edge) e)) (darts xs))) (cond (not b) (bwd (x .num) ∷ keep (λ d. not (same (d .edge) e)) (darts xs)) (keep (λ d. not (same (d .edge) e)) (darts xs)))
+        ≡ cond (not b) (fwd (x .num) ∷ cond (not b) (bwd (x .num) ∷ keep (λ d. not (same (d .edge) e)) (darts xs))
+        (keep (λ d. not (same (d .edge) e)) (darts xs)))
+        (cond (not b) (bwd (x .num) ∷ keep (λ d. not (same (d .edge) e)) (darts xs))
+        (keep (λ d. not (same (d .edge) e)) (darts xs)))
     step true ih = ih
     step false ih = ap (λ (l : List Dart). fwd (x .num) ∷ bwd (x .num) ∷ l) ih
 
@@ -64,7 +78,8 @@ unfolding edge
 edge-missing m e h = look-none numberOf missing (m .edges) e h
 
 -- the row e is changed
-module _ (e : ℕ) (f : Edge → Edge) (m : Map) (keeps : (r : Edge) → List·Memᴰ r (m .edges) → r .number ≡ e → f r .number ≡ e) where
+module _ (e : ℕ) (f : Edge → Edge) (m : Map)
+    (keeps : (r : Edge) → List·Memᴰ r (m .edges) → r .number ≡ e → f r .number ≡ e) where
   abbrev changed : Edge → Edge
   changed r = cond (same (r .number) e) (f r) r
 
@@ -90,11 +105,13 @@ module _ (e : ℕ) (f : Edge → Edge) (m : Map) (keeps : (r : Edge) → List·M
 module _ (m m′ : Map) (r : Edge) (E : m′ .edges ≡ m .edges ++ r ∷ []) where
   pub more-old : (e : ℕ) → hasEdge m e ≡ true → edge m′ e ≡ edge m e
   unfolding edge
-  more-old e h = ap (λ (es : List Edge). look numberOf missing es e) E ∙ look-first numberOf missing (m .edges) (r ∷ []) e h
+  more-old e h = ap (λ (es : List Edge). look numberOf missing es e) E
+      ∙ look-first numberOf missing (m .edges) (r ∷ []) e h
 
   pub more-new : hasEdge m (r .number) ≡ false → edge m′ (r .number) ≡ r
   unfolding edge
-  more-new h = ap (λ (es : List Edge). look numberOf missing es (r .number)) E ∙ look-second numberOf missing (m .edges) (r ∷ []) (r .number) h ∙ look-one numberOf missing r
+  more-new h = ap (λ (es : List Edge). look numberOf missing es (r .number)) E
+      ∙ look-second numberOf missing (m .edges) (r ∷ []) (r .number) h ∙ look-one numberOf missing r
 
   more-arcs : arcs m′ ≡ arcs m ++ arcOf r ∷ []
   more-arcs = ap (map arcOf) E ∙ map-append arcOf (m .edges) (r ∷ [])
@@ -104,7 +121,8 @@ module _ (m m′ : Map) (r : Edge) (E : m′ .edges ≡ m .edges ++ r ∷ []) wh
 
   -- the row in front, as the theory of maps has it
   pub more-perm : List·Permᴰ (arcs m′) (arcOf r ∷ arcs m)
-  more-perm = subst (λ (l : List Arc). List·Permᴰ l (arcOf r ∷ arcs m)) (sym more-arcs) (List·Permᴰ·trans (Permᴰ·middle (arcOf r) (arcs m) []) (List·Permᴰ·cons refl (Permᴰ·append-nil (arcs m))))
+  more-perm = subst (λ (l : List Arc). List·Permᴰ l (arcOf r ∷ arcs m)) (sym more-arcs)
+      (List·Permᴰ·trans (Permᴰ·middle (arcOf r) (arcs m) []) (List·Permᴰ·cons refl (Permᴰ·append-nil (arcs m))))
 
 -- a row is left out
 module _ (m m′ : Map) (e : ℕ) (E : m′ .edges ≡ withoutEdge e (m .edges)) where
@@ -113,10 +131,12 @@ module _ (m m′ : Map) (e : ℕ) (E : m′ .edges ≡ withoutEdge e (m .edges))
 
   pub less-edge : (x : ℕ) → x ≢ e → edge m′ x ≡ edge m x
   unfolding edge
-  less-edge x ne = ap (λ (es : List Edge). look numberOf missing es x) E ∙ look-without numberOf missing e (m .edges) x ne
+  less-edge x ne = ap (λ (es : List Edge). look numberOf missing es x) E
+      ∙ look-without numberOf missing e (m .edges) x ne
 
   less-arcs : arcs m′ ≡ keep (λ a. not (same (a .num) e)) (arcs m)
-  less-arcs = ap (map arcOf) E ∙ sym (keep-map arcOf (λ r. not (same (r .number) e)) (λ a. not (same (a .num) e)) (m .edges) (λ r k. refl))
+  less-arcs = ap (map arcOf) E ∙ sym (keep-map arcOf (λ r. not (same (r .number) e)) (λ a. not (same (a .num) e))
+      (m .edges) (λ r k. refl))
 
   pub less-directed : directed m′ ≡ keep (λ d. not (same (d .edge) e)) (directed m)
   less-directed = ap darts less-arcs ∙ darts-keep e (arcs m)
@@ -124,7 +144,8 @@ module _ (m m′ : Map) (e : ℕ) (E : m′ .edges ≡ withoutEdge e (m .edges))
   -- the row in front, as the theory of maps has it
   pub less-perm : Distinct (nums (arcs m)) → hasEdge m e ≡ true → List·Permᴰ (arcs m) (arcOf (edge m e) ∷ arcs m′)
   unfolding edge
-  less-perm dis h = subst (λ (es : List Edge). List·Permᴰ (arcs m) (arcOf (edge m e) ∷ map arcOf es)) (sym E) (Permᴰ·map arcOf (without-perm numberOf missing (m .edges) e (subst Distinct (nums-rows m) dis) h))
+  less-perm dis h = subst (λ (es : List Edge). List·Permᴰ (arcs m) (arcOf (edge m e) ∷ map arcOf es)) (sym E)
+      (Permᴰ·map arcOf (without-perm numberOf missing (m .edges) e (subst Distinct (nums-rows m) dis) h))
 
 -- ---- nodes
 

@@ -11,27 +11,36 @@ use Rattle.planar_maps.proofs.Rings.{dart-cases}
 use Rattle.planar_maps.proofs.Moves.{darts-perm}
 use Rattle.map.specs.Rows.{Edge, Map, edge}
 use Rattle.map.specs.Darts.{arcs, leaves, next, bears, way}
-use Rattle.grown.proofs.Readings.{tailIn, nextIn, faceIn, courseIn, leaves-row, next-row, bears-row, course-row, way-row, arcOf, edge-at}
+use Rattle.grown.proofs.Readings.{tailIn, nextIn, faceIn, courseIn, leaves-row, next-row, bears-row, course-row}
+use Rattle.grown.proofs.Readings.{way-row, arcOf, edge-at}
 
 -- the edges in another order have the same directed edges
 pub dart-move : {es fs : List Arc} → List·Permᴰ es fs → (z : Dart) → List·Memᴰ z (darts es) → List·Memᴰ z (darts fs)
 dart-move p z m = perm-in (darts-perm p) m
 
 -- the row of a directed edge
-pub dart-row : (rows : List Edge) (z : Dart) → List·Memᴰ z (darts (map arcOf rows)) → (q : Edge) × List·Memᴰ q rows × (z .edge ≡ q .number)
+pub dart-row : (rows : List Edge) (z : Dart) → List·Memᴰ z (darts (map arcOf rows)) → (q : Edge) × List·Memᴰ q rows
+    × (z .edge ≡ q .number)
 dart-row rows z m = go (dart-cases (map arcOf rows) m)
   where
-    row : {a : Arc} → List·Memᴰ a (map arcOf rows) → z .edge ≡ a .num → (q : Edge) × List·Memᴰ q rows × (z .edge ≡ q .number)
+    row : {a : Arc} → List·Memᴰ a (map arcOf rows) → z .edge ≡ a .num → (q : Edge) × List·Memᴰ q rows
+        × (z .edge ≡ q .number)
     row {a} k e = found (Memᴰ·of-map arcOf rows k)
       where
         found : (q : Edge) × List·Memᴰ q rows × (arcOf q ≡ a) → (q : Edge) × List·Memᴰ q rows × (z .edge ≡ q .number)
         found x = (x .0, x .1, e ∙ ap (λ (a : Arc). a .num) (sym (x .2)))
 
-    go : (a : Arc) × List·Memᴰ a (map arcOf rows) × ((z ≡ fwd (a .num)) ⊎ (z ≡ bwd (a .num))) → (q : Edge) × List·Memᴰ q rows × (z .edge ≡ q .number)
-    go x = elim (x .2) [ inl e ↦ row (x .1) (ap (λ (d : Dart). d .edge) e) | inr e ↦ row (x .1) (ap (λ (d : Dart). d .edge) e) ]
+    go : (a : Arc) × List·Memᴰ a (map arcOf rows) × ((z ≡ fwd (a .num)) ⊎ (z ≡ bwd (a .num))) → (q : Edge)
+        × List·Memᴰ q rows × (z .edge ≡ q .number)
+    go x = elim (x .2) [
+      | inl e ↦ row (x .1) (ap (λ (d : Dart). d .edge) e)
+      | inr e ↦ row (x .1)
+          (ap (λ (d : Dart). d .edge) e)
+    ]
 
 -- what a directed edge reads in the row q
-module _ (m : Map) (dis : Distinct (nums (arcs m))) (q : Edge) (k : List·Memᴰ q (m .edges)) (z : Dart) (e : z .edge ≡ q .number) where
+module _ (m : Map) (dis : Distinct (nums (arcs m))) (q : Edge) (k : List·Memᴰ q (m .edges)) (z : Dart)
+    (e : z .edge ≡ q .number) where
   its : edge m (z .edge) ≡ q
   its = ap (edge m) e ∙ edge-at m dis k
 

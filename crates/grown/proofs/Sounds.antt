@@ -22,7 +22,8 @@ use Rattle.grown.proofs.Forms.{good-formed}
 module _ (m : Map) (g : Good m) where
   -- the nodes of an edge exist
   has-start : (e : Edge) → List·Memᴰ e (m .edges) → hasNode m (e .start) ≡ true
-  has-start e k = has-number nodeNumber (m .nodes) (e .start) (g .woven .planar .within .starts (arcOf e) (Memᴰ·map arcOf k))
+  has-start e k = has-number nodeNumber (m .nodes) (e .start)
+      (g .woven .planar .within .starts (arcOf e) (Memᴰ·map arcOf k))
 
   has-end : (e : Edge) → List·Memᴰ e (m .edges) → hasNode m (e .end) ≡ true
   has-end e k = has-number nodeNumber (m .nodes) (e .end) (g .woven .planar .within .ends (arcOf e) (Memᴰ·map arcOf k))
@@ -36,26 +37,39 @@ module _ (m : Map) (g : Good m) where
   one-node i j h k e =
       let p = node-row m i h in
       let q = node-row m j k in
-      sym (p .1) ∙ ap nodeNumber (distinct-injective (λ (n : Node). n .at) (m .nodes) (g .surveyed .places) (node m i) (node m j) (p .0) (q .0) e) ∙ q .1
+      sym (p .1) ∙ ap nodeNumber (distinct-injective (λ (n : Node). n .at) (m .nodes) (g .surveyed .places) (node m i)
+      (node m j) (p .0) (q .0) e) ∙ q .1
 
-  curves : (a b : Edge) → List·Memᴰ a (m .edges) → List·Memᴰ b (m .edges) → (a .number ≡ b .number → ⊥) → (P : Spot) → OnCurve P (a .curve) → OnCurve P (b .curve) → AtNode m a b P
+  curves : (a b : Edge) → List·Memᴰ a (m .edges) → List·Memᴰ b (m .edges) → (a .number ≡ b .number → ⊥) → (P : Spot)
+      → OnCurve P (a .curve) → OnCurve P (b .curve) → AtNode m a b P
   curves a b i j ne P p q =
       go
       (node-shared (λ n. node m n .at) (a .curve) (b .curve) (a .start) (a .end) (b .start) (b .end)
-      (sym (g .surveyed .anchored a i .start)) (sym (g .surveyed .anchored a i .end)) (sym (g .surveyed .anchored b j .start)) (sym (g .surveyed .anchored b j .end))
-      (λ x y u v. one-node x y (has-either a i x u) (has-either b j y v)) (curves-clear m (g .surveyed) a b i j (λ e. ne (ap (λ (r : Edge). r .number) e))) P p q)
+      (sym (g .surveyed .anchored a i .start)) (sym (g .surveyed .anchored a i .end))
+      (sym (g .surveyed .anchored b j .start)) (sym (g .surveyed .anchored b j .end))
+      (λ x y u v. one-node x y (has-either a i x u) (has-either b j y v))
+      (curves-clear m (g .surveyed) a b i j (λ e. ne (ap (λ (r : Edge). r .number) e))) P p q)
     where
       ends : (e : Edge) (n : ℕ) → hasNode m n ≡ true → (n ≡ e .start) ⊎ (n ≡ e .end) → Ends e (node m n)
       ends e n h (inl x) = inl (sym x ∙ sym (node-row m n h .1))
       ends e n h (inr x) = inr (sym x ∙ sym (node-row m n h .1))
 
-      go : (n : ℕ) × At P (node m n .at) × ((n ≡ a .start) ⊎ (n ≡ a .end)) × ((n ≡ b .start) ⊎ (n ≡ b .end)) → AtNode m a b P
-      go x = let h = has-either a i (x .0) (x .2) in record { node = node m (x .0); row = node-row m (x .0) h .0; ends-a = ends a (x .0) h (x .2); ends-b = ends b (x .0) h (x .3); there = x .1 }
+      go : (n : ℕ) × At P (node m n .at) × ((n ≡ a .start) ⊎ (n ≡ a .end)) × ((n ≡ b .start) ⊎ (n ≡ b .end))
+          → AtNode m a b P
+      go x = let h = has-either a i (x .0) (x .2) in
+          record {
+            node = node m (x .0);
+            row = node-row m (x .0) h .0;
+            ends-a = ends a (x .0) h (x .2);
+            ends-b = ends b (x .0) h (x .3);
+            there = x .1;
+          }
 
   pub good-sound : Sound m
   good-sound = record {
     links-once = g .woven .planar .linked .perm;
     rings-bear-one = rings-bear-one m (good-formed m g);
     curves-apart = curves;
-    sum = let n = length-map (m .nodes) nodeNumber in let e = length-map (m .edges) arcOf in omega (arith, g .woven .planar .euler);
+    sum = let n = length-map (m .nodes) nodeNumber in let e = length-map (m .edges) arcOf in
+        omega (arith, g .woven .planar .euler);
   }

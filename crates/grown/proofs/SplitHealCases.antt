@@ -15,7 +15,7 @@ use Rattle.map.specs.Rows.{Map, Lent, Sizes, lentOf, whole}
 use Rattle.map.specs.Form.{inForm}
 use Rattle.map.specs.Ticket.{Outcome}
 use Rattle.map.specs.Grow.{grow}
-use Rattle.map.specs.Opened.{opened}
+use Rattle.map.proofs.Opened.{opened}
 use Rattle.grown.specs.Claims.{Cancels}
 
 abbrev small : Sizes

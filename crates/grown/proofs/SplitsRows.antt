@@ -2,7 +2,8 @@
 use mathlib.Core.Path.{_≡_, refl, sym, ap, ap₂, _∙_, subst}
 use mathlib.Core.Logic.{inl, inr, _≢_}
 use mathlib.Core.Bool.{true, cond, not}
-use mathlib.Core.List.{List, _∷_, map, map-map, List·Memᴰ, List·Permᴰ, Permᴰ·map, [], _++_, List·Permᴰ·cons, List·Permᴰ·trans, Permᴰ·middle, Permᴰ·append-nil}
+use mathlib.Core.List.{List, _∷_, map, map-map, List·Memᴰ, List·Permᴰ, Permᴰ·map, [], _++_, List·Permᴰ·cons}
+use mathlib.Core.List.{List·Permᴰ·trans, Permᴰ·middle, Permᴰ·append-nil}
 use Prim.Native.Nat.{ℕ, _+_}
 use borrow.Author.Tests.{not-true}
 use Rattle.lists.specs.Members.{Distinct}
@@ -38,10 +39,16 @@ relinked e a b r = withLinks (halfNames e a b (r .nextLeft)) (halfNames e a b (r
 pub names-are : (e a b : ℕ) (d : Dart) → halfNames e a b d ≡ departs e (fwd a) (fwd b) d
 names-are e a b d = elim (equal? (d .edge) e) [
   | inl q ↦ elim (ways d) [
-    | inl w ↦ subst (λ z. halfNames e a b z ≡ departs e (fwd a) (fwd b) z) (sym (w ∙ ap fwd q)) (ap (instead (bwd e) (bwd b)) (instead-it (fwd e) (fwd a)) ∙ instead-other (bwd e) (bwd b) (fwd a) fwd≢bwd ∙ sym (with-fwd e (fwd a) (bwd b) (λ z. z)))
-    | inr w ↦ subst (λ z. halfNames e a b z ≡ departs e (fwd a) (fwd b) z) (sym (w ∙ ap bwd q)) (ap (instead (bwd e) (bwd b)) (instead-other (fwd e) (fwd a) (bwd e) (λ p. fwd≢bwd (sym p))) ∙ instead-it (bwd e) (bwd b) ∙ sym (with-bwd e (fwd a) (bwd b) (λ z. z)))
+    | inl w ↦ subst (λ z. halfNames e a b z ≡ departs e (fwd a) (fwd b) z) (sym (w ∙ ap fwd q))
+        (ap (instead (bwd e) (bwd b)) (instead-it (fwd e) (fwd a)) ∙ instead-other (bwd e) (bwd b) (fwd a) fwd≢bwd
+        ∙ sym (with-fwd e (fwd a) (bwd b) (λ z. z)))
+    | inr w ↦ subst (λ z. halfNames e a b z ≡ departs e (fwd a) (fwd b) z) (sym (w ∙ ap bwd q))
+        (ap (instead (bwd e) (bwd b)) (instead-other (fwd e) (fwd a) (bwd e) (λ p. fwd≢bwd (sym p)))
+        ∙ instead-it (bwd e) (bwd b) ∙ sym (with-bwd e (fwd a) (bwd b) (λ z. z)))
   ]
-  | inr ne ↦ ap (instead (bwd e) (bwd b)) (instead-other (fwd e) (fwd a) d (λ p. ne (ap (λ (d : Dart). d .edge) p))) ∙ instead-other (bwd e) (bwd b) d (λ p. ne (ap (λ (d : Dart). d .edge) p)) ∙ sym (with-other e (fwd a) (bwd b) (λ z. z) d ne)
+  | inr ne ↦ ap (instead (bwd e) (bwd b)) (instead-other (fwd e) (fwd a) d (λ p. ne (ap (λ (d : Dart). d .edge) p)))
+      ∙ instead-other (bwd e) (bwd b) d (λ p. ne (ap (λ (d : Dart). d .edge) p))
+      ∙ sym (with-other e (fwd a) (bwd b) (λ z. z) d ne)
 ]
 
 -- the departures of e renamed in all rows
@@ -64,17 +71,21 @@ one-last l x = List·Permᴰ·trans (Permᴰ·middle x l []) (List·Permᴰ·con
 
 -- the others are not e
 pub rest-other : (e : ℕ) (es : List Edge) {q : Edge} → List·Memᴰ q (withoutEdge e es) → q .number ≢ e
-rest-other e es {q} k = differ (q .number) e (not-true (same (q .number) e) (keep-in (λ (r : Edge). not (same (r .number) e)) es k .1))
+rest-other e es {q} k = differ (q .number) e
+    (not-true (same (q .number) e) (keep-in (λ (r : Edge). not (same (r .number) e)) es k .1))
 
-module _ (m : Map) (e : ℕ) (f : Edge → Edge) (keeps : (r : Edge) → f r .number ≡ r .number) (once : Distinct (map numberOf (m .edges))) (has : hasEdge m e ≡ true) where
+module _ (m : Map) (e : ℕ) (f : Edge → Edge) (keeps : (r : Edge) → f r .number ≡ r .number)
+    (once : Distinct (map numberOf (m .edges))) (has : hasEdge m e ≡ true) where
   -- the row e before the others
   pub rows-m : List·Permᴰ (m .edges) (edge m e ∷ withoutEdge e (m .edges))
   unfolding edge
   rows-m = without-perm numberOf missing (m .edges) e once has
 
   -- the row e replaced among rows that were mapped
-  pub replaced : (x : Edge) → List·Permᴰ (map (λ r. cond (same (r .number) e) x r) (map f (m .edges))) (x ∷ map f (withoutEdge e (m .edges)))
-  replaced x = subst (λ l. List·Permᴰ l (x ∷ map f (withoutEdge e (m .edges)))) (sym (map-map put f (m .edges))) (subst (List·Permᴰ (map (λ r. put (f r)) (m .edges))) (ap₂ _∷_ it others) (Permᴰ·map (λ r. put (f r)) rows-m))
+  pub replaced : (x : Edge) → List·Permᴰ (map (λ r. cond (same (r .number) e) x r) (map f (m .edges)))
+      (x ∷ map f (withoutEdge e (m .edges)))
+  replaced x = subst (λ l. List·Permᴰ l (x ∷ map f (withoutEdge e (m .edges)))) (sym (map-map put f (m .edges)))
+      (subst (List·Permᴰ (map (λ r. put (f r)) (m .edges))) (ap₂ _∷_ it others) (Permᴰ·map (λ r. put (f r)) rows-m))
     where
       put : Edge → Edge
       put r = cond (same (r .number) e) x r
@@ -83,8 +94,10 @@ module _ (m : Map) (e : ℕ) (f : Edge → Edge) (keeps : (r : Edge) → f r .nu
       it = rw (keeps (edge m e), edge-row m e has .1, same-refl e)
 
       others : map (λ r. put (f r)) (withoutEdge e (m .edges)) ≡ map f (withoutEdge e (m .edges))
-      others = map-cong (λ r. put (f r)) f (withoutEdge e (m .edges)) (λ q k. rw (keeps q, same-false (q .number) e (rest-other e (m .edges) k)))
+      others = map-cong (λ r. put (f r)) f (withoutEdge e (m .edges))
+          (λ q k. rw (keeps q, same-false (q .number) e (rest-other e (m .edges) k)))
 
   -- and left out
   pub left-out : withoutEdge e (map f (m .edges)) ≡ map f (withoutEdge e (m .edges))
-  left-out = keep-map f (λ r. not (same (r .number) e)) (λ r. not (same (r .number) e)) (m .edges) (λ r k. ap (λ (n : ℕ). not (same n e)) (keeps r))
+  left-out = keep-map f (λ r. not (same (r .number) e)) (λ r. not (same (r .number) e)) (m .edges)
+      (λ r k. ap (λ (n : ℕ). not (same n e)) (keeps r))

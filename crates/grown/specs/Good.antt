@@ -31,7 +31,8 @@ pub record Numbered (m : Map) : Type 0 where
   pub next-edge : m .nextEdge ≤ suc lastNumber
   pub next-face : m .nextFace ≤ suc lastNumber
 
--- a map in the plane, by its links and face numbers alone; the links obey the link law; every face but 0 is borne by some directed edge
+-- a map in the plane, by its links and face numbers alone; the links obey the link law; every face but 0 is borne by
+-- some directed edge
 pub record Woven (m : Map) : Type 0 where
   pub planar : Planar (map (λ n. n .number) (m .nodes)) (arcs m) (leaves m) (next m) (bears m) (length (m .faces))
   pub law : Law sameDart rev (leaves m) (way m) (directed m) (next m)

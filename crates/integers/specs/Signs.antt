@@ -1,4 +1,5 @@
--- Signed numbers as words: casts of one that is not negative, the other sign, and the magnitude of a negative one. Assumes nothing.
+-- Signed numbers as words: casts of one that is not negative, the other sign, and the magnitude of a negative one.
+-- Assumes nothing.
 use mathlib.Core.Path.{_≡_, refl, sym, ap, subst}
 use mathlib.Core.Bool.{true, false, true≢false}
 use Prim.Native.Nat.{ℕ, zero, suc, _+_, _-_, _^_, _≤_, _<_}
@@ -25,7 +26,10 @@ not-negative (negsuc n) e = absurd (true≢false e)
 -- a number that is not negative is cast to itself
 pub cast-natural : {z : ℤ} → SFits w64 z → ltZ (toZ w64 (ofZ w64 z)) (pos 0) ≡ false
     → T (nonNeg (toZ w64 (ofZ w64 z))) × Fits w64 (natAbs (toZ w64 (ofZ w64 z)))
-cast-natural {z} f e = rw (toZ-ofZ f) (not-negative z (rw (toZ-ofZ f) at e), fits-natAbs {w = w64} {w′ = w64} {z = z} tt f)
+cast-natural {z} f e = rw (toZ-ofZ f) (
+  not-negative z (rw (toZ-ofZ f) at e),
+  fits-natAbs {w = w64} {w′ = w64} {z = z} tt f,
+)
 
 pub natural-cast : (z : ℤ) → nonNeg z ≡ true → SFits w64 z → T (nonNeg z) × Fits w64 (natAbs z)
 natural-cast z e f = (subst T (sym e) tt, fits-natAbs {w = w64} {w′ = w64} {z = z} tt f)
@@ -54,14 +58,16 @@ next-mag zero = omega arith
 next-mag (suc k) = rw (next k) (omega arith)
 
 sums-fit : (z : ℤ) → SFits w64 z → ltZ z (pos 0) ≡ true
-    → SFits w64 (z +ℤ pos 1) × SFits w64 (pos 0 -ℤ (z +ℤ pos 1)) × T (nonNeg (pos 0 -ℤ (z +ℤ pos 1))) × (natAbs (pos 0 -ℤ (z +ℤ pos 1)) + 1 ≡ natAbs z)
+    → SFits w64 (z +ℤ pos 1) × SFits w64 (pos 0 -ℤ (z +ℤ pos 1)) × T (nonNeg (pos 0 -ℤ (z +ℤ pos 1)))
+    × (natAbs (pos 0 -ℤ (z +ℤ pos 1)) + 1 ≡ natAbs z)
 sums-fit (pos n) f e = absurd (omega (arith, ltb-true n 0 e))
 sums-fit (negsuc n) f e =
     let b : n < 2 ^ 63 = f .sfits in
     (sfits-of (lt-of-le-of-lt (next-mag n) b), rw (turned n) (sfits-of b), rw (turned n) tt, rw (turned n) (add-one n))
 
 module _ {z : ℤ} (f : SFits w64 z) (e : ltZ (toZ w64 (ofZ w64 z)) (pos 0) ≡ true) where
-  all : SFits w64 (z +ℤ pos 1) × SFits w64 (pos 0 -ℤ (z +ℤ pos 1)) × T (nonNeg (pos 0 -ℤ (z +ℤ pos 1))) × (natAbs (pos 0 -ℤ (z +ℤ pos 1)) + 1 ≡ natAbs z)
+  all : SFits w64 (z +ℤ pos 1) × SFits w64 (pos 0 -ℤ (z +ℤ pos 1)) × T (nonNeg (pos 0 -ℤ (z +ℤ pos 1)))
+      × (natAbs (pos 0 -ℤ (z +ℤ pos 1)) + 1 ≡ natAbs z)
   all = sums-fit z f (rw (toZ-ofZ f) at e)
 
   pub next-fits : SFits w64 (toZ w64 (ofZ w64 z) +ℤ pos 1)
@@ -76,8 +82,10 @@ module _ {z : ℤ} (f : SFits w64 z) (e : ltZ (toZ w64 (ofZ w64 z)) (pos 0) ≡ 
       rw (toZ-ofZ f, toZ-ofZ (all .0), toZ-ofZ (all .1))
       (all .2, fits-natAbs {w = w64} {w′ = w64} {z = pos 0 -ℤ (z +ℤ pos 1)} tt (all .1))
 
-  pub turned-next : natAbs (toZ w64 (ofZ w64 (pos 0 -ℤ toZ w64 (ofZ w64 (toZ w64 (ofZ w64 z) +ℤ pos 1))))) + 1 ≡ natAbs z
+  pub turned-next : natAbs (toZ w64 (ofZ w64 (pos 0 -ℤ toZ w64 (ofZ w64 (toZ w64 (ofZ w64 z) +ℤ pos 1))))) + 1
+      ≡ natAbs z
   turned-next = rw (toZ-ofZ f, toZ-ofZ (all .0), toZ-ofZ (all .1)) (all .3)
 
-  pub turned-word : Fits w64 (natAbs (toZ w64 (ofZ w64 (pos 0 -ℤ toZ w64 (ofZ w64 (toZ w64 (ofZ w64 z) +ℤ pos 1))))) + 1)
+  pub turned-word : Fits w64 (natAbs (toZ w64
+      (ofZ w64 (pos 0 -ℤ toZ w64 (ofZ w64 (toZ w64 (ofZ w64 z) +ℤ pos 1))))) + 1)
   turned-word = subst (Fits w64) (sym turned-next) (fits-natAbs {w = w64} {w′ = w64} {z = z} tt f)

@@ -10,7 +10,7 @@ use lib.Dec.{ltb}
 use lib.IntN.{ℤ, pos}
 use native.Mathlib.Omega.{arith}
 use Rattle.lists.specs.Tests.{same}
-use Rattle.lists.specs.Scans.{all}
+use Rattle.lists.specs.Scans.{allOf}
 use Rattle.lists.proofs.Bools.{same-refl, same-false}
 use Rattle.map.specs.declared.Answer.{Answer}
 use Rattle.map.specs.Rows.{Lent, emptyMap, mapOf, lentOf}
@@ -94,7 +94,7 @@ abbrev told : ℕ → Answer
 told r = record { refusal = r; value = pos 0 }
 
 -- the reasons rs, and then those of which o tells
-unless-told : (rs ss : Reasons) → all (λ r. ltb 0 (r .0)) rs ≡ true → (r : ℕ) → firstReason rs ≡ r
+unless-told : (rs ss : Reasons) → allOf (λ r. ltb 0 (r .0)) rs ≡ true → (r : ℕ) → firstReason rs ≡ r
     → (l : Lent) (o : Outcome) → o .answer ≡ told (firstReason ss)
     → unlessReason r l o .answer ≡ told (firstReason (rs ++ ss))
 unless-told rs ss above zero e l o h = h ∙ ap told (sym (first-after rs ss above e))

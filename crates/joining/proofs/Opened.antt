@@ -1,5 +1,5 @@
 -- Every definition opened at once: `unfolding opened` lets closed examples compute. Written by tests/opened.py.
-use Rattle.map.specs.Opened as below
+use Rattle.map.proofs.Opened as below
 use Rattle.joining.specs.Join.{nodeTicket, edgeTicket, entries, enterAll, joined, ticketsFor, joinTickets}
 
 unfoldable pub opened : Unit {0}

@@ -1,4 +1,5 @@
--- Departures scanned row by row, an edge and then its reverse: the cells that tell the node, and one position passed. Assumes nothing.
+-- Departures scanned row by row, an edge and then its reverse: the cells that tell the node, and one position passed.
+-- Assumes nothing.
 use mathlib.Core.Path.{_≡_, sym, ap, ap₂, _∙_, subst}
 use mathlib.Core.Bool.{Bool, true, false, not, _&&_}
 use mathlib.Core.List.{List}
@@ -24,7 +25,8 @@ use Rattle.links.proofs.Words.{sameWord, cell-test, and-left-none, and-
 use Rattle.links.proofs.Choices.{noChoice, left, scan-hit, scan-miss, chosen-has}
 
 -- the direction of a position can be read
-pub known-of : {l : List ℤ} {n own : ℕ} {c : List ℤ} → EdgeRows l n → (own < n → Run c) → (p : ℕ) → p < n * 2 → Known l own c p
+pub known-of : {l : List ℤ} {n own : ℕ} {c : List ℤ} → EdgeRows l n → (own < n → Run c) → (p : ℕ) → p < n * 2
+    → Known l own c p
 known-of t run p h = ((λ e. run (omega arith)), (λ e. edge-row-of t (p / 2) (omega arith)))
 
 -- ---- the node that a departure leaves
@@ -50,11 +52,14 @@ module _ (way : ℕ → Way) (v : Way) (l : List ℤ) (node : ℤ) (a b n : ℕ)
 
   module _ {h h′ : Choice} {p : ℕ} (r : Passed h p) (t : p < n) where
     -- the choice is g after the position p
-    onward : (g : Choice) → g .all ≤ p → (g .under ≡ true → g .below ≤ p) → left way v (leaves-but l node a b) h p n ≡ left way v (leaves-but l node a b) g (p + 1) n → h′ ≡ g → Passed h′ (p + 1)
+    onward : (g : Choice) → g .all ≤ p → (g .under ≡ true → g .below ≤ p) → left way v (leaves-but l node a b) h p n
+        ≡ left way v (leaves-but l node a b) g (p + 1) n → h′ ≡ g → Passed h′ (p + 1)
     onward g x y q e =
-        subst (λ (c : Choice). Passed c (p + 1)) (sym e) (record { all = omega arith; below = λ u. omega (arith, y u); rest = sym q ∙ r .rest })
+        subst (λ (c : Choice). Passed c (p + 1)) (sym e)
+        (record { all = omega arith; below = λ u. omega (arith, y u); rest = sym q ∙ r .rest })
 
-    pub passed-chosen : leavesNode l node p ≡ true → not (same p a) && not (same p b) ≡ true → h′ ≡ chosenOf way v h p → Passed h′ (p + 1)
+    pub passed-chosen : leavesNode l node p ≡ true → not (same p a) && not (same p b) ≡ true → h′ ≡ chosenOf way v h p
+        → Passed h′ (p + 1)
     passed-chosen at but =
         let k = chosen-has way v (λ i. i ≤ p) h p (omega arith) (λ u. r .all) (r .below) in
         onward (chosenOf way v h p) (k .0) (k .1) (scan-hit way v (leaves-but l node a b) h p n t (rw at but))
@@ -76,16 +81,20 @@ taken l node own v p = leavesNode l node p && not (same (p / 2) own) && sameWay 
 
 module _ (l : List ℤ) (own i : ℕ) {n : ℤ} (g : SFits w64 n) where
   -- the position p is of row i, and its cell was read
-  near : (p : ℕ) {z : ℤ} → SFits w64 z → z ≡ sideCell l p 1 → i ≡ p / 2 → sameWord z n && not (same i own) ≡ leavesNode l (toZ w64 (ofZ w64 n)) p && not (same (p / 2) own)
+  near : (p : ℕ) {z : ℤ} → SFits w64 z → z ≡ sideCell l p 1 → i ≡ p / 2 → sameWord z n && not (same i own)
+      ≡ leavesNode l (toZ w64 (ofZ w64 n)) p && not (same (p / 2) own)
   near p {z} f e q = ap₂ (λ (t : Bool) (j : ℕ). t && not (same j own)) (cell-test z n (sideCell l p 1) f g e) q
 
-  pub near-start : SFits w64 (getD l (i * 32 + 1) (pos 0)) → sameWord (getD l (i * 32 + 1) (pos 0)) n && not (same i own) ≡ leavesNode l (toZ w64 (ofZ w64 n)) (i * 2) && not (same (i * 2 / 2) own)
+  pub near-start : SFits w64 (getD l (i * 32 + 1) (pos 0)) → sameWord (getD l (i * 32 + 1) (pos 0)) n
+      && not (same i own) ≡ leavesNode l (toZ w64 (ofZ w64 n)) (i * 2) && not (same (i * 2 / 2) own)
   near-start f = near (i * 2) f (sym (side-even l i 1)) (omega arith)
 
-  pub near-end : SFits w64 (getD l (i * 32 + 2) (pos 0)) → sameWord (getD l (i * 32 + 2) (pos 0)) n && not (same i own) ≡ leavesNode l (toZ w64 (ofZ w64 n)) (i * 2 + 1) && not (same ((i * 2 + 1) / 2) own)
+  pub near-end : SFits w64 (getD l (i * 32 + 2) (pos 0)) → sameWord (getD l (i * 32 + 2) (pos 0)) n && not (same i own)
+      ≡ leavesNode l (toZ w64 (ofZ w64 n)) (i * 2 + 1) && not (same ((i * 2 + 1) / 2) own)
   near-end f = near (i * 2 + 1) f (sym (side-odd l i 1)) (omega arith)
 
-module _ (l : List ℤ) (node : ℤ) (own : ℕ) (v : Way) (p : ℕ) {near : Bool} (e : near ≡ leavesNode l node p && not (same (p / 2) own)) where
+module _ (l : List ℤ) (node : ℤ) (own : ℕ) (v : Way) (p : ℕ) {near : Bool}
+    (e : near ≡ leavesNode l node p && not (same (p / 2) own)) where
   pub taken-none : near ≡ false → taken l node own v p ≡ false
   taken-none q = and-left-none (leavesNode l node p && not (same (p / 2) own)) (sameWay (wayAt l p) v) (sym e ∙ q)
 
@@ -97,4 +106,5 @@ module _ (l : List ℤ) (node : ℤ) (own : ℕ) (v : Way) (p : ℕ) {near : Boo
     taken-here q r = and-is (sym e ∙ q) (sym along-test ∙ r)
 
     pub taken-past : along ≡ false → taken l node own v p ≡ false
-    taken-past r = and-right-none (leavesNode l node p && not (same (p / 2) own)) (sameWay (wayAt l p) v) (sym along-test ∙ r)
+    taken-past r = and-right-none (leavesNode l node p && not (same (p / 2) own)) (sameWay (wayAt l p) v)
+        (sym along-test ∙ r)

@@ -40,8 +40,11 @@ cell-dart d h = go (d .edge) (d .back) h
 pub cell-test : (z : ℤ) (d : Dart) → 1 ≤ d .edge → sameZ z (dartCell d) ≡ sameDart (dartOf z) d
 cell-test z d h =
     elim (which (sameZ z (dartCell d))) [
-      | inl e ↦ e ∙ sym (ap (λ (c : Dart). sameDart c d) (ap dartOf (same-is z (dartCell d) e) ∙ cell-dart d h) ∙ sameDart-refl d)
-      | inr e ↦ e ∙ sym (not-true (sameDart (dartOf z) d) (λ t. let q : z ≡ dartCell d = sym (dart-cell-back z) ∙ ap dartCell (sameDart-true (dartOf z) d t) in let k : true ≡ false = sym (is-same z (dartCell d) q) ∙ e in let n : _≡_ {A = ℕ} 0 1 = cc in omega arith))
+      | inl e ↦ e ∙ sym (ap (λ (c : Dart). sameDart c d) (ap dartOf (same-is z (dartCell d) e) ∙ cell-dart d h)
+          ∙ sameDart-refl d)
+      | inr e ↦ e ∙ sym (not-true (sameDart (dartOf z) d)
+          (λ t. let q : z ≡ dartCell d = sym (dart-cell-back z) ∙ ap dartCell (sameDart-true (dartOf z) d t) in
+          let k : true ≡ false = sym (is-same z (dartCell d) q) ∙ e in let n : _≡_ {A = ℕ} 0 1 = cc in omega arith))
     ]
 
 -- one directed edge is another if and only if they are written alike
@@ -49,13 +52,15 @@ pub cell-same : (c d : Dart) → 1 ≤ d .edge → sameZ (dartCell c) (dartCell 
 unfolding sameDart
 cell-same c d h = cell-test (dartCell c) d h ∙ go (c .edge) (c .back)
   where
-    go : (e : ℕ) (b : Bool) → sameDart (dartOf (cond b (negℤ (pos e)) (pos e))) d ≡ sameDart (record { edge = e; back = b }) d
+    go : (e : ℕ) (b : Bool) → sameDart (dartOf (cond b (negℤ (pos e)) (pos e))) d
+        ≡ sameDart (record { edge = e; back = b }) d
     go zero true = rw (same-false 0 (d .edge) (λ q. omega arith))
     go zero false = refl
     go (suc e) b = ap (λ (x : Dart). sameDart x d) (cell-dart (record { edge = suc e; back = b }) (omega arith))
 
 -- one number for another is one directed edge for another
-pub new-dart : (old new : Dart) (z : ℤ) → 1 ≤ old .edge → 1 ≤ new .edge → dartOf (newFor (dartCell old) (dartCell new) z) ≡ instead old new (dartOf z)
+pub new-dart : (old new : Dart) (z : ℤ) → 1 ≤ old .edge → 1 ≤ new .edge
+    → dartOf (newFor (dartCell old) (dartCell new) z) ≡ instead old new (dartOf z)
 new-dart old new z h k =
     ap (λ (b : Bool). dartOf (cond b (dartCell new) z)) (cell-test z old h) ∙ go (sameDart (dartOf z) old)
   where
@@ -69,7 +74,9 @@ module _ {l : List ℤ} {n : ℕ} (t : EdgeRows l n) where
   -- the row of an edge's number
   pub row-found : (i : ℕ) → i < n → findEdge (edgeMap l n) (edgeAt l i .number) ≡ some (edgeAt l i)
   row-found i h =
-      let found : place (sameZ (pos (edgeAt l i .number))) 0 (column edgeWidth l n) ≡ At i = ap (λ (z : ℤ). place (sameZ z) 0 (column edgeWidth l n)) (sym (cells-of t i h .number)) ∙ row-place edgeWidth l n (edge-rows-rising t) i h in
+      let found : place (sameZ (pos (edgeAt l i .number))) 0 (column edgeWidth l n) ≡ At i =
+      ap (λ (z : ℤ). place (sameZ z) 0 (column edgeWidth l n)) (sym (cells-of t i h .number))
+      ∙ row-place edgeWidth l n (edge-rows-rising t) i h in
       edge-found l n (t .ranges) (pos (edgeAt l i .number)) i found .2
 
   pub row-named : (i : ℕ) → i < n → hasEdge (edgeMap l n) (edgeAt l i .number) ≡ true
@@ -86,4 +93,5 @@ module _ {l : List ℤ} {n : ℕ} (t : EdgeRows l n) where
 
   -- as it is written
   pub written-named : (p : ℕ) → p < n * 2 → hasEdge (edgeMap l n) (dartOf (dartCell (dartAt l p)) .edge) ≡ true
-  written-named p h = ap (λ (d : Dart). hasEdge (edgeMap l n) (d .edge)) (cell-dart (dartAt l p) (dart-least p h)) ∙ dart-named p h
+  written-named p h = ap (λ (d : Dart). hasEdge (edgeMap l n) (d .edge)) (cell-dart (dartAt l p) (dart-least p h))
+      ∙ dart-named p h

@@ -1,8 +1,10 @@
--- The first departure met clockwise: under other names, whichever stands in for none, and what the answer tells. Assumes nothing.
+-- The first departure met clockwise: under other names, whichever stands in for none, and what the answer tells.
+-- Assumes nothing.
 use mathlib.Core.Path.{_≡_, refl, sym, ap, _∙_}
 use mathlib.Core.Logic.{inl, inr, ⊎-elim}
 use mathlib.Core.Bool.{Bool, true, false, cond, _&&_}
-use mathlib.Core.List.{List, [], _∷_, map-id, List·Memᴰ, List·Memᴰ·head, List·Memᴰ·tail, List·Memᴰ·cases-cons, List·Memᴰ·not-nil}
+use mathlib.Core.List.{List, [], _∷_, map-id, List·Memᴰ, List·Memᴰ·head, List·Memᴰ·tail, List·Memᴰ·cases-cons}
+use mathlib.Core.List.{List·Memᴰ·not-nil}
 use Prim.Native.Nat.{ℕ, zero, suc, _+_, _*_, _/_, _<_, _≤_}
 use native.Mathlib.Omega.{arith}
 use lib.IntN.{ℤ}
@@ -19,9 +21,11 @@ use Rattle.darts.specs.Positions.{wayAt, wayWith}
 use Rattle.links.specs.Linking.{positions, leaving, firstMet}
 
 -- directions that are the same
-pub met-same : (way way′ : ℕ → Way) (v : Way) (ds : List ℕ) → ((d : ℕ) → List·Memᴰ d ds → way′ d ≡ way d) → firstMet way′ v ds ≡ firstMet way v ds
+pub met-same : (way way′ : ℕ → Way) (v : Way) (ds : List ℕ) → ((d : ℕ) → List·Memᴰ d ds → way′ d ≡ way d)
+    → firstMet way′ v ds ≡ firstMet way v ds
 met-same way way′ v [] h = refl
-met-same way way′ v (d ∷ ds) h = ap At (ap (firstClockwise way′ v d) (sym (map-id (d ∷ ds))) ∙ first-map (λ x. x) way way′ v d (d ∷ ds) h)
+met-same way way′ v (d ∷ ds) h = ap At (ap (firstClockwise way′ v d) (sym (map-id (d ∷ ds)))
+    ∙ first-map (λ x. x) way way′ v d (d ∷ ds) h)
 
 -- ---- what the answer tells
 
@@ -42,7 +46,8 @@ module _ (way : ℕ → Way) (v : Way) where
 
   pub met-in : (ds : List ℕ) (q : ℕ) → firstMet way v ds ≡ At q → List·Memᴰ q ds
   met-in [] q e = let z : _≡_ {A = ℕ} 0 1 = cc in absurd (omega arith)
-  met-in (d ∷ ds) q e = let k : firstClockwise way v d (d ∷ ds) ≡ q = cc in rw (← k) (first-in way v d (d ∷ ds) {d = d} (List·Memᴰ·head refl))
+  met-in (d ∷ ds) q e = let k : firstClockwise way v d (d ∷ ds) ≡ q = cc in
+      rw (← k) (first-in way v d (d ∷ ds) {d = d} (List·Memᴰ·head refl))
 
   pub met-none : (ds : List ℕ) → firstMet way v ds ≡ Missing → ds ≡ []
   met-none [] e = refl
@@ -59,7 +64,8 @@ module _ {D : Type 0} where
   keep-both f g [] = refl
   keep-both f g (d ∷ ds) = go (f d) refl (keep-both f g ds)
     where
-      go : (b : Bool) → f d ≡ b → keep g (keep f ds) ≡ keep (λ d. f d && g d) ds → keep g (cond b (d ∷ keep f ds) (keep f ds)) ≡ keep (λ d. f d && g d) (d ∷ ds)
+      go : (b : Bool) → f d ≡ b → keep g (keep f ds) ≡ keep (λ d. f d && g d) ds
+          → keep g (cond b (d ∷ keep f ds) (keep f ds)) ≡ keep (λ d. f d && g d) (d ∷ ds)
       go true e ih = rw (e, ih)
       go false e ih = rw (e, ih)
 
@@ -67,14 +73,19 @@ module _ {D : Type 0} where
 
 from-in : (a n p : ℕ) → List·Memᴰ p (table (λ q. q) a n) → p < a + n
 from-in a zero p m = absurd (List·Memᴰ·not-nil m)
-from-in a (suc n) p m = ⊎-elim (λ e. omega arith) (λ k. let h : p < a + 1 + n = from-in (a + 1) n p k in omega arith) (List·Memᴰ·cases-cons m)
+from-in a (suc n) p m = ⊎-elim (λ e. omega arith) (λ k. let h : p < a + 1 + n = from-in (a + 1) n p k in omega arith)
+    (List·Memᴰ·cases-cons m)
 
 pub position-below : (n p : ℕ) → List·Memᴰ p (positions n) → p < n * 2
 position-below n p m = let h = from-in 0 (n * 2) p m in omega arith
 
 from-has : (a n p : ℕ) → a ≤ p → p < a + n → List·Memᴰ p (table (λ q. q) a n)
 from-has a zero p h k = absurd (omega arith)
-from-has a (suc n) p h k = elim (equal? p a) [ inl e ↦ List·Memᴰ·head e | inr d ↦ List·Memᴰ·tail (from-has (a + 1) n p (omega arith) (omega arith)) ]
+from-has a (suc n) p h k = elim (equal? p a) [
+  | inl e ↦ List·Memᴰ·head e
+  | inr d ↦ List·Memᴰ·tail
+      (from-has (a + 1) n p (omega arith) (omega arith))
+]
 
 pub position-has : (n p : ℕ) → p < n * 2 → List·Memᴰ p (positions n)
 position-has n p h = from-has 0 (n * 2) p (omega arith) (omega arith)

@@ -47,7 +47,8 @@ module _ (f : ℕ → Bool) where
             most = omega arith;
             rest =
                 ap₂ (λ (u : List ℕ) (j : ℕ). listed u j (p + 1) n) x y
-                ∙ rw (add-one k, take-suc-set l k p t, table-step (λ q. q) p n h, e) (append-assoc (take k l) (p ∷ []) (keep f (table (λ q. q) (p + 1) (n - (p + 1)))));
+                ∙ rw (add-one k, take-suc-set l k p t, table-step (λ q. q) p n h, e)
+                (append-assoc (take k l) (p ∷ []) (keep f (table (λ q. q) (p + 1) (n - (p + 1)))));
           }
 
       pub written-miss : f p ≡ false → l′ ≡ l → k′ ≡ k → Written n p l k l′ k′
@@ -64,18 +65,22 @@ module _ (f : ℕ → Bool) where
 abbrev pub settled : Choice → ℕ
 settled h = cond (h .under) (h .below) (h .all)
 
-settled-at : (s u : Bool) (a b q : ℕ) → answer (record { any = s; all = a; under = u; below = b }) ≡ At q → cond u b a ≡ q
+settled-at : (s u : Bool) (a b q : ℕ) → answer (record { any = s; all = a; under = u; below = b }) ≡ At q → cond u b a
+    ≡ q
 settled-at s true a b q e = cc
 settled-at true false a b q e = cc
 settled-at false false a b q e = let z : _≡_ {A = ℕ} 0 1 = cc in absurd (omega arith)
 
 module _ (way : ℕ → Way) (v : Way) where
   -- the scan from p, which stands for none
-  pub settled-all : (p : ℕ) (ds : List ℕ) → settled (fold (chosenOf way v) (record { any = false; all = p; under = false; below = p }) ds) ≡ firstClockwise way v p ds
+  pub settled-all : (p : ℕ) (ds : List ℕ)
+      → settled (fold (chosenOf way v) (record { any = false; all = p; under = false; below = p }) ds)
+      ≡ firstClockwise way v p ds
   settled-all p [] = sym (first-none way v p)
   settled-all p (d ∷ ds) =
       let h = fold (chosenOf way v) (record { any = false; all = p; under = false; below = p }) (d ∷ ds) in
-      settled-at (h .any) (h .under) (h .all) (h .below) (firstClockwise way v d (d ∷ ds)) (scan-none way v p p (d ∷ ds)) ∙ first-any way v d ds d p
+      settled-at (h .any) (h .under) (h .all) (h .below) (firstClockwise way v d (d ∷ ds))
+      (scan-none way v p p (d ∷ ds)) ∙ first-any way v d ds d p
 
   -- a turn of the loop at place k
   module _ (f : ℕ → Bool) (l : List ℕ) (h : Choice) (k : ℕ) where
@@ -83,10 +88,12 @@ module _ (way : ℕ → Way) (v : Way) where
     abbrev pub chosenFrom : Choice
     chosenFrom = fold (chosenOf way v) h (keep f (drop k l))
 
-    pub chosen-hit : k < length l → f (getD l k 0) ≡ true → chosenFrom ≡ fold (chosenOf way v) (chosenOf way v h (getD l k 0)) (keep f (drop (k + 1) l))
+    pub chosen-hit : k < length l → f (getD l k 0) ≡ true → chosenFrom
+        ≡ fold (chosenOf way v) (chosenOf way v h (getD l k 0)) (keep f (drop (k + 1) l))
     chosen-hit t e = rw (drop-cons l k 0 t, e, add-one k)
 
-    pub chosen-miss : k < length l → f (getD l k 0) ≡ false → chosenFrom ≡ fold (chosenOf way v) h (keep f (drop (k + 1) l))
+    pub chosen-miss : k < length l → f (getD l k 0) ≡ false → chosenFrom
+        ≡ fold (chosenOf way v) h (keep f (drop (k + 1) l))
     chosen-miss t e = rw (drop-cons l k 0 t, e, add-one k)
 
     pub chosen-end : length l ≤ k → chosenFrom ≡ h

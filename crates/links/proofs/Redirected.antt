@@ -18,21 +18,26 @@ use Rattle.tables.proofs.Rows.{map-table, edges-table}
 use Rattle.darts.specs.Positions.{odd, dartAt, sidePlace, sideCell}
 use Rattle.darts.proofs.Positions.{Even, Odd, side, cells-of, number-injective, side-even, side-odd}
 use Rattle.links.specs.Linking.{redirected}
-use Rattle.links.proofs.Kept.{Relinked, redirected-relinked, redirected-link, stored-relinked, stored-here, stored-there, edge-relinked, number-kept}
+use Rattle.links.proofs.Kept.{Relinked, redirected-relinked, redirected-link, stored-relinked, stored-here}
+use Rattle.links.proofs.Kept.{stored-there, edge-relinked, number-kept}
 use Rattle.links.proofs.Darts.{cell-dart, new-dart}
 
 -- rows changed one by one
-rows-changed : (l l′ : List ℤ) (n : ℕ) (f : Edge → Edge) → ((i : ℕ) → i < n → edgeAt l′ i ≡ f (edgeAt l i)) → edgesOf l′ n ≡ map f (edgesOf l n)
+rows-changed : (l l′ : List ℤ) (n : ℕ) (f : Edge → Edge) → ((i : ℕ) → i < n → edgeAt l′ i ≡ f (edgeAt l i))
+    → edgesOf l′ n ≡ map f (edgesOf l n)
 rows-changed l l′ n f h =
-    edges-table l′ n ∙ table-same (edgeAt l′) (λ i. f (edgeAt l i)) 0 n (λ i s t. h i (omega arith)) ∙ sym (map-table f (edgeAt l) 0 n) ∙ ap (map f) (sym (edges-table l n))
+    edges-table l′ n ∙ table-same (edgeAt l′) (λ i. f (edgeAt l i)) 0 n (λ i s t. h i (omega arith))
+    ∙ sym (map-table f (edgeAt l) 0 n) ∙ ap (map f) (sym (edges-table l n))
 
 links-are : {a b c d : Dart} (e : Edge) → a ≡ b → c ≡ d → withLinks a c e ≡ withLinks b d e
 links-are e f g = ap₂ (λ (x y : Dart). withLinks x y e) f g
 
 module _ {l l′ : List ℤ} {n : ℕ} (t : EdgeRows l n) (r : Relinked l l′ n) (i : ℕ) (h : i < n) where
   -- a row by its two links
-  row-relinked : edgeAt l′ i ≡ withLinks (dartOf (sideCell l′ (i * 2) 3)) (dartOf (sideCell l′ (i * 2 + 1) 3)) (edgeAt l i)
-  row-relinked = edge-relinked r (t .fits) i h ∙ links-are (edgeAt l i) (ap dartOf (sym (side-even l′ i 3))) (ap dartOf (sym (side-odd l′ i 3)))
+  row-relinked : edgeAt l′ i ≡ withLinks (dartOf (sideCell l′ (i * 2) 3)) (dartOf (sideCell l′ (i * 2 + 1) 3))
+      (edgeAt l i)
+  row-relinked = edge-relinked r (t .fits) i h
+      ∙ links-are (edgeAt l i) (ap dartOf (sym (side-even l′ i 3))) (ap dartOf (sym (side-odd l′ i 3)))
 
   left-was : dartOf (sideCell l (i * 2) 3) ≡ edgeAt l i .nextLeft
   left-was = ap dartOf (side-even l i 3) ∙ cells-of t i h .nextLeft
@@ -41,7 +46,8 @@ module _ {l l′ : List ℤ} {n : ℕ} (t : EdgeRows l n) (r : Relinked l l′ n
   right-was = ap dartOf (side-odd l i 3) ∙ cells-of t i h .nextRight
 
 -- a position has its directed edge still
-pub dart-kept : {l l′ : List ℤ} {n : ℕ} → EdgeRows l n → Relinked l l′ n → (p : ℕ) → p < n * 2 → dartAt l′ p ≡ dartAt l p
+pub dart-kept : {l l′ : List ℤ} {n : ℕ} → EdgeRows l n → Relinked l l′ n → (p : ℕ) → p < n * 2 → dartAt l′ p
+    ≡ dartAt l p
 dart-kept t r p h = ap (λ (k : ℕ). record { edge = k; back = odd p }) (number-kept r (t .fits) (p / 2) (omega arith))
 
 module _ {l : List ℤ} {n : ℕ} (t : EdgeRows l n) where
@@ -56,8 +62,10 @@ module _ {l : List ℤ} {n : ℕ} (t : EdgeRows l n) where
         let r = redirected-relinked (dartCell old) (dartCell new) l n in
         ap (λ (es : List Edge). setEdges es (edgeMap l n)) (rows-changed l l′ n f (λ i b.
         row-relinked t r i b ∙ links-are (edgeAt l i)
-        (ap dartOf (redirected-link (dartCell old) (dartCell new) l n (t .fits) (i * 2) (omega arith)) ∙ new-dart old new (sideCell l (i * 2) 3) h k ∙ ap (instead old new) (left-was t r i b))
-        (ap dartOf (redirected-link (dartCell old) (dartCell new) l n (t .fits) (i * 2 + 1) (omega arith)) ∙ new-dart old new (sideCell l (i * 2 + 1) 3) h k ∙ ap (instead old new) (right-was t r i b))))
+        (ap dartOf (redirected-link (dartCell old) (dartCell new) l n (t .fits) (i * 2) (omega arith))
+        ∙ new-dart old new (sideCell l (i * 2) 3) h k ∙ ap (instead old new) (left-was t r i b))
+        (ap dartOf (redirected-link (dartCell old) (dartCell new) l n (t .fits) (i * 2 + 1) (omega arith))
+        ∙ new-dart old new (sideCell l (i * 2 + 1) 3) h k ∙ ap (instead old new) (right-was t r i b))))
 
   -- ---- q leads to c
 
@@ -70,11 +78,13 @@ module _ {l : List ℤ} {n : ℕ} (t : EdgeRows l n) where
     was = stored-relinked l n q (dartCell c) b
 
     leading : Edge → Edge
-    leading e = cond (same (e .number) (dartAt l q .edge)) (cond (odd q) (withLinks (e .nextLeft) c e) (withLinks c (e .nextRight) e)) e
+    leading e = cond (same (e .number) (dartAt l q .edge))
+        (cond (odd q) (withLinks (e .nextLeft) c e) (withLinks c (e .nextRight) e)) e
 
     here : (p : ℕ) → p ≡ q → dartOf (sideCell stored p 3) ≡ c
     unfolding stored
-    here p e = ap dartOf (ap (λ (j : ℕ). sideCell (set l (sidePlace q 3) (dartCell c)) j 3) e ∙ stored-here l n q (dartCell c) b (t .fits)) ∙ cell-dart c k
+    here p e = ap dartOf (ap (λ (j : ℕ). sideCell (set l (sidePlace q 3) (dartCell c)) j 3) e
+        ∙ stored-here l n q (dartCell c) b (t .fits)) ∙ cell-dart c k
 
     there : (p : ℕ) → (p ≡ q → ⊥) → dartOf (sideCell stored p 3) ≡ dartOf (sideCell l p 3)
     unfolding stored
@@ -84,18 +94,26 @@ module _ {l : List ℤ} {n : ℕ} (t : EdgeRows l n) where
     unfolding leading
     row i h = row-relinked t was i h ∙ go (equal? i (q / 2)) (side q)
       where
-        go : (i ≡ q / 2) ⊎ ((i ≡ q / 2) → ⊥) → Even q ⊎ Odd q → withLinks (dartOf (sideCell stored (i * 2) 3)) (dartOf (sideCell stored (i * 2 + 1) 3)) (edgeAt l i) ≡ cond (same (edgeAt l i .number) (dartAt l q .edge)) (cond (odd q) (withLinks (edgeAt l i .nextLeft) c (edgeAt l i)) (withLinks c (edgeAt l i .nextRight) (edgeAt l i))) (edgeAt l i)
+        go : (i ≡ q / 2) ⊎ ((i ≡ q / 2) → ⊥) → Even q ⊎ Odd q
+            → withLinks (dartOf (sideCell stored (i * 2) 3)) (dartOf (sideCell stored (i * 2 + 1) 3)) (edgeAt l i)
+            ≡ cond (same (edgeAt l i .number) (dartAt l q .edge))
+            (cond (odd q) (withLinks (edgeAt l i .nextLeft) c (edgeAt l i))
+            (withLinks c (edgeAt l i .nextRight) (edgeAt l i))) (edgeAt l i)
         go (inl e) (inl s) =
             let f = s .rest in
             rw (same-eq (edgeAt l i .number) (dartAt l q .edge) (ap (λ (j : ℕ). edgeAt l j .number) e), s .test)
-            (links-are (edgeAt l i) (here (i * 2) (omega arith)) (there (i * 2 + 1) (λ x. omega arith) ∙ right-was t was i h))
+            (links-are (edgeAt l i) (here (i * 2) (omega arith))
+            (there (i * 2 + 1) (λ x. omega arith) ∙ right-was t was i h))
         go (inl e) (inr s) =
             let f = s .rest in
             rw (same-eq (edgeAt l i .number) (dartAt l q .edge) (ap (λ (j : ℕ). edgeAt l j .number) e), s .test)
-            (links-are (edgeAt l i) (there (i * 2) (λ x. omega arith) ∙ left-was t was i h) (here (i * 2 + 1) (omega arith)))
+            (links-are (edgeAt l i) (there (i * 2) (λ x. omega arith) ∙ left-was t was i h)
+            (here (i * 2 + 1) (omega arith)))
         go (inr d) s =
-            rw (same-false (edgeAt l i .number) (dartAt l q .edge) (λ e. d (number-injective t i (q / 2) h (omega arith) e)))
-            (links-are (edgeAt l i) (there (i * 2) (λ x. d (omega arith)) ∙ left-was t was i h) (there (i * 2 + 1) (λ x. d (omega arith)) ∙ right-was t was i h))
+            rw (same-false (edgeAt l i .number) (dartAt l q .edge)
+            (λ e. d (number-injective t i (q / 2) h (omega arith) e)))
+            (links-are (edgeAt l i) (there (i * 2) (λ x. d (omega arith)) ∙ left-was t was i h)
+            (there (i * 2 + 1) (λ x. d (omega arith)) ∙ right-was t was i h))
 
     pub stored-map : edgeMap (set l (sidePlace q 3) (dartCell c)) n ≡ lead (dartAt l q) c (edgeMap l n)
     unfolding lead atEdge leading stored

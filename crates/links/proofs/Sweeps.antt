@@ -1,4 +1,5 @@
--- Two sweeps over the same places in one pass, where a step of one and a step of the other may change places. Assumes nothing.
+-- Two sweeps over the same places in one pass, where a step of one and a step of the other may change places. Assumes
+-- nothing.
 use mathlib.Core.Path.{_≡_, refl, sym, ap, _∙_}
 use Prim.Native.Nat.{ℕ, zero, suc, _+_}
 use Rattle.lists.specs.Tables.{sweep}
@@ -11,4 +12,5 @@ module _ {S : Type 0} (f g : S → ℕ → S) (swap : (s : S) (i j : ℕ) → f 
 
   pub one-pass : (n a : ℕ) (s : S) → sweep g (sweep f s a n) a n ≡ sweep (λ u i. g (f u i) i) s a n
   one-pass zero a s = refl
-  one-pass (suc n) a s = ap (λ (u : S). sweep g u (a + 1) n) (sym (past n (a + 1) a (f s a))) ∙ one-pass n (a + 1) (g (f s a) a)
+  one-pass (suc n) a s = ap (λ (u : S). sweep g u (a + 1) n) (sym (past n (a + 1) a (f s a)))
+      ∙ one-pass n (a + 1) (g (f s a) a)

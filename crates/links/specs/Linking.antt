@@ -66,7 +66,8 @@ answer h = cond (h .under) (At (h .below)) (cond (h .any) (At (h .all)) Missing)
 -- what led to `old` leads to `new`
 abbrev pub redirected : ℤ → ℤ → List ℤ → ℕ → List ℤ
 redirected old new l n =
-    sweep (λ t i. replaceAt old new t (i * edgeWidth + 4)) (sweep (λ t i. replaceAt old new t (i * edgeWidth + 3)) l 0 n) 0 n
+    sweep (λ t i. replaceAt old new t (i * edgeWidth + 4))
+    (sweep (λ t i. replaceAt old new t (i * edgeWidth + 3)) l 0 n) 0 n
 
 -- the departure p, of which c is the first one met clockwise, linked in
 abbrev pub linkedAt : List ℤ → ℕ → ℕ → ℤ → List ℤ

@@ -8,14 +8,15 @@ ghost use lib.IntN.{negℤ};
 ghost use lib.ListN.{length, getD, take};
 ghost use lib.Signed.{nonNeg};
 ghost use Rattle.lists.specs.Tests.{same};
-ghost use Rattle.lists.specs.Scans.{any, count as countOf, keep};
+ghost use Rattle.lists.specs.Scans.{anyOf, countOf, keep};
 ghost use Rattle.plane.specs.Points.{InRange};
 ghost use Rattle.plane.specs.Directions.{wayTo, sameWay};
 ghost use Rattle.curves.specs.Curves.{Run};
 ghost use Rattle.rotation.specs.Law.{lawfulNext};
 ghost use Rattle.tables.specs.Tables.{EdgeRows};
 ghost use Rattle.darts.specs.Positions.{sideCell, wayAt, wayWith};
-ghost use Rattle.links.specs.Linking.{Known, laterOf, chosenOf, positions, leavesNode, leaving, firstMet, redirected, linkedAt, linkedIn, linkedEdge, unlinkedEdge};
+ghost use Rattle.links.specs.Linking.{Known, laterOf, chosenOf, positions, leavesNode, leaving, firstMet};
+ghost use Rattle.links.specs.Linking.{redirected, linkedAt, linkedIn, linkedEdge, unlinkedEdge};
 
 // A choice among departures so far: the last counterclockwise of all, and of those before a direction.
 struct Choice {
@@ -28,7 +29,8 @@ struct Choice {
 // The later of the chosen departure k, if there is one, and p, with p's first step w.
 fn later(edges: &[i64], own: usize, c: &[i64], some: bool, k: usize, p: usize, w: Step) -> usize
     requires { ⌜ (some ≡ true → Known (now edges) own (now c) k) × (InRange (w .from)) × (InRange (w .to)) ⌝ }
-    ensures { λ r. ⌜ r ≡ laterOf (wayWith (now (edges .entry)) own (now (c .entry))) some k p (wayTo (w .from) (w .to)) ⌝ }
+    ensures { λ r. ⌜ r ≡ laterOf (wayWith (now (edges .entry)) own (now (c .entry))) some k p
+        (wayTo (w .from) (w .to)) ⌝ }
 {
     if !some {
         return p;
@@ -42,7 +44,8 @@ fn later(edges: &[i64], own: usize, c: &[i64], some: bool, k: usize, p: usize, w
 
 // The choice with the departure p besides, for the direction v.
 fn chosen(edges: &[i64], own: usize, c: &[i64], h: Choice, p: usize, v: Step) -> Choice
-    requires { ⌜ Known (now edges) own (now c) p × (h .any ≡ true → Known (now edges) own (now c) (h .all)) × (h .under ≡ true → Known (now edges) own (now c) (h .below)) × (InRange (v .from)) × (InRange (v .to)) ⌝ }
+    requires { ⌜ Known (now edges) own (now c) p × (h .any ≡ true → Known (now edges) own (now c) (h .all))
+        × (h .under ≡ true → Known (now edges) own (now c) (h .below)) × (InRange (v .from)) × (InRange (v .to)) ⌝ }
     ensures { λ r. ⌜ r ≡ chosenOf (wayWith (now (edges .entry)) own (now (c .entry))) (wayTo (v .from) (v .to)) h p ⌝ }
 {
     let w = darts::step_with(edges, own, c, p);
@@ -63,7 +66,8 @@ fn chosen(edges: &[i64], own: usize, c: &[i64], h: Choice, p: usize, v: Step) ->
     }
 }
 
-// The first departure from the node met turning clockwise from v, but for the positions a and b, where edge row `own` has the curve c.
+// The first departure from the node met turning clockwise from v, but for the positions a and b, where edge row `own`
+// has the curve c.
 pub fn first_clockwise(
     edges: &[i64],
     count: usize,
@@ -75,7 +79,8 @@ pub fn first_clockwise(
     b: usize,
 ) -> Found
     requires { ⌜ EdgeRows (now edges) count × (own < count → Run (now c)) × (InRange (v .from)) × (InRange (v .to)) ⌝ }
-    ensures { λ r. ⌜ r ≡ firstMet (wayWith (now (edges .entry)) own (now (c .entry))) (wayTo (v .from) (v .to)) (leaving (now (edges .entry)) count node a b) ⌝ }
+    ensures { λ r. ⌜ r ≡ firstMet (wayWith (now (edges .entry)) own (now (c .entry))) (wayTo (v .from) (v .to))
+        (leaving (now (edges .entry)) count node a b) ⌝ }
 {
     let mut h = Choice {
         any: false,
@@ -85,12 +90,12 @@ pub fn first_clockwise(
     };
     for i in 0..count {
         let p = i * 2;
-        if edges[i * 32 + 1] == node {
+        if edges[i * map::EDGE_WIDTH + map::START] == node {
             if (p != a) & (p != b) {
                 h = chosen(edges, own, c, h, p, v);
             }
         }
-        if edges[i * 32 + 2] == node {
+        if edges[i * map::EDGE_WIDTH + map::END] == node {
             if (p + 1 != a) & (p + 1 != b) {
                 h = chosen(edges, own, c, h, p + 1, v);
             }
@@ -109,15 +114,16 @@ pub fn first_clockwise(
 // The departures from the node are written to the front of the list; their count.
 pub fn departures_at(edges: &[i64], count: usize, node: i64, list: &mut [u16]) -> usize
     requires { ⌜ EdgeRows (now edges) count × (count ≤ 2000) × (count * 2 ≤ length (now list)) ⌝ }
-    ensures { λ r. ⌜ (r ≤ count * 2) × (length (now (list .exit)) ≡ length (now (list .entry))) × (take r (now (list .exit)) ≡ keep (leavesNode (now (edges .entry)) node) (positions count)) ⌝ }
+    ensures { λ r. ⌜ (r ≤ count * 2) × (length (now (list .exit)) ≡ length (now (list .entry)))
+        × (take r (now (list .exit)) ≡ keep (leavesNode (now (edges .entry)) node) (positions count)) ⌝ }
 {
     let mut k = 0;
     for i in 0..count {
-        if edges[i * 32 + 1] == node {
+        if edges[i * map::EDGE_WIDTH + map::START] == node {
             list[k] = (i * 2) as u16;
             k += 1;
         }
-        if edges[i * 32 + 2] == node {
+        if edges[i * map::EDGE_WIDTH + map::END] == node {
             list[k] = (i * 2 + 1) as u16;
             k += 1;
         }
@@ -125,9 +131,11 @@ pub fn departures_at(edges: &[i64], count: usize, node: i64, list: &mut [u16]) -
     k
 }
 
-// The first of the listed departures met turning clockwise from the departure p, where edge row `own` has the curve c; with no other, p.
+// The first of the listed departures met turning clockwise from the departure p, where edge row `own` has the curve c;
+// with no other, p.
 pub fn clockwise(edges: &[i64], own: usize, c: &[i64], list: &[u16], p: usize) -> usize
-    requires { ⌜ Known (now edges) own (now c) p × ((k : ℕ) → k < length (now list) → Known (now edges) own (now c) (getD (now list) k 0)) ⌝ }
+    requires { ⌜ Known (now edges) own (now c) p
+        × ((k : ℕ) → k < length (now list) → Known (now edges) own (now c) (getD (now list) k 0)) ⌝ }
     ensures { λ r. ⌜ r ≡ lawfulNext (wayWith (now (edges .entry)) own (now (c .entry))) same p (now (list .entry)) ⌝ }
 {
     let v = darts::step_with(edges, own, c, p);
@@ -149,15 +157,16 @@ pub fn clockwise(edges: &[i64], own: usize, c: &[i64], list: &[u16], p: usize) -
 // Whether a departure from the node, but of edge row `own`, has the direction v.
 pub fn way_taken(edges: &[i64], count: usize, node: i64, own: usize, v: Step) -> bool
     requires { ⌜ EdgeRows (now edges) count × (InRange (v .from)) × (InRange (v .to)) ⌝ }
-    ensures { λ r. ⌜ r ≡ any (λ p. leavesNode (now (edges .entry)) node p && not (same (p / 2) own) && sameWay (wayAt (now (edges .entry)) p) (wayTo (v .from) (v .to))) (positions count) ⌝ }
+    ensures { λ r. ⌜ r ≡ anyOf (λ p. leavesNode (now (edges .entry)) node p && not (same (p / 2) own)
+        && sameWay (wayAt (now (edges .entry)) p) (wayTo (v .from) (v .to))) (positions count) ⌝ }
 {
     for i in 0..count {
-        if (edges[i * 32 + 1] == node) & (i != own) {
+        if (edges[i * map::EDGE_WIDTH + map::START] == node) & (i != own) {
             if darts::same_way(darts::step_at(edges, i * 2), v) {
                 return true;
             }
         }
-        if (edges[i * 32 + 2] == node) & (i != own) {
+        if (edges[i * map::EDGE_WIDTH + map::END] == node) & (i != own) {
             if darts::same_way(darts::step_at(edges, i * 2 + 1), v) {
                 return true;
             }
@@ -173,7 +182,7 @@ pub fn edge_ends(edges: &[i64], count: usize, node: i64) -> usize
 {
     let mut n: usize = 0;
     for p in 0..count * 2 {
-        n += (darts::dart_cell(edges, p, 1) == node) as usize;
+        n += (darts::dart_cell(edges, p, map::START) == node) as usize;
     }
     n
 }
@@ -181,7 +190,7 @@ pub fn edge_ends(edges: &[i64], count: usize, node: i64) -> usize
 // ---- links changed
 
 // The reverse of an edge as it is written.
-pub fn turned(z: i64) -> i64
+pub fn negated(z: i64) -> i64
     requires { ⌜ nonNeg z ≡ true ⌝ }
     ensures { λ r. ⌜ r ≡ negℤ z ⌝ }
 {
@@ -194,11 +203,11 @@ pub fn redirect(edges: &mut [i64], count: usize, old: i64, new: i64)
     ensures { λ r. ⌜ now (edges .exit) ≡ redirected old new (now (edges .entry)) count ⌝ }
 {
     for i in 0..count {
-        if edges[i * 32 + 3] == old {
-            edges[i * 32 + 3] = new;
+        if edges[i * map::EDGE_WIDTH + map::NEXT_LEFT] == old {
+            edges[i * map::EDGE_WIDTH + map::NEXT_LEFT] = new;
         }
-        if edges[i * 32 + 4] == old {
-            edges[i * 32 + 4] = new;
+        if edges[i * map::EDGE_WIDTH + map::NEXT_RIGHT] == old {
+            edges[i * map::EDGE_WIDTH + map::NEXT_RIGHT] = new;
         }
     }
 }
@@ -210,15 +219,16 @@ fn link_at(edges: &mut [i64], count: usize, p: usize, c: i64)
 {
     let d = darts::dart_at(edges, p);
     redirect(edges, count, c, d);
-    darts::set_dart_cell(edges, darts::reverse(p), 3, c);
+    darts::set_dart_cell(edges, darts::reverse(p), map::NEXT_LEFT, c);
 }
 
 // The first departure met turning clockwise from the departure p, where `other` is not there yet.
 fn met(edges: &[i64], count: usize, p: usize, other: usize) -> Found
     requires { ⌜ EdgeRows (now edges) count × (p < count * 2) ⌝ }
-    ensures { λ r. ⌜ r ≡ firstMet (wayAt (now (edges .entry))) (wayAt (now (edges .entry)) p) (leaving (now (edges .entry)) count (sideCell (now (edges .entry)) p 1) p other) ⌝ }
+    ensures { λ r. ⌜ r ≡ firstMet (wayAt (now (edges .entry))) (wayAt (now (edges .entry)) p)
+        (leaving (now (edges .entry)) count (sideCell (now (edges .entry)) p 1) p other) ⌝ }
 {
-    let node = darts::dart_cell(edges, p, 1);
+    let node = darts::dart_cell(edges, p, map::START);
     let v = darts::step_at(edges, p);
     first_clockwise(edges, count, count, &edges[0..0], node, v, p, other)
 }
@@ -259,8 +269,8 @@ pub fn unlink_edge(edges: &mut [i64], count: usize, i: usize)
     let p = i * 2;
     let d = darts::dart_at(edges, p);
     let back = darts::dart_at(edges, p + 1);
-    let to = darts::dart_cell(edges, p + 1, 3);
+    let to = darts::dart_cell(edges, p + 1, map::NEXT_LEFT);
     redirect(edges, count, d, to);
-    let then = darts::dart_cell(edges, p, 3);
+    let then = darts::dart_cell(edges, p, map::NEXT_LEFT);
     redirect(edges, count, back, then);
 }

@@ -7,18 +7,19 @@ use Prim.Native.Nat.{ℕ, suc, _+_}
 use native.Mathlib.Nat.{add-zero, add-suc, suc-add}
 use lib.ListN.{length, set}
 use lib.Seq.{sets}
-use Rattle.lists.specs.Scans.{any, all, find, fold, linked}
+use Rattle.lists.specs.Scans.{anyOf, allOf, find, fold, linked}
 use Rattle.lists.specs.Members.{All}
 use Rattle.lists.proofs.Bools.{eq3, and-true, and-is}
 
 module _ {A : Type 0} where
-  pub fold-append : {S : Type 0} (g : S → A → S) (s : S) (xs ys : List A) → fold g s (xs ++ ys) ≡ fold g (fold g s xs) ys
+  pub fold-append : {S : Type 0} (g : S → A → S) (s : S) (xs ys : List A) → fold g s (xs ++ ys)
+      ≡ fold g (fold g s xs) ys
   fold-append g s [] ys = refl
   fold-append g s (x ∷ xs) ys = fold-append g (g s x) xs ys
 
-  pub all-append : (p : A → Bool) (xs ys : List A) → all p xs ≡ true → all p ys ≡ true → all p (xs ++ ys) ≡ true
+  pub all-append : (p : A → Bool) (xs ys : List A) → allOf p xs ≡ true → allOf p ys ≡ true → allOf p (xs ++ ys) ≡ true
   all-append p [] ys h k = k
-  all-append p (x ∷ xs) ys h k = let t = and-true (p x) (all p xs) h in and-is (t .0) (all-append p xs ys (t .1) k)
+  all-append p (x ∷ xs) ys h k = let t = and-true (p x) (allOf p xs) h in and-is (t .0) (all-append p xs ys (t .1) k)
 
   pub each-append : (R : A → Type 0) (xs ys : List A) → All R xs → All R ys → All R (xs ++ ys)
   each-append R [] ys h k = k
@@ -27,12 +28,13 @@ module _ {A : Type 0} where
   -- one run of stores and then another
   pub sets-append : (xs ys l : List A) (i : ℕ) → sets l i (xs ++ ys) ≡ sets (sets l i xs) (i + length xs) ys
   sets-append [] ys l i = rw (add-zero i)
-  sets-append (x ∷ xs) ys l i = sets-append xs ys (set l i x) (suc i) ∙ rw (suc-add i (length xs), add-suc i (length xs))
+  sets-append (x ∷ xs) ys l i = sets-append xs ys (set l i x) (suc i)
+      ∙ rw (suc-add i (length xs), add-suc i (length xs))
 
-  pub any-append : (p : A → Bool) (xs ys : List A) → any p (xs ++ ys) ≡ any p xs || any p ys
+  pub any-append : (p : A → Bool) (xs ys : List A) → anyOf p (xs ++ ys) ≡ anyOf p xs || anyOf p ys
   any-append p [] ys = refl
   any-append p (x ∷ xs) ys = rw (any-append p xs ys)
-      (eq3 (λ a b c. a || (b || c)) (λ a b c. a || b || c) tt (p x) (any p xs) (any p ys))
+      (eq3 (λ a b c. a || (b || c)) (λ a b c. a || b || c) tt (p x) (anyOf p xs) (anyOf p ys))
 
   -- what is found is found in a longer list
   pub find-left : (p : A → Bool) (xs ys : List A) (a : A) → find p xs ≡ some a → find p (xs ++ ys) ≡ some a

@@ -34,10 +34,13 @@ eq1 f g t a = beq→≡ (f a) (g a) (by (λ a. Bool·beq (f a) (g a)) t a)
 pub eq2 : (f g : Bool → Bool → Bool) → T (both λ a. both λ b. Bool·beq (f a b) (g a b)) → (a b : Bool) → f a b ≡ g a b
 eq2 f g t a b = eq1 (f a) (g a) (by (λ a. both λ b. Bool·beq (f a b) (g a b)) t a) b
 
-pub eq3 : (f g : Bool → Bool → Bool → Bool) → T (both λ a. both λ b. both λ c. Bool·beq (f a b c) (g a b c)) → (a b c : Bool) → f a b c ≡ g a b c
+pub eq3 : (f g : Bool → Bool → Bool → Bool) → T (both λ a. both λ b. both λ c. Bool·beq (f a b c) (g a b c))
+    → (a b c : Bool) → f a b c ≡ g a b c
 eq3 f g t a b c = eq2 (f a) (g a) (by (λ a. both λ b. both λ c. Bool·beq (f a b c) (g a b c)) t a) b c
 
-pub eq4 : (f g : Bool → Bool → Bool → Bool → Bool) → T (both λ a. both λ b. both λ c. both λ d. Bool·beq (f a b c d) (g a b c d)) → (a b c d : Bool) → f a b c d ≡ g a b c d
+pub eq4 : (f g : Bool → Bool → Bool → Bool → Bool)
+    → T (both λ a. both λ b. both λ c. both λ d. Bool·beq (f a b c d) (g a b c d)) → (a b c d : Bool) → f a b c d
+    ≡ g a b c d
 eq4 f g t a b c d = eq3 (f a) (g a) (by (λ a. both λ b. both λ c. both λ d. Bool·beq (f a b c d) (g a b c d)) t a) b c d
 
 pub ⊕-self : (a : Bool) → a ⊕ a ≡ false
@@ -96,7 +99,11 @@ which true = inl refl
 which false = inr refl
 
 pub same-sym : (a b : ℕ) → same a b ≡ same b a
-same-sym a b = elim (which (same a b)) [ inl e ↦ e ∙ sym (same-eq b a (sym (same-true a b e))) | inr e ↦ e ∙ sym (same-false b a (λ q. differ a b e (sym q))) ]
+same-sym a b = elim (which (same a b)) [
+  | inl e ↦ e ∙ sym (same-eq b a (sym (same-true a b e)))
+  | inr e ↦ e
+      ∙ sym (same-false b a (λ q. differ a b e (sym q)))
+]
 
 pub equal? : (a b : ℕ) → (a ≡ b) ⊎ ((a ≡ b) → ⊥)
 equal? a b = elim (which (same a b)) [ inl e ↦ inl (same-true a b e) | inr e ↦ inr (differ a b e) ]

@@ -2,26 +2,34 @@
 use mathlib.Core.Path.{_≡_, refl, sym, ap, _∙_}
 use mathlib.Core.Logic.{_⊎_, inl, inr}
 use mathlib.Core.Bool.{Bool, true, false, cond, true≢false}
-use mathlib.Core.List.{List, [], _∷_, _++_, map, append-nil, List·Memᴰ, List·Memᴰ·head, List·Memᴰ·tail, List·Memᴰ·cases-cons, List·Memᴰ·not-nil}
+use mathlib.Core.List.{List, [], _∷_, _++_, map, append-nil, List·Memᴰ, List·Memᴰ·head, List·Memᴰ·tail}
+use mathlib.Core.List.{List·Memᴰ·cases-cons, List·Memᴰ·not-nil}
 use Prim.Native.Nat.{suc, _≤_}
 use native.Mathlib.Omega.{arith}
 use lib.ListN.{length}
 use Rattle.lists.specs.Scans.{keep}
 use Rattle.lists.specs.Members.{Distinct}
 
-pub keep-in : {D : Type 0} (f : D → Bool) (ds : List D) {x : D} → List·Memᴰ x (keep f ds) → List·Memᴰ x ds × (f x ≡ true)
+pub keep-in : {D : Type 0} (f : D → Bool) (ds : List D) {x : D} → List·Memᴰ x (keep f ds) → List·Memᴰ x ds
+    × (f x ≡ true)
 keep-in f [] m = absurd (List·Memᴰ·not-nil m)
 keep-in {D} f (d ∷ ds) {x} m = go (f d) refl m (λ k. keep-in f ds k)
   where
-    go : (b : Bool) → f d ≡ b → List·Memᴰ x (cond b (d ∷ keep f ds) (keep f ds)) → (List·Memᴰ x (keep f ds) → List·Memᴰ x ds × (f x ≡ true)) → List·Memᴰ x (d ∷ ds) × (f x ≡ true)
-    go true e m ih = elim (List·Memᴰ·cases-cons m) [ inl q ↦ (List·Memᴰ·head q, ap f q ∙ e) | inr k ↦ (List·Memᴰ·tail (ih k .0), ih k .1) ]
+    go : (b : Bool) → f d ≡ b → List·Memᴰ x (cond b (d ∷ keep f ds) (keep f ds))
+        → (List·Memᴰ x (keep f ds) → List·Memᴰ x ds × (f x ≡ true)) → List·Memᴰ x (d ∷ ds) × (f x ≡ true)
+    go true e m ih = elim (List·Memᴰ·cases-cons m) [
+      | inl q ↦ (List·Memᴰ·head q, ap f q ∙ e)
+      | inr k ↦
+          (List·Memᴰ·tail (ih k .0), ih k .1)
+    ]
     go false e m ih = (List·Memᴰ·tail (ih m .0), ih m .1)
 
 pub keep-has : {D : Type 0} (f : D → Bool) (ds : List D) {x : D} → List·Memᴰ x ds → f x ≡ true → List·Memᴰ x (keep f ds)
 keep-has f [] m e = absurd (List·Memᴰ·not-nil m)
 keep-has {D} f (d ∷ ds) {x} m e = go (f d) refl (List·Memᴰ·cases-cons m) (λ k. keep-has f ds k e)
   where
-    go : (b : Bool) → f d ≡ b → (x ≡ d) ⊎ List·Memᴰ x ds → (List·Memᴰ x ds → List·Memᴰ x (keep f ds)) → List·Memᴰ x (cond b (d ∷ keep f ds) (keep f ds))
+    go : (b : Bool) → f d ≡ b → (x ≡ d) ⊎ List·Memᴰ x ds → (List·Memᴰ x ds → List·Memᴰ x (keep f ds))
+        → List·Memᴰ x (cond b (d ∷ keep f ds) (keep f ds))
     go true q (inl p) ih = List·Memᴰ·head p
     go true q (inr k) ih = List·Memᴰ·tail (ih k)
     go false q (inl p) ih = absurd (true≢false (sym e ∙ ap f p ∙ q))
@@ -29,13 +37,15 @@ keep-has {D} f (d ∷ ds) {x} m e = go (f d) refl (List·Memᴰ·cases-cons m) (
 
 pub keep-all : {D : Type 0} (f : D → Bool) (ds : List D) → ((d : D) → List·Memᴰ d ds → f d ≡ true) → keep f ds ≡ ds
 keep-all f [] h = refl
-keep-all f (d ∷ ds) h = rw (h d (List·Memᴰ·head refl)) (ap (λ (l : List _). d ∷ l) (keep-all f ds (λ c m. h c (List·Memᴰ·tail m))))
+keep-all f (d ∷ ds) h = rw (h d (List·Memᴰ·head refl))
+    (ap (λ (l : List _). d ∷ l) (keep-all f ds (λ c m. h c (List·Memᴰ·tail m))))
 
 pub keep-swap : {D : Type 0} (f g : D → Bool) (ds : List D) → keep f (keep g ds) ≡ keep g (keep f ds)
 keep-swap f g [] = refl
 keep-swap {D} f g (d ∷ ds) = go (f d) refl (g d) refl (keep-swap f g ds)
   where
-    go : (a : Bool) → f d ≡ a → (b : Bool) → g d ≡ b → keep f (keep g ds) ≡ keep g (keep f ds) → keep f (cond b (d ∷ keep g ds) (keep g ds)) ≡ keep g (cond a (d ∷ keep f ds) (keep f ds))
+    go : (a : Bool) → f d ≡ a → (b : Bool) → g d ≡ b → keep f (keep g ds) ≡ keep g (keep f ds)
+        → keep f (cond b (d ∷ keep g ds) (keep g ds)) ≡ keep g (cond a (d ∷ keep f ds) (keep f ds))
     go true p true q ih = rw (p, q) (ap (λ (l : List D). d ∷ l) ih)
     go true p false q ih = rw q ih
     go false p true q ih = rw p ih
@@ -64,11 +74,13 @@ keep-last {D} p ds x h e =
     ∙ keep-all p ds h
 
 module _ {D E : Type 0} (f : D → E) where
-  pub keep-map : (p : D → Bool) (q : E → Bool) (ds : List D) → ((d : D) → List·Memᴰ d ds → q (f d) ≡ p d) → keep q (map f ds) ≡ map f (keep p ds)
+  pub keep-map : (p : D → Bool) (q : E → Bool) (ds : List D) → ((d : D) → List·Memᴰ d ds → q (f d) ≡ p d)
+      → keep q (map f ds) ≡ map f (keep p ds)
   keep-map p q [] h = refl
   keep-map p q (d ∷ ds) h = go (p d) (h d (List·Memᴰ·head refl)) (keep-map p q ds (λ c m. h c (List·Memᴰ·tail m)))
     where
-      go : (b : Bool) → q (f d) ≡ b → keep q (map f ds) ≡ map f (keep p ds) → cond (q (f d)) (f d ∷ keep q (map f ds)) (keep q (map f ds)) ≡ map f (cond b (d ∷ keep p ds) (keep p ds))
+      go : (b : Bool) → q (f d) ≡ b → keep q (map f ds) ≡ map f (keep p ds)
+          → cond (q (f d)) (f d ∷ keep q (map f ds)) (keep q (map f ds)) ≡ map f (cond b (d ∷ keep p ds) (keep p ds))
       go true e ih = rw e (ap (λ (l : List E). f d ∷ l) ih)
       go false e ih = rw e ih
 

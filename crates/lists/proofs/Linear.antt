@@ -9,7 +9,7 @@ use Prim.Native.Nat.{ℕ, _<_}
 use native.Mathlib.Omega.{arith}
 use lib.ListN.{length, length-map}
 use Rattle.lists.specs.Tests.{_⊕_, same}
-use Rattle.lists.specs.Scans.{sum}
+use Rattle.lists.specs.Scans.{oddCount}
 use Rattle.lists.specs.Members.{Distinct}
 use Rattle.lists.specs.Functionals.{Functional, Solution}
 use Rattle.lists.proofs.Bools.{eq1, eq2, eq4, &&-false, which, same-refl, same-true, same-false}
@@ -44,7 +44,7 @@ plusAll [] f = record { at = λ S. false; linear = λ S R b. sym (&&-false b) }
 plusAll (a ∷ l) f = plus (f a) (plusAll l f)
 
 pub plus-all : {A : Type 0} (l : List A) (f : A → Functional) (S : ℕ → Bool)
-    → plusAll l f .at S ≡ sum l (λ a. f a .at S)
+    → plusAll l f .at S ≡ oddCount l (λ a. f a .at S)
 unfolding plusAll
 plus-all [] f S = refl
 plus-all (a ∷ l) f S = ap (λ v. f a .at S ⊕ v) (plus-all l f S)

@@ -2,10 +2,10 @@
 use mathlib.Core.Path.{_≡_, refl}
 use mathlib.Core.Bool.{Bool}
 use mathlib.Core.List.{List, [], _∷_, map, flatMap, List·Memᴰ, List·Memᴰ·head, List·Memᴰ·tail}
-use Rattle.lists.specs.Scans.{all}
+use Rattle.lists.specs.Scans.{allOf}
 
 module _ {A B : Type 0} where
-  pub all-mapped : (p : B → Bool) (f : A → B) (l : List A) → all p (map f l) ≡ all (λ x. p (f x)) l
+  pub all-mapped : (p : B → Bool) (f : A → B) (l : List A) → allOf p (map f l) ≡ allOf (λ x. p (f x)) l
   all-mapped p f [] = refl
   all-mapped p f (x ∷ l) = rw (all-mapped p f l)
 

@@ -2,14 +2,16 @@
 use mathlib.Core.Path.{_≡_, refl, sym, ap, ap₂, _∙_}
 use mathlib.Core.Logic.{_⊎_, inl, inr}
 use mathlib.Core.Bool.{Bool, true, false, cond, true≢false}
-use mathlib.Core.List.{List, [], _∷_, map, List·Memᴰ, List·Memᴰ·head, List·Memᴰ·tail, List·Memᴰ·cases-cons, List·Memᴰ·not-nil}
+use mathlib.Core.List.{List, [], _∷_, map, List·Memᴰ, List·Memᴰ·head, List·Memᴰ·tail, List·Memᴰ·cases-cons}
+use mathlib.Core.List.{List·Memᴰ·not-nil}
 use mathlib.Core.List.{flatMap, Memᴰ·append-left, Memᴰ·append-right, List·Memᴰ·append-cases}
 use mathlib.Core.Option.{some}
 use Rattle.lists.specs.Scans.{find, isSome}
 use Rattle.lists.specs.Members.{All}
 use Rattle.lists.proofs.Bools.{which}
 
-pub each-cons : {A : Type 0} {p : A → Type 0} {x : A} {l : List A} → p x → ((y : A) → List·Memᴰ y l → p y) → (y : A) → List·Memᴰ y (x ∷ l) → p y
+pub each-cons : {A : Type 0} {p : A → Type 0} {x : A} {l : List A} → p x → ((y : A) → List·Memᴰ y l → p y) → (y : A)
+    → List·Memᴰ y (x ∷ l) → p y
 each-cons {p = p} px h y m = elim (List·Memᴰ·cases-cons m) [ inl e ↦ rw e px | inr k ↦ h y k ]
 
 -- `All` by members, and members of `All`

@@ -10,7 +10,8 @@ use lib.Seq.{take-all, take-length, drop-length}
 use borrow.Author.Tests.{ltb-true, ltb-false}
 use Rattle.lists.proofs.Bools.{which}
 
-pub part-min : {A : Type 0} (n : ℕ) (l : List A) → (take (min n (length l)) l ≡ take n l) × (drop (min n (length l)) l ≡ drop n l)
+pub part-min : {A : Type 0} (n : ℕ) (l : List A) → (take (min n (length l)) l ≡ take n l)
+    × (drop (min n (length l)) l ≡ drop n l)
 part-min n l =
     elim (which (ltb n (length l))) [
       | inl t ↦

@@ -1,5 +1,6 @@
 -- Laws of scans over a table's rows, each at the rows that are left from i on, `table f i (n - i)`:
--- a turn of the loop is `-hit` or `-miss` (`count-step`, `fold-step`, `sweep-step`), and the loop's end is `-end`. Assumes nothing.
+-- a turn of the loop is `-hit` or `-miss` (`count-step`, `fold-step`, `sweep-step`), and the loop's end is `-end`.
+-- Assumes nothing.
 use mathlib.Core.Path.{_≡_, refl, sym, ap, _∙_, subst}
 use mathlib.Core.Logic.{inl, inr}
 use mathlib.Core.List.{List, [], _∷_, List·Memᴰ, List·Memᴰ·cases-cons, List·Memᴰ·not-nil}
@@ -10,7 +11,7 @@ use native.Mathlib.Numerals.{add-one}
 use native.Mathlib.Omega.{arith}
 use lib.ListN.{length, getD}
 use Rattle.lists.specs.Tests.{bit}
-use Rattle.lists.specs.Scans.{any, all, count, fold}
+use Rattle.lists.specs.Scans.{anyOf, allOf, countOf, fold}
 use Rattle.lists.specs.Tables.{table, sweep, place, nth}
 use Rattle.lists.specs.declared.Found.the-variants.{At, Missing}
 
@@ -38,34 +39,35 @@ module _ {A : Type 0} (f : ℕ → A) (i n : ℕ) where
     pub place-hit : i < n → p (f i) ≡ true → place p i (table f i (n - i)) ≡ At i
     place-hit h e = rw (table-step h, e)
 
-    pub place-miss : i < n → p (f i) ≡ false → place p i (table f i (n - i)) ≡ place p (i + 1) (table f (i + 1) (n - (i + 1)))
+    pub place-miss : i < n → p (f i) ≡ false → place p i (table f i (n - i))
+        ≡ place p (i + 1) (table f (i + 1) (n - (i + 1)))
     place-miss h e = rw (table-step h, e)
 
     pub place-end : n ≤ i → place p i (table f i (n - i)) ≡ Missing
     place-end h = rw (table-end h)
 
-    pub any-hit : i < n → p (f i) ≡ true → any p (table f i (n - i)) ≡ true
+    pub any-hit : i < n → p (f i) ≡ true → anyOf p (table f i (n - i)) ≡ true
     any-hit h e = rw (table-step h, e)
 
-    pub any-miss : i < n → p (f i) ≡ false → any p (table f i (n - i)) ≡ any p (table f (i + 1) (n - (i + 1)))
+    pub any-miss : i < n → p (f i) ≡ false → anyOf p (table f i (n - i)) ≡ anyOf p (table f (i + 1) (n - (i + 1)))
     any-miss h e = rw (table-step h, e)
 
-    pub any-end : n ≤ i → any p (table f i (n - i)) ≡ false
+    pub any-end : n ≤ i → anyOf p (table f i (n - i)) ≡ false
     any-end h = rw (table-end h)
 
-    pub all-hit : i < n → p (f i) ≡ true → all p (table f i (n - i)) ≡ all p (table f (i + 1) (n - (i + 1)))
+    pub all-hit : i < n → p (f i) ≡ true → allOf p (table f i (n - i)) ≡ allOf p (table f (i + 1) (n - (i + 1)))
     all-hit h e = rw (table-step h, e)
 
-    pub all-miss : i < n → p (f i) ≡ false → all p (table f i (n - i)) ≡ false
+    pub all-miss : i < n → p (f i) ≡ false → allOf p (table f i (n - i)) ≡ false
     all-miss h e = rw (table-step h, e)
 
-    pub all-end : n ≤ i → all p (table f i (n - i)) ≡ true
+    pub all-end : n ≤ i → allOf p (table f i (n - i)) ≡ true
     all-end h = rw (table-end h)
 
-    pub count-step : i < n → count p (table f i (n - i)) ≡ bit (p (f i)) + count p (table f (i + 1) (n - (i + 1)))
+    pub count-step : i < n → countOf p (table f i (n - i)) ≡ bit (p (f i)) + countOf p (table f (i + 1) (n - (i + 1)))
     count-step h = rw (table-step h)
 
-    pub count-end : n ≤ i → count p (table f i (n - i)) ≡ 0
+    pub count-end : n ≤ i → countOf p (table f i (n - i)) ≡ 0
     count-end h = rw (table-end h)
 
   module _ {S : Type 0} (g : S → A → S) (s : S) where
@@ -118,23 +120,28 @@ module _ {A : Type 0} (f : ℕ → A) where
             omega arith
 
     -- a search that has passed i elements that p does not take
-    pub place-skip : (n i : ℕ) → i ≤ n → ((k : ℕ) → k < i → p (f k) ≡ false) → place p i (table f i (n - i)) ≡ place p 0 (table f 0 n)
-    place-skip n zero h all = rw sub-zero
-    place-skip n (suc i) h all =
+    pub place-skip : (n i : ℕ) → i ≤ n → ((k : ℕ) → k < i → p (f k) ≡ false) → place p i (table f i (n - i))
+        ≡ place p 0 (table f 0 n)
+    place-skip n zero h allOf = rw sub-zero
+    place-skip n (suc i) h allOf =
         subst (λ (k : ℕ). place p k (table f k (n - k)) ≡ place p 0 (table f 0 n)) (add-one i)
-        (sym (place-miss f i n p (omega arith) (all i (omega arith))) ∙ place-skip n i (omega arith) (λ k l. all k (omega arith)))
+        (sym (place-miss f i n p (omega arith) (allOf i (omega arith)))
+        ∙ place-skip n i (omega arith) (λ k l. allOf k (omega arith)))
 
-    pub place-at : (n i : ℕ) → i < n → ((k : ℕ) → k < i → p (f k) ≡ false) → p (f i) ≡ true → place p 0 (table f 0 n) ≡ At i
-    place-at n i h all e = sym (place-skip n i (omega arith) all) ∙ place-hit f i n p h e
+    pub place-at : (n i : ℕ) → i < n → ((k : ℕ) → k < i → p (f k) ≡ false) → p (f i) ≡ true → place p 0 (table f 0 n)
+        ≡ At i
+    place-at n i h allOf e = sym (place-skip n i (omega arith) allOf) ∙ place-hit f i n p h e
 
     pub place-none : (n : ℕ) → ((k : ℕ) → k < n → p (f k) ≡ false) → place p 0 (table f 0 n) ≡ Missing
-    place-none n all = sym (place-skip n n (omega arith) all) ∙ place-end f n n p (omega arith)
+    place-none n allOf = sym (place-skip n n (omega arith) allOf) ∙ place-end f n n p (omega arith)
 
 module _ {A : Type 0} where
   -- what takes each element takes all
-  pub all-of-table : (p : A → Bool) (f : ℕ → A) (a n : ℕ) → ((i : ℕ) → a ≤ i → i < a + n → p (f i) ≡ true) → all p (table f a n) ≡ true
+  pub all-of-table : (p : A → Bool) (f : ℕ → A) (a n : ℕ) → ((i : ℕ) → a ≤ i → i < a + n → p (f i) ≡ true)
+      → allOf p (table f a n) ≡ true
   all-of-table p f a zero h = refl
-  all-of-table p f a (suc n) h = rw (h a (omega arith) (omega arith)) (all-of-table p f (a + 1) n (λ i s t. h i (omega arith) (omega arith)))
+  all-of-table p f a (suc n) h = rw (h a (omega arith) (omega arith))
+      (all-of-table p f (a + 1) n (λ i s t. h i (omega arith) (omega arith)))
 
   -- an element has a place
   pub table-in : (f : ℕ → A) (a n : ℕ) {x : A} → List·Memᴰ x (table f a n) → (i : ℕ) × (a ≤ i) × (i < a + n) × (f i ≡ x)
@@ -143,5 +150,6 @@ module _ {A : Type 0} where
       let later = table-in f (a + 1) n {x = x} in
       elim (List·Memᴰ·cases-cons m) [
         | inl e ↦ (a, omega arith, omega arith, sym e)
-        | inr k ↦ let r = later k in let s : a + 1 ≤ r .0 = r .1 in let t : r .0 < a + 1 + n = r .2 in (r .0, omega arith, omega arith, r .3)
+        | inr k ↦ let r = later k in let s : a + 1 ≤ r .0 = r .1 in let t : r .0 < a + 1 + n = r .2 in
+            (r .0, omega arith, omega arith, r .3)
       ]

@@ -1,4 +1,5 @@
--- Scans of lists. What a test may leave out is bound by a `let`, which waits, so that each computes at once on literals.
+-- Scans of lists. What a test may leave out is bound by a `let`, which waits, so that each computes at once on
+-- literals.
 use mathlib.Core.Bool.{Bool, true, false, cond, _&&_, _||_}
 use mathlib.Core.List.{List, [], _∷_}
 use mathlib.Core.Option.{Option, none, some}
@@ -7,14 +8,14 @@ use Rattle.lists.specs.Tests.{_⊕_, bit}
 
 module _ {A : Type 0} where
   -- p takes some element
-  abbrev pub any : (A → Bool) → List A → Bool
-  any p [] = false
-  any p (r ∷ rs) = let rest = any p rs in p r || rest
+  abbrev pub anyOf : (A → Bool) → List A → Bool
+  anyOf p [] = false
+  anyOf p (r ∷ rs) = let rest = anyOf p rs in p r || rest
 
   -- p takes every element
-  abbrev pub all : (A → Bool) → List A → Bool
-  all p [] = true
-  all p (r ∷ rs) = let rest = all p rs in p r && rest
+  abbrev pub allOf : (A → Bool) → List A → Bool
+  allOf p [] = true
+  allOf p (r ∷ rs) = let rest = allOf p rs in p r && rest
 
   -- the elements that p takes
   abbrev pub keep : (A → Bool) → List A → List A
@@ -27,14 +28,14 @@ module _ {A : Type 0} where
   find p (r ∷ rs) = let rest = find p rs in cond (p r) (some r) rest
 
   -- how many elements p takes
-  abbrev pub count : (A → Bool) → List A → ℕ
-  count p [] = 0
-  count p (r ∷ rs) = bit (p r) + count p rs
+  abbrev pub countOf : (A → Bool) → List A → ℕ
+  countOf p [] = 0
+  countOf p (r ∷ rs) = bit (p r) + countOf p rs
 
   -- whether p takes an odd number of elements
-  abbrev pub sum : List A → (A → Bool) → Bool
-  sum [] p = false
-  sum (r ∷ rs) p = p r ⊕ sum rs p
+  abbrev pub oddCount : List A → (A → Bool) → Bool
+  oddCount [] p = false
+  oddCount (r ∷ rs) p = p r ⊕ oddCount rs p
 
   -- the fold from the left
   abbrev pub fold : {S : Type 0} → (S → A → S) → S → List A → S

@@ -1,5 +1,5 @@
--- Numbers of a map in form: they rise, so none stands twice and a row is found by its number; all are below the next number, so a new number is new.
--- Decoding and encoding undo each other. Assumes nothing.
+-- Numbers of a map in form: they rise, so none stands twice and a row is found by its number; all are below the next
+-- number, so a new number is new. Decoding and encoding undo each other. Assumes nothing.
 use mathlib.Core.Path.{_≡_}
 use mathlib.Core.Bool.{true, _&&_}
 use mathlib.Core.List.{List, map, List·Memᴰ, Memᴰ·map}
@@ -9,25 +9,30 @@ use native.Mathlib.Omega.{arith}
 use lib.Dec.{leb, ltb, leb→le, ltb→lt}
 use lib.ListN.{length}
 use Rattle.lists.specs.Tests.{same}
-use Rattle.lists.specs.Scans.{all, firstOr, linked}
+use Rattle.lists.specs.Scans.{allOf, firstOr, linked}
 use Rattle.lists.specs.Members.{Distinct}
 use Rattle.lists.proofs.Bools.{≡→T, same-true, and-true}
 use Rattle.curves.specs.Curves.{points, maxPoints}
-use Rattle.map.specs.Rows.{Node, Edge, Map, Lent, Sizes, mapOf, lentOf, sizesOf, whole, findNode, findEdge, hasNode, hasEdge, hasFace, node, edge}
-use Rattle.map.specs.Form.{ranged, numbered, numbers, inFace, edgeNames, named, curveFits, departuresDiffer, bareMarked, linksOnce, linksMeet, ringsBearOne, formed, inForm}
+use Rattle.map.specs.Rows.{Node, Edge, Map, Lent, Sizes, mapOf, lentOf, sizesOf, whole, findNode, findEdge}
+use Rattle.map.specs.Rows.{hasNode, hasEdge, hasFace, node, edge}
+use Rattle.map.specs.Form.{ranged, numbered, numbers, inFace, edgeNames, named, curveFits, departuresDiffer}
+use Rattle.map.specs.Form.{bareMarked, linksOnce, linksMeet, ringsBearOne, formed, inForm}
 use Rattle.map.proofs.Scans.{all-each, find-some, rise-distinct, find-row}
 use Rattle.map.proofs.RoundTrip.{Holds, Points, reads-back, writes-back, ranged-points}
 
 -- ---- rows by number
 
 module _ (m : Map) where
-  pub find-node : Distinct (map (λ n. n .number) (m .nodes)) → (r : Node) → List·Memᴰ r (m .nodes) → findNode m (r .number) ≡ some r
+  pub find-node : Distinct (map (λ n. n .number) (m .nodes)) → (r : Node) → List·Memᴰ r (m .nodes)
+      → findNode m (r .number) ≡ some r
   find-node dis r k = find-row (λ (n : Node). n .number) (m .nodes) dis r k
 
-  pub find-edge : Distinct (map (λ e. e .number) (m .edges)) → (r : Edge) → List·Memᴰ r (m .edges) → findEdge m (r .number) ≡ some r
+  pub find-edge : Distinct (map (λ e. e .number) (m .edges)) → (r : Edge) → List·Memᴰ r (m .edges)
+      → findEdge m (r .number) ≡ some r
   find-edge dis r k = find-row (λ (e : Edge). e .number) (m .edges) dis r k
 
-  pub edge-row : Distinct (map (λ e. e .number) (m .edges)) → (r : Edge) → List·Memᴰ r (m .edges) → edge m (r .number) ≡ r
+  pub edge-row : Distinct (map (λ e. e .number) (m .edges)) → (r : Edge) → List·Memᴰ r (m .edges) → edge m (r .number)
+      ≡ r
   unfolding edge
   edge-row dis r k = rw (find-edge dis r k)
 
@@ -39,11 +44,13 @@ module _ (m : Map) where
   -- a row that exists is a row of its number
   pub node-there : (n : ℕ) → hasNode m n ≡ true → List·Memᴰ (node m n) (m .nodes) × (node m n .number ≡ n)
   unfolding node
-  node-there n h = let r = find-some (λ x. same (x .number) n) (m .nodes) h in rw (r .3) (r .1, same-true (r .0 .number) n (r .2))
+  node-there n h = let r = find-some (λ x. same (x .number) n) (m .nodes) h in
+      rw (r .3) (r .1, same-true (r .0 .number) n (r .2))
 
   edge-there : (e : ℕ) → hasEdge m e ≡ true → List·Memᴰ (edge m e) (m .edges) × (edge m e .number ≡ e)
   unfolding edge
-  edge-there e h = let r = find-some (λ x. same (x .number) e) (m .edges) h in rw (r .3) (r .1, same-true (r .0 .number) e (r .2))
+  edge-there e h = let r = find-some (λ x. same (x .number) e) (m .edges) h in
+      rw (r .3) (r .1, same-true (r .0 .number) e (r .2))
 
 -- ---- numbers in form
 
@@ -54,10 +61,14 @@ pub record Numbered (least next : ℕ) (ns : List ℕ) : Type 0 where
   pub below : (n : ℕ) → List·Memᴰ n ns → n < next
 
 pub numbered-is : (least next : ℕ) (ns : List ℕ) → numbered least next ns ≡ true → Numbered least next ns
-numbered-is least next ns h = record { distinct = rise-distinct ns (k .0); from = λ n m. leb→le least n (≡→T (leb least n) (each n m .0)); below = λ n m. ltb→lt n next (≡→T (ltb n next) (each n m .1)) }
+numbered-is least next ns h = record {
+  distinct = rise-distinct ns (k .0);
+  from = λ n m. leb→le least n (≡→T (leb least n) (each n m .0));
+  below = λ n m. ltb→lt n next (≡→T (ltb n next) (each n m .1));
+}
   where
-    k : (linked ltb ns ≡ true) × (all (λ n. leb least n && ltb n next) ns ≡ true)
-    k = and-true (linked ltb ns) (all (λ n. leb least n && ltb n next) ns) h
+    k : (linked ltb ns ≡ true) × (allOf (λ n. leb least n && ltb n next) ns ≡ true)
+    k = and-true (linked ltb ns) (allOf (λ n. leb least n && ltb n next) ns) h
 
     each : (n : ℕ) → List·Memᴰ n ns → (leb least n ≡ true) × (ltb n next ≡ true)
     each n m = and-true (leb least n) (ltb n next) (all-each (λ n. leb least n && ltb n next) ns (k .1) n m)
@@ -83,7 +94,7 @@ pub record Formed (m : Map) : Type 0 where
   pub rising : numbers m ≡ true
   pub numbers : Numbers m
   pub named : named m ≡ true
-  pub curves : all (curveFits m) (m .edges) ≡ true
+  pub curves : allOf (curveFits m) (m .edges) ≡ true
   pub departures : departuresDiffer m ≡ true
   pub bare : bareMarked m ≡ true
   pub once : linksOnce m ≡ true
@@ -98,9 +109,19 @@ formed-is m h =
     let h₃ = and-true _ (linksOnce m) (h₂ .0) in
     let h₄ = and-true _ (bareMarked m) (h₃ .0) in
     let h₅ = and-true _ (departuresDiffer m) (h₄ .0) in
-    let h₆ = and-true _ (all (curveFits m) (m .edges)) (h₅ .0) in
+    let h₆ = and-true _ (allOf (curveFits m) (m .edges)) (h₅ .0) in
     let h₇ = and-true (numbers m) (named m) (h₆ .0) in
-    record { rising = h₇ .0; numbers = numbers-are m (h₇ .0); named = h₇ .1; curves = h₆ .1; departures = h₅ .1; bare = h₄ .1; once = h₃ .1; meet = h₂ .1; rings = h₁ .1 }
+    record {
+      rising = h₇ .0;
+      numbers = numbers-are m (h₇ .0);
+      named = h₇ .1;
+      curves = h₆ .1;
+      departures = h₅ .1;
+      bare = h₄ .1;
+      once = h₃ .1;
+      meet = h₂ .1;
+      rings = h₁ .1;
+    }
 
 module _ (m : Map) (h : formed m ≡ true) where
   ns : Numbers m
@@ -124,7 +145,9 @@ module _ (m : Map) (h : formed m ≡ true) where
 
   pub names : (r : Edge) → List·Memᴰ r (m .edges) → edgeNames m r ≡ true
   unfolding named
-  names r k = all-each (edgeNames m) (m .edges) (and-true (all (λ n. inFace m (n .face)) (m .nodes)) (all (edgeNames m) (m .edges)) (formed-is m h .named) .1) r k
+  names r k = all-each (edgeNames m) (m .edges)
+      (and-true (allOf (λ n. inFace m (n .face)) (m .nodes)) (allOf (edgeNames m) (m .edges))
+      (formed-is m h .named) .1) r k
 
   pub holds : (r : Edge) → List·Memᴰ r (m .edges) → length (points (r .curve)) ≤ maxPoints → Holds r
   holds r k few =
@@ -132,10 +155,15 @@ module _ (m : Map) (h : formed m ≡ true) where
       let h₂ = and-true _ (hasFace m (r .left)) (h₁ .0) in
       let h₃ = and-true _ (hasEdge m (r .nextRight .edge)) (h₂ .0) in
       let h₄ = and-true (hasNode m (r .start) && hasNode m (r .end)) (hasEdge m (r .nextLeft .edge)) (h₃ .0) in
-      record { few = few; left = λ b z. let k = edge-from (r .nextLeft .edge) (h₄ .1) in absurd (omega arith); right = λ b z. let k = edge-from (r .nextRight .edge) (h₃ .1) in absurd (omega arith) }
+      record {
+        few = few;
+        left = λ b z. let k = edge-from (r .nextLeft .edge) (h₄ .1) in absurd (omega arith);
+        right = λ b z. let k = edge-from (r .nextRight .edge) (h₃ .1) in absurd (omega arith);
+      }
 
   -- a map in form, with curves of at most 12 points, is read back from the tables
-  pub formed-back : (s : Sizes) → ((r : Edge) → List·Memᴰ r (m .edges) → length (points (r .curve)) ≤ maxPoints) → mapOf (lentOf s m) ≡ m
+  pub formed-back : (s : Sizes) → ((r : Edge) → List·Memᴰ r (m .edges) → length (points (r .curve)) ≤ maxPoints)
+      → mapOf (lentOf s m) ≡ m
   formed-back s few = reads-back s m (λ r k. holds r k (few r k))
 
 -- whole tables in form are written again as they were

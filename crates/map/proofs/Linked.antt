@@ -1,5 +1,5 @@
--- A map in form is linked, in the sense of the theory of linked maps: so two of the four statements of soundness hold in every map in form.
--- Assumes nothing.
+-- A map in form is linked, in the sense of the theory of linked maps: so two of the four statements of soundness hold
+-- in every map in form. Assumes nothing.
 use mathlib.Core.Path.{_≡_, refl, sym, ap, subst, _∙_}
 use mathlib.Core.Bool.{true, _&&_}
 use mathlib.Core.List.{List, map, map-map, List·Memᴰ, List·Permᴰ, Memᴰ·map, Memᴰ·of-map, Memᴰ·cast, Permᴰ·symm}
@@ -7,7 +7,7 @@ use Prim.Native.Nat.{ℕ, zero, suc}
 use native.Mathlib.Omega.{arith}
 use lib.ListN.{length-map}
 use Rattle.lists.specs.Tests.{same, iterate}
-use Rattle.lists.specs.Scans.{count}
+use Rattle.lists.specs.Scans.{countOf}
 use Rattle.lists.specs.Members.{Distinct}
 use Rattle.lists.proofs.Bools.{same-true, and-true}
 use Rattle.lists.proofs.Perms.{perm-of-distinct}
@@ -51,14 +51,16 @@ module _ (m : Map) where
   -- links that name every directed edge exactly once
   pub links-perm : Distinct (nums (arcs m)) → linksOnce m ≡ true → List·Permᴰ (map (next m) (directed m)) (directed m)
   unfolding linksOnce
-  links-perm dis h = Permᴰ·symm (perm-of-distinct (directed m) links (distinct-darts (arcs m) dis) named (omega (arith, length-map (directed m) (next m))))
+  links-perm dis h = Permᴰ·symm (perm-of-distinct (directed m) links (distinct-darts (arcs m) dis) named
+      (omega (arith, length-map (directed m) (next m))))
     where
       links : List Dart
       links = map (next m) (directed m)
 
       named : (d : Dart) → List·Memᴰ d (directed m) → List·Memᴰ d links
       named d k =
-          let one = same-true (count (sameDart d) links) 1 (all-each (λ d. same (count (sameDart d) links) 1) (directed m) h d k) in
+          let one = same-true (countOf (sameDart d) links) 1
+          (all-each (λ d. same (countOf (sameDart d) links) 1) (directed m) h d k) in
           let r = count-in (sameDart d) links (omega arith) in
           Memᴰ·cast (sameDart-true d (r .0) (r .2)) (r .1)
 
@@ -103,7 +105,10 @@ module _ (m : Map) (h : formed m ≡ true) where
 
   -- edges start and end at nodes
   pub within-nodes : Within (map (λ n. n .number) (m .nodes)) (arcs m)
-  within-nodes = record { starts = λ a k. at-start (Memᴰ·of-map arcOf (m .edges) k); ends = λ a k. at-end (Memᴰ·of-map arcOf (m .edges) k) }
+  within-nodes = record {
+    starts = λ a k. at-start (Memᴰ·of-map arcOf (m .edges) k);
+    ends = λ a k. at-end (Memᴰ·of-map arcOf (m .edges) k);
+  }
     where
       there : (n : ℕ) → hasNode m n ≡ true → List·Memᴰ n (map (λ n. n .number) (m .nodes))
       there n e = let r = node-there m n e in Memᴰ·cast (sym (r .1)) (Memᴰ·map (λ (n : Node). n .number) (r .0))
@@ -116,8 +121,10 @@ module _ (m : Map) (h : formed m ≡ true) where
           let h₄ = and-true (hasNode m (e .start) && hasNode m (e .end)) (hasEdge m (e .nextLeft .edge)) (h₃ .0) in
           and-true (hasNode m (e .start)) (hasNode m (e .end)) (h₄ .0)
 
-      at-start : {a : Arc} → (e : Edge) × List·Memᴰ e (m .edges) × (arcOf e ≡ a) → List·Memᴰ (a .from) (map (λ n. n .number) (m .nodes))
+      at-start : {a : Arc} → (e : Edge) × List·Memᴰ e (m .edges) × (arcOf e ≡ a)
+          → List·Memᴰ (a .from) (map (λ n. n .number) (m .nodes))
       at-start r = Memᴰ·cast (sym (ap (λ (a : Arc). a .from) (r .2))) (there (r .0 .start) (both (r .0) (r .1) .0))
 
-      at-end : {a : Arc} → (e : Edge) × List·Memᴰ e (m .edges) × (arcOf e ≡ a) → List·Memᴰ (a .to) (map (λ n. n .number) (m .nodes))
+      at-end : {a : Arc} → (e : Edge) × List·Memᴰ e (m .edges) × (arcOf e ≡ a)
+          → List·Memᴰ (a .to) (map (λ n. n .number) (m .nodes))
       at-end r = Memᴰ·cast (sym (ap (λ (a : Arc). a .to) (r .2))) (there (r .0 .end) (both (r .0) (r .1) .1))

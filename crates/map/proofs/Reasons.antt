@@ -8,7 +8,7 @@ use native.Mathlib.Omega.{arith}
 use lib.Dec.{ltb}
 use lib.IntN.{ℤ}
 use borrow.Author.Tests.{ltb-true, not-false}
-use Rattle.lists.specs.Scans.{all}
+use Rattle.lists.specs.Scans.{allOf}
 use Rattle.lists.proofs.Bools.{which, and-true, and-left, and-right}
 use Rattle.plane.specs.Points.{InRange}
 use Rattle.curves.specs.Curves.{point, coordinate}
@@ -53,12 +53,12 @@ first-append (r ∷ rs) ss n some e =
     ]
 
 -- no reason of the first holds, and none is numbered 0: those of the second are looked at
-pub first-after : (rs ss : Reasons) → all (λ r. ltb 0 (r .0)) rs ≡ true → firstReason rs ≡ 0
+pub first-after : (rs ss : Reasons) → allOf (λ r. ltb 0 (r .0)) rs ≡ true → firstReason rs ≡ 0
     → firstReason (rs ++ ss) ≡ firstReason ss
 first-after [] ss a e = refl
 first-after (r ∷ rs) ss a e =
-    let later = first-after rs ss (and-right (ltb 0 (r .0)) (all (λ r. ltb 0 (r .0)) rs) a) in
-    let some : 0 < r .0 = ltb-true 0 (r .0) (and-left (ltb 0 (r .0)) (all (λ r. ltb 0 (r .0)) rs) a) in
+    let later = first-after rs ss (and-right (ltb 0 (r .0)) (allOf (λ r. ltb 0 (r .0)) rs) a) in
+    let some : 0 < r .0 = ltb-true 0 (r .0) (and-left (ltb 0 (r .0)) (allOf (λ r. ltb 0 (r .0)) rs) a) in
     elim (which (r .1)) [
       | inl h ↦ let z : r .0 ≡ 0 = sym (first-hit (r .0) (r .1) rs h) ∙ e in absurd (omega arith)
       | inr h ↦ first-miss (r .0) (r .1) (rs ++ ss) h ∙ later (sym (first-miss (r .0) (r .1) rs h) ∙ e)

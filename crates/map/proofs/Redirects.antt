@@ -1,4 +1,5 @@
--- A map with its links renamed: it has the same edges, and what led to one directed edge leads to another. Assumes nothing.
+-- A map with its links renamed: it has the same edges, and what led to one directed edge leads to another. Assumes
+-- nothing.
 use mathlib.Core.Path.{_≡_, refl, ap, _∙_}
 use mathlib.Core.Bool.{Bool, true, false, cond}
 use mathlib.Core.Option.{some, Option·map}
@@ -29,9 +30,11 @@ module _ (old new : Dart) (m : Map) where
   redirect-next d h =
       let s = find-some (λ x. same (x .number) (d .edge)) (m .edges) h in
       let was : edge m (d .edge) ≡ s .0 = edge-is m (d .edge) (s .0) (s .3) in
-      let now : edge (redirect old new m) (d .edge) ≡ renamed (s .0) = edge-is (redirect old new m) (d .edge) _ (found (d .edge) (s .0) (s .3)) in
+      let now : edge (redirect old new m) (d .edge) ≡ renamed (s .0) =
+      edge-is (redirect old new m) (d .edge) _ (found (d .edge) (s .0) (s .3)) in
       rw (was, now) (go (d .back) (s .0))
     where
-      go : (b : Bool) (r : Edge) → cond b (instead old new (r .nextRight)) (instead old new (r .nextLeft)) ≡ instead old new (cond b (r .nextRight) (r .nextLeft))
+      go : (b : Bool) (r : Edge) → cond b (instead old new (r .nextRight)) (instead old new (r .nextLeft))
+          ≡ instead old new (cond b (r .nextRight) (r .nextLeft))
       go true r = refl
       go false r = refl

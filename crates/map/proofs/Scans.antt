@@ -12,7 +12,7 @@ use native.Mathlib.Omega.{arith}
 use borrow.Author.Tests.{ltb-true, leb-true, lt-ltb, le-leb}
 use lib.Dec.{leb, ltb}
 use Rattle.lists.specs.Tests.{same}
-use Rattle.lists.specs.Scans.{any, all, find, isSome, keep, linked}
+use Rattle.lists.specs.Scans.{anyOf, allOf, find, isSome, keep, linked}
 use Rattle.lists.specs.Members.{All, Pairs, Distinct}
 use Rattle.lists.proofs.Bools.{same-refl, same-true, same-false, differ, or-true, or-left, or-right, or-false}
 use Rattle.lists.proofs.Bools.{and-true, and-is}
@@ -24,39 +24,39 @@ use Rattle.map.specs.Form.{numbered}
 
 module _ {A : Type 0} (p : A → Bool) where
   -- what takes every element takes each, and the other way round
-  pub all-each : (l : List A) → all p l ≡ true → (x : A) → List·Memᴰ x l → p x ≡ true
+  pub all-each : (l : List A) → allOf p l ≡ true → (x : A) → List·Memᴰ x l → p x ≡ true
   all-each [] h x m = absurd (List·Memᴰ·not-nil m)
-  all-each (y ∷ l) h x m = let k = and-true (p y) (all p l) h in
+  all-each (y ∷ l) h x m = let k = and-true (p y) (allOf p l) h in
       each-cons {p = λ z. p z ≡ true} (k .0) (all-each l (k .1)) x m
 
-  pub each-all : (l : List A) → ((x : A) → List·Memᴰ x l → p x ≡ true) → all p l ≡ true
+  pub each-all : (l : List A) → ((x : A) → List·Memᴰ x l → p x ≡ true) → allOf p l ≡ true
   each-all [] h = refl
   each-all (y ∷ l) h = and-is (h y (List·Memᴰ·head refl)) (each-all l (λ x k. h x (List·Memᴰ·tail k)))
 
-  pub any-some : (l : List A) → any p l ≡ true → (x : A) × List·Memᴰ x l × (p x ≡ true)
+  pub any-some : (l : List A) → anyOf p l ≡ true → (x : A) × List·Memᴰ x l × (p x ≡ true)
   any-some [] h = absurd (true≢false (sym h))
-  any-some (y ∷ l) h = step (any-some l) (or-true (p y) (any p l) h)
+  any-some (y ∷ l) h = step (any-some l) (or-true (p y) (anyOf p l) h)
     where
-      step : (any p l ≡ true → (x : A) × List·Memᴰ x l × (p x ≡ true)) → (p y ≡ true) ⊎ (any p l ≡ true)
+      step : (anyOf p l ≡ true → (x : A) × List·Memᴰ x l × (p x ≡ true)) → (p y ≡ true) ⊎ (anyOf p l ≡ true)
           → (x : A) × List·Memᴰ x (y ∷ l) × (p x ≡ true)
       step ih (inl e) = (y, List·Memᴰ·head refl, e)
       step ih (inr j) = (ih j .0, List·Memᴰ·tail (ih j .1), ih j .2)
 
-  pub some-any : (l : List A) {x : A} → List·Memᴰ x l → p x ≡ true → any p l ≡ true
+  pub some-any : (l : List A) {x : A} → List·Memᴰ x l → p x ≡ true → anyOf p l ≡ true
   some-any [] k e = absurd (List·Memᴰ·not-nil k)
   some-any (y ∷ l) {x} k e = step (λ j. some-any l j e) (List·Memᴰ·cases-cons k)
     where
-      step : (List·Memᴰ x l → any p l ≡ true) → (x ≡ y) ⊎ List·Memᴰ x l → any p (y ∷ l) ≡ true
-      step ih (inl q) = or-left (any p l) (ap p (sym q) ∙ e)
-      step ih (inr j) = or-right (p y) (any p l) (ih j)
+      step : (List·Memᴰ x l → anyOf p l ≡ true) → (x ≡ y) ⊎ List·Memᴰ x l → anyOf p (y ∷ l) ≡ true
+      step ih (inl q) = or-left (anyOf p l) (ap p (sym q) ∙ e)
+      step ih (inr j) = or-right (p y) (anyOf p l) (ih j)
 
   -- what none has each has not, and the other way round
-  pub none-has : (l : List A) → any p l ≡ false → (x : A) → List·Memᴰ x l → p x ≡ false
+  pub none-has : (l : List A) → anyOf p l ≡ false → (x : A) → List·Memᴰ x l → p x ≡ false
   none-has [] h x m = absurd (List·Memᴰ·not-nil m)
-  none-has (y ∷ l) h x m = let k = or-false (p y) (any p l) h in
+  none-has (y ∷ l) h x m = let k = or-false (p y) (anyOf p l) h in
       each-cons {p = λ z. p z ≡ false} (k .0) (none-has l (k .1)) x m
 
-  pub any-none : (l : List A) → ((x : A) → List·Memᴰ x l → p x ≡ false) → any p l ≡ false
+  pub any-none : (l : List A) → ((x : A) → List·Memᴰ x l → p x ≡ false) → anyOf p l ≡ false
   any-none [] h = refl
   any-none (y ∷ l) h = rw (h y (List·Memᴰ·head refl)) (any-none l (λ x m. h x (List·Memᴰ·tail m)))
 
@@ -102,7 +102,7 @@ pairs-linked (a ∷ b ∷ l) h = and-is (lt-ltb a b (h .0 .0)) (pairs-linked (b 
 
 pub rising : (least next : ℕ) (ns : List ℕ) → numbered least next ns ≡ true → Rising least next ns
 rising least next ns h =
-    let k = and-true (linked ltb ns) (all (λ n. leb least n && ltb n next) ns) h in
+    let k = and-true (linked ltb ns) (allOf (λ n. leb least n && ltb n next) ns) h in
     record {
       rises = linked-pairs ns (k .0);
       bounds = λ n j.

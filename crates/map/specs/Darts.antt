@@ -5,7 +5,7 @@ use Prim.Native.Nat.{ℕ, zero, suc, _*_, min}
 use lib.Dec.{ltb}
 use lib.ListN.{length}
 use Rattle.lists.specs.Tests.{same}
-use Rattle.lists.specs.Scans.{any, keep}
+use Rattle.lists.specs.Scans.{anyOf, keep}
 use Rattle.plane.specs.Directions.{Way}
 use Rattle.curves.specs.Curves.{Curve, startWay}
 use Rattle.curves.specs.Edits as edits
@@ -65,7 +65,7 @@ ring m d = stepsTo m d (2 * length (m .edges)) d
 
 -- d is one of them
 abbrev pub among : List Dart → Dart → Bool
-among r d = any (sameDart d) r
+among r d = anyOf (sameDart d) r
 
 -- c is lower than d: by edge number, then e before -e
 abbrev pub lower : Dart → Dart → Bool
@@ -73,7 +73,7 @@ lower c d = ltb (c .edge) (d .edge) || same (c .edge) (d .edge) && not (c .back)
 
 -- the first members of the rings: the directed edges that are the lowest of theirs
 unfoldable pub firsts : Map → List Dart
-firsts m = keep (λ d. not (any (λ c. lower c d) (ring m d))) (directed m)
+firsts m = keep (λ d. not (anyOf (λ c. lower c d) (ring m d))) (directed m)
 
 -- the lowest edge of e and a ring
 abbrev pub lowestEdge : ℕ → List Dart → ℕ

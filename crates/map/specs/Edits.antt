@@ -11,7 +11,8 @@ use Rattle.plane.specs.Areas.{isPositive}
 use Rattle.curves.specs.Curves.{Curve, startWay}
 use Rattle.curves.specs.Edits.{front, back, joined}
 use Rattle.planar_maps.specs.Map.{Dart, fwd, bwd, rev}
-use Rattle.map.specs.Rows.{Node, Edge, Map, node, edge, setNodes, setEdges, setFaces, given, atNodes, atEdge, withoutNode, withoutEdge}
+use Rattle.map.specs.Rows.{Node, Edge, Map, node, edge, setNodes, setEdges, setFaces, given, atNodes, atEdge}
+use Rattle.map.specs.Rows.{withoutNode, withoutEdge}
 use Rattle.map.specs.Darts.{leaves, arrives, next, bears, course, edgeEnds, ring, among, lowestEdge}
 use Rattle.map.specs.Links.{redirect, linkEdge, unlinkEdge, cornerFace}
 use Rattle.map.specs.Faces.{faceOfPoint, encloses, ringArea}
@@ -48,7 +49,16 @@ isEither u v n = same (n .number) u || same (n .number) v
 unfoldable pub drawn : ℕ → ℕ → Curve → ℕ → Map → Map
 drawn u v c f m =
     let e = m .nextEdge in
-    let row : Edge = record { number = e; start = u; end = v; nextLeft = bwd e; nextRight = fwd e; left = f; right = f; curve = c } in
+    let row : Edge = record {
+      number = e;
+      start = u;
+      end = v;
+      nextLeft = bwd e;
+      nextRight = fwd e;
+      left = f;
+      right = f;
+      curve = c;
+    } in
     atNodes (isEither u v) (withFace none) (linkEdge e (setEdges (m .edges ++ row ∷ []) (given 0 1 0 m)))
 
 -- the edge unlinked; a node left bare takes f, the face now around it
@@ -68,7 +78,16 @@ removeIsoEdge e m = undrawn e (edge m e .left) m
 
 -- the row with another curve
 abbrev pub withCurve : Curve → Edge → Edge
-withCurve c e = record { number = e .number; start = e .start; end = e .end; nextLeft = e .nextLeft; nextRight = e .nextRight; left = e .left; right = e .right; curve = c }
+withCurve c e = record {
+  number = e .number;
+  start = e .start;
+  end = e .end;
+  nextLeft = e .nextLeft;
+  nextRight = e .nextRight;
+  left = e .left;
+  right = e .right;
+  curve = c;
+}
 
 -- kind 6
 unfoldable pub changeEdgeGeom : ℕ → Curve → Map → Map
@@ -79,12 +98,30 @@ changeEdgeGeom e c m = atEdge e (withCurve c) m
 -- the half a of e from its start to the new node n, followed by the half b
 abbrev pub startHalf : Edge → ℕ → ℕ → ℕ → Point → Edge
 startHalf e n a b p =
-    record { number = a; start = e .start; end = n; nextLeft = fwd b; nextRight = e .nextRight; left = e .left; right = e .right; curve = front p (e .curve) }
+    record {
+      number = a;
+      start = e .start;
+      end = n;
+      nextLeft = fwd b;
+      nextRight = e .nextRight;
+      left = e .left;
+      right = e .right;
+      curve = front p (e .curve);
+    }
 
 -- the half b of e from the new node n to its end, following the half a
 abbrev pub endHalf : Edge → ℕ → ℕ → ℕ → Point → Edge
 endHalf e n a b p =
-    record { number = b; start = n; end = e .end; nextLeft = e .nextLeft; nextRight = bwd a; left = e .left; right = e .right; curve = back p (e .curve) }
+    record {
+      number = b;
+      start = n;
+      end = e .end;
+      nextLeft = e .nextLeft;
+      nextRight = bwd a;
+      left = e .left;
+      right = e .right;
+      curve = back p (e .curve);
+    }
 
 -- the start half keeps its number (8) or takes the lower new number (7); departures are renamed, and the halves linked
 unfoldable pub split : Bool → ℕ → Point → Map → Map
@@ -97,13 +134,15 @@ split keeps e p m =
     let second = endHalf (edge m′ e) n a b p in
     let kept = atEdge e (λ r. first) m′ .edges ++ second ∷ [] in
     let new = withoutEdge e (m′ .edges) ++ first ∷ second ∷ [] in
-    setNodes (m .nodes ++ record { number = n; at = p; face = none } ∷ []) (setEdges (cond keeps kept new) (given 1 (cond keeps 1 2) 0 m))
+    setNodes (m .nodes ++ record { number = n; at = p; face = none } ∷ [])
+    (setEdges (cond keeps kept new) (given 1 (cond keeps 1 2) 0 m))
 
 -- ---- kinds 9 and 10: heal
 
 -- the nodes where both edges end: the first edge's end node, then its start node
 unfoldable pub sharedNodes : Map → ℕ → ℕ → List ℕ
-sharedNodes m e f = let other = edge m f in keep (λ n. same n (other .start) || same n (other .end)) (edge m e .end ∷ edge m e .start ∷ [])
+sharedNodes m e f = let other = edge m f in
+    keep (λ n. same n (other .start) || same n (other .end)) (edge m e .end ∷ edge m e .start ∷ [])
 
 -- the node to join at: shared, with exactly two edge ends
 unfoldable pub joint : Map → ℕ → ℕ → Option ℕ
@@ -141,7 +180,8 @@ heal keeps e f m =
     } in
     let kept = withoutEdge f (atEdge e (λ r. row) m′ .edges) in
     let new = withoutEdge e (withoutEdge f (m′ .edges)) ++ row ∷ [] in
-    setNodes (withoutNode (Option·getD (joint m e f) 0) (m .nodes)) (setEdges (cond keeps kept new) (given 0 (cond keeps 0 1) 0 m))
+    setNodes (withoutNode (Option·getD (joint m e f) 0) (m .nodes))
+    (setEdges (cond keeps kept new) (given 0 (cond keeps 0 1) 0 m))
 
 -- ---- kinds 11 and 12: a new edge, which may split a face
 
@@ -153,7 +193,8 @@ drawnIn u v c m = drawn u v c (cornerFace m u (startWay c)) m
 unfoldable pub splitsFace : ℕ → ℕ → Curve → Map → Bool
 splitsFace u v c m = let m′ = drawnIn u v c m in not (among (ring m′ (fwd (m .nextEdge))) (bwd (m .nextEdge)))
 
--- a face to share out: its number, the ring on the reference side and the one on the other, and the numbers of the sides
+-- a face to share out: its number, the ring on the reference side and the one on the other, and the numbers of the
+-- sides
 pub record Shares : Type 0 where
   pub old : ℕ
   pub refRing : List Dart
@@ -184,16 +225,27 @@ sideOfNode m s n (some f) = cond (same f (s .old)) (withFace (some (sideOfPoint 
 
 -- the row with other faces
 abbrev pub withSides : ℕ → ℕ → Edge → Edge
-withSides l r e = record { number = e .number; start = e .start; end = e .end; nextLeft = e .nextLeft; nextRight = e .nextRight; left = l; right = r; curve = e .curve }
+withSides l r e = record {
+  number = e .number;
+  start = e .start;
+  end = e .end;
+  nextLeft = e .nextLeft;
+  nextRight = e .nextRight;
+  left = l;
+  right = r;
+  curve = e .curve;
+}
 
 -- all rows that named the old face
 unfoldable pub sharedOut : Shares → Map → Map
 sharedOut s m =
     setNodes (map (λ n. sideOfNode m s n (n .face)) (m .nodes))
-    (setEdges (map (λ e. withSides (sideOfDart m s (fwd (e .number))) (sideOfDart m s (bwd (e .number))) e) (m .edges)) m)
+    (setEdges (map (λ e. withSides (sideOfDart m s (fwd (e .number))) (sideOfDart m s (bwd (e .number))) e)
+    (m .edges)) m)
 
 -- the face of the new edge e split: the reference side is left if the left ring's doubled area is positive, else right;
--- it takes the new number (12), or the old face goes and left takes the lower of two new numbers (11); face 0 never goes
+-- it takes the new number (12), or the old face goes and left takes the lower of two new numbers (11); face 0 never
+-- goes
 unfoldable pub splitFace : Bool → ℕ → Map → Map
 splitFace news e m =
     let old = bears m (fwd e) in
@@ -251,7 +303,8 @@ renamedNode e f n (some g) = withFace (some (renamed e f g)) n
 -- every row that named a face now gone names f
 unfoldable pub renamedFaces : Edge → ℕ → Map → Map
 renamedFaces e f m =
-    setNodes (map (λ n. renamedNode e f n (n .face)) (m .nodes)) (setEdges (map (λ r. withSides (renamed e f (r .left)) (renamed e f (r .right)) r) (m .edges)) m)
+    setNodes (map (λ n. renamedNode e f n (n .face)) (m .nodes))
+    (setEdges (map (λ r. withSides (renamed e f (r .left)) (renamed e f (r .right)) r) (m .edges)) m)
 
 -- kinds 13 (news) and 14
 unfoldable pub removeEdge : Bool → ℕ → Map → Map

@@ -4,7 +4,7 @@ use mathlib.Core.List.{List, [], _∷_, map, flatMap, foldr}
 use Prim.Native.Nat.{ℕ}
 use lib.Dec.{ltb}
 use lib.IntN.{ℤ, pos, _+ℤ_}
-use Rattle.lists.specs.Scans.{keep, sum}
+use Rattle.lists.specs.Scans.{keep, oddCount}
 use Rattle.plane.specs.declared.Point.{Point}
 use Rattle.plane.specs.Below.{Segment, ordered, passesBelow, higher}
 use Rattle.curves.specs.Curves.{segments}
@@ -42,7 +42,7 @@ faceOfPoint m p = faceAbove (p .x) (floors m p)
 
 -- enclosed by a ring: an odd number of the ring's segments pass below the point; an edge used twice counts twice
 unfoldable pub encloses : Map → List Dart → Point → Bool
-encloses m r p = sum r (λ d. oddBelow (course m d) p)
+encloses m r p = oddCount r (λ d. oddBelow (course m d) p)
 
 -- a ring's doubled area
 unfoldable pub ringArea : Map → List Dart → ℤ

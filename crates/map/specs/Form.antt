@@ -1,4 +1,5 @@
--- In form: counts, order, ranges and zero rows are judged on the numbers as they stand, the rest on the map that they hold.
+-- In form: counts, order, ranges and zero rows are judged on the numbers as they stand, the rest on the map that they
+-- hold.
 use mathlib.Core.Bool.{Bool, true, not, Bool·beq, _&&_}
 use mathlib.Core.List.{List, [], _∷_, map}
 use mathlib.Core.Option.{Option, none, some}
@@ -8,7 +9,7 @@ use lib.IntN.{ℤ, pos, negsuc, natAbs}
 use lib.ListN.{take, drop}
 use lib.Signed.{leZ, nonNeg}
 use Rattle.lists.specs.Tests.{same}
-use Rattle.lists.specs.Scans.{any, all, count, firstOr, linked, isSome}
+use Rattle.lists.specs.Scans.{anyOf, allOf, countOf, firstOr, linked, isSome}
 use Rattle.plane.specs.Points.{samePoint}
 use Rattle.plane.specs.Directions.{Way, sameWay}
 use Rattle.curves.specs.Curves.{maxPoints, coordinate, lastPoint}
@@ -16,7 +17,8 @@ use Rattle.curves.specs.Tests.{neighboursDiffer}
 use Rattle.planar_maps.specs.Rings.{sameDart}
 use Rattle.map.specs.declared.Head.{Head}
 use Rattle.map.specs.Limits.{lastNumber, nodeWidth, edgeWidth, faceWidth}
-use Rattle.map.specs.Rows.{Edge, Map, Lent, cell, nodeRows, edgeRows, faceRows, mapOf, sizesOf, node, hasNode, hasEdge, hasFace}
+use Rattle.map.specs.Rows.{Edge, Map, Lent, cell, nodeRows, edgeRows, faceRows, mapOf, sizesOf, node, hasNode}
+use Rattle.map.specs.Rows.{hasEdge, hasFace}
 use Rattle.map.specs.Darts.{directed, leaves, arrives, next, bears, departures, edgeEnds, way}
 
 -- ---- numbers as they stand
@@ -31,15 +33,16 @@ isZero z = same (natAbs z) 0
 -- counts within the tables
 abbrev pub countsFit : Lent → Bool
 countsFit l =
-    within 0 (sizesOf l .nodes) (l .head .nodes) && within 0 (sizesOf l .edges) (l .head .edges) && within 1 (sizesOf l .faces) (l .head .faces)
+    within 0 (sizesOf l .nodes) (l .head .nodes) && within 0 (sizesOf l .edges) (l .head .edges)
+    && within 1 (sizesOf l .faces) (l .head .faces)
 
 -- the next number is 1 to 1,000,000
 abbrev pub nextsFit : Head → Bool
-nextsFit h = all (within 1 (suc lastNumber)) (h .«next_node» ∷ h .«next_edge» ∷ h .«next_face» ∷ [])
+nextsFit h = allOf (within 1 (suc lastNumber)) (h .«next_node» ∷ h .«next_edge» ∷ h .«next_face» ∷ [])
 
 -- rows past a count are all 0
 abbrev pub restZero : ℕ → ℤ → List ℤ → Bool
-restZero w n l = all isZero (drop (natAbs n * w) l)
+restZero w n l = allOf isZero (drop (natAbs n * w) l)
 
 -- ranges of a row
 abbrev pub nodeRanges : List ℤ → Bool
@@ -48,8 +51,9 @@ nodeRanges r = nonNeg (cell r 0) && coordinate (cell r 1) && coordinate (cell r 
 -- 2 to 12 points; unused points are 0
 abbrev pub edgeRanges : List ℤ → Bool
 edgeRanges r =
-    all nonNeg (cell r 0 ∷ cell r 1 ∷ cell r 2 ∷ cell r 5 ∷ cell r 6 ∷ []) && within 2 maxPoints (cell r 7)
-    && all coordinate (take (2 * natAbs (cell r 7)) (drop 8 r)) && all isZero (drop (2 * natAbs (cell r 7)) (drop 8 r))
+    allOf nonNeg (cell r 0 ∷ cell r 1 ∷ cell r 2 ∷ cell r 5 ∷ cell r 6 ∷ []) && within 2 maxPoints (cell r 7)
+    && allOf coordinate (take (2 * natAbs (cell r 7)) (drop 8 r))
+    && allOf isZero (drop (2 * natAbs (cell r 7)) (drop 8 r))
 
 abbrev pub faceRanges : List ℤ → Bool
 faceRanges r = nonNeg (cell r 0)
@@ -62,20 +66,21 @@ ranged l =
     && restZero nodeWidth (l .head .nodes) (l .nodes)
     && restZero edgeWidth (l .head .edges) (l .edges)
     && restZero faceWidth (l .head .faces) (l .faces)
-    && all nodeRanges (nodeRows l)
-    && all edgeRanges (edgeRows l)
-    && all faceRanges (faceRows l)
+    && allOf nodeRanges (nodeRows l)
+    && allOf edgeRanges (edgeRows l)
+    && allOf faceRanges (faceRows l)
 
 -- ---- the map
 
 -- numbers rise from the first one allowed, and those in use are below the next number
 abbrev pub numbered : ℕ → ℕ → List ℕ → Bool
-numbered least next ns = linked ltb ns && all (λ n. leb least n && ltb n next) ns
+numbered least next ns = linked ltb ns && allOf (λ n. leb least n && ltb n next) ns
 
 -- order and next numbers; face 0 exists
 unfoldable pub numbers : Map → Bool
 numbers m =
-    numbered 1 (m .nextNode) (map (λ n. n .number) (m .nodes)) && numbered 1 (m .nextEdge) (map (λ e. e .number) (m .edges))
+    numbered 1 (m .nextNode) (map (λ n. n .number) (m .nodes))
+    && numbered 1 (m .nextEdge) (map (λ e. e .number) (m .edges))
     && numbered 0 (m .nextFace) (m .faces) && same (firstOr 1 (m .faces)) 0
 
 -- the containing face exists, where there is one
@@ -86,47 +91,49 @@ inFace m (some f) = hasFace m f
 -- named rows exist
 abbrev pub edgeNames : Map → Edge → Bool
 edgeNames m e =
-    hasNode m (e .start) && hasNode m (e .end) && hasEdge m (e .nextLeft .edge) && hasEdge m (e .nextRight .edge) && hasFace m (e .left) && hasFace m (e .right)
+    hasNode m (e .start) && hasNode m (e .end) && hasEdge m (e .nextLeft .edge) && hasEdge m (e .nextRight .edge)
+    && hasFace m (e .left) && hasFace m (e .right)
 
 unfoldable pub named : Map → Bool
-named m = all (λ n. inFace m (n .face)) (m .nodes) && all (edgeNames m) (m .edges)
+named m = allOf (λ n. inFace m (n .face)) (m .nodes) && allOf (edgeNames m) (m .edges)
 
 -- a curve starts and ends on its nodes' points, and neighbouring points differ
 abbrev pub curveFits : Map → Edge → Bool
 curveFits m e =
-    samePoint (e .curve .first) (node m (e .start) .at) && samePoint (lastPoint (e .curve)) (node m (e .end) .at) && neighboursDiffer (e .curve)
+    samePoint (e .curve .first) (node m (e .start) .at) && samePoint (lastPoint (e .curve)) (node m (e .end) .at)
+    && neighboursDiffer (e .curve)
 
 -- no two are one direction
 abbrev pub waysDiffer : List Way → Bool
 waysDiffer [] = true
-waysDiffer (v ∷ vs) = let rest = waysDiffer vs in not (any (sameWay v) vs) && rest
+waysDiffer (v ∷ vs) = let rest = waysDiffer vs in not (anyOf (sameWay v) vs) && rest
 
 -- departures from one node differ in direction
 unfoldable pub departuresDiffer : Map → Bool
-departuresDiffer m = all (λ n. waysDiffer (map (way m) (departures m (n .number)))) (m .nodes)
+departuresDiffer m = allOf (λ n. waysDiffer (map (way m) (departures m (n .number)))) (m .nodes)
 
 -- a node has face -1 exactly when an edge ends there
 unfoldable pub bareMarked : Map → Bool
-bareMarked m = all (λ n. Bool·beq (isSome (n .face)) (same (edgeEnds m (n .number)) 0)) (m .nodes)
+bareMarked m = allOf (λ n. Bool·beq (isSome (n .face)) (same (edgeEnds m (n .number)) 0)) (m .nodes)
 
 -- the next links name each directed edge once
 unfoldable pub linksOnce : Map → Bool
-linksOnce m = let links = map (next m) (directed m) in all (λ d. same (count (sameDart d) links) 1) (directed m)
+linksOnce m = let links = map (next m) (directed m) in allOf (λ d. same (countOf (sameDart d) links) 1) (directed m)
 
 -- the next of d leaves the node where d arrives
 unfoldable pub linksMeet : Map → Bool
-linksMeet m = all (λ d. same (leaves m (next m d)) (arrives m d)) (directed m)
+linksMeet m = allOf (λ d. same (leaves m (next m d)) (arrives m d)) (directed m)
 
 -- a ring bears one face
 unfoldable pub ringsBearOne : Map → Bool
-ringsBearOne m = all (λ d. same (bears m (next m d)) (bears m d)) (directed m)
+ringsBearOne m = allOf (λ d. same (bears m (next m d)) (bears m d)) (directed m)
 
 -- the conditions on rows
 unfoldable pub formed : Map → Bool
 formed m =
     numbers m
     && named m
-    && all (curveFits m) (m .edges)
+    && allOf (curveFits m) (m .edges)
     && departuresDiffer m
     && bareMarked m
     && linksOnce m

@@ -11,4 +11,3 @@ pub mod Reasons
 pub mod Ticket
 pub mod Grow
 pub mod Sound
-pub mod Opened

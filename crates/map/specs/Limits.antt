@@ -18,7 +18,14 @@ abbrev pub lastNumber : ℕ
 lastNumber = 999999
 
 abbrev pub limits : Limits
-limits = record { nodes = maxNodes; edges = maxEdges; faces = maxFaces; points = maxPoints; coordinate = maxCoordinate; «last_number» = lastNumber }
+limits = record {
+  nodes = maxNodes;
+  edges = maxEdges;
+  faces = maxFaces;
+  points = maxPoints;
+  coordinate = maxCoordinate;
+  «last_number» = lastNumber;
+}
 
 abbrev pub nodeWidth : ℕ
 nodeWidth = 4

@@ -1,4 +1,5 @@
--- Reasons to turn a ticket down: for each kind a list of numbers with their conditions, looked at in order; the first that holds is the answer.
+-- Reasons to turn a ticket down: for each kind a list of numbers with their conditions, looked at in order; the first
+-- that holds is the answer.
 use mathlib.Core.Bool.{Bool, true, false, cond, not, _&&_, _||_}
 use mathlib.Core.List.{List, [], _∷_, _++_}
 use mathlib.Core.Option.{Option·getD}
@@ -8,19 +9,23 @@ use lib.IntN.{ℤ, pos, negsuc, natAbs}
 use lib.ListN.{length}
 use lib.Signed.{nonNeg}
 use Rattle.lists.specs.Tests.{same, bit}
-use Rattle.lists.specs.Scans.{any, isSome}
+use Rattle.lists.specs.Scans.{anyOf, isSome}
 use Rattle.plane.specs.declared.Point.{Point}
 use Rattle.plane.specs.Points.{samePoint}
 use Rattle.plane.specs.Directions.{Way, sameWay}
-use Rattle.curves.specs.Curves.{Curve, points, lastPoint, startWay, endWay, point, curveOf, coordinate, isRun, maxPoints}
+use Rattle.curves.specs.Curves.{Curve, points, lastPoint, startWay, endWay, point, curveOf, coordinate, isRun}
+use Rattle.curves.specs.Curves.{maxPoints}
 use Rattle.curves.specs.Tests.{neighboursDiffer, straightInside, onCurve, isSimple, meetWrongly}
 use Rattle.planar_maps.specs.Rings.{sameDart}
 use Rattle.map.specs.Limits.{lastNumber}
-use Rattle.map.specs.Rows.{Node, Edge, Map, Sizes, node, edge, hasNode, hasEdge, hasFace, withoutNode, withoutEdge}
+use Rattle.map.specs.Rows.{Node, Edge, Map, Sizes, node, edge, hasNode, hasEdge, hasFace, withoutNode}
+use Rattle.map.specs.Rows.{withoutEdge}
 use Rattle.map.specs.Darts.{departures, edgeEnds, way}
 use Rattle.map.specs.Links.{clockwise, cornerFace}
 use Rattle.map.specs.Faces.{faceOfPoint}
-use Rattle.map.specs.Tickets.{Ticket, AddIsoNode, MoveIsoNode, RemoveIsoNode, AddIsoEdge, RemoveIsoEdge, ChangeEdgeGeom, NewEdgesSplit, ModEdgeSplit, NewEdgeHeal, ModEdgeHeal, AddEdgeNewFaces, AddEdgeModFace, RemEdgeNewFace, RemEdgeModFace}
+use Rattle.map.specs.Tickets.{Ticket, AddIsoNode, MoveIsoNode, RemoveIsoNode, AddIsoEdge, RemoveIsoEdge}
+use Rattle.map.specs.Tickets.{ChangeEdgeGeom, NewEdgesSplit, ModEdgeSplit, NewEdgeHeal, ModEdgeHeal}
+use Rattle.map.specs.Tickets.{AddEdgeNewFaces, AddEdgeModFace, RemEdgeNewFace, RemEdgeModFace}
 use Rattle.map.specs.Edits.{changeEdgeGeom, sharedNodes, joint, healedCurve, splitsFace, makesFace}
 
 -- numbers with their conditions
@@ -80,21 +85,22 @@ isolated m n = isSome (node m n .face)
 
 -- the edge ends at two different nodes where no other edge ends
 unfoldable pub edgeIsolated : Map → ℕ → Bool
-edgeIsolated m e = not (same (edge m e .start) (edge m e .end)) && same (edgeEnds m (edge m e .start)) 1 && same (edgeEnds m (edge m e .end)) 1
+edgeIsolated m e = not (same (edge m e .start) (edge m e .end)) && same (edgeEnds m (edge m e .start)) 1
+    && same (edgeEnds m (edge m e .end)) 1
 
 -- ---- 10: another node at the point, or an edge through it
 
 unfoldable pub nodeAt : List Node → Point → Bool
-nodeAt ns p = any (λ n. samePoint (n .at) p) ns
+nodeAt ns p = anyOf (λ n. samePoint (n .at) p) ns
 
 unfoldable pub edgeThrough : Map → Point → Bool
-edgeThrough m p = any (λ e. onCurve (e .curve) p) (m .edges)
+edgeThrough m p = anyOf (λ e. onCurve (e .curve) p) (m .edges)
 
 -- ---- 11: a departure has the direction of another edge's end
 
 -- a departure from n, of another edge than `own`, has the direction v
 abbrev pub wayTaken : Map → ℕ → ℕ → Way → Bool
-wayTaken m own n v = any (λ d. not (same (d .edge) own) && sameWay (way m d) v) (departures m n)
+wayTaken m own n v = anyOf (λ d. not (same (d .edge) own) && sameWay (way m d) v) (departures m n)
 
 unfoldable pub directionTaken : Map → ℕ → ℕ → ℕ → Curve → Bool
 directionTaken m own u v c = wayTaken m own u (startWay c) || wayTaken m own v (endWay c)
@@ -114,10 +120,10 @@ abbrev pub isEnd : Curve → Point → Bool
 isEnd c p = samePoint p (c .first) || samePoint p (lastPoint c)
 
 unfoldable pub nodeInside : Map → Curve → Bool
-nodeInside m c = any (λ n. onCurve c (n .at) && not (isEnd c (n .at))) (m .nodes)
+nodeInside m c = anyOf (λ n. onCurve c (n .at) && not (isEnd c (n .at))) (m .nodes)
 
 unfoldable pub edgeWrong : List Edge → Curve → Bool
-edgeWrong es c = any (λ e. meetWrongly c (e .curve)) es
+edgeWrong es c = anyOf (λ e. meetWrongly c (e .curve)) es
 
 abbrev pub meetingReasons : Map → List Edge → Curve → Reasons
 meetingReasons m others c = (14, nodeInside m c) ∷ (15, edgeWrong others c) ∷ []
@@ -125,18 +131,21 @@ meetingReasons m others c = (14, nodeInside m c) ∷ (15, edgeWrong others c) �
 -- ---- 19: cyclic order at an end would change
 
 abbrev pub turnChanges : Map → Map → ℕ → Bool
-turnChanges m m′ n = any (λ d. not (sameDart (clockwise m d) (clockwise m′ d))) (departures m n)
+turnChanges m m′ n = anyOf (λ d. not (sameDart (clockwise m d) (clockwise m′ d))) (departures m n)
 
 unfoldable pub orderChanges : Map → ℕ → Curve → Bool
-orderChanges m e c = let m′ = changeEdgeGeom e c m in turnChanges m m′ (edge m e .start) || turnChanges m m′ (edge m e .end)
+orderChanges m e c = let m′ = changeEdgeGeom e c m in turnChanges m m′ (edge m e .start)
+    || turnChanges m m′ (edge m e .end)
 
 -- ---- 20: the rows after the edit, so many more, would not fit. 21: one of so many needed numbers exceeds 999,999
 
 abbrev pub full : Sizes → Map → ℕ → ℕ → ℕ → Bool
-full s m a b c = ltb (s .nodes) (length (m .nodes) + a) || ltb (s .edges) (length (m .edges) + b) || ltb (s .faces) (length (m .faces) + c)
+full s m a b c = ltb (s .nodes) (length (m .nodes) + a) || ltb (s .edges) (length (m .edges) + b)
+    || ltb (s .faces) (length (m .faces) + c)
 
 abbrev pub spent : Map → ℕ → ℕ → ℕ → Bool
-spent m a b c = ltb (suc lastNumber) (m .nextNode + a) || ltb (suc lastNumber) (m .nextEdge + b) || ltb (suc lastNumber) (m .nextFace + c)
+spent m a b c = ltb (suc lastNumber) (m .nextNode + a) || ltb (suc lastNumber) (m .nextEdge + b)
+    || ltb (suc lastNumber) (m .nextFace + c)
 
 -- ---- the kinds, with 4 and up
 

@@ -7,7 +7,7 @@ use lib.Dec.{leb}
 use lib.IntN.{ℤ, pos, negsuc, negℤ, natAbs}
 use lib.ListN.{length, getD, take, drop, replicate}
 use Rattle.lists.specs.Tests.{same}
-use Rattle.lists.specs.Scans.{any, find, isSome, keep}
+use Rattle.lists.specs.Scans.{anyOf, find, isSome, keep}
 use Rattle.plane.specs.declared.Point.{Point}
 use Rattle.plane.specs.Points.{origin}
 use Rattle.curves.specs.Curves.{Curve, points, point, through, curveOf, coordinates, maxPoints}
@@ -125,7 +125,11 @@ mapOf l =
 
 -- the room of the tables
 abbrev pub sizesOf : Lent → Sizes
-sizesOf l = record { nodes = length (l .nodes) / nodeWidth; edges = length (l .edges) / edgeWidth; faces = length (l .faces) / faceWidth }
+sizesOf l = record {
+  nodes = length (l .nodes) / nodeWidth;
+  edges = length (l .edges) / edgeWidth;
+  faces = length (l .faces) / faceWidth;
+}
 
 -- ---- to the flat tables
 
@@ -149,7 +153,8 @@ nodeCells n = pos (n .number) ∷ pos (n .at .x) ∷ pos (n .at .y) ∷ faceCell
 unfoldable pub edgeCells : Edge → List ℤ
 edgeCells e =
     pos (e .number) ∷ pos (e .start) ∷ pos (e .end) ∷ dartCell (e .nextLeft) ∷ dartCell (e .nextRight)
-    ∷ pos (e .left) ∷ pos (e .right) ∷ pos (length (points (e .curve))) ∷ filled (2 * maxPoints) (coordinates (points (e .curve)))
+    ∷ pos (e .left) ∷ pos (e .right) ∷ pos (length (points (e .curve)))
+    ∷ filled (2 * maxPoints) (coordinates (points (e .curve)))
 
 abbrev pub faceCells : ℕ → List ℤ
 faceCells f = pos f ∷ []
@@ -182,7 +187,8 @@ wholeRows w least most l = same (length l % w) 0 && leb least (length l / w) && 
 
 -- the tables are whole rows, within the limits, and the face table is not empty
 unfoldable pub whole : Lent → Bool
-whole l = wholeRows nodeWidth 0 maxNodes (l .nodes) && wholeRows edgeWidth 0 maxEdges (l .edges) && wholeRows faceWidth 1 maxFaces (l .faces)
+whole l = wholeRows nodeWidth 0 maxNodes (l .nodes) && wholeRows edgeWidth 0 maxEdges (l .edges)
+    && wholeRows faceWidth 1 maxFaces (l .faces)
 
 -- ---- a number that is looked up is either found with its row or missing
 
@@ -201,7 +207,7 @@ abbrev pub hasEdge : Map → ℕ → Bool
 hasEdge m e = isSome (findEdge m e)
 
 abbrev pub hasFace : Map → ℕ → Bool
-hasFace m f = any (same f) (m .faces)
+hasFace m f = anyOf (same f) (m .faces)
 
 -- the row with the number; a row of zeros for a missing one
 unfoldable pub node : Map → ℕ → Node
@@ -209,23 +215,60 @@ node m n = Option·getD (findNode m n) (record { number = 0; at = origin; face =
 
 unfoldable pub edge : Map → ℕ → Edge
 edge m e =
-    Option·getD (findEdge m e) (record { number = 0; start = 0; end = 0; nextLeft = fwd 0; nextRight = fwd 0; left = 0; right = 0; curve = through [] })
+    Option·getD (findEdge m e) (record {
+      number = 0;
+      start = 0;
+      end = 0;
+      nextLeft = fwd 0;
+      nextRight = fwd 0;
+      left = 0;
+      right = 0;
+      curve = through [];
+    })
 
 -- ---- rows changed, added and closed up
 
 -- the map with other rows in one table
 abbrev pub setNodes : List Node → Map → Map
-setNodes ns m = record { nodes = ns; edges = m .edges; faces = m .faces; nextNode = m .nextNode; nextEdge = m .nextEdge; nextFace = m .nextFace }
+setNodes ns m = record {
+  nodes = ns;
+  edges = m .edges;
+  faces = m .faces;
+  nextNode = m .nextNode;
+  nextEdge = m .nextEdge;
+  nextFace = m .nextFace;
+}
 
 abbrev pub setEdges : List Edge → Map → Map
-setEdges es m = record { nodes = m .nodes; edges = es; faces = m .faces; nextNode = m .nextNode; nextEdge = m .nextEdge; nextFace = m .nextFace }
+setEdges es m = record {
+  nodes = m .nodes;
+  edges = es;
+  faces = m .faces;
+  nextNode = m .nextNode;
+  nextEdge = m .nextEdge;
+  nextFace = m .nextFace;
+}
 
 abbrev pub setFaces : List ℕ → Map → Map
-setFaces fs m = record { nodes = m .nodes; edges = m .edges; faces = fs; nextNode = m .nextNode; nextEdge = m .nextEdge; nextFace = m .nextFace }
+setFaces fs m = record {
+  nodes = m .nodes;
+  edges = m .edges;
+  faces = fs;
+  nextNode = m .nextNode;
+  nextEdge = m .nextEdge;
+  nextFace = m .nextFace;
+}
 
 -- so many new numbers given to nodes, edges and faces
 abbrev pub given : ℕ → ℕ → ℕ → Map → Map
-given a b c m = record { nodes = m .nodes; edges = m .edges; faces = m .faces; nextNode = m .nextNode + a; nextEdge = m .nextEdge + b; nextFace = m .nextFace + c }
+given a b c m = record {
+  nodes = m .nodes;
+  edges = m .edges;
+  faces = m .faces;
+  nextNode = m .nextNode + a;
+  nextEdge = m .nextEdge + b;
+  nextFace = m .nextFace + c;
+}
 
 -- a row changed: the nodes that p takes, the edge e
 unfoldable pub atNodes : (Node → Bool) → (Node → Node) → Map → Map

@@ -1,4 +1,5 @@
--- One ticket on any tables and any run of numbers: tables and head after it, refusal and value. The empty map, and the edges of a face.
+-- One ticket on any tables and any run of numbers: tables and head after it, refusal and value. The empty map, and the
+-- edges of a face.
 use mathlib.Core.Bool.{true, false, cond, not}
 use mathlib.Core.List.{List, [], _∷_, _++_, map, flatMap}
 use mathlib.Core.Option.{Option, none, some}
@@ -14,8 +15,11 @@ use Rattle.map.specs.declared.Answer.{Answer}
 use Rattle.map.specs.Rows.{Map, Lent, emptyMap, mapOf, lentOf, sizesOf, whole, dartCell}
 use Rattle.map.specs.Darts.{bears, ring, firsts}
 use Rattle.map.specs.Form.{inForm}
-use Rattle.map.specs.Tickets.{Ticket, AddIsoNode, MoveIsoNode, RemoveIsoNode, AddIsoEdge, RemoveIsoEdge, ChangeEdgeGeom, NewEdgesSplit, ModEdgeSplit, NewEdgeHeal, ModEdgeHeal, AddEdgeNewFaces, AddEdgeModFace, RemEdgeNewFace, RemEdgeModFace, read}
-use Rattle.map.specs.Edits.{addIsoNode, moveIsoNode, removeIsoNode, addIsoEdge, removeIsoEdge, changeEdgeGeom, split, heal, addEdge, removeEdge, healsFaces, faceLeft}
+use Rattle.map.specs.Tickets.{Ticket, AddIsoNode, MoveIsoNode, RemoveIsoNode, AddIsoEdge, RemoveIsoEdge}
+use Rattle.map.specs.Tickets.{ChangeEdgeGeom, NewEdgesSplit, ModEdgeSplit, NewEdgeHeal, ModEdgeHeal}
+use Rattle.map.specs.Tickets.{AddEdgeNewFaces, AddEdgeModFace, RemEdgeNewFace, RemEdgeModFace, read}
+use Rattle.map.specs.Edits.{addIsoNode, moveIsoNode, removeIsoNode, addIsoEdge, removeIsoEdge, changeEdgeGeom}
+use Rattle.map.specs.Edits.{split, heal, addEdge, removeEdge, healsFaces, faceLeft}
 use Rattle.map.specs.Reasons.{Reasons, firstReason, reasons, noFace}
 
 -- a ticket carried out: the map after it and the value
@@ -32,7 +36,10 @@ carried m (NewEdgeHeal e f) = (heal false (natAbs e) (natAbs f) m, pos (m .nextE
 carried m (ModEdgeHeal e f) = (heal true (natAbs e) (natAbs f) m, pos 0)
 carried m (AddEdgeNewFaces u v c) = (addEdge true (natAbs u) (natAbs v) (curveOf c) m, pos (m .nextEdge))
 carried m (AddEdgeModFace u v c) = (addEdge false (natAbs u) (natAbs v) (curveOf c) m, pos (m .nextEdge))
-carried m (RemEdgeNewFace e) = (removeEdge true (natAbs e) m, cond (healsFaces (natAbs e) m) (pos (faceLeft true (natAbs e) m)) (negsuc 0))
+carried m (RemEdgeNewFace e) = (
+  removeEdge true (natAbs e) m,
+  cond (healsFaces (natAbs e) m) (pos (faceLeft true (natAbs e) m)) (negsuc 0),
+)
 carried m (RemEdgeModFace e) = (removeEdge false (natAbs e) m, pos 0)
 
 -- what is lent, after the call, and the answer
@@ -88,11 +95,15 @@ pub record Listed : Type 0 where
 -- written from the front, unless there is a reason against it
 abbrev pub listUnless : List ℤ → List ℤ → ℕ → Listed
 listUnless list written zero =
-    record { list = written ++ drop (length written) list; answer = record { refusal = 0; value = pos (length written) } }
+    record {
+      list = written ++ drop (length written) list;
+      answer = record { refusal = 0; value = pos (length written) };
+    }
 listUnless list written (suc r) = record { list = list; answer = record { refusal = suc r; value = pos 0 } }
 
 -- the value is the count of numbers written; the list's remainder is untouched
 unfoldable pub edgesOfFace : Lent → ℤ → List ℤ → Listed
 edgesOfFace l f list =
     let written = faceEdges (mapOf l) (natAbs f) in
-    listUnless list written (firstReason (lentReasons l ++ (4, noFace (mapOf l) f) ∷ (20, ltb (length list) (length written)) ∷ []))
+    listUnless list written (firstReason
+    (lentReasons l ++ (4, noFace (mapOf l) f) ∷ (20, ltb (length list) (length written)) ∷ []))

@@ -49,7 +49,8 @@ twoCurve k (a ∷ r) = oneCurve (k a) r
 -- the kinds 1 to 14
 abbrev pub kinds : List (List ℤ → Option Ticket)
 kinds =
-    three AddIsoNode ∷ three MoveIsoNode ∷ one RemoveIsoNode ∷ twoCurve AddIsoEdge ∷ one RemoveIsoEdge ∷ oneCurve ChangeEdgeGeom
+    three AddIsoNode ∷ three MoveIsoNode ∷ one RemoveIsoNode ∷ twoCurve AddIsoEdge ∷ one RemoveIsoEdge
+    ∷ oneCurve ChangeEdgeGeom
     ∷ three NewEdgesSplit ∷ three ModEdgeSplit ∷ two NewEdgeHeal ∷ two ModEdgeHeal
     ∷ twoCurve AddEdgeNewFaces ∷ twoCurve AddEdgeModFace ∷ one RemEdgeNewFace ∷ one RemEdgeModFace ∷ []
 

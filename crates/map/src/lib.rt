@@ -14,11 +14,11 @@ impl Map {
 
     pub const FACES: usize = 1000;
 
-    pub const POINTS: usize = 12;
+    pub const POINTS: usize = curves::POINTS;
 
-    pub const COORDINATE: u64 = 1048575;
+    pub const COORDINATE: i64 = plane::COORDINATE;
 
-    pub const LAST_NUMBER: u64 = 999999;
+    pub const LAST_NUMBER: i64 = 999999;
 
     // The limits as the definitions have them.
     pub fn limits() -> Limits
@@ -29,11 +29,57 @@ impl Map {
             edges: Map::EDGES,
             faces: Map::FACES,
             points: Map::POINTS,
-            coordinate: Map::COORDINATE,
-            last_number: Map::LAST_NUMBER,
+            coordinate: COORDINATE,
+            last_number: LAST,
         }
     }
 }
+
+// A node row: number, x, y and containing face.
+pub const NODE_WIDTH: usize = 4;
+
+pub const X: usize = 1;
+
+pub const Y: usize = 2;
+
+pub const NODE_FACE: usize = 3;
+
+// An edge row: number, start, end, next left, next right, left face, right face, point count, and the points.
+pub const EDGE_WIDTH: usize = POINTS_AT + curves::CELLS;
+
+pub const START: usize = 1;
+
+pub const END: usize = 2;
+
+pub const NEXT_LEFT: usize = 3;
+
+pub const NEXT_RIGHT: usize = 4;
+
+pub const LEFT: usize = 5;
+
+pub const RIGHT: usize = 6;
+
+pub const POINT_COUNT: usize = 7;
+
+pub const POINTS_AT: usize = 8;
+
+// A face row: its number.
+pub const FACE_WIDTH: usize = 1;
+
+// Directed edges, at most.
+pub const DARTS: usize = 2 * Map::EDGES;
+
+// The reverse of the last edge.
+pub const LEAST_LINK: i64 = -Map::LAST_NUMBER;
+
+// A next number, at most: then the last number is given.
+pub const LAST_NEXT: i64 = Map::LAST_NUMBER + 1;
+
+pub const NUMBERS: usize = LAST_NEXT as usize;
+
+const COORDINATE: u64 = Map::COORDINATE as u64;
+
+const LAST: u64 = Map::LAST_NUMBER as u64;
 
 pub struct Limits {
     pub nodes: usize,

@@ -26,8 +26,10 @@ padded w l h =
     ∙ ap (λ r. l ++ r) (take-replicate (pos 0) (w - length l) w (omega arith))
 
 -- the row of e, of at most 12 points
-pub row-cells : (s : Sides) (e : Edge) → s .number ≡ pos (e .number) → s .start ≡ pos (e .start) → s .end ≡ pos (e .end) → s .«next_left» ≡ dartCell (e .nextLeft)
-    → s .«next_right» ≡ dartCell (e .nextRight) → s .left ≡ pos (e .left) → s .right ≡ pos (e .right) → length (points (e .curve)) ≤ 12 → cellsOf s (lineOf (points (e .curve))) ≡ edgeCells e
+pub row-cells : (s : Sides) (e : Edge) → s .number ≡ pos (e .number) → s .start ≡ pos (e .start) → s .end
+    ≡ pos (e .end) → s .«next_left» ≡ dartCell (e .nextLeft)
+    → s .«next_right» ≡ dartCell (e .nextRight) → s .left ≡ pos (e .left) → s .right ≡ pos (e .right)
+    → length (points (e .curve)) ≤ 12 → cellsOf s (lineOf (points (e .curve))) ≡ edgeCells e
 unfolding lineOf edgeCells
 row-cells s e n b t nl nr l r k =
     let p = padded 24 (coordinates (points (e .curve))) (omega (arith, length-coordinates (points (e .curve)))) in

@@ -13,7 +13,7 @@ pub fn write_node(nodes: &mut [i64], i: usize, number: i64, x: i64, y: i64, face
     ensures { λ r. ⌜ now (nodes .exit) ≡ paste (now (nodes .entry)) (i * 4) (number ∷ x ∷ y ∷ face ∷ []) 4 ⌝ }
 {
     let row = [number, x, y, face];
-    tables::write(nodes, i * 4, &row);
+    tables::write(nodes, i * map::NODE_WIDTH, &row);
 }
 
 // The numbers of an edge row before its points.
@@ -49,7 +49,7 @@ pub fn write_edge(edges: &mut [i64], i: usize, s: Sides, l: Line)
         right,
         l.count as i64,
     ];
-    tables::write(edges, i * 32, &row);
+    tables::write(edges, i * map::EDGE_WIDTH, &row);
     let cells = l.cells;
-    tables::write(edges, i * 32 + 8, &cells);
+    tables::write(edges, i * map::EDGE_WIDTH + map::POINTS_AT, &cells);
 }

@@ -9,7 +9,7 @@ use Prim.Native.Nat.{ℕ}
 use native.Mathlib.Omega.{arith}
 use lib.ListN.{length, length-map}
 use Rattle.lists.specs.Tests.{same}
-use Rattle.lists.specs.Scans.{all, firstOr, isSome}
+use Rattle.lists.specs.Scans.{allOf, firstOr, isSome}
 use Rattle.lists.specs.Members.{Distinct}
 use Rattle.lists.proofs.Bools.{same-eq, and-true, and-is}
 use Rattle.lists.proofs.Maps.{all-mapped}
@@ -55,9 +55,9 @@ module _ (m : Map) (s : Sketch m) where
       && numbered 0 (m .nextFace) (m .faces) && same (firstOr 1 (m .faces)) 0)
       (map-map (λ (e : Edge). e .number) (relinked m) (m .edges)) ∙ s .rising
 
-  faces-now : all (λ n. inFace (mended m) (n .face)) (m .nodes) ≡ true
+  faces-now : allOf (λ n. inFace (mended m) (n .face)) (m .nodes) ≡ true
   unfolding mended
-  faces-now = ap (λ (f : Option ℕ → Bool). all (λ n. f (n .face)) (m .nodes)) (fun-ext go) ∙ s .faces
+  faces-now = ap (λ (f : Option ℕ → Bool). allOf (λ n. f (n .face)) (m .nodes)) (fun-ext go) ∙ s .faces
     where
       go : (o : Option ℕ) → inFace (mended m) o ≡ inFace m o
       go none = refl
@@ -66,7 +66,7 @@ module _ (m : Map) (s : Sketch m) where
   bare-now : bareMarked (mended m) ≡ true
   unfolding bareMarked mended
   bare-now =
-      ap (λ (f : ℕ → List Dart). all (λ n. Bool·beq (isSome (n .face)) (same (length (f (n .number))) 0)) (m .nodes))
+      ap (λ (f : ℕ → List Dart). allOf (λ n. Bool·beq (isSome (n .face)) (same (length (f (n .number))) 0)) (m .nodes))
       (fun-ext (mended-relinked m .departures)) ∙ s .bare
 
   mended-sketch : Sketch (mended m)
@@ -83,9 +83,9 @@ module _ (m : Map) (s : Sketch m) where
 differ-now : (m : Map) → departuresDiffer m ≡ true → departuresDiffer (mended m) ≡ true
 unfolding departuresDiffer mended
 differ-now m h =
-    ap (λ (f : ℕ → List Dart). all (λ n. waysDiffer (map (way (mended m)) (f (n .number)))) (m .nodes))
+    ap (λ (f : ℕ → List Dart). allOf (λ n. waysDiffer (map (way (mended m)) (f (n .number)))) (m .nodes))
     (fun-ext (mended-relinked m .departures))
-    ∙ ap (λ (w : Dart → Way). all (λ n. waysDiffer (map w (departures m (n .number)))) (m .nodes))
+    ∙ ap (λ (w : Dart → Way). allOf (λ n. waysDiffer (map w (departures m (n .number)))) (m .nodes))
     (fun-ext (mended-relinked m .way)) ∙ h
 
 -- ---- the links
@@ -99,7 +99,7 @@ module _ (m : Map) where
   meets-now : (d : Dart) → List·Memᴰ d (directed m) → leaves m (next (mended m) d) ≡ leaves m (rev d)
   meets-now d k = ap (leaves m) (next-now m d k) ∙ departs m (leaves m (rev d)) (clockwise-in (rev-in (arcs m) k)) .1
 
-  links-now : all (linksNamed (mended m)) (mended m .edges) ≡ true
+  links-now : allOf (linksNamed (mended m)) (mended m .edges) ≡ true
   unfolding mended
   links-now = all-mapped (linksNamed (mended m)) (relinked m) (m .edges) ∙ each-all _ (m .edges) row
     where

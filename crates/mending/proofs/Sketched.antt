@@ -3,7 +3,7 @@ use mathlib.Core.Path.{_≡_, sym, _∙_}
 use mathlib.Core.Logic.{inl, inr}
 use mathlib.Core.Bool.{Bool, true, _&&_, true≢false}
 use mathlib.Core.List.{List·Memᴰ}
-use Rattle.lists.specs.Scans.{all}
+use Rattle.lists.specs.Scans.{allOf}
 use Rattle.lists.proofs.Bools.{which, not-true, and-true, and-is}
 use Rattle.map.specs.Rows.{Edge, Map, Lent, mapOf, hasNode, hasEdge, hasFace}
 use Rattle.map.specs.Form.{ranged, numbers, inFace, edgeNames, named, curveFits, departuresDiffer, bareMarked}
@@ -16,15 +16,15 @@ use Rattle.mending.specs.Claims.{linksNamed, SketchedButFor}
 -- the conditions on rows that `sketched` keeps
 pub record Sketch (m : Map) : Type 0 where
   pub rising : numbers m ≡ true
-  pub faces : all (λ n. inFace m (n .face)) (m .nodes) ≡ true
-  pub sides : all (sidesNamed m) (m .edges) ≡ true
-  pub curves : all (curveFits m) (m .edges) ≡ true
+  pub faces : allOf (λ n. inFace m (n .face)) (m .nodes) ≡ true
+  pub sides : allOf (sidesNamed m) (m .edges) ≡ true
+  pub curves : allOf (curveFits m) (m .edges) ≡ true
   pub bare : bareMarked m ≡ true
 
 -- those that it leaves out
 pub record Linking (m : Map) : Type 0 where
   pub departures : departuresDiffer m ≡ true
-  pub links : all (linksNamed m) (m .edges) ≡ true
+  pub links : allOf (linksNamed m) (m .edges) ≡ true
   pub once : linksOnce m ≡ true
   pub meet : linksMeet m ≡ true
   pub rings : ringsBearOne m ≡ true
@@ -33,9 +33,9 @@ pub sketched-is : (l : Lent) → sketched l ≡ true → (ranged l ≡ true) × 
 unfolding sketched
 sketched-is l h =
     let h₁ = and-true _ (bareMarked (mapOf l)) h in
-    let h₂ = and-true _ (all (curveFits (mapOf l)) (mapOf l .edges)) (h₁ .0) in
-    let h₃ = and-true _ (all (sidesNamed (mapOf l)) (mapOf l .edges)) (h₂ .0) in
-    let h₄ = and-true _ (all (λ n. inFace (mapOf l) (n .face)) (mapOf l .nodes)) (h₃ .0) in
+    let h₂ = and-true _ (allOf (curveFits (mapOf l)) (mapOf l .edges)) (h₁ .0) in
+    let h₃ = and-true _ (allOf (sidesNamed (mapOf l)) (mapOf l .edges)) (h₂ .0) in
+    let h₄ = and-true _ (allOf (λ n. inFace (mapOf l) (n .face)) (mapOf l .nodes)) (h₃ .0) in
     let h₅ = and-true (ranged l) (numbers (mapOf l)) (h₄ .0) in
     (h₅ .0, record { rising = h₅ .1; faces = h₄ .1; sides = h₃ .1; curves = h₂ .1; bare = h₁ .1 })
 
@@ -70,7 +70,7 @@ module _ (m : Map) where
       λ e k. name-both e (names m h e k) in (
         record {
           rising = f .rising;
-          faces = and-true (all (λ n. inFace m (n .face)) (m .nodes)) (all (edgeNames m) (m .edges)) (f .named) .0;
+          faces = and-true (allOf (λ n. inFace m (n .face)) (m .nodes)) (allOf (edgeNames m) (m .edges)) (f .named) .0;
           sides = each-all (sidesNamed m) (m .edges) (λ e k. row e k .0);
           curves = f .curves;
           bare = f .bare;
@@ -116,7 +116,7 @@ sketched-but-for l =
     m = mapOf l
 
     rest : Bool
-    rest = sketched l && departuresDiffer m && all (linksNamed m) (m .edges) && linksOnce m && linksMeet m
+    rest = sketched l && departuresDiffer m && allOf (linksNamed m) (m .edges) && linksOnce m && linksMeet m
         && ringsBearOne m
 
     there : inForm l ≡ true → rest ≡ true
@@ -130,7 +130,7 @@ sketched-but-for l =
         let h₁ = and-true _ (ringsBearOne m) h in
         let h₂ = and-true _ (linksMeet m) (h₁ .0) in
         let h₃ = and-true _ (linksOnce m) (h₂ .0) in
-        let h₄ = and-true _ (all (linksNamed m) (m .edges)) (h₃ .0) in
+        let h₄ = and-true _ (allOf (linksNamed m) (m .edges)) (h₃ .0) in
         let h₅ = and-true (sketched l) (departuresDiffer m) (h₄ .0) in
         sketched-in-form l (h₅ .0)
         (record { departures = h₅ .1; links = h₄ .1; once = h₃ .1; meet = h₂ .1; rings = h₁ .1 })

@@ -7,7 +7,7 @@ use Prim.Native.Nat.{ℕ, _*_, _-_, _/_, _≤_}
 use lib.IntN.{pos}
 use lib.ListN.{length, replicate, length-append, length-replicate, length-map}
 use lib.Seq.{drop-append-seam}
-use Rattle.lists.specs.Scans.{all}
+use Rattle.lists.specs.Scans.{allOf}
 use Rattle.lists.proofs.Bools.{and-is}
 use Rattle.lists.proofs.Maps.{all-mapped}
 use Rattle.lists.proofs.Members.{all-of}
@@ -80,14 +80,15 @@ module _ (s : Sizes) (m : Map) where
         rw (← flat-length edgeWidth edgeCells (mended m .edges) wide-now, drop-append-seam flat (replicate k (pos 0)))
         (zeros k)
 
-    rows-ranged : all edgeRanges (edgeRows (lentOf s m)) ≡ true → all edgeRanges (edgeRows (lentOf s (mended m))) ≡ true
+    rows-ranged : allOf edgeRanges (edgeRows (lentOf s m)) ≡ true → allOf edgeRanges (edgeRows (lentOf s (mended m)))
+        ≡ true
     unfolding lentOf edgeCells mended
     rows-ranged h =
-        ap (all edgeRanges) (rows-flat edgeWidth edgeCells (mended m .edges) _ wide-now)
+        ap (allOf edgeRanges) (rows-flat edgeWidth edgeCells (mended m .edges) _ wide-now)
         ∙ all-mapped edgeRanges edgeCells (mended m .edges)
         ∙ all-mapped (λ e. edgeRanges (edgeCells e)) (relinked m) (m .edges)
         ∙ sym (all-mapped edgeRanges edgeCells (m .edges))
-        ∙ ap (all edgeRanges) (sym (rows-flat edgeWidth edgeCells (m .edges) _ wide))
+        ∙ ap (allOf edgeRanges) (sym (rows-flat edgeWidth edgeCells (m .edges) _ wide))
         ∙ h
 
     pub ranged-now : ranged (lentOf s m) ≡ true → ranged (lentOf s (mended m)) ≡ true

@@ -6,7 +6,7 @@ use mathlib.Core.List.{List}
 use mathlib.Core.Logic.{_≢_}
 use lib.IntN.{ℤ, pos}
 use lib.ListN.{length}
-use Rattle.lists.specs.Scans.{all}
+use Rattle.lists.specs.Scans.{allOf}
 use Rattle.map.specs.Rows.{Edge, Map, Lent, mapOf, whole, hasEdge}
 use Rattle.map.specs.Form.{departuresDiffer, linksOnce, linksMeet, ringsBearOne, inForm}
 use Rattle.map.specs.Links.{obeysLaw}
@@ -25,7 +25,7 @@ SketchedButFor =
     inForm l
     ≡ sketched l
     && departuresDiffer m
-    && all (linksNamed m) (m .edges)
+    && allOf (linksNamed m) (m .edges)
     && linksOnce m
     && linksMeet m
     && ringsBearOne m

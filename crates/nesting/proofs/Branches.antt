@@ -7,7 +7,7 @@ use mathlib.Core.List.{List, List·Memᴰ}
 use Prim.Native.Nat.{ℕ, _+_, _<_, _≤_}
 use native.Mathlib.Omega.{arith}
 use Rattle.lists.specs.Tests.{_⊕_}
-use Rattle.lists.specs.Scans.{count}
+use Rattle.lists.specs.Scans.{countOf}
 use Rattle.lists.proofs.Bools.{⊕-self, ⊕-differ, &&-false}
 use Rattle.lists.proofs.Counts.{count-mono, count-tight}
 
@@ -59,7 +59,7 @@ pub record Branch (G : Graph) (b : Bool) (v w : ℕ) (T : Set) : Type 0 where
 
 -- how many vertices the set has
 abbrev pub size : Graph → Set → ℕ
-size G T = count (T false) (G .vertices false) + count (T true) (G .vertices true)
+size G T = countOf (T false) (G .vertices false) + countOf (T true) (G .vertices true)
 
 module _ (G : Graph) where
   -- there is a branch over each edge
@@ -127,11 +127,11 @@ module _ (G : Graph) where
       → (b : Bool) (v : ℕ) → List·Memᴰ v (G .vertices b) → S b v ≡ false → T b v ≡ true → size G S < size G T
   smaller S T h b v m off on = go b m off on
     where
-      within : (c : Bool) → count (S c) (G .vertices c) ≤ count (T c) (G .vertices c)
+      within : (c : Bool) → countOf (S c) (G .vertices c) ≤ countOf (T c) (G .vertices c)
       within c = count-mono (S c) (T c) (G .vertices c) (h c)
 
       apart : (c : Bool) → List·Memᴰ v (G .vertices c) → S c v ≡ false → T c v ≡ true
-          → count (T c) (G .vertices c) ≤ count (S c) (G .vertices c) → ⊥
+          → countOf (T c) (G .vertices c) ≤ countOf (S c) (G .vertices c) → ⊥
       apart c k off on le = true≢false (sym on ∙ count-tight (S c) (T c) (G .vertices c) (h c) le v k ∙ off)
 
       go : (b : Bool) → List·Memᴰ v (G .vertices b) → S b v ≡ false → T b v ≡ true → size G S < size G T

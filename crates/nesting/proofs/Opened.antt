@@ -1,5 +1,5 @@
 -- Every definition opened at once: `unfolding opened` lets closed examples compute. Written by tests/opened.py.
-use Rattle.map.specs.Opened as below
+use Rattle.map.proofs.Opened as below
 use Rattle.nesting.specs.Contents.{pieceRows, isIn, under, lines, contents, contentsOf}
 
 unfoldable pub opened : Unit {0}

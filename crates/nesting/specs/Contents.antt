@@ -7,7 +7,7 @@ use lib.Dec.{ltb}
 use lib.IntN.{ℤ, pos}
 use lib.ListN.{length}
 use Rattle.lists.specs.Tests.{same, bit}
-use Rattle.lists.specs.Scans.{any, keep, isSome}
+use Rattle.lists.specs.Scans.{anyOf, keep, isSome}
 use Rattle.planar_maps.specs.Pieces.{label}
 use Rattle.map.specs.Rows.{Map, Lent, mapOf}
 use Rattle.map.specs.Darts.{arcs, directed, leaves, bears, pieceCount}
@@ -35,11 +35,11 @@ isIt x (some y) = same x y
 
 -- a ring of piece p bears face f: one of its directed edges does
 abbrev pub ringBears : Map → ℕ → ℕ → Bool
-ringBears m p f = any (λ d. same (pieceOf m (leaves m d)) p && same (bears m d) f) (directed m)
+ringBears m p f = anyOf (λ d. same (pieceOf m (leaves m d)) p && same (bears m d) f) (directed m)
 
 -- node p, alone in its piece, bears face f
 abbrev pub nodeBears : Map → ℕ → ℕ → Bool
-nodeBears m p f = any (λ r. same (r .number) p && isIt f (r .face)) (m .nodes)
+nodeBears m p f = anyOf (λ r. same (r .number) p && isIt f (r .face)) (m .nodes)
 
 -- a piece is in a face that one of its rings, or its lone node, bears
 unfoldable pub isIn : Map → ℕ → ℕ → Bool
@@ -63,7 +63,7 @@ line d b x = record { depth = d; piece = b; number = x }
 
 -- it is listed
 abbrev pub listed : List Line → Bool → ℕ → Bool
-listed ls b x = any (λ l. Bool·beq (l .piece) b && same (l .number) x) ls
+listed ls b x = anyOf (λ l. Bool·beq (l .piece) b && same (l .number) x) ls
 
 -- its own line, unless it is listed already
 abbrev pub fresh : Bool → List Line → Line → Option (List Line)

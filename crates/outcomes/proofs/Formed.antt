@@ -1,5 +1,6 @@
--- What tables in form hold: rows in range and in rising order, counts and next numbers, each table as its map's rows with zeros behind.
--- What a call on them answers: turned down by the first reason, or the map carried out. Assumes nothing.
+-- What tables in form hold: rows in range and in rising order, counts and next numbers, each table as its map's rows
+-- with zeros behind. What a call on them answers: turned down by the first reason, or the map carried out. Assumes
+-- nothing.
 use mathlib.Core.Path.{_≡_, refl, ap, _∙_}
 use mathlib.Core.Bool.{true, false, _&&_, _||_}
 use mathlib.Core.List.{List, map, flatMap}
@@ -10,14 +11,15 @@ use lib.IntN.{ℤ, pos, negsuc, natAbs}
 use lib.ListN.{length}
 use borrow.Author.Tests.{le-ltb}
 use Rattle.lists.specs.Tests.{same}
-use Rattle.lists.specs.Scans.{all, firstOr}
+use Rattle.lists.specs.Scans.{allOf, firstOr}
 use Rattle.lists.specs.Members.{Distinct}
 use Rattle.lists.specs.Tables.{place}
 use Rattle.lists.specs.declared.Found.the-variants.{Missing}
 use Rattle.curves.proofs.Runs.{and-left, and-right}
 use Rattle.map.specs.declared.Head.{Head}
 use Rattle.map.specs.Limits.{maxNodes, maxEdges, maxFaces, lastNumber, nodeWidth, edgeWidth, faceWidth}
-use Rattle.map.specs.Rows.{Edge, Map, Lent, Sizes, mapOf, lentOf, sizesOf, headOf, filled, nodeCells, edgeCells, faceCells, whole, hasNode, hasEdge, hasFace}
+use Rattle.map.specs.Rows.{Edge, Map, Lent, Sizes, mapOf, lentOf, sizesOf, headOf, filled, nodeCells, edgeCells}
+use Rattle.map.specs.Rows.{faceCells, whole, hasNode, hasEdge, hasFace}
 use Rattle.map.specs.Form.{numbered, numbers, inFace, edgeNames, named, ranged, formed, inForm}
 use Rattle.map.specs.Tickets.{Ticket}
 use Rattle.map.specs.Reasons.{firstReason, reasons, full, spent, noNode, noEdge}
@@ -39,30 +41,37 @@ use Rattle.outcomes.specs.Outcomes.{Formed, decided, outcome}
 module _ {nodes edges faces : List ℤ} {h : Head} (f : Formed nodes edges faces h) where
   pub ranges : Ranged (lent nodes edges faces h)
   unfolding inForm
-  ranges = ranged-is (lent nodes edges faces h) (and-left (ranged (lent nodes edges faces h)) (formed (mapOf (lent nodes edges faces h))) (f .in-form))
+  ranges = ranged-is (lent nodes edges faces h)
+      (and-left (ranged (lent nodes edges faces h)) (formed (mapOf (lent nodes edges faces h))) (f .in-form))
 
   pub formed-map : formed (mapOf (lent nodes edges faces h)) ≡ true
   unfolding inForm
   formed-map = and-right (ranged (lent nodes edges faces h)) (formed (mapOf (lent nodes edges faces h))) (f .in-form)
 
   -- counts
-  pub nodes-count : (h .nodes ≡ pos (natAbs (h .nodes))) × (0 ≤ natAbs (h .nodes)) × (natAbs (h .nodes) ≤ length nodes / nodeWidth)
+  pub nodes-count : (h .nodes ≡ pos (natAbs (h .nodes))) × (0 ≤ natAbs (h .nodes))
+      × (natAbs (h .nodes) ≤ length nodes / nodeWidth)
   nodes-count = within-pos 0 (length nodes / nodeWidth) (h .nodes) (ranges .nodes)
 
-  pub edges-count : (h .edges ≡ pos (natAbs (h .edges))) × (0 ≤ natAbs (h .edges)) × (natAbs (h .edges) ≤ length edges / edgeWidth)
+  pub edges-count : (h .edges ≡ pos (natAbs (h .edges))) × (0 ≤ natAbs (h .edges))
+      × (natAbs (h .edges) ≤ length edges / edgeWidth)
   edges-count = within-pos 0 (length edges / edgeWidth) (h .edges) (ranges .edges)
 
-  pub faces-count : (h .faces ≡ pos (natAbs (h .faces))) × (1 ≤ natAbs (h .faces)) × (natAbs (h .faces) ≤ length faces / faceWidth)
+  pub faces-count : (h .faces ≡ pos (natAbs (h .faces))) × (1 ≤ natAbs (h .faces))
+      × (natAbs (h .faces) ≤ length faces / faceWidth)
   faces-count = within-pos 1 (length faces / faceWidth) (h .faces) (ranges .faces)
 
   -- next numbers
-  pub node-next : (h .«next_node» ≡ pos (natAbs (h .«next_node»))) × (1 ≤ natAbs (h .«next_node»)) × (natAbs (h .«next_node») ≤ suc lastNumber)
+  pub node-next : (h .«next_node» ≡ pos (natAbs (h .«next_node»))) × (1 ≤ natAbs (h .«next_node»))
+      × (natAbs (h .«next_node») ≤ suc lastNumber)
   node-next = within-pos 1 (suc lastNumber) (h .«next_node») (ranges .next-node)
 
-  pub edge-next : (h .«next_edge» ≡ pos (natAbs (h .«next_edge»))) × (1 ≤ natAbs (h .«next_edge»)) × (natAbs (h .«next_edge») ≤ suc lastNumber)
+  pub edge-next : (h .«next_edge» ≡ pos (natAbs (h .«next_edge»))) × (1 ≤ natAbs (h .«next_edge»))
+      × (natAbs (h .«next_edge») ≤ suc lastNumber)
   edge-next = within-pos 1 (suc lastNumber) (h .«next_edge») (ranges .next-edge)
 
-  pub face-next : (h .«next_face» ≡ pos (natAbs (h .«next_face»))) × (1 ≤ natAbs (h .«next_face»)) × (natAbs (h .«next_face») ≤ suc lastNumber)
+  pub face-next : (h .«next_face» ≡ pos (natAbs (h .«next_face»))) × (1 ≤ natAbs (h .«next_face»))
+      × (natAbs (h .«next_face») ≤ suc lastNumber)
   face-next = within-pos 1 (suc lastNumber) (h .«next_face») (ranges .next-face)
 
   -- whole rows, and not more than the limit
@@ -95,7 +104,8 @@ module _ {nodes edges faces : List ℤ} {h : Head} (f : Formed nodes edges faces
   faces-fit = omega (arith, faces-count .2, faces-size .0)
 
   -- numbers rise
-  pub numbers-rise : (numbered 1 (natAbs (h .«next_node»)) (map (λ r. r .number) (nodesOf nodes (natAbs (h .nodes)))) ≡ true)
+  pub numbers-rise : (numbered 1 (natAbs (h .«next_node»)) (map (λ r. r .number) (nodesOf nodes (natAbs (h .nodes))))
+      ≡ true)
       × (numbered 1 (natAbs (h .«next_edge»)) (map (λ r. r .number) (edgesOf edges (natAbs (h .edges)))) ≡ true)
       × (numbered 0 (natAbs (h .«next_face»)) (facesOf faces (natAbs (h .faces))) ≡ true)
   unfolding mapOf numbers
@@ -103,7 +113,8 @@ module _ {nodes edges faces : List ℤ} {h : Head} (f : Formed nodes edges faces
       let a = numbered 1 (natAbs (h .«next_node»)) (map (λ r. r .number) (nodesOf nodes (natAbs (h .nodes)))) in
       let b = numbered 1 (natAbs (h .«next_edge»)) (map (λ r. r .number) (edgesOf edges (natAbs (h .edges)))) in
       let c = numbered 0 (natAbs (h .«next_face»)) (facesOf faces (natAbs (h .faces))) in
-      let three = and-left (a && b && c) (same (firstOr 1 (facesOf faces (natAbs (h .faces)))) 0) (formed-is (mapOf (lent nodes edges faces h)) formed-map .rising) in
+      let three = and-left (a && b && c) (same (firstOr 1 (facesOf faces (natAbs (h .faces)))) 0)
+      (formed-is (mapOf (lent nodes edges faces h)) formed-map .rising) in
       let two = and-left (a && b) c three in
       (and-left a b two, and-right a b two, and-right (a && b) c three)
 
@@ -112,31 +123,41 @@ module _ {nodes edges faces : List ℤ} {h : Head} (f : Formed nodes edges faces
       record {
         fits = nodes-fit;
         ranges = ranges .node-rows;
-        rising = numbered-wider 1 (natAbs (h .«next_node»)) (suc lastNumber) (map (λ r. r .number) (nodesOf nodes (natAbs (h .nodes)))) (node-next .2) (numbers-rise .0);
+        rising = numbered-wider 1 (natAbs (h .«next_node»)) (suc lastNumber)
+            (map (λ r. r .number) (nodesOf nodes (natAbs (h .nodes)))) (node-next .2) (numbers-rise .0);
       }
 
-  links-named : (e : Edge) → edgeNames (mapOf (lent nodes edges faces h)) e ≡ true → hasEdge (edgeMap edges (natAbs (h .edges))) (e .nextLeft .edge) && hasEdge (edgeMap edges (natAbs (h .edges))) (e .nextRight .edge) ≡ true
+  links-named : (e : Edge) → edgeNames (mapOf (lent nodes edges faces h)) e ≡ true
+      → hasEdge (edgeMap edges (natAbs (h .edges))) (e .nextLeft .edge)
+      && hasEdge (edgeMap edges (natAbs (h .edges))) (e .nextRight .edge) ≡ true
   unfolding mapOf
   links-named e k =
       let m = mapOf (lent nodes edges faces h) in
       let k₁ = and-left _ (hasFace m (e .left)) (and-left _ (hasFace m (e .right)) k) in
-      let left = and-right (hasNode m (e .start) && hasNode m (e .end)) (hasEdge m (e .nextLeft .edge)) (and-left _ (hasEdge m (e .nextRight .edge)) k₁) in
-      let right = and-right (hasNode m (e .start) && hasNode m (e .end) && hasEdge m (e .nextLeft .edge)) (hasEdge m (e .nextRight .edge)) k₁ in
+      let left = and-right (hasNode m (e .start) && hasNode m (e .end)) (hasEdge m (e .nextLeft .edge))
+      (and-left _ (hasEdge m (e .nextRight .edge)) k₁) in
+      let right = and-right (hasNode m (e .start) && hasNode m (e .end) && hasEdge m (e .nextLeft .edge))
+      (hasEdge m (e .nextRight .edge)) k₁ in
       rw left right
 
-  edges-named : all (edgeNames (mapOf (lent nodes edges faces h))) (edgesOf edges (natAbs (h .edges))) ≡ true
+  edges-named : allOf (edgeNames (mapOf (lent nodes edges faces h))) (edgesOf edges (natAbs (h .edges))) ≡ true
   unfolding mapOf named
   edges-named =
       let m = mapOf (lent nodes edges faces h) in
-      and-right (all (λ n. inFace m (n .face)) (m .nodes)) (all (edgeNames m) (m .edges)) (formed-is m formed-map .named)
+      and-right (allOf (λ n. inFace m (n .face)) (m .nodes)) (allOf (edgeNames m) (m .edges))
+      (formed-is m formed-map .named)
 
   pub edge-rows : EdgeRows edges (natAbs (h .edges))
   edge-rows =
       record {
         fits = edges-fit;
         ranges = ranges .edge-rows;
-        rising = numbered-wider 1 (natAbs (h .«next_edge»)) (suc lastNumber) (map (λ r. r .number) (edgesOf edges (natAbs (h .edges)))) (edge-next .2) (numbers-rise .1);
-        named = all-weaker (edgeNames (mapOf (lent nodes edges faces h))) (λ e. hasEdge (edgeMap edges (natAbs (h .edges))) (e .nextLeft .edge) && hasEdge (edgeMap edges (natAbs (h .edges))) (e .nextRight .edge)) links-named (edgesOf edges (natAbs (h .edges))) edges-named;
+        rising = numbered-wider 1 (natAbs (h .«next_edge»)) (suc lastNumber)
+            (map (λ r. r .number) (edgesOf edges (natAbs (h .edges)))) (edge-next .2) (numbers-rise .1);
+        named = all-weaker (edgeNames (mapOf (lent nodes edges faces h)))
+            (λ e. hasEdge (edgeMap edges (natAbs (h .edges))) (e .nextLeft .edge)
+            && hasEdge (edgeMap edges (natAbs (h .edges))) (e .nextRight .edge)) links-named
+            (edgesOf edges (natAbs (h .edges))) edges-named;
       }
 
   pub face-rows : FaceRows faces (natAbs (h .faces))
@@ -144,16 +165,19 @@ module _ {nodes edges faces : List ℤ} {h : Head} (f : Formed nodes edges faces
       record {
         fits = faces-fit;
         ranges = ranges .face-rows;
-        rising = numbered-wider 0 (natAbs (h .«next_face»)) (suc lastNumber) (facesOf faces (natAbs (h .faces))) (face-next .2) (numbers-rise .2);
+        rising = numbered-wider 0 (natAbs (h .«next_face»)) (suc lastNumber) (facesOf faces (natAbs (h .faces)))
+            (face-next .2) (numbers-rise .2);
       }
 
   -- a named row that is missing
-  pub node-none : (z : ℤ) → place (sameZ z) 0 (column nodeWidth nodes (natAbs (h .nodes))) ≡ Missing → noNode (mapOf (lent nodes edges faces h)) z ≡ true
+  pub node-none : (z : ℤ) → place (sameZ z) 0 (column nodeWidth nodes (natAbs (h .nodes))) ≡ Missing
+      → noNode (mapOf (lent nodes edges faces h)) z ≡ true
   unfolding mapOf
   node-none (pos k) e = rw (node-missing nodes (natAbs (h .nodes)) (ranges .node-rows) k e)
   node-none (negsuc k) e = refl
 
-  pub edge-none : (z : ℤ) → place (sameZ z) 0 (column edgeWidth edges (natAbs (h .edges))) ≡ Missing → noEdge (mapOf (lent nodes edges faces h)) z ≡ true
+  pub edge-none : (z : ℤ) → place (sameZ z) 0 (column edgeWidth edges (natAbs (h .edges))) ≡ Missing
+      → noEdge (mapOf (lent nodes edges faces h)) z ≡ true
   unfolding mapOf
   edge-none (pos k) e = rw (edge-missing edges (natAbs (h .edges)) (ranges .edge-rows) k e)
   edge-none (negsuc k) e = refl
@@ -176,15 +200,18 @@ module _ {nodes edges faces : List ℤ} {h : Head} (f : Formed nodes edges faces
   unfolding lentOf
   head-back = ap (λ (l : Lent). l .head) back
 
-  pub nodes-filled : filled (length nodes / nodeWidth * nodeWidth) (flatMap nodeCells (nodesOf nodes (natAbs (h .nodes)))) ≡ nodes
+  pub nodes-filled : filled (length nodes / nodeWidth * nodeWidth)
+      (flatMap nodeCells (nodesOf nodes (natAbs (h .nodes)))) ≡ nodes
   unfolding lentOf mapOf
   nodes-filled = ap (λ (l : Lent). l .nodes) back
 
-  pub edges-filled : filled (length edges / edgeWidth * edgeWidth) (flatMap edgeCells (edgesOf edges (natAbs (h .edges)))) ≡ edges
+  pub edges-filled : filled (length edges / edgeWidth * edgeWidth)
+      (flatMap edgeCells (edgesOf edges (natAbs (h .edges)))) ≡ edges
   unfolding lentOf mapOf
   edges-filled = ap (λ (l : Lent). l .edges) back
 
-  pub faces-filled : filled (length faces / faceWidth * faceWidth) (flatMap faceCells (facesOf faces (natAbs (h .faces)))) ≡ faces
+  pub faces-filled : filled (length faces / faceWidth * faceWidth)
+      (flatMap faceCells (facesOf faces (natAbs (h .faces)))) ≡ faces
   unfolding lentOf mapOf
   faces-filled = ap (λ (l : Lent). l .faces) back
 
@@ -194,12 +221,19 @@ module _ {nodes edges faces : List ℤ} {h : Head} (f : Formed nodes edges faces
   -- ---- 20 and 21: what no table lacks room or numbers for
 
   pub full-is : (a b c : ℕ) → full (sizesOf (lent nodes edges faces h)) (mapOf (lent nodes edges faces h)) a b c
-      ≡ ltb (length nodes / nodeWidth) (natAbs (h .nodes) + a) || ltb (length edges / edgeWidth) (natAbs (h .edges) + b) || ltb (length faces / faceWidth) (natAbs (h .faces) + c)
+      ≡ ltb (length nodes / nodeWidth) (natAbs (h .nodes) + a)
+      || ltb (length edges / edgeWidth) (natAbs (h .edges) + b)
+      || ltb (length faces / faceWidth) (natAbs (h .faces) + c)
   unfolding mapOf
-  full-is a b c = rw (nodes-length nodes (natAbs (h .nodes)), edges-length edges (natAbs (h .edges)), faces-length faces (natAbs (h .faces)))
+  full-is a b c = rw (
+    nodes-length nodes (natAbs (h .nodes)),
+    edges-length edges (natAbs (h .edges)),
+    faces-length faces (natAbs (h .faces)),
+  )
 
   pub spent-is : (a b c : ℕ) → spent (mapOf (lent nodes edges faces h)) a b c
-      ≡ ltb (suc lastNumber) (natAbs (h .«next_node») + a) || ltb (suc lastNumber) (natAbs (h .«next_edge») + b) || ltb (suc lastNumber) (natAbs (h .«next_face») + c)
+      ≡ ltb (suc lastNumber) (natAbs (h .«next_node») + a) || ltb (suc lastNumber) (natAbs (h .«next_edge») + b)
+      || ltb (suc lastNumber) (natAbs (h .«next_face») + c)
   unfolding mapOf
   spent-is a b c = refl
 
@@ -236,20 +270,26 @@ lent-is s m a b c d = λ i. record { nodes = a i; edges = b i; faces = c i; head
 -- ---- what a call answers
 
 -- the answer, with head and number as they were passed
-pub done : {h g : Head} {v u : ℤ} {d : Done} → g ≡ h → u ≡ v → d ≡ record { head = g; answer = record { refusal = 0; value = u } } → d ≡ record { head = h; answer = record { refusal = 0; value = v } }
+pub done : {h g : Head} {v u : ℤ} {d : Done} → g ≡ h → u ≡ v → d
+    ≡ record { head = g; answer = record { refusal = 0; value = u } } → d
+    ≡ record { head = h; answer = record { refusal = 0; value = v } }
 done eg eu e = e ∙ (λ i. record { head = eg i; answer = record { refusal = 0; value = eu i } })
 
 module _ (nodes edges faces : List ℤ) (h : Head) (t : Ticket) where
   -- turned down by the first reason r: the head as it was, and value 0
-  pub decided-refused : (r : ℕ) {d : Done} → 0 < r → d ≡ record { head = h; answer = record { refusal = r; value = pos 0 } }
-      → firstReason (reasons (sizesOf (lent nodes edges faces h)) (mapOf (lent nodes edges faces h)) t) ≡ r → outcome nodes edges faces d ≡ decided (lent nodes edges faces h) t
+  pub decided-refused : (r : ℕ) {d : Done} → 0 < r → d
+      ≡ record { head = h; answer = record { refusal = r; value = pos 0 } }
+      → firstReason (reasons (sizesOf (lent nodes edges faces h)) (mapOf (lent nodes edges faces h)) t) ≡ r
+      → outcome nodes edges faces d ≡ decided (lent nodes edges faces h) t
   decided-refused zero some e k = absurd (omega arith)
   decided-refused (suc r) some e k = rw (k, e)
 
   -- carried out: tables and head after it, and its value
-  pub decided-carried : (nodes′ edges′ faces′ : List ℤ) (h′ : Head) (v : ℤ) {d : Done} → d ≡ record { head = h′; answer = record { refusal = 0; value = v } }
+  pub decided-carried : (nodes′ edges′ faces′ : List ℤ) (h′ : Head) (v : ℤ) {d : Done} → d
+      ≡ record { head = h′; answer = record { refusal = 0; value = v } }
       → firstReason (reasons (sizesOf (lent nodes edges faces h)) (mapOf (lent nodes edges faces h)) t) ≡ 0
-      → lentOf (sizesOf (lent nodes edges faces h)) (carried (mapOf (lent nodes edges faces h)) t .0) ≡ lent nodes′ edges′ faces′ h′
+      → lentOf (sizesOf (lent nodes edges faces h)) (carried (mapOf (lent nodes edges faces h)) t .0)
+      ≡ lent nodes′ edges′ faces′ h′
       → carried (mapOf (lent nodes edges faces h)) t .1 ≡ v
       → outcome nodes′ edges′ faces′ d ≡ decided (lent nodes edges faces h) t
   decided-carried nodes′ edges′ faces′ h′ v e k l w = rw (k, e, l, w)

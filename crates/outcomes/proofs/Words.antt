@@ -1,4 +1,5 @@
--- Counts and next numbers as words, a number looked up as it was passed, and a containing face in its row. Assumes nothing.
+-- Counts and next numbers as words, a number looked up as it was passed, and a containing face in its row. Assumes
+-- nothing.
 use mathlib.Core.Path.{_≡_, refl, sym, ap, _∙_, ap₂}
 use mathlib.Core.Bool.{true, not}
 use mathlib.Core.List.{List}
@@ -32,7 +33,8 @@ pub small-read : {z : ℤ} (n : ℕ) → z ≡ pos n → n ≤ 1000002 → toZ w
 small-read n e h = ap (λ (k : ℤ). toZ w64 (ofZ w64 k)) e ∙ toZ-ofZ {w = w64} (small-fits n h)
 
 -- two numbers that are not negative, compared as words
-pub number-test : (x y : ℤ) (a b : ℕ) → SFits w64 x → SFits w64 y → x ≡ pos a → y ≡ pos b → eqb (ofZ w64 x) (ofZ w64 y) ≡ same a b
+pub number-test : (x y : ℤ) (a b : ℕ) → SFits w64 x → SFits w64 y → x ≡ pos a → y ≡ pos b → eqb (ofZ w64 x) (ofZ w64 y)
+    ≡ same a b
 number-test x y a b f g e k = word-test f g ∙ ap₂ sameZ e k ∙ same-pos a b
 
 -- the sum of two
@@ -41,7 +43,8 @@ module _ {z v : ℤ} (n k : ℕ) (ez : z ≡ pos n) (ev : v ≡ pos k) (few : n 
   more-fits = rw (small-read n ez (omega arith), ev) (small-fits (n + k) few)
 
   pub more-is : toZ w64 (ofZ w64 (toZ w64 (ofZ w64 z) +ℤ v)) ≡ pos (n + k)
-  more-is = (λ i. toZ w64 (ofZ w64 (small-read n ez (omega arith) i +ℤ ev i))) ∙ toZ-ofZ {w = w64} (small-fits (n + k) few)
+  more-is = (λ i. toZ w64 (ofZ w64 (small-read n ez (omega arith) i +ℤ ev i)))
+      ∙ toZ-ofZ {w = w64} (small-fits (n + k) few)
 
 -- ---- counts and next numbers
 
@@ -80,11 +83,13 @@ module _ (z : ℤ) (is : z ≡ pos (natAbs z)) (few : natAbs z ≤ 1000000) wher
     minus-fits = rw (count-read, less) (small-fits (natAbs z - 1) (omega arith))
 
     pub minus-is : toZ w64 (ofZ w64 (toZ w64 (ofZ w64 z) -ℤ pos 1)) ≡ pos (natAbs z - 1)
-    minus-is = ap (λ (k : ℤ). toZ w64 (ofZ w64 k)) (ap (λ (k : ℤ). k -ℤ pos 1) count-read ∙ less) ∙ toZ-ofZ {w = w64} (small-fits (natAbs z - 1) (omega arith))
+    minus-is = ap (λ (k : ℤ). toZ w64 (ofZ w64 k)) (ap (λ (k : ℤ). k -ℤ pos 1) count-read ∙ less)
+        ∙ toZ-ofZ {w = w64} (small-fits (natAbs z - 1) (omega arith))
 
 -- ---- the place of the number as it was passed
 
-pub place-told : (w : ℕ) (l : List ℤ) {a n : ℕ} {u z : ℤ} {r v : Found} → a ≡ n → u ≡ z → r ≡ place (sameZ u) 0 (column w l a) → r ≡ v → place (sameZ z) 0 (column w l n) ≡ v
+pub place-told : (w : ℕ) (l : List ℤ) {a n : ℕ} {u z : ℤ} {r v : Found} → a ≡ n → u ≡ z → r
+    ≡ place (sameZ u) 0 (column w l a) → r ≡ v → place (sameZ z) 0 (column w l n) ≡ v
 place-told w l ea eu er ev = sym (λ j. place (sameZ (eu j)) 0 (column w l (ea j))) ∙ sym er ∙ ev
 
 -- ---- a containing face in its row: a number, or -1 for none

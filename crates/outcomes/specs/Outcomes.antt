@@ -3,6 +3,7 @@ use mathlib.Core.Path.{_≡_}
 use mathlib.Core.Bool.{true}
 use mathlib.Core.List.{List}
 use lib.IntN.{ℤ}
+use Rattle.map.specs.declared.Answer.{Answer}
 use Rattle.map.specs.declared.Head.{Head}
 use Rattle.map.specs.Rows.{Lent, mapOf, sizesOf, whole}
 use Rattle.map.specs.Form.{inForm}
@@ -24,3 +25,7 @@ decided l t = unless l (firstReason (reasons (sizesOf l) (mapOf l) t)) (carried 
 -- what a call left and answered
 abbrev pub outcome : List ℤ → List ℤ → List ℤ → Done → Outcome
 outcome nodes edges faces d = record { lent = lent nodes edges faces (d .head); answer = d .answer }
+
+-- what a call left, with the head in a loan of its own
+abbrev pub leaving : List ℤ → List ℤ → List ℤ → Head → Answer → Outcome
+leaving nodes edges faces h a = record { lent = lent nodes edges faces h; answer = a }

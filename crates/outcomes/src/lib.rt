@@ -13,7 +13,7 @@ pub struct Done {
 }
 
 // A count or a next number of a head in form.
-pub fn count_of(z: i64) -> usize
+pub fn to_usize(z: i64) -> usize
     requires { ⌜ nonNeg z ≡ true ⌝ }
     ensures { λ r. ⌜ r ≡ natAbs z ⌝ }
 {

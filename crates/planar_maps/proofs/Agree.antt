@@ -10,12 +10,17 @@ use Rattle.planar_maps.specs.Rings.{turn, OneTurn}
 use Rattle.planar_maps.proofs.Cycles.{fwd-in, bwd-in}
 use Rattle.planar_maps.proofs.Rings.{rev-in, next-in}
 
-pub colouring-agree : (es : List Arc) (face face′ : Dart → ℕ) → ((d : Dart) → List·Memᴰ d (darts es) → face′ d ≡ face d) → Colouring es face → Colouring es face′
-colouring-agree es face face′ h P c cycle = (P c cycle .0, λ a m. rw (h (fwd (a .num)) (fwd-in m), h (bwd (a .num)) (bwd-in m)) (P c cycle .1 a m))
+pub colouring-agree : (es : List Arc) (face face′ : Dart → ℕ)
+    → ((d : Dart) → List·Memᴰ d (darts es) → face′ d ≡ face d) → Colouring es face → Colouring es face′
+colouring-agree es face face′ h P c cycle =
+    (P c cycle .0, λ a m. rw (h (fwd (a .num)) (fwd-in m), h (bwd (a .num)) (bwd-in m)) (P c cycle .1 a m))
 
-module _ {es : List Arc} {tail tail′ : Dart → ℕ} {next next′ : Dart → Dart} {face : Dart → ℕ} (l : Linked es tail next face)
-    (ht : (d : Dart) → List·Memᴰ d (darts es) → tail′ d ≡ tail d) (hn : (d : Dart) → List·Memᴰ d (darts es) → next′ d ≡ next d) where
-  pub linked-agree : {face′ : Dart → ℕ} → ((d : Dart) → List·Memᴰ d (darts es) → face′ d ≡ face d) → Linked es tail′ next′ face′
+module _ {es : List Arc} {tail tail′ : Dart → ℕ} {next next′ : Dart → Dart} {face : Dart → ℕ}
+    (l : Linked es tail next face)
+    (ht : (d : Dart) → List·Memᴰ d (darts es) → tail′ d ≡ tail d)
+    (hn : (d : Dart) → List·Memᴰ d (darts es) → next′ d ≡ next d) where
+  pub linked-agree : {face′ : Dart → ℕ} → ((d : Dart) → List·Memᴰ d (darts es) → face′ d ≡ face d)
+      → Linked es tail′ next′ face′
   linked-agree {face′} hf = record {
     starts = λ a m. ht (fwd (a .num)) (fwd-in m) ∙ l .starts a m;
     ends = λ a m. ht (bwd (a .num)) (bwd-in m) ∙ l .ends a m;
@@ -30,16 +35,27 @@ module _ {es : List Arc} {tail tail′ : Dart → ℕ} {next next′ : Dart → 
       same : tail d ≡ tail d′
       same = sym (ht d m) ∙ e ∙ ht d′ m′
 
-      steps : (k : ℕ) → List·Memᴰ (iterate k (turn next) d) (darts es) × (iterate k (turn next′) d ≡ iterate k (turn next) d)
+      steps : (k : ℕ) → List·Memᴰ (iterate k (turn next) d) (darts es)
+          × (iterate k (turn next′) d ≡ iterate k (turn next) d)
       steps zero = (m, refl)
       steps (suc k) = go (steps k)
         where
-          go : List·Memᴰ (iterate k (turn next) d) (darts es) × (iterate k (turn next′) d ≡ iterate k (turn next) d) → List·Memᴰ (iterate (suc k) (turn next) d) (darts es) × (iterate (suc k) (turn next′) d ≡ iterate (suc k) (turn next) d)
-          go r = (next-in l (rev-in es (r .0)), ap (turn next′) (r .1) ∙ hn (rev (iterate k (turn next) d)) (rev-in es (r .0)))
+          go : List·Memᴰ (iterate k (turn next) d) (darts es) × (iterate k (turn next′) d ≡ iterate k (turn next) d)
+              → List·Memᴰ (iterate (suc k) (turn next) d) (darts es)
+              × (iterate (suc k) (turn next′) d ≡ iterate (suc k) (turn next) d)
+          go r = (
+            next-in l (rev-in es (r .0)),
+            ap (turn next′) (r .1)
+                ∙ hn (rev (iterate k (turn next) d)) (rev-in es (r .0)),
+          )
 
--- a map in the plane depends on its functions only at its own darts: how a changed table is seen to be what a theorem speaks of
-pub planar-agree : {nodes : List ℕ} {es : List Arc} {tail tail′ : Dart → ℕ} {next next′ : Dart → Dart} {face face′ : Dart → ℕ} {faces : ℕ}
-    → ((d : Dart) → List·Memᴰ d (darts es) → tail′ d ≡ tail d) → ((d : Dart) → List·Memᴰ d (darts es) → next′ d ≡ next d) → ((d : Dart) → List·Memᴰ d (darts es) → face′ d ≡ face d)
+-- a map in the plane depends on its functions only at its own darts: how a changed table is seen to be what a theorem
+-- speaks of
+pub planar-agree : {nodes : List ℕ} {es : List Arc} {tail tail′ : Dart → ℕ} {next next′ : Dart
+    → Dart} {face face′ : Dart → ℕ} {faces : ℕ}
+    → ((d : Dart) → List·Memᴰ d (darts es) → tail′ d ≡ tail d)
+    → ((d : Dart) → List·Memᴰ d (darts es) → next′ d ≡ next d)
+    → ((d : Dart) → List·Memᴰ d (darts es) → face′ d ≡ face d)
     → Planar nodes es tail next face faces → Planar nodes es tail′ next′ face′ faces
 planar-agree {es = es} {face = face} {face′ = face′} ht hn hf o = record {
   nodes-once = o .nodes-once;

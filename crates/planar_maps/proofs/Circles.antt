@@ -9,7 +9,7 @@ use Prim.Native.Nat.{ℕ, suc, _+_}
 use native.Mathlib.Omega.{arith}
 use lib.ListN.{length}
 use Rattle.lists.specs.Tests.{_⊕_, same}
-use Rattle.lists.specs.Scans.{sum}
+use Rattle.lists.specs.Scans.{oddCount}
 use Rattle.lists.specs.Members.{Distinct}
 use Rattle.lists.proofs.Bools.{eq1, which, same-refl, same-true, differ, ⊕-self, &&-false}
 use Rattle.lists.proofs.Members.{each-cons}
@@ -75,12 +75,12 @@ bridge-out a es c e cycle = eq1 (λ x. x) (λ x. x && true ⊕ false) tt (c (a .
     X : ℕ → Bool
     X n = same (label es (a .from)) (label es n)
 
-    rest : sum es (λ b. c (b .num) && across X b) ≡ false
+    rest : oddCount es (λ b. c (b .num) && across X b) ≡ false
     rest = sum-zero es (λ b. c (b .num) && across X b)
         (λ b m. rw (label-of-chain (along b m stay), ⊕-self (same (label es (a .from)) (label es (b .to))))
         (&&-false (c (b .num))))
 
-    split : c (a .num) && across X a ⊕ sum es (λ b. c (b .num) && across X b) ≡ c (a .num) && true ⊕ false
+    split : c (a .num) && across X a ⊕ oddCount es (λ b. c (b .num) && across X b) ≡ c (a .num) && true ⊕ false
     split = rw (rest, same-refl (label es (a .from)), e)
 
 -- a cycle that has no chord has no edge

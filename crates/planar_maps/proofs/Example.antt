@@ -1,4 +1,5 @@
--- The theorems applied: two nodes, an edge between them that joins two pieces, and a second edge that splits the face. Assumes nothing.
+-- The theorems applied: two nodes, an edge between them that joins two pieces, and a second edge that splits the face.
+-- Assumes nothing.
 use mathlib.Core.Path.{_≡_, refl, sym, ap, _∙_}
 use mathlib.Core.Bool.{cond, _||_}
 use mathlib.Core.List.{[], _∷_, List·Memᴰ·head, List·Memᴰ·tail, List·Memᴰ·eq-of-singleton, List·Memᴰ·not-nil}
@@ -28,11 +29,13 @@ one≢two : (_≡_ {A = ℕ} 1 2) → ⊥
 one≢two e = omega arith
 
 two-nodes : Planar (2 ∷ 1 ∷ []) [] (λ d. 0) (λ d. d) (λ d. 0) 1
-two-nodes = planar-node (planar-node (planar-empty (λ d. 0) (λ d. d) (λ d. 0)) 1 List·Memᴰ·not-nil) 2 (λ m. one≢two (sym (List·Memᴰ·eq-of-singleton m)))
+two-nodes = planar-node (planar-node (planar-empty (λ d. 0) (λ d. d) (λ d. 0)) 1 List·Memᴰ·not-nil) 2
+    (λ m. one≢two (sym (List·Memᴰ·eq-of-singleton m)))
 
 joined : Planar (2 ∷ 1 ∷ []) (arc 1 1 2 ∷ []) T₁ N₁ F₁ 1
 unfolding with-edge same
-joined = planar-join two-nodes (arc 1 1 2) List·Memᴰ·not-nil (List·Memᴰ·tail (List·Memᴰ·head refl)) (List·Memᴰ·head refl) 0 alone alone
+joined = planar-join two-nodes (arc 1 1 2) List·Memᴰ·not-nil (List·Memᴰ·tail (List·Memᴰ·head refl))
+    (List·Memᴰ·head refl) 0 alone alone
     (λ d m. absurd (List·Memᴰ·not-nil m)) (λ d m e. one≢two (sym (ap T₁ (List·Memᴰ·eq-of-singleton m)) ∙ e)) (1, refl)
 
 abbrev N₂ : Dart → Dart
@@ -43,10 +46,18 @@ F₂ d = cond (sameDart d (fwd 2) || sameDart d (bwd 1)) 1 0
 
 split : Planar (2 ∷ 1 ∷ []) (arc 2 1 2 ∷ arc 1 1 2 ∷ []) (with-edge 2 1 2 T₁) N₂ F₂ 2
 unfolding with-edge same sameDart exchange F₂
-split = planar-split joined (arc 2 1 2) (λ m. one≢two (sym (List·Memᴰ·eq-of-singleton m))) (List·Memᴰ·tail (List·Memᴰ·head refl)) (List·Memᴰ·head refl) 0 (after (bwd 1)) (after (fwd 1))
+split = planar-split joined (arc 2 1 2) (λ m. one≢two (sym (List·Memᴰ·eq-of-singleton m)))
+    (List·Memᴰ·tail (List·Memᴰ·head refl)) (List·Memᴰ·head refl) 0 (after (bwd 1)) (after (fwd 1))
     (List·Memᴰ·head refl, refl, refl) (List·Memᴰ·tail (List·Memᴰ·tail (List·Memᴰ·head refl)), refl, refl)
-    F₂ (λ f. 0) (record { others = each-cons {p = λ d. 0 ≡ F₁ d} refl (each-cons {p = λ d. 0 ≡ F₁ d} refl (λ d m. absurd (List·Memᴰ·not-nil m))); sides = refl }) (λ e. zero≢one (sym e))
-    (each-cons {p = λ d. F₂ (N₂ d) ≡ F₂ d} refl (each-cons {p = λ d. F₂ (N₂ d) ≡ F₂ d} refl (each-cons {p = λ d. F₂ (N₂ d) ≡ F₂ d} refl (each-cons {p = λ d. F₂ (N₂ d) ≡ F₂ d} refl (λ d m. absurd (List·Memᴰ·not-nil m))))))
+    F₂ (λ f. 0) (record {
+      others = each-cons {p = λ d. 0 ≡ F₁ d} refl
+          (each-cons {p = λ d. 0 ≡ F₁ d} refl (λ d m. absurd (List·Memᴰ·not-nil m)));
+      sides = refl;
+    }) (λ e. zero≢one (sym e))
+    (each-cons {p = λ d. F₂ (N₂ d) ≡ F₂ d} refl
+    (each-cons {p = λ d. F₂ (N₂ d) ≡ F₂ d} refl
+    (each-cons {p = λ d. F₂ (N₂ d) ≡ F₂ d} refl
+    (each-cons {p = λ d. F₂ (N₂ d) ≡ F₂ d} refl (λ d m. absurd (List·Memᴰ·not-nil m))))))
   where
     zero≢one : (_≡_ {A = ℕ} 0 1) → ⊥
     zero≢one e = omega arith

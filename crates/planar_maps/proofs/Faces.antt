@@ -12,7 +12,7 @@ use Prim.Native.Nat.{ℕ, _<_}
 use native.Mathlib.Omega.{arith}
 use lib.ListN.{length, length-map}
 use Rattle.lists.specs.Tests.{_⊕_, same}
-use Rattle.lists.specs.Scans.{sum}
+use Rattle.lists.specs.Scans.{oddCount}
 use Rattle.lists.specs.Members.{Distinct}
 use Rattle.lists.specs.Functionals.{Functional, Solution}
 use Rattle.lists.proofs.Bools.{eq1, eq2, eq3, ⊕-self, ⊕-equal, not-true, which, same-refl, same-false}
@@ -111,7 +111,7 @@ chain-set es d (against {n = n} a m p) = go (chain-set es d p)
 -- ---- some cycle takes an odd number of the chords of a set that has any
 
 abbrev Odd : List Arc → (ℕ → Bool) → Type 0
-Odd es y = (c : ℕ → Bool) × Cycle es c × (sum (chords es) (λ a. y (a .num) && c (a .num)) ≡ true)
+Odd es y = (c : ℕ → Bool) × Cycle es c × (oddCount (chords es) (λ a. y (a .num) && c (a .num)) ≡ true)
 
 -- c, but v at n
 set : (ℕ → Bool) → ℕ → Bool → ℕ → Bool
@@ -130,7 +130,7 @@ module _ (a : Arc) (es : List Arc) (d : Distinct (nums (a ∷ es))) (y : ℕ →
   other k q = d .0 (Memᴰ·cast (sym q) (Memᴰ·map (λ (x : Arc). x .num) k))
 
   set-sum : (c : ℕ → Bool) (v : Bool) (l : List Arc) → ((b : Arc) → List·Memᴰ b l → List·Memᴰ b es) → (w : Arc → Bool)
-      → sum l (λ b. w b && set c (a .num) v (b .num)) ≡ sum l (λ b. w b && c (b .num))
+      → oddCount l (λ b. w b && set c (a .num) v (b .num)) ≡ oddCount l (λ b. w b && c (b .num))
   set-sum c v l sub w = sum-cong l _ _ (λ b k. ap (λ x. w b && x) (set-there c (a .num) v (b .num) (other (sub b k))))
 
   set-crossings : (c : ℕ → Bool) (v : Bool) (X : ℕ → Bool)
@@ -144,14 +144,14 @@ module _ (a : Arc) (es : List Arc) (d : Distinct (nums (a ∷ es))) (y : ℕ →
     set (r .0) (a .num) false,
     (λ X. set-crossings (r .0) false X ∙ r .1 X),
     elim (which (closes a es)) [
-      | inl e ↦ ap (λ l. sum l (λ b. y (b .num) && set (r .0) (a .num) false (b .num))) (chords-yes a es e)
+      | inl e ↦ ap (λ l. oddCount l (λ b. y (b .num) && set (r .0) (a .num) false (b .num))) (chords-yes a es e)
           ∙ ap₂ (λ u w. y (a .num) && u ⊕ w) (set-here (r .0) (a .num) false) rest
           ∙ eq1 (λ x. x && false ⊕ true) (λ x. true) tt (y (a .num))
-      | inr e ↦ ap (λ l. sum l (λ b. y (b .num) && set (r .0) (a .num) false (b .num))) (chords-no a es e) ∙ rest
+      | inr e ↦ ap (λ l. oddCount l (λ b. y (b .num) && set (r .0) (a .num) false (b .num))) (chords-no a es e) ∙ rest
     ],
   )
     where
-      rest : sum (chords es) (λ b. y (b .num) && set (r .0) (a .num) false (b .num)) ≡ true
+      rest : oddCount (chords es) (λ b. y (b .num) && set (r .0) (a .num) false (b .num)) ≡ true
       rest = set-sum (r .0) false (chords es) (λ b k. chords-in es k) (λ b. y (b .num)) ∙ r .2
 
   -- the last chord of the set, with a chain back
@@ -161,7 +161,7 @@ module _ (a : Arc) (es : List Arc) (d : Distinct (nums (a ∷ es))) (y : ℕ →
     set c (a .num) true,
     (λ X. set-crossings c true X ∙ ap (λ w. across X a ⊕ w) (r .1 X)
         ∙ eq2 (λ f t. f ⊕ t ⊕ (f ⊕ t)) (λ f t. false) tt (X (a .from)) (X (a .to))),
-    ap (λ l. sum l (λ b. y (b .num) && set c (a .num) true (b .num))) (chords-yes a es e)
+    ap (λ l. oddCount l (λ b. y (b .num) && set c (a .num) true (b .num))) (chords-yes a es e)
         ∙ ap₂ (λ u w. u ⊕ w) (ap₂ _&&_ at (set-here c (a .num) true))
         (sum-zero (chords es) (λ b. y (b .num) && set c (a .num) true (b .num)) (λ b k. rw (none b k))),
   )
@@ -251,7 +251,8 @@ module _ {nodes : List ℕ} {es : List Arc} {tail : Dart → ℕ} {next : Dart �
           (λ a. scaled (y (a .num)) (plus (point (face (fwd (a .num)))) (point (face (bwd (a .num))))))
 
       between-at : (T : ℕ → Bool)
-          → between .at T ≡ sum (chords es) (λ a. y (a .num) && (T (face (fwd (a .num))) ⊕ T (face (bwd (a .num)))))
+          → between .at T ≡ oddCount (chords es)
+          (λ a. y (a .num) && (T (face (fwd (a .num))) ⊕ T (face (bwd (a .num)))))
       between-at T =
           plus-all (chords es) (λ a. scaled (y (a .num))
           (plus (point (face (fwd (a .num)))) (point (face (bwd (a .num)))))) T

@@ -1,7 +1,8 @@
 -- Two edges that meet at a node where nothing else is are healed to one. Assumes nothing.
 use mathlib.Core.Path.{_≡_, refl, sym, ap, _∙_, subst}
 use mathlib.Core.Logic.{_⊎_, inl, inr}
-use mathlib.Core.List.{List, [], _∷_, map, map-map, List·Memᴰ, List·Memᴰ·head, List·Memᴰ·tail, List·Memᴰ·cases-cons, Memᴰ·cast, Memᴰ·of-map, List·Permᴰ, Permᴰ·map}
+use mathlib.Core.List.{List, [], _∷_, map, map-map, List·Memᴰ, List·Memᴰ·head, List·Memᴰ·tail, List·Memᴰ·cases-cons}
+use mathlib.Core.List.{Memᴰ·cast, Memᴰ·of-map, List·Permᴰ, Permᴰ·map}
 use Prim.Native.Nat.{ℕ, zero, suc, _≤_}
 use native.Mathlib.Omega.{arith}
 use lib.ListN.{length, length-map}
@@ -16,7 +17,8 @@ use Rattle.planar_maps.specs.Weave.{with-edge, renamed, healed, heal-nex
 use Rattle.planar_maps.specs.Planar.{Planar}
 use Rattle.planar_maps.proofs.Cycles.{fwd-in, bwd-in}
 use Rattle.planar_maps.proofs.Rings.{dart-cases, rev-in, next-in, sameDart-refl}
-use Rattle.planar_maps.proofs.Hooks.{sameDart-false, fwd≢bwd, fresh-dart, distinct-darts, with-fwd, with-bwd, with-other}
+use Rattle.planar_maps.proofs.Hooks.{sameDart-false, fwd≢bwd, fresh-dart, distinct-darts, with-fwd, with-bwd}
+use Rattle.planar_maps.proofs.Hooks.{with-other}
 use Rattle.planar_maps.proofs.Joins.{leads-keep}
 use Rattle.planar_maps.proofs.Splitting.{renamed-at, renamed-other}
 use Rattle.planar_maps.proofs.Subdivide.{arc, halves, heal-keeps}
@@ -30,8 +32,10 @@ pub healed-other : (e e′ : ℕ) (d : Dart) → ((d ≡ fwd e) → ⊥) → hea
 unfolding healed
 healed-other e e′ d h = rw (sameDart-false d (fwd e) h)
 
-module _ (e e′ s n t : ℕ) (es : List Arc) {nodes : List ℕ} {tail : Dart → ℕ} {next : Dart → Dart} {face : Dart → ℕ} {faces : ℕ}
-    (o : Planar (n ∷ nodes) (arc e s n ∷ arc e′ n t ∷ es) tail next face faces) (lone : Isolated n es) (s≢n : (s ≡ n) → ⊥) (t≢n : (t ≡ n) → ⊥) where
+module _ (e e′ s n t : ℕ) (es : List Arc) {nodes : List ℕ} {tail : Dart → ℕ} {next : Dart → Dart} {face : Dart
+    → ℕ} {faces : ℕ}
+    (o : Planar (n ∷ nodes) (arc e s n ∷ arc e′ n t ∷ es) tail next face faces) (lone : Isolated n es)
+    (s≢n : (s ≡ n) → ⊥) (t≢n : (t ≡ n) → ⊥) where
   f : Dart
   f = fwd e
 
@@ -78,11 +82,14 @@ module _ (e e′ s n t : ℕ) (es : List Arc) {nodes : List ℕ} {tail : Dart �
   edge-≢ : {c d : Dart} → ((c .edge ≡ d .edge) → ⊥) → (c ≡ d) → ⊥
   edge-≢ h p = h (ap (λ (d : Dart). d .edge) p)
 
-  all-H : (p : Dart → Type 0) → p f → p b → p f′ → p b′ → ((d : Dart) → List·Memᴰ d (darts es) → p d) → (d : Dart) → List·Memᴰ d H → p d
+  all-H : (p : Dart → Type 0) → p f → p b → p f′ → p b′ → ((d : Dart) → List·Memᴰ d (darts es) → p d) → (d : Dart)
+      → List·Memᴰ d H → p d
   unfolding f b f′ b′ H
-  all-H p pf pb pf′ pb′ pd = each-cons {p = p} pf (each-cons {p = p} pb (each-cons {p = p} pf′ (each-cons {p = p} pb′ pd)))
+  all-H p pf pb pf′ pb′ pd = each-cons {p = p} pf
+      (each-cons {p = p} pb (each-cons {p = p} pf′ (each-cons {p = p} pb′ pd)))
 
-  all-W : (p : Dart → Type 0) → p f → p b → ((d : Dart) → List·Memᴰ d (darts es) → p d) → (d : Dart) → List·Memᴰ d W → p d
+  all-W : (p : Dart → Type 0) → p f → p b → ((d : Dart) → List·Memᴰ d (darts es) → p d) → (d : Dart) → List·Memᴰ d W
+      → p d
   unfolding f b W
   all-W p pf pb pd = each-cons {p = p} pf (each-cons {p = p} pb pd)
 
@@ -127,12 +134,15 @@ module _ (e e′ s n t : ℕ) (es : List Arc) {nodes : List ℕ} {tail : Dart �
     where
       go : (a : Arc) × List·Memᴰ a es × ((d ≡ fwd (a .num)) ⊎ (d ≡ bwd (a .num))) → ⊥
       go r = elim (r .2) [
-        | inl q ↦ lone .starts (r .0) (r .1) (sym (o .linked .starts (r .0) (List·Memᴰ·tail (List·Memᴰ·tail (r .1)))) ∙ ap tail (sym q) ∙ p)
-        | inr q ↦ lone .ends (r .0) (r .1) (sym (o .linked .ends (r .0) (List·Memᴰ·tail (List·Memᴰ·tail (r .1)))) ∙ ap tail (sym q) ∙ p)
+        | inl q ↦ lone .starts (r .0) (r .1)
+            (sym (o .linked .starts (r .0) (List·Memᴰ·tail (List·Memᴰ·tail (r .1)))) ∙ ap tail (sym q) ∙ p)
+        | inr q ↦ lone .ends (r .0) (r .1)
+            (sym (o .linked .ends (r .0) (List·Memᴰ·tail (List·Memᴰ·tail (r .1)))) ∙ ap tail (sym q) ∙ p)
       ]
 
   at-n : (d : Dart) → List·Memᴰ d H → tail d ≡ n → (d ≡ b) ⊎ (d ≡ f′)
-  at-n = all-H (λ d. tail d ≡ n → (d ≡ b) ⊎ (d ≡ f′)) (λ p. absurd (s≢n (sym tail-f ∙ p))) (λ p. inl refl) (λ p. inr refl) (λ p. absurd (t≢n (sym tail-b′ ∙ p))) (λ d m p. absurd (tail-old d m p))
+  at-n = all-H (λ d. tail d ≡ n → (d ≡ b) ⊎ (d ≡ f′)) (λ p. absurd (s≢n (sym tail-f ∙ p))) (λ p. inl refl)
+      (λ p. inr refl) (λ p. absurd (t≢n (sym tail-b′ ∙ p))) (λ d m p. absurd (tail-old d m p))
 
   stuck : (c d : Dart) → List·Memᴰ c H → List·Memᴰ d H → tail c ≡ tail d → next (rev c) ≡ c → d ≡ c
   unfolding H
@@ -152,11 +162,19 @@ module _ (e e′ s n t : ℕ) (es : List Arc) {nodes : List ℕ} {tail : Dart �
 
   next-f : next f ≡ f′
   unfolding f b f′ b′
-  next-f = elim (at-n (next f) (nxt in-f) (met in-f ∙ tail-b)) [ inl q ↦ absurd (fwd≢bwd (stuck b f′ in-b in-f′ (tail-b ∙ sym tail-f′) q)) | inr q ↦ q ]
+  next-f = elim (at-n (next f) (nxt in-f) (met in-f ∙ tail-b)) [
+    | inl q ↦ absurd
+        (fwd≢bwd (stuck b f′ in-b in-f′ (tail-b ∙ sym tail-f′) q))
+    | inr q ↦ q
+  ]
 
   next-b′ : next b′ ≡ b
   unfolding f b f′ b′
-  next-b′ = elim (at-n (next b′) (nxt in-b′) (met in-b′ ∙ tail-f′)) [ inl q ↦ q | inr q ↦ absurd (fwd≢bwd (sym (stuck f′ b in-f′ in-b (tail-f′ ∙ sym tail-b) q))) ]
+  next-b′ = elim (at-n (next b′) (nxt in-b′) (met in-b′ ∙ tail-f′)) [
+    | inl q ↦ q
+    | inr q ↦ absurd
+        (fwd≢bwd (sym (stuck f′ b in-f′ in-b (tail-f′ ∙ sym tail-b) q)))
+  ]
 
   inj : (c d : Dart) → List·Memᴰ c H → List·Memᴰ d H → next c ≡ next d → c ≡ d
   unfolding H
@@ -169,11 +187,13 @@ module _ (e e′ s n t : ℕ) (es : List Arc) {nodes : List ℕ} {tail : Dart �
   B : List Dart
   B = f ∷ b′ ∷ darts es
 
-  all-A : (p : Dart → Type 0) → p f′ → p b → ((d : Dart) → List·Memᴰ d (darts es) → p d) → (d : Dart) → List·Memᴰ d A → p d
+  all-A : (p : Dart → Type 0) → p f′ → p b → ((d : Dart) → List·Memᴰ d (darts es) → p d) → (d : Dart) → List·Memᴰ d A
+      → p d
   unfolding A
   all-A p pf pb pd = each-cons {p = p} pf (each-cons {p = p} pb pd)
 
-  all-B : (p : Dart → Type 0) → p f → p b′ → ((d : Dart) → List·Memᴰ d (darts es) → p d) → (d : Dart) → List·Memᴰ d B → p d
+  all-B : (p : Dart → Type 0) → p f → p b′ → ((d : Dart) → List·Memᴰ d (darts es) → p d) → (d : Dart) → List·Memᴰ d B
+      → p d
   unfolding B
   all-B p pf pb pd = each-cons {p = p} pf (each-cons {p = p} pb pd)
 
@@ -193,16 +213,23 @@ module _ (e e′ s n t : ℕ) (es : List Arc) {nodes : List ℕ} {tail : Dart �
 
   next-A : (d : Dart) → List·Memᴰ d A → List·Memᴰ (next d) B
   unfolding B
-  next-A d m = all-H (λ x. ((x ≡ b) → ⊥) → ((x ≡ f′) → ⊥) → List·Memᴰ x B) (λ p q. List·Memᴰ·head refl) (λ p q. absurd (p refl)) (λ p q. absurd (q refl)) (λ p q. List·Memᴰ·tail (List·Memᴰ·head refl)) (λ x k p q. List·Memᴰ·tail (List·Memᴰ·tail k))
-      (next d) (nxt (A-in d m)) (λ p. not-b′ d m (inj d b′ (A-in d m) in-b′ (p ∙ sym next-b′))) (λ p. not-f d m (inj d f (A-in d m) in-f (p ∙ sym next-f)))
+  next-A d m = all-H (λ x. ((x ≡ b) → ⊥) → ((x ≡ f′) → ⊥) → List·Memᴰ x B) (λ p q. List·Memᴰ·head refl)
+      (λ p q. absurd (p refl)) (λ p q. absurd (q refl)) (λ p q. List·Memᴰ·tail (List·Memᴰ·head refl))
+      (λ x k p q. List·Memᴰ·tail (List·Memᴰ·tail k))
+      (next d) (nxt (A-in d m)) (λ p. not-b′ d m (inj d b′ (A-in d m) in-b′ (p ∙ sym next-b′)))
+      (λ p. not-f d m (inj d f (A-in d m) in-f (p ∙ sym next-f)))
 
   distinct-A : Distinct A
   unfolding A f′ b
-  distinct-A = (λ m. elim (List·Memᴰ·cases-cons m) [ inl p ↦ fwd≢bwd p | inr k ↦ old-e′ k refl ], (λ m. old-e m refl, distinct-darts es (o .edges-once .1 .1)))
+  distinct-A = (
+    λ m. elim (List·Memᴰ·cases-cons m) [ inl p ↦ fwd≢bwd p | inr k ↦ old-e′ k refl ],
+    (λ m. old-e m refl, distinct-darts es (o .edges-once .1 .1)),
+  )
 
   perm-A : List·Permᴰ (map next A) B
   unfolding A B
-  perm-A = perm-of-distinct (map next A) B (distinct-map next A distinct-A (λ c d m k. inj c d (A-in c m) (A-in d k))) inside (lengths (length-map A next))
+  perm-A = perm-of-distinct (map next A) B
+      (distinct-map next A distinct-A (λ c d m k. inj c d (A-in c m) (A-in d k))) inside (lengths (length-map A next))
     where
       lengths : length (map next A) ≡ length A → length B ≤ length (map next A)
       lengths q = omega arith
@@ -264,14 +291,17 @@ module _ (e e′ s n t : ℕ) (es : List Arc) {nodes : List ℕ} {tail : Dart �
 
   ρ-A : (d : Dart) → List·Memᴰ d W → List·Memᴰ (ρ d) A
   unfolding A
-  ρ-A = all-W (λ d. List·Memᴰ (ρ d) A) (List·Memᴰ·head ρ-f) (List·Memᴰ·tail (List·Memᴰ·head ρ-b)) (λ d m. List·Memᴰ·tail (List·Memᴰ·tail (Memᴰ·cast (ρ-old d m) m)))
+  ρ-A = all-W (λ d. List·Memᴰ (ρ d) A) (List·Memᴰ·head ρ-f) (List·Memᴰ·tail (List·Memᴰ·head ρ-b))
+      (λ d m. List·Memᴰ·tail (List·Memᴰ·tail (Memᴰ·cast (ρ-old d m) m)))
 
   σ-B : (d : Dart) → List·Memᴰ d W → List·Memᴰ (σ d) B
   unfolding B
-  σ-B = all-W (λ d. List·Memᴰ (σ d) B) (List·Memᴰ·head σ-f) (List·Memᴰ·tail (List·Memᴰ·head σ-b)) (λ d m. List·Memᴰ·tail (List·Memᴰ·tail (Memᴰ·cast (σ-old d m) m)))
+  σ-B = all-W (λ d. List·Memᴰ (σ d) B) (List·Memᴰ·head σ-f) (List·Memᴰ·tail (List·Memᴰ·head σ-b))
+      (λ d m. List·Memᴰ·tail (List·Memᴰ·tail (Memᴰ·cast (σ-old d m) m)))
 
   T-τ : (x : Dart) → List·Memᴰ x B → T (τ x) ≡ tail x
-  T-τ = all-B (λ x. T (τ x) ≡ tail x) (ap T τ-f ∙ T-f ∙ sym tail-f) (ap T τ-b′ ∙ T-b ∙ sym tail-b′) (λ d m. ap T (τ-old d m) ∙ T-old d m)
+  T-τ = all-B (λ x. T (τ x) ≡ tail x) (ap T τ-f ∙ T-f ∙ sym tail-f) (ap T τ-b′ ∙ T-b ∙ sym tail-b′)
+      (λ d m. ap T (τ-old d m) ∙ T-old d m)
 
   face-b : face b′ ≡ face b
   face-b = sym (kept in-b′) ∙ ap face next-b′
@@ -287,10 +317,13 @@ module _ (e e′ s n t : ℕ) (es : List Arc) {nodes : List ℕ} {tail : Dart �
 
   T-ρ : (d : Dart) → List·Memᴰ d W → tail (rev (ρ d)) ≡ T (rev d)
   unfolding f b f′ b′
-  T-ρ = all-W (λ d. tail (rev (ρ d)) ≡ T (rev d)) (ap (λ d. tail (rev d)) ρ-f ∙ tail-b′ ∙ sym T-b) (ap (λ d. tail (rev d)) ρ-b ∙ tail-f ∙ sym T-f) (λ d m. ap (λ d. tail (rev d)) (ρ-old d m) ∙ sym (T-old (rev d) (rev-in es m)))
+  T-ρ = all-W (λ d. tail (rev (ρ d)) ≡ T (rev d)) (ap (λ d. tail (rev d)) ρ-f ∙ tail-b′ ∙ sym T-b)
+      (ap (λ d. tail (rev d)) ρ-b ∙ tail-f ∙ sym T-f)
+      (λ d m. ap (λ d. tail (rev d)) (ρ-old d m) ∙ sym (T-old (rev d) (rev-in es m)))
 
   T-σ : (d : Dart) → List·Memᴰ d W → tail (σ d) ≡ T d
-  T-σ = all-W (λ d. tail (σ d) ≡ T d) (ap tail σ-f ∙ tail-f ∙ sym T-f) (ap tail σ-b ∙ tail-b′ ∙ sym T-b) (λ d m. ap tail (σ-old d m) ∙ sym (T-old d m))
+  T-σ = all-W (λ d. tail (σ d) ≡ T d) (ap tail σ-f ∙ tail-f ∙ sym T-f) (ap tail σ-b ∙ tail-b′ ∙ sym T-b)
+      (λ d m. ap tail (σ-old d m) ∙ sym (T-old d m))
 
   τ-σ : (d : Dart) → List·Memᴰ d W → τ (σ d) ≡ d
   τ-σ = all-W (λ d. τ (σ d) ≡ d) (ap τ σ-f ∙ τ-f) (ap τ σ-b ∙ τ-b′) (λ d m. ap τ (σ-old d m) ∙ τ-old d m)
@@ -300,18 +333,22 @@ module _ (e e′ s n t : ℕ) (es : List Arc) {nodes : List ℕ} {tail : Dart �
 
   ρ-rev : (d : Dart) → List·Memᴰ d W → ρ (rev d) ≡ rev (σ d)
   unfolding f b f′ b′
-  ρ-rev = all-W (λ d. ρ (rev d) ≡ rev (σ d)) (ρ-b ∙ ap rev (sym σ-f)) (ρ-f ∙ ap rev (sym σ-b)) (λ d m. ρ-old (rev d) (rev-in es m) ∙ ap rev (sym (σ-old d m)))
+  ρ-rev = all-W (λ d. ρ (rev d) ≡ rev (σ d)) (ρ-b ∙ ap rev (sym σ-f)) (ρ-f ∙ ap rev (sym σ-b))
+      (λ d m. ρ-old (rev d) (rev-in es m) ∙ ap rev (sym (σ-old d m)))
 
   N-perm : List·Permᴰ (map N W) W
   unfolding N W A B τ ρ f b
-  N-perm = subst (λ k. List·Permᴰ k W) (sym left) (subst (λ k. List·Permᴰ (map τ (map next A)) k) right (Permᴰ·map τ perm-A))
+  N-perm = subst (λ k. List·Permᴰ k W) (sym left)
+      (subst (λ k. List·Permᴰ (map τ (map next A)) k) right (Permᴰ·map τ perm-A))
     where
       ids : (l : List Dart) → map (λ d. d) l ≡ l
       ids [] = refl
       ids (x ∷ l) = ap (λ k. x ∷ k) (ids l)
 
       left : map N W ≡ map τ (map next A)
-      left = λ i. τ (next (ρ-f i)) ∷ τ (next (ρ-b i)) ∷ (map-cong N (λ d. τ (next d)) (darts es) (λ d m. ap (λ x. τ (next x)) (ρ-old d m)) ∙ sym (map-map τ next (darts es))) i
+      left = λ i. τ (next (ρ-f i)) ∷ τ (next (ρ-b i))
+          ∷ (map-cong N (λ d. τ (next d)) (darts es) (λ d m. ap (λ x. τ (next x)) (ρ-old d m))
+          ∙ sym (map-map τ next (darts es))) i
 
       right : map τ B ≡ W
       right = λ i. τ-f i ∷ τ-b′ i ∷ (map-cong τ (λ d. d) (darts es) τ-old ∙ ids (darts es)) i
@@ -319,8 +356,10 @@ module _ (e e′ s n t : ℕ) (es : List Arc) {nodes : List ℕ} {tail : Dart �
   healed-linked : Linked (arc e s t ∷ es) T N face
   unfolding N W τ ρ f b
   healed-linked = record {
-    starts = each-cons {p = λ a. T (fwd (a .num)) ≡ a .from} T-f (λ a m. T-old (fwd (a .num)) (fwd-in m) ∙ o .linked .starts a (List·Memᴰ·tail (List·Memᴰ·tail m)));
-    ends = each-cons {p = λ a. T (bwd (a .num)) ≡ a .to} T-b (λ a m. T-old (bwd (a .num)) (bwd-in m) ∙ o .linked .ends a (List·Memᴰ·tail (List·Memᴰ·tail m)));
+    starts = each-cons {p = λ a. T (fwd (a .num)) ≡ a .from} T-f
+        (λ a m. T-old (fwd (a .num)) (fwd-in m) ∙ o .linked .starts a (List·Memᴰ·tail (List·Memᴰ·tail m)));
+    ends = each-cons {p = λ a. T (bwd (a .num)) ≡ a .to} T-b
+        (λ a m. T-old (bwd (a .num)) (bwd-in m) ∙ o .linked .ends a (List·Memᴰ·tail (List·Memᴰ·tail m)));
     perm = N-perm;
     meets = λ d m. T-τ (next (ρ d)) (next-A (ρ d) (ρ-A d m)) ∙ met (A-in (ρ d) (ρ-A d m)) ∙ T-ρ d m;
     keeps = λ d m. face-τ (next (ρ d)) (next-A (ρ d) (ρ-A d m)) ∙ kept (A-in (ρ d) (ρ-A d m)) ∙ face-ρ d m;
@@ -338,16 +377,23 @@ module _ (e e′ s n t : ℕ) (es : List Arc) {nodes : List ℕ} {tail : Dart �
   unfolding N τ ρ
   turned d m = σ-τ (next (ρ (rev d))) (next-A (ρ (rev d)) (ρ-A (rev d) (W-rev m))) ∙ ap next (ρ-rev d m)
 
-  turns : (k : ℕ) (d : Dart) → List·Memᴰ d W → List·Memᴰ (iterate k (turn N) d) W × (σ (iterate k (turn N) d) ≡ iterate k (turn next) (σ d))
+  turns : (k : ℕ) (d : Dart) → List·Memᴰ d W → List·Memᴰ (iterate k (turn N) d) W
+      × (σ (iterate k (turn N) d) ≡ iterate k (turn next) (σ d))
   turns zero d m = (m, refl)
   turns (suc k) d m = go (turns k d m)
     where
-      go : List·Memᴰ (iterate k (turn N) d) W × (σ (iterate k (turn N) d) ≡ iterate k (turn next) (σ d)) → List·Memᴰ (turn N (iterate k (turn N) d)) W × (σ (turn N (iterate k (turn N) d)) ≡ turn next (iterate k (turn next) (σ d)))
+      go : List·Memᴰ (iterate k (turn N) d) W × (σ (iterate k (turn N) d) ≡ iterate k (turn next) (σ d))
+          → List·Memᴰ (turn N (iterate k (turn N) d)) W
+          × (σ (turn N (iterate k (turn N) d)) ≡ turn next (iterate k (turn next) (σ d)))
       go r = (W-next (W-rev (r .0)), turned (iterate k (turn N) d) (r .0) ∙ ap (turn next) (r .1))
 
   healed-turn : OneTurn (arc e s t ∷ es) T N
   unfolding W H
-  healed-turn d d′ m m′ q = (r .0, sym (τ-σ (iterate (r .0) (turn N) d) (turns (r .0) d m .0)) ∙ ap τ (turns (r .0) d m .1 ∙ r .1) ∙ τ-σ d′ m′)
+  healed-turn d d′ m m′ q = (
+    r .0,
+    sym (τ-σ (iterate (r .0) (turn N) d) (turns (r .0) d m .0))
+        ∙ ap τ (turns (r .0) d m .1 ∙ r .1) ∙ τ-σ d′ m′,
+  )
     where
       r : Leads (turn next) (σ d) (σ d′)
       r = o .one-turn (σ d) (σ d′) (B-in (σ d) (σ-B d m)) (B-in (σ d′) (σ-B d′ m′)) (T-σ d m ∙ q ∙ sym (T-σ d′ m′))
@@ -360,7 +406,8 @@ module _ (e e′ s n t : ℕ) (es : List Arc) {nodes : List ℕ} {tail : Dart �
     within = within;
     linked = healed-linked;
     one-turn = healed-turn;
-    colouring = heal-keeps e e′ s n t es face face (record { others = λ d m. refl; left = face-f; right = face-b }) (o .edges-once) (o .colouring);
+    colouring = heal-keeps e e′ s n t es face face (record { others = λ d m. refl; left = face-f; right = face-b })
+        (o .edges-once) (o .colouring);
     euler = euler-subdivide e e′ s n t es nodes faces lone s≢n t≢n (o .nodes-once) within .1 (o .euler);
   }
     where
@@ -369,6 +416,10 @@ module _ (e e′ s n t : ℕ) (es : List Arc) {nodes : List ℕ} {tail : Dart �
 
       within : Within nodes (arc e s t ∷ es)
       within = record {
-        starts = each-cons {p = λ a. List·Memᴰ (a .from) nodes} (other s≢n (o .within .starts (arc e s n) (List·Memᴰ·head refl))) (λ a m. other (lone .starts a m) (o .within .starts a (List·Memᴰ·tail (List·Memᴰ·tail m))));
-        ends = each-cons {p = λ a. List·Memᴰ (a .to) nodes} (other t≢n (o .within .ends (arc e′ n t) (List·Memᴰ·tail (List·Memᴰ·head refl)))) (λ a m. other (lone .ends a m) (o .within .ends a (List·Memᴰ·tail (List·Memᴰ·tail m))));
+        starts = each-cons {p = λ a. List·Memᴰ (a .from) nodes}
+            (other s≢n (o .within .starts (arc e s n) (List·Memᴰ·head refl)))
+            (λ a m. other (lone .starts a m) (o .within .starts a (List·Memᴰ·tail (List·Memᴰ·tail m))));
+        ends = each-cons {p = λ a. List·Memᴰ (a .to) nodes}
+            (other t≢n (o .within .ends (arc e′ n t) (List·Memᴰ·tail (List·Memᴰ·head refl))))
+            (λ a m. other (lone .ends a m) (o .within .ends a (List·Memᴰ·tail (List·Memᴰ·tail m))));
       }

@@ -2,7 +2,8 @@
 use mathlib.Core.Path.{_≡_, refl, sym, ap, _∙_, subst}
 use mathlib.Core.Logic.{_⊎_, inl, inr}
 use mathlib.Core.Bool.{false, true≢false, false≢true}
-use mathlib.Core.List.{List, [], _∷_, map, map-map, List·Memᴰ, List·Memᴰ·cases-cons, Memᴰ·map, Memᴰ·cast, List·Permᴰ, List·Permᴰ·cons, List·Permᴰ·swap, List·Permᴰ·trans, Permᴰ·map}
+use mathlib.Core.List.{List, [], _∷_, map, map-map, List·Memᴰ, List·Memᴰ·cases-cons, Memᴰ·map, Memᴰ·cast, List·Permᴰ}
+use mathlib.Core.List.{List·Permᴰ·cons, List·Permᴰ·swap, List·Permᴰ·trans, Permᴰ·map}
 use Prim.Native.Nat.{ℕ}
 use Rattle.lists.specs.Members.{Distinct}
 use Rattle.lists.proofs.Bools.{which, same-refl, same-false}
@@ -19,7 +20,11 @@ use Rattle.planar_maps.proofs.Rings.{sameDart-refl, sameDart-true, dart
 -- ---- darts
 
 pub sameDart? : (c d : Dart) → (c ≡ d) ⊎ ((c ≡ d) → ⊥)
-sameDart? c d = elim (which (sameDart c d)) [ inl e ↦ inl (sameDart-true c d e) | inr e ↦ inr (λ p. true≢false (sym (sameDart-refl c) ∙ ap (sameDart c) p ∙ e)) ]
+sameDart? c d = elim (which (sameDart c d)) [
+  | inl e ↦ inl (sameDart-true c d e)
+  | inr e ↦ inr
+      (λ p. true≢false (sym (sameDart-refl c) ∙ ap (sameDart c) p ∙ e))
+]
 
 pub sameDart-false : (c d : Dart) → ((c ≡ d) → ⊥) → sameDart c d ≡ false
 sameDart-false c d h = elim (which (sameDart c d)) [ inl e ↦ absurd (h (sameDart-true c d e)) | inr e ↦ e ]
@@ -31,7 +36,9 @@ pub fresh-dart : (a : Arc) (es : List Arc) {d : Dart} → Fresh a es → List·M
 fresh-dart a es {d} fresh m p = go (dart-cases es m)
   where
     go : (b : Arc) × List·Memᴰ b es × ((d ≡ fwd (b .num)) ⊎ (d ≡ bwd (b .num))) → ⊥
-    go r = fresh (Memᴰ·cast (sym p ∙ elim (r .2) [ inl e ↦ ap (λ (d : Dart). d .edge) e | inr e ↦ ap (λ (d : Dart). d .edge) e ]) (Memᴰ·map (λ a. a .num) (r .1)))
+    go r = fresh (Memᴰ·cast (sym p ∙ elim
+        (r .2) [ inl e ↦ ap (λ (d : Dart). d .edge) e | inr e ↦ ap (λ (d : Dart). d .edge) e ])
+        (Memᴰ·map (λ a. a .num) (r .1)))
 
 pub distinct-darts : (es : List Arc) → Distinct (nums es) → Distinct (darts es)
 distinct-darts [] dis = tt
@@ -48,36 +55,51 @@ exchange-left x y = rw (sameDart-refl x)
 
 pub exchange-right : (x y : Dart) → exchange x y y ≡ x
 unfolding exchange
-exchange-right x y = elim (which (sameDart y x)) [ inl e ↦ rw e (sameDart-true y x e) | inr e ↦ rw (e, sameDart-refl y) ]
+exchange-right x y = elim (which (sameDart y x)) [
+  | inl e ↦ rw e (sameDart-true y x e)
+  | inr e ↦ rw
+      (e, sameDart-refl y)
+]
 
 pub exchange-other : (x y d : Dart) → ((d ≡ x) → ⊥) → ((d ≡ y) → ⊥) → exchange x y d ≡ d
 unfolding exchange
 exchange-other x y d p q = rw (sameDart-false d x p, sameDart-false d y q)
 
 -- the three cases, as one rule
-pub exchange-by : (P : Dart → Dart → Type 0) (x y : Dart) → P x y → P y x → ((d : Dart) → ((d ≡ x) → ⊥) → ((d ≡ y) → ⊥) → P d d) → (d : Dart) → P d (exchange x y d)
+pub exchange-by : (P : Dart → Dart → Type 0) (x y : Dart) → P x y → P y x
+    → ((d : Dart) → ((d ≡ x) → ⊥) → ((d ≡ y) → ⊥) → P d d) → (d : Dart) → P d (exchange x y d)
 exchange-by P x y px py po d = elim (sameDart? d x) [
   | inl e ↦ rw (e, exchange-left x y) px
-  | inr n ↦ elim (sameDart? d y) [ inl e ↦ rw (e, exchange-right x y) py | inr k ↦ rw (exchange-other x y d n k) (po d n k) ]
+  | inr n ↦ elim (sameDart? d y) [
+    | inl e ↦ rw (e, exchange-right x y) py
+    | inr k ↦ rw (exchange-other x y d n k)
+        (po d n k)
+  ]
 ]
 
 pub exchange-alike : {B : Type 0} (f : Dart → B) (x y : Dart) → f x ≡ f y → (d : Dart) → f (exchange x y d) ≡ f d
 exchange-alike f x y e = exchange-by (λ d c. f c ≡ f d) x y (sym e) e (λ d p q. refl)
 
-pub exchange-in : {ds : List Dart} (x y : Dart) → List·Memᴰ x ds → List·Memᴰ y ds → (d : Dart) → List·Memᴰ d ds → List·Memᴰ (exchange x y d) ds
+pub exchange-in : {ds : List Dart} (x y : Dart) → List·Memᴰ x ds → List·Memᴰ y ds → (d : Dart) → List·Memᴰ d ds
+    → List·Memᴰ (exchange x y d) ds
 exchange-in {ds} x y mx my = exchange-by (λ d c. List·Memᴰ d ds → List·Memᴰ c ds) x y (λ m. my) (λ m. mx) (λ d p q m. m)
 
 exchange-twice : (x y d : Dart) → exchange x y (exchange x y d) ≡ d
-exchange-twice x y = exchange-by (λ d c. exchange x y c ≡ d) x y (exchange-right x y) (exchange-left x y) (λ d p q. exchange-other x y d p q)
+exchange-twice x y = exchange-by (λ d c. exchange x y c ≡ d) x y (exchange-right x y) (exchange-left x y)
+    (λ d p q. exchange-other x y d p q)
 
 -- ---- L: `hook` keeps Linked where both darts arrive at one node and bear one face
 
-module _ {es : List Arc} {tail : Dart → ℕ} {next : Dart → Dart} {face : Dart → ℕ} (l : Linked es tail next face) (dis : Distinct (nums es)) where
-  pub hook-linked : (x y : Dart) → List·Memᴰ x (darts es) → List·Memᴰ y (darts es) → tail (rev x) ≡ tail (rev y) → face x ≡ face y → Linked es tail (hook x y next) face
+module _ {es : List Arc} {tail : Dart → ℕ} {next : Dart → Dart} {face : Dart → ℕ} (l : Linked es tail next face)
+    (dis : Distinct (nums es)) where
+  pub hook-linked : (x y : Dart) → List·Memᴰ x (darts es) → List·Memᴰ y (darts es) → tail (rev x) ≡ tail (rev y)
+      → face x ≡ face y → Linked es tail (hook x y next) face
   hook-linked x y mx my t f = record {
     starts = l .starts;
     ends = l .ends;
-    perm = List·Permᴰ·trans (subst (λ k. List·Permᴰ (map (hook x y next) (darts es)) k) (sym (map-map next (exchange x y) (darts es))) (refl-perm (darts es))) (List·Permᴰ·trans (Permᴰ·map next exchanged) (l .perm));
+    perm = List·Permᴰ·trans (subst (λ k. List·Permᴰ (map (hook x y next) (darts es)) k)
+        (sym (map-map next (exchange x y) (darts es))) (refl-perm (darts es)))
+        (List·Permᴰ·trans (Permᴰ·map next exchanged) (l .perm));
     meets = λ d m. l .meets (exchange x y d) (exchange-in x y mx my d m) ∙ exchange-alike (λ d. tail (rev d)) x y t d;
     keeps = λ d m. l .keeps (exchange x y d) (exchange-in x y mx my d m) ∙ exchange-alike face x y f d;
   }
@@ -86,7 +108,8 @@ module _ {es : List Arc} {tail : Dart → ℕ} {next : Dart → Dart} {face : Da
       refl-perm ds = mathlib.Core.List.Permᴰ·refl (map (hook x y next) ds)
 
       exchanged : List·Permᴰ (map (exchange x y) (darts es)) (darts es)
-      exchanged = perm-of-injective (exchange x y) (darts es) (distinct-darts es dis) (exchange-in x y mx my) (λ c d m n e. sym (exchange-twice x y c) ∙ ap (exchange x y) e ∙ exchange-twice x y d)
+      exchanged = perm-of-injective (exchange x y) (darts es) (distinct-darts es dis) (exchange-in x y mx my)
+          (λ c d m n e. sym (exchange-twice x y c) ∙ ap (exchange x y) e ∙ exchange-twice x y d)
 
 -- ---- a lone edge is added
 
@@ -98,20 +121,34 @@ pub with-bwd : {B : Type 0} (e : ℕ) (u v : B) (f : Dart → B) → with-edge e
 unfolding with-edge
 with-bwd e u v f = rw (same-refl e)
 
-pub with-other : {B : Type 0} (e : ℕ) (u v : B) (f : Dart → B) (d : Dart) → ((d .edge ≡ e) → ⊥) → with-edge e u v f d ≡ f d
+pub with-other : {B : Type 0} (e : ℕ) (u v : B) (f : Dart → B) (d : Dart) → ((d .edge ≡ e) → ⊥) → with-edge e u v f d
+    ≡ f d
 unfolding with-edge
 with-other e u v f d h = rw (same-false (d .edge) e h)
 
-module _ {a : Arc} {es : List Arc} (fresh : Fresh a es) {tail : Dart → ℕ} {next : Dart → Dart} {face : Dart → ℕ} (φ : ℕ) (l : Linked es tail next face) where
-  pub lone-linked : Linked (a ∷ es) (with-edge (a .num) (a .from) (a .to) tail) (lone (a .num) next) (with-edge (a .num) φ φ face)
+module _ {a : Arc} {es : List Arc} (fresh : Fresh a es) {tail : Dart → ℕ} {next : Dart → Dart} {face : Dart → ℕ}
+    (φ : ℕ) (l : Linked es tail next face) where
+  pub lone-linked : Linked (a ∷ es) (with-edge (a .num) (a .from) (a .to) tail) (lone (a .num) next)
+      (with-edge (a .num) φ φ face)
   lone-linked = record {
-    starts = each-cons {p = λ b. tail⁺ (fwd (b .num)) ≡ b .from} (with-fwd e (a .from) (a .to) tail) (λ b m. old (a .from) (a .to) tail (fwd (b .num)) (fwd-in m) ∙ l .starts b m);
-    ends = each-cons {p = λ b. tail⁺ (bwd (b .num)) ≡ b .to} (with-bwd e (a .from) (a .to) tail) (λ b m. old (a .from) (a .to) tail (bwd (b .num)) (bwd-in m) ∙ l .ends b m);
-    perm = List·Permᴰ·trans (List·Permᴰ·swap to-bwd to-fwd) (List·Permᴰ·cons refl (List·Permᴰ·cons refl (subst (λ k. List·Permᴰ k (darts es)) (sym (map-cong next⁺ next (darts es) (old (bwd e) (fwd e) next))) (l .perm))));
-    meets = each-cons {p = λ d. tail⁺ (next⁺ d) ≡ tail⁺ (rev d)} (ap tail⁺ to-bwd) (each-cons {p = λ d. tail⁺ (next⁺ d) ≡ tail⁺ (rev d)} (ap tail⁺ to-fwd)
-        (λ d m. ap tail⁺ (old (bwd e) (fwd e) next d m) ∙ old (a .from) (a .to) tail (next d) (next-in l m) ∙ l .meets d m ∙ sym (old (a .from) (a .to) tail (rev d) (rev-in es m))));
-    keeps = each-cons {p = λ d. face⁺ (next⁺ d) ≡ face⁺ d} (ap face⁺ to-bwd ∙ with-bwd e φ φ face ∙ sym (with-fwd e φ φ face)) (each-cons {p = λ d. face⁺ (next⁺ d) ≡ face⁺ d} (ap face⁺ to-fwd ∙ with-fwd e φ φ face ∙ sym (with-bwd e φ φ face))
-        (λ d m. ap face⁺ (old (bwd e) (fwd e) next d m) ∙ old φ φ face (next d) (next-in l m) ∙ l .keeps d m ∙ sym (old φ φ face d m)));
+    starts = each-cons {p = λ b. tail⁺ (fwd (b .num)) ≡ b .from} (with-fwd e (a .from) (a .to) tail)
+        (λ b m. old (a .from) (a .to) tail (fwd (b .num)) (fwd-in m) ∙ l .starts b m);
+    ends = each-cons {p = λ b. tail⁺ (bwd (b .num)) ≡ b .to} (with-bwd e (a .from) (a .to) tail)
+        (λ b m. old (a .from) (a .to) tail (bwd (b .num)) (bwd-in m) ∙ l .ends b m);
+    perm = List·Permᴰ·trans (List·Permᴰ·swap to-bwd to-fwd)
+        (List·Permᴰ·cons refl (List·Permᴰ·cons refl
+        (subst (λ k. List·Permᴰ k (darts es)) (sym (map-cong next⁺ next (darts es) (old (bwd e) (fwd e) next)))
+        (l .perm))));
+    meets = each-cons {p = λ d. tail⁺ (next⁺ d) ≡ tail⁺ (rev d)} (ap tail⁺ to-bwd)
+        (each-cons {p = λ d. tail⁺ (next⁺ d) ≡ tail⁺ (rev d)} (ap tail⁺ to-fwd)
+        (λ d m. ap tail⁺ (old (bwd e) (fwd e) next d m) ∙ old (a .from) (a .to) tail (next d) (next-in l m)
+        ∙ l .meets d m ∙ sym (old (a .from) (a .to) tail (rev d) (rev-in es m))));
+    keeps = each-cons {p = λ d. face⁺ (next⁺ d) ≡ face⁺ d}
+        (ap face⁺ to-bwd ∙ with-bwd e φ φ face ∙ sym (with-fwd e φ φ face))
+        (each-cons {p = λ d. face⁺ (next⁺ d) ≡ face⁺ d}
+        (ap face⁺ to-fwd ∙ with-fwd e φ φ face ∙ sym (with-bwd e φ φ face))
+        (λ d m. ap face⁺ (old (bwd e) (fwd e) next d m) ∙ old φ φ face (next d) (next-in l m) ∙ l .keeps d m
+        ∙ sym (old φ φ face d m)));
   }
     where
       e : ℕ

@@ -8,7 +8,7 @@ use Prim.Native.Nat.{ℕ, zero, suc, _+_, _≤_}
 use native.Mathlib.Omega.{arith}
 use lib.ListN.{length}
 use Rattle.lists.specs.Tests.{_⊕_, same, iterate}
-use Rattle.lists.specs.Scans.{count}
+use Rattle.lists.specs.Scans.{countOf}
 use Rattle.lists.specs.Members.{Distinct}
 use Rattle.lists.proofs.Bools.{eq4, which, same-refl, same-true, beq-refl, beq-true, or-true, or-right, not-true}
 use Rattle.lists.proofs.Perms.{perm-in}
@@ -159,7 +159,7 @@ sameDart-true c d e = λ i. record { edge = p i; back = q i }
     q = beq-true (c .back) (d .back) (and-eq-true-iff (same (c .edge) (d .edge)) (Bool·beq (c .back) (d .back)) .0 e .1)
 
 -- where none stands twice, each is counted once
-pub dart-once : (ds : List Dart) → Distinct ds → {d : Dart} → List·Memᴰ d ds → count (sameDart d) ds ≡ 1
+pub dart-once : (ds : List Dart) → Distinct ds → {d : Dart} → List·Memᴰ d ds → countOf (sameDart d) ds ≡ 1
 dart-once ds dis {d} k = count-once (sameDart d) ds dis k (sameDart-refl d) (sameDart-true d)
 
 -- d is among the first k + 1 darts from d₁ on
@@ -212,7 +212,8 @@ module _ (f : Dart → Dart) (ds : List Dart) (stays : (d : Dart) → List·Mem�
   iterate-in (suc k) = stays (iterate k f d₁) (iterate-in k)
 
   -- the walk meets a dart again: it cannot go on for longer than the list of darts
-  closes : (n k : ℕ) → length ds ≤ count (walked f d₁ k) ds + n → (k : ℕ) × (walked f d₁ k (f (iterate k f d₁)) ≡ true)
+  closes : (n k : ℕ) → length ds ≤ countOf (walked f d₁ k) ds + n → (k : ℕ)
+      × (walked f d₁ k (f (iterate k f d₁)) ≡ true)
   unfolding walked
   closes zero k h = (
     k,
@@ -221,13 +222,14 @@ module _ (f : Dart → Dart) (ds : List Dart) (stays : (d : Dart) → List·Mem�
   )
   closes (suc n) k h = step (closes n (suc k)) (which (walked f d₁ k (f (iterate k f d₁))))
     where
-      more : walked f d₁ k (f (iterate k f d₁)) ≡ false → count (walked f d₁ (suc k)) ds ≤ count (walked f d₁ k) ds → ⊥
+      more : walked f d₁ k (f (iterate k f d₁)) ≡ false → countOf (walked f d₁ (suc k)) ds ≤ countOf (walked f d₁ k) ds
+          → ⊥
       more off le =
           true≢false (sym (walked-here f d₁ (suc k)) ∙ count-tight (walked f d₁ k) (walked f d₁ (suc k)) ds
           (λ d m e. or-right (sameDart d (f (iterate k f d₁))) (walked f d₁ k d) e) le (f (iterate k f d₁))
           (iterate-in (suc k)) ∙ off)
 
-      step : (length ds ≤ count (walked f d₁ (suc k)) ds + n → (k : ℕ) × (walked f d₁ k (f (iterate k f d₁)) ≡ true))
+      step : (length ds ≤ countOf (walked f d₁ (suc k)) ds + n → (k : ℕ) × (walked f d₁ k (f (iterate k f d₁)) ≡ true))
           → (walked f d₁ k (f (iterate k f d₁)) ≡ true) ⊎ (walked f d₁ k (f (iterate k f d₁)) ≡ false)
           → (k : ℕ) × (walked f d₁ k (f (iterate k f d₁)) ≡ true)
       step ih (inl e) = (k, e)

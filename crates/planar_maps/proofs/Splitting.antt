@@ -1,7 +1,8 @@
 -- An edge of a planar map is split at a new node. Assumes nothing.
 use mathlib.Core.Path.{_≡_, refl, sym, ap, _∙_, subst}
 use mathlib.Core.Logic.{_⊎_, inl, inr}
-use mathlib.Core.List.{List, [], _∷_, map, map-map, List·Memᴰ, List·Memᴰ·head, List·Memᴰ·tail, List·Memᴰ·cases-cons, Memᴰ·cast, List·Permᴰ, List·Permᴰ·cons, List·Permᴰ·swap, List·Permᴰ·trans, Permᴰ·map}
+use mathlib.Core.List.{List, [], _∷_, map, map-map, List·Memᴰ, List·Memᴰ·head, List·Memᴰ·tail, List·Memᴰ·cases-cons}
+use mathlib.Core.List.{Memᴰ·cast, List·Permᴰ, List·Permᴰ·cons, List·Permᴰ·swap, List·Permᴰ·trans, Permᴰ·map}
 use Prim.Native.Nat.{ℕ, zero, suc}
 use Rattle.lists.specs.Tests.{iterate}
 use Rattle.lists.proofs.Members.{each-cons, map-cong}
@@ -16,8 +17,10 @@ use Rattle.planar_maps.proofs.Hooks.{sameDart-false, fwd≢bwd, fresh-d
 use Rattle.planar_maps.proofs.Subdivide.{arc, halves, subdivide-keeps}
 use Rattle.planar_maps.proofs.Euler.{euler-subdivide}
 
-rev3 : {A : Type 0} {a b c a′ b′ c′ : A} {k : List A} → a ≡ a′ → b ≡ b′ → c ≡ c′ → List·Permᴰ (a ∷ b ∷ c ∷ k) (c′ ∷ b′ ∷ a′ ∷ k)
-rev3 p q r = List·Permᴰ·trans (List·Permᴰ·swap p q) (List·Permᴰ·trans (List·Permᴰ·cons refl (List·Permᴰ·swap refl r)) (List·Permᴰ·swap refl refl))
+rev3 : {A : Type 0} {a b c a′ b′ c′ : A} {k : List A} → a ≡ a′ → b ≡ b′ → c ≡ c′
+    → List·Permᴰ (a ∷ b ∷ c ∷ k) (c′ ∷ b′ ∷ a′ ∷ k)
+rev3 p q r = List·Permᴰ·trans (List·Permᴰ·swap p q)
+    (List·Permᴰ·trans (List·Permᴰ·cons refl (List·Permᴰ·swap refl r)) (List·Permᴰ·swap refl refl))
 
 pub renamed-at : (e e′ : ℕ) → renamed e e′ (bwd e) ≡ bwd e′
 unfolding renamed
@@ -28,14 +31,21 @@ unfolding renamed
 renamed-other e e′ d h = rw (sameDart-false d (bwd e) h)
 
 -- a dart departs from a node of the list
-pub tail-in : {nodes : List ℕ} {es : List Arc} {tail : Dart → ℕ} {next : Dart → Dart} {face : Dart → ℕ} → Linked es tail next face → Within nodes es → {d : Dart} → List·Memᴰ d (darts es) → List·Memᴰ (tail d) nodes
+pub tail-in : {nodes : List ℕ} {es : List Arc} {tail : Dart → ℕ} {next : Dart → Dart} {face : Dart → ℕ}
+    → Linked es tail next face → Within nodes es → {d : Dart} → List·Memᴰ d (darts es) → List·Memᴰ (tail d) nodes
 tail-in {nodes} {es} {tail} l w {d} m = go (dart-cases es m)
   where
     go : (a : Arc) × List·Memᴰ a es × ((d ≡ fwd (a .num)) ⊎ (d ≡ bwd (a .num))) → List·Memᴰ (tail d) nodes
-    go r = elim (r .2) [ inl e ↦ Memᴰ·cast (ap tail e ∙ l .starts (r .0) (r .1)) (w .starts (r .0) (r .1)) | inr e ↦ Memᴰ·cast (ap tail e ∙ l .ends (r .0) (r .1)) (w .ends (r .0) (r .1)) ]
+    go r = elim (r .2) [
+      | inl e ↦ Memᴰ·cast (ap tail e ∙ l .starts (r .0) (r .1))
+          (w .starts (r .0) (r .1))
+      | inr e ↦ Memᴰ·cast (ap tail e ∙ l .ends (r .0) (r .1)) (w .ends (r .0) (r .1))
+    ]
 
-module _ (e e′ s n t : ℕ) (es : List Arc) {nodes : List ℕ} {tail : Dart → ℕ} {next : Dart → Dart} {face : Dart → ℕ} {faces : ℕ}
-    (o : Planar nodes (arc e s t ∷ es) tail next face faces) (fresh : List·Memᴰ e′ (e ∷ nums es) → ⊥) (new : List·Memᴰ n nodes → ⊥) where
+module _ (e e′ s n t : ℕ) (es : List Arc) {nodes : List ℕ} {tail : Dart → ℕ} {next : Dart → Dart} {face : Dart
+    → ℕ} {faces : ℕ}
+    (o : Planar nodes (arc e s t ∷ es) tail next face faces) (fresh : List·Memᴰ e′ (e ∷ nums es) → ⊥)
+    (new : List·Memᴰ n nodes → ⊥) where
   f : Dart
   f = fwd e
 
@@ -113,7 +123,8 @@ module _ (e e′ s n t : ℕ) (es : List Arc) {nodes : List ℕ} {tail : Dart �
 
   F-W : (d : Dart) → List·Memᴰ d W → F d ≡ face d
   unfolding F W
-  F-W = each-cons {p = λ d. F d ≡ face d} (at (fwd e) e≢e′) (each-cons {p = λ d. F d ≡ face d} (at (bwd e) e≢e′) (λ d m. at d (old-e′ m)))
+  F-W = each-cons {p = λ d. F d ≡ face d} (at (fwd e) e≢e′)
+      (each-cons {p = λ d. F d ≡ face d} (at (bwd e) e≢e′) (λ d m. at d (old-e′ m)))
     where
       at : (d : Dart) → ((d .edge ≡ e′) → ⊥) → F d ≡ face d
       at d h = with-other e′ (face (fwd e)) (face (bwd e)) face d h
@@ -150,17 +161,21 @@ module _ (e e′ s n t : ℕ) (es : List Arc) {nodes : List ℕ} {tail : Dart �
   unfolding W
   in-old m = List·Memᴰ·tail (List·Memᴰ·tail m)
 
-  all-W : (p : Dart → Type 0) → p f → p b → ((d : Dart) → List·Memᴰ d (darts es) → p d) → (d : Dart) → List·Memᴰ d W → p d
+  all-W : (p : Dart → Type 0) → p f → p b → ((d : Dart) → List·Memᴰ d (darts es) → p d) → (d : Dart) → List·Memᴰ d W
+      → p d
   unfolding f b W
   all-W p pf pb pd = each-cons {p = p} pf (each-cons {p = p} pb pd)
 
-  all-H : (p : Dart → Type 0) → p f → p b → p f′ → p b′ → ((d : Dart) → List·Memᴰ d (darts es) → p d) → (d : Dart) → List·Memᴰ d H → p d
+  all-H : (p : Dart → Type 0) → p f → p b → p f′ → p b′ → ((d : Dart) → List·Memᴰ d (darts es) → p d) → (d : Dart)
+      → List·Memᴰ d H → p d
   unfolding f b f′ b′ H
-  all-H p pf pb pf′ pb′ pd = each-cons {p = p} pf (each-cons {p = p} pb (each-cons {p = p} pf′ (each-cons {p = p} pb′ pd)))
+  all-H p pf pb pf′ pb′ pd = each-cons {p = p} pf
+      (each-cons {p = p} pb (each-cons {p = p} pf′ (each-cons {p = p} pb′ pd)))
 
   T-σ : (d : Dart) → List·Memᴰ d W → T (σ d) ≡ tail d
   unfolding f b
-  T-σ = all-W (λ d. T (σ d) ≡ tail d) (ap T σ-f ∙ T-f ∙ sym (o .linked .starts (arc e s t) (List·Memᴰ·head refl))) (ap T σ-b ∙ T-b′ ∙ sym (o .linked .ends (arc e s t) (List·Memᴰ·head refl))) (λ d m. ap T (σ-old m) ∙ T-old m)
+  T-σ = all-W (λ d. T (σ d) ≡ tail d) (ap T σ-f ∙ T-f ∙ sym (o .linked .starts (arc e s t) (List·Memᴰ·head refl)))
+      (ap T σ-b ∙ T-b′ ∙ sym (o .linked .ends (arc e s t) (List·Memᴰ·head refl))) (λ d m. ap T (σ-old m) ∙ T-old m)
 
   F-f′ : F f′ ≡ face f
   unfolding F f f′
@@ -171,7 +186,8 @@ module _ (e e′ s n t : ℕ) (es : List Arc) {nodes : List ℕ} {tail : Dart �
   F-b′ = with-bwd e′ (face (fwd e)) (face (bwd e)) face
 
   F-σ : (d : Dart) → List·Memᴰ d W → F (σ d) ≡ face d
-  F-σ = all-W (λ d. F (σ d) ≡ face d) (ap F σ-f ∙ F-W f in-f) (ap F σ-b ∙ F-b′) (λ d m. ap F (σ-old m) ∙ F-W d (in-old m))
+  F-σ = all-W (λ d. F (σ d) ≡ face d) (ap F σ-f ∙ F-W f in-f) (ap F σ-b ∙ F-b′)
+      (λ d m. ap F (σ-old m) ∙ F-W d (in-old m))
 
   nxt : {d : Dart} → List·Memᴰ d W → List·Memᴰ (next d) W
   unfolding W
@@ -195,7 +211,8 @@ module _ (e e′ s n t : ℕ) (es : List Arc) {nodes : List ℕ} {tail : Dart �
 
   perm : List·Permᴰ (map N H) H
   unfolding H f b f′ b′
-  perm = List·Permᴰ·trans (List·Permᴰ·cons N-f (rev3 N-b N-f′ N-b′)) (List·Permᴰ·trans (List·Permᴰ·cons refl (List·Permᴰ·cons refl middle)) (rev3 refl refl refl))
+  perm = List·Permᴰ·trans (List·Permᴰ·cons N-f (rev3 N-b N-f′ N-b′))
+      (List·Permᴰ·trans (List·Permᴰ·cons refl (List·Permᴰ·cons refl middle)) (rev3 refl refl refl))
     where
       rest : map N (darts es) ≡ map σ (map next (darts es))
       rest = map-cong N (λ d. σ (next d)) (darts es) N-old ∙ sym (map-map σ next (darts es))
@@ -211,31 +228,43 @@ module _ (e e′ s n t : ℕ) (es : List Arc) {nodes : List ℕ} {tail : Dart �
       moved = Permᴰ·map σ (o .linked .perm)
 
       middle : List·Permᴰ (σ (next f) ∷ σ (next b) ∷ map N (darts es)) (f ∷ b′ ∷ darts es)
-      middle = subst (λ k. List·Permᴰ (σ (next f) ∷ σ (next b) ∷ k) (f ∷ b′ ∷ darts es)) (sym rest) (subst (λ k. List·Permᴰ (σ (next f) ∷ σ (next b) ∷ map σ (map next (darts es))) k) (λ i. σ-f i ∷ σ-b i ∷ same-list i) moved)
+      middle = subst (λ k. List·Permᴰ (σ (next f) ∷ σ (next b) ∷ k) (f ∷ b′ ∷ darts es)) (sym rest)
+          (subst (λ k. List·Permᴰ (σ (next f) ∷ σ (next b) ∷ map σ (map next (darts es))) k)
+          (λ i. σ-f i ∷ σ-b i ∷ same-list i) moved)
 
   halves-linked : Linked (halves e e′ s n t es) T N F
   unfolding H f b f′ b′
   halves-linked = record {
-    starts = each-cons {p = λ a. T (fwd (a .num)) ≡ a .from} T-f (each-cons {p = λ a. T (fwd (a .num)) ≡ a .from} T-f′ (λ a m. T-old (fwd-in m) ∙ o .linked .starts a (List·Memᴰ·tail m)));
-    ends = each-cons {p = λ a. T (bwd (a .num)) ≡ a .to} T-b (each-cons {p = λ a. T (bwd (a .num)) ≡ a .to} T-b′ (λ a m. T-old (bwd-in m) ∙ o .linked .ends a (List·Memᴰ·tail m)));
+    starts = each-cons {p = λ a. T (fwd (a .num)) ≡ a .from} T-f
+        (each-cons {p = λ a. T (fwd (a .num)) ≡ a .from} T-f′
+        (λ a m. T-old (fwd-in m) ∙ o .linked .starts a (List·Memᴰ·tail m)));
+    ends = each-cons {p = λ a. T (bwd (a .num)) ≡ a .to} T-b
+        (each-cons {p = λ a. T (bwd (a .num)) ≡ a .to} T-b′
+        (λ a m. T-old (bwd-in m) ∙ o .linked .ends a (List·Memᴰ·tail m)));
     perm = perm;
-    meets = all-H (λ d. T (N d) ≡ T (rev d)) (ap T N-f ∙ T-f′ ∙ sym T-b) (ap T N-b ∙ met in-b ∙ tail-f ∙ sym T-f) (ap T N-f′ ∙ met in-f ∙ tail-b ∙ sym T-b′) (ap T N-b′ ∙ T-b ∙ sym T-f′)
+    meets = all-H (λ d. T (N d) ≡ T (rev d)) (ap T N-f ∙ T-f′ ∙ sym T-b) (ap T N-b ∙ met in-b ∙ tail-f ∙ sym T-f)
+        (ap T N-f′ ∙ met in-f ∙ tail-b ∙ sym T-b′) (ap T N-b′ ∙ T-b ∙ sym T-f′)
         (λ d m. ap T (N-old d m) ∙ met (in-old m) ∙ sym (T-old (rev-in es m)));
-    keeps = all-H (λ d. F (N d) ≡ F d) (ap F N-f ∙ F-f′ ∙ sym (F-W f in-f)) (ap F N-b ∙ kept in-b ∙ sym (F-W b in-b)) (ap F N-f′ ∙ kept in-f ∙ sym F-f′) (ap F N-b′ ∙ F-W b in-b ∙ sym F-b′)
+    keeps = all-H (λ d. F (N d) ≡ F d) (ap F N-f ∙ F-f′ ∙ sym (F-W f in-f)) (ap F N-b ∙ kept in-b ∙ sym (F-W b in-b))
+        (ap F N-f′ ∙ kept in-f ∙ sym F-f′) (ap F N-b′ ∙ F-W b in-b ∙ sym F-b′)
         (λ d m. ap F (N-old d m) ∙ kept (in-old m) ∙ sym (F-W d (in-old m)));
   }
 
   -- the turn is the old one, renamed; about n there are just -e and e′
   turned : (d : Dart) → List·Memᴰ d W → turn N (σ d) ≡ σ (turn next d)
   unfolding f b f′ b′
-  turned = all-W (λ d. turn N (σ d) ≡ σ (turn next d)) (ap (turn N) σ-f ∙ N-b) (ap (turn N) σ-b ∙ N-f′) (λ d m. ap (turn N) (σ-old m) ∙ N-old (rev d) (rev-in es m))
+  turned = all-W (λ d. turn N (σ d) ≡ σ (turn next d)) (ap (turn N) σ-f ∙ N-b) (ap (turn N) σ-b ∙ N-f′)
+      (λ d m. ap (turn N) (σ-old m) ∙ N-old (rev d) (rev-in es m))
 
-  turns : (k : ℕ) (d : Dart) → List·Memᴰ d W → List·Memᴰ (iterate k (turn next) d) W × (iterate k (turn N) (σ d) ≡ σ (iterate k (turn next) d))
+  turns : (k : ℕ) (d : Dart) → List·Memᴰ d W → List·Memᴰ (iterate k (turn next) d) W
+      × (iterate k (turn N) (σ d) ≡ σ (iterate k (turn next) d))
   unfolding W
   turns zero d m = (m, refl)
   turns (suc k) d m = go (turns k d m)
     where
-      go : List·Memᴰ (iterate k (turn next) d) W × (iterate k (turn N) (σ d) ≡ σ (iterate k (turn next) d)) → List·Memᴰ (turn next (iterate k (turn next) d)) W × (turn N (iterate k (turn N) (σ d)) ≡ σ (turn next (iterate k (turn next) d)))
+      go : List·Memᴰ (iterate k (turn next) d) W × (iterate k (turn N) (σ d) ≡ σ (iterate k (turn next) d))
+          → List·Memᴰ (turn next (iterate k (turn next) d)) W
+          × (turn N (iterate k (turn N) (σ d)) ≡ σ (turn next (iterate k (turn next) d)))
       go r = (nxt (back (r .0)), ap (turn N) (r .1) ∙ turned (iterate k (turn next) d) (r .0))
         where
           back : {d : Dart} → List·Memᴰ d W → List·Memᴰ (rev d) W
@@ -246,7 +275,8 @@ module _ (e e′ s n t : ℕ) (es : List Arc) {nodes : List ℕ} {tail : Dart �
 
   kind : (d : Dart) → List·Memᴰ d H → Kind d
   unfolding Kind
-  kind = all-H (λ d. Kind d) (inl (f, in-f, sym σ-f)) (inr (inl refl)) (inr (inr refl)) (inl (b, in-b, sym σ-b)) (λ d m. inl (d, in-old m, sym (σ-old m)))
+  kind = all-H (λ d. Kind d) (inl (f, in-f, sym σ-f)) (inr (inl refl)) (inr (inr refl)) (inl (b, in-b, sym σ-b))
+      (λ d m. inl (d, in-old m, sym (σ-old m)))
 
   not-n : {c : Dart} → List·Memᴰ c W → (tail c ≡ n) → ⊥
   unfolding W
@@ -271,28 +301,47 @@ module _ (e e′ s n t : ℕ) (es : List Arc) {nodes : List ℕ} {tail : Dart �
       go (inr p) (inr p′) = about-n d d′ p p′
       go (inr p) (inl r) = absurd (not-n (r .1) (sym (T-σ (r .0) (r .1)) ∙ ap T (sym (r .2)) ∙ sym q ∙ at-n p))
       go (inl r) (inr p) = absurd (not-n (r .1) (sym (T-σ (r .0) (r .1)) ∙ ap T (sym (r .2)) ∙ q ∙ at-n p))
-      go (inl r) (inl r′) = (old .0, ap (iterate (old .0) (turn N)) (r .2) ∙ turns (old .0) (r .0) (r .1) .1 ∙ ap σ (old .1) ∙ sym (r′ .2))
+      go (inl r) (inl r′) = (
+        old .0,
+        ap (iterate (old .0) (turn N)) (r .2) ∙ turns (old .0) (r .0) (r .1) .1
+            ∙ ap σ (old .1) ∙ sym (r′ .2),
+      )
         where
           old : Leads (turn next) (r .0) (r′ .0)
-          old = o .one-turn (r .0) (r′ .0) (r .1) (r′ .1) (sym (T-σ (r .0) (r .1)) ∙ ap T (sym (r .2)) ∙ q ∙ ap T (r′ .2) ∙ T-σ (r′ .0) (r′ .1))
+          old = o .one-turn (r .0) (r′ .0) (r .1) (r′ .1)
+              (sym (T-σ (r .0) (r .1)) ∙ ap T (sym (r .2)) ∙ q ∙ ap T (r′ .2) ∙ T-σ (r′ .0) (r′ .1))
 
-  pub planar-subdivide : Planar (n ∷ nodes) (arc e s n ∷ arc e′ n t ∷ es) (split-tail e e′ s n t tail) (split-next e e′ next) (split-face e e′ face) faces
+  pub planar-subdivide : Planar (n ∷ nodes) (arc e s n ∷ arc e′ n t ∷ es) (split-tail e e′ s n t tail)
+      (split-next e e′ next) (split-face e e′ face) faces
   unfolding T N F W f b f′ b′
   planar-subdivide = record {
     nodes-once = (new, o .nodes-once);
-    edges-once = (λ m. elim (List·Memᴰ·cases-cons m) [ inl p ↦ e≢e′ p | inr k ↦ o .edges-once .0 k ], (λ m. fresh (List·Memᴰ·tail m), o .edges-once .1));
+    edges-once = (
+      λ m. elim (List·Memᴰ·cases-cons m) [ inl p ↦ e≢e′ p | inr k ↦ o .edges-once .0 k ],
+      (λ m. fresh (List·Memᴰ·tail m), o .edges-once .1),
+    );
     within = record {
-      starts = each-cons {p = λ a. List·Memᴰ (a .from) (n ∷ nodes)} (List·Memᴰ·tail (o .within .starts (arc e s t) (List·Memᴰ·head refl))) (each-cons {p = λ a. List·Memᴰ (a .from) (n ∷ nodes)} (List·Memᴰ·head refl) (λ a m. List·Memᴰ·tail (o .within .starts a (List·Memᴰ·tail m))));
-      ends = each-cons {p = λ a. List·Memᴰ (a .to) (n ∷ nodes)} (List·Memᴰ·head refl) (each-cons {p = λ a. List·Memᴰ (a .to) (n ∷ nodes)} (List·Memᴰ·tail (o .within .ends (arc e s t) (List·Memᴰ·head refl))) (λ a m. List·Memᴰ·tail (o .within .ends a (List·Memᴰ·tail m))));
+      starts = each-cons {p = λ a. List·Memᴰ (a .from) (n ∷ nodes)}
+          (List·Memᴰ·tail (o .within .starts (arc e s t) (List·Memᴰ·head refl)))
+          (each-cons {p = λ a. List·Memᴰ (a .from) (n ∷ nodes)} (List·Memᴰ·head refl)
+          (λ a m. List·Memᴰ·tail (o .within .starts a (List·Memᴰ·tail m))));
+      ends = each-cons {p = λ a. List·Memᴰ (a .to) (n ∷ nodes)} (List·Memᴰ·head refl)
+          (each-cons {p = λ a. List·Memᴰ (a .to) (n ∷ nodes)}
+          (List·Memᴰ·tail (o .within .ends (arc e s t) (List·Memᴰ·head refl)))
+          (λ a m. List·Memᴰ·tail (o .within .ends a (List·Memᴰ·tail m))));
     };
     linked = halves-linked;
     one-turn = halves-turn;
-    colouring = subdivide-keeps e e′ s n t es lone s≢n t≢n face F (record { others = F-W; left = F-f′; right = F-b′ }) (o .colouring);
+    colouring = subdivide-keeps e e′ s n t es lone s≢n t≢n face F (record { others = F-W; left = F-f′; right = F-b′ })
+        (o .colouring);
     euler = euler-subdivide e e′ s n t es nodes faces lone s≢n t≢n (new, o .nodes-once) (o .within) .0 (o .euler);
   }
     where
       lone : Isolated n es
-      lone = record { starts = λ a m p. new (Memᴰ·cast (sym p) (o .within .starts a (List·Memᴰ·tail m))); ends = λ a m p. new (Memᴰ·cast (sym p) (o .within .ends a (List·Memᴰ·tail m))) }
+      lone = record {
+        starts = λ a m p. new (Memᴰ·cast (sym p) (o .within .starts a (List·Memᴰ·tail m)));
+        ends = λ a m p. new (Memᴰ·cast (sym p) (o .within .ends a (List·Memᴰ·tail m)));
+      }
 
       s≢n : (s ≡ n) → ⊥
       s≢n p = new (Memᴰ·cast (sym p) (o .within .starts (arc e s t) (List·Memᴰ·head refl)))

@@ -10,7 +10,8 @@ use Rattle.planar_maps.specs.Map.{Arc, Dart, rev, darts, Linked}
 use Rattle.planar_maps.specs.Rings.{Leads, turn, Round, OneTurn}
 use Rattle.planar_maps.specs.Weave.{exchange, Corner, alone, after, tie, Fits}
 use Rattle.planar_maps.proofs.Rings.{rev-in, next-in}
-use Rattle.planar_maps.proofs.Hooks.{sameDart?, exchange-left, exchange-right, exchange-other, exchange-by, exchange-alike, exchange-in}
+use Rattle.planar_maps.proofs.Hooks.{sameDart?, exchange-left, exchange-right, exchange-other, exchange-by}
+use Rattle.planar_maps.proofs.Hooks.{exchange-alike, exchange-in}
 
 pub rev-rev : (d : Dart) → rev (rev d) ≡ d
 rev-rev d = λ i. record { edge = d .edge; back = Bool·not-not (d .back) i }
@@ -31,11 +32,17 @@ pub record Turning (ds : List Dart) (tail : Dart → ℕ) (f : Dart → Dart) : 
   pub stays : (d : Dart) → List·Memᴰ d ds → tail (f d) ≡ tail d
   pub round : Round ds tail f
 
-pub turning : {es : List Arc} {tail : Dart → ℕ} {next : Dart → Dart} {face : Dart → ℕ} → Linked es tail next face → OneTurn es tail next → Turning (darts es) tail (turn next)
-turning {es} {tail} l one = record { into = λ d m. next-in l (rev-in es m); stays = λ d m. l .meets (rev d) (rev-in es m) ∙ ap tail (rev-rev d); round = one }
+pub turning : {es : List Arc} {tail : Dart → ℕ} {next : Dart → Dart} {face : Dart → ℕ} → Linked es tail next face
+    → OneTurn es tail next → Turning (darts es) tail (turn next)
+turning {es} {tail} l one = record {
+  into = λ d m. next-in l (rev-in es m);
+  stays = λ d m. l .meets (rev d) (rev-in es m) ∙ ap tail (rev-rev d);
+  round = one;
+}
 
 -- a departure y is put in after x
-module _ {ds : List Dart} {tail : Dart → ℕ} {f : Dart → Dart} (t : Turning ds tail f) (y : Dart) (new : (d : Dart) → List·Memᴰ d ds → (d ≡ y) → ⊥) (fixed : f y ≡ y) where
+module _ {ds : List Dart} {tail : Dart → ℕ} {f : Dart → Dart} (t : Turning ds tail f) (y : Dart)
+    (new : (d : Dart) → List·Memᴰ d ds → (d ≡ y) → ⊥) (fixed : f y ≡ y) where
   both-into : (d : Dart) → List·Memᴰ d (y ∷ ds) → List·Memᴰ (f d) (y ∷ ds)
   both-into = each-cons {p = λ d. List·Memᴰ (f d) (y ∷ ds)} (List·Memᴰ·head fixed) (λ d m. List·Memᴰ·tail (t .into d m))
 
@@ -47,8 +54,16 @@ module _ {ds : List Dart} {tail : Dart → ℕ} {f : Dart → Dart} (t : Turning
     where
       round : Round (y ∷ ds) tail f
       round d d′ m m′ e = elim (List·Memᴰ·cases-cons m) [
-        | inl p ↦ elim (List·Memᴰ·cases-cons m′) [ inl q ↦ (zero, p ∙ sym q) | inr q ↦ absurd (none d′ q (sym e ∙ ap tail p)) ]
-        | inr p ↦ elim (List·Memᴰ·cases-cons m′) [ inl q ↦ absurd (none d p (e ∙ ap tail q)) | inr q ↦ t .round d d′ p q e ]
+        | inl p ↦ elim (List·Memᴰ·cases-cons m′) [
+          | inl q ↦ (zero, p ∙ sym q)
+          | inr q ↦ absurd
+              (none d′ q (sym e ∙ ap tail p))
+        ]
+        | inr p ↦ elim (List·Memᴰ·cases-cons m′) [
+          | inl q ↦ absurd
+              (none d p (e ∙ ap tail q))
+          | inr q ↦ t .round d d′ p q e
+        ]
       ]
 
   module _ (x : Dart) (mx : List·Memᴰ x ds) (at : tail x ≡ tail y) where
@@ -74,7 +89,8 @@ module _ {ds : List Dart} {tail : Dart → ℕ} {f : Dart → Dart} (t : Turning
     steps zero d m = (m, (zero, refl))
     steps (suc k) d m = go (steps k d m)
       where
-        go : List·Memᴰ (iterate k f d) ds × Leads f′ d (iterate k f d) → List·Memᴰ (f (iterate k f d)) ds × Leads f′ d (f (iterate k f d))
+        go : List·Memᴰ (iterate k f d) ds × Leads f′ d (iterate k f d) → List·Memᴰ (f (iterate k f d)) ds
+            × Leads f′ d (f (iterate k f d))
         go r = (t .into (iterate k f d) (r .0), leads-join (r .1) (step (iterate k f d) (r .0)))
 
     old : (d d′ : Dart) → List·Memᴰ d ds → List·Memᴰ d′ ds → tail d ≡ tail d′ → Leads f′ d d′
@@ -84,7 +100,8 @@ module _ {ds : List Dart} {tail : Dart → ℕ} {f : Dart → Dart} (t : Turning
     unfolding f′
     insert-after = record {
       into = λ d m. both-into (exchange x y d) (exchange-in x y (List·Memᴰ·tail mx) (List·Memᴰ·head refl) d m);
-      stays = λ d m. both-stays (exchange x y d) (exchange-in x y (List·Memᴰ·tail mx) (List·Memᴰ·head refl) d m) ∙ exchange-alike tail x y at d;
+      stays = λ d m. both-stays (exchange x y d) (exchange-in x y (List·Memᴰ·tail mx) (List·Memᴰ·head refl) d m)
+          ∙ exchange-alike tail x y at d;
       round = round;
     }
       where
@@ -96,8 +113,16 @@ module _ {ds : List Dart} {tail : Dart → ℕ} {f : Dart → Dart} (t : Turning
 
         round : Round (y ∷ ds) tail f′
         round d d′ m m′ e = elim (List·Memᴰ·cases-cons m) [
-          | inl p ↦ elim (List·Memᴰ·cases-cons m′) [ inl q ↦ (zero, p ∙ sym q) | inr q ↦ subst (λ c. Leads f′ c d′) (sym p) (from-y d′ q (ap tail (sym p) ∙ e)) ]
-          | inr p ↦ elim (List·Memᴰ·cases-cons m′) [ inl q ↦ subst (λ c. Leads f′ d c) (sym q) (to-y d p (e ∙ ap tail q)) | inr q ↦ old d d′ p q e ]
+          | inl p ↦ elim (List·Memᴰ·cases-cons m′) [
+            | inl q ↦ (zero, p ∙ sym q)
+            | inr q ↦ subst (λ c. Leads f′ c d′)
+                (sym p) (from-y d′ q (ap tail (sym p) ∙ e))
+          ]
+          | inr p ↦ elim (List·Memᴰ·cases-cons m′) [
+            | inl q ↦ subst (λ c. Leads f′ d c) (sym q)
+                (to-y d p (e ∙ ap tail q))
+            | inr q ↦ old d d′ p q e
+          ]
         ]
 
 -- ---- the same by `tie`
@@ -108,10 +133,13 @@ exchange-rev p z = exchange-by (λ d c. exchange p z (rev d) ≡ rev c) (rev p) 
     (ap (exchange p z) (rev-rev z) ∙ exchange-right p z ∙ sym (rev-rev p))
     (λ d n k. exchange-other p z (rev d) (λ e. n (sym (rev-rev d) ∙ ap rev e)) (λ e. k (sym (rev-rev d) ∙ ap rev e)))
 
-module _ {ds : List Dart} {tail : Dart → ℕ} (next : Dart → Dart) (t : Turning ds tail (turn next)) (z : Dart) (new : (d : Dart) → List·Memᴰ d ds → (d ≡ rev z) → ⊥) (fixed : next z ≡ rev z) where
+module _ {ds : List Dart} {tail : Dart → ℕ} (next : Dart → Dart) (t : Turning ds tail (turn next)) (z : Dart)
+    (new : (d : Dart) → List·Memᴰ d ds → (d ≡ rev z) → ⊥) (fixed : next z ≡ rev z) where
   turned : turn next (rev z) ≡ rev z
   turned = ap next (rev-rev z) ∙ fixed
 
-  pub tie-turning : (face : Dart → ℕ) (φ : ℕ) (k : Corner) → Fits ds tail face (tail (rev z)) φ k → Turning (rev z ∷ ds) tail (turn (tie k z next))
+  pub tie-turning : (face : Dart → ℕ) (φ : ℕ) (k : Corner) → Fits ds tail face (tail (rev z)) φ k
+      → Turning (rev z ∷ ds) tail (turn (tie k z next))
   tie-turning face φ alone none = insert-alone t (rev z) new turned none
-  tie-turning face φ (after p) fits = subst (λ f. Turning (rev z ∷ ds) tail f) (λ i d. next (sym (exchange-rev p z d) i)) (insert-after t (rev z) new turned (rev p) (fits .0) (fits .1))
+  tie-turning face φ (after p) fits = subst (λ f. Turning (rev z ∷ ds) tail f)
+      (λ i d. next (sym (exchange-rev p z d) i)) (insert-after t (rev z) new turned (rev p) (fits .0) (fits .1))

@@ -2,7 +2,8 @@
 use mathlib.Core.Path.{_≡_, refl, sym, ap, _∙_, subst}
 use mathlib.Core.Logic.{inl, inr}
 use mathlib.Core.Bool.{cond}
-use mathlib.Core.List.{List, _∷_, List·Memᴰ, List·Memᴰ·head, List·Memᴰ·tail, List·Memᴰ·cases-cons, Memᴰ·of-map, Permᴰ·symm}
+use mathlib.Core.List.{List, _∷_, List·Memᴰ, List·Memᴰ·head, List·Memᴰ·tail, List·Memᴰ·cases-cons, Memᴰ·of-map}
+use mathlib.Core.List.{Permᴰ·symm}
 use Prim.Native.Nat.{ℕ, zero, suc}
 use Rattle.lists.specs.Tests.{iterate}
 use Rattle.lists.specs.Members.{Distinct}
@@ -15,14 +16,18 @@ use Rattle.planar_maps.specs.Weave.{exchange, Corner, alone, after, tie,
 use Rattle.planar_maps.specs.Planar.{Planar}
 use Rattle.planar_maps.proofs.Bridges.{Shrunk, shrunk-keeps}
 use Rattle.planar_maps.proofs.Rings.{rev-in, next-in, sameDart-refl}
-use Rattle.planar_maps.proofs.Hooks.{sameDart?, sameDart-false, fwd≢bwd, fresh-dart, distinct-darts, exchange-left, exchange-right, exchange-other, exchange-by, exchange-alike, exchange-in, hook-linked}
+use Rattle.planar_maps.proofs.Hooks.{sameDart?, sameDart-false, fwd≢bwd, fresh-dart, distinct-darts}
+use Rattle.planar_maps.proofs.Hooks.{exchange-left, exchange-right, exchange-other, exchange-by, exchange-alike}
+use Rattle.planar_maps.proofs.Hooks.{exchange-in, hook-linked}
 use Rattle.planar_maps.proofs.Turns.{rev-rev, leads-join, Turning, turning, exchange-rev}
 use Rattle.planar_maps.proofs.Euler.{euler-split, euler-one-face}
 
 -- ---- a departure y is taken out; it came after x
 
-module _ {ds : List Dart} {tail : Dart → ℕ} {f : Dart → Dart} (y : Dart) (t : Turning (y ∷ ds) tail f) (new : (d : Dart) → List·Memᴰ d ds → (d ≡ y) → ⊥)
-    (x : Dart) (mx : List·Memᴰ x (y ∷ ds)) (x-y : f x ≡ y) (only : (d : Dart) → List·Memᴰ d (y ∷ ds) → f d ≡ y → d ≡ x) where
+module _ {ds : List Dart} {tail : Dart → ℕ} {f : Dart → Dart} (y : Dart) (t : Turning (y ∷ ds) tail f)
+    (new : (d : Dart) → List·Memᴰ d ds → (d ≡ y) → ⊥)
+    (x : Dart) (mx : List·Memᴰ x (y ∷ ds)) (x-y : f x ≡ y)
+    (only : (d : Dart) → List·Memᴰ d (y ∷ ds) → f d ≡ y → d ≡ x) where
   φ : Dart → Dart
   φ d = cond (sameDart d y) (f y) d
 
@@ -43,15 +48,21 @@ module _ {ds : List Dart} {tail : Dart → ℕ} {f : Dart → Dart} (y : Dart) (
     | inl e ↦ rw e (zero, φ-y ∙ elim (sameDart? (f y) y) [ inl q ↦ sym (ap φ q ∙ φ-y) | inr q ↦ sym (φ-other (f y) q) ])
     | inr n ↦ elim (sameDart? d x) [
       | inl e ↦ (suc zero, ap f′ (φ-other d n ∙ e) ∙ ap f (exchange-left x y) ∙ sym φ-y ∙ ap φ (sym x-y ∙ ap f (sym e)))
-      | inr k ↦ (suc zero, ap f′ (φ-other d n) ∙ ap f (exchange-other x y d k n) ∙ sym (φ-other (f d) (λ q. k (only d m q))))
+      | inr k ↦ (
+        suc zero,
+        ap f′ (φ-other d n) ∙ ap f (exchange-other x y d k n)
+            ∙ sym (φ-other (f d) (λ q. k (only d m q))),
+      )
     ]
   ]
 
-  steps : (k : ℕ) (d : Dart) → List·Memᴰ d (y ∷ ds) → List·Memᴰ (iterate k f d) (y ∷ ds) × Leads f′ (φ d) (φ (iterate k f d))
+  steps : (k : ℕ) (d : Dart) → List·Memᴰ d (y ∷ ds) → List·Memᴰ (iterate k f d) (y ∷ ds)
+      × Leads f′ (φ d) (φ (iterate k f d))
   steps zero d m = (m, (zero, refl))
   steps (suc k) d m = go (steps k d m)
     where
-      go : List·Memᴰ (iterate k f d) (y ∷ ds) × Leads f′ (φ d) (φ (iterate k f d)) → List·Memᴰ (f (iterate k f d)) (y ∷ ds) × Leads f′ (φ d) (φ (f (iterate k f d)))
+      go : List·Memᴰ (iterate k f d) (y ∷ ds) × Leads f′ (φ d) (φ (iterate k f d))
+          → List·Memᴰ (f (iterate k f d)) (y ∷ ds) × Leads f′ (φ d) (φ (f (iterate k f d)))
       go r = (t .into (iterate k f d) (r .0), leads-join (r .1) (step (iterate k f d) (r .0)))
 
   drop : {d : Dart} → List·Memᴰ d (y ∷ ds) → ((d ≡ y) → ⊥) → List·Memᴰ d ds
@@ -64,12 +75,14 @@ module _ {ds : List Dart} {tail : Dart → ℕ} {f : Dart → Dart} (y : Dart) (
         (λ m. drop (t .into y (List·Memᴰ·head refl)) (λ q. new x m (sym (only y (List·Memᴰ·head refl) q))))
         (λ m. absurd (new y m refl))
         (λ d n k m. drop (t .into d (List·Memᴰ·tail m)) (λ q. n (only d (List·Memᴰ·tail m) q)));
-    stays = λ d m. t .stays (exchange x y d) (exchange-in x y mx (List·Memᴰ·head refl) d (List·Memᴰ·tail m)) ∙ exchange-alike tail x y (sym (t .stays x mx) ∙ ap tail x-y) d;
+    stays = λ d m. t .stays (exchange x y d) (exchange-in x y mx (List·Memᴰ·head refl) d (List·Memᴰ·tail m))
+        ∙ exchange-alike tail x y (sym (t .stays x mx) ∙ ap tail x-y) d;
     round = round;
   }
     where
       round : Round ds tail f′
-      round d d′ m m′ e = subst (λ c. Leads f′ c d′) (φ-other d (new d m)) (subst (λ c. Leads f′ (φ d) c) (ap φ (r .1) ∙ φ-other d′ (new d′ m′)) (steps (r .0) d (List·Memᴰ·tail m) .1))
+      round d d′ m m′ e = subst (λ c. Leads f′ c d′) (φ-other d (new d m))
+          (subst (λ c. Leads f′ (φ d) c) (ap φ (r .1) ∙ φ-other d′ (new d′ m′)) (steps (r .0) d (List·Memᴰ·tail m) .1))
         where
           r : Leads f d d′
           r = t .round d d′ (List·Memᴰ·tail m) (List·Memᴰ·tail m′) e
@@ -77,33 +90,47 @@ module _ {ds : List Dart} {tail : Dart → ℕ} {f : Dart → Dart} (y : Dart) (
 exchange-same : (y d : Dart) → exchange y y d ≡ d
 exchange-same y = exchange-by (λ d c. c ≡ d) y y refl refl (λ d p q. refl)
 
-module _ (N : Dart → Dart) (es : List Arc) (inj : (c d : Dart) → List·Memᴰ c (darts es) → List·Memᴰ d (darts es) → N c ≡ N d → c ≡ d) (ds : List Dart) (tail : Dart → ℕ) (z : Dart) (mz : List·Memᴰ z (darts es))
-    (sub : (d : Dart) → List·Memᴰ d (rev z ∷ ds) → List·Memᴰ d (darts es)) (t : Turning (rev z ∷ ds) tail (turn N)) (new : (d : Dart) → List·Memᴰ d ds → (d ≡ rev z) → ⊥) where
-  only : (p : Dart) → List·Memᴰ p (darts es) → N p ≡ rev z → (d : Dart) → List·Memᴰ d (rev z ∷ ds) → turn N d ≡ rev z → d ≡ rev p
+module _ (N : Dart → Dart) (es : List Arc)
+    (inj : (c d : Dart) → List·Memᴰ c (darts es) → List·Memᴰ d (darts es) → N c ≡ N d → c ≡ d) (ds : List Dart)
+    (tail : Dart → ℕ) (z : Dart) (mz : List·Memᴰ z (darts es))
+    (sub : (d : Dart) → List·Memᴰ d (rev z ∷ ds) → List·Memᴰ d (darts es)) (t : Turning (rev z ∷ ds) tail (turn N))
+    (new : (d : Dart) → List·Memᴰ d ds → (d ≡ rev z) → ⊥) where
+  only : (p : Dart) → List·Memᴰ p (darts es) → N p ≡ rev z → (d : Dart) → List·Memᴰ d (rev z ∷ ds) → turn N d ≡ rev z
+      → d ≡ rev p
   only p mp e d m q = sym (rev-rev d) ∙ ap rev (inj (rev d) p (rev-in es (sub d m)) mp (q ∙ sym e))
 
-  untie-turning : (k : Corner) → Holds (darts es) z N k → ((p : Dart) → N p ≡ rev z → List·Memᴰ p (darts es) → List·Memᴰ (rev p) (rev z ∷ ds)) → Turning ds tail (turn (tie k z N))
-  untie-turning alone e there = subst (λ f. Turning ds tail f) (λ i d. turn N (exchange-same (rev z) d i)) (delete (rev z) t new (rev z) (List·Memᴰ·head refl) (ap N (rev-rev z) ∙ e) (only z mz e))
-  untie-turning (after p) h there = subst (λ f. Turning ds tail f) (λ i d. N (sym (exchange-rev p z d) i)) (delete (rev z) t new (rev p) (there p (h .1) (h .0)) (ap N (rev-rev p) ∙ h .1) (only p (h .0) (h .1)))
+  untie-turning : (k : Corner) → Holds (darts es) z N k
+      → ((p : Dart) → N p ≡ rev z → List·Memᴰ p (darts es) → List·Memᴰ (rev p) (rev z ∷ ds))
+      → Turning ds tail (turn (tie k z N))
+  untie-turning alone e there = subst (λ f. Turning ds tail f) (λ i d. turn N (exchange-same (rev z) d i))
+      (delete (rev z) t new (rev z) (List·Memᴰ·head refl) (ap N (rev-rev z) ∙ e) (only z mz e))
+  untie-turning (after p) h there = subst (λ f. Turning ds tail f) (λ i d. N (sym (exchange-rev p z d) i))
+      (delete (rev z) t new (rev p) (there p (h .1) (h .0)) (ap N (rev-rev p) ∙ h .1) (only p (h .0) (h .1)))
 
-untie-linked : {es : List Arc} {tail : Dart → ℕ} {next : Dart → Dart} {face : Dart → ℕ} → Linked es tail next face → Distinct (nums es) → (z : Dart) → List·Memᴰ z (darts es) → face (rev z) ≡ face z
+untie-linked : {es : List Arc} {tail : Dart → ℕ} {next : Dart → Dart} {face : Dart → ℕ} → Linked es tail next face
+    → Distinct (nums es) → (z : Dart) → List·Memᴰ z (darts es) → face (rev z) ≡ face z
     → (k : Corner) → Holds (darts es) z next k → Linked es tail (tie k z next) face
 untie-linked l dis z m f alone h = l
-untie-linked {es} {tail} {next} {face} l dis z m f (after p) h = hook-linked l dis p z (h .0) m (sym (l .meets p (h .0)) ∙ ap tail (h .1)) (sym (l .keeps p (h .0)) ∙ ap face (h .1) ∙ f)
+untie-linked {es} {tail} {next} {face} l dis z m f (after p) h =
+    hook-linked l dis p z (h .0) m (sym (l .meets p (h .0)) ∙ ap tail (h .1))
+    (sym (l .keeps p (h .0)) ∙ ap face (h .1) ∙ f)
 
 untied : (ds : List Dart) (z : Dart) (next : Dart → Dart) (k : Corner) → Holds ds z next k → tie k z next z ≡ rev z
 untied ds z next alone h = h
 untied ds z next (after p) h = ap next (exchange-right p z) ∙ h .1
 
 -- such a corner there is
-corner : {es : List Arc} {tail : Dart → ℕ} {next : Dart → Dart} {face : Dart → ℕ} → Linked es tail next face → (z : Dart) → List·Memᴰ z (darts es) → (k : Corner) × Holds (darts es) z next k
+corner : {es : List Arc} {tail : Dart → ℕ} {next : Dart → Dart} {face : Dart → ℕ} → Linked es tail next face
+    → (z : Dart) → List·Memᴰ z (darts es) → (k : Corner) × Holds (darts es) z next k
 corner {es} {next = next} l z m = (after (r .0), (r .1, r .2))
   where
     r : (p : Dart) × List·Memᴰ p (darts es) × (next p ≡ rev z)
     r = Memᴰ·of-map next (darts es) (perm-in (Permᴰ·symm (l .perm)) (rev-in es m))
 
 -- an edge whose ways go on as one another can be left out
-restrict : (a : Arc) (es : List Arc) {tail : Dart → ℕ} {N : Dart → Dart} {face : Dart → ℕ} → Linked (a ∷ es) tail N face → Distinct (nums (a ∷ es)) → N (fwd (a .num)) ≡ bwd (a .num) → N (bwd (a .num)) ≡ fwd (a .num) → Linked es tail N face
+restrict : (a : Arc) (es : List Arc) {tail : Dart → ℕ} {N : Dart → Dart} {face : Dart → ℕ}
+    → Linked (a ∷ es) tail N face → Distinct (nums (a ∷ es)) → N (fwd (a .num)) ≡ bwd (a .num) → N (bwd (a .num))
+    ≡ fwd (a .num) → Linked es tail N face
 restrict a es {N = N} l dis nf nb = record {
   starts = λ b m. l .starts b (List·Memᴰ·tail m);
   ends = λ b m. l .ends b (List·Memᴰ·tail m);
@@ -124,14 +151,21 @@ restrict a es {N = N} l dis nf nb = record {
     into : (d : Dart) → List·Memᴰ d (darts es) → List·Memᴰ (N d) (darts es)
     into d m = elim (List·Memᴰ·cases-cons (next-in l (more m))) [
       | inl q ↦ absurd (other d (bwd (a .num)) m (List·Memᴰ·tail (List·Memᴰ·head refl)) refl (q ∙ sym nb))
-      | inr i ↦ elim (List·Memᴰ·cases-cons i) [ inl q ↦ absurd (other d (fwd (a .num)) m (List·Memᴰ·head refl) refl (q ∙ sym nf)) | inr j ↦ j ]
+      | inr i ↦ elim (List·Memᴰ·cases-cons i) [
+        | inl q ↦ absurd
+            (other d (fwd (a .num)) m (List·Memᴰ·head refl) refl (q ∙ sym nf))
+        | inr j ↦ j
+      ]
     ]
 
 -- ---- the edge a is taken out of its corners k′ and k; μ makes its two faces one
 
-module _ {nodes : List ℕ} {a : Arc} {es : List Arc} {tail : Dart → ℕ} {next : Dart → Dart} {face : Dart → ℕ} {faces : ℕ} (planar : Planar nodes (a ∷ es) tail next face faces)
-    (k k′ : Corner) (holds′ : Holds (darts (a ∷ es)) (fwd (a .num)) next k′) (holds : Holds (darts (a ∷ es)) (bwd (a .num)) (tie k′ (fwd (a .num)) next) k)
-    (μ : ℕ → ℕ) (m : ℕ → ℕ) (one : μ (face (fwd (a .num))) ≡ μ (face (bwd (a .num)))) (shrunk : Shrunk a es face (λ d. μ (face d)) m) where
+module _ {nodes : List ℕ} {a : Arc} {es : List Arc} {tail : Dart → ℕ} {next : Dart → Dart} {face : Dart
+    → ℕ} {faces : ℕ} (planar : Planar nodes (a ∷ es) tail next face faces)
+    (k k′ : Corner) (holds′ : Holds (darts (a ∷ es)) (fwd (a .num)) next k′)
+    (holds : Holds (darts (a ∷ es)) (bwd (a .num)) (tie k′ (fwd (a .num)) next) k)
+    (μ : ℕ → ℕ) (m : ℕ → ℕ) (one : μ (face (fwd (a .num))) ≡ μ (face (bwd (a .num))))
+    (shrunk : Shrunk a es face (λ d. μ (face d)) m) where
   dis : Distinct (nums (a ∷ es))
   dis = planar .edges-once
 
@@ -149,7 +183,13 @@ module _ {nodes : List ℕ} {a : Arc} {es : List Arc} {tail : Dart → ℕ} {nex
 
   l₁ : Linked (a ∷ es) tail N₁ (λ d. μ (face d))
   unfolding N₁
-  l₁ = untie-linked (record { starts = planar .linked .starts; ends = planar .linked .ends; perm = planar .linked .perm; meets = planar .linked .meets; keeps = λ d i. ap μ (planar .linked .keeps d i) }) dis (fwd (a .num)) inf (sym one) k′ holds′
+  l₁ = untie-linked (record {
+    starts = planar .linked .starts;
+    ends = planar .linked .ends;
+    perm = planar .linked .perm;
+    meets = planar .linked .meets;
+    keeps = λ d i. ap μ (planar .linked .keeps d i);
+  }) dis (fwd (a .num)) inf (sym one) k′ holds′
 
   l₂ : Linked (a ∷ es) tail N₀ (λ d. μ (face d))
   unfolding N₀ N₁
@@ -167,52 +207,83 @@ module _ {nodes : List ℕ} {a : Arc} {es : List Arc} {tail : Dart → ℕ} {nex
   unfolding N₀ N₁
   f₀ = go k holds
     where
-      go : (k : Corner) → Holds (darts (a ∷ es)) (bwd (a .num)) N₁ k → tie k (bwd (a .num)) N₁ (fwd (a .num)) ≡ bwd (a .num)
+      go : (k : Corner) → Holds (darts (a ∷ es)) (bwd (a .num)) N₁ k → tie k (bwd (a .num)) N₁ (fwd (a .num))
+          ≡ bwd (a .num)
       go alone h = f₁
-      go (after p) h = ap N₁ (exchange-other p (bwd (a .num)) (fwd (a .num)) (λ q. fwd≢bwd (sym (h .1) ∙ ap N₁ (sym q) ∙ f₁)) fwd≢bwd) ∙ f₁
+      go (after p) h = ap N₁ (exchange-other p (bwd (a .num)) (fwd (a .num))
+          (λ q. fwd≢bwd (sym (h .1) ∙ ap N₁ (sym q) ∙ f₁)) fwd≢bwd) ∙ f₁
 
   after-linked : Linked es tail N₀ (λ d. μ (face d))
   after-linked = restrict a es l₂ dis f₀ b₀
 
   swap-in : (d : Dart) → List·Memᴰ d (bwd (a .num) ∷ fwd (a .num) ∷ darts es) → List·Memᴰ d (darts (a ∷ es))
-  swap-in = each-cons {p = λ d. List·Memᴰ d (darts (a ∷ es))} inb (each-cons {p = λ d. List·Memᴰ d (darts (a ∷ es))} inf (λ d i. List·Memᴰ·tail (List·Memᴰ·tail i)))
+  swap-in = each-cons {p = λ d. List·Memᴰ d (darts (a ∷ es))} inb
+      (each-cons {p = λ d. List·Memᴰ d (darts (a ∷ es))} inf (λ d i. List·Memᴰ·tail (List·Memᴰ·tail i)))
 
   swap-out : (d : Dart) → List·Memᴰ d (darts (a ∷ es)) → List·Memᴰ d (bwd (a .num) ∷ fwd (a .num) ∷ darts es)
-  swap-out = each-cons {p = λ d. List·Memᴰ d (bwd (a .num) ∷ fwd (a .num) ∷ darts es)} (List·Memᴰ·tail (List·Memᴰ·head refl)) (each-cons {p = λ d. List·Memᴰ d (bwd (a .num) ∷ fwd (a .num) ∷ darts es)} (List·Memᴰ·head refl) (λ d i. List·Memᴰ·tail (List·Memᴰ·tail i)))
+  swap-out = each-cons {p = λ d. List·Memᴰ d (bwd (a .num) ∷ fwd (a .num) ∷ darts es)}
+      (List·Memᴰ·tail (List·Memᴰ·head refl))
+      (each-cons {p = λ d. List·Memᴰ d (bwd (a .num) ∷ fwd (a .num) ∷ darts es)} (List·Memᴰ·head refl)
+      (λ d i. List·Memᴰ·tail (List·Memᴰ·tail i)))
 
   t₂ : Turning (bwd (a .num) ∷ fwd (a .num) ∷ darts es) tail (turn next)
-  t₂ = record { into = λ d i. swap-out (turn next d) (t .into d (swap-in d i)); stays = λ d i. t .stays d (swap-in d i); round = λ d d′ i i′. t .round d d′ (swap-in d i) (swap-in d′ i′) }
+  t₂ = record {
+    into = λ d i. swap-out (turn next d) (t .into d (swap-in d i));
+    stays = λ d i. t .stays d (swap-in d i);
+    round = λ d d′ i i′. t .round d d′ (swap-in d i) (swap-in d′ i′);
+  }
     where
       t : Turning (darts (a ∷ es)) tail (turn next)
       t = turning (planar .linked) (planar .one-turn)
 
   t₁ : Turning (fwd (a .num) ∷ darts es) tail (turn N₁)
   unfolding N₁
-  t₁ = untie-turning next (a ∷ es) (injective-of-perm next (darts (a ∷ es)) (distinct-darts (a ∷ es) dis) (planar .linked .perm)) (fwd (a .num) ∷ darts es) tail (fwd (a .num)) inf swap-in t₂
-      (each-cons {p = λ d. (d ≡ bwd (a .num)) → ⊥} fwd≢bwd (λ d i q. fresh-dart a es (dis .0) i (ap (λ (d : Dart). d .edge) q))) k′ holds′ (λ p e i. swap-out (rev p) (rev-in (a ∷ es) i))
+  t₁ = untie-turning next (a ∷ es) (injective-of-perm next (darts (a ∷ es)) (distinct-darts (a ∷ es) dis)
+      (planar .linked .perm)) (fwd (a .num) ∷ darts es) tail (fwd (a .num)) inf swap-in t₂
+      (each-cons {p = λ d. (d ≡ bwd (a .num)) → ⊥} fwd≢bwd
+      (λ d i q. fresh-dart a es (dis .0) i (ap (λ (d : Dart). d .edge) q))) k′ holds′
+      (λ p e i. swap-out (rev p) (rev-in (a ∷ es) i))
 
   t₀ : Turning (darts es) tail (turn N₀)
   unfolding N₀ N₁
-  t₀ = untie-turning N₁ (a ∷ es) (injective-of-perm N₁ (darts (a ∷ es)) (distinct-darts (a ∷ es) dis) (l₁ .perm)) (darts es) tail (bwd (a .num)) inb (λ d i. swap-in d (List·Memᴰ·tail i)) t₁
+  t₀ = untie-turning N₁ (a ∷ es) (injective-of-perm N₁ (darts (a ∷ es)) (distinct-darts (a ∷ es) dis) (l₁ .perm))
+      (darts es) tail (bwd (a .num)) inb (λ d i. swap-in d (List·Memᴰ·tail i)) t₁
       (λ d i q. fresh-dart a es (dis .0) i (ap (λ (d : Dart). d .edge) q)) k holds there
     where
-      there : (p : Dart) → N₁ p ≡ fwd (a .num) → List·Memᴰ p (darts (a ∷ es)) → List·Memᴰ (rev p) (fwd (a .num) ∷ darts es)
+      there : (p : Dart) → N₁ p ≡ fwd (a .num) → List·Memᴰ p (darts (a ∷ es))
+          → List·Memᴰ (rev p) (fwd (a .num) ∷ darts es)
       there p e i = elim (List·Memᴰ·cases-cons (swap-out (rev p) (rev-in (a ∷ es) i))) [
         | inl q ↦ absurd (fwd≢bwd (sym e ∙ ap N₁ (sym (rev-rev p) ∙ ap rev q) ∙ f₁))
         | inr j ↦ j
       ]
 
   rest : Within nodes es
-  rest = record { starts = λ b i. planar .within .starts b (List·Memᴰ·tail i); ends = λ b i. planar .within .ends b (List·Memᴰ·tail i) }
+  rest = record {
+    starts = λ b i. planar .within .starts b (List·Memᴰ·tail i);
+    ends = λ b i. planar .within .ends b (List·Memᴰ·tail i);
+  }
 
-  removed : (f : ℕ) → Euler nodes es f → Planar nodes es tail (tie k (bwd (a .num)) (tie k′ (fwd (a .num)) next)) (λ d. μ (face d)) f
+  removed : (f : ℕ) → Euler nodes es f → Planar nodes es tail (tie k (bwd (a .num)) (tie k′ (fwd (a .num)) next))
+      (λ d. μ (face d)) f
   unfolding N₀ N₁
-  removed f euler = record { nodes-once = planar .nodes-once; edges-once = dis .1; within = rest; linked = after-linked; one-turn = t₀ .round; colouring = shrunk-keeps shrunk (dis .0) (planar .colouring); euler = euler }
+  removed f euler = record {
+    nodes-once = planar .nodes-once;
+    edges-once = dis .1;
+    within = rest;
+    linked = after-linked;
+    one-turn = t₀ .round;
+    colouring = shrunk-keeps shrunk (dis .0) (planar .colouring);
+    euler = euler;
+  }
 
   -- the edge had one face on both sides: a piece falls in two
-  pub planar-part : face (fwd (a .num)) ≡ face (bwd (a .num)) → Planar nodes es tail (tie k (bwd (a .num)) (tie k′ (fwd (a .num)) next)) (λ d. μ (face d)) faces
-  planar-part e = removed faces (euler-one-face nodes a es faces face (planar .nodes-once) (planar .within) dis (planar .colouring) e .1 (planar .euler))
+  pub planar-part : face (fwd (a .num)) ≡ face (bwd (a .num))
+      → Planar nodes es tail (tie k (bwd (a .num)) (tie k′ (fwd (a .num)) next)) (λ d. μ (face d)) faces
+  planar-part e = removed faces (euler-one-face nodes a es faces face (planar .nodes-once) (planar .within) dis
+      (planar .colouring) e .1 (planar .euler))
 
   -- the edge was between two faces, which become one
-  pub planar-merge : (fewer : ℕ) → faces ≡ suc fewer → ((face (fwd (a .num)) ≡ face (bwd (a .num))) → ⊥) → Planar nodes es tail (tie k (bwd (a .num)) (tie k′ (fwd (a .num)) next)) (λ d. μ (face d)) fewer
-  planar-merge fewer e apart = removed fewer (euler-split nodes a es fewer (planar .linked) apart .1 (subst (λ f. Euler nodes (a ∷ es) f) e (planar .euler)))
+  pub planar-merge : (fewer : ℕ) → faces ≡ suc fewer → ((face (fwd (a .num)) ≡ face (bwd (a .num))) → ⊥)
+      → Planar nodes es tail (tie k (bwd (a .num)) (tie k′ (fwd (a .num)) next)) (λ d. μ (face d)) fewer
+  planar-merge fewer e apart = removed fewer
+      (euler-split nodes a es fewer (planar .linked) apart .1 (subst (λ f. Euler nodes (a ∷ es) f) e (planar .euler)))

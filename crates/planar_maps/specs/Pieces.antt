@@ -5,7 +5,7 @@ use mathlib.Core.List.{List, [], _∷_, map, List·Memᴰ}
 use Prim.Native.Nat.{ℕ, _+_, min}
 use lib.ListN.{length}
 use Rattle.lists.specs.Tests.{same}
-use Rattle.lists.specs.Scans.{count}
+use Rattle.lists.specs.Scans.{countOf}
 use Rattle.planar_maps.specs.Map.{Arc}
 
 -- a chain of edges leads from a node to another, each edge taken either way
@@ -25,7 +25,7 @@ label (a ∷ es) n = merge (label es (a .from)) (label es (a .to)) (label es n)
 
 -- the number of the nodes from which no chain leads to a node of lower number (`root-least`)
 unfoldable pub pieces : List ℕ → List Arc → ℕ
-pieces nodes es = count (λ n. same (label es n) n) nodes
+pieces nodes es = countOf (λ n. same (label es n) n) nodes
 
 -- each edge starts and ends at a node of the list
 pub record Within (nodes : List ℕ) (es : List Arc) : Type 0 where

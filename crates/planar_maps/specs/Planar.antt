@@ -6,7 +6,8 @@ use Rattle.planar_maps.specs.Map.{Arc, Dart, Linked, Colouring}
 use Rattle.planar_maps.specs.Pieces.{Within, Euler, nums}
 use Rattle.planar_maps.specs.Rings.{OneTurn}
 
-pub record Planar (nodes : List ℕ) (es : List Arc) (tail : Dart → ℕ) (next : Dart → Dart) (face : Dart → ℕ) (faces : ℕ) : Type 0 where
+pub record Planar (nodes : List ℕ) (es : List Arc) (tail : Dart → ℕ) (next : Dart → Dart) (face : Dart → ℕ)
+    (faces : ℕ) : Type 0 where
   pub nodes-once : Distinct nodes
   pub edges-once : Distinct (nums es)
   pub within : Within nodes es

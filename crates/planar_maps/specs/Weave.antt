@@ -60,7 +60,8 @@ abbrev pub split-face : ℕ → ℕ → (Dart → ℕ) → Dart → ℕ
 split-face e e′ face = with-edge e′ (face (fwd e)) (face (bwd e)) face
 
 abbrev pub split-next : ℕ → ℕ → (Dart → Dart) → Dart → Dart
-split-next e e′ next = with-edge e (fwd e′) (renamed e e′ (next (bwd e))) (with-edge e′ (renamed e e′ (next (fwd e))) (bwd e) (λ d. renamed e e′ (next d)))
+split-next e e′ next = with-edge e (fwd e′) (renamed e e′ (next (bwd e)))
+    (with-edge e′ (renamed e e′ (next (fwd e))) (bwd e) (λ d. renamed e e′ (next d)))
 
 -- ---- and healed again: e from s to n and e′ from n to t become e from s to t
 

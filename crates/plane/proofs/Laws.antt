@@ -36,10 +36,13 @@ abbrev pub areaE : Expr → Expr → Expr → Expr → Expr → Expr → Expr
 areaE ax ay bx by cx cy = (bx ⊖ ax) ⊗ (cy ⊖ ay) ⊖ (by ⊖ ay) ⊗ (cx ⊖ ax)
 
 -- the solver at the coordinates of three and of four points
-pub solve₃ : (f : Vars 6) → T (valid (equation 6 0 f)) → (a b c : Point) → Holds (equation 6 0 f) (pos (a .x) ∷ pos (a .y) ∷ pos (b .x) ∷ pos (b .y) ∷ pos (c .x) ∷ pos (c .y) ∷ [])
+pub solve₃ : (f : Vars 6) → T (valid (equation 6 0 f)) → (a b c : Point)
+    → Holds (equation 6 0 f) (pos (a .x) ∷ pos (a .y) ∷ pos (b .x) ∷ pos (b .y) ∷ pos (c .x) ∷ pos (c .y) ∷ [])
 solve₃ f t a b c = holds (equation 6 0 f) t _
 
-pub solve₄ : (f : Vars 8) → T (valid (equation 8 0 f)) → (a b c d : Point) → Holds (equation 8 0 f) (pos (a .x) ∷ pos (a .y) ∷ pos (b .x) ∷ pos (b .y) ∷ pos (c .x) ∷ pos (c .y) ∷ pos (d .x) ∷ pos (d .y) ∷ [])
+pub solve₄ : (f : Vars 8) → T (valid (equation 8 0 f)) → (a b c d : Point)
+    → Holds (equation 8 0 f) (pos (a .x) ∷ pos (a .y) ∷ pos (b .x) ∷ pos (b .y) ∷ pos (c .x) ∷ pos (c .y) ∷ pos (d .x)
+    ∷ pos (d .y) ∷ [])
 solve₄ f t a b c d = holds (equation 8 0 f) t _
 
 -- the two parts of the doubled area, each a sum of products
@@ -49,7 +52,8 @@ part a b c = a .x * b .y + b .x * c .y + c .x * a .y
 pub area-parts : (a b c : Point) → pos (part a b c) -ℤ pos (part b a c) ≡ area a b c
 unfolding area
 area-parts a b c =
-    solve₃ (λ ax ay bx by cx cy. (ax ⊗ by ⊕ bx ⊗ cy ⊕ cx ⊗ ay) ⊖ (bx ⊗ ay ⊕ ax ⊗ cy ⊕ cx ⊗ by) ≐ areaE ax ay bx by cx cy) tt a b c
+    solve₃ (λ ax ay bx by cx cy. (ax ⊗ by ⊕ bx ⊗ cy ⊕ cx ⊗ ay) ⊖
+    (bx ⊗ ay ⊕ ax ⊗ cy ⊕ cx ⊗ by) ≐ areaE ax ay bx by cx cy) tt a b c
 
 -- p and n are the parts
 pub area-is : (a b c : Point) (p n : ℕ) → p ≡ part a b c → n ≡ part b a c → pos p -ℤ pos n ≡ area a b c
@@ -70,7 +74,8 @@ cross-parts a b c d =
     (bx ⊗ dy ⊕ ax ⊗ cy ⊕ by ⊗ cx ⊕ ay ⊗ dx) ⊖ (ax ⊗ dy ⊕ bx ⊗ cy ⊕ ay ⊗ cx ⊕ by ⊗ dx) ≐ crossE ax ay bx by cx cy dx dy
     ) tt a b c d
 
-pub cross-is : (a b c d : Point) (p n : ℕ) → p ≡ crossPart a b c d → n ≡ crossPart b a c d → pos p -ℤ pos n ≡ cross (wayTo a b) (wayTo c d)
+pub cross-is : (a b c d : Point) (p n : ℕ) → p ≡ crossPart a b c d → n ≡ crossPart b a c d → pos p -ℤ pos n
+    ≡ cross (wayTo a b) (wayTo c d)
 cross-is a b c d p n ep en = (λ i. pos (ep i) -ℤ pos (en i)) ∙ cross-parts a b c d
 
 -- how two naturals compare is the sign of their difference z

@@ -8,7 +8,8 @@ use Rattle.plane.specs.declared.Turn.the-variants.{Left, Straight, Right
 
 -- doubled area of the triangle a b c: the cross product of b - a and c - a
 unfoldable pub area : Point → Point → Point → ℤ
-area a b c = (pos (b .x) -ℤ pos (a .x)) *ℤ (pos (c .y) -ℤ pos (a .y)) -ℤ (pos (b .y) -ℤ pos (a .y)) *ℤ (pos (c .x) -ℤ pos (a .x))
+area a b c = (pos (b .x) -ℤ pos (a .x)) *ℤ (pos (c .y) -ℤ pos (a .y)) -ℤ (pos (b .y) -ℤ pos (a .y)) *ℤ
+    (pos (c .x) -ℤ pos (a .x))
 
 -- left for a positive number, right for a negative one
 abbrev pub turnOf : Sign → Turn

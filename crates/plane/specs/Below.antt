@@ -1,4 +1,5 @@
--- What passes below a point: of the segments with x1 ≤ px < x2 (ends ordered by x) those strictly below it, and which of two is higher.
+-- What passes below a point: of the segments with x1 ≤ px < x2 (ends ordered by x) those strictly below it, and which
+-- of two is higher.
 use mathlib.Core.Bool.{Bool, cond, _&&_, _||_}
 use Prim.Native.Nat.{ℕ}
 use lib.Dec.{leb, ltb}

@@ -1,5 +1,5 @@
--- Directions: eight direction classes by the signs of dx and dy; within a class the sign of the cross product orders two departures.
--- Together this is counterclockwise order.
+-- Directions: eight direction classes by the signs of dx and dy; within a class the sign of the cross product orders
+-- two departures. Together this is counterclockwise order.
 use mathlib.Core.Bool.{Bool, _&&_, _||_}
 use Prim.Native.Nat.{ℕ, _+_, _*_}
 use lib.Dec.{ltb}

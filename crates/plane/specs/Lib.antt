@@ -1,4 +1,5 @@
--- The plane: points, doubled areas, segments and how they meet, directions in counterclockwise order, what passes below a point.
+-- The plane: points, doubled areas, segments and how they meet, directions in counterclockwise order, what passes below
+-- a point.
 pub mod Points
 pub mod Areas
 pub mod Segments

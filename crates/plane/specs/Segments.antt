@@ -1,5 +1,6 @@
--- Meeting: two segments meet when they share a point, of whole coordinates or not, decided by the signs of the doubled triangle areas and, on one
--- line, by coordinate ranges. What each answer means over rational points is proved in the crate `geometry`.
+-- Meeting: two segments meet when they share a point, of whole coordinates or not, decided by the signs of the doubled
+-- triangle areas and, on one line, by coordinate ranges. What each answer means over rational points is proved in the
+-- crate `geometry`.
 use mathlib.Core.Bool.{Bool, true, false, not, _&&_, _||_}
 use Prim.Native.Nat.{ℕ, min, max}
 use lib.Dec.{leb, ltb}
@@ -37,7 +38,8 @@ straddle a b c d = apart (turn (area a b c)) (turn (area a b d))
 -- the segments a b and c d meet
 unfoldable pub meets : Point → Point → Point → Point → Bool
 meets a b c d =
-    overlap (a .x) (b .x) (c .x) (d .x) && (overlap (a .y) (b .y) (c .y) (d .y) && (straddle a b c d && straddle c d a b))
+    overlap (a .x) (b .x) (c .x) (d .x)
+    && (overlap (a .y) (b .y) (c .y) (d .y) && (straddle a b c d && straddle c d a b))
 
 -- the point p lies on the segment a b: the segment p p meets it
 abbrev pub onSegment : Point → Point → Point → Bool
@@ -51,7 +53,8 @@ straightBetween a p b = not (samePoint a p) && (not (samePoint p b) && onSegment
 unfoldable pub stretches : Point → Point → Point → Point → Bool
 stretches a b c d =
     isNull (sgn (area a b c))
-    && (isNull (sgn (area a b d)) && (overlapMore (a .x) (b .x) (c .x) (d .x) || overlapMore (a .y) (b .y) (c .y) (d .y)))
+    && (isNull (sgn (area a b d)) && (overlapMore (a .x) (b .x) (c .x) (d .x)
+    || overlapMore (a .y) (b .y) (c .y) (d .y)))
 
 -- an end of one lies on the other
 unfoldable pub ended : Point → Point → Point → Point → Bool

@@ -1,10 +1,14 @@
-// Exact geometry of points and segments. Definitions are over ℤ; the code is unsigned inside: a doubled area or a cross product is the difference of
-// two sums of products, and its sign is how the two sums compare.
+// Exact geometry of points and segments. Definitions are over ℤ; the code is unsigned inside: a doubled area or a cross
+// product is the difference of two sums of products, and its sign is how the two sums compare.
 ghost use mathlib.Core.Path.{_≡_};
 ghost use Prim.Native.Nat.{_+_, _*_, _≤_, _<_, min, max};
 ghost use Rattle.plane.specs.Points.{InRange, samePoint};
 ghost use Rattle.plane.specs.Areas.{area, turn, straight};
-ghost use Rattle.plane.specs.Segments.{overlap, overlapMore, apart, straddle, meets, onSegment, straightBetween, stretches, ended, contact};
+ghost use Rattle.plane.specs.Segments.{overlap, overlapMore, apart, straddle, meets, onSegment, straightBetween};
+ghost use Rattle.plane.specs.Segments.{stretches, ended, contact};
+
+// The greatest coordinate.
+pub const COORDINATE: i64 = 1048575;
 
 pub struct Point {
     pub x: u64,

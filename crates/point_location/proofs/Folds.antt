@@ -16,13 +16,15 @@ use Rattle.map.specs.Faces.{Floor, floorOf, floors, highest, faceAbove, faceOfP
 use Rattle.point_location.specs.Highest.{over, rowed}
 
 module _ {A S : Type 0} (g : S → A → S) where
-  fold-flat : {B : Type 0} (f : B → List A) (s : S) (l : List B) → fold g s (flatMap f l) ≡ fold (λ t b. fold g t (f b)) s l
+  fold-flat : {B : Type 0} (f : B → List A) (s : S) (l : List B) → fold g s (flatMap f l)
+      ≡ fold (λ t b. fold g t (f b)) s l
   unfolding flatMap
   fold-flat f s [] = refl
   fold-flat f s (b ∷ l) = fold-append g s (f b) (flatMap f l) ∙ fold-flat f (fold g s (f b)) l
 
   -- a fold over the images of the elements that are kept
-  fold-kept : {B : Type 0} (f : B → A) (k : B → Bool) (s : S) (l : List B) → fold g s (map f (keep k l)) ≡ fold (λ t b. cond (k b) (g t (f b)) t) s l
+  fold-kept : {B : Type 0} (f : B → A) (k : B → Bool) (s : S) (l : List B) → fold g s (map f (keep k l))
+      ≡ fold (λ t b. cond (k b) (g t (f b)) t) s l
   fold-kept f k s [] = refl
   fold-kept f k s (b ∷ l) =
       let taken = fold-kept f k (g s (f b)) l in
@@ -53,4 +55,5 @@ face-fold m p =
     above-fold (p .x) (floors m p)
     ∙ ap upper
     (fold-flat (over (p .x)) (λ e. map (floorOf e) (keep (passesBelow p) (segments (e .curve)))) none (m .edges)
-    ∙ fold-same (λ t e. fold (over (p .x)) t (map (floorOf e) (keep (passesBelow p) (segments (e .curve))))) (rowed p) (λ t e. fold-kept (over (p .x)) (floorOf e) (passesBelow p) t (segments (e .curve))) none (m .edges))
+    ∙ fold-same (λ t e. fold (over (p .x)) t (map (floorOf e) (keep (passesBelow p) (segments (e .curve))))) (rowed p)
+    (λ t e. fold-kept (over (p .x)) (floorOf e) (passesBelow p) t (segments (e .curve))) none (m .edges))

@@ -66,7 +66,8 @@ fn higher_of(x: u64, h: Highest, g: Highest) -> Highest
 
 // The highest after the segment a b with its faces, where that passes below p.
 fn floor_with(h: Highest, p: Point, a: Point, b: Point, left: u64, right: u64) -> Highest
-    requires { ⌜ Held h × (InRange p) × (InRange a) × (InRange b) × (left < 9223372036854775808) × (right < 9223372036854775808) ⌝ }
+    requires { ⌜ Held h × (InRange p) × (InRange a) × (InRange b) × (left < 9223372036854775808)
+        × (right < 9223372036854775808) ⌝ }
     ensures { λ r. ⌜ (held r ≡ passed p left right (held h) (record { from = a; to = b })) × Held r ⌝ }
 {
     if !directions::passes_below(p, a, b) {
@@ -109,8 +110,8 @@ fn floor_over(h: Highest, p: Point, edges: &[i64], i: usize) -> Highest
     requires { ⌜ Held h × (InRange p) × EdgeRow (now edges) i ⌝ }
     ensures { λ r. ⌜ (held r ≡ rowed p (held h) (edgeAt (now (edges .entry)) i)) × Held r ⌝ }
 {
-    let left = face_at(edges, i * 32 + 5);
-    let right = face_at(edges, i * 32 + 6);
+    let left = face_at(edges, i * map::EDGE_WIDTH + map::LEFT);
+    let right = face_at(edges, i * map::EDGE_WIDTH + map::RIGHT);
     floor_along(h, p, tables::curve_of(edges, i), left, right)
 }
 

@@ -13,7 +13,7 @@ use lib.ListN.{length, getD, length-append}
 use mir.Syntax.{w64}
 use mir.Val.{SFits}
 use borrow.Author.Tests.{le-leb, lt-ltb, ltb-true, leb-true}
-use Rattle.lists.specs.Scans.{all}
+use Rattle.lists.specs.Scans.{allOf}
 use Rattle.lists.proofs.Appends.{fold-append, all-append}
 use Rattle.lists.proofs.Bools.{which, same-refl}
 use Rattle.text.specs.Lines.{digit, valueOf, signedNumber, numberOf}
@@ -25,11 +25,11 @@ use Rattle.printing.specs.Texts.{digitsOf, naturalText, numberText}
 -- digits of a number that k of them hold
 record Spells (n : ℕ) (ds : List ℕ) : Type 0 where
   value : valueOf ds ≡ n
-  digits : all digit ds ≡ true
+  digits : allOf digit ds ≡ true
   some-digit : length ds ≡ 0 → ⊥
 
 -- one digit more
-module _ (n m : ℕ) (ds : List ℕ) (v : valueOf ds ≡ m) (a : all digit ds ≡ true) (e : m * 10 + n % 10 ≡ n) where
+module _ (n m : ℕ) (ds : List ℕ) (v : valueOf ds ≡ m) (a : allOf digit ds ≡ true) (e : m * 10 + n % 10 ≡ n) where
   spells-more : Spells n (ds ++ (48 + n % 10) ∷ [])
   spells-more = record {
     value = fold-append step 0 ds ((48 + n % 10) ∷ []) ∙ rw v (omega arith);
@@ -47,7 +47,8 @@ spelled (suc k) n h =
           rw e (spells-more n (n / 10) (digitsOf (suc k) (n / 10)) (rest .value) (rest .digits) (omega arith))
     ]
 
-read-back : (minus : Bool) (n : ℕ) (ds : List ℕ) → Spells n ds → n ≤ most minus → signedNumber minus ds ≡ some (cond minus (negℤ (pos n)) (pos n))
+read-back : (minus : Bool) (n : ℕ) (ds : List ℕ) → Spells n ds → n ≤ most minus → signedNumber minus ds
+    ≡ some (cond minus (negℤ (pos n)) (pos n))
 read-back minus n [] s h = absurd (s .some-digit refl)
 read-back minus n (d ∷ ds) s h = rw (s .digits, s .value, le-leb n (most minus) h)
 
@@ -64,7 +65,8 @@ printed-back (pos n) f =
     let fits : n < 2 ^ 63 = f .sfits in
     let s = spelled 19 n (omega arith) in
     let first = first-digit n (naturalText n) s in
-    number-plain (naturalText n) (s .some-digit) (λ e. omega arith) (λ e. omega arith) ∙ read-back false n (naturalText n) s (omega arith)
+    number-plain (naturalText n) (s .some-digit) (λ e. omega arith) (λ e. omega arith)
+    ∙ read-back false n (naturalText n) s (omega arith)
 printed-back (negsuc k) f =
     let fits : k < 2 ^ 63 = f .sfits in
     rw (same-refl 45) (read-back true (suc k) (naturalText (suc k)) (spelled 19 (suc k) (omega arith)) (omega arith))

@@ -40,10 +40,15 @@ fewest-digits (suc k) n (suc (suc r)) h f =
     let some-digit : 10 ≤ n = omega (arith, one-le-pow r 10 (omega arith)) in
     let below : n / 10 < 10 ^ suc r = omega (arith, f .1) in
     let above : 10 ^ r ≤ n / 10 = omega arith in
-    rw (le-ltb n 10 some-digit, decimal n, fewest-digits k (n / 10) (suc r) (omega arith) (omega arith, below, λ m. rw (← lower) above))
+    rw (
+      le-ltb n 10 some-digit,
+      decimal n,
+      fewest-digits k (n / 10) (suc r) (omega arith) (omega arith, below, λ m. rw (← lower) above),
+    )
 
 -- the copy of the digits writes the text
-module _ (out : List ℕ) (at n k : ℕ) (ds : List ℕ) (b : n < 2 ^ 64) (f : Fewest 10 1 n k) (e : take k ds ≡ digits 10 k n) (h : k ≤ length ds) where
+module _ (out : List ℕ) (at n k : ℕ) (ds : List ℕ) (b : n < 2 ^ 64) (f : Fewest 10 1 n k)
+    (e : take k ds ≡ digits 10 k n) (h : k ≤ length ds) where
   text : take k ds ≡ naturalText n
   text = e ∙ fewest-digits 20 n k (fewest-few n k b f) f
 

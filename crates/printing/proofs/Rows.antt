@@ -30,7 +30,8 @@ number-few (negsuc k) = let h = digits-few 20 (suc k) in omega arith
 
 row-cons : (z : ℤ) (row : List ℤ) → rowText (z ∷ row) ≡ 32 ∷ numberText z ++ rowText row
 unfolding flatMap
-row-cons z row = ap (λ (t : List ℕ). 32 ∷ t) (append-assoc (numberText z) (flatMap (λ z. 32 ∷ numberText z) row) (10 ∷ []))
+row-cons z row = ap (λ (t : List ℕ). 32 ∷ t)
+    (append-assoc (numberText z) (flatMap (λ z. 32 ∷ numberText z) row) (10 ∷ []))
 
 pub row-few : (row : List ℤ) → length (rowText row) ≤ length row * 22 + 1
 unfolding flatMap
@@ -47,13 +48,16 @@ module _ (row : List ℤ) (i : ℕ) (h : i < length row) (z : ℤ) (is : z ≡ g
   here : rowText (drop i row) ≡ 32 ∷ numberText z ++ rowText (drop (i + 1) row)
   here = ap rowText (drop-cons row i (pos 0) h) ∙ row-cons (getD row i (pos 0)) (drop (suc i) row) ∙ rw (is, add-one i)
 
-  pub row-turn : (out : List ℕ) (end : ℕ) → sets out end (rowText (drop i row)) ≡ sets (sets (set out end 32) (end + 1) (numberText z)) (end + 1 + length (numberText z)) (rowText (drop (i + 1) row))
+  pub row-turn : (out : List ℕ) (end : ℕ) → sets out end (rowText (drop i row))
+      ≡ sets (sets (set out end 32) (end + 1) (numberText z)) (end + 1 + length (numberText z))
+      (rowText (drop (i + 1) row))
   row-turn out end =
       ap (sets out end) here
       ∙ sets-append (numberText z) (rowText (drop (i + 1) row)) (set out end 32) (suc end)
       ∙ rw (add-one end)
 
-  pub row-length : (end : ℕ) → end + length (rowText (drop i row)) ≡ end + 1 + length (numberText z) + length (rowText (drop (i + 1) row))
+  pub row-length : (end : ℕ) → end + length (rowText (drop i row))
+      ≡ end + 1 + length (numberText z) + length (rowText (drop (i + 1) row))
   row-length end =
       let e = ap length here in
       let f = length-append (numberText z) (rowText (drop (i + 1) row)) in

@@ -8,7 +8,8 @@ ghost use Rattle.printing.specs.Texts.{naturalText, numberText, rowText}
 
 pub fn write_natural(out: &mut [u8], at: usize, n: u64) -> usize
     requires { ⌜ at + 20 ≤ length (now out) ⌝ }
-    ensures { λ r. ⌜ (now (out .exit) ≡ sets (now (out .entry)) at (naturalText n)) × (r ≡ at + length (naturalText n)) ⌝ }
+    ensures { λ r. ⌜ (now (out .exit) ≡ sets (now (out .entry)) at (naturalText n))
+        × (r ≡ at + length (naturalText n)) ⌝ }
 {
     let mut digits = [0u8; 20];
     let k = io::decimal(n, &mut digits);
@@ -31,7 +32,8 @@ fn magnitude(z: i64) -> u64
 
 pub fn write_number(out: &mut [u8], at: usize, z: i64) -> usize
     requires { ⌜ at + 21 ≤ length (now out) ⌝ }
-    ensures { λ r. ⌜ (now (out .exit) ≡ sets (now (out .entry)) at (numberText z)) × (r ≡ at + length (numberText z)) ⌝ }
+    ensures { λ r. ⌜ (now (out .exit) ≡ sets (now (out .entry)) at (numberText z))
+        × (r ≡ at + length (numberText z)) ⌝ }
 {
     let n = magnitude(z);
     if z < 0 {
@@ -43,7 +45,8 @@ pub fn write_number(out: &mut [u8], at: usize, z: i64) -> usize
 
 pub fn write_row(out: &mut [u8], at: usize, row: &[i64]) -> usize
     requires { ⌜ at + length (now row) * 22 + 1 ≤ length (now out) ⌝ }
-    ensures { λ r. ⌜ (now (out .exit) ≡ sets (now (out .entry)) at (rowText (now (row .entry)))) × (r ≡ at + length (rowText (now (row .entry)))) ⌝ }
+    ensures { λ r. ⌜ (now (out .exit) ≡ sets (now (out .entry)) at (rowText (now (row .entry))))
+        × (r ≡ at + length (rowText (now (row .entry)))) ⌝ }
 {
     let mut end = at;
     for i in 0..row.len() {

@@ -1,8 +1,10 @@
--- What the map reads with the new edge linked in: it is joined at the corners that are found among the rows. Assumes nothing.
+-- What the map reads with the new edge linked in: it is joined at the corners that are found among the rows. Assumes
+-- nothing.
 use mathlib.Core.Path.{_≡_, refl, sym, ap, ap₂, _∙_, subst}
 use mathlib.Core.Logic.{_⊎_, inl, inr}
 use mathlib.Core.Bool.{Bool, true, false, cond, not}
-use mathlib.Core.List.{List, [], _∷_, _++_, map, map-append, append-nil, List·Memᴰ, List·Memᴰ·head, Memᴰ·append-left, Memᴰ·append-right}
+use mathlib.Core.List.{List, [], _∷_, _++_, map, map-append, append-nil, List·Memᴰ, List·Memᴰ·head, Memᴰ·append-left}
+use mathlib.Core.List.{Memᴰ·append-right}
 use Prim.Native.Nat.{ℕ, _+_, _*_, _/_, _<_}
 use native.Mathlib.Omega.{arith}
 use lib.IntN.{ℤ, pos}
@@ -33,7 +35,9 @@ use Rattle.darts.specs.Positions.{odd, dartAt, wayWith}
 use Rattle.darts.proofs.Positions.{edge-of, row-there}
 use Rattle.links.proofs.Darts.{dart-named, row-named}
 use Rattle.links.proofs.Departures.{departures-map}
-use Rattle.grown.proofs.Readings.{Relinked, numberOf, arcOf, has-number, nums-rows, edge-row, row-has, dart-has, departs, edge-by, tailIn, nextIn, leaves-row, next-row, course-row, way-row, next-by, keep-cong}
+use Rattle.grown.proofs.Readings.{Relinked, numberOf, arcOf, has-number, nums-rows, edge-row, row-has, dart-has}
+use Rattle.grown.proofs.Readings.{departs, edge-by, tailIn, nextIn, leaves-row, next-row, course-row, way-row, next-by}
+use Rattle.grown.proofs.Readings.{keep-cong}
 use Rattle.grown.proofs.RowChanges.{more-old, more-new, more-directed}
 use Rattle.grown.proofs.EdgesDrawn.{drawnRow, appended, linkIn-relinked, linkIn-next, linked-in}
 use Rattle.tables.proofs.Order.{same-pos}
@@ -42,12 +46,16 @@ use Rattle.reason_corners.proofs.Ends.{departing-below, at-end-below, s
 use Rattle.reason_corners.proofs.Places.{place-old, place-forward, place-backward}
 
 -- the next number is that of no row
-pub fresh-number : (l : List ℤ) (e : ℕ) (m : Map) → m .edges ≡ edgesOf l e → numbered 1 (m .nextEdge) (map (λ x. x .number) (m .edges)) ≡ true → (i : ℕ) → i < e → (edgeAt l i .number ≡ m .nextEdge) → ⊥
+pub fresh-number : (l : List ℤ) (e : ℕ) (m : Map) → m .edges ≡ edgesOf l e
+    → numbered 1 (m .nextEdge) (map (λ x. x .number) (m .edges)) ≡ true → (i : ℕ) → i < e
+    → (edgeAt l i .number ≡ m .nextEdge) → ⊥
 fresh-number l e m E ok i h q =
-    let k = number-in 1 (m .nextEdge) (λ i. edgeAt l i .number) e (ap (numbered 1 (m .nextEdge)) (sym (ap (map (λ x. x .number)) E ∙ edge-numbers l e)) ∙ ok) i h .1 in
+    let k = number-in 1 (m .nextEdge) (λ i. edgeAt l i .number) e
+    (ap (numbered 1 (m .nextEdge)) (sym (ap (map (λ x. x .number)) E ∙ edge-numbers l e)) ∙ ok) i h .1 in
     omega arith
 
-module _ {l : List ℤ} {e : ℕ} (t : EdgeRows l e) (c : List ℤ) (m : Map) (E : m .edges ≡ edgesOf l e) (fresh : (i : ℕ) → i < e → (edgeAt l i .number ≡ m .nextEdge) → ⊥) (u v φ : ℕ) where
+module _ {l : List ℤ} {e : ℕ} (t : EdgeRows l e) (c : List ℤ) (m : Map) (E : m .edges ≡ edgesOf l e)
+    (fresh : (i : ℕ) → i < e → (edgeAt l i .number ≡ m .nextEdge) → ⊥) (u v φ : ℕ) where
   abbrev N : ℕ
   N = m .nextEdge
 
@@ -82,7 +90,8 @@ module _ {l : List ℤ} {e : ℕ} (t : EdgeRows l e) (c : List ℤ) (m : Map) (E
   other x h q = let r = row-there t x h in fresh (r .0) (r .1) (r .2 ∙ q)
 
   none : Fresh (arcOf row) (arcs m)
-  none k = other N (sym (has-alone N) ∙ has-number numberOf (m .edges) N (subst (λ (ns : List ℕ). List·Memᴰ N ns) (nums-rows m) k)) refl
+  none k = other N (sym (has-alone N) ∙ has-number numberOf (m .edges) N
+      (subst (λ (ns : List ℕ). List·Memᴰ N ns) (nums-rows m) k)) refl
 
   missing-new : hasEdge m N ≡ false
   missing-new = not-true (hasEdge m N) (λ h. other N (sym (has-alone N) ∙ h) refl)
@@ -115,13 +124,16 @@ module _ {l : List ℤ} {e : ℕ} (t : EdgeRows l e) (c : List ℤ) (m : Map) (E
 
   -- the direction at each position
   ways : (p : ℕ) → p < e * 2 + 2 → way m₁ (D p) ≡ W p
-  ways p h = way-row m₁ (D p) ∙ ap startWay (course-row m₁ (D p)) ∙ ap (λ (k : Curve). startWay (edits.course (odd p) k)) (curve-at (equal? (p / 2) e))
+  ways p h = way-row m₁ (D p) ∙ ap startWay (course-row m₁ (D p))
+      ∙ ap (λ (k : Curve). startWay (edits.course (odd p) k)) (curve-at (equal? (p / 2) e))
     where
-      curve-at : (p / 2 ≡ e) ⊎ ((p / 2 ≡ e) → ⊥) → edge m₁ (cond (same (p / 2) e) N (edgeAt l (p / 2) .number)) .curve ≡ cond (same (p / 2) e) (curveOf c) (edgeAt l (p / 2) .curve)
+      curve-at : (p / 2 ≡ e) ⊎ ((p / 2 ≡ e) → ⊥) → edge m₁ (cond (same (p / 2) e) N (edgeAt l (p / 2) .number)) .curve
+          ≡ cond (same (p / 2) e) (curveOf c) (edgeAt l (p / 2) .curve)
       curve-at (inl q) = rw (same-eq (p / 2) e q) (ap (λ (r : Edge). r .curve) edge-new)
       curve-at (inr q) =
           let i : p / 2 < e = omega arith in
-          rw (same-false (p / 2) e q) (ap (λ (r : Edge). r .curve) (edge-old (edgeAt l (p / 2) .number) (row-named t (p / 2) i) ∙ edge-of t (p / 2) i))
+          rw (same-false (p / 2) e q) (ap (λ (r : Edge). r .curve)
+          (edge-old (edgeAt l (p / 2) .number) (row-named t (p / 2) i) ∙ edge-of t (p / 2) i))
 
   -- ---- departures
 
@@ -137,15 +149,19 @@ module _ {l : List ℤ} {e : ℕ} (t : EdgeRows l e) (c : List ℤ) (m : Map) (E
       ap (keep (leavesAt n)) (more-directed m m₁ row refl)
       ∙ keep-append (leavesAt n) (directed m) (f ∷ b ∷ [])
       ∙ ap (λ (ds : List Dart). ds ++ keep (leavesAt n) (f ∷ b ∷ []))
-      (ap (λ (es : List Edge). keep (leavesAt n) (darts (map arcOf es))) E ∙ keep-cong (leavesAt n) (λ d. same (leaves m₀ d) n) (directed m₀) (λ d k. ap (λ (x : ℕ). same x n) (leaves-old d (dart-has m₀ k))))
+      (ap (λ (es : List Edge). keep (leavesAt n) (darts (map arcOf es))) E
+      ∙ keep-cong (leavesAt n) (λ d. same (leaves m₀ d) n) (directed m₀)
+      (λ d k. ap (λ (x : ℕ). same x n) (leaves-old d (dart-has m₀ k))))
 
   -- those that a test takes that takes all the rows'
-  kept : (g : Dart → Bool) → ((d : Dart) → hasEdge m₀ (d .edge) ≡ true → g d ≡ true) → (n : ℕ) → keep g (departures m₁ n) ≡ map D (olds n) ++ keep (leavesAt n) (keep g (f ∷ b ∷ []))
+  kept : (g : Dart → Bool) → ((d : Dart) → hasEdge m₀ (d .edge) ≡ true → g d ≡ true) → (n : ℕ)
+      → keep g (departures m₁ n) ≡ map D (olds n) ++ keep (leavesAt n) (keep g (f ∷ b ∷ []))
   kept g h n =
       ap (keep g) (there n)
       ∙ keep-append g (departures m₀ n) (keep (leavesAt n) (f ∷ b ∷ []))
       ∙ ap₂ (λ (x y : List Dart). x ++ y)
-      (keep-all g (departures m₀ n) (λ d k. h d (dart-has m₀ (departs m₀ n k .0))) ∙ departures-map t n ∙ map-cong (dartAt l) D (olds n) (λ p k. sym (place-old l e N p (departing-below l e (pos n) p k))))
+      (keep-all g (departures m₀ n) (λ d k. h d (dart-has m₀ (departs m₀ n k .0))) ∙ departures-map t n
+      ∙ map-cong (dartAt l) D (olds n) (λ p k. sym (place-old l e N p (departing-below l e (pos n) p k))))
       (keep-swap g (leavesAt n) (f ∷ b ∷ []))
 
   abbrev isOld : Dart → Bool
@@ -191,20 +207,24 @@ module _ {l : List ℤ} {e : ℕ} (t : EdgeRows l e) (c : List ℤ) (m : Map) (E
   abbrev end : ℕ
   end = endCorner l e c (pos u) (pos v)
 
-  found : (p : ℕ) → p < e * 2 + 2 → (w : Way) → W p ≡ w → (ds : List ℕ) → ((q : ℕ) → List·Memᴰ q ds → q < e * 2 + 2) → firstClockwise (way m₁) (way m₁ (D p)) (D p) (map D ds) ≡ D (firstClockwise W w p ds)
-  found p h w q ds below = ap (λ (x : Way). firstClockwise (way m₁) x (D p) (map D ds)) (ways p h ∙ q) ∙ first-map D W (way m₁) w p ds (λ d k. ways d (below d k))
+  found : (p : ℕ) → p < e * 2 + 2 → (w : Way) → W p ≡ w → (ds : List ℕ) → ((q : ℕ) → List·Memᴰ q ds → q < e * 2 + 2)
+      → firstClockwise (way m₁) (way m₁ (D p)) (D p) (map D ds) ≡ D (firstClockwise W w p ds)
+  found p h w q ds below = ap (λ (x : Way). firstClockwise (way m₁) x (D p) (map D ds)) (ways p h ∙ q)
+      ∙ first-map D W (way m₁) w p ds (λ d k. ways d (below d k))
 
   start-is : firstClockwise (way m₁) (way m₁ f) f (keep isOld (departures m₁ (leaves m₁ f))) ≡ D start
   start-is =
       ap (firstClockwise (way m₁) (way m₁ f) f) at-start
       ∙ ap (λ (d : Dart). firstClockwise (way m₁) (way m₁ d) d (map D (olds u))) (sym (place-forward l e N))
-      ∙ found (e * 2) (omega arith) (startWay (edits.course false (curveOf c))) (start-way l e c) (olds u) (λ q k. let h = departing-below l e (pos u) q k in omega arith)
+      ∙ found (e * 2) (omega arith) (startWay (edits.course false (curveOf c))) (start-way l e c) (olds u)
+      (λ q k. let h = departing-below l e (pos u) q k in omega arith)
 
   end-is : firstClockwise (way m₁) (way m₁ b) b (keep notBack (departures m₁ (leaves m₁ b))) ≡ D end
   end-is =
       ap (firstClockwise (way m₁) (way m₁ b) b) at-end
       ∙ ap (λ (d : Dart). firstClockwise (way m₁) (way m₁ d) d (map D ends)) (sym (place-backward l e N))
-      ∙ found (e * 2 + 1) (omega arith) (startWay (edits.course true (curveOf c))) (end-way l e c) ends (at-end-below l e (pos u) (pos v))
+      ∙ found (e * 2 + 1) (omega arith) (startWay (edits.course true (curveOf c))) (end-way l e c) ends
+      (at-end-below l e (pos u) (pos v))
 
   -- ---- the links
 
@@ -214,14 +234,18 @@ module _ {l : List ℤ} {e : ℕ} (t : EdgeRows l e) (c : List ℤ) (m : Map) (E
   R : Relinked m₁ m₂
   R = linkIn-relinked f (keep isOld (departures m₁ (leaves m₁ f))) m₁
 
-  next₂ : (d : Dart) → hasEdge m₁ (d .edge) ≡ true → next m₂ d ≡ cond (sameDart d b) (D start) (instead (D start) f (next m₁ d))
-  next₂ d h = linkIn-next f (keep isOld (departures m₁ (leaves m₁ f))) m₁ d h ∙ ap (λ (x : Dart). cond (sameDart d b) x (instead x f (next m₁ d))) start-is
+  next₂ : (d : Dart) → hasEdge m₁ (d .edge) ≡ true → next m₂ d
+      ≡ cond (sameDart d b) (D start) (instead (D start) f (next m₁ d))
+  next₂ d h = linkIn-next f (keep isOld (departures m₁ (leaves m₁ f))) m₁ d h
+      ∙ ap (λ (x : Dart). cond (sameDart d b) x (instead x f (next m₁ d))) start-is
 
-  next₃ : (d : Dart) → hasEdge m₁ (d .edge) ≡ true → next (linkEdge N m₁) d ≡ cond (sameDart d f) (D end) (instead (D end) b (next m₂ d))
+  next₃ : (d : Dart) → hasEdge m₁ (d .edge) ≡ true → next (linkEdge N m₁) d
+      ≡ cond (sameDart d f) (D end) (instead (D end) b (next m₂ d))
   unfolding linkEdge
   next₃ d h =
       linkIn-next b (keep notBack (departures m₁ (leaves m₁ b))) m₂ d (R .has (d .edge) ∙ h)
-      ∙ ap (λ (w : Dart → Way). let x = firstClockwise w (w b) b (keep notBack (departures m₁ (leaves m₁ b))) in cond (sameDart d f) x (instead x b (next m₂ d))) (λ i x. R .way x i)
+      ∙ ap (λ (w : Dart → Way). let x = firstClockwise w (w b) b (keep notBack (departures m₁ (leaves m₁ b))) in
+      cond (sameDart d f) x (instead x b (next m₂ d))) (λ i x. R .way x i)
       ∙ ap (λ (x : Dart). cond (sameDart d f) x (instead x b (next m₂ d))) end-is
 
   abbrev M : Map
@@ -245,16 +269,20 @@ module _ {l : List ℤ} {e : ℕ} (t : EdgeRows l e) (c : List ℤ) (m : Map) (E
     fresh = fresh;
     rows = rows-drawn;
     forward = next-drawn f ∙ next₃ f has-new ∙ rw (sameDart-refl f);
-    backward = next-drawn b ∙ next₃ b has-new ∙ ap (λ (s : Bool). cond s (D end) (instead (D end) b (next m₂ b))) (sameDart-false b f (λ q. fwd≢bwd (sym q)))
-        ∙ ap (instead (D end) b) (next₂ b has-new ∙ ap (λ (s : Bool). cond s (D start) (instead (D start) f (next m₁ b))) (sameDart-refl b));
+    backward = next-drawn b ∙ next₃ b has-new
+        ∙ ap (λ (s : Bool). cond s (D end) (instead (D end) b (next m₂ b))) (sameDart-false b f (λ q. fwd≢bwd (sym q)))
+        ∙ ap (instead (D end) b) (next₂ b has-new
+        ∙ ap (λ (s : Bool). cond s (D start) (instead (D start) f (next m₁ b))) (sameDart-refl b));
     others = λ p h.
         let d = dartAt l p in
         let k = dart-named t p h in
         let g = has-old (d .edge) k in
         let ne = other (d .edge) k in
         next-drawn d ∙ next₃ d g
-        ∙ ap (λ (s : Bool). cond s (D end) (instead (D end) b (next m₂ d))) (sameDart-false d f (λ q. ne (ap (λ (x : Dart). x .edge) q)))
+        ∙ ap (λ (s : Bool). cond s (D end) (instead (D end) b (next m₂ d)))
+        (sameDart-false d f (λ q. ne (ap (λ (x : Dart). x .edge) q)))
         ∙ ap (instead (D end) b) (next₂ d g
-        ∙ ap (λ (s : Bool). cond s (D start) (instead (D start) f (next m₁ d))) (sameDart-false d b (λ q. ne (ap (λ (x : Dart). x .edge) q)))
+        ∙ ap (λ (s : Bool). cond s (D start) (instead (D start) f (next m₁ d)))
+        (sameDart-false d b (λ q. ne (ap (λ (x : Dart). x .edge) q)))
         ∙ ap (instead (D start) f) (next-old d k));
   }

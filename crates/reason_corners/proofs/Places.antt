@@ -20,14 +20,17 @@ use Rattle.reason_corners.specs.Drawing.{drawnDart}
 module _ (l : List ℤ) (e new : ℕ) where
   -- the rows' positions
   pub place-old : (p : ℕ) → p < e * 2 → drawnDart l e new p ≡ dartAt l p
-  place-old p h = dart-is (ap (λ (b : Bool). cond b new (edgeAt l (p / 2) .number)) (same-false (p / 2) e (λ q. omega arith))) refl
+  place-old p h = dart-is (ap (λ (b : Bool). cond b new (edgeAt l (p / 2) .number))
+      (same-false (p / 2) e (λ q. omega arith))) refl
 
   -- the new edge's
   pub place-forward : drawnDart l e new (e * 2) ≡ fwd new
-  place-forward = dart-is (ap (λ (b : Bool). cond b new (edgeAt l (e * 2 / 2) .number)) (same-eq (e * 2 / 2) e (omega arith))) (even-of (e * 2) (omega arith) .test)
+  place-forward = dart-is (ap (λ (b : Bool). cond b new (edgeAt l (e * 2 / 2) .number))
+      (same-eq (e * 2 / 2) e (omega arith))) (even-of (e * 2) (omega arith) .test)
 
   pub place-backward : drawnDart l e new (e * 2 + 1) ≡ bwd new
-  place-backward = dart-is (ap (λ (b : Bool). cond b new (edgeAt l ((e * 2 + 1) / 2) .number)) (same-eq ((e * 2 + 1) / 2) e (omega arith))) (odd-of (e * 2 + 1) (omega arith) .test)
+  place-backward = dart-is (ap (λ (b : Bool). cond b new (edgeAt l ((e * 2 + 1) / 2) .number))
+      (same-eq ((e * 2 + 1) / 2) e (omega arith))) (odd-of (e * 2 + 1) (omega arith) .test)
 
 -- a position is a row's, or the new edge's
 pub which-place : (e p : ℕ) → p < e * 2 + 2 → (p < e * 2) ⊎ ((p ≡ e * 2) ⊎ (p ≡ e * 2 + 1))
@@ -37,7 +40,8 @@ which-place e p h =
       | inr a ↦ elim (equal? p (e * 2 + 1)) [ inl b ↦ inr (inr b) | inr b ↦ inl (omega arith) ]
     ]
 
-module _ {l : List ℤ} {e : ℕ} (t : EdgeRows l e) (new : ℕ) (fresh : (i : ℕ) → i < e → (edgeAt l i .number ≡ new) → ⊥) where
+module _ {l : List ℤ} {e : ℕ} (t : EdgeRows l e) (new : ℕ)
+    (fresh : (i : ℕ) → i < e → (edgeAt l i .number ≡ new) → ⊥) where
   abbrev number : ℕ → ℕ
   number i = cond (same i e) new (edgeAt l i .number)
 
@@ -65,11 +69,15 @@ module _ {l : List ℤ} {e : ℕ} (t : EdgeRows l e) (new : ℕ) (fresh : (i : �
         | inr a ↦ let x = a .rest in let s = same-true (q % 2) 1 (sym g ∙ a .test) in omega arith
       ]
 
-  pub place-test : (p q : ℕ) → p < e * 2 + 2 → q < e * 2 + 2 → sameDart (drawnDart l e new p) (drawnDart l e new q) ≡ same p q
+  pub place-test : (p q : ℕ) → p < e * 2 + 2 → q < e * 2 + 2 → sameDart (drawnDart l e new p) (drawnDart l e new q)
+      ≡ same p q
   place-test p q h k =
       elim (equal? p q) [
-        | inl a ↦ ap (λ (j : ℕ). sameDart (drawnDart l e new j) (drawnDart l e new q)) a ∙ sameDart-refl (drawnDart l e new q) ∙ sym (same-eq p q a)
-        | inr a ↦ not-true (sameDart (drawnDart l e new p) (drawnDart l e new q)) (λ s. a (place-one p q h k (sameDart-true (drawnDart l e new p) (drawnDart l e new q) s))) ∙ sym (same-false p q a)
+        | inl a ↦ ap (λ (j : ℕ). sameDart (drawnDart l e new j) (drawnDart l e new q)) a
+            ∙ sameDart-refl (drawnDart l e new q) ∙ sym (same-eq p q a)
+        | inr a ↦ not-true (sameDart (drawnDart l e new p) (drawnDart l e new q))
+            (λ s. a (place-one p q h k (sameDart-true (drawnDart l e new p) (drawnDart l e new q) s)))
+            ∙ sym (same-false p q a)
       ]
 
   -- one position for another is one directed edge for another

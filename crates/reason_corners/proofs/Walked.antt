@@ -1,4 +1,5 @@
--- What follows each position with the new edge linked in, and the ring of the new edge, turn by turn: what is left of it from a position on, with the steps that are left. Assumes nothing.
+-- What follows each position with the new edge linked in, and the ring of the new edge, turn by turn: what is left of
+-- it from a position on, with the steps that are left. Assumes nothing.
 use mathlib.Core.Path.{_≡_, sym, ap, _∙_}
 use mathlib.Core.Bool.{Bool, true, false, cond}
 use mathlib.Core.List.{List}
@@ -17,7 +18,8 @@ use Rattle.map.specs.Links.{instead}
 use Rattle.tables.specs.Tables.{edgeMap, EdgeRows}
 use Rattle.darts.specs.Positions.{dartAt}
 use Rattle.reason_corners.specs.Drawing.{drawnDart, Joined}
-use Rattle.reason_corners.proofs.Places.{place-old, place-forward, place-backward, place-test, place-instead, instead-below}
+use Rattle.reason_corners.proofs.Places.{place-old, place-forward, place-backward, place-test, place-instead}
+use Rattle.reason_corners.proofs.Places.{instead-below}
 
 -- whether the reverse is met from position p on, in at most k steps
 abbrev pub meets : List ℤ → ℕ → ℕ → Map → ℕ → ℕ → Bool
@@ -39,13 +41,15 @@ module _ {l : List ℤ} {e start end new : ℕ} {m : Map} (t : EdgeRows l e) (j 
         ∙ place-instead t new (j .fresh) start end (e * 2 + 1) (bwd new) hs he (place-backward l e new)
         ∙ sym (ap (next m) (ap D q ∙ place-backward l e new) ∙ j .backward)
 
-    pub follows-other : (p q s r : ℕ) → p < e * 2 → q < e * 2 → dartAt l q ≡ next (edgeMap l e) (dartAt l p) → s ≡ cond (same q start) (e * 2) q → r ≡ cond (same s end) (e * 2 + 1) s → D r ≡ next m (D p)
+    pub follows-other : (p q s r : ℕ) → p < e * 2 → q < e * 2 → dartAt l q ≡ next (edgeMap l e) (dartAt l p) → s
+        ≡ cond (same q start) (e * 2) q → r ≡ cond (same s end) (e * 2 + 1) s → D r ≡ next m (D p)
     follows-other p q s r hp hq link is then =
         let below : s < e * 2 + 2 = rw is (instead-below (e * 2 + 2) q start (e * 2) (omega arith) (omega arith)) in
         ap D then
         ∙ place-instead t new (j .fresh) s end (e * 2 + 1) (bwd new) below he (place-backward l e new)
         ∙ ap (instead (D end) (bwd new))
-        (ap D is ∙ place-instead t new (j .fresh) q start (e * 2) (fwd new) (omega arith) hs (place-forward l e new) ∙ ap (instead (D start) (fwd new)) (place-old l e new q hq ∙ link))
+        (ap D is ∙ place-instead t new (j .fresh) q start (e * 2) (fwd new) (omega arith) hs (place-forward l e new)
+        ∙ ap (instead (D start) (fwd new)) (place-old l e new q hq ∙ link))
         ∙ sym (ap (next m) (place-old l e new p hp) ∙ j .others p hp)
 
   -- ---- the ring
@@ -70,9 +74,11 @@ module _ {l : List ℤ} {e start end new : ℕ} {m : Map} (t : EdgeRows l e) (j 
       unfolding stepsTo
       meets-here q = rw (one-more, q, place-backward l e new, sameDart-refl (bwd new))
 
-      module _ (hp : p < e * 2 + 2) (apart : (p ≡ e * 2 + 1) → ⊥) (s : ℕ) (hs : s < e * 2 + 2) (follows : drawnDart l e new s ≡ next m (drawnDart l e new p)) where
+      module _ (hp : p < e * 2 + 2) (apart : (p ≡ e * 2 + 1) → ⊥) (s : ℕ) (hs : s < e * 2 + 2)
+          (follows : drawnDart l e new s ≡ next m (drawnDart l e new p)) where
         off : sameDart (bwd new) (drawnDart l e new p) ≡ false
-        off = rw (← place-backward l e new) (place-test t new (j .fresh) (e * 2 + 1) p (omega arith) hp ∙ same-false (e * 2 + 1) p (λ q. apart (sym q)))
+        off = rw (← place-backward l e new)
+            (place-test t new (j .fresh) (e * 2 + 1) p (omega arith) hp ∙ same-false (e * 2 + 1) p (λ q. apart (sym q)))
 
         back : sameDart (next m (drawnDart l e new p)) (fwd new) ≡ same s (e * 2)
         back = rw (← follows, ← place-forward l e new) (place-test t new (j .fresh) s (e * 2) hs (omega arith))

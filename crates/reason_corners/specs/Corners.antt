@@ -16,4 +16,5 @@ cornerBy nodes i l Missing = getD nodes (i * nodeWidth + 3) (pos 0)
 
 -- left of the first departure met turning clockwise from v; at a node with none, its containing face
 abbrev pub cornerCell : List ℤ → ℕ → List ℤ → ℕ → Way → ℤ
-cornerCell nodes i l n v = cornerBy nodes i l (firstMet (wayAt l) v (leaving l n (getD nodes (i * nodeWidth) (pos 0)) (n * 2) (n * 2)))
+cornerCell nodes i l n v = cornerBy nodes i l
+    (firstMet (wayAt l) v (leaving l n (getD nodes (i * nodeWidth) (pos 0)) (n * 2) (n * 2)))

@@ -1,4 +1,5 @@
--- A new edge beside the rows, before it is written: its positions come after theirs. Where it is linked in, and how the links then run.
+-- A new edge beside the rows, before it is written: its positions come after theirs. Where it is linked in, and how the
+-- links then run.
 use mathlib.Core.Path.{_≡_}
 use mathlib.Core.Bool.{Bool, true, false, cond, not, _&&_, _||_}
 use mathlib.Core.List.{List, [], _∷_, _++_}
@@ -41,7 +42,8 @@ startCorner l e c from = cornerAt l e c false from (e * 2)
 
 -- the corner at the end; with nothing there, the reverse of the new edge
 abbrev pub endCorner : List ℤ → ℕ → List ℤ → ℤ → ℤ → ℕ
-endCorner l e c from to = firstClockwise (wayWith l e c) (startWay (course true (curveOf c))) (e * 2 + 1) (atEnd l e from to)
+endCorner l e c from to = firstClockwise (wayWith l e c) (startWay (course true (curveOf c))) (e * 2 + 1)
+    (atEnd l e from to)
 
 -- of q, the first one met turning clockwise from v, and x besides
 abbrev pub firstOf : (ℕ → Way) → Way → ℕ → ℕ → ℕ
@@ -57,4 +59,6 @@ pub record Joined (l : List ℤ) (e : ℕ) (start : ℕ) (end : ℕ) (new : ℕ)
   pub rows : length (m .edges) ≡ e + 1
   pub forward : next m (fwd new) ≡ drawnDart l e new end
   pub backward : next m (bwd new) ≡ instead (drawnDart l e new end) (bwd new) (drawnDart l e new start)
-  pub others : (p : ℕ) → p < e * 2 → next m (dartAt l p) ≡ instead (drawnDart l e new end) (bwd new) (instead (drawnDart l e new start) (fwd new) (next (edgeMap l e) (dartAt l p)))
+  pub others : (p : ℕ) → p < e * 2 → next m (dartAt l p)
+      ≡ instead (drawnDart l e new end) (bwd new)
+      (instead (drawnDart l e new start) (fwd new) (next (edgeMap l e) (dartAt l p)))

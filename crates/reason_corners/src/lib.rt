@@ -1,5 +1,5 @@
-// Corner faces of a new departure, and whether a new edge splits a face: before anything is written, the ring of the new
-// edge is walked on the links as they would be.
+// Corner faces of a new departure, and whether a new edge splits a face: before anything is written, the ring of the
+// new edge is walked on the links as they would be.
 use darts::Step;
 use lists::Found;
 ghost use mathlib.Core.Path.{_≡_};
@@ -32,14 +32,14 @@ pub fn corner_face(nodes: &[i64], i: usize, edges: &[i64], count: usize, v: Step
         count,
         count,
         &edges[0..0],
-        nodes[i * 4],
+        nodes[i * map::NODE_WIDTH],
         v,
         none,
         none,
     );
     match found {
-        Found::At(p) => darts::dart_cell(edges, p, 5),
-        Found::Missing => nodes[i * 4 + 3],
+        Found::At(p) => darts::dart_cell(edges, p, map::LEFT),
+        Found::Missing => nodes[i * map::NODE_WIDTH + map::NODE_FACE],
     }
 }
 
@@ -53,14 +53,18 @@ pub fn corners_differ(
     c: &[i64],
 ) -> bool
     requires { ⌜ NodeRow (now nodes) u × NodeRow (now nodes) v × EdgeRows (now edges) count × Run (now c) ⌝ }
-    ensures { λ r. ⌜ r ≡ not (sameZ (cornerCell (now (nodes .entry)) u (now (edges .entry)) count (startWay (course false (curveOf (now (c .entry)))))) (cornerCell (now (nodes .entry)) v (now (edges .entry)) count (startWay (course true (curveOf (now (c .entry))))))) ⌝ }
+    ensures { λ r. ⌜ r ≡ not (sameZ (cornerCell (now (nodes .entry)) u (now (edges .entry)) count
+        (startWay (course false (curveOf (now (c .entry))))))
+        (cornerCell (now (nodes .entry)) v (now (edges .entry)) count
+        (startWay (course true (curveOf (now (c .entry))))))) ⌝ }
 {
     let start = corner_face(nodes, u, edges, count, darts::first_step(c, false));
     let end = corner_face(nodes, v, edges, count, darts::first_step(c, true));
     start != end
 }
 
-// Where a new edge would be linked in: the departures met clockwise from its two ends, by position. Its own are 2 e and 2 e + 1 for the row e.
+// Where a new edge would be linked in: the departures met clockwise from its two ends, by position. Its own are 2 e and
+// 2 e + 1 for the row e.
 struct Corners {
     start: usize,
     end: usize,
@@ -87,10 +91,12 @@ fn corner(edges: &[i64], e: usize, c: &[i64], back: bool, node: i64, none: usize
     p
 }
 
-// The first one met clockwise from the new edge's end where q is the first of the others and the new edge itself starts there.
+// The first one met clockwise from the new edge's end where q is the first of the others and the new edge itself starts
+// there.
 fn end_of_loop(edges: &[i64], e: usize, q: usize, c: &[i64]) -> usize
     requires { ⌜ EdgeRows (now edges) e × (e ≤ 2000) × (q < e * 2) × Run (now c) ⌝ }
-    ensures { λ r. ⌜ r ≡ firstOf (wayWith (now (edges .entry)) e (now (c .entry))) (startWay (course true (curveOf (now (c .entry))))) q (e * 2) ⌝ }
+    ensures { λ r. ⌜ r ≡ firstOf (wayWith (now (edges .entry)) e (now (c .entry)))
+        (startWay (course true (curveOf (now (c .entry))))) q (e * 2) ⌝ }
 {
     let v = darts::first_step(c, true);
     let own = darts::first_step(c, false);
@@ -129,8 +135,10 @@ fn instead(q: usize, old: usize, new: usize) -> usize
 
 // What would follow the directed edge at p with the new edge linked in.
 fn drawn_next(edges: &[i64], e: usize, k: Corners, p: usize) -> usize
-    requires { ⌜ EdgeRows (now edges) e × (e ≤ 2000) × (k .start < e * 2 + 2) × (k .end < e * 2 + 2) × (p < e * 2 + 2) ⌝ }
-    ensures { λ r. ⌜ (r < e * 2 + 2) × ((new : ℕ) (m : Map) → Joined (now (edges .entry)) e (k .start) (k .end) new m → drawnDart (now (edges .entry)) e new r ≡ next m (drawnDart (now (edges .entry)) e new p)) ⌝ }
+    requires { ⌜ EdgeRows (now edges) e × (e ≤ 2000) × (k .start < e * 2 + 2) × (k .end < e * 2 + 2)
+        × (p < e * 2 + 2) ⌝ }
+    ensures { λ r. ⌜ (r < e * 2 + 2) × ((new : ℕ) (m : Map) → Joined (now (edges .entry)) e (k .start) (k .end) new m
+        → drawnDart (now (edges .entry)) e new r ≡ next m (drawnDart (now (edges .entry)) e new p)) ⌝ }
 {
     if p == e * 2 {
         return k.end;
@@ -143,9 +151,10 @@ fn drawn_next(edges: &[i64], e: usize, k: Corners, p: usize) -> usize
 }
 
 // Whether the new edge and its reverse would lie on different rings, linked in at these corners.
-fn parts_rings(edges: &[i64], e: usize, k: Corners) -> bool
+fn rings_differ(edges: &[i64], e: usize, k: Corners) -> bool
     requires { ⌜ EdgeRows (now edges) e × (e ≤ 2000) × (k .start < e * 2 + 2) × (k .end < e * 2 + 2) ⌝ }
-    ensures { λ r. ⌜ ((new : ℕ) (m : Map) → Joined (now (edges .entry)) e (k .start) (k .end) new m → r ≡ not (among (ring m (fwd new)) (bwd new))) ⌝ }
+    ensures { λ r. ⌜ ((new : ℕ) (m : Map) → Joined (now (edges .entry)) e (k .start) (k .end) new m → r
+        ≡ not (among (ring m (fwd new)) (bwd new))) ⌝ }
 {
     let mut p = e * 2;
     for n in 0..e * 2 + 2 {
@@ -163,11 +172,14 @@ fn parts_rings(edges: &[i64], e: usize, k: Corners) -> bool
 // Whether a new edge with the curve c from node row u to node row v would lie on another ring than its reverse.
 pub fn splits_face(nodes: &[i64], edges: &[i64], e: usize, u: usize, v: usize, c: &[i64]) -> bool
     requires { ⌜ NodeRow (now nodes) u × NodeRow (now nodes) v × EdgeRows (now edges) e × (e ≤ 2000) × Run (now c) ⌝ }
-    ensures { λ r. ⌜ ((m : _) → m .edges ≡ edgesOf (now (edges .entry)) e → numbered 1 (m .nextEdge) (map (λ x. x .number) (m .edges)) ≡ true → r ≡ splitsFace (nodeAt (now (nodes .entry)) u .number) (nodeAt (now (nodes .entry)) v .number) (curveOf (now (c .entry))) m) ⌝ }
+    ensures { λ r. ⌜ ((m : _) → m .edges ≡ edgesOf (now (edges .entry)) e
+        → numbered 1 (m .nextEdge) (map (λ x. x .number) (m .edges)) ≡ true → r
+        ≡ splitsFace (nodeAt (now (nodes .entry)) u .number) (nodeAt (now (nodes .entry)) v .number)
+        (curveOf (now (c .entry))) m) ⌝ }
 {
-    let from = nodes[u * 4];
-    let to = nodes[v * 4];
+    let from = nodes[u * map::NODE_WIDTH];
+    let to = nodes[v * map::NODE_WIDTH];
     let start = corner(edges, e, c, false, from, e * 2);
     let end = end_corner(edges, e, c, from, to);
-    parts_rings(edges, e, Corners { start, end })
+    rings_differ(edges, e, Corners { start, end })
 }

@@ -1,4 +1,5 @@
--- Tests of points and curves, which look at the nodes alone or at the edges alone, and reasons against a curve sent, in the map's terms. Assumes nothing.
+-- Tests of points and curves, which look at the nodes alone or at the edges alone, and reasons against a curve sent, in
+-- the map's terms. Assumes nothing.
 use mathlib.Core.Path.{_≡_}
 use mathlib.Core.Option.{some}
 use mathlib.Core.List.{List}
@@ -21,9 +22,11 @@ module _ (m m′ : Map) where
   unfolding nodeInside
   inside-alike c e = rw e
 
-  pub meeting-alike : {es es′ : List Edge} (c : Curve) → m .nodes ≡ m′ .nodes → es ≡ es′ → meetingReasons m es c ≡ meetingReasons m′ es′ c
+  pub meeting-alike : {es es′ : List Edge} (c : Curve) → m .nodes ≡ m′ .nodes → es ≡ es′ → meetingReasons m es c
+      ≡ meetingReasons m′ es′ c
   meeting-alike c e f = rw (inside-alike c e, f)
 
 -- a curve sent between two nodes
-pub sent-is : (m : Map) (sent : List ℤ) (u v : ℕ) {p q : Point} → node m u .at ≡ p → node m v .at ≡ q → sentReasons sent p q ≡ curveReasons m sent u v
+pub sent-is : (m : Map) (sent : List ℤ) (u v : ℕ) {p q : Point} → node m u .at ≡ p → node m v .at ≡ q
+    → sentReasons sent p q ≡ curveReasons m sent u v
 sent-is m sent u v e f = rw (e, f)

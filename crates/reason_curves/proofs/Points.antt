@@ -33,13 +33,15 @@ point-in x y e f = record { x = coordinate-le x e; y = coordinate-le y f }
 -- ---- the point of a node row
 
 module _ {l : List ℤ} {i : ℕ} (row : NodeRow l i) where
-  in-it : nonNeg (cell (rowAt nodeWidth l i) 0) && coordinate (cell (rowAt nodeWidth l i) 1) && coordinate (cell (rowAt nodeWidth l i) 2) ≡ true
+  in-it : nonNeg (cell (rowAt nodeWidth l i) 0) && coordinate (cell (rowAt nodeWidth l i) 1)
+      && coordinate (cell (rowAt nodeWidth l i) 2) ≡ true
   in-it = and-left _ (leZ (negsuc 0) (cell (rowAt nodeWidth l i) 3)) (row .ranges)
 
   pub node-x : coordinate (getD l (i * 4 + 1) (pos 0)) ≡ true
   node-x =
       subst (λ (z : ℤ). coordinate z ≡ true) (row-cell nodeWidth l i 1 (lit< tt))
-      (and-right (nonNeg (cell (rowAt nodeWidth l i) 0)) _ (and-left _ (coordinate (cell (rowAt nodeWidth l i) 2)) in-it))
+      (and-right (nonNeg (cell (rowAt nodeWidth l i) 0)) _
+      (and-left _ (coordinate (cell (rowAt nodeWidth l i) 2)) in-it))
 
   pub node-y : coordinate (getD l (i * 4 + 2) (pos 0)) ≡ true
   node-y =

@@ -1,11 +1,12 @@
 // The tests behind the reasons that look at points and curves alone: 5 to 8, 10, 14 and 15.
 use lists::Found;
+use map::Map;
 use plane::Point;
 ghost use mathlib.Core.Path.{_≡_};
 ghost use mathlib.Core.Bool.{true, not, _&&_};
 ghost use Prim.Native.Nat.{_*_, _<_};
 ghost use Rattle.lists.specs.Tests.{same};
-ghost use Rattle.lists.specs.Scans.{any};
+ghost use Rattle.lists.specs.Scans.{anyOf};
 ghost use Rattle.lists.specs.Tables.{table};
 ghost use Rattle.plane.specs.Points.{InRange, samePoint};
 ghost use Rattle.curves.specs.Curves.{Run, coordinate, curveOf, lastPoint, point};
@@ -19,7 +20,7 @@ ghost use Rattle.reason_curves.specs.Sent.{sentReasons, edgesBut};
 pub fn in_range(x: i64, y: i64) -> bool
     ensures { λ r. ⌜ r ≡ (coordinate x && coordinate y) ⌝ }
 {
-    (0 <= x) & (x <= 1048575) & (0 <= y) & (y <= 1048575)
+    (0 <= x) & (x <= Map::COORDINATE) & (0 <= y) & (y <= Map::COORDINATE)
 }
 
 // A point of coordinates in range.
@@ -38,8 +39,8 @@ pub fn node_point(nodes: &[i64], i: usize) -> Point
     requires { ⌜ NodeRow (now nodes) i ⌝ }
     ensures { λ r. ⌜ (r ≡ nodeAt (now (nodes .entry)) i .at) × InRange r ⌝ }
 {
-    let x = nodes[i * 4 + 1];
-    let y = nodes[i * 4 + 2];
+    let x = nodes[i * map::NODE_WIDTH + map::X];
+    let y = nodes[i * map::NODE_WIDTH + map::Y];
     Point {
         x: x as u64,
         y: y as u64,
@@ -66,7 +67,8 @@ fn last_point(c: &[i64]) -> Point
 // The curve runs from the point of node row u to that of node row v.
 fn ends_on(nodes: &[i64], u: usize, v: usize, c: &[i64]) -> bool
     requires { ⌜ NodeRow (now nodes) u × NodeRow (now nodes) v × Run (now c) ⌝ }
-    ensures { λ r. ⌜ r ≡ (samePoint (curveOf (now (c .entry)) .first) (nodeAt (now (nodes .entry)) u .at) && samePoint (lastPoint (curveOf (now (c .entry)))) (nodeAt (now (nodes .entry)) v .at)) ⌝ }
+    ensures { λ r. ⌜ r ≡ (samePoint (curveOf (now (c .entry)) .first) (nodeAt (now (nodes .entry)) u .at)
+        && samePoint (lastPoint (curveOf (now (c .entry)))) (nodeAt (now (nodes .entry)) v .at)) ⌝ }
 {
     let starts = plane::same_point(first_point(c), node_point(nodes, u));
     let ends = plane::same_point(last_point(c), node_point(nodes, v));
@@ -75,7 +77,8 @@ fn ends_on(nodes: &[i64], u: usize, v: usize, c: &[i64]) -> bool
 
 pub fn curve_reason(nodes: &[i64], u: usize, v: usize, c: &[i64]) -> u64
     requires { ⌜ NodeRow (now nodes) u × NodeRow (now nodes) v ⌝ }
-    ensures { λ r. ⌜ r ≡ firstReason (sentReasons (now (c .entry)) (nodeAt (now (nodes .entry)) u .at) (nodeAt (now (nodes .entry)) v .at)) ⌝ }
+    ensures { λ r. ⌜ r ≡ firstReason (sentReasons (now (c .entry)) (nodeAt (now (nodes .entry)) u .at)
+        (nodeAt (now (nodes .entry)) v .at)) ⌝ }
 {
     if !curves::is_run(c) {
         return 5;
@@ -94,7 +97,8 @@ pub fn curve_reason(nodes: &[i64], u: usize, v: usize, c: &[i64]) -> u64
 // A node but that of row `own` lies on the point.
 pub fn node_at(nodes: &[i64], n: usize, own: usize, p: Point) -> bool
     requires { ⌜ NodeRows (now nodes) n × InRange p ⌝ }
-    ensures { λ r. ⌜ r ≡ any (λ i. not (same i own) && samePoint (nodeAt (now (nodes .entry)) i .at) p) (table (λ i. i) 0 n) ⌝ }
+    ensures { λ r. ⌜ r ≡ anyOf (λ i. not (same i own) && samePoint (nodeAt (now (nodes .entry)) i .at) p)
+        (table (λ i. i) 0 n) ⌝ }
 {
     for i in 0..n {
         if (i != own) & plane::same_point(node_point(nodes, i), p) {
@@ -175,7 +179,8 @@ pub fn meeting_reason(
     c: &[i64],
 ) -> u64
     requires { ⌜ NodeRows (now nodes) n × EdgeRows (now edges) count × Run (now c) ⌝ }
-    ensures { λ r. ⌜ r ≡ firstReason (meetingReasons (nodeMap (now (nodes .entry)) n) (edgesBut (now (edges .entry)) count own) (curveOf (now (c .entry)))) ⌝ }
+    ensures { λ r. ⌜ r ≡ firstReason (meetingReasons (nodeMap (now (nodes .entry)) n)
+        (edgesBut (now (edges .entry)) count own) (curveOf (now (c .entry)))) ⌝ }
 {
     if node_inside(nodes, n, c) {
         return 14;

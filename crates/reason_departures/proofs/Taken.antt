@@ -7,7 +7,7 @@ use Prim.Native.Nat.{ℕ, _*_, _/_, _<_}
 use native.Mathlib.Omega.{arith}
 use lib.IntN.{ℤ, pos}
 use Rattle.lists.specs.Tests.{same}
-use Rattle.lists.specs.Scans.{any, keep}
+use Rattle.lists.specs.Scans.{anyOf, keep}
 use Rattle.lists.proofs.Bools.{eq3, same-false}
 use Rattle.plane.specs.Directions.{Way, sameWay}
 use Rattle.planar_maps.specs.Map.{Dart}
@@ -28,17 +28,27 @@ module _ {l : List ℤ} {n : ℕ} (t : EdgeRows l n) where
   own-row : (own e : ℕ) → Own l n own e → (i : ℕ) → i < n → same (edgeAt l i .number) e ≡ same i own
   own-row own e o i h =
       ⊎-elim (λ k. ap (same (edgeAt l i .number)) (sym (o .is k)) ∙ sym (same-row t i own h k))
-      (λ k. same-false (edgeAt l i .number) e (λ q. o .none k i h q) ∙ sym (same-false i own (λ q. omega arith))) (lt-or-ge own n)
+      (λ k. same-false (edgeAt l i .number) e (λ q. o .none k i h q) ∙ sym (same-false i own (λ q. omega arith)))
+      (lt-or-ge own n)
 
   -- a scan of the departures from a node, by position
-  pub departures-any : (a : ℕ) (f : Dart → Bool) (g : ℕ → Bool) → ((p : ℕ) → p < n * 2 → f (dartAt l p) ≡ g p) → any f (departures (edgeMap l n) a) ≡ any (λ p. leavesNode l (pos a) p && g p) (positions n)
+  pub departures-any : (a : ℕ) (f : Dart → Bool) (g : ℕ → Bool) → ((p : ℕ) → p < n * 2 → f (dartAt l p) ≡ g p)
+      → anyOf f (departures (edgeMap l n) a) ≡ anyOf (λ p. leavesNode l (pos a) p && g p) (positions n)
   departures-any a f g h =
-      ap (any f) (departures-map t a) ∙ any-map f (dartAt l) (keep (leavesNode l (pos a)) (positions n)) ∙ any-keep (λ p. f (dartAt l p)) (leavesNode l (pos a)) (positions n)
-      ∙ any-same (λ p. leavesNode l (pos a) p && f (dartAt l p)) (λ p. leavesNode l (pos a) p && g p) (positions n) (λ p m. ap (λ (b : Bool). leavesNode l (pos a) p && b) (h p (position-below n p m)))
+      ap (anyOf f) (departures-map t a) ∙ any-map f (dartAt l) (keep (leavesNode l (pos a)) (positions n))
+      ∙ any-keep (λ p. f (dartAt l p)) (leavesNode l (pos a)) (positions n)
+      ∙ any-same (λ p. leavesNode l (pos a) p && f (dartAt l p)) (λ p. leavesNode l (pos a) p && g p) (positions n)
+      (λ p m. ap (λ (b : Bool). leavesNode l (pos a) p && b) (h p (position-below n p m)))
 
-  pub taken-is : (own e a : ℕ) (v : Way) → Own l n own e → any (λ p. leavesNode l (pos a) p && not (same (p / 2) own) && sameWay (wayAt l p) v) (positions n) ≡ wayTaken (edgeMap l n) e a v
+  pub taken-is : (own e a : ℕ) (v : Way) → Own l n own e
+      → anyOf (λ p. leavesNode l (pos a) p && not (same (p / 2) own) && sameWay (wayAt l p) v) (positions n)
+      ≡ wayTaken (edgeMap l n) e a v
   taken-is own e a v o =
-      any-same (λ p. leavesNode l (pos a) p && not (same (p / 2) own) && sameWay (wayAt l p) v) (λ p. leavesNode l (pos a) p && (not (same (p / 2) own) && sameWay (wayAt l p) v)) (positions n)
-      (λ p m. eq3 (λ x y z. x && y && z) (λ x y z. x && (y && z)) tt (leavesNode l (pos a) p) (not (same (p / 2) own)) (sameWay (wayAt l p) v))
-      ∙ sym (departures-any a (λ d. not (same (d .edge) e) && sameWay (way (edgeMap l n) d) v) (λ p. not (same (p / 2) own) && sameWay (wayAt l p) v)
-      (λ p h. ap₂ (λ (b : Bool) (w : Way). not b && sameWay w v) (own-row own e o (p / 2) (omega arith)) (way-is t p h)))
+      any-same (λ p. leavesNode l (pos a) p && not (same (p / 2) own) && sameWay (wayAt l p) v)
+      (λ p. leavesNode l (pos a) p && (not (same (p / 2) own) && sameWay (wayAt l p) v)) (positions n)
+      (λ p m. eq3 (λ x y z. x && y && z) (λ x y z. x && (y && z)) tt (leavesNode l (pos a) p) (not (same (p / 2) own))
+      (sameWay (wayAt l p) v))
+      ∙ sym (departures-any a (λ d. not (same (d .edge) e) && sameWay (way (edgeMap l n) d) v)
+      (λ p. not (same (p / 2) own) && sameWay (wayAt l p) v)
+      (λ p h. ap₂ (λ (b : Bool) (w : Way). not b && sameWay w v) (own-row own e o (p / 2) (omega arith))
+      (way-is t p h)))

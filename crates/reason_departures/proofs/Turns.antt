@@ -7,7 +7,7 @@ use Prim.Native.Nat.{ℕ, _*_, _/_, _<_}
 use native.Mathlib.Omega.{arith}
 use lib.IntN.{ℤ, pos}
 use Rattle.lists.specs.Tests.{same}
-use Rattle.lists.specs.Scans.{any, keep, find}
+use Rattle.lists.specs.Scans.{anyOf, keep, find}
 use Rattle.lists.proofs.Keeps.{keep-in, keep-has, keep-map}
 use Rattle.plane.specs.Directions.{Way}
 use Rattle.curves.specs.Curves.{Curve, curveOf, startWay}
@@ -48,31 +48,43 @@ module _ {l : List ℤ} {n : ℕ} (t : EdgeRows l n) where
   beside-below p q m = position-below n q (keep-in (leavesNode l (sideCell l p 1)) (positions n) m .0)
 
   beside-own : (p : ℕ) → p < n * 2 → List·Memᴰ p (beside p)
-  beside-own p h = keep-has (leavesNode l (sideCell l p 1)) (positions n) (position-has n p h) (same-self (sideCell l p 1))
+  beside-own p h = keep-has (leavesNode l (sideCell l p 1)) (positions n) (position-has n p h)
+      (same-self (sideCell l p 1))
 
   turn-below : (w : ℕ → Way) (p : ℕ) → p < n * 2 → lawfulNext w same p (beside p) < n * 2
   turn-below w p h = beside-below p (lawfulNext w same p (beside p)) (lawful-in w same (beside p) p (beside-own p h))
 
-  turn-is : (m : Map) (w : ℕ → Way) (p : ℕ) → p < n * 2 → ((q : ℕ) → q < n * 2 → way m (dartAt l q) ≡ w q) → departures m (leaves m (dartAt l p)) ≡ map (dartAt l) (beside p) → clockwise m (dartAt l p) ≡ dartAt l (lawfulNext w same p (beside p))
+  turn-is : (m : Map) (w : ℕ → Way) (p : ℕ) → p < n * 2 → ((q : ℕ) → q < n * 2 → way m (dartAt l q) ≡ w q)
+      → departures m (leaves m (dartAt l p)) ≡ map (dartAt l) (beside p) → clockwise m (dartAt l p)
+      ≡ dartAt l (lawfulNext w same p (beside p))
   unfolding clockwise
   turn-is m w p h ways deps =
       ap (lawfulNext (way m) sameDart (dartAt l p)) deps
       ∙ lawful-map (dartAt l) w (way m) same sameDart (beside p)
-      (record { ways = λ q k. ways q (beside-below p q k); tests = λ q c k j. other-dart t c q (beside-below p c j) (beside-below p q k) }) p (beside-own p h)
+      (record {
+        ways = λ q k. ways q (beside-below p q k);
+        tests = λ q c k j. other-dart t c q (beside-below p c j) (beside-below p q k);
+      }) p (beside-own p h)
 
   own-turn : (c : List ℤ) (p : ℕ) → p < n * 2 → clockwise (edgeMap l n) (dartAt l p) ≡ dartAt l (turnsAt l n n c p)
   own-turn c p h =
       turn-is (edgeMap l n) (wayWith l n c) p h (λ q k. way-is t q k ∙ sym (with-none l n c q (omega arith)))
-      (departures-map t (leaves (edgeMap l n) (dartAt l p)) ∙ ap (λ (z : ℤ). map (dartAt l) (keep (leavesNode l z) (positions n))) (sym (cell-leaves t p h)))
+      (departures-map t (leaves (edgeMap l n) (dartAt l p))
+      ∙ ap (λ (z : ℤ). map (dartAt l) (keep (leavesNode l z) (positions n))) (sym (cell-leaves t p h)))
 
 -- ---- a row with another curve
 
 -- rows changed that keep their numbers are found as before
-found-changed : (g : Edge → Edge) → ((r : Edge) → g r .number ≡ r .number) → (es : List Edge) (x : ℕ) (r : Edge) → find (λ r. same (r .number) x) es ≡ some r → find (λ r. same (r .number) x) (map g es) ≡ some (g r)
+found-changed : (g : Edge → Edge) → ((r : Edge) → g r .number ≡ r .number) → (es : List Edge) (x : ℕ) (r : Edge)
+    → find (λ r. same (r .number) x) es ≡ some r → find (λ r. same (r .number) x) (map g es) ≡ some (g r)
 found-changed g keeps [] x r e = let z : _≡_ {A = ℕ} 0 1 = cc in absurd (omega arith)
-found-changed g keeps (d ∷ es) x r e = ap (λ (k : ℕ). cond (same k x) (some (g d)) (find (λ r. same (r .number) x) (map g es))) (keeps d) ∙ (go (same (d .number) x) refl (found-changed g keeps es x r))
+found-changed g keeps (d ∷ es) x r e = ap
+    (λ (k : ℕ). cond (same k x) (some (g d)) (find (λ r. same (r .number) x) (map g es))) (keeps d)
+    ∙ (go (same (d .number) x) refl (found-changed g keeps es x r))
   where
-    go : (b : Bool) → same (d .number) x ≡ b → (find (λ r. same (r .number) x) es ≡ some r → find (λ r. same (r .number) x) (map g es) ≡ some (g r)) → cond (same (d .number) x) (some (g d)) (find (λ r. same (r .number) x) (map g es)) ≡ some (g r)
+    go : (b : Bool) → same (d .number) x ≡ b
+        → (find (λ r. same (r .number) x) es ≡ some r → find (λ r. same (r .number) x) (map g es) ≡ some (g r))
+        → cond (same (d .number) x) (some (g d)) (find (λ r. same (r .number) x) (map g es)) ≡ some (g r)
     go true q ih =
         let k : some d ≡ some r = rw q at e in
         let j : d ≡ r = cc in
@@ -111,7 +123,8 @@ module _ (e : ℕ) (c : Curve) where
       go true = refl
       go false = refl
 
-  arc-is : {a b f g x y : ℕ} → a ≡ b → f ≡ g → x ≡ y → _≡_ {A = Arc} (record { num = a; from = f; to = x }) (record { num = b; from = g; to = y })
+  arc-is : {a b f g x y : ℕ} → a ≡ b → f ≡ g → x ≡ y
+      → _≡_ {A = Arc} (record { num = a; from = f; to = x }) (record { num = b; from = g; to = y })
   arc-is p q r = cc
 
   drawn-arcs : (es : List Edge) → map arcOf (map drawn es) ≡ map arcOf es
@@ -123,11 +136,13 @@ module _ {l : List ℤ} {n : ℕ} (t : EdgeRows l n) (own : ℕ) (o : own < n) (
   changed : Map
   changed = changeEdgeGeom (edgeAt l own .number) (curveOf c) (edgeMap l n)
 
-  row-changed : (i : ℕ) → i < n → edge changed (edgeAt l i .number) ≡ drawn (edgeAt l own .number) (curveOf c) (edgeAt l i)
+  row-changed : (i : ℕ) → i < n → edge changed (edgeAt l i .number)
+      ≡ drawn (edgeAt l own .number) (curveOf c) (edgeAt l i)
   unfolding changed changeEdgeGeom atEdge
   row-changed i h =
       edge-is changed (edgeAt l i .number) (drawn (edgeAt l own .number) (curveOf c) (edgeAt l i))
-      (found-changed (drawn (edgeAt l own .number) (curveOf c)) (drawn-number (edgeAt l own .number) (curveOf c)) (edgesOf l n) (edgeAt l i .number) (edgeAt l i) (row-found t i h))
+      (found-changed (drawn (edgeAt l own .number) (curveOf c)) (drawn-number (edgeAt l own .number) (curveOf c))
+      (edgesOf l n) (edgeAt l i .number) (edgeAt l i) (row-found t i h))
 
   leaves-kept : (q : ℕ) → q < n * 2 → leaves changed (dartAt l q) ≡ leaves (edgeMap l n) (dartAt l q)
   unfolding leaves
@@ -135,8 +150,11 @@ module _ {l : List ℤ} {n : ℕ} (t : EdgeRows l n) (own : ℕ) (o : own < n) (
       let e = edgeAt l own .number in
       let r = edgeAt l (q / 2) in
       let b : q / 2 < n = omega arith in
-      ap₂ (λ (x y : ℕ). cond (odd q) x y) (ap (λ (r : Edge). r .end) (row-changed (q / 2) b) ∙ drawn-end e (curveOf c) r ∙ ap (λ (r : Edge). r .end) (sym (edge-of t (q / 2) b)))
-      (ap (λ (r : Edge). r .start) (row-changed (q / 2) b) ∙ drawn-start e (curveOf c) r ∙ ap (λ (r : Edge). r .start) (sym (edge-of t (q / 2) b)))
+      ap₂ (λ (x y : ℕ). cond (odd q) x y)
+      (ap (λ (r : Edge). r .end) (row-changed (q / 2) b) ∙ drawn-end e (curveOf c) r
+      ∙ ap (λ (r : Edge). r .end) (sym (edge-of t (q / 2) b)))
+      (ap (λ (r : Edge). r .start) (row-changed (q / 2) b) ∙ drawn-start e (curveOf c) r
+      ∙ ap (λ (r : Edge). r .start) (sym (edge-of t (q / 2) b)))
 
   directed-kept : directed changed ≡ directed (edgeMap l n)
   unfolding changed changeEdgeGeom atEdge
@@ -147,8 +165,10 @@ module _ {l : List ℤ} {n : ℕ} (t : EdgeRows l n) (own : ℕ) (o : own < n) (
   departures-kept p h =
       let k = leaves changed (dartAt l p) in
       ap (keep (λ d. same (leaves changed d) k)) (directed-kept ∙ directed-map t)
-      ∙ keep-map (dartAt l) (leavesNode l (pos k)) (λ d. same (leaves changed d) k) (positions n) (λ q m. ap (λ (x : ℕ). same x k) (leaves-kept q (position-below n q m)) ∙ leaves-is t k q (position-below n q m))
-      ∙ ap (λ (z : ℤ). map (dartAt l) (keep (leavesNode l z) (positions n))) (ap pos (leaves-kept p h) ∙ sym (cell-leaves t p h))
+      ∙ keep-map (dartAt l) (leavesNode l (pos k)) (λ d. same (leaves changed d) k) (positions n)
+      (λ q m. ap (λ (x : ℕ). same x k) (leaves-kept q (position-below n q m)) ∙ leaves-is t k q (position-below n q m))
+      ∙ ap (λ (z : ℤ). map (dartAt l) (keep (leavesNode l z) (positions n)))
+      (ap pos (leaves-kept p h) ∙ sym (cell-leaves t p h))
 
   way-changed : (q : ℕ) → q < n * 2 → way changed (dartAt l q) ≡ wayWith l own c q
   unfolding way course
@@ -156,20 +176,31 @@ module _ {l : List ℤ} {n : ℕ} (t : EdgeRows l n) (own : ℕ) (o : own < n) (
       let e = edgeAt l own .number in
       let r = edgeAt l (q / 2) in
       let b : q / 2 < n = omega arith in
-      ap (λ (x : Curve). startWay (edits.course (odd q) x)) (ap (λ (r : Edge). r .curve) (row-changed (q / 2) b) ∙ drawn-curve e (curveOf c) r ∙ ap (λ (x : Bool). cond x (curveOf c) (r .curve)) (sym (same-row t (q / 2) own b o)))
+      ap (λ (x : Curve). startWay (edits.course (odd q) x))
+      (ap (λ (r : Edge). r .curve) (row-changed (q / 2) b) ∙ drawn-curve e (curveOf c) r
+      ∙ ap (λ (x : Bool). cond x (curveOf c) (r .curve)) (sym (same-row t (q / 2) own b o)))
 
   changed-turn : (p : ℕ) → p < n * 2 → clockwise changed (dartAt l p) ≡ dartAt l (turnsAt l n own c p)
   changed-turn p h = turn-is t changed (wayWith l own c) p h way-changed (departures-kept p h)
 
   -- a turn that changes at a node
-  pub changes-is : (a : ℕ) → turnChanges (edgeMap l n) (changeEdgeGeom (edgeAt l own .number) (curveOf c) (edgeMap l n)) a ≡ any (λ p. leavesNode l (pos a) p && not (same (turnsAt l n n c p) (turnsAt l n own c p))) (positions n)
+  pub changes-is : (a : ℕ) → turnChanges (edgeMap l n)
+      (changeEdgeGeom (edgeAt l own .number) (curveOf c) (edgeMap l n)) a
+      ≡ anyOf (λ p. leavesNode l (pos a) p && not (same (turnsAt l n n c p) (turnsAt l n own c p))) (positions n)
   unfolding changed
   changes-is a =
-      departures-any t a (λ d. not (sameDart (clockwise (edgeMap l n) d) (clockwise changed d))) (λ p. not (same (turnsAt l n n c p) (turnsAt l n own c p)))
-      (λ p h. ap not (ap₂ sameDart (own-turn t c p h) (changed-turn p h) ∙ other-dart t (turnsAt l n own c p) (turnsAt l n n c p) (turn-below t (wayWith l own c) p h) (turn-below t (wayWith l n c) p h)))
+      departures-any t a (λ d. not (sameDart (clockwise (edgeMap l n) d) (clockwise changed d)))
+      (λ p. not (same (turnsAt l n n c p) (turnsAt l n own c p)))
+      (λ p h. ap not (ap₂ sameDart (own-turn t c p h) (changed-turn p h)
+      ∙ other-dart t (turnsAt l n own c p) (turnsAt l n n c p) (turn-below t (wayWith l own c) p h)
+      (turn-below t (wayWith l n c) p h)))
 
-  pub order-is : (x y : Bool) → x ≡ any (λ p. leavesNode l (pos (edge (edgeMap l n) (edgeAt l own .number) .start)) p && not (same (turnsAt l n n c p) (turnsAt l n own c p))) (positions n)
-      → y ≡ any (λ p. leavesNode l (pos (edge (edgeMap l n) (edgeAt l own .number) .end)) p && not (same (turnsAt l n n c p) (turnsAt l n own c p))) (positions n)
+  pub order-is : (x y : Bool) → x ≡ anyOf
+      (λ p. leavesNode l (pos (edge (edgeMap l n) (edgeAt l own .number) .start)) p
+      && not (same (turnsAt l n n c p) (turnsAt l n own c p))) (positions n)
+      → y ≡ anyOf (λ p. leavesNode l (pos (edge (edgeMap l n) (edgeAt l own .number) .end)) p
+      && not (same (turnsAt l n n c p) (turnsAt l n own c p))) (positions n)
       → x || y ≡ orderChanges (edgeMap l n) (edgeAt l own .number) (curveOf c)
   unfolding orderChanges
-  order-is x y e f = ap₂ _||_ (e ∙ sym (changes-is (edge (edgeMap l n) (edgeAt l own .number) .start))) (f ∙ sym (changes-is (edge (edgeMap l n) (edgeAt l own .number) .end)))
+  order-is x y e f = ap₂ _||_ (e ∙ sym (changes-is (edge (edgeMap l n) (edgeAt l own .number) .start)))
+      (f ∙ sym (changes-is (edge (edgeMap l n) (edgeAt l own .number) .end)))

@@ -5,7 +5,7 @@ ghost use Prim.Native.Nat.{ℕ, _+_, _*_, _<_, _≤_};
 ghost use lib.IntN.{pos};
 ghost use lib.ListN.{length};
 ghost use Rattle.lists.specs.Tests.{same};
-ghost use Rattle.lists.specs.Scans.{any};
+ghost use Rattle.lists.specs.Scans.{anyOf};
 ghost use Rattle.curves.specs.Curves.{Run, curveOf};
 ghost use Rattle.map.specs.Reasons.{edgeIsolated, directionTaken, orderChanges, firstReason};
 ghost use Rattle.tables.specs.Tables.{edgeAt, edgeMap, EdgeRows};
@@ -18,19 +18,19 @@ pub fn edge_isolated(edges: &[i64], count: usize, i: usize) -> bool
     requires { ⌜ EdgeRows (now edges) count × (i < count) ⌝ }
     ensures { λ r. ⌜ r ≡ edgeIsolated (edgeMap (now (edges .entry)) count) (edgeAt (now (edges .entry)) i .number) ⌝ }
 {
-    let u = edges[i * 32 + 1];
-    let v = edges[i * 32 + 2];
-    (u != v)
-        & (links::edge_ends(edges, count, u) == 1)
-        & (links::edge_ends(edges, count, v) == 1)
+    let u = edges[i * map::EDGE_WIDTH + map::START];
+    let v = edges[i * map::EDGE_WIDTH + map::END];
+    (u != v) & (links::edge_ends(edges, count, u) == 1) & (links::edge_ends(edges, count, v) == 1)
 }
 
 // ---- 11: a departure has the direction of another edge's end
 
-// From the node u along the curve c, or from v along its reverse; `own` is the row of the edge that has the curve, and past them all for a new one.
+// From the node u along the curve c, or from v along its reverse; `own` is the row of the edge that has the curve, and
+// past them all for a new one.
 pub fn direction_taken(edges: &[i64], count: usize, own: usize, u: i64, v: i64, c: &[i64]) -> bool
     requires { ⌜ EdgeRows (now edges) count × Run (now c) ⌝ }
-    ensures { λ r. ⌜ ((e a b : ℕ) → Own (now (edges .entry)) count own e → u ≡ pos a → v ≡ pos b → r ≡ directionTaken (edgeMap (now (edges .entry)) count) e a b (curveOf (now (c .entry)))) ⌝ }
+    ensures { λ r. ⌜ ((e a b : ℕ) → Own (now (edges .entry)) count own e → u ≡ pos a → v ≡ pos b → r
+        ≡ directionTaken (edgeMap (now (edges .entry)) count) e a b (curveOf (now (c .entry)))) ⌝ }
 {
     if links::way_taken(edges, count, u, own, darts::first_step(c, false)) {
         return true;
@@ -43,9 +43,11 @@ pub fn direction_taken(edges: &[i64], count: usize, own: usize, u: i64, v: i64, 
 // Whether the first departure met clockwise from a departure at the node changes where edge row `own` gets the curve c.
 fn turn_changes(edges: &[i64], count: usize, own: usize, c: &[i64], node: i64) -> bool
     requires { ⌜ EdgeRows (now edges) count × (count ≤ 2000) × Run (now c) ⌝ }
-    ensures { λ r. ⌜ r ≡ any (λ p. leavesNode (now (edges .entry)) node p && not (same (turnsAt (now (edges .entry)) count count (now (c .entry)) p) (turnsAt (now (edges .entry)) count own (now (c .entry)) p))) (positions count) ⌝ }
+    ensures { λ r. ⌜ r ≡ anyOf (λ p. leavesNode (now (edges .entry)) node p
+        && not (same (turnsAt (now (edges .entry)) count count (now (c .entry)) p)
+        (turnsAt (now (edges .entry)) count own (now (c .entry)) p))) (positions count) ⌝ }
 {
-    let mut list = [0u16; 4000];
+    let mut list = [0u16; map::DARTS];
     let n = links::departures_at(edges, count, node, &mut list);
     for k in 0..n {
         let p = list[k] as usize;
@@ -60,12 +62,25 @@ fn turn_changes(edges: &[i64], count: usize, own: usize, c: &[i64], node: i64) -
 
 pub fn order_changes(edges: &[i64], count: usize, own: usize, c: &[i64]) -> bool
     requires { ⌜ EdgeRows (now edges) count × (count ≤ 2000) × (own < count) × Run (now c) ⌝ }
-    ensures { λ r. ⌜ r ≡ orderChanges (edgeMap (now (edges .entry)) count) (edgeAt (now (edges .entry)) own .number) (curveOf (now (c .entry))) ⌝ }
+    ensures { λ r. ⌜ r ≡ orderChanges (edgeMap (now (edges .entry)) count) (edgeAt (now (edges .entry)) own .number)
+        (curveOf (now (c .entry))) ⌝ }
 {
-    if turn_changes(edges, count, own, c, edges[own * 32 + 1]) {
+    if turn_changes(
+        edges,
+        count,
+        own,
+        c,
+        edges[own * map::EDGE_WIDTH + map::START],
+    ) {
         return true;
     }
-    turn_changes(edges, count, own, c, edges[own * 32 + 2])
+    turn_changes(
+        edges,
+        count,
+        own,
+        c,
+        edges[own * map::EDGE_WIDTH + map::END],
+    )
 }
 
 // ---- 16 and 17: the node where two edges are joined
@@ -75,16 +90,18 @@ fn ends_at(edges: &[i64], j: usize, node: i64) -> bool
     requires { ⌜ j * 32 + 32 ≤ length (now edges) ⌝ }
     ensures { λ r. ⌜ r ≡ endsAt (now (edges .entry)) j node ⌝ }
 {
-    (edges[j * 32 + 1] == node) | (edges[j * 32 + 2] == node)
+    (edges[j * map::EDGE_WIDTH + map::START] == node)
+        | (edges[j * map::EDGE_WIDTH + map::END] == node)
 }
 
 // 16 where the edges are one or share no node, 17 where no shared node has exactly two edge ends, else 0.
 pub fn joint_reason(edges: &[i64], count: usize, i: usize, j: usize) -> u64
     requires { ⌜ EdgeRows (now edges) count × (i < count) × (j < count) ⌝ }
-    ensures { λ r. ⌜ r ≡ firstReason (jointReasons (edgeMap (now (edges .entry)) count) (edgeAt (now (edges .entry)) i .number) (edgeAt (now (edges .entry)) j .number)) ⌝ }
+    ensures { λ r. ⌜ r ≡ firstReason (jointReasons (edgeMap (now (edges .entry)) count)
+        (edgeAt (now (edges .entry)) i .number) (edgeAt (now (edges .entry)) j .number)) ⌝ }
 {
-    let u = edges[i * 32 + 1];
-    let v = edges[i * 32 + 2];
+    let u = edges[i * map::EDGE_WIDTH + map::START];
+    let v = edges[i * map::EDGE_WIDTH + map::END];
     if (i == j) | !(ends_at(edges, j, u) | ends_at(edges, j, v)) {
         return 16;
     }
@@ -98,7 +115,8 @@ pub fn joint_reason(edges: &[i64], count: usize, i: usize, j: usize) -> u64
 // Whether edge row j ends at the node, which has exactly two edge ends.
 pub fn joins_at(edges: &[i64], count: usize, j: usize, node: i64) -> bool
     requires { ⌜ EdgeRows (now edges) count × (j < count) ⌝ }
-    ensures { λ r. ⌜ ((k : ℕ) → node ≡ pos k → r ≡ joinsAt (edgeMap (now (edges .entry)) count) (edgeAt (now (edges .entry)) j .number) k) ⌝ }
+    ensures { λ r. ⌜ ((k : ℕ) → node ≡ pos k → r
+        ≡ joinsAt (edgeMap (now (edges .entry)) count) (edgeAt (now (edges .entry)) j .number) k) ⌝ }
 {
     if !ends_at(edges, j, node) {
         return false;

@@ -27,7 +27,9 @@ use Rattle.tables.specs.Tables.{sameZ, column, nodeAt}
 use Rattle.tables.proofs.Lookups.{node-found}
 use Rattle.form_ranges.specs.Ranges.{lent}
 use Rattle.outcomes.specs.Outcomes.{Formed}
-use Rattle.outcomes.proofs.Formed.{ranges, formed-map, nodes-count, edges-count, faces-count, edge-next, face-next, nodes-size, edges-size, faces-size, node-rows, edge-rows, full-is, spent-is, nodes-room, node-left, numbers-rise, node-none}
+use Rattle.outcomes.proofs.Formed.{ranges, formed-map, nodes-count, edges-count, faces-count, edge-next, face-next}
+use Rattle.outcomes.proofs.Formed.{nodes-size, edges-size, faces-size, node-rows, edge-rows, full-is, spent-is}
+use Rattle.outcomes.proofs.Formed.{nodes-room, node-left, numbers-rise, node-none}
 use Rattle.map.proofs.Reasons.{first-hit, first-miss, first-zero, first-append, first-after}
 use Rattle.reason_corners.specs.Corners.{cornerCell}
 use Rattle.reason_corners.proofs.Corners.{corner-in-form}
@@ -43,10 +45,12 @@ none-of false true c e = absurd (true≢false e)
 none-of true b c e = absurd (true≢false e)
 
 -- the tests of room and numbers, of counts as they were read
-pub room-told : (l fs : List ℤ) (more : ℕ) {a b x y : ℕ} {v : Bool} → x ≡ a → y ≡ b → ltb (length l / 32) (x + 1) || ltb (length fs) (y + more) ≡ v → ltb (length l / 32) (a + 1) || ltb (length fs) (b + more) ≡ v
+pub room-told : (l fs : List ℤ) (more : ℕ) {a b x y : ℕ} {v : Bool} → x ≡ a → y ≡ b → ltb (length l / 32) (x + 1)
+    || ltb (length fs) (y + more) ≡ v → ltb (length l / 32) (a + 1) || ltb (length fs) (b + more) ≡ v
 room-told l fs more ex ey e = sym (λ i. ltb (length l / 32) (ex i + 1) || ltb (length fs) (ey i + more)) ∙ e
 
-pub spent-told : (more : ℕ) {a b x y : ℕ} {v : Bool} → x ≡ a → y ≡ b → ltb 1000000 (x + 1) || ltb 1000000 (y + more) ≡ v → ltb 1000000 (a + 1) || ltb 1000000 (b + more) ≡ v
+pub spent-told : (more : ℕ) {a b x y : ℕ} {v : Bool} → x ≡ a → y ≡ b → ltb 1000000 (x + 1) || ltb 1000000 (y + more)
+    ≡ v → ltb 1000000 (a + 1) || ltb 1000000 (b + more) ≡ v
 spent-told more ex ey e = sym (λ i. ltb 1000000 (ex i + 1) || ltb 1000000 (ey i + more)) ∙ e
 
 module _ {nodes edges faces : List ℤ} {h : Head} (f : Formed nodes edges faces h) where
@@ -77,7 +81,12 @@ module _ {nodes edges faces : List ℤ} {h : Head} (f : Formed nodes edges faces
 
   pub held : Held nodes (natAbs (h .nodes)) edges (natAbs (h .edges)) m
   unfolding mapOf
-  held = record { node-rows = refl; edge-rows = refl; rising = numbers-rise f .1; bare = formed-is m (formed-map f) .bare }
+  held = record {
+    node-rows = refl;
+    edge-rows = refl;
+    rising = numbers-rise f .1;
+    bare = formed-is m (formed-map f) .bare;
+  }
 
   -- of counts as they were read
   pub held-at : {x y : ℕ} → x ≡ natAbs (h .nodes) → y ≡ natAbs (h .edges) → Held nodes x edges y m
@@ -97,26 +106,33 @@ module _ {nodes edges faces : List ℤ} {h : Head} (f : Formed nodes edges faces
     abbrev corner : ℕ
     corner = cornerFace m a (startWay (curveOf sent))
 
-    pub corner-told : {x : ℕ} {w : Way} {z : ℤ} → x ≡ natAbs (h .edges) → w ≡ startWay (curveOf sent) → z ≡ cornerCell nodes u edges x w → z ≡ pos corner
-    corner-told ex ew ez = ez ∙ (λ i. cornerCell nodes u edges (ex i) (ew i)) ∙ corner-in-form (node-rows f) (edge-rows f) m (held .node-rows) (held .edge-rows) u hu (held .bare) (startWay (curveOf sent))
+    pub corner-told : {x : ℕ} {w : Way} {z : ℤ} → x ≡ natAbs (h .edges) → w ≡ startWay (curveOf sent) → z
+        ≡ cornerCell nodes u edges x w → z ≡ pos corner
+    corner-told ex ew ez = ez ∙ (λ i. cornerCell nodes u edges (ex i) (ew i))
+        ∙ corner-in-form (node-rows f) (edge-rows f) m (held .node-rows) (held .edge-rows) u hu (held .bare)
+        (startWay (curveOf sent))
 
     pub run-drawn : firstReason (drawingReasons m a b sent) ≡ 0 → Run sent
     run-drawn e = record { is = not-false (isRun sent) (first-zero 5 _ _ (lit< tt) e .0) }
 
-    growth-told : firstReason (growthReasons news s m a b sent) ≡ firstReason (roomReasons edges faces h (bit splits) (bit splits + bit (makesSecond splits news corner)))
+    growth-told : firstReason (growthReasons news s m a b sent)
+        ≡ firstReason (roomReasons edges faces h (bit splits) (bit splits + bit (makesSecond splits news corner)))
     growth-told = ap₂ (λ (x y : Bool). firstReason ((20, x) ∷ (21, y) ∷ [])) room numbers-left
       where
         one : length faces / 1 ≡ length faces
         one = omega (arith, faces-size f .0)
 
-        room : full s m 0 1 (bit splits) ≡ ltb (length edges / 32) (natAbs (h .edges) + 1) || ltb (length faces) (natAbs (h .faces) + bit splits)
+        room : full s m 0 1 (bit splits) ≡ ltb (length edges / 32) (natAbs (h .edges) + 1)
+            || ltb (length faces) (natAbs (h .faces) + bit splits)
         room = full-is f 0 1 (bit splits) ∙ rw (nodes-room f, one)
 
         numbers-left : spent m 0 1 (bit splits + bit (makesSecond splits news corner))
-            ≡ ltb (suc lastNumber) (natAbs (h .«next_edge») + 1) || ltb (suc lastNumber) (natAbs (h .«next_face») + (bit splits + bit (makesSecond splits news corner)))
+            ≡ ltb (suc lastNumber) (natAbs (h .«next_edge») + 1)
+            || ltb (suc lastNumber) (natAbs (h .«next_face») + (bit splits + bit (makesSecond splits news corner)))
         numbers-left = spent-is f 0 1 (bit splits + bit (makesSecond splits news corner)) ∙ rw (node-left f)
 
-    pub rows-turned : {r : Judged} {k : ℕ} → 0 < k → k ≡ firstReason (drawingReasons m a b sent) → r .reason ≡ k → JudgedRows news nodes edges faces h u v sent r
+    pub rows-turned : {r : Judged} {k : ℕ} → 0 < k → k ≡ firstReason (drawingReasons m a b sent) → r .reason ≡ k
+        → JudgedRows news nodes edges faces h u v sent r
     rows-turned {r} {k} more e er =
         record {
           reason = er ∙ sym (first-append (drawingReasons m a b sent) (growthReasons news s m a b sent) k more (sym e));
@@ -126,11 +142,14 @@ module _ {nodes edges faces : List ℤ} {h : Head} (f : Formed nodes edges faces
         }
 
     -- nothing turns it down but room and numbers
-    pub rows-known : {r : Judged} {x y : ℕ} → firstReason (drawingReasons m a b sent) ≡ 0 → Run sent → r .start ≡ u → r .end ≡ v → r .face ≡ pos corner → r .splits ≡ splits → x ≡ bit splits → y ≡ bit (makesSecond splits news corner)
+    pub rows-known : {r : Judged} {x y : ℕ} → firstReason (drawingReasons m a b sent) ≡ 0 → Run sent → r .start ≡ u
+        → r .end ≡ v → r .face ≡ pos corner → r .splits ≡ splits → x ≡ bit splits → y
+        ≡ bit (makesSecond splits news corner)
         → r .reason ≡ firstReason (roomReasons edges faces h x (x + y)) → JudgedRows news nodes edges faces h u v sent r
     rows-known clear run eu ev ez ew ex ey e =
         record {
-          reason = e ∙ (λ i. firstReason (roomReasons edges faces h (ex i) (ex i + ey i))) ∙ sym growth-told ∙ sym (first-after (drawingReasons m a b sent) (growthReasons news s m a b sent) refl clear);
+          reason = e ∙ (λ i. firstReason (roomReasons edges faces h (ex i) (ex i + ey i))) ∙ sym growth-told
+              ∙ sym (first-after (drawingReasons m a b sent) (growthReasons news s m a b sent) refl clear);
           start = λ z. eu;
           end = λ z. ev;
           known = λ z. record { run = run; face = ez; splits = ew };
@@ -138,15 +157,19 @@ module _ {nodes edges faces : List ℤ} {h : Head} (f : Formed nodes edges faces
 
   -- ---- the nodes named
 
-  parts : (news : Bool) (u v : ℤ) (sent : List ℤ) → reasons s m (addTicket news u v sent) ≡ (4, noNode m u || noNode m v) ∷ (drawingReasons m (natAbs u) (natAbs v) sent ++ growthReasons news s m (natAbs u) (natAbs v) sent)
+  parts : (news : Bool) (u v : ℤ) (sent : List ℤ) → reasons s m (addTicket news u v sent)
+      ≡ (4, noNode m u || noNode m v) ∷ (drawingReasons m (natAbs u) (natAbs v) sent
+      ++ growthReasons news s m (natAbs u) (natAbs v) sent)
   unfolding reasons
   parts true u v sent = refl
   parts false u v sent = refl
 
-  pub end-none : (u v : ℤ) → place (sameZ v) 0 (column nodeWidth nodes (natAbs (h .nodes))) ≡ Missing → noNode m u || noNode m v ≡ true
+  pub end-none : (u v : ℤ) → place (sameZ v) 0 (column nodeWidth nodes (natAbs (h .nodes))) ≡ Missing → noNode m u
+      || noNode m v ≡ true
   end-none u v e = or-right (noNode m u) (noNode m v) (node-none f v e)
 
-  pub add-missing : (news : Bool) (u v : ℤ) (sent : List ℤ) {r : Judged} → noNode m u || noNode m v ≡ true → r .reason ≡ 4 → JudgedAdd news nodes edges faces h u v sent r
+  pub add-missing : (news : Bool) (u v : ℤ) (sent : List ℤ) {r : Judged} → noNode m u || noNode m v ≡ true → r .reason
+      ≡ 4 → JudgedAdd news nodes edges faces h u v sent r
   add-missing news u v sent e er =
       record {
         reason = er ∙ sym (ap firstReason (parts news u v sent) ∙ first-hit 4 _ _ e);
@@ -169,14 +192,18 @@ module _ {nodes edges faces : List ℤ} {h : Head} (f : Formed nodes edges faces
     there : noNode m z ≡ false
     there = rw (ap nonNeg (hit .1), hit .2)
 
-  pub add-found : (news : Bool) (u v : ℤ) (i j : ℕ) (sent : List ℤ) → place (sameZ u) 0 (column nodeWidth nodes (natAbs (h .nodes))) ≡ At i → place (sameZ v) 0 (column nodeWidth nodes (natAbs (h .nodes))) ≡ At j
+  pub add-found : (news : Bool) (u v : ℤ) (i j : ℕ) (sent : List ℤ)
+      → place (sameZ u) 0 (column nodeWidth nodes (natAbs (h .nodes))) ≡ At i
+      → place (sameZ v) 0 (column nodeWidth nodes (natAbs (h .nodes))) ≡ At j
       → {r : Judged} → JudgedRows news nodes edges faces h i j sent r → JudgedAdd news nodes edges faces h u v sent r
   add-found news u v i j sent eu ev {r} k =
       let A = row-number u i eu in
       let B = row-number v j ev in
       let both : noNode m u || noNode m v ≡ false = rw (there u i eu, there v j ev) in
       record {
-        reason = k .reason ∙ (λ l. firstReason (drawingReasons m (A l) (B l) sent ++ growthReasons news s m (A l) (B l) sent)) ∙ sym (ap firstReason (parts news u v sent) ∙ first-miss 4 _ _ both);
+        reason = k .reason ∙ (λ l. firstReason
+            (drawingReasons m (A l) (B l) sent ++ growthReasons news s m (A l) (B l) sent))
+            ∙ sym (ap firstReason (parts news u v sent) ∙ first-miss 4 _ _ both);
         start = λ z. eu ∙ ap At (sym (k .start z));
         end = λ z. ev ∙ ap At (sym (k .end z));
         known = λ z.
@@ -188,7 +215,8 @@ module _ {nodes edges faces : List ℤ} {h : Head} (f : Formed nodes edges faces
       }
 
   -- no reason holds: there is room for the rows, and a number for the edge
-  module _ (news : Bool) (u v : ℤ) (sent : List ℤ) (clear : firstReason (reasons s m (addTicket news u v sent)) ≡ 0) where
+  module _ (news : Bool) (u v : ℤ) (sent : List ℤ)
+      (clear : firstReason (reasons s m (addTicket news u v sent)) ≡ 0) where
     grows : firstReason (growthReasons news s m (natAbs u) (natAbs v) sent) ≡ 0
     grows =
         let z4 = first-zero 4 _ _ (lit< tt) (sym (ap firstReason (parts news u v sent)) ∙ clear) .1 in
@@ -201,15 +229,21 @@ module _ {nodes edges faces : List ℤ} {h : Head} (f : Formed nodes edges faces
         let z14 = first-zero 14 _ _ (lit< tt) z12 .1 in
         first-zero 15 _ _ (lit< tt) z14 .1
 
-    pub room-known : (natAbs (h .edges) + 1 ≤ length edges / 32) × (natAbs (h .faces) + bit (splitsFace (natAbs u) (natAbs v) (curveOf sent) m) ≤ length faces / 1)
+    pub room-known : (natAbs (h .edges) + 1 ≤ length edges / 32)
+        × (natAbs (h .faces) + bit (splitsFace (natAbs u) (natAbs v) (curveOf sent) m) ≤ length faces / 1)
     room-known =
         let k = bit (splitsFace (natAbs u) (natAbs v) (curveOf sent) m) in
         let e = sym (full-is f 0 1 k) ∙ first-zero 20 _ _ (lit< tt) grows .0 in
-        let o = none-of (ltb (length nodes / 4) (natAbs (h .nodes) + 0)) (ltb (length edges / 32) (natAbs (h .edges) + 1)) (ltb (length faces / 1) (natAbs (h .faces) + k)) e in
-        (ltb-false (length edges / 32) (natAbs (h .edges) + 1) (o .0), ltb-false (length faces / 1) (natAbs (h .faces) + k) (o .1))
+        let o = none-of (ltb (length nodes / 4) (natAbs (h .nodes) + 0))
+        (ltb (length edges / 32) (natAbs (h .edges) + 1)) (ltb (length faces / 1) (natAbs (h .faces) + k)) e in (
+          ltb-false (length edges / 32) (natAbs (h .edges) + 1) (o .0),
+          ltb-false (length faces / 1) (natAbs (h .faces) + k) (o .1),
+        )
 
     pub number-known : natAbs (h .«next_edge») + 1 ≤ suc lastNumber
     number-known =
         let late = first-zero 20 _ _ (lit< tt) grows .1 in
         let e = sym (spent-is f 0 1 _) ∙ first-zero 21 _ _ (lit< tt) late .0 in
-        ltb-false (suc lastNumber) (natAbs (h .«next_edge») + 1) (none-of (ltb (suc lastNumber) (natAbs (h .«next_node») + 0)) (ltb (suc lastNumber) (natAbs (h .«next_edge») + 1)) _ e .0)
+        ltb-false (suc lastNumber) (natAbs (h .«next_edge») + 1)
+        (none-of (ltb (suc lastNumber) (natAbs (h .«next_node») + 0))
+        (ltb (suc lastNumber) (natAbs (h .«next_edge») + 1)) _ e .0)

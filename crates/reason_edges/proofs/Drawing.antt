@@ -40,13 +40,15 @@ module _ {nodes : List ℤ} {n : ℕ} (s : NodeRows nodes n) (i : ℕ) (h : i < 
   number-cell = node-cells nodes i (node-row-of s i h .ranges) .number
 
   row-at : place (sameZ (pos (nodeAt nodes i .number))) 0 (column nodeWidth nodes n) ≡ At i
-  row-at = ap (λ (z : ℤ). place (sameZ z) 0 (column nodeWidth nodes n)) (sym number-cell) ∙ row-place nodeWidth nodes n (node-rows-rising s) i h
+  row-at = ap (λ (z : ℤ). place (sameZ z) 0 (column nodeWidth nodes n)) (sym number-cell)
+      ∙ row-place nodeWidth nodes n (node-rows-rising s) i h
 
   pub node-there : (m : Map) → m .nodes ≡ nodesOf nodes n → node m (nodeAt nodes i .number) ≡ nodeAt nodes i
   unfolding node
   node-there m N = rw (N, node-found nodes n (s .ranges) (pos (nodeAt nodes i .number)) i row-at .2)
 
-module _ {nodes : List ℤ} {n : ℕ} {edges : List ℤ} {e : ℕ} (s : NodeRows nodes n) (t : EdgeRows edges e) {m : Map} (H : Held nodes n edges e m) (u v : ℕ) (hu : u < n) (hv : v < n) (sent : List ℤ) where
+module _ {nodes : List ℤ} {n : ℕ} {edges : List ℤ} {e : ℕ} (s : NodeRows nodes n) (t : EdgeRows edges e) {m : Map}
+    (H : Held nodes n edges e m) (u v : ℕ) (hu : u < n) (hv : v < n) (sent : List ℤ) where
   abbrev a : ℕ
   a = nodeAt nodes u .number
 
@@ -54,21 +56,33 @@ module _ {nodes : List ℤ} {n : ℕ} {edges : List ℤ} {e : ℕ} (s : NodeRows
   b = nodeAt nodes v .number
 
   abbrev later : Reasons
-  later = (11, directionTaken m (m .nextEdge) a b (curveOf sent)) ∷ (12, cornersDiffer m a b (curveOf sent)) ∷ meetingReasons m (m .edges) (curveOf sent)
+  later = (11, directionTaken m (m .nextEdge) a b (curveOf sent)) ∷ (12, cornersDiffer m a b (curveOf sent))
+      ∷ meetingReasons m (m .edges) (curveOf sent)
 
-  sent-told : firstReason (sentReasons sent (nodeAt nodes u .at) (nodeAt nodes v .at)) ≡ firstReason (curveReasons m sent a b)
-  sent-told = ap firstReason (sent-is m sent a b (ap (λ (r : Node). r .at) (node-there s u hu m (H .node-rows))) (ap (λ (r : Node). r .at) (node-there s v hv m (H .node-rows))))
+  sent-told : firstReason (sentReasons sent (nodeAt nodes u .at) (nodeAt nodes v .at))
+      ≡ firstReason (curveReasons m sent a b)
+  sent-told = ap firstReason (sent-is m sent a b (ap (λ (r : Node). r .at) (node-there s u hu m (H .node-rows)))
+      (ap (λ (r : Node). r .at) (node-there s v hv m (H .node-rows))))
 
-  pub drawn-early : {r : ℕ} → 0 < r → r ≡ firstReason (sentReasons sent (nodeAt nodes u .at) (nodeAt nodes v .at)) → r ≡ firstReason (drawingReasons m a b sent)
+  pub drawn-early : {r : ℕ} → 0 < r → r ≡ firstReason (sentReasons sent (nodeAt nodes u .at) (nodeAt nodes v .at)) → r
+      ≡ firstReason (drawingReasons m a b sent)
   drawn-early {r} some k = sym (first-append (curveReasons m sent a b) later r some (sym (k ∙ sent-told)))
 
   -- the next number is that of no row
   pub own-none : Own edges e e (m .nextEdge)
   own-none = record { is = λ k. absurd (omega arith); none = λ k. fresh-number edges e m (H .edge-rows) (H .rising) }
 
-  taken-told : directionTaken (edgeMap edges e) (m .nextEdge) a b (curveOf sent) ≡ directionTaken m (m .nextEdge) a b (curveOf sent)
+  taken-told : directionTaken (edgeMap edges e) (m .nextEdge) a b (curveOf sent)
+      ≡ directionTaken m (m .nextEdge) a b (curveOf sent)
   taken-told =
-      ap (λ (es : List Edge). directionTaken record { nodes = []; edges = es; faces = []; nextNode = 0; nextEdge = 0; nextFace = 0 } (m .nextEdge) a b (curveOf sent)) (sym (H .edge-rows))
+      ap (λ (es : List Edge). directionTaken record {
+        nodes = [];
+        edges = es;
+        faces = [];
+        nextNode = 0;
+        nextEdge = 0;
+        nextFace = 0;
+      } (m .nextEdge) a b (curveOf sent)) (sym (H .edge-rows))
       ∙ sym (taken-alone m (m .nextEdge) a b (curveOf sent))
 
   module _ (clear : firstReason (sentReasons sent (nodeAt nodes u .at) (nodeAt nodes v .at)) ≡ 0) where
@@ -78,21 +92,29 @@ module _ {nodes : List ℤ} {n : ℕ} {edges : List ℤ} {e : ℕ} (s : NodeRows
     from-later : firstReason (drawingReasons m a b sent) ≡ firstReason later
     from-later = first-after (curveReasons m sent a b) later refl (sym sent-told ∙ clear)
 
-    pub drawn-taken : {r : Bool} → r ≡ directionTaken (edgeMap edges e) (m .nextEdge) a b (curveOf sent) → r ≡ true → 11 ≡ firstReason (drawingReasons m a b sent)
+    pub drawn-taken : {r : Bool} → r ≡ directionTaken (edgeMap edges e) (m .nextEdge) a b (curveOf sent) → r ≡ true
+        → 11 ≡ firstReason (drawingReasons m a b sent)
     drawn-taken er et = sym (from-later ∙ first-hit 11 _ _ (sym taken-told ∙ sym er ∙ et))
 
-    module _ {r : Bool} (er : r ≡ directionTaken (edgeMap edges e) (m .nextEdge) a b (curveOf sent)) (et : r ≡ false) where
-      from-corners : firstReason (drawingReasons m a b sent) ≡ firstReason ((12, cornersDiffer m a b (curveOf sent)) ∷ meetingReasons m (m .edges) (curveOf sent))
+    module _ {r : Bool} (er : r ≡ directionTaken (edgeMap edges e) (m .nextEdge) a b (curveOf sent))
+        (et : r ≡ false) where
+      from-corners : firstReason (drawingReasons m a b sent)
+          ≡ firstReason ((12, cornersDiffer m a b (curveOf sent)) ∷ meetingReasons m (m .edges) (curveOf sent))
       from-corners = from-later ∙ first-miss 11 _ _ (sym taken-told ∙ sym er ∙ et)
 
-      module _ {q : Bool} (eq : q ≡ not (sameZ (cornerCell nodes u edges e (startWay (course false (curveOf sent)))) (cornerCell nodes v edges e (startWay (course true (curveOf sent)))))) where
+      module _ {q : Bool} (eq : q ≡ not
+          (sameZ (cornerCell nodes u edges e (startWay (course false (curveOf sent))))
+          (cornerCell nodes v edges e (startWay (course true (curveOf sent)))))) where
         differ-told : q ≡ cornersDiffer m a b (curveOf sent)
         differ-told = eq ∙ corners-differ s t m (H .node-rows) (H .edge-rows) (H .bare) u v hu hv run-sent
 
         pub drawn-differ : q ≡ true → 12 ≡ firstReason (drawingReasons m a b sent)
         drawn-differ k = sym (from-corners ∙ first-hit 12 _ _ (sym differ-told ∙ k))
 
-        pub drawn-meets : q ≡ false → {k : ℕ} → k ≡ firstReason (meetingReasons (nodeMap nodes n) (edgesBut edges e e) (curveOf sent)) → k ≡ firstReason (drawingReasons m a b sent)
+        pub drawn-meets : q ≡ false → {k : ℕ} → k
+            ≡ firstReason (meetingReasons (nodeMap nodes n) (edgesBut edges e e) (curveOf sent)) → k
+            ≡ firstReason (drawingReasons m a b sent)
         drawn-meets z ek =
-            ek ∙ ap firstReason (meeting-alike (nodeMap nodes n) m (curveOf sent) (sym (H .node-rows)) (edges-all edges e e (omega arith) ∙ sym (H .edge-rows)))
+            ek ∙ ap firstReason (meeting-alike (nodeMap nodes n) m (curveOf sent) (sym (H .node-rows))
+            (edges-all edges e e (omega arith) ∙ sym (H .edge-rows)))
             ∙ sym (from-corners ∙ first-miss 12 _ _ (sym differ-told ∙ z))

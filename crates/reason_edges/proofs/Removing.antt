@@ -44,7 +44,9 @@ module _ {nodes edges faces : List ℤ} {h : Head} (f : Formed nodes edges faces
   four true z e = first-hit 4 _ _ e
   four false z e = first-hit 4 _ _ e
 
-  pub removal-missing : (news : Bool) (z : ℤ) {r : Removal} → place (sameZ z) 0 (column edgeWidth edges (natAbs (h .edges))) ≡ Missing → r .reason ≡ 4 → JudgedRemoval news nodes edges faces h z r
+  pub removal-missing : (news : Bool) (z : ℤ) {r : Removal}
+      → place (sameZ z) 0 (column edgeWidth edges (natAbs (h .edges))) ≡ Missing → r .reason ≡ 4
+      → JudgedRemoval news nodes edges faces h z r
   removal-missing news z e er =
       record {
         reason = er ∙ sym (four news z (edge-none z e));
@@ -67,17 +69,22 @@ module _ {nodes edges faces : List ℤ} {h : Head} (f : Formed nodes edges faces
     unfolding makesFace healsFaces
     makes-told news = ap (makesOf news) (sym (edge-is m (natAbs z) (edgeAt edges i) (hit .2)))
 
-    late : (news : Bool) → firstReason (reasons s m (removeTicket news z)) ≡ firstReason (faceReasons h (bit (makesFace news (natAbs z) m)))
+    late : (news : Bool) → firstReason (reasons s m (removeTicket news z))
+        ≡ firstReason (faceReasons h (bit (makesFace news (natAbs z) m)))
     unfolding reasons makesFace
     late true =
         first-miss 4 _ _ there
-        ∙ ap (λ (b : Bool). firstReason ((21, b) ∷ [])) (spent-is f 0 0 (bit (makesFace true (natAbs z) m)) ∙ rw (node-left f, edge-left f))
+        ∙ ap (λ (b : Bool). firstReason ((21, b) ∷ []))
+        (spent-is f 0 0 (bit (makesFace true (natAbs z) m)) ∙ rw (node-left f, edge-left f))
     late false = first-miss 4 _ _ there ∙ first-none ∙ sym (first-miss 21 _ _ (face-left f) ∙ first-none)
 
-    pub removal-found : (news : Bool) {r : Removal} {w : Bool} {x : ℕ} → r .row ≡ i → r .makes ≡ w → w ≡ makesOf news (edgeAt edges i) → x ≡ bit w → r .reason ≡ firstReason (faceReasons h x) → JudgedRemoval news nodes edges faces h z r
+    pub removal-found : (news : Bool) {r : Removal} {w : Bool} {x : ℕ} → r .row ≡ i → r .makes ≡ w → w
+        ≡ makesOf news (edgeAt edges i) → x ≡ bit w → r .reason ≡ firstReason (faceReasons h x)
+        → JudgedRemoval news nodes edges faces h z r
     removal-found news {r} {w} {x} ei ew em ex er =
         record {
-          reason = er ∙ ap (λ (k : ℕ). firstReason (faceReasons h k)) (ex ∙ ap bit (em ∙ makes-told news)) ∙ sym (late news);
+          reason = er ∙ ap (λ (k : ℕ). firstReason (faceReasons h k)) (ex ∙ ap bit (em ∙ makes-told news))
+              ∙ sym (late news);
           row = λ k. e ∙ ap At (sym ei);
           makes = λ k. ew ∙ em ∙ makes-told news;
         }

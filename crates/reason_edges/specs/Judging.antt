@@ -1,4 +1,5 @@
--- What the functions require and promise: counts as tables in form have them, a map that the rows hold, and what is known where no reason holds.
+-- What the functions require and promise: counts as tables in form have them, a map that the rows hold, and what is
+-- known where no reason holds.
 use mathlib.Core.Path.{_≡_}
 use mathlib.Core.Bool.{Bool, true}
 use mathlib.Core.List.{List, _++_, map}
@@ -45,22 +46,29 @@ pub record Known (m : Map) (a b : ℕ) (sent : List ℤ) (r : Judged) : Type 0 w
   pub splits : r .splits ≡ splitsFace a b (curveOf sent) m
 
 -- of an edge from node row u to node row v
-pub record JudgedRows (news : Bool) (nodes edges faces : List ℤ) (h : Head) (u v : ℕ) (sent : List ℤ) (r : Judged) : Type 0 where
+pub record JudgedRows (news : Bool) (nodes edges faces : List ℤ) (h : Head) (u v : ℕ) (sent : List ℤ)
+    (r : Judged) : Type 0 where
   pub reason : r .reason
-      ≡ firstReason (drawingReasons (mapOf (lent nodes edges faces h)) (nodeAt nodes u .number) (nodeAt nodes v .number) sent ++ growthReasons news (sizesOf (lent nodes edges faces h)) (mapOf (lent nodes edges faces h)) (nodeAt nodes u .number) (nodeAt nodes v .number) sent)
+      ≡ firstReason (drawingReasons (mapOf (lent nodes edges faces h)) (nodeAt nodes u .number)
+      (nodeAt nodes v .number) sent ++ growthReasons news (sizesOf (lent nodes edges faces h))
+      (mapOf (lent nodes edges faces h)) (nodeAt nodes u .number) (nodeAt nodes v .number) sent)
   pub start : r .reason ≡ 0 → r .start ≡ u
   pub end : r .reason ≡ 0 → r .end ≡ v
-  pub known : r .reason ≡ 0 → Known (mapOf (lent nodes edges faces h)) (nodeAt nodes u .number) (nodeAt nodes v .number) sent r
+  pub known : r .reason ≡ 0 → Known (mapOf (lent nodes edges faces h)) (nodeAt nodes u .number)
+      (nodeAt nodes v .number) sent r
 
 -- of an edge from the node u to the node v
-pub record JudgedAdd (news : Bool) (nodes edges faces : List ℤ) (h : Head) (u v : ℤ) (sent : List ℤ) (r : Judged) : Type 0 where
-  pub reason : r .reason ≡ firstReason (reasons (sizesOf (lent nodes edges faces h)) (mapOf (lent nodes edges faces h)) (addTicket news u v sent))
+pub record JudgedAdd (news : Bool) (nodes edges faces : List ℤ) (h : Head) (u v : ℤ) (sent : List ℤ)
+    (r : Judged) : Type 0 where
+  pub reason : r .reason ≡ firstReason (reasons (sizesOf (lent nodes edges faces h)) (mapOf (lent nodes edges faces h))
+      (addTicket news u v sent))
   pub start : r .reason ≡ 0 → place (sameZ u) 0 (column nodeWidth nodes (natAbs (h .nodes))) ≡ At (r .start)
   pub end : r .reason ≡ 0 → place (sameZ v) 0 (column nodeWidth nodes (natAbs (h .nodes))) ≡ At (r .end)
   pub known : r .reason ≡ 0 → Known (mapOf (lent nodes edges faces h)) (natAbs u) (natAbs v) sent r
 
 -- of an edge to remove
 pub record JudgedRemoval (news : Bool) (nodes edges faces : List ℤ) (h : Head) (e : ℤ) (r : Removal) : Type 0 where
-  pub reason : r .reason ≡ firstReason (reasons (sizesOf (lent nodes edges faces h)) (mapOf (lent nodes edges faces h)) (removeTicket news e))
+  pub reason : r .reason ≡ firstReason (reasons (sizesOf (lent nodes edges faces h)) (mapOf (lent nodes edges faces h))
+      (removeTicket news e))
   pub row : r .reason ≡ 0 → place (sameZ e) 0 (column edgeWidth edges (natAbs (h .edges))) ≡ At (r .row)
   pub makes : r .reason ≡ 0 → r .makes ≡ makesFace news (natAbs e) (mapOf (lent nodes edges faces h))

@@ -16,7 +16,8 @@ use Rattle.map.specs.Reasons.{Reasons, curveReasons, meetingReasons, directionT
 
 -- kinds 11 and 12, of nodes that exist: 5 to 15
 abbrev pub drawingReasons : Map → ℕ → ℕ → List ℤ → Reasons
-drawingReasons m a b sent = curveReasons m sent a b ++ (11, directionTaken m (m .nextEdge) a b (curveOf sent)) ∷ (12, cornersDiffer m a b (curveOf sent)) ∷ meetingReasons m (m .edges) (curveOf sent)
+drawingReasons m a b sent = curveReasons m sent a b ++ (11, directionTaken m (m .nextEdge) a b (curveOf sent))
+    ∷ (12, cornersDiffer m a b (curveOf sent)) ∷ meetingReasons m (m .edges) (curveOf sent)
 
 -- the old face goes, and a second new one is made
 abbrev pub makesSecond : Bool → Bool → ℕ → Bool
@@ -33,7 +34,11 @@ growthReasons news s m a b sent =
 abbrev pub roomReasons : List ℤ → List ℤ → Head → ℕ → ℕ → Reasons
 roomReasons edges faces h more numbers =
     (20, ltb (length edges / edgeWidth) (natAbs (h .edges) + 1) || ltb (length faces) (natAbs (h .faces) + more))
-    ∷ (21, ltb (suc lastNumber) (natAbs (h .«next_edge») + 1) || ltb (suc lastNumber) (natAbs (h .«next_face») + numbers))
+    ∷ (
+      21,
+      ltb (suc lastNumber) (natAbs (h .«next_edge») + 1)
+          || ltb (suc lastNumber) (natAbs (h .«next_face») + numbers),
+    )
     ∷ []
 
 -- a row whose removal makes a new face

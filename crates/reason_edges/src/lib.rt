@@ -13,7 +13,8 @@ ghost use Rattle.outcomes.specs.Outcomes.{Formed};
 ghost use Rattle.reason_edges.specs.Parts.{drawingReasons, roomReasons, makesSecond, makesOf, faceReasons};
 ghost use Rattle.reason_edges.specs.Judging.{Counted, Held, JudgedRows, JudgedAdd, JudgedRemoval};
 
-// The first reason against a new edge; where it is 0, the rows of its nodes, its corner face, and whether that is split.
+// The first reason against a new edge; where it is 0, the rows of its nodes, its corner face, and whether that is
+// split.
 pub struct Judged {
     pub reason: u64,
     pub start: usize,
@@ -71,13 +72,22 @@ fn drawing_reason(
     c: &[i64],
 ) -> u64
     requires { ⌜ NodeRows (now nodes) n × EdgeRows (now edges) e × (u < n) × (v < n) ⌝ }
-    ensures { λ r. ⌜ ((m : _) → Held (now (nodes .entry)) n (now (edges .entry)) e m → r ≡ firstReason (drawingReasons m (nodeAt (now (nodes .entry)) u .number) (nodeAt (now (nodes .entry)) v .number) (now (c .entry)))) ⌝ }
+    ensures { λ r. ⌜ ((m : _) → Held (now (nodes .entry)) n (now (edges .entry)) e m → r
+        ≡ firstReason (drawingReasons m (nodeAt (now (nodes .entry)) u .number) (nodeAt (now (nodes .entry)) v .number)
+        (now (c .entry)))) ⌝ }
 {
     let reason = reason_curves::curve_reason(nodes, u, v, c);
     if reason != 0 {
         return reason;
     }
-    if reason_departures::direction_taken(edges, e, e, nodes[u * 4], nodes[v * 4], c) {
+    if reason_departures::direction_taken(
+        edges,
+        e,
+        e,
+        nodes[u * map::NODE_WIDTH],
+        nodes[v * map::NODE_WIDTH],
+        c,
+    ) {
         return 11;
     }
     if reason_corners::corners_differ(nodes, u, v, edges, e, c) {
@@ -91,12 +101,12 @@ fn room_reason(edges: &[i64], faces: &[i64], h: Head, more: usize, numbers: usiz
     requires { ⌜ Counted h × (more ≤ 1) × (numbers ≤ 2) ⌝ }
     ensures { λ r. ⌜ r ≡ firstReason (roomReasons (now (edges .entry)) (now (faces .entry)) h more numbers) ⌝ }
 {
-    let full = edges.len() / 32 < outcomes::count_of(h.edges) + 1;
-    if full | (faces.len() < outcomes::count_of(h.faces) + more) {
+    let full = edges.len() / map::EDGE_WIDTH < outcomes::to_usize(h.edges) + 1;
+    if full | (faces.len() < outcomes::to_usize(h.faces) + more) {
         return 20;
     }
-    let spent = 1000000 < outcomes::count_of(h.next_edge) + 1;
-    if spent | (1000000 < outcomes::count_of(h.next_face) + numbers) {
+    let spent = map::NUMBERS < outcomes::to_usize(h.next_edge) + 1;
+    if spent | (map::NUMBERS < outcomes::to_usize(h.next_face) + numbers) {
         21
     } else {
         0
@@ -115,10 +125,11 @@ fn judge_rows(
     c: &[i64],
 ) -> Judged
     requires { ⌜ Formed (now nodes) (now edges) (now faces) h × (u < natAbs (h .nodes)) × (v < natAbs (h .nodes)) ⌝ }
-    ensures { λ r. ⌜ JudgedRows news (now (nodes .entry)) (now (edges .entry)) (now (faces .entry)) h u v (now (c .entry)) r ⌝ }
+    ensures { λ r. ⌜ JudgedRows news (now (nodes .entry)) (now (edges .entry)) (now (faces .entry)) h u v
+        (now (c .entry)) r ⌝ }
 {
-    let e = outcomes::count_of(h.edges);
-    let reason = drawing_reason(nodes, outcomes::count_of(h.nodes), edges, e, u, v, c);
+    let e = outcomes::to_usize(h.edges);
+    let reason = drawing_reason(nodes, outcomes::to_usize(h.nodes), edges, e, u, v, c);
     if reason != 0 {
         return turned_down(reason);
     }
@@ -147,14 +158,15 @@ pub fn judge_add(
     c: &[i64],
 ) -> Judged
     requires { ⌜ Formed (now nodes) (now edges) (now faces) h ⌝ }
-    ensures { λ r. ⌜ JudgedAdd news (now (nodes .entry)) (now (edges .entry)) (now (faces .entry)) h start end (now (c .entry)) r ⌝ }
+    ensures { λ r. ⌜ JudgedAdd news (now (nodes .entry)) (now (edges .entry)) (now (faces .entry)) h start end
+        (now (c .entry)) r ⌝ }
 {
-    let n = outcomes::count_of(h.nodes);
-    let found = tables::find_row(nodes, 4, n, start);
+    let n = outcomes::to_usize(h.nodes);
+    let found = tables::find_row(nodes, map::NODE_WIDTH, n, start);
     let Found::At(u) = found else {
         return turned_down(4);
     };
-    let found_end = tables::find_row(nodes, 4, n, end);
+    let found_end = tables::find_row(nodes, map::NODE_WIDTH, n, end);
     let Found::At(v) = found_end else {
         return turned_down(4);
     };
@@ -168,8 +180,8 @@ fn makes_face(edges: &[i64], i: usize, news: bool) -> bool
     requires { ⌜ EdgeRow (now edges) i ⌝ }
     ensures { λ r. ⌜ r ≡ makesOf news (edgeAt (now (edges .entry)) i) ⌝ }
 {
-    let left = edges[i * 32 + 5];
-    let right = edges[i * 32 + 6];
+    let left = edges[i * map::EDGE_WIDTH + map::LEFT];
+    let right = edges[i * map::EDGE_WIDTH + map::RIGHT];
     news & (left != right) & (left != 0) & (right != 0)
 }
 
@@ -178,7 +190,7 @@ fn face_reason(h: Head, numbers: usize) -> u64
     requires { ⌜ Counted h × (numbers ≤ 1) ⌝ }
     ensures { λ r. ⌜ r ≡ firstReason (faceReasons h numbers) ⌝ }
 {
-    if 1000000 < outcomes::count_of(h.next_face) + numbers {
+    if map::NUMBERS < outcomes::to_usize(h.next_face) + numbers {
         21
     } else {
         0
@@ -187,10 +199,11 @@ fn face_reason(h: Head, numbers: usize) -> u64
 
 pub fn judge_removal(edges: &[i64], h: Head, news: bool, edge: i64) -> Removal
     requires { ⌜ ((nodes : _) × (faces : _) × Formed nodes (now edges) faces h) ⌝ }
-    ensures { λ r. ⌜ ((nodes : _) (faces : _) → Formed nodes (now (edges .entry)) faces h → JudgedRemoval news nodes (now (edges .entry)) faces h edge r) ⌝ }
+    ensures { λ r. ⌜ ((nodes : _) (faces : _) → Formed nodes (now (edges .entry)) faces h
+        → JudgedRemoval news nodes (now (edges .entry)) faces h edge r) ⌝ }
 {
-    let e = outcomes::count_of(h.edges);
-    let found = tables::find_row(edges, 32, e, edge);
+    let e = outcomes::to_usize(h.edges);
+    let found = tables::find_row(edges, map::EDGE_WIDTH, e, edge);
     let Found::At(row) = found else {
         return Removal {
             reason: 4,

@@ -1,8 +1,10 @@
 -- A `&κ mut [T]` of n elements that is lent again for a lifetime κ′ of a call, and comes back.
---     LentAgain        what the holder keeps while the slice is lent again under the name γ₁: the lender's part at κ′, and its own borrow at κ, open, with both halves of its ghost variable
---     lends-again      own (the `&κ mut [T]` ((b, o), γ, ys)) ∗ [κ]_q  ⊢ ⇛ ∃ γ₁. own (the `&κ′ mut [T]` ((b, o), γ₁, ys)) ∗ LentAgain γ₁
---     comes-back       given `Room` and that zs has n elements too:  [†κ′] ∗ LentAgain γ₁ ∗ finally γ₁ zs  ⊢ ⇛ (own (the `&κ mut [T]` ((b, o), γ, zs)) ∗ [κ]_q)
--- Assumes `Given`.
+-- LentAgain what the holder keeps while the slice is lent again under the name γ₁: the lender's part at κ′, and its own
+-- borrow at κ, open, with both halves of its ghost variable
+-- lends-again own (the `&κ mut [T]` ((b, o), γ, ys)) ∗ [κ]_q ⊢ ⇛ ∃ γ₁. own (the `&κ′ mut [T]` ((b, o), γ₁, ys)) ∗
+-- LentAgain γ₁
+-- comes-back given `Room` and that zs has n elements too: [†κ′] ∗ LentAgain γ₁ ∗ finally γ₁ zs ⊢ ⇛ (own (the `&κ mut
+-- [T]` ((b, o), γ, zs)) ∗ [κ]_q) Assumes `Given`.
 use mathlib.Core.Path.{_≡_, sym, _∙_, ap, subst, refl}
 use Prim.Native.Nat.{ℕ}
 use mathlib.Core.List.{List, [], _∷_}
@@ -15,7 +17,8 @@ use base.Logic.{ent, sep, ex}
 use base.Fml.{Lft, GName, Share, Fml, fsep, flft, fdead, fobs, fauth, flent, fobor}
 use prog.Wp.{Heap}
 use ghost.Atoms.{Atoms, sem}
-use types.Kit.{Given, ‵, _⊛_, some, later, _$_, _∵_, !, qed, move, use1, use3, drop, split, pick, rewrite, fsplit, fjoin, frame, await, updating, now as at-once, show, done}
+use types.Kit.{Given, ‵, _⊛_, some, later, _$_, _∵_, !, qed, move, use1, use3, drop, split, pick, rewrite, fsplit}
+use types.Kit.{fjoin, frame, await, updating, now as at-once, show, done}
 use types.SemTy.{cells, Arr}
 use denote.RattleType.{RattleType}
 use denote.Shadow.{pureI}
@@ -25,31 +28,48 @@ use denote.Slice.{sliceVal, MutSlice, heres, Room, finally, at-slice, codedHoley
 use denote.Lend.{Held, lends-slice, slice-back}
 use denote.Index.{row, whole-out, whole-in, opens-slice, closes-slice}
 
-module _ (R : RattleType) (κ κ′ : Lft) (q : Share) (γ : GName) (b o n : ℕ) (ys : List (R .Denot)) (long : length ys ≡ n) where
+module _ (R : RattleType) (κ κ′ : Lft) (q : Share) (γ : GName) (b o n : ℕ) (ys : List (R .Denot))
+    (long : length ys ≡ n) where
   abbrev at-list : GName → List (R .Denot) → RefT (List (R .Denot))
   at-list δ l = record { ptr = (b, o); name = δ; now = l }
 
   abbrev pub LentAgain : GName → Fml
-  LentAgain γ₁ = fsep (flent κ′ (Held R (length ys) b o γ₁)) (fsep (fobor κ q (Held R (length ys) b o γ)) (fsep (fobs γ (codedHoleys R .code (heres R ys))) (fauth γ (codedHoleys R .code (heres R ys)))))
+  LentAgain γ₁ = fsep (flent κ′ (Held R (length ys) b o γ₁))
+      (fsep (fobor κ q (Held R (length ys) b o γ))
+      (fsep (fobs γ (codedHoleys R .code (heres R ys))) (fauth γ (codedHoleys R .code (heres R ys)))))
 
-  module _ {M : Type 1} (𝓤 : URA M) (H : Heap 𝓤) (A : Atoms 𝓤) (W : Given 𝓤 H A) (ℓ ℓ′ : Lifetime) (room : Room R n) where
+  module _ {M : Type 1} (𝓤 : URA M) (H : Heap 𝓤) (A : Atoms 𝓤) (W : Given 𝓤 H A) (ℓ ℓ′ : Lifetime)
+      (room : Room R n) where
     abbrev vals : List Val
     vals = sliceVal (b, o) n ∷ []
 
-    pub lends-again : ent 𝓤 (sep 𝓤 (sem 𝓤 H A (MutSlice ℓ κ R .own (at-list γ ys) vals)) (A .lft κ q)) (H .⇛ (ex 𝓤 (λ (γ₁ : GName). sep 𝓤 (sem 𝓤 H A (MutSlice ℓ′ κ′ R .own (at-list γ₁ ys) vals)) (sem 𝓤 H A (LentAgain γ₁)))))
+    pub lends-again : ent 𝓤 (sep 𝓤 (sem 𝓤 H A (MutSlice ℓ κ R .own (at-list γ ys) vals)) (A .lft κ q))
+        (H .⇛ (ex 𝓤 (λ (γ₁ : GName). sep 𝓤 (sem 𝓤 H A (MutSlice ℓ′ κ′ R .own (at-list γ₁ ys) vals))
+        (sem 𝓤 H A (LentAgain γ₁)))))
     lends-again =
-        qed W (‵ (MutSlice ℓ κ R .own (at-list γ ys) vals) ∷ ‵ (flft κ q) ∷ []) ∵ updating ! $ fsplit ! $ drop ! $ fsplit ! $ opens-slice ! tt R ys b o $
+        qed W (‵ (MutSlice ℓ κ R .own (at-list γ ys) vals) ∷ ‵ (flft κ q)
+        ∷ []) ∵ updating ! $ fsplit ! $ drop ! $ fsplit ! $ opens-slice ! tt R ys b o $
         use1 W (‵ (cells (mem R) ys b o)) (whole-in 𝓤 H A W R ys b o) $
-        use1 W (later (some (λ (γ₁ : GName). ‵ (MutSlice ℓ′ κ′ R .own (at-list γ₁ ys) (sliceVal (b, o) (length ys) ∷ [])) ⊛ ‵ (flent κ′ (Held R (length ys) b o γ₁))))) (lends-slice 𝓤 H A W R ℓ′ κ′ ys b o (subst (Room R) (sym long) room)) $ await ! tt $ pick ! (λ γ₁. split ! $
+        use1 W (later (some (λ (γ₁ : GName). ‵
+        (MutSlice ℓ′ κ′ R .own (at-list γ₁ ys) (sliceVal (b, o) (length ys) ∷ [])) ⊛ ‵
+        (flent κ′ (Held R (length ys) b o γ₁)))))
+        (lends-slice 𝓤 H A W R ℓ′ κ′ ys b o (subst (Room R) (sym long) room)) $ await ! tt $ pick ! (λ γ₁. split ! $
         rewrite ! 0 (λ (m : ℕ). ‵ (MutSlice ℓ′ κ′ R .own (at-list γ₁ ys) (sliceVal (b, o) m ∷ []))) long refl $
         -- [the new slice; the lender's part at κ′; the open borrow at κ; obs γ; auth γ]
-        at-once ! $ show ! (λ (γ′ : GName). sep 𝓤 (sem 𝓤 H A (MutSlice ℓ′ κ′ R .own (at-list γ′ ys) vals)) (sem 𝓤 H A (LentAgain γ′))) γ₁ $ frame ! $
+        at-once ! $ show ! (λ (γ′ : GName). sep 𝓤 (sem 𝓤 H A (MutSlice ℓ′ κ′ R .own (at-list γ′ ys) vals))
+        (sem 𝓤 H A (LentAgain γ′))) γ₁ $ frame ! $
         move ! (2 ∷ 3 ∷ []) $ fjoin ! $ move ! (2 ∷ 0 ∷ []) $ fjoin ! $ move ! (1 ∷ 0 ∷ []) $ fjoin ! $ done !)
 
     pub comes-back : (γ₁ : GName) (zs : List (R .Denot)) → length zs ≡ n
-        → ent 𝓤 (sep 𝓤 (A .dead κ′) (sep 𝓤 (sem 𝓤 H A (LentAgain γ₁)) (sem 𝓤 H A (finally R γ₁ zs)))) (H .⇛ (sep 𝓤 (sem 𝓤 H A (MutSlice ℓ κ R .own (at-list γ zs) vals)) (A .lft κ q)))
+        → ent 𝓤 (sep 𝓤 (A .dead κ′) (sep 𝓤 (sem 𝓤 H A (LentAgain γ₁)) (sem 𝓤 H A (finally R γ₁ zs))))
+        (H .⇛ (sep 𝓤 (sem 𝓤 H A (MutSlice ℓ κ R .own (at-list γ zs) vals)) (A .lft κ q)))
     comes-back γ₁ zs e =
-        qed W (‵ (fdead κ′) ∷ ‵ (LentAgain γ₁) ∷ ‵ (finally R γ₁ zs) ∷ []) ∵ updating ! $ move ! (1 ∷ []) $ fsplit ! $ move ! (2 ∷ 0 ∷ 3 ∷ []) $
-        use3 W (later (‵ (Arr (mem R) (length ys) .lies zs b o))) (slice-back 𝓤 H A W R κ′ γ₁ zs (length ys) b o) $ await ! tt $ fsplit ! $ drop ! $ use1 W (‵ (row R fullShare zs b o)) (whole-out 𝓤 H A W R zs b o) $
-        move ! (1 ∷ []) $ fsplit ! $ move ! (1 ∷ []) $ fsplit ! $ move ! (3 ∷ 2 ∷ 0 ∷ 1 ∷ []) $ closes-slice ! tt R ys zs (e ∙ sym long) b o $ at-once ! $
-        fjoin ! $ pureI ! (at-slice R (at-list γ zs) vals) (tt, (tt, tt)) (ap (λ (m : ℕ). sliceVal (b, o) m ∷ []) (sym e), subst (Room R) (sym e) room) $ fjoin ! $ done !
+        qed W (‵ (fdead κ′) ∷ ‵ (LentAgain γ₁) ∷ ‵ (finally R γ₁ zs) ∷ []) ∵ updating ! $ move !
+        (1 ∷ []) $ fsplit ! $ move ! (2 ∷ 0 ∷ 3 ∷ []) $
+        use3 W (later (‵ (Arr (mem R) (length ys) .lies zs b o)))
+        (slice-back 𝓤 H A W R κ′ γ₁ zs (length ys) b o) $ await ! tt $ fsplit ! $ drop ! $ use1 W
+        (‵ (row R fullShare zs b o)) (whole-out 𝓤 H A W R zs b o) $
+        move ! (1 ∷ []) $ fsplit ! $ move ! (1 ∷ []) $ fsplit ! $ move !
+        (3 ∷ 2 ∷ 0 ∷ 1 ∷ []) $ closes-slice ! tt R ys zs (e ∙ sym long) b o $ at-once ! $
+        fjoin ! $ pureI ! (at-slice R (at-list γ zs) vals) (tt, (tt, tt))
+        (ap (λ (m : ℕ). sliceVal (b, o) m ∷ []) (sym e), subst (Room R) (sym e) room) $ fjoin ! $ done !

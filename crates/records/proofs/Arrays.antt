@@ -54,24 +54,38 @@ module _ {M : Type 1} (𝓤 : URA M) (H : Heap 𝓤) (A : Atoms 𝓤) (W : Given
   pub typed-zeros : (n : ℕ) → T (hasTy (numbers n) (filled n)) × WT (filled n)
   typed-zeros n = array-lawful 𝓤 H A W i64 (sint-lawful 𝓤 H A W w64) n .typed (zeros n) (filled n ∷ []) (is-zeros n) .0
 
-  pub lies-in : (n b : ℕ) → ent 𝓤 (sem 𝓤 H A (fat fullShare (numbers n) b 0 (filled n))) (sem 𝓤 H A (cells (mem i64) (zeros n) b 0))
+  pub lies-in : (n b : ℕ) → ent 𝓤 (sem 𝓤 H A (fat fullShare (numbers n) b 0 (filled n)))
+      (sem 𝓤 H A (cells (mem i64) (zeros n) b 0))
   unfolding partOf
   lies-in n b =
-      qed W (‵ (fat fullShare (numbers n) b 0 (filled n)) ∷ []) ∵ use1 W (‵ (cellAt fullShare (Array i64 n .mir) (filled n ∷ []) b 0)) (W .laws .at-raw fullShare (numbers n) b 0 (filled n)) $
-      owned ! (Array i64 n) (Is (Array i64 n)) (array-makes 𝓤 H A W i64 (sint-makes 𝓤 H A W w64) n) (zeros n) _ (is-zeros n) $ move ! (1 ∷ 0 ∷ []) $ fjoin ! $
-      fpack ! (List Val) (λ us. fsep (cellAt fullShare (Array i64 n .mir) us b 0) (Array i64 n .own (zeros n) us)) (filled n ∷ []) $
-      use1 W (‵ (arr-parts (shares i64) n .part fullShare (zeros n) b 0)) (array-apart 𝓤 H A W i64 fullShare tt n (zeros n) b 0) $ fsplit ! $ drop ! $
+      qed W (‵ (fat fullShare (numbers n) b 0 (filled n)) ∷ []) ∵ use1 W
+      (‵ (cellAt fullShare (Array i64 n .mir) (filled n ∷ []) b 0))
+      (W .laws .at-raw fullShare (numbers n) b 0 (filled n)) $
+      owned ! (Array i64 n) (Is (Array i64 n)) (array-makes 𝓤 H A W i64 (sint-makes 𝓤 H A W w64) n) (zeros n) _
+      (is-zeros n) $ move ! (1 ∷ 0 ∷ []) $ fjoin ! $
+      fpack ! (List Val) (λ us. fsep (cellAt fullShare (Array i64 n .mir) us b 0) (Array i64 n .own (zeros n) us))
+      (filled n ∷ []) $
+      use1 W (‵ (arr-parts (shares i64) n .part fullShare (zeros n) b 0))
+      (array-apart 𝓤 H A W i64 fullShare tt n (zeros n) b 0) $ fsplit ! $ drop ! $
       use1 W (‵ (cells (mem i64) (zeros n) b 0)) (whole-in 𝓤 H A W i64 (zeros n) b 0) $ done !
 
-  pub lies-out : (n m b : ℕ) → m ≡ n → (zs : List ℤ) → ent 𝓤 (sem 𝓤 H A (Arr (mem i64) m .lies zs b 0)) (sem 𝓤 H A (fat fullShare (numbers n) b 0 (only (array-vals (sint-vals w64) zs))))
+  pub lies-out : (n m b : ℕ) → m ≡ n → (zs : List ℤ)
+      → ent 𝓤 (sem 𝓤 H A (Arr (mem i64) m .lies zs b 0))
+      (sem 𝓤 H A (fat fullShare (numbers n) b 0 (only (array-vals (sint-vals w64) zs))))
   unfolding partOf
   lies-out n m b e zs =
-      qed W (‵ (Arr (mem i64) m .lies zs b 0) ∷ []) ∵ rewrite ! 0 (λ (k : ℕ). ‵ (Arr (mem i64) k .lies zs b 0)) e refl $ fsplit ! $ move ! (1 ∷ []) $ use1 W (‵ (row i64 fullShare zs b 0)) (whole-out 𝓤 H A W i64 zs b 0) $ move ! (1 ∷ 0 ∷ []) $ fjoin ! $
-      use1 W (‵ (partAt (Array i64 n) fullShare zs b 0)) (array-whole 𝓤 H A W i64 fullShare n zs b 0) $ fpick ! (λ vs. fsplit ! $
-      spelt ! (Array i64 n) (Is (Array i64 n)) (shows 𝓤 H A (Array i64 n)) (array-vals (sint-vals w64)) (array-tells i64 (sint-vals w64) (sint-tells w64) n) fullShare zs vs b 0 $
-      move ! (1 ∷ []) $ drop ! $ use1 W (‵ (fat fullShare (numbers n) b 0 (only (array-vals (sint-vals w64) zs)))) (W .laws .raw-at fullShare (numbers n) b 0 (only (array-vals (sint-vals w64) zs))) $ done !)
+      qed W (‵ (Arr (mem i64) m .lies zs b 0) ∷ []) ∵ rewrite ! 0
+      (λ (k : ℕ). ‵ (Arr (mem i64) k .lies zs b 0)) e refl $ fsplit ! $ move ! (1 ∷ []) $ use1 W
+      (‵ (row i64 fullShare zs b 0)) (whole-out 𝓤 H A W i64 zs b 0) $ move ! (1 ∷ 0 ∷ []) $ fjoin ! $
+      use1 W (‵ (partAt (Array i64 n) fullShare zs b 0)) (array-whole 𝓤 H A W i64 fullShare n zs b 0) $ fpick !
+      (λ vs. fsplit ! $
+      spelt ! (Array i64 n) (Is (Array i64 n)) (shows 𝓤 H A (Array i64 n)) (array-vals (sint-vals w64))
+      (array-tells i64 (sint-vals w64) (sint-tells w64) n) fullShare zs vs b 0 $
+      move ! (1 ∷ []) $ drop ! $ use1 W (‵ (fat fullShare (numbers n) b 0 (only (array-vals (sint-vals w64) zs))))
+      (W .laws .raw-at fullShare (numbers n) b 0 (only (array-vals (sint-vals w64) zs))) $ done !)
 
 -- the operand of an array's length, as `Types/Run.antt` has one for a literal
-module _ {M : Type 1} {𝓤 : URA M} {H : Heap 𝓤} {A : Atoms 𝓤} {K : Type 0} {W : Given 𝓤 H A} {Γ : List (Item 𝓤)} {E : Env 𝓤 H} where
+module _ {M : Type 1} {𝓤 : URA M} {H : Heap 𝓤} {A : Atoms 𝓤} {K : Type 0} {W : Given 𝓤 H A} {Γ : List
+    (Item 𝓤)} {E : Env 𝓤 H} where
   pub big-lit : K → {w : Width} {n : ℕ} → Fits w n → Opd K W Γ E (intBig w n) (vint w n)
   big-lit t {w} {n} z = record { go = λ Kt h. via 𝓤 (Kt (vint w n)) h (guardI 𝓤 (Fits w n) (Kt (vint w n)) z) }

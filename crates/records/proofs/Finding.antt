@@ -1,4 +1,5 @@
--- The search for a node from a row on: it hits, it goes on, it is at the end; and a row that is found is there. Assumes nothing.
+-- The search for a node from a row on: it hits, it goes on, it is at the end; and a row that is found is there. Assumes
+-- nothing.
 use mathlib.Core.Path.{_≡_, refl, sym}
 use mathlib.Core.Bool.{Bool, true, false, _&&_}
 use mathlib.Core.Logic.{inl, inr}
@@ -25,23 +26,32 @@ pub use Rattle.records.proofs.Packing.{noNode, place-fits}
 abbrev pub searched : List Node → ℕ → ℤ → ℕ → Found
 searched ys n v i = place (sameZ v) i (map (λ r. r .number) (drop i (take n ys)))
 
-next-row : (ys : List Node) (n i : ℕ) → i < length ys → i < n → drop i (take n ys) ≡ getD ys i noNode ∷ drop (suc i) (take n ys)
-next-row ys n i h k = let e : length (take n ys) ≡ min n (length ys) = length-take n ys in let s = drop-cons (take n ys) i noNode (omega arith) in rw (getD-take n ys i noNode k) at s
+next-row : (ys : List Node) (n i : ℕ) → i < length ys → i < n → drop i (take n ys) ≡ getD ys i noNode
+    ∷ drop (suc i) (take n ys)
+next-row ys n i h k = let e : length (take n ys) ≡ min n (length ys) = length-take n ys in let s =
+    drop-cons (take n ys) i noNode (omega arith) in rw (getD-take n ys i noNode k) at s
 
-pub hits : (ys : List Node) (n : ℕ) (v : ℤ) (i : ℕ) → i < length ys → i < n → getD ys i noNode .number ≡ v → searched ys n v i ≡ At i
+pub hits : (ys : List Node) (n : ℕ) (v : ℤ) (i : ℕ) → i < length ys → i < n → getD ys i noNode .number ≡ v
+    → searched ys n v i ≡ At i
 hits ys n v i h k e = rw (next-row ys n i h k, is-same v (getD ys i noNode .number) (sym e))
 
-pub misses : (ys : List Node) (n : ℕ) (v : ℤ) (i : ℕ) → i < length ys → i < n → (getD ys i noNode .number ≡ v → ⊥) → searched ys n v i ≡ searched ys n v (i + 1)
+pub misses : (ys : List Node) (n : ℕ) (v : ℤ) (i : ℕ) → i < length ys → i < n → (getD ys i noNode .number ≡ v → ⊥)
+    → searched ys n v i ≡ searched ys n v (i + 1)
 misses ys n v i h k d = rw (next-row ys n i h k, not-same v (getD ys i noNode .number) (λ e. d (sym e)), add-one i)
 
-pub ended : (ys : List Node) (n : ℕ) (v : ℤ) (i : ℕ) → ltb i (length ys) && ltb i n ≡ false → searched ys n v i ≡ Missing
+pub ended : (ys : List Node) (n : ℕ) (v : ℤ) (i : ℕ) → ltb i (length ys) && ltb i n ≡ false → searched ys n v i
+    ≡ Missing
 ended ys n v i h = rw (drop-of-length-le (take n ys) {i = i} past)
   where
     e : length (take n ys) ≡ min n (length ys)
     e = length-take n ys
 
     past : length (take n ys) ≤ i
-    past = elim (which (ltb i (length ys))) [ inl q ↦ (let k = ltb-false i n (rw q at h) in omega (arith, e)) | inr q ↦ (let k = ltb-false i (length ys) q in omega (arith, e)) ]
+    past = elim (which (ltb i (length ys))) [
+      | inl q ↦ (let k = ltb-false i n (rw q at h) in omega (arith, e))
+      | inr q ↦
+          (let k = ltb-false i (length ys) q in omega (arith, e))
+    ]
 
 -- a row that is found is there
 place-below : {A : Type 0} (p : A → Bool) (k : ℕ) (l : List A) (i : ℕ) → place p k l ≡ At i → i < k + length l
@@ -58,6 +68,7 @@ place-below p k (r ∷ l) i e = pick (p r) refl (place-below p (k + 1) l i)
 pub found-below : (ys : List Node) (n : ℕ) (v : ℤ) (i : ℕ) → nodeRow ys n v ≡ At i → i < length ys
 found-below ys n v i e =
     let h = place-below (sameZ v) 0 (map (λ r. r .number) (take n ys)) i e in
-    let s : length (map (λ (r : Node). r .number) (take n ys)) ≡ length (take n ys) = length-map (take n ys) (λ (r : Node). r .number) in
+    let s : length (map (λ (r : Node). r .number) (take n ys)) ≡ length (take n ys) =
+    length-map (take n ys) (λ (r : Node). r .number) in
     let t : length (take n ys) ≡ min n (length ys) = length-take n ys in
     omega arith

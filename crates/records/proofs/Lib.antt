@@ -1,5 +1,6 @@
--- `Finding`: a search from a row on. `Packing`: nodes as rows of numbers. `Refused`: too many nodes. `Heads`: what the walks over a lent head share.
--- `Shared`, `Again`: a mutable slice lent for a call, as a shared one and as a mutable one. `Arrays`: a local array lent as a slice.
+-- `Finding`: a search from a row on. `Packing`: nodes as rows of numbers. `Refused`: too many nodes. `Heads`: what the
+-- walks over a lent head share. `Shared`, `Again`: a mutable slice lent for a call, as a shared one and as a mutable
+-- one. `Arrays`: a local array lent as a slice.
 pub mod Finding
 pub mod Packing
 pub mod Refused

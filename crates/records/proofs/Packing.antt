@@ -27,25 +27,31 @@ length-cells [] = omega arith
 length-cells (y ∷ ys) = let e = length-cells ys in omega arith
 
 -- row i of the table
-row-cells : (ys : List Node) (i : ℕ) → i < length ys → take 4 (drop (i * 4) (nodeTable ys)) ≡ nodeCells (getD ys i noNode)
+row-cells : (ys : List Node) (i : ℕ) → i < length ys → take 4 (drop (i * 4) (nodeTable ys))
+    ≡ nodeCells (getD ys i noNode)
 unfolding flatMap
 row-cells [] i h = absurd (omega arith)
 row-cells (y ∷ ys) zero h = let e : zero * 4 ≡ 0 = omega arith in rw e
-row-cells (y ∷ ys) (suc i) h = let e : suc i * 4 ≡ suc (suc (suc (suc (i * 4)))) = omega arith in rw e (row-cells ys i (omega arith))
+row-cells (y ∷ ys) (suc i) h = let e : suc i * 4 ≡ suc (suc (suc (suc (i * 4)))) = omega arith in
+    rw e (row-cells ys i (omega arith))
 
 -- ---- packing: row i goes after the rows before it
 
 pub pack-turn : (d : List ℤ) (ys : List Node) (i : ℕ) → i < length ys → length ys * 4 ≤ length d
-    → paste (paste d 0 (nodeTable ys) (i * 4)) (i * 4) (nodeCells (getD ys i noNode)) 4 ≡ paste d 0 (nodeTable ys) ((i + 1) * 4)
+    → paste (paste d 0 (nodeTable ys) (i * 4)) (i * 4) (nodeCells (getD ys i noNode)) 4
+    ≡ paste d 0 (nodeTable ys) ((i + 1) * 4)
 pack-turn d ys i h k =
     let s = nodeTable ys in
     let c = nodeCells (getD ys i noNode) in
     let n = i * 4 in
     let e = length-cells ys in
     let fits : n ≤ length s = omega arith in
-    let front : take n (paste d 0 s n) ≡ take n s = ap (λ (m : ℕ). take m (paste d 0 s n)) (sym (zero-add n)) ∙ take-paste d 0 s n (omega arith) fits in
-    let back : drop n (paste d 0 s n) ≡ drop n d = ap (λ (m : ℕ). drop m (paste d 0 s n)) (sym (zero-add n)) ∙ drop-paste d 0 s n (omega arith) fits ∙ ap (λ (m : ℕ). drop m d) (zero-add n) in
-    let later : drop (n + 4) (paste d 0 s n) ≡ drop (n + 4) d = sym (drop-drop 4 n (paste d 0 s n)) ∙ ap (drop 4) back ∙ drop-drop 4 n d in
+    let front : take n (paste d 0 s n) ≡ take n s = ap (λ (m : ℕ). take m (paste d 0 s n)) (sym (zero-add n))
+    ∙ take-paste d 0 s n (omega arith) fits in
+    let back : drop n (paste d 0 s n) ≡ drop n d = ap (λ (m : ℕ). drop m (paste d 0 s n)) (sym (zero-add n))
+    ∙ drop-paste d 0 s n (omega arith) fits ∙ ap (λ (m : ℕ). drop m d) (zero-add n) in
+    let later : drop (n + 4) (paste d 0 s n) ≡ drop (n + 4) d = sym (drop-drop 4 n (paste d 0 s n)) ∙ ap (drop 4) back
+    ∙ drop-drop 4 n d in
     let row : take (n + 4) s ≡ take n s ++ c = take-add n 4 s ∙ ap (λ (r : List ℤ). take n s ++ r) (row-cells ys i h) in
     let next : (i + 1) * 4 ≡ n + 4 = omega arith in
     ap (λ (r : List ℤ). r ++ c ++ drop (n + 4) (paste d 0 s n)) front
@@ -57,17 +63,20 @@ pack-turn d ys i h k =
 -- ---- unpacking
 
 pub unpack-turn : (l : List ℤ) (ys : List Node) (i : ℕ) → i < length ys
-    → set (paste ys 0 (table (rowNode l) 0 (length ys)) i) i (rowNode l i) ≡ paste ys 0 (table (rowNode l) 0 (length ys)) (i + 1)
+    → set (paste ys 0 (table (rowNode l) 0 (length ys)) i) i (rowNode l i)
+    ≡ paste ys 0 (table (rowNode l) 0 (length ys)) (i + 1)
 unpack-turn l ys i h =
     let s = table (rowNode l) 0 (length ys) in
     let long : length s ≡ length ys = length-table (rowNode l) 0 (length ys) in
-    let here : getD s i noNode ≡ rowNode l i = getD-table (rowNode l) 0 (length ys) i noNode h ∙ ap (rowNode l) (zero-add i) in
+    let here : getD s i noNode ≡ rowNode l i = getD-table (rowNode l) 0 (length ys) i noNode h
+    ∙ ap (rowNode l) (zero-add i) in
     ap (λ (m : ℕ). set (paste ys 0 s i) m (rowNode l i)) (sym (zero-add i))
     ∙ ap (set (paste ys 0 s i) (0 + i)) (sym here)
     ∙ paste-suc ys 0 s i noNode (omega arith) (omega arith)
     ∙ ap (paste ys 0 s) (sym (add-one i))
 
-pub unpack-end : (l : List ℤ) (ys : List Node) (i : ℕ) → length ys ≤ i → paste ys 0 (table (rowNode l) 0 (length ys)) i ≡ table (rowNode l) 0 (length ys)
+pub unpack-end : (l : List ℤ) (ys : List Node) (i : ℕ) → length ys ≤ i → paste ys 0 (table (rowNode l) 0 (length ys)) i
+    ≡ table (rowNode l) 0 (length ys)
 unpack-end l ys i h =
     let s = table (rowNode l) 0 (length ys) in
     let long : length s ≡ length ys = length-table (rowNode l) 0 (length ys) in
@@ -77,22 +86,34 @@ unpack-end l ys i h =
 
 -- ---- there and back
 
-pub packed : (d : List ℤ) (ys : List Node) → length ys * 4 ≤ length d → take (length ys * 4) (paste d 0 (nodeTable ys) (length ys * 4)) ≡ nodeTable ys
+pub packed : (d : List ℤ) (ys : List Node) → length ys * 4 ≤ length d
+    → take (length ys * 4) (paste d 0 (nodeTable ys) (length ys * 4)) ≡ nodeTable ys
 packed d ys k =
     let s = nodeTable ys in
     let n = length ys * 4 in
     let e = length-cells ys in
-    ap (λ (m : ℕ). take m (paste d 0 s n)) (sym (zero-add n)) ∙ take-paste d 0 s n (omega arith) (omega arith) ∙ take-all n s (omega arith)
+    ap (λ (m : ℕ). take m (paste d 0 s n)) (sym (zero-add n)) ∙ take-paste d 0 s n (omega arith) (omega arith)
+    ∙ take-all n s (omega arith)
 
 -- four numbers from place m on
-four : (l : List ℤ) (m : ℕ) → m + 4 ≤ length l → take 4 (drop m l) ≡ getD l m (pos 0) ∷ getD l (m + 1) (pos 0) ∷ getD l (m + 2) (pos 0) ∷ getD l (m + 3) (pos 0) ∷ []
+four : (l : List ℤ) (m : ℕ) → m + 4 ≤ length l → take 4 (drop m l) ≡ getD l m (pos 0) ∷ getD l (m + 1) (pos 0)
+    ∷ getD l (m + 2) (pos 0) ∷ getD l (m + 3) (pos 0) ∷ []
 four l m h =
     let a : m + 1 ≡ suc m = omega arith in
     let b : m + 2 ≡ suc (suc m) = omega arith in
     let c : m + 3 ≡ suc (suc (suc m)) = omega arith in
-    rw (a, b, c, drop-cons l m (pos 0) (omega arith), drop-cons l (suc m) (pos 0) (omega arith), drop-cons l (suc (suc m)) (pos 0) (omega arith), drop-cons l (suc (suc (suc m))) (pos 0) (omega arith))
+    rw (
+      a,
+      b,
+      c,
+      drop-cons l m (pos 0) (omega arith),
+      drop-cons l (suc m) (pos 0) (omega arith),
+      drop-cons l (suc (suc m)) (pos 0) (omega arith),
+      drop-cons l (suc (suc (suc m))) (pos 0) (omega arith),
+    )
 
-rows-from : (l : List ℤ) (a n : ℕ) → (a + n) * 4 ≤ length l → nodeTable (table (rowNode l) a n) ≡ take (n * 4) (drop (a * 4) l)
+rows-from : (l : List ℤ) (a n : ℕ) → (a + n) * 4 ≤ length l → nodeTable (table (rowNode l) a n)
+    ≡ take (n * 4) (drop (a * 4) l)
 unfolding flatMap
 rows-from l a zero h = refl
 rows-from l a (suc n) h =
@@ -106,4 +127,5 @@ rows-from l a (suc n) h =
     ∙ ap (λ (k : ℕ). take k (drop m l)) (sym more)
 
 pub unpacked : (l : List ℤ) (n : ℕ) → n * 4 ≤ length l → nodeTable (table (rowNode l) 0 n) ≡ take (n * 4) l
-unpacked l n h = let e : 0 * 4 ≡ 0 = omega arith in rows-from l 0 n (omega arith) ∙ ap (λ (k : ℕ). take (n * 4) (drop k l)) e
+unpacked l n h = let e : 0 * 4 ≡ 0 = omega arith in rows-from l 0 n (omega arith)
+    ∙ ap (λ (k : ℕ). take (n * 4) (drop k l)) e

@@ -22,8 +22,10 @@ too-many : (ys : List Node) → 1000 < length ys → wholeRows nodeWidth 0 maxNo
 too-many ys h =
     let l = length (nodeTable ys) in
     let e = length-cells ys in
-    ap (λ (b : Bool). same (l % 4) 0 && leb 0 (l / 4) && b) (lt-leb (l / 4) 1000 (omega arith)) ∙ &&-false (same (l % 4) 0 && leb 0 (l / 4))
+    ap (λ (b : Bool). same (l % 4) 0 && leb 0 (l / 4) && b) (lt-leb (l / 4) 1000 (omega arith))
+    ∙ &&-false (same (l % 4) 0 && leb 0 (l / 4))
 
-pub crowded : (l : Lent) (t : List ℤ) (ys : List Node) → l .nodes ≡ nodeTable ys → 1000 < length ys → ticket l t ≡ refused l 1
+pub crowded : (l : Lent) (t : List ℤ) (ys : List Node) → l .nodes ≡ nodeTable ys → 1000 < length ys → ticket l t
+    ≡ refused l 1
 unfolding whole
 crowded l t ys e h = ticket-1 l t (rw (e, too-many ys h))

@@ -20,7 +20,12 @@ nodeTable ns = flatMap nodeCells ns
 
 -- the node that row i of a node table is
 abbrev pub rowNode : List ℤ → ℕ → Node
-rowNode l i = record { number = getD l (i * nodeWidth) (pos 0); x = getD l (i * nodeWidth + 1) (pos 0); y = getD l (i * nodeWidth + 2) (pos 0); face = getD l (i * nodeWidth + 3) (pos 0) }
+rowNode l i = record {
+  number = getD l (i * nodeWidth) (pos 0);
+  x = getD l (i * nodeWidth + 1) (pos 0);
+  y = getD l (i * nodeWidth + 2) (pos 0);
+  face = getD l (i * nodeWidth + 3) (pos 0);
+}
 
 -- the row of a number among the first n records, or that it is missing
 abbrev pub nodeRow : List Node → ℕ → ℤ → Found

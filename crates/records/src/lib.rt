@@ -1,10 +1,10 @@
-// Nodes as rows of records that are lent, and the head as one record lent beside the tables. Each function over such a loan is thin: it copies records out,
-// calls a covered function on numbers, and puts the answer back.
-use outcomes::Done;
+// Nodes as rows of records that are lent, and the head as one record lent beside the tables. Each function over such a
+// loan is thin: it copies records out, calls a covered function on numbers, and puts the answer back.
 use lists::Found;
 use map::Answer;
 use map::Head;
 use map::Map;
+use outcomes::Done;
 ghost use mathlib.Core.Path.{_≡_};
 ghost use Prim.Native.Nat.{_+_, _*_, _≤_, _<_};
 ghost use lib.ListN.{length, take};
@@ -12,7 +12,7 @@ ghost use lib.Seq.{paste};
 ghost use Rattle.lists.specs.Tables.{table};
 ghost use Rattle.map.specs.Ticket.{ticket, emptied, edgesOfFace};
 ghost use Rattle.form_ranges.specs.Ranges.{lent};
-ghost use Rattle.outcomes.specs.Outcomes.{outcome};
+ghost use Rattle.outcomes.specs.Outcomes.{outcome, leaving};
 ghost use Rattle.engine.specs.Runs.{Runs};
 ghost use Rattle.records.specs.Records.{nodeCells, nodeTable, rowNode, nodeRow, changedAt};
 
@@ -22,6 +22,9 @@ pub struct Node {
     pub y: i64,
     pub face: i64,
 }
+
+// The numbers of a full node table.
+const CELLS: usize = Map::NODES * map::NODE_WIDTH;
 
 // ---- nodes
 
@@ -41,7 +44,8 @@ pub fn find_node(nodes: &[Node], count: usize, number: i64) -> Found
 
 // A node is changed where it is found; the answer says whether it was.
 pub fn change_node(nodes: &mut [Node], count: usize, n: Node) -> Found
-    ensures { λ r. ⌜ (r ≡ nodeRow (now (nodes .entry)) count (n .number)) × (now (nodes .exit) ≡ changedAt (now (nodes .entry)) n (nodeRow (now (nodes .entry)) count (n .number))) ⌝ }
+    ensures { λ r. ⌜ (r ≡ nodeRow (now (nodes .entry)) count (n .number))
+        × (now (nodes .exit) ≡ changedAt (now (nodes .entry)) n (nodeRow (now (nodes .entry)) count (n .number))) ⌝ }
 {
     let found = find_node(nodes, count, n.number);
     let Found::At(i) = found else {
@@ -59,7 +63,7 @@ fn put_row(flat: &mut [i64], i: usize, n: Node)
     ensures { λ _. ⌜ now (flat .exit) ≡ paste (now (flat .entry)) (i * 4) (nodeCells n) 4 ⌝ }
 {
     let row = [n.number, n.x, n.y, n.face];
-    tables::write(flat, i * 4, &row);
+    tables::write(flat, i * map::NODE_WIDTH, &row);
 }
 
 // The node of row i.
@@ -67,17 +71,18 @@ fn row_at(flat: &[i64], i: usize) -> Node
     requires { ⌜ i * 4 + 4 ≤ length (now flat) ⌝ }
     ensures { λ r. ⌜ r ≡ rowNode (now (flat .entry)) i ⌝ }
 {
-    let number = flat[i * 4];
-    let x = flat[i * 4 + 1];
-    let y = flat[i * 4 + 2];
-    let face = flat[i * 4 + 3];
+    let number = flat[i * map::NODE_WIDTH];
+    let x = flat[i * map::NODE_WIDTH + map::X];
+    let y = flat[i * map::NODE_WIDTH + map::Y];
+    let face = flat[i * map::NODE_WIDTH + map::NODE_FACE];
     Node { number, x, y, face }
 }
 
 // The nodes as the first rows of a node table.
 fn pack(nodes: &[Node], flat: &mut [i64])
     requires { ⌜ length (now nodes) * 4 ≤ length (now flat) ⌝ }
-    ensures { λ _. ⌜ now (flat .exit) ≡ paste (now (flat .entry)) 0 (nodeTable (now (nodes .entry))) (length (now (nodes .entry)) * 4) ⌝ }
+    ensures { λ _. ⌜ now (flat .exit) ≡ paste (now (flat .entry)) 0 (nodeTable (now (nodes .entry)))
+        (length (now (nodes .entry)) * 4) ⌝ }
 {
     let mut i = 0;
     while i < nodes.len() {
@@ -110,7 +115,9 @@ pub fn ticket(
     head: &mut Head,
     t: &[i64],
 ) -> Answer
-    ensures { λ r. ⌜ record { lent = lent (now (nodes .exit)) (now (edges .exit)) (now (faces .exit)) (now (head .exit)); answer = r } ≡ ticket (lent (now (nodes .entry)) (now (edges .entry)) (now (faces .entry)) (now (head .entry))) (now (t .entry)) ⌝ }
+    ensures { λ r. ⌜ leaving (now (nodes .exit)) (now (edges .exit)) (now (faces .exit)) (now (head .exit)) r
+        ≡ ticket (lent (now (nodes .entry)) (now (edges .entry)) (now (faces .entry)) (now (head .entry)))
+        (now (t .entry)) ⌝ }
 {
     let h = *head;
     let done = engine::ticket(nodes, edges, faces, h, t);
@@ -120,7 +127,8 @@ pub fn ticket(
 
 // The empty map.
 pub fn empty_map(nodes: &mut [i64], edges: &mut [i64], faces: &mut [i64], head: &mut Head) -> Answer
-    ensures { λ r. ⌜ record { lent = lent (now (nodes .exit)) (now (edges .exit)) (now (faces .exit)) (now (head .exit)); answer = r } ≡ emptied (lent (now (nodes .entry)) (now (edges .entry)) (now (faces .entry)) (now (head .entry))) ⌝ }
+    ensures { λ r. ⌜ leaving (now (nodes .exit)) (now (edges .exit)) (now (faces .exit)) (now (head .exit)) r ≡ emptied
+        (lent (now (nodes .entry)) (now (edges .entry)) (now (faces .entry)) (now (head .entry))) ⌝ }
 {
     let h = *head;
     let done = engine::empty_map(nodes, edges, faces, h);
@@ -137,7 +145,9 @@ pub fn edges_of_face(
     face: i64,
     list: &mut [i64],
 ) -> Answer
-    ensures { λ r. ⌜ record { list = now (list .exit); answer = r } ≡ edgesOfFace (lent (now (nodes .entry)) (now (edges .entry)) (now (faces .entry)) (now (head .entry))) face (now (list .entry)) ⌝ }
+    ensures { λ r. ⌜ record { list = now (list .exit); answer = r }
+        ≡ edgesOfFace (lent (now (nodes .entry)) (now (edges .entry)) (now (faces .entry)) (now (head .entry))) face
+        (now (list .entry)) ⌝ }
 {
     let h = *head;
     engine::edges_of_face(nodes, edges, faces, h, face, list)
@@ -154,7 +164,14 @@ pub fn run(
     refusals: &mut [u64],
     values: &mut [i64],
 ) -> Answer
-    ensures { λ r. ⌜ Runs (lent (now (nodes .entry)) (now (edges .entry)) (now (faces .entry)) (now (head .entry))) (now (numbers .entry)) (now (lengths .entry)) (now (refusals .entry)) (now (values .entry)) (record { lent = lent (now (nodes .exit)) (now (edges .exit)) (now (faces .exit)) (now (head .exit)); refusals = now (refusals .exit); values = now (values .exit); answer = r }) ⌝ }
+    ensures { λ r. ⌜ Runs (lent (now (nodes .entry)) (now (edges .entry)) (now (faces .entry)) (now (head .entry)))
+        (now (numbers .entry)) (now (lengths .entry)) (now (refusals .entry)) (now (values .entry))
+        (record {
+          lent = lent (now (nodes .exit)) (now (edges .exit)) (now (faces .exit)) (now (head .exit));
+          refusals = now (refusals .exit);
+          values = now (values .exit);
+          answer = r;
+        }) ⌝ }
 {
     let h = *head;
     let done = engine::run(nodes, edges, faces, h, numbers, lengths, refusals, values);
@@ -174,7 +191,8 @@ fn ticket_front(
     t: &[i64],
 ) -> Done
     requires { ⌜ k ≤ length (now flat) ⌝ }
-    ensures { λ r. ⌜ outcome (take k (now (flat .exit))) (now (edges .exit)) (now (faces .exit)) r ≡ ticket (lent (take k (now (flat .entry))) (now (edges .entry)) (now (faces .entry)) h) (now (t .entry)) ⌝ }
+    ensures { λ r. ⌜ outcome (take k (now (flat .exit))) (now (edges .exit)) (now (faces .exit)) r
+        ≡ ticket (lent (take k (now (flat .entry))) (now (edges .entry)) (now (faces .entry)) h) (now (t .entry)) ⌝ }
 {
     engine::ticket(&mut flat[..k], edges, faces, h, t)
 }
@@ -189,10 +207,15 @@ fn ticket_by(
     t: &[i64],
 ) -> Answer
     requires { ⌜ length (now nodes) * 4 ≤ length (now flat) ⌝ }
-    ensures { λ r. ⌜ record { lent = lent (nodeTable (now (nodes .exit))) (now (edges .exit)) (now (faces .exit)) (now (head .exit)); answer = r } ≡ ticket (lent (nodeTable (now (nodes .entry))) (now (edges .entry)) (now (faces .entry)) (now (head .entry))) (now (t .entry)) ⌝ }
+    ensures { λ r. ⌜ record {
+      lent = lent (nodeTable (now (nodes .exit))) (now (edges .exit)) (now (faces .exit))
+          (now (head .exit));
+      answer = r;
+    } ≡ ticket (lent (nodeTable (now (nodes .entry))) (now (edges .entry)) (now (faces .entry)) (now (head .entry)))
+        (now (t .entry)) ⌝ }
 {
     pack(nodes, flat);
-    let k = nodes.len() * 4;
+    let k = nodes.len() * map::NODE_WIDTH;
     let h = *head;
     let done = ticket_front(flat, k, edges, faces, h, t);
     unpack(flat, nodes);
@@ -208,7 +231,12 @@ pub fn ticket_on(
     head: &mut Head,
     t: &[i64],
 ) -> Answer
-    ensures { λ r. ⌜ record { lent = lent (nodeTable (now (nodes .exit))) (now (edges .exit)) (now (faces .exit)) (now (head .exit)); answer = r } ≡ ticket (lent (nodeTable (now (nodes .entry))) (now (edges .entry)) (now (faces .entry)) (now (head .entry))) (now (t .entry)) ⌝ }
+    ensures { λ r. ⌜ record {
+      lent = lent (nodeTable (now (nodes .exit))) (now (edges .exit)) (now (faces .exit))
+          (now (head .exit));
+      answer = r;
+    } ≡ ticket (lent (nodeTable (now (nodes .entry))) (now (edges .entry)) (now (faces .entry)) (now (head .entry)))
+        (now (t .entry)) ⌝ }
 {
     if Map::NODES < nodes.len() {
         return Answer {
@@ -216,6 +244,6 @@ pub fn ticket_on(
             value: 0,
         };
     }
-    let mut flat = [0; 4000];
+    let mut flat = [0; CELLS];
     ticket_by(nodes, &mut flat, edges, faces, head, t)
 }

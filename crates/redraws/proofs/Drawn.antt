@@ -12,10 +12,11 @@ use lib.ListN.{length, getD, set, replicate, length-set}
 use lib.Seq.{paste, take-at, drop-at, getD-at}
 use borrow.Author.Tests.{le-leb}
 use Rattle.lists.specs.Tests.{same}
-use Rattle.lists.specs.Scans.{all}
+use Rattle.lists.specs.Scans.{allOf}
 use Rattle.lists.proofs.Scans.{length-table, table-same}
 use Rattle.plane.specs.declared.Point.{Point}
-use Rattle.curves.specs.Curves.{Curve, Run, isRun, points, pointsOf, through, curveOf, pointAt, coordinates, coordinate, maxPoints}
+use Rattle.curves.specs.Curves.{Curve, Run, isRun, points, pointsOf, through, curveOf, pointAt, coordinates, coordinate}
+use Rattle.curves.specs.Curves.{maxPoints}
 use Rattle.curves.proofs.Runs.{and-left, and-right, two-points, few-points, curve-is}
 use Rattle.curve_edits.specs.declared.Line.{Line}
 use Rattle.curve_edits.specs.Lines.{lineOf}
@@ -48,16 +49,20 @@ natural : (z : ℤ) → coordinate z ≡ true → coordinate (pos (natAbs z)) �
 natural (pos n) h = h
 natural (negsuc n) h = let z : false ≡ true = h in let k : _≡_ {A = ℕ} 0 1 = cc in absurd (omega arith)
 
-sent-coordinates : (l : List ℤ) → all coordinate l ≡ true → all coordinate (coordinates (pointsOf l)) ≡ true
+sent-coordinates : (l : List ℤ) → allOf coordinate l ≡ true → allOf coordinate (coordinates (pointsOf l)) ≡ true
 sent-coordinates [] h = refl
 sent-coordinates (x ∷ []) h = refl
 sent-coordinates (x ∷ y ∷ l) h =
-    let k = and-right (coordinate x) (all coordinate (y ∷ l)) h in
-    rw (natural x (and-left (coordinate x) (all coordinate (y ∷ l)) h), natural y (and-left (coordinate y) (all coordinate l) k)) (sent-coordinates l (and-right (coordinate y) (all coordinate l) k))
+    let k = and-right (coordinate x) (allOf coordinate (y ∷ l)) h in
+    rw (
+      natural x (and-left (coordinate x) (allOf coordinate (y ∷ l)) h),
+      natural y (and-left (coordinate y) (allOf coordinate l) k),
+    ) (sent-coordinates l (and-right (coordinate y) (allOf coordinate l) k))
 
 module _ {c : List ℤ} (run : Run c) where
   pub points-count : length (points (curveOf c)) ≡ length c / 2
-  points-count = ap (λ (k : Curve). length (points k)) (curve-is run) ∙ ap suc (length-table (pointAt c) 1 (length c / 2 - 1)) ∙ omega (arith, two-points run)
+  points-count = ap (λ (k : Curve). length (points k)) (curve-is run)
+      ∙ ap suc (length-table (pointAt c) 1 (length c / 2 - 1)) ∙ omega (arith, two-points run)
 
   pub points-few : length (points (curveOf c)) ≤ maxPoints
   points-few = rw points-count (few-points run)
@@ -73,9 +78,11 @@ module _ {c : List ℤ} (run : Run c) where
       go [] h = absurd (omega arith)
       go (p ∷ ps) h = refl
 
-  in-range : all coordinate (coordinates (points (curveOf c))) ≡ true
+  in-range : allOf coordinate (coordinates (points (curveOf c))) ≡ true
   unfolding isRun
-  in-range = ap (λ (ps : List Point). all coordinate (coordinates ps)) points-are ∙ sent-coordinates c (and-right (leb 2 (length c / 2) && leb (length c / 2) maxPoints) (all coordinate c) (run .is))
+  in-range = ap (λ (ps : List Point). allOf coordinate (coordinates ps)) points-are
+      ∙ sent-coordinates c (and-right (leb 2 (length c / 2) && leb (length c / 2) maxPoints) (allOf coordinate c)
+      (run .is))
 
   -- its row is in range
   row-ranges : (row : Edge) → row .curve ≡ curveOf c → edgeRanges (edgeCells row) ≡ true
@@ -84,38 +91,62 @@ module _ {c : List ℤ} (run : Run c) where
       let ps = points (curveOf c) in
       let cs = coordinates ps in
       let z = replicate (24 - length cs) (pos 0) in
-      rw (e, le-leb 2 (length ps) points-two, le-leb (length ps) maxPoints points-few, take-at cs z (2 * length ps) (coordinates-length ps), drop-at cs z (2 * length ps) (coordinates-length ps), in-range, zeros (24 - length cs))
+      rw (
+        e,
+        le-leb 2 (length ps) points-two,
+        le-leb (length ps) maxPoints points-few,
+        take-at cs z (2 * length ps) (coordinates-length ps),
+        drop-at cs z (2 * length ps) (coordinates-length ps),
+        in-range,
+        zeros (24 - length cs),
+      )
 
 -- ---- two rows without a face
 
-either : (a b : ℕ) (x : Node) → (let y = cond (same (x .number) a) (withFace none x) x in cond (same (y .number) b) (withFace none y) y) ≡ cond (isEither a b x) (withFace none x) x
+either : (a b : ℕ) (x : Node) → (let y = cond (same (x .number) a) (withFace none x) x in
+    cond (same (y .number) b) (withFace none y) y) ≡ cond (isEither a b x) (withFace none x) x
 either a b x = go (same (x .number) a) (same (x .number) b) refl
   where
     last : (q : Bool) → cond q (withFace none (withFace none x)) (withFace none x) ≡ withFace none x
     last true = refl
     last false = refl
 
-    go : (p q : Bool) → same (x .number) b ≡ q → (let y = cond p (withFace none x) x in cond (same (y .number) b) (withFace none y) y) ≡ cond (p || q) (withFace none x) x
+    go : (p q : Bool) → same (x .number) b ≡ q
+        → (let y = cond p (withFace none x) x in cond (same (y .number) b) (withFace none y) y)
+        ≡ cond (p || q) (withFace none x) x
     go true q e = last (same (x .number) b)
     go false q e = rw e
 
-both-marked : (a b : ℕ) (xs : List Node) → map (λ (r : Node). cond (same (r .number) b) (withFace none r) r) (map (λ (r : Node). cond (same (r .number) a) (withFace none r) r) xs) ≡ map (λ (r : Node). cond (isEither a b r) (withFace none r) r) xs
+both-marked : (a b : ℕ) (xs : List Node)
+    → map (λ (r : Node). cond (same (r .number) b) (withFace none r) r)
+    (map (λ (r : Node). cond (same (r .number) a) (withFace none r) r) xs)
+    ≡ map (λ (r : Node). cond (isEither a b r) (withFace none r) r) xs
 both-marked a b [] = refl
 both-marked a b (x ∷ xs) = ap₂ (λ (y : Node) (ys : List Node). y ∷ ys) (either a b x) (both-marked a b xs)
 
 -- ---- the edge drawn
 
-module _ {nodes edges : List ℤ} {h : Head} {u v : ℕ} {c : List ℤ} {face : ℤ} (d : Drawable nodes edges h u v c face) where
+module _ {nodes edges : List ℤ} {h : Head} {u v : ℕ} {c : List ℤ} {face : ℤ}
+    (d : Drawable nodes edges h u v c face) where
   abbrev row : Edge
   row = newRow nodes h u v c face
 
   follows : Follows edges (natAbs (h .edges)) row
-  follows = record { few = points-few (d .run); ranges = row-ranges (d .run) row refl; above = d .held .below; least = d .held .next-least; most = d .number; left = refl; right = refl }
+  follows = record {
+    few = points-few (d .run);
+    ranges = row-ranges (d .run) row refl;
+    above = d .held .below;
+    least = d .held .next-least;
+    most = d .number;
+    left = refl;
+    right = refl;
+  }
 
   abbrev pushedTable : List ℤ
   pushedTable = paste edges (natAbs (h .edges) * edgeWidth) (edgeCells row) edgeWidth
 
-  pub pushed-held : EdgeTable (paste edges (natAbs (h .edges) * edgeWidth) (edgeCells (newRow nodes h u v c face)) edgeWidth) (natAbs (h .edges) + 1)
+  pub pushed-held : EdgeTable (paste edges (natAbs (h .edges) * edgeWidth)
+      (edgeCells (newRow nodes h u v c face)) edgeWidth) (natAbs (h .edges) + 1)
   pushed-held = pushed-table (d .held .edge-table) row follows (d .room)
 
   pushed-are : edgesOf pushedTable (natAbs (h .edges) + 1) ≡ edgesOf edges (natAbs (h .edges)) ++ row ∷ []
@@ -132,7 +163,7 @@ module _ {nodes edges : List ℤ} {h : Head} {u v : ℕ} {c : List ℤ} {face : 
       let r = linked-edge-relinked (pushed-held .rows) some in
       record {
         rows = linked-edge-kept (pushed-held .rows) some;
-        rest = ap (all isZero) (rest-kept r) ∙ pushed-held .rest;
+        rest = ap (allOf isZero) (rest-kept r) ∙ pushed-held .rest;
         whole = rw (r .long) (pushed-held .whole);
       }
 
@@ -146,17 +177,30 @@ module _ {nodes edges : List ℤ} {h : Head} {u v : ℕ} {c : List ℤ} {face : 
       ∙ ap (λ (es : List Edge). getD es k row) pushed-are
       ∙ getD-at (edgesOf edges k) row [] row k long
 
-  linked-are : edgesOf linkedTable (natAbs (h .edges) + 1) ≡ linkEdge (natAbs (h .«next_edge»)) (record { nodes = []; edges = edgesOf edges (natAbs (h .edges)) ++ row ∷ []; faces = []; nextNode = 0; nextEdge = 0; nextFace = 0 }) .edges
+  linked-are : edgesOf linkedTable (natAbs (h .edges) + 1)
+      ≡ linkEdge (natAbs (h .«next_edge»))
+      (record {
+        nodes = [];
+        edges = edgesOf edges (natAbs (h .edges)) ++ row ∷ [];
+        faces = [];
+        nextNode = 0;
+        nextEdge = 0;
+        nextFace = 0;
+      }) .edges
   linked-are =
       ap (λ (m : Map). m .edges) (linked-edge-map (pushed-held .rows) some)
-      ∙ ap₂ (λ (k : ℕ) (es : List Edge). linkEdge k (record { nodes = []; edges = es; faces = []; nextNode = 0; nextEdge = 0; nextFace = 0 }) .edges) (ap (λ (r : Edge). r .number) last-row) pushed-are
+      ∙ ap₂ (λ (k : ℕ) (es : List Edge). linkEdge k
+      (record { nodes = []; edges = es; faces = []; nextNode = 0; nextEdge = 0; nextFace = 0 }) .edges)
+      (ap (λ (r : Edge). r .number) last-row) pushed-are
 
-  numbers-are : map (λ (e : Edge). e .number) (edgesOf linkedTable (natAbs (h .edges) + 1)) ≡ map (λ (e : Edge). e .number) (edgesOf edges (natAbs (h .edges))) ++ natAbs (h .«next_edge») ∷ []
+  numbers-are : map (λ (e : Edge). e .number) (edgesOf linkedTable (natAbs (h .edges) + 1))
+      ≡ map (λ (e : Edge). e .number) (edgesOf edges (natAbs (h .edges))) ++ natAbs (h .«next_edge») ∷ []
   numbers-are =
       let k = natAbs (h .edges) + 1 in
       let r = linked-edge-relinked (pushed-held .rows) some in
       edge-numbers linkedTable k
-      ∙ table-same (λ i. edgeAt linkedTable i .number) (λ i. edgeAt pushedTable i .number) 0 k (λ i _ b. number-kept r (pushed-held .rows .fits) i (omega arith))
+      ∙ table-same (λ i. edgeAt linkedTable i .number) (λ i. edgeAt pushedTable i .number) 0 k
+      (λ i _ b. number-kept r (pushed-held .rows .fits) i (omega arith))
       ∙ sym (edge-numbers pushedTable k)
       ∙ ap (map (λ (e : Edge). e .number)) pushed-are
       ∙ map-append (λ (e : Edge). e .number) (edgesOf edges (natAbs (h .edges))) (row ∷ [])
@@ -175,21 +219,29 @@ module _ {nodes edges : List ℤ} {h : Head} {u v : ℕ} {c : List ℤ} {face : 
   end-held : NodeTable endMarked (natAbs (h .nodes))
   end-held = faced-table start-held v (d .end) (negsuc 0) refl
 
-  marked-are : nodesOf endMarked (natAbs (h .nodes)) ≡ map (λ (r : Node). cond (isEither (nodeAt nodes u .number) (nodeAt nodes v .number) r) (withFace none r) r) (nodesOf nodes (natAbs (h .nodes)))
+  marked-are : nodesOf endMarked (natAbs (h .nodes))
+      ≡ map (λ (r : Node). cond (isEither (nodeAt nodes u .number) (nodeAt nodes v .number) r) (withFace none r) r)
+      (nodesOf nodes (natAbs (h .nodes)))
   marked-are =
       let g : ℕ → Node → Node = λ k r. cond (same (r .number) k) (withFace none r) r in
       faced-nodes start-held v (d .end) (negsuc 0) refl
-      ∙ ap₂ (λ (k : ℕ) (xs : List Node). map (g k) xs) (faced-number (d .held .node-table) u (d .start) (negsuc 0) refl v (d .end)) (faced-nodes (d .held .node-table) u (d .start) (negsuc 0) refl)
+      ∙ ap₂ (λ (k : ℕ) (xs : List Node). map (g k) xs)
+      (faced-number (d .held .node-table) u (d .start) (negsuc 0) refl v (d .end))
+      (faced-nodes (d .held .node-table) u (d .start) (negsuc 0) refl)
       ∙ both-marked (nodeAt nodes u .number) (nodeAt nodes v .number) (nodesOf nodes (natAbs (h .nodes)))
 
   -- ---- the map
 
-  drawn-map : (faces : List ℤ) → mapOf (lent endMarked linkedTable faces (drawnHead h)) ≡ drawn (nodeAt nodes u .number) (nodeAt nodes v .number) (curveOf c) (natAbs face) (mapOf (lent nodes edges faces h))
+  drawn-map : (faces : List ℤ) → mapOf (lent endMarked linkedTable faces (drawnHead h))
+      ≡ drawn (nodeAt nodes u .number) (nodeAt nodes v .number) (curveOf c) (natAbs face)
+      (mapOf (lent nodes edges faces h))
   unfolding mapOf drawn atNodes linkEdge linkIn lead redirect atEdge
   drawn-map faces i =
       record {
         nodes = marked-are i;
-        edges = (linked-are ∙ sym (linked-alone (natAbs (h .«next_edge»)) (setEdges (edgesOf edges (natAbs (h .edges)) ++ row ∷ []) (given 0 1 0 (mapOf (lent nodes edges faces h)))))) i;
+        edges = (linked-are ∙ sym (linked-alone (natAbs (h .«next_edge»))
+            (setEdges (edgesOf edges (natAbs (h .edges)) ++ row ∷ [])
+            (given 0 1 0 (mapOf (lent nodes edges faces h)))))) i;
         faces = facesOf faces (natAbs (h .faces));
         nextNode = sym (add-zero (natAbs (h .«next_node»))) i;
         nextEdge = natAbs (h .«next_edge») + 1;
@@ -207,47 +259,73 @@ module _ {nodes edges : List ℤ} {h : Head} {u v : ℕ} {c : List ℤ} {face : 
         next = refl;
         next-least = omega arith;
         next-most = let m = d .number in omega arith;
-        below = ap (numbered 1 (natAbs (h .«next_edge») + 1)) numbers-are ∙ numbered-push 1 (natAbs (h .«next_edge»)) (natAbs (h .«next_edge») + 1) (map (λ (e : Edge). e .number) (edgesOf edges (natAbs (h .edges)))) (k .below) (k .next-least) (omega arith);
+        below = ap (numbered 1 (natAbs (h .«next_edge») + 1)) numbers-are
+            ∙ numbered-push 1 (natAbs (h .«next_edge»)) (natAbs (h .«next_edge») + 1)
+            (map (λ (e : Edge). e .number) (edgesOf edges (natAbs (h .edges)))) (k .below) (k .next-least)
+            (omega arith);
       }
 
-  pub drawn-is : Drawn nodes edges h u v c face (set (set nodes (u * nodeWidth + 3) (negsuc 0)) (v * nodeWidth + 3) (negsuc 0)) (linkedEdge (paste edges (natAbs (h .edges) * edgeWidth) (edgeCells (newRow nodes h u v c face)) edgeWidth) (natAbs (h .edges) + 1)) (drawnHead h)
+  pub drawn-is : Drawn nodes edges h u v c face
+      (set (set nodes (u * nodeWidth + 3) (negsuc 0)) (v * nodeWidth + 3) (negsuc 0))
+      (linkedEdge (paste edges (natAbs (h .edges) * edgeWidth) (edgeCells (newRow nodes h u v c face)) edgeWidth)
+      (natAbs (h .edges) + 1)) (drawnHead h)
   drawn-is =
       record {
         held = drawn-held;
         map = drawn-map;
-        nodes-long = length-set startMarked (v * nodeWidth + 3) (negsuc 0) ∙ length-set nodes (u * nodeWidth + 3) (negsuc 0);
-        edges-long = linked-edge-relinked (pushed-held .rows) some .long ∙ pushed-long (d .held .edge-table) row follows (d .room);
+        nodes-long = length-set startMarked (v * nodeWidth + 3) (negsuc 0)
+            ∙ length-set nodes (u * nodeWidth + 3) (negsuc 0);
+        edges-long = linked-edge-relinked (pushed-held .rows) some .long
+            ∙ pushed-long (d .held .edge-table) row follows (d .room);
         head = refl;
       }
 
   -- what a call left
-  pub drawn-as : {nodes′ edges′ : List ℤ} {h′ : Head} → nodes′ ≡ set (set nodes (u * nodeWidth + 3) (negsuc 0)) (v * nodeWidth + 3) (negsuc 0)
-      → edges′ ≡ linkedEdge (paste edges (natAbs (h .edges) * edgeWidth) (edgeCells (newRow nodes h u v c face)) edgeWidth) (natAbs (h .edges) + 1) → h′ ≡ drawnHead h → Drawn nodes edges h u v c face nodes′ edges′ h′
+  pub drawn-as : {nodes′ edges′ : List ℤ} {h′ : Head} → nodes′
+      ≡ set (set nodes (u * nodeWidth + 3) (negsuc 0)) (v * nodeWidth + 3) (negsuc 0)
+      → edges′ ≡ linkedEdge (paste edges (natAbs (h .edges) * edgeWidth)
+      (edgeCells (newRow nodes h u v c face)) edgeWidth) (natAbs (h .edges) + 1) → h′ ≡ drawnHead h
+      → Drawn nodes edges h u v c face nodes′ edges′ h′
   drawn-as {nodes′} {edges′} {h′} en ee eh =
       subst (λ (x : List ℤ). Drawn nodes edges h u v c face x edges′ h′) (sym en)
-      (subst (λ (x : List ℤ). Drawn nodes edges h u v c face endMarked x h′) (sym ee) (subst (λ (x : Head). Drawn nodes edges h u v c face endMarked linkedTable x) (sym eh) drawn-is))
+      (subst (λ (x : List ℤ). Drawn nodes edges h u v c face endMarked x h′) (sym ee)
+      (subst (λ (x : Head). Drawn nodes edges h u v c face endMarked linkedTable x) (sym eh) drawn-is))
 
 -- ---- the new row as it is written
 
-pub row-written : {n b t nl nr l r : ℤ} (line : Line) (e : Edge) → line ≡ lineOf (points (e .curve)) → n ≡ pos (e .number) → b ≡ pos (e .start) → t ≡ pos (e .end)
-    → nl ≡ dartCell (e .nextLeft) → nr ≡ dartCell (e .nextRight) → l ≡ pos (e .left) → r ≡ pos (e .right) → length (points (e .curve)) ≤ maxPoints
+pub row-written : {n b t nl nr l r : ℤ} (line : Line) (e : Edge) → line ≡ lineOf (points (e .curve)) → n
+    ≡ pos (e .number) → b ≡ pos (e .start) → t ≡ pos (e .end)
+    → nl ≡ dartCell (e .nextLeft) → nr ≡ dartCell (e .nextRight) → l ≡ pos (e .left) → r ≡ pos (e .right)
+    → length (points (e .curve)) ≤ maxPoints
     → n ∷ b ∷ t ∷ nl ∷ nr ∷ l ∷ r ∷ pos (line .count) ∷ line .cells ≡ edgeCells e
 row-written {n} {b} {t} {nl} {nr} {l} {r} line e is en eb et el er fl fr few =
-    let s : Sides = record { number = n; start = b; end = t; «next_left» = nl; «next_right» = nr; left = l; right = r } in
+    let s : Sides = record {
+      number = n;
+      start = b;
+      end = t;
+      «next_left» = nl;
+      «next_right» = nr;
+      left = l;
+      right = r;
+    } in
     ap (cellsOf s) is ∙ row-cells s e en eb et el er fl fr few
 
-module _ {nodes edges : List ℤ} {h : Head} {u v : ℕ} {c : List ℤ} {face : ℤ} (d : Drawable nodes edges h u v c face) where
+module _ {nodes edges : List ℤ} {h : Head} {u v : ℕ} {c : List ℤ} {face : ℤ}
+    (d : Drawable nodes edges h u v c face) where
   few-edges : natAbs (h .edges) ≤ maxEdges
-  few-edges = let s = whole-rows edgeWidth 0 maxEdges edges (d .held .edge-table .whole) .most in let r = d .room in omega arith
+  few-edges = let s = whole-rows edgeWidth 0 maxEdges edges (d .held .edge-table .whole) .most in let r = d .room in
+      omega arith
 
   pub counted : Counted h
   counted = record { count = d .held .edges-count; few = few-edges; next = d .held .next; most = d .held .next-most }
 
   pub start-number : getD nodes (u * nodeWidth) (pos 0) ≡ pos (nodeAt nodes u .number)
-  start-number = node-cells nodes u (rows-all nodeWidth nodes nodeRanges (natAbs (h .nodes)) (d .held .node-table .rows .ranges) u (d .start)) .number
+  start-number = node-cells nodes u (rows-all nodeWidth nodes nodeRanges (natAbs (h .nodes))
+      (d .held .node-table .rows .ranges) u (d .start)) .number
 
   pub end-number : getD nodes (v * nodeWidth) (pos 0) ≡ pos (nodeAt nodes v .number)
-  end-number = node-cells nodes v (rows-all nodeWidth nodes nodeRanges (natAbs (h .nodes)) (d .held .node-table .rows .ranges) v (d .end)) .number
+  end-number = node-cells nodes v (rows-all nodeWidth nodes nodeRanges (natAbs (h .nodes))
+      (d .held .node-table .rows .ranges) v (d .end)) .number
 
   pub start-small : nodeAt nodes u .number ≤ 1000001
   start-small = let k = node-number-in (d .held .node-table .rows) u (d .start) .1 in omega arith
@@ -259,10 +337,13 @@ module _ {nodes edges : List ℤ} {h : Head} {u v : ℕ} {c : List ℤ} {face : 
   face-is = pos-abs face (d .natural)
 
   pub new-fits : natAbs (h .edges) * edgeWidth + edgeWidth ≤ length edges
-  new-fits = let s = whole-rows edgeWidth 0 maxEdges edges (d .held .edge-table .whole) .size in let r = d .room in omega arith
+  new-fits = let s = whole-rows edgeWidth 0 maxEdges edges (d .held .edge-table .whole) .size in let r = d .room in
+      omega arith
 
   pub start-fits : u * nodeWidth + nodeWidth ≤ length nodes
-  start-fits = let f = d .held .node-table .rows .fits in let r = row-room nodeWidth (natAbs (h .nodes)) u (d .start) in omega arith
+  start-fits = let f = d .held .node-table .rows .fits in let r =
+      row-room nodeWidth (natAbs (h .nodes)) u (d .start) in omega arith
 
   pub end-fits : v * nodeWidth + nodeWidth ≤ length nodes
-  end-fits = let f = d .held .node-table .rows .fits in let r = row-room nodeWidth (natAbs (h .nodes)) v (d .end) in omega arith
+  end-fits = let f = d .held .node-table .rows .fits in let r = row-room nodeWidth (natAbs (h .nodes)) v (d .end) in
+      omega arith

@@ -2,14 +2,15 @@
 use mathlib.Core.Path.{_≡_, refl, sym, ap, ap₂, _∙_, subst}
 use mathlib.Core.Logic.{inl, inr}
 use mathlib.Core.Bool.{Bool, true, false, cond, not}
-use mathlib.Core.List.{List, [], _∷_, _++_, map, List·Memᴰ, List·Memᴰ·head, List·Memᴰ·tail, Memᴰ·map, Memᴰ·of-map, Memᴰ·cast}
+use mathlib.Core.List.{List, [], _∷_, _++_, map, List·Memᴰ, List·Memᴰ·head, List·Memᴰ·tail, Memᴰ·map, Memᴰ·of-map}
+use mathlib.Core.List.{Memᴰ·cast}
 use Prim.Native.Nat.{ℕ, suc, _+_, _*_, _<_}
 use native.Mathlib.Omega.{arith}
 use lib.IntN.{ℤ, pos}
 use lib.ListN.{length, getD, take, drop}
 use lib.Seq.{split-at}
 use Rattle.lists.specs.Tests.{same, bit}
-use Rattle.lists.specs.Scans.{keep, count}
+use Rattle.lists.specs.Scans.{keep, countOf}
 use Rattle.lists.specs.Members.{Distinct}
 use Rattle.lists.proofs.Bools.{equal?, same-eq, same-false}
 use Rattle.lists.proofs.Keeps.{keep-in}
@@ -33,16 +34,19 @@ abbrev pub endsOf : ℕ → List Edge → ℕ
 endsOf k [] = 0
 endsOf k (e ∷ es) = bit (same (e .start) k) + bit (same (e .end) k) + endsOf k es
 
-keep-two : {A : Type 0} (p : A → Bool) (a b : A) (ds : List A) → length (keep p (a ∷ b ∷ ds)) ≡ bit (p a) + bit (p b) + length (keep p ds)
+keep-two : {A : Type 0} (p : A → Bool) (a b : A) (ds : List A) → length (keep p (a ∷ b ∷ ds))
+    ≡ bit (p a) + bit (p b) + length (keep p ds)
 keep-two p a b ds = go (p a) (p b)
   where
-    go : (x y : Bool) → length (cond x (a ∷ cond y (b ∷ keep p ds) (keep p ds)) (cond y (b ∷ keep p ds) (keep p ds))) ≡ bit x + bit y + length (keep p ds)
+    go : (x y : Bool) → length (cond x (a ∷ cond y (b ∷ keep p ds) (keep p ds)) (cond y (b ∷ keep p ds) (keep p ds)))
+        ≡ bit x + bit y + length (keep p ds)
     go true true = omega arith
     go true false = omega arith
     go false true = omega arith
     go false false = omega arith
 
-ends-from : (m : Map) (k : ℕ) (es : List Edge) → ((r : Edge) → List·Memᴰ r es → edge m (r .number) ≡ r) → length (keep (λ d. same (leaves m d) k) (darts (map arcOf es))) ≡ endsOf k es
+ends-from : (m : Map) (k : ℕ) (es : List Edge) → ((r : Edge) → List·Memᴰ r es → edge m (r .number) ≡ r)
+    → length (keep (λ d. same (leaves m d) k) (darts (map arcOf es))) ≡ endsOf k es
 unfolding leaves
 ends-from m k [] h = refl
 ends-from m k (e ∷ es) h =
@@ -61,7 +65,8 @@ ends-append : (k : ℕ) (xs ys : List Edge) → endsOf k (xs ++ ys) ≡ endsOf k
 ends-append k [] ys = let z : endsOf k ys ≡ 0 + endsOf k ys = omega arith in z
 ends-append k (x ∷ xs) ys = let later = ends-append k xs ys in omega arith
 
-ends-without : (k : ℕ) (xs : List Edge) (i : ℕ) (d : Edge) → i < length xs → endsOf k xs ≡ endsOf k (take i xs ++ drop (suc i) xs) + (bit (same (getD xs i d .start) k) + bit (same (getD xs i d .end) k))
+ends-without : (k : ℕ) (xs : List Edge) (i : ℕ) (d : Edge) → i < length xs → endsOf k xs
+    ≡ endsOf k (take i xs ++ drop (suc i) xs) + (bit (same (getD xs i d .start) k) + bit (same (getD xs i d .end) k))
 ends-without k xs i d h =
     let a = take i xs in
     let b = drop (suc i) xs in
@@ -71,12 +76,18 @@ ends-without k xs i d h =
     omega arith
 
 -- numbers of the rows that are kept
-kept-once : (p : Edge → Bool) (xs : List Edge) → Distinct (map (λ e. e .number) xs) → Distinct (map (λ e. e .number) (keep p xs))
+kept-once : (p : Edge → Bool) (xs : List Edge) → Distinct (map (λ e. e .number) xs)
+    → Distinct (map (λ e. e .number) (keep p xs))
 kept-once p [] dis = tt
 kept-once p (x ∷ xs) dis = go (p x) (kept-once p xs (dis .1))
   where
-    go : (b : Bool) → Distinct (map (λ e. e .number) (keep p xs)) → Distinct (map (λ e. e .number) (cond b (x ∷ keep p xs) (keep p xs)))
-    go true later = ((λ m. let r = Memᴰ·of-map (λ (e : Edge). e .number) (keep p xs) m in dis .0 (Memᴰ·cast (sym (r .2)) (Memᴰ·map (λ (e : Edge). e .number) (keep-in p xs (r .1) .0)))), later)
+    go : (b : Bool) → Distinct (map (λ e. e .number) (keep p xs))
+        → Distinct (map (λ e. e .number) (cond b (x ∷ keep p xs) (keep p xs)))
+    go true later = (
+      (λ m. let r = Memᴰ·of-map (λ (e : Edge). e .number) (keep p xs) m in
+          dis .0 (Memᴰ·cast (sym (r .2)) (Memᴰ·map (λ (e : Edge). e .number) (keep-in p xs (r .1) .0)))),
+      later,
+    )
     go false later = later
 
 same-more : (a b : ℕ) → same (a + b) b ≡ same a 0
@@ -98,17 +109,26 @@ module _ {l : List ℤ} {n : ℕ} (t : EdgeRows l n) (i : ℕ) (h : i < n) where
   pub without-row : withoutEdge (edgeAt l i .number) (edgesOf l n) ≡ take i (edgesOf l n) ++ drop (suc i) (edgesOf l n)
   without-row = rw row-is at (without-at (λ (e : Edge). e .number) (edgesOf l n) numbers-once i (edgeAt l i) inside)
 
-  own-ends : (k : ℕ) → bit (sameZ (getD l (i * edgeWidth + 1) (pos 0)) (pos k)) + bit (sameZ (getD l (i * edgeWidth + 2) (pos 0)) (pos k)) ≡ bit (same (edgeAt l i .start) k) + bit (same (edgeAt l i .end) k)
+  own-ends : (k : ℕ) → bit (sameZ (getD l (i * edgeWidth + 1) (pos 0)) (pos k)) + bit
+      (sameZ (getD l (i * edgeWidth + 2) (pos 0)) (pos k))
+      ≡ bit (same (edgeAt l i .start) k) + bit (same (edgeAt l i .end) k)
   own-ends k =
       let c = cells-of t i h in
-      ap₂ (λ (x y : Bool). bit x + bit y) (ap (λ (z : ℤ). sameZ z (pos k)) (c .start) ∙ same-pos (edgeAt l i .start) k) (ap (λ (z : ℤ). sameZ z (pos k)) (c .end) ∙ same-pos (edgeAt l i .end) k)
+      ap₂ (λ (x y : Bool). bit x + bit y) (ap (λ (z : ℤ). sameZ z (pos k)) (c .start) ∙ same-pos (edgeAt l i .start) k)
+      (ap (λ (z : ℤ). sameZ z (pos k)) (c .end) ∙ same-pos (edgeAt l i .end) k)
 
   -- the node is bare when the row is gone
-  pub bare-is : (m : Map) (k : ℕ) → m .edges ≡ withoutEdge (edgeAt l i .number) (edgesOf l n) → bareAt l n i (pos k) ≡ same (edgeEnds m k) 0
+  pub bare-is : (m : Map) (k : ℕ) → m .edges ≡ withoutEdge (edgeAt l i .number) (edgesOf l n) → bareAt l n i (pos k)
+      ≡ same (edgeEnds m k) 0
   bare-is m k e =
       let es = edgesOf l n in
       let own = bit (same (edgeAt l i .start) k) + bit (same (edgeAt l i .end) k) in
-      let all : count (leavesNode l (pos k)) (positions n) ≡ endsOf k (withoutEdge (edgeAt l i .number) es) + own =
-      sym (ends-count t k) ∙ ends-are (edgeMap l n) k numbers-once ∙ (rw row-is at (ends-without k es i (edgeAt l i) inside)) ∙ ap (λ (xs : List Edge). endsOf k xs + own) (sym without-row) in
-      let left : edgeEnds m k ≡ endsOf k (withoutEdge (edgeAt l i .number) es) = ends-are m k (subst (λ (xs : List Edge). Distinct (map (λ e. e .number) xs)) (sym e) (kept-once (λ r. not (same (r .number) (edgeAt l i .number))) es numbers-once)) ∙ ap (endsOf k) e in
-      ap₂ same all (own-ends k) ∙ same-more (endsOf k (withoutEdge (edgeAt l i .number) es)) own ∙ ap (λ (x : ℕ). same x 0) (sym left)
+      let all : countOf (leavesNode l (pos k)) (positions n) ≡ endsOf k (withoutEdge (edgeAt l i .number) es) + own =
+      sym (ends-count t k) ∙ ends-are (edgeMap l n) k numbers-once
+      ∙ (rw row-is at (ends-without k es i (edgeAt l i) inside))
+      ∙ ap (λ (xs : List Edge). endsOf k xs + own) (sym without-row) in
+      let left : edgeEnds m k ≡ endsOf k (withoutEdge (edgeAt l i .number) es) =
+      ends-are m k (subst (λ (xs : List Edge). Distinct (map (λ e. e .number) xs)) (sym e)
+      (kept-once (λ r. not (same (r .number) (edgeAt l i .number))) es numbers-once)) ∙ ap (endsOf k) e in
+      ap₂ same all (own-ends k) ∙ same-more (endsOf k (withoutEdge (edgeAt l i .number) es)) own
+      ∙ ap (λ (x : ℕ). same x 0) (sym left)

@@ -20,7 +20,14 @@ use Rattle.redraws.specs.Holds.{NodeTable, EdgeTable}
 
 -- beside empty tables and face 0
 abbrev counting : ℕ → ℕ → Head
-counting n k = record { nodes = pos n; edges = pos k; faces = pos 1; «next_node» = pos 1; «next_edge» = pos 1; «next_face» = pos 1 }
+counting n k = record {
+  nodes = pos n;
+  edges = pos k;
+  faces = pos 1;
+  «next_node» = pos 1;
+  «next_edge» = pos 1;
+  «next_face» = pos 1;
+}
 
 abbrev nodesAlone : List ℤ → ℕ → Lent
 nodesAlone l n = lent l [] (pos 0 ∷ []) (counting n 0)
@@ -43,7 +50,8 @@ module _ {l : List ℤ} {n : ℕ} (t : NodeTable l n) where
   pub nodes-filled : filled (length l) (flatMap nodeCells (nodesOf l n)) ≡ l
   unfolding lentOf mapOf
   nodes-filled =
-      ap (λ (k : ℕ). filled k (flatMap nodeCells (nodesOf l n))) (sym (whole-rows nodeWidth 0 maxNodes l (t .whole) .size))
+      ap (λ (k : ℕ). filled k (flatMap nodeCells (nodesOf l n)))
+      (sym (whole-rows nodeWidth 0 maxNodes l (t .whole) .size))
       ∙ ap (λ (x : Lent). x .nodes) (writes-back (nodesAlone l n) nodes-whole nodes-ranged)
 
 module _ {l : List ℤ} {n : ℕ} (t : EdgeTable l n) where
@@ -61,5 +69,6 @@ module _ {l : List ℤ} {n : ℕ} (t : EdgeTable l n) where
   pub edges-filled : filled (length l) (flatMap edgeCells (edgesOf l n)) ≡ l
   unfolding lentOf mapOf
   edges-filled =
-      ap (λ (k : ℕ). filled k (flatMap edgeCells (edgesOf l n))) (sym (whole-rows edgeWidth 0 maxEdges l (t .whole) .size))
+      ap (λ (k : ℕ). filled k (flatMap edgeCells (edgesOf l n)))
+      (sym (whole-rows edgeWidth 0 maxEdges l (t .whole) .size))
       ∙ ap (λ (x : Lent). x .edges) (writes-back (edgesAlone l n) edges-whole edges-ranged)

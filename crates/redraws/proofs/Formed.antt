@@ -23,8 +23,16 @@ module _ {nodes edges faces : List ℤ} {h : Head} (f : Formed nodes edges faces
   pub held : Held nodes edges h
   held =
       record {
-        node-table = record { rows = node-rows f; rest = ranges f .node-rest; whole = whole-tables (lent nodes edges faces h) (f .whole) .0 };
-        edge-table = record { rows = edge-rows f; rest = ranges f .edge-rest; whole = whole-tables (lent nodes edges faces h) (f .whole) .1 };
+        node-table = record {
+          rows = node-rows f;
+          rest = ranges f .node-rest;
+          whole = whole-tables (lent nodes edges faces h) (f .whole) .0;
+        };
+        edge-table = record {
+          rows = edge-rows f;
+          rest = ranges f .edge-rest;
+          whole = whole-tables (lent nodes edges faces h) (f .whole) .1;
+        };
         nodes-count = nodes-count f .0;
         edges-count = edges-count f .0;
         next = edge-next f .0;
@@ -38,13 +46,15 @@ module _ {nodes edges : List ℤ} {h : Head} (d : Held nodes edges h) where
   counted-held =
       record {
         count = d .edges-count;
-        few = let a = edges-room (d .edge-table) in let b = whole-rows edgeWidth 0 maxEdges edges (d .edge-table .whole) .most in omega arith;
+        few = let a = edges-room (d .edge-table) in let b =
+            whole-rows edgeWidth 0 maxEdges edges (d .edge-table .whole) .most in omega arith;
         next = d .next;
         most = d .next-most;
       }
 
   pub nodes-held : natAbs (h .nodes) ≤ 1000000
-  nodes-held = let a = nodes-room (d .node-table) in let b = whole-rows nodeWidth 0 maxNodes nodes (d .node-table .whole) .most in omega arith
+  nodes-held = let a = nodes-room (d .node-table) in let b =
+      whole-rows nodeWidth 0 maxNodes nodes (d .node-table .whole) .most in omega arith
 
 -- a count or a next number as it is read
 module _ {nodes edges faces : List ℤ} {h : Head} (f : Formed nodes edges faces h) where

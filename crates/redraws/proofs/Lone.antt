@@ -31,7 +31,8 @@ module _ (nodes edges : List ℤ) (h : Head) (u v : ℕ) (c : List ℤ) where
   sent = sentReasons c (nodeAt nodes u .at) (nodeAt nodes v .at)
 
   abbrev meeting : Reasons
-  meeting = meetingReasons (nodeMap nodes (natAbs (h .nodes))) (edgesBut edges (natAbs (h .edges)) (natAbs (h .edges))) (curveOf c)
+  meeting = meetingReasons (nodeMap nodes (natAbs (h .nodes))) (edgesBut edges (natAbs (h .edges)) (natAbs (h .edges)))
+      (curveOf c)
 
   -- a curve without a reason against it is a run
   pub sent-run : firstReason (sentReasons c (nodeAt nodes u .at) (nodeAt nodes v .at)) ≡ 0 → Run c
@@ -43,18 +44,21 @@ module _ (nodes edges : List ℤ) (h : Head) (u v : ℕ) (c : List ℤ) where
   abbrev apart : Bool
   apart = not (same (Option·getD (nodeAt nodes u .face) 0) (Option·getD (nodeAt nodes v .face) 0))
 
-  pub lone-sent : {r : ℕ} → r ≡ firstReason (sentReasons c (nodeAt nodes u .at) (nodeAt nodes v .at)) → (r ≡ 0 → ⊥) → r ≡ firstReason (loneReasons nodes edges h u v c)
+  pub lone-sent : {r : ℕ} → r ≡ firstReason (sentReasons c (nodeAt nodes u .at) (nodeAt nodes v .at)) → (r ≡ 0 → ⊥) → r
+      ≡ firstReason (loneReasons nodes edges h u v c)
   lone-sent {r} e d = first-of sent ((9, joint) ∷ (12, apart) ∷ meeting ++ roomReasons edges h) r e d
 
   module _ (e : firstReason (sentReasons c (nodeAt nodes u .at) (nodeAt nodes v .at)) ≡ 0) where
-    after-sent : firstReason (loneReasons nodes edges h u v c) ≡ firstReason ((9, joint) ∷ (12, apart) ∷ meeting ++ roomReasons edges h)
+    after-sent : firstReason (loneReasons nodes edges h u v c)
+        ≡ firstReason ((9, joint) ∷ (12, apart) ∷ meeting ++ roomReasons edges h)
     after-sent = first-after sent ((9, joint) ∷ (12, apart) ∷ meeting ++ roomReasons edges h) refl e
 
     pub lone-joined : {b : Bool} → b ≡ joint → b ≡ true → 9 ≡ firstReason (loneReasons nodes edges h u v c)
     lone-joined q t = sym (after-sent ∙ first-hit 9 joint ((12, apart) ∷ meeting ++ roomReasons edges h) (sym q ∙ t))
 
     module _ {b : Bool} (q : b ≡ joint) (t : b ≡ false) where
-      after-joined : firstReason (loneReasons nodes edges h u v c) ≡ firstReason ((12, apart) ∷ meeting ++ roomReasons edges h)
+      after-joined : firstReason (loneReasons nodes edges h u v c)
+          ≡ firstReason ((12, apart) ∷ meeting ++ roomReasons edges h)
       after-joined = after-sent ∙ first-miss 9 joint ((12, apart) ∷ meeting ++ roomReasons edges h) (sym q ∙ t)
 
       pub both-lone : (isSome (nodeAt nodes u .face) ≡ true) × (isSome (nodeAt nodes v .face) ≡ true)
@@ -73,14 +77,21 @@ module _ (nodes edges : List ℤ) (h : Head) (u v : ℕ) (c : List ℤ) where
         after-apart : firstReason (loneReasons nodes edges h u v c) ≡ firstReason (meeting ++ roomReasons edges h)
         after-apart = after-joined ∙ first-miss 12 apart (meeting ++ roomReasons edges h) (sym p ∙ w)
 
-        pub lone-meeting : {r : ℕ} → r ≡ firstReason (meetingReasons (nodeMap nodes (natAbs (h .nodes))) (edgesBut edges (natAbs (h .edges)) (natAbs (h .edges))) (curveOf c)) → (r ≡ 0 → ⊥) → r ≡ firstReason (loneReasons nodes edges h u v c)
+        pub lone-meeting : {r : ℕ} → r ≡ firstReason
+            (meetingReasons (nodeMap nodes (natAbs (h .nodes)))
+            (edgesBut edges (natAbs (h .edges)) (natAbs (h .edges))) (curveOf c)) → (r ≡ 0 → ⊥) → r
+            ≡ firstReason (loneReasons nodes edges h u v c)
         lone-meeting {r} m g = first-of meeting (roomReasons edges h) r m g ∙ sym after-apart
 
-        pub lone-room : {r : ℕ} → firstReason (meetingReasons (nodeMap nodes (natAbs (h .nodes))) (edgesBut edges (natAbs (h .edges)) (natAbs (h .edges))) (curveOf c)) ≡ 0 → r ≡ firstReason (roomReasons edges h) → r ≡ firstReason (loneReasons nodes edges h u v c)
+        pub lone-room : {r : ℕ} → firstReason
+            (meetingReasons (nodeMap nodes (natAbs (h .nodes)))
+            (edgesBut edges (natAbs (h .edges)) (natAbs (h .edges))) (curveOf c)) ≡ 0 → r
+            ≡ firstReason (roomReasons edges h) → r ≡ firstReason (loneReasons nodes edges h u v c)
         lone-room m g = g ∙ sym (after-apart ∙ first-after meeting (roomReasons edges h) refl m)
 
   -- no reason at all
-  pub lone-free : firstReason (loneReasons nodes edges h u v c) ≡ 0 → Run c × (isSome (nodeAt nodes u .face) ≡ true) × (natAbs (h .edges) < length edges / edgeWidth) × (natAbs (h .«next_edge») ≤ lastNumber)
+  pub lone-free : firstReason (loneReasons nodes edges h u v c) ≡ 0 → Run c × (isSome (nodeAt nodes u .face) ≡ true)
+      × (natAbs (h .edges) < length edges / edgeWidth) × (natAbs (h .«next_edge») ≤ lastNumber)
   lone-free e =
       let e₅ = first-zero 5 _ _ (omega arith) e in
       let e₆ = first-zero 6 _ _ (omega arith) (e₅ .1) in

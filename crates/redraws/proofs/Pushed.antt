@@ -1,15 +1,17 @@
--- A new last edge row: the rows are those before and the new one, in range, in rising order, with links that name rows. Assumes nothing.
+-- A new last edge row: the rows are those before and the new one, in range, in rising order, with links that name rows.
+-- Assumes nothing.
 use mathlib.Core.Path.{_≡_, sym, ap, _∙_, subst}
 use mathlib.Core.Bool.{true, _&&_}
 use mathlib.Core.Logic.{⊎-elim}
-use mathlib.Core.List.{List, [], _∷_, _++_, map, flatMap, List·Memᴰ, List·Memᴰ·append-cases, List·Memᴰ·eq-of-singleton, map-append}
+use mathlib.Core.List.{List, [], _∷_, _++_, map, flatMap, List·Memᴰ, List·Memᴰ·append-cases, List·Memᴰ·eq-of-singleton}
+use mathlib.Core.List.{map-append}
 use Prim.Native.Nat.{ℕ, suc, _+_, _*_, _-_, _/_, _≤_, _<_}
 use native.Mathlib.Omega.{arith}
 use lib.IntN.{ℤ, pos}
 use lib.ListN.{length, replicate, length-append}
 use lib.Seq.{paste, length-paste}
 use Rattle.lists.specs.Tests.{same}
-use Rattle.lists.specs.Scans.{all, find, isSome}
+use Rattle.lists.specs.Scans.{allOf, find, isSome}
 use Rattle.lists.proofs.Appends.{all-append, each-append}
 use Rattle.lists.proofs.Bools.{same-eq}
 use Rattle.lists.proofs.Scans.{table-in}
@@ -45,8 +47,12 @@ named-least : {l : List ℤ} {n : ℕ} → EdgeRows l n → (e : ℕ) → hasEdg
 named-least t e h = let r = row-there t e h in let k = edge-number-in t (r .0) (r .1) .0 in let q = r .2 in omega arith
 
 module _ {l : List ℤ} {n : ℕ} (t : EdgeTable l n) where
-  row-names : (i : ℕ) → i < n → hasEdge (edgeMap l n) (edgeAt l i .nextLeft .edge) && hasEdge (edgeMap l n) (edgeAt l i .nextRight .edge) ≡ true
-  row-names i h = all-table (λ e. hasEdge (edgeMap l n) (e .nextLeft .edge) && hasEdge (edgeMap l n) (e .nextRight .edge)) (edgeAt l) n (ap (all (λ e. hasEdge (edgeMap l n) (e .nextLeft .edge) && hasEdge (edgeMap l n) (e .nextRight .edge))) (sym (edges-table l n)) ∙ t .rows .named) i h
+  row-names : (i : ℕ) → i < n → hasEdge (edgeMap l n) (edgeAt l i .nextLeft .edge)
+      && hasEdge (edgeMap l n) (edgeAt l i .nextRight .edge) ≡ true
+  row-names i h = all-table (λ e. hasEdge (edgeMap l n) (e .nextLeft .edge)
+      && hasEdge (edgeMap l n) (e .nextRight .edge)) (edgeAt l) n
+      (ap (allOf (λ e. hasEdge (edgeMap l n) (e .nextLeft .edge) && hasEdge (edgeMap l n) (e .nextRight .edge)))
+      (sym (edges-table l n)) ∙ t .rows .named) i h
 
   -- each row of the table can be held
   pub row-holds : (i : ℕ) → i < n → Holds (edgeAt l i)
@@ -55,22 +61,27 @@ module _ {l : List ℤ} {n : ℕ} (t : EdgeTable l n) where
       let b = hasEdge (edgeMap l n) (edgeAt l i .nextRight .edge) in
       record {
         few = edge-few (edge-row-of (t .rows) i h);
-        left = λ _ z. let k = named-least (t .rows) (edgeAt l i .nextLeft .edge) (and-left a b (row-names i h)) in omega arith;
-        right = λ _ z. let k = named-least (t .rows) (edgeAt l i .nextRight .edge) (and-right a b (row-names i h)) in omega arith;
+        left = λ _ z. let k = named-least (t .rows) (edgeAt l i .nextLeft .edge) (and-left a b (row-names i h)) in
+            omega arith;
+        right = λ _ z. let k = named-least (t .rows) (edgeAt l i .nextRight .edge) (and-right a b (row-names i h)) in
+            omega arith;
       }
 
   pub rows-hold : (e : Edge) → List·Memᴰ e (edgesOf l n) → Holds e
-  rows-hold e m = let r = table-in (edgeAt l) 0 n (subst (List·Memᴰ e) (edges-table l n) m) in let h = r .2 in subst Holds (r .3) (row-holds (r .0) (omega arith))
+  rows-hold e m = let r = table-in (edgeAt l) 0 n (subst (List·Memᴰ e) (edges-table l n) m) in let h = r .2 in
+      subst Holds (r .3) (row-holds (r .0) (omega arith))
 
 -- edges written into a table are read back
-pub edges-read : (N : ℕ) (es : List Edge) → ((e : Edge) → List·Memᴰ e es → Holds e) → edgesOf (filled (N * edgeWidth) (flatMap edgeCells es)) (length es) ≡ es
+pub edges-read : (N : ℕ) (es : List Edge) → ((e : Edge) → List·Memᴰ e es → Holds e)
+    → edgesOf (filled (N * edgeWidth) (flatMap edgeCells es)) (length es) ≡ es
 unfolding mapOf lentOf
 edges-read N es h =
     let s : Sizes = record { nodes = 0; edges = N; faces = 0 } in
     let m : Map = record { nodes = []; edges = es; faces = []; nextNode = 0; nextEdge = 0; nextFace = 0 } in
     ap (λ (x : Map). x .edges) (reads-back s m h)
 
-module _ {l : List ℤ} {n : ℕ} (t : EdgeTable l n) (row : Edge) (f : Follows l n row) (room : n < length l / edgeWidth) where
+module _ {l : List ℤ} {n : ℕ} (t : EdgeTable l n) (row : Edge) (f : Follows l n row)
+    (room : n < length l / edgeWidth) where
   after : List Edge
   after = edgesOf l n ++ row ∷ []
 
@@ -86,7 +97,8 @@ module _ {l : List ℤ} {n : ℕ} (t : EdgeTable l n) (row : Edge) (f : Follows 
 
   wide : Wide edgeWidth edgeCells after
   unfolding after
-  wide = each-append (λ e. length (edgeCells e) ≡ edgeWidth) (edgesOf l n) (row ∷ []) (table-edges-wide l n (t .rows .fits) (t .rows .ranges)) (edge-wide row (f .few), tt)
+  wide = each-append (λ e. length (edgeCells e) ≡ edgeWidth) (edgesOf l n) (row ∷ [])
+      (table-edges-wide l n (t .rows .fits) (t .rows .ranges)) (edge-wide row (f .few), tt)
 
   fits : n * edgeWidth + edgeWidth ≤ length l
   fits = let s = size in omega arith
@@ -95,20 +107,30 @@ module _ {l : List ℤ} {n : ℕ} (t : EdgeTable l n) (row : Edge) (f : Follows 
   unfolding written after
   written-filled =
       ap (λ (r : List ℤ). paste r (n * edgeWidth) (edgeCells row) edgeWidth) (sym (edges-filled t))
-      ∙ ap (λ (k : ℕ). paste (filled (length l) (flatMap edgeCells (edgesOf l n))) (k * edgeWidth) (edgeCells row) edgeWidth) (sym (edges-length l n))
-      ∙ pushed edgeWidth edgeCells (length l) (edgesOf l n) row (table-edges-wide l n (t .rows .fits) (t .rows .ranges)) (edge-wide row (f .few)) (rw (edges-length l n) fits)
+      ∙ ap (λ (k : ℕ). paste (filled (length l) (flatMap edgeCells (edgesOf l n))) (k * edgeWidth)
+      (edgeCells row) edgeWidth) (sym (edges-length l n))
+      ∙ pushed edgeWidth edgeCells (length l) (edgesOf l n) row
+      (table-edges-wide l n (t .rows .fits) (t .rows .ranges)) (edge-wide row (f .few)) (rw (edges-length l n) fits)
 
   pub pushed-long : length (paste l (n * edgeWidth) (edgeCells row) edgeWidth) ≡ length l
-  pushed-long = length-paste l (n * edgeWidth) (edgeCells row) edgeWidth fits (let w = edge-wide row (f .few) in omega arith)
+  pushed-long = length-paste l (n * edgeWidth) (edgeCells row) edgeWidth fits
+      (let w = edge-wide row (f .few) in omega arith)
 
   holds : (e : Edge) → List·Memᴰ e after → Holds e
   unfolding after
-  holds e m = ⊎-elim (rows-hold t e) (λ k. subst Holds (sym (List·Memᴰ·eq-of-singleton k)) (record { few = f .few; left = λ _ z. let a = f .left in let b = f .least in omega arith; right = λ _ z. let a = f .right in let b = f .least in omega arith })) (List·Memᴰ·append-cases (edgesOf l n) m)
+  holds e m = ⊎-elim (rows-hold t e) (λ k. subst Holds (sym (List·Memᴰ·eq-of-singleton k))
+      (record {
+        few = f .few;
+        left = λ _ z. let a = f .left in let b = f .least in omega arith;
+        right = λ _ z. let a =
+            f .right in let b = f .least in omega arith;
+      })) (List·Memᴰ·append-cases (edgesOf l n) m)
 
   pub pushed-edges : edgesOf (paste l (n * edgeWidth) (edgeCells row) edgeWidth) (n + 1) ≡ edgesOf l n ++ row ∷ []
   unfolding written after
   pushed-edges =
-      ap (λ (r : List ℤ). edgesOf r (n + 1)) (written-filled ∙ ap (λ (k : ℕ). filled k (flatMap edgeCells after)) (sym size))
+      ap (λ (r : List ℤ). edgesOf r (n + 1))
+      (written-filled ∙ ap (λ (k : ℕ). filled k (flatMap edgeCells after)) (sym size))
       ∙ ap (edgesOf (filled (length l / edgeWidth * edgeWidth) (flatMap edgeCells after))) (sym count)
       ∙ edges-read (length l / edgeWidth) after holds
 
@@ -122,7 +144,9 @@ module _ {l : List ℤ} {n : ℕ} (t : EdgeTable l n) (row : Edge) (f : Follows 
   old-rows =
       ap (rows edgeWidth n) (sym (edges-filled t))
       ∙ ap (λ (k : ℕ). rows edgeWidth k (filled (length l) (flatMap edgeCells (edgesOf l n)))) (sym (edges-length l n))
-      ∙ rows-flat edgeWidth edgeCells (edgesOf l n) (replicate (length l - length (flatMap edgeCells (edgesOf l n))) (pos 0)) (table-edges-wide l n (t .rows .fits) (t .rows .ranges))
+      ∙ rows-flat edgeWidth edgeCells (edgesOf l n)
+      (replicate (length l - length (flatMap edgeCells (edgesOf l n))) (pos 0))
+      (table-edges-wide l n (t .rows .fits) (t .rows .ranges))
 
   has : (e : ℕ) → hasEdge (edgeMap l n) e ≡ true → isSome (find (λ r. same (r .number) e) after) ≡ true
   unfolding after
@@ -132,12 +156,20 @@ module _ {l : List ℤ} {n : ℕ} (t : EdgeTable l n) (row : Edge) (f : Follows 
   unfolding after
   has-row e q = find-last (λ r. same (r .number) e) (edgesOf l n) row (same-eq (row .number) e (sym q))
 
-  named : all (λ e. isSome (find (λ r. same (r .number) (e .nextLeft .edge)) after) && isSome (find (λ r. same (r .number) (e .nextRight .edge)) after)) after ≡ true
+  named : allOf (λ e. isSome (find (λ r. same (r .number) (e .nextLeft .edge)) after)
+      && isSome (find (λ r. same (r .number) (e .nextRight .edge)) after)) after ≡ true
   unfolding after
   named =
-      all-append (λ e. isSome (find (λ r. same (r .number) (e .nextLeft .edge)) after) && isSome (find (λ r. same (r .number) (e .nextRight .edge)) after)) (edgesOf l n) (row ∷ [])
-      (all-weaker (λ (e : Edge). hasEdge (edgeMap l n) (e .nextLeft .edge) && hasEdge (edgeMap l n) (e .nextRight .edge)) _
-      (λ (e : Edge) h. rw (has (e .nextLeft .edge) (and-left (hasEdge (edgeMap l n) (e .nextLeft .edge)) (hasEdge (edgeMap l n) (e .nextRight .edge)) h), has (e .nextRight .edge) (and-right (hasEdge (edgeMap l n) (e .nextLeft .edge)) (hasEdge (edgeMap l n) (e .nextRight .edge)) h)))
+      all-append (λ e. isSome (find (λ r. same (r .number) (e .nextLeft .edge)) after)
+      && isSome (find (λ r. same (r .number) (e .nextRight .edge)) after)) (edgesOf l n) (row ∷ [])
+      (all-weaker (λ (e : Edge). hasEdge (edgeMap l n) (e .nextLeft .edge)
+      && hasEdge (edgeMap l n) (e .nextRight .edge)) _
+      (λ (e : Edge) h. rw (
+        has (e .nextLeft .edge)
+            (and-left (hasEdge (edgeMap l n) (e .nextLeft .edge)) (hasEdge (edgeMap l n) (e .nextRight .edge)) h),
+        has (e .nextRight .edge) (and-right (hasEdge (edgeMap l n) (e .nextLeft .edge))
+            (hasEdge (edgeMap l n) (e .nextRight .edge)) h),
+      ))
       (edgesOf l n) (t .rows .named))
       (rw (has-row (row .nextLeft .edge) (f .left), has-row (row .nextRight .edge) (f .right)))
 
@@ -148,9 +180,16 @@ module _ {l : List ℤ} {n : ℕ} (t : EdgeTable l n) (row : Edge) (f : Follows 
         rows =
             record {
               fits = let a = pushed-long in let b = fits in omega arith;
-              ranges = ap (all edgeRanges) (pushed-rows ∙ map-append edgeCells (edgesOf l n) (row ∷ [])) ∙ all-append edgeRanges (map edgeCells (edgesOf l n)) (edgeCells row ∷ []) (ap (all edgeRanges) (sym old-rows) ∙ t .rows .ranges) (rw (f .ranges));
-              rising = ap (λ (es : List Edge). numbered 1 (suc lastNumber) (map (λ e. e .number) es)) pushed-edges ∙ ap (numbered 1 (suc lastNumber)) (map-append (λ (e : Edge). e .number) (edgesOf l n) (row ∷ [])) ∙ numbered-push 1 (row .number) (suc lastNumber) (map (λ e. e .number) (edgesOf l n)) (f .above) (f .least) (let m = f .most in omega arith);
-              named = ap (λ (es : List Edge). all (λ e. isSome (find (λ r. same (r .number) (e .nextLeft .edge)) es) && isSome (find (λ r. same (r .number) (e .nextRight .edge)) es)) es) pushed-edges ∙ named;
+              ranges = ap (allOf edgeRanges) (pushed-rows ∙ map-append edgeCells (edgesOf l n) (row ∷ []))
+                  ∙ all-append edgeRanges (map edgeCells (edgesOf l n)) (edgeCells row ∷ [])
+                  (ap (allOf edgeRanges) (sym old-rows) ∙ t .rows .ranges) (rw (f .ranges));
+              rising = ap (λ (es : List Edge). numbered 1 (suc lastNumber) (map (λ e. e .number) es)) pushed-edges
+                  ∙ ap (numbered 1 (suc lastNumber)) (map-append (λ (e : Edge). e .number) (edgesOf l n) (row ∷ []))
+                  ∙ numbered-push 1 (row .number) (suc lastNumber) (map (λ e. e .number) (edgesOf l n)) (f .above)
+                  (f .least) (let m = f .most in omega arith);
+              named = ap (λ (es : List Edge). allOf
+                  (λ e. isSome (find (λ r. same (r .number) (e .nextLeft .edge)) es)
+                  && isSome (find (λ r. same (r .number) (e .nextRight .edge)) es)) es) pushed-edges ∙ named;
             };
         rest = filled-rest edgeWidth edgeCells (length l) after (n + 1) wide count (sym written-filled);
         whole = rw pushed-long (t .whole);

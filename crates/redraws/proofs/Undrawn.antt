@@ -11,7 +11,7 @@ use lib.ListN.{length, getD, take, drop, length-set, length-append, length-drop}
 use lib.Seq.{length-take-le}
 use lib.Signed.{leZ, nonNeg}
 use Rattle.lists.specs.Tests.{same}
-use Rattle.lists.specs.Scans.{all, find}
+use Rattle.lists.specs.Scans.{allOf, find}
 use Rattle.lists.specs.Tables.{place}
 use Rattle.lists.specs.declared.Found.{Found}
 use Rattle.lists.specs.declared.Found.the-variants.{At, Missing}
@@ -33,7 +33,8 @@ use Rattle.form_ranges.specs.Ranges.{lent}
 use Rattle.links.specs.Linking.{unlinkedEdge}
 use Rattle.links.proofs.Kept.{rest-kept, number-kept}
 use Rattle.links.proofs.LinkedEdges.{unlinked-alone, unlinked-edge-kept, unlinked-edge-relinked, unlinked-edge-gone}
-use Rattle.redraws.specs.Holds.{NodeTable, EdgeTable, Counted, Undrawable, Undrawn, undrawnHead, bareAt, facedWhere, facedIf}
+use Rattle.redraws.specs.Holds.{NodeTable, EdgeTable, Counted, Undrawable, Undrawn, undrawnHead, bareAt}
+use Rattle.redraws.specs.Holds.{facedWhere, facedIf}
 use Rattle.redraws.proofs.Filled.{nodes-room, edges-room, nodes-filled, edges-filled}
 use Rattle.redraws.proofs.NodeFaces.{faced-nodes, faced-table}
 use Rattle.redraws.proofs.Ends.{without-row, bare-is}
@@ -42,11 +43,15 @@ use Rattle.redraws.proofs.Ends.{without-row, bare-is}
 
 module _ (f : Option ℕ) where
   -- no node of the number
-  none-faced : (k : ℕ) (xs : List Node) → find (λ r. same (r .number) k) xs ≡ none → map (λ (r : Node). cond (same (r .number) k) (withFace f r) r) xs ≡ xs
+  none-faced : (k : ℕ) (xs : List Node) → find (λ r. same (r .number) k) xs ≡ none
+      → map (λ (r : Node). cond (same (r .number) k) (withFace f r) r) xs ≡ xs
   none-faced k [] e = refl
   none-faced k (x ∷ xs) e = go (same (x .number) k) refl (none-faced k xs)
     where
-      go : (b : Bool) → same (x .number) k ≡ b → (find (λ r. same (r .number) k) xs ≡ none → map (λ (r : Node). cond (same (r .number) k) (withFace f r) r) xs ≡ xs) → map (λ (r : Node). cond (same (r .number) k) (withFace f r) r) (x ∷ xs) ≡ x ∷ xs
+      go : (b : Bool) → same (x .number) k ≡ b
+          → (find (λ r. same (r .number) k) xs ≡ none
+          → map (λ (r : Node). cond (same (r .number) k) (withFace f r) r) xs ≡ xs)
+          → map (λ (r : Node). cond (same (r .number) k) (withFace f r) r) (x ∷ xs) ≡ x ∷ xs
       go true q later = let z : some x ≡ none = rw q at e in let k : _≡_ {A = ℕ} 0 1 = cc in absurd (omega arith)
       go false q later = rw q (ap (λ (ys : List Node). x ∷ ys) (later (rw q at e)))
 
@@ -55,7 +60,8 @@ module _ (f : Option ℕ) where
     faced k r = cond (same (r .number) k && p (r .number)) (withFace f r) r
 
     -- nodes of the number, if it is bare
-    one-faced : (k : ℕ) (xs : List Node) → cond (p k) (map (λ (r : Node). cond (same (r .number) k) (withFace f r) r) xs) xs ≡ map (faced k) xs
+    one-faced : (k : ℕ) (xs : List Node)
+        → cond (p k) (map (λ (r : Node). cond (same (r .number) k) (withFace f r) r) xs) xs ≡ map (faced k) xs
     one-faced k xs = go (p k) refl xs
       where
         each : (b : Bool) → p k ≡ b → (r : Node) → cond b (cond (same (r .number) k) (withFace f r) r) r ≡ faced k r
@@ -71,13 +77,15 @@ module _ (f : Option ℕ) where
             other true = refl
             other false = refl
 
-        go : (b : Bool) → p k ≡ b → (xs : List Node) → cond b (map (λ (r : Node). cond (same (r .number) k) (withFace f r) r) xs) xs ≡ map (faced k) xs
+        go : (b : Bool) → p k ≡ b → (xs : List Node)
+            → cond b (map (λ (r : Node). cond (same (r .number) k) (withFace f r) r) xs) xs ≡ map (faced k) xs
         go true e [] = refl
         go false e [] = refl
         go true e (x ∷ xs) = ap₂ (λ (y : Node) (ys : List Node). y ∷ ys) (each true e x) (go true e xs)
         go false e (x ∷ xs) = ap₂ (λ (y : Node) (ys : List Node). y ∷ ys) (each false e x) (go false e xs)
 
-    either-faced : (s t : ℕ) (xs : List Node) → map (faced t) (map (faced s) xs) ≡ map (λ (r : Node). cond (isEither s t r && p (r .number)) (withFace f r) r) xs
+    either-faced : (s t : ℕ) (xs : List Node) → map (faced t) (map (faced s) xs)
+        ≡ map (λ (r : Node). cond (isEither s t r && p (r .number)) (withFace f r) r) xs
     either-faced s t [] = refl
     either-faced s t (x ∷ xs) = ap₂ (λ (y : Node) (ys : List Node). y ∷ ys) (each x) (either-faced s t xs)
       where
@@ -85,24 +93,42 @@ module _ (f : Option ℕ) where
         last true = refl
         last false = refl
 
-        go : (a b : Bool) → same (x .number) t && p (x .number) ≡ b → faced t (cond a (withFace f x) x) ≡ cond (a || b) (withFace f x) x
+        go : (a b : Bool) → same (x .number) t && p (x .number) ≡ b → faced t (cond a (withFace f x) x)
+            ≡ cond (a || b) (withFace f x) x
         go true b e = last (same (x .number) t && p (x .number))
         go false b e = rw e
 
         each : (y : Node) → faced t (faced s x) ≡ cond (isEither s t x && p (x .number)) (withFace f x) x
         each y =
             go (same (x .number) s && p (x .number)) (same (x .number) t && p (x .number)) refl
-            ∙ ap (λ (b : Bool). cond b (withFace f x) x) (eq3 (λ a b c. a && c || b && c) (λ a b c. (a || b) && c) tt (same (x .number) s) (same (x .number) t) (p (x .number)))
+            ∙ ap (λ (b : Bool). cond b (withFace f x) x)
+            (eq3 (λ a b c. a && c || b && c) (λ a b c. (a || b) && c) tt (same (x .number) s) (same (x .number) t)
+            (p (x .number)))
 
 module _ {l : List ℤ} {n : ℕ} (t : NodeTable l n) (k : ℕ) (face : ℤ) (least : leZ (negsuc 0) face ≡ true) where
-  where-faced : (r : Found) → place (sameZ (pos k)) 0 (column nodeWidth l n) ≡ r → NodeTable (facedWhere l face r) n × (nodesOf (facedWhere l face r) n ≡ map (λ (x : Node). cond (same (x .number) k) (withFace (faceOf face) x) x) (nodesOf l n)) × (length (facedWhere l face r) ≡ length l)
+  where-faced : (r : Found) → place (sameZ (pos k)) 0 (column nodeWidth l n) ≡ r → NodeTable (facedWhere l face r) n
+      × (nodesOf (facedWhere l face r) n
+      ≡ map (λ (x : Node). cond (same (x .number) k) (withFace (faceOf face) x) x) (nodesOf l n))
+      × (length (facedWhere l face r) ≡ length l)
   where-faced (At i) e =
       let q = node-found l n (t .rows .ranges) (pos k) i e in
-      let num : nodeAt l i .number ≡ k = sym (ap natAbs (q .1)) in
-      (faced-table t i (q .0) face least, faced-nodes t i (q .0) face least ∙ ap (λ (j : ℕ). map (λ (x : Node). cond (same (x .number) j) (withFace (faceOf face) x) x) (nodesOf l n)) num, length-set l (i * nodeWidth + 3) face)
-  where-faced Missing e = (t, sym (none-faced (faceOf face) k (nodesOf l n) (node-missing l n (t .rows .ranges) k e)), refl)
+      let num : nodeAt l i .number ≡ k = sym (ap natAbs (q .1)) in (
+        faced-table t i (q .0) face least,
+        faced-nodes t i (q .0) face least
+            ∙ ap (λ (j : ℕ). map (λ (x : Node). cond (same (x .number) j) (withFace (faceOf face) x) x)
+            (nodesOf l n)) num,
+        length-set l (i * nodeWidth + 3) face,
+      )
+  where-faced Missing e = (
+    t,
+    sym (none-faced (faceOf face) k (nodesOf l n) (node-missing l n (t .rows .ranges) k e)),
+    refl,
+  )
 
-  if-faced : (b : Bool) → NodeTable (facedIf l n (pos k) face b) n × (nodesOf (facedIf l n (pos k) face b) n ≡ cond b (map (λ (x : Node). cond (same (x .number) k) (withFace (faceOf face) x) x) (nodesOf l n)) (nodesOf l n)) × (length (facedIf l n (pos k) face b) ≡ length l)
+  if-faced : (b : Bool) → NodeTable (facedIf l n (pos k) face b) n
+      × (nodesOf (facedIf l n (pos k) face b) n
+      ≡ cond b (map (λ (x : Node). cond (same (x .number) k) (withFace (faceOf face) x) x) (nodesOf l n))
+      (nodesOf l n)) × (length (facedIf l n (pos k) face b) ≡ length l)
   if-faced true = where-faced (place (sameZ (pos k)) 0 (column nodeWidth l n)) refl
   if-faced false = (t, refl, refl)
 
@@ -132,7 +158,7 @@ module _ {nodes edges : List ℤ} {h : Head} {i : ℕ} {face : ℤ} (d : Undrawa
       let r = unlinked-edge-relinked (table .rows) i (d .row) in
       record {
         rows = unlinked-edge-kept (table .rows) i (d .row);
-        rest = ap (all isZero) (rest-kept r) ∙ table .rest;
+        rest = ap (allOf isZero) (rest-kept r) ∙ table .rest;
         whole = rw (r .long) (table .whole);
       }
 
@@ -151,10 +177,20 @@ module _ {nodes edges : List ℤ} {h : Head} {i : ℕ} {face : ℤ} (d : Undrawa
   abbrev endFaced : List ℤ
   endFaced = facedIf startFaced (natAbs (h .nodes)) (pos end) face (bareAt unlinked n i (pos end))
 
-  start-held : NodeTable startFaced (natAbs (h .nodes)) × (nodesOf startFaced (natAbs (h .nodes)) ≡ cond (bareAt unlinked n i (pos start)) (map (λ (x : Node). cond (same (x .number) start) (withFace (faceOf face) x) x) (nodesOf nodes (natAbs (h .nodes)))) (nodesOf nodes (natAbs (h .nodes)))) × (length startFaced ≡ length nodes)
-  start-held = if-faced (d .held .node-table) start face (natural-least face (d .natural)) (bareAt unlinked n i (pos start))
+  start-held : NodeTable startFaced (natAbs (h .nodes))
+      × (nodesOf startFaced (natAbs (h .nodes))
+      ≡ cond (bareAt unlinked n i (pos start))
+      (map (λ (x : Node). cond (same (x .number) start) (withFace (faceOf face) x) x)
+      (nodesOf nodes (natAbs (h .nodes)))) (nodesOf nodes (natAbs (h .nodes)))) × (length startFaced ≡ length nodes)
+  start-held = if-faced (d .held .node-table) start face (natural-least face (d .natural))
+      (bareAt unlinked n i (pos start))
 
-  end-held : NodeTable endFaced (natAbs (h .nodes)) × (nodesOf endFaced (natAbs (h .nodes)) ≡ cond (bareAt unlinked n i (pos end)) (map (λ (x : Node). cond (same (x .number) end) (withFace (faceOf face) x) x) (nodesOf startFaced (natAbs (h .nodes)))) (nodesOf startFaced (natAbs (h .nodes)))) × (length endFaced ≡ length startFaced)
+  end-held : NodeTable endFaced (natAbs (h .nodes))
+      × (nodesOf endFaced (natAbs (h .nodes))
+      ≡ cond (bareAt unlinked n i (pos end))
+      (map (λ (x : Node). cond (same (x .number) end) (withFace (faceOf face) x) x)
+      (nodesOf startFaced (natAbs (h .nodes)))) (nodesOf startFaced (natAbs (h .nodes))))
+      × (length endFaced ≡ length startFaced)
   end-held = if-faced (start-held .0) end face (natural-least face (d .natural)) (bareAt unlinked n i (pos end))
 
   module _ (faces : List ℤ) where
@@ -168,7 +204,8 @@ module _ {nodes edges : List ℤ} {h : Head} {i : ℕ} {face : ℤ} (d : Undrawa
     edges-gone : unlinkEdge number m .edges ≡ withoutEdge (edgeAt unlinked i .number) (edgesOf unlinked n)
     edges-gone = edges-left ∙ ap (λ (k : ℕ). withoutEdge k (edgesOf unlinked n)) (sym number-is)
 
-    edge-cells : filled (length edges) (flatMap edgeCells (undrawn number (natAbs face) m .edges)) ≡ closed edgeWidth unlinked n i
+    edge-cells : filled (length edges) (flatMap edgeCells (undrawn number (natAbs face) m .edges))
+        ≡ closed edgeWidth unlinked n i
     unfolding undrawn atNodes
     edge-cells =
         let t = unlinked-held in
@@ -176,8 +213,10 @@ module _ {nodes edges : List ℤ} {h : Head} {i : ℕ} {face : ℤ} (d : Undrawa
         let es = edgesOf unlinked n in
         let len : length es ≡ n = edges-length unlinked n in
         let fits : length es * edgeWidth ≤ length unlinked = rw len (t .rows .fits) in
-        ap₂ (λ (k : ℕ) (xs : List Edge). filled k (flatMap edgeCells xs)) (sym (r .long)) (edges-gone ∙ without-row (t .rows) i (d .row))
-        ∙ sym (removed-at edgeWidth edgeCells (length unlinked) es i (edgeAt unlinked i) (table-edges-wide unlinked n (t .rows .fits) (t .rows .ranges)) (rw len (d .row)) fits)
+        ap₂ (λ (k : ℕ) (xs : List Edge). filled k (flatMap edgeCells xs)) (sym (r .long))
+        (edges-gone ∙ without-row (t .rows) i (d .row))
+        ∙ sym (removed-at edgeWidth edgeCells (length unlinked) es i (edgeAt unlinked i)
+        (table-edges-wide unlinked n (t .rows .fits) (t .rows .ranges)) (rw len (d .row)) fits)
         ∙ ap₂ (λ (x : List ℤ) (k : ℕ). closed edgeWidth x k i) (edges-filled t) len
 
     edges-fewer : length (undrawn number (natAbs face) m .edges) ≡ n - 1
@@ -186,7 +225,9 @@ module _ {nodes edges : List ℤ} {h : Head} {i : ℕ} {face : ℤ} (d : Undrawa
         let es = edgesOf unlinked n in
         let len : length es ≡ n = edges-length unlinked n in
         let r = d .row in
-        ap length (edges-gone ∙ without-row (unlinked-held .rows) i (d .row)) ∙ length-append (take i es) (drop (suc i) es) ∙ rw (length-take-le i es (rw len (omega arith)), length-drop (suc i) es, len) (omega arith)
+        ap length (edges-gone ∙ without-row (unlinked-held .rows) i (d .row))
+        ∙ length-append (take i es) (drop (suc i) es)
+        ∙ rw (length-take-le i es (rw len (omega arith)), length-drop (suc i) es, len) (omega arith)
 
     row-is : edge m number ≡ edgeAt edges i
     unfolding mapOf edge
@@ -202,32 +243,44 @@ module _ {nodes edges : List ℤ} {h : Head} {i : ℕ} {face : ℤ} (d : Undrawa
         let p : ℕ → Bool = λ k. same (edgeEnds (unlinkEdge number m) k) 0 in
         let f = faceOf face in
         let g : ℕ → Node → Node = λ k x. cond (same (x .number) k) (withFace f x) x in
-        ap₂ (λ (r : Edge) (o : Option ℕ). map (λ (x : Node). cond (isEither (r .start) (r .end) x && p (x .number)) (withFace o x) x) ns) row-is (sym (face-some face (d .natural)))
+        ap₂ (λ (r : Edge) (o : Option ℕ). map
+        (λ (x : Node). cond (isEither (r .start) (r .end) x && p (x .number)) (withFace o x) x) ns) row-is
+        (sym (face-some face (d .natural)))
         ∙ sym (
         end-held .1
-        ∙ ap₂ (λ (q : Bool) (xs : List Node). cond q (map (g end) xs) xs) (bare end) (start-held .1 ∙ ap (λ (q : Bool). cond q (map (g start) ns) ns) (bare start) ∙ one-faced f p start ns)
+        ∙ ap₂ (λ (q : Bool) (xs : List Node). cond q (map (g end) xs) xs) (bare end)
+        (start-held .1 ∙ ap (λ (q : Bool). cond q (map (g start) ns) ns) (bare start) ∙ one-faced f p start ns)
         ∙ one-faced f p end (map (faced f p start) ns)
         ∙ either-faced f p start end ns
         )
 
     node-cells : filled (length nodes) (flatMap nodeCells (undrawn number (natAbs face) m .nodes)) ≡ endFaced
     node-cells =
-        ap₂ (λ (k : ℕ) (xs : List Node). filled k (flatMap nodeCells xs)) (sym (end-held .2 ∙ start-held .2)) nodes-are ∙ nodes-filled (end-held .0)
+        ap₂ (λ (k : ℕ) (xs : List Node). filled k (flatMap nodeCells xs)) (sym (end-held .2 ∙ start-held .2)) nodes-are
+        ∙ nodes-filled (end-held .0)
 
   -- what a call left
-  pub undrawn-as : {nodes′ edges′ : List ℤ} {h′ : Head} → nodes′ ≡ endFaced → edges′ ≡ closed edgeWidth unlinked n i → h′ ≡ undrawnHead h → Undrawn nodes edges h i face nodes′ edges′ h′
-  undrawn-as en ee eh = record { node-cells = λ faces. node-cells faces ∙ sym en; edge-cells = λ faces. edge-cells faces ∙ sym ee; edges-left = edges-fewer; head = eh }
+  pub undrawn-as : {nodes′ edges′ : List ℤ} {h′ : Head} → nodes′ ≡ endFaced → edges′ ≡ closed edgeWidth unlinked n i
+      → h′ ≡ undrawnHead h → Undrawn nodes edges h i face nodes′ edges′ h′
+  undrawn-as en ee eh = record {
+    node-cells = λ faces. node-cells faces ∙ sym en;
+    edge-cells = λ faces. edge-cells faces ∙ sym ee;
+    edges-left = edges-fewer;
+    head = eh;
+  }
 
   -- ---- what the call asks
 
   pub nodes-few : natAbs (h .nodes) ≤ 1000000
-  nodes-few = let a = nodes-room (d .held .node-table) in let b = whole-rows nodeWidth 0 maxNodes nodes (d .held .node-table .whole) .most in omega arith
+  nodes-few = let a = nodes-room (d .held .node-table) in let b =
+      whole-rows nodeWidth 0 maxNodes nodes (d .held .node-table .whole) .most in omega arith
 
   pub undrawn-counted : Counted h
   undrawn-counted =
       record {
         count = d .held .edges-count;
-        few = let a = edges-room table in let b = whole-rows edgeWidth 0 maxEdges edges (table .whole) .most in omega arith;
+        few = let a = edges-room table in let b = whole-rows edgeWidth 0 maxEdges edges (table .whole) .most in
+            omega arith;
         next = d .held .next;
         most = d .held .next-most;
       }
@@ -238,11 +291,15 @@ module _ {nodes edges : List ℤ} {h : Head} {i : ℕ} {face : ℤ} (d : Undrawa
   pub end-cell : getD edges (i * edgeWidth + 2) (pos 0) ≡ pos (edgeAt edges i .end)
   end-cell = cells-of (table .rows) i (d .row) .end
 
-  pub start-rows : NodeRows (facedIf nodes (natAbs (h .nodes)) (pos (edgeAt edges i .start)) face (bareAt (unlinkedEdge edges (natAbs (h .edges)) i) (natAbs (h .edges)) i (pos (edgeAt edges i .start)))) (natAbs (h .nodes))
+  pub start-rows : NodeRows (facedIf nodes (natAbs (h .nodes)) (pos (edgeAt edges i .start)) face
+      (bareAt (unlinkedEdge edges (natAbs (h .edges)) i) (natAbs (h .edges)) i (pos (edgeAt edges i .start))))
+      (natAbs (h .nodes))
   start-rows = start-held .0 .rows
 
-pub faced-alike : {l l′ : List ℤ} {n n′ : ℕ} {z z′ f f′ : ℤ} {b b′ : Bool} → l ≡ l′ → n ≡ n′ → z ≡ z′ → f ≡ f′ → b ≡ b′ → facedIf l n z f b ≡ facedIf l′ n′ z′ f′ b′
+pub faced-alike : {l l′ : List ℤ} {n n′ : ℕ} {z z′ f f′ : ℤ} {b b′ : Bool} → l ≡ l′ → n ≡ n′ → z ≡ z′ → f ≡ f′ → b ≡ b′
+    → facedIf l n z f b ≡ facedIf l′ n′ z′ f′ b′
 faced-alike el en ez ef eb = λ i. facedIf (el i) (en i) (ez i) (ef i) (eb i)
 
-pub bare-alike : (l : List ℤ) (i n n′ : ℕ) (z z′ : ℤ) → n ≡ n′ → z ≡ z′ → bareAt (unlinkedEdge l n i) n i z ≡ bareAt (unlinkedEdge l n′ i) n′ i z′
+pub bare-alike : (l : List ℤ) (i n n′ : ℕ) (z z′ : ℤ) → n ≡ n′ → z ≡ z′ → bareAt (unlinkedEdge l n i) n i z
+    ≡ bareAt (unlinkedEdge l n′ i) n′ i z′
 bare-alike l i n n′ z z′ en ez = ap₂ (λ (k : ℕ) (x : ℤ). bareAt (unlinkedEdge l k i) k i x) en ez

@@ -21,11 +21,13 @@ back : (n : ℕ) → n ≤ 1000000 → SFits w64 (pos 0 -ℤ pos n)
 back n h = minus-fits (pos n) n refl (small-fits n (omega arith))
 
 pub back-read : {r z : ℤ} (n : ℕ) → r ≡ negℤ z → z ≡ pos n → n ≤ 1000000 → toZ w64 (ofZ w64 r) ≡ negℤ (pos n)
-back-read n e f h = ap (λ (k : ℤ). toZ w64 (ofZ w64 k)) (e ∙ ap negℤ f ∙ sym (negative-is (pos n))) ∙ toZ-ofZ {w = w64} (back n h) ∙ negative-is (pos n)
+back-read n e f h = ap (λ (k : ℤ). toZ w64 (ofZ w64 k)) (e ∙ ap negℤ f ∙ sym (negative-is (pos n)))
+    ∙ toZ-ofZ {w = w64} (back n h) ∙ negative-is (pos n)
 
 -- ---- a containing face in its row: a number, or -1 for none
 
-pub face-test : (x y : ℤ) → isSome (faceOf x) ≡ true → isSome (faceOf y) ≡ true → sameZ x y ≡ same (Option·getD (faceOf x) 0) (Option·getD (faceOf y) 0)
+pub face-test : (x y : ℤ) → isSome (faceOf x) ≡ true → isSome (faceOf y) ≡ true → sameZ x y
+    ≡ same (Option·getD (faceOf x) 0) (Option·getD (faceOf y) 0)
 face-test (pos m) (pos k) h g = same-pos m k
 face-test (pos m) (negsuc k) h g = absurd (false≢true g)
 face-test (negsuc m) y h g = absurd (false≢true h)

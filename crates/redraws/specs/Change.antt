@@ -11,7 +11,8 @@ use Rattle.reason_curves.specs.Sent.{sentReasons, edgesBut}
 
 -- 11, for the edge of row i
 abbrev pub takenAt : List ℤ → ℕ → ℕ → List ℤ → Bool
-takenAt edges count i c = directionTaken (edgeMap edges count) (edgeAt edges i .number) (edgeAt edges i .start) (edgeAt edges i .end) (curveOf c)
+takenAt edges count i c = directionTaken (edgeMap edges count) (edgeAt edges i .number) (edgeAt edges i .start)
+    (edgeAt edges i .end) (curveOf c)
 
 -- kind 6 on the edge of row i, from 11 on
 abbrev pub turnReasons : List ℤ → ℕ → List ℤ → ℕ → ℕ → List ℤ → Reasons
@@ -23,4 +24,5 @@ turnReasons nodes n edges count i c =
 
 -- kind 6 on the edge of row i, between node rows u and v, from 5 on
 abbrev pub changeReasons : List ℤ → List ℤ → Head → ℕ → ℕ → ℕ → List ℤ → Reasons
-changeReasons nodes edges h i u v c = sentReasons c (nodeAt nodes u .at) (nodeAt nodes v .at) ++ turnReasons nodes (natAbs (h .nodes)) edges (natAbs (h .edges)) i c
+changeReasons nodes edges h i u v c = sentReasons c (nodeAt nodes u .at) (nodeAt nodes v .at)
+    ++ turnReasons nodes (natAbs (h .nodes)) edges (natAbs (h .edges)) i c

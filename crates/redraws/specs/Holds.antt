@@ -1,4 +1,5 @@
--- Tables of nodes and edges with the head beside them that hold a map, whatever its faces are; the same after an edge is drawn or undrawn.
+-- Tables of nodes and edges with the head beside them that hold a map, whatever its faces are; the same after an edge
+-- is drawn or undrawn.
 use mathlib.Core.Path.{_≡_}
 use mathlib.Core.Bool.{Bool, true, cond}
 use mathlib.Core.List.{List, map, flatMap}
@@ -9,7 +10,7 @@ use lib.Signed.{nonNeg}
 use Rattle.lists.specs.declared.Found.{Found}
 use Rattle.lists.specs.declared.Found.the-variants.{At, Missing}
 use Rattle.lists.specs.Tests.{same, bit}
-use Rattle.lists.specs.Scans.{all, count}
+use Rattle.lists.specs.Scans.{allOf, countOf}
 use Rattle.lists.specs.Tables.{place}
 use Rattle.curves.specs.Curves.{Run, curveOf}
 use Rattle.map.specs.declared.Head.{Head}
@@ -25,12 +26,12 @@ use Rattle.links.specs.Linking.{positions, leavesNode}
 -- whole rows, of which n are in use, with zeros behind
 pub record NodeTable (l : List ℤ) (n : ℕ) : Type 0 where
   pub rows : NodeRows l n
-  pub rest : all isZero (drop (n * nodeWidth) l) ≡ true
+  pub rest : allOf isZero (drop (n * nodeWidth) l) ≡ true
   pub whole : wholeRows nodeWidth 0 maxNodes l ≡ true
 
 pub record EdgeTable (l : List ℤ) (n : ℕ) : Type 0 where
   pub rows : EdgeRows l n
-  pub rest : all isZero (drop (n * edgeWidth) l) ≡ true
+  pub rest : allOf isZero (drop (n * edgeWidth) l) ≡ true
   pub whole : wholeRows edgeWidth 0 maxEdges l ≡ true
 
 -- as many rows as the head counts, and edge numbers below the next
@@ -78,7 +79,16 @@ pub record Counted (h : Head) : Type 0 where
 abbrev pub newRow : List ℤ → Head → ℕ → ℕ → List ℤ → ℤ → Edge
 newRow nodes h u v c face =
     let e = natAbs (h .«next_edge») in
-    record { number = e; start = nodeAt nodes u .number; end = nodeAt nodes v .number; nextLeft = bwd e; nextRight = fwd e; left = natAbs face; right = natAbs face; curve = curveOf c }
+    record {
+      number = e;
+      start = nodeAt nodes u .number;
+      end = nodeAt nodes v .number;
+      nextLeft = bwd e;
+      nextRight = fwd e;
+      left = natAbs face;
+      right = natAbs face;
+      curve = curveOf c;
+    }
 
 -- a curve between the nodes of rows u and v, with a face and a number for its edge, and room
 pub record Drawable (nodes edges : List ℤ) (h : Head) (u v : ℕ) (c : List ℤ) (face : ℤ) : Type 0 where
@@ -91,9 +101,12 @@ pub record Drawable (nodes edges : List ℤ) (h : Head) (u v : ℕ) (c : List �
   pub natural : nonNeg face ≡ true
 
 -- the tables hold the map with the edge drawn, whatever the faces are
-pub record Drawn (nodes edges : List ℤ) (h : Head) (u v : ℕ) (c : List ℤ) (face : ℤ) (nodes′ edges′ : List ℤ) (h′ : Head) : Type 0 where
+pub record Drawn (nodes edges : List ℤ) (h : Head) (u v : ℕ) (c : List ℤ) (face : ℤ) (nodes′ edges′ : List ℤ)
+    (h′ : Head) : Type 0 where
   pub held : Held nodes′ edges′ h′
-  pub map : (faces : List ℤ) → mapOf (lent nodes′ edges′ faces h′) ≡ drawn (nodeAt nodes u .number) (nodeAt nodes v .number) (curveOf c) (natAbs face) (mapOf (lent nodes edges faces h))
+  pub map : (faces : List ℤ) → mapOf (lent nodes′ edges′ faces h′)
+      ≡ drawn (nodeAt nodes u .number) (nodeAt nodes v .number) (curveOf c) (natAbs face)
+      (mapOf (lent nodes edges faces h))
   pub nodes-long : length nodes′ ≡ length nodes
   pub edges-long : length edges′ ≡ length edges
   pub head : h′ ≡ drawnHead h
@@ -106,7 +119,8 @@ pub record Undrawable (nodes edges : List ℤ) (h : Head) (i : ℕ) (face : ℤ)
 
 -- no edge ends at the node but that of row i
 abbrev pub bareAt : List ℤ → ℕ → ℕ → ℤ → Bool
-bareAt l n i node = same (count (leavesNode l node) (positions n)) (bit (sameZ (getD l (i * edgeWidth + 1) (pos 0)) node) + bit (sameZ (getD l (i * edgeWidth + 2) (pos 0)) node))
+bareAt l n i node = same (countOf (leavesNode l node) (positions n))
+    (bit (sameZ (getD l (i * edgeWidth + 1) (pos 0)) node) + bit (sameZ (getD l (i * edgeWidth + 2) (pos 0)) node))
 
 -- the face of the node that is found
 abbrev pub facedWhere : List ℤ → ℤ → Found → List ℤ
@@ -118,8 +132,14 @@ abbrev pub facedIf : List ℤ → ℕ → ℤ → ℤ → Bool → List ℤ
 facedIf l n node face bare = cond bare (facedWhere l face (place (sameZ node) 0 (column nodeWidth l n))) l
 
 -- the tables are those of the map with the edge of row i undrawn
-pub record Undrawn (nodes edges : List ℤ) (h : Head) (i : ℕ) (face : ℤ) (nodes′ edges′ : List ℤ) (h′ : Head) : Type 0 where
-  pub node-cells : (faces : List ℤ) → filled (length nodes) (flatMap nodeCells (undrawn (edgeAt edges i .number) (natAbs face) (mapOf (lent nodes edges faces h)) .nodes)) ≡ nodes′
-  pub edge-cells : (faces : List ℤ) → filled (length edges) (flatMap edgeCells (undrawn (edgeAt edges i .number) (natAbs face) (mapOf (lent nodes edges faces h)) .edges)) ≡ edges′
-  pub edges-left : (faces : List ℤ) → length (undrawn (edgeAt edges i .number) (natAbs face) (mapOf (lent nodes edges faces h)) .edges) ≡ natAbs (h .edges) - 1
+pub record Undrawn (nodes edges : List ℤ) (h : Head) (i : ℕ) (face : ℤ) (nodes′ edges′ : List ℤ)
+    (h′ : Head) : Type 0 where
+  pub node-cells : (faces : List ℤ) → filled (length nodes)
+      (flatMap nodeCells (undrawn (edgeAt edges i .number) (natAbs face) (mapOf (lent nodes edges faces h)) .nodes))
+      ≡ nodes′
+  pub edge-cells : (faces : List ℤ) → filled (length edges)
+      (flatMap edgeCells (undrawn (edgeAt edges i .number) (natAbs face) (mapOf (lent nodes edges faces h)) .edges))
+      ≡ edges′
+  pub edges-left : (faces : List ℤ) → length
+      (undrawn (edgeAt edges i .number) (natAbs face) (mapOf (lent nodes edges faces h)) .edges) ≡ natAbs (h .edges) - 1
   pub head : h′ ≡ undrawnHead h

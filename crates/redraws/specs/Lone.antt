@@ -17,7 +17,8 @@ use Rattle.reason_curves.specs.Sent.{sentReasons, edgesBut}
 
 -- 20 and 21, of the edges alone
 abbrev pub roomReasons : List ℤ → Head → Reasons
-roomReasons l h = (20, ltb (length l / edgeWidth) (natAbs (h .edges) + 1)) ∷ (21, ltb (suc lastNumber) (natAbs (h .«next_edge») + 1)) ∷ []
+roomReasons l h = (20, ltb (length l / edgeWidth) (natAbs (h .edges) + 1))
+    ∷ (21, ltb (suc lastNumber) (natAbs (h .«next_edge») + 1)) ∷ []
 
 -- kind 4 between node rows u and v, from 5 on
 abbrev pub loneReasons : List ℤ → List ℤ → Head → ℕ → ℕ → List ℤ → Reasons
@@ -25,5 +26,6 @@ loneReasons nodes edges h u v c =
     sentReasons c (nodeAt nodes u .at) (nodeAt nodes v .at)
     ++ (9, same u v || not (isSome (nodeAt nodes u .face) && isSome (nodeAt nodes v .face)))
     ∷ (12, not (same (Option·getD (nodeAt nodes u .face) 0) (Option·getD (nodeAt nodes v .face) 0)))
-    ∷ meetingReasons (nodeMap nodes (natAbs (h .nodes))) (edgesBut edges (natAbs (h .edges)) (natAbs (h .edges))) (curveOf c)
+    ∷ meetingReasons (nodeMap nodes (natAbs (h .nodes))) (edgesBut edges (natAbs (h .edges)) (natAbs (h .edges)))
+    (curveOf c)
     ++ roomReasons edges h

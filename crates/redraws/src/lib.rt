@@ -1,8 +1,8 @@
 // Kinds 4 to 6: an edge drawn between isolated nodes, removed again, redrawn.
-use outcomes::Done;
 use lists::Found;
 use map::Head;
 use map_rows::Sides;
+use outcomes::Done;
 ghost use mathlib.Core.Path.{_≡_};
 ghost use mathlib.Core.Bool.{true, not, _&&_, _||_};
 ghost use mathlib.Core.Option.{Option·getD};
@@ -22,9 +22,11 @@ ghost use Rattle.map.specs.Reasons.{firstReason};
 ghost use Rattle.map.specs.Tickets.{AddIsoEdge, RemoveIsoEdge, ChangeEdgeGeom};
 ghost use Rattle.form_ranges.specs.Ranges.{lent};
 ghost use Rattle.outcomes.specs.Outcomes.{Formed, decided, outcome};
-ghost use Rattle.tables.specs.Tables.{sameZ, column, closed, nodeAt, nodeMap, edgeAt, NodeRow, EdgeRow, NodeRows, EdgeRows};
+ghost use Rattle.tables.specs.Tables.{sameZ, column, closed, nodeAt, nodeMap, edgeAt, NodeRow, EdgeRow, NodeRows};
+ghost use Rattle.tables.specs.Tables.{EdgeRows};
 ghost use Rattle.links.specs.Linking.{unlinkedEdge};
-ghost use Rattle.redraws.specs.Holds.{Counted, drawnHead, undrawnHead, newRow, Held, Drawable, Drawn, bareAt, facedIf, Undrawable, Undrawn};
+ghost use Rattle.redraws.specs.Holds.{Counted, drawnHead, undrawnHead, newRow, Held, Drawable, Drawn, bareAt};
+ghost use Rattle.redraws.specs.Holds.{facedIf, Undrawable, Undrawn};
 ghost use Rattle.redraws.specs.Lone.{roomReasons, loneReasons};
 ghost use Rattle.redraws.specs.Change.{takenAt, turnReasons, changeReasons};
 
@@ -59,7 +61,7 @@ fn set_face(nodes: &mut [i64], i: usize, face: i64)
     requires { ⌜ i * 4 + 4 ≤ length (now nodes) ⌝ }
     ensures { λ r. ⌜ now (nodes .exit) ≡ set (now (nodes .entry)) (i * 4 + 3) face ⌝ }
 {
-    nodes[i * 4 + 3] = face;
+    nodes[i * map::NODE_WIDTH + map::NODE_FACE] = face;
 }
 
 // ---- an edge drawn
@@ -67,13 +69,14 @@ fn set_face(nodes: &mut [i64], i: usize, face: i64)
 // The row of a new edge from node row u to node row v, with the face on both sides, is written last.
 fn write_last(nodes: &[i64], edges: &mut [i64], h: Head, u: usize, v: usize, c: &[i64], face: i64)
     requires { ⌜ Drawable (now nodes) (now edges) h u v (now c) face ⌝ }
-    ensures { λ r. ⌜ now (edges .exit) ≡ paste (now (edges .entry)) (natAbs (h .edges) * 32) (edgeCells (newRow (now (nodes .entry)) h u v (now (c .entry)) face)) 32 ⌝ }
+    ensures { λ r. ⌜ now (edges .exit) ≡ paste (now (edges .entry)) (natAbs (h .edges) * 32)
+        (edgeCells (newRow (now (nodes .entry)) h u v (now (c .entry)) face)) 32 ⌝ }
 {
-    let e = outcomes::count_of(h.edges);
+    let e = outcomes::to_usize(h.edges);
     let number = h.next_edge;
-    let start = nodes[u * 4];
-    let end = nodes[v * 4];
-    let back = links::turned(number);
+    let start = nodes[u * map::NODE_WIDTH];
+    let end = nodes[v * map::NODE_WIDTH];
+    let back = links::negated(number);
     let row = Sides {
         number,
         start,
@@ -97,10 +100,11 @@ pub fn draw(
     face: i64,
 ) -> Head
     requires { ⌜ Drawable (now nodes) (now edges) h u v (now c) face ⌝ }
-    ensures { λ r. ⌜ Drawn (now (nodes .entry)) (now (edges .entry)) h u v (now (c .entry)) face (now (nodes .exit)) (now (edges .exit)) r ⌝ }
+    ensures { λ r. ⌜ Drawn (now (nodes .entry)) (now (edges .entry)) h u v (now (c .entry)) face (now (nodes .exit))
+        (now (edges .exit)) r ⌝ }
 {
     write_last(nodes, edges, h, u, v, c, face);
-    let e = outcomes::count_of(h.edges);
+    let e = outcomes::to_usize(h.edges);
     links::link_edge(edges, e + 1);
     set_face(nodes, u, -1);
     set_face(nodes, v, -1);
@@ -114,8 +118,8 @@ fn is_bare(edges: &[i64], count: usize, i: usize, node: i64) -> bool
     requires { ⌜ EdgeRows (now edges) count × (i < count) ⌝ }
     ensures { λ r. ⌜ r ≡ bareAt (now (edges .entry)) count i node ⌝ }
 {
-    let u = edges[i * 32 + 1];
-    let v = edges[i * 32 + 2];
+    let u = edges[i * map::EDGE_WIDTH + map::START];
+    let v = edges[i * map::EDGE_WIDTH + map::END];
     let own = (u == node) as usize + (v == node) as usize;
     links::edge_ends(edges, count, node) == own
 }
@@ -129,12 +133,14 @@ struct Bare {
 // Edge row i unlinked and closed up.
 fn undraw_edge(edges: &mut [i64], count: usize, i: usize, u: i64, v: i64) -> Bare
     requires { ⌜ EdgeRows (now edges) count × (i < count) ⌝ }
-    ensures { λ r. ⌜ (now (edges .exit) ≡ closed 32 (unlinkedEdge (now (edges .entry)) count i) count i) × (r .start ≡ bareAt (unlinkedEdge (now (edges .entry)) count i) count i u) × (r .end ≡ bareAt (unlinkedEdge (now (edges .entry)) count i) count i v) ⌝ }
+    ensures { λ r. ⌜ (now (edges .exit) ≡ closed 32 (unlinkedEdge (now (edges .entry)) count i) count i)
+        × (r .start ≡ bareAt (unlinkedEdge (now (edges .entry)) count i) count i u)
+        × (r .end ≡ bareAt (unlinkedEdge (now (edges .entry)) count i) count i v) ⌝ }
 {
     links::unlink_edge(edges, count, i);
     let start = is_bare(edges, count, i, u);
     let end = is_bare(edges, count, i, v);
-    tables::remove_row(edges, 32, count, i);
+    tables::remove_row(edges, map::EDGE_WIDTH, count, i);
     Bare { start, end }
 }
 
@@ -144,7 +150,7 @@ fn give_face(nodes: &mut [i64], count: usize, node: i64, face: i64, bare: bool)
     ensures { λ r. ⌜ now (nodes .exit) ≡ facedIf (now (nodes .entry)) count node face bare ⌝ }
 {
     if bare {
-        let found = tables::find_row(nodes, 4, count, node);
+        let found = tables::find_row(nodes, map::NODE_WIDTH, count, node);
         if let Found::At(i) = found {
             set_face(nodes, i, face);
         }
@@ -154,12 +160,13 @@ fn give_face(nodes: &mut [i64], count: usize, node: i64, face: i64, bare: bool)
 // Edge row i unlinked and closed up, with the face around nodes left bare.
 pub fn undraw(nodes: &mut [i64], edges: &mut [i64], h: Head, i: usize, face: i64) -> Head
     requires { ⌜ Undrawable (now nodes) (now edges) h i face ⌝ }
-    ensures { λ r. ⌜ Undrawn (now (nodes .entry)) (now (edges .entry)) h i face (now (nodes .exit)) (now (edges .exit)) r ⌝ }
+    ensures { λ r. ⌜ Undrawn (now (nodes .entry)) (now (edges .entry)) h i face (now (nodes .exit))
+        (now (edges .exit)) r ⌝ }
 {
-    let n = outcomes::count_of(h.nodes);
-    let e = outcomes::count_of(h.edges);
-    let u = edges[i * 32 + 1];
-    let v = edges[i * 32 + 2];
+    let n = outcomes::to_usize(h.nodes);
+    let e = outcomes::to_usize(h.edges);
+    let u = edges[i * map::EDGE_WIDTH + map::START];
+    let v = edges[i * map::EDGE_WIDTH + map::END];
     let bare = undraw_edge(edges, e, i, u, v);
     give_face(nodes, n, u, face, bare.start);
     give_face(nodes, n, v, face, bare.end);
@@ -173,15 +180,17 @@ fn left_face(edges: &[i64], i: usize) -> i64
     requires { ⌜ EdgeRow (now edges) i ⌝ }
     ensures { λ r. ⌜ r ≡ pos (edgeAt (now (edges .entry)) i .left) ⌝ }
 {
-    edges[i * 32 + 5]
+    edges[i * map::EDGE_WIDTH + map::LEFT]
 }
 
 pub fn remove_lone_edge(nodes: &mut [i64], edges: &mut [i64], h: Head, edge: i64) -> Done
     requires { ⌜ ((faces : _) × Formed (now nodes) (now edges) faces h) ⌝ }
-    ensures { λ r. ⌜ ((faces : _) → Formed (now (nodes .entry)) (now (edges .entry)) faces h → outcome (now (nodes .exit)) (now (edges .exit)) faces r ≡ decided (lent (now (nodes .entry)) (now (edges .entry)) faces h) (RemoveIsoEdge edge)) ⌝ }
+    ensures { λ r. ⌜ ((faces : _) → Formed (now (nodes .entry)) (now (edges .entry)) faces h
+        → outcome (now (nodes .exit)) (now (edges .exit)) faces r
+        ≡ decided (lent (now (nodes .entry)) (now (edges .entry)) faces h) (RemoveIsoEdge edge)) ⌝ }
 {
-    let e = outcomes::count_of(h.edges);
-    let found = tables::find_row(edges, 32, e, edge);
+    let e = outcomes::to_usize(h.edges);
+    let found = tables::find_row(edges, map::EDGE_WIDTH, e, edge);
     let Found::At(i) = found else {
         return outcomes::refused(h, 4);
     };
@@ -198,14 +207,15 @@ fn is_lone(nodes: &[i64], i: usize) -> bool
     requires { ⌜ NodeRow (now nodes) i ⌝ }
     ensures { λ r. ⌜ r ≡ isSome (nodeAt (now (nodes .entry)) i .face) ⌝ }
 {
-    let z = nodes[i * 4 + 3];
+    let z = nodes[i * map::NODE_WIDTH + map::NODE_FACE];
     z != -1
 }
 
 // Rows u and v are one, or an edge ends at one of their nodes.
-fn joined(nodes: &[i64], u: usize, v: usize) -> bool
+fn not_both_isolated(nodes: &[i64], u: usize, v: usize) -> bool
     requires { ⌜ NodeRow (now nodes) u × NodeRow (now nodes) v ⌝ }
-    ensures { λ r. ⌜ r ≡ (same u v || not (isSome (nodeAt (now (nodes .entry)) u .face) && isSome (nodeAt (now (nodes .entry)) v .face))) ⌝ }
+    ensures { λ r. ⌜ r ≡ (same u v || not
+        (isSome (nodeAt (now (nodes .entry)) u .face) && isSome (nodeAt (now (nodes .entry)) v .face))) ⌝ }
 {
     if u == v {
         return true;
@@ -218,11 +228,13 @@ fn joined(nodes: &[i64], u: usize, v: usize) -> bool
 
 // The nodes of rows u and v lie in different faces.
 fn faces_differ(nodes: &[i64], u: usize, v: usize) -> bool
-    requires { ⌜ NodeRow (now nodes) u × NodeRow (now nodes) v × (isSome (nodeAt (now nodes) u .face) ≡ true) × (isSome (nodeAt (now nodes) v .face) ≡ true) ⌝ }
-    ensures { λ r. ⌜ r ≡ not (same (Option·getD (nodeAt (now (nodes .entry)) u .face) 0) (Option·getD (nodeAt (now (nodes .entry)) v .face) 0)) ⌝ }
+    requires { ⌜ NodeRow (now nodes) u × NodeRow (now nodes) v × (isSome (nodeAt (now nodes) u .face) ≡ true)
+        × (isSome (nodeAt (now nodes) v .face) ≡ true) ⌝ }
+    ensures { λ r. ⌜ r ≡ not (same (Option·getD (nodeAt (now (nodes .entry)) u .face) 0)
+        (Option·getD (nodeAt (now (nodes .entry)) v .face) 0)) ⌝ }
 {
-    let a = nodes[u * 4 + 3];
-    let b = nodes[v * 4 + 3];
+    let a = nodes[u * map::NODE_WIDTH + map::NODE_FACE];
+    let b = nodes[v * map::NODE_WIDTH + map::NODE_FACE];
     a != b
 }
 
@@ -231,10 +243,10 @@ fn room_reason(edges: &[i64], h: Head) -> u64
     requires { ⌜ Counted h ⌝ }
     ensures { λ r. ⌜ r ≡ firstReason (roomReasons (now (edges .entry)) h) ⌝ }
 {
-    if edges.len() / 32 < outcomes::count_of(h.edges) + 1 {
+    if edges.len() / map::EDGE_WIDTH < outcomes::to_usize(h.edges) + 1 {
         return 20;
     }
-    if 1000000 < outcomes::count_of(h.next_edge) + 1 {
+    if map::NUMBERS < outcomes::to_usize(h.next_edge) + 1 {
         21
     } else {
         0
@@ -250,14 +262,14 @@ fn lone_reason(nodes: &[i64], edges: &[i64], h: Head, u: usize, v: usize, c: &[i
     if reason != 0 {
         return reason;
     }
-    if joined(nodes, u, v) {
+    if not_both_isolated(nodes, u, v) {
         return 9;
     }
     if faces_differ(nodes, u, v) {
         return 12;
     }
-    let n = outcomes::count_of(h.nodes);
-    let e = outcomes::count_of(h.edges);
+    let n = outcomes::to_usize(h.nodes);
+    let e = outcomes::to_usize(h.edges);
     let meeting = reason_curves::meeting_reason(nodes, n, edges, e, e, c);
     if meeting != 0 {
         return meeting;
@@ -270,7 +282,7 @@ fn face_of(nodes: &[i64], i: usize) -> i64
     requires { ⌜ NodeRow (now nodes) i × (isSome (nodeAt (now nodes) i .face) ≡ true) ⌝ }
     ensures { λ r. ⌜ r ≡ pos (Option·getD (nodeAt (now (nodes .entry)) i .face) 0) ⌝ }
 {
-    nodes[i * 4 + 3]
+    nodes[i * map::NODE_WIDTH + map::NODE_FACE]
 }
 
 pub fn add_lone_edge(
@@ -282,14 +294,16 @@ pub fn add_lone_edge(
     c: &[i64],
 ) -> Done
     requires { ⌜ ((faces : _) × Formed (now nodes) (now edges) faces h) ⌝ }
-    ensures { λ r. ⌜ ((faces : _) → Formed (now (nodes .entry)) (now (edges .entry)) faces h → outcome (now (nodes .exit)) (now (edges .exit)) faces r ≡ decided (lent (now (nodes .entry)) (now (edges .entry)) faces h) (AddIsoEdge start end (now (c .entry)))) ⌝ }
+    ensures { λ r. ⌜ ((faces : _) → Formed (now (nodes .entry)) (now (edges .entry)) faces h
+        → outcome (now (nodes .exit)) (now (edges .exit)) faces r
+        ≡ decided (lent (now (nodes .entry)) (now (edges .entry)) faces h) (AddIsoEdge start end (now (c .entry)))) ⌝ }
 {
-    let n = outcomes::count_of(h.nodes);
-    let found = tables::find_row(nodes, 4, n, start);
+    let n = outcomes::to_usize(h.nodes);
+    let found = tables::find_row(nodes, map::NODE_WIDTH, n, start);
     let Found::At(u) = found else {
         return outcomes::refused(h, 4);
     };
-    let found_end = tables::find_row(nodes, 4, n, end);
+    let found_end = tables::find_row(nodes, map::NODE_WIDTH, n, end);
     let Found::At(v) = found_end else {
         return outcomes::refused(h, 4);
     };
@@ -308,15 +322,16 @@ fn is_taken(edges: &[i64], count: usize, i: usize, c: &[i64]) -> bool
     requires { ⌜ EdgeRows (now edges) count × (i < count) × Run (now c) ⌝ }
     ensures { λ r. ⌜ r ≡ takenAt (now (edges .entry)) count i (now (c .entry)) ⌝ }
 {
-    let start = edges[i * 32 + 1];
-    let end = edges[i * 32 + 2];
+    let start = edges[i * map::EDGE_WIDTH + map::START];
+    let end = edges[i * map::EDGE_WIDTH + map::END];
     reason_departures::direction_taken(edges, count, i, start, end, c)
 }
 
 // The first reason from 11 on against a curve for the edge of row i; 0 for none.
 fn turn_reason(nodes: &[i64], n: usize, edges: &[i64], count: usize, i: usize, c: &[i64]) -> u64
     requires { ⌜ NodeRows (now nodes) n × EdgeRows (now edges) count × (count ≤ 2000) × (i < count) × Run (now c) ⌝ }
-    ensures { λ r. ⌜ r ≡ firstReason (turnReasons (now (nodes .entry)) n (now (edges .entry)) count i (now (c .entry))) ⌝ }
+    ensures { λ r. ⌜ r ≡ firstReason (turnReasons (now (nodes .entry)) n (now (edges .entry)) count i
+        (now (c .entry))) ⌝ }
 {
     if is_taken(edges, count, i, c) {
         return 11;
@@ -342,30 +357,33 @@ fn change_reason(
     v: usize,
     c: &[i64],
 ) -> u64
-    requires { ⌜ Held (now nodes) (now edges) h × (i < natAbs (h .edges)) × (u < natAbs (h .nodes)) × (v < natAbs (h .nodes)) ⌝ }
-    ensures { λ r. ⌜ r ≡ firstReason (changeReasons (now (nodes .entry)) (now (edges .entry)) h i u v (now (c .entry))) ⌝ }
+    requires { ⌜ Held (now nodes) (now edges) h × (i < natAbs (h .edges)) × (u < natAbs (h .nodes))
+        × (v < natAbs (h .nodes)) ⌝ }
+    ensures { λ r. ⌜ r ≡ firstReason (changeReasons (now (nodes .entry)) (now (edges .entry)) h i u v
+        (now (c .entry))) ⌝ }
 {
     let reason = reason_curves::curve_reason(nodes, u, v, c);
     if reason != 0 {
         return reason;
     }
-    let n = outcomes::count_of(h.nodes);
-    let e = outcomes::count_of(h.edges);
+    let n = outcomes::to_usize(h.nodes);
+    let e = outcomes::to_usize(h.edges);
     turn_reason(nodes, n, edges, e, i, c)
 }
 
 // Edge row i with another curve.
 fn write_curve(edges: &mut [i64], i: usize, c: &[i64])
     requires { ⌜ EdgeRow (now edges) i × Run (now c) ⌝ }
-    ensures { λ r. ⌜ now (edges .exit) ≡ paste (now (edges .entry)) (i * 32) (edgeCells (withCurve (curveOf (now (c .entry))) (edgeAt (now (edges .entry)) i))) 32 ⌝ }
+    ensures { λ r. ⌜ now (edges .exit) ≡ paste (now (edges .entry)) (i * 32)
+        (edgeCells (withCurve (curveOf (now (c .entry))) (edgeAt (now (edges .entry)) i))) 32 ⌝ }
 {
-    let number = edges[i * 32];
-    let start = edges[i * 32 + 1];
-    let end = edges[i * 32 + 2];
-    let next_left = edges[i * 32 + 3];
-    let next_right = edges[i * 32 + 4];
-    let left = edges[i * 32 + 5];
-    let right = edges[i * 32 + 6];
+    let number = edges[i * map::EDGE_WIDTH];
+    let start = edges[i * map::EDGE_WIDTH + map::START];
+    let end = edges[i * map::EDGE_WIDTH + map::END];
+    let next_left = edges[i * map::EDGE_WIDTH + map::NEXT_LEFT];
+    let next_right = edges[i * map::EDGE_WIDTH + map::NEXT_RIGHT];
+    let left = edges[i * map::EDGE_WIDTH + map::LEFT];
+    let right = edges[i * map::EDGE_WIDTH + map::RIGHT];
     let row = Sides {
         number,
         start,
@@ -383,22 +401,23 @@ fn start_of(edges: &[i64], i: usize) -> i64
     requires { ⌜ EdgeRow (now edges) i ⌝ }
     ensures { λ r. ⌜ r ≡ pos (edgeAt (now (edges .entry)) i .start) ⌝ }
 {
-    edges[i * 32 + 1]
+    edges[i * map::EDGE_WIDTH + map::START]
 }
 
 fn end_of(edges: &[i64], i: usize) -> i64
     requires { ⌜ EdgeRow (now edges) i ⌝ }
     ensures { λ r. ⌜ r ≡ pos (edgeAt (now (edges .entry)) i .end) ⌝ }
 {
-    edges[i * 32 + 2]
+    edges[i * map::EDGE_WIDTH + map::END]
 }
 
 // The row of a node that is there.
 fn row_of(nodes: &[i64], count: usize, node: i64) -> usize
-    requires { ⌜ NodeRows (now nodes) count × (nonNeg node ≡ true) × (hasNode (nodeMap (now nodes) count) (natAbs node) ≡ true) ⌝ }
+    requires { ⌜ NodeRows (now nodes) count × (nonNeg node ≡ true)
+        × (hasNode (nodeMap (now nodes) count) (natAbs node) ≡ true) ⌝ }
     ensures { λ r. ⌜ place (sameZ node) 0 (column 4 (now (nodes .entry)) count) ≡ At r ⌝ }
 {
-    let found = tables::find_row(nodes, 4, count, node);
+    let found = tables::find_row(nodes, map::NODE_WIDTH, count, node);
     let Found::At(i) = found else {
         return 0;
     };
@@ -407,14 +426,16 @@ fn row_of(nodes: &[i64], count: usize, node: i64) -> usize
 
 pub fn change_curve(nodes: &[i64], edges: &mut [i64], h: Head, edge: i64, c: &[i64]) -> Done
     requires { ⌜ ((faces : _) × Formed (now nodes) (now edges) faces h) ⌝ }
-    ensures { λ r. ⌜ ((faces : _) → Formed (now (nodes .entry)) (now (edges .entry)) faces h → outcome (now (nodes .entry)) (now (edges .exit)) faces r ≡ decided (lent (now (nodes .entry)) (now (edges .entry)) faces h) (ChangeEdgeGeom edge (now (c .entry)))) ⌝ }
+    ensures { λ r. ⌜ ((faces : _) → Formed (now (nodes .entry)) (now (edges .entry)) faces h
+        → outcome (now (nodes .entry)) (now (edges .exit)) faces r
+        ≡ decided (lent (now (nodes .entry)) (now (edges .entry)) faces h) (ChangeEdgeGeom edge (now (c .entry)))) ⌝ }
 {
-    let e = outcomes::count_of(h.edges);
-    let found = tables::find_row(edges, 32, e, edge);
+    let e = outcomes::to_usize(h.edges);
+    let found = tables::find_row(edges, map::EDGE_WIDTH, e, edge);
     let Found::At(i) = found else {
         return outcomes::refused(h, 4);
     };
-    let n = outcomes::count_of(h.nodes);
+    let n = outcomes::to_usize(h.nodes);
     let u = row_of(nodes, n, start_of(edges, i));
     let v = row_of(nodes, n, end_of(edges, i));
     let reason = change_reason(nodes, edges, h, i, u, v, c);

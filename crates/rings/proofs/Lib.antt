@@ -1,5 +1,6 @@
 -- `Walks`: what is left of a ring, turn by turn.
--- `Reversed`: a reversed curve's measures, and how great a run's area is. `Sums`: what is left of a ring's measures, turn by turn.
+-- `Reversed`: a reversed curve's measures, and how great a run's area is. `Sums`: what is left of a ring's measures,
+-- turn by turn.
 pub mod Walks
 pub mod Reversed
 pub mod Sums

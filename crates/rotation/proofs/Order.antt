@@ -1,5 +1,5 @@
--- What `before` is, for readers: irreflexive, transitive, total up to `sameWay`, which is an equivalence that it respects. So directions stand
--- in one counterclockwise order. Assumes nothing.
+-- What `before` is, for readers: irreflexive, transitive, total up to `sameWay`, which is an equivalence that it
+-- respects. So directions stand in one counterclockwise order. Assumes nothing.
 use mathlib.Core.Path.{_≡_, refl, sym, ap, _∙_}
 use mathlib.Core.Logic.{_⊎_, inl, inr}
 use mathlib.Core.Bool.{true, false, true≢false}
@@ -7,7 +7,8 @@ use Rattle.lists.proofs.Bools.{not-true, agree}
 use Rattle.integers.specs.Order.{sgn}
 use Rattle.plane.specs.Directions.{Way, before, sameWay}
 use Rattle.rotation.specs.Ways.{Met, first, alike, last}
-use Rattle.rotation.proofs.Ways.{before-says, before-is, alike-says, alike-is, before-irrefl, before-trans, met, cross-self, alike-sym, alike-trans, alike-before, before-alike}
+use Rattle.rotation.proofs.Ways.{before-says, before-is, alike-says, alike-is, before-irrefl, before-trans, met}
+use Rattle.rotation.proofs.Ways.{cross-self, alike-sym, alike-trans, alike-before, before-alike}
 
 pub irreflexive : (v : Way) → before v v ≡ false
 irreflexive v = not-true (before v v) (λ e. before-irrefl v (before-says v v e))

@@ -13,4 +13,8 @@ module _ {D : Type 0} {is : D → D → Bool} (tells : Tells is) where
   is-no a b ne = not-true (is a b) (λ e. ne (tells .yes a b e))
 
   pub tell : (a b : D) → ((a ≡ b) × (is a b ≡ true)) ⊎ (((a ≡ b) → ⊥) × (is a b ≡ false))
-  tell a b = elim (which (is a b)) [ inl e ↦ inl (tells .yes a b e, e) | inr e ↦ inr (λ q. true≢false (sym (is-yes a b q) ∙ e), e) ]
+  tell a b = elim (which (is a b)) [
+    | inl e ↦ inl (tells .yes a b e, e)
+    | inr e ↦ inr
+        (λ q. true≢false (sym (is-yes a b q) ∙ e), e)
+  ]

@@ -9,11 +9,13 @@ use lib.ListN.{length, getD, set, take, drop, length-drop}
 use lib.Seq.{paste, paste-suc, length-paste-head, getD-append-add, getD-drop}
 
 module _ {A : Type 0} (d : List A) (at : ℕ) (s : List A) where
-  pub paste-more : (j : ℕ) (z : A) → at + j < length d → j < length s → set (paste d at s j) (at + j) (getD s j z) ≡ paste d at s (j + 1)
+  pub paste-more : (j : ℕ) (z : A) → at + j < length d → j < length s → set (paste d at s j) (at + j) (getD s j z)
+      ≡ paste d at s (j + 1)
   paste-more j z hd hs = rw add-one (paste-suc d at s j z hd hs)
 
   -- a turn of a loop whose list was t, and which stores v
-  pub copy-more : (j : ℕ) (z : A) (t : List A) (v : A) → at + j < length d → j < length s → t ≡ paste d at s j → v ≡ getD s j z → set t (at + j) v ≡ paste d at s (j + 1)
+  pub copy-more : (j : ℕ) (z : A) (t : List A) (v : A) → at + j < length d → j < length s → t ≡ paste d at s j → v
+      ≡ getD s j z → set t (at + j) v ≡ paste d at s (j + 1)
   copy-more j z t v hd hs e f = rw (e, f) (paste-more j z hd hs)
 
   -- the loop's end
@@ -34,7 +36,8 @@ module _ {A : Type 0} (d : List A) (at : ℕ) (s : List A) where
         ∙ ap (λ (m : ℕ). getD d m z) (sym e)
 
 -- what a loop that moves numbers down reads: the numbers from `from + j` on are as they were
-pub moved-from : {A : Type 0} (l : List A) (at from j : ℕ) (z : A) (t : List A) → at ≤ from → from + j < length l → t ≡ paste l at (drop from l) j → getD t (from + j) z ≡ getD (drop from l) j z
+pub moved-from : {A : Type 0} (l : List A) (at from j : ℕ) (z : A) (t : List A) → at ≤ from → from + j < length l → t
+    ≡ paste l at (drop from l) j → getD t (from + j) z ≡ getD (drop from l) j z
 moved-from {A} l at from j z t h k e =
     ap (λ (m : List A). getD m (from + j) z) e
     ∙ paste-after l at (drop from l) j z (omega arith) (simp length-drop (omega arith)) (from + j) (omega arith)

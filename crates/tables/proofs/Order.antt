@@ -1,4 +1,5 @@
--- The tests `sameZ` and `ltZ` of two numbers, and numbers that rise: each is less than all that follow. Assumes nothing.
+-- The tests `sameZ` and `ltZ` of two numbers, and numbers that rise: each is less than all that follow. Assumes
+-- nothing.
 use mathlib.Core.Path.{_≡_, refl, sym, ap, _∙_, subst}
 use mathlib.Core.Bool.{true, false, true≢false}
 use mathlib.Core.Logic.{_⊎_, inl, inr, ⊎-elim}
@@ -31,16 +32,19 @@ lt-le (negsuc a) (negsuc b) h = le→leb b a (le-of-lt (ltb→lt b a h))
 
 pub less-trans : (a b c : ℤ) → ltZ a b ≡ true → ltZ b c ≡ true → ltZ a c ≡ true
 less-trans a b c h k =
-    T→≡ (ltZ a c) (<ℤ-≤ℤ-trans {a = a} {b = b} {c = c} (record { lt = ≡→T (ltZ a b) h }) (record { le = lt-le b c (≡→T (ltZ b c) k) }) .lt)
+    T→≡ (ltZ a c) (<ℤ-≤ℤ-trans {a = a} {b = b} {c = c} (record { lt = ≡→T (ltZ a b) h })
+    (record { le = lt-le b c (≡→T (ltZ b c) k) }) .lt)
 
 pub same-self : (a : ℤ) → sameZ a a ≡ true
 same-self a = rw (T→≡ (leZ a a) (≤ℤ-refl a .le))
 
 pub same-is : (a b : ℤ) → sameZ a b ≡ true → a ≡ b
-same-is (pos a) (pos b) h = ap pos (le-antisymm (leb-true a b (and-left (leb a b) (leb b a) h)) (leb-true b a (and-right (leb a b) (leb b a) h)))
+same-is (pos a) (pos b) h = ap pos (le-antisymm (leb-true a b (and-left (leb a b) (leb b a) h))
+    (leb-true b a (and-right (leb a b) (leb b a) h)))
 same-is (pos a) (negsuc b) h = absurd (true≢false (sym h))
 same-is (negsuc a) (pos b) h = absurd (true≢false (sym h))
-same-is (negsuc a) (negsuc b) h = ap negsuc (le-antisymm (leb-true a b (and-right (leb b a) (leb a b) h)) (leb-true b a (and-left (leb b a) (leb a b) h)))
+same-is (negsuc a) (negsuc b) h = ap negsuc
+    (le-antisymm (leb-true a b (and-right (leb b a) (leb a b) h)) (leb-true b a (and-left (leb b a) (leb a b) h)))
 
 pub is-same : (a b : ℤ) → a ≡ b → sameZ a b ≡ true
 is-same a b e = subst (λ (x : ℤ). sameZ a x ≡ true) e (same-self a)
@@ -59,10 +63,12 @@ above-other a b h = not-same a b (less-not a b h)
 
 -- what is not less and not the same is greater
 pub greater : (a b : ℤ) → ltZ a b ≡ false → (a ≡ b → ⊥) → ltZ b a ≡ true
-greater (pos a) (pos b) h n = let g = ltb-false a b h in lt-ltb b a (⊎-elim (λ e. absurd (n (ap pos (sym e)))) (λ l. l) (eq-or-lt-of-le g))
+greater (pos a) (pos b) h n = let g = ltb-false a b h in
+    lt-ltb b a (⊎-elim (λ e. absurd (n (ap pos (sym e)))) (λ l. l) (eq-or-lt-of-le g))
 greater (pos a) (negsuc b) h n = refl
 greater (negsuc a) (pos b) h n = absurd (true≢false h)
-greater (negsuc a) (negsuc b) h n = let g = ltb-false b a h in lt-ltb a b (⊎-elim (λ e. absurd (n (ap negsuc e))) (λ l. l) (eq-or-lt-of-le g))
+greater (negsuc a) (negsuc b) h n = let g = ltb-false b a h in
+    lt-ltb a b (⊎-elim (λ e. absurd (n (ap negsuc e))) (λ l. l) (eq-or-lt-of-le g))
 
 -- two words are one exactly where their numbers are
 pub word-is : {a b : ℤ} → SFits w64 a → SFits w64 b → ofZ w64 a ≡ ofZ w64 b → a ≡ b
@@ -78,7 +84,11 @@ word-test {a} {b} f g =
 -- numbers that are not negative
 pub same-pos : (m k : ℕ) → sameZ (pos m) (pos k) ≡ same m k
 same-pos m k =
-    elim (which (same m k)) [ inl e ↦ is-same (pos m) (pos k) (ap pos (same-true m k e)) ∙ sym e | inr e ↦ not-same (pos m) (pos k) (λ q. differ m k e (ap natAbs q)) ∙ sym e ]
+    elim (which (same m k)) [
+      | inl e ↦ is-same (pos m) (pos k) (ap pos (same-true m k e))
+          ∙ sym e
+      | inr e ↦ not-same (pos m) (pos k) (λ q. differ m k e (ap natAbs q)) ∙ sym e
+    ]
 
 pub lt-or-ge : (a b : ℕ) → (a < b) ⊎ (b ≤ a)
 lt-or-ge a b = elim (which (ltb a b)) [ inl e ↦ inl (ltb-true a b e) | inr e ↦ inr (ltb-false a b e) ]
@@ -108,13 +118,16 @@ module _ (f : ℕ → ℤ) where
       let first = and-left (ltZ (f a) (f (a + 1))) (linked ltZ (table f (a + 1) (suc n))) h in
       let s : a + 1 ≤ k = omega arith in
       let t : k < a + 1 + suc n = omega arith in
-      ⊎-elim (λ e. subst (λ (j : ℕ). ltZ (f a) (f j) ≡ true) e first) (λ g. less-trans (f a) (f (a + 1)) (f k) first (above (a + 1) n (later a (suc n) h) k g t)) (eq-or-lt-of-le s)
+      ⊎-elim (λ e. subst (λ (j : ℕ). ltZ (f a) (f j) ≡ true) e first)
+      (λ g. less-trans (f a) (f (a + 1)) (f k) first (above (a + 1) n (later a (suc n) h) k g t)) (eq-or-lt-of-le s)
 
-  rise-from : (a n : ℕ) → linked ltZ (table f a n) ≡ true → (p q : ℕ) → a ≤ p → p < q → q < a + n → ltZ (f p) (f q) ≡ true
+  rise-from : (a n : ℕ) → linked ltZ (table f a n) ≡ true → (p q : ℕ) → a ≤ p → p < q → q < a + n → ltZ (f p) (f q)
+      ≡ true
   rise-from a zero h p q s l m = absurd (omega arith)
   rise-from a (suc n) h p q s l m =
       let t : q < a + 1 + n = omega arith in
-      ⊎-elim (λ e. subst (λ (j : ℕ). ltZ (f j) (f q) ≡ true) e (above a n h q (omega arith) m)) (λ g. rise-from (a + 1) n (later a n h) p q (omega arith) l t) (eq-or-lt-of-le s)
+      ⊎-elim (λ e. subst (λ (j : ℕ). ltZ (f j) (f q) ≡ true) e (above a n h q (omega arith) m))
+      (λ g. rise-from (a + 1) n (later a n h) p q (omega arith) l t) (eq-or-lt-of-le s)
 
   pub rise : (n : ℕ) → linked ltZ (table f 0 n) ≡ true → (p q : ℕ) → p < q → q < n → ltZ (f p) (f q) ≡ true
   rise n h p q l m = rise-from 0 n h p q (omega arith) l (omega arith)
@@ -127,4 +140,5 @@ module _ (f : ℕ → ℤ) where
   rising-first a (suc (suc m)) (suc zero) s h = absurd (omega arith)
   rising-first a (suc (suc m)) (suc (suc n)) s h =
       let rest = linked ltZ (table f (a + 1) (suc n)) in
-      rw (and-left (ltZ (f a) (f (a + 1))) rest h) (rising-first (a + 1) (suc m) (suc n) (omega arith) (and-right (ltZ (f a) (f (a + 1))) rest h))
+      rw (and-left (ltZ (f a) (f (a + 1))) rest h)
+      (rising-first (a + 1) (suc m) (suc n) (omega arith) (and-right (ltZ (f a) (f (a + 1))) rest h))

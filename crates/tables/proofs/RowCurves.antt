@@ -11,7 +11,7 @@ use lib.ListN.{length, getD, take, drop, length-drop}
 use lib.Seq.{length-take-le, take-take, drop-drop, take-nil}
 use lib.Signed.{nonNeg}
 use borrow.Author.Tests.{leb-true, le-leb}
-use Rattle.lists.specs.Scans.{all}
+use Rattle.lists.specs.Scans.{allOf}
 use Rattle.lists.proofs.Scans.{length-table}
 use Rattle.curves.specs.Curves.{Curve, points, pointAt, Run, isRun, curveOf, coordinate, maxPoints}
 use Rattle.curves.proofs.Runs.{and-left, and-right, curve-is}
@@ -32,7 +32,11 @@ drop-take {A} (suc k) n (x ∷ l) = ap (drop (suc k)) (ap (λ (m : ℕ). take m 
 -- ---- the curve of an edge row
 
 pub within-pos : (a b : ℕ) (z : ℤ) → within a b z ≡ true → (z ≡ pos (natAbs z)) × (a ≤ natAbs z) × (natAbs z ≤ b)
-within-pos a b (pos n) h = (refl, leb-true a n (and-left (leb a n) (leb n b) h), leb-true n b (and-right (leb a n) (leb n b) h))
+within-pos a b (pos n) h = (
+  refl,
+  leb-true a n (and-left (leb a n) (leb n b) h),
+  leb-true n b (and-right (leb a n) (leb n b) h),
+)
 within-pos a b (negsuc n) h = absurd (false≢true h)
 
 -- its number of points, and its numbers in use
@@ -46,16 +50,19 @@ module _ {l : List ℤ} {i : ℕ} (row : EdgeRow l i) where
   cell-7 : cell (edgeCellsAt l i) 7 ≡ getD l (i * 32 + 7) (pos 0)
   cell-7 = row-cell edgeWidth l i 7 (lit< tt)
 
-  in-use : all nonNeg (cell (edgeCellsAt l i) 0 ∷ cell (edgeCellsAt l i) 1 ∷ cell (edgeCellsAt l i) 2 ∷ cell (edgeCellsAt l i) 5 ∷ cell (edgeCellsAt l i) 6 ∷ [])
+  in-use : allOf nonNeg (cell (edgeCellsAt l i) 0 ∷ cell (edgeCellsAt l i) 1 ∷ cell (edgeCellsAt l i) 2
+      ∷ cell (edgeCellsAt l i) 5 ∷ cell (edgeCellsAt l i) 6 ∷ [])
       && within 2 maxPoints (cell (edgeCellsAt l i) 7)
-      && all coordinate (take (2 * natAbs (cell (edgeCellsAt l i) 7)) (drop 8 (edgeCellsAt l i))) ≡ true
-  in-use = and-left _ (all isZero (drop (2 * natAbs (cell (edgeCellsAt l i) 7)) (drop 8 (edgeCellsAt l i)))) (row .ranges)
+      && allOf coordinate (take (2 * natAbs (cell (edgeCellsAt l i) 7)) (drop 8 (edgeCellsAt l i))) ≡ true
+  in-use = and-left _ (allOf isZero (drop (2 * natAbs (cell (edgeCellsAt l i) 7)) (drop 8 (edgeCellsAt l i))))
+      (row .ranges)
 
   few : within 2 maxPoints (getD l (i * 32 + 7) (pos 0)) ≡ true
   few =
       subst (λ (z : ℤ). within 2 maxPoints z ≡ true) cell-7
-      (and-right (all nonNeg (cell (edgeCellsAt l i) 0 ∷ cell (edgeCellsAt l i) 1 ∷ cell (edgeCellsAt l i) 2 ∷ cell (edgeCellsAt l i) 5 ∷ cell (edgeCellsAt l i) 6 ∷ [])) _
-      (and-left _ (all coordinate (take (2 * natAbs (cell (edgeCellsAt l i) 7)) (drop 8 (edgeCellsAt l i)))) in-use))
+      (and-right (allOf nonNeg (cell (edgeCellsAt l i) 0 ∷ cell (edgeCellsAt l i) 1 ∷ cell (edgeCellsAt l i) 2
+      ∷ cell (edgeCellsAt l i) 5 ∷ cell (edgeCellsAt l i) 6 ∷ [])) _
+      (and-left _ (allOf coordinate (take (2 * natAbs (cell (edgeCellsAt l i) 7)) (drop 8 (edgeCellsAt l i)))) in-use))
 
   pub count-pos : getD l (i * 32 + 7) (pos 0) ≡ pos (pointCount l i)
   count-pos = within-pos 2 maxPoints (getD l (i * 32 + 7) (pos 0)) few .0
@@ -74,16 +81,26 @@ module _ {l : List ℤ} {i : ℕ} (row : EdgeRow l i) where
       ∙ ap (take (2 * pointCount l i)) (drop-drop 8 (i * 32) l)
 
   run-length : length (runAt l i) ≡ 2 * pointCount l i
-  run-length = length-take-le (2 * pointCount l i) (drop (i * 32 + 8) l) (rw (length-drop (i * 32 + 8) l) (omega (arith, count-most, row .fits)))
+  run-length = length-take-le (2 * pointCount l i) (drop (i * 32 + 8) l)
+      (rw (length-drop (i * 32 + 8) l) (omega (arith, count-most, row .fits)))
 
-  coordinates-at : all coordinate (runAt l i) ≡ true
-  coordinates-at = ap (all coordinate) (sym same-run) ∙ and-right (all nonNeg (cell (edgeCellsAt l i) 0 ∷ cell (edgeCellsAt l i) 1 ∷ cell (edgeCellsAt l i) 2 ∷ cell (edgeCellsAt l i) 5 ∷ cell (edgeCellsAt l i) 6 ∷ []) && within 2 maxPoints (cell (edgeCellsAt l i) 7)) _ in-use
+  coordinates-at : allOf coordinate (runAt l i) ≡ true
+  coordinates-at = ap (allOf coordinate) (sym same-run)
+      ∙ and-right (allOf nonNeg (cell (edgeCellsAt l i) 0 ∷ cell (edgeCellsAt l i) 1 ∷ cell (edgeCellsAt l i) 2
+      ∷ cell (edgeCellsAt l i) 5 ∷ cell (edgeCellsAt l i) 6 ∷ [])
+      && within 2 maxPoints (cell (edgeCellsAt l i) 7)) _ in-use
 
   pub run-at : Run (runAt l i)
   unfolding isRun
   run-at =
       let e : length (runAt l i) / 2 ≡ pointCount l i = omega (arith, run-length) in
-      record { is = rw (e, le-leb 2 (pointCount l i) count-least, le-leb (pointCount l i) maxPoints count-most) coordinates-at }
+      record {
+        is = rw (
+          e,
+          le-leb 2 (pointCount l i) count-least,
+          le-leb (pointCount l i) maxPoints count-most,
+        ) coordinates-at;
+      }
 
   pub curve-at : curveOf (runAt l i) ≡ edgeAt l i .curve
   unfolding edgeOf
@@ -93,7 +110,8 @@ module _ {l : List ℤ} {i : ℕ} (row : EdgeRow l i) where
   points-at : length (points (edgeAt l i .curve)) ≡ pointCount l i
   points-at =
       let e : length (runAt l i) / 2 ≡ pointCount l i = omega (arith, run-length) in
-      ap (λ (c : Curve). length (points c)) (sym curve-at ∙ curve-is run-at) ∙ ap suc (length-table (pointAt (runAt l i)) 1 (length (runAt l i) / 2 - 1)) ∙ omega (arith, count-least)
+      ap (λ (c : Curve). length (points c)) (sym curve-at ∙ curve-is run-at)
+      ∙ ap suc (length-table (pointAt (runAt l i)) 1 (length (runAt l i) / 2 - 1)) ∙ omega (arith, count-least)
 
   pub edge-few : length (points (edgeAt l i .curve)) ≤ maxPoints
   edge-few = rw points-at count-most

@@ -1,4 +1,5 @@
--- Rows by their place in a table: the rows in use are `table` of row i, what the numbers of row i are, and numbers that rise. Assumes nothing.
+-- Rows by their place in a table: the rows in use are `table` of row i, what the numbers of row i are, and numbers that
+-- rise. Assumes nothing.
 use mathlib.Core.Path.{_≡_, refl, sym, ap, _∙_, subst}
 use mathlib.Core.Bool.{Bool, true, _&&_, false≢true}
 use mathlib.Core.List.{List, [], _∷_, map}
@@ -13,7 +14,7 @@ use lib.ListN.{length, getD, take, drop}
 use lib.Seq.{getD-take, getD-drop, drop-drop}
 use lib.Signed.{leZ, ltZ, nonNeg}
 use borrow.Author.Tests.{leb-true, ltb-true}
-use Rattle.lists.specs.Scans.{all, linked}
+use Rattle.lists.specs.Scans.{allOf, linked}
 use Rattle.lists.specs.Members.{All}
 use Rattle.lists.specs.Tables.{table}
 use Rattle.lists.proofs.Scans.{length-table, getD-table, table-same}
@@ -22,7 +23,8 @@ use Rattle.curves.proofs.Runs.{and-left, and-right, coordinate-pos}
 use Rattle.map.specs.Limits.{nodeWidth, edgeWidth, faceWidth, lastNumber}
 use Rattle.map.specs.Rows.{Node, Edge, rows, cell, nodeOf, edgeOf, faceRowOf, faceOf, dartOf}
 use Rattle.map.specs.Form.{within, isZero, nodeRanges, edgeRanges, faceRanges, numbered}
-use Rattle.tables.specs.Tables.{Rising, rowAt, nodesOf, edgesOf, facesOf, nodeAt, edgeAt, faceAt, NodeRow, EdgeRow, NodeRows, EdgeRows, FaceRows}
+use Rattle.tables.specs.Tables.{Rising, rowAt, nodesOf, edgesOf, facesOf, nodeAt, edgeAt, faceAt, NodeRow}
+use Rattle.tables.specs.Tables.{EdgeRow, NodeRows, EdgeRows, FaceRows}
 use Rattle.tables.proofs.Cells.{row-room}
 
 -- ---- tables of elements
@@ -32,21 +34,26 @@ module _ {A : Type 0} where
   map-table g f a zero = refl
   map-table {B} g f a (suc n) = ap (λ (r : List B). g (f a) ∷ r) (map-table g f (a + 1) n)
 
-  all-from : (p : A → Bool) (f : ℕ → A) (a n : ℕ) → all p (table f a n) ≡ true → (i : ℕ) → a ≤ i → i < a + n → p (f i) ≡ true
+  all-from : (p : A → Bool) (f : ℕ → A) (a n : ℕ) → allOf p (table f a n) ≡ true → (i : ℕ) → a ≤ i → i < a + n
+      → p (f i) ≡ true
   all-from p f a zero h i s t = absurd (omega arith)
   all-from p f a (suc n) h i s t =
       let m : i < a + 1 + n = omega arith in
-      ⊎-elim (λ e. subst (λ (j : ℕ). p (f j) ≡ true) e (and-left (p (f a)) (all p (table f (a + 1) n)) h))
-      (λ g. all-from p f (a + 1) n (and-right (p (f a)) (all p (table f (a + 1) n)) h) i (omega arith) m) (eq-or-lt-of-le s)
+      ⊎-elim (λ e. subst (λ (j : ℕ). p (f j) ≡ true) e (and-left (p (f a)) (allOf p (table f (a + 1) n)) h))
+      (λ g. all-from p f (a + 1) n (and-right (p (f a)) (allOf p (table f (a + 1) n)) h) i (omega arith) m)
+      (eq-or-lt-of-le s)
 
   -- what takes every element takes element i
-  pub all-table : (p : A → Bool) (f : ℕ → A) (n : ℕ) → all p (table f 0 n) ≡ true → (i : ℕ) → i < n → p (f i) ≡ true
+  pub all-table : (p : A → Bool) (f : ℕ → A) (n : ℕ) → allOf p (table f 0 n) ≡ true → (i : ℕ) → i < n → p (f i) ≡ true
   all-table p f n h i t = all-from p f 0 n h i (omega arith) (omega arith)
 
   -- what holds of element i holds of each
   each-from : (R : A → Type 0) (f : ℕ → A) (a n : ℕ) → ((i : ℕ) → a ≤ i → i < a + n → R (f i)) → All R (table f a n)
   each-from R f a zero h = tt
-  each-from R f a (suc n) h = (h a (omega arith) (omega arith), each-from R f (a + 1) n (λ i s t. h i (omega arith) (omega arith)))
+  each-from R f a (suc n) h = (
+    h a (omega arith) (omega arith),
+    each-from R f (a + 1) n (λ i s t. h i (omega arith) (omega arith)),
+  )
 
   pub each-table : (R : A → Type 0) (f : ℕ → A) (n : ℕ) → ((i : ℕ) → i < n → R (f i)) → All R (table f 0 n)
   each-table R f n h = each-from R f 0 n (λ i s t. h i (omega arith))
@@ -73,8 +80,8 @@ module _ (w : ℕ) (l : List ℤ) where
   rows-table n = ap (λ (k : ℕ). rows w n (drop k l)) (sym (zero-mul w)) ∙ rows-from n 0
 
   -- a test that takes every row takes row i
-  pub rows-all : (ok : List ℤ → Bool) (n : ℕ) → all ok (rows w n l) ≡ true → (i : ℕ) → i < n → ok (rowAt w l i) ≡ true
-  rows-all ok n h i t = all-table ok (rowAt w l) n (ap (all ok) (sym (rows-table n)) ∙ h) i t
+  pub rows-all : (ok : List ℤ → Bool) (n : ℕ) → allOf ok (rows w n l) ≡ true → (i : ℕ) → i < n → ok (rowAt w l i) ≡ true
+  rows-all ok n h i t = all-table ok (rowAt w l) n (ap (allOf ok) (sym (rows-table n)) ∙ h) i t
 
   module _ {A : Type 0} (of : List ℤ → A) (n : ℕ) where
     pub of-table : map of (rows w n l) ≡ table (λ i. of (rowAt w l i)) 0 n
@@ -84,7 +91,8 @@ module _ (w : ℕ) (l : List ℤ) where
     of-length = ap length of-table ∙ length-table (λ i. of (rowAt w l i)) 0 n
 
     pub of-getD : (i : ℕ) (d : A) → i < n → getD (map of (rows w n l)) i d ≡ of (rowAt w l i)
-    of-getD i d h = ap (λ (r : List A). getD r i d) of-table ∙ getD-table (λ j. of (rowAt w l j)) 0 n i d h ∙ ap (λ (j : ℕ). of (rowAt w l j)) (zero-add i)
+    of-getD i d h = ap (λ (r : List A). getD r i d) of-table ∙ getD-table (λ j. of (rowAt w l j)) 0 n i d h
+        ∙ ap (λ (j : ℕ). of (rowAt w l j)) (zero-add i)
 
 -- ---- nodes, edges and faces
 
@@ -117,11 +125,18 @@ module _ (l : List ℤ) (n : ℕ) where
   faces-getD = of-getD faceWidth l faceRowOf n
 
 -- each row of a table in range is in range
-pub edge-row : (l : List ℤ) (n i : ℕ) → n * edgeWidth ≤ length l → all edgeRanges (rows edgeWidth n l) ≡ true → i < n → EdgeRow l i
-edge-row l n i fits h t = record { fits = let r = row-room edgeWidth n i t in omega arith; ranges = rows-all edgeWidth l edgeRanges n h i t }
+pub edge-row : (l : List ℤ) (n i : ℕ) → n * edgeWidth ≤ length l → allOf edgeRanges (rows edgeWidth n l) ≡ true → i < n
+    → EdgeRow l i
+edge-row l n i fits h t = record {
+  fits = let r = row-room edgeWidth n i t in omega arith;
+  ranges = rows-all edgeWidth l edgeRanges n h i t;
+}
 
 pub node-row-of : {l : List ℤ} {n : ℕ} → NodeRows l n → (i : ℕ) → i < n → NodeRow l i
-node-row-of {l} {n} r i t = record { fits = omega (arith, row-room nodeWidth n i t, r .fits); ranges = rows-all nodeWidth l nodeRanges n (r .ranges) i t }
+node-row-of {l} {n} r i t = record {
+  fits = omega (arith, row-room nodeWidth n i t, r .fits);
+  ranges = rows-all nodeWidth l nodeRanges n (r .ranges) i t;
+}
 
 pub edge-row-of : {l : List ℤ} {n : ℕ} → EdgeRows l n → (i : ℕ) → i < n → EdgeRow l i
 edge-row-of {l} {n} r i t = edge-row l n i (r .fits) (r .ranges) t
@@ -146,21 +161,28 @@ pub edge-cells : (l : List ℤ) (i : ℕ) → edgeRanges (rowAt edgeWidth l i) �
 unfolding edgeOf
 edge-cells l i h =
     let r = rowAt edgeWidth l i in
-    let a = all nonNeg (cell r 0 ∷ cell r 1 ∷ cell r 2 ∷ cell r 5 ∷ cell r 6 ∷ []) in
+    let a = allOf nonNeg (cell r 0 ∷ cell r 1 ∷ cell r 2 ∷ cell r 5 ∷ cell r 6 ∷ []) in
     let b = within 2 maxPoints (cell r 7) in
-    let c = all coordinate (take (2 * natAbs (cell r 7)) (drop 8 r)) in
-    let signs = and-left a b (and-left (a && b) c (and-left (a && b && c) (all isZero (drop (2 * natAbs (cell r 7)) (drop 8 r))) h)) in
-    let signs₁ = and-right (nonNeg (cell r 0)) (all nonNeg (cell r 1 ∷ cell r 2 ∷ cell r 5 ∷ cell r 6 ∷ [])) signs in
-    let signs₂ = and-right (nonNeg (cell r 1)) (all nonNeg (cell r 2 ∷ cell r 5 ∷ cell r 6 ∷ [])) signs₁ in
-    let signs₃ = and-right (nonNeg (cell r 2)) (all nonNeg (cell r 5 ∷ cell r 6 ∷ [])) signs₂ in
-    let signs₄ = and-right (nonNeg (cell r 5)) (all nonNeg (cell r 6 ∷ [])) signs₃ in
+    let c = allOf coordinate (take (2 * natAbs (cell r 7)) (drop 8 r)) in
+    let signs = and-left a b (and-left (a && b) c
+    (and-left (a && b && c) (allOf isZero (drop (2 * natAbs (cell r 7)) (drop 8 r))) h)) in
+    let signs₁ = and-right (nonNeg (cell r 0)) (allOf nonNeg (cell r 1 ∷ cell r 2 ∷ cell r 5 ∷ cell r 6 ∷ [])) signs in
+    let signs₂ = and-right (nonNeg (cell r 1)) (allOf nonNeg (cell r 2 ∷ cell r 5 ∷ cell r 6 ∷ [])) signs₁ in
+    let signs₃ = and-right (nonNeg (cell r 2)) (allOf nonNeg (cell r 5 ∷ cell r 6 ∷ [])) signs₂ in
+    let signs₄ = and-right (nonNeg (cell r 5)) (allOf nonNeg (cell r 6 ∷ [])) signs₃ in
     record {
-      number = sym (row-first edgeWidth l i (lit< tt)) ∙ pos-abs (cell r 0) (and-left (nonNeg (cell r 0)) (all nonNeg (cell r 1 ∷ cell r 2 ∷ cell r 5 ∷ cell r 6 ∷ [])) signs);
-      start = sym (row-cell edgeWidth l i 1 (lit< tt)) ∙ pos-abs (cell r 1) (and-left (nonNeg (cell r 1)) (all nonNeg (cell r 2 ∷ cell r 5 ∷ cell r 6 ∷ [])) signs₁);
-      end = sym (row-cell edgeWidth l i 2 (lit< tt)) ∙ pos-abs (cell r 2) (and-left (nonNeg (cell r 2)) (all nonNeg (cell r 5 ∷ cell r 6 ∷ [])) signs₂);
+      number = sym (row-first edgeWidth l i (lit< tt))
+          ∙ pos-abs (cell r 0) (and-left (nonNeg (cell r 0))
+          (allOf nonNeg (cell r 1 ∷ cell r 2 ∷ cell r 5 ∷ cell r 6 ∷ [])) signs);
+      start = sym (row-cell edgeWidth l i 1 (lit< tt))
+          ∙ pos-abs (cell r 1) (and-left (nonNeg (cell r 1))
+          (allOf nonNeg (cell r 2 ∷ cell r 5 ∷ cell r 6 ∷ [])) signs₁);
+      end = sym (row-cell edgeWidth l i 2 (lit< tt))
+          ∙ pos-abs (cell r 2) (and-left (nonNeg (cell r 2)) (allOf nonNeg (cell r 5 ∷ cell r 6 ∷ [])) signs₂);
       nextLeft = ap dartOf (sym (row-cell edgeWidth l i 3 (lit< tt)));
       nextRight = ap dartOf (sym (row-cell edgeWidth l i 4 (lit< tt)));
-      left = sym (row-cell edgeWidth l i 5 (lit< tt)) ∙ pos-abs (cell r 5) (and-left (nonNeg (cell r 5)) (all nonNeg (cell r 6 ∷ [])) signs₃);
+      left = sym (row-cell edgeWidth l i 5 (lit< tt))
+          ∙ pos-abs (cell r 5) (and-left (nonNeg (cell r 5)) (allOf nonNeg (cell r 6 ∷ [])) signs₃);
       right = sym (row-cell edgeWidth l i 6 (lit< tt)) ∙ pos-abs (cell r 6) (and-left (nonNeg (cell r 6)) true signs₄);
     }
 
@@ -188,7 +210,8 @@ node-cells l i h =
     }
 
 -- the number of face row i
-pub face-cell : (l : List ℤ) (i : ℕ) → faceRanges (rowAt faceWidth l i) ≡ true → getD l (i * faceWidth) (pos 0) ≡ pos (faceAt l i)
+pub face-cell : (l : List ℤ) (i : ℕ) → faceRanges (rowAt faceWidth l i) ≡ true → getD l (i * faceWidth) (pos 0)
+    ≡ pos (faceAt l i)
 face-cell l i h = sym (row-first faceWidth l i (lit< tt)) ∙ pos-abs (cell (rowAt faceWidth l i) 0) h
 
 -- ---- numbers that rise
@@ -199,16 +222,19 @@ linked-pos g a (suc zero) = refl
 linked-pos g a (suc (suc n)) = ap (λ (b : Bool). ltb (g a) (g (a + 1)) && b) (linked-pos g (a + 1) (suc n))
 
 -- numbers from 0 on that rise as natural numbers rise in the table
-rows-rising : (w : ℕ) (l : List ℤ) (n : ℕ) (g : ℕ → ℕ) → n * w ≤ length l → 1 ≤ w → ((i : ℕ) → i < n → getD l (i * w) (pos 0) ≡ pos (g i)) → linked ltb (table g 0 n) ≡ true → Rising w l n
+rows-rising : (w : ℕ) (l : List ℤ) (n : ℕ) (g : ℕ → ℕ) → n * w ≤ length l → 1 ≤ w
+    → ((i : ℕ) → i < n → getD l (i * w) (pos 0) ≡ pos (g i)) → linked ltb (table g 0 n) ≡ true → Rising w l n
 rows-rising w l n g fits some cells h =
     record {
       fits = fits;
       some = some;
-      rising = ap (linked ltZ) (table-same (λ i. getD l (i * w) (pos 0)) (λ i. pos (g i)) 0 n (λ i s t. cells i (omega arith))) ∙ linked-pos g 0 n ∙ h;
+      rising = ap (linked ltZ) (table-same (λ i. getD l (i * w) (pos 0)) (λ i. pos (g i)) 0 n
+          (λ i s t. cells i (omega arith))) ∙ linked-pos g 0 n ∙ h;
     }
 
 -- the numbers of rows, one after the other
-numbers-table : {A : Type 0} (w : ℕ) (l : List ℤ) (n : ℕ) (of : List ℤ → A) (number : A → ℕ) → map number (map of (rows w n l)) ≡ table (λ i. number (of (rowAt w l i))) 0 n
+numbers-table : {A : Type 0} (w : ℕ) (l : List ℤ) (n : ℕ) (of : List ℤ → A) (number : A → ℕ)
+    → map number (map of (rows w n l)) ≡ table (λ i. number (of (rowAt w l i))) 0 n
 numbers-table w l n of number = ap (map number) (of-table w l of n) ∙ map-table number (λ i. of (rowAt w l i)) 0 n
 
 module _ (l : List ℤ) (n : ℕ) where
@@ -219,47 +245,61 @@ module _ (l : List ℤ) (n : ℕ) where
   edge-numbers = numbers-table edgeWidth l n edgeOf (λ r. r .number)
 
 module _ (l : List ℤ) (n : ℕ) where
-  pub nodes-rising : n * nodeWidth ≤ length l → all nodeRanges (rows nodeWidth n l) ≡ true → linked ltb (map (λ r. r .number) (nodesOf l n)) ≡ true → Rising nodeWidth l n
+  pub nodes-rising : n * nodeWidth ≤ length l → allOf nodeRanges (rows nodeWidth n l) ≡ true
+      → linked ltb (map (λ r. r .number) (nodesOf l n)) ≡ true → Rising nodeWidth l n
   nodes-rising fits ranges h =
-      rows-rising nodeWidth l n (λ i. nodeAt l i .number) fits (lit≤ tt) (λ i t. node-cells l i (rows-all nodeWidth l nodeRanges n ranges i t) .number)
+      rows-rising nodeWidth l n (λ i. nodeAt l i .number) fits (lit≤ tt)
+      (λ i t. node-cells l i (rows-all nodeWidth l nodeRanges n ranges i t) .number)
       (ap (linked ltb) (sym (node-numbers l n)) ∙ h)
 
-  pub edges-rising : n * edgeWidth ≤ length l → all edgeRanges (rows edgeWidth n l) ≡ true → linked ltb (map (λ r. r .number) (edgesOf l n)) ≡ true → Rising edgeWidth l n
+  pub edges-rising : n * edgeWidth ≤ length l → allOf edgeRanges (rows edgeWidth n l) ≡ true
+      → linked ltb (map (λ r. r .number) (edgesOf l n)) ≡ true → Rising edgeWidth l n
   edges-rising fits ranges h =
-      rows-rising edgeWidth l n (λ i. edgeAt l i .number) fits (lit≤ tt) (λ i t. edge-cells l i (rows-all edgeWidth l edgeRanges n ranges i t) .number)
+      rows-rising edgeWidth l n (λ i. edgeAt l i .number) fits (lit≤ tt)
+      (λ i t. edge-cells l i (rows-all edgeWidth l edgeRanges n ranges i t) .number)
       (ap (linked ltb) (sym (edge-numbers l n)) ∙ h)
 
-  pub faces-rising : n * faceWidth ≤ length l → all faceRanges (rows faceWidth n l) ≡ true → linked ltb (facesOf l n) ≡ true → Rising faceWidth l n
+  pub faces-rising : n * faceWidth ≤ length l → allOf faceRanges (rows faceWidth n l) ≡ true → linked ltb (facesOf l n)
+      ≡ true → Rising faceWidth l n
   faces-rising fits ranges h =
-      rows-rising faceWidth l n (faceAt l) fits (lit≤ tt) (λ i t. face-cell l i (rows-all faceWidth l faceRanges n ranges i t))
+      rows-rising faceWidth l n (faceAt l) fits (lit≤ tt)
+      (λ i t. face-cell l i (rows-all faceWidth l faceRanges n ranges i t))
       (ap (linked ltb) (sym (faces-table l n)) ∙ h)
 
 rises : (least next : ℕ) (ns : List ℕ) → numbered least next ns ≡ true → linked ltb ns ≡ true
-rises least next ns = and-left (linked ltb ns) (all (λ n. leb least n && ltb n next) ns)
+rises least next ns = and-left (linked ltb ns) (allOf (λ n. leb least n && ltb n next) ns)
 
 module _ {l : List ℤ} {n : ℕ} where
   pub node-rows-rising : NodeRows l n → Rising nodeWidth l n
-  node-rows-rising r = nodes-rising l n (r .fits) (r .ranges) (rises 1 (suc lastNumber) (map (λ r. r .number) (nodesOf l n)) (r .rising))
+  node-rows-rising r = nodes-rising l n (r .fits) (r .ranges)
+      (rises 1 (suc lastNumber) (map (λ r. r .number) (nodesOf l n)) (r .rising))
 
   pub edge-rows-rising : EdgeRows l n → Rising edgeWidth l n
-  edge-rows-rising r = edges-rising l n (r .fits) (r .ranges) (rises 1 (suc lastNumber) (map (λ r. r .number) (edgesOf l n)) (r .rising))
+  edge-rows-rising r = edges-rising l n (r .fits) (r .ranges)
+      (rises 1 (suc lastNumber) (map (λ r. r .number) (edgesOf l n)) (r .rising))
 
   pub face-rows-rising : FaceRows l n → Rising faceWidth l n
   face-rows-rising r = faces-rising l n (r .fits) (r .ranges) (rises 0 (suc lastNumber) (facesOf l n) (r .rising))
 
 -- ---- numbers in use, from the least to the last
 
-pub number-in : (least next : ℕ) (g : ℕ → ℕ) (n : ℕ) → numbered least next (table g 0 n) ≡ true → (i : ℕ) → i < n → (least ≤ g i) × (g i < next)
+pub number-in : (least next : ℕ) (g : ℕ → ℕ) (n : ℕ) → numbered least next (table g 0 n) ≡ true → (i : ℕ) → i < n
+    → (least ≤ g i) × (g i < next)
 number-in least next g n h i t =
-    let e = all-table (λ k. leb least k && ltb k next) g n (and-right (linked ltb (table g 0 n)) _ h) i t in
-    (leb-true least (g i) (and-left (leb least (g i)) (ltb (g i) next) e), ltb-true (g i) next (and-right (leb least (g i)) (ltb (g i) next) e))
+    let e = all-table (λ k. leb least k && ltb k next) g n (and-right (linked ltb (table g 0 n)) _ h) i t in (
+      leb-true least (g i) (and-left (leb least (g i)) (ltb (g i) next) e),
+      ltb-true (g i) next (and-right (leb least (g i)) (ltb (g i) next) e),
+    )
 
 module _ {l : List ℤ} {n : ℕ} where
   pub node-number-in : NodeRows l n → (i : ℕ) → i < n → (1 ≤ nodeAt l i .number) × (nodeAt l i .number < suc lastNumber)
-  node-number-in r = number-in 1 (suc lastNumber) (λ i. nodeAt l i .number) n (ap (numbered 1 (suc lastNumber)) (sym (node-numbers l n)) ∙ r .rising)
+  node-number-in r = number-in 1 (suc lastNumber) (λ i. nodeAt l i .number) n
+      (ap (numbered 1 (suc lastNumber)) (sym (node-numbers l n)) ∙ r .rising)
 
   pub edge-number-in : EdgeRows l n → (i : ℕ) → i < n → (1 ≤ edgeAt l i .number) × (edgeAt l i .number < suc lastNumber)
-  edge-number-in r = number-in 1 (suc lastNumber) (λ i. edgeAt l i .number) n (ap (numbered 1 (suc lastNumber)) (sym (edge-numbers l n)) ∙ r .rising)
+  edge-number-in r = number-in 1 (suc lastNumber) (λ i. edgeAt l i .number) n
+      (ap (numbered 1 (suc lastNumber)) (sym (edge-numbers l n)) ∙ r .rising)
 
   pub face-number-in : FaceRows l n → (i : ℕ) → i < n → (0 ≤ faceAt l i) × (faceAt l i < suc lastNumber)
-  face-number-in r = number-in 0 (suc lastNumber) (faceAt l) n (ap (numbered 0 (suc lastNumber)) (sym (faces-table l n)) ∙ r .rising)
+  face-number-in r = number-in 0 (suc lastNumber) (faceAt l) n
+      (ap (numbered 0 (suc lastNumber)) (sym (faces-table l n)) ∙ r .rising)

@@ -7,7 +7,7 @@ use lib.IntN.{ℤ, pos}
 use lib.ListN.{length, getD, take, drop, replicate, set}
 use lib.Seq.{paste}
 use lib.Signed.{leZ, ltZ}
-use Rattle.lists.specs.Scans.{all, linked}
+use Rattle.lists.specs.Scans.{allOf, linked}
 use Rattle.lists.specs.Tables.{table}
 use Rattle.map.specs.Limits.{nodeWidth, edgeWidth, faceWidth, lastNumber}
 use Rattle.map.specs.Rows.{Node, Edge, Map, rows, nodeOf, edgeOf, faceRowOf, hasEdge}
@@ -86,18 +86,19 @@ pub record NodeRow (l : List ℤ) (i : ℕ) : Type 0 where
 -- nodes in range, in rising order
 pub record NodeRows (l : List ℤ) (n : ℕ) : Type 0 where
   pub fits : n * nodeWidth ≤ length l
-  pub ranges : all nodeRanges (rows nodeWidth n l) ≡ true
+  pub ranges : allOf nodeRanges (rows nodeWidth n l) ≡ true
   pub rising : numbered 1 (suc lastNumber) (map (λ r. r .number) (nodesOf l n)) ≡ true
 
 -- edges in range, in rising order, whose links name edges
 pub record EdgeRows (l : List ℤ) (n : ℕ) : Type 0 where
   pub fits : n * edgeWidth ≤ length l
-  pub ranges : all edgeRanges (rows edgeWidth n l) ≡ true
+  pub ranges : allOf edgeRanges (rows edgeWidth n l) ≡ true
   pub rising : numbered 1 (suc lastNumber) (map (λ r. r .number) (edgesOf l n)) ≡ true
-  pub named : all (λ e. hasEdge (edgeMap l n) (e .nextLeft .edge) && hasEdge (edgeMap l n) (e .nextRight .edge)) (edgesOf l n) ≡ true
+  pub named : allOf (λ e. hasEdge (edgeMap l n) (e .nextLeft .edge) && hasEdge (edgeMap l n) (e .nextRight .edge))
+      (edgesOf l n) ≡ true
 
 -- faces in range, in rising order
 pub record FaceRows (l : List ℤ) (n : ℕ) : Type 0 where
   pub fits : n * faceWidth ≤ length l
-  pub ranges : all faceRanges (rows faceWidth n l) ≡ true
+  pub ranges : allOf faceRanges (rows faceWidth n l) ≡ true
   pub rising : numbered 0 (suc lastNumber) (facesOf l n) ≡ true

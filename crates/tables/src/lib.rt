@@ -39,8 +39,8 @@ fn lesser(a: usize, b: usize) -> usize
     if a < b { a } else { b }
 }
 
-// The row, among the first hi, of a number greater than those of the rows before lo: by halves. A function that calls itself is compiled once, and
-// stays out of the loops that look.
+// The row, among the first hi, of a number greater than those of the rows before lo: by halves. A function that calls
+// itself is compiled once, and stays out of the loops that look.
 fn search_row(t: &[i64], w: usize, lo: usize, hi: usize, number: i64) -> Found
     requires { ⌜ Rising w (now t) hi × ((k : ℕ) → k < lo → ltZ (getD (now t) (k * w) (pos 0)) number ≡ true) ⌝ }
     ensures { λ r. ⌜ r ≡ place (sameZ number) 0 (column w (now (t .entry)) hi) ⌝ }
@@ -75,20 +75,29 @@ pub fn find_row(t: &[i64], w: usize, count: usize, number: i64) -> Found
     search_row(t, w, 0, count, number)
 }
 
+// Places of an index, and the bits that choose one.
+pub const INDEX: usize = 4096;
+
+const LAST_BITS: i64 = 4095;
+
+// Rows that an index can name.
+const PLACES: usize = 65536;
+
 // A number's last 12 bits.
 fn last_bits(z: i64) -> usize
     ensures { λ r. ⌜ r < 4096 ⌝ }
 {
-    (z & 4095) as usize
+    (z & LAST_BITS) as usize
 }
 
-// Each row stands in the index under its number's last 12 bits, unless a later one took the place. An index says where to look first, and no more.
+// Each row stands in the index under its number's last 12 bits, unless a later one took the place. An index says where
+// to look first, and no more.
 pub fn index_rows(t: &[i64], w: usize, count: usize, index: &mut [u16])
     requires { ⌜ (1 ≤ w) × (count * w ≤ length (now t)) × (length (now index) ≡ 4096) ⌝ }
     ensures { λ r. ⌜ length (now (index .exit)) ≡ 4096 ⌝ }
 {
     for i in 0..count {
-        index[last_bits(t[i * w])] = (i % 65536) as u16;
+        index[last_bits(t[i * w])] = (i % PLACES) as u16;
     }
 }
 
@@ -175,8 +184,8 @@ pub fn curve_of(edges: &[i64], i: usize) -> &[i64]
     requires { ⌜ EdgeRow (now edges) i ⌝ }
     ensures { λ r. ⌜ Run (now r) × (curveOf (now r) ≡ edgeAt (now (edges .entry)) i .curve) ⌝ }
 {
-    let a = i * 32 + 8;
-    let n = edges[i * 32 + 7] as usize;
+    let a = i * map::EDGE_WIDTH + map::POINTS_AT;
+    let n = edges[i * map::EDGE_WIDTH + map::POINT_COUNT] as usize;
     let b = a + 2 * n;
     &edges[a..b]
 }

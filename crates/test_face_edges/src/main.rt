@@ -1,6 +1,7 @@
-// Runs whole calls for the edges of a face on stored tables, grown, distorted and spoiled, and writes the answers and the lists, a line a call.
-// A call is a record of 248 numbers, each a sign and seven digits, and a line end: the lengths of the node, edge and face table, the six numbers
-// of the head, the face and the length of the list; five that are not used; then the tables, with room for 32, 192 and 8 numbers.
+// Runs whole calls for the edges of a face on stored tables, grown, distorted and spoiled, and writes the answers and
+// the lists, a line a call. A call is a record of 248 numbers, each a sign and seven digits, and a line end: the
+// lengths of the node, edge and face table, the six numbers of the head, the face and the length of the list; five that
+// are not used; then the tables, with room for 32, 192 and 8 numbers.
 use map::Head;
 ghost use Prim.Native.Nat.{_≤_, _+_};
 ghost use lib.ListN.{length};

@@ -1,6 +1,6 @@
 // Runs every function on points, segments and curves on stored cases and writes the answers, a line a case.
-// A case is a line of 30 numbers of seven digits: n, k, px, py, six points of the first curve, of which n are in use, six of the second, k in use,
-// and two numbers that are not used. What is no case is answered by 0 alone.
+// A case is a line of 30 numbers of seven digits: n, k, px, py, six points of the first curve, of which n are in use,
+// six of the second, k in use, and two numbers that are not used. What is no case is answered by 0 alone.
 use curve_edits::Line;
 use lists::Found;
 use plane::Contact;

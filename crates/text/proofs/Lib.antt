@@ -1,5 +1,5 @@
--- `Words`: words from a place of a line on. `Values`: the value of digits. `Signs`: a word as a number. `Numbers`: a line's numbers, read one after the other.
--- `Whole`: a whole line.
+-- `Words`: words from a place of a line on. `Values`: the value of digits. `Signs`: a word as a number. `Numbers`: a
+-- line's numbers, read one after the other. `Whole`: a whole line.
 pub mod Words
 pub mod Values
 pub mod Signs

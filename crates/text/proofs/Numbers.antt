@@ -21,7 +21,8 @@ pub numbers-length : (ws : List (List ℕ)) (zs : List ℤ) → numbersOf ws ≡
 numbers-length [] zs e = let q : [] ≡ zs = cc in ap length (sym q)
 numbers-length (w ∷ ws) zs e = pick (numberOf w) (numbersOf ws) e (λ ys. numbers-length ws ys)
   where
-    pick : (o : Option ℤ) (os : Option (List ℤ)) → consNumber o os ≡ some zs → ((ys : List ℤ) → os ≡ some ys → length ys ≡ length ws) → length zs ≡ suc (length ws)
+    pick : (o : Option ℤ) (os : Option (List ℤ)) → consNumber o os ≡ some zs
+        → ((ys : List ℤ) → os ≡ some ys → length ys ≡ length ws) → length zs ≡ suc (length ws)
     pick (some z) (some ys) q rest = let p : z ∷ ys ≡ zs = cc in ap length (sym p) ∙ ap suc (rest ys refl)
     pick (some z) none q rest = let p : _≡_ {A = ℕ} 0 1 = cc in absurd (omega arith)
     pick none os q rest = let p : _≡_ {A = ℕ} 0 1 = cc in absurd (omega arith)
@@ -53,7 +54,8 @@ module _ (l : List ℕ) (at s : ℕ) (gap : Run l at true s) where
     pub word-bytes : s < e
     word-bytes =
         ⊎-elim
-        (λ q. absurd (true≢false (sym (subst (λ (i : ℕ). blank (getD l i 0) ≡ true) (sym q) (word .ends (omega (arith, inside)))) ∙ gap .ends inside)))
+        (λ q. absurd (true≢false (sym (subst (λ (i : ℕ). blank (getD l i 0) ≡ true) (sym q)
+        (word .ends (omega (arith, inside)))) ∙ gap .ends inside)))
         (λ q. q)
         (eq-or-lt-of-le (word .from))
 
@@ -62,25 +64,31 @@ module _ (l : List ℕ) (at s : ℕ) (gap : Run l at true s) where
         let n : e - s ≡ suc (e - s - 1) = omega (arith, word-bytes) in
         ap numbersOf (
         skip-blanks l (s - at) at s (omega (arith, gap .from)) (gap .within) (gap .run)
-        ∙ take-word l (e - s - 1) s e (omega (arith, word-bytes)) (word .within) (word .run) (parted-at l e (word .within) (word .ends))
+        ∙ take-word l (e - s - 1) s e (omega (arith, word-bytes)) (word .within) (word .run)
+        (parted-at l e (word .within) (word .ends))
         )
         ∙ ap (λ (k : ℕ). consNumber (numberOf (take k (drop s l))) (numbersFrom l e)) (sym n)
 
-    pub numbers-value : (z : ℤ) → numberAs (numberOf (take (e - s) (drop s l))) ≡ Value z → numbersFrom l at ≡ consNumber (some z) (numbersFrom l e)
-    numbers-value z q = numbers-word ∙ ap (λ (o : Option ℤ). consNumber o (numbersFrom l e)) (value-of (numberOf (take (e - s) (drop s l))) z q)
+    pub numbers-value : (z : ℤ) → numberAs (numberOf (take (e - s) (drop s l))) ≡ Value z → numbersFrom l at
+        ≡ consNumber (some z) (numbersFrom l e)
+    numbers-value z q = numbers-word ∙ ap (λ (o : Option ℤ). consNumber o (numbersFrom l e))
+        (value-of (numberOf (take (e - s) (drop s l))) z q)
 
     pub numbers-wrong : numberAs (numberOf (take (e - s) (drop s l))) ≡ WrongNumber → numbersFrom l at ≡ none
-    numbers-wrong q = numbers-word ∙ ap (λ (o : Option ℤ). consNumber o (numbersFrom l e)) (none-of (numberOf (take (e - s) (drop s l))) q)
+    numbers-wrong q = numbers-word ∙ ap (λ (o : Option ℤ). consNumber o (numbersFrom l e))
+        (none-of (numberOf (take (e - s) (drop s l))) q)
 
 module _ (z : ℤ) where
   pub parsed-more : (n : ℕ) (o os : Option (List ℤ)) → o ≡ consNumber (some z) os → parsedOf n o ≡ parsedOf (n + 1) os
   parsed-more n o (some zs) e = rw e (ap Numbers (omega arith))
   parsed-more n o none e = rw e
 
-  pub room-more : (m n : ℕ) (o os : Option (List ℤ)) → o ≡ consNumber (some z) os → Room m n o → (n < m) × Room m (n + 1) os
+  pub room-more : (m n : ℕ) (o os : Option (List ℤ)) → o ≡ consNumber (some z) os → Room m n o → (n < m)
+      × Room m (n + 1) os
   room-more m n o (some zs) e h = let r : n + suc (length zs) ≤ m = subst (Room m n) e h in (omega arith, omega arith)
   room-more m n o none e h = absurd (subst (Room m n) e h)
 
-  pub written-more : (m : ℕ) (l : List ℤ) (n : ℕ) (o os : Option (List ℤ)) → o ≡ consNumber (some z) os → Room m n o → written l n o ≡ written (set l n z) (n + 1) os
+  pub written-more : (m : ℕ) (l : List ℤ) (n : ℕ) (o os : Option (List ℤ)) → o ≡ consNumber (some z) os → Room m n o
+      → written l n o ≡ written (set l n z) (n + 1) os
   written-more m l n o (some zs) e h = rw (e, add-one)
   written-more m l n o none e h = absurd (subst (Room m n) e h)

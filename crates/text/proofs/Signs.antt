@@ -10,7 +10,7 @@ use lib.IntN.{pos, negℤ}
 use lib.ListN.{length, getD, take, drop, length-drop}
 use lib.Seq.{take-all}
 use borrow.Author.Tests.{le-leb, lt-leb, leb-false}
-use Rattle.lists.specs.Scans.{all}
+use Rattle.lists.specs.Scans.{allOf}
 use Rattle.lists.proofs.Bools.{same-eq, same-false}
 use Rattle.text.specs.Lines.{digit, valueOf, signedNumber, numberOf}
 use Rattle.text.specs.Steps.{reach, most, magnitudeOf}
@@ -36,14 +36,16 @@ past true v m h e = let g : reach < v = leb-false v reach e in lt-leb v m (omega
 past false v m h e = refl
 
 module _ (minus : Bool) (ds : List ℕ) (some-digit : length ds ≡ 0 → ⊥) where
-  signed-is : (l : List ℕ) → ds ≡ l → signedNumber minus l ≡ cond (all digit l && leb (valueOf l) (most minus)) (some (cond minus (negℤ (pos (valueOf l))) (pos (valueOf l)))) none
+  signed-is : (l : List ℕ) → ds ≡ l → signedNumber minus l
+      ≡ cond (allOf digit l && leb (valueOf l) (most minus))
+      (some (cond minus (negℤ (pos (valueOf l))) (pos (valueOf l)))) none
   signed-is [] e = absurd (some-digit (ap length e))
   signed-is (d ∷ l) e = refl
 
   module _ (n : ℕ) (m : magnitudeOf ds ≡ Value n) where
-    told : (all digit ds ≡ true) × (valueOf ds ≡ n)
+    told : (allOf digit ds ≡ true) × (valueOf ds ≡ n)
     unfolding magnitudeOf
-    told = value-told (all digit ds) (leb (valueOf ds) reach) (valueOf ds) n m
+    told = value-told (allOf digit ds) (leb (valueOf ds) reach) (valueOf ds) n m
 
     pub signed-fits : n ≤ most minus → signedNumber minus ds ≡ some (cond minus (negℤ (pos n)) (pos n))
     signed-fits h = signed-is ds refl ∙ rw (told .0, told .1, le-leb n (most minus) h)
@@ -54,7 +56,8 @@ module _ (minus : Bool) (ds : List ℕ) (some-digit : length ds ≡ 0 → ⊥) w
   pub signed-wrong : magnitudeOf ds ≡ Wrong → signedNumber minus ds ≡ none
   unfolding magnitudeOf
   signed-wrong m =
-      let f = past (all digit ds) (valueOf ds) (most minus) (most-reached minus) (wrong-told (all digit ds) (leb (valueOf ds) reach) (valueOf ds) m) in
+      let f = past (allOf digit ds) (valueOf ds) (most minus) (most-reached minus)
+      (wrong-told (allOf digit ds) (leb (valueOf ds) reach) (valueOf ds) m) in
       signed-is ds refl ∙ rw f
 
 pub signed-none : (minus : Bool) (ds : List ℕ) → length ds ≡ 0 → signedNumber minus ds ≡ none
@@ -70,14 +73,17 @@ pub number-none : (w : List ℕ) → length w ≡ 0 → numberOf w ≡ none
 number-none [] h = refl
 number-none (b ∷ r) h = absurd (omega arith)
 
-pub number-minus : (w : List ℕ) → (length w ≡ 0 → ⊥) → getD w 0 0 ≡ 45 → numberOf w ≡ signedNumber true (take (length w - 1) (drop 1 w))
+pub number-minus : (w : List ℕ) → (length w ≡ 0 → ⊥) → getD w 0 0 ≡ 45 → numberOf w
+    ≡ signedNumber true (take (length w - 1) (drop 1 w))
 number-minus [] h e = absurd (h refl)
 number-minus (b ∷ r) h e = rw (rest (b ∷ r), same-eq b 45 e)
 
-pub number-plus : (w : List ℕ) → (length w ≡ 0 → ⊥) → (getD w 0 0 ≡ 45 → ⊥) → getD w 0 0 ≡ 43 → numberOf w ≡ signedNumber false (take (length w - 1) (drop 1 w))
+pub number-plus : (w : List ℕ) → (length w ≡ 0 → ⊥) → (getD w 0 0 ≡ 45 → ⊥) → getD w 0 0 ≡ 43 → numberOf w
+    ≡ signedNumber false (take (length w - 1) (drop 1 w))
 number-plus [] h m e = absurd (h refl)
 number-plus (b ∷ r) h m e = rw (rest (b ∷ r), same-false b 45 m, same-eq b 43 e)
 
-pub number-plain : (w : List ℕ) → (length w ≡ 0 → ⊥) → (getD w 0 0 ≡ 45 → ⊥) → (getD w 0 0 ≡ 43 → ⊥) → numberOf w ≡ signedNumber false w
+pub number-plain : (w : List ℕ) → (length w ≡ 0 → ⊥) → (getD w 0 0 ≡ 45 → ⊥) → (getD w 0 0 ≡ 43 → ⊥) → numberOf w
+    ≡ signedNumber false w
 number-plain [] h m e = absurd (h refl)
 number-plain (b ∷ r) h m e = rw (same-false b 45 m, same-false b 43 e)

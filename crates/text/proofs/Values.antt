@@ -10,7 +10,7 @@ use lib.Dec.{leb}
 use lib.ListN.{length, getD, drop, drop-of-length-le}
 use lib.Seq.{drop-cons}
 use borrow.Author.Tests.{le-leb, lt-leb}
-use Rattle.lists.specs.Scans.{all, fold}
+use Rattle.lists.specs.Scans.{allOf, fold}
 use Rattle.lists.proofs.Bools.{&&-false}
 use Rattle.text.specs.Lines.{digit, valueOf}
 use Rattle.text.specs.Steps.{step, reach, magnitudeOf}
@@ -32,7 +32,7 @@ above-digits d h = rw (lt-leb d 57 h) (&&-false (leb 48 d))
 -- n is the value of the first i digits
 pub record Passed (ds : List ℕ) (n i : ℕ) : Type 0 where
   pub value : valueOf ds ≡ fold step n (drop i ds)
-  pub digits : all digit ds ≡ all digit (drop i ds)
+  pub digits : allOf digit ds ≡ allOf digit (drop i ds)
 
 pub passed-none : (ds : List ℕ) → Passed ds 0 0
 passed-none ds = record { value = refl; digits = refl }
@@ -43,7 +43,7 @@ module _ (ds : List ℕ) (n i : ℕ) (so : Passed ds n i) where
   passed-all h g =
       let end = drop-of-length-le ds {i = i} h in
       let v : valueOf ds ≡ n = rw end at (so .value) in
-      let a : all digit ds ≡ true = rw end at (so .digits) in
+      let a : allOf digit ds ≡ true = rw end at (so .digits) in
       rw (a, v, le-leb n reach g)
 
   module _ (d : ℕ) (e : d ≡ getD ds i 0) (h : i < length ds) where
@@ -58,11 +58,11 @@ module _ (ds : List ℕ) (n i : ℕ) (so : Passed ds n i) where
 
     pub no-digit : digit d ≡ false → Wrong ≡ magnitudeOf ds
     unfolding magnitudeOf
-    no-digit q = let a : all digit ds ≡ false = so .digits ∙ rw (here, q) in rw a
+    no-digit q = let a : allOf digit ds ≡ false = so .digits ∙ rw (here, q) in rw a
 
     pub too-large : reach < n * 10 → Wrong ≡ magnitudeOf ds
     unfolding magnitudeOf
     too-large g =
         let v : valueOf ds ≡ fold step (step n d) (drop (i + 1) ds) = rw here at (so .value) in
         let large : reach < valueOf ds = omega (arith, grows (step n d) (drop (i + 1) ds)) in
-        rw (lt-leb (valueOf ds) reach large, &&-false (all digit ds))
+        rw (lt-leb (valueOf ds) reach large, &&-false (allOf digit ds))

@@ -28,7 +28,8 @@ too-long l before h = rw (← (long l h)) (refl, refl)
 
 module _ (l : List ℕ) (before : List ℤ) (h : length l ≤ maxLine) where
   pub wrong-line : Wrong ≡ parsedOf 0 (numbersOf (words l)) → ParsedAs (lineNumbers l) before Wrong before
-  wrong-line e = subst (λ (o : Option (List ℤ)). ParsedAs o before Wrong before) (short l h) (told (numbersOf (words l)) e)
+  wrong-line e = subst (λ (o : Option (List ℤ)). ParsedAs o before Wrong before) (short l h)
+      (told (numbersOf (words l)) e)
     where
       told : (o : Option (List ℤ)) → Wrong ≡ parsedOf 0 o → ParsedAs o before Wrong before
       told (some zs) e = let z : _≡_ {A = ℕ} 0 1 = cc in absurd (omega arith)
@@ -42,10 +43,13 @@ module _ (l : List ℕ) (before : List ℤ) (h : length l ≤ maxLine) where
         told (some zs) q e = omega (arith, numbers-few l zs h q)
         told none q e = let z : _≡_ {A = ℕ} 0 1 = cc in absurd (omega arith)
 
-    pub right-line : (after : List ℤ) → after ≡ written before 0 (numbersOf (words l)) → ParsedAs (lineNumbers l) before (Numbers n) after
-    right-line after w = subst (λ (o : Option (List ℤ)). ParsedAs o before (Numbers n) after) (short l h) (told (numbersOf (words l)) line-room e w)
+    pub right-line : (after : List ℤ) → after ≡ written before 0 (numbersOf (words l))
+        → ParsedAs (lineNumbers l) before (Numbers n) after
+    right-line after w = subst (λ (o : Option (List ℤ)). ParsedAs o before (Numbers n) after) (short l h)
+        (told (numbersOf (words l)) line-room e w)
       where
-        told : (o : Option (List ℤ)) → Room (length before) 0 o → Numbers n ≡ parsedOf 0 o → after ≡ written before 0 o → ParsedAs o before (Numbers n) after
+        told : (o : Option (List ℤ)) → Room (length before) 0 o → Numbers n ≡ parsedOf 0 o → after ≡ written before 0 o
+            → ParsedAs o before (Numbers n) after
         told (some zs) room e w = (
           e ∙ ap Numbers (zero-add (length zs)),
           w ∙ sets-eq zs before 0 (omega arith) ∙ ap (λ (k : ℕ). zs ++ drop k before) (zero-add (length zs)),

@@ -7,7 +7,7 @@ use lib.Dec.{leb}
 use lib.IntN.{ℤ, pos, negℤ}
 use lib.ListN.{length}
 use Rattle.lists.specs.Tests.{same}
-use Rattle.lists.specs.Scans.{all, fold}
+use Rattle.lists.specs.Scans.{allOf, fold}
 
 -- a blank: tab, form feed, carriage return, space
 abbrev pub blank : ℕ → Bool
@@ -42,12 +42,13 @@ signedNumber minus [] = none
 signedNumber minus (d ∷ ds) =
     let n = valueOf (d ∷ ds) in
     let most = cond minus (2 ^ 63) (2 ^ 63 - 1) in
-    cond (all digit (d ∷ ds) && leb n most) (some (cond minus (negℤ (pos n)) (pos n))) none
+    cond (allOf digit (d ∷ ds) && leb n most) (some (cond minus (negℤ (pos n)) (pos n))) none
 
 -- a word as a number: an optional sign and decimal digits, leading zeros among them
 abbrev pub numberOf : List ℕ → Option ℤ
 numberOf [] = none
-numberOf (b ∷ r) = cond (same b 45) (signedNumber true r) (cond (same b 43) (signedNumber false r) (signedNumber false (b ∷ r)))
+numberOf (b ∷ r) = cond (same b 45) (signedNumber true r)
+    (cond (same b 43) (signedNumber false r) (signedNumber false (b ∷ r)))
 
 abbrev pub consNumber : Option ℤ → Option (List ℤ) → Option (List ℤ)
 consNumber (some z) (some zs) = some (z ∷ zs)

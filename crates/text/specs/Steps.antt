@@ -8,7 +8,7 @@ use lib.Dec.{leb}
 use lib.IntN.{ℤ}
 use lib.ListN.{length, getD, drop}
 use lib.Seq.{sets}
-use Rattle.lists.specs.Scans.{all}
+use Rattle.lists.specs.Scans.{allOf}
 use Rattle.text.specs.Lines.{blank, digit, valueOf, words, numbersOf, consNumber}
 use Rattle.text.specs.declared.Parsed.{Parsed}
 use Rattle.text.specs.declared.Parsed.the-variants.{Numbers, Wrong}
@@ -40,7 +40,7 @@ most minus = cond minus (2 ^ 63) (2 ^ 63 - 1)
 
 -- the value of digits up to reach; what is larger fits with no sign
 unfoldable pub magnitudeOf : List ℕ → Magnitude
-magnitudeOf ds = cond (all digit ds && leb (valueOf ds) reach) (M.Value (valueOf ds)) M.Wrong
+magnitudeOf ds = cond (allOf digit ds && leb (valueOf ds) reach) (M.Value (valueOf ds)) M.Wrong
 
 abbrev pub numberAs : Option ℤ → Number
 numberAs (some z) = N.Value z
@@ -50,7 +50,8 @@ numberAs none = N.Wrong
 abbrev pub numbersFrom : List ℕ → ℕ → Option (List ℤ)
 numbersFrom l at = numbersOf (words (drop at l))
 
--- the next number and the place after it, with the numbers from there on; or that none is left; or that a word is no number
+-- the next number and the place after it, with the numbers from there on; or that none is left; or that a word is no
+-- number
 abbrev pub NextAs : List ℕ → ℕ → Next → Type 0
 NextAs l at (X.Number z e) = (at < e) × (e ≤ length l) × (numbersFrom l at ≡ consNumber (some z) (numbersFrom l e))
 NextAs l at X.End = numbersFrom l at ≡ some []

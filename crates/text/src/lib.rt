@@ -199,7 +199,8 @@ fn write_numbers(line: &[u8], list: &mut [i64])
     }
 }
 
-// The numbers of a line, from the front of the list; the rest of the list is untouched. It holds what a line of 1,000 bytes can have, 500 numbers.
+// The numbers of a line, from the front of the list; the rest of the list is untouched. It holds what a line of 1,000
+// bytes can have, 500 numbers.
 pub fn parse(line: &[u8], list: &mut [i64; 500]) -> Parsed
     ensures { λ r. ⌜ ParsedAs (lineNumbers (now (line .entry))) (now (list .entry)) r (now (list .exit)) ⌝ }
 {

@@ -18,10 +18,15 @@ returns c =
     let k = c .before .before in
     let a = k .before .before .before .args in
     let l : Head → Lent = lent (a .nodes .now) (a .edges .now) (a .faces .now) in
-    ap (λ (z : ℤ). record { list = k .edges-of-face .last .1 .1 .1 .1 .1 .0; answer = record { refusal = k .edges-of-face .result .refusal; value = z } }) (toZ-ofZ {w = w64} (sfits-of (c .struct-told .given .1 .0 .1)))
+    ap (λ (z : ℤ). record {
+      list = k .edges-of-face .last .1 .1 .1 .1 .1 .0;
+      answer = record { refusal = k .edges-of-face .result .refusal; value = z };
+    }) (toZ-ofZ {w = w64} (sfits-of (c .struct-told .given .1 .0 .1)))
     ∙ k .edges-of-face .ensures
-    ∙ ap (λ (h : Head). edgesOfFace (l h) (toZ w64 (ofZ w64 (a .face))) (a .list .now)) (k .before .before .head-in .ensures)
-    ∙ ap (λ (z : ℤ). edgesOfFace (l (headIn (a .head .now))) z (a .list .now)) (toZ-ofZ {w = w64} (k .before .before .before .fits .face))
+    ∙ ap (λ (h : Head). edgesOfFace (l h) (toZ w64 (ofZ w64 (a .face))) (a .list .now))
+    (k .before .before .head-in .ensures)
+    ∙ ap (λ (z : ℤ). edgesOfFace (l (headIn (a .head .now))) z (a .list .now))
+    (toZ-ofZ {w = w64} (k .before .before .before .fits .face))
 
 pub solgwid-edges-of-face-spec : {M : Type 1} → statement M
 solgwid-edges-of-face-spec =

@@ -16,8 +16,12 @@ returns c =
     let a = k .before .before .before .before .before .before .args in
     let l : Head → Lent = lent (a .nodes .now) (a .edges .now) (a .faces .now) in
     let after : Head → Lent = lent (k .empty-map .last .0) (k .empty-map .last .1 .0) (k .empty-map .last .1 .1 .0) in
-    ap (λ (h : Head). record { lent = after h; answer = record { refusal = k .empty-map .result .answer .refusal; value = pos 0 } }) (c .put-head .ensures)
-    ∙ emptied-told (l (k .before .head-in .result)) (after (k .empty-map .result .head)) (k .empty-map .result .answer) (k .empty-map .ensures)
+    ap (λ (h : Head). record {
+      lent = after h;
+      answer = record { refusal = k .empty-map .result .answer .refusal; value = pos 0 };
+    }) (c .put-head .ensures)
+    ∙ emptied-told (l (k .before .head-in .result)) (after (k .empty-map .result .head)) (k .empty-map .result .answer)
+    (k .empty-map .ensures)
     ∙ ap (λ (h : Head). emptied (l h)) (k .before .head-in .ensures)
 
 pub solgwid-empty-map-spec : {M : Type 1} → statement M

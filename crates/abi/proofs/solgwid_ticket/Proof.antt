@@ -18,8 +18,18 @@ returns c =
     let a = k .before .before .before .before .before .before .args in
     let l : Head → Lent = lent (a .nodes .now) (a .edges .now) (a .faces .now) in
     let after : Head → Lent = lent (k .ticket .last .0) (k .ticket .last .1 .0) (k .ticket .last .1 .1 .0) in
-    ap (λ (h : Head). record { lent = after h; answer = record { refusal = k .ticket .result .answer .refusal; value = toZ w64 (ofZ w64 (k .ticket .result .answer .value)) } }) (c .before .put-head .ensures)
-    ∙ ap (λ (z : ℤ). record { lent = after (k .ticket .result .head); answer = record { refusal = k .ticket .result .answer .refusal; value = z } }) (toZ-ofZ {w = w64} (sfits-of (c .struct-told .given .1 .0 .1 .1 .1 .0 .1)))
+    ap (λ (h : Head). record {
+      lent = after h;
+      answer =
+          record {
+            refusal = k .ticket .result .answer .refusal;
+            value = toZ w64 (ofZ w64 (k .ticket .result .answer .value));
+          };
+    }) (c .before .put-head .ensures)
+    ∙ ap (λ (z : ℤ). record {
+      lent = after (k .ticket .result .head);
+      answer = record { refusal = k .ticket .result .answer .refusal; value = z };
+    }) (toZ-ofZ {w = w64} (sfits-of (c .struct-told .given .1 .0 .1 .1 .1 .0 .1)))
     ∙ k .ticket .ensures
     ∙ ap (λ (h : Head). ticket (l h) (a .numbers .now)) (k .before .head-in .ensures)
 

@@ -1,4 +1,5 @@
--- `bounding_boxes::extent_of` meets its contract: the extent, widened by the points from i on, is that of the curve. Assumes nothing.
+-- `bounding_boxes::extent_of` meets its contract: the extent, widened by the points from i on, is that of the curve.
+-- Assumes nothing.
 use borrow.Author.Needs.{needs}
 use mathlib.Core.Path.{_≡_, sym, ap, _∙_}
 use Prim.Native.Nat.{_+_, _-_, _≤_, _<_, _/_}
@@ -22,16 +23,22 @@ abbrev μ-loop : tie.MeasureT-loop
 
 loop-holds : tie.Need-loop-holds Inv-loop μ-loop
 loop-holds c =
-    let s = c .before .before in
-    (omega (arith, two-points (s .pre)), rw (curve-is (s .pre)) (ap (λ (p : Point). fold widen (extentAt p) (pointsFrom (s .args .c .now) 1)) (c .before .point-at .ensures .0)))
+    let s = c .before .before in (
+      omega (arith, two-points (s .pre)),
+      rw (curve-is (s .pre)) (ap (λ (p : Point). fold widen (extentAt p) (pointsFrom (s .args .c .now) 1))
+          (c .before .point-at .ensures .0)),
+    )
 
 again : tie.Need-loop-again Inv-loop μ-loop
 again c =
     let b = c .before .before .before in
     let l = b .before .before .before .args .c .now in
     let h : b .loop .i < length l / 2 = omega arith in
-    let w = c .widened .ensures ∙ ap (widen (b .loop .e)) (c .before .point-at2 .ensures .0) in
-    (omega arith, ap (λ (e : Extent). fold widen e (pointsFrom l (b .loop .i + 1))) w ∙ sym (fold-step (pointAt l) (b .loop .i) (length l / 2) widen (b .loop .e) h) ∙ b .loop .inv .1)
+    let w = c .widened .ensures ∙ ap (widen (b .loop .e)) (c .before .point-at2 .ensures .0) in (
+      omega arith,
+      ap (λ (e : Extent). fold widen e (pointsFrom l (b .loop .i + 1))) w
+          ∙ sym (fold-step (pointAt l) (b .loop .i) (length l / 2) widen (b .loop .e) h) ∙ b .loop .inv .1,
+    )
 
 returns : tie.Need-returns Inv-loop μ-loop
 returns c =

@@ -9,7 +9,8 @@ use Rattle.console.proofs.serve.Tie as tie
 slice-aggregate-serve-line-4 : tie.Need-slice-aggregate-serve-line-4
 slice-aggregate-serve-line-4 c =
     let w = c .before .before .before .before .before .before .before .before .before .before .serve-input in
-    sym (length-take-le (w .result .length) (w .last .1 .1 .1 .1 .0) (omega (arith, w .kept .1 .1 .1 .1 .0, w .ensures)))
+    sym (length-take-le (w .result .length) (w .last .1 .1 .1 .1 .0)
+    (omega (arith, w .kept .1 .1 .1 .1 .0, w .ensures)))
 
 pub serve-spec : {M : Type 1} → statement M
 serve-spec =

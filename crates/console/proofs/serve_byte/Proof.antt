@@ -18,8 +18,10 @@ returns c =
     let s = c .before .before .before .before .before .before .before .before .before .before .before in
     let a = s .args in
     let w = c .before .before .before .serve-line in (
-      line-ended (lent (a .nodes .now) (a .edges .now) (a .faces .now) (a .state .head)) (a .line .now) (a .state .length) (a .b) (s .pre .0) (s .pre .1)
-          (lent (w .last .0) (w .last .1 .0) (w .last .1 .1 .0) (w .result)) (c .before .before .before .before .before .before .before .before .if1 .taken) (w .ensures),
+      line-ended (lent (a .nodes .now) (a .edges .now) (a .faces .now) (a .state .head)) (a .line .now)
+          (a .state .length) (a .b) (s .pre .0) (s .pre .1)
+          (lent (w .last .0) (w .last .1 .0) (w .last .1 .1 .0) (w .result))
+          (c .before .before .before .before .before .before .before .before .if1 .taken) (w .ensures),
       omega arith,
     )
 
@@ -27,7 +29,8 @@ returns-2 : tie.Need-returns-2
 returns-2 c =
     let s = c .before .before .before .before in
     let a = s .args in (
-      line-longer (lent (a .nodes .now) (a .edges .now) (a .faces .now) (a .state .head)) (a .line .now) (a .state .length) (a .b) (s .pre .0) (s .pre .1)
+      line-longer (lent (a .nodes .now) (a .edges .now) (a .faces .now) (a .state .head)) (a .line .now)
+          (a .state .length) (a .b) (s .pre .0) (s .pre .1)
           (c .before .if1 .left) (c .if2 .taken),
       omega arith,
     )
@@ -36,7 +39,8 @@ returns-3 : tie.Need-returns-3
 returns-3 c =
     let s = c .before .before .before .before in
     let a = s .args in (
-      line-full (lent (a .nodes .now) (a .edges .now) (a .faces .now) (a .state .head)) (a .line .now) (a .state .length) (a .b) (s .pre .0) (s .pre .1)
+      line-full (lent (a .nodes .now) (a .edges .now) (a .faces .now) (a .state .head)) (a .line .now)
+          (a .state .length) (a .b) (s .pre .0) (s .pre .1)
           (c .before .if1 .left) (c .if2 .left),
       s .pre .1,
     )

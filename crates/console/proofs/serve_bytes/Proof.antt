@@ -15,20 +15,25 @@ use Rattle.console.proofs.serve_bytes.Tie as tie
 abbrev Inv-loop : tie.InvT-loop
 Inv-loop nodes₀ edges₀ faces₀ line₀ bytes rows at₀ i₀ i-end nodes edges faces line at i =
     (i ≤ i-end) × (i-end ≡ length bytes)
-    × (length nodes ≡ length nodes₀) × (length edges ≡ length edges₀) × (length faces ≡ length faces₀) × (length line ≡ length line₀)
+    × (length nodes ≡ length nodes₀) × (length edges ≡ length edges₀) × (length faces ≡ length faces₀)
+    × (length line ≡ length line₀)
     × (at .length ≤ keptBytes)
-    × (fold served (deskOf (lent nodes₀ edges₀ faces₀ (at₀ .head)) line₀ (at₀ .length)) bytes ≡ fold served (deskOf (lent nodes edges faces (at .head)) line (at .length)) (drop i bytes))
+    × (fold served (deskOf (lent nodes₀ edges₀ faces₀ (at₀ .head)) line₀ (at₀ .length)) bytes
+    ≡ fold served (deskOf (lent nodes edges faces (at .head)) line (at .length)) (drop i bytes))
 
 abbrev μ-loop : tie.MeasureT-loop
 μ-loop nodes₀ edges₀ faces₀ line₀ bytes rows at₀ i₀ i-end nodes edges faces line at i = i-end - i
 
 -- the byte at i and then those after it
-turn : (d : Desk) (bytes : List ℕ) (i : ℕ) → i < length bytes → fold served d (drop i bytes) ≡ fold served (served d (getD bytes i 0)) (drop (i + 1) bytes)
+turn : (d : Desk) (bytes : List ℕ) (i : ℕ) → i < length bytes → fold served d (drop i bytes)
+    ≡ fold served (served d (getD bytes i 0)) (drop (i + 1) bytes)
 turn d bytes i h = rw (drop-cons bytes i 0 h, add-one i)
 
 loop-again : tie.Need-loop-again Inv-loop μ-loop
 loop-again c =
-    let bytes = c .before .before .before .before .before .before .before .before .before .before .before .before .before .before .before .args .bytes .now in
+    let bytes =
+    c .before .before .before .before .before .before .before .before .before .before .before .before .before .before
+    .before .args .bytes .now in
     let l = c .before .before .before .before .before .before .before .before .before .before .before .before .loop in
     let w = c .before .before .before .before .before .serve-byte in (
       omega arith,
@@ -38,7 +43,8 @@ loop-again c =
       w .kept .1 .1 .0 ∙ l .inv .4,
       w .kept .1 .1 .1 .1 .0 ∙ l .inv .5,
       w .ensures .1,
-      l .inv .7 ∙ turn (deskOf (lent (l .nodes) (l .edges) (l .faces) (l .at .head)) (l .line) (l .at .length)) bytes (l .i) (omega arith)
+      l .inv .7 ∙ turn (deskOf (lent (l .nodes) (l .edges) (l .faces) (l .at .head)) (l .line) (l .at .length)) bytes
+          (l .i) (omega arith)
           ∙ ap (λ (d : Desk). fold served d (drop (l .i + 1) bytes)) (sym (w .ensures .0)),
     )
 

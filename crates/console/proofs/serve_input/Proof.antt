@@ -10,7 +10,8 @@ use Rattle.console.proofs.serve_input.Tie as tie
 
 abbrev Inv-loop : tie.InvT-loop
 Inv-loop nodes₀ edges₀ faces₀ line₀ rows buf₀ state₀ turns₀ nodes edges faces line buf state turns =
-    (length nodes ≡ length nodes₀) × (length edges ≡ length edges₀) × (length faces ≡ length faces₀) × (length line ≡ length line₀) × (state .length ≤ keptBytes)
+    (length nodes ≡ length nodes₀) × (length edges ≡ length edges₀) × (length faces ≡ length faces₀)
+    × (length line ≡ length line₀) × (state .length ≤ keptBytes)
 
 abbrev μ-loop : tie.MeasureT-loop
 μ-loop nodes₀ edges₀ faces₀ line₀ rows buf₀ state₀ turns₀ nodes edges faces line buf state turns = turns
@@ -22,9 +23,16 @@ serve-bytes-requires c κs =
 
 loop-again : tie.Need-loop-again Inv-loop μ-loop
 loop-again c =
-    let l = c .before .before .before .before .before .before .before .before .before .before .before .before .before .before .before .loop in
-    let w = c .before .before .before .before .before .serve-bytes in
-    (w .kept .0 ∙ l .inv .0, w .kept .1 .0 ∙ l .inv .1, w .kept .1 .1 .0 ∙ l .inv .2, w .kept .1 .1 .1 .1 .0 ∙ l .inv .3, w .ensures .1)
+    let l = c .before .before .before .before .before .before .before .before .before .before .before .before .before
+    .before .before .loop in
+    let w = c .before .before .before .before .before .serve-bytes in (
+      w .kept .0 ∙ l .inv .0,
+      w .kept .1 .0 ∙ l .inv .1,
+      w .kept .1 .1 .0 ∙ l .inv .2,
+      w .kept .1 .1 .1 .1 .0
+          ∙ l .inv .3,
+      w .ensures .1,
+    )
 
 pub serve-input-spec : {M : Type 1} → statement M
 serve-input-spec =

@@ -6,7 +6,8 @@ use Rattle.console.proofs.serve_line.Statement.{statement}
 use Rattle.console.proofs.serve_line.Tie as tie
 
 returns : tie.Need-returns
-returns c = ap (λ (o : Outcome). o .lent) (c .before .before .before .before .before .before .before .before .answer-line .ensures)
+returns c = ap (λ (o : Outcome). o .lent)
+    (c .before .before .before .before .before .before .before .before .answer-line .ensures)
 
 pub serve-line-spec : {M : Type 1} → statement M
 serve-line-spec =

@@ -40,6 +40,7 @@ write-answer-spec =
     (λ c. search needs)
     write-row-requires
     (λ c. within (c .before))
-    (λ c. sym (length-take-le (c .before .before .write-row .result) (c .before .before .write-row .last .0) (within (c .before .before))))
+    (λ c. sym (length-take-le (c .before .before .write-row .result) (c .before .before .write-row .last .0)
+    (within (c .before .before))))
     (λ c κs. search needs)
     (λ c. search needs))

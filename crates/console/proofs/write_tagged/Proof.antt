@@ -10,7 +10,13 @@ use Rattle.console.proofs.write_tagged.Statement.{statement}
 use Rattle.console.proofs.write_tagged.Tie as tie
 
 within : (c : tie.After-write-row) → c .write-row .result ≤ length (c .write-row .last .0)
-within c = omega (arith, c .write-row .ensures .1, c .write-row .kept .0, row-few (c .before .before .args .row .now), c .before .before .pre)
+within c = omega (
+  arith,
+  c .write-row .ensures .1,
+  c .write-row .kept .0,
+  row-few (c .before .before .args .row .now),
+  c .before .before .pre,
+)
 
 pub write-tagged-spec : {M : Type 1} → statement M
 write-tagged-spec =
@@ -20,6 +26,7 @@ write-tagged-spec =
     (λ c. search needs)
     (λ c κs. search needs)
     (λ c. within (c .before))
-    (λ c. sym (length-take-le (c .before .before .write-row .result) (c .before .before .write-row .last .0) (within (c .before .before))))
+    (λ c. sym (length-take-le (c .before .before .write-row .result) (c .before .before .write-row .last .0)
+    (within (c .before .before))))
     (λ c κs. search needs)
     (λ c. search needs))

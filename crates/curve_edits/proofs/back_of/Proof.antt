@@ -18,7 +18,8 @@ returns : tie.Need-returns
 returns c =
     let s = c .before .before .before .before .before in
     let e = sym (c .before .before .first-place .ensures) ∙ c .enum-told .given .1 in
-    c .before .before .before .with-point .ensures .0 [] (c .before .before .before .before .empty .ensures) ∙ ap lineOf (sym (back-missing (s .pre .0) (s .args .m) e))
+    c .before .before .before .with-point .ensures .0 [] (c .before .before .before .before .empty .ensures)
+    ∙ ap lineOf (sym (back-missing (s .pre .0) (s .args .m) e))
 
 add-point-at : tie.Need-add-point-at
 add-point-at c =
@@ -35,44 +36,74 @@ point-at-requires c κs =
 add-with-points : tie.Need-add-with-points
 add-with-points c =
     let s = c .before .before .before .before .before .before .before .before .before .before in
-    let e = sym (c .before .before .before .before .before .before .before .first-place .ensures) ∙ c .before .before .before .before .before .found .given .1 in
+    let e = sym (c .before .before .before .before .before .before .before .first-place .ensures)
+    ∙ c .before .before .before .before .before .found .given .1 in
     omega (arith, found-below (s .pre .0) (s .args .m) _ e, few-points (s .pre .0))
 
 with-points-requires : tie.Need-with-points-requires
 with-points-requires c κs =
     let s = c .before .before .before .before .before .before .before .before .before .before in
-    let e = sym (c .before .before .before .before .before .before .before .first-place .ensures) ∙ c .before .before .before .before .before .found .given .1 in
-    let h = found-below (s .pre .0) (s .args .m) _ e in
-    (s .pre .0, omega arith, omega arith, omega (arith, empty-count (c .before .before .before .before .before .before .before .before .before .empty .result) (c .before .before .before .before .before .before .before .before .before .empty .ensures)))
+    let e = sym (c .before .before .before .before .before .before .before .first-place .ensures)
+    ∙ c .before .before .before .before .before .found .given .1 in
+    let h = found-below (s .pre .0) (s .args .m) _ e in (
+      s .pre .0,
+      omega arith,
+      omega arith,
+      omega (
+        arith,
+        empty-count (c .before .before .before .before .before .before .before .before .before .empty .result)
+            (c .before .before .before .before .before .before .before .before .before .empty .ensures),
+      ),
+    )
 
 add-with-points-2 : tie.Need-add-with-points-2
 add-with-points-2 c =
     let s = c .before .before .before .before .before .before .before .before .before .before in
-    let e = sym (c .before .before .before .before .before .before .before .first-place .ensures) ∙ c .before .before .before .before .before .found .given .1 in
+    let e = sym (c .before .before .before .before .before .before .before .first-place .ensures)
+    ∙ c .before .before .before .before .before .found .given .1 in
     omega (arith, found-below (s .pre .0) (s .args .m) _ e, few-points (s .pre .0))
 
 with-points-requires-2 : tie.Need-with-points-requires-2
 with-points-requires-2 c κs =
     let s = c .before .before .before .before .before .before .before .before .before .before in
-    let e = sym (c .before .before .before .before .before .before .before .first-place .ensures) ∙ c .before .before .before .before .before .found .given .1 in
-    let h = found-below (s .pre .0) (s .args .m) _ e in
-    (s .pre .0, omega arith, omega arith, omega (arith, empty-count (c .before .before .before .before .before .before .before .before .before .empty .result) (c .before .before .before .before .before .before .before .before .before .empty .ensures)))
+    let e = sym (c .before .before .before .before .before .before .before .first-place .ensures)
+    ∙ c .before .before .before .before .before .found .given .1 in
+    let h = found-below (s .pre .0) (s .args .m) _ e in (
+      s .pre .0,
+      omega arith,
+      omega arith,
+      omega (
+        arith,
+        empty-count (c .before .before .before .before .before .before .before .before .before .empty .result)
+            (c .before .before .before .before .before .before .before .before .before .empty .ensures),
+      ),
+    )
 
 returns-2 : tie.Need-returns-2
 returns-2 c =
     let s = c .before .before .before .before .before .before .before .before .before .before .before in
-    let e = sym (c .before .before .before .before .before .before .before .before .first-place .ensures) ∙ c .before .before .before .before .before .before .found .given .1 in
-    let t = sym (ap (samePoint (s .args .m)) (c .before .before .before .point-at .ensures .0)) ∙ sym (c .before .before .same-point .ensures) ∙ c .before .if1 .taken in
-    c .with-points .ensures .0 _ (c .before .before .before .before .before .before .before .before .before .with-point .ensures .0 [] (c .before .before .before .before .before .before .before .before .before .before .empty .ensures))
-    ∙ ap lineOf (rw (c .before .before .before .before .point-count .ensures) (sym (back-vertex (s .pre .0) (s .args .m) _ e t)))
+    let e = sym (c .before .before .before .before .before .before .before .before .first-place .ensures)
+    ∙ c .before .before .before .before .before .before .found .given .1 in
+    let t = sym (ap (samePoint (s .args .m)) (c .before .before .before .point-at .ensures .0))
+    ∙ sym (c .before .before .same-point .ensures) ∙ c .before .if1 .taken in
+    c .with-points .ensures .0 _
+    (c .before .before .before .before .before .before .before .before .before .with-point .ensures .0 []
+    (c .before .before .before .before .before .before .before .before .before .before .empty .ensures))
+    ∙ ap lineOf (rw (c .before .before .before .before .point-count .ensures)
+    (sym (back-vertex (s .pre .0) (s .args .m) _ e t)))
 
 returns-3 : tie.Need-returns-3
 returns-3 c =
     let s = c .before .before .before .before .before .before .before .before .before .before .before in
-    let e = sym (c .before .before .before .before .before .before .before .before .first-place .ensures) ∙ c .before .before .before .before .before .before .found .given .1 in
-    let t = sym (ap (samePoint (s .args .m)) (c .before .before .before .point-at .ensures .0)) ∙ sym (c .before .before .same-point .ensures) ∙ c .before .if1 .left in
-    c .with-points2 .ensures .0 _ (c .before .before .before .before .before .before .before .before .before .with-point .ensures .0 [] (c .before .before .before .before .before .before .before .before .before .before .empty .ensures))
-    ∙ ap lineOf (rw (c .before .before .before .before .point-count .ensures) (sym (back-inside (s .pre .0) (s .args .m) _ e t)))
+    let e = sym (c .before .before .before .before .before .before .before .before .first-place .ensures)
+    ∙ c .before .before .before .before .before .before .found .given .1 in
+    let t = sym (ap (samePoint (s .args .m)) (c .before .before .before .point-at .ensures .0))
+    ∙ sym (c .before .before .same-point .ensures) ∙ c .before .if1 .left in
+    c .with-points2 .ensures .0 _
+    (c .before .before .before .before .before .before .before .before .before .with-point .ensures .0 []
+    (c .before .before .before .before .before .before .before .before .before .before .empty .ensures))
+    ∙ ap lineOf (rw (c .before .before .before .before .point-count .ensures)
+    (sym (back-inside (s .pre .0) (s .args .m) _ e t)))
 
 pub back-of-spec : {M : Type 1} → statement M
 back-of-spec =

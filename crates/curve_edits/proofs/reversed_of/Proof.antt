@@ -30,7 +30,9 @@ again c =
     let n = c .before .before .before .before .before .point-count .result in
     let l = c .before .before .before .before .before .before .args .c .now in (
       omega arith,
-      c .with-point .ensures .0 _ (inv .1) ∙ ap lineOf (points-more (λ j. pointAt l (n - 1 - j)) 0 (c .before .before .before .loop .i) [] (omega arith) (c .before .point-at .ensures .0)),
+      c .with-point .ensures .0 _ (inv .1)
+          ∙ ap lineOf (points-more (λ j. pointAt l (n - 1 - j)) 0 (c .before .before .before .loop .i) [] (omega arith)
+          (c .before .point-at .ensures .0)),
       omega arith,
     )
 

@@ -1,4 +1,5 @@
--- `curve_edits::with_point` meets its contract: the row has room for the point, or only its number grows. Assumes nothing.
+-- `curve_edits::with_point` meets its contract: the row has room for the point, or only its number grows. Assumes
+-- nothing.
 use borrow.Author.Needs.{needs}
 use mathlib.Core.Path.{refl}
 use mathlib.Core.Logic.{⊎-elim}
@@ -13,7 +14,10 @@ use Rattle.curve_edits.proofs.with_point.Tie as tie
 returns : tie.Need-returns
 returns c =
     let s = c .before .before in (
-      (λ ps e. ⊎-elim (λ w. point-stored (s .args .line) (s .args .p) _ ps e (w .0 .taken) (toZ-pos w64 (lt-of-le-of-lt (s .pre .0 .x) (lit< tt))) (toZ-pos w64 (lt-of-le-of-lt (s .pre .0 .y) (lit< tt))) (w .3)) (λ w. point-counted (s .args .line) (s .args .p) _ ps e (w .0 .left) (w .1)) (c .if1 .came)),
+      (λ ps e. ⊎-elim (λ w. point-stored (s .args .line) (s .args .p) _ ps e (w .0 .taken)
+          (toZ-pos w64 (lt-of-le-of-lt (s .pre .0 .x) (lit< tt)))
+          (toZ-pos w64 (lt-of-le-of-lt (s .pre .0 .y) (lit< tt))) (w .3))
+          (λ w. point-counted (s .args .line) (s .args .p) _ ps e (w .0 .left) (w .1)) (c .if1 .came)),
       refl,
     )
 

@@ -14,13 +14,19 @@ use Rattle.curve_edits.proofs.with_points.Tie as tie
 
 abbrev Inv-loop : tie.InvT-loop
 Inv-loop c from to out₀ i₀ out i =
-    (from ≤ i) × (i ≤ to) × ((ps : List Point) → out₀ ≡ lineOf ps → out ≡ lineOf (ps ++ table (pointAt c) from (i - from))) × (out .count ≡ out₀ .count + (i - from))
+    (from ≤ i) × (i ≤ to) × ((ps : List Point) → out₀ ≡ lineOf ps → out
+    ≡ lineOf (ps ++ table (pointAt c) from (i - from))) × (out .count ≡ out₀ .count + (i - from))
 
 abbrev μ-loop : tie.MeasureT-loop
 μ-loop c from to out₀ i₀ out i = to - i
 
 loop-holds : tie.Need-loop-holds Inv-loop μ-loop
-loop-holds c = (omega arith, omega arith, (λ ps e. e ∙ ap lineOf (sym (points-none (pointAt (c .args .c .now)) (c .args .from) ps))), omega arith)
+loop-holds c = (
+  omega arith,
+  omega arith,
+  (λ ps e. e ∙ ap lineOf (sym (points-none (pointAt (c .args .c .now)) (c .args .from) ps))),
+  omega arith,
+)
 
 again : tie.Need-loop-again Inv-loop μ-loop
 again c =
@@ -28,7 +34,9 @@ again c =
     let inv = c .before .before .before .loop .inv in (
       omega arith,
       omega arith,
-      (λ ps e. c .with-point .ensures .0 _ (inv .2 ps e) ∙ ap lineOf (points-more (pointAt (a .c .now)) (a .from) (c .before .before .before .loop .i) ps (inv .0) (c .before .point-at .ensures .0))),
+      (λ ps e. c .with-point .ensures .0 _ (inv .2 ps e)
+          ∙ ap lineOf (points-more (pointAt (a .c .now)) (a .from) (c .before .before .before .loop .i) ps (inv .0)
+          (c .before .point-at .ensures .0))),
       omega arith,
     )
 

@@ -1,4 +1,5 @@
--- `curves::has_straight_point` meets its contract: a point after point i is straight if and only if an inner one is. Assumes nothing.
+-- `curves::has_straight_point` meets its contract: a point after point i is straight if and only if an inner one is.
+-- Assumes nothing.
 use borrow.Author.Needs.{needs}
 use mathlib.Core.Path.{_≡_, sym, _∙_}
 use Prim.Native.Nat.{_+_, _-_, _≤_}
@@ -23,17 +24,29 @@ loop-holds c = (omega arith, rw (curve-is (c .before .pre)))
 hit : tie.Need-returns Inv-loop μ-loop
 hit c =
     let s = c .before .before .before .before .before .before .before in
-    let e = asked₃ straightBetween (c .before .before .before .before .point-at .ensures .0) (c .before .before .before .point-at2 .ensures .0) (c .before .before .point-at3 .ensures .0) (c .before .straight-between .ensures) (c .if1 .taken) in
-    sym (straight-hit (s .before .args .c .now) _ _ (s .segment-count .ensures .0) (c .before .before .before .before .before .loop-test .taken) e) ∙ c .before .before .before .before .before .before .loop .inv .1
+    let e = asked₃ straightBetween (c .before .before .before .before .point-at .ensures .0)
+    (c .before .before .before .point-at2 .ensures .0) (c .before .before .point-at3 .ensures .0)
+    (c .before .straight-between .ensures) (c .if1 .taken) in
+    sym (straight-hit (s .before .args .c .now) _ _ (s .segment-count .ensures .0)
+    (c .before .before .before .before .before .loop-test .taken) e)
+    ∙ c .before .before .before .before .before .before .loop .inv .1
 
 again : tie.Need-loop-again Inv-loop μ-loop
 again c =
     let s = c .before .before .before .before .before .before .before in
-    let e = asked₃ straightBetween (c .before .before .before .before .point-at .ensures .0) (c .before .before .before .point-at2 .ensures .0) (c .before .before .point-at3 .ensures .0) (c .before .straight-between .ensures) (c .if1 .left) in
-    (omega arith, sym (straight-miss (s .before .args .c .now) _ _ (s .segment-count .ensures .0) (c .before .before .before .before .before .loop-test .taken) e) ∙ c .before .before .before .before .before .before .loop .inv .1)
+    let e = asked₃ straightBetween (c .before .before .before .before .point-at .ensures .0)
+    (c .before .before .before .point-at2 .ensures .0) (c .before .before .point-at3 .ensures .0)
+    (c .before .straight-between .ensures) (c .if1 .left) in (
+      omega arith,
+      sym (straight-miss (s .before .args .c .now) _ _ (s .segment-count .ensures .0)
+          (c .before .before .before .before .before .loop-test .taken) e)
+          ∙ c .before .before .before .before .before .before .loop .inv .1,
+    )
 
 end : tie.Need-returns-2 Inv-loop μ-loop
-end c = sym (straight-end (c .before .before .before .args .c .now) _ _ (c .before .before .segment-count .ensures .0) (c .before .before .segment-count .ensures .1) (c .loop-test .left) (c .before .loop .inv .0)) ∙ c .before .loop .inv .1
+end c = sym (straight-end (c .before .before .before .args .c .now) _ _ (c .before .before .segment-count .ensures .0)
+    (c .before .before .segment-count .ensures .1) (c .loop-test .left) (c .before .loop .inv .0))
+    ∙ c .before .loop .inv .1
 
 pub has-straight-point-spec : {M : Type 1} → statement M
 has-straight-point-spec =

@@ -6,14 +6,14 @@ use Prim.Native.Nat.{_+_, _-_, _≤_}
 use native.Mathlib.Omega.{arith}
 use lib.IntN.{pos}
 use lib.ListN.{length, getD, drop, drop-of-length-le}
-use Rattle.lists.specs.Scans.{all}
+use Rattle.lists.specs.Scans.{allOf}
 use Rattle.curves.specs.Curves.{coordinate}
 use Rattle.curves.proofs.Runs.{all-drop, coordinate-tested, not-few, if-few}
 use Rattle.curves.proofs.is_run.Statement.{statement}
 use Rattle.curves.proofs.is_run.Tie as tie
 
 abbrev Inv-loop : tie.InvT-loop
-Inv-loop c n i₀ i-end i = (i ≤ length c) × (all coordinate (drop i c) ≡ all coordinate c)
+Inv-loop c n i₀ i-end i = (i ≤ length c) × (allOf coordinate (drop i c) ≡ allOf coordinate c)
 
 abbrev μ-loop : tie.MeasureT-loop
 μ-loop c n i₀ i-end i = length c - i
@@ -26,20 +26,27 @@ hit c =
     let l = c .before .before .before .before .before .before .args .c .now in
     let i = c .before .before .before .loop .i in
     let e = coordinate-tested {z = getD l i (pos 0)} (sfits-of (c .before .z .given)) ∙ ap not (c .if2 .taken) in
-    sym (ap (λ t. t && all coordinate (drop (i + 1) l)) e) ∙ sym (all-drop coordinate l i (pos 0) (c .before .before .loop-test .taken)) ∙ c .before .before .before .loop .inv .1
-    ∙ sym (if-few l (rw (c .before .before .before .before .before .point-count .ensures) at (c .before .before .before .before .if1 .left)))
+    sym (ap (λ t. t && allOf coordinate (drop (i + 1) l)) e)
+    ∙ sym (all-drop coordinate l i (pos 0) (c .before .before .loop-test .taken))
+    ∙ c .before .before .before .loop .inv .1
+    ∙ sym (if-few l (rw (c .before .before .before .before .before .point-count .ensures) at
+    (c .before .before .before .before .if1 .left)))
 
 again : tie.Need-loop-again Inv-loop μ-loop
 again c =
     let l = c .before .before .before .before .before .before .args .c .now in
     let i = c .before .before .before .loop .i in
-    let e = coordinate-tested {z = getD l i (pos 0)} (sfits-of (c .before .z .given)) ∙ ap not (c .if2 .left) in
-    (omega arith, sym (ap (λ t. t && all coordinate (drop (i + 1) l)) e) ∙ sym (all-drop coordinate l i (pos 0) (c .before .before .loop-test .taken)) ∙ c .before .before .before .loop .inv .1)
+    let e = coordinate-tested {z = getD l i (pos 0)} (sfits-of (c .before .z .given)) ∙ ap not (c .if2 .left) in (
+      omega arith,
+      sym (ap (λ t. t && allOf coordinate (drop (i + 1) l)) e)
+          ∙ sym (all-drop coordinate l i (pos 0) (c .before .before .loop-test .taken))
+          ∙ c .before .before .before .loop .inv .1,
+    )
 
 end : tie.Need-returns-3 Inv-loop μ-loop
 end c =
     let l = c .before .before .before .before .args .c .now in
-    sym (ap (all coordinate) (drop-of-length-le l (c .loop-test .left))) ∙ c .before .loop .inv .1
+    sym (ap (allOf coordinate) (drop-of-length-le l (c .loop-test .left))) ∙ c .before .loop .inv .1
     ∙ sym (if-few l (rw (c .before .before .before .point-count .ensures) at (c .before .before .if1 .left)))
 
 pub is-run-spec : {M : Type 1} → statement M

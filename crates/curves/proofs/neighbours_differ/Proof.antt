@@ -1,4 +1,5 @@
--- `curves::neighbours_differ` meets its contract: neighbours differ from point i on if and only if they differ. Assumes nothing.
+-- `curves::neighbours_differ` meets its contract: neighbours differ from point i on if and only if they differ. Assumes
+-- nothing.
 use borrow.Author.Needs.{needs}
 use mathlib.Core.Path.{_≡_, sym, _∙_}
 use Prim.Native.Nat.{_+_, _-_, _≤_}
@@ -23,17 +24,25 @@ loop-holds c = (omega arith, rw (curve-is (c .before .pre)))
 hit : tie.Need-returns Inv-loop μ-loop
 hit c =
     let s = c .before .before .before .before .before .before in
-    let e = asked samePoint (c .before .before .before .point-at .ensures .0) (c .before .before .point-at2 .ensures .0) (c .before .same-point .ensures) (c .if1 .taken) in
-    sym (differs-hit (s .before .args .c .now) _ (s .segment-count .ensures .0) (c .before .before .before .before .loop-test .taken) e) ∙ c .before .before .before .before .before .loop .inv .1
+    let e = asked samePoint (c .before .before .before .point-at .ensures .0)
+    (c .before .before .point-at2 .ensures .0) (c .before .same-point .ensures) (c .if1 .taken) in
+    sym (differs-hit (s .before .args .c .now) _ (s .segment-count .ensures .0)
+    (c .before .before .before .before .loop-test .taken) e) ∙ c .before .before .before .before .before .loop .inv .1
 
 again : tie.Need-loop-again Inv-loop μ-loop
 again c =
     let s = c .before .before .before .before .before .before in
-    let e = asked samePoint (c .before .before .before .point-at .ensures .0) (c .before .before .point-at2 .ensures .0) (c .before .same-point .ensures) (c .if1 .left) in
-    (omega arith, sym (differs-miss (s .before .args .c .now) _ (s .segment-count .ensures .0) (c .before .before .before .before .loop-test .taken) e) ∙ c .before .before .before .before .before .loop .inv .1)
+    let e = asked samePoint (c .before .before .before .point-at .ensures .0)
+    (c .before .before .point-at2 .ensures .0) (c .before .same-point .ensures) (c .if1 .left) in (
+      omega arith,
+      sym (differs-miss (s .before .args .c .now) _ (s .segment-count .ensures .0)
+          (c .before .before .before .before .loop-test .taken) e)
+          ∙ c .before .before .before .before .before .loop .inv .1,
+    )
 
 end : tie.Need-returns-2 Inv-loop μ-loop
-end c = sym (differs-end (c .before .before .before .args .c .now) _ (c .before .before .segment-count .ensures .0) (c .loop-test .left)) ∙ c .before .loop .inv .1
+end c = sym (differs-end (c .before .before .before .args .c .now) _ (c .before .before .segment-count .ensures .0)
+    (c .loop-test .left)) ∙ c .before .loop .inv .1
 
 pub neighbours-differ-spec : {M : Type 1} → statement M
 neighbours-differ-spec =

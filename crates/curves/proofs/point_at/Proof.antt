@@ -1,4 +1,5 @@
--- `curves::point_at` meets its contract: the numbers of a run are coordinates, so each cast keeps its number. Assumes nothing.
+-- `curves::point_at` meets its contract: the numbers of a run are coordinates, so each cast keeps its number. Assumes
+-- nothing.
 use borrow.Author.Needs.{needs}
 use mathlib.Core.Path.{refl}
 use Prim.Native.Nat.{_+_, _*_}

@@ -24,7 +24,8 @@ unfolding segWrong
 returns-3 c =
     let l = c .before .before .before .before .before .before .before .args .l in
     rw (
-      sym (c .before .before .before .before .before .before .segments-meet .ensures) ∙ not-false _ (c .before .before .before .before .before .if1 .left),
+      sym (c .before .before .before .before .before .before .segments-meet .ensures)
+          ∙ not-false _ (c .before .before .before .before .before .if1 .left),
       sym (c .before .before .before .before .segments-stretch .ensures) ∙ c .before .before .before .if2 .left,
       shares-is (l .«first_may») (l .«last_may») (l .first) (l .last),
       sym (c .before .shared-at .ensures) ∙ c .if3 .taken,
@@ -35,8 +36,10 @@ unfolding segWrong
 returns-4 c =
     let l = c .before .before .before .before .before .before .before .before .before .args .l in
     rw (
-      sym (c .before .before .before .before .before .before .before .before .segments-meet .ensures) ∙ not-false _ (c .before .before .before .before .before .before .before .if1 .left),
-      sym (c .before .before .before .before .before .before .segments-stretch .ensures) ∙ c .before .before .before .before .before .if2 .left,
+      sym (c .before .before .before .before .before .before .before .before .segments-meet .ensures)
+          ∙ not-false _ (c .before .before .before .before .before .before .before .if1 .left),
+      sym (c .before .before .before .before .before .before .segments-stretch .ensures)
+          ∙ c .before .before .before .before .before .if2 .left,
       shares-is (l .«first_may») (l .«last_may») (l .first) (l .last),
       sym (c .before .before .before .shared-at .ensures) ∙ c .before .before .if3 .left,
       c .shared-at2 .ensures,
@@ -45,4 +48,5 @@ returns-4 c =
 pub segments-wrong-spec : {M : Type 1} → statement M
 segments-wrong-spec =
     tie.close
-    (tie.spec (λ c κs. search needs) returns (λ c κs. search needs) returns-2 (λ c κs. search needs) returns-3 (λ c κs. search needs) returns-4)
+    (tie.spec (λ c κs. search needs) returns (λ c κs. search needs) returns-2 (λ c κs. search needs) returns-3
+    (λ c κs. search needs) returns-4)

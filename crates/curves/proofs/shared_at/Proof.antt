@@ -10,7 +10,10 @@ returns c = rw (not-true (c .before .args .may) (c .if1 .taken))
 
 returns-2 : tie.Need-returns-2
 returns-2 c =
-    rw (not-false (c .before .before .before .args .may) (c .before .before .if1 .left), sym (c .before .on-segment .ensures) ∙ not-true _ (c .if2 .taken))
+    rw (
+      not-false (c .before .before .before .args .may) (c .before .before .if1 .left),
+      sym (c .before .on-segment .ensures) ∙ not-true _ (c .if2 .taken),
+    )
 
 returns-3 : tie.Need-returns-3
 returns-3 c =

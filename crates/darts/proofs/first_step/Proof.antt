@@ -15,7 +15,10 @@ point-at-requires : tie.Need-point-at-requires
 point-at-requires c κs = (c .before .before .before .pre, omega (arith, two-points (c .before .before .before .pre)))
 
 point-at-requires-2 : tie.Need-point-at-requires-2
-point-at-requires-2 c κs = (c .before .before .before .before .pre, omega (arith, two-points (c .before .before .before .before .pre)))
+point-at-requires-2 c κs = (
+  c .before .before .before .before .pre,
+  omega (arith, two-points (c .before .before .before .before .pre)),
+)
 
 -- two points, back
 returns : tie.Need-returns
@@ -24,19 +27,30 @@ returns c =
     let s = t .before .before in
     let l = s .before .args .c .now in
     along (c .before .point-at .ensures) (c .point-at2 .ensures)
-    (ap (λ (b : Bool). startWay (course b (curveOf l))) (t .before .if1 .taken) ∙ start-back (s .before .pre) 2 (sym (t .if2 .taken) ∙ s .point-count .ensures))
+    (ap (λ (b : Bool). startWay (course b (curveOf l))) (t .before .if1 .taken)
+    ∙ start-back (s .before .pre) 2 (sym (t .if2 .taken) ∙ s .point-count .ensures))
 
 sub-point-at : tie.Need-sub-point-at
 sub-point-at c = omega (arith, two-points (c .before .before .before .pre), c .before .before .point-count .ensures)
 
 point-at-requires-3 : tie.Need-point-at-requires-3
-point-at-requires-3 c κs = (c .before .before .before .pre, omega (arith, two-points (c .before .before .before .pre), c .before .before .point-count .ensures))
+point-at-requires-3 c κs = (
+  c .before .before .before .pre,
+  omega (arith, two-points (c .before .before .before .pre), c .before .before .point-count .ensures),
+)
 
 sub-point-at-2 : tie.Need-sub-point-at-2
-sub-point-at-2 c = omega (arith, two-points (c .before .before .before .before .pre), c .before .before .before .point-count .ensures)
+sub-point-at-2 c = omega (
+  arith,
+  two-points (c .before .before .before .before .pre),
+  c .before .before .before .point-count .ensures,
+)
 
 point-at-requires-4 : tie.Need-point-at-requires-4
-point-at-requires-4 c κs = (c .before .before .before .before .pre, omega (arith, two-points (c .before .before .before .before .pre), c .before .before .before .point-count .ensures))
+point-at-requires-4 c κs = (
+  c .before .before .before .before .pre,
+  omega (arith, two-points (c .before .before .before .before .pre), c .before .before .before .point-count .ensures),
+)
 
 returns-2 : tie.Need-returns-2
 returns-2 c =
@@ -44,7 +58,8 @@ returns-2 c =
     let s = t .before .before in
     let l = s .before .args .c .now in
     along (c .before .point-at3 .ensures) (c .point-at4 .ensures)
-    (ap (λ (b : Bool). startWay (course b (curveOf l))) (t .before .if1 .taken) ∙ start-back (s .before .pre) (s .point-count .result) (s .point-count .ensures))
+    (ap (λ (b : Bool). startWay (course b (curveOf l))) (t .before .if1 .taken)
+    ∙ start-back (s .before .pre) (s .point-count .result) (s .point-count .ensures))
 
 point-at-requires-5 : tie.Need-point-at-requires-5
 point-at-requires-5 c κs = (c .before .before .pre, omega (arith, two-points (c .before .before .pre)))

@@ -22,16 +22,27 @@ use Rattle.darts.proofs.dart_cell.Reads as dart-cell-reads
 use Rattle.darts.proofs.position_of.Reads as position-of-reads
 
 -- what the search answers
-answer : (c : lts.After-position-of (dart-cell-reads.Asked, dart-cell-reads.Learnt, position-of-reads.Asked, position-of-reads.Learnt) reads.Pre reads.Post) → c .position-of .result ≡ At (next-there (c .before .before .pre .0) (c .before .before .args .p) (c .before .before .pre .1) .0)
+answer : (c : lts.After-position-of (
+  dart-cell-reads.Asked,
+  dart-cell-reads.Learnt,
+  position-of-reads.Asked,
+  position-of-reads.Learnt,
+) reads.Pre reads.Post) → c .position-of .result
+    ≡ At (next-there (c .before .before .pre .0) (c .before .before .args .p) (c .before .before .pre .1) .0)
 answer c =
     let s = c .before .before in
     next-place (s .pre .0) (s .args .p) (s .pre .1) (c .position-of .result)
-    (c .position-of .ensures ∙ ap (λ (z : ℤ). place (λ d. sameDart d (dartOf z)) 0 (directed (edgeMap (s .args .edges .now) (s .args .count)))) (toZ-ofZ {w = w64} {z = c .before .dart-cell .result} (sfits-of (c .before .dart-cell .ok)) ∙ c .before .dart-cell .ensures))
+    (c .position-of .ensures ∙ ap (λ (z : ℤ). place (λ d. sameDart d (dartOf z)) 0
+    (directed (edgeMap (s .args .edges .now) (s .args .count))))
+    (toZ-ofZ {w = w64} {z = c .before .dart-cell .result} (sfits-of (c .before .dart-cell .ok))
+    ∙ c .before .dart-cell .ensures))
 
 returns : tie.Need-returns
 returns c =
     let s = c .before .before in
-    let e : Missing ≡ At (next-there (s .before .before .pre .0) (s .before .before .args .p) (s .before .before .pre .1) .0) = sym (c .enum-told .given .1) ∙ answer s in
+    let e : Missing
+    ≡ At (next-there (s .before .before .pre .0) (s .before .before .args .p) (s .before .before .pre .1) .0) =
+    sym (c .enum-told .given .1) ∙ answer s in
     let z : _≡_ {A = ℕ} 0 1 = cc in
     absurd (omega arith)
 
@@ -42,7 +53,10 @@ returns-2 c =
     let q = next-there (s .before .before .pre .0) (a .p) (s .before .before .pre .1) in
     let f : At (q .0) ≡ At (c .before .found .given .0 .0) = sym (answer s) ∙ c .before .found .given .1 in
     let e : q .0 ≡ c .before .found .given .0 .0 = cc in
-    subst (λ (k : ℕ). (k < a .count * 2) × (dartAt (a .edges .now) k ≡ next (edgeMap (a .edges .now) (a .count)) (dartAt (a .edges .now) (a .p)))) e (q .1, q .2)
+    subst (λ (k : ℕ). (k < a .count * 2)
+    × (dartAt (a .edges .now) k ≡ next (edgeMap (a .edges .now) (a .count)) (dartAt (a .edges .now) (a .p)))) e
+    (q .1, q .2)
 
 pub next-position-spec : {M : Type 1} → statement M
-next-position-spec = tie.close (tie.spec (λ c κs. search needs) (λ c κs. search needs) (λ c. search needs) (λ c. search needs) returns returns-2)
+next-position-spec = tie.close (tie.spec (λ c κs. search needs) (λ c κs. search needs) (λ c. search needs)
+    (λ c. search needs) returns returns-2)

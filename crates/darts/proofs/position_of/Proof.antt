@@ -17,7 +17,8 @@ use Rattle.map.specs.Rows.{dartOf}
 use Rattle.map.specs.Darts.{directed}
 use Rattle.tables.specs.Tables.{edgeMap}
 use Rattle.tables.proofs.Rows.{edge-rows-rising}
-use Rattle.darts.proofs.Positions.{far, far-none, negative-found, negative-missing, positive-found, positive-missing, near-fits}
+use Rattle.darts.proofs.Positions.{far, far-none, negative-found, negative-missing, positive-found}
+use Rattle.darts.proofs.Positions.{positive-missing, near-fits}
 use Rattle.darts.proofs.position_of.Statement.{statement}
 use Rattle.darts.proofs.position_of.Tie as tie
 use Rattle.darts.proofs.position_of.Reads as reads
@@ -31,7 +32,8 @@ Sought l n d i p = (i < n) × (place (λ c. sameDart c (dartOf d)) 0 (directed (
 returns : tie.Need-returns
 returns c =
     let s = c .before in
-    sym (far-none (s .pre) (s .args .d) (subst (λ (z : ℤ). far z ≡ true) (toZ-ofZ {w = w64} (s .fits .d)) (c .if1 .taken)))
+    sym (far-none (s .pre) (s .args .d)
+    (subst (λ (z : ℤ). far z ≡ true) (toZ-ofZ {w = w64} (s .fits .d)) (c .if1 .taken)))
 
 sub-find-row : tie.Need-sub-find-row
 sub-find-row c =
@@ -43,15 +45,24 @@ returns-2 c =
     let b = c .before .before in
     let s = b .before .before .before in
     let e = toZ-ofZ {w = w64} (s .fits .d) in
-    sym (negative-missing (s .pre) (s .args .d) _ (subst (λ (z : ℤ). ltZ z (pos 0) ≡ true) e (b .before .if2 .taken)) (toZ-ofZ (sub-find-row (b .before)) ∙ ap (λ (z : ℤ). pos 0 -ℤ z) e) (sym (b .find-row .ensures) ∙ c .enum-told .given .1))
+    sym (negative-missing (s .pre) (s .args .d) _ (subst (λ (z : ℤ). ltZ z (pos 0) ≡ true) e (b .before .if2 .taken))
+    (toZ-ofZ (sub-find-row (b .before)) ∙ ap (λ (z : ℤ). pos 0 -ℤ z) e)
+    (sym (b .find-row .ensures) ∙ c .enum-told .given .1))
 
 -- the row of an edge whose reverse is looked for
-back : (c : lts.After-known-told (find-row-reads.Asked, find-row-reads.Learnt) reads.Pre reads.Post) → Sought (c .before .before .before .before .before .before .args .edges .now) (c .before .before .before .before .before .before .args .count) (c .before .before .before .before .before .before .args .d) (c .before .found .given .0 .0) (c .before .found .given .0 .0 * 2 + 1)
+back : (c : lts.After-known-told (find-row-reads.Asked, find-row-reads.Learnt) reads.Pre reads.Post)
+    → Sought (c .before .before .before .before .before .before .args .edges .now)
+    (c .before .before .before .before .before .before .args .count)
+    (c .before .before .before .before .before .before .args .d) (c .before .found .given .0 .0)
+    (c .before .found .given .0 .0 * 2 + 1)
 back c =
     let b = c .before .before .before in
     let s = b .before .before .before in
     let e = toZ-ofZ {w = w64} (s .fits .d) in
-    negative-found (s .pre) (s .args .d) _ (c .before .found .given .0 .0) (subst (λ (z : ℤ). ltZ z (pos 0) ≡ true) e (b .before .if2 .taken)) (toZ-ofZ (sub-find-row (b .before)) ∙ ap (λ (z : ℤ). pos 0 -ℤ z) e) (sym (b .find-row .ensures) ∙ c .before .found .given .1)
+    negative-found (s .pre) (s .args .d) _ (c .before .found .given .0 .0)
+    (subst (λ (z : ℤ). ltZ z (pos 0) ≡ true) e (b .before .if2 .taken))
+    (toZ-ofZ (sub-find-row (b .before)) ∙ ap (λ (z : ℤ). pos 0 -ℤ z) e)
+    (sym (b .find-row .ensures) ∙ c .before .found .given .1)
 
 mul-t12 : tie.Need-mul-t12
 mul-t12 c = omega (arith, back c .0, c .before .before .before .before .before .before .pre .fits)
@@ -67,15 +78,22 @@ returns-4 c =
     let b = c .before .before in
     let s = b .before .before .before in
     let e = toZ-ofZ {w = w64} (s .fits .d) in
-    sym (positive-missing (s .pre) (s .args .d) _ (subst (λ (z : ℤ). ltZ z (pos 0) ≡ false) e (b .before .if2 .left)) e (sym (b .find-row2 .ensures) ∙ c .enum-told2 .given .1))
+    sym (positive-missing (s .pre) (s .args .d) _ (subst (λ (z : ℤ). ltZ z (pos 0) ≡ false) e (b .before .if2 .left)) e
+    (sym (b .find-row2 .ensures) ∙ c .enum-told2 .given .1))
 
 -- the row of an edge that is looked for
-forward : (c : lts.After-known-told2 (find-row-reads.Asked, find-row-reads.Learnt) reads.Pre reads.Post) → Sought (c .before .before .before .before .before .before .args .edges .now) (c .before .before .before .before .before .before .args .count) (c .before .before .before .before .before .before .args .d) (c .before .found2 .given .0 .0) (c .before .found2 .given .0 .0 * 2)
+forward : (c : lts.After-known-told2 (find-row-reads.Asked, find-row-reads.Learnt) reads.Pre reads.Post)
+    → Sought (c .before .before .before .before .before .before .args .edges .now)
+    (c .before .before .before .before .before .before .args .count)
+    (c .before .before .before .before .before .before .args .d) (c .before .found2 .given .0 .0)
+    (c .before .found2 .given .0 .0 * 2)
 forward c =
     let b = c .before .before .before in
     let s = b .before .before .before in
     let e = toZ-ofZ {w = w64} (s .fits .d) in
-    positive-found (s .pre) (s .args .d) _ (c .before .found2 .given .0 .0) (subst (λ (z : ℤ). ltZ z (pos 0) ≡ false) e (b .before .if2 .left)) e (sym (b .find-row2 .ensures) ∙ c .before .found2 .given .1)
+    positive-found (s .pre) (s .args .d) _ (c .before .found2 .given .0 .0)
+    (subst (λ (z : ℤ). ltZ z (pos 0) ≡ false) e (b .before .if2 .left)) e
+    (sym (b .find-row2 .ensures) ∙ c .before .found2 .given .1)
 
 mul-t14 : tie.Need-mul-t14
 mul-t14 c = omega (arith, forward c .0, c .before .before .before .before .before .before .pre .fits)

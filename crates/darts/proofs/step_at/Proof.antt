@@ -11,7 +11,8 @@ use Rattle.darts.proofs.step_at.Tie as tie
 returns : tie.Need-returns
 unfolding same
 returns c =
-    subst (λ (k : Curve). Along (c .first-step .result) (startWay (course (odd (c .before .before .args .p)) k))) (c .before .curve-of .ensures .1) (c .first-step .ensures)
+    subst (λ (k : Curve). Along (c .first-step .result) (startWay (course (odd (c .before .before .args .p)) k)))
+    (c .before .curve-of .ensures .1) (c .first-step .ensures)
 
 pub step-at-spec : {M : Type 1} → statement M
 step-at-spec = tie.close (tie.spec (λ c κs. search needs) (λ c κs. search needs) returns)

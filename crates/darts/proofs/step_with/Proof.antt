@@ -15,14 +15,18 @@ returns : tie.Need-returns
 unfolding same
 returns c =
     let a = c .before .before .args in
-    let e = ap (λ (b : Bool). cond b (curveOf (a .c .now)) (edgeAt (a .edges .now) (a .p / 2) .curve)) (same-eq (a .p / 2) (a .own) (c .before .if1 .taken)) in
-    subst (λ (k : Curve). Along (c .first-step .result) (startWay (course (odd (a .p)) k))) (sym e) (c .first-step .ensures)
+    let e = ap (λ (b : Bool). cond b (curveOf (a .c .now)) (edgeAt (a .edges .now) (a .p / 2) .curve))
+    (same-eq (a .p / 2) (a .own) (c .before .if1 .taken)) in
+    subst (λ (k : Curve). Along (c .first-step .result) (startWay (course (odd (a .p)) k))) (sym e)
+    (c .first-step .ensures)
 
 returns-2 : tie.Need-returns-2
 returns-2 c =
     let a = c .before .before .args in
-    let e = ap (λ (b : Bool). cond b (curveOf (a .c .now)) (edgeAt (a .edges .now) (a .p / 2) .curve)) (same-false (a .p / 2) (a .own) (c .before .if1 .left)) in
+    let e = ap (λ (b : Bool). cond b (curveOf (a .c .now)) (edgeAt (a .edges .now) (a .p / 2) .curve))
+    (same-false (a .p / 2) (a .own) (c .before .if1 .left)) in
     subst (λ (k : Curve). Along (c .step-at .result) (startWay (course (odd (a .p)) k))) (sym e) (c .step-at .ensures)
 
 pub step-with-spec : {M : Type 1} → statement M
-step-with-spec = tie.close (tie.spec (λ c κs. c .before .pre .0 (c .if1 .taken)) (λ c κs. c .before .pre .1 (c .if1 .left)) returns returns-2)
+step-with-spec = tie.close (tie.spec (λ c κs. c .before .pre .0 (c .if1 .taken))
+    (λ c κs. c .before .pre .1 (c .if1 .left)) returns returns-2)

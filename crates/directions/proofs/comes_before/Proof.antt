@@ -9,11 +9,14 @@ returns : tie.Need-returns
 returns c = before-less _ _ _ _ (c .before .before .class-of .ensures) (c .before .class-of2 .ensures) (c .if1 .taken)
 
 returns-2 : tie.Need-returns-2
-returns-2 c = before-greater _ _ _ _ (c .before .before .before .class-of .ensures) (c .before .before .class-of2 .ensures) (c .if2 .taken)
+returns-2 c = before-greater _ _ _ _ (c .before .before .before .class-of .ensures)
+    (c .before .before .class-of2 .ensures) (c .if2 .taken)
 
 returns-3 : tie.Need-returns-3
 returns-3 c =
-    before-same _ _ _ _ (c .before .before .before .before .before .class-of .ensures) (c .before .before .before .before .class-of2 .ensures) _ (c .before .before .before .if1 .left) (c .before .before .if2 .left)
+    before-same _ _ _ _ (c .before .before .before .before .before .class-of .ensures)
+    (c .before .before .before .before .class-of2 .ensures) _ (c .before .before .before .if1 .left)
+    (c .before .before .if2 .left)
     (positive-is _ _ _ (c .before .cross-turn .ensures) (c .is-left .ensures))
 
 pub comes-before-spec : {M : Type 1} → statement M

@@ -1,4 +1,5 @@
--- `directions::cross_turn` meets its contract: how the two parts compare is the sign of the cross product. Assumes nothing.
+-- `directions::cross_turn` meets its contract: how the two parts compare is the sign of the cross product. Assumes
+-- nothing.
 use borrow.Author.Needs.{needs}
 use native.Mathlib.Omega.{arith}
 use Rattle.plane.proofs.Laws.{cross-is, turn-left, turn-right, turn-straight}
@@ -21,7 +22,8 @@ returns-3 : tie.Need-returns-3
 returns-3 c =
     let p = c .before .before .before .cross-part in
     let n = c .before .before .cross-part2 in
-    turn-straight _ (p .result) (n .result) (cross-is _ _ _ _ _ _ (p .ensures .0) (n .ensures .0)) (omega arith) (omega arith)
+    turn-straight _ (p .result) (n .result) (cross-is _ _ _ _ _ _ (p .ensures .0) (n .ensures .0)) (omega arith)
+    (omega arith)
 
 pub cross-turn-spec : {M : Type 1} → statement M
 cross-turn-spec =

@@ -10,7 +10,8 @@ returns c = sameWay-other _ _ _ _ (c .before .before .class-of .ensures) (c .bef
 
 returns-2 : tie.Need-returns-2
 returns-2 c =
-    sameWay-same _ _ _ _ (c .before .before .before .before .class-of .ensures) (c .before .before .before .class-of2 .ensures) _ (c .before .before .if1 .left)
+    sameWay-same _ _ _ _ (c .before .before .before .before .class-of .ensures)
+    (c .before .before .before .class-of2 .ensures) _ (c .before .before .if1 .left)
     (null-is _ _ _ (c .before .cross-turn .ensures) (c .is-straight .ensures))
 
 pub same-direction-spec : {M : Type 1} → statement M

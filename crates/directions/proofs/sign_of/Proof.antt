@@ -14,7 +14,10 @@ returns-2 : tie.Need-returns-2
 returns-2 c = (ap signPlace (sym (sgn-sub-lt _ _ (c .if2 .taken))), lit< tt)
 
 returns-3 : tie.Need-returns-3
-returns-3 c = (ap signPlace (sym (sgn-sub-eq (c .before .before .args .to) (c .before .before .args .from) (omega arith))), lit< tt)
+returns-3 c = (
+  ap signPlace (sym (sgn-sub-eq (c .before .before .args .to) (c .before .before .args .from) (omega arith))),
+  lit< tt,
+)
 
 pub sign-of-spec : {M : Type 1} → statement M
 sign-of-spec = tie.close (tie.spec returns returns-2 returns-3)

@@ -13,4 +13,5 @@ returns c =
     (ap₂ (λ (i j : ℕ). i * 3 + j) (i .0) (j .0), omega (arith, i .1, j .1))
 
 pub signs-of-spec : {M : Type 1} → statement M
-signs-of-spec = tie.close (tie.spec (λ c κs. search needs) (λ c κs. search needs) (λ c. search needs) (λ c. search needs) returns)
+signs-of-spec = tie.close (tie.spec (λ c κs. search needs) (λ c κs. search needs) (λ c. search needs)
+    (λ c. search needs) returns)

@@ -1,4 +1,5 @@
--- `edit_add::add_edge` meets its contract: the first reason, or the edge drawn, and where it splits a face, that split. Assumes nothing.
+-- `edit_add::add_edge` meets its contract: the first reason, or the edge drawn, and where it splits a face, that split.
+-- Assumes nothing.
 use borrow.Author.Needs.{needs}
 use mathlib.Core.Path.{sym, _∙_}
 use native.Mathlib.Omega.{arith}
@@ -8,7 +9,8 @@ use mir.Facts.{toZ-ofZ}
 use Rattle.integers.specs.Signs.{sent}
 use Rattle.outcomes.proofs.Formed.{decided-refused, decided-carried}
 use Rattle.reason_edges.specs.Kinds.{addTicket}
-use Rattle.edit_add.proofs.Added.{judged-told, add-value, add-drawable, drawn-splittable, joined-lent, parted-lent}
+use Rattle.edit_add.proofs.Added.{judged-told, add-value, add-drawable, drawn-splittable, joined-lent}
+use Rattle.edit_add.proofs.Added.{parted-lent}
 use Rattle.edit_add.proofs.add_edge.Statement.{statement}
 use Rattle.edit_add.proofs.add_edge.Tie as tie
 
@@ -17,8 +19,11 @@ refused c =
     let l = c .before .before in
     let s = l .before .before .before .before in
     let a = s .args in
-    let j = judged-told (toZ-ofZ {w = w64} (s .fits .start)) (toZ-ofZ {w = w64} (s .fits .end)) (l .judge-add .ensures) in
-    decided-refused (a .nodes .now) (a .edges .now) (a .faces .now) (a .h) (addTicket (a .news) (a .start) (a .end) (a .c .now)) (l .judge-add .result .reason) (let d = c .before .if1 .taken in omega arith) (c .refused .ensures) (sym (j .reason))
+    let j = judged-told (toZ-ofZ {w = w64} (s .fits .start)) (toZ-ofZ {w = w64} (s .fits .end))
+    (l .judge-add .ensures) in
+    decided-refused (a .nodes .now) (a .edges .now) (a .faces .now) (a .h)
+    (addTicket (a .news) (a .start) (a .end) (a .c .now)) (l .judge-add .result .reason)
+    (let d = c .before .if1 .taken in omega arith) (c .refused .ensures) (sym (j .reason))
 
 draw-requires : tie.Need-draw-requires
 draw-requires c κs =
@@ -26,7 +31,8 @@ draw-requires c κs =
     let e = n .before .before in
     let l = e .before in
     let s = l .before .before .before .before in
-    let j = judged-told (toZ-ofZ {w = w64} (s .fits .start)) (toZ-ofZ {w = w64} (s .fits .end)) (l .judge-add .ensures) in
+    let j = judged-told (toZ-ofZ {w = w64} (s .fits .start)) (toZ-ofZ {w = w64} (s .fits .end))
+    (l .judge-add .ensures) in
     add-drawable (s .pre) j (e .if1 .left) (sent (n .struct-told2 .given .1 .1 .1 .0 .1))
 
 joined : tie.Need-returns-2
@@ -37,11 +43,15 @@ joined c =
     let l = e .before in
     let s = l .before .before .before .before in
     let a = s .args in
-    let j = judged-told (toZ-ofZ {w = w64} (s .fits .start)) (toZ-ofZ {w = w64} (s .fits .end)) (l .judge-add .ensures) in
+    let j = judged-told (toZ-ofZ {w = w64} (s .fits .start)) (toZ-ofZ {w = w64} (s .fits .end))
+    (l .judge-add .ensures) in
     let face = sent (n .struct-told2 .given .1 .1 .1 .0 .1) in
-    decided-carried (a .nodes .now) (a .edges .now) (a .faces .now) (a .h) (addTicket (a .news) (a .start) (a .end) (a .c .now)) (d .draw .last .0) (d .draw .last .1 .0) (a .faces .now) (d .draw .result) _ (c .carried .ensures)
+    decided-carried (a .nodes .now) (a .edges .now) (a .faces .now) (a .h)
+    (addTicket (a .news) (a .start) (a .end) (a .c .now)) (d .draw .last .0) (d .draw .last .1 .0) (a .faces .now)
+    (d .draw .result) _ (c .carried .ensures)
     (sym (j .reason) ∙ e .if1 .left)
-    (joined-lent (s .pre) j (e .if1 .left) face (d .draw .ensures) (not-true (l .judge-add .result .splits) (c .before .if2 .taken)))
+    (joined-lent (s .pre) j (e .if1 .left) face (d .draw .ensures)
+    (not-true (l .judge-add .result .splits) (c .before .if2 .taken)))
     (add-value (s .pre) (a .news) (a .start) (a .end) (a .c .now))
 
 split-face-requires : tie.Need-split-face-requires
@@ -51,9 +61,11 @@ split-face-requires c κs =
     let e = n .before .before in
     let l = e .before in
     let s = l .before .before .before .before in
-    let j = judged-told (toZ-ofZ {w = w64} (s .fits .start)) (toZ-ofZ {w = w64} (s .fits .end)) (l .judge-add .ensures) in
+    let j = judged-told (toZ-ofZ {w = w64} (s .fits .start)) (toZ-ofZ {w = w64} (s .fits .end))
+    (l .judge-add .ensures) in
     let face = sent (n .struct-told2 .given .1 .1 .1 .0 .1) in
-    drawn-splittable (s .pre) j (e .if1 .left) face (d .draw .ensures) (not-false (l .judge-add .result .splits) (c .before .before .before .if2 .left))
+    drawn-splittable (s .pre) j (e .if1 .left) face (d .draw .ensures)
+    (not-false (l .judge-add .result .splits) (c .before .before .before .if2 .left))
 
 parted : tie.Need-returns-3
 parted c =
@@ -64,11 +76,15 @@ parted c =
     let l = e .before in
     let s = l .before .before .before .before in
     let a = s .args in
-    let j = judged-told (toZ-ofZ {w = w64} (s .fits .start)) (toZ-ofZ {w = w64} (s .fits .end)) (l .judge-add .ensures) in
+    let j = judged-told (toZ-ofZ {w = w64} (s .fits .start)) (toZ-ofZ {w = w64} (s .fits .end))
+    (l .judge-add .ensures) in
     let face = sent (n .struct-told2 .given .1 .1 .1 .0 .1) in
-    decided-carried (a .nodes .now) (a .edges .now) (a .faces .now) (a .h) (addTicket (a .news) (a .start) (a .end) (a .c .now)) (p .split-face .last .0) (p .split-face .last .1 .0) (p .split-face .last .1 .1 .0) (p .split-face .result) _ (c .carried2 .ensures)
+    decided-carried (a .nodes .now) (a .edges .now) (a .faces .now) (a .h)
+    (addTicket (a .news) (a .start) (a .end) (a .c .now)) (p .split-face .last .0) (p .split-face .last .1 .0)
+    (p .split-face .last .1 .1 .0) (p .split-face .result) _ (c .carried2 .ensures)
     (sym (j .reason) ∙ e .if1 .left)
-    (parted-lent (s .pre) j (e .if1 .left) face (d .draw .ensures) (not-false (l .judge-add .result .splits) (p .before .before .before .before .if2 .left)) (p .split-face .ensures))
+    (parted-lent (s .pre) j (e .if1 .left) face (d .draw .ensures)
+    (not-false (l .judge-add .result .splits) (p .before .before .before .before .if2 .left)) (p .split-face .ensures))
     (add-value (s .pre) (a .news) (a .start) (a .end) (a .c .now))
 
 pub add-edge-spec : {M : Type 1} → statement M

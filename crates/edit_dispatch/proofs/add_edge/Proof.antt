@@ -16,16 +16,26 @@ use Rattle.edit_dispatch.proofs.add_edge.Tie as tie
 refused : tie.Need-returns
 refused c =
     let a = c .before .before .args in
-    shaped-none (a .nodes .now) (a .edges .now) (a .faces .now) (a .h) (c .refused .ensures) (two-curve-none (addTicket (a .news)) (a .t .now) (test-taken (length (a .t .now)) 3 0 (c .before .if1 .taken)))
+    shaped-none (a .nodes .now) (a .edges .now) (a .faces .now) (a .h) (c .refused .ensures)
+    (two-curve-none (addTicket (a .news)) (a .t .now) (test-taken (length (a .t .now)) 3 0 (c .before .if1 .taken)))
 
 number : tie.Need-shared-slice-copy-out-add-edge
-number c = omega (arith, test-left (length (c .before .before .before .before .args .t .now)) 3 0 (c .before .before .before .if1 .left))
+number c = omega (
+  arith,
+  test-left (length (c .before .before .before .before .args .t .now)) 3 0
+      (c .before .before .before .if1 .left),
+)
 
 number-2 : tie.Need-shared-slice-copy-out-add-edge-2
-number-2 c = omega (arith, test-left (length (c .before .before .before .before .before .args .t .now)) 3 0 (c .before .before .before .before .if1 .left))
+number-2 c = omega (
+  arith,
+  test-left (length (c .before .before .before .before .before .args .t .now)) 3 0
+      (c .before .before .before .before .if1 .left),
+)
 
 curve : tie.Need-sub-add-edge
-curve c = test-left (length (c .before .before .before .before .before .before .args .t .now)) 3 0 (c .before .before .before .before .before .if1 .left) .0
+curve c = test-left (length (c .before .before .before .before .before .before .args .t .now)) 3 0
+    (c .before .before .before .before .before .if1 .left) .0
 
 returns : tie.Need-returns-2
 returns c =
@@ -34,7 +44,9 @@ returns c =
     let t = a .t .now in
     c .before .before .before .add-edge .ensures
     ∙ ap (shaped (lent (a .nodes .now) (a .edges .now) (a .faces .now) (a .h)))
-    (two-curve-read (addTicket (a .news)) t (test-left (length t) 3 0 (s .if1 .left)) (sent (c .before .before .before .before .before .before .add-edge-arg4 .given)) (sent (c .before .before .before .before .before .add-edge-arg5 .given)) (part-to-end t 3))
+    (two-curve-read (addTicket (a .news)) t (test-left (length t) 3 0 (s .if1 .left))
+    (sent (c .before .before .before .before .before .before .add-edge-arg4 .given))
+    (sent (c .before .before .before .before .before .add-edge-arg5 .given)) (part-to-end t 3))
 
 pub add-edge-spec : {M : Type 1} → statement M
 add-edge-spec =

@@ -16,16 +16,26 @@ use Rattle.edit_dispatch.proofs.add_lone_edge.Tie as tie
 refused : tie.Need-returns
 refused c faces f =
     let a = c .before .before .args in
-    shaped-none (a .nodes .now) (a .edges .now) faces (a .h) (c .refused .ensures) (two-curve-none AddIsoEdge (a .t .now) (test-taken (length (a .t .now)) 3 0 (c .before .if1 .taken)))
+    shaped-none (a .nodes .now) (a .edges .now) faces (a .h) (c .refused .ensures)
+    (two-curve-none AddIsoEdge (a .t .now) (test-taken (length (a .t .now)) 3 0 (c .before .if1 .taken)))
 
 number : tie.Need-shared-slice-copy-out-add-lone-edge
-number c = omega (arith, test-left (length (c .before .before .before .args .t .now)) 3 0 (c .before .before .if1 .left))
+number c = omega (
+  arith,
+  test-left (length (c .before .before .before .args .t .now)) 3 0
+      (c .before .before .if1 .left),
+)
 
 number-2 : tie.Need-shared-slice-copy-out-add-lone-edge-2
-number-2 c = omega (arith, test-left (length (c .before .before .before .before .args .t .now)) 3 0 (c .before .before .before .if1 .left))
+number-2 c = omega (
+  arith,
+  test-left (length (c .before .before .before .before .args .t .now)) 3 0
+      (c .before .before .before .if1 .left),
+)
 
 curve : tie.Need-sub-add-lone-edge
-curve c = test-left (length (c .before .before .before .before .before .args .t .now)) 3 0 (c .before .before .before .before .if1 .left) .0
+curve c = test-left (length (c .before .before .before .before .before .args .t .now)) 3 0
+    (c .before .before .before .before .if1 .left) .0
 
 returns : tie.Need-returns-2
 returns c faces f =
@@ -34,7 +44,9 @@ returns c faces f =
     let t = a .t .now in
     c .before .before .add-lone-edge .ensures faces f
     ∙ ap (shaped (lent (a .nodes .now) (a .edges .now) faces (a .h)))
-    (two-curve-read AddIsoEdge t (test-left (length t) 3 0 (s .if1 .left)) (sent (c .before .before .before .before .before .add-lone-edge-arg3 .given)) (sent (c .before .before .before .before .add-lone-edge-arg4 .given)) (part-to-end t 3))
+    (two-curve-read AddIsoEdge t (test-left (length t) 3 0 (s .if1 .left))
+    (sent (c .before .before .before .before .before .add-lone-edge-arg3 .given))
+    (sent (c .before .before .before .before .add-lone-edge-arg4 .given)) (part-to-end t 3))
 
 pub add-lone-edge-spec : {M : Type 1} → statement M
 add-lone-edge-spec =

@@ -13,7 +13,8 @@ use Rattle.edit_dispatch.proofs.add_node.Tie as tie
 refused : tie.Need-returns
 refused c =
     let a = c .before .before .args in
-    shaped-none (a .nodes .now) (a .edges .now) (a .faces .now) (a .h) (c .refused .ensures) (three-none AddIsoNode (a .t .now) (c .before .if1 .taken))
+    shaped-none (a .nodes .now) (a .edges .now) (a .faces .now) (a .h) (c .refused .ensures)
+    (three-none AddIsoNode (a .t .now) (c .before .if1 .taken))
 
 returns : tie.Need-returns-2
 returns c =
@@ -21,7 +22,8 @@ returns c =
     let a = s .before .args in
     c .before .add-node .ensures
     ∙ ap (shaped (lent (a .nodes .now) (a .edges .now) (a .faces .now) (a .h)))
-    (three-read AddIsoNode (a .t .now) (s .if1 .left) (sent (c .before .before .before .before .add-node-arg2 .given)) (sent (c .before .before .before .add-node-arg3 .given)) (sent (c .before .before .add-node-arg4 .given)))
+    (three-read AddIsoNode (a .t .now) (s .if1 .left) (sent (c .before .before .before .before .add-node-arg2 .given))
+    (sent (c .before .before .before .add-node-arg3 .given)) (sent (c .before .before .add-node-arg4 .given)))
 
 pub add-node-spec : {M : Type 1} → statement M
 add-node-spec =

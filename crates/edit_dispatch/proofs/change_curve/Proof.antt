@@ -16,7 +16,8 @@ use Rattle.edit_dispatch.proofs.change_curve.Tie as tie
 refused : tie.Need-returns
 refused c faces f =
     let a = c .before .before .args in
-    shaped-none (a .nodes .now) (a .edges .now) faces (a .h) (c .refused .ensures) (one-curve-none ChangeEdgeGeom (a .t .now) (test-taken (length (a .t .now)) 2 1 (c .before .if1 .taken)))
+    shaped-none (a .nodes .now) (a .edges .now) faces (a .h) (c .refused .ensures)
+    (one-curve-none ChangeEdgeGeom (a .t .now) (test-taken (length (a .t .now)) 2 1 (c .before .if1 .taken)))
 
 number : tie.Need-shared-slice-copy-out-change-curve
 number c = omega (arith, test-left (length (c .before .before .args .t .now)) 2 1 (c .before .if1 .left))
@@ -31,7 +32,8 @@ returns c faces f =
     let t = a .t .now in
     c .before .change-curve .ensures faces f
     ∙ ap (shaped (lent (a .nodes .now) (a .edges .now) faces (a .h)))
-    (one-curve-read ChangeEdgeGeom t (test-left (length t) 2 1 (s .if1 .left)) (sent (c .before .before .before .change-curve-arg2 .given)) (part-to-end t 2))
+    (one-curve-read ChangeEdgeGeom t (test-left (length t) 2 1 (s .if1 .left))
+    (sent (c .before .before .before .change-curve-arg2 .given)) (part-to-end t 2))
 
 pub change-curve-spec : {M : Type 1} → statement M
 change-curve-spec =

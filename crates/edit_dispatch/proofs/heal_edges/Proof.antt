@@ -13,7 +13,8 @@ use Rattle.edit_dispatch.proofs.heal_edges.Tie as tie
 refused : tie.Need-returns
 refused c faces f =
     let a = c .before .before .args in
-    shaped-none (a .nodes .now) (a .edges .now) faces (a .h) (c .refused .ensures) (two-none (healTicket (a .keeps)) (a .t .now) (c .before .if1 .taken))
+    shaped-none (a .nodes .now) (a .edges .now) faces (a .h) (c .refused .ensures)
+    (two-none (healTicket (a .keeps)) (a .t .now) (c .before .if1 .taken))
 
 returns : tie.Need-returns-2
 returns c faces f =
@@ -21,7 +22,9 @@ returns c faces f =
     let a = s .before .args in
     c .before .before .heal-edges .ensures faces f
     ∙ ap (shaped (lent (a .nodes .now) (a .edges .now) faces (a .h)))
-    (two-read (healTicket (a .keeps)) (a .t .now) (s .if1 .left) (sent (c .before .before .before .before .heal-edges-arg3 .given)) (sent (c .before .before .before .heal-edges-arg4 .given)))
+    (two-read (healTicket (a .keeps)) (a .t .now) (s .if1 .left)
+    (sent (c .before .before .before .before .heal-edges-arg3 .given))
+    (sent (c .before .before .before .heal-edges-arg4 .given)))
 
 pub heal-edges-spec : {M : Type 1} → statement M
 heal-edges-spec =

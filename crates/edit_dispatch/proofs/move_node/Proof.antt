@@ -13,7 +13,8 @@ use Rattle.edit_dispatch.proofs.move_node.Tie as tie
 refused : tie.Need-returns
 refused c faces f =
     let a = c .before .before .args in
-    shaped-none (a .nodes .now) (a .edges .now) faces (a .h) (c .refused .ensures) (three-none MoveIsoNode (a .t .now) (c .before .if1 .taken))
+    shaped-none (a .nodes .now) (a .edges .now) faces (a .h) (c .refused .ensures)
+    (three-none MoveIsoNode (a .t .now) (c .before .if1 .taken))
 
 returns : tie.Need-returns-2
 returns c faces f =
@@ -21,7 +22,9 @@ returns c faces f =
     let a = s .before .args in
     c .before .move-node .ensures faces f
     ∙ ap (shaped (lent (a .nodes .now) (a .edges .now) faces (a .h)))
-    (three-read MoveIsoNode (a .t .now) (s .if1 .left) (sent (c .before .before .before .before .move-node-arg2 .given)) (sent (c .before .before .before .move-node-arg3 .given)) (sent (c .before .before .move-node-arg4 .given)))
+    (three-read MoveIsoNode (a .t .now) (s .if1 .left)
+    (sent (c .before .before .before .before .move-node-arg2 .given))
+    (sent (c .before .before .before .move-node-arg3 .given)) (sent (c .before .before .move-node-arg4 .given)))
 
 pub move-node-spec : {M : Type 1} → statement M
 move-node-spec =

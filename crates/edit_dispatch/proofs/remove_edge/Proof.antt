@@ -13,7 +13,8 @@ use Rattle.edit_dispatch.proofs.remove_edge.Tie as tie
 refused : tie.Need-returns
 refused c =
     let a = c .before .before .args in
-    shaped-none (a .nodes .now) (a .edges .now) (a .faces .now) (a .h) (c .refused .ensures) (one-none (removeTicket (a .news)) (a .t .now) (c .before .if1 .taken))
+    shaped-none (a .nodes .now) (a .edges .now) (a .faces .now) (a .h) (c .refused .ensures)
+    (one-none (removeTicket (a .news)) (a .t .now) (c .before .if1 .taken))
 
 returns : tie.Need-returns-2
 returns c =
@@ -21,7 +22,8 @@ returns c =
     let a = s .before .args in
     c .before .before .before .remove-edge .ensures
     ∙ ap (shaped (lent (a .nodes .now) (a .edges .now) (a .faces .now) (a .h)))
-    (one-read (removeTicket (a .news)) (a .t .now) (s .if1 .left) (sent (c .before .before .before .before .remove-edge-arg4 .given)))
+    (one-read (removeTicket (a .news)) (a .t .now) (s .if1 .left)
+    (sent (c .before .before .before .before .remove-edge-arg4 .given)))
 
 pub remove-edge-spec : {M : Type 1} → statement M
 remove-edge-spec =

@@ -13,7 +13,8 @@ use Rattle.edit_dispatch.proofs.remove_lone_edge.Tie as tie
 refused : tie.Need-returns
 refused c faces f =
     let a = c .before .before .args in
-    shaped-none (a .nodes .now) (a .edges .now) faces (a .h) (c .refused .ensures) (one-none RemoveIsoEdge (a .t .now) (c .before .if1 .taken))
+    shaped-none (a .nodes .now) (a .edges .now) faces (a .h) (c .refused .ensures)
+    (one-none RemoveIsoEdge (a .t .now) (c .before .if1 .taken))
 
 returns : tie.Need-returns-2
 returns c faces f =

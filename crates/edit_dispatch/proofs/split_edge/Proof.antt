@@ -13,7 +13,8 @@ use Rattle.edit_dispatch.proofs.split_edge.Tie as tie
 refused : tie.Need-returns
 refused c faces f =
     let a = c .before .before .args in
-    shaped-none (a .nodes .now) (a .edges .now) faces (a .h) (c .refused .ensures) (three-none (splitTicket (a .keeps)) (a .t .now) (c .before .if1 .taken))
+    shaped-none (a .nodes .now) (a .edges .now) faces (a .h) (c .refused .ensures)
+    (three-none (splitTicket (a .keeps)) (a .t .now) (c .before .if1 .taken))
 
 returns : tie.Need-returns-2
 returns c faces f =
@@ -21,7 +22,10 @@ returns c faces f =
     let a = s .before .args in
     c .before .before .split-edge .ensures faces f
     ∙ ap (shaped (lent (a .nodes .now) (a .edges .now) faces (a .h)))
-    (three-read (splitTicket (a .keeps)) (a .t .now) (s .if1 .left) (sent (c .before .before .before .before .before .split-edge-arg3 .given)) (sent (c .before .before .before .before .split-edge-arg4 .given)) (sent (c .before .before .before .split-edge-arg5 .given)))
+    (three-read (splitTicket (a .keeps)) (a .t .now) (s .if1 .left)
+    (sent (c .before .before .before .before .before .split-edge-arg3 .given))
+    (sent (c .before .before .before .before .split-edge-arg4 .given))
+    (sent (c .before .before .before .split-edge-arg5 .given)))
 
 pub split-edge-spec : {M : Type 1} → statement M
 split-edge-spec =

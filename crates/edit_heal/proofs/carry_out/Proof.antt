@@ -24,45 +24,66 @@ natural : (h : Head) → Numbered h → (keeps : Bool) (z : ℤ) (k : ℕ) → z
 natural h p true z k e = ap nonNeg e
 natural h p false z k e = ap nonNeg (p .next)
 
-count-of-requires : tie.Need-count-of-requires
-count-of-requires c κs = let s = c .before .before .before .before in count-natural (s .args .h .edges) (s .pre .0 .edges) (omega (arith, s .pre .0 .few-edges))
+to-usize-requires : tie.Need-to-usize-requires
+to-usize-requires c κs = let s = c .before .before .before .before in
+    count-natural (s .args .h .edges) (s .pre .0 .edges) (omega (arith, s .pre .0 .few-edges))
 
 heal-rows-requires : tie.Need-heal-rows-requires
 heal-rows-requires c κs =
     let s = c .before .before .before .before .before in
     let a = s .args in
     let p = s .pre in
-    let e : c .count-of .result ≡ natAbs (a .h .edges) = c .count-of .ensures ∙ count-abs (a .h .edges) (p .0 .edges) (omega (arith, p .0 .few-edges)) in
+    let e : c .to-usize .result ≡ natAbs (a .h .edges) = c .to-usize .ensures
+    ∙ count-abs (a .h .edges) (p .0 .edges) (omega (arith, p .0 .few-edges)) in
     let r = c .before .before .before .healed-number in
-    let z = sent (r .ok) ∙ r .ensures ∙ ap (healedNumber (a .h) (a .keeps)) (sent (c .before .before .before .before .healed-number-arg .given)) in
-    let g = ap nonNeg z ∙ natural (a .h) (p .0) (a .keeps) (getD (a .edges .now) (a .i * 32) (pos 0)) _ (cells-of (p .2) (a .i) (p .4) .number) in
+    let z = sent (r .ok) ∙ r .ensures ∙ ap (healedNumber (a .h) (a .keeps))
+    (sent (c .before .before .before .before .healed-number-arg .given)) in
+    let g = ap nonNeg z ∙ natural (a .h) (p .0) (a .keeps) (getD (a .edges .now) (a .i * 32) (pos 0)) _
+    (cells-of (p .2) (a .i) (p .4) .number) in
     rw e (p .2, p .0 .few-edges, p .7, p .8, g, p .4, p .5, p .6, p .9)
 
-count-of-requires-2 : tie.Need-count-of-requires-2
-count-of-requires-2 c κs = let s = c .before .before .before .before .before .before .before .before .before .before in count-natural (s .args .h .nodes) (s .pre .0 .nodes) (omega (arith, s .pre .0 .few-nodes))
+to-usize-requires-2 : tie.Need-to-usize-requires-2
+to-usize-requires-2 c κs = let s = c .before .before .before .before .before .before .before .before .before .before in
+    count-natural (s .args .h .nodes) (s .pre .0 .nodes) (omega (arith, s .pre .0 .few-nodes))
 
 remove-joint-requires : tie.Need-remove-joint-requires
 remove-joint-requires c κs =
     let s = c .before .before .before .before .before .before .before .before .before .before .before in
-    let e : c .count-of2 .result ≡ natAbs (s .args .h .nodes) = c .count-of2 .ensures ∙ count-abs (s .args .h .nodes) (s .pre .0 .nodes) (omega (arith, s .pre .0 .few-nodes)) in
+    let e : c .to-usize2 .result ≡ natAbs (s .args .h .nodes) = c .to-usize2 .ensures
+    ∙ count-abs (s .args .h .nodes) (s .pre .0 .nodes) (omega (arith, s .pre .0 .few-nodes)) in
     rw e (s .pre .1)
 
 returns : tie.Need-returns
 returns c =
-    let s = c .before .before .before .before .before .before .before .before .before .before .before .before .before .before .before .before in
+    let s = c .before .before .before .before .before .before .before .before .before .before .before .before .before
+    .before .before .before in
     let a = s .args in
     let p = s .pre in
     let l = a .edges .now in
-    let e : c .before .before .before .before .before .before .before .before .before .before .before .count-of .result ≡ natAbs (a .h .edges) = c .before .before .before .before .before .before .before .before .before .before .before .count-of .ensures ∙ count-abs (a .h .edges) (p .0 .edges) (omega (arith, p .0 .few-edges)) in
-    let n : c .before .before .before .before .before .count-of2 .result ≡ natAbs (a .h .nodes) = c .before .before .before .before .before .count-of2 .ensures ∙ count-abs (a .h .nodes) (p .0 .nodes) (omega (arith, p .0 .few-nodes)) in
-    let r = c .before .before .before .before .before .before .before .before .before .before .before .before .before .before .healed-number in
-    let z = sent (r .ok) ∙ r .ensures ∙ ap (healedNumber (a .h) (a .keeps)) (sent (c .before .before .before .before .before .before .before .before .before .before .before .before .before .before .before .healed-number-arg .given)) in
+    let e : c .before .before .before .before .before .before .before .before .before .before .before .to-usize .result
+    ≡ natAbs (a .h .edges) =
+    c .before .before .before .before .before .before .before .before .before .before .before .to-usize .ensures
+    ∙ count-abs (a .h .edges) (p .0 .edges) (omega (arith, p .0 .few-edges)) in
+    let n : c .before .before .before .before .before .to-usize2 .result ≡ natAbs (a .h .nodes) =
+    c .before .before .before .before .before .to-usize2 .ensures
+    ∙ count-abs (a .h .nodes) (p .0 .nodes) (omega (arith, p .0 .few-nodes)) in
+    let r = c .before .before .before .before .before .before .before .before .before .before .before .before .before
+    .before .healed-number in
+    let z = sent (r .ok) ∙ r .ensures ∙ ap (healedNumber (a .h) (a .keeps))
+    (sent (c .before .before .before .before .before .before .before .before .before .before .before .before .before
+    .before .before .healed-number-arg .given)) in
     let g = s .good .1 .1 .1 .1 .1 .1 .0 in
     let f : SFits w64 (a .s .joint) = search (needs, g) in
     let v = sent (c .before .healed-value .ok) ∙ c .before .healed-value .ensures in (
-      c .before .before .before .before .before .before .before .before .before .before .heal-rows .ensures ∙ ap₂ (λ (k : ℕ) (x : ℤ). healedRows l k (a .i) (a .j) (a .s .first) (a .s .second) (a .keeps) x (a .l)) e z,
-      λ k at. c .before .before .before .before .remove-joint .ensures k ((λ t. place (sameZ (toZ-ofZ {w = w64} f t)) 0 (column 4 (a .nodes .now) (n t))) ∙ at) ∙ ap (λ (x : ℕ). closed 4 (a .nodes .now) x k) n,
-      c .carried .ensures ∙ (λ t. record { head = c .before .before .after-heal .ensures t; answer = record { refusal = 0; value = v t } }),
+      c .before .before .before .before .before .before .before .before .before .before .heal-rows .ensures
+          ∙ ap₂ (λ (k : ℕ) (x : ℤ). healedRows l k (a .i) (a .j) (a .s .first) (a .s .second) (a .keeps) x (a .l)) e z,
+      λ k at. c .before .before .before .before .remove-joint .ensures k
+          ((λ t. place (sameZ (toZ-ofZ {w = w64} f t)) 0 (column 4 (a .nodes .now) (n t))) ∙ at)
+          ∙ ap (λ (x : ℕ). closed 4 (a .nodes .now) x k) n,
+      c .carried .ensures ∙ (λ t. record {
+        head = c .before .before .after-heal .ensures t;
+        answer = record { refusal = 0; value = v t };
+      }),
     )
 
 pub carry-out-spec : {M : Type 1} → statement M
@@ -73,9 +94,9 @@ carry-out-spec =
     (λ c. search needs)
     (λ c. search needs)
     (λ c κs. search needs)
-    count-of-requires
+    to-usize-requires
     heal-rows-requires
-    count-of-requires-2
+    to-usize-requires-2
     remove-joint-requires
     (λ c κs. search needs)
     (λ c κs. search needs)

@@ -12,7 +12,8 @@ use Rattle.edit_heal.proofs.course_of.Tie as tie
 returns : tie.Need-returns
 returns c =
     rw (same-eq (c .before .before .before .args .p % 2) 1 (c .before .if1 .taken))
-    (c .reversed-of .ensures ∙ ap (λ (d : Curve). lineOf (points (reversed d))) (c .before .before .curve-of .ensures .1))
+    (c .reversed-of .ensures ∙ ap (λ (d : Curve). lineOf (points (reversed d)))
+    (c .before .before .curve-of .ensures .1))
 
 returns-2 : tie.Need-returns-2
 returns-2 c =

@@ -18,9 +18,13 @@ returns c =
     let l = a .edges .now in
     let z = toZ-ofZ {w = w64} (s .fits .number) in
     let t = renamed l (a .e) (a .p) (a .q) (a .number) in
-    let f : c .before .before .before .before .before .before .rename .last .0 ≡ t = c .before .before .before .before .before .before .rename .ensures ∙ ap (renamed l (a .e) (a .p) (a .q)) z in
-    let g : c .before .before .before .healed-sides .result ≡ healedSides t (a .i) (a .p) (a .q) (a .number) = c .before .before .before .healed-sides .ensures ∙ ap₂ (λ (u : List ℤ) (x : ℤ). healedSides u (a .i) (a .p) (a .q) x) f z in
-    c .before .place-row .ensures ∙ ap₂ (λ (u : List ℤ) (r : Sides). placed (a .keeps) u (a .e) (a .i) (a .j) (cellsOf r (a .l))) f g
+    let f : c .before .before .before .before .before .before .rename .last .0 ≡ t =
+    c .before .before .before .before .before .before .rename .ensures ∙ ap (renamed l (a .e) (a .p) (a .q)) z in
+    let g : c .before .before .before .healed-sides .result ≡ healedSides t (a .i) (a .p) (a .q) (a .number) =
+    c .before .before .before .healed-sides .ensures
+    ∙ ap₂ (λ (u : List ℤ) (x : ℤ). healedSides u (a .i) (a .p) (a .q) x) f z in
+    c .before .place-row .ensures ∙ ap₂
+    (λ (u : List ℤ) (r : Sides). placed (a .keeps) u (a .e) (a .i) (a .j) (cellsOf r (a .l))) f g
 
 pub heal-rows-spec : {M : Type 1} → statement M
 heal-rows-spec =

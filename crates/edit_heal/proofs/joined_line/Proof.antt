@@ -31,21 +31,33 @@ part-joined-of-end c =
     let s = c .before .before .before .before .before .before .before in
     let k = course-listed (s .pre .0) (odd (s .args .p)) in
     let r = c .before .before .before .before .before .before in
-    omega (arith, points-few k, line-count k (r .course-of .result) (r .course-of .ensures), line-long k (r .course-of .result) (r .course-of .ensures))
+    omega (
+      arith,
+      points-few k,
+      line-count k (r .course-of .result) (r .course-of .ensures),
+      line-long k (r .course-of .result) (r .course-of .ensures),
+    )
 
 part-joined-of-end-2 : tie.Need-part-joined-of-end-2
 part-joined-of-end-2 c =
     let s = c .before .before .before .before .before .before .before .before .before in
     let k = course-listed (s .pre .1) (odd (s .args .q)) in
     let r = c .before .before .before .before .before .before .before in
-    omega (arith, points-few k, line-count k (r .course-of2 .result) (r .course-of2 .ensures), line-long k (r .course-of2 .result) (r .course-of2 .ensures))
+    omega (
+      arith,
+      points-few k,
+      line-count k (r .course-of2 .result) (r .course-of2 .ensures),
+      line-long k (r .course-of2 .result) (r .course-of2 .ensures),
+    )
 
 joined-of-requires : tie.Need-joined-of-requires
 joined-of-requires c κs =
     let s = c .before .before .before .before .before .before .before .before .before .before in
     let x = c .before .before .before .before .before .before .before .before .before .course-of in
-    let y = c .before .before .before .before .before .before .before .before .course-of2 in
-    (line-run (course-listed (s .pre .0) (odd (s .args .p))) (x .result) (x .ensures), line-run (course-listed (s .pre .1) (odd (s .args .q))) (y .result) (y .ensures))
+    let y = c .before .before .before .before .before .before .before .before .course-of2 in (
+      line-run (course-listed (s .pre .0) (odd (s .args .p))) (x .result) (x .ensures),
+      line-run (course-listed (s .pre .1) (odd (s .args .q))) (y .result) (y .ensures),
+    )
 
 returns : tie.Need-returns
 returns c =
@@ -55,8 +67,10 @@ returns c =
     let l = s .args .edges .now in
     c .joined-of .ensures
     ∙ ap₂ (λ (a d : Curve). lineOf (points (joined a d)))
-    (line-curve (course-listed (s .pre .0) (odd (s .args .p))) (x .result) (x .ensures) ∙ curve-back (courseAt l (s .args .p)))
-    (line-curve (course-listed (s .pre .1) (odd (s .args .q))) (y .result) (y .ensures) ∙ curve-back (courseAt l (s .args .q)))
+    (line-curve (course-listed (s .pre .0) (odd (s .args .p))) (x .result) (x .ensures)
+    ∙ curve-back (courseAt l (s .args .p)))
+    (line-curve (course-listed (s .pre .1) (odd (s .args .q))) (y .result) (y .ensures)
+    ∙ curve-back (courseAt l (s .args .q)))
 
 pub joined-line-spec : {M : Type 1} → statement M
 joined-line-spec =

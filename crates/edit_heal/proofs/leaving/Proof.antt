@@ -13,12 +13,14 @@ use Rattle.edit_heal.proofs.leaving.Tie as tie
 returns : tie.Need-returns
 returns c =
     let s = c .before .before in
-    rw (is-same (getD (s .args .edges .now) (s .args .j * 32 + 1) (pos 0)) (s .args .node) (word-is (sfits-of (c .before .if12 .given)) (s .fits .node) (c .if1 .taken)))
+    rw (is-same (getD (s .args .edges .now) (s .args .j * 32 + 1) (pos 0)) (s .args .node)
+    (word-is (sfits-of (c .before .if12 .given)) (s .fits .node) (c .if1 .taken)))
 
 returns-2 : tie.Need-returns-2
 returns-2 c =
     let s = c .before .before in
-    rw (not-same (getD (s .args .edges .now) (s .args .j * 32 + 1) (pos 0)) (s .args .node) (λ q. c .if1 .left (ap (ofZ w64) q)))
+    rw (not-same (getD (s .args .edges .now) (s .args .j * 32 + 1) (pos 0)) (s .args .node)
+    (λ q. c .if1 .left (ap (ofZ w64) q)))
 
 pub leaving-spec : {M : Type 1} → statement M
 leaving-spec =

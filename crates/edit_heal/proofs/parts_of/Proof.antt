@@ -23,10 +23,14 @@ returns c =
     let a = s .args in
     let p = s .pre in
     let l = a .edges .now in
-    let z : toZ w64 (ofZ w64 (getD l (a .i * 32 + 2) (pos 0))) ≡ getD l (a .i * 32 + 2) (pos 0) = sent (c .before .before .before .v .given) in
-    let e : joinsAt (edgeMap l (a .e)) (edgeAt l (a .j) .number) (edge (edgeMap l (a .e)) (edgeAt l (a .i) .number) .end) ≡ true =
+    let z : toZ w64 (ofZ w64 (getD l (a .i * 32 + 2) (pos 0))) ≡ getD l (a .i * 32 + 2) (pos 0) =
+    sent (c .before .before .before .v .given) in
+    let e : joinsAt (edgeMap l (a .e)) (edgeAt l (a .j) .number) (edge (edgeMap l (a .e)) (edgeAt l (a .i) .number)
+    .end) ≡ true =
     sym (c .before .before .joins-at .ensures _ (z ∙ end-cell (p .0) (a .i) (p .2))) ∙ c .before .if1 .taken in
-    subst (λ (k : ℕ). PartsOf l (a .e) (a .i) (a .j) (record { first = a .i * 2; second = k; joint = toZ w64 (ofZ w64 (getD l (a .i * 32 + 2) (pos 0))) })) (sym (c .leaving .ensures)) (parts-at-end (p .0) (a .i) (a .j) (p .2) (p .3) _ z e)
+    subst (λ (k : ℕ). PartsOf l (a .e) (a .i) (a .j)
+    (record { first = a .i * 2; second = k; joint = toZ w64 (ofZ w64 (getD l (a .i * 32 + 2) (pos 0))) }))
+    (sym (c .leaving .ensures)) (parts-at-end (p .0) (a .i) (a .j) (p .2) (p .3) _ z e)
 
 returns-2 : tie.Need-returns-2
 returns-2 c =
@@ -34,11 +38,16 @@ returns-2 c =
     let a = s .args in
     let p = s .pre in
     let l = a .edges .now in
-    let y : toZ w64 (ofZ w64 (getD l (a .i * 32 + 1) (pos 0))) ≡ getD l (a .i * 32 + 1) (pos 0) = sent (c .before .before .before .before .u .given) in
-    let z : toZ w64 (ofZ w64 (getD l (a .i * 32 + 2) (pos 0))) ≡ getD l (a .i * 32 + 2) (pos 0) = sent (c .before .before .before .v .given) in
-    let e : joinsAt (edgeMap l (a .e)) (edgeAt l (a .j) .number) (edge (edgeMap l (a .e)) (edgeAt l (a .i) .number) .end) ≡ false =
+    let y : toZ w64 (ofZ w64 (getD l (a .i * 32 + 1) (pos 0))) ≡ getD l (a .i * 32 + 1) (pos 0) =
+    sent (c .before .before .before .before .u .given) in
+    let z : toZ w64 (ofZ w64 (getD l (a .i * 32 + 2) (pos 0))) ≡ getD l (a .i * 32 + 2) (pos 0) =
+    sent (c .before .before .before .v .given) in
+    let e : joinsAt (edgeMap l (a .e)) (edgeAt l (a .j) .number) (edge (edgeMap l (a .e)) (edgeAt l (a .i) .number)
+    .end) ≡ false =
     sym (c .before .before .joins-at .ensures _ (z ∙ end-cell (p .0) (a .i) (p .2))) ∙ c .before .if1 .left in
-    subst (λ (k : ℕ). PartsOf l (a .e) (a .i) (a .j) (record { first = k; second = a .i * 2; joint = toZ w64 (ofZ w64 (getD l (a .i * 32 + 1) (pos 0))) })) (sym (c .arriving .ensures)) (parts-at-start (p .0) (a .i) (a .j) (p .2) (p .3) _ y e (p .4))
+    subst (λ (k : ℕ). PartsOf l (a .e) (a .i) (a .j)
+    (record { first = k; second = a .i * 2; joint = toZ w64 (ofZ w64 (getD l (a .i * 32 + 1) (pos 0))) }))
+    (sym (c .arriving .ensures)) (parts-at-start (p .0) (a .i) (a .j) (p .2) (p .3) _ y e (p .4))
 
 pub parts-of-spec : {M : Type 1} → statement M
 parts-of-spec =

@@ -20,7 +20,8 @@ remove-row-requires : tie.Need-remove-row-requires
 remove-row-requires c κs =
     let s = c .before .before .before .before .before .before in
     let a = s .args in
-    let e = place-told 4 (a .nodes .now) {n = a .n} refl (toZ-ofZ {w = w64} {z = a .joint} (s .fits .joint)) (c .before .before .before .before .find-row .ensures) (c .before .before .found .given .1) in
+    let e = place-told 4 (a .nodes .now) {n = a .n} refl (toZ-ofZ {w = w64} {z = a .joint} (s .fits .joint))
+    (c .before .before .before .before .find-row .ensures) (c .before .before .found .given .1) in
     (node-found (a .nodes .now) (a .n) (s .pre .ranges) (a .joint) _ e .0, s .pre .fits)
 
 returns : tie.Need-returns
@@ -28,7 +29,9 @@ returns c k at =
     let s = c .before .before .before .before .before .before .before .before in
     let a = s .args in
     let i = c .before .before .before .before .found .given .0 .0 in
-    let e = place-told 4 (a .nodes .now) {n = a .n} refl (toZ-ofZ {w = w64} {z = a .joint} (s .fits .joint)) (c .before .before .before .before .before .before .find-row .ensures) (c .before .before .before .before .found .given .1) in
+    let e = place-told 4 (a .nodes .now) {n = a .n} refl (toZ-ofZ {w = w64} {z = a .joint} (s .fits .joint))
+    (c .before .before .before .before .before .before .find-row .ensures)
+    (c .before .before .before .before .found .given .1) in
     let q : At i ≡ At k = sym e ∙ at in
     let r : i ≡ k = cc in
     c .before .remove-row .ensures ∙ ap (closed 4 (a .nodes .now) (a .n)) r
@@ -37,7 +40,8 @@ returns-2 : tie.Need-returns-2
 returns-2 c k at =
     let s = c .before .before .before .before in
     let a = s .args in
-    let e = place-told 4 (a .nodes .now) {n = a .n} refl (toZ-ofZ {w = w64} {z = a .joint} (s .fits .joint)) (c .before .before .find-row .ensures) (c .enum-told .given .1) in
+    let e = place-told 4 (a .nodes .now) {n = a .n} refl (toZ-ofZ {w = w64} {z = a .joint} (s .fits .joint))
+    (c .before .before .find-row .ensures) (c .enum-told .given .1) in
     let q : Missing ≡ At k = sym e ∙ at in
     let z : _≡_ {A = ℕ} 0 1 = cc in
     absurd (omega arith)

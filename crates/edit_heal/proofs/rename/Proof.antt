@@ -24,7 +24,9 @@ dart-at-requires c κs = let s = c .before in edge-row-of (s .pre .0) (s .args .
 dart-at-requires-2 : tie.Need-dart-at-requires-2
 dart-at-requires-2 c κs =
     let s = c .before .before .before .before in
-    subst (λ (k : ℕ). EdgeRow (s .args .edges .now) (k / 2)) (sym (c .reverse .ensures)) (edge-row-of (s .pre .0) (reverseOf (s .args .q) / 2) (omega (arith, reverse-below (s .args .e) (s .args .q) (s .pre .3))))
+    subst (λ (k : ℕ). EdgeRow (s .args .edges .now) (k / 2)) (sym (c .reverse .ensures))
+    (edge-row-of (s .pre .0) (reverseOf (s .args .q) / 2)
+    (omega (arith, reverse-below (s .args .e) (s .args .q) (s .pre .3))))
 
 returns : tie.Need-returns
 returns c =
@@ -37,11 +39,16 @@ returns c =
     let back = c .before .before .before .before .before .before .before .dart-at2 in
     let e₁ : toZ w64 (ofZ w64 (d .result)) ≡ dartCell (dartAt l p) = sent (d .ok) ∙ d .ensures in
     let e₂ : toZ w64 (ofZ w64 (s .args .number)) ≡ s .args .number = toZ-ofZ {w = w64} (s .fits .number) in
-    let e₃ : toZ w64 (ofZ w64 (back .result)) ≡ dartCell (dartAt l (reverseOf q)) = sent (back .ok) ∙ back .ensures ∙ ap (λ (k : ℕ). dartCell (dartAt l k)) (c .before .before .before .before .before .before .before .before .reverse .ensures) in
-    let e₄ : toZ w64 (ofZ w64 (c .before .before .turned .result)) ≡ negℤ (s .args .number) = sent (c .before .before .turned .ok) ∙ c .before .before .turned .ensures ∙ ap negℤ e₂ in
+    let e₃ : toZ w64 (ofZ w64 (back .result)) ≡ dartCell (dartAt l (reverseOf q)) = sent (back .ok) ∙ back .ensures
+    ∙ ap (λ (k : ℕ). dartCell (dartAt l k))
+    (c .before .before .before .before .before .before .before .before .reverse .ensures) in
+    let e₄ : toZ w64 (ofZ w64 (c .before .before .negated .result)) ≡ negℤ (s .args .number) =
+    sent (c .before .before .negated .ok) ∙ c .before .before .negated .ensures ∙ ap negℤ e₂ in
     let t = redirected (dartCell (dartAt l p)) (s .args .number) l n in
-    let f : c .before .before .before .before .before .redirect .last .0 ≡ t = c .before .before .before .before .before .redirect .ensures ∙ ap₂ (λ (x y : ℤ). redirected x y l n) e₁ e₂ in
-    c .before .redirect2 .ensures ∙ ap (λ (u : List ℤ). redirected (toZ w64 (ofZ w64 (back .result))) (toZ w64 (ofZ w64 (c .before .before .turned .result))) u n) f ∙ ap₂ (λ (x y : ℤ). redirected x y t n) e₃ e₄
+    let f : c .before .before .before .before .before .redirect .last .0 ≡ t =
+    c .before .before .before .before .before .redirect .ensures ∙ ap₂ (λ (x y : ℤ). redirected x y l n) e₁ e₂ in
+    c .before .redirect2 .ensures ∙ ap (λ (u : List ℤ). redirected (toZ w64 (ofZ w64 (back .result)))
+    (toZ w64 (ofZ w64 (c .before .before .negated .result))) u n) f ∙ ap₂ (λ (x y : ℤ). redirected x y t n) e₃ e₄
 
 pub rename-spec : {M : Type 1} → statement M
 rename-spec =

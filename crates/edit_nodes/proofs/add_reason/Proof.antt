@@ -17,17 +17,22 @@ missing : tie.Need-returns
 missing c =
     let s = c .before .before .before .before in
     let h = s .args .h in
-    let k = c .before .before .count-of .ensures ∙ count-abs (h .faces) (faces-count (s .pre) .0) (few-faces (s .pre)) in
-    sym (first-hit 4 _ _ (face-told (s .pre) _ (s .args .face) _ k (toZ-ofZ {w = w64} {z = s .args .face} (s .fits .face)) (c .before .face-missing .ensures) (c .if1 .taken)))
+    let k = c .before .before .to-usize .ensures
+    ∙ count-abs (h .faces) (faces-count (s .pre) .0) (few-faces (s .pre)) in
+    sym (first-hit 4 _ _ (face-told (s .pre) _ (s .args .face) _ k
+    (toZ-ofZ {w = w64} {z = s .args .face} (s .fits .face)) (c .before .face-missing .ensures) (c .if1 .taken)))
 
 outside-it : tie.Need-returns-2
 unfolding firstReason
 outside-it c =
     let s = c .before .before .before .before .before .before in
     let h = s .args .h in
-    let k = c .before .before .before .before .count-of .ensures ∙ count-abs (h .faces) (faces-count (s .pre) .0) (few-faces (s .pre)) in
-    let e = face-told (s .pre) _ (s .args .face) _ k (toZ-ofZ {w = w64} {z = s .args .face} (s .fits .face)) (c .before .before .before .face-missing .ensures) (c .before .before .if1 .left) in
-    let g = range-told (toZ-ofZ {w = w64} {z = s .args .x} (s .fits .x)) (toZ-ofZ {w = w64} {z = s .args .y} (s .fits .y)) (c .before .in-range .ensures) (c .if2 .taken) in
+    let k = c .before .before .before .before .to-usize .ensures
+    ∙ count-abs (h .faces) (faces-count (s .pre) .0) (few-faces (s .pre)) in
+    let e = face-told (s .pre) _ (s .args .face) _ k (toZ-ofZ {w = w64} {z = s .args .face} (s .fits .face))
+    (c .before .before .before .face-missing .ensures) (c .before .before .if1 .left) in
+    let g = range-told (toZ-ofZ {w = w64} {z = s .args .x} (s .fits .x))
+    (toZ-ofZ {w = w64} {z = s .args .y} (s .fits .y)) (c .before .in-range .ensures) (c .if2 .taken) in
     rw (e, g)
 
 taken : tie.Need-returns-3
@@ -37,12 +42,19 @@ taken c =
     let h = s .args .h in
     let zx = toZ-ofZ {w = w64} {z = s .args .x} (s .fits .x) in
     let zy = toZ-ofZ {w = w64} {z = s .args .y} (s .fits .y) in
-    let k = c .before .before .before .before .before .before .before .before .before .before .before .count-of .ensures ∙ count-abs (h .faces) (faces-count (s .pre) .0) (few-faces (s .pre)) in
-    let e = face-told (s .pre) _ (s .args .face) _ k (toZ-ofZ {w = w64} {z = s .args .face} (s .fits .face)) (c .before .before .before .before .before .before .before .before .before .before .face-missing .ensures) (c .before .before .before .before .before .before .before .before .before .if1 .left) in
-    let g = range-told zx zy (c .before .before .before .before .before .before .before .before .in-range .ensures) (c .before .before .before .before .before .before .before .if2 .left) in
-    let n = c .before .before .before .before .before .count-of2 .ensures ∙ count-abs (h .nodes) (nodes-count (s .pre) .0) (few-nodes (s .pre)) in
-    let m = c .before .before .before .count-of3 .ensures ∙ count-abs (h .edges) (edges-count (s .pre) .0) (few-edges (s .pre)) in
-    let t = taken-told (s .pre) _ _ _ _ (point (s .args .x) (s .args .y)) n m (omega arith) (c .before .before .point-of .ensures .0 ∙ ap₂ point zx zy) (c .before .is-taken .ensures) (c .if3 .taken) in
+    let k = c .before .before .before .before .before .before .before .before .before .before .before .to-usize
+    .ensures ∙ count-abs (h .faces) (faces-count (s .pre) .0) (few-faces (s .pre)) in
+    let e = face-told (s .pre) _ (s .args .face) _ k (toZ-ofZ {w = w64} {z = s .args .face} (s .fits .face))
+    (c .before .before .before .before .before .before .before .before .before .before .face-missing .ensures)
+    (c .before .before .before .before .before .before .before .before .before .if1 .left) in
+    let g = range-told zx zy (c .before .before .before .before .before .before .before .before .in-range .ensures)
+    (c .before .before .before .before .before .before .before .if2 .left) in
+    let n = c .before .before .before .before .before .to-usize2 .ensures
+    ∙ count-abs (h .nodes) (nodes-count (s .pre) .0) (few-nodes (s .pre)) in
+    let m = c .before .before .before .to-usize3 .ensures
+    ∙ count-abs (h .edges) (edges-count (s .pre) .0) (few-edges (s .pre)) in
+    let t = taken-told (s .pre) _ _ _ _ (point (s .args .x) (s .args .y)) n m (omega arith)
+    (c .before .before .point-of .ensures .0 ∙ ap₂ point zx zy) (c .before .is-taken .ensures) (c .if3 .taken) in
     rw (e, g, t)
 
 none-holds : tie.Need-returns-4
@@ -52,20 +64,28 @@ none-holds c =
     let h = s .args .h in
     let zx = toZ-ofZ {w = w64} {z = s .args .x} (s .fits .x) in
     let zy = toZ-ofZ {w = w64} {z = s .args .y} (s .fits .y) in
-    let k = c .before .before .before .before .before .before .before .before .before .before .before .count-of .ensures ∙ count-abs (h .faces) (faces-count (s .pre) .0) (few-faces (s .pre)) in
-    let e = face-told (s .pre) _ (s .args .face) _ k (toZ-ofZ {w = w64} {z = s .args .face} (s .fits .face)) (c .before .before .before .before .before .before .before .before .before .before .face-missing .ensures) (c .before .before .before .before .before .before .before .before .before .if1 .left) in
-    let g = range-told zx zy (c .before .before .before .before .before .before .before .before .in-range .ensures) (c .before .before .before .before .before .before .before .if2 .left) in
-    let n = c .before .before .before .before .before .count-of2 .ensures ∙ count-abs (h .nodes) (nodes-count (s .pre) .0) (few-nodes (s .pre)) in
-    let m = c .before .before .before .count-of3 .ensures ∙ count-abs (h .edges) (edges-count (s .pre) .0) (few-edges (s .pre)) in
-    let t = taken-told (s .pre) _ _ _ _ (point (s .args .x) (s .args .y)) n m (omega arith) (c .before .before .point-of .ensures .0 ∙ ap₂ point zx zy) (c .before .is-taken .ensures) (c .if3 .left) in
+    let k = c .before .before .before .before .before .before .before .before .before .before .before .to-usize
+    .ensures ∙ count-abs (h .faces) (faces-count (s .pre) .0) (few-faces (s .pre)) in
+    let e = face-told (s .pre) _ (s .args .face) _ k (toZ-ofZ {w = w64} {z = s .args .face} (s .fits .face))
+    (c .before .before .before .before .before .before .before .before .before .before .face-missing .ensures)
+    (c .before .before .before .before .before .before .before .before .before .if1 .left) in
+    let g = range-told zx zy (c .before .before .before .before .before .before .before .before .in-range .ensures)
+    (c .before .before .before .before .before .before .before .if2 .left) in
+    let n = c .before .before .before .before .before .to-usize2 .ensures
+    ∙ count-abs (h .nodes) (nodes-count (s .pre) .0) (few-nodes (s .pre)) in
+    let m = c .before .before .before .to-usize3 .ensures
+    ∙ count-abs (h .edges) (edges-count (s .pre) .0) (few-edges (s .pre)) in
+    let t = taken-told (s .pre) _ _ _ _ (point (s .args .x) (s .args .y)) n m (omega arith)
+    (c .before .before .point-of .ensures .0 ∙ ap₂ point zx zy) (c .before .is-taken .ensures) (c .if3 .left) in
     rw (e, g, t)
 
 is-taken-requires : tie.Need-is-taken-requires
 is-taken-requires c κs =
     let s = c .before .before .before .before .before .before .before .before .before .before .before in
     let h = s .args .h in
-    let n = c .before .before .before .count-of2 .ensures ∙ count-abs (h .nodes) (nodes-count (s .pre) .0) (few-nodes (s .pre)) in
-    let m = c .before .count-of3 .ensures ∙ count-abs (h .edges) (edges-count (s .pre) .0) (few-edges (s .pre)) in
+    let n = c .before .before .before .to-usize2 .ensures
+    ∙ count-abs (h .nodes) (nodes-count (s .pre) .0) (few-nodes (s .pre)) in
+    let m = c .before .to-usize3 .ensures ∙ count-abs (h .edges) (edges-count (s .pre) .0) (few-edges (s .pre)) in
     (rw n (node-rows (s .pre)), rw m (edge-rows (s .pre)), c .point-of .ensures .1)
 
 pub add-reason-spec : {M : Type 1} → statement M
@@ -73,13 +93,20 @@ add-reason-spec =
     tie.close
     (tie.spec
     (λ c κs. let f = c .before .pre in count-natural (c .before .args .h .faces) (faces-count f .0) (few-faces f))
-    (λ c κs. let f = c .before .before .pre in rw (c .count-of .ensures ∙ count-abs (c .before .before .args .h .faces) (faces-count f .0) (few-faces f)) (face-rows f))
+    (λ c κs. let f = c .before .before .pre in
+    rw (c .to-usize .ensures ∙ count-abs (c .before .before .args .h .faces) (faces-count f .0) (few-faces f))
+    (face-rows f))
     missing
     (λ c κs. tt)
     outside-it
-    (λ c κs. let f = c .before .before .before .before .before .before .before .pre in count-natural (c .before .before .before .before .before .before .before .args .h .nodes) (nodes-count f .0) (few-nodes f))
-    (λ c κs. let f = c .before .before .before .before .before .before .before .before .before .pre in count-natural (c .before .before .before .before .before .before .before .before .before .args .h .edges) (edges-count f .0) (few-edges f))
-    (λ c κs. sym (c .before .before .before .before .before .in-range .ensures) ∙ not-false _ (c .before .before .before .before .if2 .left))
+    (λ c κs. let f = c .before .before .before .before .before .before .before .pre in
+    count-natural (c .before .before .before .before .before .before .before .args .h .nodes) (nodes-count f .0)
+    (few-nodes f))
+    (λ c κs. let f = c .before .before .before .before .before .before .before .before .before .pre in
+    count-natural (c .before .before .before .before .before .before .before .before .before .args .h .edges)
+    (edges-count f .0) (few-edges f))
+    (λ c κs. sym (c .before .before .before .before .before .in-range .ensures)
+    ∙ not-false _ (c .before .before .before .before .if2 .left))
     is-taken-requires
     taken
     none-holds)

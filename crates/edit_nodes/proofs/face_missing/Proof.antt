@@ -19,14 +19,16 @@ use Rattle.edit_nodes.proofs.face_missing.Tie as tie
 none-given : tie.Need-returns
 none-given c =
     let a = c .before .before .args in
-    rw (sym (c .before .is-none .ensures ∙ ap minusOne (toZ-ofZ {w = w64} {z = a .face} (c .before .before .fits .face))) ∙ c .if1 .taken)
+    rw (sym (c .before .is-none .ensures
+    ∙ ap minusOne (toZ-ofZ {w = w64} {z = a .face} (c .before .before .fits .face))) ∙ c .if1 .taken)
 
 found : tie.Need-returns-2
 found c =
     let s = c .before .before .before .before .before .before in
     let a = s .args in
     let z = toZ-ofZ {w = w64} {z = a .face} (s .fits .face) in
-    let e = sym (c .before .before .before .find-row .ensures ∙ ap (λ (k : ℤ). place (sameZ k) 0 (column 1 (a .faces .now) (a .count))) z) ∙ c .before .found .given .1 in
+    let e = sym (c .before .before .before .find-row .ensures
+    ∙ ap (λ (k : ℤ). place (sameZ k) 0 (column 1 (a .faces .now) (a .count))) z) ∙ c .before .found .given .1 in
     let r = face-found (a .faces .now) (a .count) (s .pre .ranges) (a .face) _ e in
     rw (ap nonNeg (r .1), r .2) (sym (&&-false (not (minusOne (a .face)))))
 
@@ -35,8 +37,13 @@ missing c =
     let s = c .before .before .before .before .before in
     let a = s .args in
     let z = toZ-ofZ {w = w64} {z = a .face} (s .fits .face) in
-    let e = sym (c .before .before .find-row .ensures ∙ ap (λ (k : ℤ). place (sameZ k) 0 (column 1 (a .faces .now) (a .count))) z) ∙ c .enum-told .given .1 in
-    rw (sym (c .before .before .before .before .is-none .ensures ∙ ap minusOne z) ∙ c .before .before .before .if1 .left, face-none (a .faces .now) (a .count) (s .pre .ranges) (a .face) e)
+    let e = sym (c .before .before .find-row .ensures
+    ∙ ap (λ (k : ℤ). place (sameZ k) 0 (column 1 (a .faces .now) (a .count))) z) ∙ c .enum-told .given .1 in
+    rw (
+      sym (c .before .before .before .before .is-none .ensures ∙ ap minusOne z)
+          ∙ c .before .before .before .if1 .left,
+      face-none (a .faces .now) (a .count) (s .pre .ranges) (a .face) e,
+    )
 
 pub face-missing-spec : {M : Type 1} → statement M
 face-missing-spec =

@@ -26,8 +26,12 @@ returns c =
     let row = c .before .pre in
     let z = getD l (i * 4 + 3) (pos 0) in
     let r = rowAt nodeWidth l i in
-    let least = subst (λ (k : ℤ). leZ (negsuc 0) k ≡ true) (row-cell nodeWidth l i 3 (lit< tt)) (and-right (nonNeg (cell r 0) && coordinate (cell r 1) && coordinate (cell r 2)) (leZ (negsuc 0) (cell r 3)) (row .ranges)) in
-    ap not (word-test {a = z} {b = negsuc 0} (sfits-of (c .z .given)) (sfits-of (lit< tt))) ∙ lone-is z least ∙ ap isSome (node-cells l i (row .ranges) .face)
+    let least = subst (λ (k : ℤ). leZ (negsuc 0) k ≡ true) (row-cell nodeWidth l i 3 (lit< tt))
+    (and-right (nonNeg (cell r 0) && coordinate (cell r 1) && coordinate (cell r 2)) (leZ (negsuc 0) (cell r 3))
+    (row .ranges)) in
+    ap not (word-test {a = z} {b = negsuc 0} (sfits-of (c .z .given)) (sfits-of (lit< tt))) ∙ lone-is z least
+    ∙ ap isSome (node-cells l i (row .ranges) .face)
 
 pub is-isolated-spec : {M : Type 1} → statement M
-is-isolated-spec = tie.close (tie.spec (λ c. search needs) (λ c. search needs) (λ c. search needs) (λ c. search needs) returns)
+is-isolated-spec = tie.close (tie.spec (λ c. search needs) (λ c. search needs) (λ c. search needs)
+    (λ c. search needs) returns)

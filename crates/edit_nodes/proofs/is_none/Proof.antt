@@ -9,7 +9,8 @@ use Rattle.edit_nodes.proofs.is_none.Statement.{statement}
 use Rattle.edit_nodes.proofs.is_none.Tie as tie
 
 returns : tie.Need-returns
-returns c = word-test {a = c .args .face} {b = negsuc 0} (c .fits .face) (sfits-of (lit< tt)) ∙ minus-one-is (c .args .face)
+returns c = word-test {a = c .args .face} {b = negsuc 0} (c .fits .face) (sfits-of (lit< tt))
+    ∙ minus-one-is (c .args .face)
 
 pub is-none-spec : {M : Type 1} → statement M
 is-none-spec = tie.close (tie.spec returns)

@@ -9,12 +9,14 @@ use Rattle.edit_nodes.proofs.is_taken.Tie as tie
 returns : tie.Need-returns
 returns c =
     let a = c .before .before .args in
-    ap (λ (t : Bool). t || edgeThrough (edgeMap (a .edges .now) (a .count)) (a .p)) (sym (c .if1 .taken) ∙ c .before .node-at .ensures)
+    ap (λ (t : Bool). t || edgeThrough (edgeMap (a .edges .now) (a .count)) (a .p))
+    (sym (c .if1 .taken) ∙ c .before .node-at .ensures)
 
 returns-2 : tie.Need-returns-2
 returns-2 c =
     let a = c .before .before .before .args in
-    c .edge-through .ensures ∙ ap (λ (t : Bool). t || edgeThrough (edgeMap (a .edges .now) (a .count)) (a .p)) (sym (c .before .if1 .left) ∙ c .before .before .node-at .ensures)
+    c .edge-through .ensures ∙ ap (λ (t : Bool). t || edgeThrough (edgeMap (a .edges .now) (a .count)) (a .p))
+    (sym (c .before .if1 .left) ∙ c .before .before .node-at .ensures)
 
 pub is-taken-spec : {M : Type 1} → statement M
 is-taken-spec =

@@ -6,7 +6,7 @@ use mir.Syntax.{w64}
 use mir.Facts.{toZ-ofZ}
 use borrow.Author.Tests.{not-false}
 use Rattle.lists.specs.Tests.{same}
-use Rattle.lists.specs.Scans.{any}
+use Rattle.lists.specs.Scans.{anyOf}
 use Rattle.lists.specs.Tables.{table}
 use Rattle.plane.specs.declared.Point.{Point}
 use Rattle.plane.specs.Points.{samePoint}
@@ -22,13 +22,16 @@ use Rattle.edit_nodes.proofs.move_reason.Tie as tie
 outside-it : tie.Need-returns
 outside-it c =
     let s = c .before .before in
-    sym (first-hit 5 _ _ (range-told (toZ-ofZ {w = w64} {z = s .args .x} (s .fits .x)) (toZ-ofZ {w = w64} {z = s .args .y} (s .fits .y)) (c .before .in-range .ensures) (c .if1 .taken)))
+    sym (first-hit 5 _ _ (range-told (toZ-ofZ {w = w64} {z = s .args .x} (s .fits .x))
+    (toZ-ofZ {w = w64} {z = s .args .y} (s .fits .y)) (c .before .in-range .ensures) (c .if1 .taken)))
 
 bare : tie.Need-returns-2
 unfolding firstReason
 bare c =
     let s = c .before .before .before .before in
-    let g = range-told (toZ-ofZ {w = w64} {z = s .args .x} (s .fits .x)) (toZ-ofZ {w = w64} {z = s .args .y} (s .fits .y)) (c .before .before .before .in-range .ensures) (c .before .before .if1 .left) in
+    let g = range-told (toZ-ofZ {w = w64} {z = s .args .x} (s .fits .x))
+    (toZ-ofZ {w = w64} {z = s .args .y} (s .fits .y)) (c .before .before .before .in-range .ensures)
+    (c .before .before .if1 .left) in
     rw (g, ← c .before .is-isolated .ensures, c .if2 .taken)
 
 taken : tie.Need-returns-3
@@ -38,9 +41,12 @@ taken c =
     let a = s .args in
     let zx = toZ-ofZ {w = w64} {z = s .args .x} (s .fits .x) in
     let zy = toZ-ofZ {w = w64} {z = s .args .y} (s .fits .y) in
-    let g = range-told zx zy (c .before .before .before .before .before .before .in-range .ensures) (c .before .before .before .before .before .if1 .left) in
+    let g = range-told zx zy (c .before .before .before .before .before .before .in-range .ensures)
+    (c .before .before .before .before .before .if1 .left) in
     let p = c .before .before .point-of .ensures .0 ∙ ap₂ point zx zy in
-    let t = sym (c .before .is-taken .ensures ∙ ap (λ (q : Point). any (λ (j : ℕ). not (same j (a .i)) && samePoint (nodeAt (a .nodes .now) j .at) q) (table (λ j. j) 0 (a .n)) || edgeThrough (edgeMap (a .edges .now) (a .count)) q) p) ∙ c .if3 .taken in
+    let t = sym (c .before .is-taken .ensures
+    ∙ ap (λ (q : Point). anyOf (λ (j : ℕ). not (same j (a .i)) && samePoint (nodeAt (a .nodes .now) j .at) q)
+    (table (λ j. j) 0 (a .n)) || edgeThrough (edgeMap (a .edges .now) (a .count)) q) p) ∙ c .if3 .taken in
     rw (g, ← c .before .before .before .before .is-isolated .ensures, c .before .before .before .if2 .left, t)
 
 none-holds : tie.Need-returns-4
@@ -50,9 +56,12 @@ none-holds c =
     let a = s .args in
     let zx = toZ-ofZ {w = w64} {z = s .args .x} (s .fits .x) in
     let zy = toZ-ofZ {w = w64} {z = s .args .y} (s .fits .y) in
-    let g = range-told zx zy (c .before .before .before .before .before .before .in-range .ensures) (c .before .before .before .before .before .if1 .left) in
+    let g = range-told zx zy (c .before .before .before .before .before .before .in-range .ensures)
+    (c .before .before .before .before .before .if1 .left) in
     let p = c .before .before .point-of .ensures .0 ∙ ap₂ point zx zy in
-    let t = sym (c .before .is-taken .ensures ∙ ap (λ (q : Point). any (λ (j : ℕ). not (same j (a .i)) && samePoint (nodeAt (a .nodes .now) j .at) q) (table (λ j. j) 0 (a .n)) || edgeThrough (edgeMap (a .edges .now) (a .count)) q) p) ∙ c .if3 .left in
+    let t = sym (c .before .is-taken .ensures
+    ∙ ap (λ (q : Point). anyOf (λ (j : ℕ). not (same j (a .i)) && samePoint (nodeAt (a .nodes .now) j .at) q)
+    (table (λ j. j) 0 (a .n)) || edgeThrough (edgeMap (a .edges .now) (a .count)) q) p) ∙ c .if3 .left in
     rw (g, ← c .before .before .before .before .is-isolated .ensures, c .before .before .before .if2 .left, t)
 
 pub move-reason-spec : {M : Type 1} → statement M

@@ -12,7 +12,10 @@ returns : tie.Need-returns
 returns c =
     let a = c .before .args .face in
     let b = c .before .args .around in
-    rw (c .is-none .ensures ∙ ap minusOne (toZ-ofZ {w = w64} {z = a} (c .before .fits .face)), word-test {a = a} {b = b} (c .before .fits .face) (c .before .fits .around)) (other-is a b (c .before .pre .0) (c .before .pre .1))
+    rw (
+      c .is-none .ensures ∙ ap minusOne (toZ-ofZ {w = w64} {z = a} (c .before .fits .face)),
+      word-test {a = a} {b = b} (c .before .fits .face) (c .before .fits .around),
+    ) (other-is a b (c .before .pre .0) (c .before .pre .1))
 
 pub other-face-spec : {M : Type 1} → statement M
 other-face-spec = tie.close (tie.spec (λ c κs. tt) returns)

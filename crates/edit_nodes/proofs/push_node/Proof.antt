@@ -14,23 +14,33 @@ returns c =
     let s = c .before .before .before .before .before .before .before .before in
     let a = s .args in
     let p = s .pre .0 in
-    let n = c .before .before .before .before .count-of .ensures ∙ count-abs (a .h .nodes) (p .nodes) (omega (arith, p .few)) in
+    let n = c .before .before .before .before .to-usize .ensures
+    ∙ count-abs (a .h .nodes) (p .nodes) (omega (arith, p .few)) in
     let k = toZ-ofZ {w = w64} {z = a .h .«next_node»} (count-fits (a .h .«next_node») (p .next) (p .given)) in (
-      c .before .before .before .write-node .ensures ∙ rw (n, k, toZ-ofZ {w = w64} {z = a .x} (s .fits .x), toZ-ofZ {w = w64} {z = a .y} (s .fits .y), toZ-ofZ {w = w64} {z = a .around} (s .fits .around)),
+      c .before .before .before .write-node .ensures
+          ∙ rw (
+            n,
+            k,
+            toZ-ofZ {w = w64} {z = a .x} (s .fits .x),
+            toZ-ofZ {w = w64} {z = a .y} (s .fits .y),
+            toZ-ofZ {w = w64} {z = a .around} (s .fits .around),
+          ),
       done (c .before .with-node .ensures) k (c .carried .ensures),
     )
 
 write-node-requires : tie.Need-write-node-requires
 write-node-requires c κs =
     let p = c .before .before .before .before .pre in
-    let n = c .count-of .ensures ∙ count-abs (c .before .before .before .before .args .h .nodes) (p .0 .nodes) (omega (arith, p .0 .few)) in
+    let n = c .to-usize .ensures ∙ count-abs (c .before .before .before .before .args .h .nodes) (p .0 .nodes)
+    (omega (arith, p .0 .few)) in
     rw n (p .1)
 
 pub push-node-spec : {M : Type 1} → statement M
 push-node-spec =
     tie.close
     (tie.spec
-    (λ c κs. let p = c .before .before .before .pre .0 in count-natural (c .before .before .before .args .h .nodes) (p .nodes) (omega (arith, p .few)))
+    (λ c κs. let p = c .before .before .before .pre .0 in
+    count-natural (c .before .before .before .args .h .nodes) (p .nodes) (omega (arith, p .few)))
     write-node-requires
     (λ c κs. c .before .before .before .before .before .before .pre .0)
     (λ c κs. tt)

@@ -24,48 +24,67 @@ missing c edges faces f =
     let s = c .before .before .before .before .before .before .before in
     let a = s .args in
     let g = s .pre .2 in
-    let n = c .before .before .before .before .before .count-of .ensures ∙ count-abs (a .h .nodes) (nodes-count g .0) (few-nodes g) in
+    let n = c .before .before .before .before .before .to-usize .ensures
+    ∙ count-abs (a .h .nodes) (nodes-count g .0) (few-nodes g) in
     let z = toZ-ofZ {w = w64} {z = a .node} (s .fits .node) in
-    let e = place-told 4 (a .nodes .now) n z (c .before .before .before .find-row .ensures) (c .before .enum-told .given .1) in
-    decided-refused (a .nodes .now) edges faces (a .h) (RemoveIsoNode (a .node)) 4 (lit< tt) (c .refused .ensures) (remove-missing f (a .node) (node-none f (a .node) e))
+    let e = place-told 4 (a .nodes .now) n z (c .before .before .before .find-row .ensures)
+    (c .before .enum-told .given .1) in
+    decided-refused (a .nodes .now) edges faces (a .h) (RemoveIsoNode (a .node)) 4 (lit< tt) (c .refused .ensures)
+    (remove-missing f (a .node) (node-none f (a .node) e))
 
 bare : tie.Need-returns-2
 bare c edges faces f =
     let s = c .before .before .before .before .before .before .before .before .before .before .before in
     let a = s .args in
     let g = s .pre .2 in
-    let n = c .before .before .before .before .before .before .before .before .before .count-of .ensures ∙ count-abs (a .h .nodes) (nodes-count g .0) (few-nodes g) in
+    let n = c .before .before .before .before .before .before .before .before .before .to-usize .ensures
+    ∙ count-abs (a .h .nodes) (nodes-count g .0) (few-nodes g) in
     let z = toZ-ofZ {w = w64} {z = a .node} (s .fits .node) in
-    let e = place-told 4 (a .nodes .now) n z (c .before .before .before .before .before .before .before .find-row .ensures) (c .before .before .before .before .before .found .given .1) in
-    decided-refused (a .nodes .now) edges faces (a .h) (RemoveIsoNode (a .node)) 9 (lit< tt) (c .refused2 .ensures) (remove-bare f (a .node) _ e (c .before .before .is-isolated .ensures) (c .before .if1 .taken))
+    let e = place-told 4 (a .nodes .now) n z
+    (c .before .before .before .before .before .before .before .find-row .ensures)
+    (c .before .before .before .before .before .found .given .1) in
+    decided-refused (a .nodes .now) edges faces (a .h) (RemoveIsoNode (a .node)) 9 (lit< tt) (c .refused2 .ensures)
+    (remove-bare f (a .node) _ e (c .before .before .is-isolated .ensures) (c .before .if1 .taken))
 
 gone : tie.Need-returns-3
 gone c edges faces f =
-    let s = c .before .before .before .before .before .before .before .before .before .before .before .before .before .before .before in
+    let s = c .before .before .before .before .before .before .before .before .before .before .before .before .before
+    .before .before in
     let a = s .args in
     let g = s .pre .2 in
-    let n = c .before .before .before .before .before .before .before .before .before .before .before .before .before .count-of .ensures ∙ count-abs (a .h .nodes) (nodes-count g .0) (few-nodes g) in
+    let n = c .before .before .before .before .before .before .before .before .before .before .before .before .before
+    .to-usize .ensures ∙ count-abs (a .h .nodes) (nodes-count g .0) (few-nodes g) in
     let z = toZ-ofZ {w = w64} {z = a .node} (s .fits .node) in
-    let e = place-told 4 (a .nodes .now) n z (c .before .before .before .before .before .before .before .before .before .before .before .find-row .ensures) (c .before .before .before .before .before .before .before .before .before .found .given .1) in
-    let row = c .before .before .before .remove-row .ensures ∙ ap (λ (k : ℕ). closed 4 (a .nodes .now) k (c .before .before .before .before .before .before .before .before .before .found .given .0 .0)) n in
+    let e = place-told 4 (a .nodes .now) n z
+    (c .before .before .before .before .before .before .before .before .before .before .before .find-row .ensures)
+    (c .before .before .before .before .before .before .before .before .before .found .given .1) in
+    let row = c .before .before .before .remove-row .ensures
+    ∙ ap (λ (k : ℕ). closed 4 (a .nodes .now) k
+    (c .before .before .before .before .before .before .before .before .before .found .given .0 .0)) n in
     let done = remove-carried f _ (row-below f (a .node) _ e) (a .node) (row-number f (a .node) _ e) row in
-    decided-carried (a .nodes .now) edges faces (a .h) (RemoveIsoNode (a .node)) _ edges faces (removed (a .h)) (pos 0) (c .carried .ensures ∙ ap (λ h. record { head = h; answer = record { refusal = 0; value = pos 0 } }) (c .before .without-node .ensures))
-    (remove-free f (a .node) _ e (c .before .before .before .before .before .before .is-isolated .ensures) (c .before .before .before .before .before .if1 .left)) (done .0) (done .1)
+    decided-carried (a .nodes .now) edges faces (a .h) (RemoveIsoNode (a .node)) _ edges faces (removed (a .h)) (pos 0)
+    (c .carried .ensures ∙ ap (λ h. record { head = h; answer = record { refusal = 0; value = pos 0 } })
+    (c .before .without-node .ensures))
+    (remove-free f (a .node) _ e (c .before .before .before .before .before .before .is-isolated .ensures)
+    (c .before .before .before .before .before .if1 .left)) (done .0) (done .1)
 
 find-row-requires : tie.Need-find-row-requires
 find-row-requires c κs =
     let s = c .before .before .before in
     let g = s .pre .2 in
-    rw (c .before .count-of .ensures ∙ count-abs (s .args .h .nodes) (nodes-count g .0) (few-nodes g)) (node-rows-rising (node-rows g))
+    rw (c .before .to-usize .ensures ∙ count-abs (s .args .h .nodes) (nodes-count g .0) (few-nodes g))
+    (node-rows-rising (node-rows g))
 
 is-isolated-requires : tie.Need-is-isolated-requires
 is-isolated-requires c κs =
     let s = c .before .before .before .before .before .before .before .before in
     let a = s .args in
     let g = s .pre .2 in
-    let n = c .before .before .before .before .before .before .count-of .ensures ∙ count-abs (a .h .nodes) (nodes-count g .0) (few-nodes g) in
+    let n = c .before .before .before .before .before .before .to-usize .ensures
+    ∙ count-abs (a .h .nodes) (nodes-count g .0) (few-nodes g) in
     let z = toZ-ofZ {w = w64} {z = a .node} (s .fits .node) in
-    let e = place-told 4 (a .nodes .now) n z (c .before .before .before .before .find-row .ensures) (c .before .before .found .given .1) in
+    let e = place-told 4 (a .nodes .now) n z (c .before .before .before .before .find-row .ensures)
+    (c .before .before .found .given .1) in
     node-row-of (node-rows g) _ (row-below g (a .node) _ e)
 
 remove-row-requires : tie.Need-remove-row-requires
@@ -73,9 +92,12 @@ remove-row-requires c κs =
     let s = c .before .before .before .before .before .before .before .before .before .before .before in
     let a = s .args in
     let g = s .pre .2 in
-    let n = c .before .before .before .before .before .before .before .before .before .count-of .ensures ∙ count-abs (a .h .nodes) (nodes-count g .0) (few-nodes g) in
+    let n = c .before .before .before .before .before .before .before .before .before .to-usize .ensures
+    ∙ count-abs (a .h .nodes) (nodes-count g .0) (few-nodes g) in
     let z = toZ-ofZ {w = w64} {z = a .node} (s .fits .node) in
-    let e = place-told 4 (a .nodes .now) n z (c .before .before .before .before .before .before .before .find-row .ensures) (c .before .before .before .before .before .found .given .1) in
+    let e = place-told 4 (a .nodes .now) n z
+    (c .before .before .before .before .before .before .before .find-row .ensures)
+    (c .before .before .before .before .before .found .given .1) in
     rw n (row-below g (a .node) _ e, nodes-fit g)
 
 without-node-requires : tie.Need-without-node-requires
@@ -83,9 +105,12 @@ without-node-requires c κs =
     let s = c .before .before .before .before .before .before .before .before .before .before .before .before .before in
     let a = s .args in
     let g = s .pre .2 in
-    let n = c .before .before .before .before .before .before .before .before .before .before .before .count-of .ensures ∙ count-abs (a .h .nodes) (nodes-count g .0) (few-nodes g) in
+    let n = c .before .before .before .before .before .before .before .before .before .before .before .to-usize
+    .ensures ∙ count-abs (a .h .nodes) (nodes-count g .0) (few-nodes g) in
     let z = toZ-ofZ {w = w64} {z = a .node} (s .fits .node) in
-    let e = place-told 4 (a .nodes .now) n z (c .before .before .before .before .before .before .before .before .before .find-row .ensures) (c .before .before .before .before .before .before .before .found .given .1) in
+    let e = place-told 4 (a .nodes .now) n z
+    (c .before .before .before .before .before .before .before .before .before .find-row .ensures)
+    (c .before .before .before .before .before .before .before .found .given .1) in
     let t = row-below g (a .node) _ e in
     (numbered-of g, omega arith)
 

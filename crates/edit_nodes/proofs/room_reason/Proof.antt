@@ -14,33 +14,47 @@ no-room : tie.Need-returns
 unfolding firstReason
 no-room c =
     let s = c .before .before .before in
-    let e = c .before .count-of .ensures ∙ count-abs (s .args .h .nodes) (s .pre .nodes) (omega (arith, s .pre .few)) in
+    let e = c .before .to-usize .ensures ∙ count-abs (s .args .h .nodes) (s .pre .nodes) (omega (arith, s .pre .few)) in
     rw (lt-ltb (length (s .args .nodes .now) / 4) (natAbs (s .args .h .nodes) + 1) (omega (arith, c .if1 .taken)))
 
 no-number : tie.Need-returns-2
 unfolding firstReason
 no-number c =
     let s = c .before .before .before .before .before .before in
-    let e = c .before .before .before .before .count-of .ensures ∙ count-abs (s .args .h .nodes) (s .pre .nodes) (omega (arith, s .pre .few)) in
-    let g = c .before .count-of2 .ensures ∙ count-abs (s .args .h .«next_node») (s .pre .next) (s .pre .given) in
-    rw (le-ltb (length (s .args .nodes .now) / 4) (natAbs (s .args .h .nodes) + 1) (omega (arith, c .before .before .before .if1 .left)), lt-ltb 1000000 (natAbs (s .args .h .«next_node») + 1) (omega (arith, c .if2 .taken)))
+    let e = c .before .before .before .before .to-usize .ensures
+    ∙ count-abs (s .args .h .nodes) (s .pre .nodes) (omega (arith, s .pre .few)) in
+    let g = c .before .to-usize2 .ensures ∙ count-abs (s .args .h .«next_node») (s .pre .next) (s .pre .given) in
+    rw (
+      le-ltb (length (s .args .nodes .now) / 4) (natAbs (s .args .h .nodes) + 1)
+          (omega (arith, c .before .before .before .if1 .left)),
+      lt-ltb 1000000 (natAbs (s .args .h .«next_node») + 1) (omega (arith, c .if2 .taken)),
+    )
 
 enough : tie.Need-returns-3
 unfolding firstReason
 enough c =
     let s = c .before .before .before .before .before .before in
-    let e = c .before .before .before .before .count-of .ensures ∙ count-abs (s .args .h .nodes) (s .pre .nodes) (omega (arith, s .pre .few)) in
-    let g = c .before .count-of2 .ensures ∙ count-abs (s .args .h .«next_node») (s .pre .next) (s .pre .given) in
-    rw (le-ltb (length (s .args .nodes .now) / 4) (natAbs (s .args .h .nodes) + 1) (omega (arith, c .before .before .before .if1 .left)), le-ltb 1000000 (natAbs (s .args .h .«next_node») + 1) (omega (arith, c .if2 .left)))
+    let e = c .before .before .before .before .to-usize .ensures
+    ∙ count-abs (s .args .h .nodes) (s .pre .nodes) (omega (arith, s .pre .few)) in
+    let g = c .before .to-usize2 .ensures ∙ count-abs (s .args .h .«next_node») (s .pre .next) (s .pre .given) in
+    rw (
+      le-ltb (length (s .args .nodes .now) / 4) (natAbs (s .args .h .nodes) + 1)
+          (omega (arith, c .before .before .before .if1 .left)),
+      le-ltb 1000000 (natAbs (s .args .h .«next_node») + 1) (omega (arith, c .if2 .left)),
+    )
 
 pub room-reason-spec : {M : Type 1} → statement M
 room-reason-spec =
     tie.close
     (tie.spec
     (λ c κs. let p = c .before .pre in count-natural (c .before .args .h .nodes) (p .nodes) (omega (arith, p .few)))
-    (λ c. let p = c .before .before .pre in let e = c .count-of .ensures ∙ count-abs (c .before .before .args .h .nodes) (p .nodes) (omega (arith, p .few)) in omega (arith, p .few))
+    (λ c. let p = c .before .before .pre in let e = c .to-usize .ensures
+    ∙ count-abs (c .before .before .args .h .nodes) (p .nodes) (omega (arith, p .few)) in omega (arith, p .few))
     no-room
-    (λ c κs. let p = c .before .before .before .before .pre in count-natural (c .before .before .before .before .args .h .«next_node») (p .next) (p .given))
-    (λ c. let p = c .before .before .before .before .before .pre in let e = c .count-of2 .ensures ∙ count-abs (c .before .before .before .before .before .args .h .«next_node») (p .next) (p .given) in omega (arith, p .given))
+    (λ c κs. let p = c .before .before .before .before .pre in
+    count-natural (c .before .before .before .before .args .h .«next_node») (p .next) (p .given))
+    (λ c. let p = c .before .before .before .before .before .pre in let e = c .to-usize2 .ensures
+    ∙ count-abs (c .before .before .before .before .before .args .h .«next_node») (p .next) (p .given) in
+    omega (arith, p .given))
     no-number
     enough)

@@ -14,6 +14,7 @@ pub with-node-spec : {M : Type 1} → statement M
 with-node-spec =
     tie.close
     (tie.spec
-    (λ c. let p = c .before .before .pre in plus-fits (c .before .before .args .h .nodes) (p .nodes) (omega (arith, p .few)))
+    (λ c. let p = c .before .before .pre in
+    plus-fits (c .before .before .args .h .nodes) (p .nodes) (omega (arith, p .few)))
     (λ c. let p = c .before .before .pre in plus-fits (c .before .before .args .h .«next_node») (p .next) (p .given))
     returns)

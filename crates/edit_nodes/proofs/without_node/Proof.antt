@@ -13,5 +13,6 @@ pub without-node-spec : {M : Type 1} → statement M
 without-node-spec =
     tie.close
     (tie.spec
-    (λ c. let p = c .before .pre in minus-fits (c .before .args .h .nodes) (p .0 .nodes) (omega (arith, p .0 .few)) (p .1))
+    (λ c. let p = c .before .pre in minus-fits (c .before .args .h .nodes) (p .0 .nodes) (omega (arith, p .0 .few))
+    (p .1))
     returns)

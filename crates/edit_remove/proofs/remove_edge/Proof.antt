@@ -1,4 +1,5 @@
--- `edit_remove::remove_edge` meets its contract: the first reason turns it down, and else the edge goes. Assumes nothing.
+-- `edit_remove::remove_edge` meets its contract: the first reason turns it down, and else the edge goes. Assumes
+-- nothing.
 use borrow.Author.Needs.{needs}
 use mathlib.Core.Path.{sym, ap, _∙_}
 use mathlib.Core.Bool.{cond}
@@ -20,17 +21,20 @@ refused c =
     let s = g .before .before in
     let a = s .args in
     let r = g .judge-removal .result in
-    let j = rw (toZ-ofZ {w = w64} (s .fits .edge)) at (g .judge-removal .ensures (a .nodes .now) (a .faces .now) (s .pre)) in
-    decided-refused (a .nodes .now) (a .edges .now) (a .faces .now) (a .h) (removeTicket (a .news) (a .edge)) (r .reason) (omega (arith, c .before .if1 .taken)) (c .refused .ensures) (sym (j .reason))
+    let j = rw (toZ-ofZ {w = w64} (s .fits .edge)) at
+    (g .judge-removal .ensures (a .nodes .now) (a .faces .now) (s .pre)) in
+    decided-refused (a .nodes .now) (a .edges .now) (a .faces .now) (a .h) (removeTicket (a .news) (a .edge))
+    (r .reason) (omega (arith, c .before .if1 .taken)) (c .refused .ensures) (sym (j .reason))
 
-clear-requires : tie.Need-clear-requires
-clear-requires c κs =
+remove-and-heal-requires : tie.Need-remove-and-heal-requires
+remove-and-heal-requires c κs =
     let e = c .before .before .before in
     let g = e .before in
     let s = g .before .before in
     let a = s .args in
     let r = g .judge-removal .result in
-    let j = rw (toZ-ofZ {w = w64} (s .fits .edge)) at (g .judge-removal .ensures (a .nodes .now) (a .faces .now) (s .pre)) in
+    let j = rw (toZ-ofZ {w = w64} (s .fits .edge)) at
+    (g .judge-removal .ensures (a .nodes .now) (a .faces .now) (s .pre)) in
     clearable (s .pre) (a .news) (r .makes) (a .edge) (r .row) (j .row (e .if1 .left)) (j .makes (e .if1 .left))
 
 carried : tie.Need-returns-2
@@ -42,16 +46,20 @@ carried c =
     let s = g .before .before in
     let a = s .args in
     let r = g .judge-removal .result in
-    let j = rw (toZ-ofZ {w = w64} (s .fits .edge)) at (g .judge-removal .ensures (a .nodes .now) (a .faces .now) (s .pre)) in
+    let j = rw (toZ-ofZ {w = w64} (s .fits .edge)) at
+    (g .judge-removal .ensures (a .nodes .now) (a .faces .now) (s .pre)) in
     let zero = e .if1 .left in
-    let l = k .clear .last in
+    let l = k .remove-and-heal .last in
     let v = c .before .value-of in
-    let face = sent (t .struct-told .given .1 .0 .1 .1 .1 .0 .1) ∙ k .clear .ensures .value in
-    decided-carried (a .nodes .now) (a .edges .now) (a .faces .now) (a .h) (removeTicket (a .news) (a .edge)) (l .0) (l .1 .0) (l .1 .1 .0) (k .clear .result .head) (toZ w64 (ofZ w64 (v .result)))
+    let face = sent (t .struct-told .given .1 .0 .1 .1 .1 .0 .1) ∙ k .remove-and-heal .ensures .value in
+    decided-carried (a .nodes .now) (a .edges .now) (a .faces .now) (a .h) (removeTicket (a .news) (a .edge)) (l .0)
+    (l .1 .0) (l .1 .1 .0) (k .remove-and-heal .result .head) (toZ w64 (ofZ w64 (v .result)))
     (c .carried .ensures)
     (sym (j .reason) ∙ zero)
-    (removed-lent (s .pre) (a .news) (r .makes) (a .edge) (r .row) (j .row zero) (j .makes zero) (k .clear .ensures))
-    (removed-value (s .pre) (a .news) (r .makes) (a .edge) (r .row) (j .row zero) (j .makes zero) ∙ sym (sent (v .ok) ∙ v .ensures ∙ ap (λ (z : ℤ). cond (a .news) z (pos 0)) face))
+    (removed-lent (s .pre) (a .news) (r .makes) (a .edge) (r .row) (j .row zero) (j .makes zero)
+    (k .remove-and-heal .ensures))
+    (removed-value (s .pre) (a .news) (r .makes) (a .edge) (r .row) (j .row zero) (j .makes zero)
+    ∙ sym (sent (v .ok) ∙ v .ensures ∙ ap (λ (z : ℤ). cond (a .news) z (pos 0)) face))
 
 pub remove-edge-spec : {M : Type 1} → statement M
 remove-edge-spec =
@@ -61,7 +69,7 @@ remove-edge-spec =
     (λ c κs. search needs)
     (λ c. search needs)
     refused
-    clear-requires
+    remove-and-heal-requires
     (λ c κs. search needs)
     (λ c κs. search needs)
     (λ c. search needs)

@@ -8,7 +8,8 @@ use Rattle.edit_remove.proofs.value_of.Statement.{statement}
 use Rattle.edit_remove.proofs.value_of.Tie as tie
 
 returns : tie.Need-returns
-returns c = let a = c .before .args in toZ-ofZ {w = w64} {z = a .face} (c .before .fits .face) ∙ sym (ap (λ (b : Bool). cond b (a .face) (pos 0)) (c .if1 .taken))
+returns c = let a = c .before .args in toZ-ofZ {w = w64} {z = a .face} (c .before .fits .face)
+    ∙ sym (ap (λ (b : Bool). cond b (a .face) (pos 0)) (c .if1 .taken))
 
 returns-2 : tie.Need-returns-2
 returns-2 c = sym (ap (λ (b : Bool). cond b (c .before .args .face) (pos 0)) (c .if1 .left))

@@ -23,7 +23,8 @@ add-last : tie.Need-add-after-4
 add-last c =
     let s = c .before .before .before .before in
     let k = few-last (s .args .keeps) (natAbs (s .args .h .«next_edge»)) (s .pre .edge-given) in
-    more-fits (cond (s .args .keeps) (natAbs (s .args .h .«next_edge»)) (natAbs (s .args .h .«next_edge») + 1)) 1 (c .end-number .ensures) refl (omega (arith, k))
+    more-fits (cond (s .args .keeps) (natAbs (s .args .h .«next_edge»)) (natAbs (s .args .h .«next_edge») + 1)) 1
+    (c .end-number .ensures) refl (omega (arith, k))
 
 returns : tie.Need-returns
 returns c =
@@ -31,16 +32,25 @@ returns c =
     let h = s .args .h in
     let p = s .pre in
     let k = few-last (s .args .keeps) (natAbs (h .«next_edge»)) (p .edge-given) in
-    let e = more-is (cond (s .args .keeps) (natAbs (h .«next_edge»)) (natAbs (h .«next_edge») + 1)) 1 (c .end-number .ensures) refl (omega (arith, k)) ∙ ap pos (given-last (s .args .keeps) (natAbs (h .«next_edge»))) in
-    rw (plus-is (h .nodes) (p .nodes) (omega (arith, p .few-nodes)), plus-is (h .edges) (p .edges) (omega (arith, p .few-edges)), plus-is (h .«next_node») (p .next-node) (omega (arith, p .node-given)), e)
+    let e = more-is (cond (s .args .keeps) (natAbs (h .«next_edge»)) (natAbs (h .«next_edge») + 1)) 1
+    (c .end-number .ensures) refl (omega (arith, k)) ∙ ap pos (given-last (s .args .keeps) (natAbs (h .«next_edge»))) in
+    rw (
+      plus-is (h .nodes) (p .nodes) (omega (arith, p .few-nodes)),
+      plus-is (h .edges) (p .edges) (omega (arith, p .few-edges)),
+      plus-is (h .«next_node») (p .next-node) (omega (arith, p .node-given)),
+      e,
+    )
 
 pub after-split-spec : {M : Type 1} → statement M
 after-split-spec =
     tie.close
     (tie.spec
     (λ c κs. search needs)
-    (λ c. let s = c .before .before .before .before in plus-fits (s .args .h .nodes) (s .pre .nodes) (omega (arith, s .pre .few-nodes)))
-    (λ c. let s = c .before .before .before .before in plus-fits (s .args .h .edges) (s .pre .edges) (omega (arith, s .pre .few-edges)))
-    (λ c. let s = c .before .before .before .before in plus-fits (s .args .h .«next_node») (s .pre .next-node) (omega (arith, s .pre .node-given)))
+    (λ c. let s = c .before .before .before .before in
+    plus-fits (s .args .h .nodes) (s .pre .nodes) (omega (arith, s .pre .few-nodes)))
+    (λ c. let s = c .before .before .before .before in
+    plus-fits (s .args .h .edges) (s .pre .edges) (omega (arith, s .pre .few-edges)))
+    (λ c. let s = c .before .before .before .before in
+    plus-fits (s .args .h .«next_node») (s .pre .next-node) (omega (arith, s .pre .node-given)))
     add-last
     returns)

@@ -24,9 +24,13 @@ cut-row-requires c κs =
     let s = c .before .before .before .before .before .before .before in
     let a = s .args in
     let p = s .pre in
-    let e = c .before .before .before .before .count-of .ensures ∙ count-abs (a .h .edges) (p .0 .edges) (omega (arith, p .0 .few-edges)) in
-    let za : toZ w64 (ofZ w64 (c .before .before .start-number .result)) ≡ startNumber (a .h) (a .keeps) (a .edge) = sent (c .before .before .start-number .ok) ∙ c .before .before .start-number .ensures ∙ ap (startNumber (a .h) (a .keeps)) (toZ-ofZ {w = w64} {z = a .edge} (s .fits .edge)) in
-    let zb : toZ w64 (ofZ w64 (c .before .end-number .result)) ≡ endNumber (a .h) (a .keeps) = sent (c .before .end-number .ok) ∙ c .before .end-number .ensures in (
+    let e = c .before .before .before .before .to-usize .ensures
+    ∙ count-abs (a .h .edges) (p .0 .edges) (omega (arith, p .0 .few-edges)) in
+    let za : toZ w64 (ofZ w64 (c .before .before .start-number .result)) ≡ startNumber (a .h) (a .keeps) (a .edge) =
+    sent (c .before .before .start-number .ok) ∙ c .before .before .start-number .ensures
+    ∙ ap (startNumber (a .h) (a .keeps)) (toZ-ofZ {w = w64} {z = a .edge} (s .fits .edge)) in
+    let zb : toZ w64 (ofZ w64 (c .before .end-number .result)) ≡ endNumber (a .h) (a .keeps) =
+    sent (c .before .end-number .ok) ∙ c .before .end-number .ensures in (
       p .1,
       c .before .before .before .point-of .ensures .1,
       omega (arith, p .2),
@@ -41,18 +45,26 @@ returns c =
     let s = c .before .before .before .before .before .before .before .before .before in
     let a = s .args in
     let p = s .pre in
-    let e = c .before .before .before .before .before .before .count-of .ensures ∙ count-abs (a .h .edges) (p .0 .edges) (omega (arith, p .0 .few-edges)) in
-    let zn : toZ w64 (ofZ w64 (a .h .«next_node»)) ≡ a .h .«next_node» = toZ-ofZ {w = w64} (count-fits (a .h .«next_node») (p .0 .next-node) (omega (arith, p .0 .node-given))) in
-    let zp = c .before .before .before .before .before .point-of .ensures .0 ∙ ap₂ point (toZ-ofZ {w = w64} {z = a .x} (s .fits .x)) (toZ-ofZ {w = w64} {z = a .y} (s .fits .y)) in
-    let za : toZ w64 (ofZ w64 (c .before .before .before .before .start-number .result)) ≡ startNumber (a .h) (a .keeps) (a .edge) = sent (c .before .before .before .before .start-number .ok) ∙ c .before .before .before .before .start-number .ensures ∙ ap (startNumber (a .h) (a .keeps)) (toZ-ofZ {w = w64} {z = a .edge} (s .fits .edge)) in
-    let zb : toZ w64 (ofZ w64 (c .before .before .before .end-number .result)) ≡ endNumber (a .h) (a .keeps) = sent (c .before .before .before .end-number .ok) ∙ c .before .before .before .end-number .ensures in
+    let e = c .before .before .before .before .before .before .to-usize .ensures
+    ∙ count-abs (a .h .edges) (p .0 .edges) (omega (arith, p .0 .few-edges)) in
+    let zn : toZ w64 (ofZ w64 (a .h .«next_node»)) ≡ a .h .«next_node» =
+    toZ-ofZ {w = w64} (count-fits (a .h .«next_node») (p .0 .next-node) (omega (arith, p .0 .node-given))) in
+    let zp = c .before .before .before .before .before .point-of .ensures .0
+    ∙ ap₂ point (toZ-ofZ {w = w64} {z = a .x} (s .fits .x)) (toZ-ofZ {w = w64} {z = a .y} (s .fits .y)) in
+    let za : toZ w64 (ofZ w64 (c .before .before .before .before .start-number .result))
+    ≡ startNumber (a .h) (a .keeps) (a .edge) = sent (c .before .before .before .before .start-number .ok)
+    ∙ c .before .before .before .before .start-number .ensures
+    ∙ ap (startNumber (a .h) (a .keeps)) (toZ-ofZ {w = w64} {z = a .edge} (s .fits .edge)) in
+    let zb : toZ w64 (ofZ w64 (c .before .before .before .end-number .result)) ≡ endNumber (a .h) (a .keeps) =
+    sent (c .before .before .before .end-number .ok) ∙ c .before .before .before .end-number .ensures in
     c .before .cut-row .ensures ∙ (λ j. cutRow (a .edges .now) (e j) (a .i) (zn j) (zp j) (a .keeps) (za j) (zb j))
 
 pub cut-edge-spec : {M : Type 1} → statement M
 cut-edge-spec =
     tie.close
     (tie.spec
-    (λ c κs. let s = c .before .before in count-natural (s .args .h .edges) (s .pre .0 .edges) (omega (arith, s .pre .0 .few-edges)))
+    (λ c κs. let s = c .before .before in
+    count-natural (s .args .h .edges) (s .pre .0 .edges) (omega (arith, s .pre .0 .few-edges)))
     (λ c κs. search needs)
     (λ c κs. search needs)
     (λ c κs. search needs)

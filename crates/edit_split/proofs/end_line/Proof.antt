@@ -8,7 +8,8 @@ use Rattle.edit_split.proofs.end_line.Statement.{statement}
 use Rattle.edit_split.proofs.end_line.Tie as tie
 
 returns : tie.Need-returns
-returns c = c .back-of .ensures ∙ ap (λ (d : Curve). lineOf (points (back (c .before .before .args .p) d))) (c .before .curve-of .ensures .1)
+returns c = c .back-of .ensures ∙ ap (λ (d : Curve). lineOf (points (back (c .before .before .args .p) d)))
+    (c .before .curve-of .ensures .1)
 
 pub end-line-spec : {M : Type 1} → statement M
 end-line-spec = tie.close (tie.spec (λ c κs. search needs) (λ c κs. search needs) returns)

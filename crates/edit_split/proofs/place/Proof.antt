@@ -15,7 +15,9 @@ kept c = rw (c .before .before .before .if1 .taken) (c .before .write-edge .ensu
 last : tie.Need-returns-2
 last c =
     let a = c .before .before .before .before .before .before .before .args in
-    rw (c .before .before .before .before .before .before .if1 .left) (c .before .write-edge2 .ensures ∙ ap (λ (t : List ℤ). paste t ((a .e - 1) * 32) (cellsOf (a .s) (a .l)) 32) (c .before .before .before .before .remove-row .ensures))
+    rw (c .before .before .before .before .before .before .if1 .left)
+    (c .before .write-edge2 .ensures ∙ ap (λ (t : List ℤ). paste t ((a .e - 1) * 32) (cellsOf (a .s) (a .l)) 32)
+    (c .before .before .before .before .remove-row .ensures))
 
 pub place-spec : {M : Type 1} → statement M
 place-spec =

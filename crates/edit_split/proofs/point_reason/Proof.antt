@@ -22,7 +22,9 @@ outside-it c =
     let s = c .before .before in
     let zx = toZ-ofZ {w = w64} {z = s .args .x} (s .fits .x) in
     let zy = toZ-ofZ {w = w64} {z = s .args .y} (s .fits .y) in
-    let g : outside (s .args .x) (s .args .y) ≡ true = ap not (sym (c .before .in-range .ensures ∙ ap₂ (λ (x y : ℤ). coordinate x && coordinate y) zx zy)) ∙ c .if1 .taken in
+    let g : outside (s .args .x) (s .args .y) ≡ true =
+    ap not (sym (c .before .in-range .ensures ∙ ap₂ (λ (x y : ℤ). coordinate x && coordinate y) zx zy))
+    ∙ c .if1 .taken in
     rw g
 
 taken : tie.Need-returns-2
@@ -31,10 +33,15 @@ taken c =
     let s = c .before .before .before .before .before in
     let zx = toZ-ofZ {w = w64} {z = s .args .x} (s .fits .x) in
     let zy = toZ-ofZ {w = w64} {z = s .args .y} (s .fits .y) in
-    let g : outside (s .args .x) (s .args .y) ≡ false = ap not (sym (c .before .before .before .before .in-range .ensures ∙ ap₂ (λ (x y : ℤ). coordinate x && coordinate y) zx zy)) ∙ c .before .before .before .if1 .left in
-    let p : c .before .before .point-of .result ≡ point (s .args .x) (s .args .y) = c .before .before .point-of .ensures .0 ∙ ap₂ point zx zy in
+    let g : outside (s .args .x) (s .args .y) ≡ false =
+    ap not (sym (c .before .before .before .before .in-range .ensures
+    ∙ ap₂ (λ (x y : ℤ). coordinate x && coordinate y) zx zy)) ∙ c .before .before .before .if1 .left in
+    let p : c .before .before .point-of .result ≡ point (s .args .x) (s .args .y) =
+    c .before .before .point-of .ensures .0 ∙ ap₂ point zx zy in
     let k : reasons.nodeAt (nodesOf (s .args .nodes .now) (s .args .n)) (point (s .args .x) (s .args .y)) ≡ true =
-    ap (reasons.nodeAt (nodesOf (s .args .nodes .now) (s .args .n))) (sym p) ∙ sym (node-at-all (s .args .nodes .now) (s .args .n) (s .args .n) (c .before .before .point-of .result) (omega arith)) ∙ sym (c .before .node-at .ensures) ∙ c .if2 .taken in
+    ap (reasons.nodeAt (nodesOf (s .args .nodes .now) (s .args .n))) (sym p)
+    ∙ sym (node-at-all (s .args .nodes .now) (s .args .n) (s .args .n) (c .before .before .point-of .result)
+    (omega arith)) ∙ sym (c .before .node-at .ensures) ∙ c .if2 .taken in
     rw (g, k)
 
 fits : tie.Need-returns-3
@@ -43,11 +50,19 @@ fits c =
     let s = c .before .before .before .before .before .before .before in
     let zx = toZ-ofZ {w = w64} {z = s .args .x} (s .fits .x) in
     let zy = toZ-ofZ {w = w64} {z = s .args .y} (s .fits .y) in
-    let g : outside (s .args .x) (s .args .y) ≡ false = ap not (sym (c .before .before .before .before .before .before .in-range .ensures ∙ ap₂ (λ (x y : ℤ). coordinate x && coordinate y) zx zy)) ∙ c .before .before .before .before .before .if1 .left in
-    let p : c .before .before .before .before .point-of .result ≡ point (s .args .x) (s .args .y) = c .before .before .before .before .point-of .ensures .0 ∙ ap₂ point zx zy in
+    let g : outside (s .args .x) (s .args .y) ≡ false =
+    ap not (sym (c .before .before .before .before .before .before .in-range .ensures
+    ∙ ap₂ (λ (x y : ℤ). coordinate x && coordinate y) zx zy)) ∙ c .before .before .before .before .before .if1 .left in
+    let p : c .before .before .before .before .point-of .result ≡ point (s .args .x) (s .args .y) =
+    c .before .before .before .before .point-of .ensures .0 ∙ ap₂ point zx zy in
     let k : reasons.nodeAt (nodesOf (s .args .nodes .now) (s .args .n)) (point (s .args .x) (s .args .y)) ≡ false =
-    ap (reasons.nodeAt (nodesOf (s .args .nodes .now) (s .args .n))) (sym p) ∙ sym (node-at-all (s .args .nodes .now) (s .args .n) (s .args .n) (c .before .before .before .before .point-of .result) (omega arith)) ∙ sym (c .before .before .before .node-at .ensures) ∙ c .before .before .if2 .left in
-    let j : onCurve (edgeAt (s .args .edges .now) (s .args .i) .curve) (point (s .args .x) (s .args .y)) ≡ true = ap (onCurve (edgeAt (s .args .edges .now) (s .args .i) .curve)) (sym p) ∙ sym (c .before .lies-on .ensures) ∙ c .if3 .taken in
+    ap (reasons.nodeAt (nodesOf (s .args .nodes .now) (s .args .n))) (sym p)
+    ∙ sym (node-at-all (s .args .nodes .now) (s .args .n) (s .args .n)
+    (c .before .before .before .before .point-of .result) (omega arith))
+    ∙ sym (c .before .before .before .node-at .ensures) ∙ c .before .before .if2 .left in
+    let j : onCurve (edgeAt (s .args .edges .now) (s .args .i) .curve) (point (s .args .x) (s .args .y)) ≡ true =
+    ap (onCurve (edgeAt (s .args .edges .now) (s .args .i) .curve)) (sym p) ∙ sym (c .before .lies-on .ensures)
+    ∙ c .if3 .taken in
     rw (g, k, j)
 
 off : tie.Need-returns-4
@@ -56,11 +71,19 @@ off c =
     let s = c .before .before .before .before .before .before .before in
     let zx = toZ-ofZ {w = w64} {z = s .args .x} (s .fits .x) in
     let zy = toZ-ofZ {w = w64} {z = s .args .y} (s .fits .y) in
-    let g : outside (s .args .x) (s .args .y) ≡ false = ap not (sym (c .before .before .before .before .before .before .in-range .ensures ∙ ap₂ (λ (x y : ℤ). coordinate x && coordinate y) zx zy)) ∙ c .before .before .before .before .before .if1 .left in
-    let p : c .before .before .before .before .point-of .result ≡ point (s .args .x) (s .args .y) = c .before .before .before .before .point-of .ensures .0 ∙ ap₂ point zx zy in
+    let g : outside (s .args .x) (s .args .y) ≡ false =
+    ap not (sym (c .before .before .before .before .before .before .in-range .ensures
+    ∙ ap₂ (λ (x y : ℤ). coordinate x && coordinate y) zx zy)) ∙ c .before .before .before .before .before .if1 .left in
+    let p : c .before .before .before .before .point-of .result ≡ point (s .args .x) (s .args .y) =
+    c .before .before .before .before .point-of .ensures .0 ∙ ap₂ point zx zy in
     let k : reasons.nodeAt (nodesOf (s .args .nodes .now) (s .args .n)) (point (s .args .x) (s .args .y)) ≡ false =
-    ap (reasons.nodeAt (nodesOf (s .args .nodes .now) (s .args .n))) (sym p) ∙ sym (node-at-all (s .args .nodes .now) (s .args .n) (s .args .n) (c .before .before .before .before .point-of .result) (omega arith)) ∙ sym (c .before .before .before .node-at .ensures) ∙ c .before .before .if2 .left in
-    let j : onCurve (edgeAt (s .args .edges .now) (s .args .i) .curve) (point (s .args .x) (s .args .y)) ≡ false = ap (onCurve (edgeAt (s .args .edges .now) (s .args .i) .curve)) (sym p) ∙ sym (c .before .lies-on .ensures) ∙ c .if3 .left in
+    ap (reasons.nodeAt (nodesOf (s .args .nodes .now) (s .args .n))) (sym p)
+    ∙ sym (node-at-all (s .args .nodes .now) (s .args .n) (s .args .n)
+    (c .before .before .before .before .point-of .result) (omega arith))
+    ∙ sym (c .before .before .before .node-at .ensures) ∙ c .before .before .if2 .left in
+    let j : onCurve (edgeAt (s .args .edges .now) (s .args .i) .curve) (point (s .args .x) (s .args .y)) ≡ false =
+    ap (onCurve (edgeAt (s .args .edges .now) (s .args .i) .curve)) (sym p) ∙ sym (c .before .lies-on .ensures)
+    ∙ c .if3 .left in
     rw (g, k, j)
 
 pub point-reason-spec : {M : Type 1} → statement M

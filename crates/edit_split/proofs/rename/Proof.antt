@@ -17,10 +17,12 @@ use Rattle.edit_split.proofs.rename.Statement.{statement}
 use Rattle.edit_split.proofs.rename.Tie as tie
 
 dart-at-requires : tie.Need-dart-at-requires
-dart-at-requires c κs = let s = c .before in let e : s .args .i ≡ s .args .i * 2 / 2 = omega arith in subst (EdgeRow (s .args .edges .now)) e (s .pre .0)
+dart-at-requires c κs = let s = c .before in let e : s .args .i ≡ s .args .i * 2 / 2 = omega arith in
+    subst (EdgeRow (s .args .edges .now)) e (s .pre .0)
 
 dart-at-requires-2 : tie.Need-dart-at-requires-2
-dart-at-requires-2 c κs = let s = c .before .before .before in let e : s .args .i ≡ (s .args .i * 2 + 1) / 2 = omega arith in subst (EdgeRow (s .args .edges .now)) e (s .pre .0)
+dart-at-requires-2 c κs = let s = c .before .before .before in let e : s .args .i ≡ (s .args .i * 2 + 1) / 2 =
+    omega arith in subst (EdgeRow (s .args .edges .now)) e (s .pre .0)
 
 returns : tie.Need-returns
 returns c =
@@ -33,10 +35,14 @@ returns c =
     let e₁ : toZ w64 (ofZ w64 (d .result)) ≡ dartCell (dartAt l (i * 2)) = sent (d .ok) ∙ d .ensures in
     let e₂ : toZ w64 (ofZ w64 (s .args .a)) ≡ s .args .a = toZ-ofZ {w = w64} (s .fits .a) in
     let e₃ : toZ w64 (ofZ w64 (back .result)) ≡ dartCell (dartAt l (i * 2 + 1)) = sent (back .ok) ∙ back .ensures in
-    let e₄ : toZ w64 (ofZ w64 (c .before .before .turned .result)) ≡ negℤ (s .args .b) = sent (c .before .before .turned .ok) ∙ c .before .before .turned .ensures ∙ ap negℤ (toZ-ofZ {w = w64} (s .fits .b)) in
+    let e₄ : toZ w64 (ofZ w64 (c .before .before .negated .result)) ≡ negℤ (s .args .b) =
+    sent (c .before .before .negated .ok) ∙ c .before .before .negated .ensures
+    ∙ ap negℤ (toZ-ofZ {w = w64} (s .fits .b)) in
     let t = redirected (dartCell (dartAt l (i * 2))) (s .args .a) l n in
-    let f : c .before .before .before .before .before .redirect .last .0 ≡ t = c .before .before .before .before .before .redirect .ensures ∙ ap₂ (λ (x y : ℤ). redirected x y l n) e₁ e₂ in
-    c .before .redirect2 .ensures ∙ ap (λ (u : List ℤ). redirected (toZ w64 (ofZ w64 (back .result))) (toZ w64 (ofZ w64 (c .before .before .turned .result))) u n) f ∙ ap₂ (λ (x y : ℤ). redirected x y t n) e₃ e₄
+    let f : c .before .before .before .before .before .redirect .last .0 ≡ t =
+    c .before .before .before .before .before .redirect .ensures ∙ ap₂ (λ (x y : ℤ). redirected x y l n) e₁ e₂ in
+    c .before .redirect2 .ensures ∙ ap (λ (u : List ℤ). redirected (toZ w64 (ofZ w64 (back .result)))
+    (toZ w64 (ofZ w64 (c .before .before .negated .result))) u n) f ∙ ap₂ (λ (x y : ℤ). redirected x y t n) e₃ e₄
 
 pub rename-spec : {M : Type 1} → statement M
 rename-spec =

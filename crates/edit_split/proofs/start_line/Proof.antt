@@ -8,7 +8,8 @@ use Rattle.edit_split.proofs.start_line.Statement.{statement}
 use Rattle.edit_split.proofs.start_line.Tie as tie
 
 returns : tie.Need-returns
-returns c = c .front-of .ensures ∙ ap (λ (d : Curve). lineOf (points (front (c .before .before .args .p) d))) (c .before .curve-of .ensures .1)
+returns c = c .front-of .ensures ∙ ap (λ (d : Curve). lineOf (points (front (c .before .before .args .p) d)))
+    (c .before .curve-of .ensures .1)
 
 pub start-line-spec : {M : Type 1} → statement M
 start-line-spec = tie.close (tie.spec (λ c κs. search needs) (λ c κs. search needs) returns)

@@ -12,7 +12,8 @@ returns : tie.Need-returns
 returns c =
     let a = c .before .before .before .before .before .before .args in
     let w = sym (c .before .before .is-whole .ensures (a .h)) ∙ not-true _ (c .before .if1 .taken) in
-    ap (outcome (a .nodes .now) (a .edges .now) (a .faces .now)) (c .refused .ensures) ∙ sym (emptied-refused (lent (a .nodes .now) (a .edges .now) (a .faces .now) (a .h)) w)
+    ap (outcome (a .nodes .now) (a .edges .now) (a .faces .now)) (c .refused .ensures)
+    ∙ sym (emptied-refused (lent (a .nodes .now) (a .edges .now) (a .faces .now) (a .h)) w)
 
 returns-2 : tie.Need-returns-2
 returns-2 c =
@@ -22,7 +23,8 @@ returns-2 c =
     let n = c .before .before .before .before .before .before .before .before .wipe .ensures in
     let e = c .before .before .before .before .before .wipe2 .ensures in
     let f = c .before .before .wipe3 .ensures in
-    (λ i. outcome (n i) (e i) (f i) (c .carried .ensures i)) ∙ sym (emptied-done (a .nodes .now) (a .edges .now) (a .faces .now) (a .h) w)
+    (λ i. outcome (n i) (e i) (f i) (c .carried .ensures i))
+    ∙ sym (emptied-done (a .nodes .now) (a .edges .now) (a .faces .now) (a .h) w)
 
 pub empty-map-spec : {M : Type 1} → statement M
 empty-map-spec =

@@ -14,7 +14,8 @@ returns c =
     let s = c .before .before .before in
     let a = s .args in
     c .before .edges-of-face .ensures
-    ∙ ap (λ (z : ℤ). edgesOfFace (lent (a .nodes .now) (a .edges .now) (a .faces .now) (a .h)) z (a .list .now)) (toZ-ofZ {w = w64} (s .fits .face))
+    ∙ ap (λ (z : ℤ). edgesOfFace (lent (a .nodes .now) (a .edges .now) (a .faces .now) (a .h)) z (a .list .now))
+    (toZ-ofZ {w = w64} (s .fits .face))
 
 pub edges-of-face-spec : {M : Type 1} → statement M
 edges-of-face-spec = tie.close (tie.spec (λ c κs. search needs) (λ c. search needs) returns)

@@ -1,5 +1,5 @@
--- `engine::run_tickets` meets its contract. The loop's invariant: what the tickets left give, with what is written so far, is what all give.
--- Assumes nothing.
+-- `engine::run_tickets` meets its contract. The loop's invariant: what the tickets left give, with what is written so
+-- far, is what all give. Assumes nothing.
 use borrow.Author.Needs.{needs, sfits-of}
 use mathlib.Core.Path.{_≡_, refl, ap, _∙_}
 use Prim.Native.Nat.{ℕ, _+_, _-_, _≤_}
@@ -18,27 +18,45 @@ use Rattle.engine.proofs.run_tickets.Statement.{statement}
 use Rattle.engine.proofs.run_tickets.Tie as tie
 
 abbrev Inv-loop : tie.InvT-loop
-Inv-loop nodes₀ edges₀ faces₀ numbers lengths refusals₀ values₀ head₀ at₀ i₀ i-end nodes edges faces refusals values head at i =
+Inv-loop nodes₀ edges₀ faces₀ numbers lengths refusals₀ values₀ head₀ at₀ i₀ i-end nodes edges faces refusals values
+    head at i =
     (i ≤ length lengths) × (at ≤ length numbers) × (i-end ≡ length lengths)
     × (length lengths ≤ length refusals) × (length lengths ≤ length values)
     × (length nodes ≡ length nodes₀) × (length edges ≡ length edges₀) × (length faces ≡ length faces₀)
-    × Left (after (lent nodes₀ edges₀ faces₀ head₀) (ticketsOf numbers lengths)) (after (lent nodes edges faces head) (ticketsOf (drop at numbers) (drop i lengths))) i refusals₀ refusals values₀ values
+    × Left (after (lent nodes₀ edges₀ faces₀ head₀) (ticketsOf numbers lengths))
+    (after (lent nodes edges faces head)
+    (ticketsOf (drop at numbers) (drop i lengths))) i refusals₀ refusals values₀ values
 
 abbrev μ-loop : tie.MeasureT-loop
-μ-loop nodes₀ edges₀ faces₀ numbers lengths refusals₀ values₀ head₀ at₀ i₀ i-end nodes edges faces refusals values head at i =
+μ-loop nodes₀ edges₀ faces₀ numbers lengths refusals₀ values₀ head₀ at₀ i₀ i-end nodes edges faces refusals values head
+    at i =
     length lengths - i
 
 loop-holds : tie.Need-loop-holds Inv-loop μ-loop
 loop-holds c = (omega arith, omega arith, refl, omega arith, omega arith, refl, refl, refl, left-all _ _ _)
 
 mul-refusals : tie.Need-mul-refusals Inv-loop μ-loop
-mul-refusals c = omega (arith, c .before .before .before .before .before .before .before .before .before .before .before .before .before .before)
+mul-refusals c =
+    omega (
+      arith,
+      c .before .before .before .before .before .before .before .before .before .before .before .before .before .before,
+    )
 
 mul-value : tie.Need-mul-value Inv-loop μ-loop
-mul-value c = omega (arith, c .before .before .before .before .before .before .before .before .before .before .before .before .before .before .before)
+mul-value c =
+    omega (
+      arith,
+      c .before .before .before .before .before .before .before .before .before .before .before .before .before .before
+          .before,
+    )
 
 add-i : tie.Need-add-i Inv-loop μ-loop
-add-i c = omega (arith, c .before .before .before .before .before .before .before .before .before .before .before .before .before .before .before .before)
+add-i c =
+    omega (
+      arith,
+      c .before .before .before .before .before .before .before .before .before .before .before .before .before .before
+          .before .before,
+    )
 
 loop-again : tie.Need-loop-again Inv-loop μ-loop
 loop-again c =
@@ -52,8 +70,10 @@ loop-again c =
     let l = lent (b .nodes) (b .edges) (b .faces) (b .head) in
     let e : b .at + m .result - b .at ≡ m .result = omega arith in
     let fits : SFits w64 (t .result .answer .value) = sfits-of (c .before .struct-told .given .1 .0 .1 .1 .1 .0 .1) in
-    let left = left-next l (a .numbers .now) (a .lengths .now) (b .at) (b .i) (m .result) (outcome (t .last .0) (t .last .1 .0) (t .last .1 .1 .0) (t .result))
-    (w .8) (omega (arith, k)) (w .3) (w .4) (m .ensures) (t .ensures ∙ ap (λ (j : ℕ). ticket l (take j (drop (b .at) (a .numbers .now)))) e) in (
+    let left = left-next l (a .numbers .now) (a .lengths .now) (b .at) (b .i) (m .result)
+    (outcome (t .last .0) (t .last .1 .0) (t .last .1 .1 .0) (t .result))
+    (w .8) (omega (arith, k)) (w .3) (w .4) (m .ensures)
+    (t .ensures ∙ ap (λ (j : ℕ). ticket l (take j (drop (b .at) (a .numbers .now)))) e) in (
       omega (arith, k),
       omega arith,
       w .2,
@@ -69,7 +89,8 @@ returns : tie.Need-returns Inv-loop μ-loop
 returns c g e =
     let b = c .before .loop in
     let a = c .before .before .before .before .args in
-    rw e (left-none (lent (b .nodes) (b .edges) (b .faces) (b .head)) (drop (b .at) (a .numbers .now)) (a .lengths .now) (b .i) (b .inv .8) (omega arith) (omega arith) (omega arith))
+    rw e (left-none (lent (b .nodes) (b .edges) (b .faces) (b .head)) (drop (b .at) (a .numbers .now))
+    (a .lengths .now) (b .i) (b .inv .8) (omega arith) (omega arith) (omega arith))
 
 pub run-tickets-spec : {M : Type 1} → statement M
 run-tickets-spec =

@@ -1,4 +1,5 @@
--- `face_edges::ring_size` meets its contract: an unmarked position of the face is the first member of its ring. Assumes nothing.
+-- `face_edges::ring_size` meets its contract: an unmarked position of the face is the first member of its ring. Assumes
+-- nothing.
 use borrow.Author.Needs.{needs, sfits-of}
 use mathlib.Core.Path.{_≡_, refl, sym, ap, _∙_}
 use mathlib.Core.Bool.{Bool, true, false, _&&_, false≢true}
@@ -18,7 +19,8 @@ use Rattle.darts.specs.Positions.{dartAt}
 use Rattle.darts.proofs.Positions.{cell-bears}
 use Rattle.form_links.proofs.Words.{word-test}
 use Rattle.face_edges.specs.Listing.{borne}
-use Rattle.face_edges.proofs.Walks.{marked-other, marked-old, marked-new, old-first, new-first, left-taken, left-later, left-other, ring-length}
+use Rattle.face_edges.proofs.Walks.{marked-other, marked-old, marked-new, old-first, new-first, left-taken}
+use Rattle.face_edges.proofs.Walks.{left-later, left-other, ring-length}
 use Rattle.face_edges.proofs.ring_size.Statement.{statement}
 use Rattle.face_edges.proofs.ring_size.Tie as tie
 use Rattle.face_edges.proofs.ring_size.Reads as reads
@@ -33,14 +35,23 @@ zero-not : (k : ℕ) → eqb k 0 ≡ false → k ≡ 0 → ⊥
 zero-not k e z = false≢true (sym e ∙ T→≡ (eqb k 0) (rw z (eqb-refl 0)))
 
 -- the test of the face
-face-is : (c : lts.After-slice-known2 (dart-cell-reads.Asked, dart-cell-reads.Learnt, mark-ring-reads.Asked, mark-ring-reads.Learnt) reads.Pre reads.Post) → eqb (ofZ w64 (c .before .dart-cell .result)) (ofZ w64 (pos (c .before .before .before .args .face))) ≡ same (borne (c .before .before .before .args .edges .now) (c .before .before .before .args .count) (c .before .before .before .args .p)) (c .before .before .before .args .face)
+face-is : (c : lts.After-slice-known2 (
+  dart-cell-reads.Asked,
+  dart-cell-reads.Learnt,
+  mark-ring-reads.Asked,
+  mark-ring-reads.Learnt,
+) reads.Pre reads.Post) → eqb (ofZ w64 (c .before .dart-cell .result))
+    (ofZ w64 (pos (c .before .before .before .args .face)))
+    ≡ same (borne (c .before .before .before .args .edges .now) (c .before .before .before .args .count)
+    (c .before .before .before .args .p)) (c .before .before .before .args .face)
 face-is c =
     let s = c .before .before .before in
     let a = s .args in
     let d = c .before .dart-cell in
     let f = a .face in
     let b = borne (a .edges .now) (a .count) (a .p) in
-    word-test (d .result) (pos f) (pos b) (pos f) (sfits-of (d .ok)) (record { sfits = omega (arith, s .pre .1) }) (d .ensures ∙ cell-bears (s .pre .0 .rows) (a .p) (s .pre .2)) refl
+    word-test (d .result) (pos f) (pos b) (pos f) (sfits-of (d .ok)) (record { sfits = omega (arith, s .pre .1) })
+    (d .ensures ∙ cell-bears (s .pre .0 .rows) (a .p) (s .pre .2)) refl
     ∙ same-pos b f
 
 add-result : tie.Need-add-result
@@ -48,7 +59,12 @@ add-result c =
     let m = c .before .before .mark-ring in
     let s = c .before .before .before .before .before .before .before .before in
     let a = s .args in
-    omega (arith, m .ensures .0, ring-length (a .edges .now) (a .count) (dartAt (a .edges .now) (a .p)), s .pre .0 .small)
+    omega (
+      arith,
+      m .ensures .0,
+      ring-length (a .edges .now) (a .count) (dartAt (a .edges .now) (a .p)),
+      s .pre .0 .small,
+    )
 
 returns : tie.Need-returns
 returns c =
@@ -67,7 +83,10 @@ returns c =
     let w = s .pre .3 in
     let h = s .pre .2 in (
       marked-new g w h e clear _ (m .ensures .1) (m .ensures .2),
-      inr (ap (λ (r : ℕ). r + 1) (m .ensures .0), left-taken (a .edges .now) (a .count) f (a .p) h (new-first g w h e clear) one),
+      inr (
+        ap (λ (r : ℕ). r + 1) (m .ensures .0),
+        left-taken (a .edges .now) (a .count) f (a .p) h (new-first g w h e clear) one,
+      ),
     )
 
 returns-2 : tie.Need-returns-2
@@ -85,12 +104,16 @@ returns-2 c =
     elim (which x) [
       | inl e ↦
           let one = same-true b f (sym (face-is k) ∙ e) in
-          let no = zero-not (getD (a .marks .now) (a .p) 0) (sym (ap (λ (z : Bool). z && y) e) ∙ c .if1 .left) in
-          (marked-old g w h one no, inl (refl, left-later (a .edges .now) (a .count) f (a .p) h (old-first g w h one no)))
+          let no = zero-not (getD (a .marks .now) (a .p) 0) (sym (ap (λ (z : Bool). z && y) e) ∙ c .if1 .left) in (
+            marked-old g w h one no,
+            inl
+                (refl, left-later (a .edges .now) (a .count) f (a .p) h (old-first g w h one no)),
+          )
       | inr e ↦
           let other = sym (face-is k) ∙ e in
           (marked-other g w h (differ b f other), inl (refl, left-other (a .edges .now) (a .count) f (a .p) h other))
     ]
 
 pub ring-size-spec : {M : Type 1} → statement M
-ring-size-spec = tie.close (tie.spec (λ c κs. search needs) (λ c. search needs) (λ c. search needs) (λ c κs. search needs) add-result (λ c. search needs) returns returns-2)
+ring-size-spec = tie.close (tie.spec (λ c κs. search needs) (λ c. search needs) (λ c. search needs)
+    (λ c κs. search needs) add-result (λ c. search needs) returns returns-2)

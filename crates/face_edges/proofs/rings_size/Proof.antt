@@ -12,28 +12,45 @@ use Rattle.face_edges.proofs.rings_size.Lts as lts
 use Rattle.face_edges.proofs.ring_size.Reads as ring-size-reads
 
 abbrev Inv-loop : tie.InvT-loop
-Inv-loop edges count face marks₀ size₀ p₀ p-end marks size p = (p ≤ count * 2) × (size + length (left edges count face p) ≡ length (left edges count face 0)) × (size ≤ p * 4001) × Marked edges count face p marks
+Inv-loop edges count face marks₀ size₀ p₀ p-end marks size p = (p ≤ count * 2)
+    × (size + length (left edges count face p) ≡ length (left edges count face 0)) × (size ≤ p * 4001)
+    × Marked edges count face p marks
 
 abbrev μ-loop : tie.MeasureT-loop
 μ-loop edges count face marks₀ size₀ p₀ p-end marks size p = p-end - p
 
 -- what a turn takes
-taken : (c : lts.After-marks2 (ring-size-reads.Asked, ring-size-reads.Learnt) reads.Pre reads.Post Inv-loop μ-loop) → (length (left (c .before .before .before .before .before .args .edges .now) (c .before .before .before .before .before .args .count) (c .before .before .before .before .before .args .face) (c .before .before .before .before .loop .p)) ≡ c .before .ring-size .result + length (left (c .before .before .before .before .before .args .edges .now) (c .before .before .before .before .before .args .count) (c .before .before .before .before .before .args .face) (c .before .before .before .before .loop .p + 1))) × (c .before .ring-size .result ≤ c .before .before .before .before .before .args .count * 2 + 1)
+taken : (c : lts.After-marks2 (ring-size-reads.Asked, ring-size-reads.Learnt) reads.Pre reads.Post Inv-loop μ-loop)
+    → (length (left (c .before .before .before .before .before .args .edges .now)
+    (c .before .before .before .before .before .args .count) (c .before .before .before .before .before .args .face)
+    (c .before .before .before .before .loop .p))
+    ≡ c .before .ring-size .result + length
+    (left (c .before .before .before .before .before .args .edges .now)
+    (c .before .before .before .before .before .args .count) (c .before .before .before .before .before .args .face)
+    (c .before .before .before .before .loop .p + 1)))
+    × (c .before .ring-size .result ≤ c .before .before .before .before .before .args .count * 2 + 1)
 taken c =
     let a = c .before .before .before .before .before .args in
-    size-left (a .edges .now) (a .count) (a .face) (c .before .before .before .before .loop .p) (c .before .ring-size .result) (c .before .ring-size .ensures .1)
+    size-left (a .edges .now) (a .count) (a .face) (c .before .before .before .before .loop .p)
+    (c .before .ring-size .result) (c .before .ring-size .ensures .1)
 
 mul-p-end : tie.Need-mul-p-end Inv-loop μ-loop
 mul-p-end c = omega (arith, c .pre .0 .small)
 
 loop-holds : tie.Need-loop-holds Inv-loop μ-loop
-loop-holds c = let a = c .args in (omega arith, omega arith, omega arith, none-marked (a .edges .now) (a .count) (a .face))
+loop-holds c = let a = c .args in (
+  omega arith,
+  omega arith,
+  omega arith,
+  none-marked (a .edges .now) (a .count) (a .face),
+)
 
 slice-aggregate-ring-size : tie.Need-slice-aggregate-ring-size Inv-loop μ-loop
 slice-aggregate-ring-size c = sym (c .before .before .loop .inv .3 .room)
 
 ring-size-requires : tie.Need-ring-size-requires Inv-loop μ-loop
-ring-size-requires c κs = let s = c .before .before .before in (s .pre .0, s .pre .1, c .before .loop-test .taken, c .before .before .loop .inv .3)
+ring-size-requires c κs = let s = c .before .before .before in
+    (s .pre .0, s .pre .1, c .before .loop-test .taken, c .before .before .loop .inv .3)
 
 add-size : tie.Need-add-size Inv-loop μ-loop
 add-size c =
@@ -62,8 +79,10 @@ returns : tie.Need-returns Inv-loop μ-loop
 returns c =
     let a = c .before .before .args in
     let w = c .before .loop in
-    let e = ap length (none-left (a .edges .now) (a .count) (a .face) (w .p) (c .loop-test .left)) in
-    (omega (arith, w .inv .1, e) ∙ sym (ap length (all-left (a .edges .now) (a .count) (a .face))), omega (arith, w .inv .0, w .inv .2, c .before .before .pre .0 .small))
+    let e = ap length (none-left (a .edges .now) (a .count) (a .face) (w .p) (c .loop-test .left)) in (
+      omega (arith, w .inv .1, e) ∙ sym (ap length (all-left (a .edges .now) (a .count) (a .face))),
+      omega (arith, w .inv .0, w .inv .2, c .before .before .pre .0 .small),
+    )
 
 pub rings-size-spec : {M : Type 1} → statement M
 rings-size-spec =

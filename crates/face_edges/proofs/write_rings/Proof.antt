@@ -23,14 +23,23 @@ use Rattle.rings.proofs.write_ring.Reads as write-ring-reads
 
 abbrev Inv-loop : tie.InvT-loop
 Inv-loop edges count face list₀ marks₀ at₀ p₀ p-end list marks at p =
-    (p ≤ count * 2) × (at ≤ length (left edges count face 0)) × (length list ≡ length list₀) × (list ≡ paste list₀ 0 (left edges count face 0) at) × (drop at (left edges count face 0) ≡ left edges count face p) × Marked edges count face p marks × (at ≤ p * 4001)
+    (p ≤ count * 2) × (at ≤ length (left edges count face 0)) × (length list ≡ length list₀)
+    × (list ≡ paste list₀ 0 (left edges count face 0) at)
+    × (drop at (left edges count face 0) ≡ left edges count face p) × Marked edges count face p marks × (at ≤ p * 4001)
 
 abbrev μ-loop : tie.MeasureT-loop
 μ-loop edges count face list₀ marks₀ at₀ p₀ p-end list marks at p = p-end - p
 
 -- all of it finds room
-room : (c : lts.Start (ring-size-reads.Asked, ring-size-reads.Learnt, write-ring-reads.Asked, write-ring-reads.Learnt) reads.Pre reads.Post Inv-loop μ-loop) → length (left (c .args .edges .now) (c .args .count) (c .args .face) 0) ≤ length (c .args .list .now)
-room c = let a = c .args in subst (λ (l : List ℤ). length l ≤ length (a .list .now)) (all-left (a .edges .now) (a .count) (a .face)) (c .pre .2)
+room : (c : lts.Start (
+  ring-size-reads.Asked,
+  ring-size-reads.Learnt,
+  write-ring-reads.Asked,
+  write-ring-reads.Learnt,
+) reads.Pre reads.Post Inv-loop μ-loop)
+    → length (left (c .args .edges .now) (c .args .count) (c .args .face) 0) ≤ length (c .args .list .now)
+room c = let a = c .args in subst (λ (l : List ℤ). length l ≤ length (a .list .now))
+    (all-left (a .edges .now) (a .count) (a .face)) (c .pre .2)
 
 -- the ring that a turn writes: r numbers from `at` on
 record Turn (l : List ℤ) (n f p at r end : ℕ) : Type 0 where
@@ -40,7 +49,16 @@ record Turn (l : List ℤ) (n f p at r end : ℕ) : Type 0 where
   inside : at + r ≤ length (left l n f 0)
   room : at + r ≤ end
 
-ring-at : (c : lts.After-marks2 (ring-size-reads.Asked, ring-size-reads.Learnt, write-ring-reads.Asked, write-ring-reads.Learnt) reads.Pre reads.Post Inv-loop μ-loop) → 0 < c .before .ring-size .result → Turn (c .before .before .before .before .before .args .edges .now) (c .before .before .before .before .before .args .count) (c .before .before .before .before .before .args .face) (c .before .before .before .before .loop .p) (c .before .before .before .before .loop .at) (c .before .ring-size .result) (length (c .before .before .before .before .loop .list))
+ring-at : (c : lts.After-marks2 (
+  ring-size-reads.Asked,
+  ring-size-reads.Learnt,
+  write-ring-reads.Asked,
+  write-ring-reads.Learnt,
+) reads.Pre reads.Post Inv-loop μ-loop) → 0 < c .before .ring-size .result
+    → Turn (c .before .before .before .before .before .args .edges .now)
+    (c .before .before .before .before .before .args .count) (c .before .before .before .before .before .args .face)
+    (c .before .before .before .before .loop .p) (c .before .before .before .before .loop .at)
+    (c .before .ring-size .result) (length (c .before .before .before .before .loop .list))
 ring-at c h =
     let a = c .before .before .before .before .before .args in
     let w = c .before .before .before .before .loop in
@@ -48,20 +66,36 @@ ring-at c h =
     let r = some-size (a .edges .now) (a .count) (a .face) (w .p) (z .result) (z .ensures .1) h in
     let is = w .inv .4 ∙ r .1 in
     let enough = room (c .before .before .before .before .before) in
-    let k = size (a .list .now) (left (a .edges .now) (a .count) (a .face) 0) (w .at) (ringAt (a .edges .now) (a .count) (w .p)) (left (a .edges .now) (a .count) (a .face) (w .p + 1)) is enough in
-    record { size = r .0; is = is; most = size-left (a .edges .now) (a .count) (a .face) (w .p) (z .result) (z .ensures .1) .1; inside = omega (arith, k, r .0); room = omega (arith, k, r .0, enough, w .inv .2) }
+    let k = size (a .list .now) (left (a .edges .now) (a .count) (a .face) 0) (w .at)
+    (ringAt (a .edges .now) (a .count) (w .p)) (left (a .edges .now) (a .count) (a .face) (w .p + 1)) is enough in
+    record {
+      size = r .0;
+      is = is;
+      most = size-left (a .edges .now) (a .count) (a .face) (w .p) (z .result) (z .ensures .1) .1;
+      inside = omega (arith, k, r .0);
+      room = omega (arith, k, r .0, enough, w .inv .2);
+    }
 
 mul-p-end : tie.Need-mul-p-end Inv-loop μ-loop
 mul-p-end c = omega (arith, c .pre .0 .small)
 
 loop-holds : tie.Need-loop-holds Inv-loop μ-loop
-loop-holds c = let a = c .args in (omega arith, omega arith, refl, refl, refl, none-marked (a .edges .now) (a .count) (a .face), omega arith)
+loop-holds c = let a = c .args in (
+  omega arith,
+  omega arith,
+  refl,
+  refl,
+  refl,
+  none-marked (a .edges .now) (a .count) (a .face),
+  omega arith,
+)
 
 slice-aggregate-ring-size : tie.Need-slice-aggregate-ring-size Inv-loop μ-loop
 slice-aggregate-ring-size c = sym (c .before .before .loop .inv .5 .room)
 
 ring-size-requires : tie.Need-ring-size-requires Inv-loop μ-loop
-ring-size-requires c κs = let s = c .before .before .before in (s .pre .0, s .pre .1, c .before .loop-test .taken, c .before .before .loop .inv .5)
+ring-size-requires c κs = let s = c .before .before .before in
+    (s .pre .0, s .pre .1, c .before .loop-test .taken, c .before .before .loop .inv .5)
 
 sub-list : tie.Need-sub-list Inv-loop μ-loop
 sub-list c = omega arith
@@ -89,11 +123,22 @@ write-ring-requires : tie.Need-write-ring-requires Inv-loop μ-loop
 write-ring-requires c κs =
     let k = c .before .before in
     let s = k .before .before .before .before .before in
-    let r = ring-at k (c .before .if1 .taken) in
-    (s .pre .0 .rows, k .before .before .before .loop-test .taken, omega (arith, r .size), omega (arith, r .size, r .room, length-set (k .before .before .before .before .loop .list) (k .before .before .before .before .loop .at) (toZ w64 (ofZ w64 (pos (k .before .ring-size .result - 1))))))
+    let r = ring-at k (c .before .if1 .taken) in (
+      s .pre .0 .rows,
+      k .before .before .before .loop-test .taken,
+      omega (arith, r .size),
+      omega (
+        arith,
+        r .size,
+        r .room,
+        length-set (k .before .before .before .before .loop .list)
+            (k .before .before .before .before .loop .at) (toZ w64 (ofZ w64 (pos (k .before .ring-size .result - 1)))),
+      ),
+    )
 
 add-at : tie.Need-add-at Inv-loop μ-loop
-add-at c = let r = ring-at (c .before .before .before .before) (c .before .before .before .if1 .taken) in omega (arith, r .room, r .size)
+add-at c = let r = ring-at (c .before .before .before .before) (c .before .before .before .if1 .taken) in
+    omega (arith, r .room, r .size)
 
 add-p : tie.Need-add-p Inv-loop μ-loop
 add-p c = omega (arith, c .before .before .before .before .loop-test .taken)
@@ -117,10 +162,15 @@ loop-again c =
     let more : c .if1 .at ≡ v .at + z .result = w .5 in
     let end : v .at + (length ring + 1) ≡ c .if1 .at = omega (arith, more, r .size) in
     let m : z .result - 1 ≡ length ring = omega (arith, r .size) in
-    let is : c .if1 .list ≡ paste (a .list .now) 0 all (c .if1 .at) = w .4 ∙ w .2 .ensures ∙ ring-turn (a .list .now) all (v .at) ring rest (r .is) (room s) (v .list) (toZ w64 (ofZ w64 (pos (z .result - 1)))) (z .result - 1) (v .inv .3) (toZ-ofZ {w = w64} {z = pos (z .result - 1)} (cast-list (record { before = c .before; if1 = w .0 })) ∙ ap pos m) m ∙ ap (paste (a .list .now) 0 all) end in (
+    let is : c .if1 .list ≡ paste (a .list .now) 0 all (c .if1 .at) = w .4 ∙ w .2 .ensures
+    ∙ ring-turn (a .list .now) all (v .at) ring rest (r .is) (room s) (v .list)
+    (toZ w64 (ofZ w64 (pos (z .result - 1)))) (z .result - 1) (v .inv .3)
+    (toZ-ofZ {w = w64} {z = pos (z .result - 1)} (cast-list (record { before = c .before; if1 = w .0 })) ∙ ap pos m) m
+    ∙ ap (paste (a .list .now) 0 all) end in (
       omega (arith, b .loop-test .taken),
       omega (arith, more, r .inside),
-      ap length is ∙ length-paste (a .list .now) 0 all (c .if1 .at) (omega (arith, more, r .inside, room s)) (omega (arith, more, r .inside)),
+      ap length is ∙ length-paste (a .list .now) 0 all (c .if1 .at) (omega (arith, more, r .inside, room s))
+          (omega (arith, more, r .inside)),
       is,
       ap (λ (k : ℕ). drop k all) (sym end) ∙ rest-left (a .list .now) all (v .at) ring rest (r .is) (room s),
       z .ensures .0,
@@ -133,7 +183,8 @@ loop-again c =
       omega (arith, same-at, v .inv .1),
       ap length same-list ∙ v .inv .2,
       same-list ∙ v .inv .3 ∙ ap (paste (a .list .now) 0 all) (sym same-at),
-      ap (λ (k : ℕ). drop k all) same-at ∙ v .inv .4 ∙ none-size (a .edges .now) (a .count) (a .face) (v .p) (z .result) (z .ensures .1) (w .0 .left),
+      ap (λ (k : ℕ). drop k all) same-at ∙ v .inv .4
+          ∙ none-size (a .edges .now) (a .count) (a .face) (v .p) (z .result) (z .ensures .1) (w .0 .left),
       z .ensures .0,
       omega (arith, same-at, v .inv .6),
     ))
@@ -147,7 +198,8 @@ returns c =
     let a = c .before .before .args in
     let w = c .before .loop in
     let e = none-left (a .edges .now) (a .count) (a .face) (w .p) (c .loop-test .left) in
-    w .inv .3 ∙ all-written (a .list .now) (left (a .edges .now) (a .count) (a .face) 0) (w .at) (w .inv .1) (w .inv .4 ∙ e)
+    w .inv .3 ∙ all-written (a .list .now) (left (a .edges .now) (a .count) (a .face) 0) (w .at) (w .inv .1)
+    (w .inv .4 ∙ e)
     ∙ sym (ap (λ (l : List ℤ). l ++ drop (length l) (a .list .now)) (all-left (a .edges .now) (a .count) (a .face)))
 
 pub write-rings-spec : {M : Type 1} → statement M

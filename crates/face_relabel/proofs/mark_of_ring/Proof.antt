@@ -21,31 +21,69 @@ use Rattle.face_relabel.proofs.point_in.Reads as point-in-reads
 use Rattle.tables.proofs.find_row.Reads as find-row-reads
 
 -- what the search answers
-answer : (c : lts.After-find-row (find-row-reads.Asked, find-row-reads.Learnt, point-in-reads.Asked, point-in-reads.Learnt, encloses-reads.Asked, encloses-reads.Learnt) reads.Pre reads.Post) → c .find-row .result ≡ place (sameZ (getD (c .before .before .args .edges .now) (c .before .before .args .i * 32 + 1) (pos 0))) 0 (column 4 (c .before .before .args .nodes .now) (c .before .before .args .n))
+answer : (c : lts.After-find-row (
+  find-row-reads.Asked,
+  find-row-reads.Learnt,
+  point-in-reads.Asked,
+  point-in-reads.Learnt,
+  encloses-reads.Asked,
+  encloses-reads.Learnt,
+) reads.Pre reads.Post) → c .find-row .result
+    ≡ place (sameZ (getD (c .before .before .args .edges .now) (c .before .before .args .i * 32 + 1) (pos 0))) 0
+    (column 4 (c .before .before .args .nodes .now) (c .before .before .args .n))
 answer c =
     let a = c .before .before .args in
-    c .find-row .ensures ∙ ap (λ (z : ℤ). place (sameZ z) 0 (column 4 (a .nodes .now) (a .n))) (toZ-ofZ {w = w64} {z = getD (a .edges .now) (a .i * 32 + 1) (pos 0)} (sfits-of (c .before .find-row-arg .given)))
+    c .find-row .ensures ∙ ap (λ (z : ℤ). place (sameZ z) 0 (column 4 (a .nodes .now) (a .n)))
+    (toZ-ofZ {w = w64} {z = getD (a .edges .now) (a .i * 32 + 1) (pos 0)} (sfits-of (c .before .find-row-arg .given)))
 
 -- the row that is found
-row : (c : lts.After-known-told (find-row-reads.Asked, find-row-reads.Learnt, point-in-reads.Asked, point-in-reads.Learnt, encloses-reads.Asked, encloses-reads.Learnt) reads.Pre reads.Post) → (c .before .found .given .0 .0 < c .before .before .before .before .before .args .n) × (startOf (c .before .before .before .before .before .args .nodes .now) (c .before .before .before .before .before .args .n) (edgeAt (c .before .before .before .before .before .args .edges .now) (c .before .before .before .before .before .args .i)) ≡ placeAt (c .before .before .before .before .before .args .nodes .now) (c .before .found .given .0 .0))
+row : (c : lts.After-known-told (
+  find-row-reads.Asked,
+  find-row-reads.Learnt,
+  point-in-reads.Asked,
+  point-in-reads.Learnt,
+  encloses-reads.Asked,
+  encloses-reads.Learnt,
+) reads.Pre reads.Post) → (c .before .found .given .0 .0 < c .before .before .before .before .before .args .n)
+    × (startOf (c .before .before .before .before .before .args .nodes .now)
+    (c .before .before .before .before .before .args .n)
+    (edgeAt (c .before .before .before .before .before .args .edges .now)
+    (c .before .before .before .before .before .args .i))
+    ≡ placeAt (c .before .before .before .before .before .args .nodes .now) (c .before .found .given .0 .0))
 row c =
     let b = c .before .before .before in
     let s = b .before .before in
     let a = s .args in
-    start-found (a .nodes .now) (a .n) (a .edges .now) (a .count) (a .s) (s .pre .0) (a .i) (s .pre .1) (c .before .found .given .0 .0) (sym (answer b) ∙ c .before .found .given .1)
+    start-found (a .nodes .now) (a .n) (a .edges .now) (a .count) (a .s) (s .pre .0) (a .i) (s .pre .1)
+    (c .before .found .given .0 .0) (sym (answer b) ∙ c .before .found .given .1)
 
 -- what the ring answers of the point
-told : (c : lts.After-encloses (find-row-reads.Asked, find-row-reads.Learnt, point-in-reads.Asked, point-in-reads.Learnt, encloses-reads.Asked, encloses-reads.Learnt) reads.Pre reads.Post) → encloses (c .before .before .before .before .before .before .before .args .edges .now) (c .before .before .before .before .before .before .before .args .count) (c .before .before .before .before .before .before .before .args .s .ring) (startOf (c .before .before .before .before .before .before .before .args .nodes .now) (c .before .before .before .before .before .before .before .args .n) (edgeAt (c .before .before .before .before .before .before .before .args .edges .now) (c .before .before .before .before .before .before .before .args .i))) ≡ c .encloses .result
+told : (c : lts.After-encloses (
+  find-row-reads.Asked,
+  find-row-reads.Learnt,
+  point-in-reads.Asked,
+  point-in-reads.Learnt,
+  encloses-reads.Asked,
+  encloses-reads.Learnt,
+) reads.Pre reads.Post) → encloses (c .before .before .before .before .before .before .before .args .edges .now)
+    (c .before .before .before .before .before .before .before .args .count)
+    (c .before .before .before .before .before .before .before .args .s .ring)
+    (startOf (c .before .before .before .before .before .before .before .args .nodes .now)
+    (c .before .before .before .before .before .before .before .args .n)
+    (edgeAt (c .before .before .before .before .before .before .before .args .edges .now)
+    (c .before .before .before .before .before .before .before .args .i))) ≡ c .encloses .result
 told c =
     let a = c .before .before .before .before .before .before .before .args in
-    ap (encloses (a .edges .now) (a .count) (a .s .ring)) (row (c .before .before) .1 ∙ sym (c .before .point-in .ensures .0)) ∙ sym (c .encloses .ensures)
+    ap (encloses (a .edges .now) (a .count) (a .s .ring))
+    (row (c .before .before) .1 ∙ sym (c .before .point-in .ensures .0)) ∙ sym (c .encloses .ensures)
 
 returns : tie.Need-returns
 returns c =
     let b = c .before .before in
     let s = b .before .before in
     let a = s .args in
-    absurd (start-there (a .nodes .now) (a .n) (a .edges .now) (a .count) (a .s) (s .pre .0) (a .i) (s .pre .1) (sym (answer b) ∙ c .enum-told .given .1))
+    absurd (start-there (a .nodes .now) (a .n) (a .edges .now) (a .count) (a .s) (s .pre .0) (a .i) (s .pre .1)
+    (sym (answer b) ∙ c .enum-told .given .1))
 
 pub mark-of-ring-spec : {M : Type 1} → statement M
 mark-of-ring-spec =
@@ -59,7 +97,8 @@ mark-of-ring-spec =
     (λ c. search needs)
     (λ c. search needs)
     returns
-    (λ c κs. placed-of (c .before .before .before .before .before .pre .0 .nodes) (c .before .found .given .0 .0) (row c .0))
+    (λ c κs. placed-of (c .before .before .before .before .before .pre .0 .nodes) (c .before .found .given .0 .0)
+    (row c .0))
     (λ c κs. search needs)
     (λ c. sym (ap (λ (b : Bool). cond b 1 2) (told (c .before) ∙ c .if1 .taken)))
     (λ c. sym (ap (λ (b : Bool). cond b 1 2) (told (c .before) ∙ c .if1 .left))))

@@ -1,4 +1,5 @@
--- `face_relabel::mark_sides` meets its contract: positions below p are visited, and rings are marked whole. Assumes nothing.
+-- `face_relabel::mark_sides` meets its contract: positions below p are visited, and rings are marked whole. Assumes
+-- nothing.
 use borrow.Author.Needs.{sfits-of}
 use mathlib.Core.Path.{sym, ap, _∙_, subst}
 use mathlib.Core.Bool.{Bool, _&&_}
@@ -19,7 +20,8 @@ use Rattle.face_relabel.proofs.mark_sides.Statement.{statement}
 use Rattle.face_relabel.proofs.mark_sides.Tie as tie
 
 abbrev Inv-loop : tie.InvT-loop
-Inv-loop nodes n edges count s marks₀ p₀ p-end marks p = (p ≤ count * 2) × Marking edges count nodes n (s .ring) (s .old) marks₀ marks p
+Inv-loop nodes n edges count s marks₀ p₀ p-end marks p = (p ≤ count * 2)
+    × Marking edges count nodes n (s .ring) (s .old) marks₀ marks p
 
 abbrev μ-loop : tie.MeasureT-loop
 μ-loop nodes n edges count s marks₀ p₀ p-end marks p = p-end - p
@@ -30,14 +32,18 @@ mul-p-end c = omega (arith, c .before .pre .0 .few)
 loop-holds : tie.Need-loop-holds Inv-loop μ-loop
 loop-holds c =
     let a = c .before .args in
-    let h = c .before .pre in
-    (omega arith, marking-start (h .0 .edges) (h .1) (a .nodes .now) (a .n) (a .s .ring) (a .s .old) (a .marks .now) (h .2))
+    let h = c .before .pre in (
+      omega arith,
+      marking-start (h .0 .edges) (h .1) (a .nodes .now) (a .n) (a .s .ring) (a .s .old) (a .marks .now)
+          (h .2),
+    )
 
 dart-cell-requires : tie.Need-dart-cell-requires Inv-loop μ-loop
 dart-cell-requires c κs =
     let w = c .before .loop in
     let s = c .before .before .before in
-    let h : w .p / 2 * 32 + 32 ≤ length (s .args .edges .now) = omega (arith, s .pre .0 .edges .fits, c .loop-test .taken) in
+    let h : w .p / 2 * 32 + 32 ≤ length (s .args .edges .now) =
+    omega (arith, s .pre .0 .edges .fits, c .loop-test .taken) in
     (h, omega arith)
 
 slice-read-if1 : tie.Need-slice-read-if1 Inv-loop μ-loop
@@ -66,21 +72,27 @@ loop-again c =
     let fits-old : SFits w64 (a .s .old) = sfits-of (c .before .before .struct-told .given .0 .1) in
     let is-old = eqb (ofZ w64 (cell .result)) (ofZ w64 (a .s .old)) in
     let is-none = eqb (getD (w .marks) (w .p) 0) 0 in
-    let Next : List ℕ → Type 0 = λ ms. Marking (a .edges .now) (a .count) (a .nodes .now) (a .n) (a .s .ring) (a .s .old) (a .marks .now) ms (w .p + 1) in (
+    let Next : List ℕ → Type 0 = λ ms. Marking (a .edges .now) (a .count) (a .nodes .now) (a .n) (a .s .ring)
+    (a .s .old) (a .marks .now) ms (w .p + 1) in (
       omega (arith, t .loop-test .taken),
       ⊎-elim
           (λ x.
-          let face = sym (cell .ensures) ∙ word-is (sfits-of (cell .ok)) fits-old (eqb-true _ _ (and-left is-old is-none (x .0 .taken))) in
+          let face = sym (cell .ensures)
+          ∙ word-is (sfits-of (cell .ok)) fits-old (eqb-true _ _ (and-left is-old is-none (x .0 .taken))) in
           let none = eqb-true (getD (w .marks) (w .p) 0) 0 (and-right is-old is-none (x .0 .taken)) in
-          subst Next (sym (x .6)) (marking-ring (s .pre .0 .edges) (s .pre .1) (a .nodes .now) (a .n) (a .s .ring) (a .s .old) (a .marks .now) (w .marks) (w .p) (w .inv .1) (t .loop-test .taken) face none (x .1 .result) (x .1 .ensures) (x .3 .last .1 .1 .1 .1 .0) (x .3 .ensures .1) (x .3 .ensures .2)))
+          subst Next (sym (x .6)) (marking-ring (s .pre .0 .edges) (s .pre .1) (a .nodes .now) (a .n) (a .s .ring)
+          (a .s .old) (a .marks .now) (w .marks) (w .p) (w .inv .1) (t .loop-test .taken) face none (x .1 .result)
+          (x .1 .ensures) (x .3 .last .1 .1 .1 .1 .0) (x .3 .ensures .1) (x .3 .ensures .2)))
           (λ x.
           subst Next (sym (x .1))
           (elim (which is-old) [
             | inl o ↦
-                marking-marked (s .pre .0 .edges) (s .pre .1) (a .nodes .now) (a .n) (a .s .ring) (a .s .old) (a .marks .now) (w .marks) (w .p) (w .inv .1) (t .loop-test .taken)
+                marking-marked (s .pre .0 .edges) (s .pre .1) (a .nodes .now) (a .n) (a .s .ring) (a .s .old)
+                (a .marks .now) (w .marks) (w .p) (w .inv .1) (t .loop-test .taken)
                 (eqb-false (getD (w .marks) (w .p) 0) 0 (ap (λ (b : Bool). b && is-none) (sym o) ∙ x .0 .left))
             | inr o ↦
-                marking-other (s .pre .0 .edges) (s .pre .1) (a .nodes .now) (a .n) (a .s .ring) (a .s .old) (a .marks .now) (w .marks) (w .p) (w .inv .1) (t .loop-test .taken)
+                marking-other (s .pre .0 .edges) (s .pre .1) (a .nodes .now) (a .n) (a .s .ring) (a .s .old)
+                (a .marks .now) (w .marks) (w .p) (w .inv .1) (t .loop-test .taken)
                 (λ e. eqb-false _ _ o (ap (ofZ w64) (cell .ensures ∙ e)))
           ]))
           (c .if1 .came),

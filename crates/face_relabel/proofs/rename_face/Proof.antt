@@ -19,7 +19,8 @@ returns c =
     let a = s .args in (
       rw (toZ-ofZ (s .fits .old), toZ-ofZ (s .fits .new)) at (first .replace-column .ensures),
       (rw (toZ-ofZ (s .fits .old), toZ-ofZ (s .fits .new)) at (third .replace-column3 .ensures))
-          ∙ ap (λ (l : List ℤ). sweep (λ l i. replaceAt (a .old) (a .new) l (i * 32 + 6)) l 0 (a .count)) (rw (toZ-ofZ (s .fits .old), toZ-ofZ (s .fits .new)) at (second .replace-column2 .ensures)),
+          ∙ ap (λ (l : List ℤ). sweep (λ l i. replaceAt (a .old) (a .new) l (i * 32 + 6)) l 0 (a .count))
+          (rw (toZ-ofZ (s .fits .old), toZ-ofZ (s .fits .new)) at (second .replace-column2 .ensures)),
     )
 
 pub rename-face-spec : {M : Type 1} → statement M

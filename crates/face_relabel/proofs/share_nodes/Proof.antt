@@ -1,5 +1,5 @@
--- `face_relabel::share_nodes` meets its contract: a sweep of the rows left, which are as they were, from what those passed left, is the sweep of all.
--- Assumes nothing.
+-- `face_relabel::share_nodes` meets its contract: a sweep of the rows left, which are as they were, from what those
+-- passed left, is the sweep of all. Assumes nothing.
 use borrow.Author.Needs.{sfits-of}
 use mathlib.Core.Path.{_≡_, refl, sym, ap, _∙_}
 use mathlib.Core.Logic.{⊎-elim}
@@ -49,7 +49,8 @@ point-in-requires c κs =
     let t = c .before .before .before .before .before in
     let w = t .before .loop in
     let s = t .before .before in
-    placed-kept (s .args .nodes .now) (w .nodes) (w .i) (w .inv .1) (w .inv .2) (placed-of (s .pre .nodes) (w .i) (t .loop-test .taken))
+    placed-kept (s .args .nodes .now) (w .nodes) (w .i) (w .inv .1) (w .inv .2)
+    (placed-of (s .pre .nodes) (w .i) (t .loop-test .taken))
 
 side-of-requires : tie.Need-side-of-requires Inv-loop μ-loop
 side-of-requires c κs =
@@ -57,16 +58,20 @@ side-of-requires c κs =
     (s .pre .edges, s .pre .ring, c .point-in .ensures .1)
 
 mul-side : tie.Need-mul-side Inv-loop μ-loop
-mul-side c = let t = c .before .before .before .before .before .before .before in omega (arith, t .before .before .pre .nodes .fits, t .loop-test .taken)
+mul-side c = let t = c .before .before .before .before .before .before .before in
+    omega (arith, t .before .before .pre .nodes .fits, t .loop-test .taken)
 
 add-side : tie.Need-add-side Inv-loop μ-loop
-add-side c = let t = c .before .before .before .before .before .before .before in omega (arith, t .before .before .pre .nodes .fits, t .loop-test .taken)
+add-side c = let t = c .before .before .before .before .before .before .before in
+    omega (arith, t .before .before .pre .nodes .fits, t .loop-test .taken)
 
 mul-side-2 : tie.Need-mul-side-2 Inv-loop μ-loop
-mul-side-2 c = let t = c .before .before .before .before .before .before .before in omega (arith, t .before .before .pre .nodes .fits, t .loop-test .taken)
+mul-side-2 c = let t = c .before .before .before .before .before .before .before in
+    omega (arith, t .before .before .pre .nodes .fits, t .loop-test .taken)
 
 set-from-side : tie.Need-slice-set-from-side Inv-loop μ-loop
-set-from-side c = let t = c .before .before .before .before .before .before .before in omega (arith, t .before .before .pre .nodes .fits, t .loop-test .taken, t .before .loop .inv .1)
+set-from-side c = let t = c .before .before .before .before .before .before .before in
+    omega (arith, t .before .before .pre .nodes .fits, t .loop-test .taken, t .before .loop .inv .1)
 
 loop-again : tie.Need-loop-again Inv-loop μ-loop
 loop-again c =
@@ -83,14 +88,22 @@ loop-again c =
     let q = x .2 in
     let side = x .3 in
     x .4
-    ∙ node-hit (a .nodes .now) (a .n) (a .edges .now) (a .count) (a .s) (s .pre) (w .nodes) (w .i) (word-is fits-z fits-old (x .0 .taken)) (w .inv .2) (q .result) (q .ensures .0) (toZ w64 (ofZ w64 (side .result))) (sent {z = side .result} (side .ok) ∙ side .ensures))
-    (λ x. x .1 ∙ node-miss (a .nodes .now) (a .n) (a .edges .now) (a .count) (a .s) (s .pre) (w .nodes) (w .i) (λ e. x .0 .left (ap (ofZ w64) e)))
+    ∙ node-hit (a .nodes .now) (a .n) (a .edges .now) (a .count) (a .s) (s .pre) (w .nodes) (w .i)
+    (word-is fits-z fits-old (x .0 .taken)) (w .inv .2) (q .result) (q .ensures .0) (toZ w64 (ofZ w64 (side .result)))
+    (sent {z = side .result} (side .ok) ∙ side .ensures))
+    (λ x. x .1 ∙ node-miss (a .nodes .now) (a .n) (a .edges .now) (a .count) (a .s) (s .pre) (w .nodes) (w .i)
+    (λ e. x .0 .left (ap (ofZ w64) e)))
     (c .if1 .came) in (
       omega (arith, t .loop-test .taken),
-      ap length turn ∙ node-length (a .nodes .now) (a .n) (a .edges .now) (a .count) (a .s) (s .pre) (w .nodes) (w .i) ∙ w .inv .1,
-      (λ j h. ap (λ (l : List ℤ). getD l j (pos 0)) turn ∙ node-kept (a .nodes .now) (a .n) (a .edges .now) (a .count) (a .s) (s .pre) (w .nodes) (w .i) j (omega arith) ∙ w .inv .2 j (omega arith)),
-      ap (λ (l : List ℤ). sweep (nodeShared (a .nodes .now) (a .n) (a .edges .now) (a .count) (a .s)) l (w .i + 1) (a .n - (w .i + 1))) turn
-          ∙ sym (sweep-step (nodeShared (a .nodes .now) (a .n) (a .edges .now) (a .count) (a .s)) (w .nodes) (w .i) (a .n) (t .loop-test .taken))
+      ap length turn ∙ node-length (a .nodes .now) (a .n) (a .edges .now) (a .count) (a .s) (s .pre) (w .nodes) (w .i)
+          ∙ w .inv .1,
+      (λ j h. ap (λ (l : List ℤ). getD l j (pos 0)) turn
+          ∙ node-kept (a .nodes .now) (a .n) (a .edges .now) (a .count) (a .s) (s .pre) (w .nodes) (w .i) j
+          (omega arith) ∙ w .inv .2 j (omega arith)),
+      ap (λ (l : List ℤ). sweep (nodeShared (a .nodes .now) (a .n) (a .edges .now) (a .count) (a .s)) l (w .i + 1)
+          (a .n - (w .i + 1))) turn
+          ∙ sym (sweep-step (nodeShared (a .nodes .now) (a .n) (a .edges .now) (a .count) (a .s)) (w .nodes) (w .i)
+          (a .n) (t .loop-test .taken))
           ∙ w .inv .3,
     )
 

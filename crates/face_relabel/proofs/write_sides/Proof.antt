@@ -1,4 +1,5 @@
--- `face_relabel::write_sides` meets its contract: a sweep of the positions left, from what those passed left, is the sweep of all. Assumes nothing.
+-- `face_relabel::write_sides` meets its contract: a sweep of the positions left, from what those passed left, is the
+-- sweep of all. Assumes nothing.
 use borrow.Author.Needs.{needs, sfits-of}
 use mathlib.Core.Path.{_≡_, refl, sym, ap, _∙_}
 use mathlib.Core.Logic.{⊎-elim}
@@ -66,8 +67,11 @@ loop-again c =
     (λ x.
     let num = x .3 in
     x .6 ∙ x .4 .ensures
-    ∙ side-hit (a .s) (a .marks .now) (w .edges) (w .p) (sym (cell .ensures) ∙ word-is (sfits-of (cell .ok)) fits-old (x .0 .taken)) (toZ w64 (ofZ w64 (num .result))) (sent {z = num .result} (num .ok) ∙ num .ensures))
-    (λ x. x .1 ∙ side-miss (a .s) (a .marks .now) (w .edges) (w .p) (λ e. x .0 .left (ap (ofZ w64) (cell .ensures ∙ e))))
+    ∙ side-hit (a .s) (a .marks .now) (w .edges) (w .p)
+    (sym (cell .ensures) ∙ word-is (sfits-of (cell .ok)) fits-old (x .0 .taken)) (toZ w64 (ofZ w64 (num .result)))
+    (sent {z = num .result} (num .ok) ∙ num .ensures))
+    (λ x. x .1 ∙ side-miss (a .s) (a .marks .now) (w .edges) (w .p)
+    (λ e. x .0 .left (ap (ofZ w64) (cell .ensures ∙ e))))
     (c .if1 .came) in (
       omega (arith, t .loop-test .taken),
       ap length turn ∙ side-length (a .s) (a .marks .now) (w .edges) (w .p) ∙ w .inv .1,

@@ -19,8 +19,9 @@ returns c =
     let vr = toZ-ofZ {w = w64} {z = a .right} (s .fits .right) in
     let vn = toZ-ofZ {w = w64} {z = a .next} (s .fits .next) in
     let t = ltZ (a .left) (a .right) in
-    let inner = either t (s .fits .left) (s .fits .right) (rw (vl, vr) at (c .before .pick .ensures)) in
-    either (a .makes) (s .fits .next) (cond-has (SFits w64) t (s .fits .left) (s .fits .right)) (rw (vn, inner) at (c .pick2 .ensures)) ∙ kept-is (a .makes) (p .0) (p .1) (p .2)
+    let inner = either t (s .fits .left) (s .fits .right) (rw (vl, vr) at (c .before .select .ensures)) in
+    either (a .makes) (s .fits .next) (cond-has (SFits w64) t (s .fits .left) (s .fits .right))
+    (rw (vn, inner) at (c .select2 .ensures)) ∙ kept-is (a .makes) (p .0) (p .1) (p .2)
 
 pub face-left-spec : {M : Type 1} → statement M
 face-left-spec = tie.close (tie.spec (λ c κs. search needs) (λ c κs. search needs) returns)

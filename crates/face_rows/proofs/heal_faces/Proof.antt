@@ -12,7 +12,7 @@ use mir.Val.{ofZ, toZ}
 use mir.Facts.{toZ-ofZ}
 use Rattle.integers.specs.Signs.{sent}
 use Rattle.lists.specs.Tests.{same}
-use Rattle.lists.specs.Scans.{any}
+use Rattle.lists.specs.Scans.{anyOf}
 use Rattle.map.specs.Rows.{mapOf}
 use Rattle.tables.specs.Tables.{nodesOf, edgesOf, facesOf}
 use Rattle.tables.proofs.Rows.{faces-length}
@@ -25,74 +25,118 @@ use Rattle.face_rows.proofs.Heals.{map-nodes, map-edges, map-next, heal
 use Rattle.face_rows.proofs.heal_faces.Statement.{statement}
 use Rattle.face_rows.proofs.heal_faces.Tie as tie
 
-count-of-requires : tie.Need-count-of-requires
-count-of-requires c κs = let s = c .before .before .before .before in let k = s .pre .held in count-natural (s .args .h .nodes) (k .nodes-count) (omega (arith, k .few-nodes))
+to-usize-requires : tie.Need-to-usize-requires
+to-usize-requires c κs = let s = c .before .before .before .before in let k = s .pre .held in
+    count-natural (s .args .h .nodes) (k .nodes-count) (omega (arith, k .few-nodes))
 
-count-of-requires-2 : tie.Need-count-of-requires-2
-count-of-requires-2 c κs = let s = c .before .before .before .before .before .before .before in let k = s .pre .held in count-natural (s .args .h .edges) (k .edges-count) (omega (arith, k .few-edges))
+to-usize-requires-2 : tie.Need-to-usize-requires-2
+to-usize-requires-2 c κs = let s = c .before .before .before .before .before .before .before in let k = s .pre .held in
+    count-natural (s .args .h .edges) (k .edges-count) (omega (arith, k .few-edges))
 
 rename-faces-requires : tie.Need-rename-faces-requires
 rename-faces-requires c κs =
     let s = c .before .before .before .before .before .before .before .before in
     let a = s .args in
     let k = s .pre .held in
-    let n = c .before .before .before .count-of .ensures ∙ count-abs (a .h .nodes) (k .nodes-count) (omega (arith, k .few-nodes)) in
-    let e = c .count-of2 .ensures ∙ count-abs (a .h .edges) (k .edges-count) (omega (arith, k .few-edges)) in
+    let n = c .before .before .before .to-usize .ensures
+    ∙ count-abs (a .h .nodes) (k .nodes-count) (omega (arith, k .few-nodes)) in
+    let e = c .to-usize2 .ensures ∙ count-abs (a .h .edges) (k .edges-count) (omega (arith, k .few-edges)) in
     let vl = toZ-ofZ {w = w64} {z = a .left} (s .fits .left) in
     let vr = toZ-ofZ {w = w64} {z = a .right} (s .fits .right) in
     let fl = c .before .before .before .before .before .before .face-left in
     let vf = sent {z = fl .result} (fl .ok) in
-    rw (n, e, vl, vr, vf) (k .node-rows, k .edge-rows, k .node-cells, k .edge-cells, s .pre .left-face, s .pre .right-face, fl .ensures ∙ ap (λ (z : ℤ). pos (natAbs z)) (sym (fl .ensures)))
+    rw (n, e, vl, vr, vf) (
+      k .node-rows,
+      k .edge-rows,
+      k .node-cells,
+      k .edge-cells,
+      s .pre .left-face,
+      s .pre .right-face,
+      fl .ensures ∙ ap (λ (z : ℤ). pos (natAbs z)) (sym (fl .ensures)),
+    )
 
-count-of-requires-3 : tie.Need-count-of-requires-3
-count-of-requires-3 c κs = let s = c .before .before .before .before .before .before .before .before .before .before .before .before .before in let k = s .pre .held in count-natural (s .args .h .faces) (k .faces-count) (omega (arith, k .few-faces))
+to-usize-requires-3 : tie.Need-to-usize-requires-3
+to-usize-requires-3 c κs = let s =
+    c .before .before .before .before .before .before .before .before .before .before .before .before .before in
+    let k = s .pre .held in count-natural (s .args .h .faces) (k .faces-count) (omega (arith, k .few-faces))
 
 heal-row-requires : tie.Need-heal-row-requires
 heal-row-requires c κs =
-    let s = c .before .before .before .before .before .before .before .before .before .before .before .before .before .before in
+    let s = c .before .before .before .before .before .before .before .before .before .before .before .before .before
+    .before in
     let a = s .args in
     let p = s .pre in
     let k = p .held in
-    let f = c .count-of3 .ensures ∙ count-abs (a .h .faces) (k .faces-count) (omega (arith, k .few-faces)) in
+    let f = c .to-usize3 .ensures ∙ count-abs (a .h .faces) (k .faces-count) (omega (arith, k .few-faces)) in
     let vl = toZ-ofZ {w = w64} {z = a .left} (s .fits .left) in
     let vr = toZ-ofZ {w = w64} {z = a .right} (s .fits .right) in
-    let fl = c .before .before .before .before .before .before .before .before .before .before .before .before .face-left in
+    let fl =
+    c .before .before .before .before .before .before .before .before .before .before .before .before .face-left in
     let vf = sent {z = fl .result} (fl .ok) in
-    rw (f, vl, vr, vf) ((length (a .faces .now), facesOf (a .faces .now) (natAbs (a .h .faces)), k .face-table, faces-length (a .faces .now) (natAbs (a .h .faces)), p .left-there, p .right-there), is-natural (a .left) (p .left-face), is-natural (a .right) (p .right-face), ap nonNeg (fl .ensures), p .differ)
+    rw (f, vl, vr, vf) (
+      (
+        length (a .faces .now),
+        facesOf (a .faces .now) (natAbs (a .h .faces)),
+        k .face-table,
+        faces-length (a .faces .now) (natAbs (a .h .faces)),
+        p .left-there,
+        p .right-there,
+      ),
+      is-natural (a .left) (p .left-face),
+      is-natural (a .right) (p .right-face),
+      ap nonNeg (fl .ensures),
+      p .differ,
+    )
 
 without-face-requires : tie.Need-without-face-requires
 without-face-requires c κs =
-    let s = c .before .before .before .before .before .before .before .before .before .before .before .before .before .before .before .before in
+    let s = c .before .before .before .before .before .before .before .before .before .before .before .before .before
+    .before .before .before in
     let a = s .args in
     let p = s .pre in
     let k = p .held in
-    let e = without-length (natAbs (a .left)) (facesOf (a .faces .now) (natAbs (a .h .faces))) (table-distinct (k .face-table)) (p .left-there) in
+    let e = without-length (natAbs (a .left)) (facesOf (a .faces .now) (natAbs (a .h .faces)))
+    (table-distinct (k .face-table)) (p .left-there) in
     let j = faces-length (a .faces .now) (natAbs (a .h .faces)) in
     (k .faces-count, k .few-faces, omega arith, k .next-face, k .next-most)
 
 returns : tie.Need-returns
 returns c row el er =
-    let s = c .before .before .before .before .before .before .before .before .before .before .before .before .before .before .before .before .before .before in
+    let s = c .before .before .before .before .before .before .before .before .before .before .before .before .before
+    .before .before .before .before .before in
     let a = s .args in
     let p = s .pre in
     let k = p .held in
     let m = mapOf (lent (a .nodes .now) (a .edges .now) (a .faces .now) (a .h)) in
-    let fl = c .before .before .before .before .before .before .before .before .before .before .before .before .before .before .before .before .face-left in
-    let n = c .before .before .before .before .before .before .before .before .before .before .before .before .before .count-of .ensures ∙ count-abs (a .h .nodes) (k .nodes-count) (omega (arith, k .few-nodes)) in
-    let e = c .before .before .before .before .before .before .before .before .before .before .count-of2 .ensures ∙ count-abs (a .h .edges) (k .edges-count) (omega (arith, k .few-edges)) in
-    let f = c .before .before .before .before .count-of3 .ensures ∙ count-abs (a .h .faces) (k .faces-count) (omega (arith, k .few-faces)) in
+    let fl =
+    c .before .before .before .before .before .before .before .before .before .before .before .before .before .before
+    .before .before .face-left in
+    let n = c .before .before .before .before .before .before .before .before .before .before .before .before .before
+    .to-usize .ensures ∙ count-abs (a .h .nodes) (k .nodes-count) (omega (arith, k .few-nodes)) in
+    let e = c .before .before .before .before .before .before .before .before .before .before .to-usize2 .ensures
+    ∙ count-abs (a .h .edges) (k .edges-count) (omega (arith, k .few-edges)) in
+    let f = c .before .before .before .before .to-usize3 .ensures
+    ∙ count-abs (a .h .faces) (k .faces-count) (omega (arith, k .few-faces)) in
     let vl = toZ-ofZ {w = w64} {z = a .left} (s .fits .left) in
     let vr = toZ-ofZ {w = w64} {z = a .right} (s .fits .right) in
     let vf = sent {z = fl .result} (fl .ok) in
-    let nx : natAbs (toZ w64 (ofZ w64 (a .h .«next_face»))) ≡ m .nextFace = count-abs (a .h .«next_face») (k .next-face) (k .next-most) ∙ sym (map-next (a .nodes .now) (a .edges .now) (a .faces .now) (a .h)) in
-    let face : fl .result ≡ pos (faceKept (a .makes) row m) = fl .ensures ∙ (λ i. pos (cond (a .makes) (nx i) (min ((ap natAbs vl ∙ sym el) i) ((ap natAbs vr ∙ sym er) i)))) in
-    let rows = c .before .before .before .before .before .before .before .before .before .rename-faces .ensures row m (el ∙ sym (ap natAbs vl)) (er ∙ sym (ap natAbs vr))
+    let nx : natAbs (toZ w64 (ofZ w64 (a .h .«next_face»))) ≡ m .nextFace =
+    count-abs (a .h .«next_face») (k .next-face) (k .next-most)
+    ∙ sym (map-next (a .nodes .now) (a .edges .now) (a .faces .now) (a .h)) in
+    let face : fl .result ≡ pos (faceKept (a .makes) row m) = fl .ensures
+    ∙ (λ i. pos (cond (a .makes) (nx i) (min ((ap natAbs vl ∙ sym el) i) ((ap natAbs vr ∙ sym er) i)))) in
+    let rows = c .before .before .before .before .before .before .before .before .before .rename-faces .ensures row m
+    (el ∙ sym (ap natAbs vl)) (er ∙ sym (ap natAbs vr))
     (map-nodes (a .nodes .now) (a .edges .now) (a .faces .now) (a .h) ∙ ap (nodesOf (a .nodes .now)) (sym n))
     (map-edges (a .nodes .now) (a .edges .now) (a .faces .now) (a .h) ∙ ap (edgesOf (a .edges .now)) (sym e)) in
-    let table = c .before .before .before .heal-row .ensures (length (a .faces .now)) (facesOf (a .faces .now) (natAbs (a .h .faces))) (k .face-table) (faces-length (a .faces .now) (natAbs (a .h .faces)) ∙ sym f)
-    (ap (λ (z : ℤ). any (same (natAbs z)) (facesOf (a .faces .now) (natAbs (a .h .faces)))) vl ∙ p .left-there)
-    (ap (λ (z : ℤ). any (same (natAbs z)) (facesOf (a .faces .now) (natAbs (a .h .faces)))) vr ∙ p .right-there) in (
-      healed-holds p row el er (a .makes) (natAbs (toZ w64 (ofZ w64 (fl .result)))) (ap natAbs (vf ∙ face)) _ _ _ _ (rows .0) (rows .1) (rw (vl, vr) at table) (ap (λ (d : Done). d .head) (c .carried .ensures) ∙ c .before .without-face .ensures),
+    let table = c .before .before .before .heal-row .ensures (length (a .faces .now))
+    (facesOf (a .faces .now) (natAbs (a .h .faces))) (k .face-table)
+    (faces-length (a .faces .now) (natAbs (a .h .faces)) ∙ sym f)
+    (ap (λ (z : ℤ). anyOf (same (natAbs z)) (facesOf (a .faces .now) (natAbs (a .h .faces)))) vl ∙ p .left-there)
+    (ap (λ (z : ℤ). anyOf (same (natAbs z)) (facesOf (a .faces .now) (natAbs (a .h .faces)))) vr ∙ p .right-there) in (
+      healed-holds p row el er (a .makes) (natAbs (toZ w64 (ofZ w64 (fl .result)))) (ap natAbs (vf ∙ face)) _ _ _ _
+          (rows .0) (rows .1) (rw (vl, vr) at table)
+          (ap (λ (d : Done). d .head) (c .carried .ensures) ∙ c .before .without-face .ensures),
       ap (λ (d : Done). d .answer .value) (c .carried .ensures) ∙ vf ∙ face,
     )
 
@@ -101,10 +145,10 @@ heal-faces-spec =
     tie.close
     (tie.spec
     (λ c κs. search needs)
-    count-of-requires
-    count-of-requires-2
+    to-usize-requires
+    to-usize-requires-2
     rename-faces-requires
-    count-of-requires-3
+    to-usize-requires-3
     heal-row-requires
     without-face-requires
     (λ c κs. search needs)

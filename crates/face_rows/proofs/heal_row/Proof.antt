@@ -11,7 +11,7 @@ use lib.Signed.{nonNeg, ltZ}
 use mir.Syntax.{w64}
 use mir.Facts.{toZ-ofZ}
 use Rattle.lists.specs.Tests.{same}
-use Rattle.lists.specs.Scans.{any}
+use Rattle.lists.specs.Scans.{anyOf}
 use Rattle.lists.proofs.Bools.{cond-has}
 use Rattle.face_rows.specs.Holds.{facesIn, FaceTable, withoutFace}
 use Rattle.face_rows.proofs.Words.{either}
@@ -20,11 +20,13 @@ use Rattle.face_rows.proofs.heal_row.Statement.{statement}
 use Rattle.face_rows.proofs.heal_row.Tie as tie
 
 -- one face less, and two less
-module _ {n : ℕ} {fs : List ℕ} {l : List ℤ} (t : FaceTable n fs l) (f g count : ℕ) (len : length fs ≡ count) (hf : any (same f) fs ≡ true) where
+module _ {n : ℕ} {fs : List ℕ} {l : List ℤ} (t : FaceTable n fs l) (f g count : ℕ) (len : length fs ≡ count)
+    (hf : anyOf (same f) fs ≡ true) where
   fewer : length (withoutFace f fs) + 1 ≡ count
   fewer = without-length f fs (table-distinct t) hf ∙ len
 
-  fewest : {l′ : List ℤ} → FaceTable n (withoutFace f fs) l′ → (f ≡ g → ⊥) → any (same g) fs ≡ true → length (withoutFace g (withoutFace f fs)) + 2 ≡ count
+  fewest : {l′ : List ℤ} → FaceTable n (withoutFace f fs) l′ → (f ≡ g → ⊥) → anyOf (same g) fs ≡ true
+      → length (withoutFace g (withoutFace f fs)) + 2 ≡ count
   fewest t′ ne hg =
       let a = fewer in
       let b = without-length g (withoutFace f fs) (table-distinct t′) (still-there f g fs ne hg) in
@@ -43,8 +45,10 @@ remove-face-requires-2 c κs =
     let p = s .pre in
     let o = toZ-ofZ {w = w64} {z = a .left} (s .fits .left) in
     let e = fewer (p .0 .2) _ 0 _ (p .0 .3) (p .0 .4) in
-    let t = rw o at (c .before .before .remove-face .ensures (p .0 .0) (p .0 .1) (p .0 .2) (p .0 .3)) in
-    ((p .0 .0, withoutFace (natAbs (a .left)) (p .0 .1), t, omega arith), ap nonNeg (toZ-ofZ {w = w64} {z = a .right} (s .fits .right)) ∙ p .2)
+    let t = rw o at (c .before .before .remove-face .ensures (p .0 .0) (p .0 .1) (p .0 .2) (p .0 .3)) in (
+      (p .0 .0, withoutFace (natAbs (a .left)) (p .0 .1), t, omega arith),
+      ap nonNeg (toZ-ofZ {w = w64} {z = a .right} (s .fits .right)) ∙ p .2,
+    )
 
 sub-push-face : tie.Need-sub-push-face
 sub-push-face c =
@@ -52,7 +56,8 @@ sub-push-face c =
     let a = s .args in
     let p = s .pre in
     let o = toZ-ofZ {w = w64} {z = a .left} (s .fits .left) in
-    let t = rw o at (c .before .before .before .before .before .remove-face .ensures (p .0 .0) (p .0 .1) (p .0 .2) (p .0 .3)) in
+    let t = rw o at (c .before .before .before .before .before .remove-face .ensures (p .0 .0) (p .0 .1) (p .0 .2)
+    (p .0 .3)) in
     let e = fewest (p .0 .2) (natAbs (a .left)) (natAbs (a .right)) _ (p .0 .3) (p .0 .4) t (p .4) (p .0 .5) in
     omega arith
 
@@ -63,14 +68,17 @@ push-face-requires c κs =
     let p = s .pre in
     let o = toZ-ofZ {w = w64} {z = a .left} (s .fits .left) in
     let o′ = toZ-ofZ {w = w64} {z = a .right} (s .fits .right) in
-    let t = rw o at (c .before .before .before .before .before .remove-face .ensures (p .0 .0) (p .0 .1) (p .0 .2) (p .0 .3)) in
+    let t = rw o at (c .before .before .before .before .before .remove-face .ensures (p .0 .0) (p .0 .1) (p .0 .2)
+    (p .0 .3)) in
     let e = fewer (p .0 .2) (natAbs (a .left)) 0 _ (p .0 .3) (p .0 .4) in
     let k = fewest (p .0 .2) (natAbs (a .left)) (natAbs (a .right)) _ (p .0 .3) (p .0 .4) t (p .4) (p .0 .5) in
     let fs = withoutFace (natAbs (a .left)) (p .0 .1) in
     let t′ = rw o′ at (c .before .before .remove-face2 .ensures (p .0 .0) fs t (omega arith)) in
     let most = p .0 .2 .fits in
-    let len = p .0 .3 in
-    ((p .0 .0, withoutFace (natAbs (a .right)) fs, t′ .cells, omega arith, omega arith), ap nonNeg (toZ-ofZ {w = w64} {z = a .face} (s .fits .face)) ∙ p .3)
+    let len = p .0 .3 in (
+      (p .0 .0, withoutFace (natAbs (a .right)) fs, t′ .cells, omega arith, omega arith),
+      ap nonNeg (toZ-ofZ {w = w64} {z = a .face} (s .fits .face)) ∙ p .3,
+    )
 
 remove-face-requires-3 : tie.Need-remove-face-requires-3
 remove-face-requires-3 c κs =
@@ -79,8 +87,12 @@ remove-face-requires-3 c κs =
     let p = s .pre in
     let o = toZ-ofZ {w = w64} {z = a .left} (s .fits .left) in
     let o′ = toZ-ofZ {w = w64} {z = a .right} (s .fits .right) in
-    let told = either (ltZ (a .left) (a .right)) (s .fits .right) (s .fits .left) (rw (o, o′) at (c .pick .ensures)) in
-    ((p .0 .0, p .0 .1, p .0 .2, p .0 .3), ap nonNeg told ∙ cond-has (λ (z : ℤ). nonNeg z ≡ true) (ltZ (a .left) (a .right)) (p .2) (p .1))
+    let told = either (ltZ (a .left) (a .right)) (s .fits .right) (s .fits .left)
+    (rw (o, o′) at (c .select .ensures)) in (
+      (p .0 .0, p .0 .1, p .0 .2, p .0 .3),
+      ap nonNeg told
+          ∙ cond-has (λ (z : ℤ). nonNeg z ≡ true) (ltZ (a .left) (a .right)) (p .2) (p .1),
+    )
 
 returns : tie.Need-returns
 returns c n gs t₀ len hl hr =
@@ -96,8 +108,11 @@ returns c n gs t₀ len hl hr =
     let fs = withoutFace (natAbs (a .left)) gs in
     let t′ = rw o′ at (c .before .before .before .before .remove-face2 .ensures n fs t (omega arith)) in
     let most = t₀ .fits in
-    let u = rw v at (c .before .push-face .ensures n (withoutFace (natAbs (a .right)) fs) (t′ .cells) (omega arith) (omega arith)) in
-    ap (λ (b : Bool). facesIn n (cond b (withoutFace (natAbs (a .right)) fs ++ natAbs (a .face) ∷ []) (withoutFace (natAbs (cond (ltZ (a .left) (a .right)) (a .right) (a .left))) gs))) (c .before .before .before .before .before .before .before .before .before .if1 .taken) ∙ u
+    let u = rw v at (c .before .push-face .ensures n (withoutFace (natAbs (a .right)) fs) (t′ .cells) (omega arith)
+    (omega arith)) in
+    ap (λ (b : Bool). facesIn n (cond b (withoutFace (natAbs (a .right)) fs ++ natAbs (a .face) ∷ [])
+    (withoutFace (natAbs (cond (ltZ (a .left) (a .right)) (a .right) (a .left))) gs)))
+    (c .before .before .before .before .before .before .before .before .before .if1 .taken) ∙ u
 
 returns-2 : tie.Need-returns-2
 returns-2 c n gs t₀ len hl hr =
@@ -105,9 +120,13 @@ returns-2 c n gs t₀ len hl hr =
     let a = s .args in
     let o = toZ-ofZ {w = w64} {z = a .left} (s .fits .left) in
     let o′ = toZ-ofZ {w = w64} {z = a .right} (s .fits .right) in
-    let told = either (ltZ (a .left) (a .right)) (s .fits .right) (s .fits .left) (rw (o, o′) at (c .before .before .pick .ensures)) in
+    let told = either (ltZ (a .left) (a .right)) (s .fits .right) (s .fits .left)
+    (rw (o, o′) at (c .before .before .select .ensures)) in
     let t = c .before .remove-face3 .ensures n gs t₀ len in
-    ap (λ (b : Bool). facesIn n (cond b (withoutFace (natAbs (a .right)) (withoutFace (natAbs (a .left)) gs) ++ natAbs (a .face) ∷ []) (withoutFace (natAbs (cond (ltZ (a .left) (a .right)) (a .right) (a .left))) gs))) (c .before .before .before .before .if1 .left)
+    ap (λ (b : Bool). facesIn n (cond b
+    (withoutFace (natAbs (a .right)) (withoutFace (natAbs (a .left)) gs) ++ natAbs (a .face) ∷ [])
+    (withoutFace (natAbs (cond (ltZ (a .left) (a .right)) (a .right) (a .left))) gs)))
+    (c .before .before .before .before .if1 .left)
     ∙ ap (λ (z : ℤ). facesIn n (withoutFace (natAbs z) gs)) (sym told)
     ∙ t .cells
 

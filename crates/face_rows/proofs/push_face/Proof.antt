@@ -29,7 +29,8 @@ slice-set-from-face c =
 returns : tie.Need-returns
 returns c n fs e len lt =
     let a = c .args in
-    let v : toZ w64 (ofZ w64 (a .face)) ≡ pos (natAbs (a .face)) = toZ-ofZ {w = w64} {z = a .face} (c .fits .face) ∙ pos-abs (a .face) (c .pre .1) in
+    let v : toZ w64 (ofZ w64 (a .face)) ≡ pos (natAbs (a .face)) = toZ-ofZ {w = w64} {z = a .face} (c .fits .face)
+    ∙ pos-abs (a .face) (c .pre .1) in
     face-pushed n fs (a .faces .now) (natAbs (a .face)) e (omega arith) ∙ (λ i. set (a .faces .now) (len i) (sym v i))
 
 pub push-face-spec : {M : Type 1} → statement M

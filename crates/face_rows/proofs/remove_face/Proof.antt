@@ -26,8 +26,10 @@ remove-row-requires c κs =
     let s = c .before .before .before .before .before .before in
     let a = s .args in
     let p = s .pre .0 in
-    let v : toZ w64 (ofZ w64 (a .face)) ≡ pos (natAbs (a .face)) = toZ-ofZ {w = w64} {z = a .face} (s .fits .face) ∙ pos-abs (a .face) (s .pre .1) in
-    let e = place-told 1 (a .faces .now) (sym (p .3)) v (c .before .before .before .before .find-row .ensures) (c .before .before .found .given .1) in
+    let v : toZ w64 (ofZ w64 (a .face)) ≡ pos (natAbs (a .face)) = toZ-ofZ {w = w64} {z = a .face} (s .fits .face)
+    ∙ pos-abs (a .face) (s .pre .1) in
+    let e = place-told 1 (a .faces .now) (sym (p .3)) v (c .before .before .before .before .find-row .ensures)
+    (c .before .before .found .given .1) in
     let t = found-gone (p .2) (natAbs (a .face)) _ e .0 in
     (omega (arith, p .3), subst (λ (k : ℕ). k * 1 ≤ length (a .faces .now)) (p .3) (face-rows (p .2) .fits))
 
@@ -35,16 +37,22 @@ returns : tie.Need-returns
 returns c n fs t len =
     let s = c .before .before .before .before .before .before .before .before in
     let a = s .args in
-    let v : toZ w64 (ofZ w64 (a .face)) ≡ pos (natAbs (a .face)) = toZ-ofZ {w = w64} {z = a .face} (s .fits .face) ∙ pos-abs (a .face) (s .pre .1) in
-    let e = place-told 1 (a .faces .now) (sym len) v (c .before .before .before .before .before .before .find-row .ensures) (c .before .before .before .before .found .given .1) in
+    let v : toZ w64 (ofZ w64 (a .face)) ≡ pos (natAbs (a .face)) = toZ-ofZ {w = w64} {z = a .face} (s .fits .face)
+    ∙ pos-abs (a .face) (s .pre .1) in
+    let e = place-told 1 (a .faces .now) (sym len) v
+    (c .before .before .before .before .before .before .find-row .ensures)
+    (c .before .before .before .before .found .given .1) in
     let done = found-gone t (natAbs (a .face)) _ e .1 in
-    subst (FaceTable n (withoutFace (natAbs (a .face)) fs)) (ap (λ (k : ℕ). closed 1 (a .faces .now) k (c .before .before .before .before .found .given .0 .0)) len ∙ sym (c .before .remove-row .ensures)) done
+    subst (FaceTable n (withoutFace (natAbs (a .face)) fs))
+    (ap (λ (k : ℕ). closed 1 (a .faces .now) k (c .before .before .before .before .found .given .0 .0)) len
+    ∙ sym (c .before .remove-row .ensures)) done
 
 returns-2 : tie.Need-returns-2
 returns-2 c n fs t len =
     let s = c .before .before .before .before in
     let a = s .args in
-    let v : toZ w64 (ofZ w64 (a .face)) ≡ pos (natAbs (a .face)) = toZ-ofZ {w = w64} {z = a .face} (s .fits .face) ∙ pos-abs (a .face) (s .pre .1) in
+    let v : toZ w64 (ofZ w64 (a .face)) ≡ pos (natAbs (a .face)) = toZ-ofZ {w = w64} {z = a .face} (s .fits .face)
+    ∙ pos-abs (a .face) (s .pre .1) in
     let e = place-told 1 (a .faces .now) (sym len) v (c .before .before .find-row .ensures) (c .enum-told .given .1) in
     missing-gone t (natAbs (a .face)) e
 

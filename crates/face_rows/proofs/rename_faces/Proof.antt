@@ -25,10 +25,13 @@ returns c row m el er en ee =
       node-table row (natAbs (a .face)) m (a .left) (a .right) (a .face) il ir (p .6) (a .nodes .now) (a .n) en (p .2)
           ∙ ap (sweptColumn nodeWidth 3 0 (a .n) (a .right) (a .face)) (sym (rw (vl, vf) at (first .ensures .0)))
           ∙ sym (rw (vr, vf) at (second .ensures .0)),
-      edge-table row (natAbs (a .face)) m (a .left) (a .right) (a .face) il ir (p .6) (a .edges .now) (a .count) ee (p .1) (p .3)
-          ∙ ap (λ (l : List ℤ). sweptColumn edgeWidth 6 0 (a .count) (a .right) (a .face) (sweptColumn edgeWidth 5 0 (a .count) (a .right) (a .face) l)) (sym (rw (vl, vf) at (first .ensures .1)))
+      edge-table row (natAbs (a .face)) m (a .left) (a .right) (a .face) il ir (p .6) (a .edges .now) (a .count) ee
+          (p .1) (p .3)
+          ∙ ap (λ (l : List ℤ). sweptColumn edgeWidth 6 0 (a .count) (a .right) (a .face)
+          (sweptColumn edgeWidth 5 0 (a .count) (a .right) (a .face) l)) (sym (rw (vl, vf) at (first .ensures .1)))
           ∙ sym (rw (vr, vf) at (second .ensures .1)),
     )
 
 pub rename-faces-spec : {M : Type 1} → statement M
-rename-faces-spec = tie.close (tie.spec (λ c κs. search needs) (λ c κs. search needs) (λ c. search needs) (λ c. search needs) returns)
+rename-faces-spec = tie.close (tie.spec (λ c κs. search needs) (λ c κs. search needs) (λ c. search needs)
+    (λ c. search needs) returns)

@@ -23,7 +23,7 @@ use Rattle.face_rows.proofs.Words.{either, positive-is}
 use Rattle.face_rows.proofs.sides_of.Statement.{statement}
 use Rattle.face_rows.proofs.sides_of.Tie as tie
 
-add-pick : tie.Need-add-pick
+add-pick : tie.Need-add-select
 add-pick c = let s = c .before in plus-fits (s .args .a) (s .pre .3) (s .pre .4)
 
 add-t13 : tie.Need-add-t13
@@ -38,17 +38,22 @@ returns c =
     let a = s .args in
     let p = s .pre in
     let area = c .before .before .before .ring-area in
-    let doubled = ringArea (edgeMap (a .edges .now) (a .count)) (ring (edgeMap (a .edges .now) (a .count)) (dartAt (a .edges .now) ((a .count - 1) * 2))) in
+    let doubled = ringArea (edgeMap (a .edges .now) (a .count))
+    (ring (edgeMap (a .edges .now) (a .count)) (dartAt (a .edges .now) ((a .count - 1) * 2))) in
     let isLeft = ap (ltZ (pos 0)) (sent {z = area .result} (area .ok) ∙ area .ensures) ∙ positive-is doubled in
     let vo = toZ-ofZ {w = w64} {z = a .old} (s .fits .old) in
     let va = toZ-ofZ {w = w64} {z = a .a} (s .fits .a) in
     let first = ltZ (pos 0) (toZ w64 (ofZ w64 (area .result))) || not (a .goes) in
     let b = cond (a .goes) (pos (natAbs (a .a) + 1)) (a .old) in
     let fb = cond-has (SFits w64) (a .goes) (small-fits (natAbs (a .a) + 1) (omega (arith, p .4))) (s .fits .old) in
-    let vb = either (a .goes) (small-fits (natAbs (a .a) + 1) (omega (arith, p .4))) (s .fits .old) (rw (plus-is (a .a) (p .3) (p .4), vo) at (c .before .before .pick .ensures)) in
-    let inside = either first (s .fits .a) fb (rw (va, vb) at (c .before .pick2 .ensures)) ∙ ap (λ (x : Bool). cond (x || not (a .goes)) (a .a) b) isLeft in
-    let other = either first fb (s .fits .a) (rw (va, vb) at (c .pick3 .ensures)) ∙ ap (λ (x : Bool). cond (x || not (a .goes)) b (a .a)) isLeft in
-    let place = ap (λ (x : Bool). (a .count - 1) * 2 + boolByte (not x)) isLeft ∙ ap (λ (k : ℕ). (a .count - 1) * 2 + k) (byte-bit (not (isPositive (sgn doubled)))) in
+    let vb = either (a .goes) (small-fits (natAbs (a .a) + 1) (omega (arith, p .4))) (s .fits .old)
+    (rw (plus-is (a .a) (p .3) (p .4), vo) at (c .before .before .select .ensures)) in
+    let inside = either first (s .fits .a) fb (rw (va, vb) at (c .before .select2 .ensures))
+    ∙ ap (λ (x : Bool). cond (x || not (a .goes)) (a .a) b) isLeft in
+    let other = either first fb (s .fits .a) (rw (va, vb) at (c .select3 .ensures))
+    ∙ ap (λ (x : Bool). cond (x || not (a .goes)) b (a .a)) isLeft in
+    let place = ap (λ (x : Bool). (a .count - 1) * 2 + boolByte (not x)) isLeft
+    ∙ ap (λ (k : ℕ). (a .count - 1) * 2 + k) (byte-bit (not (isPositive (sgn doubled)))) in
     λ i. record { old = vo i; ring = place i; inside = inside i; other = other i }
 
 pub sides-of-spec : {M : Type 1} → statement M
@@ -58,7 +63,7 @@ sides-of-spec =
     (λ c. search needs)
     (λ c. search needs)
     (λ c κs. search needs)
-    add-pick
+    add-select
     (λ c κs. search needs)
     (λ c. search needs)
     add-t13

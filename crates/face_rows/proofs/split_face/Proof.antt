@@ -12,7 +12,7 @@ use mir.Val.{ofZ}
 use mir.Facts.{toZ-ofZ}
 use Rattle.integers.specs.Order.{sgn}
 use Rattle.lists.specs.Tests.{same}
-use Rattle.lists.specs.Scans.{any}
+use Rattle.lists.specs.Scans.{anyOf}
 use Rattle.plane.specs.Areas.{isPositive}
 use Rattle.map.specs.Rows.{mapOf}
 use Rattle.map.specs.Darts.{ring}
@@ -32,19 +32,23 @@ use Rattle.face_rows.proofs.split_face.Tie as tie
 self : {z : ℤ} {k : ℕ} → z ≡ pos k → z ≡ pos (natAbs z)
 self e = e ∙ ap (λ (x : ℤ). pos (natAbs x)) (sym e)
 
-count-of-requires : tie.Need-count-of-requires
-count-of-requires c κs = let s = c .before in let k = s .pre .held in count-natural (s .args .h .edges) (k .edges-count) (omega (arith, k .few-edges))
+to-usize-requires : tie.Need-to-usize-requires
+to-usize-requires c κs = let s = c .before in let k = s .pre .held in
+    count-natural (s .args .h .edges) (k .edges-count) (omega (arith, k .few-edges))
 
 sides-of-requires : tie.Need-sides-of-requires
 sides-of-requires c κs =
     let s = c .before .before .before .before in
     let a = s .args in
     let k = s .pre .held in
-    let e = c .before .before .count-of .ensures ∙ count-abs (a .h .edges) (k .edges-count) (omega (arith, k .few-edges)) in
-    rw (e, count-back (a .h .«next_face») (k .next-face) (k .next-most)) (k .edge-rows, s .pre .drawn, k .few-edges, k .next-face, k .next-most)
+    let e = c .before .before .to-usize .ensures
+    ∙ count-abs (a .h .edges) (k .edges-count) (omega (arith, k .few-edges)) in
+    rw (e, count-back (a .h .«next_face») (k .next-face) (k .next-most))
+    (k .edge-rows, s .pre .drawn, k .few-edges, k .next-face, k .next-most)
 
-count-of-requires-2 : tie.Need-count-of-requires-2
-count-of-requires-2 c κs = let s = c .before .before .before .before .before .before .before in let k = s .pre .held in count-natural (s .args .h .nodes) (k .nodes-count) (omega (arith, k .few-nodes))
+to-usize-requires-2 : tie.Need-to-usize-requires-2
+to-usize-requires-2 c κs = let s = c .before .before .before .before .before .before .before in let k = s .pre .held in
+    count-natural (s .args .h .nodes) (k .nodes-count) (omega (arith, k .few-nodes))
 
 share-rows-requires : tie.Need-share-rows-requires
 share-rows-requires c κs =
@@ -52,70 +56,103 @@ share-rows-requires c κs =
     let a = s .args in
     let p = s .pre in
     let k = p .held in
-    let e = c .before .before .before .before .before .before .before .count-of .ensures ∙ count-abs (a .h .edges) (k .edges-count) (omega (arith, k .few-edges)) in
-    let n = c .before .count-of2 .ensures ∙ count-abs (a .h .nodes) (k .nodes-count) (omega (arith, k .few-nodes)) in
+    let e = c .before .before .before .before .before .before .before .to-usize .ensures
+    ∙ count-abs (a .h .edges) (k .edges-count) (omega (arith, k .few-edges)) in
+    let n = c .before .to-usize2 .ensures ∙ count-abs (a .h .nodes) (k .nodes-count) (omega (arith, k .few-nodes)) in
     let vo = toZ-ofZ {w = w64} {z = a .old} (s .fits .old) in
     let vn = count-back (a .h .«next_face») (k .next-face) (k .next-most) in
     let sides = rw (e, vo, vn) at (c .before .before .before .before .sides-of .ensures) in
     let goes = a .news && not (eqb (ofZ w64 (a .old)) (ofZ w64 (pos 0))) in
     let es = edgeMap (a .edges .now) (natAbs (a .h .edges)) in
     let isLeft = isPositive (sgn (ringArea es (ring es (dartAt (a .edges .now) ((natAbs (a .h .edges) - 1) * 2))))) in
-    let shared = subst (Shared (a .nodes .now) (natAbs (a .h .nodes)) (a .edges .now) (natAbs (a .h .edges))) (sym sides) (sides-shared p isLeft goes) in
+    let shared = subst (Shared (a .nodes .now) (natAbs (a .h .nodes)) (a .edges .now) (natAbs (a .h .edges)))
+    (sym sides) (sides-shared p isLeft goes) in
     rw (e, n) (shared, p .rings, k .node-cells, k .edge-cells)
 
-count-of-requires-3 : tie.Need-count-of-requires-3
-count-of-requires-3 c κs = let s = c .before .before .before .before .before .before .before .before .before .before .before .before .before .before in let k = s .pre .held in count-natural (s .args .h .faces) (k .faces-count) (omega (arith, k .few-faces))
+to-usize-requires-3 : tie.Need-to-usize-requires-3
+to-usize-requires-3 c κs = let s =
+    c .before .before .before .before .before .before .before .before .before .before .before .before .before
+    .before in let k = s .pre .held in count-natural (s .args .h .faces) (k .faces-count) (omega (arith, k .few-faces))
 
 split-row-requires : tie.Need-split-row-requires
 split-row-requires c κs =
-    let s = c .before .before .before .before .before .before .before .before .before .before .before .before .before .before .before in
+    let s = c .before .before .before .before .before .before .before .before .before .before .before .before .before
+    .before .before in
     let a = s .args in
     let p = s .pre in
     let k = p .held in
-    let f = c .count-of3 .ensures ∙ count-abs (a .h .faces) (k .faces-count) (omega (arith, k .few-faces)) in
+    let f = c .to-usize3 .ensures ∙ count-abs (a .h .faces) (k .faces-count) (omega (arith, k .few-faces)) in
     let vo = toZ-ofZ {w = w64} {z = a .old} (s .fits .old) in
     let vn = count-back (a .h .«next_face») (k .next-face) (k .next-most) in
-    rw (f, vo, vn) ((length (a .faces .now), facesOf (a .faces .now) (natAbs (a .h .faces)), k .face-table, faces-length (a .faces .now) (natAbs (a .h .faces)), p .room, p .there), is-natural (a .old) (self (p .borne)), is-natural (a .h .«next_face») (k .next-face), k .next-most)
+    rw (f, vo, vn) (
+      (
+        length (a .faces .now),
+        facesOf (a .faces .now) (natAbs (a .h .faces)),
+        k .face-table,
+        faces-length (a .faces .now) (natAbs (a .h .faces)),
+        p .room,
+        p .there,
+      ),
+      is-natural (a .old) (self (p .borne)),
+      is-natural (a .h .«next_face») (k .next-face),
+      k .next-most,
+    )
 
 with-face-requires : tie.Need-with-face-requires
 with-face-requires c κs =
-    let s = c .before .before .before .before .before .before .before .before .before .before .before .before .before .before .before .before .before in
+    let s = c .before .before .before .before .before .before .before .before .before .before .before .before .before
+    .before .before .before .before in
     let k = s .pre .held in
     (k .faces-count, k .few-faces, k .next-face, k .next-most)
 
 returns : tie.Need-returns
 returns c =
-    let s = c .before .before .before .before .before .before .before .before .before .before .before .before .before .before .before .before .before .before in
+    let s = c .before .before .before .before .before .before .before .before .before .before .before .before .before
+    .before .before .before .before .before in
     let a = s .args in
     let p = s .pre in
     let k = p .held in
     let m = mapOf (lent (a .nodes .now) (a .edges .now) (a .faces .now) (a .h)) in
-    let e = c .before .before .before .before .before .before .before .before .before .before .before .before .before .before .before .before .count-of .ensures ∙ count-abs (a .h .edges) (k .edges-count) (omega (arith, k .few-edges)) in
-    let n = c .before .before .before .before .before .before .before .before .before .before .count-of2 .ensures ∙ count-abs (a .h .nodes) (k .nodes-count) (omega (arith, k .few-nodes)) in
-    let f = c .before .before .before .count-of3 .ensures ∙ count-abs (a .h .faces) (k .faces-count) (omega (arith, k .few-faces)) in
+    let e = c .before .before .before .before .before .before .before .before .before .before .before .before .before
+    .before .before .before .to-usize .ensures
+    ∙ count-abs (a .h .edges) (k .edges-count) (omega (arith, k .few-edges)) in
+    let n = c .before .before .before .before .before .before .before .before .before .before .to-usize2 .ensures
+    ∙ count-abs (a .h .nodes) (k .nodes-count) (omega (arith, k .few-nodes)) in
+    let f = c .before .before .before .to-usize3 .ensures
+    ∙ count-abs (a .h .faces) (k .faces-count) (omega (arith, k .few-faces)) in
     let vo = toZ-ofZ {w = w64} {z = a .old} (s .fits .old) in
     let vn = count-back (a .h .«next_face») (k .next-face) (k .next-most) in
     let goes = a .news && not (eqb (ofZ w64 (a .old)) (ofZ w64 (pos 0))) in
     let es = edgeMap (a .edges .now) (natAbs (a .h .edges)) in
     let isLeft = isPositive (sgn (ringArea es (ring es (dartAt (a .edges .now) ((natAbs (a .h .edges) - 1) * 2))))) in
-    let sides = rw (e, vo, vn) at (c .before .before .before .before .before .before .before .before .before .before .before .before .before .sides-of .ensures) in
+    let sides =
+    rw (e, vo, vn) at
+    (c .before .before .before .before .before .before .before .before .before .before .before .before .before
+    .sides-of .ensures) in
     let rows = c .before .before .before .before .before .before .before .before .share-rows .ensures m
     (map-nodes (a .nodes .now) (a .edges .now) (a .faces .now) (a .h) ∙ ap (nodesOf (a .nodes .now)) (sym n))
     (map-edges (a .nodes .now) (a .edges .now) (a .faces .now) (a .h) ∙ ap (edgesOf (a .edges .now)) (sym e)) in
-    let table = rw (vo, vn) at (c .before .before .split-row .ensures (length (a .faces .now)) (facesOf (a .faces .now) (natAbs (a .h .faces))) (k .face-table) (faces-length (a .faces .now) (natAbs (a .h .faces)) ∙ sym f)
+    let table = rw (vo, vn) at (c .before .before .split-row .ensures (length (a .faces .now))
+    (facesOf (a .faces .now) (natAbs (a .h .faces))) (k .face-table)
+    (faces-length (a .faces .now) (natAbs (a .h .faces)) ∙ sym f)
     (subst (λ (j : ℕ). j < length (a .faces .now)) (sym f) (p .room))
-    (ap (λ (z : ℤ). any (same (natAbs z)) (facesOf (a .faces .now) (natAbs (a .h .faces)))) vo ∙ p .there)) in
-    split-holds p (a .news) isLeft goes (ap (λ (z : ℤ). isPositive (sgn z)) (area-is p)) (ap (λ (b : Bool). a .news && not b) (sym (number-test (a .old) (pos 0) (natAbs (a .old)) 0 (s .fits .old) (small-fits 0 (lit≤ tt)) (self (p .borne)) refl))) (c .before .before .before .before .before .before .before .before .before .before .before .before .before .sides-of .result) sides _ _ _ _ (rows .0) (rows .1) table (c .with-face .ensures)
+    (ap (λ (z : ℤ). anyOf (same (natAbs z)) (facesOf (a .faces .now) (natAbs (a .h .faces)))) vo ∙ p .there)) in
+    split-holds p (a .news) isLeft goes (ap (λ (z : ℤ). isPositive (sgn z)) (area-is p))
+    (ap (λ (b : Bool). a .news && not b)
+    (sym (number-test (a .old) (pos 0) (natAbs (a .old)) 0 (s .fits .old) (small-fits 0 (lit≤ tt))
+    (self (p .borne)) refl)))
+    (c .before .before .before .before .before .before .before .before .before .before .before .before .before
+    .sides-of .result) sides _ _ _ _ (rows .0) (rows .1) table (c .with-face .ensures)
 
 pub split-face-spec : {M : Type 1} → statement M
 split-face-spec =
     tie.close
     (tie.spec
-    count-of-requires
+    to-usize-requires
     sides-of-requires
-    count-of-requires-2
+    to-usize-requires-2
     share-rows-requires
-    count-of-requires-3
+    to-usize-requires-3
     split-row-requires
     with-face-requires
     (λ c. search needs)

@@ -11,7 +11,7 @@ use lib.Signed.{nonNeg}
 use mir.Syntax.{w64}
 use mir.Facts.{toZ-ofZ}
 use Rattle.lists.specs.Tests.{same}
-use Rattle.lists.specs.Scans.{any}
+use Rattle.lists.specs.Scans.{anyOf}
 use Rattle.tables.proofs.Rows.{pos-abs}
 use Rattle.outcomes.proofs.Words.{plus-fits, plus-is, count-natural}
 use Rattle.face_rows.specs.Holds.{facesIn, FaceTable, withoutFace, splitFaces}
@@ -20,7 +20,8 @@ use Rattle.face_rows.proofs.split_row.Statement.{statement}
 use Rattle.face_rows.proofs.split_row.Tie as tie
 
 -- one face less
-fewer : {n : ℕ} {fs : List ℕ} {l : List ℤ} (t : FaceTable n fs l) (f count : ℕ) → length fs ≡ count → any (same f) fs ≡ true → length (withoutFace f fs) + 1 ≡ count
+fewer : {n : ℕ} {fs : List ℕ} {l : List ℤ} (t : FaceTable n fs l) (f count : ℕ) → length fs ≡ count → anyOf (same f) fs
+    ≡ true → length (withoutFace f fs) + 1 ≡ count
 fewer {n} {fs} t f count len h = without-length f fs (table-distinct t) h ∙ len
 
 sub-push-face : tie.Need-sub-push-face
@@ -36,8 +37,10 @@ push-face-requires c κs =
     let p = s .pre in
     let o = toZ-ofZ {w = w64} {z = a .old} (s .fits .old) in
     let e = fewer (p .0 .2) _ _ (p .0 .3) (p .0 .5) in
-    let t = c .before .before .remove-face .ensures (p .0 .0) (p .0 .1) (p .0 .2) (p .0 .3) in
-    ((p .0 .0, withoutFace (natAbs (a .old)) (p .0 .1), rw o at (t .cells), omega arith, omega (arith, p .0 .4)), count-natural (a .a) (pos-abs (a .a) (p .2)) (p .3))
+    let t = c .before .before .remove-face .ensures (p .0 .0) (p .0 .1) (p .0 .2) (p .0 .3) in (
+      (p .0 .0, withoutFace (natAbs (a .old)) (p .0 .1), rw o at (t .cells), omega arith, omega (arith, p .0 .4)),
+      count-natural (a .a) (pos-abs (a .a) (p .2)) (p .3),
+    )
 
 add-push-face : tie.Need-add-push-face
 add-push-face c =
@@ -53,8 +56,10 @@ push-face-requires-2 c κs =
     let v = toZ-ofZ {w = w64} {z = a .a} (s .fits .a) in
     let e = fewer (p .0 .2) _ _ (p .0 .3) (p .0 .5) in
     let fs = withoutFace (natAbs (a .old)) (p .0 .1) in
-    let t = rw o at (c .before .before .before .before .before .remove-face .ensures (p .0 .0) (p .0 .1) (p .0 .2) (p .0 .3)) in
-    let u = rw v at (c .before .before .push-face .ensures (p .0 .0) fs (t .cells) (omega arith) (omega (arith, p .0 .4))) in
+    let t = rw o at (c .before .before .before .before .before .remove-face .ensures (p .0 .0) (p .0 .1) (p .0 .2)
+    (p .0 .3)) in
+    let u = rw v at (c .before .before .push-face .ensures (p .0 .0) fs (t .cells) (omega arith)
+    (omega (arith, p .0 .4))) in
     let long : length (fs ++ natAbs (a .a) ∷ []) ≡ a .count = length-append fs (natAbs (a .a) ∷ []) ∙ e in
     ((p .0 .0, fs ++ natAbs (a .a) ∷ [], u, long, p .0 .4), ap nonNeg (plus-is (a .a) (pos-abs (a .a) (p .2)) (p .3)))
 
@@ -68,11 +73,13 @@ returns c n gs t₀ len room has =
     let e = fewer t₀ _ _ len has in
     let fs = withoutFace (natAbs (a .old)) gs in
     let t = rw o at (c .before .before .before .before .before .before .before .remove-face .ensures n gs t₀ len) in
-    let u = rw v at (c .before .before .before .before .push-face .ensures n fs (t .cells) (omega arith) (omega arith)) in
+    let u = rw v at (c .before .before .before .before .push-face .ensures n fs (t .cells) (omega arith)
+    (omega arith)) in
     let long : length (fs ++ natAbs (a .a) ∷ []) ≡ a .count = length-append fs (natAbs (a .a) ∷ []) ∙ e in
     let w = c .before .push-face2 .ensures n (fs ++ natAbs (a .a) ∷ []) u long room in
     let k = ap natAbs (plus-is (a .a) (pos-abs (a .a) (p .2)) (p .3)) in
-    ap (λ (b : Bool). facesIn n (splitFaces b (natAbs (a .old)) (natAbs (a .a)) gs)) (c .before .before .before .before .before .before .before .before .before .if1 .taken)
+    ap (λ (b : Bool). facesIn n (splitFaces b (natAbs (a .old)) (natAbs (a .a)) gs))
+    (c .before .before .before .before .before .before .before .before .before .if1 .taken)
     ∙ ap (facesIn n) (sym (append-assoc fs (natAbs (a .a) ∷ []) ((natAbs (a .a) + 1) ∷ [])))
     ∙ ap (λ (j : ℕ). facesIn n ((fs ++ natAbs (a .a) ∷ []) ++ j ∷ [])) (sym k)
     ∙ w
@@ -83,7 +90,8 @@ returns-2 c n gs t₀ len room has =
     let a = s .args in
     let v = toZ-ofZ {w = w64} {z = a .a} (s .fits .a) in
     let u = rw v at (c .before .push-face3 .ensures n gs (t₀ .cells) len room) in
-    ap (λ (b : Bool). facesIn n (splitFaces b (natAbs (a .old)) (natAbs (a .a)) gs)) (c .before .before .before .if1 .left) ∙ u
+    ap (λ (b : Bool). facesIn n (splitFaces b (natAbs (a .old)) (natAbs (a .a)) gs))
+    (c .before .before .before .if1 .left) ∙ u
 
 pub split-row-spec : {M : Type 1} → statement M
 split-row-spec =

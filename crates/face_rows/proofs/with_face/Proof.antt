@@ -19,7 +19,9 @@ add-after c =
 add-after-2 : tie.Need-add-after-2
 add-after-2 c =
     let s = c .before .before .before in
-    more-fits (natAbs (s .args .h .«next_face»)) (cond (s .args .goes) 2 1) (s .pre .2) (picked (s .args .goes) 2 1 (c .pick .ensures) (lit≤ tt) (lit≤ tt)) (omega (arith, s .pre .3, cond-has (λ (k : ℕ). k ≤ 2) (s .args .goes) {x = 2} {y = 1} (lit≤ tt) (lit≤ tt)))
+    more-fits (natAbs (s .args .h .«next_face»)) (cond (s .args .goes) 2 1) (s .pre .2)
+    (picked (s .args .goes) 2 1 (c .select .ensures) (lit≤ tt) (lit≤ tt))
+    (omega (arith, s .pre .3, cond-has (λ (k : ℕ). k ≤ 2) (s .args .goes) {x = 2} {y = 1} (lit≤ tt) (lit≤ tt)))
 
 returns : tie.Need-returns
 returns c =
@@ -27,7 +29,9 @@ returns c =
     let h = s .args .h in
     rw (
       plus-is (h .faces) (s .pre .0) (omega (arith, s .pre .1)),
-      more-is (natAbs (h .«next_face»)) (cond (s .args .goes) 2 1) (s .pre .2) (picked (s .args .goes) 2 1 (c .pick .ensures) (lit≤ tt) (lit≤ tt)) (omega (arith, s .pre .3, cond-has (λ (k : ℕ). k ≤ 2) (s .args .goes) {x = 2} {y = 1} (lit≤ tt) (lit≤ tt))),
+      more-is (natAbs (h .«next_face»)) (cond (s .args .goes) 2 1) (s .pre .2)
+          (picked (s .args .goes) 2 1 (c .select .ensures) (lit≤ tt) (lit≤ tt))
+          (omega (arith, s .pre .3, cond-has (λ (k : ℕ). k ≤ 2) (s .args .goes) {x = 2} {y = 1} (lit≤ tt) (lit≤ tt))),
     )
 
 pub with-face-spec : {M : Type 1} → statement M

@@ -29,7 +29,8 @@ sub-after c =
 add-after : tie.Need-add-after
 add-after c =
     let s = c .before .before .before in
-    more-fits (natAbs (s .args .h .«next_face»)) (bit (s .args .makes)) (s .pre .3) (given (s .args .makes) (c .pick .ensures)) (omega (arith, s .pre .4, bit-most (s .args .makes)))
+    more-fits (natAbs (s .args .h .«next_face»)) (bit (s .args .makes)) (s .pre .3)
+    (given (s .args .makes) (c .select .ensures)) (omega (arith, s .pre .4, bit-most (s .args .makes)))
 
 returns : tie.Need-returns
 returns c =
@@ -37,7 +38,8 @@ returns c =
     let h = s .args .h in
     rw (
       minus-is (h .faces) (s .pre .0) (omega (arith, s .pre .1)) (s .pre .2),
-      more-is (natAbs (h .«next_face»)) (bit (s .args .makes)) (s .pre .3) (given (s .args .makes) (c .pick .ensures)) (omega (arith, s .pre .4, bit-most (s .args .makes))),
+      more-is (natAbs (h .«next_face»)) (bit (s .args .makes)) (s .pre .3)
+          (given (s .args .makes) (c .select .ensures)) (omega (arith, s .pre .4, bit-most (s .args .makes))),
     )
 
 pub without-face-spec : {M : Type 1} → statement M

@@ -20,24 +20,73 @@ use Rattle.form_ranges.proofs.is_ranged.Reads as is-ranged-reads
 
 -- ---- what is known after each part
 
-fits-is : (c : lts.After-head-fits (head-fits-reads.Asked, head-fits-reads.Learnt, counts-of-reads.Asked, counts-of-reads.Learnt, is-ranged-reads.Asked, is-ranged-reads.Learnt, is-formed-reads.Asked, is-formed-reads.Learnt) reads.Pre reads.Post) → c .head-fits .result ≡ (countsFit (lent (c .before .args .nodes .now) (c .before .args .edges .now) (c .before .args .faces .now) (c .before .args .h)) && nextsFit (c .before .args .h))
-fits-is c = let a = c .before .args in c .head-fits .ensures (lent (a .nodes .now) (a .edges .now) (a .faces .now) (a .h)) (sizes-are (a .nodes .now) (a .edges .now) (a .faces .now) (a .h))
+fits-is : (c : lts.After-head-fits (
+  head-fits-reads.Asked,
+  head-fits-reads.Learnt,
+  counts-of-reads.Asked,
+  counts-of-reads.Learnt,
+  is-ranged-reads.Asked,
+  is-ranged-reads.Learnt,
+  is-formed-reads.Asked,
+  is-formed-reads.Learnt,
+) reads.Pre reads.Post) → c .head-fits .result
+    ≡ (countsFit (lent (c .before .args .nodes .now) (c .before .args .edges .now) (c .before .args .faces .now)
+    (c .before .args .h)) && nextsFit (c .before .args .h))
+fits-is c = let a = c .before .args in c .head-fits .ensures
+    (lent (a .nodes .now) (a .edges .now) (a .faces .now) (a .h))
+    (sizes-are (a .nodes .now) (a .edges .now) (a .faces .now) (a .h))
 
-head-in : (c : lts.Else1 (head-fits-reads.Asked, head-fits-reads.Learnt, counts-of-reads.Asked, counts-of-reads.Learnt, is-ranged-reads.Asked, is-ranged-reads.Learnt, is-formed-reads.Asked, is-formed-reads.Learnt) reads.Pre reads.Post) → (countsFit (lent (c .before .before .args .nodes .now) (c .before .before .args .edges .now) (c .before .before .args .faces .now) (c .before .before .args .h)) && nextsFit (c .before .before .args .h)) ≡ true
+head-in : (c : lts.Else1 (
+  head-fits-reads.Asked,
+  head-fits-reads.Learnt,
+  counts-of-reads.Asked,
+  counts-of-reads.Learnt,
+  is-ranged-reads.Asked,
+  is-ranged-reads.Learnt,
+  is-formed-reads.Asked,
+  is-formed-reads.Learnt,
+) reads.Pre reads.Post) → (countsFit (lent (c .before .before .args .nodes .now) (c .before .before .args .edges .now)
+    (c .before .before .args .faces .now) (c .before .before .args .h)) && nextsFit (c .before .before .args .h)) ≡ true
 head-in c = sym (fits-is (c .before)) ∙ flipped (c .before .head-fits .result) false (c .if1 .left)
 
-counted-in : (c : lts.After-counts-of (head-fits-reads.Asked, head-fits-reads.Learnt, counts-of-reads.Asked, counts-of-reads.Learnt, is-ranged-reads.Asked, is-ranged-reads.Learnt, is-formed-reads.Asked, is-formed-reads.Learnt) reads.Pre reads.Post) → Counted (c .before .before .before .args .nodes .now) (c .before .before .before .args .edges .now) (c .before .before .before .args .faces .now) (c .counts-of .result) (c .before .before .before .args .h)
+counted-in : (c : lts.After-counts-of (
+  head-fits-reads.Asked,
+  head-fits-reads.Learnt,
+  counts-of-reads.Asked,
+  counts-of-reads.Learnt,
+  is-ranged-reads.Asked,
+  is-ranged-reads.Learnt,
+  is-formed-reads.Asked,
+  is-formed-reads.Learnt,
+) reads.Pre reads.Post) → Counted (c .before .before .before .args .nodes .now)
+    (c .before .before .before .args .edges .now) (c .before .before .before .args .faces .now) (c .counts-of .result)
+    (c .before .before .before .args .h)
 counted-in c =
     let a = c .before .before .before .args in
     let e = head-in (c .before) in
     let p = countsFit (lent (a .nodes .now) (a .edges .now) (a .faces .now) (a .h)) in
-    subst (λ (k : Counts). Counted (a .nodes .now) (a .edges .now) (a .faces .now) k (a .h)) (sym (c .counts-of .ensures)) (counted (a .nodes .now) (a .edges .now) (a .faces .now) (a .h) (and-left p (nextsFit (a .h)) e) (and-right p (nextsFit (a .h)) e))
+    subst (λ (k : Counts). Counted (a .nodes .now) (a .edges .now) (a .faces .now) k (a .h))
+    (sym (c .counts-of .ensures)) (counted (a .nodes .now) (a .edges .now) (a .faces .now) (a .h)
+    (and-left p (nextsFit (a .h)) e) (and-right p (nextsFit (a .h)) e))
 
 -- the answer on ranges, of the head's counts
-ranged-in : (c : lts.After-is-ranged (head-fits-reads.Asked, head-fits-reads.Learnt, counts-of-reads.Asked, counts-of-reads.Learnt, is-ranged-reads.Asked, is-ranged-reads.Learnt, is-formed-reads.Asked, is-formed-reads.Learnt) reads.Pre reads.Post) → c .is-ranged .result ≡ rangedRows (c .before .before .before .before .args .nodes .now) (c .before .before .before .before .args .edges .now) (c .before .before .before .before .args .faces .now) (countsOf (c .before .before .before .before .args .h))
+ranged-in : (c : lts.After-is-ranged (
+  head-fits-reads.Asked,
+  head-fits-reads.Learnt,
+  counts-of-reads.Asked,
+  counts-of-reads.Learnt,
+  is-ranged-reads.Asked,
+  is-ranged-reads.Learnt,
+  is-formed-reads.Asked,
+  is-formed-reads.Learnt,
+) reads.Pre reads.Post) → c .is-ranged .result
+    ≡ rangedRows (c .before .before .before .before .args .nodes .now)
+    (c .before .before .before .before .args .edges .now) (c .before .before .before .before .args .faces .now)
+    (countsOf (c .before .before .before .before .args .h))
 ranged-in c =
     let a = c .before .before .before .before .args in
-    c .is-ranged .ensures ∙ ap (rangedRows (a .nodes .now) (a .edges .now) (a .faces .now)) (c .before .counts-of .ensures)
+    c .is-ranged .ensures ∙ ap (rangedRows (a .nodes .now) (a .edges .now) (a .faces .now))
+    (c .before .counts-of .ensures)
 
 head-fits-requires : tie.Need-head-fits-requires
 head-fits-requires c κs = let a = c .args in whole-room (a .nodes .now) (a .edges .now) (a .faces .now) (a .h) (c .pre)
@@ -45,12 +94,14 @@ head-fits-requires c κs = let a = c .args in whole-room (a .nodes .now) (a .edg
 returns : tie.Need-returns
 returns c =
     let a = c .before .before .args in
-    sym (unfit-head (a .nodes .now) (a .edges .now) (a .faces .now) (a .h) (sym (fits-is (c .before)) ∙ flipped (c .before .head-fits .result) true (c .if1 .taken)))
+    sym (unfit-head (a .nodes .now) (a .edges .now) (a .faces .now) (a .h)
+    (sym (fits-is (c .before)) ∙ flipped (c .before .head-fits .result) true (c .if1 .taken)))
 
 counts-of-requires : tie.Need-counts-of-requires
 counts-of-requires c κs =
     let a = c .before .before .args in
-    counts-natural (a .nodes .now) (a .edges .now) (a .faces .now) (a .h) (and-left (countsFit (lent (a .nodes .now) (a .edges .now) (a .faces .now) (a .h))) (nextsFit (a .h)) (head-in c))
+    counts-natural (a .nodes .now) (a .edges .now) (a .faces .now) (a .h)
+    (and-left (countsFit (lent (a .nodes .now) (a .edges .now) (a .faces .now) (a .h))) (nextsFit (a .h)) (head-in c))
 
 is-ranged-requires : tie.Need-is-ranged-requires
 is-ranged-requires c κs = let k = counted-in c in (k .nodes-fit, k .edges-fit, omega (arith, k .faces-fit))
@@ -59,7 +110,8 @@ returns-2 : tie.Need-returns-2
 returns-2 c =
     let r = c .before in
     let a = r .before .before .before .before .args in
-    sym (unranged (a .nodes .now) (a .edges .now) (a .faces .now) (a .h) (head-in (r .before .before)) (sym (ranged-in r) ∙ flipped (r .is-ranged .result) true (c .if2 .taken)))
+    sym (unranged (a .nodes .now) (a .edges .now) (a .faces .now) (a .h) (head-in (r .before .before))
+    (sym (ranged-in r) ∙ flipped (r .is-ranged .result) true (c .if2 .taken)))
 
 is-formed-requires : tie.Need-is-formed-requires
 is-formed-requires c κs =
@@ -68,7 +120,11 @@ is-formed-requires c κs =
     let a = s .args in
     let k = counted-in (r .before) in
     let w = whole-room (a .nodes .now) (a .edges .now) (a .faces .now) (a .h) (s .pre) in (
-      record { counted = k; ranged = sym (r .is-ranged .ensures) ∙ flipped (r .is-ranged .result) false (c .if2 .left) },
+      record {
+        counted = k;
+        ranged = sym (r .is-ranged .ensures)
+            ∙ flipped (r .is-ranged .result) false (c .if2 .left);
+      },
       omega (arith, k .nodes-fit, w .0),
       omega (arith, k .edges-fit, w .1),
       omega (arith, k .faces-fit, w .2),
@@ -80,8 +136,10 @@ returns-3 c =
     let r = e .before in
     let a = r .before .before .before .before .args in
     c .is-formed .ensures
-    ∙ ap (λ (k : Counts). formed (mapIn (a .nodes .now) (a .edges .now) (a .faces .now) k (a .h))) (r .before .counts-of .ensures)
-    ∙ sym (by-formed (a .nodes .now) (a .edges .now) (a .faces .now) (a .h) (head-in (r .before .before)) (sym (ranged-in r) ∙ flipped (r .is-ranged .result) false (e .if2 .left)))
+    ∙ ap (λ (k : Counts). formed (mapIn (a .nodes .now) (a .edges .now) (a .faces .now) k (a .h)))
+    (r .before .counts-of .ensures)
+    ∙ sym (by-formed (a .nodes .now) (a .edges .now) (a .faces .now) (a .h) (head-in (r .before .before))
+    (sym (ranged-in r) ∙ flipped (r .is-ranged .result) false (e .if2 .left)))
 
 pub in-form-spec : {M : Type 1} → statement M
 in-form-spec =

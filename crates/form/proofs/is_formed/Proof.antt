@@ -22,22 +22,130 @@ use Rattle.form_ranges.proofs.numbers_fit.Reads as numbers-fit-reads
 
 -- ---- what is known after each part
 
-in-order : (c : lts.Else1 (numbers-fit-reads.Asked, numbers-fit-reads.Learnt, names-exist-reads.Asked, names-exist-reads.Learnt, curves-fit-reads.Asked, curves-fit-reads.Learnt, departures-formed-reads.Asked, departures-formed-reads.Learnt, links-formed-reads.Asked, links-formed-reads.Learnt) reads.Pre reads.Post) → InOrder (c .before .before .args .nodes .now) (c .before .before .args .edges .now) (c .before .before .args .faces .now) (c .before .before .args .c) (c .before .before .args .h)
-in-order c = let f = c .before .numbers-fit in record { in-ranges = c .before .before .pre .0; numbers = sym (f .ensures) ∙ flipped (f .result) false (c .if1 .left) }
+in-order : (c : lts.Else1 (
+  numbers-fit-reads.Asked,
+  numbers-fit-reads.Learnt,
+  names-exist-reads.Asked,
+  names-exist-reads.Learnt,
+  curves-fit-reads.Asked,
+  curves-fit-reads.Learnt,
+  departures-formed-reads.Asked,
+  departures-formed-reads.Learnt,
+  links-formed-reads.Asked,
+  links-formed-reads.Learnt,
+) reads.Pre reads.Post) → InOrder (c .before .before .args .nodes .now) (c .before .before .args .edges .now)
+    (c .before .before .args .faces .now) (c .before .before .args .c) (c .before .before .args .h)
+in-order c = let f = c .before .numbers-fit in
+    record {
+      in-ranges = c .before .before .pre .0;
+      numbers = sym (f .ensures)
+          ∙ flipped (f .result) false (c .if1 .left);
+    }
 
-named-in : (c : lts.Else2 (numbers-fit-reads.Asked, numbers-fit-reads.Learnt, names-exist-reads.Asked, names-exist-reads.Learnt, curves-fit-reads.Asked, curves-fit-reads.Learnt, departures-formed-reads.Asked, departures-formed-reads.Learnt, links-formed-reads.Asked, links-formed-reads.Learnt) reads.Pre reads.Post) → Named (c .before .before .before .before .before .before .before .before .before .before .args .nodes .now) (c .before .before .before .before .before .before .before .before .before .before .args .edges .now) (c .before .before .before .before .before .before .before .before .before .before .args .faces .now) (c .before .before .before .before .before .before .before .before .before .before .args .c) (c .before .before .before .before .before .before .before .before .before .before .args .h)
+named-in : (c : lts.Else2 (
+  numbers-fit-reads.Asked,
+  numbers-fit-reads.Learnt,
+  names-exist-reads.Asked,
+  names-exist-reads.Learnt,
+  curves-fit-reads.Asked,
+  curves-fit-reads.Learnt,
+  departures-formed-reads.Asked,
+  departures-formed-reads.Learnt,
+  links-formed-reads.Asked,
+  links-formed-reads.Learnt,
+) reads.Pre reads.Post)
+    → Named (c .before .before .before .before .before .before .before .before .before .before .args .nodes .now)
+    (c .before .before .before .before .before .before .before .before .before .before .args .edges .now)
+    (c .before .before .before .before .before .before .before .before .before .before .args .faces .now)
+    (c .before .before .before .before .before .before .before .before .before .before .args .c)
+    (c .before .before .before .before .before .before .before .before .before .before .args .h)
 named-in c =
     let n = c .before .before .before .before in
-    record { in-order = in-order (n .before .before .before .before); named = sym (n .names-exist .ensures .0 (c .before .before .before .before .before .before .before .before .before .before .args .h)) ∙ flipped (n .names-exist .result) false (c .if2 .left) }
+    record {
+      in-order = in-order (n .before .before .before .before);
+      named =
+          sym (n .names-exist .ensures .0
+          (c .before .before .before .before .before .before .before .before .before .before .args .h))
+          ∙ flipped (n .names-exist .result) false (c .if2 .left);
+    }
 
 -- the rows and positions that are written down
-rows-in : (c : lts.Else2 (numbers-fit-reads.Asked, numbers-fit-reads.Learnt, names-exist-reads.Asked, names-exist-reads.Learnt, curves-fit-reads.Asked, curves-fit-reads.Learnt, departures-formed-reads.Asked, departures-formed-reads.Learnt, links-formed-reads.Asked, links-formed-reads.Learnt) reads.Pre reads.Post) → RowsNamed 4 (c .before .before .before .before .before .before .before .before .before .before .args .nodes .now) (c .before .before .before .before .before .before .before .before .before .before .args .c .nodes) (c .before .before .before .before .before .before .before .before .before .before .args .edges .now) 1 (c .before .before .before .before .names-exist .last .1 .1 .1 .1 .0) (c .before .before .before .before .before .before .before .before .before .before .args .c .edges * 2) × NextsNamed (c .before .before .before .before .before .before .before .before .before .before .args .edges .now) (c .before .before .before .before .before .before .before .before .before .before .args .c .edges) (c .before .before .before .before .names-exist .last .1 .1 .1 .1 .1 .0) (c .before .before .before .before .before .before .before .before .before .before .args .c .edges * 2) × RowsNamed 1 (c .before .before .before .before .before .before .before .before .before .before .args .faces .now) (c .before .before .before .before .before .before .before .before .before .before .args .c .faces) (c .before .before .before .before .before .before .before .before .before .before .args .edges .now) 5 (c .before .before .before .before .names-exist .last .1 .1 .1 .1 .1 .1 .0) (c .before .before .before .before .before .before .before .before .before .before .args .c .edges * 2)
-rows-in c = let n = c .before .before .before .before in n .names-exist .ensures .4 (flipped (n .names-exist .result) false (c .if2 .left))
+rows-in : (c : lts.Else2 (
+  numbers-fit-reads.Asked,
+  numbers-fit-reads.Learnt,
+  names-exist-reads.Asked,
+  names-exist-reads.Learnt,
+  curves-fit-reads.Asked,
+  curves-fit-reads.Learnt,
+  departures-formed-reads.Asked,
+  departures-formed-reads.Learnt,
+  links-formed-reads.Asked,
+  links-formed-reads.Learnt,
+) reads.Pre reads.Post)
+    → RowsNamed 4 (c .before .before .before .before .before .before .before .before .before .before .args .nodes .now)
+    (c .before .before .before .before .before .before .before .before .before .before .args .c .nodes)
+    (c .before .before .before .before .before .before .before .before .before .before .args .edges .now) 1
+    (c .before .before .before .before .names-exist .last .1 .1 .1 .1 .0)
+    (c .before .before .before .before .before .before .before .before .before .before .args .c .edges * 2)
+    × NextsNamed (c .before .before .before .before .before .before .before .before .before .before .args .edges .now)
+    (c .before .before .before .before .before .before .before .before .before .before .args .c .edges)
+    (c .before .before .before .before .names-exist .last .1 .1 .1 .1 .1 .0)
+    (c .before .before .before .before .before .before .before .before .before .before .args .c .edges * 2)
+    × RowsNamed 1 (c .before .before .before .before .before .before .before .before .before .before .args .faces .now)
+    (c .before .before .before .before .before .before .before .before .before .before .args .c .faces)
+    (c .before .before .before .before .before .before .before .before .before .before .args .edges .now) 5
+    (c .before .before .before .before .names-exist .last .1 .1 .1 .1 .1 .1 .0)
+    (c .before .before .before .before .before .before .before .before .before .before .args .c .edges * 2)
+rows-in c = let n = c .before .before .before .before in
+    n .names-exist .ensures .4 (flipped (n .names-exist .result) false (c .if2 .left))
 
-curved-in : (c : lts.Else3 (numbers-fit-reads.Asked, numbers-fit-reads.Learnt, names-exist-reads.Asked, names-exist-reads.Learnt, curves-fit-reads.Asked, curves-fit-reads.Learnt, departures-formed-reads.Asked, departures-formed-reads.Learnt, links-formed-reads.Asked, links-formed-reads.Learnt) reads.Pre reads.Post) → curved (c .before .before .before .before .before .before .before .before .before .before .before .before .before .args .nodes .now) (c .before .before .before .before .before .before .before .before .before .before .before .before .before .args .edges .now) (c .before .before .before .before .before .before .before .before .before .before .before .before .before .args .faces .now) (c .before .before .before .before .before .before .before .before .before .before .before .before .before .args .c) (c .before .before .before .before .before .before .before .before .before .before .before .before .before .args .h) ≡ true
+curved-in : (c : lts.Else3 (
+  numbers-fit-reads.Asked,
+  numbers-fit-reads.Learnt,
+  names-exist-reads.Asked,
+  names-exist-reads.Learnt,
+  curves-fit-reads.Asked,
+  curves-fit-reads.Learnt,
+  departures-formed-reads.Asked,
+  departures-formed-reads.Learnt,
+  links-formed-reads.Asked,
+  links-formed-reads.Learnt,
+) reads.Pre reads.Post)
+    → curved
+    (c .before .before .before .before .before .before .before .before .before .before .before .before .before .args
+    .nodes .now)
+    (c .before .before .before .before .before .before .before .before .before .before .before .before .before .args
+    .edges .now)
+    (c .before .before .before .before .before .before .before .before .before .before .before .before .before .args
+    .faces .now)
+    (c .before .before .before .before .before .before .before .before .before .before .before .before .before .args
+    .c) (c .before .before .before .before .before .before .before .before .before .before .before .before .before
+    .args .h) ≡ true
 curved-in c = let f = c .before .curves-fit in sym (f .ensures) ∙ flipped (f .result) false (c .if3 .left)
 
-departed-in : (c : lts.Else4 (numbers-fit-reads.Asked, numbers-fit-reads.Learnt, names-exist-reads.Asked, names-exist-reads.Learnt, curves-fit-reads.Asked, curves-fit-reads.Learnt, departures-formed-reads.Asked, departures-formed-reads.Learnt, links-formed-reads.Asked, links-formed-reads.Learnt) reads.Pre reads.Post) → departed (c .before .before .before .before .before .before .before .before .before .before .before .before .before .before .before .before .args .nodes .now) (c .before .before .before .before .before .before .before .before .before .before .before .before .before .before .before .before .args .edges .now) (c .before .before .before .before .before .before .before .before .before .before .before .before .before .before .before .before .args .faces .now) (c .before .before .before .before .before .before .before .before .before .before .before .before .before .before .before .before .args .c) (c .before .before .before .before .before .before .before .before .before .before .before .before .before .before .before .before .args .h) ≡ true
+departed-in : (c : lts.Else4 (
+  numbers-fit-reads.Asked,
+  numbers-fit-reads.Learnt,
+  names-exist-reads.Asked,
+  names-exist-reads.Learnt,
+  curves-fit-reads.Asked,
+  curves-fit-reads.Learnt,
+  departures-formed-reads.Asked,
+  departures-formed-reads.Learnt,
+  links-formed-reads.Asked,
+  links-formed-reads.Learnt,
+) reads.Pre reads.Post)
+    → departed
+    (c .before .before .before .before .before .before .before .before .before .before .before .before .before .before
+    .before .before .args .nodes .now)
+    (c .before .before .before .before .before .before .before .before .before .before .before .before .before .before
+    .before .before .args .edges .now)
+    (c .before .before .before .before .before .before .before .before .before .before .before .before .before .before
+    .before .before .args .faces .now)
+    (c .before .before .before .before .before .before .before .before .before .before .before .before .before .before
+    .before .before .args .c)
+    (c .before .before .before .before .before .before .before .before .before .before .before .before .before .before
+    .before .before .args .h) ≡ true
 departed-in c = let f = c .before .departures-formed in sym (f .ensures) ∙ flipped (f .result) false (c .if4 .left)
 
 -- ---- the answers
@@ -46,34 +154,49 @@ returns : tie.Need-returns
 returns c =
     let a = c .before .before .args in
     let f = c .before .numbers-fit in
-    sym (stop₁ (a .nodes .now) (a .edges .now) (a .faces .now) (a .c) (a .h) (sym (f .ensures) ∙ flipped (f .result) true (c .if1 .taken)))
+    sym (stop₁ (a .nodes .now) (a .edges .now) (a .faces .now) (a .c) (a .h)
+    (sym (f .ensures) ∙ flipped (f .result) true (c .if1 .taken)))
 
 names-exist-requires : tie.Need-names-exist-requires
 names-exist-requires c κs =
     let e = c .before .before .before in
-    let s = e .before .before in
-    ((s .args .h, in-order e), s .pre .1, s .pre .2, s .pre .3, length-replicate {A = ℕ} 4000 0, length-replicate {A = ℕ} 4000 0, length-replicate {A = ℕ} 4000 0)
+    let s = e .before .before in (
+      (s .args .h, in-order e),
+      s .pre .1,
+      s .pre .2,
+      s .pre .3,
+      length-replicate {A = ℕ} 4000 0,
+      length-replicate {A = ℕ} 4000 0,
+      length-replicate {A = ℕ} 4000 0,
+    )
 
 returns-2 : tie.Need-returns-2
 returns-2 c =
     let n = c .before .before .before .before in
     let o = in-order (n .before .before .before .before) in
     let a = c .before .before .before .before .before .before .before .before .before .before .args in
-    sym (stop₂ (a .nodes .now) (a .edges .now) (a .faces .now) (a .c) (a .h) (o .numbers) (sym (n .names-exist .ensures .0 (a .h)) ∙ flipped (n .names-exist .result) true (c .if2 .taken)))
+    sym (stop₂ (a .nodes .now) (a .edges .now) (a .faces .now) (a .c) (a .h) (o .numbers)
+    (sym (n .names-exist .ensures .0 (a .h)) ∙ flipped (n .names-exist .result) true (c .if2 .taken)))
 
 curves-fit-requires : tie.Need-curves-fit-requires
 curves-fit-requires c κs =
     let e = c .before in
     let k = named-in e in
-    let f = e .before .before .before .before .names-exist .ensures in
-    (node-rows (k .in-order), edge-rows k, omega (arith, f .1, e .before .before .before .before .before .before .before .before .before .before .pre .2), rows-in e .0)
+    let f = e .before .before .before .before .names-exist .ensures in (
+      node-rows (k .in-order),
+      edge-rows k,
+      omega (arith, f .1, e .before .before .before .before .before .before .before .before .before .before .pre .2),
+      rows-in e .0,
+    )
 
 returns-3 : tie.Need-returns-3
 returns-3 c =
     let k = named-in (c .before .before .before) in
-    let a = c .before .before .before .before .before .before .before .before .before .before .before .before .before .args in
+    let a = c .before .before .before .before .before .before .before .before .before .before .before .before .before
+    .args in
     let f = c .before .curves-fit in
-    sym (stop₃ (a .nodes .now) (a .edges .now) (a .faces .now) (a .c) (a .h) (k .in-order .numbers) (k .named) (sym (f .ensures) ∙ flipped (f .result) true (c .if3 .taken)))
+    sym (stop₃ (a .nodes .now) (a .edges .now) (a .faces .now) (a .c) (a .h) (k .in-order .numbers) (k .named)
+    (sym (f .ensures) ∙ flipped (f .result) true (c .if3 .taken)))
 
 departures-formed-requires : tie.Need-departures-formed-requires
 departures-formed-requires c κs =
@@ -86,16 +209,23 @@ departures-formed-requires c κs =
 returns-4 : tie.Need-returns-4
 returns-4 c =
     let k = named-in (c .before .before .before .before .before .before) in
-    let a = c .before .before .before .before .before .before .before .before .before .before .before .before .before .before .before .before .args in
+    let a = c .before .before .before .before .before .before .before .before .before .before .before .before .before
+    .before .before .before .args in
     let f = c .before .departures-formed in
-    sym (stop₄ (a .nodes .now) (a .edges .now) (a .faces .now) (a .c) (a .h) (k .in-order .numbers) (k .named) (curved-in (c .before .before .before)) (sym (f .ensures) ∙ flipped (f .result) true (c .if4 .taken)))
+    sym (stop₄ (a .nodes .now) (a .edges .now) (a .faces .now) (a .c) (a .h) (k .in-order .numbers) (k .named)
+    (curved-in (c .before .before .before)) (sym (f .ensures) ∙ flipped (f .result) true (c .if4 .taken)))
 
 links-formed-requires : tie.Need-links-formed-requires
 links-formed-requires c κs =
     let e = c .before .before .before .before .before .before .before .before .before in
     let s = e .before .before .before .before .before .before .before .before .before .before in
-    let f = e .before .before .before .before .names-exist .ensures in
-    (s .pre .2, omega (arith, f .1, s .pre .2), omega (arith, f .2, s .pre .2), omega (arith, f .3, s .pre .2), (λ p h. rows-in e .1 p h .0))
+    let f = e .before .before .before .before .names-exist .ensures in (
+      s .pre .2,
+      omega (arith, f .1, s .pre .2),
+      omega (arith, f .2, s .pre .2),
+      omega (arith, f .3, s .pre .2),
+      (λ p h. rows-in e .1 p h .0),
+    )
 
 returns-5 : tie.Need-returns-5
 returns-5 c =
@@ -103,9 +233,12 @@ returns-5 c =
     let e = d .before .before .before .before .before .before in
     let k = named-in e in
     let r = rows-in e in
-    let a = d .before .before .before .before .before .before .before .before .before .before .before .before .before .before .before .before .args in
-    c .links-formed .ensures (a .nodes .now) (a .edges .now) (a .faces .now) (a .c .nodes) (a .c .faces) (node-rows (k .in-order)) (edge-rows k) (face-rows (k .in-order)) (r .0) (r .1) (r .2)
-    ∙ sym (last₅ (a .nodes .now) (a .edges .now) (a .faces .now) (a .c) (a .h) (k .in-order .numbers) (k .named) (curved-in (d .before .before .before)) (departed-in d))
+    let a = d .before .before .before .before .before .before .before .before .before .before .before .before .before
+    .before .before .before .args in
+    c .links-formed .ensures (a .nodes .now) (a .edges .now) (a .faces .now) (a .c .nodes) (a .c .faces)
+    (node-rows (k .in-order)) (edge-rows k) (face-rows (k .in-order)) (r .0) (r .1) (r .2)
+    ∙ sym (last₅ (a .nodes .now) (a .edges .now) (a .faces .now) (a .c) (a .h) (k .in-order .numbers) (k .named)
+    (curved-in (d .before .before .before)) (departed-in d))
 
 pub is-formed-spec : {M : Type 1} → statement M
 is-formed-spec =

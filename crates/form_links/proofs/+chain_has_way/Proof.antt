@@ -1,4 +1,5 @@
--- `form_links::chain_has_way`, which calls itself, meets its contract. The measure is the link where it stands. Assumes nothing.
+-- `form_links::chain_has_way`, which calls itself, meets its contract. The measure is the link where it stands. Assumes
+-- nothing.
 use mathlib.Core.Path.{_≡_, sym, ap, ap₂, _∙_}
 use Prim.Native.Nat.{ℕ, _-_, _<_}
 use native.Mathlib.Omega.{arith}
@@ -39,8 +40,13 @@ way-is : (t : ℕ) → (c : chain-has-way-lts.After-same-way (
   same-way-reads.Learnt,
   chain-has-way-below t,
   chain-has-way.Post,
-) (chain-has-way-at t) chain-has-way.Post) → c .same-way .result ≡ sameWay (wayAt (c .before .before .before .before .before .args .edges .now) (c .before .before .before .before .before .args .last - 1)) (wayAt (c .before .before .before .before .before .args .edges .now) (c .before .before .before .before .before .args .p))
-way-is t c = c .same-way .ensures ∙ ap₂ sameWay (c .before .before .step-at .ensures .way) (c .before .step-at2 .ensures .way)
+) (chain-has-way-at t) chain-has-way.Post) → c .same-way .result
+    ≡ sameWay (wayAt (c .before .before .before .before .before .args .edges .now)
+    (c .before .before .before .before .before .args .last - 1))
+    (wayAt (c .before .before .before .before .before .args .edges .now)
+    (c .before .before .before .before .before .args .p))
+way-is t c = c .same-way .ensures ∙ ap₂ sameWay (c .before .before .step-at .ensures .way)
+    (c .before .step-at2 .ensures .way)
 
 chain-has-way-returns-2 : (t : ℕ) → chain-has-way-lts.Need-returns-2 (
   step-at-reads.Asked,
@@ -52,7 +58,8 @@ chain-has-way-returns-2 : (t : ℕ) → chain-has-way-lts.Need-returns-2 (
 ) (chain-has-way-at t) chain-has-way.Post
 chain-has-way-returns-2 t c =
     let b = c .before .before .before .before in
-    λ f e backs. sym (chain-met f _ (b .before .before .args .last) (b .if1 .left) e (sym (way-is t (c .before)) ∙ c .if2 .taken))
+    λ f e backs. sym (chain-met f _ (b .before .before .args .last) (b .if1 .left) e
+    (sym (way-is t (c .before)) ∙ c .if2 .taken))
 
 chain-has-way-chain-has-way-requires : (t : ℕ) → chain-has-way-lts.Need-chain-has-way-requires (
   step-at-reads.Asked,
@@ -102,11 +109,13 @@ pub +chain-has-way-spec : {M : Type 1} → statement M
     chain-has-way.Post
     (λ c. λ f e backs. rw (c .if1 .taken))
     (λ c. omega (arith, c .if1 .left))
-    (λ c κs. c .before .before .pre .1 .0 (c .before .before .args .last - 1) (omega (arith, c .before .before .pre .1 .2)))
+    (λ c κs. c .before .before .pre .1 .0 (c .before .before .args .last - 1)
+    (omega (arith, c .before .before .pre .1 .2)))
     (λ c κs. c .before .before .before .pre .1 .0 (c .before .before .before .args .p) (omega arith))
     (λ c κs. let v = c .before .step-at .ensures in let w = c .step-at2 .ensures in (v .from, v .to, w .from, w .to))
     (chain-has-way-returns-2 t)
     (λ c. let b = c .before .before .before .before in omega (arith, b .if1 .left, b .before .before .pre .1 .2))
-    (λ c. let b = c .before .before .before .before .before in omega (arith, b .if1 .left, b .before .before .pre .1 .1, b .before .before .pre .1 .2))
+    (λ c. let b = c .before .before .before .before .before in
+    omega (arith, b .if1 .left, b .before .before .pre .1 .1, b .before .before .pre .1 .2))
     (chain-has-way-chain-has-way-requires t)
     (chain-has-way-returns-3 t)

@@ -22,17 +22,21 @@ mark-is true x e = same-eq x 1 e
 mark-is false x e = same-false x 1 (λ f. omega arith)
 
 departures-differ-requires : tie.Need-departures-differ-requires
-departures-differ-requires c κs = let s = c .before in (s .pre .1, s .pre .3, s .pre .4, (λ p h. omega (arith, s .pre .2, s .pre .5 p h .0)))
+departures-differ-requires c κs = let s = c .before in
+    (s .pre .1, s .pre .3, s .pre .4, (λ p h. omega (arith, s .pre .2, s .pre .5 p h .0)))
 
 returns : tie.Need-returns
 returns c =
     let d = c .before .departures-differ in
     let s = c .before .before .before in
     let m = drawnMap (s .args .nodes .now) (s .args .n) (s .args .edges .now) (s .args .count) in
-    sym (ap (λ (b : Bool). b && bareMarked m) (sym (d .ensures (s .args .nodes .now) (s .args .n) (s .pre .0) (s .pre .5)) ∙ flipped (d .result) true (c .if1 .taken)))
+    sym (ap (λ (b : Bool). b && bareMarked m)
+    (sym (d .ensures (s .args .nodes .now) (s .args .n) (s .pre .0) (s .pre .5))
+    ∙ flipped (d .result) true (c .if1 .taken)))
 
 mark-starts-requires : tie.Need-mark-starts-requires
-mark-starts-requires c κs = let s = c .before .before .before .before in (s .pre .3, s .pre .4, (λ p h. omega (arith, s .pre .2, s .pre .5 p h .0, length-replicate {A = ℕ} 1000 0)))
+mark-starts-requires c κs = let s = c .before .before .before .before in
+    (s .pre .3, s .pre .4, (λ p h. omega (arith, s .pre .2, s .pre .5 p h .0, length-replicate {A = ℕ} 1000 0)))
 
 returns-2 : tie.Need-returns-2
 returns-2 c =
@@ -41,8 +45,12 @@ returns-2 c =
     let s = c .before .before .before .before .before .before .before .before in
     let m = drawnMap (s .args .nodes .now) (s .args .n) (s .args .edges .now) (s .args .count) in
     c .bare-marked .ensures
-    ∙ bare-is (s .args .starts .now) (s .pre .0) (s .pre .1) (s .pre .5) (k .last .1 .1 .0) (λ i h. mark-is _ _ (k .ensures i ∙ ap (cond (startsIn (s .args .starts .now) (s .args .count * 2) i) 1) (zeros 1000 i)))
-    ∙ sym (ap (λ (b : Bool). b && bareMarked m) (sym (d .ensures (s .args .nodes .now) (s .args .n) (s .pre .0) (s .pre .5)) ∙ flipped (d .result) false (c .before .before .before .before .before .if1 .left)))
+    ∙ bare-is (s .args .starts .now) (s .pre .0) (s .pre .1) (s .pre .5) (k .last .1 .1 .0)
+    (λ i h. mark-is _ _ (k .ensures i ∙ ap (cond (startsIn (s .args .starts .now) (s .args .count * 2) i) 1)
+    (zeros 1000 i)))
+    ∙ sym (ap (λ (b : Bool). b && bareMarked m)
+    (sym (d .ensures (s .args .nodes .now) (s .args .n) (s .pre .0) (s .pre .5))
+    ∙ flipped (d .result) false (c .before .before .before .before .before .if1 .left)))
 
 pub departures-formed-spec : {M : Type 1} → statement M
 departures-formed-spec =

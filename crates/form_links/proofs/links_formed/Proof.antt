@@ -1,4 +1,5 @@
--- `form_links::links_formed` meets its contract: the marks are those of the positions that are passed, two in each row. Assumes nothing.
+-- `form_links::links_formed` meets its contract: the marks are those of the positions that are passed, two in each row.
+-- Assumes nothing.
 use mathlib.Core.Path.{_≡_, sym, subst}
 use mathlib.Core.List.{List}
 use Prim.Native.Nat.{ℕ, _+_, _*_, _-_, _<_, _≤_}
@@ -27,7 +28,8 @@ back : (i : ℕ) → reverseOf (i * 2 + 1) ≡ i * 2
 back i = let e = reverse-odd (odd-of (i * 2 + 1) (omega arith)) in omega arith
 
 -- of a turn: the call, the row, the next of a position, and what the marks tell
-abbrev start : lts.In-loop (link-fits-reads.Asked, link-fits-reads.Learnt) reads.Pre reads.Post Inv-loop μ-loop → lts.Start (link-fits-reads.Asked, link-fits-reads.Learnt) reads.Pre reads.Post Inv-loop μ-loop
+abbrev start : lts.In-loop (link-fits-reads.Asked, link-fits-reads.Learnt) reads.Pre reads.Post Inv-loop μ-loop
+    → lts.Start (link-fits-reads.Asked, link-fits-reads.Learnt) reads.Pre reads.Post Inv-loop μ-loop
 start b = b .before .before .before .before .before
 
 abbrev row : lts.In-loop (link-fits-reads.Asked, link-fits-reads.Learnt) reads.Pre reads.Post Inv-loop μ-loop → ℕ
@@ -36,27 +38,35 @@ row b = b .before .loop .i
 abbrev next : lts.In-loop (link-fits-reads.Asked, link-fits-reads.Learnt) reads.Pre reads.Post Inv-loop μ-loop → ℕ → ℕ
 next b p = getD (start b .args .nexts .now) p 0
 
-abbrev marked : lts.In-loop (link-fits-reads.Asked, link-fits-reads.Learnt) reads.Pre reads.Post Inv-loop μ-loop → ℕ → List ℕ → Type 0
+abbrev marked : lts.In-loop (link-fits-reads.Asked, link-fits-reads.Learnt) reads.Pre reads.Post Inv-loop μ-loop → ℕ
+    → List ℕ → Type 0
 marked b = Marked (start b .args .starts .now) (start b .args .nexts .now) (start b .args .bears .now)
 
 -- its next has a mark
-below-marks : (b : lts.In-loop (link-fits-reads.Asked, link-fits-reads.Learnt) reads.Pre reads.Post Inv-loop μ-loop) (p : ℕ) → p < start b .args .count * 2 → next b p < 4000
+below-marks : (b : lts.In-loop (link-fits-reads.Asked, link-fits-reads.Learnt) reads.Pre reads.Post Inv-loop μ-loop)
+    (p : ℕ) → p < start b .args .count * 2 → next b p < 4000
 below-marks b p h = omega (arith, start b .pre .4 p h, start b .pre .0)
 
-below-first : (b : lts.In-loop (link-fits-reads.Asked, link-fits-reads.Learnt) reads.Pre reads.Post Inv-loop μ-loop) → next b (row b * 2) < 4000
+below-first : (b : lts.In-loop (link-fits-reads.Asked, link-fits-reads.Learnt) reads.Pre reads.Post Inv-loop μ-loop)
+    → next b (row b * 2) < 4000
 below-first b = below-marks b (row b * 2) (omega (arith, b .loop-test .taken))
 
-below-second : (b : lts.In-loop (link-fits-reads.Asked, link-fits-reads.Learnt) reads.Pre reads.Post Inv-loop μ-loop) → next b (row b * 2 + 1) < 4000
+below-second : (b : lts.In-loop (link-fits-reads.Asked, link-fits-reads.Learnt) reads.Pre reads.Post Inv-loop μ-loop)
+    → next b (row b * 2 + 1) < 4000
 below-second b = below-marks b (row b * 2 + 1) (omega (arith, b .loop-test .taken))
 
 -- the marks after the first position of a row
-first : (c : lts.Else1 (link-fits-reads.Asked, link-fits-reads.Learnt) reads.Pre reads.Post Inv-loop μ-loop) → marked (c .before .before .before) (row (c .before .before .before) * 2 + 1) (set (c .before .before .before .before .loop .marks) (next (c .before .before .before) (row (c .before .before .before) * 2)) 1)
+first : (c : lts.Else1 (link-fits-reads.Asked, link-fits-reads.Learnt) reads.Pre reads.Post Inv-loop μ-loop)
+    → marked (c .before .before .before) (row (c .before .before .before) * 2 + 1)
+    (set (c .before .before .before .before .loop .marks)
+    (next (c .before .before .before) (row (c .before .before .before) * 2)) 1)
 first c =
     let b = c .before .before .before in
     step-passed (b .before .loop .inv .1) (forth (row b)) (c .before .link-fits .ensures) (below-first b) (c .if1 .left)
 
 loop-holds : tie.Need-loop-holds Inv-loop μ-loop
-loop-holds c = let a = c .before .before .before .args in (omega arith, none-marked (a .starts .now) (a .nexts .now) (a .bears .now))
+loop-holds c = let a = c .before .before .before .args in
+    (omega arith, none-marked (a .starts .now) (a .nexts .now) (a .bears .now))
 
 shared-slice-read-q : tie.Need-shared-slice-read-q Inv-loop μ-loop
 shared-slice-read-q c = omega (arith, c .before .loop-test .taken, start (c .before) .pre .2)
@@ -75,7 +85,8 @@ returns : tie.Need-returns Inv-loop μ-loop
 returns c =
     let b = c .before .before .before in
     λ nodes edges faces n f s t u named follow borne.
-    sym (step-refused (b .before .loop .inv .1) (forth (row b)) (c .before .link-fits .ensures) s t u named follow borne (omega (arith, b .loop-test .taken)) (c .if1 .taken))
+    sym (step-refused (b .before .loop .inv .1) (forth (row b))
+    (c .before .link-fits .ensures) s t u named follow borne (omega (arith, b .loop-test .taken)) (c .if1 .taken))
 
 shared-slice-read-s : tie.Need-shared-slice-read-s Inv-loop μ-loop
 shared-slice-read-s c = let b = c .before .before .before .before in omega (arith, b .loop-test .taken, start b .pre .2)
@@ -93,14 +104,17 @@ returns-2 c =
     let e = c .before .before .before in
     let b = e .before .before .before in
     λ nodes edges faces n f s t u named follow borne.
-    sym (step-refused (first e) (back (row b)) (c .before .link-fits2 .ensures) s t u named follow borne (omega (arith, b .loop-test .taken)) (c .if2 .taken))
+    sym (step-refused (first e) (back (row b)) (c .before .link-fits2 .ensures) s t u named follow borne
+    (omega (arith, b .loop-test .taken)) (c .if2 .taken))
 
 loop-again : tie.Need-loop-again Inv-loop μ-loop
 loop-again c =
     let e = c .before .before .before in
     let b = e .before .before .before in
-    let on : (row b + 1) * 2 ≡ row b * 2 + 1 + 1 = omega arith in
-    (omega (arith, b .loop-test .taken), rw on (step-passed (first e) (back (row b)) (c .before .link-fits2 .ensures) (below-second b) (c .if2 .left)))
+    let on : (row b + 1) * 2 ≡ row b * 2 + 1 + 1 = omega arith in (
+      omega (arith, b .loop-test .taken),
+      rw on (step-passed (first e) (back (row b)) (c .before .link-fits2 .ensures) (below-second b) (c .if2 .left)),
+    )
 
 returns-3 : tie.Need-returns-3 Inv-loop μ-loop
 returns-3 c =
@@ -108,7 +122,8 @@ returns-3 c =
     let a = c .before .before .before .before .before .args in
     let e : w .i ≡ a .count = omega (arith, w .inv .0, c .loop-test .left) in
     λ nodes edges faces n f s t u named follow borne.
-    sym (all-linked (a .starts .now) (a .nexts .now) (a .bears .now) s t u named follow borne (subst (λ (i : ℕ). Marked (a .starts .now) (a .nexts .now) (a .bears .now) (i * 2) (w .marks)) e (w .inv .1)))
+    sym (all-linked (a .starts .now) (a .nexts .now) (a .bears .now) s t u named follow borne
+    (subst (λ (i : ℕ). Marked (a .starts .now) (a .nexts .now) (a .bears .now) (i * 2) (w .marks)) e (w .inv .1)))
 
 pub links-formed-spec : {M : Type 1} → statement M
 links-formed-spec =
@@ -133,7 +148,8 @@ links-formed-spec =
     link-fits-requires-2
     returns-2
     (λ c. below-second (c .before .before .before .before .before .before))
-    (λ c. let b = c .before .before .before .before .before .before in omega (arith, b .loop-test .taken, start b .pre .0))
+    (λ c. let b = c .before .before .before .before .before .before in
+    omega (arith, b .loop-test .taken, start b .pre .0))
     (λ c. omega (arith, c .before .before .before .before .before .before .loop-test .taken))
     loop-again
     returns-3)

@@ -1,4 +1,5 @@
--- `form_links::mark_starts` meets its contract: the rows where the positions that are passed start are marked. Assumes nothing.
+-- `form_links::mark_starts` meets its contract: the rows where the positions that are passed start are marked. Assumes
+-- nothing.
 use mathlib.Core.Path.{_≡_, refl, sym, ap, _∙_}
 use mathlib.Core.Bool.{cond}
 use mathlib.Core.Logic.{inl, inr}
@@ -13,7 +14,8 @@ use Rattle.form_links.proofs.mark_starts.Statement.{statement}
 use Rattle.form_links.proofs.mark_starts.Tie as tie
 
 abbrev Inv-loop : tie.InvT-loop
-Inv-loop count starts marks₀ p₀ p-end marks p = (p ≤ count * 2) × (length marks ≡ length marks₀) × ((i : ℕ) → getD marks i 0 ≡ cond (startsIn starts p i) 1 (getD marks₀ i 0))
+Inv-loop count starts marks₀ p₀ p-end marks p = (p ≤ count * 2) × (length marks ≡ length marks₀)
+    × ((i : ℕ) → getD marks i 0 ≡ cond (startsIn starts p i) 1 (getD marks₀ i 0))
 
 abbrev μ-loop : tie.MeasureT-loop
 μ-loop count starts marks₀ p₀ p-end marks p = p-end - p
@@ -34,7 +36,11 @@ cast-i : tie.Need-cast-i Inv-loop μ-loop
 cast-i c = omega (arith, c .shared-slice-known .given (c .before .before .loop .p))
 
 slice-write-marks : tie.Need-slice-write-marks Inv-loop μ-loop
-slice-write-marks c = omega (arith, c .before .before .loop .inv .1, c .before .before .before .pre .2 (c .before .before .loop .p) (c .before .loop-test .taken))
+slice-write-marks c = omega (
+  arith,
+  c .before .before .loop .inv .1,
+  c .before .before .before .pre .2 (c .before .before .loop .p) (c .before .loop-test .taken),
+)
 
 add-p : tie.Need-add-p Inv-loop μ-loop
 add-p c = omega (arith, c .before .loop-test .taken, c .before .before .before .pre .0)
@@ -51,8 +57,10 @@ loop-again c =
       omega (arith, c .before .loop-test .taken),
       length-set (w .marks) row 1 ∙ w .inv .1,
       (λ i. elim (equal? i row) [
-        | inl e ↦ ap (λ (x : ℕ). getD (set (w .marks) row 1) x 0) e ∙ getD-set-same (w .marks) row 1 0 (slice-write-marks c) ∙ rw (add-one p, same-eq row i (sym e))
-        | inr d ↦ getD-set-other (w .marks) row i 1 0 d ∙ w .inv .2 i ∙ rw (add-one p, same-false row i (λ e. d (sym e)))
+        | inl e ↦ ap (λ (x : ℕ). getD (set (w .marks) row 1) x 0) e
+            ∙ getD-set-same (w .marks) row 1 0 (slice-write-marks c) ∙ rw (add-one p, same-eq row i (sym e))
+        | inr d ↦ getD-set-other (w .marks) row i 1 0 d ∙ w .inv .2 i
+            ∙ rw (add-one p, same-false row i (λ e. d (sym e)))
       ]),
     )
 

@@ -31,8 +31,10 @@ returns c =
     let e₁ : toZ w64 (ofZ w64 (h .nodes)) ≡ h .nodes = search needs in
     let e₂ : toZ w64 (ofZ w64 (h .edges)) ≡ h .edges = search needs in
     let e₃ : toZ w64 (ofZ w64 (h .faces)) ≡ h .faces = search needs in
-    let d₁ : c .before .before .before .before .magnitude .result ≡ natAbs (h .nodes) = c .before .before .before .before .magnitude .ensures ∙ ap natAbs e₁ in
-    let d₂ : c .before .before .magnitude2 .result ≡ natAbs (h .edges) = c .before .before .magnitude2 .ensures ∙ ap natAbs e₂ in
+    let d₁ : c .before .before .before .before .magnitude .result ≡ natAbs (h .nodes) =
+    c .before .before .before .before .magnitude .ensures ∙ ap natAbs e₁ in
+    let d₂ : c .before .before .magnitude2 .result ≡ natAbs (h .edges) = c .before .before .magnitude2 .ensures
+    ∙ ap natAbs e₂ in
     let d₃ : c .magnitude3 .result ≡ natAbs (h .faces) = c .magnitude3 .ensures ∙ ap natAbs e₃ in
     rw (d₁, d₂, d₃)
 

@@ -12,8 +12,15 @@ pairs false b c d e = refl
 
 returns : tie.Need-returns
 returns c =
-    pairs (c .before .before .before .before .is-natural .result) (c .before .before .before .is-natural2 .result) (c .before .before .is-natural3 .result) (c .before .is-natural4 .result) (c .is-natural5 .result)
-    ∙ rw (c .before .before .before .before .is-natural .ensures, c .before .before .before .is-natural2 .ensures, c .before .before .is-natural3 .ensures, c .before .is-natural4 .ensures, c .is-natural5 .ensures)
+    pairs (c .before .before .before .before .is-natural .result) (c .before .before .before .is-natural2 .result)
+    (c .before .before .is-natural3 .result) (c .before .is-natural4 .result) (c .is-natural5 .result)
+    ∙ rw (
+      c .before .before .before .before .is-natural .ensures,
+      c .before .before .before .is-natural2 .ensures,
+      c .before .before .is-natural3 .ensures,
+      c .before .is-natural4 .ensures,
+      c .is-natural5 .ensures,
+    )
 
 pub edge-naturals-spec : {M : Type 1} → statement M
 edge-naturals-spec =

@@ -12,7 +12,7 @@ use lib.Signed.{nonNeg}
 use mir.Syntax.{w64}
 use mir.Val.{toZ, ofZ, SFits}
 use mir.Facts.{toZ-ofZ}
-use Rattle.lists.specs.Scans.{all}
+use Rattle.lists.specs.Scans.{allOf}
 use Rattle.curves.specs.Curves.{coordinate}
 use Rattle.curves.proofs.Runs.{and-right}
 use Rattle.map.specs.Rows.{cell}
@@ -29,13 +29,14 @@ use Rattle.form_ranges.proofs.within.Reads as within-reads
 
 module _ (row : List ℤ) where
   abbrev naturals : Bool
-  naturals = all nonNeg (cell row 0 ∷ cell row 1 ∷ cell row 2 ∷ cell row 5 ∷ cell row 6 ∷ [])
+  naturals = allOf nonNeg (cell row 0 ∷ cell row 1 ∷ cell row 2 ∷ cell row 5 ∷ cell row 6 ∷ [])
 
   abbrev points : ℕ → Bool
-  points n = all coordinate (take (2 * n) (drop 8 row)) && all isZero (drop (2 * n) (drop 8 row))
+  points n = allOf coordinate (take (2 * n) (drop 8 row)) && allOf isZero (drop (2 * n) (drop 8 row))
 
   -- the first two tests
-  tested : {p q b : Bool} → p ≡ naturals → q ≡ within 2 12 (toZ w64 (ofZ w64 (cell row 7))) → SFits w64 (cell row 7) → p && q ≡ b → naturals && within 2 12 (cell row 7) ≡ b
+  tested : {p q b : Bool} → p ≡ naturals → q ≡ within 2 12 (toZ w64 (ofZ w64 (cell row 7))) → SFits w64 (cell row 7)
+      → p && q ≡ b → naturals && within 2 12 (cell row 7) ≡ b
   tested e f g h = sym (ap₂ _&&_ e (f ∙ ap (within 2 12) (toZ-ofZ g))) ∙ h
 
   refused : naturals && within 2 12 (cell row 7) ≡ false → false ≡ edgeRanges row
@@ -47,19 +48,35 @@ module _ (row : List ℤ) where
 returns : tie.Need-returns
 returns c =
     let row = c .before .before .before .before .args .row .now in
-    refused row (tested row (c .before .before .edge-naturals .ensures) (c .before .within .ensures) (sfits-of (c .before .before .before .z .given)) (not-true (c .before .before .edge-naturals .result && c .before .within .result) (c .if1 .taken)))
+    refused row (tested row (c .before .before .edge-naturals .ensures) (c .before .within .ensures)
+    (sfits-of (c .before .before .before .z .given))
+    (not-true (c .before .before .edge-naturals .result && c .before .within .result) (c .if1 .taken)))
 
 natural-requires : tie.Need-natural-requires
 natural-requires c κs =
     let row = c .before .before .before .before .args .row .now in
-    let t = tested row (c .before .before .edge-naturals .ensures) (c .before .within .ensures) (sfits-of (c .before .before .before .z .given)) (not-false (c .before .before .edge-naturals .result && c .before .within .result) (c .if1 .left)) in
+    let t = tested row (c .before .before .edge-naturals .ensures) (c .before .within .ensures)
+    (sfits-of (c .before .before .before .z .given))
+    (not-false (c .before .before .edge-naturals .result && c .before .within .result) (c .if1 .left)) in
     (omega arith, within-in 2 12 (cell row 7) (and-right (naturals row) (within 2 12 (cell row 7)) t) .0)
 
 -- both tests are passed
-both : (n : lts.After-natural (edge-naturals-reads.Asked, edge-naturals-reads.Learnt, within-reads.Asked, within-reads.Learnt, natural-reads.Asked, natural-reads.Learnt, points-ranged-reads.Asked, points-ranged-reads.Learnt) reads.Pre reads.Post) → naturals (n .before .before .before .before .before .args .row .now) && within 2 12 (cell (n .before .before .before .before .before .args .row .now) 7) ≡ true
+both : (n : lts.After-natural (
+  edge-naturals-reads.Asked,
+  edge-naturals-reads.Learnt,
+  within-reads.Asked,
+  within-reads.Learnt,
+  natural-reads.Asked,
+  natural-reads.Learnt,
+  points-ranged-reads.Asked,
+  points-ranged-reads.Learnt,
+) reads.Pre reads.Post) → naturals (n .before .before .before .before .before .args .row .now)
+    && within 2 12 (cell (n .before .before .before .before .before .args .row .now) 7) ≡ true
 both n =
     let c = n .before in
-    tested (c .before .before .before .before .args .row .now) (c .before .before .edge-naturals .ensures) (c .before .within .ensures) (sfits-of (c .before .before .before .z .given)) (not-false (c .before .before .edge-naturals .result && c .before .within .result) (c .if1 .left))
+    tested (c .before .before .before .before .args .row .now) (c .before .before .edge-naturals .ensures)
+    (c .before .within .ensures) (sfits-of (c .before .before .before .z .given))
+    (not-false (c .before .before .edge-naturals .result && c .before .within .result) (c .if1 .left))
 
 points-ranged-requires : tie.Need-points-ranged-requires
 points-ranged-requires c κs = (c .before .before .before .before .before .before .pre, omega arith)
@@ -69,7 +86,8 @@ returns-2 : tie.Need-returns-2
 returns-2 c =
     let n = c .before .before in
     let row = n .before .before .before .before .before .args .row .now in
-    c .points-ranged .ensures ∙ ap (points row) (sym (c .before .if2 .taken) ∙ n .natural .ensures) ∙ sym (passed row (both n))
+    c .points-ranged .ensures ∙ ap (points row) (sym (c .before .if2 .taken) ∙ n .natural .ensures)
+    ∙ sym (passed row (both n))
 
 points-ranged-requires-2 : tie.Need-points-ranged-requires-2
 points-ranged-requires-2 c κs =
@@ -87,4 +105,5 @@ returns-3 c =
     c .points-ranged2 .ensures ∙ ap (points row) (n .natural .ensures) ∙ sym (passed row (both n))
 
 pub edge-ranges-spec : {M : Type 1} → statement M
-edge-ranges-spec = tie.close (tie.spec (λ c. search needs) (λ c κs. search needs) (λ c κs. search needs) returns natural-requires points-ranged-requires returns-2 points-ranged-requires-2 returns-3)
+edge-ranges-spec = tie.close (tie.spec (λ c. search needs) (λ c κs. search needs)
+    (λ c κs. search needs) returns natural-requires points-ranged-requires returns-2 points-ranged-requires-2 returns-3)

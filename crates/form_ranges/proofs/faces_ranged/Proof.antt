@@ -1,9 +1,10 @@
--- `form_ranges::faces_ranged` meets its contract: the face rows from row i on are in range if and only if all are. Assumes nothing.
+-- `form_ranges::faces_ranged` meets its contract: the face rows from row i on are in range if and only if all are.
+-- Assumes nothing.
 use Prim.Native.Nat.{_-_, _≤_}
 use mathlib.Core.Path.{_≡_, sym, _∙_}
 use native.Mathlib.Omega.{arith}
 use borrow.Author.Tests.{not-true, not-false}
-use Rattle.lists.specs.Scans.{all}
+use Rattle.lists.specs.Scans.{allOf}
 use Rattle.lists.specs.Tables.{table}
 use Rattle.lists.proofs.Scans.{all-hit, all-miss}
 use Rattle.map.specs.Rows.{rows}
@@ -14,7 +15,8 @@ use Rattle.form_ranges.proofs.faces_ranged.Statement.{statement}
 use Rattle.form_ranges.proofs.faces_ranged.Tie as tie
 
 abbrev Inv-loop : tie.InvT-loop
-Inv-loop faces n i₀ i = (i ≤ n) × (all faceRanges (table (rowAt 1 faces) i (n - i)) ≡ all faceRanges (rows 1 n faces))
+Inv-loop faces n i₀ i = (i ≤ n) × (allOf faceRanges (table (rowAt 1 faces) i (n - i))
+    ≡ allOf faceRanges (rows 1 n faces))
 
 abbrev μ-loop : tie.MeasureT-loop
 μ-loop faces n i₀ i = n - i
@@ -27,17 +29,23 @@ returns c =
     let a = c .before .before .before .before .args in
     let i = c .before .before .before .loop .i in
     let e = face-tested (a .faces .now) i ∙ sym (c .before .is-natural .ensures) ∙ not-true _ (c .if1 .taken) in
-    sym (all-miss (rowAt 1 (a .faces .now)) i (a .n) faceRanges (c .before .before .loop-test .taken) e) ∙ c .before .before .before .loop .inv .1
+    sym (all-miss (rowAt 1 (a .faces .now)) i (a .n) faceRanges (c .before .before .loop-test .taken) e)
+    ∙ c .before .before .before .loop .inv .1
 
 loop-again : tie.Need-loop-again Inv-loop μ-loop
 loop-again c =
     let a = c .before .before .before .before .args in
     let i = c .before .before .before .loop .i in
-    let e = face-tested (a .faces .now) i ∙ sym (c .before .is-natural .ensures) ∙ not-false _ (c .if1 .left) in
-    (omega arith, sym (all-hit (rowAt 1 (a .faces .now)) i (a .n) faceRanges (c .before .before .loop-test .taken) e) ∙ c .before .before .before .loop .inv .1)
+    let e = face-tested (a .faces .now) i ∙ sym (c .before .is-natural .ensures) ∙ not-false _ (c .if1 .left) in (
+      omega arith,
+      sym (all-hit (rowAt 1 (a .faces .now)) i (a .n) faceRanges (c .before .before .loop-test .taken) e)
+          ∙ c .before .before .before .loop .inv .1,
+    )
 
 returns-2 : tie.Need-returns-2 Inv-loop μ-loop
-returns-2 c = let a = c .before .before .args in sym (rows-end 1 (a .faces .now) faceRanges (a .n) (c .before .loop .i) (c .loop-test .left)) ∙ c .before .loop .inv .1
+returns-2 c = let a = c .before .before .args in
+    sym (rows-end 1 (a .faces .now) faceRanges (a .n) (c .before .loop .i) (c .loop-test .left))
+    ∙ c .before .loop .inv .1
 
 pub faces-ranged-spec : {M : Type 1} → statement M
 faces-ranged-spec =

@@ -10,7 +10,9 @@ use Rattle.form_ranges.proofs.is_coordinate.Statement.{statement}
 use Rattle.form_ranges.proofs.is_coordinate.Tie as tie
 
 returns : tie.Need-returns
-returns c = c .within .ensures ∙ ap coordinate (toZ-ofZ {w = w64} {z = getD (c .before .before .args .t .now) (c .before .before .args .k) (pos 0)} (sfits-of (c .before .z .given)))
+returns c = c .within .ensures ∙ ap coordinate
+    (toZ-ofZ {w = w64} {z = getD (c .before .before .args .t .now) (c .before .before .args .k) (pos 0)}
+    (sfits-of (c .before .z .given)))
 
 pub is-coordinate-spec : {M : Type 1} → statement M
 is-coordinate-spec = tie.close (tie.spec (λ c. search needs) (λ c. search needs) (λ c κs. search needs) returns)

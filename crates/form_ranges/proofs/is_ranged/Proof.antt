@@ -6,7 +6,7 @@ use mathlib.Core.Bool.{Bool, true, false, _&&_}
 use Prim.Native.Nat.{ℕ}
 use native.Mathlib.Nat.{mul-one}
 use lib.ListN.{drop}
-use Rattle.lists.specs.Scans.{all}
+use Rattle.lists.specs.Scans.{allOf}
 use Rattle.map.specs.Rows.{rows}
 use Rattle.map.specs.Form.{isZero, nodeRanges, edgeRanges, faceRanges}
 use Rattle.form_ranges.proofs.is_ranged.Statement.{statement}
@@ -19,20 +19,29 @@ module _ {p q r p′ q′ r′ : Bool} (e : p ≡ p′) (f : q ≡ q′) (g : r 
   none-of : p && q && r ≡ false → (x y z : Bool) → false ≡ p′ && q′ && r′ && x && y && z
   none-of h x y z = rw (sym three ∙ h)
 
-  rest-of : p && q && r ≡ true → {s t u : Bool} (x y z : Bool) → s ≡ x → t ≡ y → u ≡ z → s && t && u ≡ p′ && q′ && r′ && x && y && z
+  rest-of : p && q && r ≡ true → {s t u : Bool} (x y z : Bool) → s ≡ x → t ≡ y → u ≡ z → s && t && u ≡ p′ && q′ && r′
+      && x && y && z
   rest-of h x y z i j k = rw (sym three ∙ h, i, j, k)
 
 returns : tie.Need-returns
 returns c =
     let a = c .before .before .before .before .before .before .args in
-    none-of (c .before .before .before .before .rest-zero .ensures) (c .before .before .rest-zero2 .ensures) (c .before .rest-zero3 .ensures ∙ ap (λ (k : ℕ). all isZero (drop k (a .faces .now))) (sym (mul-one (a .c .faces)))) (not-true _ (c .if1 .taken))
-    (all nodeRanges (rows 4 (a .c .nodes) (a .nodes .now))) (all edgeRanges (rows 32 (a .c .edges) (a .edges .now))) (all faceRanges (rows 1 (a .c .faces) (a .faces .now)))
+    none-of (c .before .before .before .before .rest-zero .ensures) (c .before .before .rest-zero2 .ensures)
+    (c .before .rest-zero3 .ensures ∙ ap (λ (k : ℕ). allOf isZero (drop k (a .faces .now)))
+    (sym (mul-one (a .c .faces)))) (not-true _ (c .if1 .taken))
+    (allOf nodeRanges (rows 4 (a .c .nodes) (a .nodes .now)))
+    (allOf edgeRanges (rows 32 (a .c .edges) (a .edges .now))) (allOf faceRanges (rows 1 (a .c .faces) (a .faces .now)))
 
 returns-2 : tie.Need-returns-2
 returns-2 c =
     let a = c .before .before .before .before .before .before .before .before .before .args in
-    rest-of (c .before .before .before .before .before .before .before .rest-zero .ensures) (c .before .before .before .before .before .rest-zero2 .ensures) (c .before .before .before .before .rest-zero3 .ensures ∙ ap (λ (k : ℕ). all isZero (drop k (a .faces .now))) (sym (mul-one (a .c .faces)))) (not-false _ (c .before .before .before .if1 .left))
-    (all nodeRanges (rows 4 (a .c .nodes) (a .nodes .now))) (all edgeRanges (rows 32 (a .c .edges) (a .edges .now))) (all faceRanges (rows 1 (a .c .faces) (a .faces .now)))
+    rest-of (c .before .before .before .before .before .before .before .rest-zero .ensures)
+    (c .before .before .before .before .before .rest-zero2 .ensures)
+    (c .before .before .before .before .rest-zero3 .ensures
+    ∙ ap (λ (k : ℕ). allOf isZero (drop k (a .faces .now))) (sym (mul-one (a .c .faces))))
+    (not-false _ (c .before .before .before .if1 .left))
+    (allOf nodeRanges (rows 4 (a .c .nodes) (a .nodes .now)))
+    (allOf edgeRanges (rows 32 (a .c .edges) (a .edges .now))) (allOf faceRanges (rows 1 (a .c .faces) (a .faces .now)))
     (c .before .before .nodes-ranged .ensures) (c .before .edges-ranged .ensures) (c .faces-ranged .ensures)
 
 pub is-ranged-spec : {M : Type 1} → statement M

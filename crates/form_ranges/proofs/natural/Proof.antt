@@ -8,7 +8,11 @@ use Rattle.form_ranges.proofs.natural.Statement.{statement}
 use Rattle.form_ranges.proofs.natural.Tie as tie
 
 cast-result : tie.Need-cast-result
-cast-result c = rw (toZ-ofZ {w = w64} (sfits-of (c .z .given))) (c .before .pre .1, fits-natAbs {w = w64} tt (sfits-of {w = w64} {z = getD (c .before .args .t .now) (c .before .args .k) (pos 0)} (c .z .given)))
+cast-result c = rw (toZ-ofZ {w = w64} (sfits-of (c .z .given))) (
+  c .before .pre .1,
+  fits-natAbs {w = w64} tt
+      (sfits-of {w = w64} {z = getD (c .before .args .t .now) (c .before .args .k) (pos 0)} (c .z .given)),
+)
 
 pub natural-spec : {M : Type 1} → statement M
 natural-spec = tie.close (tie.spec (λ c. search needs) (λ c. search needs) cast-result (λ c. search needs))

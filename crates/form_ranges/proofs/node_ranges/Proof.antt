@@ -7,8 +7,14 @@ use Rattle.form_ranges.proofs.node_ranges.Tie as tie
 
 returns : tie.Need-returns
 returns c =
-    rw (c .before .before .is-natural .ensures, c .before .is-coordinate .ensures, c .is-coordinate2 .ensures, toZ-ofZ {w = w64} (sfits-of (c .before .before .before .z .given)))
+    rw (
+      c .before .before .is-natural .ensures,
+      c .before .is-coordinate .ensures,
+      c .is-coordinate2 .ensures,
+      toZ-ofZ {w = w64} (sfits-of (c .before .before .before .z .given)),
+    )
 
 pub node-ranges-spec : {M : Type 1} → statement M
 node-ranges-spec =
-    tie.close (tie.spec (λ c. search needs) (λ c κs. search needs) (λ c κs. search needs) (λ c κs. search needs) returns)
+    tie.close (tie.spec (λ c. search needs) (λ c κs. search needs) (λ c κs. search needs)
+    (λ c κs. search needs) returns)

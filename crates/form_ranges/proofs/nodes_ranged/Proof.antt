@@ -1,10 +1,11 @@
--- `form_ranges::nodes_ranged` meets its contract: the node rows from row i on are in range if and only if all are. Assumes nothing.
+-- `form_ranges::nodes_ranged` meets its contract: the node rows from row i on are in range if and only if all are.
+-- Assumes nothing.
 use Prim.Native.Nat.{_-_, _≤_}
 use mathlib.Core.Path.{_≡_, sym, ap, _∙_}
 use native.Mathlib.Omega.{arith}
 use lib.ListN.{length}
 use borrow.Author.Tests.{not-true, not-false}
-use Rattle.lists.specs.Scans.{all}
+use Rattle.lists.specs.Scans.{allOf}
 use Rattle.lists.specs.Tables.{table}
 use Rattle.map.specs.Rows.{rows}
 use Rattle.map.specs.Form.{nodeRanges}
@@ -14,7 +15,8 @@ use Rattle.form_ranges.proofs.nodes_ranged.Statement.{statement}
 use Rattle.form_ranges.proofs.nodes_ranged.Tie as tie
 
 abbrev Inv-loop : tie.InvT-loop
-Inv-loop nodes n i₀ i = (i ≤ n) × (all nodeRanges (table (rowAt 4 nodes) i (n - i)) ≡ all nodeRanges (rows 4 n nodes))
+Inv-loop nodes n i₀ i = (i ≤ n) × (allOf nodeRanges (table (rowAt 4 nodes) i (n - i))
+    ≡ allOf nodeRanges (rows 4 n nodes))
 
 abbrev μ-loop : tie.MeasureT-loop
 μ-loop nodes n i₀ i = n - i
@@ -26,22 +28,30 @@ node-ranges-requires : tie.Need-node-ranges-requires Inv-loop μ-loop
 node-ranges-requires c κs =
     let s = c .before .before .before in
     let i = c .before .before .loop .i in
-    ap length (row-part 4 (s .args .nodes .now) i) ∙ row-length 4 (s .args .nodes .now) (s .args .n) i (s .pre) (c .before .loop-test .taken)
+    ap length (row-part 4 (s .args .nodes .now) i)
+    ∙ row-length 4 (s .args .nodes .now) (s .args .n) i (s .pre) (c .before .loop-test .taken)
 
 returns : tie.Need-returns Inv-loop μ-loop
 returns c =
     let a = c .before .before .before .before .before .args in
     let l = c .before .before .before .before .loop in
-    sym (rows-miss 4 (a .nodes .now) nodeRanges (a .n) (l .i) (c .before .before .before .loop-test .taken) (c .before .node-ranges .ensures) (row-part 4 (a .nodes .now) (l .i)) (not-true _ (c .if1 .taken))) ∙ l .inv .1
+    sym (rows-miss 4 (a .nodes .now) nodeRanges (a .n) (l .i) (c .before .before .before .loop-test .taken)
+    (c .before .node-ranges .ensures) (row-part 4 (a .nodes .now) (l .i)) (not-true _ (c .if1 .taken))) ∙ l .inv .1
 
 loop-again : tie.Need-loop-again Inv-loop μ-loop
 loop-again c =
     let a = c .before .before .before .before .before .args in
-    let l = c .before .before .before .before .loop in
-    (omega arith, sym (rows-hit 4 (a .nodes .now) nodeRanges (a .n) (l .i) (c .before .before .before .loop-test .taken) (c .before .node-ranges .ensures) (row-part 4 (a .nodes .now) (l .i)) (not-false _ (c .if1 .left))) ∙ l .inv .1)
+    let l = c .before .before .before .before .loop in (
+      omega arith,
+      sym (rows-hit 4 (a .nodes .now) nodeRanges (a .n) (l .i)
+          (c .before .before .before .loop-test .taken) (c .before .node-ranges .ensures)
+          (row-part 4 (a .nodes .now) (l .i)) (not-false _ (c .if1 .left))) ∙ l .inv .1,
+    )
 
 returns-2 : tie.Need-returns-2 Inv-loop μ-loop
-returns-2 c = let a = c .before .before .args in sym (rows-end 4 (a .nodes .now) nodeRanges (a .n) (c .before .loop .i) (c .loop-test .left)) ∙ c .before .loop .inv .1
+returns-2 c = let a = c .before .before .args in
+    sym (rows-end 4 (a .nodes .now) nodeRanges (a .n) (c .before .loop .i) (c .loop-test .left))
+    ∙ c .before .loop .inv .1
 
 pub nodes-ranged-spec : {M : Type 1} → statement M
 nodes-ranged-spec =

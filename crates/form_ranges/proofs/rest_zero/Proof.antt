@@ -1,14 +1,15 @@
 -- `form_ranges::rest_zero` meets its contract: the part up to the end is all that is left. Assumes nothing.
 use borrow.Author.Needs.{needs}
 use mathlib.Core.Path.{ap, _∙_}
-use Rattle.lists.specs.Scans.{all}
+use Rattle.lists.specs.Scans.{allOf}
 use Rattle.map.specs.Form.{isZero}
 use Rattle.form_ranges.proofs.Scans.{rest-part}
 use Rattle.form_ranges.proofs.rest_zero.Statement.{statement}
 use Rattle.form_ranges.proofs.rest_zero.Tie as tie
 
 returns : tie.Need-returns
-returns c = c .are-zero .ensures ∙ ap (all isZero) (rest-part (c .before .before .args .t .now) (c .before .before .args .at))
+returns c = c .are-zero .ensures ∙ ap (allOf isZero)
+    (rest-part (c .before .before .args .t .now) (c .before .before .args .at))
 
 pub rest-zero-spec : {M : Type 1} → statement M
 rest-zero-spec =

@@ -1,4 +1,5 @@
--- `form_references::find_position` meets its contract: the row of the edge, twice, and one more for the reverse. Assumes nothing.
+-- `form_references::find_position` meets its contract: the row of the edge, twice, and one more for the reverse.
+-- Assumes nothing.
 use borrow.Author.Needs.{needs, sfits-of}
 use mathlib.Core.Path.{_≡_, sym, ap, _∙_, subst}
 use mathlib.Core.Bool.{true}
@@ -25,16 +26,26 @@ returns : tie.Need-returns
 returns c =
     let s = c .before .before in
     let d = s .args .d in
-    let t : ltZ d (negsuc 999998) ≡ true = subst (λ (x : ℤ). ltZ x (negsuc 999998) ≡ true) (toZ-ofZ {w = w64} (s .fits .d)) (c .if1 .taken) in
+    let t : ltZ d (negsuc 999998) ≡ true =
+    subst (λ (x : ℤ). ltZ x (negsuc 999998) ≡ true) (toZ-ofZ {w = w64} (s .fits .d)) (c .if1 .taken) in
     ((λ e. edge-past (s .pre .0) (natAbs d) (edge-more d t)), (λ q e. absurd (missing-at e)))
 
 -- what the search answers
-sought : (c : lts.After-find-indexed (edge-of-reads.Asked, edge-of-reads.Learnt, find-indexed-reads.Asked, find-indexed-reads.Learnt) reads.Pre reads.Post) → c .find-indexed .result ≡ place (sameZ (pos (natAbs (c .before .before .before .before .args .d)))) 0 (column edgeWidth (c .before .before .before .before .args .edges .now) (c .before .before .before .before .args .count))
+sought : (c : lts.After-find-indexed (
+  edge-of-reads.Asked,
+  edge-of-reads.Learnt,
+  find-indexed-reads.Asked,
+  find-indexed-reads.Learnt,
+) reads.Pre reads.Post) → c .find-indexed .result
+    ≡ place (sameZ (pos (natAbs (c .before .before .before .before .args .d)))) 0
+    (column edgeWidth (c .before .before .before .before .args .edges .now)
+    (c .before .before .before .before .args .count))
 sought c =
     let s = c .before .before .before .before in
     c .find-indexed .ensures
     ∙ ap (λ (z : ℤ). place (sameZ z) 0 (column edgeWidth (s .args .edges .now) (s .args .count)))
-    (toZ-ofZ {w = w64} {z = c .before .edge-of .result} (sfits-of (c .before .edge-of .ok)) ∙ c .before .edge-of .ensures ∙ ap (λ (x : ℤ). pos (natAbs x)) (toZ-ofZ {w = w64} (s .fits .d)))
+    (toZ-ofZ {w = w64} {z = c .before .edge-of .result} (sfits-of (c .before .edge-of .ok))
+    ∙ c .before .edge-of .ensures ∙ ap (λ (x : ℤ). pos (natAbs x)) (toZ-ofZ {w = w64} (s .fits .d)))
 
 find-indexed-requires : tie.Need-find-indexed-requires
 find-indexed-requires c κs = let s = c .before .before .before in (edges-in-order-rise (s .pre .0), s .pre .1)
@@ -42,8 +53,10 @@ find-indexed-requires c κs = let s = c .before .before .before in (edges-in-ord
 returns-2 : tie.Need-returns-2
 returns-2 c =
     let f = c .before .before in
-    let s = f .before .before .before .before in
-    ((λ e. link-missing (s .pre .0) (s .args .d) (sym (sought f) ∙ c .enum-told .given .1)), (λ q e. absurd (missing-at e)))
+    let s = f .before .before .before .before in (
+      (λ e. link-missing (s .pre .0) (s .args .d) (sym (sought f) ∙ c .enum-told .given .1)),
+      (λ q e. absurd (missing-at e)),
+    )
 
 mul-t9 : tie.Need-mul-t9
 mul-t9 c =
@@ -56,7 +69,13 @@ add-t11 c =
     let f = c .before .before .before in
     let s = f .before .before .before .before in
     let b = ltZ (toZ w64 (ofZ w64 (s .args .d))) (pos 0) in
-    omega (arith, byte-bit b, bit-most b, link-below (s .pre .0) (s .args .d) _ (sym (sought f) ∙ c .before .found .given .1), s .pre .0 .fits)
+    omega (
+      arith,
+      byte-bit b,
+      bit-most b,
+      link-below (s .pre .0) (s .args .d) _ (sym (sought f) ∙ c .before .found .given .1),
+      s .pre .0 .fits,
+    )
 
 returns-3 : tie.Need-returns-3
 returns-3 c =
@@ -64,10 +83,14 @@ returns-3 c =
     let s = f .before .before .before .before in (
       (λ e. absurd (missing-at (sym e))),
       λ q e.
-          let r = link-at (s .pre .0) (s .args .d) (c .before .found .given .0 .0) (ltZ (toZ w64 (ofZ w64 (s .args .d))) (pos 0)) (ap (λ (z : ℤ). ltZ z (pos 0)) (toZ-ofZ {w = w64} (s .fits .d))) (sym (sought f) ∙ c .before .found .given .1) q e in
+          let r = link-at (s .pre .0) (s .args .d) (c .before .found .given .0 .0)
+          (ltZ (toZ w64 (ofZ w64 (s .args .d))) (pos 0))
+          (ap (λ (z : ℤ). ltZ z (pos 0)) (toZ-ofZ {w = w64} (s .fits .d)))
+          (sym (sought f) ∙ c .before .found .given .1) q e in
           (r .below, r .dart, r .named),
     )
 
 pub find-position-spec : {M : Type 1} → statement M
 find-position-spec =
-    tie.close (tie.spec returns (λ c κs. search needs) find-indexed-requires (λ c. search needs) (λ c. search needs) returns-2 mul-t9 (λ c. search needs) add-t11 returns-3)
+    tie.close (tie.spec returns (λ c κs. search needs) find-indexed-requires (λ c. search needs)
+    (λ c. search needs) returns-2 mul-t9 (λ c. search needs) add-t11 returns-3)

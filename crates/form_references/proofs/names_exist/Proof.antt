@@ -1,4 +1,5 @@
--- `form_references::names_exist` meets its contract: four passes tell, and leave the rows that are named. Assumes nothing.
+-- `form_references::names_exist` meets its contract: four passes tell, and leave the rows that are named. Assumes
+-- nothing.
 use borrow.Author.Needs.{needs}
 use borrow.Author.Tests.{not-true, not-false}
 use mathlib.Core.Path.{_≡_, sym, _∙_}
@@ -12,55 +13,84 @@ use Rattle.form_references.proofs.names_exist.Statement.{statement}
 use Rattle.form_references.proofs.names_exist.Tie as tie
 
 -- what the passes that succeed tell
-faces-pass : (c : tie.Else1) → let a = c .before .before .before .before .before .before .before .before .before .args in facesPass (a .nodes .now) (a .edges .now) (a .faces .now) (a .c) ≡ true
-faces-pass c = sym (c .before .nodes-name-faces .ensures) ∙ not-false (c .before .nodes-name-faces .result) (c .if1 .left)
+faces-pass : (c : tie.Else1) → let a =
+    c .before .before .before .before .before .before .before .before .before .args in
+    facesPass (a .nodes .now) (a .edges .now) (a .faces .now) (a .c) ≡ true
+faces-pass c = sym (c .before .nodes-name-faces .ensures)
+    ∙ not-false (c .before .nodes-name-faces .result) (c .if1 .left)
 
 sides-found : (c : tie.Else2) → c .before .before .before .find-rows .result ≡ true
 sides-found c = not-false (c .before .before .before .find-rows .result) (c .if2 .left)
 
-sides-pass : (c : tie.Else2) → let a = c .before .before .before .before .before .before .before .before .before .before .before .before .before .before .before .args in sidesPass (a .nodes .now) (a .edges .now) (a .faces .now) (a .c) ≡ true
+sides-pass : (c : tie.Else2) → let a =
+    c .before .before .before .before .before .before .before .before .before .before .before .before .before .before
+    .before .args in sidesPass (a .nodes .now) (a .edges .now) (a .faces .now) (a .c) ≡ true
 sides-pass c = sym (c .before .before .before .find-rows .ensures .0) ∙ sides-found c
 
 ends-found : (c : tie.Else3) → c .before .before .before .find-rows2 .result ≡ true
 ends-found c = not-false (c .before .before .before .find-rows2 .result) (c .if3 .left)
 
-ends-pass : (c : tie.Else3) → let a = c .before .before .before .before .before .before .before .before .before .before .before .before .before .before .before .before .before .before .before .before .before .before .before .before .args in endsPass (a .nodes .now) (a .edges .now) (a .faces .now) (a .c) ≡ true
+ends-pass : (c : tie.Else3) → let a =
+    c .before .before .before .before .before .before .before .before .before .before .before .before .before .before
+    .before .before .before .before .before .before .before .before .before .before .args in
+    endsPass (a .nodes .now) (a .edges .now) (a .faces .now) (a .c) ≡ true
 ends-pass c = sym (c .before .before .before .find-rows2 .ensures .0) ∙ ends-found c
 
 index-rows-requires : tie.Need-index-rows-requires
 index-rows-requires c κs = search needs
 
 nodes-name-faces-requires : tie.Need-nodes-name-faces-requires
-nodes-name-faces-requires c κs = let p = c .before .before .before .before .before .before .before .pre .0 .1 in (p .in-ranges .counted .nodes-fit, face-rows p, c .before .before .index-rows .ensures)
+nodes-name-faces-requires c κs = let p = c .before .before .before .before .before .before .before .pre .0 .1 in
+    (p .in-ranges .counted .nodes-fit, face-rows p, c .before .before .index-rows .ensures)
 
 returns : tie.Need-returns
 returns c =
     let s = c .before .before .before .before .before .before .before .before .before in
-    let f = sym (c .before .nodes-name-faces .ensures) ∙ not-true (c .before .nodes-name-faces .result) (c .if1 .taken) in
+    let f = sym (c .before .nodes-name-faces .ensures)
+    ∙ not-true (c .before .nodes-name-faces .result) (c .if1 .taken) in
     ((λ h. no-faces (s .pre .0 .1) h f), s .pre .4, s .pre .5, s .pre .6, (λ e. absurd (false≢true e)))
 
 find-rows-requires : tie.Need-find-rows-requires
 find-rows-requires c κs =
     let s = c .before .before .before .before .before .before .before .before .before .before .before in
-    let p = s .pre .0 .1 in
-    (face-rows-rising (face-rows p), omega (arith, s .pre .3), p .in-ranges .counted .edges-fit, lit≤ tt, c .before .before .before .before .before .before .index-rows .ensures, omega (arith, s .pre .2, s .pre .6))
+    let p = s .pre .0 .1 in (
+      face-rows-rising (face-rows p),
+      omega (arith, s .pre .3),
+      p .in-ranges .counted .edges-fit,
+      lit≤ tt,
+      c .before .before .before .before .before .before .index-rows .ensures,
+      omega (arith, s .pre .2, s .pre .6),
+    )
 
 returns-2 : tie.Need-returns-2
 returns-2 c =
     let k = c .before .before .before .before .before .before in
     let s = k .before .before .before .before .before .before .before .before .before in
     let d = c .before .before .before .find-rows in
-    let f = sym (d .ensures .0) ∙ not-true (d .result) (c .if2 .taken) in
-    ((λ h. no-sides (s .pre .0 .1) h (faces-pass k) f), s .pre .4, s .pre .5, d .ensures .1 ∙ s .pre .6, (λ e. absurd (false≢true e)))
+    let f = sym (d .ensures .0) ∙ not-true (d .result) (c .if2 .taken) in (
+      (λ h. no-sides (s .pre .0 .1) h (faces-pass k) f),
+      s .pre .4,
+      s .pre .5,
+      d .ensures .1
+          ∙ s .pre .6,
+      (λ e. absurd (false≢true e)),
+    )
 
 index-rows-requires-2 : tie.Need-index-rows-requires-2
 index-rows-requires-2 c κs = search needs
 
 find-rows-requires-2 : tie.Need-find-rows-requires-2
 find-rows-requires-2 c κs =
-    let s = c .before .before .before .before .before .before .before .before .before .before .before .before .before .before .before .before .before .before .before .before in
-    let p = s .pre .0 .1 in
-    (node-rows-rising (node-rows p), omega (arith, s .pre .1), p .in-ranges .counted .edges-fit, lit≤ tt, c .before .before .before .index-rows2 .ensures, omega (arith, s .pre .2, s .pre .4))
+    let s = c .before .before .before .before .before .before .before .before .before .before .before .before .before
+    .before .before .before .before .before .before .before in
+    let p = s .pre .0 .1 in (
+      node-rows-rising (node-rows p),
+      omega (arith, s .pre .1),
+      p .in-ranges .counted .edges-fit,
+      lit≤ tt,
+      c .before .before .before .index-rows2 .ensures,
+      omega (arith, s .pre .2, s .pre .4),
+    )
 
 returns-3 : tie.Need-returns-3
 returns-3 c =
@@ -68,18 +98,34 @@ returns-3 c =
     let k = m .before .before .before .before .before .before in
     let s = k .before .before .before .before .before .before .before .before .before in
     let d = c .before .before .before .find-rows2 in
-    let f = sym (d .ensures .0) ∙ not-true (d .result) (c .if3 .taken) in
-    ((λ h. no-ends (s .pre .0 .1) h (faces-pass k) (sides-pass m) f), d .ensures .1 ∙ s .pre .4, s .pre .5, m .before .before .before .find-rows .ensures .1 ∙ s .pre .6, (λ e. absurd (false≢true e)))
+    let f = sym (d .ensures .0) ∙ not-true (d .result) (c .if3 .taken) in (
+      (λ h. no-ends (s .pre .0 .1) h (faces-pass k) (sides-pass m) f),
+      d .ensures .1
+          ∙ s .pre .4,
+      s .pre .5,
+      m .before .before .before .find-rows .ensures .1 ∙ s .pre .6,
+      (λ e. absurd (false≢true e)),
+    )
 
 index-rows-requires-3 : tie.Need-index-rows-requires-3
 index-rows-requires-3 c κs =
-    let k = c .before .before .before .before .before .before .before .before in
-    (lit≤ tt, k .before .before .before .before .before .before .before .before .before .before .before .before .before .before .before .before .before .pre .0 .1 .in-ranges .counted .edges-fit, k .index-rows2 .ensures)
+    let k = c .before .before .before .before .before .before .before .before in (
+      lit≤ tt,
+      k .before .before .before .before .before .before .before .before .before .before .before .before .before .before
+          .before .before .before .pre .0 .1 .in-ranges .counted .edges-fit,
+      k .index-rows2 .ensures,
+    )
 
 find-nexts-requires : tie.Need-find-nexts-requires
 find-nexts-requires c κs =
-    let s = c .before .before .before .before .before .before .before .before .before .before .before .before .before .before .before .before .before .before .before .before .before .before .before .before .before .before .before .before .before in
-    (edges-in-order (s .pre .0 .1), s .pre .2, c .before .before .before .index-rows3 .ensures, omega (arith, s .pre .2, s .pre .5))
+    let s = c .before .before .before .before .before .before .before .before .before .before .before .before .before
+    .before .before .before .before .before .before .before .before .before .before .before .before .before .before
+    .before .before in (
+      edges-in-order (s .pre .0 .1),
+      s .pre .2,
+      c .before .before .before .index-rows3 .ensures,
+      omega (arith, s .pre .2, s .pre .5),
+    )
 
 returns-4 : tie.Need-returns-4
 returns-4 c =

@@ -7,7 +7,7 @@ use lib.ListN.{getD}
 use lib.Signed.{ltZ, pos-natAbs}
 use mir.Syntax.{w64}
 use mir.Facts.{toZ-ofZ}
-use Rattle.lists.specs.Scans.{any}
+use Rattle.lists.specs.Scans.{anyOf}
 use Rattle.map.specs.Rows.{nodeOf}
 use Rattle.tables.specs.Tables.{sameZ, column}
 use Rattle.tables.proofs.Rows.{face-rows-rising}
@@ -21,7 +21,8 @@ unfolding nodeOf
 returns c =
     let s = c .before .before .before in
     let z = getD (s .args .row .now) 3 (pos 0) in
-    let t : ltZ z (pos 0) ≡ true = subst (λ (x : ℤ). ltZ x (pos 0) ≡ true) (toZ-ofZ {w = w64} {z = z} (sfits-of (c .before .z .given))) (c .if1 .taken) in
+    let t : ltZ z (pos 0) ≡ true = subst (λ (x : ℤ). ltZ x (pos 0) ≡ true)
+    (toZ-ofZ {w = w64} {z = z} (sfits-of (c .before .z .given))) (c .if1 .taken) in
     no-face (faceMap (s .args .faces .now) (s .args .n)) z t
 
 exists-requires : tie.Need-exists-requires
@@ -36,7 +37,7 @@ returns-2 c =
     let f = toZ-ofZ {w = w64} {z = z} (sfits-of (c .before .before .z .given)) in
     let t : ltZ z (pos 0) ≡ false = subst (λ (x : ℤ). ltZ x (pos 0) ≡ false) f (c .before .if1 .left) in
     c .exists .ensures
-    ∙ ap (λ (x : ℤ). any (sameZ x) (column 1 (a .faces .now) (a .n))) (f ∙ sym (pos-natAbs z (not-negative z t)))
+    ∙ ap (λ (x : ℤ). anyOf (sameZ x) (column 1 (a .faces .now) (a .n))) (f ∙ sym (pos-natAbs z (not-negative z t)))
     ∙ face-named (s .pre .1) (natAbs z)
     ∙ a-face (faceMap (a .faces .now) (a .n)) z t
 

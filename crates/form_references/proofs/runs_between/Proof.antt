@@ -30,8 +30,10 @@ returns c =
     let e : s .args .k - 1 + 1 ≡ length (s .args .c .now) / 2 = omega (arith, s .pre .1, two-points run) in
     ap₂ _&&_
     (ap₂ _&&_
-    (y .same-point .ensures ∙ ap (λ (p : Point). samePoint p (s .args .u)) (y .before .point-at .ensures .0 ∙ curve-first run refl))
-    (z .same-point2 .ensures ∙ ap (λ (p : Point). samePoint p (s .args .v)) (z .before .point-at2 .ensures .0 ∙ curve-last run refl (s .args .k - 1) e)))
+    (y .same-point .ensures ∙ ap (λ (p : Point). samePoint p (s .args .u))
+    (y .before .point-at .ensures .0 ∙ curve-first run refl))
+    (z .same-point2 .ensures ∙ ap (λ (p : Point). samePoint p (s .args .v))
+    (z .before .point-at2 .ensures .0 ∙ curve-last run refl (s .args .k - 1) e)))
     (c .neighbours-differ .ensures)
 
 pub runs-between-spec : {M : Type 1} → statement M

@@ -18,7 +18,9 @@ returns : tie.Need-returns
 returns c =
     let b = c .before .before .before in
     let a = b .before .args in
-    chosen-past (wayWith (a .edges .now) (a .own) (a .c .now)) (wayTo (a .v .from) (a .v .to)) (a .h) (a .p) (wayTo (b .step-with .result .from) (b .step-with .result .to)) (c .before .before .later .result) (b .step-with .ensures .way) (c .before .before .later .ensures)
+    chosen-past (wayWith (a .edges .now) (a .own) (a .c .now)) (wayTo (a .v .from) (a .v .to)) (a .h) (a .p)
+    (wayTo (b .step-with .result .from) (b .step-with .result .to)) (c .before .before .later .result)
+    (b .step-with .ensures .way) (c .before .before .later .ensures)
     (sym (c .before .before2 .ensures) ∙ not-true _ (c .if1 .taken))
 
 later-requires-2 : tie.Need-later-requires-2
@@ -31,7 +33,9 @@ returns-2 c =
     let t = c .before .before in
     let b = t .before .before in
     let a = b .before .args in
-    chosen-under (wayWith (a .edges .now) (a .own) (a .c .now)) (wayTo (a .v .from) (a .v .to)) (a .h) (a .p) (wayTo (b .step-with .result .from) (b .step-with .result .to)) (t .before .later .result) (b .step-with .ensures .way) (t .before .later .ensures)
+    chosen-under (wayWith (a .edges .now) (a .own) (a .c .now)) (wayTo (a .v .from) (a .v .to)) (a .h) (a .p)
+    (wayTo (b .step-with .result .from) (b .step-with .result .to)) (t .before .later .result)
+    (b .step-with .ensures .way) (t .before .later .ensures)
     (c .later2 .result) (c .later2 .ensures) (sym (t .before2 .ensures) ∙ not-false _ (c .before .if1 .left))
 
 pub chosen-spec : {M : Type 1} → statement M

@@ -1,4 +1,5 @@
--- `links::departures_at` meets its contract: what is written, with what is left, is what is kept of all. Assumes nothing.
+-- `links::departures_at` meets its contract: what is written, with what is left, is what is kept of all. Assumes
+-- nothing.
 use mathlib.Core.Path.{_≡_, refl, sym, ap, _∙_}
 use mathlib.Core.Logic.{⊎-elim}
 use Prim.Native.Nat.{ℕ, _+_, _*_, _-_, _<_, _≤_}
@@ -18,19 +19,31 @@ use Rattle.links.proofs.departures_at.Tie as tie
 
 abbrev Inv-loop : tie.InvT-loop
 Inv-loop edges count node list₀ k₀ i₀ list k i =
-    (i ≤ count) × (k ≤ i * 2) × (length list ≡ length list₀) × (listed (leavesNode edges (toZ w64 node)) list k (i * 2) (count * 2) ≡ keep (leavesNode edges (toZ w64 node)) (positions count))
+    (i ≤ count) × (k ≤ i * 2) × (length list ≡ length list₀)
+    × (listed (leavesNode edges (toZ w64 node)) list k (i * 2) (count * 2)
+    ≡ keep (leavesNode edges (toZ w64 node)) (positions count))
 
 abbrev μ-loop : tie.MeasureT-loop
 μ-loop edges count node list₀ k₀ i₀ list k i = count - i
 
 loop-holds : tie.Need-loop-holds Inv-loop μ-loop
-loop-holds c = (omega arith, omega arith, refl, listed-all (leavesNode (c .args .edges .now) (toZ w64 (ofZ w64 (c .args .node)))) (c .args .list .now) (c .args .count * 2))
+loop-holds c = (
+  omega arith,
+  omega arith,
+  refl,
+  listed-all (leavesNode (c .args .edges .now) (toZ w64 (ofZ w64 (c .args .node)))) (c .args .list .now)
+      (c .args .count * 2),
+)
 
 in-row : tie.Need-shared-slice-copy-out-if1 Inv-loop μ-loop
 in-row c = omega (arith, c .before .before .pre .0 .fits)
 
 -- what the first test leaves
-first : (c : tie.Joined1 Inv-loop μ-loop) → Written (leavesNode (c .before .before .before .before .args .edges .now) (toZ w64 (ofZ w64 (c .before .before .before .before .args .node)))) (c .before .before .before .before .args .count * 2) (c .before .before .before .loop .i * 2) (c .before .before .before .loop .list) (c .before .before .before .loop .k) (c .if1 .list) (c .if1 .k)
+first : (c : tie.Joined1 Inv-loop μ-loop)
+    → Written (leavesNode (c .before .before .before .before .args .edges .now)
+    (toZ w64 (ofZ w64 (c .before .before .before .before .args .node))))
+    (c .before .before .before .before .args .count * 2) (c .before .before .before .loop .i * 2)
+    (c .before .before .before .loop .list) (c .before .before .before .loop .k) (c .if1 .list) (c .if1 .k)
 first c =
     let s = c .before .before .before .before in
     let a = s .args in
@@ -41,12 +54,19 @@ first c =
     let fits = sfits-of (c .before .if12 .given) in
     let cell = sym (side-even (a .edges .now) (l .i) 1) in
     ⊎-elim
-    (λ k. written-hit f (l .list) (l .k) (l .i * 2) n (c .if1 .list) (c .if1 .k) there (omega arith) (cell-is fits (s .fits .node) cell (k .0 .taken)) (k .1) (k .2))
-    (λ k. written-miss f (l .list) (l .k) (l .i * 2) n (c .if1 .list) (c .if1 .k) there (cell-differs fits (s .fits .node) cell (k .0 .left)) (k .1) (k .2))
+    (λ k. written-hit f (l .list) (l .k) (l .i * 2) n (c .if1 .list) (c .if1 .k) there (omega arith)
+    (cell-is fits (s .fits .node) cell (k .0 .taken)) (k .1) (k .2))
+    (λ k. written-miss f (l .list) (l .k) (l .i * 2) n (c .if1 .list) (c .if1 .k) there
+    (cell-differs fits (s .fits .node) cell (k .0 .left)) (k .1) (k .2))
     (c .if1 .came)
 
 -- and the second
-second : (c : tie.Joined2 Inv-loop μ-loop) → Written (leavesNode (c .before .before .before .before .before .before .args .edges .now) (toZ w64 (ofZ w64 (c .before .before .before .before .before .before .args .node)))) (c .before .before .before .before .before .before .args .count * 2) (c .before .before .before .before .before .loop .i * 2 + 1) (c .before .before .if1 .list) (c .before .before .if1 .k) (c .if2 .list) (c .if2 .k)
+second : (c : tie.Joined2 Inv-loop μ-loop)
+    → Written (leavesNode (c .before .before .before .before .before .before .args .edges .now)
+    (toZ w64 (ofZ w64 (c .before .before .before .before .before .before .args .node))))
+    (c .before .before .before .before .before .before .args .count * 2)
+    (c .before .before .before .before .before .loop .i * 2 + 1) (c .before .before .if1 .list)
+    (c .before .before .if1 .k) (c .if2 .list) (c .if2 .k)
 second c =
     let s = c .before .before .before .before .before .before in
     let a = s .args in
@@ -60,8 +80,10 @@ second c =
     let cell = sym (side-odd (a .edges .now) (l .i) 1) in
     let e = first (c .before .before) in
     ⊎-elim
-    (λ k. written-hit f (m .list) (m .k) p n (c .if2 .list) (c .if2 .k) there (omega (arith, e .long, e .most)) (cell-is fits (s .fits .node) cell (k .0 .taken)) (k .2) (k .3))
-    (λ k. written-miss f (m .list) (m .k) p n (c .if2 .list) (c .if2 .k) there (cell-differs fits (s .fits .node) cell (k .0 .left)) (k .1) (k .2))
+    (λ k. written-hit f (m .list) (m .k) p n (c .if2 .list) (c .if2 .k) there (omega (arith, e .long, e .most))
+    (cell-is fits (s .fits .node) cell (k .0 .taken)) (k .2) (k .3))
+    (λ k. written-miss f (m .list) (m .k) p n (c .if2 .list) (c .if2 .k) there
+    (cell-differs fits (s .fits .node) cell (k .0 .left)) (k .1) (k .2))
     (c .if2 .came)
 
 loop-again : tie.Need-loop-again Inv-loop μ-loop
@@ -84,8 +106,12 @@ returns c =
     let s = c .before .before in
     let a = s .args in
     let l = c .before .loop in
-    let f = leavesNode (a .edges .now) (toZ w64 (ofZ w64 (a .node))) in
-    (omega arith, l .inv .2, rw (toZ-ofZ {w = w64} (s .fits .node)) at (sym (listed-end f (l .list) (l .k) (l .i * 2) (a .count * 2) (omega arith)) ∙ l .inv .3))
+    let f = leavesNode (a .edges .now) (toZ w64 (ofZ w64 (a .node))) in (
+      omega arith,
+      l .inv .2,
+      rw (toZ-ofZ {w = w64} (s .fits .node)) at
+          (sym (listed-end f (l .list) (l .k) (l .i * 2) (a .count * 2) (omega arith)) ∙ l .inv .3),
+    )
 
 pub departures-at-spec : {M : Type 1} → statement M
 departures-at-spec =

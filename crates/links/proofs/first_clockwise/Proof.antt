@@ -19,7 +19,8 @@ use Rattle.lists.specs.declared.Found.the-variants.{At, Missing}
 use Rattle.lists.specs.Scans.{keep, fold}
 use Rattle.lists.specs.Tables.{table}
 use Rattle.links.proofs.Choices.{noChoice, scan-end, scan-all}
-use Rattle.links.proofs.ByRows.{known-of, cell-is, cell-differs, leaves-but, Passed, passed-chosen, passed-but, passed-other}
+use Rattle.links.proofs.ByRows.{known-of, cell-is, cell-differs, leaves-but, Passed, passed-chosen, passed-but}
+use Rattle.links.proofs.ByRows.{passed-other}
 use Rattle.links.proofs.first_clockwise.Statement.{statement}
 use Rattle.links.proofs.first_clockwise.Tie as tie
 use Rattle.links.proofs.first_clockwise.Reads as reads
@@ -57,11 +58,19 @@ chosen-requires c κs =
     let l = c .before .before .before .before .loop in
     let known = known-of (s .pre .0) (s .pre .1) in
     let t = c .before .before .before .loop-test .taken in
-    let x = l .inv .1 .all in
-    (known (l .i * 2) (omega arith), (λ e. known (l .h .all) (omega arith)), (λ e. known (l .h .below) (omega (arith, l .inv .1 .below e))), s .pre .2, s .pre .3)
+    let x = l .inv .1 .all in (
+      known (l .i * 2) (omega arith),
+      (λ e. known (l .h .all) (omega arith)),
+      (λ e. known (l .h .below) (omega (arith, l .inv .1 .below e))),
+      s .pre .2,
+      s .pre .3,
+    )
 
 -- the edge of row i passed
-halfway : (c : lts.Joined1 (chosen-reads.Asked, chosen-reads.Learnt) reads.Pre reads.Post Inv-loop μ-loop) → (let s = c .before .before .before .before in let a = s .args in Passed (wayWith (a .edges .now) (a .own) (a .c .now)) (wayTo (a .v .from) (a .v .to)) (a .edges .now) (toZ w64 (ofZ w64 (a .node))) (a .a) (a .b) (a .count * 2) (c .if1 .h) (c .before .before .before .loop .i * 2 + 1))
+halfway : (c : lts.Joined1 (chosen-reads.Asked, chosen-reads.Learnt) reads.Pre reads.Post Inv-loop μ-loop)
+    → (let s = c .before .before .before .before in let a = s .args in
+    Passed (wayWith (a .edges .now) (a .own) (a .c .now)) (wayTo (a .v .from) (a .v .to)) (a .edges .now)
+    (toZ w64 (ofZ w64 (a .node))) (a .a) (a .b) (a .count * 2) (c .if1 .h) (c .before .before .before .loop .i * 2 + 1))
 unfolding same
 halfway c =
     let s = c .before .before .before .before in
@@ -76,10 +85,13 @@ halfway c =
     let fits = sfits-of (c .before .if12 .given) in
     let cell = sym (side-even (a .edges .now) (l .i) 1) in
     ⊎-elim
-    (λ k. passed-chosen w v (a .edges .now) node (a .a) (a .b) n (l .inv .1) b (cell-is fits (s .fits .node) cell (k .0 .taken)) (k .1 .taken) (k .3 ∙ k .2 .ensures))
+    (λ k. passed-chosen w v (a .edges .now) node (a .a) (a .b) n (l .inv .1) b
+    (cell-is fits (s .fits .node) cell (k .0 .taken)) (k .1 .taken) (k .3 ∙ k .2 .ensures))
     (⊎-elim
-    (λ k. passed-but w v (a .edges .now) node (a .a) (a .b) n (l .inv .1) b (cell-is fits (s .fits .node) cell (k .0 .taken)) (k .1 .left) (k .2))
-    (λ k. passed-other w v (a .edges .now) node (a .a) (a .b) n (l .inv .1) b (cell-differs fits (s .fits .node) cell (k .0 .left)) (k .1)))
+    (λ k. passed-but w v (a .edges .now) node (a .a) (a .b) n (l .inv .1) b
+    (cell-is fits (s .fits .node) cell (k .0 .taken)) (k .1 .left) (k .2))
+    (λ k. passed-other w v (a .edges .now) node (a .a) (a .b) n (l .inv .1) b
+    (cell-differs fits (s .fits .node) cell (k .0 .left)) (k .1)))
     (c .if1 .came)
 
 mul-if3 : tie.Need-mul-if3 Inv-loop μ-loop
@@ -110,8 +122,13 @@ chosen-requires-2 c κs =
     let l = j .before .before .before .loop in
     let known = known-of (s .pre .0) (s .pre .1) in
     let t = j .before .before .loop-test .taken in
-    let x = halfway j .all in
-    (known (l .i * 2 + 1) (omega arith), (λ e. known (j .if1 .h .all) (omega arith)), (λ e. known (j .if1 .h .below) (omega (arith, halfway j .below e))), s .pre .2, s .pre .3)
+    let x = halfway j .all in (
+      known (l .i * 2 + 1) (omega arith),
+      (λ e. known (j .if1 .h .all) (omega arith)),
+      (λ e. known (j .if1 .h .below) (omega (arith, halfway j .below e))),
+      s .pre .2,
+      s .pre .3,
+    )
 
 add-i : tie.Need-add-i Inv-loop μ-loop
 add-i c = omega (arith, c .before .before .before .before .before .before .pre .0 .fits)
@@ -138,16 +155,21 @@ loop-again c =
       omega arith,
       subst (Passed w v (a .edges .now) node (a .a) (a .b) n (c .if3 .h)) e
           (⊎-elim
-          (λ k. passed-chosen w v (a .edges .now) node (a .a) (a .b) n (halfway j) b (cell-is fits (s .fits .node) cell (k .0 .taken)) (k .1 .taken) (k .3 ∙ k .2 .ensures))
+          (λ k. passed-chosen w v (a .edges .now) node (a .a) (a .b) n (halfway j) b
+          (cell-is fits (s .fits .node) cell (k .0 .taken)) (k .1 .taken) (k .3 ∙ k .2 .ensures))
           (⊎-elim
-          (λ k. passed-but w v (a .edges .now) node (a .a) (a .b) n (halfway j) b (cell-is fits (s .fits .node) cell (k .0 .taken)) (k .1 .left) (k .2))
-          (λ k. passed-other w v (a .edges .now) node (a .a) (a .b) n (halfway j) b (cell-differs fits (s .fits .node) cell (k .0 .left)) (k .1)))
+          (λ k. passed-but w v (a .edges .now) node (a .a) (a .b) n (halfway j) b
+          (cell-is fits (s .fits .node) cell (k .0 .taken)) (k .1 .left) (k .2))
+          (λ k. passed-other w v (a .edges .now) node (a .a) (a .b) n (halfway j) b
+          (cell-differs fits (s .fits .node) cell (k .0 .left)) (k .1)))
           (c .if3 .came)),
     )
 
 -- the choice at the loop's end answers
 answered : (c : lts.After-loop (chosen-reads.Asked, chosen-reads.Learnt) reads.Pre reads.Post Inv-loop μ-loop)
-    → (let a = c .before .before .args in answer (c .before .loop .h) ≡ firstMet (wayWith (a .edges .now) (a .own) (a .c .now)) (wayTo (a .v .from) (a .v .to)) (leaving (a .edges .now) (a .count) (a .node) (a .a) (a .b)))
+    → (let a = c .before .before .args in answer (c .before .loop .h)
+    ≡ firstMet (wayWith (a .edges .now) (a .own) (a .c .now)) (wayTo (a .v .from) (a .v .to))
+    (leaving (a .edges .now) (a .count) (a .node) (a .a) (a .b)))
 answered c =
     let s = c .before .before in
     let a = s .args in
@@ -159,24 +181,28 @@ answered c =
     ap answer (sym (scan-end w v f (l .h) (l .i * 2) (a .count * 2) (omega arith)) ∙ l .inv .1 .rest)
     ∙ ap (λ (m : ℕ). answer (fold (chosenOf w v) noChoice (keep f (table (λ p. p) 0 m)))) (sub-zero (a .count * 2))
     ∙ scan-all w v (keep f (positions (a .count)))
-    ∙ ap (λ (z : ℤ). firstMet w v (leaving (a .edges .now) (a .count) z (a .a) (a .b))) (toZ-ofZ {w = w64} (s .fits .node))
+    ∙ ap (λ (z : ℤ). firstMet w v (leaving (a .edges .now) (a .count) z (a .a) (a .b)))
+    (toZ-ofZ {w = w64} (s .fits .node))
 
 returns : tie.Need-returns Inv-loop μ-loop
 returns c =
     let h = c .before .before .loop .h in
-    let e : answer h ≡ At (h .below) = ap (λ (b : Bool). cond b (At (h .below)) (cond (h .any) (At (h .all)) Missing)) (c .if5 .taken) in
+    let e : answer h ≡ At (h .below) = ap (λ (b : Bool). cond b (At (h .below)) (cond (h .any) (At (h .all)) Missing))
+    (c .if5 .taken) in
     sym e ∙ answered (c .before)
 
 returns-2 : tie.Need-returns-2 Inv-loop μ-loop
 returns-2 c =
     let h = c .before .before .before .loop .h in
-    let e : answer h ≡ At (h .all) = ap (λ (b : Bool). cond b (At (h .below)) (cond (h .any) (At (h .all)) Missing)) (c .before .if5 .left) ∙ ap (λ (b : Bool). cond b (At (h .all)) Missing) (c .if6 .taken) in
+    let e : answer h ≡ At (h .all) = ap (λ (b : Bool). cond b (At (h .below)) (cond (h .any) (At (h .all)) Missing))
+    (c .before .if5 .left) ∙ ap (λ (b : Bool). cond b (At (h .all)) Missing) (c .if6 .taken) in
     sym e ∙ answered (c .before .before)
 
 returns-3 : tie.Need-returns-3 Inv-loop μ-loop
 returns-3 c =
     let h = c .before .before .before .loop .h in
-    let e : answer h ≡ Missing = ap (λ (b : Bool). cond b (At (h .below)) (cond (h .any) (At (h .all)) Missing)) (c .before .if5 .left) ∙ ap (λ (b : Bool). cond b (At (h .all)) Missing) (c .if6 .left) in
+    let e : answer h ≡ Missing = ap (λ (b : Bool). cond b (At (h .below)) (cond (h .any) (At (h .all)) Missing))
+    (c .before .if5 .left) ∙ ap (λ (b : Bool). cond b (At (h .all)) Missing) (c .if6 .left) in
     sym e ∙ answered (c .before .before)
 
 pub first-clockwise-spec : {M : Type 1} → statement M

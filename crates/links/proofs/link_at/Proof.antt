@@ -19,7 +19,8 @@ use Rattle.links.proofs.link_at.Statement.{statement}
 use Rattle.links.proofs.link_at.Tie as tie
 
 dart-at-requires : tie.Need-dart-at-requires
-dart-at-requires c κs = edge-row-of (c .before .pre .0) (c .before .args .p / 2) (let h = c .before .pre .1 in omega arith)
+dart-at-requires c κs = edge-row-of (c .before .pre .0) (c .before .args .p / 2)
+    (let h = c .before .pre .1 in omega arith)
 
 set-dart-cell-requires : tie.Need-set-dart-cell-requires
 set-dart-cell-requires c κs =
@@ -37,10 +38,12 @@ returns c =
     let s = q .before .before in
     let a = s .args in
     let l = a .edges .now in
-    let e : toZ w64 (ofZ w64 (q .dart-at .result)) ≡ dartCell (dartAt l (a .p)) = toZ-ofZ {w = w64} (sfits-of (q .dart-at .ok)) ∙ q .dart-at .ensures in
+    let e : toZ w64 (ofZ w64 (q .dart-at .result)) ≡ dartCell (dartAt l (a .p)) =
+    toZ-ofZ {w = w64} (sfits-of (q .dart-at .ok)) ∙ q .dart-at .ensures in
     let f : toZ w64 (ofZ w64 (a .c)) ≡ a .c = toZ-ofZ {w = w64} (s .fits .c) in
     b .set-dart-cell .ensures
-    ∙ ap₂ (λ (t : List ℤ) (j : ℕ). set t (sidePlace j 3) (toZ w64 (ofZ w64 (a .c)))) (d .redirect .ensures) (b .before .reverse .ensures)
+    ∙ ap₂ (λ (t : List ℤ) (j : ℕ). set t (sidePlace j 3) (toZ w64 (ofZ w64 (a .c)))) (d .redirect .ensures)
+    (b .before .reverse .ensures)
     ∙ ap₂ (λ (z w : ℤ). set (redirected z w l (a .count)) (sidePlace (reverseOf (a .p)) 3) z) f e
 
 pub link-at-spec : {M : Type 1} → statement M

@@ -15,14 +15,19 @@ link-in-requires-2 : tie.Need-link-in-requires-2
 link-in-requires-2 c κs =
     let s = c .before .before .before .before in
     let p = (s .args .count - 1) * 2 in
-    let some = s .pre .1 in
-    (subst (λ (t : List ℤ). EdgeRows t (s .args .count)) (sym (c .before .before .link-in .ensures)) (linked-in-kept (s .pre .0) p (omega arith) (p + 1)), omega arith, s .pre .2)
+    let some = s .pre .1 in (
+      subst (λ (t : List ℤ). EdgeRows t (s .args .count)) (sym (c .before .before .link-in .ensures))
+          (linked-in-kept (s .pre .0) p (omega arith) (p + 1)),
+      omega arith,
+      s .pre .2,
+    )
 
 returns : tie.Need-returns
 returns c =
     let a = c .before .before .before .before .before .before .args in
     let p = (a .count - 1) * 2 in
-    c .before .link-in2 .ensures ∙ ap (λ (t : List ℤ). linkedIn t (a .count) (p + 1) (p + 1)) (c .before .before .before .before .link-in .ensures)
+    c .before .link-in2 .ensures ∙ ap (λ (t : List ℤ). linkedIn t (a .count) (p + 1) (p + 1))
+    (c .before .before .before .before .link-in .ensures)
 
 pub link-edge-spec : {M : Type 1} → statement M
 link-edge-spec =

@@ -20,14 +20,16 @@ dart-at-requires c κs =
     let f = c .before .before in
     let m = f .before .before in
     let s = m .before .before in
-    let b = met-below (s .pre .0) (s .args .p) (s .pre .1) (s .args .other) (f .found .given .0 .0) (sym (m .met .ensures) ∙ f .found .given .1) in
+    let b = met-below (s .pre .0) (s .args .p) (s .pre .1) (s .args .other) (f .found .given .0 .0)
+    (sym (m .met .ensures) ∙ f .found .given .1) in
     edge-row-of (s .pre .0) (f .found .given .0 .0 / 2) (omega arith)
 
 enum-told : tie.Need-enum-told
 enum-told c = search needs
 
 dart-at-requires-2 : tie.Need-dart-at-requires-2
-dart-at-requires-2 c κs = let s = c .before .before .before .before .before in edge-row-of (s .pre .0) (s .args .p / 2) (let h = s .pre .1 in omega arith)
+dart-at-requires-2 c κs = let s = c .before .before .before .before .before in
+    edge-row-of (s .pre .0) (s .args .p / 2) (let h = s .pre .1 in omega arith)
 
 returns : tie.Need-returns
 returns c =
@@ -36,8 +38,10 @@ returns c =
     let m = f .before .before in
     let a = m .before .before .args in
     let l = a .edges .now in
-    let e : toZ w64 (ofZ w64 (d .result)) ≡ dartCell (dartAt l (f .found .given .0 .0)) = toZ-ofZ {w = w64} (sfits-of (d .ok)) ∙ d .ensures in
-    c .before .link-at .ensures ∙ ap (linkedAt l (a .count) (a .p)) e ∙ sym (ap (linkedWhere l (a .count) (a .p)) (sym (m .met .ensures) ∙ f .found .given .1))
+    let e : toZ w64 (ofZ w64 (d .result)) ≡ dartCell (dartAt l (f .found .given .0 .0)) =
+    toZ-ofZ {w = w64} (sfits-of (d .ok)) ∙ d .ensures in
+    c .before .link-at .ensures ∙ ap (linkedAt l (a .count) (a .p)) e
+    ∙ sym (ap (linkedWhere l (a .count) (a .p)) (sym (m .met .ensures) ∙ f .found .given .1))
 
 returns-2 : tie.Need-returns-2
 returns-2 c =
@@ -46,8 +50,10 @@ returns-2 c =
     let m = f .before .before in
     let a = m .before .before .args in
     let l = a .edges .now in
-    let e : toZ w64 (ofZ w64 (d .result)) ≡ dartCell (dartAt l (a .p)) = toZ-ofZ {w = w64} (sfits-of (d .ok)) ∙ d .ensures in
-    c .before .link-at2 .ensures ∙ ap (linkedAt l (a .count) (a .p)) e ∙ sym (ap (linkedWhere l (a .count) (a .p)) (sym (m .met .ensures) ∙ f .enum-told .given .1))
+    let e : toZ w64 (ofZ w64 (d .result)) ≡ dartCell (dartAt l (a .p)) = toZ-ofZ {w = w64} (sfits-of (d .ok))
+    ∙ d .ensures in
+    c .before .link-at2 .ensures ∙ ap (linkedAt l (a .count) (a .p)) e
+    ∙ sym (ap (linkedWhere l (a .count) (a .p)) (sym (m .met .ensures) ∙ f .enum-told .given .1))
 
 pub link-in-spec : {M : Type 1} → statement M
 link-in-spec =

@@ -21,7 +21,12 @@ step-at-requires : tie.Need-step-at-requires
 step-at-requires c κs = let s = c .before in edge-row-of (s .pre .0) (s .args .p / 2) (let h = s .pre .1 in omega arith)
 
 first-clockwise-requires : tie.Need-first-clockwise-requires
-first-clockwise-requires c κs = (c .before .before .before .pre .0, (λ h. absurd (omega arith)), c .before .step-at .ensures .from, c .before .step-at .ensures .to)
+first-clockwise-requires c κs = (
+  c .before .before .before .pre .0,
+  (λ h. absurd (omega arith)),
+  c .before .step-at .ensures .from,
+  c .before .step-at .ensures .to,
+)
 
 returns : tie.Need-returns
 returns c =
@@ -30,11 +35,14 @@ returns c =
     let l = a .edges .now in
     let n = a .count in
     let node = b .before .dart-cell in
-    let e : toZ w64 (ofZ w64 (node .result)) ≡ sideCell l (a .p) 1 = toZ-ofZ {w = w64} (sfits-of (node .ok)) ∙ node .ensures in
+    let e : toZ w64 (ofZ w64 (node .result)) ≡ sideCell l (a .p) 1 = toZ-ofZ {w = w64} (sfits-of (node .ok))
+    ∙ node .ensures in
     let ds = leaving l n (sideCell l (a .p) 1) (a .p) (a .other) in
     c .first-clockwise .ensures
-    ∙ ap₂ (λ (v : Way) (z : ℤ). firstMet (wayWith l n []) v (leaving l n z (a .p) (a .other))) (b .step-at .ensures .way) e
-    ∙ met-same (wayAt l) (wayWith l n []) (wayAt l (a .p)) ds (λ q m. with-none l n [] q (let h = leaving-below l n (sideCell l (a .p) 1) (a .p) (a .other) q m in omega arith))
+    ∙ ap₂ (λ (v : Way) (z : ℤ). firstMet (wayWith l n []) v (leaving l n z (a .p) (a .other)))
+    (b .step-at .ensures .way) e
+    ∙ met-same (wayAt l) (wayWith l n []) (wayAt l (a .p)) ds
+    (λ q m. with-none l n [] q (let h = leaving-below l n (sideCell l (a .p) 1) (a .p) (a .other) q m in omega arith))
 
 pub met-spec : {M : Type 1} → statement M
 met-spec =

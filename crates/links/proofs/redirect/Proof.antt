@@ -1,5 +1,5 @@
--- `links::redirect` meets its contract: one pass over the rows left, from what the rows passed left, is the two sweeps of all.
--- Assumes nothing.
+-- `links::redirect` meets its contract: one pass over the rows left, from what the rows passed left, is the two sweeps
+-- of all. Assumes nothing.
 use mathlib.Core.Path.{_≡_, refl, sym, ap, _∙_}
 use mathlib.Core.Logic.{⊎-elim}
 use mathlib.Core.List.{List}
@@ -32,13 +32,18 @@ row old new t i = link 4 old new (link 3 old new t i) i
 
 abbrev Inv-loop : tie.InvT-loop
 Inv-loop edges₀ count old new i₀ edges i =
-    (i ≤ count) × (length edges ≡ length edges₀) × (sweep (row (toZ w64 old) (toZ w64 new)) edges i (count - i) ≡ sweep (row (toZ w64 old) (toZ w64 new)) edges₀ 0 count)
+    (i ≤ count) × (length edges ≡ length edges₀)
+    × (sweep (row (toZ w64 old) (toZ w64 new)) edges i (count - i)
+    ≡ sweep (row (toZ w64 old) (toZ w64 new)) edges₀ 0 count)
 
 abbrev μ-loop : tie.MeasureT-loop
 μ-loop edges₀ count old new i₀ edges i = count - i
 
 -- the first link of the row
-left : (c : tie.Joined1 Inv-loop μ-loop) → (let a = c .before .before .before .before .args in c .if1 .edges ≡ link 3 (toZ w64 (ofZ w64 (a .old))) (toZ w64 (ofZ w64 (a .new))) (c .before .before .before .loop .edges) (c .before .before .before .loop .i))
+left : (c : tie.Joined1 Inv-loop μ-loop)
+    → (let a = c .before .before .before .before .args in c .if1 .edges
+    ≡ link 3 (toZ w64 (ofZ w64 (a .old))) (toZ w64 (ofZ w64 (a .new))) (c .before .before .before .loop .edges)
+    (c .before .before .before .loop .i))
 left c =
     let s = c .before .before .before .before in
     let a = s .args in
@@ -47,12 +52,16 @@ left c =
     let new = toZ w64 (ofZ w64 (a .new)) in
     let read : old ≡ a .old = toZ-ofZ {w = w64} (s .fits .old) in
     ⊎-elim
-    (λ w. w .1 ∙ sym (replace-hit old new (l .edges) (l .i * 32 + 3) (word-is (sfits-of (c .before .if12 .given)) (s .fits .old) (w .0 .taken) ∙ sym read)))
+    (λ w. w .1 ∙ sym (replace-hit old new (l .edges) (l .i * 32 + 3)
+    (word-is (sfits-of (c .before .if12 .given)) (s .fits .old) (w .0 .taken) ∙ sym read)))
     (λ w. w .1 ∙ sym (replace-miss old new (l .edges) (l .i * 32 + 3) (λ e. w .0 .left (ap (ofZ w64) (e ∙ read)))))
     (c .if1 .came)
 
 -- and the second
-right : (c : tie.Joined2 Inv-loop μ-loop) → (let a = c .before .before .before .before .before .before .args in c .if2 .edges ≡ link 4 (toZ w64 (ofZ w64 (a .old))) (toZ w64 (ofZ w64 (a .new))) (c .before .before .if1 .edges) (c .before .before .before .before .before .loop .i))
+right : (c : tie.Joined2 Inv-loop μ-loop)
+    → (let a = c .before .before .before .before .before .before .args in c .if2 .edges
+    ≡ link 4 (toZ w64 (ofZ w64 (a .old))) (toZ w64 (ofZ w64 (a .new))) (c .before .before .if1 .edges)
+    (c .before .before .before .before .before .loop .i))
 right c =
     let s = c .before .before .before .before .before .before in
     let a = s .args in
@@ -62,15 +71,18 @@ right c =
     let new = toZ w64 (ofZ w64 (a .new)) in
     let read : old ≡ a .old = toZ-ofZ {w = w64} (s .fits .old) in
     ⊎-elim
-    (λ w. w .1 ∙ sym (replace-hit old new t (i * 32 + 4) (word-is (sfits-of (c .before .if22 .given)) (s .fits .old) (w .0 .taken) ∙ sym read)))
+    (λ w. w .1 ∙ sym (replace-hit old new t (i * 32 + 4)
+    (word-is (sfits-of (c .before .if22 .given)) (s .fits .old) (w .0 .taken) ∙ sym read)))
     (λ w. w .1 ∙ sym (replace-miss old new t (i * 32 + 4) (λ e. w .0 .left (ap (ofZ w64) (e ∙ read)))))
     (c .if2 .came)
 
-long : (c : tie.Joined1 Inv-loop μ-loop) → length (c .if1 .edges) ≡ length (c .before .before .before .before .args .edges .now)
+long : (c : tie.Joined1 Inv-loop μ-loop) → length (c .if1 .edges)
+    ≡ length (c .before .before .before .before .args .edges .now)
 long c =
     let a = c .before .before .before .before .args in
     let l = c .before .before .before .loop in
-    ap length (left c) ∙ replace-length (toZ w64 (ofZ w64 (a .old))) (toZ w64 (ofZ w64 (a .new))) (l .edges) (l .i * 32 + 3) ∙ l .inv .1
+    ap length (left c) ∙ replace-length (toZ w64 (ofZ w64 (a .old))) (toZ w64 (ofZ w64 (a .new))) (l .edges)
+    (l .i * 32 + 3) ∙ l .inv .1
 
 loop-again : tie.Need-loop-again Inv-loop μ-loop
 loop-again c =
@@ -79,10 +91,14 @@ loop-again c =
     let l = c .before .before .before .before .before .loop in
     let old = toZ w64 (ofZ w64 (a .old)) in
     let new = toZ w64 (ofZ w64 (a .new)) in
-    let turn : c .if2 .edges ≡ row old new (l .edges) (l .i) = right c ∙ ap (λ (t : List ℤ). link 4 old new t (l .i)) (left (c .before .before)) in (
+    let turn : c .if2 .edges ≡ row old new (l .edges) (l .i) = right c
+    ∙ ap (λ (t : List ℤ). link 4 old new t (l .i)) (left (c .before .before)) in (
       omega arith,
-      ap length (right c) ∙ replace-length old new (c .before .before .if1 .edges) (l .i * 32 + 4) ∙ long (c .before .before),
-      ap (λ (t : List ℤ). sweep (row old new) t (l .i + 1) (a .count - (l .i + 1))) turn ∙ sym (sweep-step (row old new) (l .edges) (l .i) (a .count) (c .before .before .before .before .loop-test .taken)) ∙ l .inv .2,
+      ap length (right c) ∙ replace-length old new (c .before .before .if1 .edges) (l .i * 32 + 4)
+          ∙ long (c .before .before),
+      ap (λ (t : List ℤ). sweep (row old new) t (l .i + 1) (a .count - (l .i + 1))) turn
+          ∙ sym (sweep-step (row old new) (l .edges) (l .i) (a .count)
+          (c .before .before .before .before .loop-test .taken)) ∙ l .inv .2,
     )
 
 returns : tie.Need-returns Inv-loop μ-loop
@@ -94,7 +110,8 @@ returns c =
     let new = toZ w64 (ofZ w64 (a .new)) in
     let e : l .edges ≡ redirected old new (a .edges .now) (a .count) =
     sym (sweep-end (row old new) (l .edges) (l .i) (a .count) (c .loop-test .left)) ∙ l .inv .2
-    ∙ sym (one-pass (link 3 old new) (link 4 old new) (λ t i j. replace-swap old new t (i * 32 + 4) (j * 32 + 3) (λ q. omega arith)) (a .count) 0 (a .edges .now)) in
+    ∙ sym (one-pass (link 3 old new) (link 4 old new)
+    (λ t i j. replace-swap old new t (i * 32 + 4) (j * 32 + 3) (λ q. omega arith)) (a .count) 0 (a .edges .now)) in
     rw (toZ-ofZ {w = w64} (s .fits .old), toZ-ofZ {w = w64} (s .fits .new)) at e
 
 pub redirect-spec : {M : Type 1} → statement M

@@ -12,7 +12,7 @@ use borrow.Author.Needs.{sfits-of}
 use Rattle.lists.proofs.Scans.{any-hit, any-miss, any-end}
 use Rattle.tables.proofs.Rows.{edge-row-of}
 use Rattle.lists.specs.Tests.{same}
-use Rattle.lists.specs.Scans.{any}
+use Rattle.lists.specs.Scans.{anyOf}
 use Rattle.lists.specs.Tables.{table}
 use Rattle.plane.specs.Directions.{wayTo}
 use Rattle.links.specs.Linking.{positions}
@@ -26,12 +26,12 @@ use Rattle.darts.proofs.step_at.Reads as step-at-reads
 
 -- whether one of the positions left has the direction
 abbrev anyFrom : (ℕ → Bool) → ℕ → ℕ → Bool
-anyFrom f p n = any f (table (λ q. q) p (n - p))
+anyFrom f p n = anyOf f (table (λ q. q) p (n - p))
 
 abbrev Inv-loop : tie.InvT-loop
 Inv-loop edges count node own v i₀ i =
     let f = taken edges (toZ w64 node) own (wayTo (v .from) (v .to)) in
-    (i ≤ count) × (anyFrom f (i * 2) (count * 2) ≡ any f (positions count))
+    (i ≤ count) × (anyFrom f (i * 2) (count * 2) ≡ anyOf f (positions count))
 
 abbrev μ-loop : tie.MeasureT-loop
 μ-loop edges count node own v i₀ i = count - i
@@ -78,11 +78,19 @@ returns c =
     let near = near-start (a .edges .now) (a .own) (l .i) (s .fits .node) (sfits-of (b .if12 .given)) in
     rw (toZ-ofZ {w = w64} (s .fits .node)) at
     (sym (any-hit (λ q. q) (l .i * 2) (a .count * 2) (taken (a .edges .now) node (a .own) v) (omega arith)
-    (taken-here (a .edges .now) node (a .own) v (l .i * 2) near (c .before .same-way .ensures) (c .before .before .step-at .ensures .way) (c .before .before .before .if1 .taken) (c .if2 .taken))) ∙ l .inv .1)
+    (taken-here (a .edges .now) node (a .own) v (l .i * 2) near (c .before .same-way .ensures)
+    (c .before .before .step-at .ensures .way) (c .before .before .before .if1 .taken) (c .if2 .taken))) ∙ l .inv .1)
 
 -- the edge of row i passed
-halfway : (c : lts.Joined1 (step-at-reads.Asked, step-at-reads.Learnt, same-way-reads.Asked, same-way-reads.Learnt) reads.Pre reads.Post Inv-loop μ-loop)
-    → (let a = c .before .before .before .before .args in let f = taken (a .edges .now) (toZ w64 (ofZ w64 (a .node))) (a .own) (wayTo (a .v .from) (a .v .to)) in anyFrom f (c .before .before .before .loop .i * 2 + 1) (a .count * 2) ≡ any f (positions (a .count)))
+halfway : (c : lts.Joined1 (
+  step-at-reads.Asked,
+  step-at-reads.Learnt,
+  same-way-reads.Asked,
+  same-way-reads.Learnt,
+) reads.Pre reads.Post Inv-loop μ-loop)
+    → (let a = c .before .before .before .before .args in let f =
+    taken (a .edges .now) (toZ w64 (ofZ w64 (a .node))) (a .own) (wayTo (a .v .from) (a .v .to)) in
+    anyFrom f (c .before .before .before .loop .i * 2 + 1) (a .count * 2) ≡ anyOf f (positions (a .count)))
 unfolding same
 halfway c =
     let b = c .before in
@@ -94,7 +102,9 @@ halfway c =
     let t = b .before .loop-test .taken in
     let near = near-start (a .edges .now) (a .own) (l .i) (s .fits .node) (sfits-of (b .if12 .given)) in
     sym (any-miss (λ q. q) (l .i * 2) (a .count * 2) (taken (a .edges .now) node (a .own) v) (omega arith)
-    (⊎-elim (λ k. taken-past (a .edges .now) node (a .own) v (l .i * 2) near (k .2 .ensures) (k .1 .ensures .way) (k .3 .left)) (λ k. taken-none (a .edges .now) node (a .own) v (l .i * 2) near (k .left)) (c .if1 .came))) ∙ l .inv .1
+    (⊎-elim (λ k. taken-past (a .edges .now) node (a .own) v (l .i * 2) near (k .2 .ensures) (k .1 .ensures .way)
+    (k .3 .left)) (λ k. taken-none (a .edges .now) node (a .own) v (l .i * 2) near (k .left)) (c .if1 .came)))
+    ∙ l .inv .1
 
 mul-if3 : tie.Need-mul-if3 Inv-loop μ-loop
 mul-if3 c = omega (arith, c .before .before .before .before .pre .0 .fits)
@@ -139,7 +149,8 @@ returns-2 c =
     let near = near-end (a .edges .now) (a .own) (l .i) (s .fits .node) (sfits-of (d .if32 .given)) in
     rw (toZ-ofZ {w = w64} (s .fits .node)) at
     (sym (any-hit (λ q. q) (l .i * 2 + 1) (a .count * 2) (taken (a .edges .now) node (a .own) v) (omega arith)
-    (taken-here (a .edges .now) node (a .own) v (l .i * 2 + 1) near (c .before .same-way2 .ensures) (c .before .before .step-at2 .ensures .way) (c .before .before .before .if3 .taken) (c .if4 .taken))) ∙ halfway j)
+    (taken-here (a .edges .now) node (a .own) v (l .i * 2 + 1) near (c .before .same-way2 .ensures)
+    (c .before .before .step-at2 .ensures .way) (c .before .before .before .if3 .taken) (c .if4 .taken))) ∙ halfway j)
 
 add-i : tie.Need-add-i Inv-loop μ-loop
 add-i c = omega (arith, c .before .before .before .before .before .before .pre .0 .fits)
@@ -159,9 +170,11 @@ loop-again c =
     let near = near-end (a .edges .now) (a .own) (l .i) (s .fits .node) (sfits-of (d .if32 .given)) in
     let e : l .i * 2 + 1 + 1 ≡ (l .i + 1) * 2 = omega arith in (
       omega arith,
-      subst (λ (p : ℕ). anyFrom f p (a .count * 2) ≡ any f (positions (a .count))) e
+      subst (λ (p : ℕ). anyFrom f p (a .count * 2) ≡ anyOf f (positions (a .count))) e
           (sym (any-miss (λ q. q) (l .i * 2 + 1) (a .count * 2) f (omega arith)
-          (⊎-elim (λ k. taken-past (a .edges .now) node (a .own) v (l .i * 2 + 1) near (k .2 .ensures) (k .1 .ensures .way) (k .3 .left)) (λ k. taken-none (a .edges .now) node (a .own) v (l .i * 2 + 1) near (k .left)) (c .if3 .came))) ∙ halfway j),
+          (⊎-elim (λ k. taken-past (a .edges .now) node (a .own) v (l .i * 2 + 1) near (k .2 .ensures)
+          (k .1 .ensures .way) (k .3 .left))
+          (λ k. taken-none (a .edges .now) node (a .own) v (l .i * 2 + 1) near (k .left)) (c .if3 .came))) ∙ halfway j),
     )
 
 returns-3 : tie.Need-returns-3 Inv-loop μ-loop
@@ -171,7 +184,9 @@ returns-3 c =
     let a = s .args in
     let t = c .loop-test .left in
     rw (toZ-ofZ {w = w64} (s .fits .node)) at
-    (sym (any-end (λ q. q) (l .i * 2) (a .count * 2) (taken (a .edges .now) (toZ w64 (ofZ w64 (a .node))) (a .own) (wayTo (a .v .from) (a .v .to))) (omega arith)) ∙ l .inv .1)
+    (sym (any-end (λ q. q) (l .i * 2) (a .count * 2)
+    (taken (a .edges .now) (toZ w64 (ofZ w64 (a .node))) (a .own) (wayTo (a .v .from) (a .v .to))) (omega arith))
+    ∙ l .inv .1)
 
 pub way-taken-spec : {M : Type 1} → statement M
 way-taken-spec =

@@ -16,18 +16,23 @@ use Rattle.map_rows.proofs.write_edge.Tie as tie
 
 slice-aggregate-write-2 : tie.Need-slice-aggregate-write-2
 slice-aggregate-write-2 c =
-    let s = c .before .before .before .before .before .before .before .before .before .before .before .before .before .before .before in
-    let e : length (s .args .l .cells) ≡ 24 = length-unmapped ℤ (s .args .l .cells) 24 (s .good .1 .1 .1 .0 .1 .1 .1 .0 .1 .0 .1) in sym e
+    let s = c .before .before .before .before .before .before .before .before .before .before .before .before .before
+    .before .before in
+    let e : length (s .args .l .cells) ≡ 24 =
+    length-unmapped ℤ (s .args .l .cells) 24 (s .good .1 .1 .1 .0 .1 .1 .1 .0 .1 .0 .1) in sym e
 
 write-requires-2 : tie.Need-write-requires-2
 write-requires-2 c κs =
-    let s = c .before .before .before .before .before .before .before .before .before .before .before .before .before .before .before in
-    let e : length (s .args .l .cells) ≡ 24 = length-unmapped ℤ (s .args .l .cells) 24 (s .good .1 .1 .1 .0 .1 .1 .1 .0 .1 .0 .1) in
+    let s = c .before .before .before .before .before .before .before .before .before .before .before .before .before
+    .before .before in
+    let e : length (s .args .l .cells) ≡ 24 =
+    length-unmapped ℤ (s .args .l .cells) 24 (s .good .1 .1 .1 .0 .1 .1 .1 .0 .1 .0 .1) in
     omega (arith, e, c .before .before .before .before .write .kept .0)
 
 returns : tie.Need-returns
 returns c =
-    let s = c .before .before .before .before .before .before .before .before .before .before .before .before .before .before .before .before .before in
+    let s = c .before .before .before .before .before .before .before .before .before .before .before .before .before
+    .before .before .before .before in
     let d = s .args .edges .now in
     let at = s .args .i * 32 in
     let r = s .args .s in
@@ -41,12 +46,15 @@ returns c =
     let n₆ : SFits w64 (r .left) = search needs in
     let n₇ : SFits w64 (r .right) = search needs in
     let count : toZ w64 (l .count) ≡ pos (l .count) = toZ-pos w64 (omega (arith, s .pre .1)) in
-    let head = r .number ∷ r .start ∷ r .end ∷ r .«next_left» ∷ r .«next_right» ∷ r .left ∷ r .right ∷ pos (l .count) ∷ [] in
+    let head = r .number ∷ r .start ∷ r .end ∷ r .«next_left» ∷ r .«next_right» ∷ r .left ∷ r .right ∷ pos (l .count)
+    ∷ [] in
     let first : c .before .before .before .before .before .before .write .last .0
     ≡ paste d at head 8 =
     c .before .before .before .before .before .before .write .ensures
-    ∙ (λ t. paste d at (toZ-ofZ n₁ t ∷ toZ-ofZ n₂ t ∷ toZ-ofZ n₃ t ∷ toZ-ofZ n₄ t ∷ toZ-ofZ n₅ t ∷ toZ-ofZ n₆ t ∷ toZ-ofZ n₇ t ∷ count t ∷ []) 8) in
-    c .before .write2 .ensures ∙ (λ t. paste (first t) (at + 8) (l .cells) (e t)) ∙ paste-paste d head (l .cells) at 8 24 refl e (omega (arith, s .pre .0))
+    ∙ (λ t. paste d at (toZ-ofZ n₁ t ∷ toZ-ofZ n₂ t ∷ toZ-ofZ n₃ t ∷ toZ-ofZ n₄ t ∷ toZ-ofZ n₅ t ∷ toZ-ofZ n₆ t
+    ∷ toZ-ofZ n₇ t ∷ count t ∷ []) 8) in
+    c .before .write2 .ensures ∙ (λ t. paste (first t) (at + 8) (l .cells) (e t))
+    ∙ paste-paste d head (l .cells) at 8 24 refl e (omega (arith, s .pre .0))
 
 pub write-edge-spec : {M : Type 1} → statement M
 write-edge-spec =

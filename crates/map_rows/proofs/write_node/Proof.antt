@@ -11,7 +11,12 @@ returns c =
     let s = c .before .before .before .before in
     let a = s .args in
     c .before .write .ensures
-    ∙ rw (toZ-ofZ {w = w64} {z = a .number} (s .fits .number), toZ-ofZ {w = w64} {z = a .x} (s .fits .x), toZ-ofZ {w = w64} {z = a .y} (s .fits .y), toZ-ofZ {w = w64} {z = a .face} (s .fits .face))
+    ∙ rw (
+      toZ-ofZ {w = w64} {z = a .number} (s .fits .number),
+      toZ-ofZ {w = w64} {z = a .x} (s .fits .x),
+      toZ-ofZ {w = w64} {z = a .y} (s .fits .y),
+      toZ-ofZ {w = w64} {z = a .face} (s .fits .face),
+    )
 
 pub write-node-spec : {M : Type 1} → statement M
 write-node-spec =

@@ -12,13 +12,18 @@ returns c = rw (sym (c .before .segments-meet .ensures) ∙ not-true _ (c .if1 .
 
 returns-2 : tie.Need-returns-2
 unfolding contact
-returns-2 c = rw (sym (c .before .before .before .segments-meet .ensures) ∙ not-false _ (c .before .before .if1 .left), sym (c .before .segments-stretch .ensures) ∙ c .if2 .taken)
+returns-2 c = rw (
+  sym (c .before .before .before .segments-meet .ensures)
+      ∙ not-false _ (c .before .before .if1 .left),
+  sym (c .before .segments-stretch .ensures) ∙ c .if2 .taken,
+)
 
 returns-3 : tie.Need-returns-3
 unfolding contact
 returns-3 c =
     rw (
-      sym (c .before .before .before .before .before .segments-meet .ensures) ∙ not-false _ (c .before .before .before .before .if1 .left),
+      sym (c .before .before .before .before .before .segments-meet .ensures)
+          ∙ not-false _ (c .before .before .before .before .if1 .left),
       sym (c .before .before .before .segments-stretch .ensures) ∙ c .before .before .if2 .left,
       sym (c .before .end-touches .ensures) ∙ c .if3 .taken,
     )
@@ -28,7 +33,8 @@ returns-4 : tie.Need-returns-4
 unfolding contact
 returns-4 c =
     rw (
-      sym (c .before .before .before .before .before .segments-meet .ensures) ∙ not-false _ (c .before .before .before .before .if1 .left),
+      sym (c .before .before .before .before .before .segments-meet .ensures)
+          ∙ not-false _ (c .before .before .before .before .if1 .left),
       sym (c .before .before .before .segments-stretch .ensures) ∙ c .before .before .if2 .left,
       sym (c .before .end-touches .ensures) ∙ c .if3 .left,
     )

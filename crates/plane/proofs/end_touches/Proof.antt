@@ -21,7 +21,8 @@ returns-3 : tie.Need-returns-3
 unfolding ended
 returns-3 c =
     rw (
-      sym (c .before .before .before .before .before .on-segment .ensures) ∙ c .before .before .before .before .if1 .left,
+      sym (c .before .before .before .before .before .on-segment .ensures)
+          ∙ c .before .before .before .before .if1 .left,
       sym (c .before .before .before .on-segment2 .ensures) ∙ c .before .before .if2 .left,
       sym (c .before .on-segment3 .ensures) ∙ c .if3 .taken,
     )
@@ -30,7 +31,8 @@ returns-4 : tie.Need-returns-4
 unfolding ended
 returns-4 c =
     rw (
-      sym (c .before .before .before .before .before .before .on-segment .ensures) ∙ c .before .before .before .before .before .if1 .left,
+      sym (c .before .before .before .before .before .before .on-segment .ensures)
+          ∙ c .before .before .before .before .before .if1 .left,
       sym (c .before .before .before .before .on-segment2 .ensures) ∙ c .before .before .before .if2 .left,
       sym (c .before .before .on-segment3 .ensures) ∙ c .before .if3 .left,
     )

@@ -31,7 +31,8 @@ returns-3 : tie.Need-returns-3
 unfolding meets
 returns-3 c =
     rw (
-      sym (c .before .before .before .before .before .ranges-overlap .ensures) ∙ not-false _ (c .before .before .before .before .if1 .left),
+      sym (c .before .before .before .before .before .ranges-overlap .ensures)
+          ∙ not-false _ (c .before .before .before .before .if1 .left),
       sym (c .before .before .before .ranges-overlap2 .ensures) ∙ not-false _ (c .before .before .if2 .left),
       sym (c .before .straddles .ensures) ∙ not-true _ (c .if3 .taken),
     )
@@ -43,8 +44,10 @@ returns-4 : tie.Need-returns-4
 unfolding meets
 returns-4 c =
     rw (
-      sym (c .before .before .before .before .before .before .ranges-overlap .ensures) ∙ not-false _ (c .before .before .before .before .before .if1 .left),
-      sym (c .before .before .before .before .ranges-overlap2 .ensures) ∙ not-false _ (c .before .before .before .if2 .left),
+      sym (c .before .before .before .before .before .before .ranges-overlap .ensures)
+          ∙ not-false _ (c .before .before .before .before .before .if1 .left),
+      sym (c .before .before .before .before .ranges-overlap2 .ensures)
+          ∙ not-false _ (c .before .before .before .if2 .left),
       sym (c .before .before .straddles .ensures) ∙ not-false _ (c .before .if3 .left),
     )
     (c .straddles2 .ensures)

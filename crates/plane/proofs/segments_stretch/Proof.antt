@@ -9,22 +9,29 @@ use Rattle.plane.proofs.segments_stretch.Tie as tie
 
 returns : tie.Need-returns
 unfolding stretches
-returns c = rw (sym (null-is _ _ _ (c .before .before .orient .ensures) (c .before .is-straight .ensures)) ∙ not-true _ (c .if1 .taken))
+returns c = rw (sym (null-is _ _ _ (c .before .before .orient .ensures) (c .before .is-straight .ensures))
+    ∙ not-true _ (c .if1 .taken))
 
 returns-2 : tie.Need-returns-2
 unfolding stretches
 returns-2 c =
     rw (
-      sym (null-is _ _ _ (c .before .before .before .before .before .orient .ensures) (c .before .before .before .before .is-straight .ensures)) ∙ not-false _ (c .before .before .before .if1 .left),
-      sym (null-is _ _ _ (c .before .before .orient2 .ensures) (c .before .is-straight2 .ensures)) ∙ not-true _ (c .if2 .taken),
+      sym (null-is _ _ _ (c .before .before .before .before .before .orient .ensures)
+          (c .before .before .before .before .is-straight .ensures))
+          ∙ not-false _ (c .before .before .before .if1 .left),
+      sym (null-is _ _ _ (c .before .before .orient2 .ensures) (c .before .is-straight2 .ensures))
+          ∙ not-true _ (c .if2 .taken),
     )
 
 returns-3 : tie.Need-returns-3
 unfolding stretches
 returns-3 c =
     rw (
-      sym (null-is _ _ _ (c .before .before .before .before .before .before .before .orient .ensures) (c .before .before .before .before .before .before .is-straight .ensures)) ∙ not-false _ (c .before .before .before .before .before .if1 .left),
-      sym (null-is _ _ _ (c .before .before .before .before .orient2 .ensures) (c .before .before .before .is-straight2 .ensures)) ∙ not-false _ (c .before .before .if2 .left),
+      sym (null-is _ _ _ (c .before .before .before .before .before .before .before .orient .ensures)
+          (c .before .before .before .before .before .before .is-straight .ensures))
+          ∙ not-false _ (c .before .before .before .before .before .if1 .left),
+      sym (null-is _ _ _ (c .before .before .before .before .orient2 .ensures)
+          (c .before .before .before .is-straight2 .ensures)) ∙ not-false _ (c .before .before .if2 .left),
       sym (c .before .ranges-overlap-more .ensures) ∙ c .if3 .taken,
     )
 
@@ -32,8 +39,12 @@ returns-4 : tie.Need-returns-4
 unfolding stretches
 returns-4 c =
     rw (
-      sym (null-is _ _ _ (c .before .before .before .before .before .before .before .before .orient .ensures) (c .before .before .before .before .before .before .before .is-straight .ensures)) ∙ not-false _ (c .before .before .before .before .before .before .if1 .left),
-      sym (null-is _ _ _ (c .before .before .before .before .before .orient2 .ensures) (c .before .before .before .before .is-straight2 .ensures)) ∙ not-false _ (c .before .before .before .if2 .left),
+      sym (null-is _ _ _ (c .before .before .before .before .before .before .before .before .orient .ensures)
+          (c .before .before .before .before .before .before .before .is-straight .ensures))
+          ∙ not-false _ (c .before .before .before .before .before .before .if1 .left),
+      sym (null-is _ _ _ (c .before .before .before .before .before .orient2 .ensures)
+          (c .before .before .before .before .is-straight2 .ensures))
+          ∙ not-false _ (c .before .before .before .if2 .left),
       sym (c .before .before .ranges-overlap-more .ensures) ∙ c .before .if3 .left,
     )
     (c .ranges-overlap-more2 .ensures)

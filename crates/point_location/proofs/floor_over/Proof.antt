@@ -15,8 +15,11 @@ left-requires c κs =
 
 right-requires : tie.Need-face-at-requires-2
 right-requires c κs =
-    let row = c .before .pre .2 in
-    (omega (arith, row .fits), ap nonNeg (edge-cells (c .before .args .edges .now) (c .before .args .i) (row .ranges) .right))
+    let row = c .before .pre .2 in (
+      omega (arith, row .fits),
+      ap nonNeg
+          (edge-cells (c .before .args .edges .now) (c .before .args .i) (row .ranges) .right),
+    )
 
 returns : tie.Need-returns
 returns c =
@@ -37,5 +40,6 @@ floor-over-spec =
     (λ c. search needs)
     right-requires
     (λ c κs. c .before .before .pre .2)
-    (λ c κs. let p = c .before .before .before .pre in (p .0, p .1, c .curve-of .ensures .0, c .before .before .face-at .ensures .1, c .before .face-at2 .ensures .1))
+    (λ c κs. let p = c .before .before .before .pre in
+    (p .0, p .1, c .curve-of .ensures .0, c .before .before .face-at .ensures .1, c .before .face-at2 .ensures .1))
     returns)

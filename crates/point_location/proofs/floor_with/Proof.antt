@@ -11,8 +11,10 @@ kept c = (rw (sym (c .before .passes-below .ensures) ∙ not-true _ (c .if1 .tak
 with-it : tie.Need-returns-2
 with-it c =
     let s = c .before .before .before .before in
-    let e = sym (c .before .before .before .passes-below .ensures) ∙ not-false _ (c .before .before .if1 .left) in
-    (rw e (c .higher-of .ensures .0 ∙ ap (over (s .args .p .x) (held (s .args .h))) (c .before .floor-of .ensures .1)), c .higher-of .ensures .1)
+    let e = sym (c .before .before .before .passes-below .ensures) ∙ not-false _ (c .before .before .if1 .left) in (
+      rw e (c .higher-of .ensures .0 ∙ ap (over (s .args .p .x) (held (s .args .h))) (c .before .floor-of .ensures .1)),
+      c .higher-of .ensures .1,
+    )
 
 pub floor-with-spec : {M : Type 1} → statement M
 floor-with-spec =
@@ -21,5 +23,6 @@ floor-with-spec =
     (λ c κs. (c .pre .1, c .pre .2, c .pre .3))
     kept
     (λ c κs. let p = c .before .before .pre in (p .2, p .3, p .4, p .5))
-    (λ c κs. let p = c .before .before .before .pre in (p .1 .x, p .0, c .floor-of .ensures .2, c .floor-of .ensures .0))
+    (λ c κs. let p = c .before .before .before .pre in
+    (p .1 .x, p .0, c .floor-of .ensures .2, c .floor-of .ensures .0))
     with-it)

@@ -18,10 +18,14 @@ abbrev μ-loop : tie.MeasureT-loop
 
 -- what the digits are, where the loop begins
 few : (c : tie.After-decimal Inv-loop μ-loop) → c .decimal .result ≤ 20
-few c = fewest-few (c .before .before .before .args .n) (c .decimal .result) (c .before .before .before .fits .n .fits) (c .decimal .ensures .1 .0)
+few c = fewest-few (c .before .before .before .args .n) (c .decimal .result) (c .before .before .before .fits .n .fits)
+    (c .decimal .ensures .1 .0)
 
-size : (c : tie.At-loop Inv-loop μ-loop) → length (c .loop .out) ≡ length (c .before .before .before .before .args .out .now)
-size c = ap length (c .loop .inv .1) ∙ length-paste (c .before .before .before .before .args .out .now) (c .before .before .before .before .args .at) (c .before .decimal .last .1 .0) (c .loop .i) (omega (arith, few (c .before))) (omega (arith, c .before .decimal .ensures .0 .0))
+size : (c : tie.At-loop Inv-loop μ-loop) → length (c .loop .out)
+    ≡ length (c .before .before .before .before .args .out .now)
+size c = ap length (c .loop .inv .1) ∙ length-paste (c .before .before .before .before .args .out .now)
+    (c .before .before .before .before .args .at) (c .before .decimal .last .1 .0) (c .loop .i)
+    (omega (arith, few (c .before))) (omega (arith, c .before .decimal .ensures .0 .0))
 
 loop-again : tie.Need-loop-again Inv-loop μ-loop
 loop-again c =
@@ -29,8 +33,11 @@ loop-again c =
     let a = c .before .before .before .before .before .args in
     let i = c .before .loop .i in
     let bound = few (c .before .before) in
-    let turn = paste-suc (a .out .now) (a .at) (d .last .1 .0) i 0 (omega arith) (omega (arith, d .ensures .0 .0)) in
-    (omega arith, ap (λ (l : List ℕ). set l (a .at + i) (getD (d .last .1 .0) i 0)) (c .before .loop .inv .1) ∙ turn ∙ ap (paste (a .out .now) (a .at) (d .last .1 .0)) (sym (add-one i)))
+    let turn = paste-suc (a .out .now) (a .at) (d .last .1 .0) i 0 (omega arith) (omega (arith, d .ensures .0 .0)) in (
+      omega arith,
+      ap (λ (l : List ℕ). set l (a .at + i) (getD (d .last .1 .0) i 0)) (c .before .loop .inv .1) ∙ turn
+          ∙ ap (paste (a .out .now) (a .at) (d .last .1 .0)) (sym (add-one i)),
+    )
 
 returns : tie.Need-returns Inv-loop μ-loop
 returns c =
@@ -40,8 +47,10 @@ returns c =
     let whole : c .before .loop .i ≡ d .result = omega arith in (
       c .before .loop .inv .1
           ∙ ap (paste (s .args .out .now) (s .args .at) (d .last .1 .0)) whole
-          ∙ natural-written (s .args .out .now) (s .args .at) (s .args .n) (d .result) (d .last .1 .0) (s .fits .n .fits) (d .ensures .1 .0) (d .ensures .1 .1) (d .ensures .0 .0) (omega arith),
-      natural-length (s .args .out .now) (s .args .at) (s .args .n) (d .result) (d .last .1 .0) (s .fits .n .fits) (d .ensures .1 .0) (d .ensures .1 .1) (d .ensures .0 .0),
+          ∙ natural-written (s .args .out .now) (s .args .at) (s .args .n) (d .result) (d .last .1 .0)
+          (s .fits .n .fits) (d .ensures .1 .0) (d .ensures .1 .1) (d .ensures .0 .0) (omega arith),
+      natural-length (s .args .out .now) (s .args .at) (s .args .n) (d .result) (d .last .1 .0) (s .fits .n .fits)
+          (d .ensures .1 .0) (d .ensures .1 .1) (d .ensures .0 .0),
     )
 
 pub write-natural-spec : {M : Type 1} → statement M
@@ -51,7 +60,11 @@ write-natural-spec =
     Inv-loop
     μ-loop
     (λ c κs. tt)
-    (λ c. (omega arith, paste-zero (c .before .before .before .args .out .now) (c .before .before .before .args .at) (c .decimal .last .1 .0)))
+    (λ c. (
+      omega arith,
+      paste-zero (c .before .before .before .args .out .now) (c .before .before .before .args .at)
+          (c .decimal .last .1 .0),
+    ))
     (λ c. omega (arith, few (c .before .before)))
     (λ c. omega (arith, few (c .before .before)))
     (λ c. omega (arith, few (c .before .before), size (c .before)))

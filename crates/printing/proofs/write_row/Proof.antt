@@ -29,7 +29,8 @@ loop-again c =
     let row = s .args .row .now in
     let l = c .before .before .before .before .before .before .loop in
     let w = c .before .before .write-number in
-    let read : toZ w64 (ofZ w64 (getD row (l .i) (pos 0))) ≡ getD row (l .i) (pos 0) = sent (c .before .before .before .write-number-arg2 .given) in
+    let read : toZ w64 (ofZ w64 (getD row (l .i) (pos 0))) ≡ getD row (l .i) (pos 0) =
+    sent (c .before .before .before .write-number-arg2 .given) in
     let z = toZ w64 (ofZ w64 (getD row (l .i) (pos 0))) in
     let within : l .i < length row = omega arith in
     let rest = rowText (drop (l .i + 1) row) in (
@@ -37,7 +38,9 @@ loop-again c =
       refl,
       w .kept .0 ∙ length-set (l .out) (l .end) 32 ∙ l .inv .2,
       omega (arith, w .ensures .1, number-few z),
-      l .inv .4 ∙ row-turn row (l .i) within z read (l .out) (l .end) ∙ ap (λ (t : List ℕ). sets t (l .end + 1 + length (numberText z)) rest) (sym (w .ensures .0)) ∙ ap (λ (k : ℕ). sets (w .last .0) k rest) (sym (w .ensures .1)),
+      l .inv .4 ∙ row-turn row (l .i) within z read (l .out) (l .end)
+          ∙ ap (λ (t : List ℕ). sets t (l .end + 1 + length (numberText z)) rest) (sym (w .ensures .0))
+          ∙ ap (λ (k : ℕ). sets (w .last .0) k rest) (sym (w .ensures .1)),
       l .inv .5 ∙ row-length row (l .i) within z read (l .end) ∙ ap (λ (k : ℕ). k + length rest) (sym (w .ensures .1)),
     )
 

@@ -34,15 +34,24 @@ leaving-all l e z =
     rw s (eq1 (λ x. x && true && true) (λ x. x) tt (leavesNode l z q)))
 
 -- what the search answers
-found : (c : lts.After-first-clockwise (first-step-reads.Asked, first-step-reads.Learnt, first-clockwise-reads.Asked, first-clockwise-reads.Learnt) reads.Pre reads.Post)
-    → c .first-clockwise .result ≡ firstMet (wayWith (c .before .before .args .edges .now) (c .before .before .args .e) (c .before .before .args .c .now)) (startWay (course (c .before .before .args .back) (curveOf (c .before .before .args .c .now)))) (departing (c .before .before .args .edges .now) (c .before .before .args .e) (c .before .before .args .node))
+found : (c : lts.After-first-clockwise (
+  first-step-reads.Asked,
+  first-step-reads.Learnt,
+  first-clockwise-reads.Asked,
+  first-clockwise-reads.Learnt,
+) reads.Pre reads.Post)
+    → c .first-clockwise .result ≡ firstMet
+    (wayWith (c .before .before .args .edges .now) (c .before .before .args .e) (c .before .before .args .c .now))
+    (startWay (course (c .before .before .args .back) (curveOf (c .before .before .args .c .now))))
+    (departing (c .before .before .args .edges .now) (c .before .before .args .e) (c .before .before .args .node))
 found c =
     let s = c .before .before in
     let a = s .args in
     let w = wayWith (a .edges .now) (a .e) (a .c .now) in
     let v = startWay (course (a .back) (curveOf (a .c .now))) in
     c .first-clockwise .ensures
-    ∙ ap₂ (λ (v : Way) (z : ℤ). firstMet w v (leaving (a .edges .now) (a .e) z (a .e * 2) (a .e * 2))) (c .before .first-step .ensures .way) (toZ-ofZ {w = w64} (s .fits .node))
+    ∙ ap₂ (λ (v : Way) (z : ℤ). firstMet w v (leaving (a .edges .now) (a .e) z (a .e * 2) (a .e * 2)))
+    (c .before .first-step .ensures .way) (toZ-ofZ {w = w64} (s .fits .node))
     ∙ ap (firstMet w v) (leaving-all (a .edges .now) (a .e) (a .node))
 
 returns : tie.Need-returns

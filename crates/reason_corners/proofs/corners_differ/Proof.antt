@@ -27,9 +27,12 @@ returns c =
     let a = c .before .before .before .before .args in
     let corner : ℕ → Way → ℤ = λ k. cornerCell (a .nodes .now) k (a .edges .now) (a .count) in
     let first = corner (a .u) (startWay (course false (curveOf (a .c .now)))) in
-    let e : start .result ≡ first = start .ensures ∙ ap (corner (a .u)) (c .before .before .before .first-step .ensures .way) in
+    let e : start .result ≡ first = start .ensures
+    ∙ ap (corner (a .u)) (c .before .before .before .first-step .ensures .way) in
     let f = sent (end .ok) ∙ end .ensures ∙ ap (corner (a .v)) (c .before .first-step2 .ensures .way) in
-    ap not (cell-test (start .result) (end .result) first (sfits-of (start .ok)) (sfits-of (end .ok)) e ∙ ap (sameZ first) f)
+    ap not (cell-test (start .result) (end .result) first (sfits-of (start .ok)) (sfits-of (end .ok)) e
+    ∙ ap (sameZ first) f)
 
 pub corners-differ-spec : {M : Type 1} → statement M
-corners-differ-spec = tie.close (tie.spec (λ c κs. search needs) corner-face-requires (λ c κs. search needs) corner-face-requires-2 returns)
+corners-differ-spec = tie.close (tie.spec (λ c κs. search needs) corner-face-requires
+    (λ c κs. search needs) corner-face-requires-2 returns)

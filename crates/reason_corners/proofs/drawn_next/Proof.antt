@@ -14,8 +14,13 @@ returns-2 : tie.Need-returns-2
 returns-2 c =
     let s = c .before .before .before in
     let a = s .args in
-    let below : c .instead .result < a .e * 2 + 2 = rw (c .instead .ensures) (instead-below (a .e * 2 + 2) (a .k .start) (a .k .end) (a .e * 2 + 1) (s .pre .2) (omega arith)) in
-    (below, λ new m j. follows-backward (s .pre .0) j (s .pre .2) (s .pre .3) (a .p) (c .instead .result) (c .before .if2 .taken) (c .instead .ensures))
+    let below : c .instead .result < a .e * 2 + 2 =
+    rw (c .instead .ensures) (instead-below (a .e * 2 + 2) (a .k .start) (a .k .end) (a .e * 2 + 1) (s .pre .2)
+    (omega arith)) in (
+      below,
+      λ new m j. follows-backward (s .pre .0) j (s .pre .2) (s .pre .3) (a .p) (c .instead .result)
+          (c .before .if2 .taken) (c .instead .ensures),
+    )
 
 returns-3 : tie.Need-returns-3
 returns-3 c =
@@ -27,9 +32,15 @@ returns-3 c =
     let y = c .before .before .before .if2 .left in
     let hq = q .ensures .0 in
     let hp : a .p < a .e * 2 = let h = s .pre .4 in omega arith in
-    let mid : i .result < a .e * 2 + 2 = rw (i .ensures) (instead-below (a .e * 2 + 2) (q .result) (a .k .start) (a .e * 2) (omega arith) (omega arith)) in
-    let below : c .instead3 .result < a .e * 2 + 2 = rw (c .instead3 .ensures) (instead-below (a .e * 2 + 2) (i .result) (a .k .end) (a .e * 2 + 1) mid (omega arith)) in
-    (below, λ new m j. follows-other (s .pre .0) j (s .pre .2) (s .pre .3) (a .p) (q .result) (i .result) (c .instead3 .result) hp hq (q .ensures .1) (i .ensures) (c .instead3 .ensures))
+    let mid : i .result < a .e * 2 + 2 =
+    rw (i .ensures) (instead-below (a .e * 2 + 2) (q .result) (a .k .start) (a .e * 2) (omega arith) (omega arith)) in
+    let below : c .instead3 .result < a .e * 2 + 2 =
+    rw (c .instead3 .ensures) (instead-below (a .e * 2 + 2) (i .result) (a .k .end) (a .e * 2 + 1) mid
+    (omega arith)) in (
+      below,
+      λ new m j. follows-other (s .pre .0) j (s .pre .2) (s .pre .3) (a .p) (q .result) (i .result)
+          (c .instead3 .result) hp hq (q .ensures .1) (i .ensures) (c .instead3 .ensures),
+    )
 
 next-position-requires : tie.Need-next-position-requires
 next-position-requires c κs =

@@ -20,31 +20,42 @@ use Rattle.reason_corners.proofs.splits_face.Reads as reads
 use Rattle.reason_corners.proofs.splits_face.Lts as lts
 use Rattle.reason_corners.proofs.corner.Reads as corner-reads
 use Rattle.reason_corners.proofs.end_corner.Reads as end-corner-reads
-use Rattle.reason_corners.proofs.parts_rings.Reads as parts-rings-reads
+use Rattle.reason_corners.proofs.rings_differ.Reads as rings-differ-reads
 
 -- the corners of the two nodes
-corners : (c : lts.After-end-corner (corner-reads.Asked, corner-reads.Learnt, end-corner-reads.Asked, end-corner-reads.Learnt, parts-rings-reads.Asked, parts-rings-reads.Learnt) reads.Pre reads.Post)
+corners : (c : lts.After-end-corner (
+  corner-reads.Asked,
+  corner-reads.Learnt,
+  end-corner-reads.Asked,
+  end-corner-reads.Learnt,
+  rings-differ-reads.Asked,
+  rings-differ-reads.Learnt,
+) reads.Pre reads.Post)
     → (let a = c .before .before .before .before .args in
     let from = pos (nodeAt (a .nodes .now) (a .u) .number) in
     let to = pos (nodeAt (a .nodes .now) (a .v) .number) in
-    (c .before .corner .result ≡ startCorner (a .edges .now) (a .e) (a .c .now) from) × (c .end-corner .result ≡ endCorner (a .edges .now) (a .e) (a .c .now) from to))
+    (c .before .corner .result ≡ startCorner (a .edges .now) (a .e) (a .c .now) from)
+    × (c .end-corner .result ≡ endCorner (a .edges .now) (a .e) (a .c .now) from to))
 corners c =
     let s = c .before .before .before .before in
     let a = s .args in
-    let from = sent (c .before .before .before .from .given) ∙ node-cells (a .nodes .now) (a .u) (s .pre .0 .ranges) .number in
+    let from = sent (c .before .before .before .from .given)
+    ∙ node-cells (a .nodes .now) (a .u) (s .pre .0 .ranges) .number in
     let to = sent (c .before .before .to .given) ∙ node-cells (a .nodes .now) (a .v) (s .pre .1 .ranges) .number in (
       c .before .corner .ensures ∙ ap (startCorner (a .edges .now) (a .e) (a .c .now)) from,
       c .end-corner .ensures ∙ ap₂ (endCorner (a .edges .now) (a .e) (a .c .now)) from to,
     )
 
-parts-rings-requires : tie.Need-parts-rings-requires
-parts-rings-requires c κs =
+rings-differ-requires : tie.Need-rings-differ-requires
+rings-differ-requires c κs =
     let s = c .before .before .before .before in
     let a = s .args in
     let k = corners c in
     let from = pos (nodeAt (a .nodes .now) (a .u) .number) in
     let to = pos (nodeAt (a .nodes .now) (a .v) .number) in
-    let start : c .before .corner .result < a .e * 2 + 2 = rw (k .0) (corner-below (a .edges .now) (a .e) (a .c .now) false from (a .e * 2 + 2) (a .e * 2) (omega arith) (omega arith)) in
+    let start : c .before .corner .result < a .e * 2 + 2 =
+    rw (k .0) (corner-below (a .edges .now) (a .e) (a .c .now) false from (a .e * 2 + 2) (a .e * 2) (omega arith)
+    (omega arith)) in
     let end : c .end-corner .result < a .e * 2 + 2 = rw (k .1) (end-below (a .edges .now) (a .e) (a .c .now) from to) in
     (s .pre .2, s .pre .3, start, end)
 
@@ -60,9 +71,11 @@ returns c = λ m E ok.
     let d = curveOf (a .c .now) in
     let φ = cornerFace m u (startWay d) in
     let j = joined (s .pre .2) (a .c .now) m E (fresh-number l (a .e) m E ok) u v φ in
-    let i = subst (λ (x : ℕ). Joined l (a .e) x (endCorner l (a .e) (a .c .now) (pos u) (pos v)) (m .nextEdge) (drawn u v d φ m)) (sym (k .0)) j in
-    c .parts-rings .ensures (m .nextEdge) (drawn u v d φ m)
-    (subst (λ (x : ℕ). Joined l (a .e) (c .before .before .corner .result) x (m .nextEdge) (drawn u v d φ m)) (sym (k .1)) i)
+    let i = subst (λ (x : ℕ). Joined l (a .e) x (endCorner l (a .e) (a .c .now) (pos u) (pos v)) (m .nextEdge)
+    (drawn u v d φ m)) (sym (k .0)) j in
+    c .rings-differ .ensures (m .nextEdge) (drawn u v d φ m)
+    (subst (λ (x : ℕ). Joined l (a .e) (c .before .before .corner .result) x (m .nextEdge) (drawn u v d φ m))
+    (sym (k .1)) i)
 
 pub splits-face-spec : {M : Type 1} → statement M
 splits-face-spec =
@@ -77,5 +90,5 @@ splits-face-spec =
     (λ c. search needs)
     (λ c κs. search needs)
     (λ c κs. search needs)
-    parts-rings-requires
+    rings-differ-requires
     returns)

@@ -1,5 +1,5 @@
--- `reason_curves::edge_wrong` meets its contract: another edge from row i on meets the curve wrongly if and only if one does; one whose extent lies apart
--- does not. Assumes nothing.
+-- `reason_curves::edge_wrong` meets its contract: another edge from row i on meets the curve wrongly if and only if one
+-- does; one whose extent lies apart does not. Assumes nothing.
 use mathlib.Core.Path.{_≡_, sym, ap, _∙_}
 use mathlib.Core.Bool.{Bool, false, not, _&&_}
 use mathlib.Core.Logic.{⊎-elim}
@@ -11,7 +11,7 @@ use lib.Dec.{eqb}
 use lib.IntN.{ℤ}
 use borrow.Author.Tests.{not-false}
 use Rattle.lists.specs.Tests.{same}
-use Rattle.lists.specs.Scans.{any}
+use Rattle.lists.specs.Scans.{anyOf}
 use Rattle.lists.specs.Tables.{table}
 use Rattle.lists.proofs.Bools.{&&-false}
 use Rattle.lists.proofs.Scans.{any-hit, any-miss, any-end}
@@ -34,18 +34,23 @@ abbrev other : List ℤ → ℕ → Curve → ℕ → Bool
 other l own c i = not (same i own) && meetWrongly c (edgeAt l i .curve)
 
 -- what the tests of row i answered
-told : (l : List ℤ) (own i : ℕ) (c : Curve) {d : Curve} {r v : Bool} → d ≡ edgeAt l i .curve → r ≡ meetWrongly c d → not (eqb i own) && r ≡ v → other l own c i ≡ v
+told : (l : List ℤ) (own i : ℕ) (c : Curve) {d : Curve} {r v : Bool} → d ≡ edgeAt l i .curve → r ≡ meetWrongly c d
+    → not (eqb i own) && r ≡ v → other l own c i ≡ v
 unfolding same
 told l own i c ed er e = ap (λ (t : Bool). not (eqb i own) && t) (sym (er ∙ ap (meetWrongly c) ed)) ∙ e
 
 -- row i lies apart
-passed : (l : List ℤ) (own i : ℕ) (c : Curve) {d : Curve} {e f : Extent} {r : Bool} → d ≡ edgeAt l i .curve → e ≡ extentOf c → f ≡ extentOf d → r ≡ apart e f → not r ≡ false → other l own c i ≡ false
+passed : (l : List ℤ) (own i : ℕ) (c : Curve) {d : Curve} {e f : Extent} {r : Bool} → d ≡ edgeAt l i .curve → e
+    ≡ extentOf c → f ≡ extentOf d → r ≡ apart e f → not r ≡ false → other l own c i ≡ false
 passed l own i c {d} {r = r} ed ee ef er h =
     let away = (λ i. apart (sym ee i) (sym ef i)) ∙ sym er ∙ not-false r h in
-    ap (λ (t : Bool). not (same i own) && t) (ap (meetWrongly c) (sym ed) ∙ apart-meet c d away) ∙ &&-false (not (same i own))
+    ap (λ (t : Bool). not (same i own) && t) (ap (meetWrongly c) (sym ed) ∙ apart-meet c d away)
+    ∙ &&-false (not (same i own))
 
 abbrev Inv-loop : tie.InvT-loop
-Inv-loop edges count own c e i₀ i = (i ≤ count) × (any (other edges own (curveOf c)) (table (λ i. i) i (count - i)) ≡ edgeWrong (edgesBut edges count own) (curveOf c))
+Inv-loop edges count own c e i₀ i = (i ≤ count)
+    × (anyOf (other edges own (curveOf c)) (table (λ i. i) i (count - i))
+    ≡ edgeWrong (edgesBut edges count own) (curveOf c))
 
 abbrev μ-loop : tie.MeasureT-loop
 μ-loop edges count own c e i₀ i = count - i
@@ -53,15 +58,20 @@ abbrev μ-loop : tie.MeasureT-loop
 loop-holds : tie.Need-loop-holds Inv-loop μ-loop
 unfolding edgeWrong
 loop-holds c =
-    let a = c .before .args in
-    (omega arith, rw sub-zero (sym (any-kept (λ (e : Edge). meetWrongly (curveOf (a .c .now)) (e .curve)) (edgeAt (a .edges .now)) (λ i. not (same i (a .own))) (table (λ i. i) 0 (a .count)))))
+    let a = c .before .args in (
+      omega arith,
+      rw sub-zero (sym (any-kept (λ (e : Edge). meetWrongly (curveOf (a .c .now)) (e .curve))
+          (edgeAt (a .edges .now)) (λ i. not (same i (a .own))) (table (λ i. i) 0 (a .count)))),
+    )
 
 hit : tie.Need-returns Inv-loop μ-loop
 hit c =
     let s = c .before .before .before .before .before in
     let a = s .before .before .before .before .args in
-    let e = told (a .edges .now) (a .own) _ (curveOf (a .c .now)) (s .curve-of .ensures .1) (c .before .curves-wrong .ensures) (c .if2 .taken) in
-    sym (any-hit (λ i. i) _ _ (other (a .edges .now) (a .own) (curveOf (a .c .now))) (s .before .loop-test .taken) e) ∙ s .before .before .loop .inv .1
+    let e = told (a .edges .now) (a .own) _ (curveOf (a .c .now)) (s .curve-of .ensures .1)
+    (c .before .curves-wrong .ensures) (c .if2 .taken) in
+    sym (any-hit (λ i. i) _ _ (other (a .edges .now) (a .own) (curveOf (a .c .now))) (s .before .loop-test .taken) e)
+    ∙ s .before .before .loop .inv .1
 
 again : tie.Need-loop-again Inv-loop μ-loop
 again c =
@@ -71,14 +81,19 @@ again c =
     let e : other (a .edges .now) (a .own) (curveOf (a .c .now)) (b .loop .i) ≡ false =
     ⊎-elim
     (λ w. told (a .edges .now) (a .own) _ (curveOf (a .c .now)) (s .curve-of .ensures .1) (w .1 .ensures) (w .2 .left))
-    (λ w. passed (a .edges .now) (a .own) _ (curveOf (a .c .now)) (s .curve-of .ensures .1) (b .before .extent-of .ensures) (c .before .before .extent-of2 .ensures) (c .before .lie-apart .ensures) (w .left))
-    (c .if1 .came) in
-    (omega arith, sym (any-miss (λ i. i) _ _ (other (a .edges .now) (a .own) (curveOf (a .c .now))) (s .before .loop-test .taken) e) ∙ b .loop .inv .1)
+    (λ w. passed (a .edges .now) (a .own) _ (curveOf (a .c .now)) (s .curve-of .ensures .1)
+    (b .before .extent-of .ensures) (c .before .before .extent-of2 .ensures) (c .before .lie-apart .ensures) (w .left))
+    (c .if1 .came) in (
+      omega arith,
+      sym (any-miss (λ i. i) _ _ (other (a .edges .now) (a .own) (curveOf (a .c .now)))
+          (s .before .loop-test .taken) e) ∙ b .loop .inv .1,
+    )
 
 end : tie.Need-returns-2 Inv-loop μ-loop
 end c =
     let a = c .before .before .before .args in
-    sym (any-end (λ i. i) _ _ (other (a .edges .now) (a .own) (curveOf (a .c .now))) (c .loop-test .left)) ∙ c .before .loop .inv .1
+    sym (any-end (λ i. i) _ _ (other (a .edges .now) (a .own) (curveOf (a .c .now))) (c .loop-test .left))
+    ∙ c .before .loop .inv .1
 
 pub edge-wrong-spec : {M : Type 1} → statement M
 edge-wrong-spec =
@@ -89,7 +104,10 @@ edge-wrong-spec =
     (λ c κs. edge-row-of (c .before .before .before .pre .0) _ (c .loop-test .taken))
     (λ c κs. c .curve-of .ensures .0)
     (λ c κs. tt)
-    (λ c κs. (c .before .before .before .before .before .before .before .pre .1, c .before .before .before .curve-of .ensures .0))
+    (λ c κs. (
+      c .before .before .before .before .before .before .before .pre .1,
+      c .before .before .before .curve-of .ensures .0,
+    ))
     hit
     (λ c. omega arith)
     (λ c. omega arith)

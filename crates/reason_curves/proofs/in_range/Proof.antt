@@ -13,7 +13,8 @@ returns c =
     let x = c .args .x in
     let y = c .args .y in
     rw (toZ-ofZ {w = w64} {z = x} (c .fits .x), toZ-ofZ {w = w64} {z = y} (c .fits .y))
-    (eq4 (λ p q r s. p && q && r && s) (λ p q r s. (p && q) && (r && s)) tt (leZ (pos 0) x) (leZ x (pos 1048575)) (leZ (pos 0) y) (leZ y (pos 1048575)))
+    (eq4 (λ p q r s. p && q && r && s) (λ p q r s. (p && q) && (r && s)) tt (leZ (pos 0) x) (leZ x (pos 1048575))
+    (leZ (pos 0) y) (leZ y (pos 1048575)))
 
 pub in-range-spec : {M : Type 1} → statement M
 in-range-spec = tie.close (tie.spec returns)

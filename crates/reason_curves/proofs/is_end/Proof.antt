@@ -4,7 +4,12 @@ use Rattle.reason_curves.proofs.is_end.Tie as tie
 
 returns : tie.Need-returns
 returns c =
-    rw (c .same-point2 .ensures, c .before .before .same-point .ensures, c .before .last-point .ensures .0, c .before .before .before .first-point .ensures .0)
+    rw (
+      c .same-point2 .ensures,
+      c .before .before .same-point .ensures,
+      c .before .last-point .ensures .0,
+      c .before .before .before .first-point .ensures .0,
+    )
 
 pub is-end-spec : {M : Type 1} → statement M
 is-end-spec =

@@ -7,7 +7,10 @@ use Rattle.reason_curves.proofs.last_point.Statement.{statement}
 use Rattle.reason_curves.proofs.last_point.Tie as tie
 
 returns : tie.Need-returns
-returns c = (c .point-at .ensures .0 ∙ last-at (c .before .before .pre) _ (c .before .point-count .ensures), c .point-at .ensures .1)
+returns c = (
+  c .point-at .ensures .0 ∙ last-at (c .before .before .pre) _ (c .before .point-count .ensures),
+  c .point-at .ensures .1,
+)
 
 pub last-point-spec : {M : Type 1} → statement M
 last-point-spec =

@@ -9,11 +9,21 @@ returns c = rw (← c .before .node-inside .ensures, c .if1 .taken)
 
 returns-2 : tie.Need-returns-2
 unfolding firstReason
-returns-2 c = rw (← c .before .before .before .node-inside .ensures, c .before .before .if1 .left, ← c .before .edge-wrong .ensures, c .if2 .taken)
+returns-2 c = rw (
+  ← c .before .before .before .node-inside .ensures,
+  c .before .before .if1 .left,
+  ← c .before .edge-wrong .ensures,
+  c .if2 .taken,
+)
 
 returns-3 : tie.Need-returns-3
 unfolding firstReason
-returns-3 c = rw (← c .before .before .before .node-inside .ensures, c .before .before .if1 .left, ← c .before .edge-wrong .ensures, c .if2 .left)
+returns-3 c = rw (
+  ← c .before .before .before .node-inside .ensures,
+  c .before .before .if1 .left,
+  ← c .before .edge-wrong .ensures,
+  c .if2 .left,
+)
 
 pub meeting-reason-spec : {M : Type 1} → statement M
 meeting-reason-spec =

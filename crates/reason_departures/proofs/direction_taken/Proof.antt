@@ -6,7 +6,7 @@ use lib.IntN.{ℤ, pos}
 use mir.Syntax.{w64}
 use mir.Facts.{toZ-ofZ}
 use Rattle.lists.specs.Tests.{same}
-use Rattle.lists.specs.Scans.{any}
+use Rattle.lists.specs.Scans.{anyOf}
 use Rattle.plane.specs.Directions.{Way, sameWay}
 use Rattle.curves.specs.Curves.{curveOf, startWay, endWay}
 use Rattle.curves.proofs.Reverses.{end-way}
@@ -25,14 +25,22 @@ use Rattle.links.proofs.way_taken.Reads as way-taken-reads
 use Rattle.darts.proofs.first_step.Reads as first-step-reads
 
 -- the first test, in the map's terms
-start : (c : lts.After-way-taken (first-step-reads.Asked, first-step-reads.Learnt, way-taken-reads.Asked, way-taken-reads.Learnt) reads.Pre reads.Post) → (e a : ℕ) → Own (c .before .before .args .edges .now) (c .before .before .args .count) (c .before .before .args .own) e → c .before .before .args .u ≡ pos a
-    → c .way-taken .result ≡ wayTaken (edgeMap (c .before .before .args .edges .now) (c .before .before .args .count)) e a (startWay (curveOf (c .before .before .args .c .now)))
+start : (c : lts.After-way-taken (
+  first-step-reads.Asked,
+  first-step-reads.Learnt,
+  way-taken-reads.Asked,
+  way-taken-reads.Learnt,
+) reads.Pre reads.Post) → (e a : ℕ) → Own (c .before .before .args .edges .now) (c .before .before .args .count)
+    (c .before .before .args .own) e → c .before .before .args .u ≡ pos a
+    → c .way-taken .result ≡ wayTaken (edgeMap (c .before .before .args .edges .now)
+    (c .before .before .args .count)) e a (startWay (curveOf (c .before .before .args .c .now)))
 start c e a o q =
     let s = c .before .before in
     let x = s .args in
     let l = x .edges .now in
     c .way-taken .ensures
-    ∙ ap₂ (λ (z : ℤ) (w : Way). any (λ p. leavesNode l z p && not (same (p / 2) (x .own)) && sameWay (wayAt l p) w) (positions (x .count))) (toZ-ofZ {w = w64} (s .fits .u) ∙ q) (c .before .first-step .ensures .way)
+    ∙ ap₂ (λ (z : ℤ) (w : Way). anyOf (λ p. leavesNode l z p && not (same (p / 2) (x .own)) && sameWay (wayAt l p) w)
+    (positions (x .count))) (toZ-ofZ {w = w64} (s .fits .u) ∙ q) (c .before .first-step .ensures .way)
     ∙ taken-is (s .pre .0) (x .own) e a (startWay (curveOf (x .c .now))) o
 
 returns : tie.Need-returns
@@ -47,7 +55,9 @@ returns-2 c e a b o p q =
     let l = x .edges .now in
     rw (sym (start (c .before .before .before) e a o p), c .before .before .if1 .left)
     (c .way-taken2 .ensures
-    ∙ ap₂ (λ (z : ℤ) (w : Way). any (λ p. leavesNode l z p && not (same (p / 2) (x .own)) && sameWay (wayAt l p) w) (positions (x .count))) (toZ-ofZ {w = w64} (s .fits .v) ∙ q) (c .before .first-step2 .ensures .way ∙ end-way (s .pre .1))
+    ∙ ap₂ (λ (z : ℤ) (w : Way). anyOf (λ p. leavesNode l z p && not (same (p / 2) (x .own)) && sameWay (wayAt l p) w)
+    (positions (x .count))) (toZ-ofZ {w = w64} (s .fits .v) ∙ q)
+    (c .before .first-step2 .ensures .way ∙ end-way (s .pre .1))
     ∙ taken-is (s .pre .0) (x .own) e b (endWay (curveOf (x .c .now))) o)
 
 pub direction-taken-spec : {M : Type 1} → statement M

@@ -29,8 +29,11 @@ returns c =
     let eu : toZ w64 (ofZ w64 u) ≡ u = toZ-ofZ {w = w64} fu in
     let ev : toZ w64 (ofZ w64 v) ≡ v = toZ-ofZ {w = w64} fv in
     let first = cell-test u v u fu fv refl in
-    ap (λ (b : Bool). not b && same (c .before .edge-ends .result) 1 && same (c .edge-ends2 .result) 1) (first ∙ ap (λ (z : ℤ). sameZ z (toZ w64 (ofZ w64 v))) (sym eu))
-    ∙ isolated-is (s .pre .0) (a .i) (s .pre .1) (toZ w64 (ofZ w64 u)) (toZ w64 (ofZ w64 v)) (c .before .edge-ends .result) (c .edge-ends2 .result) eu ev (c .before .edge-ends .ensures .0) (c .edge-ends2 .ensures .0)
+    ap (λ (b : Bool). not b && same (c .before .edge-ends .result) 1 && same (c .edge-ends2 .result) 1)
+    (first ∙ ap (λ (z : ℤ). sameZ z (toZ w64 (ofZ w64 v))) (sym eu))
+    ∙ isolated-is (s .pre .0) (a .i) (s .pre .1) (toZ w64 (ofZ w64 u)) (toZ w64 (ofZ w64 v))
+    (c .before .edge-ends .result) (c .edge-ends2 .result) eu ev (c .before .edge-ends .ensures .0)
+    (c .edge-ends2 .ensures .0)
 
 pub edge-isolated-spec : {M : Type 1} → statement M
 edge-isolated-spec =

@@ -18,7 +18,10 @@ returns c =
     let s = c .before .before in
     let a = s .args in
     let j = a .j * 32 in
-    ap₂ _||_ (cell-test (getD (a .edges .now) (j + 1) (pos 0)) (a .node) (getD (a .edges .now) (j + 1) (pos 0)) (sfits-of (c .before .result .given)) (s .fits .node) refl) (cell-test (getD (a .edges .now) (j + 2) (pos 0)) (a .node) (getD (a .edges .now) (j + 2) (pos 0)) (sfits-of (c .result2 .given)) (s .fits .node) refl)
+    ap₂ _||_ (cell-test (getD (a .edges .now) (j + 1) (pos 0)) (a .node) (getD (a .edges .now) (j + 1) (pos 0))
+    (sfits-of (c .before .result .given)) (s .fits .node) refl)
+    (cell-test (getD (a .edges .now) (j + 2) (pos 0)) (a .node) (getD (a .edges .now) (j + 2) (pos 0))
+    (sfits-of (c .result2 .given)) (s .fits .node) refl)
     ∙ ap (endsAt (a .edges .now) (a .j)) (toZ-ofZ {w = w64} (s .fits .node))
 
 pub ends-at-spec : {M : Type 1} → statement M

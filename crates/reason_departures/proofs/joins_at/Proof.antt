@@ -6,7 +6,7 @@ use mir.Syntax.{w64}
 use mir.Val.{toZ, ofZ}
 use mir.Facts.{toZ-ofZ}
 use Rattle.lists.specs.Tests.{same}
-use Rattle.lists.specs.Scans.{count}
+use Rattle.lists.specs.Scans.{countOf}
 use Rattle.links.specs.Linking.{positions, leavesNode}
 use Rattle.reason_departures.specs.Turning.{endsAt}
 use Rattle.reason_departures.proofs.Ends.{joins-is}
@@ -22,8 +22,9 @@ returns c k e =
     let a = s .args in
     let l = a .edges .now in
     let z : toZ w64 (ofZ w64 (a .node)) ≡ pos k = toZ-ofZ {w = w64} (s .fits .node) ∙ e in
-    let n = count (leavesNode l (pos k)) (positions (a .count)) in
-    let f = sym (ap (endsAt l (a .j)) z) ∙ sym (c .before .ends-at .ensures) ∙ not-true (c .before .ends-at .result) (c .if1 .taken) in
+    let n = countOf (leavesNode l (pos k)) (positions (a .count)) in
+    let f = sym (ap (endsAt l (a .j)) z) ∙ sym (c .before .ends-at .ensures)
+    ∙ not-true (c .before .ends-at .result) (c .if1 .taken) in
     sym (ap (λ (b : Bool). b && same n 2) f) ∙ joins-is (s .pre .0) (a .j) (s .pre .1) k n refl
 
 returns-2 : tie.Need-returns-2
@@ -34,9 +35,11 @@ returns-2 c k e =
     let a = s .args in
     let l = a .edges .now in
     let z : toZ w64 (ofZ w64 (a .node)) ≡ pos k = toZ-ofZ {w = w64} (s .fits .node) ∙ e in
-    let f = sym (ap (endsAt l (a .j)) z) ∙ sym (d .ends-at .ensures) ∙ not-false (d .ends-at .result) (c .before .if1 .left) in
+    let f = sym (ap (endsAt l (a .j)) z) ∙ sym (d .ends-at .ensures)
+    ∙ not-false (d .ends-at .result) (c .before .if1 .left) in
     sym (ap (λ (b : Bool). b && same (c .edge-ends .result) 2) f)
-    ∙ joins-is (s .pre .0) (a .j) (s .pre .1) k (c .edge-ends .result) (c .edge-ends .ensures .0 ∙ ap (λ (z : ℤ). count (leavesNode l z) (positions (a .count))) z)
+    ∙ joins-is (s .pre .0) (a .j) (s .pre .1) k (c .edge-ends .result)
+    (c .edge-ends .ensures .0 ∙ ap (λ (z : ℤ). countOf (leavesNode l z) (positions (a .count))) z)
 
 pub joins-at-spec : {M : Type 1} → statement M
 joins-at-spec = tie.close (tie.spec (λ c κs. search needs) returns (λ c κs. search needs) returns-2)

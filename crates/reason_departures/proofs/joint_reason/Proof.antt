@@ -22,8 +22,17 @@ use Rattle.reason_departures.proofs.ends_at.Reads as ends-at-reads
 use Rattle.reason_departures.proofs.joins_at.Reads as joins-at-reads
 
 -- the first test: one edge, or no node shared
-apart : (c : lts.After-ends-at2 (ends-at-reads.Asked, ends-at-reads.Learnt, joins-at-reads.Asked, joins-at-reads.Learnt) reads.Pre reads.Post) → (let s = c .before .before .before .before in let m = edgeMap (s .args .edges .now) (s .args .count) in let a = edgeAt (s .args .edges .now) (s .args .i) .number in let b = edgeAt (s .args .edges .now) (s .args .j) .number in
-    same (s .args .i) (s .args .j) || not (c .before .ends-at .result || c .ends-at2 .result) ≡ same a b || not ((same (edge m a .start) (edge m b .start) || same (edge m a .start) (edge m b .end)) || (same (edge m a .end) (edge m b .start) || same (edge m a .end) (edge m b .end))))
+apart : (c : lts.After-ends-at2 (
+  ends-at-reads.Asked,
+  ends-at-reads.Learnt,
+  joins-at-reads.Asked,
+  joins-at-reads.Learnt,
+) reads.Pre reads.Post) → (let s = c .before .before .before .before in let m =
+    edgeMap (s .args .edges .now) (s .args .count) in let a = edgeAt (s .args .edges .now) (s .args .i) .number in
+    let b = edgeAt (s .args .edges .now) (s .args .j) .number in
+    same (s .args .i) (s .args .j) || not (c .before .ends-at .result || c .ends-at2 .result) ≡ same a b
+    || not ((same (edge m a .start) (edge m b .start) || same (edge m a .start) (edge m b .end))
+    || (same (edge m a .end) (edge m b .start) || same (edge m a .end) (edge m b .end))))
 apart c =
     let s = c .before .before .before .before in
     let x = s .args in
@@ -31,13 +40,23 @@ apart c =
     let t = s .pre .0 in
     let m = edgeMap l (x .count) in
     let a = edgeAt l (x .i) .number in
-    let u : toZ w64 (ofZ w64 (getD l (x .i * 32 + 1) (pos 0))) ≡ pos (edge m a .start) = toZ-ofZ {w = w64} (sfits-of (c .before .before .before .u .given)) ∙ start-cell t (x .i) (s .pre .1) in
-    let v : toZ w64 (ofZ w64 (getD l (x .i * 32 + 2) (pos 0))) ≡ pos (edge m a .end) = toZ-ofZ {w = w64} (sfits-of (c .before .before .v .given)) ∙ end-cell t (x .i) (s .pre .1) in
+    let u : toZ w64 (ofZ w64 (getD l (x .i * 32 + 1) (pos 0))) ≡ pos (edge m a .start) =
+    toZ-ofZ {w = w64} (sfits-of (c .before .before .before .u .given)) ∙ start-cell t (x .i) (s .pre .1) in
+    let v : toZ w64 (ofZ w64 (getD l (x .i * 32 + 2) (pos 0))) ≡ pos (edge m a .end) =
+    toZ-ofZ {w = w64} (sfits-of (c .before .before .v .given)) ∙ end-cell t (x .i) (s .pre .1) in
     ap₂ (λ (p q : Bool). p || not q) (same-row t (x .i) (x .j) (s .pre .1) (s .pre .2))
-    (ap₂ _||_ (c .before .ends-at .ensures ∙ ap (endsAt l (x .j)) u ∙ ends-is t (x .j) (s .pre .2) (edge m a .start)) (c .ends-at2 .ensures ∙ ap (endsAt l (x .j)) v ∙ ends-is t (x .j) (s .pre .2) (edge m a .end)))
+    (ap₂ _||_ (c .before .ends-at .ensures ∙ ap (endsAt l (x .j)) u ∙ ends-is t (x .j) (s .pre .2) (edge m a .start))
+    (c .ends-at2 .ensures ∙ ap (endsAt l (x .j)) v ∙ ends-is t (x .j) (s .pre .2) (edge m a .end)))
 
 -- the second: a node to join at
-joined : (c : lts.After-joins-at2 (ends-at-reads.Asked, ends-at-reads.Learnt, joins-at-reads.Asked, joins-at-reads.Learnt) reads.Pre reads.Post) → (let s = c .before .before .before .before .before .before .before in let m = edgeMap (s .args .edges .now) (s .args .count) in let a = edgeAt (s .args .edges .now) (s .args .i) .number in let b = edgeAt (s .args .edges .now) (s .args .j) .number in
+joined : (c : lts.After-joins-at2 (
+  ends-at-reads.Asked,
+  ends-at-reads.Learnt,
+  joins-at-reads.Asked,
+  joins-at-reads.Learnt,
+) reads.Pre reads.Post) → (let s = c .before .before .before .before .before .before .before in let m =
+    edgeMap (s .args .edges .now) (s .args .count) in let a = edgeAt (s .args .edges .now) (s .args .i) .number in
+    let b = edgeAt (s .args .edges .now) (s .args .j) .number in
     c .before .joins-at .result || c .joins-at2 .result ≡ joinsAt m b (edge m a .end) || joinsAt m b (edge m a .start))
 joined c =
     let s = c .before .before .before .before .before .before .before in
@@ -46,8 +65,12 @@ joined c =
     let t = s .pre .0 in
     let m = edgeMap l (x .count) in
     let a = edgeAt l (x .i) .number in
-    let u : toZ w64 (ofZ w64 (getD l (x .i * 32 + 1) (pos 0))) ≡ pos (edge m a .start) = toZ-ofZ {w = w64} (sfits-of (c .before .before .before .before .before .before .u .given)) ∙ start-cell t (x .i) (s .pre .1) in
-    let v : toZ w64 (ofZ w64 (getD l (x .i * 32 + 2) (pos 0))) ≡ pos (edge m a .end) = toZ-ofZ {w = w64} (sfits-of (c .before .before .before .before .before .v .given)) ∙ end-cell t (x .i) (s .pre .1) in
+    let u : toZ w64 (ofZ w64 (getD l (x .i * 32 + 1) (pos 0))) ≡ pos (edge m a .start) =
+    toZ-ofZ {w = w64} (sfits-of (c .before .before .before .before .before .before .u .given))
+    ∙ start-cell t (x .i) (s .pre .1) in
+    let v : toZ w64 (ofZ w64 (getD l (x .i * 32 + 2) (pos 0))) ≡ pos (edge m a .end) =
+    toZ-ofZ {w = w64} (sfits-of (c .before .before .before .before .before .v .given))
+    ∙ end-cell t (x .i) (s .pre .1) in
     ap₂ _||_ (c .before .joins-at .ensures (edge m a .end) v) (c .joins-at2 .ensures (edge m a .start) u)
 
 returns : tie.Need-returns
@@ -56,7 +79,12 @@ returns c =
     let s = c .before .before .before .before .before in
     let x = s .args in
     let l = x .edges .now in
-    sym (reason-is (edgeMap l (x .count)) (edgeAt l (x .i) .number) (edgeAt l (x .j) .number) ∙ ap (λ (b : Bool). cond b 16 (cond (joinsAt (edgeMap l (x .count)) (edgeAt l (x .j) .number) (edge (edgeMap l (x .count)) (edgeAt l (x .i) .number) .end) || joinsAt (edgeMap l (x .count)) (edgeAt l (x .j) .number) (edge (edgeMap l (x .count)) (edgeAt l (x .i) .number) .start)) 0 17)) (sym (apart (c .before)) ∙ c .if1 .taken))
+    sym (reason-is (edgeMap l (x .count)) (edgeAt l (x .i) .number) (edgeAt l (x .j) .number)
+    ∙ ap (λ (b : Bool). cond b 16 (cond
+    (joinsAt (edgeMap l (x .count)) (edgeAt l (x .j) .number)
+    (edge (edgeMap l (x .count)) (edgeAt l (x .i) .number) .end)
+    || joinsAt (edgeMap l (x .count)) (edgeAt l (x .j) .number)
+    (edge (edgeMap l (x .count)) (edgeAt l (x .i) .number) .start)) 0 17)) (sym (apart (c .before)) ∙ c .if1 .taken))
 
 returns-2 : tie.Need-returns-2
 unfolding same
@@ -64,7 +92,10 @@ returns-2 c =
     let s = c .before .before .before .before .before .before .before .before in
     let x = s .args in
     let l = x .edges .now in
-    sym (reason-is (edgeMap l (x .count)) (edgeAt l (x .i) .number) (edgeAt l (x .j) .number) ∙ ap₂ (λ (b d : Bool). cond b 16 (cond d 0 17)) (sym (apart (c .before .before .before .before)) ∙ c .before .before .before .if1 .left) (sym (joined (c .before)) ∙ c .if2 .taken))
+    sym (reason-is (edgeMap l (x .count)) (edgeAt l (x .i) .number) (edgeAt l (x .j) .number)
+    ∙ ap₂ (λ (b d : Bool). cond b 16 (cond d 0 17))
+    (sym (apart (c .before .before .before .before)) ∙ c .before .before .before .if1 .left)
+    (sym (joined (c .before)) ∙ c .if2 .taken))
 
 returns-3 : tie.Need-returns-3
 unfolding same
@@ -72,7 +103,10 @@ returns-3 c =
     let s = c .before .before .before .before .before .before .before .before in
     let x = s .args in
     let l = x .edges .now in
-    sym (reason-is (edgeMap l (x .count)) (edgeAt l (x .i) .number) (edgeAt l (x .j) .number) ∙ ap₂ (λ (b d : Bool). cond b 16 (cond d 0 17)) (sym (apart (c .before .before .before .before)) ∙ c .before .before .before .if1 .left) (sym (joined (c .before)) ∙ c .if2 .left))
+    sym (reason-is (edgeMap l (x .count)) (edgeAt l (x .i) .number) (edgeAt l (x .j) .number)
+    ∙ ap₂ (λ (b d : Bool). cond b 16 (cond d 0 17))
+    (sym (apart (c .before .before .before .before)) ∙ c .before .before .before .if1 .left)
+    (sym (joined (c .before)) ∙ c .if2 .left))
 
 pub joint-reason-spec : {M : Type 1} → statement M
 joint-reason-spec =

@@ -8,7 +8,7 @@ use lib.IntN.{ℤ, pos}
 use mir.Syntax.{w64}
 use mir.Facts.{toZ-ofZ}
 use Rattle.lists.specs.Tests.{same}
-use Rattle.lists.specs.Scans.{any}
+use Rattle.lists.specs.Scans.{anyOf}
 use Rattle.map.specs.Rows.{edge}
 use Rattle.tables.specs.Tables.{edgeAt, edgeMap}
 use Rattle.links.specs.Linking.{positions, leavesNode}
@@ -24,15 +24,20 @@ use Rattle.reason_departures.proofs.turn_changes.Reads as turn-changes-
 
 -- the tests at the two ends, in the order's terms
 atNode : List ℤ → ℕ → ℕ → List ℤ → ℤ → Bool
-atNode l n own c node = any (λ p. leavesNode l node p && not (same (turnsAt l n n c p) (turnsAt l n own c p))) (positions n)
+atNode l n own c node = anyOf (λ p. leavesNode l node p && not (same (turnsAt l n n c p) (turnsAt l n own c p)))
+    (positions n)
 
-start : (c : lts.After-turn-changes (turn-changes-reads.Asked, turn-changes-reads.Learnt) reads.Pre reads.Post) → (let a = c .before .before .args in c .turn-changes .result ≡ atNode (a .edges .now) (a .count) (a .own) (a .c .now) (pos (edge (edgeMap (a .edges .now) (a .count)) (edgeAt (a .edges .now) (a .own) .number) .start)))
+start : (c : lts.After-turn-changes (turn-changes-reads.Asked, turn-changes-reads.Learnt) reads.Pre reads.Post)
+    → (let a = c .before .before .args in c .turn-changes .result
+    ≡ atNode (a .edges .now) (a .count) (a .own) (a .c .now)
+    (pos (edge (edgeMap (a .edges .now) (a .count)) (edgeAt (a .edges .now) (a .own) .number) .start)))
 unfolding atNode
 start c =
     let s = c .before .before in
     let a = s .args in
     c .turn-changes .ensures
-    ∙ ap (atNode (a .edges .now) (a .count) (a .own) (a .c .now)) (toZ-ofZ {w = w64} (sfits-of (c .before .turn-changes-arg .given)) ∙ start-cell (s .pre .0) (a .own) (s .pre .2))
+    ∙ ap (atNode (a .edges .now) (a .count) (a .own) (a .c .now))
+    (toZ-ofZ {w = w64} (sfits-of (c .before .turn-changes-arg .given)) ∙ start-cell (s .pre .0) (a .own) (s .pre .2))
 
 returns : tie.Need-returns
 unfolding atNode
@@ -40,8 +45,10 @@ returns c =
     let s = c .before .before .before in
     let a = s .args in
     let l = a .edges .now in
-    let y = atNode l (a .count) (a .own) (a .c .now) (pos (edge (edgeMap l (a .count)) (edgeAt l (a .own) .number) .end)) in
-    ap (λ (b : Bool). b || y) (sym (c .if1 .taken)) ∙ order-is (s .pre .0) (a .own) (s .pre .2) (a .c .now) (c .before .turn-changes .result) y (start (c .before)) refl
+    let y = atNode l (a .count) (a .own) (a .c .now)
+    (pos (edge (edgeMap l (a .count)) (edgeAt l (a .own) .number) .end)) in
+    ap (λ (b : Bool). b || y) (sym (c .if1 .taken))
+    ∙ order-is (s .pre .0) (a .own) (s .pre .2) (a .c .now) (c .before .turn-changes .result) y (start (c .before)) refl
 
 returns-2 : tie.Need-returns-2
 unfolding atNode
@@ -50,8 +57,12 @@ returns-2 c =
     let a = s .args in
     let l = a .edges .now in
     let y = c .turn-changes2 .result in
-    let end = c .turn-changes2 .ensures ∙ ap (atNode l (a .count) (a .own) (a .c .now)) (toZ-ofZ {w = w64} (sfits-of (c .before .turn-changes-arg2 .given)) ∙ end-cell (s .pre .0) (a .own) (s .pre .2)) in
-    ap (λ (b : Bool). b || y) (sym (c .before .before .if1 .left)) ∙ order-is (s .pre .0) (a .own) (s .pre .2) (a .c .now) (c .before .before .before .turn-changes .result) y (start (c .before .before .before)) end
+    let end = c .turn-changes2 .ensures
+    ∙ ap (atNode l (a .count) (a .own) (a .c .now))
+    (toZ-ofZ {w = w64} (sfits-of (c .before .turn-changes-arg2 .given)) ∙ end-cell (s .pre .0) (a .own) (s .pre .2)) in
+    ap (λ (b : Bool). b || y) (sym (c .before .before .if1 .left))
+    ∙ order-is (s .pre .0) (a .own) (s .pre .2) (a .c .now) (c .before .before .before .turn-changes .result) y
+    (start (c .before .before .before)) end
 
 pub order-changes-spec : {M : Type 1} → statement M
 order-changes-spec =

@@ -14,7 +14,7 @@ unfolding firstReason
 spent c =
     let s = c .before .before .before in
     let p = s .pre .0 in
-    let e = c .before .count-of .ensures ∙ count-abs (s .args .h .«next_face») (p .next-face) (p .most-faces) in
+    let e = c .before .to-usize .ensures ∙ count-abs (s .args .h .«next_face») (p .next-face) (p .most-faces) in
     rw (lt-ltb 1000000 (natAbs (s .args .h .«next_face») + s .args .numbers) (omega (arith, c .if1 .taken)))
 
 enough : tie.Need-returns-2
@@ -22,14 +22,16 @@ unfolding firstReason
 enough c =
     let s = c .before .before .before in
     let p = s .pre .0 in
-    let e = c .before .count-of .ensures ∙ count-abs (s .args .h .«next_face») (p .next-face) (p .most-faces) in
+    let e = c .before .to-usize .ensures ∙ count-abs (s .args .h .«next_face») (p .next-face) (p .most-faces) in
     rw (le-ltb 1000000 (natAbs (s .args .h .«next_face») + s .args .numbers) (omega (arith, c .if1 .left)))
 
 pub face-reason-spec : {M : Type 1} → statement M
 face-reason-spec =
     tie.close
     (tie.spec
-    (λ c κs. let p = c .before .pre .0 in count-natural (c .before .args .h .«next_face») (p .next-face) (p .most-faces))
-    (λ c. let s = c .before .before in let p = s .pre .0 in let e = c .count-of .ensures ∙ count-abs (s .args .h .«next_face») (p .next-face) (p .most-faces) in omega (arith, p .most-faces, s .pre .1))
+    (λ c κs. let p = c .before .pre .0 in
+    count-natural (c .before .args .h .«next_face») (p .next-face) (p .most-faces))
+    (λ c. let s = c .before .before in let p = s .pre .0 in let e = c .to-usize .ensures
+    ∙ count-abs (s .args .h .«next_face») (p .next-face) (p .most-faces) in omega (arith, p .most-faces, s .pre .1))
     spent
     enough)

@@ -15,8 +15,10 @@ no-start c =
     let s = c .before .before .before .before .before .before in
     let a = s .args in
     let f = s .pre in
-    let n = c .before .before .before .before .count-of .ensures ∙ count-abs (a .h .nodes) (nodes-count f .0) (few-nodes f) in
-    let e = node-none f (a .start) (place-told 4 (a .nodes .now) n (toZ-ofZ {w = w64} {z = a .start} (s .fits .start)) (c .before .before .before .find-row .ensures) (c .before .enum-told .given .1)) in
+    let n = c .before .before .before .before .to-usize .ensures
+    ∙ count-abs (a .h .nodes) (nodes-count f .0) (few-nodes f) in
+    let e = node-none f (a .start) (place-told 4 (a .nodes .now) n (toZ-ofZ {w = w64} {z = a .start} (s .fits .start))
+    (c .before .before .before .find-row .ensures) (c .before .enum-told .given .1)) in
     add-missing f (a .news) (a .start) (a .end) (a .c .now) (rw e) (c .turned-down .ensures)
 
 no-end : tie.Need-returns-2
@@ -24,8 +26,11 @@ no-end c =
     let s = c .before .before .before .before .before .before .before .before .before .before in
     let a = s .args in
     let f = s .pre in
-    let n = c .before .before .before .before .before .before .before .before .count-of .ensures ∙ count-abs (a .h .nodes) (nodes-count f .0) (few-nodes f) in
-    let e = end-none f (a .start) (a .end) (place-told 4 (a .nodes .now) n (toZ-ofZ {w = w64} {z = a .end} (s .fits .end)) (c .before .before .before .find-row2 .ensures) (c .before .enum-told2 .given .1)) in
+    let n = c .before .before .before .before .before .before .before .before .to-usize .ensures
+    ∙ count-abs (a .h .nodes) (nodes-count f .0) (few-nodes f) in
+    let e = end-none f (a .start) (a .end)
+    (place-told 4 (a .nodes .now) n (toZ-ofZ {w = w64} {z = a .end} (s .fits .end))
+    (c .before .before .before .find-row2 .ensures) (c .before .enum-told2 .given .1)) in
     add-missing f (a .news) (a .start) (a .end) (a .c .now) e (c .turned-down2 .ensures)
 
 found : tie.Need-returns-3
@@ -33,9 +38,13 @@ found c =
     let s = c .before .before .before .before .before .before .before .before .before .before .before in
     let a = s .args in
     let f = s .pre in
-    let n = c .before .before .before .before .before .before .before .before .before .count-of .ensures ∙ count-abs (a .h .nodes) (nodes-count f .0) (few-nodes f) in
-    let i = place-told 4 (a .nodes .now) n (toZ-ofZ {w = w64} {z = a .start} (s .fits .start)) (c .before .before .before .before .before .before .before .before .find-row .ensures) (c .before .before .before .before .before .before .found .given .1) in
-    let j = place-told 4 (a .nodes .now) n (toZ-ofZ {w = w64} {z = a .end} (s .fits .end)) (c .before .before .before .before .find-row2 .ensures) (c .before .before .found-end .given .1) in
+    let n = c .before .before .before .before .before .before .before .before .before .to-usize .ensures
+    ∙ count-abs (a .h .nodes) (nodes-count f .0) (few-nodes f) in
+    let i = place-told 4 (a .nodes .now) n (toZ-ofZ {w = w64} {z = a .start} (s .fits .start))
+    (c .before .before .before .before .before .before .before .before .find-row .ensures)
+    (c .before .before .before .before .before .before .found .given .1) in
+    let j = place-told 4 (a .nodes .now) n (toZ-ofZ {w = w64} {z = a .end} (s .fits .end))
+    (c .before .before .before .before .find-row2 .ensures) (c .before .before .found-end .given .1) in
     add-found f (a .news) (a .start) (a .end) _ _ (a .c .now) i j (c .judge-rows .ensures)
 
 judge-rows-requires : tie.Need-judge-rows-requires
@@ -43,9 +52,13 @@ judge-rows-requires c κs =
     let s = c .before .before .before .before .before .before .before .before .before .before in
     let a = s .args in
     let f = s .pre in
-    let n = c .before .before .before .before .before .before .before .before .count-of .ensures ∙ count-abs (a .h .nodes) (nodes-count f .0) (few-nodes f) in
-    let i = place-told 4 (a .nodes .now) n (toZ-ofZ {w = w64} {z = a .start} (s .fits .start)) (c .before .before .before .before .before .before .before .find-row .ensures) (c .before .before .before .before .before .found .given .1) in
-    let j = place-told 4 (a .nodes .now) n (toZ-ofZ {w = w64} {z = a .end} (s .fits .end)) (c .before .before .before .find-row2 .ensures) (c .before .found-end .given .1) in
+    let n = c .before .before .before .before .before .before .before .before .to-usize .ensures
+    ∙ count-abs (a .h .nodes) (nodes-count f .0) (few-nodes f) in
+    let i = place-told 4 (a .nodes .now) n (toZ-ofZ {w = w64} {z = a .start} (s .fits .start))
+    (c .before .before .before .before .before .before .before .find-row .ensures)
+    (c .before .before .before .before .before .found .given .1) in
+    let j = place-told 4 (a .nodes .now) n (toZ-ofZ {w = w64} {z = a .end} (s .fits .end))
+    (c .before .before .before .find-row2 .ensures) (c .before .found-end .given .1) in
     (f, row-below f (a .start) _ i, row-below f (a .end) _ j)
 
 pub judge-add-spec : {M : Type 1} → statement M
@@ -53,12 +66,17 @@ judge-add-spec =
     tie.close
     (tie.spec
     (λ c κs. let f = c .before .pre in count-natural (c .before .args .h .nodes) (nodes-count f .0) (few-nodes f))
-    (λ c κs. let f = c .before .before .pre in rw (c .count-of .ensures ∙ count-abs (c .before .before .args .h .nodes) (nodes-count f .0) (few-nodes f)) (node-rows-rising (node-rows f)))
+    (λ c κs. let f = c .before .before .pre in
+    rw (c .to-usize .ensures ∙ count-abs (c .before .before .args .h .nodes) (nodes-count f .0) (few-nodes f))
+    (node-rows-rising (node-rows f)))
     (λ c. search needs)
     (λ c. search needs)
     (λ c κs. tt)
     no-start
-    (λ c κs. let f = c .before .before .before .before .before .before .pre in rw (c .before .before .before .before .count-of .ensures ∙ count-abs (c .before .before .before .before .before .before .args .h .nodes) (nodes-count f .0) (few-nodes f)) (node-rows-rising (node-rows f)))
+    (λ c κs. let f = c .before .before .before .before .before .before .pre in
+    rw (c .before .before .before .before .to-usize .ensures
+    ∙ count-abs (c .before .before .before .before .before .before .args .h .nodes) (nodes-count f .0) (few-nodes f))
+    (node-rows-rising (node-rows f)))
     (λ c. search needs)
     (λ c. search needs)
     (λ c κs. tt)

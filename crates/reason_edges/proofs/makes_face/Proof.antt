@@ -27,8 +27,15 @@ returns c =
     let right = edgeAt l i .right in
     let fx = sfits-of (c .before .left .given) in
     let fy = sfits-of (c .right .given) in
-    rw (number-test x y left right fx fy (cells .left) (cells .right), number-test x (pos 0) left 0 fx (small-fits 0 (lit≤ tt)) (cells .left) refl, number-test y (pos 0) right 0 fy (small-fits 0 (lit≤ tt)) (cells .right) refl)
-    (eq4 (λ n d p q. n && d && p && q) (λ n d p q. n && d && (p && q)) tt (a .news) (not (same left right)) (not (same left 0)) (not (same right 0)) ∙ ap (λ (b : Bool). a .news && not (same left right) && b) (lower-zero left right))
+    rw (
+      number-test x y left right fx fy (cells .left) (cells .right),
+      number-test x (pos 0) left 0 fx (small-fits 0 (lit≤ tt)) (cells .left) refl,
+      number-test y (pos 0) right 0 fy (small-fits 0 (lit≤ tt)) (cells .right) refl,
+    )
+    (eq4 (λ n d p q. n && d && p && q) (λ n d p q. n && d && (p && q)) tt (a .news) (not (same left right))
+    (not (same left 0)) (not (same right 0))
+    ∙ ap (λ (b : Bool). a .news && not (same left right) && b) (lower-zero left right))
 
 pub makes-face-spec : {M : Type 1} → statement M
-makes-face-spec = tie.close (tie.spec (λ c. search needs) (λ c. search needs) (λ c. search needs) (λ c. search needs) (λ c. search needs) (λ c. search needs) (λ c. search needs) (λ c. search needs) returns)
+makes-face-spec = tie.close (tie.spec (λ c. search needs) (λ c. search needs) (λ c. search needs) (λ c. search needs)
+    (λ c. search needs) (λ c. search needs) (λ c. search needs) (λ c. search needs) returns)

@@ -11,7 +11,9 @@ use Rattle.reason_edges.proofs.makes_second.Tie as tie
 returns : tie.Need-returns
 returns c =
     let a = c .args in
-    ap (λ (b : Bool). a .splits && a .news && not b) (number-test (a .face) (pos 0) (natAbs (a .face)) 0 (c .fits .face) (small-fits 0 (lit≤ tt)) (pos-abs (a .face) (c .pre)) refl)
+    ap (λ (b : Bool). a .splits && a .news && not b)
+    (number-test (a .face) (pos 0) (natAbs (a .face)) 0 (c .fits .face) (small-fits 0 (lit≤ tt))
+    (pos-abs (a .face) (c .pre)) refl)
 
 pub makes-second-spec : {M : Type 1} → statement M
 makes-second-spec = tie.close (tie.spec returns)

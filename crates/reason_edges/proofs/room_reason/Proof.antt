@@ -11,32 +11,40 @@ no-room : tie.Need-returns
 no-room c =
     let s = c .before .before .before .before .before in
     let p = s .pre .0 in
-    let e = c .before .before .before .count-of .ensures ∙ count-abs (s .args .h .edges) (p .edges) (p .few-edges) in
-    let g = c .before .count-of2 .ensures ∙ count-abs (s .args .h .faces) (p .faces) (p .few-faces) in
+    let e = c .before .before .before .to-usize .ensures ∙ count-abs (s .args .h .edges) (p .edges) (p .few-edges) in
+    let g = c .before .to-usize2 .ensures ∙ count-abs (s .args .h .faces) (p .faces) (p .few-faces) in
     sym (first-hit 20 _ _ (room-told (s .args .edges .now) (s .args .faces .now) (s .args .more) e g (c .if1 .taken)))
 
 no-number : tie.Need-returns-2
 no-number c =
     let s = c .before .before .before .before .before .before .before .before .before .before in
     let p = s .pre .0 in
-    let e = c .before .before .before .before .before .before .before .before .count-of .ensures ∙ count-abs (s .args .h .edges) (p .edges) (p .few-edges) in
-    let g = c .before .before .before .before .before .before .count-of2 .ensures ∙ count-abs (s .args .h .faces) (p .faces) (p .few-faces) in
-    let k = c .before .before .before .count-of3 .ensures ∙ count-abs (s .args .h .«next_edge») (p .next-edge) (p .most-edges) in
-    let l = c .before .count-of4 .ensures ∙ count-abs (s .args .h .«next_face») (p .next-face) (p .most-faces) in
+    let e = c .before .before .before .before .before .before .before .before .to-usize .ensures
+    ∙ count-abs (s .args .h .edges) (p .edges) (p .few-edges) in
+    let g = c .before .before .before .before .before .before .to-usize2 .ensures
+    ∙ count-abs (s .args .h .faces) (p .faces) (p .few-faces) in
+    let k = c .before .before .before .to-usize3 .ensures
+    ∙ count-abs (s .args .h .«next_edge») (p .next-edge) (p .most-edges) in
+    let l = c .before .to-usize4 .ensures ∙ count-abs (s .args .h .«next_face») (p .next-face) (p .most-faces) in
     sym
-    (first-miss 20 _ _ (room-told (s .args .edges .now) (s .args .faces .now) (s .args .more) e g (c .before .before .before .before .before .if1 .left))
+    (first-miss 20 _ _ (room-told (s .args .edges .now) (s .args .faces .now) (s .args .more) e g
+    (c .before .before .before .before .before .if1 .left))
     ∙ first-hit 21 _ _ (spent-told (s .args .numbers) k l (c .if2 .taken)))
 
 enough : tie.Need-returns-3
 enough c =
     let s = c .before .before .before .before .before .before .before .before .before .before in
     let p = s .pre .0 in
-    let e = c .before .before .before .before .before .before .before .before .count-of .ensures ∙ count-abs (s .args .h .edges) (p .edges) (p .few-edges) in
-    let g = c .before .before .before .before .before .before .count-of2 .ensures ∙ count-abs (s .args .h .faces) (p .faces) (p .few-faces) in
-    let k = c .before .before .before .count-of3 .ensures ∙ count-abs (s .args .h .«next_edge») (p .next-edge) (p .most-edges) in
-    let l = c .before .count-of4 .ensures ∙ count-abs (s .args .h .«next_face») (p .next-face) (p .most-faces) in
+    let e = c .before .before .before .before .before .before .before .before .to-usize .ensures
+    ∙ count-abs (s .args .h .edges) (p .edges) (p .few-edges) in
+    let g = c .before .before .before .before .before .before .to-usize2 .ensures
+    ∙ count-abs (s .args .h .faces) (p .faces) (p .few-faces) in
+    let k = c .before .before .before .to-usize3 .ensures
+    ∙ count-abs (s .args .h .«next_edge») (p .next-edge) (p .most-edges) in
+    let l = c .before .to-usize4 .ensures ∙ count-abs (s .args .h .«next_face») (p .next-face) (p .most-faces) in
     sym
-    (first-miss 20 _ _ (room-told (s .args .edges .now) (s .args .faces .now) (s .args .more) e g (c .before .before .before .before .before .if1 .left))
+    (first-miss 20 _ _ (room-told (s .args .edges .now) (s .args .faces .now) (s .args .more) e g
+    (c .before .before .before .before .before .if1 .left))
     ∙ first-miss 21 _ _ (spent-told (s .args .numbers) k l (c .if2 .left))
     ∙ first-none)
 
@@ -45,13 +53,24 @@ room-reason-spec =
     tie.close
     (tie.spec
     (λ c κs. let p = c .before .pre .0 in count-natural (c .before .args .h .edges) (p .edges) (p .few-edges))
-    (λ c. let s = c .before .before in let p = s .pre .0 in let e = c .count-of .ensures ∙ count-abs (s .args .h .edges) (p .edges) (p .few-edges) in omega (arith, p .few-edges))
-    (λ c κs. let p = c .before .before .before .pre .0 in count-natural (c .before .before .before .args .h .faces) (p .faces) (p .few-faces))
-    (λ c. let s = c .before .before .before .before in let p = s .pre .0 in let e = c .count-of2 .ensures ∙ count-abs (s .args .h .faces) (p .faces) (p .few-faces) in omega (arith, p .few-faces, s .pre .1))
+    (λ c. let s = c .before .before in let p = s .pre .0 in let e = c .to-usize .ensures
+    ∙ count-abs (s .args .h .edges) (p .edges) (p .few-edges) in omega (arith, p .few-edges))
+    (λ c κs. let p = c .before .before .before .pre .0 in
+    count-natural (c .before .before .before .args .h .faces) (p .faces) (p .few-faces))
+    (λ c. let s = c .before .before .before .before in let p = s .pre .0 in let e = c .to-usize2 .ensures
+    ∙ count-abs (s .args .h .faces) (p .faces) (p .few-faces) in omega (arith, p .few-faces, s .pre .1))
     no-room
-    (λ c κs. let p = c .before .before .before .before .before .before .pre .0 in count-natural (c .before .before .before .before .before .before .args .h .«next_edge») (p .next-edge) (p .most-edges))
-    (λ c. let s = c .before .before .before .before .before .before .before in let p = s .pre .0 in let e = c .count-of3 .ensures ∙ count-abs (s .args .h .«next_edge») (p .next-edge) (p .most-edges) in omega (arith, p .most-edges))
-    (λ c κs. let p = c .before .before .before .before .before .before .before .before .pre .0 in count-natural (c .before .before .before .before .before .before .before .before .args .h .«next_face») (p .next-face) (p .most-faces))
-    (λ c. let s = c .before .before .before .before .before .before .before .before .before in let p = s .pre .0 in let e = c .count-of4 .ensures ∙ count-abs (s .args .h .«next_face») (p .next-face) (p .most-faces) in omega (arith, p .most-faces, s .pre .2))
+    (λ c κs. let p = c .before .before .before .before .before .before .pre .0 in
+    count-natural (c .before .before .before .before .before .before .args .h .«next_edge») (p .next-edge)
+    (p .most-edges))
+    (λ c. let s = c .before .before .before .before .before .before .before in let p = s .pre .0 in let e =
+    c .to-usize3 .ensures ∙ count-abs (s .args .h .«next_edge») (p .next-edge) (p .most-edges) in
+    omega (arith, p .most-edges))
+    (λ c κs. let p = c .before .before .before .before .before .before .before .before .pre .0 in
+    count-natural (c .before .before .before .before .before .before .before .before .args .h .«next_face»)
+    (p .next-face) (p .most-faces))
+    (λ c. let s = c .before .before .before .before .before .before .before .before .before in let p = s .pre .0 in
+    let e = c .to-usize4 .ensures ∙ count-abs (s .args .h .«next_face») (p .next-face) (p .most-faces) in
+    omega (arith, p .most-faces, s .pre .2))
     no-number
     enough)

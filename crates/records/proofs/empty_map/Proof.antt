@@ -1,5 +1,7 @@
--- `records::empty_map` meets its contract: a walk of its MIR, by hand. The head's borrow is opened and the head copied out; the tables go on to `engine::empty_map` for good, and the head goes by value.
--- The head that comes back is written whole, and the borrow is closed at it. All that the proof knows of the callee is that it meets its contract. Assumes nothing.
+-- `records::empty_map` meets its contract: a walk of its MIR, by hand. The head's borrow is opened and the head copied
+-- out; the tables go on to `engine::empty_map` for good, and the head goes by value. The head that comes back is
+-- written whole, and the borrow is closed at it. All that the proof knows of the callee is that it meets its contract.
+-- Assumes nothing.
 use mathlib.Core.Path.{_≡_, refl, ap}
 use Prim.Native.Nat.{ℕ}
 use mathlib.Core.List.{List, [], _∷_}
@@ -17,9 +19,11 @@ use prog.Wp.{Heap, Calls, Loops, WpFn, Tables}
 use ghost.Atoms.{Atoms}
 use contract.Monad.{Fun, fact}
 use contract.Running.{givenOf, tables, tablesOf}
-use types.Kit.{Given, ‵, raw, some, later, _⊛_, ⋆, _$_, _∵_, !, qed, by, move, keep, use1, use2, split, join, pick, rewrite, fsplit, fjoin, suffices, frame, await, done}
+use types.Kit.{Given, ‵, raw, some, later, _⊛_, ⋆, _$_, _∵_, !, qed, by, move, keep, use1, use2, split, join, pick}
+use types.Kit.{rewrite, fsplit, fjoin, suffices, frame, await, done}
 use types.Part.{whole, sub, look-in}
-use types.Run.{look, look-raw, init, store-raw, stop, hop, fld, from, load, of-opd, and-then, no-more, assigns, land, returns, enter, alloc1, alloc0, params1, pass1, pass0, free0}
+use types.Run.{look, look-raw, init, store-raw, stop, hop, fld, from, load, of-opd, and-then, no-more, assigns, land}
+use types.Run.{returns, enter, alloc1, alloc0, params1, pass1, pass0, free0}
 use sound.WpLaws.{FmC, fmOf, WpFn-mono}
 use denote.RattleType.{RattleType, owns}
 use denote.Laws.{Is, shows}
@@ -35,7 +39,8 @@ use denote.Triple.Statement.{Contract, Triple}
 use denote.Triple.Call.{calls-at}
 use denote.Triple.Clauses.{ensured, lasts}
 use denote.Triple.Table.{entered, cited}
-use denote.Triple.Walked.{says, Stays, gave-slice, stay-ref, walkOf, AllGo, goes-gave-slice, goes-ref, Walks, ends-at, walked, walk-meets}
+use denote.Triple.Walked.{says, Stays, gave-slice, stay-ref, walkOf, AllGo, goes-gave-slice, goes-ref, Walks, ends-at}
+use denote.Triple.Walked.{walked, walk-meets}
 use Rattle.map.specs.declared.Head.{Head}
 use Rattle.map.specs.Ticket.{emptied}
 use Rattle.map.proofs.Head as S
@@ -47,7 +52,8 @@ use Rattle.outcomes.specs.declared.Done.{Done}
 use Rattle.outcomes.specs.Outcomes.{outcome}
 use Rattle.outcomes.proofs.Done as D
 use Rattle.outcomes.proofs.Done.Laws as D′
-use Rattle.records.proofs.Heads.{vals, is-head, is-answer, opens-head, closes-head, said-last, frees-local, relends}
+use Rattle.records.proofs.Heads.{vals, is-head, is-answer, opens-head, closes-head, said-last, frees-local}
+use Rattle.records.proofs.Heads.{relends}
 use Rattle.engine.proofs.empty_map as g
 use Rattle.engine.proofs.empty_map.Symbol as g-def
 use Rattle.engine.proofs.empty_map.Symbol.{name as #g}
@@ -61,17 +67,26 @@ abbrev Q : RattleType
 Q = S.the-row
 
 abbrev stayed : Stays (f.ended .signature .params) (f.ended .kept)
-stayed = (gave-slice (0 ∷ []) tt (plain (λ _. i64)), (gave-slice (1 ∷ []) tt (plain (λ _. i64)), (gave-slice (2 ∷ []) tt (plain (λ _. i64)), (stay-ref (3 ∷ []) tt (plain (λ _. Q)), tt))))
+stayed = (
+  gave-slice (0 ∷ []) tt (plain (λ _. i64)),
+  (
+    gave-slice (1 ∷ []) tt (plain (λ _. i64)),
+    (gave-slice (2 ∷ []) tt (plain (λ _. i64)), (stay-ref (3 ∷ []) tt (plain (λ _. Q)), tt)),
+  ),
+)
 
 -- what is bound after the callee: the last lists
 abbrev Lasts : Type 0
 Lasts = List ℤ × (List ℤ × (List ℤ × (Unit {0} × Unit {0})))
 
 -- the contract that the proof cites
-abbrev G : {M : Type 1} (𝓤 : URA M) (H : Heap 𝓤) (A : Atoms 𝓤) (mem : Memory → SProp 𝓤) (run : Routine → Fun 𝓤) → Contract 𝓤
+abbrev G : {M : Type 1} (𝓤 : URA M) (H : Heap 𝓤) (A : Atoms 𝓤) (mem : Memory → SProp 𝓤) (run : Routine → Fun 𝓤)
+    → Contract 𝓤
 G 𝓤 H A mem run = tripleOf 𝓤 H A g.signature (g.spec 𝓤 H A mem run)
 
-module _ {M : Type 1} (𝓤 : URA M) (H : Heap 𝓤) (A : Atoms 𝓤) (W : Given 𝓤 H A) (at-mem : Memory → SProp 𝓤) (run : Routine → Fun 𝓤) (κ₀ κ₁ κ₂ κ₃ : Lft) (q₀ q₁ q₂ q₃ : Share) (n e s : RefT (List ℤ)) (b o : ℕ) (γ : GName) (h : Head)
+module _ {M : Type 1} (𝓤 : URA M) (H : Heap 𝓤) (A : Atoms 𝓤) (W : Given 𝓤 H A) (at-mem : Memory → SProp 𝓤)
+    (run : Routine → Fun 𝓤) (κ₀ κ₁ κ₂ κ₃ : Lft) (q₀ q₁ q₂ q₃ : Share) (n e s : RefT (List ℤ)) (b o : ℕ) (γ : GName)
+    (h : Head)
     (rn : Room i64 (length (n .now))) (re : Room i64 (length (e .now))) (rs : Room i64 (length (s .now))) where
   -- the loan at a head
   abbrev x-at : Head → RefT Head
@@ -84,7 +99,8 @@ module _ {M : Type 1} (𝓤 : URA M) (H : Heap 𝓤) (A : Atoms 𝓤) (W : Given
   at = (vals n, (vals e, (vals s, (vptr b o ∷ [], tt))))
 
   abbrev Post : Val → SProp 𝓤
-  Post = walkOf 𝓤 H A f.ended stayed (f.clauses 𝓤 H A at-mem run) .post (((κ₀, (κ₁, (κ₂, (κ₃, tt)))), (q₀, (q₁, (q₂, (q₃, tt)))), tt, (n, (e, (s, (x, tt)))), at), tt)
+  Post = walkOf 𝓤 H A f.ended stayed (f.clauses 𝓤 H A at-mem run) .post
+      (((κ₀, (κ₁, (κ₂, (κ₃, tt)))), (q₀, (q₁, (q₂, (q₃, tt)))), tt, (n, (e, (s, (x, tt)))), at), tt)
 
   -- what the callee says of the last lists
   abbrev Said : Lasts → Done → Type 0
@@ -92,64 +108,150 @@ module _ {M : Type 1} (𝓤 : URA M) (H : Heap 𝓤) (A : Atoms 𝓤) (W : Given
 
   -- they are as long as those passed
   abbrev Long : Lasts → Type 0
-  Long zs = (length (zs .0) ≡ length (n .now)) × ((length (zs .1 .0) ≡ length (e .now)) × ((length (zs .1 .1 .0) ≡ length (s .now)) × (Unit {0} × Unit {0})))
+  Long zs = (length (zs .0) ≡ length (n .now))
+      × ((length (zs .1 .0) ≡ length (e .now)) × ((length (zs .1 .1 .0) ≡ length (s .now)) × (Unit {0} × Unit {0})))
 
   abbrev to-g : G 𝓤 H A at-mem run .Ghost
-  to-g = (((κ₀, (κ₁, (κ₂, tt))), (q₀, (q₁, (q₂, tt))), tt, (n, (e, (s, (h, tt)))), (vals n, (vals e, (vals s, (S′.lowered h ∷ [], tt))))), tt)
+  to-g = (
+    (
+      (κ₀, (κ₁, (κ₂, tt))),
+      (q₀, (q₁, (q₂, tt))),
+      tt,
+      (n, (e, (s, (h, tt)))),
+      (vals n, (vals e, (vals s, (S′.lowered h ∷ [], tt)))),
+    ),
+    tt,
+  )
 
-  goes-g : ent 𝓤 (onEntry 𝓤 H A g.signature (κ₀, (κ₁, (κ₂, tt))) (q₀, (q₁, (q₂, tt))) (n, (e, (s, (h, tt)))) (vals n, (vals e, (vals s, (S′.lowered h ∷ [], tt))))) (G 𝓤 H A at-mem run .pre to-g)
-  goes-g = qed W ((‵ (flft κ₀ q₀) ⊛ ‵ (flft κ₁ q₁) ⊛ ‵ (flft κ₂ q₂) ⊛ ‵ ftrue) ∷ ‵ (owns (MutSlice (named 0) κ₀ i64 ∷ MutSlice (named 1) κ₁ i64 ∷ MutSlice (named 2) κ₂ i64 ∷ Q ∷ []) (n, (e, (s, (h, tt)))) (vals n, (vals e, (vals s, (S′.lowered h ∷ [], tt))))) ∷ []) ∵ join ! $ frame ! $ done !
+  goes-g : ent 𝓤 (onEntry 𝓤 H A g.signature (κ₀, (κ₁, (κ₂, tt))) (q₀, (q₁, (q₂, tt))) (n, (e, (s, (h, tt))))
+      (vals n, (vals e, (vals s, (S′.lowered h ∷ [], tt))))) (G 𝓤 H A at-mem run .pre to-g)
+  goes-g = qed W ((‵ (flft κ₀ q₀) ⊛ ‵ (flft κ₁ q₁) ⊛ ‵ (flft κ₂ q₂) ⊛ ‵ ftrue)
+      ∷ ‵ (owns (MutSlice (named 0) κ₀ i64 ∷ MutSlice (named 1) κ₁ i64 ∷ MutSlice (named 2) κ₂ i64 ∷ Q ∷ [])
+      (n, (e, (s, (h, tt)))) (vals n, (vals e, (vals s, (S′.lowered h ∷ [], tt))))) ∷ []) ∵ join ! $ frame ! $ done !
 
   exits : (r : Done) (zs : Lasts) → Said zs r → Long zs → Is U.the-row (r .answer) (U′.lowered (r .answer) ∷ [])
-      → ent 𝓤 (⋆ 𝓤 H A (‵ (MutRef (named 3) κ₃ Q .own (x-at (r .head)) (vptr b o ∷ [])) ∷ ‵ (flft κ₃ q₃) ∷ (‵ (flft κ₀ q₀) ⊛ ‵ (flft κ₁ q₁) ⊛ ‵ (flft κ₂ q₂) ⊛ ‵ ftrue) ∷ ‵ (finally i64 (n .name) (zs .0)) ∷ ‵ (finally i64 (e .name) (zs .1 .0)) ∷ ‵ (finally i64 (s .name) (zs .1 .1 .0)) ∷ [])) (Post (U′.lowered (r .answer)))
+      → ent 𝓤 (⋆ 𝓤 H A (‵ (MutRef (named 3) κ₃ Q .own (x-at (r .head)) (vptr b o ∷ [])) ∷ ‵ (flft κ₃ q₃)
+      ∷ (‵ (flft κ₀ q₀) ⊛ ‵ (flft κ₁ q₁) ⊛ ‵ (flft κ₂ q₂) ⊛ ‵ ftrue) ∷ ‵ (finally i64 (n .name) (zs .0))
+      ∷ ‵ (finally i64 (e .name) (zs .1 .0)) ∷ ‵ (finally i64 (s .name) (zs .1 .1 .0)) ∷ []))
+      (Post (U′.lowered (r .answer)))
   exits r zs said long is =
-      qed W (‵ (MutRef (named 3) κ₃ Q .own (x-at (r .head)) (vptr b o ∷ [])) ∷ ‵ (flft κ₃ q₃) ∷ (‵ (flft κ₀ q₀) ⊛ ‵ (flft κ₁ q₁) ⊛ ‵ (flft κ₂ q₂) ⊛ ‵ ftrue) ∷ ‵ (finally i64 (n .name) (zs .0)) ∷ ‵ (finally i64 (e .name) (zs .1 .0)) ∷ ‵ (finally i64 (s .name) (zs .1 .1 .0)) ∷ []) ∵
-      suffices ! _ (ends-at 𝓤 H A f.ended stayed (f.clauses 𝓤 H A at-mem run) W (((κ₀, (κ₁, (κ₂, (κ₃, tt)))), (q₀, (q₁, (q₂, (q₃, tt)))), tt, (n, (e, (s, (x, tt)))), at), tt) (U′.lowered (r .answer)) (r .answer) (zs .0, (zs .1 .0, (zs .1 .1 .0, (r .head, zs .1 .1 .1 .1)))) long) $ says ! said $
+      qed W (‵ (MutRef (named 3) κ₃ Q .own (x-at (r .head)) (vptr b o ∷ [])) ∷ ‵ (flft κ₃ q₃)
+      ∷ (‵ (flft κ₀ q₀) ⊛ ‵ (flft κ₁ q₁) ⊛ ‵ (flft κ₂ q₂) ⊛ ‵ ftrue) ∷ ‵ (finally i64 (n .name) (zs .0))
+      ∷ ‵ (finally i64 (e .name) (zs .1 .0)) ∷ ‵ (finally i64 (s .name) (zs .1 .1 .0)) ∷ []) ∵
+      suffices ! _ (ends-at 𝓤 H A f.ended stayed (f.clauses 𝓤 H A at-mem run) W
+      (((κ₀, (κ₁, (κ₂, (κ₃, tt)))), (q₀, (q₁, (q₂, (q₃, tt)))), tt, (n, (e, (s, (x, tt)))), at), tt)
+      (U′.lowered (r .answer)) (r .answer)
+      (zs .0, (zs .1 .0, (zs .1 .1 .0, (r .head, zs .1 .1 .1 .1)))) long) $ says ! said $
       move ! (2 ∷ []) $ split ! $ move ! (1 ∷ []) $ split ! $ move ! (1 ∷ []) $ split ! $
       -- [κ₂; the other tokens; κ₁; κ₀; the head's loan; κ₃; what is left of the other loans]
-      move ! (5 ∷ 1 ∷ []) $ join ! $ move ! (1 ∷ 0 ∷ []) $ join ! $ move ! (1 ∷ 0 ∷ []) $ join ! $ move ! (1 ∷ 0 ∷ []) $ join ! $ frame ! $
-      nothing ! $ move ! (1 ∷ 0 ∷ []) $ fjoin ! $ move ! (3 ∷ 0 ∷ []) $ fjoin ! $ move ! (2 ∷ 0 ∷ []) $ fjoin ! $ move ! (1 ∷ 0 ∷ []) $ fjoin ! $
-      owned ! U.the-row (Is U.the-row) (LL.makes U.the-type U′.the-plain 𝓤 H A) (r .answer) _ is $ move ! (1 ∷ 0 ∷ []) $ done !
+      move ! (5 ∷ 1 ∷ []) $ join ! $ move ! (1 ∷ 0 ∷ []) $ join ! $ move ! (1 ∷ 0 ∷ []) $ join ! $ move !
+      (1 ∷ 0 ∷ []) $ join ! $ frame ! $
+      nothing ! $ move ! (1 ∷ 0 ∷ []) $ fjoin ! $ move ! (3 ∷ 0 ∷ []) $ fjoin ! $ move !
+      (2 ∷ 0 ∷ []) $ fjoin ! $ move ! (1 ∷ 0 ∷ []) $ fjoin ! $
+      owned ! U.the-row (Is U.the-row) (LL.makes U.the-type U′.the-plain 𝓤 H A) (r .answer) _ is $ move !
+      (1 ∷ 0 ∷ []) $ done !
 
-  module _ (C : Calls 𝓤 H) (Λ : Loops 𝓤 H) (fm : FmC 𝓤 H (W .laws) C) (known : Triple 𝓤 (C #g) (G 𝓤 H A at-mem run)) where
-    walk : ent 𝓤 (onEntry 𝓤 H A f.signature (κ₀, (κ₁, (κ₂, (κ₃, tt)))) (q₀, (q₁, (q₂, (q₃, tt)))) (n, (e, (s, (x, tt)))) at) (WpFn 𝓤 H C Λ code.function (sliceVal (n .ptr) (length (n .now)) ∷ sliceVal (e .ptr) (length (e .now)) ∷ sliceVal (s .ptr) (length (s .now)) ∷ vptr b o ∷ []) Post)
+  module _ (C : Calls 𝓤 H) (Λ : Loops 𝓤 H) (fm : FmC 𝓤 H (W .laws) C)
+      (known : Triple 𝓤 (C #g) (G 𝓤 H A at-mem run)) where
+    walk : ent 𝓤 (onEntry 𝓤 H A f.signature (κ₀, (κ₁, (κ₂, (κ₃, tt)))) (q₀, (q₁, (q₂, (q₃, tt))))
+        (n, (e, (s, (x, tt)))) at) (WpFn 𝓤 H C Λ code.function
+        (sliceVal (n .ptr) (length (n .now)) ∷ sliceVal (e .ptr) (length (e .now))
+        ∷ sliceVal (s .ptr) (length (s .now)) ∷ vptr b o ∷ []) Post)
     walk =
-        qed W ((‵ (flft κ₀ q₀) ⊛ ‵ (flft κ₁ q₁) ⊛ ‵ (flft κ₂ q₂) ⊛ ‵ (flft κ₃ q₃) ⊛ ‵ ftrue) ∷ ‵ (owns (MutSlice (named 0) κ₀ i64 ∷ MutSlice (named 1) κ₁ i64 ∷ MutSlice (named 2) κ₂ i64 ∷ MutRef (named 3) κ₃ Q ∷ []) (n, (e, (s, (x, tt)))) at) ∷ []) ∵ enter ! C Λ code.function (sliceVal (n .ptr) (length (n .now)) ∷ sliceVal (e .ptr) (length (e .now)) ∷ sliceVal (s .ptr) (length (s .now)) ∷ vptr b o ∷ []) _ $
-        alloc1 ! (λ l₀. alloc1 ! (λ l₁. alloc1 ! (λ l₂. alloc1 ! (λ l₃. alloc1 ! (λ l₄. alloc1 ! (λ l₅. alloc1 ! (λ l₆. alloc1 ! (λ l₇. alloc1 ! (λ l₈. alloc1 ! (λ l₉. alloc1 ! (λ l₁₀. alloc1 ! (λ l₁₁. alloc1 ! (λ l₁₂. alloc0 ! $ params1 ! $
-        pass1 ! (init ! 22 refl (tt, (tt, (record { fits = rn .0 }, tt)))) $ pass1 ! (init ! 20 refl (tt, (tt, (record { fits = re .0 }, tt)))) $ pass1 ! (init ! 18 refl (tt, (tt, (record { fits = rs .0 }, tt)))) $ pass1 ! (init ! 16 refl (tt, tt)) $ pass0 ! $
+        qed W ((‵ (flft κ₀ q₀) ⊛ ‵ (flft κ₁ q₁) ⊛ ‵ (flft κ₂ q₂) ⊛ ‵ (flft κ₃ q₃) ⊛ ‵ ftrue)
+        ∷ ‵ (owns (MutSlice (named 0) κ₀ i64 ∷ MutSlice (named 1) κ₁ i64 ∷ MutSlice (named 2) κ₂ i64
+        ∷ MutRef (named 3) κ₃ Q ∷ []) (n, (e, (s, (x, tt)))) at) ∷ []) ∵ enter ! C Λ code.function
+        (sliceVal (n .ptr) (length (n .now)) ∷ sliceVal (e .ptr) (length (e .now))
+        ∷ sliceVal (s .ptr) (length (s .now)) ∷ vptr b o ∷ []) _ $
+        alloc1 ! (λ l₀. alloc1 ! (λ l₁. alloc1 !
+        (λ l₂. alloc1 ! (λ l₃. alloc1 !
+        (λ l₄. alloc1 ! (λ l₅. alloc1 !
+        (λ l₆. alloc1 ! (λ l₇. alloc1 !
+        (λ l₈. alloc1 ! (λ l₉. alloc1 ! (λ l₁₀. alloc1 ! (λ l₁₁. alloc1 ! (λ l₁₂. alloc0 ! $ params1 ! $
+        pass1 ! (init ! 22 refl (tt, (tt, (record { fits = rn .0 }, tt)))) $ pass1 !
+        (init ! 20 refl (tt, (tt, (record { fits = re .0 }, tt)))) $ pass1 !
+        (init ! 18 refl (tt, (tt, (record { fits = rs .0 }, tt)))) $ pass1 ! (init ! 16 refl (tt, tt)) $ pass0 ! $
         -- the head's borrow is opened
-        move ! (27 ∷ []) $ fsplit ! $ move ! (1 ∷ []) $ fsplit ! $ move ! (1 ∷ []) $ fsplit ! $ move ! (1 ∷ []) $ fsplit ! $ move ! (31 ∷ []) $ split ! $ move ! (1 ∷ []) $ split ! $ move ! (1 ∷ []) $ split ! $ move ! (1 ∷ []) $ split ! $ move ! (5 ∷ 0 ∷ []) $ opens-head ! tt h b o (λ is-h.
-        -- [the head's cell; what h owns; its open borrow; obs; auth; the tokens; what the other loans own; the locals, the last first]
-        assigns ! (of-opd ! (load ! (from ! (hop ! (look ! 29 refl) (stop !))) (look-raw ! 0 refl))) (from ! (stop !)) (init ! 27 refl (LL.lawful S.the-type S′.the-laws 𝓤 H A W .typed h _ is-h .0)) $
+        move ! (27 ∷ []) $ fsplit ! $ move ! (1 ∷ []) $ fsplit ! $ move ! (1 ∷ []) $ fsplit ! $ move !
+        (1 ∷ []) $ fsplit ! $ move ! (31 ∷ []) $ split ! $ move ! (1 ∷ []) $ split ! $ move !
+        (1 ∷ []) $ split ! $ move ! (1 ∷ []) $ split ! $ move ! (5 ∷ 0 ∷ []) $ opens-head ! tt h b o (λ is-h.
+        -- [the head's cell; what h owns; its open borrow; obs; auth; the tokens; what the other loans own; the locals,
+        -- the last first]
+        assigns ! (of-opd ! (load ! (from ! (hop ! (look ! 29 refl) (stop !))) (look-raw ! 0 refl))) (from ! (stop !))
+        (init ! 27 refl (LL.lawful S.the-type S′.the-laws 𝓤 H A W .typed h _ is-h .0)) $
         relends ! 35 23 21 (rn .0) (refl, refl, refl) (refl, refl) (refl, refl, refl) $
         relends ! 33 19 17 (re .0) (refl, refl, refl) (refl, refl) (refl, refl, refl) $
         relends ! 31 15 13 (rs .0) (refl, refl, refl) (refl, refl) (refl, refl, refl) $
         -- what the callee takes: the tokens, the other loans and the head
-        move ! (6 ∷ 5 ∷ []) $ join ! $ move ! (6 ∷ 0 ∷ []) $ join ! $ move ! (6 ∷ 0 ∷ []) $ join ! $ move ! (2 ∷ 6 ∷ []) $ fjoin ! $ move ! (6 ∷ 0 ∷ []) $ fjoin ! $ move ! (6 ∷ 0 ∷ []) $ fjoin ! $ move ! (6 ∷ 0 ∷ []) $ fjoin ! $ move ! (1 ∷ 0 ∷ []) $ use2 W (raw (G 𝓤 H A at-mem run .pre to-g)) goes-g $
-        calls-at ! fm (G 𝓤 H A at-mem run) known to-g (and-then ! (load ! (from ! (stop !)) (look ! 13 refl)) (and-then ! (load ! (from ! (stop !)) (look ! 9 refl)) (and-then ! (load ! (from ! (stop !)) (look ! 5 refl)) (and-then ! (load ! (from ! (stop !)) (look ! 19 refl)) (no-more !))))) (λ w.
-        use1 W (later (some (λ (r : Done). ((‵ (flft κ₀ q₀) ⊛ ‵ (flft κ₁ q₁) ⊛ ‵ (flft κ₂ q₂) ⊛ ‵ ftrue) ⊛ ‵ (D.the-row .own r (w ∷ []))) ⊛ raw (ensured 𝓤 H A g.ended (g.clauses 𝓤 H A at-mem run) (κ₀, (κ₁, (κ₂, tt))) (n, (e, (s, (h, tt)))) tt r)))) (id⊢ 𝓤 _) $ await ! tt $ pick ! (λ r.
-        split ! $ move ! (1 ∷ []) $ use1 W (some (λ (zs : Lasts). ‵ (lasts g.ended (κ₀, (κ₁, (κ₂, tt))) (n, (e, (s, (h, tt)))) zs) ⊛ raw (fact 𝓤 (Said zs r)))) (id⊢ 𝓤 _) $ pick ! (λ zs.
-        split ! $ move ! (1 ∷ []) $ heard ! (Said zs r) (λ said. said-last ! i64 (zs .0) (λ ln. said-last ! i64 (zs .1 .0) (λ le. said-last ! i64 (zs .1 .1 .0) (λ ls.
-        move ! (4 ∷ []) $ split ! $ move ! (1 ∷ []) $ peeks ! D.the-row (Is D.the-row) (shows 𝓤 H A D.the-row) r (w ∷ []) (λ is.
-        land ! (from ! (stop !)) (init ! 22 refl (LL.lawful D.the-type D′.the-laws 𝓤 H A W .typed r _ is .0)) $ rewrite ! 22 (λ (y : Val). ‵ (fat fullShare D′.mir l₆ 0 y)) (ap only (LL.tells D.the-type D′.the-laws r _ is)) refl $
-        -- [what r owns; the tokens; …; the last lists; what is kept of the shared loans; the head's cell; its open borrow; obs; auth; the locals, the last first]
-        assigns ! (of-opd ! (load ! (from ! (fld ! refl (stop !))) (look-in ! 22 (sub ! 0 refl (whole !))))) (from ! (hop ! (look ! 26 refl) (stop !))) (store-raw ! 6 refl (LL.lawful S.the-type S′.the-laws 𝓤 H A W .typed (r .head) _ (is-head r w is) .0)) $
-        assigns ! (of-opd ! (load ! (from ! (fld ! refl (stop !))) (look-in ! 22 (sub ! 1 refl (whole !))))) (from ! (stop !)) (init ! 34 refl (LL.lawful U.the-type U′.the-laws 𝓤 H A W .typed (r .answer) _ (is-answer r w is) .0)) $
+        move ! (6 ∷ 5 ∷ []) $ join ! $ move ! (6 ∷ 0 ∷ []) $ join ! $ move ! (6 ∷ 0 ∷ []) $ join ! $ move !
+        (2 ∷ 6 ∷ []) $ fjoin ! $ move ! (6 ∷ 0 ∷ []) $ fjoin ! $ move ! (6 ∷ 0 ∷ []) $ fjoin ! $ move !
+        (6 ∷ 0 ∷ []) $ fjoin ! $ move ! (1 ∷ 0 ∷ []) $ use2 W (raw (G 𝓤 H A at-mem run .pre to-g)) goes-g $
+        calls-at ! fm (G 𝓤 H A at-mem run) known to-g
+        (and-then ! (load ! (from ! (stop !)) (look ! 13 refl))
+        (and-then ! (load ! (from ! (stop !)) (look ! 9 refl))
+        (and-then ! (load ! (from ! (stop !)) (look ! 5 refl))
+        (and-then ! (load ! (from ! (stop !)) (look ! 19 refl)) (no-more !))))) (λ w.
+        use1 W (later (some (λ (r : Done).
+        ((‵ (flft κ₀ q₀) ⊛ ‵ (flft κ₁ q₁) ⊛ ‵ (flft κ₂ q₂) ⊛ ‵ ftrue) ⊛ ‵ (D.the-row .own r (w ∷ []))) ⊛ raw
+        (ensured 𝓤 H A g.ended (g.clauses 𝓤 H A at-mem run) (κ₀, (κ₁, (κ₂, tt))) (n, (e, (s, (h, tt)))) tt r))))
+        (id⊢ 𝓤 _) $ await ! tt $ pick ! (λ r.
+        split ! $ move ! (1 ∷ []) $ use1 W
+        (some (λ (zs : Lasts). ‵ (lasts g.ended (κ₀, (κ₁, (κ₂, tt))) (n, (e, (s, (h, tt)))) zs) ⊛ raw
+        (fact 𝓤 (Said zs r)))) (id⊢ 𝓤 _) $ pick ! (λ zs.
+        split ! $ move ! (1 ∷ []) $ heard ! (Said zs r)
+        (λ said. said-last ! i64 (zs .0) (λ ln. said-last ! i64 (zs .1 .0) (λ le. said-last ! i64 (zs .1 .1 .0) (λ ls.
+        move ! (4 ∷ []) $ split ! $ move ! (1 ∷ []) $ peeks ! D.the-row (Is D.the-row) (shows 𝓤 H A D.the-row) r
+        (w ∷ []) (λ is.
+        land ! (from ! (stop !)) (init ! 22 refl
+        (LL.lawful D.the-type D′.the-laws 𝓤 H A W .typed r _ is .0)) $ rewrite ! 22
+        (λ (y : Val). ‵ (fat fullShare D′.mir l₆ 0 y)) (ap only (LL.tells D.the-type D′.the-laws r _ is)) refl $
+        -- [what r owns; the tokens; …; the last lists; what is kept of the shared loans; the head's cell; its open
+        -- borrow; obs; auth; the locals, the last first]
+        assigns ! (of-opd ! (load ! (from ! (fld ! refl (stop !))) (look-in ! 22 (sub ! 0 refl (whole !)))))
+        (from ! (hop ! (look ! 26 refl) (stop !)))
+        (store-raw ! 6 refl (LL.lawful S.the-type S′.the-laws 𝓤 H A W .typed (r .head) _ (is-head r w is) .0)) $
+        assigns ! (of-opd ! (load ! (from ! (fld ! refl (stop !))) (look-in ! 22 (sub ! 1 refl (whole !)))))
+        (from ! (stop !)) (init ! 34 refl
+        (LL.lawful U.the-type U′.the-laws 𝓤 H A W .typed (r .answer) _ (is-answer r w is) .0)) $
         move ! (6 ∷ 7 ∷ 8 ∷ 9 ∷ []) $ closes-head ! tt (r .head) (is-head r w is) b o $ returns ! (look ! 32 refl) $
-        keep ! (32 ∷ 33 ∷ 30 ∷ 31 ∷ 28 ∷ 29 ∷ 26 ∷ 27 ∷ 24 ∷ 25 ∷ 22 ∷ 23 ∷ 20 ∷ 21 ∷ 18 ∷ 19 ∷ 16 ∷ 17 ∷ 14 ∷ 15 ∷ 12 ∷ 13 ∷ 10 ∷ 11 ∷ 8 ∷ 9 ∷ 0 ∷ 1 ∷ 3 ∷ 7 ∷ 6 ∷ 5 ∷ []) $
-        frees-local ! $ frees-local ! $ frees-local ! $ frees-local ! $ frees-local ! $ frees-local ! $ frees-local ! $ frees-local ! $ frees-local ! $ frees-local ! $ frees-local ! $ frees-local ! $ frees-local ! $ free0 ! $
+        keep ! (32 ∷ 33 ∷ 30 ∷ 31 ∷ 28 ∷ 29 ∷ 26 ∷ 27 ∷ 24 ∷ 25 ∷ 22 ∷ 23 ∷ 20 ∷ 21 ∷ 18 ∷ 19 ∷ 16 ∷ 17 ∷ 14 ∷ 15 ∷ 12
+        ∷ 13 ∷ 10 ∷ 11 ∷ 8 ∷ 9 ∷ 0 ∷ 1 ∷ 3 ∷ 7 ∷ 6 ∷ 5 ∷ []) $
+        frees-local ! $ frees-local ! $ frees-local ! $ frees-local ! $ frees-local ! $ frees-local ! $ frees-local ! $
+        frees-local ! $ frees-local ! $ frees-local ! $ frees-local ! $ frees-local ! $ frees-local ! $ free0 ! $
         by ! (exits r zs said (ln, (le, (ls, (tt, tt)))) (is-answer r w is))))))))))))))))))))))))
 
-module _ {M : Type 1} (𝓤 : URA M) (H : Heap 𝓤) (A : Atoms 𝓤) (W : Given 𝓤 H A) (at-mem : Memory → SProp 𝓤) (run : Routine → Fun 𝓤) where
-  walks : (C : Calls 𝓤 H) (Λ : Loops 𝓤 H) → FmC 𝓤 H (W .laws) C → Triple 𝓤 (C #g) (G 𝓤 H A at-mem run) → Walks 𝓤 H A f.ended stayed (WpFn 𝓤 H C Λ code.function) (f.clauses 𝓤 H A at-mem run)
-  walks C Λ fm known = walked 𝓤 H A f.ended stayed (f.clauses 𝓤 H A at-mem run) (WpFn 𝓤 H C Λ code.function) (λ κs. (slice-vals, (slice-vals, (slice-vals, (ptr-vals, tt))))) (λ κs. (mut-slice-tells (named 0) (κs .0) i64, (mut-slice-tells (named 1) (κs .1 .0) i64, (mut-slice-tells (named 2) (κs .1 .1 .0) i64, (mut-tells (named 3) (κs .1 .1 .1 .0) Q, tt)))))
-      (λ κs qs bounds a _ are. via 𝓤 _ (fst∗ 𝓤 _ (emp 𝓤)) (walk 𝓤 H A W at-mem run (κs .0) (κs .1 .0) (κs .1 .1 .0) (κs .1 .1 .1 .0) (qs .0) (qs .1 .0) (qs .1 .1 .0) (qs .1 .1 .1 .0) (a .0) (a .1 .0) (a .1 .1 .0) (a .1 .1 .1 .0 .ptr .0) (a .1 .1 .1 .0 .ptr .1) (a .1 .1 .1 .0 .name) (a .1 .1 .1 .0 .now) (are .0 .0 .1) (are .1 .0 .0 .1) (are .1 .1 .0 .0 .1) C Λ fm known))
+module _ {M : Type 1} (𝓤 : URA M) (H : Heap 𝓤) (A : Atoms 𝓤) (W : Given 𝓤 H A) (at-mem : Memory → SProp 𝓤)
+    (run : Routine → Fun 𝓤) where
+  walks : (C : Calls 𝓤 H) (Λ : Loops 𝓤 H) → FmC 𝓤 H (W .laws) C → Triple 𝓤 (C #g) (G 𝓤 H A at-mem run)
+      → Walks 𝓤 H A f.ended stayed (WpFn 𝓤 H C Λ code.function) (f.clauses 𝓤 H A at-mem run)
+  walks C Λ fm known = walked 𝓤 H A f.ended stayed (f.clauses 𝓤 H A at-mem run) (WpFn 𝓤 H C Λ code.function)
+      (λ κs. (slice-vals, (slice-vals, (slice-vals, (ptr-vals, tt)))))
+      (λ κs. (
+        mut-slice-tells (named 0) (κs .0) i64,
+        (
+          mut-slice-tells (named 1) (κs .1 .0) i64,
+          (mut-slice-tells (named 2) (κs .1 .1 .0) i64, (mut-tells (named 3) (κs .1 .1 .1 .0) Q, tt)),
+        ),
+      ))
+      (λ κs qs bounds a _ are. via 𝓤 _ (fst∗ 𝓤 _ (emp 𝓤))
+      (walk 𝓤 H A W at-mem run (κs .0) (κs .1 .0) (κs .1 .1 .0) (κs .1 .1 .1 .0) (qs .0) (qs .1 .0) (qs .1 .1 .0)
+      (qs .1 .1 .1 .0) (a .0) (a .1 .0) (a .1 .1 .0) (a .1 .1 .1 .0 .ptr .0) (a .1 .1 .1 .0 .ptr .1)
+      (a .1 .1 .1 .0 .name) (a .1 .1 .1 .0 .now) (are .0 .0 .1) (are .1 .0 .0 .1) (are .1 .1 .0 .0 .1) C Λ fm known))
 
   goes : AllGo 𝓤 H A W 4 (f.signature .params) (f.ended .kept) stayed
-  goes = (goes-gave-slice 𝓤 H A W 4 0 tt (plain (λ _. i64)), (goes-gave-slice 𝓤 H A W 4 1 tt (plain (λ _. i64)), (goes-gave-slice 𝓤 H A W 4 2 tt (plain (λ _. i64)), (goes-ref 𝓤 H A W 4 3 tt (plain (λ _. Q)), tt))))
+  goes = (
+    goes-gave-slice 𝓤 H A W 4 0 tt (plain (λ _. i64)),
+    (
+      goes-gave-slice 𝓤 H A W 4 1 tt (plain (λ _. i64)),
+      (goes-gave-slice 𝓤 H A W 4 2 tt (plain (λ _. i64)), (goes-ref 𝓤 H A W 4 3 tt (plain (λ _. Q)), tt)),
+    ),
+  )
 
-  meets : (𝓣 : Tables 𝓤 H) → Triple 𝓤 (𝓣 .C #g) (G 𝓤 H A at-mem run) → Meets 𝓤 H A f.signature (WpFn 𝓤 H (𝓣 .C) (𝓣 .Λ) code.function) (f.spec 𝓤 H A at-mem run)
-  meets 𝓣 known = walk-meets 𝓤 H A f.ended stayed W goes (f.clauses 𝓤 H A at-mem run) (WpFn 𝓤 H (𝓣 .C) (𝓣 .Λ) code.function) (WpFn-mono 𝓤 H (W .laws) 𝓣 code.function) (walks (𝓣 .C) (𝓣 .Λ) (fmOf 𝓤 H (W .laws) 𝓣) known)
+  meets : (𝓣 : Tables 𝓤 H) → Triple 𝓤 (𝓣 .C #g) (G 𝓤 H A at-mem run)
+      → Meets 𝓤 H A f.signature (WpFn 𝓤 H (𝓣 .C) (𝓣 .Λ) code.function) (f.spec 𝓤 H A at-mem run)
+  meets 𝓣 known = walk-meets 𝓤 H A f.ended stayed W goes (f.clauses 𝓤 H A at-mem run)
+      (WpFn 𝓤 H (𝓣 .C) (𝓣 .Λ) code.function) (WpFn-mono 𝓤 H (W .laws) 𝓣 code.function)
+      (walks (𝓣 .C) (𝓣 .Λ) (fmOf 𝓤 H (W .laws) 𝓣) known)
 
 pub empty-map-spec : {M : Type 1} → stated.statement M
 unfolding code.routine tablesOf
@@ -157,4 +259,5 @@ empty-map-spec 𝓤 H 𝓜 𝓖 𝓡 =
     entered 𝓤 H (tripleOf 𝓤 H (𝓖 .A) f.signature (f.spec 𝓤 H (𝓖 .A) (𝓜 .mem) (𝓡 .run)))
     (tables 𝓤 H 𝓜 𝓡 code.env .C) (tables 𝓤 H 𝓜 𝓡 code.env .Λ) #f code.function (code.unfolded 𝓤 H 𝓜 𝓡)
     (meets 𝓤 H (𝓖 .A) (givenOf 𝓤 H 𝓜 𝓖) (𝓜 .mem) (𝓡 .run) (tablesOf 𝓤 H 𝓜 (tables 𝓤 H 𝓜 𝓡 code.env))
-    (cited 𝓤 H (G 𝓤 H (𝓖 .A) (𝓜 .mem) (𝓡 .run)) 𝓜 𝓡 code.env #g g-def.routine code.calls-engine·empty-map (g-thm.met 𝓤 H 𝓜 𝓖 𝓡)))
+    (cited 𝓤 H (G 𝓤 H (𝓖 .A) (𝓜 .mem) (𝓡 .run)) 𝓜 𝓡 code.env #g g-def.routine code.calls-engine·empty-map
+    (g-thm.met 𝓤 H 𝓜 𝓖 𝓡)))

@@ -16,8 +16,11 @@ returns c =
     let done = c .before .before .before .ticket in
     let same : length (done .last .0) ≡ length (take (a .k) (a .flat .now)) = c .before .before .flat .given .0 in
     let long : length (done .last .0) ≡ a .k = same ∙ length-take-le (a .k) (a .flat .now) (s .pre) in
-    ap (λ (l : List ℤ). outcome l (done .last .1 .0) (done .last .1 .1 .0) (done .result)) (take-at (done .last .0) (drop (a .k) (a .flat .now)) (a .k) long) ∙ done .ensures
+    ap (λ (l : List ℤ). outcome l (done .last .1 .0) (done .last .1 .1 .0) (done .result))
+    (take-at (done .last .0) (drop (a .k) (a .flat .now)) (a .k) long) ∙ done .ensures
 
 pub ticket-front-spec : {M : Type 1} → statement M
 ticket-front-spec =
-    tie.close (tie.spec (λ c. search needs) (λ c. sym (length-take-le (c .before .args .k) (c .before .args .flat .now) (c .before .pre))) (λ c κs. search needs) (λ c. search needs) (λ c. search needs) (λ c. search needs) returns)
+    tie.close (tie.spec (λ c. search needs)
+    (λ c. sym (length-take-le (c .before .args .k) (c .before .args .flat .now) (c .before .pre)))
+    (λ c κs. search needs) (λ c. search needs) (λ c. search needs) (λ c. search needs) returns)

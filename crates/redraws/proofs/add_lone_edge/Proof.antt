@@ -1,4 +1,5 @@
--- `redraws::add_lone_edge` meets its contract: each reason is answered in order, and else the edge is drawn. Assumes nothing.
+-- `redraws::add_lone_edge` meets its contract: each reason is answered in order, and else the edge is drawn. Assumes
+-- nothing.
 use borrow.Author.Needs.{needs}
 use mathlib.Core.Path.{sym, ap, _∙_}
 use native.Mathlib.Omega.{arith}
@@ -19,7 +20,8 @@ use Rattle.redraws.proofs.add_lone_edge.Statement.{statement}
 use Rattle.redraws.proofs.add_lone_edge.Tie as tie
 
 find-row-requires : tie.Need-find-row-requires
-find-row-requires c κs = let s = c .before .before .before in rw (nodes-read (s .pre .1) (c .before .count-of .ensures)) (node-rows-rising (node-rows (s .pre .1)))
+find-row-requires c κs = let s = c .before .before .before in
+    rw (nodes-read (s .pre .1) (c .before .to-usize .ensures)) (node-rows-rising (node-rows (s .pre .1)))
 
 no-start : tie.Need-returns
 no-start c =
@@ -27,14 +29,17 @@ no-start c =
     let s = m .before .before .before .before in
     let a = s .args in
     λ faces f.
-    decided-refused (a .nodes .now) (a .edges .now) faces (a .h) (AddIsoEdge (a .start) (a .end) (a .c .now)) 4 (lit< tt) (c .refused .ensures)
-    (start-missing f (a .start) (a .end) (a .c .now) (place-told nodeWidth (a .nodes .now) (nodes-read f (m .before .before .count-of .ensures)) (toZ-ofZ {w = w64} (s .fits .start)) (m .find-row .ensures) (c .before .enum-told .given .1)))
+    decided-refused (a .nodes .now) (a .edges .now) faces (a .h) (AddIsoEdge (a .start) (a .end) (a .c .now)) 4
+    (lit< tt) (c .refused .ensures)
+    (start-missing f (a .start) (a .end) (a .c .now)
+    (place-told nodeWidth (a .nodes .now) (nodes-read f (m .before .before .to-usize .ensures))
+    (toZ-ofZ {w = w64} (s .fits .start)) (m .find-row .ensures) (c .before .enum-told .given .1)))
 
 find-row-requires-2 : tie.Need-find-row-requires-2
 find-row-requires-2 c κs =
     let m = c .before .before .before .before in
     let s = m .before .before .before .before in
-    rw (nodes-read (s .pre .1) (m .before .before .count-of .ensures)) (node-rows-rising (node-rows (s .pre .1)))
+    rw (nodes-read (s .pre .1) (m .before .before .to-usize .ensures)) (node-rows-rising (node-rows (s .pre .1)))
 
 no-end : tie.Need-returns-2
 no-end c =
@@ -43,8 +48,11 @@ no-end c =
     let s = m .before .before .before .before in
     let a = s .args in
     λ faces f.
-    decided-refused (a .nodes .now) (a .edges .now) faces (a .h) (AddIsoEdge (a .start) (a .end) (a .c .now)) 4 (lit< tt) (c .refused2 .ensures)
-    (end-missing f (a .start) (a .end) (a .c .now) (place-told nodeWidth (a .nodes .now) (nodes-read f (m .before .before .count-of .ensures)) (toZ-ofZ {w = w64} (s .fits .end)) (m₂ .find-row2 .ensures) (c .before .enum-told2 .given .1)))
+    decided-refused (a .nodes .now) (a .edges .now) faces (a .h) (AddIsoEdge (a .start) (a .end) (a .c .now)) 4
+    (lit< tt) (c .refused2 .ensures)
+    (end-missing f (a .start) (a .end) (a .c .now)
+    (place-told nodeWidth (a .nodes .now) (nodes-read f (m .before .before .to-usize .ensures))
+    (toZ-ofZ {w = w64} (s .fits .end)) (m₂ .find-row2 .ensures) (c .before .enum-told2 .given .1)))
 
 lone-reason-requires : tie.Need-lone-reason-requires
 lone-reason-requires c κs =
@@ -58,9 +66,11 @@ lone-reason-requires c κs =
     let u = fu .found .given .0 .0 in
     let v = fv .found-end .given .0 .0 in
     let f = s .pre .1 in
-    let n = nodes-read f (m .before .before .count-of .ensures) in
-    let eu = place-told nodeWidth l n (toZ-ofZ {w = w64} (s .fits .start)) (m .find-row .ensures) (fu .found .given .1) in
-    let ev = place-told nodeWidth l n (toZ-ofZ {w = w64} (s .fits .end)) (m₂ .find-row2 .ensures) (fv .found-end .given .1) in
+    let n = nodes-read f (m .before .before .to-usize .ensures) in
+    let eu = place-told nodeWidth l n (toZ-ofZ {w = w64} (s .fits .start)) (m .find-row .ensures)
+    (fu .found .given .1) in
+    let ev = place-told nodeWidth l n (toZ-ofZ {w = w64} (s .fits .end)) (m₂ .find-row2 .ensures)
+    (fv .found-end .given .1) in
     (held f, node-in f (a .start) u eu, node-in f (a .end) v ev)
 
 refused : tie.Need-returns-3
@@ -75,10 +85,13 @@ refused c =
     let u = fu .found .given .0 .0 in
     let v = fv .found-end .given .0 .0 in
     λ faces f.
-    let n = nodes-read f (m .before .before .count-of .ensures) in
-    let eu = place-told nodeWidth l n (toZ-ofZ {w = w64} (s .fits .start)) (m .find-row .ensures) (fu .found .given .1) in
-    let ev = place-told nodeWidth l n (toZ-ofZ {w = w64} (s .fits .end)) (m₂ .find-row2 .ensures) (fv .found-end .given .1) in
-    decided-refused l (a .edges .now) faces (a .h) (AddIsoEdge (a .start) (a .end) (a .c .now)) (c .before .before .lone-reason .result) (let d = c .before .if1 .taken in omega arith) (c .refused3 .ensures)
+    let n = nodes-read f (m .before .before .to-usize .ensures) in
+    let eu = place-told nodeWidth l n (toZ-ofZ {w = w64} (s .fits .start)) (m .find-row .ensures)
+    (fu .found .given .1) in
+    let ev = place-told nodeWidth l n (toZ-ofZ {w = w64} (s .fits .end)) (m₂ .find-row2 .ensures)
+    (fv .found-end .given .1) in
+    decided-refused l (a .edges .now) faces (a .h) (AddIsoEdge (a .start) (a .end) (a .c .now))
+    (c .before .before .lone-reason .result) (let d = c .before .if1 .taken in omega arith) (c .refused3 .ensures)
     (add-reasons f (a .start) (a .end) (a .c .now) u v eu ev ∙ sym (c .before .before .lone-reason .ensures))
 
 face-of-requires : tie.Need-face-of-requires
@@ -93,10 +106,13 @@ face-of-requires c κs =
     let u = fu .found .given .0 .0 in
     let v = fv .found-end .given .0 .0 in
     let f = s .pre .1 in
-    let n = nodes-read f (m .before .before .count-of .ensures) in
-    let eu = place-told nodeWidth l n (toZ-ofZ {w = w64} (s .fits .start)) (m .find-row .ensures) (fu .found .given .1) in
-    let ev = place-told nodeWidth l n (toZ-ofZ {w = w64} (s .fits .end)) (m₂ .find-row2 .ensures) (fv .found-end .given .1) in
-    let free = lone-free l (a .edges .now) (a .h) u v (a .c .now) (sym (c .before .before .before .lone-reason .ensures) ∙ c .before .before .if1 .left) in
+    let n = nodes-read f (m .before .before .to-usize .ensures) in
+    let eu = place-told nodeWidth l n (toZ-ofZ {w = w64} (s .fits .start)) (m .find-row .ensures)
+    (fu .found .given .1) in
+    let ev = place-told nodeWidth l n (toZ-ofZ {w = w64} (s .fits .end)) (m₂ .find-row2 .ensures)
+    (fv .found-end .given .1) in
+    let free = lone-free l (a .edges .now) (a .h) u v (a .c .now)
+    (sym (c .before .before .before .lone-reason .ensures) ∙ c .before .before .if1 .left) in
     (node-row-of (node-rows f) u (node-in f (a .start) u eu), free .1)
 
 draw-requires : tie.Need-draw-requires
@@ -111,17 +127,30 @@ draw-requires c κs =
     let u = fu .found .given .0 .0 in
     let v = fv .found-end .given .0 .0 in
     let f = s .pre .1 in
-    let n = nodes-read f (m .before .before .count-of .ensures) in
-    let eu = place-told nodeWidth l n (toZ-ofZ {w = w64} (s .fits .start)) (m .find-row .ensures) (fu .found .given .1) in
-    let ev = place-told nodeWidth l n (toZ-ofZ {w = w64} (s .fits .end)) (m₂ .find-row2 .ensures) (fv .found-end .given .1) in
-    let free = lone-free l (a .edges .now) (a .h) u v (a .c .now) (sym (c .before .before .before .before .before .before .lone-reason .ensures) ∙ c .before .before .before .before .before .if1 .left) in
+    let n = nodes-read f (m .before .before .to-usize .ensures) in
+    let eu = place-told nodeWidth l n (toZ-ofZ {w = w64} (s .fits .start)) (m .find-row .ensures)
+    (fu .found .given .1) in
+    let ev = place-told nodeWidth l n (toZ-ofZ {w = w64} (s .fits .end)) (m₂ .find-row2 .ensures)
+    (fv .found-end .given .1) in
+    let free = lone-free l (a .edges .now) (a .h) u v (a .c .now)
+    (sym (c .before .before .before .before .before .before .lone-reason .ensures)
+    ∙ c .before .before .before .before .before .if1 .left) in
     let g = c .before .before .face-of in
     let q = sent (g .ok) ∙ g .ensures in
-    record { held = held f; start = node-in f (a .start) u eu; end = node-in f (a .end) v ev; run = free .0; room = free .2; number = free .3; natural = ap nonNeg q }
+    record {
+      held = held f;
+      start = node-in f (a .start) u eu;
+      end = node-in f (a .end) v ev;
+      run = free .0;
+      room = free .2;
+      number = free .3;
+      natural = ap nonNeg q;
+    }
 
 drawn : tie.Need-returns-4
 drawn c =
-    let fv = c .before .before .before .before .before .before .before .before .before .before .before .before .before .before in
+    let fv =
+    c .before .before .before .before .before .before .before .before .before .before .before .before .before .before in
     let m₂ = fv .before .before in
     let fu = m₂ .before .before .before in
     let m = fu .before .before in
@@ -134,12 +163,17 @@ drawn c =
     let q = sent (g .ok) ∙ g .ensures in
     let d = c .before .before .before .draw in
     λ faces f.
-    let n = nodes-read f (m .before .before .count-of .ensures) in
-    let eu = place-told nodeWidth l n (toZ-ofZ {w = w64} (s .fits .start)) (m .find-row .ensures) (fu .found .given .1) in
-    let ev = place-told nodeWidth l n (toZ-ofZ {w = w64} (s .fits .end)) (m₂ .find-row2 .ensures) (fv .found-end .given .1) in
+    let n = nodes-read f (m .before .before .to-usize .ensures) in
+    let eu = place-told nodeWidth l n (toZ-ofZ {w = w64} (s .fits .start)) (m .find-row .ensures)
+    (fu .found .given .1) in
+    let ev = place-told nodeWidth l n (toZ-ofZ {w = w64} (s .fits .end)) (m₂ .find-row2 .ensures)
+    (fv .found-end .given .1) in
     let k = edge-next f in
-    decided-carried l (a .edges .now) faces (a .h) (AddIsoEdge (a .start) (a .end) (a .c .now)) (d .last .0) (d .last .1 .0) faces (d .result) _ (c .carried .ensures)
-    (add-reasons f (a .start) (a .end) (a .c .now) u v eu ev ∙ sym (c .before .before .before .before .before .before .before .before .before .before .lone-reason .ensures) ∙ c .before .before .before .before .before .before .before .before .before .if1 .left)
+    decided-carried l (a .edges .now) faces (a .h) (AddIsoEdge (a .start) (a .end) (a .c .now)) (d .last .0)
+    (d .last .1 .0) faces (d .result) _ (c .carried .ensures)
+    (add-reasons f (a .start) (a .end) (a .c .now) u v eu ev
+    ∙ sym (c .before .before .before .before .before .before .before .before .before .before .lone-reason .ensures)
+    ∙ c .before .before .before .before .before .before .before .before .before .if1 .left)
     (add-lent f (a .start) (a .end) (a .c .now) u v eu ev q (d .ensures))
     (add-value f (a .start) (a .end) (a .c .now) ∙ k .0 ∙ sym (count-read (a .h .«next_edge») (k .0) (k .2)))
 

@@ -13,12 +13,14 @@ use Rattle.redraws.proofs.change_reason.Statement.{statement}
 use Rattle.redraws.proofs.change_reason.Tie as tie
 
 curve-reason-requires : tie.Need-curve-reason-requires
-curve-reason-requires c κs = let p = c .pre in (node-row-of (p .0 .node-table .rows) (c .args .u) (p .2), node-row-of (p .0 .node-table .rows) (c .args .v) (p .3))
+curve-reason-requires c κs = let p = c .pre in
+    (node-row-of (p .0 .node-table .rows) (c .args .u) (p .2), node-row-of (p .0 .node-table .rows) (c .args .v) (p .3))
 
 sent : tie.Need-returns
 sent c =
     let a = c .before .before .args in
-    change-sent (a .nodes .now) (a .edges .now) (a .h) (a .i) (a .u) (a .v) (a .c .now) (c .before .curve-reason .ensures) (c .if1 .taken)
+    change-sent (a .nodes .now) (a .edges .now) (a .h) (a .i) (a .u) (a .v) (a .c .now)
+    (c .before .curve-reason .ensures) (c .if1 .taken)
 
 turn-reason-requires : tie.Need-turn-reason-requires
 turn-reason-requires c κs =
@@ -26,9 +28,16 @@ turn-reason-requires c κs =
     let a = s .args in
     let p = s .pre in
     let k = counted-held (p .0) in
-    let n = c .before .before .count-of .ensures ∙ count-abs (a .h .nodes) (p .0 .nodes-count) (nodes-held (p .0)) in
-    let j = c .count-of2 .ensures ∙ count-abs (a .h .edges) (k .count) (omega (arith, k .few)) in
-    (rw n (p .0 .node-table .rows), rw j (p .0 .edge-table .rows), omega (arith, j, k .few), rw j (p .1), sent-run (a .nodes .now) (a .edges .now) (a .h) (a .u) (a .v) (a .c .now) (sym (c .before .before .before .before .before .curve-reason .ensures) ∙ c .before .before .before .before .if1 .left))
+    let n = c .before .before .to-usize .ensures ∙ count-abs (a .h .nodes) (p .0 .nodes-count) (nodes-held (p .0)) in
+    let j = c .to-usize2 .ensures ∙ count-abs (a .h .edges) (k .count) (omega (arith, k .few)) in (
+      rw n (p .0 .node-table .rows),
+      rw j (p .0 .edge-table .rows),
+      omega (arith, j, k .few),
+      rw j (p .1),
+      sent-run (a .nodes .now) (a .edges .now) (a .h) (a .u) (a .v) (a .c .now)
+          (sym (c .before .before .before .before .before .curve-reason .ensures)
+          ∙ c .before .before .before .before .if1 .left),
+    )
 
 turns : tie.Need-returns-2
 turns c =
@@ -36,10 +45,14 @@ turns c =
     let a = s .args in
     let p = s .pre in
     let k = counted-held (p .0) in
-    let n = c .before .before .before .count-of .ensures ∙ count-abs (a .h .nodes) (p .0 .nodes-count) (nodes-held (p .0)) in
-    let j = c .before .count-of2 .ensures ∙ count-abs (a .h .edges) (k .count) (omega (arith, k .few)) in
-    change-turns (a .nodes .now) (a .edges .now) (a .h) (a .i) (a .u) (a .v) (a .c .now) (sym (c .before .before .before .before .before .before .curve-reason .ensures) ∙ c .before .before .before .before .before .if1 .left)
-    (c .turn-reason .ensures ∙ ap₂ (λ (x y : ℕ). firstReason (turnReasons (a .nodes .now) x (a .edges .now) y (a .i) (a .c .now))) n j)
+    let n = c .before .before .before .to-usize .ensures
+    ∙ count-abs (a .h .nodes) (p .0 .nodes-count) (nodes-held (p .0)) in
+    let j = c .before .to-usize2 .ensures ∙ count-abs (a .h .edges) (k .count) (omega (arith, k .few)) in
+    change-turns (a .nodes .now) (a .edges .now) (a .h) (a .i) (a .u) (a .v) (a .c .now)
+    (sym (c .before .before .before .before .before .before .curve-reason .ensures)
+    ∙ c .before .before .before .before .before .if1 .left)
+    (c .turn-reason .ensures ∙ ap₂ (λ (x y : ℕ). firstReason
+    (turnReasons (a .nodes .now) x (a .edges .now) y (a .i) (a .c .now))) n j)
 
 pub change-reason-spec : {M : Type 1} → statement M
 change-reason-spec =
@@ -47,7 +60,9 @@ change-reason-spec =
     (tie.spec
     curve-reason-requires
     sent
-    (λ c κs. let s = c .before .before .before in count-natural (s .args .h .nodes) (s .pre .0 .nodes-count) (nodes-held (s .pre .0)))
-    (λ c κs. let s = c .before .before .before .before .before in let k = counted-held (s .pre .0) in count-natural (s .args .h .edges) (k .count) (omega (arith, k .few)))
+    (λ c κs. let s = c .before .before .before in
+    count-natural (s .args .h .nodes) (s .pre .0 .nodes-count) (nodes-held (s .pre .0)))
+    (λ c κs. let s = c .before .before .before .before .before in let k = counted-held (s .pre .0) in
+    count-natural (s .args .h .edges) (k .count) (omega (arith, k .few)))
     turn-reason-requires
     turns)

@@ -7,7 +7,9 @@ use Rattle.redraws.proofs.end_of.Statement.{statement}
 use Rattle.redraws.proofs.end_of.Tie as tie
 
 returns : tie.Need-returns
-returns c = sent (c .result .given) ∙ edge-cells (c .before .args .edges .now) (c .before .args .i) (c .before .pre .ranges) .end
+returns c = sent (c .result .given) ∙ edge-cells (c .before .args .edges .now) (c .before .args .i)
+    (c .before .pre .ranges) .end
 
 pub end-of-spec : {M : Type 1} → statement M
-end-of-spec = tie.close (tie.spec (λ c. search needs) (λ c. search needs) (λ c. search needs) (λ c. search needs) returns)
+end-of-spec = tie.close (tie.spec (λ c. search needs) (λ c. search needs) (λ c. search needs)
+    (λ c. search needs) returns)

@@ -17,7 +17,9 @@ returns c =
     let s = c .before in
     let l = s .args .nodes .now in
     let g = node-cells l (s .args .i) (s .pre .0 .ranges) .face in
-    sent (c .result .given) ∙ face-pos (getD l (s .args .i * 4 + 3) (pos 0)) (ap isSome g ∙ s .pre .1) ∙ ap (λ (f : Option ℕ). pos (Option·getD f 0)) g
+    sent (c .result .given) ∙ face-pos (getD l (s .args .i * 4 + 3) (pos 0)) (ap isSome g ∙ s .pre .1)
+    ∙ ap (λ (f : Option ℕ). pos (Option·getD f 0)) g
 
 pub face-of-spec : {M : Type 1} → statement M
-face-of-spec = tie.close (tie.spec (λ c. search needs) (λ c. search needs) (λ c. search needs) (λ c. search needs) returns)
+face-of-spec = tie.close (tie.spec (λ c. search needs) (λ c. search needs) (λ c. search needs)
+    (λ c. search needs) returns)

@@ -28,7 +28,8 @@ set-face-requires c κs =
     let s = m .before .before .before in
     let a = s .args in
     let i = f .found .given .0 .0 in
-    let b = node-found (a .nodes .now) (a .count) (s .pre .ranges) (toZ w64 (ofZ w64 (a .node))) i (sym (m .find-row .ensures) ∙ f .found .given .1) .0 in
+    let b = node-found (a .nodes .now) (a .count) (s .pre .ranges) (toZ w64 (ofZ w64 (a .node))) i
+    (sym (m .find-row .ensures) ∙ f .found .given .1) .0 in
     let r = row-room nodeWidth (a .count) i b in
     let k = s .pre .fits in
     omega arith
@@ -41,8 +42,10 @@ returns c =
     let a = s .args in
     let l = a .nodes .now in
     let i = f .found .given .0 .0 in
-    let e = ap (λ (z : ℤ). place (sameZ z) 0 (column nodeWidth l (a .count))) (sym (toZ-ofZ {w = w64} (s .fits .node))) ∙ sym (m .find-row .ensures) ∙ f .found .given .1 in
-    c .before .set-face .ensures ∙ ap (set l (i * 4 + 3)) (toZ-ofZ {w = w64} (s .fits .face)) ∙ sym (ap (facedWhere l (a .face)) e)
+    let e = ap (λ (z : ℤ). place (sameZ z) 0 (column nodeWidth l (a .count))) (sym (toZ-ofZ {w = w64} (s .fits .node)))
+    ∙ sym (m .find-row .ensures) ∙ f .found .given .1 in
+    c .before .set-face .ensures ∙ ap (set l (i * 4 + 3)) (toZ-ofZ {w = w64} (s .fits .face))
+    ∙ sym (ap (facedWhere l (a .face)) e)
     ∙ sym (ap (facedIf l (a .count) (a .node) (a .face)) (m .before .before .if1 .taken))
 
 returns-2 : tie.Need-returns-2
@@ -51,7 +54,8 @@ returns-2 c =
     let s = m .before .before .before in
     let a = s .args in
     let l = a .nodes .now in
-    let e = ap (λ (z : ℤ). place (sameZ z) 0 (column nodeWidth l (a .count))) (sym (toZ-ofZ {w = w64} (s .fits .node))) ∙ sym (m .find-row .ensures) ∙ c .enum-told .given .1 in
+    let e = ap (λ (z : ℤ). place (sameZ z) 0 (column nodeWidth l (a .count))) (sym (toZ-ofZ {w = w64} (s .fits .node)))
+    ∙ sym (m .find-row .ensures) ∙ c .enum-told .given .1 in
     sym (ap (facedIf l (a .count) (a .node) (a .face)) (m .before .before .if1 .taken) ∙ ap (facedWhere l (a .face)) e)
 
 pub give-face-spec : {M : Type 1} → statement M

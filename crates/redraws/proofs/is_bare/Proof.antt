@@ -10,7 +10,7 @@ use mir.Syntax.{w64}
 use mir.Val.{ofZ, Fits, boolByte}
 use mir.Facts.{toZ-ofZ, fits-of-lt}
 use Rattle.lists.specs.Tests.{same, bit}
-use Rattle.lists.specs.Scans.{count}
+use Rattle.lists.specs.Scans.{countOf}
 use Rattle.lists.proofs.Counts.{byte-bit}
 use Rattle.tables.proofs.Order.{word-test}
 use Rattle.links.specs.Linking.{positions, leavesNode}
@@ -27,7 +27,8 @@ add-own : tie.Need-add-own
 add-own c =
     let a = c .before .before .args in
     let l = a .edges .now in
-    two-fit (eqb (ofZ w64 (getD l (a .i * 32 + 1) (pos 0))) (ofZ w64 (a .node))) (eqb (ofZ w64 (getD l (a .i * 32 + 2) (pos 0))) (ofZ w64 (a .node)))
+    two-fit (eqb (ofZ w64 (getD l (a .i * 32 + 1) (pos 0))) (ofZ w64 (a .node)))
+    (eqb (ofZ w64 (getD l (a .i * 32 + 2) (pos 0))) (ofZ w64 (a .node)))
 
 returns : tie.Need-returns
 unfolding same
@@ -40,8 +41,11 @@ returns c =
     let fu = sfits-of (c .before .before .u .given) in
     let fv = sfits-of (c .before .v .given) in
     let fn = s .fits .node in
-    ap₂ same (c .edge-ends .ensures .0 ∙ ap (λ (z : ℤ). count (leavesNode l z) (positions (a .count))) (toZ-ofZ {w = w64} fn))
-    (ap₂ (λ (x y : ℕ). x + y) (byte-bit (eqb (ofZ w64 u) (ofZ w64 (a .node))) ∙ ap bit (word-test {a = u} {b = a .node} fu fn)) (byte-bit (eqb (ofZ w64 v) (ofZ w64 (a .node))) ∙ ap bit (word-test {a = v} {b = a .node} fv fn)))
+    ap₂ same (c .edge-ends .ensures .0 ∙ ap (λ (z : ℤ). countOf (leavesNode l z) (positions (a .count)))
+    (toZ-ofZ {w = w64} fn))
+    (ap₂ (λ (x y : ℕ). x + y) (byte-bit (eqb (ofZ w64 u) (ofZ w64 (a .node)))
+    ∙ ap bit (word-test {a = u} {b = a .node} fu fn))
+    (byte-bit (eqb (ofZ w64 v) (ofZ w64 (a .node))) ∙ ap bit (word-test {a = v} {b = a .node} fv fn)))
 
 pub is-bare-spec : {M : Type 1} → statement M
 is-bare-spec =

@@ -16,7 +16,8 @@ returns c =
     let i = a .i in
     let h = s .pre .1 in
     let k = cells-of (s .pre .0) i h in
-    c .direction-taken .ensures (edgeAt l i .number) (edgeAt l i .start) (edgeAt l i .end) (record { is = λ t. refl; none = λ t j b q. absurd (omega arith) })
+    c .direction-taken .ensures (edgeAt l i .number) (edgeAt l i .start) (edgeAt l i .end)
+    (record { is = λ t. refl; none = λ t j b q. absurd (omega arith) })
     (sent (c .before .before .start .given) ∙ k .start) (sent (c .before .end .given) ∙ k .end)
 
 pub is-taken-spec : {M : Type 1} → statement M

@@ -7,7 +7,9 @@ use Rattle.redraws.proofs.left_face.Statement.{statement}
 use Rattle.redraws.proofs.left_face.Tie as tie
 
 returns : tie.Need-returns
-returns c = sent (c .result .given) ∙ edge-cells (c .before .args .edges .now) (c .before .args .i) (c .before .pre .ranges) .left
+returns c = sent (c .result .given) ∙ edge-cells (c .before .args .edges .now) (c .before .args .i)
+    (c .before .pre .ranges) .left
 
 pub left-face-spec : {M : Type 1} → statement M
-left-face-spec = tie.close (tie.spec (λ c. search needs) (λ c. search needs) (λ c. search needs) (λ c. search needs) returns)
+left-face-spec = tie.close (tie.spec (λ c. search needs) (λ c. search needs) (λ c. search needs)
+    (λ c. search needs) returns)

@@ -7,7 +7,9 @@ use Rattle.redraws.proofs.start_of.Statement.{statement}
 use Rattle.redraws.proofs.start_of.Tie as tie
 
 returns : tie.Need-returns
-returns c = sent (c .result .given) ∙ edge-cells (c .before .args .edges .now) (c .before .args .i) (c .before .pre .ranges) .start
+returns c = sent (c .result .given) ∙ edge-cells (c .before .args .edges .now) (c .before .args .i)
+    (c .before .pre .ranges) .start
 
 pub start-of-spec : {M : Type 1} → statement M
-start-of-spec = tie.close (tie.spec (λ c. search needs) (λ c. search needs) (λ c. search needs) (λ c. search needs) returns)
+start-of-spec = tie.close (tie.spec (λ c. search needs) (λ c. search needs) (λ c. search needs)
+    (λ c. search needs) returns)

@@ -18,8 +18,11 @@ is-bare-requires c κs =
 
 is-bare-requires-2 : tie.Need-is-bare-requires-2
 is-bare-requires-2 c κs =
-    let s = c .before .before .before .before .before .before in
-    (rw (c .before .before .before .before .unlink-edge .ensures) (unlinked-edge-kept (s .pre .0) (s .args .i) (s .pre .1)), s .pre .1)
+    let s = c .before .before .before .before .before .before in (
+      rw (c .before .before .before .before .unlink-edge .ensures)
+          (unlinked-edge-kept (s .pre .0) (s .args .i) (s .pre .1)),
+      s .pre .1,
+    )
 
 returns : tie.Need-returns
 returns c =
@@ -27,8 +30,10 @@ returns c =
     let a = s .args in
     let u = c .before .before .before .before .before .before .before .before .unlink-edge .ensures in (
       c .before .remove-row .ensures ∙ ap (λ (l : List ℤ). closed 32 l (a .count) (a .i)) u,
-      c .before .before .before .before .before .is-bare .ensures ∙ ap₂ (λ (l : List ℤ) (z : ℤ). bareAt l (a .count) (a .i) z) u (toZ-ofZ {w = w64} (s .fits .u)),
-      c .before .before .before .is-bare2 .ensures ∙ ap₂ (λ (l : List ℤ) (z : ℤ). bareAt l (a .count) (a .i) z) u (toZ-ofZ {w = w64} (s .fits .v)),
+      c .before .before .before .before .before .is-bare .ensures
+          ∙ ap₂ (λ (l : List ℤ) (z : ℤ). bareAt l (a .count) (a .i) z) u (toZ-ofZ {w = w64} (s .fits .u)),
+      c .before .before .before .is-bare2 .ensures
+          ∙ ap₂ (λ (l : List ℤ) (z : ℤ). bareAt l (a .count) (a .i) z) u (toZ-ofZ {w = w64} (s .fits .v)),
     )
 
 pub undraw-edge-spec : {M : Type 1} → statement M

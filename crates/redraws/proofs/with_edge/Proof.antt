@@ -14,6 +14,7 @@ pub with-edge-spec : {M : Type 1} → statement M
 with-edge-spec =
     tie.close
     (tie.spec
-    (λ c. let p = c .before .before .pre in plus-fits (c .before .before .args .h .edges) (p .count) (omega (arith, p .few)))
+    (λ c. let p = c .before .before .pre in
+    plus-fits (c .before .before .args .h .edges) (p .count) (omega (arith, p .few)))
     (λ c. let p = c .before .before .pre in plus-fits (c .before .before .args .h .«next_edge») (p .next) (p .most))
     returns)

@@ -13,5 +13,6 @@ pub without-edge-spec : {M : Type 1} → statement M
 without-edge-spec =
     tie.close
     (tie.spec
-    (λ c. let p = c .before .pre in minus-fits (c .before .args .h .edges) (p .0 .count) (omega (arith, p .0 .few)) (p .1))
+    (λ c. let p = c .before .pre in minus-fits (c .before .args .h .edges) (p .0 .count) (omega (arith, p .0 .few))
+    (p .1))
     returns)

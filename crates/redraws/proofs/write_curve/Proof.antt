@@ -1,4 +1,5 @@
--- `redraws::write_curve` meets its contract: the numbers written are those of the row with the other curve. Assumes nothing.
+-- `redraws::write_curve` meets its contract: the numbers written are those of the row with the other curve. Assumes
+-- nothing.
 use borrow.Author.Needs.{needs}
 use mathlib.Core.Path.{sym, ap, _∙_}
 use mathlib.Core.List.{List}
@@ -34,14 +35,20 @@ returns c =
     let i = a .i in
     let k = edge-cells l i (s .pre .0 .ranges) in
     let row = withCurve (curveOf (a .c .now)) (edgeAt l i) in
-    let number = sent (c .before .before .before .before .before .before .before .before .before .before .number .given) ∙ k .number in
-    let start = sent (c .before .before .before .before .before .before .before .before .before .start .given) ∙ k .start in
+    let number =
+    sent (c .before .before .before .before .before .before .before .before .before .before .number .given)
+    ∙ k .number in
+    let start = sent (c .before .before .before .before .before .before .before .before .before .start .given)
+    ∙ k .start in
     let end = sent (c .before .before .before .before .before .before .before .before .end .given) ∙ k .end in
-    let next-left = sent (c .before .before .before .before .before .before .before .next-left .given) ∙ sym (dart-cell-back (getD l (i * 32 + 3) (pos 0))) ∙ ap dartCell (k .nextLeft) in
-    let next-right = sent (c .before .before .before .before .before .before .next-right .given) ∙ sym (dart-cell-back (getD l (i * 32 + 4) (pos 0))) ∙ ap dartCell (k .nextRight) in
+    let next-left = sent (c .before .before .before .before .before .before .before .next-left .given)
+    ∙ sym (dart-cell-back (getD l (i * 32 + 3) (pos 0))) ∙ ap dartCell (k .nextLeft) in
+    let next-right = sent (c .before .before .before .before .before .before .next-right .given)
+    ∙ sym (dart-cell-back (getD l (i * 32 + 4) (pos 0))) ∙ ap dartCell (k .nextRight) in
     let left = sent (c .before .before .before .before .before .left .given) ∙ k .left in
     let right = sent (c .before .before .before .before .right .given) ∙ k .right in
-    let cells = row-written (c .before .before .whole-of .result) row (c .before .before .whole-of .ensures) number start end next-left next-right left right (points-few (s .pre .1)) in
+    let cells = row-written (c .before .before .whole-of .result) row
+    (c .before .before .whole-of .ensures) number start end next-left next-right left right (points-few (s .pre .1)) in
     c .before .write-edge .ensures ∙ ap (λ (r : List ℤ). paste l (i * 32) r 32) cells
 
 pub write-curve-spec : {M : Type 1} → statement M

@@ -15,15 +15,17 @@ use Rattle.redraws.specs.Holds.{newRow}
 use Rattle.map_rows.proofs.Cells.{line-count}
 use Rattle.outcomes.proofs.Words.{count-natural, count-abs, count-read, small-read}
 use Rattle.redraws.proofs.Words.{back-read}
-use Rattle.redraws.proofs.Drawn.{points-few, row-written, counted, start-number, end-number, start-small, end-small, face-is, new-fits}
+use Rattle.redraws.proofs.Drawn.{points-few, row-written, counted, start-number, end-number, start-small}
+use Rattle.redraws.proofs.Drawn.{end-small, face-is, new-fits}
 use Rattle.redraws.proofs.write_last.Statement.{statement}
 use Rattle.redraws.proofs.write_last.Tie as tie
 
-count-of-requires : tie.Need-count-of-requires
-count-of-requires c κs = let k = counted (c .before .pre) in count-natural (c .before .args .h .edges) (k .count) (omega (arith, k .few))
+to-usize-requires : tie.Need-to-usize-requires
+to-usize-requires c κs = let k = counted (c .before .pre) in
+    count-natural (c .before .args .h .edges) (k .count) (omega (arith, k .few))
 
-turned-requires : tie.Need-turned-requires
-turned-requires c κs =
+negated-requires : tie.Need-negated-requires
+negated-requires c κs =
     let s = c .before .before .before .before .before in
     let k = counted (s .pre) in
     count-natural (s .args .h .«next_edge») (k .next) (omega (arith, k .most))
@@ -32,7 +34,8 @@ write-edge-requires : tie.Need-write-edge-requires
 write-edge-requires c κs =
     let s = c .before .before .before .before .before .before .before .before in
     let k = counted (s .pre) in
-    let n = c .before .before .before .before .before .before .count-of .ensures ∙ count-abs (s .args .h .edges) (k .count) (omega (arith, k .few)) in
+    let n = c .before .before .before .before .before .before .to-usize .ensures
+    ∙ count-abs (s .args .h .edges) (k .count) (omega (arith, k .few)) in
     let f = new-fits (s .pre) in
     let e = ap (λ (l : Line). l .count) (c .whole-of .ensures) ∙ line-count (points (curveOf (s .args .c .now))) in
     (rw n f, omega (arith, points-few (s .pre .run)))
@@ -43,28 +46,31 @@ returns c =
     let a = s .args in
     let d = s .pre in
     let k = counted d in
-    let n = c .before .before .before .before .before .before .before .before .count-of .ensures ∙ count-abs (a .h .edges) (k .count) (omega (arith, k .few)) in
+    let n = c .before .before .before .before .before .before .before .before .to-usize .ensures
+    ∙ count-abs (a .h .edges) (k .count) (omega (arith, k .few)) in
     let row = newRow (a .nodes .now) (a .h) (a .u) (a .v) (a .c .now) (a .face) in
     let number = count-read (a .h .«next_edge») (k .next) (k .most) in
     let start = small-read (nodeAt (a .nodes .now) (a .u) .number) (start-number d) (omega (arith, start-small d)) in
     let end = small-read (nodeAt (a .nodes .now) (a .v) .number) (end-number d) (omega (arith, end-small d)) in
-    let back = back-read (natAbs (a .h .«next_edge»)) (c .before .before .before .before .turned .ensures) number (k .most) in
+    let back = back-read (natAbs (a .h .«next_edge»)) (c .before .before .before .before .negated .ensures) number
+    (k .most) in
     let face = toZ-ofZ {w = w64} {z = a .face} (s .fits .face) ∙ face-is d in
-    let cells = row-written (c .before .before .whole-of .result) row (c .before .before .whole-of .ensures) number start end back number face face (points-few (d .run)) in
+    let cells = row-written (c .before .before .whole-of .result) row
+    (c .before .before .whole-of .ensures) number start end back number face face (points-few (d .run)) in
     c .before .write-edge .ensures ∙ ap₂ (λ (j : ℕ) (r : List ℤ). paste (a .edges .now) (j * 32) r 32) n cells
 
 pub write-last-spec : {M : Type 1} → statement M
 write-last-spec =
     tie.close
     (tie.spec
-    count-of-requires
+    to-usize-requires
     (λ c. search needs)
     (λ c. search needs)
     (λ c. search needs)
     (λ c. search needs)
     (λ c. search needs)
     (λ c. search needs)
-    turned-requires
+    negated-requires
     (λ c κs. search needs)
     write-edge-requires
     (λ c. search needs)

@@ -23,12 +23,20 @@ use Rattle.rings.proofs.dart_area.Lts as lts
 use Rattle.curves.proofs.area_of.Reads as area-of-reads
 use Rattle.tables.proofs.curve_of.Reads as curve-of-reads
 
-module _ (c : lts.After-area-of (curve-of-reads.Asked, curve-of-reads.Learnt, area-of-reads.Asked, area-of-reads.Learnt) reads.Pre reads.Post) where
+module _ (c : lts.After-area-of (
+  curve-of-reads.Asked,
+  curve-of-reads.Learnt,
+  area-of-reads.Asked,
+  area-of-reads.Learnt,
+) reads.Pre reads.Post) where
   -- the edge's area as it is read
-  read : toZ w64 (ofZ w64 (c .area-of .result)) ≡ curveArea (edgeAt (c .before .before .args .edges .now) (c .before .before .args .p / 2) .curve)
-  read = sent {z = c .area-of .result} (c .area-of .ok) ∙ c .area-of .ensures ∙ ap curveArea (c .before .curve-of .ensures .1)
+  read : toZ w64 (ofZ w64 (c .area-of .result))
+      ≡ curveArea (edgeAt (c .before .before .args .edges .now) (c .before .before .args .p / 2) .curve)
+  read = sent {z = c .area-of .result} (c .area-of .ok) ∙ c .area-of .ensures
+      ∙ ap curveArea (c .before .curve-of .ensures .1)
 
-  opposite : pos 0 -ℤ toZ w64 (ofZ w64 (c .area-of .result)) ≡ negℤ (curveArea (edgeAt (c .before .before .args .edges .now) (c .before .before .args .p / 2) .curve))
+  opposite : pos 0 -ℤ toZ w64 (ofZ w64 (c .area-of .result))
+      ≡ negℤ (curveArea (edgeAt (c .before .before .args .edges .now) (c .before .before .args .p / 2) .curve))
   opposite = negative-is (toZ w64 (ofZ w64 (c .area-of .result))) ∙ ap negℤ read
 
   opposite-fits : SFits w64 (pos 0 -ℤ toZ w64 (ofZ w64 (c .area-of .result)))
@@ -44,7 +52,9 @@ returns-2 : tie.Need-returns-2
 returns-2 c =
     let a = c .before .before .before .args in
     rw (odd-of (a .p) (let h = c .if1 .left in omega arith) .test)
-    (toZ-ofZ (opposite-fits (c .before)) ∙ opposite (c .before) ∙ sym (area-reversed (edgeAt (a .edges .now) (a .p / 2) .curve)))
+    (toZ-ofZ (opposite-fits (c .before)) ∙ opposite (c .before)
+    ∙ sym (area-reversed (edgeAt (a .edges .now) (a .p / 2) .curve)))
 
 pub dart-area-spec : {M : Type 1} → statement M
-dart-area-spec = tie.close (tie.spec (λ c κs. search needs) (λ c κs. search needs) (λ c. opposite-fits (c .before)) returns returns-2)
+dart-area-spec = tie.close (tie.spec (λ c κs. search needs) (λ c κs. search needs)
+    (λ c. opposite-fits (c .before)) returns returns-2)

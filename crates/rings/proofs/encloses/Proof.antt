@@ -20,7 +20,8 @@ use Rattle.tables.proofs.curve_of.Reads as curve-of-reads
 
 abbrev Inv-loop : tie.InvT-loop
 Inv-loop edges count p q c₀ odd₀ k₀ k-end c odd k =
-    (c < count * 2) × (odd ⊕ oddLeft edges count q (steps edges count p (count * 2 - k) c) ≡ oddLeft edges count q (ringAt edges count p))
+    (c < count * 2) × (odd ⊕ oddLeft edges count q (steps edges count p (count * 2 - k) c)
+    ≡ oddLeft edges count q (ringAt edges count p))
 
 abbrev μ-loop : tie.MeasureT-loop
 μ-loop edges count p q c₀ odd₀ k₀ k-end c odd k = k-end - k
@@ -32,11 +33,22 @@ loop-holds : tie.Need-loop-holds Inv-loop μ-loop
 loop-holds c = let a = c .args in (c .pre .1, odd-start (a .edges .now) (a .count) (a .q) (a .p))
 
 curve-of-requires : tie.Need-curve-of-requires Inv-loop μ-loop
-curve-of-requires c κs = edge-row-of (c .before .before .pre .0) (c .before .loop .c / 2) (omega (arith, c .before .loop .inv .0))
+curve-of-requires c κs = edge-row-of (c .before .before .pre .0) (c .before .loop .c / 2)
+    (omega (arith, c .before .loop .inv .0))
 
 -- what the curve of the row answered
-told : (c : lts.After-odd-below (curve-of-reads.Asked, curve-of-reads.Learnt, odd-below-reads.Asked, odd-below-reads.Learnt, next-position-reads.Asked, next-position-reads.Learnt) reads.Pre reads.Post Inv-loop μ-loop) → c .odd-below .result ≡ oddBelow (edgeAt (c .before .before .before .before .args .edges .now) (c .before .before .before .loop .c / 2) .curve) (c .before .before .before .before .args .q)
-told c = c .odd-below .ensures ∙ ap (λ (k : Curve). oddBelow k (c .before .before .before .before .args .q)) (c .before .curve-of .ensures .1)
+told : (c : lts.After-odd-below (
+  curve-of-reads.Asked,
+  curve-of-reads.Learnt,
+  odd-below-reads.Asked,
+  odd-below-reads.Learnt,
+  next-position-reads.Asked,
+  next-position-reads.Learnt,
+) reads.Pre reads.Post Inv-loop μ-loop) → c .odd-below .result
+    ≡ oddBelow (edgeAt (c .before .before .before .before .args .edges .now)
+    (c .before .before .before .loop .c / 2) .curve) (c .before .before .before .before .args .q)
+told c = c .odd-below .ensures ∙ ap (λ (k : Curve). oddBelow k (c .before .before .before .before .args .q))
+    (c .before .curve-of .ensures .1)
 
 returns : tie.Need-returns Inv-loop μ-loop
 returns c =
@@ -45,7 +57,8 @@ returns c =
     let w = b .before .loop in
     let n = c .before .next-position in
     ap (λ (o : Bool). not (Bool·beq (w .odd) o)) (told (c .before .before))
-    ∙ odd-last (s .pre .0) (s .args .p) (s .pre .1) (w .k) (w .c) (s .args .q) (w .odd) (w .inv .1) (w .inv .0) (b .loop-test .taken) (n .result) (record { below = n .ensures .0; is = n .ensures .1 }) (c .if1 .taken)
+    ∙ odd-last (s .pre .0) (s .args .p) (s .pre .1) (w .k) (w .c) (s .args .q) (w .odd) (w .inv .1) (w .inv .0)
+    (b .loop-test .taken) (n .result) (record { below = n .ensures .0; is = n .ensures .1 }) (c .if1 .taken)
 
 loop-again : tie.Need-loop-again Inv-loop μ-loop
 loop-again c =
@@ -54,8 +67,11 @@ loop-again c =
     let w = b .before .loop in
     let n = c .before .next-position in (
       n .ensures .0,
-      ap (λ (o : Bool). not (Bool·beq (w .odd) o) ⊕ oddLeft (s .args .edges .now) (s .args .count) (s .args .q) (steps (s .args .edges .now) (s .args .count) (s .args .p) (s .args .count * 2 - (w .k + 1)) (n .result))) (told (c .before .before))
-          ∙ odd-on (s .pre .0) (s .args .p) (s .pre .1) (w .k) (w .c) (s .args .q) (w .odd) (w .inv .1) (w .inv .0) (b .loop-test .taken) (n .result) (record { below = n .ensures .0; is = n .ensures .1 }) (c .if1 .left),
+      ap (λ (o : Bool). not (Bool·beq (w .odd) o) ⊕ oddLeft (s .args .edges .now) (s .args .count) (s .args .q)
+          (steps (s .args .edges .now) (s .args .count) (s .args .p) (s .args .count * 2 - (w .k + 1)) (n .result)))
+          (told (c .before .before))
+          ∙ odd-on (s .pre .0) (s .args .p) (s .pre .1) (w .k) (w .c) (s .args .q) (w .odd) (w .inv .1) (w .inv .0)
+          (b .loop-test .taken) (n .result) (record { below = n .ensures .0; is = n .ensures .1 }) (c .if1 .left),
     )
 
 returns-2 : tie.Need-returns-2 Inv-loop μ-loop

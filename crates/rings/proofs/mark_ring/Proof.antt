@@ -1,4 +1,5 @@
--- `rings::mark_ring` meets its contract: the marks that are set, with those of what is left of the ring, are those of the ring. Assumes nothing.
+-- `rings::mark_ring` meets its contract: the marks that are set, with those of what is left of the ring, are those of
+-- the ring. Assumes nothing.
 use mathlib.Core.Path.{_≡_, refl, sym, ap, _∙_}
 use mathlib.Core.Bool.{cond}
 use mathlib.Core.List.{List}
@@ -9,7 +10,8 @@ use lib.ListN.{length, getD, length-set}
 use Rattle.planar_maps.specs.Map.{Dart}
 use Rattle.map.specs.Darts.{among}
 use Rattle.darts.specs.Positions.{dartAt}
-use Rattle.rings.proofs.Walks.{steps, ringAt, ring-steps, Follows, steps-end, steps-on, steps-last, mark-on, mark-last}
+use Rattle.rings.proofs.Walks.{steps, ringAt, ring-steps, Follows, steps-end, steps-on, steps-last, mark-on}
+use Rattle.rings.proofs.Walks.{mark-last}
 use Rattle.rings.proofs.mark_ring.Statement.{statement}
 use Rattle.rings.proofs.mark_ring.Tie as tie
 use Rattle.rings.proofs.mark_ring.Reads as reads
@@ -18,8 +20,10 @@ use Rattle.darts.proofs.next_position.Reads as next-position-reads
 
 abbrev Inv-loop : tie.InvT-loop
 Inv-loop edges count p v marks₀ c₀ k₀ k-end marks c k =
-    (c < count * 2) × (k ≤ count * 2) × (length marks ≡ length marks₀) × (k + length (steps edges count p (count * 2 - k) c) ≡ length (ringAt edges count p))
-    × ((q : ℕ) → q < count * 2 → cond (among (steps edges count p (count * 2 - k) c) (dartAt edges q)) v (getD marks q 0) ≡ cond (among (ringAt edges count p) (dartAt edges q)) v (getD marks₀ q 0))
+    (c < count * 2) × (k ≤ count * 2) × (length marks ≡ length marks₀)
+    × (k + length (steps edges count p (count * 2 - k) c) ≡ length (ringAt edges count p))
+    × ((q : ℕ) → q < count * 2 → cond (among (steps edges count p (count * 2 - k) c) (dartAt edges q)) v
+    (getD marks q 0) ≡ cond (among (ringAt edges count p) (dartAt edges q)) v (getD marks₀ q 0))
 
 abbrev μ-loop : tie.MeasureT-loop
 μ-loop edges count p v marks₀ c₀ k₀ k-end marks c k = k-end - k
@@ -41,7 +45,12 @@ loop-holds c =
       (λ q h. ap (λ (r : List Dart). cond (among r (dartAt (a .edges .now) q)) (a .v) (getD (a .marks .now) q 0)) e),
     )
 
-follows : (c : lts.After-next-position (next-position-reads.Asked, next-position-reads.Learnt) reads.Pre reads.Post Inv-loop μ-loop) → Follows (c .before .before .before .before .args .edges .now) (c .before .before .before .before .args .count) (c .before .before .loop .c) (c .next-position .result)
+follows : (c : lts.After-next-position (
+  next-position-reads.Asked,
+  next-position-reads.Learnt,
+) reads.Pre reads.Post Inv-loop μ-loop)
+    → Follows (c .before .before .before .before .args .edges .now) (c .before .before .before .before .args .count)
+    (c .before .before .loop .c) (c .next-position .result)
 follows c = record { below = c .next-position .ensures .0; is = c .next-position .ensures .1 }
 
 returns : tie.Need-returns Inv-loop μ-loop
@@ -52,9 +61,12 @@ returns c =
     let r = c .before .next-position .result in
     let f = follows (c .before) in
     let room : s .args .count * 2 ≤ length (w .marks) = omega (arith, s .pre .2, w .inv .2) in (
-      ap (λ (l : List Dart). w .k + length l) (sym (steps-last (s .pre .0) (s .args .p) (s .pre .1) (w .k) (w .c) (b .loop-test .taken) r f (c .if1 .taken))) ∙ w .inv .3,
+      ap (λ (l : List Dart). w .k + length l)
+          (sym (steps-last (s .pre .0) (s .args .p) (s .pre .1) (w .k) (w .c) (b .loop-test .taken) r f
+          (c .if1 .taken))) ∙ w .inv .3,
       length-set (w .marks) (w .c) (s .args .v) ∙ w .inv .2,
-      (λ q h. mark-last (s .pre .0) (s .args .p) (s .pre .1) (w .k) (w .c) (b .loop-test .taken) r f (w .inv .0) (s .args .v) (w .marks) room q h (c .if1 .taken) ∙ w .inv .4 q h),
+      (λ q h. mark-last (s .pre .0) (s .args .p) (s .pre .1) (w .k) (w .c) (b .loop-test .taken) r f (w .inv .0)
+          (s .args .v) (w .marks) room q h (c .if1 .taken) ∙ w .inv .4 q h),
     )
 
 loop-again : tie.Need-loop-again Inv-loop μ-loop
@@ -65,12 +77,15 @@ loop-again c =
     let r = c .before .next-position .result in
     let f = follows (c .before) in
     let room : s .args .count * 2 ≤ length (w .marks) = omega (arith, s .pre .2, w .inv .2) in
-    let e = ap (λ (l : List Dart). w .k + length l) (steps-on (s .pre .0) (s .args .p) (s .pre .1) (w .k) (w .c) (b .loop-test .taken) r f (c .if1 .left)) in (
+    let e = ap (λ (l : List Dart). w .k + length l)
+    (steps-on (s .pre .0) (s .args .p) (s .pre .1) (w .k) (w .c) (b .loop-test .taken) r f (c .if1 .left)) in (
       f .below,
       omega arith,
       length-set (w .marks) (w .c) (s .args .v) ∙ w .inv .2,
-      one-more (w .k) (length (steps (s .args .edges .now) (s .args .count) (s .args .p) (s .args .count * 2 - (w .k + 1)) r)) ∙ sym e ∙ w .inv .3,
-      (λ q h. mark-on (s .pre .0) (s .args .p) (s .pre .1) (w .k) (w .c) (b .loop-test .taken) r f (w .inv .0) (s .args .v) (w .marks) room q h (c .if1 .left) ∙ w .inv .4 q h),
+      one-more (w .k) (length (steps (s .args .edges .now) (s .args .count) (s .args .p)
+          (s .args .count * 2 - (w .k + 1)) r)) ∙ sym e ∙ w .inv .3,
+      (λ q h. mark-on (s .pre .0) (s .args .p) (s .pre .1) (w .k) (w .c) (b .loop-test .taken) r f (w .inv .0)
+          (s .args .v) (w .marks) room q h (c .if1 .left) ∙ w .inv .4 q h),
     )
 
 returns-2 : tie.Need-returns-2 Inv-loop μ-loop
@@ -82,7 +97,8 @@ returns-2 c =
     let all : s .args .count * 2 ≡ w .k + 0 = omega (arith, w .inv .1, c .loop-test .left) in (
       all ∙ e,
       w .inv .2,
-      (λ q h. ap (λ (l : List Dart). cond (among l (dartAt (s .args .edges .now) q)) (s .args .v) (getD (w .marks) q 0)) end ∙ w .inv .4 q h),
+      (λ q h. ap (λ (l : List Dart). cond (among l (dartAt (s .args .edges .now) q)) (s .args .v)
+          (getD (w .marks) q 0)) end ∙ w .inv .4 q h),
     )
 
 pub mark-ring-spec : {M : Type 1} → statement M
@@ -96,7 +112,8 @@ mark-ring-spec =
     (λ c. omega (arith, c .before .before .before .pre .2, c .before .loop .inv .2))
     (λ c κs. (c .before .before .before .pre .0, c .before .loop .inv .0))
     (λ c. omega (arith, c .before .before .loop-test .taken, c .before .before .before .before .before .pre .0 .fits))
-    (λ c. let w = c .before .before .before .loop in length-set (w .marks) (w .c) (c .before .before .before .before .before .args .v) ∙ w .inv .2)
+    (λ c. let w = c .before .before .before .loop in
+    length-set (w .marks) (w .c) (c .before .before .before .before .before .args .v) ∙ w .inv .2)
     returns
     (λ c. omega arith)
     (λ c. omega arith)

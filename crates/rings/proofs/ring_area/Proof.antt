@@ -1,5 +1,5 @@
--- `rings::ring_area` meets its contract: the sum, with the area of what is left of the ring, is the ring's; it is at most a curve's greatest area
--- for each step. Assumes nothing.
+-- `rings::ring_area` meets its contract: the sum, with the area of what is left of the ring, is the ring's; it is at
+-- most a curve's greatest area for each step. Assumes nothing.
 use mathlib.Core.Path.{_≡_, sym, ap, _∙_, subst}
 use Prim.Native.Nat.{_+_, _*_, _-_, _/_, _<_, _≤_}
 use native.Mathlib.Omega.{arith}
@@ -12,7 +12,8 @@ use Rattle.tables.specs.Tables.{EdgeRow}
 use Rattle.tables.proofs.Rows.{edge-row-of}
 use Rattle.rings.proofs.Walks.{steps, ringAt}
 use Rattle.rings.proofs.Reversed.{Within, within-sub, curveMost}
-use Rattle.rings.proofs.Sums.{areaLeft, areaAt, area-within, sum-within, sum-fits, area-start, area-on, area-last, area-end}
+use Rattle.rings.proofs.Sums.{areaLeft, areaAt, area-within, sum-within, sum-fits, area-start, area-on}
+use Rattle.rings.proofs.Sums.{area-last, area-end}
 use Rattle.rings.proofs.ring_area.Statement.{statement}
 use Rattle.rings.proofs.ring_area.Tie as tie
 use Rattle.rings.proofs.ring_area.Reads as reads
@@ -23,7 +24,8 @@ use Rattle.rings.proofs.dart_area.Reads as dart-area-reads
 abbrev Inv-loop : tie.InvT-loop
 Inv-loop edges count p c₀ sum₀ k₀ k-end c sum k =
     (c < count * 2) × (k ≤ count * 2) × Within (curveMost * k) (toZ w64 sum)
-    × (toZ w64 sum +ℤ areaLeft edges count (steps edges count p (count * 2 - k) c) ≡ areaLeft edges count (ringAt edges count p))
+    × (toZ w64 sum +ℤ areaLeft edges count (steps edges count p (count * 2 - k) c)
+    ≡ areaLeft edges count (ringAt edges count p))
 
 abbrev μ-loop : tie.MeasureT-loop
 μ-loop edges count p c₀ sum₀ k₀ k-end c sum k = k-end - k
@@ -37,20 +39,35 @@ loop-holds c =
     (c .pre .2, omega arith, within-sub 0 0 0 (omega arith) (omega arith), area-start (a .edges .now) (a .count) (a .p))
 
 -- what is added, and the sum
-module _ (c : lts.After-dart-area (dart-area-reads.Asked, dart-area-reads.Learnt, next-position-reads.Asked, next-position-reads.Learnt) reads.Pre reads.Post Inv-loop μ-loop) where
+module _ (c : lts.After-dart-area (
+  dart-area-reads.Asked,
+  dart-area-reads.Learnt,
+  next-position-reads.Asked,
+  next-position-reads.Learnt,
+) reads.Pre reads.Post Inv-loop μ-loop) where
   row : EdgeRow (c .before .before .before .args .edges .now) (c .before .before .loop .c / 2)
-  row = edge-row-of (c .before .before .before .pre .0) (c .before .before .loop .c / 2) (omega (arith, c .before .before .loop .inv .0))
+  row = edge-row-of (c .before .before .before .pre .0) (c .before .before .loop .c / 2)
+      (omega (arith, c .before .before .loop .inv .0))
 
-  step : toZ w64 (c .before .before .loop .sum) +ℤ toZ w64 (ofZ w64 (c .dart-area .result)) ≡ toZ w64 (c .before .before .loop .sum) +ℤ areaAt (c .before .before .before .args .edges .now) (c .before .before .loop .c)
-  step = ap (λ (z : ℤ). toZ w64 (c .before .before .loop .sum) +ℤ z) (sent {z = c .dart-area .result} (c .dart-area .ok) ∙ c .dart-area .ensures)
+  step : toZ w64 (c .before .before .loop .sum) +ℤ toZ w64 (ofZ w64 (c .dart-area .result))
+      ≡ toZ w64 (c .before .before .loop .sum) +ℤ areaAt (c .before .before .before .args .edges .now)
+      (c .before .before .loop .c)
+  step = ap (λ (z : ℤ). toZ w64 (c .before .before .loop .sum) +ℤ z)
+      (sent {z = c .dart-area .result} (c .dart-area .ok) ∙ c .dart-area .ensures)
 
-  within : Within (curveMost * (c .before .before .loop .k + 1)) (toZ w64 (c .before .before .loop .sum) +ℤ areaAt (c .before .before .before .args .edges .now) (c .before .before .loop .c))
-  within = sum-within (c .before .before .loop .k) (c .before .before .loop .inv .2) (area-within (c .before .before .loop .c) row)
+  within : Within (curveMost * (c .before .before .loop .k + 1))
+      (toZ w64 (c .before .before .loop .sum) +ℤ areaAt (c .before .before .before .args .edges .now)
+      (c .before .before .loop .c))
+  within = sum-within (c .before .before .loop .k) (c .before .before .loop .inv .2)
+      (area-within (c .before .before .loop .c) row)
 
   fits : SFits w64 (toZ w64 (c .before .before .loop .sum) +ℤ toZ w64 (ofZ w64 (c .dart-area .result)))
-  fits = subst (SFits w64) (sym step) (sum-fits (c .before .before .loop .k + 1) (omega (arith, c .before .before .before .pre .1, c .before .loop-test .taken)) within)
+  fits = subst (SFits w64) (sym step) (sum-fits (c .before .before .loop .k + 1)
+      (omega (arith, c .before .before .before .pre .1, c .before .loop-test .taken)) within)
 
-  total : toZ w64 (ofZ w64 (toZ w64 (c .before .before .loop .sum) +ℤ toZ w64 (ofZ w64 (c .dart-area .result)))) ≡ toZ w64 (c .before .before .loop .sum) +ℤ areaAt (c .before .before .before .args .edges .now) (c .before .before .loop .c)
+  total : toZ w64 (ofZ w64 (toZ w64 (c .before .before .loop .sum) +ℤ toZ w64 (ofZ w64 (c .dart-area .result))))
+      ≡ toZ w64 (c .before .before .loop .sum) +ℤ areaAt (c .before .before .before .args .edges .now)
+      (c .before .before .loop .c)
   total = toZ-ofZ fits ∙ step
 
 returns : tie.Need-returns Inv-loop μ-loop
@@ -59,7 +76,9 @@ returns c =
     let s = b .before .before in
     let w = b .before .loop in
     let n = c .before .next-position in
-    total (c .before .before) ∙ area-last (s .pre .0) (s .args .p) (s .pre .2) (w .k) (w .c) (toZ w64 (w .sum)) (w .inv .3) (w .inv .0) (b .loop-test .taken) (n .result) (record { below = n .ensures .0; is = n .ensures .1 }) (c .if1 .taken)
+    total (c .before .before) ∙ area-last (s .pre .0) (s .args .p) (s .pre .2) (w .k) (w .c) (toZ w64 (w .sum))
+    (w .inv .3) (w .inv .0) (b .loop-test .taken) (n .result) (record { below = n .ensures .0; is = n .ensures .1 })
+    (c .if1 .taken)
 
 loop-again : tie.Need-loop-again Inv-loop μ-loop
 loop-again c =
@@ -71,8 +90,10 @@ loop-again c =
       n .ensures .0,
       omega (arith, b .loop-test .taken),
       subst (Within (curveMost * (w .k + 1))) (sym e) (within (c .before .before)),
-      ap (λ (z : ℤ). z +ℤ areaLeft (s .args .edges .now) (s .args .count) (steps (s .args .edges .now) (s .args .count) (s .args .p) (s .args .count * 2 - (w .k + 1)) (n .result))) e
-          ∙ area-on (s .pre .0) (s .args .p) (s .pre .2) (w .k) (w .c) (toZ w64 (w .sum)) (w .inv .3) (w .inv .0) (b .loop-test .taken) (n .result) (record { below = n .ensures .0; is = n .ensures .1 }) (c .if1 .left),
+      ap (λ (z : ℤ). z +ℤ areaLeft (s .args .edges .now) (s .args .count)
+          (steps (s .args .edges .now) (s .args .count) (s .args .p) (s .args .count * 2 - (w .k + 1)) (n .result))) e
+          ∙ area-on (s .pre .0) (s .args .p) (s .pre .2) (w .k) (w .c) (toZ w64 (w .sum)) (w .inv .3) (w .inv .0)
+          (b .loop-test .taken) (n .result) (record { below = n .ensures .0; is = n .ensures .1 }) (c .if1 .left),
     )
 
 returns-2 : tie.Need-returns-2 Inv-loop μ-loop

@@ -40,24 +40,30 @@ loop-again c =
     let s = b .before .before in
     let w = b .before .loop in
     let a = s .args in
-    let f : Follows (a .edges .now) (a .count) (w .c) (c .next-position .result) = record { below = c .next-position .ensures .0; is = c .next-position .ensures .1 } in
+    let f : Follows (a .edges .now) (a .count) (w .c) (c .next-position .result) =
+    record { below = c .next-position .ensures .0; is = c .next-position .ensures .1 } in
     let h : w .k < length (ringAt (a .edges .now) (a .count) (a .p)) = omega (arith, b .loop-test .taken, s .pre .2) in
     let left = w .inv .4 (b .loop-test .taken) in
-    let many : length (cells (a .edges .now) (a .count) (a .p)) ≡ length (ringAt (a .edges .now) (a .count) (a .p)) = length-map (ringAt (a .edges .now) (a .count) (a .p)) dartCell in
+    let many : length (cells (a .edges .now) (a .count) (a .p)) ≡ length (ringAt (a .edges .now) (a .count) (a .p)) =
+    length-map (ringAt (a .edges .now) (a .count) (a .p)) dartCell in
     let v = toZ w64 (ofZ w64 (c .before .dart-at .result)) in
     let read = sent {z = c .before .dart-at .result} (c .before .dart-at .ok) ∙ c .before .dart-at .ensures in (
       f .below,
       omega arith,
       length-set (w .list) (a .at + w .k) v ∙ w .inv .2,
-      copy-more (a .list .now) (a .at) (cells (a .edges .now) (a .count) (a .p)) (w .k) (pos 0) (w .list) v (omega (arith, s .pre .3)) (omega arith) (w .inv .3) (read ∙ sym (written-here (s .pre .0) (a .p) (s .pre .1) (w .k) (w .c) h left)),
-      (λ g. written-on (s .pre .0) (a .p) (s .pre .1) (w .k) (w .c) h left (c .next-position .result) f (omega (arith, s .pre .2))),
+      copy-more (a .list .now) (a .at) (cells (a .edges .now) (a .count) (a .p)) (w .k) (pos 0) (w .list) v
+          (omega (arith, s .pre .3)) (omega arith) (w .inv .3)
+          (read ∙ sym (written-here (s .pre .0) (a .p) (s .pre .1) (w .k) (w .c) h left)),
+      (λ g. written-on (s .pre .0) (a .p) (s .pre .1) (w .k) (w .c) h left (c .next-position .result) f
+          (omega (arith, s .pre .2))),
     )
 
 returns : tie.Need-returns Inv-loop μ-loop
 returns c =
     let a = c .before .before .args in
     let w = c .before .loop in
-    copy-end (a .list .now) (a .at) (cells (a .edges .now) (a .count) (a .p)) (w .k) (a .n) (w .list) (w .inv .3) (omega arith)
+    copy-end (a .list .now) (a .at) (cells (a .edges .now) (a .count) (a .p)) (w .k) (a .n) (w .list) (w .inv .3)
+    (omega arith)
 
 pub write-ring-spec : {M : Type 1} → statement M
 write-ring-spec =

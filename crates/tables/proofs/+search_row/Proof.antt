@@ -1,5 +1,5 @@
--- `tables::search_row` meets its contract, by the number of rows from lo to hi: the half that the number is not in has only numbers that are less, or greater.
--- Assumes nothing.
+-- `tables::search_row` meets its contract, by the number of rows from lo to hi: the half that the number is not in has
+-- only numbers that are less, or greater. Assumes nothing.
 use Prim.Native.Nat.{ℕ, _+_, _-_, _*_, _/_, _<_}
 use mathlib.Core.Path.{_≡_, sym, ap, subst, _∙_}
 use mathlib.Core.Bool.{true, false}
@@ -40,7 +40,8 @@ module _ (t : ℕ) where
   returns c =
       let s = c .before in
       let f : ℕ → ℤ = λ k. getD (s .args .t .now) (k * s .args .w) (pos 0) in
-      sym (place-none f (sameZ (s .args .number)) (s .args .hi) (λ k h. below-other (f k) (s .args .number) (s .pre .1 .1 k (omega arith))))
+      sym (place-none f (sameZ (s .args .number)) (s .args .hi)
+      (λ k h. below-other (f k) (s .args .number) (s .pre .1 .1 k (omega arith))))
 
   -- row mid lies in the table
   mul-z : search-row-lts.Need-mul-z (search-row-below t, search-row.Post) (search-row-at t) search-row.Post
@@ -53,7 +54,8 @@ module _ (t : ℕ) where
       let a = c .before .args in
       omega (arith, row-room (a .w) (a .hi) (a .lo + (a .hi - a .lo) / 2) (omega arith), c .before .pre .1 .0 .fits)
 
-  copy-out-z : search-row-lts.Need-shared-slice-copy-out-z (search-row-below t, search-row.Post) (search-row-at t) search-row.Post
+  copy-out-z : search-row-lts.Need-shared-slice-copy-out-z (search-row-below t, search-row.Post)
+      (search-row-at t) search-row.Post
   copy-out-z c =
       let a = c .before .args in
       let r = c .before .pre .1 .0 in
@@ -63,9 +65,11 @@ module _ (t : ℕ) where
   returns-2 c =
       let s = c .before .before .before in
       let m = s .args .lo + (s .args .hi - s .args .lo) / 2 in
-      row-met (s .pre .1 .0) m (omega arith) (word-is (sfits-of (c .before .z .given)) (s .fits .number) (c .if2 .taken))
+      row-met (s .pre .1 .0) m (omega arith)
+      (word-is (sfits-of (c .before .z .given)) (s .fits .number) (c .if2 .taken))
 
-  requires : search-row-lts.Need-search-row-requires (search-row-below t, search-row.Post) (search-row-at t) search-row.Post
+  requires : search-row-lts.Need-search-row-requires (search-row-below t, search-row.Post)
+      (search-row-at t) search-row.Post
   requires c κs =
       let read = c .before .before in
       let s = read .before .before in
@@ -76,13 +80,18 @@ module _ (t : ℕ) where
       let e : toZ w64 (ofZ w64 (f m)) ≡ f m = toZ-ofZ {w = w64} {z = f m} (sfits-of (read .z .given)) in
       let here : ltZ (f m) n ≡ true = subst (λ (z : ℤ). ltZ z n ≡ true) e (c .if3 .taken) in (
         omega arith,
-        (s .pre .1 .0, below-more (λ k. ltZ (f k) n ≡ true) m (λ k h. less-trans (f k) (f m) n (rise f (a .hi) (s .pre .1 .0 .rising) k m h (omega arith)) here) here),
+        (
+          s .pre .1 .0,
+          below-more (λ k. ltZ (f k) n ≡ true) m
+              (λ k h. less-trans (f k) (f m) n (rise f (a .hi) (s .pre .1 .0 .rising) k m h (omega arith)) here) here,
+        ),
       )
 
   returns-3 : search-row-lts.Need-returns-3 (search-row-below t, search-row.Post) (search-row-at t) search-row.Post
   returns-3 c = rw (toZ-ofZ (c .before .before .before .before .before .fits .number)) at (c .search-row .ensures)
 
-  requires-2 : search-row-lts.Need-search-row-requires-2 (search-row-below t, search-row.Post) (search-row-at t) search-row.Post
+  requires-2 : search-row-lts.Need-search-row-requires-2 (search-row-below t, search-row.Post)
+      (search-row-at t) search-row.Post
   requires-2 c κs =
       let s = c .before .before .before .before in
       let a = s .args in
@@ -99,8 +108,10 @@ module _ (t : ℕ) where
       let n = toZ w64 (ofZ w64 (a .number)) in
       let e : toZ w64 (ofZ w64 z) ≡ z = toZ-ofZ {w = w64} {z = z} (sfits-of (read .z .given)) in
       let not-less : ltZ z n ≡ false = subst (λ (x : ℤ). ltZ x n ≡ false) e (c .before .if3 .left) in
-      let other : z ≡ n → ⊥ = λ q. c .before .before .if2 .left (ap (ofZ w64) (q ∙ toZ-ofZ {w = w64} (s .fits .number))) in
-      rw (toZ-ofZ (s .fits .number)) at (c .search-row2 .ensures ∙ place-before (s .pre .1 .0) m (omega arith) n (greater z n not-less other))
+      let other : z ≡ n → ⊥ = λ q. c .before .before .if2 .left
+      (ap (ofZ w64) (q ∙ toZ-ofZ {w = w64} (s .fits .number))) in
+      rw (toZ-ofZ (s .fits .number)) at
+      (c .search-row2 .ensures ∙ place-before (s .pre .1 .0) m (omega arith) n (greater z n not-less other))
 
 pub +search-row-spec : {M : Type 1} → statement M
 +search-row-spec =

@@ -25,14 +25,16 @@ loop-again c =
     let i = c .before .loop .inv in (
       omega arith,
       simp length-set (i .1),
-      copy-more (a .t .now) (a .at) (replicate (a .n) (pos 0)) (c .before .loop .j) (pos 0) _ _ (omega arith) (simp length-replicate (omega arith)) (i .2)
+      copy-more (a .t .now) (a .at) (replicate (a .n) (pos 0)) (c .before .loop .j) (pos 0) _ _ (omega arith)
+          (simp length-replicate (omega arith)) (i .2)
           (sym (getD-replicate (a .n) (c .before .loop .j) (pos 0) (pos 0) (omega arith))),
     )
 
 returns : tie.Need-returns Inv-loop μ-loop
 returns c =
     let a = c .before .before .args in
-    copy-end (a .t .now) (a .at) (replicate (a .n) (pos 0)) (c .before .loop .j) (a .n) _ (c .before .loop .inv .2) (omega arith)
+    copy-end (a .t .now) (a .at) (replicate (a .n) (pos 0)) (c .before .loop .j) (a .n) _ (c .before .loop .inv .2)
+    (omega arith)
 
 pub clear-spec : {M : Type 1} → statement M
 clear-spec =

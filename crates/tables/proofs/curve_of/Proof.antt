@@ -20,12 +20,16 @@ cast-n : tie.Need-cast-n
 cast-n c =
     let l = c .before .args .edges .now in
     let i = c .before .args .i in
-    let e : toZ w64 (ofZ w64 (getD l (i * 32 + 7) (pos 0))) ≡ pos (pointCount l i) = toZ-ofZ {w = w64} (sfits-of (c .n .given)) ∙ count-pos (c .before .pre) in
+    let e : toZ w64 (ofZ w64 (getD l (i * 32 + 7) (pos 0))) ≡ pos (pointCount l i) =
+    toZ-ofZ {w = w64} (sfits-of (c .n .given)) ∙ count-pos (c .before .pre) in
     rw e (tt, omega (arith, count-most (c .before .pre)))
 
 -- the number of points as it is read
-count : (c : lts.After-n reads.Pre reads.Post) → natAbs (toZ w64 (ofZ w64 (getD (c .before .args .edges .now) (c .before .args .i * 32 + 7) (pos 0)))) ≡ pointCount (c .before .args .edges .now) (c .before .args .i)
-count c = let z = getD (c .before .args .edges .now) (c .before .args .i * 32 + 7) (pos 0) in ap natAbs (toZ-ofZ {w = w64} {z = z} (sfits-of (c .n .given)))
+count : (c : lts.After-n reads.Pre reads.Post)
+    → natAbs (toZ w64 (ofZ w64 (getD (c .before .args .edges .now) (c .before .args .i * 32 + 7) (pos 0))))
+    ≡ pointCount (c .before .args .edges .now) (c .before .args .i)
+count c = let z = getD (c .before .args .edges .now) (c .before .args .i * 32 + 7) (pos 0) in
+    ap natAbs (toZ-ofZ {w = w64} {z = z} (sfits-of (c .n .given)))
 
 mul-b : tie.Need-mul-b
 mul-b c = rw (count c) (omega (arith, count-most (c .before .pre)))
@@ -41,8 +45,10 @@ returns c =
     let p = c .before .before .pre in
     let l = c .before .before .args .edges .now in
     let i = c .before .before .args .i in
-    let e : i * 32 + 8 + 2 * natAbs (toZ w64 (ofZ w64 (getD l (i * 32 + 7) (pos 0)))) - (i * 32 + 8) ≡ 2 * pointCount l i = omega (arith, count (c .before)) in
-    subst (λ (k : ℕ). Run (take k (drop (i * 32 + 8) l)) × (curveOf (take k (drop (i * 32 + 8) l)) ≡ edgeAt l i .curve)) (sym e) (run-at p, curve-at p)
+    let e : i * 32 + 8 + 2 * natAbs (toZ w64 (ofZ w64 (getD l (i * 32 + 7) (pos 0)))) - (i * 32 + 8)
+    ≡ 2 * pointCount l i = omega (arith, count (c .before)) in
+    subst (λ (k : ℕ). Run (take k (drop (i * 32 + 8) l))
+    × (curveOf (take k (drop (i * 32 + 8) l)) ≡ edgeAt l i .curve)) (sym e) (run-at p, curve-at p)
 
 pub curve-of-spec : {M : Type 1} → statement M
 curve-of-spec =

@@ -1,4 +1,5 @@
--- `tables::find_indexed` meets its contract: the row that the index names is the one where its number is, and otherwise the search answers. Assumes nothing.
+-- `tables::find_indexed` meets its contract: the row that the index names is the one where its number is, and otherwise
+-- the search answers. Assumes nothing.
 use native.Mathlib.Omega.{arith}
 use mir.Facts.{toZ-ofZ}
 use borrow.Author.Needs.{needs, sfits-of}
@@ -30,7 +31,8 @@ copy-out-if2 c =
 returns : tie.Need-returns
 returns c =
     let s = c .before .before .before .before .before .before in
-    row-met (s .pre .0) _ (c .before .before .if1 .taken) (word-is (sfits-of (c .before .if22 .given)) (s .fits .number) (c .if2 .taken))
+    row-met (s .pre .0) _ (c .before .before .if1 .taken)
+    (word-is (sfits-of (c .before .if22 .given)) (s .fits .number) (c .if2 .taken))
 
 search-row-requires : tie.Need-search-row-requires
 search-row-requires c κs = (c .before .before .before .before .pre .0, (λ k h. absurd (omega arith)))

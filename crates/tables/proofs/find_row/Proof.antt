@@ -1,4 +1,5 @@
--- `tables::find_row` meets its contract: the row that the first look meets is the one, and otherwise the search answers. Assumes nothing.
+-- `tables::find_row` meets its contract: the row that the first look meets is the one, and otherwise the search
+-- answers. Assumes nothing.
 use Prim.Native.Nat.{_<_}
 use native.Mathlib.Omega.{arith}
 use mir.Facts.{toZ-ofZ}
@@ -40,13 +41,18 @@ returns-2 c =
     let l = c .before .before in
     let s = l .before .before .before .before .before .before in
     let h : l .lesser .result < s .args .count = omega arith in
-    row-met (s .pre) (l .lesser .result) h (word-is (sfits-of (c .before .if22 .given)) (s .fits .number) (c .if2 .taken))
+    row-met (s .pre) (l .lesser .result) h
+    (word-is (sfits-of (c .before .if22 .given)) (s .fits .number) (c .if2 .taken))
 
 search-row-requires : tie.Need-search-row-requires
-search-row-requires c κs = (c .before .before .before .before .before .before .before .before .pre, (λ k h. absurd (omega arith)))
+search-row-requires c κs = (
+  c .before .before .before .before .before .before .before .before .pre,
+  (λ k h. absurd (omega arith)),
+)
 
 returns-3 : tie.Need-returns-3
-returns-3 c = rw (toZ-ofZ (c .before .before .before .before .before .before .before .before .before .fits .number)) at (c .search-row .ensures)
+returns-3 c = rw (toZ-ofZ (c .before .before .before .before .before .before .before .before .before .fits .number)) at
+    (c .search-row .ensures)
 
 pub find-row-spec : {M : Type 1} → statement M
 find-row-spec =

@@ -15,13 +15,16 @@ abbrev μ-loop : tie.MeasureT-loop
 
 -- row i lies in the table
 mul-last-bits : tie.Need-mul-last-bits Inv-loop μ-loop
-mul-last-bits c = let a = c .before .before .before .args in omega (arith, row-room (a .w) (a .count) (c .before .loop .i) (c .loop-test .taken))
+mul-last-bits c = let a = c .before .before .before .args in
+    omega (arith, row-room (a .w) (a .count) (c .before .loop .i) (c .loop-test .taken))
 
 mul-last-bits-2 : tie.Need-mul-last-bits-2 Inv-loop μ-loop
-mul-last-bits-2 c = let a = c .before .before .before .args in omega (arith, row-room (a .w) (a .count) (c .before .loop .i) (c .loop-test .taken))
+mul-last-bits-2 c = let a = c .before .before .before .args in
+    omega (arith, row-room (a .w) (a .count) (c .before .loop .i) (c .loop-test .taken))
 
 copy-out : tie.Need-shared-slice-copy-out-last-bits Inv-loop μ-loop
-copy-out c = let a = c .before .before .before .args in omega (arith, row-room (a .w) (a .count) (c .before .loop .i) (c .loop-test .taken))
+copy-out c = let a = c .before .before .before .args in
+    omega (arith, row-room (a .w) (a .count) (c .before .loop .i) (c .loop-test .taken))
 
 loop-again : tie.Need-loop-again Inv-loop μ-loop
 loop-again c = (omega arith, simp length-set (c .before .before .before .loop .inv .1))

@@ -28,14 +28,18 @@ loop-again c =
     let i = c .before .before .loop .inv in (
       omega arith,
       simp length-set (i .1),
-      copy-more (a .t .now) (a .at) (drop (a .from) (a .t .now)) (c .before .before .loop .j) (pos 0) _ _ (omega arith) (simp length-drop (omega arith)) (i .2)
-          (toZ-ofZ {w = w64} (sfits-of (c .v .given)) ∙ moved-from (a .t .now) (a .at) (a .from) (c .before .before .loop .j) (pos 0) (c .before .before .loop .t) (omega arith) (omega arith) (i .2)),
+      copy-more (a .t .now) (a .at) (drop (a .from) (a .t .now)) (c .before .before .loop .j) (pos 0) _ _ (omega arith)
+          (simp length-drop (omega arith)) (i .2)
+          (toZ-ofZ {w = w64} (sfits-of (c .v .given))
+          ∙ moved-from (a .t .now) (a .at) (a .from) (c .before .before .loop .j) (pos 0) (c .before .before .loop .t)
+          (omega arith) (omega arith) (i .2)),
     )
 
 returns : tie.Need-returns Inv-loop μ-loop
 returns c =
     let a = c .before .before .args in
-    copy-end (a .t .now) (a .at) (drop (a .from) (a .t .now)) (c .before .loop .j) (a .n) _ (c .before .loop .inv .2) (omega arith)
+    copy-end (a .t .now) (a .at) (drop (a .from) (a .t .now)) (c .before .loop .j) (a .n) _ (c .before .loop .inv .2)
+    (omega arith)
 
 pub move-down-spec : {M : Type 1} → statement M
 move-down-spec =

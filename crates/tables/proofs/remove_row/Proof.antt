@@ -21,11 +21,22 @@ move-down-requires c κs =
 
 sub-clear : tie.Need-sub-clear
 sub-clear c =
-    omega (arith, row-room (c .before .before .before .before .args .w) (c .before .before .before .before .args .count) (c .before .before .before .before .args .i) (c .before .before .before .before .pre .0))
+    omega (
+      arith,
+      row-room (c .before .before .before .before .args .w)
+          (c .before .before .before .before .args .count) (c .before .before .before .before .args .i)
+          (c .before .before .before .before .pre .0),
+    )
 
 clear-requires : tie.Need-clear-requires
 clear-requires c κs =
-    omega (arith, row-room (c .before .before .before .before .args .w) (c .before .before .before .before .args .count) (c .before .before .before .before .args .i) (c .before .before .before .before .pre .0), c .before .before .move-down .kept .0)
+    omega (
+      arith,
+      row-room (c .before .before .before .before .args .w)
+          (c .before .before .before .before .args .count) (c .before .before .before .before .args .i)
+          (c .before .before .before .before .pre .0),
+      c .before .before .move-down .kept .0,
+    )
 
 returns : tie.Need-returns
 returns c = rw (c .before .clear .ensures, c .before .before .before .before .move-down .ensures)

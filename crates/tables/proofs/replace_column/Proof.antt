@@ -1,5 +1,5 @@
--- `tables::replace_column` meets its contract: a sweep of the rows left, from what the rows passed left, is the sweep of all.
--- Assumes nothing.
+-- `tables::replace_column` meets its contract: a sweep of the rows left, from what the rows passed left, is the sweep
+-- of all. Assumes nothing.
 use Prim.Native.Nat.{_≤_, _-_, _+_, _*_}
 use mathlib.Core.Path.{_≡_, refl, sym, ap, _∙_}
 use mathlib.Core.Logic.{⊎-elim}
@@ -23,7 +23,8 @@ use Rattle.tables.proofs.replace_column.Tie as tie
 abbrev Inv-loop : tie.InvT-loop
 Inv-loop t₀ w count k old new i₀ t i =
     (i ≤ count) × (length t ≡ length t₀)
-    × (sweep (λ l j. replaceAt (toZ w64 old) (toZ w64 new) l (j * w + k)) t i (count - i) ≡ sweep (λ l j. replaceAt (toZ w64 old) (toZ w64 new) l (j * w + k)) t₀ 0 count)
+    × (sweep (λ l j. replaceAt (toZ w64 old) (toZ w64 new) l (j * w + k)) t i (count - i)
+    ≡ sweep (λ l j. replaceAt (toZ w64 old) (toZ w64 new) l (j * w + k)) t₀ 0 count)
 
 abbrev μ-loop : tie.MeasureT-loop
 μ-loop t₀ w count k old new i₀ t i = count - i
@@ -33,28 +34,36 @@ loop-holds c = (omega arith, refl, rw sub-zero)
 
 -- row i lies in the table
 mul-if1 : tie.Need-mul-if1 Inv-loop μ-loop
-mul-if1 c = let a = c .before .before .args in omega (arith, row-room (a .w) (a .count) (c .before .loop .i) (c .loop-test .taken))
+mul-if1 c = let a = c .before .before .args in
+    omega (arith, row-room (a .w) (a .count) (c .before .loop .i) (c .loop-test .taken))
 
 add-if1 : tie.Need-add-if1 Inv-loop μ-loop
-add-if1 c = let a = c .before .before .args in omega (arith, row-room (a .w) (a .count) (c .before .loop .i) (c .loop-test .taken))
+add-if1 c = let a = c .before .before .args in
+    omega (arith, row-room (a .w) (a .count) (c .before .loop .i) (c .loop-test .taken))
 
 mul-if1-2 : tie.Need-mul-if1-2 Inv-loop μ-loop
-mul-if1-2 c = let a = c .before .before .args in omega (arith, row-room (a .w) (a .count) (c .before .loop .i) (c .loop-test .taken))
+mul-if1-2 c = let a = c .before .before .args in
+    omega (arith, row-room (a .w) (a .count) (c .before .loop .i) (c .loop-test .taken))
 
 copy-out-if1 : tie.Need-slice-copy-out-if1 Inv-loop μ-loop
-copy-out-if1 c = let a = c .before .before .args in omega (arith, row-room (a .w) (a .count) (c .before .loop .i) (c .loop-test .taken))
+copy-out-if1 c = let a = c .before .before .args in
+    omega (arith, row-room (a .w) (a .count) (c .before .loop .i) (c .loop-test .taken))
 
 mul-new : tie.Need-mul-new Inv-loop μ-loop
-mul-new c = let a = c .before .before .before .before .args in omega (arith, row-room (a .w) (a .count) (c .before .before .before .loop .i) (c .before .before .loop-test .taken))
+mul-new c = let a = c .before .before .before .before .args in
+    omega (arith, row-room (a .w) (a .count) (c .before .before .before .loop .i) (c .before .before .loop-test .taken))
 
 add-new : tie.Need-add-new Inv-loop μ-loop
-add-new c = let a = c .before .before .before .before .args in omega (arith, row-room (a .w) (a .count) (c .before .before .before .loop .i) (c .before .before .loop-test .taken))
+add-new c = let a = c .before .before .before .before .args in
+    omega (arith, row-room (a .w) (a .count) (c .before .before .before .loop .i) (c .before .before .loop-test .taken))
 
 mul-new-2 : tie.Need-mul-new-2 Inv-loop μ-loop
-mul-new-2 c = let a = c .before .before .before .before .args in omega (arith, row-room (a .w) (a .count) (c .before .before .before .loop .i) (c .before .before .loop-test .taken))
+mul-new-2 c = let a = c .before .before .before .before .args in
+    omega (arith, row-room (a .w) (a .count) (c .before .before .before .loop .i) (c .before .before .loop-test .taken))
 
 set-from-new : tie.Need-slice-set-from-new Inv-loop μ-loop
-set-from-new c = let a = c .before .before .before .before .args in omega (arith, row-room (a .w) (a .count) (c .before .before .before .loop .i) (c .before .before .loop-test .taken))
+set-from-new c = let a = c .before .before .before .before .args in
+    omega (arith, row-room (a .w) (a .count) (c .before .before .before .loop .i) (c .before .before .loop-test .taken))
 
 loop-again : tie.Need-loop-again Inv-loop μ-loop
 loop-again c =
@@ -69,11 +78,14 @@ loop-again c =
     let read-old : old ≡ a .old = toZ-ofZ (s .fits .old) in
     let turn : replaceAt old new (l .t) j ≡ c .if1 .t =
     ⊎-elim (λ w. replace-hit old new (l .t) j (word-is fits-z (s .fits .old) (w .0 .taken) ∙ sym read-old) ∙ sym (w .1))
-    (λ w. replace-miss old new (l .t) j (λ e. w .0 .left (ap (ofZ w64) (e ∙ read-old))) ∙ sym (w .1)) (c .if1 .came) in (
+    (λ w. replace-miss old new (l .t) j (λ e. w .0 .left (ap (ofZ w64) (e ∙ read-old))) ∙ sym (w .1))
+    (c .if1 .came) in (
       omega arith,
       ap length (sym turn) ∙ replace-length old new (l .t) j ∙ l .inv .1,
-      ap (λ (x : List ℤ). sweep (λ l j. replaceAt old new l (j * a .w + a .k)) x (l .i + 1) (a .count - (l .i + 1))) (sym turn)
-          ∙ sym (sweep-step (λ l j. replaceAt old new l (j * a .w + a .k)) (l .t) (l .i) (a .count) (c .before .before .loop-test .taken)) ∙ l .inv .2,
+      ap (λ (x : List ℤ). sweep (λ l j. replaceAt old new l (j * a .w + a .k)) x (l .i + 1) (a .count - (l .i + 1)))
+          (sym turn)
+          ∙ sym (sweep-step (λ l j. replaceAt old new l (j * a .w + a .k)) (l .t) (l .i) (a .count)
+          (c .before .before .loop-test .taken)) ∙ l .inv .2,
     )
 
 returns : tie.Need-returns Inv-loop μ-loop

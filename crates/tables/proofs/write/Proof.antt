@@ -28,13 +28,15 @@ loop-again c =
     let i = c .before .before .loop .inv in (
       omega arith,
       simp length-set (i .1),
-      copy-more (a .t .now) (a .at) (a .row .now) (c .before .before .loop .j) (pos 0) _ _ (omega arith) (omega arith) (i .2) (toZ-ofZ {w = w64} (sfits-of (c .v .given))),
+      copy-more (a .t .now) (a .at) (a .row .now) (c .before .before .loop .j) (pos 0) _ _ (omega arith) (omega arith)
+          (i .2) (toZ-ofZ {w = w64} (sfits-of (c .v .given))),
     )
 
 returns : tie.Need-returns Inv-loop μ-loop
 returns c =
     let a = c .before .before .args in
-    copy-end (a .t .now) (a .at) (a .row .now) (c .before .loop .j) (length (a .row .now)) _ (c .before .loop .inv .2) (omega arith)
+    copy-end (a .t .now) (a .at) (a .row .now) (c .before .loop .j) (length (a .row .now)) _ (c .before .loop .inv .2)
+    (omega arith)
 
 pub write-spec : {M : Type 1} → statement M
 write-spec =

@@ -15,16 +15,27 @@ front : (n k : ℕ) (l : List ℤ) → length l ≡ k → n ≤ k → n ≡ leng
 front n k l e h = sym (length-take-le n l (omega (arith, e, h)))
 
 slice-aggregate-answer : tie.Need-slice-aggregate-answer
-slice-aggregate-answer c = front (c .before .before .before .before .length-at .result) 32 (c .before .before .before .before .before .before .before .before .before .before .before .before .fill .last .1 .1 .0) (c .before .before .before .before .before .before .before .before .before .before .before .nodes2 .given) (c .before .before .before .before .length-at .ensures)
+slice-aggregate-answer c = front (c .before .before .before .before .length-at .result) 32
+    (c .before .before .before .before .before .before .before .before .before .before .before .before .fill
+    .last .1 .1 .0)
+    (c .before .before .before .before .before .before .before .before .before .before .before .nodes2 .given)
+    (c .before .before .before .before .length-at .ensures)
 
 slice-aggregate-answer-2 : tie.Need-slice-aggregate-answer-2
-slice-aggregate-answer-2 c = front (c .before .before .before .before .length-at2 .result) 192 (c .before .before .before .before .before .before .before .before .before .before .fill2 .last .1 .1 .0) (c .before .before .before .before .before .before .before .before .before .edges2 .given) (c .before .before .before .before .length-at2 .ensures)
+slice-aggregate-answer-2 c = front (c .before .before .before .before .length-at2 .result) 192
+    (c .before .before .before .before .before .before .before .before .before .before .fill2 .last .1 .1 .0)
+    (c .before .before .before .before .before .before .before .before .before .edges2 .given)
+    (c .before .before .before .before .length-at2 .ensures)
 
 slice-aggregate-answer-3 : tie.Need-slice-aggregate-answer-3
-slice-aggregate-answer-3 c = front (c .before .before .before .before .length-at3 .result) 8 (c .before .before .before .before .before .before .before .before .fill3 .last .1 .1 .0) (c .before .before .before .before .before .before .before .faces2 .given) (c .before .before .before .before .length-at3 .ensures)
+slice-aggregate-answer-3 c = front (c .before .before .before .before .length-at3 .result) 8
+    (c .before .before .before .before .before .before .before .before .fill3 .last .1 .1 .0)
+    (c .before .before .before .before .before .before .before .faces2 .given)
+    (c .before .before .before .before .length-at3 .ensures)
 
 slice-aggregate-answer-4 : tie.Need-slice-aggregate-answer-4
-slice-aggregate-answer-4 c = front (c .before .before .before .before .length-at4 .result) 40 (replicate 40 (pos 77)) refl (c .before .before .before .before .length-at4 .ensures)
+slice-aggregate-answer-4 c = front (c .before .before .before .before .length-at4 .result) 40
+    (replicate 40 (pos 77)) refl (c .before .before .before .before .length-at4 .ensures)
 
 pub call-spec : {M : Type 1} → statement M
 call-spec =

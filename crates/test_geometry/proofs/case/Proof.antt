@@ -9,7 +9,10 @@ answer-requires : tie.Need-answer-requires
 answer-requires c κs = (
   record { is = sym (c .before .before .before .is-run .ensures) ∙ not-false _ (c .before .before .if5 .left) },
   record { is = sym (c .before .is-run2 .ensures) ∙ not-false _ (c .if6 .left) },
-  record { x = c .before .before .before .before .before .before .before .before .before .if3 .left; y = c .before .before .before .before .before .before .if4 .left },
+  record {
+    x = c .before .before .before .before .before .before .before .before .before .if3 .left;
+    y = c .before .before .before .before .before .before .if4 .left;
+  },
 )
 
 pub case-spec : {M : Type 1} → statement M

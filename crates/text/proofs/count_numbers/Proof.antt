@@ -1,4 +1,5 @@
--- `text::count_numbers` meets its contract: n numbers are passed, and those from `at` on are still to come. Assumes nothing.
+-- `text::count_numbers` meets its contract: n numbers are passed, and those from `at` on are still to come. Assumes
+-- nothing.
 use Prim.Native.Nat.{_≤_, _-_}
 use mathlib.Core.Path.{_≡_, refl, sym, ap, _∙_, subst}
 use native.Mathlib.Nat.{add-zero}
@@ -13,7 +14,8 @@ use Rattle.text.proofs.count_numbers.Statement.{statement}
 use Rattle.text.proofs.count_numbers.Tie as tie
 
 abbrev Inv-loop : tie.InvT-loop
-Inv-loop line at₀ n₀ at n = (n ≤ at) × (at ≤ length line) × (parsedOf 0 (numbersOf (words line)) ≡ parsedOf n (numbersFrom line at))
+Inv-loop line at₀ n₀ at n = (n ≤ at) × (at ≤ length line)
+    × (parsedOf 0 (numbersOf (words line)) ≡ parsedOf n (numbersFrom line at))
 
 abbrev μ-loop : tie.MeasureT-loop
 μ-loop line at₀ n₀ at n = length line - at
@@ -24,7 +26,8 @@ loop-holds c = (omega arith, omega arith, refl)
 loop-less : tie.Need-loop-less Inv-loop μ-loop
 loop-less c =
     let l = c .before .before .before .before .before .before .args .line .now in
-    let next = subst (NextAs l (c .before .before .before .before .loop .at)) (c .before .end .given .1) (c .before .before .before .read-next .ensures) in
+    let next = subst (NextAs l (c .before .before .before .before .loop .at)) (c .before .end .given .1)
+    (c .before .before .before .read-next .ensures) in
     omega (arith, next .0, next .1)
 
 loop-again : tie.Need-loop-again Inv-loop μ-loop
@@ -34,7 +37,8 @@ loop-again c =
     let next = subst (NextAs l (i .at)) (c .before .end .given .1) (c .before .before .before .read-next .ensures) in (
       omega (arith, next .0),
       next .1,
-      i .inv .2 ∙ parsed-more (c .before .end .given .0 .0) (i .n) (numbersFrom l (i .at)) (numbersFrom l (c .before .end .given .0 .1 .0)) (next .2),
+      i .inv .2 ∙ parsed-more (c .before .end .given .0 .0) (i .n) (numbersFrom l (i .at))
+          (numbersFrom l (c .before .end .given .0 .1 .0)) (next .2),
     )
 
 returns : tie.Need-returns Inv-loop μ-loop

@@ -12,17 +12,22 @@ returns c = ap numberAs (sym (number-none (c .before .before .args .word .now) (
 returns-2 : tie.Need-returns-2
 returns-2 c =
     let w = c .before .before .before .before .before .before .args .word .now in
-    c .signed .ensures ∙ ap numberAs (sym (number-minus w (c .before .before .before .before .if1 .left) (c .before .before .if2 .taken)))
+    c .signed .ensures ∙ ap numberAs (sym
+    (number-minus w (c .before .before .before .before .if1 .left) (c .before .before .if2 .taken)))
 
 returns-3 : tie.Need-returns-3
 returns-3 c =
     let w = c .before .before .before .before .before .before .before .args .word .now in
-    c .signed2 .ensures ∙ ap numberAs (sym (number-plus w (c .before .before .before .before .before .if1 .left) (c .before .before .before .if2 .left) (c .before .before .if3 .taken)))
+    c .signed2 .ensures ∙ ap numberAs (sym
+    (number-plus w (c .before .before .before .before .before .if1 .left) (c .before .before .before .if2 .left)
+    (c .before .before .if3 .taken)))
 
 returns-4 : tie.Need-returns-4
 returns-4 c =
     let w = c .before .before .before .before .before .before .args .word .now in
-    c .signed3 .ensures ∙ ap numberAs (sym (number-plain w (c .before .before .before .before .if1 .left) (c .before .before .if2 .left) (c .before .if3 .left)))
+    c .signed3 .ensures ∙ ap numberAs (sym
+    (number-plain w (c .before .before .before .before .if1 .left) (c .before .before .if2 .left)
+    (c .before .if3 .left)))
 
 pub number-of-spec : {M : Type 1} → statement M
 number-of-spec =

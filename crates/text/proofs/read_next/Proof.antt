@@ -25,7 +25,9 @@ returns-2 c =
     let fits : SFits w64 (c .before .z .given .0 .0) = search needs in (
       omega (arith, gap .ensures .from),
       word .ensures .within,
-      numbers-value (a .line .now) (a .at) (gap .result) (gap .ensures) more (word .result) (word .ensures) _ (sym (c .before .before .before .number-of .ensures) ∙ c .before .z .given .1 ∙ ap Value (sym (toZ-ofZ fits))),
+      numbers-value (a .line .now) (a .at) (gap .result) (gap .ensures) more (word .result) (word .ensures) _
+          (sym (c .before .before .before .number-of .ensures) ∙ c .before .z .given .1
+          ∙ ap Value (sym (toZ-ofZ fits))),
     )
 
 returns-3 : tie.Need-returns-3
@@ -33,7 +35,9 @@ returns-3 c =
     let a = c .before .before .before .before .before .before .before .before .args in
     let gap = c .before .before .before .before .before .before .run-end in
     let word = c .before .before .before .before .run-end2 in
-    numbers-wrong (a .line .now) (a .at) (gap .result) (gap .ensures) (c .before .before .before .before .before .if1 .left) (word .result) (word .ensures) (sym (c .before .before .number-of .ensures) ∙ c .enum-told .given .1)
+    numbers-wrong (a .line .now) (a .at) (gap .result) (gap .ensures)
+    (c .before .before .before .before .before .if1 .left) (word .result) (word .ensures)
+    (sym (c .before .before .number-of .ensures) ∙ c .enum-told .given .1)
 
 pub read-next-spec : {M : Type 1} → statement M
 read-next-spec =

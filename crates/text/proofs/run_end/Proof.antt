@@ -12,7 +12,8 @@ use Rattle.text.proofs.run_end.Statement.{statement}
 use Rattle.text.proofs.run_end.Tie as tie
 
 abbrev Inv-loop : tie.InvT-loop
-Inv-loop line at blanks i₀ i = (at ≤ i) × (i ≤ length line) × ((k : ℕ) → at ≤ k → k < i → blank (getD line k 0) ≡ blanks)
+Inv-loop line at blanks i₀ i = (at ≤ i) × (i ≤ length line)
+    × ((k : ℕ) → at ≤ k → k < i → blank (getD line k 0) ≡ blanks)
 
 abbrev μ-loop : tie.MeasureT-loop
 μ-loop line at blanks i₀ i = length line - i
@@ -30,14 +31,25 @@ differ false false e = absurd (true≢false (sym e))
 returns : tie.Need-returns Inv-loop μ-loop
 returns c =
     let i = c .before .before .before .before .loop .inv in
-    record { from = omega arith; within = omega arith; run = i .2; ends = λ _. sym (c .before .is-blank .ensures) ∙ differ _ _ (c .if1 .taken) }
+    record {
+      from = omega arith;
+      within = omega arith;
+      run = i .2;
+      ends = λ _. sym (c .before .is-blank .ensures)
+          ∙ differ _ _ (c .if1 .taken);
+    }
 
 loop-again : tie.Need-loop-again Inv-loop μ-loop
 loop-again c =
     let a = c .before .before .before .before .before .before .args in
     let i = c .before .before .before .before .loop in
-    let here : blank (getD (a .line .now) (i .i) 0) ≡ a .blanks = sym (c .before .is-blank .ensures) ∙ beq-true _ _ (not-false _ (c .if1 .left)) in
-    (omega arith, omega arith, (λ k p q. below-more (λ k. a .at ≤ k → blank (getD (a .line .now) k 0) ≡ a .blanks) (i .i) (λ k q p. i .inv .2 k p q) (λ p. here) k q p))
+    let here : blank (getD (a .line .now) (i .i) 0) ≡ a .blanks = sym (c .before .is-blank .ensures)
+    ∙ beq-true _ _ (not-false _ (c .if1 .left)) in (
+      omega arith,
+      omega arith,
+      (λ k p q. below-more (λ k. a .at ≤ k → blank (getD (a .line .now) k 0) ≡ a .blanks)
+          (i .i) (λ k q p. i .inv .2 k p q) (λ p. here) k q p),
+    )
 
 returns-2 : tie.Need-returns-2 Inv-loop μ-loop
 returns-2 c =

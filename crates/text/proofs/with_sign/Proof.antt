@@ -1,4 +1,5 @@
--- `text::with_sign` meets its contract: a number below 0 is one less than the negation of its magnitude less one, which fits. Assumes nothing.
+-- `text::with_sign` meets its contract: a number below 0 is one less than the negation of its magnitude less one, which
+-- fits. Assumes nothing.
 use mathlib.Core.Path.{_≡_, refl, sym, ap, _∙_, subst}
 use mathlib.Core.Bool.{Bool, true, false, cond}
 use Prim.Native.Nat.{ℕ, zero, suc, _-_, _^_, _≤_, _<_}
@@ -24,7 +25,8 @@ module _ (m : ℕ) (h : m < 2 ^ 63) where
   below-fits : SFits w64 (negsuc 0 -ℤ toZ w64 m)
   below-fits = subst (SFits w64) (sym below) (record { sfits = h })
 
-  below-is : (n : ℕ) (minus : Bool) → minus ≡ true → n ≡ suc m → toZ w64 (ofZ w64 (negsuc 0 -ℤ toZ w64 m)) ≡ cond minus (negℤ (pos n)) (pos n)
+  below-is : (n : ℕ) (minus : Bool) → minus ≡ true → n ≡ suc m → toZ w64 (ofZ w64 (negsuc 0 -ℤ toZ w64 m))
+      ≡ cond minus (negℤ (pos n)) (pos n)
   below-is n minus e f = toZ-ofZ below-fits ∙ below ∙ rw (e, f)
 
 module _ (n : ℕ) (minus : Bool) (pre : n ≤ most minus) where
@@ -38,7 +40,8 @@ module _ (n : ℕ) (minus : Bool) (pre : n ≤ most minus) where
   plus-is e = rw (e, toZ-pos w64 (plus-fits e))
 
 cast-result : tie.Need-cast-result
-cast-result c = let a = c .before .args in record { sfits = plus-fits (a .n) (a .minus) (c .before .pre) (not-true (a .minus) (c .if1 .taken)) }
+cast-result c = let a = c .before .args in
+    record { sfits = plus-fits (a .n) (a .minus) (c .before .pre) (not-true (a .minus) (c .if1 .taken)) }
 
 returns : tie.Need-returns
 returns c = let a = c .before .args in plus-is (a .n) (a .minus) (c .before .pre) (not-true (a .minus) (c .if1 .taken))
@@ -53,12 +56,16 @@ returns-2 c =
 cast-result-2 : tie.Need-cast-result-2
 cast-result-2 c =
     let a = c .before .before .args in
-    record { sfits = minus-fits (a .n) (a .minus) (c .before .before .pre) (not-false (a .minus) (c .before .if1 .left)) }
+    record {
+      sfits = minus-fits (a .n) (a .minus) (c .before .before .pre)
+          (not-false (a .minus) (c .before .if1 .left));
+    }
 
 sub-result-2 : tie.Need-sub-result-2
 sub-result-2 c =
     let a = c .before .before .args in
-    below-fits (a .n - 1) (minus-fits (a .n) (a .minus) (c .before .before .pre) (not-false (a .minus) (c .before .if1 .left)))
+    below-fits (a .n - 1) (minus-fits (a .n) (a .minus) (c .before .before .pre)
+    (not-false (a .minus) (c .before .if1 .left)))
 
 returns-3 : tie.Need-returns-3
 returns-3 c =
@@ -67,4 +74,5 @@ returns-3 c =
     below-is (a .n - 1) (minus-fits (a .n) (a .minus) (c .before .before .pre) e) (a .n) (a .minus) e (omega arith)
 
 pub with-sign-spec : {M : Type 1} → statement M
-with-sign-spec = tie.close (tie.spec cast-result returns returns-2 (λ c. omega arith) cast-result-2 sub-result-2 returns-3)
+with-sign-spec = tie.close (tie.spec cast-result returns returns-2
+    (λ c. omega arith) cast-result-2 sub-result-2 returns-3)

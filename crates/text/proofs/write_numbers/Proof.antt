@@ -1,4 +1,5 @@
--- `text::write_numbers` meets its contract: n numbers are written, and those from `at` on are still to come. Assumes nothing.
+-- `text::write_numbers` meets its contract: n numbers are written, and those from `at` on are still to come. Assumes
+-- nothing.
 use Prim.Native.Nat.{_+_, _-_, _≤_, _<_}
 use mathlib.Core.Path.{_≡_, refl, sym, ap, _∙_, subst}
 use native.Mathlib.Omega.{arith}
@@ -32,12 +33,15 @@ slice-set-from-z c =
     let i = c .before .before .before .before .loop in
     let v = c .before .z .given in
     let next = subst (NextAs l (i .at)) (v .1) (c .before .before .before .read-next .ensures) in
-    let room : i .n < size = room-more (v .0 .0) size (i .n) (numbersFrom l (i .at)) (numbersFrom l (v .0 .1 .0)) (next .2) (i .inv .3) .0 in
+    let room : i .n < size = room-more (v .0 .0) size (i .n) (numbersFrom l (i .at)) (numbersFrom l (v .0 .1 .0))
+    (next .2) (i .inv .3) .0 in
     omega arith
 
 loop-less : tie.Need-loop-less Inv-loop μ-loop
 loop-less c =
-    let next = subst (NextAs (c .before .before .before .before .before .before .args .line .now) (c .before .before .before .before .loop .at)) (c .before .z .given .1) (c .before .before .before .read-next .ensures) in
+    let next = subst (NextAs (c .before .before .before .before .before .before .args .line .now)
+    (c .before .before .before .before .loop .at)) (c .before .z .given .1)
+    (c .before .before .before .read-next .ensures) in
     omega (arith, next .0, next .1)
 
 loop-again : tie.Need-loop-again Inv-loop μ-loop
@@ -61,17 +65,20 @@ loop-again c =
 returns : tie.Need-returns Inv-loop μ-loop
 returns c =
     let i = c .before .before .before .loop in
-    let next = subst (NextAs (c .before .before .before .before .before .args .line .now) (i .at)) (c .enum-told .given .1) (c .before .before .read-next .ensures) in
+    let next = subst (NextAs (c .before .before .before .before .before .args .line .now) (i .at))
+    (c .enum-told .given .1) (c .before .before .read-next .ensures) in
     sym (i .inv .4 ∙ ap (written (i .list) (i .n)) next)
 
 returns-2 : tie.Need-returns-2 Inv-loop μ-loop
 returns-2 c =
     let i = c .before .before .before .loop in
-    let next = subst (NextAs (c .before .before .before .before .before .args .line .now) (i .at)) (c .enum-told2 .given .1) (c .before .before .read-next .ensures) in
+    let next = subst (NextAs (c .before .before .before .before .before .args .line .now) (i .at))
+    (c .enum-told2 .given .1) (c .before .before .read-next .ensures) in
     absurd (subst (Room (length (c .before .before .before .before .before .args .list .now)) (i .n)) next (i .inv .3))
 
 mul-z : tie.Need-mul-z Inv-loop μ-loop
-mul-z c = let h : c .before .before .before .before .loop .n < length (c .before .before .before .before .loop .list) = slice-set-from-z c in omega arith
+mul-z c = let h : c .before .before .before .before .loop .n < length (c .before .before .before .before .loop .list) =
+    slice-set-from-z c in omega arith
 
 pub write-numbers-spec : {M : Type 1} → statement M
 write-numbers-spec =

@@ -1,4 +1,5 @@
--- `reason_corners::parts_rings` meets its contract: the reverse lies on what is left of the ring exactly where it lies on the ring. Assumes nothing.
+-- `reason_corners::rings_differ` meets its contract: the reverse lies on what is left of the ring exactly where it lies
+-- on the ring. Assumes nothing.
 use mathlib.Core.Path.{_≡_, sym, ap, _∙_}
 use mathlib.Core.Bool.{not}
 use Prim.Native.Nat.{ℕ, _+_, _*_, _-_, _<_}
@@ -8,12 +9,13 @@ use Rattle.map.specs.Rows.{Map}
 use Rattle.map.specs.Darts.{ring, among}
 use Rattle.reason_corners.specs.Drawing.{Joined}
 use Rattle.reason_corners.proofs.Walked.{meets, ring-meets, meets-end, meets-here, meets-on, meets-last}
-use Rattle.reason_corners.proofs.parts_rings.Statement.{statement}
-use Rattle.reason_corners.proofs.parts_rings.Tie as tie
+use Rattle.reason_corners.proofs.rings_differ.Statement.{statement}
+use Rattle.reason_corners.proofs.rings_differ.Tie as tie
 
 abbrev Inv-loop : tie.InvT-loop
 Inv-loop edges e k p₀ n₀ n-end p n =
-    (p < e * 2 + 2) × ((new : ℕ) (m : Map) → Joined edges e (k .start) (k .end) new m → among (ring m (fwd new)) (bwd new) ≡ meets edges e new m (e * 2 + 2 - n) p)
+    (p < e * 2 + 2) × ((new : ℕ) (m : Map) → Joined edges e (k .start) (k .end) new m
+    → among (ring m (fwd new)) (bwd new) ≡ meets edges e new m (e * 2 + 2 - n) p)
 
 abbrev μ-loop : tie.MeasureT-loop
 μ-loop edges e k p₀ n₀ n-end p n = n-end - n
@@ -25,7 +27,8 @@ returns : tie.Need-returns Inv-loop μ-loop
 returns c =
     let s = c .before .before .before in
     let w = c .before .before .loop in
-    λ new m j. sym (ap not (w .inv .1 new m j ∙ meets-here (s .pre .0) j (w .n) (w .p) (c .before .loop-test .taken) (c .if1 .taken)))
+    λ new m j. sym (ap not (w .inv .1 new m j
+    ∙ meets-here (s .pre .0) j (w .n) (w .p) (c .before .loop-test .taken) (c .if1 .taken)))
 
 drawn-next-requires : tie.Need-drawn-next-requires Inv-loop μ-loop
 drawn-next-requires c κs =
@@ -38,15 +41,21 @@ returns-2 c =
     let s = b .before .before in
     let w = b .before .loop in
     let d = c .before .drawn-next in
-    λ new m j. sym (ap not (w .inv .1 new m j ∙ meets-last (s .pre .0) j (w .n) (w .p) (b .loop-test .taken) (w .inv .0) (c .before .before .if1 .left) (d .result) (d .ensures .0) (d .ensures .1 new m j) (c .if2 .taken)))
+    λ new m j. sym (ap not (w .inv .1 new m j
+    ∙ meets-last (s .pre .0) j (w .n) (w .p) (b .loop-test .taken) (w .inv .0) (c .before .before .if1 .left)
+    (d .result) (d .ensures .0) (d .ensures .1 new m j) (c .if2 .taken)))
 
 loop-again : tie.Need-loop-again Inv-loop μ-loop
 loop-again c =
     let b = c .before .before .before in
     let s = b .before .before in
     let w = b .before .loop in
-    let d = c .before .drawn-next in
-    (d .ensures .0, λ new m j. w .inv .1 new m j ∙ meets-on (s .pre .0) j (w .n) (w .p) (b .loop-test .taken) (w .inv .0) (c .before .before .if1 .left) (d .result) (d .ensures .0) (d .ensures .1 new m j) (c .if2 .left))
+    let d = c .before .drawn-next in (
+      d .ensures .0,
+      λ new m j. w .inv .1 new m j
+          ∙ meets-on (s .pre .0) j (w .n) (w .p) (b .loop-test .taken) (w .inv .0) (c .before .before .if1 .left)
+          (d .result) (d .ensures .0) (d .ensures .1 new m j) (c .if2 .left),
+    )
 
 returns-3 : tie.Need-returns-3 Inv-loop μ-loop
 returns-3 c =
@@ -54,8 +63,8 @@ returns-3 c =
     let w = c .before .loop in
     λ new m j. sym (ap not (w .inv .1 new m j ∙ meets-end (s .pre .0) j (w .n) (w .p) (c .loop-test .left)))
 
-pub parts-rings-spec : {M : Type 1} → statement M
-parts-rings-spec =
+pub rings-differ-spec : {M : Type 1} → statement M
+rings-differ-spec =
     tie.close
     (tie.spec
     Inv-loop

@@ -1,4 +1,5 @@
--- `edit_remove::clear` meets its contract: the faces healed where they are two, and the edge undrawn. Assumes nothing.
+-- `edit_remove::remove_and_heal` meets its contract: the faces healed where they are two, and the edge undrawn. Assumes
+-- nothing.
 use borrow.Author.Needs.{needs, sfits-of}
 use mathlib.Core.Path.{_≡_, sym, ap, _∙_}
 use lib.IntN.{pos, natAbs}
@@ -15,8 +16,8 @@ use Rattle.face_rows.proofs.Formed.{formed-healable, formed-held}
 use Rattle.face_rows.proofs.Healed.{healed-edge-count}
 use Rattle.edit_remove.proofs.Heal.{healed-held}
 use Rattle.edit_remove.proofs.Undraw.{cleared-one, cleared-two, cleared-as}
-use Rattle.edit_remove.proofs.clear.Statement.{statement}
-use Rattle.edit_remove.proofs.clear.Tie as tie
+use Rattle.edit_remove.proofs.remove_and_heal.Statement.{statement}
+use Rattle.edit_remove.proofs.remove_and_heal.Tie as tie
 
 undraw-requires : tie.Need-undraw-requires
 undraw-requires c κs =
@@ -24,7 +25,11 @@ undraw-requires c κs =
     let s = b .before in
     let a = s .args in
     let cells = edge-cells (a .edges .now) (a .i) (s .pre .cells .ranges) in
-    record { held = held (s .pre .formed); row = s .pre .row; natural = ap nonNeg (sent (b .left .given) ∙ cells .left) }
+    record {
+      held = held (s .pre .formed);
+      row = s .pre .row;
+      natural = ap nonNeg (sent (b .left .given) ∙ cells .left);
+    }
 
 returns : tie.Need-returns
 returns c =
@@ -35,9 +40,12 @@ returns c =
     let a = s .args in
     let row = edgeAt (a .edges .now) (a .i) in
     let cells = edge-cells (a .edges .now) (a .i) (s .pre .cells .ranges) in
-    let one : row .left ≡ row .right = ap natAbs (sym (cells .left) ∙ word-is (sfits-of (b .left .given)) (sfits-of (t .before .right .given)) (t .if1 .taken) ∙ cells .right) in
+    let one : row .left ≡ row .right = ap natAbs
+    (sym (cells .left) ∙ word-is (sfits-of (b .left .given)) (sfits-of (t .before .right .given)) (t .if1 .taken)
+    ∙ cells .right) in
     cleared-as (s .pre .formed) (a .i) (a .makes) (c .carried .ensures)
-    (cleared-one (s .pre .formed) (a .i) (a .makes) one (s .pre .kept one) (sent (b .left .given) ∙ cells .left) (u .undraw .ensures))
+    (cleared-one (s .pre .formed) (a .i) (a .makes) one (s .pre .kept one) (sent (b .left .given) ∙ cells .left)
+    (u .undraw .ensures))
     (rw (same-eq (row .left) (row .right) one))
 
 heal-faces-requires : tie.Need-heal-faces-requires
@@ -48,7 +56,8 @@ heal-faces-requires c κs =
     let a = s .args in
     let cells = edge-cells (a .edges .now) (a .i) (s .pre .cells .ranges) in
     rw (sent (b .left .given) ∙ cells .left, sent (t .before .right .given) ∙ cells .right)
-    (formed-healable (s .pre .formed) (a .i) (s .pre .row) (λ e. t .if1 .left (ap (ofZ w64) (cells .left ∙ ap pos e ∙ sym (cells .right)))))
+    (formed-healable (s .pre .formed) (a .i) (s .pre .row)
+    (λ e. t .if1 .left (ap (ofZ w64) (cells .left ∙ ap pos e ∙ sym (cells .right)))))
 
 undraw-requires-2 : tie.Need-undraw-requires-2
 undraw-requires-2 c κs =
@@ -59,7 +68,8 @@ undraw-requires-2 c κs =
     let a = s .args in
     let row = edgeAt (a .edges .now) (a .i) in
     let cells = edge-cells (a .edges .now) (a .i) (s .pre .cells .ranges) in
-    let r = g .heal-faces .ensures row (sym (ap natAbs (sent (b .left .given) ∙ cells .left))) (sym (ap natAbs (sent (t .before .right .given) ∙ cells .right))) in
+    let r = g .heal-faces .ensures row (sym (ap natAbs (sent (b .left .given) ∙ cells .left)))
+    (sym (ap natAbs (sent (t .before .right .given) ∙ cells .right))) in
     let v = sent (c .before .before .struct-told .given .1 .0 .1 .1 .1 .0 .1) in
     record {
       held = healed-held (s .pre .formed) row (a .makes) (r .0);
@@ -78,15 +88,17 @@ returns-2 c =
     let a = s .args in
     let row = edgeAt (a .edges .now) (a .i) in
     let cells = edge-cells (a .edges .now) (a .i) (s .pre .cells .ranges) in
-    let r = g .heal-faces .ensures row (sym (ap natAbs (sent (b .left .given) ∙ cells .left))) (sym (ap natAbs (sent (t .before .right .given) ∙ cells .right))) in
+    let r = g .heal-faces .ensures row (sym (ap natAbs (sent (b .left .given) ∙ cells .left)))
+    (sym (ap natAbs (sent (t .before .right .given) ∙ cells .right))) in
     let v = sent (d .struct-told .given .1 .0 .1 .1 .1 .0 .1) ∙ r .1 in
-    let two = same-false (row .left) (row .right) (λ e. t .if1 .left (ap (ofZ w64) (cells .left ∙ ap pos e ∙ sym (cells .right)))) in
+    let two = same-false (row .left) (row .right)
+    (λ e. t .if1 .left (ap (ofZ w64) (cells .left ∙ ap pos e ∙ sym (cells .right)))) in
     cleared-as (s .pre .formed) (a .i) (a .makes) (c .carried2 .ensures)
     (cleared-two (s .pre .formed) (a .i) (a .makes) (s .pre .row) (r .0) v (u .undraw2 .ensures))
     (v ∙ sym (rw two))
 
-pub clear-spec : {M : Type 1} → statement M
-clear-spec =
+pub remove-and-heal-spec : {M : Type 1} → statement M
+remove-and-heal-spec =
     tie.close
     (tie.spec
     (λ c. search needs)
