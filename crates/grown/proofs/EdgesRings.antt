@@ -9,7 +9,7 @@ use native.Mathlib.Omega.{arith}
 use lib.ListN.{length, length-map}
 use Rattle.lists.specs.Tests.{iterate}
 use Rattle.lists.specs.Members.{Distinct}
-use Rattle.lists.proofs.Members.{each-cons}
+use Rattle.lists.proofs.Members.{each-cons, any-some, some-any}
 use Rattle.lists.proofs.Perms.{perm-of-distinct, perm-length, injective-of-perm}
 use Rattle.planar_maps.specs.Map.{Arc, Dart, darts, Linked}
 use Rattle.planar_maps.specs.Pieces.{nums}
@@ -21,7 +21,6 @@ use Rattle.planar_maps.proofs.Joins.{leads-keep}
 use Rattle.rotation.proofs.Clock.{le-or}
 use Rattle.map.specs.Rows.{Map}
 use Rattle.map.specs.Darts.{arcs, directed, leaves, next, bears, stepsTo, ring, among, lowestEdge}
-use Rattle.map.proofs.Scans.{any-some, some-any}
 
 -- a list in which nothing stands twice, part of another, is no longer than it
 distinct-length : {A : Type 0} (l k : List A) → Distinct l → ((x : A) → List·Memᴰ x l → List·Memᴰ x k)
