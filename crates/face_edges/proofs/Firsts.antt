@@ -18,8 +18,7 @@ use Rattle.curves.proofs.Runs.{and-left, and-right}
 use Rattle.planar_maps.specs.Map.{Dart}
 use Rattle.planar_maps.specs.Rings.{Leads}
 use Rattle.planar_maps.proofs.Rings.{next-in}
-use Rattle.planar_maps.proofs.Turns.{leads-join}
-use Rattle.planar_maps.proofs.Joins.{leads-keep}
+use Rattle.planar_maps.proofs.Leads.{leads-join, leads-keep}
 use Rattle.map.specs.Limits.{edgeWidth}
 use Rattle.map.specs.Rows.{Map}
 use Rattle.map.specs.Darts.{directed, next, bears, ring, among, lower}

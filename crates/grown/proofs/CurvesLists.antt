@@ -11,6 +11,7 @@ use Rattle.lists.specs.Tests.{same}
 use Rattle.lists.specs.Scans.{keep}
 use Rattle.lists.proofs.Bools.{same-false, same-refl}
 use Rattle.lists.proofs.Keeps.{keep-all}
+use Rattle.lists.proofs.Members.{map-same}
 use Rattle.grown.proofs.Readings.{without}
 
 -- ---- map and keep
@@ -26,10 +27,6 @@ module _ {A B : Type 0} (f : A → B) where
   pub map-unseen : (g : A → A) (l : List A) → ((x : A) → f (g x) ≡ f x) → map f (map g l) ≡ map f l
   map-unseen g [] k = refl
   map-unseen g (x ∷ l) k = ap₂ _∷_ (k x) (map-unseen g l k)
-
-pub map-same : {A : Type 0} (f : A → A) (l : List A) → ((x : A) → List·Memᴰ x l → f x ≡ x) → map f l ≡ l
-map-same f [] h = refl
-map-same f (x ∷ l) h = ap₂ _∷_ (h x (List·Memᴰ·head refl)) (map-same f l (λ y m. h y (List·Memᴰ·tail m)))
 
 -- ---- what holds of all elements and pairs, of those that are kept
 

@@ -16,8 +16,7 @@ use Rattle.planar_maps.specs.Pieces.{nums}
 use Rattle.planar_maps.specs.Rings.{sameDart, Leads}
 use Rattle.planar_maps.proofs.Rings.{next-in, closed-turned, sameDart-true, sameDart-refl}
 use Rattle.planar_maps.proofs.Hooks.{distinct-darts}
-use Rattle.planar_maps.proofs.Turns.{leads-on, leads-join}
-use Rattle.planar_maps.proofs.Joins.{leads-keep}
+use Rattle.planar_maps.proofs.Leads.{leads-on, leads-join, leads-keep}
 use Rattle.rotation.proofs.Clock.{le-or}
 use Rattle.map.specs.Rows.{Map}
 use Rattle.map.specs.Darts.{arcs, directed, leaves, next, bears, stepsTo, ring, among, lowestEdge}

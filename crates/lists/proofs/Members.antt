@@ -4,7 +4,7 @@ use mathlib.Core.Path.{_≡_, refl, sym, ap, ap₂, _∙_}
 use mathlib.Core.Logic.{_⊎_, inl, inr}
 use mathlib.Core.Bool.{Bool, true, false, cond, true≢false, false≢true}
 use mathlib.Core.List.{List, [], _∷_, map, List·Memᴰ, List·Memᴰ·head, List·Memᴰ·tail, List·Memᴰ·cases-cons}
-use mathlib.Core.List.{List·Memᴰ·not-nil}
+use mathlib.Core.List.{List·Memᴰ·not-nil, map-id}
 use mathlib.Core.List.{flatMap, Memᴰ·append-left, Memᴰ·append-right, List·Memᴰ·append-cases}
 use mathlib.Core.Option.{some, Option·getD}
 use Rattle.lists.specs.Scans.{anyOf, allOf, find, isSome}
@@ -14,6 +14,14 @@ use Rattle.lists.proofs.Bools.{which, and-true, and-is, or-true, or-lef
 pub each-cons : {A : Type 0} {p : A → Type 0} {x : A} {l : List A} → p x → ((y : A) → List·Memᴰ y l → p y) → (y : A)
     → List·Memᴰ y (x ∷ l) → p y
 each-cons {p = p} px h y m = elim (List·Memᴰ·cases-cons m) [ inl e ↦ rw e px | inr k ↦ h y k ]
+
+pub each-two : {A : Type 0} (p : A → Type 0) {x y : A} {l : List A} → p x → p y → ((z : A) → List·Memᴰ z l → p z)
+    → (z : A) → List·Memᴰ z (x ∷ y ∷ l) → p z
+each-two p px py h = each-cons {p = p} px (each-cons {p = p} py h)
+
+-- what stands in a list and is not its first stands behind it
+pub in-rest : {A : Type 0} {x y : A} {l : List A} → ((x ≡ y) → ⊥) → List·Memᴰ x (y ∷ l) → List·Memᴰ x l
+in-rest h m = elim (List·Memᴰ·cases-cons m) [ inl e ↦ absurd (h e) | inr k ↦ k ]
 
 -- `All` by members, and members of `All`
 pub all-of : {A : Type 0} {R : A → Type 0} (l : List A) → ((x : A) → List·Memᴰ x l → R x) → All R l
@@ -27,6 +35,9 @@ each-of R (y ∷ l) h x k = each-cons {p = R} (h .0) (each-of R l (h .1)) x k
 pub map-cong : {A B : Type 0} (f g : A → B) (l : List A) → ((x : A) → List·Memᴰ x l → f x ≡ g x) → map f l ≡ map g l
 map-cong f g [] h = refl
 map-cong f g (x ∷ l) h = ap₂ _∷_ (h x (List·Memᴰ·head refl)) (map-cong f g l (λ y m. h y (List·Memᴰ·tail m)))
+
+pub map-same : {A : Type 0} (f : A → A) (l : List A) → ((x : A) → List·Memᴰ x l → f x ≡ x) → map f l ≡ l
+map-same f l h = map-cong f (λ x. x) l h ∙ map-id l
 
 -- p takes one of them, or none
 pub takes? : {A : Type 0} (p : A → Bool) (l : List A)
