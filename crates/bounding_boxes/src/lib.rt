@@ -1,7 +1,6 @@
 // The extent of a curve: the least box around its points. Curves whose extents lie apart share no point.
 use plane::Point;
 ghost use mathlib.Core.Path.{_≡_};
-ghost use Prim.Native.Nat.{min, max};
 ghost use Rattle.curves.specs.Curves.{Run, curveOf};
 ghost use Rattle.bounding_boxes.specs.Extents.{widen, extentOf, apart};
 
@@ -12,27 +11,15 @@ pub struct Extent {
     pub high: u64,
 }
 
-fn least(a: u64, b: u64) -> u64
-    ensures { λ r. ⌜ r ≡ min a b ⌝ }
-{
-    if a < b { a } else { b }
-}
-
-fn most(a: u64, b: u64) -> u64
-    ensures { λ r. ⌜ r ≡ max a b ⌝ }
-{
-    if a < b { b } else { a }
-}
-
 // The extent with a point besides.
 fn widened(e: Extent, p: Point) -> Extent
     ensures { λ r. ⌜ r ≡ widen e p ⌝ }
 {
     Extent {
-        left: least(e.left, p.x),
-        right: most(e.right, p.x),
-        low: least(e.low, p.y),
-        high: most(e.high, p.y),
+        left: plane::least(e.left, p.x),
+        right: plane::greatest(e.right, p.x),
+        low: plane::least(e.low, p.y),
+        high: plane::greatest(e.high, p.y),
     }
 }
 

@@ -10,7 +10,7 @@ use lib.ListN.{length}
 use Rattle.lists.specs.Scans.{allOf}
 use Rattle.lists.specs.Members.{Pairs, Distinct}
 use Rattle.lists.proofs.Bools.{and-true, and-is, not-true}
-use Rattle.lists.proofs.Members.{all-of, each-of}
+use Rattle.lists.proofs.Members.{all-of, each-of, all-each, each-all}
 use Rattle.plane.specs.declared.Point.{Point}
 use Rattle.plane.specs.Points.{InRange, maxCoordinate, samePoint}
 use Rattle.curves.specs.Curves.{Curve, points, lastPoint, maxPoints}
@@ -21,7 +21,6 @@ use Rattle.geometry.proofs.Theorems.{samePoint-iff, meetWrongly-iff, good-iff}
 use Rattle.map.specs.Rows.{Edge, Map, node}
 use Rattle.map.specs.Form.{curveFits, formed}
 use Rattle.map.proofs.Laws.{formed-is}
-use Rattle.map.proofs.Scans.{all-each, each-all}
 use Rattle.grown.specs.Good.{Kept, Surveyed}
 use Rattle.grown.proofs.LawfulForm.{Lawful}
 use Rattle.grown.proofs.Apart.{curve-good, curve-long}

@@ -7,6 +7,7 @@ use lib.ListN.{length, length-map}
 use Rattle.lists.specs.Tests.{same}
 use Rattle.lists.specs.Members.{Distinct}
 use Rattle.lists.proofs.Bools.{same-refl, same-true, same-eq}
+use Rattle.lists.proofs.Members.{all-each, each-all}
 use Rattle.planar_maps.specs.Map.{Arc, fwd, bwd, rev}
 use Rattle.planar_maps.specs.Pieces.{label, along, stay, nums, Euler}
 use Rattle.planar_maps.specs.Rings.{sameDart}
@@ -20,7 +21,6 @@ use Rattle.map.specs.Rows.{Edge, Map}
 use Rattle.map.specs.Darts.{arcs, directed, leaves, next, bears, way}
 use Rattle.map.specs.Form.{formed}
 use Rattle.map.proofs.Laws.{formed-is}
-use Rattle.map.proofs.Scans.{all-each, each-all}
 use Rattle.grown.specs.Good.{Woven}
 use Rattle.grown.proofs.Readings.{arcOf, arc-at, bears-left, bears-right}
 use Rattle.grown.proofs.RowChanges.{nodeNumber}

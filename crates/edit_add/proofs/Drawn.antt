@@ -13,6 +13,7 @@ use Rattle.lists.specs.Scans.{allOf, anyOf}
 use Rattle.lists.specs.Tables.{place}
 use Rattle.lists.specs.declared.Found.the-variants.{At}
 use Rattle.lists.proofs.Bools.{and-is}
+use Rattle.lists.proofs.Members.{each-all}
 use Rattle.curves.specs.Curves.{curveOf, startWay}
 use Rattle.map.specs.declared.Head.{Head}
 use Rattle.map.specs.Limits.{maxNodes, maxEdges, nodeWidth, edgeWidth}
@@ -24,7 +25,6 @@ use Rattle.map.specs.Reasons.{firstReason, reasons}
 use Rattle.map.proofs.Laws.{formed-is}
 use Rattle.map.proofs.RoundTrip.{whole-rows}
 use Rattle.map.proofs.Linked as formedLinks
-use Rattle.map.proofs.Scans.{each-all}
 use Rattle.tables.specs.Tables.{sameZ, column, nodesOf, edgesOf, facesOf, nodeAt, edgeAt, nodeMap}
 use Rattle.tables.proofs.Rows.{edges-length, edges-getD}
 use Rattle.tables.proofs.Lookups.{node-found}

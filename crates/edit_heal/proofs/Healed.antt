@@ -15,6 +15,7 @@ use Rattle.lists.specs.Scans.{allOf, isSome}
 use Rattle.lists.specs.Tables.{place}
 use Rattle.lists.specs.declared.Found.the-variants.{At}
 use Rattle.lists.specs.Members.{Distinct}
+use Rattle.lists.proofs.Members.{all-each}
 use Rattle.curves.specs.Curves.{Curve, points}
 use Rattle.curves.specs.Edits.{joined}
 use Rattle.curves.proofs.Runs.{and-left, and-right}
@@ -30,7 +31,6 @@ use Rattle.map.specs.Form.{edgeNames, inFace, named}
 use Rattle.map.specs.Edits.{sharedNodes, joint, parts, healedCurve, heal}
 use Rattle.map.specs.Ticket.{carried}
 use Rattle.map.proofs.Laws.{formed-is}
-use Rattle.map.proofs.Scans.{all-each}
 use Rattle.map.proofs.Redirects.{redirect-has, redirect-next}
 use Rattle.tables.specs.Tables.{sameZ, column, nodesOf, edgesOf, nodeAt, edgeAt, edgeMap, closed, EdgeRows}
 use Rattle.tables.proofs.Rows.{nodes-length, edges-length, faces-length, nodes-getD, edges-getD}

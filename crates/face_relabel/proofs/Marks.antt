@@ -14,11 +14,11 @@ use Rattle.lists.specs.Tests.{same}
 use Rattle.lists.specs.Tables.{table}
 use Rattle.lists.specs.Members.{Distinct}
 use Rattle.lists.proofs.Bools.{which, equal?, same-true, same-eq}
+use Rattle.lists.proofs.Rising.{rising, rising-distinct}
 use Rattle.planar_maps.specs.Map.{Dart}
 use Rattle.map.specs.Limits.{edgeWidth, lastNumber}
 use Rattle.map.specs.Rows.{Edge, edge}
 use Rattle.map.specs.Darts.{directed, ring, among, lowestEdge}
-use Rattle.map.proofs.Scans.{rising, rising-distinct}
 use Rattle.grown.proofs.EdgesRings.{among-has}
 use Rattle.tables.specs.Tables.{EdgeRows, edgesOf, edgeMap, edgeAt}
 use Rattle.tables.proofs.Order.{rise, lt-or-ge}

@@ -20,7 +20,7 @@ use Rattle.map.specs.Limits.{faceWidth, lastNumber}
 use Rattle.map.specs.Rows.{rows, faceCells, faceRowOf}
 use Rattle.map.specs.Form.{faceRanges, numbered}
 use Rattle.map.proofs.RoundTrip.{filled-length}
-use Rattle.map.proofs.Scans as scanning
+use Rattle.lists.proofs.Rising as scanning
 use Rattle.tables.specs.Tables.{FaceRows, Rising, sameZ, column, facesOf, closed}
 use Rattle.tables.proofs.Rows.{faces-getD}
 use Rattle.tables.proofs.Lookups.{face-found, face-missing}

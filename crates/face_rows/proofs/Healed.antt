@@ -10,6 +10,7 @@ use lib.ListN.{length, drop, replicate, getD}
 use Rattle.lists.specs.Tests.{same, bit}
 use Rattle.lists.specs.Scans.{allOf, find, isSome, firstOr, keep}
 use Rattle.lists.proofs.Scans.{getD-table}
+use Rattle.lists.proofs.Lookups.{has-map}
 use Rattle.map.specs.declared.Head.{Head}
 use Rattle.map.specs.Limits.{edgeWidth, lastNumber}
 use Rattle.map.specs.Rows.{Node, Edge, Map, rows, filled, nodeCells, edgeCells, edgeOf, mapOf, edge, hasEdge, setFaces}
@@ -18,7 +19,6 @@ use Rattle.map.specs.Darts.{leaves, next, departures}
 use Rattle.map.specs.Links.{redirect, unlinkEdge}
 use Rattle.map.specs.Form.{edgeRanges, numbered}
 use Rattle.map.specs.Edits.{withSides, undrawn, renamed, renamedNode, renamedFaces, makesFace, faceLeft, removeEdge}
-use Rattle.map.proofs.Scans.{has-map}
 use Rattle.tables.specs.Tables.{NodeRows, EdgeRows, nodesOf, edgesOf, facesOf, edgeMap, edgeAt}
 use Rattle.tables.proofs.Rows.{nodes-length, edges-length, edge-numbers}
 use Rattle.tables.proofs.Writes.{Wide, rows-flat, table-edges-wide, wide-map}

@@ -17,7 +17,7 @@ use Rattle.lists.proofs.Bools.{which, same-true, same-refl, same-false, differ}
 use Rattle.map.specs.declared.Head.{Head}
 use Rattle.map.specs.Rows.{Edge, mapOf, headOf, filled, nodeCells, edgeCells}
 use Rattle.map.specs.Edits.{renamed, renamedNode, renamedFaces, withSides}
-use Rattle.map.proofs.Scans as scanning
+use Rattle.lists.proofs.Rising as scanning
 use Rattle.tables.specs.Tables.{nodesOf, edgesOf, facesOf}
 use Rattle.tables.proofs.Rows.{nodes-length, edges-length, faces-length}
 use Rattle.form_ranges.specs.Ranges.{lent}

@@ -15,6 +15,7 @@ use Rattle.lists.specs.Tests.{same}
 use Rattle.lists.specs.Scans.{allOf, find, isSome}
 use Rattle.lists.specs.Tables.{sweep}
 use Rattle.lists.proofs.Bools.{which}
+use Rattle.lists.proofs.Lookups.{has-map}
 use Rattle.plane.specs.declared.Point.{Point}
 use Rattle.plane.specs.Points.{origin}
 use Rattle.curves.specs.Curves.{coordinate}
@@ -27,7 +28,6 @@ use Rattle.map.specs.Faces.{encloses}
 use Rattle.map.specs.Form.{nodeRanges, numbered}
 use Rattle.map.specs.Edits.{Shares, sideOfPoint, sideOfRing, sideOfDart, sideOfNode, withFace, withSides, sharedOut}
 use Rattle.map.proofs.RoundTrip.{node-back}
-use Rattle.map.proofs.Scans.{has-map}
 use Rattle.grown.proofs.EdgesSplit.{side-number}
 use Rattle.tables.specs.Tables.{NodeRows, sameZ, nodeAt, edgeAt, nodesOf, edgesOf, nodeMap}
 use Rattle.tables.proofs.Rows.{nodes-table, edges-table, nodes-length, map-table, edge-row}

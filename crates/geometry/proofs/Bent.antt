@@ -8,7 +8,7 @@ use Prim.Native.Nat.{ℕ, _+_, _*_, _<_}
 use native.Mathlib.Nat.{mul-pos}
 use native.Mathlib.Omega.{arith}
 use lib.IntN.{pos}
-use Rattle.integers.specs.Solver.{con, _⊕_, _⊖_, _⊗_, _≐_, solve}
+use Rattle.integers.specs.Solver.{con, _⊕_, _⊖_, _⊗_, _≐_, solve, zero-of, of-zero, combine}
 use Rattle.integers.specs.Linear.{pos-injective}
 use Rattle.lists.proofs.Bools.{which, or-false, or-no}
 use Rattle.plane.specs.declared.Point.{Point}
@@ -18,7 +18,7 @@ use Rattle.curves.specs.Tests.{straightIn}
 use Rattle.geometry.specs.Spots.{spot, OnSeg, Between}
 use Rattle.geometry.specs.Meaning.{Some}
 use Rattle.geometry.proofs.Segments.{flip, at-last, at-one, at-spot, first-part, far-weight, parts, pin}
-use Rattle.geometry.proofs.Segments.{between-differ, zero-of, of-zero, combine}
+use Rattle.geometry.proofs.Segments.{between-differ}
 use Rattle.geometry.proofs.Meeting.{straightBetween-true, straightBetween-is}
 
 -- ---- three points on a segment

@@ -7,7 +7,7 @@ use native.Mathlib.Decide.{decLe}
 use native.Mathlib.Omega.{arith}
 use borrow.Author.Tests.{ltb-true}
 use lib.IntN.{ℤ, pos, negℤ, _+ℤ_, _-ℤ_, _*ℤ_}
-use Rattle.integers.specs.Solver.{con, ⊝_, _⊕_, _⊖_, _⊗_, _≐_, solve}
+use Rattle.integers.specs.Solver.{con, ⊝_, _⊕_, _⊖_, _⊗_, _≐_, solve, combine}
 use Rattle.integers.specs.Linear.{linear, _≗_, _⇒_}
 use Rattle.integers.specs.Order.{Sign, negative, null, positive, sgn, signed, pos-<, sub-pos, *-pos-zero}
 use Rattle.lists.proofs.Bools.{or-true, and-true}
@@ -16,7 +16,7 @@ use Rattle.plane.specs.Areas.{area, isNull}
 use Rattle.plane.specs.Segments.{overlapMore, stretches}
 use Rattle.geometry.specs.Spots.{spot, At, OnSeg}
 use Rattle.plane.proofs.Laws.{areaE, solve₄}
-use Rattle.geometry.proofs.Segments.{combine, at-first, at-last, at-spot}
+use Rattle.geometry.proofs.Segments.{at-first, at-last, at-spot}
 use Rattle.geometry.proofs.Complete.{areas, area-mirror, mirror, on-x}
 
 -- the four points are on one line

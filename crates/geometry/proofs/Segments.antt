@@ -5,27 +5,15 @@ use Prim.Native.Nat.{ℕ, _+_, _*_, _-_, _≤_, _<_}
 use native.Mathlib.Decide.{ℕ-discrete, decLe}
 use native.Mathlib.Nat.{eq-of-mul-eq-mul-left, mul-pos}
 use native.Mathlib.Omega.{arith}
-use lib.IntN.{ℤ, pos, negℤ, _+ℤ_, _-ℤ_, _*ℤ_, +ℤ-invr}
-use Rattle.integers.specs.Solver.{con, ⊝_, _⊕_, _⊖_, _⊗_, _≐_, solve}
-use Rattle.integers.specs.Linear.{linear, _≗_, _⇒_, pos-injective}
+use lib.IntN.{ℤ, pos, negℤ, _+ℤ_, _-ℤ_, _*ℤ_}
+use Rattle.integers.specs.Solver.{con, ⊝_, _⊕_, _⊖_, _⊗_, _≐_, solve, zero-of, of-zero, combine, times-zero}
+use Rattle.integers.specs.Linear.{pos-injective}
 use Rattle.integers.specs.Order.{pos-<, pos-sub, *-pos-zero}
 use Rattle.plane.specs.declared.Point.{Point}
 use Rattle.plane.proofs.Laws.{point-path}
 use Rattle.geometry.specs.Spots.{Spot, spot, At, OnSeg, Between, SameWay}
 
 -- ---- equations of one coordinate, in ℤ
-
-pub zero-of : {x y : ℤ} → x ≡ y → x -ℤ y ≡ pos 0
-zero-of {x} {y} e = ap (λ (z : ℤ). z -ℤ y) e ∙ +ℤ-invr y
-
-pub of-zero : (x y : ℤ) → x -ℤ y ≡ pos 0 → x ≡ y
-of-zero = linear 2 (λ x y. x ⊖ y ≗ con (pos 0) ⇒ x ≗ y) (omega arith)
-
-pub combine : (α β : ℤ) {p q : ℤ} → p ≡ pos 0 → q ≡ pos 0 → α *ℤ p +ℤ β *ℤ q ≡ pos 0
-combine α β e f = (λ t. α *ℤ e t +ℤ β *ℤ f t) ∙ solve 2 (λ a b. a ⊗ con (pos 0) ⊕ b ⊗ con (pos 0) ≐ con (pos 0)) tt α β
-
-pub times-zero : (α : ℤ) {p : ℤ} → p ≡ pos 0 → α *ℤ p ≡ pos 0
-times-zero α e = (λ t. α *ℤ e t) ∙ solve 1 (λ a. a ⊗ con (pos 0) ≐ con (pos 0)) tt α
 
 -- from the spot X / D to the whole number a, times D
 abbrev pub off : ℕ → ℕ → ℕ → ℤ

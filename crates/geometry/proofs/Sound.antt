@@ -7,7 +7,7 @@ use native.Mathlib.Omega.{arith}
 use borrow.Author.Tests.{leb-false}
 use lib.Dec.{leb}
 use lib.IntN.{ℤ, pos, _+ℤ_, _-ℤ_, _*ℤ_}
-use Rattle.integers.specs.Solver.{con, _⊕_, _⊖_, _⊗_, _≐_, solve}
+use Rattle.integers.specs.Solver.{con, _⊕_, _⊖_, _⊗_, _≐_, solve, zero-of}
 use Rattle.integers.specs.Order.{Sign, negative, null, positive, sgn, signed, pos-<, sub-pos, weighted-pos}
 use Rattle.integers.specs.Order.{weighted-not-pos, weighted-not-neg, *-pos-zero}
 use Rattle.plane.specs.declared.Point.{Point}
@@ -15,7 +15,6 @@ use Rattle.plane.specs.Areas.{area, turnOf, turn}
 use Rattle.plane.specs.Segments.{overlap, apart, straddle, meets}
 use Rattle.plane.proofs.Laws.{areaE}
 use Rattle.geometry.specs.Spots.{Spot, OnSeg}
-use Rattle.geometry.proofs.Segments.{zero-of}
 
 -- ---- a shared point, by weights: j and i of a and b, l and k of c and d
 

@@ -10,7 +10,7 @@ use native.Mathlib.Omega.{arith}
 use borrow.Author.Tests.{lt-ltb}
 use lib.IntN.{ℤ, pos, negℤ, _+ℤ_, _-ℤ_, _*ℤ_}
 use lib.Signed.{_<ℤ_}
-use Rattle.integers.specs.Solver.{con, ⊝_, _⊕_, _⊖_, _⊗_, _≐_, solve}
+use Rattle.integers.specs.Solver.{con, ⊝_, _⊕_, _⊖_, _⊗_, _≐_, solve, combine}
 use Rattle.integers.specs.Linear.{linear, _≺_, _⇒_}
 use Rattle.integers.specs.Order.{sgn, pos-<, sub-pos, *-pos-zero, weighted-not-pos, weighted-not-neg}
 use Rattle.lists.proofs.Bools.{or-right, or-left}
@@ -19,7 +19,7 @@ use Rattle.plane.specs.Areas.{area, isNull}
 use Rattle.plane.specs.Segments.{overlapMore, stretches}
 use Rattle.geometry.specs.Spots.{Spot, spot, Same, At, OnSeg}
 use Rattle.plane.proofs.Laws.{areaE}
-use Rattle.geometry.proofs.Segments.{combine, off, balance, flip}
+use Rattle.geometry.proofs.Segments.{off, balance, flip}
 
 -- ---- on one line
 

@@ -9,7 +9,7 @@ use native.Mathlib.Omega.{arith}
 use lib.ListN.{getD}
 use lib.IntN.{ℤ, pos, negℤ, _+ℤ_, _-ℤ_, _*ℤ_}
 use lib.Signed.{_<ℤ_}
-use Rattle.integers.specs.Solver.{con, ⊝_, _⊕_, _⊖_, _⊗_, _≐_, solve}
+use Rattle.integers.specs.Solver.{con, ⊝_, _⊕_, _⊖_, _⊗_, _≐_, solve, zero-of, of-zero}
 use Rattle.integers.specs.Linear.{pos-injective}
 use Rattle.integers.specs.Order.{Sign, negative, null, positive, sgn, signed, neg-pos, natural}
 use Rattle.integers.specs.Order.{<→≤, pos-<, pos-<-back, pos-sub}
@@ -24,7 +24,7 @@ use Rattle.curves.specs.Curves.{lastOf, beforeLast, secondOf, Curve, lastPoint,
 use Rattle.geometry.specs.Spots.{Spot, spot, At, OnSeg, SameWay}
 use Rattle.geometry.specs.Meaning.{On, Some, Differ, Simple, Clear}
 use Rattle.geometry.specs.Drawing.{Good, ClearCurves}
-use Rattle.geometry.proofs.Segments.{zero-of, of-zero, at-first, at-last, at-spot, flip, way-back}
+use Rattle.geometry.proofs.Segments.{at-first, at-last, at-spot, flip, way-back}
 use Rattle.geometry.proofs.Double.{Two, null-is}
 use Rattle.geometry.proofs.Exact.{no-two}
 

@@ -8,7 +8,7 @@ use lib.ListN.{length}
 use borrow.Author.Tests.{not-true}
 use Rattle.lists.specs.Members.{Distinct, All}
 use Rattle.lists.proofs.Bools.{same-false, differ}
-use Rattle.lists.proofs.Keeps.{keep-in, keep-has}
+use Rattle.lists.proofs.Keeps.{keep-in, keep-has, distinct-map-keep}
 use Rattle.curves.specs.Curves.{Curve, lastPoint, points, maxPoints}
 use Rattle.curves.specs.Edits.{joined, course}
 use Rattle.geometry.specs.Drawing as geometry
@@ -18,7 +18,7 @@ use Rattle.geometry.proofs.Theorems.{join-last}
 use Rattle.geometry.proofs.Turning.{last-turned}
 use Rattle.grown.proofs.Readings.{without}
 use Rattle.grown.proofs.CurvesKept.{kept-course, kept-joined}
-use Rattle.grown.proofs.CurvesLists.{distinct-keep, Found, found}
+use Rattle.grown.proofs.CurvesLists.{Found, found}
 use Rattle.grown.proofs.CurvesSurvey.{Line, Place, curveIn, placeNumber, lineNumber, Sited, Survey}
 use Rattle.grown.proofs.CurvesSites.{number-one, point-one, unplot, Clear, sited-without, between-cases}
 
@@ -121,7 +121,7 @@ module _ (ls : List Line) (ps : List Place) (n e : ℕ) (s : Bool) (c : Line) (t
 
   -- d among the others of c
   h′ : Found lineNumber d (without lineNumber (c .number) ls)
-  h′ = found lineNumber (without lineNumber (c .number) ls) (distinct-keep lineNumber _ ls dis)
+  h′ = found lineNumber (without lineNumber (c .number) ls) (distinct-map-keep lineNumber _ ls dis)
       (keep-has _ ls (w .second) (ap not (same-false (d .number) (c .number) (w .two))))
 
   abbrev xs : List Curve

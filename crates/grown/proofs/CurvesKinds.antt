@@ -7,6 +7,7 @@ use Prim.Native.Nat.{ℕ, _+_}
 use Rattle.lists.specs.Tests.{same}
 use Rattle.lists.proofs.Bools.{same-false}
 use Rattle.lists.proofs.Keeps.{keep-has}
+use Rattle.lists.proofs.Members.{none-has}
 use Rattle.plane.specs.declared.Point.{Point}
 use Rattle.plane.specs.Points.{samePoint}
 use Rattle.curves.specs.Curves.{Curve}
@@ -16,7 +17,6 @@ use Rattle.map.specs.Rows.{Edge, Map, Sizes, node, edge, hasNode, hasEdge, with
 use Rattle.map.specs.Edits.{addIsoNode, moveIsoNode, removeIsoNode, addIsoEdge, removeIsoEdge, changeEdgeGeom, split}
 use Rattle.map.specs.Edits.{addEdge, removeEdge}
 use Rattle.map.specs.Reasons.{isolated, nodeAt, edgeWrong}
-use Rattle.map.proofs.Scans.{none-has}
 use Rattle.grown.specs.Good.{Surveyed, Good}
 use Rattle.grown.proofs.Readings.{without, edge-row}
 use Rattle.grown.proofs.RowChanges.{node-row}

@@ -2,7 +2,7 @@
 use mathlib.Core.Path.{_≡_, refl, sym, ap, ap₂, subst}
 use mathlib.Core.Bool.{Bool, true, false, not, cond}
 use mathlib.Core.List.{List, [], _∷_, _++_, map, List·Memᴰ, List·Memᴰ·head, List·Memᴰ·tail, List·Memᴰ·cases-cons}
-use mathlib.Core.List.{List·Memᴰ·not-nil, List·Memᴰ·append-cases, List·Memᴰ·eq-of-singleton, Memᴰ·map, Memᴰ·of-map}
+use mathlib.Core.List.{List·Memᴰ·not-nil, List·Memᴰ·append-cases, List·Memᴰ·eq-of-singleton, Memᴰ·map}
 use mathlib.Core.List.{Memᴰ·cast}
 use mathlib.Core.Logic.{_⊎_, inl, inr}
 use Prim.Native.Nat.{ℕ}
@@ -10,7 +10,8 @@ use Rattle.lists.specs.Members.{Distinct, All, Pairs}
 use Rattle.lists.specs.Tests.{same}
 use Rattle.lists.specs.Scans.{keep}
 use Rattle.lists.proofs.Bools.{same-false, same-refl}
-use Rattle.lists.proofs.Keeps.{keep-in, keep-all}
+use Rattle.lists.proofs.Keeps.{keep-all}
+use Rattle.lists.proofs.Members.{map-same}
 use Rattle.grown.proofs.Readings.{without}
 
 -- ---- map and keep
@@ -26,10 +27,6 @@ module _ {A B : Type 0} (f : A → B) where
   pub map-unseen : (g : A → A) (l : List A) → ((x : A) → f (g x) ≡ f x) → map f (map g l) ≡ map f l
   map-unseen g [] k = refl
   map-unseen g (x ∷ l) k = ap₂ _∷_ (k x) (map-unseen g l k)
-
-pub map-same : {A : Type 0} (f : A → A) (l : List A) → ((x : A) → List·Memᴰ x l → f x ≡ x) → map f l ≡ l
-map-same f [] h = refl
-map-same f (x ∷ l) h = ap₂ _∷_ (h x (List·Memᴰ·head refl)) (map-same f l (λ y m. h y (List·Memᴰ·tail m)))
 
 -- ---- what holds of all elements and pairs, of those that are kept
 
@@ -48,17 +45,6 @@ module _ {A B : Type 0} (f : A → B) (p : A → Bool) where
     where
       go : (b : Bool) → Pairs R (map f (keep p l)) → Pairs R (map f (cond b (x ∷ keep p l) (keep p l)))
       go true k = (all-keep (R (f x)) l (h .0), k)
-      go false k = k
-
-  pub distinct-keep : (l : List A) → Distinct (map f l) → Distinct (map f (keep p l))
-  distinct-keep [] h = tt
-  distinct-keep (x ∷ l) h = go (p x) (distinct-keep l (h .1))
-    where
-      later : List·Memᴰ (f x) (map f (keep p l)) → List·Memᴰ (f x) (map f l)
-      later k = let w = Memᴰ·of-map f (keep p l) k in Memᴰ·cast (sym (w .2)) (Memᴰ·map f (keep-in p l (w .1) .0))
-
-      go : (b : Bool) → Distinct (map f (keep p l)) → Distinct (map f (cond b (x ∷ keep p l) (keep p l)))
-      go true k = ((λ i. h .0 (later i)), k)
       go false k = k
 
 pub distinct-of : {A B : Type 0} (f : A → B) (l : List A) → Distinct (map f l) → Distinct l

@@ -10,7 +10,7 @@ use Rattle.lists.specs.Members.{Distinct, All}
 use Rattle.lists.specs.Tests.{same}
 use Rattle.lists.specs.Scans.{keep}
 use Rattle.lists.proofs.Bools.{same-true, same-false, same-eq}
-use Rattle.lists.proofs.Keeps.{keep-in, keep-has}
+use Rattle.lists.proofs.Keeps.{keep-in, keep-has, distinct-map-keep}
 use Rattle.lists.proofs.Perms.{distinct-map, distinct-injective}
 use Rattle.plane.specs.declared.Point.{Point}
 use Rattle.plane.specs.Points.{InRange}
@@ -20,7 +20,7 @@ use Rattle.geometry.specs.Meaning.{Some, Differ}
 use Rattle.geometry.specs.Drawing.{Good, ClearCurves, Drawn}
 use Rattle.geometry.proofs.Edits.{change, append}
 use Rattle.grown.proofs.Readings.{without}
-use Rattle.grown.proofs.CurvesLists.{all-keep, pairs-keep, distinct-keep, distinct-of, distinct-snoc, Found}
+use Rattle.grown.proofs.CurvesLists.{all-keep, pairs-keep, distinct-of, distinct-snoc, Found}
 use Rattle.grown.proofs.CurvesLists.{found}
 use Rattle.grown.proofs.CurvesSurvey.{Line, Place, curveIn, atIn, placeNumber, lineNumber, startOf, endOf}
 use Rattle.grown.proofs.CurvesSurvey.{Plotted, Sited, Survey}
@@ -55,8 +55,8 @@ plot ps p P r n a =
 pub unplot : (p : Place → Bool) (ps : List Place) → Plotted ps → Plotted (keep p ps)
 unplot p ps P = record {
   in-range = λ q m. P .in-range q (keep-in p ps m .0);
-  apart = distinct-keep atIn p ps (P .apart);
-  numbered = distinct-keep placeNumber p ps (P .numbered);
+  apart = distinct-map-keep atIn p ps (P .apart);
+  numbered = distinct-map-keep placeNumber p ps (P .numbered);
 }
 
 -- the place n moved to p

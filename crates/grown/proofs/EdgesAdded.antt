@@ -5,13 +5,13 @@ use mathlib.Core.Bool.{Bool, true, false}
 use Prim.Native.Nat.{ℕ}
 use borrow.Author.Tests.{not-true}
 use Rattle.lists.proofs.Bools.{which}
+use Rattle.lists.proofs.Rising.{rising-distinct}
 use Rattle.curves.specs.Curves.{Curve, startWay}
 use Rattle.planar_maps.specs.Map.{fwd, bwd}
 use Rattle.map.specs.Rows.{Map, Sizes}
 use Rattle.map.specs.Darts.{ring, among}
 use Rattle.map.specs.Links.{cornerFace}
 use Rattle.map.specs.Edits.{drawnIn, splitsFace, addEdge}
-use Rattle.map.proofs.Scans.{rising-distinct}
 use Rattle.grown.specs.Good.{Good}
 use Rattle.grown.proofs.Readings.{dart-has}
 use Rattle.grown.proofs.RowChanges.{InPlane}

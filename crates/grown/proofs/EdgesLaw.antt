@@ -4,7 +4,7 @@ use mathlib.Core.List.{List, _∷_, map-id, List·Memᴰ, List·Memᴰ·head, Li
 use Prim.Native.Nat.{ℕ}
 use Rattle.lists.specs.Tests.{same}
 use Rattle.lists.proofs.Bools.{same-eq, same-true}
-use Rattle.lists.proofs.Keeps.{keep-in, keep-has}
+use Rattle.lists.proofs.Keeps.{keep-in, keep-has, keep-cong}
 use Rattle.plane.specs.Directions.{Way}
 use Rattle.planar_maps.specs.Map.{Dart, rev}
 use Rattle.planar_maps.specs.Rings.{sameDart}
@@ -12,7 +12,6 @@ use Rattle.rotation.specs.Law.{firstClockwise, Differ, Lawful, from, back, Law}
 use Rattle.rotation.proofs.Clock.{First, first-one}
 use Rattle.rotation.proofs.Node.{first-first, place, placed, size-of}
 use Rattle.rotation.proofs.Rename.{renamed-lawful}
-use Rattle.grown.proofs.Readings.{keep-cong}
 
 -- departures from a node, and back
 pub from-in : (tail : Dart → ℕ) (ds : List Dart) (n : ℕ) {d : Dart} → List·Memᴰ d (from tail ds n) → List·Memᴰ d ds

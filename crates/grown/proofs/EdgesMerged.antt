@@ -9,8 +9,7 @@ use Rattle.lists.specs.Tests.{same}
 use Rattle.lists.specs.Scans.{keep}
 use Rattle.lists.specs.Members.{Distinct}
 use Rattle.lists.proofs.Bools.{same-refl, same-eq, same-false, equal?, or-right}
-use Rattle.lists.proofs.Keeps.{keep-has, keep-all, distinct-keep}
-use Rattle.grown.proofs.Readings.{keep-cong}
+use Rattle.lists.proofs.Keeps.{keep-has, keep-all, distinct-keep, keep-cong}
 use Rattle.grown.proofs.EdgesShared.{length-without}
 
 keep-both : {A : Type 0} (p q : A → Bool) (l : List A) → keep q (keep p l) ≡ keep (λ x. p x && q x) l

@@ -9,19 +9,17 @@ use native.Mathlib.Omega.{arith}
 use lib.ListN.{length, length-map}
 use Rattle.lists.specs.Tests.{iterate}
 use Rattle.lists.specs.Members.{Distinct}
-use Rattle.lists.proofs.Members.{each-cons}
+use Rattle.lists.proofs.Members.{each-cons, any-some, some-any}
 use Rattle.lists.proofs.Perms.{perm-of-distinct, perm-length, injective-of-perm}
 use Rattle.planar_maps.specs.Map.{Arc, Dart, darts, Linked}
 use Rattle.planar_maps.specs.Pieces.{nums}
 use Rattle.planar_maps.specs.Rings.{sameDart, Leads}
 use Rattle.planar_maps.proofs.Rings.{next-in, closed-turned, sameDart-true, sameDart-refl}
 use Rattle.planar_maps.proofs.Hooks.{distinct-darts}
-use Rattle.planar_maps.proofs.Turns.{leads-on, leads-join}
-use Rattle.planar_maps.proofs.Joins.{leads-keep}
+use Rattle.planar_maps.proofs.Leads.{leads-on, leads-join, leads-keep}
 use Rattle.rotation.proofs.Clock.{le-or}
 use Rattle.map.specs.Rows.{Map}
 use Rattle.map.specs.Darts.{arcs, directed, leaves, next, bears, stepsTo, ring, among, lowestEdge}
-use Rattle.map.proofs.Scans.{any-some, some-any}
 
 -- a list in which nothing stands twice, part of another, is no longer than it
 distinct-length : {A : Type 0} (l k : List A) → Distinct l → ((x : A) → List·Memᴰ x l → List·Memᴰ x k)

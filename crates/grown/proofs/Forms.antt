@@ -7,6 +7,7 @@ use Rattle.lists.specs.Members.{Distinct}
 use Rattle.lists.proofs.Bools.{same-eq, not-true, and-is}
 use Rattle.lists.proofs.Counts.{count-perm}
 use Rattle.lists.proofs.Keeps.{distinct-keep}
+use Rattle.lists.proofs.Members.{each-all, any-some}
 use Rattle.geometry.proofs.Meeting.{samePoint-refl}
 use Rattle.geometry.proofs.Theorems.{neighboursDiffer-iff}
 use Rattle.plane.specs.Points.{samePoint}
@@ -22,7 +23,6 @@ use Rattle.map.specs.Rows.{Edge, Map}
 use Rattle.map.specs.Darts.{arcs, directed, leaves, next, bears, departures, way}
 use Rattle.map.specs.Form.{numbers, named, curveFits, waysDiffer, departuresDiffer, linksOnce, linksMeet, ringsBearOne}
 use Rattle.map.specs.Form.{formed}
-use Rattle.map.proofs.Scans.{each-all, any-some}
 use Rattle.grown.specs.Good.{Good}
 use Rattle.grown.proofs.Apart.{curve-good, apart}
 

@@ -5,6 +5,7 @@ use mathlib.Core.List.{List, _∷_, map, List·Memᴰ, List·Memᴰ·head, List�
 use Prim.Native.Nat.{ℕ}
 use Rattle.lists.specs.Tests.{same, _⊕_}
 use Rattle.lists.proofs.Bools.{same-refl, same-false, eq2}
+use Rattle.lists.proofs.Members.{map-same}
 use Rattle.plane.specs.Directions.{Way}
 use Rattle.planar_maps.specs.Map.{Arc, Dart, fwd, bwd, rev, darts}
 use Rattle.planar_maps.specs.Pieces.{nums, Isolated}
@@ -13,13 +14,11 @@ use Rattle.planar_maps.specs.Planar.{Planar}
 use Rattle.planar_maps.proofs.Cycles.{fwd-in}
 use Rattle.planar_maps.proofs.Hooks.{fwd≢bwd, fresh-dart, with-fwd, with-bwd, with-other}
 use Rattle.planar_maps.proofs.Agree.{planar-agree}
-use Rattle.planar_maps.proofs.Subdivide.{arc}
-use Rattle.planar_maps.proofs.Splitting.{renamed-at, renamed-other}
+use Rattle.planar_maps.proofs.Subdivide.{arc, renamed-at, renamed-other}
 use Rattle.planar_maps.proofs.Healing.{healed-at, healed-other, planar-heal}
 use Rattle.grown.proofs.Renumber.{runs, named, Named, planar-named}
 use Rattle.grown.proofs.Halved.{Halved, departs, arrives, whole, halved, each-whole, each-halved, f-fwd, f-bwd}
 use Rattle.grown.proofs.Halved.{f-old, g-fwd, g-bwd, g-old}
-use Rattle.grown.proofs.CurvesLists.{map-same}
 
 -- the dart of the number k that runs as z does where b is false, and against it where b is true
 abbrev onto : ℕ → Bool → Dart → Dart

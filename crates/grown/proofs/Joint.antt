@@ -11,11 +11,11 @@ use Rattle.lists.specs.Tests.{same}
 use Rattle.lists.specs.Scans.{isSome}
 use Rattle.lists.proofs.Bools.{same-true, differ, or-true}
 use Rattle.lists.proofs.Keeps.{keep-in}
+use Rattle.lists.proofs.Members.{found}
 use Rattle.planar_maps.specs.Map.{Dart, fwd, bwd, rev}
 use Rattle.map.specs.Rows.{Map, edge, hasEdge}
 use Rattle.map.specs.Darts.{directed, leaves, departures, edgeEnds}
 use Rattle.map.specs.Edits.{sharedNodes, joint, parts}
-use Rattle.map.proofs.Scans.{found}
 use Rattle.grown.proofs.Readings.{leaves-row, has-dart, departing}
 use Rattle.grown.proofs.Reasons.{Heal}
 

@@ -8,14 +8,13 @@ use Prim.Native.Nat.{ℕ}
 use Rattle.lists.specs.Tests.{same}
 use Rattle.lists.specs.Scans.{keep}
 use Rattle.lists.proofs.Members.{some?}
-use Rattle.lists.proofs.Keeps.{keep-in, keep-has}
+use Rattle.lists.proofs.Keeps.{keep-in, keep-has, keep-cong}
 use Rattle.plane.specs.Directions.{Way, before, sameWay}
 use Rattle.rotation.specs.Law.{Tells, greatest, pick, firstClockwise, Differ, others, lawfulNext, Lawful, from, Apart}
 use Rattle.rotation.specs.Law.{AllLawful}
 use Rattle.rotation.proofs.Order.{respects-left, respects-right}
 use Rattle.rotation.proofs.Node.{first-none}
 use Rattle.rotation.proofs.Rename.{first-same}
-use Rattle.grown.proofs.Readings.{keep-cong}
 
 -- ---- the order of the list
 

@@ -9,7 +9,7 @@ use mathlib.Core.Option.{none, Option·getD}
 use Prim.Native.Nat.{ℕ}
 use Rattle.lists.specs.Tests.{same}
 use Rattle.lists.proofs.Bools.{same-false, or-false}
-use Rattle.lists.proofs.Members.{each-cons}
+use Rattle.lists.proofs.Members.{each-cons, none-has}
 use Rattle.plane.specs.Directions.{Way, sameWay}
 use Rattle.curves.specs.Curves.{Curve, startWay, endWay}
 use Rattle.curves.specs.Edits as edits
@@ -34,7 +34,6 @@ use Rattle.map.specs.Darts.{arcs, directed, leaves, next, bears, way, departure
 use Rattle.map.specs.Links.{linkEdge, cornerFace}
 use Rattle.map.specs.Edits.{withFace, isEither, drawn, addIsoEdge, drawnIn, splitsFace, sharedOut, splitFace, addEdge}
 use Rattle.map.specs.Reasons.{isolated, wayTaken, directionTaken}
-use Rattle.map.proofs.Scans.{none-has}
 use Rattle.grown.proofs.Readings.{Relinked, arcOf, departs, departing, leaves-by, next-by, bears-by, way-by}
 use Rattle.grown.proofs.RowChanges.{more-perm}
 use Rattle.grown.proofs.LawOrder.{law-order}

@@ -8,6 +8,7 @@ use Prim.Native.Nat.{ℕ}
 use borrow.Author.Tests.{not-false}
 use Rattle.lists.specs.Tests.{same}
 use Rattle.lists.proofs.Bools.{equal?, or-false}
+use Rattle.lists.proofs.Members.{none-has}
 use Rattle.plane.specs.declared.Point.{Point}
 use Rattle.plane.specs.Directions.{sameWay}
 use Rattle.curves.specs.Curves.{Curve}
@@ -21,7 +22,6 @@ use Rattle.map.specs.Darts.{arcs, leaves, next, bears, course, way, departures}
 use Rattle.map.specs.Links.{clockwise}
 use Rattle.map.specs.Edits.{addIsoNode, moveIsoNode, removeIsoNode, withCurve, changeEdgeGeom}
 use Rattle.map.specs.Reasons.{turnChanges, orderChanges}
-use Rattle.map.proofs.Scans.{none-has}
 use Rattle.grown.proofs.Readings.{tailIn, nextIn, faceIn, leaves-row, next-row, bears-row, course-row, way-row}
 use Rattle.grown.proofs.Readings.{departs, departures-by, mapped-kept, mapped-arcs}
 use Rattle.grown.proofs.RowChanges.{at-other}

@@ -12,6 +12,7 @@ use Rattle.lists.specs.Tests.{same}
 use Rattle.lists.specs.Scans.{anyOf, isSome}
 use Rattle.lists.specs.Members.{Distinct}
 use Rattle.lists.proofs.Bools.{same-true, beq-true, and-true}
+use Rattle.lists.proofs.Members.{all-each, each-all, none-has}
 use Rattle.plane.specs.declared.Point.{Point}
 use Rattle.plane.specs.Points.{samePoint}
 use Rattle.plane.specs.Directions.{Way, sameWay}
@@ -37,7 +38,6 @@ use Rattle.map.specs.Form.{waysDiffer, curveFits, departuresDiffer, bareMarked,
 use Rattle.map.specs.Reasons.{isolated}
 use Rattle.map.proofs.Laws.{formed-is}
 use Rattle.map.proofs.Linked as formedLinks
-use Rattle.map.proofs.Scans.{all-each, each-all, none-has}
 use Rattle.grown.specs.Good.{Anchored, Good}
 use Rattle.grown.proofs.Readings.{numberOf, nums-rows, departing}
 use Rattle.grown.proofs.RowChanges.{nodeNumber, node-row}

@@ -11,6 +11,7 @@ use native.Mathlib.Omega.{arith}
 use Rattle.lists.specs.Tests.{same}
 use Rattle.lists.specs.Members.{Distinct}
 use Rattle.lists.proofs.Perms.{perm-in, perm-distinct}
+use Rattle.lists.proofs.Members.{none-has}
 use Rattle.plane.specs.declared.Point.{Point}
 use Rattle.plane.specs.Points.{samePoint}
 use Rattle.plane.specs.Directions.{sameWay}
@@ -28,7 +29,6 @@ use Rattle.map.specs.Rows.{Edge, Map, node, edge, hasEdge, atEdge, withoutEdge}
 use Rattle.map.specs.Darts.{arcs, directed, leaves, next, bears, way}
 use Rattle.map.specs.Edits.{startHalf, endHalf, split}
 use Rattle.map.specs.Reasons.{nodeAt}
-use Rattle.map.proofs.Scans.{none-has}
 use Rattle.grown.specs.Good.{Anchored}
 use Rattle.grown.proofs.Readings.{nextIn, leaves-row, next-row, bears-row, course-row, way-row, has-number}
 use Rattle.grown.proofs.Readings.{arcOf, numberOf, nums-rows, edge-row}

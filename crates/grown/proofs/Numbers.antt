@@ -13,6 +13,8 @@ use Rattle.lists.specs.Tests.{same}
 use Rattle.lists.specs.Scans.{allOf, firstOr, isSome}
 use Rattle.lists.specs.Members.{Distinct}
 use Rattle.lists.proofs.Bools.{same-refl, same-true, same-false, same-eq, beq-true, beq-refl, and-true, and-is}
+use Rattle.lists.proofs.Members.{all-each, each-all, any-some, some-any}
+use Rattle.lists.proofs.Rising.{Rising, rising, rising-numbered}
 use Rattle.planar_maps.specs.Map.{Arc, Dart, fwd, bwd}
 use Rattle.planar_maps.specs.Pieces.{nums}
 use Rattle.planar_maps.proofs.Rings.{next-in}
@@ -20,7 +22,6 @@ use Rattle.map.specs.Limits.{lastNumber}
 use Rattle.map.specs.Rows.{Node, Edge, Map, edge, hasNode, hasEdge, hasFace}
 use Rattle.map.specs.Darts.{arcs, directed, leaves, next, departures, edgeEnds}
 use Rattle.map.specs.Form.{numbered, numbers, inFace, edgeNames, named, bareMarked}
-use Rattle.map.proofs.Scans.{all-each, each-all, any-some, some-any, Rising, rising, rising-numbered}
 use Rattle.grown.specs.Good.{Numbered, Woven}
 use Rattle.grown.proofs.Readings.{numberOf, arcOf, edge-row, edge-at, row-has, has-dart, dart-has, leaves-row}
 use Rattle.grown.proofs.Readings.{next-row, departs, departing, has-number, tailIn}

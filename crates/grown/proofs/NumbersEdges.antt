@@ -13,13 +13,13 @@ use Rattle.lists.specs.Scans.{isSome}
 use Rattle.lists.specs.Members.{Distinct}
 use Rattle.lists.proofs.Bools.{same-true, same-eq, which, or-true, or-false}
 use Rattle.lists.proofs.Keeps.{keep-in, keep-has, keep-map}
+use Rattle.lists.proofs.Rising.{Rising, rising-append, rising-keep, rising-distinct}
 use Rattle.curves.specs.Curves.{Curve}
 use Rattle.planar_maps.specs.Pieces.{nums}
 use Rattle.map.specs.Rows.{Node, Edge, Map, node, edge, hasNode, hasEdge, atNodes}
 use Rattle.map.specs.Darts.{arcs, edgeEnds}
 use Rattle.map.specs.Links.{unlinkEdge}
 use Rattle.map.specs.Edits.{withFace, isEither, drawn, undrawn}
-use Rattle.map.proofs.Scans.{Rising, rising-append, rising-keep, rising-distinct}
 use Rattle.grown.proofs.Readings.{edge-at, numberOf, has-number}
 use Rattle.grown.proofs.RowChanges.{node-row}
 use Rattle.grown.proofs.Numbers.{Outline, outlineOf, outlines, outlineNumber, Met, EndsAt, Placed, Sided, Ranked}

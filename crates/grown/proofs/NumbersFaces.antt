@@ -16,6 +16,7 @@ use Rattle.lists.specs.Members.{Distinct}
 use Rattle.lists.proofs.Bools.{same-false, differ, and-true, cond-has}
 use Rattle.lists.proofs.Keeps.{keep-has}
 use Rattle.lists.proofs.Members.{map-cong}
+use Rattle.lists.proofs.Rising.{Rising, rising-append, rising-keep}
 use Rattle.plane.specs.declared.Point.{Point}
 use Rattle.plane.specs.Areas.{isPositive}
 use Rattle.integers.specs.Order.{sgn}
@@ -26,7 +27,6 @@ use Rattle.map.specs.Darts.{arcs, bears, among, ring}
 use Rattle.map.specs.Faces.{encloses, ringArea}
 use Rattle.map.specs.Edits.{withFace, Shares, sideOfPoint, sideOfRing, sideOfDart, sideOfNode, withSides, sharedOut}
 use Rattle.map.specs.Edits.{splitFace}
-use Rattle.map.proofs.Scans.{Rising, rising-append, rising-keep}
 use Rattle.grown.proofs.Readings.{edge-row, edge-at, bears-row}
 use Rattle.grown.proofs.Numbers.{Outline, outlineOf, outlines, outlineNumber, Met, EndsAt, Sided, Ranked}
 use Rattle.grown.proofs.Numbers.{RankedMap}

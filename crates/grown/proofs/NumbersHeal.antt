@@ -13,11 +13,11 @@ use Rattle.lists.specs.Tests.{same}
 use Rattle.lists.specs.Scans.{isSome}
 use Rattle.lists.proofs.Bools.{same-true, same-false, differ, or-true, or-false, or-no}
 use Rattle.lists.proofs.Keeps.{keep-in, keep-has, keep-map}
+use Rattle.lists.proofs.Rising.{Rising, rising-keep}
 use Rattle.planar_maps.specs.Map.{Dart, fwd, bwd, rev}
 use Rattle.map.specs.Rows.{Node, Edge, Map, edge, hasEdge, atEdge, withoutNode, withoutEdge}
 use Rattle.map.specs.Darts.{leaves, arrives, next}
 use Rattle.map.specs.Edits.{joint, parts, healedCurve, heal}
-use Rattle.map.proofs.Scans.{Rising, rising-keep}
 use Rattle.grown.proofs.Readings.{edge-row, leaves-row, tailIn}
 use Rattle.planar_maps.proofs.Turns.{rev-rev}
 use Rattle.grown.proofs.Joint.{meets}

@@ -16,6 +16,7 @@ use Rattle.lists.specs.Members.{Distinct}
 use Rattle.lists.proofs.Bools.{same-true}
 use Rattle.lists.proofs.Keeps.{keep-in, keep-map}
 use Rattle.lists.proofs.Members.{map-cong}
+use Rattle.lists.proofs.Rising.{Rising, rising-append, rising-keep}
 use Rattle.plane.specs.declared.Point.{Point}
 use Rattle.plane.specs.Below.{passesBelow, higher}
 use Rattle.curves.specs.Curves.{Curve, segments}
@@ -23,7 +24,6 @@ use Rattle.map.specs.Rows.{Node, Edge, Map, node, atNodes, withoutNode}
 use Rattle.map.specs.Faces.{Floor, floorOf, floors, highest, faceAbove, faceOfPoint}
 use Rattle.map.specs.Edits.{lone, addIsoNode, moveIsoNode, removeIsoNode, withCurve, changeEdgeGeom}
 use Rattle.map.specs.Reasons.{isolated}
-use Rattle.map.proofs.Scans.{Rising, rising-append, rising-keep}
 use Rattle.grown.specs.Good.{Woven}
 use Rattle.grown.proofs.RowChanges.{nodeNumber, node-at}
 use Rattle.grown.proofs.Numbers.{Outline, outlineOf, outlines, Met, EndsAt, Placed, Sided, Ranked, RankedMap}

@@ -13,11 +13,11 @@ use Rattle.lists.specs.Tests.{same, bit}
 use Rattle.lists.specs.Scans.{keep, firstOr, isSome}
 use Rattle.lists.proofs.Bools.{same-refl, same-true, same-eq, differ, or-true, and-true, either}
 use Rattle.lists.proofs.Keeps.{keep-has}
+use Rattle.lists.proofs.Rising.{Rising, rising-append, rising-keep}
 use Rattle.planar_maps.proofs.Chains.{min-one}
 use Rattle.map.specs.Rows.{Node, Edge, Map, edge, hasEdge}
 use Rattle.map.specs.Edits.{removeIsoEdge, withSides, renamed, renamedNode, renamedFaces, healsFaces, lowerFace}
 use Rattle.map.specs.Edits.{makesFace, faceLeft, removeEdge}
-use Rattle.map.proofs.Scans.{Rising, rising-append, rising-keep}
 use Rattle.grown.proofs.Readings.{edge-row}
 use Rattle.grown.proofs.Numbers.{Outline, outlineOf, outlines, Sided, Ranked, RankedMap}
 use Rattle.grown.proofs.Outlines.{ranked-shape, outlines-map}

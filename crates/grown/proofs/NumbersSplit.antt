@@ -13,12 +13,13 @@ use borrow.Author.Tests.{not-true}
 use Rattle.lists.specs.Tests.{same}
 use Rattle.lists.proofs.Bools.{same-true, same-eq, which}
 use Rattle.lists.proofs.Keeps.{keep-in, keep-has, keep-map}
+use Rattle.lists.proofs.Rising.{Rising, rising-keep}
+use Rattle.lists.proofs.Lookups.{replaced-numbers, replaced-in}
 use Rattle.plane.specs.declared.Point.{Point}
 use Rattle.planar_maps.specs.Map.{Dart, fwd, bwd}
 use Rattle.map.specs.Rows.{Node, Edge, Map, edge, hasEdge, atEdge, withoutEdge}
 use Rattle.map.specs.Links.{withLinks, instead, redirect}
 use Rattle.map.specs.Edits.{startHalf, endHalf, split}
-use Rattle.map.proofs.Scans.{Rising, rising-keep, replaced-numbers, replaced-in}
 use Rattle.grown.proofs.Readings.{edge-row, mapped-kept}
 use Rattle.grown.proofs.RowChanges.{nodeNumber}
 use Rattle.grown.proofs.Numbers.{Outline, outlineOf, outlines, outlineNumber, Met, EndsAt, Sided, Ranked}

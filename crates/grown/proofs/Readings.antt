@@ -3,7 +3,7 @@
 use mathlib.Core.Path.{_≡_, refl, sym, ap, _∙_, subst}
 use mathlib.Core.Logic.{_⊎_, inl, inr, _≢_}
 use mathlib.Core.Bool.{Bool, true, false, cond, not, _&&_, Bool·beq, true≢false}
-use mathlib.Core.List.{List, [], _∷_, _++_, map, map-map, List·Memᴰ, List·Memᴰ·head, List·Memᴰ·tail, Memᴰ·map}
+use mathlib.Core.List.{List, [], _∷_, _++_, map, map-map, List·Memᴰ, Memᴰ·map}
 use mathlib.Core.List.{Memᴰ·of-map, Memᴰ·cast}
 use mathlib.Core.Option.{Option, none, some, Option·getD, Option·map}
 use Prim.Native.Nat.{ℕ}
@@ -11,8 +11,9 @@ use Rattle.lists.specs.Tests.{same}
 use Rattle.lists.specs.Scans.{find, isSome, keep}
 use Rattle.lists.specs.Members.{Distinct}
 use Rattle.lists.proofs.Bools.{same-refl, same-true, same-false, same-eq}
-use Rattle.lists.proofs.Keeps.{keep-in, keep-has}
+use Rattle.lists.proofs.Keeps.{keep-in, keep-has, keep-cong}
 use Rattle.lists.proofs.Members.{map-cong}
+use Rattle.lists.proofs.Lookups.{find-map, has-map}
 use Rattle.curves.specs.Curves.{Curve, startWay, through}
 use Rattle.curves.specs.Edits as edits
 use Rattle.planar_maps.specs.Map.{Arc, Dart, fwd, bwd, darts}
@@ -23,8 +24,7 @@ use Rattle.planar_maps.proofs.Rings.{dart-cases}
 use Rattle.map.specs.Rows.{Edge, Map, edge, hasEdge, atEdge}
 use Rattle.map.specs.Darts.{arcs, directed, leaves, next, bears, course, way, departures}
 use Rattle.map.specs.Links.{withLinks, instead, redirect, lead}
-use Rattle.map.proofs.Scans.{find-map, has-map}
-pub use Rattle.map.proofs.Scans.{look, has, without, look-at, look-row, has-number, number-has}
+pub use Rattle.lists.proofs.Lookups.{look, has, without, look-at, look-row, has-number, number-has}
 pub use Rattle.map.proofs.Redirects.{redirect-next}
 pub use Rattle.map.proofs.Linked.{arcOf, nums-rows}
 
@@ -207,11 +207,6 @@ module _ (m : Map) where
       go false e = Memᴰ·cast (λ i. record { edge = sym (edge-row (d .edge) h .1) i; back = e i }) (fwd-in there)
 
 -- ---- departures
-
-pub keep-cong : {D : Type 0} (p q : D → Bool) (ds : List D) → ((d : D) → List·Memᴰ d ds → p d ≡ q d)
-    → keep p ds ≡ keep q ds
-keep-cong p q [] h = refl
-keep-cong p q (d ∷ ds) h = rw (h d (List·Memᴰ·head refl), keep-cong p q ds (λ c k. h c (List·Memᴰ·tail k)))
 
 module _ (m : Map) (n : ℕ) where
   pub departs : {d : Dart} → List·Memᴰ d (departures m n) → List·Memᴰ d (directed m) × (leaves m d ≡ n)

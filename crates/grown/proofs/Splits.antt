@@ -3,7 +3,7 @@ use mathlib.Core.Path.{_≡_, refl, sym, ap, ap₂, _∙_, subst}
 use mathlib.Core.Logic.{inl, inr}
 use mathlib.Core.List.{List, _∷_, map, List·Memᴰ, List·Memᴰ·head, List·Memᴰ·tail, List·Memᴰ·cases-cons}
 use Prim.Native.Nat.{ℕ}
-use Rattle.lists.proofs.Members.{each-cons}
+use Rattle.lists.proofs.Members.{each-cons, map-same}
 use Rattle.plane.specs.Directions.{Way}
 use Rattle.planar_maps.specs.Map.{Arc, Dart, fwd, bwd, rev, darts}
 use Rattle.planar_maps.specs.Pieces.{nums}
@@ -13,9 +13,8 @@ use Rattle.planar_maps.proofs.Cycles.{fwd-in}
 use Rattle.planar_maps.proofs.Rings.{rev-in}
 use Rattle.planar_maps.proofs.Hooks.{fwd≢bwd, fresh-dart, with-fwd, with-bwd, with-other}
 use Rattle.planar_maps.proofs.Agree.{planar-agree}
-use Rattle.planar_maps.proofs.Subdivide.{arc}
-use Rattle.planar_maps.proofs.Splitting.{renamed-at, renamed-other, planar-subdivide}
-use Rattle.grown.proofs.CurvesLists.{map-same}
+use Rattle.planar_maps.proofs.Subdivide.{arc, renamed-at, renamed-other}
+use Rattle.planar_maps.proofs.Splitting.{planar-subdivide}
 use Rattle.grown.proofs.Renumber.{runs, named, Named, planar-named}
 use Rattle.grown.proofs.Halved.{Halved, departs, whole, each-whole, f-fwd, f-bwd, f-old, g-fwd, g-bwd, g-old}
 

@@ -3,7 +3,7 @@ use mathlib.Core.Path.{_≡_, refl, sym, ap, _∙_}
 use mathlib.Core.Logic.{_⊎_, inl, inr}
 use mathlib.Core.Bool.{Bool, true, false, cond, true≢false}
 use mathlib.Core.List.{List, [], _∷_, _++_, map, append-nil, List·Memᴰ, List·Memᴰ·head, List·Memᴰ·tail}
-use mathlib.Core.List.{List·Memᴰ·cases-cons, List·Memᴰ·not-nil}
+use mathlib.Core.List.{List·Memᴰ·cases-cons, List·Memᴰ·not-nil, Memᴰ·map, Memᴰ·of-map, Memᴰ·cast}
 use Prim.Native.Nat.{suc, _≤_}
 use native.Mathlib.Omega.{arith}
 use lib.ListN.{length}
@@ -39,6 +39,11 @@ pub keep-all : {D : Type 0} (f : D → Bool) (ds : List D) → ((d : D) → List
 keep-all f [] h = refl
 keep-all f (d ∷ ds) h = rw (h d (List·Memᴰ·head refl))
     (ap (λ (l : List _). d ∷ l) (keep-all f ds (λ c m. h c (List·Memᴰ·tail m))))
+
+pub keep-cong : {D : Type 0} (p q : D → Bool) (ds : List D) → ((d : D) → List·Memᴰ d ds → p d ≡ q d)
+    → keep p ds ≡ keep q ds
+keep-cong p q [] h = refl
+keep-cong p q (d ∷ ds) h = rw (h d (List·Memᴰ·head refl), keep-cong p q ds (λ c k. h c (List·Memᴰ·tail k)))
 
 pub keep-swap : {D : Type 0} (f g : D → Bool) (ds : List D) → keep f (keep g ds) ≡ keep g (keep f ds)
 keep-swap f g [] = refl
@@ -83,6 +88,18 @@ module _ {D E : Type 0} (f : D → E) where
           → cond (q (f d)) (f d ∷ keep q (map f ds)) (keep q (map f ds)) ≡ map f (cond b (d ∷ keep p ds) (keep p ds))
       go true e ih = rw e (ap (λ (l : List E). f d ∷ l) ih)
       go false e ih = rw e ih
+
+  -- none of the images stands twice
+  pub distinct-map-keep : (p : D → Bool) (ds : List D) → Distinct (map f ds) → Distinct (map f (keep p ds))
+  distinct-map-keep p [] h = tt
+  distinct-map-keep p (d ∷ ds) h = go (p d) (distinct-map-keep p ds (h .1))
+    where
+      later : List·Memᴰ (f d) (map f (keep p ds)) → List·Memᴰ (f d) (map f ds)
+      later k = let w = Memᴰ·of-map f (keep p ds) k in Memᴰ·cast (sym (w .2)) (Memᴰ·map f (keep-in p ds (w .1) .0))
+
+      go : (b : Bool) → Distinct (map f (keep p ds)) → Distinct (map f (cond b (d ∷ keep p ds) (keep p ds)))
+      go true k = ((λ i. h .0 (later i)), k)
+      go false k = k
 
 pub distinct-keep : {D : Type 0} (p : D → Bool) (ds : List D) → Distinct ds → Distinct (keep p ds)
 distinct-keep p [] dis = tt

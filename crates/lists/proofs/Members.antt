@@ -1,18 +1,27 @@
--- Members of a list: one by one, none at all, and what two functions do to them. Assumes nothing.
+-- Members of a list: one by one, none at all, what scans tell of them, and what two functions do to them. Assumes
+-- nothing.
 use mathlib.Core.Path.{_≡_, refl, sym, ap, ap₂, _∙_}
 use mathlib.Core.Logic.{_⊎_, inl, inr}
-use mathlib.Core.Bool.{Bool, true, false, cond, true≢false}
+use mathlib.Core.Bool.{Bool, true, false, cond, true≢false, false≢true}
 use mathlib.Core.List.{List, [], _∷_, map, List·Memᴰ, List·Memᴰ·head, List·Memᴰ·tail, List·Memᴰ·cases-cons}
-use mathlib.Core.List.{List·Memᴰ·not-nil}
+use mathlib.Core.List.{List·Memᴰ·not-nil, map-id}
 use mathlib.Core.List.{flatMap, Memᴰ·append-left, Memᴰ·append-right, List·Memᴰ·append-cases}
-use mathlib.Core.Option.{some}
-use Rattle.lists.specs.Scans.{find, isSome}
+use mathlib.Core.Option.{some, Option·getD}
+use Rattle.lists.specs.Scans.{anyOf, allOf, find, isSome}
 use Rattle.lists.specs.Members.{All}
-use Rattle.lists.proofs.Bools.{which}
+use Rattle.lists.proofs.Bools.{which, and-true, and-is, or-true, or-left, or-right, or-false}
 
 pub each-cons : {A : Type 0} {p : A → Type 0} {x : A} {l : List A} → p x → ((y : A) → List·Memᴰ y l → p y) → (y : A)
     → List·Memᴰ y (x ∷ l) → p y
 each-cons {p = p} px h y m = elim (List·Memᴰ·cases-cons m) [ inl e ↦ rw e px | inr k ↦ h y k ]
+
+pub each-two : {A : Type 0} (p : A → Type 0) {x y : A} {l : List A} → p x → p y → ((z : A) → List·Memᴰ z l → p z)
+    → (z : A) → List·Memᴰ z (x ∷ y ∷ l) → p z
+each-two p px py h = each-cons {p = p} px (each-cons {p = p} py h)
+
+-- what stands in a list and is not its first stands behind it
+pub in-rest : {A : Type 0} {x y : A} {l : List A} → ((x ≡ y) → ⊥) → List·Memᴰ x (y ∷ l) → List·Memᴰ x l
+in-rest h m = elim (List·Memᴰ·cases-cons m) [ inl e ↦ absurd (h e) | inr k ↦ k ]
 
 -- `All` by members, and members of `All`
 pub all-of : {A : Type 0} {R : A → Type 0} (l : List A) → ((x : A) → List·Memᴰ x l → R x) → All R l
@@ -26,6 +35,9 @@ each-of R (y ∷ l) h x k = each-cons {p = R} (h .0) (each-of R l (h .1)) x k
 pub map-cong : {A B : Type 0} (f g : A → B) (l : List A) → ((x : A) → List·Memᴰ x l → f x ≡ g x) → map f l ≡ map g l
 map-cong f g [] h = refl
 map-cong f g (x ∷ l) h = ap₂ _∷_ (h x (List·Memᴰ·head refl)) (map-cong f g l (λ y m. h y (List·Memᴰ·tail m)))
+
+pub map-same : {A : Type 0} (f : A → A) (l : List A) → ((x : A) → List·Memᴰ x l → f x ≡ x) → map f l ≡ l
+map-same f l h = map-cong f (λ x. x) l h ∙ map-id l
 
 -- p takes one of them, or none
 pub takes? : {A : Type 0} (p : A → Bool) (l : List A)
@@ -54,6 +66,62 @@ find-has {A} p (y ∷ l) {x} m e = go (p y) refl (List·Memᴰ·cases-cons m) (�
     go true q k ih = refl
     go false q (inl z) ih = absurd (true≢false (sym e ∙ ap p z ∙ q))
     go false q (inr k) ih = ih k
+
+-- ---- what scans tell
+
+module _ {A : Type 0} (p : A → Bool) where
+  -- what takes every element takes each, and the other way round
+  pub all-each : (l : List A) → allOf p l ≡ true → (x : A) → List·Memᴰ x l → p x ≡ true
+  all-each [] h x m = absurd (List·Memᴰ·not-nil m)
+  all-each (y ∷ l) h x m = let k = and-true (p y) (allOf p l) h in
+      each-cons {p = λ z. p z ≡ true} (k .0) (all-each l (k .1)) x m
+
+  pub each-all : (l : List A) → ((x : A) → List·Memᴰ x l → p x ≡ true) → allOf p l ≡ true
+  each-all [] h = refl
+  each-all (y ∷ l) h = and-is (h y (List·Memᴰ·head refl)) (each-all l (λ x k. h x (List·Memᴰ·tail k)))
+
+  pub any-some : (l : List A) → anyOf p l ≡ true → (x : A) × List·Memᴰ x l × (p x ≡ true)
+  any-some [] h = absurd (true≢false (sym h))
+  any-some (y ∷ l) h = step (any-some l) (or-true (p y) (anyOf p l) h)
+    where
+      step : (anyOf p l ≡ true → (x : A) × List·Memᴰ x l × (p x ≡ true)) → (p y ≡ true) ⊎ (anyOf p l ≡ true)
+          → (x : A) × List·Memᴰ x (y ∷ l) × (p x ≡ true)
+      step ih (inl e) = (y, List·Memᴰ·head refl, e)
+      step ih (inr j) = (ih j .0, List·Memᴰ·tail (ih j .1), ih j .2)
+
+  pub some-any : (l : List A) {x : A} → List·Memᴰ x l → p x ≡ true → anyOf p l ≡ true
+  some-any [] k e = absurd (List·Memᴰ·not-nil k)
+  some-any (y ∷ l) {x} k e = step (λ j. some-any l j e) (List·Memᴰ·cases-cons k)
+    where
+      step : (List·Memᴰ x l → anyOf p l ≡ true) → (x ≡ y) ⊎ List·Memᴰ x l → anyOf p (y ∷ l) ≡ true
+      step ih (inl q) = or-left (anyOf p l) (ap p (sym q) ∙ e)
+      step ih (inr j) = or-right (p y) (anyOf p l) (ih j)
+
+  -- what none has each has not, and the other way round
+  pub none-has : (l : List A) → anyOf p l ≡ false → (x : A) → List·Memᴰ x l → p x ≡ false
+  none-has [] h x m = absurd (List·Memᴰ·not-nil m)
+  none-has (y ∷ l) h x m = let k = or-false (p y) (anyOf p l) h in
+      each-cons {p = λ z. p z ≡ false} (k .0) (none-has l (k .1)) x m
+
+  pub any-none : (l : List A) → ((x : A) → List·Memᴰ x l → p x ≡ false) → anyOf p l ≡ false
+  any-none [] h = refl
+  any-none (y ∷ l) h = rw (h y (List·Memᴰ·head refl)) (any-none l (λ x m. h x (List·Memᴰ·tail m)))
+
+  -- an element found is one that p takes
+  pub find-some : (l : List A) → isSome (find p l) ≡ true
+      → (x : A) × List·Memᴰ x l × (p x ≡ true) × (find p l ≡ some x)
+  find-some [] h = absurd (false≢true h)
+  find-some (y ∷ l) h = go (p y) refl (find-some l)
+    where
+      go : (b : Bool) → p y ≡ b
+          → (isSome (find p l) ≡ true → (x : A) × List·Memᴰ x l × (p x ≡ true) × (find p l ≡ some x))
+          → (x : A) × List·Memᴰ x (y ∷ l) × (p x ≡ true) × (cond b (some y) (find p l) ≡ some x)
+      go true e later = (y, List·Memᴰ·head refl, e, refl)
+      go false e later = let r = later (rw e at h) in (r .0, List·Memᴰ·tail (r .1), r .2, r .3)
+
+  pub found : (u : A) (l : List A) → isSome (find p l) ≡ true
+      → List·Memᴰ (Option·getD (find p l) u) l × (p (Option·getD (find p l) u) ≡ true)
+  found u l h = let r = find-some l h in rw (r .3) (r .1, r .2)
 
 -- what stands in one of several lists
 pub in-flatMap : {A B : Type 0} (f : A → List B) (l : List A) (y : B) → List·Memᴰ y (flatMap f l)

@@ -12,6 +12,7 @@ use Rattle.lists.specs.Members.{Distinct}
 use Rattle.lists.proofs.Bools.{same-true, and-true}
 use Rattle.lists.proofs.Perms.{perm-of-distinct}
 use Rattle.lists.proofs.Counts.{count-in}
+use Rattle.lists.proofs.Members.{all-each}
 use Rattle.planar_maps.specs.Map.{Arc, Dart, fwd, bwd, Linked}
 use Rattle.planar_maps.specs.Rings.{sameDart, Leads}
 use Rattle.planar_maps.specs.Pieces.{Within, nums}
@@ -20,7 +21,6 @@ use Rattle.planar_maps.proofs.Rings.{sameDart-true, next-in}
 use Rattle.map.specs.Rows.{Node, Edge, Map, edge, hasNode, hasEdge, hasFace}
 use Rattle.map.specs.Darts.{arcs, directed, leaves, arrives, next, bears}
 use Rattle.map.specs.Form.{linksOnce, linksMeet, ringsBearOne, formed}
-use Rattle.map.proofs.Scans.{all-each}
 use Rattle.map.proofs.Laws.{Formed, formed-is, edge-row, node-there, names}
 
 -- the arc of a row

@@ -5,11 +5,12 @@ use mathlib.Core.Bool.{Bool, true, false, cond}
 use mathlib.Core.Option.{some, Option·map}
 use Prim.Native.Nat.{ℕ}
 use Rattle.lists.specs.Tests.{same}
+use Rattle.lists.proofs.Members.{find-some}
+use Rattle.lists.proofs.Lookups.{find-map, has-map}
 use Rattle.planar_maps.specs.Map.{Dart}
 use Rattle.map.specs.Rows.{Edge, Map, findEdge, edge, hasEdge}
 use Rattle.map.specs.Darts.{next}
 use Rattle.map.specs.Links.{withLinks, instead, redirect}
-use Rattle.map.proofs.Scans.{find-some, find-map, has-map}
 use Rattle.map.proofs.Laws.{edge-is}
 
 module _ (old new : Dart) (m : Map) where

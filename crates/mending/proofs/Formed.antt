@@ -14,6 +14,7 @@ use Rattle.lists.specs.Members.{Distinct}
 use Rattle.lists.proofs.Bools.{same-eq, and-true, and-is}
 use Rattle.lists.proofs.Maps.{all-mapped}
 use Rattle.lists.proofs.Perms.{perm-of-distinct}
+use Rattle.lists.proofs.Members.{all-each, each-all}
 use Rattle.plane.specs.Directions.{Way}
 use Rattle.planar_maps.specs.Map.{Arc, Dart, rev, Linked}
 use Rattle.planar_maps.specs.Pieces.{nums}
@@ -33,7 +34,6 @@ use Rattle.map.specs.Form.{linksMeet, ringsBearOne, formed}
 use Rattle.map.specs.Links.{clockwise}
 use Rattle.map.proofs.Laws.{numbers-are}
 use Rattle.map.proofs.Linked.{nums-rows, starts, ends, links-keep}
-use Rattle.map.proofs.Scans.{all-each, each-all}
 use Rattle.grown.proofs.Readings.{leaves-row, edge-row, arc-at, dart-has, departs, departing}
 use Rattle.grown.proofs.RowChanges.{node-row}
 use Rattle.grown.proofs.EdgesLaw.{from-in}

@@ -5,11 +5,11 @@ use mathlib.Core.Bool.{Bool, true, _&&_, true≢false}
 use mathlib.Core.List.{List·Memᴰ}
 use Rattle.lists.specs.Scans.{allOf}
 use Rattle.lists.proofs.Bools.{which, not-true, and-true, and-is}
+use Rattle.lists.proofs.Members.{all-each, each-all}
 use Rattle.map.specs.Rows.{Edge, Map, Lent, mapOf, hasNode, hasEdge, hasFace}
 use Rattle.map.specs.Form.{ranged, numbers, inFace, edgeNames, named, curveFits, departuresDiffer, bareMarked}
 use Rattle.map.specs.Form.{linksOnce, linksMeet, ringsBearOne, formed, inForm}
 use Rattle.map.proofs.Laws.{formed-is, names}
-use Rattle.map.proofs.Scans.{all-each, each-all}
 use Rattle.mending.specs.Mend.{sidesNamed, sketched}
 use Rattle.mending.specs.Claims.{linksNamed, SketchedButFor}
 

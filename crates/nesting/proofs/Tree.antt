@@ -14,7 +14,7 @@ use Rattle.lists.specs.Members.{Distinct}
 use Rattle.lists.proofs.Bools.{which, ⊕-false, same-refl, same-true, same-eq, or-true, or-left, or-right, and-true}
 use Rattle.lists.proofs.Bools.{and-is}
 use Rattle.lists.proofs.Keeps.{keep-in, keep-has, distinct-keep}
-use Rattle.lists.proofs.Members.{find-has}
+use Rattle.lists.proofs.Members.{find-has, find-some, any-some, some-any}
 use Rattle.lists.proofs.Perms.{distinct-injective, distinct-length}
 use Rattle.planar_maps.specs.Map.{Arc, Dart, fwd, bwd, rev}
 use Rattle.planar_maps.specs.Pieces.{Chain, label, Isolated}
@@ -27,7 +27,6 @@ use Rattle.map.specs.Rows.{Node, Map, node}
 use Rattle.map.specs.Rows as rows
 use Rattle.map.specs.Darts.{arcs, directed, leaves, next, bears}
 use Rattle.map.specs.Form.{formed}
-use Rattle.map.proofs.Scans.{find-some, any-some, some-any}
 use Rattle.grown.specs.Good.{Good}
 use Rattle.grown.proofs.Readings.{faceIn, arcOf, bears-row, edge-row, arc-at, dart-has}
 use Rattle.grown.proofs.RowChanges.{nodeNumber, node-at}

@@ -1,13 +1,13 @@
 -- A map depends on `tail`, `next` and `face` only at its own darts. Assumes nothing.
-use mathlib.Core.Path.{_≡_, refl, sym, ap, _∙_, subst}
+use mathlib.Core.Path.{_≡_, sym, ap, _∙_, subst}
 use mathlib.Core.List.{List, List·Memᴰ, List·Permᴰ}
 use Prim.Native.Nat.{ℕ, zero, suc}
-use Rattle.lists.specs.Tests.{iterate}
 use Rattle.lists.proofs.Members.{map-cong}
 use Rattle.planar_maps.specs.Map.{Arc, Dart, fwd, bwd, rev, darts, Linked, Colouring}
 use Rattle.planar_maps.specs.Planar.{Planar}
 use Rattle.planar_maps.specs.Rings.{turn, OneTurn}
 use Rattle.planar_maps.proofs.Cycles.{fwd-in, bwd-in}
+use Rattle.planar_maps.proofs.Leads.{leads-through}
 use Rattle.planar_maps.proofs.Rings.{rev-in, next-in}
 
 pub colouring-agree : (es : List Arc) (face face′ : Dart → ℕ)
@@ -30,24 +30,9 @@ module _ {es : List Arc} {tail tail′ : Dart → ℕ} {next next′ : Dart → 
   }
 
   pub turn-agree : OneTurn es tail next → OneTurn es tail′ next′
-  turn-agree one d d′ m m′ e = (one d d′ m m′ same .0, steps (one d d′ m m′ same .0) .1 ∙ one d d′ m m′ same .1)
-    where
-      same : tail d ≡ tail d′
-      same = sym (ht d m) ∙ e ∙ ht d′ m′
-
-      steps : (k : ℕ) → List·Memᴰ (iterate k (turn next) d) (darts es)
-          × (iterate k (turn next′) d ≡ iterate k (turn next) d)
-      steps zero = (m, refl)
-      steps (suc k) = go (steps k)
-        where
-          go : List·Memᴰ (iterate k (turn next) d) (darts es) × (iterate k (turn next′) d ≡ iterate k (turn next) d)
-              → List·Memᴰ (iterate (suc k) (turn next) d) (darts es)
-              × (iterate (suc k) (turn next′) d ≡ iterate (suc k) (turn next) d)
-          go r = (
-            next-in l (rev-in es (r .0)),
-            ap (turn next′) (r .1)
-                ∙ hn (rev (iterate k (turn next) d)) (rev-in es (r .0)),
-          )
+  turn-agree one d d′ m m′ e =
+      leads-through (turn next) (turn next′) (λ c. c) (darts es) (λ c k. next-in l (rev-in es k))
+      (λ c k. (suc zero, hn (rev c) (rev-in es k))) m (one d d′ m m′ (sym (ht d m) ∙ e ∙ ht d′ m′))
 
 -- a map in the plane depends on its functions only at its own darts: how a changed table is seen to be what a theorem
 -- speaks of

@@ -2,12 +2,12 @@
 use mathlib.Core.Path.{_≡_, refl, sym, ap, ap₂, _∙_}
 use mathlib.Core.Logic.{inl, inr}
 use mathlib.Core.Bool.{Bool, true, false, _&&_}
-use mathlib.Core.List.{List, [], _∷_, List·Memᴰ, List·Memᴰ·head, List·Memᴰ·tail}
+use mathlib.Core.List.{List, [], _∷_, List·Memᴰ, List·Memᴰ·head, List·Memᴰ·tail, List·Memᴰ·not-nil}
 use Prim.Native.Nat.{ℕ}
 use Rattle.lists.specs.Tests.{_⊕_, same}
 use Rattle.lists.specs.Scans.{oddCount}
 use Rattle.lists.proofs.Bools.{eq2, eq3, eq4, ⊕-self, which, same-refl, same-false}
-use Rattle.lists.proofs.Members.{each-cons}
+use Rattle.lists.proofs.Members.{each-cons, each-two}
 use Rattle.lists.proofs.Sums.{sum-cong, sum-⊕, sum-perm, sum-map}
 use Rattle.planar_maps.specs.Map.{Arc, Dart, fwd, bwd, rev, darts, across, Cycle, Divides, Colouring, Linked}
 
@@ -18,6 +18,13 @@ fwd-in (List·Memᴰ·tail m) = List·Memᴰ·tail (List·Memᴰ·tail (fwd-in m
 pub bwd-in : {a : Arc} {es : List Arc} → List·Memᴰ a es → List·Memᴰ (bwd (a .num)) (darts es)
 bwd-in (List·Memᴰ·head e) = List·Memᴰ·tail (List·Memᴰ·head (ap (λ (a : Arc). bwd (a .num)) e))
 bwd-in (List·Memᴰ·tail m) = List·Memᴰ·tail (List·Memᴰ·tail (bwd-in m))
+
+-- both ways of each edge
+pub each-dart : (P : Dart → Type 0) (es : List Arc) → ((a : Arc) → List·Memᴰ a es → P (fwd (a .num)))
+    → ((a : Arc) → List·Memᴰ a es → P (bwd (a .num))) → (d : Dart) → List·Memᴰ d (darts es) → P d
+each-dart P [] f b d m = absurd (List·Memᴰ·not-nil m)
+each-dart P (a ∷ es) f b d m = each-two P (f a (List·Memᴰ·head refl)) (b a (List·Memᴰ·head refl))
+    (each-dart P es (λ c k. f c (List·Memᴰ·tail k)) (λ c k. b c (List·Memᴰ·tail k))) d m
 
 sum-darts : (es : List Arc) (h : Dart → Bool) → oddCount (darts es) h
     ≡ oddCount es (λ a. h (fwd (a .num)) ⊕ h (bwd (a .num)))

@@ -7,15 +7,15 @@ use mathlib.Core.List.{List·Permᴰ·cons, List·Permᴰ·swap, List·Permᴰ·
 use Prim.Native.Nat.{ℕ}
 use Rattle.lists.specs.Members.{Distinct}
 use Rattle.lists.proofs.Bools.{which, same-refl, same-false}
-use Rattle.lists.proofs.Members.{each-cons, map-cong}
+use Rattle.lists.proofs.Members.{each-cons, each-two, map-cong}
 use Rattle.lists.proofs.Perms.{perm-of-injective}
 use Rattle.planar_maps.specs.Map.{Arc, Dart, fwd, bwd, rev, darts, Linked}
 use Rattle.planar_maps.specs.Pieces.{nums}
 use Rattle.planar_maps.specs.Rings.{sameDart}
 use Rattle.planar_maps.specs.Weave.{exchange, hook, with-edge, lone}
-use Rattle.planar_maps.proofs.Cycles.{fwd-in, bwd-in}
+use Rattle.planar_maps.proofs.Cycles.{fwd-in, bwd-in, each-dart}
 use Rattle.planar_maps.proofs.Bridges.{Fresh}
-use Rattle.planar_maps.proofs.Rings.{sameDart-refl, sameDart-true, dart-cases, rev-in, next-in}
+use Rattle.planar_maps.proofs.Rings.{sameDart-refl, sameDart-true, rev-in, next-in}
 
 -- ---- darts
 
@@ -33,12 +33,10 @@ pub fwd≢bwd : {e f : ℕ} → (fwd e ≡ bwd f) → ⊥
 fwd≢bwd p = false≢true (ap (λ (d : Dart). d .back) p)
 
 pub fresh-dart : (a : Arc) (es : List Arc) {d : Dart} → Fresh a es → List·Memᴰ d (darts es) → (d .edge ≡ a .num) → ⊥
-fresh-dart a es {d} fresh m p = go (dart-cases es m)
+fresh-dart a es {d} fresh m = each-dart (λ d. (d .edge ≡ a .num) → ⊥) es other other d m
   where
-    go : (b : Arc) × List·Memᴰ b es × ((d ≡ fwd (b .num)) ⊎ (d ≡ bwd (b .num))) → ⊥
-    go r = fresh (Memᴰ·cast (sym p ∙ elim
-        (r .2) [ inl e ↦ ap (λ (d : Dart). d .edge) e | inr e ↦ ap (λ (d : Dart). d .edge) e ])
-        (Memᴰ·map (λ a. a .num) (r .1)))
+    other : (b : Arc) → List·Memᴰ b es → (b .num ≡ a .num) → ⊥
+    other b k p = fresh (Memᴰ·cast (sym p) (Memᴰ·map (λ c. c .num) k))
 
 pub distinct-darts : (es : List Arc) → Distinct (nums es) → Distinct (darts es)
 distinct-darts [] dis = tt
@@ -139,16 +137,14 @@ module _ {a : Arc} {es : List Arc} (fresh : Fresh a es) {tail : Dart → ℕ} {n
         (List·Permᴰ·cons refl (List·Permᴰ·cons refl
         (subst (λ k. List·Permᴰ k (darts es)) (sym (map-cong next⁺ next (darts es) (old (bwd e) (fwd e) next)))
         (l .perm))));
-    meets = each-cons {p = λ d. tail⁺ (next⁺ d) ≡ tail⁺ (rev d)} (ap tail⁺ to-bwd)
-        (each-cons {p = λ d. tail⁺ (next⁺ d) ≡ tail⁺ (rev d)} (ap tail⁺ to-fwd)
+    meets = each-two (λ d. tail⁺ (next⁺ d) ≡ tail⁺ (rev d)) (ap tail⁺ to-bwd) (ap tail⁺ to-fwd)
         (λ d m. ap tail⁺ (old (bwd e) (fwd e) next d m) ∙ old (a .from) (a .to) tail (next d) (next-in l m)
-        ∙ l .meets d m ∙ sym (old (a .from) (a .to) tail (rev d) (rev-in es m))));
-    keeps = each-cons {p = λ d. face⁺ (next⁺ d) ≡ face⁺ d}
+        ∙ l .meets d m ∙ sym (old (a .from) (a .to) tail (rev d) (rev-in es m)));
+    keeps = each-two (λ d. face⁺ (next⁺ d) ≡ face⁺ d)
         (ap face⁺ to-bwd ∙ with-bwd e φ φ face ∙ sym (with-fwd e φ φ face))
-        (each-cons {p = λ d. face⁺ (next⁺ d) ≡ face⁺ d}
         (ap face⁺ to-fwd ∙ with-fwd e φ φ face ∙ sym (with-bwd e φ φ face))
         (λ d m. ap face⁺ (old (bwd e) (fwd e) next d m) ∙ old φ φ face (next d) (next-in l m) ∙ l .keeps d m
-        ∙ sym (old φ φ face d m)));
+        ∙ sym (old φ φ face d m));
   }
     where
       e : ℕ

@@ -15,21 +15,13 @@ use Rattle.planar_maps.specs.Map.{Arc, Dart, fwd, bwd, rev, darts, Linke
 use Rattle.planar_maps.specs.Pieces.{Chain, stay, along, against, nums, Isolated}
 use Rattle.planar_maps.specs.Rings.{Leads, OneTurn}
 use Rattle.planar_maps.specs.Weave.{exchange, hook, Corner, alone, after, tie, Fits}
-use Rattle.planar_maps.proofs.Cycles.{fwd-in, bwd-in}
+use Rattle.planar_maps.proofs.Cycles.{fwd-in, bwd-in, each-dart}
+use Rattle.planar_maps.proofs.Leads.{leads-keep}
 use Rattle.planar_maps.proofs.Chains.{chain-join, chain-back, isolated-chain}
-use Rattle.planar_maps.proofs.Rings.{dart-cases, rev-in, next-in, ring, rings-unconnected}
+use Rattle.planar_maps.proofs.Rings.{rev-in, next-in, ring, rings-unconnected}
 use Rattle.planar_maps.proofs.Hooks.{sameDart?, fwd≢bwd, fresh-dart, distinct-darts, exchange-left}
 use Rattle.planar_maps.proofs.Hooks.{exchange-right, exchange-other}
 use Rattle.planar_maps.proofs.Turns.{rev-rev}
-
--- what f keeps holds wherever f leads
-pub leads-keep : (P : Dart → Type 0) (f : Dart → Dart) → ((d : Dart) → P d → P (f d)) → {c d : Dart} → P c
-    → Leads f c d → P d
-leads-keep P f h {c} pc r = subst P (r .1) (go (r .0))
-  where
-    go : (k : ℕ) → P (iterate k f c)
-    go zero = pc
-    go (suc k) = h (iterate k f c) (go k)
 
 leads? : {es : List Arc} {tail : Dart → ℕ} {next : Dart → Dart} {face : Dart → ℕ} → Linked es tail next face
     → (c d : Dart) → List·Memᴰ c (darts es) → Leads next c d ⊎ (Leads next c d → ⊥)
@@ -46,13 +38,9 @@ leads? {es} {next = next} l c d m = elim
 
 dart-chain : {es : List Arc} {tail : Dart → ℕ} {next : Dart → Dart} {face : Dart → ℕ} → Linked es tail next face
     → {d : Dart} → List·Memᴰ d (darts es) → Chain es (tail d) (tail (rev d))
-dart-chain {es} {tail} l {d} m = go (dart-cases es m)
-  where
-    go : (a : Arc) × List·Memᴰ a es × ((d ≡ fwd (a .num)) ⊎ (d ≡ bwd (a .num))) → Chain es (tail d) (tail (rev d))
-    go r = elim (r .2) [
-      | inl e ↦ rw (e, l .starts (r .0) (r .1), l .ends (r .0) (r .1)) (along (r .0) (r .1) stay)
-      | inr e ↦ rw (e, l .starts (r .0) (r .1), l .ends (r .0) (r .1)) (against (r .0) (r .1) stay)
-    ]
+dart-chain {es} {tail} l {d} m = each-dart (λ d. Chain es (tail d) (tail (rev d))) es
+    (λ a k. rw (l .starts a k, l .ends a k) (along a k stay))
+    (λ a k. rw (l .starts a k, l .ends a k) (against a k stay)) d m
 
 iterate-front : (f : Dart → Dart) (k : ℕ) (d : Dart) → iterate (suc k) f d ≡ iterate k f (f d)
 iterate-front f zero d = refl

@@ -1,12 +1,12 @@
 -- The empty map, a node put in or taken out, and the edges in another order. Assumes nothing.
 use mathlib.Core.Path.{_≡_, refl, sym, ap, _∙_}
-use mathlib.Core.Logic.{inl, inr}
 use mathlib.Core.Bool.{false, _&&_}
-use mathlib.Core.List.{List, [], _∷_, List·Memᴰ, List·Memᴰ·tail, List·Memᴰ·cases-cons, List·Memᴰ·not-nil, Memᴰ·cast}
+use mathlib.Core.List.{List, [], _∷_, List·Memᴰ, List·Memᴰ·tail, List·Memᴰ·not-nil, Memᴰ·cast}
 use mathlib.Core.List.{List·Permᴰ, List·Permᴰ·nil, List·Permᴰ·cons, List·Permᴰ·swap, List·Permᴰ·trans, Permᴰ·symm}
 use mathlib.Core.List.{Permᴰ·map}
 use Prim.Native.Nat.{ℕ}
 use native.Mathlib.Omega.{arith}
+use Rattle.lists.proofs.Members.{in-rest}
 use Rattle.lists.proofs.Perms.{perm-in, perm-length, perm-distinct}
 use Rattle.lists.proofs.Sums.{sum-perm}
 use Rattle.planar_maps.specs.Map.{Arc, Dart, fwd, bwd, darts, across, Linked}
@@ -57,17 +57,14 @@ planar-node-off {n} {nodes} {es} {faces = faces} p i = record {
   nodes-once = p .nodes-once .1;
   edges-once = p .edges-once;
   within = record {
-    starts = λ a m. other (i .starts a m) (p .within .starts a m);
-    ends = λ a m. other (i .ends a m) (p .within .ends a m);
+    starts = λ a m. in-rest (i .starts a m) (p .within .starts a m);
+    ends = λ a m. in-rest (i .ends a m) (p .within .ends a m);
   };
   linked = p .linked;
   one-turn = p .one-turn;
   colouring = p .colouring;
   euler = euler-node n nodes es faces i .1 (p .euler);
 }
-  where
-    other : {m : ℕ} → ((m ≡ n) → ⊥) → List·Memᴰ m (n ∷ nodes) → List·Memᴰ m nodes
-    other h m = elim (List·Memᴰ·cases-cons m) [ inl e ↦ absurd (h e) | inr k ↦ k ]
 
 -- ---- the edges in another order
 

@@ -2,8 +2,8 @@
 use mathlib.Core.Path.{_≡_, refl, sym, ap, ap₂, _∙_}
 use mathlib.Core.Logic.{_⊎_, inl, inr}
 use mathlib.Core.Bool.{Bool, true, false, _||_, Bool·beq, true≢false, false≢true, and-eq-true-iff}
-use mathlib.Core.List.{List, [], _∷_, List·Memᴰ, List·Memᴰ·head, List·Memᴰ·tail, List·Memᴰ·cases-cons}
-use mathlib.Core.List.{List·Memᴰ·not-nil, Memᴰ·map, Memᴰ·cast}
+use mathlib.Core.List.{List, List·Memᴰ}
+use mathlib.Core.List.{Memᴰ·map}
 use Prim.Native.Nat.{ℕ, zero, suc, _+_, _≤_}
 use native.Mathlib.Omega.{arith}
 use lib.ListN.{length}
@@ -16,29 +16,19 @@ use Rattle.lists.proofs.Counts.{count-map, count-perm, count-tight, count-all, 
 use Rattle.planar_maps.specs.Map.{Arc, Dart, fwd, bwd, rev, darts, Divides, Colouring, Linked}
 use Rattle.planar_maps.specs.Pieces.{Chain, stay, along, against, label}
 use Rattle.planar_maps.specs.Rings.{sameDart, Leads, turn, OneTurn}
-use Rattle.planar_maps.proofs.Cycles.{fwd-in, bwd-in, rim, rim-cycle}
+use Rattle.planar_maps.proofs.Cycles.{fwd-in, bwd-in, each-dart, rim, rim-cycle}
+use Rattle.planar_maps.proofs.Leads.{leads-keep}
 use Rattle.planar_maps.proofs.Chains.{label-of-chain, chain-of-label}
 
 pub dart-cases : (es : List Arc) {d : Dart} → List·Memᴰ d (darts es)
     → (a : Arc) × List·Memᴰ a es × ((d ≡ fwd (a .num)) ⊎ (d ≡ bwd (a .num)))
-dart-cases [] m = absurd (List·Memᴰ·not-nil m)
-dart-cases (a ∷ es) {d} m = step (dart-cases es) (List·Memᴰ·cases-cons m)
-  where
-    further : (a : Arc) × List·Memᴰ a es × ((d ≡ fwd (a .num)) ⊎ (d ≡ bwd (a .num)))
-        → (b : Arc) × List·Memᴰ b (a ∷ es) × ((d ≡ fwd (b .num)) ⊎ (d ≡ bwd (b .num)))
-    further r = (r .0, List·Memᴰ·tail (r .1), r .2)
-
-    step : (List·Memᴰ d (darts es) → (a : Arc) × List·Memᴰ a es × ((d ≡ fwd (a .num)) ⊎ (d ≡ bwd (a .num))))
-        → (d ≡ fwd (a .num)) ⊎ List·Memᴰ d (bwd (a .num) ∷ darts es)
-        → (b : Arc) × List·Memᴰ b (a ∷ es) × ((d ≡ fwd (b .num)) ⊎ (d ≡ bwd (b .num)))
-    step ih (inl e) = (a, List·Memᴰ·head refl, inl e)
-    step ih (inr k) = elim (List·Memᴰ·cases-cons k) [ inl e ↦ (a, List·Memᴰ·head refl, inr e) | inr n ↦ further (ih n) ]
+dart-cases es {d} m =
+    each-dart (λ d. (a : Arc) × List·Memᴰ a es × ((d ≡ fwd (a .num)) ⊎ (d ≡ bwd (a .num)))) es
+    (λ a k. (a, k, inl refl)) (λ a k. (a, k, inr refl)) d m
 
 pub rev-in : (es : List Arc) {d : Dart} → List·Memᴰ d (darts es) → List·Memᴰ (rev d) (darts es)
-rev-in es {d} m = go (dart-cases es m)
-  where
-    go : (a : Arc) × List·Memᴰ a es × ((d ≡ fwd (a .num)) ⊎ (d ≡ bwd (a .num))) → List·Memᴰ (rev d) (darts es)
-    go r = elim (r .2) [ inl e ↦ Memᴰ·cast (ap rev e) (bwd-in (r .1)) | inr e ↦ Memᴰ·cast (ap rev e) (fwd-in (r .1)) ]
+rev-in es {d} m =
+    each-dart (λ d. List·Memᴰ (rev d) (darts es)) es (λ a k. bwd-in k) (λ a k. fwd-in k) d m
 
 module _ {es : List Arc} {tail : Dart → ℕ} {next : Dart → Dart} {face : Dart → ℕ} (l : Linked es tail next face) where
   pub next-in : {d : Dart} → List·Memᴰ d (darts es) → List·Memᴰ (next d) (darts es)
@@ -54,21 +44,10 @@ module _ {es : List Arc} {tail : Dart → ℕ} {next : Dart → Dart} {face : Da
   module _ (one : OneTurn es tail next) (h : Dart → Bool)
       (along-next : (d : Dart) → List·Memᴰ d (darts es) → h (next d) ≡ h d)
       (across-edge : (d : Dart) → List·Memᴰ d (darts es) → h (rev d) ≡ h d) where
-    turned : (k : ℕ) (d : Dart) → List·Memᴰ d (darts es)
-        → List·Memᴰ (iterate k (turn next) d) (darts es) × (h (iterate k (turn next) d) ≡ h d)
-    turned zero d m = (m, refl)
-    turned (suc k) d m = step (turned k d m)
-      where
-        step : List·Memᴰ (iterate k (turn next) d) (darts es) × (h (iterate k (turn next) d) ≡ h d)
-            → List·Memᴰ (iterate (suc k) (turn next) d) (darts es) × (h (iterate (suc k) (turn next) d) ≡ h d)
-        step r = (
-          next-in (rev-in es (r .0)),
-          along-next (rev (iterate k (turn next) d)) (rev-in es (r .0))
-              ∙ across-edge (iterate k (turn next) d) (r .0) ∙ r .1,
-        )
-
     about : (d d′ : Dart) → List·Memᴰ d (darts es) → List·Memᴰ d′ (darts es) → tail d ≡ tail d′ → h d ≡ h d′
-    about d d′ m m′ e = sym (turned (one d d′ m m′ e .0) d m .1) ∙ ap h (one d d′ m m′ e .1)
+    about d d′ m m′ e = sym (leads-keep (λ c. List·Memᴰ c (darts es) × (h c ≡ h d)) (turn next)
+        (λ c r. let k = rev-in es (r .0) in (next-in k, along-next (rev c) k ∙ across-edge c (r .0) ∙ r .1)) (m, refl)
+        (one d d′ m m′ e) .1)
 
     piece-alike : {x y : ℕ} → Chain es x y → (d d′ : Dart) → List·Memᴰ d (darts es) → List·Memᴰ d′ (darts es)
         → tail d ≡ x → tail d′ ≡ y → h d ≡ h d′
@@ -109,13 +88,7 @@ module _ {es : List Arc} {tail : Dart → ℕ} {next : Dart → Dart} {face : Da
           (r .1 a k)
 
       h-rev : (d : Dart) → List·Memᴰ d (darts es) → h (rev d) ≡ h d
-      h-rev d m = go (dart-cases es m)
-        where
-          go : (a : Arc) × List·Memᴰ a es × ((d ≡ fwd (a .num)) ⊎ (d ≡ bwd (a .num))) → h (rev d) ≡ h d
-          go q = elim (q .2) [
-            | inl e ↦ rw e (sym (sides (q .0) (q .1)))
-            | inr e ↦ rw e (sides (q .0) (q .1))
-          ]
+      h-rev = each-dart (λ d. h (rev d) ≡ h d) es (λ a k. sym (sides a k)) sides
 
   -- L7: g holds along d₁'s ring and not at d₂, of the same face
   rings-apart : Colouring es face → OneTurn es tail next → (g : Dart → Bool)
@@ -278,15 +251,11 @@ pub record Parted (es : List Arc) (tail : Dart → ℕ) (face : Dart → ℕ) (d
 -- both ways of an edge leave one piece
 pub label-rev : {es : List Arc} {tail : Dart → ℕ} {next : Dart → Dart} {face : Dart → ℕ} → Linked es tail next face
     → (d : Dart) → List·Memᴰ d (darts es) → label es (tail (rev d)) ≡ label es (tail d)
-label-rev {es} {tail} l d m = go (dart-cases es m)
+label-rev {es} {tail} l =
+    each-dart (λ d. label es (tail (rev d)) ≡ label es (tail d)) es (λ a k. sym (ends a k)) ends
   where
-    go : (a : Arc) × List·Memᴰ a es × ((d ≡ fwd (a .num)) ⊎ (d ≡ bwd (a .num)))
-        → label es (tail (rev d)) ≡ label es (tail d)
-    go q =
-        let e : label es (tail (fwd (q .0 .num))) ≡ label es (tail (bwd (q .0 .num))) =
-        ap (label es) (l .starts (q .0) (q .1)) ∙ label-of-chain (along (q .0) (q .1) stay)
-        ∙ ap (label es) (sym (l .ends (q .0) (q .1))) in
-        elim (q .2) [ inl k ↦ rw k (sym e) | inr k ↦ rw k e ]
+    ends : (a : Arc) → List·Memᴰ a es → label es (tail (fwd (a .num))) ≡ label es (tail (bwd (a .num)))
+    ends a k = ap (label es) (l .starts a k) ∙ label-of-chain (along a k stay) ∙ ap (label es) (sym (l .ends a k))
 
 pub ring-parts : {es : List Arc} {tail : Dart → ℕ} {next : Dart → Dart} {face : Dart → ℕ} → Linked es tail next face
     → Colouring es face → OneTurn es tail next → (d₁ : Dart) → List·Memᴰ d₁ (darts es) → Parted es tail face d₁
@@ -294,8 +263,7 @@ ring-parts {es} {tail} {next} {face} l P one d₁ m₁ = record {
   side = r .0;
   on = g .0;
   first = g .1;
-  one = λ d e. let q = g .3 d e in let k = led (q .0) in
-      (ap face (sym (q .1)) ∙ k .1, ap (λ c. label es (tail c)) (sym (q .1)) ∙ k .2);
+  one = λ d e. let k = led d (g .3 d e) in (k .1, k .2);
   alike = λ d d′ m m′ e. r .1 d d′ m m′ (chain-of-label es (tail d) (tail d′) e);
 }
   where
@@ -307,16 +275,12 @@ ring-parts {es} {tail} {next} {face} l P one d₁ m₁ = record {
         → S (face d) ⊕ g .0 d ≡ S (face d′) ⊕ g .0 d′)
     r = ring-sides l P one (g .0) (λ d m. g .2 d)
 
-    led : (k : ℕ) → List·Memᴰ (iterate k next d₁) (darts es) × (face (iterate k next d₁) ≡ face d₁)
-        × (label es (tail (iterate k next d₁)) ≡ label es (tail d₁))
-    led zero = (m₁, refl, refl)
-    led (suc k) = step (iterate k next d₁) (led k)
-      where
-        step : (d : Dart) → List·Memᴰ d (darts es) × (face d ≡ face d₁) × (label es (tail d) ≡ label es (tail d₁))
-            → List·Memᴰ (next d) (darts es) × (face (next d) ≡ face d₁)
-            × (label es (tail (next d)) ≡ label es (tail d₁))
-        step d h = (
+    led : (d : Dart) → Leads next d₁ d → List·Memᴰ d (darts es) × (face d ≡ face d₁)
+        × (label es (tail d) ≡ label es (tail d₁))
+    led d = leads-keep (λ d. List·Memᴰ d (darts es) × (face d ≡ face d₁) × (label es (tail d) ≡ label es (tail d₁)))
+        next
+        (λ d h. (
           next-in l (h .0),
           l .keeps d (h .0) ∙ h .1,
           ap (label es) (l .meets d (h .0)) ∙ label-rev l d (h .0) ∙ h .2,
-        )
+        )) (m₁, refl, refl)

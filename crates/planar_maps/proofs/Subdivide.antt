@@ -9,18 +9,37 @@ use Rattle.lists.specs.Tests.{_⊕_, same}
 use Rattle.lists.specs.Scans.{oddCount}
 use Rattle.lists.specs.Members.{Distinct}
 use Rattle.lists.proofs.Bools.{eq1, eq3, eq4, ⊕-equal, same-refl, same-false}
-use Rattle.lists.proofs.Members.{each-cons}
+use Rattle.lists.proofs.Members.{each-cons, each-two}
 use Rattle.lists.proofs.Sums.{sum-cong, sum-zero}
 use Rattle.planar_maps.specs.Map.{Arc, Dart, fwd, bwd, darts, across, Cycle, Colouring}
 use Rattle.planar_maps.specs.Pieces.{Chain, stay, along, against, pieces, Within, Isolated, nums}
+use Rattle.planar_maps.specs.Weave.{renamed}
 use Rattle.planar_maps.proofs.Cycles.{fwd-in, bwd-in}
+use Rattle.planar_maps.proofs.Rings.{sameDart-refl}
+use Rattle.planar_maps.proofs.Hooks.{sameDart-false, fwd≢bwd}
 use Rattle.planar_maps.proofs.Chains.{chain-join, chain-more, chain-image, connected?, isolated-chain}
 use Rattle.planar_maps.proofs.Chains.{pieces-isolated, pieces-loop, pieces-bridge}
 
 abbrev pub arc : ℕ → ℕ → ℕ → Arc
 arc e s t = record { num = e; from = s; to = t }
 
--- the edge e from s to t, as against e from s to n and e′ from n to t
+-- ---- departures renamed
+
+pub renamed-at : (e e′ : ℕ) → renamed e e′ (bwd e) ≡ bwd e′
+unfolding renamed
+renamed-at e e′ = rw (sameDart-refl (bwd e))
+
+pub renamed-other : (e e′ : ℕ) (d : Dart) → ((d ≡ bwd e) → ⊥) → renamed e e′ d ≡ d
+unfolding renamed
+renamed-other e e′ d h = rw (sameDart-false d (bwd e) h)
+
+pub renamed-fwd : (e e′ k : ℕ) → renamed e e′ (fwd k) ≡ fwd k
+renamed-fwd e e′ k = renamed-other e e′ (fwd k) fwd≢bwd
+
+pub renamed-old : (e e′ : ℕ) {d : Dart} → ((d .edge ≡ e) → ⊥) → renamed e e′ d ≡ d
+renamed-old e e′ {d} h = renamed-other e e′ d (λ p. h (ap (λ (c : Dart). c .edge) p))
+
+-- ---- the edge e from s to t, as against e from s to n and e′ from n to t
 module _ (e e′ s n t : ℕ) (es : List Arc) where
   abbrev pub whole : List Arc
   whole = arc e s t ∷ es
@@ -33,6 +52,16 @@ module _ (e e′ s n t : ℕ) (es : List Arc) where
     pub others : (d : Dart) → List·Memᴰ d (darts whole) → new d ≡ old d
     pub left : new (fwd e′) ≡ old (fwd e)
     pub right : new (bwd e′) ≡ old (bwd e)
+
+  pub halves-within : {nodes : List ℕ} → Within nodes whole → Within (n ∷ nodes) halves
+  halves-within {nodes} w = record {
+    starts = each-two (λ a. List·Memᴰ (a .from) (n ∷ nodes))
+        (List·Memᴰ·tail (w .starts (arc e s t) (List·Memᴰ·head refl))) (List·Memᴰ·head refl)
+        (λ a m. List·Memᴰ·tail (w .starts a (List·Memᴰ·tail m)));
+    ends = each-two (λ a. List·Memᴰ (a .to) (n ∷ nodes)) (List·Memᴰ·head refl)
+        (List·Memᴰ·tail (w .ends (arc e s t) (List·Memᴰ·head refl)))
+        (λ a m. List·Memᴰ·tail (w .ends a (List·Memᴰ·tail m)));
+  }
 
   module _ (lone : Isolated n es) (s≢n : (s ≡ n) → ⊥) (t≢n : (t ≡ n) → ⊥) where
     halves-equal : (c : ℕ → Bool) → Cycle halves c → c e ≡ c e′
@@ -56,7 +85,7 @@ module _ (e e′ s n t : ℕ) (es : List Arc) where
             (eq1 (λ x. x && false) (λ x. false) tt (c (a .num))))
 
     pub subdivide-keeps : (old new : Dart → ℕ) → Alike old new → Colouring whole old → Colouring halves new
-    subdivide-keeps old new alike P c cycle = (S, each-cons {p = divided} first (each-cons {p = divided} second others))
+    subdivide-keeps old new alike P c cycle = (S, each-two divided first second others)
       where
         both : c e ≡ c e′
         both = halves-equal c cycle
@@ -129,16 +158,7 @@ module _ (e e′ s n t : ℕ) (es : List Arc) where
     ]
       where
         within : Within (n ∷ nodes) halves
-        within = record {
-          starts = each-cons {p = λ a. List·Memᴰ (a .from) (n ∷ nodes)}
-              (List·Memᴰ·tail (w .starts (arc e s t) (List·Memᴰ·head refl)))
-              (each-cons {p = λ a. List·Memᴰ (a .from) (n ∷ nodes)} (List·Memᴰ·head refl)
-              (λ a m. List·Memᴰ·tail (w .starts a (List·Memᴰ·tail m))));
-          ends = each-cons {p = λ a. List·Memᴰ (a .to) (n ∷ nodes)} (List·Memᴰ·head refl)
-              (each-cons {p = λ a. List·Memᴰ (a .to) (n ∷ nodes)}
-              (List·Memᴰ·tail (w .ends (arc e s t) (List·Memᴰ·head refl)))
-              (λ a m. List·Memᴰ·tail (w .ends a (List·Memᴰ·tail m))));
-        }
+        within = halves-within w
 
         added : pieces (n ∷ nodes) es ≡ suc (pieces (n ∷ nodes) (arc e′ n t ∷ es))
         added = pieces-bridge (n ∷ nodes) (arc e′ n t) es dis

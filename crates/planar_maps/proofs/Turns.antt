@@ -4,27 +4,17 @@ use mathlib.Core.Logic.{inl, inr}
 use mathlib.Core.Bool.{Bool·not-not}
 use mathlib.Core.List.{List, _∷_, List·Memᴰ, List·Memᴰ·head, List·Memᴰ·tail, List·Memᴰ·cases-cons}
 use Prim.Native.Nat.{ℕ, zero, suc}
-use Rattle.lists.specs.Tests.{iterate}
 use Rattle.lists.proofs.Members.{each-cons}
 use Rattle.planar_maps.specs.Map.{Arc, Dart, rev, darts, Linked}
 use Rattle.planar_maps.specs.Rings.{Leads, turn, Round, OneTurn}
 use Rattle.planar_maps.specs.Weave.{exchange, Corner, alone, after, tie, Fits}
+use Rattle.planar_maps.proofs.Leads.{leads-join, leads-through}
 use Rattle.planar_maps.proofs.Rings.{rev-in, next-in}
 use Rattle.planar_maps.proofs.Hooks.{sameDart?, exchange-left, exchange-right, exchange-other, exchange-by}
 use Rattle.planar_maps.proofs.Hooks.{exchange-alike, exchange-in}
 
 pub rev-rev : (d : Dart) → rev (rev d) ≡ d
 rev-rev d = λ i. record { edge = d .edge; back = Bool·not-not (d .back) i }
-
-pub leads-on : {f : Dart → Dart} {c d : Dart} → Leads f c d → Leads f c (f d)
-leads-on {f} r = (suc (r .0), ap f (r .1))
-
-pub leads-join : {f : Dart → Dart} {b c d : Dart} → Leads f b c → Leads f c d → Leads f b d
-leads-join {f} {b} {c} {d} r q = subst (λ x. Leads f b x) (q .1) (go (q .0))
-  where
-    go : (k : ℕ) → Leads f b (iterate k f c)
-    go zero = r
-    go (suc k) = leads-on (go k)
 
 -- a turn that stays among the departures ds and at their nodes, one round for each node
 pub record Turning (ds : List Dart) (tail : Dart → ℕ) (f : Dart → Dart) : Type 0 where
@@ -85,16 +75,8 @@ module _ {ds : List Dart} {tail : Dart → ℕ} {f : Dart → Dart} (t : Turning
       | inr n ↦ (suc zero, ap f (exchange-other x y d n (new d m)))
     ]
 
-    steps : (k : ℕ) (d : Dart) → List·Memᴰ d ds → List·Memᴰ (iterate k f d) ds × Leads f′ d (iterate k f d)
-    steps zero d m = (m, (zero, refl))
-    steps (suc k) d m = go (steps k d m)
-      where
-        go : List·Memᴰ (iterate k f d) ds × Leads f′ d (iterate k f d) → List·Memᴰ (f (iterate k f d)) ds
-            × Leads f′ d (f (iterate k f d))
-        go r = (t .into (iterate k f d) (r .0), leads-join (r .1) (step (iterate k f d) (r .0)))
-
     old : (d d′ : Dart) → List·Memᴰ d ds → List·Memᴰ d′ ds → tail d ≡ tail d′ → Leads f′ d d′
-    old d d′ m m′ e = subst (λ c. Leads f′ d c) (t .round d d′ m m′ e .1) (steps (t .round d d′ m m′ e .0) d m .1)
+    old d d′ m m′ e = leads-through f f′ (λ c. c) ds (t .into) step m (t .round d d′ m m′ e)
 
     insert-after : Turning (y ∷ ds) tail (λ d. f (exchange x y d))
     unfolding f′

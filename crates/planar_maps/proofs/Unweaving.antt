@@ -2,12 +2,11 @@
 use mathlib.Core.Path.{_≡_, refl, sym, ap, _∙_, subst}
 use mathlib.Core.Logic.{inl, inr}
 use mathlib.Core.Bool.{cond}
-use mathlib.Core.List.{List, _∷_, List·Memᴰ, List·Memᴰ·head, List·Memᴰ·tail, List·Memᴰ·cases-cons, Memᴰ·of-map}
-use mathlib.Core.List.{Permᴰ·symm}
+use mathlib.Core.List.{List, _∷_, List·Memᴰ, List·Memᴰ·head, List·Memᴰ·tail, Memᴰ·of-map}
+use mathlib.Core.List.{List·Permᴰ·swap, Permᴰ·symm}
 use Prim.Native.Nat.{ℕ, zero, suc}
-use Rattle.lists.specs.Tests.{iterate}
 use Rattle.lists.specs.Members.{Distinct}
-use Rattle.lists.proofs.Members.{each-cons}
+use Rattle.lists.proofs.Members.{each-cons, in-rest}
 use Rattle.lists.proofs.Perms.{perm-in, perm-of-injective, injective-of-perm}
 use Rattle.planar_maps.specs.Map.{Arc, Dart, fwd, bwd, rev, darts, Linked}
 use Rattle.planar_maps.specs.Pieces.{nums, Within, Euler}
@@ -15,11 +14,12 @@ use Rattle.planar_maps.specs.Rings.{sameDart, Leads, turn, Round}
 use Rattle.planar_maps.specs.Weave.{exchange, Corner, alone, after, tie, Holds}
 use Rattle.planar_maps.specs.Planar.{Planar}
 use Rattle.planar_maps.proofs.Bridges.{Shrunk, shrunk-keeps}
+use Rattle.planar_maps.proofs.Leads.{leads-through}
 use Rattle.planar_maps.proofs.Rings.{rev-in, next-in, sameDart-refl}
 use Rattle.planar_maps.proofs.Hooks.{sameDart?, sameDart-false, fwd≢bwd, fresh-dart, distinct-darts}
 use Rattle.planar_maps.proofs.Hooks.{exchange-left, exchange-right, exchange-other, exchange-by, exchange-alike}
 use Rattle.planar_maps.proofs.Hooks.{exchange-in, hook-linked}
-use Rattle.planar_maps.proofs.Turns.{rev-rev, leads-join, Turning, turning, exchange-rev}
+use Rattle.planar_maps.proofs.Turns.{rev-rev, Turning, turning, exchange-rev}
 use Rattle.planar_maps.proofs.Euler.{euler-split, euler-one-face}
 
 -- ---- a departure y is taken out; it came after x
@@ -56,25 +56,13 @@ module _ {ds : List Dart} {tail : Dart → ℕ} {f : Dart → Dart} (y : Dart) (
     ]
   ]
 
-  steps : (k : ℕ) (d : Dart) → List·Memᴰ d (y ∷ ds) → List·Memᴰ (iterate k f d) (y ∷ ds)
-      × Leads f′ (φ d) (φ (iterate k f d))
-  steps zero d m = (m, (zero, refl))
-  steps (suc k) d m = go (steps k d m)
-    where
-      go : List·Memᴰ (iterate k f d) (y ∷ ds) × Leads f′ (φ d) (φ (iterate k f d))
-          → List·Memᴰ (f (iterate k f d)) (y ∷ ds) × Leads f′ (φ d) (φ (f (iterate k f d)))
-      go r = (t .into (iterate k f d) (r .0), leads-join (r .1) (step (iterate k f d) (r .0)))
-
-  drop : {d : Dart} → List·Memᴰ d (y ∷ ds) → ((d ≡ y) → ⊥) → List·Memᴰ d ds
-  drop m n = elim (List·Memᴰ·cases-cons m) [ inl e ↦ absurd (n e) | inr k ↦ k ]
-
   delete : Turning ds tail (λ d. f (exchange x y d))
   unfolding f′
   delete = record {
     into = exchange-by (λ d c. List·Memᴰ d ds → List·Memᴰ (f c) ds) x y
-        (λ m. drop (t .into y (List·Memᴰ·head refl)) (λ q. new x m (sym (only y (List·Memᴰ·head refl) q))))
+        (λ m. in-rest (λ q. new x m (sym (only y (List·Memᴰ·head refl) q))) (t .into y (List·Memᴰ·head refl)))
         (λ m. absurd (new y m refl))
-        (λ d n k m. drop (t .into d (List·Memᴰ·tail m)) (λ q. n (only d (List·Memᴰ·tail m) q)));
+        (λ d n k m. in-rest (λ q. n (only d (List·Memᴰ·tail m) q)) (t .into d (List·Memᴰ·tail m)));
     stays = λ d m. t .stays (exchange x y d) (exchange-in x y mx (List·Memᴰ·head refl) d (List·Memᴰ·tail m))
         ∙ exchange-alike tail x y (sym (t .stays x mx) ∙ ap tail x-y) d;
     round = round;
@@ -82,10 +70,9 @@ module _ {ds : List Dart} {tail : Dart → ℕ} {f : Dart → Dart} (y : Dart) (
     where
       round : Round ds tail f′
       round d d′ m m′ e = subst (λ c. Leads f′ c d′) (φ-other d (new d m))
-          (subst (λ c. Leads f′ (φ d) c) (ap φ (r .1) ∙ φ-other d′ (new d′ m′)) (steps (r .0) d (List·Memᴰ·tail m) .1))
-        where
-          r : Leads f d d′
-          r = t .round d d′ (List·Memᴰ·tail m) (List·Memᴰ·tail m′) e
+          (subst (λ c. Leads f′ (φ d) c) (φ-other d′ (new d′ m′))
+          (leads-through f f′ φ (y ∷ ds) (t .into) step (List·Memᴰ·tail m)
+          (t .round d d′ (List·Memᴰ·tail m) (List·Memᴰ·tail m′) e)))
 
 exchange-same : (y d : Dart) → exchange y y d ≡ d
 exchange-same y = exchange-by (λ d c. c ≡ d) y y refl refl (λ d p q. refl)
@@ -149,14 +136,9 @@ restrict a es {N = N} l dis nf nb = record {
     other d z m mz e q = fresh-dart a es (dis .0) m (ap (λ (d : Dart). d .edge) (inj d z (more m) mz q) ∙ e)
 
     into : (d : Dart) → List·Memᴰ d (darts es) → List·Memᴰ (N d) (darts es)
-    into d m = elim (List·Memᴰ·cases-cons (next-in l (more m))) [
-      | inl q ↦ absurd (other d (bwd (a .num)) m (List·Memᴰ·tail (List·Memᴰ·head refl)) refl (q ∙ sym nb))
-      | inr i ↦ elim (List·Memᴰ·cases-cons i) [
-        | inl q ↦ absurd
-            (other d (fwd (a .num)) m (List·Memᴰ·head refl) refl (q ∙ sym nf))
-        | inr j ↦ j
-      ]
-    ]
+    into d m = in-rest (λ q. other d (fwd (a .num)) m (List·Memᴰ·head refl) refl (q ∙ sym nf))
+        (in-rest (λ q. other d (bwd (a .num)) m (List·Memᴰ·tail (List·Memᴰ·head refl)) refl (q ∙ sym nb))
+        (next-in l (more m)))
 
 -- ---- the edge a is taken out of its corners k′ and k; μ makes its two faces one
 
@@ -217,14 +199,10 @@ module _ {nodes : List ℕ} {a : Arc} {es : List Arc} {tail : Dart → ℕ} {nex
   after-linked = restrict a es l₂ dis f₀ b₀
 
   swap-in : (d : Dart) → List·Memᴰ d (bwd (a .num) ∷ fwd (a .num) ∷ darts es) → List·Memᴰ d (darts (a ∷ es))
-  swap-in = each-cons {p = λ d. List·Memᴰ d (darts (a ∷ es))} inb
-      (each-cons {p = λ d. List·Memᴰ d (darts (a ∷ es))} inf (λ d i. List·Memᴰ·tail (List·Memᴰ·tail i)))
+  swap-in d i = perm-in (List·Permᴰ·swap refl refl) i
 
   swap-out : (d : Dart) → List·Memᴰ d (darts (a ∷ es)) → List·Memᴰ d (bwd (a .num) ∷ fwd (a .num) ∷ darts es)
-  swap-out = each-cons {p = λ d. List·Memᴰ d (bwd (a .num) ∷ fwd (a .num) ∷ darts es)}
-      (List·Memᴰ·tail (List·Memᴰ·head refl))
-      (each-cons {p = λ d. List·Memᴰ d (bwd (a .num) ∷ fwd (a .num) ∷ darts es)} (List·Memᴰ·head refl)
-      (λ d i. List·Memᴰ·tail (List·Memᴰ·tail i)))
+  swap-out d i = perm-in (List·Permᴰ·swap refl refl) i
 
   t₂ : Turning (bwd (a .num) ∷ fwd (a .num) ∷ darts es) tail (turn next)
   t₂ = record {
@@ -252,10 +230,8 @@ module _ {nodes : List ℕ} {a : Arc} {es : List Arc} {tail : Dart → ℕ} {nex
     where
       there : (p : Dart) → N₁ p ≡ fwd (a .num) → List·Memᴰ p (darts (a ∷ es))
           → List·Memᴰ (rev p) (fwd (a .num) ∷ darts es)
-      there p e i = elim (List·Memᴰ·cases-cons (swap-out (rev p) (rev-in (a ∷ es) i))) [
-        | inl q ↦ absurd (fwd≢bwd (sym e ∙ ap N₁ (sym (rev-rev p) ∙ ap rev q) ∙ f₁))
-        | inr j ↦ j
-      ]
+      there p e i = in-rest (λ q. fwd≢bwd (sym e ∙ ap N₁ (sym (rev-rev p) ∙ ap rev q) ∙ f₁))
+          (swap-out (rev p) (rev-in (a ∷ es) i))
 
   rest : Within nodes es
   rest = record {

@@ -1,9 +1,10 @@
 -- An edge is put in at two corners of one face. Assumes nothing.
 use mathlib.Core.Path.{_≡_, refl, sym, ap, _∙_, subst}
-use mathlib.Core.List.{List, _∷_, List·Memᴰ, List·Memᴰ·head, List·Memᴰ·tail, Memᴰ·cast}
+use mathlib.Core.List.{List, _∷_, List·Memᴰ, List·Memᴰ·head, List·Memᴰ·tail, Memᴰ·cast, List·Permᴰ·swap}
 use Prim.Native.Nat.{ℕ, suc}
 use Rattle.lists.specs.Members.{Distinct}
 use Rattle.lists.proofs.Members.{each-cons}
+use Rattle.lists.proofs.Perms.{perm-in}
 use Rattle.planar_maps.specs.Map.{Arc, Dart, fwd, bwd, rev, darts, Linked, Colouring}
 use Rattle.planar_maps.specs.Pieces.{Chain, nums, Within}
 use Rattle.planar_maps.specs.Rings.{Leads, turn, OneTurn}
@@ -121,10 +122,7 @@ module _ {nodes : List ℕ} {es : List Arc} {tail : Dart → ℕ} {next : Dart �
       (subst (λ n. Fits (fwd (a .num) ∷ darts es) T F n φ k′) (sym te) fits′)
 
   swapped : (d : Dart) → List·Memᴰ d (darts (a ∷ es)) → List·Memᴰ d (bwd (a .num) ∷ fwd (a .num) ∷ darts es)
-  swapped = each-cons {p = λ d. List·Memᴰ d (bwd (a .num) ∷ fwd (a .num) ∷ darts es)}
-      (List·Memᴰ·tail (List·Memᴰ·head refl))
-      (each-cons {p = λ d. List·Memᴰ d (bwd (a .num) ∷ fwd (a .num) ∷ darts es)} (List·Memᴰ·head refl)
-      (λ d m. List·Memᴰ·tail (List·Memᴰ·tail m)))
+  swapped d m = perm-in (List·Permᴰ·swap refl refl) m
 
   woven-turn : OneTurn (a ∷ es) T (woven (a .num) k k′ next)
   woven-turn d d′ m m′ q = both .round d d′ (swapped d m) (swapped d′ m′) q

@@ -72,13 +72,15 @@ pub fn orient(a: Point, b: Point, c: Point) -> Turn
     Turn::Straight
 }
 
-fn least(a: u64, b: u64) -> u64
+// The lesser of two numbers.
+pub fn least(a: u64, b: u64) -> u64
     ensures { λ r. ⌜ r ≡ min a b ⌝ }
 {
     if a < b { a } else { b }
 }
 
-fn greatest(a: u64, b: u64) -> u64
+// The greater of two numbers.
+pub fn greatest(a: u64, b: u64) -> u64
     ensures { λ r. ⌜ r ≡ max a b ⌝ }
 {
     if a < b { b } else { a }

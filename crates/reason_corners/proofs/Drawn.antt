@@ -12,7 +12,7 @@ use lib.ListN.{length, length-map, length-append}
 use Rattle.lists.specs.Tests.{same}
 use Rattle.lists.specs.Scans.{find, isSome, keep}
 use Rattle.lists.proofs.Bools.{equal?, same-eq, same-refl, same-false, not-true}
-use Rattle.lists.proofs.Keeps.{keep-swap, keep-all, keep-append}
+use Rattle.lists.proofs.Keeps.{keep-swap, keep-all, keep-append, keep-cong}
 use Rattle.lists.proofs.Members.{map-cong}
 use Rattle.plane.specs.Directions.{Way}
 use Rattle.curves.specs.Curves.{Curve, curveOf, startWay}
@@ -37,7 +37,6 @@ use Rattle.links.proofs.Darts.{dart-named, row-named}
 use Rattle.links.proofs.Departures.{departures-map}
 use Rattle.grown.proofs.Readings.{Relinked, numberOf, arcOf, has-number, nums-rows, edge-row, row-has, dart-has}
 use Rattle.grown.proofs.Readings.{departs, edge-by, tailIn, nextIn, leaves-row, next-row, course-row, way-row, next-by}
-use Rattle.grown.proofs.Readings.{keep-cong}
 use Rattle.grown.proofs.RowChanges.{more-old, more-new, more-directed}
 use Rattle.grown.proofs.EdgesDrawn.{drawnRow, appended, linkIn-relinked, linkIn-next, linked-in}
 use Rattle.tables.proofs.Order.{same-pos}

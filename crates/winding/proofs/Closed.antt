@@ -5,12 +5,11 @@ use mathlib.Core.Logic.{inl, inr}
 use mathlib.Core.List.{List, [], _∷_, map, List·Memᴰ, List·Memᴰ·head, List·Memᴰ·tail, List·Memᴰ·not-nil}
 use mathlib.Core.List.{List·Memᴰ·append-cases, List·Permᴰ}
 use lib.IntN.{ℤ, pos, _+ℤ_, _-ℤ_}
-use Rattle.integers.specs.Solver.{con, _⊕_, _⊖_, _≐_, solve}
+use Rattle.integers.specs.Solver.{con, _⊕_, _⊖_, _≐_, solve, zero-of, of-zero}
 use Rattle.integers.specs.Totals.{total, total-cong, total--, total-++, total-map, total-perm}
 use Rattle.plane.specs.declared.Point.{Point}
 use Rattle.plane.specs.Below.{Segment}
 use Rattle.curves.specs.Curves.{Curve, segmentsOf, segments, lastOf, lastPoint}
-use Rattle.geometry.proofs.Segments.{zero-of, of-zero}
 use Rattle.winding.specs.Winding.{Closed, allSegments}
 
 -- two sums, equal but for what a closed list cancels

@@ -1,0 +1,2 @@
+-- What the numbers in a row name (`Named`).
+pub mod Named
