@@ -15,6 +15,7 @@ ghost use Rattle.lists.specs.declared.Found.the-variants.{At, Missing};
 ghost use Rattle.plane.specs.Points.{samePoint};
 ghost use Rattle.curves.specs.Curves.{Run, curveOf, lastPoint};
 ghost use Rattle.curves.specs.Tests.{neighboursDiffer};
+ghost use Rattle.map.specs.Limits.{nodeWidth, edgeWidth, faceWidth, maxNodes, maxEdges, maxFaces};
 ghost use Rattle.map.specs.Rows.{hasEdge, nodeOf, dartOf};
 ghost use Rattle.map.specs.Form.{inFace, named, curveFits};
 ghost use Rattle.tables.specs.Tables.{NodeRow, NodeRows, EdgeRow, EdgeRows, FaceRows, Rising, sameZ, column, nodesOf};
@@ -24,6 +25,7 @@ ghost use Rattle.form_ranges.specs.Ranges.{mapIn, faceMap, EdgesInOrder, InOrde
 
 // ---- names
 
+// Whether a row with the number exists.
 fn exists(t: &[i64], w: usize, count: usize, number: i64, index: &[u16]) -> bool
     requires { ⌜ Rising w (now t) count × (length (now index) ≡ 4096) ⌝ }
     ensures { λ r. ⌜ r ≡ anyOf (sameZ number) (column w (now (t .entry)) count) ⌝ }
@@ -35,9 +37,9 @@ fn exists(t: &[i64], w: usize, count: usize, number: i64, index: &[u16]) -> bool
     }
 }
 
-// The containing face of a node exists, where there is one.
+// Whether the containing face of a node exists, where there is one.
 fn node_names(row: &[i64], faces: &[i64], n: usize, index: &[u16]) -> bool
-    requires { ⌜ (length (now row) ≡ 4) × FaceRows (now faces) n × (length (now index) ≡ 4096) ⌝ }
+    requires { ⌜ (length (now row) ≡ nodeWidth) × FaceRows (now faces) n × (length (now index) ≡ 4096) ⌝ }
     ensures { λ r. ⌜ r ≡ inFace (faceMap (now (faces .entry)) n) (nodeOf (now (row .entry)) .face) ⌝ }
 {
     let z = row[map::NODE_FACE];
@@ -47,10 +49,11 @@ fn node_names(row: &[i64], faces: &[i64], n: usize, index: &[u16]) -> bool
     exists(faces, map::FACE_WIDTH, n, z, index)
 }
 
+// Whether the containing faces of all nodes exist.
 fn nodes_name_faces(nodes: &[i64], n: usize, faces: &[i64], f: usize, index: &[u16]) -> bool
-    requires { ⌜ (n * 4 ≤ length (now nodes)) × FaceRows (now faces) f × (length (now index) ≡ 4096) ⌝ }
-    ensures { λ r. ⌜ r ≡ allOf (λ k. inFace (faceMap (now (faces .entry)) f) (k .face))
-        (nodesOf (now (nodes .entry)) n) ⌝ }
+    requires { ⌜ (n * nodeWidth ≤ length (now nodes)) × FaceRows (now faces) f × (length (now index) ≡ 4096) ⌝ }
+    ensures { λ r. ⌜
+        r ≡ allOf (λ k. inFace (faceMap (now (faces .entry)) f) (k .face)) (nodesOf (now (nodes .entry)) n) ⌝ }
 {
     for i in 0..n {
         let a = i * map::NODE_WIDTH;
@@ -62,7 +65,7 @@ fn nodes_name_faces(nodes: &[i64], n: usize, faces: &[i64], f: usize, index: &[u
     true
 }
 
-// The rows that both sides of each edge name in columns k and k + 1.
+// Whether the rows exist that both sides of each edge name in columns k and k + 1; they are written.
 fn find_rows(
     t: &[i64],
     w: usize,
@@ -73,11 +76,14 @@ fn find_rows(
     index: &[u16],
     rows: &mut [u16],
 ) -> bool
-    requires { ⌜ Rising w (now t) n × (n ≤ 2000) × (count * 32 ≤ length (now edges)) × (k ≤ 30)
+    requires { ⌜ Rising w (now t) n × (n ≤ maxEdges)
+        × (count * edgeWidth ≤ length (now edges)) × (k + 2 ≤ edgeWidth)
         × (length (now index) ≡ 4096) × (count * 2 ≤ length (now rows)) ⌝ }
-    ensures { λ r. ⌜ (r ≡ allOf (λ i. anyOf (sameZ (getD (now (edges .entry)) (i * 32 + k) (pos 0)))
-        (column w (now (t .entry)) n) && anyOf (sameZ (getD (now (edges .entry)) (i * 32 + k + 1) (pos 0)))
-        (column w (now (t .entry)) n)) (table (λ i. i) 0 count))
+    ensures { λ r. ⌜
+        (r ≡ allOf (λ i.
+        anyOf (sameZ (getD (now (edges .entry)) (i * edgeWidth + k) (pos 0))) (column w (now (t .entry)) n)
+        && anyOf (sameZ (getD (now (edges .entry)) (i * edgeWidth + k + 1) (pos 0))) (column w (now (t .entry)) n))
+        (table (λ i. i) 0 count))
         × (length (now (rows .exit)) ≡ length (now (rows .entry)))
         × (r ≡ true → RowsNamed w (now (t .entry)) n (now (edges .entry)) k (now (rows .exit)) (count * 2)) ⌝ }
 {
@@ -107,11 +113,12 @@ fn edge_of(d: i64) -> i64
     d
 }
 
-// The position of the directed edge that a link names.
+// The position of the directed edge that a link names: found, or missing.
 fn find_position(edges: &[i64], count: usize, d: i64, index: &[u16]) -> Found
     requires { ⌜ EdgesInOrder (now edges) count × (length (now index) ≡ 4096) ⌝ }
     ensures { λ r. ⌜ (r ≡ Missing → hasEdge (edgeMap (now (edges .entry)) count) (natAbs d) ≡ false)
-        × ((q : ℕ) → r ≡ At q → (q < count * 2) × (dartAt (now (edges .entry)) q ≡ dartOf d)
+        × ((q : ℕ) → r ≡ At q
+        → (q < count * 2) × (dartAt (now (edges .entry)) q ≡ dartOf d)
         × (hasEdge (edgeMap (now (edges .entry)) count) (natAbs d) ≡ true)) ⌝ }
 {
     if d < map::LEAST_LINK {
@@ -124,11 +131,12 @@ fn find_position(edges: &[i64], count: usize, d: i64, index: &[u16]) -> Found
     Found::At(i * 2 + (d < 0) as usize)
 }
 
-// The positions that both links of each edge name.
+// Whether the edges exist that both links of each edge name; their positions are written.
 fn find_nexts(edges: &[i64], count: usize, index: &[u16], nexts: &mut [u16]) -> bool
-    requires { ⌜ EdgesInOrder (now edges) count × (count ≤ 2000) × (length (now index) ≡ 4096)
-        × (count * 2 ≤ length (now nexts)) ⌝ }
-    ensures { λ r. ⌜ (r ≡ allOf (λ e. hasEdge (edgeMap (now (edges .entry)) count) (e .nextLeft .edge)
+    requires { ⌜ EdgesInOrder (now edges) count × (count ≤ maxEdges)
+        × (length (now index) ≡ 4096) × (count * 2 ≤ length (now nexts)) ⌝ }
+    ensures { λ r. ⌜
+        (r ≡ allOf (λ e. hasEdge (edgeMap (now (edges .entry)) count) (e .nextLeft .edge)
         && hasEdge (edgeMap (now (edges .entry)) count) (e .nextRight .edge)) (edgesOf (now (edges .entry)) count))
         × (length (now (nexts .exit)) ≡ length (now (nexts .entry)))
         × (r ≡ true → NextsNamed (now (edges .entry)) count (now (nexts .exit)) (count * 2)) ⌝ }
@@ -158,8 +166,8 @@ fn find_nexts(edges: &[i64], count: usize, index: &[u16], nexts: &mut [u16]) -> 
     true
 }
 
-// Named rows exist. For each directed edge it leaves the row of the node where that starts, the position of its next,
-// and the row of the face that it bears.
+// Whether named rows exist. For each directed edge it writes the row of the node where that starts, the position of its
+// next, and the row of the face that it bears.
 pub fn names_exist(
     nodes: &[i64],
     edges: &[i64],
@@ -169,15 +177,21 @@ pub fn names_exist(
     nexts: &mut [u16],
     bears: &mut [u16],
 ) -> bool
-    requires { ⌜ ((h : _) × InOrder (now nodes) (now edges) (now faces) c h) × (c .nodes ≤ 1000) × (c .edges ≤ 2000)
-        × (c .faces ≤ 1000) × (length (now starts) ≡ 4000) × (length (now nexts) ≡ 4000)
-        × (length (now bears) ≡ 4000) ⌝ }
-    ensures { λ r. ⌜ ((h : _) → r ≡ named (mapIn (now (nodes .entry)) (now (edges .entry)) (now (faces .entry)) c h))
-        × (length (now (starts .exit)) ≡ 4000) × (length (now (nexts .exit)) ≡ 4000)
-        × (length (now (bears .exit)) ≡ 4000)
-        × (r ≡ true → RowsNamed 4 (now (nodes .entry)) (c .nodes) (now (edges .entry)) 1 (now (starts .exit))
-        (c .edges * 2) × NextsNamed (now (edges .entry)) (c .edges) (now (nexts .exit)) (c .edges * 2)
-        × RowsNamed 1 (now (faces .entry)) (c .faces) (now (edges .entry)) 5 (now (bears .exit)) (c .edges * 2)) ⌝ }
+    requires { ⌜ ((h : _) × InOrder (now nodes) (now edges) (now faces) c h)
+        × (c .nodes ≤ maxNodes) × (c .edges ≤ maxEdges) × (c .faces ≤ maxFaces)
+        × (length (now starts) ≡ maxEdges * 2)
+        × (length (now nexts) ≡ maxEdges * 2)
+        × (length (now bears) ≡ maxEdges * 2) ⌝ }
+    ensures { λ r. ⌜
+        ((h : _) → r ≡ named (mapIn (now (nodes .entry)) (now (edges .entry)) (now (faces .entry)) c h))
+        × (length (now (starts .exit)) ≡ maxEdges * 2)
+        × (length (now (nexts .exit)) ≡ maxEdges * 2)
+        × (length (now (bears .exit)) ≡ maxEdges * 2)
+        × (r ≡ true
+        → RowsNamed nodeWidth (now (nodes .entry)) (c .nodes) (now (edges .entry)) 1 (now (starts .exit)) (c .edges * 2)
+        × NextsNamed (now (edges .entry)) (c .edges) (now (nexts .exit)) (c .edges * 2)
+        × RowsNamed faceWidth (now (faces .entry)) (c .faces) (now (edges .entry)) 5 (now (bears .exit))
+        (c .edges * 2)) ⌝ }
 {
     // one index for the three tables in turn: what is left of the last is only a wrong first look
     let mut index = [0u16; tables::INDEX];
@@ -231,17 +245,20 @@ fn point_of(nodes: &[i64], i: usize) -> Point
 // Whether a curve of k points runs from u to v.
 fn runs_between(c: &[i64], k: usize, u: Point, v: Point) -> bool
     requires { ⌜ Run (now c) × (k ≡ length (now c) / 2) ⌝ }
-    ensures { λ r. ⌜ r ≡ (samePoint (curveOf (now (c .entry)) .first) u
-        && samePoint (lastPoint (curveOf (now (c .entry)))) v && neighboursDiffer (curveOf (now (c .entry)))) ⌝ }
+    ensures { λ r. ⌜
+        r ≡ (samePoint (curveOf (now (c .entry)) .first) u
+        && samePoint (lastPoint (curveOf (now (c .entry)))) v
+        && neighboursDiffer (curveOf (now (c .entry)))) ⌝ }
 {
     let first = plane::same_point(curves::point_at(c, 0), u);
     let last = plane::same_point(curves::point_at(c, k - 1), v);
     first & last & curves::neighbours_differ(c)
 }
 
+// Whether the curve of edge row i runs from its start node to its end node.
 fn curve_fits(nodes: &[i64], n: usize, edges: &[i64], i: usize, starts: &[u16]) -> bool
     requires { ⌜ NodeRows (now nodes) n × EdgeRow (now edges) i × (i * 2 + 2 ≤ length (now starts))
-        × RowsNamed 4 (now nodes) n (now edges) 1 (now starts) (i * 2 + 2) ⌝ }
+        × RowsNamed nodeWidth (now nodes) n (now edges) 1 (now starts) (i * 2 + 2) ⌝ }
     ensures { λ r. ⌜ r ≡ curveFits (nodeMap (now (nodes .entry)) n) (edgeAt (now (edges .entry)) i) ⌝ }
 {
     let c = tables::curve_of(edges, i);
@@ -257,9 +274,10 @@ fn curve_fits(nodes: &[i64], n: usize, edges: &[i64], i: usize, starts: &[u16]) 
     runs_between(c, k, from, to)
 }
 
+// Whether the curve of each edge runs from its start node to its end node.
 pub fn curves_fit(nodes: &[i64], n: usize, edges: &[i64], count: usize, starts: &[u16]) -> bool
     requires { ⌜ NodeRows (now nodes) n × EdgeRows (now edges) count × (count * 2 ≤ length (now starts))
-        × RowsNamed 4 (now nodes) n (now edges) 1 (now starts) (count * 2) ⌝ }
+        × RowsNamed nodeWidth (now nodes) n (now edges) 1 (now starts) (count * 2) ⌝ }
     ensures { λ r. ⌜ r ≡ allOf (curveFits (nodeMap (now (nodes .entry)) n)) (edgesOf (now (edges .entry)) count) ⌝ }
 {
     for i in 0..count {
