@@ -1,4 +1,4 @@
-// The desk: tickets as lines of text, answered as they come.
+// Tickets as lines of text, answered as they come.
 use map::Head;
 use outcomes::Done;
 use text::Parsed;
@@ -7,6 +7,7 @@ ghost use Prim.Native.Nat.{_≤_};
 ghost use lib.ListN.{length};
 ghost use Rattle.io.specs.Counts.{Counts};
 ghost use Rattle.lists.specs.Scans.{fold};
+ghost use Rattle.map.specs.Limits.{edgeWidth};
 ghost use Rattle.form_ranges.specs.Ranges.{lent};
 ghost use Rattle.outcomes.specs.Outcomes.{outcome};
 ghost use Rattle.console.specs.Lines.{countOf, lineAnswered, deskOf, keptBytes, served};
@@ -14,12 +15,31 @@ ghost use Rattle.console.specs.Lines.{countOf, lineAnswered, deskOf, kep
 // The bytes of a line that are kept: one more than a line may have.
 const KEPT: usize = text::LINE + 1;
 
+// The rows of each table.
+const ROWS: usize = 200;
+
+const NODE_CELLS: usize = ROWS * map::NODE_WIDTH;
+
+const EDGE_CELLS: usize = ROWS * map::EDGE_WIDTH;
+
+const FACE_CELLS: usize = ROWS * map::FACE_WIDTH;
+
+// The bytes that are read at a time.
+const INPUT: usize = 4096;
+
+// The bytes of an answer, at most: the refusal, the value and a line end.
+const ANSWER: usize = printing::DIGITS + printing::CELL + 1;
+
+// The bytes of a row, at most: a letter, the numbers of an edge and a line end.
+const ROW: usize = 1 + map::EDGE_WIDTH * printing::CELL + 1;
+
 // After some bytes of the input: the head after the lines that ended, and the length of the line that did not.
 pub struct State {
     pub head: Head,
     pub length: usize,
 }
 
+// How many numbers a line was parsed to.
 fn count_of(parsed: Parsed) -> usize
     ensures { λ r. ⌜ r ≡ countOf parsed ⌝ }
 {
@@ -29,7 +49,7 @@ fn count_of(parsed: Parsed) -> usize
     }
 }
 
-// One line, without its line end.
+// The answer to one line, which is given without its line end.
 pub fn answer_line(
     nodes: &mut [i64],
     edges: &mut [i64],
@@ -37,46 +57,48 @@ pub fn answer_line(
     h: Head,
     line: &[u8],
 ) -> Done
-    ensures { λ r. ⌜ outcome (now (nodes .exit)) (now (edges .exit)) (now (faces .exit)) r
+    ensures { λ r. ⌜
+        outcome (now (nodes .exit)) (now (edges .exit)) (now (faces .exit)) r
         ≡ lineAnswered (lent (now (nodes .entry)) (now (edges .entry)) (now (faces .entry)) h) (now (line .entry)) ⌝ }
 {
-    let mut list = [0i64; 500];
+    let mut list = [0i64; text::NUMBERS];
     let n = count_of(text::parse(line, &mut list));
     engine::ticket(nodes, edges, faces, h, &list[..n])
 }
 
 // ---- what is printed
 
+// Writes refusal and value.
 fn write_answer(refusal: u64, value: i64) {
-    let mut out = [0u8; 50];
+    let mut out = [0u8; ANSWER];
     let at = printing::write_natural(&mut out, 0, refusal);
     let end = printing::write_row(&mut out, at, &[value]);
     io::write_all(libc::STDOUT_FILENO, &out[..end]);
 }
 
-// A row of at most 32 numbers, after a letter.
+// Writes a row, no longer than an edge's, after a letter.
 fn write_tagged(tag: u8, row: &[i64])
-    requires { ⌜ length (now row) ≤ 32 ⌝ }
+    requires { ⌜ length (now row) ≤ edgeWidth ⌝ }
 {
-    let mut out = [0u8; 710];
+    let mut out = [0u8; ROW];
     out[0] = tag;
     let end = printing::write_row(&mut out, 1, row);
     io::write_all(libc::STDOUT_FILENO, &out[..end]);
 }
 
 // A count of rows; a number below 0 counts as 0.
-fn natural(z: i64) -> usize {
+fn clamped(z: i64) -> usize {
     if z < 0 {
         return 0;
     }
     z as usize
 }
 
-// The first `count` rows of a table, as far as it has them.
+// Writes the first `count` rows of a table, as far as it has them.
 fn write_rows(tag: u8, table: &[i64], width: usize, count: i64)
-    requires { ⌜ (1 ≤ width) × (width ≤ 32) ⌝ }
+    requires { ⌜ (1 ≤ width) × (width ≤ edgeWidth) ⌝ }
 {
-    let mut left = natural(count);
+    let mut left = clamped(count);
     let mut at = 0;
     while 0 < left {
         if table.len() - at < width {
@@ -89,7 +111,7 @@ fn write_rows(tag: u8, table: &[i64], width: usize, count: i64)
     }
 }
 
-// The head and the rows in use.
+// Writes the head and the rows in use.
 fn write_sheet(nodes: &[i64], edges: &[i64], faces: &[i64], h: Head) {
     write_tagged(
         b'H',
@@ -102,11 +124,12 @@ fn write_sheet(nodes: &[i64], edges: &[i64], faces: &[i64], h: Head) {
             h.next_face,
         ],
     );
-    write_rows(b'N', nodes, 4, h.nodes);
-    write_rows(b'E', edges, 32, h.edges);
-    write_rows(b'F', faces, 1, h.faces);
+    write_rows(b'N', nodes, map::NODE_WIDTH, h.nodes);
+    write_rows(b'E', edges, map::EDGE_WIDTH, h.edges);
+    write_rows(b'F', faces, map::FACE_WIDTH, h.faces);
 }
 
+// Writes an answer, with `rows` the head and the rows in use after it.
 fn write_done(nodes: &[i64], edges: &[i64], faces: &[i64], done: Done, rows: bool) {
     let head = done.head;
     write_answer(done.answer.refusal, done.answer.value);
@@ -117,6 +140,7 @@ fn write_done(nodes: &[i64], edges: &[i64], faces: &[i64], done: Done, rows: boo
 
 // ---- lines as they come
 
+// Answers a line and writes the answer; the head after it.
 fn serve_line(
     nodes: &mut [i64],
     edges: &mut [i64],
@@ -125,9 +149,10 @@ fn serve_line(
     line: &[u8],
     rows: bool,
 ) -> Head
-    ensures { λ r. ⌜ lent (now (nodes .exit)) (now (edges .exit)) (now (faces .exit)) r
-        ≡ lineAnswered (lent (now (nodes .entry)) (now (edges .entry)) (now (faces .entry)) h)
-        (now (line .entry)) .lent ⌝ }
+    ensures { λ r. ⌜
+        lent (now (nodes .exit)) (now (edges .exit)) (now (faces .exit)) r
+        ≡ lineAnswered (lent (now (nodes .entry)) (now (edges .entry)) (now (faces .entry)) h) (now (line .entry))
+        .lent ⌝ }
 {
     let done = answer_line(nodes, edges, faces, h, line);
     write_done(nodes, edges, faces, done, rows);
@@ -135,7 +160,7 @@ fn serve_line(
     head
 }
 
-// One byte of the input.
+// Takes one byte of the input: it ends a line, is kept, or is past what is kept.
 fn serve_byte(
     nodes: &mut [i64],
     edges: &mut [i64],
@@ -146,14 +171,16 @@ fn serve_byte(
     rows: bool,
 ) -> State
     requires { ⌜ (length (now line) ≡ keptBytes) × (state .length ≤ keptBytes) ⌝ }
-    ensures { λ r. ⌜ (deskOf (lent (now (nodes .exit)) (now (edges .exit)) (now (faces .exit)) (r .head))
-        (now (line .exit)) (r .length) ≡ served
-        (deskOf (lent (now (nodes .entry)) (now (edges .entry)) (now (faces .entry)) (state .head)) (now (line .entry))
-        (state .length)) b) × (r .length ≤ keptBytes) ⌝ }
+    ensures { λ r. ⌜
+        (deskOf (lent (now (nodes .exit)) (now (edges .exit)) (now (faces .exit)) (r .head))
+        (now (line .exit)) (r .length)
+        ≡ served (deskOf (lent (now (nodes .entry)) (now (edges .entry)) (now (faces .entry)) (state .head))
+        (now (line .entry)) (state .length)) b)
+        × (r .length ≤ keptBytes) ⌝ }
 {
     let n = state.length;
     let head = state.head;
-    if b == 10 {
+    if b == b'\n' {
         let next = serve_line(nodes, edges, faces, head, &line[..n], rows);
         return State {
             head: next,
@@ -170,7 +197,7 @@ fn serve_byte(
     state
 }
 
-// Some bytes of the input.
+// Takes some bytes of the input, one after the other.
 fn serve_bytes(
     nodes: &mut [i64],
     edges: &mut [i64],
@@ -181,10 +208,12 @@ fn serve_bytes(
     rows: bool,
 ) -> State
     requires { ⌜ (length (now line) ≡ keptBytes) × (state .length ≤ keptBytes) ⌝ }
-    ensures { λ r. ⌜ (deskOf (lent (now (nodes .exit)) (now (edges .exit)) (now (faces .exit)) (r .head))
-        (now (line .exit)) (r .length) ≡ fold served
-        (deskOf (lent (now (nodes .entry)) (now (edges .entry)) (now (faces .entry)) (state .head)) (now (line .entry))
-        (state .length)) (now (bytes .entry))) × (r .length ≤ keptBytes) ⌝ }
+    ensures { λ r. ⌜
+        (deskOf (lent (now (nodes .exit)) (now (edges .exit)) (now (faces .exit)) (r .head))
+        (now (line .exit)) (r .length)
+        ≡ fold served (deskOf (lent (now (nodes .entry)) (now (edges .entry)) (now (faces .entry)) (state .head))
+        (now (line .entry)) (state .length)) (now (bytes .entry)))
+        × (r .length ≤ keptBytes) ⌝ }
 {
     let mut at = state;
     for i in 0..bytes.len() {
@@ -193,14 +222,15 @@ fn serve_bytes(
     at
 }
 
-fn read_some(buf: &mut [u8; 4096]) -> usize
+// Reads some bytes of standard input; their count, 0 at its end.
+fn read_some(buf: &mut [u8; INPUT]) -> usize
     ensures { λ r. ⌜ Counts r (now (buf .exit)) ⌝ }
 {
     let got = libc::read(libc::STDIN_FILENO, buf);
     io::count(got, buf)
 }
 
-// Standard input to its end. The loop counts its turns down, from a number that no run uses up.
+// Answers standard input to its end. The loop counts its turns down, from a number that no run uses up.
 fn serve_input(
     nodes: &mut [i64],
     edges: &mut [i64],
@@ -212,7 +242,7 @@ fn serve_input(
     requires { ⌜ length (now line) ≡ keptBytes ⌝ }
     ensures { λ r. ⌜ r .length ≤ keptBytes ⌝ }
 {
-    let mut buf = [0u8; 4096];
+    let mut buf = [0u8; INPUT];
     let mut state = State { head: h, length: 0 };
     let mut turns = u64::MAX;
     while turns > 0 {
@@ -226,6 +256,7 @@ fn serve_input(
     state
 }
 
+// A head of zeros: what stands beside tables before they have a map.
 fn no_map() -> Head {
     Head {
         nodes: 0,
@@ -237,12 +268,12 @@ fn no_map() -> Head {
     }
 }
 
-// Standard input to its end, a ticket a line, in tables of 200 rows; each line is answered on standard output as it
-// comes, with `rows` the head and the rows in use after it.
+// Answers standard input to its end, a ticket a line, in tables of `ROWS` rows; each line is answered on standard
+// output as it comes, with `rows` the head and the rows in use after it.
 pub fn serve(rows: bool) {
-    let mut nodes = [0i64; 800];
-    let mut edges = [0i64; 6400];
-    let mut faces = [0i64; 200];
+    let mut nodes = [0i64; NODE_CELLS];
+    let mut edges = [0i64; EDGE_CELLS];
+    let mut faces = [0i64; FACE_CELLS];
     let mut line = [0u8; KEPT];
     let empty = engine::empty_map(&mut nodes, &mut edges, &mut faces, no_map());
     let start = empty.head;

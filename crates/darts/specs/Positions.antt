@@ -52,6 +52,10 @@ wayAt l p = startWay (course (odd p) (edgeAt l (p / 2) .curve))
 abbrev pub wayWith : List ℤ → ℕ → List ℤ → ℕ → Way
 wayWith l own c p = startWay (course (odd p) (cond (same (p / 2) own) (curveOf c) (edgeAt l (p / 2) .curve)))
 
+-- two points in range
+abbrev pub StepInRange : Step → Type 0
+StepInRange s = InRange (s .from) × InRange (s .to)
+
 -- two points in range that go in a direction
 pub record Along (s : Step) (v : Way) : Type 0 where
   pub way : wayTo (s .from) (s .to) ≡ v

@@ -7,26 +7,32 @@ ghost use mathlib.Core.Path.{_≡_};
 ghost use Prim.Native.Nat.{_+_, _*_, _/_, _<_, _≤_};
 ghost use lib.ListN.{length, set};
 ghost use Rattle.lists.specs.Tables.{place};
-ghost use Rattle.plane.specs.Points.{InRange};
 ghost use Rattle.plane.specs.Directions.{wayTo, signs, before as beforeWay, sameWay};
 ghost use Rattle.curves.specs.Curves.{Run, curveOf, startWay};
 ghost use Rattle.curves.specs.Edits.{course};
 ghost use Rattle.planar_maps.specs.Rings.{sameDart};
+ghost use Rattle.map.specs.Limits.{edgeWidth};
 ghost use Rattle.map.specs.Rows.{dartOf, dartCell};
 ghost use Rattle.map.specs.Darts.{directed, next};
 ghost use Rattle.tables.specs.Tables.{EdgeRow, EdgeRows, edgeMap};
-ghost use Rattle.darts.specs.Positions.{reverseOf, dartAt, sidePlace, sideCell, wayAt, wayWith, Along};
+ghost use Rattle.darts.specs.Positions.{reverseOf, dartAt, sidePlace, sideCell, wayAt, wayWith};
+ghost use Rattle.darts.specs.Positions.{StepInRange, Along};
 
-// A column pair of the edge rows: 1 the node that a directed edge leaves, 3 its next, 5 the face that it bears.
+// The places of a step's signs.
+pub const SIGN_PAIRS: usize = directions::SIGN_PAIRS;
+
+// The cell of a directed edge in a column pair of the edge rows: START the node that it leaves, NEXT_LEFT its next,
+// LEFT the face that it bears.
 pub fn dart_cell(edges: &[i64], p: usize, k: usize) -> i64
-    requires { ⌜ (p / 2 * 32 + 32 ≤ length (now edges)) × (k ≤ 30) ⌝ }
+    requires { ⌜ (p / 2 * edgeWidth + edgeWidth ≤ length (now edges)) × (k + 2 ≤ edgeWidth) ⌝ }
     ensures { λ r. ⌜ r ≡ sideCell (now (edges .entry)) p k ⌝ }
 {
     edges[p / 2 * map::EDGE_WIDTH + k + p % 2]
 }
 
+// Writes that cell.
 pub fn set_dart_cell(edges: &mut [i64], p: usize, k: usize, v: i64)
-    requires { ⌜ (p / 2 * 32 + 32 ≤ length (now edges)) × (k ≤ 30) ⌝ }
+    requires { ⌜ (p / 2 * edgeWidth + edgeWidth ≤ length (now edges)) × (k + 2 ≤ edgeWidth) ⌝ }
     ensures { λ r. ⌜ now (edges .exit) ≡ set (now (edges .entry)) (sidePlace p k) v ⌝ }
 {
     edges[p / 2 * map::EDGE_WIDTH + k + p % 2] = v;
@@ -49,7 +55,7 @@ pub fn dart_at(edges: &[i64], p: usize) -> i64
     if p % 2 == 0 { e } else { -e }
 }
 
-// The position of a directed edge.
+// The position of a directed edge: found, or missing.
 pub fn position_of(edges: &[i64], count: usize, d: i64) -> Found
     requires { ⌜ EdgeRows (now edges) count ⌝ }
     ensures { λ r. ⌜ r ≡ place (λ c. sameDart c (dartOf d)) 0 (directed (edgeMap (now (edges .entry)) count)) ⌝ }
@@ -74,7 +80,8 @@ pub fn position_of(edges: &[i64], count: usize, d: i64) -> Found
 // The position of what follows; in form it is never missing.
 pub fn next_position(edges: &[i64], count: usize, p: usize) -> usize
     requires { ⌜ EdgeRows (now edges) count × (p < count * 2) ⌝ }
-    ensures { λ r. ⌜ (r < count * 2) × (dartAt (now (edges .entry)) r
+    ensures { λ r. ⌜ (r < count * 2)
+        × (dartAt (now (edges .entry)) r
         ≡ next (edgeMap (now (edges .entry)) count) (dartAt (now (edges .entry)) p)) ⌝ }
 {
     let found = position_of(edges, count, dart_cell(edges, p, map::NEXT_LEFT));
@@ -126,7 +133,7 @@ pub fn step_at(edges: &[i64], p: usize) -> Step
     first_step(tables::curve_of(edges, p / 2), p % 2 == 1)
 }
 
-// The place of that step's signs among the nine.
+// The place of that step's signs among the pairs of signs.
 pub fn signs_at(edges: &[i64], p: usize) -> usize
     requires { ⌜ EdgeRow (now edges) (p / 2) ⌝ }
     ensures { λ r. ⌜ (r ≡ signs (wayAt (now (edges .entry)) p)) × (r < 9) ⌝ }
@@ -135,9 +142,11 @@ pub fn signs_at(edges: &[i64], p: usize) -> usize
     directions::signs_of(v.from, v.to)
 }
 
-// The first step where edge row `own` has the curve c; no row is, where `own` is past them all.
+// The first step of the directed edge at a position where edge row `own` has the curve c; no row has it, where `own` is
+// past them all.
 pub fn step_with(edges: &[i64], own: usize, c: &[i64], p: usize) -> Step
-    requires { ⌜ (p / 2 ≡ own → Run (now c)) × (((p / 2 ≡ own) → ⊥) → EdgeRow (now edges) (p / 2)) ⌝ }
+    requires { ⌜ (p / 2 ≡ own → Run (now c))
+        × (((p / 2 ≡ own) → ⊥) → EdgeRow (now edges) (p / 2)) ⌝ }
     ensures { λ r. ⌜ Along r (wayWith (now (edges .entry)) own (now (c .entry)) p) ⌝ }
 {
     if p / 2 == own {
@@ -147,15 +156,17 @@ pub fn step_with(edges: &[i64], own: usize, c: &[i64], p: usize) -> Step
     }
 }
 
+// Whether the direction of v comes before that of w, counterclockwise.
 pub fn before(v: Step, w: Step) -> bool
-    requires { ⌜ (InRange (v .from)) × (InRange (v .to)) × (InRange (w .from)) × (InRange (w .to)) ⌝ }
+    requires { ⌜ StepInRange v × StepInRange w ⌝ }
     ensures { λ r. ⌜ r ≡ beforeWay (wayTo (v .from) (v .to)) (wayTo (w .from) (w .to)) ⌝ }
 {
     directions::comes_before(v.from, v.to, w.from, w.to)
 }
 
+// Whether v and w have one direction.
 pub fn same_way(v: Step, w: Step) -> bool
-    requires { ⌜ (InRange (v .from)) × (InRange (v .to)) × (InRange (w .from)) × (InRange (w .to)) ⌝ }
+    requires { ⌜ StepInRange v × StepInRange w ⌝ }
     ensures { λ r. ⌜ r ≡ sameWay (wayTo (v .from) (v .to)) (wayTo (w .from) (w .to)) ⌝ }
 {
     directions::same_direction(v.from, v.to, w.from, w.to)

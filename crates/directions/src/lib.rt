@@ -7,13 +7,19 @@ ghost use mathlib.Core.Bool.{true, false};
 ghost use Prim.Native.Nat.{_+_, _*_, _≤_, _<_};
 ghost use lib.IntN.{pos, _-ℤ_};
 ghost use Rattle.integers.specs.Order.{sgn};
-ghost use Rattle.plane.specs.Points.{InRange};
+ghost use Rattle.plane.specs.Points.{InRange, maxCoordinate};
 ghost use Rattle.plane.specs.Areas.{turn, isLeft};
 ghost use Rattle.plane.specs.Directions.{wayTo, signPlace, signs, class, cross, before, sameWay};
 ghost use Rattle.plane.specs.Below.{isBelow, passesBelow, higher};
 
+// The signs: below, at and above 0.
+const SIGNS: usize = 3;
+
+// The pairs of signs.
+pub const SIGN_PAIRS: usize = SIGNS * SIGNS;
+
 // The eight direction classes by the signs of dx and dy, below, at and above 0; 8 where there is no direction.
-const CLASSES: [[u8; 3]; 3] = [[5, 4, 3], [6, 8, 2], [7, 0, 1]];
+const CLASSES: [[u8; SIGNS]; SIGNS] = [[5, 4, 3], [6, 8, 2], [7, 0, 1]];
 
 // The place of the sign of `to` less `from` in the table.
 fn sign_of(from: u64, to: u64) -> usize
@@ -28,13 +34,13 @@ fn sign_of(from: u64, to: u64) -> usize
     1
 }
 
-// The place of the signs of the direction from p to q among the nine.
+// The place of the signs of the direction from p to q among the pairs of signs.
 pub fn signs_of(p: Point, q: Point) -> usize
     ensures { λ r. ⌜ (r ≡ signs (wayTo p q)) × (r < 9) ⌝ }
 {
     let i = sign_of(p.x, q.x);
     let j = sign_of(p.y, q.y);
-    i * 3 + j
+    i * SIGNS + j
 }
 
 // The class of the direction from p to q.
@@ -74,6 +80,7 @@ pub fn cross_turn(a: Point, b: Point, c: Point, d: Point) -> Turn
     Turn::Straight
 }
 
+// Whether a turn is to the left.
 fn is_left(t: Turn) -> bool
     ensures { λ r. ⌜ r ≡ isLeft t ⌝ }
 {
@@ -142,7 +149,7 @@ pub fn passes_below(p: Point, a: Point, b: Point) -> bool
 // The part of the height of a b at x, times its run, that is added; with a and b exchanged it is the part that is taken
 // away.
 fn height_part(x: u64, a: Point, b: Point) -> u64
-    requires { ⌜ (x ≤ 1048575) × (InRange a) × (InRange b) ⌝ }
+    requires { ⌜ (x ≤ maxCoordinate) × (InRange a) × (InRange b) ⌝ }
     ensures { λ r. ⌜ (r ≡ a .y * b .x + x * b .y) × (r ≤ 2199019061250) ⌝ }
 {
     plane::times(a.y, b.x) + plane::times(x, b.y)
@@ -150,7 +157,7 @@ fn height_part(x: u64, a: Point, b: Point) -> u64
 
 // A height times a coordinate.
 fn lift(h: u64, x: u64) -> u64
-    requires { ⌜ (h ≤ 2199019061250) × (x ≤ 1048575) ⌝ }
+    requires { ⌜ (h ≤ 2199019061250) × (x ≤ maxCoordinate) ⌝ }
     ensures { λ r. ⌜ (r ≡ h * x) × (r ≤ 2305836412150218750) ⌝ }
 {
     h * x
@@ -159,10 +166,9 @@ fn lift(h: u64, x: u64) -> u64
 // The part that is added where the heights of a b and c d at x are compared over a common run; with a and b exchanged
 // it is the part taken away.
 fn lift_part(x: u64, a: Point, b: Point, c: Point, d: Point) -> u64
-    requires { ⌜ (x ≤ 1048575) × (InRange a) × (InRange b) × (InRange c) × (InRange d) ⌝ }
-    ensures { λ r. ⌜ r
-        ≡ (a .y * b .x + x * b .y) * d .x + (b .y * a .x + x * a .y) * c .x + (c .y * d .x + x * d .y) * a
-        .x + (d .y * c .x + x * c .y) * b .x ⌝ }
+    requires { ⌜ (x ≤ maxCoordinate) × (InRange a) × (InRange b) × (InRange c) × (InRange d) ⌝ }
+    ensures { λ r. ⌜ r ≡ (a .y * b .x + x * b .y) * d .x + (b .y * a .x + x * a .y) * c .x
+        + (c .y * d .x + x * d .y) * a .x + (d .y * c .x + x * c .y) * b .x ⌝ }
 {
     lift(height_part(x, a, b), d.x)
         + lift(height_part(x, b, a), c.x)
@@ -172,7 +178,7 @@ fn lift_part(x: u64, a: Point, b: Point, c: Point, d: Point) -> u64
 
 // Whether the segment a b is higher at x than c d, ties to the greater slope; both with their ends ordered by x.
 pub fn is_higher(x: u64, a: Point, b: Point, c: Point, d: Point) -> bool
-    requires { ⌜ (x ≤ 1048575) × (InRange a) × (InRange b) × (InRange c) × (InRange d) ⌝ }
+    requires { ⌜ (x ≤ maxCoordinate) × (InRange a) × (InRange b) × (InRange c) × (InRange d) ⌝ }
     ensures { λ r. ⌜ r ≡ higher x (record { from = a; to = b }) (record { from = c; to = d }) ⌝ }
 {
     let p = lift_part(x, a, b, c, d);

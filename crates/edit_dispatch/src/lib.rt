@@ -1,4 +1,4 @@
-// Fourteen kinds, chosen by the ticket's first number: a match on it decides argument count and edit.
+// The fourteen kinds of tickets, chosen by the ticket's first number: a match on it decides argument count and edit.
 use map::Head;
 use outcomes::Done;
 ghost use mathlib.Core.Path.{_≡_};
@@ -13,20 +13,36 @@ ghost use Rattle.edit_heal.specs.Kinds.{healTicket};
 ghost use Rattle.reason_edges.specs.Kinds.{addTicket, removeTicket};
 ghost use Rattle.edit_dispatch.specs.Shaped.{shaped};
 
+// The places of the arguments in a ticket, after its kind.
+const FIRST: usize = 1;
+
+const SECOND: usize = 2;
+
+const THIRD: usize = 3;
+
+// The length of a ticket with so many arguments; a curve follows there.
+const ONE_ARGUMENT: usize = FIRST + 1;
+
+const TWO_ARGUMENTS: usize = SECOND + 1;
+
+const THREE_ARGUMENTS: usize = THIRD + 1;
+
 // ---- the argument count of each kind
 
+// Kind 1, with three arguments.
 fn add_node(nodes: &mut [i64], edges: &[i64], faces: &[i64], h: Head, t: &[i64]) -> Done
     requires { ⌜ Formed (now nodes) (now edges) (now faces) h ⌝ }
     ensures { λ r. ⌜ outcome (now (nodes .exit)) (now (edges .entry)) (now (faces .entry)) r
         ≡ shaped (lent (now (nodes .entry)) (now (edges .entry)) (now (faces .entry)) h)
         (three AddIsoNode (drop 1 (now (t .entry)))) ⌝ }
 {
-    if t.len() != 4 {
+    if t.len() != THREE_ARGUMENTS {
         return outcomes::refused(h, 3);
     }
-    edit_nodes::add_node(nodes, edges, faces, h, t[1], t[2], t[3])
+    edit_nodes::add_node(nodes, edges, faces, h, t[FIRST], t[SECOND], t[THIRD])
 }
 
+// Kind 2, with three arguments.
 fn move_node(nodes: &mut [i64], edges: &[i64], h: Head, t: &[i64]) -> Done
     requires { ⌜ ((faces : _) × Formed (now nodes) (now edges) faces h) ⌝ }
     ensures { λ r. ⌜ ((faces : _) → Formed (now (nodes .entry)) (now (edges .entry)) faces h
@@ -34,24 +50,26 @@ fn move_node(nodes: &mut [i64], edges: &[i64], h: Head, t: &[i64]) -> Done
         ≡ shaped (lent (now (nodes .entry)) (now (edges .entry)) faces h)
         (three MoveIsoNode (drop 1 (now (t .entry))))) ⌝ }
 {
-    if t.len() != 4 {
+    if t.len() != THREE_ARGUMENTS {
         return outcomes::refused(h, 3);
     }
-    edit_nodes::move_node(nodes, edges, h, t[1], t[2], t[3])
+    edit_nodes::move_node(nodes, edges, h, t[FIRST], t[SECOND], t[THIRD])
 }
 
+// Kind 3, with one argument.
 fn remove_node(nodes: &mut [i64], h: Head, t: &[i64]) -> Done
     requires { ⌜ ((edges : _) × (faces : _) × Formed (now nodes) edges faces h) ⌝ }
     ensures { λ r. ⌜ ((edges : _) (faces : _) → Formed (now (nodes .entry)) edges faces h
         → outcome (now (nodes .exit)) edges faces r
         ≡ shaped (lent (now (nodes .entry)) edges faces h) (one RemoveIsoNode (drop 1 (now (t .entry))))) ⌝ }
 {
-    if t.len() != 2 {
+    if t.len() != ONE_ARGUMENT {
         return outcomes::refused(h, 3);
     }
-    edit_nodes::remove_node(nodes, h, t[1])
+    edit_nodes::remove_node(nodes, h, t[FIRST])
 }
 
+// Kind 4, with two arguments and a curve.
 fn add_lone_edge(nodes: &mut [i64], edges: &mut [i64], h: Head, t: &[i64]) -> Done
     requires { ⌜ ((faces : _) × Formed (now nodes) (now edges) faces h) ⌝ }
     ensures { λ r. ⌜ ((faces : _) → Formed (now (nodes .entry)) (now (edges .entry)) faces h
@@ -60,12 +78,13 @@ fn add_lone_edge(nodes: &mut [i64], edges: &mut [i64], h: Head, t: &[i64]) -> Do
         (twoCurve AddIsoEdge (drop 1 (now (t .entry))))) ⌝ }
 {
     let n = t.len();
-    if (n < 3) | (n % 2 == 0) {
+    if (n < TWO_ARGUMENTS) | (n % 2 == 0) {
         return outcomes::refused(h, 3);
     }
-    redraws::add_lone_edge(nodes, edges, h, t[1], t[2], &t[3..])
+    redraws::add_lone_edge(nodes, edges, h, t[FIRST], t[SECOND], &t[TWO_ARGUMENTS..])
 }
 
+// Kind 5, with one argument.
 fn remove_lone_edge(nodes: &mut [i64], edges: &mut [i64], h: Head, t: &[i64]) -> Done
     requires { ⌜ ((faces : _) × Formed (now nodes) (now edges) faces h) ⌝ }
     ensures { λ r. ⌜ ((faces : _) → Formed (now (nodes .entry)) (now (edges .entry)) faces h
@@ -73,12 +92,13 @@ fn remove_lone_edge(nodes: &mut [i64], edges: &mut [i64], h: Head, t: &[i64]) ->
         ≡ shaped (lent (now (nodes .entry)) (now (edges .entry)) faces h)
         (one RemoveIsoEdge (drop 1 (now (t .entry))))) ⌝ }
 {
-    if t.len() != 2 {
+    if t.len() != ONE_ARGUMENT {
         return outcomes::refused(h, 3);
     }
-    redraws::remove_lone_edge(nodes, edges, h, t[1])
+    redraws::remove_lone_edge(nodes, edges, h, t[FIRST])
 }
 
+// Kind 6, with one argument and a curve.
 fn change_curve(nodes: &[i64], edges: &mut [i64], h: Head, t: &[i64]) -> Done
     requires { ⌜ ((faces : _) × Formed (now nodes) (now edges) faces h) ⌝ }
     ensures { λ r. ⌜ ((faces : _) → Formed (now (nodes .entry)) (now (edges .entry)) faces h
@@ -87,12 +107,13 @@ fn change_curve(nodes: &[i64], edges: &mut [i64], h: Head, t: &[i64]) -> Done
         (oneCurve ChangeEdgeGeom (drop 1 (now (t .entry))))) ⌝ }
 {
     let n = t.len();
-    if (n < 2) | (n % 2 == 1) {
+    if (n < ONE_ARGUMENT) | (n % 2 == 1) {
         return outcomes::refused(h, 3);
     }
-    redraws::change_curve(nodes, edges, h, t[1], &t[2..])
+    redraws::change_curve(nodes, edges, h, t[FIRST], &t[ONE_ARGUMENT..])
 }
 
+// Kinds 7 and 8, with three arguments.
 fn split_edge(nodes: &mut [i64], edges: &mut [i64], h: Head, keeps: bool, t: &[i64]) -> Done
     requires { ⌜ ((faces : _) × Formed (now nodes) (now edges) faces h) ⌝ }
     ensures { λ r. ⌜ ((faces : _) → Formed (now (nodes .entry)) (now (edges .entry)) faces h
@@ -100,12 +121,13 @@ fn split_edge(nodes: &mut [i64], edges: &mut [i64], h: Head, keeps: bool, t: &[i
         ≡ shaped (lent (now (nodes .entry)) (now (edges .entry)) faces h)
         (three (splitTicket keeps) (drop 1 (now (t .entry))))) ⌝ }
 {
-    if t.len() != 4 {
+    if t.len() != THREE_ARGUMENTS {
         return outcomes::refused(h, 3);
     }
-    edit_split::split_edge(nodes, edges, h, keeps, t[1], t[2], t[3])
+    edit_split::split_edge(nodes, edges, h, keeps, t[FIRST], t[SECOND], t[THIRD])
 }
 
+// Kinds 9 and 10, with two arguments.
 fn heal_edges(nodes: &mut [i64], edges: &mut [i64], h: Head, keeps: bool, t: &[i64]) -> Done
     requires { ⌜ ((faces : _) × Formed (now nodes) (now edges) faces h) ⌝ }
     ensures { λ r. ⌜ ((faces : _) → Formed (now (nodes .entry)) (now (edges .entry)) faces h
@@ -113,12 +135,13 @@ fn heal_edges(nodes: &mut [i64], edges: &mut [i64], h: Head, keeps: bool, t: &[i
         ≡ shaped (lent (now (nodes .entry)) (now (edges .entry)) faces h)
         (two (healTicket keeps) (drop 1 (now (t .entry))))) ⌝ }
 {
-    if t.len() != 3 {
+    if t.len() != TWO_ARGUMENTS {
         return outcomes::refused(h, 3);
     }
-    edit_heal::heal_edges(nodes, edges, h, keeps, t[1], t[2])
+    edit_heal::heal_edges(nodes, edges, h, keeps, t[FIRST], t[SECOND])
 }
 
+// Kinds 11 and 12, with two arguments and a curve.
 fn add_edge(
     nodes: &mut [i64],
     edges: &mut [i64],
@@ -133,12 +156,22 @@ fn add_edge(
         (twoCurve (addTicket news) (drop 1 (now (t .entry)))) ⌝ }
 {
     let n = t.len();
-    if (n < 3) | (n % 2 == 0) {
+    if (n < TWO_ARGUMENTS) | (n % 2 == 0) {
         return outcomes::refused(h, 3);
     }
-    edit_add::add_edge(nodes, edges, faces, h, news, t[1], t[2], &t[3..])
+    edit_add::add_edge(
+        nodes,
+        edges,
+        faces,
+        h,
+        news,
+        t[FIRST],
+        t[SECOND],
+        &t[TWO_ARGUMENTS..],
+    )
 }
 
+// Kinds 13 and 14, with one argument.
 fn remove_edge(
     nodes: &mut [i64],
     edges: &mut [i64],
@@ -152,15 +185,15 @@ fn remove_edge(
         ≡ shaped (lent (now (nodes .entry)) (now (edges .entry)) (now (faces .entry)) h)
         (one (removeTicket news) (drop 1 (now (t .entry)))) ⌝ }
 {
-    if t.len() != 2 {
+    if t.len() != ONE_ARGUMENT {
         return outcomes::refused(h, 3);
     }
-    edit_remove::remove_edge(nodes, edges, faces, h, news, t[1])
+    edit_remove::remove_edge(nodes, edges, faces, h, news, t[FIRST])
 }
 
 // ---- the kinds
 
-// A ticket on tables in form.
+// Carries out a ticket on tables in form.
 pub fn edit(nodes: &mut [i64], edges: &mut [i64], faces: &mut [i64], h: Head, t: &[i64]) -> Done
     requires { ⌜ Formed (now nodes) (now edges) (now faces) h ⌝ }
     ensures { λ r. ⌜ outcome (now (nodes .exit)) (now (edges .exit)) (now (faces .exit)) r

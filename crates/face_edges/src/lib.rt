@@ -6,6 +6,7 @@ ghost use mathlib.Core.Path.{_≡_};
 ghost use mathlib.Core.List.{_++_};
 ghost use Prim.Native.Nat.{_+_, _*_, _≤_, _<_};
 ghost use lib.ListN.{length, drop};
+ghost use Rattle.map.specs.Limits.{lastNumber};
 ghost use Rattle.map.specs.Ticket.{faceEdges, edgesOfFace};
 ghost use Rattle.tables.specs.Tables.{edgeMap};
 ghost use Rattle.form_ranges.specs.Ranges.{lent};
@@ -14,7 +15,7 @@ ghost use Rattle.face_edges.specs.Listing.{Rings, Marked, Size};
 // How many numbers the ring of p takes, where p is the first member of a ring of the face, and 0 elsewhere; the ring is
 // marked.
 fn ring_size(edges: &[i64], count: usize, face: usize, p: usize, marks: &mut [u8]) -> usize
-    requires { ⌜ Rings (now edges) count × (face ≤ 999999) × (p < count * 2)
+    requires { ⌜ Rings (now edges) count × (face ≤ lastNumber) × (p < count * 2)
         × Marked (now edges) count face p (now marks) ⌝ }
     ensures { λ r. ⌜ Marked (now (edges .entry)) count face (p + 1) (now (marks .exit))
         × Size (now (edges .entry)) count face p r ⌝ }
@@ -27,7 +28,7 @@ fn ring_size(edges: &[i64], count: usize, face: usize, p: usize, marks: &mut [u8
 
 // How many numbers the rings of the face take.
 fn rings_size(edges: &[i64], count: usize, face: usize) -> usize
-    requires { ⌜ Rings (now edges) count × (face ≤ 999999) ⌝ }
+    requires { ⌜ Rings (now edges) count × (face ≤ lastNumber) ⌝ }
     ensures { λ r. ⌜ (r ≡ length (faceEdges (edgeMap (now (edges .entry)) count) face)) × (r ≤ 20000000) ⌝ }
 {
     let mut marks = [0u8; map::DARTS];
@@ -38,11 +39,13 @@ fn rings_size(edges: &[i64], count: usize, face: usize) -> usize
     size
 }
 
-// The rings of the face written from the front of the list.
+// Writes the rings of the face from the front of the list.
 fn write_rings(edges: &[i64], count: usize, face: usize, list: &mut [i64])
-    requires { ⌜ Rings (now edges) count × (face ≤ 999999)
+    requires { ⌜ Rings (now edges) count × (face ≤ lastNumber)
         × (length (faceEdges (edgeMap (now edges) count) face) ≤ length (now list)) ⌝ }
-    ensures { λ r. ⌜ now (list .exit) ≡ faceEdges (edgeMap (now (edges .entry)) count) face
+    ensures { λ r. ⌜
+        now (list .exit)
+        ≡ faceEdges (edgeMap (now (edges .entry)) count) face
         ++ drop (length (faceEdges (edgeMap (now (edges .entry)) count) face)) (now (list .entry)) ⌝ }
 {
     let mut marks = [0u8; map::DARTS];
@@ -57,14 +60,15 @@ fn write_rings(edges: &[i64], count: usize, face: usize, list: &mut [i64])
     }
 }
 
+// The answer of a refusal and a value.
 fn answered(refusal: u64, value: i64) -> Answer
     ensures { λ r. ⌜ r ≡ record { refusal = refusal; value = value } ⌝ }
 {
     Answer { refusal, value }
 }
 
-// The value is the count of numbers written; the list's remainder is untouched, and all of it where the call is turned
-// down.
+// Lists the edges of a face from the front of the list; the value is the count of numbers written. The list's remainder
+// is untouched, and all of it where the call is turned down.
 pub fn edges_of_face(
     nodes: &[i64],
     edges: &[i64],
@@ -73,7 +77,8 @@ pub fn edges_of_face(
     face: i64,
     list: &mut [i64],
 ) -> Answer
-    ensures { λ r. ⌜ record { list = now (list .exit); answer = r }
+    ensures { λ r. ⌜
+        record { list = now (list .exit); answer = r }
         ≡ edgesOfFace (lent (now (nodes .entry)) (now (edges .entry)) (now (faces .entry)) h) face
         (now (list .entry)) ⌝ }
 {

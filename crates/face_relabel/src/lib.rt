@@ -8,6 +8,7 @@ ghost use lib.ListN.{getD, length};
 ghost use Rattle.lists.specs.Tests.{same};
 ghost use Rattle.lists.specs.Tables.{sweep};
 ghost use Rattle.plane.specs.Points.{InRange};
+ghost use Rattle.map.specs.Limits.{nodeWidth, edgeWidth};
 ghost use Rattle.tables.specs.Tables.{EdgeRows, replaceAt, edgeAt};
 ghost use Rattle.darts.specs.Positions.{sideCell};
 ghost use Rattle.face_relabel.specs.Sharing.{Ringed, Shared, Placed, placeAt, Whole, encloses as enclosedBy};
@@ -46,11 +47,12 @@ fn point_in(nodes: &[i64], i: usize) -> Point
     }
 }
 
-// Isolated nodes of the old face.
+// Shares out the isolated nodes of the old face: each gets the number of its side.
 pub fn share_nodes(nodes: &mut [i64], n: usize, edges: &[i64], count: usize, s: Sides)
     requires { ⌜ Shared (now nodes) n (now edges) count s ⌝ }
-    ensures { λ r. ⌜ now (nodes .exit) ≡ sweep (nodeShared (now (nodes .entry)) n (now (edges .entry)) count s)
-        (now (nodes .entry)) 0 n ⌝ }
+    ensures { λ r. ⌜
+        now (nodes .exit)
+        ≡ sweep (nodeShared (now (nodes .entry)) n (now (edges .entry)) count s) (now (nodes .entry)) 0 n ⌝ }
 {
     for i in 0..n {
         if nodes[i * map::NODE_WIDTH + map::NODE_FACE] == s.old {
@@ -64,7 +66,8 @@ pub fn share_nodes(nodes: &mut [i64], n: usize, edges: &[i64], count: usize, s: 
 // other.
 fn mark_of_ring(nodes: &[i64], n: usize, edges: &[i64], count: usize, s: Sides, i: usize) -> u8
     requires { ⌜ Shared (now nodes) n (now edges) count s × (i < count) ⌝ }
-    ensures { λ r. ⌜ r ≡ markOf (now (edges .entry)) count (s .ring)
+    ensures { λ r. ⌜
+        r ≡ markOf (now (edges .entry)) count (s .ring)
         (startOf (now (nodes .entry)) n (edgeAt (now (edges .entry)) i)) ⌝ }
 {
     let found = tables::find_row(
@@ -83,12 +86,13 @@ fn mark_of_ring(nodes: &[i64], n: usize, edges: &[i64], count: usize, s: Sides, 
     }
 }
 
-// The rings of the old face that are not marked, marked by their sides.
+// Marks the rings of the old face that are not marked by their sides.
 fn mark_sides(nodes: &[i64], n: usize, edges: &[i64], count: usize, s: Sides, marks: &mut [u8])
     requires { ⌜ Shared (now nodes) n (now edges) count s × Ringed (now edges) count
         × Whole (now edges) count (now marks) ⌝ }
     ensures { λ r. ⌜ (length (now (marks .exit)) ≡ length (now (marks .entry)))
-        × ((q : ℕ) → q < count * 2 → sideCell (now (edges .entry)) q 5 ≡ s .old → getD (now (marks .exit)) q 0
+        × ((q : ℕ) → q < count * 2 → sideCell (now (edges .entry)) q 5 ≡ s .old
+        → getD (now (marks .exit)) q 0
         ≡ cond (same (getD (now (marks .entry)) q 0) 0)
         (ringMark (now (nodes .entry)) n (now (edges .entry)) count (s .ring) q) (getD (now (marks .entry)) q 0)) ⌝ }
 {
@@ -107,11 +111,11 @@ fn number_of(s: Sides, mark: u8) -> i64
     if mark == 1 { s.inside } else { s.other }
 }
 
-// The directed edges of the old face bear the number of their side.
+// Writes the number of their side to the directed edges of the old face.
 fn write_sides(edges: &mut [i64], count: usize, s: Sides, marks: &[u8])
-    requires { ⌜ (count * 32 ≤ length (now edges)) × (count * 2 ≤ length (now marks)) ⌝ }
-    ensures { λ r. ⌜ now (edges .exit) ≡ sweep (sideShared s (now (marks .entry))) (now (edges .entry)) 0
-        (count * 2) ⌝ }
+    requires { ⌜ (count * edgeWidth ≤ length (now edges)) × (count * 2 ≤ length (now marks)) ⌝ }
+    ensures { λ r. ⌜
+        now (edges .exit) ≡ sweep (sideShared s (now (marks .entry))) (now (edges .entry)) 0 (count * 2) ⌝ }
 {
     for p in 0..count * 2 {
         if darts::dart_cell(edges, p, map::LEFT) == s.old {
@@ -120,7 +124,7 @@ fn write_sides(edges: &mut [i64], count: usize, s: Sides, marks: &[u8])
     }
 }
 
-// The rings of the old face go each whole to one side; `across` is the new edge's other side.
+// Shares out the rings of the old face, each whole to one side; `across` is the new edge's other side.
 pub fn share_edges(
     nodes: &[i64],
     n: usize,
@@ -130,7 +134,9 @@ pub fn share_edges(
     across: usize,
 )
     requires { ⌜ Shared (now nodes) n (now edges) count s × Ringed (now edges) count × (across < count * 2) ⌝ }
-    ensures { λ r. ⌜ now (edges .exit) ≡ sweep (edgeShared (now (nodes .entry)) n (now (edges .entry)) count s across)
+    ensures { λ r. ⌜
+        now (edges .exit)
+        ≡ sweep (edgeShared (now (nodes .entry)) n (now (edges .entry)) count s across)
         (now (edges .entry)) 0 (count * 2) ⌝ }
 {
     let mut marks = [0u8; map::DARTS];
@@ -140,12 +146,14 @@ pub fn share_edges(
     write_sides(edges, count, s, &marks);
 }
 
-// `new` for the face `old` in all rows of nodes and edges.
+// Renames a face: `new` for `old` in all rows of nodes and edges.
 pub fn rename_face(nodes: &mut [i64], n: usize, edges: &mut [i64], count: usize, old: i64, new: i64)
-    requires { ⌜ (n * 4 ≤ length (now nodes)) × (count * 32 ≤ length (now edges)) ⌝ }
-    ensures { λ r. ⌜ (now (nodes .exit) ≡ sweep (λ l i. replaceAt old new l (i * 4 + 3)) (now (nodes .entry)) 0 n)
-        × (now (edges .exit) ≡ sweep (λ l i. replaceAt old new l (i * 32 + 6))
-        (sweep (λ l i. replaceAt old new l (i * 32 + 5)) (now (edges .entry)) 0 count) 0 count) ⌝ }
+    requires { ⌜ (n * nodeWidth ≤ length (now nodes)) × (count * edgeWidth ≤ length (now edges)) ⌝ }
+    ensures { λ r. ⌜
+        (now (nodes .exit) ≡ sweep (λ l i. replaceAt old new l (i * nodeWidth + 3)) (now (nodes .entry)) 0 n)
+        × (now (edges .exit)
+        ≡ sweep (λ l i. replaceAt old new l (i * edgeWidth + 6))
+        (sweep (λ l i. replaceAt old new l (i * edgeWidth + 5)) (now (edges .entry)) 0 count) 0 count) ⌝ }
 {
     tables::replace_column(nodes, map::NODE_WIDTH, n, map::NODE_FACE, old, new);
     tables::replace_column(edges, map::EDGE_WIDTH, count, map::LEFT, old, new);

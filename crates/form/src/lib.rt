@@ -4,13 +4,15 @@ use tables::Counts;
 ghost use mathlib.Core.Path.{_≡_};
 ghost use mathlib.Core.Bool.{true};
 ghost use Prim.Native.Nat.{_≤_};
+ghost use Rattle.map.specs.Limits.{maxNodes, maxEdges, maxFaces};
 ghost use Rattle.map.specs.Rows.{whole};
 ghost use Rattle.map.specs.Form.{formed, inForm};
 ghost use Rattle.form_ranges.specs.Ranges.{lent, mapIn, InRanges};
 
+// Whether tables in range are in form.
 fn is_formed(nodes: &[i64], edges: &[i64], faces: &[i64], c: Counts, h: Head) -> bool
-    requires { ⌜ InRanges (now nodes) (now edges) (now faces) c h × (c .nodes ≤ 1000) × (c .edges ≤ 2000)
-        × (c .faces ≤ 1000) ⌝ }
+    requires { ⌜ InRanges (now nodes) (now edges) (now faces) c h
+        × (c .nodes ≤ maxNodes) × (c .edges ≤ maxEdges) × (c .faces ≤ maxFaces) ⌝ }
     ensures { λ r. ⌜ r ≡ formed (mapIn (now (nodes .entry)) (now (edges .entry)) (now (faces .entry)) c h) ⌝ }
 {
     if !form_ranges::numbers_fit(nodes, edges, faces, c, h) {

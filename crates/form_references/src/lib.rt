@@ -13,7 +13,7 @@ ghost use Rattle.lists.specs.Scans.{anyOf, allOf};
 ghost use Rattle.plane.specs.Points.{samePoint};
 ghost use Rattle.curves.specs.Curves.{Run, curveOf, lastPoint};
 ghost use Rattle.curves.specs.Tests.{neighboursDiffer};
-ghost use Rattle.map.specs.Limits.{edgeWidth};
+ghost use Rattle.map.specs.Limits.{nodeWidth, edgeWidth, faceWidth, maxNodes, maxEdges, maxFaces};
 ghost use Rattle.map.specs.Rows.{nodeOf};
 ghost use Rattle.map.specs.Form.{inFace, named, curveFits};
 ghost use Rattle.tables.specs.Tables.{NodeRow, NodeRows, EdgeRow, EdgeRows, FaceRows, Rising, sameZ, column, nodesOf};
@@ -24,6 +24,7 @@ ghost use Rattle.form_references.specs.Named.{Sought, allNamed, AllAt};
 
 // ---- names
 
+// Whether a row with the number exists.
 fn exists(t: &[i64], w: usize, count: usize, number: i64, index: &[u16]) -> bool
     requires { ⌜ Rising w (now t) count × (length (now index) ≡ 4096) ⌝ }
     ensures { λ r. ⌜ r ≡ anyOf (sameZ number) (column w (now (t .entry)) count) ⌝ }
@@ -35,9 +36,9 @@ fn exists(t: &[i64], w: usize, count: usize, number: i64, index: &[u16]) -> bool
     }
 }
 
-// The containing face of a node exists, where there is one.
+// Whether the containing face of a node exists, where there is one.
 fn node_names(row: &[i64], faces: &[i64], n: usize, index: &[u16]) -> bool
-    requires { ⌜ (length (now row) ≡ 4) × FaceRows (now faces) n × (length (now index) ≡ 4096) ⌝ }
+    requires { ⌜ (length (now row) ≡ nodeWidth) × FaceRows (now faces) n × (length (now index) ≡ 4096) ⌝ }
     ensures { λ r. ⌜ r ≡ inFace (faceMap (now (faces .entry)) n) (nodeOf (now (row .entry)) .face) ⌝ }
 {
     let z = row[map::NODE_FACE];
@@ -47,10 +48,11 @@ fn node_names(row: &[i64], faces: &[i64], n: usize, index: &[u16]) -> bool
     exists(faces, map::FACE_WIDTH, n, z, index)
 }
 
+// Whether the containing faces of all nodes exist.
 fn nodes_name_faces(nodes: &[i64], n: usize, faces: &[i64], f: usize, index: &[u16]) -> bool
-    requires { ⌜ (n * 4 ≤ length (now nodes)) × FaceRows (now faces) f × (length (now index) ≡ 4096) ⌝ }
-    ensures { λ r. ⌜ r ≡ allOf (λ k. inFace (faceMap (now (faces .entry)) f) (k .face))
-        (nodesOf (now (nodes .entry)) n) ⌝ }
+    requires { ⌜ (n * nodeWidth ≤ length (now nodes)) × FaceRows (now faces) f × (length (now index) ≡ 4096) ⌝ }
+    ensures { λ r. ⌜
+        r ≡ allOf (λ k. inFace (faceMap (now (faces .entry)) f) (k .face)) (nodesOf (now (nodes .entry)) n) ⌝ }
 {
     for i in 0..n {
         let a = i * map::NODE_WIDTH;
@@ -73,7 +75,7 @@ fn edge_of(d: i64) -> i64
     d
 }
 
-// The position of the directed edge that a link names.
+// The position of the directed edge that a link names: found, or missing.
 fn find_position(edges: &[i64], count: usize, d: i64, index: &[u16]) -> Found
     requires { ⌜ EdgesInOrder (now edges) count × (length (now index) ≡ 4096) ⌝ }
     ensures { λ r. ⌜ Sought true edgeWidth (now (edges .entry)) count d r ⌝ }
@@ -111,8 +113,8 @@ fn find_rows(
     index: &[u16],
     rows: &mut [u16],
 ) -> bool
-    requires { ⌜ Rising w (now t) n × (links ≡ true → EdgesInOrder (now t) n) × (n ≤ 2000)
-        × (count * 32 ≤ length (now edges)) × (k ≤ 30) × (length (now index) ≡ 4096)
+    requires { ⌜ Rising w (now t) n × (links ≡ true → EdgesInOrder (now t) n) × (n ≤ maxEdges)
+        × (count * edgeWidth ≤ length (now edges)) × (k + 2 ≤ edgeWidth) × (length (now index) ≡ 4096)
         × (count * 2 ≤ length (now rows)) ⌝ }
     ensures { λ r. ⌜ (r ≡ allNamed links w (now (t .entry)) n (now (edges .entry)) k (count * 2))
         × (length (now (rows .exit)) ≡ length (now (rows .entry)))
@@ -128,8 +130,8 @@ fn find_rows(
     true
 }
 
-// Named rows exist. For each directed edge it leaves the row of the node where that starts, the position of its next,
-// and the row of the face that it bears.
+// Whether named rows exist. For each directed edge it writes the row of the node where that starts, the position of its
+// next, and the row of the face that it bears.
 pub fn names_exist(
     nodes: &[i64],
     edges: &[i64],
@@ -139,15 +141,21 @@ pub fn names_exist(
     nexts: &mut [u16],
     bears: &mut [u16],
 ) -> bool
-    requires { ⌜ ((h : _) × InOrder (now nodes) (now edges) (now faces) c h) × (c .nodes ≤ 1000) × (c .edges ≤ 2000)
-        × (c .faces ≤ 1000) × (length (now starts) ≡ 4000) × (length (now nexts) ≡ 4000)
-        × (length (now bears) ≡ 4000) ⌝ }
-    ensures { λ r. ⌜ ((h : _) → r ≡ named (mapIn (now (nodes .entry)) (now (edges .entry)) (now (faces .entry)) c h))
-        × (length (now (starts .exit)) ≡ 4000) × (length (now (nexts .exit)) ≡ 4000)
-        × (length (now (bears .exit)) ≡ 4000)
-        × (r ≡ true → RowsNamed 4 (now (nodes .entry)) (c .nodes) (now (edges .entry)) 1 (now (starts .exit))
-        (c .edges * 2) × NextsNamed (now (edges .entry)) (c .edges) (now (nexts .exit)) (c .edges * 2)
-        × RowsNamed 1 (now (faces .entry)) (c .faces) (now (edges .entry)) 5 (now (bears .exit)) (c .edges * 2)) ⌝ }
+    requires { ⌜ ((h : _) × InOrder (now nodes) (now edges) (now faces) c h)
+        × (c .nodes ≤ maxNodes) × (c .edges ≤ maxEdges) × (c .faces ≤ maxFaces)
+        × (length (now starts) ≡ maxEdges * 2)
+        × (length (now nexts) ≡ maxEdges * 2)
+        × (length (now bears) ≡ maxEdges * 2) ⌝ }
+    ensures { λ r. ⌜
+        ((h : _) → r ≡ named (mapIn (now (nodes .entry)) (now (edges .entry)) (now (faces .entry)) c h))
+        × (length (now (starts .exit)) ≡ maxEdges * 2)
+        × (length (now (nexts .exit)) ≡ maxEdges * 2)
+        × (length (now (bears .exit)) ≡ maxEdges * 2)
+        × (r ≡ true
+        → RowsNamed nodeWidth (now (nodes .entry)) (c .nodes) (now (edges .entry)) 1 (now (starts .exit)) (c .edges * 2)
+        × NextsNamed (now (edges .entry)) (c .edges) (now (nexts .exit)) (c .edges * 2)
+        × RowsNamed faceWidth (now (faces .entry)) (c .faces) (now (edges .entry)) 5 (now (bears .exit))
+        (c .edges * 2)) ⌝ }
 {
     // one index for the three tables in turn: what is left of the last is only a wrong first look
     let mut index = [0u16; tables::INDEX];
@@ -213,17 +221,20 @@ fn point_of(nodes: &[i64], i: usize) -> Point
 // Whether a curve of k points runs from u to v.
 fn runs_between(c: &[i64], k: usize, u: Point, v: Point) -> bool
     requires { ⌜ Run (now c) × (k ≡ length (now c) / 2) ⌝ }
-    ensures { λ r. ⌜ r ≡ (samePoint (curveOf (now (c .entry)) .first) u
-        && samePoint (lastPoint (curveOf (now (c .entry)))) v && neighboursDiffer (curveOf (now (c .entry)))) ⌝ }
+    ensures { λ r. ⌜
+        r ≡ (samePoint (curveOf (now (c .entry)) .first) u
+        && samePoint (lastPoint (curveOf (now (c .entry)))) v
+        && neighboursDiffer (curveOf (now (c .entry)))) ⌝ }
 {
     let first = plane::same_point(curves::point_at(c, 0), u);
     let last = plane::same_point(curves::point_at(c, k - 1), v);
     first & last & curves::neighbours_differ(c)
 }
 
+// Whether the curve of edge row i runs from its start node to its end node.
 fn curve_fits(nodes: &[i64], n: usize, edges: &[i64], i: usize, starts: &[u16]) -> bool
     requires { ⌜ NodeRows (now nodes) n × EdgeRow (now edges) i × (i * 2 + 2 ≤ length (now starts))
-        × RowsNamed 4 (now nodes) n (now edges) 1 (now starts) (i * 2 + 2) ⌝ }
+        × RowsNamed nodeWidth (now nodes) n (now edges) 1 (now starts) (i * 2 + 2) ⌝ }
     ensures { λ r. ⌜ r ≡ curveFits (nodeMap (now (nodes .entry)) n) (edgeAt (now (edges .entry)) i) ⌝ }
 {
     let c = tables::curve_of(edges, i);
@@ -239,9 +250,10 @@ fn curve_fits(nodes: &[i64], n: usize, edges: &[i64], i: usize, starts: &[u16]) 
     runs_between(c, k, from, to)
 }
 
+// Whether the curve of each edge runs from its start node to its end node.
 pub fn curves_fit(nodes: &[i64], n: usize, edges: &[i64], count: usize, starts: &[u16]) -> bool
     requires { ⌜ NodeRows (now nodes) n × EdgeRows (now edges) count × (count * 2 ≤ length (now starts))
-        × RowsNamed 4 (now nodes) n (now edges) 1 (now starts) (count * 2) ⌝ }
+        × RowsNamed nodeWidth (now nodes) n (now edges) 1 (now starts) (count * 2) ⌝ }
     ensures { λ r. ⌜ r ≡ allOf (curveFits (nodeMap (now (nodes .entry)) n)) (edgesOf (now (edges .entry)) count) ⌝ }
 {
     for i in 0..count {

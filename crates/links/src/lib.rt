@@ -9,12 +9,12 @@ ghost use lib.ListN.{length, getD, take};
 ghost use lib.Signed.{nonNeg};
 ghost use Rattle.lists.specs.Tests.{same};
 ghost use Rattle.lists.specs.Scans.{anyOf, countOf, keep};
-ghost use Rattle.plane.specs.Points.{InRange};
 ghost use Rattle.plane.specs.Directions.{wayTo, sameWay};
 ghost use Rattle.curves.specs.Curves.{Run};
 ghost use Rattle.rotation.specs.Law.{lawfulNext};
+ghost use Rattle.map.specs.Limits.{edgeWidth, maxEdges};
 ghost use Rattle.tables.specs.Tables.{EdgeRows};
-ghost use Rattle.darts.specs.Positions.{sideCell, wayAt, wayWith};
+ghost use Rattle.darts.specs.Positions.{sideCell, wayAt, wayWith, StepInRange};
 ghost use Rattle.links.specs.Linking.{Known, laterOf, chosenOf, positions, leavesNode, leaving, firstMet};
 ghost use Rattle.links.specs.Linking.{redirected, linkedAt, linkedIn, linkedEdge, unlinkedEdge};
 
@@ -28,9 +28,9 @@ struct Choice {
 
 // The later of the chosen departure k, if there is one, and p, with p's first step w.
 fn later(edges: &[i64], own: usize, c: &[i64], some: bool, k: usize, p: usize, w: Step) -> usize
-    requires { ⌜ (some ≡ true → Known (now edges) own (now c) k) × (InRange (w .from)) × (InRange (w .to)) ⌝ }
-    ensures { λ r. ⌜ r ≡ laterOf (wayWith (now (edges .entry)) own (now (c .entry))) some k p
-        (wayTo (w .from) (w .to)) ⌝ }
+    requires { ⌜ (some ≡ true → Known (now edges) own (now c) k) × StepInRange w ⌝ }
+    ensures { λ r. ⌜
+        r ≡ laterOf (wayWith (now (edges .entry)) own (now (c .entry))) some k p (wayTo (w .from) (w .to)) ⌝ }
 {
     if !some {
         return p;
@@ -44,8 +44,10 @@ fn later(edges: &[i64], own: usize, c: &[i64], some: bool, k: usize, p: usize, w
 
 // The choice with the departure p besides, for the direction v.
 fn chosen(edges: &[i64], own: usize, c: &[i64], h: Choice, p: usize, v: Step) -> Choice
-    requires { ⌜ Known (now edges) own (now c) p × (h .any ≡ true → Known (now edges) own (now c) (h .all))
-        × (h .under ≡ true → Known (now edges) own (now c) (h .below)) × (InRange (v .from)) × (InRange (v .to)) ⌝ }
+    requires { ⌜ Known (now edges) own (now c) p
+        × (h .any ≡ true → Known (now edges) own (now c) (h .all))
+        × (h .under ≡ true → Known (now edges) own (now c) (h .below))
+        × StepInRange v ⌝ }
     ensures { λ r. ⌜ r ≡ chosenOf (wayWith (now (edges .entry)) own (now (c .entry))) (wayTo (v .from) (v .to)) h p ⌝ }
 {
     let w = darts::step_with(edges, own, c, p);
@@ -78,8 +80,9 @@ pub fn first_clockwise(
     a: usize,
     b: usize,
 ) -> Found
-    requires { ⌜ EdgeRows (now edges) count × (own < count → Run (now c)) × (InRange (v .from)) × (InRange (v .to)) ⌝ }
-    ensures { λ r. ⌜ r ≡ firstMet (wayWith (now (edges .entry)) own (now (c .entry))) (wayTo (v .from) (v .to))
+    requires { ⌜ EdgeRows (now edges) count × (own < count → Run (now c)) × StepInRange v ⌝ }
+    ensures { λ r. ⌜
+        r ≡ firstMet (wayWith (now (edges .entry)) own (now (c .entry))) (wayTo (v .from) (v .to))
         (leaving (now (edges .entry)) count node a b) ⌝ }
 {
     let mut h = Choice {
@@ -111,10 +114,11 @@ pub fn first_clockwise(
     }
 }
 
-// The departures from the node are written to the front of the list; their count.
+// Lists the departures from the node at the front of the list; their count.
 pub fn departures_at(edges: &[i64], count: usize, node: i64, list: &mut [u16]) -> usize
-    requires { ⌜ EdgeRows (now edges) count × (count ≤ 2000) × (count * 2 ≤ length (now list)) ⌝ }
-    ensures { λ r. ⌜ (r ≤ count * 2) × (length (now (list .exit)) ≡ length (now (list .entry)))
+    requires { ⌜ EdgeRows (now edges) count × (count ≤ maxEdges) × (count * 2 ≤ length (now list)) ⌝ }
+    ensures { λ r. ⌜ (r ≤ count * 2)
+        × (length (now (list .exit)) ≡ length (now (list .entry)))
         × (take r (now (list .exit)) ≡ keep (leavesNode (now (edges .entry)) node) (positions count)) ⌝ }
 {
     let mut k = 0;
@@ -156,8 +160,10 @@ pub fn clockwise(edges: &[i64], own: usize, c: &[i64], list: &[u16], p: usize) -
 
 // Whether a departure from the node, but of edge row `own`, has the direction v.
 pub fn way_taken(edges: &[i64], count: usize, node: i64, own: usize, v: Step) -> bool
-    requires { ⌜ EdgeRows (now edges) count × (InRange (v .from)) × (InRange (v .to)) ⌝ }
-    ensures { λ r. ⌜ r ≡ anyOf (λ p. leavesNode (now (edges .entry)) node p && not (same (p / 2) own)
+    requires { ⌜ EdgeRows (now edges) count × StepInRange v ⌝ }
+    ensures { λ r. ⌜
+        r ≡ anyOf (λ p. leavesNode (now (edges .entry)) node p
+        && not (same (p / 2) own)
         && sameWay (wayAt (now (edges .entry)) p) (wayTo (v .from) (v .to))) (positions count) ⌝ }
 {
     for i in 0..count {
@@ -197,9 +203,9 @@ pub fn negated(z: i64) -> i64
     -z
 }
 
-// What led to `old` leads to `new`.
+// Redirects links: what led to `old` leads to `new`.
 pub fn redirect(edges: &mut [i64], count: usize, old: i64, new: i64)
-    requires { ⌜ count * 32 ≤ length (now edges) ⌝ }
+    requires { ⌜ count * edgeWidth ≤ length (now edges) ⌝ }
     ensures { λ r. ⌜ now (edges .exit) ≡ redirected old new (now (edges .entry)) count ⌝ }
 {
     for i in 0..count {
@@ -212,9 +218,9 @@ pub fn redirect(edges: &mut [i64], count: usize, old: i64, new: i64)
     }
 }
 
-// The new departure p linked in where c is the first one met clockwise from it.
+// Links in the new departure p where c is the first one met clockwise from it.
 fn link_at(edges: &mut [i64], count: usize, p: usize, c: i64)
-    requires { ⌜ EdgeRows (now edges) count × (p < count * 2) × (count ≤ 2001) ⌝ }
+    requires { ⌜ EdgeRows (now edges) count × (p < count * 2) × (count ≤ maxEdges + 1) ⌝ }
     ensures { λ r. ⌜ now (edges .exit) ≡ linkedAt (now (edges .entry)) count p c ⌝ }
 {
     let d = darts::dart_at(edges, p);
@@ -225,7 +231,8 @@ fn link_at(edges: &mut [i64], count: usize, p: usize, c: i64)
 // The first departure met turning clockwise from the departure p, where `other` is not there yet.
 fn met(edges: &[i64], count: usize, p: usize, other: usize) -> Found
     requires { ⌜ EdgeRows (now edges) count × (p < count * 2) ⌝ }
-    ensures { λ r. ⌜ r ≡ firstMet (wayAt (now (edges .entry))) (wayAt (now (edges .entry)) p)
+    ensures { λ r. ⌜
+        r ≡ firstMet (wayAt (now (edges .entry))) (wayAt (now (edges .entry)) p)
         (leaving (now (edges .entry)) count (sideCell (now (edges .entry)) p 1) p other) ⌝ }
 {
     let node = darts::dart_cell(edges, p, map::START);
@@ -233,9 +240,9 @@ fn met(edges: &[i64], count: usize, p: usize, other: usize) -> Found
     first_clockwise(edges, count, count, &edges[0..0], node, v, p, other)
 }
 
-// The new departure p linked in, `other` not being there yet.
+// Links in the new departure p, `other` not being there yet.
 pub fn link_in(edges: &mut [i64], count: usize, p: usize, other: usize)
-    requires { ⌜ EdgeRows (now edges) count × (p < count * 2) × (count ≤ 2001) ⌝ }
+    requires { ⌜ EdgeRows (now edges) count × (p < count * 2) × (count ≤ maxEdges + 1) ⌝ }
     ensures { λ r. ⌜ now (edges .exit) ≡ linkedIn (now (edges .entry)) count p other ⌝ }
 {
     let found = met(edges, count, p, other);
@@ -251,9 +258,9 @@ pub fn link_in(edges: &mut [i64], count: usize, p: usize, other: usize)
     }
 }
 
-// The new last row linked in, start first, then end.
+// Links in the new last row, start first, then end.
 pub fn link_edge(edges: &mut [i64], count: usize)
-    requires { ⌜ EdgeRows (now edges) count × (0 < count) × (count ≤ 2001) ⌝ }
+    requires { ⌜ EdgeRows (now edges) count × (0 < count) × (count ≤ maxEdges + 1) ⌝ }
     ensures { λ r. ⌜ now (edges .exit) ≡ linkedEdge (now (edges .entry)) count ⌝ }
 {
     let p = (count - 1) * 2;
@@ -261,7 +268,7 @@ pub fn link_edge(edges: &mut [i64], count: usize)
     link_in(edges, count, p + 1, p + 1);
 }
 
-// Row i unlinked: what led to a removed departure leads where its reverse led, the start's departure first.
+// Unlinks row i: what led to a removed departure leads where its reverse led, the start's departure first.
 pub fn unlink_edge(edges: &mut [i64], count: usize, i: usize)
     requires { ⌜ EdgeRows (now edges) count × (i < count) ⌝ }
     ensures { λ r. ⌜ now (edges .exit) ≡ unlinkedEdge (now (edges .entry)) count i ⌝ }

@@ -19,11 +19,15 @@ floor h = record { segment = record { from = h .from; to = h .to }; upper = h .u
 abbrev pub held : Highest → Option Floor
 held h = cond (h .some) (some (floor h)) none
 
--- ends in range, and a face that fits a number of the tables
+-- a face that fits a number of the tables is below this
+abbrev pub faceBound : ℕ
+faceBound = 9223372036854775808
+
+-- ends in range, and a face that fits
 pub record Held (h : Highest) : Type 0 where
   pub from : InRange (h .from)
   pub to : InRange (h .to)
-  pub upper : h .upper < 9223372036854775808
+  pub upper : h .upper < faceBound
 
 -- g, where it is higher at x than the highest so far
 abbrev pub over : ℕ → Option Floor → Floor → Option Floor

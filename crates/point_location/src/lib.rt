@@ -8,11 +8,11 @@ ghost use lib.IntN.{pos, natAbs};
 ghost use lib.ListN.{length, getD};
 ghost use lib.Signed.{nonNeg};
 ghost use Rattle.lists.specs.Scans.{fold};
-ghost use Rattle.plane.specs.Points.{InRange};
+ghost use Rattle.plane.specs.Points.{InRange, maxCoordinate};
 ghost use Rattle.curves.specs.Curves.{Run, curveOf, segments};
 ghost use Rattle.map.specs.Faces.{faceOfPoint};
 ghost use Rattle.tables.specs.Tables.{EdgeRow, EdgeRows, edgeAt, edgeMap};
-ghost use Rattle.point_location.specs.Highest.{Held, floor, held, over, sided, passed, rowed};
+ghost use Rattle.point_location.specs.Highest.{Held, faceBound, floor, held, over, sided, passed, rowed};
 
 // The highest segment below a point so far, its ends ordered by x, and the face on its upper side.
 struct Highest {
@@ -24,7 +24,7 @@ struct Highest {
 
 // The segment a b with its ends ordered by x, and the face on its upper side.
 fn floor_of(a: Point, b: Point, left: u64, right: u64) -> Highest
-    requires { ⌜ (InRange a) × (InRange b) × (left < 9223372036854775808) × (right < 9223372036854775808) ⌝ }
+    requires { ⌜ (InRange a) × (InRange b) × (left < faceBound) × (right < faceBound) ⌝ }
     ensures { λ r. ⌜ (r .some ≡ true) × (floor r ≡ sided left right (record { from = a; to = b })) × Held r ⌝ }
 {
     if a.x < b.x {
@@ -51,9 +51,9 @@ fn floor_of(a: Point, b: Point, left: u64, right: u64) -> Highest
     }
 }
 
-// g, where it is higher at x than the highest so far.
+// The higher at x of the highest so far and g.
 fn higher_of(x: u64, h: Highest, g: Highest) -> Highest
-    requires { ⌜ (x ≤ 1048575) × Held h × Held g × (g .some ≡ true) ⌝ }
+    requires { ⌜ (x ≤ maxCoordinate) × Held h × Held g × (g .some ≡ true) ⌝ }
     ensures { λ r. ⌜ (held r ≡ over x (held h) (floor g)) × Held r ⌝ }
 {
     if h.some {
@@ -66,8 +66,7 @@ fn higher_of(x: u64, h: Highest, g: Highest) -> Highest
 
 // The highest after the segment a b with its faces, where that passes below p.
 fn floor_with(h: Highest, p: Point, a: Point, b: Point, left: u64, right: u64) -> Highest
-    requires { ⌜ Held h × (InRange p) × (InRange a) × (InRange b) × (left < 9223372036854775808)
-        × (right < 9223372036854775808) ⌝ }
+    requires { ⌜ Held h × (InRange p) × (InRange a) × (InRange b) × (left < faceBound) × (right < faceBound) ⌝ }
     ensures { λ r. ⌜ (held r ≡ passed p left right (held h) (record { from = a; to = b })) × Held r ⌝ }
 {
     if !directions::passes_below(p, a, b) {
@@ -78,7 +77,7 @@ fn floor_with(h: Highest, p: Point, a: Point, b: Point, left: u64, right: u64) -
 
 // The highest after the segments of a curve with these faces.
 fn floor_along(h: Highest, p: Point, c: &[i64], left: u64, right: u64) -> Highest
-    requires { ⌜ Held h × (InRange p) × Run (now c) × (left < 9223372036854775808) × (right < 9223372036854775808) ⌝ }
+    requires { ⌜ Held h × (InRange p) × Run (now c) × (left < faceBound) × (right < faceBound) ⌝ }
     ensures { λ r. ⌜ (held r ≡ fold (passed p left right) (held h) (segments (curveOf (now (c .entry))))) × Held r ⌝ }
 {
     let n = curves::point_count(c) - 1;
@@ -99,7 +98,7 @@ fn floor_along(h: Highest, p: Point, c: &[i64], left: u64, right: u64) -> Highes
 // A face in an edge row.
 fn face_at(edges: &[i64], j: usize) -> u64
     requires { ⌜ (j < length (now edges)) × (nonNeg (getD (now edges) j (pos 0)) ≡ true) ⌝ }
-    ensures { λ r. ⌜ (r ≡ natAbs (getD (now (edges .entry)) j (pos 0))) × (r < 9223372036854775808) ⌝ }
+    ensures { λ r. ⌜ (r ≡ natAbs (getD (now (edges .entry)) j (pos 0))) × (r < faceBound) ⌝ }
 {
     let z = edges[j];
     z as u64

@@ -6,12 +6,19 @@ ghost use lib.ListN.{length};
 ghost use lib.Seq.{sets};
 ghost use Rattle.printing.specs.Texts.{naturalText, numberText, rowText};
 
+// The digits of a number of 64 bits, at most.
+pub const DIGITS: usize = 20;
+
+// The bytes of a number in a row, at most: a blank, a sign and the digits.
+pub const CELL: usize = 2 + DIGITS;
+
+// The digits of a number without a sign.
 pub fn write_natural(out: &mut [u8], at: usize, n: u64) -> usize
     requires { ⌜ at + 20 ≤ length (now out) ⌝ }
     ensures { λ r. ⌜ (now (out .exit) ≡ sets (now (out .entry)) at (naturalText n))
         × (r ≡ at + length (naturalText n)) ⌝ }
 {
-    let mut digits = [0u8; 20];
+    let mut digits = [0u8; DIGITS];
     let k = io::decimal(n, &mut digits);
     for i in 0..k {
         out[at + i] = digits[i];
@@ -19,7 +26,7 @@ pub fn write_natural(out: &mut [u8], at: usize, n: u64) -> usize
     at + k
 }
 
-// Of a number below 0 one is taken off before its sign is turned, so that it fits.
+// The magnitude of a number. One below 0 is raised by one before its sign is turned, so that it fits.
 fn magnitude(z: i64) -> u64
     ensures { λ r. ⌜ r ≡ natAbs z ⌝ }
 {
@@ -30,6 +37,7 @@ fn magnitude(z: i64) -> u64
     z as u64
 }
 
+// A sign where the number is below 0, and its digits.
 pub fn write_number(out: &mut [u8], at: usize, z: i64) -> usize
     requires { ⌜ at + 21 ≤ length (now out) ⌝ }
     ensures { λ r. ⌜ (now (out .exit) ≡ sets (now (out .entry)) at (numberText z))
@@ -37,12 +45,13 @@ pub fn write_number(out: &mut [u8], at: usize, z: i64) -> usize
 {
     let n = magnitude(z);
     if z < 0 {
-        out[at] = 45;
+        out[at] = b'-';
         return write_natural(out, at + 1, n);
     }
     write_natural(out, at, n)
 }
 
+// A row: a blank before each number, and a line end.
 pub fn write_row(out: &mut [u8], at: usize, row: &[i64]) -> usize
     requires { ⌜ at + length (now row) * 22 + 1 ≤ length (now out) ⌝ }
     ensures { λ r. ⌜ (now (out .exit) ≡ sets (now (out .entry)) at (rowText (now (row .entry))))
@@ -50,9 +59,9 @@ pub fn write_row(out: &mut [u8], at: usize, row: &[i64]) -> usize
 {
     let mut end = at;
     for i in 0..row.len() {
-        out[end] = 32;
+        out[end] = b' ';
         end = write_number(out, end + 1, row[i]);
     }
-    out[end] = 10;
+    out[end] = b'\n';
     end + 1
 }

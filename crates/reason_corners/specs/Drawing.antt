@@ -3,7 +3,7 @@
 use mathlib.Core.Path.{_≡_}
 use mathlib.Core.Bool.{Bool, true, false, cond, not, _&&_, _||_}
 use mathlib.Core.List.{List, [], _∷_, _++_}
-use Prim.Native.Nat.{ℕ, _+_, _*_, _/_, _<_}
+use Prim.Native.Nat.{ℕ, _+_, _*_, _/_, _<_, _≤_}
 use lib.IntN.{ℤ}
 use lib.ListN.{length}
 use Rattle.lists.specs.Tests.{same}
@@ -13,12 +13,14 @@ use Rattle.curves.specs.Curves.{curveOf, startWay}
 use Rattle.curves.specs.Edits.{course}
 use Rattle.planar_maps.specs.Map.{Dart, fwd, bwd}
 use Rattle.rotation.specs.Law.{firstClockwise}
+use Rattle.map.specs.Limits.{maxEdges}
 use Rattle.map.specs.Rows.{Map}
 use Rattle.map.specs.Darts.{next}
 use Rattle.map.specs.Links.{instead}
-use Rattle.tables.specs.Tables.{sameZ, edgeAt, edgeMap}
+use Rattle.tables.specs.Tables.{EdgeRows, sameZ, edgeAt, edgeMap}
 use Rattle.darts.specs.Positions.{odd, dartAt, wayWith}
 use Rattle.links.specs.Linking.{positions, leavesNode}
+use Rattle.reason_corners.specs.declared.Corners.{Corners}
 
 -- the directed edge at a position, where the row e has the number new
 abbrev pub drawnDart : List ℤ → ℕ → ℕ → ℕ → Dart
@@ -52,6 +54,13 @@ firstOf way v q x =
     let under = before (way q) v in
     let late = before (way q) (way x) in
     cond (first && not under || late && (first || not under)) x q
+
+-- what a walk over the rows and a new edge requires: corners among their positions
+pub record Linkable (l : List ℤ) (e : ℕ) (k : Corners) : Type 0 where
+  pub rows : EdgeRows l e
+  pub few : e ≤ maxEdges
+  pub start : k .start < e * 2 + 2
+  pub end : k .end < e * 2 + 2
 
 -- m has the rows and the edge new, linked in at these corners
 pub record Joined (l : List ℤ) (e : ℕ) (start : ℕ) (end : ℕ) (new : ℕ) (m : Map) : Type 0 where

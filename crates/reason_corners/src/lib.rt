@@ -14,14 +14,16 @@ ghost use mathlib.Core.List.{map};
 ghost use Prim.Native.Nat.{ℕ, _+_, _*_, _≤_, _<_};
 ghost use Rattle.lists.specs.Tests.{same};
 ghost use Rattle.planar_maps.specs.Map.{fwd, bwd};
+ghost use Rattle.map.specs.Limits.{maxEdges};
 ghost use Rattle.map.specs.Rows.{Map};
 ghost use Rattle.map.specs.Darts.{next, ring, among};
 ghost use Rattle.map.specs.Form.{numbered};
 ghost use Rattle.map.specs.Edits.{splitsFace};
 ghost use Rattle.darts.specs.Positions.{wayWith};
-ghost use Rattle.reason_corners.specs.Drawing.{drawnDart, cornerAt, endCorner, firstOf, Joined};
+ghost use Rattle.reason_corners.specs.Drawing.{drawnDart, cornerAt, endCorner, firstOf, Linkable, Joined};
 
-// Left of the first existing departure met turning clockwise from v; at an isolated node, the containing face.
+// The corner face of v: left of the first existing departure met turning clockwise from it; at an isolated node, the
+// containing face.
 pub fn corner_face(nodes: &[i64], i: usize, edges: &[i64], count: usize, v: Step) -> i64
     requires { ⌜ NodeRow (now nodes) i × EdgeRows (now edges) count × (InRange (v .from)) × (InRange (v .to)) ⌝ }
     ensures { λ r. ⌜ r ≡ cornerCell (now (nodes .entry)) i (now (edges .entry)) count (wayTo (v .from) (v .to)) ⌝ }
@@ -53,7 +55,9 @@ pub fn corners_differ(
     c: &[i64],
 ) -> bool
     requires { ⌜ NodeRow (now nodes) u × NodeRow (now nodes) v × EdgeRows (now edges) count × Run (now c) ⌝ }
-    ensures { λ r. ⌜ r ≡ not (sameZ (cornerCell (now (nodes .entry)) u (now (edges .entry)) count
+    ensures { λ r. ⌜
+        r ≡ not (sameZ
+        (cornerCell (now (nodes .entry)) u (now (edges .entry)) count
         (startWay (course false (curveOf (now (c .entry))))))
         (cornerCell (now (nodes .entry)) v (now (edges .entry)) count
         (startWay (course true (curveOf (now (c .entry))))))) ⌝ }
@@ -72,7 +76,7 @@ struct Corners {
 
 // The first departure from the node met clockwise from the curve, or from its reverse; `none` where there is none.
 fn corner(edges: &[i64], e: usize, c: &[i64], back: bool, node: i64, none: usize) -> usize
-    requires { ⌜ EdgeRows (now edges) e × (e ≤ 2000) × Run (now c) ⌝ }
+    requires { ⌜ EdgeRows (now edges) e × (e ≤ maxEdges) × Run (now c) ⌝ }
     ensures { λ r. ⌜ r ≡ cornerAt (now (edges .entry)) e (now (c .entry)) back node none ⌝ }
 {
     let found = links::first_clockwise(
@@ -94,8 +98,9 @@ fn corner(edges: &[i64], e: usize, c: &[i64], back: bool, node: i64, none: usize
 // The first one met clockwise from the new edge's end where q is the first of the others and the new edge itself starts
 // there.
 fn end_of_loop(edges: &[i64], e: usize, q: usize, c: &[i64]) -> usize
-    requires { ⌜ EdgeRows (now edges) e × (e ≤ 2000) × (q < e * 2) × Run (now c) ⌝ }
-    ensures { λ r. ⌜ r ≡ firstOf (wayWith (now (edges .entry)) e (now (c .entry)))
+    requires { ⌜ EdgeRows (now edges) e × (e ≤ maxEdges) × (q < e * 2) × Run (now c) ⌝ }
+    ensures { λ r. ⌜
+        r ≡ firstOf (wayWith (now (edges .entry)) e (now (c .entry)))
         (startWay (course true (curveOf (now (c .entry))))) q (e * 2) ⌝ }
 {
     let v = darts::first_step(c, true);
@@ -113,7 +118,7 @@ fn end_of_loop(edges: &[i64], e: usize, q: usize, c: &[i64]) -> usize
 
 // Where the end is linked in, once the start is.
 fn end_corner(edges: &[i64], e: usize, c: &[i64], from: i64, to: i64) -> usize
-    requires { ⌜ EdgeRows (now edges) e × (e ≤ 2000) × Run (now c) ⌝ }
+    requires { ⌜ EdgeRows (now edges) e × (e ≤ maxEdges) × Run (now c) ⌝ }
     ensures { λ r. ⌜ r ≡ endCorner (now (edges .entry)) e (now (c .entry)) from to ⌝ }
 {
     if from != to {
@@ -126,7 +131,7 @@ fn end_corner(edges: &[i64], e: usize, c: &[i64], from: i64, to: i64) -> usize
     end_of_loop(edges, e, q, c)
 }
 
-// `new` for `old`.
+// The position q, and `new` for `old`.
 fn instead(q: usize, old: usize, new: usize) -> usize
     ensures { λ r. ⌜ r ≡ cond (same q old) new q ⌝ }
 {
@@ -135,9 +140,9 @@ fn instead(q: usize, old: usize, new: usize) -> usize
 
 // What would follow the directed edge at p with the new edge linked in.
 fn drawn_next(edges: &[i64], e: usize, k: Corners, p: usize) -> usize
-    requires { ⌜ EdgeRows (now edges) e × (e ≤ 2000) × (k .start < e * 2 + 2) × (k .end < e * 2 + 2)
-        × (p < e * 2 + 2) ⌝ }
-    ensures { λ r. ⌜ (r < e * 2 + 2) × ((new : ℕ) (m : Map) → Joined (now (edges .entry)) e (k .start) (k .end) new m
+    requires { ⌜ Linkable (now edges) e k × (p < e * 2 + 2) ⌝ }
+    ensures { λ r. ⌜ (r < e * 2 + 2)
+        × ((new : ℕ) (m : Map) → Joined (now (edges .entry)) e (k .start) (k .end) new m
         → drawnDart (now (edges .entry)) e new r ≡ next m (drawnDart (now (edges .entry)) e new p)) ⌝ }
 {
     if p == e * 2 {
@@ -152,9 +157,9 @@ fn drawn_next(edges: &[i64], e: usize, k: Corners, p: usize) -> usize
 
 // Whether the new edge and its reverse would lie on different rings, linked in at these corners.
 fn rings_differ(edges: &[i64], e: usize, k: Corners) -> bool
-    requires { ⌜ EdgeRows (now edges) e × (e ≤ 2000) × (k .start < e * 2 + 2) × (k .end < e * 2 + 2) ⌝ }
-    ensures { λ r. ⌜ ((new : ℕ) (m : Map) → Joined (now (edges .entry)) e (k .start) (k .end) new m → r
-        ≡ not (among (ring m (fwd new)) (bwd new))) ⌝ }
+    requires { ⌜ Linkable (now edges) e k ⌝ }
+    ensures { λ r. ⌜ ((new : ℕ) (m : Map) → Joined (now (edges .entry)) e (k .start) (k .end) new m
+        → r ≡ not (among (ring m (fwd new)) (bwd new))) ⌝ }
 {
     let mut p = e * 2;
     for n in 0..e * 2 + 2 {
@@ -171,10 +176,11 @@ fn rings_differ(edges: &[i64], e: usize, k: Corners) -> bool
 
 // Whether a new edge with the curve c from node row u to node row v would lie on another ring than its reverse.
 pub fn splits_face(nodes: &[i64], edges: &[i64], e: usize, u: usize, v: usize, c: &[i64]) -> bool
-    requires { ⌜ NodeRow (now nodes) u × NodeRow (now nodes) v × EdgeRows (now edges) e × (e ≤ 2000) × Run (now c) ⌝ }
+    requires { ⌜ NodeRow (now nodes) u × NodeRow (now nodes) v × EdgeRows (now edges) e × (e ≤ maxEdges)
+        × Run (now c) ⌝ }
     ensures { λ r. ⌜ ((m : _) → m .edges ≡ edgesOf (now (edges .entry)) e
-        → numbered 1 (m .nextEdge) (map (λ x. x .number) (m .edges)) ≡ true → r
-        ≡ splitsFace (nodeAt (now (nodes .entry)) u .number) (nodeAt (now (nodes .entry)) v .number)
+        → numbered 1 (m .nextEdge) (map (λ x. x .number) (m .edges)) ≡ true
+        → r ≡ splitsFace (nodeAt (now (nodes .entry)) u .number) (nodeAt (now (nodes .entry)) v .number)
         (curveOf (now (c .entry))) m) ⌝ }
 {
     let from = nodes[u * map::NODE_WIDTH];

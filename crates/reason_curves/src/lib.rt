@@ -17,6 +17,7 @@ ghost use Rattle.reason_curves.specs.Sent.{sentReasons, edgesBut};
 
 // ---- 5: coordinate out of range
 
+// Whether both coordinates are in range.
 pub fn in_range(x: i64, y: i64) -> bool
     ensures { λ r. ⌜ r ≡ (coordinate x && coordinate y) ⌝ }
 {
@@ -47,7 +48,7 @@ pub fn node_point(nodes: &[i64], i: usize) -> Point
     }
 }
 
-// The ends of a curve.
+// The first point of a curve.
 fn first_point(c: &[i64]) -> Point
     requires { ⌜ Run (now c) ⌝ }
     ensures { λ r. ⌜ (r ≡ curveOf (now (c .entry)) .first) × InRange r ⌝ }
@@ -55,6 +56,7 @@ fn first_point(c: &[i64]) -> Point
     curves::point_at(c, 0)
 }
 
+// The last point of a curve.
 fn last_point(c: &[i64]) -> Point
     requires { ⌜ Run (now c) ⌝ }
     ensures { λ r. ⌜ (r ≡ lastPoint (curveOf (now (c .entry)))) × InRange r ⌝ }
@@ -62,12 +64,13 @@ fn last_point(c: &[i64]) -> Point
     curves::point_at(c, curves::point_count(c) - 1)
 }
 
-// ---- 5 to 8: the first reason against a curve sent from node row u to node row v; 0 for none
+// ---- 5 to 8: a curve sent from node row u to node row v
 
-// The curve runs from the point of node row u to that of node row v.
+// Whether the curve runs from the point of node row u to that of node row v.
 fn ends_on(nodes: &[i64], u: usize, v: usize, c: &[i64]) -> bool
     requires { ⌜ NodeRow (now nodes) u × NodeRow (now nodes) v × Run (now c) ⌝ }
-    ensures { λ r. ⌜ r ≡ (samePoint (curveOf (now (c .entry)) .first) (nodeAt (now (nodes .entry)) u .at)
+    ensures { λ r. ⌜
+        r ≡ (samePoint (curveOf (now (c .entry)) .first) (nodeAt (now (nodes .entry)) u .at)
         && samePoint (lastPoint (curveOf (now (c .entry)))) (nodeAt (now (nodes .entry)) v .at)) ⌝ }
 {
     let starts = plane::same_point(first_point(c), node_point(nodes, u));
@@ -75,10 +78,12 @@ fn ends_on(nodes: &[i64], u: usize, v: usize, c: &[i64]) -> bool
     starts & ends
 }
 
+// The first reason, of 5 to 8, against a curve sent from node row u to node row v; 0 for none.
 pub fn curve_reason(nodes: &[i64], u: usize, v: usize, c: &[i64]) -> u64
     requires { ⌜ NodeRow (now nodes) u × NodeRow (now nodes) v ⌝ }
-    ensures { λ r. ⌜ r ≡ firstReason (sentReasons (now (c .entry)) (nodeAt (now (nodes .entry)) u .at)
-        (nodeAt (now (nodes .entry)) v .at)) ⌝ }
+    ensures { λ r. ⌜
+        r ≡ firstReason (sentReasons (now (c .entry))
+        (nodeAt (now (nodes .entry)) u .at) (nodeAt (now (nodes .entry)) v .at)) ⌝ }
 {
     if !curves::is_run(c) {
         return 5;
@@ -94,11 +99,11 @@ pub fn curve_reason(nodes: &[i64], u: usize, v: usize, c: &[i64]) -> u64
 
 // ---- 10: another node at the point, or an edge through it
 
-// A node but that of row `own` lies on the point.
+// Whether a node but that of row `own` lies on the point.
 pub fn node_at(nodes: &[i64], n: usize, own: usize, p: Point) -> bool
     requires { ⌜ NodeRows (now nodes) n × InRange p ⌝ }
-    ensures { λ r. ⌜ r ≡ anyOf (λ i. not (same i own) && samePoint (nodeAt (now (nodes .entry)) i .at) p)
-        (table (λ i. i) 0 n) ⌝ }
+    ensures { λ r. ⌜
+        r ≡ anyOf (λ i. not (same i own) && samePoint (nodeAt (now (nodes .entry)) i .at) p) (table (λ i. i) 0 n) ⌝ }
 {
     for i in 0..n {
         if (i != own) & plane::same_point(node_point(nodes, i), p) {
@@ -108,6 +113,7 @@ pub fn node_at(nodes: &[i64], n: usize, own: usize, p: Point) -> bool
     false
 }
 
+// Whether the curve passes through the point.
 pub fn on_curve(c: &[i64], p: Point) -> bool
     requires { ⌜ Run (now c) × InRange p ⌝ }
     ensures { λ r. ⌜ r ≡ onCurve (curveOf (now (c .entry))) p ⌝ }
@@ -119,6 +125,7 @@ pub fn on_curve(c: &[i64], p: Point) -> bool
     }
 }
 
+// Whether an edge passes through the point.
 pub fn edge_through(edges: &[i64], count: usize, p: Point) -> bool
     requires { ⌜ EdgeRows (now edges) count × InRange p ⌝ }
     ensures { λ r. ⌜ r ≡ edgeThrough (edgeMap (now (edges .entry)) count) p ⌝ }
@@ -133,6 +140,7 @@ pub fn edge_through(edges: &[i64], count: usize, p: Point) -> bool
 
 // ---- 14: a node inside the curve. 15: the curve meets another edge wrongly
 
+// Whether the point is an end of the curve.
 fn is_end(c: &[i64], p: Point) -> bool
     requires { ⌜ Run (now c) × InRange p ⌝ }
     ensures { λ r. ⌜ r ≡ isEnd (curveOf (now (c .entry))) p ⌝ }
@@ -140,6 +148,7 @@ fn is_end(c: &[i64], p: Point) -> bool
     plane::same_point(p, first_point(c)) | plane::same_point(p, last_point(c))
 }
 
+// Whether a node lies on the curve and is no end of it.
 fn node_inside(nodes: &[i64], n: usize, c: &[i64]) -> bool
     requires { ⌜ NodeRows (now nodes) n × Run (now c) ⌝ }
     ensures { λ r. ⌜ r ≡ nodeInside (nodeMap (now (nodes .entry)) n) (curveOf (now (c .entry))) ⌝ }
@@ -153,6 +162,7 @@ fn node_inside(nodes: &[i64], n: usize, c: &[i64]) -> bool
     false
 }
 
+// Whether an edge but that of row `own` meets the curve wrongly.
 fn edge_wrong(edges: &[i64], count: usize, own: usize, c: &[i64]) -> bool
     requires { ⌜ EdgeRows (now edges) count × Run (now c) ⌝ }
     ensures { λ r. ⌜ r ≡ edgeWrong (edgesBut (now (edges .entry)) count own) (curveOf (now (c .entry))) ⌝ }
@@ -169,7 +179,7 @@ fn edge_wrong(edges: &[i64], count: usize, own: usize, c: &[i64]) -> bool
     false
 }
 
-// 14, 15 or 0, for a curve of edge row `own`.
+// The first reason, of 14 and 15, against a curve of edge row `own`; 0 for none.
 pub fn meeting_reason(
     nodes: &[i64],
     n: usize,
@@ -179,7 +189,8 @@ pub fn meeting_reason(
     c: &[i64],
 ) -> u64
     requires { ⌜ NodeRows (now nodes) n × EdgeRows (now edges) count × Run (now c) ⌝ }
-    ensures { λ r. ⌜ r ≡ firstReason (meetingReasons (nodeMap (now (nodes .entry)) n)
+    ensures { λ r. ⌜
+        r ≡ firstReason (meetingReasons (nodeMap (now (nodes .entry)) n)
         (edgesBut (now (edges .entry)) count own) (curveOf (now (c .entry)))) ⌝ }
 {
     if node_inside(nodes, n, c) {

@@ -7,13 +7,15 @@ ghost use lib.ListN.{length};
 ghost use Rattle.lists.specs.Tests.{same};
 ghost use Rattle.lists.specs.Scans.{anyOf};
 ghost use Rattle.curves.specs.Curves.{Run, curveOf};
+ghost use Rattle.map.specs.Limits.{edgeWidth, maxEdges};
 ghost use Rattle.map.specs.Reasons.{edgeIsolated, directionTaken, orderChanges, firstReason};
 ghost use Rattle.tables.specs.Tables.{edgeAt, edgeMap, EdgeRows};
 ghost use Rattle.links.specs.Linking.{positions, leavesNode};
 ghost use Rattle.reason_departures.specs.Turning.{Own, turnsAt, endsAt, joinsAt, jointReasons};
 
-// ---- 9: an edge is isolated when it ends at two different nodes where no other edge ends
+// ---- 9: isolated edges
 
+// Whether the edge of row i ends at two different nodes where no other edge ends.
 pub fn edge_isolated(edges: &[i64], count: usize, i: usize) -> bool
     requires { ⌜ EdgeRows (now edges) count × (i < count) ⌝ }
     ensures { λ r. ⌜ r ≡ edgeIsolated (edgeMap (now (edges .entry)) count) (edgeAt (now (edges .entry)) i .number) ⌝ }
@@ -25,12 +27,12 @@ pub fn edge_isolated(edges: &[i64], count: usize, i: usize) -> bool
 
 // ---- 11: a departure has the direction of another edge's end
 
-// From the node u along the curve c, or from v along its reverse; `own` is the row of the edge that has the curve, and
-// past them all for a new one.
+// Whether another edge departs from the node u in the direction of the curve c, or from v in that of its reverse; `own`
+// is the row of the edge that has the curve, and past them all for a new one.
 pub fn direction_taken(edges: &[i64], count: usize, own: usize, u: i64, v: i64, c: &[i64]) -> bool
     requires { ⌜ EdgeRows (now edges) count × Run (now c) ⌝ }
-    ensures { λ r. ⌜ ((e a b : ℕ) → Own (now (edges .entry)) count own e → u ≡ pos a → v ≡ pos b → r
-        ≡ directionTaken (edgeMap (now (edges .entry)) count) e a b (curveOf (now (c .entry)))) ⌝ }
+    ensures { λ r. ⌜ ((e a b : ℕ) → Own (now (edges .entry)) count own e → u ≡ pos a → v ≡ pos b
+        → r ≡ directionTaken (edgeMap (now (edges .entry)) count) e a b (curveOf (now (c .entry)))) ⌝ }
 {
     if links::way_taken(edges, count, u, own, darts::first_step(c, false)) {
         return true;
@@ -42,8 +44,9 @@ pub fn direction_taken(edges: &[i64], count: usize, own: usize, u: i64, v: i64, 
 
 // Whether the first departure met clockwise from a departure at the node changes where edge row `own` gets the curve c.
 fn turn_changes(edges: &[i64], count: usize, own: usize, c: &[i64], node: i64) -> bool
-    requires { ⌜ EdgeRows (now edges) count × (count ≤ 2000) × Run (now c) ⌝ }
-    ensures { λ r. ⌜ r ≡ anyOf (λ p. leavesNode (now (edges .entry)) node p
+    requires { ⌜ EdgeRows (now edges) count × (count ≤ maxEdges) × Run (now c) ⌝ }
+    ensures { λ r. ⌜
+        r ≡ anyOf (λ p. leavesNode (now (edges .entry)) node p
         && not (same (turnsAt (now (edges .entry)) count count (now (c .entry)) p)
         (turnsAt (now (edges .entry)) count own (now (c .entry)) p))) (positions count) ⌝ }
 {
@@ -60,10 +63,12 @@ fn turn_changes(edges: &[i64], count: usize, own: usize, c: &[i64], node: i64) -
     false
 }
 
+// Whether the cyclic order at an end of edge row `own` changes where it gets the curve c.
 pub fn order_changes(edges: &[i64], count: usize, own: usize, c: &[i64]) -> bool
-    requires { ⌜ EdgeRows (now edges) count × (count ≤ 2000) × (own < count) × Run (now c) ⌝ }
-    ensures { λ r. ⌜ r ≡ orderChanges (edgeMap (now (edges .entry)) count) (edgeAt (now (edges .entry)) own .number)
-        (curveOf (now (c .entry))) ⌝ }
+    requires { ⌜ EdgeRows (now edges) count × (count ≤ maxEdges) × (own < count) × Run (now c) ⌝ }
+    ensures { λ r. ⌜
+        r ≡ orderChanges (edgeMap (now (edges .entry)) count)
+        (edgeAt (now (edges .entry)) own .number) (curveOf (now (c .entry))) ⌝ }
 {
     if turn_changes(
         edges,
@@ -87,17 +92,19 @@ pub fn order_changes(edges: &[i64], count: usize, own: usize, c: &[i64]) -> bool
 
 // Whether edge row j starts or ends at the node.
 fn ends_at(edges: &[i64], j: usize, node: i64) -> bool
-    requires { ⌜ j * 32 + 32 ≤ length (now edges) ⌝ }
+    requires { ⌜ j * edgeWidth + edgeWidth ≤ length (now edges) ⌝ }
     ensures { λ r. ⌜ r ≡ endsAt (now (edges .entry)) j node ⌝ }
 {
     (edges[j * map::EDGE_WIDTH + map::START] == node)
         | (edges[j * map::EDGE_WIDTH + map::END] == node)
 }
 
-// 16 where the edges are one or share no node, 17 where no shared node has exactly two edge ends, else 0.
+// The first reason against a joint: 16 where the edges are one or share no node, 17 where no shared node has exactly
+// two edge ends, else 0.
 pub fn joint_reason(edges: &[i64], count: usize, i: usize, j: usize) -> u64
     requires { ⌜ EdgeRows (now edges) count × (i < count) × (j < count) ⌝ }
-    ensures { λ r. ⌜ r ≡ firstReason (jointReasons (edgeMap (now (edges .entry)) count)
+    ensures { λ r. ⌜
+        r ≡ firstReason (jointReasons (edgeMap (now (edges .entry)) count)
         (edgeAt (now (edges .entry)) i .number) (edgeAt (now (edges .entry)) j .number)) ⌝ }
 {
     let u = edges[i * map::EDGE_WIDTH + map::START];
@@ -115,8 +122,8 @@ pub fn joint_reason(edges: &[i64], count: usize, i: usize, j: usize) -> u64
 // Whether edge row j ends at the node, which has exactly two edge ends.
 pub fn joins_at(edges: &[i64], count: usize, j: usize, node: i64) -> bool
     requires { ⌜ EdgeRows (now edges) count × (j < count) ⌝ }
-    ensures { λ r. ⌜ ((k : ℕ) → node ≡ pos k → r
-        ≡ joinsAt (edgeMap (now (edges .entry)) count) (edgeAt (now (edges .entry)) j .number) k) ⌝ }
+    ensures { λ r. ⌜ ((k : ℕ) → node ≡ pos k
+        → r ≡ joinsAt (edgeMap (now (edges .entry)) count) (edgeAt (now (edges .entry)) j .number) k) ⌝ }
 {
     if !ends_at(edges, j, node) {
         return false;

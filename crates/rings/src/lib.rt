@@ -6,6 +6,7 @@ ghost use mathlib.Core.List.{map};
 ghost use Prim.Native.Nat.{ℕ, _+_, _*_, _<_, _≤_, _/_};
 ghost use lib.ListN.{getD, length};
 ghost use lib.Seq.{paste};
+ghost use Rattle.map.specs.Limits.{maxEdges};
 ghost use Rattle.map.specs.Rows.{dartCell};
 ghost use Rattle.map.specs.Darts.{ring, among};
 ghost use Rattle.tables.specs.Tables.{EdgeRows, edgeMap, EdgeRow, edgeAt};
@@ -15,12 +16,13 @@ ghost use Rattle.curves.specs.Edits.{course};
 ghost use Rattle.curves.specs.Measures.{curveArea};
 ghost use Rattle.map.specs.Faces.{ringArea, encloses as enclosedBy};
 
-// The ring of p marked with v; its length.
+// Marks the ring of p with v; its length.
 pub fn mark_ring(edges: &[i64], count: usize, p: usize, v: u8, marks: &mut [u8]) -> usize
     requires { ⌜ EdgeRows (now edges) count × (p < count * 2) × (count * 2 ≤ length (now marks)) ⌝ }
     ensures { λ r. ⌜ (r ≡ length (ring (edgeMap (now (edges .entry)) count) (dartAt (now (edges .entry)) p)))
         × (length (now (marks .exit)) ≡ length (now (marks .entry)))
-        × ((q : ℕ) → q < count * 2 → getD (now (marks .exit)) q 0
+        × ((q : ℕ) → q < count * 2
+        → getD (now (marks .exit)) q 0
         ≡ cond (among (ring (edgeMap (now (edges .entry)) count) (dartAt (now (edges .entry)) p))
         (dartAt (now (edges .entry)) q)) v (getD (now (marks .entry)) q 0)) ⌝ }
 {
@@ -35,11 +37,13 @@ pub fn mark_ring(edges: &[i64], count: usize, p: usize, v: u8, marks: &mut [u8])
     count * 2
 }
 
-// The ring of p written from `at` on as directed edges.
+// Writes the ring of p from `at` on, as n directed edges.
 pub fn write_ring(edges: &[i64], count: usize, p: usize, n: usize, list: &mut [i64], at: usize)
     requires { ⌜ EdgeRows (now edges) count × (p < count * 2)
-        × (n ≡ length (ring (edgeMap (now edges) count) (dartAt (now edges) p))) × (at + n ≤ length (now list)) ⌝ }
-    ensures { λ r. ⌜ now (list .exit) ≡ paste (now (list .entry)) at
+        × (n ≡ length (ring (edgeMap (now edges) count) (dartAt (now edges) p)))
+        × (at + n ≤ length (now list)) ⌝ }
+    ensures { λ r. ⌜
+        now (list .exit) ≡ paste (now (list .entry)) at
         (map dartCell (ring (edgeMap (now (edges .entry)) count) (dartAt (now (edges .entry)) p))) n ⌝ }
 {
     let mut c = p;
@@ -60,8 +64,9 @@ fn dart_area(edges: &[i64], p: usize) -> i64
 
 // The doubled area of the ring of p.
 pub fn ring_area(edges: &[i64], count: usize, p: usize) -> i64
-    requires { ⌜ EdgeRows (now edges) count × (count ≤ 2000) × (p < count * 2) ⌝ }
-    ensures { λ r. ⌜ r ≡ ringArea (edgeMap (now (edges .entry)) count)
+    requires { ⌜ EdgeRows (now edges) count × (count ≤ maxEdges) × (p < count * 2) ⌝ }
+    ensures { λ r. ⌜
+        r ≡ ringArea (edgeMap (now (edges .entry)) count)
         (ring (edgeMap (now (edges .entry)) count) (dartAt (now (edges .entry)) p)) ⌝ }
 {
     let mut c = p;
@@ -79,7 +84,8 @@ pub fn ring_area(edges: &[i64], count: usize, p: usize) -> i64
 // Whether the ring of p encloses a point.
 pub fn encloses(edges: &[i64], count: usize, p: usize, q: Point) -> bool
     requires { ⌜ EdgeRows (now edges) count × (p < count * 2) × InRange q ⌝ }
-    ensures { λ r. ⌜ r ≡ enclosedBy (edgeMap (now (edges .entry)) count)
+    ensures { λ r. ⌜
+        r ≡ enclosedBy (edgeMap (now (edges .entry)) count)
         (ring (edgeMap (now (edges .entry)) count) (dartAt (now (edges .entry)) p)) q ⌝ }
 {
     let mut c = p;

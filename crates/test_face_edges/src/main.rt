@@ -1,16 +1,85 @@
 // Runs whole calls for the edges of a face on stored tables, grown, distorted and spoiled, and writes the answers and
-// the lists, a line a call. A call is a record of 248 numbers, each a sign and seven digits, and a line end: the
+// the lists, a line a call. A call is a record of `NUMBERS` numbers, each a sign and seven digits, and a line end: the
 // lengths of the node, edge and face table, the six numbers of the head, the face and the length of the list; five that
-// are not used; then the tables, with room for 32, 192 and 8 numbers.
+// are not used; then the tables, with room for eight nodes, six edges and eight faces.
 use map::Head;
 ghost use Prim.Native.Nat.{_≤_, _+_};
 ghost use lib.ListN.{length};
 
+const DIGITS: usize = 7;
+
+// A number: its sign and its digits.
+const FIELD: usize = 1 + DIGITS;
+
+// The bytes of a call.
+const RECORD: usize = NUMBERS * FIELD + 1;
+
+// The rows and the numbers of the tables.
+const NODES: usize = 8;
+
+const EDGES: usize = 6;
+
+const FACES: usize = 8;
+
+const NODE_CELLS: usize = NODES * map::NODE_WIDTH;
+
+const EDGE_CELLS: usize = EDGES * map::EDGE_WIDTH;
+
+const FACE_CELLS: usize = FACES * map::FACE_WIDTH;
+
+// The list has room for so many numbers, and holds this one before the call.
+const LIST: usize = 40;
+
+const FILLER: i64 = 77;
+
+// Where the tables stand among the numbers of a call.
+const NODES_AT: usize = 16;
+
+const EDGES_AT: usize = NODES_AT + NODE_CELLS;
+
+const FACES_AT: usize = EDGES_AT + EDGE_CELLS;
+
+const NUMBERS: usize = FACES_AT + FACE_CELLS;
+
+// Where the other numbers stand among its bytes.
+const NODES_LENGTH: usize = 0;
+
+const EDGES_LENGTH: usize = FIELD;
+
+const FACES_LENGTH: usize = 2 * FIELD;
+
+const NODE_COUNT: usize = 3 * FIELD;
+
+const EDGE_COUNT: usize = 4 * FIELD;
+
+const FACE_COUNT: usize = 5 * FIELD;
+
+const NEXT_NODE: usize = 6 * FIELD;
+
+const NEXT_EDGE: usize = 7 * FIELD;
+
+const NEXT_FACE: usize = 8 * FIELD;
+
+const FACE: usize = 9 * FIELD;
+
+const LIST_LENGTH: usize = 10 * FIELD;
+
+const BASE: u64 = 10;
+
+// Digits are read three at a time, and the last by itself.
+const GROUP: usize = 3;
+
+const GROUP_BASE: u64 = BASE * BASE * BASE;
+
+const LOW_GROUP: usize = 1 + GROUP;
+
+// Writes a number and a blank.
 fn put(n: u64) {
     io::print_decimal(libc::STDOUT_FILENO, n);
     io::write_all(libc::STDOUT_FILENO, &[b' ']);
 }
 
+// Writes a number with its sign and a blank.
 fn put_signed(z: i64) {
     if z < 0 {
         io::write_all(libc::STDOUT_FILENO, &[b'-']);
@@ -25,32 +94,35 @@ fn put_signed(z: i64) {
 fn digit(b: u8) -> u64
     ensures { λ r. ⌜ r ≤ 9 ⌝ }
 {
-    if b < 48 {
+    if b < b'0' {
         return 0;
     }
-    if 57 < b {
+    if b'9' < b {
         return 0;
     }
-    (b - 48) as u64
+    (b - b'0') as u64
+}
+
+// Three digits from place j on.
+fn group_at(record: &[u8; RECORD], j: usize) -> u64
+    requires { ⌜ j + 3 ≤ 1985 ⌝ }
+    ensures { λ r. ⌜ r ≤ 999 ⌝ }
+{
+    (digit(record[j]) * BASE + digit(record[j + 1])) * BASE + digit(record[j + 2])
 }
 
 // The seven digits after the sign at place j.
-fn magnitude_at(record: &[u8; 1985], j: usize) -> u64
+fn magnitude_at(record: &[u8; RECORD], j: usize) -> u64
     requires { ⌜ j + 8 ≤ 1985 ⌝ }
     ensures { λ r. ⌜ r ≤ 9999999 ⌝ }
 {
-    let mut v: u64 = 0;
-    v = v * 10 + digit(record[j + 1]);
-    v = v * 10 + digit(record[j + 2]);
-    v = v * 10 + digit(record[j + 3]);
-    v = v * 10 + digit(record[j + 4]);
-    v = v * 10 + digit(record[j + 5]);
-    v = v * 10 + digit(record[j + 6]);
-    v * 10 + digit(record[j + 7])
+    let high = group_at(record, j + 1);
+    let low = group_at(record, j + LOW_GROUP);
+    (high * GROUP_BASE + low) * BASE + digit(record[j + DIGITS])
 }
 
 // The number at place j: a sign and seven digits.
-fn number_at(record: &[u8; 1985], j: usize) -> i64
+fn number_at(record: &[u8; RECORD], j: usize) -> i64
     requires { ⌜ j + 8 ≤ 1985 ⌝ }
 {
     let m = magnitude_at(record, j);
@@ -58,17 +130,17 @@ fn number_at(record: &[u8; 1985], j: usize) -> i64
     if record[j] == b'-' { -v } else { v }
 }
 
-// The numbers from number `from` on into a table.
-fn fill(record: &[u8; 1985], from: usize, table: &mut [i64])
+// Fills a table with the numbers from number `from` on.
+fn fill(record: &[u8; RECORD], from: usize, table: &mut [i64])
     requires { ⌜ from + length (now table) ≤ 248 ⌝ }
 {
     for i in 0..table.len() {
-        table[i] = number_at(record, (from + i) * 8);
+        table[i] = number_at(record, (from + i) * FIELD);
     }
 }
 
 // The number at place j as a length of at most `most`; a number below 0 counts as 0.
-fn length_at(record: &[u8; 1985], j: usize, most: usize) -> usize
+fn length_at(record: &[u8; RECORD], j: usize, most: usize) -> usize
     requires { ⌜ j + 8 ≤ 1985 ⌝ }
     ensures { λ r. ⌜ r ≤ most ⌝ }
 {
@@ -79,43 +151,47 @@ fn length_at(record: &[u8; 1985], j: usize, most: usize) -> usize
     if most < n { most } else { n }
 }
 
-fn head_of(record: &[u8; 1985]) -> Head {
+// The head of a call.
+fn head_of(record: &[u8; RECORD]) -> Head {
     Head {
-        nodes: number_at(record, 24),
-        edges: number_at(record, 32),
-        faces: number_at(record, 40),
-        next_node: number_at(record, 48),
-        next_edge: number_at(record, 56),
-        next_face: number_at(record, 64),
+        nodes: number_at(record, NODE_COUNT),
+        edges: number_at(record, EDGE_COUNT),
+        faces: number_at(record, FACE_COUNT),
+        next_node: number_at(record, NEXT_NODE),
+        next_edge: number_at(record, NEXT_EDGE),
+        next_face: number_at(record, NEXT_FACE),
     }
 }
 
+// Writes the numbers of a list.
 fn put_list(list: &[i64]) {
     for i in 0..list.len() {
         put_signed(list[i]);
     }
 }
 
-fn answer(record: &[u8; 1985], nodes: &[i64], edges: &[i64], faces: &[i64], list: &mut [i64]) {
-    let face = number_at(record, 72);
+// Makes the call on these tables and writes the answer and the list.
+fn answer(record: &[u8; RECORD], nodes: &[i64], edges: &[i64], faces: &[i64], list: &mut [i64]) {
+    let face = number_at(record, FACE);
     let answer = face_edges::edges_of_face(nodes, edges, faces, head_of(record), face, list);
     put(answer.refusal);
     put_signed(answer.value);
     put_list(list);
 }
 
-fn call(record: &[u8; 1985]) {
-    let mut nodes = [0i64; 32];
-    let mut edges = [0i64; 192];
-    let mut faces = [0i64; 8];
-    let mut list = [77i64; 40];
-    fill(record, 16, &mut nodes);
-    fill(record, 48, &mut edges);
-    fill(record, 240, &mut faces);
-    let a = length_at(record, 0, 32);
-    let b = length_at(record, 8, 192);
-    let c = length_at(record, 16, 8);
-    let d = length_at(record, 80, 40);
+// Makes a call on the tables of its record.
+fn call(record: &[u8; RECORD]) {
+    let mut nodes = [0i64; NODE_CELLS];
+    let mut edges = [0i64; EDGE_CELLS];
+    let mut faces = [0i64; FACE_CELLS];
+    let mut list = [FILLER; LIST];
+    fill(record, NODES_AT, &mut nodes);
+    fill(record, EDGES_AT, &mut edges);
+    fill(record, FACES_AT, &mut faces);
+    let a = length_at(record, NODES_LENGTH, NODE_CELLS);
+    let b = length_at(record, EDGES_LENGTH, EDGE_CELLS);
+    let c = length_at(record, FACES_LENGTH, FACE_CELLS);
+    let d = length_at(record, LIST_LENGTH, LIST);
     answer(
         record,
         &nodes[..a],
@@ -127,9 +203,9 @@ fn call(record: &[u8; 1985]) {
 
 // Reads a record and answers it; false at the end of the input.
 fn next() -> bool {
-    let mut record = [0u8; 1985];
+    let mut record = [0u8; RECORD];
     let got = io::read_full(libc::STDIN_FILENO, &mut record);
-    if got < 1985 {
+    if got < RECORD {
         return false;
     }
     call(&record);

@@ -11,6 +11,23 @@ ghost use Rattle.text.specs.Steps.{Run, most, magnitudeOf, numberAs, Nex
 // The most bytes of a line.
 pub const LINE: usize = 1000;
 
+// The most numbers of a line: each is a digit at least, and a blank parts two.
+pub const NUMBERS: usize = LINE / 2;
+
+const ZERO: u64 = b'0' as u64;
+
+const NINE: u64 = b'9' as u64;
+
+const BASE: u64 = 10;
+
+// The magnitudes of the greatest and of the least number of 64 signed bits, and the greatest that one more digit may
+// follow.
+const MOST: u64 = i64::MAX as u64;
+
+const MOST_BELOW: u64 = MOST + 1;
+
+const MOST_BEFORE_DIGIT: u64 = MOST / BASE;
+
 // How many numbers a line has, or that it is wrong.
 pub enum Parsed {
     Numbers(usize),
@@ -36,10 +53,11 @@ enum Next {
     Wrong,
 }
 
+// Whether a byte is a tab, a form feed, a carriage return or a space.
 fn is_blank(b: u8) -> bool
     ensures { λ r. ⌜ r ≡ blank b ⌝ }
 {
-    (b == 9) | (b == 12) | (b == 13) | (b == 32)
+    (b == b'\t') | (b == b'\x0c') | (b == b'\r') | (b == b' ')
 }
 
 // The place where a run of blanks ends, or a run of other bytes.
@@ -57,6 +75,7 @@ fn run_end(line: &[u8], at: usize, blanks: bool) -> usize
     i
 }
 
+// A byte as a number of 64 bits.
 fn wide(b: u8) -> u64
     ensures { λ r. ⌜ r ≡ b ⌝ }
 {
@@ -71,16 +90,16 @@ fn magnitude_of(digits: &[u8]) -> Magnitude
     let mut i = 0;
     while i < digits.len() {
         let d = wide(digits[i]);
-        if d < 48 {
+        if d < ZERO {
             return Magnitude::Wrong;
         }
-        if 57 < d {
+        if NINE < d {
             return Magnitude::Wrong;
         }
-        if 922337203685477580 < n {
+        if MOST_BEFORE_DIGIT < n {
             return Magnitude::Wrong;
         }
-        n = n * 10 + (d - 48);
+        n = n * BASE + (d - ZERO);
         i += 1;
     }
     Magnitude::Value(n)
@@ -90,11 +109,7 @@ fn magnitude_of(digits: &[u8]) -> Magnitude
 fn most_of(minus: bool) -> u64
     ensures { λ r. ⌜ r ≡ most minus ⌝ }
 {
-    if minus {
-        9223372036854775808
-    } else {
-        9223372036854775807
-    }
+    if minus { MOST_BELOW } else { MOST }
 }
 
 // A magnitude of 2^63 fits below 0 only, so a number below 0 is made of its magnitude less one.
@@ -136,16 +151,16 @@ fn number_of(word: &[u8]) -> Number
         return Number::Wrong;
     }
     let b = word[0];
-    if b == 45 {
+    if b == b'-' {
         return signed(true, &word[1..]);
     }
-    if b == 43 {
+    if b == b'+' {
         return signed(false, &word[1..]);
     }
     signed(false, word)
 }
 
-// What stands from a place on.
+// What the rest of a line from a place on begins with.
 fn read_next(line: &[u8], at: usize) -> Next
     requires { ⌜ at ≤ length (now line) ⌝ }
     ensures { λ r. ⌜ NextAs (now (line .entry)) at r ⌝ }
@@ -179,7 +194,7 @@ fn count_numbers(line: &[u8]) -> Parsed
     }
 }
 
-// The second pass, over a line that is right.
+// The second pass, over a line that is right: its numbers are written.
 fn write_numbers(line: &[u8], list: &mut [i64])
     requires { ⌜ Room (length (now list)) 0 (numbersOf (words (now line))) ⌝ }
     ensures { λ r. ⌜ now (list .exit) ≡ written (now (list .entry)) 0 (numbersOf (words (now (line .entry)))) ⌝ }
@@ -199,9 +214,9 @@ fn write_numbers(line: &[u8], list: &mut [i64])
     }
 }
 
-// The numbers of a line, from the front of the list; the rest of the list is untouched. It holds what a line of 1,000
-// bytes can have, 500 numbers.
-pub fn parse(line: &[u8], list: &mut [i64; 500]) -> Parsed
+// The numbers of a line, written from the front of the list; the rest of the list is untouched. The list holds what a
+// line can have.
+pub fn parse(line: &[u8], list: &mut [i64; NUMBERS]) -> Parsed
     ensures { λ r. ⌜ ParsedAs (lineNumbers (now (line .entry))) (now (list .entry)) r (now (list .exit)) ⌝ }
 {
     if LINE < line.len() {

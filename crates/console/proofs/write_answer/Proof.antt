@@ -1,4 +1,4 @@
--- `console::write_answer` is safe: 20 digits, a blank, a sign, 20 digits and a line end fit 50 bytes. Assumes nothing.
+-- `console::write_answer` is safe: digits, a blank, a sign, digits and a line end fit the buffer. Assumes nothing.
 use borrow.Author.Needs.{needs}
 use mathlib.Core.Path.{sym}
 use Prim.Native.Nat.{_≤_}

@@ -1,4 +1,4 @@
--- `console::write_tagged` is safe: a letter, 32 numbers and a line end fit 710 bytes. Assumes nothing.
+-- `console::write_tagged` is safe: a letter, the numbers of a row and a line end fit the buffer. Assumes nothing.
 use borrow.Author.Needs.{needs}
 use mathlib.Core.Path.{sym}
 use Prim.Native.Nat.{_≤_}

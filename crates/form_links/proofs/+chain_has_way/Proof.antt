@@ -112,7 +112,8 @@ pub +chain-has-way-spec : {M : Type 1} → statement M
     (λ c κs. c .before .before .pre .1 .0 (c .before .before .args .last - 1)
     (omega (arith, c .before .before .pre .1 .2)))
     (λ c κs. c .before .before .before .pre .1 .0 (c .before .before .before .args .p) (omega arith))
-    (λ c κs. let v = c .before .step-at .ensures in let w = c .step-at2 .ensures in (v .from, v .to, w .from, w .to))
+    (λ c κs. let v = c .before .step-at .ensures in let w = c .step-at2 .ensures in
+    ((v .from, v .to), (w .from, w .to)))
     (chain-has-way-returns-2 t)
     (λ c. let b = c .before .before .before .before in omega (arith, b .if1 .left, b .before .before .pre .1 .2))
     (λ c. let b = c .before .before .before .before .before in

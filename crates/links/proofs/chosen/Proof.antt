@@ -12,7 +12,7 @@ step-with-requires : tie.Need-step-with-requires
 step-with-requires c κs = c .pre .0
 
 later-requires : tie.Need-later-requires
-later-requires c κs = (c .before .pre .1, c .step-with .ensures .from, c .step-with .ensures .to)
+later-requires c κs = (c .before .pre .1, (c .step-with .ensures .from, c .step-with .ensures .to))
 
 returns : tie.Need-returns
 returns c =
@@ -26,7 +26,7 @@ returns c =
 later-requires-2 : tie.Need-later-requires-2
 later-requires-2 c κs =
     let b = c .before .before .before in
-    (b .before .pre .2, b .step-with .ensures .from, b .step-with .ensures .to)
+    (b .before .pre .2, (b .step-with .ensures .from, b .step-with .ensures .to))
 
 returns-2 : tie.Need-returns-2
 returns-2 c =

@@ -47,8 +47,7 @@ chosen-requires c κs =
       s .pre .1 (l .k) (c .before .before .loop-test .taken),
       l .inv .1,
       l .inv .2,
-      b .step-with .ensures .from,
-      b .step-with .ensures .to,
+      (b .step-with .ensures .from, b .step-with .ensures .to),
     )
 
 loop-again : tie.Need-loop-again Inv-loop μ-loop

@@ -63,7 +63,6 @@ chosen-requires c κs =
       (λ e. known (l .h .all) (omega arith)),
       (λ e. known (l .h .below) (omega (arith, l .inv .1 .below e))),
       s .pre .2,
-      s .pre .3,
     )
 
 -- the edge of row i passed
@@ -127,7 +126,6 @@ chosen-requires-2 c κs =
       (λ e. known (j .if1 .h .all) (omega arith)),
       (λ e. known (j .if1 .h .below) (omega (arith, halfway j .below e))),
       s .pre .2,
-      s .pre .3,
     )
 
 add-i : tie.Need-add-i Inv-loop μ-loop

@@ -24,8 +24,7 @@ first-clockwise-requires : tie.Need-first-clockwise-requires
 first-clockwise-requires c κs = (
   c .before .before .before .pre .0,
   (λ h. absurd (omega arith)),
-  c .before .step-at .ensures .from,
-  c .before .step-at .ensures .to,
+  (c .before .step-at .ensures .from, c .before .step-at .ensures .to),
 )
 
 returns : tie.Need-returns

@@ -63,7 +63,7 @@ step-at-requires c κs =
 same-way-requires : tie.Need-same-way-requires Inv-loop μ-loop
 same-way-requires c κs =
     let s = c .before .before .before .before .before in
-    (c .step-at .ensures .from, c .step-at .ensures .to, s .pre .1, s .pre .2)
+    ((c .step-at .ensures .from, c .step-at .ensures .to), s .pre .1)
 
 returns : tie.Need-returns Inv-loop μ-loop
 unfolding same
@@ -133,7 +133,7 @@ step-at-requires-2 c κs =
 same-way-requires-2 : tie.Need-same-way-requires-2 Inv-loop μ-loop
 same-way-requires-2 c κs =
     let s = c .before .before .before .before .before .before .before in
-    (c .step-at2 .ensures .from, c .step-at2 .ensures .to, s .pre .1, s .pre .2)
+    ((c .step-at2 .ensures .from, c .step-at2 .ensures .to), s .pre .1)
 
 returns-2 : tie.Need-returns-2 Inv-loop μ-loop
 unfolding same

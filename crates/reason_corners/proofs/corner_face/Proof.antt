@@ -24,7 +24,7 @@ use Rattle.darts.proofs.dart_cell.Reads as dart-cell-reads
 
 first-clockwise-requires : tie.Need-first-clockwise-requires
 first-clockwise-requires c κs = let s = c .before .before in
-    (s .pre .1, (λ h. absurd (omega arith)), s .pre .2, s .pre .3)
+    (s .pre .1, (λ h. absurd (omega arith)), (s .pre .2, s .pre .3))
 
 enum-known-found : tie.Need-enum-known-found
 enum-known-found c = search needs

@@ -21,19 +21,19 @@ abbrev μ-loop : tie.MeasureT-loop
 μ-loop edges e k p₀ n₀ n-end p n = n-end - n
 
 loop-holds : tie.Need-loop-holds Inv-loop μ-loop
-loop-holds c = (omega arith, λ new m j. ring-meets (c .pre .0) j)
+loop-holds c = (omega arith, λ new m j. ring-meets (c .pre .rows) j)
 
 returns : tie.Need-returns Inv-loop μ-loop
 returns c =
     let s = c .before .before .before in
     let w = c .before .before .loop in
     λ new m j. sym (ap not (w .inv .1 new m j
-    ∙ meets-here (s .pre .0) j (w .n) (w .p) (c .before .loop-test .taken) (c .if1 .taken)))
+    ∙ meets-here (s .pre .rows) j (w .n) (w .p) (c .before .loop-test .taken) (c .if1 .taken)))
 
 drawn-next-requires : tie.Need-drawn-next-requires Inv-loop μ-loop
 drawn-next-requires c κs =
     let s = c .before .before .before in
-    (s .pre .0, s .pre .1, s .pre .2, s .pre .3, c .before .before .loop .inv .0)
+    (s .pre, c .before .before .loop .inv .0)
 
 returns-2 : tie.Need-returns-2 Inv-loop μ-loop
 returns-2 c =
@@ -42,7 +42,7 @@ returns-2 c =
     let w = b .before .loop in
     let d = c .before .drawn-next in
     λ new m j. sym (ap not (w .inv .1 new m j
-    ∙ meets-last (s .pre .0) j (w .n) (w .p) (b .loop-test .taken) (w .inv .0) (c .before .before .if1 .left)
+    ∙ meets-last (s .pre .rows) j (w .n) (w .p) (b .loop-test .taken) (w .inv .0) (c .before .before .if1 .left)
     (d .result) (d .ensures .0) (d .ensures .1 new m j) (c .if2 .taken)))
 
 loop-again : tie.Need-loop-again Inv-loop μ-loop
@@ -53,7 +53,7 @@ loop-again c =
     let d = c .before .drawn-next in (
       d .ensures .0,
       λ new m j. w .inv .1 new m j
-          ∙ meets-on (s .pre .0) j (w .n) (w .p) (b .loop-test .taken) (w .inv .0) (c .before .before .if1 .left)
+          ∙ meets-on (s .pre .rows) j (w .n) (w .p) (b .loop-test .taken) (w .inv .0) (c .before .before .if1 .left)
           (d .result) (d .ensures .0) (d .ensures .1 new m j) (c .if2 .left),
     )
 
@@ -61,7 +61,7 @@ returns-3 : tie.Need-returns-3 Inv-loop μ-loop
 returns-3 c =
     let s = c .before .before in
     let w = c .before .loop in
-    λ new m j. sym (ap not (w .inv .1 new m j ∙ meets-end (s .pre .0) j (w .n) (w .p) (c .loop-test .left)))
+    λ new m j. sym (ap not (w .inv .1 new m j ∙ meets-end (s .pre .rows) j (w .n) (w .p) (c .loop-test .left)))
 
 pub rings-differ-spec : {M : Type 1} → statement M
 rings-differ-spec =
@@ -69,15 +69,15 @@ rings-differ-spec =
     (tie.spec
     Inv-loop
     μ-loop
-    (λ c. omega (arith, c .pre .1))
-    (λ c. omega (arith, c .pre .1))
-    (λ c. omega (arith, c .pre .1))
+    (λ c. omega (arith, c .pre .few))
+    (λ c. omega (arith, c .pre .few))
+    (λ c. omega (arith, c .pre .few))
     loop-holds
-    (λ c. omega (arith, c .before .before .pre .1))
-    (λ c. omega (arith, c .before .before .pre .1))
+    (λ c. omega (arith, c .before .before .pre .few))
+    (λ c. omega (arith, c .before .before .pre .few))
     returns
     drawn-next-requires
-    (λ c. omega (arith, c .before .before .before .before .pre .1))
+    (λ c. omega (arith, c .before .before .before .before .pre .few))
     returns-2
     (λ c. omega arith)
     (λ c. omega arith)

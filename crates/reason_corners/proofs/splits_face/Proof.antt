@@ -57,7 +57,7 @@ rings-differ-requires c κs =
     rw (k .0) (corner-below (a .edges .now) (a .e) (a .c .now) false from (a .e * 2 + 2) (a .e * 2) (omega arith)
     (omega arith)) in
     let end : c .end-corner .result < a .e * 2 + 2 = rw (k .1) (end-below (a .edges .now) (a .e) (a .c .now) from to) in
-    (s .pre .2, s .pre .3, start, end)
+    record { rows = s .pre .2; few = s .pre .3; start = start; end = end }
 
 returns : tie.Need-returns
 unfolding splitsFace
