@@ -23,8 +23,8 @@ use Rattle.reason_edges.specs.declared.Judged.{Judged}
 use Rattle.reason_edges.specs.Kinds.{addTicket}
 use Rattle.reason_edges.specs.Judging.{JudgedAdd}
 use Rattle.reason_edges.proofs.Adding.{row-below, room-known, number-known}
-use Rattle.redraws.specs.Holds.{Drawable, Drawn, drawnHead}
-use Rattle.redraws.proofs.Formed.{held}
+use Rattle.edge_rows.specs.Holds.{Drawable, Drawn, drawnHead}
+use Rattle.edge_rows.proofs.Formed.{held}
 use Rattle.face_rows.specs.Holds.{Held, Splittable, Holds}
 use Rattle.grown.proofs.Numbers.{Outline}
 use Rattle.outcomes.proofs.Words.{count-read}

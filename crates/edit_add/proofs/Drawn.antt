@@ -33,9 +33,8 @@ use Rattle.outcomes.specs.Outcomes.{Formed}
 use Rattle.outcomes.proofs.Formed.{ranges, formed-map, node-next, edge-next, face-next}
 use Rattle.reason_edges.specs.Kinds.{addTicket}
 use Rattle.reason_edges.proofs.Adding.{room-known}
-use Rattle.redraws.specs.Holds.{Drawn, drawnHead}
-use Rattle.redraws.specs.Holds as redraws
-use Rattle.redraws.proofs.Filled.{nodes-room, edges-room, nodes-filled, edges-filled}
+use Rattle.edge_rows.specs.Holds.{NodeEdgeTables, Drawn, drawnHead}
+use Rattle.edge_rows.proofs.Filled.{nodes-room, edges-room, nodes-filled, edges-filled}
 use Rattle.face_rows.specs.Holds.{Held, Splittable}
 use Rattle.face_rows.proofs.Formed.{formed-held}
 use Rattle.grown.proofs.Readings.{missing, has-number}
@@ -74,7 +73,7 @@ module _ {nodes edges faces : List ℤ} {h : Head} (f : Formed nodes edges faces
   })
 
   -- the tables with an edge more hold a map, whatever edge it is
-  pub drawn-held : {nodes′ edges′ : List ℤ} → redraws.Held nodes′ edges′ (drawnHead h)
+  pub drawn-held : {nodes′ edges′ : List ℤ} → NodeEdgeTables nodes′ edges′ (drawnHead h)
       → Held nodes′ edges′ faces (drawnHead h)
   drawn-held {nodes′} {edges′} d =
       let k = formed-held f in

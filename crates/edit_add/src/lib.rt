@@ -28,7 +28,7 @@ pub fn add_edge(
     }
     let number = h.next_edge;
     let face = judged.face;
-    let drawn = redraws::draw(nodes, edges, h, judged.start, judged.end, c, face);
+    let drawn = edge_rows::draw(nodes, edges, h, judged.start, judged.end, c, face);
     if !judged.splits {
         return outcomes::carried(drawn, number);
     }

@@ -70,47 +70,64 @@ fn remove_node(nodes: &mut [i64], h: Head, t: &[i64]) -> Done
 }
 
 // Kind 4, with two arguments and a curve.
-fn add_lone_edge(nodes: &mut [i64], edges: &mut [i64], h: Head, t: &[i64]) -> Done
-    requires { ⌜ ((faces : _) × Formed (now nodes) (now edges) faces h) ⌝ }
-    ensures { λ r. ⌜ ((faces : _) → Formed (now (nodes .entry)) (now (edges .entry)) faces h
-        → outcome (now (nodes .exit)) (now (edges .exit)) faces r
-        ≡ shaped (lent (now (nodes .entry)) (now (edges .entry)) faces h)
-        (twoCurve AddIsoEdge (drop 1 (now (t .entry))))) ⌝ }
+fn add_isolated_edge(
+    nodes: &mut [i64],
+    edges: &mut [i64],
+    faces: &[i64],
+    h: Head,
+    t: &[i64],
+) -> Done
+    requires { ⌜ Formed (now nodes) (now edges) (now faces) h ⌝ }
+    ensures { λ r. ⌜ outcome (now (nodes .exit)) (now (edges .exit)) (now (faces .entry)) r
+        ≡ shaped (lent (now (nodes .entry)) (now (edges .entry)) (now (faces .entry)) h)
+        (twoCurve AddIsoEdge (drop 1 (now (t .entry)))) ⌝ }
 {
     let n = t.len();
     if (n < TWO_ARGUMENTS) | (n % 2 == 0) {
         return outcomes::refused(h, 3);
     }
-    redraws::add_lone_edge(nodes, edges, h, t[FIRST], t[SECOND], &t[TWO_ARGUMENTS..])
+    edit_isolated::add_isolated_edge(
+        nodes,
+        edges,
+        faces,
+        h,
+        t[FIRST],
+        t[SECOND],
+        &t[TWO_ARGUMENTS..],
+    )
 }
 
 // Kind 5, with one argument.
-fn remove_lone_edge(nodes: &mut [i64], edges: &mut [i64], h: Head, t: &[i64]) -> Done
-    requires { ⌜ ((faces : _) × Formed (now nodes) (now edges) faces h) ⌝ }
-    ensures { λ r. ⌜ ((faces : _) → Formed (now (nodes .entry)) (now (edges .entry)) faces h
-        → outcome (now (nodes .exit)) (now (edges .exit)) faces r
-        ≡ shaped (lent (now (nodes .entry)) (now (edges .entry)) faces h)
-        (one RemoveIsoEdge (drop 1 (now (t .entry))))) ⌝ }
+fn remove_isolated_edge(
+    nodes: &mut [i64],
+    edges: &mut [i64],
+    faces: &[i64],
+    h: Head,
+    t: &[i64],
+) -> Done
+    requires { ⌜ Formed (now nodes) (now edges) (now faces) h ⌝ }
+    ensures { λ r. ⌜ outcome (now (nodes .exit)) (now (edges .exit)) (now (faces .entry)) r
+        ≡ shaped (lent (now (nodes .entry)) (now (edges .entry)) (now (faces .entry)) h)
+        (one RemoveIsoEdge (drop 1 (now (t .entry)))) ⌝ }
 {
     if t.len() != ONE_ARGUMENT {
         return outcomes::refused(h, 3);
     }
-    redraws::remove_lone_edge(nodes, edges, h, t[FIRST])
+    edit_isolated::remove_isolated_edge(nodes, edges, faces, h, t[FIRST])
 }
 
 // Kind 6, with one argument and a curve.
-fn change_curve(nodes: &[i64], edges: &mut [i64], h: Head, t: &[i64]) -> Done
-    requires { ⌜ ((faces : _) × Formed (now nodes) (now edges) faces h) ⌝ }
-    ensures { λ r. ⌜ ((faces : _) → Formed (now (nodes .entry)) (now (edges .entry)) faces h
-        → outcome (now (nodes .entry)) (now (edges .exit)) faces r
-        ≡ shaped (lent (now (nodes .entry)) (now (edges .entry)) faces h)
-        (oneCurve ChangeEdgeGeom (drop 1 (now (t .entry))))) ⌝ }
+fn change_curve(nodes: &[i64], edges: &mut [i64], faces: &[i64], h: Head, t: &[i64]) -> Done
+    requires { ⌜ Formed (now nodes) (now edges) (now faces) h ⌝ }
+    ensures { λ r. ⌜ outcome (now (nodes .entry)) (now (edges .exit)) (now (faces .entry)) r
+        ≡ shaped (lent (now (nodes .entry)) (now (edges .entry)) (now (faces .entry)) h)
+        (oneCurve ChangeEdgeGeom (drop 1 (now (t .entry)))) ⌝ }
 {
     let n = t.len();
     if (n < ONE_ARGUMENT) | (n % 2 == 1) {
         return outcomes::refused(h, 3);
     }
-    redraws::change_curve(nodes, edges, h, t[FIRST], &t[ONE_ARGUMENT..])
+    edit_curve::change_curve(nodes, edges, faces, h, t[FIRST], &t[ONE_ARGUMENT..])
 }
 
 // Kinds 7 and 8, with three arguments.
@@ -207,9 +224,9 @@ pub fn edit(nodes: &mut [i64], edges: &mut [i64], faces: &mut [i64], h: Head, t:
         1 => add_node(nodes, edges, faces, h, t),
         2 => move_node(nodes, edges, h, t),
         3 => remove_node(nodes, h, t),
-        4 => add_lone_edge(nodes, edges, h, t),
-        5 => remove_lone_edge(nodes, edges, h, t),
-        6 => change_curve(nodes, edges, h, t),
+        4 => add_isolated_edge(nodes, edges, faces, h, t),
+        5 => remove_isolated_edge(nodes, edges, faces, h, t),
+        6 => change_curve(nodes, edges, faces, h, t),
         7 => split_edge(nodes, edges, h, false, t),
         8 => split_edge(nodes, edges, h, true, t),
         9 => heal_edges(nodes, edges, h, false, t),

@@ -16,8 +16,8 @@ use Rattle.tables.proofs.Writes.{Wide, nodes-wide, table-edges-wide}
 use Rattle.form_ranges.specs.Ranges.{lent}
 use Rattle.outcomes.specs.Outcomes.{Formed}
 use Rattle.outcomes.proofs.Filled.{filled-rest}
-use Rattle.redraws.specs.Holds.{NodeTable, EdgeTable, Held}
-use Rattle.redraws.proofs.Formed.{held}
+use Rattle.edge_rows.specs.Holds.{NodeTable, EdgeTable, NodeEdgeTables}
+use Rattle.edge_rows.proofs.Formed.{held}
 use Rattle.face_rows.specs.Holds.{Holds, healed}
 use Rattle.face_rows.proofs.Formed.{formed-held}
 use Rattle.face_rows.proofs.Healed.{healed-node-rows, healed-nodes, healed-edge-rows, healed-edges, healed-nodes-long}
@@ -78,7 +78,7 @@ module _ {nodes edges faces : List ℤ} {h : Head} (f : Formed nodes edges faces
     unfolding renamedFaces mapOf
     edge-next = ap (λ (x : Head). natAbs (x .«next_edge»)) (sym (after .head)) ∙ add-zero (natAbs (h .«next_edge»))
 
-    pub healed-held : Held nodes′ edges′ h′
+    pub healed-held : NodeEdgeTables nodes′ edges′ h′
     healed-held =
         record {
           node-table = rw (healed-node-count (formed-held f) row makes nodes′ edges′ faces′ h′ after) node-table;

@@ -20,7 +20,7 @@ use Rattle.outcomes.specs.declared.Done.{Done}
 use Rattle.outcomes.specs.Outcomes.{Formed}
 use Rattle.outcomes.proofs.Formed.{nodes-size, edges-size, faces-size, edge-rows, lent-is}
 use Rattle.reason_edges.specs.Kinds.{removeTicket}
-use Rattle.redraws.proofs.Removed.{row-in, number-is, edge-is}
+use Rattle.edge_rows.proofs.FoundRows.{edge-in, edge-number, edge-is}
 use Rattle.face_rows.specs.Holds.{faceKept, healed}
 use Rattle.face_rows.proofs.Healed.{removed-is}
 use Rattle.edit_remove.specs.Cleared.{Clearable, Cleared, cleared, valueLeft}
@@ -35,7 +35,7 @@ module _ {nodes edges faces : List ℤ} {h : Head} (f : Formed nodes edges faces
   row = edgeAt edges i
 
   row-is : edge m (natAbs z) ≡ row
-  row-is = edge-is f z i at
+  row-is = ap (λ (k : ℤ). edge m (natAbs k)) (edge-number f z i at) ∙ edge-is f i (edge-in f z i at)
 
   none-made : row .left ≡ row .right → makes ≡ false
   unfolding makesFace healsFaces
@@ -47,14 +47,14 @@ module _ {nodes edges faces : List ℤ} {h : Head} (f : Formed nodes edges faces
       ∙ ap (λ (b : Bool). b && lower) (&&-false news)
 
   pub clearable : Clearable nodes edges faces h i makes
-  clearable = let t = row-in f z i at in
+  clearable = let t = edge-in f z i at in
       record { formed = f; row = t; cells = edge-row-of (edge-rows f) i t; kept = none-made }
 
   removed-map : removeEdge news (natAbs z) m ≡ cleared makes row m
   removed-map =
       removed-is news (natAbs z) m
       ∙ ap₂ (λ (b : Bool) (r : Edge). undrawn (natAbs z) (faceKept b r m) (healed b r m)) (sym made) row-is
-      ∙ ap (λ (k : ℕ). undrawn k (faceKept makes row m) (healed makes row m)) (ap natAbs (number-is f z i at))
+      ∙ ap (λ (k : ℕ). undrawn k (faceKept makes row m) (healed makes row m)) (ap natAbs (edge-number f z i at))
 
   carried-map : (b : Bool) → carried m (removeTicket b z) .0 ≡ removeEdge b (natAbs z) m
   unfolding carried

@@ -22,8 +22,8 @@ use Rattle.tables.specs.Tables.{edgeAt}
 use Rattle.form_ranges.specs.Ranges.{lent}
 use Rattle.outcomes.specs.declared.Done.{Done}
 use Rattle.outcomes.specs.Outcomes.{Formed}
-use Rattle.redraws.specs.Holds.{Undrawn}
-use Rattle.redraws.proofs.Removed.{undrawn-head}
+use Rattle.edge_rows.specs.Holds.{Undrawn}
+use Rattle.edge_rows.proofs.Undrawn.{undrawn-head}
 use Rattle.face_rows.specs.Holds.{facesIn, Holds, faceKept, healed}
 use Rattle.face_rows.proofs.Formed.{formed-held, holds-before}
 use Rattle.face_rows.proofs.Healed.{healed-map, healed-nodes-long, healed-edges-long, healed-number}

@@ -32,12 +32,12 @@ fn remove_and_heal(
     let left = edges[i * map::EDGE_WIDTH + map::LEFT];
     let right = edges[i * map::EDGE_WIDTH + map::RIGHT];
     if left == right {
-        let after = redraws::undraw(nodes, edges, h, i, left);
+        let after = edge_rows::undraw(nodes, edges, h, i, left);
         return outcomes::carried(after, -1);
     }
     let healed = face_rows::heal_faces(nodes, edges, faces, h, left, right, makes);
     let face = healed.answer.value;
-    let after = redraws::undraw(nodes, edges, healed.head, i, face);
+    let after = edge_rows::undraw(nodes, edges, healed.head, i, face);
     outcomes::carried(after, face)
 }
 

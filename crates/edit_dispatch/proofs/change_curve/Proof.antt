@@ -14,9 +14,9 @@ use Rattle.edit_dispatch.proofs.change_curve.Statement.{statement}
 use Rattle.edit_dispatch.proofs.change_curve.Tie as tie
 
 refused : tie.Need-returns
-refused c faces f =
+refused c =
     let a = c .before .before .args in
-    shaped-none (a .nodes .now) (a .edges .now) faces (a .h) (c .refused .ensures)
+    shaped-none (a .nodes .now) (a .edges .now) (a .faces .now) (a .h) (c .refused .ensures)
     (one-curve-none ChangeEdgeGeom (a .t .now) (test-taken (length (a .t .now)) 2 1 (c .before .if1 .taken)))
 
 number : tie.Need-shared-slice-copy-out-change-curve
@@ -26,12 +26,12 @@ curve : tie.Need-sub-change-curve
 curve c = test-left (length (c .before .before .before .args .t .now)) 2 1 (c .before .before .if1 .left) .0
 
 returns : tie.Need-returns-2
-returns c faces f =
+returns c =
     let s = c .before .before .before .before .before in
     let a = s .before .args in
     let t = a .t .now in
-    c .before .change-curve .ensures faces f
-    ∙ ap (shaped (lent (a .nodes .now) (a .edges .now) faces (a .h)))
+    c .before .change-curve .ensures
+    ∙ ap (shaped (lent (a .nodes .now) (a .edges .now) (a .faces .now) (a .h)))
     (one-curve-read ChangeEdgeGeom t (test-left (length t) 2 1 (s .if1 .left))
     (sent (c .before .before .before .change-curve-arg2 .given)) (part-to-end t 2))
 

@@ -63,18 +63,19 @@ edit-spec =
     ∙ known (m .before) 2 (m .match .keys3) (lit< tt))
     (λ c. search needs)
     (λ c. search needs)
-    (λ c. let m = c .before .before .before .before .before in let s = m .before .before .before in
-    c .before .before .add-lone-edge .ensures (s .args .faces .now) (s .pre)
+    (λ c. search needs)
+    (λ c. let m = c .before .before .before .before .before .before in c .before .before .add-isolated-edge .ensures
     ∙ known (m .before) 3 (m .match .keys4) (lit< tt))
     (λ c. search needs)
     (λ c. search needs)
-    (λ c. let m = c .before .before .before .before .before in let s = m .before .before .before in
-    c .before .before .remove-lone-edge .ensures (s .args .faces .now) (s .pre)
+    (λ c. search needs)
+    (λ c. let m = c .before .before .before .before .before .before in c .before .before .remove-isolated-edge .ensures
     ∙ known (m .before) 4 (m .match .keys5) (lit< tt))
     (λ c. search needs)
     (λ c. search needs)
-    (λ c. let m = c .before .before .before .before in let s = m .before .before .before in
-    c .before .change-curve .ensures (s .args .faces .now) (s .pre) ∙ known (m .before) 5 (m .match .keys6) (lit< tt))
+    (λ c. search needs)
+    (λ c. let m = c .before .before .before .before .before in c .before .change-curve .ensures
+    ∙ known (m .before) 5 (m .match .keys6) (lit< tt))
     (λ c. search needs)
     (λ c. search needs)
     (λ c. let m = c .before .before .before .before .before in let s = m .before .before .before in

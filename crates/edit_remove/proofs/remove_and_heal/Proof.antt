@@ -11,7 +11,7 @@ use Rattle.lists.proofs.Bools.{same-eq, same-false}
 use Rattle.tables.specs.Tables.{edgeAt}
 use Rattle.tables.proofs.Rows.{edge-cells}
 use Rattle.tables.proofs.Order.{word-is}
-use Rattle.redraws.proofs.Formed.{held}
+use Rattle.edge_rows.proofs.Formed.{held}
 use Rattle.face_rows.proofs.Formed.{formed-healable, formed-held}
 use Rattle.face_rows.proofs.Healed.{healed-edge-count}
 use Rattle.edit_remove.proofs.Heal.{healed-held}

@@ -1,0 +1,74 @@
+-- A table whose rows in use are in range, with zeros behind, is its rows' numbers and zeros. Assumes nothing.
+use mathlib.Core.Path.{_≡_, sym, ap, _∙_}
+use mathlib.Core.Bool.{true}
+use mathlib.Core.List.{List, [], _∷_, flatMap}
+use Prim.Native.Nat.{ℕ, _/_, _≤_}
+use native.Mathlib.Omega.{arith}
+use lib.Dec.{leb·zero}
+use lib.IntN.{ℤ, pos}
+use lib.ListN.{length}
+use borrow.Author.Tests.{le-leb}
+use Rattle.lists.specs.Tests.{same}
+use Rattle.map.specs.declared.Head.{Head}
+use Rattle.map.specs.Limits.{maxNodes, maxEdges, nodeWidth, edgeWidth}
+use Rattle.map.specs.Rows.{Lent, mapOf, lentOf, filled, nodeCells, edgeCells, whole}
+use Rattle.map.specs.Form.{ranged}
+use Rattle.map.proofs.RoundTrip.{writes-back, whole-rows}
+use Rattle.tables.specs.Tables.{nodesOf, edgesOf}
+use Rattle.form_ranges.specs.Ranges.{lent}
+use Rattle.edge_rows.specs.Holds.{NodeTable, EdgeTable}
+
+-- beside empty tables and face 0
+abbrev counting : ℕ → ℕ → Head
+counting n k = record {
+  nodes = pos n;
+  edges = pos k;
+  faces = pos 1;
+  «next_node» = pos 1;
+  «next_edge» = pos 1;
+  «next_face» = pos 1;
+}
+
+abbrev nodesAlone : List ℤ → ℕ → Lent
+nodesAlone l n = lent l [] (pos 0 ∷ []) (counting n 0)
+
+abbrev edgesAlone : List ℤ → ℕ → Lent
+edgesAlone l n = lent [] l (pos 0 ∷ []) (counting 0 n)
+
+module _ {l : List ℤ} {n : ℕ} (t : NodeTable l n) where
+  pub nodes-room : n ≤ length l / nodeWidth
+  nodes-room = let s = whole-rows nodeWidth 0 maxNodes l (t .whole) .size in let f = t .rows .fits in omega arith
+
+  nodes-whole : whole (nodesAlone l n) ≡ true
+  unfolding whole same
+  nodes-whole = rw (t .whole)
+
+  nodes-ranged : ranged (nodesAlone l n) ≡ true
+  unfolding ranged same
+  nodes-ranged = rw (leb·zero n, le-leb n (length l / nodeWidth) nodes-room, t .rest, t .rows .ranges)
+
+  pub nodes-filled : filled (length l) (flatMap nodeCells (nodesOf l n)) ≡ l
+  unfolding lentOf mapOf
+  nodes-filled =
+      ap (λ (k : ℕ). filled k (flatMap nodeCells (nodesOf l n)))
+      (sym (whole-rows nodeWidth 0 maxNodes l (t .whole) .size))
+      ∙ ap (λ (x : Lent). x .nodes) (writes-back (nodesAlone l n) nodes-whole nodes-ranged)
+
+module _ {l : List ℤ} {n : ℕ} (t : EdgeTable l n) where
+  pub edges-room : n ≤ length l / edgeWidth
+  edges-room = let s = whole-rows edgeWidth 0 maxEdges l (t .whole) .size in let f = t .rows .fits in omega arith
+
+  edges-whole : whole (edgesAlone l n) ≡ true
+  unfolding whole same
+  edges-whole = rw (t .whole)
+
+  edges-ranged : ranged (edgesAlone l n) ≡ true
+  unfolding ranged same
+  edges-ranged = rw (leb·zero n, le-leb n (length l / edgeWidth) edges-room, t .rest, t .rows .ranges)
+
+  pub edges-filled : filled (length l) (flatMap edgeCells (edgesOf l n)) ≡ l
+  unfolding lentOf mapOf
+  edges-filled =
+      ap (λ (k : ℕ). filled k (flatMap edgeCells (edgesOf l n)))
+      (sym (whole-rows edgeWidth 0 maxEdges l (t .whole) .size))
+      ∙ ap (λ (x : Lent). x .edges) (writes-back (edgesAlone l n) edges-whole edges-ranged)

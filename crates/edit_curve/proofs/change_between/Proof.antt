@@ -1,0 +1,74 @@
+-- `edit_curve::change_between` meets its contract: the first reason is answered, and else the curve is written. Assumes
+-- nothing.
+use borrow.Author.Needs.{needs}
+use mathlib.Core.Path.{_≡_, sym, _∙_}
+use native.Mathlib.Omega.{arith}
+use lib.IntN.{pos}
+use Rattle.map.specs.Rows.{mapOf, sizesOf}
+use Rattle.map.specs.Tickets.{ChangeEdgeGeom}
+use Rattle.map.specs.Reasons.{firstReason, reasons}
+use Rattle.tables.specs.Tables.{edgeAt}
+use Rattle.tables.proofs.Rows.{edge-row-of}
+use Rattle.form_ranges.specs.Ranges.{lent}
+use Rattle.outcomes.proofs.Formed.{edge-rows, decided-refused, decided-carried}
+use Rattle.edge_rows.proofs.Formed.{held}
+use Rattle.edit_curve.proofs.ChangeReasons.{change-run}
+use Rattle.edit_curve.proofs.Changed.{change-reasons, change-lent, change-value}
+use Rattle.edit_curve.proofs.change_between.Statement.{statement}
+use Rattle.edit_curve.proofs.change_between.Tie as tie
+
+first : (c : tie.After-change-reason)
+    → let a = c .before .before .args in
+    let l = lent (a .nodes .now) (a .edges .now) (a .faces .now) (a .h) in
+    firstReason (reasons (sizesOf l) (mapOf l)
+    (ChangeEdgeGeom (pos (edgeAt (a .edges .now) (a .i) .number)) (a .c .now))) ≡ c .change-reason .result
+first c =
+    let s = c .before .before in
+    let a = s .args in
+    change-reasons (s .pre .0) (a .c .now) (a .i) (s .pre .1) (a .u) (a .v) (s .pre .2)
+    ∙ sym (c .change-reason .ensures)
+
+refused : tie.Need-returns
+refused c =
+    let g = c .before .before in
+    let a = g .before .before .args in
+    decided-refused (a .nodes .now) (a .edges .now) (a .faces .now) (a .h)
+    (ChangeEdgeGeom (pos (edgeAt (a .edges .now) (a .i) .number)) (a .c .now)) (g .change-reason .result)
+    (let z = c .before .if1 .taken in omega arith) (c .refused .ensures) (first g)
+
+write-curve-requires : tie.Need-write-curve-requires
+write-curve-requires c κs =
+    let g = c .before .before in
+    let s = g .before .before in
+    let a = s .args in (
+      edge-row-of (edge-rows (s .pre .0)) (a .i) (s .pre .1),
+      change-run (a .nodes .now) (a .edges .now) (a .h) (a .i) (a .u) (a .v) (a .c .now)
+          (sym (g .change-reason .ensures) ∙ c .before .if1 .left),
+    )
+
+written : tie.Need-returns-2
+written c =
+    let w = c .before .before .write-curve in
+    let none = c .before .before .before .before .if1 .left in
+    let g = c .before .before .before .before .before in
+    let s = g .before .before in
+    let a = s .args in
+    let run = change-run (a .nodes .now) (a .edges .now) (a .h) (a .i) (a .u) (a .v) (a .c .now)
+    (sym (g .change-reason .ensures) ∙ none) in
+    decided-carried (a .nodes .now) (a .edges .now) (a .faces .now) (a .h)
+    (ChangeEdgeGeom (pos (edgeAt (a .edges .now) (a .i) .number)) (a .c .now)) (a .nodes .now) (w .last .0)
+    (a .faces .now) (a .h) (pos 0) (c .carried .ensures) (first g ∙ none)
+    (change-lent (s .pre .0) (a .c .now) (a .i) (s .pre .1) run (w .ensures)) (change-value _ _ _)
+
+pub change-between-spec : {M : Type 1} → statement M
+change-between-spec =
+    tie.close
+    (tie.spec
+    (λ c κs. let p = c .before .pre in (held (p .0), p .1, p .2 .start-in, p .2 .end-in))
+    (λ c κs. search needs)
+    (λ c. search needs)
+    refused
+    write-curve-requires
+    (λ c κs. search needs)
+    (λ c. search needs)
+    written)

@@ -1,0 +1,2 @@
+-- `Change`: the reasons of kind 6 by rows.
+pub mod Change

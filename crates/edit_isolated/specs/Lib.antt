@@ -1,0 +1,2 @@
+-- `Isolated`: the reasons of kind 4 by rows.
+pub mod Isolated
