@@ -31,8 +31,8 @@ use Rattle.outcomes.proofs.Formed.{ranges, formed-map, nodes-count, edges-count
 use Rattle.outcomes.proofs.Formed.{nodes-size, edges-size, faces-size, node-rows, edge-rows, full-is, spent-is}
 use Rattle.outcomes.proofs.Formed.{nodes-room, node-left, numbers-rise, node-none}
 use Rattle.map.proofs.Reasons.{first-hit, first-miss, first-zero, first-append, first-after}
-use Rattle.reason_corners.specs.Corners.{cornerCell}
-use Rattle.reason_corners.proofs.Corners.{corner-in-form}
+use Rattle.reason_corners.specs.CornerFaces.{cornerCell}
+use Rattle.reason_corners.proofs.CornerFaces.{corner-in-form}
 use Rattle.reason_edges.specs.declared.Judged.{Judged}
 use Rattle.reason_edges.specs.Kinds.{addTicket}
 use Rattle.reason_edges.specs.Parts.{drawingReasons, growthReasons, roomReasons, makesSecond}

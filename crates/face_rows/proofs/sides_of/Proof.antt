@@ -23,8 +23,8 @@ use Rattle.face_rows.proofs.Words.{either, positive-is}
 use Rattle.face_rows.proofs.sides_of.Statement.{statement}
 use Rattle.face_rows.proofs.sides_of.Tie as tie
 
-add-pick : tie.Need-add-select
-add-pick c = let s = c .before in plus-fits (s .args .a) (s .pre .3) (s .pre .4)
+add-select : tie.Need-add-select
+add-select c = let s = c .before in plus-fits (s .args .a) (s .pre .3) (s .pre .4)
 
 add-t13 : tie.Need-add-t13
 add-t13 c =

@@ -35,7 +35,7 @@ use Rattle.darts.proofs.Positions.{half-below, cell-bears}
 use Rattle.links.specs.Linking.{positions, leavesNode, leaving, firstMet}
 use Rattle.links.proofs.FirstMet.{met-same, met-in, leaving-below, position-below, keep-same, with-none}
 use Rattle.links.proofs.Departures.{departures-map, met-found}
-use Rattle.reason_corners.specs.Corners.{cornerBy, cornerCell}
+use Rattle.reason_corners.specs.CornerFaces.{cornerBy, cornerCell}
 
 -- ---- the first departure met
 
