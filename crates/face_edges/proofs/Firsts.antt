@@ -23,7 +23,7 @@ use Rattle.map.specs.Limits.{edgeWidth}
 use Rattle.map.specs.Rows.{Map}
 use Rattle.map.specs.Darts.{directed, next, bears, ring, among, lower}
 use Rattle.map.proofs.Scans.{any-none, some-any}
-use Rattle.grown.proofs.EdgesRings.{among-has, among-in, ring-has, ring-leads, leads-back}
+use Rattle.map_laws.proofs.Rings.{among-has, among-in, ring-has, ring-leads, leads-back}
 use Rattle.tables.specs.Tables.{edgeAt, edgeMap}
 use Rattle.tables.proofs.Order.{rise, lt-or-ge}
 use Rattle.tables.proofs.Rows.{edge-rows-rising}

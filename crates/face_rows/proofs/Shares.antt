@@ -28,7 +28,7 @@ use Rattle.map.specs.Form.{nodeRanges, numbered}
 use Rattle.map.specs.Edits.{Shares, sideOfPoint, sideOfRing, sideOfDart, sideOfNode, withFace, withSides, sharedOut}
 use Rattle.map.proofs.RoundTrip.{node-back}
 use Rattle.map.proofs.Scans.{has-map}
-use Rattle.grown.proofs.EdgesSplit.{side-number}
+use Rattle.map_laws.proofs.Faces.{side-number}
 use Rattle.tables.specs.Tables.{NodeRows, sameZ, nodeAt, edgeAt, nodesOf, edgesOf, nodeMap}
 use Rattle.tables.proofs.Rows.{nodes-table, edges-table, nodes-length, map-table, edge-row}
 use Rattle.tables.proofs.RowCurves.{edge-few}

@@ -24,25 +24,17 @@ use Rattle.map.specs.Rows.{Edge, Map, edge, hasEdge, withoutEdge}
 use Rattle.map.specs.Darts.{directed, leaves, next, bears, way, course, departures, edgeEnds}
 use Rattle.map.specs.Links.{instead}
 use Rattle.map.specs.Edits.{startHalf, endHalf, sharedNodes, joint, parts, healedCurve}
+use Rattle.map.proofs.Laws.{edge-there}
+use Rattle.map_laws.proofs.Readings.{arcOf, edge-at, row-has, course-row}
+use Rattle.map_laws.proofs.RowDarts.{leaves-of, next-of}
 use Rattle.grown.specs.Good.{Good}
 use Rattle.grown.specs.Claims.{linkRenamed}
-use Rattle.grown.proofs.Readings.{arcOf, edge-row, edge-at, row-has, course-row}
-use Rattle.grown.proofs.RowDarts.{leaves-of, next-of}
+use Rattle.grown.proofs.Law.Lawful.{Lawful, good-lawful}
+use Rattle.grown.proofs.Law.Split.{InHalves, arcs-m′, once-m′, in-first, in-second, starts-off, ends-off, halves}
 use Rattle.grown.proofs.Renumber.{ways}
 use Rattle.grown.proofs.Halved.{Halved, departs, whole, f-fwd, f-bwd, f-old}
 use Rattle.grown.proofs.SplitsRows.{instead-it, instead-other, halfNames, relinked}
 use Rattle.grown.proofs.HealsRows.{wholeNames}
-use Rattle.grown.proofs.LawfulForm.{Lawful, good-lawful}
-use Rattle.grown.proofs.LawfulSplit.{
-  InHalves,
-  arcs-m′,
-  once-m′,
-  in-first,
-  in-second,
-  starts-off,
-  ends-off,
-  halves,
-}
 
 -- ---- names there and back
 
@@ -138,7 +130,7 @@ module _ (m m′ : Map) (e n a b : ℕ) (p : Point) (g : Good m) (H : InHalves m
   r = map arcOf (withoutEdge e (m .edges))
 
   row : List·Memᴰ (edge m e) (m .edges)
-  row = edge-row m e (H .has) .0
+  row = edge-there m e (H .has) .0
 
   first-is : edge m′ a ≡ first
   first-is = edge-at m′ (once-m′ m m′ e n a b p L H) (in-first m m′ e n a b p L H)

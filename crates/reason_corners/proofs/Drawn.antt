@@ -35,11 +35,12 @@ use Rattle.darts.specs.Positions.{odd, dartAt, wayWith}
 use Rattle.darts.proofs.Positions.{edge-of, row-there}
 use Rattle.links.proofs.Darts.{dart-named, row-named}
 use Rattle.links.proofs.Departures.{departures-map}
-use Rattle.grown.proofs.Readings.{Relinked, numberOf, arcOf, has-number, nums-rows, edge-row, row-has, dart-has}
-use Rattle.grown.proofs.Readings.{departs, edge-by, tailIn, nextIn, leaves-row, next-row, course-row, way-row, next-by}
-use Rattle.grown.proofs.Readings.{keep-cong}
-use Rattle.grown.proofs.RowChanges.{more-old, more-new, more-directed}
-use Rattle.grown.proofs.EdgesDrawn.{drawnRow, appended, linkIn-relinked, linkIn-next, linked-in}
+use Rattle.map.proofs.Laws.{edge-there}
+use Rattle.map_laws.proofs.Readings.{Relinked, numberOf, arcOf, has-number, nums-rows, row-has, dart-has}
+use Rattle.map_laws.proofs.Readings.{departs, edge-by, tailIn, nextIn, leaves-row, next-row, course-row, way-row}
+use Rattle.map_laws.proofs.Readings.{next-by, keep-cong}
+use Rattle.map_laws.proofs.RowChanges.{more-old, more-new, more-directed}
+use Rattle.map_laws.proofs.LinkedIn.{drawnRow, appended, linkIn-relinked, linkIn-next, linkEdge-relinked}
 use Rattle.tables.proofs.Order.{same-pos}
 use Rattle.reason_corners.specs.Drawing.{drawnDart, departing, atEnd, startCorner, endCorner, Joined}
 use Rattle.reason_corners.proofs.Ends.{departing-below, at-end-below, start-way, end-way}
@@ -104,7 +105,7 @@ module _ {l : List ℤ} {e : ℕ} (t : EdgeRows l e) (c : List ℤ) (m : Map) (E
 
   has-old : (x : ℕ) → hasEdge m₀ x ≡ true → hasEdge m₁ x ≡ true
   has-old x h =
-      let r = edge-row m x (has-alone x ∙ h) in
+      let r = edge-there m x (has-alone x ∙ h) in
       ap (hasEdge m₁) (sym (r .1)) ∙ row-has m₁ (Memᴰ·append-left (row ∷ []) (r .0))
 
   has-new : hasEdge m₁ N ≡ true
@@ -259,7 +260,7 @@ module _ {l : List ℤ} {e : ℕ} (t : EdgeRows l e) (c : List ℤ) (m : Map) (E
   unfolding drawn atNodes
   rows-drawn =
       sym (length-map (linkEdge N m₁ .edges) arcOf)
-      ∙ ap length (linked-in m u v (curveOf c) φ none .arcs)
+      ∙ ap length (linkEdge-relinked (m .nextEdge) (appended m u v (curveOf c) φ) .arcs)
       ∙ length-map (m₁ .edges) arcOf
       ∙ length-append (m .edges) (row ∷ [])
       ∙ ap (λ (n : ℕ). n + 1) (ap length E ∙ edges-length l e)
