@@ -138,14 +138,14 @@ module _ (m m′ : Map) (e n a b : ℕ) (p : Point) (g : Good m) (H : InHalves m
   second-is : edge m′ b ≡ second
   second-is = edge-at m′ (once-m′ m m′ e n a b p L H) (in-second m m′ e n a b p L H)
 
-  two : Halved e (fwd a) (fwd b) s n t r (leaves m) (leaves m′) (next m) (next m′) (bears m) (bears m′) (way m) (way m′)
+  two : Halved e (fwd a) (fwd b) n r (leaves m) (leaves m′) (next m) (next m′) (bears m) (bears m′) (way m) (way m′)
   two = halves m m′ e n a b p L H
 
   -- exactly two ends are at n: the end of the start half and the start of the end half
   abbrev at-n : Dart → Bool
   at-n d = same (leaves m′ d) n
 
-  off-n : (z d : Dart) → List·Memᴰ z (whole e s t r) → departs e (fwd a) (fwd b) z ≡ d → at-n d ≡ false
+  off-n : (z d : Dart) → List·Memᴰ z (whole e r) → departs e (fwd a) (fwd b) z ≡ d → at-n d ≡ false
   off-n z d k q = same-false (leaves m′ d) n (λ j. two .away z k (sym (two .tails z k) ∙ ap (leaves m′) q ∙ j))
 
   ends-two : edgeEnds m′ n ≡ 2
@@ -155,19 +155,19 @@ module _ (m m′ : Map) (e n a b : ℕ) (p : Point) (g : Good m) (H : InHalves m
     where
       off-old : (d : Dart) → List·Memᴰ d (darts r) → at-n d ≡ false
       off-old d k =
-          off-n d d (List·Memᴰ·tail (List·Memᴰ·tail k)) (f-old e (fwd a) (fwd b) s n t r (two .fresh) (two .once) d k)
+          off-n d d (List·Memᴰ·tail (List·Memᴰ·tail k)) (f-old (two .parts) d k)
 
       none : countOf at-n (darts r) ≡ 0
       none = count-keep at-n (darts r) ∙ ap length (keep-none at-n (darts r) off-old)
 
       off-first : at-n (fwd a) ≡ false
       off-first =
-          off-n (fwd e) (fwd a) (List·Memᴰ·head refl) (f-fwd e (fwd a) (fwd b) s n t r (two .fresh) (two .once))
+          off-n (fwd e) (fwd a) (List·Memᴰ·head refl) (f-fwd (two .parts))
 
       off-second : at-n (bwd b) ≡ false
       off-second =
           off-n (bwd e) (bwd b) (List·Memᴰ·tail (List·Memᴰ·head refl))
-          (f-bwd e (fwd a) (fwd b) s n t r (two .fresh) (two .once))
+          (f-bwd (two .parts))
 
       counted : countOf at-n (fwd a ∷ bwd a ∷ fwd b ∷ bwd b ∷ darts r) ≡ 2
       counted = rw (off-first, off-second, two .tail-c, two .tail-d, same-refl n, none)

@@ -56,35 +56,35 @@ lawful-pair way is t x y ds lead ne mx my only ex ey d m = elim (only d m) [
       (ey ∙ sym (lawful-other way is t ds y x mx ne (λ c k. swap (only c k))))
 ]
 
-module _ (h : ℕ) (c d : Dart) (s n t : ℕ)
+module _ (h : ℕ) (c d : Dart) (n : ℕ)
     (r : List Arc) {tail tail′ : Dart → ℕ} {next next′ : Dart → Dart} {face face′ : Dart → ℕ} {way way′ : Dart → Way}
-    (H : Halved h c d s n t r tail tail′ next next′ face face′ way way′)
-    (all all′ : List Dart) (in-whole : (z : Dart) → List·Memᴰ z all → List·Memᴰ z (whole h s t r))
-    (of-whole : (z : Dart) → List·Memᴰ z (whole h s t r) → List·Memᴰ z all)
-    (in-halved : (z : Dart) → List·Memᴰ z all′ → List·Memᴰ z (halved c d s n t r))
-    (of-halved : (z : Dart) → List·Memᴰ z (halved c d s n t r) → List·Memᴰ z all′) where
+    (H : Halved h c d n r tail tail′ next next′ face face′ way way′)
+    (all all′ : List Dart) (in-whole : (z : Dart) → List·Memᴰ z all → List·Memᴰ z (whole h r))
+    (of-whole : (z : Dart) → List·Memᴰ z (whole h r) → List·Memᴰ z all)
+    (in-halved : (z : Dart) → List·Memᴰ z all′ → List·Memᴰ z (halved c d r))
+    (of-halved : (z : Dart) → List·Memᴰ z (halved c d r) → List·Memᴰ z all′) where
   names : Halves sameDart tells (departs h c d) tail tail′ (λ z. way′ (departs h c d z)) way′ (back rev next)
       (back rev next′) all n (rev c) d
   names = record {
     tails = λ z k. H .tails z (in-whole z k);
     ways = λ z k. refl;
     tests = λ z w k j. tests z w (in-whole z k) (in-whole w j);
-    leads = λ z k. ap next′ (turned h c d s n t r (H .fresh) (H .once) z (in-whole z k))
-        ∙ H .nexts (rev z) (rev-in (arc h s t ∷ r) (in-whole z k));
+    leads = λ z k. ap next′ (turned (H .parts) z (in-whole z k))
+        ∙ H .nexts (rev z) (rev-in (arc h 0 0 ∷ r) (in-whole z k));
     only = λ z k. H .away z (in-whole z k);
     x-there = H .tail-c;
     y-there = H .tail-d;
-    differ = joint-differs h c d s n t r (H .fresh) (H .once);
+    differ = joint-differs (H .parts);
     x-leads = ap next′ (rev-rev c) ∙ H .next-c;
     y-leads = H .next-d;
   }
     where
-      tests : (z w : Dart) → List·Memᴰ z (whole h s t r) → List·Memᴰ w (whole h s t r)
+      tests : (z w : Dart) → List·Memᴰ z (whole h r) → List·Memᴰ w (whole h r)
           → sameDart (departs h c d z) (departs h c d w) ≡ sameDart z w
       tests z w k j = elim (sameDart? z w) [
         | inl e ↦ is-yes tells (departs h c d z) (departs h c d w) (ap (departs h c d) e) ∙ sym (is-yes tells z w e)
         | inr ne ↦ is-no tells (departs h c d z) (departs h c d w)
-            (λ e. ne (f-one h c d s n t r (H .fresh) (H .once) z w k j e)) ∙ sym (is-no tells z w ne)
+            (λ e. ne (f-one (H .parts) z w k j e)) ∙ sym (is-no tells z w ne)
       ]
 
   -- the halves' darts: the joint's two and the renamed
@@ -93,7 +93,7 @@ module _ (h : ℕ) (c d : Dart) (s n t : ℕ)
 
   to-listed : (z : Dart) → List·Memᴰ z all′ → List·Memᴰ z listed
   unfolding listed
-  to-listed z k = elim (kind h c d s n t r (H .fresh) (H .once) z (in-halved z k)) [
+  to-listed z k = elim (kind (H .parts) z (in-halved z k)) [
     | inl q ↦ elim q [ inl e ↦ List·Memᴰ·head e | inr e ↦ List·Memᴰ·tail (List·Memᴰ·head e) ]
     | inr q ↦ List·Memᴰ·tail (List·Memᴰ·tail
         (Memᴰ·cast (sym (q .2)) (Memᴰ·map (departs h c d) (of-whole (q .0) (q .1)))))
@@ -104,15 +104,15 @@ module _ (h : ℕ) (c d : Dart) (s n t : ℕ)
     where
       go : (w : Dart) × List·Memᴰ w all × (departs h c d w ≡ z) → List·Memᴰ z all′
       go q = Memᴰ·cast (sym (q .2)) (of-halved (departs h c d (q .0))
-          (f-in h c d s n t r (H .fresh) (H .once) (q .0) (in-whole (q .0) (q .1))))
+          (f-in (H .parts) (q .0) (in-whole (q .0) (q .1))))
 
   of-listed : (z : Dart) → List·Memᴰ z listed → List·Memᴰ z all′
   unfolding listed
   of-listed z k = elim (List·Memᴰ·cases-cons k) [
-    | inl e ↦ Memᴰ·cast e (of-halved (rev c) (joint-c h c d s n t r (H .fresh) (H .once)))
+    | inl e ↦ Memᴰ·cast e (of-halved (rev c) (joint-c (H .parts)))
     | inr j ↦ elim (List·Memᴰ·cases-cons j) [
       | inl e ↦ Memᴰ·cast e
-          (of-halved d (joint-d h c d s n t r (H .fresh) (H .once)))
+          (of-halved d (joint-d (H .parts)))
       | inr i ↦ renamed-in z i
     ]
   ]
@@ -162,16 +162,16 @@ module _ (h : ℕ) (c d : Dart) (s n t : ℕ)
   -- at the joint
   lawful-joint : Lawful way′ sameDart (from tail′ all′ n) (back rev next′)
   lawful-joint = lawful-pair way′ sameDart tells (rev c) d (from tail′ all′ n) (back rev next′)
-      (joint-differs h c d s n t r (H .fresh) (H .once))
-      (keep-has (λ z. same (tail′ z) n) all′ (of-halved (rev c) (joint-c h c d s n t r (H .fresh) (H .once)))
+      (joint-differs (H .parts))
+      (keep-has (λ z. same (tail′ z) n) all′ (of-halved (rev c) (joint-c (H .parts)))
       (same-eq (tail′ (rev c)) n (H .tail-c)))
-      (keep-has (λ z. same (tail′ z) n) all′ (of-halved d (joint-d h c d s n t r (H .fresh) (H .once)))
+      (keep-has (λ z. same (tail′ z) n) all′ (of-halved d (joint-d (H .parts)))
       (same-eq (tail′ d) n (H .tail-d)))
       two (ap next′ (rev-rev c) ∙ H .next-c) (H .next-d)
     where
       two : (z : Dart) → List·Memᴰ z (from tail′ all′ n) → (z ≡ rev c) ⊎ (z ≡ d)
       two z m = let x = keep-in (λ z. same (tail′ z) n) all′ m in
-          elim (kind h c d s n t r (H .fresh) (H .once) z (in-halved z (x .0))) [
+          elim (kind (H .parts) z (in-halved z (x .0))) [
             | inl q ↦ q
             | inr q ↦ absurd (H .away (q .0) (q .1)
                 (sym (H .tails (q .0) (q .1)) ∙ ap tail′ (q .2) ∙ same-true (tail′ z) n (x .1)))
@@ -199,5 +199,5 @@ module _ (h : ℕ) (c d : Dart) (s n t : ℕ)
       (λ z k. sameWay-sym _ _ (H .ways z (in-whole z k)))
       (heal-law sameDart tells (departs h c d) tail tail′ (λ z. way′ (departs h c d z)) way′ (back rev next)
       (back rev next′) all n (rev c) d names
-      (λ z k. of-whole (next (rev z)) (H .into (rev z) (rev-in (arc h s t ∷ r) (in-whole z k))))
+      (λ z k. of-whole (next (rev z)) (H .into (rev z) (rev-in (arc h 0 0 ∷ r) (in-whole z k))))
       (law-order sameDart tells tail′ way′ all′ listed to-listed of-listed (back rev next′) apart l))

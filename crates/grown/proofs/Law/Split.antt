@@ -38,8 +38,8 @@ use Rattle.grown.specs.Good.{Anchored}
 use Rattle.grown.proofs.Law.Halves.{split-lawful}
 use Rattle.grown.proofs.Law.Lawful.{Obeys, Lawful}
 use Rattle.grown.proofs.Curves.Ends.{reverse-way, front-way, back-some, back-way}
-use Rattle.grown.proofs.Halved.{Halved, departs, arrives, whole, each-whole, f-fwd, f-bwd, f-old, g-fwd, g-bwd}
-use Rattle.grown.proofs.Halved.{g-old}
+use Rattle.grown.proofs.Halved.{Parts, Halved, departs, arrives, whole, each-whole, f-fwd, f-bwd, f-old, g-fwd}
+use Rattle.grown.proofs.Halved.{g-bwd, g-old}
 use Rattle.grown.proofs.SplitsRows.{halfNames, relinked, names-are, parted, parted-edges, parted-row, one-last}
 use Rattle.grown.proofs.SplitsRows.{rest-other, rows-m, replaced, left-out}
 
@@ -104,10 +104,10 @@ module _ (m m′ : Map) (e n a b : ℕ) (p : Point) (L : Lawful m) (h : InHalves
   arcs-m′ = subst (λ (l : List Arc). List·Permᴰ (arcs m′) (arc a s n ∷ arc b n t ∷ l))
       (map-map arcOf (relinked e a b) (withoutEdge e (m .edges))) (Permᴰ·map arcOf (h .rows))
 
-  to-m : (z : Dart) → List·Memᴰ z (whole e s t r) → List·Memᴰ z (directed m)
+  to-m : (z : Dart) → List·Memᴰ z (whole e r) → List·Memᴰ z (directed m)
   to-m = dart-move (Permᴰ·symm arcs-m)
 
-  of-m : (z : Dart) → List·Memᴰ z (directed m) → List·Memᴰ z (whole e s t r)
+  of-m : (z : Dart) → List·Memᴰ z (directed m) → List·Memᴰ z (whole e r)
   of-m = dart-move arcs-m
 
   -- numbers stand once
@@ -142,18 +142,21 @@ module _ (m m′ : Map) (e n a b : ℕ) (p : Point) (L : Lawful m) (h : InHalves
   pub ends-off : lastPoint (edge m e .curve) ≢ p
   ends-off = off .1
 
+  abbrev parts : Parts e (fwd a) (fwd b) r
+  parts = record { fresh = old-once .0; once = once }
+
   abbrev by : (P : Dart → Type 0) → P (fwd e) → P (bwd e) → ((z : Dart) → List·Memᴰ z (darts r) → P z) → (z : Dart)
-      → List·Memᴰ z (whole e s t r) → P z
-  by = each-whole e (fwd a) (fwd b) s n t r (old-once .0) once
+      → List·Memᴰ z (whole e r) → P z
+  by = each-whole e r
 
   ff : departs e (fwd a) (fwd b) (fwd e) ≡ fwd a
-  ff = f-fwd e (fwd a) (fwd b) s n t r (old-once .0) once
+  ff = f-fwd parts
 
   fb : departs e (fwd a) (fwd b) (bwd e) ≡ bwd b
-  fb = f-bwd e (fwd a) (fwd b) s n t r (old-once .0) once
+  fb = f-bwd parts
 
   fo : (z : Dart) → List·Memᴰ z (darts r) → departs e (fwd a) (fwd b) z ≡ z
-  fo = f-old e (fwd a) (fwd b) s n t r (old-once .0) once
+  fo = f-old parts
 
   -- a row of the others is read as it was, but for its links
   leaves-old : (z : Dart) → List·Memᴰ z (darts r) → leaves m′ z ≡ leaves m z
@@ -195,11 +198,10 @@ module _ (m m′ : Map) (e n a b : ℕ) (p : Point) (L : Lawful m) (h : InHalves
       ∙ back-way p (edge m e .curve) starts-off ends-off (h .on)
 
   -- the two maps as one with the edge whole and with it in halves
-  pub halves : Halved e (fwd a) (fwd b) s n t r (leaves m) (leaves m′) (next m) (next m′) (bears m) (bears m′) (way m)
+  pub halves : Halved e (fwd a) (fwd b) n r (leaves m) (leaves m′) (next m) (next m′) (bears m) (bears m′) (way m)
       (way m′)
   halves = record {
-    fresh = old-once .0;
-    once = once;
+    parts = parts;
     tails = by (λ z. leaves m′ (departs e (fwd a) (fwd b) z) ≡ leaves m z)
         (ap (leaves m′) ff ∙ leaves-of m′ once-m′ first in-first (fwd a) refl ∙ sym (leaves-row m (fwd e)))
         (ap (leaves m′) fb ∙ leaves-of m′ once-m′ second in-second (bwd b) refl ∙ sym (leaves-row m (bwd e)))
@@ -211,13 +213,13 @@ module _ (m m′ : Map) (e n a b : ℕ) (p : Point) (L : Lawful m) (h : InHalves
     ways = by (λ z. sameWay (way m z) (way m′ (departs e (fwd a) (fwd b) z)) ≡ true) way-f way-b
         (λ z k. ap (sameWay (way m z)) (ap (way m′) (fo z k) ∙ way-old z k) ∙ sameWay-refl (way m z));
     nexts = by (λ z. next m′ (arrives e (fwd a) (fwd b) z) ≡ departs e (fwd a) (fwd b) (next m z))
-        (ap (next m′) (g-fwd e (fwd a) (fwd b) s n t r (old-once .0) once)
+        (ap (next m′) (g-fwd parts)
         ∙ next-of m′ once-m′ second in-second (fwd b) refl ∙ names-are e a b (edge m e .nextLeft)
         ∙ ap (departs e (fwd a) (fwd b)) (sym (next-row m (fwd e))))
-        (ap (next m′) (g-bwd e (fwd a) (fwd b) s n t r (old-once .0) once)
+        (ap (next m′) (g-bwd parts)
         ∙ next-of m′ once-m′ first in-first (bwd a) refl ∙ names-are e a b (edge m e .nextRight)
         ∙ ap (departs e (fwd a) (fwd b)) (sym (next-row m (bwd e))))
-        (λ z k. ap (next m′) (g-old e (fwd a) (fwd b) s n t r (old-once .0) once z k) ∙ next-old z k);
+        (λ z k. ap (next m′) (g-old parts z k) ∙ next-old z k);
     into = λ z k. of-m (next m z) (next-in (L .linked) (to-m z k));
     away = λ z k q. h .new-node (Memᴰ·cast (sym q) (tail-in (L .linked) (L .within) (to-m z k)));
     tail-c = leaves-of m′ once-m′ first in-first (bwd a) refl;
@@ -229,7 +231,7 @@ module _ (m m′ : Map) (e n a b : ℕ) (p : Point) (L : Lawful m) (h : InHalves
   }
 
   halves-obey : Obeys m′
-  halves-obey = split-lawful e (fwd a) (fwd b) s n t r halves (directed m) (directed m′) of-m to-m (dart-move arcs-m′)
+  halves-obey = split-lawful e (fwd a) (fwd b) n r halves (directed m) (directed m′) of-m to-m (dart-move arcs-m′)
       (dart-move (Permᴰ·symm arcs-m′)) (L .apart) (L .law)
 
 -- ---- the rows of a split

@@ -36,8 +36,8 @@ use Rattle.grown.proofs.Curves.Ends.{reverse-some, reverse-way, joined-
 use Rattle.grown.proofs.Joint.{Seamed}
 use Rattle.grown.proofs.Renumber.{runs}
 use Rattle.grown.proofs.Halved as halved
-use Rattle.grown.proofs.Halved.{Halved, arrives, whole, each-whole, each-halved, f-fwd, f-bwd, f-old, g-fwd}
-use Rattle.grown.proofs.Halved.{g-bwd, g-old}
+use Rattle.grown.proofs.Halved.{Parts, Halved, arrives, whole, each-whole, each-halved, f-fwd, f-bwd, f-old}
+use Rattle.grown.proofs.Halved.{g-fwd, g-bwd, g-old}
 use Rattle.grown.proofs.SplitsRows.{instead-it, instead-other}
 use Rattle.grown.proofs.HealsRows.{wholeNames, relinked, healedRow, runs-row}
 
@@ -174,10 +174,10 @@ module _ (m : Map) (L : Lawful m) (e f n : ℕ) (c d : Dart) (seam : Seamed m e 
     in-other : {q : Edge} → List·Memᴰ q rest → List·Memᴰ (relinked h c d q) (m′ .edges)
     in-other k = perm-in (Permᴰ·symm (q .rows)) (List·Memᴰ·tail (Memᴰ·map (relinked h c d) k))
 
-    to-m : (z : Dart) → List·Memᴰ z (halved.halved c d from n to r) → List·Memᴰ z (directed m)
+    to-m : (z : Dart) → List·Memᴰ z (halved.halved c d r) → List·Memᴰ z (directed m)
     to-m = dart-move (Permᴰ·symm arcs-m)
 
-    of-m : (z : Dart) → List·Memᴰ z (directed m) → List·Memᴰ z (halved.halved c d from n to r)
+    of-m : (z : Dart) → List·Memᴰ z (directed m) → List·Memᴰ z (halved.halved c d r)
     of-m = dart-move arcs-m
 
     pub old-m : {z : Dart} → List·Memᴰ z (darts r) → List·Memᴰ z (directed m)
@@ -186,27 +186,30 @@ module _ (m : Map) (L : Lawful m) (e f n : ℕ) (c d : Dart) (seam : Seamed m e 
     abbrev δ : Dart → Dart
     δ = halved.departs h c d
 
+    abbrev parts : Parts h c d r
+    parts = record { fresh = q .new-h; once = once }
+
     abbrev by : (P : Dart → Type 0) → P (fwd h) → P (bwd h) → ((z : Dart) → List·Memᴰ z (darts r) → P z) → (z : Dart)
-        → List·Memᴰ z (whole h from to r) → P z
-    by = each-whole h c d from n to r (q .new-h) once
+        → List·Memᴰ z (whole h r) → P z
+    by = each-whole h r
 
     ff : δ (fwd h) ≡ c
-    ff = f-fwd h c d from n to r (q .new-h) once
+    ff = f-fwd parts
 
     fb : δ (bwd h) ≡ rev d
-    fb = f-bwd h c d from n to r (q .new-h) once
+    fb = f-bwd parts
 
     fo : (z : Dart) → List·Memᴰ z (darts r) → δ z ≡ z
-    fo = f-old h c d from n to r (q .new-h) once
+    fo = f-old parts
 
     gf : arrives h c d (fwd h) ≡ d
-    gf = g-fwd h c d from n to r (q .new-h) once
+    gf = g-fwd parts
 
     gb : arrives h c d (bwd h) ≡ rev c
-    gb = g-bwd h c d from n to r (q .new-h) once
+    gb = g-bwd parts
 
     go : (z : Dart) → List·Memᴰ z (darts r) → arrives h c d z ≡ z
-    go = g-old h c d from n to r (q .new-h) once
+    go = g-old parts
 
     numbers : {x y : Dart} → x ≡ y → x .edge ≡ y .edge
     numbers q = ap (λ (z : Dart). z .edge) q
@@ -231,11 +234,11 @@ module _ (m : Map) (L : Lawful m) (e f n : ℕ) (c d : Dart) (seam : Seamed m e 
         ∙ instead-other (rev d) (bwd h) z (λ q. old-d z k (numbers q))
 
     Renamed : Dart → Type 0
-    Renamed y = y ≢ rev c → y ≢ d → List·Memᴰ (wholeNames h c d y) (whole h from to r) × (δ (wholeNames h c d y) ≡ y)
+    Renamed y = y ≢ rev c → y ≢ d → List·Memᴰ (wholeNames h c d y) (whole h r) × (δ (wholeNames h c d y) ≡ y)
 
-    renamed : (y : Dart) → List·Memᴰ y (halved.halved c d from n to r) → Renamed y
+    renamed : (y : Dart) → List·Memᴰ y (halved.halved c d r) → Renamed y
     unfolding Renamed
-    renamed = each-halved h c d from n to r (q .new-h) once Renamed
+    renamed = each-halved c d r Renamed
         (λ u v. (List·Memᴰ·head name-c, ap δ name-c ∙ ff)) (λ u v. absurd (u refl)) (λ u v. absurd (v refl))
         (λ u v. (List·Memᴰ·tail (List·Memᴰ·head name-d), ap δ name-d ∙ fb))
         (λ z k u v. (Memᴰ·cast (name-old z k) (List·Memᴰ·tail (List·Memᴰ·tail k)), ap δ (name-old z k) ∙ fo z k))
@@ -244,7 +247,7 @@ module _ (m : Map) (L : Lawful m) (e f n : ℕ) (c d : Dart) (seam : Seamed m e 
     Elsewhere : Dart → Type 0
     Elsewhere x = List·Memᴰ x (directed m) × (x ≢ c) × (x ≢ rev d)
 
-    elsewhere : (z : Dart) → List·Memᴰ z (whole h from to r) → Elsewhere (arrives h c d z)
+    elsewhere : (z : Dart) → List·Memᴰ z (whole h r) → Elsewhere (arrives h c d z)
     unfolding Elsewhere
     elsewhere = by (λ z. Elsewhere (arrives h c d z))
         (subst Elsewhere (sym gf) (seam .second-in, (λ q. seam .two (sym (numbers q))), (λ q. turned d (sym q))))
@@ -259,8 +262,8 @@ module _ (m : Map) (L : Lawful m) (e f n : ℕ) (c d : Dart) (seam : Seamed m e 
             flip false p = true≢false p
 
     -- goes on elsewhere
-    onward : (z : Dart) → List·Memᴰ z (whole h from to r)
-        → List·Memᴰ (wholeNames h c d (next m (arrives h c d z))) (whole h from to r)
+    onward : (z : Dart) → List·Memᴰ z (whole h r)
+        → List·Memᴰ (wholeNames h c d (next m (arrives h c d z))) (whole h r)
         × (δ (wholeNames h c d (next m (arrives h c d z))) ≡ next m (arrives h c d z))
     unfolding Renamed Elsewhere
     onward z k = renamed (next m x) (of-m (next m x) (next-in (L .linked) (at .0)))
@@ -297,13 +300,13 @@ module _ (m : Map) (L : Lawful m) (e f n : ℕ) (c d : Dart) (seam : Seamed m e 
         next-of m′ once-m′ (relinked h c d (x .0)) (in-other (x .1)) z (x .2) ∙ next-in-row (z .back) (x .0)
         ∙ ap (wholeNames h c d) (sym (next-of m (L .once) (x .0) (in-rest (x .1)) z (x .2)))
 
-    next-by : (z : Dart) → List·Memᴰ z (whole h from to r) → next m′ z ≡ wholeNames h c d (next m (arrives h c d z))
+    next-by : (z : Dart) → List·Memᴰ z (whole h r) → next m′ z ≡ wholeNames h c d (next m (arrives h c d z))
     next-by = by (λ z. next m′ z ≡ wholeNames h c d (next m (arrives h c d z)))
         (next-of m′ once-m′ (healedRow m e h c d) in-it (fwd h) refl ∙ ap (λ z. wholeNames h c d (next m z)) (sym gf))
         (next-of m′ once-m′ (healedRow m e h c d) in-it (bwd h) refl ∙ ap (λ z. wholeNames h c d (next m z)) (sym gb))
         (λ z k. next-old z k ∙ ap (λ z. wholeNames h c d (next m z)) (sym (go z k)))
 
-    tails : (z : Dart) → List·Memᴰ z (whole h from to r) → leaves m (δ z) ≡ leaves m′ z
+    tails : (z : Dart) → List·Memᴰ z (whole h r) → leaves m (δ z) ≡ leaves m′ z
     tails = by (λ z. leaves m (δ z) ≡ leaves m′ z)
         (ap (leaves m) ff ∙ sym (leaves-of m′ once-m′ (healedRow m e h c d) in-it (fwd h) refl))
         (ap (leaves m) fb ∙ sym (leaves-of m′ once-m′ (healedRow m e h c d) in-it (bwd h) refl))
@@ -341,7 +344,7 @@ module _ (m : Map) (L : Lawful m) (e f n : ℕ) (c d : Dart) (seam : Seamed m e 
         (way-back d (seam .second-in))
         ∙ sameWay-sym _ _ (joined-end (course m c) (course m d) joins some-c some-d)
 
-    away : (z : Dart) → List·Memᴰ z (whole h from to r) → leaves m′ z ≢ n
+    away : (z : Dart) → List·Memᴰ z (whole h r) → leaves m′ z ≢ n
     away = by (λ z. leaves m′ z ≢ n) (λ q. seam .from
         (sym (ap (leaves m) ff) ∙ tails (fwd h) (List·Memᴰ·head refl) ∙ q))
         (λ q. seam .to (sym (ap (leaves m) fb) ∙ tails (bwd h) (List·Memᴰ·tail (List·Memᴰ·head refl)) ∙ q))
@@ -352,11 +355,10 @@ module _ (m : Map) (L : Lawful m) (e f n : ℕ) (c d : Dart) (seam : Seamed m e 
         ])
 
     -- the two maps as one with the edge whole and with it in halves
-    pub halves : Halved h c d from n to r (leaves m′) (leaves m) (next m′) (next m) (bears m′) (bears m) (way m′)
+    pub halves : Halved h c d n r (leaves m′) (leaves m) (next m′) (next m) (bears m′) (bears m) (way m′)
         (way m)
     halves = record {
-      fresh = q .new-h;
-      once = once;
+      parts = parts;
       tails = tails;
       faces = by (λ z. bears m (δ z) ≡ bears m′ z) (ap (bears m) ff ∙ left-c ∙ sym left-it)
           (ap (bears m) fb ∙ right-d ∙ sym right-it) (λ z k. ap (bears m) (fo z k) ∙ sym (bears-old z k));
@@ -376,5 +378,5 @@ module _ (m : Map) (L : Lawful m) (e f n : ℕ) (c d : Dart) (seam : Seamed m e 
     }
 
     pub whole-obeys : Obeys m′
-    whole-obeys = heal-lawful h c d from n to r halves (directed m′) (directed m) (dart-move arcs-m′)
+    whole-obeys = heal-lawful h c d n r halves (directed m′) (directed m) (dart-move arcs-m′)
         (dart-move (Permᴰ·symm arcs-m′)) of-m to-m (L .apart) (L .law)

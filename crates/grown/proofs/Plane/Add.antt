@@ -18,7 +18,7 @@ use Rattle.map_laws.proofs.Faces.{bears-in, corner-in}
 use Rattle.grown.specs.Good.{Good, InPlane}
 use Rattle.grown.proofs.Numbers.Carried.{ranks}
 use Rattle.grown.proofs.Plane.Join.{draws-added, planar-joining}
-use Rattle.grown.proofs.Plane.SplitFace.{Faced, split-planar}
+use Rattle.grown.proofs.Plane.SplitFace.{Faced, split-face-planar}
 use Rattle.grown.proofs.Law.Lawful.{Lawful, good-lawful}
 use Rattle.grown.proofs.Numbers.Ranked.{ranked-faces}
 
@@ -41,7 +41,7 @@ module _ (news : Bool) (s : Sizes) (m : Map) (u v : ℕ) (c : Curve) (good : Goo
   pub planar-added : InPlane (addEdge news u v c m)
   unfolding addEdge
   planar-added = elim (which (splitsFace u v c m)) [
-    | inl e ↦ rw e (split-planar news m u v c (cornerFace m u (startWay c)) (draws-added m L s u v c news h)
+    | inl e ↦ rw e (split-face-planar news m u v c (cornerFace m u (startWay c)) (draws-added m L s u v c news h)
         (faced m good) (corner-in m u (startWay c) (h .has-start) (ranked-faces m (ranks m good))) (rings-apart e)
         (h .has-start)
         (h .has-end) (good .woven .planar))

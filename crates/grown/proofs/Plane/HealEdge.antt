@@ -18,7 +18,7 @@ use Rattle.planar_maps.proofs.Splitting.{renamed-at, renamed-other}
 use Rattle.planar_maps.proofs.Healing.{healed-at, healed-other, planar-heal}
 use Rattle.grown.proofs.Renumber.{runs, named, Named, planar-named}
 use Rattle.grown.proofs.Halved.{Halved, departs, arrives, whole, halved, each-whole, each-halved, f-fwd, f-bwd}
-use Rattle.grown.proofs.Halved.{f-old, g-fwd, g-bwd, g-old}
+use Rattle.grown.proofs.Halved.{f-old, g-fwd, g-bwd, g-old, old-h, old-c, old-d, c≢d}
 use Rattle.grown.proofs.Curves.Lists.{map-same}
 
 -- the dart of the number k that runs as z does where b is false, and against it where b is true
@@ -35,30 +35,10 @@ onto-rev k b x = λ i. record { edge = k; back = eq2 (λ p q. not p ⊕ q) (λ p
 -- k is a number for the second half, meanwhile
 module _ (h k : ℕ) (c d : Dart) (s n t : ℕ)
     (r : List Arc) {tail tail′ : Dart → ℕ} {next next′ : Dart → Dart} {face face′ : Dart → ℕ} {way way′ : Dart → Way}
-    (H : Halved h c d s n t r tail tail′ next next′ face face′ way way′) (k≢h : (k ≡ h) → ⊥)
+    (H : Halved h c d n r tail tail′ next next′ face face′ way way′) (k≢h : (k ≡ h) → ⊥)
     (k-new : List·Memᴰ k (nums r) → ⊥) where
-  all-W : (p : Dart → Type 0) → p (fwd h) → p (bwd h) → ((z : Dart) → List·Memᴰ z (darts r) → p z) → (z : Dart)
-      → List·Memᴰ z (whole h s t r) → p z
-  all-W = each-whole h c d s n t r (H .fresh) (H .once)
-
-  all-H : (p : Dart → Type 0) → p c → p (rev c) → p d → p (rev d) → ((z : Dart) → List·Memᴰ z (darts r) → p z)
-      → (z : Dart) → List·Memᴰ z (halved c d s n t r) → p z
-  all-H = each-halved h c d s n t r (H .fresh) (H .once)
-
-  old-h : {z : Dart} → List·Memᴰ z (darts r) → (z .edge ≡ h) → ⊥
-  old-h m p = fresh-dart (arc h s t) r (H .fresh) m p
-
   old-k : {z : Dart} → List·Memᴰ z (darts r) → (z .edge ≡ k) → ⊥
   old-k m p = fresh-dart (arc k n t) r k-new m p
-
-  old-c : {z : Dart} → List·Memᴰ z (darts r) → (z .edge ≡ c .edge) → ⊥
-  old-c m p = fresh-dart (runs c s n) r (λ i. H .once .0 (List·Memᴰ·tail i)) m p
-
-  old-d : {z : Dart} → List·Memᴰ z (darts r) → (z .edge ≡ d .edge) → ⊥
-  old-d m p = fresh-dart (runs d n t) r (H .once .1 .0) m p
-
-  c≢d : (d .edge ≡ c .edge) → ⊥
-  c≢d p = H .once .0 (List·Memᴰ·head (sym p))
 
   -- the halves run along h and k, and back
   σ : Dart → Dart
@@ -77,15 +57,15 @@ module _ (h k : ℕ) (c d : Dart) (s n t : ℕ)
 
   σ-d : σ d ≡ fwd k
   unfolding σ
-  σ-d = rw (same-false (d .edge) (c .edge) c≢d, same-refl (d .edge)) (onto-it k d)
+  σ-d = rw (same-false (d .edge) (c .edge) (λ p. c≢d (H .parts) (sym p)), same-refl (d .edge)) (onto-it k d)
 
   σ-d′ : σ (rev d) ≡ bwd k
   unfolding σ
-  σ-d′ = rw (same-false (d .edge) (c .edge) c≢d, same-refl (d .edge)) (onto-rev k (d .back) d ∙ ap rev (onto-it k d))
+  σ-d′ = rw (same-false (d .edge) (c .edge) (λ p. c≢d (H .parts) (sym p)), same-refl (d .edge)) (onto-rev k (d .back) d ∙ ap rev (onto-it k d))
 
   σ-old : (z : Dart) → List·Memᴰ z (darts r) → σ z ≡ z
   unfolding σ
-  σ-old z m = rw (same-false (z .edge) (c .edge) (old-c m), same-false (z .edge) (d .edge) (old-d m))
+  σ-old z m = rw (same-false (z .edge) (c .edge) (old-c (H .parts) m), same-false (z .edge) (d .edge) (old-d (H .parts) m))
 
   τ-f : τ (fwd h) ≡ c
   unfolding τ
@@ -105,10 +85,10 @@ module _ (h k : ℕ) (c d : Dart) (s n t : ℕ)
 
   τ-old : (z : Dart) → List·Memᴰ z (darts r) → τ z ≡ z
   unfolding τ
-  τ-old z m = with-other h c (rev c) _ z (old-h m) ∙ with-other k d (rev d) _ z (old-k m)
+  τ-old z m = with-other h c (rev c) _ z (old-h (H .parts) m) ∙ with-other k d (rev d) _ z (old-k m)
 
-  τ-σ : (z : Dart) → List·Memᴰ z (halved c d s n t r) → τ (σ z) ≡ z
-  τ-σ = all-H (λ z. τ (σ z) ≡ z) (ap τ σ-c ∙ τ-f) (ap τ σ-c′ ∙ τ-b) (ap τ σ-d ∙ τ-f′) (ap τ σ-d′ ∙ τ-b′)
+  τ-σ : (z : Dart) → List·Memᴰ z (halved c d r) → τ (σ z) ≡ z
+  τ-σ = each-halved c d r (λ z. τ (σ z) ≡ z) (ap τ σ-c ∙ τ-f) (ap τ σ-c′ ∙ τ-b) (ap τ σ-d ∙ τ-f′) (ap τ σ-d′ ∙ τ-b′)
       (λ z m. ap τ (σ-old z m) ∙ τ-old z m)
 
   turned : (z : Dart) → σ (rev z) ≡ rev (σ z)
@@ -149,21 +129,21 @@ module _ (h k : ℕ) (c d : Dart) (s n t : ℕ)
       (λ x m. ap (λ z. runs z (x .from) (x .to)) (σ-old (fwd (x .num)) (fwd-in m)))))
 
   -- a departure, as the halves' and back
-  back-again : (z : Dart) → List·Memᴰ z (whole h s t r) → renamed k h (σ (departs h c d z)) ≡ z
-  back-again = all-W (λ z. renamed k h (σ (departs h c d z)) ≡ z)
-      (ap (λ z. renamed k h (σ z)) (f-fwd h c d s n t r (H .fresh) (H .once)) ∙ ap (renamed k h) σ-c
+  back-again : (z : Dart) → List·Memᴰ z (whole h r) → renamed k h (σ (departs h c d z)) ≡ z
+  back-again = each-whole h r (λ z. renamed k h (σ (departs h c d z)) ≡ z)
+      (ap (λ z. renamed k h (σ z)) (f-fwd (H .parts)) ∙ ap (renamed k h) σ-c
       ∙ renamed-other k h (fwd h) fwd≢bwd)
-      (ap (λ z. renamed k h (σ z)) (f-bwd h c d s n t r (H .fresh) (H .once)) ∙ ap (renamed k h) σ-d′ ∙ renamed-at k h)
-      (λ z m. ap (λ z. renamed k h (σ z)) (f-old h c d s n t r (H .fresh) (H .once) z m) ∙ ap (renamed k h) (σ-old z m)
+      (ap (λ z. renamed k h (σ z)) (f-bwd (H .parts)) ∙ ap (renamed k h) σ-d′ ∙ renamed-at k h)
+      (λ z m. ap (λ z. renamed k h (σ z)) (f-old (H .parts) z m) ∙ ap (renamed k h) (σ-old z m)
       ∙ renamed-other k h z (λ e. old-k m (ap (λ (d : Dart). d .edge) e)))
 
   pub heal-planar : {nodes : List ℕ} {faces : ℕ}
       → Planar (n ∷ nodes) (runs c s n ∷ runs d n t ∷ r) tail′ next′ face′ faces → Isolated n r → ((s ≡ n) → ⊥)
       → ((t ≡ n) → ⊥) → Planar nodes (arc h s t ∷ r) tail next face faces
   heal-planar {nodes} {faces} o lone s≢n t≢n =
-      planar-agree (all-W (λ z. tail z ≡ with-edge h s t T z) tail-f tail-b tail-old)
-      (all-W (λ z. next z ≡ heal-next h k N z) next-f next-b next-old)
-      (all-W (λ z. face z ≡ face′ (τ z)) face-f face-b face-old) (planar-heal h k s n t r first lone s≢n t≢n)
+      planar-agree (each-whole h r (λ z. tail z ≡ with-edge h s t T z) tail-f tail-b tail-old)
+      (each-whole h r (λ z. next z ≡ heal-next h k N z) next-f next-b next-old)
+      (each-whole h r (λ z. face z ≡ face′ (τ z)) face-f face-b face-old) (planar-heal h k s n t r first lone s≢n t≢n)
     where
       T : Dart → ℕ
       T z = tail′ (τ z)
@@ -178,21 +158,21 @@ module _ (h k : ℕ) (c d : Dart) (s n t : ℕ)
       f = departs h c d
 
       ff : f (fwd h) ≡ c
-      ff = f-fwd h c d s n t r (H .fresh) (H .once)
+      ff = f-fwd (H .parts)
 
       fb : f (bwd h) ≡ rev d
-      fb = f-bwd h c d s n t r (H .fresh) (H .once)
+      fb = f-bwd (H .parts)
 
       fo : (z : Dart) → List·Memᴰ z (darts r) → f z ≡ z
-      fo = f-old h c d s n t r (H .fresh) (H .once)
+      fo = f-old (H .parts)
 
-      in-f : List·Memᴰ (fwd h) (whole h s t r)
+      in-f : List·Memᴰ (fwd h) (whole h r)
       in-f = List·Memᴰ·head refl
 
-      in-b : List·Memᴰ (bwd h) (whole h s t r)
+      in-b : List·Memᴰ (bwd h) (whole h r)
       in-b = List·Memᴰ·tail (List·Memᴰ·head refl)
 
-      in-old : {z : Dart} → List·Memᴰ z (darts r) → List·Memᴰ z (whole h s t r)
+      in-old : {z : Dart} → List·Memᴰ z (darts r) → List·Memᴰ z (whole h r)
       in-old m = List·Memᴰ·tail (List·Memᴰ·tail m)
 
       tail-f : tail (fwd h) ≡ with-edge h s t T (fwd h)
@@ -205,7 +185,7 @@ module _ (h k : ℕ) (c d : Dart) (s n t : ℕ)
 
       tail-old : (z : Dart) → List·Memᴰ z (darts r) → tail z ≡ with-edge h s t T z
       tail-old z m = sym (H .tails z (in-old m)) ∙ ap tail′ (fo z m ∙ sym (τ-old z m))
-          ∙ sym (with-other h s t T z (old-h m))
+          ∙ sym (with-other h s t T z (old-h (H .parts) m))
 
       face-f : face (fwd h) ≡ face′ (τ (fwd h))
       face-f = sym (H .faces (fwd h) in-f) ∙ ap face′ (ff ∙ sym τ-f)
@@ -217,18 +197,18 @@ module _ (h k : ℕ) (c d : Dart) (s n t : ℕ)
       face-old z m = sym (H .faces z (in-old m)) ∙ ap face′ (fo z m ∙ sym (τ-old z m))
 
       -- where z goes on, by what it arrives as
-      led : (z y : Dart) → List·Memᴰ z (whole h s t r) → arrives h c d z ≡ τ y → next z ≡ renamed k h (N y)
+      led : (z y : Dart) → List·Memᴰ z (whole h r) → arrives h c d z ≡ τ y → next z ≡ renamed k h (N y)
       led z y m e = sym (back-again (next z) (H .into z m))
           ∙ ap (λ x. renamed k h (σ x)) (sym (H .nexts z m) ∙ ap next′ e)
 
       next-f : next (fwd h) ≡ heal-next h k N (fwd h)
-      next-f = led (fwd h) (fwd k) in-f (g-fwd h c d s n t r (H .fresh) (H .once) ∙ sym τ-f′)
+      next-f = led (fwd h) (fwd k) in-f (g-fwd (H .parts) ∙ sym τ-f′)
           ∙ ap (λ z. renamed k h (N z)) (sym (healed-at h k))
 
       next-b : next (bwd h) ≡ heal-next h k N (bwd h)
-      next-b = led (bwd h) (bwd h) in-b (g-bwd h c d s n t r (H .fresh) (H .once) ∙ sym τ-b)
+      next-b = led (bwd h) (bwd h) in-b (g-bwd (H .parts) ∙ sym τ-b)
           ∙ ap (λ z. renamed k h (N z)) (sym (healed-other h k (bwd h) (λ e. fwd≢bwd (sym e))))
 
       next-old : (z : Dart) → List·Memᴰ z (darts r) → next z ≡ heal-next h k N z
-      next-old z m = led z z (in-old m) (g-old h c d s n t r (H .fresh) (H .once) z m ∙ sym (τ-old z m))
-          ∙ ap (λ z. renamed k h (N z)) (sym (healed-other h k z (λ e. old-h m (ap (λ (d : Dart). d .edge) e))))
+      next-old z m = led z z (in-old m) (g-old (H .parts) z m ∙ sym (τ-old z m))
+          ∙ ap (λ z. renamed k h (N z)) (sym (healed-other h k z (λ e. old-h (H .parts) m (ap (λ (d : Dart). d .edge) e))))

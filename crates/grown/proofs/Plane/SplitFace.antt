@@ -202,9 +202,9 @@ module _ (news : Bool) (m : Map) (u v : ℕ) (c : Curve) (φ : ℕ) (draws : Dra
   X-nodes = map-map (λ (n : Node). n .number) (λ n. sideOfNode D s n (n .face)) (D .nodes)
       ∙ map-cong _ (λ (n : Node). n .number) (D .nodes) (λ n k. side-number D s n (n .face))
 
-  pub split-planar : hasNode m u ≡ true → hasNode m v ≡ true → InPlane m
+  pub split-face-planar : hasNode m u ≡ true → hasNode m v ≡ true → InPlane m
       → InPlane (splitFace news (m .nextEdge) (drawn u v c φ m))
-  split-planar has-u has-v o = subst (λ (k : ℕ). Planar (nodeNumbers X) (arcs X) (leaves X) (next X) (bears X) k)
+  split-face-planar has-u has-v o = subst (λ (k : ℕ). Planar (nodeNumbers X) (arcs X) (leaves X) (next X) (bears X) k)
       (sym (ap length X-faces ∙ shared .count))
       (subst (λ (ns : List ℕ). Planar ns (arcs X) (leaves X) (next X) (bears X) (suc (length (m .faces)))) (sym X-nodes)
       (sides-planar D X (λ e. new (fwd (e .number))) (λ e. new (bwd (e .number))) X-edges X-bears
