@@ -12,12 +12,12 @@ use Rattle.map.specs.Form.{formed}
 use Rattle.map.specs.Links.{obeysLaw}
 use Rattle.map.proofs.Laws.{formed-is}
 use Rattle.grown.specs.Good.{Good, Numbered}
-use Rattle.grown.proofs.NumbersNodes.{zero-in}
-use Rattle.grown.proofs.Carried.{ranks}
+use Rattle.map_laws.proofs.Faces.{zero-in}
+use Rattle.grown.proofs.Numbers.Carried.{ranks}
+use Rattle.grown.proofs.Plane.Reached.{good-reached}
+use Rattle.grown.proofs.Law.Lawful.{Lawful, formed-lawful, law-is}
 use Rattle.grown.proofs.Forms.{good-formed}
 use Rattle.grown.proofs.Ranges.{NextInRange}
-use Rattle.grown.proofs.EdgesReached.{good-reached}
-use Rattle.grown.proofs.LawfulForm.{Lawful, formed-lawful, law-is}
 use Rattle.certified.specs.Certified.{nextInRange, nextsInRange, curvesClear, placesDiffer, sumHolds}
 use Rattle.certified.specs.Certified.{facesReached, inPlane, certified}
 use Rattle.certified.specs.Claims.{CertifiedIff}

@@ -22,8 +22,8 @@ use Rattle.map.specs.Rows.{Edge, Map, node}
 use Rattle.map.specs.Form.{curveFits, formed}
 use Rattle.map.proofs.Laws.{formed-is}
 use Rattle.grown.specs.Good.{Kept, Surveyed}
-use Rattle.grown.proofs.LawfulForm.{Lawful}
-use Rattle.grown.proofs.Apart.{curve-good, curve-long}
+use Rattle.grown.proofs.Law.Lawful.{Lawful}
+use Rattle.grown.proofs.Curves.Apart.{curve-good, curve-long}
 use Rattle.certified.specs.Certified.{inRange, countFits, curveKept, noTwo, curvesClear, placesDiffer}
 
 -- ---- points

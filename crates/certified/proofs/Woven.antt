@@ -22,10 +22,10 @@ use Rattle.map.specs.Darts.{arcs, directed, leaves, next, bears, way}
 use Rattle.map.specs.Form.{formed}
 use Rattle.map.proofs.Laws.{formed-is}
 use Rattle.grown.specs.Good.{Woven}
-use Rattle.grown.proofs.Readings.{arcOf, arc-at, bears-left, bears-right}
-use Rattle.grown.proofs.RowChanges.{nodeNumber}
-use Rattle.grown.proofs.EdgesReached.{Reached, reached-borne}
-use Rattle.grown.proofs.LawfulForm.{Lawful}
+use Rattle.map_laws.proofs.Readings.{arcOf, arc-at, bears-left, bears-right}
+use Rattle.map_laws.proofs.RowChanges.{nodeNumber}
+use Rattle.grown.proofs.Plane.Reached.{Reached, reached-borne}
+use Rattle.grown.proofs.Law.Lawful.{Lawful}
 use Rattle.certified.specs.Certified.{sumHolds, crossing, facesReached}
 
 module _ (m : Map) where

@@ -26,7 +26,7 @@ use Rattle.reason_edges.proofs.Adding.{row-below, room-known, number-known}
 use Rattle.edge_rows.specs.Holds.{Drawable, Drawn, drawnHead}
 use Rattle.edge_rows.proofs.Formed.{held}
 use Rattle.face_rows.specs.Holds.{Held, Splittable, Holds}
-use Rattle.grown.proofs.Numbers.{Outline}
+use Rattle.map_laws.proofs.Readings.{Outline}
 use Rattle.outcomes.proofs.Words.{count-read}
 use Rattle.face_rows.proofs.Formed.{held-holds, holds-lent}
 use Rattle.edit_add.proofs.Drawn.{drawn-held, map-is, last, splits}

@@ -18,32 +18,29 @@ use Rattle.curves.specs.Curves.{curveOf, startWay}
 use Rattle.map.specs.declared.Head.{Head}
 use Rattle.map.specs.Limits.{maxNodes, maxEdges, nodeWidth, edgeWidth}
 use Rattle.map.specs.Rows.{Map, Sizes, mapOf, sizesOf, hasNode}
-use Rattle.map.specs.Form.{numbers, named}
 use Rattle.map.specs.Links.{cornerFace}
 use Rattle.map.specs.Edits.{drawn, drawnIn, splitsFace}
 use Rattle.map.specs.Reasons.{firstReason, reasons}
-use Rattle.map.proofs.Laws.{formed-is}
 use Rattle.map.proofs.RoundTrip.{whole-rows}
-use Rattle.map.proofs.Linked as formedLinks
+use Rattle.map_laws.proofs.Readings.{missing, has-number, Outline, outlineOf, outlines}
+use Rattle.map_laws.proofs.RowChanges.{nodeNumber}
+use Rattle.map_laws.proofs.Reasons.{AddEdge, add-new, add-mod}
+use Rattle.map_laws.proofs.Outlines.{drawnOutline, drawn-shape}
+use Rattle.map_laws.proofs.Faces.{has-face, formed-faces, corner-in}
 use Rattle.tables.specs.Tables.{sameZ, column, nodesOf, edgesOf, facesOf, nodeAt, edgeAt, nodeMap}
 use Rattle.tables.proofs.Rows.{edges-length, edges-getD}
 use Rattle.tables.proofs.Lookups.{node-found}
 use Rattle.form_ranges.specs.Ranges.{lent}
 use Rattle.outcomes.specs.Outcomes.{Formed}
-use Rattle.outcomes.proofs.Formed.{ranges, formed-map, node-next, edge-next, face-next}
+use Rattle.outcomes.proofs.Formed.{ranges, formed-map}
 use Rattle.reason_edges.specs.Kinds.{addTicket}
 use Rattle.reason_edges.proofs.Adding.{room-known}
-use Rattle.edge_rows.specs.Holds.{NodeEdgeTables, Drawn, drawnHead}
-use Rattle.edge_rows.proofs.Filled.{nodes-room, edges-room, nodes-filled, edges-filled}
 use Rattle.face_rows.specs.Holds.{Held, Splittable}
 use Rattle.face_rows.proofs.Formed.{formed-held}
-use Rattle.grown.proofs.Readings.{missing, has-number}
-use Rattle.grown.proofs.RowChanges.{nodeNumber}
-use Rattle.grown.proofs.Reasons.{AddEdge, add-new, add-mod}
-use Rattle.grown.proofs.Numbers.{Outline, outlineOf, outlines, RankedMap, numbered-ranked, has-face}
-use Rattle.grown.proofs.NumbersAdd.{corner-in}
-use Rattle.grown.proofs.Outlines.{drawnOutline, drawn-shape}
+use Rattle.edge_rows.specs.Holds.{NodeEdgeTables, Drawn, drawnHead}
+use Rattle.edge_rows.proofs.Filled.{nodes-room, edges-room, nodes-filled, edges-filled}
 use Rattle.edit_add.proofs.Rings.{drawn-ringed, drawn-ends}
+use Rattle.map.proofs.Linked as formedLinks
 
 -- what holds of a ticket that nothing turns down
 add-facts : (s : Sizes) (m : Map) (news : Bool) (a b : ℤ) (c : List ℤ)
@@ -57,20 +54,6 @@ module _ {nodes edges faces : List ℤ} {h : Head} (f : Formed nodes edges faces
 
   abbrev s : Sizes
   s = sizesOf (lent nodes edges faces h)
-
-  -- faces that are named exist: `ranked` says so
-  ranked : RankedMap m
-  unfolding mapOf
-  ranked = numbered-ranked m (formedLinks.edges-once m (formed-map f)) (record {
-    numbers = formed-is m (formed-map f) .rising;
-    named = formed-is m (formed-map f) .named;
-    marked = formed-is m (formed-map f) .bare;
-    first-node = node-next f .1;
-    first-edge = edge-next f .1;
-    next-node = node-next f .2;
-    next-edge = edge-next f .2;
-    next-face = face-next f .2;
-  })
 
   -- the tables with an edge more hold a map, whatever edge it is
   pub drawn-held : {nodes′ edges′ : List ℤ} → NodeEdgeTables nodes′ edges′ (drawnHead h)
@@ -162,7 +145,7 @@ module _ {nodes edges faces : List ℤ} {h : Head} (f : Formed nodes edges faces
       face-there : anyOf (same (natAbs face)) (facesOf faces (natAbs (h .faces))) ≡ true
       unfolding mapOf
       face-there = ap (λ (z : ℤ). anyOf (same (natAbs z)) (facesOf faces (natAbs (h .faces)))) ef
-          ∙ has-face m φ (corner-in m (natAbs a) (startWay (curveOf c)) (t .has-start) ranked)
+          ∙ has-face m φ (corner-in m (natAbs a) (startWay (curveOf c)) (t .has-start) (formed-faces m (formed-map f)))
 
       pub splits : splitsFace (natAbs a) (natAbs b) (curveOf c) m ≡ true
           → Splittable nodes′ edges′ faces (drawnHead h) face

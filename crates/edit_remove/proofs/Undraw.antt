@@ -17,7 +17,7 @@ use Rattle.lists.proofs.Members.{map-cong}
 use Rattle.map.specs.declared.Head.{Head}
 use Rattle.map.specs.Rows.{Node, Edge, Map, mapOf, filled, nodeCells, edgeCells}
 use Rattle.map.specs.Edits.{withFace, undrawn, withSides, renamed, renamedNode, renamedFaces}
-use Rattle.grown.proofs.NumbersEdges.{undrawn-face-list}
+use Rattle.map_laws.proofs.Outlines.{undrawn-face-list}
 use Rattle.tables.specs.Tables.{edgeAt}
 use Rattle.form_ranges.specs.Ranges.{lent}
 use Rattle.outcomes.specs.declared.Done.{Done}

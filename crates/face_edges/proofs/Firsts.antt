@@ -14,15 +14,15 @@ use borrow.Author.Tests.{ltb-true, lt-ltb}
 use Rattle.lists.specs.Tests.{same}
 use Rattle.lists.proofs.Bools.{same-true, same-eq, not-true, or-true, or-right, equal?}
 use Rattle.lists.proofs.Members.{any-none, some-any}
-use Rattle.curves.proofs.Runs.{and-left, and-right}
 use Rattle.planar_maps.specs.Map.{Dart}
 use Rattle.planar_maps.specs.Rings.{Leads}
 use Rattle.planar_maps.proofs.Rings.{next-in}
 use Rattle.planar_maps.proofs.Leads.{leads-join, leads-keep}
+use Rattle.curves.proofs.Runs.{and-left, and-right}
 use Rattle.map.specs.Limits.{edgeWidth}
 use Rattle.map.specs.Rows.{Map}
 use Rattle.map.specs.Darts.{directed, next, bears, ring, among, lower}
-use Rattle.grown.proofs.EdgesRings.{among-has, among-in, ring-has, ring-leads, leads-back}
+use Rattle.map_laws.proofs.Rings.{among-has, among-in, ring-has, ring-leads, leads-back}
 use Rattle.tables.specs.Tables.{edgeAt, edgeMap}
 use Rattle.tables.proofs.Order.{rise, lt-or-ge}
 use Rattle.tables.proofs.Rows.{edge-rows-rising}

@@ -19,7 +19,7 @@ use Rattle.planar_maps.specs.Map.{Dart}
 use Rattle.map.specs.Limits.{edgeWidth, lastNumber}
 use Rattle.map.specs.Rows.{Edge, edge}
 use Rattle.map.specs.Darts.{directed, ring, among, lowestEdge}
-use Rattle.grown.proofs.EdgesRings.{among-has}
+use Rattle.map_laws.proofs.Rings.{among-has}
 use Rattle.tables.specs.Tables.{EdgeRows, edgesOf, edgeMap, edgeAt}
 use Rattle.tables.proofs.Order.{rise, lt-or-ge}
 use Rattle.tables.proofs.Rows.{edge-rows-rising}

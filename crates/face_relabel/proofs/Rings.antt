@@ -22,7 +22,7 @@ use Rattle.map.specs.Rows.{Edge, Map, edge, setEdges}
 use Rattle.map.specs.Darts.{arcs, directed, leaves, next, bears, stepsTo, ring, among, lowestEdge}
 use Rattle.map.specs.Form.{linksOnce, ringsBearOne}
 use Rattle.map.proofs.Linked.{arcOf, nums-rows, links-perm, links-keep}
-use Rattle.grown.proofs.EdgesRings.{among-in, among-has, ring-here, ring-leads, ring-alike, lowest-same}
+use Rattle.map_laws.proofs.Rings.{among-in, among-has, ring-here, ring-leads, ring-alike, lowest-same}
 
 -- two maps whose links are the same have the same rings
 module _ (m k : Map) (h : (d : Dart) → next m d ≡ next k d) where

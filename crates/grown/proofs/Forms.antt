@@ -1,48 +1,26 @@
--- The links of a linked map, and the rows of a good one, are as condition 2 asks. Assumes nothing.
+-- A good map is as condition 2 asks. Assumes nothing.
 use mathlib.Core.Path.{_≡_, refl, sym, ap, _∙_}
 use mathlib.Core.Bool.{true, false, not}
 use mathlib.Core.List.{List, [], _∷_, map, List·Memᴰ, List·Memᴰ·head, List·Memᴰ·tail, Memᴰ·of-map, Memᴰ·cast}
-use Rattle.lists.specs.Scans.{anyOf, countOf}
+use Rattle.lists.specs.Scans.{anyOf}
 use Rattle.lists.specs.Members.{Distinct}
-use Rattle.lists.proofs.Bools.{same-eq, not-true, and-is}
-use Rattle.lists.proofs.Counts.{count-perm}
+use Rattle.lists.proofs.Bools.{not-true, and-is}
 use Rattle.lists.proofs.Keeps.{distinct-keep}
 use Rattle.lists.proofs.Members.{each-all, any-some}
-use Rattle.geometry.proofs.Meeting.{samePoint-refl}
-use Rattle.geometry.proofs.Theorems.{neighboursDiffer-iff}
+use Rattle.planar_maps.specs.Map.{Dart, Linked}
+use Rattle.planar_maps.proofs.Hooks.{distinct-darts}
 use Rattle.plane.specs.Points.{samePoint}
 use Rattle.plane.specs.Directions.{Way, sameWay}
 use Rattle.curves.specs.Curves.{lastPoint}
-use Rattle.planar_maps.specs.Map.{Dart, Linked}
-use Rattle.planar_maps.specs.Pieces.{nums}
-use Rattle.planar_maps.specs.Rings.{sameDart}
-use Rattle.planar_maps.proofs.Rings.{dart-once}
-use Rattle.planar_maps.proofs.Hooks.{distinct-darts}
+use Rattle.geometry.proofs.Meeting.{samePoint-refl}
+use Rattle.geometry.proofs.Theorems.{neighboursDiffer-iff}
 use Rattle.rotation.proofs.Ways.{alike-says}
 use Rattle.map.specs.Rows.{Edge, Map}
 use Rattle.map.specs.Darts.{arcs, directed, leaves, next, bears, departures, way}
-use Rattle.map.specs.Form.{numbers, named, curveFits, waysDiffer, departuresDiffer, linksOnce, linksMeet, ringsBearOne}
-use Rattle.map.specs.Form.{formed}
+use Rattle.map.specs.Form.{numbers, named, curveFits, waysDiffer, departuresDiffer, formed}
+use Rattle.map_laws.proofs.Form.{linked-once, linked-meet, linked-bear}
 use Rattle.grown.specs.Good.{Good}
-use Rattle.grown.proofs.Apart.{curve-good, apart}
-
--- ---- a linked map passes the tests of form on its links
-
-module _ (m : Map) (l : Linked (arcs m) (leaves m) (next m) (bears m)) where
-  pub linked-once : Distinct (nums (arcs m)) → linksOnce m ≡ true
-  unfolding linksOnce
-  linked-once dis = each-all _ (directed m) (λ d k. same-eq (countOf (sameDart d) (map (next m) (directed m))) 1
-      (count-perm (sameDart d) (l .perm) ∙ dart-once (directed m) (distinct-darts (arcs m) dis) k))
-
-  linked-meet : linksMeet m ≡ true
-  unfolding linksMeet
-  linked-meet = each-all _ (directed m) (λ d k. same-eq _ _ (l .meets d k))
-
-  pub linked-bear : ringsBearOne m ≡ true
-  unfolding ringsBearOne
-  linked-bear = each-all _ (directed m) (λ d k. same-eq _ _ (l .keeps d k))
-
--- ---- a good map is formed
+use Rattle.grown.proofs.Curves.Apart.{curve-good, apart}
 
 -- departures that are one where their directions are have different directions
 ways-differ : (way : Dart → Way) (ds : List Dart) → Distinct ds

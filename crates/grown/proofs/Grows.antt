@@ -23,8 +23,8 @@ use Rattle.map.proofs.RoundTrip.{whole-rows, whole-tables}
 use Rattle.map.proofs.Reasons.{first-zero}
 use Rattle.grown.specs.Good.{Good, Fits}
 use Rattle.grown.specs.Claims.{GrownMap, Grows, Limited, NeverLent}
-use Rattle.grown.proofs.LawfulForm.{law-is}
-use Rattle.grown.proofs.Carried.{fits-kept}
+use Rattle.grown.proofs.Law.Lawful.{law-is}
+use Rattle.grown.proofs.Numbers.Carried.{fits-kept}
 use Rattle.grown.proofs.Sounds.{good-sound}
 use Rattle.grown.proofs.Ranges.{good-back, sizes-back, good-in-form, good-whole}
 use Rattle.grown.proofs.Growth.{good-kept, empty-good}

@@ -15,24 +15,23 @@ use Rattle.map.specs.Tickets.{RemEdgeNewFace, RemEdgeModFace}
 use Rattle.map.specs.Reasons.{firstReason, reasons}
 use Rattle.map.specs.Ticket.{carried}
 use Rattle.map.proofs.Opened.{opened}
-use Rattle.grown.specs.Good.{Good, Numbered, Woven, Surveyed}
-use Rattle.grown.proofs.Reasons.{add-node, move-node, remove-node, add-lone, remove-lone, change, split-new}
-use Rattle.grown.proofs.Reasons.{split-mod, heal-new, heal-mod, add-new, add-mod, remove-new, remove-mod}
-use Rattle.grown.proofs.Carried.{ranked-kept, numbered-kept}
-use Rattle.grown.proofs.CurvesKinds.{surveyed-1, surveyed-2, surveyed-3, surveyed-4, surveyed-5, surveyed-6}
-use Rattle.grown.proofs.CurvesKinds.{surveyed-7, surveyed-8, surveyed-add, surveyed-remove}
-use Rattle.grown.proofs.CurvesHeal.{surveyed-9, surveyed-10}
-use Rattle.grown.proofs.RowChanges.{InPlane}
-use Rattle.grown.proofs.LawfulForm.{Lawful, good-lawful}
-use Rattle.grown.proofs.LawfulKept.{carried-obeys}
-use Rattle.grown.proofs.Changes.{planar-1, planar-2, planar-3, planar-6}
-use Rattle.grown.proofs.SplitsPlane.{planar-7, planar-8}
-use Rattle.grown.proofs.HealsPlane.{planar-9, planar-10}
-use Rattle.grown.proofs.EdgesReached.{plane-reached, reached-borne}
-use Rattle.grown.proofs.EdgesAdd.{planar-4}
-use Rattle.grown.proofs.EdgesAdded.{planar-added}
-use Rattle.grown.proofs.EdgesRemove.{planar-5}
-use Rattle.grown.proofs.EdgesRemoved.{planar-removed}
+use Rattle.map_laws.proofs.Reasons.{add-node, move-node, remove-node, add-lone, remove-lone, change, split-new}
+use Rattle.map_laws.proofs.Reasons.{split-mod, heal-new, heal-mod, add-new, add-mod, remove-new, remove-mod}
+use Rattle.grown.specs.Good.{Good, Numbered, Woven, Surveyed, InPlane}
+use Rattle.grown.proofs.Numbers.Carried.{ranked-kept, numbered-kept}
+use Rattle.grown.proofs.Curves.Kinds.{surveyed-1, surveyed-2, surveyed-3, surveyed-4, surveyed-5, surveyed-6}
+use Rattle.grown.proofs.Curves.Kinds.{surveyed-7, surveyed-8, surveyed-add, surveyed-remove}
+use Rattle.grown.proofs.Curves.Heal.{surveyed-9, surveyed-10}
+use Rattle.grown.proofs.Law.Lawful.{Lawful, good-lawful}
+use Rattle.grown.proofs.Law.Kept.{carried-obeys}
+use Rattle.grown.proofs.Plane.Change.{planar-1, planar-2, planar-3, planar-6}
+use Rattle.grown.proofs.Plane.Split.{planar-7, planar-8}
+use Rattle.grown.proofs.Plane.Heal.{planar-9, planar-10}
+use Rattle.grown.proofs.Plane.Reached.{plane-reached, reached-borne}
+use Rattle.grown.proofs.Plane.Join.{planar-4}
+use Rattle.grown.proofs.Plane.Add.{planar-added}
+use Rattle.grown.proofs.Plane.RemoveLone.{planar-5}
+use Rattle.grown.proofs.Plane.Remove.{planar-removed}
 
 -- links and face numbers, and curves
 record Kept (m : Map) : Type 0 where

@@ -3,19 +3,7 @@
 use mathlib.Core.Path.{_≡_, refl, sym, ap, ap₂, _∙_, subst}
 use mathlib.Core.Logic.{inl, inr}
 use mathlib.Core.Bool.{Bool, true, false, cond, not}
-use mathlib.Core.List.{
-  List,
-  [],
-  _∷_,
-  _++_,
-  map,
-  map-id,
-  map-map,
-  map-append,
-  List·Memᴰ,
-  Memᴰ·map,
-  Memᴰ·of-map,
-}
+use mathlib.Core.List.{List, [], _∷_, _++_, map, map-id, map-map, map-append, List·Memᴰ, Memᴰ·map, Memᴰ·of-map}
 use mathlib.Core.Option.{Option·getD, none}
 use Prim.Native.Nat.{ℕ, _+_, _<_}
 use native.Mathlib.Nat.{add-zero}
@@ -34,14 +22,15 @@ use Rattle.map.specs.Darts.{leaves, next}
 use Rattle.map.specs.Links.{withLinks}
 use Rattle.map.specs.Edits.{startHalf, endHalf, split, joint, parts, healedCurve, heal}
 use Rattle.map.specs.Reasons.{nodeAt}
+use Rattle.map.proofs.Laws.{edge-there}
+use Rattle.map_laws.proofs.Readings.{numberOf, nextIn, edge-at, row-has, has-dart, dart-has, next-row}
+use Rattle.map_laws.proofs.RowChanges.{nodeNumber}
 use Rattle.grown.specs.Good.{Good}
 use Rattle.grown.specs.Claims.{linkRenamed, linksRenamed, withNumber, renumbered}
-use Rattle.grown.proofs.Readings.{numberOf, nextIn, edge-row, edge-at, row-has, has-dart, dart-has, next-row}
-use Rattle.grown.proofs.RowChanges.{nodeNumber}
+use Rattle.grown.proofs.Law.Lawful.{Lawful, good-lawful}
+use Rattle.grown.proofs.Law.Split.{new-halves, kept-halves}
 use Rattle.grown.proofs.SplitsRows.{halfNames, relinked, parted-edges, parted-row}
 use Rattle.grown.proofs.HealsRows as whole
-use Rattle.grown.proofs.LawfulForm.{Lawful, good-lawful}
-use Rattle.grown.proofs.LawfulSplit.{new-halves, kept-halves}
 use Rattle.grown.proofs.Rejoined.{names-back, renamed-self, Rejoin, rejoin}
 
 -- the row e replaced
@@ -89,13 +78,13 @@ module _ (m : Map) (e : ℕ) (g : Good m) (has : hasEdge m e ≡ true) where
   below {r} k = L .edges-below (r .number) (Memᴰ·map numberOf k)
 
   e-below : e < m .nextEdge
-  e-below = subst (λ (i : ℕ). i < m .nextEdge) (edge-row m e has .1) (below (edge-row m e has .0))
+  e-below = subst (λ (i : ℕ). i < m .nextEdge) (edge-there m e has .1) (below (edge-there m e has .0))
 
   -- a link names an edge of the map
   link-below : (r : Edge) → List·Memᴰ r (m .edges) → (t : Bool) → nextIn t r .edge < m .nextEdge
   link-below r k t =
       let d : Dart = record { edge = r .number; back = t } in
-      let z = edge-row m (next m d .edge) (dart-has m (next-in (L .linked) (has-dart m d (row-has m k)))) in
+      let z = edge-there m (next m d .edge) (dart-has m (next-in (L .linked) (has-dart m d (row-has m k)))) in
       let q = next-row m d ∙ ap (nextIn t) (edge-at m (L .once) k) in
       subst (λ (i : ℕ). i < m .nextEdge) (z .1 ∙ ap (λ (c : Dart). c .edge) q) (below (z .0))
 
@@ -137,7 +126,7 @@ module _ (m : Map) (e : ℕ) (g : Good m) (has : hasEdge m e ≡ true) where
       d = fwd b
 
       k : List·Memᴰ (edge m e) (m .edges)
-      k = edge-row m e has .0
+      k = edge-there m e has .0
 
       renamed : (z l : Dart) → hasEdge m′ (z .edge) ≡ true → next m′ z ≡ halfNames e a b l → l .edge < m .nextEdge
           → next (whole.rejoined m′ h c d) z ≡ linkRenamed e h l
@@ -208,7 +197,7 @@ module _ (m : Map) (e : ℕ) (p : Point) (g : Good m) (has : hasEdge m e ≡ tru
         ap (λ (b : Bool). back (by-10 (cond b first (relinked e e x r)))) q
         ∙ ap (λ (b : Bool). cond b (renumbered-row m e g has e) (by-10 first)) (same-refl e)
         ∙ (λ i. record {
-          number = sym (edge-row m e has .1) i;
+          number = sym (edge-there m e has .1) i;
           start = edge m e .start;
           end = edge m e .end;
           nextLeft = renamed-self e (edge m e .nextLeft) i;

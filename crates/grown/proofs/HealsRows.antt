@@ -9,8 +9,8 @@ use Rattle.planar_maps.specs.Map.{Dart, fwd, bwd, rev}
 use Rattle.map.specs.Rows.{Edge, Map, edge, hasEdge}
 use Rattle.map.specs.Darts.{directed, leaves, next, course}
 use Rattle.map.specs.Links.{withLinks, instead, redirect}
-use Rattle.grown.proofs.Readings.{arcOf, tailIn, leaves-row, edge-row, dart-has, redirect-next}
-use Rattle.grown.proofs.Readings.{redirect-relinked}
+use Rattle.map.proofs.Laws.{edge-there}
+use Rattle.map_laws.proofs.Readings.{arcOf, tailIn, leaves-row, dart-has, redirect-next, redirect-relinked}
 use Rattle.grown.proofs.Renumber.{runs}
 
 -- the new names of departures
@@ -53,7 +53,7 @@ healedRow m e h c d =
 pub runs-row : (m : Map) (z : Dart) → List·Memᴰ z (directed m) → arcOf (edge m (z .edge))
     ≡ runs z (leaves m z) (leaves m (rev z))
 runs-row m z k = λ i. record {
-  num = edge-row m (z .edge) (dart-has m k) .1 i;
+  num = edge-there m (z .edge) (dart-has m k) .1 i;
   from = (at-start (z .back) ∙ ap₂ (λ x y. cond (z .back) y x) (sym (leaves-row m z)) (sym (leaves-row m (rev z)))) i;
   to = (at-end (z .back) ∙ ap₂ (λ x y. cond (z .back) x y) (sym (leaves-row m z)) (sym (leaves-row m (rev z)))) i;
 }

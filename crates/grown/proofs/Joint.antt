@@ -16,8 +16,8 @@ use Rattle.planar_maps.specs.Map.{Dart, fwd, bwd, rev}
 use Rattle.map.specs.Rows.{Map, edge, hasEdge}
 use Rattle.map.specs.Darts.{directed, leaves, departures, edgeEnds}
 use Rattle.map.specs.Edits.{sharedNodes, joint, parts}
-use Rattle.grown.proofs.Readings.{leaves-row, has-dart, departing}
-use Rattle.grown.proofs.Reasons.{Heal}
+use Rattle.map_laws.proofs.Readings.{leaves-row, has-dart, departing}
+use Rattle.map_laws.proofs.Reasons.{Heal}
 
 -- the directed edges c and d meet at n: c arrives, d departs
 pub record Meet (m : Map) (e f n : ℕ) (c d : Dart) : Type 0 where

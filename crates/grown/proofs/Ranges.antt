@@ -20,15 +20,14 @@ use Rattle.curves.proofs.Runs.{coordinate-of}
 use Rattle.map.specs.Limits.{maxNodes, maxEdges, maxFaces, lastNumber, nodeWidth, edgeWidth, faceWidth}
 use Rattle.map.specs.Rows.{Node, Edge, Map, Sizes, nodeCells, edgeCells, faceCells, faceCell, lentOf, mapOf, sizesOf}
 use Rattle.map.specs.Rows.{whole, nodeRows, edgeRows, faceRows, filled}
-use Rattle.map.specs.Form.{within, nodeRanges, edgeRanges, faceRanges, ranged, formed, inForm, countsFit}
-use Rattle.map.specs.Form.{nextsFit}
-use Rattle.map.proofs.RoundTrip.{Wide, each-row, flat-rest, table-length, nodes-wide, edge-wide, faces-wide}
-use Rattle.map.proofs.RoundTrip.{in-bounds, within-least, within-most, Stored, points-ranged, whole-table}
+use Rattle.map.specs.Form.{within, nodeRanges, edgeRanges, faceRanges, ranged, formed, inForm, countsFit, nextsFit}
+use Rattle.map.proofs.RoundTrip.{Wide, each-row, flat-rest, table-length, nodes-wide, edge-wide, faces-wide, in-bounds}
+use Rattle.map.proofs.RoundTrip.{within-least, within-most, Stored, points-ranged, whole-table}
 use Rattle.map.proofs.Laws.{formed-back}
+use Rattle.map_laws.proofs.Faces.{zero-in}
 use Rattle.grown.specs.Good.{Good, Fits}
-use Rattle.grown.proofs.NumbersNodes.{zero-in}
-use Rattle.grown.proofs.Carried.{ranks}
-use Rattle.grown.proofs.Apart.{curve-long}
+use Rattle.grown.proofs.Numbers.Carried.{ranks}
+use Rattle.grown.proofs.Curves.Apart.{curve-long}
 use Rattle.grown.proofs.Forms.{good-formed}
 
 -- ---- ranges of a row

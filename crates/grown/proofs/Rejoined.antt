@@ -24,25 +24,17 @@ use Rattle.map.specs.Rows.{Edge, Map, edge, hasEdge, withoutEdge}
 use Rattle.map.specs.Darts.{directed, leaves, next, bears, way, course, departures, edgeEnds}
 use Rattle.map.specs.Links.{instead}
 use Rattle.map.specs.Edits.{startHalf, endHalf, sharedNodes, joint, parts, healedCurve}
+use Rattle.map.proofs.Laws.{edge-there}
+use Rattle.map_laws.proofs.Readings.{arcOf, edge-at, row-has, course-row}
+use Rattle.map_laws.proofs.RowDarts.{leaves-of, next-of}
 use Rattle.grown.specs.Good.{Good}
 use Rattle.grown.specs.Claims.{linkRenamed}
-use Rattle.grown.proofs.Readings.{arcOf, edge-row, edge-at, row-has, course-row}
-use Rattle.grown.proofs.RowDarts.{leaves-of, next-of}
+use Rattle.grown.proofs.Law.Lawful.{Lawful, good-lawful}
+use Rattle.grown.proofs.Law.Split.{InHalves, arcs-m′, once-m′, in-first, in-second, starts-off, ends-off, halves}
 use Rattle.grown.proofs.Renumber.{ways}
 use Rattle.grown.proofs.Halved.{Halved, departs, whole, f-fwd, f-bwd, f-old}
 use Rattle.grown.proofs.SplitsRows.{instead-it, instead-other, halfNames, relinked}
 use Rattle.grown.proofs.HealsRows.{wholeNames}
-use Rattle.grown.proofs.LawfulForm.{Lawful, good-lawful}
-use Rattle.grown.proofs.LawfulSplit.{
-  InHalves,
-  arcs-m′,
-  once-m′,
-  in-first,
-  in-second,
-  starts-off,
-  ends-off,
-  halves,
-}
 
 -- ---- names there and back
 
@@ -138,7 +130,7 @@ module _ (m m′ : Map) (e n a b : ℕ) (p : Point) (g : Good m) (H : InHalves m
   r = map arcOf (withoutEdge e (m .edges))
 
   row : List·Memᴰ (edge m e) (m .edges)
-  row = edge-row m e (H .has) .0
+  row = edge-there m e (H .has) .0
 
   first-is : edge m′ a ≡ first
   first-is = edge-at m′ (once-m′ m m′ e n a b p L H) (in-first m m′ e n a b p L H)
@@ -146,14 +138,14 @@ module _ (m m′ : Map) (e n a b : ℕ) (p : Point) (g : Good m) (H : InHalves m
   second-is : edge m′ b ≡ second
   second-is = edge-at m′ (once-m′ m m′ e n a b p L H) (in-second m m′ e n a b p L H)
 
-  two : Halved e (fwd a) (fwd b) s n t r (leaves m) (leaves m′) (next m) (next m′) (bears m) (bears m′) (way m) (way m′)
+  two : Halved e (fwd a) (fwd b) n r (leaves m) (leaves m′) (next m) (next m′) (bears m) (bears m′) (way m) (way m′)
   two = halves m m′ e n a b p L H
 
   -- exactly two ends are at n: the end of the start half and the start of the end half
   abbrev at-n : Dart → Bool
   at-n d = same (leaves m′ d) n
 
-  off-n : (z d : Dart) → List·Memᴰ z (whole e s t r) → departs e (fwd a) (fwd b) z ≡ d → at-n d ≡ false
+  off-n : (z d : Dart) → List·Memᴰ z (whole e r) → departs e (fwd a) (fwd b) z ≡ d → at-n d ≡ false
   off-n z d k q = same-false (leaves m′ d) n (λ j. two .away z k (sym (two .tails z k) ∙ ap (leaves m′) q ∙ j))
 
   ends-two : edgeEnds m′ n ≡ 2
@@ -163,19 +155,19 @@ module _ (m m′ : Map) (e n a b : ℕ) (p : Point) (g : Good m) (H : InHalves m
     where
       off-old : (d : Dart) → List·Memᴰ d (darts r) → at-n d ≡ false
       off-old d k =
-          off-n d d (List·Memᴰ·tail (List·Memᴰ·tail k)) (f-old e (fwd a) (fwd b) s n t r (two .fresh) (two .once) d k)
+          off-n d d (List·Memᴰ·tail (List·Memᴰ·tail k)) (f-old (two .parts) d k)
 
       none : countOf at-n (darts r) ≡ 0
       none = count-keep at-n (darts r) ∙ ap length (keep-none at-n (darts r) off-old)
 
       off-first : at-n (fwd a) ≡ false
       off-first =
-          off-n (fwd e) (fwd a) (List·Memᴰ·head refl) (f-fwd e (fwd a) (fwd b) s n t r (two .fresh) (two .once))
+          off-n (fwd e) (fwd a) (List·Memᴰ·head refl) (f-fwd (two .parts))
 
       off-second : at-n (bwd b) ≡ false
       off-second =
           off-n (bwd e) (bwd b) (List·Memᴰ·tail (List·Memᴰ·head refl))
-          (f-bwd e (fwd a) (fwd b) s n t r (two .fresh) (two .once))
+          (f-bwd (two .parts))
 
       counted : countOf at-n (fwd a ∷ bwd a ∷ fwd b ∷ bwd b ∷ darts r) ≡ 2
       counted = rw (off-first, off-second, two .tail-c, two .tail-d, same-refl n, none)

@@ -13,10 +13,11 @@ use Rattle.geometry.proofs.Edits.{node-shared}
 use Rattle.map.specs.Rows.{Node, Edge, Map, node, hasNode}
 use Rattle.map.specs.Sound.{Sound, AtNode, Ends}
 use Rattle.map.proofs.Linked.{rings-bear-one}
+use Rattle.map.proofs.Laws.{node-there}
+use Rattle.map_laws.proofs.Readings.{arcOf, has-number}
+use Rattle.map_laws.proofs.RowChanges.{nodeNumber}
 use Rattle.grown.specs.Good.{Good}
-use Rattle.grown.proofs.Readings.{arcOf, has-number}
-use Rattle.grown.proofs.RowChanges.{nodeNumber, node-row}
-use Rattle.grown.proofs.Apart.{curves-clear}
+use Rattle.grown.proofs.Curves.Apart.{curves-clear}
 use Rattle.grown.proofs.Forms.{good-formed}
 
 module _ (m : Map) (g : Good m) where
@@ -35,8 +36,8 @@ module _ (m : Map) (g : Good m) where
   -- nodes on one point are one node
   one-node : (i j : ℕ) → hasNode m i ≡ true → hasNode m j ≡ true → node m i .at ≡ node m j .at → i ≡ j
   one-node i j h k e =
-      let p = node-row m i h in
-      let q = node-row m j k in
+      let p = node-there m i h in
+      let q = node-there m j k in
       sym (p .1) ∙ ap nodeNumber (distinct-injective (λ (n : Node). n .at) (m .nodes) (g .surveyed .places) (node m i)
       (node m j) (p .0) (q .0) e) ∙ q .1
 
@@ -51,15 +52,15 @@ module _ (m : Map) (g : Good m) where
       (curves-clear m (g .surveyed) a b i j (λ e. ne (ap (λ (r : Edge). r .number) e))) P p q)
     where
       ends : (e : Edge) (n : ℕ) → hasNode m n ≡ true → (n ≡ e .start) ⊎ (n ≡ e .end) → Ends e (node m n)
-      ends e n h (inl x) = inl (sym x ∙ sym (node-row m n h .1))
-      ends e n h (inr x) = inr (sym x ∙ sym (node-row m n h .1))
+      ends e n h (inl x) = inl (sym x ∙ sym (node-there m n h .1))
+      ends e n h (inr x) = inr (sym x ∙ sym (node-there m n h .1))
 
       go : (n : ℕ) × At P (node m n .at) × ((n ≡ a .start) ⊎ (n ≡ a .end)) × ((n ≡ b .start) ⊎ (n ≡ b .end))
           → AtNode m a b P
       go x = let h = has-either a i (x .0) (x .2) in
           record {
             node = node m (x .0);
-            row = node-row m (x .0) h .0;
+            row = node-there m (x .0) h .0;
             ends-a = ends a (x .0) h (x .2);
             ends-b = ends b (x .0) h (x .3);
             there = x .1;

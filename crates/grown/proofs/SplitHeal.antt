@@ -27,30 +27,18 @@ use Rattle.map.specs.Reasons.{Reasons, firstReason, reasons, healReasons, noEdg
 use Rattle.map.specs.Ticket.{Outcome, refused, carried, lentReasons, unless, judged, ticket}
 use Rattle.map.specs.Grow.{grow}
 use Rattle.map.proofs.Reasons.{first-hit, first-miss, first-none, first-zero, first-after}
+use Rattle.map_laws.proofs.Readings.{numberOf, nums-rows}
+use Rattle.map_laws.proofs.Reasons.{Split, split-new, split-mod}
 use Rattle.grown.specs.Good.{Good, Fits}
-use Rattle.grown.specs.Claims.{
-  Limited,
-  raised,
-  restored,
-  Cancels,
-  SplitCancelled,
-  linksRenamed,
-  renumbered,
-  renewed,
-  Renews,
-  SplitRenewed,
-  Spends,
-  SplitSpent,
-}
-use Rattle.grown.proofs.Readings.{numberOf, nums-rows}
-use Rattle.grown.proofs.Reasons.{Split, split-new, split-mod}
-use Rattle.grown.proofs.Carried.{fits-kept}
+use Rattle.grown.specs.Claims.{Limited, raised, restored, Cancels, SplitCancelled, linksRenamed, renumbered}
+use Rattle.grown.specs.Claims.{renewed, Renews, SplitRenewed, Spends, SplitSpent}
+use Rattle.grown.proofs.Numbers.Carried.{fits-kept}
+use Rattle.grown.proofs.Law.Lawful.{good-lawful}
+use Rattle.grown.proofs.Law.Split.{new-halves, kept-halves}
 use Rattle.grown.proofs.Growth.{good-kept}
 use Rattle.grown.proofs.Ranges.{good-back, sizes-back, good-in-form, good-whole}
 use Rattle.grown.proofs.Grows.{State, free, grown-state, whole-limited}
 use Rattle.grown.proofs.SplitsRows.{rows-m}
-use Rattle.grown.proofs.LawfulForm.{good-lawful}
-use Rattle.grown.proofs.LawfulSplit.{new-halves, kept-halves}
 use Rattle.grown.proofs.Rejoined.{Rejoin, rejoin}
 use Rattle.grown.proofs.HealsBack.{kept-back, new-back}
 

@@ -13,8 +13,9 @@ use Rattle.planar_maps.proofs.Rings.{sameDart-refl}
 use Rattle.planar_maps.proofs.Hooks.{sameDart-false, fwd≢bwd, with-fwd, with-bwd, with-other}
 use Rattle.map.specs.Rows.{Edge, Map, edge, hasEdge, withoutEdge}
 use Rattle.map.specs.Links.{withLinks, instead, redirect}
-use Rattle.grown.proofs.Readings.{numberOf, missing, edge-row, mapped-edge}
-use Rattle.grown.proofs.RowChanges.{without-perm}
+use Rattle.map.proofs.Laws.{edge-there}
+use Rattle.map_laws.proofs.Readings.{numberOf, missing, mapped-edge}
+use Rattle.map_laws.proofs.RowChanges.{without-perm}
 use Rattle.grown.proofs.Renumber.{ways}
 use Rattle.grown.proofs.Halved.{departs}
 use Rattle.lists.specs.Tests.{same}
@@ -91,7 +92,7 @@ module _ (m : Map) (e : ℕ) (f : Edge → Edge) (keeps : (r : Edge) → f r .nu
       put r = cond (same (r .number) e) x r
 
       it : put (f (edge m e)) ≡ x
-      it = rw (keeps (edge m e), edge-row m e has .1, same-refl e)
+      it = rw (keeps (edge m e), edge-there m e has .1, same-refl e)
 
       others : map (λ r. put (f r)) (withoutEdge e (m .edges)) ≡ map f (withoutEdge e (m .edges))
       others = map-cong (λ r. put (f r)) f (withoutEdge e (m .edges))

@@ -31,10 +31,13 @@ pub record Numbered (m : Map) : Type 0 where
   pub next-edge : m .nextEdge ≤ suc lastNumber
   pub next-face : m .nextFace ≤ suc lastNumber
 
--- a map in the plane, by its links and face numbers alone; the links obey the link law; every face but 0 is borne by
--- some directed edge
+-- a map in the plane, by its links and face numbers alone
+abbrev pub InPlane : Map → Type 0
+InPlane m = Planar (map (λ n. n .number) (m .nodes)) (arcs m) (leaves m) (next m) (bears m) (length (m .faces))
+
+-- in the plane; the links obey the link law; every face but 0 is borne by some directed edge
 pub record Woven (m : Map) : Type 0 where
-  pub planar : Planar (map (λ n. n .number) (m .nodes)) (arcs m) (leaves m) (next m) (bears m) (length (m .faces))
+  pub planar : InPlane m
   pub law : Law sameDart rev (leaves m) (way m) (directed m) (next m)
   pub borne : (f : ℕ) → List·Memᴰ f (m .faces) → f ≢ 0 → (d : Dart) × List·Memᴰ d (directed m) × (bears m d ≡ f)
 

@@ -35,19 +35,20 @@ use Rattle.map.proofs.Laws.{formed-is}
 use Rattle.map.proofs.Linked.{edges-once, within-nodes}
 use Rattle.map.proofs.RoundTrip.{Stored, ranged-is, ranged-nodes, ranged-curves}
 use Rattle.map.proofs.Reasons.{first-zero}
-use Rattle.grown.proofs.Reasons.{Room, Supply, AddNode, Split, AddEdge, add-node, split-mod, add-mod}
-use Rattle.grown.proofs.Readings.{edge-row}
-use Rattle.grown.proofs.Numbers.{outlineOf, RankedMap, numbered-ranked}
-use Rattle.grown.proofs.NumbersAdd.{add-edge-ranked}
-use Rattle.grown.proofs.Sizes.{Taken, add-node-taken, split-taken, add-edge-taken}
-use Rattle.grown.proofs.CurvesSurvey.{Line, Place, lineOf, placeOf, lines, places}
-use Rattle.grown.proofs.CurvesRows.{Becomes, addIsoNode-becomes, addEdge-becomes}
-use Rattle.grown.proofs.CurvesCut.{firstHalf}
-use Rattle.grown.proofs.CurvesHalves.{replaced, split-mod-becomes}
-use Rattle.grown.proofs.CurvesKept.{each-halves}
-use Rattle.grown.proofs.LawfulForm.{formed-anchored}
-use Rattle.grown.proofs.LawfulSplit.{off-ends}
-use Rattle.grown.proofs.LawfulCurves.{halves-few}
+use Rattle.map.proofs.Laws.{edge-there}
+use Rattle.map_laws.proofs.Reasons.{Room, Supply, AddNode, Split, AddEdge, add-node, split-mod, add-mod}
+use Rattle.map_laws.proofs.Readings.{outlineOf}
+use Rattle.grown.proofs.Numbers.Ranked.{RankedMap, numbered-ranked}
+use Rattle.grown.proofs.Numbers.Add.{add-edge-ranked}
+use Rattle.grown.proofs.Numbers.Sizes.{Taken, add-node-taken, split-taken, add-edge-taken}
+use Rattle.grown.proofs.Curves.Survey.{Line, Place, lineOf, placeOf, lines, places}
+use Rattle.grown.proofs.Curves.Rows.{Becomes, addIsoNode-becomes, addEdge-becomes}
+use Rattle.grown.proofs.Curves.Cut.{firstHalf}
+use Rattle.grown.proofs.Curves.Halves.{replaced, split-mod-becomes}
+use Rattle.grown.proofs.Curves.Kept.{each-halves}
+use Rattle.grown.proofs.Law.Lawful.{formed-anchored}
+use Rattle.grown.proofs.Law.Split.{off-ends}
+use Rattle.grown.proofs.Curves.Ends.{halves-few}
 use Rattle.grown.proofs.Ranges.{NextInRange, next-in-range, Tabled, tabled-ranged, some-face}
 use Rattle.joining.specs.Join.{nodeThere, edgeThere, placing, unlessServed, nodeTicket, serving, edgeExists}
 use Rattle.joining.specs.Join.{edgeTicket, Entry, entries, enter, unlessReason, enterAll}
@@ -194,7 +195,7 @@ module _ (l : Lent) (r : ranged l ≡ true) (f : formed (mapOf l) ≡ true) wher
       (more Plotted (places m) old-place (h .in-range))
     where
       here : List·Memᴰ (edge m e) (m .edges)
-      here = edge-row m e (h .has) .0
+      here = edge-there m e (h .has) .0
 
       off : (edge m e .curve .first ≢ p) × (lastPoint (edge m e .curve) ≢ p)
       off = off-ends m p (h .free) (within-nodes m f) here (formed-anchored m f (edge m e) here)

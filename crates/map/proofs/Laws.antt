@@ -49,7 +49,7 @@ module _ (m : Map) where
   node-there n h = let r = find-some (λ x. same (x .number) n) (m .nodes) h in
       rw (r .3) (r .1, same-true (r .0 .number) n (r .2))
 
-  edge-there : (e : ℕ) → hasEdge m e ≡ true → List·Memᴰ (edge m e) (m .edges) × (edge m e .number ≡ e)
+  pub edge-there : (e : ℕ) → hasEdge m e ≡ true → List·Memᴰ (edge m e) (m .edges) × (edge m e .number ≡ e)
   unfolding edge
   edge-there e h = let r = find-some (λ x. same (x .number) e) (m .edges) h in
       rw (r .3) (r .1, same-true (r .0 .number) e (r .2))

@@ -15,7 +15,6 @@ use Rattle.lists.proofs.Bools.{same-eq, and-true, and-is}
 use Rattle.lists.proofs.Maps.{all-mapped}
 use Rattle.lists.proofs.Perms.{perm-of-distinct}
 use Rattle.lists.proofs.Members.{all-each, each-all}
-use Rattle.plane.specs.Directions.{Way}
 use Rattle.planar_maps.specs.Map.{Arc, Dart, rev, Linked}
 use Rattle.planar_maps.specs.Pieces.{nums}
 use Rattle.planar_maps.specs.Rings.{sameDart}
@@ -23,22 +22,21 @@ use Rattle.planar_maps.proofs.Cycles.{fwd-in, bwd-in}
 use Rattle.planar_maps.proofs.Hooks.{distinct-darts}
 use Rattle.planar_maps.proofs.Rings.{rev-in}
 use Rattle.planar_maps.proofs.Turns.{rev-rev}
+use Rattle.plane.specs.Directions.{Way}
 use Rattle.rotation.specs.Law.{Apart}
 use Rattle.rotation.proofs.Node.{lawful-in}
 use Rattle.rotation.proofs.Ties.{tells}
 use Rattle.rotation.proofs.Whole.{law-onto}
 use Rattle.map.specs.Rows.{Edge, Map, edge, node, hasNode, hasEdge}
 use Rattle.map.specs.Darts.{arcs, directed, leaves, arrives, next, bears, way, departures}
-use Rattle.map.specs.Form.{numbered, numbers, inFace, curveFits, waysDiffer, departuresDiffer, bareMarked}
-use Rattle.map.specs.Form.{linksMeet, ringsBearOne, formed}
+use Rattle.map.specs.Form.{numbered, numbers, inFace, curveFits, waysDiffer, departuresDiffer, bareMarked, linksMeet}
+use Rattle.map.specs.Form.{ringsBearOne, formed}
 use Rattle.map.specs.Links.{clockwise}
-use Rattle.map.proofs.Laws.{numbers-are}
+use Rattle.map.proofs.Laws.{numbers-are, edge-there, node-there}
 use Rattle.map.proofs.Linked.{nums-rows, starts, ends, links-keep}
-use Rattle.grown.proofs.Readings.{leaves-row, edge-row, arc-at, dart-has, departs, departing}
-use Rattle.grown.proofs.RowChanges.{node-row}
-use Rattle.grown.proofs.EdgesLaw.{from-in}
-use Rattle.grown.proofs.Forms.{linked-once}
-use Rattle.grown.proofs.LawfulForm.{differ-says}
+use Rattle.map_laws.proofs.Readings.{leaves-row, arc-at, dart-has, departs, departing}
+use Rattle.map_laws.proofs.Departures.{from-in}
+use Rattle.map_laws.proofs.Form.{linked-once, differ-says}
 use Rattle.mending.specs.Mend.{sidesNamed, mended}
 use Rattle.mending.specs.Claims.{linksNamed}
 use Rattle.mending.proofs.Sketched.{Sketch, parts-formed}
@@ -118,7 +116,7 @@ module _ (m : Map) where
         e = edge m (d .edge)
 
         named : sidesNamed m e ≡ true
-        named = all-each (sidesNamed m) (m .edges) (s .sides) e (edge-row m (d .edge) (dart-has m k) .0)
+        named = all-each (sidesNamed m) (m .edges) (s .sides) e (edge-there m (d .edge) (dart-has m k) .0)
 
         ends-named : (hasNode m (e .start) ≡ true) × (hasNode m (e .end) ≡ true)
         ends-named = and-true _ _ (and-true _ _ (and-true _ _ named .0) .0)
@@ -131,7 +129,7 @@ module _ (m : Map) where
     unfolding departuresDiffer departures
     apart n d c i j e =
         let x = from-in (leaves m) (directed m) n i in
-        let row = node-row m n (subst (λ (k : ℕ). hasNode m k ≡ true) (x .1) (at-node d (x .0))) in
+        let row = node-there m n (subst (λ (k : ℕ). hasNode m k ≡ true) (x .1) (at-node d (x .0))) in
         differ-says (way m) (departures m n)
         (subst (λ (k : ℕ). waysDiffer (map (way m) (departures m k)) ≡ true) (row .1)
         (all-each (λ r. waysDiffer (map (way m) (departures m (r .number)))) (m .nodes) differ (node m n) (row .0)))

@@ -2,7 +2,7 @@
 -- the list by its rule where that has each face and each piece once. Assumes nothing.
 use mathlib.Core.Path.{_≡_, refl, sym, ap, _∙_, subst}
 use mathlib.Core.Logic.{_↔_}
-use mathlib.Core.Bool.{Bool, true, false, cond, not, _&&_, true≢false}
+use mathlib.Core.Bool.{Bool, true, false, cond, not, true≢false}
 use mathlib.Core.List.{List, [], _∷_, map, flatMap, List·Memᴰ, List·Memᴰ·head, List·Memᴰ·tail, List·Memᴰ·not-nil}
 use mathlib.Core.List.{Memᴰ·append-left, Memᴰ·append-right, Memᴰ·map, Memᴰ·of-map, Permᴰ·symm}
 use mathlib.Core.Option.{Option, none, some, Option·getD}
@@ -13,20 +13,20 @@ use lib.Dec.{ltb}
 use lib.IntN.{ℤ}
 use lib.ListN.{length, length-map, length-append}
 use Rattle.lists.specs.Tests.{same}
-use Rattle.lists.specs.Scans.{firstOr, isSome}
+use Rattle.lists.specs.Scans.{isSome}
 use Rattle.lists.specs.Members.{Distinct}
-use Rattle.lists.proofs.Bools.{and-right, same-true}
+use Rattle.lists.proofs.Bools.{and-right}
 use Rattle.lists.proofs.Counts.{count-keep}
 use Rattle.lists.proofs.Keeps.{keep-in, distinct-keep}
 use Rattle.lists.proofs.Perms.{perm-length, perm-of-distinct, perm-distinct, distinct-map, distinct-append}
 use Rattle.planar_maps.specs.Pieces.{pieces}
 use Rattle.map.specs.Rows.{Map, Lent, mapOf, whole}
 use Rattle.map.specs.Darts.{pieceCount}
-use Rattle.map.specs.Form.{numbered, numbers, formed, ranged, inForm}
+use Rattle.map.specs.Form.{formed, ranged, inForm}
 use Rattle.map.specs.Reasons.{firstReason}
 use Rattle.map.specs.Ticket.{listUnless}
 use Rattle.map.proofs.Laws.{formed-is}
-use Rattle.grown.proofs.NumbersNodes.{zero-in as first-in}
+use Rattle.map_laws.proofs.Faces.{formed-faces}
 use Rattle.nesting.specs.Contents.{pieceOf, pieceRows, partCount, isIn, under, Line, lines, complete, contents}
 use Rattle.nesting.specs.Contents.{lineNumbers, contentsOf}
 use Rattle.nesting.specs.Claims.{Part, partOf, parts, Once, byRule, DepthEnough, ContentsExact, Exactly28}
@@ -101,13 +101,7 @@ module _ (m : Map) (zero-in : List·Memᴰ 0 (m .faces)) where
 -- in form, face 0 exists, and no face and no piece stands twice
 module _ (m : Map) (h : formed m ≡ true) where
   pub zero-in : List·Memᴰ 0 (m .faces)
-  unfolding numbers
-  zero-in = first-in (m .faces) (same-true (firstOr 1 (m .faces)) 0 (and-right rise (same (firstOr 1 (m .faces)) 0)
-      (formed-is m h .rising)))
-    where
-      rise : Bool
-      rise = numbered 1 (m .nextNode) (map (λ n. n .number) (m .nodes))
-          && numbered 1 (m .nextEdge) (map (λ e. e .number) (m .edges)) && numbered 0 (m .nextFace) (m .faces)
+  zero-in = formed-faces m h .zero
 
   pub faces-once : Distinct (m .faces)
   faces-once = formed-is m h .numbers .faces .distinct

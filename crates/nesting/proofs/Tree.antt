@@ -28,11 +28,13 @@ use Rattle.map.specs.Rows as rows
 use Rattle.map.specs.Darts.{arcs, directed, leaves, next, bears}
 use Rattle.map.specs.Form.{formed}
 use Rattle.grown.specs.Good.{Good}
-use Rattle.grown.proofs.Readings.{faceIn, arcOf, bears-row, edge-row, arc-at, dart-has}
-use Rattle.grown.proofs.RowChanges.{nodeNumber, node-at}
-use Rattle.grown.proofs.Numbers.{RankedMap, Outline, outlineOf, outlines, Met, numbered-ranked}
+use Rattle.map.proofs.Laws.{edge-there}
+use Rattle.map_laws.proofs.Readings.{faceIn, arcOf, bears-row, arc-at, dart-has}
+use Rattle.map_laws.proofs.RowChanges.{nodeNumber, node-at}
+use Rattle.map_laws.proofs.Readings.{Outline, outlineOf, outlines}
+use Rattle.grown.proofs.Numbers.Ranked.{RankedMap, Met, numbered-ranked}
+use Rattle.grown.proofs.Plane.Reached.{good-reached}
 use Rattle.grown.proofs.Forms.{good-formed}
-use Rattle.grown.proofs.EdgesReached.{good-reached}
 use Rattle.nesting.specs.Contents.{pieceOf, pieceRows, partCount, isIt, ringBears, nodeBears, isIn, under}
 use Rattle.nesting.specs.Contents.{Line, listed, lines}
 use Rattle.nesting.specs.Claims.{Part, partOf, parts, HasContents}
@@ -75,7 +77,7 @@ module _ (m : Map) (g : Good m) where
   dart-edge {d} k = record {
     left = subst (λ f. List·Memᴰ f (m .faces)) (sym (bears-row m d))
         (side (d .back) (R .sided (outlineOf (rows.edge m (d .edge)))
-        (Memᴰ·map outlineOf (edge-row m (d .edge) (dart-has m k) .0))));
+        (Memᴰ·map outlineOf (edge-there m (d .edge) (dart-has m k) .0))));
     right = keep-has (λ n. same (pieceOf m n) n) (map nodeNumber (m .nodes))
         (chain-within (P .within) (tail-in (P .linked) (P .within) k) (label-chain (arcs m) (leaves m d)))
         (same-eq (label (arcs m) (of d)) (of d) (label-idem (arcs m) (leaves m d)));

@@ -14,14 +14,13 @@ use Rattle.lists.specs.Scans.{find, isSome, keep}
 use Rattle.lists.proofs.Bools.{equal?, same-eq, same-refl, same-false, not-true}
 use Rattle.lists.proofs.Keeps.{keep-swap, keep-all, keep-append, keep-cong}
 use Rattle.lists.proofs.Members.{map-cong}
-use Rattle.plane.specs.Directions.{Way}
-use Rattle.curves.specs.Curves.{Curve, curveOf, startWay}
-use Rattle.curves.specs.Edits as edits
 use Rattle.planar_maps.specs.Map.{Dart, fwd, bwd, darts}
 use Rattle.planar_maps.specs.Rings.{sameDart}
 use Rattle.planar_maps.proofs.Bridges.{Fresh}
 use Rattle.planar_maps.proofs.Rings.{sameDart-refl}
 use Rattle.planar_maps.proofs.Hooks.{fwd≢bwd, sameDart-false}
+use Rattle.plane.specs.Directions.{Way}
+use Rattle.curves.specs.Curves.{Curve, curveOf, startWay}
 use Rattle.rotation.specs.Law.{firstClockwise}
 use Rattle.rotation.proofs.Rename.{first-map}
 use Rattle.map.specs.Rows.{Edge, Map, edge, hasEdge, atNodes}
@@ -29,20 +28,22 @@ use Rattle.map.specs.Darts.{arcs, directed, leaves, next, way, departures}
 use Rattle.map.specs.Form.{numbered}
 use Rattle.map.specs.Links.{instead, linkIn, linkEdge}
 use Rattle.map.specs.Edits.{drawn}
+use Rattle.map.proofs.Laws.{edge-there}
+use Rattle.map_laws.proofs.Readings.{Relinked, numberOf, arcOf, has-number, nums-rows, row-has, dart-has, departs}
+use Rattle.map_laws.proofs.Readings.{edge-by, tailIn, nextIn, leaves-row, next-row, course-row, way-row, next-by}
+use Rattle.map_laws.proofs.RowChanges.{more-old, more-new, more-directed}
+use Rattle.map_laws.proofs.LinkedIn.{drawnRow, appended, linkIn-relinked, linkIn-next, linkEdge-relinked}
 use Rattle.tables.specs.Tables.{sameZ, edgesOf, edgeAt, edgeMap, EdgeRows}
 use Rattle.tables.proofs.Rows.{edges-length, edge-numbers, number-in}
+use Rattle.tables.proofs.Order.{same-pos}
 use Rattle.darts.specs.Positions.{odd, dartAt, wayWith}
 use Rattle.darts.proofs.Positions.{edge-of, row-there}
 use Rattle.links.proofs.Darts.{dart-named, row-named}
 use Rattle.links.proofs.Departures.{departures-map}
-use Rattle.grown.proofs.Readings.{Relinked, numberOf, arcOf, has-number, nums-rows, edge-row, row-has, dart-has}
-use Rattle.grown.proofs.Readings.{departs, edge-by, tailIn, nextIn, leaves-row, next-row, course-row, way-row, next-by}
-use Rattle.grown.proofs.RowChanges.{more-old, more-new, more-directed}
-use Rattle.grown.proofs.EdgesDrawn.{drawnRow, appended, linkIn-relinked, linkIn-next, linked-in}
-use Rattle.tables.proofs.Order.{same-pos}
 use Rattle.reason_corners.specs.Drawing.{drawnDart, departing, atEnd, startCorner, endCorner, Joined}
 use Rattle.reason_corners.proofs.Ends.{departing-below, at-end-below, start-way, end-way}
 use Rattle.reason_corners.proofs.Places.{place-old, place-forward, place-backward}
+use Rattle.curves.specs.Edits as edits
 
 -- the next number is that of no row
 pub fresh-number : (l : List ℤ) (e : ℕ) (m : Map) → m .edges ≡ edgesOf l e
@@ -103,7 +104,7 @@ module _ {l : List ℤ} {e : ℕ} (t : EdgeRows l e) (c : List ℤ) (m : Map) (E
 
   has-old : (x : ℕ) → hasEdge m₀ x ≡ true → hasEdge m₁ x ≡ true
   has-old x h =
-      let r = edge-row m x (has-alone x ∙ h) in
+      let r = edge-there m x (has-alone x ∙ h) in
       ap (hasEdge m₁) (sym (r .1)) ∙ row-has m₁ (Memᴰ·append-left (row ∷ []) (r .0))
 
   has-new : hasEdge m₁ N ≡ true
@@ -258,7 +259,7 @@ module _ {l : List ℤ} {e : ℕ} (t : EdgeRows l e) (c : List ℤ) (m : Map) (E
   unfolding drawn atNodes
   rows-drawn =
       sym (length-map (linkEdge N m₁ .edges) arcOf)
-      ∙ ap length (linked-in m u v (curveOf c) φ none .arcs)
+      ∙ ap length (linkEdge-relinked (m .nextEdge) (appended m u v (curveOf c) φ) .arcs)
       ∙ length-map (m₁ .edges) arcOf
       ∙ length-append (m .edges) (row ∷ [])
       ∙ ap (λ (n : ℕ). n + 1) (ap length E ∙ edges-length l e)

@@ -1,0 +1,201 @@
+-- A carried-out ticket keeps numbers, faces and marks, and leaves rows that fit. Assumes nothing.
+use mathlib.Core.Path.{_≡_}
+use mathlib.Core.Bool.{true, false}
+use Prim.Native.Nat.{ℕ}
+use native.Mathlib.Omega.{arith}
+use lib.IntN.{natAbs}
+use lib.ListN.{length-map}
+use Rattle.lists.specs.Tests.{bit}
+use Rattle.curves.specs.Curves.{point, curveOf}
+use Rattle.map.specs.Rows.{Map, Sizes}
+use Rattle.map.specs.Tickets.{Ticket, AddIsoNode, MoveIsoNode, RemoveIsoNode, AddIsoEdge, RemoveIsoEdge, ChangeEdgeGeom}
+use Rattle.map.specs.Tickets.{NewEdgesSplit, ModEdgeSplit, NewEdgeHeal, ModEdgeHeal, AddEdgeNewFaces, AddEdgeModFace}
+use Rattle.map.specs.Tickets.{RemEdgeNewFace, RemEdgeModFace}
+use Rattle.map.specs.Edits.{makesFace}
+use Rattle.map.specs.Reasons.{firstReason, reasons}
+use Rattle.map.specs.Ticket.{carried}
+use Rattle.map_laws.proofs.Reasons.{Room, Supply, add-node, move-node, add-lone, remove-lone, split-new, split-mod}
+use Rattle.map_laws.proofs.Reasons.{heal-new, heal-mod, add-new, add-mod, remove-new, remove-mod}
+use Rattle.map_laws.proofs.Readings.{outlineOf}
+use Rattle.grown.specs.Good.{Good, Numbered, Woven, Fits}
+use Rattle.grown.proofs.Numbers.Ranked.{RankedMap, NextLimited, numbered-ranked, ranked-numbered}
+use Rattle.grown.proofs.Numbers.Nodes.{add-node-ranked, move-node-ranked, remove-node-ranked, change-ranked}
+use Rattle.grown.proofs.Numbers.Add.{add-lone-ranked, add-edge-ranked}
+use Rattle.grown.proofs.Numbers.Remove.{remove-lone-ranked, remove-edge-ranked}
+use Rattle.grown.proofs.Numbers.Split.{split-ranked}
+use Rattle.grown.proofs.Numbers.Heal.{heal-ranked}
+use Rattle.grown.proofs.Numbers.Sizes.{Taken, add-node-taken, move-node-taken, remove-node-taken, change-taken}
+use Rattle.grown.proofs.Numbers.Sizes.{add-lone-taken, remove-lone-taken, split-taken, heal-taken}
+use Rattle.grown.proofs.Numbers.Sizes.{add-edge-taken, remove-edge-taken}
+
+-- what a carried-out ticket comes to: numbers, faces and marks, and how much it takes of what there is
+record Kept (s : Sizes) (m m′ : Map) : Type 0 where
+  ranked : RankedMap m′
+  limited : NextLimited m′
+  fits : Fits s m → Fits s m′
+
+module _ {m m′ : Map} {a b c x y z : ℕ} (t : Taken m m′ a b c x y z) where
+  limits : Supply m x y z → NextLimited m′
+  limits p = record {
+    node = omega (arith, t .next-node, p .nodes);
+    edge = omega (arith, t .next-edge, p .edges);
+    face = omega (arith, t .next-face, p .faces);
+  }
+
+  fit : {s : Sizes} → Room s m a b c → Fits s m′
+  fit p =
+      let e = length-map (m .edges) outlineOf in
+      let e′ = length-map (m′ .edges) outlineOf in
+      record {
+        nodes = omega (arith, t .nodes, p .nodes);
+        edges = omega (arith, t .edges, p .edges);
+        faces = omega (arith, t .faces, p .faces);
+      }
+
+-- nothing more is taken
+no-more : {s : Sizes} {m : Map} → Fits s m → Room s m 0 0 0
+no-more f = record { nodes = omega (arith, f .nodes); edges = omega (arith, f .edges); faces = omega (arith, f .faces) }
+
+enough : {m : Map} → Numbered m → Supply m 0 0 0
+enough n = record {
+  nodes = omega (arith, n .next-node);
+  edges = omega (arith, n .next-edge);
+  faces = omega (arith, n .next-face);
+}
+
+no-face : {m : Map} (e : ℕ) → Supply m 0 0 0 → Supply m 0 0 (bit (makesFace false e m))
+unfolding makesFace
+no-face e p = p
+
+pub ranks : (m : Map) → Good m → RankedMap m
+ranks m g = numbered-ranked m (g .woven .planar .edges-once) (g .numbered)
+
+module _ (s : Sizes) (m : Map) (g : Good m) where
+  kept : (t : Ticket) → firstReason (reasons s m t) ≡ 0 → Kept s m (carried m t .0)
+  unfolding carried
+  kept (AddIsoNode f x y) h =
+      let k = add-node s m f x y h in
+      let t = add-node-taken (point x y) m in
+      record {
+        ranked = add-node-ranked m (point x y) (g .woven) (ranks m g);
+        limited = limits t (k .supply);
+        fits = λ p. fit t (k .room);
+      }
+  kept (MoveIsoNode n x y) h =
+      let k = move-node s m n x y h in
+      let t = move-node-taken (natAbs n) (point x y) m in
+      record {
+        ranked = move-node-ranked m (natAbs n) (point x y) (g .woven .planar .nodes-once) (k .isolated)
+            (ranks m g);
+        limited = limits t (enough (g .numbered));
+        fits = λ p. fit t (no-more p);
+      }
+  kept (RemoveIsoNode n) h =
+      let t = remove-node-taken (natAbs n) m in
+      record {
+        ranked = remove-node-ranked m (natAbs n) (ranks m g);
+        limited = limits t (enough (g .numbered));
+        fits = λ p. fit t (no-more p);
+      }
+  kept (AddIsoEdge u v c) h =
+      let k = add-lone s m u v c h in
+      let t = add-lone-taken (natAbs u) (natAbs v) (curveOf c) m in
+      record {
+        ranked = add-lone-ranked (natAbs u) (natAbs v) (curveOf c) m (k .has-start) (ranks m g);
+        limited = limits t (k .supply);
+        fits = λ p. fit t (k .room);
+      }
+  kept (RemoveIsoEdge e) h =
+      let k = remove-lone s m e h in
+      let t = remove-lone-taken (natAbs e) m in
+      record {
+        ranked = remove-lone-ranked m (natAbs e) (k .has) (ranks m g);
+        limited = limits t (enough (g .numbered));
+        fits = λ p. fit t (no-more p);
+      }
+  kept (ChangeEdgeGeom e c) h =
+      let t = change-taken (natAbs e) (curveOf c) m in
+      record {
+        ranked = change-ranked m (natAbs e) (curveOf c) (ranks m g);
+        limited = limits t (enough (g .numbered));
+        fits = λ p. fit t (no-more p);
+      }
+  kept (NewEdgesSplit e x y) h =
+      let k = split-new s m e x y h in
+      let t = split-taken false (natAbs e) (point x y) m (k .has) in
+      record {
+        ranked = split-ranked false (natAbs e) (point x y) m (k .has) (ranks m g);
+        limited = limits t (k .supply);
+        fits = λ p. fit t (k .room);
+      }
+  kept (ModEdgeSplit e x y) h =
+      let k = split-mod s m e x y h in
+      let t = split-taken true (natAbs e) (point x y) m (k .has) in
+      record {
+        ranked = split-ranked true (natAbs e) (point x y) m (k .has) (ranks m g);
+        limited = limits t (k .supply);
+        fits = λ p. fit t (k .room);
+      }
+  kept (NewEdgeHeal e f) h =
+      let k = heal-new s m e f h in
+      let t = heal-taken false (natAbs e) (natAbs f) m (k .0 .has) (k .0 .differ) in
+      record {
+        ranked = heal-ranked false (natAbs e) (natAbs f) m (k .0 .has) (k .0 .has-other) (k .0 .differ)
+            (k .0 .joint) (ranks m g);
+        limited = limits t (k .1);
+        fits = λ p. fit t (no-more p);
+      }
+  kept (ModEdgeHeal e f) h =
+      let k = heal-mod s m e f h in
+      let t = heal-taken true (natAbs e) (natAbs f) m (k .has) (k .differ) in
+      record {
+        ranked = heal-ranked true (natAbs e) (natAbs f) m (k .has) (k .has-other) (k .differ) (k .joint)
+            (ranks m g);
+        limited = limits t (enough (g .numbered));
+        fits = λ p. fit t (no-more p);
+      }
+  kept (AddEdgeNewFaces u v c) h =
+      let k = add-new s m u v c h in
+      let t = add-edge-taken true (natAbs u) (natAbs v) (curveOf c) m (k .has-start) (ranks m g) in
+      record {
+        ranked = add-edge-ranked true (natAbs u) (natAbs v) (curveOf c) m (k .has-start) (ranks m g);
+        limited = limits t (k .supply);
+        fits = λ p. fit t (k .room);
+      }
+  kept (AddEdgeModFace u v c) h =
+      let k = add-mod s m u v c h in
+      let t = add-edge-taken false (natAbs u) (natAbs v) (curveOf c) m (k .has-start) (ranks m g) in
+      record {
+        ranked = add-edge-ranked false (natAbs u) (natAbs v) (curveOf c) m (k .has-start) (ranks m g);
+        limited = limits t (k .supply);
+        fits = λ p. fit t (k .room);
+      }
+  kept (RemEdgeNewFace e) h =
+      let k = remove-new s m e h in
+      let t = remove-edge-taken true (natAbs e) m (k .has) (ranks m g) in
+      record {
+        ranked = remove-edge-ranked true (natAbs e) m (k .has) (ranks m g);
+        limited = limits t (k .supply);
+        fits = λ p. fit t (no-more p);
+      }
+  kept (RemEdgeModFace e) h =
+      let k = remove-mod s m e h in
+      let t = remove-edge-taken false (natAbs e) m k (ranks m g) in
+      record {
+        ranked = remove-edge-ranked false (natAbs e) m k (ranks m g);
+        limited = limits t (no-face (natAbs e) (enough (g .numbered)));
+        fits = λ p. fit t (no-more p);
+      }
+
+  -- numbers rise and are below the next, nodes and sides of edges are in faces that exist
+  pub ranked-kept : (t : Ticket) → firstReason (reasons s m t) ≡ 0 → RankedMap (carried m t .0)
+  ranked-kept t h = kept t h .ranked
+
+  -- and named rows exist, nodes are marked
+  pub numbered-kept : (t : Ticket) → firstReason (reasons s m t) ≡ 0 → Woven (carried m t .0)
+      → Numbered (carried m t .0)
+  numbered-kept t h w = ranked-numbered (carried m t .0) w (kept t h .ranked) (kept t h .limited)
+
+  -- the rows fit the tables
+  pub fits-kept : (t : Ticket) → firstReason (reasons s m t) ≡ 0 → Fits s m → Fits s (carried m t .0)
+  fits-kept t h = kept t h .fits

@@ -1,0 +1,21 @@
+-- Laws of the map that hold whatever tickets made it.
+
+-- rows: what a map reads in them, and after each way of changing them; directed edges
+pub mod Readings
+pub mod RowChanges
+pub mod RowDarts
+-- what holds of a ticket that nothing turns down
+pub mod Reasons
+-- nodes, outlines of edges, faces and next numbers after an edit; faces that are named exist
+pub mod Outlines
+pub mod Faces
+-- rings, departures, the link law as it depends on them, and condition 2 as facts
+pub mod Rings
+pub mod Departures
+pub mod LawOrder
+pub mod Form
+-- an edge drawn: its row linked in, what the map then reads, and that a linked map stays linked
+pub mod LinkedIn
+pub mod Drawn
+pub mod Weaving
+pub mod DrawnLinked
