@@ -19,6 +19,14 @@ use Rattle.map.specs.Edits.{sharedNodes, joint, parts}
 use Rattle.map_laws.proofs.Readings.{leaves-row, has-dart, departing}
 use Rattle.map_laws.proofs.Reasons.{Heal}
 
+-- the two ways of an edge differ
+pub turned : (z : Dart) → rev z ≢ z
+turned z q = go (z .back) (ap (λ (x : Dart). x .back) q)
+  where
+    go : (b : Bool) → not b ≡ b → ⊥
+    go true r = false≢true r
+    go false r = true≢false r
+
 -- the directed edges c and d meet at n: c arrives, d departs
 pub record Meet (m : Map) (e f n : ℕ) (c d : Dart) : Type 0 where
   pub arrives : leaves m (rev c) ≡ n
@@ -167,13 +175,6 @@ module _ (m : Map) (e f : ℕ) (h : Heal m e f) where
           (λ r. two (ap (λ (x : Dart). x .edge) r))
           (departing m n (has (rev (parts m e f .0)) of-first) (meeting .arrives))
           (departing m n second-in (meeting .departs)) (departing m n k q)
-
-      turned : (z : Dart) → rev z ≢ z
-      turned z q = go (z .back) (ap (λ (x : Dart). x .back) q)
-        where
-          go : (b : Bool) → not b ≡ b → ⊥
-          go true r = false≢true r
-          go false r = true≢false r
 
       from : leaves m (parts m e f .0) ≢ n
       from q = elim (only (parts m e f .0) first-in q) [

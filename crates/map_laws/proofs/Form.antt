@@ -1,5 +1,5 @@
--- Condition 2 on links and directions, from tests to facts and back: a linked map passes its tests on links; in a map in
--- form departures from one node differ in direction. Assumes nothing.
+-- Condition 2 on links and directions, from tests to facts and back: a linked map passes its tests on links; in a map
+-- in form departures from one node differ in direction. Assumes nothing.
 use mathlib.Core.Path.{_≡_, sym, _∙_, subst}
 use mathlib.Core.Bool.{true, not, true≢false}
 use mathlib.Core.List.{List, [], _∷_, map, List·Memᴰ, Memᴰ·of-map, List·Memᴰ·cases-cons, List·Memᴰ·not-nil, Memᴰ·map}

@@ -149,15 +149,6 @@ module _ (m m′ : Map) (e n a b : ℕ) (p : Point) (L : Lawful m) (h : InHalves
       → List·Memᴰ z (whole e r) → P z
   by = each-whole e r
 
-  ff : departs e (fwd a) (fwd b) (fwd e) ≡ fwd a
-  ff = f-fwd parts
-
-  fb : departs e (fwd a) (fwd b) (bwd e) ≡ bwd b
-  fb = f-bwd parts
-
-  fo : (z : Dart) → List·Memᴰ z (darts r) → departs e (fwd a) (fwd b) z ≡ z
-  fo = f-old parts
-
   -- a row of the others is read as it was, but for its links
   leaves-old : (z : Dart) → List·Memᴰ z (darts r) → leaves m′ z ≡ leaves m z
   leaves-old z k = let x = dart-row (withoutEdge e (m .edges)) z k in
@@ -187,13 +178,13 @@ module _ (m m′ : Map) (e n a b : ℕ) (p : Point) (L : Lawful m) (h : InHalves
   -- the far ends depart as the whole edge did
   way-f : sameWay (way m (fwd e)) (way m′ (departs e (fwd a) (fwd b) (fwd e))) ≡ true
   way-f = ap₂ sameWay (way-row m (fwd e) ∙ ap startWay (course-row m (fwd e)))
-      (ap (way m′) ff ∙ way-of m′ once-m′ first in-first (fwd a) refl)
+      (ap (way m′) (f-fwd parts) ∙ way-of m′ once-m′ first in-first (fwd a) refl)
       ∙ front-way p (edge m e .curve) starts-off ends-off (h .on)
 
   way-b : sameWay (way m (bwd e)) (way m′ (departs e (fwd a) (fwd b) (bwd e))) ≡ true
   way-b = ap₂ sameWay (way-row m (bwd e) ∙ ap startWay (course-row m (bwd e))
       ∙ reverse-way (edge m e .curve) (L .some (edge m e) row))
-      (ap (way m′) fb ∙ way-of m′ once-m′ second in-second (bwd b) refl
+      (ap (way m′) (f-bwd parts) ∙ way-of m′ once-m′ second in-second (bwd b) refl
       ∙ reverse-way (back p (edge m e .curve)) (back-some p (edge m e .curve) starts-off ends-off (h .on)))
       ∙ back-way p (edge m e .curve) starts-off ends-off (h .on)
 
@@ -203,15 +194,15 @@ module _ (m m′ : Map) (e n a b : ℕ) (p : Point) (L : Lawful m) (h : InHalves
   halves = record {
     parts = parts;
     tails = by (λ z. leaves m′ (departs e (fwd a) (fwd b) z) ≡ leaves m z)
-        (ap (leaves m′) ff ∙ leaves-of m′ once-m′ first in-first (fwd a) refl ∙ sym (leaves-row m (fwd e)))
-        (ap (leaves m′) fb ∙ leaves-of m′ once-m′ second in-second (bwd b) refl ∙ sym (leaves-row m (bwd e)))
-        (λ z k. ap (leaves m′) (fo z k) ∙ leaves-old z k);
+        (ap (leaves m′) (f-fwd parts) ∙ leaves-of m′ once-m′ first in-first (fwd a) refl ∙ sym (leaves-row m (fwd e)))
+        (ap (leaves m′) (f-bwd parts) ∙ leaves-of m′ once-m′ second in-second (bwd b) refl ∙ sym (leaves-row m (bwd e)))
+        (λ z k. ap (leaves m′) (f-old parts z k) ∙ leaves-old z k);
     faces = by (λ z. bears m′ (departs e (fwd a) (fwd b) z) ≡ bears m z)
-        (ap (bears m′) ff ∙ bears-of m′ once-m′ first in-first (fwd a) refl ∙ sym (bears-row m (fwd e)))
-        (ap (bears m′) fb ∙ bears-of m′ once-m′ second in-second (bwd b) refl ∙ sym (bears-row m (bwd e)))
-        (λ z k. ap (bears m′) (fo z k) ∙ bears-old z k);
+        (ap (bears m′) (f-fwd parts) ∙ bears-of m′ once-m′ first in-first (fwd a) refl ∙ sym (bears-row m (fwd e)))
+        (ap (bears m′) (f-bwd parts) ∙ bears-of m′ once-m′ second in-second (bwd b) refl ∙ sym (bears-row m (bwd e)))
+        (λ z k. ap (bears m′) (f-old parts z k) ∙ bears-old z k);
     ways = by (λ z. sameWay (way m z) (way m′ (departs e (fwd a) (fwd b) z)) ≡ true) way-f way-b
-        (λ z k. ap (sameWay (way m z)) (ap (way m′) (fo z k) ∙ way-old z k) ∙ sameWay-refl (way m z));
+        (λ z k. ap (sameWay (way m z)) (ap (way m′) (f-old parts z k) ∙ way-old z k) ∙ sameWay-refl (way m z));
     nexts = by (λ z. next m′ (arrives e (fwd a) (fwd b) z) ≡ departs e (fwd a) (fwd b) (next m z))
         (ap (next m′) (g-fwd parts)
         ∙ next-of m′ once-m′ second in-second (fwd b) refl ∙ names-are e a b (edge m e .nextLeft)

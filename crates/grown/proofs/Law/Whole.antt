@@ -2,7 +2,7 @@
 -- cross. Assumes nothing.
 use mathlib.Core.Path.{_≡_, refl, sym, ap, ap₂, _∙_, subst}
 use mathlib.Core.Logic.{_⊎_, inl, inr, _≢_}
-use mathlib.Core.Bool.{Bool, true, false, not, true≢false, false≢true}
+use mathlib.Core.Bool.{Bool, true, false, not}
 use mathlib.Core.List.{List, _∷_, map, map-map, List·Memᴰ, List·Memᴰ·head, List·Memᴰ·tail, Memᴰ·map, Memᴰ·cast}
 use mathlib.Core.List.{List·Permᴰ, Permᴰ·map, Permᴰ·symm}
 use Prim.Native.Nat.{ℕ}
@@ -15,7 +15,6 @@ use Rattle.planar_maps.specs.Map.{Arc, Dart, fwd, bwd, rev, darts}
 use Rattle.planar_maps.specs.Pieces.{nums}
 use Rattle.planar_maps.specs.Rings.{sameDart}
 use Rattle.planar_maps.proofs.Rings.{rev-in, next-in}
-use Rattle.planar_maps.proofs.Hooks.{fresh-dart}
 use Rattle.planar_maps.proofs.Turns.{rev-rev}
 use Rattle.planar_maps.proofs.Subdivide.{arc}
 use Rattle.rotation.proofs.Order.{sameWay-refl, sameWay-sym}
@@ -33,7 +32,7 @@ use Rattle.map_laws.proofs.Rings.{next-one}
 use Rattle.grown.proofs.Law.Halves.{heal-lawful, lawful-other, swap}
 use Rattle.grown.proofs.Law.Lawful.{Obeys, Lawful}
 use Rattle.grown.proofs.Curves.Ends.{reverse-some, reverse-way, joined-some, joined-start, joined-end}
-use Rattle.grown.proofs.Joint.{Seamed}
+use Rattle.grown.proofs.Joint.{turned, Seamed}
 use Rattle.grown.proofs.Renumber.{runs}
 use Rattle.grown.proofs.Halved as halved
 use Rattle.grown.proofs.Halved.{Parts, Halved, arrives, whole, each-whole, each-halved, f-fwd, f-bwd, f-old}
@@ -193,32 +192,14 @@ module _ (m : Map) (L : Lawful m) (e f n : ℕ) (c d : Dart) (seam : Seamed m e 
         → List·Memᴰ z (whole h r) → P z
     by = each-whole h r
 
-    ff : δ (fwd h) ≡ c
-    ff = f-fwd parts
-
-    fb : δ (bwd h) ≡ rev d
-    fb = f-bwd parts
-
-    fo : (z : Dart) → List·Memᴰ z (darts r) → δ z ≡ z
-    fo = f-old parts
-
-    gf : arrives h c d (fwd h) ≡ d
-    gf = g-fwd parts
-
-    gb : arrives h c d (bwd h) ≡ rev c
-    gb = g-bwd parts
-
-    go : (z : Dart) → List·Memᴰ z (darts r) → arrives h c d z ≡ z
-    go = g-old parts
-
     numbers : {x y : Dart} → x ≡ y → x .edge ≡ y .edge
     numbers q = ap (λ (z : Dart). z .edge) q
 
     pub old-c : (z : Dart) → List·Memᴰ z (darts r) → z .edge ≢ c .edge
-    old-c z k q = fresh-dart (runs c from n) r (λ i. once .0 (List·Memᴰ·tail i)) k q
+    old-c z k q = halved.old-c parts k q
 
     pub old-d : (z : Dart) → List·Memᴰ z (darts r) → z .edge ≢ d .edge
-    old-d z k q = fresh-dart (runs d n to) r (once .1 .0) k q
+    old-d z k q = halved.old-d parts k q
 
     -- ---- the names: what departs elsewhere than at the joint
 
@@ -239,9 +220,13 @@ module _ (m : Map) (L : Lawful m) (e f n : ℕ) (c d : Dart) (seam : Seamed m e 
     renamed : (y : Dart) → List·Memᴰ y (halved.halved c d r) → Renamed y
     unfolding Renamed
     renamed = each-halved c d r Renamed
-        (λ u v. (List·Memᴰ·head name-c, ap δ name-c ∙ ff)) (λ u v. absurd (u refl)) (λ u v. absurd (v refl))
-        (λ u v. (List·Memᴰ·tail (List·Memᴰ·head name-d), ap δ name-d ∙ fb))
-        (λ z k u v. (Memᴰ·cast (name-old z k) (List·Memᴰ·tail (List·Memᴰ·tail k)), ap δ (name-old z k) ∙ fo z k))
+        (λ u v. (List·Memᴰ·head name-c, ap δ name-c ∙ (f-fwd parts))) (λ u v. absurd (u refl)) (λ u v. absurd (v refl))
+        (λ u v. (List·Memᴰ·tail (List·Memᴰ·head name-d), ap δ name-d ∙ (f-bwd parts)))
+        (λ z k u v. (
+          Memᴰ·cast (name-old z k) (List·Memᴰ·tail (List·Memᴰ·tail k)),
+          ap δ (name-old z k)
+              ∙ f-old parts z k,
+        ))
 
     -- what arrives elsewhere
     Elsewhere : Dart → Type 0
@@ -250,16 +235,12 @@ module _ (m : Map) (L : Lawful m) (e f n : ℕ) (c d : Dart) (seam : Seamed m e 
     elsewhere : (z : Dart) → List·Memᴰ z (whole h r) → Elsewhere (arrives h c d z)
     unfolding Elsewhere
     elsewhere = by (λ z. Elsewhere (arrives h c d z))
-        (subst Elsewhere (sym gf) (seam .second-in, (λ q. seam .two (sym (numbers q))), (λ q. turned d (sym q))))
-        (subst Elsewhere (sym gb) (rev-in (arcs m) (seam .first-in), (λ q. turned c q), (λ q. seam .two (numbers q))))
-        (λ z k. subst Elsewhere (sym (go z k)) (old-m k, (λ q. old-c z k (numbers q)), (λ q. old-d z k (numbers q))))
-      where
-        turned : (z : Dart) → rev z ≢ z
-        turned z q = flip (z .back) (ap (λ (x : Dart). x .back) q)
-          where
-            flip : (b : Bool) → not b ≡ b → ⊥
-            flip true p = false≢true p
-            flip false p = true≢false p
+        (subst Elsewhere (sym (g-fwd parts))
+        (seam .second-in, (λ q. seam .two (sym (numbers q))), (λ q. turned d (sym q))))
+        (subst Elsewhere (sym (g-bwd parts))
+        (rev-in (arcs m) (seam .first-in), (λ q. turned c q), (λ q. seam .two (numbers q))))
+        (λ z k. subst Elsewhere (sym (g-old parts z k))
+        (old-m k, (λ q. old-c z k (numbers q)), (λ q. old-d z k (numbers q))))
 
     -- goes on elsewhere
     onward : (z : Dart) → List·Memᴰ z (whole h r)
@@ -302,15 +283,17 @@ module _ (m : Map) (L : Lawful m) (e f n : ℕ) (c d : Dart) (seam : Seamed m e 
 
     next-by : (z : Dart) → List·Memᴰ z (whole h r) → next m′ z ≡ wholeNames h c d (next m (arrives h c d z))
     next-by = by (λ z. next m′ z ≡ wholeNames h c d (next m (arrives h c d z)))
-        (next-of m′ once-m′ (healedRow m e h c d) in-it (fwd h) refl ∙ ap (λ z. wholeNames h c d (next m z)) (sym gf))
-        (next-of m′ once-m′ (healedRow m e h c d) in-it (bwd h) refl ∙ ap (λ z. wholeNames h c d (next m z)) (sym gb))
-        (λ z k. next-old z k ∙ ap (λ z. wholeNames h c d (next m z)) (sym (go z k)))
+        (next-of m′ once-m′ (healedRow m e h c d) in-it (fwd h) refl
+        ∙ ap (λ z. wholeNames h c d (next m z)) (sym (g-fwd parts)))
+        (next-of m′ once-m′ (healedRow m e h c d) in-it (bwd h) refl
+        ∙ ap (λ z. wholeNames h c d (next m z)) (sym (g-bwd parts)))
+        (λ z k. next-old z k ∙ ap (λ z. wholeNames h c d (next m z)) (sym (g-old parts z k)))
 
     tails : (z : Dart) → List·Memᴰ z (whole h r) → leaves m (δ z) ≡ leaves m′ z
     tails = by (λ z. leaves m (δ z) ≡ leaves m′ z)
-        (ap (leaves m) ff ∙ sym (leaves-of m′ once-m′ (healedRow m e h c d) in-it (fwd h) refl))
-        (ap (leaves m) fb ∙ sym (leaves-of m′ once-m′ (healedRow m e h c d) in-it (bwd h) refl))
-        (λ z k. ap (leaves m) (fo z k) ∙ sym (leaves-old z k))
+        (ap (leaves m) (f-fwd parts) ∙ sym (leaves-of m′ once-m′ (healedRow m e h c d) in-it (fwd h) refl))
+        (ap (leaves m) (f-bwd parts) ∙ sym (leaves-of m′ once-m′ (healedRow m e h c d) in-it (bwd h) refl))
+        (λ z k. ap (leaves m) (f-old parts z k) ∙ sym (leaves-old z k))
 
     -- the sides of both edges are those of e
     left-c : bears m c ≡ edge m e .left
@@ -346,8 +329,8 @@ module _ (m : Map) (L : Lawful m) (e f n : ℕ) (c d : Dart) (seam : Seamed m e 
 
     away : (z : Dart) → List·Memᴰ z (whole h r) → leaves m′ z ≢ n
     away = by (λ z. leaves m′ z ≢ n) (λ q. seam .from
-        (sym (ap (leaves m) ff) ∙ tails (fwd h) (List·Memᴰ·head refl) ∙ q))
-        (λ q. seam .to (sym (ap (leaves m) fb) ∙ tails (bwd h) (List·Memᴰ·tail (List·Memᴰ·head refl)) ∙ q))
+        (sym (ap (leaves m) (f-fwd parts)) ∙ tails (fwd h) (List·Memᴰ·head refl) ∙ q))
+        (λ q. seam .to (sym (ap (leaves m) (f-bwd parts)) ∙ tails (bwd h) (List·Memᴰ·tail (List·Memᴰ·head refl)) ∙ q))
         (λ z k q. elim (seam .only z (old-m k) (sym (leaves-old z k) ∙ q)) [
           | inl p ↦ old-c z k
               (numbers p)
@@ -360,12 +343,13 @@ module _ (m : Map) (L : Lawful m) (e f n : ℕ) (c d : Dart) (seam : Seamed m e 
     halves = record {
       parts = parts;
       tails = tails;
-      faces = by (λ z. bears m (δ z) ≡ bears m′ z) (ap (bears m) ff ∙ left-c ∙ sym left-it)
-          (ap (bears m) fb ∙ right-d ∙ sym right-it) (λ z k. ap (bears m) (fo z k) ∙ sym (bears-old z k));
+      faces = by (λ z. bears m (δ z) ≡ bears m′ z) (ap (bears m) (f-fwd parts) ∙ left-c ∙ sym left-it)
+          (ap (bears m) (f-bwd parts) ∙ right-d ∙ sym right-it)
+          (λ z k. ap (bears m) (f-old parts z k) ∙ sym (bears-old z k));
       ways = by (λ z. sameWay (way m′ z) (way m (δ z)) ≡ true)
-          (ap (λ z. sameWay (way m′ (fwd h)) (way m z)) ff ∙ way-f)
-          (ap (λ z. sameWay (way m′ (bwd h)) (way m z)) fb ∙ way-b)
-          (λ z k. ap (sameWay (way m′ z)) (ap (way m) (fo z k) ∙ sym (way-old z k)) ∙ sameWay-refl (way m′ z));
+          (ap (λ z. sameWay (way m′ (fwd h)) (way m z)) (f-fwd parts) ∙ way-f)
+          (ap (λ z. sameWay (way m′ (bwd h)) (way m z)) (f-bwd parts) ∙ way-b)
+          (λ z k. ap (sameWay (way m′ z)) (ap (way m) (f-old parts z k) ∙ sym (way-old z k)) ∙ sameWay-refl (way m′ z));
       nexts = λ z k. sym (ap δ (next-by z k) ∙ onward z k .1);
       into = λ z k. Memᴰ·cast (next-by z k) (onward z k .0);
       away = away;

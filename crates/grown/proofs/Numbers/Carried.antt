@@ -52,6 +52,10 @@ module _ {m m′ : Map} {a b c x y z : ℕ} (t : Taken m m′ a b c x y z) where
         faces = omega (arith, t .faces, p .faces);
       }
 
+keeps : {s : Sizes} {m m′ : Map} {a b c x y z : ℕ} → RankedMap m′ → Taken m m′ a b c x y z → Supply m x y z
+    → (Fits s m → Room s m a b c) → Kept s m m′
+keeps r t p q = record { ranked = r; limited = limits t p; fits = λ f. fit t (q f) }
+
 -- nothing more is taken
 no-more : {s : Sizes} {m : Map} → Fits s m → Room s m 0 0 0
 no-more f = record { nodes = omega (arith, f .nodes); edges = omega (arith, f .edges); faces = omega (arith, f .faces) }
@@ -75,117 +79,60 @@ module _ (s : Sizes) (m : Map) (g : Good m) where
   unfolding carried
   kept (AddIsoNode f x y) h =
       let k = add-node s m f x y h in
-      let t = add-node-taken (point x y) m in
-      record {
-        ranked = add-node-ranked m (point x y) (g .woven) (ranks m g);
-        limited = limits t (k .supply);
-        fits = λ p. fit t (k .room);
-      }
+      keeps (add-node-ranked m (point x y) (g .woven) (ranks m g))
+      (add-node-taken (point x y) m) (k .supply) (λ p. (k .room))
   kept (MoveIsoNode n x y) h =
       let k = move-node s m n x y h in
-      let t = move-node-taken (natAbs n) (point x y) m in
-      record {
-        ranked = move-node-ranked m (natAbs n) (point x y) (g .woven .planar .nodes-once) (k .isolated)
-            (ranks m g);
-        limited = limits t (enough (g .numbered));
-        fits = λ p. fit t (no-more p);
-      }
+      keeps (move-node-ranked m (natAbs n) (point x y) (g .woven .planar .nodes-once) (k .isolated) (ranks m g))
+      (move-node-taken (natAbs n) (point x y) m) (enough (g .numbered)) (λ p. (no-more p))
   kept (RemoveIsoNode n) h =
-      let t = remove-node-taken (natAbs n) m in
-      record {
-        ranked = remove-node-ranked m (natAbs n) (ranks m g);
-        limited = limits t (enough (g .numbered));
-        fits = λ p. fit t (no-more p);
-      }
+      keeps (remove-node-ranked m (natAbs n) (ranks m g))
+      (remove-node-taken (natAbs n) m) (enough (g .numbered)) (λ p. (no-more p))
   kept (AddIsoEdge u v c) h =
       let k = add-lone s m u v c h in
-      let t = add-lone-taken (natAbs u) (natAbs v) (curveOf c) m in
-      record {
-        ranked = add-lone-ranked (natAbs u) (natAbs v) (curveOf c) m (k .has-start) (ranks m g);
-        limited = limits t (k .supply);
-        fits = λ p. fit t (k .room);
-      }
+      keeps (add-lone-ranked (natAbs u) (natAbs v) (curveOf c) m (k .has-start) (ranks m g))
+      (add-lone-taken (natAbs u) (natAbs v) (curveOf c) m) (k .supply) (λ p. (k .room))
   kept (RemoveIsoEdge e) h =
       let k = remove-lone s m e h in
-      let t = remove-lone-taken (natAbs e) m in
-      record {
-        ranked = remove-lone-ranked m (natAbs e) (k .has) (ranks m g);
-        limited = limits t (enough (g .numbered));
-        fits = λ p. fit t (no-more p);
-      }
+      keeps (remove-lone-ranked m (natAbs e) (k .has) (ranks m g))
+      (remove-lone-taken (natAbs e) m) (enough (g .numbered)) (λ p. (no-more p))
   kept (ChangeEdgeGeom e c) h =
-      let t = change-taken (natAbs e) (curveOf c) m in
-      record {
-        ranked = change-ranked m (natAbs e) (curveOf c) (ranks m g);
-        limited = limits t (enough (g .numbered));
-        fits = λ p. fit t (no-more p);
-      }
+      keeps (change-ranked m (natAbs e) (curveOf c) (ranks m g))
+      (change-taken (natAbs e) (curveOf c) m) (enough (g .numbered)) (λ p. (no-more p))
   kept (NewEdgesSplit e x y) h =
       let k = split-new s m e x y h in
-      let t = split-taken false (natAbs e) (point x y) m (k .has) in
-      record {
-        ranked = split-ranked false (natAbs e) (point x y) m (k .has) (ranks m g);
-        limited = limits t (k .supply);
-        fits = λ p. fit t (k .room);
-      }
+      keeps (split-ranked false (natAbs e) (point x y) m (k .has) (ranks m g))
+      (split-taken false (natAbs e) (point x y) m (k .has)) (k .supply) (λ p. (k .room))
   kept (ModEdgeSplit e x y) h =
       let k = split-mod s m e x y h in
-      let t = split-taken true (natAbs e) (point x y) m (k .has) in
-      record {
-        ranked = split-ranked true (natAbs e) (point x y) m (k .has) (ranks m g);
-        limited = limits t (k .supply);
-        fits = λ p. fit t (k .room);
-      }
+      keeps (split-ranked true (natAbs e) (point x y) m (k .has) (ranks m g))
+      (split-taken true (natAbs e) (point x y) m (k .has)) (k .supply) (λ p. (k .room))
   kept (NewEdgeHeal e f) h =
       let k = heal-new s m e f h in
-      let t = heal-taken false (natAbs e) (natAbs f) m (k .0 .has) (k .0 .differ) in
-      record {
-        ranked = heal-ranked false (natAbs e) (natAbs f) m (k .0 .has) (k .0 .has-other) (k .0 .differ)
-            (k .0 .joint) (ranks m g);
-        limited = limits t (k .1);
-        fits = λ p. fit t (no-more p);
-      }
+      keeps (heal-ranked false (natAbs e) (natAbs f) m (k .0 .has) (k .0 .has-other) (k .0 .differ)
+      (k .0 .joint) (ranks m g))
+      (heal-taken false (natAbs e) (natAbs f) m (k .0 .has) (k .0 .differ)) (k .1) (λ p. (no-more p))
   kept (ModEdgeHeal e f) h =
       let k = heal-mod s m e f h in
-      let t = heal-taken true (natAbs e) (natAbs f) m (k .has) (k .differ) in
-      record {
-        ranked = heal-ranked true (natAbs e) (natAbs f) m (k .has) (k .has-other) (k .differ) (k .joint)
-            (ranks m g);
-        limited = limits t (enough (g .numbered));
-        fits = λ p. fit t (no-more p);
-      }
+      keeps (heal-ranked true (natAbs e) (natAbs f) m (k .has) (k .has-other) (k .differ) (k .joint) (ranks m g))
+      (heal-taken true (natAbs e) (natAbs f) m (k .has) (k .differ)) (enough (g .numbered)) (λ p. (no-more p))
   kept (AddEdgeNewFaces u v c) h =
       let k = add-new s m u v c h in
-      let t = add-edge-taken true (natAbs u) (natAbs v) (curveOf c) m (k .has-start) (ranks m g) in
-      record {
-        ranked = add-edge-ranked true (natAbs u) (natAbs v) (curveOf c) m (k .has-start) (ranks m g);
-        limited = limits t (k .supply);
-        fits = λ p. fit t (k .room);
-      }
+      keeps (add-edge-ranked true (natAbs u) (natAbs v) (curveOf c) m (k .has-start) (ranks m g))
+      (add-edge-taken true (natAbs u) (natAbs v) (curveOf c) m (k .has-start) (ranks m g)) (k .supply) (λ p. (k .room))
   kept (AddEdgeModFace u v c) h =
       let k = add-mod s m u v c h in
-      let t = add-edge-taken false (natAbs u) (natAbs v) (curveOf c) m (k .has-start) (ranks m g) in
-      record {
-        ranked = add-edge-ranked false (natAbs u) (natAbs v) (curveOf c) m (k .has-start) (ranks m g);
-        limited = limits t (k .supply);
-        fits = λ p. fit t (k .room);
-      }
+      keeps (add-edge-ranked false (natAbs u) (natAbs v) (curveOf c) m (k .has-start) (ranks m g))
+      (add-edge-taken false (natAbs u) (natAbs v) (curveOf c) m (k .has-start) (ranks m g)) (k .supply) (λ p. (k .room))
   kept (RemEdgeNewFace e) h =
       let k = remove-new s m e h in
-      let t = remove-edge-taken true (natAbs e) m (k .has) (ranks m g) in
-      record {
-        ranked = remove-edge-ranked true (natAbs e) m (k .has) (ranks m g);
-        limited = limits t (k .supply);
-        fits = λ p. fit t (no-more p);
-      }
+      keeps (remove-edge-ranked true (natAbs e) m (k .has) (ranks m g))
+      (remove-edge-taken true (natAbs e) m (k .has) (ranks m g)) (k .supply) (λ p. (no-more p))
   kept (RemEdgeModFace e) h =
       let k = remove-mod s m e h in
-      let t = remove-edge-taken false (natAbs e) m k (ranks m g) in
-      record {
-        ranked = remove-edge-ranked false (natAbs e) m k (ranks m g);
-        limited = limits t (no-face (natAbs e) (enough (g .numbered)));
-        fits = λ p. fit t (no-more p);
-      }
+      keeps (remove-edge-ranked false (natAbs e) m k (ranks m g))
+      (remove-edge-taken false (natAbs e) m k (ranks m g))
+      (no-face (natAbs e) (enough (g .numbered))) (λ p. (no-more p))
 
   -- numbers rise and are below the next, nodes and sides of edges are in faces that exist
   pub ranked-kept : (t : Ticket) → firstReason (reasons s m t) ≡ 0 → RankedMap (carried m t .0)

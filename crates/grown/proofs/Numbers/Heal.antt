@@ -93,6 +93,20 @@ healedOutline keeps e f m =
       right = edge m e .right;
     }
 
+-- the healed row h, with links of m′
+abbrev healedEdge : ℕ → ℕ → ℕ → Map → Map → Edge
+healedEdge e f h m m′ =
+    record {
+      number = h;
+      start = leaves m (parts m e f .0);
+      end = arrives m (parts m e f .1);
+      nextLeft = next m′ (parts m e f .1);
+      nextRight = next m′ (rev (parts m e f .0));
+      left = edge m e .left;
+      right = edge m e .right;
+      curve = healedCurve m e f;
+    }
+
 abbrev pub healOutlines : Bool → ℕ → ℕ → Outline → List Outline → List Outline
 healOutlines keeps e f x os = cond keeps (lessOutline f (map (placing e x) os))
     (lessOutline e (lessOutline f os) ++ x ∷ [])
@@ -104,16 +118,7 @@ heal-outlines true e f m =
     let c = parts m e f .0 in
     let d = parts m e f .1 in
     let m′ = renaming c (fwd e) (rev d) (bwd e) m in
-    let row : Edge = record {
-      number = e;
-      start = leaves m c;
-      end = arrives m d;
-      nextLeft = next m′ d;
-      nextRight = next m′ (rev c);
-      left = edge m e .left;
-      right = edge m e .right;
-      curve = healedCurve m e f;
-    } in
+    let row : Edge = healedEdge e f e m m′ in
     outlines-without f (atEdge e (λ r. row) m′ .edges)
     ∙ ap (lessOutline f) (outlines-map (λ r. cond (same (r .number) e) row r) (placing e (outlineOf row)) (m′ .edges)
     (λ r k. at (same (r .number) e) row r)
@@ -127,16 +132,7 @@ heal-outlines false e f m =
     let d = parts m e f .1 in
     let h = m .nextEdge in
     let m′ = renaming c (fwd h) (rev d) (bwd h) m in
-    let row : Edge = record {
-      number = h;
-      start = leaves m c;
-      end = arrives m d;
-      nextLeft = next m′ d;
-      nextRight = next m′ (rev c);
-      left = edge m e .left;
-      right = edge m e .right;
-      curve = healedCurve m e f;
-    } in
+    let row : Edge = healedEdge e f h m m′ in
     map-append outlineOf (withoutEdge e (withoutEdge f (m′ .edges))) (row ∷ [])
     ∙ ap (λ (l : List Outline). l ++ outlineOf row ∷ [])
     (outlines-without e (withoutEdge f (m′ .edges))

@@ -60,11 +60,15 @@ module _ (h k : ℕ) (c d : Dart) (s n t : ℕ)
 
   σ-d′ : σ (rev d) ≡ bwd k
   unfolding σ
-  σ-d′ = rw (same-false (d .edge) (c .edge) (λ p. c≢d (H .parts) (sym p)), same-refl (d .edge)) (onto-rev k (d .back) d ∙ ap rev (onto-it k d))
+  σ-d′ = rw (same-false (d .edge) (c .edge) (λ p. c≢d (H .parts) (sym p)), same-refl (d .edge))
+      (onto-rev k (d .back) d ∙ ap rev (onto-it k d))
 
   σ-old : (z : Dart) → List·Memᴰ z (darts r) → σ z ≡ z
   unfolding σ
-  σ-old z m = rw (same-false (z .edge) (c .edge) (old-c (H .parts) m), same-false (z .edge) (d .edge) (old-d (H .parts) m))
+  σ-old z m = rw (
+    same-false (z .edge) (c .edge) (old-c (H .parts) m),
+    same-false (z .edge) (d .edge) (old-d (H .parts) m),
+  )
 
   τ-f : τ (fwd h) ≡ c
   unfolding τ
@@ -156,15 +160,6 @@ module _ (h k : ℕ) (c d : Dart) (s n t : ℕ)
       f : Dart → Dart
       f = departs h c d
 
-      ff : f (fwd h) ≡ c
-      ff = f-fwd (H .parts)
-
-      fb : f (bwd h) ≡ rev d
-      fb = f-bwd (H .parts)
-
-      fo : (z : Dart) → List·Memᴰ z (darts r) → f z ≡ z
-      fo = f-old (H .parts)
-
       in-f : List·Memᴰ (fwd h) (whole h r)
       in-f = List·Memᴰ·head refl
 
@@ -175,25 +170,25 @@ module _ (h k : ℕ) (c d : Dart) (s n t : ℕ)
       in-old m = List·Memᴰ·tail (List·Memᴰ·tail m)
 
       tail-f : tail (fwd h) ≡ with-edge h s t T (fwd h)
-      tail-f = sym (H .tails (fwd h) in-f) ∙ ap tail′ (ff ∙ sym τ-f)
+      tail-f = sym (H .tails (fwd h) in-f) ∙ ap tail′ (f-fwd (H .parts) ∙ sym τ-f)
           ∙ first .linked .starts (arc h s n) (List·Memᴰ·head refl) ∙ sym (with-fwd h s t T)
 
       tail-b : tail (bwd h) ≡ with-edge h s t T (bwd h)
-      tail-b = sym (H .tails (bwd h) in-b) ∙ ap tail′ (fb ∙ sym τ-b′)
+      tail-b = sym (H .tails (bwd h) in-b) ∙ ap tail′ (f-bwd (H .parts) ∙ sym τ-b′)
           ∙ first .linked .ends (arc k n t) (List·Memᴰ·tail (List·Memᴰ·head refl)) ∙ sym (with-bwd h s t T)
 
       tail-old : (z : Dart) → List·Memᴰ z (darts r) → tail z ≡ with-edge h s t T z
-      tail-old z m = sym (H .tails z (in-old m)) ∙ ap tail′ (fo z m ∙ sym (τ-old z m))
+      tail-old z m = sym (H .tails z (in-old m)) ∙ ap tail′ (f-old (H .parts) z m ∙ sym (τ-old z m))
           ∙ sym (with-other h s t T z (old-h (H .parts) m))
 
       face-f : face (fwd h) ≡ face′ (τ (fwd h))
-      face-f = sym (H .faces (fwd h) in-f) ∙ ap face′ (ff ∙ sym τ-f)
+      face-f = sym (H .faces (fwd h) in-f) ∙ ap face′ (f-fwd (H .parts) ∙ sym τ-f)
 
       face-b : face (bwd h) ≡ face′ (τ (bwd h))
       face-b = sym (H .face-c) ∙ ap face′ (sym τ-b)
 
       face-old : (z : Dart) → List·Memᴰ z (darts r) → face z ≡ face′ (τ z)
-      face-old z m = sym (H .faces z (in-old m)) ∙ ap face′ (fo z m ∙ sym (τ-old z m))
+      face-old z m = sym (H .faces z (in-old m)) ∙ ap face′ (f-old (H .parts) z m ∙ sym (τ-old z m))
 
       -- where z goes on, by what it arrives as
       led : (z y : Dart) → List·Memᴰ z (whole h r) → arrives h c d z ≡ τ y → next z ≡ renamed k h (N y)
@@ -210,4 +205,5 @@ module _ (h k : ℕ) (c d : Dart) (s n t : ℕ)
 
       next-old : (z : Dart) → List·Memᴰ z (darts r) → next z ≡ heal-next h k N z
       next-old z m = led z z (in-old m) (g-old (H .parts) z m ∙ sym (τ-old z m))
-          ∙ ap (λ z. renamed k h (N z)) (sym (healed-other h k z (λ e. old-h (H .parts) m (ap (λ (d : Dart). d .edge) e))))
+          ∙ ap (λ z. renamed k h (N z))
+          (sym (healed-other h k z (λ e. old-h (H .parts) m (ap (λ (d : Dart). d .edge) e))))

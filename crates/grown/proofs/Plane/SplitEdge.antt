@@ -79,13 +79,16 @@ module _ (h a b s n t : ℕ) (r : List Arc) {tail tail′ : Dart → ℕ} {next 
       ∙ sym (ap (renamed a b) σ-f ∙ renamed-other a b (fwd a) fwd≢bwd))
       (f-bwd (H .parts) ∙ sym (ap (renamed a b) σ-b ∙ renamed-at a b))
       (λ z m. f-old (H .parts) z m
-      ∙ sym (ap (renamed a b) (σ-old z m) ∙ renamed-other a b z (λ e. old-c (H .parts) m (ap (λ (d : Dart). d .edge) e))))
+      ∙ sym (ap (renamed a b) (σ-old z m)
+      ∙ renamed-other a b z (λ e. old-c (H .parts) m (ap (λ (d : Dart). d .edge) e))))
 
   pub split-planar : {nodes : List ℕ} {faces : ℕ} → Planar nodes (arc h s t ∷ r) tail next face faces
       → (List·Memᴰ n nodes → ⊥) → Planar (n ∷ nodes) (arc a s n ∷ arc b n t ∷ r) tail′ next′ face′ faces
-  split-planar {nodes} {faces} o new = planar-agree (each-halved (fwd a) (fwd b) r (λ z. tail′ z ≡ T z) tail-a tail-a′ tail-b tail-b′ tail-old)
+  split-planar {nodes} {faces} o new = planar-agree
+      (each-halved (fwd a) (fwd b) r (λ z. tail′ z ≡ T z) tail-a tail-a′ tail-b tail-b′ tail-old)
       (each-halved (fwd a) (fwd b) r (λ z. next′ z ≡ N z) next-a next-a′ next-b next-b′ next-old)
-      (each-halved (fwd a) (fwd b) r (λ z. face′ z ≡ F z) face-a face-a′ face-b face-b′ face-old) (planar-subdivide a b s n t r first fresh new)
+      (each-halved (fwd a) (fwd b) r (λ z. face′ z ≡ F z) face-a face-a′ face-b face-b′ face-old)
+      (planar-subdivide a b s n t r first fresh new)
     where
       first : Planar nodes (arc a s t ∷ r) (λ z. tail (τ z)) (λ z. σ (next (τ z))) (λ z. face (τ z)) faces
       first = subst (λ es. Planar nodes es (λ z. tail (τ z)) (λ z. σ (next (τ z))) (λ z. face (τ z)) faces) renumbered
@@ -109,15 +112,6 @@ module _ (h a b s n t : ℕ) (r : List Arc) {tail tail′ : Dart → ℕ} {next 
       f : Dart → Dart
       f = departs h (fwd a) (fwd b)
 
-      fa : f (fwd h) ≡ fwd a
-      fa = f-fwd (H .parts)
-
-      fb : f (bwd h) ≡ bwd b
-      fb = f-bwd (H .parts)
-
-      fo : (z : Dart) → List·Memᴰ z (darts r) → f z ≡ z
-      fo = f-old (H .parts)
-
       in-f : List·Memᴰ (fwd h) (whole h r)
       in-f = List·Memᴰ·head refl
 
@@ -128,7 +122,8 @@ module _ (h a b s n t : ℕ) (r : List Arc) {tail tail′ : Dart → ℕ} {next 
       in-old m = List·Memᴰ·tail (List·Memᴰ·tail m)
 
       tail-a : tail′ (fwd a) ≡ T (fwd a)
-      tail-a = ap tail′ (sym fa) ∙ H .tails (fwd h) in-f ∙ o .linked .starts (arc h s t) (List·Memᴰ·head refl)
+      tail-a = ap tail′ (sym (f-fwd (H .parts))) ∙ H .tails (fwd h) in-f
+          ∙ o .linked .starts (arc h s t) (List·Memᴰ·head refl)
           ∙ sym (with-other b n t _ (fwd a) a≢b ∙ with-fwd a s n _)
 
       tail-a′ : tail′ (bwd a) ≡ T (bwd a)
@@ -138,15 +133,17 @@ module _ (h a b s n t : ℕ) (r : List Arc) {tail tail′ : Dart → ℕ} {next 
       tail-b = H .tail-d ∙ sym (with-fwd b n t _)
 
       tail-b′ : tail′ (bwd b) ≡ T (bwd b)
-      tail-b′ = ap tail′ (sym fb) ∙ H .tails (bwd h) in-b ∙ o .linked .ends (arc h s t) (List·Memᴰ·head refl)
+      tail-b′ = ap tail′ (sym (f-bwd (H .parts))) ∙ H .tails (bwd h) in-b
+          ∙ o .linked .ends (arc h s t) (List·Memᴰ·head refl)
           ∙ sym (with-bwd b n t _)
 
       tail-old : (z : Dart) → List·Memᴰ z (darts r) → tail′ z ≡ T z
-      tail-old z m = ap tail′ (sym (fo z m)) ∙ H .tails z (in-old m) ∙ ap tail (sym (τ-old z m))
+      tail-old z m = ap tail′ (sym (f-old (H .parts) z m)) ∙ H .tails z (in-old m) ∙ ap tail (sym (τ-old z m))
           ∙ sym (with-other b n t _ z (old-d (H .parts) m) ∙ with-other a s n _ z (old-c (H .parts) m))
 
       face-a : face′ (fwd a) ≡ F (fwd a)
-      face-a = ap face′ (sym fa) ∙ H .faces (fwd h) in-f ∙ ap face (sym τ-f) ∙ sym (with-other b _ _ _ (fwd a) a≢b)
+      face-a = ap face′ (sym (f-fwd (H .parts))) ∙ H .faces (fwd h) in-f ∙ ap face (sym τ-f)
+          ∙ sym (with-other b _ _ _ (fwd a) a≢b)
 
       face-a′ : face′ (bwd a) ≡ F (bwd a)
       face-a′ = H .face-c ∙ ap face (sym τ-b) ∙ sym (with-other b _ _ _ (bwd a) a≢b)
@@ -155,10 +152,10 @@ module _ (h a b s n t : ℕ) (r : List Arc) {tail tail′ : Dart → ℕ} {next 
       face-b = H .face-d ∙ ap face (sym τ-f) ∙ sym (with-fwd b _ _ _)
 
       face-b′ : face′ (bwd b) ≡ F (bwd b)
-      face-b′ = ap face′ (sym fb) ∙ H .faces (bwd h) in-b ∙ ap face (sym τ-b) ∙ sym (with-bwd b _ _ _)
+      face-b′ = ap face′ (sym (f-bwd (H .parts))) ∙ H .faces (bwd h) in-b ∙ ap face (sym τ-b) ∙ sym (with-bwd b _ _ _)
 
       face-old : (z : Dart) → List·Memᴰ z (darts r) → face′ z ≡ F z
-      face-old z m = ap face′ (sym (fo z m)) ∙ H .faces z (in-old m) ∙ ap face (sym (τ-old z m))
+      face-old z m = ap face′ (sym (f-old (H .parts) z m)) ∙ H .faces z (in-old m) ∙ ap face (sym (τ-old z m))
           ∙ sym (with-other b _ _ _ z (old-d (H .parts) m))
 
       -- what the old next becomes
@@ -181,4 +178,5 @@ module _ (h a b s n t : ℕ) (r : List Arc) {tail tail′ : Dart → ℕ} {next 
 
       next-old : (z : Dart) → List·Memᴰ z (darts r) → next′ z ≡ N z
       next-old z m = ap next′ (sym (g-old (H .parts) z m)) ∙ H .nexts z (in-old m)
-          ∙ led z (in-old m) z (τ-old z m) ∙ sym (with-other a _ _ _ z (old-c (H .parts) m) ∙ with-other b _ _ _ z (old-d (H .parts) m))
+          ∙ led z (in-old m) z (τ-old z m)
+          ∙ sym (with-other a _ _ _ z (old-c (H .parts) m) ∙ with-other b _ _ _ z (old-d (H .parts) m))
