@@ -14,7 +14,7 @@ ghost use Rattle.curves.specs.Edits.{course};
 ghost use Rattle.planar_maps.specs.Rings.{sameDart};
 ghost use Rattle.map.specs.Rows.{dartOf, dartCell};
 ghost use Rattle.map.specs.Darts.{directed, next};
-ghost use Rattle.tables.specs.Tables.{EdgeRow, EdgeRows, edgeMap};
+ghost use Rattle.map_rows.specs.Rows.{EdgeRow, EdgeRows, edgeMap};
 ghost use Rattle.darts.specs.Positions.{reverseOf, dartAt, sidePlace, sideCell, wayAt, wayWith, Along};
 
 // A column pair of the edge rows: 1 the node that a directed edge leaves, 3 its next, 5 the face that it bears.
@@ -123,7 +123,7 @@ pub fn step_at(edges: &[i64], p: usize) -> Step
     requires { ⌜ EdgeRow (now edges) (p / 2) ⌝ }
     ensures { λ r. ⌜ Along r (wayAt (now (edges .entry)) p) ⌝ }
 {
-    first_step(tables::curve_of(edges, p / 2), p % 2 == 1)
+    first_step(map_rows::curve_of(edges, p / 2), p % 2 == 1)
 }
 
 // The place of that step's signs among the nine.

@@ -22,12 +22,13 @@ use Rattle.map.specs.Links.{cornerFace}
 use Rattle.map.specs.Edits.{drawn, drawnIn, splitsFace}
 use Rattle.map.specs.Reasons.{firstReason, reasons}
 use Rattle.map.proofs.Laws.{formed-is}
-use Rattle.map.proofs.RoundTrip.{whole-rows}
+use Rattle.tables.proofs.Filled.{whole-rows}
 use Rattle.map.proofs.Linked as formedLinks
 use Rattle.map.proofs.Scans.{each-all}
-use Rattle.tables.specs.Tables.{sameZ, column, nodesOf, edgesOf, facesOf, nodeAt, edgeAt, nodeMap}
-use Rattle.tables.proofs.Rows.{edges-length, edges-getD}
-use Rattle.tables.proofs.Lookups.{node-found}
+use Rattle.tables.specs.Tables.{sameZ, column}
+use Rattle.map_rows.specs.Rows.{nodesOf, edgesOf, facesOf, nodeAt, edgeAt, nodeMap}
+use Rattle.map_rows.proofs.Rows.{edges-length, edges-getD}
+use Rattle.map_rows.proofs.Lookups.{node-found}
 use Rattle.form_ranges.specs.Ranges.{lent}
 use Rattle.outcomes.specs.Outcomes.{Formed}
 use Rattle.outcomes.proofs.Formed.{ranges, formed-map, node-next, edge-next, face-next}

@@ -8,14 +8,16 @@ use lib.IntN.{ℤ, pos, natAbs}
 use lib.ListN.{length}
 use Rattle.map.specs.declared.Head.{Head}
 use Rattle.map.specs.Limits.{nodeWidth, edgeWidth}
-use Rattle.map.specs.Rows.{Node, Edge, Map, mapOf, filled, nodeCells, edgeCells}
+use Rattle.map.specs.Rows.{Node, Edge, Map, mapOf, nodeCells, edgeCells}
+use Rattle.tables.specs.Tables.{filled}
 use Rattle.map.specs.Edits.{renamedFaces}
-use Rattle.tables.specs.Tables.{EdgeRows, nodesOf, edgesOf}
-use Rattle.tables.proofs.Rows.{nodes-length, edges-length}
-use Rattle.tables.proofs.Writes.{Wide, nodes-wide, table-edges-wide}
+use Rattle.map_rows.specs.Rows.{EdgeRows, nodesOf, edgesOf}
+use Rattle.map_rows.proofs.Rows.{nodes-length, edges-length}
+use Rattle.tables.proofs.Filled.{Wide, filled-rest}
+use Rattle.map.proofs.RoundTrip.{nodes-wide}
+use Rattle.map_rows.proofs.RowCurves.{table-edges-wide}
 use Rattle.form_ranges.specs.Ranges.{lent}
 use Rattle.outcomes.specs.Outcomes.{Formed}
-use Rattle.outcomes.proofs.Filled.{filled-rest}
 use Rattle.redraws.specs.Holds.{NodeTable, EdgeTable, Held}
 use Rattle.redraws.proofs.Formed.{held}
 use Rattle.face_rows.specs.Holds.{Holds, healed}

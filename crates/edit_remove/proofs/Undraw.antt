@@ -15,10 +15,11 @@ use Rattle.lists.proofs.Bools.{which, same-true, same-eq, or-true}
 use Rattle.lists.proofs.Keeps.{keep-all}
 use Rattle.lists.proofs.Members.{map-cong}
 use Rattle.map.specs.declared.Head.{Head}
-use Rattle.map.specs.Rows.{Node, Edge, Map, mapOf, filled, nodeCells, edgeCells}
+use Rattle.map.specs.Rows.{Node, Edge, Map, mapOf, nodeCells, edgeCells}
+use Rattle.tables.specs.Tables.{filled}
 use Rattle.map.specs.Edits.{withFace, undrawn, withSides, renamed, renamedNode, renamedFaces}
 use Rattle.grown.proofs.NumbersEdges.{undrawn-face-list}
-use Rattle.tables.specs.Tables.{edgeAt}
+use Rattle.map_rows.specs.Rows.{edgeAt}
 use Rattle.form_ranges.specs.Ranges.{lent}
 use Rattle.outcomes.specs.declared.Done.{Done}
 use Rattle.outcomes.specs.Outcomes.{Formed}

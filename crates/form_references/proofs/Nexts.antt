@@ -22,9 +22,12 @@ use Rattle.plane.specs.Points.{origin}
 use Rattle.map.specs.Limits.{nodeWidth, edgeWidth}
 use Rattle.map.specs.Rows.{Node, Edge, hasEdge, node, dartOf}
 use Rattle.map.specs.Form.{edgeRanges}
-use Rattle.tables.specs.Tables.{sameZ, column, nodeAt, edgeAt, nodeMap, edgeMap, NodeRows}
-use Rattle.tables.proofs.Rows.{rows-all, edge-cells, node-rows-rising}
-use Rattle.tables.proofs.Lookups.{row-met, node-found, edge-found, edge-missing}
+use Rattle.tables.specs.Tables.{sameZ, column}
+use Rattle.map_rows.specs.Rows.{nodeAt, edgeAt, nodeMap, edgeMap, NodeRows}
+use Rattle.tables.proofs.Rows.{rows-all}
+use Rattle.map_rows.proofs.Rows.{edge-cells, node-rows-rising}
+use Rattle.tables.proofs.Lookups.{row-met}
+use Rattle.map_rows.proofs.Lookups.{node-found, edge-found, edge-missing}
 use Rattle.darts.specs.Positions.{dartAt, sideCell, NextsNamed}
 use Rattle.darts.proofs.Positions.{dart-even, dart-odd, side-even, side-odd}
 use Rattle.form_ranges.specs.Ranges.{EdgesInOrder}

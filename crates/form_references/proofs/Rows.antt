@@ -15,15 +15,17 @@ use Rattle.lists.proofs.Bools.{eq4, &&-false}
 use Rattle.map.specs.declared.Head.{Head}
 use Rattle.map.specs.Rows.{Edge, Map, hasNode, hasEdge, hasFace}
 use Rattle.map.specs.Form.{inFace, edgeNames, edgeRanges, named}
-use Rattle.tables.specs.declared.Counts.{Counts}
-use Rattle.tables.specs.Tables.{sameZ, column, nodesOf, edgesOf, edgeAt, edgeMap}
+use Rattle.map.specs.declared.Counts.{Counts}
+use Rattle.tables.specs.Tables.{sameZ, column}
+use Rattle.map_rows.specs.Rows.{nodesOf, edgesOf, edgeAt, edgeMap}
 use Rattle.tables.proofs.Order.{same-is}
-use Rattle.tables.proofs.Rows.{EdgeCells, edge-cells, rows-all, edges-table}
+use Rattle.tables.proofs.Rows.{rows-all}
+use Rattle.map_rows.proofs.Rows.{EdgeCells, edge-cells, edges-table}
 use Rattle.tables.proofs.Lookups.{place-first}
 use Rattle.darts.specs.Positions.{sideCell, RowsNamed}
 use Rattle.darts.proofs.Positions.{side-even, side-odd}
 use Rattle.form_ranges.specs.Ranges.{mapIn, faceMap, InOrder}
-use Rattle.form_ranges.proofs.Columns.{all-same}
+use Rattle.tables.proofs.Rising.{all-same}
 use Rattle.form_ranges.proofs.Parts.{node-rows, edges-in-order, face-rows}
 use Rattle.form_references.proofs.Names.{node-named, face-named}
 use Rattle.form_references.proofs.Nexts.{two-more}

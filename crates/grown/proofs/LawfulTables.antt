@@ -30,13 +30,15 @@ use Rattle.map.specs.Limits.{lastNumber}
 use Rattle.map.specs.Rows.{Edge, Map, Lent, Sizes, edge, mapOf, lentOf, sizesOf, whole}
 use Rattle.map.specs.Darts.{arcs, directed, leaves, next, way}
 use Rattle.map.specs.Links.{obeysLaw}
-use Rattle.map.specs.Form.{within, ranged, formed, inForm}
+use Rattle.map.specs.Form.{ranged, formed, inForm}
+use Rattle.tables.specs.Tables.{within}
 use Rattle.map.specs.Tickets.{Ticket, AddIsoNode, MoveIsoNode, RemoveIsoNode, AddIsoEdge, RemoveIsoEdge, ChangeEdgeGeom}
 use Rattle.map.specs.Tickets.{NewEdgesSplit, ModEdgeSplit, NewEdgeHeal, ModEdgeHeal, AddEdgeNewFaces, AddEdgeModFace}
 use Rattle.map.specs.Tickets.{RemEdgeNewFace, RemEdgeModFace, read}
 use Rattle.map.specs.Reasons.{firstReason, reasons}
 use Rattle.map.specs.Ticket.{carried, lentReasons, unless, judged, ticket}
-use Rattle.map.proofs.RoundTrip.{Holds, reads-back, within-least, ranged-is}
+use Rattle.map.proofs.RoundTrip.{Holds, reads-back, ranged-is}
+use Rattle.tables.proofs.Tests.{within-least}
 use Rattle.map.proofs.Reasons.{first-zero}
 use Rattle.map.proofs.Laws.{formed-is, in-form-points}
 use Rattle.grown.proofs.Readings.{numberOf, nums-rows, next-row, edge-row, edge-at, row-has}

@@ -19,7 +19,8 @@ use Rattle.planar_maps.proofs.Rings.{next-in}
 use Rattle.map.specs.Limits.{lastNumber}
 use Rattle.map.specs.Rows.{Node, Edge, Map, edge, hasNode, hasEdge, hasFace}
 use Rattle.map.specs.Darts.{arcs, directed, leaves, next, departures, edgeEnds}
-use Rattle.map.specs.Form.{numbered, numbers, inFace, edgeNames, named, bareMarked}
+use Rattle.map.specs.Form.{numbers, inFace, edgeNames, named, bareMarked}
+use Rattle.tables.specs.Tables.{numbered}
 use Rattle.map.proofs.Scans.{all-each, each-all, any-some, some-any, Rising, rising, rising-numbered}
 use Rattle.grown.specs.Good.{Numbered, Woven}
 use Rattle.grown.proofs.Readings.{numberOf, arcOf, edge-row, edge-at, row-has, has-dart, dart-has, leaves-row}

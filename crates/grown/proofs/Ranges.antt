@@ -19,11 +19,14 @@ use Rattle.curves.specs.Curves.{points, maxPoints}
 use Rattle.curves.proofs.Runs.{coordinate-of}
 use Rattle.map.specs.Limits.{maxNodes, maxEdges, maxFaces, lastNumber, nodeWidth, edgeWidth, faceWidth}
 use Rattle.map.specs.Rows.{Node, Edge, Map, Sizes, nodeCells, edgeCells, faceCells, faceCell, lentOf, mapOf, sizesOf}
-use Rattle.map.specs.Rows.{whole, nodeRows, edgeRows, faceRows, filled}
-use Rattle.map.specs.Form.{within, nodeRanges, edgeRanges, faceRanges, ranged, formed, inForm, countsFit}
+use Rattle.map.specs.Rows.{whole, nodeRows, edgeRows, faceRows}
+use Rattle.tables.specs.Tables.{filled, within}
+use Rattle.map.specs.Form.{nodeRanges, edgeRanges, faceRanges, ranged, formed, inForm, countsFit}
 use Rattle.map.specs.Form.{nextsFit}
-use Rattle.map.proofs.RoundTrip.{Wide, each-row, flat-rest, table-length, nodes-wide, edge-wide, faces-wide}
-use Rattle.map.proofs.RoundTrip.{in-bounds, within-least, within-most, Stored, points-ranged, whole-table}
+use Rattle.map.proofs.RoundTrip.{nodes-wide, edge-wide, faces-wide}
+use Rattle.tables.proofs.Filled.{Wide, each-row, flat-rest, table-length, whole-table}
+use Rattle.map.proofs.RoundTrip.{Stored, points-ranged}
+use Rattle.tables.proofs.Tests.{in-bounds, within-least, within-most}
 use Rattle.map.proofs.Laws.{formed-back}
 use Rattle.grown.specs.Good.{Good, Fits}
 use Rattle.grown.proofs.NumbersNodes.{zero-in}

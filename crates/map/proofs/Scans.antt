@@ -18,7 +18,7 @@ use Rattle.lists.proofs.Bools.{same-refl, same-true, same-false, differ, or-tru
 use Rattle.lists.proofs.Bools.{and-true, and-is}
 use Rattle.lists.proofs.Keeps.{keep-in, keep-map}
 use Rattle.lists.proofs.Members.{each-cons, all-of, each-of}
-use Rattle.map.specs.Form.{numbered}
+use Rattle.tables.specs.Tables.{numbered}
 
 -- ---- elements
 

@@ -28,7 +28,8 @@ use Rattle.rotation.proofs.Ties.{tells}
 use Rattle.rotation.proofs.Whole.{law-onto}
 use Rattle.map.specs.Rows.{Edge, Map, edge, node, hasNode, hasEdge}
 use Rattle.map.specs.Darts.{arcs, directed, leaves, arrives, next, bears, way, departures}
-use Rattle.map.specs.Form.{numbered, numbers, inFace, curveFits, waysDiffer, departuresDiffer, bareMarked}
+use Rattle.map.specs.Form.{numbers, inFace, curveFits, waysDiffer, departuresDiffer, bareMarked}
+use Rattle.tables.specs.Tables.{numbered}
 use Rattle.map.specs.Form.{linksMeet, ringsBearOne, formed}
 use Rattle.map.specs.Links.{clockwise}
 use Rattle.map.proofs.Laws.{numbers-are}

@@ -26,11 +26,12 @@ use Rattle.rotation.specs.Law.{firstClockwise}
 use Rattle.rotation.proofs.Rename.{first-map}
 use Rattle.map.specs.Rows.{Edge, Map, edge, hasEdge, atNodes}
 use Rattle.map.specs.Darts.{arcs, directed, leaves, next, way, departures}
-use Rattle.map.specs.Form.{numbered}
+use Rattle.tables.specs.Tables.{sameZ, numbered}
 use Rattle.map.specs.Links.{instead, linkIn, linkEdge}
 use Rattle.map.specs.Edits.{drawn}
-use Rattle.tables.specs.Tables.{sameZ, edgesOf, edgeAt, edgeMap, EdgeRows}
-use Rattle.tables.proofs.Rows.{edges-length, edge-numbers, number-in}
+use Rattle.map_rows.specs.Rows.{edgesOf, edgeAt, edgeMap, EdgeRows}
+use Rattle.tables.proofs.Rows.{number-in}
+use Rattle.map_rows.proofs.Rows.{edges-length, edge-numbers}
 use Rattle.darts.specs.Positions.{odd, dartAt, wayWith}
 use Rattle.darts.proofs.Positions.{edge-of, row-there}
 use Rattle.links.proofs.Darts.{dart-named, row-named}

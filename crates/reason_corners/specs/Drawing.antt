@@ -16,7 +16,8 @@ use Rattle.rotation.specs.Law.{firstClockwise}
 use Rattle.map.specs.Rows.{Map}
 use Rattle.map.specs.Darts.{next}
 use Rattle.map.specs.Links.{instead}
-use Rattle.tables.specs.Tables.{sameZ, edgeAt, edgeMap}
+use Rattle.tables.specs.Tables.{sameZ}
+use Rattle.map_rows.specs.Rows.{edgeAt, edgeMap}
 use Rattle.darts.specs.Positions.{odd, dartAt, wayWith}
 use Rattle.links.specs.Linking.{positions, leavesNode}
 

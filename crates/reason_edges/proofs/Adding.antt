@@ -23,16 +23,17 @@ use Rattle.map.specs.Links.{cornerFace}
 use Rattle.map.specs.Edits.{splitsFace}
 use Rattle.map.specs.Reasons.{firstReason, reasons, noNode, full, spent}
 use Rattle.map.proofs.Laws.{formed-is}
-use Rattle.tables.specs.Tables.{sameZ, column, nodeAt}
-use Rattle.tables.proofs.Lookups.{node-found}
+use Rattle.tables.specs.Tables.{sameZ, column}
+use Rattle.map_rows.specs.Rows.{nodeAt}
+use Rattle.map_rows.proofs.Lookups.{node-found}
 use Rattle.form_ranges.specs.Ranges.{lent}
 use Rattle.outcomes.specs.Outcomes.{Formed}
 use Rattle.outcomes.proofs.Formed.{ranges, formed-map, nodes-count, edges-count, faces-count, edge-next, face-next}
 use Rattle.outcomes.proofs.Formed.{nodes-size, edges-size, faces-size, node-rows, edge-rows, full-is, spent-is}
 use Rattle.outcomes.proofs.Formed.{nodes-room, node-left, numbers-rise, node-none}
 use Rattle.map.proofs.Reasons.{first-hit, first-miss, first-zero, first-append, first-after}
-use Rattle.reason_corners.specs.Corners.{cornerCell}
-use Rattle.reason_corners.proofs.Corners.{corner-in-form}
+use Rattle.reason_corners.specs.CornerFaces.{cornerCell}
+use Rattle.reason_corners.proofs.CornerFaces.{corner-in-form}
 use Rattle.reason_edges.specs.declared.Judged.{Judged}
 use Rattle.reason_edges.specs.Kinds.{addTicket}
 use Rattle.reason_edges.specs.Parts.{drawingReasons, growthReasons, roomReasons, makesSecond}

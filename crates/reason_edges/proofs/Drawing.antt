@@ -16,17 +16,19 @@ use Rattle.curves.specs.Edits.{course}
 use Rattle.map.specs.Limits.{nodeWidth}
 use Rattle.map.specs.Rows.{Node, Edge, Map, node}
 use Rattle.map.specs.Reasons.{Reasons, firstReason, curveReasons, meetingReasons, directionTaken, cornersDiffer}
-use Rattle.tables.specs.Tables.{sameZ, column, nodeAt, nodesOf, nodeMap, edgeMap, NodeRows, EdgeRows}
-use Rattle.tables.proofs.Rows.{node-cells, node-rows-rising, node-row-of}
-use Rattle.tables.proofs.Lookups.{node-found, row-place}
+use Rattle.tables.specs.Tables.{sameZ, column}
+use Rattle.map_rows.specs.Rows.{nodeAt, nodesOf, nodeMap, edgeMap, NodeRows, EdgeRows}
+use Rattle.map_rows.proofs.Rows.{node-cells, node-rows-rising, node-row-of}
+use Rattle.tables.proofs.Lookups.{row-place}
+use Rattle.map_rows.proofs.Lookups.{node-found}
 use Rattle.reason_curves.specs.Sent.{sentReasons, edgesBut}
 use Rattle.map.proofs.Reasons.{first-hit, first-miss, first-zero, first-append, first-after}
 use Rattle.reason_curves.proofs.Maps.{meeting-alike, sent-is}
 use Rattle.reason_curves.proofs.Others.{edges-all}
 use Rattle.reason_departures.specs.Turning.{Own}
 use Rattle.reason_departures.proofs.Alone.{taken-alone}
-use Rattle.reason_corners.specs.Corners.{cornerCell}
-use Rattle.reason_corners.proofs.Corners.{corners-differ}
+use Rattle.reason_corners.specs.CornerFaces.{cornerCell}
+use Rattle.reason_corners.proofs.CornerFaces.{corners-differ}
 use Rattle.reason_corners.proofs.Drawn.{fresh-number}
 use Rattle.reason_edges.specs.Parts.{drawingReasons}
 use Rattle.reason_edges.specs.Judging.{Held}

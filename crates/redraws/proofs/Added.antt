@@ -16,14 +16,15 @@ use Rattle.lists.proofs.Bools.{equal?, same-eq, same-false, or-right}
 use Rattle.curves.specs.Curves.{curveOf}
 use Rattle.map.specs.declared.Head.{Head}
 use Rattle.map.specs.Limits.{nodeWidth, edgeWidth, faceWidth, lastNumber}
-use Rattle.map.specs.Rows.{Node, mapOf, lentOf, sizesOf, headOf, node, filled, nodeCells, edgeCells, faceCells}
+use Rattle.map.specs.Rows.{Node, mapOf, lentOf, sizesOf, headOf, node, nodeCells, edgeCells, faceCells}
+use Rattle.tables.specs.Tables.{sameZ, column, filled}
 use Rattle.map.specs.Edits.{drawn, addIsoEdge}
 use Rattle.map.specs.Tickets.{AddIsoEdge}
 use Rattle.map.specs.Reasons.{firstReason, reasons, noNode, nodeInside, full, spent}
 use Rattle.map.specs.Ticket.{carried}
-use Rattle.tables.specs.Tables.{sameZ, column, nodesOf, edgesOf, facesOf, nodeAt, nodeMap}
-use Rattle.tables.proofs.Rows.{nodes-length, edges-length, faces-length}
-use Rattle.tables.proofs.Lookups.{node-found}
+use Rattle.map_rows.specs.Rows.{nodesOf, edgesOf, facesOf, nodeAt, nodeMap}
+use Rattle.map_rows.proofs.Rows.{nodes-length, edges-length, faces-length}
+use Rattle.map_rows.proofs.Lookups.{node-found}
 use Rattle.form_ranges.specs.Ranges.{lent}
 use Rattle.reason_curves.specs.Sent.{edgesBut}
 use Rattle.reason_curves.proofs.Maps.{node-is, inside-alike}

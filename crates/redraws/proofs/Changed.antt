@@ -15,18 +15,20 @@ use Rattle.curves.specs.Curves.{Run, curveOf}
 use Rattle.curves.proofs.Runs.{and-left, and-right}
 use Rattle.map.specs.declared.Head.{Head}
 use Rattle.map.specs.Limits.{nodeWidth, edgeWidth, faceWidth}
-use Rattle.map.specs.Rows.{Edge, mapOf, lentOf, sizesOf, headOf, hasNode, hasEdge, hasFace, filled, nodeCells}
+use Rattle.map.specs.Rows.{Edge, mapOf, lentOf, sizesOf, headOf, hasNode, hasEdge, hasFace, nodeCells}
+use Rattle.tables.specs.Tables.{sameZ, column, filled}
 use Rattle.map.specs.Rows.{edgeCells, faceCells, withoutEdge, atEdge}
 use Rattle.map.specs.Edits.{withCurve, changeEdgeGeom}
 use Rattle.map.specs.Tickets.{ChangeEdgeGeom}
 use Rattle.map.specs.Reasons.{firstReason, reasons, noEdge, directionTaken, nodeInside, orderChanges}
 use Rattle.map.specs.Ticket.{carried}
 use Rattle.map.proofs.Laws.{names}
-use Rattle.tables.specs.Tables.{sameZ, column, edgesOf, nodeMap, edgeAt, edgeMap, NodeRows}
-use Rattle.tables.proofs.Rows.{nodes-length, edges-length, faces-length, edges-getD}
-use Rattle.tables.proofs.Lookups.{node-missing}
+use Rattle.map_rows.specs.Rows.{edgesOf, nodeMap, edgeAt, edgeMap, NodeRows}
+use Rattle.map_rows.proofs.Rows.{nodes-length, edges-length, faces-length, edges-getD}
+use Rattle.map_rows.proofs.Lookups.{node-missing}
 use Rattle.tables.proofs.Numbers.{getD-in, changed-at}
-use Rattle.tables.proofs.Writes.{edge-wide, replaced-at}
+use Rattle.tables.proofs.Writes.{replaced-at}
+use Rattle.map.proofs.RoundTrip.{edge-wide}
 use Rattle.form_ranges.specs.Ranges.{lent}
 use Rattle.reason_curves.specs.Sent.{edgesBut}
 use Rattle.reason_curves.proofs.Maps.{inside-alike}

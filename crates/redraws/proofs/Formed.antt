@@ -11,7 +11,8 @@ use mir.Val.{toZ, ofZ}
 use Rattle.map.specs.declared.Head.{Head}
 use Rattle.map.specs.Limits.{maxNodes, maxEdges, nodeWidth, edgeWidth}
 use Rattle.map.specs.Rows.{whole}
-use Rattle.map.proofs.RoundTrip.{whole-tables, whole-rows}
+use Rattle.map.proofs.RoundTrip.{whole-tables}
+use Rattle.tables.proofs.Filled.{whole-rows}
 use Rattle.form_ranges.specs.Ranges.{lent}
 use Rattle.outcomes.specs.Outcomes.{Formed}
 use Rattle.outcomes.proofs.Formed.{ranges, nodes-count, edges-count, edge-next, node-rows, edge-rows, numbers-rise}

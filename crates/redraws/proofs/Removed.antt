@@ -11,7 +11,8 @@ use Rattle.lists.specs.Tables.{place}
 use Rattle.lists.specs.declared.Found.the-variants.{At, Missing}
 use Rattle.map.specs.declared.Head.{Head}
 use Rattle.map.specs.Limits.{edgeWidth, faceWidth}
-use Rattle.map.specs.Rows.{Node, Edge, Map, mapOf, lentOf, sizesOf, headOf, edge, filled, nodeCells, edgeCells}
+use Rattle.map.specs.Rows.{Node, Edge, Map, mapOf, lentOf, sizesOf, headOf, edge, nodeCells, edgeCells}
+use Rattle.tables.specs.Tables.{sameZ, column, filled}
 use Rattle.map.specs.Rows.{faceCells, atNodes}
 use Rattle.map.specs.Links.{unlinkEdge, redirect}
 use Rattle.map.specs.Darts.{edgeEnds}
@@ -19,8 +20,8 @@ use Rattle.map.specs.Edits.{withFace, isEither, undrawn, removeIsoEdge}
 use Rattle.map.specs.Tickets.{RemoveIsoEdge}
 use Rattle.map.specs.Reasons.{firstReason, reasons, noEdge, edgeIsolated}
 use Rattle.map.specs.Ticket.{carried}
-use Rattle.tables.specs.Tables.{sameZ, column, edgeAt, edgeMap}
-use Rattle.tables.proofs.Lookups.{edge-found}
+use Rattle.map_rows.specs.Rows.{edgeAt, edgeMap}
+use Rattle.map_rows.proofs.Lookups.{edge-found}
 use Rattle.darts.proofs.Positions.{edge-of}
 use Rattle.form_ranges.specs.Ranges.{lent}
 use Rattle.map.proofs.Reasons.{first-hit, first-miss, first-none}

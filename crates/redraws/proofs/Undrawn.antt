@@ -18,16 +18,17 @@ use Rattle.lists.specs.declared.Found.the-variants.{At, Missing}
 use Rattle.lists.proofs.Bools.{which, same-true, eq3}
 use Rattle.map.specs.declared.Head.{Head}
 use Rattle.map.specs.Limits.{maxNodes, maxEdges, nodeWidth, edgeWidth}
-use Rattle.map.specs.Rows.{Node, Edge, Map, mapOf, edge, faceOf, filled, nodeCells, edgeCells, atNodes, withoutEdge}
-use Rattle.map.specs.Form.{isZero}
+use Rattle.map.specs.Rows.{Node, Edge, Map, mapOf, edge, faceOf, nodeCells, edgeCells, atNodes, withoutEdge}
+use Rattle.tables.specs.Tables.{sameZ, column, closed, filled, isZero}
 use Rattle.map.specs.Darts.{edgeEnds}
 use Rattle.map.specs.Links.{unlinkEdge, redirect}
 use Rattle.map.specs.Edits.{withFace, isEither, undrawn}
-use Rattle.map.proofs.RoundTrip.{whole-rows}
-use Rattle.tables.specs.Tables.{sameZ, column, closed, nodesOf, edgesOf, nodeAt, edgeAt, NodeRows}
-use Rattle.tables.proofs.Rows.{edges-length}
-use Rattle.tables.proofs.Lookups.{node-found, node-missing}
-use Rattle.tables.proofs.Writes.{removed-at, table-edges-wide}
+use Rattle.tables.proofs.Filled.{whole-rows}
+use Rattle.map_rows.specs.Rows.{nodesOf, edgesOf, nodeAt, edgeAt, NodeRows}
+use Rattle.map_rows.proofs.Rows.{edges-length}
+use Rattle.map_rows.proofs.Lookups.{node-found, node-missing}
+use Rattle.tables.proofs.Writes.{removed-at}
+use Rattle.map_rows.proofs.RowCurves.{table-edges-wide}
 use Rattle.darts.proofs.Positions.{cells-of, edge-of}
 use Rattle.form_ranges.specs.Ranges.{lent}
 use Rattle.links.specs.Linking.{unlinkedEdge}

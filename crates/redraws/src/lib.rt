@@ -1,7 +1,7 @@
 // Kinds 4 to 6: an edge drawn between isolated nodes, removed again, redrawn.
 use lists::Found;
 use map::Head;
-use map_rows::Sides;
+use map_rows::Incidence;
 use outcomes::Done;
 ghost use mathlib.Core.Path.{_≡_};
 ghost use mathlib.Core.Bool.{true, not, _&&_, _||_};
@@ -22,8 +22,8 @@ ghost use Rattle.map.specs.Reasons.{firstReason};
 ghost use Rattle.map.specs.Tickets.{AddIsoEdge, RemoveIsoEdge, ChangeEdgeGeom};
 ghost use Rattle.form_ranges.specs.Ranges.{lent};
 ghost use Rattle.outcomes.specs.Outcomes.{Formed, decided, outcome};
-ghost use Rattle.tables.specs.Tables.{sameZ, column, closed, nodeAt, nodeMap, edgeAt, NodeRow, EdgeRow, NodeRows};
-ghost use Rattle.tables.specs.Tables.{EdgeRows};
+ghost use Rattle.tables.specs.Tables.{sameZ, column, closed};
+ghost use Rattle.map_rows.specs.Rows.{nodeAt, nodeMap, edgeAt, NodeRow, EdgeRow, NodeRows, EdgeRows};
 ghost use Rattle.links.specs.Linking.{unlinkedEdge};
 ghost use Rattle.redraws.specs.Holds.{Counted, drawnHead, undrawnHead, newRow, Held, Drawable, Drawn, bareAt};
 ghost use Rattle.redraws.specs.Holds.{facedIf, Undrawable, Undrawn};
@@ -77,7 +77,7 @@ fn write_last(nodes: &[i64], edges: &mut [i64], h: Head, u: usize, v: usize, c: 
     let start = nodes[u * map::NODE_WIDTH];
     let end = nodes[v * map::NODE_WIDTH];
     let back = links::negated(number);
-    let row = Sides {
+    let row = Incidence {
         number,
         start,
         end,
@@ -202,15 +202,6 @@ pub fn remove_lone_edge(nodes: &mut [i64], edges: &mut [i64], h: Head, edge: i64
     outcomes::carried(after, 0)
 }
 
-// The node of row i has a containing face: no edge ends there.
-fn is_lone(nodes: &[i64], i: usize) -> bool
-    requires { ⌜ NodeRow (now nodes) i ⌝ }
-    ensures { λ r. ⌜ r ≡ isSome (nodeAt (now (nodes .entry)) i .face) ⌝ }
-{
-    let z = nodes[i * map::NODE_WIDTH + map::NODE_FACE];
-    z != -1
-}
-
 // Rows u and v are one, or an edge ends at one of their nodes.
 fn not_both_isolated(nodes: &[i64], u: usize, v: usize) -> bool
     requires { ⌜ NodeRow (now nodes) u × NodeRow (now nodes) v ⌝ }
@@ -220,10 +211,10 @@ fn not_both_isolated(nodes: &[i64], u: usize, v: usize) -> bool
     if u == v {
         return true;
     }
-    if !is_lone(nodes, u) {
+    if !map_rows::is_isolated(nodes, u) {
         return true;
     }
-    !is_lone(nodes, v)
+    !map_rows::is_isolated(nodes, v)
 }
 
 // The nodes of rows u and v lie in different faces.
@@ -384,7 +375,7 @@ fn write_curve(edges: &mut [i64], i: usize, c: &[i64])
     let next_right = edges[i * map::EDGE_WIDTH + map::NEXT_RIGHT];
     let left = edges[i * map::EDGE_WIDTH + map::LEFT];
     let right = edges[i * map::EDGE_WIDTH + map::RIGHT];
-    let row = Sides {
+    let row = Incidence {
         number,
         start,
         end,

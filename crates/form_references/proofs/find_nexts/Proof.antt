@@ -15,8 +15,8 @@ use Rattle.lists.specs.Tables.{table}
 use Rattle.lists.proofs.Scans.{all-hit, all-miss, all-end}
 use Rattle.map.specs.Limits.{edgeWidth}
 use Rattle.map.specs.Rows.{hasEdge}
-use Rattle.tables.specs.Tables.{edgesOf, edgeAt, edgeMap}
-use Rattle.tables.proofs.Rows.{edges-table}
+use Rattle.map_rows.specs.Rows.{edgesOf, edgeAt, edgeMap}
+use Rattle.map_rows.proofs.Rows.{edges-table}
 use Rattle.darts.specs.Positions.{NextsNamed}
 use Rattle.form_references.proofs.Nexts.{LinkAt, link-read, linksName, links-are, nexts-on}
 use Rattle.form_references.proofs.find_nexts.Statement.{statement}

@@ -10,7 +10,7 @@ use mir.Facts.{toZ-ofZ}
 use Rattle.integers.specs.Signs.{sent}
 use Rattle.map.specs.Limits.{nodeWidth}
 use Rattle.map.specs.Tickets.{AddIsoEdge}
-use Rattle.tables.proofs.Rows.{node-rows-rising, node-row-of}
+use Rattle.map_rows.proofs.Rows.{node-rows-rising, node-row-of}
 use Rattle.outcomes.proofs.Formed.{node-rows, edge-next, decided-refused, decided-carried}
 use Rattle.outcomes.proofs.Words.{count-read, place-told}
 use Rattle.redraws.proofs.Formed.{held, nodes-natural, nodes-read}

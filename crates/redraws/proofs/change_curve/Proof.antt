@@ -13,8 +13,8 @@ use Rattle.integers.specs.Signs.{sent}
 use Rattle.map.specs.Limits.{nodeWidth, edgeWidth}
 use Rattle.map.specs.Rows.{hasNode}
 use Rattle.map.specs.Tickets.{ChangeEdgeGeom}
-use Rattle.tables.specs.Tables.{nodeMap, edgeAt}
-use Rattle.tables.proofs.Rows.{edge-rows-rising, edge-row-of}
+use Rattle.map_rows.specs.Rows.{nodeMap, edgeAt}
+use Rattle.map_rows.proofs.Rows.{edge-rows-rising, edge-row-of}
 use Rattle.outcomes.proofs.Formed.{node-rows, edge-rows, decided-refused, decided-carried}
 use Rattle.outcomes.proofs.Words.{place-told}
 use Rattle.redraws.proofs.Formed.{held, edges-natural, edges-read, nodes-natural, nodes-read}

@@ -3,7 +3,7 @@ use mathlib.Core.Path.{sym, ap₂, _∙_}
 use Prim.Native.Nat.{ℕ}
 use native.Mathlib.Omega.{arith}
 use Rattle.map.specs.Reasons.{firstReason}
-use Rattle.tables.proofs.Rows.{node-row-of}
+use Rattle.map_rows.proofs.Rows.{node-row-of}
 use Rattle.outcomes.proofs.Words.{count-natural, count-abs}
 use Rattle.redraws.specs.Change.{turnReasons}
 use Rattle.redraws.proofs.Formed.{counted-held, nodes-held}

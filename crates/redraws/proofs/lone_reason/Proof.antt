@@ -4,9 +4,9 @@ use Prim.Native.Nat.{ℕ}
 use native.Mathlib.Omega.{arith}
 use Rattle.curves.specs.Curves.{curveOf}
 use Rattle.map.specs.Reasons.{firstReason, meetingReasons}
-use Rattle.tables.specs.Tables.{nodeMap}
+use Rattle.map_rows.specs.Rows.{nodeMap}
 use Rattle.reason_curves.specs.Sent.{edgesBut}
-use Rattle.tables.proofs.Rows.{node-row-of}
+use Rattle.map_rows.proofs.Rows.{node-row-of}
 use Rattle.outcomes.proofs.Words.{count-natural, count-abs}
 use Rattle.redraws.proofs.Formed.{counted-held, nodes-held}
 use Rattle.redraws.proofs.Lone.{sent-run, lone-sent, lone-joined, both-lone, lone-apart, lone-meeting, lone-room}
@@ -121,7 +121,7 @@ lone-reason-spec =
     curve-reason-requires
     sent
     not-both-isolated-requires
-    not-both-isolated
+    joined
     faces-differ-requires
     apart
     (λ c κs. let s = c .before .before .before .before .before .before .before in

@@ -13,8 +13,8 @@ use Rattle.integers.specs.Signs.{sent}
 use Rattle.map.specs.Limits.{edgeWidth}
 use Rattle.map.specs.Tickets.{RemoveIsoEdge}
 use Rattle.map.specs.Reasons.{edgeIsolated}
-use Rattle.tables.specs.Tables.{edgeAt, edgeMap}
-use Rattle.tables.proofs.Rows.{edge-rows-rising, edge-row-of}
+use Rattle.map_rows.specs.Rows.{edgeAt, edgeMap}
+use Rattle.map_rows.proofs.Rows.{edge-rows-rising, edge-row-of}
 use Rattle.outcomes.proofs.Formed.{edge-rows, decided-refused, decided-carried}
 use Rattle.outcomes.proofs.Words.{place-told}
 use Rattle.redraws.proofs.Formed.{held, edges-natural, edges-read}
@@ -129,7 +129,7 @@ remove-lone-edge-spec =
     edge-isolated-requires
     (λ c κs. search needs)
     (λ c. search needs)
-    not-both-isolated
+    joined
     left-face-requires
     undraw-requires
     (λ c κs. search needs)

@@ -10,7 +10,8 @@ use mir.Syntax.{w64}
 use mir.Val.{toZ, ofZ}
 use mir.Facts.{toZ-ofZ}
 use Rattle.integers.specs.Signs.{sent}
-use Rattle.tables.specs.Tables.{closed, edgeAt}
+use Rattle.tables.specs.Tables.{closed}
+use Rattle.map_rows.specs.Rows.{edgeAt}
 use Rattle.links.specs.Linking.{unlinkedEdge}
 use Rattle.outcomes.proofs.Words.{count-natural, count-abs}
 use Rattle.redraws.proofs.Undrawn.{undrawn-as, nodes-few, undrawn-counted, start-cell, end-cell, start-rows}

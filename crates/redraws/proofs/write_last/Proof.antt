@@ -10,7 +10,7 @@ use mir.Syntax.{w64}
 use mir.Facts.{toZ-ofZ}
 use Rattle.curves.specs.Curves.{points, curveOf}
 use Rattle.curve_edits.specs.declared.Line.{Line}
-use Rattle.tables.specs.Tables.{nodeAt}
+use Rattle.map_rows.specs.Rows.{nodeAt}
 use Rattle.redraws.specs.Holds.{newRow}
 use Rattle.map_rows.proofs.Cells.{line-count}
 use Rattle.outcomes.proofs.Words.{count-natural, count-abs, count-read, small-read}
