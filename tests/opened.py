@@ -11,7 +11,7 @@ HEADER = """\
 """
 # a crate, the crates below whose definitions it opens itself, and what is opened already
 OPENED = (
-    ('map', ('lists', 'plane', 'curves', 'planar_maps', 'rotation'), None),
+    ('map', ('lists', 'tables', 'plane', 'curves', 'planar_maps', 'rotation'), None),
     ('network', (), 'Rattle.map.proofs.Opened'),
     ('paths', (), 'Rattle.network.proofs.Opened'),
     ('joining', (), 'Rattle.map.proofs.Opened'),

@@ -9,7 +9,9 @@ use Rattle.lists.proofs.Bools.{and-true, and-is}
 use Rattle.map.specs.Limits.{nodeWidth, edgeWidth, faceWidth}
 use Rattle.map.specs.Rows.{Lent, Sizes, nodeOf, edgeOf, faceRowOf, nodeRows, edgeRows, faceRows, mapOf, sizesOf, whole}
 use Rattle.map.specs.Form.{ranged, formed, inForm}
-use Rattle.map.proofs.RoundTrip.{Ranged, ranged-is, rows-count, within-most, writes-back}
+use Rattle.map.proofs.RoundTrip.{Ranged, ranged-is, writes-back}
+use Rattle.tables.proofs.Filled.{rows-count}
+use Rattle.tables.proofs.Tests.{within-most}
 use Rattle.grown.specs.Good.{Good, Fits}
 use Rattle.grown.specs.Claims.{Limited}
 use Rattle.grown.proofs.Ranges.{next-in-range, good-back, good-in-form, good-whole}

@@ -27,10 +27,12 @@ use Rattle.map.specs.Limits.{edgeWidth, lastNumber}
 use Rattle.map.specs.Rows.{Edge, edge, hasEdge, dartOf, dartCell}
 use Rattle.map.specs.Darts.{directed, leaves, arrives, next, bears, course, way}
 use Rattle.map.proofs.RoundTrip.{dart-cell-back}
-use Rattle.tables.specs.Tables.{sameZ, column, edgeAt, edgeMap, EdgeRows}
-use Rattle.tables.proofs.Rows.{all-table, edges-table, EdgeCells, edge-cells, edge-row-of, edge-rows-rising}
-use Rattle.tables.proofs.Rows.{edge-number-in}
-use Rattle.tables.proofs.Lookups.{which-place, row-place, edge-found, edge-missing}
+use Rattle.tables.specs.Tables.{sameZ, column}
+use Rattle.map_rows.specs.Rows.{edgeAt, edgeMap, EdgeRows}
+use Rattle.tables.proofs.Rows.{all-table}
+use Rattle.map_rows.proofs.Rows.{edges-table, EdgeCells, edge-cells, edge-row-of, edge-rows-rising, edge-number-in}
+use Rattle.tables.proofs.Lookups.{which-place, row-place}
+use Rattle.map_rows.proofs.Lookups.{edge-found, edge-missing}
 use Rattle.darts.proofs.Steps.{negative-is}
 use Rattle.darts.specs.Positions.{odd, reverseOf, dartAt, sidePlace, sideCell, wayAt}
 

@@ -14,7 +14,7 @@ use Rattle.curves.specs.Edits.{course}
 use Rattle.planar_maps.specs.Map.{Dart}
 use Rattle.map.specs.Limits.{edgeWidth}
 use Rattle.map.specs.Rows.{dartOf}
-use Rattle.tables.specs.Tables.{edgeAt}
+use Rattle.map_rows.specs.Rows.{edgeAt}
 use Rattle.darts.specs.declared.Step.{Step}
 
 -- the reverse of an edge has the odd position

@@ -7,16 +7,16 @@ ghost use mathlib.Core.Path.{_≡_};
 ghost use Prim.Native.Nat.{_+_, _*_, _/_, _<_, _≤_};
 ghost use lib.ListN.{length, set};
 ghost use Rattle.lists.specs.Tables.{place};
+ghost use Rattle.planar_maps.specs.Rings.{sameDart};
 ghost use Rattle.plane.specs.Directions.{wayTo, signs, before as beforeWay, sameWay};
 ghost use Rattle.curves.specs.Curves.{Run, curveOf, startWay};
 ghost use Rattle.curves.specs.Edits.{course};
-ghost use Rattle.planar_maps.specs.Rings.{sameDart};
 ghost use Rattle.map.specs.Limits.{edgeWidth};
 ghost use Rattle.map.specs.Rows.{dartOf, dartCell};
 ghost use Rattle.map.specs.Darts.{directed, next};
-ghost use Rattle.tables.specs.Tables.{EdgeRow, EdgeRows, edgeMap};
-ghost use Rattle.darts.specs.Positions.{reverseOf, dartAt, sidePlace, sideCell, wayAt, wayWith};
-ghost use Rattle.darts.specs.Positions.{StepInRange, Along};
+ghost use Rattle.map_rows.specs.Rows.{EdgeRow, EdgeRows, edgeMap};
+ghost use Rattle.darts.specs.Positions.{reverseOf, dartAt, sidePlace, sideCell, wayAt, wayWith, StepInRange};
+ghost use Rattle.darts.specs.Positions.{Along};
 
 // The places of a step's signs.
 pub const SIGN_PAIRS: usize = directions::SIGN_PAIRS;
@@ -130,7 +130,7 @@ pub fn step_at(edges: &[i64], p: usize) -> Step
     requires { ⌜ EdgeRow (now edges) (p / 2) ⌝ }
     ensures { λ r. ⌜ Along r (wayAt (now (edges .entry)) p) ⌝ }
 {
-    first_step(tables::curve_of(edges, p / 2), p % 2 == 1)
+    first_step(map_rows::curve_of(edges, p / 2), p % 2 == 1)
 }
 
 // The place of that step's signs among the pairs of signs.

@@ -10,7 +10,7 @@ use mir.Syntax.{w64}
 use mir.Val.{toZ, ofZ}
 use Rattle.map.specs.declared.Head.{Head}
 use Rattle.map.specs.Limits.{maxNodes, maxEdges, nodeWidth, edgeWidth}
-use Rattle.map.proofs.RoundTrip.{whole-rows}
+use Rattle.tables.proofs.Filled.{whole-rows}
 use Rattle.outcomes.proofs.Words.{count-natural, count-abs}
 use Rattle.edge_rows.specs.Holds.{NodeEdgeTables, EdgesCounted}
 use Rattle.edge_rows.proofs.Filled.{nodes-room, edges-room}

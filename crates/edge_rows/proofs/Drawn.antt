@@ -20,19 +20,22 @@ use Rattle.curves.specs.Curves.{maxPoints}
 use Rattle.curves.proofs.Runs.{and-left, and-right, two-points, few-points, curve-is}
 use Rattle.curve_edits.specs.declared.Line.{Line}
 use Rattle.curve_edits.specs.Lines.{lineOf}
-use Rattle.map_rows.specs.declared.Sides.{Sides}
+use Rattle.map_rows.specs.declared.Incidence.{Incidence}
 use Rattle.map_rows.specs.Cells.{cellsOf}
 use Rattle.map_rows.proofs.Cells.{row-cells}
 use Rattle.map.specs.declared.Head.{Head}
 use Rattle.map.specs.Limits.{maxEdges, nodeWidth, edgeWidth}
 use Rattle.map.specs.Rows.{Node, Edge, Map, mapOf, edgeCells, dartCell, atNodes, atEdge, setEdges, given}
-use Rattle.map.specs.Form.{isZero, nodeRanges, edgeRanges, numbered}
+use Rattle.map.specs.Form.{nodeRanges, edgeRanges}
+use Rattle.tables.specs.Tables.{isZero, numbered}
 use Rattle.map.specs.Links.{linkEdge, linkIn, lead, redirect}
 use Rattle.map.specs.Edits.{withFace, isEither, drawn}
-use Rattle.map.proofs.RoundTrip.{whole-rows, coordinates-length}
-use Rattle.map.proofs.Facts.{zeros}
-use Rattle.tables.specs.Tables.{nodesOf, edgesOf, facesOf, nodeAt, edgeAt}
-use Rattle.tables.proofs.Rows.{edges-getD, edges-length, edge-numbers, node-cells, node-number-in, rows-all, pos-abs}
+use Rattle.map.proofs.RoundTrip.{coordinates-length}
+use Rattle.tables.proofs.Filled.{whole-rows}
+use Rattle.tables.proofs.Tests.{zeros, pos-abs}
+use Rattle.map_rows.specs.Rows.{nodesOf, edgesOf, facesOf, nodeAt, edgeAt}
+use Rattle.tables.proofs.Rows.{rows-all}
+use Rattle.map_rows.proofs.Rows.{edges-getD, edges-length, edge-numbers, node-cells, node-number-in}
 use Rattle.tables.proofs.Cells.{row-room}
 use Rattle.form_ranges.specs.Ranges.{lent}
 use Rattle.links.specs.Linking.{linkedEdge}
@@ -299,7 +302,7 @@ pub row-written : {n b t nl nr l r : ℤ} (line : Line) (e : Edge) → line ≡ 
     → length (points (e .curve)) ≤ maxPoints
     → n ∷ b ∷ t ∷ nl ∷ nr ∷ l ∷ r ∷ pos (line .count) ∷ line .cells ≡ edgeCells e
 row-written {n} {b} {t} {nl} {nr} {l} {r} line e is en eb et el er fl fr few =
-    let s : Sides = record {
+    let s : Incidence = record {
       number = n;
       start = b;
       end = t;

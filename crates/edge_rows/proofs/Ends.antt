@@ -20,8 +20,9 @@ use Rattle.map.specs.Rows.{Edge, Map, edge, withoutEdge}
 use Rattle.map.specs.Darts.{leaves, departures, edgeEnds}
 use Rattle.map.proofs.Laws.{edge-row, numbered-is}
 use Rattle.map.proofs.Linked.{arcOf}
-use Rattle.tables.specs.Tables.{sameZ, edgesOf, edgeAt, edgeMap, EdgeRows}
-use Rattle.tables.proofs.Rows.{edges-length, edges-getD}
+use Rattle.tables.specs.Tables.{sameZ}
+use Rattle.map_rows.specs.Rows.{edgesOf, edgeAt, edgeMap, EdgeRows}
+use Rattle.map_rows.proofs.Rows.{edges-length, edges-getD}
 use Rattle.tables.proofs.Numbers.{without-at}
 use Rattle.tables.proofs.Order.{same-pos}
 use Rattle.darts.proofs.Positions.{cells-of}

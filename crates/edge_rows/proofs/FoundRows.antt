@@ -14,9 +14,12 @@ use Rattle.map.specs.Limits.{nodeWidth, edgeWidth}
 use Rattle.map.specs.Rows.{mapOf, node, edge, findNode}
 use Rattle.map.specs.Form.{nodeRanges}
 use Rattle.map.specs.Reasons.{noNode, noEdge}
-use Rattle.tables.specs.Tables.{sameZ, column, nodeAt, edgeAt}
-use Rattle.tables.proofs.Rows.{node-cells, rows-all, node-rows-rising}
-use Rattle.tables.proofs.Lookups.{node-found, edge-found, row-met}
+use Rattle.tables.specs.Tables.{sameZ, column}
+use Rattle.map_rows.specs.Rows.{nodeAt, edgeAt}
+use Rattle.tables.proofs.Rows.{rows-all}
+use Rattle.map_rows.proofs.Rows.{node-cells, node-rows-rising}
+use Rattle.tables.proofs.Lookups.{row-met}
+use Rattle.map_rows.proofs.Lookups.{node-found, edge-found}
 use Rattle.darts.proofs.Positions.{edge-of}
 use Rattle.links.proofs.Darts.{row-named}
 use Rattle.form_ranges.specs.Ranges.{lent}

@@ -11,8 +11,8 @@ use Rattle.lists.specs.Scans.{allOf, find, isSome, linked}
 use Rattle.lists.proofs.Appends.{all-append}
 use Rattle.lists.proofs.Bools.{which}
 use Rattle.curves.proofs.Runs.{and-left, and-right}
-use Rattle.map.specs.Form.{numbered}
-use Rattle.form_ranges.proofs.Columns.{all-weaker}
+use Rattle.tables.specs.Tables.{numbered}
+use Rattle.tables.proofs.Rising.{all-weaker}
 
 module _ {A : Type 0} (p : A → Bool) where
   -- a row found among fewer, and the last one

@@ -18,11 +18,13 @@ use Rattle.lists.proofs.Scans.{table-same, all-of-table}
 use Rattle.curves.specs.Curves.{coordinate}
 use Rattle.curves.proofs.Runs.{and-left}
 use Rattle.map.specs.Limits.{lastNumber, nodeWidth}
-use Rattle.map.specs.Rows.{Node, cell, nodeOf, faceOf}
-use Rattle.map.specs.Form.{isZero, nodeRanges, numbered}
+use Rattle.map.specs.Rows.{Node, nodeOf, faceOf}
+use Rattle.tables.specs.Tables.{sameZ, column, rowAt, cell, isZero, numbered}
+use Rattle.map.specs.Form.{nodeRanges}
 use Rattle.map.specs.Edits.{withFace}
-use Rattle.tables.specs.Tables.{sameZ, column, nodesOf, nodeAt, rowAt, NodeRows}
-use Rattle.tables.proofs.Rows.{map-table, rows-table, rows-all, nodes-table, node-numbers, node-cells, node-rows-rising}
+use Rattle.map_rows.specs.Rows.{nodesOf, nodeAt, NodeRows}
+use Rattle.tables.proofs.Rows.{map-table, rows-table, rows-all}
+use Rattle.map_rows.proofs.Rows.{nodes-table, node-numbers, node-cells, node-rows-rising}
 use Rattle.tables.proofs.Cells.{row-room}
 use Rattle.tables.proofs.Lookups.{row-place}
 use Rattle.edge_rows.specs.Holds.{NodeTable}

@@ -15,19 +15,21 @@ use Rattle.lists.specs.Scans.{allOf, find, isSome}
 use Rattle.lists.proofs.Appends.{all-append, each-append}
 use Rattle.lists.proofs.Bools.{same-eq}
 use Rattle.lists.proofs.Scans.{table-in}
+use Rattle.tables.specs.Tables.{rows, filled, numbered}
+use Rattle.tables.proofs.Filled.{whole-rows, Wide, rows-flat, filled-rest}
+use Rattle.tables.proofs.Rows.{all-table}
+use Rattle.tables.proofs.Writes.{pushed}
+use Rattle.tables.proofs.Rising.{all-weaker}
 use Rattle.curves.specs.Curves.{points, maxPoints}
 use Rattle.curves.proofs.Runs.{and-left, and-right}
 use Rattle.map.specs.Limits.{maxEdges, lastNumber, edgeWidth}
-use Rattle.map.specs.Rows.{Edge, Map, Sizes, rows, mapOf, lentOf, filled, edgeCells, hasEdge}
-use Rattle.map.specs.Form.{edgeRanges, numbered}
-use Rattle.map.proofs.RoundTrip.{Holds, reads-back, whole-rows}
-use Rattle.tables.specs.Tables.{edgesOf, edgeAt, edgeMap, EdgeRows}
-use Rattle.tables.proofs.Rows.{edges-table, edges-length, all-table, edge-row-of, edge-number-in}
-use Rattle.tables.proofs.RowCurves.{edge-few}
-use Rattle.tables.proofs.Writes.{Wide, rows-flat, pushed, edge-wide, table-edges-wide}
-use Rattle.form_ranges.proofs.Columns.{all-weaker}
+use Rattle.map.specs.Rows.{Edge, Map, Sizes, mapOf, lentOf, edgeCells, hasEdge}
+use Rattle.map.specs.Form.{edgeRanges}
+use Rattle.map.proofs.RoundTrip.{Holds, reads-back, edge-wide}
+use Rattle.map_rows.specs.Rows.{edgesOf, edgeAt, edgeMap, EdgeRows}
+use Rattle.map_rows.proofs.Rows.{edges-table, edges-length, edge-row-of, edge-number-in}
+use Rattle.map_rows.proofs.RowCurves.{edge-few, table-edges-wide}
 use Rattle.darts.proofs.Positions.{row-there}
-use Rattle.outcomes.proofs.Filled.{filled-rest}
 use Rattle.edge_rows.specs.Holds.{EdgeTable}
 use Rattle.edge_rows.proofs.Lists.{find-more, find-last, numbered-push}
 use Rattle.edge_rows.proofs.Filled.{edges-filled}

@@ -16,23 +16,23 @@ use Rattle.lists.specs.Tables.{place}
 use Rattle.lists.specs.declared.Found.{Found}
 use Rattle.lists.specs.declared.Found.the-variants.{At, Missing}
 use Rattle.lists.proofs.Bools.{which, same-true, eq3}
+use Rattle.tables.specs.Tables.{sameZ, column, closed, filled, isZero}
+use Rattle.tables.proofs.Writes.{removed-at}
 use Rattle.map.specs.declared.Head.{Head}
 use Rattle.map.specs.Limits.{nodeWidth, edgeWidth}
-use Rattle.map.specs.Rows.{Node, Edge, Map, mapOf, headOf, edge, faceOf, filled, nodeCells, edgeCells, atNodes}
-use Rattle.map.specs.Rows.{withoutEdge}
-use Rattle.map.specs.Form.{isZero}
+use Rattle.map.specs.Rows.{Node, Edge, Map, mapOf, headOf, edge, faceOf, nodeCells, edgeCells, atNodes, withoutEdge}
 use Rattle.map.specs.Darts.{edgeEnds}
 use Rattle.map.specs.Links.{unlinkEdge, redirect}
 use Rattle.map.specs.Edits.{withFace, isEither, undrawn}
-use Rattle.tables.specs.Tables.{sameZ, column, closed, nodesOf, edgesOf, nodeAt, edgeAt, NodeRows}
-use Rattle.tables.proofs.Rows.{edges-length}
-use Rattle.tables.proofs.Lookups.{node-found, node-missing}
-use Rattle.tables.proofs.Writes.{removed-at, table-edges-wide}
+use Rattle.map_rows.specs.Rows.{nodesOf, edgesOf, nodeAt, edgeAt, NodeRows}
+use Rattle.map_rows.proofs.Rows.{edges-length}
+use Rattle.map_rows.proofs.Lookups.{node-found, node-missing}
+use Rattle.map_rows.proofs.RowCurves.{table-edges-wide}
 use Rattle.darts.proofs.Positions.{cells-of, edge-of}
-use Rattle.form_ranges.specs.Ranges.{lent}
 use Rattle.links.specs.Linking.{unlinkedEdge}
 use Rattle.links.proofs.Kept.{rest-kept, number-kept}
 use Rattle.links.proofs.LinkedEdges.{unlinked-alone, unlinked-edge-kept, unlinked-edge-relinked, unlinked-edge-gone}
+use Rattle.form_ranges.specs.Ranges.{lent}
 use Rattle.edge_rows.specs.Holds.{NodeTable, EdgeTable, Undrawable, Undrawn, undrawnHead, isolatedWithout}
 use Rattle.edge_rows.specs.Holds.{facedWhere, facedIf}
 use Rattle.edge_rows.proofs.Filled.{nodes-filled, edges-filled}

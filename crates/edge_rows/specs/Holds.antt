@@ -16,10 +16,10 @@ use Rattle.curves.specs.Curves.{Run, curveOf}
 use Rattle.map.specs.declared.Head.{Head}
 use Rattle.map.specs.Limits.{maxNodes, maxEdges, lastNumber, nodeWidth, edgeWidth}
 use Rattle.planar_maps.specs.Map.{fwd, bwd}
-use Rattle.map.specs.Rows.{Edge, mapOf, filled, nodeCells, edgeCells, wholeRows}
-use Rattle.map.specs.Form.{isZero, numbered}
+use Rattle.map.specs.Rows.{Edge, mapOf, nodeCells, edgeCells}
+use Rattle.tables.specs.Tables.{sameZ, column, filled, wholeRows, isZero, numbered}
 use Rattle.map.specs.Edits.{drawn, undrawn}
-use Rattle.tables.specs.Tables.{sameZ, column, NodeRows, EdgeRows, nodeAt, edgeAt, edgesOf}
+use Rattle.map_rows.specs.Rows.{NodeRows, EdgeRows, nodeAt, edgeAt, edgesOf}
 use Rattle.form_ranges.specs.Ranges.{lent}
 use Rattle.links.specs.Linking.{positions, leavesNode}
 

@@ -1,14 +1,15 @@
 // Rows of edges drawn and undrawn: a new last edge linked in, and an edge unlinked and closed up.
 use lists::Found;
 use map::Head;
-use map_rows::Sides;
+use map_rows::Incidence;
 ghost use mathlib.Core.Path.{_≡_};
 ghost use Prim.Native.Nat.{_+_, _*_, _≤_, _<_};
 ghost use lib.IntN.{natAbs};
 ghost use lib.ListN.{length, set};
 ghost use lib.Seq.{paste};
 ghost use Rattle.map.specs.Rows.{edgeCells};
-ghost use Rattle.tables.specs.Tables.{closed, NodeRows, EdgeRows};
+ghost use Rattle.tables.specs.Tables.{closed};
+ghost use Rattle.map_rows.specs.Rows.{NodeRows, EdgeRows};
 ghost use Rattle.links.specs.Linking.{unlinkedEdge};
 ghost use Rattle.edge_rows.specs.Holds.{EdgesCounted, drawnHead, undrawnHead, newRow, Drawable, Drawn};
 ghost use Rattle.edge_rows.specs.Holds.{isolatedWithout, facedIf, Undrawable, Undrawn};
@@ -60,7 +61,7 @@ fn write_last(nodes: &[i64], edges: &mut [i64], h: Head, u: usize, v: usize, c: 
     let start = nodes[u * map::NODE_WIDTH];
     let end = nodes[v * map::NODE_WIDTH];
     let back = links::negated(number);
-    let row = Sides {
+    let row = Incidence {
         number,
         start,
         end,

@@ -15,7 +15,7 @@ use Rattle.map.specs.Links.{cornerFace}
 use Rattle.map.specs.Edits.{drawnIn, splitsFace, splitFace, addEdge}
 use Rattle.map.specs.Reasons.{firstReason, reasons}
 use Rattle.map.specs.Ticket.{carried}
-use Rattle.tables.specs.Tables.{edgeAt}
+use Rattle.map_rows.specs.Rows.{edgeAt}
 use Rattle.form_ranges.specs.Ranges.{lent}
 use Rattle.outcomes.specs.Outcomes.{Formed}
 use Rattle.outcomes.proofs.Formed.{edge-next}

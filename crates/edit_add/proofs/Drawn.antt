@@ -14,6 +14,8 @@ use Rattle.lists.specs.Tables.{place}
 use Rattle.lists.specs.declared.Found.the-variants.{At}
 use Rattle.lists.proofs.Bools.{and-is}
 use Rattle.lists.proofs.Members.{each-all}
+use Rattle.tables.proofs.Filled.{whole-rows}
+use Rattle.tables.specs.Tables.{sameZ, column}
 use Rattle.curves.specs.Curves.{curveOf, startWay}
 use Rattle.map.specs.declared.Head.{Head}
 use Rattle.map.specs.Limits.{maxNodes, maxEdges, nodeWidth, edgeWidth}
@@ -21,15 +23,14 @@ use Rattle.map.specs.Rows.{Map, Sizes, mapOf, sizesOf, hasNode}
 use Rattle.map.specs.Links.{cornerFace}
 use Rattle.map.specs.Edits.{drawn, drawnIn, splitsFace}
 use Rattle.map.specs.Reasons.{firstReason, reasons}
-use Rattle.map.proofs.RoundTrip.{whole-rows}
 use Rattle.map_laws.proofs.Readings.{missing, has-number, Outline, outlineOf, outlines}
 use Rattle.map_laws.proofs.RowChanges.{nodeNumber}
 use Rattle.map_laws.proofs.Reasons.{AddEdge, add-new, add-mod}
 use Rattle.map_laws.proofs.Outlines.{drawnOutline, drawn-shape}
 use Rattle.map_laws.proofs.Faces.{has-face, formed-faces, corner-in}
-use Rattle.tables.specs.Tables.{sameZ, column, nodesOf, edgesOf, facesOf, nodeAt, edgeAt, nodeMap}
-use Rattle.tables.proofs.Rows.{edges-length, edges-getD}
-use Rattle.tables.proofs.Lookups.{node-found}
+use Rattle.map_rows.specs.Rows.{nodesOf, edgesOf, facesOf, nodeAt, edgeAt, nodeMap}
+use Rattle.map_rows.proofs.Rows.{edges-length, edges-getD}
+use Rattle.map_rows.proofs.Lookups.{node-found}
 use Rattle.form_ranges.specs.Ranges.{lent}
 use Rattle.outcomes.specs.Outcomes.{Formed}
 use Rattle.outcomes.proofs.Formed.{ranges, formed-map}
@@ -40,6 +41,7 @@ use Rattle.face_rows.proofs.Formed.{formed-held}
 use Rattle.edge_rows.specs.Holds.{NodeEdgeTables, Drawn, drawnHead}
 use Rattle.edge_rows.proofs.Filled.{nodes-room, edges-room, nodes-filled, edges-filled}
 use Rattle.edit_add.proofs.Rings.{drawn-ringed, drawn-ends}
+use Rattle.map.proofs.Linked as formedLinks
 use Rattle.map.proofs.Linked as formedLinks
 
 -- what holds of a ticket that nothing turns down

@@ -19,7 +19,7 @@ use Rattle.map.specs.Form.{linksOnce, ringsBearOne, formed}
 use Rattle.map.specs.Edits.{withFace, isEither, drawnIn}
 use Rattle.map.proofs.Laws.{formed-is}
 use Rattle.map.proofs.Linked as formedLinks
-use Rattle.tables.specs.Tables.{edgesOf}
+use Rattle.map_rows.specs.Rows.{edgesOf}
 use Rattle.face_relabel.specs.Sharing.{Ringed}
 use Rattle.map_laws.proofs.Readings.{number-has, arc-at}
 use Rattle.map_laws.proofs.RowChanges.{nodeNumber, noNode}

@@ -7,7 +7,7 @@ use lib.IntN.{ℤ, natAbs}
 use Rattle.curves.specs.Curves.{Run, curveOf}
 use Rattle.map.specs.declared.Head.{Head}
 use Rattle.map.specs.Reasons.{Reasons, firstReason, meetingReasons, orderChanges}
-use Rattle.tables.specs.Tables.{nodeAt, nodeMap, edgeAt, edgeMap}
+use Rattle.map_rows.specs.Rows.{nodeAt, nodeMap, edgeAt, edgeMap}
 use Rattle.reason_curves.specs.Sent.{sentReasons, edgesBut}
 use Rattle.map.proofs.Reasons.{first-hit, first-miss, first-none, first-after}
 use Rattle.edit_curve.specs.Change.{takenAt, turnReasons, changeReasons}

@@ -15,7 +15,8 @@ use Rattle.curves.specs.Curves.{Run, curveOf}
 use Rattle.curves.proofs.Runs.{and-left, and-right}
 use Rattle.map.specs.declared.Head.{Head}
 use Rattle.map.specs.Limits.{nodeWidth, edgeWidth, faceWidth}
-use Rattle.map.specs.Rows.{Edge, Map, Sizes, mapOf, lentOf, sizesOf, headOf, node, hasNode, hasEdge, hasFace, filled}
+use Rattle.map.specs.Rows.{Edge, Map, Sizes, mapOf, lentOf, sizesOf, headOf, node, hasNode, hasEdge, hasFace}
+use Rattle.tables.specs.Tables.{sameZ, column, filled}
 use Rattle.map.specs.Rows.{nodeCells, edgeCells, faceCells, withoutEdge, atEdge}
 use Rattle.map.specs.Edits.{withCurve, changeEdgeGeom}
 use Rattle.map.specs.Tickets.{ChangeEdgeGeom}
@@ -23,11 +24,12 @@ use Rattle.map.specs.Reasons.{firstReason, reasons, noEdge, directionTaken, nod
 use Rattle.map.specs.Ticket.{carried}
 use Rattle.map.proofs.Laws.{names}
 use Rattle.map.proofs.Reasons.{first-hit, first-miss}
-use Rattle.tables.specs.Tables.{sameZ, column, edgesOf, nodeMap, edgeAt, edgeMap, NodeRows}
-use Rattle.tables.proofs.Rows.{edges-length, edges-getD}
-use Rattle.tables.proofs.Lookups.{node-missing}
+use Rattle.map_rows.specs.Rows.{edgesOf, nodeMap, edgeAt, edgeMap, NodeRows}
+use Rattle.map_rows.proofs.Rows.{edges-length, edges-getD}
+use Rattle.map_rows.proofs.Lookups.{node-missing}
 use Rattle.tables.proofs.Numbers.{getD-in, changed-at}
-use Rattle.tables.proofs.Writes.{edge-wide, replaced-at}
+use Rattle.tables.proofs.Writes.{replaced-at}
+use Rattle.map.proofs.RoundTrip.{edge-wide}
 use Rattle.form_ranges.specs.Ranges.{lent}
 use Rattle.reason_curves.specs.Sent.{edgesBut}
 use Rattle.reason_curves.proofs.Maps.{inside-alike}

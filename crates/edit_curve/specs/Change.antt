@@ -7,7 +7,7 @@ use lib.IntN.{ℤ, natAbs}
 use Rattle.curves.specs.Curves.{curveOf}
 use Rattle.map.specs.declared.Head.{Head}
 use Rattle.map.specs.Reasons.{Reasons, directionTaken, meetingReasons, orderChanges}
-use Rattle.tables.specs.Tables.{nodeAt, nodeMap, edgeAt, edgeMap}
+use Rattle.map_rows.specs.Rows.{nodeAt, nodeMap, edgeAt, edgeMap}
 use Rattle.reason_curves.specs.Sent.{sentReasons, edgesBut}
 
 -- 11, for the edge of row i

@@ -1,7 +1,7 @@
 // Kind 6: another curve for an edge.
 use lists::Found;
 use map::Head;
-use map_rows::Sides;
+use map_rows::Incidence;
 use outcomes::Done;
 ghost use mathlib.Core.Path.{_≡_};
 ghost use mathlib.Core.Bool.{true};
@@ -18,7 +18,8 @@ ghost use Rattle.map.specs.Reasons.{firstReason};
 ghost use Rattle.map.specs.Tickets.{ChangeEdgeGeom};
 ghost use Rattle.form_ranges.specs.Ranges.{lent};
 ghost use Rattle.outcomes.specs.Outcomes.{Formed, decided, outcome};
-ghost use Rattle.tables.specs.Tables.{sameZ, column, nodeMap, edgeAt, EdgeRow, NodeRows, EdgeRows};
+ghost use Rattle.tables.specs.Tables.{sameZ, column};
+ghost use Rattle.map_rows.specs.Rows.{nodeMap, edgeAt, EdgeRow, NodeRows, EdgeRows};
 ghost use Rattle.edge_rows.specs.Holds.{NodeEdgeTables};
 ghost use Rattle.edit_curve.specs.Change.{takenAt, turnReasons, changeReasons, EndsAt};
 
@@ -93,7 +94,7 @@ fn write_curve(edges: &mut [i64], i: usize, c: &[i64])
     let next_right = edges[i * map::EDGE_WIDTH + map::NEXT_RIGHT];
     let left = edges[i * map::EDGE_WIDTH + map::LEFT];
     let right = edges[i * map::EDGE_WIDTH + map::RIGHT];
-    let row = Sides {
+    let row = Incidence {
         number,
         start,
         end,

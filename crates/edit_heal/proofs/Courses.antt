@@ -20,8 +20,8 @@ use Rattle.curve_edits.specs.declared.Line.{Line}
 use Rattle.curve_edits.specs.Lines.{lineOf}
 use Rattle.curve_edits.proofs.Lines.{length-coordinates}
 use Rattle.curve_edits.proofs.Curves.{whole-points, reversed-points}
-use Rattle.tables.specs.Tables.{EdgeRow, edgeAt}
-use Rattle.tables.proofs.RowCurves.{runAt, run-at, curve-at}
+use Rattle.map_rows.specs.Rows.{EdgeRow, edgeAt}
+use Rattle.map_rows.proofs.RowCurves.{runAt, run-at, curve-at}
 
 -- ---- points in range, 2 to 12
 

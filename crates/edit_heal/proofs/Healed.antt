@@ -23,7 +23,8 @@ use Rattle.curve_edits.specs.Lines.{lineOf}
 use Rattle.planar_maps.specs.Map.{Dart, fwd, bwd, rev}
 use Rattle.map.specs.declared.Head.{Head}
 use Rattle.map.specs.Limits.{nodeWidth, edgeWidth}
-use Rattle.map.specs.Rows.{Node, Edge, Map, mapOf, lentOf, sizesOf, filled, nodeCells, edgeCells, dartCell, edge}
+use Rattle.map.specs.Rows.{Node, Edge, Map, mapOf, lentOf, sizesOf, nodeCells, edgeCells, dartCell, edge}
+use Rattle.tables.specs.Tables.{sameZ, column, closed, filled}
 use Rattle.map.specs.Rows.{hasNode, hasEdge, hasFace, atEdge, withoutNode}
 use Rattle.map.specs.Darts.{leaves, arrives, next, course, departures}
 use Rattle.map.specs.Links.{redirect, instead}
@@ -32,11 +33,14 @@ use Rattle.map.specs.Edits.{sharedNodes, joint, parts, healedCurve, heal}
 use Rattle.map.specs.Ticket.{carried}
 use Rattle.map.proofs.Laws.{formed-is}
 use Rattle.map.proofs.Redirects.{redirect-has, redirect-next}
-use Rattle.tables.specs.Tables.{sameZ, column, nodesOf, edgesOf, nodeAt, edgeAt, edgeMap, closed, EdgeRows}
-use Rattle.tables.proofs.Rows.{nodes-length, edges-length, faces-length, nodes-getD, edges-getD}
-use Rattle.tables.proofs.Writes.{Wide, removed-at, nodes-wide, edge-wide}
+use Rattle.map_rows.specs.Rows.{nodesOf, edgesOf, nodeAt, edgeAt, edgeMap, EdgeRows}
+use Rattle.map_rows.proofs.Rows.{nodes-length, edges-length, faces-length, nodes-getD, edges-getD}
+use Rattle.tables.proofs.Writes.{removed-at}
+use Rattle.tables.proofs.Filled.{Wide}
+use Rattle.map.proofs.RoundTrip.{nodes-wide, edge-wide}
 use Rattle.tables.proofs.Numbers.{without-at, getD-in}
-use Rattle.tables.proofs.Lookups.{which-place, node-found, node-missing}
+use Rattle.tables.proofs.Lookups.{which-place}
+use Rattle.map_rows.proofs.Lookups.{node-found, node-missing}
 use Rattle.darts.specs.Positions.{reverseOf, dartAt, sidePlace, sideCell}
 use Rattle.darts.proofs.Positions.{cells-of, edge-of, dart-reverse, reverse-below, cell-leaves, cell-arrives, cell-next}
 use Rattle.links.specs.Linking.{redirected}

@@ -16,7 +16,8 @@ use Rattle.planar_maps.specs.Map.{Dart, fwd, bwd}
 use Rattle.map.specs.Rows.{Edge, Map, edge}
 use Rattle.map.specs.Darts.{leaves, arrives, edgeEnds}
 use Rattle.map.specs.Edits.{sharedNodes, joint, parts}
-use Rattle.tables.specs.Tables.{sameZ, edgeAt, edgeMap, EdgeRows}
+use Rattle.tables.specs.Tables.{sameZ}
+use Rattle.map_rows.specs.Rows.{edgeAt, edgeMap, EdgeRows}
 use Rattle.tables.proofs.Order.{same-pos}
 use Rattle.darts.specs.Positions.{dartAt}
 use Rattle.darts.proofs.Positions.{dart-even, dart-odd, edge-of}

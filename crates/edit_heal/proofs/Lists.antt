@@ -11,7 +11,7 @@ use lib.Seq.{length-take-le}
 use borrow.Author.Tests.{ltb-true, ltb-false, lt-ltb, le-ltb}
 use Rattle.lists.specs.Members.{Distinct}
 use Rattle.lists.proofs.Bools.{which}
-use Rattle.tables.proofs.Writes.{Wide}
+use Rattle.tables.proofs.Filled.{Wide}
 use Rattle.edit_heal.specs.Heals.{closedUp}
 
 -- element j is gone

@@ -10,9 +10,10 @@ use lib.ListN.{length, getD, set, length-append, length-set}
 use lib.Seq.{paste, getD-set-other}
 use Rattle.lists.specs.Tests.{same}
 use Rattle.lists.specs.Members.{Distinct}
-use Rattle.map.specs.Rows.{Edge, filled, edgeCells, withoutEdge}
-use Rattle.tables.specs.Tables.{closed}
-use Rattle.tables.proofs.Writes.{Wide, pushed, replaced-at, removed-at, wide-set}
+use Rattle.map.specs.Rows.{Edge, edgeCells, withoutEdge}
+use Rattle.tables.specs.Tables.{closed, filled}
+use Rattle.tables.proofs.Writes.{pushed, replaced-at, removed-at, wide-set}
+use Rattle.tables.proofs.Filled.{Wide}
 use Rattle.tables.proofs.Numbers.{without-at, changed-at}
 use Rattle.edit_heal.specs.Heals.{closedUp, placed}
 use Rattle.edit_heal.proofs.Lists.{less, closed-below, less-length, less-at, less-distinct, less-wide}

@@ -7,9 +7,10 @@ use lib.ListN.{length, length-map}
 use Rattle.planar_maps.specs.Map.{Dart}
 use Rattle.planar_maps.specs.Rings.{sameDart}
 use Rattle.map.specs.Limits.{edgeWidth}
-use Rattle.map.specs.Rows.{Edge, Map, filled, edgeCells, dartCell, edge}
+use Rattle.map.specs.Rows.{Edge, Map, edgeCells, dartCell, edge}
+use Rattle.tables.specs.Tables.{filled}
 use Rattle.map.specs.Links.{instead, redirect}
-use Rattle.tables.proofs.Writes.{Wide}
+use Rattle.tables.proofs.Filled.{Wide}
 use Rattle.links.specs.Linking.{redirected}
 use Rattle.links.proofs.Kept.{newFor}
 use Rattle.links.proofs.Darts.{cell-same}

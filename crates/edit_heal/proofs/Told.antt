@@ -18,7 +18,7 @@ use Rattle.map.specs.Rows.{Map, mapOf, sizesOf, edge}
 use Rattle.map.specs.Darts.{departures, leaves, course}
 use Rattle.map.specs.Edits.{sharedNodes, joint, parts, healedCurve}
 use Rattle.map.specs.Reasons.{Reasons, firstReason, reasons, noEdge, spent}
-use Rattle.tables.specs.Tables.{edgeAt, edgeMap}
+use Rattle.map_rows.specs.Rows.{edgeAt, edgeMap}
 use Rattle.links.proofs.Darts.{row-named}
 use Rattle.reason_departures.specs.Turning.{jointReasons}
 use Rattle.form_ranges.specs.Ranges.{lent}

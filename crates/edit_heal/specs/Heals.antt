@@ -17,10 +17,11 @@ use Rattle.map.specs.Limits.{maxNodes, maxEdges, lastNumber}
 use Rattle.map.specs.Rows.{dartCell}
 use Rattle.map.specs.Edits.{joint, parts}
 use Rattle.map.specs.Reasons.{Reasons}
-use Rattle.tables.specs.Tables.{sameZ, closed, edgeAt, edgeMap}
+use Rattle.tables.specs.Tables.{sameZ, closed}
+use Rattle.map_rows.specs.Rows.{edgeAt, edgeMap}
 use Rattle.darts.specs.Positions.{odd, reverseOf, dartAt, sideCell}
 use Rattle.links.specs.Linking.{redirected}
-use Rattle.map_rows.specs.declared.Sides.{Sides}
+use Rattle.map_rows.specs.declared.Incidence.{Incidence}
 use Rattle.map_rows.specs.Cells.{cellsOf}
 use Rattle.edit_heal.specs.declared.Parts.{Parts}
 
@@ -56,7 +57,7 @@ abbrev pub renamed : List ℤ → ℕ → ℕ → ℕ → ℤ → List ℤ
 renamed l n p q a = redirected (dartCell (dartAt l (reverseOf q))) (negℤ a) (redirected (dartCell (dartAt l p)) a l n) n
 
 -- the numbers of the edge a along p and q, with the faces of row i
-abbrev pub healedSides : List ℤ → ℕ → ℕ → ℕ → ℤ → Sides
+abbrev pub healedSides : List ℤ → ℕ → ℕ → ℕ → ℤ → Incidence
 healedSides t i p q a =
     record {
       number = a;

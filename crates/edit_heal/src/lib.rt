@@ -3,7 +3,7 @@ use curve_edits::Line;
 use lists::Found;
 use map::Head;
 use map::Map;
-use map_rows::Sides;
+use map_rows::Incidence;
 use outcomes::Done;
 ghost use mathlib.Core.Path.{_≡_};
 ghost use mathlib.Core.Bool.{true};
@@ -18,7 +18,8 @@ ghost use Rattle.curves.specs.Curves.{points};
 ghost use Rattle.curve_edits.specs.Lines.{lineOf};
 ghost use Rattle.map.specs.Edits.{joint};
 ghost use Rattle.map.specs.Reasons.{firstReason};
-ghost use Rattle.tables.specs.Tables.{sameZ, column, closed, edgeAt, edgeMap, EdgeRow, EdgeRows, NodeRows};
+ghost use Rattle.tables.specs.Tables.{sameZ, column, closed};
+ghost use Rattle.map_rows.specs.Rows.{edgeAt, edgeMap, EdgeRow, EdgeRows, NodeRows};
 ghost use Rattle.form_ranges.specs.Ranges.{lent};
 ghost use Rattle.map_rows.specs.Cells.{cellsOf};
 ghost use Rattle.outcomes.specs.Outcomes.{Formed, decided, outcome};
@@ -88,7 +89,7 @@ fn course_of(edges: &[i64], p: usize) -> Line
     requires { ⌜ EdgeRow (now edges) (p / 2) ⌝ }
     ensures { λ r. ⌜ r ≡ lineOf (points (courseAt (now (edges .entry)) p)) ⌝ }
 {
-    let c = tables::curve_of(edges, p / 2);
+    let c = map_rows::curve_of(edges, p / 2);
     if p % 2 == 1 {
         curve_edits::reversed_of(c)
     } else {
@@ -124,7 +125,7 @@ fn rename(edges: &mut [i64], e: usize, p: usize, q: usize, number: i64)
 }
 
 // The numbers of the healed edge, with the faces of row i.
-fn healed_sides(edges: &[i64], i: usize, p: usize, q: usize, number: i64) -> Sides
+fn healed_sides(edges: &[i64], i: usize, p: usize, q: usize, number: i64) -> Incidence
     requires { ⌜ (i * 32 + 32 ≤ length (now edges)) × (p / 2 * 32 + 32 ≤ length (now edges))
         × (q / 2 * 32 + 32 ≤ length (now edges)) × (p < 5000) × (q < 5000) ⌝ }
     ensures { λ r. ⌜ r ≡ healedSides (now (edges .entry)) i p q number ⌝ }
@@ -135,7 +136,7 @@ fn healed_sides(edges: &[i64], i: usize, p: usize, q: usize, number: i64) -> Sid
     let next_right = darts::dart_cell(edges, darts::reverse(p), map::NEXT_LEFT);
     let left = edges[i * map::EDGE_WIDTH + map::LEFT];
     let right = edges[i * map::EDGE_WIDTH + map::RIGHT];
-    Sides {
+    Incidence {
         number,
         start,
         end,
@@ -154,7 +155,7 @@ fn closed_up(i: usize, j: usize) -> usize
 }
 
 // A row in the place of row i or, where its number goes, last; row j goes.
-fn place_row(edges: &mut [i64], e: usize, i: usize, j: usize, keeps: bool, s: Sides, l: Line)
+fn place_row(edges: &mut [i64], e: usize, i: usize, j: usize, keeps: bool, s: Incidence, l: Line)
     requires { ⌜ (i < e) × (j < e) × (i ≡ j → ⊥) × (e * 32 ≤ length (now edges)) × (l .count ≤ 1000) ⌝ }
     ensures { λ r. ⌜ now (edges .exit) ≡ placed keeps (now (edges .entry)) e i j (cellsOf s l) ⌝ }
 {

@@ -16,15 +16,16 @@ use Rattle.lists.proofs.Bools.{equal?, same-eq, same-false, or-right}
 use Rattle.curves.specs.Curves.{curveOf}
 use Rattle.map.specs.declared.Head.{Head}
 use Rattle.map.specs.Limits.{nodeWidth, edgeWidth, faceWidth, lastNumber}
-use Rattle.map.specs.Rows.{Node, Map, Sizes, mapOf, lentOf, sizesOf, headOf, node, filled, nodeCells, edgeCells}
+use Rattle.map.specs.Rows.{Node, Map, Sizes, mapOf, lentOf, sizesOf, headOf, node, nodeCells, edgeCells}
+use Rattle.tables.specs.Tables.{sameZ, column, filled}
 use Rattle.map.specs.Rows.{faceCells}
 use Rattle.map.specs.Edits.{drawn, addIsoEdge}
 use Rattle.map.specs.Tickets.{AddIsoEdge}
 use Rattle.map.specs.Reasons.{firstReason, reasons, noNode, nodeInside, full, spent}
 use Rattle.map.specs.Ticket.{carried}
 use Rattle.map.proofs.Reasons.{first-hit, first-miss}
-use Rattle.tables.specs.Tables.{sameZ, column, nodesOf, edgesOf, facesOf, nodeAt, nodeMap}
-use Rattle.tables.proofs.Rows.{nodes-length, edges-length, faces-length}
+use Rattle.map_rows.specs.Rows.{nodesOf, edgesOf, facesOf, nodeAt, nodeMap}
+use Rattle.map_rows.proofs.Rows.{nodes-length, edges-length, faces-length}
 use Rattle.form_ranges.specs.Ranges.{lent}
 use Rattle.reason_curves.specs.Sent.{edgesBut}
 use Rattle.reason_curves.proofs.Maps.{inside-alike}

@@ -15,7 +15,7 @@ use Rattle.curves.specs.Curves.{Run, curveOf}
 use Rattle.map.specs.declared.Head.{Head}
 use Rattle.map.specs.Limits.{edgeWidth, lastNumber}
 use Rattle.map.specs.Reasons.{Reasons, firstReason, meetingReasons}
-use Rattle.tables.specs.Tables.{nodeAt, nodeMap}
+use Rattle.map_rows.specs.Rows.{nodeAt, nodeMap}
 use Rattle.reason_curves.specs.Sent.{sentReasons, edgesBut}
 use Rattle.map.proofs.Reasons.{first-hit, first-miss, first-after, first-zero}
 use Rattle.edge_rows.proofs.FirstReasons.{first-of, sent-run}

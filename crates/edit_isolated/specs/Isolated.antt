@@ -12,7 +12,7 @@ use Rattle.curves.specs.Curves.{curveOf}
 use Rattle.map.specs.declared.Head.{Head}
 use Rattle.map.specs.Limits.{edgeWidth, lastNumber}
 use Rattle.map.specs.Reasons.{Reasons, meetingReasons}
-use Rattle.tables.specs.Tables.{nodeAt, nodeMap}
+use Rattle.map_rows.specs.Rows.{nodeAt, nodeMap}
 use Rattle.reason_curves.specs.Sent.{sentReasons, edgesBut}
 
 -- 20 and 21, of the edges alone

@@ -12,22 +12,13 @@ ghost use Rattle.lists.specs.Scans.{isSome};
 ghost use Rattle.curves.specs.Curves.{Run};
 ghost use Rattle.map.specs.Reasons.{firstReason};
 ghost use Rattle.map.specs.Tickets.{AddIsoEdge, RemoveIsoEdge};
+ghost use Rattle.map_rows.specs.Rows.{nodeAt, edgeAt, NodeRow, EdgeRow};
 ghost use Rattle.form_ranges.specs.Ranges.{lent};
 ghost use Rattle.outcomes.specs.Outcomes.{Formed, decided, outcome};
-ghost use Rattle.tables.specs.Tables.{nodeAt, edgeAt, NodeRow, EdgeRow};
 ghost use Rattle.edge_rows.specs.Holds.{EdgesCounted, NodeEdgeTables};
 ghost use Rattle.edit_isolated.specs.Isolated.{roomReasons, meetingOrRoomReasons, isolatedReasons};
 
 // ---- kind 4
-
-// The node of row i has a containing face: no edge ends there.
-fn is_isolated(nodes: &[i64], i: usize) -> bool
-    requires { ⌜ NodeRow (now nodes) i ⌝ }
-    ensures { λ r. ⌜ r ≡ isSome (nodeAt (now (nodes .entry)) i .face) ⌝ }
-{
-    let z = nodes[i * map::NODE_WIDTH + map::NODE_FACE];
-    z != -1
-}
 
 // Rows u and v are one, or an edge ends at one of their nodes.
 fn not_both_isolated(nodes: &[i64], u: usize, v: usize) -> bool
@@ -38,10 +29,10 @@ fn not_both_isolated(nodes: &[i64], u: usize, v: usize) -> bool
     if u == v {
         return true;
     }
-    if !is_isolated(nodes, u) {
+    if !map_rows::is_isolated(nodes, u) {
         return true;
     }
-    !is_isolated(nodes, v)
+    !map_rows::is_isolated(nodes, v)
 }
 
 // The nodes of rows u and v lie in different faces.

@@ -12,12 +12,12 @@ use Rattle.lists.specs.Tables.{place}
 use Rattle.lists.specs.declared.Found.the-variants.{Missing}
 use Rattle.lists.proofs.Bools.{which, same-true, differ}
 use Rattle.map.specs.Limits.{faceWidth}
-use Rattle.map.specs.Rows.{rows}
+use Rattle.tables.specs.Tables.{sameZ, column, rows}
 use Rattle.map.specs.Form.{faceRanges}
 use Rattle.map.specs.Reasons.{minusOne}
-use Rattle.tables.specs.Tables.{sameZ, column, facesOf}
+use Rattle.map_rows.specs.Rows.{facesOf}
 use Rattle.tables.proofs.Order.{is-same, not-same, same-pos}
-use Rattle.tables.proofs.Lookups.{face-missing}
+use Rattle.map_rows.proofs.Lookups.{face-missing}
 
 pub minus-one-is : (z : ℤ) → sameZ z (negsuc 0) ≡ minusOne z
 minus-one-is (pos n) = refl

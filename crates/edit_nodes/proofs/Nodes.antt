@@ -14,14 +14,16 @@ use Rattle.curves.specs.Curves.{coordinate, point}
 use Rattle.curves.proofs.Runs.{and-left, and-right, coordinate-pos}
 use Rattle.map.specs.declared.Head.{Head}
 use Rattle.map.specs.Limits.{nodeWidth}
-use Rattle.map.specs.Rows.{Node, Map, mapOf, lentOf, sizesOf, filled, nodeCells, atNodes, withoutNode}
+use Rattle.map.specs.Rows.{Node, Map, mapOf, lentOf, sizesOf, nodeCells, atNodes, withoutNode}
+use Rattle.tables.specs.Tables.{closed, filled}
 use Rattle.map.specs.Faces.{faceOfPoint}
 use Rattle.map.specs.Tickets.{AddIsoNode, MoveIsoNode, RemoveIsoNode}
 use Rattle.map.specs.Ticket.{carried}
 use Rattle.map.specs.Edits.{lone, addIsoNode, moveIsoNode, removeIsoNode}
-use Rattle.tables.specs.Tables.{nodesOf, edgesOf, facesOf, nodeAt, closed}
-use Rattle.tables.proofs.Rows.{nodes-length, edges-length, faces-length, nodes-getD}
-use Rattle.tables.proofs.Writes.{pushed, replaced-at, removed-at, nodes-wide}
+use Rattle.map_rows.specs.Rows.{nodesOf, edgesOf, facesOf, nodeAt}
+use Rattle.map_rows.proofs.Rows.{nodes-length, edges-length, faces-length, nodes-getD}
+use Rattle.tables.proofs.Writes.{pushed, replaced-at, removed-at}
+use Rattle.map.proofs.RoundTrip.{nodes-wide}
 use Rattle.tables.proofs.Numbers.{without-at, changed-at}
 use Rattle.form_ranges.specs.Ranges.{lent}
 use Rattle.outcomes.specs.Outcomes.{Formed}

@@ -21,8 +21,9 @@ use Rattle.map.specs.Rows.{Node, mapOf, sizesOf, findNode, withoutNode}
 use Rattle.map.specs.Tickets.{MoveIsoNode, RemoveIsoNode}
 use Rattle.map.specs.Reasons as reasons
 use Rattle.map.specs.Reasons.{firstReason, noNode, isolated, outside, edgeThrough}
-use Rattle.tables.specs.Tables.{sameZ, column, nodeAt, nodesOf, edgeMap}
-use Rattle.tables.proofs.Lookups.{node-found}
+use Rattle.tables.specs.Tables.{sameZ, column}
+use Rattle.map_rows.specs.Rows.{nodeAt, nodesOf, edgeMap}
+use Rattle.map_rows.proofs.Lookups.{node-found}
 use Rattle.form_ranges.specs.Ranges.{lent}
 use Rattle.outcomes.specs.Outcomes.{Formed}
 use Rattle.outcomes.proofs.Formed.{ranges, node-rows}

@@ -23,7 +23,7 @@ use Rattle.map.specs.Faces.{faceOfPoint, floors}
 use Rattle.map.specs.Tickets.{AddIsoNode}
 use Rattle.map.specs.Reasons as reasons
 use Rattle.map.specs.Reasons.{firstReason, minusOne, noFace, outside, edgeThrough, full, spent}
-use Rattle.tables.specs.Tables.{facesOf, nodeAt, edgeMap}
+use Rattle.map_rows.specs.Rows.{facesOf, nodeAt, edgeMap}
 use Rattle.form_ranges.specs.Ranges.{lent}
 use Rattle.outcomes.specs.Outcomes.{Formed}
 use Rattle.outcomes.proofs.Formed.{nodes-count, edges-count, faces-count, nodes-size, edges-size, faces-size, node-next}

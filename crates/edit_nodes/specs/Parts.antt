@@ -16,7 +16,7 @@ use Rattle.map.specs.Rows.{Map, Sizes}
 use Rattle.map.specs.Faces.{faceOfPoint}
 use Rattle.map.specs.Reasons as reasons
 use Rattle.map.specs.Reasons.{Reasons, minusOne, noFace, outside, edgeThrough, full, spent}
-use Rattle.tables.specs.Tables.{nodeAt, edgeMap}
+use Rattle.map_rows.specs.Rows.{nodeAt, edgeMap}
 
 -- kind 1, up to 10, and from 12 on
 abbrev pub addEarly : Map → ℤ → ℤ → ℤ → Reasons

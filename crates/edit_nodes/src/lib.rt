@@ -12,13 +12,13 @@ ghost use lib.ListN.{length};
 ghost use lib.Seq.{paste};
 ghost use lib.Signed.{nonNeg};
 ghost use Rattle.lists.specs.Tests.{same};
-ghost use Rattle.lists.specs.Scans.{anyOf, isSome};
+ghost use Rattle.lists.specs.Scans.{anyOf};
 ghost use Rattle.lists.specs.Tables.{table};
 ghost use Rattle.plane.specs.Points.{InRange, samePoint};
 ghost use Rattle.map.specs.Rows.{mapOf};
 ghost use Rattle.map.specs.Tickets.{AddIsoNode, MoveIsoNode, RemoveIsoNode};
 ghost use Rattle.map.specs.Reasons.{firstReason, minusOne, edgeThrough};
-ghost use Rattle.tables.specs.Tables.{FaceRows, NodeRow, NodeRows, EdgeRows, facesOf, nodeAt, edgeMap};
+ghost use Rattle.map_rows.specs.Rows.{FaceRows, NodeRows, EdgeRows, facesOf, nodeAt, edgeMap};
 ghost use Rattle.form_ranges.specs.Ranges.{lent};
 ghost use Rattle.outcomes.specs.Outcomes.{Formed, decided, outcome};
 ghost use Rattle.edit_nodes.specs.Heads.{Numbered, added, removed};
@@ -55,15 +55,6 @@ fn face_missing(faces: &[i64], count: usize, face: i64) -> bool
         Found::At(i) => false,
         Found::Missing => true,
     }
-}
-
-// The node of row i has a containing face: no edge ends there.
-fn is_isolated(nodes: &[i64], i: usize) -> bool
-    requires { ⌜ NodeRow (now nodes) i ⌝ }
-    ensures { λ r. ⌜ r ≡ isSome (nodeAt (now (nodes .entry)) i .face) ⌝ }
-{
-    let z = nodes[i * map::NODE_WIDTH + map::NODE_FACE];
-    z != -1
 }
 
 // A node but that of row `own` lies on the point, or an edge passes through it.
@@ -170,7 +161,7 @@ fn move_reason(
     if !reason_curves::in_range(x, y) {
         return 5;
     }
-    if !is_isolated(nodes, i) {
+    if !map_rows::is_isolated(nodes, i) {
         return 9;
     }
     if is_taken(nodes, n, edges, count, i, reason_curves::point_of(x, y)) {
@@ -258,7 +249,7 @@ pub fn remove_node(nodes: &mut [i64], h: Head, node: i64) -> Done
     let Found::At(i) = found else {
         return outcomes::refused(h, 4);
     };
-    if !is_isolated(nodes, i) {
+    if !map_rows::is_isolated(nodes, i) {
         return outcomes::refused(h, 9);
     }
     tables::remove_row(nodes, map::NODE_WIDTH, n, i);

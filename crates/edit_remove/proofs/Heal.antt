@@ -6,22 +6,24 @@ use Prim.Native.Nat.{ℕ}
 use native.Mathlib.Nat.{add-zero}
 use lib.IntN.{ℤ, pos, natAbs}
 use lib.ListN.{length}
+use Rattle.tables.specs.Tables.{filled}
+use Rattle.tables.proofs.Filled.{Wide, filled-rest}
 use Rattle.map.specs.declared.Head.{Head}
 use Rattle.map.specs.Limits.{nodeWidth, edgeWidth}
-use Rattle.map.specs.Rows.{Node, Edge, Map, mapOf, filled, nodeCells, edgeCells}
+use Rattle.map.specs.Rows.{Node, Edge, Map, mapOf, nodeCells, edgeCells}
 use Rattle.map.specs.Edits.{renamedFaces}
-use Rattle.tables.specs.Tables.{EdgeRows, nodesOf, edgesOf}
-use Rattle.tables.proofs.Rows.{nodes-length, edges-length}
-use Rattle.tables.proofs.Writes.{Wide, nodes-wide, table-edges-wide}
+use Rattle.map.proofs.RoundTrip.{nodes-wide}
+use Rattle.map_rows.specs.Rows.{EdgeRows, nodesOf, edgesOf}
+use Rattle.map_rows.proofs.Rows.{nodes-length, edges-length}
+use Rattle.map_rows.proofs.RowCurves.{table-edges-wide}
 use Rattle.form_ranges.specs.Ranges.{lent}
 use Rattle.outcomes.specs.Outcomes.{Formed}
-use Rattle.outcomes.proofs.Filled.{filled-rest}
-use Rattle.edge_rows.specs.Holds.{NodeTable, EdgeTable, NodeEdgeTables}
-use Rattle.edge_rows.proofs.Formed.{held}
 use Rattle.face_rows.specs.Holds.{Holds, healed}
 use Rattle.face_rows.proofs.Formed.{formed-held}
 use Rattle.face_rows.proofs.Healed.{healed-node-rows, healed-nodes, healed-edge-rows, healed-edges, healed-nodes-long}
 use Rattle.face_rows.proofs.Healed.{healed-edges-long, healed-numbers, healed-node-count, healed-edge-count}
+use Rattle.edge_rows.specs.Holds.{NodeTable, EdgeTable, NodeEdgeTables}
+use Rattle.edge_rows.proofs.Formed.{held}
 
 module _ {nodes edges faces : List ℤ} {h : Head} (f : Formed nodes edges faces h) (row : Edge)
     (makes : Bool) {nodes′ edges′ faces′ : List ℤ} {h′ : Head}

@@ -10,11 +10,12 @@ use Rattle.lists.specs.declared.Found.the-variants.{At}
 use Rattle.lists.proofs.Bools.{same-eq, &&-false}
 use Rattle.map.specs.declared.Head.{Head}
 use Rattle.map.specs.Limits.{edgeWidth}
-use Rattle.map.specs.Rows.{Edge, Map, mapOf, lentOf, sizesOf, edge, filled, nodeCells, edgeCells, faceCells}
+use Rattle.map.specs.Rows.{Edge, Map, mapOf, lentOf, sizesOf, edge, nodeCells, edgeCells, faceCells}
+use Rattle.tables.specs.Tables.{sameZ, column, filled}
 use Rattle.map.specs.Edits.{undrawn, healsFaces, makesFace, removeEdge}
 use Rattle.map.specs.Ticket.{carried}
-use Rattle.tables.specs.Tables.{sameZ, column, edgeAt}
-use Rattle.tables.proofs.Rows.{edge-row-of}
+use Rattle.map_rows.specs.Rows.{edgeAt}
+use Rattle.map_rows.proofs.Rows.{edge-row-of}
 use Rattle.form_ranges.specs.Ranges.{lent}
 use Rattle.outcomes.specs.declared.Done.{Done}
 use Rattle.outcomes.specs.Outcomes.{Formed}

@@ -14,19 +14,20 @@ use Rattle.lists.specs.Tests.{same}
 use Rattle.lists.proofs.Bools.{which, same-true, same-eq, or-true}
 use Rattle.lists.proofs.Keeps.{keep-all}
 use Rattle.lists.proofs.Members.{map-cong}
+use Rattle.tables.specs.Tables.{filled}
 use Rattle.map.specs.declared.Head.{Head}
-use Rattle.map.specs.Rows.{Node, Edge, Map, mapOf, filled, nodeCells, edgeCells}
+use Rattle.map.specs.Rows.{Node, Edge, Map, mapOf, nodeCells, edgeCells}
 use Rattle.map.specs.Edits.{withFace, undrawn, withSides, renamed, renamedNode, renamedFaces}
 use Rattle.map_laws.proofs.Outlines.{undrawn-face-list}
-use Rattle.tables.specs.Tables.{edgeAt}
+use Rattle.map_rows.specs.Rows.{edgeAt}
 use Rattle.form_ranges.specs.Ranges.{lent}
 use Rattle.outcomes.specs.declared.Done.{Done}
 use Rattle.outcomes.specs.Outcomes.{Formed}
-use Rattle.edge_rows.specs.Holds.{Undrawn}
-use Rattle.edge_rows.proofs.Undrawn.{undrawn-head}
 use Rattle.face_rows.specs.Holds.{facesIn, Holds, faceKept, healed}
 use Rattle.face_rows.proofs.Formed.{formed-held, holds-before}
 use Rattle.face_rows.proofs.Healed.{healed-map, healed-nodes-long, healed-edges-long, healed-number}
+use Rattle.edge_rows.specs.Holds.{Undrawn}
+use Rattle.edge_rows.proofs.Undrawn.{undrawn-head}
 use Rattle.edit_remove.specs.Cleared.{Cleared, cleared, valueLeft}
 
 -- ---- the edge undrawn

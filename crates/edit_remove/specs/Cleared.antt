@@ -8,7 +8,7 @@ use Rattle.lists.specs.Tests.{same}
 use Rattle.map.specs.declared.Head.{Head}
 use Rattle.map.specs.Rows.{Edge, Map, mapOf}
 use Rattle.map.specs.Edits.{undrawn}
-use Rattle.tables.specs.Tables.{edgeAt, EdgeRow}
+use Rattle.map_rows.specs.Rows.{edgeAt, EdgeRow}
 use Rattle.form_ranges.specs.Ranges.{lent}
 use Rattle.outcomes.specs.declared.Done.{Done}
 use Rattle.outcomes.specs.Outcomes.{Formed}

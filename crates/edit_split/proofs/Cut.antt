@@ -18,12 +18,15 @@ use Rattle.curves.specs.Edits.{front, back}
 use Rattle.planar_maps.specs.Map.{Dart, fwd, bwd}
 use Rattle.curve_edits.specs.Lines.{lineOf}
 use Rattle.map.specs.Limits.{edgeWidth}
-use Rattle.map.specs.Rows.{Edge, Map, edge, dartCell, filled, edgeCells, atEdge, withoutEdge}
+use Rattle.map.specs.Rows.{Edge, Map, edge, dartCell, edgeCells, atEdge, withoutEdge}
+use Rattle.tables.specs.Tables.{closed, filled}
 use Rattle.map.specs.Links.{redirect}
 use Rattle.map.specs.Edits.{startHalf, endHalf, split}
-use Rattle.tables.specs.Tables.{closed, edgeAt, EdgeRow}
+use Rattle.map_rows.specs.Rows.{edgeAt, EdgeRow}
 use Rattle.tables.proofs.Numbers.{without-at, changed-at}
-use Rattle.tables.proofs.Writes.{Wide, pushed, replaced-at, removed-at, edge-wide, wide-set}
+use Rattle.tables.proofs.Writes.{pushed, replaced-at, removed-at, wide-set}
+use Rattle.tables.proofs.Filled.{Wide}
+use Rattle.map.proofs.RoundTrip.{edge-wide}
 use Rattle.darts.proofs.Positions.{dart-even, dart-odd}
 use Rattle.links.specs.Linking.{redirected}
 use Rattle.links.proofs.Filled.{renamedRow, renamed-wide, redirected-filled}

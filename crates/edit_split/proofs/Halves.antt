@@ -9,8 +9,8 @@ use Rattle.plane.specs.Points.{samePoint}
 use Rattle.plane.specs.Segments.{onSegment}
 use Rattle.curves.specs.Curves.{points, maxPoints}
 use Rattle.curves.specs.Edits.{Halves, cutHere, cut, front, back}
-use Rattle.tables.specs.Tables.{EdgeRow, edgeAt}
-use Rattle.tables.proofs.RowCurves.{edge-few}
+use Rattle.map_rows.specs.Rows.{EdgeRow, edgeAt}
+use Rattle.map_rows.proofs.RowCurves.{edge-few}
 
 -- of n points after the first
 abbrev Few : Halves → ℕ → Type 0

@@ -13,12 +13,14 @@ use Rattle.curves.specs.Curves.{point, coordinate}
 use Rattle.curves.proofs.Runs.{and-left, and-right, coordinate-pos}
 use Rattle.map.specs.declared.Head.{Head}
 use Rattle.map.specs.Limits.{nodeWidth, edgeWidth}
-use Rattle.map.specs.Rows.{Node, Map, mapOf, lentOf, sizesOf, filled, nodeCells, edgeCells}
+use Rattle.map.specs.Rows.{Node, Map, mapOf, lentOf, sizesOf, nodeCells, edgeCells}
+use Rattle.tables.specs.Tables.{filled}
 use Rattle.map.specs.Ticket.{carried}
 use Rattle.map.specs.Edits.{split}
-use Rattle.tables.specs.Tables.{nodesOf, edgesOf, facesOf, edgeAt}
-use Rattle.tables.proofs.Rows.{nodes-length, edges-length, faces-length, edges-getD, edge-row-of, edge-number-in}
-use Rattle.tables.proofs.Writes.{pushed, nodes-wide}
+use Rattle.map_rows.specs.Rows.{nodesOf, edgesOf, facesOf, edgeAt}
+use Rattle.map_rows.proofs.Rows.{nodes-length, edges-length, faces-length, edges-getD, edge-row-of, edge-number-in}
+use Rattle.tables.proofs.Writes.{pushed}
+use Rattle.map.proofs.RoundTrip.{nodes-wide}
 use Rattle.form_ranges.specs.Ranges.{lent}
 use Rattle.outcomes.specs.Outcomes.{Formed}
 use Rattle.outcomes.proofs.Formed.{faces-count, node-next, edge-next, face-next, nodes-filled, edges-filled}

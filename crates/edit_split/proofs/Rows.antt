@@ -13,7 +13,7 @@ use Rattle.lists.specs.Scans.{find}
 use Rattle.lists.specs.Members.{Distinct}
 use Rattle.lists.proofs.Bools.{same-refl}
 use Rattle.tables.proofs.Numbers.{getD-in, other}
-use Rattle.tables.proofs.Writes.{Wide}
+use Rattle.tables.proofs.Filled.{Wide}
 
 -- ---- rows by place
 

@@ -20,8 +20,9 @@ use Rattle.map.specs.Limits.{nodeWidth, edgeWidth, lastNumber}
 use Rattle.map.specs.Rows.{Edge, mapOf, sizesOf, findEdge, edge}
 use Rattle.map.specs.Reasons as reasons
 use Rattle.map.specs.Reasons.{firstReason, noEdge, outside, full, spent, splitReasons}
-use Rattle.tables.specs.Tables.{sameZ, column, edgeAt, nodesOf}
-use Rattle.tables.proofs.Lookups.{edge-found}
+use Rattle.tables.specs.Tables.{sameZ, column}
+use Rattle.map_rows.specs.Rows.{edgeAt, nodesOf}
+use Rattle.map_rows.proofs.Lookups.{edge-found}
 use Rattle.form_ranges.specs.Ranges.{lent}
 use Rattle.outcomes.specs.Outcomes.{Formed}
 use Rattle.outcomes.proofs.Formed.{ranges, nodes-count, edges-count, node-next, edge-next, nodes-size, edges-size}

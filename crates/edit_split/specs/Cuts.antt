@@ -16,10 +16,11 @@ use Rattle.map.specs.declared.Head.{Head}
 use Rattle.map.specs.Limits.{maxNodes, maxEdges, nodeWidth, edgeWidth, lastNumber}
 use Rattle.map.specs.Rows.{dartCell}
 use Rattle.map.specs.Reasons.{Reasons, outside, nodeAt}
-use Rattle.tables.specs.Tables.{closed, edgeAt, nodesOf}
+use Rattle.tables.specs.Tables.{closed}
+use Rattle.map_rows.specs.Rows.{edgeAt, nodesOf}
 use Rattle.darts.specs.Positions.{dartAt}
 use Rattle.links.specs.Linking.{redirected}
-use Rattle.map_rows.specs.declared.Sides.{Sides}
+use Rattle.map_rows.specs.declared.Incidence.{Incidence}
 use Rattle.map_rows.specs.Cells.{cellsOf}
 
 -- ---- the table
@@ -30,7 +31,7 @@ renamed l n i a b = redirected (dartCell (dartAt l (i * 2 + 1))) (negℤ b)
     (redirected (dartCell (dartAt l (i * 2))) a l n) n
 
 -- the numbers of the half a from the start of row i to the new node, and of the half b from there to its end
-abbrev pub startSides : List ℤ → ℕ → ℤ → ℤ → ℤ → Sides
+abbrev pub startSides : List ℤ → ℕ → ℤ → ℤ → ℤ → Incidence
 startSides t i node a b =
     record {
       number = a;
@@ -42,7 +43,7 @@ startSides t i node a b =
       right = getD t (i * 32 + 6) (pos 0);
     }
 
-abbrev pub endSides : List ℤ → ℕ → ℤ → ℤ → ℤ → Sides
+abbrev pub endSides : List ℤ → ℕ → ℤ → ℤ → ℤ → Incidence
 endSides t i node a b =
     record {
       number = b;

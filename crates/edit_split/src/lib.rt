@@ -2,7 +2,7 @@
 use curve_edits::Line;
 use lists::Found;
 use map::Head;
-use map_rows::Sides;
+use map_rows::Incidence;
 use outcomes::Done;
 use plane::Point;
 ghost use mathlib.Core.Path.{_≡_};
@@ -17,7 +17,7 @@ ghost use Rattle.curves.specs.Tests.{onCurve};
 ghost use Rattle.curves.specs.Edits.{front, back};
 ghost use Rattle.curve_edits.specs.Lines.{lineOf};
 ghost use Rattle.map.specs.Reasons.{firstReason};
-ghost use Rattle.tables.specs.Tables.{EdgeRow, NodeRows, edgeAt};
+ghost use Rattle.map_rows.specs.Rows.{EdgeRow, NodeRows, edgeAt};
 ghost use Rattle.form_ranges.specs.Ranges.{lent};
 ghost use Rattle.map_rows.specs.Cells.{cellsOf};
 ghost use Rattle.outcomes.specs.Outcomes.{Formed, decided, outcome};
@@ -32,14 +32,14 @@ fn start_line(edges: &[i64], i: usize, p: Point) -> Line
     requires { ⌜ EdgeRow (now edges) i × InRange p ⌝ }
     ensures { λ r. ⌜ r ≡ lineOf (points (front p (edgeAt (now (edges .entry)) i .curve))) ⌝ }
 {
-    curve_edits::front_of(tables::curve_of(edges, i), p)
+    curve_edits::front_of(map_rows::curve_of(edges, i), p)
 }
 
 fn end_line(edges: &[i64], i: usize, p: Point) -> Line
     requires { ⌜ EdgeRow (now edges) i × InRange p ⌝ }
     ensures { λ r. ⌜ r ≡ lineOf (points (back p (edgeAt (now (edges .entry)) i .curve))) ⌝ }
 {
-    curve_edits::back_of(tables::curve_of(edges, i), p)
+    curve_edits::back_of(map_rows::curve_of(edges, i), p)
 }
 
 // What led to row i leads to the half a, and what led to its reverse to the reverse of b.
@@ -54,7 +54,7 @@ fn rename(edges: &mut [i64], e: usize, i: usize, a: i64, b: i64)
 }
 
 // The numbers of the half a from the start of row i to the new node, and of the half b from there to its end.
-fn start_half(edges: &[i64], i: usize, node: i64, a: i64, b: i64) -> Sides
+fn start_half(edges: &[i64], i: usize, node: i64, a: i64, b: i64) -> Incidence
     requires { ⌜ i * 32 + 32 ≤ length (now edges) ⌝ }
     ensures { λ r. ⌜ r ≡ startSides (now (edges .entry)) i node a b ⌝ }
 {
@@ -62,7 +62,7 @@ fn start_half(edges: &[i64], i: usize, node: i64, a: i64, b: i64) -> Sides
     let next_right = edges[i * map::EDGE_WIDTH + map::NEXT_RIGHT];
     let left = edges[i * map::EDGE_WIDTH + map::LEFT];
     let right = edges[i * map::EDGE_WIDTH + map::RIGHT];
-    Sides {
+    Incidence {
         number: a,
         start,
         end: node,
@@ -73,7 +73,7 @@ fn start_half(edges: &[i64], i: usize, node: i64, a: i64, b: i64) -> Sides
     }
 }
 
-fn end_half(edges: &[i64], i: usize, node: i64, a: i64, b: i64) -> Sides
+fn end_half(edges: &[i64], i: usize, node: i64, a: i64, b: i64) -> Incidence
     requires { ⌜ (i * 32 + 32 ≤ length (now edges)) × (nonNeg a ≡ true) ⌝ }
     ensures { λ r. ⌜ r ≡ endSides (now (edges .entry)) i node a b ⌝ }
 {
@@ -81,7 +81,7 @@ fn end_half(edges: &[i64], i: usize, node: i64, a: i64, b: i64) -> Sides
     let next_left = edges[i * map::EDGE_WIDTH + map::NEXT_LEFT];
     let left = edges[i * map::EDGE_WIDTH + map::LEFT];
     let right = edges[i * map::EDGE_WIDTH + map::RIGHT];
-    Sides {
+    Incidence {
         number: b,
         start: node,
         end,
@@ -93,7 +93,7 @@ fn end_half(edges: &[i64], i: usize, node: i64, a: i64, b: i64) -> Sides
 }
 
 // A row in the place of row i or, where its number goes, last.
-fn place(edges: &mut [i64], e: usize, i: usize, keeps: bool, s: Sides, l: Line)
+fn place(edges: &mut [i64], e: usize, i: usize, keeps: bool, s: Incidence, l: Line)
     requires { ⌜ (i < e) × (e * 32 ≤ length (now edges)) × (l .count ≤ 1000) ⌝ }
     ensures { λ r. ⌜ now (edges .exit) ≡ placed keeps (now (edges .entry)) e i (cellsOf s l) ⌝ }
 {
@@ -127,7 +127,7 @@ fn lies_on(edges: &[i64], i: usize, p: Point) -> bool
     requires { ⌜ EdgeRow (now edges) i × InRange p ⌝ }
     ensures { λ r. ⌜ r ≡ onCurve (edgeAt (now (edges .entry)) i .curve) p ⌝ }
 {
-    reason_curves::on_curve(tables::curve_of(edges, i), p)
+    reason_curves::on_curve(map_rows::curve_of(edges, i), p)
 }
 
 // 5, 10 or 13 against the point, of edge row i; 0 for none.

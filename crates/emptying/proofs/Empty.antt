@@ -10,10 +10,12 @@ use lib.ListN.{length, replicate, drop-of-length-le}
 use lib.Seq.{paste, take-all}
 use Rattle.map.specs.declared.Head.{Head}
 use Rattle.map.specs.Limits.{maxNodes, maxEdges, maxFaces, nodeWidth, edgeWidth, faceWidth}
-use Rattle.map.specs.Rows.{Lent, emptyMap, lentOf, sizesOf, filled, wholeRows, whole}
+use Rattle.map.specs.Rows.{Lent, emptyMap, lentOf, sizesOf, whole}
+use Rattle.tables.specs.Tables.{filled, wholeRows}
 use Rattle.map.specs.Reasons.{firstReason}
 use Rattle.map.specs.Ticket.{emptied, refused}
-use Rattle.map.proofs.RoundTrip.{whole-rows, whole-tables}
+use Rattle.map.proofs.RoundTrip.{whole-tables}
+use Rattle.tables.proofs.Filled.{whole-rows}
 use Rattle.form_ranges.specs.Ranges.{lent}
 use Rattle.outcomes.proofs.Formed.{lent-is}
 

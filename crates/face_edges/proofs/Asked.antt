@@ -22,9 +22,10 @@ use Rattle.map.specs.Form.{formed, inForm}
 use Rattle.map.specs.Reasons.{firstReason, noFace}
 use Rattle.map.specs.Ticket.{Listed, ringNumbers, faceEdges, edgesOfFace}
 use Rattle.map.proofs.Linked as form-linked
-use Rattle.tables.specs.Tables.{sameZ, column, faceAt, edgeMap}
-use Rattle.tables.proofs.Rows.{face-number-in}
-use Rattle.tables.proofs.Lookups.{face-found, face-missing}
+use Rattle.tables.specs.Tables.{sameZ, column}
+use Rattle.map_rows.specs.Rows.{faceAt, edgeMap}
+use Rattle.map_rows.proofs.Rows.{face-number-in}
+use Rattle.map_rows.proofs.Lookups.{face-found, face-missing}
 use Rattle.form_ranges.specs.Ranges.{lent, countsOf, mapIn}
 use Rattle.form_ranges.proofs.Parts.{face-rows, edge-rows, map-is}
 use Rattle.form.proofs.Parts.{InForm, whole-room}

@@ -18,14 +18,14 @@ use Rattle.planar_maps.specs.Map.{Dart}
 use Rattle.planar_maps.specs.Rings.{Leads}
 use Rattle.planar_maps.proofs.Rings.{next-in}
 use Rattle.planar_maps.proofs.Leads.{leads-join, leads-keep}
+use Rattle.tables.proofs.Order.{rise, lt-or-ge}
 use Rattle.curves.proofs.Runs.{and-left, and-right}
 use Rattle.map.specs.Limits.{edgeWidth}
 use Rattle.map.specs.Rows.{Map}
 use Rattle.map.specs.Darts.{directed, next, bears, ring, among, lower}
 use Rattle.map_laws.proofs.Rings.{among-has, among-in, ring-has, ring-leads, leads-back}
-use Rattle.tables.specs.Tables.{edgeAt, edgeMap}
-use Rattle.tables.proofs.Order.{rise, lt-or-ge}
-use Rattle.tables.proofs.Rows.{edge-rows-rising}
+use Rattle.map_rows.specs.Rows.{edgeAt, edgeMap}
+use Rattle.map_rows.proofs.Rows.{edge-rows-rising}
 use Rattle.darts.specs.Positions.{dartAt}
 use Rattle.darts.proofs.Positions.{side, even-of, odd-of, cells-of, number-injective, position-in}
 use Rattle.form_links.proofs.Links.{has-position}

@@ -19,8 +19,8 @@ use Rattle.planar_maps.specs.Rings.{sameDart}
 use Rattle.map.specs.Rows.{Map, dartCell}
 use Rattle.map.specs.Darts.{next, bears, stepsTo, ring, firsts}
 use Rattle.map.specs.Ticket.{ringNumbers, faceEdges}
-use Rattle.tables.specs.Tables.{edgeMap}
-use Rattle.tables.proofs.Rows.{edges-length}
+use Rattle.map_rows.specs.Rows.{edgeMap}
+use Rattle.map_rows.proofs.Rows.{edges-length}
 use Rattle.darts.specs.Positions.{dartAt}
 use Rattle.darts.proofs.Positions.{directed-table}
 use Rattle.form_links.proofs.Links.{zeros}

@@ -14,7 +14,7 @@ use Rattle.planar_maps.specs.Map.{Dart, Linked}
 use Rattle.planar_maps.specs.Pieces.{nums}
 use Rattle.map.specs.Darts.{arcs, leaves, next, bears, ring, among, lower}
 use Rattle.map.specs.Ticket.{ringNumbers}
-use Rattle.tables.specs.Tables.{EdgeRows, edgeMap}
+use Rattle.map_rows.specs.Rows.{EdgeRows, edgeMap}
 use Rattle.darts.specs.Positions.{dartAt}
 
 -- edge rows whose rings part the directed edges, and bear one face each

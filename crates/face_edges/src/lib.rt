@@ -8,7 +8,7 @@ ghost use Prim.Native.Nat.{_+_, _*_, _≤_, _<_};
 ghost use lib.ListN.{length, drop};
 ghost use Rattle.map.specs.Limits.{lastNumber};
 ghost use Rattle.map.specs.Ticket.{faceEdges, edgesOfFace};
-ghost use Rattle.tables.specs.Tables.{edgeMap};
+ghost use Rattle.map_rows.specs.Rows.{edgeMap};
 ghost use Rattle.form_ranges.specs.Ranges.{lent};
 ghost use Rattle.face_edges.specs.Listing.{Rings, Marked, Size};
 

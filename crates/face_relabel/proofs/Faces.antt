@@ -4,91 +4,64 @@ use mathlib.Core.Bool.{Bool, true, false, cond, _&&_, true≢false, false≢true
 use mathlib.Core.Logic.{inl, inr}
 use mathlib.Core.List.{List}
 use mathlib.Core.Option.{Option, none, Option·getD}
-use Prim.Native.Nat.{ℕ, zero, suc, _+_, _*_, _-_, _≤_, _<_}
+use Prim.Native.Nat.{ℕ, zero, suc, _+_, _*_, _≤_, _<_}
 use native.Mathlib.Omega.{arith}
-use native.Mathlib.Nat.{lt-of-le-of-lt}
-use lib.Dec.{T, leb, lit<}
+use lib.Dec.{T, lit<}
 use lib.IntN.{ℤ, pos, negsuc, natAbs}
 use lib.ListN.{length, getD, set, length-set}
 use lib.Seq.{getD-set-other, set-getD}
 use lib.Signed.{nonNeg, leZ, pos-natAbs}
-use mir.Syntax.{w64}
-use mir.Val.{toZ, ofZ, Fits}
-use mir.Facts.{fits-of-lt}
-use borrow.Author.Tests.{leb-true}
-use Rattle.integers.specs.Signs.{sent}
 use Rattle.lists.specs.Tests.{same}
 use Rattle.lists.specs.Scans.{allOf, isSome}
 use Rattle.lists.specs.Tables.{sweep, place}
 use Rattle.lists.specs.declared.Found.the-variants.{At, Missing}
 use Rattle.lists.proofs.Bools.{which, same-eq, same-false}
 use Rattle.plane.specs.declared.Point.{Point}
-use Rattle.plane.specs.Points.{maxCoordinate, origin}
+use Rattle.plane.specs.Points.{origin}
 use Rattle.curves.specs.Curves.{point, coordinate}
-use Rattle.curves.proofs.Runs.{and-left, and-right}
+use Rattle.curves.proofs.Runs.{and-left}
 use Rattle.planar_maps.specs.Map.{Dart}
 use Rattle.map.specs.Limits.{nodeWidth, edgeWidth}
-use Rattle.map.specs.Rows.{Node, Edge, cell, nodeOf, node, edge, hasNode}
+use Rattle.map.specs.Rows.{Node, Edge, nodeOf, node, edge, hasNode}
+use Rattle.tables.specs.Tables.{sameZ, column, rowAt, cell}
 use Rattle.map.specs.Darts.{next, bears, course, ring, among, lowestEdge}
-use Rattle.map.specs.Form.{nodeRanges}
 use Rattle.map.specs.Faces as faces
 use Rattle.map.specs.Edits.{sideOfPoint, sideOfRing, sideOfDart}
-use Rattle.tables.specs.Tables.{NodeRows, sameZ, column, rowAt, nodeAt, nodeMap, edgeAt, edgeMap}
-use Rattle.tables.proofs.Cells.{row-room}
+use Rattle.map_rows.specs.Rows.{NodeRow, nodeAt, nodeMap, edgeAt, edgeMap}
 use Rattle.tables.proofs.Order.{is-same, not-same, same-is}
-use Rattle.tables.proofs.Rows.{row-cell, rows-all, all-table, edges-table}
-use Rattle.tables.proofs.Lookups.{node-found, node-missing}
+use Rattle.tables.proofs.Rows.{row-cell, all-table}
+use Rattle.map_rows.proofs.Rows.{edges-table}
+use Rattle.map_rows.proofs.Lookups.{node-found, node-missing}
 use Rattle.darts.specs.Positions.{dartAt, sidePlace, sideCell}
 use Rattle.darts.proofs.Positions.{cells-of, cell-bears}
 use Rattle.face_relabel.specs.declared.Sides.{Sides}
 use Rattle.form_links.specs.Drawn.{drawnMap}
-use Rattle.face_relabel.specs.Sharing.{Shared, Placed, placeAt, encloses, startOf, ringMark, sharesOf, nodeShared}
+use Rattle.face_relabel.specs.Sharing.{Shared, encloses, startOf, ringMark, sharesOf, nodeShared}
 use Rattle.face_relabel.specs.Sharing.{sideShared, edgeShared}
 use Rattle.face_relabel.proofs.Rings.{ring-same}
 
--- ---- the point of a node row
+-- ---- a node row that is as it was
 
-pub place-is : (l : List ℤ) (i : ℕ) → nodeAt l i .at ≡ placeAt l i
-unfolding nodeOf
-place-is l i = λ j. point (row-cell nodeWidth l i 1 (lit< tt) j) (row-cell nodeWidth l i 2 (lit< tt) j)
+module _ (l t : List ℤ) (i : ℕ) (kept : (j : ℕ) → i * nodeWidth ≤ j → getD t j (pos 0) ≡ getD l j (pos 0)) where
+  cell-kept : (k : ℕ) → k < nodeWidth → cell (rowAt nodeWidth t i) k ≡ cell (rowAt nodeWidth l i) k
+  cell-kept k h = row-cell nodeWidth t i k h ∙ kept (i * nodeWidth + k) (omega arith) ∙ sym (row-cell nodeWidth l i k h)
 
-pub placed-of : {l : List ℤ} {n : ℕ} → NodeRows l n → (i : ℕ) → i < n → Placed l i
-placed-of {l} {n} t i h =
-    let r = rowAt nodeWidth l i in
-    let a = nonNeg (cell r 0) in
-    let b = coordinate (cell r 1) in
-    let c = coordinate (cell r 2) in
-    let k = and-left (a && b && c) (leZ (negsuc 0) (cell r 3)) (rows-all nodeWidth l nodeRanges n (t .ranges) i h) in
-    record {
-      fits = let f = t .fits in let w = row-room nodeWidth n i h in omega arith;
-      x = ap coordinate (sym (row-cell nodeWidth l i 1 (lit< tt))) ∙ and-right a b (and-left (a && b) c k);
-      y = ap coordinate (sym (row-cell nodeWidth l i 2 (lit< tt))) ∙ and-right (a && b) c k;
-    }
+  pub row-kept : length t ≡ length l → NodeRow l i → NodeRow t i
+  row-kept size r =
+      let a = cell-kept 0 (lit< tt) in
+      let b = cell-kept 1 (lit< tt) in
+      let c = cell-kept 2 (lit< tt) in
+      let d = cell-kept 3 (lit< tt) in
+      record {
+        fits = let f = r .fits in omega arith;
+        ranges = (λ j. nonNeg (a j) && coordinate (b j) && coordinate (c j) && leZ (negsuc 0) (d j)) ∙ r .ranges;
+      }
 
--- a row that is as it was
-pub placed-kept : (l t : List ℤ) (i : ℕ) → length t ≡ length l
-    → ((j : ℕ) → i * nodeWidth ≤ j → getD t j (pos 0) ≡ getD l j (pos 0)) → Placed l i → Placed t i
-placed-kept l t i size kept p =
-    record {
-      fits = let f = p .fits in omega arith;
-      x = ap coordinate (kept (i * nodeWidth + 1) (omega arith)) ∙ p .x;
-      y = ap coordinate (kept (i * nodeWidth + 2) (omega arith)) ∙ p .y;
-    }
+  point-kept : nodeAt t i .at ≡ nodeAt l i .at
+  unfolding nodeOf
+  point-kept = λ j. point (cell-kept 1 (lit< tt) j) (cell-kept 2 (lit< tt) j)
 
--- a coordinate read back from its bits
-pub record Read (z : ℤ) : Type 0 where
-  pub back : toZ w64 (ofZ w64 z) ≡ z
-  pub natural : T (nonNeg z)
-  pub small : natAbs z ≤ maxCoordinate
-
-pub coordinate-read : (z : ℤ) → coordinate z ≡ true → Read z
-coordinate-read (pos k) e =
-    let h = leb-true k maxCoordinate (and-right (leZ (pos 0) (pos k)) (leb k maxCoordinate) e) in
-    record { back = sent {z = pos k} (lt-of-le-of-lt h (lit< tt)); natural = tt; small = h }
-coordinate-read (negsuc k) e = absurd (false≢true e)
-
-pub read-cast : {z : ℤ} → Read z → T (nonNeg (toZ w64 (ofZ w64 z))) × Fits w64 (natAbs (toZ w64 (ofZ w64 z)))
-read-cast r = rw (r .back) (r .natural, fits-of-lt (lt-of-le-of-lt (r .small) (lit< tt)))
+-- ---- sides
 
 -- the start node of edge row i, looked up
 module _ (ns : List ℤ) (n : ℕ) (l : List ℤ) (e : ℕ) (s : Sides) (h : Shared ns n l e s) (i : ℕ) (hi : i < e) where
@@ -96,14 +69,13 @@ module _ (ns : List ℤ) (n : ℕ) (l : List ℤ) (e : ℕ) (s : Sides) (h : Sha
   start-cell = cells-of (h .edges) i hi .start
 
   pub start-found : (k : ℕ) → place (sameZ (getD l (i * edgeWidth + 1) (pos 0))) 0 (column nodeWidth ns n) ≡ At k
-      → (k < n) × (startOf ns n (edgeAt l i) ≡ placeAt ns k)
+      → (k < n) × (startOf ns n (edgeAt l i) ≡ nodeAt ns k .at)
   unfolding node
   start-found k f =
       let r = node-found ns n (h .nodes .ranges) (pos (edgeAt l i .start)) k
       (ap (λ (z : ℤ). place (sameZ z) 0 (column nodeWidth ns n)) (sym start-cell) ∙ f) in (
         r .0,
-        ap (λ (o : Option Node). Option·getD o (record { number = 0; at = origin; face = none }) .at) (r .2)
-            ∙ place-is ns k,
+        ap (λ (o : Option Node). Option·getD o (record { number = 0; at = origin; face = none }) .at) (r .2),
       )
 
   pub start-there : place (sameZ (getD l (i * edgeWidth + 1) (pos 0))) 0 (column nodeWidth ns n) ≡ Missing → ⊥
@@ -208,13 +180,12 @@ module _ (ns : List ℤ) (n : ℕ) (l : List ℤ) (e : ℕ) where
 
 module _ (ns : List ℤ) (n : ℕ) (l : List ℤ) (e : ℕ) (s : Sides) (h : Shared ns n l e s) (t : List ℤ) (i : ℕ) where
   pub node-hit : getD t (i * nodeWidth + 3) (pos 0) ≡ s .old
-      → ((j : ℕ) → i * nodeWidth ≤ j → getD t j (pos 0) ≡ getD ns j (pos 0)) → (q : Point) → q ≡ placeAt t i → (v : ℤ)
+      → ((j : ℕ) → i * nodeWidth ≤ j → getD t j (pos 0) ≡ getD ns j (pos 0)) → (q : Point) → q ≡ nodeAt t i .at
+      → (v : ℤ)
       → v ≡ cond (encloses l e (s .ring) q) (s .inside) (s .other)
       → set t (i * nodeWidth + 3) v ≡ nodeShared ns n l e s t i
   node-hit is kept q eq v ev =
-      let at : q ≡ nodeAt ns i .at = eq
-      ∙ (λ k. point (kept (i * nodeWidth + 1) (omega arith) k) (kept (i * nodeWidth + 2) (omega arith) k))
-      ∙ sym (place-is ns i) in
+      let at : q ≡ nodeAt ns i .at = eq ∙ point-kept ns t i kept in
       let side : Point → ℕ = sideOfPoint (drawnMap ns n l e) (sharesOf ns n l e s (s .ring)) in
       ap (set t (i * nodeWidth + 3)) (ev ∙ point-side ns n l e s h (s .ring) q ∙ ap (λ (p : Point). pos (side p)) at)
       ∙ sym (ap (λ (b : Bool). cond b (set t (i * nodeWidth + 3) (pos (side (nodeAt ns i .at)))) t)

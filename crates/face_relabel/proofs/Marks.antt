@@ -16,13 +16,13 @@ use Rattle.lists.specs.Members.{Distinct}
 use Rattle.lists.proofs.Bools.{which, equal?, same-true, same-eq}
 use Rattle.lists.proofs.Rising.{rising, rising-distinct}
 use Rattle.planar_maps.specs.Map.{Dart}
+use Rattle.tables.proofs.Order.{rise, lt-or-ge}
 use Rattle.map.specs.Limits.{edgeWidth, lastNumber}
 use Rattle.map.specs.Rows.{Edge, edge}
 use Rattle.map.specs.Darts.{directed, ring, among, lowestEdge}
 use Rattle.map_laws.proofs.Rings.{among-has}
-use Rattle.tables.specs.Tables.{EdgeRows, edgesOf, edgeMap, edgeAt}
-use Rattle.tables.proofs.Order.{rise, lt-or-ge}
-use Rattle.tables.proofs.Rows.{edge-rows-rising}
+use Rattle.map_rows.specs.Rows.{EdgeRows, edgesOf, edgeMap, edgeAt}
+use Rattle.map_rows.proofs.Rows.{edge-rows-rising}
 use Rattle.darts.specs.Positions.{dartAt, sideCell}
 use Rattle.darts.proofs.Positions.{directed-table, cells-of, edge-of, position-in, cell-bears}
 use Rattle.face_relabel.specs.Sharing.{Ringed, Whole, encloses, markOf, startOf, ringMark}

@@ -11,14 +11,14 @@ use lib.Signed.{nonNeg}
 use Rattle.lists.specs.Tests.{same}
 use Rattle.lists.specs.Scans.{allOf}
 use Rattle.plane.specs.declared.Point.{Point}
-use Rattle.curves.specs.Curves.{point, coordinate}
 use Rattle.map.specs.Limits.{nodeWidth, maxEdges}
 use Rattle.map.specs.Rows.{Edge, hasNode, node, edge}
 use Rattle.map.specs.Darts.{ring, among, lowestEdge}
 use Rattle.map.specs.Faces as faces
 use Rattle.map.specs.Form.{linksOnce, ringsBearOne}
 use Rattle.map.specs.Edits.{Shares, sideOfPoint, sideOfDart}
-use Rattle.tables.specs.Tables.{NodeRows, EdgeRows, sameZ, nodeAt, nodeMap, edgeMap, edgesOf}
+use Rattle.tables.specs.Tables.{sameZ}
+use Rattle.map_rows.specs.Rows.{NodeRows, EdgeRows, nodeAt, nodeMap, edgeMap, edgesOf}
 use Rattle.darts.specs.Positions.{dartAt, sidePlace, sideCell}
 use Rattle.form_links.specs.Drawn.{drawnMap}
 use Rattle.face_relabel.specs.declared.Sides.{Sides}
@@ -64,15 +64,6 @@ edgeShared nodes n edges e s across t p =
     (dartAt edges p)))
 
 -- ---- the functions below
-
--- node row i has a point in range
-pub record Placed (l : List ℤ) (i : ℕ) : Type 0 where
-  pub fits : i * nodeWidth + nodeWidth ≤ length l
-  pub x : coordinate (getD l (i * nodeWidth + 1) (pos 0)) ≡ true
-  pub y : coordinate (getD l (i * nodeWidth + 2) (pos 0)) ≡ true
-
-abbrev pub placeAt : List ℤ → ℕ → Point
-placeAt l i = point (getD l (i * nodeWidth + 1) (pos 0)) (getD l (i * nodeWidth + 2) (pos 0))
 
 -- the ring of position p encloses a point
 abbrev pub encloses : List ℤ → ℕ → ℕ → Point → Bool

@@ -7,12 +7,13 @@ ghost use Prim.Native.Nat.{ℕ, _+_, _*_, _≤_, _<_};
 ghost use lib.ListN.{getD, length};
 ghost use Rattle.lists.specs.Tests.{same};
 ghost use Rattle.lists.specs.Tables.{sweep};
+ghost use Rattle.tables.specs.Tables.{replaceAt};
 ghost use Rattle.plane.specs.Points.{InRange};
 ghost use Rattle.map.specs.Limits.{nodeWidth, edgeWidth};
-ghost use Rattle.tables.specs.Tables.{EdgeRows, replaceAt, edgeAt};
+ghost use Rattle.map_rows.specs.Rows.{EdgeRows, edgeAt};
 ghost use Rattle.darts.specs.Positions.{sideCell};
-ghost use Rattle.face_relabel.specs.Sharing.{Ringed, Shared, Placed, placeAt, Whole, encloses as enclosedBy};
-ghost use Rattle.face_relabel.specs.Sharing.{startOf, markOf, ringMark, sideShared, nodeShared, edgeShared};
+ghost use Rattle.face_relabel.specs.Sharing.{Ringed, Shared, Whole, encloses as enclosedBy, startOf, markOf};
+ghost use Rattle.face_relabel.specs.Sharing.{ringMark, sideShared, nodeShared, edgeShared};
 
 // A face to share out: its number, a directed edge on the reference side and its ring's numbers for the two sides.
 pub struct Sides {
@@ -34,19 +35,6 @@ fn side_of(edges: &[i64], count: usize, s: Sides, q: Point) -> i64
     }
 }
 
-// The point of node row i.
-fn point_in(nodes: &[i64], i: usize) -> Point
-    requires { ⌜ Placed (now nodes) i ⌝ }
-    ensures { λ r. ⌜ (r ≡ placeAt (now (nodes .entry)) i) × InRange r ⌝ }
-{
-    let x = nodes[i * map::NODE_WIDTH + map::X];
-    let y = nodes[i * map::NODE_WIDTH + map::Y];
-    Point {
-        x: x as u64,
-        y: y as u64,
-    }
-}
-
 // Shares out the isolated nodes of the old face: each gets the number of its side.
 pub fn share_nodes(nodes: &mut [i64], n: usize, edges: &[i64], count: usize, s: Sides)
     requires { ⌜ Shared (now nodes) n (now edges) count s ⌝ }
@@ -56,7 +44,7 @@ pub fn share_nodes(nodes: &mut [i64], n: usize, edges: &[i64], count: usize, s: 
 {
     for i in 0..n {
         if nodes[i * map::NODE_WIDTH + map::NODE_FACE] == s.old {
-            let side = side_of(edges, count, s, point_in(nodes, i));
+            let side = side_of(edges, count, s, map_rows::node_point(nodes, i));
             nodes[i * map::NODE_WIDTH + map::NODE_FACE] = side;
         }
     }
@@ -79,7 +67,7 @@ fn mark_of_ring(nodes: &[i64], n: usize, edges: &[i64], count: usize, s: Sides, 
     let Found::At(k) = found else {
         return 2;
     };
-    if rings::encloses(edges, count, s.ring, point_in(nodes, k)) {
+    if rings::encloses(edges, count, s.ring, map_rows::node_point(nodes, k)) {
         1
     } else {
         2

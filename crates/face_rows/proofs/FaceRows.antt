@@ -16,17 +16,20 @@ use Rattle.lists.specs.Tables.{place}
 use Rattle.lists.specs.declared.Found.the-variants.{At, Missing}
 use Rattle.lists.proofs.Bools.{which, same-true, same-eq, same-false, differ}
 use Rattle.lists.proofs.Keeps.{keep-all}
-use Rattle.map.specs.Limits.{faceWidth, lastNumber}
-use Rattle.map.specs.Rows.{rows, faceCells, faceRowOf}
-use Rattle.map.specs.Form.{faceRanges, numbered}
-use Rattle.map.proofs.RoundTrip.{filled-length}
-use Rattle.lists.proofs.Rising as scanning
-use Rattle.tables.specs.Tables.{FaceRows, Rising, sameZ, column, facesOf, closed}
-use Rattle.tables.proofs.Rows.{faces-getD}
-use Rattle.tables.proofs.Lookups.{face-found, face-missing}
+use Rattle.tables.specs.Tables.{Rising, sameZ, column, closed, rows, numbered}
+use Rattle.tables.proofs.Filled.{filled-length, rows-flat, flat-length}
 use Rattle.tables.proofs.Numbers.{without-at}
-use Rattle.tables.proofs.Writes.{rows-flat, flat-length, faces-wide, pushed, removed-at}
+use Rattle.tables.proofs.Writes.{pushed, removed-at}
+use Rattle.map.specs.Limits.{faceWidth, lastNumber}
+use Rattle.map.specs.Rows.{faceCells, faceRowOf}
+use Rattle.map.specs.Form.{faceRanges}
+use Rattle.map.proofs.RoundTrip.{faces-wide}
+use Rattle.map_rows.specs.Rows.{FaceRows, facesOf}
+use Rattle.map_rows.proofs.Rows.{faces-getD}
+use Rattle.map_rows.proofs.Lookups.{face-found, face-missing}
 use Rattle.face_rows.specs.Holds.{facesIn, FaceTable, withoutFace}
+use Rattle.lists.proofs.Rising as scanning
+use Rattle.lists.proofs.Rising as scanning
 
 -- ---- a table read
 

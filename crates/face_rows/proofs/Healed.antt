@@ -11,24 +11,26 @@ use Rattle.lists.specs.Tests.{same, bit}
 use Rattle.lists.specs.Scans.{allOf, find, isSome, firstOr, keep}
 use Rattle.lists.proofs.Scans.{getD-table}
 use Rattle.lists.proofs.Lookups.{has-map}
+use Rattle.tables.specs.Tables.{rows, filled, numbered}
+use Rattle.tables.proofs.Writes.{wide-map}
+use Rattle.tables.proofs.Filled.{Wide, rows-flat, filled-long}
 use Rattle.map.specs.declared.Head.{Head}
 use Rattle.map.specs.Limits.{edgeWidth, lastNumber}
-use Rattle.map.specs.Rows.{Node, Edge, Map, rows, filled, nodeCells, edgeCells, edgeOf, mapOf, edge, hasEdge, setFaces}
-use Rattle.map.specs.Rows.{given, atNodes}
+use Rattle.map.specs.Rows.{Node, Edge, Map, nodeCells, edgeCells, edgeOf, mapOf, edge, hasEdge, setFaces, given}
+use Rattle.map.specs.Rows.{atNodes}
 use Rattle.map.specs.Darts.{leaves, next, departures}
 use Rattle.map.specs.Links.{redirect, unlinkEdge}
-use Rattle.map.specs.Form.{edgeRanges, numbered}
+use Rattle.map.specs.Form.{edgeRanges}
 use Rattle.map.specs.Edits.{withSides, undrawn, renamed, renamedNode, renamedFaces, makesFace, faceLeft, removeEdge}
-use Rattle.tables.specs.Tables.{NodeRows, EdgeRows, nodesOf, edgesOf, facesOf, edgeMap, edgeAt}
-use Rattle.tables.proofs.Rows.{nodes-length, edges-length, edge-numbers}
-use Rattle.tables.proofs.Writes.{Wide, rows-flat, table-edges-wide, wide-map}
+use Rattle.map_rows.specs.Rows.{NodeRows, EdgeRows, nodesOf, edgesOf, facesOf, edgeMap, edgeAt}
+use Rattle.map_rows.proofs.Rows.{nodes-length, edges-length, edge-numbers}
+use Rattle.map_rows.proofs.RowCurves.{table-edges-wide}
 use Rattle.form_ranges.specs.Ranges.{lent}
-use Rattle.outcomes.proofs.Filled.{filled-long}
-use native.Mathlib.Nat.{zero-add}
 use Rattle.face_rows.specs.Holds.{Held, Holds, faceKept, healed}
 use Rattle.face_rows.proofs.FaceRows.{faces-read}
 use Rattle.face_rows.proofs.Renames.{sides-wide, map-size}
 use Rattle.face_rows.proofs.Shares.{node-rows-after, nodes-after, long-after}
+use native.Mathlib.Nat.{zero-add}
 
 -- ---- the edge undrawn
 

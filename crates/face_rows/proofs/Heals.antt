@@ -14,15 +14,17 @@ use borrow.Author.Tests.{ltb-true, ltb-false}
 use Rattle.lists.specs.Tests.{same, bit}
 use Rattle.lists.specs.Scans.{anyOf, keep}
 use Rattle.lists.proofs.Bools.{which, same-true, same-refl, same-false, differ}
+use Rattle.tables.specs.Tables.{filled}
 use Rattle.map.specs.declared.Head.{Head}
-use Rattle.map.specs.Rows.{Edge, mapOf, headOf, filled, nodeCells, edgeCells}
+use Rattle.map.specs.Rows.{Edge, mapOf, headOf, nodeCells, edgeCells}
 use Rattle.map.specs.Edits.{renamed, renamedNode, renamedFaces, withSides}
-use Rattle.lists.proofs.Rising as scanning
-use Rattle.tables.specs.Tables.{nodesOf, edgesOf, facesOf}
-use Rattle.tables.proofs.Rows.{nodes-length, edges-length, faces-length}
+use Rattle.map_rows.specs.Rows.{nodesOf, edgesOf, facesOf}
+use Rattle.map_rows.proofs.Rows.{nodes-length, edges-length, faces-length}
 use Rattle.form_ranges.specs.Ranges.{lent}
 use Rattle.face_rows.specs.Holds.{facesIn, FaceTable, withoutFace, Healable, Holds, healedHead, faceKept, healed}
 use Rattle.face_rows.proofs.FaceRows.{table-rising, table-distinct, without-length, still-there}
+use Rattle.lists.proofs.Rising as scanning
+use Rattle.lists.proofs.Rising as scanning
 
 -- ---- the map that is lent
 

@@ -12,12 +12,16 @@ use Rattle.lists.specs.Tests.{same}
 use Rattle.lists.specs.Tables.{sweep}
 use Rattle.lists.proofs.Bools.{which}
 use Rattle.map.specs.Limits.{nodeWidth, edgeWidth}
-use Rattle.map.specs.Rows.{Node, Edge, Map, filled, nodeCells, edgeCells, faceCell}
+use Rattle.map.specs.Rows.{Node, Edge, Map, nodeCells, edgeCells, faceCell}
+use Rattle.tables.specs.Tables.{replaceAt, filled}
 use Rattle.map.specs.Edits.{withFace, withSides, renamed, renamedNode, renamedFaces}
-use Rattle.tables.specs.Tables.{replaceAt, nodesOf, edgesOf, EdgeRows}
+use Rattle.map_rows.specs.Rows.{nodesOf, edgesOf, EdgeRows}
 use Rattle.tables.proofs.Order.{same-pos}
-use Rattle.tables.proofs.Rows.{nodes-length, edges-length}
-use Rattle.tables.proofs.Writes.{Wide, column-swept, nodes-wide, table-edges-wide, wide-map}
+use Rattle.map_rows.proofs.Rows.{nodes-length, edges-length}
+use Rattle.tables.proofs.Writes.{column-swept, wide-map}
+use Rattle.tables.proofs.Filled.{Wide}
+use Rattle.map.proofs.RoundTrip.{nodes-wide}
+use Rattle.map_rows.proofs.RowCurves.{table-edges-wide}
 
 -- f for the face o
 abbrev once : ℕ → ℕ → ℕ → ℕ

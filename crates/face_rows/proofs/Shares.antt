@@ -17,26 +17,28 @@ use Rattle.lists.specs.Tables.{sweep}
 use Rattle.lists.proofs.Bools.{which}
 use Rattle.lists.proofs.Lookups.{has-map}
 use Rattle.planar_maps.specs.Map.{Dart, fwd, bwd, rev}
+use Rattle.tables.specs.Tables.{sameZ, rows, filled, numbered}
+use Rattle.tables.proofs.Rows.{map-table}
+use Rattle.tables.proofs.Writes.{set-mid}
+use Rattle.tables.proofs.Filled.{rows-flat, filled-long}
+use Rattle.tables.proofs.Order.{same-pos}
 use Rattle.plane.specs.declared.Point.{Point}
 use Rattle.plane.specs.Points.{origin}
 use Rattle.curves.specs.Curves.{coordinate}
 use Rattle.curves.proofs.Runs.{and-left, and-right}
 use Rattle.map.specs.Limits.{nodeWidth, edgeWidth, lastNumber}
-use Rattle.map.specs.Rows.{Node, Edge, Map, rows, filled, nodeCells, edgeCells, faceCell, nodeOf, node, edge, hasNode}
+use Rattle.map.specs.Rows.{Node, Edge, Map, nodeCells, edgeCells, faceCell, nodeOf, node, edge, hasNode}
 use Rattle.map.specs.Darts.{next, bears, course, ring, among, lowestEdge}
 use Rattle.map.specs.Faces.{encloses}
-use Rattle.map.specs.Form.{nodeRanges, numbered}
+use Rattle.map.specs.Form.{nodeRanges}
 use Rattle.map.specs.Edits.{Shares, sideOfPoint, sideOfRing, sideOfDart, sideOfNode, withFace, withSides, sharedOut}
-use Rattle.map.proofs.RoundTrip.{node-back}
+use Rattle.map.proofs.RoundTrip.{node-back, nodes-wide, edge-wide}
 use Rattle.map_laws.proofs.Faces.{side-number}
-use Rattle.tables.specs.Tables.{NodeRows, sameZ, nodeAt, edgeAt, nodesOf, edgesOf, nodeMap}
-use Rattle.tables.proofs.Rows.{nodes-table, edges-table, nodes-length, map-table, edge-row}
-use Rattle.tables.proofs.RowCurves.{edge-few}
-use Rattle.tables.proofs.Writes.{rows-flat, nodes-wide, set-mid, edge-wide}
-use Rattle.tables.proofs.Order.{same-pos}
+use Rattle.map_rows.specs.Rows.{NodeRows, nodeAt, edgeAt, nodesOf, edgesOf, nodeMap}
+use Rattle.map_rows.proofs.Rows.{nodes-table, edges-table, nodes-length, edge-row}
+use Rattle.map_rows.proofs.RowCurves.{edge-few}
 use Rattle.darts.specs.Positions.{dartAt, reverseOf, sidePlace}
 use Rattle.darts.proofs.Positions.{dart-even, dart-odd, dart-reverse}
-use Rattle.outcomes.proofs.Filled.{filled-long}
 use Rattle.face_relabel.specs.declared.Sides.{Sides}
 use Rattle.face_relabel.specs.Sharing.{Shared, sharesOf, nodeShared, edgeShared}
 use Rattle.face_relabel.proofs.Rings.{ring-same}

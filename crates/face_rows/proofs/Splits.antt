@@ -16,12 +16,13 @@ use Rattle.lists.proofs.Counts.{bit-most}
 use Rattle.plane.specs.Areas.{isPositive}
 use Rattle.planar_maps.specs.Map.{Dart, fwd, bwd}
 use Rattle.map.specs.declared.Head.{Head}
-use Rattle.map.specs.Rows.{Edge, Map, mapOf, headOf, filled, nodeCells, edgeCells, edge, setFaces, given}
+use Rattle.map.specs.Rows.{Edge, Map, mapOf, headOf, nodeCells, edgeCells, edge, setFaces, given}
+use Rattle.tables.specs.Tables.{filled}
 use Rattle.map.specs.Darts.{bears, course, ring}
 use Rattle.map.specs.Faces.{ringArea}
 use Rattle.map.specs.Edits.{Shares, sideOfNode, sideOfDart, withSides, sharedOut, splitFace}
-use Rattle.tables.specs.Tables.{nodesOf, edgesOf, facesOf, edgeAt, edgeMap}
-use Rattle.tables.proofs.Rows.{nodes-length, edges-length, faces-length}
+use Rattle.map_rows.specs.Rows.{nodesOf, edgesOf, facesOf, edgeAt, edgeMap}
+use Rattle.map_rows.proofs.Rows.{nodes-length, edges-length, faces-length}
 use Rattle.darts.specs.Positions.{dartAt}
 use Rattle.darts.proofs.Positions.{dart-even, dart-odd, edge-of}
 use Rattle.form_ranges.specs.Ranges.{lent}

@@ -10,9 +10,9 @@ use lib.ListN.{length, getD, replicate, length-append, List·getD-append}
 use lib.Seq.{getD-append-add}
 use Rattle.lists.specs.Tables.{table, sweep}
 use Rattle.lists.proofs.Scans.{length-table}
-use Rattle.map.specs.Rows.{filled}
+use Rattle.tables.specs.Tables.{filled}
 use Rattle.tables.proofs.Rows.{each-table}
-use Rattle.tables.proofs.Writes.{flat-length}
+use Rattle.tables.proofs.Filled.{flat-length}
 
 -- number k of a row in the middle
 pub cell-mid : (p b rest : List ℤ) (m k : ℕ) → length p ≡ m → k < length b → getD (p ++ (b ++ rest)) (m + k) (pos 0)

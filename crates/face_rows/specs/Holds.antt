@@ -9,12 +9,12 @@ use Rattle.lists.specs.Tests.{same, bit}
 use Rattle.lists.specs.Scans.{anyOf, allOf, keep}
 use Rattle.map.specs.declared.Head.{Head}
 use Rattle.map.specs.Limits.{maxNodes, maxEdges, maxFaces, lastNumber}
-use Rattle.map.specs.Rows.{Edge, Map, filled, nodeCells, edgeCells, faceCells, headOf, hasNode, setFaces, given}
-use Rattle.map.specs.Form.{numbered}
+use Rattle.map.specs.Rows.{Edge, Map, nodeCells, edgeCells, faceCells, headOf, hasNode, setFaces, given}
+use Rattle.tables.specs.Tables.{filled, numbered}
 use Rattle.planar_maps.specs.Map.{Dart, rev}
 use Rattle.map.specs.Darts.{ring}
 use Rattle.map.specs.Edits.{Shares, renamed, renamedFaces}
-use Rattle.tables.specs.Tables.{NodeRows, EdgeRows, nodesOf, edgesOf, facesOf, edgeAt, nodeMap}
+use Rattle.map_rows.specs.Rows.{NodeRows, EdgeRows, nodesOf, edgesOf, facesOf, edgeAt, nodeMap}
 use Rattle.face_relabel.specs.declared.Sides.{Sides}
 use Rattle.face_relabel.specs.Sharing.{Ringed}
 

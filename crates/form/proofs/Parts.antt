@@ -17,9 +17,10 @@ use Rattle.map.specs.Darts.{leaves, next, bears, course, way, departures}
 use Rattle.map.specs.Form.{countsFit, nextsFit, curveFits, numbers, named, departuresDiffer, bareMarked, linksOnce}
 use Rattle.map.specs.Form.{linksMeet, ringsBearOne, formed, inForm}
 use Rattle.map.specs.Limits.{maxNodes, maxEdges, maxFaces, nodeWidth, edgeWidth, faceWidth}
-use Rattle.map.proofs.RoundTrip.{whole-rows, whole-tables}
-use Rattle.tables.specs.declared.Counts.{Counts}
-use Rattle.tables.specs.Tables.{edgesOf, nodeMap, edgeMap}
+use Rattle.map.proofs.RoundTrip.{whole-tables}
+use Rattle.tables.proofs.Filled.{whole-rows}
+use Rattle.map.specs.declared.Counts.{Counts}
+use Rattle.map_rows.specs.Rows.{edgesOf, nodeMap, edgeMap}
 use Rattle.form_ranges.specs.Ranges.{lent, countsOf, mapIn, rangedRows, Named}
 use Rattle.form_ranges.proofs.Parts.{ranged-is, map-is, curves-are, counted, counts-natural}
 use Rattle.form_links.specs.Drawn.{drawnMap}

@@ -23,12 +23,14 @@ use Rattle.curves.specs.Curves.{coordinate}
 use Rattle.curves.proofs.Runs.{and-left, and-right}
 use Rattle.planar_maps.specs.Map.{Dart}
 use Rattle.map.specs.Limits.{nodeWidth}
-use Rattle.map.specs.Rows.{Node, edge, cell, faceOf}
+use Rattle.map.specs.Rows.{Node, edge, faceOf}
+use Rattle.tables.specs.Tables.{sameZ, rowAt, cell}
 use Rattle.map.specs.Darts.{directed, leaves, departures, course, way}
 use Rattle.map.specs.Form.{nodeRanges, waysDiffer, departuresDiffer, bareMarked}
-use Rattle.tables.specs.Tables.{sameZ, rowAt, nodeAt, nodesOf, NodeRows, EdgeRows, edgeMap}
+use Rattle.map_rows.specs.Rows.{nodeAt, nodesOf, NodeRows, EdgeRows, edgeMap}
 use Rattle.tables.proofs.Order.{same-pos}
-use Rattle.tables.proofs.Rows.{all-table, nodes-table, rows-all, row-cell, node-cells, node-rows-rising}
+use Rattle.tables.proofs.Rows.{all-table, rows-all, row-cell}
+use Rattle.map_rows.proofs.Rows.{nodes-table, node-cells, node-rows-rising}
 use Rattle.darts.specs.Positions.{dartAt, wayAt, RowsNamed}
 use Rattle.darts.proofs.Positions.{directed-table, cell-leaves, way-is}
 use Rattle.form_links.specs.Chains.{startsIn, slot, repeats}

@@ -29,9 +29,11 @@ use Rattle.map.specs.Limits.{nodeWidth, faceWidth}
 use Rattle.map.specs.Rows.{Map}
 use Rattle.map.specs.Darts.{directed, leaves, arrives, next, bears}
 use Rattle.map.specs.Form.{linksOnce, linksMeet, ringsBearOne}
-use Rattle.tables.specs.Tables.{sameZ, edgeMap, NodeRows, EdgeRows, FaceRows}
+use Rattle.tables.specs.Tables.{sameZ}
+use Rattle.map_rows.specs.Rows.{edgeMap, NodeRows, EdgeRows, FaceRows}
 use Rattle.tables.proofs.Order.{lt-or-ge, same-pos}
-use Rattle.tables.proofs.Rows.{map-table, all-table, node-rows-rising, face-rows-rising}
+use Rattle.tables.proofs.Rows.{map-table, all-table}
+use Rattle.map_rows.proofs.Rows.{node-rows-rising, face-rows-rising}
 use Rattle.darts.specs.Positions.{reverseOf, dartAt, sideCell, RowsNamed, NextsNamed}
 use Rattle.darts.proofs.Positions.{directed-table, dart-injective, position-in, next-there, link-is, reverse-below}
 use Rattle.darts.proofs.Positions.{cell-leaves, cell-arrives, cell-bears}

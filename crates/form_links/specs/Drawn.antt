@@ -3,7 +3,7 @@ use mathlib.Core.List.{List, []}
 use Prim.Native.Nat.{ℕ}
 use lib.IntN.{ℤ}
 use Rattle.map.specs.Rows.{Map}
-use Rattle.tables.specs.Tables.{nodesOf, edgesOf}
+use Rattle.map_rows.specs.Rows.{nodesOf, edgesOf}
 
 abbrev pub drawnMap : List ℤ → ℕ → List ℤ → ℕ → Map
 drawnMap nodes n edges e = record {

@@ -17,15 +17,16 @@ use Rattle.lists.specs.Scans.{allOf, firstOr}
 use Rattle.curves.proofs.Runs.{and-left, and-right}
 use Rattle.map.specs.declared.Head.{Head}
 use Rattle.map.specs.Limits.{nodeWidth, edgeWidth, faceWidth, lastNumber}
-use Rattle.map.specs.Rows.{Edge, rows, mapOf, node, hasNode, hasEdge, hasFace}
-use Rattle.map.specs.Form.{within, countsFit, nextsFit, restZero, nodeRanges, edgeRanges, faceRanges, ranged, numbered}
+use Rattle.map.specs.Rows.{Edge, mapOf, node, hasNode, hasEdge, hasFace}
+use Rattle.tables.specs.Tables.{rows, within, restZero, numbered}
+use Rattle.map.specs.Form.{countsFit, nextsFit, nodeRanges, edgeRanges, faceRanges, ranged}
 use Rattle.map.specs.Form.{numbers, named, edgeNames, inFace, curveFits}
-use Rattle.map.proofs.RoundTrip.{within-least}
-use Rattle.tables.specs.declared.Counts.{Counts}
-use Rattle.tables.specs.Tables.{nodesOf, edgesOf, facesOf, nodeMap, NodeRows, EdgeRows, FaceRows}
+use Rattle.tables.proofs.Tests.{within-least}
+use Rattle.map.specs.declared.Counts.{Counts}
+use Rattle.map_rows.specs.Rows.{nodesOf, edgesOf, facesOf, nodeMap, NodeRows, EdgeRows, FaceRows}
 use Rattle.form_ranges.specs.Ranges.{lent, countsOf, mapIn, rangedRows, Counted, EdgesInOrder, InRanges, InOrder}
 use Rattle.form_ranges.specs.Ranges.{Named}
-use Rattle.form_ranges.proofs.Columns.{all-same, all-weaker, numbered-wider}
+use Rattle.tables.proofs.Rising.{all-same, all-weaker, numbered-wider}
 
 module _ (a b c d e f : Bool) (h : a && b && c && d && e && f ≡ true) where
   pub and₆ : (a ≡ true) × (b ≡ true) × (c ≡ true) × (d ≡ true) × (e ≡ true) × (f ≡ true)

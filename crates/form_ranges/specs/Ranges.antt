@@ -8,10 +8,11 @@ use lib.ListN.{length}
 use Rattle.lists.specs.Scans.{allOf}
 use Rattle.map.specs.declared.Head.{Head}
 use Rattle.map.specs.Limits.{nodeWidth, edgeWidth, faceWidth, lastNumber}
-use Rattle.map.specs.Rows.{Map, Lent, rows}
-use Rattle.map.specs.Form.{nextsFit, nodeRanges, edgeRanges, faceRanges, restZero, numbered, numbers, named}
-use Rattle.tables.specs.declared.Counts.{Counts}
-use Rattle.tables.specs.Tables.{nodesOf, edgesOf, facesOf}
+use Rattle.map.specs.Rows.{Map, Lent}
+use Rattle.tables.specs.Tables.{rows, restZero, numbered}
+use Rattle.map.specs.Form.{nextsFit, nodeRanges, edgeRanges, faceRanges, numbers, named}
+use Rattle.map.specs.declared.Counts.{Counts}
+use Rattle.map_rows.specs.Rows.{nodesOf, edgesOf, facesOf}
 
 -- what is lent
 abbrev pub lent : List ℤ → List ℤ → List ℤ → Head → Lent

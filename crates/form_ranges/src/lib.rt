@@ -1,41 +1,32 @@
 // Condition 1, and of condition 2 what needs no walk: counts, ranges and zero rows, numbers.
+use map::Counts;
 use map::Head;
 use map::Map;
-use tables::Counts;
 ghost use mathlib.Core.Path.{_≡_};
 ghost use mathlib.Core.Bool.{true, false, _&&_};
 ghost use mathlib.Core.List.{[], _∷_};
-ghost use Prim.Native.Nat.{_+_, _*_, _≤_, _<_, _/_};
+ghost use Prim.Native.Nat.{_+_, _*_, _≤_, _<_};
 ghost use lib.Dec.{T};
 ghost use lib.IntN.{pos, natAbs};
 ghost use lib.Signed.{leZ, nonNeg};
 ghost use lib.ListN.{length, getD, take, drop};
 ghost use Rattle.lists.specs.Scans.{allOf};
-ghost use Rattle.lists.specs.Tables.{table};
 ghost use Rattle.curves.specs.Curves.{coordinate};
-ghost use Rattle.map.specs.Rows.{cell, whole, wholeRows, sizesOf, rows};
-ghost use Rattle.map.specs.Form.{isZero, countsFit, nextsFit, nodeRanges, edgeRanges, faceRanges, numbered, numbers};
-ghost use Rattle.tables.specs.Tables.{column};
+ghost use Rattle.map.specs.Rows.{whole, sizesOf};
+ghost use Rattle.tables.specs.Tables.{cell, rows, isZero};
+ghost use Rattle.map.specs.Form.{countsFit, nextsFit, nodeRanges, edgeRanges, faceRanges, numbers};
 ghost use Rattle.form_ranges.specs.Ranges.{lent, countsOf, mapIn, rangedRows, InRanges};
 
 const POINTS: i64 = Map::POINTS as i64;
 
 // ---- 1: whole rows within the limits, and a face row
 
-fn whole_rows(t: &[i64], w: usize, least: usize, most: usize) -> bool
-    requires { ⌜ 1 ≤ w ⌝ }
-    ensures { λ r. ⌜ r ≡ wholeRows w least most (now (t .entry)) ⌝ }
-{
-    let n = t.len() / w;
-    (t.len() % w == 0) & (least <= n) & (n <= most)
-}
-
 pub fn is_whole(nodes: &[i64], edges: &[i64], faces: &[i64]) -> bool
     ensures { λ r. ⌜ ((h : _) → r ≡ whole (lent (now (nodes .entry)) (now (edges .entry)) (now (faces .entry)) h)) ⌝ }
 {
-    whole_rows(nodes, map::NODE_WIDTH, 0, Map::NODES)
-        & whole_rows(edges, map::EDGE_WIDTH, 0, Map::EDGES)
-        & whole_rows(faces, map::FACE_WIDTH, 1, Map::FACES)
+    tables::whole_rows(nodes, map::NODE_WIDTH, 0, Map::NODES)
+        & tables::whole_rows(edges, map::EDGE_WIDTH, 0, Map::EDGES)
+        & tables::whole_rows(faces, map::FACE_WIDTH, 1, Map::FACES)
 }
 
 // ---- 2: numbers as they stand
@@ -69,15 +60,6 @@ fn magnitude(z: i64) -> usize
     z as usize
 }
 
-// Number k, which is not negative.
-pub fn natural(t: &[i64], k: usize) -> usize
-    requires { ⌜ (k < length (now t)) × T (nonNeg (getD (now t) k (pos 0))) ⌝ }
-    ensures { λ r. ⌜ r ≡ natAbs (getD (now (t .entry)) k (pos 0)) ⌝ }
-{
-    let z = t[k];
-    z as usize
-}
-
 // Number k is not negative.
 fn is_natural(t: &[i64], k: usize) -> bool
     requires { ⌜ k < length (now t) ⌝ }
@@ -95,17 +77,6 @@ fn is_coordinate(t: &[i64], k: usize) -> bool
     within(z, 0, Map::COORDINATE)
 }
 
-fn are_zero(t: &[i64]) -> bool
-    ensures { λ r. ⌜ r ≡ allOf isZero (now (t .entry)) ⌝ }
-{
-    let mut bits = 0;
-    for i in 0..t.len() {
-        let z = t[i];
-        bits = bits | z;
-    }
-    bits == 0
-}
-
 fn are_coordinates(t: &[i64]) -> bool
     ensures { λ r. ⌜ r ≡ allOf coordinate (now (t .entry)) ⌝ }
 {
@@ -115,14 +86,6 @@ fn are_coordinates(t: &[i64]) -> bool
         }
     }
     true
-}
-
-// All numbers from `at` on are 0.
-fn rest_zero(t: &[i64], at: usize) -> bool
-    requires { ⌜ at ≤ length (now t) ⌝ }
-    ensures { λ r. ⌜ r ≡ allOf isZero (drop at (now (t .entry))) ⌝ }
-{
-    are_zero(&t[at..])
 }
 
 fn node_ranges(row: &[i64]) -> bool
@@ -167,7 +130,7 @@ fn points_ranged(row: &[i64], n: usize) -> bool
         && allOf isZero (drop (2 * n) (drop 8 (now (row .entry))))) ⌝ }
 {
     let end = map::POINTS_AT + 2 * n;
-    are_coordinates(&row[map::POINTS_AT..end]) & rest_zero(row, end)
+    are_coordinates(&row[map::POINTS_AT..end]) & tables::rest_zero(row, end)
 }
 
 fn edge_ranges(row: &[i64]) -> bool
@@ -178,7 +141,7 @@ fn edge_ranges(row: &[i64]) -> bool
     if !(edge_naturals(row) & within(z, 2, POINTS)) {
         return false;
     }
-    let n = natural(row, map::POINT_COUNT);
+    let n = tables::natural(row, map::POINT_COUNT);
     // most edges are straight: the compiler unrolls the tests of two points
     if n == 2 {
         return points_ranged(row, 2);
@@ -217,9 +180,9 @@ pub fn is_ranged(nodes: &[i64], edges: &[i64], faces: &[i64], c: Counts) -> bool
         × (c .faces ≤ length (now faces)) ⌝ }
     ensures { λ r. ⌜ r ≡ rangedRows (now (nodes .entry)) (now (edges .entry)) (now (faces .entry)) c ⌝ }
 {
-    if !(rest_zero(nodes, c.nodes * map::NODE_WIDTH)
-        & rest_zero(edges, c.edges * map::EDGE_WIDTH)
-        & rest_zero(faces, c.faces)) {
+    if !(tables::rest_zero(nodes, c.nodes * map::NODE_WIDTH)
+        & tables::rest_zero(edges, c.edges * map::EDGE_WIDTH)
+        & tables::rest_zero(faces, c.faces)) {
         return false;
     }
     nodes_ranged(nodes, c.nodes) & edges_ranged(edges, c.edges) & faces_ranged(faces, c.faces)
@@ -227,34 +190,18 @@ pub fn is_ranged(nodes: &[i64], edges: &[i64], faces: &[i64], c: Counts) -> bool
 
 // ---- numbers
 
-// The first column rises from `least` on and is below `next`.
-fn numbers_rise(t: &[i64], w: usize, count: usize, least: usize, next: usize) -> bool
-    requires { ⌜ (1 ≤ w) × (count * w ≤ length (now t)) × (allOf nonNeg (column w (now t) count) ≡ true) ⌝ }
-    ensures { λ r. ⌜ r ≡ numbered least next (table (λ i. natAbs (getD (now (t .entry)) (i * w) (pos 0))) 0 count) ⌝ }
-{
-    let mut low = least;
-    for i in 0..count {
-        let n = natural(t, i * w);
-        if (n < low) | (next <= n) {
-            return false;
-        }
-        low = n + 1;
-    }
-    true
-}
-
 pub fn numbers_fit(nodes: &[i64], edges: &[i64], faces: &[i64], c: Counts, h: Head) -> bool
     requires { ⌜ InRanges (now nodes) (now edges) (now faces) c h ⌝ }
     ensures { λ r. ⌜ r ≡ numbers (mapIn (now (nodes .entry)) (now (edges .entry)) (now (faces .entry)) c h) ⌝ }
 {
-    if !numbers_rise(nodes, map::NODE_WIDTH, c.nodes, 1, magnitude(h.next_node)) {
+    if !tables::numbers_rise(nodes, map::NODE_WIDTH, c.nodes, 1, magnitude(h.next_node)) {
         return false;
     }
-    if !numbers_rise(edges, map::EDGE_WIDTH, c.edges, 1, magnitude(h.next_edge)) {
+    if !tables::numbers_rise(edges, map::EDGE_WIDTH, c.edges, 1, magnitude(h.next_edge)) {
         return false;
     }
-    let first = natural(faces, 0);
-    numbers_rise(faces, map::FACE_WIDTH, c.faces, 0, magnitude(h.next_face)) & (first == 0)
+    let first = tables::natural(faces, 0);
+    tables::numbers_rise(faces, map::FACE_WIDTH, c.faces, 0, magnitude(h.next_face)) & (first == 0)
 }
 
 pub fn counts_of(h: Head) -> Counts

@@ -18,16 +18,18 @@ use Rattle.lists.specs.Scans.{anyOf, isSome}
 use Rattle.lists.specs.Tables.{table, place}
 use Rattle.lists.specs.declared.Found.{Found}
 use Rattle.lists.specs.declared.Found.the-variants.{At, Missing}
+use Rattle.tables.specs.Tables.{sameZ, column, Rising, numbered}
+use Rattle.tables.proofs.Order.{same-is}
+use Rattle.tables.proofs.Rows.{number-in}
+use Rattle.tables.proofs.Lookups.{place-first, place-missing, any-find, which-place}
 use Rattle.curves.specs.Curves.{Curve, Run, pointAt, curveOf, lastPoint}
+use Rattle.curves.proofs.Runs.{and-left, curve-is, last-is}
 use Rattle.map.specs.Limits.{lastNumber}
 use Rattle.map.specs.Rows.{Map, hasNode, hasEdge, hasFace, faceOf, dartOf}
-use Rattle.map.specs.Form.{numbered, inFace}
-use Rattle.tables.specs.Tables.{sameZ, column, edgeAt, nodeMap, edgeMap, Rising, NodeRows, FaceRows}
-use Rattle.tables.proofs.Order.{same-is}
-use Rattle.tables.proofs.Rows.{edge-numbers, edges-rising, number-in}
-use Rattle.tables.proofs.Lookups.{place-first, place-missing, any-find, which-place, node-found, node-missing}
-use Rattle.tables.proofs.Lookups.{edge-found, edge-missing, face-found, face-missing}
-use Rattle.curves.proofs.Runs.{and-left, curve-is, last-is}
+use Rattle.map.specs.Form.{inFace}
+use Rattle.map_rows.specs.Rows.{edgeAt, nodeMap, edgeMap, NodeRows, FaceRows}
+use Rattle.map_rows.proofs.Rows.{edge-numbers, edges-rising}
+use Rattle.map_rows.proofs.Lookups.{node-found, node-missing, edge-found, edge-missing, face-found, face-missing}
 use Rattle.form_ranges.specs.Ranges.{faceMap, EdgesInOrder}
 use Rattle.form_references.specs.Named.{NamedAt, Sought}
 

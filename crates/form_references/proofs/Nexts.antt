@@ -15,12 +15,14 @@ use Rattle.lists.specs.Scans.{isSome}
 use Rattle.lists.specs.Tables.{place}
 use Rattle.lists.specs.declared.Found.the-variants.{At, Missing}
 use Rattle.lists.proofs.Counts.{byte-bit, bit-most}
+use Rattle.tables.specs.Tables.{sameZ, column}
+use Rattle.tables.proofs.Lookups.{row-met}
 use Rattle.plane.specs.Points.{origin}
 use Rattle.map.specs.Limits.{nodeWidth, edgeWidth}
 use Rattle.map.specs.Rows.{Node, hasEdge, node, dartOf}
-use Rattle.tables.specs.Tables.{sameZ, column, nodeAt, nodeMap, edgeMap, NodeRows}
-use Rattle.tables.proofs.Rows.{node-rows-rising}
-use Rattle.tables.proofs.Lookups.{row-met, node-found, edge-found, edge-missing}
+use Rattle.map_rows.specs.Rows.{nodeAt, nodeMap, edgeMap, NodeRows}
+use Rattle.map_rows.proofs.Rows.{node-rows-rising}
+use Rattle.map_rows.proofs.Lookups.{node-found, edge-found, edge-missing}
 use Rattle.darts.specs.Positions.{dartAt}
 use Rattle.darts.proofs.Positions.{dart-even, dart-odd}
 use Rattle.form_ranges.specs.Ranges.{EdgesInOrder}

@@ -10,16 +10,18 @@ use lib.ListN.{getD}
 use Rattle.lists.specs.Scans.{anyOf, allOf}
 use Rattle.lists.specs.Tables.{table}
 use Rattle.lists.proofs.Bools.{eq3, eq4, &&-false}
+use Rattle.tables.specs.Tables.{sameZ, column}
+use Rattle.tables.proofs.Rows.{rows-all}
+use Rattle.tables.proofs.Rising.{all-same}
 use Rattle.map.specs.declared.Head.{Head}
-use Rattle.map.specs.Rows.{Edge, Map, hasNode, hasEdge, hasFace, dartOf}
+use Rattle.map.specs.Rows.{Edge, Map, hasNode, hasEdge, hasFace}
 use Rattle.map.specs.Form.{inFace, edgeNames, edgeRanges, named}
-use Rattle.tables.specs.declared.Counts.{Counts}
-use Rattle.tables.specs.Tables.{sameZ, column, nodesOf, edgesOf, edgeAt}
-use Rattle.tables.proofs.Rows.{EdgeCells, edge-cells, rows-all, edges-table}
+use Rattle.map.specs.declared.Counts.{Counts}
+use Rattle.map_rows.specs.Rows.{nodesOf, edgesOf, edgeAt}
+use Rattle.map_rows.proofs.Rows.{EdgeCells, edge-cells, edges-table}
 use Rattle.darts.specs.Positions.{sideCell}
 use Rattle.darts.proofs.Positions.{side-even, side-odd}
 use Rattle.form_ranges.specs.Ranges.{mapIn, faceMap, InOrder}
-use Rattle.form_ranges.proofs.Columns.{all-same}
 use Rattle.form_ranges.proofs.Parts.{node-rows, edges-in-order, face-rows}
 use Rattle.form_references.specs.Named.{isNamed, allNamed}
 use Rattle.form_references.proofs.Names.{node-named, face-named, dart-edge}

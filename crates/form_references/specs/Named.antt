@@ -10,7 +10,8 @@ use Rattle.lists.specs.Tables.{table}
 use Rattle.lists.specs.declared.Found.{Found}
 use Rattle.lists.specs.declared.Found.the-variants.{At, Missing}
 use Rattle.map.specs.Rows.{hasEdge, dartOf}
-use Rattle.tables.specs.Tables.{sameZ, column, edgeMap}
+use Rattle.tables.specs.Tables.{sameZ, column}
+use Rattle.map_rows.specs.Rows.{edgeMap}
 use Rattle.darts.specs.Positions.{dartAt, sideCell}
 
 -- the table t of n rows has the row z, or as a link z the edge

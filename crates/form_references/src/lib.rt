@@ -1,8 +1,8 @@
 // Of condition 2: named rows exist, and curves run from node to node. The rows that are found are written down for what
 // follows.
 use lists::Found;
+use map::Counts;
 use plane::Point;
-use tables::Counts;
 ghost use mathlib.Core.Path.{_≡_};
 ghost use mathlib.Core.Bool.{true, false, _&&_};
 ghost use Prim.Native.Nat.{_+_, _*_, _/_, _≤_};
@@ -10,14 +10,14 @@ ghost use lib.IntN.{pos, negsuc, natAbs};
 ghost use lib.Signed.{ltZ};
 ghost use lib.ListN.{length};
 ghost use Rattle.lists.specs.Scans.{anyOf, allOf};
+ghost use Rattle.tables.specs.Tables.{Rising, sameZ, column};
 ghost use Rattle.plane.specs.Points.{samePoint};
 ghost use Rattle.curves.specs.Curves.{Run, curveOf, lastPoint};
 ghost use Rattle.curves.specs.Tests.{neighboursDiffer};
 ghost use Rattle.map.specs.Limits.{nodeWidth, edgeWidth, faceWidth, maxNodes, maxEdges, maxFaces};
 ghost use Rattle.map.specs.Rows.{nodeOf};
 ghost use Rattle.map.specs.Form.{inFace, named, curveFits};
-ghost use Rattle.tables.specs.Tables.{NodeRow, NodeRows, EdgeRow, EdgeRows, FaceRows, Rising, sameZ, column, nodesOf};
-ghost use Rattle.tables.specs.Tables.{nodeAt, edgesOf, edgeAt, nodeMap};
+ghost use Rattle.map_rows.specs.Rows.{NodeRows, EdgeRow, EdgeRows, FaceRows, nodesOf, edgesOf, edgeAt, nodeMap};
 ghost use Rattle.darts.specs.Positions.{RowsNamed, NextsNamed};
 ghost use Rattle.form_ranges.specs.Ranges.{mapIn, faceMap, EdgesInOrder, InOrder};
 ghost use Rattle.form_references.specs.Named.{Sought, allNamed, AllAt};
@@ -206,18 +206,6 @@ pub fn names_exist(
 
 // ---- curves
 
-// The point of node row i.
-fn point_of(nodes: &[i64], i: usize) -> Point
-    requires { ⌜ NodeRow (now nodes) i ⌝ }
-    ensures { λ r. ⌜ r ≡ nodeAt (now (nodes .entry)) i .at ⌝ }
-{
-    let j = i * map::NODE_WIDTH;
-    Point {
-        x: form_ranges::natural(nodes, j + map::X) as u64,
-        y: form_ranges::natural(nodes, j + map::Y) as u64,
-    }
-}
-
 // Whether a curve of k points runs from u to v.
 fn runs_between(c: &[i64], k: usize, u: Point, v: Point) -> bool
     requires { ⌜ Run (now c) × (k ≡ length (now c) / 2) ⌝ }
@@ -237,11 +225,11 @@ fn curve_fits(nodes: &[i64], n: usize, edges: &[i64], i: usize, starts: &[u16]) 
         × RowsNamed nodeWidth (now nodes) n (now edges) 1 (now starts) (i * 2 + 2) ⌝ }
     ensures { λ r. ⌜ r ≡ curveFits (nodeMap (now (nodes .entry)) n) (edgeAt (now (edges .entry)) i) ⌝ }
 {
-    let c = tables::curve_of(edges, i);
+    let c = map_rows::curve_of(edges, i);
     let u = starts[i * 2] as usize;
     let v = starts[i * 2 + 1] as usize;
-    let from = point_of(nodes, u);
-    let to = point_of(nodes, v);
+    let from = map_rows::node_point(nodes, u);
+    let to = map_rows::node_point(nodes, v);
     let k = curves::point_count(c);
     // most edges are straight: the compiler unrolls the tests of two points
     if k == 2 {

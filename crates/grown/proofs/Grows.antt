@@ -19,7 +19,8 @@ use Rattle.map.specs.Reasons.{firstReason, reasons}
 use Rattle.map.specs.Ticket.{carried, lentReasons, unless, judged, ticket}
 use Rattle.map.specs.Grow.{after, grow}
 use Rattle.map.specs.Sound.{Sound}
-use Rattle.map.proofs.RoundTrip.{whole-rows, whole-tables}
+use Rattle.map.proofs.RoundTrip.{whole-tables}
+use Rattle.tables.proofs.Filled.{whole-rows}
 use Rattle.map.proofs.Reasons.{first-zero}
 use Rattle.grown.specs.Good.{Good, Fits}
 use Rattle.grown.specs.Claims.{GrownMap, Grows, Limited, NeverLent}

@@ -14,15 +14,17 @@ use lib.Signed.{leZ}
 use Rattle.lists.specs.Scans.{allOf, firstOr}
 use Rattle.lists.proofs.Bools.{and-is}
 use Rattle.lists.proofs.Members.{all-of}
+use Rattle.tables.specs.Tables.{filled, within}
+use Rattle.tables.proofs.Filled.{Wide, each-row, flat-rest, table-length, whole-table}
+use Rattle.tables.proofs.Tests.{in-bounds, within-least, within-most}
 use Rattle.plane.specs.Points.{InRange}
 use Rattle.curves.specs.Curves.{points, maxPoints}
 use Rattle.curves.proofs.Runs.{coordinate-of}
 use Rattle.map.specs.Limits.{maxNodes, maxEdges, maxFaces, lastNumber, nodeWidth, edgeWidth, faceWidth}
 use Rattle.map.specs.Rows.{Node, Edge, Map, Sizes, nodeCells, edgeCells, faceCells, faceCell, lentOf, mapOf, sizesOf}
-use Rattle.map.specs.Rows.{whole, nodeRows, edgeRows, faceRows, filled}
-use Rattle.map.specs.Form.{within, nodeRanges, edgeRanges, faceRanges, ranged, formed, inForm, countsFit, nextsFit}
-use Rattle.map.proofs.RoundTrip.{Wide, each-row, flat-rest, table-length, nodes-wide, edge-wide, faces-wide, in-bounds}
-use Rattle.map.proofs.RoundTrip.{within-least, within-most, Stored, points-ranged, whole-table}
+use Rattle.map.specs.Rows.{whole, nodeRows, edgeRows, faceRows}
+use Rattle.map.specs.Form.{nodeRanges, edgeRanges, faceRanges, ranged, formed, inForm, countsFit, nextsFit}
+use Rattle.map.proofs.RoundTrip.{nodes-wide, edge-wide, faces-wide, Stored, points-ranged}
 use Rattle.map.proofs.Laws.{formed-back}
 use Rattle.map_laws.proofs.Faces.{zero-in}
 use Rattle.grown.specs.Good.{Good, Fits}

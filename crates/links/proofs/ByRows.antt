@@ -14,8 +14,9 @@ use Rattle.lists.specs.Tests.{same}
 use Rattle.lists.proofs.Bools.{and-is}
 use Rattle.plane.specs.Directions.{Way, sameWay}
 use Rattle.curves.specs.Curves.{Run}
-use Rattle.tables.specs.Tables.{sameZ, EdgeRows}
-use Rattle.tables.proofs.Rows.{edge-row-of}
+use Rattle.tables.specs.Tables.{sameZ}
+use Rattle.map_rows.specs.Rows.{EdgeRows}
+use Rattle.map_rows.proofs.Rows.{edge-row-of}
 use Rattle.tables.proofs.Order.{is-same, not-same, word-is}
 use Rattle.darts.specs.Positions.{sideCell, wayAt}
 use Rattle.darts.proofs.Positions.{side-even, side-odd}

@@ -18,10 +18,12 @@ use Rattle.map.specs.Limits.{edgeWidth}
 use Rattle.map.specs.Rows.{dartOf, dartCell, hasEdge, findEdge}
 use Rattle.map.specs.Links.{instead}
 use Rattle.map.proofs.RoundTrip.{dart-cell-back}
-use Rattle.tables.specs.Tables.{sameZ, column, edgeAt, edgeMap, EdgeRows}
+use Rattle.tables.specs.Tables.{sameZ, column}
+use Rattle.map_rows.specs.Rows.{edgeAt, edgeMap, EdgeRows}
 use Rattle.tables.proofs.Order.{is-same, same-is}
-use Rattle.tables.proofs.Rows.{edge-rows-rising, edge-number-in}
-use Rattle.tables.proofs.Lookups.{row-place, edge-found}
+use Rattle.map_rows.proofs.Rows.{edge-rows-rising, edge-number-in}
+use Rattle.tables.proofs.Lookups.{row-place}
+use Rattle.map_rows.proofs.Lookups.{edge-found}
 use Rattle.darts.specs.Positions.{dartAt, sideCell}
 use Rattle.darts.proofs.Positions.{cells-of, link-is, next-named}
 use Rattle.links.proofs.Kept.{newFor}

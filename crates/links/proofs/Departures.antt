@@ -16,7 +16,8 @@ use Rattle.planar_maps.specs.Map.{Dart}
 use Rattle.rotation.specs.Law.{firstClockwise}
 use Rattle.rotation.proofs.Rename.{first-map}
 use Rattle.map.specs.Darts.{directed, leaves, departures, edgeEnds, way}
-use Rattle.tables.specs.Tables.{sameZ, edgeMap, EdgeRows}
+use Rattle.tables.specs.Tables.{sameZ}
+use Rattle.map_rows.specs.Rows.{edgeMap, EdgeRows}
 use Rattle.tables.proofs.Rows.{map-table}
 use Rattle.tables.proofs.Order.{same-pos}
 use Rattle.darts.specs.Positions.{dartAt, wayAt}

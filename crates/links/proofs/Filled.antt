@@ -9,10 +9,11 @@ use Rattle.lists.proofs.Bools.{which}
 use Rattle.planar_maps.specs.Map.{Dart}
 use Rattle.planar_maps.specs.Rings.{sameDart}
 use Rattle.map.specs.Limits.{edgeWidth}
-use Rattle.map.specs.Rows.{Edge, dartCell, filled, edgeCells}
+use Rattle.map.specs.Rows.{Edge, dartCell, edgeCells}
+use Rattle.tables.specs.Tables.{replaceAt, filled}
 use Rattle.map.specs.Links.{withLinks, instead}
-use Rattle.tables.specs.Tables.{replaceAt}
-use Rattle.tables.proofs.Writes.{Wide, wide-map, column-swept}
+use Rattle.tables.proofs.Writes.{wide-map, column-swept}
+use Rattle.tables.proofs.Filled.{Wide}
 use Rattle.links.specs.Linking.{redirected}
 use Rattle.links.proofs.Darts.{cell-same}
 

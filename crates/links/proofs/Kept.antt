@@ -15,12 +15,14 @@ use Rattle.lists.specs.Tables.{table, sweep}
 use Rattle.lists.proofs.Bools.{which, same-true, differ}
 use Rattle.lists.proofs.Scans.{table-same}
 use Rattle.map.specs.Limits.{edgeWidth, lastNumber}
-use Rattle.map.specs.Rows.{Edge, cell, edgeOf, dartOf, hasEdge}
-use Rattle.map.specs.Form.{edgeRanges, numbered}
+use Rattle.map.specs.Rows.{Edge, edgeOf, dartOf, hasEdge}
+use Rattle.tables.specs.Tables.{sameZ, replaceAt, rowAt, cell, numbered}
+use Rattle.map.specs.Form.{edgeRanges}
 use Rattle.map.specs.Links.{withLinks}
-use Rattle.tables.specs.Tables.{sameZ, replaceAt, rowAt, edgeAt, edgeMap, EdgeRows}
+use Rattle.map_rows.specs.Rows.{edgeAt, edgeMap, EdgeRows}
 use Rattle.tables.proofs.Order.{replace-length}
-use Rattle.tables.proofs.Rows.{row-cell, rows-table, edges-table, edge-numbers}
+use Rattle.tables.proofs.Rows.{row-cell, rows-table}
+use Rattle.map_rows.proofs.Rows.{edges-table, edge-numbers}
 use Rattle.darts.specs.Positions.{sidePlace, sideCell}
 use Rattle.links.specs.Linking.{redirected}
 

@@ -22,7 +22,8 @@ use Rattle.map.specs.Limits.{edgeWidth}
 use Rattle.map.specs.Rows.{Map, edge, dartCell, atEdge, withoutEdge}
 use Rattle.map.specs.Darts.{leaves, departures, next, course, way}
 use Rattle.map.specs.Links.{redirect, lead, linkIn, linkEdge, unlinkEdge}
-use Rattle.tables.specs.Tables.{sameZ, edgesOf, edgeAt, edgeMap, EdgeRows}
+use Rattle.tables.specs.Tables.{sameZ}
+use Rattle.map_rows.specs.Rows.{edgesOf, edgeAt, edgeMap, EdgeRows}
 use Rattle.darts.specs.Positions.{reverseOf, dartAt, sidePlace, sideCell, wayAt}
 use Rattle.darts.proofs.Positions.{dart-even, dart-odd, dart-reverse, dart-injective, reverse-below, number-injective}
 use Rattle.darts.proofs.Positions.{cell-leaves, cell-next, next-there, way-is}

@@ -10,7 +10,8 @@ use Rattle.lists.specs.declared.Found.{Found}
 use Rattle.lists.specs.declared.Found.the-variants.{At, Missing}
 use Rattle.lists.proofs.Bools.{equal?}
 use Rattle.map.specs.Rows.{dartOf, dartCell, hasEdge}
-use Rattle.tables.specs.Tables.{sameZ, edgeMap, EdgeRows}
+use Rattle.tables.specs.Tables.{sameZ}
+use Rattle.map_rows.specs.Rows.{edgeMap, EdgeRows}
 use Rattle.darts.specs.Positions.{reverseOf, dartAt, sidePlace, sideCell, wayAt}
 use Rattle.darts.proofs.Positions.{reverse-below}
 use Rattle.links.specs.Linking.{redirected, linkedAt, linkedWhere, linkedIn, leaving, firstMet}

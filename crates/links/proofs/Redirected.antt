@@ -13,8 +13,9 @@ use Rattle.lists.proofs.Scans.{table-same}
 use Rattle.planar_maps.specs.Map.{Dart}
 use Rattle.map.specs.Rows.{Edge, dartOf, dartCell, setEdges, atEdge}
 use Rattle.map.specs.Links.{withLinks, instead, redirect, lead}
-use Rattle.tables.specs.Tables.{edgesOf, edgeAt, edgeMap, EdgeRows}
-use Rattle.tables.proofs.Rows.{map-table, edges-table}
+use Rattle.map_rows.specs.Rows.{edgesOf, edgeAt, edgeMap, EdgeRows}
+use Rattle.tables.proofs.Rows.{map-table}
+use Rattle.map_rows.proofs.Rows.{edges-table}
 use Rattle.darts.specs.Positions.{odd, dartAt, sidePlace, sideCell}
 use Rattle.darts.proofs.Positions.{Even, Odd, side, cells-of, number-injective, side-even, side-odd}
 use Rattle.links.specs.Linking.{redirected}

@@ -15,7 +15,8 @@ use Rattle.rotation.specs.Law.{firstClockwise}
 use Rattle.map.specs.Limits.{edgeWidth}
 use Rattle.map.specs.Rows.{dartCell}
 use Rattle.curves.specs.Curves.{Run}
-use Rattle.tables.specs.Tables.{sameZ, replaceAt, EdgeRow}
+use Rattle.tables.specs.Tables.{sameZ, replaceAt}
+use Rattle.map_rows.specs.Rows.{EdgeRow}
 use Rattle.darts.specs.Positions.{reverseOf, dartAt, sidePlace, sideCell, wayAt}
 use Rattle.links.specs.declared.Choice.{Choice}
 

@@ -13,7 +13,7 @@ ghost use Rattle.plane.specs.Directions.{wayTo, sameWay};
 ghost use Rattle.curves.specs.Curves.{Run};
 ghost use Rattle.rotation.specs.Law.{lawfulNext};
 ghost use Rattle.map.specs.Limits.{edgeWidth, maxEdges};
-ghost use Rattle.tables.specs.Tables.{EdgeRows};
+ghost use Rattle.map_rows.specs.Rows.{EdgeRows};
 ghost use Rattle.darts.specs.Positions.{sideCell, wayAt, wayWith, StepInRange};
 ghost use Rattle.links.specs.Linking.{Known, laterOf, chosenOf, positions, leavesNode, leaving, firstMet};
 ghost use Rattle.links.specs.Linking.{redirected, linkedAt, linkedIn, linkedEdge, unlinkedEdge};

@@ -18,7 +18,8 @@ use Rattle.lists.proofs.Lookups.{find-row}
 use Rattle.curves.specs.Curves.{points, maxPoints}
 use Rattle.map.specs.Rows.{Node, Edge, Map, Lent, Sizes, mapOf, lentOf, sizesOf, whole, findNode, findEdge}
 use Rattle.map.specs.Rows.{hasNode, hasEdge, hasFace, node, edge}
-use Rattle.map.specs.Form.{ranged, numbered, numbers, inFace, edgeNames, named, curveFits, departuresDiffer}
+use Rattle.map.specs.Form.{ranged, numbers, inFace, edgeNames, named, curveFits, departuresDiffer}
+use Rattle.tables.specs.Tables.{numbered}
 use Rattle.map.specs.Form.{bareMarked, linksOnce, linksMeet, ringsBearOne, formed, inForm}
 use Rattle.map.proofs.RoundTrip.{Holds, Points, reads-back, writes-back, ranged-points}
 

@@ -4,12 +4,12 @@ use mathlib.Core.Bool.{Bool, true, not, Bool·beq, _&&_}
 use mathlib.Core.List.{List, [], _∷_, map}
 use mathlib.Core.Option.{Option, none, some}
 use Prim.Native.Nat.{ℕ, suc, _*_}
-use lib.Dec.{leb, ltb}
-use lib.IntN.{ℤ, pos, negsuc, natAbs}
+use lib.IntN.{ℤ, negsuc, natAbs}
 use lib.ListN.{take, drop}
 use lib.Signed.{leZ, nonNeg}
 use Rattle.lists.specs.Tests.{same}
-use Rattle.lists.specs.Scans.{anyOf, allOf, countOf, firstOr, linked, isSome}
+use Rattle.lists.specs.Scans.{anyOf, allOf, countOf, firstOr, isSome}
+use Rattle.tables.specs.Tables.{within, isZero, restZero, numbered, cell}
 use Rattle.plane.specs.Points.{samePoint}
 use Rattle.plane.specs.Directions.{Way, sameWay}
 use Rattle.curves.specs.Curves.{maxPoints, coordinate, lastPoint}
@@ -17,18 +17,11 @@ use Rattle.curves.specs.Tests.{neighboursDiffer}
 use Rattle.planar_maps.specs.Rings.{sameDart}
 use Rattle.map.specs.declared.Head.{Head}
 use Rattle.map.specs.Limits.{lastNumber, nodeWidth, edgeWidth, faceWidth}
-use Rattle.map.specs.Rows.{Edge, Map, Lent, cell, nodeRows, edgeRows, faceRows, mapOf, sizesOf, node, hasNode}
+use Rattle.map.specs.Rows.{Edge, Map, Lent, nodeRows, edgeRows, faceRows, mapOf, sizesOf, node, hasNode}
 use Rattle.map.specs.Rows.{hasEdge, hasFace}
 use Rattle.map.specs.Darts.{directed, leaves, arrives, next, bears, departures, edgeEnds, way}
 
 -- ---- numbers as they stand
-
--- a to b
-abbrev pub within : ℕ → ℕ → ℤ → Bool
-within a b z = leZ (pos a) z && leZ z (pos b)
-
-abbrev pub isZero : ℤ → Bool
-isZero z = same (natAbs z) 0
 
 -- counts within the tables
 abbrev pub countsFit : Lent → Bool
@@ -39,10 +32,6 @@ countsFit l =
 -- the next number is 1 to 1,000,000
 abbrev pub nextsFit : Head → Bool
 nextsFit h = allOf (within 1 (suc lastNumber)) (h .«next_node» ∷ h .«next_edge» ∷ h .«next_face» ∷ [])
-
--- rows past a count are all 0
-abbrev pub restZero : ℕ → ℤ → List ℤ → Bool
-restZero w n l = allOf isZero (drop (natAbs n * w) l)
 
 -- ranges of a row
 abbrev pub nodeRanges : List ℤ → Bool
@@ -71,10 +60,6 @@ ranged l =
     && allOf faceRanges (faceRows l)
 
 -- ---- the map
-
--- numbers rise from the first one allowed, and those in use are below the next number
-abbrev pub numbered : ℕ → ℕ → List ℕ → Bool
-numbered least next ns = linked ltb ns && allOf (λ n. leb least n && ltb n next) ns
 
 -- order and next numbers; face 0 exists
 unfoldable pub numbers : Map → Bool

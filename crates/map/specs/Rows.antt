@@ -1,13 +1,13 @@
 -- Tables and head: the rows, the map that they make, and how both stand in flat tables.
 use mathlib.Core.Bool.{Bool, cond, not, _&&_}
-use mathlib.Core.List.{List, [], _∷_, _++_, map, flatMap}
+use mathlib.Core.List.{List, [], _∷_, map, flatMap}
 use mathlib.Core.Option.{Option, none, some, Option·getD}
-use Prim.Native.Nat.{ℕ, zero, suc, _+_, _*_, _-_, _/_, _%_}
-use lib.Dec.{leb}
+use Prim.Native.Nat.{ℕ, suc, _+_, _*_, _/_}
 use lib.IntN.{ℤ, pos, negsuc, negℤ, natAbs}
-use lib.ListN.{length, getD, take, drop, replicate}
+use lib.ListN.{length, take, drop}
 use Rattle.lists.specs.Tests.{same}
 use Rattle.lists.specs.Scans.{anyOf, find, isSome, keep}
+use Rattle.tables.specs.Tables.{rows, cell, filled, wholeRows}
 use Rattle.plane.specs.declared.Point.{Point}
 use Rattle.plane.specs.Points.{origin}
 use Rattle.curves.specs.Curves.{Curve, points, point, through, curveOf, coordinates, maxPoints}
@@ -59,15 +59,6 @@ abbrev pub emptyMap : Map
 emptyMap = record { nodes = []; edges = []; faces = 0 ∷ []; nextNode = 1; nextEdge = 1; nextFace = 1 }
 
 -- ---- from the flat tables
-
--- the first n rows of w numbers
-abbrev pub rows : ℕ → ℕ → List ℤ → List (List ℤ)
-rows w zero l = []
-rows w (suc n) l = take w l ∷ rows w n (drop w l)
-
--- number k of a row
-abbrev pub cell : List ℤ → ℕ → ℤ
-cell r k = getD r k (pos 0)
 
 -- a containing face; -1 is none
 abbrev pub faceOf : ℤ → Option ℕ
@@ -142,10 +133,6 @@ abbrev pub faceCell : Option ℕ → ℤ
 faceCell none = negsuc 0
 faceCell (some f) = pos f
 
--- the numbers, and zeros up to n
-abbrev pub filled : ℕ → List ℤ → List ℤ
-filled n l = l ++ replicate (n - length l) (pos 0)
-
 -- a row as its numbers
 unfoldable pub nodeCells : Node → List ℤ
 nodeCells n = pos (n .number) ∷ pos (n .at .x) ∷ pos (n .at .y) ∷ faceCell (n .face) ∷ []
@@ -180,10 +167,6 @@ lentOf s m =
       faces = filled (s .faces * faceWidth) (flatMap faceCells (m .faces));
       head = headOf m;
     }
-
--- whole rows of w numbers, from `least` to `most` of them
-abbrev pub wholeRows : ℕ → ℕ → ℕ → List ℤ → Bool
-wholeRows w least most l = same (length l % w) 0 && leb least (length l / w) && leb (length l / w) most
 
 -- the tables are whole rows, within the limits, and the face table is not empty
 unfoldable pub whole : Lent → Bool

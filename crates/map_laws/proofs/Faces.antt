@@ -16,7 +16,8 @@ use Rattle.rotation.specs.Law.{firstClockwise, pick}
 use Rattle.rotation.proofs.Node.{first-in}
 use Rattle.map.specs.Rows.{Node, Edge, Map, node, edge, hasNode, hasEdge, hasFace}
 use Rattle.map.specs.Darts.{bears, departures, way}
-use Rattle.map.specs.Form.{numbered, numbers, inFace, edgeNames, named, formed}
+use Rattle.map.specs.Form.{numbers, inFace, edgeNames, named, formed}
+use Rattle.tables.specs.Tables.{numbered}
 use Rattle.map.specs.Links.{cornerOf, cornerFace}
 use Rattle.map.specs.Edits.{Shares, sideOfPoint, sideOfNode}
 use Rattle.map.proofs.Laws.{edge-there, node-there, formed-is}

@@ -10,7 +10,7 @@ use Rattle.curves.specs.Curves.{points, coordinates}
 use Rattle.curve_edits.specs.Lines.{lineOf}
 use Rattle.curve_edits.proofs.Lines.{length-coordinates}
 use Rattle.map.specs.Rows.{Edge, dartCell, edgeCells}
-use Rattle.map_rows.specs.declared.Sides.{Sides}
+use Rattle.map_rows.specs.declared.Incidence.{Incidence}
 use Rattle.map_rows.specs.Cells.{cellsOf}
 
 take-replicate : {A : Type 0} (z : A) (k m : ℕ) → k ≤ m → take k (replicate m z) ≡ replicate k z
@@ -26,7 +26,7 @@ padded w l h =
     ∙ ap (λ r. l ++ r) (take-replicate (pos 0) (w - length l) w (omega arith))
 
 -- the row of e, of at most 12 points
-pub row-cells : (s : Sides) (e : Edge) → s .number ≡ pos (e .number) → s .start ≡ pos (e .start) → s .end
+pub row-cells : (s : Incidence) (e : Edge) → s .number ≡ pos (e .number) → s .start ≡ pos (e .start) → s .end
     ≡ pos (e .end) → s .«next_left» ≡ dartCell (e .nextLeft)
     → s .«next_right» ≡ dartCell (e .nextRight) → s .left ≡ pos (e .left) → s .right ≡ pos (e .right)
     → length (points (e .curve)) ≤ 12 → cellsOf s (lineOf (points (e .curve))) ≡ edgeCells e

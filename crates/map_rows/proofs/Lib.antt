@@ -1,3 +1,7 @@
--- `Pastes`: two writes are one. `Cells`: the numbers written are those of the row.
+-- `Rows`: rows by their place. `Points`: the point and the containing face of a node row. `RowCurves`: the curve of an
+-- edge row. `Lookups`: rows by their number. `Cells`: the numbers written are those of the row.
+pub mod Rows
+pub mod Points
+pub mod RowCurves
+pub mod Lookups
 pub mod Cells
-pub mod Pastes

@@ -22,6 +22,7 @@ use Rattle.planar_maps.proofs.Cycles.{fwd-in, bwd-in}
 use Rattle.planar_maps.proofs.Hooks.{distinct-darts}
 use Rattle.planar_maps.proofs.Rings.{rev-in}
 use Rattle.planar_maps.proofs.Turns.{rev-rev}
+use Rattle.tables.specs.Tables.{numbered}
 use Rattle.plane.specs.Directions.{Way}
 use Rattle.rotation.specs.Law.{Apart}
 use Rattle.rotation.proofs.Node.{lawful-in}
@@ -29,7 +30,7 @@ use Rattle.rotation.proofs.Ties.{tells}
 use Rattle.rotation.proofs.Whole.{law-onto}
 use Rattle.map.specs.Rows.{Edge, Map, edge, node, hasNode, hasEdge}
 use Rattle.map.specs.Darts.{arcs, directed, leaves, arrives, next, bears, way, departures}
-use Rattle.map.specs.Form.{numbered, numbers, inFace, curveFits, waysDiffer, departuresDiffer, bareMarked, linksMeet}
+use Rattle.map.specs.Form.{numbers, inFace, curveFits, waysDiffer, departuresDiffer, bareMarked, linksMeet}
 use Rattle.map.specs.Form.{ringsBearOne, formed}
 use Rattle.map.specs.Links.{clockwise}
 use Rattle.map.proofs.Laws.{numbers-are, edge-there, node-there}

@@ -14,9 +14,11 @@ use Rattle.lists.proofs.Members.{all-of}
 use Rattle.curves.specs.Curves.{points, maxPoints}
 use Rattle.map.specs.Limits.{edgeWidth}
 use Rattle.map.specs.Rows.{Edge, Map, Sizes, edgeRows, edgeCells, lentOf, whole}
-use Rattle.map.specs.Form.{within, restZero, edgeRanges, ranged}
-use Rattle.map.proofs.Facts.{zeros}
-use Rattle.map.proofs.RoundTrip.{Wide, flat-length, rows-flat, edge-wide, ranged-is}
+use Rattle.map.specs.Form.{edgeRanges, ranged}
+use Rattle.tables.specs.Tables.{within, restZero}
+use Rattle.tables.proofs.Tests.{zeros}
+use Rattle.map.proofs.RoundTrip.{edge-wide, ranged-is}
+use Rattle.tables.proofs.Filled.{Wide, flat-length, rows-flat}
 use Rattle.mending.specs.Mend.{mended}
 use Rattle.mending.proofs.Mended.{relinked}
 

@@ -22,7 +22,7 @@ use Rattle.lists.proofs.Perms.{perm-length, perm-of-distinct, perm-distinct, di
 use Rattle.planar_maps.specs.Pieces.{pieces}
 use Rattle.map.specs.Rows.{Map, Lent, mapOf, whole}
 use Rattle.map.specs.Darts.{pieceCount}
-use Rattle.map.specs.Form.{formed, ranged, inForm}
+use Rattle.map.specs.Form.{formed, ranged, inForm, numbers}
 use Rattle.map.specs.Reasons.{firstReason}
 use Rattle.map.specs.Ticket.{listUnless}
 use Rattle.map.proofs.Laws.{formed-is}

@@ -8,7 +8,7 @@ use native.Mathlib.Omega.{arith}
 use lib.IntN.{ℤ, pos}
 use Rattle.lists.proofs.Bools.{and-true}
 use Rattle.map.specs.Reasons.{firstReason}
-use Rattle.map.proofs.RoundTrip.{within-back}
+use Rattle.tables.proofs.Tests.{within-back}
 use Rattle.network.specs.Rows.{Network, Lent, networkOf, lentOf, sizesOf, isolated}
 use Rattle.network.specs.Form.{ranged, formed, inForm}
 use Rattle.network.specs.Operations.{Operation, AddNode, MoveNode, RemoveNode, AddLink, ChangeLink, RemoveLink}

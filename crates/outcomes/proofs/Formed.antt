@@ -18,21 +18,23 @@ use Rattle.lists.specs.declared.Found.the-variants.{Missing}
 use Rattle.curves.proofs.Runs.{and-left, and-right}
 use Rattle.map.specs.declared.Head.{Head}
 use Rattle.map.specs.Limits.{maxNodes, maxEdges, maxFaces, lastNumber, nodeWidth, edgeWidth, faceWidth}
-use Rattle.map.specs.Rows.{Edge, Map, Lent, Sizes, mapOf, lentOf, sizesOf, headOf, filled, nodeCells, edgeCells}
+use Rattle.map.specs.Rows.{Edge, Map, Lent, Sizes, mapOf, lentOf, sizesOf, headOf, nodeCells, edgeCells}
+use Rattle.tables.specs.Tables.{sameZ, column, filled, numbered}
 use Rattle.map.specs.Rows.{faceCells, whole, hasNode, hasEdge, hasFace}
-use Rattle.map.specs.Form.{numbered, numbers, inFace, edgeNames, named, ranged, formed, inForm}
+use Rattle.map.specs.Form.{numbers, inFace, edgeNames, named, ranged, formed, inForm}
 use Rattle.map.specs.Tickets.{Ticket}
 use Rattle.map.specs.Reasons.{firstReason, reasons, full, spent, noNode, noEdge}
 use Rattle.map.specs.Ticket.{carried}
-use Rattle.map.proofs.RoundTrip.{Ranged, ranged-is, WholeRows, whole-rows, whole-tables}
+use Rattle.map.proofs.RoundTrip.{Ranged, ranged-is, whole-tables}
+use Rattle.tables.proofs.Filled.{WholeRows, whole-rows, Wide}
 use Rattle.map.proofs.Laws.{formed-is, in-form-back}
-use Rattle.tables.specs.Tables.{nodesOf, edgesOf, facesOf, edgeMap, NodeRows, EdgeRows, FaceRows, sameZ, column}
-use Rattle.tables.proofs.Rows.{nodes-length, edges-length, faces-length}
-use Rattle.tables.proofs.Writes.{Wide, table-edges-wide}
-use Rattle.tables.proofs.RowCurves.{within-pos}
-use Rattle.tables.proofs.Lookups.{node-missing, edge-missing}
+use Rattle.map_rows.specs.Rows.{nodesOf, edgesOf, facesOf, edgeMap, NodeRows, EdgeRows, FaceRows}
+use Rattle.map_rows.proofs.Rows.{nodes-length, edges-length, faces-length}
+use Rattle.map_rows.proofs.RowCurves.{table-edges-wide}
+use Rattle.tables.proofs.Tests.{within-pos}
+use Rattle.map_rows.proofs.Lookups.{node-missing, edge-missing}
 use Rattle.form_ranges.specs.Ranges.{lent}
-use Rattle.form_ranges.proofs.Columns.{all-weaker, numbered-wider}
+use Rattle.tables.proofs.Rising.{all-weaker, numbered-wider}
 use Rattle.outcomes.specs.declared.Done.{Done}
 use Rattle.outcomes.specs.Outcomes.{Formed, decided, outcome}
 

@@ -1,27 +1,23 @@
--- Counts and next numbers as words, a number looked up as it was passed, and a containing face in its row. Assumes
--- nothing.
+-- Counts and next numbers as words, and a number looked up as it was passed. Assumes nothing.
 use mathlib.Core.Path.{_≡_, refl, sym, ap, _∙_, ap₂}
-use mathlib.Core.Bool.{true, not}
+use mathlib.Core.Bool.{true}
 use mathlib.Core.List.{List}
 use Prim.Native.Nat.{ℕ, _+_, _-_, _≤_}
 use native.Mathlib.Nat.{lt-of-le-of-lt}
 use native.Mathlib.Omega.{arith}
 use lib.Dec.{lit<, eqb}
-use lib.IntN.{ℤ, pos, negsuc, natAbs, _+ℤ_, _-ℤ_}
-use lib.Signed.{leZ, nonNeg}
+use lib.IntN.{ℤ, pos, natAbs, _+ℤ_, _-ℤ_}
+use lib.Signed.{nonNeg}
 use mir.Syntax.{w64}
 use mir.Val.{ofZ, toZ, SFits}
 use mir.Facts.{toZ-ofZ}
 use borrow.Author.Needs.{sfits-of}
-use borrow.Author.Tests.{leb-true}
 use Rattle.integers.specs.Solver.{con, _⊕_, _⊖_, _≐_, solve}
-use Rattle.lists.specs.Scans.{isSome}
 use Rattle.lists.specs.Tables.{place}
 use Rattle.lists.specs.declared.Found.{Found}
 use Rattle.lists.specs.Tests.{same}
-use Rattle.map.specs.Rows.{faceOf}
 use Rattle.tables.specs.Tables.{sameZ, column}
-use Rattle.tables.proofs.Order.{is-same, word-test, same-pos}
+use Rattle.tables.proofs.Order.{word-test, same-pos}
 
 -- ---- small numbers
 
@@ -91,11 +87,3 @@ module _ (z : ℤ) (is : z ≡ pos (natAbs z)) (few : natAbs z ≤ 1000000) wher
 pub place-told : (w : ℕ) (l : List ℤ) {a n : ℕ} {u z : ℤ} {r v : Found} → a ≡ n → u ≡ z → r
     ≡ place (sameZ u) 0 (column w l a) → r ≡ v → place (sameZ z) 0 (column w l n) ≡ v
 place-told w l ea eu er ev = sym (λ j. place (sameZ (eu j)) 0 (column w l (ea j))) ∙ sym er ∙ ev
-
--- ---- a containing face in its row: a number, or -1 for none
-
-pub lone-is : (z : ℤ) → leZ (negsuc 0) z ≡ true → not (sameZ z (negsuc 0)) ≡ isSome (faceOf z)
-lone-is (pos n) h = refl
-lone-is (negsuc n) h =
-    let e : n ≤ 0 = leb-true n 0 h in
-    ap not (is-same (negsuc n) (negsuc 0) (ap negsuc (omega arith)))

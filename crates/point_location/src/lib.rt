@@ -11,7 +11,7 @@ ghost use Rattle.lists.specs.Scans.{fold};
 ghost use Rattle.plane.specs.Points.{InRange, maxCoordinate};
 ghost use Rattle.curves.specs.Curves.{Run, curveOf, segments};
 ghost use Rattle.map.specs.Faces.{faceOfPoint};
-ghost use Rattle.tables.specs.Tables.{EdgeRow, EdgeRows, edgeAt, edgeMap};
+ghost use Rattle.map_rows.specs.Rows.{EdgeRow, EdgeRows, edgeAt, edgeMap};
 ghost use Rattle.point_location.specs.Highest.{Held, faceBound, floor, held, over, sided, passed, rowed};
 
 // The highest segment below a point so far, its ends ordered by x, and the face on its upper side.
@@ -111,7 +111,7 @@ fn floor_over(h: Highest, p: Point, edges: &[i64], i: usize) -> Highest
 {
     let left = face_at(edges, i * map::EDGE_WIDTH + map::LEFT);
     let right = face_at(edges, i * map::EDGE_WIDTH + map::RIGHT);
-    floor_along(h, p, tables::curve_of(edges, i), left, right)
+    floor_along(h, p, map_rows::curve_of(edges, i), left, right)
 }
 
 // The face of a point on no node or edge.

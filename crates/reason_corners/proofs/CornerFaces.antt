@@ -26,9 +26,12 @@ use Rattle.map.specs.Darts.{leaves, bears, course as courseOf, way, departures,
 use Rattle.map.specs.Links.{cornerOf, cornerFace}
 use Rattle.map.specs.Reasons.{cornersDiffer}
 use Rattle.map.proofs.RoundTrip.{face-pos}
-use Rattle.tables.specs.Tables.{sameZ, column, nodesOf, edgesOf, nodeAt, edgeMap, NodeRows, EdgeRows}
-use Rattle.tables.proofs.Rows.{NodeCells, node-cells, rows-all, all-table, nodes-table, node-rows-rising}
-use Rattle.tables.proofs.Lookups.{row-place, node-found}
+use Rattle.tables.specs.Tables.{sameZ, column}
+use Rattle.map_rows.specs.Rows.{nodesOf, edgesOf, nodeAt, edgeMap, NodeRows, EdgeRows}
+use Rattle.tables.proofs.Rows.{rows-all, all-table}
+use Rattle.map_rows.proofs.Rows.{NodeCells, node-cells, nodes-table, node-rows-rising}
+use Rattle.tables.proofs.Lookups.{row-place}
+use Rattle.map_rows.proofs.Lookups.{node-found}
 use Rattle.tables.proofs.Order.{same-pos}
 use Rattle.darts.specs.Positions.{dartAt, wayAt, wayWith}
 use Rattle.darts.proofs.Positions.{half-below, cell-bears}

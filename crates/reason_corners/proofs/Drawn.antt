@@ -19,13 +19,15 @@ use Rattle.planar_maps.specs.Rings.{sameDart}
 use Rattle.planar_maps.proofs.Bridges.{Fresh}
 use Rattle.planar_maps.proofs.Rings.{sameDart-refl}
 use Rattle.planar_maps.proofs.Hooks.{fwd≢bwd, sameDart-false}
+use Rattle.tables.specs.Tables.{sameZ, numbered}
+use Rattle.tables.proofs.Rows.{number-in}
+use Rattle.tables.proofs.Order.{same-pos}
 use Rattle.plane.specs.Directions.{Way}
 use Rattle.curves.specs.Curves.{Curve, curveOf, startWay}
 use Rattle.rotation.specs.Law.{firstClockwise}
 use Rattle.rotation.proofs.Rename.{first-map}
 use Rattle.map.specs.Rows.{Edge, Map, edge, hasEdge, atNodes}
 use Rattle.map.specs.Darts.{arcs, directed, leaves, next, way, departures}
-use Rattle.map.specs.Form.{numbered}
 use Rattle.map.specs.Links.{instead, linkIn, linkEdge}
 use Rattle.map.specs.Edits.{drawn}
 use Rattle.map.proofs.Laws.{edge-there}
@@ -33,9 +35,8 @@ use Rattle.map_laws.proofs.Readings.{Relinked, numberOf, arcOf, has-number, num
 use Rattle.map_laws.proofs.Readings.{edge-by, tailIn, nextIn, leaves-row, next-row, course-row, way-row, next-by}
 use Rattle.map_laws.proofs.RowChanges.{more-old, more-new, more-directed}
 use Rattle.map_laws.proofs.LinkedIn.{drawnRow, appended, linkIn-relinked, linkIn-next, linkEdge-relinked}
-use Rattle.tables.specs.Tables.{sameZ, edgesOf, edgeAt, edgeMap, EdgeRows}
-use Rattle.tables.proofs.Rows.{edges-length, edge-numbers, number-in}
-use Rattle.tables.proofs.Order.{same-pos}
+use Rattle.map_rows.specs.Rows.{edgesOf, edgeAt, edgeMap, EdgeRows}
+use Rattle.map_rows.proofs.Rows.{edges-length, edge-numbers}
 use Rattle.darts.specs.Positions.{odd, dartAt, wayWith}
 use Rattle.darts.proofs.Positions.{edge-of, row-there}
 use Rattle.links.proofs.Darts.{dart-named, row-named}

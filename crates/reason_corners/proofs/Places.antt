@@ -12,7 +12,7 @@ use Rattle.planar_maps.specs.Map.{Dart, fwd, bwd}
 use Rattle.planar_maps.specs.Rings.{sameDart}
 use Rattle.planar_maps.proofs.Rings.{sameDart-refl, sameDart-true, dart-is}
 use Rattle.map.specs.Links.{instead}
-use Rattle.tables.specs.Tables.{edgeAt, EdgeRows}
+use Rattle.map_rows.specs.Rows.{edgeAt, EdgeRows}
 use Rattle.darts.specs.Positions.{odd, dartAt}
 use Rattle.darts.proofs.Positions.{side, even-of, odd-of, number-injective}
 use Rattle.reason_corners.specs.Drawing.{drawnDart}

@@ -15,7 +15,7 @@ use Rattle.planar_maps.proofs.Rings.{sameDart-refl}
 use Rattle.map.specs.Rows.{Map}
 use Rattle.map.specs.Darts.{next, stepsTo, ring, among}
 use Rattle.map.specs.Links.{instead}
-use Rattle.tables.specs.Tables.{edgeMap, EdgeRows}
+use Rattle.map_rows.specs.Rows.{edgeMap, EdgeRows}
 use Rattle.darts.specs.Positions.{dartAt}
 use Rattle.reason_corners.specs.Drawing.{drawnDart, Joined}
 use Rattle.reason_corners.proofs.Places.{place-old, place-forward, place-backward, place-test, place-instead}

@@ -8,16 +8,17 @@ use lib.IntN.{ℤ}
 use lib.ListN.{length}
 use Rattle.lists.specs.Tests.{same}
 use Rattle.lists.specs.Scans.{keep}
+use Rattle.planar_maps.specs.Map.{Dart, fwd, bwd}
+use Rattle.tables.specs.Tables.{sameZ}
 use Rattle.plane.specs.Directions.{Way, before}
 use Rattle.curves.specs.Curves.{curveOf, startWay}
 use Rattle.curves.specs.Edits.{course}
-use Rattle.planar_maps.specs.Map.{Dart, fwd, bwd}
 use Rattle.rotation.specs.Law.{firstClockwise}
 use Rattle.map.specs.Limits.{maxEdges}
 use Rattle.map.specs.Rows.{Map}
 use Rattle.map.specs.Darts.{next}
 use Rattle.map.specs.Links.{instead}
-use Rattle.tables.specs.Tables.{EdgeRows, sameZ, edgeAt, edgeMap}
+use Rattle.map_rows.specs.Rows.{edgeAt, edgeMap, EdgeRows}
 use Rattle.darts.specs.Positions.{odd, dartAt, wayWith}
 use Rattle.links.specs.Linking.{positions, leavesNode}
 use Rattle.reason_corners.specs.declared.Corners.{Corners}

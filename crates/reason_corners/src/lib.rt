@@ -4,23 +4,23 @@ use darts::Step;
 use lists::Found;
 ghost use mathlib.Core.Path.{_≡_};
 ghost use mathlib.Core.Bool.{true, false, not, cond};
+ghost use Rattle.lists.specs.Tests.{same};
+ghost use Rattle.planar_maps.specs.Map.{fwd, bwd};
+ghost use Rattle.tables.specs.Tables.{sameZ, numbered};
 ghost use Rattle.plane.specs.Points.{InRange};
 ghost use Rattle.plane.specs.Directions.{wayTo};
 ghost use Rattle.curves.specs.Curves.{Run, curveOf, startWay};
 ghost use Rattle.curves.specs.Edits.{course};
-ghost use Rattle.tables.specs.Tables.{NodeRow, EdgeRows, sameZ, nodeAt, edgesOf};
-ghost use Rattle.reason_corners.specs.CornerFaces.{cornerCell};
-ghost use mathlib.Core.List.{map};
-ghost use Prim.Native.Nat.{ℕ, _+_, _*_, _≤_, _<_};
-ghost use Rattle.lists.specs.Tests.{same};
-ghost use Rattle.planar_maps.specs.Map.{fwd, bwd};
 ghost use Rattle.map.specs.Limits.{maxEdges};
 ghost use Rattle.map.specs.Rows.{Map};
 ghost use Rattle.map.specs.Darts.{next, ring, among};
-ghost use Rattle.map.specs.Form.{numbered};
 ghost use Rattle.map.specs.Edits.{splitsFace};
+ghost use Rattle.map_rows.specs.Rows.{NodeRow, EdgeRows, nodeAt, edgesOf};
 ghost use Rattle.darts.specs.Positions.{wayWith};
+ghost use Rattle.reason_corners.specs.CornerFaces.{cornerCell};
 ghost use Rattle.reason_corners.specs.Drawing.{drawnDart, cornerAt, endCorner, firstOf, Linkable, Joined};
+ghost use mathlib.Core.List.{map};
+ghost use Prim.Native.Nat.{ℕ, _+_, _*_, _≤_, _<_};
 
 // The corner face of v: left of the first existing departure met turning clockwise from it; at an isolated node, the
 // containing face.

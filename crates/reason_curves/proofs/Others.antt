@@ -20,9 +20,10 @@ use Rattle.map.specs.Limits.{nodeWidth, edgeWidth}
 use Rattle.map.specs.Rows.{Node, Edge, withoutNode, withoutEdge}
 use Rattle.map.specs.Form.{nodeRanges, edgeRanges}
 use Rattle.map.specs.Reasons as reasons
-use Rattle.tables.specs.Tables.{sameZ, column, Rising, NodeRows, EdgeRows, nodeAt, edgeAt, nodesOf, edgesOf}
-use Rattle.tables.proofs.Rows.{map-table, rows-all, node-cells, edge-cells, nodes-table, edges-table, node-rows-rising}
-use Rattle.tables.proofs.Rows.{edge-rows-rising}
+use Rattle.tables.specs.Tables.{sameZ, column, Rising}
+use Rattle.map_rows.specs.Rows.{NodeRows, EdgeRows, nodeAt, edgeAt, nodesOf, edgesOf}
+use Rattle.tables.proofs.Rows.{map-table, rows-all}
+use Rattle.map_rows.proofs.Rows.{node-cells, edge-cells, nodes-table, edges-table, node-rows-rising, edge-rows-rising}
 use Rattle.tables.proofs.Lookups.{row-place}
 use Rattle.reason_curves.specs.Sent.{edgesBut}
 

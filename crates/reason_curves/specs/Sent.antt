@@ -12,7 +12,7 @@ use Rattle.curves.specs.Curves.{lastPoint, curveOf}
 use Rattle.curves.specs.Tests.{neighboursDiffer, straightInside, isSimple}
 use Rattle.map.specs.Rows.{Edge}
 use Rattle.map.specs.Reasons.{Reasons, badCurve}
-use Rattle.tables.specs.Tables.{edgeAt}
+use Rattle.map_rows.specs.Rows.{edgeAt}
 
 -- 5 to 8, for a curve from the point p to the point q: `curveReasons` of the map, whose nodes u and v have these points
 abbrev pub sentReasons : List ℤ → Point → Point → Reasons

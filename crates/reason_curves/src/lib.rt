@@ -4,7 +4,6 @@ use map::Map;
 use plane::Point;
 ghost use mathlib.Core.Path.{_≡_};
 ghost use mathlib.Core.Bool.{true, not, _&&_};
-ghost use Prim.Native.Nat.{_*_, _<_};
 ghost use Rattle.lists.specs.Tests.{same};
 ghost use Rattle.lists.specs.Scans.{anyOf};
 ghost use Rattle.lists.specs.Tables.{table};
@@ -12,7 +11,7 @@ ghost use Rattle.plane.specs.Points.{InRange, samePoint};
 ghost use Rattle.curves.specs.Curves.{Run, coordinate, curveOf, lastPoint, point};
 ghost use Rattle.curves.specs.Tests.{onCurve};
 ghost use Rattle.map.specs.Reasons.{firstReason, edgeThrough, isEnd, nodeInside, edgeWrong, meetingReasons};
-ghost use Rattle.tables.specs.Tables.{NodeRow, NodeRows, EdgeRows, nodeAt, nodeMap, edgeMap};
+ghost use Rattle.map_rows.specs.Rows.{NodeRow, NodeRows, EdgeRows, nodeAt, nodeMap, edgeMap};
 ghost use Rattle.reason_curves.specs.Sent.{sentReasons, edgesBut};
 
 // ---- 5: coordinate out of range
@@ -29,19 +28,6 @@ pub fn point_of(x: i64, y: i64) -> Point
     requires { ⌜ (coordinate x && coordinate y) ≡ true ⌝ }
     ensures { λ r. ⌜ (r ≡ point x y) × InRange r ⌝ }
 {
-    Point {
-        x: x as u64,
-        y: y as u64,
-    }
-}
-
-// The point of a node row.
-pub fn node_point(nodes: &[i64], i: usize) -> Point
-    requires { ⌜ NodeRow (now nodes) i ⌝ }
-    ensures { λ r. ⌜ (r ≡ nodeAt (now (nodes .entry)) i .at) × InRange r ⌝ }
-{
-    let x = nodes[i * map::NODE_WIDTH + map::X];
-    let y = nodes[i * map::NODE_WIDTH + map::Y];
     Point {
         x: x as u64,
         y: y as u64,
@@ -73,8 +59,8 @@ fn ends_on(nodes: &[i64], u: usize, v: usize, c: &[i64]) -> bool
         r ≡ (samePoint (curveOf (now (c .entry)) .first) (nodeAt (now (nodes .entry)) u .at)
         && samePoint (lastPoint (curveOf (now (c .entry)))) (nodeAt (now (nodes .entry)) v .at)) ⌝ }
 {
-    let starts = plane::same_point(first_point(c), node_point(nodes, u));
-    let ends = plane::same_point(last_point(c), node_point(nodes, v));
+    let starts = plane::same_point(first_point(c), map_rows::node_point(nodes, u));
+    let ends = plane::same_point(last_point(c), map_rows::node_point(nodes, v));
     starts & ends
 }
 
@@ -106,7 +92,7 @@ pub fn node_at(nodes: &[i64], n: usize, own: usize, p: Point) -> bool
         r ≡ anyOf (λ i. not (same i own) && samePoint (nodeAt (now (nodes .entry)) i .at) p) (table (λ i. i) 0 n) ⌝ }
 {
     for i in 0..n {
-        if (i != own) & plane::same_point(node_point(nodes, i), p) {
+        if (i != own) & plane::same_point(map_rows::node_point(nodes, i), p) {
             return true;
         }
     }
@@ -131,7 +117,7 @@ pub fn edge_through(edges: &[i64], count: usize, p: Point) -> bool
     ensures { λ r. ⌜ r ≡ edgeThrough (edgeMap (now (edges .entry)) count) p ⌝ }
 {
     for i in 0..count {
-        if on_curve(tables::curve_of(edges, i), p) {
+        if on_curve(map_rows::curve_of(edges, i), p) {
             return true;
         }
     }
@@ -154,7 +140,7 @@ fn node_inside(nodes: &[i64], n: usize, c: &[i64]) -> bool
     ensures { λ r. ⌜ r ≡ nodeInside (nodeMap (now (nodes .entry)) n) (curveOf (now (c .entry))) ⌝ }
 {
     for i in 0..n {
-        let p = node_point(nodes, i);
+        let p = map_rows::node_point(nodes, i);
         if on_curve(c, p) & !is_end(c, p) {
             return true;
         }
@@ -169,7 +155,7 @@ fn edge_wrong(edges: &[i64], count: usize, own: usize, c: &[i64]) -> bool
 {
     let e = bounding_boxes::extent_of(c);
     for i in 0..count {
-        let d = tables::curve_of(edges, i);
+        let d = map_rows::curve_of(edges, i);
         if !bounding_boxes::lie_apart(e, bounding_boxes::extent_of(d)) {
             if (i != own) & curves::curves_wrong(c, d) {
                 return true;

@@ -15,7 +15,8 @@ use Rattle.map.specs.Rows.{Edge, Map, edge}
 use Rattle.map.specs.Darts.{edgeEnds}
 use Rattle.map.specs.Edits.{sharedNodes, joint}
 use Rattle.map.specs.Reasons.{edgeIsolated, firstReason}
-use Rattle.tables.specs.Tables.{sameZ, edgeAt, edgeMap, EdgeRows}
+use Rattle.tables.specs.Tables.{sameZ}
+use Rattle.map_rows.specs.Rows.{edgeAt, edgeMap, EdgeRows}
 use Rattle.tables.proofs.Order.{same-pos}
 use Rattle.darts.proofs.Positions.{cells-of, edge-of, number-injective}
 use Rattle.links.specs.Linking.{positions, leavesNode}

@@ -14,7 +14,7 @@ use Rattle.lists.specs.Scans.{anyOf, keep}
 use Rattle.lists.proofs.Keeps.{keep-in}
 use Rattle.curves.specs.Curves.{Run}
 use Rattle.rotation.specs.Law.{lawfulNext}
-use Rattle.tables.specs.Tables.{EdgeRows}
+use Rattle.map_rows.specs.Rows.{EdgeRows}
 use Rattle.tables.proofs.Numbers.{getD-in}
 use Rattle.tables.proofs.Order.{same-is}
 use Rattle.darts.specs.Positions.{sideCell, wayWith}

@@ -13,7 +13,7 @@ use Rattle.plane.specs.Directions.{Way, sameWay}
 use Rattle.planar_maps.specs.Map.{Dart}
 use Rattle.map.specs.Darts.{departures, way}
 use Rattle.map.specs.Reasons.{wayTaken}
-use Rattle.tables.specs.Tables.{edgeAt, edgeMap, EdgeRows}
+use Rattle.map_rows.specs.Rows.{edgeAt, edgeMap, EdgeRows}
 use Rattle.tables.proofs.Order.{lt-or-ge}
 use Rattle.darts.specs.Positions.{dartAt, wayAt}
 use Rattle.darts.proofs.Positions.{way-is}

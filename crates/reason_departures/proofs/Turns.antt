@@ -24,7 +24,7 @@ use Rattle.map.specs.Edits.{withCurve, changeEdgeGeom}
 use Rattle.map.specs.Reasons.{turnChanges, orderChanges}
 use Rattle.map.proofs.Laws.{edge-is}
 use Rattle.map.proofs.Linked.{arcOf}
-use Rattle.tables.specs.Tables.{edgesOf, edgeAt, edgeMap, EdgeRows}
+use Rattle.map_rows.specs.Rows.{edgesOf, edgeAt, edgeMap, EdgeRows}
 use Rattle.tables.proofs.Order.{same-self}
 use Rattle.darts.specs.Positions.{odd, dartAt, sideCell, wayWith}
 use Rattle.darts.proofs.Positions.{edge-of, cell-leaves, way-is}

@@ -13,7 +13,8 @@ use Rattle.map.specs.Rows.{Map, edge}
 use Rattle.map.specs.Darts.{edgeEnds}
 use Rattle.map.specs.Edits.{sharedNodes, joint}
 use Rattle.map.specs.Reasons.{Reasons}
-use Rattle.tables.specs.Tables.{sameZ, edgeAt}
+use Rattle.tables.specs.Tables.{sameZ}
+use Rattle.map_rows.specs.Rows.{edgeAt}
 use Rattle.darts.specs.Positions.{sideCell, wayWith}
 use Rattle.links.specs.Linking.{positions, leavesNode}
 

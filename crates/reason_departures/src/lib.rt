@@ -9,7 +9,7 @@ ghost use Rattle.lists.specs.Scans.{anyOf};
 ghost use Rattle.curves.specs.Curves.{Run, curveOf};
 ghost use Rattle.map.specs.Limits.{edgeWidth, maxEdges};
 ghost use Rattle.map.specs.Reasons.{edgeIsolated, directionTaken, orderChanges, firstReason};
-ghost use Rattle.tables.specs.Tables.{edgeAt, edgeMap, EdgeRows};
+ghost use Rattle.map_rows.specs.Rows.{edgeAt, edgeMap, EdgeRows};
 ghost use Rattle.links.specs.Linking.{positions, leavesNode};
 ghost use Rattle.reason_departures.specs.Turning.{Own, turnsAt, endsAt, joinsAt, jointReasons};
 

@@ -23,8 +23,9 @@ use Rattle.map.specs.Links.{cornerFace}
 use Rattle.map.specs.Edits.{splitsFace}
 use Rattle.map.specs.Reasons.{firstReason, reasons, noNode, full, spent}
 use Rattle.map.proofs.Laws.{formed-is}
-use Rattle.tables.specs.Tables.{sameZ, column, nodeAt}
-use Rattle.tables.proofs.Lookups.{node-found}
+use Rattle.tables.specs.Tables.{sameZ, column}
+use Rattle.map_rows.specs.Rows.{nodeAt}
+use Rattle.map_rows.proofs.Lookups.{node-found}
 use Rattle.form_ranges.specs.Ranges.{lent}
 use Rattle.outcomes.specs.Outcomes.{Formed}
 use Rattle.outcomes.proofs.Formed.{ranges, formed-map, nodes-count, edges-count, faces-count, edge-next, face-next}

@@ -16,9 +16,11 @@ use Rattle.curves.specs.Edits.{course}
 use Rattle.map.specs.Limits.{nodeWidth}
 use Rattle.map.specs.Rows.{Node, Edge, Map, node}
 use Rattle.map.specs.Reasons.{Reasons, firstReason, curveReasons, meetingReasons, directionTaken, cornersDiffer}
-use Rattle.tables.specs.Tables.{sameZ, column, nodeAt, nodesOf, nodeMap, edgeMap, NodeRows, EdgeRows}
-use Rattle.tables.proofs.Rows.{node-cells, node-rows-rising, node-row-of}
-use Rattle.tables.proofs.Lookups.{node-found, row-place}
+use Rattle.tables.specs.Tables.{sameZ, column}
+use Rattle.map_rows.specs.Rows.{nodeAt, nodesOf, nodeMap, edgeMap, NodeRows, EdgeRows}
+use Rattle.map_rows.proofs.Rows.{node-cells, node-rows-rising, node-row-of}
+use Rattle.tables.proofs.Lookups.{row-place}
+use Rattle.map_rows.proofs.Lookups.{node-found}
 use Rattle.reason_curves.specs.Sent.{sentReasons, edgesBut}
 use Rattle.map.proofs.Reasons.{first-hit, first-miss, first-zero, first-append, first-after}
 use Rattle.reason_curves.proofs.Maps.{meeting-alike, sent-is}

@@ -15,8 +15,9 @@ use Rattle.map.specs.Limits.{edgeWidth}
 use Rattle.map.specs.Rows.{Map, Sizes, mapOf, sizesOf, findEdge}
 use Rattle.map.specs.Edits.{makesFace, healsFaces}
 use Rattle.map.specs.Reasons.{firstReason, reasons, noEdge}
-use Rattle.tables.specs.Tables.{sameZ, column, edgeAt}
-use Rattle.tables.proofs.Lookups.{edge-found, edge-missing}
+use Rattle.tables.specs.Tables.{sameZ, column}
+use Rattle.map_rows.specs.Rows.{edgeAt}
+use Rattle.map_rows.proofs.Lookups.{edge-found, edge-missing}
 use Rattle.form_ranges.specs.Ranges.{lent}
 use Rattle.outcomes.specs.Outcomes.{Formed}
 use Rattle.outcomes.proofs.Formed.{ranges, spent-is, node-left, edge-left, face-left}

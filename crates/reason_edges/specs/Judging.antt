@@ -11,11 +11,12 @@ use Rattle.curves.specs.Curves.{Run, curveOf, startWay}
 use Rattle.map.specs.Limits.{nodeWidth, edgeWidth, lastNumber}
 use Rattle.map.specs.declared.Head.{Head}
 use Rattle.map.specs.Rows.{Map, mapOf, sizesOf}
-use Rattle.map.specs.Form.{numbered, bareMarked}
+use Rattle.map.specs.Form.{bareMarked}
+use Rattle.tables.specs.Tables.{sameZ, column, numbered}
 use Rattle.map.specs.Links.{cornerFace}
 use Rattle.map.specs.Edits.{splitsFace, makesFace}
 use Rattle.map.specs.Reasons.{firstReason, reasons}
-use Rattle.tables.specs.Tables.{sameZ, column, nodesOf, edgesOf, nodeAt}
+use Rattle.map_rows.specs.Rows.{nodesOf, edgesOf, nodeAt}
 use Rattle.form_ranges.specs.Ranges.{lent}
 use Rattle.reason_edges.specs.declared.Judged.{Judged}
 use Rattle.reason_edges.specs.declared.Removal.{Removal}

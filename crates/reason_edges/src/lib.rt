@@ -8,7 +8,7 @@ ghost use lib.IntN.{natAbs};
 ghost use lib.Signed.{nonNeg};
 ghost use Rattle.lists.specs.Tests.{bit};
 ghost use Rattle.map.specs.Reasons.{firstReason};
-ghost use Rattle.tables.specs.Tables.{NodeRows, EdgeRows, EdgeRow, nodeAt, edgeAt};
+ghost use Rattle.map_rows.specs.Rows.{NodeRows, EdgeRows, EdgeRow, nodeAt, edgeAt};
 ghost use Rattle.outcomes.specs.Outcomes.{Formed};
 ghost use Rattle.reason_edges.specs.Parts.{drawingReasons, roomReasons, makesSecond, makesOf, faceReasons};
 ghost use Rattle.reason_edges.specs.Judging.{Counted, Held, JudgedRows, JudgedAdd, JudgedRemoval};

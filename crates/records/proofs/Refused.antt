@@ -11,7 +11,8 @@ use borrow.Author.Tests.{lt-leb}
 use Rattle.lists.specs.Tests.{same}
 use Rattle.lists.proofs.Bools.{&&-false}
 use Rattle.map.specs.Limits.{nodeWidth, maxNodes}
-use Rattle.map.specs.Rows.{Lent, whole, wholeRows}
+use Rattle.map.specs.Rows.{Lent, whole}
+use Rattle.tables.specs.Tables.{wholeRows}
 use Rattle.map.specs.Ticket.{ticket, refused}
 use Rattle.engine.proofs.Answers.{ticket-1}
 use Rattle.records.specs.declared.Node.{Node}

@@ -20,8 +20,8 @@ use Rattle.planar_maps.specs.Map.{Dart}
 use Rattle.map.specs.Rows.{Edge}
 use Rattle.map.specs.Darts.{course}
 use Rattle.map.specs.Faces.{ringArea, encloses}
-use Rattle.tables.specs.Tables.{EdgeRow, EdgeRows, edgeMap, edgeAt}
-use Rattle.tables.proofs.RowCurves.{run-at, curve-at}
+use Rattle.map_rows.specs.Rows.{EdgeRow, EdgeRows, edgeMap, edgeAt}
+use Rattle.map_rows.proofs.RowCurves.{run-at, curve-at}
 use Rattle.darts.specs.Positions.{odd, dartAt}
 use Rattle.darts.proofs.Positions.{edge-of}
 use Rattle.rings.proofs.Walks.{steps, ringAt, ring-steps, Follows, steps-end, steps-on, steps-last}

@@ -16,9 +16,9 @@ use Rattle.planar_maps.specs.Rings.{sameDart}
 use Rattle.planar_maps.proofs.Rings.{sameDart-refl, sameDart-true}
 use Rattle.map.specs.Rows.{dartCell}
 use Rattle.map.specs.Darts.{next, stepsTo, ring, among}
-use Rattle.tables.specs.Tables.{edgeMap, EdgeRows}
+use Rattle.map_rows.specs.Rows.{edgeMap, EdgeRows}
 use Rattle.tables.proofs.Order.{lt-or-ge}
-use Rattle.tables.proofs.Rows.{edges-length}
+use Rattle.map_rows.proofs.Rows.{edges-length}
 use Rattle.darts.specs.Positions.{dartAt}
 use Rattle.darts.proofs.Positions.{dart-injective}
 

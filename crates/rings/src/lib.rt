@@ -9,7 +9,7 @@ ghost use lib.Seq.{paste};
 ghost use Rattle.map.specs.Limits.{maxEdges};
 ghost use Rattle.map.specs.Rows.{dartCell};
 ghost use Rattle.map.specs.Darts.{ring, among};
-ghost use Rattle.tables.specs.Tables.{EdgeRows, edgeMap, EdgeRow, edgeAt};
+ghost use Rattle.map_rows.specs.Rows.{EdgeRows, edgeMap, EdgeRow, edgeAt};
 ghost use Rattle.darts.specs.Positions.{dartAt, odd};
 ghost use Rattle.plane.specs.Points.{InRange};
 ghost use Rattle.curves.specs.Edits.{course};
@@ -58,7 +58,7 @@ fn dart_area(edges: &[i64], p: usize) -> i64
     requires { ⌜ EdgeRow (now edges) (p / 2) ⌝ }
     ensures { λ r. ⌜ r ≡ curveArea (course (odd p) (edgeAt (now (edges .entry)) (p / 2) .curve)) ⌝ }
 {
-    let a = curves::area_of(tables::curve_of(edges, p / 2));
+    let a = curves::area_of(map_rows::curve_of(edges, p / 2));
     if p % 2 == 0 { a } else { -a }
 }
 
@@ -91,7 +91,7 @@ pub fn encloses(edges: &[i64], count: usize, p: usize, q: Point) -> bool
     let mut c = p;
     let mut odd = false;
     for k in 0..count * 2 {
-        odd = odd != curves::odd_below(tables::curve_of(edges, c / 2), q);
+        odd = odd != curves::odd_below(map_rows::curve_of(edges, c / 2), q);
         c = darts::next_position(edges, count, c);
         if c == p {
             return odd;

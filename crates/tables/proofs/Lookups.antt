@@ -1,5 +1,4 @@
--- What `find_row` answers, in the map's terms: a place is a row that is found, and missing is a row that does not
--- exist. Assumes nothing.
+-- What `find_row` answers: a place is a row that is found, and missing is a row that does not exist. Assumes nothing.
 use mathlib.Core.Path.{_≡_, refl, sym, ap, _∙_, subst}
 use mathlib.Core.Bool.{Bool, true, false}
 use mathlib.Core.Logic.{_⊎_, inl, inr, ⊎-elim}
@@ -12,19 +11,14 @@ use lib.IntN.{ℤ, pos, negsuc, natAbs}
 use lib.ListN.{getD}
 use lib.Signed.{ltZ}
 use Rattle.lists.specs.Tests.{same}
-use Rattle.lists.specs.Scans.{anyOf, allOf, find, isSome}
+use Rattle.lists.specs.Scans.{anyOf, find, isSome}
 use Rattle.lists.specs.Tables.{table, place}
 use Rattle.lists.specs.declared.Found.{Found}
 use Rattle.lists.specs.declared.Found.the-variants.{At, Missing}
 use Rattle.lists.proofs.Bools.{which, same-true, same-sym}
 use Rattle.lists.proofs.Scans.{place-none, place-at}
-use Rattle.map.specs.Limits.{nodeWidth, edgeWidth, faceWidth}
-use Rattle.map.specs.Rows.{rows, findEdge}
-use Rattle.map.specs.Form.{nodeRanges, edgeRanges, faceRanges}
-use Rattle.tables.specs.Tables.{sameZ, column, nodesOf, facesOf, nodeAt, edgeAt, faceAt, edgeMap, Rising}
+use Rattle.tables.specs.Tables.{sameZ, column, Rising}
 use Rattle.tables.proofs.Order.{same-self, same-pos, below-other, above-other, less-trans, rise, rising-first}
-use Rattle.tables.proofs.Rows.{nodes-table, edges-table, faces-table, rows-all, node-cells, edge-cells}
-use Rattle.tables.proofs.Rows.{face-cell}
 
 -- ---- the place in a list, and the scans `find` and `any`
 
@@ -86,7 +80,7 @@ pub any-find : {A : Type 0} (p : A → Bool) (l : List A) → anyOf p l ≡ isSo
 any-find p [] = refl
 any-find p (r ∷ l) = let later = any-find p l in elim (which (p r)) [ inl e ↦ rw e | inr e ↦ rw e later ]
 
-any-same : {A : Type 0} (p q : A → Bool) → ((r : A) → p r ≡ q r) → (l : List A) → anyOf p l ≡ anyOf q l
+pub any-same : {A : Type 0} (p q : A → Bool) → ((r : A) → p r ≡ q r) → (l : List A) → anyOf p l ≡ anyOf q l
 any-same p q h [] = refl
 any-same p q h (r ∷ l) = rw (h r, any-same p q h l)
 
@@ -168,56 +162,3 @@ place-before {w} {l} {n} r m h z less =
     let at-most : m ≤ k = omega arith in
     above-other z (f k) (⊎-elim (λ e. subst (λ (j : ℕ). ltZ z (f j) ≡ true) e less)
     (λ g. less-trans z (f m) (f k) less (rise f n (r .rising) m k g (omega arith))) (eq-or-lt-of-le at-most)))
-
--- ---- nodes, edges and faces
-
-module _ (l : List ℤ) (n : ℕ) where
-  module _ (ranges : allOf nodeRanges (rows nodeWidth n l) ≡ true) where
-    node-first : (i : ℕ) → i < n → getD l (i * nodeWidth) (pos 0) ≡ pos (nodeAt l i .number)
-    node-first i t = node-cells l i (rows-all nodeWidth l nodeRanges n ranges i t) .number
-
-    pub node-found : (z : ℤ) (i : ℕ) → place (sameZ z) 0 (column nodeWidth l n) ≡ At i → (i < n)
-        × (z ≡ pos (nodeAt l i .number)) × (find (λ r. same (r .number) (natAbs z)) (nodesOf l n) ≡ some (nodeAt l i))
-    node-found z i e =
-        let h = row-found nodeWidth l n (λ r. r .number) (nodeAt l) node-first z i e in
-        (h .below, h .is, ap (find (λ r. same (r .number) (natAbs z))) (nodes-table l n) ∙ h .found)
-
-    pub node-missing : (m : ℕ) → place (sameZ (pos m)) 0 (column nodeWidth l n) ≡ Missing
-        → find (λ r. same (r .number) m) (nodesOf l n) ≡ none
-    node-missing m e = ap (find (λ r. same (r .number) m)) (nodes-table l n)
-        ∙ row-missing nodeWidth l n (λ r. r .number) (nodeAt l) node-first m e
-
-  module _ (ranges : allOf edgeRanges (rows edgeWidth n l) ≡ true) where
-    edge-first : (i : ℕ) → i < n → getD l (i * edgeWidth) (pos 0) ≡ pos (edgeAt l i .number)
-    edge-first i t = edge-cells l i (rows-all edgeWidth l edgeRanges n ranges i t) .number
-
-    pub edge-found : (z : ℤ) (i : ℕ) → place (sameZ z) 0 (column edgeWidth l n) ≡ At i → (i < n)
-        × (z ≡ pos (edgeAt l i .number)) × (findEdge (edgeMap l n) (natAbs z) ≡ some (edgeAt l i))
-    edge-found z i e =
-        let h = row-found edgeWidth l n (λ r. r .number) (edgeAt l) edge-first z i e in
-        (h .below, h .is, ap (find (λ r. same (r .number) (natAbs z))) (edges-table l n) ∙ h .found)
-
-    pub edge-missing : (m : ℕ) → place (sameZ (pos m)) 0 (column edgeWidth l n) ≡ Missing → findEdge (edgeMap l n) m
-        ≡ none
-    edge-missing m e = ap (find (λ r. same (r .number) m)) (edges-table l n)
-        ∙ row-missing edgeWidth l n (λ r. r .number) (edgeAt l) edge-first m e
-
-  module _ (ranges : allOf faceRanges (rows faceWidth n l) ≡ true) where
-    face-first : (i : ℕ) → i < n → getD l (i * faceWidth) (pos 0) ≡ pos (faceAt l i)
-    face-first i t = face-cell l i (rows-all faceWidth l faceRanges n ranges i t)
-
-    -- the map's test of a face, as a search
-    has-face : (m : ℕ) → anyOf (same m) (facesOf l n) ≡ isSome (find (λ k. same k m) (table (faceAt l) 0 n))
-    has-face m = ap (anyOf (same m)) (faces-table l n)
-        ∙ any-same (same m) (λ k. same k m) (λ k. same-sym m k) (table (faceAt l) 0 n)
-        ∙ any-find (λ k. same k m) (table (faceAt l) 0 n)
-
-    pub face-found : (z : ℤ) (i : ℕ) → place (sameZ z) 0 (column faceWidth l n) ≡ At i → (i < n)
-        × (z ≡ pos (faceAt l i)) × (anyOf (same (natAbs z)) (facesOf l n) ≡ true)
-    face-found z i e =
-        let h = row-found faceWidth l n (λ k. k) (faceAt l) face-first z i e in
-        (h .below, h .is, has-face (natAbs z) ∙ ap isSome (h .found))
-
-    pub face-missing : (m : ℕ) → place (sameZ (pos m)) 0 (column faceWidth l n) ≡ Missing
-        → anyOf (same m) (facesOf l n) ≡ false
-    face-missing m e = has-face m ∙ ap isSome (row-missing faceWidth l n (λ k. k) (faceAt l) face-first m e)

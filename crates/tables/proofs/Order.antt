@@ -18,8 +18,7 @@ use mir.Facts.{toZ-ofZ}
 use Rattle.lists.specs.Scans.{linked}
 use Rattle.lists.specs.Tables.{table}
 use Rattle.lists.specs.Tests.{same}
-use Rattle.lists.proofs.Bools.{T→≡, ≡→T, not-true, which, same-true, differ}
-use Rattle.curves.proofs.Runs.{and-left, and-right}
+use Rattle.lists.proofs.Bools.{T→≡, ≡→T, not-true, which, same-true, differ, and-left, and-right}
 use Rattle.tables.specs.Tables.{sameZ, replaceAt}
 
 -- ---- two numbers

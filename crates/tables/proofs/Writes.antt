@@ -1,8 +1,7 @@
 -- What a table holds after a write. A table of rows `xs`, each w numbers by `cells`, with zeros behind, is `filled N
 -- (flatMap cells xs)`: so is the table after a row is pushed, replaced or removed, and a column is swept. Assumes
 -- nothing.
-use mathlib.Core.Path.{_≡_, refl, sym, ap, _∙_, subst}
-use mathlib.Core.Bool.{true}
+use mathlib.Core.Path.{_≡_, refl, sym, ap, _∙_}
 use mathlib.Core.List.{List, [], _∷_, _++_, map, flatMap, append-assoc}
 use Prim.Native.Nat.{ℕ, zero, suc, _+_, _*_, _-_, _<_, _≤_}
 use native.Mathlib.Nat.{suc-mul, zero-mul, suc-add, add-mul}
@@ -13,18 +12,12 @@ use lib.ListN.{length, getD, set, take, drop, replicate, length-append, length-r
 use lib.ListN.{take-append-drop, List·getD-append, replicate-append-replicate}
 use lib.Seq.{paste, split-at, set-split, drop-drop, take-at, drop-at, take-all, drop-append-add, getD-append-add}
 use lib.Seq.{set-append-left, length-take-le}
-use Rattle.tables.proofs.Order.{replace-length}
 use mathlib.Core.Logic.{inl, inr}
 use Rattle.lists.specs.Tables.{sweep}
 use Rattle.lists.proofs.Bools.{which}
-use Rattle.lists.specs.Scans.{allOf}
-use Rattle.map.specs.Limits.{edgeWidth}
-use Rattle.map.specs.Form.{edgeRanges}
-use Rattle.map.specs.Rows.{rows, filled, edgeCells}
-pub use Rattle.map.proofs.RoundTrip.{Wide, flat-length, rows-flat, nodes-wide, faces-wide, edge-wide}
-use Rattle.tables.specs.Tables.{sameZ, replaceAt, closed, edgesOf, edgeAt}
-use Rattle.tables.proofs.Rows.{each-table, edge-row, edges-table}
-use Rattle.tables.proofs.RowCurves.{edge-few}
+use Rattle.tables.specs.Tables.{filled, sameZ, replaceAt, closed}
+use Rattle.tables.proofs.Order.{replace-length}
+use Rattle.tables.proofs.Filled.{Wide, flat-length}
 
 -- ---- parts of a list
 
@@ -133,17 +126,17 @@ module _ {A : Type 0} (w : ℕ) (cells : A → List ℤ) where
   removed N pre post x n h hx hp en fits =
       let m = length pre * w in
       let k = length post * w in
-      let allOf = length (flatMap cells (pre ++ x ∷ post)) in
+      let all = length (flatMap cells (pre ++ x ∷ post)) in
       let size : n * w ≡ m + w + k = rw (← en) (scaled (length pre) (length post)) in
-      let long : allOf ≡ m + w + k = rw (flat-append pre (x ∷ post))
+      let long : all ≡ m + w + k = rw (flat-append pre (x ∷ post))
       (simp length-append (omega (arith, flat-length w cells pre h, flat-length w cells post hp))) in
       let short : length (flatMap cells (pre ++ post)) ≡ m + k =
       rw (flat-append pre post) (simp length-append
       (omega (arith, flat-length w cells pre h, flat-length w cells post hp))) in
       let e₁ : n * w - (m + w) ≡ k = omega arith in
       let e₂ : n * w - w ≡ m + k = omega arith in
-      let left : w + (N - allOf) ≡ N - length (flatMap cells (pre ++ post)) = omega arith in
-      let z = replicate (N - allOf) (pos 0) in
+      let left : w + (N - all) ≡ N - length (flatMap cells (pre ++ post)) = omega arith in
+      let z = replicate (N - all) (pos 0) in
       let l = flatMap cells pre ++ (cells x ++ (flatMap cells post ++ z)) in
       ap (λ (r : List ℤ). closed w r n (length pre)) (split pre post x z)
       ∙ ap (λ (j : ℕ). paste (paste l m (drop (m + w) l) j) (n * w - w) (replicate w (pos 0)) w) e₁
@@ -151,7 +144,7 @@ module _ {A : Type 0} (w : ℕ) (cells : A → List ℤ) where
       ∙ close-up (flatMap cells pre) (cells x) (flatMap cells post) z (replicate w (pos 0)) m w k
       (flat-length w cells pre h) hx (flat-length w cells post hp) (length-replicate w (pos 0))
       ∙ ap (λ (r : List ℤ). flatMap cells pre ++ (flatMap cells post ++ r))
-      (replicate-append-replicate w (N - allOf) (pos 0) ∙ ap (λ (j : ℕ). replicate j (pos 0)) left)
+      (replicate-append-replicate w (N - all) (pos 0) ∙ ap (λ (j : ℕ). replicate j (pos 0)) left)
       ∙ sym (append-assoc (flatMap cells pre) (flatMap cells post) _)
       ∙ ap (λ (r : List ℤ). r ++ replicate (N - length (flatMap cells (pre ++ post))) (pos 0))
       (sym (flat-append pre post))
@@ -267,11 +260,3 @@ module _ {A : Type 0} (w : ℕ) (cells : A → List ℤ) where
         → sweep (λ l i. replaceAt old new l (i * w + k)) (filled N (flatMap cells xs)) 0 (length xs)
         ≡ filled N (flatMap cells (map f xs))
     column-swept = swept (λ l i. replaceAt old new l (i * w + k)) f replace-step replace-width
-
--- the edges of a table in range
-pub table-edges-wide : (l : List ℤ) (n : ℕ) → n * edgeWidth ≤ length l → allOf edgeRanges (rows edgeWidth n l) ≡ true
-    → Wide edgeWidth edgeCells (edgesOf l n)
-table-edges-wide l n fits ranges =
-    subst (Wide edgeWidth edgeCells) (sym (edges-table l n))
-    (each-table (λ e. length (edgeCells e) ≡ edgeWidth) (edgeAt l) n
-    (λ i t. edge-wide (edgeAt l i) (edge-few (edge-row l n i fits ranges t))))

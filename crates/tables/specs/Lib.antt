@@ -1,2 +1,2 @@
--- `Tables`: the rows that a table holds, and what the functions on tables require.
+-- `Tables`: rows of any width, what is tested of their numbers, and what a write leaves.
 pub mod Tables

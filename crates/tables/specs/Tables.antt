@@ -1,21 +1,63 @@
--- Rows in flat tables. Row i of a table of width w are the numbers i * w .. i * w + w - 1; the first n rows are in use.
+-- Rows in flat tables of numbers. Row i of a table of width w are the numbers i * w .. i * w + w - 1; the first n rows
+-- are in use, and zeros stand behind them.
 use mathlib.Core.Path.{_≡_}
 use mathlib.Core.Bool.{Bool, true, cond, _&&_}
-use mathlib.Core.List.{List, [], map}
-use Prim.Native.Nat.{ℕ, suc, _+_, _*_, _-_, _≤_}
-use lib.IntN.{ℤ, pos}
+use mathlib.Core.List.{List, [], _∷_, _++_}
+use Prim.Native.Nat.{ℕ, zero, suc, _+_, _*_, _-_, _/_, _%_, _≤_}
+use lib.Dec.{leb, ltb}
+use lib.IntN.{ℤ, pos, natAbs}
 use lib.ListN.{length, getD, take, drop, replicate, set}
 use lib.Seq.{paste}
 use lib.Signed.{leZ, ltZ}
+use Rattle.lists.specs.Tests.{same}
 use Rattle.lists.specs.Scans.{allOf, linked}
 use Rattle.lists.specs.Tables.{table}
-use Rattle.map.specs.Limits.{nodeWidth, edgeWidth, faceWidth, lastNumber}
-use Rattle.map.specs.Rows.{Node, Edge, Map, rows, nodeOf, edgeOf, faceRowOf, hasEdge}
-use Rattle.map.specs.Form.{nodeRanges, edgeRanges, faceRanges, numbered}
+
+-- ---- rows
+
+-- the first n rows of w numbers
+abbrev pub rows : ℕ → ℕ → List ℤ → List (List ℤ)
+rows w zero l = []
+rows w (suc n) l = take w l ∷ rows w n (drop w l)
+
+-- row i
+abbrev pub rowAt : ℕ → List ℤ → ℕ → List ℤ
+rowAt w l i = take w (drop (i * w) l)
+
+-- number k of a row
+abbrev pub cell : List ℤ → ℕ → ℤ
+cell r k = getD r k (pos 0)
+
+-- the numbers, and zeros up to n
+abbrev pub filled : ℕ → List ℤ → List ℤ
+filled n l = l ++ replicate (n - length l) (pos 0)
+
+-- whole rows of w numbers, from `least` to `most` of them
+abbrev pub wholeRows : ℕ → ℕ → ℕ → List ℤ → Bool
+wholeRows w least most l = same (length l % w) 0 && leb least (length l / w) && leb (length l / w) most
+
+-- ---- numbers as they stand
+
+-- a to b
+abbrev pub within : ℕ → ℕ → ℤ → Bool
+within a b z = leZ (pos a) z && leZ z (pos b)
+
+abbrev pub isZero : ℤ → Bool
+isZero z = same (natAbs z) 0
+
+-- rows past a count are all 0
+abbrev pub restZero : ℕ → ℤ → List ℤ → Bool
+restZero w n l = allOf isZero (drop (natAbs n * w) l)
 
 -- two numbers are one
 abbrev pub sameZ : ℤ → ℤ → Bool
 sameZ a b = leZ a b && leZ b a
+
+-- ---- the first column
+
+-- numbers rise from the first one allowed, and those in use are below the next number
+abbrev pub numbered : ℕ → ℕ → List ℕ → Bool
+numbered least next ns = linked ltb ns && allOf (λ n. leb least n && ltb n next) ns
 
 -- the numbers in the first column
 abbrev pub column : ℕ → List ℤ → ℕ → List ℤ
@@ -27,6 +69,8 @@ pub record Rising (w : ℕ) (l : List ℤ) (n : ℕ) : Type 0 where
   pub some : 1 ≤ w
   pub rising : linked ltZ (column w l n) ≡ true
 
+-- ---- rows written
+
 -- `new` for `old` at place j
 abbrev pub replaceAt : ℤ → ℤ → List ℤ → ℕ → List ℤ
 replaceAt old new l j = cond (sameZ (getD l j (pos 0)) old) (set l j new) l
@@ -34,71 +78,3 @@ replaceAt old new l j = cond (sameZ (getD l j (pos 0)) old) (set l j new) l
 -- row i is gone: the rows after it moved down, and the last of the n is 0
 abbrev pub closed : ℕ → List ℤ → ℕ → ℕ → List ℤ
 closed w l n i = paste (paste l (i * w) (drop (i * w + w) l) (n * w - (i * w + w))) (n * w - w) (replicate w (pos 0)) w
-
--- ---- the rows in use
-
-abbrev pub nodesOf : List ℤ → ℕ → List Node
-nodesOf l n = map nodeOf (rows nodeWidth n l)
-
-abbrev pub edgesOf : List ℤ → ℕ → List Edge
-edgesOf l n = map edgeOf (rows edgeWidth n l)
-
-abbrev pub facesOf : List ℤ → ℕ → List ℕ
-facesOf l n = map faceRowOf (rows faceWidth n l)
-
--- row i as its numbers, and read as a node or a face
-abbrev pub rowAt : ℕ → List ℤ → ℕ → List ℤ
-rowAt w l i = take w (drop (i * w) l)
-
-abbrev pub nodeAt : List ℤ → ℕ → Node
-nodeAt l i = nodeOf (rowAt nodeWidth l i)
-
-abbrev pub faceAt : List ℤ → ℕ → ℕ
-faceAt l i = faceRowOf (rowAt faceWidth l i)
-
--- row i of the edges, and its numbers
-abbrev pub edgeCellsAt : List ℤ → ℕ → List ℤ
-edgeCellsAt l i = take edgeWidth (drop (i * edgeWidth) l)
-
-abbrev pub edgeAt : List ℤ → ℕ → Edge
-edgeAt l i = edgeOf (edgeCellsAt l i)
-
--- the map that has these edges alone: links, rings and directions are read from it
-abbrev pub edgeMap : List ℤ → ℕ → Map
-edgeMap l n = record { nodes = []; edges = edgesOf l n; faces = []; nextNode = 0; nextEdge = 0; nextFace = 0 }
-
--- the map that has these nodes alone: points are read from it
-abbrev pub nodeMap : List ℤ → ℕ → Map
-nodeMap l n = record { nodes = nodesOf l n; edges = []; faces = []; nextNode = 0; nextEdge = 0; nextFace = 0 }
-
--- ---- what functions on tables require, as `form` finds it
-
--- edge row i is in range
-pub record EdgeRow (l : List ℤ) (i : ℕ) : Type 0 where
-  pub fits : i * edgeWidth + edgeWidth ≤ length l
-  pub ranges : edgeRanges (edgeCellsAt l i) ≡ true
-
--- node row i is in range
-pub record NodeRow (l : List ℤ) (i : ℕ) : Type 0 where
-  pub fits : i * nodeWidth + nodeWidth ≤ length l
-  pub ranges : nodeRanges (rowAt nodeWidth l i) ≡ true
-
--- nodes in range, in rising order
-pub record NodeRows (l : List ℤ) (n : ℕ) : Type 0 where
-  pub fits : n * nodeWidth ≤ length l
-  pub ranges : allOf nodeRanges (rows nodeWidth n l) ≡ true
-  pub rising : numbered 1 (suc lastNumber) (map (λ r. r .number) (nodesOf l n)) ≡ true
-
--- edges in range, in rising order, whose links name edges
-pub record EdgeRows (l : List ℤ) (n : ℕ) : Type 0 where
-  pub fits : n * edgeWidth ≤ length l
-  pub ranges : allOf edgeRanges (rows edgeWidth n l) ≡ true
-  pub rising : numbered 1 (suc lastNumber) (map (λ r. r .number) (edgesOf l n)) ≡ true
-  pub named : allOf (λ e. hasEdge (edgeMap l n) (e .nextLeft .edge) && hasEdge (edgeMap l n) (e .nextRight .edge))
-      (edgesOf l n) ≡ true
-
--- faces in range, in rising order
-pub record FaceRows (l : List ℤ) (n : ℕ) : Type 0 where
-  pub fits : n * faceWidth ≤ length l
-  pub ranges : allOf faceRanges (rows faceWidth n l) ≡ true
-  pub rising : numbered 0 (suc lastNumber) (facesOf l n) ≡ true

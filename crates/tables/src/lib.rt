@@ -1,27 +1,22 @@
-// Rows in lent slices of numbers: w numbers to a row, rows from the front in rising number order, zeros behind.
+// Rows of any width in lent slices of numbers: w numbers to a row, rows from the front in rising number order, zeros
+// behind.
 use lists::Found;
 ghost use mathlib.Core.Path.{_≡_};
 ghost use mathlib.Core.Bool.{true};
 ghost use Prim.Native.Nat.{ℕ, _+_, _*_, _-_, _<_, _≤_};
+ghost use lib.Dec.{T};
+ghost use lib.IntN.{pos, natAbs};
 ghost use lib.ListN.{getD, length, drop, replicate};
 ghost use lib.Seq.{paste};
-ghost use lib.IntN.{pos};
-ghost use lib.Signed.{ltZ};
-ghost use Rattle.lists.specs.Tables.{place, sweep};
-ghost use Rattle.curves.specs.Curves.{Run, curveOf};
-ghost use Rattle.tables.specs.Tables.{sameZ, column, Rising, replaceAt, closed, EdgeRow, edgeAt};
+ghost use lib.Signed.{ltZ, nonNeg};
+ghost use Rattle.lists.specs.Scans.{allOf};
+ghost use Rattle.lists.specs.Tables.{place, sweep, table};
+ghost use Rattle.tables.specs.Tables.{sameZ, column, Rising, wholeRows, isZero, numbered, replaceAt, closed};
 
-// How many rows of each table are in use.
-pub struct Counts {
-    pub nodes: usize,
-    pub edges: usize,
-    pub faces: usize,
-}
+// ---- lookup
 
-// ---- any table
-
-// A number that is not negative; 0 for one that is.
-fn natural(z: i64) -> usize {
+// A number, or 0 for a negative one.
+fn clamped(z: i64) -> usize {
     if z < 0 {
         return 0;
     }
@@ -67,7 +62,7 @@ pub fn find_row(t: &[i64], w: usize, count: usize, number: i64) -> Found
     if count == 0 {
         return Found::Missing;
     }
-    let d = steps(natural(t[0]), natural(number));
+    let d = steps(clamped(t[0]), clamped(number));
     let i = lesser(d, count - 1);
     if t[i * w] == number {
         return Found::At(i);
@@ -114,6 +109,64 @@ pub fn find_indexed(t: &[i64], w: usize, count: usize, number: i64, index: &[u16
     }
     search_row(t, w, 0, count, number)
 }
+
+// ---- tests of rows
+
+// Whether the table is whole rows of w numbers, from `least` to `most` of them.
+pub fn whole_rows(t: &[i64], w: usize, least: usize, most: usize) -> bool
+    requires { ⌜ 1 ≤ w ⌝ }
+    ensures { λ r. ⌜ r ≡ wholeRows w least most (now (t .entry)) ⌝ }
+{
+    let n = t.len() / w;
+    (t.len() % w == 0) & (least <= n) & (n <= most)
+}
+
+// Whether all numbers are 0.
+pub fn are_zero(t: &[i64]) -> bool
+    ensures { λ r. ⌜ r ≡ allOf isZero (now (t .entry)) ⌝ }
+{
+    let mut bits = 0;
+    for i in 0..t.len() {
+        let z = t[i];
+        bits = bits | z;
+    }
+    bits == 0
+}
+
+// Whether all numbers from `at` on are 0.
+pub fn rest_zero(t: &[i64], at: usize) -> bool
+    requires { ⌜ at ≤ length (now t) ⌝ }
+    ensures { λ r. ⌜ r ≡ allOf isZero (drop at (now (t .entry))) ⌝ }
+{
+    are_zero(&t[at..])
+}
+
+// Number k, which is not negative.
+pub fn natural(t: &[i64], k: usize) -> usize
+    requires { ⌜ (k < length (now t)) × T (nonNeg (getD (now t) k (pos 0))) ⌝ }
+    ensures { λ r. ⌜ r ≡ natAbs (getD (now (t .entry)) k (pos 0)) ⌝ }
+{
+    let z = t[k];
+    z as usize
+}
+
+// Whether the first column rises from `least` on and is below `next`.
+pub fn numbers_rise(t: &[i64], w: usize, count: usize, least: usize, next: usize) -> bool
+    requires { ⌜ (1 ≤ w) × (count * w ≤ length (now t)) × (allOf nonNeg (column w (now t) count) ≡ true) ⌝ }
+    ensures { λ r. ⌜ r ≡ numbered least next (table (λ i. natAbs (getD (now (t .entry)) (i * w) (pos 0))) 0 count) ⌝ }
+{
+    let mut low = least;
+    for i in 0..count {
+        let n = natural(t, i * w);
+        if (n < low) | (next <= n) {
+            return false;
+        }
+        low = n + 1;
+    }
+    true
+}
+
+// ---- rows written
 
 // n numbers from `from` on are moved down to `at` on.
 fn move_down(t: &mut [i64], at: usize, from: usize, n: usize)
@@ -175,17 +228,4 @@ pub fn replace_column(t: &mut [i64], w: usize, count: usize, k: usize, old: i64,
             t[i * w + k] = new;
         }
     }
-}
-
-// ---- edge rows
-
-// The curve of edge row i.
-pub fn curve_of(edges: &[i64], i: usize) -> &[i64]
-    requires { ⌜ EdgeRow (now edges) i ⌝ }
-    ensures { λ r. ⌜ Run (now r) × (curveOf (now r) ≡ edgeAt (now (edges .entry)) i .curve) ⌝ }
-{
-    let a = i * map::EDGE_WIDTH + map::POINTS_AT;
-    let n = edges[i * map::EDGE_WIDTH + map::POINT_COUNT] as usize;
-    let b = a + 2 * n;
-    &edges[a..b]
 }

@@ -8,8 +8,8 @@ use lib.ListN.{getD}
 use mir.Syntax.{w64}
 use mir.Val.{toZ, ofZ}
 use mir.Facts.{toZ-ofZ}
-use Rattle.tables.specs.Tables.{edgeAt}
-use Rattle.tables.proofs.Rows.{edge-cells}
+use Rattle.map_rows.specs.Rows.{edgeAt}
+use Rattle.map_rows.proofs.Rows.{edge-cells}
 use Rattle.darts.proofs.Positions.{even-of, odd-of}
 use Rattle.darts.proofs.Steps.{negative-is, minus-fits}
 use Rattle.darts.proofs.dart_at.Statement.{statement}

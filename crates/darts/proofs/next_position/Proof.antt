@@ -11,7 +11,7 @@ use Rattle.lists.specs.declared.Found.the-variants.{At, Missing}
 use Rattle.planar_maps.specs.Rings.{sameDart}
 use Rattle.map.specs.Rows.{dartOf}
 use Rattle.map.specs.Darts.{directed, next}
-use Rattle.tables.specs.Tables.{edgeMap}
+use Rattle.map_rows.specs.Rows.{edgeMap}
 use Rattle.darts.specs.Positions.{dartAt}
 use Rattle.darts.proofs.Positions.{next-there, next-place}
 use Rattle.darts.proofs.next_position.Statement.{statement}

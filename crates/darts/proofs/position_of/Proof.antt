@@ -15,8 +15,8 @@ use Rattle.lists.specs.declared.Found.the-variants.{At}
 use Rattle.planar_maps.specs.Rings.{sameDart}
 use Rattle.map.specs.Rows.{dartOf}
 use Rattle.map.specs.Darts.{directed}
-use Rattle.tables.specs.Tables.{edgeMap}
-use Rattle.tables.proofs.Rows.{edge-rows-rising}
+use Rattle.map_rows.specs.Rows.{edgeMap}
+use Rattle.map_rows.proofs.Rows.{edge-rows-rising}
 use Rattle.darts.proofs.Positions.{far, far-none, negative-found, negative-missing, positive-found}
 use Rattle.darts.proofs.Positions.{positive-missing, near-fits}
 use Rattle.darts.proofs.position_of.Statement.{statement}

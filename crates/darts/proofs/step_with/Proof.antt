@@ -6,7 +6,7 @@ use Rattle.lists.specs.Tests.{same}
 use Rattle.lists.proofs.Bools.{same-eq, same-false}
 use Rattle.curves.specs.Curves.{Curve, curveOf, startWay}
 use Rattle.curves.specs.Edits.{course}
-use Rattle.tables.specs.Tables.{edgeAt}
+use Rattle.map_rows.specs.Rows.{edgeAt}
 use Rattle.darts.specs.Positions.{odd, Along}
 use Rattle.darts.proofs.step_with.Statement.{statement}
 use Rattle.darts.proofs.step_with.Tie as tie

@@ -11,8 +11,8 @@ use mir.Facts.{toZ-ofZ}
 use Rattle.lists.specs.Tables.{place}
 use Rattle.map.specs.Limits.{nodeWidth}
 use Rattle.tables.specs.Tables.{sameZ, column}
-use Rattle.tables.proofs.Rows.{node-rows-rising}
-use Rattle.tables.proofs.Lookups.{node-found}
+use Rattle.map_rows.proofs.Rows.{node-rows-rising}
+use Rattle.map_rows.proofs.Lookups.{node-found}
 use Rattle.tables.proofs.Cells.{row-room}
 use Rattle.edge_rows.specs.Holds.{facedWhere, facedIf}
 use Rattle.edge_rows.proofs.give_face.Statement.{statement}

@@ -8,7 +8,8 @@ use lib.IntN.{pos, natAbs}
 use mir.Syntax.{w64}
 use mir.Facts.{toZ-ofZ}
 use Rattle.integers.specs.Signs.{sent}
-use Rattle.tables.specs.Tables.{closed, edgeAt}
+use Rattle.tables.specs.Tables.{closed}
+use Rattle.map_rows.specs.Rows.{edgeAt}
 use Rattle.links.specs.Linking.{unlinkedEdge}
 use Rattle.edge_rows.specs.Holds.{isolatedWithout, facedIf}
 use Rattle.edge_rows.proofs.Counts.{edges-counted, nodes-natural, nodes-read, edges-natural, edges-read}

@@ -10,14 +10,14 @@ use mir.Syntax.{w64}
 use mir.Facts.{toZ-ofZ}
 use Rattle.curves.specs.Curves.{points, curveOf}
 use Rattle.curve_edits.specs.declared.Line.{Line}
-use Rattle.tables.specs.Tables.{nodeAt}
-use Rattle.edge_rows.specs.Holds.{newRow}
+use Rattle.map_rows.specs.Rows.{nodeAt}
 use Rattle.map_rows.proofs.Cells.{line-count}
 use Rattle.outcomes.proofs.Words.{count-natural, count-read, small-read}
+use Rattle.edge_rows.specs.Holds.{newRow}
 use Rattle.edge_rows.proofs.Reverse.{back-read}
 use Rattle.edge_rows.proofs.Counts.{edges-natural, edges-read}
-use Rattle.edge_rows.proofs.Drawn.{points-few, row-written, start-number, end-number, start-small}
-use Rattle.edge_rows.proofs.Drawn.{end-small, face-is, new-fits}
+use Rattle.edge_rows.proofs.Drawn.{points-few, row-written, start-number, end-number, start-small, end-small}
+use Rattle.edge_rows.proofs.Drawn.{face-is, new-fits}
 use Rattle.edge_rows.proofs.write_last.Statement.{statement}
 use Rattle.edge_rows.proofs.write_last.Tie as tie
 

@@ -9,8 +9,9 @@ use Rattle.lists.specs.Tables.{place}
 use Rattle.lists.specs.declared.Found.the-variants.{At}
 use Rattle.map.specs.Limits.{nodeWidth}
 use Rattle.map.specs.Rows.{hasNode}
-use Rattle.tables.specs.Tables.{sameZ, column, nodeMap, edgeAt}
-use Rattle.tables.proofs.Rows.{edge-row-of}
+use Rattle.tables.specs.Tables.{sameZ, column}
+use Rattle.map_rows.specs.Rows.{nodeMap, edgeAt}
+use Rattle.map_rows.proofs.Rows.{edge-row-of}
 use Rattle.outcomes.proofs.Formed.{node-rows, edge-rows}
 use Rattle.outcomes.proofs.Words.{place-told}
 use Rattle.edge_rows.proofs.Formed.{held}

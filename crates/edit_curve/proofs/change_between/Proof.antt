@@ -7,8 +7,8 @@ use lib.IntN.{pos}
 use Rattle.map.specs.Rows.{mapOf, sizesOf}
 use Rattle.map.specs.Tickets.{ChangeEdgeGeom}
 use Rattle.map.specs.Reasons.{firstReason, reasons}
-use Rattle.tables.specs.Tables.{edgeAt}
-use Rattle.tables.proofs.Rows.{edge-row-of}
+use Rattle.map_rows.specs.Rows.{edgeAt}
+use Rattle.map_rows.proofs.Rows.{edge-row-of}
 use Rattle.form_ranges.specs.Ranges.{lent}
 use Rattle.outcomes.proofs.Formed.{edge-rows, decided-refused, decided-carried}
 use Rattle.edge_rows.proofs.Formed.{held}

@@ -11,7 +11,7 @@ use Rattle.lists.specs.declared.Found.the-variants.{At}
 use Rattle.map.specs.Limits.{edgeWidth}
 use Rattle.map.specs.Tickets.{ChangeEdgeGeom}
 use Rattle.tables.specs.Tables.{sameZ, column}
-use Rattle.tables.proofs.Rows.{edge-rows-rising}
+use Rattle.map_rows.proofs.Rows.{edge-rows-rising}
 use Rattle.form_ranges.specs.Ranges.{lent}
 use Rattle.outcomes.specs.Outcomes.{decided}
 use Rattle.outcomes.proofs.Formed.{edge-rows, decided-refused}

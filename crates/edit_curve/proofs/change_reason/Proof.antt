@@ -3,10 +3,10 @@ use mathlib.Core.Path.{sym, ap₂, _∙_}
 use Prim.Native.Nat.{ℕ}
 use native.Mathlib.Omega.{arith}
 use Rattle.map.specs.Reasons.{firstReason}
-use Rattle.tables.proofs.Rows.{node-row-of}
-use Rattle.edit_curve.specs.Change.{turnReasons}
+use Rattle.map_rows.proofs.Rows.{node-row-of}
 use Rattle.edge_rows.proofs.Counts.{edges-few, nodes-natural, nodes-read, edges-natural, edges-read}
 use Rattle.edge_rows.proofs.FirstReasons.{sent-run}
+use Rattle.edit_curve.specs.Change.{turnReasons}
 use Rattle.edit_curve.proofs.ChangeReasons.{change-sent, change-turns}
 use Rattle.edit_curve.proofs.change_reason.Statement.{statement}
 use Rattle.edit_curve.proofs.change_reason.Tie as tie

@@ -3,7 +3,7 @@ use borrow.Author.Needs.{needs}
 use mathlib.Core.Path.{refl, _∙_}
 use native.Mathlib.Omega.{arith}
 use Rattle.integers.specs.Signs.{sent}
-use Rattle.tables.specs.Tables.{edgeAt}
+use Rattle.map_rows.specs.Rows.{edgeAt}
 use Rattle.darts.proofs.Positions.{cells-of}
 use Rattle.edit_curve.proofs.direction_is_taken.Statement.{statement}
 use Rattle.edit_curve.proofs.direction_is_taken.Tie as tie

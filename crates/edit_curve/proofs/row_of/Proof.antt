@@ -4,7 +4,7 @@ use mathlib.Core.Path.{refl}
 use mir.Syntax.{w64}
 use mir.Facts.{toZ-ofZ}
 use Rattle.map.specs.Limits.{nodeWidth}
-use Rattle.tables.proofs.Rows.{node-rows-rising}
+use Rattle.map_rows.proofs.Rows.{node-rows-rising}
 use Rattle.outcomes.proofs.Words.{place-told}
 use Rattle.edit_curve.proofs.Changed.{node-placed}
 use Rattle.edit_curve.proofs.row_of.Statement.{statement}

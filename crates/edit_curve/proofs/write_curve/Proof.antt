@@ -13,8 +13,8 @@ use Rattle.curves.specs.Curves.{points, curveOf}
 use Rattle.curve_edits.specs.declared.Line.{Line}
 use Rattle.map.specs.Rows.{dartCell}
 use Rattle.map.specs.Edits.{withCurve}
-use Rattle.tables.specs.Tables.{edgeAt}
-use Rattle.tables.proofs.Rows.{edge-cells}
+use Rattle.map_rows.specs.Rows.{edgeAt}
+use Rattle.map_rows.proofs.Rows.{edge-cells}
 use Rattle.map.proofs.RoundTrip.{dart-cell-back}
 use Rattle.map_rows.proofs.Cells.{line-count}
 use Rattle.edge_rows.proofs.Drawn.{points-few, row-written}

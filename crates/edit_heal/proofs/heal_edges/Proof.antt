@@ -10,8 +10,8 @@ use mir.Facts.{toZ-ofZ}
 use Rattle.lists.proofs.Bools.{or-right}
 use Rattle.map.specs.Rows.{mapOf}
 use Rattle.map.specs.Reasons.{noEdge}
-use Rattle.tables.proofs.Rows.{edge-rows-rising}
-use Rattle.tables.proofs.Lookups.{edge-found}
+use Rattle.map_rows.proofs.Rows.{edge-rows-rising}
+use Rattle.map_rows.proofs.Lookups.{edge-found}
 use Rattle.form_ranges.specs.Ranges.{lent}
 use Rattle.outcomes.specs.Outcomes.{decided}
 use Rattle.outcomes.proofs.Formed.{ranges, edge-rows, decided-refused, edge-none}

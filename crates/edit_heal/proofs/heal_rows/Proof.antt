@@ -5,7 +5,7 @@ use mathlib.Core.List.{List}
 use lib.IntN.{ℤ}
 use mir.Syntax.{w64}
 use mir.Facts.{toZ-ofZ}
-use Rattle.map_rows.specs.declared.Sides.{Sides}
+use Rattle.map_rows.specs.declared.Incidence.{Incidence}
 use Rattle.map_rows.specs.Cells.{cellsOf}
 use Rattle.edit_heal.specs.Heals.{renamed, healedSides, placed}
 use Rattle.edit_heal.proofs.heal_rows.Statement.{statement}
@@ -24,7 +24,7 @@ returns c =
     c .before .before .before .healed-sides .ensures
     ∙ ap₂ (λ (u : List ℤ) (x : ℤ). healedSides u (a .i) (a .p) (a .q) x) f z in
     c .before .place-row .ensures ∙ ap₂
-    (λ (u : List ℤ) (r : Sides). placed (a .keeps) u (a .e) (a .i) (a .j) (cellsOf r (a .l))) f g
+    (λ (u : List ℤ) (r : Incidence). placed (a .keeps) u (a .e) (a .i) (a .j) (cellsOf r (a .l))) f g
 
 pub heal-rows-spec : {M : Type 1} → statement M
 heal-rows-spec =

@@ -7,8 +7,8 @@ use lib.IntN.{pos, natAbs}
 use lib.ListN.{getD}
 use Rattle.curve_edits.specs.declared.Line.{Line}
 use Rattle.map.specs.Reasons.{firstReason}
-use Rattle.tables.specs.Tables.{edgeAt, edgeMap}
-use Rattle.tables.proofs.Rows.{edge-row-of}
+use Rattle.map_rows.specs.Rows.{edgeAt, edgeMap}
+use Rattle.map_rows.proofs.Rows.{edge-row-of}
 use Rattle.reason_departures.specs.Turning.{jointReasons}
 use Rattle.outcomes.proofs.Formed.{node-rows, edge-rows, decided-refused, decided-carried}
 use Rattle.outcomes.proofs.Words.{count-natural, count-abs}

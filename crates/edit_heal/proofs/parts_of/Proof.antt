@@ -9,7 +9,7 @@ use mir.Syntax.{w64}
 use mir.Val.{toZ, ofZ}
 use Rattle.integers.specs.Signs.{sent}
 use Rattle.map.specs.Rows.{edge}
-use Rattle.tables.specs.Tables.{edgeAt, edgeMap}
+use Rattle.map_rows.specs.Rows.{edgeAt, edgeMap}
 use Rattle.reason_departures.specs.Turning.{joinsAt}
 use Rattle.reason_departures.proofs.Ends.{end-cell}
 use Rattle.edit_heal.specs.Heals.{PartsOf}

@@ -7,8 +7,8 @@ use mir.Syntax.{w64}
 use mir.Facts.{toZ-ofZ}
 use Rattle.lists.specs.declared.Found.the-variants.{At, Missing}
 use Rattle.tables.specs.Tables.{closed}
-use Rattle.tables.proofs.Rows.{node-rows-rising}
-use Rattle.tables.proofs.Lookups.{node-found}
+use Rattle.map_rows.proofs.Rows.{node-rows-rising}
+use Rattle.map_rows.proofs.Lookups.{node-found}
 use Rattle.outcomes.proofs.Words.{place-told}
 use Rattle.edit_heal.proofs.remove_joint.Statement.{statement}
 use Rattle.edit_heal.proofs.remove_joint.Tie as tie

@@ -10,8 +10,8 @@ use mir.Val.{toZ, ofZ}
 use mir.Facts.{toZ-ofZ}
 use Rattle.integers.specs.Signs.{sent}
 use Rattle.map.specs.Rows.{dartCell}
-use Rattle.tables.specs.Tables.{EdgeRow}
-use Rattle.tables.proofs.Rows.{edge-row-of}
+use Rattle.map_rows.specs.Rows.{EdgeRow}
+use Rattle.map_rows.proofs.Rows.{edge-row-of}
 use Rattle.darts.specs.Positions.{dartAt, reverseOf}
 use Rattle.darts.proofs.Positions.{reverse-below}
 use Rattle.links.specs.Linking.{redirected}

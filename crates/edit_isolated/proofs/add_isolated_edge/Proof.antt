@@ -11,7 +11,7 @@ use Rattle.lists.specs.declared.Found.the-variants.{At}
 use Rattle.map.specs.Limits.{nodeWidth}
 use Rattle.map.specs.Tickets.{AddIsoEdge}
 use Rattle.tables.specs.Tables.{sameZ, column}
-use Rattle.tables.proofs.Rows.{node-rows-rising}
+use Rattle.map_rows.proofs.Rows.{node-rows-rising}
 use Rattle.form_ranges.specs.Ranges.{lent}
 use Rattle.outcomes.specs.Outcomes.{decided}
 use Rattle.outcomes.proofs.Formed.{node-rows, decided-refused}

@@ -8,7 +8,7 @@ use lib.ListN.{getD}
 use Rattle.integers.specs.Signs.{sent}
 use Rattle.lists.specs.Scans.{isSome}
 use Rattle.map.proofs.RoundTrip.{face-pos}
-use Rattle.tables.proofs.Rows.{node-cells}
+use Rattle.map_rows.proofs.Rows.{node-cells}
 use Rattle.edit_isolated.proofs.face_of.Statement.{statement}
 use Rattle.edit_isolated.proofs.face_of.Tie as tie
 

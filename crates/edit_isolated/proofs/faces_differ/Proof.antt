@@ -8,7 +8,7 @@ use lib.IntN.{pos}
 use lib.ListN.{getD}
 use Rattle.lists.specs.Tests.{same}
 use Rattle.lists.specs.Scans.{isSome}
-use Rattle.tables.proofs.Rows.{node-cells}
+use Rattle.map_rows.proofs.Rows.{node-cells}
 use Rattle.tables.proofs.Order.{word-test}
 use Rattle.edit_isolated.proofs.FaceTests.{face-test}
 use Rattle.edit_isolated.proofs.faces_differ.Statement.{statement}

@@ -1,8 +1,8 @@
 -- `edit_isolated::isolated_reason` meets its contract: each test answers its reason, in order. Assumes nothing.
 use mathlib.Core.Path.{_≡_, sym, _∙_}
 use Rattle.map.specs.Reasons.{firstReason}
-use Rattle.tables.specs.Tables.{nodeAt}
-use Rattle.tables.proofs.Rows.{node-row-of}
+use Rattle.map_rows.specs.Rows.{nodeAt}
+use Rattle.map_rows.proofs.Rows.{node-row-of}
 use Rattle.reason_curves.specs.Sent.{sentReasons}
 use Rattle.edge_rows.proofs.FirstReasons.{sent-run}
 use Rattle.edit_isolated.proofs.IsolatedReasons.{isolated-sent, isolated-joined, both-isolated, isolated-apart}

@@ -2,7 +2,7 @@
 use borrow.Author.Needs.{needs}
 use mathlib.Core.Path.{_∙_}
 use Rattle.integers.specs.Signs.{sent}
-use Rattle.tables.proofs.Rows.{edge-cells}
+use Rattle.map_rows.proofs.Rows.{edge-cells}
 use Rattle.edit_isolated.proofs.left_face.Statement.{statement}
 use Rattle.edit_isolated.proofs.left_face.Tie as tie
 

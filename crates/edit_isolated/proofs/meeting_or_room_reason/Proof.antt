@@ -4,7 +4,7 @@ use Prim.Native.Nat.{ℕ}
 use lib.IntN.{natAbs}
 use Rattle.curves.specs.Curves.{curveOf}
 use Rattle.map.specs.Reasons.{firstReason, meetingReasons}
-use Rattle.tables.specs.Tables.{nodeMap}
+use Rattle.map_rows.specs.Rows.{nodeMap}
 use Rattle.reason_curves.specs.Sent.{edgesBut}
 use Rattle.edge_rows.proofs.Counts.{edges-counted, nodes-natural, nodes-read, edges-natural, edges-read}
 use Rattle.edit_isolated.proofs.IsolatedReasons.{late-meeting, late-room}

@@ -6,7 +6,7 @@ use mathlib.Core.Bool.{not, _&&_}
 use Rattle.lists.specs.Tests.{same}
 use Rattle.lists.specs.Scans.{isSome}
 use Rattle.lists.proofs.Bools.{same-eq, same-false, or-right}
-use Rattle.tables.specs.Tables.{nodeAt}
+use Rattle.map_rows.specs.Rows.{nodeAt}
 use Rattle.edit_isolated.proofs.not_both_isolated.Statement.{statement}
 use Rattle.edit_isolated.proofs.not_both_isolated.Tie as tie
 

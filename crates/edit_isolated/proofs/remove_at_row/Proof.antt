@@ -10,8 +10,8 @@ use lib.Signed.{nonNeg}
 use Rattle.integers.specs.Signs.{sent}
 use Rattle.map.specs.Tickets.{RemoveIsoEdge}
 use Rattle.map.specs.Reasons.{edgeIsolated}
-use Rattle.tables.specs.Tables.{edgeAt, edgeMap}
-use Rattle.tables.proofs.Rows.{edge-row-of}
+use Rattle.map_rows.specs.Rows.{edgeAt, edgeMap}
+use Rattle.map_rows.proofs.Rows.{edge-row-of}
 use Rattle.outcomes.proofs.Formed.{edge-rows, decided-refused, decided-carried}
 use Rattle.edge_rows.proofs.Formed.{held}
 use Rattle.edge_rows.proofs.Counts.{edges-natural, edges-read}

@@ -10,8 +10,8 @@ use Rattle.lists.specs.Tables.{place}
 use Rattle.lists.proofs.Bools.{&&-false}
 use Rattle.map.specs.Reasons.{minusOne}
 use Rattle.tables.specs.Tables.{sameZ, column}
-use Rattle.tables.proofs.Rows.{face-rows-rising}
-use Rattle.tables.proofs.Lookups.{face-found}
+use Rattle.map_rows.proofs.Rows.{face-rows-rising}
+use Rattle.map_rows.proofs.Lookups.{face-found}
 use Rattle.edit_nodes.proofs.Faces.{face-none}
 use Rattle.edit_nodes.proofs.face_missing.Statement.{statement}
 use Rattle.edit_nodes.proofs.face_missing.Tie as tie

@@ -2,7 +2,7 @@
 use mathlib.Core.Path.{sym, ap, _∙_}
 use mathlib.Core.Bool.{Bool, _||_}
 use Rattle.map.specs.Reasons.{edgeThrough}
-use Rattle.tables.specs.Tables.{edgeMap}
+use Rattle.map_rows.specs.Rows.{edgeMap}
 use Rattle.edit_nodes.proofs.is_taken.Statement.{statement}
 use Rattle.edit_nodes.proofs.is_taken.Tie as tie
 

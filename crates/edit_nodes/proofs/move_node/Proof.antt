@@ -14,7 +14,7 @@ use Rattle.integers.specs.Signs.{sent}
 use Rattle.curves.specs.Curves.{point}
 use Rattle.map.specs.Tickets.{MoveIsoNode}
 use Rattle.tables.proofs.Cells.{row-room}
-use Rattle.tables.proofs.Rows.{node-rows-rising}
+use Rattle.map_rows.proofs.Rows.{node-rows-rising}
 use Rattle.outcomes.proofs.Formed.{nodes-count, edges-count, nodes-fit, node-rows, edge-rows, decided-refused}
 use Rattle.outcomes.proofs.Formed.{decided-carried, node-none}
 use Rattle.outcomes.proofs.Words.{count-natural, count-abs, place-told}

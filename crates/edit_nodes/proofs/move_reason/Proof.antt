@@ -12,8 +12,8 @@ use Rattle.plane.specs.declared.Point.{Point}
 use Rattle.plane.specs.Points.{samePoint}
 use Rattle.curves.specs.Curves.{point}
 use Rattle.map.specs.Reasons.{firstReason, edgeThrough}
-use Rattle.tables.specs.Tables.{nodeAt, edgeMap}
-use Rattle.tables.proofs.Rows.{node-row-of}
+use Rattle.map_rows.specs.Rows.{nodeAt, edgeMap}
+use Rattle.map_rows.proofs.Rows.{node-row-of}
 use Rattle.map.proofs.Reasons.{first-hit}
 use Rattle.edit_nodes.proofs.Told.{range-told}
 use Rattle.edit_nodes.proofs.move_reason.Statement.{statement}

@@ -9,7 +9,7 @@ use mir.Syntax.{w64}
 use mir.Facts.{toZ-ofZ}
 use Rattle.map.specs.Tickets.{RemoveIsoNode}
 use Rattle.tables.specs.Tables.{closed}
-use Rattle.tables.proofs.Rows.{node-rows-rising, node-row-of}
+use Rattle.map_rows.proofs.Rows.{node-rows-rising, node-row-of}
 use Rattle.outcomes.proofs.Formed.{nodes-count, nodes-fit, node-rows, decided-refused, decided-carried, node-none}
 use Rattle.outcomes.proofs.Words.{count-natural, count-abs, place-told}
 use Rattle.edit_nodes.specs.Heads.{removed}

@@ -8,8 +8,8 @@ use mir.Syntax.{w64}
 use mir.Val.{ofZ}
 use Rattle.integers.specs.Signs.{sent}
 use Rattle.lists.proofs.Bools.{same-eq, same-false}
-use Rattle.tables.specs.Tables.{edgeAt}
-use Rattle.tables.proofs.Rows.{edge-cells}
+use Rattle.map_rows.specs.Rows.{edgeAt}
+use Rattle.map_rows.proofs.Rows.{edge-cells}
 use Rattle.tables.proofs.Order.{word-is}
 use Rattle.edge_rows.proofs.Formed.{held}
 use Rattle.face_rows.proofs.Formed.{formed-healable, formed-held}

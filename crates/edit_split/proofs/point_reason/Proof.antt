@@ -11,7 +11,7 @@ use Rattle.curves.specs.Curves.{point, coordinate}
 use Rattle.curves.specs.Tests.{onCurve}
 use Rattle.map.specs.Reasons as reasons
 use Rattle.map.specs.Reasons.{firstReason, outside}
-use Rattle.tables.specs.Tables.{edgeAt, nodesOf}
+use Rattle.map_rows.specs.Rows.{edgeAt, nodesOf}
 use Rattle.reason_curves.proofs.Others.{node-at-all}
 use Rattle.edit_split.proofs.point_reason.Statement.{statement}
 use Rattle.edit_split.proofs.point_reason.Tie as tie

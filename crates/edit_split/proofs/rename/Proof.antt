@@ -10,7 +10,7 @@ use mir.Val.{toZ, ofZ}
 use mir.Facts.{toZ-ofZ}
 use Rattle.integers.specs.Signs.{sent}
 use Rattle.map.specs.Rows.{dartCell}
-use Rattle.tables.specs.Tables.{EdgeRow}
+use Rattle.map_rows.specs.Rows.{EdgeRow}
 use Rattle.darts.specs.Positions.{dartAt}
 use Rattle.links.specs.Linking.{redirected}
 use Rattle.edit_split.proofs.rename.Statement.{statement}

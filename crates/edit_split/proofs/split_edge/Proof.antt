@@ -15,7 +15,7 @@ use mir.Val.{toZ, ofZ}
 use mir.Facts.{toZ-ofZ}
 use Rattle.curves.specs.Curves.{point}
 use Rattle.map.specs.declared.Head.{Head}
-use Rattle.tables.proofs.Rows.{edge-rows-rising, edge-row-of}
+use Rattle.map_rows.proofs.Rows.{edge-rows-rising, edge-row-of}
 use Rattle.outcomes.proofs.Formed.{node-rows, edge-rows, nodes-size, edges-size, decided-refused, decided-carried, done}
 use Rattle.outcomes.proofs.Words.{count-natural, count-abs, count-fits, place-told}
 use Rattle.edit_split.specs.Kinds.{splitTicket}

@@ -22,9 +22,10 @@ use Rattle.map.specs.Rows.{whole, mapOf}
 use Rattle.map.specs.Form.{inForm}
 use Rattle.map.specs.Reasons.{noFace}
 use Rattle.map.specs.Ticket.{faceEdges}
-use Rattle.tables.specs.declared.Counts.{Counts}
-use Rattle.tables.specs.Tables.{sameZ, column, edgeMap, Rising}
-use Rattle.tables.proofs.Rows.{face-rows-rising}
+use Rattle.map.specs.declared.Counts.{Counts}
+use Rattle.tables.specs.Tables.{sameZ, column, Rising}
+use Rattle.map_rows.specs.Rows.{edgeMap}
+use Rattle.map_rows.proofs.Rows.{face-rows-rising}
 use Rattle.form_ranges.specs.Ranges.{lent, countsOf}
 use Rattle.form_ranges.proofs.Parts.{face-rows}
 use Rattle.form.proofs.Parts.{InForm, in-form-known, in-form-natural}

@@ -8,24 +8,25 @@ use lib.ListN.{getD}
 use mir.Syntax.{w64}
 use mir.Facts.{toZ-ofZ}
 use Rattle.lists.specs.Tables.{place}
-use Rattle.tables.specs.Tables.{sameZ, column, edgeAt}
-use Rattle.tables.proofs.Rows.{node-rows-rising}
-use Rattle.face_relabel.specs.Sharing.{placeAt, encloses, startOf}
-use Rattle.face_relabel.proofs.Faces.{placed-of, start-found, start-there}
+use Rattle.tables.specs.Tables.{sameZ, column}
+use Rattle.map_rows.specs.Rows.{nodeAt, edgeAt}
+use Rattle.map_rows.proofs.Rows.{node-row-of, node-rows-rising}
+use Rattle.face_relabel.specs.Sharing.{encloses, startOf}
+use Rattle.face_relabel.proofs.Faces.{start-found, start-there}
 use Rattle.face_relabel.proofs.mark_of_ring.Statement.{statement}
 use Rattle.face_relabel.proofs.mark_of_ring.Tie as tie
 use Rattle.face_relabel.proofs.mark_of_ring.Reads as reads
 use Rattle.face_relabel.proofs.mark_of_ring.Lts as lts
 use Rattle.rings.proofs.encloses.Reads as encloses-reads
-use Rattle.face_relabel.proofs.point_in.Reads as point-in-reads
+use Rattle.map_rows.proofs.node_point.Reads as node-point-reads
 use Rattle.tables.proofs.find_row.Reads as find-row-reads
 
 -- what the search answers
 answer : (c : lts.After-find-row (
   find-row-reads.Asked,
   find-row-reads.Learnt,
-  point-in-reads.Asked,
-  point-in-reads.Learnt,
+  node-point-reads.Asked,
+  node-point-reads.Learnt,
   encloses-reads.Asked,
   encloses-reads.Learnt,
 ) reads.Pre reads.Post) → c .find-row .result
@@ -40,8 +41,8 @@ answer c =
 row : (c : lts.After-known-told (
   find-row-reads.Asked,
   find-row-reads.Learnt,
-  point-in-reads.Asked,
-  point-in-reads.Learnt,
+  node-point-reads.Asked,
+  node-point-reads.Learnt,
   encloses-reads.Asked,
   encloses-reads.Learnt,
 ) reads.Pre reads.Post) → (c .before .found .given .0 .0 < c .before .before .before .before .before .args .n)
@@ -49,7 +50,7 @@ row : (c : lts.After-known-told (
     (c .before .before .before .before .before .args .n)
     (edgeAt (c .before .before .before .before .before .args .edges .now)
     (c .before .before .before .before .before .args .i))
-    ≡ placeAt (c .before .before .before .before .before .args .nodes .now) (c .before .found .given .0 .0))
+    ≡ nodeAt (c .before .before .before .before .before .args .nodes .now) (c .before .found .given .0 .0) .at)
 row c =
     let b = c .before .before .before in
     let s = b .before .before in
@@ -61,8 +62,8 @@ row c =
 told : (c : lts.After-encloses (
   find-row-reads.Asked,
   find-row-reads.Learnt,
-  point-in-reads.Asked,
-  point-in-reads.Learnt,
+  node-point-reads.Asked,
+  node-point-reads.Learnt,
   encloses-reads.Asked,
   encloses-reads.Learnt,
 ) reads.Pre reads.Post) → encloses (c .before .before .before .before .before .before .before .args .edges .now)
@@ -75,7 +76,7 @@ told : (c : lts.After-encloses (
 told c =
     let a = c .before .before .before .before .before .before .before .args in
     ap (encloses (a .edges .now) (a .count) (a .s .ring))
-    (row (c .before .before) .1 ∙ sym (c .before .point-in .ensures .0)) ∙ sym (c .encloses .ensures)
+    (row (c .before .before) .1 ∙ sym (c .before .node-point .ensures .0)) ∙ sym (c .encloses .ensures)
 
 returns : tie.Need-returns
 returns c =
@@ -97,7 +98,7 @@ mark-of-ring-spec =
     (λ c. search needs)
     (λ c. search needs)
     returns
-    (λ c κs. placed-of (c .before .before .before .before .before .pre .0 .nodes) (c .before .found .given .0 .0)
+    (λ c κs. node-row-of (c .before .before .before .before .before .pre .0 .nodes) (c .before .found .given .0 .0)
     (row c .0))
     (λ c κs. search needs)
     (λ c. sym (ap (λ (b : Bool). cond b 1 2) (told (c .before) ∙ c .if1 .taken)))

@@ -8,7 +8,7 @@ use native.Mathlib.Omega.{arith}
 use lib.ListN.{length, getD, length-replicate, getD-replicate}
 use Rattle.lists.specs.Tests.{same}
 use Rattle.map.specs.Darts.{ring, among}
-use Rattle.tables.specs.Tables.{edgeMap}
+use Rattle.map_rows.specs.Rows.{edgeMap}
 use Rattle.darts.specs.Positions.{dartAt}
 use Rattle.face_relabel.specs.Sharing.{ringMark}
 use Rattle.face_relabel.proofs.Faces.{firstMark, sides-shared}

@@ -15,8 +15,9 @@ use Rattle.integers.specs.Signs.{sent}
 use Rattle.lists.specs.Tables.{sweep}
 use Rattle.lists.proofs.Scans.{sweep-step, sweep-end}
 use Rattle.tables.proofs.Order.{word-is}
+use Rattle.map_rows.proofs.Rows.{node-row-of}
 use Rattle.face_relabel.specs.Sharing.{nodeShared}
-use Rattle.face_relabel.proofs.Faces.{placed-of, placed-kept, node-hit, node-miss, node-length, node-kept}
+use Rattle.face_relabel.proofs.Faces.{row-kept, node-hit, node-miss, node-length, node-kept}
 use Rattle.face_relabel.proofs.share_nodes.Statement.{statement}
 use Rattle.face_relabel.proofs.share_nodes.Tie as tie
 
@@ -44,18 +45,18 @@ mul-if1-2 c = omega (arith, c .before .before .pre .nodes .fits, c .loop-test .t
 copy-out-if1 : tie.Need-slice-copy-out-if1 Inv-loop μ-loop
 copy-out-if1 c = omega (arith, c .before .before .pre .nodes .fits, c .loop-test .taken, c .before .loop .inv .1)
 
-point-in-requires : tie.Need-point-in-requires Inv-loop μ-loop
-point-in-requires c κs =
+node-point-requires : tie.Need-node-point-requires Inv-loop μ-loop
+node-point-requires c κs =
     let t = c .before .before .before .before .before in
     let w = t .before .loop in
     let s = t .before .before in
-    placed-kept (s .args .nodes .now) (w .nodes) (w .i) (w .inv .1) (w .inv .2)
-    (placed-of (s .pre .nodes) (w .i) (t .loop-test .taken))
+    row-kept (s .args .nodes .now) (w .nodes) (w .i) (w .inv .2) (w .inv .1)
+    (node-row-of (s .pre .nodes) (w .i) (t .loop-test .taken))
 
 side-of-requires : tie.Need-side-of-requires Inv-loop μ-loop
 side-of-requires c κs =
     let s = c .before .before .before .before .before .before .before .before in
-    (s .pre .edges, s .pre .ring, c .point-in .ensures .1)
+    (s .pre .edges, s .pre .ring, c .node-point .ensures .1)
 
 mul-side : tie.Need-mul-side Inv-loop μ-loop
 mul-side c = let t = c .before .before .before .before .before .before .before in
@@ -121,7 +122,7 @@ share-nodes-spec =
     add-if1
     mul-if1-2
     copy-out-if1
-    point-in-requires
+    node-point-requires
     side-of-requires
     mul-side
     add-side

@@ -14,8 +14,8 @@ use Rattle.integers.specs.Signs.{sent}
 use Rattle.lists.specs.Tests.{same}
 use Rattle.lists.specs.Scans.{anyOf}
 use Rattle.map.specs.Rows.{mapOf}
-use Rattle.tables.specs.Tables.{nodesOf, edgesOf, facesOf}
-use Rattle.tables.proofs.Rows.{faces-length}
+use Rattle.map_rows.specs.Rows.{nodesOf, edgesOf, facesOf}
+use Rattle.map_rows.proofs.Rows.{faces-length}
 use Rattle.form_ranges.specs.Ranges.{lent}
 use Rattle.outcomes.specs.declared.Done.{Done}
 use Rattle.outcomes.proofs.Words.{is-natural, count-natural, count-abs}

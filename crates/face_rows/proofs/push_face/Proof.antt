@@ -8,7 +8,7 @@ use lib.ListN.{length, set}
 use mir.Syntax.{w64}
 use mir.Val.{ofZ, toZ}
 use mir.Facts.{toZ-ofZ}
-use Rattle.tables.proofs.Rows.{pos-abs}
+use Rattle.tables.proofs.Tests.{pos-abs}
 use Rattle.face_rows.proofs.FaceRows.{faces-long, face-pushed}
 use Rattle.face_rows.proofs.push_face.Statement.{statement}
 use Rattle.face_rows.proofs.push_face.Tie as tie

@@ -9,7 +9,8 @@ use mir.Syntax.{w64}
 use mir.Val.{ofZ, toZ}
 use mir.Facts.{toZ-ofZ}
 use Rattle.tables.specs.Tables.{Rising, closed}
-use Rattle.tables.proofs.Rows.{face-rows-rising, pos-abs}
+use Rattle.map_rows.proofs.Rows.{face-rows-rising}
+use Rattle.tables.proofs.Tests.{pos-abs}
 use Rattle.outcomes.proofs.Words.{place-told}
 use Rattle.face_rows.specs.Holds.{FaceTable, withoutFace}
 use Rattle.face_rows.proofs.FaceRows.{face-rows, found-gone, missing-gone}

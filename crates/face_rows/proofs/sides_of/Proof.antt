@@ -16,7 +16,7 @@ use Rattle.lists.proofs.Counts.{byte-bit, byte-most}
 use Rattle.plane.specs.Areas.{isPositive}
 use Rattle.map.specs.Darts.{ring}
 use Rattle.map.specs.Faces.{ringArea}
-use Rattle.tables.specs.Tables.{edgeMap}
+use Rattle.map_rows.specs.Rows.{edgeMap}
 use Rattle.darts.specs.Positions.{dartAt}
 use Rattle.outcomes.proofs.Words.{small-fits, plus-fits, plus-is}
 use Rattle.face_rows.proofs.Words.{either, positive-is}

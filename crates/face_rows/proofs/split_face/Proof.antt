@@ -17,8 +17,8 @@ use Rattle.plane.specs.Areas.{isPositive}
 use Rattle.map.specs.Rows.{mapOf}
 use Rattle.map.specs.Darts.{ring}
 use Rattle.map.specs.Faces.{ringArea}
-use Rattle.tables.specs.Tables.{nodesOf, edgesOf, facesOf, edgeMap}
-use Rattle.tables.proofs.Rows.{faces-length}
+use Rattle.map_rows.specs.Rows.{nodesOf, edgesOf, facesOf, edgeMap}
+use Rattle.map_rows.proofs.Rows.{faces-length}
 use Rattle.darts.specs.Positions.{dartAt}
 use Rattle.form_ranges.specs.Ranges.{lent}
 use Rattle.face_relabel.specs.Sharing.{Shared}

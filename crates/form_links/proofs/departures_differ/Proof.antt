@@ -9,8 +9,8 @@ use lib.IntN.{ℤ}
 use lib.ListN.{length, length-replicate}
 use borrow.Author.Count.{below-more}
 use Rattle.map.specs.Form.{departuresDiffer}
-use Rattle.tables.specs.Tables.{NodeRows}
-use Rattle.tables.proofs.Rows.{edge-row-of}
+use Rattle.map_rows.specs.Rows.{NodeRows}
+use Rattle.map_rows.proofs.Rows.{edge-row-of}
 use Rattle.darts.specs.Positions.{RowsNamed}
 use Rattle.form_links.specs.Chains.{slot, repeats, Chained}
 use Rattle.form_links.specs.Drawn.{drawnMap}

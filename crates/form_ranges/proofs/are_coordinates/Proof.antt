@@ -8,7 +8,7 @@ use lib.ListN.{length, drop}
 use borrow.Author.Tests.{not-true, not-false}
 use Rattle.lists.specs.Scans.{allOf}
 use Rattle.curves.specs.Curves.{coordinate}
-use Rattle.form_ranges.proofs.Scans.{rest-hit, rest-miss, rest-end}
+use Rattle.tables.proofs.Scans.{rest-hit, rest-miss, rest-end}
 use Rattle.form_ranges.proofs.are_coordinates.Statement.{statement}
 use Rattle.form_ranges.proofs.are_coordinates.Tie as tie
 

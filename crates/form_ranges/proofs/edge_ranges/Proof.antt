@@ -15,15 +15,15 @@ use mir.Facts.{toZ-ofZ}
 use Rattle.lists.specs.Scans.{allOf}
 use Rattle.curves.specs.Curves.{coordinate}
 use Rattle.curves.proofs.Runs.{and-right}
-use Rattle.map.specs.Rows.{cell}
-use Rattle.map.specs.Form.{within, isZero, edgeRanges}
+use Rattle.tables.specs.Tables.{cell, within, isZero}
+use Rattle.map.specs.Form.{edgeRanges}
 use Rattle.form_ranges.proofs.Parts.{within-in}
 use Rattle.form_ranges.proofs.edge_ranges.Statement.{statement}
 use Rattle.form_ranges.proofs.edge_ranges.Tie as tie
 use Rattle.form_ranges.proofs.edge_ranges.Reads as reads
 use Rattle.form_ranges.proofs.edge_ranges.Lts as lts
 use Rattle.form_ranges.proofs.edge_naturals.Reads as edge-naturals-reads
-use Rattle.form_ranges.proofs.natural.Reads as natural-reads
+use Rattle.tables.proofs.natural.Reads as natural-reads
 use Rattle.form_ranges.proofs.points_ranged.Reads as points-ranged-reads
 use Rattle.form_ranges.proofs.within.Reads as within-reads
 

@@ -7,10 +7,9 @@ use lib.ListN.{length}
 use borrow.Author.Tests.{not-true, not-false}
 use Rattle.lists.specs.Scans.{allOf}
 use Rattle.lists.specs.Tables.{table}
-use Rattle.map.specs.Rows.{rows}
+use Rattle.tables.specs.Tables.{rowAt, rows}
 use Rattle.map.specs.Form.{edgeRanges}
-use Rattle.tables.specs.Tables.{rowAt}
-use Rattle.form_ranges.proofs.Scans.{row-part, row-length, rows-start, rows-hit, rows-miss, rows-end}
+use Rattle.tables.proofs.Scans.{row-part, row-length, rows-start, rows-hit, rows-miss, rows-end}
 use Rattle.form_ranges.proofs.edges_ranged.Statement.{statement}
 use Rattle.form_ranges.proofs.edges_ranged.Tie as tie
 

@@ -7,10 +7,10 @@ use borrow.Author.Tests.{not-true, not-false}
 use Rattle.lists.specs.Scans.{allOf}
 use Rattle.lists.specs.Tables.{table}
 use Rattle.lists.proofs.Scans.{all-hit, all-miss}
-use Rattle.map.specs.Rows.{rows}
+use Rattle.tables.specs.Tables.{rowAt, rows}
 use Rattle.map.specs.Form.{faceRanges}
-use Rattle.tables.specs.Tables.{rowAt}
-use Rattle.form_ranges.proofs.Scans.{rows-start, rows-end, face-tested}
+use Rattle.tables.proofs.Scans.{rows-start, rows-end}
+use Rattle.form_ranges.proofs.Columns.{face-tested}
 use Rattle.form_ranges.proofs.faces_ranged.Statement.{statement}
 use Rattle.form_ranges.proofs.faces_ranged.Tie as tie
 

@@ -12,7 +12,7 @@ use mir.Val.{toZ, ofZ}
 use mir.Facts.{toZ-pos}
 use Rattle.lists.proofs.Bools.{eq3}
 use Rattle.map.specs.Rows.{Sizes}
-use Rattle.map.specs.Form.{within}
+use Rattle.tables.specs.Tables.{within}
 use Rattle.form_ranges.proofs.head_fits.Statement.{statement}
 use Rattle.form_ranges.proofs.head_fits.Tie as tie
 

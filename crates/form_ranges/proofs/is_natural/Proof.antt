@@ -4,7 +4,7 @@ use lib.IntN.{pos}
 use lib.ListN.{getD}
 use mir.Syntax.{w64}
 use mir.Facts.{toZ-ofZ}
-use Rattle.form_ranges.proofs.Scans.{natural-tested}
+use Rattle.tables.proofs.Tests.{natural-tested}
 use Rattle.form_ranges.proofs.is_natural.Statement.{statement}
 use Rattle.form_ranges.proofs.is_natural.Tie as tie
 

@@ -7,8 +7,8 @@ use Prim.Native.Nat.{ℕ}
 use native.Mathlib.Nat.{mul-one}
 use lib.ListN.{drop}
 use Rattle.lists.specs.Scans.{allOf}
-use Rattle.map.specs.Rows.{rows}
-use Rattle.map.specs.Form.{isZero, nodeRanges, edgeRanges, faceRanges}
+use Rattle.tables.specs.Tables.{rows, isZero}
+use Rattle.map.specs.Form.{nodeRanges, edgeRanges, faceRanges}
 use Rattle.form_ranges.proofs.is_ranged.Statement.{statement}
 use Rattle.form_ranges.proofs.is_ranged.Tie as tie
 

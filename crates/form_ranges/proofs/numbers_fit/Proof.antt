@@ -16,8 +16,9 @@ use Rattle.lists.specs.Tests.{same}
 use Rattle.lists.specs.Scans.{firstOr}
 use Rattle.lists.proofs.Bools.{≡→T, &&-false}
 use Rattle.map.specs.Rows.{Map}
-use Rattle.map.specs.Form.{numbers, numbered}
-use Rattle.tables.specs.Tables.{facesOf}
+use Rattle.map.specs.Form.{numbers}
+use Rattle.tables.specs.Tables.{numbered}
+use Rattle.map_rows.specs.Rows.{facesOf}
 use Rattle.tables.proofs.Rows.{all-table}
 use Rattle.form_ranges.specs.Ranges.{mapIn}
 use Rattle.form_ranges.proofs.Columns.{node-naturals, edge-naturals, face-naturals, node-column, edge-column}

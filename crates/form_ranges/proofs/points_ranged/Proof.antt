@@ -8,7 +8,7 @@ use lib.ListN.{take, drop}
 use lib.Seq.{drop-drop}
 use Rattle.lists.specs.Scans.{allOf}
 use Rattle.curves.specs.Curves.{coordinate}
-use Rattle.map.specs.Form.{isZero}
+use Rattle.tables.specs.Tables.{isZero}
 use Rattle.form_ranges.proofs.points_ranged.Statement.{statement}
 use Rattle.form_ranges.proofs.points_ranged.Tie as tie
 

@@ -13,8 +13,8 @@ use Rattle.plane.specs.Points.{samePoint}
 use Rattle.curves.specs.Curves.{Curve, lastPoint}
 use Rattle.curves.specs.Tests.{neighboursDiffer}
 use Rattle.map.specs.Form.{curveFits}
-use Rattle.tables.specs.Tables.{NodeRows, EdgeRow, nodeAt, nodeMap, edgeAt}
-use Rattle.tables.proofs.Rows.{edge-cells, node-row-of}
+use Rattle.map_rows.specs.Rows.{NodeRows, EdgeRow, nodeAt, nodeMap, edgeAt}
+use Rattle.map_rows.proofs.Rows.{edge-cells, node-row-of}
 use Rattle.darts.specs.Positions.{RowsNamed}
 use Rattle.darts.proofs.Positions.{side-even, side-odd}
 use Rattle.form_references.proofs.Nexts.{row-point}
@@ -46,12 +46,12 @@ cast-v : tie.Need-cast-v
 cast-v c = let s = c .before .before .before .before in
     omega (arith, c .shared-slice-known3 .given (s .args .i * 2 + 1))
 
-point-of-requires : tie.Need-point-of-requires
-point-of-requires c κs = let s = c .before .before .before .before in
+node-point-requires : tie.Need-node-point-requires
+node-point-requires c κs = let s = c .before .before .before .before in
     node-row-of (s .pre .0) _ (s .pre .3 (s .args .i * 2) (omega arith) .0)
 
-point-of-requires-2 : tie.Need-point-of-requires-2
-point-of-requires-2 c κs = let s = c .before .before .before .before .before in
+node-point-requires-2 : tie.Need-node-point-requires-2
+node-point-requires-2 c κs = let s = c .before .before .before .before .before in
     node-row-of (s .pre .0) _ (s .pre .3 (s .args .i * 2 + 1) (omega arith) .0)
 
 returns : tie.Need-returns
@@ -59,7 +59,8 @@ returns c =
     let t = c .before .before .before in
     let s = t .before .before .before .before .before .before in
     fits (s .args .starts .now) (s .pre .0) (s .pre .1) (s .pre .3)
-    (t .before .before .before .before .curve-of .ensures .1) (t .before .point-of .ensures) (t .point-of2 .ensures)
+    (t .before .before .before .before .curve-of .ensures .1) (t .before .node-point .ensures .0)
+    (t .node-point2 .ensures .0)
     (c .runs-between .ensures)
 
 returns-2 : tie.Need-returns-2
@@ -67,7 +68,8 @@ returns-2 c =
     let t = c .before .before .before in
     let s = t .before .before .before .before .before .before in
     fits (s .args .starts .now) (s .pre .0) (s .pre .1) (s .pre .3)
-    (t .before .before .before .before .curve-of .ensures .1) (t .before .point-of .ensures) (t .point-of2 .ensures)
+    (t .before .before .before .before .curve-of .ensures .1) (t .before .node-point .ensures .0)
+    (t .node-point2 .ensures .0)
     (c .runs-between2 .ensures)
 
 pub curve-fits-spec : {M : Type 1} → statement M
@@ -84,8 +86,8 @@ curve-fits-spec =
     (λ c. omega arith)
     (λ c. omega arith)
     cast-v
-    point-of-requires
-    point-of-requires-2
+    node-point-requires
+    node-point-requires-2
     (λ c κs. search needs)
     (λ c κs. search needs)
     returns

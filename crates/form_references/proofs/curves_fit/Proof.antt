@@ -9,8 +9,8 @@ use Rattle.lists.specs.Scans.{allOf}
 use Rattle.lists.specs.Tables.{table}
 use Rattle.lists.proofs.Scans.{all-hit, all-miss, all-end}
 use Rattle.map.specs.Form.{curveFits}
-use Rattle.tables.specs.Tables.{edgesOf, edgeAt, nodeMap}
-use Rattle.tables.proofs.Rows.{edges-table, edge-row-of}
+use Rattle.map_rows.specs.Rows.{edgesOf, edgeAt, nodeMap}
+use Rattle.map_rows.proofs.Rows.{edges-table, edge-row-of}
 use Rattle.form_references.proofs.curves_fit.Statement.{statement}
 use Rattle.form_references.proofs.curves_fit.Tie as tie
 

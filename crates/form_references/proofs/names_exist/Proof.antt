@@ -6,7 +6,7 @@ use mathlib.Core.Path.{_≡_, sym, _∙_}
 use mathlib.Core.Bool.{true, false≢true}
 use native.Mathlib.Omega.{arith}
 use lib.Dec.{lit≤}
-use Rattle.tables.proofs.Rows.{node-rows-rising, face-rows-rising}
+use Rattle.map_rows.proofs.Rows.{node-rows-rising, face-rows-rising}
 use Rattle.form_ranges.proofs.Parts.{node-rows, edges-in-order, face-rows}
 use Rattle.form_references.proofs.Names.{edges-in-order-rise}
 use Rattle.form_references.proofs.Rows.{facesPass, sidesPass, endsPass, no-faces, no-sides, no-ends, links-tell}

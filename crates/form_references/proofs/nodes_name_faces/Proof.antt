@@ -13,10 +13,10 @@ use Rattle.lists.specs.Tables.{table}
 use Rattle.lists.proofs.Scans.{all-hit, all-miss, all-end}
 use Rattle.map.specs.Rows.{nodeOf}
 use Rattle.map.specs.Form.{inFace}
-use Rattle.tables.specs.Tables.{nodesOf, nodeAt}
-use Rattle.tables.proofs.Rows.{nodes-table}
+use Rattle.map_rows.specs.Rows.{nodesOf, nodeAt}
+use Rattle.map_rows.proofs.Rows.{nodes-table}
 use Rattle.form_ranges.specs.Ranges.{faceMap}
-use Rattle.form_ranges.proofs.Scans.{row-part, row-length}
+use Rattle.tables.proofs.Scans.{row-part, row-length}
 use Rattle.form_references.proofs.nodes_name_faces.Statement.{statement}
 use Rattle.form_references.proofs.nodes_name_faces.Tie as tie
 

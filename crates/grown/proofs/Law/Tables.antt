@@ -16,14 +16,16 @@ use Rattle.lists.proofs.Bools.{same-true, and-true}
 use Rattle.lists.proofs.Members.{map-cong}
 use Rattle.lists.proofs.Keeps.{keep-in, keep-map, distinct-keep}
 use Rattle.lists.proofs.Perms.{perm-distinct}
-use Rattle.plane.specs.declared.Point.{Point}
-use Rattle.curves.specs.Curves.{points, point, curveOf, maxPoints}
-use Rattle.curves.specs.Edits.{front, back}
 use Rattle.planar_maps.specs.Map.{Dart, fwd, bwd, rev}
 use Rattle.planar_maps.specs.Pieces.{nums}
 use Rattle.planar_maps.specs.Rings.{sameDart}
 use Rattle.planar_maps.proofs.Rings.{rev-in}
 use Rattle.planar_maps.proofs.Turns.{rev-rev}
+use Rattle.tables.specs.Tables.{within}
+use Rattle.tables.proofs.Tests.{within-least}
+use Rattle.plane.specs.declared.Point.{Point}
+use Rattle.curves.specs.Curves.{points, point, curveOf, maxPoints}
+use Rattle.curves.specs.Edits.{front, back}
 use Rattle.rotation.specs.Law.{from}
 use Rattle.rotation.proofs.Node.{lawful-in}
 use Rattle.map.specs.Limits.{lastNumber}
@@ -36,11 +38,10 @@ use Rattle.map.specs.Tickets.{NewEdgesSplit, ModEdgeSplit, NewEdgeHeal, ModEdge
 use Rattle.map.specs.Tickets.{RemEdgeNewFace, RemEdgeModFace, read}
 use Rattle.map.specs.Reasons.{firstReason, reasons}
 use Rattle.map.specs.Ticket.{carried, lentReasons, unless, judged, ticket}
-use Rattle.map.proofs.RoundTrip.{Holds, reads-back, within-least, ranged-is}
+use Rattle.map.proofs.RoundTrip.{Holds, reads-back, ranged-is}
 use Rattle.map.proofs.Reasons.{first-zero}
 use Rattle.map.proofs.Laws.{formed-is, in-form-points, edge-there}
 use Rattle.map_laws.proofs.Readings.{numberOf, nums-rows, next-row, edge-at, row-has, has-dart, dart-has, without}
-use Rattle.map_laws.proofs.Reasons as facts
 use Rattle.map_laws.proofs.Reasons.{Split}
 use Rattle.map_laws.proofs.Departures.{from-in, from-has}
 use Rattle.grown.proofs.Plane.Change.{last-first}
@@ -55,6 +56,7 @@ use Rattle.grown.proofs.Law.Lawful.{Obeys, Lawful, law-is, formed-lawfu
 use Rattle.grown.proofs.Curves.Ends.{halves-few}
 use Rattle.grown.proofs.Law.Split.{off-ends}
 use Rattle.grown.proofs.Law.Kept.{carried-obeys}
+use Rattle.map_laws.proofs.Reasons as facts
 
 -- ---- lines that can be written: numbers from 1 to below N, each once, and at most 12 points
 

@@ -20,7 +20,8 @@ use Rattle.planar_maps.proofs.Rings.{next-in}
 use Rattle.map.specs.Limits.{lastNumber}
 use Rattle.map.specs.Rows.{Node, Edge, Map, edge, hasEdge}
 use Rattle.map.specs.Darts.{arcs, directed, leaves, next, departures, edgeEnds}
-use Rattle.map.specs.Form.{numbered, numbers, inFace, edgeNames, named, bareMarked}
+use Rattle.map.specs.Form.{numbers, inFace, edgeNames, named, bareMarked}
+use Rattle.tables.specs.Tables.{numbered}
 use Rattle.map.proofs.Laws.{edge-there}
 use Rattle.map_laws.proofs.Readings.{Outline, outlineOf, outlines, outlineNumber, numberOf, arcOf, edge-at, row-has}
 use Rattle.map_laws.proofs.Readings.{has-dart, dart-has, leaves-row, next-row, departs, departing, has-number, tailIn}

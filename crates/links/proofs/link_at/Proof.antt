@@ -10,7 +10,7 @@ use mir.Syntax.{w64}
 use mir.Val.{toZ, ofZ}
 use mir.Facts.{toZ-ofZ}
 use Rattle.map.specs.Rows.{dartCell}
-use Rattle.tables.proofs.Rows.{edge-row-of}
+use Rattle.map_rows.proofs.Rows.{edge-row-of}
 use Rattle.darts.specs.Positions.{reverseOf, dartAt, sidePlace}
 use Rattle.darts.proofs.Positions.{reverse-below}
 use Rattle.links.specs.Linking.{redirected}

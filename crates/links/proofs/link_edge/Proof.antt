@@ -4,7 +4,7 @@ use mathlib.Core.List.{List}
 use Prim.Native.Nat.{_+_, _*_, _-_}
 use native.Mathlib.Omega.{arith}
 use lib.IntN.{ℤ}
-use Rattle.tables.specs.Tables.{EdgeRows}
+use Rattle.map_rows.specs.Rows.{EdgeRows}
 use Rattle.links.specs.Linking.{linkedIn}
 use Rattle.links.proofs.LinksKept.{linked-in-kept}
 use borrow.Author.Needs.{needs}

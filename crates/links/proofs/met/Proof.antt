@@ -9,7 +9,7 @@ use mir.Syntax.{w64}
 use mir.Val.{toZ, ofZ}
 use mir.Facts.{toZ-ofZ}
 use Rattle.plane.specs.Directions.{Way}
-use Rattle.tables.proofs.Rows.{edge-row-of}
+use Rattle.map_rows.proofs.Rows.{edge-row-of}
 use Rattle.darts.specs.Positions.{sideCell, wayAt, wayWith}
 use Rattle.links.specs.Linking.{leaving, firstMet}
 use Rattle.links.proofs.FirstMet.{met-same, leaving-below, with-none}

@@ -4,7 +4,7 @@ use lib.IntN.{negℤ, natAbs}
 use mir.Syntax.{w64}
 use mir.Val.{toZ, ofZ}
 use mir.Facts.{toZ-ofZ}
-use Rattle.tables.proofs.Rows.{pos-abs}
+use Rattle.tables.proofs.Tests.{pos-abs}
 use Rattle.darts.proofs.Steps.{negative-is, minus-fits}
 use Rattle.links.proofs.negated.Statement.{statement}
 use Rattle.links.proofs.negated.Tie as tie

@@ -10,7 +10,7 @@ use mir.Facts.{toZ-ofZ}
 use native.Mathlib.Nat.{sub-zero}
 use borrow.Author.Needs.{sfits-of}
 use Rattle.lists.proofs.Scans.{any-hit, any-miss, any-end}
-use Rattle.tables.proofs.Rows.{edge-row-of}
+use Rattle.map_rows.proofs.Rows.{edge-row-of}
 use Rattle.lists.specs.Tests.{same}
 use Rattle.lists.specs.Scans.{anyOf}
 use Rattle.lists.specs.Tables.{table}

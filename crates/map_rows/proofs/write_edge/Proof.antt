@@ -10,7 +10,7 @@ use mir.Facts.{toZ-ofZ, toZ-pos}
 use lib.IntN.{ℤ, pos}
 use lib.ListN.{length}
 use lib.Seq.{paste}
-use Rattle.map_rows.proofs.Pastes.{paste-paste}
+use Rattle.tables.proofs.Cells.{paste-paste}
 use Rattle.map_rows.proofs.write_edge.Statement.{statement}
 use Rattle.map_rows.proofs.write_edge.Tie as tie
 

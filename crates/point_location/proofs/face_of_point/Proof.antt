@@ -17,8 +17,8 @@ use Rattle.lists.specs.Tables.{table}
 use Rattle.lists.proofs.Scans.{fold-step, fold-end}
 use Rattle.plane.specs.declared.Point.{Point}
 use Rattle.map.specs.Faces.{Floor, faceOfPoint}
-use Rattle.tables.specs.Tables.{edgeAt, edgeMap}
-use Rattle.tables.proofs.Rows.{edges-table, edge-row-of}
+use Rattle.map_rows.specs.Rows.{edgeAt, edgeMap}
+use Rattle.map_rows.proofs.Rows.{edges-table, edge-row-of}
 use Rattle.point_location.specs.declared.Highest.{Highest}
 use Rattle.point_location.specs.Highest.{Held, floor, held, rowed}
 use Rattle.point_location.proofs.Folds.{upper, face-fold}

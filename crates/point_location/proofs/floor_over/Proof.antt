@@ -4,7 +4,7 @@ use mathlib.Core.Path.{ap, _∙_}
 use native.Mathlib.Omega.{arith}
 use lib.IntN.{natAbs}
 use lib.Signed.{nonNeg}
-use Rattle.tables.proofs.Rows.{edge-cells}
+use Rattle.map_rows.proofs.Rows.{edge-cells}
 use Rattle.point_location.proofs.floor_over.Statement.{statement}
 use Rattle.point_location.proofs.floor_over.Tie as tie
 

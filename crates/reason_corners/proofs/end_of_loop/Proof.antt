@@ -7,7 +7,7 @@ use native.Mathlib.Omega.{arith}
 use Rattle.plane.specs.Directions.{Way, before}
 use Rattle.curves.specs.Curves.{curveOf, startWay}
 use Rattle.curves.specs.Edits.{course}
-use Rattle.tables.proofs.Rows.{edge-row-of}
+use Rattle.map_rows.proofs.Rows.{edge-row-of}
 use Rattle.darts.specs.Positions.{wayAt, wayWith}
 use Rattle.links.proofs.FirstMet.{with-none}
 use Rattle.reason_corners.proofs.Ends.{start-way}

@@ -9,8 +9,8 @@ use Rattle.integers.specs.Signs.{sent}
 use Rattle.curves.specs.Curves.{curveOf, startWay}
 use Rattle.map.specs.Links.{cornerFace}
 use Rattle.map.specs.Edits.{drawn, splitsFace}
-use Rattle.tables.specs.Tables.{nodeAt}
-use Rattle.tables.proofs.Rows.{node-cells}
+use Rattle.map_rows.specs.Rows.{nodeAt}
+use Rattle.map_rows.proofs.Rows.{node-cells}
 use Rattle.reason_corners.specs.Drawing.{startCorner, endCorner, Joined}
 use Rattle.reason_corners.proofs.Ends.{corner-below, end-below}
 use Rattle.reason_corners.proofs.Drawn.{fresh-number, joined}

@@ -13,8 +13,8 @@ use Rattle.curves.specs.Curves.{Curve}
 use Rattle.curves.specs.Tests.{onCurve}
 use Rattle.map.specs.Rows.{Edge}
 use Rattle.map.specs.Reasons.{edgeThrough}
-use Rattle.tables.specs.Tables.{edgeAt, edgeMap}
-use Rattle.tables.proofs.Rows.{edges-table, edge-row-of}
+use Rattle.map_rows.specs.Rows.{edgeAt, edgeMap}
+use Rattle.map_rows.proofs.Rows.{edges-table, edge-row-of}
 use Rattle.reason_curves.proofs.edge_through.Statement.{statement}
 use Rattle.reason_curves.proofs.edge_through.Tie as tie
 

@@ -22,8 +22,8 @@ use Rattle.bounding_boxes.specs.Extents.{extentOf, apart}
 use Rattle.bounding_boxes.proofs.Extents.{apart-meet}
 use Rattle.map.specs.Rows.{Edge}
 use Rattle.map.specs.Reasons.{edgeWrong}
-use Rattle.tables.specs.Tables.{edgeAt}
-use Rattle.tables.proofs.Rows.{edge-row-of}
+use Rattle.map_rows.specs.Rows.{edgeAt}
+use Rattle.map_rows.proofs.Rows.{edge-row-of}
 use Rattle.reason_curves.specs.Sent.{edgesBut}
 use Rattle.reason_curves.proofs.Others.{any-kept}
 use Rattle.reason_curves.proofs.edge_wrong.Statement.{statement}

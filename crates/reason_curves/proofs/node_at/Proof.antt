@@ -14,8 +14,8 @@ use Rattle.lists.specs.Tables.{table}
 use Rattle.lists.proofs.Scans.{any-hit, any-miss, any-end}
 use Rattle.plane.specs.declared.Point.{Point}
 use Rattle.plane.specs.Points.{samePoint}
-use Rattle.tables.specs.Tables.{nodeAt}
-use Rattle.tables.proofs.Rows.{node-row-of}
+use Rattle.map_rows.specs.Rows.{nodeAt}
+use Rattle.map_rows.proofs.Rows.{node-row-of}
 use Rattle.reason_curves.proofs.node_at.Statement.{statement}
 use Rattle.reason_curves.proofs.node_at.Tie as tie
 

@@ -13,8 +13,8 @@ use Rattle.curves.specs.Curves.{Curve, curveOf}
 use Rattle.curves.specs.Tests.{onCurve}
 use Rattle.map.specs.Rows.{Node}
 use Rattle.map.specs.Reasons.{nodeInside, isEnd}
-use Rattle.tables.specs.Tables.{nodeAt, nodeMap}
-use Rattle.tables.proofs.Rows.{nodes-table, node-row-of}
+use Rattle.map_rows.specs.Rows.{nodeAt, nodeMap}
+use Rattle.map_rows.proofs.Rows.{nodes-table, node-row-of}
 use Rattle.reason_curves.proofs.node_inside.Statement.{statement}
 use Rattle.reason_curves.proofs.node_inside.Tie as tie
 

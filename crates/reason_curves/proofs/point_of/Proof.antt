@@ -2,7 +2,7 @@
 use mathlib.Core.Path.{refl}
 use Rattle.curves.specs.Curves.{coordinate}
 use Rattle.curves.proofs.Runs.{and-left, and-right, coordinate-read, coordinate-cast}
-use Rattle.reason_curves.proofs.Points.{point-in}
+use Rattle.map_rows.proofs.Points.{point-in}
 use Rattle.reason_curves.proofs.point_of.Statement.{statement}
 use Rattle.reason_curves.proofs.point_of.Tie as tie
 

@@ -11,7 +11,7 @@ use Rattle.plane.specs.Directions.{Way, sameWay}
 use Rattle.curves.specs.Curves.{curveOf, startWay, endWay}
 use Rattle.curves.proofs.Reverses.{end-way}
 use Rattle.map.specs.Reasons.{wayTaken, directionTaken}
-use Rattle.tables.specs.Tables.{edgeMap}
+use Rattle.map_rows.specs.Rows.{edgeMap}
 use Rattle.darts.specs.Positions.{wayAt}
 use Rattle.links.specs.Linking.{positions, leavesNode}
 use Rattle.reason_departures.specs.Turning.{Own}

@@ -10,7 +10,7 @@ use mir.Val.{toZ, ofZ}
 use mir.Facts.{toZ-ofZ}
 use Rattle.lists.specs.Tests.{same}
 use Rattle.map.specs.Rows.{edge}
-use Rattle.tables.specs.Tables.{edgeAt, edgeMap}
+use Rattle.map_rows.specs.Rows.{edgeAt, edgeMap}
 use Rattle.reason_departures.specs.Turning.{endsAt, joinsAt}
 use Rattle.reason_departures.proofs.Ends.{same-row, start-cell, end-cell, ends-is, reason-is}
 use borrow.Author.Needs.{needs}

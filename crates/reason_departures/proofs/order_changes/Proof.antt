@@ -10,7 +10,7 @@ use mir.Facts.{toZ-ofZ}
 use Rattle.lists.specs.Tests.{same}
 use Rattle.lists.specs.Scans.{anyOf}
 use Rattle.map.specs.Rows.{edge}
-use Rattle.tables.specs.Tables.{edgeAt, edgeMap}
+use Rattle.map_rows.specs.Rows.{edgeAt, edgeMap}
 use Rattle.links.specs.Linking.{positions, leavesNode}
 use Rattle.reason_departures.specs.Turning.{turnsAt}
 use Rattle.reason_departures.proofs.Ends.{start-cell, end-cell}

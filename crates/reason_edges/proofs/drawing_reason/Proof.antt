@@ -4,7 +4,7 @@ use mathlib.Core.Path.{sym, _∙_}
 use Prim.Native.Nat.{_<_}
 use native.Mathlib.Omega.{arith}
 use Rattle.integers.specs.Signs.{sent}
-use Rattle.tables.proofs.Rows.{node-row-of}
+use Rattle.map_rows.proofs.Rows.{node-row-of}
 use Rattle.reason_edges.proofs.Drawing.{number-cell, run-early, own-none, drawn-early, drawn-taken, drawn-differ}
 use Rattle.reason_edges.proofs.Drawing.{drawn-meets}
 use Rattle.reason_edges.proofs.drawing_reason.Statement.{statement}

@@ -3,7 +3,7 @@ use borrow.Author.Needs.{needs}
 use mathlib.Core.Path.{_∙_}
 use mir.Syntax.{w64}
 use mir.Facts.{toZ-ofZ}
-use Rattle.tables.proofs.Rows.{node-rows-rising}
+use Rattle.map_rows.proofs.Rows.{node-rows-rising}
 use Rattle.outcomes.proofs.Formed.{nodes-count, node-rows, node-none}
 use Rattle.outcomes.proofs.Words.{count-natural, count-abs, place-told}
 use Rattle.reason_edges.proofs.Adding.{few-nodes, end-none, row-below, add-missing, add-found}

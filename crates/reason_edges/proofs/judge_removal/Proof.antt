@@ -5,7 +5,7 @@ use native.Mathlib.Omega.{arith}
 use mir.Syntax.{w64}
 use mir.Facts.{toZ-ofZ}
 use Rattle.lists.proofs.Counts.{bit-most}
-use Rattle.tables.proofs.Rows.{edge-row-of, edge-rows-rising}
+use Rattle.map_rows.proofs.Rows.{edge-row-of, edge-rows-rising}
 use Rattle.outcomes.proofs.Formed.{edges-count, edge-rows}
 use Rattle.outcomes.proofs.Words.{count-natural, count-abs, place-told}
 use Rattle.reason_edges.proofs.Adding.{few-edges, counted}

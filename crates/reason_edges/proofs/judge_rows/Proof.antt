@@ -10,7 +10,7 @@ use Rattle.lists.proofs.Counts.{bit-most}
 use Rattle.map.specs.Rows.{mapOf}
 use Rattle.form_ranges.specs.Ranges.{lent}
 use Rattle.outcomes.proofs.Formed.{nodes-count, edges-count, node-rows, edge-rows}
-use Rattle.tables.proofs.Rows.{node-row-of}
+use Rattle.map_rows.proofs.Rows.{node-row-of}
 use Rattle.outcomes.proofs.Words.{count-natural, count-abs}
 use Rattle.reason_edges.specs.Parts.{makesSecond}
 use Rattle.reason_edges.proofs.Adding.{few-nodes, few-edges, counted, held, held-at, run-drawn, corner-told}

@@ -8,8 +8,8 @@ use lib.ListN.{getD}
 use lib.Dec.{lit≤}
 use Rattle.lists.specs.Tests.{same}
 use Rattle.lists.proofs.Bools.{eq4}
-use Rattle.tables.specs.Tables.{edgeAt}
-use Rattle.tables.proofs.Rows.{edge-cells}
+use Rattle.map_rows.specs.Rows.{edgeAt}
+use Rattle.map_rows.proofs.Rows.{edge-cells}
 use Rattle.outcomes.proofs.Words.{number-test, small-fits}
 use Rattle.reason_edges.proofs.Words.{lower-zero}
 use Rattle.reason_edges.proofs.makes_face.Statement.{statement}

@@ -11,8 +11,8 @@ use mir.Facts.{toZ-ofZ}
 use Rattle.integers.specs.Machine.{fits-within}
 use Rattle.integers.specs.Signs.{sent}
 use Rattle.curves.specs.Measures.{curveArea}
-use Rattle.tables.specs.Tables.{edgeAt}
-use Rattle.tables.proofs.RowCurves.{run-at, curve-at}
+use Rattle.map_rows.specs.Rows.{edgeAt}
+use Rattle.map_rows.proofs.RowCurves.{run-at, curve-at}
 use Rattle.darts.proofs.Positions.{even-of, odd-of}
 use Rattle.darts.proofs.Steps.{negative-is}
 use Rattle.rings.proofs.Reversed.{within-neg, curveMost, run-within, area-reversed}
@@ -21,7 +21,7 @@ use Rattle.rings.proofs.dart_area.Tie as tie
 use Rattle.rings.proofs.dart_area.Reads as reads
 use Rattle.rings.proofs.dart_area.Lts as lts
 use Rattle.curves.proofs.area_of.Reads as area-of-reads
-use Rattle.tables.proofs.curve_of.Reads as curve-of-reads
+use Rattle.map_rows.proofs.curve_of.Reads as curve-of-reads
 
 module _ (c : lts.After-area-of (
   curve-of-reads.Asked,

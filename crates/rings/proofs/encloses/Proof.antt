@@ -6,8 +6,8 @@ use native.Mathlib.Omega.{arith}
 use Rattle.lists.specs.Tests.{_⊕_}
 use Rattle.curves.specs.Curves.{Curve}
 use Rattle.curves.specs.Measures.{oddBelow}
-use Rattle.tables.specs.Tables.{edgeAt}
-use Rattle.tables.proofs.Rows.{edge-row-of}
+use Rattle.map_rows.specs.Rows.{edgeAt}
+use Rattle.map_rows.proofs.Rows.{edge-row-of}
 use Rattle.rings.proofs.Walks.{steps, ringAt}
 use Rattle.rings.proofs.Sums.{oddLeft, odd-start, odd-on, odd-last, odd-end}
 use Rattle.rings.proofs.encloses.Statement.{statement}
@@ -16,7 +16,7 @@ use Rattle.rings.proofs.encloses.Reads as reads
 use Rattle.rings.proofs.encloses.Lts as lts
 use Rattle.curves.proofs.odd_below.Reads as odd-below-reads
 use Rattle.darts.proofs.next_position.Reads as next-position-reads
-use Rattle.tables.proofs.curve_of.Reads as curve-of-reads
+use Rattle.map_rows.proofs.curve_of.Reads as curve-of-reads
 
 abbrev Inv-loop : tie.InvT-loop
 Inv-loop edges count p q c₀ odd₀ k₀ k-end c odd k =

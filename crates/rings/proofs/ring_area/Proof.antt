@@ -8,8 +8,8 @@ use mir.Syntax.{w64}
 use mir.Val.{toZ, ofZ, SFits}
 use mir.Facts.{toZ-ofZ}
 use Rattle.integers.specs.Signs.{sent}
-use Rattle.tables.specs.Tables.{EdgeRow}
-use Rattle.tables.proofs.Rows.{edge-row-of}
+use Rattle.map_rows.specs.Rows.{EdgeRow}
+use Rattle.map_rows.proofs.Rows.{edge-row-of}
 use Rattle.rings.proofs.Walks.{steps, ringAt}
 use Rattle.rings.proofs.Reversed.{Within, within-sub, curveMost}
 use Rattle.rings.proofs.Sums.{areaLeft, areaAt, area-within, sum-within, sum-fits, area-start, area-on}

@@ -11,7 +11,7 @@ use mir.Val.{toZ, ofZ}
 use Rattle.integers.specs.Signs.{sent}
 use Rattle.map.specs.Rows.{dartCell}
 use Rattle.tables.proofs.Cells.{copy-more, copy-end}
-use Rattle.tables.proofs.Rows.{edge-row-of}
+use Rattle.map_rows.proofs.Rows.{edge-row-of}
 use Rattle.rings.proofs.Walks.{steps, ringAt, ring-steps, cells, Follows, written-here, written-on}
 use Rattle.rings.proofs.write_ring.Statement.{statement}
 use Rattle.rings.proofs.write_ring.Tie as tie

@@ -11,7 +11,7 @@ use Rattle.tables.proofs.find_row.Statement.{statement}
 use Rattle.tables.proofs.find_row.Tie as tie
 
 -- there is a first row
-copy-out-first : tie.Need-shared-slice-copy-out-natural
+copy-out-first : tie.Need-shared-slice-copy-out-clamped
 copy-out-first c =
     let s = c .before in
     let h : 0 < s .args .count = omega arith in

@@ -1,24 +1,18 @@
--- `tables::natural` is safe: what is not less than 0 is not negative. Assumes nothing.
-use borrow.Author.Needs.{needs}
-use mathlib.Core.Path.{_≡_, subst}
-use mathlib.Core.Bool.{false, true≢false}
-use lib.Dec.{T}
-use lib.IntN.{ℤ, pos, negsuc}
-use lib.Signed.{ltZ, nonNeg}
+-- `tables::natural` meets its contract: a number that is not negative is its magnitude. Assumes nothing.
+use borrow.Author.Needs.{needs, sfits-of}
+use lib.IntN.{pos}
+use lib.ListN.{getD}
 use mir.Syntax.{w64}
 use mir.Facts.{toZ-ofZ, fits-natAbs}
 use Rattle.tables.proofs.natural.Statement.{statement}
 use Rattle.tables.proofs.natural.Tie as tie
 
-not-negative : (z : ℤ) → ltZ z (pos 0) ≡ false → T (nonNeg z)
-not-negative (pos n) h = tt
-not-negative (negsuc n) h = absurd (true≢false h)
-
 cast-result : tie.Need-cast-result
-cast-result c =
-    let s = c .before in
-    let h = subst (λ (x : ℤ). ltZ x (pos 0) ≡ false) (toZ-ofZ (s .fits .z)) (c .if1 .left) in
-    rw (toZ-ofZ (s .fits .z)) (not-negative (s .args .z) h, fits-natAbs {w = w64} {z = s .args .z} tt (s .fits .z))
+cast-result c = rw (toZ-ofZ {w = w64} (sfits-of (c .z .given))) (
+  c .before .pre .1,
+  fits-natAbs {w = w64} tt
+      (sfits-of {w = w64} {z = getD (c .before .args .t .now) (c .before .args .k) (pos 0)} (c .z .given)),
+)
 
 pub natural-spec : {M : Type 1} → statement M
-natural-spec = tie.close (tie.spec (λ c. search needs) cast-result (λ c. search needs))
+natural-spec = tie.close (tie.spec (λ c. search needs) (λ c. search needs) cast-result (λ c. search needs))

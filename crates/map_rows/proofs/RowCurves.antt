@@ -1,25 +1,30 @@
 -- The curve of an edge row in range: a run of 2 to 12 points within the table. Assumes nothing.
-use mathlib.Core.Path.{_≡_, refl, sym, ap, _∙_, subst}
-use mathlib.Core.Bool.{true, _&&_, false≢true}
+use mathlib.Core.Path.{_≡_, sym, ap, _∙_, subst}
+use mathlib.Core.Bool.{true, _&&_}
 use mathlib.Core.List.{List, [], _∷_}
 use Prim.Native.Nat.{ℕ, zero, suc, _+_, _*_, _-_, _/_, _≤_}
 use native.Mathlib.Nat.{zero-add}
 use native.Mathlib.Omega.{arith}
-use lib.IntN.{ℤ, pos, negsuc, natAbs}
-use lib.Dec.{leb, lit<}
+use lib.IntN.{ℤ, pos, natAbs}
+use lib.Dec.{lit<}
 use lib.ListN.{length, getD, take, drop, length-drop}
 use lib.Seq.{length-take-le, take-take, drop-drop, take-nil}
 use lib.Signed.{nonNeg}
-use borrow.Author.Tests.{leb-true, le-leb}
+use borrow.Author.Tests.{le-leb}
 use Rattle.lists.specs.Scans.{allOf}
 use Rattle.lists.proofs.Scans.{length-table}
 use Rattle.curves.specs.Curves.{Curve, points, pointAt, Run, isRun, curveOf, coordinate, maxPoints}
 use Rattle.curves.proofs.Runs.{and-left, and-right, curve-is}
+use Rattle.tables.specs.Tables.{rows, cell, within, isZero}
+use Rattle.tables.proofs.Tests.{within-back, within-least, within-most}
+use Rattle.tables.proofs.Rows.{row-cell, each-table}
+use Rattle.tables.proofs.Filled.{Wide}
 use Rattle.map.specs.Limits.{edgeWidth}
-use Rattle.map.specs.Rows.{cell, edgeOf}
-use Rattle.map.specs.Form.{within, isZero}
-use Rattle.tables.specs.Tables.{EdgeRow, edgeCellsAt, edgeAt}
-use Rattle.tables.proofs.Rows.{row-cell}
+use Rattle.map.specs.Rows.{edgeOf, edgeCells}
+use Rattle.map.specs.Form.{edgeRanges}
+use Rattle.map.proofs.RoundTrip.{edge-wide}
+use Rattle.map_rows.specs.Rows.{EdgeRow, edgeCellsAt, edgesOf, edgeAt}
+use Rattle.map_rows.proofs.Rows.{edge-row, edges-table}
 
 drop-take : {A : Type 0} (k n : ℕ) (l : List A) → drop k (take (k + n) l) ≡ take n (drop k l)
 drop-take {A} zero n l = rw zero-add
@@ -30,14 +35,6 @@ drop-take {A} (suc k) n (x ∷ l) = ap (drop (suc k)) (ap (λ (m : ℕ). take m 
     suc-plus a b = omega arith
 
 -- ---- the curve of an edge row
-
-pub within-pos : (a b : ℕ) (z : ℤ) → within a b z ≡ true → (z ≡ pos (natAbs z)) × (a ≤ natAbs z) × (natAbs z ≤ b)
-within-pos a b (pos n) h = (
-  refl,
-  leb-true a n (and-left (leb a n) (leb n b) h),
-  leb-true n b (and-right (leb a n) (leb n b) h),
-)
-within-pos a b (negsuc n) h = absurd (false≢true h)
 
 -- its number of points, and its numbers in use
 abbrev pub pointCount : List ℤ → ℕ → ℕ
@@ -65,13 +62,13 @@ module _ {l : List ℤ} {i : ℕ} (row : EdgeRow l i) where
       (and-left _ (allOf coordinate (take (2 * natAbs (cell (edgeCellsAt l i) 7)) (drop 8 (edgeCellsAt l i)))) in-use))
 
   pub count-pos : getD l (i * 32 + 7) (pos 0) ≡ pos (pointCount l i)
-  count-pos = within-pos 2 maxPoints (getD l (i * 32 + 7) (pos 0)) few .0
+  count-pos = sym (within-back 2 maxPoints (getD l (i * 32 + 7) (pos 0)) few)
 
   pub count-least : 2 ≤ pointCount l i
-  count-least = within-pos 2 maxPoints (getD l (i * 32 + 7) (pos 0)) few .1
+  count-least = within-least 2 maxPoints (getD l (i * 32 + 7) (pos 0)) few
 
   pub count-most : pointCount l i ≤ maxPoints
-  count-most = within-pos 2 maxPoints (getD l (i * 32 + 7) (pos 0)) few .2
+  count-most = within-most 2 maxPoints (getD l (i * 32 + 7) (pos 0)) few
 
   same-run : take (2 * natAbs (cell (edgeCellsAt l i) 7)) (drop 8 (edgeCellsAt l i)) ≡ runAt l i
   same-run =
@@ -115,3 +112,11 @@ module _ {l : List ℤ} {i : ℕ} (row : EdgeRow l i) where
 
   pub edge-few : length (points (edgeAt l i .curve)) ≤ maxPoints
   edge-few = rw points-at count-most
+
+-- the edges of a table in range
+pub table-edges-wide : (l : List ℤ) (n : ℕ) → n * edgeWidth ≤ length l → allOf edgeRanges (rows edgeWidth n l) ≡ true
+    → Wide edgeWidth edgeCells (edgesOf l n)
+table-edges-wide l n fits ranges =
+    subst (Wide edgeWidth edgeCells) (sym (edges-table l n))
+    (each-table (λ e. length (edgeCells e) ≡ edgeWidth) (edgeAt l) n
+    (λ i t. edge-wide (edgeAt l i) (edge-few (edge-row l n i fits ranges t))))

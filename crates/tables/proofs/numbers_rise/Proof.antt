@@ -1,4 +1,4 @@
--- `form_ranges::numbers_rise` meets its contract: the numbers that are left rise from the last one on if and only if
+-- `tables::numbers_rise` meets its contract: the numbers that are left rise from the last one on if and only if
 -- all do. Assumes nothing.
 use Prim.Native.Nat.{ℕ, _-_, _*_, _≤_}
 use mathlib.Core.Path.{_≡_, sym, _∙_}
@@ -11,13 +11,13 @@ use lib.ListN.{getD}
 use lib.Signed.{nonNeg}
 use borrow.Author.Tests.{ltb-true, leb-true, ltb-false, leb-false}
 use Rattle.lists.specs.Tables.{table}
-use Rattle.lists.proofs.Bools.{≡→T, or-true}
-use Rattle.map.specs.Form.{numbered}
+use Rattle.lists.proofs.Bools.{≡→T, or-true, or-false}
+use Rattle.tables.specs.Tables.{numbered}
 use Rattle.tables.proofs.Cells.{row-room}
 use Rattle.tables.proofs.Rows.{all-table}
-use Rattle.form_ranges.proofs.Columns.{or-false, numbered-hit, numbered-low, numbered-high, numbered-end}
-use Rattle.form_ranges.proofs.numbers_rise.Statement.{statement}
-use Rattle.form_ranges.proofs.numbers_rise.Tie as tie
+use Rattle.tables.proofs.Rising.{numbered-hit, numbered-low, numbered-high, numbered-end}
+use Rattle.tables.proofs.numbers_rise.Statement.{statement}
+use Rattle.tables.proofs.numbers_rise.Tie as tie
 
 abbrev Inv-loop : tie.InvT-loop
 Inv-loop t w count least next low₀ i₀ low i =

@@ -1,4 +1,4 @@
--- `tables::curve_of` meets its contract: the row has 2 to 12 points, which lie in the table. Assumes nothing.
+-- `map_rows::curve_of` meets its contract: the row has 2 to 12 points, which lie in the table. Assumes nothing.
 use borrow.Author.Needs.{needs, sfits-of}
 use mathlib.Core.Path.{_≡_, sym, ap, _∙_, subst}
 use Prim.Native.Nat.{ℕ, _+_, _*_, _-_}
@@ -9,12 +9,12 @@ use mir.Syntax.{w64}
 use mir.Val.{toZ, ofZ}
 use mir.Facts.{toZ-ofZ}
 use Rattle.curves.specs.Curves.{Run, curveOf}
-use Rattle.tables.specs.Tables.{edgeAt}
-use Rattle.tables.proofs.RowCurves.{pointCount, count-pos, count-most, run-at, curve-at}
-use Rattle.tables.proofs.curve_of.Statement.{statement}
-use Rattle.tables.proofs.curve_of.Tie as tie
-use Rattle.tables.proofs.curve_of.Reads as reads
-use Rattle.tables.proofs.curve_of.Lts as lts
+use Rattle.map_rows.specs.Rows.{edgeAt}
+use Rattle.map_rows.proofs.RowCurves.{pointCount, count-pos, count-most, run-at, curve-at}
+use Rattle.map_rows.proofs.curve_of.Statement.{statement}
+use Rattle.map_rows.proofs.curve_of.Tie as tie
+use Rattle.map_rows.proofs.curve_of.Reads as reads
+use Rattle.map_rows.proofs.curve_of.Lts as lts
 
 cast-n : tie.Need-cast-n
 cast-n c =

@@ -1,70 +1,30 @@
--- Tests of one number, and turns of the loops over numbers and over rows. Assumes nothing.
-use mathlib.Core.Path.{_≡_, refl, sym, ap, _∙_}
+-- Turns of the loops over the numbers of a list and over the rows of a table. Assumes nothing.
+use mathlib.Core.Path.{_≡_, sym, ap, _∙_}
 use mathlib.Core.Bool.{Bool, true, false, _&&_}
-use mathlib.Core.Logic.{inl, inr}
 use mathlib.Core.List.{List}
 use Prim.Native.Nat.{ℕ, _+_, _*_, _-_, _<_, _≤_}
-use native.Mathlib.Nat.{sub-zero, mul-one}
+use native.Mathlib.Nat.{sub-zero}
+use native.Mathlib.Numerals.{add-one}
 use native.Mathlib.Omega.{arith}
-use lib.Dec.{lit<, eqb}
-use lib.Bits.{bitOr, or-add-and, and-le-r}
-use lib.IntN.{ℤ, pos, negsuc, natAbs}
+use lib.IntN.{ℤ}
 use lib.ListN.{length, getD, take, drop, length-drop, drop-of-length-le}
-use lib.Seq.{length-take-le, take-all}
-use lib.Signed.{leZ, nonNeg}
-use mir.Syntax.{w64}
-use mir.Val.{ofZ, SFits}
-use borrow.Author.Tests.{le-leb, eqb-true, eqb-false, ne-eqb}
-use borrow.Author.Needs.{sfits-of}
+use lib.Seq.{length-take-le, take-all, drop-cons}
 use Rattle.lists.specs.Scans.{allOf}
 use Rattle.lists.specs.Tables.{table}
-use Rattle.lists.proofs.Bools.{same-false, same-eq, which, eq3}
+use Rattle.lists.proofs.Bools.{eq3}
 use Rattle.lists.proofs.Scans.{all-hit, all-miss, all-end}
-use Rattle.curves.proofs.Runs.{all-drop}
-use Rattle.map.specs.Rows.{rows}
-use Rattle.map.specs.Form.{isZero, faceRanges}
-use Rattle.tables.specs.Tables.{rowAt}
+use Rattle.tables.specs.Tables.{rows, rowAt}
 use Rattle.tables.proofs.Cells.{row-room}
-use Rattle.tables.proofs.Order.{word-is}
-use Rattle.tables.proofs.Rows.{row-first, rows-table}
-
--- ---- one number
-
-pub natural-tested : (z : ℤ) → leZ (pos 0) z ≡ nonNeg z
-natural-tested (pos n) = le-leb 0 n (omega arith)
-natural-tested (negsuc n) = refl
-
-zero-is : (z : ℤ) → natAbs z ≡ 0 → z ≡ pos 0
-zero-is (pos n) e = ap pos e
-zero-is (negsuc n) e = absurd (omega arith)
-
-pub not-zero : (z : ℤ) → (z ≡ pos 0 → ⊥) → isZero z ≡ false
-not-zero z h = same-false (natAbs z) 0 (λ e. h (zero-is z e))
-
-pub is-zero : (z : ℤ) → z ≡ pos 0 → isZero z ≡ true
-is-zero z e = same-eq (natAbs z) 0 (ap natAbs e)
-
-pub zero-tested : (z : ℤ) → SFits w64 z → eqb (ofZ w64 z) 0 ≡ isZero z
-zero-tested z f =
-    elim (which (eqb (ofZ w64 z) 0)) [
-      | inl e ↦ e ∙ sym (is-zero z (word-is f (sfits-of (lit< tt)) (eqb-true (ofZ w64 z) 0 e)))
-      | inr e ↦ e ∙ sym (not-zero z (λ q. eqb-false (ofZ w64 z) 0 e (ap (ofZ w64) q)))
-    ]
-
--- no bit in either word
-pub bits-tested : (a b : ℕ) → eqb (bitOr a b) 0 ≡ (eqb a 0 && eqb b 0)
-bits-tested a b =
-    elim (which (eqb a 0)) [
-      | inl e ↦ rw (eqb-true a 0 e)
-      | inr e ↦ ne-eqb (bitOr a b) 0 (λ o. eqb-false a 0 e (omega (arith, or-add-and a b, and-le-r a b)))
-          ∙ sym (ap (λ (x : Bool). x && eqb b 0) e)
-    ]
+use Rattle.tables.proofs.Rows.{rows-table}
 
 -- ---- the numbers from i on
 
 module _ {A : Type 0} (p : A → Bool) (l : List A) (d : A) (i : ℕ) where
+  rest-step : i < length l → allOf p (drop i l) ≡ p (getD l i d) && allOf p (drop (i + 1) l)
+  rest-step h = rw (drop-cons l i d h, add-one i)
+
   pub rest-hit : i < length l → p (getD l i d) ≡ true → allOf p (drop i l) ≡ allOf p (drop (i + 1) l)
-  rest-hit h e = all-drop p l i d h ∙ ap (λ (t : Bool). t && allOf p (drop (i + 1) l)) e
+  rest-hit h e = rest-step h ∙ ap (λ (t : Bool). t && allOf p (drop (i + 1) l)) e
 
   -- a turn without a branch: what was met so far, and the rest
   pub rest-turn : (met : Bool) {b : Bool} → i < length l → b ≡ p (getD l i d)
@@ -72,10 +32,10 @@ module _ {A : Type 0} (p : A → Bool) (l : List A) (d : A) (i : ℕ) where
   rest-turn met {b} h e =
       let rest = allOf p (drop (i + 1) l) in
       eq3 (λ m x r. (m && x) && r) (λ m x r. m && (x && r)) tt met b rest
-      ∙ ap (λ (x : Bool). met && x) (ap (λ (x : Bool). x && rest) e ∙ sym (all-drop p l i d h))
+      ∙ ap (λ (x : Bool). met && x) (ap (λ (x : Bool). x && rest) e ∙ sym (rest-step h))
 
   pub rest-miss : i < length l → p (getD l i d) ≡ false → allOf p (drop i l) ≡ false
-  rest-miss h e = all-drop p l i d h ∙ ap (λ (t : Bool). t && allOf p (drop (i + 1) l)) e
+  rest-miss h e = rest-step h ∙ ap (λ (t : Bool). t && allOf p (drop (i + 1) l)) e
 
 pub rest-end : {A : Type 0} (p : A → Bool) (l : List A) (i : ℕ) → length l ≤ i → allOf p (drop i l) ≡ true
 rest-end p l i h = ap (allOf p) (drop-of-length-le l h)
@@ -109,7 +69,3 @@ module _ (w : ℕ) (l : List ℤ) (ok : List ℤ → Bool) (n : ℕ) where
 
   pub rows-end : (i : ℕ) → n ≤ i → allOf ok (table (rowAt w l) i (n - i)) ≡ true
   rows-end i h = all-end (rowAt w l) i n ok h
-
--- a face row is its number
-pub face-tested : (l : List ℤ) (i : ℕ) → faceRanges (rowAt 1 l i) ≡ nonNeg (getD l i (pos 0))
-face-tested l i = ap nonNeg (row-first 1 l i (lit< tt) ∙ ap (λ (k : ℕ). getD l k (pos 0)) (mul-one i))

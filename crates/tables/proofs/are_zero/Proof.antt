@@ -1,4 +1,4 @@
--- `form_ranges::are_zero` meets its contract: no bit was met and those from i on are 0 if and only if all are. Assumes
+-- `tables::are_zero` meets its contract: no bit was met and those from i on are 0 if and only if all are. Assumes
 -- nothing.
 use Prim.Native.Nat.{_+_, _-_, _≤_}
 use mathlib.Core.Path.{_≡_, refl, sym, ap, _∙_}
@@ -12,10 +12,11 @@ use mir.Val.{ofZ}
 use borrow.Author.Needs.{sfits-of}
 use Rattle.lists.specs.Scans.{allOf}
 use Rattle.lists.proofs.Bools.{eq1}
-use Rattle.map.specs.Form.{isZero}
-use Rattle.form_ranges.proofs.Scans.{bits-tested, zero-tested, rest-turn, rest-end}
-use Rattle.form_ranges.proofs.are_zero.Statement.{statement}
-use Rattle.form_ranges.proofs.are_zero.Tie as tie
+use Rattle.tables.specs.Tables.{isZero}
+use Rattle.tables.proofs.Tests.{bits-tested, zero-tested}
+use Rattle.tables.proofs.Scans.{rest-turn, rest-end}
+use Rattle.tables.proofs.are_zero.Statement.{statement}
+use Rattle.tables.proofs.are_zero.Tie as tie
 
 abbrev Inv-loop : tie.InvT-loop
 Inv-loop t bits₀ i₀ i-end bits i = (i ≤ length t) × ((eqb bits 0 && allOf isZero (drop i t)) ≡ allOf isZero t)

@@ -1,9 +1,9 @@
--- `form_ranges::whole_rows` meets its contract. Assumes nothing.
+-- `tables::whole_rows` meets its contract. Assumes nothing.
 use borrow.Author.Needs.{needs}
 use mathlib.Core.Path.{refl}
 use Rattle.lists.specs.Tests.{same}
-use Rattle.form_ranges.proofs.whole_rows.Statement.{statement}
-use Rattle.form_ranges.proofs.whole_rows.Tie as tie
+use Rattle.tables.proofs.whole_rows.Statement.{statement}
+use Rattle.tables.proofs.whole_rows.Tie as tie
 
 returns : tie.Need-returns
 unfolding same

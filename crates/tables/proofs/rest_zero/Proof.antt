@@ -1,11 +1,11 @@
--- `form_ranges::rest_zero` meets its contract: the part up to the end is all that is left. Assumes nothing.
+-- `tables::rest_zero` meets its contract: the part up to the end is all that is left. Assumes nothing.
 use borrow.Author.Needs.{needs}
 use mathlib.Core.Path.{ap, _∙_}
 use Rattle.lists.specs.Scans.{allOf}
-use Rattle.map.specs.Form.{isZero}
-use Rattle.form_ranges.proofs.Scans.{rest-part}
-use Rattle.form_ranges.proofs.rest_zero.Statement.{statement}
-use Rattle.form_ranges.proofs.rest_zero.Tie as tie
+use Rattle.tables.specs.Tables.{isZero}
+use Rattle.tables.proofs.Scans.{rest-part}
+use Rattle.tables.proofs.rest_zero.Statement.{statement}
+use Rattle.tables.proofs.rest_zero.Tie as tie
 
 returns : tie.Need-returns
 returns c = c .are-zero .ensures ∙ ap (allOf isZero)

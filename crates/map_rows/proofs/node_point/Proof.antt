@@ -1,12 +1,12 @@
--- `reason_curves::node_point` meets its contract: the numbers of a node row in range are coordinates. Assumes nothing.
+-- `map_rows::node_point` meets its contract: the numbers of a node row in range are coordinates. Assumes nothing.
 use borrow.Author.Needs.{needs}
 use Prim.Native.Nat.{_+_, _*_}
 use lib.IntN.{pos}
 use lib.ListN.{getD}
 use Rattle.curves.proofs.Runs.{coordinate-read, coordinate-cast}
-use Rattle.reason_curves.proofs.Points.{point-in, node-x, node-y, node-point-is}
-use Rattle.reason_curves.proofs.node_point.Statement.{statement}
-use Rattle.reason_curves.proofs.node_point.Tie as tie
+use Rattle.map_rows.proofs.Points.{point-in, node-x, node-y, node-point-is}
+use Rattle.map_rows.proofs.node_point.Statement.{statement}
+use Rattle.map_rows.proofs.node_point.Tie as tie
 
 cast-x : tie.Need-cast-t11
 cast-x c = coordinate-cast (getD (c .before .before .args .nodes .now) (c .before .before .args .i * 4 + 1) (pos 0))
