@@ -35,10 +35,9 @@ use Rattle.redraws.specs.Holds as redraws
 use Rattle.redraws.proofs.Filled.{nodes-room, edges-room, nodes-filled, edges-filled}
 use Rattle.face_rows.specs.Holds.{Held, Splittable}
 use Rattle.face_rows.proofs.Formed.{formed-held}
-use Rattle.map_laws.proofs.Readings.{missing, has-number}
+use Rattle.map_laws.proofs.Readings.{missing, has-number, Outline, outlineOf, outlines}
 use Rattle.map_laws.proofs.RowChanges.{nodeNumber}
 use Rattle.map_laws.proofs.Reasons.{AddEdge, add-new, add-mod}
-use Rattle.map_laws.proofs.Readings.{Outline, outlineOf, outlines}
 use Rattle.map_laws.proofs.Outlines.{drawnOutline, drawn-shape}
 use Rattle.map_laws.proofs.Faces.{has-face, formed-faces, corner-in}
 use Rattle.edit_add.proofs.Rings.{drawn-ringed, drawn-ends}

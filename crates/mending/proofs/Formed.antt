@@ -31,10 +31,9 @@ use Rattle.map.specs.Darts.{arcs, directed, leaves, arrives, next, bears, way, 
 use Rattle.map.specs.Form.{numbered, numbers, inFace, curveFits, waysDiffer, departuresDiffer, bareMarked}
 use Rattle.map.specs.Form.{linksMeet, ringsBearOne, formed}
 use Rattle.map.specs.Links.{clockwise}
-use Rattle.map.proofs.Laws.{numbers-are}
+use Rattle.map.proofs.Laws.{edge-there, node-there, numbers-are}
 use Rattle.map.proofs.Linked.{nums-rows, starts, ends, links-keep}
 use Rattle.map.proofs.Scans.{all-each, each-all}
-use Rattle.map.proofs.Laws.{edge-there, node-there}
 use Rattle.map_laws.proofs.Readings.{leaves-row, arc-at, dart-has, departs, departing}
 use Rattle.map_laws.proofs.Departures.{from-in}
 use Rattle.map_laws.proofs.Form.{linked-once, differ-says}
