@@ -21,13 +21,11 @@ use Rattle.map.proofs.Laws.{formed-is}
 use Rattle.map.proofs.Linked as formedLinks
 use Rattle.map_rows.specs.Rows.{edgesOf}
 use Rattle.face_relabel.specs.Sharing.{Ringed}
-use Rattle.map_laws.proofs.Readings.{number-has, arc-at}
-use Rattle.map_laws.proofs.RowChanges.{nodeNumber, noNode}
+use Rattle.map_laws.proofs.Readings.{number-has, arc-at, Outline, outlineOf, outlines}
+use Rattle.map_laws.proofs.RowChanges.{nodeNumber, noNode, numbers-kept}
 use Rattle.map_laws.proofs.Reasons.{AddEdge}
-use Rattle.map_laws.proofs.Readings.{Outline, outlineOf, outlines}
 use Rattle.map_laws.proofs.Outlines.{drawn-shape}
 use Rattle.map_laws.proofs.Form.{linked-once, linked-bear, formed-apart, edge-new}
-use Rattle.map_laws.proofs.RowChanges.{numbers-kept}
 use Rattle.map_laws.proofs.DrawnLinked.{Draws, draws-edge, D-linked, D-once}
 
 -- ---- a linked map by the tests of form

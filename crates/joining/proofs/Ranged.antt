@@ -31,11 +31,10 @@ use Rattle.map.specs.Reasons.{firstReason, reasons}
 use Rattle.map.specs.Ticket.{Outcome, lentReasons, unless, judged, carried, ticket}
 use Rattle.map.specs.Edits.{addIsoNode, split, addEdge}
 use Rattle.map.specs.Form.{ranged, formed, inForm}
-use Rattle.map.proofs.Laws.{formed-is}
+use Rattle.map.proofs.Laws.{edge-there, formed-is}
 use Rattle.map.proofs.Linked.{edges-once, within-nodes}
 use Rattle.map.proofs.RoundTrip.{Stored, ranged-is, ranged-nodes, ranged-curves}
 use Rattle.map.proofs.Reasons.{first-zero}
-use Rattle.map.proofs.Laws.{edge-there}
 use Rattle.map_laws.proofs.Reasons.{Room, Supply, AddNode, Split, AddEdge, add-node, split-mod, add-mod}
 use Rattle.map_laws.proofs.Readings.{outlineOf}
 use Rattle.grown.proofs.Numbers.Ranked.{RankedMap, numbered-ranked}

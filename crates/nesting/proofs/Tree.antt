@@ -29,9 +29,8 @@ use Rattle.map.specs.Darts.{arcs, directed, leaves, next, bears}
 use Rattle.map.specs.Form.{formed}
 use Rattle.grown.specs.Good.{Good}
 use Rattle.map.proofs.Laws.{edge-there}
-use Rattle.map_laws.proofs.Readings.{faceIn, arcOf, bears-row, arc-at, dart-has}
+use Rattle.map_laws.proofs.Readings.{faceIn, arcOf, bears-row, arc-at, dart-has, Outline, outlineOf, outlines}
 use Rattle.map_laws.proofs.RowChanges.{nodeNumber, node-at}
-use Rattle.map_laws.proofs.Readings.{Outline, outlineOf, outlines}
 use Rattle.grown.proofs.Numbers.Ranked.{RankedMap, Met, numbered-ranked}
 use Rattle.grown.proofs.Plane.Reached.{good-reached}
 use Rattle.grown.proofs.Forms.{good-formed}
