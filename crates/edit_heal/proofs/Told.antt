@@ -14,7 +14,7 @@ use Rattle.lists.proofs.Bools.{differ, eq1}
 use Rattle.curves.specs.Curves.{points, maxPoints}
 use Rattle.map.specs.declared.Head.{Head}
 use Rattle.map.specs.Limits.{lastNumber}
-use Rattle.map.specs.Rows.{Map, mapOf, sizesOf, edge}
+use Rattle.map.specs.Rows.{Map, mapOf, sizesOf, edge, counts}
 use Rattle.map.specs.Darts.{departures, leaves, course}
 use Rattle.map.specs.Edits.{sharedNodes, joint, parts, healedCurve}
 use Rattle.map.specs.Reasons.{Reasons, firstReason, reasons, noEdge, spent}
@@ -75,7 +75,8 @@ module _ {nodes edges faces : List ℤ} {h : Head} (f : Formed nodes edges faces
 
   -- ---- the others
 
-  numbers-left : spent (mapOf (lent nodes edges faces h)) 0 1 0 ≡ ltb (suc lastNumber) (natAbs (h .«next_edge») + 1)
+  numbers-left : spent (mapOf (lent nodes edges faces h)) (counts 0 1 0)
+      ≡ ltb (suc lastNumber) (natAbs (h .«next_edge») + 1)
   numbers-left = spent-is f 0 1 0 ∙ rw (node-left f, face-left f)
       (eq1 (λ b. false || b || false) (λ b. b) tt (ltb (suc lastNumber) (natAbs (h .«next_edge») + 1)))
 

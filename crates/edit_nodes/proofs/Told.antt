@@ -18,7 +18,7 @@ use Rattle.plane.specs.Points.{samePoint}
 use Rattle.curves.specs.Curves.{point, coordinate}
 use Rattle.map.specs.declared.Head.{Head}
 use Rattle.map.specs.Limits.{nodeWidth, lastNumber}
-use Rattle.map.specs.Rows.{Map, mapOf, sizesOf}
+use Rattle.map.specs.Rows.{Map, mapOf, sizesOf, counts}
 use Rattle.map.specs.Faces.{faceOfPoint, floors}
 use Rattle.map.specs.Tickets.{AddIsoNode}
 use Rattle.map.specs.Reasons as reasons
@@ -154,11 +154,12 @@ module _ {nodes edges faces : List ℤ} {h : Head} (f : Formed nodes edges faces
       add-room e = late-part ∙ first-miss 12 _ _ e
           ∙ ap₂ (λ (a b : Bool). firstReason ((20, a) ∷ (21, b) ∷ [])) room numbers
         where
-          room : full (sizesOf (lent nodes edges faces h)) (mapOf (lent nodes edges faces h)) 1 0 0
+          room : full (sizesOf (lent nodes edges faces h)) (mapOf (lent nodes edges faces h)) (counts 1 0 0)
               ≡ ltb (length nodes / nodeWidth) (natAbs (h .nodes) + 1)
           room = full-is f 1 0 0 ∙ rw (edges-room f, faces-room f)
               (eq1 (λ b. b || false || false) (λ b. b) tt (ltb (length nodes / nodeWidth) (natAbs (h .nodes) + 1)))
 
-          numbers : spent (mapOf (lent nodes edges faces h)) 1 0 0 ≡ ltb (suc lastNumber) (natAbs (h .«next_node») + 1)
+          numbers : spent (mapOf (lent nodes edges faces h)) (counts 1 0 0)
+              ≡ ltb (suc lastNumber) (natAbs (h .«next_node») + 1)
           numbers = spent-is f 1 0 0 ∙ rw (edge-left f, face-left f)
               (eq1 (λ b. b || false || false) (λ b. b) tt (ltb (suc lastNumber) (natAbs (h .«next_node») + 1)))

@@ -12,7 +12,7 @@ use Rattle.plane.specs.Points.{samePoint}
 use Rattle.curves.specs.Curves.{point}
 use Rattle.map.specs.declared.Head.{Head}
 use Rattle.map.specs.Limits.{nodeWidth, lastNumber}
-use Rattle.map.specs.Rows.{Map, Sizes}
+use Rattle.map.specs.Rows.{Map, Sizes, counts}
 use Rattle.map.specs.Faces.{faceOfPoint}
 use Rattle.map.specs.Reasons as reasons
 use Rattle.map.specs.Reasons.{Reasons, minusOne, noFace, outside, edgeThrough, full, spent}
@@ -24,8 +24,9 @@ addEarly m f x y = (4, not (minusOne f) && noFace m f) ∷ (5, outside x y)
     ∷ (10, reasons.nodeAt (m .nodes) (point x y) || edgeThrough m (point x y)) ∷ []
 
 abbrev pub addLate : Sizes → Map → ℤ → ℤ → ℤ → Reasons
-addLate s m f x y = (12, not (minusOne f) && not (same (natAbs f) (faceOfPoint m (point x y)))) ∷ (20, full s m 1 0 0)
-    ∷ (21, spent m 1 0 0) ∷ []
+addLate s m f x y = (12, not (minusOne f) && not (same (natAbs f) (faceOfPoint m (point x y))))
+    ∷ (20, full s m (counts 1 0 0))
+    ∷ (21, spent m (counts 1 0 0)) ∷ []
 
 -- 20 and 21, of the nodes alone
 abbrev pub roomReasons : List ℤ → Head → Reasons

@@ -17,7 +17,7 @@ use Rattle.curves.specs.Curves.{point, coordinate}
 use Rattle.curves.specs.Tests.{onCurve}
 use Rattle.map.specs.declared.Head.{Head}
 use Rattle.map.specs.Limits.{nodeWidth, edgeWidth, lastNumber}
-use Rattle.map.specs.Rows.{Edge, mapOf, sizesOf, findEdge, edge}
+use Rattle.map.specs.Rows.{Edge, mapOf, sizesOf, findEdge, edge, counts}
 use Rattle.map.specs.Reasons as reasons
 use Rattle.map.specs.Reasons.{firstReason, noEdge, outside, full, spent, splitReasons}
 use Rattle.tables.specs.Tables.{sameZ, column, edgeAt, nodesOf}
@@ -108,13 +108,13 @@ module _ {nodes edges faces : List ℤ} {h : Head} (f : Formed nodes edges faces
           let m = mapOf (lent nodes edges faces h) in
           let c : onCurve (edge m (natAbs z) .curve) (point x y) ≡ onCurve (edgeAt edges i .curve) (point x y) =
           ap (λ (r : Edge). onCurve (r .curve) (point x y)) (edge-is m (natAbs z) (edgeAt edges i) (hit .2)) in
-          let g : full (sizesOf (lent nodes edges faces h)) m 1 1 0
+          let g : full (sizesOf (lent nodes edges faces h)) m (counts 1 1 0)
           ≡ ltb (length nodes / nodeWidth) (natAbs (h .nodes) + 1)
           || ltb (length edges / edgeWidth) (natAbs (h .edges) + 1) =
           full-is f 1 1 0 ∙ rw (faces-room f)
           (or-last (ltb (length nodes / nodeWidth) (natAbs (h .nodes) + 1))
           (ltb (length edges / edgeWidth) (natAbs (h .edges) + 1))) in
-          let s : spent m 1 (given keeps) 0 ≡ ltb (suc lastNumber) (natAbs (h .«next_node») + 1)
+          let s : spent m (counts 1 (given keeps) 0) ≡ ltb (suc lastNumber) (natAbs (h .«next_node») + 1)
           || ltb (suc lastNumber) (natAbs (h .«next_edge») + given keeps) =
           spent-is f 1 (given keeps) 0 ∙ rw (face-left f)
           (or-last (ltb (suc lastNumber) (natAbs (h .«next_node») + 1))

@@ -13,7 +13,7 @@ use Rattle.lists.proofs.Scans.{getD-table}
 use Rattle.map.specs.declared.Head.{Head}
 use Rattle.map.specs.Limits.{edgeWidth, lastNumber}
 use Rattle.map.specs.Rows.{Node, Edge, Map, rows, filled, nodeCells, edgeCells, edgeOf, mapOf, edge, hasEdge, setFaces}
-use Rattle.map.specs.Rows.{given, atNodes}
+use Rattle.map.specs.Rows.{given, atNodes, counts}
 use Rattle.map.specs.Darts.{leaves, next, departures}
 use Rattle.map.specs.Links.{redirect, unlinkEdge}
 use Rattle.map.specs.Form.{edgeRanges, numbered}
@@ -33,8 +33,8 @@ use Rattle.face_rows.proofs.Shares.{node-rows-after, nodes-after, long-
 -- ---- the edge undrawn
 
 -- an edge undrawn leaves faces and numbers
-pub undrawn-after : (e f : ℕ) (fs : List ℕ) (k : ℕ) (m : Map) → undrawn e f (setFaces fs (given 0 0 k m))
-    ≡ setFaces fs (given 0 0 k (undrawn e f m))
+pub undrawn-after : (e f : ℕ) (fs : List ℕ) (k : ℕ) (m : Map) → undrawn e f (setFaces fs (given (counts 0 0 k) m))
+    ≡ setFaces fs (given (counts 0 0 k) (undrawn e f m))
 unfolding undrawn unlinkEdge redirect atNodes next leaves departures edge
 undrawn-after e f fs k m = refl
 

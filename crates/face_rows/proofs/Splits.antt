@@ -16,7 +16,7 @@ use Rattle.lists.proofs.Counts.{bit-most}
 use Rattle.plane.specs.Areas.{isPositive}
 use Rattle.planar_maps.specs.Map.{Dart, fwd, bwd}
 use Rattle.map.specs.declared.Head.{Head}
-use Rattle.map.specs.Rows.{Edge, Map, mapOf, headOf, filled, nodeCells, edgeCells, edge, setFaces, given}
+use Rattle.map.specs.Rows.{Edge, Map, mapOf, headOf, filled, nodeCells, edgeCells, edge, setFaces, given, counts}
 use Rattle.map.specs.Darts.{bears, course, ring}
 use Rattle.map.specs.Faces.{ringArea}
 use Rattle.map.specs.Edits.{Shares, sideOfNode, sideOfDart, withSides, sharedOut, splitFace}
@@ -87,7 +87,7 @@ module _ {nodes edges faces : List ℤ} {h : Head} {old : ℤ} (p : Splittable n
 
   abbrev splitBy : ℕ → Bool → Bool → Map
   splitBy o isLeft goes = setFaces (facesBy o goes)
-      (given 0 0 (cond goes 2 1) (sharedOut (sharesBy o isLeft goes) drawn))
+      (given (counts 0 0 (cond goes 2 1)) (sharedOut (sharesBy o isLeft goes) drawn))
 
   split-by : (news : Bool) → splitFace news number drawn
       ≡ splitBy (bears drawn (fwd number)) (isPositive (sgn (ringArea drawn (ring drawn (fwd number)))))

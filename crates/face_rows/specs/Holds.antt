@@ -9,7 +9,7 @@ use Rattle.lists.specs.Tests.{same, bit}
 use Rattle.lists.specs.Scans.{anyOf, allOf, keep}
 use Rattle.map.specs.declared.Head.{Head}
 use Rattle.map.specs.Limits.{maxNodes, maxEdges, maxFaces, lastNumber}
-use Rattle.map.specs.Rows.{Edge, Map, filled, nodeCells, edgeCells, faceCells, headOf, hasNode, setFaces, given}
+use Rattle.map.specs.Rows.{Edge, Map, filled, nodeCells, edgeCells, faceCells, headOf, hasNode, setFaces, given, counts}
 use Rattle.map.specs.Form.{numbered}
 use Rattle.planar_maps.specs.Map.{Dart, rev}
 use Rattle.map.specs.Darts.{ring}
@@ -137,4 +137,4 @@ abbrev pub healed : Bool → Edge → Map → Map
 healed makes row m =
     let f = faceKept makes row m in
     let left = keep (λ g. same g (renamed row f g)) (m .faces) in
-    setFaces (cond makes (left ++ f ∷ []) left) (given 0 0 (bit makes) (renamedFaces row f m))
+    setFaces (cond makes (left ++ f ∷ []) left) (given (counts 0 0 (bit makes)) (renamedFaces row f m))

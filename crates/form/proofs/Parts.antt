@@ -18,7 +18,7 @@ use Rattle.map.specs.Form.{countsFit, nextsFit, curveFits, numbers, named, depa
 use Rattle.map.specs.Form.{linksMeet, ringsBearOne, formed, inForm}
 use Rattle.map.specs.Limits.{maxNodes, maxEdges, maxFaces, nodeWidth, edgeWidth, faceWidth}
 use Rattle.map.proofs.RoundTrip.{whole-rows, whole-tables}
-use Rattle.tables.specs.declared.Counts.{Counts}
+use Rattle.map.specs.declared.Counts.{Counts}
 use Rattle.tables.specs.Tables.{edgesOf, nodeMap, edgeMap}
 use Rattle.form_ranges.specs.Ranges.{lent, countsOf, mapIn, rangedRows, Named}
 use Rattle.form_ranges.proofs.Parts.{ranged-is, map-is, curves-are, counted, counts-natural}

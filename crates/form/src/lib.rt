@@ -1,6 +1,6 @@
 // Condition 2: tables in form.
+use map::Counts;
 use map::Head;
-use tables::Counts;
 ghost use mathlib.Core.Path.{_≡_};
 ghost use mathlib.Core.Bool.{true};
 ghost use Prim.Native.Nat.{_≤_};

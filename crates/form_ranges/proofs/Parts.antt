@@ -21,7 +21,7 @@ use Rattle.map.specs.Rows.{Edge, rows, mapOf, node, hasNode, hasEdge, hasFace}
 use Rattle.map.specs.Form.{within, countsFit, nextsFit, restZero, nodeRanges, edgeRanges, faceRanges, ranged, numbered}
 use Rattle.map.specs.Form.{numbers, named, edgeNames, inFace, curveFits}
 use Rattle.map.proofs.RoundTrip.{within-least}
-use Rattle.tables.specs.declared.Counts.{Counts}
+use Rattle.map.specs.declared.Counts.{Counts}
 use Rattle.tables.specs.Tables.{nodesOf, edgesOf, facesOf, nodeMap, NodeRows, EdgeRows, FaceRows}
 use Rattle.form_ranges.specs.Ranges.{lent, countsOf, mapIn, rangedRows, Counted, EdgesInOrder, InRanges, InOrder}
 use Rattle.form_ranges.specs.Ranges.{Named}

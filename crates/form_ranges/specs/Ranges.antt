@@ -10,7 +10,7 @@ use Rattle.map.specs.declared.Head.{Head}
 use Rattle.map.specs.Limits.{nodeWidth, edgeWidth, faceWidth, lastNumber}
 use Rattle.map.specs.Rows.{Map, Lent, rows}
 use Rattle.map.specs.Form.{nextsFit, nodeRanges, edgeRanges, faceRanges, restZero, numbered, numbers, named}
-use Rattle.tables.specs.declared.Counts.{Counts}
+use Rattle.map.specs.declared.Counts.{Counts}
 use Rattle.tables.specs.Tables.{nodesOf, edgesOf, facesOf}
 
 -- what is lent

@@ -1,7 +1,7 @@
 // Condition 1, and of condition 2 what needs no walk: counts, ranges and zero rows, numbers.
+use map::Counts;
 use map::Head;
 use map::Map;
-use tables::Counts;
 ghost use mathlib.Core.Path.{_≡_};
 ghost use mathlib.Core.Bool.{true, false, _&&_};
 ghost use mathlib.Core.List.{[], _∷_};

@@ -15,7 +15,7 @@ use Rattle.lists.proofs.Bools.{eq4, &&-false}
 use Rattle.map.specs.declared.Head.{Head}
 use Rattle.map.specs.Rows.{Edge, Map, hasNode, hasEdge, hasFace}
 use Rattle.map.specs.Form.{inFace, edgeNames, edgeRanges, named}
-use Rattle.tables.specs.declared.Counts.{Counts}
+use Rattle.map.specs.declared.Counts.{Counts}
 use Rattle.tables.specs.Tables.{sameZ, column, nodesOf, edgesOf, edgeAt, edgeMap}
 use Rattle.tables.proofs.Order.{same-is}
 use Rattle.tables.proofs.Rows.{EdgeCells, edge-cells, rows-all, edges-table}

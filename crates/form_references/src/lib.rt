@@ -1,8 +1,8 @@
 // Of condition 2: named rows exist, and curves run from node to node. The rows that are found are written down for what
 // follows.
 use lists::Found;
+use map::Counts;
 use plane::Point;
-use tables::Counts;
 ghost use mathlib.Core.Path.{_≡_};
 ghost use mathlib.Core.Bool.{true, false, _&&_};
 ghost use Prim.Native.Nat.{ℕ, _+_, _*_, _/_, _≤_, _<_};

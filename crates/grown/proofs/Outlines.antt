@@ -11,7 +11,7 @@ use Rattle.lists.proofs.Members.{map-cong}
 use Rattle.lists.proofs.Keeps.{keep-map}
 use Rattle.curves.specs.Curves.{Curve}
 use Rattle.planar_maps.specs.Map.{Dart, fwd, bwd}
-use Rattle.map.specs.Rows.{Node, Edge, Map, edge, setEdges, given, atNodes, atEdge, withoutEdge}
+use Rattle.map.specs.Rows.{Node, Edge, Map, edge, setEdges, given, atNodes, atEdge, withoutEdge, counts}
 use Rattle.map.specs.Darts.{next}
 use Rattle.map.specs.Links.{redirect, lead, linkIn, linkEdge, unlinkEdge}
 use Rattle.map.specs.Edits.{withFace, isEither, drawn}
@@ -156,9 +156,9 @@ drawn-shape u v c f m = record {
       curve = c;
     }
 
-    framed : Framed (setEdges (m .edges ++ row ∷ []) (given 0 1 0 m))
-        (linkEdge (m .nextEdge) (setEdges (m .edges ++ row ∷ []) (given 0 1 0 m)))
-    framed = link-edge-framed (m .nextEdge) (setEdges (m .edges ++ row ∷ []) (given 0 1 0 m))
+    framed : Framed (setEdges (m .edges ++ row ∷ []) (given (counts 0 1 0) m))
+        (linkEdge (m .nextEdge) (setEdges (m .edges ++ row ∷ []) (given (counts 0 1 0) m)))
+    framed = link-edge-framed (m .nextEdge) (setEdges (m .edges ++ row ∷ []) (given (counts 0 1 0) m))
 
 -- the edge e left out
 abbrev pub lessOutline : ℕ → List Outline → List Outline

@@ -100,6 +100,13 @@ pub struct Head {
     pub next_face: i64,
 }
 
+// So many rows of each table, or so many numbers.
+pub struct Counts {
+    pub nodes: usize,
+    pub edges: usize,
+    pub faces: usize,
+}
+
 // Refusal and value: 0 and the value where a call is carried out, the refusal's number and 0 where it is turned down.
 pub struct Answer {
     pub refusal: u64,

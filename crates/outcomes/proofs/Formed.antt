@@ -19,7 +19,7 @@ use Rattle.curves.proofs.Runs.{and-left, and-right}
 use Rattle.map.specs.declared.Head.{Head}
 use Rattle.map.specs.Limits.{maxNodes, maxEdges, maxFaces, lastNumber, nodeWidth, edgeWidth, faceWidth}
 use Rattle.map.specs.Rows.{Edge, Map, Lent, Sizes, mapOf, lentOf, sizesOf, headOf, filled, nodeCells, edgeCells}
-use Rattle.map.specs.Rows.{faceCells, whole, hasNode, hasEdge, hasFace}
+use Rattle.map.specs.Rows.{faceCells, whole, hasNode, hasEdge, hasFace, counts}
 use Rattle.map.specs.Form.{numbered, numbers, inFace, edgeNames, named, ranged, formed, inForm}
 use Rattle.map.specs.Tickets.{Ticket}
 use Rattle.map.specs.Reasons.{firstReason, reasons, full, spent, noNode, noEdge}
@@ -220,7 +220,8 @@ module _ {nodes edges faces : List ℤ} {h : Head} (f : Formed nodes edges faces
 
   -- ---- 20 and 21: what no table lacks room or numbers for
 
-  pub full-is : (a b c : ℕ) → full (sizesOf (lent nodes edges faces h)) (mapOf (lent nodes edges faces h)) a b c
+  pub full-is : (a b c : ℕ) → full (sizesOf (lent nodes edges faces h)) (mapOf (lent nodes edges faces h))
+      (counts a b c)
       ≡ ltb (length nodes / nodeWidth) (natAbs (h .nodes) + a)
       || ltb (length edges / edgeWidth) (natAbs (h .edges) + b)
       || ltb (length faces / faceWidth) (natAbs (h .faces) + c)
@@ -231,7 +232,7 @@ module _ {nodes edges faces : List ℤ} {h : Head} (f : Formed nodes edges faces
     faces-length faces (natAbs (h .faces)),
   )
 
-  pub spent-is : (a b c : ℕ) → spent (mapOf (lent nodes edges faces h)) a b c
+  pub spent-is : (a b c : ℕ) → spent (mapOf (lent nodes edges faces h)) (counts a b c)
       ≡ ltb (suc lastNumber) (natAbs (h .«next_node») + a) || ltb (suc lastNumber) (natAbs (h .«next_edge») + b)
       || ltb (suc lastNumber) (natAbs (h .«next_face») + c)
   unfolding mapOf

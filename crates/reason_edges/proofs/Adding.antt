@@ -18,7 +18,7 @@ use Rattle.plane.specs.Directions.{Way}
 use Rattle.curves.specs.Curves.{Run, isRun, curveOf, startWay}
 use Rattle.map.specs.declared.Head.{Head}
 use Rattle.map.specs.Limits.{nodeWidth, lastNumber}
-use Rattle.map.specs.Rows.{Map, Sizes, mapOf, sizesOf, findNode}
+use Rattle.map.specs.Rows.{Map, Sizes, mapOf, sizesOf, findNode, counts}
 use Rattle.map.specs.Links.{cornerFace}
 use Rattle.map.specs.Edits.{splitsFace}
 use Rattle.map.specs.Reasons.{firstReason, reasons, noNode, full, spent}
@@ -122,11 +122,11 @@ module _ {nodes edges faces : List ℤ} {h : Head} (f : Formed nodes edges faces
         one : length faces / 1 ≡ length faces
         one = omega (arith, faces-size f .0)
 
-        room : full s m 0 1 (bit splits) ≡ ltb (length edges / 32) (natAbs (h .edges) + 1)
+        room : full s m (counts 0 1 (bit splits)) ≡ ltb (length edges / 32) (natAbs (h .edges) + 1)
             || ltb (length faces) (natAbs (h .faces) + bit splits)
         room = full-is f 0 1 (bit splits) ∙ rw (nodes-room f, one)
 
-        numbers-left : spent m 0 1 (bit splits + bit (makesSecond splits news corner))
+        numbers-left : spent m (counts 0 1 (bit splits + bit (makesSecond splits news corner)))
             ≡ ltb (suc lastNumber) (natAbs (h .«next_edge») + 1)
             || ltb (suc lastNumber) (natAbs (h .«next_face») + (bit splits + bit (makesSecond splits news corner)))
         numbers-left = spent-is f 0 1 (bit splits + bit (makesSecond splits news corner)) ∙ rw (node-left f)

@@ -9,7 +9,7 @@ use Rattle.lists.specs.Tests.{same, bit}
 use Rattle.curves.specs.Curves.{curveOf, startWay}
 use Rattle.map.specs.declared.Head.{Head}
 use Rattle.map.specs.Limits.{edgeWidth, lastNumber}
-use Rattle.map.specs.Rows.{Map, Sizes, Edge}
+use Rattle.map.specs.Rows.{Map, Sizes, Edge, counts}
 use Rattle.map.specs.Links.{cornerFace}
 use Rattle.map.specs.Edits.{splitsFace}
 use Rattle.map.specs.Reasons.{Reasons, curveReasons, meetingReasons, directionTaken, cornersDiffer, full, spent}
@@ -28,7 +28,7 @@ abbrev pub growthReasons : Bool → Sizes → Map → ℕ → ℕ → List ℤ �
 growthReasons news s m a b sent =
     let splits = splitsFace a b (curveOf sent) m in
     let second = makesSecond splits news (cornerFace m a (startWay (curveOf sent))) in
-    (20, full s m 0 1 (bit splits)) ∷ (21, spent m 0 1 (bit splits + bit second)) ∷ []
+    (20, full s m (counts 0 1 (bit splits))) ∷ (21, spent m (counts 0 1 (bit splits + bit second))) ∷ []
 
 -- an edge more, so many rows of faces, and so many numbers of faces
 abbrev pub roomReasons : List ℤ → List ℤ → Head → ℕ → ℕ → Reasons

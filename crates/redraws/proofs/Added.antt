@@ -16,7 +16,7 @@ use Rattle.lists.proofs.Bools.{equal?, same-eq, same-false, or-right}
 use Rattle.curves.specs.Curves.{curveOf}
 use Rattle.map.specs.declared.Head.{Head}
 use Rattle.map.specs.Limits.{nodeWidth, edgeWidth, faceWidth, lastNumber}
-use Rattle.map.specs.Rows.{Node, mapOf, lentOf, sizesOf, headOf, node, filled, nodeCells, edgeCells, faceCells}
+use Rattle.map.specs.Rows.{Node, mapOf, lentOf, sizesOf, headOf, node, filled, nodeCells, edgeCells, faceCells, counts}
 use Rattle.map.specs.Edits.{drawn, addIsoEdge}
 use Rattle.map.specs.Tickets.{AddIsoEdge}
 use Rattle.map.specs.Reasons.{firstReason, reasons, noNode, nodeInside, full, spent}
@@ -92,12 +92,13 @@ module _ {nodes edges faces : List ℤ} {h : Head} (f : Formed nodes edges faces
               (λ g. q (node-once (node-rows f) u v (node-in a u eu) (node-in b v ev) g)) ∙ sym (same-false u v q)
         ]
 
-    full-edges : full (sizesOf (lent nodes edges faces h)) (mapOf (lent nodes edges faces h)) 0 1 0
+    full-edges : full (sizesOf (lent nodes edges faces h)) (mapOf (lent nodes edges faces h)) (counts 0 1 0)
         ≡ ltb (length edges / edgeWidth) (natAbs (h .edges) + 1)
     full-edges = full-is f 0 1 0 ∙ or-none _ (ltb (length edges / edgeWidth) (natAbs (h .edges) + 1)) _ (nodes-room f)
         (faces-room f)
 
-    spent-edges : spent (mapOf (lent nodes edges faces h)) 0 1 0 ≡ ltb (suc lastNumber) (natAbs (h .«next_edge») + 1)
+    spent-edges : spent (mapOf (lent nodes edges faces h)) (counts 0 1 0)
+        ≡ ltb (suc lastNumber) (natAbs (h .«next_edge») + 1)
     spent-edges = spent-is f 0 1 0 ∙ or-none _ (ltb (suc lastNumber) (natAbs (h .«next_edge») + 1)) _ (node-left f)
         (face-left f)
 

@@ -25,7 +25,7 @@ use Rattle.map_rows.specs.Cells.{cellsOf}
 use Rattle.map_rows.proofs.Cells.{row-cells}
 use Rattle.map.specs.declared.Head.{Head}
 use Rattle.map.specs.Limits.{maxEdges, nodeWidth, edgeWidth}
-use Rattle.map.specs.Rows.{Node, Edge, Map, mapOf, edgeCells, dartCell, atNodes, atEdge, setEdges, given}
+use Rattle.map.specs.Rows.{Node, Edge, Map, mapOf, edgeCells, dartCell, atNodes, atEdge, setEdges, given, counts}
 use Rattle.map.specs.Form.{isZero, nodeRanges, edgeRanges, numbered}
 use Rattle.map.specs.Links.{linkEdge, linkIn, lead, redirect}
 use Rattle.map.specs.Edits.{withFace, isEither, drawn}
@@ -241,7 +241,7 @@ module _ {nodes edges : List ℤ} {h : Head} {u v : ℕ} {c : List ℤ} {face : 
         nodes = marked-are i;
         edges = (linked-are ∙ sym (linked-alone (natAbs (h .«next_edge»))
             (setEdges (edgesOf edges (natAbs (h .edges)) ++ row ∷ [])
-            (given 0 1 0 (mapOf (lent nodes edges faces h)))))) i;
+            (given (counts 0 1 0) (mapOf (lent nodes edges faces h)))))) i;
         faces = facesOf faces (natAbs (h .faces));
         nextNode = sym (add-zero (natAbs (h .«next_node»))) i;
         nextEdge = natAbs (h .«next_edge») + 1;

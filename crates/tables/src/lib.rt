@@ -11,13 +11,6 @@ ghost use Rattle.lists.specs.Tables.{place, sweep};
 ghost use Rattle.curves.specs.Curves.{Run, curveOf};
 ghost use Rattle.tables.specs.Tables.{sameZ, column, Rising, replaceAt, closed, EdgeRow, edgeAt};
 
-// How many rows of each table are in use.
-pub struct Counts {
-    pub nodes: usize,
-    pub edges: usize,
-    pub faces: usize,
-}
-
 // ---- any table
 
 // A number that is not negative; 0 for one that is.

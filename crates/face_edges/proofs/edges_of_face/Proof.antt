@@ -22,7 +22,7 @@ use Rattle.map.specs.Rows.{whole, mapOf}
 use Rattle.map.specs.Form.{inForm}
 use Rattle.map.specs.Reasons.{noFace}
 use Rattle.map.specs.Ticket.{faceEdges}
-use Rattle.tables.specs.declared.Counts.{Counts}
+use Rattle.map.specs.declared.Counts.{Counts}
 use Rattle.tables.specs.Tables.{sameZ, column, edgeMap, Rising}
 use Rattle.tables.proofs.Rows.{face-rows-rising}
 use Rattle.form_ranges.specs.Ranges.{lent, countsOf}

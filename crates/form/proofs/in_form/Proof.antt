@@ -3,7 +3,7 @@ use mathlib.Core.Path.{_≡_, sym, ap, _∙_, subst}
 use mathlib.Core.Bool.{true, false, _&&_}
 use native.Mathlib.Omega.{arith}
 use Rattle.map.specs.Form.{countsFit, nextsFit, formed}
-use Rattle.tables.specs.declared.Counts.{Counts}
+use Rattle.map.specs.declared.Counts.{Counts}
 use Rattle.curves.proofs.Runs.{and-left, and-right}
 use Rattle.form_ranges.specs.Ranges.{lent, countsOf, mapIn, rangedRows, Counted}
 use Rattle.form_ranges.proofs.Parts.{counted, counts-natural}
