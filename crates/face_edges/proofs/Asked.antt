@@ -25,7 +25,8 @@ use Rattle.map.proofs.Linked as form-linked
 use Rattle.tables.specs.Tables.{sameZ, column, faceAt, edgeMap}
 use Rattle.tables.proofs.Rows.{face-number-in}
 use Rattle.tables.proofs.Lookups.{face-found, face-missing}
-use Rattle.form_ranges.specs.Ranges.{lent, countsOf, mapIn}
+use Rattle.head.specs.Heads.{countsOf}
+use Rattle.form_ranges.specs.Ranges.{lent, mapIn}
 use Rattle.form_ranges.proofs.Parts.{face-rows, edge-rows, map-is}
 use Rattle.form.proofs.Parts.{InForm, whole-room}
 use Rattle.face_edges.specs.Listing.{Rings}

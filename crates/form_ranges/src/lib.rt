@@ -16,7 +16,7 @@ ghost use Rattle.curves.specs.Curves.{coordinate};
 ghost use Rattle.map.specs.Rows.{cell, whole, wholeRows, sizesOf, rows};
 ghost use Rattle.map.specs.Form.{isZero, countsFit, nextsFit, nodeRanges, edgeRanges, faceRanges, numbered, numbers};
 ghost use Rattle.tables.specs.Tables.{column};
-ghost use Rattle.form_ranges.specs.Ranges.{lent, countsOf, mapIn, rangedRows, InRanges};
+ghost use Rattle.form_ranges.specs.Ranges.{lent, mapIn, rangedRows, InRanges};
 
 const POINTS: i64 = Map::POINTS as i64;
 
@@ -59,14 +59,6 @@ pub fn head_fits(h: Head, nodes: usize, edges: usize, faces: usize) -> bool
         & within(h.next_edge, 1, map::LAST_NEXT)
         & within(h.next_face, 1, map::LAST_NEXT);
     counts & nexts
-}
-
-// A number that is not negative.
-fn magnitude(z: i64) -> usize
-    requires { ⌜ T (nonNeg z) ⌝ }
-    ensures { λ r. ⌜ r ≡ natAbs z ⌝ }
-{
-    z as usize
 }
 
 // Number k, which is not negative.
@@ -247,23 +239,31 @@ pub fn numbers_fit(nodes: &[i64], edges: &[i64], faces: &[i64], c: Counts, h: He
     requires { ⌜ InRanges (now nodes) (now edges) (now faces) c h ⌝ }
     ensures { λ r. ⌜ r ≡ numbers (mapIn (now (nodes .entry)) (now (edges .entry)) (now (faces .entry)) c h) ⌝ }
 {
-    if !numbers_rise(nodes, map::NODE_WIDTH, c.nodes, 1, magnitude(h.next_node)) {
+    if !numbers_rise(
+        nodes,
+        map::NODE_WIDTH,
+        c.nodes,
+        1,
+        head::to_usize(h.next_node),
+    ) {
         return false;
     }
-    if !numbers_rise(edges, map::EDGE_WIDTH, c.edges, 1, magnitude(h.next_edge)) {
+    if !numbers_rise(
+        edges,
+        map::EDGE_WIDTH,
+        c.edges,
+        1,
+        head::to_usize(h.next_edge),
+    ) {
         return false;
     }
     let first = natural(faces, 0);
-    numbers_rise(faces, map::FACE_WIDTH, c.faces, 0, magnitude(h.next_face)) & (first == 0)
-}
-
-pub fn counts_of(h: Head) -> Counts
-    requires { ⌜ T (nonNeg (h .nodes)) × T (nonNeg (h .edges)) × T (nonNeg (h .faces)) ⌝ }
-    ensures { λ r. ⌜ r ≡ countsOf h ⌝ }
-{
-    Counts {
-        nodes: magnitude(h.nodes),
-        edges: magnitude(h.edges),
-        faces: magnitude(h.faces),
-    }
+    numbers_rise(
+        faces,
+        map::FACE_WIDTH,
+        c.faces,
+        0,
+        head::to_usize(h.next_face),
+    )
+        & (first == 0)
 }

@@ -3,7 +3,7 @@
 -- nothing.
 use mathlib.Core.Path.{_≡_, refl, ap, _∙_}
 use mathlib.Core.Bool.{true, false, _&&_, _||_}
-use mathlib.Core.List.{List, map, flatMap}
+use mathlib.Core.List.{List, [], _∷_, map, flatMap}
 use Prim.Native.Nat.{ℕ, zero, suc, _+_, _*_, _/_, _≤_, _<_}
 use native.Mathlib.Omega.{arith}
 use lib.Dec.{ltb}
@@ -16,13 +16,14 @@ use Rattle.lists.specs.Members.{Distinct}
 use Rattle.lists.specs.Tables.{place}
 use Rattle.lists.specs.declared.Found.the-variants.{Missing}
 use Rattle.curves.proofs.Runs.{and-left, and-right}
+use Rattle.map.specs.declared.Counts.{Counts}
 use Rattle.map.specs.declared.Head.{Head}
 use Rattle.map.specs.Limits.{maxNodes, maxEdges, maxFaces, lastNumber, nodeWidth, edgeWidth, faceWidth}
 use Rattle.map.specs.Rows.{Edge, Map, Lent, Sizes, mapOf, lentOf, sizesOf, headOf, filled, nodeCells, edgeCells}
 use Rattle.map.specs.Rows.{faceCells, whole, hasNode, hasEdge, hasFace, counts}
 use Rattle.map.specs.Form.{numbered, numbers, inFace, edgeNames, named, ranged, formed, inForm}
 use Rattle.map.specs.Tickets.{Ticket}
-use Rattle.map.specs.Reasons.{firstReason, reasons, full, spent, noNode, noEdge}
+use Rattle.map.specs.Reasons.{firstReason, reasons, full, spent, roomReasons, noNode, noEdge}
 use Rattle.map.specs.Ticket.{carried}
 use Rattle.map.proofs.RoundTrip.{Ranged, ranged-is, WholeRows, whole-rows, whole-tables}
 use Rattle.map.proofs.Laws.{formed-is, in-form-back}
@@ -31,6 +32,7 @@ use Rattle.tables.proofs.Rows.{nodes-length, edges-length, faces-length}
 use Rattle.tables.proofs.Writes.{Wide, table-edges-wide}
 use Rattle.tables.proofs.RowCurves.{within-pos}
 use Rattle.tables.proofs.Lookups.{node-missing, edge-missing}
+use Rattle.head.specs.Heads.{Counted, sizesIn, fullAt, spentAt, roomAt}
 use Rattle.form_ranges.specs.Ranges.{lent}
 use Rattle.form_ranges.proofs.Columns.{all-weaker, numbered-wider}
 use Rattle.outcomes.specs.declared.Done.{Done}
@@ -92,6 +94,18 @@ module _ {nodes edges faces : List ℤ} {h : Head} (f : Formed nodes edges faces
 
   pub faces-size : (length faces / faceWidth * faceWidth ≡ length faces) × (length faces / faceWidth ≤ maxFaces)
   faces-size = (faces-whole .size, faces-whole .most)
+
+  -- counts and next numbers within the limits
+  pub counted : Counted h
+  counted =
+      record {
+        nodes = record { natural = nodes-count .0; most = omega (arith, nodes-count .2, nodes-size .1) };
+        edges = record { natural = edges-count .0; most = omega (arith, edges-count .2, edges-size .1) };
+        faces = record { natural = faces-count .0; most = omega (arith, faces-count .2, faces-size .1) };
+        next-node = record { natural = node-next .0; most = node-next .2 };
+        next-edge = record { natural = edge-next .0; most = edge-next .2 };
+        next-face = record { natural = face-next .0; most = face-next .2 };
+      }
 
   -- the rows in use fit
   pub nodes-fit : natAbs (h .nodes) * nodeWidth ≤ length nodes
@@ -256,6 +270,24 @@ module _ {nodes edges faces : List ℤ} {h : Head} (f : Formed nodes edges faces
 
   pub face-left : ltb (suc lastNumber) (natAbs (h .«next_face») + 0) ≡ false
   face-left = le-ltb (suc lastNumber) (natAbs (h .«next_face») + 0) (omega (arith, face-next .2))
+
+  -- 20 and 21 of the map are those that are read from the head
+  pub full-at : (rows : Counts) → fullAt (sizesIn nodes edges faces) h rows
+      ≡ full (sizesOf (lent nodes edges faces h)) (mapOf (lent nodes edges faces h)) rows
+  unfolding mapOf fullAt
+  full-at rows = rw (
+    nodes-length nodes (natAbs (h .nodes)),
+    edges-length edges (natAbs (h .edges)),
+    faces-length faces (natAbs (h .faces)),
+  )
+
+  pub spent-at : (numbers : Counts) → spentAt h numbers ≡ spent (mapOf (lent nodes edges faces h)) numbers
+  unfolding mapOf spentAt
+  spent-at numbers = refl
+
+  pub room-at : (rows numbers : Counts) → roomAt (sizesIn nodes edges faces) h rows numbers
+      ≡ roomReasons (sizesOf (lent nodes edges faces h)) (mapOf (lent nodes edges faces h)) rows numbers
+  room-at rows numbers = λ i. (20, full-at rows i) ∷ (21, spent-at numbers i) ∷ []
 
 -- ---- what is lent after an edit
 

@@ -1,4 +1,4 @@
--- `Corners`: the corner face as the numbers of the tables show it.
+-- `CornerFaces`: the corner face as the numbers of the tables show it.
 -- `Drawing`: a new edge beside the rows, by position.
-pub mod Corners
+pub mod CornerFaces
 pub mod Drawing

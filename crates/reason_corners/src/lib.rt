@@ -9,7 +9,7 @@ ghost use Rattle.plane.specs.Directions.{wayTo};
 ghost use Rattle.curves.specs.Curves.{Run, curveOf, startWay};
 ghost use Rattle.curves.specs.Edits.{course};
 ghost use Rattle.tables.specs.Tables.{NodeRow, EdgeRows, sameZ, nodeAt, edgesOf};
-ghost use Rattle.reason_corners.specs.Corners.{cornerCell};
+ghost use Rattle.reason_corners.specs.CornerFaces.{cornerCell};
 ghost use mathlib.Core.List.{map};
 ghost use Prim.Native.Nat.{ℕ, _+_, _*_, _≤_, _<_};
 ghost use Rattle.lists.specs.Tests.{same};

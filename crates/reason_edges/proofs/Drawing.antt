@@ -25,8 +25,8 @@ use Rattle.reason_curves.proofs.Maps.{meeting-alike, sent-is}
 use Rattle.reason_curves.proofs.Others.{edges-all}
 use Rattle.reason_departures.specs.Turning.{Own}
 use Rattle.reason_departures.proofs.Alone.{taken-alone}
-use Rattle.reason_corners.specs.Corners.{cornerCell}
-use Rattle.reason_corners.proofs.Corners.{corners-differ}
+use Rattle.reason_corners.specs.CornerFaces.{cornerCell}
+use Rattle.reason_corners.proofs.CornerFaces.{corners-differ}
 use Rattle.reason_corners.proofs.Drawn.{fresh-number}
 use Rattle.reason_edges.specs.Parts.{drawingReasons}
 use Rattle.reason_edges.specs.Judging.{Held}

@@ -72,7 +72,7 @@ fn write_last(nodes: &[i64], edges: &mut [i64], h: Head, u: usize, v: usize, c: 
     ensures { λ r. ⌜ now (edges .exit) ≡ paste (now (edges .entry)) (natAbs (h .edges) * 32)
         (edgeCells (newRow (now (nodes .entry)) h u v (now (c .entry)) face)) 32 ⌝ }
 {
-    let e = outcomes::to_usize(h.edges);
+    let e = head::to_usize(h.edges);
     let number = h.next_edge;
     let start = nodes[u * map::NODE_WIDTH];
     let end = nodes[v * map::NODE_WIDTH];
@@ -104,7 +104,7 @@ pub fn draw(
         (now (edges .exit)) r ⌝ }
 {
     write_last(nodes, edges, h, u, v, c, face);
-    let e = outcomes::to_usize(h.edges);
+    let e = head::to_usize(h.edges);
     links::link_edge(edges, e + 1);
     set_face(nodes, u, -1);
     set_face(nodes, v, -1);
@@ -163,8 +163,8 @@ pub fn undraw(nodes: &mut [i64], edges: &mut [i64], h: Head, i: usize, face: i64
     ensures { λ r. ⌜ Undrawn (now (nodes .entry)) (now (edges .entry)) h i face (now (nodes .exit))
         (now (edges .exit)) r ⌝ }
 {
-    let n = outcomes::to_usize(h.nodes);
-    let e = outcomes::to_usize(h.edges);
+    let n = head::to_usize(h.nodes);
+    let e = head::to_usize(h.edges);
     let u = edges[i * map::EDGE_WIDTH + map::START];
     let v = edges[i * map::EDGE_WIDTH + map::END];
     let bare = undraw_edge(edges, e, i, u, v);
@@ -189,7 +189,7 @@ pub fn remove_lone_edge(nodes: &mut [i64], edges: &mut [i64], h: Head, edge: i64
         → outcome (now (nodes .exit)) (now (edges .exit)) faces r
         ≡ decided (lent (now (nodes .entry)) (now (edges .entry)) faces h) (RemoveIsoEdge edge)) ⌝ }
 {
-    let e = outcomes::to_usize(h.edges);
+    let e = head::to_usize(h.edges);
     let found = tables::find_row(edges, map::EDGE_WIDTH, e, edge);
     let Found::At(i) = found else {
         return outcomes::refused(h, 4);
@@ -243,10 +243,10 @@ fn room_reason(edges: &[i64], h: Head) -> u64
     requires { ⌜ Counted h ⌝ }
     ensures { λ r. ⌜ r ≡ firstReason (roomReasons (now (edges .entry)) h) ⌝ }
 {
-    if edges.len() / map::EDGE_WIDTH < outcomes::to_usize(h.edges) + 1 {
+    if edges.len() / map::EDGE_WIDTH < head::to_usize(h.edges) + 1 {
         return 20;
     }
-    if map::NUMBERS < outcomes::to_usize(h.next_edge) + 1 {
+    if map::NUMBERS < head::to_usize(h.next_edge) + 1 {
         21
     } else {
         0
@@ -268,8 +268,8 @@ fn lone_reason(nodes: &[i64], edges: &[i64], h: Head, u: usize, v: usize, c: &[i
     if faces_differ(nodes, u, v) {
         return 12;
     }
-    let n = outcomes::to_usize(h.nodes);
-    let e = outcomes::to_usize(h.edges);
+    let n = head::to_usize(h.nodes);
+    let e = head::to_usize(h.edges);
     let meeting = reason_curves::meeting_reason(nodes, n, edges, e, e, c);
     if meeting != 0 {
         return meeting;
@@ -298,7 +298,7 @@ pub fn add_lone_edge(
         → outcome (now (nodes .exit)) (now (edges .exit)) faces r
         ≡ decided (lent (now (nodes .entry)) (now (edges .entry)) faces h) (AddIsoEdge start end (now (c .entry)))) ⌝ }
 {
-    let n = outcomes::to_usize(h.nodes);
+    let n = head::to_usize(h.nodes);
     let found = tables::find_row(nodes, map::NODE_WIDTH, n, start);
     let Found::At(u) = found else {
         return outcomes::refused(h, 4);
@@ -366,8 +366,8 @@ fn change_reason(
     if reason != 0 {
         return reason;
     }
-    let n = outcomes::to_usize(h.nodes);
-    let e = outcomes::to_usize(h.edges);
+    let n = head::to_usize(h.nodes);
+    let e = head::to_usize(h.edges);
     turn_reason(nodes, n, edges, e, i, c)
 }
 
@@ -430,12 +430,12 @@ pub fn change_curve(nodes: &[i64], edges: &mut [i64], h: Head, edge: i64, c: &[i
         → outcome (now (nodes .entry)) (now (edges .exit)) faces r
         ≡ decided (lent (now (nodes .entry)) (now (edges .entry)) faces h) (ChangeEdgeGeom edge (now (c .entry)))) ⌝ }
 {
-    let e = outcomes::to_usize(h.edges);
+    let e = head::to_usize(h.edges);
     let found = tables::find_row(edges, map::EDGE_WIDTH, e, edge);
     let Found::At(i) = found else {
         return outcomes::refused(h, 4);
     };
-    let n = outcomes::to_usize(h.nodes);
+    let n = head::to_usize(h.nodes);
     let u = row_of(nodes, n, start_of(edges, i));
     let v = row_of(nodes, n, end_of(edges, i));
     let reason = change_reason(nodes, edges, h, i, u, v, c);

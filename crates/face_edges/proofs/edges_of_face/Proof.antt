@@ -25,7 +25,8 @@ use Rattle.map.specs.Ticket.{faceEdges}
 use Rattle.map.specs.declared.Counts.{Counts}
 use Rattle.tables.specs.Tables.{sameZ, column, edgeMap, Rising}
 use Rattle.tables.proofs.Rows.{face-rows-rising}
-use Rattle.form_ranges.specs.Ranges.{lent, countsOf}
+use Rattle.head.specs.Heads.{countsOf}
+use Rattle.form_ranges.specs.Ranges.{lent}
 use Rattle.form_ranges.proofs.Parts.{face-rows}
 use Rattle.form.proofs.Parts.{InForm, in-form-known, in-form-natural}
 use Rattle.form_links.proofs.Words.{flipped}
@@ -40,7 +41,7 @@ use Rattle.form.proofs.in_form.Reads as in-form-reads
 use Rattle.face_edges.proofs.answered.Reads as answered-reads
 use Rattle.face_edges.proofs.rings_size.Reads as rings-size-reads
 use Rattle.face_edges.proofs.write_rings.Reads as write-rings-reads
-use Rattle.form_ranges.proofs.counts_of.Reads as counts-of-reads
+use Rattle.head.proofs.counts_of.Reads as counts-of-reads
 use Rattle.form_ranges.proofs.is_whole.Reads as is-whole-reads
 use Rattle.tables.proofs.find_row.Reads as find-row-reads
 

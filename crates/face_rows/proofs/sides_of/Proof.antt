@@ -18,13 +18,13 @@ use Rattle.map.specs.Darts.{ring}
 use Rattle.map.specs.Faces.{ringArea}
 use Rattle.tables.specs.Tables.{edgeMap}
 use Rattle.darts.specs.Positions.{dartAt}
-use Rattle.outcomes.proofs.Words.{small-fits, plus-fits, plus-is}
+use Rattle.head.proofs.Words.{small-fits, plus-fits, plus-is}
 use Rattle.face_rows.proofs.Words.{either, positive-is}
 use Rattle.face_rows.proofs.sides_of.Statement.{statement}
 use Rattle.face_rows.proofs.sides_of.Tie as tie
 
-add-pick : tie.Need-add-select
-add-pick c = let s = c .before in plus-fits (s .args .a) (s .pre .3) (s .pre .4)
+add-select : tie.Need-add-select
+add-select c = let s = c .before in plus-fits (s .args .a) (s .pre .3) (s .pre .4)
 
 add-t13 : tie.Need-add-t13
 add-t13 c =

@@ -13,7 +13,7 @@ use mir.Facts.{toZ-ofZ}
 use Rattle.lists.specs.Tests.{same}
 use Rattle.lists.specs.Scans.{anyOf}
 use Rattle.tables.proofs.Rows.{pos-abs}
-use Rattle.outcomes.proofs.Words.{plus-fits, plus-is, count-natural}
+use Rattle.head.proofs.Words.{plus-fits, plus-is, count-natural}
 use Rattle.face_rows.specs.Holds.{facesIn, FaceTable, withoutFace, splitFaces}
 use Rattle.face_rows.proofs.FaceRows.{table-distinct, without-length}
 use Rattle.face_rows.proofs.split_row.Statement.{statement}

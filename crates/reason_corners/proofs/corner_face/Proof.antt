@@ -13,8 +13,8 @@ use Rattle.plane.specs.Directions.{wayTo}
 use Rattle.darts.specs.Positions.{wayAt}
 use Rattle.darts.proofs.Positions.{half-below}
 use Rattle.links.specs.Linking.{leaving, firstMet}
-use Rattle.reason_corners.specs.Corners.{cornerBy}
-use Rattle.reason_corners.proofs.Corners.{met-alike, met-below}
+use Rattle.reason_corners.specs.CornerFaces.{cornerBy}
+use Rattle.reason_corners.proofs.CornerFaces.{met-alike, met-below}
 use Rattle.reason_corners.proofs.corner_face.Statement.{statement}
 use Rattle.reason_corners.proofs.corner_face.Tie as tie
 use Rattle.reason_corners.proofs.corner_face.Reads as reads

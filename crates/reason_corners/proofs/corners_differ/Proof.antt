@@ -10,7 +10,7 @@ use Rattle.curves.specs.Curves.{curveOf, startWay}
 use Rattle.curves.specs.Edits.{course}
 use Rattle.tables.specs.Tables.{sameZ}
 use Rattle.links.proofs.Words.{cell-test}
-use Rattle.reason_corners.specs.Corners.{cornerCell}
+use Rattle.reason_corners.specs.CornerFaces.{cornerCell}
 use Rattle.reason_corners.proofs.corners_differ.Statement.{statement}
 use Rattle.reason_corners.proofs.corners_differ.Tie as tie
 

@@ -6,9 +6,10 @@ use mir.Syntax.{w64}
 use mir.Facts.{toZ-ofZ}
 use Rattle.lists.proofs.Counts.{bit-most}
 use Rattle.tables.proofs.Rows.{edge-row-of, edge-rows-rising}
-use Rattle.outcomes.proofs.Formed.{edges-count, edge-rows}
-use Rattle.outcomes.proofs.Words.{count-natural, count-abs, place-told}
-use Rattle.reason_edges.proofs.Adding.{few-edges, counted}
+use Rattle.outcomes.proofs.Formed.{edges-count, edge-rows, counted}
+use Rattle.head.proofs.Words.{count-natural, count-abs}
+use Rattle.outcomes.proofs.Words.{place-told}
+use Rattle.reason_edges.proofs.Adding.{few-edges}
 use Rattle.reason_edges.proofs.Removing.{removal-missing, edge-below, removal-found}
 use Rattle.reason_edges.proofs.judge_removal.Statement.{statement}
 use Rattle.reason_edges.proofs.judge_removal.Tie as tie

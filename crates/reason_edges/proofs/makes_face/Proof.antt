@@ -10,7 +10,8 @@ use Rattle.lists.specs.Tests.{same}
 use Rattle.lists.proofs.Bools.{eq4}
 use Rattle.tables.specs.Tables.{edgeAt}
 use Rattle.tables.proofs.Rows.{edge-cells}
-use Rattle.outcomes.proofs.Words.{number-test, small-fits}
+use Rattle.head.proofs.Words.{small-fits}
+use Rattle.outcomes.proofs.Words.{number-test}
 use Rattle.reason_edges.proofs.Words.{lower-zero}
 use Rattle.reason_edges.proofs.makes_face.Statement.{statement}
 use Rattle.reason_edges.proofs.makes_face.Tie as tie

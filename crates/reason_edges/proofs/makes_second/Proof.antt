@@ -4,7 +4,8 @@ use mathlib.Core.Bool.{Bool, not, _&&_}
 use lib.IntN.{pos, natAbs}
 use lib.Dec.{lit≤}
 use Rattle.tables.proofs.Rows.{pos-abs}
-use Rattle.outcomes.proofs.Words.{number-test, small-fits}
+use Rattle.head.proofs.Words.{small-fits}
+use Rattle.outcomes.proofs.Words.{number-test}
 use Rattle.reason_edges.proofs.makes_second.Statement.{statement}
 use Rattle.reason_edges.proofs.makes_second.Tie as tie
 

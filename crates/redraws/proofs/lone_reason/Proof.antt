@@ -121,7 +121,7 @@ lone-reason-spec =
     curve-reason-requires
     sent
     not-both-isolated-requires
-    not-both-isolated
+    joined
     faces-differ-requires
     apart
     (λ c κs. let s = c .before .before .before .before .before .before .before in

@@ -129,7 +129,7 @@ remove-lone-edge-spec =
     edge-isolated-requires
     (λ c κs. search needs)
     (λ c. search needs)
-    not-both-isolated
+    joined
     left-face-requires
     undraw-requires
     (λ c κs. search needs)

@@ -43,5 +43,5 @@ turn-reason-spec =
     (λ c κs. search needs)
     meeting
     (λ c κs. search needs)
-    negated
+    turned
     free)
