@@ -14,33 +14,33 @@ use borrow.Author.Tests.{le-leb}
 use Rattle.lists.specs.Tests.{same}
 use Rattle.lists.specs.Scans.{allOf}
 use Rattle.lists.proofs.Scans.{length-table, table-same}
+use Rattle.tables.specs.Tables.{isZero, numbered}
+use Rattle.tables.proofs.Filled.{whole-rows}
+use Rattle.tables.proofs.Tests.{zeros, pos-abs}
+use Rattle.tables.proofs.Rows.{rows-all}
+use Rattle.tables.proofs.Cells.{row-room}
 use Rattle.plane.specs.declared.Point.{Point}
 use Rattle.curves.specs.Curves.{Curve, Run, isRun, points, pointsOf, through, curveOf, pointAt, coordinates, coordinate}
 use Rattle.curves.specs.Curves.{maxPoints}
 use Rattle.curves.proofs.Runs.{and-left, and-right, two-points, few-points, curve-is}
 use Rattle.curve_edits.specs.declared.Line.{Line}
 use Rattle.curve_edits.specs.Lines.{lineOf}
-use Rattle.map_rows.specs.declared.Incidence.{Incidence}
-use Rattle.map_rows.specs.Cells.{cellsOf}
-use Rattle.map_rows.proofs.Cells.{row-cells}
 use Rattle.map.specs.declared.Head.{Head}
 use Rattle.map.specs.Limits.{maxEdges, nodeWidth, edgeWidth}
-use Rattle.map.specs.Rows.{Node, Edge, Map, mapOf, edgeCells, dartCell, atNodes, atEdge, setEdges, given}
+use Rattle.map.specs.Rows.{Node, Edge, Map, mapOf, edgeCells, dartCell, atNodes, atEdge, setEdges, given, counts}
 use Rattle.map.specs.Form.{nodeRanges, edgeRanges}
-use Rattle.tables.specs.Tables.{isZero, numbered}
 use Rattle.map.specs.Links.{linkEdge, linkIn, lead, redirect}
 use Rattle.map.specs.Edits.{withFace, isEither, drawn}
 use Rattle.map.proofs.RoundTrip.{coordinates-length}
-use Rattle.tables.proofs.Filled.{whole-rows}
-use Rattle.tables.proofs.Tests.{zeros, pos-abs}
+use Rattle.map_rows.specs.declared.Incidence.{Incidence}
+use Rattle.map_rows.specs.Cells.{cellsOf}
+use Rattle.map_rows.proofs.Cells.{row-cells}
 use Rattle.map_rows.specs.Rows.{nodesOf, edgesOf, facesOf, nodeAt, edgeAt}
-use Rattle.tables.proofs.Rows.{rows-all}
 use Rattle.map_rows.proofs.Rows.{edges-getD, edges-length, edge-numbers, node-cells, node-number-in}
-use Rattle.tables.proofs.Cells.{row-room}
-use Rattle.form_ranges.specs.Ranges.{lent}
 use Rattle.links.specs.Linking.{linkedEdge}
 use Rattle.links.proofs.Kept.{rest-kept, number-kept}
 use Rattle.links.proofs.LinkedEdges.{linked-alone, linked-edge-kept, linked-edge-relinked, linked-edge-map}
+use Rattle.form_ranges.specs.Ranges.{lent}
 use Rattle.edge_rows.specs.Holds.{NodeTable, EdgeTable, NodeEdgeTables, Drawable, Drawn, drawnHead, newRow}
 use Rattle.edge_rows.proofs.Lists.{numbered-push}
 use Rattle.edge_rows.proofs.Pushed.{Follows, pushed-long, pushed-edges, pushed-table}
@@ -244,7 +244,7 @@ module _ {nodes edges : List ℤ} {h : Head} {u v : ℕ} {c : List ℤ} {face : 
         nodes = marked-are i;
         edges = (linked-are ∙ sym (linked-alone (natAbs (h .«next_edge»))
             (setEdges (edgesOf edges (natAbs (h .edges)) ++ row ∷ [])
-            (given 0 1 0 (mapOf (lent nodes edges faces h)))))) i;
+            (given (counts 0 1 0) (mapOf (lent nodes edges faces h)))))) i;
         faces = facesOf faces (natAbs (h .faces));
         nextNode = sym (add-zero (natAbs (h .«next_node»))) i;
         nextEdge = natAbs (h .«next_edge») + 1;

@@ -7,8 +7,8 @@ ghost use Prim.Native.Nat.{_+_, _*_, _≤_, _<_};
 ghost use lib.IntN.{natAbs};
 ghost use lib.ListN.{length, set};
 ghost use lib.Seq.{paste};
-ghost use Rattle.map.specs.Rows.{edgeCells};
 ghost use Rattle.tables.specs.Tables.{closed};
+ghost use Rattle.map.specs.Rows.{edgeCells};
 ghost use Rattle.map_rows.specs.Rows.{NodeRows, EdgeRows};
 ghost use Rattle.links.specs.Linking.{unlinkedEdge};
 ghost use Rattle.edge_rows.specs.Holds.{EdgesCounted, drawnHead, undrawnHead, newRow, Drawable, Drawn};
@@ -56,7 +56,7 @@ fn write_last(nodes: &[i64], edges: &mut [i64], h: Head, u: usize, v: usize, c: 
     ensures { λ r. ⌜ now (edges .exit) ≡ paste (now (edges .entry)) (natAbs (h .edges) * 32)
         (edgeCells (newRow (now (nodes .entry)) h u v (now (c .entry)) face)) 32 ⌝ }
 {
-    let e = outcomes::to_usize(h.edges);
+    let e = head::to_usize(h.edges);
     let number = h.next_edge;
     let start = nodes[u * map::NODE_WIDTH];
     let end = nodes[v * map::NODE_WIDTH];
@@ -88,7 +88,7 @@ pub fn draw(
         (now (edges .exit)) r ⌝ }
 {
     write_last(nodes, edges, h, u, v, c, face);
-    let e = outcomes::to_usize(h.edges);
+    let e = head::to_usize(h.edges);
     links::link_edge(edges, e + 1);
     set_face(nodes, u, -1);
     set_face(nodes, v, -1);
@@ -147,8 +147,8 @@ pub fn undraw(nodes: &mut [i64], edges: &mut [i64], h: Head, i: usize, face: i64
     ensures { λ r. ⌜ Undrawn (now (nodes .entry)) (now (edges .entry)) h i face (now (nodes .exit))
         (now (edges .exit)) r ⌝ }
 {
-    let n = outcomes::to_usize(h.nodes);
-    let e = outcomes::to_usize(h.edges);
+    let n = head::to_usize(h.nodes);
+    let e = head::to_usize(h.edges);
     let u = edges[i * map::EDGE_WIDTH + map::START];
     let v = edges[i * map::EDGE_WIDTH + map::END];
     let isolated = undraw_edge(edges, e, i, u, v);

@@ -1,6 +1,6 @@
 -- Tables in form with an edge drawn that nothing turns down: they hold the map with the edge linked in, and its face
 -- can be split. Assumes nothing.
-use mathlib.Core.Path.{_≡_, sym, ap, _∙_, subst}
+use mathlib.Core.Path.{_≡_, refl, sym, ap, _∙_, subst}
 use mathlib.Core.Bool.{Bool, true, false, _&&_}
 use mathlib.Core.List.{List, [], map, List·Memᴰ}
 use Prim.Native.Nat.{ℕ, _+_, _-_}
@@ -18,7 +18,7 @@ use Rattle.tables.proofs.Filled.{whole-rows}
 use Rattle.tables.specs.Tables.{sameZ, column}
 use Rattle.curves.specs.Curves.{curveOf, startWay}
 use Rattle.map.specs.declared.Head.{Head}
-use Rattle.map.specs.Limits.{maxNodes, maxEdges, nodeWidth, edgeWidth}
+use Rattle.map.specs.Limits.{maxEdges, nodeWidth, edgeWidth}
 use Rattle.map.specs.Rows.{Map, Sizes, mapOf, sizesOf, hasNode}
 use Rattle.map.specs.Links.{cornerFace}
 use Rattle.map.specs.Edits.{drawn, drawnIn, splitsFace}
@@ -38,9 +38,10 @@ use Rattle.reason_edges.specs.Kinds.{addTicket}
 use Rattle.reason_edges.proofs.Adding.{room-known}
 use Rattle.face_rows.specs.Holds.{Held, Splittable}
 use Rattle.face_rows.proofs.Formed.{formed-held}
-use Rattle.edge_rows.specs.Holds.{NodeEdgeTables, Drawn, drawnHead}
-use Rattle.edge_rows.proofs.Filled.{nodes-room, edges-room, nodes-filled, edges-filled}
+use Rattle.edge_rows.specs.Holds.{Drawn, drawnHead, NodeEdgeTables}
+use Rattle.edge_rows.proofs.Filled.{edges-room, nodes-filled, edges-filled}
 use Rattle.edit_add.proofs.Rings.{drawn-ringed, drawn-ends}
+use Rattle.redraws.specs.Holds as redraws
 use Rattle.map.proofs.Linked as formedLinks
 use Rattle.map.proofs.Linked as formedLinks
 
@@ -68,24 +69,22 @@ module _ {nodes edges faces : List ℤ} {h : Head} (f : Formed nodes edges faces
         node-cells = nodes-filled (d .node-table);
         edge-cells = edges-filled (d .edge-table);
         face-table = k .face-table;
-        nodes-count = d .nodes-count;
-        edges-count = d .edges-count;
-        faces-count = k .faces-count;
-        next-node = k .next-node;
-        next-edge = d .next;
-        next-face = k .next-face;
-        few-nodes = omega (
-          arith,
-          nodes-room (d .node-table),
-          whole-rows nodeWidth 0 maxNodes nodes′ (d .node-table .whole) .most,
-        );
-        few-edges = omega (
-          arith,
-          edges-room (d .edge-table),
-          whole-rows edgeWidth 0 maxEdges edges′ (d .edge-table .whole) .most,
-        );
-        few-faces = k .few-faces;
-        next-most = k .next-most;
+        counted =
+            record {
+              nodes = k .counted .nodes;
+              edges = record {
+                natural = refl;
+                most = omega (
+                  arith,
+                  edges-room (d .edge-table),
+                  whole-rows edgeWidth 0 maxEdges edges′ (d .edge-table .whole) .most,
+                );
+              };
+              faces = k .counted .faces;
+              next-node = k .counted .next-node;
+              next-edge = record { natural = refl; most = d .next-most };
+              next-face = k .counted .next-face;
+            };
       }
 
   number-of : (z : ℤ) (i : ℕ) → place (sameZ z) 0 (column nodeWidth nodes (natAbs (h .nodes))) ≡ At i

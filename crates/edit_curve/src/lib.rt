@@ -11,15 +11,15 @@ ghost use lib.Seq.{paste};
 ghost use lib.Signed.{nonNeg};
 ghost use Rattle.lists.specs.Tables.{place};
 ghost use Rattle.lists.specs.declared.Found.the-variants.{At};
+ghost use Rattle.tables.specs.Tables.{sameZ, column};
 ghost use Rattle.curves.specs.Curves.{Run, curveOf};
 ghost use Rattle.map.specs.Rows.{edgeCells, hasNode};
 ghost use Rattle.map.specs.Edits.{withCurve};
 ghost use Rattle.map.specs.Reasons.{firstReason};
 ghost use Rattle.map.specs.Tickets.{ChangeEdgeGeom};
+ghost use Rattle.map_rows.specs.Rows.{nodeMap, edgeAt, EdgeRow, NodeRows, EdgeRows};
 ghost use Rattle.form_ranges.specs.Ranges.{lent};
 ghost use Rattle.outcomes.specs.Outcomes.{Formed, decided, outcome};
-ghost use Rattle.tables.specs.Tables.{sameZ, column};
-ghost use Rattle.map_rows.specs.Rows.{nodeMap, edgeAt, EdgeRow, NodeRows, EdgeRows};
 ghost use Rattle.edge_rows.specs.Holds.{NodeEdgeTables};
 ghost use Rattle.edit_curve.specs.Change.{takenAt, turnReasons, changeReasons, EndsAt};
 
@@ -74,8 +74,8 @@ fn change_reason(
     if reason != 0 {
         return reason;
     }
-    let n = outcomes::to_usize(h.nodes);
-    let e = outcomes::to_usize(h.edges);
+    let n = head::to_usize(h.nodes);
+    let e = head::to_usize(h.edges);
     turn_reason(nodes, n, edges, e, i, c)
 }
 
@@ -176,7 +176,7 @@ fn change_at_row(
         ≡ decided (lent (now (nodes .entry)) (now (edges .entry)) (now (faces .entry)) h)
         (ChangeEdgeGeom (pos (edgeAt (now (edges .entry)) i .number)) (now (c .entry))) ⌝ }
 {
-    let n = outcomes::to_usize(h.nodes);
+    let n = head::to_usize(h.nodes);
     let u = row_of(nodes, n, start_of(edges, i));
     let v = row_of(nodes, n, end_of(edges, i));
     change_between(nodes, edges, faces, h, i, u, v, c)
@@ -196,7 +196,7 @@ pub fn change_curve(
         ≡ decided (lent (now (nodes .entry)) (now (edges .entry)) (now (faces .entry)) h)
         (ChangeEdgeGeom edge (now (c .entry))) ⌝ }
 {
-    let e = outcomes::to_usize(h.edges);
+    let e = head::to_usize(h.edges);
     let found = tables::find_row(edges, map::EDGE_WIDTH, e, edge);
     let Found::At(i) = found else {
         return outcomes::refused(h, 4);

@@ -5,7 +5,6 @@ use mathlib.Core.Bool.{Bool, true, false, cond, _&&_, false≢true}
 use mathlib.Core.List.{List, _++_, map, flatMap, List·Memᴰ}
 use mathlib.Core.Option.{Option, Option·getD}
 use Prim.Native.Nat.{ℕ, suc, _+_, _*_, _-_, _/_, _%_, _≤_, _<_}
-use native.Mathlib.Nat.{add-zero}
 use native.Mathlib.Omega.{arith}
 use lib.Dec.{lit<}
 use lib.IntN.{ℤ, pos, negℤ, natAbs}
@@ -16,16 +15,20 @@ use Rattle.lists.specs.Tables.{place}
 use Rattle.lists.specs.declared.Found.the-variants.{At}
 use Rattle.lists.specs.Members.{Distinct}
 use Rattle.lists.proofs.Members.{all-each}
+use Rattle.planar_maps.specs.Map.{Dart, fwd, bwd, rev}
+use Rattle.tables.specs.Tables.{sameZ, column, closed, filled}
+use Rattle.tables.proofs.Writes.{removed-at}
+use Rattle.tables.proofs.Filled.{Wide}
+use Rattle.tables.proofs.Numbers.{without-at, getD-in}
+use Rattle.tables.proofs.Lookups.{which-place}
 use Rattle.curves.specs.Curves.{Curve, points}
 use Rattle.curves.specs.Edits.{joined}
 use Rattle.curves.proofs.Runs.{and-left, and-right}
 use Rattle.curve_edits.specs.Lines.{lineOf}
-use Rattle.planar_maps.specs.Map.{Dart, fwd, bwd, rev}
 use Rattle.map.specs.declared.Head.{Head}
 use Rattle.map.specs.Limits.{nodeWidth, edgeWidth}
-use Rattle.map.specs.Rows.{Node, Edge, Map, mapOf, lentOf, sizesOf, nodeCells, edgeCells, dartCell, edge}
-use Rattle.tables.specs.Tables.{sameZ, column, closed, filled}
-use Rattle.map.specs.Rows.{hasNode, hasEdge, hasFace, atEdge, withoutNode}
+use Rattle.map.specs.Rows.{Node, Edge, Map, mapOf, lentOf, sizesOf, nodeCells, edgeCells, dartCell, edge, hasNode}
+use Rattle.map.specs.Rows.{hasEdge, hasFace, atEdge, withoutNode, counts}
 use Rattle.map.specs.Darts.{leaves, arrives, next, course, departures}
 use Rattle.map.specs.Links.{redirect, instead}
 use Rattle.map.specs.Form.{edgeNames, inFace, named}
@@ -33,34 +36,32 @@ use Rattle.map.specs.Edits.{sharedNodes, joint, parts, healedCurve, heal}
 use Rattle.map.specs.Ticket.{carried}
 use Rattle.map.proofs.Laws.{formed-is}
 use Rattle.map.proofs.Redirects.{redirect-has, redirect-next}
+use Rattle.map.proofs.RoundTrip.{nodes-wide, edge-wide}
 use Rattle.map_rows.specs.Rows.{nodesOf, edgesOf, nodeAt, edgeAt, edgeMap, EdgeRows}
 use Rattle.map_rows.proofs.Rows.{nodes-length, edges-length, faces-length, nodes-getD, edges-getD}
-use Rattle.tables.proofs.Writes.{removed-at}
-use Rattle.tables.proofs.Filled.{Wide}
-use Rattle.map.proofs.RoundTrip.{nodes-wide, edge-wide}
-use Rattle.tables.proofs.Numbers.{without-at, getD-in}
-use Rattle.tables.proofs.Lookups.{which-place}
 use Rattle.map_rows.proofs.Lookups.{node-found, node-missing}
+use Rattle.map_rows.specs.Cells.{cellsOf}
+use Rattle.head.specs.Heads.{changedHead}
+use Rattle.head.proofs.Heads.{head-changed}
 use Rattle.darts.specs.Positions.{reverseOf, dartAt, sidePlace, sideCell}
 use Rattle.darts.proofs.Positions.{cells-of, edge-of, dart-reverse, reverse-below, cell-leaves, cell-arrives, cell-next}
 use Rattle.links.specs.Linking.{redirected}
 use Rattle.links.proofs.Kept.{Relinked, relinked-then, redirected-relinked, redirected-link, newFor}
 use Rattle.links.proofs.Darts.{dart-least, dart-named}
-use Rattle.map_rows.specs.Cells.{cellsOf}
-use Rattle.map_rows.proofs.Cells as cells
 use Rattle.form_ranges.specs.Ranges.{lent}
 use Rattle.outcomes.specs.Outcomes.{Formed}
-use Rattle.outcomes.proofs.Formed.{ranges, formed-map, nodes-count, edges-count, faces-count, node-next, edge-next}
-use Rattle.outcomes.proofs.Formed.{face-next, edges-size, edge-rows, node-numbers-once, edge-numbers-once, nodes-filled}
-use Rattle.outcomes.proofs.Formed.{edges-filled, faces-filled, edges-are-wide, lent-is}
+use Rattle.outcomes.proofs.Formed.{ranges, formed-map, nodes-count, edges-count, edge-next, edges-size, edge-rows}
+use Rattle.outcomes.proofs.Formed.{node-numbers-once, edge-numbers-once, nodes-filled, edges-filled, faces-filled}
+use Rattle.outcomes.proofs.Formed.{edges-are-wide, lent-is}
 use Rattle.edit_heal.specs.declared.Parts.{Parts}
 use Rattle.edit_heal.specs.Kinds.{healTicket}
 use Rattle.edit_heal.specs.Heals.{PartsOf, courseAt, lineAt, renamed, healedSides, healedRows, placed}
-use Rattle.edit_heal.specs.Heals.{healedNumber, healedValue, healedHead}
+use Rattle.edit_heal.specs.Heals.{healedNumber, healedValue, healNumbers}
 use Rattle.edit_heal.proofs.Joints.{joint-is}
 use Rattle.edit_heal.proofs.Renamed.{cell-instead, redirect-wide, redirect-numbers, redirect-length}
 use Rattle.edit_heal.proofs.Renamed.{redirect-filled}
 use Rattle.edit_heal.proofs.Placed.{placedEdges, placed-table, placed-length}
+use Rattle.map_rows.proofs.Cells as cells
 
 -- ---- the map after the ticket
 
@@ -345,28 +346,23 @@ module _ {nodes edges faces : List ℤ} {h : Head} (f : Formed nodes edges faces
         healed-lent : lentOf (sizesOf (lent nodes edges faces h)) healed
             ≡ lent (closed nodeWidth nodes nodeCount k)
             (healedRows edges n i j (s .first) (s .second) keeps z (lineAt edges (s .first) (s .second))) faces
-            (healedHead h keeps)
+            (changedHead h (counts 0 0 0) (counts 1 1 0) (healNumbers keeps))
         unfolding healed mapOf
         healed-lent =
             lent-is (sizesOf (lent nodes edges faces h)) healed nodes-healed (sym edges-healed) (faces-filled f)
-            (λ x.
-            record {
-              nodes = pos (nodes-fewer x);
-              edges = pos (edges-fewer x);
-              faces = (ap pos (faces-length faces (natAbs (h .faces))) ∙ sym (faces-count f .0)) x;
-              «next_node» = (ap pos (add-zero (natAbs (h .«next_node»))) ∙ sym (node-next f .0)) x;
-              «next_edge» = pos (natAbs (h .«next_edge») + cond keeps 0 1);
-              «next_face» = (ap pos (add-zero (natAbs (h .«next_face»))) ∙ sym (face-next f .0)) x;
-            })
+            (head-changed h healed (counts 0 0 0) (counts 1 1 0) (healNumbers keeps)
+            (omega (arith, nodes-fewer, below)) (omega (arith, edges-fewer))
+            (omega (arith, faces-length faces (natAbs (h .faces)))) refl refl refl)
 
         -- the ticket carried out
         pub heal-carried : {l r : List ℤ} → l ≡ closed nodeWidth nodes nodeCount k → r
             ≡ healedRows edges n i j (s .first) (s .second) keeps z (lineAt edges (s .first) (s .second))
             → lentOf (sizesOf (lent nodes edges faces h)) (carried whole (healTicket keeps (pos a) (pos b)) .0)
-            ≡ lent l r faces (healedHead h keeps)
+            ≡ lent l r faces (changedHead h (counts 0 0 0) (counts 1 1 0) (healNumbers keeps))
         heal-carried el er =
             ap (lentOf (sizesOf (lent nodes edges faces h))) (map-carried keeps ∙ heal-is) ∙ healed-lent
-            ∙ ap₂ (λ (x y : List ℤ). lent x y faces (healedHead h keeps)) (sym el) (sym er)
+            ∙ ap₂ (λ (x y : List ℤ). lent x y faces (changedHead h (counts 0 0 0) (counts 1 1 0) (healNumbers keeps)))
+            (sym el) (sym er)
           where
             map-carried : (x : Bool) → carried whole (healTicket x (pos a) (pos b)) .0 ≡ heal x a b whole
             map-carried x = carried-map whole x a b

@@ -2,36 +2,40 @@
 use mathlib.Core.Path.{_≡_, refl, sym, ap, _∙_}
 use mathlib.Core.Bool.{Bool, true, false, not, _||_, true≢false}
 use mathlib.Core.List.{List, [], _∷_, _++_}
-use Prim.Native.Nat.{ℕ, suc, _+_, _≤_, _<_}
-use native.Mathlib.Omega.{arith}
-use lib.Dec.{ltb, lit<}
+use Prim.Native.Nat.{ℕ, _≤_, _<_}
+use lib.Dec.{ltb, lit<, lit≤}
 use lib.IntN.{ℤ, pos, natAbs}
 use lib.ListN.{length}
 use borrow.Author.Tests.{not-false, ltb-false}
 use Rattle.lists.specs.Tests.{same}
 use Rattle.lists.specs.Scans.{isSome}
-use Rattle.lists.proofs.Bools.{differ, eq1}
+use Rattle.lists.proofs.Bools.{differ}
 use Rattle.curves.specs.Curves.{points, maxPoints}
+use Rattle.map.specs.declared.Counts.{Counts}
 use Rattle.map.specs.declared.Head.{Head}
-use Rattle.map.specs.Limits.{lastNumber}
-use Rattle.map.specs.Rows.{Map, mapOf, sizesOf, edge}
+use Rattle.map.specs.Rows.{Map, mapOf, sizesOf, edge, counts}
 use Rattle.map.specs.Darts.{departures, leaves, course}
 use Rattle.map.specs.Edits.{sharedNodes, joint, parts, healedCurve}
-use Rattle.map.specs.Reasons.{Reasons, firstReason, reasons, noEdge, spent}
+use Rattle.map.specs.Reasons.{Reasons, firstReason, reasons, noEdge}
+use Rattle.map.proofs.Reasons.{first-hit, first-miss, first-zero, first-append, first-after}
 use Rattle.map_rows.specs.Rows.{edgeAt, edgeMap}
+use Rattle.head.specs.Heads.{Few}
 use Rattle.links.proofs.Darts.{row-named}
-use Rattle.reason_departures.specs.Turning.{jointReasons}
 use Rattle.form_ranges.specs.Ranges.{lent}
 use Rattle.outcomes.specs.Outcomes.{Formed}
-use Rattle.outcomes.proofs.Formed.{edge-rows, nodes-count, nodes-size, edges-count, edges-size, edge-next, spent-is}
-use Rattle.outcomes.proofs.Formed.{node-left, face-left}
-use Rattle.map.proofs.Reasons.{first-hit, first-miss, first-zero, first-append, first-after}
+use Rattle.outcomes.proofs.Formed.{edge-rows, spent-at}
+use Rattle.reason_departures.specs.Turning.{jointReasons}
 use Rattle.edit_heal.specs.Kinds.{healTicket}
-use Rattle.edit_heal.specs.Heals.{Numbered, lateReasons}
+use Rattle.edit_heal.specs.Heals.{lateReasons, healNumbers}
 
 or-left : (x y : Bool) → x || y ≡ false → x ≡ false
 or-left true y e = absurd (true≢false e)
 or-left false y e = refl
+
+-- few numbers are given
+pub few-numbers : (keeps : Bool) {n : Counts} → n ≡ healNumbers keeps → Few n
+few-numbers true e = rw e (record { nodes = lit≤ tt; edges = lit≤ tt; faces = lit≤ tt })
+few-numbers false e = rw e (record { nodes = lit≤ tt; edges = lit≤ tt; faces = lit≤ tt })
 
 -- no number of points above 12
 pub late-few : (count : ℕ) (h : Head) (keeps : Bool) → firstReason (lateReasons count h keeps) ≡ 0 → count ≤ 12
@@ -47,17 +51,6 @@ module _ (m : Map) (a b : ℕ) (e : firstReason (jointReasons m a b) ≡ 0) wher
       (first-zero 16 _ _ (lit< tt) e .0))
 
 module _ {nodes edges faces : List ℤ} {h : Head} (f : Formed nodes edges faces h) where
-  pub numbered-of : Numbered h
-  numbered-of =
-      record {
-        nodes = nodes-count f .0;
-        few-nodes = omega (arith, nodes-count f .2, nodes-size f .1);
-        edges = edges-count f .0;
-        few-edges = omega (arith, edges-count f .2, edges-size f .1);
-        next = edge-next f .0;
-        given = edge-next f .2;
-      }
-
   -- ---- 4
 
   pub row-missing : (keeps : Bool) (y z : ℤ) → noEdge (mapOf (lent nodes edges faces h)) y
@@ -74,10 +67,6 @@ module _ {nodes edges faces : List ℤ} {h : Head} (f : Formed nodes edges faces
   edge-there i t = ap not (row-named (edge-rows f) i t)
 
   -- ---- the others
-
-  numbers-left : spent (mapOf (lent nodes edges faces h)) 0 1 0 ≡ ltb (suc lastNumber) (natAbs (h .«next_edge») + 1)
-  numbers-left = spent-is f 0 1 0 ∙ rw (node-left f, face-left f)
-      (eq1 (λ b. false || b || false) (λ b. b) tt (ltb (suc lastNumber) (natAbs (h .«next_edge») + 1)))
 
   module _ (i j : ℕ) (hi : i < natAbs (h .edges)) (hj : j < natAbs (h .edges)) where
     abbrev m : Map
@@ -105,7 +94,8 @@ module _ {nodes edges faces : List ℤ} {h : Head} (f : Formed nodes edges faces
     in-parts true = refl
     in-parts false = ap (λ (x : Bool). firstReason
         ((4, four) ∷ (jointReasons m a b
-        ++ ((18, ltb maxPoints (length (points (healedCurve m a b)))) ∷ (21, x) ∷ [])))) numbers-left
+        ++ ((18, ltb maxPoints (length (points (healedCurve m a b)))) ∷ (21, x) ∷ []))))
+        (sym (spent-at f (counts 0 1 0)))
 
     known : four ≡ false
     known = rw (edge-there i hi, edge-there j hj)

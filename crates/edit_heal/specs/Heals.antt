@@ -1,28 +1,29 @@
--- Two edge rows healed into one, in the numbers of the table; the reasons of a heal in parts, and the head after it.
+-- Two edge rows healed into one, in the numbers of the table; the reasons of a heal in parts, and its numbers.
 use mathlib.Core.Path.{_≡_}
 use mathlib.Core.Bool.{Bool, cond, not, _&&_}
 use mathlib.Core.List.{List, [], _∷_}
 use mathlib.Core.Option.{Option·getD}
-use Prim.Native.Nat.{ℕ, suc, _+_, _*_, _-_, _/_, _<_, _≤_}
+use Prim.Native.Nat.{ℕ, _+_, _*_, _-_, _/_, _<_}
 use lib.Dec.{ltb}
-use lib.IntN.{ℤ, pos, negℤ, natAbs}
+use lib.IntN.{ℤ, pos, negℤ}
 use lib.ListN.{getD}
 use lib.Seq.{paste}
+use Rattle.tables.specs.Tables.{sameZ, closed}
 use Rattle.curves.specs.Curves.{Curve, points, maxPoints}
 use Rattle.curves.specs.Edits.{course, joined}
 use Rattle.curve_edits.specs.declared.Line.{Line}
 use Rattle.curve_edits.specs.Lines.{lineOf}
+use Rattle.map.specs.declared.Counts.{Counts}
 use Rattle.map.specs.declared.Head.{Head}
-use Rattle.map.specs.Limits.{maxNodes, maxEdges, lastNumber}
-use Rattle.map.specs.Rows.{dartCell}
+use Rattle.map.specs.Rows.{dartCell, counts}
 use Rattle.map.specs.Edits.{joint, parts}
 use Rattle.map.specs.Reasons.{Reasons}
-use Rattle.tables.specs.Tables.{sameZ, closed}
 use Rattle.map_rows.specs.Rows.{edgeAt, edgeMap}
-use Rattle.darts.specs.Positions.{odd, reverseOf, dartAt, sideCell}
-use Rattle.links.specs.Linking.{redirected}
 use Rattle.map_rows.specs.declared.Incidence.{Incidence}
 use Rattle.map_rows.specs.Cells.{cellsOf}
+use Rattle.head.specs.Heads.{spentAt}
+use Rattle.darts.specs.Positions.{odd, reverseOf, dartAt, sideCell}
+use Rattle.links.specs.Linking.{redirected}
 use Rattle.edit_heal.specs.declared.Parts.{Parts}
 
 -- ---- the two directed edges that are joined
@@ -89,18 +90,9 @@ healedRows l n i j p q keeps a line = let t = renamed l n p q a in
 -- 18 and 21, of the number of points and the next edge's number
 abbrev pub lateReasons : ℕ → Head → Bool → Reasons
 lateReasons count h keeps = (18, ltb maxPoints count)
-    ∷ (21, not keeps && ltb (suc lastNumber) (natAbs (h .«next_edge») + 1)) ∷ []
+    ∷ (21, not keeps && spentAt h (counts 0 1 0)) ∷ []
 
--- ---- the head
-
--- counts and next numbers as tables in form have them
-pub record Numbered (h : Head) : Type 0 where
-  pub nodes : h .nodes ≡ pos (natAbs (h .nodes))
-  pub few-nodes : natAbs (h .nodes) ≤ maxNodes
-  pub edges : h .edges ≡ pos (natAbs (h .edges))
-  pub few-edges : natAbs (h .edges) ≤ maxEdges
-  pub next : h .«next_edge» ≡ pos (natAbs (h .«next_edge»))
-  pub given : natAbs (h .«next_edge») ≤ suc lastNumber
+-- ---- numbers
 
 -- the number of the healed edge, which row i had or which is new
 abbrev pub healedNumber : Head → Bool → ℤ → ℤ
@@ -110,18 +102,6 @@ healedNumber h keeps edge = cond keeps edge (h .«next_edge»)
 abbrev pub healedValue : Head → Bool → ℤ
 healedValue h keeps = cond keeps (pos 0) (h .«next_edge»)
 
--- the next edge's number, after one is given
-abbrev pub nextAfter : Head → Bool → ℤ
-nextAfter h keeps = pos (natAbs (h .«next_edge») + cond keeps 0 1)
-
--- a node and an edge less
-abbrev pub healedHead : Head → Bool → Head
-healedHead h keeps =
-    record {
-      nodes = pos (natAbs (h .nodes) - 1);
-      edges = pos (natAbs (h .edges) - 1);
-      faces = h .faces;
-      «next_node» = h .«next_node»;
-      «next_edge» = nextAfter h keeps;
-      «next_face» = h .«next_face»;
-    }
+-- the numbers that are given: an edge's, or none
+abbrev pub healNumbers : Bool → Counts
+healNumbers keeps = counts 0 (cond keeps 0 1) 0

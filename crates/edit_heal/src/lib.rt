@@ -1,6 +1,7 @@
 // Kinds 9 and 10: two edges healed into one.
 use curve_edits::Line;
 use lists::Found;
+use map::Counts;
 use map::Head;
 use map::Map;
 use map_rows::Incidence;
@@ -14,19 +15,21 @@ ghost use lib.Signed.{nonNeg};
 ghost use Rattle.lists.specs.Scans.{isSome};
 ghost use Rattle.lists.specs.Tables.{place};
 ghost use Rattle.lists.specs.declared.Found.the-variants.{At};
+ghost use Rattle.tables.specs.Tables.{sameZ, column, closed};
 ghost use Rattle.curves.specs.Curves.{points};
 ghost use Rattle.curve_edits.specs.Lines.{lineOf};
+ghost use Rattle.map.specs.Rows.{counts};
 ghost use Rattle.map.specs.Edits.{joint};
 ghost use Rattle.map.specs.Reasons.{firstReason};
-ghost use Rattle.tables.specs.Tables.{sameZ, column, closed};
 ghost use Rattle.map_rows.specs.Rows.{edgeAt, edgeMap, EdgeRow, EdgeRows, NodeRows};
-ghost use Rattle.form_ranges.specs.Ranges.{lent};
 ghost use Rattle.map_rows.specs.Cells.{cellsOf};
+ghost use Rattle.head.specs.Heads.{Counted, changedHead};
+ghost use Rattle.form_ranges.specs.Ranges.{lent};
 ghost use Rattle.outcomes.specs.Outcomes.{Formed, decided, outcome};
 ghost use Rattle.edit_heal.specs.Kinds.{healTicket};
 ghost use Rattle.edit_heal.specs.Heals.{leavingAt, arrivingAt, PartsOf, courseAt, lineAt, renamed, healedSides};
-ghost use Rattle.edit_heal.specs.Heals.{closedUp, placed, healedRows, lateReasons, Numbered, healedNumber};
-ghost use Rattle.edit_heal.specs.Heals.{healedValue, nextAfter, healedHead};
+ghost use Rattle.edit_heal.specs.Heals.{closedUp, placed, healedRows, lateReasons, healedNumber, healedValue};
+ghost use Rattle.edit_heal.specs.Heals.{healNumbers};
 
 // ---- the two directed edges that are joined
 
@@ -220,35 +223,26 @@ fn healed_value(h: Head, keeps: bool) -> i64
     if keeps { 0 } else { next }
 }
 
-// The next edge's number.
-fn next_after(h: Head, keeps: bool) -> i64
-    requires { ⌜ Numbered h ⌝ }
-    ensures { λ r. ⌜ r ≡ nextAfter h keeps ⌝ }
+// The numbers that are given: an edge's, or none.
+fn heal_numbers(keeps: bool) -> Counts
+    ensures { λ r. ⌜ r ≡ healNumbers keeps ⌝ }
 {
-    let next = h.next_edge;
-    if keeps { next } else { next + 1 }
+    if keeps { head::NONE } else { head::EDGE }
 }
 
 // The head with a node and an edge less.
 fn after_heal(h: Head, keeps: bool) -> Head
-    requires { ⌜ Numbered h × (1 ≤ natAbs (h .nodes)) × (1 ≤ natAbs (h .edges)) ⌝ }
-    ensures { λ r. ⌜ r ≡ healedHead h keeps ⌝ }
+    requires { ⌜ Counted h × (1 ≤ natAbs (h .nodes)) × (1 ≤ natAbs (h .edges)) ⌝ }
+    ensures { λ r. ⌜ r ≡ changedHead h (counts 0 0 0) (counts 1 1 0) (healNumbers keeps) ⌝ }
 {
-    let n = h.nodes;
-    let e = h.edges;
-    let next = next_after(h, keeps);
-    let mut after = h;
-    after.nodes = n - 1;
-    after.edges = e - 1;
-    after.next_edge = next;
-    after
+    head::changed(h, head::NONE, head::NODE_AND_EDGE, heal_numbers(keeps))
 }
 
 // ---- the heal
 
 // 18 or 21; 0 for none.
 fn late_reason(count: usize, h: Head, keeps: bool) -> u64
-    requires { ⌜ Numbered h ⌝ }
+    requires { ⌜ Counted h ⌝ }
     ensures { λ r. ⌜ r ≡ firstReason (lateReasons count h keeps) ⌝ }
 {
     if Map::POINTS < count {
@@ -257,11 +251,7 @@ fn late_reason(count: usize, h: Head, keeps: bool) -> u64
     if keeps {
         return 0;
     }
-    if map::NUMBERS < outcomes::to_usize(h.next_edge) + 1 {
-        21
-    } else {
-        0
-    }
+    if head::is_spent(h, head::EDGE) { 21 } else { 0 }
 }
 
 // Rows i and j healed along the parts s, and the joint gone.
@@ -275,7 +265,7 @@ fn carry_out(
     s: Parts,
     l: Line,
 ) -> Done
-    requires { ⌜ Numbered h × NodeRows (now nodes) (natAbs (h .nodes)) × EdgeRows (now edges) (natAbs (h .edges))
+    requires { ⌜ Counted h × NodeRows (now nodes) (natAbs (h .nodes)) × EdgeRows (now edges) (natAbs (h .edges))
         × (1 ≤ natAbs (h .nodes)) × (i < natAbs (h .edges)) × (j < natAbs (h .edges)) × (i ≡ j → ⊥)
         × (s .first < natAbs (h .edges) * 2) × (s .second < natAbs (h .edges) * 2) × (l .count ≤ 1000) ⌝ }
     ensures { λ r. ⌜ (now (edges .exit)
@@ -283,12 +273,15 @@ fn carry_out(
         (healedNumber h keeps (getD (now (edges .entry)) (i * 32) (pos 0))) l)
         × ((k : ℕ) → place (sameZ (s .joint)) 0 (column 4 (now (nodes .entry)) (natAbs (h .nodes))) ≡ At k
         → now (nodes .exit) ≡ closed 4 (now (nodes .entry)) (natAbs (h .nodes)) k)
-        × (r ≡ record { head = healedHead h keeps; answer = record { refusal = 0; value = healedValue h keeps } }) ⌝ }
+        × (r ≡ record {
+          head = changedHead h (counts 0 0 0) (counts 1 1 0) (healNumbers keeps);
+          answer = record { refusal = 0; value = healedValue h keeps };
+        }) ⌝ }
 {
     let number = healed_number(h, keeps, edges[i * map::EDGE_WIDTH]);
     heal_rows(
         edges,
-        outcomes::to_usize(h.edges),
+        head::to_usize(h.edges),
         i,
         j,
         s.first,
@@ -298,7 +291,7 @@ fn carry_out(
         l,
     );
     let joint = s.joint;
-    remove_joint(nodes, outcomes::to_usize(h.nodes), joint);
+    remove_joint(nodes, head::to_usize(h.nodes), joint);
     outcomes::carried(after_heal(h, keeps), healed_value(h, keeps))
 }
 
@@ -319,7 +312,7 @@ fn heal_rows_of(
         (healTicket keeps (pos (edgeAt (now (edges .entry)) i .number))
         (pos (edgeAt (now (edges .entry)) j .number)))) ⌝ }
 {
-    let e = outcomes::to_usize(h.edges);
+    let e = head::to_usize(h.edges);
     let early = reason_departures::joint_reason(edges, e, i, j);
     if early != 0 {
         return outcomes::refused(h, early);
@@ -346,7 +339,7 @@ pub fn heal_edges(
         → outcome (now (nodes .exit)) (now (edges .exit)) faces r
         ≡ decided (lent (now (nodes .entry)) (now (edges .entry)) faces h) (healTicket keeps edge other)) ⌝ }
 {
-    let e = outcomes::to_usize(h.edges);
+    let e = head::to_usize(h.edges);
     let found = tables::find_row(edges, map::EDGE_WIDTH, e, edge);
     let Found::At(i) = found else {
         return outcomes::refused(h, 4);

@@ -52,10 +52,10 @@ fn room_reason(edges: &[i64], h: Head) -> u64
     requires { ⌜ EdgesCounted h ⌝ }
     ensures { λ r. ⌜ r ≡ firstReason (roomReasons (now (edges .entry)) h) ⌝ }
 {
-    if edges.len() / map::EDGE_WIDTH < outcomes::to_usize(h.edges) + 1 {
+    if edges.len() / map::EDGE_WIDTH < head::to_usize(h.edges) + 1 {
         return 20;
     }
-    if map::NUMBERS < outcomes::to_usize(h.next_edge) + 1 {
+    if map::NUMBERS < head::to_usize(h.next_edge) + 1 {
         21
     } else {
         0
@@ -68,8 +68,8 @@ fn meeting_or_room_reason(nodes: &[i64], edges: &[i64], h: Head, c: &[i64]) -> u
     ensures { λ r. ⌜ r ≡ firstReason
         (meetingOrRoomReasons (now (nodes .entry)) (now (edges .entry)) h (now (c .entry))) ⌝ }
 {
-    let n = outcomes::to_usize(h.nodes);
-    let e = outcomes::to_usize(h.edges);
+    let n = head::to_usize(h.nodes);
+    let e = head::to_usize(h.edges);
     let meeting = reason_curves::meeting_reason(nodes, n, edges, e, e, c);
     if meeting != 0 {
         return meeting;
@@ -145,7 +145,7 @@ pub fn add_isolated_edge(
         ≡ decided (lent (now (nodes .entry)) (now (edges .entry)) (now (faces .entry)) h)
         (AddIsoEdge start end (now (c .entry))) ⌝ }
 {
-    let n = outcomes::to_usize(h.nodes);
+    let n = head::to_usize(h.nodes);
     let found = tables::find_row(nodes, map::NODE_WIDTH, n, start);
     let Found::At(u) = found else {
         return outcomes::refused(h, 4);
@@ -174,7 +174,7 @@ fn remove_at_row(nodes: &mut [i64], edges: &mut [i64], faces: &[i64], h: Head, i
         ≡ decided (lent (now (nodes .entry)) (now (edges .entry)) (now (faces .entry)) h)
         (RemoveIsoEdge (pos (edgeAt (now (edges .entry)) i .number))) ⌝ }
 {
-    let e = outcomes::to_usize(h.edges);
+    let e = head::to_usize(h.edges);
     if !reason_departures::edge_isolated(edges, e, i) {
         return outcomes::refused(h, 9);
     }
@@ -195,7 +195,7 @@ pub fn remove_isolated_edge(
     ensures { λ r. ⌜ outcome (now (nodes .exit)) (now (edges .exit)) (now (faces .entry)) r
         ≡ decided (lent (now (nodes .entry)) (now (edges .entry)) (now (faces .entry)) h) (RemoveIsoEdge edge) ⌝ }
 {
-    let e = outcomes::to_usize(h.edges);
+    let e = head::to_usize(h.edges);
     let found = tables::find_row(edges, map::EDGE_WIDTH, e, edge);
     let Found::At(i) = found else {
         return outcomes::refused(h, 4);

@@ -9,27 +9,28 @@ use lib.IntN.{ℤ, pos, natAbs}
 use lib.ListN.{length, getD, take, drop, set, length-append, length-map, length-drop}
 use lib.Seq.{paste, length-take-le}
 use Rattle.lists.specs.Tests.{same}
+use Rattle.tables.specs.Tables.{closed, filled}
+use Rattle.tables.proofs.Writes.{pushed, replaced-at, removed-at}
+use Rattle.tables.proofs.Numbers.{without-at, changed-at}
 use Rattle.plane.specs.declared.Point.{Point}
 use Rattle.curves.specs.Curves.{coordinate, point}
 use Rattle.curves.proofs.Runs.{and-left, and-right, coordinate-pos}
 use Rattle.map.specs.declared.Head.{Head}
 use Rattle.map.specs.Limits.{nodeWidth}
-use Rattle.map.specs.Rows.{Node, Map, mapOf, lentOf, sizesOf, nodeCells, atNodes, withoutNode}
-use Rattle.tables.specs.Tables.{closed, filled}
+use Rattle.map.specs.Rows.{Node, Map, mapOf, lentOf, sizesOf, nodeCells, atNodes, withoutNode, headOf, counts}
 use Rattle.map.specs.Faces.{faceOfPoint}
 use Rattle.map.specs.Tickets.{AddIsoNode, MoveIsoNode, RemoveIsoNode}
 use Rattle.map.specs.Ticket.{carried}
 use Rattle.map.specs.Edits.{lone, addIsoNode, moveIsoNode, removeIsoNode}
+use Rattle.map.proofs.RoundTrip.{nodes-wide}
 use Rattle.map_rows.specs.Rows.{nodesOf, edgesOf, facesOf, nodeAt}
 use Rattle.map_rows.proofs.Rows.{nodes-length, edges-length, faces-length, nodes-getD}
-use Rattle.tables.proofs.Writes.{pushed, replaced-at, removed-at}
-use Rattle.map.proofs.RoundTrip.{nodes-wide}
-use Rattle.tables.proofs.Numbers.{without-at, changed-at}
+use Rattle.head.specs.Heads.{changedHead}
+use Rattle.head.proofs.Heads.{head-changed, head-same}
 use Rattle.form_ranges.specs.Ranges.{lent}
 use Rattle.outcomes.specs.Outcomes.{Formed}
-use Rattle.outcomes.proofs.Formed.{nodes-count, edges-count, faces-count, node-next, edge-next, face-next, nodes-filled}
-use Rattle.outcomes.proofs.Formed.{edges-filled, faces-filled, node-numbers-once, lent-is}
-use Rattle.edit_nodes.specs.Heads.{added, removed}
+use Rattle.outcomes.proofs.Formed.{nodes-count, node-next, counted, nodes-filled, edges-filled, faces-filled}
+use Rattle.outcomes.proofs.Formed.{node-numbers-once, lent-is}
 
 -- the numbers of a node with the face of its point
 row-cells : (m : Map) (k : ℕ) (number x y face : ℤ) → coordinate x && coordinate y ≡ true → number ≡ pos k → face
@@ -51,35 +52,32 @@ module _ {nodes edges faces : List ℤ} {h : Head} (f : Formed nodes edges faces
     nextFace = c;
   }
 
-  nodes-lent : (ns : List Node) (a b c : ℕ) {l : List ℤ} {v w : ℤ}
-      → filled (length nodes / nodeWidth * nodeWidth) (flatMap nodeCells ns) ≡ l → pos (length ns) ≡ v → pos a ≡ w
-      → b ≡ natAbs (h .«next_edge») → c ≡ natAbs (h .«next_face»)
-      → lentOf (sizesOf (lent nodes edges faces h)) (changed ns a b c)
-      ≡ lent l edges faces (record {
-        nodes = v;
-        edges = h .edges;
-        faces = h .faces;
-        «next_node» = w;
-        «next_edge» = h .«next_edge»;
-        «next_face» = h .«next_face»;
-      })
-  nodes-lent ns a b c e count next eb ec =
-      lent-is (sizesOf (lent nodes edges faces h)) (changed ns a b c) e (edges-filled f) (faces-filled f)
-      (λ i.
-      record {
-        nodes = count i;
-        edges = (ap pos (edges-length edges (natAbs (h .edges))) ∙ sym (edges-count f .0)) i;
-        faces = (ap pos (faces-length faces (natAbs (h .faces))) ∙ sym (faces-count f .0)) i;
-        «next_node» = next i;
-        «next_edge» = (ap pos eb ∙ sym (edge-next f .0)) i;
-        «next_face» = (ap pos ec ∙ sym (face-next f .0)) i;
-      })
+  nodes-lent : (ns : List Node) (a b c : ℕ) {l : List ℤ} {g : Head}
+      → filled (length nodes / nodeWidth * nodeWidth) (flatMap nodeCells ns) ≡ l → headOf (changed ns a b c) ≡ g
+      → lentOf (sizesOf (lent nodes edges faces h)) (changed ns a b c) ≡ lent l edges faces g
+  nodes-lent ns a b c e head =
+      lent-is (sizesOf (lent nodes edges faces h)) (changed ns a b c) e (edges-filled f) (faces-filled f) head
+
+  edge-rows : length (edgesOf edges (natAbs (h .edges))) ≡ natAbs (h .edges)
+  edge-rows = edges-length edges (natAbs (h .edges))
+
+  face-rows : length (facesOf faces (natAbs (h .faces))) ≡ natAbs (h .faces)
+  face-rows = faces-length faces (natAbs (h .faces))
+
+  -- the head with so many nodes more and less
+  nodes-head : (ns : List Node) (a b c more less given : ℕ) → length ns + less ≡ natAbs (h .nodes) + more
+      → a ≡ natAbs (h .«next_node») + given → b ≡ natAbs (h .«next_edge») → c ≡ natAbs (h .«next_face»)
+      → headOf (changed ns a b c) ≡ changedHead h (counts more 0 0) (counts less 0 0) (counts given 0 0)
+  nodes-head ns a b c more less given e ea eb ec =
+      head-changed h (changed ns a b c) (counts more 0 0) (counts less 0 0) (counts given 0 0) e
+      (omega (arith, edge-rows)) (omega (arith, face-rows)) ea (omega arith) (omega arith)
 
   -- kind 1
   pub add-lent : (p : Point) → natAbs (h .nodes) + 1 ≤ length nodes / nodeWidth
       → lentOf (sizesOf (lent nodes edges faces h)) (addIsoNode p (mapOf (lent nodes edges faces h)))
       ≡ lent (paste nodes (natAbs (h .nodes) * nodeWidth)
-      (nodeCells (lone (mapOf (lent nodes edges faces h)) (natAbs (h .«next_node»)) p)) nodeWidth) edges faces (added h)
+      (nodeCells (lone (mapOf (lent nodes edges faces h)) (natAbs (h .«next_node»)) p)) nodeWidth) edges faces
+      (changedHead h (counts 1 0 0) (counts 0 0 0) (counts 1 0 0))
   unfolding mapOf addIsoNode nodeCells
   add-lent p room =
       let xs = nodesOf nodes (natAbs (h .nodes)) in
@@ -89,8 +87,8 @@ module _ {nodes edges faces : List ℤ} {h : Head} (f : Formed nodes edges faces
       (natAbs (h .«next_face») + 0)
       (sym (pushed nodeWidth nodeCells (length nodes / nodeWidth * nodeWidth) xs x (nodes-wide xs) refl
       (rw long (omega arith))) ∙ rw (nodes-filled f, long))
-      (ap pos (length-append xs (x ∷ []) ∙ ap (λ (j : ℕ). j + 1) long)) refl (add-zero (natAbs (h .«next_edge»)))
-      (add-zero (natAbs (h .«next_face»)))
+      (nodes-head (xs ++ x ∷ []) _ _ _ 1 0 1 (omega (arith, length-append xs (x ∷ []), long)) refl
+      (add-zero (natAbs (h .«next_edge»))) (add-zero (natAbs (h .«next_face»))))
 
   module _ (i : ℕ) (t : i < natAbs (h .nodes)) where
     row-in : i < length (nodesOf nodes (natAbs (h .nodes)))
@@ -118,13 +116,16 @@ module _ {nodes edges faces : List ℤ} {h : Head} (f : Formed nodes edges faces
         ∙ sym (replaced-at nodeWidth nodeCells (length nodes / nodeWidth * nodeWidth) xs i (nodeAt nodes i)
         (nodes-wide xs) row-in y refl)
         ∙ rw (nodes-filled f))
-        (ap pos (length-map xs (λ (r : Node). cond (same (r .number) k) y r) ∙ nodes-length nodes (natAbs (h .nodes)))
-        ∙ sym (nodes-count f .0)) (sym (node-next f .0)) refl refl
+        (head-same (counted f) (changed ys (natAbs (h .«next_node»)) (natAbs (h .«next_edge»))
+        (natAbs (h .«next_face»)))
+        (length-map xs (λ (r : Node). cond (same (r .number) k) y r) ∙ nodes-length nodes (natAbs (h .nodes)))
+        edge-rows face-rows refl refl refl)
 
     -- kind 3
     pub remove-lent : lentOf (sizesOf (lent nodes edges faces h))
         (removeIsoNode (nodeAt nodes i .number) (mapOf (lent nodes edges faces h)))
-        ≡ lent (closed nodeWidth nodes (natAbs (h .nodes)) i) edges faces (removed h)
+        ≡ lent (closed nodeWidth nodes (natAbs (h .nodes)) i) edges faces
+        (changedHead h (counts 0 0 0) (counts 1 0 0) (counts 0 0 0))
     unfolding mapOf removeIsoNode
     remove-lent =
         let n = natAbs (h .nodes) in
@@ -140,7 +141,8 @@ module _ {nodes edges faces : List ℤ} {h : Head} (f : Formed nodes edges faces
         ∙ sym (removed-at nodeWidth nodeCells (length nodes / nodeWidth * nodeWidth) xs i (nodeAt nodes i)
         (nodes-wide xs) row-in (rw long (omega (arith, nodes-count f .2))))
         ∙ rw (nodes-filled f, long))
-        (ap (λ (r : List Node). pos (length r)) is ∙ ap pos fewer) (sym (node-next f .0)) refl refl
+        (nodes-head (withoutNode (nodeAt nodes i .number) xs) _ _ _ 0 1 0 (omega (arith, ap length is ∙ fewer))
+        (sym (add-zero (natAbs (h .«next_node»)))) refl refl)
 
   -- the tickets carried out
 
@@ -153,12 +155,13 @@ module _ {nodes edges faces : List ℤ} {h : Head} (f : Formed nodes edges faces
       ≡ pos (faceOfPoint (mapOf (lent nodes edges faces h)) (point x y))
       → l ≡ paste nodes (natAbs (h .nodes) * nodeWidth) (h .«next_node» ∷ x ∷ y ∷ a ∷ []) nodeWidth
       → (lentOf (sizesOf (lent nodes edges faces h))
-      (carried (mapOf (lent nodes edges faces h)) (AddIsoNode face x y) .0) ≡ lent l edges faces (added h))
+      (carried (mapOf (lent nodes edges faces h)) (AddIsoNode face x y) .0)
+      ≡ lent l edges faces (changedHead h (counts 1 0 0) (counts 0 0 0) (counts 1 0 0)))
       × (carried (mapOf (lent nodes edges faces h)) (AddIsoNode face x y) .1 ≡ h .«next_node»)
   unfolding carried
   add-carried face x y {a} e room ea el = (
     add-lent (point x y) room
-        ∙ ap (λ (r : List ℤ). lent r edges faces (added h))
+        ∙ ap (λ (r : List ℤ). lent r edges faces (changedHead h (counts 1 0 0) (counts 0 0 0) (counts 1 0 0)))
         (ap (λ (r : List ℤ). paste nodes (natAbs (h .nodes) * nodeWidth) r nodeWidth)
         (row-cells (mapOf (lent nodes edges faces h)) (natAbs (h .«next_node»)) (h .«next_node») x y a e
         (node-next f .0) ea) ∙ sym el),
@@ -186,13 +189,14 @@ module _ {nodes edges faces : List ℤ} {h : Head} (f : Formed nodes edges faces
   pub remove-carried : (i : ℕ) → i < natAbs (h .nodes) → (node : ℤ) {l : List ℤ} → node ≡ pos (nodeAt nodes i .number)
       → l ≡ closed nodeWidth nodes (natAbs (h .nodes)) i
       → (lentOf (sizesOf (lent nodes edges faces h))
-      (carried (mapOf (lent nodes edges faces h)) (RemoveIsoNode node) .0) ≡ lent l edges faces (removed h))
+      (carried (mapOf (lent nodes edges faces h)) (RemoveIsoNode node) .0)
+      ≡ lent l edges faces (changedHead h (counts 0 0 0) (counts 1 0 0) (counts 0 0 0)))
       × (carried (mapOf (lent nodes edges faces h)) (RemoveIsoNode node) .1 ≡ pos 0)
   unfolding carried
   remove-carried i t node en el = (
     ap (λ (k : ℕ). lentOf (sizesOf (lent nodes edges faces h)) (removeIsoNode k (mapOf (lent nodes edges faces h))))
         (ap natAbs en)
         ∙ remove-lent i t
-        ∙ ap (λ (r : List ℤ). lent r edges faces (removed h)) (sym el),
+        ∙ ap (λ (r : List ℤ). lent r edges faces (changedHead h (counts 0 0 0) (counts 1 0 0) (counts 0 0 0))) (sym el),
     refl,
   )

@@ -1,37 +1,33 @@
 -- What the tests of kinds 1 to 3 answered, in the map's terms, and the first reason from its parts. Assumes nothing.
-use mathlib.Core.Path.{_≡_, refl, sym, ap, ap₂, _∙_}
+use mathlib.Core.Path.{_≡_, refl, sym, ap, _∙_}
 use mathlib.Core.Bool.{Bool, true, false, not, _&&_, _||_, true≢false}
 use mathlib.Core.List.{List, [], _∷_, _++_}
-use Prim.Native.Nat.{ℕ, suc, _+_, _/_, _≤_, _<_}
+use Prim.Native.Nat.{ℕ, _≤_, _<_}
 use native.Mathlib.Omega.{arith}
-use lib.Dec.{ltb, lit<}
+use lib.Dec.{lit<}
 use lib.IntN.{ℤ, pos, natAbs}
-use lib.ListN.{length}
 use lib.Signed.{nonNeg}
-use borrow.Author.Tests.{not-false, ltb-false}
+use borrow.Author.Tests.{not-false}
 use Rattle.lists.specs.Tests.{same}
 use Rattle.lists.specs.Scans.{anyOf}
 use Rattle.lists.specs.Tables.{table}
-use Rattle.lists.proofs.Bools.{eq1}
 use Rattle.plane.specs.declared.Point.{Point}
 use Rattle.plane.specs.Points.{samePoint}
 use Rattle.curves.specs.Curves.{point, coordinate}
 use Rattle.map.specs.declared.Head.{Head}
-use Rattle.map.specs.Limits.{nodeWidth, lastNumber}
-use Rattle.map.specs.Rows.{Map, mapOf, sizesOf}
+use Rattle.map.specs.Rows.{Map, mapOf, sizesOf, counts}
 use Rattle.map.specs.Faces.{faceOfPoint, floors}
 use Rattle.map.specs.Tickets.{AddIsoNode}
-use Rattle.map.specs.Reasons as reasons
-use Rattle.map.specs.Reasons.{firstReason, minusOne, noFace, outside, edgeThrough, full, spent}
+use Rattle.map.specs.Reasons.{firstReason, minusOne, noFace, outside, edgeThrough}
+use Rattle.map.proofs.Reasons.{first-hit, first-miss, first-zero, first-append, first-after}
 use Rattle.map_rows.specs.Rows.{facesOf, nodeAt, edgeMap}
+use Rattle.head.specs.Heads.{sizesIn, roomAt}
 use Rattle.form_ranges.specs.Ranges.{lent}
 use Rattle.outcomes.specs.Outcomes.{Formed}
-use Rattle.outcomes.proofs.Formed.{nodes-count, edges-count, faces-count, nodes-size, edges-size, faces-size, node-next}
-use Rattle.outcomes.proofs.Formed.{full-is, spent-is, edges-room, faces-room, edge-left, face-left}
-use Rattle.map.proofs.Reasons.{first-hit, first-miss, first-zero, first-append, first-after}
+use Rattle.outcomes.proofs.Formed.{counted, room-at}
 use Rattle.reason_curves.proofs.Others.{node-at-all}
-use Rattle.edit_nodes.specs.Heads.{Numbered}
-use Rattle.edit_nodes.specs.Parts.{addEarly, addLate, roomReasons}
+use Rattle.edit_nodes.specs.Parts.{addEarly, addLate}
+use Rattle.map.specs.Reasons as reasons
 
 -- a face that is not missing is none or a number
 pub given-face : (a b c : Bool) → not a && not (b && c) ≡ false → a || b ≡ true
@@ -54,28 +50,15 @@ pub other-told : {face u w : ℤ} (k : ℕ) {r v : Bool} → u ≡ face → w �
     && not (same (natAbs u) (natAbs w)) → r ≡ v → not (minusOne face) && not (same (natAbs face) k) ≡ v
 other-told k eu ew er ev = sym (λ i. not (minusOne (eu i)) && not (same (natAbs (eu i)) (natAbs (ew i)))) ∙ sym er ∙ ev
 
--- there is room for a row
-pub room-left : (l : List ℤ) (h : Head) → firstReason (roomReasons l h) ≡ 0
-    → natAbs (h .nodes) + 1 ≤ length l / nodeWidth
-room-left l h e = ltb-false (length l / nodeWidth) (natAbs (h .nodes) + 1) (first-zero 20 _ _ (lit< tt) e .0)
-
 module _ {nodes edges faces : List ℤ} {h : Head} (f : Formed nodes edges faces h) where
   pub few-nodes : natAbs (h .nodes) ≤ 1000000
-  few-nodes = omega (arith, nodes-count f .2, nodes-size f .1)
+  few-nodes = omega (arith, counted f .nodes .most)
 
   pub few-edges : natAbs (h .edges) ≤ 1000000
-  few-edges = omega (arith, edges-count f .2, edges-size f .1)
+  few-edges = omega (arith, counted f .edges .most)
 
   pub few-faces : natAbs (h .faces) ≤ 1000000
-  few-faces = omega (arith, faces-count f .2, faces-size f .1)
-
-  pub numbered-of : Numbered h
-  numbered-of = record {
-    nodes = nodes-count f .0;
-    few = omega (arith, nodes-count f .2, nodes-size f .1);
-    next = node-next f .0;
-    given = node-next f .2;
-  }
+  few-faces = omega (arith, counted f .faces .most)
 
   -- the face that was looked for
   pub face-told : (k : ℕ) (face z : ℤ) {r v : Bool} → k ≡ natAbs (h .faces) → z ≡ face → r ≡ not (minusOne z)
@@ -150,15 +133,5 @@ module _ {nodes edges faces : List ℤ} {h : Head} (f : Formed nodes edges faces
       pub add-room : not (minusOne face)
           && not (same (natAbs face) (faceOfPoint (mapOf (lent nodes edges faces h)) (point x y))) ≡ false
           → firstReason (reasons.reasons (sizesOf (lent nodes edges faces h)) (mapOf (lent nodes edges faces h))
-          (AddIsoNode face x y)) ≡ firstReason (roomReasons nodes h)
-      add-room e = late-part ∙ first-miss 12 _ _ e
-          ∙ ap₂ (λ (a b : Bool). firstReason ((20, a) ∷ (21, b) ∷ [])) room numbers
-        where
-          room : full (sizesOf (lent nodes edges faces h)) (mapOf (lent nodes edges faces h)) 1 0 0
-              ≡ ltb (length nodes / nodeWidth) (natAbs (h .nodes) + 1)
-          room = full-is f 1 0 0 ∙ rw (edges-room f, faces-room f)
-              (eq1 (λ b. b || false || false) (λ b. b) tt (ltb (length nodes / nodeWidth) (natAbs (h .nodes) + 1)))
-
-          numbers : spent (mapOf (lent nodes edges faces h)) 1 0 0 ≡ ltb (suc lastNumber) (natAbs (h .«next_node») + 1)
-          numbers = spent-is f 1 0 0 ∙ rw (edge-left f, face-left f)
-              (eq1 (λ b. b || false || false) (λ b. b) tt (ltb (suc lastNumber) (natAbs (h .«next_node») + 1)))
+          (AddIsoNode face x y)) ≡ firstReason (roomAt (sizesIn nodes edges faces) h (counts 1 0 0) (counts 1 0 0))
+      add-room e = late-part ∙ first-miss 12 _ _ e ∙ ap firstReason (sym (room-at f (counts 1 0 0) (counts 1 0 0)))

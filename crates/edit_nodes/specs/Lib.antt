@@ -1,3 +1,2 @@
--- `Heads`: the head after a node is added or removed. `Parts`: reasons in parts.
-pub mod Heads
+-- `Parts`: reasons in parts.
 pub mod Parts

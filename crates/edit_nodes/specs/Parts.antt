@@ -1,22 +1,18 @@
 -- The reasons of kinds 1 and 2 in parts, as the functions ask them.
 use mathlib.Core.Bool.{not, _&&_, _||_}
 use mathlib.Core.List.{List, [], _∷_}
-use Prim.Native.Nat.{ℕ, suc, _+_, _/_}
-use lib.Dec.{ltb}
+use Prim.Native.Nat.{ℕ}
 use lib.IntN.{ℤ, natAbs}
-use lib.ListN.{length}
 use Rattle.lists.specs.Tests.{same}
 use Rattle.lists.specs.Scans.{anyOf, isSome}
 use Rattle.lists.specs.Tables.{table}
 use Rattle.plane.specs.Points.{samePoint}
 use Rattle.curves.specs.Curves.{point}
-use Rattle.map.specs.declared.Head.{Head}
-use Rattle.map.specs.Limits.{nodeWidth, lastNumber}
-use Rattle.map.specs.Rows.{Map, Sizes}
+use Rattle.map.specs.Rows.{Map, Sizes, counts}
 use Rattle.map.specs.Faces.{faceOfPoint}
-use Rattle.map.specs.Reasons as reasons
-use Rattle.map.specs.Reasons.{Reasons, minusOne, noFace, outside, edgeThrough, full, spent}
+use Rattle.map.specs.Reasons.{Reasons, minusOne, noFace, outside, edgeThrough, roomReasons}
 use Rattle.map_rows.specs.Rows.{nodeAt, edgeMap}
+use Rattle.map.specs.Reasons as reasons
 
 -- kind 1, up to 10, and from 12 on
 abbrev pub addEarly : Map → ℤ → ℤ → ℤ → Reasons
@@ -24,13 +20,8 @@ addEarly m f x y = (4, not (minusOne f) && noFace m f) ∷ (5, outside x y)
     ∷ (10, reasons.nodeAt (m .nodes) (point x y) || edgeThrough m (point x y)) ∷ []
 
 abbrev pub addLate : Sizes → Map → ℤ → ℤ → ℤ → Reasons
-addLate s m f x y = (12, not (minusOne f) && not (same (natAbs f) (faceOfPoint m (point x y)))) ∷ (20, full s m 1 0 0)
-    ∷ (21, spent m 1 0 0) ∷ []
-
--- 20 and 21, of the nodes alone
-abbrev pub roomReasons : List ℤ → Head → Reasons
-roomReasons l h = (20, ltb (length l / nodeWidth) (natAbs (h .nodes) + 1))
-    ∷ (21, ltb (suc lastNumber) (natAbs (h .«next_node») + 1)) ∷ []
+addLate s m f x y = (12, not (minusOne f) && not (same (natAbs f) (faceOfPoint m (point x y))))
+    ∷ roomReasons s m (counts 1 0 0) (counts 1 0 0)
 
 -- kind 2, of node row i, from 5 on
 abbrev pub moveReasons : List ℤ → ℕ → List ℤ → ℕ → ℕ → ℤ → ℤ → Reasons

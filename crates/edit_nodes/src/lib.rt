@@ -15,14 +15,14 @@ ghost use Rattle.lists.specs.Tests.{same};
 ghost use Rattle.lists.specs.Scans.{anyOf};
 ghost use Rattle.lists.specs.Tables.{table};
 ghost use Rattle.plane.specs.Points.{InRange, samePoint};
-ghost use Rattle.map.specs.Rows.{mapOf};
+ghost use Rattle.map.specs.Rows.{mapOf, counts};
 ghost use Rattle.map.specs.Tickets.{AddIsoNode, MoveIsoNode, RemoveIsoNode};
 ghost use Rattle.map.specs.Reasons.{firstReason, minusOne, edgeThrough};
 ghost use Rattle.map_rows.specs.Rows.{FaceRows, NodeRows, EdgeRows, facesOf, nodeAt, edgeMap};
+ghost use Rattle.head.specs.Heads.{Counted, changedHead};
 ghost use Rattle.form_ranges.specs.Ranges.{lent};
 ghost use Rattle.outcomes.specs.Outcomes.{Formed, decided, outcome};
-ghost use Rattle.edit_nodes.specs.Heads.{Numbered, added, removed};
-ghost use Rattle.edit_nodes.specs.Parts.{addEarly, roomReasons, moveReasons};
+ghost use Rattle.edit_nodes.specs.Parts.{addEarly, moveReasons};
 
 // ---- leaves
 
@@ -69,30 +69,6 @@ fn is_taken(nodes: &[i64], n: usize, edges: &[i64], count: usize, own: usize, p:
     reason_curves::edge_through(edges, count, p)
 }
 
-// The head with a node more, and its number given.
-fn with_node(h: Head) -> Head
-    requires { ⌜ Numbered h ⌝ }
-    ensures { λ r. ⌜ r ≡ added h ⌝ }
-{
-    let n = h.nodes;
-    let k = h.next_node;
-    let mut after = h;
-    after.nodes = n + 1;
-    after.next_node = k + 1;
-    after
-}
-
-// The head with a node less.
-fn without_node(h: Head) -> Head
-    requires { ⌜ Numbered h × (1 ≤ natAbs (h .nodes)) ⌝ }
-    ensures { λ r. ⌜ r ≡ removed h ⌝ }
-{
-    let n = h.nodes;
-    let mut after = h;
-    after.nodes = n - 1;
-    after
-}
-
 // ---- reasons
 
 // Kind 1: 4, 5 or 10; 0 for none.
@@ -109,37 +85,22 @@ fn add_reason(
     ensures { λ r. ⌜ r ≡ firstReason (addEarly
         (mapOf (lent (now (nodes .entry)) (now (edges .entry)) (now (faces .entry)) h)) face x y) ⌝ }
 {
-    if face_missing(faces, outcomes::to_usize(h.faces), face) {
+    if face_missing(faces, head::to_usize(h.faces), face) {
         return 4;
     }
     if !reason_curves::in_range(x, y) {
         return 5;
     }
-    let n = outcomes::to_usize(h.nodes);
+    let n = head::to_usize(h.nodes);
     if is_taken(
         nodes,
         n,
         edges,
-        outcomes::to_usize(h.edges),
+        head::to_usize(h.edges),
         n,
         reason_curves::point_of(x, y),
     ) {
         10
-    } else {
-        0
-    }
-}
-
-// 20 or 21 against a node more; 0 for none.
-fn room_reason(nodes: &[i64], h: Head) -> u64
-    requires { ⌜ Numbered h ⌝ }
-    ensures { λ r. ⌜ r ≡ firstReason (roomReasons (now (nodes .entry)) h) ⌝ }
-{
-    if nodes.len() / map::NODE_WIDTH < outcomes::to_usize(h.nodes) + 1 {
-        return 20;
-    }
-    if map::NUMBERS < outcomes::to_usize(h.next_node) + 1 {
-        21
     } else {
         0
     }
@@ -175,14 +136,17 @@ fn move_reason(
 
 // A node more: the row after the last, and the head.
 fn push_node(nodes: &mut [i64], h: Head, x: i64, y: i64, around: i64) -> Done
-    requires { ⌜ Numbered h × (natAbs (h .nodes) * 4 + 4 ≤ length (now nodes)) ⌝ }
+    requires { ⌜ Counted h × (natAbs (h .nodes) * 4 + 4 ≤ length (now nodes)) ⌝ }
     ensures { λ r. ⌜ (now (nodes .exit)
         ≡ paste (now (nodes .entry)) (natAbs (h .nodes) * 4) (h .«next_node» ∷ x ∷ y ∷ around ∷ []) 4)
-        × (r ≡ record { head = added h; answer = record { refusal = 0; value = h .«next_node» } }) ⌝ }
+        × (r ≡ record {
+          head = changedHead h (counts 1 0 0) (counts 0 0 0) (counts 1 0 0);
+          answer = record { refusal = 0; value = h .«next_node» };
+        }) ⌝ }
 {
     let number = h.next_node;
-    map_rows::write_node(nodes, outcomes::to_usize(h.nodes), number, x, y, around);
-    outcomes::carried(with_node(h), number)
+    map_rows::write_node(nodes, head::to_usize(h.nodes), number, x, y, around);
+    outcomes::carried(head::changed(h, head::NODE, head::NONE, head::NODE), number)
 }
 
 pub fn add_node(
@@ -204,13 +168,18 @@ pub fn add_node(
     }
     let around = point_location::face_of_point(
         edges,
-        outcomes::to_usize(h.edges),
+        head::to_usize(h.edges),
         reason_curves::point_of(x, y),
     );
     if other_face(face, around) {
         return outcomes::refused(h, 12);
     }
-    let late = room_reason(nodes, h);
+    let late = head::room_reason(
+        head::sizes_of(nodes, edges, faces),
+        h,
+        head::NODE,
+        head::NODE,
+    );
     if late != 0 {
         return outcomes::refused(h, late);
     }
@@ -223,12 +192,12 @@ pub fn move_node(nodes: &mut [i64], edges: &[i64], h: Head, node: i64, x: i64, y
         → outcome (now (nodes .exit)) (now (edges .entry)) faces r
         ≡ decided (lent (now (nodes .entry)) (now (edges .entry)) faces h) (MoveIsoNode node x y)) ⌝ }
 {
-    let n = outcomes::to_usize(h.nodes);
+    let n = head::to_usize(h.nodes);
     let found = tables::find_row(nodes, map::NODE_WIDTH, n, node);
     let Found::At(i) = found else {
         return outcomes::refused(h, 4);
     };
-    let count = outcomes::to_usize(h.edges);
+    let count = head::to_usize(h.edges);
     let reason = move_reason(nodes, n, edges, count, i, x, y);
     if reason != 0 {
         return outcomes::refused(h, reason);
@@ -244,7 +213,7 @@ pub fn remove_node(nodes: &mut [i64], h: Head, node: i64) -> Done
         → outcome (now (nodes .exit)) edges faces r
         ≡ decided (lent (now (nodes .entry)) edges faces h) (RemoveIsoNode node)) ⌝ }
 {
-    let n = outcomes::to_usize(h.nodes);
+    let n = head::to_usize(h.nodes);
     let found = tables::find_row(nodes, map::NODE_WIDTH, n, node);
     let Found::At(i) = found else {
         return outcomes::refused(h, 4);
@@ -253,5 +222,5 @@ pub fn remove_node(nodes: &mut [i64], h: Head, node: i64) -> Done
         return outcomes::refused(h, 9);
     }
     tables::remove_row(nodes, map::NODE_WIDTH, n, i);
-    outcomes::carried(without_node(h), 0)
+    outcomes::carried(head::changed(h, head::NONE, head::NODE, head::NONE), 0)
 }

@@ -4,29 +4,30 @@ use mathlib.Core.Bool.{Bool, true, false, cond, _&&_}
 use mathlib.Core.List.{List, [], _∷_, flatMap}
 use mathlib.Core.Option.{none}
 use Prim.Native.Nat.{ℕ, _+_, _*_, _/_, _<_, _≤_}
-use native.Mathlib.Nat.{add-zero}
 use native.Mathlib.Omega.{arith}
 use lib.IntN.{ℤ, pos, negsuc, natAbs}
 use lib.ListN.{length, length-append}
 use lib.Seq.{paste}
+use Rattle.tables.specs.Tables.{filled}
+use Rattle.tables.proofs.Writes.{pushed}
 use Rattle.curves.specs.Curves.{point, coordinate}
 use Rattle.curves.proofs.Runs.{and-left, and-right, coordinate-pos}
 use Rattle.map.specs.declared.Head.{Head}
 use Rattle.map.specs.Limits.{nodeWidth, edgeWidth}
-use Rattle.map.specs.Rows.{Node, Map, mapOf, lentOf, sizesOf, nodeCells, edgeCells}
-use Rattle.tables.specs.Tables.{filled}
+use Rattle.map.specs.Rows.{Node, Map, mapOf, lentOf, sizesOf, nodeCells, edgeCells, headOf, counts}
 use Rattle.map.specs.Ticket.{carried}
 use Rattle.map.specs.Edits.{split}
+use Rattle.map.proofs.RoundTrip.{nodes-wide}
 use Rattle.map_rows.specs.Rows.{nodesOf, edgesOf, facesOf, edgeAt}
 use Rattle.map_rows.proofs.Rows.{nodes-length, edges-length, faces-length, edges-getD, edge-row-of, edge-number-in}
-use Rattle.tables.proofs.Writes.{pushed}
-use Rattle.map.proofs.RoundTrip.{nodes-wide}
+use Rattle.head.specs.Heads.{changedHead}
+use Rattle.head.proofs.Heads.{head-changed}
 use Rattle.form_ranges.specs.Ranges.{lent}
 use Rattle.outcomes.specs.Outcomes.{Formed}
-use Rattle.outcomes.proofs.Formed.{faces-count, node-next, edge-next, face-next, nodes-filled, edges-filled}
-use Rattle.outcomes.proofs.Formed.{faces-filled, edge-rows, edges-are-wide, edge-numbers-once, lent-is}
+use Rattle.outcomes.proofs.Formed.{node-next, edge-next, nodes-filled, edges-filled, faces-filled, edge-rows}
+use Rattle.outcomes.proofs.Formed.{edges-are-wide, edge-numbers-once, lent-is}
 use Rattle.edit_split.specs.Kinds.{splitTicket}
-use Rattle.edit_split.specs.Cuts.{cutRow, startNumber, endNumber, splitHead}
+use Rattle.edit_split.specs.Cuts.{cutRow, startNumber, endNumber, splitNumbers}
 use Rattle.edit_split.proofs.Cut.{cut-map, split-count}
 
 -- the numbers of a node where edges end
@@ -97,30 +98,17 @@ module _ {nodes edges faces : List ℤ} {h : Head} (f : Formed nodes edges faces
       (nodes-wide (r ∷ []) .0) (rw long (omega arith)))
       ∙ rw (nodes-filled f, long, cells)
 
-  head-after : Map → Head
-  head-after q = record {
-    nodes = pos (length (q .nodes));
-    edges = pos (length (q .edges));
-    faces = pos (length (q .faces));
-    «next_node» = pos (q .nextNode);
-    «next_edge» = pos (q .nextEdge);
-    «next_face» = pos (q .nextFace);
-  }
-
-  head-is : head-after after ≡ splitHead h keeps
-  unfolding mapOf split own m after head-after
+  head-is : headOf after ≡ changedHead h (counts 1 1 0) (counts 0 0 0) (splitNumbers keeps)
+  unfolding mapOf split own m after
   head-is =
-      λ j.
-      record {
-        nodes = ap pos (length-append (nodesOf nodes (natAbs (h .nodes)))
-            (record { number = natAbs (h .«next_node»); at = point x y; face = none } ∷ [])
-            ∙ ap (λ (q : ℕ). q + 1) (nodes-length nodes (natAbs (h .nodes)))) j;
-        edges = ap pos (rows-after .1) j;
-        faces = (ap pos (faces-length faces (natAbs (h .faces))) ∙ sym (faces-count f .0)) j;
-        «next_node» = pos (natAbs (h .«next_node») + 1);
-        «next_edge» = pos (natAbs (h .«next_edge») + cond keeps 1 2);
-        «next_face» = (ap pos (add-zero (natAbs (h .«next_face»))) ∙ sym (face-next f .0)) j;
-      }
+      head-changed h after (counts 1 1 0) (counts 0 0 0) (splitNumbers keeps)
+      (omega (
+        arith,
+        length-append (nodesOf nodes (natAbs (h .nodes)))
+            (record { number = natAbs (h .«next_node»); at = point x y; face = none } ∷ []),
+        nodes-length nodes (natAbs (h .nodes)),
+      )) (omega (arith, rows-after .1))
+      (omega (arith, faces-length faces (natAbs (h .faces)))) refl refl refl
 
   faces-after : after .faces ≡ facesOf faces (natAbs (h .faces))
   unfolding mapOf split own m after
@@ -136,9 +124,9 @@ module _ {nodes edges faces : List ℤ} {h : Head} (f : Formed nodes edges faces
       (endNumber h keeps)
       → (lentOf (sizesOf (lent nodes edges faces h))
       (carried (mapOf (lent nodes edges faces h)) (splitTicket keeps z x y) .0)
-      ≡ lent nodes′ edges′ faces (splitHead h keeps))
+      ≡ lent nodes′ edges′ faces (changedHead h (counts 1 1 0) (counts 0 0 0) (splitNumbers keeps)))
       × (carried (mapOf (lent nodes edges faces h)) (splitTicket keeps z x y) .1 ≡ h .«next_node»)
-  unfolding own m after head-after
+  unfolding own m after
   split-lent en ee = (
     ap (λ (q : Map). lentOf (sizesOf (lent nodes edges faces h)) q)
         (ap (λ (c : Map × ℤ). c .0) (carried-is keeps z x y m)

@@ -1,9 +1,7 @@
--- An edge row cut in two, in the numbers of the table; the reasons of a split in parts, and the head after it.
-use mathlib.Core.Path.{_≡_}
-use mathlib.Core.Bool.{Bool, cond, not, _||_}
+-- An edge row cut in two, in the numbers of the table; the reasons of a split in parts, and its numbers.
+use mathlib.Core.Bool.{Bool, cond, not}
 use mathlib.Core.List.{List, [], _∷_}
-use Prim.Native.Nat.{ℕ, suc, _+_, _*_, _-_, _/_, _≤_}
-use lib.Dec.{ltb}
+use Prim.Native.Nat.{ℕ, _+_, _*_, _-_, _/_}
 use lib.IntN.{ℤ, pos, negℤ, natAbs}
 use lib.ListN.{length, getD}
 use lib.Seq.{paste}
@@ -12,9 +10,10 @@ use Rattle.curves.specs.Curves.{points, point}
 use Rattle.curves.specs.Tests.{onCurve}
 use Rattle.curves.specs.Edits.{front, back}
 use Rattle.curve_edits.specs.Lines.{lineOf}
+use Rattle.map.specs.declared.Counts.{Counts}
 use Rattle.map.specs.declared.Head.{Head}
-use Rattle.map.specs.Limits.{maxNodes, maxEdges, nodeWidth, edgeWidth, lastNumber}
-use Rattle.map.specs.Rows.{dartCell}
+use Rattle.map.specs.Limits.{maxFaces, nodeWidth, edgeWidth}
+use Rattle.map.specs.Rows.{dartCell, counts}
 use Rattle.map.specs.Reasons.{Reasons, outside, nodeAt}
 use Rattle.tables.specs.Tables.{closed}
 use Rattle.map_rows.specs.Rows.{edgeAt, nodesOf}
@@ -76,36 +75,13 @@ pointReasons nodes n edges i x y =
     (5, outside x y) ∷ (10, nodeAt (nodesOf nodes n) (point x y))
     ∷ (13, not (onCurve (edgeAt edges i .curve) (point x y))) ∷ []
 
--- how many edge numbers are given
-abbrev pub given : Bool → ℕ
-given keeps = cond keeps 1 2
+-- the numbers that are given: a node's, and one edge's or two
+abbrev pub splitNumbers : Bool → Counts
+splitNumbers keeps = counts 1 (cond keeps 1 2) 0
 
--- 20 and 21, of nodes and edges alone
-abbrev pub roomReasons : List ℤ → List ℤ → Head → Bool → Reasons
-roomReasons nodes edges h keeps = (
-  20,
-  ltb (length nodes / nodeWidth) (natAbs (h .nodes) + 1)
-      || ltb (length edges / edgeWidth) (natAbs (h .edges) + 1),
-)
-    ∷ (
-      21,
-      ltb (suc lastNumber) (natAbs (h .«next_node») + 1)
-          || ltb (suc lastNumber) (natAbs (h .«next_edge») + given keeps),
-    )
-    ∷ []
-
--- ---- the head
-
--- counts and next numbers as tables in form have them
-pub record Numbered (h : Head) : Type 0 where
-  pub nodes : h .nodes ≡ pos (natAbs (h .nodes))
-  pub few-nodes : natAbs (h .nodes) ≤ maxNodes
-  pub edges : h .edges ≡ pos (natAbs (h .edges))
-  pub few-edges : natAbs (h .edges) ≤ maxEdges
-  pub next-node : h .«next_node» ≡ pos (natAbs (h .«next_node»))
-  pub node-given : natAbs (h .«next_node») ≤ suc lastNumber
-  pub next-edge : h .«next_edge» ≡ pos (natAbs (h .«next_edge»))
-  pub edge-given : natAbs (h .«next_edge») ≤ suc lastNumber
+-- the room of nodes and edges; no face is added
+abbrev pub splitSizes : List ℤ → List ℤ → Counts
+splitSizes nodes edges = counts (length nodes / nodeWidth) (length edges / edgeWidth) maxFaces
 
 -- the numbers of the two halves
 abbrev pub startNumber : Head → Bool → ℤ → ℤ
@@ -113,15 +89,3 @@ startNumber h keeps edge = cond keeps edge (h .«next_edge»)
 
 abbrev pub endNumber : Head → Bool → ℤ
 endNumber h keeps = pos (cond keeps (natAbs (h .«next_edge»)) (natAbs (h .«next_edge») + 1))
-
--- a node and an edge more, and their numbers given
-abbrev pub splitHead : Head → Bool → Head
-splitHead h keeps =
-    record {
-      nodes = pos (natAbs (h .nodes) + 1);
-      edges = pos (natAbs (h .edges) + 1);
-      faces = h .faces;
-      «next_node» = pos (natAbs (h .«next_node») + 1);
-      «next_edge» = pos (natAbs (h .«next_edge») + given keeps);
-      «next_face» = h .«next_face»;
-    }

@@ -1,7 +1,10 @@
 // Kinds 7 and 8: an edge split.
 use curve_edits::Line;
 use lists::Found;
+use map::Counts;
 use map::Head;
+use map::Map;
+use map_rows::Incidence;
 use map_rows::Incidence;
 use outcomes::Done;
 use plane::Point;
@@ -16,14 +19,16 @@ ghost use Rattle.curves.specs.Curves.{points, point, coordinate};
 ghost use Rattle.curves.specs.Tests.{onCurve};
 ghost use Rattle.curves.specs.Edits.{front, back};
 ghost use Rattle.curve_edits.specs.Lines.{lineOf};
+ghost use Rattle.map.specs.Rows.{counts};
 ghost use Rattle.map.specs.Reasons.{firstReason};
 ghost use Rattle.map_rows.specs.Rows.{EdgeRow, NodeRows, edgeAt};
-ghost use Rattle.form_ranges.specs.Ranges.{lent};
 ghost use Rattle.map_rows.specs.Cells.{cellsOf};
+ghost use Rattle.head.specs.Heads.{Counted, changedHead, roomAt};
+ghost use Rattle.form_ranges.specs.Ranges.{lent};
 ghost use Rattle.outcomes.specs.Outcomes.{Formed, decided, outcome};
 ghost use Rattle.edit_split.specs.Kinds.{splitTicket};
-ghost use Rattle.edit_split.specs.Cuts.{renamed, startSides, endSides, placed, cutRow, pointReasons, given};
-ghost use Rattle.edit_split.specs.Cuts.{roomReasons, Numbered, startNumber, endNumber, splitHead};
+ghost use Rattle.edit_split.specs.Cuts.{renamed, startSides, endSides, placed, cutRow, pointReasons};
+ghost use Rattle.edit_split.specs.Cuts.{splitNumbers, splitSizes, startNumber, endNumber};
 
 // ---- an edge row cut in two
 
@@ -145,32 +150,29 @@ fn point_reason(nodes: &[i64], n: usize, edges: &[i64], i: usize, x: i64, y: i64
     if lies_on(edges, i, p) { 0 } else { 13 }
 }
 
-// How many edge numbers are given.
-fn given_of(keeps: bool) -> usize
-    ensures { λ r. ⌜ r ≡ given keeps ⌝ }
+// The numbers that are given: a node's, and one edge's or two.
+fn split_numbers(keeps: bool) -> Counts
+    ensures { λ r. ⌜ r ≡ splitNumbers keeps ⌝ }
 {
-    if keeps { 1 } else { 2 }
+    Counts {
+        nodes: 1,
+        edges: if keeps { 1 } else { 2 },
+        faces: 0,
+    }
 }
 
-// 20 or 21 against a node and an edge more; 0 for none.
+// 20 or 21 against a node and an edge more; 0 for none. No face is added, so the limit stands for the faces' room.
 fn room_reason(nodes: &[i64], edges: &[i64], h: Head, keeps: bool) -> u64
-    requires { ⌜ Numbered h ⌝ }
-    ensures { λ r. ⌜ r ≡ firstReason (roomReasons (now (nodes .entry)) (now (edges .entry)) h keeps) ⌝ }
+    requires { ⌜ Counted h ⌝ }
+    ensures { λ r. ⌜ r ≡ firstReason (roomAt (splitSizes (now (nodes .entry)) (now (edges .entry))) h (counts 1 1 0)
+        (splitNumbers keeps)) ⌝ }
 {
-    if nodes.len() / map::NODE_WIDTH < outcomes::to_usize(h.nodes) + 1 {
-        return 20;
-    }
-    if edges.len() / map::EDGE_WIDTH < outcomes::to_usize(h.edges) + 1 {
-        return 20;
-    }
-    if map::NUMBERS < outcomes::to_usize(h.next_node) + 1 {
-        return 21;
-    }
-    if map::NUMBERS < outcomes::to_usize(h.next_edge) + given_of(keeps) {
-        21
-    } else {
-        0
-    }
+    let sizes = Counts {
+        nodes: nodes.len() / map::NODE_WIDTH,
+        edges: edges.len() / map::EDGE_WIDTH,
+        faces: Map::FACES,
+    };
+    head::room_reason(sizes, h, head::NODE_AND_EDGE, split_numbers(keeps))
 }
 
 // ---- the split
@@ -184,7 +186,7 @@ fn start_number(h: Head, keeps: bool, edge: i64) -> i64
 }
 
 fn end_number(h: Head, keeps: bool) -> i64
-    requires { ⌜ Numbered h ⌝ }
+    requires { ⌜ Counted h ⌝ }
     ensures { λ r. ⌜ r ≡ endNumber h keeps ⌝ }
 {
     let next = h.next_edge;
@@ -193,31 +195,22 @@ fn end_number(h: Head, keeps: bool) -> i64
 
 // The head with a node and an edge more, and their numbers given.
 fn after_split(h: Head, keeps: bool) -> Head
-    requires { ⌜ Numbered h ⌝ }
-    ensures { λ r. ⌜ r ≡ splitHead h keeps ⌝ }
+    requires { ⌜ Counted h ⌝ }
+    ensures { λ r. ⌜ r ≡ changedHead h (counts 1 1 0) (counts 0 0 0) (splitNumbers keeps) ⌝ }
 {
-    let n = h.nodes;
-    let e = h.edges;
-    let node = h.next_node;
-    let last = end_number(h, keeps);
-    let mut after = h;
-    after.nodes = n + 1;
-    after.edges = e + 1;
-    after.next_node = node + 1;
-    after.next_edge = last + 1;
-    after
+    head::changed(h, head::NODE_AND_EDGE, head::NONE, split_numbers(keeps))
 }
 
 // The edge of row i cut, and the new node.
 fn cut_edge(edges: &mut [i64], h: Head, i: usize, keeps: bool, edge: i64, x: i64, y: i64)
-    requires { ⌜ Numbered h × EdgeRow (now edges) i × (i < natAbs (h .edges))
+    requires { ⌜ Counted h × EdgeRow (now edges) i × (i < natAbs (h .edges))
         × (natAbs (h .edges) * 32 + 32 ≤ length (now edges)) × (nonNeg edge ≡ true)
         × ((coordinate x && coordinate y) ≡ true) ⌝ }
     ensures { λ r. ⌜ now (edges .exit) ≡ cutRow (now (edges .entry)) (natAbs (h .edges)) i (h .«next_node»)
         (point x y) keeps (startNumber h keeps edge) (endNumber h keeps) ⌝ }
 {
     let node = h.next_node;
-    let e = outcomes::to_usize(h.edges);
+    let e = head::to_usize(h.edges);
     let p = reason_curves::point_of(x, y);
     let a = start_number(h, keeps, edge);
     let b = end_number(h, keeps);
@@ -238,11 +231,11 @@ pub fn split_edge(
         → outcome (now (nodes .exit)) (now (edges .exit)) faces r
         ≡ decided (lent (now (nodes .entry)) (now (edges .entry)) faces h) (splitTicket keeps edge x y)) ⌝ }
 {
-    let found = tables::find_row(edges, map::EDGE_WIDTH, outcomes::to_usize(h.edges), edge);
+    let found = tables::find_row(edges, map::EDGE_WIDTH, head::to_usize(h.edges), edge);
     let Found::At(i) = found else {
         return outcomes::refused(h, 4);
     };
-    let early = point_reason(nodes, outcomes::to_usize(h.nodes), edges, i, x, y);
+    let early = point_reason(nodes, head::to_usize(h.nodes), edges, i, x, y);
     if early != 0 {
         return outcomes::refused(h, early);
     }
@@ -252,6 +245,6 @@ pub fn split_edge(
     }
     let node = h.next_node;
     cut_edge(edges, h, i, keeps, edge, x, y);
-    map_rows::write_node(nodes, outcomes::to_usize(h.nodes), node, x, y, -1);
+    map_rows::write_node(nodes, head::to_usize(h.nodes), node, x, y, -1);
     outcomes::carried(after_split(h, keeps), node)
 }

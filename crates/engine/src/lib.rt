@@ -5,19 +5,34 @@ use outcomes::Done;
 ghost use mathlib.Core.Path.{_≡_};
 ghost use mathlib.Core.List.{map};
 ghost use Prim.Native.Nat.{min, _≤_};
-ghost use lib.ListN.{length};
+ghost use lib.IntN.{pos};
+ghost use lib.ListN.{length, replicate};
 ghost use Rattle.map.specs.Ticket.{ticket, emptied, edgesOfFace};
 ghost use Rattle.map.specs.Grow.{Grown, after};
 ghost use Rattle.form_ranges.specs.Ranges.{lent};
 ghost use Rattle.outcomes.specs.Outcomes.{outcome};
 ghost use Rattle.engine.specs.Runs.{ticketsOf, front, Runs};
 
+// Every number of the table is 0.
+fn wipe(t: &mut [i64])
+    ensures { λ r. ⌜ now (t .exit) ≡ replicate (length (now (t .entry))) (pos 0) ⌝ }
+{
+    let n = t.len();
+    tables::clear(t, 0, n);
+}
+
 // The empty map everywhere in the tables, whatever they and the head held; 1 where the tables are not whole.
 pub fn empty_map(nodes: &mut [i64], edges: &mut [i64], faces: &mut [i64], h: Head) -> Done
     ensures { λ r. ⌜ outcome (now (nodes .exit)) (now (edges .exit)) (now (faces .exit)) r
         ≡ emptied (lent (now (nodes .entry)) (now (edges .entry)) (now (faces .entry)) h) ⌝ }
 {
-    emptying::empty_map(nodes, edges, faces, h)
+    if !form_ranges::is_whole(nodes, edges, faces) {
+        return outcomes::refused(h, 1);
+    }
+    wipe(nodes);
+    wipe(edges);
+    wipe(faces);
+    outcomes::carried(head::empty(), 0)
 }
 
 // One ticket, on any tables and any run of numbers.
@@ -116,7 +131,7 @@ pub fn run(
     if (refusals.len() < n) | (values.len() < n) {
         return outcomes::refused(h, 20);
     }
-    let empty = emptying::empty_map(nodes, edges, faces, h);
+    let empty = empty_map(nodes, edges, faces, h);
     let after = run_tickets(
         nodes,
         edges,

@@ -14,6 +14,7 @@ use Rattle.lists.specs.Tables.{place}
 use Rattle.lists.specs.declared.Found.the-variants.{At, Missing}
 use Rattle.planar_maps.specs.Map.{Dart, Linked}
 use Rattle.planar_maps.specs.Rings.{sameDart}
+use Rattle.tables.specs.Tables.{sameZ, column}
 use Rattle.map.specs.declared.Head.{Head}
 use Rattle.map.specs.Limits.{faceWidth}
 use Rattle.map.specs.Rows.{Map, Lent, mapOf, whole, edge}
@@ -21,15 +22,15 @@ use Rattle.map.specs.Darts.{arcs, directed, leaves, next, bears, stepsTo, ring,
 use Rattle.map.specs.Form.{formed, inForm}
 use Rattle.map.specs.Reasons.{firstReason, noFace}
 use Rattle.map.specs.Ticket.{Listed, ringNumbers, faceEdges, edgesOfFace}
-use Rattle.map.proofs.Linked as form-linked
-use Rattle.tables.specs.Tables.{sameZ, column}
 use Rattle.map_rows.specs.Rows.{faceAt, edgeMap}
 use Rattle.map_rows.proofs.Rows.{face-number-in}
 use Rattle.map_rows.proofs.Lookups.{face-found, face-missing}
-use Rattle.form_ranges.specs.Ranges.{lent, countsOf, mapIn}
+use Rattle.head.specs.Heads.{countsOf}
+use Rattle.form_ranges.specs.Ranges.{lent, mapIn}
 use Rattle.form_ranges.proofs.Parts.{face-rows, edge-rows, map-is}
 use Rattle.form.proofs.Parts.{InForm, whole-room}
 use Rattle.face_edges.specs.Listing.{Rings}
+use Rattle.map.proofs.Linked as form-linked
 
 -- ---- the answer
 

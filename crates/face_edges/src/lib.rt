@@ -88,7 +88,7 @@ pub fn edges_of_face(
     if !form::in_form(nodes, edges, faces, h) {
         return answered(2, 0);
     }
-    let c = form_ranges::counts_of(h);
+    let c = head::counts_of(h);
     let found = tables::find_row(faces, map::FACE_WIDTH, c.faces, face);
     let Found::At(i) = found else {
         return answered(4, 0);

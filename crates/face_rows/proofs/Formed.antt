@@ -20,7 +20,8 @@ use Rattle.tables.proofs.Rows.{all-table}
 use Rattle.map_rows.proofs.Rows.{edges-table, faces-length, nodes-length, edges-length}
 use Rattle.form_ranges.specs.Ranges.{lent}
 use Rattle.outcomes.specs.Outcomes.{Formed}
-use Rattle.outcomes.proofs.Formed.{formed-map, nodes-count, edges-count, faces-count, node-next, edge-next, face-next}
+use Rattle.head.proofs.Heads.{head-same}
+use Rattle.outcomes.proofs.Formed.{formed-map, counted}
 use Rattle.outcomes.proofs.Formed.{nodes-size, edges-size, faces-size, faces-fit, node-rows, edge-rows, face-rows}
 use Rattle.outcomes.proofs.Formed.{nodes-filled, edges-filled, faces-filled, lent-is}
 use Rattle.face_rows.specs.Holds.{facesIn, Held, Healable, Holds}
@@ -44,15 +45,8 @@ held-holds {nodes} {edges} {faces} {h} k =
       node-cells = k .node-cells;
       edge-cells = k .edge-cells;
       face-cells = k .face-table .cells;
-      head = λ i.
-          record {
-            nodes = (ap pos (nodes-length nodes (natAbs (h .nodes))) ∙ sym (k .nodes-count)) i;
-            edges = (ap pos (edges-length edges (natAbs (h .edges))) ∙ sym (k .edges-count)) i;
-            faces = (ap pos (faces-length faces (natAbs (h .faces))) ∙ sym (k .faces-count)) i;
-            «next_node» = sym (k .next-node) i;
-            «next_edge» = sym (k .next-edge) i;
-            «next_face» = sym (k .next-face) i;
-          };
+      head = head-same (k .counted) (mapOf (lent nodes edges faces h)) (nodes-length nodes (natAbs (h .nodes)))
+          (edges-length edges (natAbs (h .edges))) (faces-length faces (natAbs (h .faces))) refl refl refl;
     }
 
 module _ {nodes edges faces : List ℤ} {h : Head} (f : Formed nodes edges faces h) where
@@ -72,16 +66,7 @@ module _ {nodes edges faces : List ℤ} {h : Head} (f : Formed nodes edges faces
               rising = face-rows f .rising;
               fits = rw (faces-length faces (natAbs (h .faces))) (omega (arith, faces-fit f));
             };
-        nodes-count = nodes-count f .0;
-        edges-count = edges-count f .0;
-        faces-count = faces-count f .0;
-        next-node = node-next f .0;
-        next-edge = edge-next f .0;
-        next-face = face-next f .0;
-        few-nodes = omega (arith, nodes-count f .2, nodes-size f .1);
-        few-edges = omega (arith, edges-count f .2, edges-size f .1);
-        few-faces = omega (arith, faces-count f .2, faces-size f .1);
-        next-most = face-next f .2;
+        counted = counted f;
       }
 
   pub holds-before : Holds nodes edges faces (mapOf (lent nodes edges faces h)) nodes edges faces h

@@ -17,7 +17,7 @@ use Rattle.tables.proofs.Filled.{Wide, rows-flat, filled-long}
 use Rattle.map.specs.declared.Head.{Head}
 use Rattle.map.specs.Limits.{edgeWidth, lastNumber}
 use Rattle.map.specs.Rows.{Node, Edge, Map, nodeCells, edgeCells, edgeOf, mapOf, edge, hasEdge, setFaces, given}
-use Rattle.map.specs.Rows.{atNodes}
+use Rattle.map.specs.Rows.{atNodes, counts}
 use Rattle.map.specs.Darts.{leaves, next, departures}
 use Rattle.map.specs.Links.{redirect, unlinkEdge}
 use Rattle.map.specs.Form.{edgeRanges}
@@ -35,8 +35,8 @@ use native.Mathlib.Nat.{zero-add}
 -- ---- the edge undrawn
 
 -- an edge undrawn leaves faces and numbers
-pub undrawn-after : (e f : ℕ) (fs : List ℕ) (k : ℕ) (m : Map) → undrawn e f (setFaces fs (given 0 0 k m))
-    ≡ setFaces fs (given 0 0 k (undrawn e f m))
+pub undrawn-after : (e f : ℕ) (fs : List ℕ) (k : ℕ) (m : Map) → undrawn e f (setFaces fs (given (counts 0 0 k) m))
+    ≡ setFaces fs (given (counts 0 0 k) (undrawn e f m))
 unfolding undrawn unlinkEdge redirect atNodes next leaves departures edge
 undrawn-after e f fs k m = refl
 

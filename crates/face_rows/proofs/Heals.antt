@@ -4,7 +4,7 @@ use mathlib.Core.Bool.{Bool, true, false, cond, not, _&&_, _||_}
 use mathlib.Core.Logic.{inl, inr}
 use mathlib.Core.List.{List, [], _∷_, _++_, flatMap}
 use Prim.Native.Nat.{ℕ, _+_, _-_, min}
-use native.Mathlib.Nat.{add-zero, min-comm, min-eq-left}
+use native.Mathlib.Nat.{min-comm, min-eq-left}
 use native.Mathlib.Omega.{arith}
 use lib.Dec.{ltb}
 use lib.IntN.{ℤ, pos, natAbs}
@@ -16,13 +16,16 @@ use Rattle.lists.specs.Scans.{anyOf, keep}
 use Rattle.lists.proofs.Bools.{which, same-true, same-refl, same-false, differ}
 use Rattle.tables.specs.Tables.{filled}
 use Rattle.map.specs.declared.Head.{Head}
-use Rattle.map.specs.Rows.{Edge, mapOf, headOf, nodeCells, edgeCells}
+use Rattle.map.specs.Rows.{Edge, mapOf, headOf, nodeCells, edgeCells, counts}
 use Rattle.map.specs.Edits.{renamed, renamedNode, renamedFaces, withSides}
 use Rattle.map_rows.specs.Rows.{nodesOf, edgesOf, facesOf}
 use Rattle.map_rows.proofs.Rows.{nodes-length, edges-length, faces-length}
+use Rattle.head.specs.Heads.{changedHead}
+use Rattle.head.proofs.Heads.{head-changed}
 use Rattle.form_ranges.specs.Ranges.{lent}
-use Rattle.face_rows.specs.Holds.{facesIn, FaceTable, withoutFace, Healable, Holds, healedHead, faceKept, healed}
+use Rattle.face_rows.specs.Holds.{facesIn, FaceTable, withoutFace, Healable, Holds, faceKept, healed}
 use Rattle.face_rows.proofs.FaceRows.{table-rising, table-distinct, without-length, still-there}
+use Rattle.lists.proofs.Rising as scanning
 use Rattle.lists.proofs.Rising as scanning
 use Rattle.lists.proofs.Rising as scanning
 
@@ -161,26 +164,25 @@ module _ {nodes edges faces : List ℤ} {h : Head} {left right : ℤ} (p : Heala
       (λ e. let k = p .left-below in let j = el in omega arith)
       (λ e. let k = p .right-below in let j = er in omega arith)
 
-  head-is : headOf (healed makes row (mapOf (lent nodes edges faces h))) ≡ healedHead makes h
+  head-is : headOf (healed makes row (mapOf (lent nodes edges faces h)))
+      ≡ changedHead h (counts 0 0 0) (counts 0 0 1) (counts 0 0 (bit makes))
   unfolding mapOf renamedFaces
   head-is =
       let ns = nodesOf nodes (natAbs (h .nodes)) in
       let es = edgesOf edges (natAbs (h .edges)) in
       let f = faceKept makes row (mapOf (lent nodes edges faces h)) in
       let held = p .held in
-      λ i.
-      record {
-        nodes = (ap pos (length-map ns (λ n. renamedNode row f n (n .face)) ∙ nodes-length nodes (natAbs (h .nodes)))
-            ∙ sym (held .nodes-count)) i;
-        edges = (ap pos (length-map es (λ r. withSides (renamed row f (r .left)) (renamed row f (r .right)) r)
-            ∙ edges-length edges (natAbs (h .edges))) ∙ sym (held .edges-count)) i;
-        faces = ap pos (ap length faces-are
-            ∙ one-less makes (row .left) (row .right) f (natAbs (h .faces)) (held .face-table)
-            (faces-length faces (natAbs (h .faces))) sides-differ there-left there-right) i;
-        «next_node» = (ap pos (add-zero (natAbs (h .«next_node»))) ∙ sym (held .next-node)) i;
-        «next_edge» = (ap pos (add-zero (natAbs (h .«next_edge»))) ∙ sym (held .next-edge)) i;
-        «next_face» = pos (natAbs (h .«next_face») + bit makes);
-      }
+      let long = faces-length faces (natAbs (h .faces)) in
+      let n = length-map ns (λ n. renamedNode row f n (n .face)) ∙ nodes-length nodes (natAbs (h .nodes)) in
+      let e = length-map es (λ r. withSides (renamed row f (r .left)) (renamed row f (r .right)) r)
+      ∙ edges-length edges (natAbs (h .edges)) in
+      let k = ap length faces-are
+      ∙ one-less makes (row .left) (row .right) f (natAbs (h .faces)) (held .face-table) long sides-differ there-left
+      there-right in
+      let some = without-length (row .left) (facesOf faces (natAbs (h .faces))) (table-distinct (held .face-table))
+      there-left in
+      head-changed h (healed makes row (mapOf (lent nodes edges faces h))) (counts 0 0 0) (counts 0 0 1)
+      (counts 0 0 (bit makes)) (omega (arith, n)) (omega (arith, e)) (omega (arith, k, some, long)) refl refl refl
 
   -- what the functions below leave, in the map's terms
   pub healed-holds : (f : ℕ) → f ≡ faceKept makes row (mapOf (lent nodes edges faces h))
@@ -192,7 +194,7 @@ module _ {nodes edges faces : List ℤ} {h : Head} {left right : ℤ} (p : Heala
       → facesIn (length faces) (cond makes
       (withoutFace (natAbs right) (withoutFace (natAbs left) (facesOf faces (natAbs (h .faces)))) ++ f ∷ [])
       (withoutFace (natAbs (cond (ltZ left right) right left)) (facesOf faces (natAbs (h .faces))))) ≡ faces′
-      → h′ ≡ healedHead makes h
+      → h′ ≡ changedHead h (counts 0 0 0) (counts 0 0 1) (counts 0 0 (bit makes))
       → Holds nodes edges faces (healed makes row (mapOf (lent nodes edges faces h))) nodes′ edges′ faces′ h′
   healed-holds f ef nodes′ edges′ faces′ h′ en ee efs eh =
       let m = mapOf (lent nodes edges faces h) in

@@ -13,24 +13,26 @@ use Rattle.lists.specs.Tests.{same}
 use Rattle.lists.specs.Scans.{anyOf, keep}
 use Rattle.lists.proofs.Bools.{≡→T, cond-has}
 use Rattle.lists.proofs.Counts.{bit-most}
-use Rattle.plane.specs.Areas.{isPositive}
 use Rattle.planar_maps.specs.Map.{Dart, fwd, bwd}
-use Rattle.map.specs.declared.Head.{Head}
-use Rattle.map.specs.Rows.{Edge, Map, mapOf, headOf, nodeCells, edgeCells, edge, setFaces, given}
 use Rattle.tables.specs.Tables.{filled}
+use Rattle.plane.specs.Areas.{isPositive}
+use Rattle.map.specs.declared.Head.{Head}
+use Rattle.map.specs.Rows.{Edge, Map, mapOf, headOf, nodeCells, edgeCells, edge, setFaces, given, counts}
 use Rattle.map.specs.Darts.{bears, course, ring}
 use Rattle.map.specs.Faces.{ringArea}
 use Rattle.map.specs.Edits.{Shares, sideOfNode, sideOfDart, withSides, sharedOut, splitFace}
 use Rattle.map_rows.specs.Rows.{nodesOf, edgesOf, facesOf, edgeAt, edgeMap}
 use Rattle.map_rows.proofs.Rows.{nodes-length, edges-length, faces-length}
+use Rattle.head.specs.Heads.{changedHead}
+use Rattle.head.proofs.Heads.{head-changed}
+use Rattle.head.proofs.Words.{is-natural}
 use Rattle.darts.specs.Positions.{dartAt}
 use Rattle.darts.proofs.Positions.{dart-even, dart-odd, edge-of}
 use Rattle.form_ranges.specs.Ranges.{lent}
 use Rattle.face_relabel.specs.declared.Sides.{Sides}
 use Rattle.face_relabel.specs.Sharing.{Shared}
-use Rattle.outcomes.proofs.Words.{is-natural}
 use Rattle.face_rows.specs.Holds.{facesIn, FaceTable, withoutFace, Splittable, Holds, sharesIn, sidesOf}
-use Rattle.face_rows.specs.Holds.{splitFaces, splitHead}
+use Rattle.face_rows.specs.Holds.{splitFaces}
 use Rattle.face_rows.proofs.FaceRows.{table-distinct, without-length}
 use Rattle.face_rows.proofs.Shares.{ring-any}
 
@@ -88,7 +90,7 @@ module _ {nodes edges faces : List ℤ} {h : Head} {old : ℤ} (p : Splittable n
 
   abbrev splitBy : ℕ → Bool → Bool → Map
   splitBy o isLeft goes = setFaces (facesBy o goes)
-      (given 0 0 (cond goes 2 1) (sharedOut (sharesBy o isLeft goes) drawn))
+      (given (counts 0 0 (cond goes 2 1)) (sharedOut (sharesBy o isLeft goes) drawn))
 
   split-by : (news : Bool) → splitFace news number drawn
       ≡ splitBy (bears drawn (fwd number)) (isPositive (sgn (ringArea drawn (ring drawn (fwd number)))))
@@ -126,27 +128,22 @@ module _ {nodes edges faces : List ℤ} {h : Head} {old : ℤ} (p : Splittable n
   faces-are true = refl
   faces-are false = refl
 
-  head-is : (isLeft goes : Bool) → headOf (splitBy (natAbs old) isLeft goes) ≡ splitHead goes h
+  head-is : (isLeft goes : Bool) → headOf (splitBy (natAbs old) isLeft goes)
+      ≡ changedHead h (counts 0 0 1) (counts 0 0 0) (counts 0 0 (cond goes 2 1))
   unfolding mapOf sharedOut
   head-is isLeft goes =
       let ns = nodesOf nodes (natAbs (h .nodes)) in
       let es = edgesOf edges (natAbs (h .edges)) in
       let s = sharesBy (natAbs old) isLeft goes in
       let held = p .held in
-      λ i.
-      record {
-        nodes = (ap pos (length-map ns (λ n. sideOfNode drawn s n (n .face)) ∙ nodes-length nodes (natAbs (h .nodes)))
-            ∙ sym (held .nodes-count)) i;
-        edges = (ap pos (length-map es (λ e. withSides (sideOfDart drawn s (fwd (e .number)))
-            (sideOfDart drawn s (bwd (e .number))) e) ∙ edges-length edges (natAbs (h .edges)))
-            ∙ sym (held .edges-count)) i;
-        faces = ap pos (ap length (faces-are goes)
-            ∙ one-more goes (natAbs old) (natAbs (h .«next_face»)) (natAbs (h .faces)) (held .face-table)
-            (faces-length faces (natAbs (h .faces))) (p .there)) i;
-        «next_node» = (ap pos (add-zero (natAbs (h .«next_node»))) ∙ sym (held .next-node)) i;
-        «next_edge» = (ap pos (add-zero (natAbs (h .«next_edge»))) ∙ sym (held .next-edge)) i;
-        «next_face» = pos (natAbs (h .«next_face») + cond goes 2 1);
-      }
+      let n = length-map ns (λ n. sideOfNode drawn s n (n .face)) ∙ nodes-length nodes (natAbs (h .nodes)) in
+      let e = length-map es (λ e. withSides (sideOfDart drawn s (fwd (e .number)))
+      (sideOfDart drawn s (bwd (e .number))) e) ∙ edges-length edges (natAbs (h .edges)) in
+      let f = ap length (faces-are goes)
+      ∙ one-more goes (natAbs old) (natAbs (h .«next_face»)) (natAbs (h .faces)) (held .face-table)
+      (faces-length faces (natAbs (h .faces))) (p .there) in
+      head-changed h (splitBy (natAbs old) isLeft goes) (counts 0 0 1) (counts 0 0 0) (counts 0 0 (cond goes 2 1))
+      (omega (arith, n)) (omega (arith, e)) (omega (arith, f)) refl refl refl
 
   -- what the functions below leave, in the map's terms
   pub split-holds : (news isLeft goes : Bool) → isPositive (sgn (ringArea drawn (ring drawn (fwd number)))) ≡ isLeft
@@ -159,7 +156,7 @@ module _ {nodes edges faces : List ℤ} {h : Head} {old : ℤ} (p : Splittable n
       ≡ edges′
       → facesIn (length faces) (splitFaces goes (natAbs old) (natAbs (h .«next_face»))
       (facesOf faces (natAbs (h .faces)))) ≡ faces′
-      → h′ ≡ splitHead goes h
+      → h′ ≡ changedHead h (counts 0 0 1) (counts 0 0 0) (counts 0 0 (cond goes 2 1))
       → Holds nodes edges faces (splitFace news number drawn) nodes′ edges′ faces′ h′
   split-holds news isLeft goes il ig s es nodes′ edges′ faces′ h′ en ee ef eh =
       let same-map : splitBy (natAbs old) isLeft goes ≡ splitFace news number drawn =
@@ -183,14 +180,14 @@ module _ {nodes edges faces : List ℤ} {h : Head} {old : ℤ} (p : Splittable n
   sides-shared isLeft goes =
       let k = p .held in
       let o = is-natural old (p .borne ∙ ap (λ (z : ℤ). pos (natAbs z)) (sym (p .borne))) in
-      let a = is-natural (h .«next_face») (k .next-face) in
+      let a = is-natural (h .«next_face») (k .counted .next-face .natural) in
       let natural : ℤ → Type 0 = λ z. nonNeg z ≡ true in
       let b = cond-has natural goes {x = pos (natAbs (h .«next_face») + 1)} refl o in
       let first = isLeft || not goes in
       record {
         nodes = k .node-rows;
         edges = k .edge-rows;
-        few = k .few-edges;
+        few = k .counted .edges .most;
         ring = let j = p .drawn in let t = bit-most (not isLeft) in omega arith;
         old = ≡→T (nonNeg old) o;
         inside = ≡→T (nonNeg (cond first (h .«next_face») (cond goes (pos (natAbs (h .«next_face») + 1)) old)))

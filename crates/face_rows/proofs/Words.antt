@@ -1,8 +1,8 @@
--- Numbers picked, and the lower of two. Assumes nothing.
+-- One of two numbers, and the lower of two. Assumes nothing.
 use mathlib.Core.Path.{_≡_, refl, sym, ap, _∙_}
 use mathlib.Core.Bool.{Bool, true, false, cond}
 use mathlib.Core.Logic.{inl, inr}
-use Prim.Native.Nat.{ℕ, zero, suc, _≤_, min}
+use Prim.Native.Nat.{ℕ, zero, suc, min}
 use native.Mathlib.Nat.{min-comm, min-eq-left}
 use native.Mathlib.Omega.{arith}
 use lib.Dec.{ltb}
@@ -15,13 +15,6 @@ use borrow.Author.Tests.{ltb-true, ltb-false, lt-ltb}
 use Rattle.integers.specs.Order.{sgn}
 use Rattle.lists.proofs.Bools.{which, cond-has}
 use Rattle.plane.specs.Areas.{isPositive}
-use Rattle.outcomes.proofs.Words.{small-read}
-
--- one of two small numbers
-pub picked : (b : Bool) (x y : ℕ) {r : ℤ} → r ≡ cond b (pos x) (pos y) → x ≤ 1000002 → y ≤ 1000002
-    → toZ w64 (ofZ w64 r) ≡ pos (cond b x y)
-picked true x y e hx hy = small-read x e hx
-picked false x y e hx hy = small-read y e hy
 
 -- one of two numbers as it was passed
 pub either : (b : Bool) {x y r : ℤ} → SFits w64 x → SFits w64 y → r ≡ cond b x y → toZ w64 (ofZ w64 r) ≡ cond b x y

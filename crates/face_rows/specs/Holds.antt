@@ -7,14 +7,15 @@ use lib.IntN.{ℤ, pos, natAbs}
 use lib.ListN.{length}
 use Rattle.lists.specs.Tests.{same, bit}
 use Rattle.lists.specs.Scans.{anyOf, allOf, keep}
-use Rattle.map.specs.declared.Head.{Head}
-use Rattle.map.specs.Limits.{maxNodes, maxEdges, maxFaces, lastNumber}
-use Rattle.map.specs.Rows.{Edge, Map, nodeCells, edgeCells, faceCells, headOf, hasNode, setFaces, given}
-use Rattle.tables.specs.Tables.{filled, numbered}
 use Rattle.planar_maps.specs.Map.{Dart, rev}
+use Rattle.tables.specs.Tables.{filled, numbered}
+use Rattle.map.specs.declared.Head.{Head}
+use Rattle.map.specs.Limits.{lastNumber}
+use Rattle.map.specs.Rows.{Edge, Map, nodeCells, edgeCells, faceCells, headOf, hasNode, setFaces, given, counts}
 use Rattle.map.specs.Darts.{ring}
 use Rattle.map.specs.Edits.{Shares, renamed, renamedFaces}
 use Rattle.map_rows.specs.Rows.{NodeRows, EdgeRows, nodesOf, edgesOf, facesOf, edgeAt, nodeMap}
+use Rattle.head.specs.Heads.{Counted}
 use Rattle.face_relabel.specs.declared.Sides.{Sides}
 use Rattle.face_relabel.specs.Sharing.{Ringed}
 
@@ -39,16 +40,7 @@ pub record Held (nodes edges faces : List ℤ) (h : Head) : Type 0 where
   pub node-cells : filled (length nodes) (flatMap nodeCells (nodesOf nodes (natAbs (h .nodes)))) ≡ nodes
   pub edge-cells : filled (length edges) (flatMap edgeCells (edgesOf edges (natAbs (h .edges)))) ≡ edges
   pub face-table : FaceTable (length faces) (facesOf faces (natAbs (h .faces))) faces
-  pub nodes-count : h .nodes ≡ pos (natAbs (h .nodes))
-  pub edges-count : h .edges ≡ pos (natAbs (h .edges))
-  pub faces-count : h .faces ≡ pos (natAbs (h .faces))
-  pub next-node : h .«next_node» ≡ pos (natAbs (h .«next_node»))
-  pub next-edge : h .«next_edge» ≡ pos (natAbs (h .«next_edge»))
-  pub next-face : h .«next_face» ≡ pos (natAbs (h .«next_face»))
-  pub few-nodes : natAbs (h .nodes) ≤ maxNodes
-  pub few-edges : natAbs (h .edges) ≤ maxEdges
-  pub few-faces : natAbs (h .faces) ≤ maxFaces
-  pub next-most : natAbs (h .«next_face») ≤ suc lastNumber
+  pub counted : Counted h
 
 -- the last edge is drawn inside the face `old`, and there is room for a face more
 pub record Splittable (nodes edges faces : List ℤ) (h : Head) (old : ℤ) : Type 0 where
@@ -105,29 +97,6 @@ sidesOf isLeft goes p old a =
 abbrev pub splitFaces : Bool → ℕ → ℕ → List ℕ → List ℕ
 splitFaces goes old a fs = cond goes (withoutFace old fs ++ a ∷ (a + 1) ∷ []) (fs ++ a ∷ [])
 
--- a face more, and so many numbers given; a face less
-abbrev pub splitHead : Bool → Head → Head
-splitHead goes h =
-    record {
-      nodes = h .nodes;
-      edges = h .edges;
-      faces = pos (natAbs (h .faces) + 1);
-      «next_node» = h .«next_node»;
-      «next_edge» = h .«next_edge»;
-      «next_face» = pos (natAbs (h .«next_face») + cond goes 2 1);
-    }
-
-abbrev pub healedHead : Bool → Head → Head
-healedHead makes h =
-    record {
-      nodes = h .nodes;
-      edges = h .edges;
-      faces = pos (natAbs (h .faces) - 1);
-      «next_node» = h .«next_node»;
-      «next_edge» = h .«next_edge»;
-      «next_face» = pos (natAbs (h .«next_face») + bit makes);
-    }
-
 -- the face that is left of the two sides of a row: a new one, or the lower
 abbrev pub faceKept : Bool → Edge → Map → ℕ
 faceKept makes row m = cond makes (m .nextFace) (min (row .left) (row .right))
@@ -137,4 +106,4 @@ abbrev pub healed : Bool → Edge → Map → Map
 healed makes row m =
     let f = faceKept makes row m in
     let left = keep (λ g. same g (renamed row f g)) (m .faces) in
-    setFaces (cond makes (left ++ f ∷ []) left) (given 0 0 (bit makes) (renamedFaces row f m))
+    setFaces (cond makes (left ++ f ∷ []) left) (given (counts 0 0 (bit makes)) (renamedFaces row f m))

@@ -1,6 +1,7 @@
 // Faces split and healed in all rows that name them.
 use face_relabel::Sides;
 use lists::Found;
+use map::Counts;
 use map::Head;
 use outcomes::Done;
 ghost use mathlib.Core.Path.{_≡_};
@@ -11,21 +12,22 @@ ghost use lib.IntN.{pos, natAbs};
 ghost use lib.ListN.{length};
 ghost use lib.Signed.{nonNeg, ltZ};
 ghost use Rattle.integers.specs.Order.{sgn};
-ghost use Rattle.lists.specs.Tests.{same};
+ghost use Rattle.lists.specs.Tests.{same, bit};
 ghost use Rattle.lists.specs.Scans.{anyOf};
-ghost use Rattle.plane.specs.Areas.{isPositive};
-ghost use Rattle.map.specs.Limits.{maxEdges, maxFaces, lastNumber};
-ghost use Rattle.map.specs.Rows.{Edge, Map, nodeCells, edgeCells, mapOf};
 ghost use Rattle.tables.specs.Tables.{filled};
+ghost use Rattle.plane.specs.Areas.{isPositive};
+ghost use Rattle.map.specs.Limits.{maxEdges, lastNumber};
+ghost use Rattle.map.specs.Rows.{Edge, Map, nodeCells, edgeCells, mapOf, counts};
 ghost use Rattle.map.specs.Darts.{ring};
 ghost use Rattle.map.specs.Faces.{ringArea};
 ghost use Rattle.map.specs.Edits.{sharedOut, splitFace, renamedFaces};
 ghost use Rattle.map_rows.specs.Rows.{NodeRows, EdgeRows, nodesOf, edgesOf, edgeAt, edgeMap};
+ghost use Rattle.head.specs.Heads.{Counted, changedHead};
 ghost use Rattle.darts.specs.Positions.{dartAt};
-ghost use Rattle.face_relabel.specs.Sharing.{Shared, Ringed};
 ghost use Rattle.form_ranges.specs.Ranges.{lent};
+ghost use Rattle.face_relabel.specs.Sharing.{Shared, Ringed};
 ghost use Rattle.face_rows.specs.Holds.{facesIn, FaceTable, withoutFace, Splittable, Healable, Holds, sharesIn};
-ghost use Rattle.face_rows.specs.Holds.{sidesOf, splitFaces, splitHead, healedHead, faceKept, healed};
+ghost use Rattle.face_rows.specs.Holds.{sidesOf, splitFaces, faceKept, healed};
 
 // ---- leaves
 
@@ -38,32 +40,28 @@ fn select(first: bool, a: i64, b: i64) -> i64
 
 // The head with a face more, and one or two numbers given.
 fn with_face(h: Head, goes: bool) -> Head
-    requires { ⌜ (h .faces ≡ pos (natAbs (h .faces))) × (natAbs (h .faces) ≤ maxFaces)
-        × (h .«next_face» ≡ pos (natAbs (h .«next_face»))) × (natAbs (h .«next_face») ≤ suc lastNumber) ⌝ }
-    ensures { λ r. ⌜ r ≡ splitHead goes h ⌝ }
+    requires { ⌜ Counted h ⌝ }
+    ensures { λ r. ⌜ r ≡ changedHead h (counts 0 0 1) (counts 0 0 0) (counts 0 0 (cond goes 2 1)) ⌝ }
 {
-    let n = h.faces;
-    let k = h.next_face;
-    let more = select(goes, 2, 1);
-    let mut after = h;
-    after.faces = n + 1;
-    after.next_face = k + more;
-    after
+    let given = Counts {
+        nodes: 0,
+        edges: 0,
+        faces: 1 + goes as usize,
+    };
+    head::changed(h, head::FACE, head::NONE, given)
 }
 
 // The head with a face less, and a number given where one is made.
 fn without_face(h: Head, makes: bool) -> Head
-    requires { ⌜ (h .faces ≡ pos (natAbs (h .faces))) × (natAbs (h .faces) ≤ maxFaces) × (1 ≤ natAbs (h .faces))
-        × (h .«next_face» ≡ pos (natAbs (h .«next_face»))) × (natAbs (h .«next_face») ≤ suc lastNumber) ⌝ }
-    ensures { λ r. ⌜ r ≡ healedHead makes h ⌝ }
+    requires { ⌜ Counted h × (1 ≤ natAbs (h .faces)) ⌝ }
+    ensures { λ r. ⌜ r ≡ changedHead h (counts 0 0 0) (counts 0 0 1) (counts 0 0 (bit makes)) ⌝ }
 {
-    let n = h.faces;
-    let k = h.next_face;
-    let more = select(makes, 1, 0);
-    let mut after = h;
-    after.faces = n - 1;
-    after.next_face = k + more;
-    after
+    let given = Counts {
+        nodes: 0,
+        edges: 0,
+        faces: makes as usize,
+    };
+    head::changed(h, head::NONE, head::FACE, given)
 }
 
 // ---- the face table
@@ -183,12 +181,12 @@ pub fn split_face(
         (mapOf (lent (now (nodes .entry)) (now (edges .entry)) (now (faces .entry)) h))) (now (nodes .exit))
         (now (edges .exit)) (now (faces .exit)) r ⌝ }
 {
-    let e = outcomes::to_usize(h.edges);
+    let e = head::to_usize(h.edges);
     let a = h.next_face;
     let goes = news & (old != 0);
     let s = sides_of(edges, e, old, a, goes);
-    share_rows(nodes, outcomes::to_usize(h.nodes), edges, e, s);
-    split_row(faces, outcomes::to_usize(h.faces), old, a, goes);
+    share_rows(nodes, head::to_usize(h.nodes), edges, e, s);
+    split_row(faces, head::to_usize(h.faces), old, a, goes);
     with_face(h, goes)
 }
 
@@ -247,13 +245,13 @@ pub fn heal_faces(
     let face = face_left(h.next_face, left, right, makes);
     rename_faces(
         nodes,
-        outcomes::to_usize(h.nodes),
+        head::to_usize(h.nodes),
         edges,
-        outcomes::to_usize(h.edges),
+        head::to_usize(h.edges),
         left,
         right,
         face,
     );
-    heal_row(faces, outcomes::to_usize(h.faces), left, right, face, makes);
+    heal_row(faces, head::to_usize(h.faces), left, right, face, makes);
     outcomes::carried(without_face(h, makes), face)
 }

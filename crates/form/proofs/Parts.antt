@@ -5,11 +5,11 @@ use mathlib.Core.Bool.{Bool, true, false, _&&_, and-assoc}
 use mathlib.Core.List.{List}
 use Prim.Native.Nat.{ℕ, _/_, _≤_}
 use native.Mathlib.Omega.{arith}
-use lib.Dec.{T}
 use lib.IntN.{ℤ}
 use lib.ListN.{length}
 use lib.Signed.{nonNeg}
 use Rattle.lists.specs.Scans.{allOf}
+use Rattle.tables.proofs.Filled.{whole-rows}
 use Rattle.curves.proofs.Runs.{and-left, and-right}
 use Rattle.map.specs.declared.Head.{Head}
 use Rattle.map.specs.Rows.{whole, sizesOf, edge}
@@ -18,10 +18,10 @@ use Rattle.map.specs.Form.{countsFit, nextsFit, curveFits, numbers, named, depa
 use Rattle.map.specs.Form.{linksMeet, ringsBearOne, formed, inForm}
 use Rattle.map.specs.Limits.{maxNodes, maxEdges, maxFaces, nodeWidth, edgeWidth, faceWidth}
 use Rattle.map.proofs.RoundTrip.{whole-tables}
-use Rattle.tables.proofs.Filled.{whole-rows}
 use Rattle.map.specs.declared.Counts.{Counts}
 use Rattle.map_rows.specs.Rows.{edgesOf, nodeMap, edgeMap}
-use Rattle.form_ranges.specs.Ranges.{lent, countsOf, mapIn, rangedRows, Named}
+use Rattle.head.specs.Heads.{countsOf}
+use Rattle.form_ranges.specs.Ranges.{lent, mapIn, rangedRows, Named}
 use Rattle.form_ranges.proofs.Parts.{ranged-is, map-is, curves-are, counted, counts-natural}
 use Rattle.form_links.specs.Drawn.{drawnMap}
 
@@ -181,7 +181,7 @@ in-form-known nodes edges faces h e =
 
 -- the counts of a map in form
 pub in-form-natural : (nodes edges faces : List ℤ) (h : Head) → inForm (lent nodes edges faces h) ≡ true
-    → T (nonNeg (h .nodes)) × T (nonNeg (h .edges)) × T (nonNeg (h .faces))
+    → (nonNeg (h .nodes) ≡ true) × (nonNeg (h .edges) ≡ true) × (nonNeg (h .faces) ≡ true)
 in-form-natural nodes edges faces h e =
     let p = countsFit (lent nodes edges faces h) in
     let rest = rangedRows nodes edges faces (countsOf h) && formed (mapIn nodes edges faces (countsOf h) h) in

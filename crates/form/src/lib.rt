@@ -46,7 +46,7 @@ pub fn in_form(nodes: &[i64], edges: &[i64], faces: &[i64], h: Head) -> bool
     ) {
         return false;
     }
-    let c = form_ranges::counts_of(h);
+    let c = head::counts_of(h);
     if !form_ranges::is_ranged(nodes, edges, faces, c) {
         return false;
     }

@@ -1,32 +1,28 @@
 -- What the parts of condition 2 tell of the rows: what functions on tables require. Assumes nothing.
 use mathlib.Core.Path.{_≡_, refl}
-use mathlib.Core.Bool.{Bool, true, false, _&&_, false≢true}
+use mathlib.Core.Bool.{Bool, true, false, _&&_}
 use mathlib.Core.List.{List, [], _∷_, map}
 use Prim.Native.Nat.{ℕ, suc, _*_, _/_, _≤_}
-use native.Mathlib.Nat.{lt-of-le-of-lt, le-trans, mul-le-mul-right, div-mul-le-self}
-use lib.Dec.{T, leb, lit<}
-use lib.IntN.{ℤ, pos, negsuc, natAbs}
+use native.Mathlib.Nat.{le-trans, mul-le-mul-right, div-mul-le-self}
+use lib.IntN.{ℤ, pos, natAbs}
 use lib.ListN.{length}
 use lib.Signed.{nonNeg}
-use mir.Syntax.{w64}
-use mir.Val.{SFits}
-use borrow.Author.Needs.{sfits-of}
-use borrow.Author.Tests.{leb-true}
 use Rattle.lists.specs.Tests.{same}
 use Rattle.lists.specs.Scans.{allOf, firstOr}
+use Rattle.tables.specs.Tables.{rows, within, restZero, numbered}
+use Rattle.tables.proofs.Tests.{within-least, within-pos}
+use Rattle.tables.proofs.Rising.{all-same, all-weaker, numbered-wider}
 use Rattle.curves.proofs.Runs.{and-left, and-right}
 use Rattle.map.specs.declared.Head.{Head}
 use Rattle.map.specs.Limits.{nodeWidth, edgeWidth, faceWidth, lastNumber}
 use Rattle.map.specs.Rows.{Edge, mapOf, node, hasNode, hasEdge, hasFace}
-use Rattle.tables.specs.Tables.{rows, within, restZero, numbered}
-use Rattle.map.specs.Form.{countsFit, nextsFit, nodeRanges, edgeRanges, faceRanges, ranged}
-use Rattle.map.specs.Form.{numbers, named, edgeNames, inFace, curveFits}
-use Rattle.tables.proofs.Tests.{within-least}
+use Rattle.map.specs.Form.{countsFit, nextsFit, nodeRanges, edgeRanges, faceRanges, ranged, numbers, named, edgeNames}
+use Rattle.map.specs.Form.{inFace, curveFits}
 use Rattle.map.specs.declared.Counts.{Counts}
 use Rattle.map_rows.specs.Rows.{nodesOf, edgesOf, facesOf, nodeMap, NodeRows, EdgeRows, FaceRows}
-use Rattle.form_ranges.specs.Ranges.{lent, countsOf, mapIn, rangedRows, Counted, EdgesInOrder, InRanges, InOrder}
-use Rattle.form_ranges.specs.Ranges.{Named}
-use Rattle.tables.proofs.Rising.{all-same, all-weaker, numbered-wider}
+use Rattle.head.specs.Heads.{countsOf, UpTo}
+use Rattle.head.proofs.Words.{is-natural}
+use Rattle.form_ranges.specs.Ranges.{lent, mapIn, rangedRows, EdgesInOrder, InRanges, InOrder, HeadFits, Named}
 
 module _ (a b c d e f : Bool) (h : a && b && c && d && e && f ≡ true) where
   pub and₆ : (a ≡ true) × (b ≡ true) × (c ≡ true) × (d ≡ true) × (e ≡ true) × (f ≡ true)
@@ -48,26 +44,11 @@ module _ (a b c d e f : Bool) (h : a && b && c && d && e && f ≡ true) where
 
 -- ---- next numbers
 
-pub within-in : (a b : ℕ) (z : ℤ) → within a b z ≡ true → T (nonNeg z) × (natAbs z ≤ b)
-within-in a b (pos n) h = (tt, leb-true n b (and-right (leb a n) (leb n b) h))
-within-in a b (negsuc n) h = absurd (false≢true h)
+next-of : (z : ℤ) → within 1 (suc lastNumber) z ≡ true → UpTo (suc lastNumber) z
+next-of z h = let r = within-pos 1 (suc lastNumber) z h in record { natural = r .0; most = r .2 }
 
--- z is a next number: not negative, and at most 1,000,000
-pub record Next (z : ℤ) : Type 0 where
-  pub natural : T (nonNeg z)
-  pub most : natAbs z ≤ suc lastNumber
-
-pub next-fits : {z : ℤ} → Next z → SFits w64 z
-next-fits {z} n = fits z (n .natural) (n .most)
-  where
-    fits : (z : ℤ) → T (nonNeg z) → natAbs z ≤ suc lastNumber → SFits w64 z
-    fits (pos n) t h = sfits-of (lt-of-le-of-lt h (lit< tt))
-    fits (negsuc n) t h = absurd t
-
-next-of : (z : ℤ) → within 1 (suc lastNumber) z ≡ true → Next z
-next-of z h = let r = within-in 1 (suc lastNumber) z h in record { natural = r .0; most = r .1 }
-
-pub nexts-in : (h : Head) → nextsFit h ≡ true → Next (h .«next_node») × Next (h .«next_edge») × Next (h .«next_face»)
+pub nexts-in : (h : Head) → nextsFit h ≡ true → UpTo (suc lastNumber) (h .«next_node»)
+    × UpTo (suc lastNumber) (h .«next_edge») × UpTo (suc lastNumber) (h .«next_face»)
 nexts-in h e =
     let w : ℤ → Bool = within 1 (suc lastNumber) in
     let f = and-right (w (h .«next_node»)) (allOf w (h .«next_edge» ∷ h .«next_face» ∷ [])) e in
@@ -84,7 +65,7 @@ div-room a n w h = le-trans (mul-le-mul-right (suc w) h) (div-mul-le-self n (suc
 
 -- counts and next numbers that fit, as the other parts require them
 pub counted : (nodes edges faces : List ℤ) (h : Head) → countsFit (lent nodes edges faces h) ≡ true → nextsFit h ≡ true
-    → Counted nodes edges faces (countsOf h) h
+    → HeadFits nodes edges faces (countsOf h) h
 counted nodes edges faces h e f =
     let p = within 0 (length nodes / nodeWidth) (h .nodes) in
     let q = within 0 (length edges / edgeWidth) (h .edges) in
@@ -93,26 +74,26 @@ counted nodes edges faces h e f =
     let k = and-right (p && q) s e in
     record {
       nodes-fit = div-room (natAbs (h .nodes)) (length nodes) 3
-          (within-in 0 (length nodes / nodeWidth) (h .nodes) (and-left p q g) .1);
+          (within-pos 0 (length nodes / nodeWidth) (h .nodes) (and-left p q g) .2);
       edges-fit = div-room (natAbs (h .edges)) (length edges) 31
-          (within-in 0 (length edges / edgeWidth) (h .edges) (and-right p q g) .1);
+          (within-pos 0 (length edges / edgeWidth) (h .edges) (and-right p q g) .2);
       faces-fit = div-room (natAbs (h .faces)) (length faces) 0
-          (within-in 1 (length faces / faceWidth) (h .faces) k .1);
+          (within-pos 1 (length faces / faceWidth) (h .faces) k .2);
       a-face = within-least 1 (length faces / faceWidth) (h .faces) k;
       nexts = f;
     }
 
 -- the counts are not negative
 pub counts-natural : (nodes edges faces : List ℤ) (h : Head) → countsFit (lent nodes edges faces h) ≡ true
-    → T (nonNeg (h .nodes)) × T (nonNeg (h .edges)) × T (nonNeg (h .faces))
+    → (nonNeg (h .nodes) ≡ true) × (nonNeg (h .edges) ≡ true) × (nonNeg (h .faces) ≡ true)
 counts-natural nodes edges faces h e =
     let p = within 0 (length nodes / nodeWidth) (h .nodes) in
     let q = within 0 (length edges / edgeWidth) (h .edges) in
     let s = within 1 (length faces / faceWidth) (h .faces) in
     let g = and-left (p && q) s e in (
-      within-in 0 (length nodes / nodeWidth) (h .nodes) (and-left p q g) .0,
-      within-in 0 (length edges / edgeWidth) (h .edges) (and-right p q g) .0,
-      within-in 1 (length faces / faceWidth) (h .faces) (and-right (p && q) s e) .0,
+      is-natural (h .nodes) (within-pos 0 (length nodes / nodeWidth) (h .nodes) (and-left p q g) .0),
+      is-natural (h .edges) (within-pos 0 (length edges / edgeWidth) (h .edges) (and-right p q g) .0),
+      is-natural (h .faces) (within-pos 1 (length faces / faceWidth) (h .faces) (and-right (p && q) s e) .0),
     )
 
 -- ---- the definitions of condition 2, by these parts

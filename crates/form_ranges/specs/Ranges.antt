@@ -6,10 +6,10 @@ use Prim.Native.Nat.{ℕ, suc, _*_, _≤_}
 use lib.IntN.{ℤ, pos, natAbs}
 use lib.ListN.{length}
 use Rattle.lists.specs.Scans.{allOf}
+use Rattle.tables.specs.Tables.{rows, restZero, numbered}
 use Rattle.map.specs.declared.Head.{Head}
 use Rattle.map.specs.Limits.{nodeWidth, edgeWidth, faceWidth, lastNumber}
 use Rattle.map.specs.Rows.{Map, Lent}
-use Rattle.tables.specs.Tables.{rows, restZero, numbered}
 use Rattle.map.specs.Form.{nextsFit, nodeRanges, edgeRanges, faceRanges, numbers, named}
 use Rattle.map.specs.declared.Counts.{Counts}
 use Rattle.map_rows.specs.Rows.{nodesOf, edgesOf, facesOf}
@@ -17,10 +17,6 @@ use Rattle.map_rows.specs.Rows.{nodesOf, edgesOf, facesOf}
 -- what is lent
 abbrev pub lent : List ℤ → List ℤ → List ℤ → Head → Lent
 lent nodes edges faces h = record { nodes = nodes; edges = edges; faces = faces; head = h }
-
--- the head's counts, where they are not negative
-abbrev pub countsOf : Head → Counts
-countsOf h = record { nodes = natAbs (h .nodes); edges = natAbs (h .edges); faces = natAbs (h .faces) }
 
 -- the map that the rows in use and the next numbers make: `mapOf` with the counts by themselves
 abbrev pub mapIn : List ℤ → List ℤ → List ℤ → Counts → Head → Map
@@ -35,7 +31,7 @@ mapIn nodes edges faces c h =
     }
 
 -- the rows in use fit the tables, and the next numbers are 1 to 1,000,000
-pub record Counted (nodes edges faces : List ℤ) (c : Counts) (h : Head) : Type 0 where
+pub record HeadFits (nodes edges faces : List ℤ) (c : Counts) (h : Head) : Type 0 where
   pub nodes-fit : c .nodes * nodeWidth ≤ length nodes
   pub edges-fit : c .edges * edgeWidth ≤ length edges
   pub faces-fit : c .faces * faceWidth ≤ length faces
@@ -53,7 +49,7 @@ rangedRows nodes edges faces c =
     && allOf faceRanges (rows faceWidth (c .faces) faces)
 
 pub record InRanges (nodes edges faces : List ℤ) (c : Counts) (h : Head) : Type 0 where
-  pub counted : Counted nodes edges faces c h
+  pub counted : HeadFits nodes edges faces c h
   pub ranged : rangedRows nodes edges faces c ≡ true
 
 -- the map that has these faces alone: named faces are looked up in it

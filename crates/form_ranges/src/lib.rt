@@ -11,11 +11,11 @@ ghost use lib.IntN.{pos, natAbs};
 ghost use lib.Signed.{leZ, nonNeg};
 ghost use lib.ListN.{length, getD, take, drop};
 ghost use Rattle.lists.specs.Scans.{allOf};
+ghost use Rattle.tables.specs.Tables.{cell, rows, isZero};
 ghost use Rattle.curves.specs.Curves.{coordinate};
 ghost use Rattle.map.specs.Rows.{whole, sizesOf};
-ghost use Rattle.tables.specs.Tables.{cell, rows, isZero};
 ghost use Rattle.map.specs.Form.{countsFit, nextsFit, nodeRanges, edgeRanges, faceRanges, numbers};
-ghost use Rattle.form_ranges.specs.Ranges.{lent, countsOf, mapIn, rangedRows, InRanges};
+ghost use Rattle.form_ranges.specs.Ranges.{lent, mapIn, rangedRows, InRanges};
 
 const POINTS: i64 = Map::POINTS as i64;
 
@@ -50,14 +50,6 @@ pub fn head_fits(h: Head, nodes: usize, edges: usize, faces: usize) -> bool
         & within(h.next_edge, 1, map::LAST_NEXT)
         & within(h.next_face, 1, map::LAST_NEXT);
     counts & nexts
-}
-
-// A number that is not negative.
-fn magnitude(z: i64) -> usize
-    requires { ⌜ T (nonNeg z) ⌝ }
-    ensures { λ r. ⌜ r ≡ natAbs z ⌝ }
-{
-    z as usize
 }
 
 // Number k is not negative.
@@ -194,23 +186,31 @@ pub fn numbers_fit(nodes: &[i64], edges: &[i64], faces: &[i64], c: Counts, h: He
     requires { ⌜ InRanges (now nodes) (now edges) (now faces) c h ⌝ }
     ensures { λ r. ⌜ r ≡ numbers (mapIn (now (nodes .entry)) (now (edges .entry)) (now (faces .entry)) c h) ⌝ }
 {
-    if !tables::numbers_rise(nodes, map::NODE_WIDTH, c.nodes, 1, magnitude(h.next_node)) {
+    if !tables::numbers_rise(
+        nodes,
+        map::NODE_WIDTH,
+        c.nodes,
+        1,
+        head::to_usize(h.next_node),
+    ) {
         return false;
     }
-    if !tables::numbers_rise(edges, map::EDGE_WIDTH, c.edges, 1, magnitude(h.next_edge)) {
+    if !tables::numbers_rise(
+        edges,
+        map::EDGE_WIDTH,
+        c.edges,
+        1,
+        head::to_usize(h.next_edge),
+    ) {
         return false;
     }
     let first = tables::natural(faces, 0);
-    tables::numbers_rise(faces, map::FACE_WIDTH, c.faces, 0, magnitude(h.next_face)) & (first == 0)
-}
-
-pub fn counts_of(h: Head) -> Counts
-    requires { ⌜ T (nonNeg (h .nodes)) × T (nonNeg (h .edges)) × T (nonNeg (h .faces)) ⌝ }
-    ensures { λ r. ⌜ r ≡ countsOf h ⌝ }
-{
-    Counts {
-        nodes: magnitude(h.nodes),
-        edges: magnitude(h.edges),
-        faces: magnitude(h.faces),
-    }
+    tables::numbers_rise(
+        faces,
+        map::FACE_WIDTH,
+        c.faces,
+        0,
+        head::to_usize(h.next_face),
+    )
+        & (first == 0)
 }

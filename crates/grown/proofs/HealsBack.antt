@@ -18,6 +18,7 @@ use Rattle.curves.specs.Tests.{onCurve}
 use Rattle.planar_maps.specs.Map.{Dart, fwd, bwd, rev}
 use Rattle.planar_maps.proofs.Rings.{next-in}
 use Rattle.map.specs.Rows.{Node, Edge, Map, edge, hasEdge, atEdge, setNodes, setEdges, given, withoutNode, withoutEdge}
+use Rattle.map.specs.Rows.{counts}
 use Rattle.map.specs.Darts.{leaves, next}
 use Rattle.map.specs.Links.{withLinks}
 use Rattle.map.specs.Edits.{startHalf, endHalf, split, joint, parts, healedCurve, heal}
@@ -43,7 +44,7 @@ abbrev healedMap : Bool → ℕ → ℕ → ℕ → List Edge → Edge → Map �
 healedMap keeps a b n es x m =
     let kept = withoutEdge b (map (put a x) es) in
     let new = withoutEdge a (withoutEdge b es) ++ x ∷ [] in
-    setNodes (withoutNode n (m .nodes)) (setEdges (cond keeps kept new) (given 0 (cond keeps 0 1) 0 m))
+    setNodes (withoutNode n (m .nodes)) (setEdges (cond keeps kept new) (given (counts 0 (cond keeps 0 1) 0) m))
 
 abbrev healRow : Map → ℕ → ℕ → Dart → Dart → Curve → Edge
 healRow m a h c d curve =
@@ -244,7 +245,7 @@ module _ (m : Map) (e : ℕ) (p : Point) (g : Good m) (has : hasEdge m e ≡ tru
           ∙ ap not (same-refl x)
 
   -- the map is as before, but for the next numbers
-  pub kept-back : heal true e x (split true e p m) ≡ given 1 1 0 m
+  pub kept-back : heal true e x (split true e p m) ≡ given (counts 1 1 0) m
   unfolding split
   kept-back =
       heal-is m e g has (split true e p m) n e x true e refl
@@ -325,7 +326,7 @@ module _ (m : Map) (e : ℕ) (p : Point) (g : Good m) (has : hasEdge m e ≡ tru
         front-out = ap not (same-refl x)
 
   -- the edge has the next number but two, its row is the last, and the links name it so
-  pub new-back : heal false x (x + 1) (split false e p m) ≡ given 1 3 0 (renumbered e (x + 2) m)
+  pub new-back : heal false x (x + 1) (split false e p m) ≡ given (counts 1 3 0) (renumbered e (x + 2) m)
   unfolding split renumbered
   new-back =
       heal-is m e g has (split false e p m) n x (x + 1) false (x + 2) refl

@@ -20,7 +20,7 @@ use Rattle.plane.specs.declared.Point.{Point}
 use Rattle.curves.specs.Curves.{point, points, maxPoints}
 use Rattle.map.specs.declared.Answer.{Answer}
 use Rattle.map.specs.Limits.{lastNumber}
-use Rattle.map.specs.Rows.{Map, Lent, Sizes, mapOf, lentOf, headOf, sizesOf, whole, hasEdge, given, withoutEdge}
+use Rattle.map.specs.Rows.{Map, Lent, Sizes, mapOf, lentOf, headOf, sizesOf, whole, hasEdge, given, withoutEdge, counts}
 use Rattle.map.specs.Tickets.{Ticket, NewEdgesSplit, ModEdgeSplit, NewEdgeHeal, ModEdgeHeal, read}
 use Rattle.map.specs.Edits.{split, heal, healedCurve}
 use Rattle.map.specs.Reasons.{Reasons, firstReason, reasons, healReasons, noEdge, spent}
@@ -115,7 +115,7 @@ heal-free m m′ e n a b j ha hb =
 
 -- ---- the tables afterwards
 
-head-raised : (a b : ℕ) (m : Map) → headOf (given a b 0 m) ≡ raised a b (headOf m)
+head-raised : (a b : ℕ) (m : Map) → headOf (given (counts a b 0) m) ≡ raised a b (headOf m)
 head-raised a b m = λ i. record {
   nodes = pos (length (m .nodes));
   edges = pos (length (m .edges));
@@ -125,7 +125,7 @@ head-raised a b m = λ i. record {
   «next_face» = pos (add-zero (m .nextFace) i);
 }
 
-restored-is : (s : Sizes) (m : Map) → lentOf s (given 1 1 0 m) ≡ restored (lentOf s m) .lent
+restored-is : (s : Sizes) (m : Map) → lentOf s (given (counts 1 1 0) m) ≡ restored (lentOf s m) .lent
 unfolding lentOf
 restored-is s m = λ i. record {
   nodes = lentOf s m .nodes;
@@ -157,7 +157,7 @@ module _ (s : Sizes) (m : Map) (g : Good m) (f : Fits s m) where
           ∙ (let k = perm-length (rows-m m e (λ r. r) (λ r. refl) once has) in omega arith)
 
   renewed-is : (e h : ℕ) → hasEdge m e ≡ true
-      → lentOf s (given 1 3 0 (renumbered e h m)) ≡ renewed e h (lentOf s m) .lent
+      → lentOf s (given (counts 1 3 0) (renumbered e h m)) ≡ renewed e h (lentOf s m) .lent
   unfolding lentOf renumbered
   renewed-is e h has = λ i. record {
     nodes = lentOf s m .nodes;
@@ -209,7 +209,7 @@ module _ (s : Sizes) (m : Map) (g : Good m) (f : Fits s m) (e x y : ℤ) where
       reason : firstReason (healReasons m′ e (pos (m .nextEdge))) ≡ 0
       reason = heal-free m m′ k (m .nextNode) e (pos (m .nextEdge)) j (plain m e _ (o .free)) refl
 
-      back : heal true k (m .nextEdge) m′ ≡ given 1 1 0 m
+      back : heal true k (m .nextEdge) m′ ≡ given (counts 1 1 0) m
       back = kept-back m k p g (q .has) (q .free) (q .on)
 
   -- ---- kinds 7 and 9
@@ -248,7 +248,7 @@ module _ (s : Sizes) (m : Map) (g : Good m) (f : Fits s m) (e x y : ℤ) where
         rejoin m m′ k _ (m .nextEdge) (m .nextEdge + 1) p g halves
 
     -- nothing but 21 can turn the heal down
-    answer : (n : ℕ) → firstReason ((21, spent m′ 0 1 0) ∷ []) ≡ n
+    answer : (n : ℕ) → firstReason ((21, spent m′ (counts 0 1 0)) ∷ []) ≡ n
         → tried (tried (lentOf s m) t₇ .lent) t₉ ≡ unless (lentOf s m′) n (carried m′ t₉)
     unfolding reasons
     answer n z =
@@ -271,7 +271,7 @@ module _ (s : Sizes) (m : Map) (g : Good m) (f : Fits s m) (e x y : ℤ) where
           answer = record { refusal = 0; value = pos (m .nextEdge + 2) };
         })
       where
-        left : spent m′ 0 1 0 ≡ false
+        left : spent m′ (counts 0 1 0) ≡ false
         left =
             let z = good′ .numbered in
             or-no
@@ -285,7 +285,7 @@ module _ (s : Sizes) (m : Map) (g : Good m) (f : Fits s m) (e x y : ℤ) where
     unfolding split
     spend high = answer 21 (first-hit 21 _ [] none) ∙ ap (λ (l : Lent). refused l 21) (sym lent′)
       where
-        none : spent m′ 0 1 0 ≡ true
+        none : spent m′ (counts 0 1 0) ≡ true
         none =
             let z = lt-ltb (suc lastNumber) (m .nextEdge + 2 + 1) (omega arith) in
             or-left (ltb (suc lastNumber) (m .nextFace + 0 + 0))

@@ -12,7 +12,7 @@ use Rattle.curves.specs.Curves.{Curve, startWay}
 use Rattle.curves.specs.Edits.{front, back, joined}
 use Rattle.planar_maps.specs.Map.{Dart, fwd, bwd, rev}
 use Rattle.map.specs.Rows.{Node, Edge, Map, node, edge, setNodes, setEdges, setFaces, given, atNodes, atEdge}
-use Rattle.map.specs.Rows.{withoutNode, withoutEdge}
+use Rattle.map.specs.Rows.{withoutNode, withoutEdge, counts}
 use Rattle.map.specs.Darts.{leaves, arrives, next, bears, course, edgeEnds, ring, among, lowestEdge}
 use Rattle.map.specs.Links.{redirect, linkEdge, unlinkEdge, cornerFace}
 use Rattle.map.specs.Faces.{faceOfPoint, encloses, ringArea}
@@ -25,7 +25,7 @@ lone m n p = record { number = n; at = p; face = some (faceOfPoint m p) }
 
 -- kind 1
 unfoldable pub addIsoNode : Point → Map → Map
-addIsoNode p m = setNodes (m .nodes ++ lone m (m .nextNode) p ∷ []) (given 1 0 0 m)
+addIsoNode p m = setNodes (m .nodes ++ lone m (m .nextNode) p ∷ []) (given (counts 1 0 0) m)
 
 -- kind 2
 unfoldable pub moveIsoNode : ℕ → Point → Map → Map
@@ -59,7 +59,7 @@ drawn u v c f m =
       right = f;
       curve = c;
     } in
-    atNodes (isEither u v) (withFace none) (linkEdge e (setEdges (m .edges ++ row ∷ []) (given 0 1 0 m)))
+    atNodes (isEither u v) (withFace none) (linkEdge e (setEdges (m .edges ++ row ∷ []) (given (counts 0 1 0) m)))
 
 -- the edge unlinked; a node left bare takes f, the face now around it
 unfoldable pub undrawn : ℕ → ℕ → Map → Map
@@ -135,7 +135,7 @@ split keeps e p m =
     let kept = atEdge e (λ r. first) m′ .edges ++ second ∷ [] in
     let new = withoutEdge e (m′ .edges) ++ first ∷ second ∷ [] in
     setNodes (m .nodes ++ record { number = n; at = p; face = none } ∷ [])
-    (setEdges (cond keeps kept new) (given 1 (cond keeps 1 2) 0 m))
+    (setEdges (cond keeps kept new) (given (counts 1 (cond keeps 1 2) 0) m))
 
 -- ---- kinds 9 and 10: heal
 
@@ -181,7 +181,7 @@ heal keeps e f m =
     let kept = withoutEdge f (atEdge e (λ r. row) m′ .edges) in
     let new = withoutEdge e (withoutEdge f (m′ .edges)) ++ row ∷ [] in
     setNodes (withoutNode (Option·getD (joint m e f) 0) (m .nodes))
-    (setEdges (cond keeps kept new) (given 0 (cond keeps 0 1) 0 m))
+    (setEdges (cond keeps kept new) (given (counts 0 (cond keeps 0 1) 0) m))
 
 -- ---- kinds 11 and 12: a new edge, which may split a face
 
@@ -264,7 +264,7 @@ splitFace news e m =
       other = cond (isLeft || not goes) b a;
     } in
     let faces = cond goes (keep (λ f. not (same f old)) (m .faces) ++ a ∷ b ∷ []) (m .faces ++ a ∷ []) in
-    setFaces faces (given 0 0 (cond goes 2 1) (sharedOut s m))
+    setFaces faces (given (counts 0 0 (cond goes 2 1)) (sharedOut s m))
 
 -- kinds 11 (news) and 12
 unfoldable pub addEdge : Bool → ℕ → ℕ → Curve → Map → Map
@@ -312,4 +312,4 @@ removeEdge news e m =
     let f = faceLeft news e m in
     let m′ = undrawn e f (renamedFaces (edge m e) f m) in
     let left = keep (λ g. same g (renamed (edge m e) f g)) (m .faces) in
-    setFaces (cond (makesFace news e m) (left ++ f ∷ []) left) (given 0 0 (bit (makesFace news e m)) m′)
+    setFaces (cond (makesFace news e m) (left ++ f ∷ []) left) (given (counts 0 0 (bit (makesFace news e m))) m′)

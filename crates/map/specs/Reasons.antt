@@ -17,9 +17,10 @@ use Rattle.curves.specs.Curves.{Curve, points, lastPoint, startWay, endWay, poi
 use Rattle.curves.specs.Curves.{maxPoints}
 use Rattle.curves.specs.Tests.{neighboursDiffer, straightInside, onCurve, isSimple, meetWrongly}
 use Rattle.planar_maps.specs.Rings.{sameDart}
+use Rattle.map.specs.declared.Counts.{Counts}
 use Rattle.map.specs.Limits.{lastNumber}
 use Rattle.map.specs.Rows.{Node, Edge, Map, Sizes, node, edge, hasNode, hasEdge, hasFace, withoutNode}
-use Rattle.map.specs.Rows.{withoutEdge}
+use Rattle.map.specs.Rows.{withoutEdge, counts}
 use Rattle.map.specs.Darts.{departures, edgeEnds, way}
 use Rattle.map.specs.Links.{clockwise, cornerFace}
 use Rattle.map.specs.Faces.{faceOfPoint}
@@ -139,13 +140,18 @@ orderChanges m e c = let m′ = changeEdgeGeom e c m in turnChanges m m′ (edge
 
 -- ---- 20: the rows after the edit, so many more, would not fit. 21: one of so many needed numbers exceeds 999,999
 
-abbrev pub full : Sizes → Map → ℕ → ℕ → ℕ → Bool
-full s m a b c = ltb (s .nodes) (length (m .nodes) + a) || ltb (s .edges) (length (m .edges) + b)
-    || ltb (s .faces) (length (m .faces) + c)
+abbrev pub full : Sizes → Map → Counts → Bool
+full s m more = ltb (s .nodes) (length (m .nodes) + more .nodes) || ltb (s .edges) (length (m .edges) + more .edges)
+    || ltb (s .faces) (length (m .faces) + more .faces)
 
-abbrev pub spent : Map → ℕ → ℕ → ℕ → Bool
-spent m a b c = ltb (suc lastNumber) (m .nextNode + a) || ltb (suc lastNumber) (m .nextEdge + b)
-    || ltb (suc lastNumber) (m .nextFace + c)
+abbrev pub spent : Map → Counts → Bool
+spent m needed = ltb (suc lastNumber) (m .nextNode + needed .nodes)
+    || ltb (suc lastNumber) (m .nextEdge + needed .edges)
+    || ltb (suc lastNumber) (m .nextFace + needed .faces)
+
+-- for an edit that needs so many rows more and so many numbers
+abbrev pub roomReasons : Sizes → Map → Counts → Counts → Reasons
+roomReasons s m rows numbers = (20, full s m rows) ∷ (21, spent m numbers) ∷ []
 
 -- ---- the kinds, with 4 and up
 
@@ -156,9 +162,7 @@ splitReasons more s m e x y =
     ∷ (5, outside x y)
     ∷ (10, nodeAt (m .nodes) (point x y))
     ∷ (13, not (onCurve (edge m (natAbs e) .curve) (point x y)))
-    ∷ (20, full s m 1 1 0)
-    ∷ (21, spent m 1 more 0)
-    ∷ []
+    ∷ roomReasons s m (counts 1 1 0) (counts 1 more 0)
 
 -- kinds 9 and 10
 abbrev pub healReasons : Map → ℤ → ℤ → Reasons
@@ -184,9 +188,7 @@ addEdgeReasons news s m u v sent =
     ++ (11, directionTaken m (m .nextEdge) a b c)
     ∷ (12, cornersDiffer m a b c)
     ∷ meetingReasons m (m .edges) c
-    ++ (20, full s m 0 1 (bit splits))
-    ∷ (21, spent m 0 1 (bit splits + bit second))
-    ∷ []
+    ++ roomReasons s m (counts 0 1 (bit splits)) (counts 0 1 (bit splits + bit second))
 
 -- the reasons of each kind, in order
 unfoldable pub reasons : Sizes → Map → Ticket → Reasons
@@ -196,9 +198,7 @@ reasons s m (AddIsoNode f x y) =
     ∷ (5, outside x y)
     ∷ (10, nodeAt (m .nodes) p || edgeThrough m p)
     ∷ (12, not (minusOne f) && not (same (natAbs f) (faceOfPoint m p)))
-    ∷ (20, full s m 1 0 0)
-    ∷ (21, spent m 1 0 0)
-    ∷ []
+    ∷ roomReasons s m (counts 1 0 0) (counts 1 0 0)
 reasons s m (MoveIsoNode n x y) =
     let p = point x y in
     (4, noNode m n)
@@ -218,9 +218,7 @@ reasons s m (AddIsoEdge u v sent) =
     ++ (9, same a b || not (isolated m a && isolated m b))
     ∷ (12, containingDiffer m a b)
     ∷ meetingReasons m (m .edges) (curveOf sent)
-    ++ (20, full s m 0 1 0)
-    ∷ (21, spent m 0 1 0)
-    ∷ []
+    ++ roomReasons s m (counts 0 1 0) (counts 0 1 0)
 reasons s m (RemoveIsoEdge e) =
     (4, noEdge m e)
     ∷ (9, not (edgeIsolated m (natAbs e)))
@@ -237,12 +235,12 @@ reasons s m (ChangeEdgeGeom e sent) =
     ∷ []
 reasons s m (NewEdgesSplit e x y) = splitReasons 2 s m e x y
 reasons s m (ModEdgeSplit e x y) = splitReasons 1 s m e x y
-reasons s m (NewEdgeHeal e f) = healReasons m e f ++ (21, spent m 0 1 0) ∷ []
+reasons s m (NewEdgeHeal e f) = healReasons m e f ++ (21, spent m (counts 0 1 0)) ∷ []
 reasons s m (ModEdgeHeal e f) = healReasons m e f
 reasons s m (AddEdgeNewFaces u v sent) = addEdgeReasons true s m u v sent
 reasons s m (AddEdgeModFace u v sent) = addEdgeReasons false s m u v sent
 reasons s m (RemEdgeNewFace e) =
     (4, noEdge m e)
-    ∷ (21, spent m 0 0 (bit (makesFace true (natAbs e) m)))
+    ∷ (21, spent m (counts 0 0 (bit (makesFace true (natAbs e) m))))
     ∷ []
 reasons s m (RemEdgeModFace e) = (4, noEdge m e) ∷ []

@@ -12,6 +12,7 @@ use Rattle.plane.specs.declared.Point.{Point}
 use Rattle.plane.specs.Points.{origin}
 use Rattle.curves.specs.Curves.{Curve, points, point, through, curveOf, coordinates, maxPoints}
 use Rattle.planar_maps.specs.Map.{Dart, fwd, bwd}
+use Rattle.map.specs.declared.Counts.{Counts}
 use Rattle.map.specs.declared.Head.{Head}
 use Rattle.map.specs.Limits.{maxNodes, maxEdges, maxFaces, nodeWidth, edgeWidth, faceWidth}
 
@@ -53,6 +54,10 @@ pub record Sizes : Type 0 where
   pub nodes : ℕ
   pub edges : ℕ
   pub faces : ℕ
+
+-- so many nodes, edges and faces
+abbrev pub counts : ℕ → ℕ → ℕ → Counts
+counts a b c = record { nodes = a; edges = b; faces = c }
 
 -- the empty map: face 0 alone
 abbrev pub emptyMap : Map
@@ -243,14 +248,14 @@ setFaces fs m = record {
 }
 
 -- so many new numbers given to nodes, edges and faces
-abbrev pub given : ℕ → ℕ → ℕ → Map → Map
-given a b c m = record {
+abbrev pub given : Counts → Map → Map
+given c m = record {
   nodes = m .nodes;
   edges = m .edges;
   faces = m .faces;
-  nextNode = m .nextNode + a;
-  nextEdge = m .nextEdge + b;
-  nextFace = m .nextFace + c;
+  nextNode = m .nextNode + c .nodes;
+  nextEdge = m .nextEdge + c .edges;
+  nextFace = m .nextFace + c .faces;
 }
 
 -- a row changed: the nodes that p takes, the edge e

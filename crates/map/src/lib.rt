@@ -100,7 +100,7 @@ pub struct Head {
     pub next_face: i64,
 }
 
-// How many rows of each table are in use.
+// So many rows of each table, or so many numbers.
 pub struct Counts {
     pub nodes: usize,
     pub edges: usize,

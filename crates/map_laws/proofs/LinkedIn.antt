@@ -24,7 +24,7 @@ use Rattle.rotation.specs.Law as rotation
 use Rattle.rotation.proofs.Node.{first-none}
 use Rattle.rotation.proofs.Rename.{first-same}
 use Rattle.rotation.proofs.Ties.{tells}
-use Rattle.map.specs.Rows.{Edge, Map, edge, hasEdge, setEdges, given}
+use Rattle.map.specs.Rows.{Edge, Map, edge, hasEdge, setEdges, given, counts}
 use Rattle.map.specs.Darts.{arcs, directed, leaves, next, bears, course, way, departures}
 use Rattle.map.specs.Links.{redirect, linkIn, linkEdge}
 use Rattle.map_laws.proofs.Readings.{Relinked, relinked-join, redirect-relinked, redirect-next, lead-relinked}
@@ -75,7 +75,7 @@ module _ (m : Map) (u v : ℕ) (c : Curve) (φ : ℕ) where
   }
 
   abbrev pub appended : Map
-  appended = setEdges (m .edges ++ drawnRow ∷ []) (given 0 1 0 m)
+  appended = setEdges (m .edges ++ drawnRow ∷ []) (given (counts 0 1 0) m)
 
   module _ (fresh : Fresh (arcOf drawnRow) (arcs m)) where
     abbrev e : ℕ

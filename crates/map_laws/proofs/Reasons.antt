@@ -19,7 +19,7 @@ use Rattle.plane.proofs.Laws.{samePoint-true}
 use Rattle.curves.specs.Curves.{Curve, points, lastPoint, startWay, endWay, point, curveOf, isRun, maxPoints}
 use Rattle.curves.specs.Tests.{neighboursDiffer, straightInside, onCurve, isSimple}
 use Rattle.map.specs.Limits.{lastNumber}
-use Rattle.map.specs.Rows.{Map, Sizes, node, edge, hasNode, hasEdge, withoutNode, withoutEdge}
+use Rattle.map.specs.Rows.{Map, Sizes, node, edge, hasNode, hasEdge, withoutNode, withoutEdge, counts}
 use Rattle.map.specs.Darts.{edgeEnds}
 use Rattle.map.specs.Links.{cornerFace}
 use Rattle.map.specs.Tickets.{AddIsoNode, MoveIsoNode, RemoveIsoNode, AddIsoEdge, RemoveIsoEdge, ChangeEdgeGeom}
@@ -184,7 +184,7 @@ sent m l u v rest h =
       h₈ .1,
     )
 
-room : (s : Sizes) (m : Map) (a b c : ℕ) → full s m a b c ≡ false → Room s m a b c
+room : (s : Sizes) (m : Map) (a b c : ℕ) → full s m (counts a b c) ≡ false → Room s m a b c
 room s m a b c h =
     let h₁ = or-false (ltb (s .nodes) (length (m .nodes) + a) || ltb (s .edges) (length (m .edges) + b))
     (ltb (s .faces) (length (m .faces) + c)) h in
@@ -195,7 +195,7 @@ room s m a b c h =
       faces = ltb-false (s .faces) (length (m .faces) + c) (h₁ .1);
     }
 
-supply : (m : Map) (a b c : ℕ) → spent m a b c ≡ false → Supply m a b c
+supply : (m : Map) (a b c : ℕ) → spent m (counts a b c) ≡ false → Supply m a b c
 supply m a b c h =
     let h₁ = or-false (ltb (suc lastNumber) (m .nextNode + a) || ltb (suc lastNumber) (m .nextEdge + b))
     (ltb (suc lastNumber) (m .nextFace + c)) h in
@@ -216,8 +216,8 @@ module _ (s : Sizes) (m : Map) where
       let h₅ = first-zero 5 (outside x y) _ (lit< tt) (h₄ .1) in
       let h₁₀ = first-zero 10 (nodeAt (m .nodes) (point x y) || edgeThrough m (point x y)) _ (lit< tt) (h₅ .1) in
       let h₁₂ = first-zero 12 _ _ (lit< tt) (h₁₀ .1) in
-      let h₂₀ = first-zero 20 (full s m 1 0 0) _ (lit< tt) (h₁₂ .1) in
-      let h₂₁ = first-zero 21 (spent m 1 0 0) _ (lit< tt) (h₂₀ .1) in
+      let h₂₀ = first-zero 20 (full s m (counts 1 0 0)) _ (lit< tt) (h₁₂ .1) in
+      let h₂₁ = first-zero 21 (spent m (counts 1 0 0)) _ (lit< tt) (h₂₀ .1) in
       let apart = or-false (nodeAt (m .nodes) (point x y)) (edgeThrough m (point x y)) (h₁₀ .0) in
       record {
         in-range = point-in-range x y (h₅ .0);
@@ -264,8 +264,8 @@ module _ (s : Sizes) (m : Map) where
       let h₁₂ = first-zero 12 (containingDiffer m a b) _ (lit< tt) (h₉ .1) in
       let h₁₄ = first-zero 14 (nodeInside m (curveOf l)) _ (lit< tt) (h₁₂ .1) in
       let h₁₅ = first-zero 15 (edgeWrong (m .edges) (curveOf l)) _ (lit< tt) (h₁₄ .1) in
-      let h₂₀ = first-zero 20 (full s m 0 1 0) _ (lit< tt) (h₁₅ .1) in
-      let h₂₁ = first-zero 21 (spent m 0 1 0) _ (lit< tt) (h₂₀ .1) in
+      let h₂₀ = first-zero 20 (full s m (counts 0 1 0)) _ (lit< tt) (h₁₅ .1) in
+      let h₂₁ = first-zero 21 (spent m (counts 0 1 0)) _ (lit< tt) (h₂₀ .1) in
       let rows = or-false (noNode m u) (noNode m v) (h₄ .0) in
       let alone = or-false (same a b) (not (isolated m a && isolated m b)) (h₉ .0) in
       let both = and-true (isolated m a) (isolated m b) (not-false (isolated m a && isolated m b) (alone .1)) in
@@ -327,8 +327,8 @@ module _ (s : Sizes) (m : Map) where
       let h₅ = first-zero 5 (outside x y) _ (lit< tt) (h₄ .1) in
       let h₁₀ = first-zero 10 (nodeAt (m .nodes) (point x y)) _ (lit< tt) (h₅ .1) in
       let h₁₃ = first-zero 13 (not (onCurve (edge m (natAbs e) .curve) (point x y))) _ (lit< tt) (h₁₀ .1) in
-      let h₂₀ = first-zero 20 (full s m 1 1 0) _ (lit< tt) (h₁₃ .1) in
-      let h₂₁ = first-zero 21 (spent m 1 more 0) _ (lit< tt) (h₂₀ .1) in
+      let h₂₀ = first-zero 20 (full s m (counts 1 1 0)) _ (lit< tt) (h₁₃ .1) in
+      let h₂₁ = first-zero 21 (spent m (counts 1 more 0)) _ (lit< tt) (h₂₀ .1) in
       record {
         has = has-edge m e (h₄ .0);
         in-range = point-in-range x y (h₅ .0);
@@ -371,7 +371,7 @@ module _ (s : Sizes) (m : Map) where
   unfolding reasons
   heal-new e f h = let k = heals e f _ h in (
     k .0,
-    supply m 0 1 0 (first-zero 21 (spent m 0 1 0) [] (lit< tt) (k .1) .0),
+    supply m 0 1 0 (first-zero 21 (spent m (counts 0 1 0)) [] (lit< tt) (k .1) .0),
   )
 
   pub heal-mod : (e f : ℤ) → firstReason (reasons s m (ModEdgeHeal e f)) ≡ 0 → Heal m (natAbs e) (natAbs f)
@@ -395,8 +395,8 @@ module _ (s : Sizes) (m : Map) where
       let h₁₂ = first-zero 12 (cornersDiffer m a b c) _ (lit< tt) (h₁₁ .1) in
       let h₁₄ = first-zero 14 (nodeInside m c) _ (lit< tt) (h₁₂ .1) in
       let h₁₅ = first-zero 15 (edgeWrong (m .edges) c) _ (lit< tt) (h₁₄ .1) in
-      let h₂₀ = first-zero 20 (full s m 0 1 (bit (splitsFace a b c m))) _ (lit< tt) (h₁₅ .1) in
-      let h₂₁ = first-zero 21 (spent m 0 1 (newFaces news m a b c)) _ (lit< tt) (h₂₀ .1) in
+      let h₂₀ = first-zero 20 (full s m (counts 0 1 (bit (splitsFace a b c m)))) _ (lit< tt) (h₁₅ .1) in
+      let h₂₁ = first-zero 21 (spent m (counts 0 1 (newFaces news m a b c))) _ (lit< tt) (h₂₀ .1) in
       let rows = or-false (noNode m u) (noNode m v) (h₄ .0) in
       record {
         has-start = has-node m u (rows .0);
@@ -424,7 +424,7 @@ module _ (s : Sizes) (m : Map) where
   unfolding reasons
   remove-new e h =
       let h₄ = first-zero 4 (noEdge m e) _ (lit< tt) h in
-      let h₂₁ = first-zero 21 (spent m 0 0 (bit (makesFace true (natAbs e) m))) _ (lit< tt) (h₄ .1) in
+      let h₂₁ = first-zero 21 (spent m (counts 0 0 (bit (makesFace true (natAbs e) m)))) _ (lit< tt) (h₄ .1) in
       record { has = has-edge m e (h₄ .0); supply = supply m 0 0 (bit (makesFace true (natAbs e) m)) (h₂₁ .0) }
 
   pub remove-mod : (e : ℤ) → firstReason (reasons s m (RemEdgeModFace e)) ≡ 0 → hasEdge m (natAbs e) ≡ true

@@ -3,7 +3,7 @@
 -- nothing.
 use mathlib.Core.Path.{_≡_, refl, ap, _∙_}
 use mathlib.Core.Bool.{true, false, _&&_, _||_}
-use mathlib.Core.List.{List, map, flatMap}
+use mathlib.Core.List.{List, [], _∷_, map, flatMap}
 use Prim.Native.Nat.{ℕ, zero, suc, _+_, _*_, _/_, _≤_, _<_}
 use native.Mathlib.Omega.{arith}
 use lib.Dec.{ltb}
@@ -15,26 +15,28 @@ use Rattle.lists.specs.Scans.{allOf, firstOr}
 use Rattle.lists.specs.Members.{Distinct}
 use Rattle.lists.specs.Tables.{place}
 use Rattle.lists.specs.declared.Found.the-variants.{Missing}
+use Rattle.tables.specs.Tables.{sameZ, column, filled, numbered}
+use Rattle.tables.proofs.Filled.{WholeRows, whole-rows, Wide}
+use Rattle.tables.proofs.Tests.{within-pos}
+use Rattle.tables.proofs.Rising.{all-weaker, numbered-wider}
 use Rattle.curves.proofs.Runs.{and-left, and-right}
+use Rattle.map.specs.declared.Counts.{Counts}
 use Rattle.map.specs.declared.Head.{Head}
 use Rattle.map.specs.Limits.{maxNodes, maxEdges, maxFaces, lastNumber, nodeWidth, edgeWidth, faceWidth}
-use Rattle.map.specs.Rows.{Edge, Map, Lent, Sizes, mapOf, lentOf, sizesOf, headOf, nodeCells, edgeCells}
-use Rattle.tables.specs.Tables.{sameZ, column, filled, numbered}
-use Rattle.map.specs.Rows.{faceCells, whole, hasNode, hasEdge, hasFace}
+use Rattle.map.specs.Rows.{Edge, Map, Lent, Sizes, mapOf, lentOf, sizesOf, headOf, nodeCells, edgeCells, faceCells}
+use Rattle.map.specs.Rows.{whole, hasNode, hasEdge, hasFace, counts}
 use Rattle.map.specs.Form.{numbers, inFace, edgeNames, named, ranged, formed, inForm}
 use Rattle.map.specs.Tickets.{Ticket}
-use Rattle.map.specs.Reasons.{firstReason, reasons, full, spent, noNode, noEdge}
+use Rattle.map.specs.Reasons.{firstReason, reasons, full, spent, roomReasons, noNode, noEdge}
 use Rattle.map.specs.Ticket.{carried}
 use Rattle.map.proofs.RoundTrip.{Ranged, ranged-is, whole-tables}
-use Rattle.tables.proofs.Filled.{WholeRows, whole-rows, Wide}
 use Rattle.map.proofs.Laws.{formed-is, in-form-back}
 use Rattle.map_rows.specs.Rows.{nodesOf, edgesOf, facesOf, edgeMap, NodeRows, EdgeRows, FaceRows}
 use Rattle.map_rows.proofs.Rows.{nodes-length, edges-length, faces-length}
 use Rattle.map_rows.proofs.RowCurves.{table-edges-wide}
-use Rattle.tables.proofs.Tests.{within-pos}
 use Rattle.map_rows.proofs.Lookups.{node-missing, edge-missing}
+use Rattle.head.specs.Heads.{Counted, sizesIn, fullAt, spentAt, roomAt}
 use Rattle.form_ranges.specs.Ranges.{lent}
-use Rattle.tables.proofs.Rising.{all-weaker, numbered-wider}
 use Rattle.outcomes.specs.declared.Done.{Done}
 use Rattle.outcomes.specs.Outcomes.{Formed, decided, outcome}
 
@@ -94,6 +96,18 @@ module _ {nodes edges faces : List ℤ} {h : Head} (f : Formed nodes edges faces
 
   pub faces-size : (length faces / faceWidth * faceWidth ≡ length faces) × (length faces / faceWidth ≤ maxFaces)
   faces-size = (faces-whole .size, faces-whole .most)
+
+  -- counts and next numbers within the limits
+  pub counted : Counted h
+  counted =
+      record {
+        nodes = record { natural = nodes-count .0; most = omega (arith, nodes-count .2, nodes-size .1) };
+        edges = record { natural = edges-count .0; most = omega (arith, edges-count .2, edges-size .1) };
+        faces = record { natural = faces-count .0; most = omega (arith, faces-count .2, faces-size .1) };
+        next-node = record { natural = node-next .0; most = node-next .2 };
+        next-edge = record { natural = edge-next .0; most = edge-next .2 };
+        next-face = record { natural = face-next .0; most = face-next .2 };
+      }
 
   -- the rows in use fit
   pub nodes-fit : natAbs (h .nodes) * nodeWidth ≤ length nodes
@@ -222,7 +236,8 @@ module _ {nodes edges faces : List ℤ} {h : Head} (f : Formed nodes edges faces
 
   -- ---- 20 and 21: what no table lacks room or numbers for
 
-  pub full-is : (a b c : ℕ) → full (sizesOf (lent nodes edges faces h)) (mapOf (lent nodes edges faces h)) a b c
+  pub full-is : (a b c : ℕ) → full (sizesOf (lent nodes edges faces h)) (mapOf (lent nodes edges faces h))
+      (counts a b c)
       ≡ ltb (length nodes / nodeWidth) (natAbs (h .nodes) + a)
       || ltb (length edges / edgeWidth) (natAbs (h .edges) + b)
       || ltb (length faces / faceWidth) (natAbs (h .faces) + c)
@@ -233,7 +248,7 @@ module _ {nodes edges faces : List ℤ} {h : Head} (f : Formed nodes edges faces
     faces-length faces (natAbs (h .faces)),
   )
 
-  pub spent-is : (a b c : ℕ) → spent (mapOf (lent nodes edges faces h)) a b c
+  pub spent-is : (a b c : ℕ) → spent (mapOf (lent nodes edges faces h)) (counts a b c)
       ≡ ltb (suc lastNumber) (natAbs (h .«next_node») + a) || ltb (suc lastNumber) (natAbs (h .«next_edge») + b)
       || ltb (suc lastNumber) (natAbs (h .«next_face») + c)
   unfolding mapOf
@@ -257,6 +272,24 @@ module _ {nodes edges faces : List ℤ} {h : Head} (f : Formed nodes edges faces
 
   pub face-left : ltb (suc lastNumber) (natAbs (h .«next_face») + 0) ≡ false
   face-left = le-ltb (suc lastNumber) (natAbs (h .«next_face») + 0) (omega (arith, face-next .2))
+
+  -- 20 and 21 of the map are those that are read from the head
+  pub full-at : (rows : Counts) → fullAt (sizesIn nodes edges faces) h rows
+      ≡ full (sizesOf (lent nodes edges faces h)) (mapOf (lent nodes edges faces h)) rows
+  unfolding mapOf fullAt
+  full-at rows = rw (
+    nodes-length nodes (natAbs (h .nodes)),
+    edges-length edges (natAbs (h .edges)),
+    faces-length faces (natAbs (h .faces)),
+  )
+
+  pub spent-at : (numbers : Counts) → spentAt h numbers ≡ spent (mapOf (lent nodes edges faces h)) numbers
+  unfolding mapOf spentAt
+  spent-at numbers = refl
+
+  pub room-at : (rows numbers : Counts) → roomAt (sizesIn nodes edges faces) h rows numbers
+      ≡ roomReasons (sizesOf (lent nodes edges faces h)) (mapOf (lent nodes edges faces h)) rows numbers
+  room-at rows numbers = λ i. (20, full-at rows i) ∷ (21, spent-at numbers i) ∷ []
 
 -- ---- what is lent after an edit
 

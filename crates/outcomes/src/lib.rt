@@ -2,22 +2,12 @@
 use map::Answer;
 use map::Head;
 ghost use mathlib.Core.Path.{_≡_};
-ghost use mathlib.Core.Bool.{true};
-ghost use lib.IntN.{pos, natAbs};
-ghost use lib.Signed.{nonNeg};
+ghost use lib.IntN.{pos};
 
 // The head after a call and its answer.
 pub struct Done {
     pub head: Head,
     pub answer: Answer,
-}
-
-// A count or a next number of a head in form.
-pub fn to_usize(z: i64) -> usize
-    requires { ⌜ nonNeg z ≡ true ⌝ }
-    ensures { λ r. ⌜ r ≡ natAbs z ⌝ }
-{
-    z as usize
 }
 
 // Turned down: the head as it was, and value 0.

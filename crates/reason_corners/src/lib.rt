@@ -21,6 +21,8 @@ ghost use Rattle.reason_corners.specs.CornerFaces.{cornerCell};
 ghost use Rattle.reason_corners.specs.Drawing.{drawnDart, cornerAt, endCorner, firstOf, Linkable, Joined};
 ghost use mathlib.Core.List.{map};
 ghost use Prim.Native.Nat.{ℕ, _+_, _*_, _≤_, _<_};
+ghost use mathlib.Core.List.{map};
+ghost use Prim.Native.Nat.{ℕ, _+_, _*_, _≤_, _<_};
 
 // The corner face of v: left of the first existing departure met turning clockwise from it; at an isolated node, the
 // containing face.

@@ -1,58 +1,43 @@
 -- The first reason of kinds 11 and 12 from its parts, on tables in form. Assumes nothing.
 use mathlib.Core.Path.{_≡_, refl, sym, ap, ap₂, _∙_}
-use mathlib.Core.Bool.{Bool, true, false, _||_, true≢false}
-use mathlib.Core.List.{List, [], _∷_, _++_}
+use mathlib.Core.Bool.{Bool, true, false, _||_}
+use mathlib.Core.List.{List, _∷_, _++_}
 use Prim.Native.Nat.{ℕ, suc, _+_, _/_, _<_, _≤_}
 use native.Mathlib.Omega.{arith}
-use lib.Dec.{ltb, lit<}
+use lib.Dec.{lit<}
 use lib.IntN.{ℤ, pos, natAbs}
 use lib.ListN.{length}
 use lib.Signed.{nonNeg}
-use borrow.Author.Tests.{not-false, ltb-false}
+use borrow.Author.Tests.{not-false}
 use Rattle.lists.specs.Tests.{bit}
 use Rattle.lists.specs.Tables.{place}
 use Rattle.lists.proofs.Bools.{or-right}
 use Rattle.lists.specs.declared.Found.the-variants.{At, Missing}
-use mathlib.Core.Option.{some}
+use Rattle.tables.specs.Tables.{sameZ, column}
 use Rattle.plane.specs.Directions.{Way}
 use Rattle.curves.specs.Curves.{Run, isRun, curveOf, startWay}
 use Rattle.map.specs.declared.Head.{Head}
 use Rattle.map.specs.Limits.{nodeWidth, lastNumber}
-use Rattle.map.specs.Rows.{Map, Sizes, mapOf, sizesOf, findNode}
+use Rattle.map.specs.Rows.{Map, Sizes, mapOf, sizesOf, findNode, counts}
 use Rattle.map.specs.Links.{cornerFace}
 use Rattle.map.specs.Edits.{splitsFace}
-use Rattle.map.specs.Reasons.{firstReason, reasons, noNode, full, spent}
+use Rattle.map.specs.Reasons.{firstReason, reasons, noNode}
 use Rattle.map.proofs.Laws.{formed-is}
-use Rattle.tables.specs.Tables.{sameZ, column}
+use Rattle.map.proofs.Reasons.{first-hit, first-miss, first-zero, first-append, first-after}
 use Rattle.map_rows.specs.Rows.{nodeAt}
 use Rattle.map_rows.proofs.Lookups.{node-found}
+use Rattle.head.specs.Heads.{Left, sizesIn, roomAt}
+use Rattle.head.proofs.Heads.{room-left}
 use Rattle.form_ranges.specs.Ranges.{lent}
 use Rattle.outcomes.specs.Outcomes.{Formed}
-use Rattle.outcomes.proofs.Formed.{ranges, formed-map, nodes-count, edges-count, faces-count, edge-next, face-next}
-use Rattle.outcomes.proofs.Formed.{nodes-size, edges-size, faces-size, node-rows, edge-rows, full-is, spent-is}
-use Rattle.outcomes.proofs.Formed.{nodes-room, node-left, numbers-rise, node-none}
-use Rattle.map.proofs.Reasons.{first-hit, first-miss, first-zero, first-append, first-after}
+use Rattle.outcomes.proofs.Formed.{ranges, formed-map, counted, node-rows, edge-rows, room-at, numbers-rise, node-none}
 use Rattle.reason_corners.specs.CornerFaces.{cornerCell}
 use Rattle.reason_corners.proofs.CornerFaces.{corner-in-form}
 use Rattle.reason_edges.specs.declared.Judged.{Judged}
 use Rattle.reason_edges.specs.Kinds.{addTicket}
-use Rattle.reason_edges.specs.Parts.{drawingReasons, growthReasons, roomReasons, makesSecond}
-use Rattle.reason_edges.specs.Judging.{Counted, Held, JudgedRows, JudgedAdd}
-
--- none of three tests holds
-none-of : (a b c : Bool) → a || b || c ≡ false → (b ≡ false) × (c ≡ false)
-none-of false false c e = (refl, e)
-none-of false true c e = absurd (true≢false e)
-none-of true b c e = absurd (true≢false e)
-
--- the tests of room and numbers, of counts as they were read
-pub room-told : (l fs : List ℤ) (more : ℕ) {a b x y : ℕ} {v : Bool} → x ≡ a → y ≡ b → ltb (length l / 32) (x + 1)
-    || ltb (length fs) (y + more) ≡ v → ltb (length l / 32) (a + 1) || ltb (length fs) (b + more) ≡ v
-room-told l fs more ex ey e = sym (λ i. ltb (length l / 32) (ex i + 1) || ltb (length fs) (ey i + more)) ∙ e
-
-pub spent-told : (more : ℕ) {a b x y : ℕ} {v : Bool} → x ≡ a → y ≡ b → ltb 1000000 (x + 1) || ltb 1000000 (y + more)
-    ≡ v → ltb 1000000 (a + 1) || ltb 1000000 (b + more) ≡ v
-spent-told more ex ey e = sym (λ i. ltb 1000000 (ex i + 1) || ltb 1000000 (ey i + more)) ∙ e
+use Rattle.reason_edges.specs.Parts.{drawingReasons, growthReasons, makesSecond}
+use Rattle.reason_edges.specs.Judging.{Held, JudgedRows, JudgedAdd}
+use mathlib.Core.Option.{some}
 
 module _ {nodes edges faces : List ℤ} {h : Head} (f : Formed nodes edges faces h) where
   abbrev m : Map
@@ -62,23 +47,10 @@ module _ {nodes edges faces : List ℤ} {h : Head} (f : Formed nodes edges faces
   s = sizesOf (lent nodes edges faces h)
 
   pub few-nodes : natAbs (h .nodes) ≤ 1000000
-  few-nodes = omega (arith, nodes-count f .2, nodes-size f .1)
+  few-nodes = omega (arith, counted f .nodes .most)
 
   pub few-edges : natAbs (h .edges) ≤ 2000
-  few-edges = omega (arith, edges-count f .2, edges-size f .1)
-
-  pub counted : Counted h
-  counted =
-      record {
-        edges = edges-count f .0;
-        few-edges = omega (arith, few-edges);
-        faces = faces-count f .0;
-        few-faces = omega (arith, faces-count f .2, faces-size f .1);
-        next-edge = edge-next f .0;
-        most-edges = edge-next f .2;
-        next-face = face-next f .0;
-        most-faces = face-next f .2;
-      }
+  few-edges = counted f .edges .most
 
   pub held : Held nodes (natAbs (h .nodes)) edges (natAbs (h .edges)) m
   unfolding mapOf
@@ -117,20 +89,10 @@ module _ {nodes edges faces : List ℤ} {h : Head} (f : Formed nodes edges faces
     run-drawn e = record { is = not-false (isRun sent) (first-zero 5 _ _ (lit< tt) e .0) }
 
     growth-told : firstReason (growthReasons news s m a b sent)
-        ≡ firstReason (roomReasons edges faces h (bit splits) (bit splits + bit (makesSecond splits news corner)))
-    growth-told = ap₂ (λ (x y : Bool). firstReason ((20, x) ∷ (21, y) ∷ [])) room numbers-left
-      where
-        one : length faces / 1 ≡ length faces
-        one = omega (arith, faces-size f .0)
-
-        room : full s m 0 1 (bit splits) ≡ ltb (length edges / 32) (natAbs (h .edges) + 1)
-            || ltb (length faces) (natAbs (h .faces) + bit splits)
-        room = full-is f 0 1 (bit splits) ∙ rw (nodes-room f, one)
-
-        numbers-left : spent m 0 1 (bit splits + bit (makesSecond splits news corner))
-            ≡ ltb (suc lastNumber) (natAbs (h .«next_edge») + 1)
-            || ltb (suc lastNumber) (natAbs (h .«next_face») + (bit splits + bit (makesSecond splits news corner)))
-        numbers-left = spent-is f 0 1 (bit splits + bit (makesSecond splits news corner)) ∙ rw (node-left f)
+        ≡ firstReason (roomAt (sizesIn nodes edges faces) h (counts 0 1 (bit splits))
+        (counts 0 1 (bit splits + bit (makesSecond splits news corner))))
+    growth-told = ap firstReason (sym (room-at f (counts 0 1 (bit splits))
+        (counts 0 1 (bit splits + bit (makesSecond splits news corner)))))
 
     pub rows-turned : {r : Judged} {k : ℕ} → 0 < k → k ≡ firstReason (drawingReasons m a b sent) → r .reason ≡ k
         → JudgedRows news nodes edges faces h u v sent r
@@ -146,10 +108,12 @@ module _ {nodes edges faces : List ℤ} {h : Head} (f : Formed nodes edges faces
     pub rows-known : {r : Judged} {x y : ℕ} → firstReason (drawingReasons m a b sent) ≡ 0 → Run sent → r .start ≡ u
         → r .end ≡ v → r .face ≡ pos corner → r .splits ≡ splits → x ≡ bit splits → y
         ≡ bit (makesSecond splits news corner)
-        → r .reason ≡ firstReason (roomReasons edges faces h x (x + y)) → JudgedRows news nodes edges faces h u v sent r
+        → r .reason ≡ firstReason (roomAt (sizesIn nodes edges faces) h (counts 0 1 x) (counts 0 1 (x + y)))
+        → JudgedRows news nodes edges faces h u v sent r
     rows-known clear run eu ev ez ew ex ey e =
         record {
-          reason = e ∙ (λ i. firstReason (roomReasons edges faces h (ex i) (ex i + ey i))) ∙ sym growth-told
+          reason = e ∙ (λ i. firstReason
+              (roomAt (sizesIn nodes edges faces) h (counts 0 1 (ex i)) (counts 0 1 (ex i + ey i)))) ∙ sym growth-told
               ∙ sym (first-after (drawingReasons m a b sent) (growthReasons news s m a b sent) refl clear);
           start = λ z. eu;
           end = λ z. ev;
@@ -230,21 +194,15 @@ module _ {nodes edges faces : List ℤ} {h : Head} (f : Formed nodes edges faces
         let z14 = first-zero 14 _ _ (lit< tt) z12 .1 in
         first-zero 15 _ _ (lit< tt) z14 .1
 
+    left : Left (sizesIn nodes edges faces) h (counts 0 1 (bit (splitsFace (natAbs u) (natAbs v) (curveOf sent) m)))
+        (counts 0 1 (bit (splitsFace (natAbs u) (natAbs v) (curveOf sent) m)
+        + bit (makesSecond (splitsFace (natAbs u) (natAbs v) (curveOf sent) m) news
+        (cornerFace m (natAbs u) (startWay (curveOf sent))))))
+    left = room-left (sizesIn nodes edges faces) h _ _ (ap firstReason (room-at f _ _) ∙ grows)
+
     pub room-known : (natAbs (h .edges) + 1 ≤ length edges / 32)
         × (natAbs (h .faces) + bit (splitsFace (natAbs u) (natAbs v) (curveOf sent) m) ≤ length faces / 1)
-    room-known =
-        let k = bit (splitsFace (natAbs u) (natAbs v) (curveOf sent) m) in
-        let e = sym (full-is f 0 1 k) ∙ first-zero 20 _ _ (lit< tt) grows .0 in
-        let o = none-of (ltb (length nodes / 4) (natAbs (h .nodes) + 0))
-        (ltb (length edges / 32) (natAbs (h .edges) + 1)) (ltb (length faces / 1) (natAbs (h .faces) + k)) e in (
-          ltb-false (length edges / 32) (natAbs (h .edges) + 1) (o .0),
-          ltb-false (length faces / 1) (natAbs (h .faces) + k) (o .1),
-        )
+    room-known = (left .edges, left .faces)
 
     pub number-known : natAbs (h .«next_edge») + 1 ≤ suc lastNumber
-    number-known =
-        let late = first-zero 20 _ _ (lit< tt) grows .1 in
-        let e = sym (spent-is f 0 1 _) ∙ first-zero 21 _ _ (lit< tt) late .0 in
-        ltb-false (suc lastNumber) (natAbs (h .«next_edge») + 1)
-        (none-of (ltb (suc lastNumber) (natAbs (h .«next_node») + 0))
-        (ltb (suc lastNumber) (natAbs (h .«next_edge») + 1)) _ e .0)
+    number-known = left .next-edge

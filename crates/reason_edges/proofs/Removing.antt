@@ -10,19 +10,20 @@ use lib.Signed.{nonNeg}
 use Rattle.lists.specs.Tests.{bit}
 use Rattle.lists.specs.Tables.{place}
 use Rattle.lists.specs.declared.Found.the-variants.{At, Missing}
+use Rattle.tables.specs.Tables.{sameZ, column}
 use Rattle.map.specs.declared.Head.{Head}
 use Rattle.map.specs.Limits.{edgeWidth}
-use Rattle.map.specs.Rows.{Map, Sizes, mapOf, sizesOf, findEdge}
+use Rattle.map.specs.Rows.{Map, Sizes, counts, mapOf, sizesOf, findEdge}
 use Rattle.map.specs.Edits.{makesFace, healsFaces}
 use Rattle.map.specs.Reasons.{firstReason, reasons, noEdge}
-use Rattle.tables.specs.Tables.{sameZ, column}
-use Rattle.map_rows.specs.Rows.{edgeAt}
-use Rattle.map_rows.proofs.Lookups.{edge-found, edge-missing}
-use Rattle.form_ranges.specs.Ranges.{lent}
-use Rattle.outcomes.specs.Outcomes.{Formed}
-use Rattle.outcomes.proofs.Formed.{ranges, spent-is, node-left, edge-left, face-left}
 use Rattle.map.proofs.Reasons.{first-hit, first-miss, first-none}
 use Rattle.map.proofs.Laws.{edge-is}
+use Rattle.map_rows.specs.Rows.{edgeAt}
+use Rattle.map_rows.proofs.Lookups.{edge-found, edge-missing}
+use Rattle.head.specs.Heads.{spentAt}
+use Rattle.form_ranges.specs.Ranges.{lent}
+use Rattle.outcomes.specs.Outcomes.{Formed}
+use Rattle.outcomes.proofs.Formed.{ranges, spent-at, node-left, edge-left, face-left}
 use Rattle.reason_edges.specs.declared.Removal.{Removal}
 use Rattle.reason_edges.specs.Kinds.{removeTicket}
 use Rattle.reason_edges.specs.Parts.{makesOf, faceReasons}
@@ -55,6 +56,10 @@ module _ {nodes edges faces : List ℤ} {h : Head} (f : Formed nodes edges faces
         makes = λ k. absurd (omega (arith, er, k));
       }
 
+  none-spent : spentAt h (counts 0 0 0) ≡ false
+  unfolding spentAt
+  none-spent = rw (node-left f, edge-left f, face-left f)
+
   module _ (z : ℤ) (i : ℕ) (e : place (sameZ z) 0 (column edgeWidth edges (natAbs (h .edges))) ≡ At i) where
     hit : (i < natAbs (h .edges)) × (z ≡ pos (edgeAt edges i .number)) × (findEdge m (natAbs z) ≡ some (edgeAt edges i))
     unfolding mapOf
@@ -76,8 +81,8 @@ module _ {nodes edges faces : List ℤ} {h : Head} (f : Formed nodes edges faces
     late true =
         first-miss 4 _ _ there
         ∙ ap (λ (b : Bool). firstReason ((21, b) ∷ []))
-        (spent-is f 0 0 (bit (makesFace true (natAbs z) m)) ∙ rw (node-left f, edge-left f))
-    late false = first-miss 4 _ _ there ∙ first-none ∙ sym (first-miss 21 _ _ (face-left f) ∙ first-none)
+        (sym (spent-at f (counts 0 0 (bit (makesFace true (natAbs z) m)))))
+    late false = first-miss 4 _ _ there ∙ first-none ∙ sym (first-miss 21 _ _ none-spent ∙ first-none)
 
     pub removal-found : (news : Bool) {r : Removal} {w : Bool} {x : ℕ} → r .row ≡ i → r .makes ≡ w → w
         ≡ makesOf news (edgeAt edges i) → x ≡ bit w → r .reason ≡ firstReason (faceReasons h x)

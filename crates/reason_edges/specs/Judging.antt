@@ -1,14 +1,13 @@
--- What the functions require and promise: counts as tables in form have them, a map that the rows hold, and what is
--- known where no reason holds.
+-- What the functions require and promise: a map that the rows hold, and what is known where no reason holds.
 use mathlib.Core.Path.{_≡_}
 use mathlib.Core.Bool.{Bool, true}
 use mathlib.Core.List.{List, _++_, map}
-use Prim.Native.Nat.{ℕ, suc, _≤_}
+use Prim.Native.Nat.{ℕ}
 use lib.IntN.{ℤ, pos, natAbs}
 use Rattle.lists.specs.Tables.{place}
 use Rattle.lists.specs.declared.Found.the-variants.{At}
 use Rattle.curves.specs.Curves.{Run, curveOf, startWay}
-use Rattle.map.specs.Limits.{nodeWidth, edgeWidth, lastNumber}
+use Rattle.map.specs.Limits.{nodeWidth, edgeWidth}
 use Rattle.map.specs.declared.Head.{Head}
 use Rattle.map.specs.Rows.{Map, mapOf, sizesOf}
 use Rattle.map.specs.Form.{bareMarked}
@@ -22,16 +21,6 @@ use Rattle.reason_edges.specs.declared.Judged.{Judged}
 use Rattle.reason_edges.specs.declared.Removal.{Removal}
 use Rattle.reason_edges.specs.Kinds.{addTicket, removeTicket}
 use Rattle.reason_edges.specs.Parts.{drawingReasons, growthReasons}
-
-pub record Counted (h : Head) : Type 0 where
-  pub edges : h .edges ≡ pos (natAbs (h .edges))
-  pub few-edges : natAbs (h .edges) ≤ 1000000
-  pub faces : h .faces ≡ pos (natAbs (h .faces))
-  pub few-faces : natAbs (h .faces) ≤ 1000000
-  pub next-edge : h .«next_edge» ≡ pos (natAbs (h .«next_edge»))
-  pub most-edges : natAbs (h .«next_edge») ≤ suc lastNumber
-  pub next-face : h .«next_face» ≡ pos (natAbs (h .«next_face»))
-  pub most-faces : natAbs (h .«next_face») ≤ suc lastNumber
 
 -- a map of these nodes and edges, whose next number is new
 pub record Held (nodes : List ℤ) (n : ℕ) (edges : List ℤ) (e : ℕ) (m : Map) : Type 0 where

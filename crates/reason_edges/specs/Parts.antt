@@ -1,18 +1,17 @@
 -- The reasons of kinds 11 to 14 in parts, as the functions ask them.
-use mathlib.Core.Bool.{Bool, not, _&&_, _||_}
+use mathlib.Core.Bool.{Bool, not, _&&_}
 use mathlib.Core.List.{List, [], _∷_, _++_}
-use Prim.Native.Nat.{ℕ, suc, _+_, _/_, min}
-use lib.Dec.{ltb}
-use lib.IntN.{ℤ, natAbs}
-use lib.ListN.{length}
+use Prim.Native.Nat.{ℕ, _+_, min}
+use lib.IntN.{ℤ}
 use Rattle.lists.specs.Tests.{same, bit}
 use Rattle.curves.specs.Curves.{curveOf, startWay}
 use Rattle.map.specs.declared.Head.{Head}
-use Rattle.map.specs.Limits.{edgeWidth, lastNumber}
-use Rattle.map.specs.Rows.{Map, Sizes, Edge}
+use Rattle.map.specs.Rows.{Map, Sizes, Edge, counts}
 use Rattle.map.specs.Links.{cornerFace}
 use Rattle.map.specs.Edits.{splitsFace}
-use Rattle.map.specs.Reasons.{Reasons, curveReasons, meetingReasons, directionTaken, cornersDiffer, full, spent}
+use Rattle.map.specs.Reasons.{Reasons, curveReasons, meetingReasons, directionTaken, cornersDiffer}
+use Rattle.map.specs.Reasons.{roomReasons}
+use Rattle.head.specs.Heads.{spentAt}
 
 -- kinds 11 and 12, of nodes that exist: 5 to 15
 abbrev pub drawingReasons : Map → ℕ → ℕ → List ℤ → Reasons
@@ -28,18 +27,7 @@ abbrev pub growthReasons : Bool → Sizes → Map → ℕ → ℕ → List ℤ �
 growthReasons news s m a b sent =
     let splits = splitsFace a b (curveOf sent) m in
     let second = makesSecond splits news (cornerFace m a (startWay (curveOf sent))) in
-    (20, full s m 0 1 (bit splits)) ∷ (21, spent m 0 1 (bit splits + bit second)) ∷ []
-
--- an edge more, so many rows of faces, and so many numbers of faces
-abbrev pub roomReasons : List ℤ → List ℤ → Head → ℕ → ℕ → Reasons
-roomReasons edges faces h more numbers =
-    (20, ltb (length edges / edgeWidth) (natAbs (h .edges) + 1) || ltb (length faces) (natAbs (h .faces) + more))
-    ∷ (
-      21,
-      ltb (suc lastNumber) (natAbs (h .«next_edge») + 1)
-          || ltb (suc lastNumber) (natAbs (h .«next_face») + numbers),
-    )
-    ∷ []
+    roomReasons s m (counts 0 1 (bit splits)) (counts 0 1 (bit splits + bit second))
 
 -- a row whose removal makes a new face
 abbrev pub makesOf : Bool → Edge → Bool
@@ -47,4 +35,4 @@ makesOf news e = news && not (same (e .left) (e .right)) && not (same (min (e .l
 
 -- 21, of so many numbers of faces
 abbrev pub faceReasons : Head → ℕ → Reasons
-faceReasons h numbers = (21, ltb (suc lastNumber) (natAbs (h .«next_face») + numbers)) ∷ []
+faceReasons h numbers = (21, spentAt h (counts 0 0 numbers)) ∷ []

@@ -1,5 +1,6 @@
 // The reasons against kinds 11 to 14, in order, and what is known of the edge where none holds.
 use lists::Found;
+use map::Counts;
 use map::Head;
 ghost use mathlib.Core.Path.{_≡_};
 ghost use mathlib.Core.Bool.{true};
@@ -7,11 +8,13 @@ ghost use Prim.Native.Nat.{_≤_, _<_};
 ghost use lib.IntN.{natAbs};
 ghost use lib.Signed.{nonNeg};
 ghost use Rattle.lists.specs.Tests.{bit};
+ghost use Rattle.map.specs.Rows.{counts};
 ghost use Rattle.map.specs.Reasons.{firstReason};
 ghost use Rattle.map_rows.specs.Rows.{NodeRows, EdgeRows, EdgeRow, nodeAt, edgeAt};
+ghost use Rattle.head.specs.Heads.{Counted, sizesIn, roomAt};
 ghost use Rattle.outcomes.specs.Outcomes.{Formed};
-ghost use Rattle.reason_edges.specs.Parts.{drawingReasons, roomReasons, makesSecond, makesOf, faceReasons};
-ghost use Rattle.reason_edges.specs.Judging.{Counted, Held, JudgedRows, JudgedAdd, JudgedRemoval};
+ghost use Rattle.reason_edges.specs.Parts.{drawingReasons, makesSecond, makesOf, faceReasons};
+ghost use Rattle.reason_edges.specs.Judging.{Held, JudgedRows, JudgedAdd, JudgedRemoval};
 
 // The first reason against a new edge; where it is 0, the rows of its nodes, its corner face, and whether that is
 // split.
@@ -97,20 +100,29 @@ fn drawing_reason(
 }
 
 // 20 or 21 against an edge more, so many rows of faces and so many numbers of faces; 0 for none.
-fn room_reason(edges: &[i64], faces: &[i64], h: Head, more: usize, numbers: usize) -> u64
+fn room_reason(
+    nodes: &[i64],
+    edges: &[i64],
+    faces: &[i64],
+    h: Head,
+    more: usize,
+    numbers: usize,
+) -> u64
     requires { ⌜ Counted h × (more ≤ 1) × (numbers ≤ 2) ⌝ }
-    ensures { λ r. ⌜ r ≡ firstReason (roomReasons (now (edges .entry)) (now (faces .entry)) h more numbers) ⌝ }
+    ensures { λ r. ⌜ r ≡ firstReason (roomAt (sizesIn (now (nodes .entry)) (now (edges .entry)) (now (faces .entry))) h
+        (counts 0 1 more) (counts 0 1 numbers)) ⌝ }
 {
-    let full = edges.len() / map::EDGE_WIDTH < outcomes::to_usize(h.edges) + 1;
-    if full | (faces.len() < outcomes::to_usize(h.faces) + more) {
-        return 20;
-    }
-    let spent = map::NUMBERS < outcomes::to_usize(h.next_edge) + 1;
-    if spent | (map::NUMBERS < outcomes::to_usize(h.next_face) + numbers) {
-        21
-    } else {
-        0
-    }
+    let rows = Counts {
+        nodes: 0,
+        edges: 1,
+        faces: more,
+    };
+    let given = Counts {
+        nodes: 0,
+        edges: 1,
+        faces: numbers,
+    };
+    head::room_reason(head::sizes_of(nodes, edges, faces), h, rows, given)
 }
 
 // From 5 on, of an edge from node row u to node row v.
@@ -128,8 +140,8 @@ fn judge_rows(
     ensures { λ r. ⌜ JudgedRows news (now (nodes .entry)) (now (edges .entry)) (now (faces .entry)) h u v
         (now (c .entry)) r ⌝ }
 {
-    let e = outcomes::to_usize(h.edges);
-    let reason = drawing_reason(nodes, outcomes::to_usize(h.nodes), edges, e, u, v, c);
+    let e = head::to_usize(h.edges);
+    let reason = drawing_reason(nodes, head::to_usize(h.nodes), edges, e, u, v, c);
     if reason != 0 {
         return turned_down(reason);
     }
@@ -137,7 +149,7 @@ fn judge_rows(
     let splits = reason_corners::splits_face(nodes, edges, e, u, v, c);
     let more = bit_of(splits);
     let second = bit_of(makes_second(splits, news, face));
-    let late = room_reason(edges, faces, h, more, more + second);
+    let late = room_reason(nodes, edges, faces, h, more, more + second);
     Judged {
         reason: late,
         start: u,
@@ -161,7 +173,7 @@ pub fn judge_add(
     ensures { λ r. ⌜ JudgedAdd news (now (nodes .entry)) (now (edges .entry)) (now (faces .entry)) h start end
         (now (c .entry)) r ⌝ }
 {
-    let n = outcomes::to_usize(h.nodes);
+    let n = head::to_usize(h.nodes);
     let found = tables::find_row(nodes, map::NODE_WIDTH, n, start);
     let Found::At(u) = found else {
         return turned_down(4);
@@ -190,11 +202,12 @@ fn face_reason(h: Head, numbers: usize) -> u64
     requires { ⌜ Counted h × (numbers ≤ 1) ⌝ }
     ensures { λ r. ⌜ r ≡ firstReason (faceReasons h numbers) ⌝ }
 {
-    if map::NUMBERS < outcomes::to_usize(h.next_face) + numbers {
-        21
-    } else {
-        0
-    }
+    let given = Counts {
+        nodes: 0,
+        edges: 0,
+        faces: numbers,
+    };
+    if head::is_spent(h, given) { 21 } else { 0 }
 }
 
 pub fn judge_removal(edges: &[i64], h: Head, news: bool, edge: i64) -> Removal
@@ -202,7 +215,7 @@ pub fn judge_removal(edges: &[i64], h: Head, news: bool, edge: i64) -> Removal
     ensures { λ r. ⌜ ((nodes : _) (faces : _) → Formed nodes (now (edges .entry)) faces h
         → JudgedRemoval news nodes (now (edges .entry)) faces h edge r) ⌝ }
 {
-    let e = outcomes::to_usize(h.edges);
+    let e = head::to_usize(h.edges);
     let found = tables::find_row(edges, map::EDGE_WIDTH, e, edge);
     let Found::At(row) = found else {
         return Removal {

@@ -15,18 +15,19 @@ use Rattle.lists.specs.Tables.{place}
 use Rattle.map.specs.declared.Head.{Head}
 use Rattle.tables.specs.Tables.{sameZ, column, closed}
 use Rattle.darts.proofs.Positions.{cells-of}
-use Rattle.outcomes.proofs.Words.{count-natural, count-abs}
-use Rattle.edit_heal.specs.Heals.{Numbered, healedNumber, healedRows}
+use Rattle.head.specs.Heads.{Counted}
+use Rattle.head.proofs.Words.{count-natural, count-abs}
+use Rattle.edit_heal.specs.Heals.{healedNumber, healedRows}
 use Rattle.edit_heal.proofs.carry_out.Statement.{statement}
 use Rattle.edit_heal.proofs.carry_out.Tie as tie
 
-natural : (h : Head) → Numbered h → (keeps : Bool) (z : ℤ) (k : ℕ) → z ≡ pos k → nonNeg (healedNumber h keeps z) ≡ true
+natural : (h : Head) → Counted h → (keeps : Bool) (z : ℤ) (k : ℕ) → z ≡ pos k → nonNeg (healedNumber h keeps z) ≡ true
 natural h p true z k e = ap nonNeg e
-natural h p false z k e = ap nonNeg (p .next)
+natural h p false z k e = ap nonNeg (p .next-edge .natural)
 
 to-usize-requires : tie.Need-to-usize-requires
 to-usize-requires c κs = let s = c .before .before .before .before in
-    count-natural (s .args .h .edges) (s .pre .0 .edges) (omega (arith, s .pre .0 .few-edges))
+    count-natural (s .args .h .edges) (s .pre .0 .edges .natural) (omega (arith, s .pre .0 .edges .most))
 
 heal-rows-requires : tie.Need-heal-rows-requires
 heal-rows-requires c κs =
@@ -34,23 +35,23 @@ heal-rows-requires c κs =
     let a = s .args in
     let p = s .pre in
     let e : c .to-usize .result ≡ natAbs (a .h .edges) = c .to-usize .ensures
-    ∙ count-abs (a .h .edges) (p .0 .edges) (omega (arith, p .0 .few-edges)) in
+    ∙ count-abs (a .h .edges) (p .0 .edges .natural) (omega (arith, p .0 .edges .most)) in
     let r = c .before .before .before .healed-number in
     let z = sent (r .ok) ∙ r .ensures ∙ ap (healedNumber (a .h) (a .keeps))
     (sent (c .before .before .before .before .healed-number-arg .given)) in
     let g = ap nonNeg z ∙ natural (a .h) (p .0) (a .keeps) (getD (a .edges .now) (a .i * 32) (pos 0)) _
     (cells-of (p .2) (a .i) (p .4) .number) in
-    rw e (p .2, p .0 .few-edges, p .7, p .8, g, p .4, p .5, p .6, p .9)
+    rw e (p .2, p .0 .edges .most, p .7, p .8, g, p .4, p .5, p .6, p .9)
 
 to-usize-requires-2 : tie.Need-to-usize-requires-2
 to-usize-requires-2 c κs = let s = c .before .before .before .before .before .before .before .before .before .before in
-    count-natural (s .args .h .nodes) (s .pre .0 .nodes) (omega (arith, s .pre .0 .few-nodes))
+    count-natural (s .args .h .nodes) (s .pre .0 .nodes .natural) (omega (arith, s .pre .0 .nodes .most))
 
 remove-joint-requires : tie.Need-remove-joint-requires
 remove-joint-requires c κs =
     let s = c .before .before .before .before .before .before .before .before .before .before .before in
     let e : c .to-usize2 .result ≡ natAbs (s .args .h .nodes) = c .to-usize2 .ensures
-    ∙ count-abs (s .args .h .nodes) (s .pre .0 .nodes) (omega (arith, s .pre .0 .few-nodes)) in
+    ∙ count-abs (s .args .h .nodes) (s .pre .0 .nodes .natural) (omega (arith, s .pre .0 .nodes .most)) in
     rw e (s .pre .1)
 
 returns : tie.Need-returns
@@ -63,10 +64,10 @@ returns c =
     let e : c .before .before .before .before .before .before .before .before .before .before .before .to-usize .result
     ≡ natAbs (a .h .edges) =
     c .before .before .before .before .before .before .before .before .before .before .before .to-usize .ensures
-    ∙ count-abs (a .h .edges) (p .0 .edges) (omega (arith, p .0 .few-edges)) in
+    ∙ count-abs (a .h .edges) (p .0 .edges .natural) (omega (arith, p .0 .edges .most)) in
     let n : c .before .before .before .before .before .to-usize2 .result ≡ natAbs (a .h .nodes) =
     c .before .before .before .before .before .to-usize2 .ensures
-    ∙ count-abs (a .h .nodes) (p .0 .nodes) (omega (arith, p .0 .few-nodes)) in
+    ∙ count-abs (a .h .nodes) (p .0 .nodes .natural) (omega (arith, p .0 .nodes .most)) in
     let r = c .before .before .before .before .before .before .before .before .before .before .before .before .before
     .before .healed-number in
     let z = sent (r .ok) ∙ r .ensures ∙ ap (healedNumber (a .h) (a .keeps))

@@ -14,33 +14,35 @@ use Rattle.map_rows.proofs.Rows.{edge-rows-rising}
 use Rattle.map_rows.proofs.Lookups.{edge-found}
 use Rattle.form_ranges.specs.Ranges.{lent}
 use Rattle.outcomes.specs.Outcomes.{decided}
+use Rattle.outcomes.proofs.Formed.{counted}
 use Rattle.outcomes.proofs.Formed.{ranges, edge-rows, decided-refused, edge-none}
-use Rattle.outcomes.proofs.Words.{count-natural, count-abs, place-told}
+use Rattle.head.proofs.Words.{count-natural, count-abs}
+use Rattle.outcomes.proofs.Words.{place-told}
 use Rattle.edit_heal.specs.Kinds.{healTicket}
-use Rattle.edit_heal.proofs.Told.{numbered-of, row-missing}
+use Rattle.edit_heal.proofs.Told.{row-missing}
 use Rattle.edit_heal.proofs.heal_edges.Statement.{statement}
 use Rattle.edit_heal.proofs.heal_edges.Tie as tie
 
 to-usize-requires : tie.Need-to-usize-requires
-to-usize-requires c κs = let s = c .before in let q = numbered-of (s .pre .1) in
-    count-natural (s .args .h .edges) (q .edges) (omega (arith, q .few-edges))
+to-usize-requires c κs = let s = c .before in let q = counted (s .pre .1) in
+    count-natural (s .args .h .edges) (q .edges .natural) (omega (arith, q .edges .most))
 
 find-row-requires : tie.Need-find-row-requires
 find-row-requires c κs =
     let s = c .before .before .before in
-    let q = numbered-of (s .pre .1) in
+    let q = counted (s .pre .1) in
     let e : c .before .to-usize .result ≡ natAbs (s .args .h .edges) = c .before .to-usize .ensures
-    ∙ count-abs (s .args .h .edges) (q .edges) (omega (arith, q .few-edges)) in
+    ∙ count-abs (s .args .h .edges) (q .edges .natural) (omega (arith, q .edges .most)) in
     rw e (edge-rows-rising (edge-rows (s .pre .1)))
 
 returns : tie.Need-returns
 returns c faces f =
     let s = c .before .before .before .before .before .before .before in
     let a = s .args in
-    let q = numbered-of f in
+    let q = counted f in
     let e : c .before .before .before .before .before .to-usize .result ≡ natAbs (a .h .edges) =
     c .before .before .before .before .before .to-usize .ensures
-    ∙ count-abs (a .h .edges) (q .edges) (omega (arith, q .few-edges)) in
+    ∙ count-abs (a .h .edges) (q .edges .natural) (omega (arith, q .edges .most)) in
     let at = place-told 32 (a .edges .now) e (toZ-ofZ {w = w64} {z = a .edge} (s .fits .edge))
     (c .before .before .before .find-row .ensures) (c .before .enum-told .given .1) in
     decided-refused (a .nodes .now) (a .edges .now) faces (a .h) (healTicket (a .keeps) (a .edge) (a .other)) 4
@@ -49,21 +51,21 @@ returns c faces f =
 find-row-requires-2 : tie.Need-find-row-requires-2
 find-row-requires-2 c κs =
     let s = c .before .before .before .before .before .before .before .before in
-    let q = numbered-of (s .pre .1) in
+    let q = counted (s .pre .1) in
     let e : c .before .before .before .before .before .before .to-usize .result ≡ natAbs (s .args .h .edges) =
     c .before .before .before .before .before .before .to-usize .ensures
-    ∙ count-abs (s .args .h .edges) (q .edges) (omega (arith, q .few-edges)) in
+    ∙ count-abs (s .args .h .edges) (q .edges .natural) (omega (arith, q .edges .most)) in
     rw e (edge-rows-rising (edge-rows (s .pre .1)))
 
 returns-2 : tie.Need-returns-2
 returns-2 c faces f =
     let s = c .before .before .before .before .before .before .before .before .before .before .before .before in
     let a = s .args in
-    let q = numbered-of f in
+    let q = counted f in
     let e : c .before .before .before .before .before .before .before .before .before .before .to-usize .result
     ≡ natAbs (a .h .edges) =
     c .before .before .before .before .before .before .before .before .before .before .to-usize .ensures
-    ∙ count-abs (a .h .edges) (q .edges) (omega (arith, q .few-edges)) in
+    ∙ count-abs (a .h .edges) (q .edges .natural) (omega (arith, q .edges .most)) in
     let at = place-told 32 (a .edges .now) e (toZ-ofZ {w = w64} {z = a .other} (s .fits .other))
     (c .before .before .before .find-row2 .ensures) (c .before .enum-told2 .given .1) in
     let m = mapOf (lent (a .nodes .now) (a .edges .now) faces (a .h)) in
@@ -77,11 +79,11 @@ heal-rows-of-requires c κs =
     .before in
     let a = s .args in
     let g = s .pre .1 in
-    let q = numbered-of g in
+    let q = counted g in
     let e : c .before .before .before .before .before .before .before .before .before .before .before .before .to-usize
     .result ≡ natAbs (a .h .edges) =
     c .before .before .before .before .before .before .before .before .before .before .before .before .to-usize
-    .ensures ∙ count-abs (a .h .edges) (q .edges) (omega (arith, q .few-edges)) in
+    .ensures ∙ count-abs (a .h .edges) (q .edges .natural) (omega (arith, q .edges .most)) in
     let at = place-told 32 (a .edges .now) e (toZ-ofZ {w = w64} {z = a .edge} (s .fits .edge))
     (c .before .before .before .before .before .before .before .before .before .before .find-row .ensures)
     (c .before .before .before .before .before .before .before .before .found .given .1) in
@@ -98,11 +100,11 @@ returns-3 c faces f =
     let s = c .before .before .before .before .before .before .before .before .before .before .before .before .before
     .before .before .before .before in
     let a = s .args in
-    let q = numbered-of f in
+    let q = counted f in
     let e : c .before .before .before .before .before .before .before .before .before .before .before .before .before
     .before .before .to-usize .result ≡ natAbs (a .h .edges) =
     c .before .before .before .before .before .before .before .before .before .before .before .before .before .before
-    .before .to-usize .ensures ∙ count-abs (a .h .edges) (q .edges) (omega (arith, q .few-edges)) in
+    .before .to-usize .ensures ∙ count-abs (a .h .edges) (q .edges .natural) (omega (arith, q .edges .most)) in
     let at = place-told 32 (a .edges .now) e (toZ-ofZ {w = w64} {z = a .edge} (s .fits .edge))
     (c .before .before .before .before .before .before .before .before .before .before .before .before .before
     .find-row .ensures)

@@ -10,39 +10,39 @@ use Rattle.map.specs.Reasons.{firstReason}
 use Rattle.map_rows.specs.Rows.{edgeAt, edgeMap}
 use Rattle.map_rows.proofs.Rows.{edge-row-of}
 use Rattle.reason_departures.specs.Turning.{jointReasons}
-use Rattle.outcomes.proofs.Formed.{node-rows, edge-rows, decided-refused, decided-carried}
-use Rattle.outcomes.proofs.Words.{count-natural, count-abs}
+use Rattle.outcomes.proofs.Formed.{node-rows, edge-rows, counted, decided-refused, decided-carried}
+use Rattle.head.proofs.Words.{count-natural, count-abs}
 use Rattle.edit_heal.specs.Kinds.{healTicket}
-use Rattle.edit_heal.specs.Heals.{PartsOf, lateReasons, healedHead, healedValue, healedRows, healedNumber}
-use Rattle.edit_heal.proofs.Told.{numbered-of, late-few, joint-some, edges-differ, early-reason, late-reason}
+use Rattle.edit_heal.specs.Heals.{PartsOf, lateReasons, healedValue, healedRows, healedNumber}
+use Rattle.edit_heal.proofs.Told.{late-few, joint-some, edges-differ, early-reason, late-reason}
 use Rattle.edit_heal.proofs.Healed.{line-counted, heal-carried, joint-row, some-node, value-carried}
 use Rattle.edit_heal.proofs.heal_rows_of.Statement.{statement}
 use Rattle.edit_heal.proofs.heal_rows_of.Tie as tie
 
 to-usize-requires : tie.Need-to-usize-requires
-to-usize-requires c κs = let s = c .before in let q = numbered-of (s .pre .0 .1) in
-    count-natural (s .args .h .edges) (q .edges) (omega (arith, q .few-edges))
+to-usize-requires c κs = let s = c .before in let q = counted (s .pre .0 .1) in
+    count-natural (s .args .h .edges) (q .edges .natural) (omega (arith, q .edges .most))
 
 joint-reason-requires : tie.Need-joint-reason-requires
 joint-reason-requires c κs =
     let s = c .before .before .before in
     let g = s .pre .0 .1 in
-    let q = numbered-of g in
+    let q = counted g in
     let e : c .before .to-usize .result ≡ natAbs (s .args .h .edges) = c .before .to-usize .ensures
-    ∙ count-abs (s .args .h .edges) (q .edges) (omega (arith, q .few-edges)) in
+    ∙ count-abs (s .args .h .edges) (q .edges .natural) (omega (arith, q .edges .most)) in
     rw e (edge-rows g, s .pre .1, s .pre .2)
 
 returns : tie.Need-returns
 returns c faces f =
     let s = c .before .before .before .before .before .before in
     let a = s .args in
-    let q = numbered-of f in
+    let q = counted f in
     let l = a .edges .now in
     let x = edgeAt l (a .i) .number in
     let y = edgeAt l (a .j) .number in
     let e : c .before .before .before .before .to-usize .result ≡ natAbs (a .h .edges) =
     c .before .before .before .before .to-usize .ensures
-    ∙ count-abs (a .h .edges) (q .edges) (omega (arith, q .few-edges)) in
+    ∙ count-abs (a .h .edges) (q .edges .natural) (omega (arith, q .edges .most)) in
     let r = c .before .before .joint-reason in
     let told : r .result ≡ firstReason (jointReasons (edgeMap l (natAbs (a .h .edges))) x y) = r .ensures
     ∙ ap (λ (k : ℕ). firstReason (jointReasons (edgeMap l k) x y)) e in
@@ -55,27 +55,27 @@ parts-of-requires c κs =
     let s = c .before .before .before .before .before .before in
     let a = s .args in
     let g = s .pre .0 .1 in
-    let q = numbered-of g in
+    let q = counted g in
     let l = a .edges .now in
     let x = edgeAt l (a .i) .number in
     let y = edgeAt l (a .j) .number in
     let e : c .before .before .before .before .to-usize .result ≡ natAbs (a .h .edges) =
     c .before .before .before .before .to-usize .ensures
-    ∙ count-abs (a .h .edges) (q .edges) (omega (arith, q .few-edges)) in
+    ∙ count-abs (a .h .edges) (q .edges .natural) (omega (arith, q .edges .most)) in
     let r = c .before .before .joint-reason in
     let none : firstReason (jointReasons (edgeMap l (natAbs (a .h .edges))) x y) ≡ 0 =
     sym (r .ensures ∙ ap (λ (k : ℕ). firstReason (jointReasons (edgeMap l k) x y)) e) ∙ c .before .if1 .left in
-    rw e (edge-rows g, q .few-edges, s .pre .1, s .pre .2, joint-some (edgeMap l (natAbs (a .h .edges))) x y none)
+    rw e (edge-rows g, q .edges .most, s .pre .1, s .pre .2, joint-some (edgeMap l (natAbs (a .h .edges))) x y none)
 
 joined-line-requires : tie.Need-joined-line-requires
 joined-line-requires c κs =
     let s = c .before .before .before .before .before .before .before .before in
     let a = s .args in
     let g = s .pre .0 .1 in
-    let q = numbered-of g in
+    let q = counted g in
     let e : c .before .before .before .before .before .before .to-usize .result ≡ natAbs (a .h .edges) =
     c .before .before .before .before .before .before .to-usize .ensures
-    ∙ count-abs (a .h .edges) (q .edges) (omega (arith, q .few-edges)) in
+    ∙ count-abs (a .h .edges) (q .edges .natural) (omega (arith, q .edges .most)) in
     let r = c .before .parts-of in
     let p = subst (λ (k : ℕ). PartsOf (a .edges .now) k (a .i) (a .j) (r .result)) e (r .ensures) in (
       edge-row-of (edge-rows g) (r .result .first / 2) (omega (arith, p .first-below)),
@@ -83,21 +83,21 @@ joined-line-requires c κs =
     )
 
 late-reason-requires : tie.Need-late-reason-requires
-late-reason-requires c κs = numbered-of
+late-reason-requires c κs = counted
     (c .before .before .before .before .before .before .before .before .before .pre .0 .1)
 
 returns-2 : tie.Need-returns-2
 returns-2 c faces f =
     let s = c .before .before .before .before .before .before .before .before .before .before .before .before in
     let a = s .args in
-    let q = numbered-of f in
+    let q = counted f in
     let l = a .edges .now in
     let n = natAbs (a .h .edges) in
     let x = edgeAt l (a .i) .number in
     let y = edgeAt l (a .j) .number in
     let e : c .before .before .before .before .before .before .before .before .before .before .to-usize .result ≡ n =
     c .before .before .before .before .before .before .before .before .before .before .to-usize .ensures
-    ∙ count-abs (a .h .edges) (q .edges) (omega (arith, q .few-edges)) in
+    ∙ count-abs (a .h .edges) (q .edges .natural) (omega (arith, q .edges .most)) in
     let r = c .before .before .before .before .before .before .before .before .joint-reason in
     let none : firstReason (jointReasons (edgeMap l n) x y) ≡ 0 =
     sym (r .ensures ∙ ap (λ (k : ℕ). firstReason (jointReasons (edgeMap l k) x y)) e)
@@ -105,9 +105,9 @@ returns-2 c faces f =
     let o = c .before .before .before .before .before .parts-of in
     let p = subst (λ (k : ℕ). PartsOf l k (a .i) (a .j) (o .result)) e (o .ensures) in
     let w = c .before .before .late-reason in
-    let counted = ap (λ (u : Line). u .count) (c .before .before .before .joined-line .ensures)
+    let long = ap (λ (u : Line). u .count) (c .before .before .before .joined-line .ensures)
     ∙ line-counted (edge-rows f) p in
-    let told = w .ensures ∙ ap (λ (k : ℕ). firstReason (lateReasons k (a .h) (a .keeps))) counted in
+    let told = w .ensures ∙ ap (λ (k : ℕ). firstReason (lateReasons k (a .h) (a .keeps))) long in
     let some : 0 < w .result = let k = c .before .if2 .taken in omega arith in
     decided-refused (a .nodes .now) l faces (a .h) (healTicket (a .keeps) (pos x) (pos y)) (w .result) some
     (c .refused2 .ensures) (late-reason f (a .i) (a .j) (s .pre .1) (s .pre .2) (a .keeps) none ∙ sym told)
@@ -117,14 +117,14 @@ carry-out-requires c κs =
     let s = c .before .before .before .before .before .before .before .before .before .before .before .before .before in
     let a = s .args in
     let g = s .pre .0 .1 in
-    let q = numbered-of g in
+    let q = counted g in
     let l = a .edges .now in
     let n = natAbs (a .h .edges) in
     let x = edgeAt l (a .i) .number in
     let y = edgeAt l (a .j) .number in
     let e : c .before .before .before .before .before .before .before .before .before .before .before .to-usize .result
     ≡ n = c .before .before .before .before .before .before .before .before .before .before .before .to-usize .ensures
-    ∙ count-abs (a .h .edges) (q .edges) (omega (arith, q .few-edges)) in
+    ∙ count-abs (a .h .edges) (q .edges .natural) (omega (arith, q .edges .most)) in
     let r = c .before .before .before .before .before .before .before .before .before .joint-reason in
     let none : firstReason (jointReasons (edgeMap l n) x y) ≡ 0 =
     sym (r .ensures ∙ ap (λ (k : ℕ). firstReason (jointReasons (edgeMap l k) x y)) e)
@@ -151,7 +151,7 @@ returns-3 c faces f =
     let s = c .before .before .before .before .before .before .before .before .before .before .before .before .before
     .before .before .before in
     let a = s .args in
-    let q = numbered-of f in
+    let q = counted f in
     let l = a .edges .now in
     let n = natAbs (a .h .edges) in
     let x = edgeAt l (a .i) .number in
@@ -159,7 +159,7 @@ returns-3 c faces f =
     let e : c .before .before .before .before .before .before .before .before .before .before .before .before .before
     .before .to-usize .result ≡ n =
     c .before .before .before .before .before .before .before .before .before .before .before .before .before .before
-    .to-usize .ensures ∙ count-abs (a .h .edges) (q .edges) (omega (arith, q .few-edges)) in
+    .to-usize .ensures ∙ count-abs (a .h .edges) (q .edges .natural) (omega (arith, q .edges .most)) in
     let r = c .before .before .before .before .before .before .before .before .before .before .before .before
     .joint-reason in
     let none : firstReason (jointReasons (edgeMap l n) x y) ≡ 0 =
@@ -169,8 +169,8 @@ returns-3 c faces f =
     let p = subst (λ (k : ℕ). PartsOf l k (a .i) (a .j) (o .result)) e (o .ensures) in
     let w = c .before .before .before .before .before .before .late-reason in
     let j = c .before .before .before .before .before .before .before .joined-line in
-    let counted = ap (λ (u : Line). u .count) (j .ensures) ∙ line-counted (edge-rows f) p in
-    let told = w .ensures ∙ ap (λ (k : ℕ). firstReason (lateReasons k (a .h) (a .keeps))) counted in
+    let long = ap (λ (u : Line). u .count) (j .ensures) ∙ line-counted (edge-rows f) p in
+    let told = w .ensures ∙ ap (λ (k : ℕ). firstReason (lateReasons k (a .h) (a .keeps))) long in
     let late = sym told ∙ c .before .before .before .before .before .if2 .left in
     let u = c .before .before .carry-out .ensures in
     let row = joint-row f (a .i) (a .j) (s .pre .1) (s .pre .2) (a .keeps) (o .result) p
@@ -178,7 +178,7 @@ returns-3 c faces f =
     let rows = u .0 ∙ ap (healedRows l n (a .i) (a .j) (o .result .first) (o .result .second) (a .keeps)
     (healedNumber (a .h) (a .keeps) (getD l (a .i * 32) (pos 0)))) (j .ensures) in
     decided-carried (a .nodes .now) l faces (a .h) (healTicket (a .keeps) (pos x) (pos y)) _ _ faces
-    (healedHead (a .h) (a .keeps)) (healedValue (a .h) (a .keeps)) (u .2)
+    _ (healedValue (a .h) (a .keeps)) (u .2)
     (late-reason f (a .i) (a .j) (s .pre .1) (s .pre .2) (a .keeps) none ∙ late)
     (heal-carried f (a .i) (a .j) (s .pre .1) (s .pre .2) (a .keeps) (o .result) p (late-few _ (a .h) (a .keeps) late)
     (λ t. edges-differ (edgeMap l n) x y none (ap (λ (k : ℕ). edgeAt l k .number) t)) (row .0) (row .1)

@@ -8,7 +8,7 @@ use Rattle.curves.specs.Curves.{point}
 use Rattle.map.specs.Reasons.{firstReason}
 use Rattle.outcomes.proofs.Formed.{nodes-count, edges-count, faces-count, node-rows, edge-rows, face-rows}
 use Rattle.map.proofs.Reasons.{first-hit}
-use Rattle.outcomes.proofs.Words.{count-natural, count-abs}
+use Rattle.head.proofs.Words.{count-natural, count-abs}
 use Rattle.edit_nodes.proofs.Told.{few-nodes, few-edges, few-faces, face-told, range-told, taken-told}
 use Rattle.edit_nodes.proofs.add_reason.Statement.{statement}
 use Rattle.edit_nodes.proofs.add_reason.Tie as tie

@@ -17,7 +17,8 @@ use Rattle.tables.proofs.Cells.{row-room}
 use Rattle.map_rows.proofs.Rows.{node-rows-rising}
 use Rattle.outcomes.proofs.Formed.{nodes-count, edges-count, nodes-fit, node-rows, edge-rows, decided-refused}
 use Rattle.outcomes.proofs.Formed.{decided-carried, node-none}
-use Rattle.outcomes.proofs.Words.{count-natural, count-abs, place-told}
+use Rattle.head.proofs.Words.{count-natural, count-abs}
+use Rattle.outcomes.proofs.Words.{place-told}
 use Rattle.edit_nodes.proofs.Told.{few-nodes, few-edges, around-told}
 use Rattle.edit_nodes.proofs.Rows.{move-missing, row-below, row-number, move-row, move-told, move-point}
 use Rattle.edit_nodes.proofs.Nodes.{move-carried}

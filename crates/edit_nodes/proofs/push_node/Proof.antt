@@ -5,7 +5,7 @@ use native.Mathlib.Omega.{arith}
 use mir.Syntax.{w64}
 use mir.Facts.{toZ-ofZ}
 use Rattle.outcomes.proofs.Formed.{done}
-use Rattle.outcomes.proofs.Words.{count-natural, count-abs, count-fits}
+use Rattle.head.proofs.Words.{count-natural, count-abs, count-fits}
 use Rattle.edit_nodes.proofs.push_node.Statement.{statement}
 use Rattle.edit_nodes.proofs.push_node.Tie as tie
 
@@ -15,8 +15,9 @@ returns c =
     let a = s .args in
     let p = s .pre .0 in
     let n = c .before .before .before .before .to-usize .ensures
-    ∙ count-abs (a .h .nodes) (p .nodes) (omega (arith, p .few)) in
-    let k = toZ-ofZ {w = w64} {z = a .h .«next_node»} (count-fits (a .h .«next_node») (p .next) (p .given)) in (
+    ∙ count-abs (a .h .nodes) (p .nodes .natural) (omega (arith, p .nodes .most)) in
+    let k = toZ-ofZ {w = w64} {z = a .h .«next_node»}
+    (count-fits (a .h .«next_node») (p .next-node .natural) (p .next-node .most)) in (
       c .before .before .before .write-node .ensures
           ∙ rw (
             n,
@@ -25,14 +26,14 @@ returns c =
             toZ-ofZ {w = w64} {z = a .y} (s .fits .y),
             toZ-ofZ {w = w64} {z = a .around} (s .fits .around),
           ),
-      done (c .before .with-node .ensures) k (c .carried .ensures),
+      done (c .before .changed .ensures) k (c .carried .ensures),
     )
 
 write-node-requires : tie.Need-write-node-requires
 write-node-requires c κs =
     let p = c .before .before .before .before .pre in
-    let n = c .to-usize .ensures ∙ count-abs (c .before .before .before .before .args .h .nodes) (p .0 .nodes)
-    (omega (arith, p .0 .few)) in
+    let n = c .to-usize .ensures ∙ count-abs (c .before .before .before .before .args .h .nodes) (p .0 .nodes .natural)
+    (omega (arith, p .0 .nodes .most)) in
     rw n (p .1)
 
 pub push-node-spec : {M : Type 1} → statement M
@@ -40,9 +41,9 @@ push-node-spec =
     tie.close
     (tie.spec
     (λ c κs. let p = c .before .before .before .pre .0 in
-    count-natural (c .before .before .before .args .h .nodes) (p .nodes) (omega (arith, p .few)))
+    count-natural (c .before .before .before .args .h .nodes) (p .nodes .natural) (omega (arith, p .nodes .most)))
     write-node-requires
-    (λ c κs. c .before .before .before .before .before .before .pre .0)
+    (λ c κs. search needs)
     (λ c κs. tt)
     (λ c. search needs)
     returns)

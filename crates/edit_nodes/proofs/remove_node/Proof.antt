@@ -2,18 +2,17 @@
 use borrow.Author.Needs.{needs}
 use mathlib.Core.Path.{ap, _∙_}
 use Prim.Native.Nat.{ℕ}
-use native.Mathlib.Omega.{arith}
 use lib.Dec.{lit<}
 use lib.IntN.{pos}
 use mir.Syntax.{w64}
 use mir.Facts.{toZ-ofZ}
-use Rattle.map.specs.Tickets.{RemoveIsoNode}
 use Rattle.tables.specs.Tables.{closed}
+use Rattle.map.specs.Tickets.{RemoveIsoNode}
 use Rattle.map_rows.proofs.Rows.{node-rows-rising, node-row-of}
 use Rattle.outcomes.proofs.Formed.{nodes-count, nodes-fit, node-rows, decided-refused, decided-carried, node-none}
+use Rattle.outcomes.proofs.Formed.{counted}
 use Rattle.outcomes.proofs.Words.{count-natural, count-abs, place-told}
-use Rattle.edit_nodes.specs.Heads.{removed}
-use Rattle.edit_nodes.proofs.Told.{few-nodes, numbered-of}
+use Rattle.edit_nodes.proofs.Told.{few-nodes}
 use Rattle.edit_nodes.proofs.Rows.{remove-missing, row-below, row-number, remove-bare, remove-free}
 use Rattle.edit_nodes.proofs.Nodes.{remove-carried}
 use Rattle.edit_nodes.proofs.remove_node.Statement.{statement}
@@ -62,9 +61,9 @@ gone c edges faces f =
     ∙ ap (λ (k : ℕ). closed 4 (a .nodes .now) k
     (c .before .before .before .before .before .before .before .before .before .found .given .0 .0)) n in
     let done = remove-carried f _ (row-below f (a .node) _ e) (a .node) (row-number f (a .node) _ e) row in
-    decided-carried (a .nodes .now) edges faces (a .h) (RemoveIsoNode (a .node)) _ edges faces (removed (a .h)) (pos 0)
+    decided-carried (a .nodes .now) edges faces (a .h) (RemoveIsoNode (a .node)) _ edges faces _ (pos 0)
     (c .carried .ensures ∙ ap (λ h. record { head = h; answer = record { refusal = 0; value = pos 0 } })
-    (c .before .without-node .ensures))
+    (c .before .changed .ensures))
     (remove-free f (a .node) _ e (c .before .before .before .before .before .before .is-isolated .ensures)
     (c .before .before .before .before .before .if1 .left)) (done .0) (done .1)
 
@@ -100,8 +99,8 @@ remove-row-requires c κs =
     (c .before .before .before .before .before .found .given .1) in
     rw n (row-below g (a .node) _ e, nodes-fit g)
 
-without-node-requires : tie.Need-without-node-requires
-without-node-requires c κs =
+changed-requires : tie.Need-changed-requires
+changed-requires c κs =
     let s = c .before .before .before .before .before .before .before .before .before .before .before .before .before in
     let a = s .args in
     let g = s .pre .2 in
@@ -112,7 +111,8 @@ without-node-requires c κs =
     (c .before .before .before .before .before .before .before .before .before .find-row .ensures)
     (c .before .before .before .before .before .before .before .found .given .1) in
     let t = row-below g (a .node) _ e in
-    (numbered-of g, omega arith)
+    let k = counted g in
+    search needs
 
 pub remove-node-spec : {M : Type 1} → statement M
 remove-node-spec =
@@ -130,7 +130,7 @@ remove-node-spec =
     (λ c. search needs)
     bare
     remove-row-requires
-    without-node-requires
+    changed-requires
     (λ c κs. tt)
     (λ c. search needs)
     gone)

@@ -10,14 +10,15 @@ use mir.Val.{toZ, ofZ}
 use mir.Facts.{toZ-ofZ}
 use Rattle.integers.specs.Signs.{sent}
 use Rattle.curves.specs.Curves.{point}
-use Rattle.outcomes.proofs.Words.{count-natural, count-abs, count-fits}
-use Rattle.edit_split.specs.Cuts.{cutRow, startNumber, endNumber, Numbered}
+use Rattle.head.specs.Heads.{Counted}
+use Rattle.head.proofs.Words.{count-natural, count-abs, count-fits}
+use Rattle.edit_split.specs.Cuts.{cutRow, startNumber, endNumber}
 use Rattle.edit_split.proofs.cut_edge.Statement.{statement}
 use Rattle.edit_split.proofs.cut_edge.Tie as tie
 
-start-natural : (b : Bool) (h : _) (z : ℤ) → Numbered h → nonNeg z ≡ true → nonNeg (startNumber h b z) ≡ true
+start-natural : (b : Bool) (h : _) (z : ℤ) → Counted h → nonNeg z ≡ true → nonNeg (startNumber h b z) ≡ true
 start-natural true h z p e = e
-start-natural false h z p e = ap nonNeg (p .next-edge)
+start-natural false h z p e = ap nonNeg (p .next-edge .natural)
 
 cut-row-requires : tie.Need-cut-row-requires
 cut-row-requires c κs =
@@ -25,7 +26,7 @@ cut-row-requires c κs =
     let a = s .args in
     let p = s .pre in
     let e = c .before .before .before .before .to-usize .ensures
-    ∙ count-abs (a .h .edges) (p .0 .edges) (omega (arith, p .0 .few-edges)) in
+    ∙ count-abs (a .h .edges) (p .0 .edges .natural) (omega (arith, p .0 .edges .most)) in
     let za : toZ w64 (ofZ w64 (c .before .before .start-number .result)) ≡ startNumber (a .h) (a .keeps) (a .edge) =
     sent (c .before .before .start-number .ok) ∙ c .before .before .start-number .ensures
     ∙ ap (startNumber (a .h) (a .keeps)) (toZ-ofZ {w = w64} {z = a .edge} (s .fits .edge)) in
@@ -34,7 +35,7 @@ cut-row-requires c κs =
       p .1,
       c .before .before .before .point-of .ensures .1,
       omega (arith, p .2),
-      omega (arith, p .0 .few-edges),
+      omega (arith, p .0 .edges .most),
       omega (arith, p .3),
       ap nonNeg za ∙ start-natural (a .keeps) (a .h) (a .edge) (p .0) (p .4),
       ap nonNeg zb,
@@ -46,9 +47,10 @@ returns c =
     let a = s .args in
     let p = s .pre in
     let e = c .before .before .before .before .before .before .to-usize .ensures
-    ∙ count-abs (a .h .edges) (p .0 .edges) (omega (arith, p .0 .few-edges)) in
+    ∙ count-abs (a .h .edges) (p .0 .edges .natural) (omega (arith, p .0 .edges .most)) in
     let zn : toZ w64 (ofZ w64 (a .h .«next_node»)) ≡ a .h .«next_node» =
-    toZ-ofZ {w = w64} (count-fits (a .h .«next_node») (p .0 .next-node) (omega (arith, p .0 .node-given))) in
+    toZ-ofZ {w = w64} (count-fits (a .h .«next_node») (p .0 .next-node .natural)
+    (omega (arith, p .0 .next-node .most))) in
     let zp = c .before .before .before .before .before .point-of .ensures .0
     ∙ ap₂ point (toZ-ofZ {w = w64} {z = a .x} (s .fits .x)) (toZ-ofZ {w = w64} {z = a .y} (s .fits .y)) in
     let za : toZ w64 (ofZ w64 (c .before .before .before .before .start-number .result))
@@ -64,7 +66,7 @@ cut-edge-spec =
     tie.close
     (tie.spec
     (λ c κs. let s = c .before .before in
-    count-natural (s .args .h .edges) (s .pre .0 .edges) (omega (arith, s .pre .0 .few-edges)))
+    count-natural (s .args .h .edges) (s .pre .0 .edges .natural) (omega (arith, s .pre .0 .edges .most)))
     (λ c κs. search needs)
     (λ c κs. search needs)
     (λ c κs. search needs)

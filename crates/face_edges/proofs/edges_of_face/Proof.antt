@@ -15,6 +15,7 @@ use mir.Val.{toZ, ofZ}
 use mir.Facts.{toZ-ofZ, fits-natAbs}
 use Rattle.lists.specs.Tables.{place}
 use Rattle.lists.proofs.Bools.{≡→T}
+use Rattle.tables.specs.Tables.{sameZ, column, Rising}
 use Rattle.map.specs.declared.Answer.{Answer}
 use Rattle.map.specs.declared.Head.{Head}
 use Rattle.map.specs.Limits.{faceWidth}
@@ -23,13 +24,13 @@ use Rattle.map.specs.Form.{inForm}
 use Rattle.map.specs.Reasons.{noFace}
 use Rattle.map.specs.Ticket.{faceEdges}
 use Rattle.map.specs.declared.Counts.{Counts}
-use Rattle.tables.specs.Tables.{sameZ, column, Rising}
 use Rattle.map_rows.specs.Rows.{edgeMap}
 use Rattle.map_rows.proofs.Rows.{face-rows-rising}
-use Rattle.form_ranges.specs.Ranges.{lent, countsOf}
+use Rattle.head.specs.Heads.{countsOf}
+use Rattle.form_ranges.specs.Ranges.{lent}
 use Rattle.form_ranges.proofs.Parts.{face-rows}
-use Rattle.form.proofs.Parts.{InForm, in-form-known, in-form-natural}
 use Rattle.form_links.proofs.Words.{flipped}
+use Rattle.form.proofs.Parts.{InForm, in-form-known, in-form-natural}
 use Rattle.face_edges.specs.Listing.{Rings}
 use Rattle.face_edges.proofs.Asked.{not-whole, not-formed, face-missed, no-room, listed, edges-are, rings-of}
 use Rattle.face_edges.proofs.Asked.{face-there, face-none}
@@ -41,7 +42,7 @@ use Rattle.form.proofs.in_form.Reads as in-form-reads
 use Rattle.face_edges.proofs.answered.Reads as answered-reads
 use Rattle.face_edges.proofs.rings_size.Reads as rings-size-reads
 use Rattle.face_edges.proofs.write_rings.Reads as write-rings-reads
-use Rattle.form_ranges.proofs.counts_of.Reads as counts-of-reads
+use Rattle.head.proofs.counts_of.Reads as counts-of-reads
 use Rattle.form_ranges.proofs.is_whole.Reads as is-whole-reads
 use Rattle.tables.proofs.find_row.Reads as find-row-reads
 

@@ -18,7 +18,7 @@ use Rattle.map_rows.specs.Rows.{nodesOf, edgesOf, facesOf}
 use Rattle.map_rows.proofs.Rows.{faces-length}
 use Rattle.form_ranges.specs.Ranges.{lent}
 use Rattle.outcomes.specs.declared.Done.{Done}
-use Rattle.outcomes.proofs.Words.{is-natural, count-natural, count-abs}
+use Rattle.head.proofs.Words.{is-natural, count-natural, count-abs}
 use Rattle.face_rows.specs.Holds.{faceKept}
 use Rattle.face_rows.proofs.FaceRows.{table-distinct, without-length}
 use Rattle.face_rows.proofs.Heals.{map-nodes, map-edges, map-next, healed-holds}
@@ -27,11 +27,11 @@ use Rattle.face_rows.proofs.heal_faces.Tie as tie
 
 to-usize-requires : tie.Need-to-usize-requires
 to-usize-requires c κs = let s = c .before .before .before .before in let k = s .pre .held in
-    count-natural (s .args .h .nodes) (k .nodes-count) (omega (arith, k .few-nodes))
+    count-natural (s .args .h .nodes) (k .counted .nodes .natural) (omega (arith, k .counted .nodes .most))
 
 to-usize-requires-2 : tie.Need-to-usize-requires-2
 to-usize-requires-2 c κs = let s = c .before .before .before .before .before .before .before in let k = s .pre .held in
-    count-natural (s .args .h .edges) (k .edges-count) (omega (arith, k .few-edges))
+    count-natural (s .args .h .edges) (k .counted .edges .natural) (omega (arith, k .counted .edges .most))
 
 rename-faces-requires : tie.Need-rename-faces-requires
 rename-faces-requires c κs =
@@ -39,8 +39,9 @@ rename-faces-requires c κs =
     let a = s .args in
     let k = s .pre .held in
     let n = c .before .before .before .to-usize .ensures
-    ∙ count-abs (a .h .nodes) (k .nodes-count) (omega (arith, k .few-nodes)) in
-    let e = c .to-usize2 .ensures ∙ count-abs (a .h .edges) (k .edges-count) (omega (arith, k .few-edges)) in
+    ∙ count-abs (a .h .nodes) (k .counted .nodes .natural) (omega (arith, k .counted .nodes .most)) in
+    let e = c .to-usize2 .ensures ∙ count-abs (a .h .edges) (k .counted .edges .natural)
+    (omega (arith, k .counted .edges .most)) in
     let vl = toZ-ofZ {w = w64} {z = a .left} (s .fits .left) in
     let vr = toZ-ofZ {w = w64} {z = a .right} (s .fits .right) in
     let fl = c .before .before .before .before .before .before .face-left in
@@ -58,7 +59,8 @@ rename-faces-requires c κs =
 to-usize-requires-3 : tie.Need-to-usize-requires-3
 to-usize-requires-3 c κs = let s =
     c .before .before .before .before .before .before .before .before .before .before .before .before .before in
-    let k = s .pre .held in count-natural (s .args .h .faces) (k .faces-count) (omega (arith, k .few-faces))
+    let k = s .pre .held in count-natural (s .args .h .faces) (k .counted .faces .natural)
+    (omega (arith, k .counted .faces .most))
 
 heal-row-requires : tie.Need-heal-row-requires
 heal-row-requires c κs =
@@ -67,7 +69,8 @@ heal-row-requires c κs =
     let a = s .args in
     let p = s .pre in
     let k = p .held in
-    let f = c .to-usize3 .ensures ∙ count-abs (a .h .faces) (k .faces-count) (omega (arith, k .few-faces)) in
+    let f = c .to-usize3 .ensures ∙ count-abs (a .h .faces) (k .counted .faces .natural)
+    (omega (arith, k .counted .faces .most)) in
     let vl = toZ-ofZ {w = w64} {z = a .left} (s .fits .left) in
     let vr = toZ-ofZ {w = w64} {z = a .right} (s .fits .right) in
     let fl =
@@ -98,7 +101,7 @@ without-face-requires c κs =
     let e = without-length (natAbs (a .left)) (facesOf (a .faces .now) (natAbs (a .h .faces)))
     (table-distinct (k .face-table)) (p .left-there) in
     let j = faces-length (a .faces .now) (natAbs (a .h .faces)) in
-    (k .faces-count, k .few-faces, omega arith, k .next-face, k .next-most)
+    (k .counted, omega arith)
 
 returns : tie.Need-returns
 returns c row el er =
@@ -112,16 +115,17 @@ returns c row el er =
     c .before .before .before .before .before .before .before .before .before .before .before .before .before .before
     .before .before .face-left in
     let n = c .before .before .before .before .before .before .before .before .before .before .before .before .before
-    .to-usize .ensures ∙ count-abs (a .h .nodes) (k .nodes-count) (omega (arith, k .few-nodes)) in
+    .to-usize .ensures ∙ count-abs (a .h .nodes) (k .counted .nodes .natural)
+    (omega (arith, k .counted .nodes .most)) in
     let e = c .before .before .before .before .before .before .before .before .before .before .to-usize2 .ensures
-    ∙ count-abs (a .h .edges) (k .edges-count) (omega (arith, k .few-edges)) in
+    ∙ count-abs (a .h .edges) (k .counted .edges .natural) (omega (arith, k .counted .edges .most)) in
     let f = c .before .before .before .before .to-usize3 .ensures
-    ∙ count-abs (a .h .faces) (k .faces-count) (omega (arith, k .few-faces)) in
+    ∙ count-abs (a .h .faces) (k .counted .faces .natural) (omega (arith, k .counted .faces .most)) in
     let vl = toZ-ofZ {w = w64} {z = a .left} (s .fits .left) in
     let vr = toZ-ofZ {w = w64} {z = a .right} (s .fits .right) in
     let vf = sent {z = fl .result} (fl .ok) in
     let nx : natAbs (toZ w64 (ofZ w64 (a .h .«next_face»))) ≡ m .nextFace =
-    count-abs (a .h .«next_face») (k .next-face) (k .next-most)
+    count-abs (a .h .«next_face») (k .counted .next-face .natural) (k .counted .next-face .most)
     ∙ sym (map-next (a .nodes .now) (a .edges .now) (a .faces .now) (a .h)) in
     let face : fl .result ≡ pos (faceKept (a .makes) row m) = fl .ensures
     ∙ (λ i. pos (cond (a .makes) (nx i) (min ((ap natAbs vl ∙ sym el) i) ((ap natAbs vr ∙ sym er) i)))) in

@@ -18,7 +18,7 @@ use Rattle.map.specs.Darts.{ring}
 use Rattle.map.specs.Faces.{ringArea}
 use Rattle.map_rows.specs.Rows.{edgeMap}
 use Rattle.darts.specs.Positions.{dartAt}
-use Rattle.outcomes.proofs.Words.{small-fits, plus-fits, plus-is}
+use Rattle.head.proofs.Words.{small-fits, plus-fits, plus-is}
 use Rattle.face_rows.proofs.Words.{either, positive-is}
 use Rattle.face_rows.proofs.sides_of.Statement.{statement}
 use Rattle.face_rows.proofs.sides_of.Tie as tie

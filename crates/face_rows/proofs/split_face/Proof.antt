@@ -22,7 +22,8 @@ use Rattle.map_rows.proofs.Rows.{faces-length}
 use Rattle.darts.specs.Positions.{dartAt}
 use Rattle.form_ranges.specs.Ranges.{lent}
 use Rattle.face_relabel.specs.Sharing.{Shared}
-use Rattle.outcomes.proofs.Words.{is-natural, count-natural, count-abs, count-back, number-test, small-fits}
+use Rattle.head.proofs.Words.{is-natural, count-natural, count-abs, count-back, small-fits}
+use Rattle.outcomes.proofs.Words.{number-test}
 use Rattle.face_rows.proofs.Heals.{map-nodes, map-edges}
 use Rattle.face_rows.proofs.Splits.{area-is, split-holds, sides-shared}
 use Rattle.face_rows.proofs.split_face.Statement.{statement}
@@ -34,7 +35,7 @@ self e = e ∙ ap (λ (x : ℤ). pos (natAbs x)) (sym e)
 
 to-usize-requires : tie.Need-to-usize-requires
 to-usize-requires c κs = let s = c .before in let k = s .pre .held in
-    count-natural (s .args .h .edges) (k .edges-count) (omega (arith, k .few-edges))
+    count-natural (s .args .h .edges) (k .counted .edges .natural) (omega (arith, k .counted .edges .most))
 
 sides-of-requires : tie.Need-sides-of-requires
 sides-of-requires c κs =
@@ -42,13 +43,13 @@ sides-of-requires c κs =
     let a = s .args in
     let k = s .pre .held in
     let e = c .before .before .to-usize .ensures
-    ∙ count-abs (a .h .edges) (k .edges-count) (omega (arith, k .few-edges)) in
-    rw (e, count-back (a .h .«next_face») (k .next-face) (k .next-most))
-    (k .edge-rows, s .pre .drawn, k .few-edges, k .next-face, k .next-most)
+    ∙ count-abs (a .h .edges) (k .counted .edges .natural) (omega (arith, k .counted .edges .most)) in
+    rw (e, count-back (a .h .«next_face») (k .counted .next-face .natural) (k .counted .next-face .most))
+    (k .edge-rows, s .pre .drawn, k .counted .edges .most, k .counted .next-face .natural, k .counted .next-face .most)
 
 to-usize-requires-2 : tie.Need-to-usize-requires-2
 to-usize-requires-2 c κs = let s = c .before .before .before .before .before .before .before in let k = s .pre .held in
-    count-natural (s .args .h .nodes) (k .nodes-count) (omega (arith, k .few-nodes))
+    count-natural (s .args .h .nodes) (k .counted .nodes .natural) (omega (arith, k .counted .nodes .most))
 
 share-rows-requires : tie.Need-share-rows-requires
 share-rows-requires c κs =
@@ -57,10 +58,11 @@ share-rows-requires c κs =
     let p = s .pre in
     let k = p .held in
     let e = c .before .before .before .before .before .before .before .to-usize .ensures
-    ∙ count-abs (a .h .edges) (k .edges-count) (omega (arith, k .few-edges)) in
-    let n = c .before .to-usize2 .ensures ∙ count-abs (a .h .nodes) (k .nodes-count) (omega (arith, k .few-nodes)) in
+    ∙ count-abs (a .h .edges) (k .counted .edges .natural) (omega (arith, k .counted .edges .most)) in
+    let n = c .before .to-usize2 .ensures
+    ∙ count-abs (a .h .nodes) (k .counted .nodes .natural) (omega (arith, k .counted .nodes .most)) in
     let vo = toZ-ofZ {w = w64} {z = a .old} (s .fits .old) in
-    let vn = count-back (a .h .«next_face») (k .next-face) (k .next-most) in
+    let vn = count-back (a .h .«next_face») (k .counted .next-face .natural) (k .counted .next-face .most) in
     let sides = rw (e, vo, vn) at (c .before .before .before .before .sides-of .ensures) in
     let goes = a .news && not (eqb (ofZ w64 (a .old)) (ofZ w64 (pos 0))) in
     let es = edgeMap (a .edges .now) (natAbs (a .h .edges)) in
@@ -72,7 +74,8 @@ share-rows-requires c κs =
 to-usize-requires-3 : tie.Need-to-usize-requires-3
 to-usize-requires-3 c κs = let s =
     c .before .before .before .before .before .before .before .before .before .before .before .before .before
-    .before in let k = s .pre .held in count-natural (s .args .h .faces) (k .faces-count) (omega (arith, k .few-faces))
+    .before in let k = s .pre .held in count-natural (s .args .h .faces) (k .counted .faces .natural)
+    (omega (arith, k .counted .faces .most))
 
 split-row-requires : tie.Need-split-row-requires
 split-row-requires c κs =
@@ -81,9 +84,10 @@ split-row-requires c κs =
     let a = s .args in
     let p = s .pre in
     let k = p .held in
-    let f = c .to-usize3 .ensures ∙ count-abs (a .h .faces) (k .faces-count) (omega (arith, k .few-faces)) in
+    let f = c .to-usize3 .ensures ∙ count-abs (a .h .faces) (k .counted .faces .natural)
+    (omega (arith, k .counted .faces .most)) in
     let vo = toZ-ofZ {w = w64} {z = a .old} (s .fits .old) in
-    let vn = count-back (a .h .«next_face») (k .next-face) (k .next-most) in
+    let vn = count-back (a .h .«next_face») (k .counted .next-face .natural) (k .counted .next-face .most) in
     rw (f, vo, vn) (
       (
         length (a .faces .now),
@@ -94,8 +98,8 @@ split-row-requires c κs =
         p .there,
       ),
       is-natural (a .old) (self (p .borne)),
-      is-natural (a .h .«next_face») (k .next-face),
-      k .next-most,
+      is-natural (a .h .«next_face») (k .counted .next-face .natural),
+      k .counted .next-face .most,
     )
 
 with-face-requires : tie.Need-with-face-requires
@@ -103,7 +107,7 @@ with-face-requires c κs =
     let s = c .before .before .before .before .before .before .before .before .before .before .before .before .before
     .before .before .before .before in
     let k = s .pre .held in
-    (k .faces-count, k .few-faces, k .next-face, k .next-most)
+    k .counted
 
 returns : tie.Need-returns
 returns c =
@@ -115,13 +119,13 @@ returns c =
     let m = mapOf (lent (a .nodes .now) (a .edges .now) (a .faces .now) (a .h)) in
     let e = c .before .before .before .before .before .before .before .before .before .before .before .before .before
     .before .before .before .to-usize .ensures
-    ∙ count-abs (a .h .edges) (k .edges-count) (omega (arith, k .few-edges)) in
+    ∙ count-abs (a .h .edges) (k .counted .edges .natural) (omega (arith, k .counted .edges .most)) in
     let n = c .before .before .before .before .before .before .before .before .before .before .to-usize2 .ensures
-    ∙ count-abs (a .h .nodes) (k .nodes-count) (omega (arith, k .few-nodes)) in
+    ∙ count-abs (a .h .nodes) (k .counted .nodes .natural) (omega (arith, k .counted .nodes .most)) in
     let f = c .before .before .before .to-usize3 .ensures
-    ∙ count-abs (a .h .faces) (k .faces-count) (omega (arith, k .few-faces)) in
+    ∙ count-abs (a .h .faces) (k .counted .faces .natural) (omega (arith, k .counted .faces .most)) in
     let vo = toZ-ofZ {w = w64} {z = a .old} (s .fits .old) in
-    let vn = count-back (a .h .«next_face») (k .next-face) (k .next-most) in
+    let vn = count-back (a .h .«next_face») (k .counted .next-face .natural) (k .counted .next-face .most) in
     let goes = a .news && not (eqb (ofZ w64 (a .old)) (ofZ w64 (pos 0))) in
     let es = edgeMap (a .edges .now) (natAbs (a .h .edges)) in
     let isLeft = isPositive (sgn (ringArea es (ring es (dartAt (a .edges .now) ((natAbs (a .h .edges) - 1) * 2))))) in

@@ -5,7 +5,8 @@ use native.Mathlib.Omega.{arith}
 use Rattle.map.specs.Form.{countsFit, nextsFit, formed}
 use Rattle.map.specs.declared.Counts.{Counts}
 use Rattle.curves.proofs.Runs.{and-left, and-right}
-use Rattle.form_ranges.specs.Ranges.{lent, countsOf, mapIn, rangedRows, Counted}
+use Rattle.head.specs.Heads.{countsOf}
+use Rattle.form_ranges.specs.Ranges.{lent, mapIn, rangedRows, HeadFits}
 use Rattle.form_ranges.proofs.Parts.{counted, counts-natural}
 use Rattle.form_links.proofs.Words.{flipped}
 use Rattle.form.proofs.Parts.{unfit-head, unranged, by-formed, whole-room, sizes-are}
@@ -14,7 +15,7 @@ use Rattle.form.proofs.in_form.Tie as tie
 use Rattle.form.proofs.in_form.Reads as reads
 use Rattle.form.proofs.in_form.Lts as lts
 use Rattle.form.proofs.is_formed.Reads as is-formed-reads
-use Rattle.form_ranges.proofs.counts_of.Reads as counts-of-reads
+use Rattle.head.proofs.counts_of.Reads as counts-of-reads
 use Rattle.form_ranges.proofs.head_fits.Reads as head-fits-reads
 use Rattle.form_ranges.proofs.is_ranged.Reads as is-ranged-reads
 
@@ -58,14 +59,14 @@ counted-in : (c : lts.After-counts-of (
   is-ranged-reads.Learnt,
   is-formed-reads.Asked,
   is-formed-reads.Learnt,
-) reads.Pre reads.Post) → Counted (c .before .before .before .args .nodes .now)
+) reads.Pre reads.Post) → HeadFits (c .before .before .before .args .nodes .now)
     (c .before .before .before .args .edges .now) (c .before .before .before .args .faces .now) (c .counts-of .result)
     (c .before .before .before .args .h)
 counted-in c =
     let a = c .before .before .before .args in
     let e = head-in (c .before) in
     let p = countsFit (lent (a .nodes .now) (a .edges .now) (a .faces .now) (a .h)) in
-    subst (λ (k : Counts). Counted (a .nodes .now) (a .edges .now) (a .faces .now) k (a .h))
+    subst (λ (k : Counts). HeadFits (a .nodes .now) (a .edges .now) (a .faces .now) k (a .h))
     (sym (c .counts-of .ensures)) (counted (a .nodes .now) (a .edges .now) (a .faces .now) (a .h)
     (and-left p (nextsFit (a .h)) e) (and-right p (nextsFit (a .h)) e))
 

@@ -13,11 +13,13 @@ use mir.Syntax.{w64}
 use mir.Val.{toZ, ofZ, SFits}
 use mir.Facts.{toZ-ofZ}
 use Rattle.lists.specs.Scans.{allOf}
+use Rattle.lists.proofs.Bools.{≡→T}
+use Rattle.tables.specs.Tables.{cell, within, isZero}
+use Rattle.tables.proofs.Tests.{within-pos}
 use Rattle.curves.specs.Curves.{coordinate}
 use Rattle.curves.proofs.Runs.{and-right}
-use Rattle.tables.specs.Tables.{cell, within, isZero}
 use Rattle.map.specs.Form.{edgeRanges}
-use Rattle.form_ranges.proofs.Parts.{within-in}
+use Rattle.head.proofs.Words.{is-natural}
 use Rattle.form_ranges.proofs.edge_ranges.Statement.{statement}
 use Rattle.form_ranges.proofs.edge_ranges.Tie as tie
 use Rattle.form_ranges.proofs.edge_ranges.Reads as reads
@@ -58,7 +60,8 @@ natural-requires c κs =
     let t = tested row (c .before .before .edge-naturals .ensures) (c .before .within .ensures)
     (sfits-of (c .before .before .before .z .given))
     (not-false (c .before .before .edge-naturals .result && c .before .within .result) (c .if1 .left)) in
-    (omega arith, within-in 2 12 (cell row 7) (and-right (naturals row) (within 2 12 (cell row 7)) t) .0)
+    let k = within-pos 2 12 (cell row 7) (and-right (naturals row) (within 2 12 (cell row 7)) t) in
+    (omega arith, ≡→T (nonNeg (cell row 7)) (is-natural (cell row 7) (k .0)))
 
 -- both tests are passed
 both : (n : lts.After-natural (
@@ -94,7 +97,7 @@ points-ranged-requires-2 c κs =
     let n = c .before in
     let s = n .before .before .before .before .before in
     let row = s .args .row .now in
-    let h = within-in 2 12 (cell row 7) (and-right (naturals row) (within 2 12 (cell row 7)) (both n)) .1 in
+    let h = within-pos 2 12 (cell row 7) (and-right (naturals row) (within 2 12 (cell row 7)) (both n)) .2 in
     let e = n .natural .ensures in
     (s .pre, omega arith)
 

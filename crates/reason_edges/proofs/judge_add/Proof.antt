@@ -5,7 +5,8 @@ use mir.Syntax.{w64}
 use mir.Facts.{toZ-ofZ}
 use Rattle.map_rows.proofs.Rows.{node-rows-rising}
 use Rattle.outcomes.proofs.Formed.{nodes-count, node-rows, node-none}
-use Rattle.outcomes.proofs.Words.{count-natural, count-abs, place-told}
+use Rattle.head.proofs.Words.{count-natural, count-abs}
+use Rattle.outcomes.proofs.Words.{place-told}
 use Rattle.reason_edges.proofs.Adding.{few-nodes, end-none, row-below, add-missing, add-found}
 use Rattle.reason_edges.proofs.judge_add.Statement.{statement}
 use Rattle.reason_edges.proofs.judge_add.Tie as tie

@@ -8,7 +8,8 @@ use Rattle.lists.proofs.Counts.{bit-most}
 use Rattle.map_rows.proofs.Rows.{edge-row-of, edge-rows-rising}
 use Rattle.outcomes.proofs.Formed.{edges-count, edge-rows}
 use Rattle.outcomes.proofs.Words.{count-natural, count-abs, place-told}
-use Rattle.reason_edges.proofs.Adding.{few-edges, counted}
+use Rattle.reason_edges.proofs.Adding.{few-edges}
+use Rattle.outcomes.proofs.Formed.{counted}
 use Rattle.reason_edges.proofs.Removing.{removal-missing, edge-below, removal-found}
 use Rattle.reason_edges.proofs.judge_removal.Statement.{statement}
 use Rattle.reason_edges.proofs.judge_removal.Tie as tie

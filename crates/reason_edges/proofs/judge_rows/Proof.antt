@@ -8,13 +8,13 @@ use Rattle.integers.specs.Signs.{sent}
 use Rattle.lists.specs.Tests.{bit}
 use Rattle.lists.proofs.Counts.{bit-most}
 use Rattle.map.specs.Rows.{mapOf}
-use Rattle.form_ranges.specs.Ranges.{lent}
-use Rattle.outcomes.proofs.Formed.{nodes-count, edges-count, node-rows, edge-rows}
 use Rattle.map_rows.proofs.Rows.{node-row-of}
+use Rattle.form_ranges.specs.Ranges.{lent}
+use Rattle.outcomes.proofs.Formed.{nodes-count, edges-count, node-rows, edge-rows, counted}
 use Rattle.outcomes.proofs.Words.{count-natural, count-abs}
 use Rattle.reason_edges.specs.Parts.{makesSecond}
-use Rattle.reason_edges.proofs.Adding.{few-nodes, few-edges, counted, held, held-at, run-drawn, corner-told}
-use Rattle.reason_edges.proofs.Adding.{rows-turned, rows-known}
+use Rattle.reason_edges.proofs.Adding.{few-nodes, few-edges, held, held-at, run-drawn, corner-told, rows-turned}
+use Rattle.reason_edges.proofs.Adding.{rows-known}
 use Rattle.reason_edges.proofs.judge_rows.Statement.{statement}
 use Rattle.reason_edges.proofs.judge_rows.Tie as tie
 

@@ -1,2 +1,0 @@
--- `Empty`: tables of zeros hold the empty map.
-pub mod Empty
