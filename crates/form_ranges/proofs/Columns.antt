@@ -3,7 +3,6 @@ use mathlib.Core.Path.{_≡_, sym, ap, _∙_}
 use mathlib.Core.Bool.{true}
 use mathlib.Core.List.{List, map}
 use Prim.Native.Nat.{ℕ, zero, suc, _*_, _≤_}
-use native.Mathlib.Nat.{mul-one}
 use native.Mathlib.Omega.{arith}
 use lib.Dec.{lit<}
 use lib.IntN.{ℤ, pos, natAbs}
@@ -55,5 +54,5 @@ first-face l zero h = absurd (omega arith)
 first-face l (suc n) h = ap natAbs (getD-take 1 l 0 (pos 0) (lit< tt))
 
 -- a face row is its number
-pub face-tested : (l : List ℤ) (i : ℕ) → faceRanges (rowAt 1 l i) ≡ nonNeg (getD l i (pos 0))
-face-tested l i = ap nonNeg (row-first 1 l i (lit< tt) ∙ ap (λ (k : ℕ). getD l k (pos 0)) (mul-one i))
+pub face-tested : (l : List ℤ) (i : ℕ) → faceRanges (rowAt 1 l i) ≡ nonNeg (getD l (i * 1) (pos 0))
+face-tested l i = ap nonNeg (row-first 1 l i (lit< tt))

@@ -12,7 +12,8 @@ ghost use lib.Signed.{leZ, nonNeg};
 ghost use lib.ListN.{length, getD, take, drop};
 ghost use Rattle.lists.specs.Scans.{allOf};
 ghost use Rattle.tables.specs.Tables.{cell, rows, isZero};
-ghost use Rattle.curves.specs.Curves.{coordinate};
+ghost use Rattle.curves.specs.Curves.{coordinate, maxPoints};
+ghost use Rattle.map.specs.Limits.{maxNodes, maxEdges, maxFaces, nodeWidth, edgeWidth, faceWidth};
 ghost use Rattle.map.specs.Rows.{whole, sizesOf};
 ghost use Rattle.map.specs.Form.{countsFit, nextsFit, nodeRanges, edgeRanges, faceRanges, numbers};
 ghost use Rattle.form_ranges.specs.Ranges.{lent, mapIn, rangedRows, InRanges};
@@ -39,7 +40,7 @@ fn within(z: i64, a: i64, b: i64) -> bool
 
 // Counts within the tables, and next numbers 1 to 1,000,000.
 pub fn head_fits(h: Head, nodes: usize, edges: usize, faces: usize) -> bool
-    requires { ⌜ (nodes ≤ 1000) × (edges ≤ 2000) × (faces ≤ 1000) ⌝ }
+    requires { ⌜ (nodes ≤ maxNodes) × (edges ≤ maxEdges) × (faces ≤ maxFaces) ⌝ }
     ensures { λ r. ⌜ ((l : _) → sizesOf l ≡ record { nodes = nodes; edges = edges; faces = faces } → r
         ≡ (countsFit (record { nodes = l .nodes; edges = l .edges; faces = l .faces; head = h }) && nextsFit h)) ⌝ }
 {
@@ -81,7 +82,7 @@ fn are_coordinates(t: &[i64]) -> bool
 }
 
 fn node_ranges(row: &[i64]) -> bool
-    requires { ⌜ length (now row) ≡ 4 ⌝ }
+    requires { ⌜ length (now row) ≡ nodeWidth ⌝ }
     ensures { λ r. ⌜ r ≡ nodeRanges (now (row .entry)) ⌝ }
 {
     let z = row[map::NODE_FACE];
@@ -89,8 +90,8 @@ fn node_ranges(row: &[i64]) -> bool
 }
 
 fn nodes_ranged(nodes: &[i64], n: usize) -> bool
-    requires { ⌜ n * 4 ≤ length (now nodes) ⌝ }
-    ensures { λ r. ⌜ r ≡ allOf nodeRanges (rows 4 n (now (nodes .entry))) ⌝ }
+    requires { ⌜ n * nodeWidth ≤ length (now nodes) ⌝ }
+    ensures { λ r. ⌜ r ≡ allOf nodeRanges (rows nodeWidth n (now (nodes .entry))) ⌝ }
 {
     for i in 0..n {
         let a = i * map::NODE_WIDTH;
@@ -104,7 +105,7 @@ fn nodes_ranged(nodes: &[i64], n: usize) -> bool
 
 // The numbers of a row that may not be negative.
 fn edge_naturals(row: &[i64]) -> bool
-    requires { ⌜ length (now row) ≡ 32 ⌝ }
+    requires { ⌜ length (now row) ≡ edgeWidth ⌝ }
     ensures { λ r. ⌜ r ≡ allOf nonNeg (cell (now (row .entry)) 0 ∷ cell (now (row .entry)) 1
         ∷ cell (now (row .entry)) 2 ∷ cell (now (row .entry)) 5 ∷ cell (now (row .entry)) 6 ∷ []) ⌝ }
 {
@@ -117,7 +118,7 @@ fn edge_naturals(row: &[i64]) -> bool
 
 // Coordinates of n points, and zeros behind them.
 fn points_ranged(row: &[i64], n: usize) -> bool
-    requires { ⌜ (length (now row) ≡ 32) × (n ≤ 12) ⌝ }
+    requires { ⌜ (length (now row) ≡ edgeWidth) × (n ≤ maxPoints) ⌝ }
     ensures { λ r. ⌜ r ≡ (allOf coordinate (take (2 * n) (drop 8 (now (row .entry))))
         && allOf isZero (drop (2 * n) (drop 8 (now (row .entry))))) ⌝ }
 {
@@ -126,7 +127,7 @@ fn points_ranged(row: &[i64], n: usize) -> bool
 }
 
 fn edge_ranges(row: &[i64]) -> bool
-    requires { ⌜ length (now row) ≡ 32 ⌝ }
+    requires { ⌜ length (now row) ≡ edgeWidth ⌝ }
     ensures { λ r. ⌜ r ≡ edgeRanges (now (row .entry)) ⌝ }
 {
     let z = row[map::POINT_COUNT];
@@ -142,8 +143,8 @@ fn edge_ranges(row: &[i64]) -> bool
 }
 
 fn edges_ranged(edges: &[i64], n: usize) -> bool
-    requires { ⌜ n * 32 ≤ length (now edges) ⌝ }
-    ensures { λ r. ⌜ r ≡ allOf edgeRanges (rows 32 n (now (edges .entry))) ⌝ }
+    requires { ⌜ n * edgeWidth ≤ length (now edges) ⌝ }
+    ensures { λ r. ⌜ r ≡ allOf edgeRanges (rows edgeWidth n (now (edges .entry))) ⌝ }
 {
     for i in 0..n {
         let a = i * map::EDGE_WIDTH;
@@ -156,11 +157,11 @@ fn edges_ranged(edges: &[i64], n: usize) -> bool
 }
 
 fn faces_ranged(faces: &[i64], n: usize) -> bool
-    requires { ⌜ n ≤ length (now faces) ⌝ }
-    ensures { λ r. ⌜ r ≡ allOf faceRanges (rows 1 n (now (faces .entry))) ⌝ }
+    requires { ⌜ n * faceWidth ≤ length (now faces) ⌝ }
+    ensures { λ r. ⌜ r ≡ allOf faceRanges (rows faceWidth n (now (faces .entry))) ⌝ }
 {
     for i in 0..n {
-        if !is_natural(faces, i) {
+        if !is_natural(faces, i * map::FACE_WIDTH) {
             return false;
         }
     }
@@ -168,13 +169,13 @@ fn faces_ranged(faces: &[i64], n: usize) -> bool
 }
 
 pub fn is_ranged(nodes: &[i64], edges: &[i64], faces: &[i64], c: Counts) -> bool
-    requires { ⌜ (c .nodes * 4 ≤ length (now nodes)) × (c .edges * 32 ≤ length (now edges))
-        × (c .faces ≤ length (now faces)) ⌝ }
+    requires { ⌜ (c .nodes * nodeWidth ≤ length (now nodes)) × (c .edges * edgeWidth ≤ length (now edges))
+        × (c .faces * faceWidth ≤ length (now faces)) ⌝ }
     ensures { λ r. ⌜ r ≡ rangedRows (now (nodes .entry)) (now (edges .entry)) (now (faces .entry)) c ⌝ }
 {
     if !(tables::rest_zero(nodes, c.nodes * map::NODE_WIDTH)
         & tables::rest_zero(edges, c.edges * map::EDGE_WIDTH)
-        & tables::rest_zero(faces, c.faces)) {
+        & tables::rest_zero(faces, c.faces * map::FACE_WIDTH)) {
         return false;
     }
     nodes_ranged(nodes, c.nodes) & edges_ranged(edges, c.edges) & faces_ranged(faces, c.faces)

@@ -105,7 +105,7 @@ counts-of-requires c κs =
     (and-left (countsFit (lent (a .nodes .now) (a .edges .now) (a .faces .now) (a .h))) (nextsFit (a .h)) (head-in c))
 
 is-ranged-requires : tie.Need-is-ranged-requires
-is-ranged-requires c κs = let k = counted-in c in (k .nodes-fit, k .edges-fit, omega (arith, k .faces-fit))
+is-ranged-requires c κs = let k = counted-in c in (k .nodes-fit, k .edges-fit, k .faces-fit)
 
 returns-2 : tie.Need-returns-2
 returns-2 c =

@@ -52,6 +52,7 @@ faces-ranged-spec =
     tie.close
     (tie.spec Inv-loop μ-loop
     loop-holds
+    (λ c. omega arith)
     (λ c κs. omega arith)
     returns
     (λ c. omega arith)

@@ -1,13 +1,10 @@
 -- `form_ranges::is_ranged` meets its contract. Assumes nothing.
 use borrow.Author.Needs.{needs}
 use borrow.Author.Tests.{not-true, not-false}
-use mathlib.Core.Path.{_≡_, sym, ap, _∙_}
+use mathlib.Core.Path.{_≡_, sym, _∙_}
 use mathlib.Core.Bool.{Bool, true, false, _&&_}
-use Prim.Native.Nat.{ℕ}
-use native.Mathlib.Nat.{mul-one}
-use lib.ListN.{drop}
 use Rattle.lists.specs.Scans.{allOf}
-use Rattle.tables.specs.Tables.{rows, isZero}
+use Rattle.tables.specs.Tables.{rows}
 use Rattle.map.specs.Form.{nodeRanges, edgeRanges, faceRanges}
 use Rattle.form_ranges.proofs.is_ranged.Statement.{statement}
 use Rattle.form_ranges.proofs.is_ranged.Tie as tie
@@ -25,20 +22,19 @@ module _ {p q r p′ q′ r′ : Bool} (e : p ≡ p′) (f : q ≡ q′) (g : r 
 
 returns : tie.Need-returns
 returns c =
-    let a = c .before .before .before .before .before .before .args in
-    none-of (c .before .before .before .before .rest-zero .ensures) (c .before .before .rest-zero2 .ensures)
-    (c .before .rest-zero3 .ensures ∙ ap (λ (k : ℕ). allOf isZero (drop k (a .faces .now)))
-    (sym (mul-one (a .c .faces)))) (not-true _ (c .if1 .taken))
+    let a = c .before .before .before .before .before .before .before .args in
+    none-of (c .before .before .before .before .before .rest-zero .ensures)
+    (c .before .before .before .rest-zero2 .ensures)
+    (c .before .rest-zero3 .ensures) (not-true _ (c .if1 .taken))
     (allOf nodeRanges (rows 4 (a .c .nodes) (a .nodes .now)))
     (allOf edgeRanges (rows 32 (a .c .edges) (a .edges .now))) (allOf faceRanges (rows 1 (a .c .faces) (a .faces .now)))
 
 returns-2 : tie.Need-returns-2
 returns-2 c =
-    let a = c .before .before .before .before .before .before .before .before .before .args in
-    rest-of (c .before .before .before .before .before .before .before .rest-zero .ensures)
-    (c .before .before .before .before .before .rest-zero2 .ensures)
-    (c .before .before .before .before .rest-zero3 .ensures
-    ∙ ap (λ (k : ℕ). allOf isZero (drop k (a .faces .now))) (sym (mul-one (a .c .faces))))
+    let a = c .before .before .before .before .before .before .before .before .before .before .args in
+    rest-of (c .before .before .before .before .before .before .before .before .rest-zero .ensures)
+    (c .before .before .before .before .before .before .rest-zero2 .ensures)
+    (c .before .before .before .before .rest-zero3 .ensures)
     (not-false _ (c .before .before .before .if1 .left))
     (allOf nodeRanges (rows 4 (a .c .nodes) (a .nodes .now)))
     (allOf edgeRanges (rows 32 (a .c .edges) (a .edges .now))) (allOf faceRanges (rows 1 (a .c .faces) (a .faces .now)))
@@ -52,6 +48,7 @@ is-ranged-spec =
     (λ c κs. search needs)
     (λ c. search needs)
     (λ c κs. search needs)
+    (λ c. search needs)
     (λ c κs. search needs)
     returns
     (λ c κs. search needs)
