@@ -23,6 +23,7 @@ fn widened(e: Extent, p: Point) -> Extent
     }
 }
 
+// The least box around a curve.
 pub fn extent_of(c: &[i64]) -> Extent
     requires { ⌜ Run (now c) ⌝ }
     ensures { λ r. ⌜ r ≡ extentOf (curveOf (now (c .entry))) ⌝ }

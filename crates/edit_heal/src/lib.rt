@@ -326,6 +326,7 @@ fn heal_rows_of(
     carry_out(nodes, edges, h, keeps, i, j, s, l)
 }
 
+// Kinds 9 and 10: two edges joined into one at a node where no other edge ends.
 pub fn heal_edges(
     nodes: &mut [i64],
     edges: &mut [i64],

@@ -149,6 +149,7 @@ fn push_node(nodes: &mut [i64], h: Head, x: i64, y: i64, around: i64) -> Done
     outcomes::carried(head::changed(h, head::NODE, head::NONE, head::NODE), number)
 }
 
+// Kind 1: an isolated node added, in the face around its point.
 pub fn add_node(
     nodes: &mut [i64],
     edges: &[i64],
@@ -186,6 +187,7 @@ pub fn add_node(
     push_node(nodes, h, x, y, around)
 }
 
+// Kind 2: an isolated node moved, into the face around its new point.
 pub fn move_node(nodes: &mut [i64], edges: &[i64], h: Head, node: i64, x: i64, y: i64) -> Done
     requires { ⌜ ((faces : _) × Formed (now nodes) (now edges) faces h) ⌝ }
     ensures { λ r. ⌜ ((faces : _) → Formed (now (nodes .entry)) (now (edges .entry)) faces h
@@ -207,6 +209,7 @@ pub fn move_node(nodes: &mut [i64], edges: &[i64], h: Head, node: i64, x: i64, y
     outcomes::carried(h, 0)
 }
 
+// Kind 3: an isolated node removed.
 pub fn remove_node(nodes: &mut [i64], h: Head, node: i64) -> Done
     requires { ⌜ ((edges : _) × (faces : _) × Formed (now nodes) edges faces h) ⌝ }
     ensures { λ r. ⌜ ((edges : _) (faces : _) → Formed (now (nodes .entry)) edges faces h

@@ -41,6 +41,7 @@ fn remove_and_heal(
     outcomes::carried(after, face)
 }
 
+// Kinds 13 and 14: an edge removed; where its two faces differ, they become one.
 pub fn remove_edge(
     nodes: &mut [i64],
     edges: &mut [i64],

@@ -217,6 +217,7 @@ fn cut_edge(edges: &mut [i64], h: Head, i: usize, keeps: bool, edge: i64, x: i64
     cut_row(edges, e, i, node, p, keeps, a, b);
 }
 
+// Kinds 7 and 8: an edge cut in two at a point of its curve, where a new node stands.
 pub fn split_edge(
     nodes: &mut [i64],
     edges: &mut [i64],

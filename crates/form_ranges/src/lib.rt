@@ -22,6 +22,7 @@ const POINTS: i64 = Map::POINTS as i64;
 
 // ---- 1: whole rows within the limits, and a face row
 
+// Whether the tables are whole rows, within the limits, with a face row: condition 1.
 pub fn is_whole(nodes: &[i64], edges: &[i64], faces: &[i64]) -> bool
     ensures { λ r. ⌜ ((h : _) → r ≡ whole (lent (now (nodes .entry)) (now (edges .entry)) (now (faces .entry)) h)) ⌝ }
 {
@@ -168,6 +169,7 @@ fn faces_ranged(faces: &[i64], n: usize) -> bool
     true
 }
 
+// Whether the rows in use are in range, and all numbers behind them 0.
 pub fn is_ranged(nodes: &[i64], edges: &[i64], faces: &[i64], c: Counts) -> bool
     requires { ⌜ (c .nodes * nodeWidth ≤ length (now nodes)) × (c .edges * edgeWidth ≤ length (now edges))
         × (c .faces * faceWidth ≤ length (now faces)) ⌝ }
@@ -183,6 +185,7 @@ pub fn is_ranged(nodes: &[i64], edges: &[i64], faces: &[i64], c: Counts) -> bool
 
 // ---- numbers
 
+// Whether the numbers of each table rise and are below the next, and face 0 is there.
 pub fn numbers_fit(nodes: &[i64], edges: &[i64], faces: &[i64], c: Counts, h: Head) -> bool
     requires { ⌜ InRanges (now nodes) (now edges) (now faces) c h ⌝ }
     ensures { λ r. ⌜ r ≡ numbers (mapIn (now (nodes .entry)) (now (edges .entry)) (now (faces .entry)) c h) ⌝ }

@@ -159,6 +159,7 @@ fn judge_rows(
     }
 }
 
+// The first reason against kinds 11 and 12, and what the edit needs to know where there is none.
 pub fn judge_add(
     nodes: &[i64],
     edges: &[i64],
@@ -210,6 +211,7 @@ fn face_reason(h: Head, numbers: usize) -> u64
     if head::is_spent(h, given) { 21 } else { 0 }
 }
 
+// The first reason against kinds 13 and 14, and what the edit needs to know where there is none.
 pub fn judge_removal(edges: &[i64], h: Head, news: bool, edge: i64) -> Removal
     requires { ⌜ ((nodes : _) × (faces : _) × Formed nodes (now edges) faces h) ⌝ }
     ensures { λ r. ⌜ ((nodes : _) (faces : _) → Formed nodes (now (edges .entry)) faces h
