@@ -1,25 +1,21 @@
 -- Named rows: a search of the first column tells whether the map has the row. Containing faces, edges of links, ends of
 -- curves. Assumes nothing.
-use mathlib.Core.Path.{_≡_, refl, sym, ap, _∙_, subst}
+use mathlib.Core.Path.{_≡_, refl, sym, ap, _∙_}
 use mathlib.Core.Bool.{Bool, true, false, true≢false}
 use mathlib.Core.Logic.{inl, inr}
 use mathlib.Core.List.{List}
-use Prim.Native.Nat.{ℕ, suc, _+_, _*_, _/_, _≤_, _<_}
+use Prim.Native.Nat.{ℕ, suc, _+_, _*_, _/_, _≤_}
 use native.Mathlib.Nat.{zero-add}
 use native.Mathlib.Omega.{arith}
 use lib.IntN.{ℤ, pos, negsuc, natAbs, _-ℤ_}
-use lib.ListN.{length, getD, set}
-use lib.Seq.{getD-set-same, getD-set-other}
+use lib.ListN.{length, getD}
 use lib.Signed.{ltZ}
-use borrow.Author.Count.{below-more}
 use borrow.Author.Tests.{ltb-true, ltb-false}
 pub use Rattle.integers.specs.Signs.{not-negative}
 use Rattle.lists.specs.Scans.{anyOf, isSome}
 use Rattle.lists.specs.Tables.{table, place}
-use Rattle.lists.specs.declared.Found.{Found}
 use Rattle.lists.specs.declared.Found.the-variants.{At, Missing}
 use Rattle.tables.specs.Tables.{sameZ, column, Rising, numbered}
-use Rattle.tables.proofs.Order.{same-is}
 use Rattle.tables.proofs.Rows.{number-in}
 use Rattle.tables.proofs.Lookups.{place-first, place-missing, any-find, which-place}
 use Rattle.curves.specs.Curves.{Curve, Run, pointAt, curveOf, lastPoint}
@@ -31,7 +27,6 @@ use Rattle.map_rows.specs.Rows.{edgeAt, nodeMap, edgeMap, NodeRows, FaceRows}
 use Rattle.map_rows.proofs.Rows.{edge-numbers, edges-rising}
 use Rattle.map_rows.proofs.Lookups.{node-found, node-missing, edge-found, edge-missing, face-found, face-missing}
 use Rattle.form_ranges.specs.Ranges.{faceMap, EdgesInOrder}
-use Rattle.form_references.specs.Named.{NamedAt, Sought}
 
 module _ {A : Type 0} (p : A → Bool) (f : ℕ → A) (n : ℕ) where
   pub any-at : (i : ℕ) → place p 0 (table f 0 n) ≡ At i → anyOf p (table f 0 n) ≡ true
@@ -46,30 +41,6 @@ module _ (w : ℕ) (l : List ℤ) (n : ℕ) (z : ℤ) where
 
   pub column-missing : place (sameZ z) 0 (column w l n) ≡ Missing → anyOf (sameZ z) (column w l n) ≡ false
   column-missing = any-missing (sameZ z) (λ i. getD l (i * w) (pos 0)) n
-
-  -- the row that is found has the number
-  pub row-sought : (f : Found) → f ≡ place (sameZ z) 0 (column w l n) → Sought false w l n z f
-  row-sought f e = record {
-    missing = λ m. column-missing (sym e ∙ m);
-    at = λ i a.
-        let q = sym e ∙ a in
-        let k = place-first (sameZ z) (λ i. getD l (i * w) (pos 0)) n i q in
-        ((k .below, sym (same-is z (getD l (i * w) (pos 0)) (k .taken))), column-at i q);
-  }
-
--- ---- what is written down
-
--- no row and no position is past twice the rows
-pub named-below : (links : Bool) (w : ℕ) (t : List ℤ) (n : ℕ) (z : ℤ) (v : ℕ) → NamedAt links w t n z v → v < n * 2
-named-below true w t n z v h = h .0
-named-below false w t n z v h = let k = h .0 in omega arith
-
--- what holds of the first p cells, and of the one that is written, holds of those up to p
-pub one-more : (P : ℕ → ℕ → Type 0) (r : List ℕ) (p x : ℕ) → p < length r → ((q : ℕ) → q < p → P q (getD r q 0))
-    → P p x → (q : ℕ) → q < p + 1 → P q (getD (set r p x) q 0)
-one-more P r p x room old new = below-more (λ q. P q (getD (set r p x) q 0)) p
-    (λ q h. subst (P q) (sym (getD-set-other r p q x 0 (λ e. omega arith))) (old q h))
-    (subst (P p) (sym (getD-set-same r p x 0 room)) new)
 
 module _ {l : List ℤ} {n : ℕ} where
   pub node-named : NodeRows l n → (m : ℕ) → anyOf (sameZ (pos m)) (column 4 l n) ≡ hasNode (nodeMap l n) m

@@ -5,22 +5,24 @@ use map::Counts;
 use plane::Point;
 ghost use mathlib.Core.Path.{_≡_};
 ghost use mathlib.Core.Bool.{true, false, _&&_};
-ghost use Prim.Native.Nat.{_+_, _*_, _/_, _≤_};
+ghost use Prim.Native.Nat.{ℕ, _+_, _*_, _/_, _≤_, _<_};
 ghost use lib.IntN.{pos, negsuc, natAbs};
 ghost use lib.Signed.{ltZ};
-ghost use lib.ListN.{length};
+ghost use lib.ListN.{length, getD};
 ghost use Rattle.lists.specs.Scans.{anyOf, allOf};
+ghost use Rattle.lists.specs.Tables.{table};
+ghost use Rattle.lists.specs.declared.Found.the-variants.{At, Missing};
 ghost use Rattle.tables.specs.Tables.{Rising, sameZ, column};
 ghost use Rattle.plane.specs.Points.{samePoint};
 ghost use Rattle.curves.specs.Curves.{Run, curveOf, lastPoint};
 ghost use Rattle.curves.specs.Tests.{neighboursDiffer};
 ghost use Rattle.map.specs.Limits.{nodeWidth, edgeWidth, faceWidth, maxNodes, maxEdges, maxFaces};
-ghost use Rattle.map.specs.Rows.{nodeOf};
+ghost use Rattle.map.specs.Rows.{hasEdge, nodeOf, dartOf};
 ghost use Rattle.map.specs.Form.{inFace, named, curveFits};
 ghost use Rattle.map_rows.specs.Rows.{NodeRows, EdgeRow, EdgeRows, FaceRows, nodesOf, edgesOf, edgeAt, nodeMap};
-ghost use Rattle.darts.specs.Positions.{RowsNamed, NextsNamed};
+ghost use Rattle.map_rows.specs.Rows.{edgeMap};
+ghost use Rattle.darts.specs.Positions.{dartAt, RowsNamed, NextsNamed};
 ghost use Rattle.form_ranges.specs.Ranges.{mapIn, faceMap, EdgesInOrder, InOrder};
-ghost use Rattle.form_references.specs.Named.{Sought, allNamed, AllAt};
 
 // ---- names
 
@@ -64,6 +66,43 @@ fn nodes_name_faces(nodes: &[i64], n: usize, faces: &[i64], f: usize, index: &[u
     true
 }
 
+// Whether the rows exist that both sides of each edge name in columns k and k + 1; they are written.
+fn find_rows(
+    t: &[i64],
+    w: usize,
+    n: usize,
+    edges: &[i64],
+    count: usize,
+    k: usize,
+    index: &[u16],
+    rows: &mut [u16],
+) -> bool
+    requires { ⌜ Rising w (now t) n × (n ≤ maxEdges)
+        × (count * edgeWidth ≤ length (now edges)) × (k + 2 ≤ edgeWidth)
+        × (length (now index) ≡ 4096) × (count * 2 ≤ length (now rows)) ⌝ }
+    ensures { λ r. ⌜
+        (r ≡ allOf (λ i.
+        anyOf (sameZ (getD (now (edges .entry)) (i * edgeWidth + k) (pos 0))) (column w (now (t .entry)) n)
+        && anyOf (sameZ (getD (now (edges .entry)) (i * edgeWidth + k + 1) (pos 0))) (column w (now (t .entry)) n))
+        (table (λ i. i) 0 count))
+        × (length (now (rows .exit)) ≡ length (now (rows .entry)))
+        × (r ≡ true → RowsNamed w (now (t .entry)) n (now (edges .entry)) k (now (rows .exit)) (count * 2)) ⌝ }
+{
+    for i in 0..count {
+        let a = tables::find_indexed(t, w, n, edges[i * map::EDGE_WIDTH + k], index);
+        let Found::At(x) = a else {
+            return false;
+        };
+        let b = tables::find_indexed(t, w, n, edges[i * map::EDGE_WIDTH + k + 1], index);
+        let Found::At(y) = b else {
+            return false;
+        };
+        rows[i * 2] = x as u16;
+        rows[i * 2 + 1] = y as u16;
+    }
+    true
+}
+
 // The edge of a directed edge.
 fn edge_of(d: i64) -> i64
     requires { ⌜ ltZ d (negsuc 999998) ≡ false ⌝ }
@@ -78,7 +117,10 @@ fn edge_of(d: i64) -> i64
 // The position of the directed edge that a link names: found, or missing.
 fn find_position(edges: &[i64], count: usize, d: i64, index: &[u16]) -> Found
     requires { ⌜ EdgesInOrder (now edges) count × (length (now index) ≡ 4096) ⌝ }
-    ensures { λ r. ⌜ Sought true edgeWidth (now (edges .entry)) count d r ⌝ }
+    ensures { λ r. ⌜ (r ≡ Missing → hasEdge (edgeMap (now (edges .entry)) count) (natAbs d) ≡ false)
+        × ((q : ℕ) → r ≡ At q
+        → (q < count * 2) × (dartAt (now (edges .entry)) q ≡ dartOf d)
+        × (hasEdge (edgeMap (now (edges .entry)) count) (natAbs d) ≡ true)) ⌝ }
 {
     if d < map::LEAST_LINK {
         return Found::Missing;
@@ -90,42 +132,37 @@ fn find_position(edges: &[i64], count: usize, d: i64, index: &[u16]) -> Found
     Found::At(i * 2 + (d < 0) as usize)
 }
 
-// The row that a number names; for a link the position of its directed edge.
-fn find_named(t: &[i64], w: usize, n: usize, links: bool, z: i64, index: &[u16]) -> Found
-    requires { ⌜ Rising w (now t) n × (links ≡ true → EdgesInOrder (now t) n) × (length (now index) ≡ 4096) ⌝ }
-    ensures { λ r. ⌜ Sought links w (now (t .entry)) n z r ⌝ }
+// Whether the edges exist that both links of each edge name; their positions are written.
+fn find_nexts(edges: &[i64], count: usize, index: &[u16], nexts: &mut [u16]) -> bool
+    requires { ⌜ EdgesInOrder (now edges) count × (count ≤ maxEdges)
+        × (length (now index) ≡ 4096) × (count * 2 ≤ length (now nexts)) ⌝ }
+    ensures { λ r. ⌜
+        (r ≡ allOf (λ e. hasEdge (edgeMap (now (edges .entry)) count) (e .nextLeft .edge)
+        && hasEdge (edgeMap (now (edges .entry)) count) (e .nextRight .edge)) (edgesOf (now (edges .entry)) count))
+        × (length (now (nexts .exit)) ≡ length (now (nexts .entry)))
+        × (r ≡ true → NextsNamed (now (edges .entry)) count (now (nexts .exit)) (count * 2)) ⌝ }
 {
-    if links {
-        return find_position(t, n, z, index);
-    }
-    tables::find_indexed(t, w, n, z, index)
-}
-
-// What each directed edge names in columns k and k + 1, by position.
-fn find_rows(
-    t: &[i64],
-    w: usize,
-    n: usize,
-    links: bool,
-    edges: &[i64],
-    count: usize,
-    k: usize,
-    index: &[u16],
-    rows: &mut [u16],
-) -> bool
-    requires { ⌜ Rising w (now t) n × (links ≡ true → EdgesInOrder (now t) n) × (n ≤ maxEdges)
-        × (count * edgeWidth ≤ length (now edges)) × (k + 2 ≤ edgeWidth) × (length (now index) ≡ 4096)
-        × (count * 2 ≤ length (now rows)) ⌝ }
-    ensures { λ r. ⌜ (r ≡ allNamed links w (now (t .entry)) n (now (edges .entry)) k (count * 2))
-        × (length (now (rows .exit)) ≡ length (now (rows .entry)))
-        × (r ≡ true → AllAt links w (now (t .entry)) n (now (edges .entry)) k (now (rows .exit)) (count * 2)) ⌝ }
-{
-    for p in 0..count * 2 {
-        let found = find_named(t, w, n, links, darts::dart_cell(edges, p, k), index);
-        let Found::At(x) = found else {
+    for i in 0..count {
+        let a = find_position(
+            edges,
+            count,
+            edges[i * map::EDGE_WIDTH + map::NEXT_LEFT],
+            index,
+        );
+        let Found::At(x) = a else {
             return false;
         };
-        rows[p] = x as u16;
+        let b = find_position(
+            edges,
+            count,
+            edges[i * map::EDGE_WIDTH + map::NEXT_RIGHT],
+            index,
+        );
+        let Found::At(y) = b else {
+            return false;
+        };
+        nexts[i * 2] = x as u16;
+        nexts[i * 2 + 1] = y as u16;
     }
     true
 }
@@ -167,7 +204,6 @@ pub fn names_exist(
         faces,
         map::FACE_WIDTH,
         c.faces,
-        false,
         edges,
         c.edges,
         map::LEFT,
@@ -181,7 +217,6 @@ pub fn names_exist(
         nodes,
         map::NODE_WIDTH,
         c.nodes,
-        false,
         edges,
         c.edges,
         map::START,
@@ -191,17 +226,7 @@ pub fn names_exist(
         return false;
     }
     tables::index_rows(edges, map::EDGE_WIDTH, c.edges, &mut index);
-    find_rows(
-        edges,
-        map::EDGE_WIDTH,
-        c.edges,
-        true,
-        edges,
-        c.edges,
-        map::NEXT_LEFT,
-        &index,
-        nexts,
-    )
+    find_nexts(edges, c.edges, &index, nexts)
 }
 
 // ---- curves

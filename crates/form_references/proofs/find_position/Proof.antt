@@ -11,8 +11,8 @@ use mir.Val.{toZ, ofZ}
 use mir.Facts.{toZ-ofZ}
 use Rattle.lists.specs.Tables.{place}
 use Rattle.lists.proofs.Counts.{byte-bit, bit-most}
-use Rattle.map.specs.Limits.{edgeWidth}
 use Rattle.tables.specs.Tables.{sameZ, column}
+use Rattle.map.specs.Limits.{edgeWidth}
 use Rattle.form_references.proofs.Names.{edge-more, edge-past, edges-in-order-rise}
 use Rattle.form_references.proofs.Nexts.{missing-at, link-missing, link-below, link-at}
 use Rattle.form_references.proofs.find_position.Statement.{statement}
@@ -28,10 +28,7 @@ returns c =
     let d = s .args .d in
     let t : ltZ d (negsuc 999998) ≡ true =
     subst (λ (x : ℤ). ltZ x (negsuc 999998) ≡ true) (toZ-ofZ {w = w64} (s .fits .d)) (c .if1 .taken) in
-    record {
-      missing = λ e. edge-past (s .pre .0) (natAbs d) (edge-more d t);
-      at = λ q e. absurd (missing-at e);
-    }
+    ((λ e. edge-past (s .pre .0) (natAbs d) (edge-more d t)), (λ q e. absurd (missing-at e)))
 
 -- what the search answers
 sought : (c : lts.After-find-indexed (
@@ -56,11 +53,10 @@ find-indexed-requires c κs = let s = c .before .before .before in (edges-in-ord
 returns-2 : tie.Need-returns-2
 returns-2 c =
     let f = c .before .before in
-    let s = f .before .before .before .before in
-    record {
-      missing = λ e. link-missing (s .pre .0) (s .args .d) (sym (sought f) ∙ c .enum-told .given .1);
-      at = λ q e. absurd (missing-at e);
-    }
+    let s = f .before .before .before .before in (
+      (λ e. link-missing (s .pre .0) (s .args .d) (sym (sought f) ∙ c .enum-told .given .1)),
+      (λ q e. absurd (missing-at e)),
+    )
 
 mul-t9 : tie.Need-mul-t9
 mul-t9 c =
@@ -84,14 +80,15 @@ add-t11 c =
 returns-3 : tie.Need-returns-3
 returns-3 c =
     let f = c .before .before .before in
-    let s = f .before .before .before .before in
-    record {
-      missing = λ e. absurd (missing-at (sym e));
-      at = link-at (s .pre .0) (s .args .d) (c .before .found .given .0 .0)
+    let s = f .before .before .before .before in (
+      (λ e. absurd (missing-at (sym e))),
+      λ q e.
+          let r = link-at (s .pre .0) (s .args .d) (c .before .found .given .0 .0)
           (ltZ (toZ w64 (ofZ w64 (s .args .d))) (pos 0))
           (ap (λ (z : ℤ). ltZ z (pos 0)) (toZ-ofZ {w = w64} (s .fits .d)))
-          (sym (sought f) ∙ c .before .found .given .1);
-    }
+          (sym (sought f) ∙ c .before .found .given .1) q e in
+          (r .below, r .dart, r .named),
+    )
 
 pub find-position-spec : {M : Type 1} → statement M
 find-position-spec =

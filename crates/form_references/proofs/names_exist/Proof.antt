@@ -8,7 +8,6 @@ use native.Mathlib.Omega.{arith}
 use lib.Dec.{lit≤}
 use Rattle.map_rows.proofs.Rows.{node-rows-rising, face-rows-rising}
 use Rattle.form_ranges.proofs.Parts.{node-rows, edges-in-order, face-rows}
-use Rattle.form_references.proofs.Names.{edges-in-order-rise}
 use Rattle.form_references.proofs.Rows.{facesPass, sidesPass, endsPass, no-faces, no-sides, no-ends, links-tell}
 use Rattle.form_references.proofs.names_exist.Statement.{statement}
 use Rattle.form_references.proofs.names_exist.Tie as tie
@@ -56,7 +55,6 @@ find-rows-requires c κs =
     let s = c .before .before .before .before .before .before .before .before .before .before .before in
     let p = s .pre .0 .1 in (
       face-rows-rising (face-rows p),
-      (λ e. absurd (false≢true e)),
       omega (arith, s .pre .3),
       p .in-ranges .counted .edges-fit,
       lit≤ tt,
@@ -87,7 +85,6 @@ find-rows-requires-2 c κs =
     .before .before .before .before .before .before .before in
     let p = s .pre .0 .1 in (
       node-rows-rising (node-rows p),
-      (λ e. absurd (false≢true e)),
       omega (arith, s .pre .1),
       p .in-ranges .counted .edges-fit,
       lit≤ tt,
@@ -119,16 +116,13 @@ index-rows-requires-3 c κs =
       k .index-rows2 .ensures,
     )
 
-find-rows-requires-3 : tie.Need-find-rows-requires-3
-find-rows-requires-3 c κs =
+find-nexts-requires : tie.Need-find-nexts-requires
+find-nexts-requires c κs =
     let s = c .before .before .before .before .before .before .before .before .before .before .before .before .before
     .before .before .before .before .before .before .before .before .before .before .before .before .before .before
     .before .before in (
-      edges-in-order-rise (edges-in-order (s .pre .0 .1)),
-      (λ e. edges-in-order (s .pre .0 .1)),
+      edges-in-order (s .pre .0 .1),
       s .pre .2,
-      s .pre .0 .1 .in-ranges .counted .edges-fit,
-      lit≤ tt,
       c .before .before .before .index-rows3 .ensures,
       omega (arith, s .pre .2, s .pre .5),
     )
@@ -141,7 +135,7 @@ returns-4 c =
     let s = k .before .before .before .before .before .before .before .before .before in
     let d = m .before .before .before .find-rows .ensures in
     let g = l .before .before .before .find-rows2 .ensures in
-    let n = c .before .before .find-rows3 .ensures in (
+    let n = c .before .before .find-nexts .ensures in (
       (λ h. links-tell (s .pre .0 .1) h (faces-pass k) (sides-pass m) (ends-pass l) (n .0)),
       g .1 ∙ s .pre .4,
       n .1 ∙ s .pre .5,
@@ -172,7 +166,7 @@ names-exist-spec =
     (λ c. search needs)
     index-rows-requires-3
     (λ c. search needs)
-    find-rows-requires-3
+    find-nexts-requires
     (λ c. search needs)
     (λ c. search needs)
     (λ c. search needs)

@@ -8,8 +8,8 @@ use lib.Signed.{ltZ, pos-natAbs}
 use mir.Syntax.{w64}
 use mir.Facts.{toZ-ofZ}
 use Rattle.lists.specs.Scans.{anyOf}
-use Rattle.map.specs.Rows.{nodeOf}
 use Rattle.tables.specs.Tables.{sameZ, column}
+use Rattle.map.specs.Rows.{nodeOf}
 use Rattle.map_rows.proofs.Rows.{face-rows-rising}
 use Rattle.form_ranges.specs.Ranges.{faceMap}
 use Rattle.form_references.proofs.Names.{face-named, no-face, not-negative, a-face}

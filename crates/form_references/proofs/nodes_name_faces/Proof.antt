@@ -11,12 +11,12 @@ use borrow.Author.Tests.{not-true, not-false}
 use Rattle.lists.specs.Scans.{allOf}
 use Rattle.lists.specs.Tables.{table}
 use Rattle.lists.proofs.Scans.{all-hit, all-miss, all-end}
+use Rattle.tables.proofs.Scans.{row-part, row-length}
 use Rattle.map.specs.Rows.{nodeOf}
 use Rattle.map.specs.Form.{inFace}
 use Rattle.map_rows.specs.Rows.{nodesOf, nodeAt}
 use Rattle.map_rows.proofs.Rows.{nodes-table}
 use Rattle.form_ranges.specs.Ranges.{faceMap}
-use Rattle.tables.proofs.Scans.{row-part, row-length}
 use Rattle.form_references.proofs.nodes_name_faces.Statement.{statement}
 use Rattle.form_references.proofs.nodes_name_faces.Tie as tie
 

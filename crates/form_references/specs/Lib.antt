@@ -1,2 +1,0 @@
--- What the numbers in a row name (`Named`).
-pub mod Named
