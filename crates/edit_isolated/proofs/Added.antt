@@ -16,7 +16,7 @@ use Rattle.lists.proofs.Bools.{equal?, same-eq, same-false, or-right}
 use Rattle.curves.specs.Curves.{curveOf}
 use Rattle.map.specs.declared.Head.{Head}
 use Rattle.map.specs.Limits.{nodeWidth, edgeWidth, faceWidth, lastNumber}
-use Rattle.map.specs.Rows.{Node, Map, Sizes, mapOf, lentOf, sizesOf, headOf, node, nodeCells, edgeCells}
+use Rattle.map.specs.Rows.{counts, Node, Map, Sizes, mapOf, lentOf, sizesOf, headOf, node, nodeCells, edgeCells}
 use Rattle.tables.specs.Tables.{sameZ, column, filled}
 use Rattle.map.specs.Rows.{faceCells}
 use Rattle.map.specs.Edits.{drawn, addIsoEdge}
@@ -75,11 +75,11 @@ module _ {nodes edges faces : List ℤ} {h : Head} (f : Formed nodes edges faces
       | inr q ↦ same-false start end (λ g. q (node-once (node-rows f) u v bu bv g)) ∙ sym (same-false u v q)
     ]
 
-    full-edges : full s m 0 1 0 ≡ ltb (length edges / edgeWidth) (natAbs (h .edges) + 1)
+    full-edges : full s m (counts 0 1 0) ≡ ltb (length edges / edgeWidth) (natAbs (h .edges) + 1)
     full-edges = full-is f 0 1 0 ∙ or-none _ (ltb (length edges / edgeWidth) (natAbs (h .edges) + 1)) _ (nodes-room f)
         (faces-room f)
 
-    spent-edges : spent m 0 1 0 ≡ ltb (suc lastNumber) (natAbs (h .«next_edge») + 1)
+    spent-edges : spent m (counts 0 1 0) ≡ ltb (suc lastNumber) (natAbs (h .«next_edge») + 1)
     spent-edges = spent-is f 0 1 0 ∙ or-none _ (ltb (suc lastNumber) (natAbs (h .«next_edge») + 1)) _ (node-left f)
         (face-left f)
 
