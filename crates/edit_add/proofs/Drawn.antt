@@ -41,8 +41,6 @@ use Rattle.face_rows.proofs.Formed.{formed-held}
 use Rattle.edge_rows.specs.Holds.{Drawn, drawnHead, NodeEdgeTables}
 use Rattle.edge_rows.proofs.Filled.{edges-room, nodes-filled, edges-filled}
 use Rattle.edit_add.proofs.Rings.{drawn-ringed, drawn-ends}
-use Rattle.redraws.specs.Holds as redraws
-use Rattle.map.proofs.Linked as formedLinks
 use Rattle.map.proofs.Linked as formedLinks
 
 -- what holds of a ticket that nothing turns down

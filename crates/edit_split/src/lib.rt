@@ -5,7 +5,6 @@ use map::Counts;
 use map::Head;
 use map::Map;
 use map_rows::Incidence;
-use map_rows::Incidence;
 use outcomes::Done;
 use plane::Point;
 ghost use mathlib.Core.Path.{_≡_};

@@ -29,7 +29,6 @@ use Rattle.map_rows.proofs.Rows.{faces-getD}
 use Rattle.map_rows.proofs.Lookups.{face-found, face-missing}
 use Rattle.face_rows.specs.Holds.{facesIn, FaceTable, withoutFace}
 use Rattle.lists.proofs.Rising as scanning
-use Rattle.lists.proofs.Rising as scanning
 
 -- ---- a table read
 

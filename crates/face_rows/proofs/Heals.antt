@@ -26,8 +26,6 @@ use Rattle.form_ranges.specs.Ranges.{lent}
 use Rattle.face_rows.specs.Holds.{facesIn, FaceTable, withoutFace, Healable, Holds, faceKept, healed}
 use Rattle.face_rows.proofs.FaceRows.{table-rising, table-distinct, without-length, still-there}
 use Rattle.lists.proofs.Rising as scanning
-use Rattle.lists.proofs.Rising as scanning
-use Rattle.lists.proofs.Rising as scanning
 
 -- ---- the map that is lent
 
