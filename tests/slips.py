@@ -26,8 +26,8 @@ SLIPS = {
         'let m′ = redirect (fwd e) (next m (fwd e)) m in'),
     'joint node kept': (
         MAP + 'Edits.antt',
-        'setNodes (withoutNode (Option·getD (joint m e f) 0) (m .nodes)) (setEdges (cond keeps kept new)',
-        'setNodes (m .nodes) (setEdges (cond keeps kept new)'),
+        'setNodes (withoutNode (Option·getD (joint m e f) 0) (m .nodes))\n',
+        'setNodes (m .nodes)\n'),
     'pieces of edges': (
         MAP + 'Darts.antt',
         'pieceCount m = pieces (map (λ n. n .number) (m .nodes)) (arcs m)',
