@@ -33,7 +33,7 @@ in-range n h = let k = and-true (leb 1 n) (leb n (suc lastNumber)) h in
 is-range : {n : ℕ} → NextInRange n → nextInRange n ≡ true
 is-range r = and-is (le-leb _ _ (r .least)) (le-leb _ _ (r .most))
 
-pub nexts-are : (m : Map) → NextInRange (m .nextNode) → NextInRange (m .nextEdge) → NextInRange (m .nextFace)
+pub nexts-are : (m : Map) → NextInRange (m .next .nodes) → NextInRange (m .next .edges) → NextInRange (m .next .faces)
     → nextsInRange m ≡ true
 unfolding nextsInRange
 nexts-are m a b c = and-is (and-is (is-range a) (is-range b)) (is-range c)
@@ -44,10 +44,10 @@ module _ (m : Map) where
   numbered-says : formed m ≡ true → nextsInRange m ≡ true → Numbered m
   unfolding nextsInRange
   numbered-says form h =
-      let k = and-true (nextInRange (m .nextNode) && nextInRange (m .nextEdge)) (nextInRange (m .nextFace)) h in
-      let j = and-true (nextInRange (m .nextNode)) (nextInRange (m .nextEdge)) (k .0) in
-      let node = in-range (m .nextNode) (j .0) in
-      let edge = in-range (m .nextEdge) (j .1) in
+      let k = and-true (nextInRange (m .next .nodes) && nextInRange (m .next .edges)) (nextInRange (m .next .faces)) h in
+      let j = and-true (nextInRange (m .next .nodes)) (nextInRange (m .next .edges)) (k .0) in
+      let node = in-range (m .next .nodes) (j .0) in
+      let edge = in-range (m .next .edges) (j .1) in
       record {
         numbers = formed-is m form .rising;
         named = formed-is m form .named;
@@ -56,7 +56,7 @@ module _ (m : Map) where
         first-edge = edge .least;
         next-node = node .most;
         next-edge = edge .most;
-        next-face = in-range (m .nextFace) (k .1) .most;
+        next-face = in-range (m .next .faces) (k .1) .most;
       }
 
   -- face 0 is below the next face

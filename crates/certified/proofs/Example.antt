@@ -8,7 +8,7 @@ use Prim.Native.Nat.{ℕ}
 use Rattle.plane.specs.declared.Point.{Point}
 use Rattle.curves.specs.Curves.{through}
 use Rattle.planar_maps.specs.Map.{Dart, fwd, bwd}
-use Rattle.map.specs.Rows.{Node, Edge, Map}
+use Rattle.map.specs.Rows.{Node, Edge, Map, counts}
 use Rattle.map.specs.Form.{formed}
 use Rattle.map.specs.Links.{obeysLaw}
 use Rattle.map.proofs.Opened.{opened}
@@ -38,7 +38,7 @@ drawn e u v left right ps = record {
 }
 
 abbrev of : List Node → List Edge → List ℕ → Map
-of ns es fs = record { nodes = ns; edges = es; faces = fs; nextNode = 9; nextEdge = 9; nextFace = 9 }
+of ns es fs = record { nodes = ns; edges = es; faces = fs; next = counts 9 9 9 }
 
 -- three edges from one node, linked against the clock
 abbrev turned : Map

@@ -26,7 +26,7 @@ abbrev pub nextInRange : ℕ → Bool
 nextInRange n = leb 1 n && leb n (suc lastNumber)
 
 unfoldable pub nextsInRange : Map → Bool
-nextsInRange m = nextInRange (m .nextNode) && nextInRange (m .nextEdge) && nextInRange (m .nextFace)
+nextsInRange m = nextInRange (m .next .nodes) && nextInRange (m .next .edges) && nextInRange (m .next .faces)
 
 -- ---- curves and places
 

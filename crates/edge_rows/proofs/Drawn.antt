@@ -35,7 +35,7 @@ use Rattle.map.proofs.RoundTrip.{coordinates-length}
 use Rattle.map_rows.specs.declared.Incidence.{Incidence}
 use Rattle.map_rows.specs.Cells.{cellsOf}
 use Rattle.map_rows.proofs.Cells.{row-cells}
-use Rattle.map_rows.specs.Rows.{nodesOf, edgesOf, facesOf, nodeAt, edgeAt}
+use Rattle.map_rows.specs.Rows.{nodesOf, edgesOf, facesOf, nodeAt, edgeAt, edgesAlone}
 use Rattle.map_rows.proofs.Rows.{edges-getD, edges-length, edge-numbers, node-cells, node-number-in}
 use Rattle.links.specs.Linking.{linkedEdge}
 use Rattle.links.proofs.Kept.{rest-kept, number-kept}
@@ -182,18 +182,11 @@ module _ {nodes edges : List ℤ} {h : Head} {u v : ℕ} {c : List ℤ} {face : 
 
   linked-are : edgesOf linkedTable (natAbs (h .edges) + 1)
       ≡ linkEdge (natAbs (h .«next_edge»))
-      (record {
-        nodes = [];
-        edges = edgesOf edges (natAbs (h .edges)) ++ row ∷ [];
-        faces = [];
-        nextNode = 0;
-        nextEdge = 0;
-        nextFace = 0;
-      }) .edges
+      (edgesAlone (edgesOf edges (natAbs (h .edges)) ++ row ∷ [])) .edges
   linked-are =
       ap (λ (m : Map). m .edges) (linked-edge-map (pushed-held .rows) some)
       ∙ ap₂ (λ (k : ℕ) (es : List Edge). linkEdge k
-      (record { nodes = []; edges = es; faces = []; nextNode = 0; nextEdge = 0; nextFace = 0 }) .edges)
+      (edgesAlone es) .edges)
       (ap (λ (r : Edge). r .number) last-row) pushed-are
 
   numbers-are : map (λ (e : Edge). e .number) (edgesOf linkedTable (natAbs (h .edges) + 1))
@@ -246,9 +239,7 @@ module _ {nodes edges : List ℤ} {h : Head} {u v : ℕ} {c : List ℤ} {face : 
             (setEdges (edgesOf edges (natAbs (h .edges)) ++ row ∷ [])
             (given (counts 0 1 0) (mapOf (lent nodes edges faces h)))))) i;
         faces = facesOf faces (natAbs (h .faces));
-        nextNode = sym (add-zero (natAbs (h .«next_node»))) i;
-        nextEdge = natAbs (h .«next_edge») + 1;
-        nextFace = sym (add-zero (natAbs (h .«next_face»))) i;
+        next = counts (sym (add-zero (natAbs (h .«next_node»))) i) (natAbs (h .«next_edge») + 1) (sym (add-zero (natAbs (h .«next_face»))) i);
       }
 
   drawn-held : NodeEdgeTables endMarked linkedTable (drawnHead h)

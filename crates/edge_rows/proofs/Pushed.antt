@@ -26,7 +26,7 @@ use Rattle.map.specs.Limits.{maxEdges, lastNumber, edgeWidth}
 use Rattle.map.specs.Rows.{Edge, Map, Sizes, mapOf, lentOf, edgeCells, hasEdge}
 use Rattle.map.specs.Form.{edgeRanges}
 use Rattle.map.proofs.RoundTrip.{Holds, reads-back, edge-wide}
-use Rattle.map_rows.specs.Rows.{edgesOf, edgeAt, edgeMap, EdgeRows}
+use Rattle.map_rows.specs.Rows.{edgesOf, edgeAt, edgeMap, EdgeRows, edgesAlone}
 use Rattle.map_rows.proofs.Rows.{edges-table, edges-length, edge-row-of, edge-number-in}
 use Rattle.map_rows.proofs.RowCurves.{edge-few, table-edges-wide}
 use Rattle.darts.proofs.Positions.{row-there}
@@ -79,8 +79,7 @@ pub edges-read : (N : ℕ) (es : List Edge) → ((e : Edge) → List·Memᴰ e e
 unfolding mapOf lentOf
 edges-read N es h =
     let s : Sizes = record { nodes = 0; edges = N; faces = 0 } in
-    let m : Map = record { nodes = []; edges = es; faces = []; nextNode = 0; nextEdge = 0; nextFace = 0 } in
-    ap (λ (x : Map). x .edges) (reads-back s m h)
+    ap (λ (x : Map). x .edges) (reads-back s (edgesAlone es) h)
 
 module _ {l : List ℤ} {n : ℕ} (t : EdgeTable l n) (row : Edge) (f : Follows l n row)
     (room : n < length l / edgeWidth) where

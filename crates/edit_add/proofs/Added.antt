@@ -20,7 +20,7 @@ use Rattle.form_ranges.specs.Ranges.{lent}
 use Rattle.outcomes.specs.Outcomes.{Formed}
 use Rattle.outcomes.proofs.Formed.{edge-next}
 use Rattle.reason_edges.specs.declared.Judged.{Judged}
-use Rattle.reason_edges.specs.Kinds.{addTicket}
+use Rattle.outcomes.specs.Variants.{addTicket}
 use Rattle.reason_edges.specs.Judging.{JudgedAdd}
 use Rattle.reason_edges.proofs.Adding.{row-below, room-known, number-known}
 use Rattle.edge_rows.specs.Holds.{Drawable, Drawn, drawnHead}
@@ -35,7 +35,7 @@ use Rattle.edit_add.proofs.Drawn.{drawn-held, map-is, last, splits}
 
 module _ (m : Map) (a b : ℤ) (c : List ℤ) where
   add-carried : (news : Bool) → carried m (addTicket news a b c)
-      ≡ (addEdge news (natAbs a) (natAbs b) (curveOf c) m, pos (m .nextEdge))
+      ≡ (addEdge news (natAbs a) (natAbs b) (curveOf c) m, pos (m .next .edges))
   unfolding carried
   add-carried true = refl
   add-carried false = refl
@@ -45,7 +45,7 @@ module _ (news : Bool) (u v : ℕ) (c : Curve) (m : Map) where
   unfolding addEdge
   add-joined e = rw e
 
-  add-parted : splitsFace u v c m ≡ true → addEdge news u v c m ≡ splitFace news (m .nextEdge) (drawnIn u v c m)
+  add-parted : splitsFace u v c m ≡ true → addEdge news u v c m ≡ splitFace news (m .next .edges) (drawnIn u v c m)
   unfolding addEdge
   add-parted e = rw e
 
@@ -107,7 +107,7 @@ module _ {nodes edges faces : List ℤ} {h : Head} (f : Formed nodes edges faces
           ∙ holds-lent f (d .nodes-long) (d .edges-long)
           (held-holds (subst (Held nodes′ edges′ faces) (sym (d .head)) (drawn-held f (k .held))))
 
-      last-number : edgeAt edges′ (natAbs (h′ .edges) - 1) .number ≡ m .nextEdge
+      last-number : edgeAt edges′ (natAbs (h′ .edges) - 1) .number ≡ m .next .edges
       last-number = ap (λ (x : Head). edgeAt edges′ (natAbs (x .edges) - 1) .number) (d .head)
           ∙ ap (λ (o : Outline). o .arc .num)
           (last f news a b c (r .start) (r .end) (j .start z) (j .end z) clear corner k)

@@ -34,7 +34,7 @@ use Rattle.map_rows.proofs.Lookups.{node-found}
 use Rattle.form_ranges.specs.Ranges.{lent}
 use Rattle.outcomes.specs.Outcomes.{Formed}
 use Rattle.outcomes.proofs.Formed.{ranges, formed-map}
-use Rattle.reason_edges.specs.Kinds.{addTicket}
+use Rattle.outcomes.specs.Variants.{addTicket}
 use Rattle.reason_edges.proofs.Adding.{room-known}
 use Rattle.face_rows.specs.Holds.{Held, Splittable}
 use Rattle.face_rows.proofs.Formed.{formed-held}
@@ -118,7 +118,7 @@ module _ {nodes edges faces : List ℤ} {h : Head} (f : Formed nodes edges faces
 
       -- the last row is that of the new edge
       pub last : outlineOf (edgeAt edges′ (natAbs (h .edges) + 1 - 1))
-          ≡ drawnOutline (m .nextEdge) (natAbs a) (natAbs b) φ
+          ≡ drawnOutline (m .next .edges) (natAbs a) (natAbs b) φ
       unfolding mapOf
       last =
           ap outlineOf (sym (edges-getD edges′ (natAbs (h .edges) + 1) (natAbs (h .edges) + 1 - 1) missing
@@ -126,7 +126,7 @@ module _ {nodes edges faces : List ℤ} {h : Head} (f : Formed nodes edges faces
           ∙ sym (List·getD-map outlineOf (edgesOf edges′ (natAbs (h .edges) + 1)) (natAbs (h .edges) + 1 - 1) missing)
           ∙ ap (λ (os : List Outline). getD os (natAbs (h .edges) + 1 - 1) (outlineOf missing))
           (ap (map outlineOf) edges-are ∙ drawn-shape (natAbs a) (natAbs b) (curveOf c) φ m .outlines)
-          ∙ getD-at (outlines m) (drawnOutline (m .nextEdge) (natAbs a) (natAbs b) φ) [] (outlineOf missing)
+          ∙ getD-at (outlines m) (drawnOutline (m .next .edges) (natAbs a) (natAbs b) φ) [] (outlineOf missing)
           (natAbs (h .edges) + 1 - 1) (omega
           (arith, length-map (m .edges) outlineOf, edges-length edges (natAbs (h .edges))))
 

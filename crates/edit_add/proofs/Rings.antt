@@ -19,7 +19,7 @@ use Rattle.map.specs.Form.{linksOnce, ringsBearOne, formed}
 use Rattle.map.specs.Edits.{withFace, isEither, drawnIn}
 use Rattle.map.proofs.Laws.{formed-is}
 use Rattle.map.proofs.Linked as formedLinks
-use Rattle.map_rows.specs.Rows.{edgesOf}
+use Rattle.map_rows.specs.Rows.{edgesOf, edgesAlone}
 use Rattle.face_relabel.specs.Sharing.{Ringed}
 use Rattle.map_laws.proofs.Readings.{number-has, arc-at, Outline, outlineOf, outlines}
 use Rattle.map_laws.proofs.RowChanges.{nodeNumber, noNode, numbers-kept}
@@ -31,16 +31,13 @@ use Rattle.map_laws.proofs.DrawnLinked.{Draws, draws-edge, D-linked, D-once}
 -- ---- a linked map by the tests of form
 
 module _ (m : Map) (l : Linked (arcs m) (leaves m) (next m) (bears m)) (dis : Distinct (nums (arcs m))) where
-  abbrev alone : List Edge → Map
-  alone es = record { nodes = []; edges = es; faces = []; nextNode = 0; nextEdge = 0; nextFace = 0 }
-
   -- so are its rows in a table
   pub linked-ringed : (es : List ℤ) (n : ℕ) → m .edges ≡ edgesOf es n → Ringed es n
   unfolding linksOnce ringsBearOne next bears edge
   linked-ringed es n E = record {
-    once = sym (ap (λ (l : List Edge). linksOnce (alone l)) E)
+    once = sym (ap (λ (l : List Edge). linksOnce (edgesAlone l)) E)
         ∙ linked-once m l dis;
-    one-face = sym (ap (λ (l : List Edge). ringsBearOne (alone l)) E) ∙ linked-bear m l;
+    one-face = sym (ap (λ (l : List Edge). ringsBearOne (edgesAlone l)) E) ∙ linked-bear m l;
   }
 
 -- ---- a map in form

@@ -4,7 +4,7 @@ use outcomes::Done;
 ghost use mathlib.Core.Path.{_≡_};
 ghost use Rattle.form_ranges.specs.Ranges.{lent};
 ghost use Rattle.outcomes.specs.Outcomes.{Formed, decided, outcome};
-ghost use Rattle.reason_edges.specs.Kinds.{addTicket};
+ghost use Rattle.outcomes.specs.Variants.{addTicket};
 
 // Kinds 11 and 12: an edge drawn between two nodes; where it splits a face, the rows that named it are shared out.
 pub fn add_edge(

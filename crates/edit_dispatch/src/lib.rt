@@ -8,9 +8,7 @@ ghost use Rattle.map.specs.Tickets.{one, two, three, oneCurve, twoCurve};
 ghost use Rattle.map.specs.Ticket.{ticket};
 ghost use Rattle.form_ranges.specs.Ranges.{lent};
 ghost use Rattle.outcomes.specs.Outcomes.{Formed, outcome};
-ghost use Rattle.edit_split.specs.Kinds.{splitTicket};
-ghost use Rattle.edit_heal.specs.Kinds.{healTicket};
-ghost use Rattle.reason_edges.specs.Kinds.{addTicket, removeTicket};
+ghost use Rattle.outcomes.specs.Variants.{splitTicket, healTicket, addTicket, removeTicket};
 ghost use Rattle.edit_dispatch.specs.Shaped.{shaped};
 
 // The places of the arguments in a ticket, after its kind.

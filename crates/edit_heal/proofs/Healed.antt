@@ -54,7 +54,7 @@ use Rattle.outcomes.proofs.Formed.{ranges, formed-map, nodes-count, edges-count
 use Rattle.outcomes.proofs.Formed.{node-numbers-once, edge-numbers-once, nodes-filled, edges-filled, faces-filled}
 use Rattle.outcomes.proofs.Formed.{edges-are-wide, lent-is}
 use Rattle.edit_heal.specs.declared.Parts.{Parts}
-use Rattle.edit_heal.specs.Kinds.{healTicket}
+use Rattle.outcomes.specs.Variants.{healTicket}
 use Rattle.edit_heal.specs.Heals.{PartsOf, courseAt, lineAt, renamed, healedSides, healedRows, placed}
 use Rattle.edit_heal.specs.Heals.{healedNumber, healedValue, healNumbers}
 use Rattle.edit_heal.proofs.Joints.{joint-is}
@@ -333,9 +333,7 @@ module _ {nodes edges faces : List ℤ} {h : Head} (f : Formed nodes edges faces
               nodes = withoutNode joined-node (whole .nodes);
               edges = placedEdges keeps a b row (m₂ .edges);
               faces = whole .faces;
-              nextNode = whole .nextNode + 0;
-              nextEdge = whole .nextEdge + cond keeps 0 1;
-              nextFace = whole .nextFace + 0;
+              next = counts (whole .next .nodes + 0) (whole .next .edges + cond keeps 0 1) (whole .next .faces + 0);
             }
 
         heal-is : heal keeps a b whole ≡ healed

@@ -25,7 +25,7 @@ use Rattle.form_ranges.specs.Ranges.{lent}
 use Rattle.outcomes.specs.Outcomes.{Formed}
 use Rattle.outcomes.proofs.Formed.{edge-rows, spent-at}
 use Rattle.reason_departures.specs.Turning.{jointReasons}
-use Rattle.edit_heal.specs.Kinds.{healTicket}
+use Rattle.outcomes.specs.Variants.{healTicket}
 use Rattle.edit_heal.specs.Heals.{lateReasons, healNumbers}
 
 or-left : (x y : Bool) → x || y ≡ false → x ≡ false

@@ -1,4 +1,2 @@
--- `Kinds`: the two kinds that one function carries out. `Heals`: two edge rows healed, in the numbers, and the reasons
--- in parts.
-pub mod Kinds
+-- `Heals`: two edge rows healed, in the numbers, and the reasons in parts.
 pub mod Heals

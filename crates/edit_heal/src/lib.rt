@@ -26,7 +26,7 @@ ghost use Rattle.map_rows.specs.Cells.{cellsOf};
 ghost use Rattle.head.specs.Heads.{Counted, changedHead};
 ghost use Rattle.form_ranges.specs.Ranges.{lent};
 ghost use Rattle.outcomes.specs.Outcomes.{Formed, decided, outcome};
-ghost use Rattle.edit_heal.specs.Kinds.{healTicket};
+ghost use Rattle.outcomes.specs.Variants.{healTicket};
 ghost use Rattle.edit_heal.specs.Heals.{leavingAt, arrivingAt, PartsOf, courseAt, lineAt, renamed, healedSides};
 ghost use Rattle.edit_heal.specs.Heals.{closedUp, placed, healedRows, lateReasons, healedNumber, healedValue};
 ghost use Rattle.edit_heal.specs.Heals.{healNumbers};

@@ -47,9 +47,7 @@ module _ {nodes edges faces : List ℤ} {h : Head} (f : Formed nodes edges faces
     nodes = ns;
     edges = edgesOf edges (natAbs (h .edges));
     faces = facesOf faces (natAbs (h .faces));
-    nextNode = a;
-    nextEdge = b;
-    nextFace = c;
+    next = counts a b c;
   }
 
   nodes-lent : (ns : List Node) (a b c : ℕ) {l : List ℤ} {g : Head}
@@ -146,7 +144,7 @@ module _ {nodes edges faces : List ℤ} {h : Head} (f : Formed nodes edges faces
 
   -- the tickets carried out
 
-  next-is : pos (mapOf (lent nodes edges faces h) .nextNode) ≡ h .«next_node»
+  next-is : pos (mapOf (lent nodes edges faces h) .next .nodes) ≡ h .«next_node»
   unfolding mapOf
   next-is = sym (node-next f .0)
 

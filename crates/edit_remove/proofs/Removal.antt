@@ -20,7 +20,7 @@ use Rattle.form_ranges.specs.Ranges.{lent}
 use Rattle.outcomes.specs.declared.Done.{Done}
 use Rattle.outcomes.specs.Outcomes.{Formed}
 use Rattle.outcomes.proofs.Formed.{nodes-size, edges-size, faces-size, edge-rows, lent-is}
-use Rattle.reason_edges.specs.Kinds.{removeTicket}
+use Rattle.outcomes.specs.Variants.{removeTicket}
 use Rattle.edge_rows.proofs.FoundRows.{edge-in, edge-number, edge-is}
 use Rattle.face_rows.specs.Holds.{faceKept, healed}
 use Rattle.face_rows.proofs.Healed.{removed-is}

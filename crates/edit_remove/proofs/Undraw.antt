@@ -16,7 +16,7 @@ use Rattle.lists.proofs.Keeps.{keep-all}
 use Rattle.lists.proofs.Members.{map-cong}
 use Rattle.tables.specs.Tables.{filled}
 use Rattle.map.specs.declared.Head.{Head}
-use Rattle.map.specs.Rows.{Node, Edge, Map, mapOf, nodeCells, edgeCells}
+use Rattle.map.specs.Rows.{Node, Edge, Map, mapOf, nodeCells, edgeCells, counts}
 use Rattle.map.specs.Edits.{withFace, undrawn, withSides, renamed, renamedNode, renamedFaces}
 use Rattle.map_laws.proofs.Outlines.{undrawn-face-list}
 use Rattle.map_rows.specs.Rows.{edgeAt}
@@ -86,9 +86,7 @@ module _ (row : Edge) (one : row .left ≡ row .right) where
             (λ r k. ap₂ (λ (a b : ℕ). withSides a b r) (kept (r .left)) (kept (r .right))) ∙ map-id (m .edges)) j;
         faces = keep-all (λ g. same g (renamed row f g)) (m .faces)
             (λ g k. same-eq g (renamed row f g) (sym (kept g))) j;
-        nextNode = add-zero (m .nextNode) j;
-        nextEdge = add-zero (m .nextEdge) j;
-        nextFace = add-zero (m .nextFace) j;
+        next = counts (add-zero (m .next .nodes) j) (add-zero (m .next .edges) j) (add-zero (m .next .faces) j);
       }
 
 -- ---- tables in form

@@ -6,7 +6,7 @@ ghost use mathlib.Core.Bool.{cond};
 ghost use lib.IntN.{pos};
 ghost use Rattle.form_ranges.specs.Ranges.{lent};
 ghost use Rattle.outcomes.specs.Outcomes.{Formed, decided, outcome};
-ghost use Rattle.reason_edges.specs.Kinds.{removeTicket};
+ghost use Rattle.outcomes.specs.Variants.{removeTicket};
 ghost use Rattle.edit_remove.specs.Cleared.{Clearable, Cleared};
 
 // The value of a removal: the face that is left, or 0 for kind 14.

@@ -211,8 +211,8 @@ module _ (l : List ℤ) (N n : ℕ) (xs : List Edge) (is : filled N (flatMap edg
         cond keeps (map (λ q. cond (same (q .number) own) (startHalf r k c d p) q) zs ++ endHalf r k c d p ∷ [])
         (withoutEdge own zs ++ startHalf r k c d p ∷ endHalf r k c d p ∷ [])
 
-    module _ (keeps : Bool) (ea : a ≡ cond keeps own (m .nextEdge))
-        (eb : b ≡ cond keeps (m .nextEdge) (m .nextEdge + 1)) (ek : node ≡ m .nextNode) where
+    module _ (keeps : Bool) (ea : a ≡ cond keeps own (m .next .edges))
+        (eb : b ≡ cond keeps (m .next .edges) (m .next .edges + 1)) (ek : node ≡ m .next .nodes) where
       split-rows : split keeps own p m .edges ≡ cond keeps kept new
       unfolding split atEdge redirect kept new first second
       split-rows =

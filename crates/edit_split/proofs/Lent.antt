@@ -26,7 +26,7 @@ use Rattle.form_ranges.specs.Ranges.{lent}
 use Rattle.outcomes.specs.Outcomes.{Formed}
 use Rattle.outcomes.proofs.Formed.{node-next, edge-next, nodes-filled, edges-filled, faces-filled, edge-rows}
 use Rattle.outcomes.proofs.Formed.{edges-are-wide, edge-numbers-once, lent-is}
-use Rattle.edit_split.specs.Kinds.{splitTicket}
+use Rattle.outcomes.specs.Variants.{splitTicket}
 use Rattle.edit_split.specs.Cuts.{cutRow, startNumber, endNumber, splitNumbers}
 use Rattle.edit_split.proofs.Cut.{cut-map, split-count}
 
@@ -39,7 +39,7 @@ node-cells-are k number x y e en =
     ∷ sym (coordinate-pos y (and-right (coordinate x) (coordinate y) e)) i ∷ negsuc 0 ∷ []
 
 carried-is : (keeps : Bool) (z x y : ℤ) (q : Map) → carried q (splitTicket keeps z x y)
-    ≡ (split keeps (natAbs z) (point x y) q, pos (q .nextNode))
+    ≡ (split keeps (natAbs z) (point x y) q, pos (q .next .nodes))
 unfolding carried
 carried-is true z x y q = refl
 carried-is false z x y q = refl
@@ -114,7 +114,7 @@ module _ {nodes edges faces : List ℤ} {h : Head} (f : Formed nodes edges faces
   unfolding mapOf split own m after
   faces-after = refl
 
-  number-is : pos (m .nextNode) ≡ h .«next_node»
+  number-is : pos (m .next .nodes) ≡ h .«next_node»
   unfolding mapOf m
   number-is = sym (node-next f .0)
 

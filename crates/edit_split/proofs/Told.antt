@@ -28,7 +28,7 @@ use Rattle.head.specs.Heads.{Few, fullAt, roomAt}
 use Rattle.form_ranges.specs.Ranges.{lent}
 use Rattle.outcomes.specs.Outcomes.{Formed}
 use Rattle.outcomes.proofs.Formed.{ranges, counted, full-at, spent-at, faces-room, edge-none}
-use Rattle.edit_split.specs.Kinds.{splitTicket}
+use Rattle.outcomes.specs.Variants.{splitTicket}
 use Rattle.edit_split.specs.Cuts.{pointReasons, splitNumbers, splitSizes}
 use Rattle.map.specs.Reasons as reasons
 

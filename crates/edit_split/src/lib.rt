@@ -25,7 +25,7 @@ ghost use Rattle.map_rows.specs.Cells.{cellsOf};
 ghost use Rattle.head.specs.Heads.{Counted, changedHead, roomAt};
 ghost use Rattle.form_ranges.specs.Ranges.{lent};
 ghost use Rattle.outcomes.specs.Outcomes.{Formed, decided, outcome};
-ghost use Rattle.edit_split.specs.Kinds.{splitTicket};
+ghost use Rattle.outcomes.specs.Variants.{splitTicket};
 ghost use Rattle.edit_split.specs.Cuts.{renamed, startSides, endSides, placed, cutRow, pointReasons};
 ghost use Rattle.edit_split.specs.Cuts.{splitNumbers, splitSizes, startNumber, endNumber};
 

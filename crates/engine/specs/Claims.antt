@@ -46,5 +46,5 @@ RunRenews =
     let a = g .head .«next_edge» in
     Called l (ts ++ (pos 7 ∷ e ∷ x ∷ y ∷ []) ∷ (pos 9 ∷ a ∷ (a +ℤ pos 1) ∷ []) ∷ []) r
     → refusalAt r (length ts) ≡ 0
-    → let h = mapOf g .nextEdge + 2 in h ≤ lastNumber
+    → let h = mapOf g .next .edges + 2 in h ≤ lastNumber
     → outcomeAt r (length ts + 1) ≡ renewed (natAbs e) h g

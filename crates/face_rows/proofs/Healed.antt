@@ -223,7 +223,5 @@ module _ {nodes edges faces : List ℤ} {h : Head} (held : Held nodes edges face
           edges = (ap (edgesOf edges′) healed-edge-count ∙ healed-edges) i;
           faces = (ap (λ (x : Head). facesOf faces′ (natAbs (x .faces))) back
               ∙ faces-read (length faces) (m .faces) (after .face-cells)) i;
-          nextNode = ap (λ (x : Head). natAbs (x .«next_node»)) back i;
-          nextEdge = ap (λ (x : Head). natAbs (x .«next_edge»)) back i;
-          nextFace = ap (λ (x : Head). natAbs (x .«next_face»)) back i;
+          next = counts (ap (λ (x : Head). natAbs (x .«next_node»)) back i) (ap (λ (x : Head). natAbs (x .«next_edge»)) back i) (ap (λ (x : Head). natAbs (x .«next_face»)) back i);
         }

@@ -38,7 +38,7 @@ module _ (nodes edges faces : List ℤ) (h : Head) where
   unfolding mapOf
   map-edges = refl
 
-  pub map-next : mapOf (lent nodes edges faces h) .nextFace ≡ natAbs (h .«next_face»)
+  pub map-next : mapOf (lent nodes edges faces h) .next .faces ≡ natAbs (h .«next_face»)
   unfolding mapOf
   map-next = refl
 

@@ -27,7 +27,7 @@ use Rattle.plane.specs.Points.{origin}
 use Rattle.curves.specs.Curves.{coordinate}
 use Rattle.curves.proofs.Runs.{and-left, and-right}
 use Rattle.map.specs.Limits.{nodeWidth, edgeWidth, lastNumber}
-use Rattle.map.specs.Rows.{Node, Edge, Map, nodeCells, edgeCells, faceCell, nodeOf, node, edge, hasNode}
+use Rattle.map.specs.Rows.{Node, Edge, Map, nodeCells, edgeCells, faceCell, nodeOf, node, edge, hasNode, counts}
 use Rattle.map.specs.Darts.{next, bears, course, ring, among, lowestEdge}
 use Rattle.map.specs.Faces.{encloses}
 use Rattle.map.specs.Form.{nodeRanges}
@@ -49,7 +49,7 @@ use Rattle.face_rows.proofs.Sweeps.{cell-mid, swept-rows, both, sweep-p
 -- ---- rings and sides depend on nodes and edges alone
 
 abbrev mapWith : List Node → List Edge → List ℕ → ℕ → ℕ → ℕ → Map
-mapWith ns es fs a b c = record { nodes = ns; edges = es; faces = fs; nextNode = a; nextEdge = b; nextFace = c }
+mapWith ns es fs a b c = record { nodes = ns; edges = es; faces = fs; next = counts a b c }
 
 module _ (es : List Edge) (ns ns′ : List Node) (fs fs′ : List ℕ) (a b c a′ b′ c′ : ℕ) where
   pub ring-any : (d : Dart) → ring (mapWith ns es fs a b c) d ≡ ring (mapWith ns′ es fs′ a′ b′ c′) d
@@ -377,18 +377,18 @@ module _ (nodes : List ℤ) (n : ℕ) (edges : List ℤ) (e : ℕ) (s : Sides) (
     (nodes′ edges′ : List ℤ) (is : nodes′ ≡ sweep (nodeShared nodes n edges e s) nodes 0 n)
     (eq : edges′ ≡ sweep (edgeShared nodes′ n edges e s (reverseOf (s .ring))) edges 0 (e * 2))
     (m : Map) (en : m .nodes ≡ nodesOf nodes n) (ee : m .edges ≡ edgesOf edges e) where
-  whole-is : mapWith (nodesOf nodes n) (edgesOf edges e) (m .faces) (m .nextNode) (m .nextEdge) (m .nextFace) ≡ m
-  whole-is = λ i. mapWith (sym en i) (sym ee i) (m .faces) (m .nextNode) (m .nextEdge) (m .nextFace)
+  whole-is : mapWith (nodesOf nodes n) (edgesOf edges e) (m .faces) (m .next .nodes) (m .next .edges) (m .next .faces) ≡ m
+  whole-is = λ i. mapWith (sym en i) (sym ee i) (m .faces) (m .next .nodes) (m .next .edges) (m .next .faces)
 
   pub shared-nodes : filled (length nodes)
       (flatMap nodeCells (sharedOut (sharesIn m (dartAt edges (s .ring)) s) m .nodes)) ≡ nodes′
   shared-nodes = subst (λ (k : Map). filled (length nodes)
       (flatMap nodeCells (sharedOut (sharesIn k (dartAt edges (s .ring)) s) k .nodes)) ≡ nodes′) whole-is
-      (nodes-are nodes n edges e s h cells nodes′ is (m .faces) (m .nextNode) (m .nextEdge) (m .nextFace))
+      (nodes-are nodes n edges e s h cells nodes′ is (m .faces) (m .next .nodes) (m .next .edges) (m .next .faces))
 
   pub shared-edges : filled (length edges)
       (flatMap edgeCells (sharedOut (sharesIn m (dartAt edges (s .ring)) s) m .edges)) ≡ edges′
   shared-edges = subst (λ (k : Map). filled (length edges)
       (flatMap edgeCells (sharedOut (sharesIn k (dartAt edges (s .ring)) s) k .edges)) ≡ edges′) whole-is
-      (edges-are nodes n edges e s h cells nodes′ is (m .faces) (m .nextNode) (m .nextEdge)
-      (m .nextFace) edges′ full eq)
+      (edges-are nodes n edges e s h cells nodes′ is (m .faces) (m .next .nodes) (m .next .edges)
+      (m .next .faces) edges′ full eq)

@@ -74,8 +74,8 @@ module _ {nodes edges faces : List ℤ} {h : Head} {old : ℤ} (p : Splittable n
   -- `splitFace` by the old face, which side is the reference side and whether the old face goes
   abbrev sharesBy : ℕ → Bool → Bool → Shares
   sharesBy o isLeft goes =
-      let a = drawn .nextFace in
-      let b = cond goes (drawn .nextFace + 1) o in
+      let a = drawn .next .faces in
+      let b = cond goes (drawn .next .faces + 1) o in
       record {
         old = o;
         refRing = cond isLeft (ring drawn (fwd number)) (ring drawn (bwd number));
@@ -85,8 +85,8 @@ module _ {nodes edges faces : List ℤ} {h : Head} {old : ℤ} (p : Splittable n
       }
 
   abbrev facesBy : ℕ → Bool → List ℕ
-  facesBy o goes = cond goes (keep (λ f. not (same f o)) (drawn .faces) ++ drawn .nextFace
-      ∷ cond goes (drawn .nextFace + 1) o ∷ []) (drawn .faces ++ drawn .nextFace ∷ [])
+  facesBy o goes = cond goes (keep (λ f. not (same f o)) (drawn .faces) ++ drawn .next .faces
+      ∷ cond goes (drawn .next .faces + 1) o ∷ []) (drawn .faces ++ drawn .next .faces ∷ [])
 
   abbrev splitBy : ℕ → Bool → Bool → Map
   splitBy o isLeft goes = setFaces (facesBy o goes)

@@ -99,7 +99,7 @@ splitFaces goes old a fs = cond goes (withoutFace old fs ++ a ∷ (a + 1) ∷ []
 
 -- the face that is left of the two sides of a row: a new one, or the lower
 abbrev pub faceKept : Bool → Edge → Map → ℕ
-faceKept makes row m = cond makes (m .nextFace) (min (row .left) (row .right))
+faceKept makes row m = cond makes (m .next .faces) (min (row .left) (row .right))
 
 -- both sides of a row become one face: `removeEdge` but for the edge, which is still drawn
 abbrev pub healed : Bool → Edge → Map → Map

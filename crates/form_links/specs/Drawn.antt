@@ -2,7 +2,7 @@
 use mathlib.Core.List.{List, []}
 use Prim.Native.Nat.{ℕ}
 use lib.IntN.{ℤ}
-use Rattle.map.specs.Rows.{Map}
+use Rattle.map.specs.Rows.{Map, counts}
 use Rattle.map_rows.specs.Rows.{nodesOf, edgesOf}
 
 abbrev pub drawnMap : List ℤ → ℕ → List ℤ → ℕ → Map
@@ -10,7 +10,5 @@ drawnMap nodes n edges e = record {
   nodes = nodesOf nodes n;
   edges = edgesOf edges e;
   faces = [];
-  nextNode = 0;
-  nextEdge = 0;
-  nextFace = 0;
+  next = counts 0 0 0;
 }

@@ -9,7 +9,7 @@ use Rattle.lists.specs.Scans.{allOf}
 use Rattle.tables.specs.Tables.{rows, restZero, numbered}
 use Rattle.map.specs.declared.Head.{Head}
 use Rattle.map.specs.Limits.{nodeWidth, edgeWidth, faceWidth, lastNumber}
-use Rattle.map.specs.Rows.{Map, Lent}
+use Rattle.map.specs.Rows.{Map, Lent, counts}
 use Rattle.map.specs.Form.{nextsFit, nodeRanges, edgeRanges, faceRanges, numbers, named}
 use Rattle.map.specs.declared.Counts.{Counts}
 use Rattle.map_rows.specs.Rows.{nodesOf, edgesOf, facesOf}
@@ -25,9 +25,7 @@ mapIn nodes edges faces c h =
       nodes = nodesOf nodes (c .nodes);
       edges = edgesOf edges (c .edges);
       faces = facesOf faces (c .faces);
-      nextNode = natAbs (h .«next_node»);
-      nextEdge = natAbs (h .«next_edge»);
-      nextFace = natAbs (h .«next_face»);
+      next = counts (natAbs (h .«next_node»)) (natAbs (h .«next_edge»)) (natAbs (h .«next_face»));
     }
 
 -- the rows in use fit the tables, and the next numbers are 1 to 1,000,000
@@ -54,7 +52,7 @@ pub record InRanges (nodes edges faces : List ℤ) (c : Counts) (h : Head) : Typ
 
 -- the map that has these faces alone: named faces are looked up in it
 abbrev pub faceMap : List ℤ → ℕ → Map
-faceMap l n = record { nodes = []; edges = []; faces = facesOf l n; nextNode = 0; nextEdge = 0; nextFace = 0 }
+faceMap l n = record { nodes = []; edges = []; faces = facesOf l n; next = counts 0 0 0 }
 
 -- edges in range, in rising order: `EdgeRows` before it is known that their links name edges
 pub record EdgesInOrder (l : List ℤ) (n : ℕ) : Type 0 where

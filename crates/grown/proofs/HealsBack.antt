@@ -61,7 +61,7 @@ healRow m a h c d curve =
 
 abbrev healedBy : Bool → ℕ → ℕ → ℕ → Dart → Dart → Curve → Map → Map
 healedBy keeps a b n c d curve m =
-    let h = cond keeps a (m .nextEdge) in
+    let h = cond keeps a (m .next .edges) in
     healedMap keeps a b n (whole.rejoined m h c d .edges) (healRow m a h c d curve) m
 
 heal-by : (keeps : Bool) (a b : ℕ) (m : Map) → heal keeps a b m
@@ -75,19 +75,19 @@ module _ (m : Map) (e : ℕ) (g : Good m) (has : hasEdge m e ≡ true) where
   abbrev L : Lawful m
   L = good-lawful m g
 
-  below : {r : Edge} → List·Memᴰ r (m .edges) → r .number < m .nextEdge
+  below : {r : Edge} → List·Memᴰ r (m .edges) → r .number < m .next .edges
   below {r} k = L .edges-below (r .number) (Memᴰ·map numberOf k)
 
-  e-below : e < m .nextEdge
-  e-below = subst (λ (i : ℕ). i < m .nextEdge) (edge-there m e has .1) (below (edge-there m e has .0))
+  e-below : e < m .next .edges
+  e-below = subst (λ (i : ℕ). i < m .next .edges) (edge-there m e has .1) (below (edge-there m e has .0))
 
   -- a link names an edge of the map
-  link-below : (r : Edge) → List·Memᴰ r (m .edges) → (t : Bool) → nextIn t r .edge < m .nextEdge
+  link-below : (r : Edge) → List·Memᴰ r (m .edges) → (t : Bool) → nextIn t r .edge < m .next .edges
   link-below r k t =
       let d : Dart = record { edge = r .number; back = t } in
       let z = edge-there m (next m d .edge) (dart-has m (next-in (L .linked) (has-dart m d (row-has m k)))) in
       let q = next-row m d ∙ ap (nextIn t) (edge-at m (L .once) k) in
-      subst (λ (i : ℕ). i < m .nextEdge) (z .1 ∙ ap (λ (c : Dart). c .edge) q) (below (z .0))
+      subst (λ (i : ℕ). i < m .next .edges) (z .1 ∙ ap (λ (c : Dart). c .edge) q) (below (z .0))
 
   -- the row e, healed to the number h
   abbrev renumbered-row : ℕ → Edge
@@ -96,7 +96,7 @@ module _ (m : Map) (e : ℕ) (g : Good m) (has : hasEdge m e ≡ true) where
   -- links are renamed there and back
   abbrev Back : ℕ → ℕ → ℕ → Type 0
   Back a b h =
-      (d : Dart) → d .edge < m .nextEdge
+      (d : Dart) → d .edge < m .next .edges
       → whole.wholeNames h (fwd a) (fwd b) (halfNames e a b d) ≡ linkRenamed e h d
 
   row-names : (a b h : ℕ) → Back a b h → (r : Edge) → List·Memᴰ r (m .edges)
@@ -108,7 +108,7 @@ module _ (m : Map) (e : ℕ) (g : Good m) (has : hasEdge m e ≡ true) where
 
   -- the heal of halves of e: departures are renamed, and the healed row is that of e with the number h
   heal-is : (m′ : Map) (n a b : ℕ) (keeps : Bool) (h : ℕ)
-      → h ≡ cond keeps a (m′ .nextEdge) → Rejoin m m′ e n a b → Back a b h
+      → h ≡ cond keeps a (m′ .next .edges) → Rejoin m m′ e n a b → Back a b h
       → heal keeps a b m′
       ≡ healedMap keeps a b n (map (whole.relinked h (fwd a) (fwd b)) (m′ .edges)) (renumbered-row h) m′
   heal-is m′ n a b keeps h is j back =
@@ -129,7 +129,7 @@ module _ (m : Map) (e : ℕ) (g : Good m) (has : hasEdge m e ≡ true) where
       k : List·Memᴰ (edge m e) (m .edges)
       k = edge-there m e has .0
 
-      renamed : (z l : Dart) → hasEdge m′ (z .edge) ≡ true → next m′ z ≡ halfNames e a b l → l .edge < m .nextEdge
+      renamed : (z l : Dart) → hasEdge m′ (z .edge) ≡ true → next m′ z ≡ halfNames e a b l → l .edge < m .next .edges
           → next (whole.rejoined m′ h c d) z ≡ linkRenamed e h l
       renamed z l q u v = whole.rejoined-next m′ h c d z q ∙ ap (whole.wholeNames h c d) u ∙ back l v
 
@@ -150,10 +150,10 @@ module _ (m : Map) (e : ℕ) (g : Good m) (has : hasEdge m e ≡ true) where
 module _ (m : Map) (e : ℕ) (p : Point) (g : Good m) (has : hasEdge m e ≡ true)
     (free : nodeAt (m .nodes) p ≡ false) (on : onCurve (edge m e .curve) p ≡ true) where
   abbrev n : ℕ
-  n = m .nextNode
+  n = m .next .nodes
 
   abbrev x : ℕ
-  x = m .nextEdge
+  x = m .next .edges
 
   -- the new node goes
   abbrev cut : Node
@@ -254,9 +254,7 @@ module _ (m : Map) (e : ℕ) (p : Point) (g : Good m) (has : hasEdge m e ≡ tru
         nodes = nodes-back i;
         edges = kept-edges i;
         faces = m .faces;
-        nextNode = add-zero (m .nextNode + 1) i;
-        nextEdge = add-zero (m .nextEdge + 1) i;
-        nextFace = add-zero (m .nextFace + 0) i;
+        next = counts (add-zero (m .next .nodes + 1) i) (add-zero (m .next .edges + 1) i) (add-zero (m .next .faces + 0) i);
       })
 
   -- ---- kinds 7 and 9
@@ -295,7 +293,7 @@ module _ (m : Map) (e : ℕ) (p : Point) (g : Good m) (has : hasEdge m e ≡ tru
         not-e r = not (same (r .number) e)
 
     -- the others have lower numbers than the halves
-    kept-others : (k : ℕ) → m .nextEdge < k + 1 → (r : Edge) → List·Memᴰ r others → not (same (r .number) k) ≡ true
+    kept-others : (k : ℕ) → m .next .edges < k + 1 → (r : Edge) → List·Memᴰ r others → not (same (r .number) k) ≡ true
     kept-others k u r j =
         let y = Memᴰ·of-map (linksRenamed e h) (withoutEdge e (m .edges)) j in
         let i = below m e g has (keep-in _ (m .edges) (y .1) .0) in
@@ -335,9 +333,7 @@ module _ (m : Map) (e : ℕ) (p : Point) (g : Good m) (has : hasEdge m e ≡ tru
         nodes = nodes-back i;
         edges = new-edges (x + 2) i ++ renumbered-row m e g has (x + 2) ∷ [];
         faces = m .faces;
-        nextNode = add-zero (m .nextNode + 1) i;
-        nextEdge = three (m .nextEdge) i;
-        nextFace = add-zero (m .nextFace + 0) i;
+        next = counts (add-zero (m .next .nodes + 1) i) (three (m .next .edges) i) (add-zero (m .next .faces + 0) i);
       })
     where
       three : (k : ℕ) → k + 2 + 1 ≡ k + 3

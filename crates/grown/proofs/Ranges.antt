@@ -67,9 +67,9 @@ pub record Tabled (s : Sizes) (m : Map) : Type 0 where
   pub edges : (e : Edge) → List·Memᴰ e (m .edges) → Stored (e .curve)
   pub some-face : 1 ≤ length (m .faces)
   pub fits : Fits s m
-  pub next-node : NextInRange (m .nextNode)
-  pub next-edge : NextInRange (m .nextEdge)
-  pub next-face : NextInRange (m .nextFace)
+  pub next-node : NextInRange (m .next .nodes)
+  pub next-edge : NextInRange (m .next .edges)
+  pub next-face : NextInRange (m .next .faces)
 
 -- as many rows as were meant to be there
 room : {A : Type 0} (w : ℕ) (cells : A → List ℤ) (n : ℕ) (xs : List A) → Wide w cells xs → 0 < w → length xs ≤ n

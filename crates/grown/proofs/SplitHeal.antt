@@ -120,9 +120,9 @@ head-raised a b m = λ i. record {
   nodes = pos (length (m .nodes));
   edges = pos (length (m .edges));
   faces = pos (length (m .faces));
-  «next_node» = pos (m .nextNode + a);
-  «next_edge» = pos (m .nextEdge + b);
-  «next_face» = pos (add-zero (m .nextFace) i);
+  «next_node» = pos (m .next .nodes + a);
+  «next_edge» = pos (m .next .edges + b);
+  «next_face» = pos (add-zero (m .next .faces) i);
 }
 
 restored-is : (s : Sizes) (m : Map) → lentOf s (given (counts 1 1 0) m) ≡ restored (lentOf s m) .lent
@@ -142,9 +142,9 @@ module _ (s : Sizes) (m : Map) (g : Good m) (f : Fits s m) where
     nodes = pos (length (m .nodes));
     edges = pos (count i);
     faces = pos (length (m .faces));
-    «next_node» = pos (m .nextNode);
-    «next_edge» = pos (m .nextEdge);
-    «next_face» = pos (m .nextFace);
+    «next_node» = pos (m .next .nodes);
+    «next_edge» = pos (m .next .edges);
+    «next_face» = pos (m .next .faces);
   }
     where
       once : Distinct (map numberOf (m .edges))
@@ -181,7 +181,7 @@ module _ (s : Sizes) (m : Map) (g : Good m) (f : Fits s m) (e x y : ℤ) where
   t₈ = ModEdgeSplit e x y
 
   abbrev t₁₀ : Ticket
-  t₁₀ = ModEdgeHeal e (pos (m .nextEdge))
+  t₁₀ = ModEdgeHeal e (pos (m .next .edges))
 
   cancel : tried (lentOf s m) t₈ .answer .refusal ≡ 0 → tried (tried (lentOf s m) t₈ .lent) t₁₀ ≡ restored (lentOf s m)
   unfolding reasons carried
@@ -203,13 +203,13 @@ module _ (s : Sizes) (m : Map) (g : Good m) (f : Fits s m) (e x y : ℤ) where
       m′ : Map
       m′ = split true k p m
 
-      j : Rejoin m m′ k (m .nextNode) k (m .nextEdge)
-      j = rejoin m m′ k _ k (m .nextEdge) p g (kept-halves m k p (good-lawful m g) (q .has) (q .free) (q .on))
+      j : Rejoin m m′ k (m .next .nodes) k (m .next .edges)
+      j = rejoin m m′ k _ k (m .next .edges) p g (kept-halves m k p (good-lawful m g) (q .has) (q .free) (q .on))
 
-      reason : firstReason (healReasons m′ e (pos (m .nextEdge))) ≡ 0
-      reason = heal-free m m′ k (m .nextNode) e (pos (m .nextEdge)) j (plain m e _ (o .free)) refl
+      reason : firstReason (healReasons m′ e (pos (m .next .edges))) ≡ 0
+      reason = heal-free m m′ k (m .next .nodes) e (pos (m .next .edges)) j (plain m e _ (o .free)) refl
 
-      back : heal true k (m .nextEdge) m′ ≡ given (counts 1 1 0) m
+      back : heal true k (m .next .edges) m′ ≡ given (counts 1 1 0) m
       back = kept-back m k p g (q .has) (q .free) (q .on)
 
   -- ---- kinds 7 and 9
@@ -218,7 +218,7 @@ module _ (s : Sizes) (m : Map) (g : Good m) (f : Fits s m) (e x y : ℤ) where
   t₇ = NewEdgesSplit e x y
 
   abbrev t₉ : Ticket
-  t₉ = NewEdgeHeal (pos (m .nextEdge)) (pos (m .nextEdge + 1))
+  t₉ = NewEdgeHeal (pos (m .next .edges)) (pos (m .next .edges + 1))
 
   module _ (h : tried (lentOf s m) t₇ .answer .refusal ≡ 0) where
     o : Out s m g f t₇
@@ -242,33 +242,33 @@ module _ (s : Sizes) (m : Map) (g : Good m) (f : Fits s m) (e x y : ℤ) where
     unfolding carried
     lent′ = o .lent
 
-    j : Rejoin m m′ k (m .nextNode) (m .nextEdge) (m .nextEdge + 1)
+    j : Rejoin m m′ k (m .next .nodes) (m .next .edges) (m .next .edges + 1)
     j =
         let halves = new-halves m k p (good-lawful m g) (q .has) (q .free) (q .on) in
-        rejoin m m′ k _ (m .nextEdge) (m .nextEdge + 1) p g halves
+        rejoin m m′ k _ (m .next .edges) (m .next .edges + 1) p g halves
 
     -- nothing but 21 can turn the heal down
     answer : (n : ℕ) → firstReason ((21, spent m′ (counts 0 1 0)) ∷ []) ≡ n
         → tried (tried (lentOf s m) t₇ .lent) t₉ ≡ unless (lentOf s m′) n (carried m′ t₉)
     unfolding reasons
     answer n z =
-        let a = pos (m .nextEdge) in
-        let b = pos (m .nextEdge + 1) in
+        let a = pos (m .next .edges) in
+        let b = pos (m .next .edges + 1) in
         let rest = first-after (healReasons m′ a b) _ refl (heal-free m m′ k _ a b j refl refl) in
         ap (λ (l : Lent). tried l t₉) lent′ ∙ answered s m′ good′ fits′ t₉ (o .limited) n (rest ∙ z)
 
-    renew : m .nextEdge + 2 ≤ lastNumber
-        → tried (tried (lentOf s m) t₇ .lent) t₉ ≡ renewed k (m .nextEdge + 2) (lentOf s m)
+    renew : m .next .edges + 2 ≤ lastNumber
+        → tried (tried (lentOf s m) t₇ .lent) t₉ ≡ renewed k (m .next .edges + 2) (lentOf s m)
     unfolding carried split
     renew low =
         answer 0 (first-miss 21 _ _ left ∙ first-none)
         ∙ (λ i. record {
           lent = lentOf (sizes-back m′ good′ s fits′ i) (new-back m k p g (q .has) (q .free) (q .on) i);
-          answer = record { refusal = 0; value = pos (m .nextEdge + 2) };
+          answer = record { refusal = 0; value = pos (m .next .edges + 2) };
         })
         ∙ (λ i. record {
-          lent = renewed-is s m g f k (m .nextEdge + 2) (q .has) i;
-          answer = record { refusal = 0; value = pos (m .nextEdge + 2) };
+          lent = renewed-is s m g f k (m .next .edges + 2) (q .has) i;
+          answer = record { refusal = 0; value = pos (m .next .edges + 2) };
         })
       where
         left : spent m′ (counts 0 1 0) ≡ false
@@ -276,20 +276,20 @@ module _ (s : Sizes) (m : Map) (g : Good m) (f : Fits s m) (e x y : ℤ) where
             let z = good′ .numbered in
             or-no
             (or-no
-            (le-ltb (suc lastNumber) (m .nextNode + 1 + 0) (omega arith))
-            (le-ltb (suc lastNumber) (m .nextEdge + 2 + 1) (omega arith)))
-            (le-ltb (suc lastNumber) (m .nextFace + 0 + 0) (omega arith))
+            (le-ltb (suc lastNumber) (m .next .nodes + 1 + 0) (omega arith))
+            (le-ltb (suc lastNumber) (m .next .edges + 2 + 1) (omega arith)))
+            (le-ltb (suc lastNumber) (m .next .faces + 0 + 0) (omega arith))
 
-    spend : lastNumber < m .nextEdge + 2
+    spend : lastNumber < m .next .edges + 2
         → tried (tried (lentOf s m) t₇ .lent) t₉ ≡ refused (tried (lentOf s m) t₇ .lent) 21
     unfolding split
     spend high = answer 21 (first-hit 21 _ [] none) ∙ ap (λ (l : Lent). refused l 21) (sym lent′)
       where
         none : spent m′ (counts 0 1 0) ≡ true
         none =
-            let z = lt-ltb (suc lastNumber) (m .nextEdge + 2 + 1) (omega arith) in
-            or-left (ltb (suc lastNumber) (m .nextFace + 0 + 0))
-            (or-right (ltb (suc lastNumber) (m .nextNode + 1 + 0)) (ltb (suc lastNumber) (m .nextEdge + 2 + 1)) z)
+            let z = lt-ltb (suc lastNumber) (m .next .edges + 2 + 1) (omega arith) in
+            or-left (ltb (suc lastNumber) (m .next .faces + 0 + 0))
+            (or-right (ltb (suc lastNumber) (m .next .nodes + 1 + 0)) (ltb (suc lastNumber) (m .next .edges + 2 + 1)) z)
 
 -- ---- in every state, hence on every grown map
 
@@ -299,13 +299,13 @@ module _ (s : Sizes) (l : Lent) (z : State s l) where
   state-cancels = subst Cancels (sym (z .lent)) (λ e x y. cancel s (z .map) (z .good) (z .fits) e x y)
 
   -- the next edge number as the head has it
-  head-next : mapOf (lentOf s (z .map)) .nextEdge ≡ z .map .nextEdge
-  head-next = ap (λ (m : Map). m .nextEdge) (good-back (z .map) (z .good) s)
+  head-next : mapOf (lentOf s (z .map)) .next .edges ≡ z .map .next .edges
+  head-next = ap (λ (m : Map). m .next .edges) (good-back (z .map) (z .good) s)
 
   abbrev Renewing : ℤ → ℤ → ℤ → ℕ → Type 0
   Renewing e x y n =
       let l = lentOf s (z .map) in
-      let a = z .map .nextEdge in
+      let a = z .map .next .edges in
       n + 2 ≤ lastNumber
       → tried (tried l (NewEdgesSplit e x y) .lent) (NewEdgeHeal (pos a) (pos (a + 1))) ≡ renewed (natAbs e) (n + 2) l
 

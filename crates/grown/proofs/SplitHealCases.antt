@@ -11,7 +11,7 @@ use lib.ListN.{getD}
 use Rattle.plane.specs.declared.Point.{Point}
 use Rattle.curves.specs.Curves.{through}
 use Rattle.planar_maps.specs.Map.{fwd, bwd}
-use Rattle.map.specs.Rows.{Map, Lent, Sizes, lentOf, whole}
+use Rattle.map.specs.Rows.{Map, Lent, Sizes, lentOf, whole, counts}
 use Rattle.map.specs.Form.{inForm}
 use Rattle.map.specs.Ticket.{Outcome}
 use Rattle.map.specs.Grow.{grow}
@@ -50,9 +50,7 @@ loop =
             curve = through (at 0 0 ∷ at 10 0 ∷ at 10 10 ∷ at 0 10 ∷ at 0 0 ∷ []);
           } ∷ [];
       faces = 0 ∷ 1 ∷ [];
-      nextNode = 3;
-      nextEdge = 5;
-      nextFace = 2;
+      next = counts 3 5 2;
     }
 
 pub loop-renewed : grow small tickets .lent ≡ lentOf small loop
@@ -77,9 +75,7 @@ straight = lentOf small (
             curve = through (at 0 0 ∷ at 5 0 ∷ at 10 0 ∷ []);
           } ∷ [];
       faces = 0 ∷ [];
-      nextNode = 3;
-      nextEdge = 2;
-      nextFace = 1;
+      next = counts 3 2 1;
     }
     )
 

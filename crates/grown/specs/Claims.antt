@@ -116,7 +116,7 @@ renewed e h l =
 abbrev pub Renews : Lent → Type 0
 Renews l =
     (e x y : ℤ) → let o = ticket l (pos 7 ∷ e ∷ x ∷ y ∷ []) in o .answer .refusal ≡ 0
-    → let h = mapOf l .nextEdge + 2 in h ≤ lastNumber
+    → let h = mapOf l .next .edges + 2 in h ≤ lastNumber
     → ticket (o .lent) (pos 9 ∷ l .head .«next_edge» ∷ (l .head .«next_edge» +ℤ pos 1) ∷ []) ≡ renewed (natAbs e) h l
 
 abbrev pub SplitRenewed : Type 0
@@ -126,7 +126,7 @@ SplitRenewed = (s : Sizes) → 1 ≤ s .faces → (ts : List (List ℤ)) → Ren
 abbrev pub Spends : Lent → Type 0
 Spends l =
     (e x y : ℤ) → let o = ticket l (pos 7 ∷ e ∷ x ∷ y ∷ []) in o .answer .refusal ≡ 0
-    → lastNumber < mapOf l .nextEdge + 2
+    → lastNumber < mapOf l .next .edges + 2
     → ticket (o .lent) (pos 9 ∷ l .head .«next_edge» ∷ (l .head .«next_edge» +ℤ pos 1) ∷ []) ≡ refused (o .lent) 21
 
 abbrev pub SplitSpent : Type 0

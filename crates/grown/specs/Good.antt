@@ -25,11 +25,11 @@ pub record Numbered (m : Map) : Type 0 where
   pub numbers : numbers m ≡ true
   pub named : named m ≡ true
   pub marked : bareMarked m ≡ true
-  pub first-node : 1 ≤ m .nextNode
-  pub first-edge : 1 ≤ m .nextEdge
-  pub next-node : m .nextNode ≤ suc lastNumber
-  pub next-edge : m .nextEdge ≤ suc lastNumber
-  pub next-face : m .nextFace ≤ suc lastNumber
+  pub first-node : 1 ≤ m .next .nodes
+  pub first-edge : 1 ≤ m .next .edges
+  pub next-node : m .next .nodes ≤ suc lastNumber
+  pub next-edge : m .next .edges ≤ suc lastNumber
+  pub next-face : m .next .faces ≤ suc lastNumber
 
 -- a map in the plane, by its links and face numbers alone
 abbrev pub InPlane : Map → Type 0

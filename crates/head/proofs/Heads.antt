@@ -21,9 +21,9 @@ pub head-changed : (h : Head) (m : Map) (more less given : Counts)
     → length (m .nodes) + less .nodes ≡ natAbs (h .nodes) + more .nodes
     → length (m .edges) + less .edges ≡ natAbs (h .edges) + more .edges
     → length (m .faces) + less .faces ≡ natAbs (h .faces) + more .faces
-    → m .nextNode ≡ natAbs (h .«next_node») + given .nodes
-    → m .nextEdge ≡ natAbs (h .«next_edge») + given .edges
-    → m .nextFace ≡ natAbs (h .«next_face») + given .faces
+    → m .next .nodes ≡ natAbs (h .«next_node») + given .nodes
+    → m .next .edges ≡ natAbs (h .«next_edge») + given .edges
+    → m .next .faces ≡ natAbs (h .«next_face») + given .faces
     → headOf m ≡ changedHead h more less given
 unfolding changedHead
 head-changed h m more less given n e f a b c =
@@ -42,8 +42,8 @@ head-changed h m more less given n e f a b c =
 -- a map in tables as they were
 pub head-same : {h : Head} → Counted h → (m : Map) → length (m .nodes) ≡ natAbs (h .nodes)
     → length (m .edges) ≡ natAbs (h .edges) → length (m .faces) ≡ natAbs (h .faces)
-    → m .nextNode ≡ natAbs (h .«next_node») → m .nextEdge ≡ natAbs (h .«next_edge»)
-    → m .nextFace ≡ natAbs (h .«next_face») → headOf m ≡ h
+    → m .next .nodes ≡ natAbs (h .«next_node») → m .next .edges ≡ natAbs (h .«next_edge»)
+    → m .next .faces ≡ natAbs (h .«next_face») → headOf m ≡ h
 head-same k m n e f a b c =
     λ i. record {
       nodes = (ap pos n ∙ sym (k .nodes .natural)) i;

@@ -10,7 +10,7 @@ use Rattle.plane.specs.declared.Point.{Point}
 use Rattle.curves.specs.Curves.{through, coordinates}
 use Rattle.planar_maps.specs.Map.{Dart, fwd, bwd}
 use Rattle.map.specs.declared.Answer.{Answer}
-use Rattle.map.specs.Rows.{Node, Edge, Map, Lent, Sizes, mapOf, lentOf}
+use Rattle.map.specs.Rows.{Node, Edge, Map, Lent, Sizes, mapOf, lentOf, counts}
 use Rattle.map.specs.Form.{inForm}
 use Rattle.map.specs.Ticket.{Outcome, refused}
 use Rattle.map.specs.Grow.{grow}
@@ -59,9 +59,7 @@ squareRows =
       nodes = nodeRow 1 (at 0 0) ∷ [];
       edges = edgeRow 1 1 1 (fwd 1) (bwd 1) 1 0 around ∷ [];
       faces = 0 ∷ 1 ∷ [];
-      nextNode = 2;
-      nextEdge = 2;
-      nextFace = 2;
+      next = counts 2 2 2;
     }
 
 abbrev square : Lent
@@ -73,9 +71,7 @@ neighbour = lentOf small (
       nodes = nodeRow 1 (at 10 0) ∷ nodeRow 2 (at 10 10) ∷ [];
       edges = edgeRow 1 1 2 (fwd 2) (bwd 2) 1 0 beyond ∷ edgeRow 2 2 1 (fwd 1) (bwd 1) 1 0 side ∷ [];
       faces = 0 ∷ 1 ∷ [];
-      nextNode = 3;
-      nextEdge = 3;
-      nextFace = 2;
+      next = counts 3 3 2;
     })
 
 pub sheets-grown :
@@ -98,9 +94,7 @@ both =
           ∷ edgeRow 4 2 3 (bwd 2) (bwd 1) 2 0 beyond
           ∷ [];
       faces = 0 ∷ 1 ∷ 2 ∷ [];
-      nextNode = 4;
-      nextEdge = 5;
-      nextFace = 3;
+      next = counts 4 5 3;
     }
 
 -- the neighbour joins to the square: both its nodes cut the loop, and the common side exists backwards
@@ -145,7 +139,7 @@ ragged =
 -- the number in use is not below the next number
 abbrev spoiled : Lent
 spoiled = lentOf small (
-    record { nodes = nodeRow 1 (at 0 0) ∷ []; edges = []; faces = 0 ∷ []; nextNode = 1; nextEdge = 1; nextFace = 1 })
+    record { nodes = nodeRow 1 (at 0 0) ∷ []; edges = []; faces = 0 ∷ []; next = counts 1 1 1 })
 
 pub looked-at : map (λ (p : Lent × Lent). joined (p .0) (p .1)) (
     (ragged, spoiled) ∷ (spoiled, ragged) ∷ (square, ragged) ∷ (square, spoiled) ∷ [])
@@ -161,9 +155,7 @@ turning = lentOf small (
       nodes = nodeRow 1 (at 0 0) ∷ nodeRow 2 (at 5 0) ∷ [];
       edges = edgeRow 1 1 2 (bwd 1) (fwd 1) 0 0 (at 0 0 ∷ at 10 0 ∷ at 5 0 ∷ []) ∷ [];
       faces = 0 ∷ [];
-      nextNode = 3;
-      nextEdge = 2;
-      nextFace = 1;
+      next = counts 3 2 1;
     })
 
 abbrev outcome : Outcome → Bool × Answer

@@ -110,15 +110,15 @@ module _ (l : Lent) (r : ranged l ≡ true) (f : formed (mapOf l) ≡ true) wher
   abbrev s : Sizes
   s = sizesOf l
 
-  next-node : NextInRange (m .nextNode)
+  next-node : NextInRange (m .next .nodes)
   unfolding mapOf
   next-node = next-in-range (l .head .«next_node») (ranged-is l r .next-node)
 
-  next-edge : NextInRange (m .nextEdge)
+  next-edge : NextInRange (m .next .edges)
   unfolding mapOf
   next-edge = next-in-range (l .head .«next_edge») (ranged-is l r .next-edge)
 
-  next-face : NextInRange (m .nextFace)
+  next-face : NextInRange (m .next .faces)
   unfolding mapOf
   next-face = next-in-range (l .head .«next_face») (ranged-is l r .next-face)
 
@@ -202,10 +202,10 @@ module _ (l : Lent) (r : ranged l ≡ true) (f : formed (mapOf l) ≡ true) wher
       halves : Stored (front p (edge m e .curve)) × Stored (back p (edge m e .curve))
       halves = halves-in p (edge m e .curve) (off .0) (off .1) (h .on) (h .in-range) (ranged-curves l r (edge m e) here)
 
-      kept : (k : Line) → List·Memᴰ k (map (replaced e (firstHalf (lineOf (edge m e)) (m .nextNode) e p)) (lines m))
+      kept : (k : Line) → List·Memᴰ k (map (replaced e (firstHalf (lineOf (edge m e)) (m .next .nodes) e p)) (lines m))
           → Drawn k
       kept k j =
-          let x = Memᴰ·of-map (replaced e (firstHalf (lineOf (edge m e)) (m .nextNode) e p)) (lines m) j in
+          let x = Memᴰ·of-map (replaced e (firstHalf (lineOf (edge m e)) (m .next .nodes) e p)) (lines m) j in
           subst Drawn (x .2)
           (cond-has Drawn (same (x .0 .number) e) (halves .0) (old-line (x .0) (x .1)))
 

@@ -23,7 +23,7 @@ use Rattle.map.specs.Rows.{Map, edge, dartCell, atEdge, withoutEdge}
 use Rattle.map.specs.Darts.{leaves, departures, next, course, way}
 use Rattle.map.specs.Links.{redirect, lead, linkIn, linkEdge, unlinkEdge}
 use Rattle.tables.specs.Tables.{sameZ}
-use Rattle.map_rows.specs.Rows.{edgesOf, edgeAt, edgeMap, EdgeRows}
+use Rattle.map_rows.specs.Rows.{edgesOf, edgeAt, edgeMap, EdgeRows, edgesAlone}
 use Rattle.darts.specs.Positions.{reverseOf, dartAt, sidePlace, sideCell, wayAt}
 use Rattle.darts.proofs.Positions.{dart-even, dart-odd, dart-reverse, dart-injective, reverse-below, number-injective}
 use Rattle.darts.proofs.Positions.{cell-leaves, cell-next, next-there, way-is}
@@ -265,7 +265,7 @@ module _ {l : List ℤ} {n : ℕ} (t : EdgeRows l n) (i : ℕ) (h : i < n) where
 
 -- its edges alone
 abbrev pub alone : Map → Map
-alone m = record { nodes = []; edges = m .edges; faces = []; nextNode = 0; nextEdge = 0; nextFace = 0 }
+alone m = edgesAlone (m .edges)
 
 pub linked-alone : (e : ℕ) (m : Map) → linkEdge e m .edges ≡ linkEdge e (alone m) .edges
 unfolding linkEdge linkIn lead redirect atEdge departures leaves edge way course

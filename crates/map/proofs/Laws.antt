@@ -78,16 +78,16 @@ numbered-is least next ns h = record {
 
 -- the three tables
 pub record Numbers (m : Map) : Type 0 where
-  pub nodes : Numbered 1 (m .nextNode) (map (λ n. n .number) (m .nodes))
-  pub edges : Numbered 1 (m .nextEdge) (map (λ e. e .number) (m .edges))
-  pub faces : Numbered 0 (m .nextFace) (m .faces)
+  pub nodes : Numbered 1 (m .next .nodes) (map (λ n. n .number) (m .nodes))
+  pub edges : Numbered 1 (m .next .edges) (map (λ e. e .number) (m .edges))
+  pub faces : Numbered 0 (m .next .faces) (m .faces)
 
 pub numbers-are : (m : Map) → numbers m ≡ true → Numbers m
 unfolding numbers
 numbers-are m h =
     let h₁ = and-true _ (same (firstOr 1 (m .faces)) 0) h in
-    let h₂ = and-true _ (numbered 0 (m .nextFace) (m .faces)) (h₁ .0) in
-    let h₃ = and-true _ (numbered 1 (m .nextEdge) (map (λ e. e .number) (m .edges))) (h₂ .0) in
+    let h₂ = and-true _ (numbered 0 (m .next .faces) (m .faces)) (h₁ .0) in
+    let h₃ = and-true _ (numbered 1 (m .next .edges) (map (λ e. e .number) (m .edges))) (h₂ .0) in
     record { nodes = numbered-is _ _ _ (h₃ .0); edges = numbered-is _ _ _ (h₃ .1); faces = numbered-is _ _ _ (h₂ .1) }
 
 -- ---- a map in form
@@ -131,7 +131,7 @@ module _ (m : Map) (h : formed m ≡ true) where
   ns = formed-is m h .numbers
 
   -- numbers in use are below the next number
-  pub face-below : (f : ℕ) → List·Memᴰ f (m .faces) → f < m .nextFace
+  pub face-below : (f : ℕ) → List·Memᴰ f (m .faces) → f < m .next .faces
   face-below f k = ns .faces .below f k
 
   -- a row is found by its number

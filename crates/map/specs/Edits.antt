@@ -1,5 +1,5 @@
 -- The fourteen edits, of tickets that nothing turns down.
-use mathlib.Core.Bool.{Bool, cond, not, _&&_, _||_}
+use mathlib.Core.Bool.{Bool, true, false, cond, not, _&&_, _||_}
 use mathlib.Core.List.{List, [], _∷_, _++_, map}
 use mathlib.Core.Option.{Option, none, some, Option·getD}
 use Prim.Native.Nat.{ℕ, _+_, min}
@@ -11,6 +11,8 @@ use Rattle.plane.specs.Areas.{isPositive}
 use Rattle.curves.specs.Curves.{Curve, startWay}
 use Rattle.curves.specs.Edits.{front, back, joined}
 use Rattle.planar_maps.specs.Map.{Dart, fwd, bwd, rev}
+use Rattle.map.specs.declared.Variant.{Variant}
+use Rattle.map.specs.declared.Variant.the-variants.{New, Mod}
 use Rattle.map.specs.Rows.{Node, Edge, Map, node, edge, setNodes, setEdges, setFaces, given, atNodes, atEdge}
 use Rattle.map.specs.Rows.{withoutNode, withoutEdge, counts}
 use Rattle.map.specs.Darts.{leaves, arrives, next, bears, course, edgeEnds, ring, among, lowestEdge}
@@ -25,7 +27,7 @@ lone m n p = record { number = n; at = p; face = some (faceOfPoint m p) }
 
 -- kind 1
 unfoldable pub addIsoNode : Point → Map → Map
-addIsoNode p m = setNodes (m .nodes ++ lone m (m .nextNode) p ∷ []) (given (counts 1 0 0) m)
+addIsoNode p m = setNodes (m .nodes ++ lone m (m .next .nodes) p ∷ []) (given (counts 1 0 0) m)
 
 -- kind 2
 unfoldable pub moveIsoNode : ℕ → Point → Map → Map
@@ -48,7 +50,7 @@ isEither u v n = same (n .number) u || same (n .number) v
 -- a new edge linked in, with the face f on both sides
 unfoldable pub drawn : ℕ → ℕ → Curve → ℕ → Map → Map
 drawn u v c f m =
-    let e = m .nextEdge in
+    let e = m .next .edges in
     let row : Edge = record {
       number = e;
       start = u;
@@ -93,6 +95,18 @@ withCurve c e = record {
 unfoldable pub changeEdgeGeom : ℕ → Curve → Map → Map
 changeEdgeGeom e c m = atEdge e (withCurve c) m
 
+-- ---- New and Mod, the two variants of kinds 7 to 14
+
+-- what an edit changes takes new numbers
+abbrev pub isNew : Variant → Bool
+isNew New = true
+isNew Mod = false
+
+-- what an edit changes keeps its number
+abbrev pub isMod : Variant → Bool
+isMod New = false
+isMod Mod = true
+
 -- ---- kinds 7 and 8: split
 
 -- the half a of e from its start to the new node n, followed by the half b
@@ -124,18 +138,18 @@ endHalf e n a b p =
     }
 
 -- the start half keeps its number (8) or takes the lower new number (7); departures are renamed, and the halves linked
-unfoldable pub split : Bool → ℕ → Point → Map → Map
-split keeps e p m =
-    let n = m .nextNode in
-    let a = cond keeps e (m .nextEdge) in
-    let b = cond keeps (m .nextEdge) (m .nextEdge + 1) in
+unfoldable pub split : Variant → ℕ → Point → Map → Map
+split how e p m =
+    let n = m .next .nodes in
+    let a = cond (isMod how) e (m .next .edges) in
+    let b = cond (isMod how) (m .next .edges) (m .next .edges + 1) in
     let m′ = redirect (bwd e) (bwd b) (redirect (fwd e) (fwd a) m) in
     let first = startHalf (edge m′ e) n a b p in
     let second = endHalf (edge m′ e) n a b p in
     let kept = atEdge e (λ r. first) m′ .edges ++ second ∷ [] in
     let new = withoutEdge e (m′ .edges) ++ first ∷ second ∷ [] in
     setNodes (m .nodes ++ record { number = n; at = p; face = none } ∷ [])
-    (setEdges (cond keeps kept new) (given (counts 1 (cond keeps 1 2) 0) m))
+    (setEdges (cond (isMod how) kept new) (given (counts 1 (cond (isMod how) 1 2) 0) m))
 
 -- ---- kinds 9 and 10: heal
 
@@ -161,9 +175,9 @@ unfoldable pub healedCurve : Map → ℕ → ℕ → Curve
 healedCurve m e f = joined (course m (parts m e f .0)) (course m (parts m e f .1))
 
 -- number (10), direction and faces are the first edge's; departures are renamed, and the joint goes
-unfoldable pub heal : Bool → ℕ → ℕ → Map → Map
-heal keeps e f m =
-    let h = cond keeps e (m .nextEdge) in
+unfoldable pub heal : Variant → ℕ → ℕ → Map → Map
+heal how e f m =
+    let h = cond (isMod how) e (m .next .edges) in
     let c = parts m e f .0 in
     let d = parts m e f .1 in
     let m′ = redirect (rev d) (bwd h) (redirect c (fwd h) m) in
@@ -181,7 +195,7 @@ heal keeps e f m =
     let kept = withoutEdge f (atEdge e (λ r. row) m′ .edges) in
     let new = withoutEdge e (withoutEdge f (m′ .edges)) ++ row ∷ [] in
     setNodes (withoutNode (Option·getD (joint m e f) 0) (m .nodes))
-    (setEdges (cond keeps kept new) (given (counts 0 (cond keeps 0 1) 0) m))
+    (setEdges (cond (isMod how) kept new) (given (counts 0 (cond (isMod how) 0 1) 0) m))
 
 -- ---- kinds 11 and 12: a new edge, which may split a face
 
@@ -191,7 +205,7 @@ drawnIn u v c m = drawn u v c (cornerFace m u (startWay c)) m
 
 -- e and -e come to lie on different rings
 unfoldable pub splitsFace : ℕ → ℕ → Curve → Map → Bool
-splitsFace u v c m = let m′ = drawnIn u v c m in not (among (ring m′ (fwd (m .nextEdge))) (bwd (m .nextEdge)))
+splitsFace u v c m = let m′ = drawnIn u v c m in not (among (ring m′ (fwd (m .next .edges))) (bwd (m .next .edges)))
 
 -- a face to share out: its number, the ring on the reference side and the one on the other, and the numbers of the
 -- sides
@@ -246,15 +260,15 @@ sharedOut s m =
 -- the face of the new edge e split: the reference side is left if the left ring's doubled area is positive, else right;
 -- it takes the new number (12), or the old face goes and left takes the lower of two new numbers (11); face 0 never
 -- goes
-unfoldable pub splitFace : Bool → ℕ → Map → Map
-splitFace news e m =
+unfoldable pub splitFace : Variant → ℕ → Map → Map
+splitFace how e m =
     let old = bears m (fwd e) in
-    let goes = news && not (same old 0) in
+    let goes = isNew how && not (same old 0) in
     let left = ring m (fwd e) in
     let right = ring m (bwd e) in
     let isLeft = isPositive (sgn (ringArea m left)) in
-    let a = m .nextFace in
-    let b = cond goes (m .nextFace + 1) old in
+    let a = m .next .faces in
+    let b = cond goes (m .next .faces + 1) old in
     let s : Shares =
     record {
       old = old;
@@ -266,11 +280,11 @@ splitFace news e m =
     let faces = cond goes (keep (λ f. not (same f old)) (m .faces) ++ a ∷ b ∷ []) (m .faces ++ a ∷ []) in
     setFaces faces (given (counts 0 0 (cond goes 2 1)) (sharedOut s m))
 
--- kinds 11 (news) and 12
-unfoldable pub addEdge : Bool → ℕ → ℕ → Curve → Map → Map
-addEdge news u v c m =
+-- kinds 11 (New) and 12 (Mod)
+unfoldable pub addEdge : Variant → ℕ → ℕ → Curve → Map → Map
+addEdge how u v c m =
     let m′ = drawnIn u v c m in
-    let m″ = splitFace news (m .nextEdge) m′ in
+    let m″ = splitFace how (m .next .edges) m′ in
     cond (splitsFace u v c m) m″ m′
 
 -- ---- kinds 13 and 14: an edge removed, which may heal faces
@@ -284,12 +298,12 @@ abbrev pub lowerFace : ℕ → Map → ℕ
 lowerFace e m = min (edge m e .left) (edge m e .right)
 
 -- 13 makes a new face, unless one is 0
-unfoldable pub makesFace : Bool → ℕ → Map → Bool
-makesFace news e m = news && healsFaces e m && not (same (lowerFace e m) 0)
+unfoldable pub makesFace : Variant → ℕ → Map → Bool
+makesFace how e m = isNew how && healsFaces e m && not (same (lowerFace e m) 0)
 
 -- the face that is left: a new one, or the lower number
-abbrev pub faceLeft : Bool → ℕ → Map → ℕ
-faceLeft news e m = cond (makesFace news e m) (m .nextFace) (lowerFace e m)
+abbrev pub faceLeft : Variant → ℕ → Map → ℕ
+faceLeft how e m = cond (makesFace how e m) (m .next .faces) (lowerFace e m)
 
 -- f for either face of the edge
 abbrev pub renamed : Edge → ℕ → ℕ → ℕ
@@ -306,10 +320,10 @@ renamedFaces e f m =
     setNodes (map (λ n. renamedNode e f n (n .face)) (m .nodes))
     (setEdges (map (λ r. withSides (renamed e f (r .left)) (renamed e f (r .right)) r) (m .edges)) m)
 
--- kinds 13 (news) and 14
-unfoldable pub removeEdge : Bool → ℕ → Map → Map
-removeEdge news e m =
-    let f = faceLeft news e m in
+-- kinds 13 (New) and 14 (Mod)
+unfoldable pub removeEdge : Variant → ℕ → Map → Map
+removeEdge how e m =
+    let f = faceLeft how e m in
     let m′ = undrawn e f (renamedFaces (edge m e) f m) in
     let left = keep (λ g. same g (renamed (edge m e) f g)) (m .faces) in
-    setFaces (cond (makesFace news e m) (left ++ f ∷ []) left) (given (counts 0 0 (bit (makesFace news e m))) m′)
+    setFaces (cond (makesFace how e m) (left ++ f ∷ []) left) (given (counts 0 0 (bit (makesFace how e m))) m′)

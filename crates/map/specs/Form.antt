@@ -64,9 +64,9 @@ ranged l =
 -- order and next numbers; face 0 exists
 unfoldable pub numbers : Map → Bool
 numbers m =
-    numbered 1 (m .nextNode) (map (λ n. n .number) (m .nodes))
-    && numbered 1 (m .nextEdge) (map (λ e. e .number) (m .edges))
-    && numbered 0 (m .nextFace) (m .faces) && same (firstOr 1 (m .faces)) 0
+    numbered 1 (m .next .nodes) (map (λ n. n .number) (m .nodes))
+    && numbered 1 (m .next .edges) (map (λ e. e .number) (m .edges))
+    && numbered 0 (m .next .faces) (m .faces) && same (firstOr 1 (m .faces)) 0
 
 -- the containing face exists, where there is one
 abbrev pub inFace : Map → Option ℕ → Bool

@@ -18,6 +18,8 @@ use Rattle.curves.specs.Curves.{maxPoints}
 use Rattle.curves.specs.Tests.{neighboursDiffer, straightInside, onCurve, isSimple, meetWrongly}
 use Rattle.planar_maps.specs.Rings.{sameDart}
 use Rattle.map.specs.declared.Counts.{Counts}
+use Rattle.map.specs.declared.Variant.{Variant}
+use Rattle.map.specs.declared.Variant.the-variants.{New, Mod}
 use Rattle.map.specs.Limits.{lastNumber}
 use Rattle.map.specs.Rows.{Node, Edge, Map, Sizes, node, edge, hasNode, hasEdge, hasFace, withoutNode}
 use Rattle.map.specs.Rows.{withoutEdge, counts}
@@ -28,6 +30,7 @@ use Rattle.map.specs.Tickets.{Ticket, AddIsoNode, MoveIsoNode, RemoveIso
 use Rattle.map.specs.Tickets.{ChangeEdgeGeom, NewEdgesSplit, ModEdgeSplit, NewEdgeHeal, ModEdgeHeal}
 use Rattle.map.specs.Tickets.{AddEdgeNewFaces, AddEdgeModFace, RemEdgeNewFace, RemEdgeModFace}
 use Rattle.map.specs.Edits.{changeEdgeGeom, sharedNodes, joint, healedCurve, splitsFace, makesFace}
+use Rattle.map.specs.Edits.{isNew, isMod}
 
 -- numbers with their conditions
 abbrev pub Reasons : Type 0
@@ -145,9 +148,9 @@ full s m more = ltb (s .nodes) (length (m .nodes) + more .nodes) || ltb (s .edge
     || ltb (s .faces) (length (m .faces) + more .faces)
 
 abbrev pub spent : Map → Counts → Bool
-spent m needed = ltb (suc lastNumber) (m .nextNode + needed .nodes)
-    || ltb (suc lastNumber) (m .nextEdge + needed .edges)
-    || ltb (suc lastNumber) (m .nextFace + needed .faces)
+spent m needed = ltb (suc lastNumber) (m .next .nodes + needed .nodes)
+    || ltb (suc lastNumber) (m .next .edges + needed .edges)
+    || ltb (suc lastNumber) (m .next .faces + needed .faces)
 
 -- for an edit that needs so many rows more and so many numbers
 abbrev pub roomReasons : Sizes → Map → Counts → Counts → Reasons
@@ -156,13 +159,13 @@ roomReasons s m rows numbers = (20, full s m rows) ∷ (21, spent m numbers) ∷
 -- ---- the kinds, with 4 and up
 
 -- kinds 7 and 8
-abbrev pub splitReasons : ℕ → Sizes → Map → ℤ → ℤ → ℤ → Reasons
-splitReasons more s m e x y =
+abbrev pub splitReasons : Variant → Sizes → Map → ℤ → ℤ → ℤ → Reasons
+splitReasons how s m e x y =
     (4, noEdge m e)
     ∷ (5, outside x y)
     ∷ (10, nodeAt (m .nodes) (point x y))
     ∷ (13, not (onCurve (edge m (natAbs e) .curve) (point x y)))
-    ∷ roomReasons s m (counts 1 1 0) (counts 1 more 0)
+    ∷ roomReasons s m (counts 1 1 0) (counts 1 (cond (isMod how) 1 2) 0)
 
 -- kinds 9 and 10
 abbrev pub healReasons : Map → ℤ → ℤ → Reasons
@@ -175,17 +178,17 @@ healReasons m e f =
     ∷ (18, ltb maxPoints (length (points (healedCurve m a b))))
     ∷ []
 
--- kinds 11 (news) and 12
-abbrev pub addEdgeReasons : Bool → Sizes → Map → ℤ → ℤ → List ℤ → Reasons
-addEdgeReasons news s m u v sent =
+-- kinds 11 (New) and 12 (Mod)
+abbrev pub addEdgeReasons : Variant → Sizes → Map → ℤ → ℤ → List ℤ → Reasons
+addEdgeReasons how s m u v sent =
     let a = natAbs u in
     let b = natAbs v in
     let c = curveOf sent in
     let splits = splitsFace a b c m in
-    let second = splits && news && not (same (cornerFace m a (startWay c)) 0) in
+    let second = splits && isNew how && not (same (cornerFace m a (startWay c)) 0) in
     (4, noNode m u || noNode m v)
     ∷ curveReasons m sent a b
-    ++ (11, directionTaken m (m .nextEdge) a b c)
+    ++ (11, directionTaken m (m .next .edges) a b c)
     ∷ (12, cornersDiffer m a b c)
     ∷ meetingReasons m (m .edges) c
     ++ roomReasons s m (counts 0 1 (bit splits)) (counts 0 1 (bit splits + bit second))
@@ -233,14 +236,14 @@ reasons s m (ChangeEdgeGeom e sent) =
     ∷ meetingReasons m (withoutEdge (natAbs e) (m .edges)) c
     ++ (19, orderChanges m (natAbs e) c)
     ∷ []
-reasons s m (NewEdgesSplit e x y) = splitReasons 2 s m e x y
-reasons s m (ModEdgeSplit e x y) = splitReasons 1 s m e x y
+reasons s m (NewEdgesSplit e x y) = splitReasons New s m e x y
+reasons s m (ModEdgeSplit e x y) = splitReasons Mod s m e x y
 reasons s m (NewEdgeHeal e f) = healReasons m e f ++ (21, spent m (counts 0 1 0)) ∷ []
 reasons s m (ModEdgeHeal e f) = healReasons m e f
-reasons s m (AddEdgeNewFaces u v sent) = addEdgeReasons true s m u v sent
-reasons s m (AddEdgeModFace u v sent) = addEdgeReasons false s m u v sent
+reasons s m (AddEdgeNewFaces u v sent) = addEdgeReasons New s m u v sent
+reasons s m (AddEdgeModFace u v sent) = addEdgeReasons Mod s m u v sent
 reasons s m (RemEdgeNewFace e) =
     (4, noEdge m e)
-    ∷ (21, spent m (counts 0 0 (bit (makesFace true (natAbs e) m))))
+    ∷ (21, spent m (counts 0 0 (bit (makesFace New (natAbs e) m))))
     ∷ []
 reasons s m (RemEdgeModFace e) = (4, noEdge m e) ∷ []

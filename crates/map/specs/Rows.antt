@@ -33,14 +33,12 @@ pub record Edge : Type 0 where
   pub right : ℕ
   pub curve : Curve
 
--- the rows in use and the next numbers
+-- the rows in use and the next numbers: of nodes, edges and faces
 pub record Map : Type 0 where
   pub nodes : List Node
   pub edges : List Edge
   pub faces : List ℕ
-  pub nextNode : ℕ
-  pub nextEdge : ℕ
-  pub nextFace : ℕ
+  pub next : Counts
 
 -- what is lent: three tables and the head beside them
 pub record Lent : Type 0 where
@@ -61,7 +59,7 @@ counts a b c = record { nodes = a; edges = b; faces = c }
 
 -- the empty map: face 0 alone
 abbrev pub emptyMap : Map
-emptyMap = record { nodes = []; edges = []; faces = 0 ∷ []; nextNode = 1; nextEdge = 1; nextFace = 1 }
+emptyMap = record { nodes = []; edges = []; faces = 0 ∷ []; next = counts 1 1 1 }
 
 -- ---- from the flat tables
 
@@ -114,9 +112,7 @@ mapOf l =
       nodes = map nodeOf (nodeRows l);
       edges = map edgeOf (edgeRows l);
       faces = map faceRowOf (faceRows l);
-      nextNode = natAbs (l .head .«next_node»);
-      nextEdge = natAbs (l .head .«next_edge»);
-      nextFace = natAbs (l .head .«next_face»);
+      next = counts (natAbs (l .head .«next_node»)) (natAbs (l .head .«next_edge»)) (natAbs (l .head .«next_face»));
     }
 
 -- the room of the tables
@@ -158,9 +154,9 @@ headOf m =
       nodes = pos (length (m .nodes));
       edges = pos (length (m .edges));
       faces = pos (length (m .faces));
-      «next_node» = pos (m .nextNode);
-      «next_edge» = pos (m .nextEdge);
-      «next_face» = pos (m .nextFace);
+      «next_node» = pos (m .next .nodes);
+      «next_edge» = pos (m .next .edges);
+      «next_face» = pos (m .next .faces);
     }
 
 -- the map in tables of these sizes: rows from the front, zeros behind
@@ -222,9 +218,7 @@ setNodes ns m = record {
   nodes = ns;
   edges = m .edges;
   faces = m .faces;
-  nextNode = m .nextNode;
-  nextEdge = m .nextEdge;
-  nextFace = m .nextFace;
+  next = m .next;
 }
 
 abbrev pub setEdges : List Edge → Map → Map
@@ -232,9 +226,7 @@ setEdges es m = record {
   nodes = m .nodes;
   edges = es;
   faces = m .faces;
-  nextNode = m .nextNode;
-  nextEdge = m .nextEdge;
-  nextFace = m .nextFace;
+  next = m .next;
 }
 
 abbrev pub setFaces : List ℕ → Map → Map
@@ -242,9 +234,7 @@ setFaces fs m = record {
   nodes = m .nodes;
   edges = m .edges;
   faces = fs;
-  nextNode = m .nextNode;
-  nextEdge = m .nextEdge;
-  nextFace = m .nextFace;
+  next = m .next;
 }
 
 -- so many new numbers given to nodes, edges and faces
@@ -253,9 +243,7 @@ given c m = record {
   nodes = m .nodes;
   edges = m .edges;
   faces = m .faces;
-  nextNode = m .nextNode + c .nodes;
-  nextEdge = m .nextEdge + c .edges;
-  nextFace = m .nextFace + c .faces;
+  next = counts (m .next .nodes + c .nodes) (m .next .edges + c .edges) (m .next .faces + c .faces);
 }
 
 -- a row changed: the nodes that p takes, the edge e

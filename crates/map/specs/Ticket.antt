@@ -12,6 +12,7 @@ use Rattle.lists.specs.Scans.{keep}
 use Rattle.curves.specs.Curves.{point, curveOf}
 use Rattle.planar_maps.specs.Map.{Dart}
 use Rattle.map.specs.declared.Answer.{Answer}
+use Rattle.map.specs.declared.Variant.the-variants.{New, Mod}
 use Rattle.map.specs.Rows.{Map, Lent, emptyMap, mapOf, lentOf, sizesOf, whole, dartCell}
 use Rattle.map.specs.Darts.{bears, ring, firsts}
 use Rattle.map.specs.Form.{inForm}
@@ -24,23 +25,23 @@ use Rattle.map.specs.Reasons.{Reasons, firstReason, reasons, noFace}
 
 -- a ticket carried out: the map after it and the value
 unfoldable pub carried : Map → Ticket → Map × ℤ
-carried m (AddIsoNode f x y) = (addIsoNode (point x y) m, pos (m .nextNode))
+carried m (AddIsoNode f x y) = (addIsoNode (point x y) m, pos (m .next .nodes))
 carried m (MoveIsoNode n x y) = (moveIsoNode (natAbs n) (point x y) m, pos 0)
 carried m (RemoveIsoNode n) = (removeIsoNode (natAbs n) m, pos 0)
-carried m (AddIsoEdge u v c) = (addIsoEdge (natAbs u) (natAbs v) (curveOf c) m, pos (m .nextEdge))
+carried m (AddIsoEdge u v c) = (addIsoEdge (natAbs u) (natAbs v) (curveOf c) m, pos (m .next .edges))
 carried m (RemoveIsoEdge e) = (removeIsoEdge (natAbs e) m, pos 0)
 carried m (ChangeEdgeGeom e c) = (changeEdgeGeom (natAbs e) (curveOf c) m, pos 0)
-carried m (NewEdgesSplit e x y) = (split false (natAbs e) (point x y) m, pos (m .nextNode))
-carried m (ModEdgeSplit e x y) = (split true (natAbs e) (point x y) m, pos (m .nextNode))
-carried m (NewEdgeHeal e f) = (heal false (natAbs e) (natAbs f) m, pos (m .nextEdge))
-carried m (ModEdgeHeal e f) = (heal true (natAbs e) (natAbs f) m, pos 0)
-carried m (AddEdgeNewFaces u v c) = (addEdge true (natAbs u) (natAbs v) (curveOf c) m, pos (m .nextEdge))
-carried m (AddEdgeModFace u v c) = (addEdge false (natAbs u) (natAbs v) (curveOf c) m, pos (m .nextEdge))
+carried m (NewEdgesSplit e x y) = (split New (natAbs e) (point x y) m, pos (m .next .nodes))
+carried m (ModEdgeSplit e x y) = (split Mod (natAbs e) (point x y) m, pos (m .next .nodes))
+carried m (NewEdgeHeal e f) = (heal New (natAbs e) (natAbs f) m, pos (m .next .edges))
+carried m (ModEdgeHeal e f) = (heal Mod (natAbs e) (natAbs f) m, pos 0)
+carried m (AddEdgeNewFaces u v c) = (addEdge New (natAbs u) (natAbs v) (curveOf c) m, pos (m .next .edges))
+carried m (AddEdgeModFace u v c) = (addEdge Mod (natAbs u) (natAbs v) (curveOf c) m, pos (m .next .edges))
 carried m (RemEdgeNewFace e) = (
-  removeEdge true (natAbs e) m,
-  cond (healsFaces (natAbs e) m) (pos (faceLeft true (natAbs e) m)) (negsuc 0),
+  removeEdge New (natAbs e) m,
+  cond (healsFaces (natAbs e) m) (pos (faceLeft New (natAbs e) m)) (negsuc 0),
 )
-carried m (RemEdgeModFace e) = (removeEdge false (natAbs e) m, pos 0)
+carried m (RemEdgeModFace e) = (removeEdge Mod (natAbs e) m, pos 0)
 
 -- what is lent, after the call, and the answer
 pub record Outcome : Type 0 where

@@ -107,6 +107,12 @@ pub struct Counts {
     pub faces: usize,
 }
 
+// The two variants of kinds 7 to 14: New gives new numbers to what an edit changes, Mod keeps numbers.
+pub enum Variant {
+    New,
+    Mod,
+}
+
 // Refusal and value: 0 and the value where a call is carried out, the refusal's number and 0 where it is turned down.
 pub struct Answer {
     pub refusal: u64,

@@ -45,7 +45,7 @@ use Rattle.geometry.specs.Drawing as drawing
 -- an edge with the next number from u to v along c departs in directions of its own, as others do
 pub record Free (m : Map) (u v : ℕ) (c : Curve) : Type 0 where
   pub apart : Apart (leaves m) (way m) (directed m)
-  pub fresh : List·Memᴰ (m .nextEdge) (nums (arcs m)) → ⊥
+  pub fresh : List·Memᴰ (m .next .edges) (nums (arcs m)) → ⊥
   pub ends : startWay (edits.course true c) ≡ endWay c
   pub start : (d : Dart) → List·Memᴰ d (departures m u) → sameWay (way m d) (startWay c) ≡ false
   pub end : (d : Dart) → List·Memᴰ d (departures m v) → sameWay (way m d) (endWay c) ≡ false
@@ -71,13 +71,13 @@ apart-more T W p ds own apart n d x i j alike = go (List·Memᴰ·cases-cons (k 
 
 module _ (m : Map) (u v : ℕ) (c : Curve) (φ : ℕ) (free : Free m u v c) where
   abbrev e : ℕ
-  e = m .nextEdge
+  e = m .next .edges
 
   abbrev f : Dart
-  f = fwd (m .nextEdge)
+  f = fwd (m .next .edges)
 
   abbrev b : Dart
-  b = bwd (m .nextEdge)
+  b = bwd (m .next .edges)
 
   abbrev a : Arc
   a = arcOf (drawnRow m u v c φ)
@@ -92,7 +92,7 @@ module _ (m : Map) (u v : ℕ) (c : Curve) (φ : ℕ) (free : Free m u v c) wher
   W = way m₁
 
   abbrev T : Dart → ℕ
-  T = with-edge (m .nextEdge) u v (leaves m)
+  T = with-edge (m .next .edges) u v (leaves m)
 
   -- all directed edges, the new ones first
   abbrev all : List Dart
@@ -209,7 +209,7 @@ sent-good m c u v h = good-iff c .1 (some-rest (c .first) (c .rest) (h .least), 
 
 -- kind 4: nothing departs from either node
 pub lone-free : {s : Sizes} {m : Map} {u v : ℕ} {c : Curve} → AddLone s m u v c → Apart (leaves m) (way m) (directed m)
-    → (List·Memᴰ (m .nextEdge) (nums (arcs m)) → ⊥) → ((d : Dart) → List·Memᴰ d (departures m u) → ⊥)
+    → (List·Memᴰ (m .next .edges) (nums (arcs m)) → ⊥) → ((d : Dart) → List·Memᴰ d (departures m u) → ⊥)
     → ((d : Dart) → List·Memᴰ d (departures m v) → ⊥) → Free m u v c
 lone-free {m = m} {u} {v} {c} h apart fresh none-u none-v =
     record {
@@ -223,7 +223,7 @@ lone-free {m = m} {u} {v} {c} h apart fresh none-u none-v =
 
 -- kinds 11 and 12: no departure has its directions
 pub edge-free : {news : Bool} {s : Sizes} {m : Map} {u v : ℕ} {c : Curve} → AddEdge news s m u v c
-    → Apart (leaves m) (way m) (directed m) → (List·Memᴰ (m .nextEdge) (nums (arcs m)) → ⊥) → Free m u v c
+    → Apart (leaves m) (way m) (directed m) → (List·Memᴰ (m .next .edges) (nums (arcs m)) → ⊥) → Free m u v c
 unfolding directionTaken
 edge-free {m = m} {u} {v} {c} h apart fresh = record {
   apart = apart;
@@ -237,13 +237,13 @@ edge-free {m = m} {u} {v} {c} h apart fresh = record {
     good : drawing.Good c
     good = sent-good m c u v (h .sent)
 
-    ways : (wayTaken m (m .nextEdge) u (startWay c) ≡ false) × (wayTaken m (m .nextEdge) v (endWay c) ≡ false)
-    ways = or-false (wayTaken m (m .nextEdge) u (startWay c)) (wayTaken m (m .nextEdge) v (endWay c)) (h .ways-free)
+    ways : (wayTaken m (m .next .edges) u (startWay c) ≡ false) × (wayTaken m (m .next .edges) v (endWay c) ≡ false)
+    ways = or-false (wayTaken m (m .next .edges) u (startWay c)) (wayTaken m (m .next .edges) v (endWay c)) (h .ways-free)
 
-    way-free : (n : ℕ) (w : Way) → wayTaken m (m .nextEdge) n w ≡ false → (d : Dart) → List·Memᴰ d (departures m n)
+    way-free : (n : ℕ) (w : Way) → wayTaken m (m .next .edges) n w ≡ false → (d : Dart) → List·Memᴰ d (departures m n)
         → sameWay (way m d) w ≡ false
     way-free n w clear d k =
         sym (ap (λ (x : Bool). not x && sameWay (way m d) w)
-        (same-false (d .edge) (m .nextEdge)
-        (fresh-dart (record { num = m .nextEdge; from = n; to = n }) (arcs m) fresh (departs m n k .0))))
-        ∙ none-has (λ d. not (same (d .edge) (m .nextEdge)) && sameWay (way m d) w) (departures m n) clear d k
+        (same-false (d .edge) (m .next .edges)
+        (fresh-dart (record { num = m .next .edges; from = n; to = n }) (arcs m) fresh (departs m n k .0))))
+        ∙ none-has (λ d. not (same (d .edge) (m .next .edges)) && sameWay (way m d) w) (departures m n) clear d k

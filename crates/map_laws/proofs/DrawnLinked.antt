@@ -47,18 +47,18 @@ pub record WovenIn (m : Map) (u v : ℕ) (c : Curve) (φ : ℕ) : Type 0 where
   pub start : Corner
   pub end : Corner
   pub fits-start :
-      Fits (directed m) (with-edge (m .nextEdge) u v (leaves m)) (with-edge (m .nextEdge) φ φ (bears m)) u φ start
+      Fits (directed m) (with-edge (m .next .edges) u v (leaves m)) (with-edge (m .next .edges) φ φ (bears m)) u φ start
   pub fits-end :
-      Fits (fwd (m .nextEdge) ∷ directed m) (with-edge (m .nextEdge) u v (leaves m))
-      (with-edge (m .nextEdge) φ φ (bears m)) v φ end
+      Fits (fwd (m .next .edges) ∷ directed m) (with-edge (m .next .edges) u v (leaves m))
+      (with-edge (m .next .edges) φ φ (bears m)) v φ end
   pub links :
       (d : Dart) → List·Memᴰ d (darts (arcOf (drawnRow m u v c φ) ∷ arcs m)) → next (drawn u v c φ m) d
-      ≡ woven (m .nextEdge) start end (next m) d
+      ≡ woven (m .next .edges) start end (next m) d
 
 -- kinds 11 and 12: its corners are in one face
 pub draws-edge : {news : Bool} {s : Sizes} {m : Map} {u v : ℕ} {c : Curve} → AddEdge news s m u v c
     → Linked (arcs m) (leaves m) (next m) (bears m) → Distinct (nums (arcs m)) → Apart (leaves m) (way m) (directed m)
-    → (List·Memᴰ (m .nextEdge) (nums (arcs m)) → ⊥)
+    → (List·Memᴰ (m .next .edges) (nums (arcs m)) → ⊥)
     → Draws m u v c (cornerFace m u (startWay c))
 draws-edge h linked once apart fresh = record {
   linked = linked;
@@ -70,13 +70,13 @@ draws-edge h linked once apart fresh = record {
 
 module _ (m : Map) (u v : ℕ) (c : Curve) (φ : ℕ) (draws : Draws m u v c φ) where
   abbrev e : ℕ
-  e = m .nextEdge
+  e = m .next .edges
 
   abbrev f : Dart
-  f = fwd (m .nextEdge)
+  f = fwd (m .next .edges)
 
   abbrev b : Dart
-  b = bwd (m .nextEdge)
+  b = bwd (m .next .edges)
 
   abbrev a : Arc
   a = arcOf (drawnRow m u v c φ)
@@ -88,10 +88,10 @@ module _ (m : Map) (u v : ℕ) (c : Curve) (φ : ℕ) (draws : Draws m u v c φ)
   W = way (appended m u v c φ)
 
   abbrev T : Dart → ℕ
-  T = with-edge (m .nextEdge) u v (leaves m)
+  T = with-edge (m .next .edges) u v (leaves m)
 
   abbrev F : Dart → ℕ
-  F = with-edge (m .nextEdge) φ φ (bears m)
+  F = with-edge (m .next .edges) φ φ (bears m)
 
   abbrev all : List Dart
   all = darts (arcOf (drawnRow m u v c φ) ∷ arcs m)

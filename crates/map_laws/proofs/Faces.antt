@@ -56,8 +56,8 @@ sides m e h =
 pub named-faces : (m : Map) → numbers m ≡ true → named m ≡ true → FacesNamed m
 unfolding numbers named
 named-faces m h k =
-    let first = and-true (numbered 1 (m .nextNode) (map (λ n. n .number) (m .nodes))
-    && numbered 1 (m .nextEdge) (map (λ e. e .number) (m .edges)) && numbered 0 (m .nextFace) (m .faces))
+    let first = and-true (numbered 1 (m .next .nodes) (map (λ n. n .number) (m .nodes))
+    && numbered 1 (m .next .edges) (map (λ e. e .number) (m .edges)) && numbered 0 (m .next .faces) (m .faces))
     (same (firstOr 1 (m .faces)) 0) h in
     let rows = and-true (allOf (λ n. inFace m (n .face)) (m .nodes)) (allOf (edgeNames m) (m .edges)) k in
     record {

@@ -73,9 +73,9 @@ differ-says {D} way (x ∷ ds) h d c i j e =
 -- ---- a map in form
 
 -- the next number is new
-pub edge-new : (m : Map) → ((e : ℕ) → List·Memᴰ e (map numberOf (m .edges)) → e < m .nextEdge)
-    → List·Memᴰ (m .nextEdge) (nums (arcs m)) → ⊥
-edge-new m below k = let h = below (m .nextEdge) (subst (List·Memᴰ (m .nextEdge)) (nums-rows m) k) in omega arith
+pub edge-new : (m : Map) → ((e : ℕ) → List·Memᴰ e (map numberOf (m .edges)) → e < m .next .edges)
+    → List·Memᴰ (m .next .edges) (nums (arcs m)) → ⊥
+edge-new m below k = let h = below (m .next .edges) (subst (List·Memᴰ (m .next .edges)) (nums-rows m) k) in omega arith
 
 module _ (m : Map) (h : formed m ≡ true) where
   -- directions differ at each node, and nothing departs elsewhere

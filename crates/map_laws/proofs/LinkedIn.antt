@@ -64,11 +64,11 @@ module _ (m : Map) (u v : ℕ) (c : Curve) (φ : ℕ) where
   -- the new row, an edge by itself
   abbrev pub drawnRow : Edge
   drawnRow = record {
-    number = m .nextEdge;
+    number = m .next .edges;
     start = u;
     end = v;
-    nextLeft = bwd (m .nextEdge);
-    nextRight = fwd (m .nextEdge);
+    nextLeft = bwd (m .next .edges);
+    nextRight = fwd (m .next .edges);
     left = φ;
     right = φ;
     curve = c;
@@ -79,13 +79,13 @@ module _ (m : Map) (u v : ℕ) (c : Curve) (φ : ℕ) where
 
   module _ (fresh : Fresh (arcOf drawnRow) (arcs m)) where
     abbrev e : ℕ
-    e = m .nextEdge
+    e = m .next .edges
 
     abbrev f : Dart
-    f = fwd (m .nextEdge)
+    f = fwd (m .next .edges)
 
     abbrev b : Dart
-    b = bwd (m .nextEdge)
+    b = bwd (m .next .edges)
 
     abbrev m₁ : Map
     m₁ = appended
@@ -95,7 +95,7 @@ module _ (m : Map) (u v : ℕ) (c : Curve) (φ : ℕ) where
     all = darts (arcOf drawnRow ∷ arcs m)
 
     abbrev T : Dart → ℕ
-    T = with-edge (m .nextEdge) u v (leaves m)
+    T = with-edge (m .next .edges) u v (leaves m)
 
     none : hasEdge m e ≡ false
     none = not-true (hasEdge m e) (λ h. fresh
@@ -168,10 +168,10 @@ module _ (m : Map) (u v : ℕ) (c : Curve) (φ : ℕ) where
     -- ---- the departures that a new one finds
 
     abbrev isOld : Dart → Bool
-    isOld d = not (same (d .edge) (m .nextEdge))
+    isOld d = not (same (d .edge) (m .next .edges))
 
     abbrev notBack : Dart → Bool
-    notBack d = not (sameDart d (bwd (m .nextEdge)))
+    notBack d = not (sameDart d (bwd (m .next .edges)))
 
     old-all : keep isOld (directed m₁) ≡ directed m
     old-all = ap (keep isOld) listed ∙ keep-append isOld (directed m) (f ∷ b ∷ [])

@@ -23,9 +23,9 @@ pub record Shape (m : Map) (ns : List Node) (os : List Outline) (fs : List ℕ) 
   pub nodes : m .nodes ≡ ns
   pub outlines : outlines m ≡ os
   pub faces : m .faces ≡ fs
-  pub next-node : m .nextNode ≡ a
-  pub next-edge : m .nextEdge ≡ b
-  pub next-face : m .nextFace ≡ c
+  pub next-node : m .next .nodes ≡ a
+  pub next-edge : m .next .edges ≡ b
+  pub next-face : m .next .faces ≡ c
 
 -- the outlines of mapped rows
 pub outlines-map : (f : Edge → Edge) (g : Outline → Outline) (es : List Edge)
@@ -36,7 +36,7 @@ outlines-map f g es h = map-map outlineOf f es ∙ map-cong (λ r. outlineOf (f 
 
 -- one row changed, but not its outline
 pub at-shape : (e : ℕ) (f : Edge → Edge) (m : Map) → ((r : Edge) → outlineOf (f r) ≡ outlineOf r)
-    → Shape (atEdge e f m) (m .nodes) (outlines m) (m .faces) (m .nextNode) (m .nextEdge) (m .nextFace)
+    → Shape (atEdge e f m) (m .nodes) (outlines m) (m .faces) (m .next .nodes) (m .next .edges) (m .next .faces)
 unfolding atEdge
 at-shape e f m h = record {
   nodes = refl;
@@ -62,18 +62,18 @@ abbrev pub drawnOutline : ℕ → ℕ → ℕ → ℕ → Outline
 drawnOutline e u v f = record { arc = record { num = e; from = u; to = v }; left = f; right = f }
 
 pub drawn-shape : (u v : ℕ) (c : Curve) (f : ℕ) (m : Map)
-    → Shape (drawn u v c f m) (map (marked u v) (m .nodes)) (outlines m ++ drawnOutline (m .nextEdge) u v f ∷ [])
-    (m .faces) (m .nextNode) (m .nextEdge + 1) (m .nextFace)
+    → Shape (drawn u v c f m) (map (marked u v) (m .nodes)) (outlines m ++ drawnOutline (m .next .edges) u v f ∷ [])
+    (m .faces) (m .next .nodes) (m .next .edges + 1) (m .next .faces)
 unfolding drawn atNodes linkEdge linkIn lead redirect atEdge
 drawn-shape u v c f m = record {
   nodes = refl;
   outlines =
-      linkEdge-relinked (m .nextEdge) (appended m u v c f) .outlines
+      linkEdge-relinked (m .next .edges) (appended m u v c f) .outlines
       ∙ map-append outlineOf (m .edges) (drawnRow m u v c f ∷ []);
   faces = refl;
-  next-node = add-zero (m .nextNode);
+  next-node = add-zero (m .next .nodes);
   next-edge = refl;
-  next-face = add-zero (m .nextFace);
+  next-face = add-zero (m .next .faces);
 }
 
 -- the edge e left out
@@ -85,7 +85,7 @@ outlines-without e es = sym (keep-map outlineOf (λ r. not (same (r .number) e))
     (λ r k. refl))
 
 pub unlink-shape : (e : ℕ) (m : Map) → Shape (unlinkEdge e m) (m .nodes) (lessOutline e (outlines m)) (m .faces)
-    (m .nextNode) (m .nextEdge) (m .nextFace)
+    (m .next .nodes) (m .next .edges) (m .next .faces)
 unfolding unlinkEdge redirect
 unlink-shape e m = record {
   nodes = refl;
@@ -107,14 +107,14 @@ pub undrawn-face-list : (e f : ℕ) (m : Map) → undrawn e f m .faces ≡ m .fa
 unfolding undrawn atNodes
 undrawn-face-list e f m = unlink-shape e m .faces
 
-pub undrawn-next-node : (e f : ℕ) (m : Map) → undrawn e f m .nextNode ≡ m .nextNode
+pub undrawn-next-node : (e f : ℕ) (m : Map) → undrawn e f m .next .nodes ≡ m .next .nodes
 unfolding undrawn atNodes
 undrawn-next-node e f m = unlink-shape e m .next-node
 
-pub undrawn-next-edge : (e f : ℕ) (m : Map) → undrawn e f m .nextEdge ≡ m .nextEdge
+pub undrawn-next-edge : (e f : ℕ) (m : Map) → undrawn e f m .next .edges ≡ m .next .edges
 unfolding undrawn atNodes
 undrawn-next-edge e f m = unlink-shape e m .next-edge
 
-pub undrawn-next-face : (e f : ℕ) (m : Map) → undrawn e f m .nextFace ≡ m .nextFace
+pub undrawn-next-face : (e f : ℕ) (m : Map) → undrawn e f m .next .faces ≡ m .next .faces
 unfolding undrawn atNodes
 undrawn-next-face e f m = unlink-shape e m .next-face

@@ -43,9 +43,9 @@ pub record Room (s : Sizes) (m : Map) (a b c : ℕ) : Type 0 where
 
 -- there are numbers left for the new rows
 pub record Supply (m : Map) (a b c : ℕ) : Type 0 where
-  pub nodes : m .nextNode + a ≤ suc lastNumber
-  pub edges : m .nextEdge + b ≤ suc lastNumber
-  pub faces : m .nextFace + c ≤ suc lastNumber
+  pub nodes : m .next .nodes + a ≤ suc lastNumber
+  pub edges : m .next .edges + b ≤ suc lastNumber
+  pub faces : m .next .faces + c ≤ suc lastNumber
 
 -- a curve from the node u to the node v
 pub record Sent (m : Map) (c : Curve) (u v : ℕ) : Type 0 where
@@ -136,7 +136,7 @@ pub record AddEdge (news : Bool) (s : Sizes) (m : Map) (u v : ℕ) (c : Curve) :
   pub has-start : hasNode m u ≡ true
   pub has-end : hasNode m v ≡ true
   pub sent : Sent m c u v
-  pub ways-free : directionTaken m (m .nextEdge) u v c ≡ false
+  pub ways-free : directionTaken m (m .next .edges) u v c ≡ false
   pub one-face : cornerFace m u (startWay c) ≡ cornerFace m v (endWay c)
   pub nodes-off : nodeInside m c ≡ false
   pub clear : edgeWrong (m .edges) c ≡ false
@@ -197,13 +197,13 @@ room s m a b c h =
 
 supply : (m : Map) (a b c : ℕ) → spent m (counts a b c) ≡ false → Supply m a b c
 supply m a b c h =
-    let h₁ = or-false (ltb (suc lastNumber) (m .nextNode + a) || ltb (suc lastNumber) (m .nextEdge + b))
-    (ltb (suc lastNumber) (m .nextFace + c)) h in
-    let h₂ = or-false (ltb (suc lastNumber) (m .nextNode + a)) (ltb (suc lastNumber) (m .nextEdge + b)) (h₁ .0) in
+    let h₁ = or-false (ltb (suc lastNumber) (m .next .nodes + a) || ltb (suc lastNumber) (m .next .edges + b))
+    (ltb (suc lastNumber) (m .next .faces + c)) h in
+    let h₂ = or-false (ltb (suc lastNumber) (m .next .nodes + a)) (ltb (suc lastNumber) (m .next .edges + b)) (h₁ .0) in
     record {
-      nodes = ltb-false (suc lastNumber) (m .nextNode + a) (h₂ .0);
-      edges = ltb-false (suc lastNumber) (m .nextEdge + b) (h₂ .1);
-      faces = ltb-false (suc lastNumber) (m .nextFace + c) (h₁ .1);
+      nodes = ltb-false (suc lastNumber) (m .next .nodes + a) (h₂ .0);
+      edges = ltb-false (suc lastNumber) (m .next .edges + b) (h₂ .1);
+      faces = ltb-false (suc lastNumber) (m .next .faces + c) (h₁ .1);
     }
 
 -- ---- the kinds
@@ -391,7 +391,7 @@ module _ (s : Sizes) (m : Map) where
       let c = curveOf l in
       let h₄ = first-zero 4 (noNode m u || noNode m v) _ (lit< tt) h in
       let h₅ = sent m l a b _ (h₄ .1) in
-      let h₁₁ = first-zero 11 (directionTaken m (m .nextEdge) a b c) _ (lit< tt) (h₅ .1) in
+      let h₁₁ = first-zero 11 (directionTaken m (m .next .edges) a b c) _ (lit< tt) (h₅ .1) in
       let h₁₂ = first-zero 12 (cornersDiffer m a b c) _ (lit< tt) (h₁₁ .1) in
       let h₁₄ = first-zero 14 (nodeInside m c) _ (lit< tt) (h₁₂ .1) in
       let h₁₅ = first-zero 15 (edgeWrong (m .edges) c) _ (lit< tt) (h₁₄ .1) in

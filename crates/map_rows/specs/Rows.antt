@@ -8,7 +8,7 @@ use lib.ListN.{length, take, drop}
 use Rattle.lists.specs.Scans.{allOf}
 use Rattle.tables.specs.Tables.{rows, rowAt, numbered}
 use Rattle.map.specs.Limits.{nodeWidth, edgeWidth, faceWidth, lastNumber}
-use Rattle.map.specs.Rows.{Node, Edge, Map, nodeOf, edgeOf, faceRowOf, hasEdge}
+use Rattle.map.specs.Rows.{Node, Edge, Map, nodeOf, edgeOf, faceRowOf, hasEdge, counts}
 use Rattle.map.specs.Form.{nodeRanges, edgeRanges, faceRanges}
 
 -- ---- the rows in use
@@ -37,12 +37,15 @@ abbrev pub edgeAt : List ℤ → ℕ → Edge
 edgeAt l i = edgeOf (edgeCellsAt l i)
 
 -- the map that has these edges alone: links, rings and directions are read from it
+abbrev pub edgesAlone : List Edge → Map
+edgesAlone es = record { nodes = []; edges = es; faces = []; next = counts 0 0 0 }
+
 abbrev pub edgeMap : List ℤ → ℕ → Map
-edgeMap l n = record { nodes = []; edges = edgesOf l n; faces = []; nextNode = 0; nextEdge = 0; nextFace = 0 }
+edgeMap l n = edgesAlone (edgesOf l n)
 
 -- the map that has these nodes alone: points are read from it
 abbrev pub nodeMap : List ℤ → ℕ → Map
-nodeMap l n = record { nodes = nodesOf l n; edges = []; faces = []; nextNode = 0; nextEdge = 0; nextFace = 0 }
+nodeMap l n = record { nodes = nodesOf l n; edges = []; faces = []; next = counts 0 0 0 }
 
 -- ---- what functions on tables require, as `form` finds it
 

@@ -8,7 +8,7 @@ use lib.IntN.{ℤ, pos, negsuc}
 use lib.ListN.{replicate}
 use Rattle.curves.specs.Curves.{through}
 use Rattle.planar_maps.specs.Map.{Dart, fwd, bwd}
-use Rattle.map.specs.Rows.{Node, Edge, Map, Sizes, dartCell, lentOf}
+use Rattle.map.specs.Rows.{Node, Edge, Map, Sizes, dartCell, lentOf, counts}
 use Rattle.map.specs.Form.{inForm}
 use Rattle.map.specs.Grow.{grow}
 use Rattle.mending.specs.Mend.{mend}
@@ -67,9 +67,7 @@ loop a b c d f =
           ∷ edge 2 2 1 c d f 0 ((10, 4) ∷ (10, 10) ∷ (0, 10) ∷ (0, 0) ∷ [])
           ∷ [];
       faces = 0 ∷ 1 ∷ [];
-      nextNode = 3;
-      nextEdge = 3;
-      nextFace = 2;
+      next = counts 3 3 2;
     }
 
 abbrev loopGrown : Map
@@ -139,9 +137,7 @@ row d =
           ∷ edge 4 4 2 (fwd 2) (bwd 3) 0 0 ((5, 0) ∷ (10, 0) ∷ [])
           ∷ [];
       faces = 0 ∷ [];
-      nextNode = 5;
-      nextEdge = 5;
-      nextFace = 1;
+      next = counts 5 5 1;
     }
 
 pub row-grows :
@@ -174,9 +170,7 @@ star a b c =
           ∷ edge 3 1 4 (bwd 3) c 0 0 ((5, 5) ∷ (0, 0) ∷ [])
           ∷ [];
       faces = 0 ∷ [];
-      nextNode = 5;
-      nextEdge = 4;
-      nextFace = 1;
+      next = counts 5 4 1;
     }
 
 -- counterclockwise links are in form, and are mended
@@ -200,9 +194,7 @@ pinched =
       nodes = node 1 0 0 ∷ [];
       edges = edge 1 1 1 (fwd 1) (bwd 1) 1 0 ((0, 0) ∷ (10, 0) ∷ (10, 10) ∷ (5, 0) ∷ (0, 0) ∷ []) ∷ [];
       faces = 0 ∷ 1 ∷ [];
-      nextNode = 2;
-      nextEdge = 2;
-      nextFace = 2;
+      next = counts 2 2 2;
     }
 
 pub one-direction : Refuses 11 pinched []

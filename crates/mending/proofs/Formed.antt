@@ -50,8 +50,8 @@ module _ (m : Map) (s : Sketch m) where
   unfolding numbers mended
   rising-now =
       ap (λ (ns : List ℕ).
-      numbered 1 (m .nextNode) (map (λ n. n .number) (m .nodes)) && numbered 1 (m .nextEdge) ns
-      && numbered 0 (m .nextFace) (m .faces) && same (firstOr 1 (m .faces)) 0)
+      numbered 1 (m .next .nodes) (map (λ n. n .number) (m .nodes)) && numbered 1 (m .next .edges) ns
+      && numbered 0 (m .next .faces) (m .faces) && same (firstOr 1 (m .faces)) 0)
       (map-map (λ (e : Edge). e .number) (relinked m) (m .edges)) ∙ s .rising
 
   faces-now : allOf (λ n. inFace (mended m) (n .face)) (m .nodes) ≡ true

@@ -43,9 +43,9 @@ module _ (s : Sizes) (m : Map) where
         nodes = pos (length (m .nodes));
         edges = pos n;
         faces = pos (length (m .faces));
-        «next_node» = pos (m .nextNode);
-        «next_edge» = pos (m .nextEdge);
-        «next_face» = pos (m .nextFace);
+        «next_node» = pos (m .next .nodes);
+        «next_edge» = pos (m .next .edges);
+        «next_face» = pos (m .next .faces);
       }) rows-now
 
   -- curves that a row holds

@@ -9,7 +9,7 @@ use lib.ListN.{length, replicate}
 use Rattle.plane.specs.declared.Point.{Point}
 use Rattle.curves.specs.Curves.{through}
 use Rattle.planar_maps.specs.Map.{fwd, bwd}
-use Rattle.map.specs.Rows.{Node, Edge, Map, Sizes, Lent, lentOf}
+use Rattle.map.specs.Rows.{Node, Edge, Map, Sizes, Lent, lentOf, counts}
 use Rattle.map.specs.Grow.{grow}
 use Rattle.map.specs.Ticket.{Listed}
 use Rattle.nesting.specs.Contents.{contentsOf}
@@ -131,7 +131,7 @@ abbrev inner : ℕ → ℕ → Edge
 inner l r = loop 2 (at 2 2) (at 6 2 ∷ at 6 6 ∷ at 2 6 ∷ []) l r
 
 abbrev sheet : List Node → List Edge → List ℕ → ℕ → Map
-sheet ns es fs n = record { nodes = ns; edges = es; faces = fs; nextNode = 3; nextEdge = 3; nextFace = n }
+sheet ns es fs n = record { nodes = ns; edges = es; faces = fs; next = counts 3 3 n }
 
 -- face 1 is missed, as nothing bears it; so is face 1 with a well, as nothing leads there
 abbrev bare : Map

@@ -27,7 +27,7 @@ use Rattle.map.specs.Links.{cornerOf, cornerFace}
 use Rattle.map.specs.Reasons.{cornersDiffer}
 use Rattle.map.proofs.RoundTrip.{face-pos}
 use Rattle.tables.specs.Tables.{sameZ, column}
-use Rattle.map_rows.specs.Rows.{nodesOf, edgesOf, nodeAt, edgeMap, NodeRows, EdgeRows}
+use Rattle.map_rows.specs.Rows.{nodesOf, edgesOf, nodeAt, edgeMap, NodeRows, EdgeRows, edgesAlone}
 use Rattle.tables.proofs.Rows.{rows-all, all-table}
 use Rattle.map_rows.proofs.Rows.{NodeCells, node-cells, nodes-table, node-rows-rising}
 use Rattle.tables.proofs.Lookups.{row-place}
@@ -62,18 +62,15 @@ leaving-all l n z =
 
 -- ---- a map with these edges
 
-abbrev alone : List Edge → Map
-alone es = record { nodes = []; edges = es; faces = []; nextNode = 0; nextEdge = 0; nextFace = 0 }
-
 module _ (l : List ℤ) (n : ℕ) (m : Map) (E : m .edges ≡ edgesOf l n) (k : ℕ) where
   departures-alone : departures m k ≡ departures (edgeMap l n) k
   unfolding departures leaves edge
-  departures-alone = ap (λ (es : List Edge). departures (alone es) k) E
+  departures-alone = ap (λ (es : List Edge). departures (edgesAlone es) k) E
 
   corner-alone : (v : Way) (d : Dart) (ds : List Dart) → cornerOf m k v (d ∷ ds)
       ≡ bears (edgeMap l n) (firstClockwise (way (edgeMap l n)) v d (d ∷ ds))
   unfolding bears way courseOf edge
-  corner-alone v d ds = ap (λ (es : List Edge). bears (alone es) (firstClockwise (way (alone es)) v d (d ∷ ds))) E
+  corner-alone v d ds = ap (λ (es : List Edge). bears (edgesAlone es) (firstClockwise (way (edgesAlone es)) v d (d ∷ ds))) E
 
 -- ---- the corner face
 

@@ -48,23 +48,23 @@ use Rattle.curves.specs.Edits as edits
 
 -- the next number is that of no row
 pub fresh-number : (l : List ℤ) (e : ℕ) (m : Map) → m .edges ≡ edgesOf l e
-    → numbered 1 (m .nextEdge) (map (λ x. x .number) (m .edges)) ≡ true → (i : ℕ) → i < e
-    → (edgeAt l i .number ≡ m .nextEdge) → ⊥
+    → numbered 1 (m .next .edges) (map (λ x. x .number) (m .edges)) ≡ true → (i : ℕ) → i < e
+    → (edgeAt l i .number ≡ m .next .edges) → ⊥
 fresh-number l e m E ok i h q =
-    let k = number-in 1 (m .nextEdge) (λ i. edgeAt l i .number) e
-    (ap (numbered 1 (m .nextEdge)) (sym (ap (map (λ x. x .number)) E ∙ edge-numbers l e)) ∙ ok) i h .1 in
+    let k = number-in 1 (m .next .edges) (λ i. edgeAt l i .number) e
+    (ap (numbered 1 (m .next .edges)) (sym (ap (map (λ x. x .number)) E ∙ edge-numbers l e)) ∙ ok) i h .1 in
     omega arith
 
 module _ {l : List ℤ} {e : ℕ} (t : EdgeRows l e) (c : List ℤ) (m : Map) (E : m .edges ≡ edgesOf l e)
-    (fresh : (i : ℕ) → i < e → (edgeAt l i .number ≡ m .nextEdge) → ⊥) (u v φ : ℕ) where
+    (fresh : (i : ℕ) → i < e → (edgeAt l i .number ≡ m .next .edges) → ⊥) (u v φ : ℕ) where
   abbrev N : ℕ
-  N = m .nextEdge
+  N = m .next .edges
 
   abbrev f : Dart
-  f = fwd (m .nextEdge)
+  f = fwd (m .next .edges)
 
   abbrev b : Dart
-  b = bwd (m .nextEdge)
+  b = bwd (m .next .edges)
 
   -- the rows alone, and with the new one
   abbrev m₀ : Map
@@ -77,7 +77,7 @@ module _ {l : List ℤ} {e : ℕ} (t : EdgeRows l e) (c : List ℤ) (m : Map) (E
   m₁ = appended m u v (curveOf c) φ
 
   abbrev D : ℕ → Dart
-  D = drawnDart l e (m .nextEdge)
+  D = drawnDart l e (m .next .edges)
 
   abbrev W : ℕ → Way
   W = wayWith l e c
@@ -260,7 +260,7 @@ module _ {l : List ℤ} {e : ℕ} (t : EdgeRows l e) (c : List ℤ) (m : Map) (E
   unfolding drawn atNodes
   rows-drawn =
       sym (length-map (linkEdge N m₁ .edges) arcOf)
-      ∙ ap length (linkEdge-relinked (m .nextEdge) (appended m u v (curveOf c) φ) .arcs)
+      ∙ ap length (linkEdge-relinked (m .next .edges) (appended m u v (curveOf c) φ) .arcs)
       ∙ length-map (m₁ .edges) arcOf
       ∙ length-append (m .edges) (row ∷ [])
       ∙ ap (λ (n : ℕ). n + 1) (ap length E ∙ edges-length l e)

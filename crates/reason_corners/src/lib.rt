@@ -181,7 +181,7 @@ pub fn splits_face(nodes: &[i64], edges: &[i64], e: usize, u: usize, v: usize, c
     requires { ⌜ NodeRow (now nodes) u × NodeRow (now nodes) v × EdgeRows (now edges) e × (e ≤ maxEdges)
         × Run (now c) ⌝ }
     ensures { λ r. ⌜ ((m : _) → m .edges ≡ edgesOf (now (edges .entry)) e
-        → numbered 1 (m .nextEdge) (map (λ x. x .number) (m .edges)) ≡ true
+        → numbered 1 (m .next .edges) (map (λ x. x .number) (m .edges)) ≡ true
         → r ≡ splitsFace (nodeAt (now (nodes .entry)) u .number) (nodeAt (now (nodes .entry)) v .number)
         (curveOf (now (c .entry))) m) ⌝ }
 {

@@ -34,7 +34,7 @@ use Rattle.outcomes.proofs.Formed.{ranges, formed-map, counted, node-rows, edge
 use Rattle.reason_corners.specs.CornerFaces.{cornerCell}
 use Rattle.reason_corners.proofs.CornerFaces.{corner-in-form}
 use Rattle.reason_edges.specs.declared.Judged.{Judged}
-use Rattle.reason_edges.specs.Kinds.{addTicket}
+use Rattle.outcomes.specs.Variants.{addTicket}
 use Rattle.reason_edges.specs.Parts.{drawingReasons, growthReasons, makesSecond}
 use Rattle.reason_edges.specs.Judging.{Held, JudgedRows, JudgedAdd}
 use mathlib.Core.Option.{some}

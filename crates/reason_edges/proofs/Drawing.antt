@@ -17,7 +17,7 @@ use Rattle.map.specs.Limits.{nodeWidth}
 use Rattle.map.specs.Rows.{Node, Edge, Map, node}
 use Rattle.map.specs.Reasons.{Reasons, firstReason, curveReasons, meetingReasons, directionTaken, cornersDiffer}
 use Rattle.tables.specs.Tables.{sameZ, column}
-use Rattle.map_rows.specs.Rows.{nodeAt, nodesOf, nodeMap, edgeMap, NodeRows, EdgeRows}
+use Rattle.map_rows.specs.Rows.{nodeAt, nodesOf, nodeMap, edgeMap, NodeRows, EdgeRows, edgesAlone}
 use Rattle.map_rows.proofs.Rows.{node-cells, node-rows-rising, node-row-of}
 use Rattle.tables.proofs.Lookups.{row-place}
 use Rattle.map_rows.proofs.Lookups.{node-found}
@@ -58,7 +58,7 @@ module _ {nodes : List ℤ} {n : ℕ} {edges : List ℤ} {e : ℕ} (s : NodeRows
   b = nodeAt nodes v .number
 
   abbrev later : Reasons
-  later = (11, directionTaken m (m .nextEdge) a b (curveOf sent)) ∷ (12, cornersDiffer m a b (curveOf sent))
+  later = (11, directionTaken m (m .next .edges) a b (curveOf sent)) ∷ (12, cornersDiffer m a b (curveOf sent))
       ∷ meetingReasons m (m .edges) (curveOf sent)
 
   sent-told : firstReason (sentReasons sent (nodeAt nodes u .at) (nodeAt nodes v .at))
@@ -71,21 +71,14 @@ module _ {nodes : List ℤ} {n : ℕ} {edges : List ℤ} {e : ℕ} (s : NodeRows
   drawn-early {r} some k = sym (first-append (curveReasons m sent a b) later r some (sym (k ∙ sent-told)))
 
   -- the next number is that of no row
-  pub own-none : Own edges e e (m .nextEdge)
+  pub own-none : Own edges e e (m .next .edges)
   own-none = record { is = λ k. absurd (omega arith); none = λ k. fresh-number edges e m (H .edge-rows) (H .rising) }
 
-  taken-told : directionTaken (edgeMap edges e) (m .nextEdge) a b (curveOf sent)
-      ≡ directionTaken m (m .nextEdge) a b (curveOf sent)
+  taken-told : directionTaken (edgeMap edges e) (m .next .edges) a b (curveOf sent)
+      ≡ directionTaken m (m .next .edges) a b (curveOf sent)
   taken-told =
-      ap (λ (es : List Edge). directionTaken record {
-        nodes = [];
-        edges = es;
-        faces = [];
-        nextNode = 0;
-        nextEdge = 0;
-        nextFace = 0;
-      } (m .nextEdge) a b (curveOf sent)) (sym (H .edge-rows))
-      ∙ sym (taken-alone m (m .nextEdge) a b (curveOf sent))
+      ap (λ (es : List Edge). directionTaken (edgesAlone es) (m .next .edges) a b (curveOf sent)) (sym (H .edge-rows))
+      ∙ sym (taken-alone m (m .next .edges) a b (curveOf sent))
 
   module _ (clear : firstReason (sentReasons sent (nodeAt nodes u .at) (nodeAt nodes v .at)) ≡ 0) where
     run-sent : Run sent
@@ -94,11 +87,11 @@ module _ {nodes : List ℤ} {n : ℕ} {edges : List ℤ} {e : ℕ} (s : NodeRows
     from-later : firstReason (drawingReasons m a b sent) ≡ firstReason later
     from-later = first-after (curveReasons m sent a b) later refl (sym sent-told ∙ clear)
 
-    pub drawn-taken : {r : Bool} → r ≡ directionTaken (edgeMap edges e) (m .nextEdge) a b (curveOf sent) → r ≡ true
+    pub drawn-taken : {r : Bool} → r ≡ directionTaken (edgeMap edges e) (m .next .edges) a b (curveOf sent) → r ≡ true
         → 11 ≡ firstReason (drawingReasons m a b sent)
     drawn-taken er et = sym (from-later ∙ first-hit 11 _ _ (sym taken-told ∙ sym er ∙ et))
 
-    module _ {r : Bool} (er : r ≡ directionTaken (edgeMap edges e) (m .nextEdge) a b (curveOf sent))
+    module _ {r : Bool} (er : r ≡ directionTaken (edgeMap edges e) (m .next .edges) a b (curveOf sent))
         (et : r ≡ false) where
       from-corners : firstReason (drawingReasons m a b sent)
           ≡ firstReason ((12, cornersDiffer m a b (curveOf sent)) ∷ meetingReasons m (m .edges) (curveOf sent))

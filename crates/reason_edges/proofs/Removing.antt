@@ -25,7 +25,7 @@ use Rattle.form_ranges.specs.Ranges.{lent}
 use Rattle.outcomes.specs.Outcomes.{Formed}
 use Rattle.outcomes.proofs.Formed.{ranges, spent-at, node-left, edge-left, face-left}
 use Rattle.reason_edges.specs.declared.Removal.{Removal}
-use Rattle.reason_edges.specs.Kinds.{removeTicket}
+use Rattle.outcomes.specs.Variants.{removeTicket}
 use Rattle.reason_edges.specs.Parts.{makesOf, faceReasons}
 use Rattle.reason_edges.specs.Judging.{JudgedRemoval}
 

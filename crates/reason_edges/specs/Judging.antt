@@ -19,14 +19,14 @@ use Rattle.map_rows.specs.Rows.{nodesOf, edgesOf, nodeAt}
 use Rattle.form_ranges.specs.Ranges.{lent}
 use Rattle.reason_edges.specs.declared.Judged.{Judged}
 use Rattle.reason_edges.specs.declared.Removal.{Removal}
-use Rattle.reason_edges.specs.Kinds.{addTicket, removeTicket}
+use Rattle.outcomes.specs.Variants.{addTicket, removeTicket}
 use Rattle.reason_edges.specs.Parts.{drawingReasons, growthReasons}
 
 -- a map of these nodes and edges, whose next number is new
 pub record Held (nodes : List ℤ) (n : ℕ) (edges : List ℤ) (e : ℕ) (m : Map) : Type 0 where
   pub node-rows : m .nodes ≡ nodesOf nodes n
   pub edge-rows : m .edges ≡ edgesOf edges e
-  pub rising : numbered 1 (m .nextEdge) (map (λ r. r .number) (m .edges)) ≡ true
+  pub rising : numbered 1 (m .next .edges) (map (λ r. r .number) (m .edges)) ≡ true
   pub bare : bareMarked m ≡ true
 
 -- no reason from 4 on holds: the corner face, and whether it is split

@@ -15,7 +15,7 @@ use Rattle.head.specs.Heads.{spentAt}
 
 -- kinds 11 and 12, of nodes that exist: 5 to 15
 abbrev pub drawingReasons : Map → ℕ → ℕ → List ℤ → Reasons
-drawingReasons m a b sent = curveReasons m sent a b ++ (11, directionTaken m (m .nextEdge) a b (curveOf sent))
+drawingReasons m a b sent = curveReasons m sent a b ++ (11, directionTaken m (m .next .edges) a b (curveOf sent))
     ∷ (12, cornersDiffer m a b (curveOf sent)) ∷ meetingReasons m (m .edges) (curveOf sent)
 
 -- the old face goes, and a second new one is made

@@ -8,7 +8,7 @@ use mir.Syntax.{w64}
 use mir.Facts.{toZ-ofZ}
 use Rattle.integers.specs.Signs.{sent}
 use Rattle.outcomes.proofs.Formed.{decided-refused, decided-carried}
-use Rattle.reason_edges.specs.Kinds.{addTicket}
+use Rattle.outcomes.specs.Variants.{addTicket}
 use Rattle.edit_add.proofs.Added.{judged-told, add-value, add-drawable, drawn-splittable, joined-lent}
 use Rattle.edit_add.proofs.Added.{parted-lent}
 use Rattle.edit_add.proofs.add_edge.Statement.{statement}

@@ -6,7 +6,7 @@ use lib.ListN.{length}
 use borrow.Rule.Slice.PartAt.{part-to-end}
 use Rattle.integers.specs.Signs.{sent}
 use Rattle.form_ranges.specs.Ranges.{lent}
-use Rattle.reason_edges.specs.Kinds.{addTicket}
+use Rattle.outcomes.specs.Variants.{addTicket}
 use Rattle.edit_dispatch.specs.Shaped.{shaped}
 use Rattle.edit_dispatch.proofs.Counts.{test-left, test-taken, two-curve-none, two-curve-read}
 use Rattle.edit_dispatch.proofs.Reading.{shaped-none}

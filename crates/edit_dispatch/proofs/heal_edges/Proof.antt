@@ -3,7 +3,7 @@ use borrow.Author.Needs.{needs}
 use mathlib.Core.Path.{ap, _∙_}
 use Rattle.integers.specs.Signs.{sent}
 use Rattle.form_ranges.specs.Ranges.{lent}
-use Rattle.edit_heal.specs.Kinds.{healTicket}
+use Rattle.outcomes.specs.Variants.{healTicket}
 use Rattle.edit_dispatch.specs.Shaped.{shaped}
 use Rattle.edit_dispatch.proofs.Counts.{two-none, two-read}
 use Rattle.edit_dispatch.proofs.Reading.{shaped-none}

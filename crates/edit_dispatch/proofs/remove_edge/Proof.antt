@@ -3,7 +3,7 @@ use borrow.Author.Needs.{needs}
 use mathlib.Core.Path.{ap, _∙_}
 use Rattle.integers.specs.Signs.{sent}
 use Rattle.form_ranges.specs.Ranges.{lent}
-use Rattle.reason_edges.specs.Kinds.{removeTicket}
+use Rattle.outcomes.specs.Variants.{removeTicket}
 use Rattle.edit_dispatch.specs.Shaped.{shaped}
 use Rattle.edit_dispatch.proofs.Counts.{one-none, one-read}
 use Rattle.edit_dispatch.proofs.Reading.{shaped-none}

@@ -18,7 +18,7 @@ use Rattle.outcomes.proofs.Formed.{counted}
 use Rattle.outcomes.proofs.Formed.{ranges, edge-rows, decided-refused, edge-none}
 use Rattle.head.proofs.Words.{count-natural, count-abs}
 use Rattle.outcomes.proofs.Words.{place-told}
-use Rattle.edit_heal.specs.Kinds.{healTicket}
+use Rattle.outcomes.specs.Variants.{healTicket}
 use Rattle.edit_heal.proofs.Told.{row-missing}
 use Rattle.edit_heal.proofs.heal_edges.Statement.{statement}
 use Rattle.edit_heal.proofs.heal_edges.Tie as tie

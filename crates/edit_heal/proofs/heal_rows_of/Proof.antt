@@ -12,7 +12,7 @@ use Rattle.map_rows.proofs.Rows.{edge-row-of}
 use Rattle.reason_departures.specs.Turning.{jointReasons}
 use Rattle.outcomes.proofs.Formed.{node-rows, edge-rows, counted, decided-refused, decided-carried}
 use Rattle.head.proofs.Words.{count-natural, count-abs}
-use Rattle.edit_heal.specs.Kinds.{healTicket}
+use Rattle.outcomes.specs.Variants.{healTicket}
 use Rattle.edit_heal.specs.Heals.{PartsOf, lateReasons, healedValue, healedRows, healedNumber}
 use Rattle.edit_heal.proofs.Told.{late-few, joint-some, edges-differ, early-reason, late-reason}
 use Rattle.edit_heal.proofs.Healed.{line-counted, heal-carried, joint-row, some-node, value-carried}

@@ -10,7 +10,7 @@ use mir.Val.{toZ, ofZ}
 use mir.Facts.{toZ-ofZ}
 use Rattle.integers.specs.Signs.{sent}
 use Rattle.outcomes.proofs.Formed.{decided-refused, decided-carried}
-use Rattle.reason_edges.specs.Kinds.{removeTicket}
+use Rattle.outcomes.specs.Variants.{removeTicket}
 use Rattle.edit_remove.proofs.Removal.{clearable, removed-lent, removed-value}
 use Rattle.edit_remove.proofs.remove_edge.Statement.{statement}
 use Rattle.edit_remove.proofs.remove_edge.Tie as tie

@@ -22,7 +22,7 @@ use Rattle.head.proofs.Heads.{room-left}
 use Rattle.outcomes.proofs.Formed.{node-rows, edge-rows, nodes-size, edges-size, decided-refused, decided-carried, done}
 use Rattle.outcomes.proofs.Formed.{counted}
 use Rattle.outcomes.proofs.Words.{count-natural, count-abs, count-fits, place-told}
-use Rattle.edit_split.specs.Kinds.{splitTicket}
+use Rattle.outcomes.specs.Variants.{splitTicket}
 use Rattle.edit_split.specs.Cuts.{cutRow, startNumber, endNumber, splitNumbers}
 use Rattle.edit_split.proofs.Told.{point-told, point-in, split-missing, row-below, row-is, split-early}
 use Rattle.edit_split.proofs.Told.{split-late}

@@ -124,7 +124,7 @@ returns c row el er =
     let vl = toZ-ofZ {w = w64} {z = a .left} (s .fits .left) in
     let vr = toZ-ofZ {w = w64} {z = a .right} (s .fits .right) in
     let vf = sent {z = fl .result} (fl .ok) in
-    let nx : natAbs (toZ w64 (ofZ w64 (a .h .«next_face»))) ≡ m .nextFace =
+    let nx : natAbs (toZ w64 (ofZ w64 (a .h .«next_face»))) ≡ m .next .faces =
     count-abs (a .h .«next_face») (k .counted .next-face .natural) (k .counted .next-face .most)
     ∙ sym (map-next (a .nodes .now) (a .edges .now) (a .faces .now) (a .h)) in
     let face : fl .result ≡ pos (faceKept (a .makes) row m) = fl .ensures

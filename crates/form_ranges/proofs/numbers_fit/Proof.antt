@@ -37,13 +37,13 @@ asked least {k} {z} n e f g h = sym (ap₂ (numbered least) (e ∙ count-abs z (
 
 module _ (m : Map) where
   abbrev nodes-rise : Bool
-  nodes-rise = numbered 1 (m .nextNode) (map (λ n. n .number) (m .nodes))
+  nodes-rise = numbered 1 (m .next .nodes) (map (λ n. n .number) (m .nodes))
 
   abbrev edges-rise : Bool
-  edges-rise = numbered 1 (m .nextEdge) (map (λ e. e .number) (m .edges))
+  edges-rise = numbered 1 (m .next .edges) (map (λ e. e .number) (m .edges))
 
   abbrev faces-rise : Bool
-  faces-rise = numbered 0 (m .nextFace) (m .faces)
+  faces-rise = numbered 0 (m .next .faces) (m .faces)
 
   no-nodes : nodes-rise ≡ false → false ≡ numbers m
   unfolding numbers

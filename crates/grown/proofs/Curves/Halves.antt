@@ -53,17 +53,17 @@ module _ (e a b : ℕ) (p : Point) (m : Map) where
   others = without-lines e (renamed e a b m .edges)
       ∙ ap (without lineNumber e) (led-alike (fwd e) (fwd a) (bwd e) (bwd b) m .lines)
 
-  first : firstHalf (lineOf (edge (renamed e a b m) e)) (m .nextNode) a p
-      ≡ firstHalf (lineOf (edge m e)) (m .nextNode) a p
-  first = ap (λ (l : Line). firstHalf l (m .nextNode) a p) (led-line (fwd e) (fwd a) (bwd e) (bwd b) m e)
+  first : firstHalf (lineOf (edge (renamed e a b m) e)) (m .next .nodes) a p
+      ≡ firstHalf (lineOf (edge m e)) (m .next .nodes) a p
+  first = ap (λ (l : Line). firstHalf l (m .next .nodes) a p) (led-line (fwd e) (fwd a) (bwd e) (bwd b) m e)
 
-  second : secondHalf (lineOf (edge (renamed e a b m) e)) (m .nextNode) b p
-      ≡ secondHalf (lineOf (edge m e)) (m .nextNode) b p
-  second = ap (λ (l : Line). secondHalf l (m .nextNode) b p) (led-line (fwd e) (fwd a) (bwd e) (bwd b) m e)
+  second : secondHalf (lineOf (edge (renamed e a b m) e)) (m .next .nodes) b p
+      ≡ secondHalf (lineOf (edge m e)) (m .next .nodes) b p
+  second = ap (λ (l : Line). secondHalf l (m .next .nodes) b p) (led-line (fwd e) (fwd a) (bwd e) (bwd b) m e)
 
-  kept : (row : Edge) → lineOf row ≡ firstHalf (lineOf (edge (renamed e a b m) e)) (m .nextNode) a p
+  kept : (row : Edge) → lineOf row ≡ firstHalf (lineOf (edge (renamed e a b m) e)) (m .next .nodes) a p
       → map lineOf (atEdge e (λ r. row) (renamed e a b m) .edges)
-      ≡ map (replaced e (firstHalf (lineOf (edge m e)) (m .nextNode) a p)) (lines m)
+      ≡ map (replaced e (firstHalf (lineOf (edge m e)) (m .next .nodes) a p)) (lines m)
   kept row q = replaced-lines e row (renamed e a b m)
       ∙ (λ i. map (replaced e ((q ∙ first) i)) (led-alike (fwd e) (fwd a) (bwd e) (bwd b) m .lines i))
 
@@ -71,31 +71,31 @@ module _ (e : ℕ) (p : Point) (m : Map) where
   -- kind 7
   pub split-new-becomes :
       Becomes (split false e p m)
-      (without lineNumber e (lines m) ++ (firstHalf (lineOf (edge m e)) (m .nextNode) (m .nextEdge) p
-      ∷ secondHalf (lineOf (edge m e)) (m .nextNode) (m .nextEdge + 1) p ∷ []))
-      (places m ++ (record { number = m .nextNode; at = p } ∷ []))
+      (without lineNumber e (lines m) ++ (firstHalf (lineOf (edge m e)) (m .next .nodes) (m .next .edges) p
+      ∷ secondHalf (lineOf (edge m e)) (m .next .nodes) (m .next .edges + 1) p ∷ []))
+      (places m ++ (record { number = m .next .nodes; at = p } ∷ []))
   unfolding split
   split-new-becomes =
       record {
-        lines = map-append lineOf (withoutEdge e (renamed e (m .nextEdge) (m .nextEdge + 1) m .edges)) (_ ∷ _ ∷ [])
-            ∙ (λ i. others e (m .nextEdge) (m .nextEdge + 1) p m i
-            ++ (first e (m .nextEdge) (m .nextEdge + 1) p m i ∷ second e (m .nextEdge) (m .nextEdge + 1) p m i ∷ []));
+        lines = map-append lineOf (withoutEdge e (renamed e (m .next .edges) (m .next .edges + 1) m .edges)) (_ ∷ _ ∷ [])
+            ∙ (λ i. others e (m .next .edges) (m .next .edges + 1) p m i
+            ++ (first e (m .next .edges) (m .next .edges + 1) p m i ∷ second e (m .next .edges) (m .next .edges + 1) p m i ∷ []));
         places = map-append placeOf (m .nodes) (_ ∷ []);
       }
 
   -- kind 8
   pub split-mod-becomes :
       Becomes (split true e p m)
-      (map (replaced e (firstHalf (lineOf (edge m e)) (m .nextNode) e p)) (lines m)
-      ++ (secondHalf (lineOf (edge m e)) (m .nextNode) (m .nextEdge) p ∷ []))
-      (places m ++ (record { number = m .nextNode; at = p } ∷ []))
+      (map (replaced e (firstHalf (lineOf (edge m e)) (m .next .nodes) e p)) (lines m)
+      ++ (secondHalf (lineOf (edge m e)) (m .next .nodes) (m .next .edges) p ∷ []))
+      (places m ++ (record { number = m .next .nodes; at = p } ∷ []))
   unfolding split
   split-mod-becomes =
-      let row = startHalf (edge (renamed e e (m .nextEdge) m) e) (m .nextNode) e (m .nextEdge) p in
-      let row′ = endHalf (edge (renamed e e (m .nextEdge) m) e) (m .nextNode) e (m .nextEdge) p in
+      let row = startHalf (edge (renamed e e (m .next .edges) m) e) (m .next .nodes) e (m .next .edges) p in
+      let row′ = endHalf (edge (renamed e e (m .next .edges) m) e) (m .next .nodes) e (m .next .edges) p in
       record {
-        lines = map-append lineOf (atEdge e (λ r. row) (renamed e e (m .nextEdge) m) .edges) (row′ ∷ [])
-            ∙ (λ i. kept e e (m .nextEdge) p m row refl i ++ (second e e (m .nextEdge) p m i ∷ []));
+        lines = map-append lineOf (atEdge e (λ r. row) (renamed e e (m .next .edges) m) .edges) (row′ ∷ [])
+            ∙ (λ i. kept e e (m .next .edges) p m row refl i ++ (second e e (m .next .edges) p m i ∷ []));
         places = map-append placeOf (m .nodes) (_ ∷ []);
       }
 
@@ -121,15 +121,15 @@ module _ (e f : ℕ) (m : Map) where
   -- kind 9
   pub heal-new-becomes :
       Becomes (heal false e f m) (without lineNumber e (without lineNumber f (lines m))
-      ++ (healedRow (m .nextEdge) e f m ∷ [])) (without placeNumber (Option·getD (joint m e f) 0) (places m))
+      ++ (healedRow (m .next .edges) e f m ∷ [])) (without placeNumber (Option·getD (joint m e f) 0) (places m))
   unfolding heal
   heal-new-becomes =
       record {
-        lines = map-append lineOf (withoutEdge e (withoutEdge f (rejoined (m .nextEdge) .edges))) (_ ∷ [])
-            ∙ ap (λ (l : List Line). l ++ (healedRow (m .nextEdge) e f m ∷ []))
-            (without-lines e (withoutEdge f (rejoined (m .nextEdge) .edges))
+        lines = map-append lineOf (withoutEdge e (withoutEdge f (rejoined (m .next .edges) .edges))) (_ ∷ [])
+            ∙ ap (λ (l : List Line). l ++ (healedRow (m .next .edges) e f m ∷ []))
+            (without-lines e (withoutEdge f (rejoined (m .next .edges) .edges))
             ∙ ap (without lineNumber e)
-            (without-lines f (rejoined (m .nextEdge) .edges) ∙ ap (without lineNumber f) (same-lines (m .nextEdge))));
+            (without-lines f (rejoined (m .next .edges) .edges) ∙ ap (without lineNumber f) (same-lines (m .next .edges))));
         places = without-places (Option·getD (joint m e f) 0) (m .nodes);
       }
 

@@ -137,7 +137,7 @@ module _ (m : Map) (G : Good m) (e f : ℕ) (h : Heal m e f) where
 
   pub surveyed-9 : Surveyed (heal false e f m)
   surveyed-9 = let b = heal-new-becomes e f m in surveyed-by (heal false e f m) (b .lines) (b .places)
-      (heals (m .nextEdge) (without lineNumber e (without lineNumber f (lines m))) []
+      (heals (m .next .edges) (without lineNumber e (without lineNumber f (lines m))) []
       (sym (append-nil (without lineNumber e (without lineNumber f (lines m))))))
 
   -- the healed line stands where e stood

@@ -124,9 +124,9 @@ module _ (m : Map) (G : Good m) where
 
   -- a curve that a ticket draws
   drawn-in : (u v : ℕ) (c : Curve) → hasNode m u ≡ true → hasNode m v ≡ true → Sent m c u v → edgeWrong (m .edges) c
-      ≡ false → Survey (lines m ++ (newLine (m .nextEdge) u v c ∷ [])) (places m)
-  drawn-in u v c hu hv s w = survey-append (lines m) (places m) (newLine (m .nextEdge) u v c) (survey m G)
-      (sent-drawable c u v (m .edges) s w) (sent-sited (m .nextEdge) u v c hu hv s)
+      ≡ false → Survey (lines m ++ (newLine (m .next .edges) u v c ∷ [])) (places m)
+  drawn-in u v c hu hv s w = survey-append (lines m) (places m) (newLine (m .next .edges) u v c) (survey m G)
+      (sent-drawable c u v (m .edges) s w) (sent-sited (m .next .edges) u v c hu hv s)
 
   pub surveyed-4 : (s : Sizes) (u v : ℕ) (c : Curve) → AddLone s m u v c → Surveyed (addIsoEdge u v c m)
   surveyed-4 s u v c h = by (addIsoEdge-becomes u v c m)
@@ -173,27 +173,27 @@ module _ (m : Map) (G : Good m) where
   pub surveyed-7 : (more : ℕ) (s : Sizes) (e : ℕ) (p : Point) → Split more s m e p → Surveyed (split false e p m)
   surveyed-7 more s e p h = by (split-new-becomes e p m)
       (subst (λ (k : ℕ). Survey (without lineNumber k (lines m)
-      ++ (firstHalf l n (m .nextEdge) p ∷ secondHalf l n (m .nextEdge + 1) p ∷ []))
+      ++ (firstHalf l n (m .next .edges) p ∷ secondHalf l n (m .next .edges + 1) p ∷ []))
       (places m ++ (record { number = n; at = p } ∷ []))) (numbered e (h .has))
-      (survey-split-new (lines m) (places m) l n (m .nextEdge) (m .nextEdge + 1) p (survey m G) (lines-once m G)
+      (survey-split-new (lines m) (places m) l n (m .next .edges) (m .next .edges + 1) p (survey m G) (lines-once m G)
       (row-in e (h .has)) (h .on) (h .in-range) (place-fresh m G) (free-point p (h .free))))
     where
       l : Line
       l = lineOf (edge m e)
 
       n : ℕ
-      n = m .nextNode
+      n = m .next .nodes
 
   pub surveyed-8 : (more : ℕ) (s : Sizes) (e : ℕ) (p : Point) → Split more s m e p → Surveyed (split true e p m)
   surveyed-8 more s e p h = by (split-mod-becomes e p m)
       (subst (λ (k : ℕ). Survey (map (replaced k (firstHalf l n e p)) (lines m)
-      ++ (secondHalf l n (m .nextEdge) p ∷ [])) (places m ++ (record { number = n; at = p } ∷ [])))
+      ++ (secondHalf l n (m .next .edges) p ∷ [])) (places m ++ (record { number = n; at = p } ∷ [])))
       (numbered e (h .has))
-      (survey-split-mod (lines m) (places m) l n e (m .nextEdge) p (survey m G) (lines-once m G) (row-in e (h .has))
+      (survey-split-mod (lines m) (places m) l n e (m .next .edges) p (survey m G) (lines-once m G) (row-in e (h .has))
       (h .on) (h .in-range) (place-fresh m G) (free-point p (h .free))))
     where
       l : Line
       l = lineOf (edge m e)
 
       n : ℕ
-      n = m .nextNode
+      n = m .next .nodes

@@ -125,10 +125,10 @@ abbrev pub newLine : ℕ → ℕ → ℕ → Curve → Line
 newLine e u v c = record { number = e; start = u; end = v; curve = c }
 
 drawn-becomes : (u v : ℕ) (c : Curve) (f : ℕ) (m : Map)
-    → Becomes (drawn u v c f m) (lines m ++ (newLine (m .nextEdge) u v c ∷ [])) (places m)
+    → Becomes (drawn u v c f m) (lines m ++ (newLine (m .next .edges) u v c ∷ [])) (places m)
 unfolding drawn
 drawn-becomes u v c f m =
-    becomes-alike (alike-join (linkEdge-alike (m .nextEdge) _) (faces-alike (isEither u v) none _))
+    becomes-alike (alike-join (linkEdge-alike (m .next .edges) _) (faces-alike (isEither u v) none _))
     (record { lines = map-append lineOf (m .edges) (_ ∷ []); places = refl })
 
 undrawn-becomes : (e f : ℕ) (m : Map) → Becomes (undrawn e f m) (without lineNumber e (lines m)) (places m)
@@ -147,7 +147,7 @@ undrawn-becomes e f m = becomes-alike (faces-alike _ (some f) _)
 
 -- kind 1
 pub addIsoNode-becomes : (p : Point) (m : Map)
-    → Becomes (addIsoNode p m) (lines m) (places m ++ (record { number = m .nextNode; at = p } ∷ []))
+    → Becomes (addIsoNode p m) (lines m) (places m ++ (record { number = m .next .nodes; at = p } ∷ []))
 unfolding addIsoNode
 addIsoNode-becomes p m = record { lines = refl; places = map-append placeOf (m .nodes) (_ ∷ []) }
 
@@ -172,7 +172,7 @@ removeIsoNode-becomes n m = record { lines = refl; places = without-places n (m 
 
 -- kind 4
 pub addIsoEdge-becomes : (u v : ℕ) (c : Curve) (m : Map)
-    → Becomes (addIsoEdge u v c m) (lines m ++ (newLine (m .nextEdge) u v c ∷ [])) (places m)
+    → Becomes (addIsoEdge u v c m) (lines m ++ (newLine (m .next .edges) u v c ∷ [])) (places m)
 unfolding addIsoEdge
 addIsoEdge-becomes u v c m = drawn-becomes u v c _ m
 
@@ -201,14 +201,14 @@ changeEdgeGeom-becomes e c m = record {
 
 -- kinds 11 and 12
 pub addEdge-becomes : (news : Bool) (u v : ℕ) (c : Curve) (m : Map)
-    → Becomes (addEdge news u v c m) (lines m ++ (newLine (m .nextEdge) u v c ∷ [])) (places m)
+    → Becomes (addEdge news u v c m) (lines m ++ (newLine (m .next .edges) u v c ∷ [])) (places m)
 unfolding addEdge
 addEdge-becomes news u v c m = go (splitsFace u v c m) (drawn-becomes u v c (cornerFace m u (startWay c)) m)
   where
-    go : (b : Bool) {m′ : Map} → Becomes m′ (lines m ++ (newLine (m .nextEdge) u v c ∷ [])) (places m)
-        → Becomes (cond b (splitFace news (m .nextEdge) m′) m′) (lines m ++ (newLine (m .nextEdge) u v c ∷ []))
+    go : (b : Bool) {m′ : Map} → Becomes m′ (lines m ++ (newLine (m .next .edges) u v c ∷ [])) (places m)
+        → Becomes (cond b (splitFace news (m .next .edges) m′) m′) (lines m ++ (newLine (m .next .edges) u v c ∷ []))
         (places m)
-    go true {m′} h = becomes-alike (splitFace-alike news (m .nextEdge) m′) h
+    go true {m′} h = becomes-alike (splitFace-alike news (m .next .edges) m′) h
     go false h = h
 
 -- kinds 13 and 14

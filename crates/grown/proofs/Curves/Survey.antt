@@ -85,10 +85,10 @@ module _ (m : Map) (G : Good m) where
   places-once : Distinct (map placeNumber (places m))
   places-once = rw (map-map placeNumber placeOf (m .nodes)) (G .woven .planar .nodes-once)
 
-  pub place-fresh : List·Memᴰ (m .nextNode) (map placeNumber (places m)) → ⊥
+  pub place-fresh : List·Memᴰ (m .next .nodes) (map placeNumber (places m)) → ⊥
   place-fresh k =
-      let b = numbered-ranked m (G .woven .planar .edges-once) (G .numbered) .nodes .bounds (m .nextNode)
-      (subst (List·Memᴰ (m .nextNode)) (map-map placeNumber placeOf (m .nodes)) k) in
+      let b = numbered-ranked m (G .woven .planar .edges-once) (G .numbered) .nodes .bounds (m .next .nodes)
+      (subst (List·Memᴰ (m .next .nodes)) (map-map placeNumber placeOf (m .nodes)) k) in
       omega (arith, b .1)
 
   -- the nodes that an edge names are there

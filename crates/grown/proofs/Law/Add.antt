@@ -35,13 +35,13 @@ use Rattle.grown.proofs.Law.Lawful.{Obeys, Lawful}
 
 module _ (m : Map) (u v : ℕ) (c : Curve) (φ : ℕ) (free : Free m u v c) where
   abbrev e : ℕ
-  e = m .nextEdge
+  e = m .next .edges
 
   abbrev f : Dart
-  f = fwd (m .nextEdge)
+  f = fwd (m .next .edges)
 
   abbrev b : Dart
-  b = bwd (m .nextEdge)
+  b = bwd (m .next .edges)
 
   abbrev D : Map
   D = drawn u v c φ m
@@ -50,7 +50,7 @@ module _ (m : Map) (u v : ℕ) (c : Curve) (φ : ℕ) (free : Free m u v c) wher
   W = way (appended m u v c φ)
 
   abbrev T : Dart → ℕ
-  T = with-edge (m .nextEdge) u v (leaves m)
+  T = with-edge (m .next .edges) u v (leaves m)
 
   -- all directed edges, the new ones first
   abbrev all : List Dart
@@ -118,6 +118,6 @@ module _ (m : Map) (L : Lawful m) (s : Sizes) (u v : ℕ) (c : Curve) where
     unfolding addEdge
     add-edge-obeys = go (splitsFace u v c m)
       where
-        go : (x : Bool) → Obeys (cond x (splitFace news (m .nextEdge) (drawnIn u v c m)) (drawnIn u v c m))
-        go true = split-face-obeys (m .nextEdge) (drawnIn u v c m) drawn-in-obeys
+        go : (x : Bool) → Obeys (cond x (splitFace news (m .next .edges) (drawnIn u v c m)) (drawnIn u v c m))
+        go true = split-face-obeys (m .next .edges) (drawnIn u v c m) drawn-in-obeys
         go false = drawn-in-obeys

@@ -89,7 +89,7 @@ module _ (m : Map) (L : Lawful m) (e f : ℕ) (q : Heal m e f) where
   in-others : {x : ℕ} → List·Memᴰ x (nums (map arcOf rest)) → (r : Edge) × List·Memᴰ r rest × (r .number ≡ x)
   in-others {x} k = Memᴰ·of-map numberOf rest (subst (List·Memᴰ x) (map-map (λ (a : Arc). a .num) arcOf rest) k)
 
-  below : {r : Edge} → List·Memᴰ r (m .edges) → r .number < m .nextEdge
+  below : {r : Edge} → List·Memᴰ r (m .edges) → r .number < m .next .edges
   below {r} k = L .edges-below (r .number) (Memᴰ·map numberOf k)
 
   new-e : List·Memᴰ e (nums (map arcOf rest)) → ⊥
@@ -98,7 +98,7 @@ module _ (m : Map) (L : Lawful m) (e f : ℕ) (q : Heal m e f) where
   pub new-f : List·Memᴰ f (nums (map arcOf rest)) → ⊥
   new-f k = let x = in-others k in rest-other f (m .edges) (keep-in _ (withoutEdge f (m .edges)) (x .1) .0) (x .2)
 
-  new-next : List·Memᴰ (m .nextEdge) (nums (map arcOf rest)) → ⊥
+  new-next : List·Memᴰ (m .next .edges) (nums (map arcOf rest)) → ⊥
   new-next k = let x = in-others k in
       let y = below (keep-in _ (m .edges) (keep-in _ (withoutEdge f (m .edges)) (x .1) .0) .0) in
       let z = x .2 in
@@ -171,17 +171,17 @@ module _ (m : Map) (L : Lawful m) (e f : ℕ) (q : Heal m e f) where
             (map (relinked h c d) (m .edges)) (λ r k. ap (λ (x : ℕ). not (same x f)) (put-number r))
             ∙ ap (map put) (left-out m f (relinked h c d) (λ r. refl) once-m (q .has-other))
 
-  pub new-healed : Healed m (heal false e f m) e (m .nextEdge) c d rest
+  pub new-healed : Healed m (heal false e f m) e (m .next .edges) c d rest
   unfolding heal healed
   new-healed = record {
-    rows = new-rows (m .nextEdge);
+    rows = new-rows (m .next .edges);
     old-rows = old-rows;
     own = own-part m e f;
     named = named;
     new-h = new-next;
   }
     where
-      named : fwd (m .nextEdge) ≢ rev d
+      named : fwd (m .next .edges) ≢ rev d
       named p = let x = below (edge-there m (d .edge) (dart-has m (seam .second-in)) .0) in
           let y = edge-there m (d .edge) (dart-has m (seam .second-in)) .1 in
           let z = ap (λ (z : Dart). z .edge) p in
@@ -205,7 +205,7 @@ module _ (m : Map) (L : Lawful m) (e f : ℕ) (q : Heal m e f) where
 
   -- kind 9
   pub heal-obeys : Obeys (heal false e f m)
-  heal-obeys = whole-obeys m L e f n c d seam (heal false e f m) (m .nextEdge) rest new-healed
+  heal-obeys = whole-obeys m L e f n c d seam (heal false e f m) (m .next .edges) rest new-healed
 
   -- kind 10
   pub mod-heal-obeys : Obeys (heal true e f m)

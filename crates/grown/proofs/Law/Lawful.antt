@@ -78,8 +78,8 @@ pub record Lawful (m : Map) : Type 0 where
   pub apart : Apart (leaves m) (way m) (directed m)
   pub law : Obeys m
   -- numbers in use are below the next
-  pub nodes-below : (n : ℕ) → List·Memᴰ n (map nodeNumber (m .nodes)) → n < m .nextNode
-  pub edges-below : (e : ℕ) → List·Memᴰ e (map numberOf (m .edges)) → e < m .nextEdge
+  pub nodes-below : (n : ℕ) → List·Memᴰ n (map nodeNumber (m .nodes)) → n < m .next .nodes
+  pub edges-below : (e : ℕ) → List·Memᴰ e (map numberOf (m .edges)) → e < m .next .edges
   -- nothing departs from an isolated node
   pub bare : (n : ℕ) → hasNode m n ≡ true → isolated m n ≡ true → (d : Dart) → List·Memᴰ d (directed m) → leaves m d
       ≡ n → ⊥

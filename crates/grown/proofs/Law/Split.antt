@@ -233,32 +233,32 @@ module _ (m : Map) (e : ℕ) (p : Point) (L : Lawful m) (has : hasEdge m e ≡ t
   once-m = subst Distinct (nums-rows m) (L .once)
 
   -- the numbers of the others
-  other : {x : ℕ} → List·Memᴰ x (nums (map arcOf (withoutEdge e (m .edges)))) → (x < m .nextEdge) × (x ≢ e)
+  other : {x : ℕ} → List·Memᴰ x (nums (map arcOf (withoutEdge e (m .edges)))) → (x < m .next .edges) × (x ≢ e)
   other {x} k = go (Memᴰ·of-map numberOf (withoutEdge e (m .edges))
       (subst (List·Memᴰ x) (map-map (λ (a : Arc). a .num) arcOf (withoutEdge e (m .edges))) k))
     where
-      go : (q : Edge) × List·Memᴰ q (withoutEdge e (m .edges)) × (q .number ≡ x) → (x < m .nextEdge) × (x ≢ e)
+      go : (q : Edge) × List·Memᴰ q (withoutEdge e (m .edges)) × (q .number ≡ x) → (x < m .next .edges) × (x ≢ e)
       go y = (
-        subst (λ (i : ℕ). i < m .nextEdge) (y .2)
+        subst (λ (i : ℕ). i < m .next .edges) (y .2)
             (L .edges-below (y .0 .number)
             (Memᴰ·map numberOf (perm-in (Permᴰ·symm (rows-m m e (λ r. r) (λ r. refl) once-m has))
             (List·Memᴰ·tail (y .1))))),
         λ q. rest-other e (m .edges) (y .1) (y .2 ∙ q),
       )
 
-  e-below : e < m .nextEdge
-  e-below = subst (λ (i : ℕ). i < m .nextEdge) (edge-there m e has .1)
+  e-below : e < m .next .edges
+  e-below = subst (λ (i : ℕ). i < m .next .edges) (edge-there m e has .1)
       (L .edges-below (edge m e .number) (Memᴰ·map numberOf (edge-there m e has .0)))
 
-  node-new : List·Memᴰ (m .nextNode) (map nodeNumber (m .nodes)) → ⊥
-  node-new k = let h = L .nodes-below (m .nextNode) k in omega arith
+  node-new : List·Memᴰ (m .next .nodes) (map nodeNumber (m .nodes)) → ⊥
+  node-new k = let h = L .nodes-below (m .next .nodes) k in omega arith
 
   module _ (a b : ℕ) where
     first-of : Edge → Edge
-    first-of x = startHalf x (m .nextNode) a b p
+    first-of x = startHalf x (m .next .nodes) a b p
 
     second-of : Edge → Edge
-    second-of x = endHalf x (m .nextNode) a b p
+    second-of x = endHalf x (m .next .nodes) a b p
 
     target : List Edge
     target = first-of (relinked e a b (edge m e)) ∷ second-of (relinked e a b (edge m e))
@@ -292,26 +292,26 @@ module _ (m : Map) (e : ℕ) (p : Point) (L : Lawful m) (has : hasEdge m e ≡ t
         (map (relinked e a b) (withoutEdge e (m .edges))) (second-of (relinked e a b (edge m e)) ∷ []))
         (List·Permᴰ·cons refl (one-last _ _))))
 
-  pub new-halves : InHalves m (split false e p m) e (m .nextNode) (m .nextEdge) (m .nextEdge + 1) p
+  pub new-halves : InHalves m (split false e p m) e (m .next .nodes) (m .next .edges) (m .next .edges + 1) p
   unfolding split target first-of second-of
   new-halves = record {
     has = has;
     free = free;
     on = on;
-    rows = new-rows (m .nextEdge) (m .nextEdge + 1);
+    rows = new-rows (m .next .edges) (m .next .edges + 1);
     new-node = node-new;
     differ = λ q. omega (arith, q);
     new-a = λ k. omega (arith, other k .0);
     new-b = λ k. omega (arith, other k .0);
   }
 
-  pub kept-halves : InHalves m (split true e p m) e (m .nextNode) e (m .nextEdge) p
+  pub kept-halves : InHalves m (split true e p m) e (m .next .nodes) e (m .next .edges) p
   unfolding split atEdge target first-of second-of
   kept-halves = record {
     has = has;
     free = free;
     on = on;
-    rows = kept-rows e (m .nextEdge);
+    rows = kept-rows e (m .next .edges);
     new-node = node-new;
     differ = λ q. omega (arith, e-below, q);
     new-a = λ k. other k .1 refl;
@@ -320,8 +320,8 @@ module _ (m : Map) (e : ℕ) (p : Point) (L : Lawful m) (has : hasEdge m e ≡ t
 
   -- kind 7
   pub split-obeys : Obeys (split false e p m)
-  split-obeys = halves-obey m (split false e p m) e (m .nextNode) (m .nextEdge) (m .nextEdge + 1) p L new-halves
+  split-obeys = halves-obey m (split false e p m) e (m .next .nodes) (m .next .edges) (m .next .edges + 1) p L new-halves
 
   -- kind 8
   pub mod-split-obeys : Obeys (split true e p m)
-  mod-split-obeys = halves-obey m (split true e p m) e (m .nextNode) e (m .nextEdge) p L kept-halves
+  mod-split-obeys = halves-obey m (split true e p m) e (m .next .nodes) e (m .next .edges) p L kept-halves

@@ -142,7 +142,7 @@ module _ {N : ℕ} {ls : List Line} (s : Sheet N ls) where
 
 -- ---- the lines after a ticket
 
-module _ (s : Sizes) (m : Map) (L : Lawful m) (one : 1 ≤ m .nextEdge) (sheet : Sheet (m .nextEdge) (lines m)) where
+module _ (s : Sizes) (m : Map) (L : Lawful m) (one : 1 ≤ m .next .edges) (sheet : Sheet (m .next .edges) (lines m)) where
   -- the halves of a curve have no more points than it
   few-halves : (more e : ℕ) (p : Point) → Split more s m e p
       → (length (points (front p (edge m e .curve))) ≤ maxPoints)
@@ -172,8 +172,8 @@ module _ (s : Sizes) (m : Map) (L : Lawful m) (one : 1 ≤ m .nextEdge) (sheet :
       (sheet-at sheet (natAbs e) (redrawn (curveOf c)) (λ l q. q) (λ l. facts.change s m e c h .sent .most))
   carried-sheet (NewEdgesSplit e x y) h =
       let k = few-halves 2 (natAbs e) (point x y) (facts.split-new s m e x y h) in
-      let a = firstHalf (lineOf (edge m (natAbs e))) (m .nextNode) (m .nextEdge) (point x y) in
-      let b = secondHalf (lineOf (edge m (natAbs e))) (m .nextNode) (m .nextEdge + 1) (point x y) in
+      let a = firstHalf (lineOf (edge m (natAbs e))) (m .next .nodes) (m .next .edges) (point x y) in
+      let b = secondHalf (lineOf (edge m (natAbs e))) (m .next .nodes) (m .next .edges + 1) (point x y) in
       by-lines (split-new-becomes (natAbs e) (point x y) m .lines
       ∙ sym (append-assoc (without lineNumber (natAbs e) (lines m)) (a ∷ []) (b ∷ [])))
       (sheet-more (sheet-more (sheet-less sheet (natAbs e)) a refl one (k .0)) b refl (omega arith) (k .1))
@@ -181,7 +181,7 @@ module _ (s : Sizes) (m : Map) (L : Lawful m) (one : 1 ≤ m .nextEdge) (sheet :
       let k = few-halves 1 (natAbs e) (point x y) (facts.split-mod s m e x y h) in
       by-lines (split-mod-becomes (natAbs e) (point x y) m .lines)
       (sheet-more (sheet-at sheet (natAbs e)
-      (λ l. firstHalf (lineOf (edge m (natAbs e))) (m .nextNode) (natAbs e) (point x y)) (λ l q. refl)
+      (λ l. firstHalf (lineOf (edge m (natAbs e))) (m .next .nodes) (natAbs e) (point x y)) (λ l q. refl)
       (λ l. k .0)) _ refl one (k .1))
   carried-sheet (NewEdgeHeal e f) h =
       by-lines (heal-new-becomes (natAbs e) (natAbs f) m .lines)
@@ -248,11 +248,11 @@ module _ (l : Lent) (form : inForm l ≡ true) (law : obeysLaw (mapOf l) ≡ tru
   in-form-lawful : Lawful (mapOf l)
   in-form-lawful = formed-lawful (mapOf l) (both .1) (λ r k. in-form-points l form r k .least) law
 
-  first-edge : 1 ≤ mapOf l .nextEdge
+  first-edge : 1 ≤ mapOf l .next .edges
   unfolding mapOf
   first-edge = within-least 1 (suc lastNumber) (l .head .«next_edge») (ranged-is l (both .0) .next-edge)
 
-  in-form-sheet : Sheet (mapOf l .nextEdge) (lines (mapOf l))
+  in-form-sheet : Sheet (mapOf l .next .edges) (lines (mapOf l))
   in-form-sheet = record {
     once = subst Distinct (sym (map-map lineNumber lineOf (mapOf l .edges)))
         (formed-is (mapOf l) (both .1) .numbers .edges .distinct);

@@ -22,10 +22,10 @@ add-lone-ranked u v c m h r = drawn-ranked u v c (Option·getD (node m u .face) 
     (node-face-in m u h (ranked-faces m r)) r
 
 -- the new row is found
-pub drawn-has : (u v : ℕ) (c : Curve) (f : ℕ) (m : Map) → hasEdge (drawn u v c f m) (m .nextEdge) ≡ true
+pub drawn-has : (u v : ℕ) (c : Curve) (f : ℕ) (m : Map) → hasEdge (drawn u v c f m) (m .next .edges) ≡ true
 drawn-has u v c f m =
-    outline-has (drawn u v c f m) (drawnOutline (m .nextEdge) u v f)
-    (subst (λ (os : List Outline). List·Memᴰ (drawnOutline (m .nextEdge) u v f) os)
+    outline-has (drawn u v c f m) (drawnOutline (m .next .edges) u v f)
+    (subst (λ (os : List Outline). List·Memᴰ (drawnOutline (m .next .edges) u v f) os)
     (sym (drawn-shape u v c f m .outlines)) (Memᴰ·append-right (outlines m) (List·Memᴰ·head refl)))
 
 pub add-edge-ranked : (news : Bool) (u v : ℕ) (c : Curve) (m : Map) → hasNode m u ≡ true → RankedMap m
@@ -39,7 +39,7 @@ add-edge-ranked news u v c m h r = go (splitsFace u v c m)
     joined : RankedMap (drawnIn u v c m)
     joined = drawn-ranked u v c f m (corner-in m u (startWay c) h (ranked-faces m r)) r
 
-    go : (b : Bool) → RankedMap (cond b (splitFace news (m .nextEdge) (drawnIn u v c m)) (drawnIn u v c m))
-    go true = split-face-ranked news (m .nextEdge) (drawnIn u v c m) (ranked-distinct (drawnIn u v c m) joined)
+    go : (b : Bool) → RankedMap (cond b (splitFace news (m .next .edges) (drawnIn u v c m)) (drawnIn u v c m))
+    go true = split-face-ranked news (m .next .edges) (drawnIn u v c m) (ranked-distinct (drawnIn u v c m) joined)
         (drawn-has u v c f m) joined
     go false = joined

@@ -83,8 +83,8 @@ marked-number u v n = go (isEither u v n)
 pub drawn-ranked : (u v : ℕ) (c : Curve) (f : ℕ) (m : Map) → List·Memᴰ f (m .faces) → RankedMap m
     → RankedMap (drawn u v c f m)
 drawn-ranked u v c f m k r = ranked-shape {m = drawn u v c f m} (drawn-shape u v c f m) (record {
-  nodes = rising-nodes (m .nextNode) (marked u v) (m .nodes) (λ n j. marked-number u v n) (r .nodes);
-  edges = rising-outlines (m .nextEdge) (outlines m) o (r .first-edge) refl (r .edges);
+  nodes = rising-nodes (m .next .nodes) (marked u v) (m .nodes) (λ n j. marked-number u v n) (r .nodes);
+  edges = rising-outlines (m .next .edges) (outlines m) o (r .first-edge) refl (r .edges);
   faces = r .faces;
   zero = r .zero;
   placed = placed-map (marked u v) (m .nodes) (λ n j. marked-placed u v o refl refl n (r .placed n j));
@@ -98,7 +98,7 @@ drawn-ranked u v c f m k r = ranked-shape {m = drawn u v c f m} (drawn-shape u v
 })
   where
     o : Outline
-    o = drawnOutline (m .nextEdge) u v f
+    o = drawnOutline (m .next .edges) u v f
 
 -- ---- an edge undrawn
 

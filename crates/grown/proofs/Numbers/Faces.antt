@@ -162,7 +162,7 @@ module _ (m : Map) (s : Shares) (dis : Distinct (nums (arcs m))) {fs : List ℕ}
               (row .1)
 
   shared-ranked : {c : ℕ} → Rising 0 c fs → firstOr 1 fs ≡ 0
-      → Ranked (sharedOut s m .nodes) (outlines (sharedOut s m)) fs (m .nextNode) (m .nextEdge) c
+      → Ranked (sharedOut s m .nodes) (outlines (sharedOut s m)) fs (m .next .nodes) (m .next .edges) c
   unfolding sharedOut
   shared-ranked rise z =
       let O : outlines (sharedOut s m) ≡ map shared-edge (outlines m) =
@@ -222,7 +222,7 @@ pub split-face-ranked : (news : Bool) (e : ℕ) (m : Map) → Distinct (nums (ar
 unfolding splitFace sharedOut
 split-face-ranked news e m dis h r =
     let old = bears m (fwd e) in
-    let a = m .nextFace in
+    let a = m .next .faces in
     let goes = news && not (same old 0) in
     let b = cond goes (a + 1) old in
     let k = bears-in m (fwd e) h (ranked-faces m r) in
@@ -240,8 +240,8 @@ split-face-ranked news e m dis h r =
       nodes = refl;
       outlines = refl;
       faces = refl;
-      next-node = add-zero (m .nextNode);
-      next-edge = add-zero (m .nextEdge);
+      next-node = add-zero (m .next .nodes);
+      next-edge = add-zero (m .next .edges);
       next-face = refl;
     })
     (shared-ranked m s dis {fs = splitList goes old a (m .faces)}

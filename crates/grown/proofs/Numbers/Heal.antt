@@ -85,7 +85,7 @@ abbrev pub healedOutline : Bool → ℕ → ℕ → Map → Outline
 healedOutline keeps e f m =
     record {
       arc = record {
-        num = cond keeps e (m .nextEdge);
+        num = cond keeps e (m .next .edges);
         from = leaves m (parts m e f .0);
         to = arrives m (parts m e f .1);
       };
@@ -130,7 +130,7 @@ heal-outlines true e f m =
 heal-outlines false e f m =
     let c = parts m e f .0 in
     let d = parts m e f .1 in
-    let h = m .nextEdge in
+    let h = m .next .edges in
     let m′ = renaming c (fwd h) (rev d) (bwd h) m in
     let row : Edge = healedEdge e f h m m′ in
     map-append outlineOf (withoutEdge e (withoutEdge f (m′ .edges))) (row ∷ [])
@@ -202,9 +202,9 @@ heal-ranked keeps e f m he hf ne h r =
       nodes = refl;
       outlines = heal-outlines keeps e f m;
       faces = refl;
-      next-node = add-zero (m .nextNode);
+      next-node = add-zero (m .next .nodes);
       next-edge = refl;
-      next-face = add-zero (m .nextFace);
+      next-face = add-zero (m .next .faces);
     })
     (replaced-ranked (heal-replaced e f b x os keeps refl ne oe (in-row e he) (edge-there m e he .1))
     (heal-rising e f b x os keeps refl (r .first-edge) (r .edges)) (low keeps) side meeting
@@ -214,7 +214,7 @@ heal-ranked keeps e f m he hf ne h r =
     os = outlines m
 
     b : ℕ
-    b = m .nextEdge
+    b = m .next .edges
 
     x : Outline
     x = healedOutline keeps e f m
@@ -225,7 +225,7 @@ heal-ranked keeps e f m he hf ne h r =
     in-row : (i : ℕ) → hasEdge m i ≡ true → List·Memᴰ (outlineOf (edge m i)) (outlines m)
     in-row i k = Memᴰ·map outlineOf (edge-there m i k .0)
 
-    low : (k : Bool) → 1 ≤ m .nextEdge + cond k 0 1
+    low : (k : Bool) → 1 ≤ m .next .edges + cond k 0 1
     low true = let z = r .first-edge in omega arith
     low false = omega arith
 
@@ -255,7 +255,7 @@ heal-ranked keeps e f m he hf ne h r =
         (outline-at m i (ranked-distinct m r) o j (same-true (o .arc .num) i q)) z
 
     meeting : (n : Node) → List·Memᴰ n (withoutNode (jointOf m e f) (m .nodes))
-        → Meeting (outlines m) (out e f (m .nextEdge) (healedOutline keeps e f m) (outlines m))
+        → Meeting (outlines m) (out e f (m .next .edges) (healedOutline keeps e f m) (outlines m))
         (healedOutline keeps e f m ∷ []) (n .number)
     meeting n j = record {
       gone = λ o i q z. (

@@ -150,7 +150,7 @@ face-of-point m p r = above-in (m .faces) (p .x) (floors m p) (zero-in (m .faces
 -- ---- the kinds
 
 -- no edge ends at a number not yet given
-fresh-bare : (m : Map) → Woven m → RankedMap m → (k : ℕ) → m .nextNode ≤ k → Met (outlines m) k → ⊥
+fresh-bare : (m : Map) → Woven m → RankedMap m → (k : ℕ) → m .next .nodes ≤ k → Met (outlines m) k → ⊥
 fresh-bare m w r k low h = go (Memᴰ·of-map outlineOf (m .edges) (h .1))
   where
     below : (n : ℕ) → List·Memᴰ n (map nodeNumber (m .nodes)) → n ≡ k → ⊥
@@ -172,12 +172,12 @@ add-node-ranked m p w r =
       outlines = refl;
       faces = refl;
       next-node = refl;
-      next-edge = add-zero (m .nextEdge);
-      next-face = add-zero (m .nextFace);
+      next-edge = add-zero (m .next .edges);
+      next-face = add-zero (m .next .faces);
     })
-    (ranked-more-node (lone m (m .nextNode) p) refl
-    (lone-placed (lone m (m .nextNode) p) (faceOfPoint m p) refl (face-of-point m p r)
-    (fresh-bare m w r (m .nextNode) (omega arith))) r)
+    (ranked-more-node (lone m (m .next .nodes) p) refl
+    (lone-placed (lone m (m .next .nodes) p) (faceOfPoint m p) refl (face-of-point m p r)
+    (fresh-bare m w r (m .next .nodes) (omega arith))) r)
 
 pub move-node-ranked : (m : Map) (n : ℕ) (p : Point) → Distinct (map nodeNumber (m .nodes)) → isolated m n ≡ true
     → RankedMap m → RankedMap (moveIsoNode n p m)

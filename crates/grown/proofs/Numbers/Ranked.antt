@@ -59,7 +59,7 @@ pub record Ranked (ns : List Node) (os : List Outline) (fs : List ℕ) (a b c : 
   pub first-edge : 1 ≤ b
 
 abbrev pub RankedMap : Map → Type 0
-RankedMap m = Ranked (m .nodes) (outlines m) (m .faces) (m .nextNode) (m .nextEdge) (m .nextFace)
+RankedMap m = Ranked (m .nodes) (outlines m) (m .faces) (m .next .nodes) (m .next .edges) (m .next .faces)
 
 -- faces that rows name exist
 pub ranked-faces : (m : Map) → RankedMap m → FacesNamed m
@@ -75,9 +75,9 @@ ranked-shape s r = rw (s .nodes, s .outlines, s .faces, s .next-node, s .next-ed
 
 -- the next numbers are within the limit
 pub record NextLimited (m : Map) : Type 0 where
-  pub node : m .nextNode ≤ suc lastNumber
-  pub edge : m .nextEdge ≤ suc lastNumber
-  pub face : m .nextFace ≤ suc lastNumber
+  pub node : m .next .nodes ≤ suc lastNumber
+  pub edge : m .next .edges ≤ suc lastNumber
+  pub face : m .next .faces ≤ suc lastNumber
 
 -- ---- edge ends
 
@@ -143,18 +143,18 @@ marked-met m n h k = beq-true (isSome (n .face)) (same (edgeEnds m (n .number)) 
 
 -- the four parts of `numbers`
 record Counted (m : Map) : Type 0 where
-  nodes : numbered 1 (m .nextNode) (map nodeNumber (m .nodes)) ≡ true
-  edges : numbered 1 (m .nextEdge) (map numberOf (m .edges)) ≡ true
-  faces : numbered 0 (m .nextFace) (m .faces) ≡ true
+  nodes : numbered 1 (m .next .nodes) (map nodeNumber (m .nodes)) ≡ true
+  edges : numbered 1 (m .next .edges) (map numberOf (m .edges)) ≡ true
+  faces : numbered 0 (m .next .faces) (m .faces) ≡ true
   zero : same (firstOr 1 (m .faces)) 0 ≡ true
 
 counted : (m : Map) → numbers m ≡ true → Counted m
 unfolding numbers
 counted m h =
     let h₃ = and-true _ (same (firstOr 1 (m .faces)) 0) h in
-    let h₂ = and-true _ (numbered 0 (m .nextFace) (m .faces)) (h₃ .0) in
-    let h₁ = and-true (numbered 1 (m .nextNode) (map nodeNumber (m .nodes)))
-    (numbered 1 (m .nextEdge) (map numberOf (m .edges))) (h₂ .0) in
+    let h₂ = and-true _ (numbered 0 (m .next .faces) (m .faces)) (h₃ .0) in
+    let h₁ = and-true (numbered 1 (m .next .nodes) (map nodeNumber (m .nodes)))
+    (numbered 1 (m .next .edges) (map numberOf (m .edges))) (h₂ .0) in
     record { nodes = h₁ .0; edges = h₁ .1; faces = h₂ .1; zero = h₃ .1 }
 
 counts : (m : Map) → Counted m → numbers m ≡ true
@@ -169,10 +169,10 @@ named-all m h k = and-is (each-all (λ n. inFace m (n .face)) (m .nodes) h) (eac
 
 pub numbered-ranked : (m : Map) → Distinct (nums (arcs m)) → Numbered m → RankedMap m
 numbered-ranked m dis n = record {
-  nodes = rising 1 (m .nextNode) (map nodeNumber (m .nodes)) (c .nodes);
-  edges = subst (Rising 1 (m .nextEdge)) (sym (outline-numbers m))
-      (rising 1 (m .nextEdge) (map numberOf (m .edges)) (c .edges));
-  faces = rising 0 (m .nextFace) (m .faces) (c .faces);
+  nodes = rising 1 (m .next .nodes) (map nodeNumber (m .nodes)) (c .nodes);
+  edges = subst (Rising 1 (m .next .edges)) (sym (outline-numbers m))
+      (rising 1 (m .next .edges) (map numberOf (m .edges)) (c .edges));
+  faces = rising 0 (m .next .faces) (m .faces) (c .faces);
   zero = same-true (firstOr 1 (m .faces)) 0 (c .zero);
   placed = λ r k. record {
     inside = faces .nodes r k;
@@ -195,10 +195,10 @@ pub ranked-numbered : (m : Map) → Woven m → RankedMap m → NextLimited m �
 unfolding bareMarked
 ranked-numbered m w r l = record {
   numbers = counts m (record {
-    nodes = rising-numbered 1 (m .nextNode) (map nodeNumber (m .nodes)) (r .nodes);
-    edges = rising-numbered 1 (m .nextEdge) (map numberOf (m .edges))
-        (subst (Rising 1 (m .nextEdge)) (outline-numbers m) (r .edges));
-    faces = rising-numbered 0 (m .nextFace) (m .faces) (r .faces);
+    nodes = rising-numbered 1 (m .next .nodes) (map nodeNumber (m .nodes)) (r .nodes);
+    edges = rising-numbered 1 (m .next .edges) (map numberOf (m .edges))
+        (subst (Rising 1 (m .next .edges)) (outline-numbers m) (r .edges));
+    faces = rising-numbered 0 (m .next .faces) (m .faces) (r .faces);
     zero = same-eq (firstOr 1 (m .faces)) 0 (r .zero);
   });
   named = named-all m (λ n k. face-in m (n .face) (r .placed n k .inside)) row-names;

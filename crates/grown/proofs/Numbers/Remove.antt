@@ -135,7 +135,7 @@ renamed-refaced m x f fs h r = record {
 
 renamed-ranked : (m : Map) (x : Edge) (f : ℕ) (fs : List ℕ) {c : ℕ}
     → ((g : ℕ) → List·Memᴰ g (m .faces) → List·Memᴰ (renamed x f g) fs) → Rising 0 c fs → firstOr 1 fs ≡ 0 → RankedMap m
-    → Ranked (renamedFaces x f m .nodes) (outlines (renamedFaces x f m)) fs (m .nextNode) (m .nextEdge) c
+    → Ranked (renamedFaces x f m .nodes) (outlines (renamedFaces x f m)) fs (m .next .nodes) (m .next .edges) c
 unfolding renamedFaces
 renamed-ranked m x f fs h rise z r =
     let side : Outline → Outline = λ o. record {
@@ -153,8 +153,8 @@ unfolding makesFace
 makes-above news e m h = differ (lowerFace e m) 0
     (not-true (same (lowerFace e m) 0) (and-true (news && healsFaces e m) (not (same (lowerFace e m) 0)) h .1))
 
-pub renamed-next : (x : Edge) (f : ℕ) (m : Map) → (renamedFaces x f m .nextNode ≡ m .nextNode)
-    × (renamedFaces x f m .nextEdge ≡ m .nextEdge) × (renamedFaces x f m .nextFace ≡ m .nextFace)
+pub renamed-next : (x : Edge) (f : ℕ) (m : Map) → (renamedFaces x f m .next .nodes ≡ m .next .nodes)
+    × (renamedFaces x f m .next .edges ≡ m .next .edges) × (renamedFaces x f m .next .faces ≡ m .next .faces)
 unfolding renamedFaces
 renamed-next x f m = (refl, refl, refl)
 
@@ -169,9 +169,9 @@ remove-edge-ranked news e m h r =
     let sides = row-sides m e h r in
     let after = renamedFaces x f m in
     let next = renamed-next x f m in
-    let ranked = renamed-ranked m x f fs (renamed-in x (m .nextFace) (m .faces) (sides .0) (sides .1) makes)
-    (renamed-rising x (m .nextFace) (m .faces) (sides .0) (sides .1) makes (r .faces))
-    (renamed-zero x (m .nextFace) (m .faces) (sides .0) (sides .1) makes (makes-above news e m) (r .zero)) r in
+    let ranked = renamed-ranked m x f fs (renamed-in x (m .next .faces) (m .faces) (sides .0) (sides .1) makes)
+    (renamed-rising x (m .next .faces) (m .faces) (sides .0) (sides .1) makes (r .faces))
+    (renamed-zero x (m .next .faces) (m .faces) (sides .0) (sides .1) makes (makes-above news e m) (r .zero)) r in
     ranked-shape {m = removeEdge news e m} (record {
       nodes = refl;
       outlines = refl;
@@ -180,4 +180,4 @@ remove-edge-ranked news e m h r =
       next-edge = add-zero _ ∙ undrawn-next-edge e f after ∙ next .1;
       next-face = ap (λ (n : ℕ). n + bit makes) (undrawn-next-face e f after ∙ next .2);
     }) (undrawn-ranked after e f (outlines-distinct after (ranked .edges))
-    (left-in x (m .nextFace) (m .faces) (sides .0) (sides .1) makes) ranked)
+    (left-in x (m .next .faces) (m .faces) (sides .0) (sides .1) makes) ranked)

@@ -37,9 +37,9 @@ pub record Taken (m m′ : Map) (a b c x y z : ℕ) : Type 0 where
   pub nodes : length (m′ .nodes) ≤ length (m .nodes) + a
   pub edges : length (outlines m′) ≤ length (outlines m) + b
   pub faces : length (m′ .faces) ≤ length (m .faces) + c
-  pub next-node : m′ .nextNode ≡ m .nextNode + x
-  pub next-edge : m′ .nextEdge ≡ m .nextEdge + y
-  pub next-face : m′ .nextFace ≡ m .nextFace + z
+  pub next-node : m′ .next .nodes ≡ m .next .nodes + x
+  pub next-edge : m′ .next .edges ≡ m .next .edges + y
+  pub next-face : m′ .next .faces ≡ m .next .faces + z
 
 none-more : (n : ℕ) → n ≤ n + 0
 none-more n = omega arith
@@ -94,7 +94,7 @@ change-taken e c m = record {
 drawn-taken : (u v : ℕ) (c : Curve) (f : ℕ) (m : Map) → Taken m (drawn u v c f m) 0 1 0 0 1 0
 drawn-taken u v c f m =
     let s = drawn-shape u v c f m in
-    let e = length-append (outlines m) (drawnOutline (m .nextEdge) u v f ∷ []) in
+    let e = length-append (outlines m) (drawnOutline (m .next .edges) u v f ∷ []) in
     let n = length-map (m .nodes) (marked u v) in
     record {
       nodes = rw (s .nodes) (omega arith);
@@ -144,7 +144,7 @@ split-taken keeps e p m h = record {
     less = keep-lt (λ o. not (same (o .arc .num) e)) (outlines m) (Memᴰ·map outlineOf (edge-there m e h .0))
         (ap not (same-eq (edge m e .number) e (edge-there m e h .1)))
 
-    count : (k : Bool) → length (splitOutlines k e (m .nextNode) (m .nextEdge) (outlineOf (edge m e))
+    count : (k : Bool) → length (splitOutlines k e (m .next .nodes) (m .next .edges) (outlineOf (edge m e))
         (outlines m)) ≤ length (outlines m) + 1
     count true = simp (length-append, length-map) (omega arith)
     count false = simp length-append (omega (arith, less))
@@ -182,14 +182,14 @@ heal-taken keeps e f m h ne = record {
 
 -- the face of the new edge, on both sides
 drawn-bears : (u v : ℕ) (c : Curve) (f : ℕ) (m : Map) → RankedMap (drawn u v c f m)
-    → bears (drawn u v c f m) (fwd (m .nextEdge)) ≡ f
-drawn-bears u v c f m r = bears-row (drawn u v c f m) (fwd (m .nextEdge))
+    → bears (drawn u v c f m) (fwd (m .next .edges)) ≡ f
+drawn-bears u v c f m r = bears-row (drawn u v c f m) (fwd (m .next .edges))
     ∙ ap (λ (o : Outline). o .left) (sym
-    (outline-at (drawn u v c f m) (m .nextEdge) (ranked-distinct (drawn u v c f m) r)
-    (drawnOutline (m .nextEdge) u v f) there refl))
+    (outline-at (drawn u v c f m) (m .next .edges) (ranked-distinct (drawn u v c f m) r)
+    (drawnOutline (m .next .edges) u v f) there refl))
   where
-    there : List·Memᴰ (drawnOutline (m .nextEdge) u v f) (outlines (drawn u v c f m))
-    there = subst (λ (os : List Outline). List·Memᴰ (drawnOutline (m .nextEdge) u v f) os)
+    there : List·Memᴰ (drawnOutline (m .next .edges) u v f) (outlines (drawn u v c f m))
+    there = subst (λ (os : List Outline). List·Memᴰ (drawnOutline (m .next .edges) u v f) os)
         (sym (drawn-shape u v c f m .outlines)) (Memᴰ·append-right (outlines m) (List·Memᴰ·head refl))
 
 split-count : (goes : Bool) (old a : ℕ) (fs : List ℕ) → List·Memᴰ old fs
@@ -204,7 +204,7 @@ unfolding splitFace sharedOut
 split-face-taken news e m h r = record {
   nodes = simp length-map (omega arith);
   edges = simp length-map (omega arith);
-  faces = split-count (news && not (same (bears m (fwd e)) 0)) (bears m (fwd e)) (m .nextFace) (m .faces)
+  faces = split-count (news && not (same (bears m (fwd e)) 0)) (bears m (fwd e)) (m .next .faces) (m .faces)
       (bears-in m (fwd e) h (ranked-faces m r));
   next-node = refl;
   next-edge = refl;
@@ -225,20 +225,20 @@ add-edge-taken news u v c m h r = go (splitsFace u v c m)
     joined : RankedMap (drawnIn u v c m)
     joined = drawn-ranked u v c f m (corner-in m u (startWay c) h (ranked-faces m r)) r
 
-    two : Taken (drawnIn u v c m) (splitFace news (m .nextEdge) (drawnIn u v c m)) 0 0 1 0 0
-        (cond (news && not (same (bears (drawnIn u v c m) (fwd (m .nextEdge))) 0)) 2 1)
-    two = split-face-taken news (m .nextEdge) (drawnIn u v c m) (drawn-has u v c f m) joined
+    two : Taken (drawnIn u v c m) (splitFace news (m .next .edges) (drawnIn u v c m)) 0 0 1 0 0
+        (cond (news && not (same (bears (drawnIn u v c m) (fwd (m .next .edges))) 0)) 2 1)
+    two = split-face-taken news (m .next .edges) (drawnIn u v c m) (drawn-has u v c f m) joined
 
     bits : (g : Bool) → cond g 2 1 ≡ 1 + bit g
     bits true = refl
     bits false = refl
 
-    go : (b : Bool) → Taken m (cond b (splitFace news (m .nextEdge) (drawnIn u v c m)) (drawnIn u v c m)) 0 1
+    go : (b : Bool) → Taken m (cond b (splitFace news (m .next .edges) (drawnIn u v c m)) (drawnIn u v c m)) 0 1
         (bit b) 0 1 (bit b + bit (b && news && not (same (cornerFace m u (startWay c)) 0)))
     go true =
-        let z : cond (news && not (same (bears (drawnIn u v c m) (fwd (m .nextEdge))) 0)) 2 1
+        let z : cond (news && not (same (bears (drawnIn u v c m) (fwd (m .next .edges))) 0)) 2 1
         ≡ 1 + bit (news && not (same (cornerFace m u (startWay c)) 0)) =
-        bits (news && not (same (bears (drawnIn u v c m) (fwd (m .nextEdge))) 0))
+        bits (news && not (same (bears (drawnIn u v c m) (fwd (m .next .edges))) 0))
         ∙ ap (λ (g : ℕ). 1 + bit (news && not (same g 0))) (drawn-bears u v c f m joined) in
         record {
           nodes = omega (arith, one .nodes, two .nodes);
@@ -278,7 +278,7 @@ remove-edge-taken news e m h r =
     record {
       nodes = omega (arith, t .nodes, size .0);
       edges = omega (arith, t .edges, size .1);
-      faces = renamed-count (makesFace news e m) (edge m e) (m .nextFace) (m .faces) k
+      faces = renamed-count (makesFace news e m) (edge m e) (m .next .faces) (m .faces) k
           (λ q. let b = r .faces .bounds (edge m e .left) k in omega arith);
       next-node = omega (arith, t .next-node, next .0);
       next-edge = omega (arith, t .next-edge, next .1);

@@ -194,12 +194,12 @@ renaming-outline : (p p′ q q′ : Dart) (m : Map) (e : ℕ)
 renaming-outline p p′ q q′ m e = redirect-outline q q′ (redirect p p′ m) e ∙ redirect-outline p p′ m e
 
 pub split-outlines : (keeps : Bool) (e : ℕ) (p : Point) (m : Map)
-    → outlines (split keeps e p m) ≡ splitOutlines keeps e (m .nextNode) (m .nextEdge) (outlineOf (edge m e))
+    → outlines (split keeps e p m) ≡ splitOutlines keeps e (m .next .nodes) (m .next .edges) (outlineOf (edge m e))
     (outlines m)
 unfolding split atEdge
 split-outlines true e p m =
-    let n = m .nextNode in
-    let x = m .nextEdge in
+    let n = m .next .nodes in
+    let x = m .next .edges in
     let m′ = renaming (fwd e) (fwd e) (bwd e) (bwd x) m in
     let first = startHalf (edge m′ e) n e x p in
     let second = endHalf (edge m′ e) n e x p in
@@ -216,8 +216,8 @@ split-outlines true e p m =
     at true f r = refl
     at false f r = refl
 split-outlines false e p m =
-    let n = m .nextNode in
-    let x = m .nextEdge in
+    let n = m .next .nodes in
+    let x = m .next .edges in
     let m′ = renaming (fwd e) (fwd x) (bwd e) (bwd (x + 1)) m in
     let first = startHalf (edge m′ e) n x (x + 1) p in
     let second = endHalf (edge m′ e) n x (x + 1) p in
@@ -232,14 +232,14 @@ pub split-ranked : (keeps : Bool) (e : ℕ) (p : Point) (m : Map) → hasEdge m 
     → RankedMap (split keeps e p m)
 unfolding split
 split-ranked keeps e p m h r =
-    let n = m .nextNode in
-    let x = m .nextEdge in
+    let n = m .next .nodes in
+    let x = m .next .edges in
     let o = outlineOf (edge m e) in
     let os = outlines m in
     let k : List·Memᴰ o os = Memᴰ·map outlineOf (edge-there m e h .0) in
     let q : o .arc .num ≡ e = edge-there m e h .1 in
     let only : (y : Outline) → List·Memᴰ y os → y .arc .num ≡ e → y ≡ o = outline-at m e (ranked-distinct m r) in
-    let halves : Ranked (m .nodes) (splitOutlines keeps e n x o os) (m .faces) n (x + cond keeps 1 2) (m .nextFace) =
+    let halves : Ranked (m .nodes) (splitOutlines keeps e n x o os) (m .faces) n (x + cond keeps 1 2) (m .next .faces) =
     replaced-ranked (split-replaced e n x o os k q keeps) (split-rising e n x o os k q keeps (r .first-edge) (r .edges))
     (low x keeps (r .first-edge)) (sides keeps o (r .sided o k))
     (λ y j. split-meeting e n x o os k q keeps only (y .number) (old y j)) r in
@@ -249,7 +249,7 @@ split-ranked keeps e p m h r =
       faces = refl;
       next-node = refl;
       next-edge = refl;
-      next-face = add-zero (m .nextFace);
+      next-face = add-zero (m .next .faces);
     })
     (ranked-more-node (record { number = n; at = p; face = none }) refl
     (record {
@@ -267,13 +267,13 @@ split-ranked keeps e p m h r =
     low x false h = omega arith
 
     sides : (b : Bool) (o : Outline) → Sided (m .faces) o → (y : Outline)
-        → List·Memᴰ y (splitParts b e (m .nextNode) (m .nextEdge) o) → Sided (m .faces) y
+        → List·Memᴰ y (splitParts b e (m .next .nodes) (m .next .edges) o) → Sided (m .faces) y
     sides b o s y j = elim (List·Memᴰ·cases-cons j) [
       | inl z ↦ subst (Sided (m .faces)) (sym z) s
       | inr i ↦ subst (Sided (m .faces)) (sym (List·Memᴰ·eq-of-singleton i)) s
     ]
 
-    old : (y : Node) → List·Memᴰ y (m .nodes) → y .number ≢ m .nextNode
+    old : (y : Node) → List·Memᴰ y (m .nodes) → y .number ≢ m .next .nodes
     old y j z = let b = r .nodes .bounds (y .number) (Memᴰ·map nodeNumber j) in omega arith
 
     none-inside : (f : ℕ) → _≡_ {A = Option ℕ} none (some f) → List·Memᴰ f (m .faces)

@@ -33,10 +33,10 @@ module _ (news : Bool) (s : Sizes) (m : Map) (u v : ℕ) (c : Curve) (good : Goo
   abbrev L : Lawful m
   L = good-lawful m good
 
-  rings-apart : splitsFace u v c m ≡ true → among (ring (drawnIn u v c m) (fwd (m .nextEdge))) (bwd (m .nextEdge))
+  rings-apart : splitsFace u v c m ≡ true → among (ring (drawnIn u v c m) (fwd (m .next .edges))) (bwd (m .next .edges))
       ≡ false
   unfolding splitsFace
-  rings-apart e = not-true (among (ring (drawnIn u v c m) (fwd (m .nextEdge))) (bwd (m .nextEdge))) e
+  rings-apart e = not-true (among (ring (drawnIn u v c m) (fwd (m .next .edges))) (bwd (m .next .edges))) e
 
   pub planar-added : InPlane (addEdge news u v c m)
   unfolding addEdge

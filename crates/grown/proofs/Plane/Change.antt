@@ -63,8 +63,8 @@ last-first f l x = subst (List·Permᴰ (f x ∷ map f l)) (sym (map-append f l 
 
 pub planar-1 : (m : Map) (p : Point) → Lawful m → InPlane m → InPlane (addIsoNode p m)
 unfolding addIsoNode leaves next bears edge
-planar-1 m p L o = planar-nodes (last-first nodeNumber (m .nodes) (lone m (m .nextNode) p))
-    (planar-node o (m .nextNode) (λ k. omega (arith, L .nodes-below (m .nextNode) k)))
+planar-1 m p L o = planar-nodes (last-first nodeNumber (m .nodes) (lone m (m .next .nodes) p))
+    (planar-node o (m .next .nodes) (λ k. omega (arith, L .nodes-below (m .next .nodes) k)))
 
 pub planar-2 : (m : Map) (n : ℕ) (p : Point) → InPlane m → InPlane (moveIsoNode n p m)
 unfolding moveIsoNode atNodes leaves next bears edge

@@ -41,13 +41,13 @@ leads-agree ds g h agree into {c} {d} k r = (r .0, sym (steps (r .0) .1) ∙ r .
 module _ (m : Map) (u v : ℕ) (c : Curve) (φ : ℕ) (draws : Draws m u v c φ) (planar : InPlane m)
     (start : List·Memᴰ u (nodeNumbers m)) (end : List·Memᴰ v (nodeNumbers m)) where
   abbrev e : ℕ
-  e = m .nextEdge
+  e = m .next .edges
 
   abbrev f : Dart
-  f = fwd (m .nextEdge)
+  f = fwd (m .next .edges)
 
   abbrev b : Dart
-  b = bwd (m .nextEdge)
+  b = bwd (m .next .edges)
 
   abbrev a : Arc
   a = arcOf (drawnRow m u v c φ)

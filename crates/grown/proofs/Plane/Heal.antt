@@ -82,13 +82,13 @@ module _ (m : Map) (L : Lawful m) (e f : ℕ) (q : Heal m e f) where
       (subst (λ (x : ℕ). List·Memᴰ x (map nodeNumber (m .nodes))) (seam m L e f q .meet .departs)
       (tail-in (L .linked) (L .within) (seam m L e f q .second-in)))) (o .nodes-once)
 
-  f-below : f < m .nextEdge
+  f-below : f < m .next .edges
   f-below = let x = edge-there m f (q .has-other) in
-      subst (λ (i : ℕ). i < m .nextEdge) (x .1) (L .edges-below (edge m f .number) (Memᴰ·map numberOf (x .0)))
+      subst (λ (i : ℕ). i < m .next .edges) (x .1) (L .edges-below (edge m f .number) (Memᴰ·map numberOf (x .0)))
 
   pub planar-9 : InPlane m → InPlane (heal false e f m)
   unfolding heal redirect
-  planar-9 o = planar-whole m L e f n₀ c₀ d₀ (seam m L e f q) (heal false e f m) (m .nextEdge) others
+  planar-9 o = planar-whole m L e f n₀ c₀ d₀ (seam m L e f q) (heal false e f m) (m .next .edges) others
       (new-healed m L e f q) refl (nodes o) (λ p. omega (arith, f-below, p)) (new-f m L e f q) o
 
   pub planar-10 : InPlane m → InPlane (heal true e f m)

@@ -49,7 +49,7 @@ module _ (m : Map) (L : Lawful m) (s : Sizes) (u v : ℕ) (c : Curve) where
 
 module _ (m : Map) (u v : ℕ) (c : Curve) (φ : ℕ) (draws : Draws m u v c φ) where
   joined-planar : hasNode m u ≡ true → hasNode m v ≡ true
-      → Leads (next (drawn u v c φ m)) (fwd (m .nextEdge)) (bwd (m .nextEdge)) → InPlane m → InPlane (drawn u v c φ m)
+      → Leads (next (drawn u v c φ m)) (fwd (m .next .edges)) (bwd (m .next .edges)) → InPlane m → InPlane (drawn u v c φ m)
   joined-planar has-u has-v leads o = D-join m u v c φ draws o (number-has nodeNumber noNode (m .nodes) u has-u)
       (number-has nodeNumber noNode (m .nodes) v has-v) leads
 
@@ -59,26 +59,26 @@ module _ (s : Sizes) (m : Map) (u v : ℕ) (c : Curve) (L : Lawful m) (h : AddLo
   φ : ℕ
   φ = Option·getD (node m u .face) 0
 
-  alone : Leads (next (drawn u v c φ m)) (fwd (m .nextEdge)) (bwd (m .nextEdge))
+  alone : Leads (next (drawn u v c φ m)) (fwd (m .next .edges)) (bwd (m .next .edges))
   alone = (1, D-alone m u v c φ (draws-lone m L s u v c φ h .free) none)
     where
       T : Dart → ℕ
-      T = with-edge (m .nextEdge) u v (leaves m)
+      T = with-edge (m .next .edges) u v (leaves m)
 
-      none : (d : Dart) → List·Memᴰ d (from T (fwd (m .nextEdge) ∷ directed m) (T (bwd (m .nextEdge)))) → ⊥
+      none : (d : Dart) → List·Memᴰ d (from T (fwd (m .next .edges) ∷ directed m) (T (bwd (m .next .edges)))) → ⊥
       none d k = elim (List·Memᴰ·cases-cons (j .0)) [
-        | inl p ↦ h .differ (sym (with-fwd (m .nextEdge) u v (leaves m)) ∙ ap T (sym p) ∙ at-v)
+        | inl p ↦ h .differ (sym (with-fwd (m .next .edges) u v (leaves m)) ∙ ap T (sym p) ∙ at-v)
         | inr i ↦ L .bare v (h .has-end) (h .isolated-end) d i
-            (sym (with-other (m .nextEdge) u v (leaves m) d
-            (fresh-dart (record { num = m .nextEdge; from = u; to = v }) (arcs m) (edge-new m (L .edges-below)) i))
+            (sym (with-other (m .next .edges) u v (leaves m) d
+            (fresh-dart (record { num = m .next .edges; from = u; to = v }) (arcs m) (edge-new m (L .edges-below)) i))
             ∙ at-v)
       ]
         where
-          j : List·Memᴰ d (fwd (m .nextEdge) ∷ directed m) × (T d ≡ T (bwd (m .nextEdge)))
-          j = from-in T (fwd (m .nextEdge) ∷ directed m) (T (bwd (m .nextEdge))) k
+          j : List·Memᴰ d (fwd (m .next .edges) ∷ directed m) × (T d ≡ T (bwd (m .next .edges)))
+          j = from-in T (fwd (m .next .edges) ∷ directed m) (T (bwd (m .next .edges))) k
 
           at-v : T d ≡ v
-          at-v = j .1 ∙ with-bwd (m .nextEdge) u v (leaves m)
+          at-v = j .1 ∙ with-bwd (m .next .edges) u v (leaves m)
 
   pub planar-4 : InPlane m → InPlane (addIsoEdge u v c m)
   unfolding addIsoEdge φ
@@ -88,13 +88,13 @@ module _ (s : Sizes) (m : Map) (u v : ℕ) (c : Curve) (L : Lawful m) (h : AddLo
 
 module _ (news : Bool) (s : Sizes) (m : Map) (u v : ℕ) (c : Curve) (L : Lawful m) (h : AddEdge news s m u v c)
     (whole : splitsFace u v c m ≡ false) where
-  one-ring : Leads (next (drawnIn u v c m)) (fwd (m .nextEdge)) (bwd (m .nextEdge))
+  one-ring : Leads (next (drawnIn u v c m)) (fwd (m .next .edges)) (bwd (m .next .edges))
   unfolding splitsFace
   one-ring = ring-leads (drawnIn u v c m) (D-linked m u v c (cornerFace m u (startWay c)) draws)
-      (D-once m u v c (cornerFace m u (startWay c)) draws) (fwd (m .nextEdge))
+      (D-once m u v c (cornerFace m u (startWay c)) draws) (fwd (m .next .edges))
       (all-D m u v c (cornerFace m u (startWay c)) draws (List·Memᴰ·head refl))
-      (among-in (ring (drawnIn u v c m) (fwd (m .nextEdge))) (bwd (m .nextEdge))
-      (not-false (among (ring (drawnIn u v c m) (fwd (m .nextEdge))) (bwd (m .nextEdge))) whole))
+      (among-in (ring (drawnIn u v c m) (fwd (m .next .edges))) (bwd (m .next .edges))
+      (not-false (among (ring (drawnIn u v c m) (fwd (m .next .edges))) (bwd (m .next .edges))) whole))
     where
       draws : Draws m u v c (cornerFace m u (startWay c))
       draws = draws-added m L s u v c news h

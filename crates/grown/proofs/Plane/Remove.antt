@@ -72,11 +72,11 @@ module _ (news : Bool) (e : ℕ) (m : Map) (good : Good m) (has : hasEdge m e �
   low-is = elim (le-or L R) [ inl p ↦ inl (omega arith) | inr p ↦ inr (omega arith) ]
 
   -- it is new, or the lower of the two
-  left-new : makesFace news e m ≡ true → g₀ ≡ m .nextFace
-  left-new q = ap (λ x. cond x (m .nextFace) (lowerFace e m)) q
+  left-new : makesFace news e m ≡ true → g₀ ≡ m .next .faces
+  left-new q = ap (λ x. cond x (m .next .faces) (lowerFace e m)) q
 
   left-low : makesFace news e m ≡ false → g₀ ≡ lowerFace e m
-  left-low q = ap (λ x. cond x (m .nextFace) (lowerFace e m)) q
+  left-low q = ap (λ x. cond x (m .next .faces) (lowerFace e m)) q
 
   left-one : makesFace news e m ≡ false → (g₀ ≡ L) ⊎ (g₀ ≡ R)
   left-one q = elim low-is [ inl p ↦ inl (left-low q ∙ p) | inr p ↦ inr (left-low q ∙ p) ]

@@ -39,10 +39,10 @@ module _ (m m′ : Map) (e n a b : ℕ) (p : Point) (L : Lawful m) (h : InHalves
 module _ (m : Map) (L : Lawful m) (s : Sizes) (e : ℕ) (p : Point) where
   pub planar-7 : Split 2 s m e p → InPlane m → InPlane (split false e p m)
   unfolding split redirect
-  planar-7 h = planar-halves m (split false e p m) e (m .nextNode) (m .nextEdge) (m .nextEdge + 1) p L
+  planar-7 h = planar-halves m (split false e p m) e (m .next .nodes) (m .next .edges) (m .next .edges + 1) p L
       (new-halves m e p L (h .has) (h .free) (h .on)) refl (last-first nodeNumber (m .nodes) _)
 
   pub planar-8 : Split 1 s m e p → InPlane m → InPlane (split true e p m)
   unfolding split redirect atEdge
-  planar-8 h = planar-halves m (split true e p m) e (m .nextNode) e (m .nextEdge) p L
+  planar-8 h = planar-halves m (split true e p m) e (m .next .nodes) e (m .next .edges) p L
       (kept-halves m e p L (h .has) (h .free) (h .on)) refl (last-first nodeNumber (m .nodes) _)

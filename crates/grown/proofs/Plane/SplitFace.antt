@@ -36,26 +36,26 @@ use Rattle.grown.proofs.Plane.Drawn.{D-split}
 -- what the faces of a map give
 pub record Faced (m : Map) : Type 0 where
   pub once : Distinct (m .faces)
-  pub below : (g : ℕ) → List·Memᴰ g (m .faces) → g < m .nextFace
+  pub below : (g : ℕ) → List·Memᴰ g (m .faces) → g < m .next .faces
   pub borne : (d : Dart) → List·Memᴰ d (directed m) → List·Memᴰ (bears m d) (m .faces)
 
 module _ (news : Bool) (m : Map) (u v : ℕ) (c : Curve) (φ : ℕ) (draws : Draws m u v c φ) (faced : Faced m)
-    (there : List·Memᴰ φ (m .faces)) (split : among (ring (drawn u v c φ m) (fwd (m .nextEdge))) (bwd (m .nextEdge))
+    (there : List·Memᴰ φ (m .faces)) (split : among (ring (drawn u v c φ m) (fwd (m .next .edges))) (bwd (m .next .edges))
     ≡ false) where
   abbrev D : Map
   D = drawn u v c φ m
 
   abbrev f : Dart
-  f = fwd (m .nextEdge)
+  f = fwd (m .next .edges)
 
   abbrev b : Dart
-  b = bwd (m .nextEdge)
+  b = bwd (m .next .edges)
 
   abbrev X : Map
-  X = splitFace news (m .nextEdge) (drawn u v c φ m)
+  X = splitFace news (m .next .edges) (drawn u v c φ m)
 
   abbrev old : ℕ
-  old = bears (drawn u v c φ m) (fwd (m .nextEdge))
+  old = bears (drawn u v c φ m) (fwd (m .next .edges))
 
   abbrev goes : Bool
   goes = news && not (same old 0)
@@ -64,7 +64,7 @@ module _ (news : Bool) (m : Map) (u v : ℕ) (c : Curve) (φ : ℕ) (draws : Dra
   isLeft = isPositive (sgn (ringArea D (ring D f)))
 
   abbrev s : Shares
-  s = sharesOf goes isLeft old (D .nextFace) (ring D f) (ring D b)
+  s = sharesOf goes isLeft old (D .next .faces) (ring D f) (ring D b)
 
   abbrev new : Dart → ℕ
   new = sideOfDart D s
@@ -79,20 +79,20 @@ module _ (news : Bool) (m : Map) (u v : ℕ) (c : Curve) (φ : ℕ) (draws : Dra
   in-b = all-D m u v c φ draws (List·Memᴰ·tail (List·Memᴰ·head refl))
 
   on-f : old ≡ φ
-  on-f = D-bears m u v c φ draws f (List·Memᴰ·head refl) ∙ with-fwd (m .nextEdge) φ φ (bears m)
+  on-f = D-bears m u v c φ draws f (List·Memᴰ·head refl) ∙ with-fwd (m .next .edges) φ φ (bears m)
 
   on-b : bears D b ≡ old
-  on-b = D-bears m u v c φ draws b (List·Memᴰ·tail (List·Memᴰ·head refl)) ∙ with-bwd (m .nextEdge) φ φ (bears m)
+  on-b = D-bears m u v c φ draws b (List·Memᴰ·tail (List·Memᴰ·head refl)) ∙ with-bwd (m .next .edges) φ φ (bears m)
       ∙ sym on-f
 
-  next-face : D .nextFace ≡ m .nextFace + 0
+  next-face : D .next .faces ≡ m .next .faces + 0
   unfolding drawn atNodes linkEdge linkIn lead redirect atEdge
   next-face = refl
 
   -- ---- the sides
 
-  shared : Sharing s (D .nextFace) (m .faces) (facesOf goes old (D .nextFace) (m .faces))
-  shared = sharing old (D .nextFace) (m .faces) (faced .once)
+  shared : Sharing s (D .next .faces) (m .faces) (facesOf goes old (D .next .faces) (m .faces))
+  shared = sharing old (D .next .faces) (m .faces) (faced .once)
       (λ g k. let h = faced .below g k in let q = next-face in omega arith)
       (subst (λ (g : ℕ). List·Memᴰ g (m .faces)) (sym on-f) there) (ring D f) (ring D b) goes isLeft
 
@@ -159,7 +159,7 @@ module _ (news : Bool) (m : Map) (u v : ℕ) (c : Curve) (φ : ℕ) (draws : Dra
       (or-right (same (s .other) (s .ref)) (same (s .other) (s .other)) (same-refl (s .other)))
 
   -- an old face is none of them
-  not-new : (g z : ℕ) → (z ≡ old) ⊎ (D .nextFace ≤ z) → List·Memᴰ g (m .faces) → g ≢ φ → same g z ≡ false
+  not-new : (g z : ℕ) → (z ≡ old) ⊎ (D .next .faces ≤ z) → List·Memᴰ g (m .faces) → g ≢ φ → same g z ≡ false
   not-new g z h k ne = same-false g z (λ p. elim h [
     | inl q ↦ ne (p ∙ q ∙ on-f)
     | inr q ↦ let r = faced .below g k in
@@ -193,9 +193,9 @@ module _ (news : Bool) (m : Map) (u v : ℕ) (c : Curve) (φ : ℕ) (draws : Dra
   X-bears = sides-bears D X (λ e. new (fwd (e .number))) (λ e. new (bwd (e .number))) X-edges new (λ e k. refl)
       (λ e k. refl)
 
-  X-faces : X .faces ≡ facesOf goes old (D .nextFace) (m .faces)
+  X-faces : X .faces ≡ facesOf goes old (D .next .faces) (m .faces)
   unfolding splitFace sharedOut
-  X-faces = ap (facesOf goes old (D .nextFace)) (D-faces m u v c φ draws)
+  X-faces = ap (facesOf goes old (D .next .faces)) (D-faces m u v c φ draws)
 
   X-nodes : nodeNumbers X ≡ nodeNumbers D
   unfolding splitFace sharedOut
@@ -203,7 +203,7 @@ module _ (news : Bool) (m : Map) (u v : ℕ) (c : Curve) (φ : ℕ) (draws : Dra
       ∙ map-cong _ (λ (n : Node). n .number) (D .nodes) (λ n k. side-number D s n (n .face))
 
   pub split-face-planar : hasNode m u ≡ true → hasNode m v ≡ true → InPlane m
-      → InPlane (splitFace news (m .nextEdge) (drawn u v c φ m))
+      → InPlane (splitFace news (m .next .edges) (drawn u v c φ m))
   split-face-planar has-u has-v o = subst (λ (k : ℕ). Planar (nodeNumbers X) (arcs X) (leaves X) (next X) (bears X) k)
       (sym (ap length X-faces ∙ shared .count))
       (subst (λ (ns : List ℕ). Planar ns (arcs X) (leaves X) (next X) (bears X) (suc (length (m .faces)))) (sym X-nodes)

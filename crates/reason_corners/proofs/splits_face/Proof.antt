@@ -71,10 +71,10 @@ returns c = λ m E ok.
     let d = curveOf (a .c .now) in
     let φ = cornerFace m u (startWay d) in
     let j = joined (s .pre .2) (a .c .now) m E (fresh-number l (a .e) m E ok) u v φ in
-    let i = subst (λ (x : ℕ). Joined l (a .e) x (endCorner l (a .e) (a .c .now) (pos u) (pos v)) (m .nextEdge)
+    let i = subst (λ (x : ℕ). Joined l (a .e) x (endCorner l (a .e) (a .c .now) (pos u) (pos v)) (m .next .edges)
     (drawn u v d φ m)) (sym (k .0)) j in
-    c .rings-differ .ensures (m .nextEdge) (drawn u v d φ m)
-    (subst (λ (x : ℕ). Joined l (a .e) (c .before .before .corner .result) x (m .nextEdge) (drawn u v d φ m))
+    c .rings-differ .ensures (m .next .edges) (drawn u v d φ m)
+    (subst (λ (x : ℕ). Joined l (a .e) (c .before .before .corner .result) x (m .next .edges) (drawn u v d φ m))
     (sym (k .1)) i)
 
 pub splits-face-spec : {M : Type 1} → statement M

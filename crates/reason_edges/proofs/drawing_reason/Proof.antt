@@ -24,7 +24,7 @@ taken c m H =
     drawn-taken (p .0) (p .1) H (a .u) (a .v) (p .2) (p .3) (a .c .now)
     (sym (c .before .before .before .before .before .curve-reason .ensures)
     ∙ c .before .before .before .before .if1 .left)
-    (c .before .direction-taken .ensures (m .nextEdge) _ _
+    (c .before .direction-taken .ensures (m .next .edges) _ _
     (own-none (p .0) (p .1) H (a .u) (a .v) (p .2) (p .3) (a .c .now))
     (sent (c .before .before .before .direction-taken-arg .given) ∙ number-cell (p .0) (a .u) (p .2))
     (sent (c .before .before .direction-taken-arg2 .given) ∙ number-cell (p .0) (a .v) (p .3))) (c .if2 .taken)
@@ -36,7 +36,7 @@ differ c m H =
     drawn-differ (p .0) (p .1) H (a .u) (a .v) (p .2) (p .3) (a .c .now)
     (sym (c .before .before .before .before .before .before .before .curve-reason .ensures)
     ∙ c .before .before .before .before .before .before .if1 .left)
-    (c .before .before .before .direction-taken .ensures (m .nextEdge) _ _
+    (c .before .before .before .direction-taken .ensures (m .next .edges) _ _
     (own-none (p .0) (p .1) H (a .u) (a .v) (p .2) (p .3) (a .c .now))
     (sent (c .before .before .before .before .before .direction-taken-arg .given) ∙ number-cell (p .0) (a .u) (p .2))
     (sent (c .before .before .before .before .direction-taken-arg2 .given) ∙ number-cell (p .0) (a .v) (p .3)))
@@ -49,7 +49,7 @@ meets c m H =
     drawn-meets (p .0) (p .1) H (a .u) (a .v) (p .2) (p .3) (a .c .now)
     (sym (c .before .before .before .before .before .before .before .before .curve-reason .ensures)
     ∙ c .before .before .before .before .before .before .before .if1 .left)
-    (c .before .before .before .before .direction-taken .ensures (m .nextEdge) _ _
+    (c .before .before .before .before .direction-taken .ensures (m .next .edges) _ _
     (own-none (p .0) (p .1) H (a .u) (a .v) (p .2) (p .3) (a .c .now))
     (sent (c .before .before .before .before .before .before .direction-taken-arg .given)
     ∙ number-cell (p .0) (a .u) (p .2))
