@@ -239,7 +239,7 @@ edge-free {m = m} {u} {v} {c} h apart fresh = record {
     good = sent-good m c u v (h .sent)
 
     ways : (wayTaken m (m .next .edges) u (startWay c) ≡ false) × (wayTaken m (m .next .edges) v (endWay c) ≡ false)
-    ways = or-false (wayTaken m (m .next .edges) u (startWay c)) (wayTaken m (m .next .edges) v (endWay c)) (h .ways-free)
+    ways = let e = m .next .edges in or-false (wayTaken m e u (startWay c)) (wayTaken m e v (endWay c)) (h .ways-free)
 
     way-free : (n : ℕ) (w : Way) → wayTaken m (m .next .edges) n w ≡ false → (d : Dart) → List·Memᴰ d (departures m n)
         → sameWay (way m d) w ≡ false

@@ -341,11 +341,13 @@ module _ (s : Sizes) (m : Map) where
         supply = supply m 1 (cond (isMod how) 1 2) 0 (h₂₁ .0);
       }
 
-  pub split-new : (e x y : ℤ) → firstReason (reasons s m (NewEdgesSplit e x y)) ≡ 0 → Split New s m (natAbs e) (point x y)
+  pub split-new : (e x y : ℤ) → firstReason (reasons s m (NewEdgesSplit e x y)) ≡ 0
+      → Split New s m (natAbs e) (point x y)
   unfolding reasons
   split-new e x y h = split New e x y h
 
-  pub split-mod : (e x y : ℤ) → firstReason (reasons s m (ModEdgeSplit e x y)) ≡ 0 → Split Mod s m (natAbs e) (point x y)
+  pub split-mod : (e x y : ℤ) → firstReason (reasons s m (ModEdgeSplit e x y)) ≡ 0
+      → Split Mod s m (natAbs e) (point x y)
   unfolding reasons
   split-mod e x y h = split Mod e x y h
 
