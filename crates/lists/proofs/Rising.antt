@@ -61,9 +61,6 @@ pub rising-distinct : (ns : List ℕ) → Pairs _<_ ns → Distinct ns
 rising-distinct [] h = tt
 rising-distinct (a ∷ l) h = (λ k. let j = each-of (λ n. a < n) l (h .0) a k in omega arith, rising-distinct l (h .1))
 
-pub rise-distinct : (ns : List ℕ) → linked ltb ns ≡ true → Distinct ns
-rise-distinct ns h = rising-distinct ns (linked-pairs ns h)
-
 -- the next number is given
 pub rising-append : (least next : ℕ) (ns : List ℕ) → least ≤ next → Rising least next ns
     → Rising least (next + 1) (ns ++ next ∷ [])

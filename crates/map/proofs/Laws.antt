@@ -6,17 +6,16 @@ use mathlib.Core.List.{List, map, List·Memᴰ, Memᴰ·map}
 use mathlib.Core.Option.{some}
 use Prim.Native.Nat.{ℕ, _≤_, _<_}
 use native.Mathlib.Omega.{arith}
-use lib.Dec.{leb, ltb, leb→le, ltb→lt}
 use lib.ListN.{length}
 use Rattle.lists.specs.Tests.{same}
-use Rattle.lists.specs.Scans.{allOf, firstOr, linked}
+use Rattle.lists.specs.Scans.{allOf, firstOr}
 use Rattle.lists.specs.Members.{Distinct}
-use Rattle.lists.proofs.Bools.{≡→T, same-true, and-true}
-use Rattle.lists.proofs.Members.{all-each, find-some}
-use Rattle.lists.proofs.Rising.{rise-distinct}
-use Rattle.lists.proofs.Lookups.{find-row}
+use Rattle.lists.proofs.Bools.{same-true, and-true}
+use Rattle.lists.proofs.Members.{all-each}
+use Rattle.lists.proofs.Rising.{Rising, rising, rising-distinct}
+use Rattle.lists.proofs.Lookups.{look-at, look-row}
 use Rattle.curves.specs.Curves.{points, maxPoints}
-use Rattle.map.specs.Rows.{Node, Edge, Map, Lent, Sizes, mapOf, lentOf, sizesOf, whole, findNode, findEdge}
+use Rattle.map.specs.Rows.{Node, Edge, Map, Lent, Sizes, mapOf, lentOf, sizesOf, whole, findEdge}
 use Rattle.map.specs.Rows.{hasNode, hasEdge, hasFace, node, edge}
 use Rattle.map.specs.Form.{ranged, numbers, inFace, edgeNames, named, curveFits, departuresDiffer}
 use Rattle.tables.specs.Tables.{numbered}
@@ -26,18 +25,11 @@ use Rattle.map.proofs.RoundTrip.{Holds, Points, reads-back, writes-back
 -- ---- rows by number
 
 module _ (m : Map) where
-  pub find-node : Distinct (map (λ n. n .number) (m .nodes)) → (r : Node) → List·Memᴰ r (m .nodes)
-      → findNode m (r .number) ≡ some r
-  find-node dis r k = find-row (λ (n : Node). n .number) (m .nodes) dis r k
-
-  pub find-edge : Distinct (map (λ e. e .number) (m .edges)) → (r : Edge) → List·Memᴰ r (m .edges)
-      → findEdge m (r .number) ≡ some r
-  find-edge dis r k = find-row (λ (e : Edge). e .number) (m .edges) dis r k
-
-  pub edge-row : Distinct (map (λ e. e .number) (m .edges)) → (r : Edge) → List·Memᴰ r (m .edges) → edge m (r .number)
-      ≡ r
+  -- a row is found by its number
+  pub edge-row : Distinct (map (λ e. e .number) (m .edges)) → (r : Edge) → List·Memᴰ r (m .edges)
+      → edge m (r .number) ≡ r
   unfolding edge
-  edge-row dis r k = rw (find-edge dis r k)
+  edge-row dis r k = look-at (λ (e : Edge). e .number) _ (m .edges) dis k
 
   -- a row that is found is the row
   pub edge-is : (e : ℕ) (r : Edge) → findEdge m e ≡ some r → edge m e ≡ r
@@ -47,40 +39,37 @@ module _ (m : Map) where
   -- a row that exists is a row of its number
   pub node-there : (n : ℕ) → hasNode m n ≡ true → List·Memᴰ (node m n) (m .nodes) × (node m n .number ≡ n)
   unfolding node
-  node-there n h = let r = find-some (λ x. same (x .number) n) (m .nodes) h in
-      rw (r .3) (r .1, same-true (r .0 .number) n (r .2))
+  node-there n h = look-row (λ (n : Node). n .number) _ (m .nodes) n h
 
   pub edge-there : (e : ℕ) → hasEdge m e ≡ true → List·Memᴰ (edge m e) (m .edges) × (edge m e .number ≡ e)
   unfolding edge
-  edge-there e h = let r = find-some (λ x. same (x .number) e) (m .edges) h in
-      rw (r .3) (r .1, same-true (r .0 .number) e (r .2))
+  edge-there e h = look-row (λ (e : Edge). e .number) _ (m .edges) e h
 
 -- ---- numbers in form
 
 -- what the numbers of a table obey
-pub record Numbered (least next : ℕ) (ns : List ℕ) : Type 0 where
+pub record TableNumbers (least next : ℕ) (ns : List ℕ) : Type 0 where
+  pub rising : Rising least next ns
   pub distinct : Distinct ns
   pub from : (n : ℕ) → List·Memᴰ n ns → least ≤ n
   pub below : (n : ℕ) → List·Memᴰ n ns → n < next
 
-pub numbered-is : (least next : ℕ) (ns : List ℕ) → numbered least next ns ≡ true → Numbered least next ns
-numbered-is least next ns h = record {
-  distinct = rise-distinct ns (k .0);
-  from = λ n m. leb→le least n (≡→T (leb least n) (each n m .0));
-  below = λ n m. ltb→lt n next (≡→T (ltb n next) (each n m .1));
-}
-  where
-    k : (linked ltb ns ≡ true) × (allOf (λ n. leb least n && ltb n next) ns ≡ true)
-    k = and-true (linked ltb ns) (allOf (λ n. leb least n && ltb n next) ns) h
+pub numbered-is : (least next : ℕ) (ns : List ℕ) → numbered least next ns ≡ true → TableNumbers least next ns
+numbered-is least next ns h =
+    let r = rising least next ns h in
+    record {
+      rising = r;
+      distinct = rising-distinct ns (r .rises);
+      from = λ n k. r .bounds n k .0;
+      below = λ n k. r .bounds n k .1;
+    }
 
-    each : (n : ℕ) → List·Memᴰ n ns → (leb least n ≡ true) × (ltb n next ≡ true)
-    each n m = and-true (leb least n) (ltb n next) (all-each (λ n. leb least n && ltb n next) ns (k .1) n m)
-
--- the three tables
+-- the three tables; face 0 is the first
 pub record Numbers (m : Map) : Type 0 where
-  pub nodes : Numbered 1 (m .next .nodes) (map (λ n. n .number) (m .nodes))
-  pub edges : Numbered 1 (m .next .edges) (map (λ e. e .number) (m .edges))
-  pub faces : Numbered 0 (m .next .faces) (m .faces)
+  pub nodes : TableNumbers 1 (m .next .nodes) (map (λ n. n .number) (m .nodes))
+  pub edges : TableNumbers 1 (m .next .edges) (map (λ e. e .number) (m .edges))
+  pub faces : TableNumbers 0 (m .next .faces) (m .faces)
+  pub zero : firstOr 1 (m .faces) ≡ 0
 
 pub numbers-are : (m : Map) → numbers m ≡ true → Numbers m
 unfolding numbers
@@ -88,7 +77,12 @@ numbers-are m h =
     let h₁ = and-true _ (same (firstOr 1 (m .faces)) 0) h in
     let h₂ = and-true _ (numbered 0 (m .next .faces) (m .faces)) (h₁ .0) in
     let h₃ = and-true _ (numbered 1 (m .next .edges) (map (λ e. e .number) (m .edges))) (h₂ .0) in
-    record { nodes = numbered-is _ _ _ (h₃ .0); edges = numbered-is _ _ _ (h₃ .1); faces = numbered-is _ _ _ (h₂ .1) }
+    record {
+      nodes = numbered-is _ _ _ (h₃ .0);
+      edges = numbered-is _ _ _ (h₃ .1);
+      faces = numbered-is _ _ _ (h₂ .1);
+      zero = same-true (firstOr 1 (m .faces)) 0 (h₁ .1);
+    }
 
 -- ---- a map in form
 
@@ -133,10 +127,6 @@ module _ (m : Map) (h : formed m ≡ true) where
   -- numbers in use are below the next number
   pub face-below : (f : ℕ) → List·Memᴰ f (m .faces) → f < m .next .faces
   face-below f k = ns .faces .below f k
-
-  -- a row is found by its number
-  pub edge-found : (r : Edge) → List·Memᴰ r (m .edges) → edge m (r .number) ≡ r
-  edge-found = edge-row m (ns .edges .distinct)
 
   -- edges count from 1, and links name edges
   edge-from : (e : ℕ) → hasEdge m e ≡ true → 1 ≤ e

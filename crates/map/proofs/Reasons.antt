@@ -1,6 +1,6 @@
 -- The first reason of a list, reason by reason; what a reason tells that does not hold. Assumes nothing.
 use mathlib.Core.Path.{_≡_, refl, sym, _∙_}
-use mathlib.Core.Bool.{Bool, true, false, cond, _&&_}
+use mathlib.Core.Bool.{Bool, true, false, _&&_}
 use mathlib.Core.Logic.{inl, inr}
 use mathlib.Core.List.{[], _∷_, _++_}
 use Prim.Native.Nat.{ℕ, _<_}
@@ -27,11 +27,6 @@ first-miss n b rs e = rw e
 pub first-none : firstReason [] ≡ 0
 unfolding firstReason
 first-none = refl
-
--- a reason at the front that may hold
-pub first-step : (n : ℕ) (b : Bool) (rs : Reasons) → firstReason ((n, b) ∷ rs) ≡ cond b n (firstReason rs)
-unfolding firstReason
-first-step n b rs = refl
 
 -- no reason holds: not the first, nor one of the others
 pub first-zero : (n : ℕ) (b : Bool) (rs : Reasons) → 0 < n → firstReason ((n, b) ∷ rs) ≡ 0

@@ -2,7 +2,7 @@
 -- directed edge. Nodes keep their numbers where a face is shared out. Assumes nothing.
 use mathlib.Core.Path.{_≡_, refl, sym, subst}
 use mathlib.Core.Bool.{Bool, true, false, cond, _&&_}
-use mathlib.Core.List.{List, [], _∷_, map, List·Memᴰ, List·Memᴰ·head, List·Memᴰ·not-nil, Memᴰ·cast}
+use mathlib.Core.List.{List, [], _∷_, List·Memᴰ, List·Memᴰ·head, List·Memᴰ·not-nil, Memᴰ·cast}
 use mathlib.Core.Option.{Option, none, some, Option·getD}
 use Prim.Native.Nat.{ℕ}
 use native.Mathlib.Omega.{arith}
@@ -17,10 +17,9 @@ use Rattle.rotation.proofs.Node.{first-in}
 use Rattle.map.specs.Rows.{Node, Edge, Map, node, edge, hasNode, hasEdge, hasFace}
 use Rattle.map.specs.Darts.{bears, departures, way}
 use Rattle.map.specs.Form.{numbers, inFace, edgeNames, named, formed}
-use Rattle.tables.specs.Tables.{numbered}
 use Rattle.map.specs.Links.{cornerOf, cornerFace}
 use Rattle.map.specs.Edits.{Shares, sideOfPoint, sideOfNode}
-use Rattle.map.proofs.Laws.{edge-there, node-there, formed-is}
+use Rattle.map.proofs.Laws.{numbers-are, formed-is, edge-there, node-there}
 use Rattle.map_laws.proofs.Readings.{faceIn, bears-row, departs, dart-has}
 
 -- ---- faces as members
@@ -54,14 +53,11 @@ sides m e h =
     (face-has m (e .left) (h₂ .1), face-has m (e .right) (h₁ .1))
 
 pub named-faces : (m : Map) → numbers m ≡ true → named m ≡ true → FacesNamed m
-unfolding numbers named
+unfolding named
 named-faces m h k =
-    let first = and-true (numbered 1 (m .next .nodes) (map (λ n. n .number) (m .nodes))
-    && numbered 1 (m .next .edges) (map (λ e. e .number) (m .edges)) && numbered 0 (m .next .faces) (m .faces))
-    (same (firstOr 1 (m .faces)) 0) h in
     let rows = and-true (allOf (λ n. inFace m (n .face)) (m .nodes)) (allOf (edgeNames m) (m .edges)) k in
     record {
-      zero = zero-in (m .faces) (same-true (firstOr 1 (m .faces)) 0 (first .1));
+      zero = zero-in (m .faces) (numbers-are m h .zero);
       nodes = λ n i. in-face m (n .face) (all-each (λ n. inFace m (n .face)) (m .nodes) (rows .0) n i);
       sides = λ e i. sides m e (all-each (edgeNames m) (m .edges) (rows .1) e i);
     }

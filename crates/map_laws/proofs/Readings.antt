@@ -88,15 +88,6 @@ module _ {A : Type 0} (num : A → ℕ) where
   pub has-without : (e : ℕ) (rs : List A) (n : ℕ) → n ≢ e → has num (without num e rs) n ≡ has num rs n
   has-without e rs n h = ap isSome (find-without e rs n h)
 
-  has-without-it : (e : ℕ) (rs : List A) → has num (without num e rs) e ≡ false
-  has-without-it e [] = refl
-  has-without-it e (q ∷ rs) = step (same (num q) e) refl (has-without-it e rs)
-    where
-      step : (b : Bool) → same (num q) e ≡ b → has num (without num e rs) e ≡ false
-          → has num (cond (not b) (q ∷ without num e rs) (without num e rs)) e ≡ false
-      step true s ih = ih
-      step false s ih = rw s ih
-
   pub look-without : (u : A) (e : ℕ) (rs : List A) (n : ℕ) → n ≢ e → look num u (without num e rs) n ≡ look num u rs n
   look-without u e rs n h = ap (λ (o : Option A). Option·getD o u) (find-without e rs n h)
 

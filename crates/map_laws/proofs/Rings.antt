@@ -10,25 +10,15 @@ use lib.ListN.{length, length-map}
 use Rattle.lists.specs.Tests.{iterate}
 use Rattle.lists.specs.Members.{Distinct}
 use Rattle.lists.proofs.Members.{each-cons, any-some, some-any}
-use Rattle.lists.proofs.Perms.{perm-of-distinct, perm-length, injective-of-perm}
+use Rattle.lists.proofs.Perms.{distinct-length, injective-of-perm}
 use Rattle.planar_maps.specs.Map.{Arc, Dart, darts, Linked}
 use Rattle.planar_maps.specs.Pieces.{nums}
 use Rattle.planar_maps.specs.Rings.{sameDart, Leads}
 use Rattle.planar_maps.proofs.Rings.{next-in, closed-turned, sameDart-true, sameDart-refl}
 use Rattle.planar_maps.proofs.Hooks.{distinct-darts}
 use Rattle.planar_maps.proofs.Leads.{leads-on, leads-join, leads-keep}
-use Rattle.rotation.proofs.Clock.{le-or}
 use Rattle.map.specs.Rows.{Map}
 use Rattle.map.specs.Darts.{arcs, directed, leaves, next, bears, stepsTo, ring, among, lowestEdge}
-
--- a list in which nothing stands twice, part of another, is no longer than it
-distinct-length : {A : Type 0} (l k : List A) → Distinct l → ((x : A) → List·Memᴰ x l → List·Memᴰ x k)
-    → length l ≤ length k
-distinct-length l k dis h = elim (le-or (length l) (length k)) [
-  | inl p ↦ p
-  | inr p ↦ let e =
-      perm-length (perm-of-distinct l k dis h (omega arith)) in omega arith
-]
 
 -- as many darts as twice the edges
 darts-length : (es : List Arc) → length (darts es) ≡ 2 * length es

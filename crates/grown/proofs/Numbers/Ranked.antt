@@ -11,7 +11,7 @@ use lib.ListN.{length}
 use Rattle.lists.specs.Tests.{same}
 use Rattle.lists.specs.Scans.{firstOr, isSome}
 use Rattle.lists.specs.Members.{Distinct}
-use Rattle.lists.proofs.Bools.{same-refl, same-true, same-false, same-eq, beq-true, beq-refl, and-true, and-is}
+use Rattle.lists.proofs.Bools.{same-refl, same-false, same-eq, beq-true, beq-refl, and-is}
 use Rattle.lists.proofs.Members.{all-each, each-all}
 use Rattle.lists.proofs.Rising.{Rising, rising, rising-numbered}
 use Rattle.planar_maps.specs.Map.{Dart, fwd, bwd}
@@ -21,8 +21,7 @@ use Rattle.map.specs.Limits.{lastNumber}
 use Rattle.map.specs.Rows.{Node, Edge, Map, edge, hasEdge}
 use Rattle.map.specs.Darts.{arcs, directed, leaves, next, departures, edgeEnds}
 use Rattle.map.specs.Form.{numbers, inFace, edgeNames, named, bareMarked}
-use Rattle.tables.specs.Tables.{numbered}
-use Rattle.map.proofs.Laws.{edge-there}
+use Rattle.map.proofs.Laws.{Numbers, numbers-are, edge-there}
 use Rattle.map_laws.proofs.Readings.{Outline, outlineOf, outlines, outlineNumber, numberOf, arcOf, edge-at, row-has}
 use Rattle.map_laws.proofs.Readings.{has-dart, dart-has, leaves-row, next-row, departs, departing, has-number, tailIn}
 use Rattle.map_laws.proofs.Outlines.{Shape}
@@ -141,26 +140,6 @@ marked-met : (m : Map) (n : Node) → bareMarked m ≡ true → List·Memᴰ n (
 unfolding bareMarked
 marked-met m n h k = beq-true (isSome (n .face)) (same (edgeEnds m (n .number)) 0) (all-each _ (m .nodes) h n k)
 
--- the four parts of `numbers`
-record Counted (m : Map) : Type 0 where
-  nodes : numbered 1 (m .next .nodes) (map nodeNumber (m .nodes)) ≡ true
-  edges : numbered 1 (m .next .edges) (map numberOf (m .edges)) ≡ true
-  faces : numbered 0 (m .next .faces) (m .faces) ≡ true
-  zero : same (firstOr 1 (m .faces)) 0 ≡ true
-
-counted : (m : Map) → numbers m ≡ true → Counted m
-unfolding numbers
-counted m h =
-    let h₃ = and-true _ (same (firstOr 1 (m .faces)) 0) h in
-    let h₂ = and-true _ (numbered 0 (m .next .faces) (m .faces)) (h₃ .0) in
-    let h₁ = and-true (numbered 1 (m .next .nodes) (map nodeNumber (m .nodes)))
-    (numbered 1 (m .next .edges) (map numberOf (m .edges))) (h₂ .0) in
-    record { nodes = h₁ .0; edges = h₁ .1; faces = h₂ .1; zero = h₃ .1 }
-
-counts : (m : Map) → Counted m → numbers m ≡ true
-unfolding numbers
-counts m c = and-is (and-is (and-is (c .nodes) (c .edges)) (c .faces)) (c .zero)
-
 -- every row names rows that exist
 named-all : (m : Map) → ((n : Node) → List·Memᴰ n (m .nodes) → inFace m (n .face) ≡ true)
     → ((e : Edge) → List·Memᴰ e (m .edges) → edgeNames m e ≡ true) → named m ≡ true
@@ -169,11 +148,10 @@ named-all m h k = and-is (each-all (λ n. inFace m (n .face)) (m .nodes) h) (eac
 
 pub numbered-ranked : (m : Map) → Distinct (nums (arcs m)) → Numbered m → RankedMap m
 numbered-ranked m dis n = record {
-  nodes = rising 1 (m .next .nodes) (map nodeNumber (m .nodes)) (c .nodes);
-  edges = subst (Rising 1 (m .next .edges)) (sym (outline-numbers m))
-      (rising 1 (m .next .edges) (map numberOf (m .edges)) (c .edges));
-  faces = rising 0 (m .next .faces) (m .faces) (c .faces);
-  zero = same-true (firstOr 1 (m .faces)) 0 (c .zero);
+  nodes = c .nodes .rising;
+  edges = subst (Rising 1 (m .next .edges)) (sym (outline-numbers m)) (c .edges .rising);
+  faces = c .faces .rising;
+  zero = c .zero;
   placed = λ r k. record {
     inside = faces .nodes r k;
     met = λ e. ends-met m (r .number) (sym (marked-met m r (n .marked) k) ∙ e);
@@ -185,22 +163,18 @@ numbered-ranked m dis n = record {
   first-edge = n .first-edge;
 }
   where
-    c : Counted m
-    c = counted m (n .numbers)
+    c : Numbers m
+    c = numbers-are m (n .numbers)
 
     faces : FacesNamed m
     faces = named-faces m (n .numbers) (n .named)
 
 pub ranked-numbered : (m : Map) → Woven m → RankedMap m → NextLimited m → Numbered m
-unfolding bareMarked
+unfolding bareMarked numbers
 ranked-numbered m w r l = record {
-  numbers = counts m (record {
-    nodes = rising-numbered 1 (m .next .nodes) (map nodeNumber (m .nodes)) (r .nodes);
-    edges = rising-numbered 1 (m .next .edges) (map numberOf (m .edges))
-        (subst (Rising 1 (m .next .edges)) (outline-numbers m) (r .edges));
-    faces = rising-numbered 0 (m .next .faces) (m .faces) (r .faces);
-    zero = same-eq (firstOr 1 (m .faces)) 0 (r .zero);
-  });
+  numbers = and-is (and-is (and-is (rising-numbered _ _ _ (r .nodes))
+      (rising-numbered _ _ _ (subst (Rising 1 (m .next .edges)) (outline-numbers m) (r .edges))))
+      (rising-numbered _ _ _ (r .faces))) (same-eq (firstOr 1 (m .faces)) 0 (r .zero));
   named = named-all m (λ n k. face-in m (n .face) (r .placed n k .inside)) row-names;
   marked = each-all _ (m .nodes) (λ n k. rw (mark n k) (beq-refl (same (edgeEnds m (n .number)) 0)));
   first-node = r .first-node;
