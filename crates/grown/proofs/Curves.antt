@@ -4,7 +4,6 @@ pub mod Bent
 pub mod Ends
 pub mod Kept
 pub mod Survey
-pub mod Lists
 pub mod Sites
 pub mod Cut
 pub mod Join

@@ -23,7 +23,7 @@ use Rattle.grown.proofs.Curves.Kinds.{surveyed-1, surveyed-2, surveyed-
 use Rattle.grown.proofs.Curves.Kinds.{surveyed-7, surveyed-8, surveyed-add, surveyed-remove}
 use Rattle.grown.proofs.Curves.Heal.{surveyed-9, surveyed-10}
 use Rattle.grown.proofs.Law.Lawful.{Lawful, good-lawful}
-use Rattle.grown.proofs.Law.Kept.{carried-obeys}
+use Rattle.grown.proofs.Law.Carried.{carried-obeys}
 use Rattle.grown.proofs.Plane.Change.{planar-1, planar-2, planar-3, planar-6}
 use Rattle.grown.proofs.Plane.Split.{planar-7, planar-8}
 use Rattle.grown.proofs.Plane.Heal.{planar-9, planar-10}
@@ -34,7 +34,7 @@ use Rattle.grown.proofs.Plane.RemoveLone.{planar-5}
 use Rattle.grown.proofs.Plane.Remove.{planar-removed}
 
 -- links and face numbers, and curves
-record Kept (m : Map) : Type 0 where
+record PlaneAndCurves (m : Map) : Type 0 where
   planar : InPlane m
   surveyed : Surveyed m
 
@@ -45,7 +45,7 @@ module _ (s : Sizes) (m : Map) (g : Good m) where
   abbrev o : InPlane m
   o = g .woven .planar
 
-  kept : (t : Ticket) → firstReason (reasons s m t) ≡ 0 → Kept (carried m t .0)
+  kept : (t : Ticket) → firstReason (reasons s m t) ≡ 0 → PlaneAndCurves (carried m t .0)
   unfolding carried
   kept (AddIsoNode f x y) h =
       record { planar = planar-1 m (point x y) L o; surveyed = surveyed-1 m g s (point x y) (add-node s m f x y h) }

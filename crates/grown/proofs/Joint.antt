@@ -1,17 +1,15 @@
 -- The joint of a heal: the two parts meet there, and no other directed edge departs from it. Assumes nothing.
 use mathlib.Core.Path.{_≡_, refl, sym, ap, _∙_}
 use mathlib.Core.Bool.{Bool, true, false, not, cond, _||_, true≢false, false≢true}
-use mathlib.Core.List.{List, [], _∷_, List·Memᴰ, List·Memᴰ·cases-cons, List·Memᴰ·not-nil, List·Memᴰ·eq-of-singleton}
+use mathlib.Core.List.{[], _∷_, List·Memᴰ, List·Memᴰ·cases-cons, List·Memᴰ·eq-of-singleton}
 use mathlib.Core.Option.{Option·getD}
 use mathlib.Core.Logic.{_⊎_, inl, inr, _≢_}
 use Prim.Native.Nat.{ℕ}
-use native.Mathlib.Omega.{arith}
-use lib.ListN.{length}
 use Rattle.lists.specs.Tests.{same}
 use Rattle.lists.specs.Scans.{isSome}
 use Rattle.lists.proofs.Bools.{same-true, differ, or-true}
 use Rattle.lists.proofs.Keeps.{keep-in}
-use Rattle.lists.proofs.Members.{found}
+use Rattle.lists.proofs.Members.{found, third}
 use Rattle.planar_maps.specs.Map.{Dart, fwd, bwd, rev}
 use Rattle.map.specs.Rows.{Map, edge, hasEdge}
 use Rattle.map.specs.Darts.{directed, leaves, departures, edgeEnds}
@@ -44,25 +42,6 @@ pub record Seamed (m : Map) (e f n : ℕ) (c d : Dart) : Type 0 where
   -- the far ends are elsewhere
   pub from : leaves m c ≢ n
   pub to : leaves m (rev d) ≢ n
-
--- a list of two elements has no third
-third : {A : Type 0} (l : List A) → length l ≡ 2 → {x y z : A} → x ≢ y → List·Memᴰ x l → List·Memᴰ y l → List·Memᴰ z l
-    → (z ≡ x) ⊎ (z ≡ y)
-third [] h n i j k = absurd (List·Memᴰ·not-nil i)
-third (a ∷ []) h n i j k = absurd (n (List·Memᴰ·eq-of-singleton i ∙ sym (List·Memᴰ·eq-of-singleton j)))
-third (a ∷ b ∷ []) h {x} {y} {z} n i j k = go (one i) (one j) (one k)
-  where
-    one : {w : _} → List·Memᴰ w (a ∷ b ∷ []) → (w ≡ a) ⊎ (w ≡ b)
-    one m = elim (List·Memᴰ·cases-cons m) [ inl e ↦ inl e | inr q ↦ inr (List·Memᴰ·eq-of-singleton q) ]
-
-    go : (x ≡ a) ⊎ (x ≡ b) → (y ≡ a) ⊎ (y ≡ b) → (z ≡ a) ⊎ (z ≡ b) → (z ≡ x) ⊎ (z ≡ y)
-    go (inl p) (inl q) r = absurd (n (p ∙ sym q))
-    go (inr p) (inr q) r = absurd (n (p ∙ sym q))
-    go (inl p) (inr q) (inl r) = inl (r ∙ sym p)
-    go (inl p) (inr q) (inr r) = inr (r ∙ sym q)
-    go (inr p) (inl q) (inl r) = inr (r ∙ sym q)
-    go (inr p) (inl q) (inr r) = inl (r ∙ sym p)
-third (a ∷ b ∷ c ∷ l) h n i j k = absurd (omega arith)
 
 module _ (m : Map) (e f : ℕ) (h : isSome (joint m e f) ≡ true) where
   abbrev at : ℕ

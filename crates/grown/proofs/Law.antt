@@ -1,4 +1,4 @@
--- The link law kept on ALL tables in form whose links obey it (`Kept`, `Tables`), and what maps read after each kind.
+-- The link law kept on ALL tables in form whose links obey it (`Carried`, `Tables`); what maps read after each kind.
 pub mod Lawful
 pub mod Halves
 pub mod Change
@@ -7,5 +7,5 @@ pub mod Whole
 pub mod Heal
 pub mod Add
 pub mod Remove
-pub mod Kept
+pub mod Carried
 pub mod Tables

@@ -11,9 +11,9 @@ use lib.ListN.{length-map}
 use Rattle.lists.specs.Tests.{_⊕_, iterate}
 use Rattle.lists.specs.Members.{Distinct}
 use Rattle.lists.proofs.Bools.{eq2}
-use Rattle.lists.proofs.Members.{map-cong}
 use Rattle.lists.proofs.Sums.{sum-cong, sum-map}
-use Rattle.lists.proofs.Perms.{perm-in, distinct-map, distinct-injective}
+use Rattle.lists.proofs.Perms.{perm-in, distinct-map, distinct-injective, distinct-of}
+use Rattle.lists.proofs.Maps.{map-square}
 use Rattle.planar_maps.specs.Map.{Arc, Dart, fwd, bwd, rev, darts, across, Linked, Cycle, Colouring}
 use Rattle.planar_maps.specs.Pieces.{Chain, stay, along, against, Within, Euler, nums}
 use Rattle.planar_maps.specs.Rings.{Leads, turn, OneTurn}
@@ -123,10 +123,6 @@ module _ (σ : Dart → Dart) {nodes : List ℕ} {es : List Arc} {tail tail′ :
       (distinct-map (λ a. named σ a .num) es (distinct-of (λ a. a .num) es (o .edges-once))
       (λ a b m n e. distinct-injective (λ a. a .num) es (o .edges-once) a b m n (same a b m n e)))
     where
-      distinct-of : (f : Arc → ℕ) (l : List Arc) → Distinct (map f l) → Distinct l
-      distinct-of f [] dis = tt
-      distinct-of f (a ∷ l) dis = (λ m. dis .0 (Memᴰ·map f m), distinct-of f l (dis .1))
-
       numbers : {c d : Dart} → c ≡ d → c .edge ≡ d .edge
       numbers e = ap (λ (d : Dart). d .edge) e
 
@@ -197,8 +193,7 @@ module _ (σ : Dart → Dart) {nodes : List ℕ} {es : List Arc} {tail tail′ :
   }
     where
       steps : map next′ (map σ (darts es)) ≡ map σ (map next (darts es))
-      steps = map-map next′ σ (darts es) ∙ map-cong (λ d. next′ (σ d)) (λ d. σ (next d)) (darts es) (r .nexts)
-          ∙ sym (map-map σ next (darts es))
+      steps = map-square next′ σ σ next (darts es) (r .nexts)
 
   turns : (k : ℕ) (d : Dart) → List·Memᴰ d (darts es) → List·Memᴰ (iterate k (turn next) d) (darts es)
       × (iterate k (turn next′) (σ d) ≡ σ (iterate k (turn next) d))

@@ -2,9 +2,8 @@
 use mathlib.Core.Path.{_≡_, refl, sym, ap, ap₂, _∙_, subst}
 use mathlib.Core.Logic.{inl, inr, _≢_}
 use mathlib.Core.Bool.{true, cond, not}
-use mathlib.Core.List.{List, _∷_, map, map-map, List·Memᴰ, List·Permᴰ, Permᴰ·map, [], _++_, List·Permᴰ·cons}
-use mathlib.Core.List.{List·Permᴰ·trans, Permᴰ·middle, Permᴰ·append-nil}
-use Prim.Native.Nat.{ℕ, _+_}
+use mathlib.Core.List.{List, _∷_, map, map-map, List·Memᴰ, List·Permᴰ, Permᴰ·map}
+use Prim.Native.Nat.{ℕ}
 use borrow.Author.Tests.{not-true}
 use Rattle.lists.specs.Members.{Distinct}
 use Rattle.lists.proofs.Bools.{equal?, same-refl, same-false, differ}
@@ -15,12 +14,12 @@ use Rattle.map.specs.Rows.{Edge, Map, edge, hasEdge, withoutEdge}
 use Rattle.map.specs.Links.{withLinks, instead, redirect}
 use Rattle.map.proofs.Laws.{edge-there}
 use Rattle.map_laws.proofs.Readings.{numberOf, missing, mapped-edge}
-use Rattle.map_laws.proofs.RowChanges.{without-perm}
 use Rattle.grown.proofs.Renumber.{ways}
 use Rattle.grown.proofs.Halved.{departs}
 use Rattle.lists.specs.Tests.{same}
 use Rattle.lists.proofs.Members.{map-cong}
 use Rattle.lists.proofs.Keeps.{keep-in, keep-map}
+use Rattle.lists.proofs.Lookups.{without-perm}
 
 -- `new` for `old`, and else nothing
 pub instead-it : (x y : Dart) → instead x y x ≡ y
@@ -65,10 +64,6 @@ module _ (m : Map) (e a b : ℕ) where
   parted-row has = mapped-edge m parted (relinked e a b) parted-edges (λ r k. refl) e has
 
 -- ---- rows replaced and left out
-
--- rows put last, as against first
-pub one-last : {A : Type 0} (l : List A) (x : A) → List·Permᴰ (l ++ x ∷ []) (x ∷ l)
-one-last l x = List·Permᴰ·trans (Permᴰ·middle x l []) (List·Permᴰ·cons refl (Permᴰ·append-nil l))
 
 -- the others are not e
 pub rest-other : (e : ℕ) (es : List Edge) {q : Edge} → List·Memᴰ q (withoutEdge e es) → q .number ≢ e

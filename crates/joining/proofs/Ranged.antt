@@ -1,10 +1,9 @@
 -- The tickets of a join keep counts, ranges and zero rows, on a first sheet in form as on a grown one
 -- (specs/Claims.antt). Assumes nothing.
-use mathlib.Core.Path.{_≡_, refl, sym, subst}
+use mathlib.Core.Path.{_≡_, refl, subst}
 use mathlib.Core.Bool.{Bool, true, false, cond, not}
-use mathlib.Core.List.{List, [], _∷_, _++_, map, List·Memᴰ, List·Memᴰ·append-cases, List·Memᴰ·eq-of-singleton}
-use mathlib.Core.List.{Memᴰ·map, Memᴰ·of-map}
-use mathlib.Core.Logic.{inl, inr, _≢_}
+use mathlib.Core.List.{List, [], _∷_, _++_, map, List·Memᴰ, Memᴰ·map, Memᴰ·of-map}
+use mathlib.Core.Logic.{_≢_}
 use mathlib.Core.Option.{Option, none, some}
 use Prim.Native.Nat.{ℕ, zero, suc, _%_, _≤_}
 use native.Mathlib.Omega.{arith}
@@ -16,6 +15,7 @@ use Rattle.lists.specs.Tests.{same}
 use Rattle.lists.specs.Members.{All}
 use Rattle.lists.proofs.Bools.{and-true, cond-has}
 use Rattle.lists.proofs.Appends.{each-append}
+use Rattle.lists.proofs.Members.{each-last}
 use Rattle.plane.specs.declared.Point.{Point}
 use Rattle.plane.specs.Points.{InRange}
 use Rattle.curves.specs.Curves.{Curve, points, point, curveOf, lastPoint, coordinates}
@@ -25,8 +25,7 @@ use Rattle.geometry.specs.Meaning.{Some}
 use Rattle.geometry.proofs.Cutting.{cut-place}
 use Rattle.geometry.proofs.Theorems.{onCurve-iff}
 use Rattle.map.specs.declared.Variant.the-variants.{Mod}
-use Rattle.map.specs.Rows.{Node, Edge, Map, Lent, Sizes, mapOf, sizesOf}
-use Rattle.map.specs.Rows.{whole, edge}
+use Rattle.map.specs.Rows.{Node, Edge, Map, Lent, Sizes, mapOf, sizesOf, whole, edge}
 use Rattle.map.specs.Tickets.{Ticket, AddIsoNode, ModEdgeSplit, AddEdgeModFace, read}
 use Rattle.map.specs.Reasons.{firstReason, reasons}
 use Rattle.map.specs.Ticket.{Outcome, lentReasons, unless, judged, carried, ticket}
@@ -80,14 +79,6 @@ halves-in p c n l o i d =
     )
 
 -- ---- kinds 1, 8 and 12 on a sheet in form
-
--- one more than xs
-more : {A : Type 0} (R : A → Type 0) (xs : List A) {x : A} → ((y : A) → List·Memᴰ y xs → R y) → R x
-    → (y : A) → List·Memᴰ y (xs ++ x ∷ []) → R y
-more R xs h k y j = elim (List·Memᴰ·append-cases xs j) [
-  | inl i ↦ h y i
-  | inr i ↦ subst R (sym (List·Memᴰ·eq-of-singleton i)) k
-]
 
 node-faces : (p : Point) (m : Map) → addIsoNode p m .faces ≡ m .faces
 unfolding addIsoNode
@@ -185,14 +176,14 @@ module _ (l : Lent) (r : ranged l ≡ true) (f : formed (mapOf l) ≡ true) wher
   node-tabled p h =
       tabled (addIsoNode p m) (addIsoNode-becomes p m) (add-node-taken p m) (h .room) (h .supply)
       (rw (node-faces p m) (some-face (m .faces) (ranks .zero))) old-line
-      (more Plotted (places m) old-place (h .in-range))
+      (each-last {R = Plotted} (places m) old-place (h .in-range))
 
   split-tabled : (e : ℕ) (p : Point) → Split Mod s m e p → Tabled s (split Mod e p m)
   split-tabled e p h =
       tabled (split Mod e p m) (split-mod-becomes e p m) (split-taken Mod e p m (h .has)) (h .room) (h .supply)
       (rw (split-faces e p m) (some-face (m .faces) (ranks .zero)))
-      (more Drawn _ kept (halves .1))
-      (more Plotted (places m) old-place (h .in-range))
+      (each-last {R = Drawn} _ kept (halves .1))
+      (each-last {R = Plotted} (places m) old-place (h .in-range))
     where
       here : List·Memᴰ (edge m e) (m .edges)
       here = edge-there m e (h .has) .0
@@ -215,7 +206,7 @@ module _ (l : Lent) (r : ranged l ≡ true) (f : formed (mapOf l) ≡ true) wher
       tabled (addEdge Mod u v c m) (addEdge-becomes Mod u v c m)
       (add-edge-taken Mod u v c m (h .has-start) ranks) (h .room) (h .supply)
       (some-face (addEdge Mod u v c m .faces) (add-edge-ranked Mod u v c m (h .has-start) ranks .zero))
-      (more Drawn (lines m) old-line sent) old-place
+      (each-last {R = Drawn} (lines m) old-line sent) old-place
     where
       sent : Stored c
       sent = record { least = h .sent .least; most = h .sent .most; in-range = h .sent .in-range }

@@ -1,14 +1,14 @@
 -- What `keep` keeps. Assumes nothing.
 use mathlib.Core.Path.{_≡_, refl, sym, ap, _∙_}
 use mathlib.Core.Logic.{_⊎_, inl, inr}
-use mathlib.Core.Bool.{Bool, true, false, cond, true≢false}
+use mathlib.Core.Bool.{Bool, true, false, cond, true≢false, _&&_}
 use mathlib.Core.List.{List, [], _∷_, _++_, map, append-nil, List·Memᴰ, List·Memᴰ·head, List·Memᴰ·tail}
 use mathlib.Core.List.{List·Memᴰ·cases-cons, List·Memᴰ·not-nil, Memᴰ·map, Memᴰ·of-map, Memᴰ·cast}
 use Prim.Native.Nat.{suc, _≤_}
 use native.Mathlib.Omega.{arith}
 use lib.ListN.{length}
 use Rattle.lists.specs.Scans.{keep}
-use Rattle.lists.specs.Members.{Distinct}
+use Rattle.lists.specs.Members.{Distinct, All, Pairs}
 
 pub keep-in : {D : Type 0} (f : D → Bool) (ds : List D) {x : D} → List·Memᴰ x (keep f ds) → List·Memᴰ x ds
     × (f x ≡ true)
@@ -129,3 +129,32 @@ module _ {D : Type 0} (p : D → Bool) where
       go true q (inl z) ih = absurd (true≢false (sym q ∙ sym (ap p z) ∙ e))
       go true q (inr j) ih = let h = ih j in omega arith
       go false q j ih = let h = keep-le ds in omega arith
+
+-- kept twice
+pub keep-both : {A : Type 0} (p q : A → Bool) (l : List A) → keep q (keep p l) ≡ keep (λ x. p x && q x) l
+keep-both p q [] = refl
+keep-both {A} p q (x ∷ l) = go (p x) (keep-both p q l)
+  where
+    go : (b : Bool) → keep q (keep p l) ≡ keep (λ x. p x && q x) l → keep q (cond b (x ∷ keep p l) (keep p l))
+        ≡ cond (b && q x) (x ∷ keep (λ x. p x && q x) l) (keep (λ x. p x && q x) l)
+    go true ih = ap (λ (k : List A). cond (q x) (x ∷ k) k) ih
+    go false ih = ih
+
+-- ---- what holds of all elements and pairs, of those that are kept
+
+module _ {A B : Type 0} (f : A → B) (p : A → Bool) where
+  pub all-keep : (R : B → Type 0) (l : List A) → All R (map f l) → All R (map f (keep p l))
+  all-keep R [] h = tt
+  all-keep R (x ∷ l) h = go (p x) (all-keep R l (h .1))
+    where
+      go : (b : Bool) → All R (map f (keep p l)) → All R (map f (cond b (x ∷ keep p l) (keep p l)))
+      go true k = (h .0, k)
+      go false k = k
+
+  pub pairs-keep : (R : B → B → Type 0) (l : List A) → Pairs R (map f l) → Pairs R (map f (keep p l))
+  pairs-keep R [] h = tt
+  pairs-keep R (x ∷ l) h = go (p x) (pairs-keep R l (h .1))
+    where
+      go : (b : Bool) → Pairs R (map f (keep p l)) → Pairs R (map f (cond b (x ∷ keep p l) (keep p l)))
+      go true k = (all-keep (R (f x)) l (h .0), k)
+      go false k = k

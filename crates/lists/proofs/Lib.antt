@@ -1,5 +1,5 @@
 -- Booleans and the test `same` (`Bools`), turns of loops over rows (`Scans`), laws of lists, numbers that rise
--- (`Rising`), rows by their numbers (`Lookups`), and linear equations over bits (`Linear`).
+-- (`Rising`), rows by their numbers (`Lookups`, `RisingRows`), and linear equations over bits (`Linear`).
 pub mod Bools
 pub mod Scans
 pub mod Members
@@ -12,4 +12,5 @@ pub mod Parts
 pub mod Appends
 pub mod Rising
 pub mod Lookups
+pub mod RisingRows
 pub mod Linear

@@ -1,14 +1,19 @@
 -- Members of a list: one by one, none at all, what scans tell of them, and what two functions do to them. Assumes
 -- nothing.
-use mathlib.Core.Path.{_≡_, refl, sym, ap, ap₂, _∙_}
-use mathlib.Core.Logic.{_⊎_, inl, inr}
+use mathlib.Core.Path.{_≡_, refl, sym, ap, ap₂, _∙_, subst}
+use mathlib.Core.Logic.{_⊎_, inl, inr, _≢_}
 use mathlib.Core.Bool.{Bool, true, false, cond, true≢false, false≢true}
 use mathlib.Core.List.{List, [], _∷_, map, List·Memᴰ, List·Memᴰ·head, List·Memᴰ·tail, List·Memᴰ·cases-cons}
 use mathlib.Core.List.{List·Memᴰ·not-nil, map-id, flatMap, Memᴰ·append-left, Memᴰ·append-right, List·Memᴰ·append-cases}
+use mathlib.Core.List.{List·Memᴰ·eq-of-singleton, Memᴰ·map, _++_}
 use mathlib.Core.Option.{some, Option·getD}
 use Rattle.lists.specs.Scans.{anyOf, allOf, find, isSome}
-use Rattle.lists.specs.Members.{All}
-use Rattle.lists.proofs.Bools.{which, and-true, and-is, or-true, or-left, or-right, or-false}
+use Rattle.lists.specs.Members.{All, Pairs}
+use Rattle.lists.specs.Tests.{same}
+use Rattle.lists.proofs.Bools.{which, and-true, and-is, or-true, or-left, or-right, or-false, same-false}
+use Rattle.lists.proofs.Bools.{same-refl}
+use native.Mathlib.Omega.{arith}
+use lib.ListN.{length}
 
 pub each-cons : {A : Type 0} {p : A → Type 0} {x : A} {l : List A} → p x → ((y : A) → List·Memᴰ y l → p y) → (y : A)
     → List·Memᴰ y (x ∷ l) → p y
@@ -19,6 +24,13 @@ pub each-two : {A : Type 0} (p : A → Type 0) {x y : A} {l : List A} → p x �
 each-two p px py h = each-cons {p = p} px (each-cons {p = p} py h)
 
 -- what stands in a list and is not its first stands behind it
+pub each-last : {A : Type 0} {R : A → Type 0} (l : List A) {x : A} → ((y : A) → List·Memᴰ y l → R y) → R x
+    → (y : A) → List·Memᴰ y (l ++ x ∷ []) → R y
+each-last {R = R} l h r y k = elim (List·Memᴰ·append-cases l k) [
+  | inl i ↦ h y i
+  | inr i ↦ subst R (sym (List·Memᴰ·eq-of-singleton i)) r
+]
+
 pub in-rest : {A : Type 0} {x y : A} {l : List A} → ((x ≡ y) → ⊥) → List·Memᴰ x (y ∷ l) → List·Memᴰ x l
 in-rest h m = elim (List·Memᴰ·cases-cons m) [ inl e ↦ absurd (h e) | inr k ↦ k ]
 
@@ -144,3 +156,63 @@ flatMap-has f (a ∷ l) {x} {y} m k =
       | inl e ↦ Memᴰ·append-left (flatMap f l) (rw e at k)
       | inr j ↦ Memᴰ·append-right (f a) (later j)
     ]
+
+-- ---- any two of a list, and lists of few
+
+-- what holds of all pairs holds of any two
+pub pairs-in : {A B : Type 0} (R : B → B → Type 0) (turn : (a b : B) → R a b → R b a) (f : A → B) (l : List A)
+    → Pairs R (map f l) → (x y : A) → List·Memᴰ x l → List·Memᴰ y l → x ≢ y → R (f x) (f y)
+pairs-in R turn f [] h x y m k ne = absurd (List·Memᴰ·not-nil m)
+pairs-in R turn f (z ∷ l) h x y m k ne =
+    go (pairs-in R turn f l (h .1) x y) (List·Memᴰ·cases-cons m) (List·Memᴰ·cases-cons k)
+  where
+    go : (List·Memᴰ x l → List·Memᴰ y l → x ≢ y → R (f x) (f y)) → (x ≡ z) ⊎ List·Memᴰ x l
+        → (y ≡ z) ⊎ List·Memᴰ y l → R (f x) (f y)
+    go ih (inl p) (inl q) = absurd (ne (p ∙ sym q))
+    go ih (inl p) (inr q) = subst (λ w. R (f w) (f y)) (sym p) (each-of (R (f z)) (map f l) (h .0) (f y) (Memᴰ·map f q))
+    go ih (inr p) (inl q) = subst (λ w. R (f x) (f w)) (sym q)
+        (turn (f z) (f x) (each-of (R (f z)) (map f l) (h .0) (f x) (Memᴰ·map f p)))
+    go ih (inr p) (inr q) = ih p q ne
+
+-- with another element in the place of one
+pub between-cases : {A : Type 0} {x : A} (xs : List A) (y : A) (ys : List A) → List·Memᴰ x (xs ++ (y ∷ ys))
+    → (x ≡ y) ⊎ List·Memᴰ x (xs ++ ys)
+between-cases xs y ys m = elim (List·Memᴰ·append-cases xs m) [
+  | inl k ↦ inr (Memᴰ·append-left ys k)
+  | inr k ↦ elim (List·Memᴰ·cases-cons k) [ inl e ↦ inl e | inr i ↦ inr (Memᴰ·append-right xs i) ]
+]
+
+pub no-member : {A : Type 0} (l : List A) → length l ≡ 0 → {x : A} → List·Memᴰ x l → ⊥
+no-member [] e k = List·Memᴰ·not-nil k
+no-member (y ∷ l) e k = omega arith
+
+pub some-member : {A : Type 0} (l : List A) → same (length l) 0 ≡ false → (x : A) × List·Memᴰ x l
+some-member [] h = absurd (true≢false (sym (same-refl 0) ∙ h))
+some-member (x ∷ l) h = (x, List·Memᴰ·head refl)
+
+pub member-some : {A : Type 0} (l : List A) {x : A} → List·Memᴰ x l → same (length l) 0 ≡ false
+member-some l k = same-false (length l) 0 (λ e. no-member l e k)
+
+pub one-member : {A : Type 0} (l : List A) → length l ≡ 1 → {x y : A} → List·Memᴰ x l → List·Memᴰ y l → x ≡ y
+one-member [] e i j = absurd (List·Memᴰ·not-nil i)
+one-member (z ∷ []) e i j = List·Memᴰ·eq-of-singleton i ∙ sym (List·Memᴰ·eq-of-singleton j)
+one-member (z ∷ w ∷ l) e i j = absurd (omega arith)
+
+-- a list of two elements has no third
+pub third : {A : Type 0} (l : List A) → length l ≡ 2 → {x y z : A} → x ≢ y → List·Memᴰ x l → List·Memᴰ y l
+    → List·Memᴰ z l → (z ≡ x) ⊎ (z ≡ y)
+third [] h n i j k = absurd (List·Memᴰ·not-nil i)
+third (a ∷ []) h n i j k = absurd (n (List·Memᴰ·eq-of-singleton i ∙ sym (List·Memᴰ·eq-of-singleton j)))
+third (a ∷ b ∷ []) h {x} {y} {z} n i j k = go (one i) (one j) (one k)
+  where
+    one : {w : _} → List·Memᴰ w (a ∷ b ∷ []) → (w ≡ a) ⊎ (w ≡ b)
+    one m = elim (List·Memᴰ·cases-cons m) [ inl e ↦ inl e | inr q ↦ inr (List·Memᴰ·eq-of-singleton q) ]
+
+    go : (x ≡ a) ⊎ (x ≡ b) → (y ≡ a) ⊎ (y ≡ b) → (z ≡ a) ⊎ (z ≡ b) → (z ≡ x) ⊎ (z ≡ y)
+    go (inl p) (inl q) r = absurd (n (p ∙ sym q))
+    go (inr p) (inr q) r = absurd (n (p ∙ sym q))
+    go (inl p) (inr q) (inl r) = inl (r ∙ sym p)
+    go (inl p) (inr q) (inr r) = inr (r ∙ sym q)
+    go (inr p) (inl q) (inl r) = inr (r ∙ sym q)
+    go (inr p) (inl q) (inr r) = inl (r ∙ sym p)
+third (a ∷ b ∷ c ∷ l) h n i j k = absurd (omega arith)

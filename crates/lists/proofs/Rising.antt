@@ -1,9 +1,7 @@
 -- Numbers that rise from a least to a next. Assumes nothing.
 use mathlib.Core.Path.{_≡_, refl}
-use mathlib.Core.Logic.{_⊎_, inl, inr}
 use mathlib.Core.Bool.{Bool, true, false, cond, _&&_}
-use mathlib.Core.List.{List, [], _∷_, _++_, List·Memᴰ, List·Memᴰ·head, List·Memᴰ·tail, List·Memᴰ·append-cases}
-use mathlib.Core.List.{List·Memᴰ·eq-of-singleton}
+use mathlib.Core.List.{List, [], _∷_, _++_, List·Memᴰ, List·Memᴰ·head, List·Memᴰ·tail}
 use Prim.Native.Nat.{ℕ, _+_, _≤_, _<_}
 use native.Mathlib.Omega.{arith}
 use borrow.Author.Tests.{ltb-true, leb-true, lt-ltb, le-leb}
@@ -12,7 +10,8 @@ use Rattle.lists.specs.Scans.{allOf, keep, linked}
 use Rattle.lists.specs.Members.{All, Pairs, Distinct}
 use Rattle.lists.proofs.Bools.{and-true, and-is}
 use Rattle.lists.proofs.Keeps.{keep-in}
-use Rattle.lists.proofs.Members.{all-of, each-of, all-each, each-all}
+use Rattle.lists.proofs.Appends.{each-append}
+use Rattle.lists.proofs.Members.{each-last, all-of, each-of, all-each, each-all}
 
 -- they rise from `least` on and stay below `next`
 pub record Rising (least next : ℕ) (ns : List ℕ) : Type 0 where
@@ -66,23 +65,15 @@ pub rising-append : (least next : ℕ) (ns : List ℕ) → least ≤ next → Ri
     → Rising least (next + 1) (ns ++ next ∷ [])
 rising-append least next ns low r = record {
   rises = pairs ns (r .rises) (λ n k. r .bounds n k .1);
-  bounds = λ n k. go n (List·Memᴰ·append-cases ns k);
+  bounds = each-last ns (λ n k. let b = r .bounds n k in (b .0, omega (arith, b .1))) (low, omega arith);
 }
   where
-    all-more : (l : List ℕ) (a : ℕ) → All (λ n. a < n) l → a < next → All (λ n. a < n) (l ++ next ∷ [])
-    all-more [] a h lt = (lt, tt)
-    all-more (n ∷ l) a h lt = (h .0, all-more l a (h .1) lt)
-
     pairs : (l : List ℕ) → Pairs _<_ l → ((n : ℕ) → List·Memᴰ n l → n < next) → Pairs _<_ (l ++ next ∷ [])
     pairs [] h b = (tt, tt)
     pairs (a ∷ l) h b = (
-      all-more l a (h .0) (b a (List·Memᴰ·head refl)),
+      each-append (λ n. a < n) l (next ∷ []) (h .0) (b a (List·Memᴰ·head refl), tt),
       pairs l (h .1) (λ n k. b n (List·Memᴰ·tail k)),
     )
-
-    go : (n : ℕ) → List·Memᴰ n ns ⊎ List·Memᴰ n (next ∷ []) → (least ≤ n) × (n < next + 1)
-    go n (inl k) = let b = r .bounds n k in (b .0, omega (arith, b .1))
-    go n (inr k) = let e = List·Memᴰ·eq-of-singleton k in (omega arith, omega arith)
 
 -- numbers are left out
 pub rising-keep : (least next : ℕ) (p : ℕ → Bool) (ns : List ℕ) → Rising least next ns → Rising least next (keep p ns)

@@ -12,7 +12,7 @@ use native.Mathlib.Omega.{arith}
 use lib.ListN.{length, getD}
 use Rattle.lists.specs.Tests.{bit}
 use Rattle.lists.specs.Scans.{anyOf, allOf, countOf, fold}
-use Rattle.lists.specs.Tables.{table, sweep, place, nth}
+use Rattle.lists.specs.Tables.{table, sweep, place}
 use Rattle.lists.specs.declared.Found.the-variants.{At, Missing}
 
 left : (i n : ℕ) → i < n → n - i ≡ suc (n - (i + 1))
@@ -92,11 +92,6 @@ module _ {A : Type 0} (f : ℕ → A) where
   getD-table a (suc n) zero d h = ap f (sym (add-zero a))
   getD-table a (suc n) (suc i) d h = getD-table (a + 1) n i d (omega arith) ∙ ap f (next a i)
 
-  pub nth-table : {B : Type 0} (a n i : ℕ) (g : A → B) (d : B) → i < n → nth (table f a n) i g d ≡ g (f (a + i))
-  nth-table a zero i g d h = absurd (omega arith)
-  nth-table a (suc n) zero g d h = ap (λ (k : ℕ). g (f k)) (sym (add-zero a))
-  nth-table a (suc n) (suc i) g d h = nth-table (a + 1) n i g d (omega arith) ∙ ap (λ (k : ℕ). g (f k)) (next a i)
-
   -- two tables whose elements are the same
   pub table-same : (g : ℕ → A) (a n : ℕ) → ((i : ℕ) → a ≤ i → i < a + n → f i ≡ g i) → table f a n ≡ table g a n
   table-same g a zero h = refl
@@ -105,20 +100,6 @@ module _ {A : Type 0} (f : ℕ → A) where
       ∙ ap (λ (l : List A). g a ∷ l) (table-same g (a + 1) n (λ i p q. h i (omega arith) (omega arith)))
 
   module _ (p : A → Bool) where
-    -- what is found is a row's index
-    pub place-below : (a n i : ℕ) → place p a (table f a n) ≡ At i → i < a + n
-    place-below a zero i e = let z : _≡_ {A = ℕ} 0 1 = cc in omega arith
-    place-below a (suc n) i e = pick (p (f a)) refl (λ q. place-below (a + 1) n i q)
-      where
-        pick : (b : Bool) → p (f a) ≡ b → (place p (a + 1) (table f (a + 1) n) ≡ At i → i < a + 1 + n) → i < a + suc n
-        pick true q rest =
-            let k : At a ≡ At i = rw q at e in
-            let j : a ≡ i = cc in
-            omega arith
-        pick false q rest =
-            let h : i < a + 1 + n = rest (rw q at e) in
-            omega arith
-
     -- a search that has passed i elements that p does not take
     pub place-skip : (n i : ℕ) → i ≤ n → ((k : ℕ) → k < i → p (f k) ≡ false) → place p i (table f i (n - i))
         ≡ place p 0 (table f 0 n)

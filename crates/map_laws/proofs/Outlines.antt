@@ -1,14 +1,14 @@
 -- Nodes, outlines of edges, faces and next numbers after each way of changing a map. Assumes nothing.
 use mathlib.Core.Path.{_≡_, refl, sym, ap, _∙_}
 use mathlib.Core.Bool.{Bool, true, false, cond, not}
-use mathlib.Core.List.{List, [], _∷_, _++_, map, map-map, map-append, List·Memᴰ}
+use mathlib.Core.List.{List, [], _∷_, _++_, map, map-append, List·Memᴰ}
 use mathlib.Core.Option.{none}
 use Prim.Native.Nat.{ℕ, _+_}
 use native.Mathlib.Nat.{add-zero}
 use Rattle.lists.specs.Tests.{same}
 use Rattle.lists.specs.Scans.{keep}
-use Rattle.lists.proofs.Members.{map-cong}
 use Rattle.lists.proofs.Keeps.{keep-map}
+use Rattle.lists.proofs.Maps.{map-square, map-twice}
 use Rattle.curves.specs.Curves.{Curve}
 use Rattle.planar_maps.specs.Map.{fwd, bwd}
 use Rattle.map.specs.Rows.{Node, Edge, Map, atNodes, atEdge, withoutEdge}
@@ -31,8 +31,7 @@ pub record Shape (m : Map) (ns : List Node) (os : List Outline) (fs : List ℕ) 
 pub outlines-map : (f : Edge → Edge) (g : Outline → Outline) (es : List Edge)
     → ((r : Edge) → List·Memᴰ r es → outlineOf (f r) ≡ g (outlineOf r)) → map outlineOf (map f es)
     ≡ map g (map outlineOf es)
-outlines-map f g es h = map-map outlineOf f es ∙ map-cong (λ r. outlineOf (f r)) (λ r. g (outlineOf r)) es h
-    ∙ sym (map-map g outlineOf es)
+outlines-map f g es h = map-square outlineOf f g outlineOf es h
 
 -- one row changed, but not its outline
 pub at-shape : (e : ℕ) (f : Edge → Edge) (m : Map) → ((r : Edge) → outlineOf (f r) ≡ outlineOf r)
@@ -40,9 +39,7 @@ pub at-shape : (e : ℕ) (f : Edge → Edge) (m : Map) → ((r : Edge) → outli
 unfolding atEdge
 at-shape e f m h = record {
   nodes = refl;
-  outlines =
-      map-map outlineOf (λ r. cond (same (r .number) e) (f r) r) (m .edges)
-      ∙ map-cong _ outlineOf (m .edges) (λ r k. go (same (r .number) e) r);
+  outlines = map-twice outlineOf _ outlineOf (m .edges) (λ r k. go (same (r .number) e) r);
   faces = refl;
   next-node = refl;
   next-edge = refl;

@@ -1,18 +1,18 @@
 -- What a map reads in its rows, and after each way of changing them: rows mapped, appended, left out, redirected.
 -- Assumes nothing.
 use mathlib.Core.Path.{_≡_, refl, sym, ap, _∙_, subst}
-use mathlib.Core.Logic.{_⊎_, inl, inr, _≢_}
-use mathlib.Core.Bool.{Bool, true, false, cond, not, _&&_, Bool·beq, true≢false}
-use mathlib.Core.List.{List, [], _∷_, _++_, map, map-map, List·Memᴰ, Memᴰ·map, Memᴰ·of-map, Memᴰ·cast}
-use mathlib.Core.Option.{Option, none, some, Option·getD, Option·map}
+use mathlib.Core.Logic.{_⊎_, inl, inr}
+use mathlib.Core.Bool.{Bool, true, false, cond, not, _&&_, Bool·beq}
+use mathlib.Core.List.{List, [], map, map-map, List·Memᴰ, Memᴰ·map, Memᴰ·of-map, Memᴰ·cast}
 use Prim.Native.Nat.{ℕ}
 use Rattle.lists.specs.Tests.{same}
-use Rattle.lists.specs.Scans.{find, isSome, keep}
+use Rattle.lists.specs.Scans.{keep}
 use Rattle.lists.specs.Members.{Distinct}
-use Rattle.lists.proofs.Bools.{same-refl, same-true, same-false, same-eq}
+use Rattle.lists.proofs.Bools.{same-true, same-eq}
 use Rattle.lists.proofs.Keeps.{keep-in, keep-has, keep-cong}
 use Rattle.lists.proofs.Members.{map-cong}
-use Rattle.lists.proofs.Lookups.{find-map, has-map}
+use Rattle.lists.proofs.Lookups.{has-map}
+use Rattle.lists.proofs.Maps.{map-twice}
 use Rattle.planar_maps.specs.Map.{Arc, Dart, fwd, bwd, darts}
 use Rattle.planar_maps.specs.Pieces.{nums}
 use Rattle.planar_maps.specs.Rings.{sameDart}
@@ -24,72 +24,9 @@ use Rattle.map.specs.Darts.{arcs, directed, leaves, next, bears, course, way, d
 use Rattle.map.specs.Links.{withLinks, instead, redirect, lead}
 use Rattle.map.proofs.Laws.{edge-there}
 use Rattle.curves.specs.Edits as edits
-pub use Rattle.lists.proofs.Lookups.{look, has, without, look-at, look-row, has-number, number-has}
+pub use Rattle.lists.proofs.Lookups.{look, has, without, look-at, look-row, look-map, look-kept, has-number, number-has}
 pub use Rattle.map.proofs.Redirects.{redirect-next}
 pub use Rattle.map.proofs.Linked.{arcOf, nums-rows}
-
--- ---- rows looked up by number, nodes and edges alike
-
-module _ {A : Type 0} (num : A → ℕ) where
-  abbrev pub numbered : ℕ → A → Bool
-  numbered n r = same (num r) n
-
-  -- rows mapped by a function that keeps their numbers
-  module _ (f : A → A) where
-    -- the row is mapped
-    look-map : (u : A) (rs : List A) (n : ℕ) → ((r : A) → List·Memᴰ r rs → num (f r) ≡ num r) → has num rs n ≡ true
-        → look num u (map f rs) n ≡ f (look num u rs n)
-    look-map u rs n h k = rw (find-map num f rs n h) (step (find (numbered n) rs) k)
-      where
-        step : (o : Option A) → isSome o ≡ true → Option·getD (Option·map f o) u ≡ f (Option·getD o u)
-        step none e = absurd (true≢false (sym e))
-        step (some a) e = refl
-
-    -- what f leaves of a row is read as it was, whatever the number
-    look-kept : {B : Type 0} (g : A → B) (u : A) (rs : List A) (n : ℕ) → ((r : A) → List·Memᴰ r rs → num (f r) ≡ num r)
-        → ((r : A) → g (f r) ≡ g r) → g (look num u (map f rs) n) ≡ g (look num u rs n)
-    look-kept {B} g u rs n h k = rw (find-map num f rs n h) (step (find (numbered n) rs))
-      where
-        step : (o : Option A) → g (Option·getD (Option·map f o) u) ≡ g (Option·getD o u)
-        step none = refl
-        step (some a) = k a
-
-  -- rows appended
-  find-append : (rs ss : List A) (n : ℕ)
-      → find (numbered n) (rs ++ ss) ≡ cond (has num rs n) (find (numbered n) rs) (find (numbered n) ss)
-  find-append [] ss n = refl
-  find-append (q ∷ rs) ss n = rw (find-append rs ss n) (step (same (num q) n))
-    where
-      step : (b : Bool) → cond b (some q) (cond (has num rs n) (find (numbered n) rs) (find (numbered n) ss))
-          ≡ cond (isSome (cond b (some q) (find (numbered n) rs))) (cond b (some q) (find (numbered n) rs))
-          (find (numbered n) ss)
-      step true = refl
-      step false = refl
-
-  pub look-first : (u : A) (rs ss : List A) (n : ℕ) → has num rs n ≡ true → look num u (rs ++ ss) n ≡ look num u rs n
-  look-first u rs ss n h = rw (find-append rs ss n, h)
-
-  pub look-second : (u : A) (rs ss : List A) (n : ℕ) → has num rs n ≡ false → look num u (rs ++ ss) n ≡ look num u ss n
-  look-second u rs ss n h = rw (find-append rs ss n, h)
-
-  pub look-one : (u q : A) → look num u (q ∷ []) (num q) ≡ q
-  look-one u q = rw (same-refl (num q))
-
-  -- rows left out
-  find-without : (e : ℕ) (rs : List A) (n : ℕ) → n ≢ e → find (numbered n) (without num e rs) ≡ find (numbered n) rs
-  find-without e [] n h = refl
-  find-without e (q ∷ rs) n h = step (same (num q) e) refl (find-without e rs n h)
-    where
-      step : (b : Bool) → same (num q) e ≡ b → find (numbered n) (without num e rs) ≡ find (numbered n) rs
-          → find (numbered n) (cond (not b) (q ∷ without num e rs) (without num e rs)) ≡ find (numbered n) (q ∷ rs)
-      step true s ih = rw (same-false (num q) n (λ p. h (sym p ∙ same-true (num q) e s))) ih
-      step false s ih = rw ih
-
-  pub has-without : (e : ℕ) (rs : List A) (n : ℕ) → n ≢ e → has num (without num e rs) n ≡ has num rs n
-  has-without e rs n h = ap isSome (find-without e rs n h)
-
-  pub look-without : (u : A) (e : ℕ) (rs : List A) (n : ℕ) → n ≢ e → look num u (without num e rs) n ≡ look num u rs n
-  look-without u e rs n h = ap (λ (o : Option A). Option·getD o u) (find-without e rs n h)
 
 -- ---- a directed edge reads its row: what each side of a row says
 abbrev pub tailIn : Bool → Edge → ℕ
@@ -250,7 +187,7 @@ module _ (m m′ : Map) (f : Edge → Edge) (E : m′ .edges ≡ map f (m .edges
       ∙ look-kept numberOf f g _ (m .edges) e keeps h
 
   pub mapped-arcs : ((r : Edge) → List·Memᴰ r (m .edges) → arcOf (f r) ≡ arcOf r) → arcs m′ ≡ arcs m
-  mapped-arcs h = ap (map arcOf) E ∙ map-map arcOf f (m .edges) ∙ map-cong (λ r. arcOf (f r)) arcOf (m .edges) h
+  mapped-arcs h = ap (map arcOf) E ∙ map-twice arcOf f arcOf (m .edges) h
 
 -- ---- links changed
 

@@ -1,57 +1,26 @@
 -- What a map reads after one row is changed, appended or left out. Assumes nothing.
 use mathlib.Core.Path.{_≡_, refl, sym, ap, _∙_, subst}
 use mathlib.Core.Logic.{inl, inr, _≢_}
-use mathlib.Core.Bool.{Bool, true, false, cond, not, true≢false}
-use mathlib.Core.List.{List, [], _∷_, _++_, map, map-map, map-append, List·Memᴰ, Memᴰ·map, Memᴰ·cast, List·Permᴰ}
-use mathlib.Core.List.{List·Permᴰ·cons, List·Permᴰ·swap, List·Permᴰ·trans, Permᴰ·refl, Permᴰ·map, Permᴰ·middle}
-use mathlib.Core.List.{Permᴰ·append-nil}
-use mathlib.Core.Option.{Option, none, some, Option·getD}
+use mathlib.Core.Bool.{Bool, true, false, cond, not}
+use mathlib.Core.List.{List, [], _∷_, _++_, map, map-append, List·Memᴰ, List·Permᴰ, List·Permᴰ·cons, List·Permᴰ·trans}
+use mathlib.Core.List.{Permᴰ·map, Permᴰ·middle, Permᴰ·append-nil}
+use mathlib.Core.Option.{none}
 use Prim.Native.Nat.{ℕ}
 use Rattle.lists.specs.Tests.{same}
-use Rattle.lists.specs.Scans.{find, isSome, keep}
+use Rattle.lists.specs.Scans.{keep}
 use Rattle.lists.specs.Members.{Distinct}
 use Rattle.lists.proofs.Bools.{same-true, same-false, which}
-use Rattle.lists.proofs.Members.{map-cong}
-use Rattle.lists.proofs.Keeps.{keep-map, keep-all}
+use Rattle.lists.proofs.Keeps.{keep-map}
+use Rattle.lists.proofs.Lookups.{look-first, look-second, look-one, look-without, has-without, without-perm, look-none}
+use Rattle.lists.proofs.Maps.{map-twice}
 use Rattle.plane.specs.Points.{origin}
 use Rattle.planar_maps.specs.Map.{Arc, Dart, fwd, bwd, darts}
 use Rattle.planar_maps.specs.Pieces.{nums}
 use Rattle.map.specs.Rows.{Node, Edge, Map, node, edge, hasEdge, atEdge, withoutEdge}
 use Rattle.map.specs.Darts.{arcs, directed}
 use Rattle.map.proofs.Laws.{edge-there}
-use Rattle.map_laws.proofs.Readings.{numbered, look, has, look-at, look-first, look-second, look-one, without}
-use Rattle.map_laws.proofs.Readings.{look-without, has-without, numberOf, missing, arcOf, nums-rows, mapped-edge}
+use Rattle.map_laws.proofs.Readings.{look, has, look-at, numberOf, missing, arcOf, nums-rows, mapped-edge}
 use Rattle.map_laws.proofs.Readings.{mapped-has}
-
--- ---- lists
-
-module _ {A : Type 0} (num : A → ℕ) where
-  look-none : (u : A) (rs : List A) (n : ℕ) → has num rs n ≡ false → look num u rs n ≡ u
-  look-none u rs n h = step (find (numbered num n) rs) h
-    where
-      step : (o : Option A) → isSome o ≡ false → Option·getD o u ≡ u
-      step none e = refl
-      step (some a) e = absurd (true≢false e)
-
-  -- nothing to leave out
-  without-none : (e : ℕ) (rs : List A) → (List·Memᴰ e (map num rs) → ⊥) → without num e rs ≡ rs
-  without-none e rs h = keep-all _ rs (λ r k. rw (same-false (num r) e (λ p. h (Memᴰ·cast (sym p) (Memᴰ·map num k)))))
-
-  -- a row put before the others, which were without it
-  pub without-perm : (u : A) (rs : List A) (e : ℕ) → Distinct (map num rs) → has num rs e ≡ true
-      → List·Permᴰ rs (look num u rs e ∷ without num e rs)
-  without-perm u [] e dis h = absurd (true≢false (sym h))
-  without-perm u (q ∷ rs) e dis h = step (same (num q) e) refl (without-perm u rs e (dis .1)) h
-    where
-      step : (b : Bool) → same (num q) e ≡ b
-          → (has num rs e ≡ true → List·Permᴰ rs (look num u rs e ∷ without num e rs))
-          → isSome (cond b (some q) (find (numbered num e) rs)) ≡ true
-          → List·Permᴰ (q ∷ rs) (Option·getD (cond b (some q) (find (numbered num e) rs)) u
-          ∷ cond (not b) (q ∷ without num e rs) (without num e rs))
-      step true s ih k = List·Permᴰ·cons refl
-          (subst (List·Permᴰ rs) (sym (without-none e rs (λ j. dis .0 (Memᴰ·cast (same-true (num q) e s) j))))
-          (Permᴰ·refl rs))
-      step false s ih k = List·Permᴰ·trans (List·Permᴰ·cons refl (ih k)) (List·Permᴰ·swap refl refl)
 
 darts-append : (xs ys : List Arc) → darts (xs ++ ys) ≡ darts xs ++ darts ys
 darts-append [] ys = refl
@@ -159,8 +128,7 @@ nodeNumbers m = map (λ n. n .number) (m .nodes)
 -- rows changed keep their numbers
 pub numbers-kept : (p : Node → Bool) (g : Node → Node) (ns : List Node) → ((n : Node) → g n .number ≡ n .number)
     → map (λ n. n .number) (map (λ n. cond (p n) (g n) n) ns) ≡ map (λ n. n .number) ns
-numbers-kept p g ns h = map-map (λ (n : Node). n .number) (λ n. cond (p n) (g n) n) ns
-    ∙ map-cong _ (λ (n : Node). n .number) ns (λ n k. go (p n) n)
+numbers-kept p g ns h = map-twice (λ (n : Node). n .number) (λ n. cond (p n) (g n) n) _ ns (λ n k. go (p n) n)
   where
     go : (b : Bool) (n : Node) → cond b (g n) n .number ≡ n .number
     go true n = h n

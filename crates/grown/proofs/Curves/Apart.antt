@@ -2,13 +2,12 @@
 use mathlib.Core.Path.{_≡_, refl, sym, ap, _∙_, subst}
 use mathlib.Core.Logic.{_⊎_, inl, inr, _≢_}
 use mathlib.Core.Bool.{Bool, true, false, true≢false}
-use mathlib.Core.List.{List, [], _∷_, map, List·Memᴰ, List·Memᴰ·cases-cons, List·Memᴰ·not-nil, Memᴰ·map}
+use mathlib.Core.List.{List, [], _∷_, map, List·Memᴰ, Memᴰ·map}
 use Prim.Native.Nat.{ℕ, suc, _≤_}
 use native.Mathlib.Omega.{arith}
 use lib.ListN.{length}
-use Rattle.lists.specs.Members.{Pairs}
 use Rattle.lists.proofs.Bools.{equal?}
-use Rattle.lists.proofs.Members.{each-of}
+use Rattle.lists.proofs.Members.{each-of, pairs-in}
 use Rattle.plane.specs.declared.Point.{Point}
 use Rattle.plane.specs.Directions.{Way, sameWay}
 use Rattle.curves.specs.Curves.{points, startWay}
@@ -26,21 +25,6 @@ use Rattle.map.specs.Darts.{directed, leaves, way, departures}
 use Rattle.map.proofs.Laws.{edge-there}
 use Rattle.map_laws.proofs.Readings.{tailIn, courseIn, leaves-row, course-row, way-row, dart-has, departs}
 use Rattle.grown.specs.Good.{Surveyed}
-
--- what holds of all pairs holds of any two
-pairs-in : {A B : Type 0} (R : B → B → Type 0) (turn : (a b : B) → R a b → R b a) (f : A → B) (l : List A)
-    → Pairs R (map f l) → (x y : A) → List·Memᴰ x l → List·Memᴰ y l → x ≢ y → R (f x) (f y)
-pairs-in R turn f [] h x y m k ne = absurd (List·Memᴰ·not-nil m)
-pairs-in {A} R turn f (z ∷ l) h x y m k ne =
-    go (pairs-in R turn f l (h .1) x y) (List·Memᴰ·cases-cons m) (List·Memᴰ·cases-cons k)
-  where
-    go : (List·Memᴰ x l → List·Memᴰ y l → x ≢ y → R (f x) (f y)) → (x ≡ z) ⊎ List·Memᴰ x l → (y ≡ z) ⊎ List·Memᴰ y l
-        → R (f x) (f y)
-    go ih (inl p) (inl q) = absurd (ne (p ∙ sym q))
-    go ih (inl p) (inr q) = subst (λ w. R (f w) (f y)) (sym p) (each-of (R (f z)) (map f l) (h .0) (f y) (Memᴰ·map f q))
-    go ih (inr p) (inl q) = subst (λ w. R (f x) (f w)) (sym q)
-        (turn (f z) (f x) (each-of (R (f z)) (map f l) (h .0) (f x) (Memᴰ·map f p)))
-    go ih (inr p) (inr q) = ih p q ne
 
 module _ (m : Map) (s : Surveyed m) where
   pub curve-good : (r : Edge) → List·Memᴰ r (m .edges) → drawing.Good (r .curve)

@@ -9,6 +9,8 @@ use Prim.Native.Nat.{ℕ}
 use Rattle.lists.specs.Members.{Distinct}
 use Rattle.lists.specs.Tests.{same}
 use Rattle.lists.proofs.Keeps.{keep-in}
+use Rattle.lists.proofs.Lookups.{Located, located}
+use Rattle.lists.proofs.Members.{between-cases}
 use Rattle.plane.specs.declared.Point.{Point}
 use Rattle.plane.specs.Points.{InRange}
 use Rattle.curves.specs.Curves.{lastPoint}
@@ -22,9 +24,8 @@ use Rattle.geometry.proofs.Edits.{split-new, split-mod}
 use Rattle.geometry.proofs.Theorems.{cut-ends, onCurve-iff}
 use Rattle.map_laws.proofs.Readings.{without}
 use Rattle.grown.proofs.Curves.Kept.{kept-front, kept-back}
-use Rattle.grown.proofs.Curves.Lists.{Found, found}
 use Rattle.grown.proofs.Curves.Survey.{Line, Place, curveIn, atIn, placeNumber, lineNumber, Sited, Survey}
-use Rattle.grown.proofs.Curves.Sites.{plot, sited-more, between-cases}
+use Rattle.grown.proofs.Curves.Sites.{plot, sited-more}
 
 -- the halves of the line, from its start to the new place n and from there to its end
 abbrev pub firstHalf : Line → ℕ → ℕ → Point → Line
@@ -40,8 +41,8 @@ module _ (ls : List Line) (ps : List Place) (l : Line) (n a b : ℕ) (p : Point)
   abbrev place : Place
   place = record { number = n; at = p }
 
-  h : Found lineNumber l ls
-  h = found lineNumber ls dis i
+  h : Located lineNumber l ls
+  h = located lineNumber ls dis i
 
   -- neither end is the point, which is no place
   not-first : l .curve .first ≢ p

@@ -5,6 +5,7 @@ use mathlib.Core.List.{map-append, List, [], _∷_, _++_, map}
 use mathlib.Core.Option.{Option·getD}
 use Prim.Native.Nat.{ℕ, _+_}
 use Rattle.lists.specs.Tests.{same}
+use Rattle.lists.proofs.Maps.{map-square}
 use Rattle.plane.specs.declared.Point.{Point}
 use Rattle.planar_maps.specs.Map.{Dart, fwd, bwd, rev}
 use Rattle.map.specs.declared.Variant.the-variants.{New, Mod}
@@ -13,7 +14,6 @@ use Rattle.map.specs.Darts.{leaves, arrives}
 use Rattle.map.specs.Links.{redirect}
 use Rattle.map.specs.Edits.{startHalf, endHalf, split, joint, parts, healedCurve, heal}
 use Rattle.map_laws.proofs.Readings.{without}
-use Rattle.grown.proofs.Curves.Lists.{map-commute}
 use Rattle.grown.proofs.Curves.Survey.{Line, lineOf, placeOf, lines, places, placeNumber, lineNumber}
 use Rattle.grown.proofs.Curves.Cut.{firstHalf, secondHalf}
 use Rattle.grown.proofs.Curves.Rows.{Alike, alike-join, redirect-alike, redirect-line, without-lines}
@@ -26,7 +26,8 @@ replaced e l r = cond (same (r .number) e) l r
 replaced-lines : (e : ℕ) (row : Edge) (m : Map) → map lineOf (atEdge e (λ r. row) m .edges)
     ≡ map (replaced e (lineOf row)) (lines m)
 unfolding atEdge
-replaced-lines e row m = map-commute lineOf _ (replaced e (lineOf row)) (m .edges) (λ r. go (same (r .number) e) r)
+replaced-lines e row m = map-square lineOf _ (replaced e (lineOf row)) lineOf (m .edges)
+    (λ r k. go (same (r .number) e) r)
   where
     go : (b : Bool) (r : Edge) → lineOf (cond b row r) ≡ cond b (lineOf row) (lineOf r)
     go true r = refl

@@ -8,6 +8,7 @@ use Prim.Native.Nat.{ℕ, _≤_}
 use lib.ListN.{length}
 use Rattle.lists.proofs.Bools.{same-false}
 use Rattle.lists.proofs.Keeps.{keep-swap, keep-append}
+use Rattle.lists.proofs.Lookups.{Located, located}
 use Rattle.curves.specs.Curves.{Curve, points, maxPoints}
 use Rattle.curves.specs.Edits as edits
 use Rattle.curves.specs.Edits.{joined}
@@ -20,7 +21,6 @@ use Rattle.map.proofs.Laws.{edge-there}
 use Rattle.map_laws.proofs.Readings.{without, edge-at, row-has, dart-has, has-dart, leaves-row, course-row}
 use Rattle.map_laws.proofs.Reasons.{Heal}
 use Rattle.grown.specs.Good.{Surveyed, Good}
-use Rattle.grown.proofs.Curves.Lists.{Found, found}
 use Rattle.grown.proofs.Curves.Survey.{Line, lineOf, lines, places, placeNumber, lineNumber, Survey, lines-once}
 use Rattle.grown.proofs.Curves.Survey.{survey, surveyed-by}
 use Rattle.grown.proofs.Curves.Sites.{Clear}
@@ -153,8 +153,8 @@ module _ (m : Map) (G : Good m) (e f : ℕ) (h : Heal m e f) where
       number-e : edge m e .number ≡ e
       number-e = edge-there m e (h .has) .1
 
-      k : Found lineNumber (lineOf (edge m e)) (lines m)
-      k = found lineNumber (lines m) (lines-once m G) (Memᴰ·map lineOf (edge-there m e (h .has) .0))
+      k : Located lineNumber (lineOf (edge m e)) (lines m)
+      k = located lineNumber (lines m) (lines-once m G) (Memᴰ·map lineOf (edge-there m e (h .has) .0))
 
       healed-row : Line
       healed-row = healedRow e e f m

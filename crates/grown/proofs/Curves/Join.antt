@@ -9,6 +9,8 @@ use borrow.Author.Tests.{not-true}
 use Rattle.lists.specs.Members.{Distinct, All}
 use Rattle.lists.proofs.Bools.{same-false, differ}
 use Rattle.lists.proofs.Keeps.{keep-in, keep-has, distinct-map-keep}
+use Rattle.lists.proofs.Lookups.{Located, located}
+use Rattle.lists.proofs.Members.{between-cases}
 use Rattle.curves.specs.Curves.{Curve, lastPoint, points, maxPoints}
 use Rattle.curves.specs.Edits.{joined, course}
 use Rattle.geometry.specs.Drawing.{Away, ClearCurves, Drawn}
@@ -17,9 +19,8 @@ use Rattle.geometry.proofs.Theorems.{join-last}
 use Rattle.geometry.proofs.Turning.{last-turned}
 use Rattle.map_laws.proofs.Readings.{without}
 use Rattle.grown.proofs.Curves.Kept.{kept-course, kept-joined}
-use Rattle.grown.proofs.Curves.Lists.{Found, found}
 use Rattle.grown.proofs.Curves.Survey.{Line, Place, curveIn, placeNumber, lineNumber, Sited, Survey}
-use Rattle.grown.proofs.Curves.Sites.{number-one, point-one, unplot, Clear, sited-without, between-cases}
+use Rattle.grown.proofs.Curves.Sites.{number-one, point-one, unplot, Clear, sited-without}
 use Rattle.geometry.specs.Drawing as geometry
 
 -- the place where a line, taken one way round or the other, leaves and the one where it arrives
@@ -116,12 +117,12 @@ module _ (ls : List Line) (ps : List Place) (n e : ℕ) (s : Bool) (c : Line) (t
   away-all [] h = tt
   away-all (k ∷ l) h = (h k (List·Memᴰ·head refl), away-all l (λ j i. h j (List·Memᴰ·tail i)))
 
-  h : Found lineNumber c ls
-  h = found lineNumber ls dis (w .first)
+  h : Located lineNumber c ls
+  h = located lineNumber ls dis (w .first)
 
   -- d among the others of c
-  h′ : Found lineNumber d (without lineNumber (c .number) ls)
-  h′ = found lineNumber (without lineNumber (c .number) ls) (distinct-map-keep lineNumber _ ls dis)
+  h′ : Located lineNumber d (without lineNumber (c .number) ls)
+  h′ = located lineNumber (without lineNumber (c .number) ls) (distinct-map-keep lineNumber _ ls dis)
       (keep-has _ ls (w .second) (ap not (same-false (d .number) (c .number) (w .two))))
 
   abbrev xs : List Curve

@@ -1,12 +1,12 @@
 -- `Kept` of the new curves: halves, joins, reverses and curves that a ticket sends. Assumes nothing.
-use mathlib.Core.Path.{_≡_, refl, sym, subst}
+use mathlib.Core.Path.{_≡_, refl, subst}
 use mathlib.Core.Bool.{Bool, true, false}
-use mathlib.Core.List.{List, [], _∷_, List·Memᴰ, List·Memᴰ·head, List·Memᴰ·tail, List·Memᴰ·cases-cons}
-use mathlib.Core.List.{List·Memᴰ·not-nil}
+use mathlib.Core.List.{List, [], _∷_, List·Memᴰ, List·Memᴰ·head, List·Memᴰ·tail, List·Memᴰ·not-nil}
 use mathlib.Core.Logic.{inl, inr, _≢_}
 use Prim.Native.Nat.{ℕ, _≤_}
 use native.Mathlib.Omega.{arith}
 use lib.ListN.{length}
+use Rattle.lists.proofs.Members.{each-cons}
 use Rattle.plane.specs.declared.Point.{Point}
 use Rattle.plane.specs.Points.{InRange, samePoint}
 use Rattle.plane.specs.Segments.{onSegment}
@@ -34,9 +34,6 @@ module _ (R : Point → Type 0) where
 
   each-nil : Each []
   each-nil p m = absurd (List·Memᴰ·not-nil m)
-
-  each-cons : {a : Point} {l : List Point} → R a → Each l → Each (a ∷ l)
-  each-cons r h p m = elim (List·Memᴰ·cases-cons m) [ inl e ↦ subst R (sym e) r | inr k ↦ h p k ]
 
   each-head : {a : Point} {l : List Point} → Each (a ∷ l) → R a
   each-head h = h _ (List·Memᴰ·head refl)
@@ -106,7 +103,7 @@ pub kept-joined : (c d : Curve) → Some (c .rest) → Some (d .rest) → d .fir
 kept-joined c d s t e l k h =
     record {
       most = l;
-      in-range = each-cons InRange (each-head InRange (k .in-range))
+      in-range = each-cons (each-head InRange (k .in-range))
           (each-join InRange (c .first) (c .rest) (d .rest) (each-tail InRange (k .in-range))
           (each-tail InRange (h .in-range)));
       bent = join-bent (c .first) (c .rest) (d .rest) s t (k .bent)

@@ -6,6 +6,7 @@ use mathlib.Core.Option.{Option, none, some}
 use Prim.Native.Nat.{ℕ}
 use Rattle.lists.specs.Tests.{same}
 use Rattle.lists.proofs.Keeps.{keep-map}
+use Rattle.lists.proofs.Maps.{map-twice, map-square}
 use Rattle.plane.specs.declared.Point.{Point}
 use Rattle.curves.specs.Curves.{Curve, startWay}
 use Rattle.planar_maps.specs.Map.{Dart, fwd, bwd, rev}
@@ -16,7 +17,6 @@ use Rattle.map.specs.Edits.{Shares, withFace, withCurve, isEither, drawn, undra
 use Rattle.map.specs.Edits.{changeEdgeGeom, sideOfPoint, sideOfNode, sharedOut, splitFace, splitsFace, addEdge}
 use Rattle.map.specs.Edits.{faceLeft, renamedNode, renamedFaces, removeEdge, addIsoNode, moveIsoNode, removeIsoNode}
 use Rattle.map_laws.proofs.Readings.{without, mapped-kept}
-use Rattle.grown.proofs.Curves.Lists.{map-commute, map-unseen}
 use Rattle.grown.proofs.Curves.Survey.{Line, Place, lineOf, placeOf, lines, places, placeNumber, lineNumber}
 use Rattle.grown.proofs.Curves.Sites.{moved}
 
@@ -33,7 +33,7 @@ alike-join x y = record { lines = y .lines ∙ x .lines; places = y .places ∙ 
 module _ (old new : Dart) (m : Map) where
   pub redirect-alike : Alike m (redirect old new m)
   unfolding redirect
-  redirect-alike = record { lines = map-unseen lineOf _ (m .edges) (λ e. refl); places = refl }
+  redirect-alike = record { lines = map-twice lineOf _ lineOf (m .edges) (λ e k. refl); places = refl }
 
   pub redirect-line : (e : ℕ) → lineOf (edge (redirect old new m) e) ≡ lineOf (edge m e)
   unfolding redirect
@@ -44,7 +44,7 @@ module _ (old new : Dart) (m : Map) where
 lead-alike : (d c : Dart) (m : Map) → Alike m (lead d c m)
 unfolding lead atEdge
 lead-alike d c m = record {
-  lines = map-unseen lineOf _ (m .edges) (λ e. go (same (e .number) (d .edge)) (d .back) e);
+  lines = map-twice lineOf _ lineOf (m .edges) (λ e k. go (same (e .number) (d .edge)) (d .back) e);
   places = refl;
 }
   where
@@ -67,7 +67,7 @@ linkEdge-alike e m = alike-join (linkIn-alike (fwd e) _ m) (linkIn-alike (bwd e)
 -- nodes that change their faces alone
 faces-alike : (p : Node → Bool) (f : Option ℕ) (m : Map) → Alike m (atNodes p (withFace f) m)
 unfolding atNodes
-faces-alike p f m = record { lines = refl; places = map-unseen placeOf _ (m .nodes) (λ n. go (p n) n) }
+faces-alike p f m = record { lines = refl; places = map-twice placeOf _ placeOf (m .nodes) (λ n k. go (p n) n) }
   where
     go : (b : Bool) (n : Node) → placeOf (cond b (withFace f n) n) ≡ placeOf n
     go true n = refl
@@ -76,8 +76,8 @@ faces-alike p f m = record { lines = refl; places = map-unseen placeOf _ (m .nod
 sharedOut-alike : (s : Shares) (m : Map) → Alike m (sharedOut s m)
 unfolding sharedOut
 sharedOut-alike s m = record {
-  lines = map-unseen lineOf _ (m .edges) (λ e. refl);
-  places = map-unseen placeOf _ (m .nodes) (λ n. go n (n .face));
+  lines = map-twice lineOf _ lineOf (m .edges) (λ e k. refl);
+  places = map-twice placeOf _ placeOf (m .nodes) (λ n k. go n (n .face));
 }
   where
     pick : (b : Bool) (f : ℕ) (n : Node) → placeOf (cond b (withFace (some f) n) n) ≡ placeOf n
@@ -95,8 +95,8 @@ splitFace-alike how e m = let h = sharedOut-alike _ m in record { lines = h .lin
 renamedFaces-alike : (e : Edge) (f : ℕ) (m : Map) → Alike m (renamedFaces e f m)
 unfolding renamedFaces
 renamedFaces-alike e f m = record {
-  lines = map-unseen lineOf _ (m .edges) (λ r. refl);
-  places = map-unseen placeOf _ (m .nodes) (λ n. go n (n .face));
+  lines = map-twice lineOf _ lineOf (m .edges) (λ r k. refl);
+  places = map-twice placeOf _ placeOf (m .nodes) (λ n k. go n (n .face));
 }
   where
     go : (n : Node) (g : Option ℕ) → placeOf (renamedNode e f n g) ≡ placeOf n
@@ -158,7 +158,7 @@ pub moveIsoNode-becomes : (n : ℕ) (p : Point) (m : Map)
 unfolding moveIsoNode atNodes
 moveIsoNode-becomes n p m = record {
   lines = refl;
-  places = map-commute placeOf _ (moved n p) (m .nodes) (λ r. go (same (r .number) n) r _);
+  places = map-square placeOf _ (moved n p) placeOf (m .nodes) (λ r k. go (same (r .number) n) r _);
 }
   where
     go : (b : Bool) (r : Node) (f : Option ℕ) → placeOf (cond b (record { number = n; at = p; face = f }) r)
@@ -192,7 +192,8 @@ pub changeEdgeGeom-becomes : (e : ℕ) (c : Curve) (m : Map)
 unfolding changeEdgeGeom atEdge
 changeEdgeGeom-becomes e c m = record {
   lines =
-      map-commute lineOf _ (λ l. cond (same (l .number) e) (redrawn c l) l) (m .edges) (λ r. go (same (r .number) e) r);
+      map-square lineOf _ (λ l. cond (same (l .number) e) (redrawn c l) l) lineOf (m .edges)
+      (λ r k. go (same (r .number) e) r);
   places = refl;
 }
   where

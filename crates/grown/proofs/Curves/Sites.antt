@@ -2,16 +2,17 @@
 use mathlib.Core.Path.{_≡_, refl, sym, ap, _∙_, subst}
 use mathlib.Core.Bool.{Bool, true, false, not, cond, true≢false}
 use mathlib.Core.List.{map-append, List, [], _∷_, _++_, map, map-map, List·Memᴰ, List·Memᴰ·head, List·Memᴰ·tail}
-use mathlib.Core.List.{List·Memᴰ·cases-cons, List·Memᴰ·append-cases, List·Memᴰ·eq-of-singleton, Memᴰ·append-left}
-use mathlib.Core.List.{Memᴰ·append-right, Memᴰ·map, Memᴰ·of-map, Memᴰ·cast}
+use mathlib.Core.List.{Memᴰ·append-left, Memᴰ·map, Memᴰ·of-map, Memᴰ·cast}
 use mathlib.Core.Logic.{_⊎_, inl, inr, _≢_}
 use Prim.Native.Nat.{ℕ}
 use Rattle.lists.specs.Members.{Distinct, All}
 use Rattle.lists.specs.Tests.{same}
 use Rattle.lists.specs.Scans.{keep}
 use Rattle.lists.proofs.Bools.{same-true, same-false, same-eq}
-use Rattle.lists.proofs.Keeps.{keep-in, keep-has, distinct-map-keep}
-use Rattle.lists.proofs.Perms.{distinct-map, distinct-injective}
+use Rattle.lists.proofs.Keeps.{keep-in, keep-has, distinct-map-keep, all-keep, pairs-keep}
+use Rattle.lists.proofs.Perms.{distinct-map, distinct-injective, distinct-of, map-last, perm-distinct}
+use Rattle.lists.proofs.Lookups.{Located, located}
+use Rattle.lists.proofs.Members.{between-cases, each-last}
 use Rattle.plane.specs.declared.Point.{Point}
 use Rattle.plane.specs.Points.{InRange}
 use Rattle.curves.specs.Curves.{Curve}
@@ -20,7 +21,6 @@ use Rattle.geometry.specs.Meaning.{Some, Differ}
 use Rattle.geometry.specs.Drawing.{Good, ClearCurves, Drawn}
 use Rattle.geometry.proofs.Edits.{change, append}
 use Rattle.map_laws.proofs.Readings.{without}
-use Rattle.grown.proofs.Curves.Lists.{all-keep, pairs-keep, distinct-of, distinct-snoc, Found, found}
 use Rattle.grown.proofs.Curves.Survey.{Line, Place, curveIn, atIn, placeNumber, lineNumber, startOf, endOf}
 use Rattle.grown.proofs.Curves.Survey.{Plotted, Sited, Survey}
 
@@ -40,14 +40,9 @@ pub plot : (ps : List Place) (p : Place) → Plotted ps → InRange (p .at)
     → Plotted (ps ++ (p ∷ []))
 plot ps p P r n a =
     record {
-      in-range = λ q m. elim (List·Memᴰ·append-cases ps m) [
-        | inl k ↦ P .in-range q k
-        | inr k ↦ subst
-            (λ (z : Place). InRange (z .at)) (sym (List·Memᴰ·eq-of-singleton k)) r
-      ];
-      apart = rw (map-append atIn ps (p ∷ [])) (distinct-snoc (map atIn ps) (p .at) (P .apart) a);
-      numbered = rw (map-append placeNumber ps (p ∷ []))
-          (distinct-snoc (map placeNumber ps) (p .number) (P .numbered) n);
+      in-range = each-last ps (P .in-range) r;
+      apart = perm-distinct (map-last atIn ps p) (a, P .apart);
+      numbered = perm-distinct (map-last placeNumber ps p) (n, P .numbered);
     }
 
 -- places left out
@@ -198,21 +193,9 @@ survey-append ls ps l S d s =
       drawn = rw (map-append curveIn ls (l ∷ []))
           (append (map curveIn ls) (l .curve) (d .some) (d .differ) (d .simple) (meets-all (l .curve) ls (d .meets))
           (S .drawn));
-      sited = λ k m. elim (List·Memᴰ·append-cases ls m) [
-        | inl i ↦ S .sited k i
-        | inr i ↦ subst (Sited ps)
-            (sym (List·Memᴰ·eq-of-singleton i)) s
-      ];
+      sited = each-last ls (S .sited) s;
       plotted = S .plotted;
     }
-
--- members of a list with another element in the place of one
-pub between-cases : {A : Type 0} {x : A} (xs : List A) (y : A) (ys : List A) → List·Memᴰ x (xs ++ (y ∷ ys)) → (x ≡ y)
-    ⊎ List·Memᴰ x (xs ++ ys)
-between-cases xs y ys m = elim (List·Memᴰ·append-cases xs m) [
-  | inl k ↦ inr (Memᴰ·append-left ys k)
-  | inr k ↦ elim (List·Memᴰ·cases-cons k) [ inl e ↦ inl e | inr i ↦ inr (Memᴰ·append-right xs i) ]
-]
 
 -- kind 6
 pub survey-change : (ls : List Line) (ps : List Place) (l : Line) (f : Line → Line) → Survey ls ps
@@ -221,8 +204,8 @@ pub survey-change : (ls : List Line) (ps : List Place) (l : Line) (f : Line → 
     → Survey (map (λ r. cond (same (r .number) (l .number)) (f r) r) ls) ps
 survey-change ls ps l f S dis i d s = subst (λ (k : List Line). Survey k ps) (sym (h .changed f)) survey
   where
-    h : Found lineNumber l ls
-    h = found lineNumber ls dis i
+    h : Located lineNumber l ls
+    h = located lineNumber ls dis i
 
     xs : List Line
     xs = h .before

@@ -12,7 +12,7 @@ use Rattle.lists.specs.Tests.{same}
 use Rattle.lists.specs.Members.{Distinct}
 use Rattle.lists.proofs.Bools.{same-true}
 use Rattle.lists.proofs.Keeps.{keep-in, keep-map}
-use Rattle.lists.proofs.Perms.{perm-distinct}
+use Rattle.lists.proofs.Perms.{perm-distinct, one-last}
 use Rattle.curves.specs.Edits.{joined}
 use Rattle.planar_maps.specs.Map.{Arc, Dart, fwd, rev}
 use Rattle.planar_maps.specs.Pieces.{nums}
@@ -28,7 +28,7 @@ use Rattle.map_laws.proofs.Reasons.{Heal}
 use Rattle.grown.proofs.Law.Lawful.{Obeys, Lawful}
 use Rattle.grown.proofs.Law.Whole.{Healed, whole-obeys}
 use Rattle.grown.proofs.Joint.{Seamed, seamed}
-use Rattle.grown.proofs.SplitsRows.{one-last, rest-other, rows-m, replaced, left-out}
+use Rattle.grown.proofs.SplitsRows.{rest-other, rows-m, replaced, left-out}
 use Rattle.grown.proofs.HealsRows.{relinked, rejoined, rejoined-edges, rejoined-next, healedRow}
 
 -- one of the parts is e in its own direction

@@ -2,15 +2,14 @@
 -- curves may cross. Assumes nothing.
 use mathlib.Core.Path.{_≡_, refl, sym, ap, _∙_}
 use mathlib.Core.Bool.{true, Bool·beq}
-use mathlib.Core.List.{List, [], _∷_, map, List·Memᴰ, List·Memᴰ·not-nil}
+use mathlib.Core.List.{map, List·Memᴰ}
 use Prim.Native.Nat.{ℕ, _≤_, _<_}
-use native.Mathlib.Omega.{arith}
 use lib.ListN.{length}
 use Rattle.lists.specs.Tests.{same}
 use Rattle.lists.specs.Scans.{isSome}
 use Rattle.lists.specs.Members.{Distinct}
 use Rattle.lists.proofs.Bools.{same-true, beq-true, and-true}
-use Rattle.lists.proofs.Members.{all-each, each-all}
+use Rattle.lists.proofs.Members.{all-each, each-all, no-member}
 use Rattle.planar_maps.specs.Map.{Dart, rev, Linked}
 use Rattle.planar_maps.specs.Pieces.{Within, nums}
 use Rattle.planar_maps.specs.Rings.{sameDart}
@@ -65,10 +64,6 @@ module _ (m : Map) where
       (from-has (leaves m) (directed m) (leaves m (rev d)) (rev-in (arcs m) k) refl)))
 
 -- ---- a map in form
-
-no-member : {A : Type 0} (l : List A) → length l ≡ 0 → {x : A} → List·Memᴰ x l → ⊥
-no-member [] e k = List·Memᴰ·not-nil k
-no-member (y ∷ l) e k = omega arith
 
 -- what the theorems of this crate use of a map in form that obeys the law
 pub record Lawful (m : Map) : Type 0 where

@@ -3,13 +3,14 @@
 use mathlib.Core.Path.{_≡_, refl, sym, ap, _∙_, subst}
 use mathlib.Core.Logic.{inl, inr, _≢_}
 use mathlib.Core.Bool.{Bool, true, cond, not, true≢false, _&&_}
-use mathlib.Core.List.{List, _∷_, List·Memᴰ, List·Permᴰ, map, map-map}
+use mathlib.Core.List.{List, _∷_, List·Memᴰ, List·Permᴰ, map}
 use Prim.Native.Nat.{ℕ}
 use Rattle.lists.specs.Tests.{same}
 use Rattle.lists.specs.Scans.{keep}
 use Rattle.lists.specs.Members.{Distinct}
 use Rattle.lists.proofs.Bools.{same-false, same-refl}
 use Rattle.lists.proofs.Keeps.{keep-in, keep-has}
+use Rattle.lists.proofs.Maps.{map-twice}
 use Rattle.curves.specs.Curves.{startWay}
 use Rattle.planar_maps.specs.Map.{Arc, Dart, fwd, bwd, rev, darts}
 use Rattle.planar_maps.specs.Pieces.{nums}
@@ -32,7 +33,7 @@ use Rattle.map.proofs.Laws.{edge-there}
 use Rattle.map_laws.proofs.Readings.{Relinked, relinked-join, redirect-relinked, redirect-next, tailIn, nextIn, faceIn}
 use Rattle.map_laws.proofs.Readings.{courseIn, leaves-row, next-row, bears-row, course-row, way-row, bears-left}
 use Rattle.map_laws.proofs.Readings.{bears-right, dart-has, has-dart}
-use Rattle.map_laws.proofs.RowChanges.{less-edge, less-directed, less-perm, nodeNumbers, numbers-kept}
+use Rattle.map_laws.proofs.RowChanges.{less-edge, less-directed, less-perm, nodeNumbers, numbers-kept, nodeNumber}
 use Rattle.map_laws.proofs.Departures.{from-in, from-has, law-agree, differ-part}
 use Rattle.map_laws.proofs.LawOrder.{law-order}
 use Rattle.grown.proofs.Sides.{sides-arcs, sides-has, sides-leaves, sides-next, sides-way, sides-bears}
@@ -40,7 +41,6 @@ use Rattle.grown.proofs.Law.Lawful.{Obeys, Lawful}
 use Rattle.grown.proofs.Curves.Apart.{apart}
 use Rattle.grown.proofs.Renumber.{ways}
 use mathlib.Core.Option.{Option, none, some}
-use Rattle.lists.proofs.Members.{map-cong}
 
 -- not a way of the edge e
 abbrev notOf : ℕ → Dart → Bool
@@ -225,8 +225,7 @@ module _ (m : Map) (L : Lawful m) (e : ℕ) (has : hasEdge m e ≡ true) where
 
     nodes : nodeNumbers m₁ ≡ nodeNumbers m
     unfolding renamedFaces
-    nodes = map-map (λ (n : Node). n .number) (λ n. renamedNode (edge m e) g n (n .face)) (m .nodes)
-        ∙ map-cong _ (λ (n : Node). n .number) (m .nodes) (λ n k. number n (n .face))
+    nodes = map-twice nodeNumber _ nodeNumber (m .nodes) (λ n k. number n (n .face))
       where
         number : (n : Node) (f : Option ℕ) → renamedNode (edge m e) g n f .number ≡ n .number
         number n none = refl

@@ -10,7 +10,7 @@ use Prim.Native.Nat.{ℕ, _+_, _<_}
 use native.Mathlib.Omega.{arith}
 use Rattle.lists.specs.Tests.{same}
 use Rattle.lists.specs.Members.{Distinct}
-use Rattle.lists.proofs.Perms.{perm-in, perm-distinct}
+use Rattle.lists.proofs.Perms.{perm-in, perm-distinct, one-last}
 use Rattle.lists.proofs.Members.{none-has}
 use Rattle.planar_maps.specs.Map.{Arc, Dart, fwd, bwd, darts}
 use Rattle.planar_maps.specs.Pieces.{Within, nums}
@@ -41,7 +41,7 @@ use Rattle.grown.proofs.Law.Lawful.{Obeys, Lawful}
 use Rattle.grown.proofs.Curves.Ends.{reverse-way, front-way, back-some, back-way}
 use Rattle.grown.proofs.Halved.{Parts, Halved, departs, arrives, whole, each-whole, f-fwd, f-bwd, f-old, g-fwd}
 use Rattle.grown.proofs.Halved.{g-bwd, g-old}
-use Rattle.grown.proofs.SplitsRows.{halfNames, relinked, names-are, parted, parted-edges, parted-row, one-last}
+use Rattle.grown.proofs.SplitsRows.{halfNames, relinked, names-are, parted, parted-edges, parted-row}
 use Rattle.grown.proofs.SplitsRows.{rest-other, rows-m, replaced, left-out}
 
 -- the points of nodes are not p

@@ -1,21 +1,18 @@
 -- A ticket keeps the law in the tables: what the map after it comes to is read back from them. Assumes nothing.
 use mathlib.Core.Path.{_≡_, refl, sym, ap, _∙_, subst}
-use mathlib.Core.Logic.{inl, inr}
-use mathlib.Core.Bool.{Bool, true, false, cond, not}
-use mathlib.Core.List.{List, [], _∷_, _++_, map, map-map, append-assoc, List·Memᴰ, List·Memᴰ·append-cases}
-use mathlib.Core.List.{List·Memᴰ·eq-of-singleton, Memᴰ·map, Memᴰ·of-map}
+use mathlib.Core.Bool.{true, cond, not}
+use mathlib.Core.List.{List, [], _∷_, _++_, map, map-map, append-assoc, List·Memᴰ, Memᴰ·map}
 use mathlib.Core.Option.{Option, none, some}
-use Prim.Native.Nat.{ℕ, zero, suc, _+_, _≤_, _<_}
+use Prim.Native.Nat.{ℕ, zero, suc, _+_, _≤_}
 use native.Mathlib.Omega.{arith}
 use borrow.Author.Tests.{not-false}
 use lib.IntN.{ℤ, natAbs}
 use lib.ListN.{length}
 use Rattle.lists.specs.Tests.{same}
 use Rattle.lists.specs.Members.{Distinct}
-use Rattle.lists.proofs.Bools.{same-true, and-true}
-use Rattle.lists.proofs.Members.{map-cong}
-use Rattle.lists.proofs.Keeps.{keep-in, keep-map, distinct-keep}
-use Rattle.lists.proofs.Perms.{perm-distinct}
+use Rattle.lists.proofs.Bools.{and-true}
+use Rattle.lists.proofs.RisingRows.{RisingRows, rows-less, rows-more, rows-of, rows-at}
+use Rattle.lists.proofs.Rising.{rising-distinct}
 use Rattle.planar_maps.specs.Map.{Dart, fwd, bwd, rev}
 use Rattle.planar_maps.specs.Pieces.{nums}
 use Rattle.planar_maps.specs.Rings.{sameDart}
@@ -46,7 +43,6 @@ use Rattle.map.proofs.Laws.{formed-is, in-form-points, edge-there}
 use Rattle.map_laws.proofs.Readings.{numberOf, nums-rows, next-row, edge-at, row-has, has-dart, dart-has, without}
 use Rattle.map_laws.proofs.Reasons.{Split}
 use Rattle.map_laws.proofs.Departures.{from-in, from-has}
-use Rattle.grown.proofs.Plane.Change.{last-first}
 use Rattle.grown.proofs.Curves.Survey.{Line, lineOf, lines, lineNumber}
 use Rattle.grown.proofs.Curves.Rows.{redrawn, addIsoNode-becomes, moveIsoNode-becomes, removeIsoNode-becomes}
 use Rattle.grown.proofs.Curves.Rows.{addIsoEdge-becomes, removeIsoEdge-becomes, changeEdgeGeom-becomes}
@@ -55,92 +51,30 @@ use Rattle.grown.proofs.Curves.Cut.{firstHalf, secondHalf}
 use Rattle.grown.proofs.Curves.Halves.{healedRow, split-new-becomes, split-mod-becomes, heal-new-becomes}
 use Rattle.grown.proofs.Curves.Halves.{heal-mod-becomes}
 use Rattle.grown.proofs.Law.Lawful.{Obeys, Lawful, law-is, formed-lawful}
+use Rattle.grown.proofs.Law.Carried.{carried-obeys}
 use Rattle.grown.proofs.Curves.Ends.{halves-few}
 use Rattle.grown.proofs.Law.Split.{off-ends}
-use Rattle.grown.proofs.Law.Kept.{carried-obeys}
 use Rattle.map_laws.proofs.Reasons as facts
 
--- ---- lines that can be written: numbers from 1 to below N, each once, and at most 12 points
+-- ---- lines that can be written: numbers that rise from 1 to below N, and at most 12 points
 
-pub record Sheet (N : ℕ) (ls : List Line) : Type 0 where
-  pub once : Distinct (map lineNumber ls)
-  pub least : (l : Line) → List·Memᴰ l ls → 1 ≤ l .number
-  pub below : (l : Line) → List·Memᴰ l ls → l .number < N
-  pub few : (l : Line) → List·Memᴰ l ls → length (points (l .curve)) ≤ maxPoints
+abbrev FewPoints : Line → Type 0
+FewPoints l = length (points (l .curve)) ≤ maxPoints
+
+abbrev pub Sheet : ℕ → List Line → Type 0
+Sheet N ls = RisingRows lineNumber FewPoints N ls
 
 module _ {N : ℕ} {ls : List Line} (s : Sheet N ls) where
-  -- a line left out
+  -- a line left out; one more, with the next number; the line e changed to one of its number
   sheet-less : (e : ℕ) → Sheet N (without lineNumber e ls)
-  sheet-less e = record {
-    once = subst Distinct (keep-map lineNumber (λ l. not (same (l .number) e)) (λ n. not (same n e)) ls (λ l k. refl))
-        (distinct-keep (λ n. not (same n e)) (map lineNumber ls) (s .once));
-    least = λ l k. s .least l (inside k);
-    below = λ l k. s .below l (inside k);
-    few = λ l k. s .few l (inside k);
-  }
-    where
-      inside : {l : Line} → List·Memᴰ l (without lineNumber e ls) → List·Memᴰ l ls
-      inside k = keep-in (λ l. not (same (lineNumber l) e)) ls k .0
+  sheet-less = rows-less lineNumber FewPoints N ls s
 
-  -- one more, with the next number
-  sheet-more : (x : Line) → x .number ≡ N → 1 ≤ N → length (points (x .curve)) ≤ maxPoints
-      → Sheet (N + 1) (ls ++ x ∷ [])
-  sheet-more x n one few = record {
-    once = perm-distinct (last-first lineNumber ls x) (new, s .once);
-    least = λ l k. elim (List·Memᴰ·append-cases ls k) [
-      | inl i ↦ s .least l i
-      | inr i ↦
-          (let e = ap lineNumber (List·Memᴰ·eq-of-singleton i) in omega arith)
-    ];
-    below = λ l k. elim (List·Memᴰ·append-cases ls k) [
-      | inl i ↦ (let b = s .below l i in omega arith)
-      | inr i ↦
-          (let e = ap lineNumber (List·Memᴰ·eq-of-singleton i) in omega arith)
-    ];
-    few = λ l k. elim (List·Memᴰ·append-cases ls k) [
-      | inl i ↦ s .few l i
-      | inr i ↦ subst
-          (λ (y : Line). length (points (y .curve)) ≤ maxPoints) (sym (List·Memᴰ·eq-of-singleton i)) few
-    ];
-  }
-    where
-      new : List·Memᴰ (x .number) (map lineNumber ls) → ⊥
-      new k = go (Memᴰ·of-map lineNumber ls k)
-        where
-          go : (l : Line) × List·Memᴰ l ls × (lineNumber l ≡ x .number) → ⊥
-          go y = let b = s .below (y .0) (y .1) in let e = y .2 in omega arith
+  sheet-more : (x : Line) → x .number ≡ N → 1 ≤ N → FewPoints x → Sheet (N + 1) (ls ++ x ∷ [])
+  sheet-more = rows-more lineNumber FewPoints N ls s
 
-  -- the line e changed to one of its number
-  sheet-at : (e : ℕ) (f : Line → Line) → ((l : Line) → l .number ≡ e → f l .number ≡ e)
-      → ((l : Line) → length (points (f l .curve)) ≤ maxPoints)
+  sheet-at : (e : ℕ) (f : Line → Line) → ((l : Line) → l .number ≡ e → f l .number ≡ e) → ((l : Line) → FewPoints (f l))
       → Sheet N (map (λ l. cond (same (l .number) e) (f l) l) ls)
-  sheet-at e f keeps few = record {
-    once = subst Distinct (sym (map-map lineNumber put ls
-        ∙ map-cong (λ l. put l .number) lineNumber ls (λ l k. number l))) (s .once);
-    least = λ l k. let y = Memᴰ·of-map put ls k in let n = number (y .0) in let e = ap lineNumber (y .2) in let b =
-        s .least (y .0) (y .1) in omega arith;
-    below = λ l k. let y = Memᴰ·of-map put ls k in let n = number (y .0) in let e = ap lineNumber (y .2) in let b =
-        s .below (y .0) (y .1) in omega arith;
-    few = λ l k. let y = Memᴰ·of-map put ls k in
-        subst (λ (z : Line). length (points (z .curve)) ≤ maxPoints) (y .2) (size (y .0) (s .few (y .0) (y .1)));
-  }
-    where
-      put : Line → Line
-      put l = cond (same (l .number) e) (f l) l
-
-      number : (l : Line) → put l .number ≡ l .number
-      number l = go (same (l .number) e) refl
-        where
-          go : (b : Bool) → same (l .number) e ≡ b → cond b (f l) l .number ≡ l .number
-          go true q = keeps l (same-true (l .number) e q) ∙ sym (same-true (l .number) e q)
-          go false q = refl
-
-      size : (l : Line) → length (points (l .curve)) ≤ maxPoints → length (points (put l .curve)) ≤ maxPoints
-      size l h = go (same (l .number) e)
-        where
-          go : (b : Bool) → length (points (cond b (f l) l .curve)) ≤ maxPoints
-          go true = few l
-          go false = h
+  sheet-at = rows-at lineNumber FewPoints N ls s
 
 -- ---- the lines after a ticket
 
@@ -152,7 +86,7 @@ module _ (s : Sizes) (m : Map) (L : Lawful m) (one : 1 ≤ m .next .edges)
       × (length (points (back p (edge m e .curve))) ≤ maxPoints)
   few-halves how e p h =
       let row = edge-there m e (h .has) .0 in
-      let few = sheet .few (lineOf (edge m e)) (Memᴰ·map lineOf row) in
+      let few = sheet .each (lineOf (edge m e)) (Memᴰ·map lineOf row) in
       let off = off-ends m p (h .free) (L .within) row (L .anchored (edge m e) row) in
       let k = halves-few p (edge m e .curve) (off .0) (off .1) (h .on) in
       let k₀ = k .0 in
@@ -208,13 +142,15 @@ module _ (s : Sizes) (m : Map) (L : Lawful m) (one : 1 ≤ m .next .edges)
 
 module _ (m : Map) (law : Obeys m) {N : ℕ} (sheet : Sheet N (lines m)) where
   once-arcs : Distinct (nums (arcs m))
-  once-arcs = subst Distinct (map-map lineNumber lineOf (m .edges) ∙ sym (nums-rows m)) (sheet .once)
+  once-arcs = subst Distinct (map-map lineNumber lineOf (m .edges) ∙ sym (nums-rows m))
+      (rising-distinct (map lineNumber (lines m)) (sheet .rising .rises))
 
   -- a link names an edge from 1 on
   links : (d : Dart) → List·Memᴰ d (directed m) → 1 ≤ next m d .edge
   links d k =
       let row = edge-there m (next m d .edge) (dart-has m in-next) in
-      let least = sheet .least (lineOf (edge m (next m d .edge))) (Memᴰ·map lineOf (row .0)) in
+      let least = sheet .rising .bounds (edge m (next m d .edge) .number)
+      (Memᴰ·map lineNumber (Memᴰ·map lineOf (row .0))) .0 in
       let n = row .1 in
       omega arith
     where
@@ -236,7 +172,7 @@ module _ (m : Map) (law : Obeys m) {N : ℕ} (sheet : Sheet N (lines m)) where
       let q = links (bwd (r .number)) (has-dart m (bwd (r .number)) (row-has m k)) in
       let left = ap (λ (d : Dart). d .edge) (next-row m (fwd (r .number)) ∙ ap (λ (x : Edge). x .nextLeft) at) in
       let right = ap (λ (d : Dart). d .edge) (next-row m (bwd (r .number)) ∙ ap (λ (x : Edge). x .nextRight) at) in
-      record { few = sheet .few (lineOf r) (Memᴰ·map lineOf k); left = λ b z. omega arith; right = λ b z. omega arith }
+      record { few = sheet .each (lineOf r) (Memᴰ·map lineOf k); left = λ b z. omega arith; right = λ b z. omega arith }
 
   lawful-back : (s : Sizes) → mapOf (lentOf s m) ≡ m
   lawful-back s = reads-back s m holds
@@ -256,16 +192,8 @@ module _ (l : Lent) (form : inForm l ≡ true) (law : obeysLaw (mapOf l) ≡ tru
   first-edge = within-least 1 (suc lastNumber) (l .head .«next_edge») (ranged-is l (both .0) .next-edge)
 
   in-form-sheet : Sheet (mapOf l .next .edges) (lines (mapOf l))
-  in-form-sheet = record {
-    once = subst Distinct (sym (map-map lineNumber lineOf (mapOf l .edges)))
-        (formed-is (mapOf l) (both .1) .numbers .edges .distinct);
-    least = λ x k. let y = Memᴰ·of-map lineOf (mapOf l .edges) k in let e = ap lineNumber (y .2) in let b =
-        formed-is (mapOf l) (both .1) .numbers .edges .from (y .0 .number) (Memᴰ·map numberOf (y .1)) in omega arith;
-    below = λ x k. let y = Memᴰ·of-map lineOf (mapOf l .edges) k in let e = ap lineNumber (y .2) in let b =
-        formed-is (mapOf l) (both .1) .numbers .edges .below (y .0 .number) (Memᴰ·map numberOf (y .1)) in omega arith;
-    few = λ x k. let y = Memᴰ·of-map lineOf (mapOf l .edges) k in
-        subst (λ (z : Line). length (points (z .curve)) ≤ maxPoints) (y .2) (in-form-points l form (y .0) (y .1) .most);
-  }
+  in-form-sheet = rows-of numberOf lineNumber FewPoints lineOf _ (mapOf l .edges)
+      (formed-is (mapOf l) (both .1) .numbers .edges .rising) (λ e k. refl) (λ e k. in-form-points l form e k .most)
 
   carried-lawful : (t : Ticket) → firstReason (reasons (sizesOf l) (mapOf l) t) ≡ 0
       → obeysLaw (mapOf (lentOf (sizesOf l) (carried (mapOf l) t .0))) ≡ true

@@ -29,7 +29,7 @@ use Rattle.grown.proofs.Numbers.Sizes.{add-lone-taken, remove-lone-take
 use Rattle.grown.proofs.Numbers.Sizes.{add-edge-taken, remove-edge-taken}
 
 -- what a carried-out ticket comes to: numbers, faces and marks, and how much it takes of what there is
-record Kept (s : Sizes) (m m′ : Map) : Type 0 where
+record NumbersKept (s : Sizes) (m m′ : Map) : Type 0 where
   ranked : RankedMap m′
   limited : NextLimited m′
   fits : Fits s m → Fits s m′
@@ -53,7 +53,7 @@ module _ {m m′ : Map} {a b c x y z : ℕ} (t : Taken m m′ a b c x y z) where
       }
 
 keeps : {s : Sizes} {m m′ : Map} {a b c x y z : ℕ} → RankedMap m′ → Taken m m′ a b c x y z → Supply m x y z
-    → (Fits s m → Room s m a b c) → Kept s m m′
+    → (Fits s m → Room s m a b c) → NumbersKept s m m′
 keeps r t p q = record { ranked = r; limited = limits t p; fits = λ f. fit t (q f) }
 
 -- nothing more is taken
@@ -75,7 +75,7 @@ pub ranks : (m : Map) → Good m → RankedMap m
 ranks m g = numbered-ranked m (g .woven .planar .edges-once) (g .numbered)
 
 module _ (s : Sizes) (m : Map) (g : Good m) where
-  kept : (t : Ticket) → firstReason (reasons s m t) ≡ 0 → Kept s m (carried m t .0)
+  kept : (t : Ticket) → firstReason (reasons s m t) ≡ 0 → NumbersKept s m (carried m t .0)
   unfolding carried
   kept (AddIsoNode f x y) h =
       let k = add-node s m f x y h in

@@ -14,6 +14,7 @@ use Rattle.lists.specs.Members.{Distinct}
 use Rattle.lists.proofs.Bools.{same-true, same-eq, which, or-true, or-false}
 use Rattle.lists.proofs.Keeps.{keep-in, keep-has, keep-map}
 use Rattle.lists.proofs.Rising.{Rising, rising-append, rising-keep, rising-distinct}
+use Rattle.lists.proofs.Members.{each-last}
 use Rattle.planar_maps.specs.Pieces.{nums}
 use Rattle.curves.specs.Curves.{Curve}
 use Rattle.map.specs.Rows.{Node, Edge, Map, edge, hasEdge, atNodes}
@@ -23,8 +24,7 @@ use Rattle.map.specs.Edits.{withFace, isEither, drawn, undrawn}
 use Rattle.map_laws.proofs.Readings.{edge-at, numberOf, has-number, Outline, outlineOf, outlines, outlineNumber}
 use Rattle.map_laws.proofs.Outlines.{drawnOutline, drawn-shape, marked, lessOutline, unlink-shape, undrawn-face-list}
 use Rattle.map_laws.proofs.Outlines.{undrawn-next-node, undrawn-next-edge, undrawn-next-face}
-use Rattle.grown.proofs.Numbers.Ranked.{Met, EndsAt, Placed, Sided, Ranked, RankedMap, ends-met, met-ends}
-use Rattle.grown.proofs.Numbers.Ranked.{ranked-shape}
+use Rattle.grown.proofs.Numbers.Ranked.{Met, EndsAt, Placed, Ranked, RankedMap, ends-met, met-ends, ranked-shape}
 use Rattle.grown.proofs.Numbers.Nodes.{rising-nodes, placed-map, lone-placed}
 
 -- ---- an edge drawn
@@ -88,11 +88,7 @@ drawn-ranked u v c f m k r = ranked-shape {m = drawn u v c f m} (drawn-shape u v
   faces = r .faces;
   zero = r .zero;
   placed = placed-map (marked u v) (m .nodes) (λ n j. marked-placed u v o refl refl n (r .placed n j));
-  sided = λ q j. elim (List·Memᴰ·append-cases (outlines m) j) [
-    | inl i ↦ r .sided q i
-    | inr i ↦ subst (Sided (m .faces))
-        (sym (List·Memᴰ·eq-of-singleton i)) (k, k)
-  ];
+  sided = each-last (outlines m) (r .sided) (k, k);
   first-node = r .first-node;
   first-edge = omega arith;
 })

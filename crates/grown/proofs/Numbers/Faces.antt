@@ -3,7 +3,7 @@
 use mathlib.Core.Path.{_≡_, refl, sym, ap, _∙_, subst}
 use mathlib.Core.Logic.{_≢_}
 use mathlib.Core.Bool.{Bool, true, false, cond, not, _&&_, _||_}
-use mathlib.Core.List.{List, [], _∷_, _++_, map, map-map, append-assoc, List·Memᴰ, List·Memᴰ·head, List·Memᴰ·tail}
+use mathlib.Core.List.{List, [], _∷_, _++_, map, append-assoc, List·Memᴰ, List·Memᴰ·head, List·Memᴰ·tail}
 use mathlib.Core.List.{Memᴰ·append-left, Memᴰ·append-right, Memᴰ·map, Memᴰ·of-map, Memᴰ·cast}
 use mathlib.Core.Option.{Option, none, some}
 use Prim.Native.Nat.{ℕ, _+_}
@@ -16,8 +16,8 @@ use Rattle.lists.specs.Scans.{keep, firstOr, isSome}
 use Rattle.lists.specs.Members.{Distinct}
 use Rattle.lists.proofs.Bools.{same-false, differ, and-true, cond-has}
 use Rattle.lists.proofs.Keeps.{keep-has}
-use Rattle.lists.proofs.Members.{map-cong}
 use Rattle.lists.proofs.Rising.{Rising, rising-append, rising-keep}
+use Rattle.lists.proofs.Maps.{map-twice}
 use Rattle.planar_maps.specs.Map.{Arc, Dart, fwd, bwd}
 use Rattle.planar_maps.specs.Pieces.{nums}
 use Rattle.plane.specs.declared.Point.{Point}
@@ -64,8 +64,7 @@ refaced {ns} {os} {fs′ = fs′} {a = a} {b = b} g h x rise z r = record {
 }
   where
     numbers : map outlineNumber (map h os) ≡ map outlineNumber os
-    numbers = map-map outlineNumber h os
-        ∙ map-cong (λ o. h o .arc .num) outlineNumber os (λ o k. ap (λ (y : Arc). y .num) (x .arc o))
+    numbers = map-twice outlineNumber h outlineNumber os (λ o k. ap (λ (y : Arc). y .num) (x .arc o))
 
     meets : (n : Node) → Met os (n .number) → Met (map h os) (g n .number)
     meets n y = rw (x .number n) (h (y .0), Memᴰ·map h (y .1), rw (x .arc (y .0)) (y .2))

@@ -2,9 +2,8 @@
 use mathlib.Core.Path.{_≡_, refl, sym, ap, _∙_, subst}
 use mathlib.Core.Logic.{_⊎_, inl, inr}
 use mathlib.Core.Bool.{Bool, true, false, cond, not, true≢false}
-use mathlib.Core.List.{List, [], _∷_, _++_, map, map-map, map-append, flatMap, List·Memᴰ, List·Memᴰ·head}
-use mathlib.Core.List.{List·Memᴰ·tail, List·Memᴰ·not-nil, List·Memᴰ·append-cases, List·Memᴰ·eq-of-singleton, Memᴰ·map}
-use mathlib.Core.List.{Memᴰ·of-map, Memᴰ·cast}
+use mathlib.Core.List.{List, [], _∷_, _++_, map, map-append, flatMap, List·Memᴰ, List·Memᴰ·head, List·Memᴰ·tail}
+use mathlib.Core.List.{List·Memᴰ·not-nil, List·Memᴰ·append-cases, Memᴰ·map, Memᴰ·of-map, Memᴰ·cast}
 use mathlib.Core.Option.{Option, none, some}
 use Prim.Native.Nat.{ℕ, _+_, _≤_}
 use native.Mathlib.Nat.{add-zero}
@@ -15,8 +14,9 @@ use Rattle.lists.specs.Scans.{keep, isSome}
 use Rattle.lists.specs.Members.{Distinct}
 use Rattle.lists.proofs.Bools.{same-true}
 use Rattle.lists.proofs.Keeps.{keep-in, keep-map}
-use Rattle.lists.proofs.Members.{map-cong}
 use Rattle.lists.proofs.Rising.{Rising, rising-append, rising-keep}
+use Rattle.lists.proofs.Members.{each-last}
+use Rattle.lists.proofs.Maps.{map-twice}
 use Rattle.plane.specs.declared.Point.{Point}
 use Rattle.plane.specs.Below.{passesBelow, higher}
 use Rattle.curves.specs.Curves.{Curve, segments}
@@ -35,8 +35,7 @@ use Rattle.grown.proofs.Numbers.Ranked.{Met, EndsAt, Placed, Sided, Ran
 
 pub rising-nodes : (a : ℕ) (f : Node → Node) (ns : List Node) → ((n : Node) → List·Memᴰ n ns → f n .number ≡ n .number)
     → Rising 1 a (map nodeNumber ns) → Rising 1 a (map nodeNumber (map f ns))
-rising-nodes a f ns h r = subst (Rising 1 a)
-    (sym (map-map nodeNumber f ns ∙ map-cong (λ n. f n .number) nodeNumber ns h)) r
+rising-nodes a f ns h r = subst (Rising 1 a) (sym (map-twice nodeNumber f nodeNumber ns h)) r
 
 pub placed-map : {os : List Outline} {fs : List ℕ} (f : Node → Node) (ns : List Node)
     → ((n : Node) → List·Memᴰ n ns → Placed os fs (f n)) → (n : Node) → List·Memᴰ n (map f ns) → Placed os fs n
@@ -63,11 +62,7 @@ ranked-more-node {ns} {os} {fs} {a} n e p r = record {
   edges = r .edges;
   faces = r .faces;
   zero = r .zero;
-  placed = λ q k. elim (List·Memᴰ·append-cases ns k) [
-    | inl j ↦ r .placed q j
-    | inr j ↦ subst (Placed os fs)
-        (sym (List·Memᴰ·eq-of-singleton j)) p
-  ];
+  placed = each-last ns (r .placed) p;
   sided = r .sided;
   first-node = omega arith;
   first-edge = r .first-edge;

@@ -3,16 +3,14 @@
 use mathlib.Core.Path.{_≡_, refl, sym, ap, _∙_, subst}
 use mathlib.Core.Logic.{_⊎_, inl, inr}
 use mathlib.Core.Bool.{Bool, true, false, true≢false}
-use mathlib.Core.List.{List, [], _∷_, map, map-map, List·Memᴰ, List·Memᴰ·head, List·Memᴰ·not-nil, Memᴰ·map, Memᴰ·of-map}
+use mathlib.Core.List.{List, map, map-map, List·Memᴰ, Memᴰ·map, Memᴰ·of-map}
 use mathlib.Core.Option.{Option, none, some}
 use Prim.Native.Nat.{ℕ, suc, _≤_}
-use native.Mathlib.Omega.{arith}
-use lib.ListN.{length}
 use Rattle.lists.specs.Tests.{same}
 use Rattle.lists.specs.Scans.{firstOr, isSome}
 use Rattle.lists.specs.Members.{Distinct}
-use Rattle.lists.proofs.Bools.{same-refl, same-false, same-eq, beq-true, beq-refl, and-is}
-use Rattle.lists.proofs.Members.{all-each, each-all}
+use Rattle.lists.proofs.Bools.{same-eq, beq-true, beq-refl, and-is}
+use Rattle.lists.proofs.Members.{all-each, each-all, some-member, member-some}
 use Rattle.lists.proofs.Rising.{Rising, rising, rising-numbered}
 use Rattle.planar_maps.specs.Map.{Dart, fwd, bwd}
 use Rattle.planar_maps.specs.Pieces.{nums}
@@ -79,14 +77,6 @@ pub record NextLimited (m : Map) : Type 0 where
   pub face : m .next .faces ≤ suc lastNumber
 
 -- ---- edge ends
-
-some-member : {A : Type 0} (l : List A) → same (length l) 0 ≡ false → (x : A) × List·Memᴰ x l
-some-member [] h = absurd (true≢false (sym (same-refl 0) ∙ h))
-some-member (x ∷ l) h = (x, List·Memᴰ·head refl)
-
-member-some : {A : Type 0} (l : List A) {x : A} → List·Memᴰ x l → same (length l) 0 ≡ false
-member-some [] k = absurd (List·Memᴰ·not-nil k)
-member-some (x ∷ l) k = same-false (suc (length l)) 0 (λ e. omega arith)
 
 -- where there are edge ends, an edge ends, and the other way round
 pub ends-met : (m : Map) (k : ℕ) → same (edgeEnds m k) 0 ≡ false → Met (outlines m) k

@@ -1,19 +1,19 @@
 -- Kinds 1, 2, 3 and 6: isolated nodes added, moved and removed, and an edge redrawn, keep a map in the plane. Assumes
 -- nothing.
-use mathlib.Core.Path.{_≡_, refl, sym, _∙_, subst}
+use mathlib.Core.Path.{_≡_, sym, _∙_, subst}
 use mathlib.Core.Logic.{inl, inr}
 use mathlib.Core.Bool.{true, cond}
-use mathlib.Core.List.{List, [], _∷_, _++_, map, map-append, map-map, List·Permᴰ, List·Permᴰ·cons, List·Permᴰ·trans}
-use mathlib.Core.List.{Permᴰ·map, Permᴰ·symm, Permᴰ·middle, Permᴰ·append-nil}
+use mathlib.Core.List.{List, _∷_, map, List·Permᴰ, Permᴰ·map}
 use Prim.Native.Nat.{ℕ}
 use native.Mathlib.Omega.{arith}
 use lib.ListN.{length}
 use Rattle.lists.specs.Tests.{same}
 use Rattle.lists.specs.Members.{Distinct}
 use Rattle.lists.proofs.Bools.{same-true, which}
-use Rattle.lists.proofs.Members.{map-cong}
 use Rattle.lists.proofs.Counts.{count-perm}
-use Rattle.lists.proofs.Perms.{perm-in, perm-length, perm-distinct}
+use Rattle.lists.proofs.Perms.{perm-in, perm-length, perm-distinct, map-last}
+use Rattle.lists.proofs.Lookups.{without-perm}
+use Rattle.lists.proofs.Maps.{map-twice}
 use Rattle.plane.specs.declared.Point.{Point}
 use Rattle.curves.specs.Curves.{Curve}
 use Rattle.planar_maps.specs.Map.{Arc, Dart, fwd, bwd}
@@ -27,7 +27,7 @@ use Rattle.map.specs.Darts.{arcs, leaves, next, bears}
 use Rattle.map.specs.Edits.{lone, addIsoNode, moveIsoNode, removeIsoNode, changeEdgeGeom}
 use Rattle.map.specs.Reasons.{isolated}
 use Rattle.map.proofs.Laws.{node-there}
-use Rattle.map_laws.proofs.RowChanges.{nodeNumber, noNode, without-perm}
+use Rattle.map_laws.proofs.RowChanges.{nodeNumber, noNode}
 use Rattle.grown.specs.Good.{InPlane}
 use Rattle.grown.proofs.Law.Lawful.{Lawful}
 use Rattle.grown.proofs.Law.Change.{same-arcs, same-leaves, same-next, same-bears}
@@ -53,17 +53,11 @@ planar-nodes {nodes} {nodes′} {es} {faces = faces} p o = record {
     euler : Euler nodes′ es faces
     euler = omega (arith, o .euler, perm-length p, pieces-order es p)
 
--- a row put last, as against first
-pub last-first : {A : Type 0} (f : A → ℕ) (l : List A) (x : A) → List·Permᴰ (f x ∷ map f l) (map f (l ++ x ∷ []))
-last-first f l x = subst (List·Permᴰ (f x ∷ map f l)) (sym (map-append f l (x ∷ [])))
-    (Permᴰ·symm (List·Permᴰ·trans (Permᴰ·middle (f x) (map f l) [])
-    (List·Permᴰ·cons refl (Permᴰ·append-nil (map f l)))))
-
 -- ---- kinds 1 to 3
 
 pub planar-1 : (m : Map) (p : Point) → Lawful m → InPlane m → InPlane (addIsoNode p m)
 unfolding addIsoNode leaves next bears edge
-planar-1 m p L o = planar-nodes (last-first nodeNumber (m .nodes) (lone m (m .next .nodes) p))
+planar-1 m p L o = planar-nodes (map-last nodeNumber (m .nodes) (lone m (m .next .nodes) p))
     (planar-node o (m .next .nodes) (λ k. omega (arith, L .nodes-below (m .next .nodes) k)))
 
 pub planar-2 : (m : Map) (n : ℕ) (p : Point) → InPlane m → InPlane (moveIsoNode n p m)
@@ -78,8 +72,7 @@ planar-2 m n p o = subst (λ (ns : List ℕ). Planar ns (arcs m) (leaves m) (nex
     number r = elim (which (same (r .number) n)) [ inl e ↦ rw e (sym (same-true (r .number) n e)) | inr e ↦ rw e ]
 
     same-numbers : map nodeNumber (map moved (m .nodes)) ≡ map nodeNumber (m .nodes)
-    same-numbers = map-map nodeNumber moved (m .nodes)
-        ∙ map-cong (λ r. moved r .number) nodeNumber (m .nodes) (λ r k. number r)
+    same-numbers = map-twice nodeNumber moved nodeNumber (m .nodes) (λ r k. number r)
 
 -- the node n before the others
 pub node-first : (m : Map) (n : ℕ) → hasNode m n ≡ true → Distinct (map nodeNumber (m .nodes))

@@ -1,8 +1,8 @@
 -- Two faces made one: which numbers are left, and how many. Assumes nothing.
-use mathlib.Core.Path.{_≡_, refl, sym, ap, _∙_}
+use mathlib.Core.Path.{_≡_, sym, ap, _∙_}
 use mathlib.Core.Logic.{_⊎_, inl, inr, _≢_}
-use mathlib.Core.Bool.{Bool, true, false, cond, not, _&&_, _||_}
-use mathlib.Core.List.{List, [], _∷_, List·Memᴰ}
+use mathlib.Core.Bool.{cond, not, _&&_, _||_}
+use mathlib.Core.List.{List, List·Memᴰ}
 use Prim.Native.Nat.{ℕ, suc}
 use lib.ListN.{length}
 use Rattle.lists.specs.Tests.{same}
@@ -10,16 +10,8 @@ use Rattle.lists.specs.Scans.{keep}
 use Rattle.lists.specs.Members.{Distinct}
 use Rattle.lists.proofs.Bools.{same-refl, same-eq, same-false, equal?, or-right}
 use Rattle.lists.proofs.Keeps.{keep-has, keep-all, distinct-keep, keep-cong}
-use Rattle.grown.proofs.Plane.Share.{length-without}
-
-keep-both : {A : Type 0} (p q : A → Bool) (l : List A) → keep q (keep p l) ≡ keep (λ x. p x && q x) l
-keep-both p q [] = refl
-keep-both {A} p q (x ∷ l) = go (p x) (keep-both p q l)
-  where
-    go : (b : Bool) → keep q (keep p l) ≡ keep (λ x. p x && q x) l → keep q (cond b (x ∷ keep p l) (keep p l))
-        ≡ cond (b && q x) (x ∷ keep (λ x. p x && q x) l) (keep (λ x. p x && q x) l)
-    go true ih = ap (λ (k : List A). cond (q x) (x ∷ k) k) ih
-    go false ih = ih
+use Rattle.lists.proofs.Lookups.{length-without}
+use Rattle.lists.proofs.Keeps.{keep-both}
 
 -- the faces L and R become g
 module _ (L R g : ℕ) where

@@ -1,9 +1,10 @@
 -- An edge taken out: a map stays in the plane where the faces on the two sides become one. Kind 5. Assumes nothing.
 use mathlib.Core.Path.{_≡_, sym, ap, _∙_, subst, refl}
 use mathlib.Core.Logic.{_⊎_, inl, inr, _≢_}
-use mathlib.Core.List.{List, List·Memᴰ, [], _∷_, List·Memᴰ·not-nil, List·Memᴰ·eq-of-singleton}
+use mathlib.Core.List.{List, List·Memᴰ}
 use Prim.Native.Nat.{ℕ, suc}
 use lib.ListN.{length}
+use Rattle.lists.proofs.Members.{one-member}
 use Rattle.planar_maps.specs.Map.{fwd, bwd, rev}
 use Rattle.planar_maps.specs.Rings.{sameDart}
 use Rattle.planar_maps.specs.Planar.{Planar}
@@ -27,7 +28,6 @@ use Rattle.grown.proofs.Plane.SplitFace.{Faced}
 use Rattle.grown.proofs.Law.Remove.{Taken, left, lone-taken}
 use Rattle.grown.proofs.Plane.Add.{faced}
 use Rattle.grown.proofs.Law.Lawful.{Lawful, good-lawful}
-use native.Mathlib.Omega.{arith}
 
 -- the faces fs after the edge e is gone, the old ones by μ; the two sides of the edge become one
 pub record Merging (m : Map) (e : ℕ) (μ : ℕ → ℕ) (fs : List ℕ) : Type 0 where
@@ -58,12 +58,6 @@ module _ (m X : Map) (e : ℕ) (μ : ℕ → ℕ) (t : Taken m X e μ) (faced : 
   ]
 
 -- ---- kind 5
-
--- two members of a list of one
-one-member : {A : Type 0} (l : List A) → length l ≡ 1 → {x y : A} → List·Memᴰ x l → List·Memᴰ y l → x ≡ y
-one-member [] e i j = absurd (List·Memᴰ·not-nil i)
-one-member (z ∷ []) e i j = List·Memᴰ·eq-of-singleton i ∙ sym (List·Memᴰ·eq-of-singleton j)
-one-member (z ∷ w ∷ l) e i j = absurd (omega arith)
 
 module _ (m : Map) (e : ℕ) (good : Good m) (h : RemoveLone m e) where
   abbrev L : Lawful m

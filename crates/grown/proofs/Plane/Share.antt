@@ -1,9 +1,9 @@
 -- A face shared out between the two sides of an edge: each ring goes whole to one side, and new numbers go back to old
 -- ones. Assumes nothing.
-use mathlib.Core.Path.{_≡_, refl, sym, ap, _∙_, subst}
+use mathlib.Core.Path.{_≡_, refl, sym, ap, _∙_}
 use mathlib.Core.Logic.{_⊎_, inl, inr, _≢_}
 use mathlib.Core.Bool.{Bool, true, false, cond, not, _||_, true≢false}
-use mathlib.Core.List.{List, [], _∷_, _++_, map-id, List·Memᴰ}
+use mathlib.Core.List.{List, [], _∷_, _++_, List·Memᴰ}
 use Prim.Native.Nat.{ℕ, suc, _+_, _≤_, _<_}
 use native.Mathlib.Omega.{arith}
 use lib.ListN.{length, length-append}
@@ -11,7 +11,7 @@ use Rattle.lists.specs.Tests.{same}
 use Rattle.lists.specs.Scans.{keep}
 use Rattle.lists.specs.Members.{Distinct}
 use Rattle.lists.proofs.Bools.{same-false, same-eq, not-true}
-use Rattle.lists.proofs.Perms.{perm-length}
+use Rattle.lists.proofs.Lookups.{length-without}
 use Rattle.planar_maps.specs.Map.{Dart, rev, Linked}
 use Rattle.planar_maps.specs.Pieces.{nums}
 use Rattle.planar_maps.proofs.Rings.{rev-in}
@@ -19,8 +19,6 @@ use Rattle.map.specs.Rows.{Map, node, edge}
 use Rattle.map.specs.Darts.{arcs, directed, leaves, next, bears, ring, among, lowestEdge}
 use Rattle.map.specs.Faces.{encloses}
 use Rattle.map.specs.Edits.{Shares, sideOfPoint, sideOfRing, sideOfDart}
-use Rattle.map_laws.proofs.Readings.{has-number}
-use Rattle.map_laws.proofs.RowChanges.{without-perm}
 use Rattle.map_laws.proofs.Rings.{among-has, among-in, ring-here, ring-leads, ring-has, ring-alike, leads-back}
 use Rattle.map_laws.proofs.Rings.{lowest-same}
 
@@ -99,13 +97,6 @@ pub record Sharing (s : Shares) (fresh : ℕ) (fs fs′ : List ℕ) : Type 0 whe
   pub ref-new : (s .ref ≡ s .old) ⊎ (fresh ≤ s .ref)
   pub other-new : (s .other ≡ s .old) ⊎ (fresh ≤ s .other)
   pub count : length fs′ ≡ suc (length fs)
-
--- one number left out of a list that has it once
-pub length-without : (g : ℕ) (fs : List ℕ) → Distinct fs → List·Memᴰ g fs
-    → length fs ≡ suc (length (keep (λ f. not (same f g)) fs))
-length-without g fs dis k =
-    perm-length (without-perm (λ (n : ℕ). n) 0 fs g (subst Distinct (sym (map-id fs)) dis)
-    (has-number (λ (n : ℕ). n) fs g (subst (λ (l : List ℕ). List·Memᴰ g l) (sym (map-id fs)) k)))
 
 -- as in `splitFace`: the old face goes or stays, and the reference side is left or right
 abbrev pub sharesOf : Bool → Bool → ℕ → ℕ → List Dart → List Dart → Shares

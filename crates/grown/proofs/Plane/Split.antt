@@ -3,6 +3,7 @@ use mathlib.Core.Path.{_≡_, refl, sym, ap, subst}
 use mathlib.Core.List.{List, _∷_, map, List·Permᴰ, Permᴰ·symm}
 use Prim.Native.Nat.{ℕ, _+_}
 use lib.ListN.{length}
+use Rattle.lists.proofs.Perms.{map-last}
 use Rattle.plane.specs.declared.Point.{Point}
 use Rattle.planar_maps.specs.Map.{Arc}
 use Rattle.planar_maps.specs.Planar.{Planar}
@@ -16,7 +17,7 @@ use Rattle.map_laws.proofs.Readings.{arcOf}
 use Rattle.map_laws.proofs.RowChanges.{nodeNumber}
 use Rattle.map_laws.proofs.Reasons.{Split}
 use Rattle.grown.specs.Good.{InPlane}
-use Rattle.grown.proofs.Plane.Change.{planar-nodes, last-first}
+use Rattle.grown.proofs.Plane.Change.{planar-nodes}
 use Rattle.grown.proofs.Plane.SplitEdge.{split-planar}
 use Rattle.grown.proofs.Law.Lawful.{Lawful}
 use Rattle.grown.proofs.Law.Split.{InHalves, arcs-m, arcs-m′, halves, new-halves, kept-halves}
@@ -40,9 +41,9 @@ module _ (m : Map) (L : Lawful m) (s : Sizes) (e : ℕ) (p : Point) where
   pub planar-7 : Split New s m e p → InPlane m → InPlane (split New e p m)
   unfolding split redirect
   planar-7 h = planar-halves m (split New e p m) e (m .next .nodes) (m .next .edges) (m .next .edges + 1) p L
-      (new-halves m e p L (h .has) (h .free) (h .on)) refl (last-first nodeNumber (m .nodes) _)
+      (new-halves m e p L (h .has) (h .free) (h .on)) refl (map-last nodeNumber (m .nodes) _)
 
   pub planar-8 : Split Mod s m e p → InPlane m → InPlane (split Mod e p m)
   unfolding split redirect atEdge
   planar-8 h = planar-halves m (split Mod e p m) e (m .next .nodes) e (m .next .edges) p L
-      (kept-halves m e p L (h .has) (h .free) (h .on)) refl (last-first nodeNumber (m .nodes) _)
+      (kept-halves m e p L (h .has) (h .free) (h .on)) refl (map-last nodeNumber (m .nodes) _)

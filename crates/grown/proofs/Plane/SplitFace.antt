@@ -2,14 +2,14 @@
 use mathlib.Core.Path.{_≡_, refl, sym, ap, _∙_, subst}
 use mathlib.Core.Logic.{_⊎_, inl, inr, _≢_}
 use mathlib.Core.Bool.{Bool, true, false, cond, not, _&&_, _||_}
-use mathlib.Core.List.{List, map, map-map, List·Memᴰ, List·Memᴰ·head, List·Memᴰ·tail}
+use mathlib.Core.List.{List, map, List·Memᴰ, List·Memᴰ·head, List·Memᴰ·tail}
 use Prim.Native.Nat.{ℕ, suc, _+_, _≤_, _<_}
 use native.Mathlib.Omega.{arith}
 use lib.ListN.{length}
 use Rattle.lists.specs.Tests.{same}
 use Rattle.lists.specs.Members.{Distinct}
 use Rattle.lists.proofs.Bools.{same-refl, same-false, equal?, or-right}
-use Rattle.lists.proofs.Members.{map-cong}
+use Rattle.lists.proofs.Maps.{map-twice}
 use Rattle.integers.specs.Order.{sgn}
 use Rattle.plane.specs.Areas.{isPositive}
 use Rattle.curves.specs.Curves.{Curve}
@@ -18,11 +18,11 @@ use Rattle.planar_maps.specs.Planar.{Planar}
 use Rattle.planar_maps.proofs.Cycles.{Grown}
 use Rattle.planar_maps.proofs.Hooks.{with-fwd, with-bwd}
 use Rattle.map.specs.declared.Variant.{Variant}
-use Rattle.map.specs.Rows.{Node, Map, hasNode, atNodes, atEdge}
+use Rattle.map.specs.Rows.{Map, hasNode, atNodes, atEdge}
 use Rattle.map.specs.Darts.{arcs, directed, leaves, next, bears, ring, among}
 use Rattle.map.specs.Links.{redirect, lead, linkIn, linkEdge}
 use Rattle.map.specs.Faces.{ringArea}
-use Rattle.map.specs.Edits.{isNew, Shares, withSides, drawn, sideOfDart, sideOfNode, sharedOut, splitFace}
+use Rattle.map.specs.Edits.{isNew, Shares, withSides, drawn, sideOfDart, sharedOut, splitFace}
 use Rattle.map_laws.proofs.Readings.{arcOf, number-has}
 use Rattle.map_laws.proofs.RowChanges.{nodeNumber, noNode, nodeNumbers}
 use Rattle.map_laws.proofs.LinkedIn.{drawnRow}
@@ -200,8 +200,7 @@ module _ (how : Variant) (m : Map) (u v : ℕ) (c : Curve) (φ : ℕ) (draws : D
 
   X-nodes : nodeNumbers X ≡ nodeNumbers D
   unfolding splitFace sharedOut
-  X-nodes = map-map (λ (n : Node). n .number) (λ n. sideOfNode D s n (n .face)) (D .nodes)
-      ∙ map-cong _ (λ (n : Node). n .number) (D .nodes) (λ n k. side-number D s n (n .face))
+  X-nodes = map-twice nodeNumber _ nodeNumber (D .nodes) (λ n k. side-number D s n (n .face))
 
   pub split-face-planar : hasNode m u ≡ true → hasNode m v ≡ true → InPlane m
       → InPlane (splitFace how (m .next .edges) (drawn u v c φ m))
