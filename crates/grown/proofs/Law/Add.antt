@@ -1,10 +1,10 @@
 -- Kinds 4, 11 and 12: an edge that departs in directions of its own keeps the law. Curves may cross. Assumes nothing.
 use mathlib.Core.Path.{_≡_, refl, sym}
 use mathlib.Core.Bool.{Bool, true, false, cond}
-use mathlib.Core.List.{List, _∷_, List·Memᴰ, List·Memᴰ·head, List·Memᴰ·tail}
+use mathlib.Core.List.{List, _∷_, List·Memᴰ, List·Permᴰ·swap}
 use mathlib.Core.Option.{Option·getD}
 use Prim.Native.Nat.{ℕ}
-use Rattle.lists.proofs.Members.{each-cons}
+use Rattle.lists.proofs.Perms.{perm-in}
 use Rattle.plane.specs.Directions.{Way}
 use Rattle.curves.specs.Curves.{Curve, startWay}
 use Rattle.planar_maps.specs.Map.{Dart, fwd, bwd, rev, darts}
@@ -76,20 +76,13 @@ module _ (m : Map) (u v : ℕ) (c : Curve) (φ : ℕ) (free : Free m u v c) wher
   drawn-obeys law = law-agree (directed D) (λ d k. D-leaves m u v c φ free d (into k))
       (λ d k. D-way m u v c φ free d) N (next D)
       (λ d k. D-links m u v c φ free (rev d) (into (rev-in (arcs D) k)))
-      (law-order sameDart tells T W (b ∷ f ∷ directed m) (directed D) (λ d k. all-D m u v c φ free (swap d k))
-      (λ d k. swap′ d (into k)) (rotation.back rev N) (drawn-apart m u v c φ free) (put-obeys law))
+      (law-order sameDart tells T W (b ∷ f ∷ directed m) (directed D)
+      (λ d k. all-D m u v c φ free (perm-in (List·Permᴰ·swap refl refl) k))
+      (λ d k. perm-in (List·Permᴰ·swap refl refl) (into k)) (rotation.back rev N) (drawn-apart m u v c φ free)
+      (put-obeys law))
     where
       into : {d : Dart} → List·Memᴰ d (directed D) → List·Memᴰ d all
       into k = D-all m u v c φ free k
-
-      swap : (d : Dart) → List·Memᴰ d (b ∷ f ∷ directed m) → List·Memᴰ d all
-      swap = each-cons {p = λ d. List·Memᴰ d all} (List·Memᴰ·tail (List·Memᴰ·head refl))
-          (each-cons {p = λ d. List·Memᴰ d all} (List·Memᴰ·head refl) (λ d i. List·Memᴰ·tail (List·Memᴰ·tail i)))
-
-      swap′ : (d : Dart) → List·Memᴰ d all → List·Memᴰ d (b ∷ f ∷ directed m)
-      swap′ = each-cons {p = λ d. List·Memᴰ d (b ∷ f ∷ directed m)} (List·Memᴰ·tail (List·Memᴰ·head refl))
-          (each-cons {p = λ d. List·Memᴰ d (b ∷ f ∷ directed m)} (List·Memᴰ·head refl)
-          (λ d i. List·Memᴰ·tail (List·Memᴰ·tail i)))
 
 -- ---- the kinds
 

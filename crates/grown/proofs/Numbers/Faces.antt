@@ -6,7 +6,7 @@ use mathlib.Core.Bool.{Bool, true, false, cond, not, _&&_, _||_}
 use mathlib.Core.List.{List, [], _∷_, _++_, map, append-assoc, List·Memᴰ, List·Memᴰ·head, List·Memᴰ·tail}
 use mathlib.Core.List.{Memᴰ·append-left, Memᴰ·append-right, Memᴰ·map, Memᴰ·of-map, Memᴰ·cast}
 use mathlib.Core.Option.{Option, none, some}
-use Prim.Native.Nat.{ℕ, _+_}
+use Prim.Native.Nat.{ℕ, _+_, suc}
 use native.Mathlib.Nat.{add-zero}
 use native.Mathlib.Omega.{arith}
 use borrow.Author.Tests.{not-true}
@@ -18,6 +18,7 @@ use Rattle.lists.proofs.Bools.{same-false, differ, and-true, cond-has}
 use Rattle.lists.proofs.Keeps.{keep-has}
 use Rattle.lists.proofs.Rising.{Rising, rising-append, rising-keep}
 use Rattle.lists.proofs.Maps.{map-twice}
+use Rattle.lists.proofs.Lookups.{length-without}
 use Rattle.planar_maps.specs.Map.{Arc, Dart, fwd, bwd}
 use Rattle.planar_maps.specs.Pieces.{nums}
 use Rattle.plane.specs.declared.Point.{Point}
@@ -33,6 +34,7 @@ use Rattle.map_laws.proofs.Outlines.{outlines-map}
 use Rattle.map_laws.proofs.Faces.{bears-in}
 use Rattle.grown.proofs.Numbers.Ranked.{Met, EndsAt, Sided, Ranked, RankedMap, ranked-shape, ranked-faces}
 use Rattle.grown.proofs.Numbers.Nodes.{rising-nodes, placed-map}
+use lib.ListN.{length, length-append}
 
 -- ---- other faces in the rows
 
@@ -172,6 +174,16 @@ module _ (m : Map) (s : Shares) (dis : Distinct (nums (arcs m))) {fs : List ℕ}
 
 -- ---- a face split
 
+-- as in `splitFace`: the old face goes or stays, and the reference side is left or right
+abbrev pub sharesOf : Bool → Bool → ℕ → ℕ → List Dart → List Dart → Shares
+sharesOf goes isLeft old a left right = record {
+  old = old;
+  refRing = cond isLeft left right;
+  otherRing = cond isLeft right left;
+  ref = cond (isLeft || not goes) a (cond goes (a + 1) old);
+  other = cond (isLeft || not goes) (cond goes (a + 1) old) a;
+}
+
 -- one or two new faces, and the old one gone with two
 abbrev pub splitList : Bool → ℕ → ℕ → List ℕ → List ℕ
 splitList goes old a fs = cond goes (keep (λ f. not (same f old)) fs ++ a ∷ cond goes (a + 1) old ∷ []) (fs ++ a ∷ [])
@@ -202,6 +214,14 @@ module _ (old a : ℕ) (fs : List ℕ) (k : List·Memᴰ old fs) where
       (keep-has (λ f. not (same f old)) fs j (ap not (same-false f old ne)))
   rest-in false f j ne = Memᴰ·append-left (a ∷ []) j
 
+  pub split-count : Distinct fs → (goes : Bool) → length (splitList goes old a fs) ≡ suc (length fs)
+  split-count dis true = omega (
+    arith,
+    length-append (keep (λ f. not (same f old)) fs) (a ∷ (a + 1) ∷ []),
+    length-without old fs dis k,
+  )
+  split-count dis false = omega (arith, length-append fs (a ∷ []))
+
 -- face 0 stays in front
 pub first-append : (fs gs : List ℕ) → firstOr 1 fs ≡ 0 → firstOr 1 (fs ++ gs) ≡ 0
 first-append [] gs e = absurd (omega arith)
@@ -224,17 +244,9 @@ split-face-ranked how e m dis h r =
     let old = bears m (fwd e) in
     let a = m .next .faces in
     let goes = isNew how && not (same old 0) in
-    let b = cond goes (a + 1) old in
     let k = bears-in m (fwd e) h (ranked-faces m r) in
     let isLeft = isPositive (sgn (ringArea m (ring m (fwd e)))) in
-    let s : Shares =
-    record {
-      old = old;
-      refRing = cond isLeft (ring m (fwd e)) (ring m (bwd e));
-      otherRing = cond isLeft (ring m (bwd e)) (ring m (fwd e));
-      ref = cond (isLeft || not goes) a b;
-      other = cond (isLeft || not goes) b a;
-    } in
+    let s = sharesOf goes isLeft old a (ring m (fwd e)) (ring m (bwd e)) in
     ranked-shape {m = splitFace how e m}
     (record {
       nodes = refl;

@@ -10,6 +10,7 @@ use lib.ListN.{length, length-map, length-append}
 use Rattle.lists.specs.Tests.{same, bit}
 use Rattle.lists.proofs.Bools.{same-refl, same-eq, same-false}
 use Rattle.lists.proofs.Keeps.{keep-has, keep-le, keep-lt}
+use Rattle.lists.proofs.Rising.{rising-distinct}
 use Rattle.plane.specs.declared.Point.{Point}
 use Rattle.curves.specs.Curves.{Curve, startWay}
 use Rattle.planar_maps.specs.Map.{fwd}
@@ -27,8 +28,8 @@ use Rattle.map_laws.proofs.Reasons.{newFaces}
 use Rattle.map_laws.proofs.Outlines.{drawnOutline, drawn-shape, unlink-shape, lessOutline, marked}
 use Rattle.map_laws.proofs.Faces.{bears-in, corner-in}
 use Rattle.grown.proofs.Numbers.Ranked.{RankedMap, ranked-faces}
+use Rattle.grown.proofs.Numbers.Faces.{split-count}
 use Rattle.grown.proofs.Numbers.Edges.{drawn-ranked, outline-at, ranked-distinct}
-use Rattle.grown.proofs.Numbers.Faces.{splitList}
 use Rattle.grown.proofs.Numbers.Add.{drawn-has}
 use Rattle.grown.proofs.Numbers.Remove.{row-sides, renamedList, renamed-next}
 use Rattle.grown.proofs.Numbers.Split.{splitOutlines, split-outlines, placing}
@@ -194,20 +195,17 @@ drawn-bears u v c f m r = bears-row (drawn u v c f m) (fwd (m .next .edges))
     there = subst (λ (os : List Outline). List·Memᴰ (drawnOutline (m .next .edges) u v f) os)
         (sym (drawn-shape u v c f m .outlines)) (Memᴰ·append-right (outlines m) (List·Memᴰ·head refl))
 
-split-count : (goes : Bool) (old a : ℕ) (fs : List ℕ) → List·Memᴰ old fs
-    → length (splitList goes old a fs) ≤ length fs + 1
-split-count true old a fs k = let x = keep-lt (λ f. not (same f old)) fs k (ap not (same-refl old)) in
-    simp length-append (omega arith)
-split-count false old a fs k = simp length-append (omega arith)
-
 split-face-taken : (how : Variant) (e : ℕ) (m : Map) → hasEdge m e ≡ true → RankedMap m
     → Taken m (splitFace how e m) 0 0 1 0 0 (cond (isNew how && not (same (bears m (fwd e)) 0)) 2 1)
 unfolding splitFace sharedOut
 split-face-taken how e m h r = record {
   nodes = simp length-map (omega arith);
   edges = simp length-map (omega arith);
-  faces = split-count (isNew how && not (same (bears m (fwd e)) 0)) (bears m (fwd e)) (m .next .faces) (m .faces)
-      (bears-in m (fwd e) h (ranked-faces m r));
+  faces = let old = bears m (fwd e) in omega (
+    arith,
+    split-count old (m .next .faces) (m .faces) (bears-in m (fwd e) h (ranked-faces m r))
+        (rising-distinct (m .faces) (r .faces .rises)) (isNew how && not (same old 0)),
+  );
   next-node = refl;
   next-edge = refl;
   next-face = refl;

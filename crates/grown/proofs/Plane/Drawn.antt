@@ -1,10 +1,9 @@
 -- An edge drawn in between two corners of one face: where both sides of the edge are on one ring, or its faces are told
 -- apart, a map in the plane stays one. Assumes nothing.
 use mathlib.Core.Path.{_≡_, refl, sym, ap, _∙_, subst}
-use mathlib.Core.List.{List, _∷_, List·Memᴰ, List·Memᴰ·head}
-use Prim.Native.Nat.{ℕ, zero, suc}
+use mathlib.Core.List.{List, _∷_, List·Memᴰ, List·Memᴰ·head, Memᴰ·cast}
+use Prim.Native.Nat.{ℕ, suc}
 use lib.ListN.{length}
-use Rattle.lists.specs.Tests.{iterate}
 use Rattle.curves.specs.Curves.{Curve}
 use Rattle.planar_maps.specs.Map.{Arc, Dart, fwd, bwd, darts}
 use Rattle.planar_maps.specs.Rings.{Leads}
@@ -12,6 +11,7 @@ use Rattle.planar_maps.specs.Weave.{woven}
 use Rattle.planar_maps.specs.Planar.{Planar}
 use Rattle.planar_maps.proofs.Cycles.{Grown}
 use Rattle.planar_maps.proofs.Rings.{next-in}
+use Rattle.planar_maps.proofs.Leads.{leads-through}
 use Rattle.planar_maps.proofs.Agree.{planar-agree}
 use Rattle.planar_maps.proofs.Moves.{planar-perm}
 use Rattle.planar_maps.proofs.Weaving.{planar-join, planar-split}
@@ -24,19 +24,6 @@ use Rattle.map_laws.proofs.LinkedIn.{drawnRow}
 use Rattle.map_laws.proofs.DrawnLinked.{Draws, WovenIn, woven-in, w-linked, D-perm, all-D, D-leaves, D-bears, D-faces}
 use Rattle.map_laws.proofs.Drawn.{D-nodes}
 use Rattle.grown.specs.Good.{InPlane}
-
--- where two functions agree on darts that one of them stays in, they lead alike
-pub leads-agree : (ds : List Dart) (g h : Dart → Dart) → ((d : Dart) → List·Memᴰ d ds → g d ≡ h d)
-    → ((d : Dart) → List·Memᴰ d ds → List·Memᴰ (h d) ds) → {c d : Dart} → List·Memᴰ c ds → Leads g c d → Leads h c d
-leads-agree ds g h agree into {c} {d} k r = (r .0, sym (steps (r .0) .1) ∙ r .1)
-  where
-    steps : (j : ℕ) → List·Memᴰ (iterate j h c) ds × (iterate j g c ≡ iterate j h c)
-    steps zero = (k, refl)
-    steps (suc j) = go (steps j)
-      where
-        go : List·Memᴰ (iterate j h c) ds × (iterate j g c ≡ iterate j h c) → List·Memᴰ (iterate (suc j) h c) ds
-            × (iterate (suc j) g c ≡ iterate (suc j) h c)
-        go q = (into (iterate j h c) (q .0), ap g (q .1) ∙ agree (iterate j h c) (q .0))
 
 module _ (m : Map) (u v : ℕ) (c : Curve) (φ : ℕ) (draws : Draws m u v c φ) (planar : InPlane m)
     (start : List·Memᴰ u (nodeNumbers m)) (end : List·Memᴰ v (nodeNumbers m)) where
@@ -69,8 +56,9 @@ module _ (m : Map) (u v : ℕ) (c : Curve) (φ : ℕ) (draws : Draws m u v c φ)
       (sym (D-faces m u v c φ draws))
       (in-nodes (planar-agree (D-leaves m u v c φ draws) (K .links) (D-bears m u v c φ draws)
       (planar-join planar a (draws .free .fresh) start end φ (K .start) (K .end) (K .fits-start) (K .fits-end)
-      (leads-agree (darts (a ∷ arcs m)) (next D) (woven e (K .start) (K .end) (next m)) (K .links)
-      (λ d k. next-in (w-linked m u v c φ draws) k) (List·Memᴰ·head refl) r))))
+      (leads-through (next D) (woven e (K .start) (K .end) (next m)) (λ d. d) (darts (a ∷ arcs m))
+      (λ d k. Memᴰ·cast (K .links d k) (next-in (w-linked m u v c φ draws) k)) (λ d k. (1, sym (K .links d k)))
+      (List·Memᴰ·head refl) r))))
 
   -- the two sides told apart by new labels, which are constant along the links
   pub D-split : (new : Dart → ℕ) (μ : ℕ → ℕ) → Grown a (arcs m) (bears m) new μ → ((new f ≡ new b) → ⊥)

@@ -2,16 +2,13 @@
 -- ones. Assumes nothing.
 use mathlib.Core.Path.{_≡_, refl, sym, ap, _∙_}
 use mathlib.Core.Logic.{_⊎_, inl, inr, _≢_}
-use mathlib.Core.Bool.{Bool, true, false, cond, not, _||_, true≢false}
-use mathlib.Core.List.{List, [], _∷_, _++_, List·Memᴰ}
-use Prim.Native.Nat.{ℕ, suc, _+_, _≤_, _<_}
+use mathlib.Core.Bool.{Bool, true, false, cond, true≢false}
+use mathlib.Core.List.{List, List·Memᴰ}
+use Prim.Native.Nat.{ℕ, suc, _≤_, _<_}
 use native.Mathlib.Omega.{arith}
-use lib.ListN.{length, length-append}
-use Rattle.lists.specs.Tests.{same}
-use Rattle.lists.specs.Scans.{keep}
+use lib.ListN.{length}
 use Rattle.lists.specs.Members.{Distinct}
 use Rattle.lists.proofs.Bools.{same-false, same-eq, not-true}
-use Rattle.lists.proofs.Lookups.{length-without}
 use Rattle.planar_maps.specs.Map.{Dart, rev, Linked}
 use Rattle.planar_maps.specs.Pieces.{nums}
 use Rattle.planar_maps.proofs.Rings.{rev-in}
@@ -21,6 +18,7 @@ use Rattle.map.specs.Faces.{encloses}
 use Rattle.map.specs.Edits.{Shares, sideOfPoint, sideOfRing, sideOfDart}
 use Rattle.map_laws.proofs.Rings.{among-has, among-in, ring-here, ring-leads, ring-has, ring-alike, leads-back}
 use Rattle.map_laws.proofs.Rings.{lowest-same}
+use Rattle.grown.proofs.Numbers.Faces.{sharesOf, splitList, split-count}
 
 -- ---- what a directed edge comes to bear
 
@@ -98,53 +96,32 @@ pub record Sharing (s : Shares) (fresh : ℕ) (fs fs′ : List ℕ) : Type 0 whe
   pub other-new : (s .other ≡ s .old) ⊎ (fresh ≤ s .other)
   pub count : length fs′ ≡ suc (length fs)
 
--- as in `splitFace`: the old face goes or stays, and the reference side is left or right
-abbrev pub sharesOf : Bool → Bool → ℕ → ℕ → List Dart → List Dart → Shares
-sharesOf goes isLeft old a left right = record {
-  old = old;
-  refRing = cond isLeft left right;
-  otherRing = cond isLeft right left;
-  ref = cond (isLeft || not goes) a (cond goes (a + 1) old);
-  other = cond (isLeft || not goes) (cond goes (a + 1) old) a;
-}
-
-abbrev pub facesOf : Bool → ℕ → ℕ → List ℕ → List ℕ
-facesOf goes old a fs = cond goes (keep (λ f. not (same f old)) fs ++ a ∷ cond goes (a + 1) old ∷ []) (fs ++ a ∷ [])
-
 module _ (old a : ℕ) (fs : List ℕ) (dis : Distinct fs) (below : (g : ℕ) → List·Memᴰ g fs → g < a)
     (there : List·Memᴰ old fs) (left right : List Dart) where
-  counted : (goes : Bool) → length (facesOf goes old a fs) ≡ suc (length fs)
-  counted true = omega (
-    arith,
-    length-append (keep (λ f. not (same f old)) fs) (a ∷ (a + 1) ∷ []),
-    length-without old fs dis there,
-  )
-  counted false = omega (arith, length-append fs (a ∷ []))
-
-  pub sharing : (goes isLeft : Bool) → Sharing (sharesOf goes isLeft old a left right) a fs (facesOf goes old a fs)
+  pub sharing : (goes isLeft : Bool) → Sharing (sharesOf goes isLeft old a left right) a fs (splitList goes old a fs)
   sharing true true =
       record {
         differ = λ p. omega arith;
         ref-new = inr (omega arith);
         other-new = inr (omega arith);
-        count = counted true;
+        count = split-count old a fs there dis true;
       }
   sharing true false =
       record {
         differ = λ p. omega arith;
         ref-new = inr (omega arith);
         other-new = inr (omega arith);
-        count = counted true;
+        count = split-count old a fs there dis true;
       }
   sharing false true = record {
     differ = λ p. omega (arith, below old there);
     ref-new = inr (omega arith);
     other-new = inl refl;
-    count = counted false;
+    count = split-count old a fs there dis false;
   }
   sharing false false = record {
     differ = λ p. omega (arith, below old there);
     ref-new = inr (omega arith);
     other-new = inl refl;
-    count = counted false;
+    count = split-count old a fs there dis false;
   }

@@ -31,7 +31,8 @@ use Rattle.map_laws.proofs.Faces.{side-number}
 use Rattle.grown.specs.Good.{InPlane}
 use Rattle.grown.proofs.Sides.{sides-bears, sides-planar}
 use Rattle.grown.proofs.Plane.Share.{side-new, side-old, side-keeps, side-x, side-rev, apart-rev, Sharing}
-use Rattle.grown.proofs.Plane.Share.{sharesOf, facesOf, sharing}
+use Rattle.grown.proofs.Plane.Share.{sharing}
+use Rattle.grown.proofs.Numbers.Faces.{sharesOf, splitList}
 use Rattle.grown.proofs.Plane.Drawn.{D-split}
 
 -- what the faces of a map give
@@ -92,7 +93,7 @@ module _ (how : Variant) (m : Map) (u v : ℕ) (c : Curve) (φ : ℕ) (draws : D
 
   -- ---- the sides
 
-  shared : Sharing s (D .next .faces) (m .faces) (facesOf goes old (D .next .faces) (m .faces))
+  shared : Sharing s (D .next .faces) (m .faces) (splitList goes old (D .next .faces) (m .faces))
   shared = sharing old (D .next .faces) (m .faces) (faced .once)
       (λ g k. let h = faced .below g k in let q = next-face in omega arith)
       (subst (λ (g : ℕ). List·Memᴰ g (m .faces)) (sym on-f) there) (ring D f) (ring D b) goes isLeft
@@ -194,9 +195,9 @@ module _ (how : Variant) (m : Map) (u v : ℕ) (c : Curve) (φ : ℕ) (draws : D
   X-bears = sides-bears D X (λ e. new (fwd (e .number))) (λ e. new (bwd (e .number))) X-edges new (λ e k. refl)
       (λ e k. refl)
 
-  X-faces : X .faces ≡ facesOf goes old (D .next .faces) (m .faces)
+  X-faces : X .faces ≡ splitList goes old (D .next .faces) (m .faces)
   unfolding splitFace sharedOut
-  X-faces = ap (facesOf goes old (D .next .faces)) (D-faces m u v c φ draws)
+  X-faces = ap (splitList goes old (D .next .faces)) (D-faces m u v c φ draws)
 
   X-nodes : nodeNumbers X ≡ nodeNumbers D
   unfolding splitFace sharedOut
