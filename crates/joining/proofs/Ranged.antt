@@ -158,18 +158,9 @@ module _ (l : Lent) (r : ranged l ≡ true) (f : formed (mapOf l) ≡ true) wher
           edges = omega (arith, t .edges, room .edges, n, n′);
           faces = omega (arith, t .faces, room .faces);
         };
-        next-node = record {
-          least = omega (arith, t .next-node, a);
-          most = omega (arith, t .next-node, supply .nodes);
-        };
-        next-edge = record {
-          least = omega (arith, t .next-edge, b);
-          most = omega (arith, t .next-edge, supply .edges);
-        };
-        next-face = record {
-          least = omega (arith, t .next-face, c);
-          most = omega (arith, t .next-face, supply .faces);
-        };
+        next-node = rw (t .next) (record { least = omega (arith, a); most = supply .nodes });
+        next-edge = rw (t .next) (record { least = omega (arith, b); most = supply .edges });
+        next-face = rw (t .next) (record { least = omega (arith, c); most = supply .faces });
       }
 
   node-tabled : (p : Point) → AddNode s m p → Tabled s (addIsoNode p m)

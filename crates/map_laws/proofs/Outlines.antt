@@ -11,7 +11,8 @@ use Rattle.lists.proofs.Keeps.{keep-map}
 use Rattle.lists.proofs.Maps.{map-square, map-twice}
 use Rattle.curves.specs.Curves.{Curve}
 use Rattle.planar_maps.specs.Map.{fwd, bwd}
-use Rattle.map.specs.Rows.{Node, Edge, Map, atNodes, atEdge, withoutEdge}
+use Rattle.map.specs.declared.Counts.{Counts}
+use Rattle.map.specs.Rows.{Node, Edge, Map, counts, atNodes, atEdge, withoutEdge}
 use Rattle.map.specs.Darts.{next}
 use Rattle.map.specs.Links.{redirect, lead, linkIn, linkEdge, unlinkEdge}
 use Rattle.map.specs.Edits.{withFace, isEither, drawn, undrawn}
@@ -23,9 +24,14 @@ pub record Shape (m : Map) (ns : List Node) (os : List Outline) (fs : List ℕ) 
   pub nodes : m .nodes ≡ ns
   pub outlines : outlines m ≡ os
   pub faces : m .faces ≡ fs
-  pub next-node : m .next .nodes ≡ a
-  pub next-edge : m .next .edges ≡ b
-  pub next-face : m .next .faces ≡ c
+  pub next : m .next ≡ counts a b c
+
+-- so many numbers more
+abbrev pub raised : Counts → Counts → Counts
+raised c k = counts (k .nodes + c .nodes) (k .edges + c .edges) (k .faces + c .faces)
+
+pub counts-are : {a a′ b b′ c c′ : ℕ} → a ≡ a′ → b ≡ b′ → c ≡ c′ → counts a b c ≡ counts a′ b′ c′
+counts-are p q r = λ i. counts (p i) (q i) (r i)
 
 -- the outlines of mapped rows
 pub outlines-map : (f : Edge → Edge) (g : Outline → Outline) (es : List Edge)
@@ -41,9 +47,7 @@ at-shape e f m h = record {
   nodes = refl;
   outlines = map-twice outlineOf _ outlineOf (m .edges) (λ r k. go (same (r .number) e) r);
   faces = refl;
-  next-node = refl;
-  next-edge = refl;
-  next-face = refl;
+  next = refl;
 }
   where
     go : (b : Bool) (r : Edge) → outlineOf (cond b (f r) r) ≡ outlineOf r
@@ -68,9 +72,7 @@ drawn-shape u v c f m = record {
       linkEdge-relinked (m .next .edges) (appended m u v c f) .outlines
       ∙ map-append outlineOf (m .edges) (drawnRow m u v c f ∷ []);
   faces = refl;
-  next-node = add-zero (m .next .nodes);
-  next-edge = refl;
-  next-face = add-zero (m .next .faces);
+  next = counts-are (add-zero (m .next .nodes)) refl (add-zero (m .next .faces));
 }
 
 -- the edge e left out
@@ -91,9 +93,7 @@ unlink-shape e m = record {
       ∙ ap (lessOutline e) (relinked-join (redirect-relinked (fwd e) (next m (bwd e)) m)
       (redirect-relinked (bwd e) (next m₁ (fwd e)) m₁) .outlines);
   faces = refl;
-  next-node = refl;
-  next-edge = refl;
-  next-face = refl;
+  next = refl;
 }
   where
     m₁ : Map
@@ -104,14 +104,6 @@ pub undrawn-face-list : (e f : ℕ) (m : Map) → undrawn e f m .faces ≡ m .fa
 unfolding undrawn atNodes
 undrawn-face-list e f m = unlink-shape e m .faces
 
-pub undrawn-next-node : (e f : ℕ) (m : Map) → undrawn e f m .next .nodes ≡ m .next .nodes
+pub undrawn-next : (e f : ℕ) (m : Map) → undrawn e f m .next ≡ m .next
 unfolding undrawn atNodes
-undrawn-next-node e f m = unlink-shape e m .next-node
-
-pub undrawn-next-edge : (e f : ℕ) (m : Map) → undrawn e f m .next .edges ≡ m .next .edges
-unfolding undrawn atNodes
-undrawn-next-edge e f m = unlink-shape e m .next-edge
-
-pub undrawn-next-face : (e f : ℕ) (m : Map) → undrawn e f m .next .faces ≡ m .next .faces
-unfolding undrawn atNodes
-undrawn-next-face e f m = unlink-shape e m .next-face
+undrawn-next e f m = unlink-shape e m .next

@@ -36,11 +36,7 @@ record NumbersKept (s : Sizes) (m m′ : Map) : Type 0 where
 
 module _ {m m′ : Map} {a b c x y z : ℕ} (t : Taken m m′ a b c x y z) where
   limits : Supply m x y z → NextLimited m′
-  limits p = record {
-    node = omega (arith, t .next-node, p .nodes);
-    edge = omega (arith, t .next-edge, p .edges);
-    face = omega (arith, t .next-face, p .faces);
-  }
+  limits p = rw (t .next) (record { node = p .nodes; edge = p .edges; face = p .faces })
 
   fit : {s : Sizes} → Room s m a b c → Fits s m′
   fit p =

@@ -23,7 +23,7 @@ use Rattle.map.specs.Links.{unlinkEdge}
 use Rattle.map.specs.Edits.{withFace, isEither, drawn, undrawn}
 use Rattle.map_laws.proofs.Readings.{edge-at, numberOf, has-number, Outline, outlineOf, outlines, outlineNumber}
 use Rattle.map_laws.proofs.Outlines.{drawnOutline, drawn-shape, marked, lessOutline, unlink-shape, undrawn-face-list}
-use Rattle.map_laws.proofs.Outlines.{undrawn-next-node, undrawn-next-edge, undrawn-next-face}
+use Rattle.map_laws.proofs.Outlines.{undrawn-next}
 use Rattle.grown.proofs.Numbers.Ranked.{Met, EndsAt, Placed, Ranked, RankedMap, ends-met, met-ends, ranked-shape}
 use Rattle.grown.proofs.Numbers.Nodes.{rising-nodes, placed-map, lone-placed}
 
@@ -212,7 +212,5 @@ undrawn-map e f m k r =
       nodes = refl;
       outlines = refl;
       faces = undrawn-face-list e f m;
-      next-node = undrawn-next-node e f m;
-      next-edge = undrawn-next-edge e f m;
-      next-face = undrawn-next-face e f m;
+      next = undrawn-next e f m;
     }) (undrawn-ranked m e f (ranked-distinct m r) k r)

@@ -30,7 +30,7 @@ use Rattle.map.specs.Faces.{encloses, ringArea}
 use Rattle.map.specs.Edits.{isNew, withFace, Shares, sideOfPoint, sideOfRing, sideOfDart, sideOfNode, withSides}
 use Rattle.map.specs.Edits.{sharedOut, splitFace}
 use Rattle.map_laws.proofs.Readings.{edge-at, bears-row, Outline, outlineOf, outlines, outlineNumber}
-use Rattle.map_laws.proofs.Outlines.{outlines-map}
+use Rattle.map_laws.proofs.Outlines.{outlines-map, counts-are}
 use Rattle.map_laws.proofs.Faces.{bears-in}
 use Rattle.grown.proofs.Numbers.Ranked.{Met, EndsAt, Sided, Ranked, RankedMap, ranked-shape, ranked-faces}
 use Rattle.grown.proofs.Numbers.Nodes.{rising-nodes, placed-map}
@@ -252,9 +252,7 @@ split-face-ranked how e m dis h r =
       nodes = refl;
       outlines = refl;
       faces = refl;
-      next-node = add-zero (m .next .nodes);
-      next-edge = add-zero (m .next .edges);
-      next-face = refl;
+      next = counts-are (add-zero (m .next .nodes)) (add-zero (m .next .edges)) refl;
     })
     (shared-ranked m s dis {fs = splitList goes old a (m .faces)}
     (cond-has (λ (f : ℕ). List·Memᴰ f (splitList goes old a (m .faces))) (isLeft || not goes)

@@ -23,7 +23,7 @@ use Rattle.map.specs.Darts.{leaves, arrives, next}
 use Rattle.map.specs.Edits.{isMod, joint, parts, healedCurve, heal}
 use Rattle.map.proofs.Laws.{edge-there}
 use Rattle.map_laws.proofs.Readings.{leaves-row, tailIn, Outline, outlineOf, outlines, outlineNumber}
-use Rattle.map_laws.proofs.Outlines.{outlines-map, outlines-without, lessOutline}
+use Rattle.map_laws.proofs.Outlines.{outlines-map, outlines-without, lessOutline, counts-are}
 use Rattle.grown.proofs.Numbers.Ranked.{EndsAt, Sided, RankedMap, ranked-shape}
 use Rattle.grown.proofs.Numbers.Nodes.{ranked-less-nodes}
 use Rattle.grown.proofs.Numbers.Edges.{rising-outlines, outline-at, ranked-distinct}
@@ -204,9 +204,7 @@ heal-ranked how e f m he hf ne h r =
       nodes = refl;
       outlines = heal-outlines how e f m;
       faces = refl;
-      next-node = add-zero (m .next .nodes);
-      next-edge = refl;
-      next-face = add-zero (m .next .faces);
+      next = counts-are (add-zero (m .next .nodes)) refl (add-zero (m .next .faces));
     })
     (replaced-ranked (heal-replaced e f b x os how refl ne oe (in-row e he) (edge-there m e he .1))
     (heal-rising e f b x os how refl (r .first-edge) (r .edges)) (omega (arith, r .first-edge)) side meeting

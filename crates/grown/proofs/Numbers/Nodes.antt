@@ -26,7 +26,7 @@ use Rattle.map.specs.Edits.{lone, addIsoNode, moveIsoNode, removeIsoNode, withC
 use Rattle.map.specs.Reasons.{isolated}
 use Rattle.map_laws.proofs.RowChanges.{nodeNumber, node-at}
 use Rattle.map_laws.proofs.Readings.{Outline, outlineOf, outlines}
-use Rattle.map_laws.proofs.Outlines.{at-shape}
+use Rattle.map_laws.proofs.Outlines.{at-shape, counts-are}
 use Rattle.map_laws.proofs.Faces.{zero-in}
 use Rattle.grown.specs.Good.{Woven}
 use Rattle.grown.proofs.Numbers.Ranked.{Met, EndsAt, Placed, Sided, Ranked, RankedMap, ranked-shape}
@@ -166,9 +166,7 @@ add-node-ranked m p w r =
       nodes = refl;
       outlines = refl;
       faces = refl;
-      next-node = refl;
-      next-edge = add-zero (m .next .edges);
-      next-face = add-zero (m .next .faces);
+      next = counts-are refl (add-zero (m .next .edges)) (add-zero (m .next .faces));
     })
     (ranked-more-node (lone m (m .next .nodes) p) refl
     (lone-placed (lone m (m .next .nodes) p) (faceOfPoint m p) refl (face-of-point m p r)

@@ -68,7 +68,7 @@ ranked-faces m r = record {
 
 pub ranked-shape : {m : Map} {ns : List Node} {os : List Outline} {fs : List ℕ} {a b c : ℕ} → Shape m ns os fs a b c
     → Ranked ns os fs a b c → RankedMap m
-ranked-shape s r = rw (s .nodes, s .outlines, s .faces, s .next-node, s .next-edge, s .next-face) r
+ranked-shape s r = rw (s .nodes, s .outlines, s .faces, s .next) r
 
 -- the next numbers are within the limit
 pub record NextLimited (m : Map) : Type 0 where

@@ -16,12 +16,12 @@ use Rattle.lists.proofs.Keeps.{keep-has}
 use Rattle.lists.proofs.Rising.{Rising, rising-append, rising-keep}
 use Rattle.planar_maps.proofs.Chains.{min-one}
 use Rattle.map.specs.declared.Variant.{Variant}
-use Rattle.map.specs.Rows.{Node, Edge, Map, edge, hasEdge}
+use Rattle.map.specs.Rows.{Node, Edge, Map, edge, hasEdge, counts}
 use Rattle.map.specs.Edits.{isNew, removeIsoEdge, withSides, renamed, renamedNode, renamedFaces, healsFaces, lowerFace}
 use Rattle.map.specs.Edits.{makesFace, faceLeft, removeEdge}
 use Rattle.map.proofs.Laws.{edge-there}
 use Rattle.map_laws.proofs.Readings.{Outline, outlineOf, outlines}
-use Rattle.map_laws.proofs.Outlines.{outlines-map, undrawn-next-node, undrawn-next-edge, undrawn-next-face}
+use Rattle.map_laws.proofs.Outlines.{outlines-map, undrawn-next, counts-are, raised}
 use Rattle.grown.proofs.Numbers.Ranked.{Sided, Ranked, RankedMap, ranked-shape}
 use Rattle.grown.proofs.Numbers.Edges.{outlines-distinct, undrawn-ranked, undrawn-map}
 use Rattle.grown.proofs.Numbers.Faces.{Refaced, refaced, first-append, first-keep}
@@ -154,10 +154,9 @@ unfolding makesFace
 makes-above how e m h = differ (lowerFace e m) 0
     (not-true (same (lowerFace e m) 0) (and-true (isNew how && healsFaces e m) (not (same (lowerFace e m) 0)) h .1))
 
-pub renamed-next : (x : Edge) (f : ℕ) (m : Map) → (renamedFaces x f m .next .nodes ≡ m .next .nodes)
-    × (renamedFaces x f m .next .edges ≡ m .next .edges) × (renamedFaces x f m .next .faces ≡ m .next .faces)
+pub renamed-next : (x : Edge) (f : ℕ) (m : Map) → renamedFaces x f m .next ≡ m .next
 unfolding renamedFaces
-renamed-next x f m = (refl, refl, refl)
+renamed-next x f m = refl
 
 pub remove-edge-ranked : (how : Variant) (e : ℕ) (m : Map) → hasEdge m e ≡ true → RankedMap m
     → RankedMap (removeEdge how e m)
@@ -169,7 +168,6 @@ remove-edge-ranked how e m h r =
     let fs = renamedList makes x f (m .faces) in
     let sides = row-sides m e h r in
     let after = renamedFaces x f m in
-    let next = renamed-next x f m in
     let ranked = renamed-ranked m x f fs (renamed-in x (m .next .faces) (m .faces) (sides .0) (sides .1) makes)
     (renamed-rising x (m .next .faces) (m .faces) (sides .0) (sides .1) makes (r .faces))
     (renamed-zero x (m .next .faces) (m .faces) (sides .0) (sides .1) makes (makes-above how e m) (r .zero)) r in
@@ -177,8 +175,7 @@ remove-edge-ranked how e m h r =
       nodes = refl;
       outlines = refl;
       faces = refl;
-      next-node = add-zero _ ∙ undrawn-next-node e f after ∙ next .0;
-      next-edge = add-zero _ ∙ undrawn-next-edge e f after ∙ next .1;
-      next-face = ap (λ (n : ℕ). n + bit makes) (undrawn-next-face e f after ∙ next .2);
+      next = ap (raised (counts 0 0 (bit makes))) (undrawn-next e f after ∙ renamed-next x f m)
+          ∙ counts-are (add-zero _) (add-zero _) refl;
     }) (undrawn-ranked after e f (outlines-distinct after (ranked .edges))
     (left-in x (m .next .faces) (m .faces) (sides .0) (sides .1) makes) ranked)

@@ -16,7 +16,7 @@ use Rattle.curves.specs.Curves.{Curve, startWay}
 use Rattle.planar_maps.specs.Map.{fwd}
 use Rattle.map.specs.declared.Variant.{Variant}
 use Rattle.map.specs.declared.Variant.the-variants.{New, Mod}
-use Rattle.map.specs.Rows.{Edge, Map, edge, hasNode, hasEdge, atNodes, atEdge}
+use Rattle.map.specs.Rows.{Edge, Map, edge, hasNode, hasEdge, atNodes, atEdge, counts}
 use Rattle.map.specs.Darts.{bears}
 use Rattle.map.specs.Links.{cornerFace}
 use Rattle.map.specs.Edits.{isNew, isMod, addIsoNode, moveIsoNode, removeIsoNode, drawn, undrawn, addIsoEdge}
@@ -25,7 +25,8 @@ use Rattle.map.specs.Edits.{addEdge, renamed, renamedFaces, makesFace, faceLeft
 use Rattle.map.proofs.Laws.{edge-there}
 use Rattle.map_laws.proofs.Readings.{bears-row, Outline, outlineOf, outlines}
 use Rattle.map_laws.proofs.Reasons.{newFaces}
-use Rattle.map_laws.proofs.Outlines.{drawnOutline, drawn-shape, unlink-shape, lessOutline, marked}
+use Rattle.map_laws.proofs.Outlines.{drawnOutline, drawn-shape, unlink-shape, lessOutline, marked, raised, counts-are}
+use Rattle.map_laws.proofs.Outlines.{undrawn-next}
 use Rattle.map_laws.proofs.Faces.{bears-in, corner-in}
 use Rattle.grown.proofs.Numbers.Ranked.{RankedMap, ranked-faces}
 use Rattle.grown.proofs.Numbers.Faces.{split-count}
@@ -40,15 +41,13 @@ pub record Taken (m m′ : Map) (a b c x y z : ℕ) : Type 0 where
   pub nodes : length (m′ .nodes) ≤ length (m .nodes) + a
   pub edges : length (outlines m′) ≤ length (outlines m) + b
   pub faces : length (m′ .faces) ≤ length (m .faces) + c
-  pub next-node : m′ .next .nodes ≡ m .next .nodes + x
-  pub next-edge : m′ .next .edges ≡ m .next .edges + y
-  pub next-face : m′ .next .faces ≡ m .next .faces + z
+  pub next : m′ .next ≡ raised (counts x y z) (m .next)
 
 none-more : (n : ℕ) → n ≤ n + 0
 none-more n = omega arith
 
-zero-more : (n : ℕ) → n ≡ n + 0
-zero-more n = sym (add-zero n)
+none-given : (m : Map) → m .next ≡ raised (counts 0 0 0) (m .next)
+none-given m = counts-are (sym (add-zero _)) (sym (add-zero _)) (sym (add-zero _))
 
 pub add-node-taken : (p : Point) (m : Map) → Taken m (addIsoNode p m) 1 0 0 1 0 0
 unfolding addIsoNode
@@ -56,9 +55,7 @@ add-node-taken p m = record {
   nodes = simp length-append (omega arith);
   edges = none-more _;
   faces = none-more _;
-  next-node = refl;
-  next-edge = refl;
-  next-face = refl;
+  next = refl;
 }
 
 pub move-node-taken : (n : ℕ) (p : Point) (m : Map) → Taken m (moveIsoNode n p m) 0 0 0 0 0 0
@@ -67,9 +64,7 @@ move-node-taken n p m = record {
   nodes = simp length-map (omega arith);
   edges = none-more _;
   faces = none-more _;
-  next-node = zero-more _;
-  next-edge = zero-more _;
-  next-face = zero-more _;
+  next = none-given m;
 }
 
 pub remove-node-taken : (n : ℕ) (m : Map) → Taken m (removeIsoNode n m) 0 0 0 0 0 0
@@ -78,9 +73,7 @@ remove-node-taken n m = record {
   nodes = omega (arith, keep-le (λ r. not (same (r .number) n)) (m .nodes));
   edges = none-more _;
   faces = none-more _;
-  next-node = zero-more _;
-  next-edge = zero-more _;
-  next-face = zero-more _;
+  next = none-given m;
 }
 
 pub change-taken : (e : ℕ) (c : Curve) (m : Map) → Taken m (changeEdgeGeom e c m) 0 0 0 0 0 0
@@ -89,9 +82,7 @@ change-taken e c m = record {
   nodes = none-more _;
   edges = simp length-map (omega arith);
   faces = none-more _;
-  next-node = zero-more _;
-  next-edge = zero-more _;
-  next-face = zero-more _;
+  next = none-given m;
 }
 
 drawn-taken : (u v : ℕ) (c : Curve) (f : ℕ) (m : Map) → Taken m (drawn u v c f m) 0 1 0 0 1 0
@@ -103,9 +94,7 @@ drawn-taken u v c f m =
       nodes = rw (s .nodes) (omega arith);
       edges = omega (arith, ap length (s .outlines));
       faces = rw (s .faces) (none-more _);
-      next-node = s .next-node ∙ zero-more _;
-      next-edge = s .next-edge;
-      next-face = s .next-face ∙ zero-more _;
+      next = s .next ∙ counts-are (sym (add-zero _)) refl (sym (add-zero _));
     }
 
 pub add-lone-taken : (u v : ℕ) (c : Curve) (m : Map) → Taken m (addIsoEdge u v c m) 0 1 0 0 1 0
@@ -120,9 +109,7 @@ undrawn-taken e f m =
       nodes = simp length-map (omega (arith, ap length (s .nodes)));
       edges = omega (arith, ap length (s .outlines), keep-le (λ o. not (same (o .arc .num) e)) (outlines m));
       faces = omega (arith, ap length (s .faces));
-      next-node = s .next-node ∙ zero-more _;
-      next-edge = s .next-edge ∙ zero-more _;
-      next-face = s .next-face ∙ zero-more _;
+      next = s .next ∙ none-given m;
     }
 
 pub remove-lone-taken : (e : ℕ) (m : Map) → Taken m (removeIsoEdge e m) 0 0 0 0 0 0
@@ -138,9 +125,7 @@ split-taken how e p m h = record {
   nodes = simp length-append (omega arith);
   edges = omega (arith, ap length (split-outlines how e p m), count how);
   faces = none-more _;
-  next-node = refl;
-  next-edge = refl;
-  next-face = refl;
+  next = refl;
 }
   where
     less : suc (length (lessOutline e (outlines m))) ≤ length (outlines m)
@@ -159,9 +144,7 @@ heal-taken how e f m h ne = record {
   nodes = omega (arith, keep-le (λ r. not (same (r .number) (jointOf m e f))) (m .nodes));
   edges = omega (arith, ap length (heal-outlines how e f m), count how);
   faces = none-more _;
-  next-node = refl;
-  next-edge = refl;
-  next-face = refl;
+  next = refl;
 }
   where
     here : List·Memᴰ (outlineOf (edge m e)) (lessOutline f (outlines m))
@@ -206,9 +189,7 @@ split-face-taken how e m h r = record {
     split-count old (m .next .faces) (m .faces) (bears-in m (fwd e) h (ranked-faces m r))
         (rising-distinct (m .faces) (r .faces .rises)) (isNew how && not (same old 0)),
   );
-  next-node = refl;
-  next-edge = refl;
-  next-face = refl;
+  next = refl;
 }
 
 pub add-edge-taken : (how : Variant) (u v : ℕ) (c : Curve) (m : Map) → hasNode m u ≡ true → RankedMap m
@@ -244,9 +225,8 @@ add-edge-taken how u v c m h r = go (splitsFace u v c m)
           nodes = omega (arith, one .nodes, two .nodes);
           edges = omega (arith, one .edges, two .edges);
           faces = omega (arith, one .faces, two .faces);
-          next-node = omega (arith, one .next-node, two .next-node);
-          next-edge = omega (arith, one .next-edge, two .next-edge);
-          next-face = omega (arith, one .next-face, two .next-face, z);
+          next = two .next ∙ ap (raised (counts 0 0 _)) (one .next)
+              ∙ counts-are (add-zero _) (add-zero _) (omega (arith, z));
         }
     go false = one
 
@@ -273,14 +253,11 @@ remove-edge-taken how e m h r =
     let after = renamedFaces (edge m e) f m in
     let t = undrawn-taken e f after in
     let size = renamed-lengths (edge m e) f m in
-    let next = renamed-next (edge m e) f m in
     let k = row-sides m e h r .0 in
     record {
       nodes = omega (arith, t .nodes, size .0);
       edges = omega (arith, t .edges, size .1);
       faces = renamed-count (makesFace how e m) (edge m e) (m .next .faces) (m .faces) k
           (λ q. let b = r .faces .bounds (edge m e .left) k in omega arith);
-      next-node = omega (arith, t .next-node, next .0);
-      next-edge = omega (arith, t .next-edge, next .1);
-      next-face = omega (arith, t .next-face, next .2);
+      next = ap (raised (counts 0 0 (bit (makesFace how e m)))) (undrawn-next e f after ∙ renamed-next (edge m e) f m);
     }

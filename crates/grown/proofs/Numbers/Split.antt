@@ -26,7 +26,7 @@ use Rattle.map.proofs.Laws.{edge-there}
 use Rattle.map_laws.proofs.Readings.{mapped-kept, Outline, outlineOf, outlines, outlineNumber, relinked-join}
 use Rattle.map_laws.proofs.Readings.{redirect-relinked}
 use Rattle.map_laws.proofs.RowChanges.{nodeNumber}
-use Rattle.map_laws.proofs.Outlines.{outlines-map, outlines-without, lessOutline}
+use Rattle.map_laws.proofs.Outlines.{outlines-map, outlines-without, lessOutline, counts-are}
 use Rattle.grown.proofs.Numbers.Ranked.{Met, EndsAt, Sided, Ranked, RankedMap, ranked-shape}
 use Rattle.grown.proofs.Numbers.Nodes.{ranked-more-node}
 use Rattle.grown.proofs.Numbers.Edges.{rising-outlines, outline-at, ranked-distinct}
@@ -250,9 +250,7 @@ split-ranked how e p m h r =
       nodes = refl;
       outlines = split-outlines how e p m;
       faces = refl;
-      next-node = refl;
-      next-edge = refl;
-      next-face = add-zero (m .next .faces);
+      next = counts-are refl refl (add-zero (m .next .faces));
     })
     (ranked-more-node (record { number = n; at = p; face = none }) refl
     (record {
