@@ -2,8 +2,7 @@
 -- about a node make one turn, so they name each departure once. Assumes nothing.
 use mathlib.Core.Path.{_≡_, refl, sym, ap, subst, fun-ext, _∙_}
 use mathlib.Core.Bool.{Bool, true, false, Bool·beq, cond, _&&_}
-use mathlib.Core.List.{List, map, map-map, List·Memᴰ, Memᴰ·map}
-use mathlib.Core.List.{Memᴰ·cast, List·Permᴰ, Permᴰ·symm}
+use mathlib.Core.List.{List, map, map-map, List·Memᴰ, Memᴰ·map, Memᴰ·cast, List·Permᴰ, Permᴰ·symm}
 use mathlib.Core.Option.{Option, none, some}
 use Prim.Native.Nat.{ℕ}
 use native.Mathlib.Omega.{arith}

@@ -2,11 +2,10 @@
 -- Assumes nothing.
 use mathlib.Core.Path.{_≡_, refl, sym, ap, ap₂, subst, _∙_}
 use mathlib.Core.Bool.{true}
-use mathlib.Core.List.{flatMap, List·Memᴰ, Memᴰ·of-map}
-use Prim.Native.Nat.{ℕ, _*_, _-_, _/_, _≤_}
+use mathlib.Core.List.{List·Memᴰ, Memᴰ·of-map}
+use Prim.Native.Nat.{ℕ, _-_, _/_, _≤_}
 use lib.IntN.{pos}
-use lib.ListN.{length, replicate, length-append, length-replicate, length-map}
-use lib.Seq.{drop-append-seam}
+use lib.ListN.{length, length-append, length-replicate, length-map}
 use Rattle.lists.specs.Scans.{allOf}
 use Rattle.lists.proofs.Bools.{and-is}
 use Rattle.lists.proofs.Maps.{all-mapped}
@@ -15,10 +14,9 @@ use Rattle.curves.specs.Curves.{points, maxPoints}
 use Rattle.map.specs.Limits.{edgeWidth}
 use Rattle.map.specs.Rows.{Edge, Map, Sizes, edgeRows, edgeCells, lentOf, whole}
 use Rattle.map.specs.Form.{edgeRanges, ranged}
-use Rattle.tables.specs.Tables.{within, restZero}
-use Rattle.tables.proofs.Tests.{zeros}
+use Rattle.tables.specs.Tables.{within}
 use Rattle.map.proofs.RoundTrip.{edge-wide, ranged-is}
-use Rattle.tables.proofs.Filled.{Wide, flat-length, rows-flat}
+use Rattle.tables.proofs.Filled.{Wide, flat-length, rows-flat, flat-rest}
 use Rattle.mending.specs.Mend.{mended}
 use Rattle.mending.proofs.Mended.{relinked}
 
@@ -74,14 +72,6 @@ module _ (s : Sizes) (m : Map) where
     unfolding whole
     whole-now h = rw (nodes-now, size-now, faces-now) h
 
-    rest-now : restZero edgeWidth (pos (length (mended m .edges))) (lentOf s (mended m) .edges) ≡ true
-    unfolding lentOf
-    rest-now =
-        let flat = flatMap edgeCells (mended m .edges) in
-        let k = s .edges * edgeWidth - length flat in
-        rw (← flat-length edgeWidth edgeCells (mended m .edges) wide-now, drop-append-seam flat (replicate k (pos 0)))
-        (zeros k)
-
     rows-ranged : allOf edgeRanges (edgeRows (lentOf s m)) ≡ true → allOf edgeRanges (edgeRows (lentOf s (mended m)))
         ≡ true
     unfolding lentOf edgeCells mended
@@ -100,5 +90,6 @@ module _ (s : Sizes) (m : Map) where
         let edges = ap₂ (λ (a b : ℕ). within 0 (a / edgeWidth) (pos b)) size-now rows-now ∙ k .edges in
         let counts = and-is (and-is (k .nodes) edges) (k .faces) in
         let nexts = and-is (k .next-node) (and-is (k .next-edge) (and-is (k .next-face) refl)) in
-        let rests = and-is (and-is (and-is (and-is counts nexts) (k .node-rest)) rest-now) (k .face-rest) in
+        let rest = flat-rest edgeWidth edgeCells _ (mended m .edges) wide-now in
+        let rests = and-is (and-is (and-is (and-is counts nexts) (k .node-rest)) rest) (k .face-rest) in
         and-is (and-is (and-is rests (k .node-rows)) (rows-ranged (k .edge-rows))) (k .face-rows)

@@ -6,7 +6,7 @@ use mathlib.Core.Bool.{Bool, true, false, not, Bool·beq, _&&_, true≢false}
 use mathlib.Core.List.{List, [], _∷_, _++_, map, flatMap, append-nil, append-assoc, map-append, List·Memᴰ}
 use mathlib.Core.List.{List·Memᴰ·head, List·Memᴰ·tail, List·Memᴰ·cases-cons, List·Memᴰ·not-nil}
 use mathlib.Core.List.{List·Memᴰ·append-cases, List·Memᴰ·eq-of-singleton, Memᴰ·cast, Permᴰ·symm}
-use mathlib.Core.Option.{Option, none, some}
+use mathlib.Core.Option.{Option, none, some, Option·none-ne-some}
 use Prim.Native.Nat.{ℕ, zero, suc, _+_, _<_, _≤_}
 use native.Mathlib.Omega.{arith}
 use lib.ListN.{length, length-map, length-append}
@@ -15,7 +15,7 @@ use Rattle.lists.specs.Members.{Distinct}
 use Rattle.lists.proofs.Bools.{which, not-true, same-refl, same-true, beq-refl, beq-true, or-true, or-left, or-right}
 use Rattle.lists.proofs.Bools.{and-true, and-is}
 use Rattle.lists.proofs.Keeps.{keep-in}
-use Rattle.lists.proofs.Perms.{perm-in, perm-of-distinct, distinct-append, distinct-front, distinct-apart}
+use Rattle.lists.proofs.Perms.{perm-in, perm-distinct, map-last, perm-of-distinct, distinct-front, distinct-apart}
 use Rattle.nesting.specs.Contents.{isIt, Line, line, listed, fresh, others, each, lines}
 use Rattle.nesting.specs.Claims.{Part, partOf, unchecked}
 
@@ -44,17 +44,12 @@ in-keys (l ∷ ls) b x h = elim (or-true (Bool·beq (l .piece) b && same (l .num
 -- one more line, of what was not listed
 keys-more : (ls : List Line) (d : ℕ) (b : Bool) (x : ℕ) → listed ls b x ≡ false → Distinct (keys ls)
     → Distinct (keys (ls ++ line d b x ∷ []))
-keys-more ls d b x off dis =
-    subst Distinct (sym (map-append partOf ls (line d b x ∷ [])))
-    (distinct-append (keys ls) ((b, x) ∷ []) dis (λ m. List·Memᴰ·not-nil m, tt)
-    (λ z m k. true≢false (sym (key-in ls b x (Memᴰ·cast (sym (List·Memᴰ·eq-of-singleton k)) m)) ∙ off)))
+keys-more ls d b x off dis = perm-distinct (map-last partOf ls (line d b x))
+    (λ m. true≢false (sym (key-in ls b x m) ∙ off), dis)
 
 pub each-none : (f : ℕ → List Line → Option (List Line)) (ws : List ℕ) → each f ws none ≡ none
 each-none f [] = refl
 each-none f (w ∷ ws) = refl
-
-none-some : {A : Type 0} {a : A} → none ≡ some a → ⊥
-none-some e = let z : _≡_ {A = ℕ} 0 1 = cc in omega arith
 
 module _ (beneath : Bool → ℕ → List ℕ) where
   -- what is listed for y under x, and the list by its rule
@@ -85,7 +80,7 @@ module _ (beneath : Bool → ℕ → List ℕ) where
             → ((mid after : List Line) → each (down k b x d) ws (some mid) ≡ some after
             → More mid (flatMap (ruled k b x d) ws) after)
             → More ls (ruled k b x d w ++ flatMap (ruled k b x d) ws) after
-        go none q e rest = absurd (none-some (sym (each-none (down k b x d) ws) ∙ e))
+        go none q e rest = absurd (Option·none-ne-some _ (sym (each-none (down k b x d) ws) ∙ e))
         go (some mid) q e rest =
             let p = ih (not b) w (some x) (suc d) ls mid q in
             let r = rest mid after e in (
@@ -96,7 +91,7 @@ module _ (beneath : Bool → ℕ → List ℕ) where
 
   pub lines-rule : (k : ℕ) → LinesRule k
   unfolding lines
-  lines-rule zero b x led d ls after e = absurd (none-some e)
+  lines-rule zero b x led d ls after e = absurd (Option·none-ne-some _ e)
   lines-rule (suc k) b x led d ls after e =
       go (listed ls b x) refl e (listing k (lines-rule k) b x d (others led (beneath b x)))
     where
@@ -105,7 +100,7 @@ module _ (beneath : Bool → ℕ → List ℕ) where
           → ((mid after : List Line) → each (down k b x d) (others led (beneath b x)) (some mid) ≡ some after
           → More mid (flatMap (ruled k b x d) (others led (beneath b x))) after)
           → More ls (line d b x ∷ flatMap (ruled k b x d) (others led (beneath b x))) after
-      go true q e rest = absurd (none-some (sym (each-none (down k b x d) (others led (beneath b x))) ∙ e))
+      go true q e rest = absurd (Option·none-ne-some _ (sym (each-none (down k b x d) (others led (beneath b x))) ∙ e))
       go false q e rest = let r = rest (ls ++ line d b x ∷ []) after e in (
         r .0 ∙ append-assoc ls (line d b x ∷ []) (flatMap (ruled k b x d) (others led (beneath b x))),
         λ h. r .1 (keys-more ls d b x q h),
