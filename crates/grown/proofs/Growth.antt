@@ -1,32 +1,38 @@
 -- A ticket that nothing turns down leaves a good map good, for all fourteen kinds; the empty map is good. Assumes
 -- nothing.
 use mathlib.Core.Path.{_≡_, refl}
+use mathlib.Core.Bool.{true}
 use mathlib.Core.List.{List·Memᴰ·not-nil, List·Memᴰ·eq-of-singleton}
 use native.Mathlib.Omega.{arith}
+use Prim.Native.Nat.{ℕ}
 use lib.IntN.{natAbs}
-use Rattle.curves.specs.Curves.{point, curveOf}
+use Rattle.plane.specs.declared.Point.{Point}
+use Rattle.curves.specs.Curves.{Curve, point, curveOf}
 use Rattle.planar_maps.proofs.Moves.{planar-empty}
+use Rattle.map.specs.declared.Variant.{Variant}
 use Rattle.map.specs.declared.Variant.the-variants.{New, Mod}
-use Rattle.map.specs.Rows.{Map, Sizes, emptyMap}
+use Rattle.map.specs.Rows.{Map, Sizes, emptyMap, hasEdge}
 use Rattle.map.specs.Darts.{leaves, next, bears}
 use Rattle.map.specs.Tickets.{Ticket, AddIsoNode, MoveIsoNode, RemoveIsoNode, AddIsoEdge, RemoveIsoEdge, ChangeEdgeGeom}
 use Rattle.map.specs.Tickets.{NewEdgesSplit, ModEdgeSplit, NewEdgeHeal, ModEdgeHeal, AddEdgeNewFaces, AddEdgeModFace}
 use Rattle.map.specs.Tickets.{RemEdgeNewFace, RemEdgeModFace}
+use Rattle.map.specs.Edits.{split, heal, addEdge, removeEdge}
 use Rattle.map.specs.Reasons.{firstReason, reasons}
 use Rattle.map.specs.Ticket.{carried}
 use Rattle.map.proofs.Opened.{opened}
-use Rattle.map_laws.proofs.Reasons.{add-node, move-node, remove-node, add-lone, remove-lone, change, split-new}
-use Rattle.map_laws.proofs.Reasons.{split-mod, heal-new, heal-mod, add-new, add-mod, remove-new, remove-mod}
+use Rattle.map_laws.proofs.Reasons.{Split, Heal, AddEdge, add-node, move-node, remove-node, add-lone, remove-lone}
+use Rattle.map_laws.proofs.Reasons.{change, split-new, split-mod, heal-new, heal-mod, add-new, add-mod, remove-new}
+use Rattle.map_laws.proofs.Reasons.{remove-mod}
 use Rattle.grown.specs.Good.{Good, Numbered, Woven, Surveyed, InPlane}
 use Rattle.grown.proofs.Numbers.Carried.{ranked-kept, numbered-kept}
 use Rattle.grown.proofs.Curves.Kinds.{surveyed-1, surveyed-2, surveyed-3, surveyed-4, surveyed-5, surveyed-6}
-use Rattle.grown.proofs.Curves.Kinds.{surveyed-7, surveyed-8, surveyed-add, surveyed-remove}
-use Rattle.grown.proofs.Curves.Heal.{surveyed-9, surveyed-10}
+use Rattle.grown.proofs.Curves.Kinds.{surveyed-split, surveyed-add, surveyed-remove}
+use Rattle.grown.proofs.Curves.Heal.{surveyed-heal}
 use Rattle.grown.proofs.Law.Lawful.{Lawful, good-lawful}
 use Rattle.grown.proofs.Law.Carried.{carried-obeys}
 use Rattle.grown.proofs.Plane.Change.{planar-1, planar-2, planar-3, planar-6}
-use Rattle.grown.proofs.Plane.Split.{planar-7, planar-8}
-use Rattle.grown.proofs.Plane.Heal.{planar-9, planar-10}
+use Rattle.grown.proofs.Plane.Split.{planar-split}
+use Rattle.grown.proofs.Plane.Heal.{planar-heal}
 use Rattle.grown.proofs.Plane.Reached.{plane-reached, reached-borne}
 use Rattle.grown.proofs.Plane.Join.{planar-4}
 use Rattle.grown.proofs.Plane.Add.{planar-added}
@@ -44,6 +50,18 @@ module _ (s : Sizes) (m : Map) (g : Good m) where
 
   abbrev o : InPlane m
   o = g .woven .planar
+
+  split-kept : (how : Variant) (e : ℕ) (p : Point) → Split how s m e p → PlaneAndCurves (split how e p m)
+  split-kept how e p k = record { planar = planar-split m L s e p how k o; surveyed = surveyed-split m g how s e p k }
+
+  heal-kept : (how : Variant) (e f : ℕ) → Heal m e f → PlaneAndCurves (heal how e f m)
+  heal-kept how e f k = record { planar = planar-heal m L e f k how o; surveyed = surveyed-heal m g e f k how }
+
+  add-kept : (how : Variant) (u v : ℕ) (c : Curve) → AddEdge how s m u v c → PlaneAndCurves (addEdge how u v c m)
+  add-kept how u v c k = record { planar = planar-added how s m u v c g k; surveyed = surveyed-add m g how s u v c k }
+
+  remove-kept : (how : Variant) (e : ℕ) → hasEdge m e ≡ true → PlaneAndCurves (removeEdge how e m)
+  remove-kept how e k = record { planar = planar-removed how e m g k; surveyed = surveyed-remove m g how e }
 
   kept : (t : Ticket) → firstReason (reasons s m t) ≡ 0 → PlaneAndCurves (carried m t .0)
   unfolding carried
@@ -69,42 +87,14 @@ module _ (s : Sizes) (m : Map) (g : Good m) where
   kept (ChangeEdgeGeom e c) h =
       let k = change s m e c h in
       record { planar = planar-6 m (natAbs e) (curveOf c) o; surveyed = surveyed-6 m g (natAbs e) (curveOf c) k }
-  kept (NewEdgesSplit e x y) h =
-      let k = split-new s m e x y h in
-      record {
-        planar = planar-7 m L s (natAbs e) (point x y) k o;
-        surveyed = surveyed-7 m g New s (natAbs e) (point x y) k;
-      }
-  kept (ModEdgeSplit e x y) h =
-      let k = split-mod s m e x y h in
-      record {
-        planar = planar-8 m L s (natAbs e) (point x y) k o;
-        surveyed = surveyed-8 m g Mod s (natAbs e) (point x y) k;
-      }
-  kept (NewEdgeHeal e f) h =
-      let k = heal-new s m e f h .0 in
-      record { planar = planar-9 m L (natAbs e) (natAbs f) k o; surveyed = surveyed-9 m g (natAbs e) (natAbs f) k }
-  kept (ModEdgeHeal e f) h =
-      let k = heal-mod s m e f h in
-      record { planar = planar-10 m L (natAbs e) (natAbs f) k o; surveyed = surveyed-10 m g (natAbs e) (natAbs f) k }
-  kept (AddEdgeNewFaces u v c) h =
-      let k = add-new s m u v c h in
-      record {
-        planar = planar-added New s m (natAbs u) (natAbs v) (curveOf c) g k;
-        surveyed = surveyed-add m g New s (natAbs u) (natAbs v) (curveOf c) k;
-      }
-  kept (AddEdgeModFace u v c) h =
-      let k = add-mod s m u v c h in
-      record {
-        planar = planar-added Mod s m (natAbs u) (natAbs v) (curveOf c) g k;
-        surveyed = surveyed-add m g Mod s (natAbs u) (natAbs v) (curveOf c) k;
-      }
-  kept (RemEdgeNewFace e) h =
-      let k = remove-new s m e h .has in
-      record { planar = planar-removed New (natAbs e) m g k; surveyed = surveyed-remove m g New (natAbs e) }
-  kept (RemEdgeModFace e) h =
-      let k = remove-mod s m e h in
-      record { planar = planar-removed Mod (natAbs e) m g k; surveyed = surveyed-remove m g Mod (natAbs e) }
+  kept (NewEdgesSplit e x y) h = split-kept New (natAbs e) (point x y) (split-new s m e x y h)
+  kept (ModEdgeSplit e x y) h = split-kept Mod (natAbs e) (point x y) (split-mod s m e x y h)
+  kept (NewEdgeHeal e f) h = heal-kept New (natAbs e) (natAbs f) (heal-new s m e f h .0)
+  kept (ModEdgeHeal e f) h = heal-kept Mod (natAbs e) (natAbs f) (heal-mod s m e f h)
+  kept (AddEdgeNewFaces u v c) h = add-kept New (natAbs u) (natAbs v) (curveOf c) (add-new s m u v c h)
+  kept (AddEdgeModFace u v c) h = add-kept Mod (natAbs u) (natAbs v) (curveOf c) (add-mod s m u v c h)
+  kept (RemEdgeNewFace e) h = remove-kept New (natAbs e) (remove-new s m e h .has)
+  kept (RemEdgeModFace e) h = remove-kept Mod (natAbs e) (remove-mod s m e h)
 
   -- the map after it is good
   pub good-kept : (t : Ticket) → firstReason (reasons s m t) ≡ 0 → Good (carried m t .0)

@@ -172,30 +172,20 @@ module _ (m : Map) (G : Good m) where
           (subst (Drawable c) (without-lines e (m .edges))
           (sent-drawable c (edge m e .start) (edge m e .end) (withoutEdge e (m .edges)) (h .sent) (h .clear)))
 
-  pub surveyed-7 : (how : Variant) (s : Sizes) (e : ℕ) (p : Point) → Split how s m e p → Surveyed (split New e p m)
-  surveyed-7 how s e p h = by (split-new-becomes e p m)
-      (subst (λ (k : ℕ). Survey (without lineNumber k (lines m)
+  pub surveyed-split : (how : Variant) (s : Sizes) (e : ℕ) (p : Point) → Split how s m e p → Surveyed (split how e p m)
+  surveyed-split New s e p h =
+      let l = lineOf (edge m e) in
+      let n = m .next .nodes in
+      by (split-new-becomes e p m) (subst (λ (k : ℕ). Survey (without lineNumber k (lines m)
       ++ (firstHalf l n (m .next .edges) p ∷ secondHalf l n (m .next .edges + 1) p ∷ []))
       (places m ++ (record { number = n; at = p } ∷ []))) (numbered e (h .has))
       (survey-split-new (lines m) (places m) l n (m .next .edges) (m .next .edges + 1) p (survey m G) (lines-once m G)
       (row-in e (h .has)) (h .on) (h .in-range) (place-fresh m G) (free-point p (h .free))))
-    where
-      l : Line
-      l = lineOf (edge m e)
-
-      n : ℕ
-      n = m .next .nodes
-
-  pub surveyed-8 : (how : Variant) (s : Sizes) (e : ℕ) (p : Point) → Split how s m e p → Surveyed (split Mod e p m)
-  surveyed-8 how s e p h = by (split-mod-becomes e p m)
-      (subst (λ (k : ℕ). Survey (map (replaced k (firstHalf l n e p)) (lines m)
+  surveyed-split Mod s e p h =
+      let l = lineOf (edge m e) in
+      let n = m .next .nodes in
+      by (split-mod-becomes e p m) (subst (λ (k : ℕ). Survey (map (replaced k (firstHalf l n e p)) (lines m)
       ++ (secondHalf l n (m .next .edges) p ∷ [])) (places m ++ (record { number = n; at = p } ∷ [])))
       (numbered e (h .has))
       (survey-split-mod (lines m) (places m) l n e (m .next .edges) p (survey m G) (lines-once m G) (row-in e (h .has))
       (h .on) (h .in-range) (place-fresh m G) (free-point p (h .free))))
-    where
-      l : Line
-      l = lineOf (edge m e)
-
-      n : ℕ
-      n = m .next .nodes

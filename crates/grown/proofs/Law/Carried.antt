@@ -12,8 +12,8 @@ use Rattle.map.specs.Ticket.{carried}
 use Rattle.map_laws.proofs.Reasons as facts
 use Rattle.grown.proofs.Law.Lawful.{Obeys, Lawful}
 use Rattle.grown.proofs.Law.Change.{add-node-obeys, move-node-obeys, remove-node-obeys, change-obeys}
-use Rattle.grown.proofs.Law.Split.{split-obeys, mod-split-obeys}
-use Rattle.grown.proofs.Law.Heal.{heal-obeys, mod-heal-obeys}
+use Rattle.grown.proofs.Law.Split.{split-obeys}
+use Rattle.grown.proofs.Law.Heal.{heal-obeys}
 use Rattle.grown.proofs.Law.Add.{add-lone-obeys, add-edge-obeys}
 use Rattle.grown.proofs.Law.Remove.{remove-lone-obeys, remove-edge-obeys}
 
@@ -29,11 +29,11 @@ module _ (s : Sizes) (m : Map) (L : Lawful m) where
   carried-obeys (RemoveIsoEdge e) h = remove-lone-obeys m L (natAbs e) (facts.remove-lone s m e h .has)
   carried-obeys (ChangeEdgeGeom e c) h = change-obeys m (natAbs e) (curveOf c) (facts.change s m e c h .order) (L .law)
   carried-obeys (NewEdgesSplit e x y) h = let k = facts.split-new s m e x y h in
-      split-obeys m (natAbs e) (point x y) L (k .has) (k .free) (k .on)
+      split-obeys m (natAbs e) (point x y) L (k .has) (k .free) (k .on) New
   carried-obeys (ModEdgeSplit e x y) h = let k = facts.split-mod s m e x y h in
-      mod-split-obeys m (natAbs e) (point x y) L (k .has) (k .free) (k .on)
-  carried-obeys (NewEdgeHeal e f) h = heal-obeys m L (natAbs e) (natAbs f) (facts.heal-new s m e f h .0)
-  carried-obeys (ModEdgeHeal e f) h = mod-heal-obeys m L (natAbs e) (natAbs f) (facts.heal-mod s m e f h)
+      split-obeys m (natAbs e) (point x y) L (k .has) (k .free) (k .on) Mod
+  carried-obeys (NewEdgeHeal e f) h = heal-obeys m L (natAbs e) (natAbs f) (facts.heal-new s m e f h .0) New
+  carried-obeys (ModEdgeHeal e f) h = heal-obeys m L (natAbs e) (natAbs f) (facts.heal-mod s m e f h) Mod
   carried-obeys (AddEdgeNewFaces u v c) h =
       add-edge-obeys m L s (natAbs u) (natAbs v) (curveOf c) New (facts.add-new s m u v c h)
   carried-obeys (AddEdgeModFace u v c) h =

@@ -17,6 +17,7 @@ use Rattle.curves.specs.Edits.{joined}
 use Rattle.planar_maps.specs.Map.{Arc, Dart, fwd, rev}
 use Rattle.planar_maps.specs.Pieces.{nums}
 use Rattle.planar_maps.proofs.Hooks.{fwd≢bwd}
+use Rattle.map.specs.declared.Variant.{Variant}
 use Rattle.map.specs.declared.Variant.the-variants.{New, Mod}
 use Rattle.map.specs.Rows.{Edge, Map, edge, hasEdge, setEdges, atEdge, withoutEdge}
 use Rattle.map.specs.Darts.{leaves, next, course}
@@ -204,10 +205,6 @@ module _ (m : Map) (L : Lawful m) (e f : ℕ) (q : Heal m e f) where
         | inr r ↦ fwd≢bwd (p ∙ ap rev r)
       ]
 
-  -- kind 9
-  pub heal-obeys : Obeys (heal New e f m)
-  heal-obeys = whole-obeys m L e f n c d seam (heal New e f m) (m .next .edges) rest new-healed
-
-  -- kind 10
-  pub mod-heal-obeys : Obeys (heal Mod e f m)
-  mod-heal-obeys = whole-obeys m L e f n c d seam (heal Mod e f m) e rest kept-healed
+  pub heal-obeys : (how : Variant) → Obeys (heal how e f m)
+  heal-obeys New = whole-obeys m L e f n c d seam (heal New e f m) (m .next .edges) rest new-healed
+  heal-obeys Mod = whole-obeys m L e f n c d seam (heal Mod e f m) e rest kept-healed

@@ -25,6 +25,7 @@ use Rattle.curves.specs.Tests.{onCurve}
 use Rattle.curves.specs.Edits.{back}
 use Rattle.geometry.proofs.Meeting.{samePoint-refl}
 use Rattle.rotation.proofs.Order.{sameWay-refl}
+use Rattle.map.specs.declared.Variant.{Variant}
 use Rattle.map.specs.declared.Variant.the-variants.{New, Mod}
 use Rattle.map.specs.Rows.{Edge, Map, node, edge, hasEdge, atEdge, withoutEdge}
 use Rattle.map.specs.Darts.{arcs, directed, leaves, next, bears, way}
@@ -319,10 +320,7 @@ module _ (m : Map) (e : ℕ) (p : Point) (L : Lawful m) (has : hasEdge m e ≡ t
     new-b = λ k. omega (arith, other k .0);
   }
 
-  -- kind 7
-  pub split-obeys : Obeys (split New e p m)
-  split-obeys = halves-obey m (split New e p m) e (m .next .nodes) (m .next .edges) (m .next .edges + 1) p L new-halves
-
-  -- kind 8
-  pub mod-split-obeys : Obeys (split Mod e p m)
-  mod-split-obeys = halves-obey m (split Mod e p m) e (m .next .nodes) e (m .next .edges) p L kept-halves
+  pub split-obeys : (how : Variant) → Obeys (split how e p m)
+  split-obeys New = halves-obey m (split New e p m) e (m .next .nodes) (m .next .edges) (m .next .edges + 1) p L
+      new-halves
+  split-obeys Mod = halves-obey m (split Mod e p m) e (m .next .nodes) e (m .next .edges) p L kept-halves

@@ -1,21 +1,24 @@
 -- A carried-out ticket keeps numbers, faces and marks, and leaves rows that fit. Assumes nothing.
 use mathlib.Core.Path.{_≡_}
+use mathlib.Core.Bool.{true, cond}
 use Prim.Native.Nat.{ℕ}
 use native.Mathlib.Omega.{arith}
 use lib.IntN.{natAbs}
 use lib.ListN.{length-map}
 use Rattle.lists.specs.Tests.{bit}
-use Rattle.curves.specs.Curves.{point, curveOf}
+use Rattle.plane.specs.declared.Point.{Point}
+use Rattle.curves.specs.Curves.{Curve, point, curveOf}
+use Rattle.map.specs.declared.Variant.{Variant}
 use Rattle.map.specs.declared.Variant.the-variants.{New, Mod}
-use Rattle.map.specs.Rows.{Map, Sizes}
+use Rattle.map.specs.Rows.{Map, Sizes, hasEdge}
 use Rattle.map.specs.Tickets.{Ticket, AddIsoNode, MoveIsoNode, RemoveIsoNode, AddIsoEdge, RemoveIsoEdge, ChangeEdgeGeom}
 use Rattle.map.specs.Tickets.{NewEdgesSplit, ModEdgeSplit, NewEdgeHeal, ModEdgeHeal, AddEdgeNewFaces, AddEdgeModFace}
 use Rattle.map.specs.Tickets.{RemEdgeNewFace, RemEdgeModFace}
-use Rattle.map.specs.Edits.{makesFace}
+use Rattle.map.specs.Edits.{isMod, split, heal, addEdge, makesFace, removeEdge}
 use Rattle.map.specs.Reasons.{firstReason, reasons}
 use Rattle.map.specs.Ticket.{carried}
-use Rattle.map_laws.proofs.Reasons.{Room, Supply, add-node, move-node, add-lone, remove-lone, split-new, split-mod}
-use Rattle.map_laws.proofs.Reasons.{heal-new, heal-mod, add-new, add-mod, remove-new, remove-mod}
+use Rattle.map_laws.proofs.Reasons.{Room, Supply, Split, Heal, AddEdge, add-node, move-node, add-lone, remove-lone}
+use Rattle.map_laws.proofs.Reasons.{split-new, split-mod, heal-new, heal-mod, add-new, add-mod, remove-new, remove-mod}
 use Rattle.map_laws.proofs.Readings.{outlineOf}
 use Rattle.grown.specs.Good.{Good, Numbered, Woven, Fits}
 use Rattle.grown.proofs.Numbers.Ranked.{RankedMap, NextLimited, numbered-ranked, ranked-numbered}
@@ -71,6 +74,24 @@ pub ranks : (m : Map) → Good m → RankedMap m
 ranks m g = numbered-ranked m (g .woven .planar .edges-once) (g .numbered)
 
 module _ (s : Sizes) (m : Map) (g : Good m) where
+  split-kept : (how : Variant) (e : ℕ) (p : Point) → Split how s m e p → NumbersKept s m (split how e p m)
+  split-kept how e p k = keeps (split-ranked how e p m (k .has) (ranks m g)) (split-taken how e p m (k .has))
+      (k .supply) (λ f. k .room)
+
+  heal-kept : (how : Variant) (e f : ℕ) → Heal m e f → Supply m 0 (cond (isMod how) 0 1) 0
+      → NumbersKept s m (heal how e f m)
+  heal-kept how e f k p = keeps (heal-ranked how e f m (k .has) (k .has-other) (k .differ) (k .joint) (ranks m g))
+      (heal-taken how e f m (k .has) (k .differ)) p (λ r. no-more r)
+
+  add-kept : (how : Variant) (u v : ℕ) (c : Curve) → AddEdge how s m u v c → NumbersKept s m (addEdge how u v c m)
+  add-kept how u v c k = keeps (add-edge-ranked how u v c m (k .has-start) (ranks m g))
+      (add-edge-taken how u v c m (k .has-start) (ranks m g)) (k .supply) (λ p. k .room)
+
+  remove-kept : (how : Variant) (e : ℕ) → hasEdge m e ≡ true → Supply m 0 0 (bit (makesFace how e m))
+      → NumbersKept s m (removeEdge how e m)
+  remove-kept how e k p = keeps (remove-edge-ranked how e m k (ranks m g))
+      (remove-edge-taken how e m k (ranks m g)) p (λ r. no-more r)
+
   kept : (t : Ticket) → firstReason (reasons s m t) ≡ 0 → NumbersKept s m (carried m t .0)
   unfolding carried
   kept (AddIsoNode f x y) h =
@@ -95,40 +116,15 @@ module _ (s : Sizes) (m : Map) (g : Good m) where
   kept (ChangeEdgeGeom e c) h =
       keeps (change-ranked m (natAbs e) (curveOf c) (ranks m g))
       (change-taken (natAbs e) (curveOf c) m) (enough (g .numbered)) (λ p. (no-more p))
-  kept (NewEdgesSplit e x y) h =
-      let k = split-new s m e x y h in
-      keeps (split-ranked New (natAbs e) (point x y) m (k .has) (ranks m g))
-      (split-taken New (natAbs e) (point x y) m (k .has)) (k .supply) (λ p. (k .room))
-  kept (ModEdgeSplit e x y) h =
-      let k = split-mod s m e x y h in
-      keeps (split-ranked Mod (natAbs e) (point x y) m (k .has) (ranks m g))
-      (split-taken Mod (natAbs e) (point x y) m (k .has)) (k .supply) (λ p. (k .room))
-  kept (NewEdgeHeal e f) h =
-      let k = heal-new s m e f h in
-      keeps (heal-ranked New (natAbs e) (natAbs f) m (k .0 .has) (k .0 .has-other) (k .0 .differ)
-      (k .0 .joint) (ranks m g))
-      (heal-taken New (natAbs e) (natAbs f) m (k .0 .has) (k .0 .differ)) (k .1) (λ p. (no-more p))
-  kept (ModEdgeHeal e f) h =
-      let k = heal-mod s m e f h in
-      keeps (heal-ranked Mod (natAbs e) (natAbs f) m (k .has) (k .has-other) (k .differ) (k .joint) (ranks m g))
-      (heal-taken Mod (natAbs e) (natAbs f) m (k .has) (k .differ)) (enough (g .numbered)) (λ p. (no-more p))
-  kept (AddEdgeNewFaces u v c) h =
-      let k = add-new s m u v c h in
-      keeps (add-edge-ranked New (natAbs u) (natAbs v) (curveOf c) m (k .has-start) (ranks m g))
-      (add-edge-taken New (natAbs u) (natAbs v) (curveOf c) m (k .has-start) (ranks m g)) (k .supply) (λ p. (k .room))
-  kept (AddEdgeModFace u v c) h =
-      let k = add-mod s m u v c h in
-      keeps (add-edge-ranked Mod (natAbs u) (natAbs v) (curveOf c) m (k .has-start) (ranks m g))
-      (add-edge-taken Mod (natAbs u) (natAbs v) (curveOf c) m (k .has-start) (ranks m g)) (k .supply) (λ p. (k .room))
-  kept (RemEdgeNewFace e) h =
-      let k = remove-new s m e h in
-      keeps (remove-edge-ranked New (natAbs e) m (k .has) (ranks m g))
-      (remove-edge-taken New (natAbs e) m (k .has) (ranks m g)) (k .supply) (λ p. (no-more p))
+  kept (NewEdgesSplit e x y) h = split-kept New (natAbs e) (point x y) (split-new s m e x y h)
+  kept (ModEdgeSplit e x y) h = split-kept Mod (natAbs e) (point x y) (split-mod s m e x y h)
+  kept (NewEdgeHeal e f) h = let k = heal-new s m e f h in heal-kept New (natAbs e) (natAbs f) (k .0) (k .1)
+  kept (ModEdgeHeal e f) h = heal-kept Mod (natAbs e) (natAbs f) (heal-mod s m e f h) (enough (g .numbered))
+  kept (AddEdgeNewFaces u v c) h = add-kept New (natAbs u) (natAbs v) (curveOf c) (add-new s m u v c h)
+  kept (AddEdgeModFace u v c) h = add-kept Mod (natAbs u) (natAbs v) (curveOf c) (add-mod s m u v c h)
+  kept (RemEdgeNewFace e) h = let k = remove-new s m e h in remove-kept New (natAbs e) (k .has) (k .supply)
   kept (RemEdgeModFace e) h =
-      let k = remove-mod s m e h in
-      keeps (remove-edge-ranked Mod (natAbs e) m k (ranks m g))
-      (remove-edge-taken Mod (natAbs e) m k (ranks m g))
-      (no-face (natAbs e) (enough (g .numbered))) (λ p. (no-more p))
+      remove-kept Mod (natAbs e) (remove-mod s m e h) (no-face (natAbs e) (enough (g .numbered)))
 
   -- numbers rise and are below the next, nodes and sides of edges are in faces that exist
   pub ranked-kept : (t : Ticket) → firstReason (reasons s m t) ≡ 0 → RankedMap (carried m t .0)

@@ -13,6 +13,7 @@ use Rattle.planar_maps.specs.Planar.{Planar}
 use Rattle.planar_maps.proofs.Cycles.{fwd-in, bwd-in}
 use Rattle.planar_maps.proofs.Moves.{planar-perm}
 use Rattle.planar_maps.proofs.Splitting.{tail-in}
+use Rattle.map.specs.declared.Variant.{Variant}
 use Rattle.map.specs.declared.Variant.the-variants.{New, Mod}
 use Rattle.map.specs.Rows.{Edge, Map, edge, atEdge, withoutNode, withoutEdge}
 use Rattle.map.specs.Darts.{arcs, leaves, next, bears}
@@ -86,12 +87,9 @@ module _ (m : Map) (L : Lawful m) (e f : ℕ) (q : Heal m e f) where
   f-below = let x = edge-there m f (q .has-other) in
       subst (λ (i : ℕ). i < m .next .edges) (x .1) (L .edges-below (edge m f .number) (Memᴰ·map numberOf (x .0)))
 
-  pub planar-9 : InPlane m → InPlane (heal New e f m)
-  unfolding heal redirect
-  planar-9 o = planar-whole m L e f n₀ c₀ d₀ (seam m L e f q) (heal New e f m) (m .next .edges) others
-      (new-healed m L e f q) refl (nodes o) (λ p. omega (arith, f-below, p)) (new-f m L e f q) o
-
-  pub planar-10 : InPlane m → InPlane (heal Mod e f m)
+  pub planar-heal : (how : Variant) → InPlane m → InPlane (heal how e f m)
   unfolding heal redirect atEdge
-  planar-10 o = planar-whole m L e f n₀ c₀ d₀ (seam m L e f q) (heal Mod e f m) e others (kept-healed m L e f q) refl
-      (nodes o) (λ p. q .differ (sym p)) (new-f m L e f q) o
+  planar-heal New o = planar-whole m L e f n₀ c₀ d₀ (seam m L e f q) (heal New e f m) (m .next .edges) others
+      (new-healed m L e f q) refl (nodes o) (λ p. omega (arith, f-below, p)) (new-f m L e f q) o
+  planar-heal Mod o = planar-whole m L e f n₀ c₀ d₀ (seam m L e f q) (heal Mod e f m) e others
+      (kept-healed m L e f q) refl (nodes o) (λ p. q .differ (sym p)) (new-f m L e f q) o

@@ -8,6 +8,7 @@ use Rattle.plane.specs.declared.Point.{Point}
 use Rattle.planar_maps.specs.Map.{Arc}
 use Rattle.planar_maps.specs.Planar.{Planar}
 use Rattle.planar_maps.proofs.Moves.{planar-perm}
+use Rattle.map.specs.declared.Variant.{Variant}
 use Rattle.map.specs.declared.Variant.the-variants.{New, Mod}
 use Rattle.map.specs.Rows.{Map, Sizes, edge, atEdge, withoutEdge}
 use Rattle.map.specs.Links.{redirect}
@@ -38,12 +39,9 @@ module _ (m m′ : Map) (e n a b : ℕ) (p : Point) (L : Lawful m) (h : InHalves
 -- ---- the kinds
 
 module _ (m : Map) (L : Lawful m) (s : Sizes) (e : ℕ) (p : Point) where
-  pub planar-7 : Split New s m e p → InPlane m → InPlane (split New e p m)
-  unfolding split redirect
-  planar-7 h = planar-halves m (split New e p m) e (m .next .nodes) (m .next .edges) (m .next .edges + 1) p L
-      (new-halves m e p L (h .has) (h .free) (h .on)) refl (map-last nodeNumber (m .nodes) _)
-
-  pub planar-8 : Split Mod s m e p → InPlane m → InPlane (split Mod e p m)
+  pub planar-split : (how : Variant) → Split how s m e p → InPlane m → InPlane (split how e p m)
   unfolding split redirect atEdge
-  planar-8 h = planar-halves m (split Mod e p m) e (m .next .nodes) e (m .next .edges) p L
+  planar-split New h = planar-halves m (split New e p m) e (m .next .nodes) (m .next .edges) (m .next .edges + 1) p L
+      (new-halves m e p L (h .has) (h .free) (h .on)) refl (map-last nodeNumber (m .nodes) _)
+  planar-split Mod h = planar-halves m (split Mod e p m) e (m .next .nodes) e (m .next .edges) p L
       (kept-halves m e p L (h .has) (h .free) (h .on)) refl (map-last nodeNumber (m .nodes) _)
