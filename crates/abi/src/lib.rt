@@ -5,7 +5,7 @@ ghost use mathlib.Core.Path.{_≡_};
 ghost use lib.IntN.{pos};
 ghost use Rattle.map.specs.Ticket.{ticket, emptied, edgesOfFace};
 ghost use Rattle.form_ranges.specs.Ranges.{lent};
-ghost use Rattle.engine.specs.Runs.{Runs};
+ghost use Rattle.ticket_lists.specs.Runs.{Runs};
 ghost use Rattle.abi.specs.Heads.{headIn};
 
 // The numbers of the head, and their places.
@@ -141,7 +141,7 @@ pub extern "C" fn solgwid_run(
           answer = record { refusal = r; value = pos 0 };
         }) ⌝ }
 {
-    let done = engine::run(
+    let done = ticket_lists::run(
         nodes,
         edges,
         faces,

@@ -5,7 +5,7 @@ use lib.IntN.{pos}
 use Rattle.map.specs.declared.Head.{Head}
 use Rattle.map.specs.Rows.{Lent}
 use Rattle.form_ranges.specs.Ranges.{lent}
-use Rattle.engine.specs.Runs.{Runs}
+use Rattle.ticket_lists.specs.Runs.{Runs}
 use Rattle.abi.specs.Heads.{headIn}
 use Rattle.abi.proofs.Values.{runs-told}
 use Rattle.abi.proofs.solgwid_run.Statement.{statement}

@@ -1,5 +1,5 @@
 -- `records::run` meets its contract: a walk of its MIR, by hand. The head's borrow is opened and the head copied out;
--- the other loans go on to `engine::run` for good, and the head goes by value. The head that comes back is written
+-- the other loans go on to `ticket_lists::run` for good, and the head goes by value. The head that comes back is written
 -- whole, and the borrow is closed at it. All that the proof knows of the callee is that it meets its contract. Assumes
 -- nothing.
 use mathlib.Core.Path.{_≡_, refl, ap}
@@ -52,13 +52,13 @@ use Rattle.form_ranges.specs.Ranges.{lent}
 use Rattle.outcomes.specs.declared.Done.{Done}
 use Rattle.outcomes.proofs.Done as D
 use Rattle.outcomes.proofs.Done.Laws as D′
-use Rattle.engine.specs.Runs.{Runs}
+use Rattle.ticket_lists.specs.Runs.{Runs}
 use Rattle.records.proofs.Heads.{vals, is-head, is-answer, opens-head, closes-head, said-last, frees-local}
 use Rattle.records.proofs.Heads.{relends}
-use Rattle.engine.proofs.run as g
-use Rattle.engine.proofs.run.Symbol as g-def
-use Rattle.engine.proofs.run.Symbol.{name as #g}
-use Rattle.engine.proofs.run.Met as g-thm
+use Rattle.ticket_lists.proofs.run as g
+use Rattle.ticket_lists.proofs.run.Symbol as g-def
+use Rattle.ticket_lists.proofs.run.Symbol.{name as #g}
+use Rattle.ticket_lists.proofs.run.Met as g-thm
 use Rattle.records.proofs.run.Key.{name as #f}
 use Rattle.records.proofs.run as f
 use Rattle.records.proofs.run.Statement as stated
