@@ -111,11 +111,16 @@ fn write_rows(tag: u8, table: &[i64], width: usize, count: i64)
     }
 }
 
+// Writes the numbers of the head.
+fn write_head(numbers: &[i64; head::WIDTH]) {
+    write_tagged(b'H', numbers);
+}
+
 // Writes the head and the rows in use.
 fn write_sheet(nodes: &[i64], edges: &[i64], faces: &[i64], h: Head) {
     let mut numbers = [0i64; head::WIDTH];
     head::put_numbers(&mut numbers, h);
-    write_tagged(b'H', &numbers);
+    write_head(&numbers);
     write_rows(b'N', nodes, map::NODE_WIDTH, h.nodes);
     write_rows(b'E', edges, map::EDGE_WIDTH, h.edges);
     write_rows(b'F', faces, map::FACE_WIDTH, h.faces);
