@@ -12,7 +12,7 @@ use Rattle.map.specs.Rows.{Lent, Map, emptyMap, whole, sizesOf}
 use Rattle.map.specs.Reasons.{firstReason}
 use Rattle.map.specs.Ticket.{Outcome, unless, emptied}
 use Rattle.map.specs.Grow.{Grown, grow}
-use Rattle.engine.specs.Runs.{Ran, Runs, ran, ranUnless, ticketsOf}
+use Rattle.ticket_lists.specs.Runs.{Ran, Runs, ran, ranUnless, ticketsOf}
 
 -- an answer of value 0
 abbrev told : Answer → Answer

@@ -1,55 +1,11 @@
 // The engine for programs in C and Rust: include/solgwid.h. A slice goes as a pointer and a length, the head as six
 // numbers; each function answers the refusal.
-use map::Head;
 ghost use mathlib.Core.Path.{_≡_};
 ghost use lib.IntN.{pos};
 ghost use Rattle.map.specs.Ticket.{ticket, emptied, edgesOfFace};
 ghost use Rattle.form_ranges.specs.Ranges.{lent};
-ghost use Rattle.engine.specs.Runs.{Runs};
-ghost use Rattle.abi.specs.Heads.{headIn};
-
-// The numbers of the head, and their places.
-const HEAD: usize = 6;
-
-const NODES: usize = 0;
-
-const EDGES: usize = 1;
-
-const FACES: usize = 2;
-
-const NEXT_NODE: usize = 3;
-
-const NEXT_EDGE: usize = 4;
-
-const NEXT_FACE: usize = 5;
-
-// The head in its numbers.
-fn head_in(l: &[i64; HEAD]) -> Head
-    ensures { λ r. ⌜ r ≡ headIn (now (l .entry)) ⌝ }
-{
-    Head {
-        nodes: l[NODES],
-        edges: l[EDGES],
-        faces: l[FACES],
-        next_node: l[NEXT_NODE],
-        next_edge: l[NEXT_EDGE],
-        next_face: l[NEXT_FACE],
-    }
-}
-
-// Writes the head's numbers.
-fn put_head(l: &mut [i64; HEAD], h: Head)
-    ensures { λ r. ⌜ headIn (now (l .exit)) ≡ h ⌝ }
-{
-    *l = [
-        h.nodes,
-        h.edges,
-        h.faces,
-        h.next_node,
-        h.next_edge,
-        h.next_face,
-    ];
-}
+ghost use Rattle.ticket_lists.specs.Runs.{Runs};
+ghost use Rattle.head.specs.Heads.{headIn};
 
 // Makes the empty map, whatever the tables and the head held.
 #[no_mangle]
@@ -57,7 +13,7 @@ pub extern "C" fn solgwid_empty_map(
     nodes: &mut [i64],
     edges: &mut [i64],
     faces: &mut [i64],
-    head: &mut [i64; HEAD],
+    head: &mut [i64; head::WIDTH],
 ) -> u64
     ensures { λ r. ⌜
         record {
@@ -66,8 +22,8 @@ pub extern "C" fn solgwid_empty_map(
         }
         ≡ emptied (lent (now (nodes .entry)) (now (edges .entry)) (now (faces .entry)) (headIn (now (head .entry)))) ⌝ }
 {
-    let done = engine::empty_map(nodes, edges, faces, head_in(head));
-    put_head(head, done.head);
+    let done = engine::empty_map(nodes, edges, faces, head::from_numbers(head));
+    head::put_numbers(head, done.head);
     done.answer.refusal
 }
 
@@ -77,7 +33,7 @@ pub extern "C" fn solgwid_ticket(
     nodes: &mut [i64],
     edges: &mut [i64],
     faces: &mut [i64],
-    head: &mut [i64; HEAD],
+    head: &mut [i64; head::WIDTH],
     numbers: &[i64],
     value: &mut i64,
 ) -> u64
@@ -89,8 +45,8 @@ pub extern "C" fn solgwid_ticket(
         ≡ ticket (lent (now (nodes .entry)) (now (edges .entry)) (now (faces .entry)) (headIn (now (head .entry))))
         (now (numbers .entry)) ⌝ }
 {
-    let done = engine::ticket(nodes, edges, faces, head_in(head), numbers);
-    put_head(head, done.head);
+    let done = engine::ticket(nodes, edges, faces, head::from_numbers(head), numbers);
+    head::put_numbers(head, done.head);
     let v = done.answer.value;
     *value = v;
     done.answer.refusal
@@ -102,7 +58,7 @@ pub extern "C" fn solgwid_edges_of_face(
     nodes: &[i64],
     edges: &[i64],
     faces: &[i64],
-    head: &[i64; HEAD],
+    head: &[i64; head::WIDTH],
     face: i64,
     list: &mut [i64],
     value: &mut i64,
@@ -113,7 +69,7 @@ pub extern "C" fn solgwid_edges_of_face(
         (lent (now (nodes .entry)) (now (edges .entry)) (now (faces .entry)) (headIn (now (head .entry))))
         face (now (list .entry)) ⌝ }
 {
-    let answer = engine::edges_of_face(nodes, edges, faces, head_in(head), face, list);
+    let answer = engine::edges_of_face(nodes, edges, faces, head::from_numbers(head), face, list);
     let v = answer.value;
     *value = v;
     answer.refusal
@@ -125,7 +81,7 @@ pub extern "C" fn solgwid_run(
     nodes: &mut [i64],
     edges: &mut [i64],
     faces: &mut [i64],
-    head: &mut [i64; HEAD],
+    head: &mut [i64; head::WIDTH],
     numbers: &[i64],
     lengths: &[usize],
     refusals: &mut [u64],
@@ -141,16 +97,16 @@ pub extern "C" fn solgwid_run(
           answer = record { refusal = r; value = pos 0 };
         }) ⌝ }
 {
-    let done = engine::run(
+    let done = ticket_lists::run(
         nodes,
         edges,
         faces,
-        head_in(head),
+        head::from_numbers(head),
         numbers,
         lengths,
         refusals,
         values,
     );
-    put_head(head, done.head);
+    head::put_numbers(head, done.head);
     done.answer.refusal
 }

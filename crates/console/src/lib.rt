@@ -111,19 +111,16 @@ fn write_rows(tag: u8, table: &[i64], width: usize, count: i64)
     }
 }
 
+// Writes the numbers of the head.
+fn write_head(numbers: &[i64; head::WIDTH]) {
+    write_tagged(b'H', numbers);
+}
+
 // Writes the head and the rows in use.
 fn write_sheet(nodes: &[i64], edges: &[i64], faces: &[i64], h: Head) {
-    write_tagged(
-        b'H',
-        &[
-            h.nodes,
-            h.edges,
-            h.faces,
-            h.next_node,
-            h.next_edge,
-            h.next_face,
-        ],
-    );
+    let mut numbers = [0i64; head::WIDTH];
+    head::put_numbers(&mut numbers, h);
+    write_head(&numbers);
     write_rows(b'N', nodes, map::NODE_WIDTH, h.nodes);
     write_rows(b'E', edges, map::EDGE_WIDTH, h.edges);
     write_rows(b'F', faces, map::FACE_WIDTH, h.faces);
@@ -256,18 +253,6 @@ fn serve_input(
     state
 }
 
-// A head of zeros: what stands beside tables before they have a map.
-fn no_map() -> Head {
-    Head {
-        nodes: 0,
-        edges: 0,
-        faces: 0,
-        next_node: 0,
-        next_edge: 0,
-        next_face: 0,
-    }
-}
-
 // Answers standard input to its end, a ticket a line, in tables of `ROWS` rows; each line is answered on standard
 // output as it comes, with `rows` the head and the rows in use after it.
 pub fn serve(rows: bool) {
@@ -275,7 +260,7 @@ pub fn serve(rows: bool) {
     let mut edges = [0i64; EDGE_CELLS];
     let mut faces = [0i64; FACE_CELLS];
     let mut line = [0u8; KEPT];
-    let empty = engine::empty_map(&mut nodes, &mut edges, &mut faces, no_map());
+    let empty = engine::empty_map(&mut nodes, &mut edges, &mut faces, head::empty());
     let start = empty.head;
     let state = serve_input(&mut nodes, &mut edges, &mut faces, start, &mut line, rows);
     let head = state.head;

@@ -1,24 +1,14 @@
--- What one ticket and a list of tickets answer, reason by reason. Assumes nothing.
-use mathlib.Core.Path.{_≡_, sym, ap, _∙_, subst}
-use mathlib.Core.Bool.{Bool, true, false, _||_}
-use mathlib.Core.List.{List, map}
+-- What one ticket answers by the lending program's reasons: 1 and 2 whatever the numbers read as. Assumes nothing.
+use mathlib.Core.Path.{_≡_}
+use mathlib.Core.Bool.{true, false}
+use mathlib.Core.List.{List}
 use mathlib.Core.Option.{Option, none, some}
-use Prim.Native.Nat.{ℕ}
-use native.Mathlib.Omega.{arith}
-use lib.Dec.{ltb}
-use lib.IntN.{ℤ, pos}
-use lib.ListN.{length}
-use Rattle.map.specs.Rows.{Lent, mapOf, sizesOf, whole}
+use lib.IntN.{ℤ}
+use Rattle.map.specs.Rows.{Lent, mapOf, whole}
 use Rattle.map.specs.Form.{inForm}
 use Rattle.map.specs.Tickets.{Ticket, read}
 use Rattle.map.specs.Reasons.{firstReason}
-use Rattle.map.specs.Ticket.{refused, judged, ticket, emptied}
-use Rattle.map.specs.Grow.{Grown, after, grow}
-use Rattle.grown.specs.Claims.{GrownMap}
-use Rattle.grown.proofs.Grows.{grows, whole-limited}
-use Rattle.engine.specs.Runs.{ticketsOf, Ran, front, ranUnless, ran, Runs}
-
--- ---- one ticket: 1 and 2 answer whatever the numbers read as
+use Rattle.map.specs.Ticket.{refused, judged, ticket}
 
 module _ (l : Lent) where
   judged-1 : whole l ≡ false → (o : Option Ticket) → judged l (mapOf l) o ≡ refused l 1
@@ -38,57 +28,3 @@ module _ (l : Lent) where
   pub ticket-2 : (t : List ℤ) → whole l ≡ true → inForm l ≡ false → ticket l t ≡ refused l 2
   unfolding ticket
   ticket-2 t w e = judged-2 w e (read t)
-
--- ---- a list of tickets
-
--- from the empty map on
-grow-is : (l : Lent) (ts : List (List ℤ)) → whole l ≡ true → grow (sizesOf l) ts ≡ after (emptied l .lent) ts
-unfolding grow emptied firstReason
-grow-is l ts w = rw w
-
-module _ (l : Lent) (numbers : List ℤ) (lengths refusals : List ℕ) (values : List ℤ) where
-  abbrev short : Bool
-  short = ltb (length refusals) (length lengths) || ltb (length values) (length lengths)
-
-  abbrev turned : ℕ → Ran
-  turned r = record { lent = l; refusals = refusals; values = values; answer = record { refusal = r; value = pos 0 } }
-
-  ran-1 : whole l ≡ false → ran l numbers lengths refusals values ≡ turned 1
-  unfolding ran firstReason
-  ran-1 e = rw e
-
-  pub runs-1 : whole l ≡ false → Runs l numbers lengths refusals values (turned 1)
-  runs-1 e = record { gives = sym (ran-1 e); grown = λ z. absurd (omega arith) }
-
-  module _ (w : whole l ≡ true) where
-    ran-20 : short ≡ true → ran l numbers lengths refusals values ≡ turned 20
-    unfolding ran firstReason
-    ran-20 e = rw (w, e)
-
-    pub runs-20 : short ≡ true → Runs l numbers lengths refusals values (turned 20)
-    runs-20 e = record { gives = sym (ran-20 e); grown = λ z. absurd (omega arith) }
-
-    ran-0 : short ≡ false → ran l numbers lengths refusals values
-        ≡ ranUnless l refusals values (grow (sizesOf l) (ticketsOf numbers lengths)) 0
-    unfolding ran firstReason
-    ran-0 e = rw (w, e)
-
-    -- carried out: g is what the tickets give from the empty map on
-    pub runs-0 : short ≡ false → (g : Grown) → g ≡ after (emptied l .lent) (ticketsOf numbers lengths)
-        → {l′ : Lent} {refusals′ : List ℕ} {values′ : List ℤ}
-        → (l′ ≡ g .lent) × (refusals′ ≡ front (map (λ a. a .refusal) (g .answers)) refusals)
-        × (values′ ≡ front (map (λ a. a .value) (g .answers)) values)
-        → Runs l numbers lengths refusals values
-        (record { lent = l′; refusals = refusals′; values = values′; answer = record { refusal = 0; value = pos 0 } })
-    runs-0 e g d k =
-        let is : g ≡ grow (sizesOf l) (ticketsOf numbers lengths) = d ∙ sym (grow-is l (ticketsOf numbers lengths) w) in
-        record {
-          gives = (λ i. record {
-            lent = k .0 i;
-            refusals = k .1 i;
-            values = k .2 i;
-            answer = record { refusal = 0; value = pos 0 };
-          }) ∙ ap (λ (x : Grown). ranUnless l refusals values x 0) is ∙ sym (ran-0 e);
-          grown = λ z. subst GrownMap (sym (k .0 ∙ ap (λ (x : Grown). x .lent) is))
-              (grows (sizesOf l) (whole-limited l w .some-face) (ticketsOf numbers lengths));
-        }

@@ -1,8 +1,3 @@
--- `Empty`: tables of zeros hold the empty map. `Answers`: reason by reason, what one ticket and a list of tickets
--- answer. `Turns`: a list of tickets, ticket by ticket. `Written`: every list of tickets can be written in two slices.
--- `SplitHeal`: lists that end with a split and its heal.
+-- `Empty`: tables of zeros hold the empty map. `Answers`: what one ticket answers by 1 and 2.
 pub mod Empty
 pub mod Answers
-pub mod Turns
-pub mod Written
-pub mod SplitHeal

@@ -1,17 +1,13 @@
-// The engine: the empty map, one ticket, the edges of a face, a list of tickets.
+// The engine: the empty map, one ticket, the edges of a face.
 use map::Answer;
 use map::Head;
 use outcomes::Done;
 ghost use mathlib.Core.Path.{_≡_};
-ghost use mathlib.Core.List.{map};
-ghost use Prim.Native.Nat.{min, _≤_};
 ghost use lib.IntN.{pos};
 ghost use lib.ListN.{length, replicate};
 ghost use Rattle.map.specs.Ticket.{ticket, emptied, edgesOfFace};
-ghost use Rattle.map.specs.Grow.{Grown, after};
 ghost use Rattle.form_ranges.specs.Ranges.{lent};
 ghost use Rattle.outcomes.specs.Outcomes.{outcome};
-ghost use Rattle.engine.specs.Runs.{ticketsOf, front, Runs};
 
 // Every number of the table is 0.
 fn wipe(t: &mut [i64])
@@ -63,84 +59,4 @@ pub fn edges_of_face(
         (now (list .entry)) ⌝ }
 {
     face_edges::edges_of_face(nodes, edges, faces, h, face, list)
-}
-
-fn least(a: usize, b: usize) -> usize
-    ensures { λ r. ⌜ r ≡ min a b ⌝ }
-{
-    if a < b { a } else { b }
-}
-
-// The tickets one after the other.
-fn run_tickets(
-    nodes: &mut [i64],
-    edges: &mut [i64],
-    faces: &mut [i64],
-    h: Head,
-    numbers: &[i64],
-    lengths: &[usize],
-    refusals: &mut [u64],
-    values: &mut [i64],
-) -> Head
-    requires { ⌜ (length (now lengths) ≤ length (now refusals)) × (length (now lengths) ≤ length (now values)) ⌝ }
-    ensures { λ r. ⌜ ((g : Grown) → g ≡ after (lent (now (nodes .entry)) (now (edges .entry)) (now (faces .entry)) h)
-        (ticketsOf (now (numbers .entry)) (now (lengths .entry)))
-        → (lent (now (nodes .exit)) (now (edges .exit)) (now (faces .exit)) r ≡ g .lent)
-        × (now (refusals .exit) ≡ front (map (λ a. a .refusal) (g .answers)) (now (refusals .entry)))
-        × (now (values .exit) ≡ front (map (λ a. a .value) (g .answers)) (now (values .entry)))) ⌝ }
-{
-    let mut head = h;
-    let mut at = 0;
-    for i in 0..lengths.len() {
-        let end = at + least(lengths[i], numbers.len() - at);
-        let next = ticket(nodes, edges, faces, head, &numbers[at..end]);
-        refusals[i] = next.answer.refusal;
-        let value = next.answer.value;
-        values[i] = value;
-        head = next.head;
-        at = end;
-    }
-    head
-}
-
-// A list of tickets from the empty map on. `numbers` has the tickets one after the other, and `lengths` how many
-// numbers each has.
-pub fn run(
-    nodes: &mut [i64],
-    edges: &mut [i64],
-    faces: &mut [i64],
-    h: Head,
-    numbers: &[i64],
-    lengths: &[usize],
-    refusals: &mut [u64],
-    values: &mut [i64],
-) -> Done
-    ensures { λ r. ⌜ Runs (lent (now (nodes .entry)) (now (edges .entry)) (now (faces .entry)) h)
-        (now (numbers .entry)) (now (lengths .entry)) (now (refusals .entry)) (now (values .entry))
-        (record {
-          lent = lent (now (nodes .exit)) (now (edges .exit)) (now (faces .exit)) (r .head);
-          refusals = now (refusals .exit);
-          values = now (values .exit);
-          answer = r .answer;
-        }) ⌝ }
-{
-    if !form_ranges::is_whole(nodes, edges, faces) {
-        return outcomes::refused(h, 1);
-    }
-    let n = lengths.len();
-    if (refusals.len() < n) | (values.len() < n) {
-        return outcomes::refused(h, 20);
-    }
-    let empty = empty_map(nodes, edges, faces, h);
-    let after = run_tickets(
-        nodes,
-        edges,
-        faces,
-        empty.head,
-        numbers,
-        lengths,
-        refusals,
-        values,
-    );
-    outcomes::carried(after, 0)
 }

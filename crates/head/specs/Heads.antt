@@ -5,7 +5,7 @@ use mathlib.Core.List.{List, [], _∷_}
 use Prim.Native.Nat.{ℕ, suc, _+_, _-_, _/_, _≤_}
 use lib.Dec.{ltb}
 use lib.IntN.{ℤ, pos, natAbs}
-use lib.ListN.{length}
+use lib.ListN.{length, getD}
 use Rattle.map.specs.declared.Counts.{Counts}
 use Rattle.map.specs.declared.Head.{Head}
 use Rattle.map.specs.Limits.{maxNodes, maxEdges, maxFaces, lastNumber, nodeWidth, edgeWidth, faceWidth}
@@ -86,3 +86,16 @@ pub record Left (s : Counts) (h : Head) (rows numbers : Counts) : Type 0 where
   pub next-node : natAbs (h .«next_node») + numbers .nodes ≤ suc lastNumber
   pub next-edge : natAbs (h .«next_edge») + numbers .edges ≤ suc lastNumber
   pub next-face : natAbs (h .«next_face») + numbers .faces ≤ suc lastNumber
+
+-- ---- the head as a list of numbers, in document 01's order
+
+abbrev pub headIn : List ℤ → Head
+headIn l =
+    record {
+      nodes = getD l 0 (pos 0);
+      edges = getD l 1 (pos 0);
+      faces = getD l 2 (pos 0);
+      «next_node» = getD l 3 (pos 0);
+      «next_edge» = getD l 4 (pos 0);
+      «next_face» = getD l 5 (pos 0);
+    }

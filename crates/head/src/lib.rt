@@ -10,7 +10,7 @@ ghost use lib.Signed.{nonNeg};
 ghost use Rattle.map.specs.Rows.{emptyMap, headOf};
 ghost use Rattle.map.specs.Reasons.{firstReason};
 ghost use Rattle.head.specs.Heads.{UpTo, Counted, Few, Changes, countsOf, sizesIn, changedHead};
-ghost use Rattle.head.specs.Heads.{fullAt, spentAt, roomAt};
+ghost use Rattle.head.specs.Heads.{fullAt, spentAt, roomAt, headIn};
 
 // No row or number; a node's; an edge's; a face's; a node's and an edge's.
 pub const NONE: Counts = Counts {
@@ -42,6 +42,21 @@ pub const NODE_AND_EDGE: Counts = Counts {
     edges: 1,
     faces: 0,
 };
+
+// The numbers of the head where it is lent as a list, and their places.
+pub const WIDTH: usize = 6;
+
+const NODES_AT: usize = 0;
+
+const EDGES_AT: usize = 1;
+
+const FACES_AT: usize = 2;
+
+const NEXT_NODE_AT: usize = 3;
+
+const NEXT_EDGE_AT: usize = 4;
+
+const NEXT_FACE_AT: usize = 5;
 
 // ---- counts
 
@@ -154,4 +169,34 @@ pub fn changed(h: Head, more: Counts, less: Counts, given: Counts) -> Head
         next_edge: shifted(h.next_edge, given.edges, 0),
         next_face: shifted(h.next_face, given.faces, 0),
     }
+}
+
+// ---- the head as a list of numbers
+
+// Reads the head from its numbers.
+pub fn from_numbers(l: &[i64; WIDTH]) -> Head
+    ensures { λ r. ⌜ r ≡ headIn (now (l .entry)) ⌝ }
+{
+    Head {
+        nodes: l[NODES_AT],
+        edges: l[EDGES_AT],
+        faces: l[FACES_AT],
+        next_node: l[NEXT_NODE_AT],
+        next_edge: l[NEXT_EDGE_AT],
+        next_face: l[NEXT_FACE_AT],
+    }
+}
+
+// Writes the numbers of the head.
+pub fn put_numbers(l: &mut [i64; WIDTH], h: Head)
+    ensures { λ r. ⌜ headIn (now (l .exit)) ≡ h ⌝ }
+{
+    *l = [
+        h.nodes,
+        h.edges,
+        h.faces,
+        h.next_node,
+        h.next_edge,
+        h.next_face,
+    ];
 }

@@ -13,7 +13,7 @@ ghost use Rattle.lists.specs.Tables.{table};
 ghost use Rattle.map.specs.Ticket.{ticket, emptied, edgesOfFace};
 ghost use Rattle.form_ranges.specs.Ranges.{lent};
 ghost use Rattle.outcomes.specs.Outcomes.{outcome, leaving};
-ghost use Rattle.engine.specs.Runs.{Runs};
+ghost use Rattle.ticket_lists.specs.Runs.{Runs};
 ghost use Rattle.records.specs.Records.{nodeCells, nodeTable, rowNode, nodeRow, changedAt};
 
 pub struct Node {
@@ -174,7 +174,7 @@ pub fn run(
         }) ⌝ }
 {
     let h = *head;
-    let done = engine::run(nodes, edges, faces, h, numbers, lengths, refusals, values);
+    let done = ticket_lists::run(nodes, edges, faces, h, numbers, lengths, refusals, values);
     *head = done.head;
     done.answer
 }

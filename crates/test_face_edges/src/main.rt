@@ -153,14 +153,16 @@ fn length_at(record: &[u8; RECORD], j: usize, most: usize) -> usize
 
 // The head of a call.
 fn head_of(record: &[u8; RECORD]) -> Head {
-    Head {
-        nodes: number_at(record, NODE_COUNT),
-        edges: number_at(record, EDGE_COUNT),
-        faces: number_at(record, FACE_COUNT),
-        next_node: number_at(record, NEXT_NODE),
-        next_edge: number_at(record, NEXT_EDGE),
-        next_face: number_at(record, NEXT_FACE),
-    }
+    head::from_numbers(
+        &[
+            number_at(record, NODE_COUNT),
+            number_at(record, EDGE_COUNT),
+            number_at(record, FACE_COUNT),
+            number_at(record, NEXT_NODE),
+            number_at(record, NEXT_EDGE),
+            number_at(record, NEXT_FACE),
+        ],
+    )
 }
 
 // Writes the numbers of a list.

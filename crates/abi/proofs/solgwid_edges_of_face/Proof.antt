@@ -9,7 +9,7 @@ use Rattle.map.specs.declared.Head.{Head}
 use Rattle.map.specs.Rows.{Lent}
 use Rattle.form_ranges.specs.Ranges.{lent}
 use Rattle.map.specs.Ticket.{edgesOfFace}
-use Rattle.abi.specs.Heads.{headIn}
+use Rattle.head.specs.Heads.{headIn}
 use Rattle.abi.proofs.solgwid_edges_of_face.Statement.{statement}
 use Rattle.abi.proofs.solgwid_edges_of_face.Tie as tie
 
@@ -24,7 +24,7 @@ returns c =
     }) (toZ-ofZ {w = w64} (sfits-of (c .struct-told .given .1 .0 .1)))
     ∙ k .edges-of-face .ensures
     ∙ ap (λ (h : Head). edgesOfFace (l h) (toZ w64 (ofZ w64 (a .face))) (a .list .now))
-    (k .before .before .head-in .ensures)
+    (k .before .before .from-numbers .ensures)
     ∙ ap (λ (z : ℤ). edgesOfFace (l (headIn (a .head .now))) z (a .list .now))
     (toZ-ofZ {w = w64} (k .before .before .before .fits .face))
 

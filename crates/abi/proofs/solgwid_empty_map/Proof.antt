@@ -19,10 +19,10 @@ returns c =
     ap (λ (h : Head). record {
       lent = after h;
       answer = record { refusal = k .empty-map .result .answer .refusal; value = pos 0 };
-    }) (c .put-head .ensures)
-    ∙ emptied-told (l (k .before .head-in .result)) (after (k .empty-map .result .head)) (k .empty-map .result .answer)
+    }) (c .put-numbers .ensures)
+    ∙ emptied-told (l (k .before .from-numbers .result)) (after (k .empty-map .result .head)) (k .empty-map .result .answer)
     (k .empty-map .ensures)
-    ∙ ap (λ (h : Head). emptied (l h)) (k .before .head-in .ensures)
+    ∙ ap (λ (h : Head). emptied (l h)) (k .before .from-numbers .ensures)
 
 pub solgwid-empty-map-spec : {M : Type 1} → statement M
 solgwid-empty-map-spec =

@@ -5,8 +5,8 @@ use lib.IntN.{pos}
 use Rattle.map.specs.declared.Head.{Head}
 use Rattle.map.specs.Rows.{Lent}
 use Rattle.form_ranges.specs.Ranges.{lent}
-use Rattle.engine.specs.Runs.{Runs}
-use Rattle.abi.specs.Heads.{headIn}
+use Rattle.ticket_lists.specs.Runs.{Runs}
+use Rattle.head.specs.Heads.{headIn}
 use Rattle.abi.proofs.Values.{runs-told}
 use Rattle.abi.proofs.solgwid_run.Statement.{statement}
 use Rattle.abi.proofs.solgwid_run.Tie as tie
@@ -19,24 +19,24 @@ returns c =
     let after : Head → Lent = lent (k .run .last .0) (k .run .last .1 .0) (k .run .last .1 .1 .0) in
     let rs = k .run .last .1 .1 .1 .1 .1 .1 .0 in
     let vs = k .run .last .1 .1 .1 .1 .1 .1 .1 .0 in
-    let given = runs-told (l (k .before .before .before .head-in .result)) (a .numbers .now) (a .lengths .now)
+    let given = runs-told (l (k .before .before .before .from-numbers .result)) (a .numbers .now) (a .lengths .now)
     (a .refusals .now) (a .values .now) (after (k .run .result .head)) rs vs (k .run .result .answer)
     (k .run .ensures) in
-    let put = subst (λ (h : Head). Runs (l (k .before .before .before .head-in .result)) (a .numbers .now)
+    let put = subst (λ (h : Head). Runs (l (k .before .before .before .from-numbers .result)) (a .numbers .now)
     (a .lengths .now) (a .refusals .now) (a .values .now)
     (record {
       lent = after h;
       refusals = rs;
       values = vs;
       answer = record { refusal = k .run .result .answer .refusal; value = pos 0 };
-    })) (sym (c .put-head .ensures)) given in
+    })) (sym (c .put-numbers .ensures)) given in
     subst (λ (h : Head). Runs (l h) (a .numbers .now) (a .lengths .now) (a .refusals .now) (a .values .now)
     (record {
-      lent = after (headIn (c .put-head .last .0));
+      lent = after (headIn (c .put-numbers .last .0));
       refusals = rs;
       values = vs;
       answer = record { refusal = k .run .result .answer .refusal; value = pos 0 };
-    })) (k .before .before .before .head-in .ensures) put
+    })) (k .before .before .before .from-numbers .ensures) put
 
 pub solgwid-run-spec : {M : Type 1} → statement M
 solgwid-run-spec =

@@ -25,13 +25,13 @@ returns c =
             refusal = k .ticket .result .answer .refusal;
             value = toZ w64 (ofZ w64 (k .ticket .result .answer .value));
           };
-    }) (c .before .put-head .ensures)
+    }) (c .before .put-numbers .ensures)
     ∙ ap (λ (z : ℤ). record {
       lent = after (k .ticket .result .head);
       answer = record { refusal = k .ticket .result .answer .refusal; value = z };
     }) (toZ-ofZ {w = w64} (sfits-of (c .struct-told .given .1 .0 .1 .1 .1 .0 .1)))
     ∙ k .ticket .ensures
-    ∙ ap (λ (h : Head). ticket (l h) (a .numbers .now)) (k .before .head-in .ensures)
+    ∙ ap (λ (h : Head). ticket (l h) (a .numbers .now)) (k .before .from-numbers .ensures)
 
 pub solgwid-ticket-spec : {M : Type 1} → statement M
 solgwid-ticket-spec =

@@ -16,18 +16,9 @@ use Rattle.darts.specs.Positions.{dartAt}
 use Rattle.darts.proofs.Positions.{next-there, next-place}
 use Rattle.darts.proofs.next_position.Statement.{statement}
 use Rattle.darts.proofs.next_position.Tie as tie
-use Rattle.darts.proofs.next_position.Reads as reads
-use Rattle.darts.proofs.next_position.Lts as lts
-use Rattle.darts.proofs.dart_cell.Reads as dart-cell-reads
-use Rattle.darts.proofs.position_of.Reads as position-of-reads
 
 -- what the search answers
-answer : (c : lts.After-position-of (
-  dart-cell-reads.Asked,
-  dart-cell-reads.Learnt,
-  position-of-reads.Asked,
-  position-of-reads.Learnt,
-) reads.Pre reads.Post) → c .position-of .result
+answer : (c : tie.After-position-of) → c .position-of .result
     ≡ At (next-there (c .before .before .pre .0) (c .before .before .args .p) (c .before .before .pre .1) .0)
 answer c =
     let s = c .before .before in

@@ -21,9 +21,6 @@ use Rattle.darts.proofs.Positions.{far, far-none, negative-found, negat
 use Rattle.darts.proofs.Positions.{positive-missing, near-fits}
 use Rattle.darts.proofs.position_of.Statement.{statement}
 use Rattle.darts.proofs.position_of.Tie as tie
-use Rattle.darts.proofs.position_of.Reads as reads
-use Rattle.darts.proofs.position_of.Lts as lts
-use Rattle.tables.proofs.find_row.Reads as find-row-reads
 
 -- d is found in row i, at position p
 abbrev Sought : List ℤ → ℕ → ℤ → ℕ → ℕ → Type 0
@@ -50,7 +47,7 @@ returns-2 c =
     (sym (b .find-row .ensures) ∙ c .enum-told .given .1))
 
 -- the row of an edge whose reverse is looked for
-back : (c : lts.After-known-told (find-row-reads.Asked, find-row-reads.Learnt) reads.Pre reads.Post)
+back : (c : tie.After-known-told)
     → Sought (c .before .before .before .before .before .before .args .edges .now)
     (c .before .before .before .before .before .before .args .count)
     (c .before .before .before .before .before .before .args .d) (c .before .found .given .0 .0)
@@ -82,7 +79,7 @@ returns-4 c =
     (sym (b .find-row2 .ensures) ∙ c .enum-told2 .given .1))
 
 -- the row of an edge that is looked for
-forward : (c : lts.After-known-told2 (find-row-reads.Asked, find-row-reads.Learnt) reads.Pre reads.Post)
+forward : (c : tie.After-known-told2)
     → Sought (c .before .before .before .before .before .before .args .edges .now)
     (c .before .before .before .before .before .before .args .count)
     (c .before .before .before .before .before .before .args .d) (c .before .found2 .given .0 .0)

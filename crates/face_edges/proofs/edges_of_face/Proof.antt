@@ -36,95 +36,26 @@ use Rattle.face_edges.proofs.Asked.{not-whole, not-formed, face-missed,
 use Rattle.face_edges.proofs.Asked.{face-there, face-none}
 use Rattle.face_edges.proofs.edges_of_face.Statement.{statement}
 use Rattle.face_edges.proofs.edges_of_face.Tie as tie
-use Rattle.face_edges.proofs.edges_of_face.Reads as reads
-use Rattle.face_edges.proofs.edges_of_face.Lts as lts
-use Rattle.form.proofs.in_form.Reads as in-form-reads
-use Rattle.face_edges.proofs.answered.Reads as answered-reads
-use Rattle.face_edges.proofs.rings_size.Reads as rings-size-reads
-use Rattle.face_edges.proofs.write_rings.Reads as write-rings-reads
-use Rattle.head.proofs.counts_of.Reads as counts-of-reads
-use Rattle.form_ranges.proofs.is_whole.Reads as is-whole-reads
-use Rattle.tables.proofs.find_row.Reads as find-row-reads
 
 -- ---- what is known after each test
 
-whole-in : (c : lts.Else1 (
-  is-whole-reads.Asked,
-  is-whole-reads.Learnt,
-  answered-reads.Asked,
-  answered-reads.Learnt,
-  in-form-reads.Asked,
-  in-form-reads.Learnt,
-  counts-of-reads.Asked,
-  counts-of-reads.Learnt,
-  find-row-reads.Asked,
-  find-row-reads.Learnt,
-  rings-size-reads.Asked,
-  rings-size-reads.Learnt,
-  write-rings-reads.Asked,
-  write-rings-reads.Learnt,
-) reads.Pre reads.Post) → whole (lent (c .before .before .args .nodes .now) (c .before .before .args .edges .now)
+whole-in : (c : tie.Else1) → whole (lent (c .before .before .args .nodes .now) (c .before .before .args .edges .now)
     (c .before .before .args .faces .now) (c .before .before .args .h)) ≡ true
 whole-in c = let f = c .before .is-whole in sym (f .ensures (c .before .before .args .h))
     ∙ flipped (f .result) false (c .if1 .left)
 
-form-in : (c : lts.Else2 (
-  is-whole-reads.Asked,
-  is-whole-reads.Learnt,
-  answered-reads.Asked,
-  answered-reads.Learnt,
-  in-form-reads.Asked,
-  in-form-reads.Learnt,
-  counts-of-reads.Asked,
-  counts-of-reads.Learnt,
-  find-row-reads.Asked,
-  find-row-reads.Learnt,
-  rings-size-reads.Asked,
-  rings-size-reads.Learnt,
-  write-rings-reads.Asked,
-  write-rings-reads.Learnt,
-) reads.Pre reads.Post) → inForm (lent (c .before .before .before .before .args .nodes .now)
+form-in : (c : tie.Else2) → inForm (lent (c .before .before .before .before .args .nodes .now)
     (c .before .before .before .before .args .edges .now) (c .before .before .before .before .args .faces .now)
     (c .before .before .before .before .args .h)) ≡ true
 form-in c = let f = c .before .in-form in sym (f .ensures) ∙ flipped (f .result) false (c .if2 .left)
 
-known : (c : lts.Else2 (
-  is-whole-reads.Asked,
-  is-whole-reads.Learnt,
-  answered-reads.Asked,
-  answered-reads.Learnt,
-  in-form-reads.Asked,
-  in-form-reads.Learnt,
-  counts-of-reads.Asked,
-  counts-of-reads.Learnt,
-  find-row-reads.Asked,
-  find-row-reads.Learnt,
-  rings-size-reads.Asked,
-  rings-size-reads.Learnt,
-  write-rings-reads.Asked,
-  write-rings-reads.Learnt,
-) reads.Pre reads.Post) → InForm (c .before .before .before .before .args .nodes .now)
+known : (c : tie.Else2) → InForm (c .before .before .before .before .args .nodes .now)
     (c .before .before .before .before .args .edges .now) (c .before .before .before .before .args .faces .now)
     (countsOf (c .before .before .before .before .args .h)) (c .before .before .before .before .args .h)
 known c = let a = c .before .before .before .before .args in
     in-form-known (a .nodes .now) (a .edges .now) (a .faces .now) (a .h) (form-in c)
 
-sought : (c : lts.After-find-row (
-  is-whole-reads.Asked,
-  is-whole-reads.Learnt,
-  answered-reads.Asked,
-  answered-reads.Learnt,
-  in-form-reads.Asked,
-  in-form-reads.Learnt,
-  counts-of-reads.Asked,
-  counts-of-reads.Learnt,
-  find-row-reads.Asked,
-  find-row-reads.Learnt,
-  rings-size-reads.Asked,
-  rings-size-reads.Learnt,
-  write-rings-reads.Asked,
-  write-rings-reads.Learnt,
-) reads.Pre reads.Post) → c .find-row .result
+sought : (c : tie.After-find-row) → c .find-row .result
     ≡ place (sameZ (c .before .before .before .before .before .before .args .face)) 0
     (column faceWidth (c .before .before .before .before .before .before .args .faces .now)
     (natAbs (c .before .before .before .before .before .before .args .h .faces)))
@@ -140,22 +71,7 @@ record There (nodes edges faces : List ℤ) (h : Head) (z : ℤ) : Type 0 where
   most : natAbs z ≤ 999999
   named : noFace (mapOf (lent nodes edges faces h)) z ≡ false
 
-there : (c : lts.After-known-told (
-  is-whole-reads.Asked,
-  is-whole-reads.Learnt,
-  answered-reads.Asked,
-  answered-reads.Learnt,
-  in-form-reads.Asked,
-  in-form-reads.Learnt,
-  counts-of-reads.Asked,
-  counts-of-reads.Learnt,
-  find-row-reads.Asked,
-  find-row-reads.Learnt,
-  rings-size-reads.Asked,
-  rings-size-reads.Learnt,
-  write-rings-reads.Asked,
-  write-rings-reads.Learnt,
-) reads.Pre reads.Post)
+there : (c : tie.After-known-told)
     → There (c .before .before .before .before .before .before .before .before .before .args .nodes .now)
     (c .before .before .before .before .before .before .before .before .before .args .edges .now)
     (c .before .before .before .before .before .before .before .before .before .args .faces .now)
@@ -175,22 +91,7 @@ there c =
     }
 
 -- what is written, as the walks have it
-written : (c : lts.After-known-told (
-  is-whole-reads.Asked,
-  is-whole-reads.Learnt,
-  answered-reads.Asked,
-  answered-reads.Learnt,
-  in-form-reads.Asked,
-  in-form-reads.Learnt,
-  counts-of-reads.Asked,
-  counts-of-reads.Learnt,
-  find-row-reads.Asked,
-  find-row-reads.Learnt,
-  rings-size-reads.Asked,
-  rings-size-reads.Learnt,
-  write-rings-reads.Asked,
-  write-rings-reads.Learnt,
-) reads.Pre reads.Post) → faceEdges (edgeMap
+written : (c : tie.After-known-told) → faceEdges (edgeMap
     (c .before .before .before .before .before .before .before .before .before .args .edges .now)
     (c .before .before .before .before .counts-of .result .edges))
     (natAbs (toZ w64
@@ -204,22 +105,7 @@ written c =
     ap₂ (λ (n : ℕ) (z : ℤ). faceEdges (edgeMap (s .args .edges .now) n) (natAbs z))
     (ap (λ (k : Counts). k .edges) (k .counts-of .ensures)) (toZ-ofZ {w = w64} (s .fits .face))
 
-rings-in : (c : lts.After-known-told (
-  is-whole-reads.Asked,
-  is-whole-reads.Learnt,
-  answered-reads.Asked,
-  answered-reads.Learnt,
-  in-form-reads.Asked,
-  in-form-reads.Learnt,
-  counts-of-reads.Asked,
-  counts-of-reads.Learnt,
-  find-row-reads.Asked,
-  find-row-reads.Learnt,
-  rings-size-reads.Asked,
-  rings-size-reads.Learnt,
-  write-rings-reads.Asked,
-  write-rings-reads.Learnt,
-) reads.Pre reads.Post)
+rings-in : (c : tie.After-known-told)
     → Rings (c .before .before .before .before .before .before .before .before .before .args .edges .now)
     (c .before .before .before .before .counts-of .result .edges)
 rings-in c =
@@ -229,22 +115,7 @@ rings-in c =
     subst (λ (n : ℕ). Rings (a .edges .now) n) (sym (ap (λ (k : Counts). k .edges) (k .counts-of .ensures)))
     (rings-of (a .nodes .now) (a .edges .now) (a .faces .now) (a .h) (known e) (whole-in (e .before .before)))
 
-small : (c : lts.After-known-told (
-  is-whole-reads.Asked,
-  is-whole-reads.Learnt,
-  answered-reads.Asked,
-  answered-reads.Learnt,
-  in-form-reads.Asked,
-  in-form-reads.Learnt,
-  counts-of-reads.Asked,
-  counts-of-reads.Learnt,
-  find-row-reads.Asked,
-  find-row-reads.Learnt,
-  rings-size-reads.Asked,
-  rings-size-reads.Learnt,
-  write-rings-reads.Asked,
-  write-rings-reads.Learnt,
-) reads.Pre reads.Post) → natAbs (toZ w64
+small : (c : tie.After-known-told) → natAbs (toZ w64
     (ofZ w64 (c .before .before .before .before .before .before .before .before .before .args .face))) ≤ 999999
 small c =
     let s = c .before .before .before .before .before .before .before .before .before in

@@ -23,10 +23,6 @@ use Rattle.face_edges.proofs.Walks.{marked-other, marked-old, marked-ne
 use Rattle.face_edges.proofs.Walks.{left-later, left-other, ring-length}
 use Rattle.face_edges.proofs.ring_size.Statement.{statement}
 use Rattle.face_edges.proofs.ring_size.Tie as tie
-use Rattle.face_edges.proofs.ring_size.Reads as reads
-use Rattle.face_edges.proofs.ring_size.Lts as lts
-use Rattle.darts.proofs.dart_cell.Reads as dart-cell-reads
-use Rattle.rings.proofs.mark_ring.Reads as mark-ring-reads
 
 zero-is : (k : ℕ) → eqb k 0 ≡ true → k ≡ 0
 zero-is k e = eqb→eq k 0 (≡→T (eqb k 0) e)
@@ -35,12 +31,7 @@ zero-not : (k : ℕ) → eqb k 0 ≡ false → k ≡ 0 → ⊥
 zero-not k e z = false≢true (sym e ∙ T→≡ (eqb k 0) (rw z (eqb-refl 0)))
 
 -- the test of the face
-face-is : (c : lts.After-slice-known2 (
-  dart-cell-reads.Asked,
-  dart-cell-reads.Learnt,
-  mark-ring-reads.Asked,
-  mark-ring-reads.Learnt,
-) reads.Pre reads.Post) → eqb (ofZ w64 (c .before .dart-cell .result))
+face-is : (c : tie.After-slice-known2) → eqb (ofZ w64 (c .before .dart-cell .result))
     (ofZ w64 (pos (c .before .before .before .args .face)))
     ≡ same (borne (c .before .before .before .args .edges .now) (c .before .before .before .args .count)
     (c .before .before .before .args .p)) (c .before .before .before .args .face)

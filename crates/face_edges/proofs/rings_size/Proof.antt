@@ -7,9 +7,6 @@ use Rattle.face_edges.specs.Listing.{Marked, left}
 use Rattle.face_edges.proofs.Walks.{none-marked, all-left, none-left, size-left}
 use Rattle.face_edges.proofs.rings_size.Statement.{statement}
 use Rattle.face_edges.proofs.rings_size.Tie as tie
-use Rattle.face_edges.proofs.rings_size.Reads as reads
-use Rattle.face_edges.proofs.rings_size.Lts as lts
-use Rattle.face_edges.proofs.ring_size.Reads as ring-size-reads
 
 abbrev Inv-loop : tie.InvT-loop
 Inv-loop edges count face marks₀ size₀ p₀ p-end marks size p = (p ≤ count * 2)
@@ -20,7 +17,7 @@ abbrev μ-loop : tie.MeasureT-loop
 μ-loop edges count face marks₀ size₀ p₀ p-end marks size p = p-end - p
 
 -- what a turn takes
-taken : (c : lts.After-marks2 (ring-size-reads.Asked, ring-size-reads.Learnt) reads.Pre reads.Post Inv-loop μ-loop)
+taken : (c : tie.After-marks2 Inv-loop μ-loop)
     → (length (left (c .before .before .before .before .before .args .edges .now)
     (c .before .before .before .before .before .args .count) (c .before .before .before .before .before .args .face)
     (c .before .before .before .before .loop .p))

@@ -16,10 +16,6 @@ use Rattle.face_edges.proofs.Walks.{none-marked, all-left, none-left, s
 use Rattle.face_edges.proofs.Writes.{size, ring-turn, rest-left, all-written}
 use Rattle.face_edges.proofs.write_rings.Statement.{statement}
 use Rattle.face_edges.proofs.write_rings.Tie as tie
-use Rattle.face_edges.proofs.write_rings.Reads as reads
-use Rattle.face_edges.proofs.write_rings.Lts as lts
-use Rattle.face_edges.proofs.ring_size.Reads as ring-size-reads
-use Rattle.rings.proofs.write_ring.Reads as write-ring-reads
 
 abbrev Inv-loop : tie.InvT-loop
 Inv-loop edges count face list₀ marks₀ at₀ p₀ p-end list marks at p =
@@ -31,12 +27,7 @@ abbrev μ-loop : tie.MeasureT-loop
 μ-loop edges count face list₀ marks₀ at₀ p₀ p-end list marks at p = p-end - p
 
 -- all of it finds room
-room : (c : lts.Start (
-  ring-size-reads.Asked,
-  ring-size-reads.Learnt,
-  write-ring-reads.Asked,
-  write-ring-reads.Learnt,
-) reads.Pre reads.Post Inv-loop μ-loop)
+room : (c : tie.Start Inv-loop μ-loop)
     → length (left (c .args .edges .now) (c .args .count) (c .args .face) 0) ≤ length (c .args .list .now)
 room c = let a = c .args in subst (λ (l : List ℤ). length l ≤ length (a .list .now))
     (all-left (a .edges .now) (a .count) (a .face)) (c .pre .2)
@@ -49,12 +40,7 @@ record Turn (l : List ℤ) (n f p at r end : ℕ) : Type 0 where
   inside : at + r ≤ length (left l n f 0)
   room : at + r ≤ end
 
-ring-at : (c : lts.After-marks2 (
-  ring-size-reads.Asked,
-  ring-size-reads.Learnt,
-  write-ring-reads.Asked,
-  write-ring-reads.Learnt,
-) reads.Pre reads.Post Inv-loop μ-loop) → 0 < c .before .ring-size .result
+ring-at : (c : tie.After-marks2 Inv-loop μ-loop) → 0 < c .before .ring-size .result
     → Turn (c .before .before .before .before .before .args .edges .now)
     (c .before .before .before .before .before .args .count) (c .before .before .before .before .before .args .face)
     (c .before .before .before .before .loop .p) (c .before .before .before .before .loop .at)

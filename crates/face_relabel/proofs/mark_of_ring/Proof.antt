@@ -15,21 +15,9 @@ use Rattle.face_relabel.specs.Sharing.{encloses, startOf}
 use Rattle.face_relabel.proofs.Faces.{start-found, start-there}
 use Rattle.face_relabel.proofs.mark_of_ring.Statement.{statement}
 use Rattle.face_relabel.proofs.mark_of_ring.Tie as tie
-use Rattle.face_relabel.proofs.mark_of_ring.Reads as reads
-use Rattle.face_relabel.proofs.mark_of_ring.Lts as lts
-use Rattle.rings.proofs.encloses.Reads as encloses-reads
-use Rattle.map_rows.proofs.node_point.Reads as node-point-reads
-use Rattle.tables.proofs.find_row.Reads as find-row-reads
 
 -- what the search answers
-answer : (c : lts.After-find-row (
-  find-row-reads.Asked,
-  find-row-reads.Learnt,
-  node-point-reads.Asked,
-  node-point-reads.Learnt,
-  encloses-reads.Asked,
-  encloses-reads.Learnt,
-) reads.Pre reads.Post) → c .find-row .result
+answer : (c : tie.After-find-row) → c .find-row .result
     ≡ place (sameZ (getD (c .before .before .args .edges .now) (c .before .before .args .i * 32 + 1) (pos 0))) 0
     (column 4 (c .before .before .args .nodes .now) (c .before .before .args .n))
 answer c =
@@ -38,14 +26,7 @@ answer c =
     (toZ-ofZ {w = w64} {z = getD (a .edges .now) (a .i * 32 + 1) (pos 0)} (sfits-of (c .before .find-row-arg .given)))
 
 -- the row that is found
-row : (c : lts.After-known-told (
-  find-row-reads.Asked,
-  find-row-reads.Learnt,
-  node-point-reads.Asked,
-  node-point-reads.Learnt,
-  encloses-reads.Asked,
-  encloses-reads.Learnt,
-) reads.Pre reads.Post) → (c .before .found .given .0 .0 < c .before .before .before .before .before .args .n)
+row : (c : tie.After-known-told) → (c .before .found .given .0 .0 < c .before .before .before .before .before .args .n)
     × (startOf (c .before .before .before .before .before .args .nodes .now)
     (c .before .before .before .before .before .args .n)
     (edgeAt (c .before .before .before .before .before .args .edges .now)
@@ -59,14 +40,7 @@ row c =
     (c .before .found .given .0 .0) (sym (answer b) ∙ c .before .found .given .1)
 
 -- what the ring answers of the point
-told : (c : lts.After-encloses (
-  find-row-reads.Asked,
-  find-row-reads.Learnt,
-  node-point-reads.Asked,
-  node-point-reads.Learnt,
-  encloses-reads.Asked,
-  encloses-reads.Learnt,
-) reads.Pre reads.Post) → encloses (c .before .before .before .before .before .before .before .args .edges .now)
+told : (c : tie.After-encloses) → encloses (c .before .before .before .before .before .before .before .args .edges .now)
     (c .before .before .before .before .before .before .before .args .count)
     (c .before .before .before .before .before .before .before .args .s .ring)
     (startOf (c .before .before .before .before .before .before .before .args .nodes .now)

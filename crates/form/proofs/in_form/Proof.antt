@@ -12,54 +12,21 @@ use Rattle.form_links.proofs.Words.{flipped}
 use Rattle.form.proofs.Parts.{unfit-head, unranged, by-formed, whole-room, sizes-are}
 use Rattle.form.proofs.in_form.Statement.{statement}
 use Rattle.form.proofs.in_form.Tie as tie
-use Rattle.form.proofs.in_form.Reads as reads
-use Rattle.form.proofs.in_form.Lts as lts
-use Rattle.form.proofs.is_formed.Reads as is-formed-reads
-use Rattle.head.proofs.counts_of.Reads as counts-of-reads
-use Rattle.form_ranges.proofs.head_fits.Reads as head-fits-reads
-use Rattle.form_ranges.proofs.is_ranged.Reads as is-ranged-reads
 
 -- ---- what is known after each part
 
-fits-is : (c : lts.After-head-fits (
-  head-fits-reads.Asked,
-  head-fits-reads.Learnt,
-  counts-of-reads.Asked,
-  counts-of-reads.Learnt,
-  is-ranged-reads.Asked,
-  is-ranged-reads.Learnt,
-  is-formed-reads.Asked,
-  is-formed-reads.Learnt,
-) reads.Pre reads.Post) → c .head-fits .result
+fits-is : (c : tie.After-head-fits) → c .head-fits .result
     ≡ (countsFit (lent (c .before .args .nodes .now) (c .before .args .edges .now) (c .before .args .faces .now)
     (c .before .args .h)) && nextsFit (c .before .args .h))
 fits-is c = let a = c .before .args in c .head-fits .ensures
     (lent (a .nodes .now) (a .edges .now) (a .faces .now) (a .h))
     (sizes-are (a .nodes .now) (a .edges .now) (a .faces .now) (a .h))
 
-head-in : (c : lts.Else1 (
-  head-fits-reads.Asked,
-  head-fits-reads.Learnt,
-  counts-of-reads.Asked,
-  counts-of-reads.Learnt,
-  is-ranged-reads.Asked,
-  is-ranged-reads.Learnt,
-  is-formed-reads.Asked,
-  is-formed-reads.Learnt,
-) reads.Pre reads.Post) → (countsFit (lent (c .before .before .args .nodes .now) (c .before .before .args .edges .now)
+head-in : (c : tie.Else1) → (countsFit (lent (c .before .before .args .nodes .now) (c .before .before .args .edges .now)
     (c .before .before .args .faces .now) (c .before .before .args .h)) && nextsFit (c .before .before .args .h)) ≡ true
 head-in c = sym (fits-is (c .before)) ∙ flipped (c .before .head-fits .result) false (c .if1 .left)
 
-counted-in : (c : lts.After-counts-of (
-  head-fits-reads.Asked,
-  head-fits-reads.Learnt,
-  counts-of-reads.Asked,
-  counts-of-reads.Learnt,
-  is-ranged-reads.Asked,
-  is-ranged-reads.Learnt,
-  is-formed-reads.Asked,
-  is-formed-reads.Learnt,
-) reads.Pre reads.Post) → HeadFits (c .before .before .before .args .nodes .now)
+counted-in : (c : tie.After-counts-of) → HeadFits (c .before .before .before .args .nodes .now)
     (c .before .before .before .args .edges .now) (c .before .before .before .args .faces .now) (c .counts-of .result)
     (c .before .before .before .args .h)
 counted-in c =
@@ -71,16 +38,7 @@ counted-in c =
     (and-left p (nextsFit (a .h)) e) (and-right p (nextsFit (a .h)) e))
 
 -- the answer on ranges, of the head's counts
-ranged-in : (c : lts.After-is-ranged (
-  head-fits-reads.Asked,
-  head-fits-reads.Learnt,
-  counts-of-reads.Asked,
-  counts-of-reads.Learnt,
-  is-ranged-reads.Asked,
-  is-ranged-reads.Learnt,
-  is-formed-reads.Asked,
-  is-formed-reads.Learnt,
-) reads.Pre reads.Post) → c .is-ranged .result
+ranged-in : (c : tie.After-is-ranged) → c .is-ranged .result
     ≡ rangedRows (c .before .before .before .before .args .nodes .now)
     (c .before .before .before .before .args .edges .now) (c .before .before .before .before .args .faces .now)
     (countsOf (c .before .before .before .before .args .h))

@@ -12,28 +12,10 @@ use Rattle.form_links.proofs.Words.{flipped}
 use Rattle.form.proofs.Parts.{curved, departed, stop₁, stop₂, stop₃, stop₄, last₅}
 use Rattle.form.proofs.is_formed.Statement.{statement}
 use Rattle.form.proofs.is_formed.Tie as tie
-use Rattle.form.proofs.is_formed.Reads as reads
-use Rattle.form.proofs.is_formed.Lts as lts
-use Rattle.form_links.proofs.departures_formed.Reads as departures-formed-reads
-use Rattle.form_links.proofs.links_formed.Reads as links-formed-reads
-use Rattle.form_references.proofs.curves_fit.Reads as curves-fit-reads
-use Rattle.form_references.proofs.names_exist.Reads as names-exist-reads
-use Rattle.form_ranges.proofs.numbers_fit.Reads as numbers-fit-reads
 
 -- ---- what is known after each part
 
-in-order : (c : lts.Else1 (
-  numbers-fit-reads.Asked,
-  numbers-fit-reads.Learnt,
-  names-exist-reads.Asked,
-  names-exist-reads.Learnt,
-  curves-fit-reads.Asked,
-  curves-fit-reads.Learnt,
-  departures-formed-reads.Asked,
-  departures-formed-reads.Learnt,
-  links-formed-reads.Asked,
-  links-formed-reads.Learnt,
-) reads.Pre reads.Post) → InOrder (c .before .before .args .nodes .now) (c .before .before .args .edges .now)
+in-order : (c : tie.Else1) → InOrder (c .before .before .args .nodes .now) (c .before .before .args .edges .now)
     (c .before .before .args .faces .now) (c .before .before .args .c) (c .before .before .args .h)
 in-order c = let f = c .before .numbers-fit in
     record {
@@ -42,18 +24,7 @@ in-order c = let f = c .before .numbers-fit in
           ∙ flipped (f .result) false (c .if1 .left);
     }
 
-named-in : (c : lts.Else2 (
-  numbers-fit-reads.Asked,
-  numbers-fit-reads.Learnt,
-  names-exist-reads.Asked,
-  names-exist-reads.Learnt,
-  curves-fit-reads.Asked,
-  curves-fit-reads.Learnt,
-  departures-formed-reads.Asked,
-  departures-formed-reads.Learnt,
-  links-formed-reads.Asked,
-  links-formed-reads.Learnt,
-) reads.Pre reads.Post)
+named-in : (c : tie.Else2)
     → Named (c .before .before .before .before .before .before .before .before .before .before .args .nodes .now)
     (c .before .before .before .before .before .before .before .before .before .before .args .edges .now)
     (c .before .before .before .before .before .before .before .before .before .before .args .faces .now)
@@ -70,18 +41,7 @@ named-in c =
     }
 
 -- the rows and positions that are written down
-rows-in : (c : lts.Else2 (
-  numbers-fit-reads.Asked,
-  numbers-fit-reads.Learnt,
-  names-exist-reads.Asked,
-  names-exist-reads.Learnt,
-  curves-fit-reads.Asked,
-  curves-fit-reads.Learnt,
-  departures-formed-reads.Asked,
-  departures-formed-reads.Learnt,
-  links-formed-reads.Asked,
-  links-formed-reads.Learnt,
-) reads.Pre reads.Post)
+rows-in : (c : tie.Else2)
     → RowsNamed 4 (c .before .before .before .before .before .before .before .before .before .before .args .nodes .now)
     (c .before .before .before .before .before .before .before .before .before .before .args .c .nodes)
     (c .before .before .before .before .before .before .before .before .before .before .args .edges .now) 1
@@ -99,18 +59,7 @@ rows-in : (c : lts.Else2 (
 rows-in c = let n = c .before .before .before .before in
     n .names-exist .ensures .4 (flipped (n .names-exist .result) false (c .if2 .left))
 
-curved-in : (c : lts.Else3 (
-  numbers-fit-reads.Asked,
-  numbers-fit-reads.Learnt,
-  names-exist-reads.Asked,
-  names-exist-reads.Learnt,
-  curves-fit-reads.Asked,
-  curves-fit-reads.Learnt,
-  departures-formed-reads.Asked,
-  departures-formed-reads.Learnt,
-  links-formed-reads.Asked,
-  links-formed-reads.Learnt,
-) reads.Pre reads.Post)
+curved-in : (c : tie.Else3)
     → curved
     (c .before .before .before .before .before .before .before .before .before .before .before .before .before .args
     .nodes .now)
@@ -123,18 +72,7 @@ curved-in : (c : lts.Else3 (
     .args .h) ≡ true
 curved-in c = let f = c .before .curves-fit in sym (f .ensures) ∙ flipped (f .result) false (c .if3 .left)
 
-departed-in : (c : lts.Else4 (
-  numbers-fit-reads.Asked,
-  numbers-fit-reads.Learnt,
-  names-exist-reads.Asked,
-  names-exist-reads.Learnt,
-  curves-fit-reads.Asked,
-  curves-fit-reads.Learnt,
-  departures-formed-reads.Asked,
-  departures-formed-reads.Learnt,
-  links-formed-reads.Asked,
-  links-formed-reads.Learnt,
-) reads.Pre reads.Post)
+departed-in : (c : tie.Else4)
     → departed
     (c .before .before .before .before .before .before .before .before .before .before .before .before .before .before
     .before .before .args .nodes .now)

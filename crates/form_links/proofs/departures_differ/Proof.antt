@@ -19,9 +19,6 @@ use Rattle.form_links.proofs.Chains.{chained-leads, none-chained}
 use Rattle.form_links.proofs.Departures.{differ-true, differ-false}
 use Rattle.form_links.proofs.departures_differ.Statement.{statement}
 use Rattle.form_links.proofs.departures_differ.Tie as tie
-use Rattle.form_links.proofs.departures_differ.Reads as reads
-use Rattle.form_links.proofs.departures_differ.Lts as lts
-use Rattle.form_links.proofs.joins_alike.Reads as joins-alike-reads
 
 abbrev Inv-loop : tie.InvT-loop
 Inv-loop edges count starts last₀ back₀ i₀ last back i = (i ≤ count) × (length last ≡ 9000) × (length back ≡ 4000)
@@ -32,31 +29,21 @@ abbrev μ-loop : tie.MeasureT-loop
 μ-loop edges count starts last₀ back₀ i₀ last back i = count - i
 
 -- the slots, and the chains after each of the two positions of a row
-abbrev slots : lts.Start (joins-alike-reads.Asked, joins-alike-reads.Learnt) reads.Pre reads.Post Inv-loop μ-loop → ℕ
+abbrev slots : tie.Start Inv-loop μ-loop → ℕ
     → ℕ
 slots s = slot (s .args .edges .now) (s .args .starts .now)
 
-abbrev turn : lts.After-joins-alike (
-  joins-alike-reads.Asked,
-  joins-alike-reads.Learnt,
-) reads.Pre reads.Post Inv-loop μ-loop → lts.In-loop
-    (joins-alike-reads.Asked, joins-alike-reads.Learnt) reads.Pre reads.Post Inv-loop μ-loop
+abbrev turn : tie.After-joins-alike Inv-loop μ-loop → tie.In-loop Inv-loop μ-loop
 turn c = c .before .before .before .before
 
-first : (c : lts.After-joins-alike (
-  joins-alike-reads.Asked,
-  joins-alike-reads.Learnt,
-) reads.Pre reads.Post Inv-loop μ-loop)
+first : (c : tie.After-joins-alike Inv-loop μ-loop)
     → (c .joins-alike .result ≡ repeats (turn c .before .before .before .args .edges .now)
     (slots (turn c .before .before .before)) (turn c .before .loop .i * 2))
     × Chained (slots (turn c .before .before .before)) (turn c .before .loop .i * 2 + 1)
     (c .joins-alike .last .1 .1 .1 .0) (c .joins-alike .last .1 .1 .1 .1 .0)
 first c = c .joins-alike .ensures (slots (turn c .before .before .before)) refl (turn c .before .loop .inv .3)
 
-second : (c : lts.After-joins-alike2 (
-  joins-alike-reads.Asked,
-  joins-alike-reads.Learnt,
-) reads.Pre reads.Post Inv-loop μ-loop)
+second : (c : tie.After-joins-alike2 Inv-loop μ-loop)
     → (c .joins-alike2 .result ≡ repeats
     (turn (c .before .before .before .before .before .before .before) .before .before .before .args .edges .now)
     (slots (turn (c .before .before .before .before .before .before .before) .before .before .before))
@@ -69,18 +56,16 @@ second c = c .joins-alike2 .ensures (slots
     (first (c .before .before .before .before .before .before .before) .1)
 
 -- the lengths stay
-last-length : (c : lts.After-joins-alike
-    (joins-alike-reads.Asked, joins-alike-reads.Learnt) reads.Pre reads.Post Inv-loop μ-loop)
+last-length : (c : tie.After-joins-alike Inv-loop μ-loop)
     → length (c .joins-alike .last .1 .1 .1 .0) ≡ 9000
 last-length c = c .joins-alike .kept .1 .1 .1 .0 ∙ turn c .before .loop .inv .1
 
-back-length : (c : lts.After-joins-alike
-    (joins-alike-reads.Asked, joins-alike-reads.Learnt) reads.Pre reads.Post Inv-loop μ-loop)
+back-length : (c : tie.After-joins-alike Inv-loop μ-loop)
     → length (c .joins-alike .last .1 .1 .1 .1 .0) ≡ 4000
 back-length c = c .joins-alike .kept .1 .1 .1 .1 .0 ∙ turn c .before .loop .inv .2
 
 -- position p repeats an earlier one
-meets : (c : lts.In-loop (joins-alike-reads.Asked, joins-alike-reads.Learnt) reads.Pre reads.Post Inv-loop μ-loop)
+meets : (c : tie.In-loop Inv-loop μ-loop)
     (p : ℕ) → p < c .before .before .before .args .count * 2
     → repeats (c .before .before .before .args .edges .now) (slots (c .before .before .before)) p ≡ true
     → (nodes : List ℤ) (n : ℕ) → NodeRows nodes n

@@ -10,9 +10,6 @@ use Rattle.darts.proofs.Positions.{even-of, odd-of, reverse-even, reverse-odd}
 use Rattle.form_links.proofs.Links.{Marked, none-marked, step-passed, step-refused, all-linked}
 use Rattle.form_links.proofs.links_formed.Statement.{statement}
 use Rattle.form_links.proofs.links_formed.Tie as tie
-use Rattle.form_links.proofs.links_formed.Reads as reads
-use Rattle.form_links.proofs.links_formed.Lts as lts
-use Rattle.form_links.proofs.link_fits.Reads as link-fits-reads
 
 abbrev Inv-loop : tie.InvT-loop
 Inv-loop count starts nexts bears marks₀ i₀ marks i = (i ≤ count) × Marked starts nexts bears (i * 2) marks
@@ -28,35 +25,35 @@ back : (i : ℕ) → reverseOf (i * 2 + 1) ≡ i * 2
 back i = let e = reverse-odd (odd-of (i * 2 + 1) (omega arith)) in omega arith
 
 -- of a turn: the call, the row, the next of a position, and what the marks tell
-abbrev start : lts.In-loop (link-fits-reads.Asked, link-fits-reads.Learnt) reads.Pre reads.Post Inv-loop μ-loop
-    → lts.Start (link-fits-reads.Asked, link-fits-reads.Learnt) reads.Pre reads.Post Inv-loop μ-loop
+abbrev start : tie.In-loop Inv-loop μ-loop
+    → tie.Start Inv-loop μ-loop
 start b = b .before .before .before .before .before
 
-abbrev row : lts.In-loop (link-fits-reads.Asked, link-fits-reads.Learnt) reads.Pre reads.Post Inv-loop μ-loop → ℕ
+abbrev row : tie.In-loop Inv-loop μ-loop → ℕ
 row b = b .before .loop .i
 
-abbrev next : lts.In-loop (link-fits-reads.Asked, link-fits-reads.Learnt) reads.Pre reads.Post Inv-loop μ-loop → ℕ → ℕ
+abbrev next : tie.In-loop Inv-loop μ-loop → ℕ → ℕ
 next b p = getD (start b .args .nexts .now) p 0
 
-abbrev marked : lts.In-loop (link-fits-reads.Asked, link-fits-reads.Learnt) reads.Pre reads.Post Inv-loop μ-loop → ℕ
+abbrev marked : tie.In-loop Inv-loop μ-loop → ℕ
     → List ℕ → Type 0
 marked b = Marked (start b .args .starts .now) (start b .args .nexts .now) (start b .args .bears .now)
 
 -- its next has a mark
-below-marks : (b : lts.In-loop (link-fits-reads.Asked, link-fits-reads.Learnt) reads.Pre reads.Post Inv-loop μ-loop)
+below-marks : (b : tie.In-loop Inv-loop μ-loop)
     (p : ℕ) → p < start b .args .count * 2 → next b p < 4000
 below-marks b p h = omega (arith, start b .pre .4 p h, start b .pre .0)
 
-below-first : (b : lts.In-loop (link-fits-reads.Asked, link-fits-reads.Learnt) reads.Pre reads.Post Inv-loop μ-loop)
+below-first : (b : tie.In-loop Inv-loop μ-loop)
     → next b (row b * 2) < 4000
 below-first b = below-marks b (row b * 2) (omega (arith, b .loop-test .taken))
 
-below-second : (b : lts.In-loop (link-fits-reads.Asked, link-fits-reads.Learnt) reads.Pre reads.Post Inv-loop μ-loop)
+below-second : (b : tie.In-loop Inv-loop μ-loop)
     → next b (row b * 2 + 1) < 4000
 below-second b = below-marks b (row b * 2 + 1) (omega (arith, b .loop-test .taken))
 
 -- the marks after the first position of a row
-first : (c : lts.Else1 (link-fits-reads.Asked, link-fits-reads.Learnt) reads.Pre reads.Post Inv-loop μ-loop)
+first : (c : tie.Else1 Inv-loop μ-loop)
     → marked (c .before .before .before) (row (c .before .before .before) * 2 + 1)
     (set (c .before .before .before .before .loop .marks)
     (next (c .before .before .before) (row (c .before .before .before) * 2)) 1)

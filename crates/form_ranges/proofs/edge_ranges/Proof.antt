@@ -22,12 +22,6 @@ use Rattle.map.specs.Form.{edgeRanges}
 use Rattle.head.proofs.Words.{is-natural}
 use Rattle.form_ranges.proofs.edge_ranges.Statement.{statement}
 use Rattle.form_ranges.proofs.edge_ranges.Tie as tie
-use Rattle.form_ranges.proofs.edge_ranges.Reads as reads
-use Rattle.form_ranges.proofs.edge_ranges.Lts as lts
-use Rattle.form_ranges.proofs.edge_naturals.Reads as edge-naturals-reads
-use Rattle.tables.proofs.natural.Reads as natural-reads
-use Rattle.form_ranges.proofs.points_ranged.Reads as points-ranged-reads
-use Rattle.form_ranges.proofs.within.Reads as within-reads
 
 module _ (row : List ℤ) where
   abbrev naturals : Bool
@@ -64,16 +58,7 @@ natural-requires c κs =
     (omega arith, ≡→T (nonNeg (cell row 7)) (is-natural (cell row 7) (k .0)))
 
 -- both tests are passed
-both : (n : lts.After-natural (
-  edge-naturals-reads.Asked,
-  edge-naturals-reads.Learnt,
-  within-reads.Asked,
-  within-reads.Learnt,
-  natural-reads.Asked,
-  natural-reads.Learnt,
-  points-ranged-reads.Asked,
-  points-ranged-reads.Learnt,
-) reads.Pre reads.Post) → naturals (n .before .before .before .before .before .args .row .now)
+both : (n : tie.After-natural) → naturals (n .before .before .before .before .before .args .row .now)
     && within 2 12 (cell (n .before .before .before .before .before .args .row .now) 7) ≡ true
 both n =
     let c = n .before in

@@ -21,9 +21,6 @@ use Rattle.darts.specs.Positions.{NextsNamed}
 use Rattle.form_references.proofs.Nexts.{LinkAt, link-read, linksName, links-are, nexts-on}
 use Rattle.form_references.proofs.find_nexts.Statement.{statement}
 use Rattle.form_references.proofs.find_nexts.Tie as tie
-use Rattle.form_references.proofs.find_nexts.Reads as reads
-use Rattle.form_references.proofs.find_nexts.Lts as lts
-use Rattle.form_references.proofs.find_position.Reads as find-position-reads
 
 abbrev Inv-loop : tie.InvT-loop
 Inv-loop edges count index nexts₀ i₀ nexts i =
@@ -46,10 +43,7 @@ loop-holds c =
     )
 
 -- what the first search finds, and the second
-left-at : (k : lts.After-known-told (
-  find-position-reads.Asked,
-  find-position-reads.Learnt,
-) reads.Pre reads.Post Inv-loop μ-loop)
+left-at : (k : tie.After-known-told Inv-loop μ-loop)
     → LinkAt (k .before .before .before .before .before .before .before .before .before .pre .0)
     (getD (k .before .before .before .before .before .before .before .before .before .args .edges .now)
     (k .before .before .before .before .before .before .loop .i * edgeWidth + 3) (pos 0)) (k .before .a .given .0 .0)
@@ -60,10 +54,7 @@ left-at k =
     link-read (s .pre .0) _ d (toZ-ofZ {w = w64} {z = d} (sfits-of (f .before .find-position-arg .given)))
     (f .find-position .ensures .1 (k .before .a .given .0 .0) (k .before .a .given .1))
 
-right-at : (k : lts.After-known-told2 (
-  find-position-reads.Asked,
-  find-position-reads.Learnt,
-) reads.Pre reads.Post Inv-loop μ-loop)
+right-at : (k : tie.After-known-told2 Inv-loop μ-loop)
     → LinkAt
     (k .before .before .before .before .before .before .before .before .before .before .before .before .before .before
     .pre .0)
@@ -149,10 +140,7 @@ cast-nexts-2 c = omega (
 )
 
 -- the indices are small
-small : (c : lts.After-known-told2 (
-  find-position-reads.Asked,
-  find-position-reads.Learnt,
-) reads.Pre reads.Post Inv-loop μ-loop)
+small : (c : tie.After-known-told2 Inv-loop μ-loop)
     → c .before .before .before .before .before .before .before .before .before .before .before .loop .i < 2000
 small c =
     omega (

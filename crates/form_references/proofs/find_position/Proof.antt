@@ -17,10 +17,6 @@ use Rattle.form_references.proofs.Names.{edge-more, edge-past, edges-in
 use Rattle.form_references.proofs.Nexts.{missing-at, link-missing, link-below, link-at}
 use Rattle.form_references.proofs.find_position.Statement.{statement}
 use Rattle.form_references.proofs.find_position.Tie as tie
-use Rattle.form_references.proofs.find_position.Reads as reads
-use Rattle.form_references.proofs.find_position.Lts as lts
-use Rattle.form_references.proofs.edge_of.Reads as edge-of-reads
-use Rattle.tables.proofs.find_indexed.Reads as find-indexed-reads
 
 returns : tie.Need-returns
 returns c =
@@ -31,12 +27,7 @@ returns c =
     ((λ e. edge-past (s .pre .0) (natAbs d) (edge-more d t)), (λ q e. absurd (missing-at e)))
 
 -- what the search answers
-sought : (c : lts.After-find-indexed (
-  edge-of-reads.Asked,
-  edge-of-reads.Learnt,
-  find-indexed-reads.Asked,
-  find-indexed-reads.Learnt,
-) reads.Pre reads.Post) → c .find-indexed .result
+sought : (c : tie.After-find-indexed) → c .find-indexed .result
     ≡ place (sameZ (pos (natAbs (c .before .before .before .before .args .d)))) 0
     (column edgeWidth (c .before .before .before .before .args .edges .now)
     (c .before .before .before .before .args .count))

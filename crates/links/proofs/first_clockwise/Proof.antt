@@ -23,9 +23,6 @@ use Rattle.links.proofs.ByRows.{known-of, cell-is, cell-differs, leaves
 use Rattle.links.proofs.ByRows.{passed-other}
 use Rattle.links.proofs.first_clockwise.Statement.{statement}
 use Rattle.links.proofs.first_clockwise.Tie as tie
-use Rattle.links.proofs.first_clockwise.Reads as reads
-use Rattle.links.proofs.first_clockwise.Lts as lts
-use Rattle.links.proofs.chosen.Reads as chosen-reads
 
 abbrev Inv-loop : tie.InvT-loop
 Inv-loop edges count own c node v a b h₀ i₀ h i =
@@ -66,7 +63,7 @@ chosen-requires c κs =
     )
 
 -- the edge of row i passed
-halfway : (c : lts.Joined1 (chosen-reads.Asked, chosen-reads.Learnt) reads.Pre reads.Post Inv-loop μ-loop)
+halfway : (c : tie.Joined1 Inv-loop μ-loop)
     → (let s = c .before .before .before .before in let a = s .args in
     Passed (wayWith (a .edges .now) (a .own) (a .c .now)) (wayTo (a .v .from) (a .v .to)) (a .edges .now)
     (toZ w64 (ofZ w64 (a .node))) (a .a) (a .b) (a .count * 2) (c .if1 .h) (c .before .before .before .loop .i * 2 + 1))
@@ -164,7 +161,7 @@ loop-again c =
     )
 
 -- the choice at the loop's end answers
-answered : (c : lts.After-loop (chosen-reads.Asked, chosen-reads.Learnt) reads.Pre reads.Post Inv-loop μ-loop)
+answered : (c : tie.After-loop Inv-loop μ-loop)
     → (let a = c .before .before .args in answer (c .before .loop .h)
     ≡ firstMet (wayWith (a .edges .now) (a .own) (a .c .now)) (wayTo (a .v .from) (a .v .to))
     (leaving (a .edges .now) (a .count) (a .node) (a .a) (a .b)))

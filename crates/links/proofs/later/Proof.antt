@@ -6,10 +6,6 @@ use Rattle.darts.specs.Positions.{wayWith}
 use borrow.Author.Needs.{needs}
 use Rattle.links.proofs.later.Statement.{statement}
 use Rattle.links.proofs.later.Tie as tie
-use Rattle.links.proofs.later.Reads as reads
-use Rattle.links.proofs.later.Lts as lts
-use Rattle.darts.proofs.before.Reads as before-reads
-use Rattle.darts.proofs.step_with.Reads as step-with-reads
 
 returns : tie.Need-returns
 returns c = rw (not-true (c .before .args .some) (c .if1 .taken))
@@ -18,12 +14,7 @@ step-with-requires : tie.Need-step-with-requires
 step-with-requires c κs = c .before .pre .0 (not-false (c .before .args .some) (c .if1 .left))
 
 -- the test, in the direction of k
-test : (c : lts.After-before2 (
-  step-with-reads.Asked,
-  step-with-reads.Learnt,
-  before-reads.Asked,
-  before-reads.Learnt,
-) reads.Pre reads.Post)
+test : (c : tie.After-before2)
     → before (wayWith (c .before .before .before .args .edges .now) (c .before .before .before .args .own)
     (c .before .before .before .args .c .now) (c .before .before .before .args .k))
     (wayTo (c .before .before .before .args .w .from) (c .before .before .before .args .w .to)) ≡ c .before2 .result

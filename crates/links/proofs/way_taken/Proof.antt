@@ -19,10 +19,6 @@ use Rattle.links.specs.Linking.{positions}
 use Rattle.links.proofs.ByRows.{taken, near-start, near-end, taken-none, taken-here, taken-past}
 use Rattle.links.proofs.way_taken.Statement.{statement}
 use Rattle.links.proofs.way_taken.Tie as tie
-use Rattle.links.proofs.way_taken.Reads as reads
-use Rattle.links.proofs.way_taken.Lts as lts
-use Rattle.darts.proofs.same_way.Reads as same-way-reads
-use Rattle.darts.proofs.step_at.Reads as step-at-reads
 
 -- whether one of the positions left has the direction
 abbrev anyFrom : (ℕ → Bool) → ℕ → ℕ → Bool
@@ -82,12 +78,7 @@ returns c =
     (c .before .before .step-at .ensures .way) (c .before .before .before .if1 .taken) (c .if2 .taken))) ∙ l .inv .1)
 
 -- the edge of row i passed
-halfway : (c : lts.Joined1 (
-  step-at-reads.Asked,
-  step-at-reads.Learnt,
-  same-way-reads.Asked,
-  same-way-reads.Learnt,
-) reads.Pre reads.Post Inv-loop μ-loop)
+halfway : (c : tie.Joined1 Inv-loop μ-loop)
     → (let a = c .before .before .before .before .args in let f =
     taken (a .edges .now) (toZ w64 (ofZ w64 (a .node))) (a .own) (wayTo (a .v .from) (a .v .to)) in
     anyFrom f (c .before .before .before .loop .i * 2 + 1) (a .count * 2) ≡ anyOf f (positions (a .count)))

@@ -20,10 +20,6 @@ use Rattle.links.proofs.FirstMet.{met-at, met-none, first-none, keep-same, posi
 use Rattle.reason_corners.specs.Drawing.{departing}
 use Rattle.reason_corners.proofs.corner.Statement.{statement}
 use Rattle.reason_corners.proofs.corner.Tie as tie
-use Rattle.reason_corners.proofs.corner.Reads as reads
-use Rattle.reason_corners.proofs.corner.Lts as lts
-use Rattle.links.proofs.first_clockwise.Reads as first-clockwise-reads
-use Rattle.darts.proofs.first_step.Reads as first-step-reads
 
 -- the new edge's position is none of the rows'
 leaving-all : (l : List ℤ) (e : ℕ) (z : ℤ) → leaving l e z (e * 2) (e * 2) ≡ departing l e z
@@ -34,12 +30,7 @@ leaving-all l e z =
     rw s (eq1 (λ x. x && true && true) (λ x. x) tt (leavesNode l z q)))
 
 -- what the search answers
-found : (c : lts.After-first-clockwise (
-  first-step-reads.Asked,
-  first-step-reads.Learnt,
-  first-clockwise-reads.Asked,
-  first-clockwise-reads.Learnt,
-) reads.Pre reads.Post)
+found : (c : tie.After-first-clockwise)
     → c .first-clockwise .result ≡ firstMet
     (wayWith (c .before .before .args .edges .now) (c .before .before .args .e) (c .before .before .args .c .now))
     (startWay (course (c .before .before .args .back) (curveOf (c .before .before .args .c .now))))

@@ -17,10 +17,6 @@ use Rattle.reason_corners.specs.CornerFaces.{cornerBy}
 use Rattle.reason_corners.proofs.CornerFaces.{met-alike, met-below}
 use Rattle.reason_corners.proofs.corner_face.Statement.{statement}
 use Rattle.reason_corners.proofs.corner_face.Tie as tie
-use Rattle.reason_corners.proofs.corner_face.Reads as reads
-use Rattle.reason_corners.proofs.corner_face.Lts as lts
-use Rattle.links.proofs.first_clockwise.Reads as first-clockwise-reads
-use Rattle.darts.proofs.dart_cell.Reads as dart-cell-reads
 
 first-clockwise-requires : tie.Need-first-clockwise-requires
 first-clockwise-requires c κs = let s = c .before .before in
@@ -30,12 +26,7 @@ enum-known-found : tie.Need-enum-known-found
 enum-known-found c = search needs
 
 -- what the search answers
-found : (c : lts.After-first-clockwise (
-  first-clockwise-reads.Asked,
-  first-clockwise-reads.Learnt,
-  dart-cell-reads.Asked,
-  dart-cell-reads.Learnt,
-) reads.Pre reads.Post)
+found : (c : tie.After-first-clockwise)
     → let a = c .before .before .before .args in c .first-clockwise .result
     ≡ firstMet (wayAt (a .edges .now)) (wayTo (a .v .from) (a .v .to))
     (leaving (a .edges .now) (a .count) (getD (a .nodes .now) (a .i * 4) (pos 0)) (a .count * 2) (a .count * 2))

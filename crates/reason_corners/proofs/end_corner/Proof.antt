@@ -14,10 +14,6 @@ use Rattle.reason_corners.specs.Drawing.{cornerAt}
 use Rattle.reason_corners.proofs.Ends.{corner-below, end-apart, end-alone, end-besides}
 use Rattle.reason_corners.proofs.end_corner.Statement.{statement}
 use Rattle.reason_corners.proofs.end_corner.Tie as tie
-use Rattle.reason_corners.proofs.end_corner.Reads as reads
-use Rattle.reason_corners.proofs.end_corner.Lts as lts
-use Rattle.reason_corners.proofs.corner.Reads as corner-reads
-use Rattle.reason_corners.proofs.end_of_loop.Reads as end-of-loop-reads
 
 returns : tie.Need-returns
 returns c =
@@ -30,12 +26,7 @@ returns c =
     (not-same (a .from) (a .to) (λ q. c .before .if1 .taken (ap (ofZ w64) q)))
 
 -- what is there besides, in a loop
-others : (c : lts.After-corner2 (
-  corner-reads.Asked,
-  corner-reads.Learnt,
-  end-of-loop-reads.Asked,
-  end-of-loop-reads.Learnt,
-) reads.Pre reads.Post)
+others : (c : tie.After-corner2)
     → (c .corner2 .result ≡ cornerAt (c .before .before .args .edges .now) (c .before .before .args .e)
     (c .before .before .args .c .now) true (c .before .before .args .to) (c .before .before .args .e * 2))
     × (sameZ (c .before .before .args .from) (c .before .before .args .to) ≡ true)

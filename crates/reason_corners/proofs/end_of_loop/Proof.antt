@@ -13,11 +13,6 @@ use Rattle.links.proofs.FirstMet.{with-none}
 use Rattle.reason_corners.proofs.Ends.{start-way}
 use Rattle.reason_corners.proofs.end_of_loop.Statement.{statement}
 use Rattle.reason_corners.proofs.end_of_loop.Tie as tie
-use Rattle.reason_corners.proofs.end_of_loop.Reads as reads
-use Rattle.reason_corners.proofs.end_of_loop.Lts as lts
-use Rattle.darts.proofs.before.Reads as before-reads
-use Rattle.darts.proofs.first_step.Reads as first-step-reads
-use Rattle.darts.proofs.step_at.Reads as step-at-reads
 
 step-at-requires : tie.Need-step-at-requires
 step-at-requires c κs = let s = c .before .before in
@@ -30,14 +25,7 @@ told : (w : ℕ → Way) (v : Way) (q x : ℕ) (a b : Way) (first under late : B
     ≡ (first && not under || late && (first || not under))
 told w v q x a b first under late e f g h i = rw (e, f, g, h, i)
 
-test : (c : lts.After-before4 (
-  first-step-reads.Asked,
-  first-step-reads.Learnt,
-  step-at-reads.Asked,
-  step-at-reads.Learnt,
-  before-reads.Asked,
-  before-reads.Learnt,
-) reads.Pre reads.Post)
+test : (c : tie.After-before4)
     → (let a = c .before .before .before .before .before .before .args in
     let w = wayWith (a .edges .now) (a .e) (a .c .now) in
     let v = startWay (course true (curveOf (a .c .now))) in

@@ -16,21 +16,9 @@ use Rattle.reason_corners.proofs.Ends.{corner-below, end-below}
 use Rattle.reason_corners.proofs.Drawn.{fresh-number, joined}
 use Rattle.reason_corners.proofs.splits_face.Statement.{statement}
 use Rattle.reason_corners.proofs.splits_face.Tie as tie
-use Rattle.reason_corners.proofs.splits_face.Reads as reads
-use Rattle.reason_corners.proofs.splits_face.Lts as lts
-use Rattle.reason_corners.proofs.corner.Reads as corner-reads
-use Rattle.reason_corners.proofs.end_corner.Reads as end-corner-reads
-use Rattle.reason_corners.proofs.rings_differ.Reads as rings-differ-reads
 
 -- the corners of the two nodes
-corners : (c : lts.After-end-corner (
-  corner-reads.Asked,
-  corner-reads.Learnt,
-  end-corner-reads.Asked,
-  end-corner-reads.Learnt,
-  rings-differ-reads.Asked,
-  rings-differ-reads.Learnt,
-) reads.Pre reads.Post)
+corners : (c : tie.After-end-corner)
     → (let a = c .before .before .before .before .args in
     let from = pos (nodeAt (a .nodes .now) (a .u) .number) in
     let to = pos (nodeAt (a .nodes .now) (a .v) .number) in

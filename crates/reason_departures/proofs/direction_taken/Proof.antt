@@ -19,18 +19,9 @@ use Rattle.reason_departures.proofs.Taken.{taken-is}
 use borrow.Author.Needs.{needs}
 use Rattle.reason_departures.proofs.direction_taken.Statement.{statement}
 use Rattle.reason_departures.proofs.direction_taken.Tie as tie
-use Rattle.reason_departures.proofs.direction_taken.Reads as reads
-use Rattle.reason_departures.proofs.direction_taken.Lts as lts
-use Rattle.links.proofs.way_taken.Reads as way-taken-reads
-use Rattle.darts.proofs.first_step.Reads as first-step-reads
 
 -- the first test, in the map's terms
-start : (c : lts.After-way-taken (
-  first-step-reads.Asked,
-  first-step-reads.Learnt,
-  way-taken-reads.Asked,
-  way-taken-reads.Learnt,
-) reads.Pre reads.Post) → (e a : ℕ) → Own (c .before .before .args .edges .now) (c .before .before .args .count)
+start : (c : tie.After-way-taken) → (e a : ℕ) → Own (c .before .before .args .edges .now) (c .before .before .args .count)
     (c .before .before .args .own) e → c .before .before .args .u ≡ pos a
     → c .way-taken .result ≡ wayTaken (edgeMap (c .before .before .args .edges .now)
     (c .before .before .args .count)) e a (startWay (curveOf (c .before .before .args .c .now)))

@@ -16,18 +16,9 @@ use Rattle.reason_departures.proofs.Ends.{same-row, start-cell, end-cel
 use borrow.Author.Needs.{needs}
 use Rattle.reason_departures.proofs.joint_reason.Statement.{statement}
 use Rattle.reason_departures.proofs.joint_reason.Tie as tie
-use Rattle.reason_departures.proofs.joint_reason.Reads as reads
-use Rattle.reason_departures.proofs.joint_reason.Lts as lts
-use Rattle.reason_departures.proofs.ends_at.Reads as ends-at-reads
-use Rattle.reason_departures.proofs.joins_at.Reads as joins-at-reads
 
 -- the first test: one edge, or no node shared
-apart : (c : lts.After-ends-at2 (
-  ends-at-reads.Asked,
-  ends-at-reads.Learnt,
-  joins-at-reads.Asked,
-  joins-at-reads.Learnt,
-) reads.Pre reads.Post) → (let s = c .before .before .before .before in let m =
+apart : (c : tie.After-ends-at2) → (let s = c .before .before .before .before in let m =
     edgeMap (s .args .edges .now) (s .args .count) in let a = edgeAt (s .args .edges .now) (s .args .i) .number in
     let b = edgeAt (s .args .edges .now) (s .args .j) .number in
     same (s .args .i) (s .args .j) || not (c .before .ends-at .result || c .ends-at2 .result) ≡ same a b
@@ -49,12 +40,7 @@ apart c =
     (c .ends-at2 .ensures ∙ ap (endsAt l (x .j)) v ∙ ends-is t (x .j) (s .pre .2) (edge m a .end)))
 
 -- the second: a node to join at
-joined : (c : lts.After-joins-at2 (
-  ends-at-reads.Asked,
-  ends-at-reads.Learnt,
-  joins-at-reads.Asked,
-  joins-at-reads.Learnt,
-) reads.Pre reads.Post) → (let s = c .before .before .before .before .before .before .before in let m =
+joined : (c : tie.After-joins-at2) → (let s = c .before .before .before .before .before .before .before in let m =
     edgeMap (s .args .edges .now) (s .args .count) in let a = edgeAt (s .args .edges .now) (s .args .i) .number in
     let b = edgeAt (s .args .edges .now) (s .args .j) .number in
     c .before .joins-at .result || c .joins-at2 .result ≡ joinsAt m b (edge m a .end) || joinsAt m b (edge m a .start))

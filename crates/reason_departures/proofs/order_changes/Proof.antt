@@ -18,16 +18,13 @@ use Rattle.reason_departures.proofs.Turns.{order-is}
 use borrow.Author.Needs.{needs}
 use Rattle.reason_departures.proofs.order_changes.Statement.{statement}
 use Rattle.reason_departures.proofs.order_changes.Tie as tie
-use Rattle.reason_departures.proofs.order_changes.Reads as reads
-use Rattle.reason_departures.proofs.order_changes.Lts as lts
-use Rattle.reason_departures.proofs.turn_changes.Reads as turn-changes-reads
 
 -- the tests at the two ends, in the order's terms
 atNode : List ℤ → ℕ → ℕ → List ℤ → ℤ → Bool
 atNode l n own c node = anyOf (λ p. leavesNode l node p && not (same (turnsAt l n n c p) (turnsAt l n own c p)))
     (positions n)
 
-start : (c : lts.After-turn-changes (turn-changes-reads.Asked, turn-changes-reads.Learnt) reads.Pre reads.Post)
+start : (c : tie.After-turn-changes)
     → (let a = c .before .before .args in c .turn-changes .result
     ≡ atNode (a .edges .now) (a .count) (a .own) (a .c .now)
     (pos (edge (edgeMap (a .edges .now) (a .count)) (edgeAt (a .edges .now) (a .own) .number) .start)))

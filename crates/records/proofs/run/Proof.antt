@@ -1,5 +1,5 @@
 -- `records::run` meets its contract: a walk of its MIR, by hand. The head's borrow is opened and the head copied out;
--- the other loans go on to `engine::run` for good, and the head goes by value. The head that comes back is written
+-- the other loans go on to `ticket_lists::run` for good, and the head goes by value. The head that comes back is written
 -- whole, and the borrow is closed at it. All that the proof knows of the callee is that it meets its contract. Assumes
 -- nothing.
 use mathlib.Core.Path.{_≡_, refl, ap}
@@ -52,13 +52,13 @@ use Rattle.form_ranges.specs.Ranges.{lent}
 use Rattle.outcomes.specs.declared.Done.{Done}
 use Rattle.outcomes.proofs.Done as D
 use Rattle.outcomes.proofs.Done.Laws as D′
-use Rattle.engine.specs.Runs.{Runs}
+use Rattle.ticket_lists.specs.Runs.{Runs}
 use Rattle.records.proofs.Heads.{vals, is-head, is-answer, opens-head, closes-head, said-last, frees-local}
 use Rattle.records.proofs.Heads.{relends}
-use Rattle.engine.proofs.run as g
-use Rattle.engine.proofs.run.Symbol as g-def
-use Rattle.engine.proofs.run.Symbol.{name as #g}
-use Rattle.engine.proofs.run.Met as g-thm
+use Rattle.ticket_lists.proofs.run as g
+use Rattle.ticket_lists.proofs.run.Symbol as g-def
+use Rattle.ticket_lists.proofs.run.Symbol.{name as #g}
+use Rattle.ticket_lists.proofs.run.Met as g-thm
 use Rattle.records.proofs.run.Key.{name as #f}
 use Rattle.records.proofs.run as f
 use Rattle.records.proofs.run.Statement as stated
@@ -391,5 +391,5 @@ run-spec 𝓤 H 𝓜 𝓖 𝓡 =
     entered 𝓤 H (tripleOf 𝓤 H (𝓖 .A) f.signature (f.spec 𝓤 H (𝓖 .A) (𝓜 .mem) (𝓡 .run)))
     (tables 𝓤 H 𝓜 𝓡 code.env .C) (tables 𝓤 H 𝓜 𝓡 code.env .Λ) #f code.function (code.unfolded 𝓤 H 𝓜 𝓡)
     (meets 𝓤 H (𝓖 .A) (givenOf 𝓤 H 𝓜 𝓖) (𝓜 .mem) (𝓡 .run) (tablesOf 𝓤 H 𝓜 (tables 𝓤 H 𝓜 𝓡 code.env))
-    (cited 𝓤 H (G 𝓤 H (𝓖 .A) (𝓜 .mem) (𝓡 .run)) 𝓜 𝓡 code.env #g g-def.routine code.calls-engine·run
+    (cited 𝓤 H (G 𝓤 H (𝓖 .A) (𝓜 .mem) (𝓡 .run)) 𝓜 𝓡 code.env #g g-def.routine code.calls-ticket-lists·run
     (g-thm.met 𝓤 H 𝓜 𝓖 𝓡)))

@@ -18,17 +18,8 @@ use Rattle.darts.proofs.Steps.{negative-is}
 use Rattle.rings.proofs.Reversed.{within-neg, curveMost, run-within, area-reversed}
 use Rattle.rings.proofs.dart_area.Statement.{statement}
 use Rattle.rings.proofs.dart_area.Tie as tie
-use Rattle.rings.proofs.dart_area.Reads as reads
-use Rattle.rings.proofs.dart_area.Lts as lts
-use Rattle.curves.proofs.area_of.Reads as area-of-reads
-use Rattle.map_rows.proofs.curve_of.Reads as curve-of-reads
 
-module _ (c : lts.After-area-of (
-  curve-of-reads.Asked,
-  curve-of-reads.Learnt,
-  area-of-reads.Asked,
-  area-of-reads.Learnt,
-) reads.Pre reads.Post) where
+module _ (c : tie.After-area-of) where
   -- the edge's area as it is read
   read : toZ w64 (ofZ w64 (c .area-of .result))
       ≡ curveArea (edgeAt (c .before .before .args .edges .now) (c .before .before .args .p / 2) .curve)

@@ -12,11 +12,6 @@ use Rattle.rings.proofs.Walks.{steps, ringAt}
 use Rattle.rings.proofs.Sums.{oddLeft, odd-start, odd-on, odd-last, odd-end}
 use Rattle.rings.proofs.encloses.Statement.{statement}
 use Rattle.rings.proofs.encloses.Tie as tie
-use Rattle.rings.proofs.encloses.Reads as reads
-use Rattle.rings.proofs.encloses.Lts as lts
-use Rattle.curves.proofs.odd_below.Reads as odd-below-reads
-use Rattle.darts.proofs.next_position.Reads as next-position-reads
-use Rattle.map_rows.proofs.curve_of.Reads as curve-of-reads
 
 abbrev Inv-loop : tie.InvT-loop
 Inv-loop edges count p q c₀ odd₀ k₀ k-end c odd k =
@@ -37,14 +32,7 @@ curve-of-requires c κs = edge-row-of (c .before .before .pre .0) (c .before .lo
     (omega (arith, c .before .loop .inv .0))
 
 -- what the curve of the row answered
-told : (c : lts.After-odd-below (
-  curve-of-reads.Asked,
-  curve-of-reads.Learnt,
-  odd-below-reads.Asked,
-  odd-below-reads.Learnt,
-  next-position-reads.Asked,
-  next-position-reads.Learnt,
-) reads.Pre reads.Post Inv-loop μ-loop) → c .odd-below .result
+told : (c : tie.After-odd-below Inv-loop μ-loop) → c .odd-below .result
     ≡ oddBelow (edgeAt (c .before .before .before .before .args .edges .now)
     (c .before .before .before .loop .c / 2) .curve) (c .before .before .before .before .args .q)
 told c = c .odd-below .ensures ∙ ap (λ (k : Curve). oddBelow k (c .before .before .before .before .args .q))

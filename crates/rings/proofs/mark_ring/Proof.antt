@@ -14,9 +14,6 @@ use Rattle.rings.proofs.Walks.{steps, ringAt, ring-steps, Follows, step
 use Rattle.rings.proofs.Walks.{mark-last}
 use Rattle.rings.proofs.mark_ring.Statement.{statement}
 use Rattle.rings.proofs.mark_ring.Tie as tie
-use Rattle.rings.proofs.mark_ring.Reads as reads
-use Rattle.rings.proofs.mark_ring.Lts as lts
-use Rattle.darts.proofs.next_position.Reads as next-position-reads
 
 abbrev Inv-loop : tie.InvT-loop
 Inv-loop edges count p v marks₀ c₀ k₀ k-end marks c k =
@@ -45,10 +42,7 @@ loop-holds c =
       (λ q h. ap (λ (r : List Dart). cond (among r (dartAt (a .edges .now) q)) (a .v) (getD (a .marks .now) q 0)) e),
     )
 
-follows : (c : lts.After-next-position (
-  next-position-reads.Asked,
-  next-position-reads.Learnt,
-) reads.Pre reads.Post Inv-loop μ-loop)
+follows : (c : tie.After-next-position Inv-loop μ-loop)
     → Follows (c .before .before .before .before .args .edges .now) (c .before .before .before .before .args .count)
     (c .before .before .loop .c) (c .next-position .result)
 follows c = record { below = c .next-position .ensures .0; is = c .next-position .ensures .1 }

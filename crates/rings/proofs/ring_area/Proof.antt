@@ -16,10 +16,6 @@ use Rattle.rings.proofs.Sums.{areaLeft, areaAt, area-within, sum-within
 use Rattle.rings.proofs.Sums.{area-last, area-end}
 use Rattle.rings.proofs.ring_area.Statement.{statement}
 use Rattle.rings.proofs.ring_area.Tie as tie
-use Rattle.rings.proofs.ring_area.Reads as reads
-use Rattle.rings.proofs.ring_area.Lts as lts
-use Rattle.darts.proofs.next_position.Reads as next-position-reads
-use Rattle.rings.proofs.dart_area.Reads as dart-area-reads
 
 abbrev Inv-loop : tie.InvT-loop
 Inv-loop edges count p c₀ sum₀ k₀ k-end c sum k =
@@ -39,12 +35,7 @@ loop-holds c =
     (c .pre .2, omega arith, within-sub 0 0 0 (omega arith) (omega arith), area-start (a .edges .now) (a .count) (a .p))
 
 -- what is added, and the sum
-module _ (c : lts.After-dart-area (
-  dart-area-reads.Asked,
-  dart-area-reads.Learnt,
-  next-position-reads.Asked,
-  next-position-reads.Learnt,
-) reads.Pre reads.Post Inv-loop μ-loop) where
+module _ (c : tie.After-dart-area Inv-loop μ-loop) where
   row : EdgeRow (c .before .before .before .args .edges .now) (c .before .before .loop .c / 2)
   row = edge-row-of (c .before .before .before .pre .0) (c .before .before .loop .c / 2)
       (omega (arith, c .before .before .loop .inv .0))

@@ -1,4 +1,4 @@
--- `engine::run` meets its contract: 1 and 20 first, then every ticket from the empty map on. Assumes nothing.
+-- `ticket_lists::run` meets its contract: 1 and 20 first, then every ticket from the empty map on. Assumes nothing.
 use borrow.Author.Needs.{needs}
 use borrow.Author.Tests.{not-true, not-false, ltb-false}
 use mathlib.Core.Path.{_≡_, refl, sym, ap, _∙_}
@@ -10,10 +10,10 @@ use Rattle.map.specs.Rows.{whole}
 use Rattle.map.specs.Ticket.{Outcome, emptied}
 use Rattle.map.specs.Grow.{after}
 use Rattle.form_ranges.specs.Ranges.{lent}
-use Rattle.engine.specs.Runs.{ticketsOf}
-use Rattle.engine.proofs.Answers.{runs-1, runs-20, runs-0}
-use Rattle.engine.proofs.run.Statement.{statement}
-use Rattle.engine.proofs.run.Tie as tie
+use Rattle.ticket_lists.specs.Runs.{ticketsOf}
+use Rattle.ticket_lists.proofs.Answers.{runs-1, runs-20, runs-0}
+use Rattle.ticket_lists.proofs.run.Statement.{statement}
+use Rattle.ticket_lists.proofs.run.Tie as tie
 
 whole-in : (c : tie.Else1) → whole (lent (c .before .before .before .before .before .before .before .args .nodes .now)
     (c .before .before .before .before .before .before .before .args .edges .now)

@@ -12,7 +12,7 @@ use Rattle.map.specs.declared.Answer.{Answer}
 use Rattle.map.specs.Rows.{Lent}
 use Rattle.map.specs.Ticket.{Outcome, ticket}
 use Rattle.map.specs.Grow.{Grown, answered, after}
-use Rattle.engine.specs.Runs.{ticketsOf, front}
+use Rattle.ticket_lists.specs.Runs.{ticketsOf, front}
 
 -- ---- one column of answers: the first i are those of all, the others are as they were
 

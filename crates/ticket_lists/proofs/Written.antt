@@ -5,7 +5,7 @@ use mathlib.Core.List.{List, [], _∷_, map, flatten}
 use lib.IntN.{ℤ}
 use lib.ListN.{length}
 use lib.Seq.{take-append-seam, drop-append-seam}
-use Rattle.engine.specs.Runs.{ticketsOf}
+use Rattle.ticket_lists.specs.Runs.{ticketsOf}
 
 pub every-list : (ts : List (List ℤ)) → ticketsOf (flatten ts) (map length ts) ≡ ts
 unfolding flatten

@@ -1,4 +1,4 @@
--- `engine::run_tickets` meets its contract. The loop's invariant: what the tickets left give, with what is written so
+-- `ticket_lists::run_tickets` meets its contract. The loop's invariant: what the tickets left give, with what is written so
 -- far, is what all give. Assumes nothing.
 use borrow.Author.Needs.{needs, sfits-of}
 use mathlib.Core.Path.{_≡_, refl, ap, _∙_}
@@ -12,10 +12,10 @@ use Rattle.map.specs.Ticket.{ticket}
 use Rattle.map.specs.Grow.{after}
 use Rattle.form_ranges.specs.Ranges.{lent}
 use Rattle.outcomes.specs.Outcomes.{outcome}
-use Rattle.engine.specs.Runs.{ticketsOf}
-use Rattle.engine.proofs.Turns.{Left, left-all, left-next, left-none}
-use Rattle.engine.proofs.run_tickets.Statement.{statement}
-use Rattle.engine.proofs.run_tickets.Tie as tie
+use Rattle.ticket_lists.specs.Runs.{ticketsOf}
+use Rattle.ticket_lists.proofs.Turns.{Left, left-all, left-next, left-none}
+use Rattle.ticket_lists.proofs.run_tickets.Statement.{statement}
+use Rattle.ticket_lists.proofs.run_tickets.Tie as tie
 
 abbrev Inv-loop : tie.InvT-loop
 Inv-loop nodes₀ edges₀ faces₀ numbers lengths refusals₀ values₀ head₀ at₀ i₀ i-end nodes edges faces refusals values

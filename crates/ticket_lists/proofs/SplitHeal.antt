@@ -1,4 +1,4 @@
--- Lists of tickets that end with a split and its heal, handed to `engine::run` (specs/Claims.antt). Assumes nothing.
+-- Lists of tickets that end with a split and its heal, handed to `ticket_lists::run` (specs/Claims.antt). Assumes nothing.
 use mathlib.Core.Path.{_≡_, refl, sym, ap, ap₂, _∙_}
 use mathlib.Core.Bool.{Bool, not, _||_}
 use mathlib.Core.List.{List, [], _∷_, _++_, map, map-append, append-assoc}
@@ -19,8 +19,8 @@ use Rattle.map.proofs.Facts.{followed, after-append}
 use Rattle.map.proofs.Reasons.{first-zero}
 use Rattle.grown.proofs.Grows.{whole-limited}
 use Rattle.grown.proofs.SplitHeal.{split-cancelled, split-renewed}
-use Rattle.engine.specs.Runs.{ticketsOf, Ran, front, ranUnless, ran}
-use Rattle.engine.specs.Claims.{Called, refusalAt, outcomeAt, RunCancels, RunRenews}
+use Rattle.ticket_lists.specs.Runs.{ticketsOf, Ran, front, ranUnless, ran}
+use Rattle.ticket_lists.specs.Claims.{Called, refusalAt, outcomeAt, RunCancels, RunRenews}
 
 -- ---- two tickets more
 

@@ -1,4 +1,4 @@
--- What a caller of `engine::run` may count on beside its contract: document 02 (vi), a split that is healed at once.
+-- What a caller of `ticket_lists::run` may count on beside its contract: document 02 (vi), a split that is healed at once.
 -- Proved in proofs/SplitHeal.antt (`run-cancels`, `run-renews`).
 use mathlib.Core.Path.{_≡_}
 use mathlib.Core.List.{List, [], _∷_, _++_}
@@ -10,7 +10,7 @@ use Rattle.map.specs.Rows.{Lent, mapOf, sizesOf}
 use Rattle.map.specs.Ticket.{Outcome}
 use Rattle.map.specs.Grow.{grow}
 use Rattle.grown.specs.Claims.{restored, renewed}
-use Rattle.engine.specs.Runs.{ticketsOf, Ran, Runs}
+use Rattle.ticket_lists.specs.Runs.{ticketsOf, Ran, Runs}
 
 -- a call of `run` on the tables l with the list ts was carried out, and left and answered r
 pub record Called (l : Lent) (ts : List (List ℤ)) (r : Ran) : Type 0 where

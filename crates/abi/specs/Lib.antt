@@ -1,2 +1,0 @@
--- `Heads`: the head as six numbers.
-pub mod Heads
