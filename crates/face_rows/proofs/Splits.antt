@@ -30,7 +30,7 @@ use Rattle.darts.specs.Positions.{dartAt}
 use Rattle.darts.proofs.Positions.{dart-even, dart-odd, edge-of}
 use Rattle.form_ranges.specs.Ranges.{lent}
 use Rattle.face_relabel.specs.declared.Sides.{Sides}
-use Rattle.face_relabel.specs.Sharing.{Shared}
+use Rattle.face_relabel.specs.Sharing.{ShareableFace}
 use Rattle.face_rows.specs.Holds.{facesIn, FaceTable, withoutFace, Splittable, Holds, sharesIn, sidesOf}
 use Rattle.face_rows.specs.Holds.{splitFaces}
 use Rattle.face_rows.proofs.FaceRows.{table-distinct, without-length}
@@ -176,7 +176,7 @@ module _ {nodes edges faces : List ℤ} {h : Head} {old : ℤ} (p : Splittable n
 
   -- what is asked when the face is shared out
   pub sides-shared : (isLeft goes : Bool)
-      → Shared nodes (natAbs (h .nodes)) edges (natAbs (h .edges)) (sidesOf isLeft goes (last * 2) old (h .«next_face»))
+      → ShareableFace nodes (natAbs (h .nodes)) edges (natAbs (h .edges)) (sidesOf isLeft goes (last * 2) old (h .«next_face»))
   sides-shared isLeft goes =
       let k = p .held in
       let o = is-natural old (p .borne ∙ ap (λ (z : ℤ). pos (natAbs z)) (sym (p .borne))) in

@@ -25,7 +25,7 @@ ghost use Rattle.map_rows.specs.Rows.{NodeRows, EdgeRows, nodesOf, edgesOf, edg
 ghost use Rattle.head.specs.Heads.{Counted, changedHead};
 ghost use Rattle.darts.specs.Positions.{dartAt};
 ghost use Rattle.form_ranges.specs.Ranges.{lent};
-ghost use Rattle.face_relabel.specs.Sharing.{Shared, Ringed};
+ghost use Rattle.face_relabel.specs.Sharing.{ShareableFace, Ringed};
 ghost use Rattle.face_rows.specs.Holds.{facesIn, FaceTable, withoutFace, Splittable, Healable, Holds, sharesIn};
 ghost use Rattle.face_rows.specs.Holds.{sidesOf, splitFaces, faceKept, healed};
 
@@ -151,7 +151,7 @@ fn sides_of(edges: &[i64], count: usize, old: i64, a: i64, goes: bool) -> Sides
 
 // All rows that named the old face.
 fn share_rows(nodes: &mut [i64], n: usize, edges: &mut [i64], count: usize, s: Sides)
-    requires { ⌜ Shared (now nodes) n (now edges) count s × Ringed (now edges) count
+    requires { ⌜ ShareableFace (now nodes) n (now edges) count s × Ringed (now edges) count
         × (filled (length (now nodes)) (flatMap nodeCells (nodesOf (now nodes) n)) ≡ now nodes)
         × (filled (length (now edges)) (flatMap edgeCells (edgesOf (now edges) count)) ≡ now edges) ⌝ }
     ensures { λ r. ⌜ ((m : Map) → m .nodes ≡ nodesOf (now (nodes .entry)) n → m .edges

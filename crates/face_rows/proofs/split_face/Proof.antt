@@ -21,7 +21,7 @@ use Rattle.map_rows.specs.Rows.{nodesOf, edgesOf, facesOf, edgeMap}
 use Rattle.map_rows.proofs.Rows.{faces-length}
 use Rattle.darts.specs.Positions.{dartAt}
 use Rattle.form_ranges.specs.Ranges.{lent}
-use Rattle.face_relabel.specs.Sharing.{Shared}
+use Rattle.face_relabel.specs.Sharing.{ShareableFace}
 use Rattle.head.proofs.Words.{is-natural, count-natural, count-abs, count-back, small-fits}
 use Rattle.outcomes.proofs.Words.{number-test}
 use Rattle.face_rows.proofs.Heals.{map-nodes, map-edges}
@@ -67,7 +67,7 @@ share-rows-requires c κs =
     let goes = a .news && not (eqb (ofZ w64 (a .old)) (ofZ w64 (pos 0))) in
     let es = edgeMap (a .edges .now) (natAbs (a .h .edges)) in
     let isLeft = isPositive (sgn (ringArea es (ring es (dartAt (a .edges .now) ((natAbs (a .h .edges) - 1) * 2))))) in
-    let shared = subst (Shared (a .nodes .now) (natAbs (a .h .nodes)) (a .edges .now) (natAbs (a .h .edges)))
+    let shared = subst (ShareableFace (a .nodes .now) (natAbs (a .h .nodes)) (a .edges .now) (natAbs (a .h .edges)))
     (sym sides) (sides-shared p isLeft goes) in
     rw (e, n) (shared, p .rings, k .node-cells, k .edge-cells)
 
