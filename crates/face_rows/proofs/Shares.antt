@@ -377,7 +377,8 @@ module _ (nodes : List ℤ) (n : ℕ) (edges : List ℤ) (e : ℕ) (s : Sides) (
     (nodes′ edges′ : List ℤ) (is : nodes′ ≡ sweep (nodeShared nodes n edges e s) nodes 0 n)
     (eq : edges′ ≡ sweep (edgeShared nodes′ n edges e s (reverseOf (s .ring))) edges 0 (e * 2))
     (m : Map) (en : m .nodes ≡ nodesOf nodes n) (ee : m .edges ≡ edgesOf edges e) where
-  whole-is : mapWith (nodesOf nodes n) (edgesOf edges e) (m .faces) (m .next .nodes) (m .next .edges) (m .next .faces) ≡ m
+  whole-is : mapWith (nodesOf nodes n) (edgesOf edges e) (m .faces) (m .next .nodes) (m .next .edges) (m .next .faces)
+      ≡ m
   whole-is = λ i. mapWith (sym en i) (sym ee i) (m .faces) (m .next .nodes) (m .next .edges) (m .next .faces)
 
   pub shared-nodes : filled (length nodes)

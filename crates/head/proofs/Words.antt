@@ -83,6 +83,13 @@ module _ {n : ℕ} {z : ℤ} (few : n ≤ 1000000) (u : UpTo n z) where
   reads e = e ∙ count-abs z (u .natural) (omega (arith, u .most))
 
 module _ {h : Head} (c : Counted h) where
+  pub counts-natural : (nonNeg (h .nodes) ≡ true) × (nonNeg (h .edges) ≡ true) × (nonNeg (h .faces) ≡ true)
+  counts-natural = (
+    is-natural (h .nodes) (c .nodes .natural),
+    is-natural (h .edges) (c .edges .natural),
+    is-natural (h .faces) (c .faces .natural),
+  )
+
   pub nodes-natural : nonNeg (toZ w64 (ofZ w64 (h .nodes))) ≡ true
   nodes-natural = is-count (lit≤ tt) (c .nodes)
 
