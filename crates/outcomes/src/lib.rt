@@ -1,8 +1,10 @@
 // What an edit answers: the head after it, refusal and value.
 use map::Answer;
 use map::Head;
+use map::Variant;
 ghost use mathlib.Core.Path.{_≡_};
 ghost use lib.IntN.{pos};
+ghost use Rattle.map.specs.Edits.{isNew};
 
 // The head after a call and its answer.
 pub struct Done {
@@ -27,4 +29,16 @@ pub fn carried(h: Head, value: i64) -> Done
 {
     let answer = Answer { refusal: 0, value };
     Done { head: h, answer }
+}
+
+// ---- New and Mod
+
+// Whether what an edit changes takes new numbers.
+pub fn is_new(how: Variant) -> bool
+    ensures { λ r. ⌜ r ≡ isNew how ⌝ }
+{
+    match how {
+        Variant::New => true,
+        Variant::Mod => false,
+    }
 }
