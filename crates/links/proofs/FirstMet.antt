@@ -2,7 +2,7 @@
 -- Assumes nothing.
 use mathlib.Core.Path.{_≡_, refl, sym, ap, _∙_}
 use mathlib.Core.Logic.{inl, inr, ⊎-elim}
-use mathlib.Core.Bool.{Bool, true, false, cond, _&&_}
+use mathlib.Core.Bool.{_&&_}
 use mathlib.Core.List.{List, [], _∷_, map-id, List·Memᴰ, List·Memᴰ·head, List·Memᴰ·tail, List·Memᴰ·cases-cons}
 use mathlib.Core.List.{List·Memᴰ·not-nil}
 use Prim.Native.Nat.{ℕ, zero, suc, _+_, _*_, _/_, _<_, _≤_}
@@ -52,22 +52,6 @@ module _ (way : ℕ → Way) (v : Way) where
   pub met-none : (ds : List ℕ) → firstMet way v ds ≡ Missing → ds ≡ []
   met-none [] e = refl
   met-none (d ∷ ds) e = let z : _≡_ {A = ℕ} 0 1 = cc in absurd (omega arith)
-
--- ---- what is kept
-
-module _ {D : Type 0} where
-  pub keep-same : (f g : D → Bool) (ds : List D) → ((d : D) → List·Memᴰ d ds → f d ≡ g d) → keep f ds ≡ keep g ds
-  keep-same f g ds h = ap (keep f) (sym (map-id ds)) ∙ keep-map (λ d. d) g f ds h ∙ map-id (keep g ds)
-
-  -- kept by one test and then by another
-  pub keep-both : (f g : D → Bool) (ds : List D) → keep g (keep f ds) ≡ keep (λ d. f d && g d) ds
-  keep-both f g [] = refl
-  keep-both f g (d ∷ ds) = go (f d) refl (keep-both f g ds)
-    where
-      go : (b : Bool) → f d ≡ b → keep g (keep f ds) ≡ keep (λ d. f d && g d) ds
-          → keep g (cond b (d ∷ keep f ds) (keep f ds)) ≡ keep (λ d. f d && g d) (d ∷ ds)
-      go true e ih = rw (e, ih)
-      go false e ih = rw (e, ih)
 
 -- ---- positions
 

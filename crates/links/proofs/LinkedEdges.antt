@@ -11,7 +11,7 @@ use Rattle.lists.specs.Scans.{keep}
 use Rattle.lists.specs.declared.Found.{Found}
 use Rattle.lists.specs.declared.Found.the-variants.{At, Missing}
 use Rattle.lists.proofs.Bools.{equal?, same-eq, same-false, not-true, eq2}
-use Rattle.lists.proofs.Keeps.{keep-in, keep-map}
+use Rattle.lists.proofs.Keeps.{keep-in, keep-map, keep-cong, keep-both}
 use Rattle.lists.proofs.Members.{map-cong}
 use Rattle.plane.specs.Directions.{Way}
 use Rattle.planar_maps.specs.Map.{Dart, fwd, bwd, rev}
@@ -30,7 +30,7 @@ use Rattle.darts.proofs.Positions.{cell-leaves, cell-next, next-there, way-is}
 use Rattle.links.specs.Linking.{positions, leavesNode, leaving, firstMet, redirected, linkedAt, linkedWhere}
 use Rattle.links.specs.Linking.{linkedIn, linkedEdge, unlinkedEdge}
 use Rattle.links.proofs.Kept.{Relinked, relinked-then, redirected-relinked}
-use Rattle.links.proofs.FirstMet.{first-none, keep-same, keep-both, position-below, leaving-below}
+use Rattle.links.proofs.FirstMet.{first-none, position-below, leaving-below}
 use Rattle.links.proofs.Darts.{dart-least, link-named, written-named}
 use Rattle.links.proofs.LinksKept.{redirected-kept, met-below, linked-in-kept, linked-in-relinked}
 use Rattle.links.proofs.Departures.{departures-map, met-found, met-nothing}
@@ -144,7 +144,7 @@ module _ {l l′ : List ℤ} {n : ℕ} (t : EdgeRows l n) (r : Relinked l l′ n
       ≡ map (dartAt l) (leaving l n (sideCell l p 1) a b)
   leaving-kept p a b h =
       ap (λ (z : ℤ). map (dartAt l′) (leaving l′ n z a b)) (node-kept p h)
-      ∙ ap (map (dartAt l′)) (keep-same _ _ (positions n)
+      ∙ ap (map (dartAt l′)) (keep-cong _ _ (positions n)
       (λ q m. ap (λ (z : ℤ). sameZ z (sideCell l p 1) && not (same q a) && not (same q b))
       (node-kept q (position-below n q m))))
       ∙ map-cong (dartAt l′) (dartAt l) (leaving l n (sideCell l p 1) a b)
@@ -178,14 +178,14 @@ module _ {l : List ℤ} {n : ℕ} (t : EdgeRows l n) (some : 0 < n) where
       let r = linked-in-relinked t p b₀ (p + 1) in
       let start : map (dartAt l) (leaving l n (sideCell l p 1) p (p + 1))
       ≡ keep (λ d. not (same (d .edge) e)) (departures m (leaves m (fwd e))) =
-      ap (map (dartAt l)) (keep-same _ _ (positions n)
+      ap (map (dartAt l)) (keep-cong _ _ (positions n)
       (λ q k. and-assoc (leavesNode l (sideCell l p 1) q) (not (same q p)) (not (same q (p + 1)))))
       ∙ sym (there-map t p b₀ (λ d. not (same (d .edge) e)) (λ q. not (same q p) && not (same q (p + 1)))
       (λ q k. other-edge t i q (omega arith) k))
       ∙ ap (λ (d : Dart). keep (λ d. not (same (d .edge) e)) (departures m (leaves m d))) (dart-even l i) in
       let end : map (dartAt l) (leaving l n (sideCell l (p + 1) 1) (p + 1) (p + 1))
       ≡ keep (λ d. not (sameDart d (bwd e))) (departures m (leaves m (bwd e))) =
-      ap (map (dartAt l)) (keep-same _ _ (positions n)
+      ap (map (dartAt l)) (keep-cong _ _ (positions n)
       (λ q k. eq2 (λ x y. x && y && y) (λ x y. x && y) tt (leavesNode l (sideCell l (p + 1) 1) q)
       (not (same q (p + 1)))))
       ∙ sym (there-map t (p + 1) b₁ (λ d. not (sameDart d (dartAt l (p + 1)))) (λ q. not (same q (p + 1)))

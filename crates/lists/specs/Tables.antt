@@ -19,9 +19,3 @@ sweep g s a (suc n) = sweep g (g s a) (a + 1) n
 abbrev pub place : {A : Type 0} → (A → Bool) → ℕ → List A → Found
 place p k [] = Missing
 place p k (r ∷ rs) = let rest = place p (k + 1) rs in cond (p r) (At k) rest
-
--- g of element i, or d where there is none
-abbrev pub nth : {A B : Type 0} → List A → ℕ → (A → B) → B → B
-nth [] i g d = d
-nth (r ∷ rs) zero g d = g r
-nth (r ∷ rs) (suc i) g d = nth rs i g d

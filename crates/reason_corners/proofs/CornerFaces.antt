@@ -12,7 +12,7 @@ use Rattle.lists.specs.Scans.{allOf, isSome, keep}
 use Rattle.lists.specs.Tables.{place}
 use Rattle.lists.specs.declared.Found.the-variants.{At}
 use Rattle.lists.proofs.Bools.{same-eq, same-false, beq-true, eq1}
-use Rattle.lists.proofs.Keeps.{keep-in}
+use Rattle.lists.proofs.Keeps.{keep-in, keep-cong}
 use Rattle.plane.specs.Directions.{Way}
 use Rattle.curves.specs.Curves.{Run, curveOf, startWay, endWay}
 use Rattle.curves.specs.Edits.{course}
@@ -36,7 +36,7 @@ use Rattle.tables.proofs.Order.{same-pos}
 use Rattle.darts.specs.Positions.{dartAt, wayAt, wayWith}
 use Rattle.darts.proofs.Positions.{half-below, cell-bears}
 use Rattle.links.specs.Linking.{positions, leavesNode, leaving, firstMet}
-use Rattle.links.proofs.FirstMet.{met-same, met-in, leaving-below, position-below, keep-same, with-none}
+use Rattle.links.proofs.FirstMet.{met-same, met-in, leaving-below, position-below, with-none}
 use Rattle.links.proofs.Departures.{departures-map, met-found}
 use Rattle.reason_corners.specs.CornerFaces.{cornerBy, cornerCell}
 
@@ -54,7 +54,7 @@ module _ (l : List ℤ) (n : ℕ) (z : ℤ) (a b : ℕ) (v : Way) where
 -- all departures, where both exceptions are past the positions
 leaving-all : (l : List ℤ) (n : ℕ) (z : ℤ) → leaving l n z (n * 2) (n * 2) ≡ keep (leavesNode l z) (positions n)
 leaving-all l n z =
-    keep-same (λ p. leavesNode l z p && not (same p (n * 2)) && not (same p (n * 2))) (leavesNode l z) (positions n)
+    keep-cong (λ p. leavesNode l z p && not (same p (n * 2)) && not (same p (n * 2))) (leavesNode l z) (positions n)
     (λ p m.
     let h = position-below n p m in
     let e = same-false p (n * 2) (λ q. omega arith) in

@@ -10,13 +10,14 @@ use mir.Syntax.{w64}
 use mir.Facts.{toZ-ofZ}
 use Rattle.lists.specs.declared.Found.the-variants.{At, Missing}
 use Rattle.lists.proofs.Bools.{same-false, eq1}
+use Rattle.lists.proofs.Keeps.{keep-cong}
 use Rattle.plane.specs.Directions.{Way}
 use Rattle.curves.specs.Curves.{curveOf, startWay}
 use Rattle.curves.specs.Edits.{course}
 use Rattle.rotation.specs.Law.{firstClockwise}
 use Rattle.darts.specs.Positions.{wayWith}
 use Rattle.links.specs.Linking.{positions, leavesNode, leaving, firstMet}
-use Rattle.links.proofs.FirstMet.{met-at, met-none, first-none, keep-same, position-below}
+use Rattle.links.proofs.FirstMet.{met-at, met-none, first-none, position-below}
 use Rattle.reason_corners.specs.Drawing.{departing}
 use Rattle.reason_corners.proofs.corner.Statement.{statement}
 use Rattle.reason_corners.proofs.corner.Tie as tie
@@ -24,7 +25,7 @@ use Rattle.reason_corners.proofs.corner.Tie as tie
 -- the new edge's position is none of the rows'
 leaving-all : (l : List ℤ) (e : ℕ) (z : ℤ) → leaving l e z (e * 2) (e * 2) ≡ departing l e z
 leaving-all l e z =
-    keep-same _ _ (positions e) (λ q m.
+    keep-cong _ _ (positions e) (λ q m.
     let b = position-below e q m in
     let s = same-false q (e * 2) (λ x. omega arith) in
     rw s (eq1 (λ x. x && true && true) (λ x. x) tt (leavesNode l z q)))
