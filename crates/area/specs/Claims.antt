@@ -16,14 +16,14 @@ use Rattle.geometry.specs.Spots.{Spot}
 use Rattle.winding.specs.Winding.{allSegments, Closed}
 use Rattle.winding.specs.Enlarged.{windingAround}
 use Rattle.area.specs.Areas.{areaOf, OffCurves}
-use Rattle.area.specs.Samples.{windingAt, Divides, Inside}
+use Rattle.area.specs.Samples.{windingAt, RunDivides, Inside}
 use Rattle.area.specs.Above.{Above}
 
 -- D times the doubled area of closed segments is the sum of their winding numbers at the sample points
 abbrev pub ColumnFormula : Type 0
 ColumnFormula =
     (D W J : ℕ) → 0 < D → (l : List Segment) → Closed l
-    → ((s : Segment) → List·Memᴰ s l → Divides D s) → ((s : Segment) → List·Memᴰ s l → Inside D W J s)
+    → ((s : Segment) → List·Memᴰ s l → RunDivides D s) → ((s : Segment) → List·Memᴰ s l → Inside D W J s)
     → sumTo W (λ x. sumTo J (windingAt D l x)) ≡ pos D *ℤ areaOf l
 
 -- cs wind backwards, or forwards, around no rational point off the curves ds of a drawing

@@ -14,7 +14,7 @@ use Rattle.plane.specs.Segments.{overlap, meets}
 use Rattle.curves.specs.Curves.{Curve, points}
 use Rattle.curves.specs.Tests.{segWrong, segCurve, commonEnds, curveCurve, wrong, meetWrongly}
 use Rattle.bounding_boxes.specs.declared.Extent.{Extent}
-use Rattle.bounding_boxes.specs.Extents.{extentAt, widen, extentOf, apart}
+use Rattle.bounding_boxes.specs.Extents.{extentAt, widen, extentOf, boxesApart}
 
 -- ---- the points of a curve
 
@@ -80,7 +80,7 @@ module _ (a b c d : Point) where
   unfolding segWrong
   clear-wrong l h = rw h
 
-module _ (e f : Extent) (away : apart e f ≡ true) where
+module _ (e f : Extent) (away : boxesApart e f ≡ true) where
   clear : (a b c d : Point) → Within e a → Within e b → Within f c → Within f d → meets a b c d ≡ false
   clear a b c d wa wb wc wd =
       elim (or-true (ltb (e .right) (f .left) || ltb (f .right) (e .left) || ltb (e .high) (f .low))
@@ -112,7 +112,7 @@ module _ (e f : Extent) (away : apart e f ≡ true) where
       rw (segment-apart l a b c s wa wb j) (curve-apart l b r c s (more wb i) j)
 
 -- curves whose extents lie apart do not meet wrongly
-pub apart-meet : (c d : Curve) → apart (extentOf c) (extentOf d) ≡ true → meetWrongly c d ≡ false
+pub apart-meet : (c d : Curve) → boxesApart (extentOf c) (extentOf d) ≡ true → meetWrongly c d ≡ false
 unfolding wrong
 apart-meet c d h = curve-apart (extentOf c) (extentOf d) h (commonEnds (c .first) (c .rest) (d .first) (d .rest))
     (c .first) (c .rest) (d .first) (d .rest) (curve-inside c) (curve-inside d)

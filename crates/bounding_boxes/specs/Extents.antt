@@ -24,5 +24,6 @@ abbrev pub extentOf : Curve → Extent
 extentOf c = fold widen (extentAt (c .first)) (c .rest)
 
 -- no point in common
-abbrev pub apart : Extent → Extent → Bool
-apart e f = ltb (e .right) (f .left) || ltb (f .right) (e .left) || ltb (e .high) (f .low) || ltb (f .high) (e .low)
+abbrev pub boxesApart : Extent → Extent → Bool
+boxesApart e f = ltb (e .right) (f .left) || ltb (f .right) (e .left) || ltb (e .high) (f .low) || ltb (f .high)
+    (e .low)

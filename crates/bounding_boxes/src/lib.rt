@@ -2,7 +2,7 @@
 use plane::Point;
 ghost use mathlib.Core.Path.{_≡_};
 ghost use Rattle.curves.specs.Curves.{Run, curveOf};
-ghost use Rattle.bounding_boxes.specs.Extents.{widen, extentOf, apart};
+ghost use Rattle.bounding_boxes.specs.Extents.{widen, extentOf, boxesApart};
 
 pub struct Extent {
     pub left: u64,
@@ -44,7 +44,7 @@ pub fn extent_of(c: &[i64]) -> Extent
 
 // Whether the extents have no point in common.
 pub fn lie_apart(e: Extent, f: Extent) -> bool
-    ensures { λ r. ⌜ r ≡ apart e f ⌝ }
+    ensures { λ r. ⌜ r ≡ boxesApart e f ⌝ }
 {
     (e.right < f.left) | (f.right < e.left) | (e.high < f.low) | (f.high < e.low)
 }

@@ -12,11 +12,11 @@ use Rattle.lists.proofs.Bools.{same-eq, same-false}
 use Rattle.map.specs.Rows.{Lent}
 use Rattle.text.specs.declared.Parsed.{Parsed}
 use Rattle.text.specs.Parsed.{ParsedAs}
-use Rattle.console.specs.Lines.{countOf, lineAnswered, deskOf, keptBytes, served}
+use Rattle.console.specs.Lines.{parsedCount, lineAnswered, deskOf, keptBytes, served}
 
 -- the numbers stand at the front of the list
 pub parsed-numbers : (o : Option (List ℤ)) (before : List ℤ) (r : Parsed) (after : List ℤ) → ParsedAs o before r after
-    → (countOf r ≤ length after) × (take (countOf r) after ≡ Option·getD o [])
+    → (parsedCount r ≤ length after) × (take (parsedCount r) after ≡ Option·getD o [])
 parsed-numbers (some zs) before r after (e, f) =
     rw (e, f) (simp length-append (omega arith), take-append-seam zs (drop (length zs) before))
 parsed-numbers none before r after (e, f) = rw e (omega arith, refl)

@@ -13,9 +13,9 @@ use Rattle.text.specs.declared.Parsed.the-variants.{Numbers, Wrong}
 use Rattle.text.specs.Lines.{maxLine, lineNumbers}
 
 -- how many numbers a line was parsed to
-abbrev pub countOf : Parsed → ℕ
-countOf (Numbers n) = n
-countOf Wrong = 0
+abbrev pub parsedCount : Parsed → ℕ
+parsedCount (Numbers n) = n
+parsedCount Wrong = 0
 
 -- the ticket on a line: its numbers; a line that is wrong is a ticket of no numbers, which is answered 3
 abbrev pub lineTicket : List ℕ → List ℤ

@@ -10,7 +10,7 @@ ghost use Rattle.lists.specs.Scans.{fold};
 ghost use Rattle.map.specs.Limits.{edgeWidth};
 ghost use Rattle.form_ranges.specs.Ranges.{lent};
 ghost use Rattle.outcomes.specs.Outcomes.{outcome};
-ghost use Rattle.console.specs.Lines.{countOf, lineAnswered, deskOf, keptBytes, served};
+ghost use Rattle.console.specs.Lines.{parsedCount, lineAnswered, deskOf, keptBytes, served};
 
 // The bytes of a line that are kept: one more than a line may have.
 const KEPT: usize = text::LINE + 1;
@@ -41,7 +41,7 @@ pub struct State {
 
 // How many numbers a line was parsed to.
 fn count_of(parsed: Parsed) -> usize
-    ensures { λ r. ⌜ r ≡ countOf parsed ⌝ }
+    ensures { λ r. ⌜ r ≡ parsedCount parsed ⌝ }
 {
     match parsed {
         Parsed::Numbers(n) => n,

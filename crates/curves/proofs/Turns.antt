@@ -20,7 +20,7 @@ use Rattle.plane.specs.Segments.{onSegment, straightBetween}
 use Rattle.plane.specs.Below.{Segment, passesBelow}
 use Rattle.curves.specs.Curves.{Run, pointAt, pointsFrom, segmentsOf, curveOf}
 use Rattle.curves.specs.Tests.{differs, straightIn, shares, segWrong, mayShare, commonEnds, segCurve, curveCurve}
-use Rattle.curves.specs.Tests.{lastly, free, after, arc, simple, isSimple}
+use Rattle.curves.specs.Tests.{lastly, free, freeAfter, arc, simple, isSimple}
 use Rattle.curves.proofs.Runs.{two-points, from-step, from-end, curve-is, last-is}
 
 -- what a test of two points answered, of the points that they are
@@ -91,11 +91,11 @@ module _ (l : List ℤ) (i : ℕ) {n : ℕ} (all : n + 1 ≡ length l / 2) (take
         ≡ curveCurve k (pointAt l (i + 1)) (pointsFrom l (i + 1 + 1)) c s
     curves-miss e = rw (from-step l (i + 1) within, e)
 
-  pub arc-hit : after [] (pointAt l i) (pointAt l (i + 1)) (pointsFrom l (i + 2)) ≡ false
+  pub arc-hit : freeAfter [] (pointAt l i) (pointAt l (i + 1)) (pointsFrom l (i + 2)) ≡ false
       → arc (pointAt l i) (pointsFrom l (i + 1)) ≡ false
   arc-hit e = let f : i + 1 + 1 ≡ i + 2 = omega arith in rw (from-step l (i + 1) within, f, e)
 
-  pub arc-miss : after [] (pointAt l i) (pointAt l (i + 1)) (pointsFrom l (i + 2)) ≡ true
+  pub arc-miss : freeAfter [] (pointAt l i) (pointAt l (i + 1)) (pointsFrom l (i + 2)) ≡ true
       → arc (pointAt l i) (pointsFrom l (i + 1)) ≡ arc (pointAt l (i + 1)) (pointsFrom l (i + 1 + 1))
   arc-miss e = let f : i + 2 ≡ i + 1 + 1 = omega arith in rw (from-step l (i + 1) within, rw f at e)
 
@@ -166,7 +166,7 @@ common-ends-are {l} {k} n m run run′ en em ea ez eb ey es et eu ev =
 
 -- the first segment of a run, and the others
 pub simple-is : {l : List ℤ} (n : ℕ) → Run l → n + 1 ≡ length l / 2
-    → isSimple (curveOf l) ≡ after (mayShare (samePoint (pointAt l n) (pointAt l 0)) (pointAt l 0) []) (pointAt l 0)
+    → isSimple (curveOf l) ≡ freeAfter (mayShare (samePoint (pointAt l n) (pointAt l 0)) (pointAt l 0) []) (pointAt l 0)
     (pointAt l 1) (pointsFrom l 2) && arc (pointAt l 1) (pointsFrom l 2)
 unfolding simple
 simple-is {l} n run e =
@@ -214,28 +214,28 @@ free-told l i n m p a b all taken eq er et ev =
 
 -- segment i has a next one
 module _ (l : List ℤ) (i : ℕ) (h : i + 2 < length l / 2) (k : List Point) (a b : Point) where
-  after-step : after k a b (pointsFrom l (i + 2)) ≡ not (segWrong (b ∷ []) a b b (pointAt l (i + 2)))
+  after-step : freeAfter k a b (pointsFrom l (i + 2)) ≡ not (segWrong (b ∷ []) a b b (pointAt l (i + 2)))
       && free k a b (pointAt l (i + 2)) (pointsFrom l (i + 3))
   after-step = let e : i + 2 + 1 ≡ i + 3 = omega arith in rw (from-step l (i + 2) h, e)
 
-  pub after-hit : segWrong (b ∷ []) a b b (pointAt l (i + 2)) ≡ true → after k a b (pointsFrom l (i + 2)) ≡ false
+  pub after-hit : segWrong (b ∷ []) a b b (pointAt l (i + 2)) ≡ true → freeAfter k a b (pointsFrom l (i + 2)) ≡ false
   after-hit e = rw (after-step, e)
 
   pub after-miss : segWrong (b ∷ []) a b b (pointAt l (i + 2)) ≡ false
-      → after k a b (pointsFrom l (i + 2)) ≡ free k a b (pointAt l (i + 2)) (pointsFrom l (i + 3))
+      → freeAfter k a b (pointsFrom l (i + 2)) ≡ free k a b (pointAt l (i + 2)) (pointsFrom l (i + 3))
   after-miss e = rw (after-step, e)
 
 pub after-end : (l : List ℤ) (i : ℕ) (k : List Point) (a b : Point) → length l / 2 ≤ i + 2
-    → after k a b (pointsFrom l (i + 2)) ≡ true
+    → freeAfter k a b (pointsFrom l (i + 2)) ≡ true
 after-end l i k a b h = rw (from-end l (i + 2) h)
 
 -- what the test of the first segment answered
 pub first-told : {l : List ℤ} (n : ℕ) {p q : Point} {m t v : Bool} → Run l → n + 1 ≡ length l / 2 → p ≡ pointAt l n → q
     ≡ pointAt l 0 → m ≡ samePoint p q
-    → t ≡ after (mayShare m (pointAt l 0) []) (pointAt l 0) (pointAt l 1) (pointsFrom l 2) → t ≡ v
+    → t ≡ freeAfter (mayShare m (pointAt l 0) []) (pointAt l 0) (pointAt l 1) (pointsFrom l 2) → t ≡ v
     → isSimple (curveOf l) ≡ v && arc (pointAt l 1) (pointsFrom l 2)
 first-told {l} n run all ep eq em et ev =
     simple-is n run all
-    ∙ ap (λ (m : Bool). after (mayShare m (pointAt l 0) []) (pointAt l 0) (pointAt l 1) (pointsFrom l 2)
+    ∙ ap (λ (m : Bool). freeAfter (mayShare m (pointAt l 0) []) (pointAt l 0) (pointAt l 1) (pointsFrom l 2)
     && arc (pointAt l 1) (pointsFrom l 2)) (asked samePoint ep eq em refl)
     ∙ ap (λ (t : Bool). t && arc (pointAt l 1) (pointsFrom l 2)) (sym et ∙ ev)

@@ -78,19 +78,19 @@ free l a b c [] = true
 free l a b c (d ∷ r) = let rest = free l a b d r in not (segWrong (lastly l r) a b c d) && rest
 
 -- the segment a b and the segments of b ∷ r, of which the first is its neighbour
-abbrev pub after : List Point → Point → Point → List Point → Bool
-after l a b [] = true
-after l a b (c ∷ r) = let rest = free l a b c r in not (segWrong (b ∷ []) a b b c) && rest
+abbrev pub freeAfter : List Point → Point → Point → List Point → Bool
+freeAfter l a b [] = true
+freeAfter l a b (c ∷ r) = let rest = free l a b c r in not (segWrong (b ∷ []) a b b c) && rest
 
 -- neighbouring segments share their common point only, and others share none
 abbrev pub arc : Point → List Point → Bool
 arc a [] = true
-arc a (b ∷ r) = let rest = arc b r in after [] a b r && rest
+arc a (b ∷ r) = let rest = arc b r in freeAfter [] a b r && rest
 
 -- the same, but the first and last of a closed curve share its end alone
 unfoldable pub simple : Point → List Point → Bool
 simple a [] = true
-simple a (b ∷ r) = let rest = arc b r in after (mayShare (samePoint (lastOf b r) a) a []) a b r && rest
+simple a (b ∷ r) = let rest = arc b r in freeAfter (mayShare (samePoint (lastOf b r) a) a []) a b r && rest
 
 -- ---- the same of curves
 

@@ -10,7 +10,7 @@ ghost use Rattle.plane.specs.Points.{InRange};
 ghost use Rattle.plane.specs.Segments.{onSegment};
 ghost use Rattle.curves.specs.Curves.{Run, isRun, pointAt, pointsFrom, curveOf};
 ghost use Rattle.curves.specs.Tests.{neighboursDiffer, straightInside, firstPlace, segWrong, mayShare, segCurve};
-ghost use Rattle.curves.specs.Tests.{commonEnds, meetWrongly, free, after, isSimple};
+ghost use Rattle.curves.specs.Tests.{commonEnds, meetWrongly, free, freeAfter, isSimple};
 ghost use Rattle.curves.specs.Measures.{curveArea, oddBelow};
 ghost use Rattle.curves.specs.Shares.{Shareable, shareable};
 
@@ -236,7 +236,7 @@ fn segment_free(c: &[i64], i: usize, closed: bool) -> bool
 // where the mark is set.
 fn segment_clear(c: &[i64], i: usize, closed: bool) -> bool
     requires { ⌜ Run (now c) × (i + 1 < length (now c) / 2) ⌝ }
-    ensures { λ r. ⌜ r ≡ after (mayShare closed (pointAt (now (c .entry)) 0) []) (pointAt (now (c .entry)) i)
+    ensures { λ r. ⌜ r ≡ freeAfter (mayShare closed (pointAt (now (c .entry)) 0) []) (pointAt (now (c .entry)) i)
         (pointAt (now (c .entry)) (i + 1)) (pointsFrom (now (c .entry)) (i + 2)) ⌝ }
 {
     if segment_count(c) <= i + 1 {

@@ -80,14 +80,14 @@ module _ {nodes edges faces : List ℤ} {h : Head} (f : Formed nodes edges faces
     remove-free er et = first-miss 4 _ _ there ∙ first-miss 9 _ _ (ap not (isolated-row ∙ sym er) ∙ et) ∙ first-none
 
     -- kind 2
-    taken-row : (x y : ℤ) → reasons.nodeAt (withoutNode (natAbs z) (mapOf (lent nodes edges faces h) .nodes))
+    taken-row : (x y : ℤ) → reasons.anyNodeAt (withoutNode (natAbs z) (mapOf (lent nodes edges faces h) .nodes))
         (point x y) || edgeThrough (mapOf (lent nodes edges faces h)) (point x y)
         ≡ anyOf (λ j. not (same j i) && samePoint (nodeAt nodes j .at) (point x y))
         (table (λ j. j) 0 (natAbs (h .nodes))) || edgeThrough (edgeMap edges (natAbs (h .edges))) (point x y)
     unfolding mapOf edgeThrough
     taken-row x y =
         ap (λ (b : Bool). b || edgeThrough (edgeMap edges (natAbs (h .edges))) (point x y))
-        (ap (λ (k : ℕ). reasons.nodeAt (withoutNode k (nodesOf nodes (natAbs (h .nodes)))) (point x y))
+        (ap (λ (k : ℕ). reasons.anyNodeAt (withoutNode k (nodesOf nodes (natAbs (h .nodes)))) (point x y))
         (ap natAbs row-number) ∙ sym (node-at-but nodes (natAbs (h .nodes)) i (point x y) (node-rows f) row-below))
 
     pub move-row : (x y : ℤ) → firstReason

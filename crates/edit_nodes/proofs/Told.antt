@@ -72,7 +72,7 @@ module _ {nodes edges faces : List ℤ} {h : Head} (f : Formed nodes edges faces
       → p ≡ q
       → r ≡ anyOf (λ i. not (same i own) && samePoint (nodeAt nodes i .at) p) (table (λ i. i) 0 n)
       || edgeThrough (edgeMap edges k) p → r ≡ v
-      → reasons.nodeAt (mapOf (lent nodes edges faces h) .nodes) q || edgeThrough (mapOf (lent nodes edges faces h)) q
+      → reasons.anyNodeAt (mapOf (lent nodes edges faces h) .nodes) q || edgeThrough (mapOf (lent nodes edges faces h)) q
       ≡ v
   unfolding mapOf edgeThrough
   taken-told n k own p q en ek past ep er ev =
@@ -107,7 +107,7 @@ module _ {nodes edges faces : List ℤ} {h : Head} (f : Formed nodes edges faces
           × (firstReason ((5, outside x y)
           ∷ (
             10,
-            reasons.nodeAt (mapOf (lent nodes edges faces h) .nodes) (point x y)
+            reasons.anyNodeAt (mapOf (lent nodes edges faces h) .nodes) (point x y)
                 || edgeThrough (mapOf (lent nodes edges faces h)) (point x y),
           ) ∷ []) ≡ 0)
       four = first-zero 4 _ _ (lit< tt) early

@@ -17,7 +17,7 @@ use Rattle.map.specs.Reasons as reasons
 -- kind 1, up to 10, and from 12 on
 abbrev pub addEarly : Map → ℤ → ℤ → ℤ → Reasons
 addEarly m f x y = (4, not (minusOne f) && noFace m f) ∷ (5, outside x y)
-    ∷ (10, reasons.nodeAt (m .nodes) (point x y) || edgeThrough m (point x y)) ∷ []
+    ∷ (10, reasons.anyNodeAt (m .nodes) (point x y) || edgeThrough m (point x y)) ∷ []
 
 abbrev pub addLate : Sizes → Map → ℤ → ℤ → ℤ → Reasons
 addLate s m f x y = (12, not (minusOne f) && not (same (natAbs f) (faceOfPoint m (point x y))))

@@ -103,7 +103,7 @@ module _ {nodes edges faces : List ℤ} {h : Head} (f : Formed nodes edges faces
           let c : onCurve (edge m (natAbs z) .curve) (point x y) ≡ onCurve (edgeAt edges i .curve) (point x y) =
           ap (λ (r : Edge). onCurve (r .curve) (point x y)) (edge-is m (natAbs z) (edgeAt edges i) (hit .2)) in
           λ j. (4, noEdge m z) ∷ (5, outside x y)
-          ∷ (10, reasons.nodeAt (nodesOf nodes (natAbs (h .nodes))) (point x y)) ∷ (13, not (c j))
+          ∷ (10, reasons.anyNodeAt (nodesOf nodes (natAbs (h .nodes))) (point x y)) ∷ (13, not (c j))
           ∷ (20, sym full-split j) ∷ (21, sym (spent-at f (splitNumbers keeps)) j) ∷ []
 
       found-first : firstReason (reasons.reasons (sizesOf (lent nodes edges faces h))

@@ -10,7 +10,7 @@ use lib.ListN.{length, getD, set}
 use lib.Seq.{getD-set-same, getD-set-other}
 use Rattle.lists.specs.Tests.{same}
 use Rattle.lists.proofs.Bools.{which, equal?, &&-false, same-true, same-eq, same-false}
-use Rattle.form_links.specs.Chains.{latest, someBelow, Leads, Chained}
+use Rattle.form_links.specs.Chains.{latest, someBelow, LeadsBack, Chained}
 
 -- ---- the latest that is taken
 
@@ -87,7 +87,7 @@ below-none p (suc k) e i h =
 -- ---- the chains
 
 module _ {f : ℕ → ℕ} {p : ℕ} {last back : List ℕ} (w : Chained f p last back) where
-  pub chained-leads : Leads p last back
+  pub chained-leads : LeadsBack p last back
   chained-leads =
       record {
         lasts = λ j. rw (w .lasts j) (latest-le (λ q. same (f q) j) p);

@@ -33,7 +33,7 @@ abbrev pub repeats : List ℤ → (ℕ → ℕ) → ℕ → Bool
 repeats l f p = someBelow (λ q. same (f q) (f p) && sameWay (wayAt l q) (wayAt l p)) p
 
 -- links that lead to what is before them
-pub record Leads (p : ℕ) (last back : List ℕ) : Type 0 where
+pub record LeadsBack (p : ℕ) (last back : List ℕ) : Type 0 where
   pub lasts : (j : ℕ) → getD last j 0 ≤ p
   pub backs : (q : ℕ) → q < p → getD back q 0 ≤ q
 

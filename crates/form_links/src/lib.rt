@@ -17,7 +17,7 @@ ghost use Rattle.map_rows.specs.Rows.{EdgeRow, NodeRows, EdgeRows, FaceRows, ed
 ghost use Rattle.plane.specs.Directions.{signs, sameWay};
 ghost use Rattle.darts.specs.Positions.{wayAt, RowsNamed, NextsNamed};
 ghost use Rattle.form_links.specs.Drawn.{drawnMap};
-ghost use Rattle.form_links.specs.Chains.{latest, someBelow, startsIn, repeats, Leads, Chained};
+ghost use Rattle.form_links.specs.Chains.{latest, someBelow, startsIn, repeats, LeadsBack, Chained};
 
 // A chain for each node and pair of signs.
 const CHAINS: usize = Map::NODES * darts::SIGN_PAIRS;
@@ -51,7 +51,7 @@ fn joins_alike(edges: &[i64], i: usize, p: usize, last: &mut [u16], back: &mut [
     requires { ⌜ ((q : ℕ) → q ≤ p → EdgeRow (now edges) (q / 2))
         × (i < maxNodes) × (p < maxEdges * 2)
         × (maxNodes * 9 ≤ length (now last)) × (maxEdges * 2 ≤ length (now back))
-        × Leads p (now last) (now back) ⌝ }
+        × LeadsBack p (now last) (now back) ⌝ }
     ensures { λ r. ⌜ ((f : ℕ → ℕ) → f p ≡ i * 9 + signs (wayAt (now (edges .entry)) p)
         → Chained f p (now (last .entry)) (now (back .entry))
         → (r ≡ repeats (now (edges .entry)) f p) × Chained f (p + 1) (now (last .exit)) (now (back .exit))) ⌝ }

@@ -6,7 +6,7 @@ use mathlib.Core.Logic.{_⊎_, inl, inr}
 use Rattle.plane.specs.declared.Point.{Point}
 use Rattle.curves.specs.Curves.{lastOf, secondOf, beforeLast}
 use Rattle.geometry.specs.Spots.{Spot, At, OnSeg, Between, SameWay}
-use Rattle.geometry.specs.Meaning.{On, Differ, Arc, Simple, Some}
+use Rattle.geometry.specs.Meaning.{On, Differ, SimpleArc, Simple, Some}
 use Rattle.geometry.proofs.Segments.{at-first, at-last, at-one, first-part, last-part, parts, pin, same-way}
 use Rattle.geometry.proofs.Segments.{first-way, last-way, way-back, way-trans, turn-way, between-differ}
 
@@ -16,8 +16,8 @@ pub record Alike (a : Point) (r s : List Point) : Type 0 where
   pub on : (P : Spot) → On P a r → On P a s
   pub on′ : (P : Spot) → On P a s → On P a r
   pub last : lastOf a r ≡ lastOf a s
-  pub arc : Arc a r → Arc a s
-  pub arc′ : Arc a s → Arc a r
+  pub arc : SimpleArc a r → SimpleArc a s
+  pub arc′ : SimpleArc a s → SimpleArc a r
   pub simple : Simple a r → Simple a s
   pub simple′ : Simple a s → Simple a r
   pub differ : Differ a r → Differ a s
@@ -140,14 +140,14 @@ module _ {a m b : Point} (s : Between a m b) (r : List Point) where
   remove-on P (inr (inl o)) = inl (last-part (s .on) o)
   remove-on P (inr (inr k)) = inr k
 
-  insert-arc : Arc a (b ∷ r) → Arc a (m ∷ b ∷ r)
+  insert-arc : SimpleArc a (b ∷ r) → SimpleArc a (m ∷ b ∷ r)
   insert-arc h = (first, ((λ P o k. h .0 P (last-part (s .on) o) k), h .1))
     where
       first : (P : Spot) → OnSeg P a m → OnSeg P m b ⊎ On P b r → At P m
       first P o (inl q) = pin (s .on) o q
       first P o (inr k) = pin (s .on) o (at-last m (h .0 P (first-part (s .on) o) k))
 
-  remove-arc : Arc a (m ∷ b ∷ r) → Arc a (b ∷ r)
+  remove-arc : SimpleArc a (m ∷ b ∷ r) → SimpleArc a (b ∷ r)
   remove-arc h = ((λ P o k. go P k (parts s o)), h .1 .1)
     where
       go : (P : Spot) → On P b r → OnSeg P a m ⊎ OnSeg P m b → At P b

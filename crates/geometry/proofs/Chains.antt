@@ -9,7 +9,7 @@ use lib.ListN.{length}
 use Rattle.plane.specs.declared.Point.{Point}
 use Rattle.curves.specs.Curves.{lastOf}
 use Rattle.geometry.specs.Spots.{Spot, spot, At, OnSeg}
-use Rattle.geometry.specs.Meaning.{On, Differ, Arc, Simple, Some, End}
+use Rattle.geometry.specs.Meaning.{On, Differ, SimpleArc, Simple, Some, End}
 use Rattle.geometry.proofs.Segments.{at-first, at-last, at-one, at-spot}
 
 -- ---- two points or more
@@ -73,15 +73,15 @@ end-on {P} a b r (inr h) = go (last-on b r h)
 abbrev pub Joint : Point → List Point → List Point → Type 0
 Joint a r s = (P : Spot) → On P a r → On P (lastOf a r) s → At P (lastOf a r)
 
-pub arc-front : (a : Point) (r s : List Point) → Arc a (r ++ s) → Arc a r
+pub arc-front : (a : Point) (r s : List Point) → SimpleArc a (r ++ s) → SimpleArc a r
 arc-front a [] s h = tt
 arc-front a (b ∷ r) s h = ((λ P o k. h .0 P o (on-front P b r s k)), arc-front b r s (h .1))
 
-pub arc-back : (a : Point) (r s : List Point) → Arc a (r ++ s) → Arc (lastOf a r) s
+pub arc-back : (a : Point) (r s : List Point) → SimpleArc a (r ++ s) → SimpleArc (lastOf a r) s
 arc-back a [] s h = h
 arc-back a (b ∷ r) s h = arc-back b r s (h .1)
 
-pub arc-joint : (a : Point) (r s : List Point) → Arc a (r ++ s) → Joint a r s
+pub arc-joint : (a : Point) (r s : List Point) → SimpleArc a (r ++ s) → Joint a r s
 arc-joint a [] s h P k l = absurd k
 arc-joint a (b ∷ r) s h P (inr k) l = arc-joint b r s (h .1) P k l
 arc-joint a (b ∷ r) s h P (inl o) l = go (first-on b r (h .0 P o (on-back P b r s l)))
@@ -91,7 +91,8 @@ arc-joint a (b ∷ r) s h P (inl o) l = go (first-on b r (h .0 P o (on-back P b 
     go (inl e) f = e
     go (inr k) f = f k
 
-pub arc-join : (a : Point) (r s : List Point) → Arc a r → Arc (lastOf a r) s → Joint a r s → Arc a (r ++ s)
+pub arc-join : (a : Point) (r s : List Point) → SimpleArc a r → SimpleArc (lastOf a r) s → Joint a r s
+    → SimpleArc a (r ++ s)
 arc-join a [] s f g j = g
 arc-join a (b ∷ r) s f g j = ((λ P o k. go P o (on-split P b r s k)), arc-join b r s (f .1) g (λ P k l. j P (inr k) l))
   where
@@ -104,7 +105,7 @@ arc-join a (b ∷ r) s f g j = ((λ P o k. go P o (on-split P b r s k)), arc-joi
     go P o (inr l) = back P o (last-on b r (j P (inl o) l))
 
 -- an arc is not closed
-pub arc-open : (a b : Point) (r : List Point) → Arc a (b ∷ r) → a ≢ b → lastOf b r ≢ a
+pub arc-open : (a b : Point) (r : List Point) → SimpleArc a (b ∷ r) → a ≢ b → lastOf b r ≢ a
 arc-open a b r h n e = go (last-on b r (subst (At (spot a)) (sym e) (at-spot a)))
   where
     go : At (spot a) b ⊎ On (spot a) b r → ⊥
@@ -113,11 +114,11 @@ arc-open a b r h n e = go (last-on b r (subst (At (spot a)) (sym e) (at-spot a))
 
 -- ---- simple curves
 
-pub arc-simple : (a : Point) (r : List Point) → Arc a r → Simple a r
+pub arc-simple : (a : Point) (r : List Point) → SimpleArc a r → Simple a r
 arc-simple a [] h = tt
 arc-simple a (b ∷ r) h = ((λ P o k. inl (h .0 P o k)), h .1)
 
-pub simple-arc : (a : Point) (r : List Point) → lastOf a r ≢ a → Simple a r → Arc a r
+pub simple-arc : (a : Point) (r : List Point) → lastOf a r ≢ a → Simple a r → SimpleArc a r
 simple-arc a [] n h = tt
 simple-arc a (b ∷ r) n h = ((λ P o k. go P (h .0 P o k)), h .1)
   where
@@ -142,8 +143,8 @@ differ-join a [] s h k = k
 differ-join a (b ∷ r) s h k = (h .0, differ-join b r s (h .1) k)
 
 pub record Cut (a : Point) (r s : List Point) : Type 0 where
-  pub front : Arc a r
-  pub back : Arc (lastOf a r) s
+  pub front : SimpleArc a r
+  pub back : SimpleArc (lastOf a r) s
   pub closing : Closing a r s
 
 pub simple-cut : (a b : Point) (r : List Point) (c : Point) (s : List Point) → Differ a (b ∷ r ++ (c ∷ s))
@@ -157,7 +158,7 @@ simple-cut a b r c s n h = record {
     m : Point
     m = lastOf b r
 
-    back : Arc m (c ∷ s)
+    back : SimpleArc m (c ∷ s)
     back = arc-back b r (c ∷ s) (h .1)
 
     joint : Joint b r (c ∷ s)

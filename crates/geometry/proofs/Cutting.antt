@@ -12,7 +12,7 @@ use Rattle.plane.proofs.Laws.{samePoint-true}
 use Rattle.curves.specs.Curves.{lastOf, secondOf, beforeLast}
 use Rattle.curves.specs.Edits.{Halves, cutHere, cut}
 use Rattle.geometry.specs.Spots.{Spot, spot, At, OnSeg, SameWay}
-use Rattle.geometry.specs.Meaning.{On, Differ, Arc, Simple, Some}
+use Rattle.geometry.specs.Meaning.{On, Differ, SimpleArc, Simple, Some}
 use Rattle.geometry.proofs.Segments.{at-last, at-spot}
 use Rattle.geometry.proofs.Meeting.{samePoint-differ, onSegment-true, onSegment-false}
 use Rattle.geometry.proofs.Alike.{Alike, alike-refl, alike-cons, alike-insert}
@@ -87,8 +87,8 @@ pub record Cloven (m a : Point) (r front back : List Point) : Type 0 where
   pub some-back : Some back
   pub joint : lastOf a front ≡ m
   pub last : lastOf m back ≡ lastOf a r
-  pub front-arc : Arc a front
-  pub back-arc : Arc m back
+  pub front-arc : SimpleArc a front
+  pub back-arc : SimpleArc m back
   pub front-differ : Differ a front
   pub back-differ : Differ m back
   pub on-front : (P : Spot) → On P a front → On P a r

@@ -11,7 +11,7 @@ use Rattle.curves.specs.Tests.{meetWrongly, isSimple}
 use Rattle.curves.specs.Edits.{cut, join, front, back, joined, course}
 use Rattle.geometry.specs.Spots.{Spot, spot, At}
 use Rattle.geometry.specs.Meaning.{On, Some, Differ, Simple, End, Clear}
-use Rattle.geometry.specs.Drawing.{OnCurve, Good, ClearCurves, Away, Drawn}
+use Rattle.geometry.specs.Drawing.{OnCurve, GoodCurve, ClearCurves, NoEnd, Drawn}
 use Rattle.geometry.proofs.Segments.{at-one}
 use Rattle.geometry.proofs.Chains.{end-on, arc-simple}
 use Rattle.geometry.proofs.Cutting.{Cloven, cut-cloven}
@@ -66,21 +66,21 @@ clear-sym c d h P o p = let k = h P p o in (k .1, k .0)
 
 -- ---- one curve more, one less
 
-pub put : (xs ys : List Curve) (c : Curve) → Good c → All (ClearCurves c) (xs ++ ys) → Drawn (xs ++ ys)
+pub put : (xs ys : List Curve) (c : Curve) → GoodCurve c → All (ClearCurves c) (xs ++ ys) → Drawn (xs ++ ys)
     → Drawn (xs ++ (c ∷ ys))
 put xs ys c g h d = record {
-  good = all-put Good xs ys c g (d .good);
+  good = all-put GoodCurve xs ys c g (d .good);
   clear = pairs-put ClearCurves clear-sym xs ys c h (d .clear);
 }
 
 pub record Taken (c : Curve) (l : List Curve) : Type 0 where
-  pub good : Good c
+  pub good : GoodCurve c
   pub clear : All (ClearCurves c) l
   pub drawn : Drawn l
 
 pub take : (xs ys : List Curve) (c : Curve) → Drawn (xs ++ (c ∷ ys)) → Taken c (xs ++ ys)
 take xs ys c d =
-    let g = all-take Good xs ys c (d .good) in
+    let g = all-take GoodCurve xs ys c (d .good) in
     let k = pairs-take ClearCurves clear-sym xs ys c (d .clear) in
     record { good = g .0; clear = k .0; drawn = record { good = g .1; clear = k .1 } }
 
@@ -134,8 +134,8 @@ module _ {m a : Point} {r u v : List Point} (h : Cloven m a r u v) where
 
 -- the cut's halves, for the curve c out of a drawing and m on it
 pub record Split (m : Point) (c : Curve) (l : List Curve) : Type 0 where
-  pub front-good : Good (front m c)
-  pub back-good : Good (back m c)
+  pub front-good : GoodCurve (front m c)
+  pub back-good : GoodCurve (back m c)
   pub front-clear : All (ClearCurves (front m c)) l
   pub back-clear : All (ClearCurves (back m c)) l
   pub halves : ClearCurves (back m c) (front m c)
@@ -186,7 +186,7 @@ split-drawn xs ys us vs ps qs m c n e o d p q =
 
 -- ---- either way round
 
-pub good-course : (b : Bool) (c : Curve) → Good c → Good (course b c)
+pub good-course : (b : Bool) (c : Curve) → GoodCurve c → GoodCurve (course b c)
 good-course false c g = g
 good-course true c g =
     record {
@@ -203,7 +203,7 @@ clear-course true c d h = clear-turned (c .first) (c .rest) (d .first) (d .rest)
 
 module _ (c d : Curve) (joint : d .first ≡ lastPoint c)
     (h : Joined (c .first) (c .rest) (d .rest) (join (c .first) (c .rest) (d .rest))) where
-  join-clear : (e : Curve) → Away (lastPoint c) e → ClearCurves c e → ClearCurves d e → ClearCurves (joined c d) e
+  join-clear : (e : Curve) → NoEnd (lastPoint c) e → ClearCurves c e → ClearCurves d e → ClearCurves (joined c d) e
   join-clear e w f g P o p = go (h .on-either P o)
     where
       never : At P (lastPoint c) → End P (e .first) (e .rest) → ⊥
@@ -232,18 +232,19 @@ module _ (c d : Curve) (joint : d .first ≡ lastPoint c)
       go (inr k) = on-second (g P (subst (λ (z : Point). On P z (d .rest)) (sym joint) k) p)
 
 pub record Healed (c d : Curve) (l : List Curve) : Type 0 where
-  pub good : Good (joined c d)
+  pub good : GoodCurve (joined c d)
   pub clear : All (ClearCurves (joined c d)) l
   pub is : Joined (c .first) (c .rest) (d .rest) (joined c d .rest)
 
 -- c and d out of a drawing, in the order of the healed curve; no curve that is left ends at the joint
 pub heal : (c d : Curve) (l : List Curve) → d .first ≡ lastPoint c → lastPoint c ≢ c .first → lastPoint d ≢ d .first
-    → Good c → Good d → ClearCurves c d → All (ClearCurves c) l → All (ClearCurves d) l → All (Away (lastPoint c)) l
+    → GoodCurve c → GoodCurve d → ClearCurves c d → All (ClearCurves c) l → All (ClearCurves d) l
+    → All (NoEnd (lastPoint c)) l
     → Healed c d l
 heal c d l e n n′ g g′ k h h′ w =
     record {
       good = record { some = j .some; differ = j .differ; simple = j .simple };
-      clear = all-map₂ (Away (lastPoint c)) (λ x. ClearCurves c x × ClearCurves d x) (ClearCurves (joined c d))
+      clear = all-map₂ (NoEnd (lastPoint c)) (λ x. ClearCurves c x × ClearCurves d x) (ClearCurves (joined c d))
           (λ x a b. join-clear c d e j x a (b .0) (b .1)) l w
           (all-map₂ (ClearCurves c) (ClearCurves d) (λ x. ClearCurves c x × ClearCurves d x) (λ x a b. (a, b)) l h h′);
       is = j;
@@ -261,7 +262,7 @@ pub heal-taken : (xs ys us vs : List Curve) (c d : Curve) (s t : Bool) → xs ++
     → Drawn (xs ++ (c ∷ ys))
     → course t d .first ≡ lastPoint (course s c) → lastPoint (course s c) ≢ course s c .first
     → lastPoint (course t d) ≢ course t d .first
-    → All (Away (lastPoint (course s c))) (us ++ vs) → Taken (joined (course s c) (course t d)) (us ++ vs)
+    → All (NoEnd (lastPoint (course s c))) (us ++ vs) → Taken (joined (course s c) (course t d)) (us ++ vs)
 heal-taken xs ys us vs c d s t p w e n n′ f = record { good = h .good; clear = h .clear; drawn = l .drawn }
   where
     c′ : Curve

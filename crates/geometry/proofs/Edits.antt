@@ -12,7 +12,7 @@ use Rattle.curves.specs.Tests.{meetWrongly, isSimple}
 use Rattle.curves.specs.Edits.{front, back, joined, course}
 use Rattle.geometry.specs.Spots.{Spot, spot, At}
 use Rattle.geometry.specs.Meaning.{Some, Differ}
-use Rattle.geometry.specs.Drawing.{OnCurve, ClearCurves, Away, Drawn}
+use Rattle.geometry.specs.Drawing.{OnCurve, ClearCurves, NoEnd, Drawn}
 use Rattle.geometry.proofs.Drawing.{Taken, take, put-taken, add, split-drawn, heal-taken, common-point}
 
 -- ---- by kind
@@ -51,7 +51,7 @@ module _ (xs ys : List Curve) (m : Point) (c : Curve) (n : c .first ≢ m) (l : 
 module _ (us vs ws : List Curve) (c d : Curve) (s t : Bool)
     (joint : course t d .first ≡ lastPoint (course s c)) (open-c : lastPoint (course s c) ≢ course s c .first)
     (open-d : lastPoint (course t d) ≢ course t d .first)
-    (away : All (Away (lastPoint (course s c))) ((us ++ vs) ++ ws)) where
+    (away : All (NoEnd (lastPoint (course s c))) ((us ++ vs) ++ ws)) where
   pub heal-cd : Drawn (us ++ (c ∷ vs ++ (d ∷ ws))) → Taken (joined (course s c) (course t d)) ((us ++ vs) ++ ws)
   heal-cd h = heal-taken us (vs ++ (d ∷ ws)) (us ++ vs) ws c d s t
       (sym (append-assoc us vs (d ∷ ws))) h joint open-c open-d away
@@ -61,7 +61,7 @@ module _ (us vs ws : List Curve) (c d : Curve) (s t : Bool)
       subst (Taken (joined (course s c) (course t d))) (sym (append-assoc us vs ws))
       (heal-taken (us ++ (d ∷ vs)) ws us (vs ++ ws) c d s t (append-assoc us (d ∷ vs) ws)
       (subst Drawn (sym (append-assoc us (d ∷ vs) (c ∷ ws))) h)
-      joint open-c open-d (subst (All (Away (lastPoint (course s c)))) (append-assoc us vs ws) away))
+      joint open-c open-d (subst (All (NoEnd (lastPoint (course s c)))) (append-assoc us vs ws) away))
 
 -- kind 9: the join comes last
 pub last-place : (l : List Curve) {c : Curve} → Taken c l → Drawn (l ++ (c ∷ []))

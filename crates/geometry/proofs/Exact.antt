@@ -16,10 +16,11 @@ use Rattle.plane.specs.Points.{samePoint}
 use Rattle.plane.specs.Segments.{meets, onSegment, stretches}
 use Rattle.plane.proofs.Laws.{point-path}
 use Rattle.curves.specs.Curves.{lastOf}
-use Rattle.curves.specs.Tests.{shares, segWrong, mayShare, commonEnds, segCurve, curveCurve, wrong, free, after, arc}
+use Rattle.curves.specs.Tests.{shares, segWrong, mayShare, commonEnds, segCurve, curveCurve, wrong, free, freeAfter}
+use Rattle.curves.specs.Tests.{arc}
 use Rattle.curves.specs.Tests.{simple}
 use Rattle.geometry.specs.Spots.{Spot, spot, At, OnSeg, Among}
-use Rattle.geometry.specs.Meaning.{On, Differ, Arc, Simple, End, Clear}
+use Rattle.geometry.specs.Meaning.{On, Differ, SimpleArc, Simple, End, Clear}
 use Rattle.geometry.proofs.Segments.{at-one, at-spot, at-first, at-last}
 use Rattle.geometry.proofs.Chains.{end-on, arc-open}
 use Rattle.geometry.proofs.Meeting.{samePoint-refl, meets-true, onSegment-is}
@@ -177,7 +178,7 @@ clear-wrong a r b s h = curve-curve (commonEnds a r b s) a (lastOf a r) a r b s
 
 -- the first two segments of a simple curve share their common point only
 module _ (a b c : Point) (w : a ≢ b) where
-  pub near : (r : List Point) → Arc b (c ∷ r) → Differ b (c ∷ r) → (P : Spot) → OnSeg P a b → OnSeg P b c → At P b
+  pub near : (r : List Point) → SimpleArc b (c ∷ r) → Differ b (c ∷ r) → (P : Spot) → OnSeg P a b → OnSeg P b c → At P b
       ⊎ (At P a × (lastOf c r ≡ a))
       → ((P : Spot) → OnSeg P a b → OnSeg P b c ⊎ On P c r → At P b ⊎ (At P a × (lastOf c r ≡ a))) → At P b
   near r g n P o p (inl k) h = k
@@ -195,7 +196,7 @@ module _ (a b c : Point) (w : a ≢ b) where
 
 -- the end of a closed curve lies on its last segment only
 module _ (l : List Point) (a b : Point) where
-  free-is : (c : Point) (r : List Point) → Arc c r → Differ c r
+  free-is : (c : Point) (r : List Point) → SimpleArc c r → Differ c r
       → ((P : Spot) → OnSeg P a b → On P c r → At P a × (lastOf c r ≡ a))
       → (lastOf c r ≡ a → (P : Spot) → At P a → Among P l) → free l a b c r ≡ true
   free-is c [] g n h m = refl
@@ -210,9 +211,9 @@ module _ (l : List Point) (a b : Point) where
           let f : At P d = g .0 P p (end-on d e r (inr (subst (At P) (sym (k .1)) (k .0)))) in
           arc-open d e r (g .1) (n .1 .0) (k .1 ∙ at-one (k .0) f)
 
-  after-is : (r : List Point) → Arc b r → Differ b r → a ≢ b
+  after-is : (r : List Point) → SimpleArc b r → Differ b r → a ≢ b
       → ((P : Spot) → OnSeg P a b → On P b r → At P b ⊎ (At P a × (lastOf b r ≡ a)))
-      → (lastOf b r ≡ a → (P : Spot) → At P a → Among P l) → after l a b r ≡ true
+      → (lastOf b r ≡ a → (P : Spot) → At P a → Among P l) → freeAfter l a b r ≡ true
   after-is [] g n w h m = refl
   after-is (c ∷ r) g n w h m = and-is (ap not
       (seg-right (b ∷ []) b b (λ P o p. let k = near a b c w r g n P o p (h P o (inl p)) h in (inl k, inl k))))
@@ -222,7 +223,7 @@ module _ (l : List Point) (a b : Point) where
       far P p (inl k) = absurd (n .0 (at-one k (g .0 P (at-first c k) p)))
       far P p (inr k) = k
 
-pub arc-is : (a : Point) (r : List Point) → Differ a r → Arc a r → arc a r ≡ true
+pub arc-is : (a : Point) (r : List Point) → Differ a r → SimpleArc a r → arc a r ≡ true
 arc-is a [] n h = refl
 arc-is a (b ∷ r) n h =
     and-is (after-is [] a b r (h .1) (n .1) (n .0) (λ P o p. inl (h .0 P o p))

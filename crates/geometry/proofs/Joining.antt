@@ -10,7 +10,7 @@ use Rattle.plane.specs.Segments.{straightBetween}
 use Rattle.curves.specs.Curves.{lastOf, secondOf, beforeLast}
 use Rattle.curves.specs.Edits.{dropped, joinHere, join}
 use Rattle.geometry.specs.Spots.{Spot, At, SameWay}
-use Rattle.geometry.specs.Meaning.{On, Differ, Arc, Simple, Some, End, Clear}
+use Rattle.geometry.specs.Meaning.{On, Differ, SimpleArc, Simple, Some, End, Clear}
 use Rattle.geometry.proofs.Segments.{at-one}
 use Rattle.geometry.proofs.Meeting.{straightBetween-true}
 use Rattle.geometry.proofs.Alike.{Alike, alike-refl, alike-sym, alike-cons, alike-insert}
@@ -86,8 +86,8 @@ pub simple-some : (a : Point) (r s : List Point) → Some r → Differ a r → C
 simple-some a [] s h n c = absurd h
 simple-some a (b ∷ r) s h n c = simple-join a b r s (n .0) c
 
-pub join-joined : (a : Point) (r s : List Point) → Some r → Some s → Differ a r → Differ (lastOf a r) s → Arc a r
-    → Arc (lastOf a r) s → Closing a r s → Joined a r s (join a r s)
+pub join-joined : (a : Point) (r s : List Point) → Some r → Some s → Differ a r → Differ (lastOf a r) s → SimpleArc a r
+    → SimpleArc (lastOf a r) s → Closing a r s → Joined a r s (join a r s)
 join-joined a r s h k n n′ f g c =
     let w = join-alike a r s h k in
     record {

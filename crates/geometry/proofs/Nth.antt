@@ -9,7 +9,7 @@ use lib.ListN.{length}
 use Rattle.plane.specs.declared.Point.{Point}
 use Rattle.curves.specs.Curves.{lastOf}
 use Rattle.geometry.specs.Spots.{Spot, At}
-use Rattle.geometry.specs.Meaning.{On, OnNth, pointOf, Differ, Arc, Simple}
+use Rattle.geometry.specs.Meaning.{On, OnNth, pointOf, Differ, SimpleArc, Simple}
 use Rattle.geometry.proofs.Segments.{at-one, at-first}
 use Rattle.geometry.proofs.Chains.{end-on, arc-open}
 use Rattle.geometry.proofs.Exact.{near}
@@ -27,12 +27,12 @@ on-nth P a (b ∷ r) (inr k) = let h = on-nth P b r k in (suc (h .0), h .1)
 
 -- the curve a b and what follows; the spot is on the first segment and on segment j of what follows
 module _ {P : Spot} {b : Point} where
-  after-first : (r : List Point) (j : ℕ) → Arc b r → Differ b r → At P b → OnNth P b r j → j ≡ zero
+  after-first : (r : List Point) (j : ℕ) → SimpleArc b r → Differ b r → At P b → OnNth P b r j → j ≡ zero
   after-first [] j g n e h = absurd h
   after-first (c ∷ r) zero g n e h = refl
   after-first (c ∷ r) (suc j) g n e h = absurd (n .0 (at-one e (g .0 P (at-first c e) (nth-on P c r j h))))
 
-pub arc-pair : (P : Spot) (a : Point) (r : List Point) (i k : ℕ) → Arc a r → Differ a r → OnNth P a r i
+pub arc-pair : (P : Spot) (a : Point) (r : List Point) (i k : ℕ) → SimpleArc a r → Differ a r → OnNth P a r i
     → OnNth P a r (suc (i + k)) → (k ≡ zero) × At P (pointOf a r (suc i))
 arc-pair P a [] i k g n o p = absurd o
 arc-pair P a (b ∷ r) zero k g n o p = let q : OnNth P b r k =
@@ -42,7 +42,7 @@ arc-pair P a (b ∷ r) (suc i) k g n o p =
     arc-pair P b r i k (g .1) (n .1) o (subst (OnNth P b r) (let e : suc i + k ≡ suc (i + k) = omega arith in e) p)
 
 -- the end of a closed arc's first point lies on its last segment only
-last-nth : (P : Spot) (a c : Point) (r : List Point) (j : ℕ) → Arc c r → Differ c r → At P a → lastOf c r ≡ a
+last-nth : (P : Spot) (a c : Point) (r : List Point) (j : ℕ) → SimpleArc c r → Differ c r → At P a → lastOf c r ≡ a
     → OnNth P c r j → suc j ≡ length r
 last-nth P a c [] j g n e l h = absurd h
 last-nth P a c (d ∷ []) zero g n e l h = refl

@@ -18,7 +18,7 @@ use Rattle.curves.specs.Tests.{neighboursDiffer, straightInside, onCurve, isSim
 use Rattle.curves.specs.Edits.{cut, join, front, back, joined, reversed, course}
 use Rattle.geometry.specs.Spots.{Spot, spot, At, OnSeg, Between, SameWay}
 use Rattle.geometry.specs.Meaning.{Shared, Single, Inner, Double, Means, Some, On, OnNth, pointOf, Differ, Simple}
-use Rattle.geometry.specs.Drawing.{OnCurve, Good, ClearCurves}
+use Rattle.geometry.specs.Drawing.{OnCurve, GoodCurve, ClearCurves}
 use Rattle.geometry.proofs.Meeting.{samePoint-refl, meets-true, meets-spot, onSegment-true, onSegment-is}
 use Rattle.geometry.proofs.Meeting.{straightBetween-true, straightBetween-is, differs-true, differs-is}
 use Rattle.geometry.proofs.Meeting.{passes-true, passes-is}
@@ -89,7 +89,7 @@ meetWrongly-iff c d = (
 pub isSimple-iff : (c : Curve) → neighboursDiffer c ≡ true → (isSimple c ≡ true) ↔ Simple (c .first) (c .rest)
 isSimple-iff c n = (simple-true (c .first) (c .rest), simple-is (c .first) (c .rest) (neighboursDiffer-iff c .0 n))
 
-pub good-iff : (c : Curve) → Good c ↔ (Some (c .rest) × (neighboursDiffer c ≡ true) × (isSimple c ≡ true))
+pub good-iff : (c : Curve) → GoodCurve c ↔ (Some (c .rest) × (neighboursDiffer c ≡ true) × (isSimple c ≡ true))
 good-iff c = (
   (λ g. let n = neighboursDiffer-iff c .1 (g .differ) in (g .some, n, isSimple-iff c n .1 (g .simple))),
   λ h. record { some = h .0; differ = neighboursDiffer-iff c .0 (h .1); simple = isSimple-iff c (h .1) .0 (h .2) },
@@ -101,7 +101,7 @@ onNth-iff c P = (on-nth P (c .first) (c .rest), λ h. nth-on P (c .first) (c .re
 
 -- segments i and i + 1 + k of a simple curve share a point: they are neighbours and it is their common point, or they
 -- are the first and the last of a closed curve and it is its end
-pub simple-segments : (c : Curve) → Good c → (P : Spot) (i k : ℕ) → OnNth P (c .first) (c .rest) i
+pub simple-segments : (c : Curve) → GoodCurve c → (P : Spot) (i k : ℕ) → OnNth P (c .first) (c .rest) i
     → OnNth P (c .first) (c .rest) (suc (i + k))
     → ((k ≡ zero) × At P (pointOf (c .first) (c .rest) (suc i)))
     ⊎ ((i ≡ zero) × (suc (suc k) ≡ length (c .rest)) × (lastPoint c ≡ c .first) × At P (c .first))
@@ -110,11 +110,11 @@ simple-segments c g P i k = simple-pair P (c .first) (c .rest) i k (g .simple) (
 -- ---- the cut at a point m of the curve that is no end of it
 
 module _ (m : Point) (c : Curve) (n : c .first ≢ m) (l : lastPoint c ≢ m) (o : OnCurve (spot m) c) where
-  module _ (g : Good c) where
+  module _ (g : GoodCurve c) where
     parts : Split m c []
     parts = split m c [] n l o (record { good = g; clear = tt; drawn = record { good = tt; clear = tt } })
 
-    pub cut-good : Good (front m c) × Good (back m c)
+    pub cut-good : GoodCurve (front m c) × GoodCurve (back m c)
     cut-good = (parts .front-good, parts .back-good)
 
     pub cut-clear : ClearCurves (front m c) (back m c)
@@ -144,13 +144,13 @@ module _ (m : Point) (c : Curve) (n : c .first ≢ m) (l : lastPoint c ≢ m) (o
 
 -- ---- the join of two curves that share common ends only, at a common end that is not the far end of either
 
-module _ (c d : Curve) (joint : d .first ≡ lastPoint c) (open-c : lastPoint c ≢ c .first) (g : Good c)
-    (g′ : Good d) where
+module _ (c d : Curve) (joint : d .first ≡ lastPoint c) (open-c : lastPoint c ≢ c .first) (g : GoodCurve c)
+    (g′ : GoodCurve d) where
   module _ (open-d : lastPoint d ≢ d .first) (k : ClearCurves c d) where
     healed : Healed c d []
     healed = heal c d [] joint open-c open-d g g′ k tt tt tt
 
-    pub join-good : Good (joined c d)
+    pub join-good : GoodCurve (joined c d)
     join-good = healed .good
 
     pub join-last : lastPoint (joined c d) ≡ lastPoint d
@@ -187,7 +187,7 @@ module _ (c d : Curve) (joint : d .first ≡ lastPoint c) (open-c : lastPoint c 
 
 -- ---- the reverse
 
-pub reverse-good : (c : Curve) → Good c → Good (reversed c)
+pub reverse-good : (c : Curve) → GoodCurve c → GoodCurve (reversed c)
 reverse-good c = good-course true c
 
 pub reverse-points : (c : Curve) (P : Spot) → OnCurve P (reversed c) ↔ OnCurve P c
@@ -196,7 +196,7 @@ reverse-points c P = (on-turned′ P (c .first) (c .rest), on-turned P (c .first
 pub reverse-twice : (c : Curve) → reversed (reversed c) ≡ c
 reverse-twice c = λ t. record { first = last-turned (c .first) (c .rest) t; rest = turned-twice (c .first) (c .rest) t }
 
-pub reverse-ways : (c : Curve) → Good c → (startWay (reversed c) ≡ endWay c) × (endWay (reversed c) ≡ startWay c)
+pub reverse-ways : (c : Curve) → GoodCurve c → (startWay (reversed c) ≡ endWay c) × (endWay (reversed c) ≡ startWay c)
 reverse-ways c g = (
   ap (wayTo (lastPoint c)) (second-turned (c .first) (c .rest) (g .some)),
   (λ t. wayTo (last-turned (c .first) (c .rest) t) (before-turned (c .first) (c .rest) (g .some) t)),
@@ -209,12 +209,12 @@ reverse-count c = length-turned (c .first) (c .rest)
 
 -- curves that share common ends only leave a common end in different directions; s and t say which curve is taken the
 -- other way round
-pub departures-differ : (s t : Bool) (c d : Curve) → Good c → Good d → ClearCurves c d → course s c .first
+pub departures-differ : (s t : Bool) (c d : Curve) → GoodCurve c → GoodCurve d → ClearCurves c d → course s c .first
     ≡ course t d .first
     → sameWay (startWay (course s c)) (startWay (course t d)) ≡ false
 departures-differ s t c d g g′ h = curves-differ (course s c) (course t d) (good-course s c g) (good-course t d g′)
     (clear-course s c (course t d) (clear-sym (course t d) c (clear-course t d c (clear-sym c d h))))
 
 -- so do the two ends of a closed curve
-pub closed-differ : (c : Curve) → Good c → lastPoint c ≡ c .first → sameWay (startWay c) (endWay c) ≡ false
+pub closed-differ : (c : Curve) → GoodCurve c → lastPoint c ≡ c .first → sameWay (startWay c) (endWay c) ≡ false
 closed-differ = ends-differ

@@ -11,10 +11,11 @@ use Rattle.plane.specs.Points.{samePoint}
 use Rattle.plane.specs.Segments.{onSegment, stretches}
 use Rattle.plane.proofs.Laws.{samePoint-true}
 use Rattle.curves.specs.Curves.{lastOf}
-use Rattle.curves.specs.Tests.{shares, segWrong, mayShare, commonEnds, segCurve, curveCurve, wrong, lastly, free, after}
+use Rattle.curves.specs.Tests.{shares, segWrong, mayShare, commonEnds, segCurve, curveCurve, wrong, lastly, free}
+use Rattle.curves.specs.Tests.{freeAfter}
 use Rattle.curves.specs.Tests.{arc, simple}
 use Rattle.geometry.specs.Spots.{Spot, At, OnSeg, Among}
-use Rattle.geometry.specs.Meaning.{On, Arc, Simple, End, Clear}
+use Rattle.geometry.specs.Meaning.{On, SimpleArc, Simple, End, Clear}
 use Rattle.geometry.proofs.Meeting.{onSegment-true, meets-spot}
 use Rattle.geometry.proofs.Stretch.{unique, same-at}
 
@@ -112,7 +113,7 @@ free-among P l {a} {b} c (d ∷ r) e o (inl p) =
 free-among P l {a} {b} c (d ∷ r) e o (inr p) =
     free-among P l d r (and-true (not (segWrong (lastly l r) a b c d)) (free l a b d r) e .1) o p
 
-after-among : (P : Spot) (l : List Point) (a b : Point) (r : List Point) → after l a b r ≡ true → OnSeg P a b
+after-among : (P : Spot) (l : List Point) (a b : Point) (r : List Point) → freeAfter l a b r ≡ true → OnSeg P a b
     → On P b r → At P b ⊎ Among P l
 after-among P l a b [] e o p = absurd p
 after-among P l a b (c ∷ r) e o (inl p) =
@@ -124,9 +125,9 @@ after-among P l a b (c ∷ r) e o (inl p) =
 after-among P l a b (c ∷ r) e o (inr p) =
     inr (free-among P l c r (and-true (not (segWrong (b ∷ []) a b b c)) (free l a b c r) e .1) o p)
 
-pub arc-true : (a : Point) (r : List Point) → arc a r ≡ true → Arc a r
+pub arc-true : (a : Point) (r : List Point) → arc a r ≡ true → SimpleArc a r
 arc-true a [] e = tt
-arc-true a (b ∷ r) e = let h = and-true (after [] a b r) (arc b r) e in
+arc-true a (b ∷ r) e = let h = and-true (freeAfter [] a b r) (arc b r) e in
     ((λ P o p. go P (after-among P [] a b r (h .0) o p)), arc-true b r (h .1))
   where
     go : (P : Spot) → At P b ⊎ ⊥ → At P b
@@ -141,8 +142,8 @@ simple-true a (b ∷ r) e = ((λ P o p. go P (after-among P l a b r (h .0) o p))
     l : List Point
     l = mayShare (samePoint (lastOf b r) a) a []
 
-    h : (after l a b r ≡ true) × (arc b r ≡ true)
-    h = and-true (after l a b r) (arc b r) e
+    h : (freeAfter l a b r ≡ true) × (arc b r ≡ true)
+    h = and-true (freeAfter l a b r) (arc b r) e
 
     next : (P : Spot) → ((samePoint (lastOf b r) a ≡ true) × At P a) ⊎ ⊥ → At P b ⊎ (At P a × (lastOf b r ≡ a))
     next P (inl k) = inr (k .1, samePoint-true (lastOf b r) a (k .0))

@@ -11,7 +11,7 @@ use Rattle.curves.specs.Curves.{lastOf, secondOf, beforeLast}
 use Rattle.curves.specs.Edits.{turned}
 use Rattle.curves.proofs.Reverses.{second-turned as second-of-turned}
 use Rattle.geometry.specs.Spots.{Spot, At, OnSeg}
-use Rattle.geometry.specs.Meaning.{On, Differ, Arc, Simple, Some, End, Clear}
+use Rattle.geometry.specs.Meaning.{On, Differ, SimpleArc, Simple, Some, End, Clear}
 use Rattle.geometry.proofs.Segments.{flip}
 use Rattle.geometry.proofs.Chains.{on-front, on-back, on-split, last-append, differ-join, Joint, arc-join}
 use Rattle.geometry.proofs.Chains.{arc-simple, Closing}
@@ -75,7 +75,7 @@ on-turned′ P a (b ∷ r) h = go (on-split P (lastOf b r) (turned b r) (a ∷ [
 
 -- ---- arcs and simple curves
 
-one-arc : (a b : Point) → Arc a (b ∷ [])
+one-arc : (a b : Point) → SimpleArc a (b ∷ [])
 one-arc a b = ((λ P o k. absurd k), tt)
 
 pub differ-turned : (a : Point) (r : List Point) → Differ a r → Differ (lastOf a r) (turned a r)
@@ -83,7 +83,7 @@ differ-turned a [] h = tt
 differ-turned a (b ∷ r) h = differ-join (lastOf b r) (turned b r) (a ∷ []) (differ-turned b r (h .1))
     ((λ e. h .0 (sym e ∙ last-turned b r)), tt)
 
-pub arc-turned : (a : Point) (r : List Point) → Arc a r → Arc (lastOf a r) (turned a r)
+pub arc-turned : (a : Point) (r : List Point) → SimpleArc a r → SimpleArc (lastOf a r) (turned a r)
 arc-turned a [] h = tt
 arc-turned a (b ∷ r) h = arc-join (lastOf b r) (turned b r) (a ∷ []) (arc-turned b r (h .1)) (one-arc _ a) joint
   where

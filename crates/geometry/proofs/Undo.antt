@@ -12,7 +12,7 @@ use Rattle.curves.specs.Curves.{lastOf}
 use Rattle.curves.specs.Tests.{straightIn}
 use Rattle.curves.specs.Edits.{Halves, cutHere, cut, dropped, joinHere, join}
 use Rattle.geometry.specs.Spots.{spot, At, OnSeg}
-use Rattle.geometry.specs.Meaning.{On, Some, Differ, Arc}
+use Rattle.geometry.specs.Meaning.{On, Some, Differ, SimpleArc}
 use Rattle.geometry.proofs.Segments.{at-last, at-spot, at-one}
 use Rattle.geometry.proofs.Meeting.{samePoint-differ, samePoint-false, samePoint-refl, onSegment-true}
 use Rattle.geometry.proofs.Meeting.{onSegment-false, onSegment-is, straightBetween-true, straightBetween-is}
@@ -62,7 +62,7 @@ join-cut m a (b ∷ r) n l h w = go (onSegment m a b) (samePoint m b) refl refl 
 
 -- ---- heal, then split
 
-pub cut-join : (a : Point) (r s : List Point) → Some r → Some s → Arc a r → Differ a r → Differ (lastOf a r) s
+pub cut-join : (a : Point) (r s : List Point) → Some r → Some s → SimpleArc a r → Differ a r → Differ (lastOf a r) s
     → cut (lastOf a r) a (join a r s) ≡ record { front = r; back = s }
 cut-join a [] s h k f n n′ = absurd h
 cut-join a (m ∷ []) [] h k f n n′ = absurd k

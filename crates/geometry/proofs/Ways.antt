@@ -23,7 +23,7 @@ use Rattle.plane.proofs.Laws.{point-path}
 use Rattle.curves.specs.Curves.{lastOf, beforeLast, secondOf, Curve, lastPoint, startWay, endWay}
 use Rattle.geometry.specs.Spots.{Spot, spot, At, OnSeg, SameWay}
 use Rattle.geometry.specs.Meaning.{On, Some, Differ, Simple, Clear}
-use Rattle.geometry.specs.Drawing.{Good, ClearCurves}
+use Rattle.geometry.specs.Drawing.{GoodCurve, ClearCurves}
 use Rattle.geometry.proofs.Segments.{at-first, at-last, at-spot, flip, way-back}
 use Rattle.geometry.proofs.Double.{Two, null-is}
 use Rattle.geometry.proofs.Exact.{no-two}
@@ -274,14 +274,14 @@ sameWay-false a b c d n h = not-true (sameWay (wayTo a b) (wayTo c d)) (λ e. h 
 
 -- ---- the same of curves
 
-pub second-differs : (c : Curve) → Good c → c .first ≢ secondOf (c .first) (c .rest)
+pub second-differs : (c : Curve) → GoodCurve c → c .first ≢ secondOf (c .first) (c .rest)
 second-differs c g = go (c .rest) (g .some) (g .differ)
   where
     go : (r : List Point) → Some r → Differ (c .first) r → c .first ≢ secondOf (c .first) r
     go [] s n = absurd s
     go (b ∷ r) s n = n .0
 
-pub curves-differ : (c d : Curve) → Good c → Good d → ClearCurves c d → c .first ≡ d .first
+pub curves-differ : (c d : Curve) → GoodCurve c → GoodCurve d → ClearCurves c d → c .first ≡ d .first
     → sameWay (startWay c) (startWay d) ≡ false
 curves-differ c d g g′ h e = sameWay-false (c .first) (secondOf (c .first) (c .rest)) (d .first)
     (secondOf (d .first) (d .rest)) (second-differs c g) (λ w.
@@ -290,7 +290,7 @@ curves-differ c d g g′ h e = sameWay-false (c .first) (secondOf (c .first) (c 
     (subst (λ (z : Point). Clear (c .first) (c .rest) z (d .rest)) (sym e) h)
     (subst (λ (z : Point). SameWay (c .first) (secondOf (c .first) (c .rest)) z (secondOf z (d .rest))) (sym e) w))
 
-pub ends-differ : (c : Curve) → Good c → lastPoint c ≡ c .first → sameWay (startWay c) (endWay c) ≡ false
+pub ends-differ : (c : Curve) → GoodCurve c → lastPoint c ≡ c .first → sameWay (startWay c) (endWay c) ≡ false
 ends-differ c g e = sameWay-false (c .first) (secondOf (c .first) (c .rest)) (lastPoint c)
     (beforeLast (c .first) (c .rest)) (second-differs c g) (λ w.
     loop-differ (c .first) (c .rest) (g .some) (g .differ) (g .simple) e

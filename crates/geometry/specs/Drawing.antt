@@ -11,7 +11,7 @@ abbrev pub OnCurve : Spot → Curve → Type 0
 OnCurve P c = On P (c .first) (c .rest)
 
 -- at least two points, neighbours differ, simple
-pub record Good (c : Curve) : Type 0 where
+pub record GoodCurve (c : Curve) : Type 0 where
   pub some : Some (c .rest)
   pub differ : Differ (c .first) (c .rest)
   pub simple : Simple (c .first) (c .rest)
@@ -20,10 +20,10 @@ abbrev pub ClearCurves : Curve → Curve → Type 0
 ClearCurves c d = Clear (c .first) (c .rest) (d .first) (d .rest)
 
 -- no end of the curve is the point
-pub record Away (m : Point) (c : Curve) : Type 0 where
+pub record NoEnd (m : Point) (c : Curve) : Type 0 where
   pub first : m ≢ c .first
   pub last : m ≢ lastPoint c
 
 pub record Drawn (l : List Curve) : Type 0 where
-  pub good : All Good l
+  pub good : All GoodCurve l
   pub clear : Pairs ClearCurves l

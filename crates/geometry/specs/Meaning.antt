@@ -72,14 +72,14 @@ Differ a [] = Unit {0}
 Differ a (b ∷ r) = (a ≢ b) × Differ b r
 
 -- each segment shares with what follows its last point only
-abbrev pub Arc : Point → List Point → Type 0
-Arc a [] = Unit {0}
-Arc a (b ∷ r) = ((P : Spot) → OnSeg P a b → On P b r → At P b) × Arc b r
+abbrev pub SimpleArc : Point → List Point → Type 0
+SimpleArc a [] = Unit {0}
+SimpleArc a (b ∷ r) = ((P : Spot) → OnSeg P a b → On P b r → At P b) × SimpleArc b r
 
 -- the same, but the first segment may share its first point with the end of a closed curve
 abbrev pub Simple : Point → List Point → Type 0
 Simple a [] = Unit {0}
-Simple a (b ∷ r) = ((P : Spot) → OnSeg P a b → On P b r → At P b ⊎ (At P a × (lastOf b r ≡ a))) × Arc b r
+Simple a (b ∷ r) = ((P : Spot) → OnSeg P a b → On P b r → At P b ⊎ (At P a × (lastOf b r ≡ a))) × SimpleArc b r
 
 -- the spot is an end
 abbrev pub End : Spot → Point → List Point → Type 0

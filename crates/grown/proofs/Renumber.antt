@@ -16,7 +16,7 @@ use Rattle.lists.proofs.Perms.{perm-in, distinct-map, distinct-injective, disti
 use Rattle.lists.proofs.Maps.{map-square}
 use Rattle.planar_maps.specs.Map.{Arc, Dart, fwd, bwd, rev, darts, across, Linked, Cycle, Colouring}
 use Rattle.planar_maps.specs.Pieces.{Chain, stay, along, against, Within, Euler, nums}
-use Rattle.planar_maps.specs.Rings.{Leads, turn, OneTurn}
+use Rattle.planar_maps.specs.Rings.{Leads, aboutNode, OneTurn}
 use Rattle.planar_maps.specs.Planar.{Planar}
 use Rattle.planar_maps.proofs.Cycles.{fwd-in, bwd-in}
 use Rattle.planar_maps.proofs.Rings.{rev-in, next-in}
@@ -195,31 +195,31 @@ module _ (σ : Dart → Dart) {nodes : List ℕ} {es : List Arc} {tail tail′ :
       steps : map next′ (map σ (darts es)) ≡ map σ (map next (darts es))
       steps = map-square next′ σ σ next (darts es) (r .nexts)
 
-  turns : (k : ℕ) (d : Dart) → List·Memᴰ d (darts es) → List·Memᴰ (iterate k (turn next) d) (darts es)
-      × (iterate k (turn next′) (σ d) ≡ σ (iterate k (turn next) d))
+  turns : (k : ℕ) (d : Dart) → List·Memᴰ d (darts es) → List·Memᴰ (iterate k (aboutNode next) d) (darts es)
+      × (iterate k (aboutNode next′) (σ d) ≡ σ (iterate k (aboutNode next) d))
   turns zero d m = (m, refl)
   turns (suc k) d m = go (turns k d m)
     where
-      go : List·Memᴰ (iterate k (turn next) d) (darts es)
-          × (iterate k (turn next′) (σ d) ≡ σ (iterate k (turn next) d))
-          → List·Memᴰ (iterate (suc k) (turn next) d) (darts es)
-          × (iterate (suc k) (turn next′) (σ d) ≡ σ (iterate (suc k) (turn next) d))
+      go : List·Memᴰ (iterate k (aboutNode next) d) (darts es)
+          × (iterate k (aboutNode next′) (σ d) ≡ σ (iterate k (aboutNode next) d))
+          → List·Memᴰ (iterate (suc k) (aboutNode next) d) (darts es)
+          × (iterate (suc k) (aboutNode next′) (σ d) ≡ σ (iterate (suc k) (aboutNode next) d))
       go x = (
         nxt (rev c) (rev-in es (x .0)),
-        ap (turn next′) (x .1) ∙ ap next′ (sym (r .turned c (x .0)))
+        ap (aboutNode next′) (x .1) ∙ ap next′ (sym (r .turned c (x .0)))
             ∙ r .nexts (rev c) (rev-in es (x .0)),
       )
         where
           c : Dart
-          c = iterate k (turn next) d
+          c = iterate k (aboutNode next) d
 
   one-turn : OneTurn fs tail′ next′
-  one-turn d d′ m m′ = origin (λ d. tail′ d ≡ tail′ d′ → Leads (turn next′) d d′)
-      (λ c k. origin (λ d′. tail′ (σ c) ≡ tail′ d′ → Leads (turn next′) (σ c) d′)
+  one-turn d d′ m m′ = origin (λ d. tail′ d ≡ tail′ d′ → Leads (aboutNode next′) d d′)
+      (λ c k. origin (λ d′. tail′ (σ c) ≡ tail′ d′ → Leads (aboutNode next′) (σ c) d′)
       (λ c′ k′ q. go c c′ k k′ (sym (r .tails c k) ∙ q ∙ r .tails c′ k′)) d′ m′) d m
     where
       go : (c c′ : Dart) → List·Memᴰ c (darts es) → List·Memᴰ c′ (darts es) → tail c ≡ tail c′
-          → Leads (turn next′) (σ c) (σ c′)
+          → Leads (aboutNode next′) (σ c) (σ c′)
       go c c′ k k′ q = let old = o .one-turn c c′ k k′ q in (old .0, turns (old .0) c k .1 ∙ ap σ (old .1))
 
   colouring : Colouring fs face′

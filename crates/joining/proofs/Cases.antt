@@ -14,7 +14,7 @@ use Rattle.map.specs.Rows.{Node, Edge, Map, Lent, Sizes, mapOf, lentOf, counts}
 use Rattle.map.specs.Form.{inForm}
 use Rattle.map.specs.Ticket.{Outcome, refused}
 use Rattle.map.specs.Grow.{grow}
-use Rattle.joining.specs.Join.{entries, asIs, joined, ticketsFor, joinTickets}
+use Rattle.joining.specs.Join.{entries, asIs, joinedSheet, ticketsFor, joinTickets}
 use Rattle.joining.proofs.Opened.{opened}
 
 abbrev small : Sizes
@@ -98,7 +98,7 @@ both =
     }
 
 -- the neighbour joins to the square: both its nodes cut the loop, and the common side exists backwards
-pub neighbour-joins : joined square neighbour ≡ asIs (lentOf small both)
+pub neighbour-joins : joinedSheet square neighbour ≡ asIs (lentOf small both)
 unfolding opened
 neighbour-joins = refl
 
@@ -108,7 +108,7 @@ unfolding opened
 neighbour-tickets = refl
 
 -- the square does not join to the neighbour: its node goes in, its loop has nodes inside, and nothing is left of it
-pub square-refused : joined neighbour square ≡ refused neighbour 14
+pub square-refused : joinedSheet neighbour square ≡ refused neighbour 14
 unfolding opened
 square-refused = refl
 
@@ -117,7 +117,7 @@ unfolding opened
 square-tickets = refl
 
 -- a sheet joined to itself: no tickets, and nothing changes
-pub nothing-new : joined neighbour neighbour ≡ asIs neighbour
+pub nothing-new : joinedSheet neighbour neighbour ≡ asIs neighbour
 unfolding opened
 nothing-new = refl
 
@@ -125,7 +125,7 @@ nothing-new = refl
 abbrev narrow : Sizes
 narrow = record { nodes = 2; edges = 4; faces = 3 }
 
-pub no-room : joined (lentOf narrow squareRows) neighbour ≡ refused (lentOf narrow squareRows) 20
+pub no-room : joinedSheet (lentOf narrow squareRows) neighbour ≡ refused (lentOf narrow squareRows) 20
 unfolding opened
 no-room = refl
 
@@ -141,7 +141,7 @@ abbrev spoiled : Lent
 spoiled = lentOf small (
     record { nodes = nodeRow 1 (at 0 0) ∷ []; edges = []; faces = 0 ∷ []; next = counts 1 1 1 })
 
-pub looked-at : map (λ (p : Lent × Lent). joined (p .0) (p .1)) (
+pub looked-at : map (λ (p : Lent × Lent). joinedSheet (p .0) (p .1)) (
     (ragged, spoiled) ∷ (spoiled, ragged) ∷ (square, ragged) ∷ (square, spoiled) ∷ [])
     ≡ refused ragged 1 ∷ refused spoiled 2 ∷ refused square 1 ∷ refused square 2 ∷ []
 unfolding opened
@@ -163,12 +163,12 @@ outcome o = (inForm (o .lent), o .answer)
 
 -- no ticket follows, so it is carried out
 pub left-out-of-form :
-    map outcome (asIs turning ∷ joined turning (grow small (node 10 0 ∷ node 5 0 ∷ []) .lent) ∷ [])
+    map outcome (asIs turning ∷ joinedSheet turning (grow small (node 10 0 ∷ node 5 0 ∷ []) .lent) ∷ [])
     ≡ (true, asIs turning .answer) ∷ (false, asIs turning .answer) ∷ []
 unfolding opened
 left-out-of-form = refl
 
 -- the next ticket gets 2
-pub found-out-of-form : joined turning (grow small (node 10 0 ∷ node 20 20 ∷ []) .lent) ≡ refused turning 2
+pub found-out-of-form : joinedSheet turning (grow small (node 10 0 ∷ node 20 20 ∷ []) .lent) ≡ refused turning 2
 unfolding opened
 found-out-of-form = refl

@@ -21,7 +21,7 @@ use Rattle.map.proofs.Facts.{after-append}
 use Rattle.map.proofs.Reasons.{first-hit, first-miss, first-none, first-append, first-after}
 use Rattle.grown.specs.Claims.{GrownMap}
 use Rattle.grown.proofs.Grows.{grows}
-use Rattle.joining.specs.Join.{Entry, entries, asIs, enter, unlessReason, enterAll, joined, handedIn}
+use Rattle.joining.specs.Join.{Entry, entries, asIs, enter, unlessReason, enterAll, joinedSheet, handedIn}
 use Rattle.joining.specs.Join.{ticketsFor, joinTickets}
 use Rattle.joining.specs.Claims.{JoinedAfter, JoinRefused, turnedDown, JoinedAnswer, JoinedGrown, JoinedMap}
 
@@ -62,7 +62,7 @@ unless-after zero l o ts then = then refl
 unless-after (suc r) l o ts then = rw (same-false (suc r) 0 (λ e. omega (arith, e)))
 
 pub joined-after : JoinedAfter
-unfolding joined joinTickets
+unfolding joinedSheet joinTickets
 joined-after l second =
     let fs = entries (mapOf second) in
     let o = enterAll l fs in
@@ -81,7 +81,7 @@ unless-refused zero l o then n = then n
 unless-refused (suc r) l o then n = refl
 
 pub join-refused : JoinRefused
-unfolding joined
+unfolding joinedSheet
 join-refused l second =
     let o = enterAll l (entries (mapOf second)) in
     unless-refused (firstReason (lentReasons l ++ lentReasons second)) l
@@ -131,7 +131,7 @@ settled zero l k = refl
 settled (suc r) l k = refl
 
 pub joined-answer : JoinedAnswer
-unfolding joined
+unfolding joinedSheet
 joined-answer l second =
     let fs = entries (mapOf second) in
     let o = enterAll l fs in

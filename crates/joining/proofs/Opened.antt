@@ -1,7 +1,7 @@
 -- Every definition opened at once: `unfolding opened` lets closed examples compute. Written by tests/opened.py.
 use Rattle.map.proofs.Opened as below
-use Rattle.joining.specs.Join.{nodeTicket, edgeTicket, entries, enterAll, joined, ticketsFor, joinTickets}
+use Rattle.joining.specs.Join.{nodeTicket, edgeTicket, entries, enterAll, joinedSheet, ticketsFor, joinTickets}
 
 unfoldable pub opened : Unit {0}
-unfolding below.opened nodeTicket edgeTicket entries enterAll joined ticketsFor joinTickets
+unfolding below.opened nodeTicket edgeTicket entries enterAll joinedSheet ticketsFor joinTickets
 opened = tt

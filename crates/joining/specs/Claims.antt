@@ -14,17 +14,18 @@ use Rattle.map.specs.Reasons.{firstReason}
 use Rattle.map.specs.Ticket.{lentReasons, refused}
 use Rattle.map.specs.Grow.{after, grow}
 use Rattle.grown.specs.Claims.{GrownMap}
-use Rattle.joining.specs.Join.{entries, enterAll, joined, ticketsFor, joinTickets}
+use Rattle.joining.specs.Join.{entries, enterAll, joinedSheet, ticketsFor, joinTickets}
 
 -- ---- any two sheets
 
 -- the joined sheet is what the tickets leave
 abbrev pub JoinedAfter : Type 0
-JoinedAfter = (l second : Lent) → joined l second .lent ≡ after l (joinTickets l second) .lent
+JoinedAfter = (l second : Lent) → joinedSheet l second .lent ≡ after l (joinTickets l second) .lent
 
 -- turned down, the first sheet is as it was, and the value is 0
 abbrev pub JoinRefused : Type 0
-JoinRefused = (l second : Lent) → let r = joined l second .answer .refusal in r ≢ 0 → joined l second ≡ refused l r
+JoinRefused = (l second : Lent) → let r = joinedSheet l second .answer .refusal in r ≢ 0 → joinedSheet l second
+    ≡ refused l r
 
 -- an answer as a reason
 abbrev pub turnedDown : Answer → ℕ × Bool
@@ -35,7 +36,7 @@ abbrev pub JoinedAnswer : Type 0
 JoinedAnswer =
     (l second : Lent) → let tickets = ticketsFor l (entries (mapOf second)) in
     let reasons = lentReasons l ++ lentReasons second ++ map turnedDown (after l tickets .answers) in
-    joined l second .answer ≡ record { refusal = firstReason reasons; value = pos 0 }
+    joinedSheet l second .answer ≡ record { refusal = firstReason reasons; value = pos 0 }
 
 -- counts, ranges and zero rows are as in form wherever a ticket is worked out, also behind one that left the first
 -- sheet out of form
@@ -50,9 +51,10 @@ JoinRanged =
 abbrev pub JoinedGrown : Type 0
 JoinedGrown =
     (s : Sizes) (ts : List (List ℤ)) (second : Lent) → let first = grow s ts .lent in
-    joined first second .lent ≡ grow s (ts ++ joinTickets first second) .lent
+    joinedSheet first second .lent ≡ grow s (ts ++ joinTickets first second) .lent
 
 -- so it has all that grown maps have
 abbrev pub JoinedMap : Type 0
 JoinedMap =
-    (s : Sizes) → 1 ≤ s .faces → (ts : List (List ℤ)) (second : Lent) → GrownMap (joined (grow s ts .lent) second .lent)
+    (s : Sizes) → 1 ≤ s .faces → (ts : List (List ℤ)) (second : Lent)
+    → GrownMap (joinedSheet (grow s ts .lent) second .lent)

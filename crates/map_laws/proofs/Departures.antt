@@ -8,7 +8,7 @@ use Rattle.lists.proofs.Keeps.{keep-in, keep-has, keep-cong}
 use Rattle.planar_maps.specs.Map.{Dart, rev}
 use Rattle.planar_maps.specs.Rings.{sameDart}
 use Rattle.plane.specs.Directions.{Way}
-use Rattle.rotation.specs.Law.{firstClockwise, Differ, Lawful, from, back, Law}
+use Rattle.rotation.specs.Law.{firstClockwise, Differ, Lawful, from, reverseLeads, Law}
 use Rattle.rotation.proofs.Clock.{First, first-one}
 use Rattle.rotation.proofs.Node.{first-first, place, placed, size-of}
 use Rattle.rotation.proofs.Rename.{renamed-lawful}
@@ -38,10 +38,11 @@ module _ (ds : List Dart) {tail tail′ : Dart → ℕ} {way way′ : Dart → W
     (ht : (d : Dart) → List·Memᴰ d ds → tail′ d ≡ tail d) (hw : (d : Dart) → List·Memᴰ d ds → way′ d ≡ way d) where
   pub law-agree : (next next′ : Dart → Dart) → ((d : Dart) → List·Memᴰ d ds → next′ (rev d) ≡ next (rev d))
       → Law sameDart rev tail way ds next → Law sameDart rev tail′ way′ ds next′
-  law-agree next next′ hn l n = subst (λ (k : List Dart). Lawful way′ sameDart k (back rev next′))
+  law-agree next next′ hn l n = subst (λ (k : List Dart). Lawful way′ sameDart k (reverseLeads rev next′))
       (sym (from-alike ds tail tail′ ht n))
-      (subst (λ (k : List Dart). Lawful way′ sameDart k (back rev next′)) (map-id (from tail ds n))
-      (renamed-lawful (λ d. d) way way′ sameDart sameDart (from tail ds n) (back rev next) (back rev next′)
+      (subst (λ (k : List Dart). Lawful way′ sameDart k (reverseLeads rev next′)) (map-id (from tail ds n))
+      (renamed-lawful (λ d. d) way way′ sameDart sameDart (from tail ds n) (reverseLeads rev next)
+      (reverseLeads rev next′)
       (record { ways = λ d k. hw d (inside k); tests = λ d c k i. refl }) (λ d k. hn d (inside k)) (l n)))
     where
       inside : {d : Dart} → List·Memᴰ d (from tail ds n) → List·Memᴰ d ds

@@ -14,7 +14,7 @@ use Rattle.lists.proofs.Members.{each-cons, none-has}
 use Rattle.planar_maps.specs.Map.{Arc, Dart, fwd, bwd, rev, darts}
 use Rattle.planar_maps.specs.Pieces.{nums}
 use Rattle.planar_maps.specs.Rings.{sameDart}
-use Rattle.planar_maps.specs.Weave.{with-edge, lone}
+use Rattle.planar_maps.specs.Weave.{with-edge, loneEdge}
 use Rattle.planar_maps.proofs.Rings.{sameDart-refl}
 use Rattle.planar_maps.proofs.Hooks.{fresh-dart, with-fwd, with-bwd, with-other}
 use Rattle.plane.specs.declared.Point.{Point}
@@ -174,7 +174,7 @@ module _ (m : Map) (u v : ℕ) (c : Curve) (φ : ℕ) (free : Free m u v c) wher
   D-way d = way-by (linkEdge e m₁) D refl d ∙ relinked .way d
 
   pub D-links : (d : Dart) → List·Memᴰ d all → next D d
-      ≡ rotation.linkEdge sameDart rev W T f (directed m) (lone e (next m)) d
+      ≡ rotation.linkEdge sameDart rev W T f (directed m) (loneEdge e (next m)) d
   unfolding drawn atNodes
   D-links d k = next-by (linkEdge e m₁) D refl d ∙ linkEdge-next m u v c φ (free .fresh) drawn-apart d k
 
@@ -197,7 +197,7 @@ module _ (m : Map) (u v : ℕ) (c : Curve) (φ : ℕ) (free : Free m u v c) wher
       c₂ = firstClockwise W (W b) b (from T (f ∷ directed m) (T b))
 
       N₁ : Dart → Dart
-      N₁ = rotation.link sameDart rev W f (from T (directed m) (T f)) (lone e (next m))
+      N₁ = rotation.link sameDart rev W f (from T (directed m) (T f)) (loneEdge e (next m))
 
 -- ---- what a ticket's facts give
 
@@ -205,7 +205,7 @@ pub some-rest : (p : Point) (r : List Point) → 2 ≤ length (p ∷ r) → Some
 some-rest p [] h = absurd (omega arith)
 some-rest p (q ∷ r) h = tt
 
-sent-good : (m : Map) (c : Curve) (u v : ℕ) → Sent m c u v → drawing.Good c
+sent-good : (m : Map) (c : Curve) (u v : ℕ) → Sent m c u v → drawing.GoodCurve c
 sent-good m c u v h = good-iff c .1 (some-rest (c .first) (c .rest) (h .least), h .differ, h .simple)
 
 -- kind 4: nothing departs from either node
@@ -235,7 +235,7 @@ edge-free {m = m} {u} {v} {c} h apart fresh = record {
   loop = λ p. closed-differ c good (h .sent .end ∙ ap (λ (n : ℕ). node m n .at) (sym p) ∙ sym (h .sent .start));
 }
   where
-    good : drawing.Good c
+    good : drawing.GoodCurve c
     good = sent-good m c u v (h .sent)
 
     ways : (wayTaken m (m .next .edges) u (startWay c) ≡ false) × (wayTaken m (m .next .edges) v (endWay c) ≡ false)

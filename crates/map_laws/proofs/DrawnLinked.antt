@@ -10,7 +10,7 @@ use Rattle.curves.specs.Curves.{Curve, startWay, endWay}
 use Rattle.planar_maps.specs.Map.{Arc, Dart, fwd, bwd, rev, darts, Linked}
 use Rattle.planar_maps.specs.Pieces.{nums}
 use Rattle.planar_maps.specs.Rings.{sameDart}
-use Rattle.planar_maps.specs.Weave.{with-edge, lone, Corner, woven, Fits}
+use Rattle.planar_maps.specs.Weave.{with-edge, loneEdge, Corner, woven, CornerFits}
 use Rattle.planar_maps.proofs.Agree.{linked-agree}
 use Rattle.planar_maps.proofs.Moves.{linked-perm}
 use Rattle.planar_maps.proofs.Weaving.{woven-linked}
@@ -48,9 +48,10 @@ pub record WovenIn (m : Map) (u v : ℕ) (c : Curve) (φ : ℕ) : Type 0 where
   pub start : Corner
   pub end : Corner
   pub fits-start :
-      Fits (directed m) (with-edge (m .next .edges) u v (leaves m)) (with-edge (m .next .edges) φ φ (bears m)) u φ start
+      CornerFits (directed m) (with-edge (m .next .edges) u v (leaves m)) (with-edge (m .next .edges) φ φ (bears m)) u
+      φ start
   pub fits-end :
-      Fits (fwd (m .next .edges) ∷ directed m) (with-edge (m .next .edges) u v (leaves m))
+      CornerFits (fwd (m .next .edges) ∷ directed m) (with-edge (m .next .edges) u v (leaves m))
       (with-edge (m .next .edges) φ φ (bears m)) v φ end
   pub links :
       (d : Dart) → List·Memᴰ d (darts (arcOf (drawnRow m u v c φ) ∷ arcs m)) → next (drawn u v c φ m) d
@@ -132,9 +133,9 @@ module _ (m : Map) (u v : ℕ) (c : Curve) (φ : ℕ) (draws : Draws m u v c φ)
 
   -- links of the theory
   N : Dart → Dart
-  N = rotation.linkEdge sameDart rev W T f (directed m) (lone e (next m))
+  N = rotation.linkEdge sameDart rev W T f (directed m) (loneEdge e (next m))
 
-  put : (k k′ : Corner) × Fits (darts (arcs m)) T F u φ k × Fits (f ∷ darts (arcs m)) T F v φ k′
+  put : (k k′ : Corner) × CornerFits (darts (arcs m)) T F u φ k × CornerFits (f ∷ darts (arcs m)) T F v φ k′
       × ((d : Dart) → List·Memᴰ d all → N d ≡ woven e k k′ (next m) d)
   unfolding N
   put = put-woven (draws .linked) (draws .once) a (draws .free .fresh) φ W

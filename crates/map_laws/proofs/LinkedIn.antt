@@ -15,7 +15,7 @@ use Rattle.curves.specs.Curves.{Curve, startWay}
 use Rattle.curves.specs.Edits as edits
 use Rattle.planar_maps.specs.Map.{Dart, fwd, bwd, rev, darts}
 use Rattle.planar_maps.specs.Rings.{sameDart}
-use Rattle.planar_maps.specs.Weave.{with-edge, lone}
+use Rattle.planar_maps.specs.Weave.{with-edge, loneEdge}
 use Rattle.planar_maps.proofs.Bridges.{Fresh}
 use Rattle.planar_maps.proofs.Rings.{sameDart-refl}
 use Rattle.planar_maps.proofs.Hooks.{fwd≢bwd, fresh-dart, sameDart-false, with-fwd, with-bwd, with-other}
@@ -118,7 +118,7 @@ module _ (m : Map) (u v : ℕ) (c : Curve) (φ : ℕ) where
     pub leaves₁ : (d : Dart) → List·Memᴰ d all → leaves m₁ d ≡ T d
     leaves₁ = reads tailIn leaves leaves-row
 
-    next₁ : (d : Dart) → List·Memᴰ d all → next m₁ d ≡ lone e (next m) d
+    next₁ : (d : Dart) → List·Memᴰ d all → next m₁ d ≡ loneEdge e (next m) d
     next₁ = reads nextIn next next-row
 
     pub bears₁ : (d : Dart) → List·Memᴰ d all → bears m₁ d ≡ with-edge e φ φ (bears m) d
@@ -223,7 +223,7 @@ module _ (m : Map) (u v : ℕ) (c : Curve) (φ : ℕ) where
 
     -- they are those of the theory
     pub linkEdge-next : Apart T (way m₁) (b ∷ f ∷ directed m) → (d : Dart) → List·Memᴰ d all → next (linkEdge e m₁) d
-        ≡ rotation.linkEdge sameDart rev (way m₁) T f (directed m) (lone e (next m)) d
+        ≡ rotation.linkEdge sameDart rev (way m₁) T f (directed m) (loneEdge e (next m)) d
     unfolding linkEdge
     linkEdge-next apart d k = linkIn-next b ends m₂ d (R .has (d .edge) ∙ has-all k)
         ∙ ap (λ (w : Dart → Way). rotation.link sameDart rev w b ends (next m₂) d) (λ i x. R .way x i)

@@ -14,7 +14,7 @@ use Rattle.plane.specs.Directions.{Way}
 use Rattle.planar_maps.specs.Map.{Arc, Dart, fwd, bwd, rev, darts, Linked}
 use Rattle.planar_maps.specs.Pieces.{nums}
 use Rattle.planar_maps.specs.Rings.{sameDart}
-use Rattle.planar_maps.specs.Weave.{with-edge, lone, Corner, alone, after, tie, woven, Fits}
+use Rattle.planar_maps.specs.Weave.{with-edge, loneEdge, Corner, alone, after, tie, woven, CornerFits}
 use Rattle.planar_maps.proofs.Bridges.{Fresh}
 use Rattle.planar_maps.proofs.Rings.{rev-in}
 use Rattle.planar_maps.proofs.Hooks.{fwd≢bwd, fresh-dart, distinct-darts, exchange-other, with-fwd, with-bwd}
@@ -41,7 +41,7 @@ module _ {es : List Arc} {tail : Dart → ℕ} {next : Dart → Dart} {face : Da
   F = with-edge (a .num) φ φ face
 
   abbrev N : Dart → Dart
-  N = lone (a .num) next
+  N = loneEdge (a .num) next
 
   abbrev f : Dart
   f = fwd (a .num)
@@ -114,7 +114,8 @@ module _ {es : List Arc} {tail : Dart → ℕ} {next : Dart → Dart} {face : Da
   -- the corner's face is that of the first departure met
   module _ (face₁ : (d : Dart) → List·Memᴰ d at-start → F c₁ ≡ φ) where
     At-start : Corner → Type 0
-    At-start k = Fits (darts es) T F (a .from) φ k × ((d : Dart) → List·Memᴰ d (darts (a ∷ es)) → N₁ d ≡ tie k b N d)
+    At-start k = CornerFits (darts es) T F (a .from) φ k × ((d : Dart) → List·Memᴰ d (darts (a ∷ es)) → N₁ d
+        ≡ tie k b N d)
 
     start-corner : (k : Corner) × At-start k
     unfolding At-start
@@ -153,7 +154,7 @@ module _ {es : List Arc} {tail : Dart → ℕ} {next : Dart → Dart} {face : Da
 
   -- ---- at the end, the corner k of the start given
 
-  module _ (k : Corner) (fits : Fits (darts es) T F (a .from) φ k)
+  module _ (k : Corner) (fits : CornerFits (darts es) T F (a .from) φ k)
       (differ : T f ≡ T b → Differ W (b ∷ f ∷ from T (darts es) (T b)))
       (face₂ : (d : Dart) → List·Memᴰ d (from T (darts es) (T b))
       → F (firstClockwise W (W b) b (from T (darts es) (T b))) ≡ φ) where
@@ -169,12 +170,12 @@ module _ {es : List Arc} {tail : Dart → ℕ} {next : Dart → Dart} {face : Da
     unfolding M₁
     still = go k fits
       where
-        go : (k : Corner) → Fits (darts es) T F (a .from) φ k → tie k b N f ≡ b
+        go : (k : Corner) → CornerFits (darts es) T F (a .from) φ k → tie k b N f ≡ b
         go alone h = nf
         go (after p) h = ap N (exchange-other p b f (λ q. new (h .0) (ap (λ (d : Dart). d .edge) (sym q))) fwd≢bwd) ∙ nf
 
     At-end : Corner → Type 0
-    At-end k′ = Fits (f ∷ darts es) T F (a .to) φ k′
+    At-end k′ = CornerFits (f ∷ darts es) T F (a .to) φ k′
         × ((d : Dart) → List·Memᴰ d (darts (a ∷ es)) → leading sameDart f c₂ (redirect sameDart c₂ b M₁) d
         ≡ tie k′ f M₁ d)
 
@@ -256,7 +257,8 @@ module _ {es : List Arc} {tail : Dart → ℕ} {next : Dart → Dart} {face : Da
       (face₂ : (d : Dart) → List·Memᴰ d (from T (darts es) (T b))
       → F (firstClockwise W (W b) b (from T (darts es) (T b))) ≡ φ) where
     -- the edge linked in is woven in at two corners of the face φ
-    pub put-woven : (k k′ : Corner) × Fits (darts es) T F (a .from) φ k × Fits (f ∷ darts es) T F (a .to) φ k′
+    pub put-woven : (k k′ : Corner) × CornerFits (darts es) T F (a .from) φ k × CornerFits (f ∷ darts es) T F (a .to)
+        φ k′
         × ((d : Dart) → List·Memᴰ d (darts (a ∷ es)) → N₂ d ≡ woven (a .num) k k′ next d)
     unfolding At-start At-end M₁
     put-woven = (

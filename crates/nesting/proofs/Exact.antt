@@ -27,9 +27,11 @@ use Rattle.map.specs.Reasons.{firstReason}
 use Rattle.map.specs.Ticket.{listUnless}
 use Rattle.map.proofs.Laws.{formed-is}
 use Rattle.map_laws.proofs.Faces.{formed-faces}
-use Rattle.nesting.specs.Contents.{pieceOf, pieceRows, partCount, isIn, under, Line, lines, complete, contents}
-use Rattle.nesting.specs.Contents.{lineNumbers, contentsOf}
-use Rattle.nesting.specs.Claims.{Part, partOf, parts, Once, byRule, DepthEnough, ContentsExact, Exactly28}
+use Rattle.nesting.specs.Contents.{pieceOf, pieceRows, partCount, isIn, listedUnder, Line, lines, complete}
+use Rattle.nesting.specs.Contents.{contents}
+use Rattle.nesting.specs.Contents.{lineCells, contentsOf}
+use Rattle.nesting.specs.Claims.{Part, partOf, facesAndPieces, Once, byRule, DepthEnough, ContentsExact}
+use Rattle.nesting.specs.Claims.{Exactly28}
 use Rattle.nesting.proofs.Walks.{keys, Sound, lines-rule, rule-lines, lines-sound, depth-alike}
 
 -- ---- faces and pieces
@@ -38,18 +40,19 @@ pub pieces-are : (m : Map) → length (pieceRows m) ≡ pieceCount m
 unfolding pieces pieceRows
 pieces-are m = sym (count-keep (λ n. same (pieceOf m n) n) (map (λ r. r .number) (m .nodes)))
 
-pub parts-are : (m : Map) → length (parts m) ≡ partCount m
+pub parts-are : (m : Map) → length (facesAndPieces m) ≡ partCount m
 parts-are m = simp (length-append, length-map) (ap (λ n. length (m .faces) + n) (pieces-are m))
 
-pub face-part : (m : Map) {f : ℕ} → List·Memᴰ f (m .faces) → List·Memᴰ (false, f) (parts m)
+pub face-part : (m : Map) {f : ℕ} → List·Memᴰ f (m .faces) → List·Memᴰ (false, f) (facesAndPieces m)
 face-part m k = Memᴰ·append-left (map (λ p. (true, p)) (pieceRows m)) (Memᴰ·map (λ f. (false, f)) k)
 
-pub piece-part : (m : Map) {p : ℕ} → List·Memᴰ p (pieceRows m) → List·Memᴰ (true, p) (parts m)
+pub piece-part : (m : Map) {p : ℕ} → List·Memᴰ p (pieceRows m) → List·Memᴰ (true, p) (facesAndPieces m)
 piece-part m k = Memᴰ·append-right (map (λ f. (false, f)) (m .faces)) (Memᴰ·map (λ p. (true, p)) k)
 
 -- what is under a face or a piece is a piece or a face
-pub under-part : (m : Map) (b : Bool) (x y : ℕ) → List·Memᴰ y (under m b x) → List·Memᴰ (not b, y) (parts m)
-unfolding under
+pub under-part : (m : Map) (b : Bool) (x y : ℕ) → List·Memᴰ y (listedUnder m b x)
+    → List·Memᴰ (not b, y) (facesAndPieces m)
+unfolding listedUnder
 under-part m false f p k = piece-part m (keep-in (λ p. isIn m p f) (pieceRows m) k .0)
 under-part m true p f k = face-part m (keep-in (λ f. isIn m p f) (m .faces) k .0)
 
@@ -57,7 +60,7 @@ under-part m true p f k = face-part m (keep-in (λ f. isIn m p f) (m .faces) k .
 
 pub depth-enough : DepthEnough
 depth-enough m k le =
-    depth-alike (under m) ((false, 0) ∷ parts m) (λ b x y h. List·Memᴰ·tail (under-part m b x y h)) k
+    depth-alike (listedUnder m) ((false, 0) ∷ facesAndPieces m) (λ b x y h. List·Memᴰ·tail (under-part m b x y h)) k
     (suc (partCount m)) false 0 none 0 [] (List·Memᴰ·head refl)
     (record { once = tt; inside = λ z h. absurd (List·Memᴰ·not-nil h) }) (omega (arith, parts-are m))
     (omega (arith, parts-are m))
@@ -79,22 +82,23 @@ some-complete n o ls e le = ap (complete n) e ∙ ap (λ b. cond b none (some ls
 
 -- where face 0 exists, lines for as many as there are faces and pieces are contents, and each is listed once
 module _ (m : Map) (zero-in : List·Memᴰ 0 (m .faces)) where
-  pub lines-once : (k : ℕ) (ls : List Line) → lines k (under m) false 0 none 0 [] ≡ some ls → partCount m ≤ length ls
+  pub lines-once : (k : ℕ) (ls : List Line) → lines k (listedUnder m) false 0 none 0 [] ≡ some ls
+      → partCount m ≤ length ls
       → Once m ls
-  lines-once k ls e le = perm-of-distinct (keys ls) (parts m) (s .once) (s .inside)
+  lines-once k ls e le = perm-of-distinct (keys ls) (facesAndPieces m) (s .once) (s .inside)
       (omega (arith, parts-are m, length-map ls partOf))
     where
-      s : Sound (under m) (parts m) (under-part m) ls
-      s = lines-sound (under m) (parts m) (under-part m) k false 0 none 0 [] ls (face-part m zero-in) e
+      s : Sound (listedUnder m) (facesAndPieces m) (under-part m) ls
+      s = lines-sound (listedUnder m) (facesAndPieces m) (under-part m) k false 0 none 0 [] ls (face-part m zero-in) e
           (record { once = tt; inside = λ z h. absurd (List·Memᴰ·not-nil h) })
 
   pub lines-contents : (k : ℕ) → suc (partCount m) ≤ k → (ls : List Line)
-      → lines k (under m) false 0 none 0 [] ≡ some ls → partCount m ≤ length ls → contents m ≡ some ls
+      → lines k (listedUnder m) false 0 none 0 [] ≡ some ls → partCount m ≤ length ls → contents m ≡ some ls
   unfolding contents
   lines-contents k le ls e full = some-complete (partCount m) _ ls (sym (depth-enough m k le) ∙ e) full
 
   contents-lines : (k : ℕ) → suc (partCount m) ≤ k → (ls : List Line) → contents m ≡ some ls
-      → (lines k (under m) false 0 none 0 [] ≡ some ls) × (partCount m ≤ length ls)
+      → (lines k (listedUnder m) false 0 none 0 [] ≡ some ls) × (partCount m ≤ length ls)
   unfolding contents
   contents-lines k le ls e = let r = complete-some (partCount m) _ ls e in (depth-enough m k le ∙ r .0, r .1)
 
@@ -111,7 +115,7 @@ module _ (m : Map) (h : formed m ≡ true) where
   pieces-once = distinct-keep (λ n. same (pieceOf m n) n) (map (λ r. r .number) (m .nodes))
       (formed-is m h .numbers .nodes .distinct)
 
-  pub parts-once : Distinct (parts m)
+  pub parts-once : Distinct (facesAndPieces m)
   parts-once = distinct-append (map (λ f. (false, f)) (m .faces)) (map (λ p. (true, p)) (pieceRows m))
       (of false (m .faces) faces-once) (of true (pieceRows m) pieces-once) apart
     where
@@ -130,12 +134,15 @@ contents-exact m h k le ls = (there, back)
   where
     there : contents m ≡ some ls → (byRule k m ≡ ls) × Once m ls
     there e =
-        let r = contents-lines m (zero-in m h) k le ls e in
-        (sym (lines-rule (under m) k false 0 none 0 [] ls (r .0) .0), lines-once m (zero-in m h) k ls (r .0) (r .1))
+        let r = contents-lines m (zero-in m h) k le ls e in (
+          sym (lines-rule (listedUnder m) k false 0 none 0 [] ls (r .0) .0),
+          lines-once m (zero-in m h) k ls (r .0)
+              (r .1),
+        )
 
     back : (byRule k m ≡ ls) × Once m ls → contents m ≡ some ls
     back (e, once) = lines-contents m (zero-in m h) k le ls
-        (rule-lines (under m) k (partCount m) false 0 none 0 [] (subst (λ l. Distinct (keys l)) (sym e) distinct)
+        (rule-lines (listedUnder m) k (partCount m) false 0 none 0 [] (subst (λ l. Distinct (keys l)) (sym e) distinct)
         (omega (arith, ap length e, all)) (omega arith) ∙ ap some e) (omega (arith, all))
       where
         distinct : Distinct (keys ls)
@@ -151,12 +158,12 @@ abbrev pub reason : Bool → Bool → Bool → Bool → ℕ
 reason a b c d = firstReason ((1, not a) ∷ (2, not b) ∷ (28, not c) ∷ (20, d) ∷ [])
 
 abbrev pub short : Lent → List ℤ → Bool
-short l list = ltb (length list) (length (flatMap lineNumbers (Option·getD (contents (mapOf l)) [])))
+short l list = ltb (length list) (length (flatMap lineCells (Option·getD (contents (mapOf l)) [])))
 
 pub refusal-is : (l : Lent) (list : List ℤ)
     → contentsOf l list .answer .refusal ≡ reason (whole l) (inForm l) (isSome (contents (mapOf l))) (short l list)
 unfolding contentsOf
-refusal-is l list = go (flatMap lineNumbers (Option·getD (contents (mapOf l)) []))
+refusal-is l list = go (flatMap lineCells (Option·getD (contents (mapOf l)) []))
     (reason (whole l) (inForm l) (isSome (contents (mapOf l))) (short l list))
   where
     go : (written : List ℤ) (n : ℕ) → listUnless list written n .answer .refusal ≡ n

@@ -1,7 +1,7 @@
 -- Every definition opened at once: `unfolding opened` lets closed examples compute. Written by tests/opened.py.
 use Rattle.map.proofs.Opened as below
-use Rattle.nesting.specs.Contents.{pieceRows, isIn, under, lines, contents, contentsOf}
+use Rattle.nesting.specs.Contents.{pieceRows, isIn, listedUnder, lines, contents, contentsOf}
 
 unfoldable pub opened : Unit {0}
-unfolding below.opened pieceRows isIn under lines contents contentsOf
+unfolding below.opened pieceRows isIn listedUnder lines contents contentsOf
 opened = tt

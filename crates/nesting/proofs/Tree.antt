@@ -34,9 +34,9 @@ use Rattle.map_laws.proofs.RowChanges.{nodeNumber, node-at}
 use Rattle.grown.proofs.Numbers.Ranked.{RankedMap, Met, numbered-ranked}
 use Rattle.grown.proofs.Plane.Reached.{good-reached}
 use Rattle.grown.proofs.Forms.{good-formed}
-use Rattle.nesting.specs.Contents.{pieceOf, pieceRows, partCount, isIt, ringBears, nodeBears, isIn, under}
+use Rattle.nesting.specs.Contents.{pieceOf, pieceRows, partCount, isIt, ringBears, nodeBears, isIn, listedUnder}
 use Rattle.nesting.specs.Contents.{Line, listed, lines}
-use Rattle.nesting.specs.Claims.{Part, partOf, parts, HasContents}
+use Rattle.nesting.specs.Claims.{Part, partOf, facesAndPieces, HasContents}
 use Rattle.nesting.proofs.Branches.{Set, Graph, Edge, Only, Connected, Bridges, endFalse, endTrue}
 use Rattle.nesting.proofs.Listing.{Neighbours, all-listed}
 use Rattle.nesting.proofs.Walks.{keys, in-keys}
@@ -278,33 +278,33 @@ module _ (m : Map) (g : Good m) where
   form : formed m ≡ true
   form = good-formed m g
 
-  neighbours : Neighbours (nesting m) (under m)
-  unfolding under
+  neighbours : Neighbours (nesting m) (listedUnder m)
+  unfolding listedUnder
   neighbours = record { once = once; joined = joined; near = near }
     where
-      once : (b : Bool) (v : ℕ) → Distinct (under m b v)
+      once : (b : Bool) (v : ℕ) → Distinct (listedUnder m b v)
       once false f = distinct-keep (λ p. isIn m p f) (pieceRows m) (pieces-once m form)
       once true p = distinct-keep (λ f. isIn m p f) (m .faces) (faces-once m form)
 
-      joined : (b : Bool) (v x : ℕ) → List·Memᴰ v (vertices m b) → List·Memᴰ x (under m b v)
+      joined : (b : Bool) (v x : ℕ) → List·Memᴰ v (vertices m b) → List·Memᴰ x (listedUnder m b v)
           → Edge (nesting m) (endFalse b v x) (endTrue b v x)
       joined false f p k j = let q = keep-in (λ p. isIn m p f) (pieceRows m) j in
           record { left = k; right = q .0; holds = q .1 }
       joined true p f k j = let q = keep-in (λ f. isIn m p f) (m .faces) j in
           record { left = q .0; right = k; holds = q .1 }
 
-      near : (b : Bool) (v x : ℕ) → Edge (nesting m) (endFalse b v x) (endTrue b v x) → List·Memᴰ x (under m b v)
+      near : (b : Bool) (v x : ℕ) → Edge (nesting m) (endFalse b v x) (endTrue b v x) → List·Memᴰ x (listedUnder m b v)
       near false f p e = keep-has (λ p. isIn m p f) (pieceRows m) (e .right) (e .holds)
       near true p f e = keep-has (λ f. isIn m p f) (m .faces) (e .left) (e .holds)
 
   -- all faces and pieces are under face 0
-  lines-of : (k : ℕ) → partCount m ≤ k → (ls : List Line) × (lines k (under m) false 0 none 0 [] ≡ some ls)
+  lines-of : (k : ℕ) → partCount m ≤ k → (ls : List Line) × (lines k (listedUnder m) false 0 none 0 [] ≡ some ls)
       × ((b : Bool) (x : ℕ) → List·Memᴰ x (vertices m b) → listed ls b x ≡ true)
-  lines-of k le = all-listed (nesting m) (under m) neighbours connected bridges (zero-in m form) k
+  lines-of k le = all-listed (nesting m) (listedUnder m) neighbours connected bridges (zero-in m form) k
       (omega (arith, pieces-are m))
 
 -- a face or a piece as a vertex
-part-vertex : (m : Map) (z : Part) → List·Memᴰ z (parts m) → List·Memᴰ (z .1) (vertices m (z .0))
+part-vertex : (m : Map) (z : Part) → List·Memᴰ z (facesAndPieces m) → List·Memᴰ (z .1) (vertices m (z .0))
 part-vertex m z k = elim (List·Memᴰ·append-cases (map (λ f. (false, f)) (m .faces)) k) [
   | inl j ↦ of false j
   | inr j ↦ of true j
@@ -325,12 +325,12 @@ good-contents m g = record {
     zero : List·Memᴰ 0 (m .faces)
     zero = zero-in m (good-formed m g)
 
-    r : (ls : List Line) × (lines (suc (partCount m)) (under m) false 0 none 0 [] ≡ some ls)
+    r : (ls : List Line) × (lines (suc (partCount m)) (listedUnder m) false 0 none 0 [] ≡ some ls)
         × ((b : Bool) (x : ℕ) → List·Memᴰ x (vertices m b) → listed ls b x ≡ true)
     r = lines-of m g (suc (partCount m)) (omega arith)
 
     all : partCount m ≤ length (r .0)
     all =
-        let le = distinct-length (parts m) (keys (r .0)) (parts-once m (good-formed m g))
+        let le = distinct-length (facesAndPieces m) (keys (r .0)) (parts-once m (good-formed m g))
         (λ z k. in-keys (r .0) (z .0) (z .1) (r .2 (z .0) (z .1) (part-vertex m z k))) in
         omega (arith, parts-are m, length-map (r .0) partOf)

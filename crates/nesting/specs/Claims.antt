@@ -9,7 +9,8 @@ use lib.IntN.{ℤ}
 use Rattle.map.specs.Rows.{Map, Lent, Sizes, mapOf, whole}
 use Rattle.map.specs.Form.{formed, inForm}
 use Rattle.map.specs.Grow.{grow}
-use Rattle.nesting.specs.Contents.{pieceRows, partCount, under, Line, line, others, lines, contents, contentsOf}
+use Rattle.nesting.specs.Contents.{pieceRows, partCount, listedUnder, Line, line, others, lines, contents}
+use Rattle.nesting.specs.Contents.{contentsOf}
 
 -- a face (false) or a piece (true), by number
 abbrev pub Part : Type 0
@@ -18,19 +19,19 @@ Part = Bool × ℕ
 abbrev pub partOf : Line → Part
 partOf l = (l .piece, l .number)
 
-abbrev pub parts : Map → List Part
-parts m = map (λ f. (false, f)) (m .faces) ++ map (λ p. (true, p)) (pieceRows m)
+abbrev pub facesAndPieces : Map → List Part
+facesAndPieces m = map (λ f. (false, f)) (m .faces) ++ map (λ p. (true, p)) (pieceRows m)
 
 -- a line for each face and each piece, and no other
 abbrev pub Once : Map → List Line → Type 0
-Once m ls = List·Permᴰ (map partOf ls) (parts m)
+Once m ls = List·Permᴰ (map partOf ls) (facesAndPieces m)
 
 -- ---- of every map
 
 -- a greater bound on the depth changes nothing, on any rows
 abbrev pub DepthEnough : Type 0
 DepthEnough = (m : Map) (k : ℕ) → suc (partCount m) ≤ k
-    → lines k (under m) false 0 none 0 [] ≡ lines (suc (partCount m)) (under m) false 0 none 0 []
+    → lines k (listedUnder m) false 0 none 0 [] ≡ lines (suc (partCount m)) (listedUnder m) false 0 none 0 []
 
 -- the list by its rule alone, cut at depth k: x, and what is under it but the one that led there; one may come twice
 abbrev pub unchecked : ℕ → (Bool → ℕ → List ℕ) → Bool → ℕ → Option ℕ → ℕ → List Line
@@ -40,7 +41,7 @@ unchecked (suc k) beneath b x led d =
 
 -- from face 0 on
 abbrev pub byRule : ℕ → Map → List Line
-byRule k m = unchecked k (under m) false 0 none 0
+byRule k m = unchecked k (listedUnder m) false 0 none 0
 
 -- for every map in form, grown or not: contents are the list by its rule, where that has each face and each piece once
 abbrev pub ContentsExact : Type 0

@@ -46,9 +46,9 @@ unfoldable pub isIn : Map → ℕ → ℕ → Bool
 isIn m p f = ringBears m p f || nodeBears m p f
 
 -- under a face (false) the pieces in it, by lowest node number; under a piece (true) the faces it is in, by number
-unfoldable pub under : Map → Bool → ℕ → List ℕ
-under m false f = keep (λ p. isIn m p f) (pieceRows m)
-under m true p = keep (λ f. isIn m p f) (m .faces)
+unfoldable pub listedUnder : Map → Bool → ℕ → List ℕ
+listedUnder m false f = keep (λ p. isIn m p f) (pieceRows m)
+listedUnder m true p = keep (λ f. isIn m p f) (m .faces)
 
 -- ---- lines
 
@@ -95,18 +95,18 @@ complete n (some ls) = cond (ltb (length ls) n) none (some ls)
 
 -- from face 0 on
 unfoldable pub contents : Map → Option (List Line)
-contents m = complete (partCount m) (lines (suc (partCount m)) (under m) false 0 none 0 [])
+contents m = complete (partCount m) (lines (suc (partCount m)) (listedUnder m) false 0 none 0 [])
 
 -- ---- the call
 
 -- 0 for a face, 1 for a piece
-abbrev pub lineNumbers : Line → List ℤ
-lineNumbers l = pos (l .depth) ∷ pos (bit (l .piece)) ∷ pos (l .number) ∷ []
+abbrev pub lineCells : Line → List ℤ
+lineCells l = pos (l .depth) ∷ pos (bit (l .piece)) ∷ pos (l .number) ∷ []
 
 -- 28 one would be listed twice or missed; 20 the list is too short
 unfoldable pub contentsOf : Lent → List ℤ → Listed
 contentsOf l list =
     let c = contents (mapOf l) in
-    let written = flatMap lineNumbers (Option·getD c []) in
+    let written = flatMap lineCells (Option·getD c []) in
     listUnless list written
     (firstReason (lentReasons l ++ (28, not (isSome c)) ∷ (20, ltb (length list) (length written)) ∷ []))

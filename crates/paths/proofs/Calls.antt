@@ -19,7 +19,7 @@ use Rattle.network.specs.Form.{inForm}
 use Rattle.network.specs.Reasons.{noNode}
 use Rattle.paths.specs.Walks.{hops}
 use Rattle.paths.specs.Nearest.{isExamined, steps, nextNearest}
-use Rattle.paths.specs.Route.{toGoal, examined, allCurved, routeReasons, refusalOf, written, Routed}
+use Rattle.paths.specs.Route.{toGoal, examined, allCurved, routeReasons, refusalOf, routeWritten, Routed}
 use Rattle.paths.specs.Claims.{Reaches, RoutesSound, RouteFits, RoutedExists, RouteShorter}
 use Rattle.paths.proofs.Lengths.{positive}
 use Rattle.paths.proofs.Routes.{next-some, sound, fits}
@@ -103,7 +103,7 @@ routed-exists l start goal k list = go (refusalOf l start goal k (length list)) 
     go zero e =
         let r = route-fits l start goal k (length list) e .0 in
         let f = r .fits in (
-          written l start goal k (r .walk) list,
+          routeWritten l start goal k (r .walk) list,
           record { refusal = 0; value = pos (length (r .walk) + 2) },
           record { refusal = sym e; refused = λ h. absurd (h refl); routed = λ h. (r, refl, refl) },
           simp (length-append, length-map, length-drop) (omega arith),

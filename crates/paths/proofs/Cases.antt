@@ -12,7 +12,7 @@ use Rattle.network.specs.Rows.{Lent, nodeWidth, linkWidth}
 use Rattle.network.specs.Operation.{operation, created}
 use Rattle.paths.specs.Walks.{Hop}
 use Rattle.paths.specs.Nearest.{Near}
-use Rattle.paths.specs.Route.{examined, lengthOf, boundOf, refusalOf, written}
+use Rattle.paths.specs.Route.{examined, lengthOf, boundOf, refusalOf, routeWritten}
 use Rattle.paths.proofs.Opened.{opened}
 
 -- ---- how networks are made, and how answers are written
@@ -135,7 +135,7 @@ back k u v = record { dart = bwd k; from = u; to = v; long = 1 }
 
 pub list :
     let home = back 3 4 3 ∷ back 2 3 2 ∷ back 1 2 1 ∷ [] in
-    written (made row) (pos 4) (pos 1) (pos 9) home (map pos (7 ∷ 7 ∷ 7 ∷ 7 ∷ 7 ∷ 7 ∷ 8 ∷ []))
+    routeWritten (made row) (pos 4) (pos 1) (pos 9) home (map pos (7 ∷ 7 ∷ 7 ∷ 7 ∷ 7 ∷ 7 ∷ 8 ∷ []))
     ≡ pos 3 ∷ pos 3 ∷ negsuc 2 ∷ negsuc 1 ∷ negsuc 0 ∷ pos 7 ∷ pos 8 ∷ []
 unfolding opened made
 list = refl

@@ -5,7 +5,7 @@ use Prim.Native.Nat.{ℕ, zero, suc}
 use Rattle.lists.proofs.Members.{map-cong}
 use Rattle.planar_maps.specs.Map.{Arc, Dart, fwd, bwd, rev, darts, Linked, Colouring}
 use Rattle.planar_maps.specs.Planar.{Planar}
-use Rattle.planar_maps.specs.Rings.{turn, OneTurn}
+use Rattle.planar_maps.specs.Rings.{aboutNode, OneTurn}
 use Rattle.planar_maps.proofs.Cycles.{fwd-in, bwd-in}
 use Rattle.planar_maps.proofs.Leads.{leads-through}
 use Rattle.planar_maps.proofs.Rings.{rev-in, next-in}
@@ -31,7 +31,7 @@ module _ {es : List Arc} {tail tail′ : Dart → ℕ} {next next′ : Dart → 
 
   pub turn-agree : OneTurn es tail next → OneTurn es tail′ next′
   turn-agree one d d′ m m′ e =
-      leads-through (turn next) (turn next′) (λ c. c) (darts es) (λ c k. next-in l (rev-in es k))
+      leads-through (aboutNode next) (aboutNode next′) (λ c. c) (darts es) (λ c k. next-in l (rev-in es k))
       (λ c k. (suc zero, hn (rev c) (rev-in es k))) m (one d d′ m m′ (sym (ht d m) ∙ e ∙ ht d′ m′))
 
 -- a map in the plane depends on its functions only at its own darts: how a changed table is seen to be what a theorem

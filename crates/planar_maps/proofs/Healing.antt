@@ -11,8 +11,8 @@ use Rattle.lists.proofs.Members.{each-cons, each-two, in-rest, map-cong, map-sa
 use Rattle.lists.proofs.Perms.{perm-of-distinct, distinct-map, injective-of-perm}
 use Rattle.planar_maps.specs.Map.{Arc, Dart, fwd, bwd, rev, darts, Linked}
 use Rattle.planar_maps.specs.Pieces.{Within, Isolated}
-use Rattle.planar_maps.specs.Rings.{Leads, turn, OneTurn}
-use Rattle.planar_maps.specs.Weave.{with-edge, renamed, healed, heal-next}
+use Rattle.planar_maps.specs.Rings.{Leads, aboutNode, OneTurn}
+use Rattle.planar_maps.specs.Weave.{with-edge, departsAs, arrivesAs, heal-next}
 use Rattle.planar_maps.specs.Planar.{Planar}
 use Rattle.planar_maps.proofs.Cycles.{fwd-in, bwd-in, each-dart}
 use Rattle.planar_maps.proofs.Rings.{rev-in, next-in, sameDart-refl}
@@ -22,12 +22,12 @@ use Rattle.planar_maps.proofs.Leads.{leads-keep, leads-through}
 use Rattle.planar_maps.proofs.Subdivide.{arc, halves, renamed-at, renamed-fwd, renamed-old, heal-keeps}
 use Rattle.planar_maps.proofs.Euler.{euler-subdivide}
 
-pub healed-at : (e e′ : ℕ) → healed e e′ (fwd e) ≡ fwd e′
-unfolding healed
+pub healed-at : (e e′ : ℕ) → arrivesAs e e′ (fwd e) ≡ fwd e′
+unfolding arrivesAs
 healed-at e e′ = rw (sameDart-refl (fwd e))
 
-pub healed-other : (e e′ : ℕ) (d : Dart) → ((d ≡ fwd e) → ⊥) → healed e e′ d ≡ d
-unfolding healed
+pub healed-other : (e e′ : ℕ) (d : Dart) → ((d ≡ fwd e) → ⊥) → arrivesAs e e′ d ≡ d
+unfolding arrivesAs
 healed-other e e′ d h = rw (sameDart-false d (fwd e) h)
 
 module _ (e e′ s n t : ℕ) (es : List Arc) {nodes : List ℕ} {tail : Dart → ℕ} {next : Dart → Dart} {face : Dart
@@ -57,13 +57,13 @@ module _ (e e′ s n t : ℕ) (es : List Arc) {nodes : List ℕ} {tail : Dart �
 
   -- arriving and departing darts of the healed map, as darts of the old one; and back
   abbrev ρ : Dart → Dart
-  ρ = healed e e′
+  ρ = arrivesAs e e′
 
   abbrev σ : Dart → Dart
-  σ = renamed e e′
+  σ = departsAs e e′
 
   abbrev τ : Dart → Dart
-  τ = renamed e′ e
+  τ = departsAs e′ e
 
   abbrev N : Dart → Dart
   N = heal-next e e′ next
@@ -120,7 +120,8 @@ module _ (e e′ s n t : ℕ) (es : List Arc) {nodes : List ℕ} {tail : Dart �
       At d = tail d ≡ n → (d ≡ b) ⊎ (d ≡ f′)
 
   stuck : (c d : Dart) → List·Memᴰ c H → List·Memᴰ d H → tail c ≡ tail d → next (rev c) ≡ c → d ≡ c
-  stuck c d m m′ p q = leads-keep (λ x. x ≡ c) (turn next) (λ x r. ap (turn next) r ∙ q) refl (o .one-turn c d m m′ p)
+  stuck c d m m′ p q = leads-keep (λ x. x ≡ c) (aboutNode next) (λ x r. ap (aboutNode next) r ∙ q) refl
+      (o .one-turn c d m m′ p)
 
   nxt : {d : Dart} → List·Memᴰ d H → List·Memᴰ (next d) H
   nxt m = next-in (o .linked) m
@@ -301,9 +302,9 @@ module _ (e e′ s n t : ℕ) (es : List Arc) {nodes : List ℕ} {tail : Dart �
   }
 
   healed-turn : OneTurn (arc e s t ∷ es) T N
-  healed-turn d d′ m m′ q = subst (λ c. Leads (turn N) c d′) (τ-σ d m)
-      (subst (λ c. Leads (turn N) (τ (σ d)) c) (τ-σ d′ m′)
-      (leads-through (turn next) (turn N) τ B (λ x k. next-A (rev x) (rev-A x k))
+  healed-turn d d′ m m′ q = subst (λ c. Leads (aboutNode N) c d′) (τ-σ d m)
+      (subst (λ c. Leads (aboutNode N) (τ (σ d)) c) (τ-σ d′ m′)
+      (leads-through (aboutNode next) (aboutNode N) τ B (λ x k. next-A (rev x) (rev-A x k))
       (λ x k. (suc zero, ap (λ y. τ (next y)) (ρ-rev x k))) (σ-B d m)
       (o .one-turn (σ d) (σ d′) (B-in (σ d) (σ-B d m)) (B-in (σ d′) (σ-B d′ m′))
       (T-σ d m ∙ q ∙ sym (T-σ d′ m′)))))

@@ -12,7 +12,7 @@ use Rattle.lists.proofs.Perms.{perm-of-injective}
 use Rattle.planar_maps.specs.Map.{Arc, Dart, fwd, bwd, rev, darts, Linked}
 use Rattle.planar_maps.specs.Pieces.{nums}
 use Rattle.planar_maps.specs.Rings.{sameDart}
-use Rattle.planar_maps.specs.Weave.{exchange, hook, with-edge, lone}
+use Rattle.planar_maps.specs.Weave.{exchange, hook, with-edge, loneEdge}
 use Rattle.planar_maps.proofs.Cycles.{fwd-in, bwd-in, each-dart}
 use Rattle.planar_maps.proofs.Bridges.{Fresh}
 use Rattle.planar_maps.proofs.Rings.{sameDart-refl, sameDart-true, rev-in, next-in}
@@ -126,7 +126,7 @@ with-other e u v f d h = rw (same-false (d .edge) e h)
 
 module _ {a : Arc} {es : List Arc} (fresh : Fresh a es) {tail : Dart → ℕ} {next : Dart → Dart} {face : Dart → ℕ}
     (φ : ℕ) (l : Linked es tail next face) where
-  pub lone-linked : Linked (a ∷ es) (with-edge (a .num) (a .from) (a .to) tail) (lone (a .num) next)
+  pub lone-linked : Linked (a ∷ es) (with-edge (a .num) (a .from) (a .to) tail) (loneEdge (a .num) next)
       (with-edge (a .num) φ φ face)
   lone-linked = record {
     starts = each-cons {p = λ b. tail⁺ (fwd (b .num)) ≡ b .from} (with-fwd e (a .from) (a .to) tail)
@@ -154,7 +154,7 @@ module _ {a : Arc} {es : List Arc} (fresh : Fresh a es) {tail : Dart → ℕ} {n
       tail⁺ = with-edge e (a .from) (a .to) tail
 
       next⁺ : Dart → Dart
-      next⁺ = lone e next
+      next⁺ = loneEdge e next
 
       face⁺ : Dart → ℕ
       face⁺ = with-edge e φ φ face

@@ -14,7 +14,7 @@ use Rattle.lists.proofs.Perms.{injective-of-perm}
 use Rattle.planar_maps.specs.Map.{Arc, Dart, fwd, bwd, rev, darts, Linked, Colouring}
 use Rattle.planar_maps.specs.Pieces.{Chain, stay, along, against, nums, Isolated}
 use Rattle.planar_maps.specs.Rings.{Leads, OneTurn}
-use Rattle.planar_maps.specs.Weave.{exchange, hook, Corner, alone, after, tie, Fits}
+use Rattle.planar_maps.specs.Weave.{exchange, hook, Corner, alone, after, tie, CornerFits}
 use Rattle.planar_maps.proofs.Cycles.{fwd-in, bwd-in, each-dart}
 use Rattle.planar_maps.proofs.Leads.{leads-keep}
 use Rattle.planar_maps.proofs.Chains.{chain-join, chain-back, isolated-chain}
@@ -196,8 +196,8 @@ module _ (a : Arc) (es : List Arc) (tail : Dart → ℕ) (N : Dart → Dart) (fa
                 (Memᴰ·cast (at-z d (inside d k) (q .0) (q .1)) (q .2))
           ]
 
-  pub join-apart : (k k′ : Corner) → Fits (darts es) tail face (a .from) φ k
-      → Fits (fwd (a .num) ∷ darts es) tail face (a .to) φ k′
+  pub join-apart : (k k′ : Corner) → CornerFits (darts es) tail face (a .from) φ k
+      → CornerFits (fwd (a .num) ∷ darts es) tail face (a .to) φ k′
       → Linked (a ∷ es) tail (tie k′ (fwd (a .num)) (tie k (bwd (a .num)) N)) face
       → Leads (tie k′ (fwd (a .num)) (tie k (bwd (a .num)) N)) (fwd (a .num)) (bwd (a .num))
       → Chain es (a .from) (a .to) → ⊥

@@ -15,7 +15,7 @@ use Rattle.lists.proofs.Perms.{perm-in}
 use Rattle.lists.proofs.Counts.{count-map, count-perm, count-tight, count-all, count-once}
 use Rattle.planar_maps.specs.Map.{Arc, Dart, fwd, bwd, rev, darts, Divides, Colouring, Linked}
 use Rattle.planar_maps.specs.Pieces.{Chain, stay, along, against, label}
-use Rattle.planar_maps.specs.Rings.{sameDart, Leads, turn, OneTurn}
+use Rattle.planar_maps.specs.Rings.{sameDart, Leads, aboutNode, OneTurn}
 use Rattle.planar_maps.proofs.Cycles.{fwd-in, bwd-in, each-dart, rim, rim-cycle}
 use Rattle.planar_maps.proofs.Leads.{leads-keep}
 use Rattle.planar_maps.proofs.Chains.{label-of-chain, chain-of-label}
@@ -45,7 +45,7 @@ module _ {es : List Arc} {tail : Dart → ℕ} {next : Dart → Dart} {face : Da
       (along-next : (d : Dart) → List·Memᴰ d (darts es) → h (next d) ≡ h d)
       (across-edge : (d : Dart) → List·Memᴰ d (darts es) → h (rev d) ≡ h d) where
     about : (d d′ : Dart) → List·Memᴰ d (darts es) → List·Memᴰ d′ (darts es) → tail d ≡ tail d′ → h d ≡ h d′
-    about d d′ m m′ e = sym (leads-keep (λ c. List·Memᴰ c (darts es) × (h c ≡ h d)) (turn next)
+    about d d′ m m′ e = sym (leads-keep (λ c. List·Memᴰ c (darts es) × (h c ≡ h d)) (aboutNode next)
         (λ c r. let k = rev-in es (r .0) in (next-in k, along-next (rev c) k ∙ across-edge c (r .0) ∙ r .1)) (m, refl)
         (one d d′ m m′ e) .1)
 

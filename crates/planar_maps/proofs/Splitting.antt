@@ -7,8 +7,8 @@ use Prim.Native.Nat.{ℕ, zero, suc}
 use Rattle.lists.proofs.Members.{each-two, map-cong, map-same}
 use Rattle.planar_maps.specs.Map.{Arc, Dart, fwd, bwd, rev, darts, Linked}
 use Rattle.planar_maps.specs.Pieces.{nums, Within, Isolated}
-use Rattle.planar_maps.specs.Rings.{Leads, turn, OneTurn}
-use Rattle.planar_maps.specs.Weave.{with-edge, renamed, split-tail, split-face, split-next}
+use Rattle.planar_maps.specs.Rings.{Leads, aboutNode, OneTurn}
+use Rattle.planar_maps.specs.Weave.{with-edge, departsAs, split-tail, split-face, split-next}
 use Rattle.planar_maps.specs.Planar.{Planar}
 use Rattle.planar_maps.proofs.Cycles.{fwd-in, bwd-in, each-dart}
 use Rattle.planar_maps.proofs.Leads.{leads-through}
@@ -46,7 +46,7 @@ module _ (e e′ s n t : ℕ) (es : List Arc) {nodes : List ℕ} {tail : Dart �
   b′ = bwd e′
 
   abbrev σ : Dart → Dart
-  σ = renamed e e′
+  σ = departsAs e e′
 
   abbrev T : Dart → ℕ
   T = split-tail e e′ s n t tail
@@ -192,9 +192,10 @@ module _ (e e′ s n t : ℕ) (es : List Arc) {nodes : List ℕ} {tail : Dart �
   }
 
   -- the turn is the old one, renamed; about n there are just -e and e′
-  turned : (d : Dart) → List·Memᴰ d W → turn N (σ d) ≡ σ (turn next d)
-  turned = each-two (λ d. turn N (σ d) ≡ σ (turn next d)) (ap (turn N) σ-f ∙ N-b) (ap (turn N) σ-b ∙ N-f′)
-      (λ d m. ap (turn N) (σ-old m) ∙ N-old (rev d) (rev-in es m))
+  turned : (d : Dart) → List·Memᴰ d W → aboutNode N (σ d) ≡ σ (aboutNode next d)
+  turned = each-two (λ d. aboutNode N (σ d) ≡ σ (aboutNode next d)) (ap (aboutNode N) σ-f ∙ N-b)
+      (ap (aboutNode N) σ-b ∙ N-f′)
+      (λ d m. ap (aboutNode N) (σ-old m) ∙ N-old (rev d) (rev-in es m))
 
   abbrev Kind : Dart → Type 0
   Kind d = ((c : Dart) × List·Memᴰ c W × (d ≡ σ c)) ⊎ ((d ≡ b) ⊎ (d ≡ f′))
@@ -211,21 +212,21 @@ module _ (e e′ s n t : ℕ) (es : List Arc) {nodes : List ℕ} {tail : Dart �
   at-n (inl p) = ap T p ∙ T-b
   at-n (inr p) = ap T p ∙ T-f′
 
-  about-n : (d d′ : Dart) → (d ≡ b) ⊎ (d ≡ f′) → (d′ ≡ b) ⊎ (d′ ≡ f′) → Leads (turn N) d d′
+  about-n : (d d′ : Dart) → (d ≡ b) ⊎ (d ≡ f′) → (d′ ≡ b) ⊎ (d′ ≡ f′) → Leads (aboutNode N) d d′
   about-n d d′ (inl p) (inl q) = (zero, p ∙ sym q)
-  about-n d d′ (inl p) (inr q) = (suc zero, ap (turn N) p ∙ N-f ∙ sym q)
-  about-n d d′ (inr p) (inl q) = (suc zero, ap (turn N) p ∙ N-b′ ∙ sym q)
+  about-n d d′ (inl p) (inr q) = (suc zero, ap (aboutNode N) p ∙ N-f ∙ sym q)
+  about-n d d′ (inr p) (inl q) = (suc zero, ap (aboutNode N) p ∙ N-b′ ∙ sym q)
   about-n d d′ (inr p) (inr q) = (zero, p ∙ sym q)
 
   halves-turn : OneTurn (halves e e′ s n t es) T N
   halves-turn d d′ m m′ q = go (kind d m) (kind d′ m′)
     where
-      go : Kind d → Kind d′ → Leads (turn N) d d′
+      go : Kind d → Kind d′ → Leads (aboutNode N) d d′
       go (inr p) (inr p′) = about-n d d′ p p′
       go (inr p) (inl r) = absurd (not-n (r .1) (sym (T-σ (r .0) (r .1)) ∙ ap T (sym (r .2)) ∙ sym q ∙ at-n p))
       go (inl r) (inr p) = absurd (not-n (r .1) (sym (T-σ (r .0) (r .1)) ∙ ap T (sym (r .2)) ∙ q ∙ at-n p))
       go (inl r) (inl r′) = rw (r .2, r′ .2)
-          (leads-through (turn next) (turn N) σ W (λ c k. nxt (rev-in (arc e s t ∷ es) k))
+          (leads-through (aboutNode next) (aboutNode N) σ W (λ c k. nxt (rev-in (arc e s t ∷ es) k))
           (λ c k. (suc zero, turned c k)) (r .1) (o .one-turn (r .0) (r′ .0) (r .1) (r′ .1)
           (sym (T-σ (r .0) (r .1)) ∙ ap T (sym (r .2)) ∙ q ∙ ap T (r′ .2) ∙ T-σ (r′ .0) (r′ .1))))
 

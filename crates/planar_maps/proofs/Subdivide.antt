@@ -13,7 +13,7 @@ use Rattle.lists.proofs.Members.{each-cons, each-two}
 use Rattle.lists.proofs.Sums.{sum-cong, sum-zero}
 use Rattle.planar_maps.specs.Map.{Arc, Dart, fwd, bwd, darts, across, Cycle, Colouring}
 use Rattle.planar_maps.specs.Pieces.{Chain, stay, along, against, pieces, Within, Isolated, nums}
-use Rattle.planar_maps.specs.Weave.{renamed}
+use Rattle.planar_maps.specs.Weave.{departsAs}
 use Rattle.planar_maps.proofs.Cycles.{fwd-in, bwd-in}
 use Rattle.planar_maps.proofs.Rings.{sameDart-refl}
 use Rattle.planar_maps.proofs.Hooks.{sameDart-false, fwd≢bwd}
@@ -25,18 +25,18 @@ arc e s t = record { num = e; from = s; to = t }
 
 -- ---- departures renamed
 
-pub renamed-at : (e e′ : ℕ) → renamed e e′ (bwd e) ≡ bwd e′
-unfolding renamed
+pub renamed-at : (e e′ : ℕ) → departsAs e e′ (bwd e) ≡ bwd e′
+unfolding departsAs
 renamed-at e e′ = rw (sameDart-refl (bwd e))
 
-pub renamed-other : (e e′ : ℕ) (d : Dart) → ((d ≡ bwd e) → ⊥) → renamed e e′ d ≡ d
-unfolding renamed
+pub renamed-other : (e e′ : ℕ) (d : Dart) → ((d ≡ bwd e) → ⊥) → departsAs e e′ d ≡ d
+unfolding departsAs
 renamed-other e e′ d h = rw (sameDart-false d (bwd e) h)
 
-pub renamed-fwd : (e e′ k : ℕ) → renamed e e′ (fwd k) ≡ fwd k
+pub renamed-fwd : (e e′ k : ℕ) → departsAs e e′ (fwd k) ≡ fwd k
 renamed-fwd e e′ k = renamed-other e e′ (fwd k) fwd≢bwd
 
-pub renamed-old : (e e′ : ℕ) {d : Dart} → ((d .edge ≡ e) → ⊥) → renamed e e′ d ≡ d
+pub renamed-old : (e e′ : ℕ) {d : Dart} → ((d .edge ≡ e) → ⊥) → departsAs e e′ d ≡ d
 renamed-old e e′ {d} h = renamed-other e e′ d (λ p. h (ap (λ (c : Dart). c .edge) p))
 
 -- ---- the edge e from s to t, as against e from s to n and e′ from n to t

@@ -6,8 +6,8 @@ use mathlib.Core.List.{List, _∷_, List·Memᴰ, List·Memᴰ·head, List·Mem�
 use Prim.Native.Nat.{ℕ, zero, suc}
 use Rattle.lists.proofs.Members.{each-cons}
 use Rattle.planar_maps.specs.Map.{Arc, Dart, rev, darts, Linked}
-use Rattle.planar_maps.specs.Rings.{Leads, turn, Round, OneTurn}
-use Rattle.planar_maps.specs.Weave.{exchange, Corner, alone, after, tie, Fits}
+use Rattle.planar_maps.specs.Rings.{Leads, aboutNode, Round, OneTurn}
+use Rattle.planar_maps.specs.Weave.{exchange, Corner, alone, after, tie, CornerFits}
 use Rattle.planar_maps.proofs.Leads.{leads-join, leads-through}
 use Rattle.planar_maps.proofs.Rings.{rev-in, next-in}
 use Rattle.planar_maps.proofs.Hooks.{sameDart?, exchange-left, exchange-right, exchange-other, exchange-by}
@@ -23,7 +23,7 @@ pub record Turning (ds : List Dart) (tail : Dart → ℕ) (f : Dart → Dart) : 
   pub round : Round ds tail f
 
 pub turning : {es : List Arc} {tail : Dart → ℕ} {next : Dart → Dart} {face : Dart → ℕ} → Linked es tail next face
-    → OneTurn es tail next → Turning (darts es) tail (turn next)
+    → OneTurn es tail next → Turning (darts es) tail (aboutNode next)
 turning {es} {tail} l one = record {
   into = λ d m. next-in l (rev-in es m);
   stays = λ d m. l .meets (rev d) (rev-in es m) ∙ ap tail (rev-rev d);
@@ -115,13 +115,13 @@ exchange-rev p z = exchange-by (λ d c. exchange p z (rev d) ≡ rev c) (rev p) 
     (ap (exchange p z) (rev-rev z) ∙ exchange-right p z ∙ sym (rev-rev p))
     (λ d n k. exchange-other p z (rev d) (λ e. n (sym (rev-rev d) ∙ ap rev e)) (λ e. k (sym (rev-rev d) ∙ ap rev e)))
 
-module _ {ds : List Dart} {tail : Dart → ℕ} (next : Dart → Dart) (t : Turning ds tail (turn next)) (z : Dart)
+module _ {ds : List Dart} {tail : Dart → ℕ} (next : Dart → Dart) (t : Turning ds tail (aboutNode next)) (z : Dart)
     (new : (d : Dart) → List·Memᴰ d ds → (d ≡ rev z) → ⊥) (fixed : next z ≡ rev z) where
-  turned : turn next (rev z) ≡ rev z
+  turned : aboutNode next (rev z) ≡ rev z
   turned = ap next (rev-rev z) ∙ fixed
 
-  pub tie-turning : (face : Dart → ℕ) (φ : ℕ) (k : Corner) → Fits ds tail face (tail (rev z)) φ k
-      → Turning (rev z ∷ ds) tail (turn (tie k z next))
+  pub tie-turning : (face : Dart → ℕ) (φ : ℕ) (k : Corner) → CornerFits ds tail face (tail (rev z)) φ k
+      → Turning (rev z ∷ ds) tail (aboutNode (tie k z next))
   tie-turning face φ alone none = insert-alone t (rev z) new turned none
   tie-turning face φ (after p) fits = subst (λ f. Turning (rev z ∷ ds) tail f)
       (λ i d. next (sym (exchange-rev p z d) i)) (insert-after t (rev z) new turned (rev p) (fits .0) (fits .1))

@@ -10,8 +10,8 @@ use Rattle.lists.proofs.Members.{each-cons, in-rest}
 use Rattle.lists.proofs.Perms.{perm-in, perm-of-injective, injective-of-perm}
 use Rattle.planar_maps.specs.Map.{Arc, Dart, fwd, bwd, rev, darts, Linked}
 use Rattle.planar_maps.specs.Pieces.{nums, Within, Euler}
-use Rattle.planar_maps.specs.Rings.{sameDart, Leads, turn, Round}
-use Rattle.planar_maps.specs.Weave.{exchange, Corner, alone, after, tie, Holds}
+use Rattle.planar_maps.specs.Rings.{sameDart, Leads, aboutNode, Round}
+use Rattle.planar_maps.specs.Weave.{exchange, Corner, alone, after, tie, CornerHolds}
 use Rattle.planar_maps.specs.Planar.{Planar}
 use Rattle.planar_maps.proofs.Bridges.{Shrunk, shrunk-keeps}
 use Rattle.planar_maps.proofs.Leads.{leads-through}
@@ -80,35 +80,37 @@ exchange-same y = exchange-by (λ d c. c ≡ d) y y refl refl (λ d p q. refl)
 module _ (N : Dart → Dart) (es : List Arc)
     (inj : (c d : Dart) → List·Memᴰ c (darts es) → List·Memᴰ d (darts es) → N c ≡ N d → c ≡ d) (ds : List Dart)
     (tail : Dart → ℕ) (z : Dart) (mz : List·Memᴰ z (darts es))
-    (sub : (d : Dart) → List·Memᴰ d (rev z ∷ ds) → List·Memᴰ d (darts es)) (t : Turning (rev z ∷ ds) tail (turn N))
+    (sub : (d : Dart) → List·Memᴰ d (rev z ∷ ds) → List·Memᴰ d (darts es)) (t : Turning (rev z ∷ ds) tail (aboutNode N))
     (new : (d : Dart) → List·Memᴰ d ds → (d ≡ rev z) → ⊥) where
-  only : (p : Dart) → List·Memᴰ p (darts es) → N p ≡ rev z → (d : Dart) → List·Memᴰ d (rev z ∷ ds) → turn N d ≡ rev z
+  only : (p : Dart) → List·Memᴰ p (darts es) → N p ≡ rev z → (d : Dart) → List·Memᴰ d (rev z ∷ ds) → aboutNode N d
+      ≡ rev z
       → d ≡ rev p
   only p mp e d m q = sym (rev-rev d) ∙ ap rev (inj (rev d) p (rev-in es (sub d m)) mp (q ∙ sym e))
 
-  untie-turning : (k : Corner) → Holds (darts es) z N k
+  untie-turning : (k : Corner) → CornerHolds (darts es) z N k
       → ((p : Dart) → N p ≡ rev z → List·Memᴰ p (darts es) → List·Memᴰ (rev p) (rev z ∷ ds))
-      → Turning ds tail (turn (tie k z N))
-  untie-turning alone e there = subst (λ f. Turning ds tail f) (λ i d. turn N (exchange-same (rev z) d i))
+      → Turning ds tail (aboutNode (tie k z N))
+  untie-turning alone e there = subst (λ f. Turning ds tail f) (λ i d. aboutNode N (exchange-same (rev z) d i))
       (delete (rev z) t new (rev z) (List·Memᴰ·head refl) (ap N (rev-rev z) ∙ e) (only z mz e))
   untie-turning (after p) h there = subst (λ f. Turning ds tail f) (λ i d. N (sym (exchange-rev p z d) i))
       (delete (rev z) t new (rev p) (there p (h .1) (h .0)) (ap N (rev-rev p) ∙ h .1) (only p (h .0) (h .1)))
 
 untie-linked : {es : List Arc} {tail : Dart → ℕ} {next : Dart → Dart} {face : Dart → ℕ} → Linked es tail next face
     → Distinct (nums es) → (z : Dart) → List·Memᴰ z (darts es) → face (rev z) ≡ face z
-    → (k : Corner) → Holds (darts es) z next k → Linked es tail (tie k z next) face
+    → (k : Corner) → CornerHolds (darts es) z next k → Linked es tail (tie k z next) face
 untie-linked l dis z m f alone h = l
 untie-linked {es} {tail} {next} {face} l dis z m f (after p) h =
     hook-linked l dis p z (h .0) m (sym (l .meets p (h .0)) ∙ ap tail (h .1))
     (sym (l .keeps p (h .0)) ∙ ap face (h .1) ∙ f)
 
-untied : (ds : List Dart) (z : Dart) (next : Dart → Dart) (k : Corner) → Holds ds z next k → tie k z next z ≡ rev z
+untied : (ds : List Dart) (z : Dart) (next : Dart → Dart) (k : Corner) → CornerHolds ds z next k → tie k z next z
+    ≡ rev z
 untied ds z next alone h = h
 untied ds z next (after p) h = ap next (exchange-right p z) ∙ h .1
 
 -- such a corner there is
 corner : {es : List Arc} {tail : Dart → ℕ} {next : Dart → Dart} {face : Dart → ℕ} → Linked es tail next face
-    → (z : Dart) → List·Memᴰ z (darts es) → (k : Corner) × Holds (darts es) z next k
+    → (z : Dart) → List·Memᴰ z (darts es) → (k : Corner) × CornerHolds (darts es) z next k
 corner {es} {next = next} l z m = (after (r .0), (r .1, r .2))
   where
     r : (p : Dart) × List·Memᴰ p (darts es) × (next p ≡ rev z)
@@ -144,8 +146,8 @@ restrict a es {N = N} l dis nf nb = record {
 
 module _ {nodes : List ℕ} {a : Arc} {es : List Arc} {tail : Dart → ℕ} {next : Dart → Dart} {face : Dart
     → ℕ} {faces : ℕ} (planar : Planar nodes (a ∷ es) tail next face faces)
-    (k k′ : Corner) (holds′ : Holds (darts (a ∷ es)) (fwd (a .num)) next k′)
-    (holds : Holds (darts (a ∷ es)) (bwd (a .num)) (tie k′ (fwd (a .num)) next) k)
+    (k k′ : Corner) (holds′ : CornerHolds (darts (a ∷ es)) (fwd (a .num)) next k′)
+    (holds : CornerHolds (darts (a ∷ es)) (bwd (a .num)) (tie k′ (fwd (a .num)) next) k)
     (μ : ℕ → ℕ) (m : ℕ → ℕ) (one : μ (face (fwd (a .num))) ≡ μ (face (bwd (a .num))))
     (shrunk : Shrunk a es face (λ d. μ (face d)) m) where
   dis : Distinct (nums (a ∷ es))
@@ -189,7 +191,7 @@ module _ {nodes : List ℕ} {a : Arc} {es : List Arc} {tail : Dart → ℕ} {nex
   unfolding N₀ N₁
   f₀ = go k holds
     where
-      go : (k : Corner) → Holds (darts (a ∷ es)) (bwd (a .num)) N₁ k → tie k (bwd (a .num)) N₁ (fwd (a .num))
+      go : (k : Corner) → CornerHolds (darts (a ∷ es)) (bwd (a .num)) N₁ k → tie k (bwd (a .num)) N₁ (fwd (a .num))
           ≡ bwd (a .num)
       go alone h = f₁
       go (after p) h = ap N₁ (exchange-other p (bwd (a .num)) (fwd (a .num))
@@ -204,17 +206,17 @@ module _ {nodes : List ℕ} {a : Arc} {es : List Arc} {tail : Dart → ℕ} {nex
   swap-out : (d : Dart) → List·Memᴰ d (darts (a ∷ es)) → List·Memᴰ d (bwd (a .num) ∷ fwd (a .num) ∷ darts es)
   swap-out d i = perm-in (List·Permᴰ·swap refl refl) i
 
-  t₂ : Turning (bwd (a .num) ∷ fwd (a .num) ∷ darts es) tail (turn next)
+  t₂ : Turning (bwd (a .num) ∷ fwd (a .num) ∷ darts es) tail (aboutNode next)
   t₂ = record {
-    into = λ d i. swap-out (turn next d) (t .into d (swap-in d i));
+    into = λ d i. swap-out (aboutNode next d) (t .into d (swap-in d i));
     stays = λ d i. t .stays d (swap-in d i);
     round = λ d d′ i i′. t .round d d′ (swap-in d i) (swap-in d′ i′);
   }
     where
-      t : Turning (darts (a ∷ es)) tail (turn next)
+      t : Turning (darts (a ∷ es)) tail (aboutNode next)
       t = turning (planar .linked) (planar .one-turn)
 
-  t₁ : Turning (fwd (a .num) ∷ darts es) tail (turn N₁)
+  t₁ : Turning (fwd (a .num) ∷ darts es) tail (aboutNode N₁)
   unfolding N₁
   t₁ = untie-turning next (a ∷ es) (injective-of-perm next (darts (a ∷ es)) (distinct-darts (a ∷ es) dis)
       (planar .linked .perm)) (fwd (a .num) ∷ darts es) tail (fwd (a .num)) inf swap-in t₂
@@ -222,7 +224,7 @@ module _ {nodes : List ℕ} {a : Arc} {es : List Arc} {tail : Dart → ℕ} {nex
       (λ d i q. fresh-dart a es (dis .0) i (ap (λ (d : Dart). d .edge) q))) k′ holds′
       (λ p e i. swap-out (rev p) (rev-in (a ∷ es) i))
 
-  t₀ : Turning (darts es) tail (turn N₀)
+  t₀ : Turning (darts es) tail (aboutNode N₀)
   unfolding N₀ N₁
   t₀ = untie-turning N₁ (a ∷ es) (injective-of-perm N₁ (darts (a ∷ es)) (distinct-darts (a ∷ es) dis) (l₁ .perm))
       (darts es) tail (bwd (a .num)) inb (λ d i. swap-in d (List·Memᴰ·tail i)) t₁

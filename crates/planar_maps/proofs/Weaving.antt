@@ -7,8 +7,8 @@ use Rattle.lists.proofs.Members.{each-cons}
 use Rattle.lists.proofs.Perms.{perm-in}
 use Rattle.planar_maps.specs.Map.{Arc, Dart, fwd, bwd, rev, darts, Linked, Colouring}
 use Rattle.planar_maps.specs.Pieces.{Chain, nums, Within}
-use Rattle.planar_maps.specs.Rings.{Leads, turn, OneTurn}
-use Rattle.planar_maps.specs.Weave.{with-edge, lone, Corner, alone, after, tie, woven, Fits}
+use Rattle.planar_maps.specs.Rings.{Leads, aboutNode, OneTurn}
+use Rattle.planar_maps.specs.Weave.{with-edge, loneEdge, Corner, alone, after, tie, woven, CornerFits}
 use Rattle.planar_maps.specs.Planar.{Planar}
 use Rattle.planar_maps.proofs.Cycles.{Grown, split-keeps}
 use Rattle.planar_maps.proofs.Bridges.{Fresh, bridge-keeps}
@@ -24,7 +24,7 @@ use Rattle.planar_maps.proofs.Euler.{euler-split, euler-bridge}
 pub tie-linked : {es : List Arc} {tail : Dart → ℕ} {next : Dart → Dart} {face : Dart → ℕ} → Linked es tail next face
     → Distinct (nums es) → (ds : List Dart) → ((d : Dart) → List·Memᴰ d ds → List·Memᴰ d (darts es))
     → (z : Dart) → List·Memᴰ z (darts es) → (n φ : ℕ) → tail (rev z) ≡ n → face z ≡ φ → (k : Corner)
-    → Fits ds tail face n φ k → Linked es tail (tie k z next) face
+    → CornerFits ds tail face n φ k → Linked es tail (tie k z next) face
 tie-linked l dis ds sub z m n φ t f alone fits = l
 tie-linked {es} l dis ds sub z m n φ t f (after p) fits =
     hook-linked l dis p z (Memᴰ·cast (sym (rev-rev p)) (rev-in es (sub (rev p) (fits .0)))) m (fits .1 ∙ sym t)
@@ -33,8 +33,8 @@ tie-linked {es} l dis ds sub z m n φ t f (after p) fits =
 -- the edge a is put in at the corners k and k′ of a linked map: every dart is still in the face that it was in
 pub woven-linked : {es : List Arc} {tail : Dart → ℕ} {next : Dart → Dart} {face : Dart → ℕ} → Linked es tail next face
     → Distinct (nums es) → (a : Arc) → Fresh a es → (φ : ℕ) (k k′ : Corner)
-    → Fits (darts es) (with-edge (a .num) (a .from) (a .to) tail) (with-edge (a .num) φ φ face) (a .from) φ k
-    → Fits (fwd (a .num) ∷ darts es) (with-edge (a .num) (a .from) (a .to) tail) (with-edge (a .num) φ φ face)
+    → CornerFits (darts es) (with-edge (a .num) (a .from) (a .to) tail) (with-edge (a .num) φ φ face) (a .from) φ k
+    → CornerFits (fwd (a .num) ∷ darts es) (with-edge (a .num) (a .from) (a .to) tail) (with-edge (a .num) φ φ face)
     (a .to) φ k′
     → Linked (a ∷ es) (with-edge (a .num) (a .from) (a .to) tail) (woven (a .num) k k′ next)
     (with-edge (a .num) φ φ face)
@@ -53,8 +53,10 @@ module _ {nodes : List ℕ} {es : List Arc} {tail : Dart → ℕ} {next : Dart �
     (planar : Planar nodes es tail next face faces)
     (a : Arc) (fresh : Fresh a es) (start : List·Memᴰ (a .from) nodes) (end : List·Memᴰ (a .to) nodes) (φ : ℕ)
     (k k′ : Corner)
-    (fits : Fits (darts es) (with-edge (a .num) (a .from) (a .to) tail) (with-edge (a .num) φ φ face) (a .from) φ k)
-    (fits′ : Fits (fwd (a .num) ∷ darts es) (with-edge (a .num) (a .from) (a .to) tail) (with-edge (a .num) φ φ face)
+    (fits : CornerFits (darts es) (with-edge (a .num) (a .from) (a .to) tail) (with-edge (a .num) φ φ face) (a .from)
+    φ k)
+    (fits′ : CornerFits (fwd (a .num) ∷ darts es) (with-edge (a .num) (a .from) (a .to) tail)
+    (with-edge (a .num) φ φ face)
     (a .to) φ k′) where
   T : Dart → ℕ
   T = with-edge (a .num) (a .from) (a .to) tail
@@ -63,7 +65,7 @@ module _ {nodes : List ℕ} {es : List Arc} {tail : Dart → ℕ} {next : Dart �
   F = with-edge (a .num) φ φ face
 
   N : Dart → Dart
-  N = lone (a .num) next
+  N = loneEdge (a .num) next
 
   dis : Distinct (nums (a ∷ es))
   dis = (fresh, planar .edges-once)
@@ -106,20 +108,20 @@ module _ {nodes : List ℕ} {es : List Arc} {tail : Dart → ℕ} {next : Dart �
   unfolding T F
   linked⁺ = woven-linked (planar .linked) (planar .edges-once) a fresh φ k k′ fits fits′
 
-  still : (c : Corner) → Fits (darts es) T F (a .from) φ c → tie c (bwd (a .num)) N (fwd (a .num)) ≡ bwd (a .num)
+  still : (c : Corner) → CornerFits (darts es) T F (a .from) φ c → tie c (bwd (a .num)) N (fwd (a .num)) ≡ bwd (a .num)
   still alone h = nf
   still (after p) h = ap N (exchange-other p (bwd (a .num)) (fwd (a .num))
       (λ q. fresh-dart a es fresh (h .0) (ap (λ (d : Dart). d .edge) (sym q))) fwd≢bwd) ∙ nf
 
-  both : Turning (bwd (a .num) ∷ fwd (a .num) ∷ darts es) T (turn (woven (a .num) k k′ next))
+  both : Turning (bwd (a .num) ∷ fwd (a .num) ∷ darts es) T (aboutNode (woven (a .num) k k′ next))
   unfolding T N F
   both = tie-turning (tie k (bwd (a .num)) N)
       (tie-turning N (turning before one) (bwd (a .num))
       (λ d m q. fresh-dart a es fresh m (ap (λ (d : Dart). d .edge) q)) nb F φ k
-      (subst (λ n. Fits (darts es) T F n φ k) (sym ts) fits))
+      (subst (λ n. CornerFits (darts es) T F n φ k) (sym ts) fits))
       (fwd (a .num)) (each-cons {p = λ d. (d ≡ bwd (a .num)) → ⊥} fwd≢bwd
       (λ d m q. fresh-dart a es fresh m (ap (λ (d : Dart). d .edge) q))) (still k fits) F φ k′
-      (subst (λ n. Fits (fwd (a .num) ∷ darts es) T F n φ k′) (sym te) fits′)
+      (subst (λ n. CornerFits (fwd (a .num) ∷ darts es) T F n φ k′) (sym te) fits′)
 
   swapped : (d : Dart) → List·Memᴰ d (darts (a ∷ es)) → List·Memᴰ d (bwd (a .num) ∷ fwd (a .num) ∷ darts es)
   swapped d m = perm-in (List·Permᴰ·swap refl refl) m

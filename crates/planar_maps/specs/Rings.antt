@@ -14,8 +14,8 @@ abbrev pub Leads : (Dart → Dart) → Dart → Dart → Type 0
 Leads f d d′ = (k : ℕ) × (iterate k f d ≡ d′)
 
 -- from a departure, the next one about the same node
-abbrev pub turn : (Dart → Dart) → Dart → Dart
-turn next d = next (rev d)
+abbrev pub aboutNode : (Dart → Dart) → Dart → Dart
+aboutNode next d = next (rev d)
 
 -- the departures from one node all lie on one round of f
 abbrev pub Round : List Dart → (Dart → ℕ) → (Dart → Dart) → Type 0
@@ -23,4 +23,4 @@ Round ds tail f = (d d′ : Dart) → List·Memᴰ d ds → List·Memᴰ d′ ds
 
 -- the edges about a node are met in one turn
 abbrev pub OneTurn : List Arc → (Dart → ℕ) → (Dart → Dart) → Type 0
-OneTurn es tail next = Round (darts es) tail (turn next)
+OneTurn es tail next = Round (darts es) tail (aboutNode next)

@@ -16,15 +16,15 @@ use Rattle.point_location.specs.declared.Highest.{Highest}
 abbrev pub floor : Highest → Floor
 floor h = record { segment = record { from = h .from; to = h .to }; upper = h .upper }
 
-abbrev pub held : Highest → Option Floor
-held h = cond (h .some) (some (floor h)) none
+abbrev pub highestFloor : Highest → Option Floor
+highestFloor h = cond (h .some) (some (floor h)) none
 
 -- a face that fits a number of the tables is below this
 abbrev pub faceBound : ℕ
 faceBound = 9223372036854775808
 
 -- ends in range, and a face that fits
-pub record Held (h : Highest) : Type 0 where
+pub record HighestFits (h : Highest) : Type 0 where
   pub from : InRange (h .from)
   pub to : InRange (h .to)
   pub upper : h .upper < faceBound

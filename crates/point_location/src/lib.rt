@@ -12,7 +12,8 @@ ghost use Rattle.plane.specs.Points.{InRange, maxCoordinate};
 ghost use Rattle.curves.specs.Curves.{Run, curveOf, segments};
 ghost use Rattle.map.specs.Faces.{faceOfPoint};
 ghost use Rattle.map_rows.specs.Rows.{EdgeRow, EdgeRows, edgeAt, edgeMap};
-ghost use Rattle.point_location.specs.Highest.{Held, faceBound, floor, held, over, sided, passed, rowed};
+ghost use Rattle.point_location.specs.Highest.{HighestFits, faceBound, floor, highestFloor, over, sided, passed};
+ghost use Rattle.point_location.specs.Highest.{rowed};
 
 // The highest segment below a point so far, its ends ordered by x, and the face on its upper side.
 struct Highest {
@@ -25,7 +26,7 @@ struct Highest {
 // The segment a b with its ends ordered by x, and the face on its upper side.
 fn floor_of(a: Point, b: Point, left: u64, right: u64) -> Highest
     requires { ⌜ (InRange a) × (InRange b) × (left < faceBound) × (right < faceBound) ⌝ }
-    ensures { λ r. ⌜ (r .some ≡ true) × (floor r ≡ sided left right (record { from = a; to = b })) × Held r ⌝ }
+    ensures { λ r. ⌜ (r .some ≡ true) × (floor r ≡ sided left right (record { from = a; to = b })) × HighestFits r ⌝ }
 {
     if a.x < b.x {
         return Highest {
@@ -53,8 +54,8 @@ fn floor_of(a: Point, b: Point, left: u64, right: u64) -> Highest
 
 // The higher at x of the highest so far and g.
 fn higher_of(x: u64, h: Highest, g: Highest) -> Highest
-    requires { ⌜ (x ≤ maxCoordinate) × Held h × Held g × (g .some ≡ true) ⌝ }
-    ensures { λ r. ⌜ (held r ≡ over x (held h) (floor g)) × Held r ⌝ }
+    requires { ⌜ (x ≤ maxCoordinate) × HighestFits h × HighestFits g × (g .some ≡ true) ⌝ }
+    ensures { λ r. ⌜ (highestFloor r ≡ over x (highestFloor h) (floor g)) × HighestFits r ⌝ }
 {
     if h.some {
         if !directions::is_higher(x, g.from, g.to, h.from, h.to) {
@@ -66,8 +67,9 @@ fn higher_of(x: u64, h: Highest, g: Highest) -> Highest
 
 // The highest after the segment a b with its faces, where that passes below p.
 fn floor_with(h: Highest, p: Point, a: Point, b: Point, left: u64, right: u64) -> Highest
-    requires { ⌜ Held h × (InRange p) × (InRange a) × (InRange b) × (left < faceBound) × (right < faceBound) ⌝ }
-    ensures { λ r. ⌜ (held r ≡ passed p left right (held h) (record { from = a; to = b })) × Held r ⌝ }
+    requires { ⌜ HighestFits h × (InRange p) × (InRange a) × (InRange b) × (left < faceBound) × (right < faceBound) ⌝ }
+    ensures { λ r. ⌜ (highestFloor r ≡ passed p left right (highestFloor h) (record { from = a; to = b })) ×
+        HighestFits r ⌝ }
 {
     if !directions::passes_below(p, a, b) {
         return h;
@@ -77,8 +79,9 @@ fn floor_with(h: Highest, p: Point, a: Point, b: Point, left: u64, right: u64) -
 
 // The highest after the segments of a curve with these faces.
 fn floor_along(h: Highest, p: Point, c: &[i64], left: u64, right: u64) -> Highest
-    requires { ⌜ Held h × (InRange p) × Run (now c) × (left < faceBound) × (right < faceBound) ⌝ }
-    ensures { λ r. ⌜ (held r ≡ fold (passed p left right) (held h) (segments (curveOf (now (c .entry))))) × Held r ⌝ }
+    requires { ⌜ HighestFits h × (InRange p) × Run (now c) × (left < faceBound) × (right < faceBound) ⌝ }
+    ensures { λ r. ⌜ (highestFloor r ≡ fold (passed p left right) (highestFloor h)
+        (segments (curveOf (now (c .entry))))) × HighestFits r ⌝ }
 {
     let n = curves::point_count(c) - 1;
     let mut best = h;
@@ -106,8 +109,8 @@ fn face_at(edges: &[i64], j: usize) -> u64
 
 // The highest after the segments of edge row i.
 fn floor_over(h: Highest, p: Point, edges: &[i64], i: usize) -> Highest
-    requires { ⌜ Held h × (InRange p) × EdgeRow (now edges) i ⌝ }
-    ensures { λ r. ⌜ (held r ≡ rowed p (held h) (edgeAt (now (edges .entry)) i)) × Held r ⌝ }
+    requires { ⌜ HighestFits h × (InRange p) × EdgeRow (now edges) i ⌝ }
+    ensures { λ r. ⌜ (highestFloor r ≡ rowed p (highestFloor h) (edgeAt (now (edges .entry)) i)) × HighestFits r ⌝ }
 {
     let left = face_at(edges, i * map::EDGE_WIDTH + map::LEFT);
     let right = face_at(edges, i * map::EDGE_WIDTH + map::RIGHT);

@@ -16,8 +16,8 @@ use borrow.Author.Tests.{le-leb, lt-ltb, ltb-true, leb-true}
 use Rattle.lists.specs.Scans.{allOf}
 use Rattle.lists.proofs.Appends.{fold-append, all-append}
 use Rattle.lists.proofs.Bools.{which, same-refl}
-use Rattle.text.specs.Lines.{digit, valueOf, signedNumber, numberOf}
-use Rattle.text.specs.Steps.{step, most}
+use Rattle.text.specs.Lines.{digit, valueOf, signedNumber, wordNumber}
+use Rattle.text.specs.Steps.{withDigit, most}
 use Rattle.text.proofs.Values.{is-digit}
 use Rattle.text.proofs.Signs.{number-plain}
 use Rattle.printing.specs.Texts.{digitsOf, naturalText, numberText}
@@ -32,7 +32,7 @@ record Spells (n : ℕ) (ds : List ℕ) : Type 0 where
 module _ (n m : ℕ) (ds : List ℕ) (v : valueOf ds ≡ m) (a : allOf digit ds ≡ true) (e : m * 10 + n % 10 ≡ n) where
   spells-more : Spells n (ds ++ (48 + n % 10) ∷ [])
   spells-more = record {
-    value = fold-append step 0 ds ((48 + n % 10) ∷ []) ∙ rw v (omega arith);
+    value = fold-append withDigit 0 ds ((48 + n % 10) ∷ []) ∙ rw v (omega arith);
     digits = all-append digit ds ((48 + n % 10) ∷ []) a (rw (is-digit (48 + n % 10) (omega arith) (omega arith)));
     some-digit = λ z. omega (arith, z, length-append ds ((48 + n % 10) ∷ []));
   }
@@ -60,7 +60,7 @@ first-digit n (d ∷ ds) s =
       | inr e ↦ absurd (true≢false (sym (s .digits) ∙ rw e))
     ]
 
-pub printed-back : (z : ℤ) → SFits w64 z → numberOf (numberText z) ≡ some z
+pub printed-back : (z : ℤ) → SFits w64 z → wordNumber (numberText z) ≡ some z
 printed-back (pos n) f =
     let fits : n < 2 ^ 63 = f .sfits in
     let s = spelled 19 n (omega arith) in

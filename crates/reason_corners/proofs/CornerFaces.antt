@@ -70,7 +70,8 @@ module _ (l : List ℤ) (n : ℕ) (m : Map) (E : m .edges ≡ edgesOf l n) (k : 
   corner-alone : (v : Way) (d : Dart) (ds : List Dart) → cornerOf m k v (d ∷ ds)
       ≡ bears (edgeMap l n) (firstClockwise (way (edgeMap l n)) v d (d ∷ ds))
   unfolding bears way courseOf edge
-  corner-alone v d ds = ap (λ (es : List Edge). bears (edgesAlone es) (firstClockwise (way (edgesAlone es)) v d (d ∷ ds))) E
+  corner-alone v d ds = ap (λ (es : List Edge). bears (edgesAlone es)
+      (firstClockwise (way (edgesAlone es)) v d (d ∷ ds))) E
 
 -- ---- the corner face
 

@@ -9,7 +9,8 @@ use Rattle.lists.proofs.Bools.{which, same-refl, same-true, same-eq, same-false
 use Rattle.lists.proofs.Members.{some?}
 use Rattle.lists.proofs.Keeps.{keep-in, keep-has, keep-all, keep-swap}
 use Rattle.plane.specs.Directions.{Way}
-use Rattle.rotation.specs.Law.{Tells, firstClockwise, Differ, others, Lawful, redirect, put, from, back, Law}
+use Rattle.rotation.specs.Law.{Tells, firstClockwise, Differ, others, Lawful, redirect, put, from, reverseLeads}
+use Rattle.rotation.specs.Law.{Law}
 use Rattle.rotation.specs.Law.{Apart, link, unlink, linkEdge, unlinkEdge}
 use Rattle.rotation.proofs.Tells.{is-no}
 use Rattle.rotation.proofs.Node.{lawful-in, first-in, first-none, put-lawful, take-lawful, lawful-reach}
@@ -63,22 +64,26 @@ module _ {D : Type 0} (is : D → D → Bool) (rev : D → D) (tail : D → ℕ)
         grown : from tail (p ∷ all) (tail p) ≡ p ∷ ds
         grown = rw (same-refl (tail p))
 
-        at-p : Lawful way is (p ∷ ds) (back rev (link is rev way p ds next))
-        at-p = lawful-cong (p ∷ ds) (put way is p ds (back rev next)) (back rev (link is rev way p ds next))
+        at-p : Lawful way is (p ∷ ds) (reverseLeads rev (link is rev way p ds next))
+        at-p = lawful-cong (p ∷ ds) (put way is p ds (reverseLeads rev next))
+            (reverseLeads rev (link is rev way p ds next))
             (λ d m. ap (λ (b : Bool). cond b c (redirect is c p next (rev d))) (is-rev d p))
-            (put-lawful way is tells p ds (back rev next) (subst (Differ way) grown differ)
+            (put-lawful way is tells p ds (reverseLeads rev next) (subst (Differ way) grown differ)
             (λ m. new (from-in all m .0)) (l (tail p)))
 
-        here : tail p ≡ n → Lawful way is (from tail (p ∷ all) n) (back rev (link is rev way p ds next))
-        here e = subst (λ (k : ℕ). Lawful way is (from tail (p ∷ all) k) (back rev (link is rev way p ds next))) e
-            (subst (λ (l : List D). Lawful way is l (back rev (link is rev way p ds next))) (sym grown) at-p)
+        here : tail p ≡ n → Lawful way is (from tail (p ∷ all) n) (reverseLeads rev (link is rev way p ds next))
+        here e = subst (λ (k : ℕ). Lawful way is (from tail (p ∷ all) k)
+            (reverseLeads rev (link is rev way p ds next))) e
+            (subst (λ (l : List D). Lawful way is l (reverseLeads rev (link is rev way p ds next))) (sym grown) at-p)
 
         there : ((tail p ≡ n) → ⊥) → same (tail p) n ≡ false
-            → Lawful way is (from tail (p ∷ all) n) (back rev (link is rev way p ds next))
+            → Lawful way is (from tail (p ∷ all) n) (reverseLeads rev (link is rev way p ds next))
         there ne q =
-            rw q (lawful-cong (from tail all n) (back rev next) (back rev (link is rev way p ds next)) same (l n))
+            rw q (lawful-cong (from tail all n) (reverseLeads rev next) (reverseLeads rev (link is rev way p ds next))
+            same (l n))
           where
-            same : (d : D) → List·Memᴰ d (from tail all n) → back rev (link is rev way p ds next) d ≡ back rev next d
+            same : (d : D) → List·Memᴰ d (from tail all n) → reverseLeads rev (link is rev way p ds next) d
+                ≡ reverseLeads rev next d
             same d m = rw (
               is-no tells (rev d) (rev p)
                   (λ e. new (Memᴰ·cast (sym (sym (rev-rev d) ∙ ap rev e ∙ rev-rev p)) (from-in all m .0))),
@@ -89,20 +94,22 @@ module _ {D : Type 0} (is : D → D → Bool) (rev : D → D) (tail : D → ℕ)
     -- a departure less
     unlink-law : (p : D) → List·Memᴰ p all → Differ way (from tail all (tail p))
         → Law is rev tail way (others is p all) (unlink is rev p next)
-    unlink-law p mp differ n = subst (λ (ds : List D). Lawful way is ds (back rev (unlink is rev p next)))
+    unlink-law p mp differ n = subst (λ (ds : List D). Lawful way is ds (reverseLeads rev (unlink is rev p next)))
         (keep-swap (λ q. not (is q p)) (λ (d : D). same (tail d) n) all)
         (elim (equal? (tail p) n) [ inl e ↦ here e | inr ne ↦ there ne ])
       where
-        here : tail p ≡ n → Lawful way is (others is p (from tail all n)) (back rev (unlink is rev p next))
-        here e = subst (λ (k : ℕ). Lawful way is (others is p (from tail all k)) (back rev (unlink is rev p next))) e
-            (take-lawful way is tells p (from tail all (tail p)) (back rev next) differ (from-has all mp refl)
+        here : tail p ≡ n → Lawful way is (others is p (from tail all n)) (reverseLeads rev (unlink is rev p next))
+        here e = subst (λ (k : ℕ). Lawful way is (others is p (from tail all k))
+            (reverseLeads rev (unlink is rev p next))) e
+            (take-lawful way is tells p (from tail all (tail p)) (reverseLeads rev next) differ (from-has all mp refl)
             (l (tail p)))
 
-        there : ((tail p ≡ n) → ⊥) → Lawful way is (others is p (from tail all n)) (back rev (unlink is rev p next))
-        there ne = subst (λ (ds : List D). Lawful way is ds (back rev (unlink is rev p next)))
+        there : ((tail p ≡ n) → ⊥) → Lawful way is (others is p (from tail all n))
+            (reverseLeads rev (unlink is rev p next))
+        there ne = subst (λ (ds : List D). Lawful way is ds (reverseLeads rev (unlink is rev p next)))
             (sym (keep-all (λ q. not (is q p)) (from tail all n)
             (λ d m. ap not (is-no tells d p (λ e. ne (ap tail (sym e) ∙ from-in all m .1))))))
-            (lawful-cong (from tail all n) (back rev next) (back rev (unlink is rev p next))
+            (lawful-cong (from tail all n) (reverseLeads rev next) (reverseLeads rev (unlink is rev p next))
             (λ d m.
             rw (is-no tells (next (rev d)) p (λ e. ne (ap tail (sym e) ∙ from-in all (law-stays all next n l d m) .1))))
             (l n))
@@ -133,8 +140,8 @@ module _ {D : Type 0} (is : D → D → Bool) (rev : D → D) (tail : D → ℕ)
 
   -- the departures of a node are met in one turn
   pub law-reach : (all : List D) (next : D → D) → Law is rev tail way all next → Apart tail way all → (d c : D)
-      → List·Memᴰ d all → List·Memᴰ c all → tail d ≡ tail c → (k : ℕ) × (iterate k (back rev next) d ≡ c)
-  law-reach all next l apart d c md mc e = lawful-reach way is tells (from tail all (tail d)) (back rev next)
+      → List·Memᴰ d all → List·Memᴰ c all → tail d ≡ tail c → (k : ℕ) × (iterate k (reverseLeads rev next) d ≡ c)
+  law-reach all next l apart d c md mc e = lawful-reach way is tells (from tail all (tail d)) (reverseLeads rev next)
       (apart (tail d)) (l (tail d)) d c (from-has all md refl) (from-has all mc (sym e))
 
   -- each departure is the lawful next of some departure's reverse
@@ -146,10 +153,11 @@ module _ {D : Type 0} (is : D → D → Bool) (rev : D → D) (tail : D → ℕ)
       go (r .0) (r .1)
     where
       -- a turn from c on stays at its node
-      along : (k : ℕ) → List·Memᴰ (iterate k (back rev next) (next (rev c))) (from tail all (tail c))
+      along : (k : ℕ) → List·Memᴰ (iterate k (reverseLeads rev next) (next (rev c))) (from tail all (tail c))
       along zero = law-stays all next (tail c) l c (from-has all mc refl)
-      along (suc k) = law-stays all next (tail c) l (iterate k (back rev next) (next (rev c))) (along k)
+      along (suc k) = law-stays all next (tail c) l (iterate k (reverseLeads rev next) (next (rev c))) (along k)
 
-      go : (k : ℕ) → iterate k (back rev next) (next (rev c)) ≡ c → (d : D) × List·Memᴰ d all × (next (rev d) ≡ c)
+      go : (k : ℕ) → iterate k (reverseLeads rev next) (next (rev c)) ≡ c
+          → (d : D) × List·Memᴰ d all × (next (rev d) ≡ c)
       go zero e = (c, mc, e)
-      go (suc k) e = (iterate k (back rev next) (next (rev c)), from-in all (along k) .0, e)
+      go (suc k) e = (iterate k (reverseLeads rev next) (next (rev c)), from-in all (along k) .0, e)

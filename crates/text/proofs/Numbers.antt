@@ -10,8 +10,8 @@ use native.Mathlib.Numerals.{add-one}
 use native.Mathlib.Omega.{arith}
 use lib.IntN.{ℤ}
 use lib.ListN.{length, getD, set, take, drop, drop-of-length-le}
-use Rattle.text.specs.Lines.{maxLine, blank, numberOf, consNumber, numbersOf, words}
-use Rattle.text.specs.Steps.{Run, numberAs, numbersFrom, parsedOf, Room, written}
+use Rattle.text.specs.Lines.{maxLine, blank, wordNumber, consNumber, numbersOf, words}
+use Rattle.text.specs.Steps.{ByteRun, numberAs, numbersFrom, parsedOf, NumbersFit, numbersWritten}
 use Rattle.text.specs.declared.Parsed.the-variants.{Numbers}
 use Rattle.text.specs.declared.Number.the-variants.{Value, Wrong as WrongNumber}
 use Rattle.text.proofs.Words.{skip-blanks, take-word, parted-at, words-few}
@@ -19,7 +19,7 @@ use Rattle.text.proofs.Words.{skip-blanks, take-word, parted-at, words-
 -- each word is one number
 pub numbers-length : (ws : List (List ℕ)) (zs : List ℤ) → numbersOf ws ≡ some zs → length zs ≡ length ws
 numbers-length [] zs e = let q : [] ≡ zs = cc in ap length (sym q)
-numbers-length (w ∷ ws) zs e = pick (numberOf w) (numbersOf ws) e (λ ys. numbers-length ws ys)
+numbers-length (w ∷ ws) zs e = pick (wordNumber w) (numbersOf ws) e (λ ys. numbers-length ws ys)
   where
     pick : (o : Option ℤ) (os : Option (List ℤ)) → consNumber o os ≡ some zs
         → ((ys : List ℤ) → os ≡ some ys → length ys ≡ length ws) → length zs ≡ suc (length ws)
@@ -41,13 +41,13 @@ none-of (some y) e = let p : _≡_ {A = ℕ} 0 1 = cc in absurd (omega arith)
 none-of none e = refl
 
 -- what the cursor meets from a place on: blanks, and then the end or a word
-module _ (l : List ℕ) (at s : ℕ) (gap : Run l at true s) where
+module _ (l : List ℕ) (at s : ℕ) (gap : ByteRun l at true s) where
   pub numbers-end : s ≡ length l → numbersFrom l at ≡ some []
   numbers-end e =
       ap numbersOf (skip-blanks l (s - at) at s (omega (arith, gap .from)) (gap .within) (gap .run))
       ∙ rw (drop-of-length-le l {i = s} (omega arith))
 
-  module _ (more : s ≡ length l → ⊥) (e : ℕ) (word : Run l s false e) where
+  module _ (more : s ≡ length l → ⊥) (e : ℕ) (word : ByteRun l s false e) where
     inside : s < length l
     inside = omega (arith, gap .within)
 
@@ -59,7 +59,7 @@ module _ (l : List ℕ) (at s : ℕ) (gap : Run l at true s) where
         (λ q. q)
         (eq-or-lt-of-le (word .from))
 
-    numbers-word : numbersFrom l at ≡ consNumber (numberOf (take (e - s) (drop s l))) (numbersFrom l e)
+    numbers-word : numbersFrom l at ≡ consNumber (wordNumber (take (e - s) (drop s l))) (numbersFrom l e)
     numbers-word =
         let n : e - s ≡ suc (e - s - 1) = omega (arith, word-bytes) in
         ap numbersOf (
@@ -67,28 +67,30 @@ module _ (l : List ℕ) (at s : ℕ) (gap : Run l at true s) where
         ∙ take-word l (e - s - 1) s e (omega (arith, word-bytes)) (word .within) (word .run)
         (parted-at l e (word .within) (word .ends))
         )
-        ∙ ap (λ (k : ℕ). consNumber (numberOf (take k (drop s l))) (numbersFrom l e)) (sym n)
+        ∙ ap (λ (k : ℕ). consNumber (wordNumber (take k (drop s l))) (numbersFrom l e)) (sym n)
 
-    pub numbers-value : (z : ℤ) → numberAs (numberOf (take (e - s) (drop s l))) ≡ Value z → numbersFrom l at
+    pub numbers-value : (z : ℤ) → numberAs (wordNumber (take (e - s) (drop s l))) ≡ Value z → numbersFrom l at
         ≡ consNumber (some z) (numbersFrom l e)
     numbers-value z q = numbers-word ∙ ap (λ (o : Option ℤ). consNumber o (numbersFrom l e))
-        (value-of (numberOf (take (e - s) (drop s l))) z q)
+        (value-of (wordNumber (take (e - s) (drop s l))) z q)
 
-    pub numbers-wrong : numberAs (numberOf (take (e - s) (drop s l))) ≡ WrongNumber → numbersFrom l at ≡ none
+    pub numbers-wrong : numberAs (wordNumber (take (e - s) (drop s l))) ≡ WrongNumber → numbersFrom l at ≡ none
     numbers-wrong q = numbers-word ∙ ap (λ (o : Option ℤ). consNumber o (numbersFrom l e))
-        (none-of (numberOf (take (e - s) (drop s l))) q)
+        (none-of (wordNumber (take (e - s) (drop s l))) q)
 
 module _ (z : ℤ) where
   pub parsed-more : (n : ℕ) (o os : Option (List ℤ)) → o ≡ consNumber (some z) os → parsedOf n o ≡ parsedOf (n + 1) os
   parsed-more n o (some zs) e = rw e (ap Numbers (omega arith))
   parsed-more n o none e = rw e
 
-  pub room-more : (m n : ℕ) (o os : Option (List ℤ)) → o ≡ consNumber (some z) os → Room m n o → (n < m)
-      × Room m (n + 1) os
-  room-more m n o (some zs) e h = let r : n + suc (length zs) ≤ m = subst (Room m n) e h in (omega arith, omega arith)
-  room-more m n o none e h = absurd (subst (Room m n) e h)
+  pub room-more : (m n : ℕ) (o os : Option (List ℤ)) → o ≡ consNumber (some z) os → NumbersFit m n o → (n < m)
+      × NumbersFit m (n + 1) os
+  room-more m n o (some zs) e h = let r : n + suc (length zs) ≤ m = subst (NumbersFit m n) e h in
+      (omega arith, omega arith)
+  room-more m n o none e h = absurd (subst (NumbersFit m n) e h)
 
-  pub written-more : (m : ℕ) (l : List ℤ) (n : ℕ) (o os : Option (List ℤ)) → o ≡ consNumber (some z) os → Room m n o
-      → written l n o ≡ written (set l n z) (n + 1) os
+  pub written-more : (m : ℕ) (l : List ℤ) (n : ℕ) (o os : Option (List ℤ)) → o ≡ consNumber (some z) os
+      → NumbersFit m n o
+      → numbersWritten l n o ≡ numbersWritten (set l n z) (n + 1) os
   written-more m l n o (some zs) e h = rw (e, add-one)
-  written-more m l n o none e h = absurd (subst (Room m n) e h)
+  written-more m l n o none e h = absurd (subst (NumbersFit m n) e h)

@@ -12,11 +12,11 @@ use lib.Seq.{take-all}
 use borrow.Author.Tests.{le-leb, lt-leb, leb-false}
 use Rattle.lists.specs.Scans.{allOf}
 use Rattle.lists.proofs.Bools.{same-eq, same-false}
-use Rattle.text.specs.Lines.{digit, valueOf, signedNumber, numberOf}
-use Rattle.text.specs.Steps.{reach, most, magnitudeOf}
+use Rattle.text.specs.Lines.{digit, valueOf, signedNumber, wordNumber}
+use Rattle.text.specs.Steps.{digitBound, most, magnitudeOf}
 use Rattle.text.specs.declared.Magnitude.the-variants.{Value, Wrong}
 
-most-reached : (minus : Bool) → most minus ≤ reach
+most-reached : (minus : Bool) → most minus ≤ digitBound
 most-reached true = omega arith
 most-reached false = omega arith
 
@@ -31,8 +31,8 @@ wrong-told true false v e = refl
 wrong-told false b v e = refl
 
 -- what is past reach is past the largest magnitude
-past : (a : Bool) (v m : ℕ) → m ≤ reach → a && leb v reach ≡ false → a && leb v m ≡ false
-past true v m h e = let g : reach < v = leb-false v reach e in lt-leb v m (omega arith)
+past : (a : Bool) (v m : ℕ) → m ≤ digitBound → a && leb v digitBound ≡ false → a && leb v m ≡ false
+past true v m h e = let g : digitBound < v = leb-false v digitBound e in lt-leb v m (omega arith)
 past false v m h e = refl
 
 module _ (minus : Bool) (ds : List ℕ) (some-digit : length ds ≡ 0 → ⊥) where
@@ -45,7 +45,7 @@ module _ (minus : Bool) (ds : List ℕ) (some-digit : length ds ≡ 0 → ⊥) w
   module _ (n : ℕ) (m : magnitudeOf ds ≡ Value n) where
     told : (allOf digit ds ≡ true) × (valueOf ds ≡ n)
     unfolding magnitudeOf
-    told = value-told (allOf digit ds) (leb (valueOf ds) reach) (valueOf ds) n m
+    told = value-told (allOf digit ds) (leb (valueOf ds) digitBound) (valueOf ds) n m
 
     pub signed-fits : n ≤ most minus → signedNumber minus ds ≡ some (cond minus (negℤ (pos n)) (pos n))
     signed-fits h = signed-is ds refl ∙ rw (told .0, told .1, le-leb n (most minus) h)
@@ -57,7 +57,7 @@ module _ (minus : Bool) (ds : List ℕ) (some-digit : length ds ≡ 0 → ⊥) w
   unfolding magnitudeOf
   signed-wrong m =
       let f = past (allOf digit ds) (valueOf ds) (most minus) (most-reached minus)
-      (wrong-told (allOf digit ds) (leb (valueOf ds) reach) (valueOf ds) m) in
+      (wrong-told (allOf digit ds) (leb (valueOf ds) digitBound) (valueOf ds) m) in
       signed-is ds refl ∙ rw f
 
 pub signed-none : (minus : Bool) (ds : List ℕ) → length ds ≡ 0 → signedNumber minus ds ≡ none
@@ -69,21 +69,21 @@ signed-none minus (d ∷ ds) h = absurd (omega arith)
 rest : (w : List ℕ) → take (length w - 1) (drop 1 w) ≡ drop 1 w
 rest w = take-all (length w - 1) (drop 1 w) (simp length-drop (omega arith))
 
-pub number-none : (w : List ℕ) → length w ≡ 0 → numberOf w ≡ none
+pub number-none : (w : List ℕ) → length w ≡ 0 → wordNumber w ≡ none
 number-none [] h = refl
 number-none (b ∷ r) h = absurd (omega arith)
 
-pub number-minus : (w : List ℕ) → (length w ≡ 0 → ⊥) → getD w 0 0 ≡ 45 → numberOf w
+pub number-minus : (w : List ℕ) → (length w ≡ 0 → ⊥) → getD w 0 0 ≡ 45 → wordNumber w
     ≡ signedNumber true (take (length w - 1) (drop 1 w))
 number-minus [] h e = absurd (h refl)
 number-minus (b ∷ r) h e = rw (rest (b ∷ r), same-eq b 45 e)
 
-pub number-plus : (w : List ℕ) → (length w ≡ 0 → ⊥) → (getD w 0 0 ≡ 45 → ⊥) → getD w 0 0 ≡ 43 → numberOf w
+pub number-plus : (w : List ℕ) → (length w ≡ 0 → ⊥) → (getD w 0 0 ≡ 45 → ⊥) → getD w 0 0 ≡ 43 → wordNumber w
     ≡ signedNumber false (take (length w - 1) (drop 1 w))
 number-plus [] h m e = absurd (h refl)
 number-plus (b ∷ r) h m e = rw (rest (b ∷ r), same-false b 45 m, same-eq b 43 e)
 
-pub number-plain : (w : List ℕ) → (length w ≡ 0 → ⊥) → (getD w 0 0 ≡ 45 → ⊥) → (getD w 0 0 ≡ 43 → ⊥) → numberOf w
+pub number-plain : (w : List ℕ) → (length w ≡ 0 → ⊥) → (getD w 0 0 ≡ 45 → ⊥) → (getD w 0 0 ≡ 43 → ⊥) → wordNumber w
     ≡ signedNumber false w
 number-plain [] h m e = absurd (h refl)
 number-plain (b ∷ r) h m e = rw (same-false b 45 m, same-false b 43 e)

@@ -11,7 +11,7 @@ use lib.Seq.{sets-eq}
 use borrow.Author.Tests.{le-leb, lt-leb}
 use Rattle.text.specs.Lines.{maxLine, lineNumbers, numbersOf, words}
 use Rattle.text.specs.Parsed.{ParsedAs}
-use Rattle.text.specs.Steps.{parsedOf, Room, written}
+use Rattle.text.specs.Steps.{parsedOf, NumbersFit, numbersWritten}
 use Rattle.text.specs.declared.Parsed.the-variants.{Numbers, Wrong}
 use Rattle.text.proofs.Numbers.{numbers-few}
 
@@ -36,19 +36,21 @@ module _ (l : List ℕ) (before : List ℤ) (h : length l ≤ maxLine) where
       told none e = (refl, refl)
 
   module _ (n : ℕ) (e : Numbers n ≡ parsedOf 0 (numbersOf (words l))) (size : length before ≡ 500) where
-    pub line-room : Room (length before) 0 (numbersOf (words l))
+    pub line-room : NumbersFit (length before) 0 (numbersOf (words l))
     line-room = told (numbersOf (words l)) refl e
       where
-        told : (o : Option (List ℤ)) → numbersOf (words l) ≡ o → Numbers n ≡ parsedOf 0 o → Room (length before) 0 o
+        told : (o : Option (List ℤ)) → numbersOf (words l) ≡ o → Numbers n ≡ parsedOf 0 o
+            → NumbersFit (length before) 0 o
         told (some zs) q e = omega (arith, numbers-few l zs h q)
         told none q e = let z : _≡_ {A = ℕ} 0 1 = cc in absurd (omega arith)
 
-    pub right-line : (after : List ℤ) → after ≡ written before 0 (numbersOf (words l))
+    pub right-line : (after : List ℤ) → after ≡ numbersWritten before 0 (numbersOf (words l))
         → ParsedAs (lineNumbers l) before (Numbers n) after
     right-line after w = subst (λ (o : Option (List ℤ)). ParsedAs o before (Numbers n) after) (short l h)
         (told (numbersOf (words l)) line-room e w)
       where
-        told : (o : Option (List ℤ)) → Room (length before) 0 o → Numbers n ≡ parsedOf 0 o → after ≡ written before 0 o
+        told : (o : Option (List ℤ)) → NumbersFit (length before) 0 o → Numbers n ≡ parsedOf 0 o → after
+            ≡ numbersWritten before 0 o
             → ParsedAs o before (Numbers n) after
         told (some zs) room e w = (
           e ∙ ap Numbers (zero-add (length zs)),

@@ -45,9 +45,9 @@ signedNumber minus (d ∷ ds) =
     cond (allOf digit (d ∷ ds) && leb n most) (some (cond minus (negℤ (pos n)) (pos n))) none
 
 -- a word as a number: an optional sign and decimal digits, leading zeros among them
-abbrev pub numberOf : List ℕ → Option ℤ
-numberOf [] = none
-numberOf (b ∷ r) = cond (same b 45) (signedNumber true r)
+abbrev pub wordNumber : List ℕ → Option ℤ
+wordNumber [] = none
+wordNumber (b ∷ r) = cond (same b 45) (signedNumber true r)
     (cond (same b 43) (signedNumber false r) (signedNumber false (b ∷ r)))
 
 abbrev pub consNumber : Option ℤ → Option (List ℤ) → Option (List ℤ)
@@ -58,7 +58,7 @@ consNumber none zs = none
 -- all words as numbers; none where one is no number
 abbrev pub numbersOf : List (List ℕ) → Option (List ℤ)
 numbersOf [] = some []
-numbersOf (w ∷ ws) = consNumber (numberOf w) (numbersOf ws)
+numbersOf (w ∷ ws) = consNumber (wordNumber w) (numbersOf ws)
 
 abbrev pub maxLine : ℕ
 maxLine = 1000

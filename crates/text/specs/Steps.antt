@@ -20,19 +20,19 @@ use Rattle.text.specs.declared.Next.{Next}
 use Rattle.text.specs.declared.Next.the-variants as X
 
 -- from `at` to r stand blanks, or other bytes, and at r the line ends or another byte stands
-pub record Run (l : List ℕ) (at : ℕ) (blanks : Bool) (r : ℕ) : Type 0 where
+pub record ByteRun (l : List ℕ) (at : ℕ) (blanks : Bool) (r : ℕ) : Type 0 where
   pub from : at ≤ r
   pub within : r ≤ length l
   pub run : (k : ℕ) → at ≤ k → k < r → blank (getD l k 0) ≡ blanks
   pub ends : r < length l → blank (getD l r 0) ≡ not blanks
 
 -- one digit more
-abbrev pub step : ℕ → ℕ → ℕ
-step n b = n * 10 + (b - 48)
+abbrev pub withDigit : ℕ → ℕ → ℕ
+withDigit n b = n * 10 + (b - 48)
 
 -- what one digit more can make of 922337203685477580, the largest value that the code lets a digit follow
-abbrev pub reach : ℕ
-reach = 9223372036854775809
+abbrev pub digitBound : ℕ
+digitBound = 9223372036854775809
 
 -- the largest magnitude with a sign
 abbrev pub most : Bool → ℕ
@@ -40,7 +40,7 @@ most minus = cond minus (2 ^ 63) (2 ^ 63 - 1)
 
 -- the value of digits up to reach; what is larger fits with no sign
 unfoldable pub magnitudeOf : List ℕ → Magnitude
-magnitudeOf ds = cond (allOf digit ds && leb (valueOf ds) reach) (M.Value (valueOf ds)) M.Wrong
+magnitudeOf ds = cond (allOf digit ds && leb (valueOf ds) digitBound) (M.Value (valueOf ds)) M.Wrong
 
 abbrev pub numberAs : Option ℤ → Number
 numberAs (some z) = N.Value z
@@ -63,11 +63,11 @@ parsedOf n (some zs) = Numbers (n + length zs)
 parsedOf n none = Wrong
 
 -- the numbers fit a list of m from n on
-abbrev pub Room : ℕ → ℕ → Option (List ℤ) → Type 0
-Room m n (some zs) = n + length zs ≤ m
-Room m n none = ⊥
+abbrev pub NumbersFit : ℕ → ℕ → Option (List ℤ) → Type 0
+NumbersFit m n (some zs) = n + length zs ≤ m
+NumbersFit m n none = ⊥
 
 -- the list with the numbers from n on
-abbrev pub written : List ℤ → ℕ → Option (List ℤ) → List ℤ
-written l n (some zs) = sets l n zs
-written l n none = l
+abbrev pub numbersWritten : List ℤ → ℕ → Option (List ℤ) → List ℤ
+numbersWritten l n (some zs) = sets l n zs
+numbersWritten l n none = l

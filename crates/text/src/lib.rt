@@ -4,9 +4,10 @@ ghost use mathlib.Core.Bool.{cond};
 ghost use Prim.Native.Nat.{_≤_};
 ghost use lib.IntN.{pos, negℤ};
 ghost use lib.ListN.{length};
-ghost use Rattle.text.specs.Lines.{lineNumbers, blank, numberOf, signedNumber, words, numbersOf};
+ghost use Rattle.text.specs.Lines.{lineNumbers, blank, wordNumber, signedNumber, words, numbersOf};
 ghost use Rattle.text.specs.Parsed.{ParsedAs};
-ghost use Rattle.text.specs.Steps.{Run, most, magnitudeOf, numberAs, NextAs, parsedOf, Room, written};
+ghost use Rattle.text.specs.Steps.{ByteRun, most, magnitudeOf, numberAs, NextAs, parsedOf, NumbersFit};
+ghost use Rattle.text.specs.Steps.{numbersWritten};
 
 // The most bytes of a line.
 pub const LINE: usize = 1000;
@@ -63,7 +64,7 @@ fn is_blank(b: u8) -> bool
 // The place where a run of blanks ends, or a run of other bytes.
 fn run_end(line: &[u8], at: usize, blanks: bool) -> usize
     requires { ⌜ at ≤ length (now line) ⌝ }
-    ensures { λ r. ⌜ Run (now (line .entry)) at blanks r ⌝ }
+    ensures { λ r. ⌜ ByteRun (now (line .entry)) at blanks r ⌝ }
 {
     let mut i = at;
     while i < line.len() {
@@ -145,7 +146,7 @@ fn signed(minus: bool, digits: &[u8]) -> Number
 
 // A word as a number.
 fn number_of(word: &[u8]) -> Number
-    ensures { λ r. ⌜ r ≡ numberAs (numberOf (now (word .entry))) ⌝ }
+    ensures { λ r. ⌜ r ≡ numberAs (wordNumber (now (word .entry))) ⌝ }
 {
     if word.len() == 0 {
         return Number::Wrong;
@@ -196,8 +197,8 @@ fn count_numbers(line: &[u8]) -> Parsed
 
 // The second pass, over a line that is right: its numbers are written.
 fn write_numbers(line: &[u8], list: &mut [i64])
-    requires { ⌜ Room (length (now list)) 0 (numbersOf (words (now line))) ⌝ }
-    ensures { λ r. ⌜ now (list .exit) ≡ written (now (list .entry)) 0 (numbersOf (words (now (line .entry)))) ⌝ }
+    requires { ⌜ NumbersFit (length (now list)) 0 (numbersOf (words (now line))) ⌝ }
+    ensures { λ r. ⌜ now (list .exit) ≡ numbersWritten (now (list .entry)) 0 (numbersOf (words (now (line .entry)))) ⌝ }
 {
     let mut at = 0;
     let mut n = 0;

@@ -13,7 +13,7 @@ use Rattle.map.specs.Ticket.{emptied}
 use Rattle.map.specs.Grow.{Grown, after, grow}
 use Rattle.grown.specs.Claims.{GrownMap}
 use Rattle.grown.proofs.Grows.{grows, whole-limited}
-use Rattle.ticket_lists.specs.Runs.{ticketsOf, Ran, front, ranUnless, ran, Runs}
+use Rattle.ticket_lists.specs.Runs.{ticketsOf, Ran, overFront, ranUnless, ran, Runs}
 
 -- from the empty map on
 grow-is : (l : Lent) (ts : List (List ℤ)) → whole l ≡ true → grow (sizesOf l) ts ≡ after (emptied l .lent) ts
@@ -50,8 +50,8 @@ module _ (l : Lent) (numbers : List ℤ) (lengths refusals : List ℕ) (values :
     -- carried out: g is what the tickets give from the empty map on
     pub runs-0 : short ≡ false → (g : Grown) → g ≡ after (emptied l .lent) (ticketsOf numbers lengths)
         → {l′ : Lent} {refusals′ : List ℕ} {values′ : List ℤ}
-        → (l′ ≡ g .lent) × (refusals′ ≡ front (map (λ a. a .refusal) (g .answers)) refusals)
-        × (values′ ≡ front (map (λ a. a .value) (g .answers)) values)
+        → (l′ ≡ g .lent) × (refusals′ ≡ overFront (map (λ a. a .refusal) (g .answers)) refusals)
+        × (values′ ≡ overFront (map (λ a. a .value) (g .answers)) values)
         → Runs l numbers lengths refusals values
         (record { lent = l′; refusals = refusals′; values = values′; answer = record { refusal = 0; value = pos 0 } })
     runs-0 e g d k =

@@ -1,4 +1,5 @@
--- Lists of tickets that end with a split and its heal, handed to `ticket_lists::run` (specs/Claims.antt). Assumes nothing.
+-- Lists of tickets that end with a split and its heal, handed to `ticket_lists::run` (specs/Claims.antt). Assumes
+-- nothing.
 use mathlib.Core.Path.{_≡_, refl, sym, ap, ap₂, _∙_}
 use mathlib.Core.Bool.{Bool, not, _||_}
 use mathlib.Core.List.{List, [], _∷_, _++_, map, map-append, append-assoc}
@@ -19,7 +20,7 @@ use Rattle.map.proofs.Facts.{followed, after-append}
 use Rattle.map.proofs.Reasons.{first-zero}
 use Rattle.grown.proofs.Grows.{whole-limited}
 use Rattle.grown.proofs.SplitHeal.{split-cancelled, split-renewed}
-use Rattle.ticket_lists.specs.Runs.{ticketsOf, Ran, front, ranUnless, ran}
+use Rattle.ticket_lists.specs.Runs.{ticketsOf, Ran, overFront, ranUnless, ran}
 use Rattle.ticket_lists.specs.Claims.{Called, refusalAt, outcomeAt, RunCancels, RunRenews}
 
 -- ---- two tickets more
@@ -31,7 +32,7 @@ after-length l (t ∷ ts) = ap suc (after-length (ticket l t .lent) ts)
 
 -- an answer in its place, behind those of xs
 answer-at : {A : Type 0} (f : Answer → A) (xs ys : List Answer) (old : List A) (i : ℕ) (d : A)
-    → getD (front (map f (xs ++ ys)) old) (length xs + i) d
+    → getD (overFront (map f (xs ++ ys)) old) (length xs + i) d
     ≡ getD (map f ys ++ drop (length (map f (xs ++ ys))) old) i d
 answer-at f xs ys old i d =
     let rest = drop (length (map f (xs ++ ys))) old in
@@ -80,16 +81,16 @@ module _ (l : Lent) (ts : List (List ℤ)) (t u : List ℤ) (r : Ran) (c : Calle
 
   -- the answers to t and u, in a column of answers
   module _ {A : Type 0} (f : Answer → A) (old : List A) (d : A) where
-    at-t : getD (front (map f (all .answers)) old) (length ts) d ≡ f (ticket g t .answer)
+    at-t : getD (overFront (map f (all .answers)) old) (length ts) d ≡ f (ticket g t .answer)
     unfolding after
     at-t =
-        ap (λ (n : ℕ). getD (front (map f (all .answers)) old) n d) (sym answers-length ∙ sym (add-zero _))
+        ap (λ (n : ℕ). getD (overFront (map f (all .answers)) old) n d) (sym answers-length ∙ sym (add-zero _))
         ∙ answer-at f (grow (sizesOf l) ts .answers) (after g (t ∷ u ∷ []) .answers) old 0 d
 
-    at-u : getD (front (map f (all .answers)) old) (length ts + 1) d ≡ f (ticket (ticket g t .lent) u .answer)
+    at-u : getD (overFront (map f (all .answers)) old) (length ts + 1) d ≡ f (ticket (ticket g t .lent) u .answer)
     unfolding after
     at-u =
-        ap (λ (n : ℕ). getD (front (map f (all .answers)) old) (n + 1) d) (sym answers-length)
+        ap (λ (n : ℕ). getD (overFront (map f (all .answers)) old) (n + 1) d) (sym answers-length)
         ∙ answer-at f (grow (sizesOf l) ts .answers) (after g (t ∷ u ∷ []) .answers) old 1 d
 
   first-is : refusalAt r (length ts) ≡ ticket g t .answer .refusal

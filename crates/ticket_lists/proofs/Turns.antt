@@ -12,7 +12,7 @@ use Rattle.map.specs.declared.Answer.{Answer}
 use Rattle.map.specs.Rows.{Lent}
 use Rattle.map.specs.Ticket.{Outcome, ticket}
 use Rattle.map.specs.Grow.{Grown, answered, after}
-use Rattle.ticket_lists.specs.Runs.{ticketsOf, front}
+use Rattle.ticket_lists.specs.Runs.{ticketsOf, overFront}
 
 -- ---- one column of answers: the first i are those of all, the others are as they were
 
@@ -38,7 +38,7 @@ column-more {left = left} {a = a} i {old = old} {new = new} c h =
     }
 
 column-all : {A : Type 0} {all : List A} (i : ℕ) {old new : List A} → Column all [] i old new → i ≤ length new → new
-    ≡ front all old
+    ≡ overFront all old
 column-all {all = all} i {old = old} {new = new} c h =
     let t = sym (append-nil (take i new)) ∙ c .told in
     let n : length all ≡ i = sym (ap length t) ∙ length-take-le i new h in
@@ -107,8 +107,8 @@ pub left-none : (l : Lent) (numbers : List ℤ) (lengths : List ℕ)
     (i : ℕ) {g : Grown} {old new : List ℕ} {old′ new′ : List ℤ}
     → Left g (after l (ticketsOf numbers (drop i lengths))) i old new old′ new′
     → length lengths ≤ i → i ≤ length new → i ≤ length new′
-    → (l ≡ g .lent) × (new ≡ front (map (λ a. a .refusal) (g .answers)) old)
-    × (new′ ≡ front (map (λ a. a .value) (g .answers)) old′)
+    → (l ≡ g .lent) × (new ≡ overFront (map (λ a. a .refusal) (g .answers)) old)
+    × (new′ ≡ overFront (map (λ a. a .value) (g .answers)) old′)
 left-none l numbers lengths i {g = g} {old = old} {new = new} {old′ = old′} {new′ = new′} f e h h′ =
     let f′ = subst (λ (r : Grown). Left g r i old new old′ new′) (after-none l numbers lengths i e) f in
     (f′ .lent, column-all i (f′ .refusals) h, column-all i (f′ .values) h′)

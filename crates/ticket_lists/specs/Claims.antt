@@ -1,4 +1,5 @@
--- What a caller of `ticket_lists::run` may count on beside its contract: document 02 (vi), a split that is healed at once.
+-- What a caller of `ticket_lists::run` may count on beside its contract: document 02 (vi), a split that is healed at
+-- once.
 -- Proved in proofs/SplitHeal.antt (`run-cancels`, `run-renews`).
 use mathlib.Core.Path.{_≡_}
 use mathlib.Core.List.{List, [], _∷_, _++_}

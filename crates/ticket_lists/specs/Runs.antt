@@ -26,16 +26,16 @@ pub record Ran : Type 0 where
   pub answer : Answer
 
 -- written from the front; the remainder is untouched
-abbrev pub front : {A : Type 0} → List A → List A → List A
-front written list = written ++ drop (length written) list
+abbrev pub overFront : {A : Type 0} → List A → List A → List A
+overFront written list = written ++ drop (length written) list
 
 -- an answer for each ticket, unless there is a reason against the call
 abbrev pub ranUnless : Lent → List ℕ → List ℤ → Grown → ℕ → Ran
 ranUnless l refusals values g zero =
     record {
       lent = g .lent;
-      refusals = front (map (λ a. a .refusal) (g .answers)) refusals;
-      values = front (map (λ a. a .value) (g .answers)) values;
+      refusals = overFront (map (λ a. a .refusal) (g .answers)) refusals;
+      values = overFront (map (λ a. a .value) (g .answers)) values;
       answer = record { refusal = 0; value = pos 0 };
     }
 ranUnless l refusals values g (suc r) =

@@ -7,7 +7,7 @@ ghost use Prim.Native.Nat.{min, _≤_};
 ghost use lib.ListN.{length};
 ghost use Rattle.map.specs.Grow.{Grown, after};
 ghost use Rattle.form_ranges.specs.Ranges.{lent};
-ghost use Rattle.ticket_lists.specs.Runs.{ticketsOf, front, Runs};
+ghost use Rattle.ticket_lists.specs.Runs.{ticketsOf, overFront, Runs};
 
 // The lesser of two numbers.
 fn least(a: usize, b: usize) -> usize
@@ -31,8 +31,8 @@ fn run_tickets(
     ensures { λ r. ⌜ ((g : Grown) → g ≡ after (lent (now (nodes .entry)) (now (edges .entry)) (now (faces .entry)) h)
         (ticketsOf (now (numbers .entry)) (now (lengths .entry)))
         → (lent (now (nodes .exit)) (now (edges .exit)) (now (faces .exit)) r ≡ g .lent)
-        × (now (refusals .exit) ≡ front (map (λ a. a .refusal) (g .answers)) (now (refusals .entry)))
-        × (now (values .exit) ≡ front (map (λ a. a .value) (g .answers)) (now (values .entry)))) ⌝ }
+        × (now (refusals .exit) ≡ overFront (map (λ a. a .refusal) (g .answers)) (now (refusals .entry)))
+        × (now (values .exit) ≡ overFront (map (λ a. a .value) (g .answers)) (now (values .entry)))) ⌝ }
 {
     let mut head = h;
     let mut at = 0;

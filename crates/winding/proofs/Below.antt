@@ -16,7 +16,7 @@ use Rattle.plane.specs.declared.Point.{Point}
 use Rattle.plane.specs.Areas.{area, isPositive}
 use Rattle.plane.specs.Below.{Segment, isBelow, ordered, passesBelow}
 use Rattle.geometry.proofs.Complete.{area-swap}
-use Rattle.winding.specs.Winding.{one, signedBelow, under}
+use Rattle.winding.specs.Winding.{one, signedBelow, belowSegment}
 
 -- from a to b
 abbrev pub seg : Point → Point → Segment
@@ -35,16 +35,16 @@ module _ (p a b : Point) where
   below-right h = rw (le-ltb (p .x) (b .x) h, &&-false (leb (a .x) (p .x)))
 
 module _ (p q v : Point) where
-  pub under-in : p .x < v .x → v .x ≤ q .x → under p q v ≡ isPositive (sgn (area q p v))
-  unfolding under
+  pub under-in : p .x < v .x → v .x ≤ q .x → belowSegment p q v ≡ isPositive (sgn (area q p v))
+  unfolding belowSegment
   under-in h k = rw (lt-ltb (p .x) (v .x) h, le-leb (v .x) (q .x) k)
 
-  pub under-left : v .x ≤ p .x → under p q v ≡ false
-  unfolding under
+  pub under-left : v .x ≤ p .x → belowSegment p q v ≡ false
+  unfolding belowSegment
   under-left h = rw (le-ltb (p .x) (v .x) h)
 
-  pub under-right : q .x < v .x → under p q v ≡ false
-  unfolding under
+  pub under-right : q .x < v .x → belowSegment p q v ≡ false
+  unfolding belowSegment
   under-right h = rw (lt-leb (v .x) (q .x) h, &&-false (ltb (p .x) (v .x)))
 
 -- ---- signed: a segment less its reverse
@@ -132,8 +132,8 @@ signed-flat p a b e = signed-is p a b ∙ (λ i. one (flat a b e i) -ℤ one (fl
     flat c d f = ap (λ (z : ℤ). leb (c .x) (p .x) && ltb (p .x) (d .x) && isPositive (sgn z)) f
         ∙ eq2 (λ s t. s && t && false) (λ s t. false) tt (leb (c .x) (p .x)) (ltb (p .x) (d .x))
 
-pub under-flat : (p q v : Point) → area p q v ≡ pos 0 → under p q v ≡ false
-unfolding under
+pub under-flat : (p q v : Point) → area p q v ≡ pos 0 → belowSegment p q v ≡ false
+unfolding belowSegment
 under-flat p q v e = ap (λ (z : ℤ). ltb (p .x) (v .x) && leb (v .x) (q .x) && isPositive (sgn z))
     (area-swap p q v ∙ ap negℤ e) ∙ eq2 (λ s t. s && t && false) (λ s t. false) tt (ltb (p .x) (v .x))
     (leb (v .x) (q .x))

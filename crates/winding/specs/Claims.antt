@@ -10,12 +10,12 @@ use Rattle.plane.specs.Below.{Segment}
 use Rattle.curves.specs.Curves.{Curve, lastPoint, startWay}
 use Rattle.rotation.specs.Law.{Tells, lawfulNext}
 use Rattle.winding.specs.Winding.{windingOf, allSegments, Closed}
-use Rattle.winding.specs.Directed.{Directed, Departing, leftOf, taken}
+use Rattle.winding.specs.Directed.{Directed, Departing, leftOf, timesTaken}
 
 -- l are some of the directed curves `all`
 pub record LeftLaws {A : Type 0} (course : A → Curve) (rev : A → A) (is : A → A → Bool) (all l : List A) : Type 0 where
   -- left of a directed curve they wind as often as left of its reverse, and once more for each time that they take it
-  pub edge : (d : A) → List·Memᴰ d all → leftOf course l d ≡ leftOf course l (rev d) +ℤ taken is rev l d
+  pub edge : (d : A) → List·Memᴰ d all → leftOf course l d ≡ leftOf course l (rev d) +ℤ timesTaken is rev l d
   -- and as often as left of the next one: of the departures from its end, the first met clockwise from its reverse
   pub step :
       (d : A) → List·Memᴰ d all → (ds : List A) → Departing course all (lastPoint (course d)) ds

@@ -8,14 +8,14 @@ use Rattle.integers.specs.Totals.{total}
 use Rattle.plane.specs.declared.Point.{Point}
 use Rattle.curves.specs.Curves.{Curve, secondOf}
 use Rattle.curves.specs.Edits.{reversed}
-use Rattle.geometry.specs.Drawing.{Good, ClearCurves}
+use Rattle.geometry.specs.Drawing.{GoodCurve, ClearCurves}
 use Rattle.winding.specs.Winding.{one, allSegments}
 use Rattle.winding.specs.Sides.{leftAt}
 
 module _ {A : Type 0} (course : A → Curve) where
   -- each is simple, `rev` names the reverse, and two are one, reverses of each other, or share common ends only
   pub record Directed (rev : A → A) (all : List A) : Type 0 where
-    pub good : (d : A) → List·Memᴰ d all → Good (course d)
+    pub good : (d : A) → List·Memᴰ d all → GoodCurve (course d)
     pub back : (d : A) → List·Memᴰ d all → List·Memᴰ (rev d) all
     pub turned : (d : A) → List·Memᴰ d all → course (rev d) ≡ reversed (course d)
     pub clear :
@@ -32,5 +32,5 @@ module _ {A : Type 0} (course : A → Curve) where
   leftOf l d = leftAt (allSegments (map course l)) (course d .first) (secondOf (course d .first) (course d .rest))
 
 -- how often d stands in the list, less how often its reverse does; `is` tells names apart
-abbrev pub taken : {A : Type 0} → (A → A → Bool) → (A → A) → List A → A → ℤ
-taken is rev l d = total (λ x. one (is x d) -ℤ one (is x (rev d))) l
+abbrev pub timesTaken : {A : Type 0} → (A → A → Bool) → (A → A) → List A → A → ℤ
+timesTaken is rev l d = total (λ x. one (is x d) -ℤ one (is x (rev d))) l

@@ -20,7 +20,8 @@ returns c =
       lent = after h;
       answer = record { refusal = k .empty-map .result .answer .refusal; value = pos 0 };
     }) (c .put-numbers .ensures)
-    ∙ emptied-told (l (k .before .from-numbers .result)) (after (k .empty-map .result .head)) (k .empty-map .result .answer)
+    ∙ emptied-told (l (k .before .from-numbers .result)) (after (k .empty-map .result .head))
+    (k .empty-map .result .answer)
     (k .empty-map .ensures)
     ∙ ap (λ (h : Head). emptied (l h)) (k .before .from-numbers .ensures)
 

@@ -38,8 +38,8 @@ taken c =
     ∙ ap₂ (λ (x y : ℤ). coordinate x && coordinate y) zx zy)) ∙ c .before .before .before .if1 .left in
     let p : c .before .before .point-of .result ≡ point (s .args .x) (s .args .y) =
     c .before .before .point-of .ensures .0 ∙ ap₂ point zx zy in
-    let k : reasons.nodeAt (nodesOf (s .args .nodes .now) (s .args .n)) (point (s .args .x) (s .args .y)) ≡ true =
-    ap (reasons.nodeAt (nodesOf (s .args .nodes .now) (s .args .n))) (sym p)
+    let k : reasons.anyNodeAt (nodesOf (s .args .nodes .now) (s .args .n)) (point (s .args .x) (s .args .y)) ≡ true =
+    ap (reasons.anyNodeAt (nodesOf (s .args .nodes .now) (s .args .n))) (sym p)
     ∙ sym (node-at-all (s .args .nodes .now) (s .args .n) (s .args .n) (c .before .before .point-of .result)
     (omega arith)) ∙ sym (c .before .node-at .ensures) ∙ c .if2 .taken in
     rw (g, k)
@@ -55,8 +55,8 @@ fits c =
     ∙ ap₂ (λ (x y : ℤ). coordinate x && coordinate y) zx zy)) ∙ c .before .before .before .before .before .if1 .left in
     let p : c .before .before .before .before .point-of .result ≡ point (s .args .x) (s .args .y) =
     c .before .before .before .before .point-of .ensures .0 ∙ ap₂ point zx zy in
-    let k : reasons.nodeAt (nodesOf (s .args .nodes .now) (s .args .n)) (point (s .args .x) (s .args .y)) ≡ false =
-    ap (reasons.nodeAt (nodesOf (s .args .nodes .now) (s .args .n))) (sym p)
+    let k : reasons.anyNodeAt (nodesOf (s .args .nodes .now) (s .args .n)) (point (s .args .x) (s .args .y)) ≡ false =
+    ap (reasons.anyNodeAt (nodesOf (s .args .nodes .now) (s .args .n))) (sym p)
     ∙ sym (node-at-all (s .args .nodes .now) (s .args .n) (s .args .n)
     (c .before .before .before .before .point-of .result) (omega arith))
     ∙ sym (c .before .before .before .node-at .ensures) ∙ c .before .before .if2 .left in
@@ -76,8 +76,8 @@ off c =
     ∙ ap₂ (λ (x y : ℤ). coordinate x && coordinate y) zx zy)) ∙ c .before .before .before .before .before .if1 .left in
     let p : c .before .before .before .before .point-of .result ≡ point (s .args .x) (s .args .y) =
     c .before .before .before .before .point-of .ensures .0 ∙ ap₂ point zx zy in
-    let k : reasons.nodeAt (nodesOf (s .args .nodes .now) (s .args .n)) (point (s .args .x) (s .args .y)) ≡ false =
-    ap (reasons.nodeAt (nodesOf (s .args .nodes .now) (s .args .n))) (sym p)
+    let k : reasons.anyNodeAt (nodesOf (s .args .nodes .now) (s .args .n)) (point (s .args .x) (s .args .y)) ≡ false =
+    ap (reasons.anyNodeAt (nodesOf (s .args .nodes .now) (s .args .n))) (sym p)
     ∙ sym (node-at-all (s .args .nodes .now) (s .args .n) (s .args .n)
     (c .before .before .before .before .point-of .result) (omega arith))
     ∙ sym (c .before .before .before .node-at .ensures) ∙ c .before .before .if2 .left in

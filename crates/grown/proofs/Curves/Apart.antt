@@ -27,8 +27,8 @@ use Rattle.map_laws.proofs.Readings.{tailIn, courseIn, leaves-row, course-row, 
 use Rattle.grown.specs.Good.{Surveyed}
 
 module _ (m : Map) (s : Surveyed m) where
-  pub curve-good : (r : Edge) → List·Memᴰ r (m .edges) → drawing.Good (r .curve)
-  curve-good r k = each-of drawing.Good (map (λ (e : Edge). e .curve) (m .edges)) (s .drawn .good) (r .curve)
+  pub curve-good : (r : Edge) → List·Memᴰ r (m .edges) → drawing.GoodCurve (r .curve)
+  curve-good r k = each-of drawing.GoodCurve (map (λ (e : Edge). e .curve) (m .edges)) (s .drawn .good) (r .curve)
       (Memᴰ·map (λ (e : Edge). e .curve) k)
 
   pub curve-long : (r : Edge) → List·Memᴰ r (m .edges) → 2 ≤ length (points (r .curve))

@@ -57,7 +57,7 @@ module _ (ls : List Line) (ps : List Place) (l : Line) (n a b : ℕ) (p : Point)
   old : Drawn (map curveIn (h .before) ++ (l .curve ∷ map curveIn (h .after)))
   old = subst Drawn (ap (map curveIn) (h .is) ∙ map-append curveIn (h .before) (l ∷ h .after)) (S .drawn)
 
-  good : geometry.Good (l .curve)
+  good : geometry.GoodCurve (l .curve)
   good = take (map curveIn (h .before)) (map curveIn (h .after)) (l .curve) old .good
 
   there : List·Memᴰ place (ps ++ (place ∷ []))

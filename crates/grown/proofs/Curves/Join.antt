@@ -13,7 +13,7 @@ use Rattle.lists.proofs.Lookups.{Located, located}
 use Rattle.lists.proofs.Members.{between-cases}
 use Rattle.curves.specs.Curves.{Curve, lastPoint, points, maxPoints}
 use Rattle.curves.specs.Edits.{joined, course}
-use Rattle.geometry.specs.Drawing.{Away, ClearCurves, Drawn}
+use Rattle.geometry.specs.Drawing.{NoEnd, ClearCurves, Drawn}
 use Rattle.geometry.proofs.Drawing.{Taken, take, put-taken, heal-taken, good-course, clear-course, clear-sym, all-take}
 use Rattle.geometry.proofs.Theorems.{join-last}
 use Rattle.geometry.proofs.Turning.{last-turned}
@@ -102,7 +102,7 @@ module _ (ls : List Line) (ps : List Place) (n e : ℕ) (s : Bool) (c : Line) (t
             (differ (k .number) (d .number) (not-true _ (f .1))),
       )
 
-  away : (k : Line) → List·Memᴰ k rest → Away (lastPoint c′) (k .curve)
+  away : (k : Line) → List·Memᴰ k rest → NoEnd (lastPoint c′) (k .curve)
   away k m =
       let o = other k m in
       record {
@@ -112,8 +112,8 @@ module _ (ls : List Line) (ps : List Place) (n e : ℕ) (s : Bool) (c : Line) (t
             ∙ w .arrives);
       }
 
-  away-all : (l : List Line) → ((k : Line) → List·Memᴰ k l → Away (lastPoint c′) (k .curve))
-      → All (Away (lastPoint c′)) (map curveIn l)
+  away-all : (l : List Line) → ((k : Line) → List·Memᴰ k l → NoEnd (lastPoint c′) (k .curve))
+      → All (NoEnd (lastPoint c′)) (map curveIn l)
   away-all [] h = tt
   away-all (k ∷ l) h = (h k (List·Memᴰ·head refl), away-all l (λ j i. h j (List·Memᴰ·tail i)))
 
@@ -150,7 +150,7 @@ module _ (ls : List Line) (ps : List Place) (n e : ℕ) (s : Bool) (c : Line) (t
   taken : Taken (joined c′ d′) (map curveIn rest)
   taken = subst (Taken (joined c′ d′)) (sym left)
       (heal-taken xs ys us vs (c .curve) (d .curve) s t around-d around-c joint open-c open-d
-      (subst (All (Away (lastPoint c′))) left (away-all rest away)))
+      (subst (All (NoEnd (lastPoint c′))) left (away-all rest away)))
 
   -- the two curves are good and share common ends only
   taken-c : Taken (c .curve) (xs ++ ys)
@@ -159,10 +159,10 @@ module _ (ls : List Line) (ps : List Place) (n e : ℕ) (s : Bool) (c : Line) (t
   taken-d : Taken (d .curve) (us ++ vs)
   taken-d = take us vs (d .curve) (subst Drawn around-d (taken-c .drawn))
 
-  good-c : geometry.Good c′
+  good-c : geometry.GoodCurve c′
   good-c = good-course s (c .curve) (taken-c .good)
 
-  good-d : geometry.Good d′
+  good-d : geometry.GoodCurve d′
   good-d = good-course t (d .curve) (taken-d .good)
 
   clear : ClearCurves c′ d′

@@ -18,7 +18,7 @@ use Rattle.plane.specs.Points.{InRange}
 use Rattle.curves.specs.Curves.{Curve}
 use Rattle.curves.specs.Tests.{isSimple, meetWrongly}
 use Rattle.geometry.specs.Meaning.{Some, Differ}
-use Rattle.geometry.specs.Drawing.{Good, ClearCurves, Drawn}
+use Rattle.geometry.specs.Drawing.{GoodCurve, ClearCurves, Drawn}
 use Rattle.geometry.proofs.Edits.{change, append}
 use Rattle.map_laws.proofs.Readings.{without}
 use Rattle.grown.proofs.Curves.Survey.{Line, Place, curveIn, atIn, placeNumber, lineNumber, startOf, endOf}
@@ -166,7 +166,7 @@ pub survey-keep : (q : Line → Bool) (ls : List Line) (ps : List Place) → Sur
 survey-keep q ls ps S =
     record {
       drawn = record {
-        good = all-keep curveIn q Good ls (S .drawn .good);
+        good = all-keep curveIn q GoodCurve ls (S .drawn .good);
         clear = pairs-keep curveIn q ClearCurves ls (S .drawn .clear);
       };
       sited = λ l k. S .sited l (keep-in q ls k .0);

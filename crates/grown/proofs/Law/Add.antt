@@ -9,7 +9,7 @@ use Rattle.plane.specs.Directions.{Way}
 use Rattle.curves.specs.Curves.{Curve, startWay}
 use Rattle.planar_maps.specs.Map.{Dart, fwd, bwd, rev, darts}
 use Rattle.planar_maps.specs.Rings.{sameDart}
-use Rattle.planar_maps.specs.Weave.{with-edge, lone}
+use Rattle.planar_maps.specs.Weave.{with-edge, loneEdge}
 use Rattle.planar_maps.proofs.Rings.{rev-in}
 use Rattle.planar_maps.proofs.Hooks.{fwd≢bwd, fresh-dart}
 use Rattle.planar_maps.proofs.Turns.{rev-rev}
@@ -59,15 +59,15 @@ module _ (m : Map) (u v : ℕ) (c : Curve) (φ : ℕ) (free : Free m u v c) wher
 
   -- links of the theory
   N : Dart → Dart
-  N = rotation.linkEdge sameDart rev W T f (directed m) (lone e (next m))
+  N = rotation.linkEdge sameDart rev W T f (directed m) (loneEdge e (next m))
 
   other : {d : Dart} → List·Memᴰ d (directed m) → (d .edge ≡ e) → ⊥
   other k = fresh-dart (arcOf (drawnRow m u v c φ)) (arcs m) (free .fresh) k
 
   put-obeys : Obeys m → Law sameDart rev T W (b ∷ f ∷ directed m) N
   unfolding N
-  put-obeys law = link-edge-law sameDart rev T W tells rev-rev (directed m) (lone e (next m)) f
-      (law-agree (directed m) (old m u v c φ free u v (leaves m)) (W-old m u v c φ free) (next m) (lone e (next m))
+  put-obeys law = link-edge-law sameDart rev T W tells rev-rev (directed m) (loneEdge e (next m)) f
+      (law-agree (directed m) (old m u v c φ free u v (leaves m)) (W-old m u v c φ free) (next m) (loneEdge e (next m))
       (λ d k. old m u v c φ free (bwd e) (fwd e) (next m) (rev d) (rev-in (arcs m) k)) law)
       (λ k. other k refl) (λ k. other k refl) (λ p. fwd≢bwd (sym p)) (drawn-apart m u v c φ free)
 
@@ -78,7 +78,7 @@ module _ (m : Map) (u v : ℕ) (c : Curve) (φ : ℕ) (free : Free m u v c) wher
       (λ d k. D-links m u v c φ free (rev d) (into (rev-in (arcs D) k)))
       (law-order sameDart tells T W (b ∷ f ∷ directed m) (directed D)
       (λ d k. all-D m u v c φ free (perm-in (List·Permᴰ·swap refl refl) k))
-      (λ d k. perm-in (List·Permᴰ·swap refl refl) (into k)) (rotation.back rev N) (drawn-apart m u v c φ free)
+      (λ d k. perm-in (List·Permᴰ·swap refl refl) (into k)) (rotation.reverseLeads rev N) (drawn-apart m u v c φ free)
       (put-obeys law))
     where
       into : {d : Dart} → List·Memᴰ d (directed D) → List·Memᴰ d all

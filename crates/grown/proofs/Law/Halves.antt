@@ -15,7 +15,7 @@ use Rattle.planar_maps.proofs.Rings.{rev-in}
 use Rattle.planar_maps.proofs.Hooks.{sameDart?}
 use Rattle.planar_maps.proofs.Turns.{rev-rev}
 use Rattle.planar_maps.proofs.Subdivide.{arc}
-use Rattle.rotation.specs.Law.{Tells, Differ, others, lawfulNext, Lawful, from, back, Apart, AllLawful, Law}
+use Rattle.rotation.specs.Law.{Tells, Differ, others, lawfulNext, Lawful, from, reverseLeads, Apart, AllLawful, Law}
 use Rattle.rotation.proofs.Ways.{alike-says, alike-is}
 use Rattle.rotation.proofs.Order.{sameWay-sym, sameWay-trans}
 use Rattle.rotation.proofs.Tells.{is-yes, is-no}
@@ -63,8 +63,8 @@ module _ (h : ℕ) (c d : Dart) (n : ℕ)
     (of-whole : (z : Dart) → List·Memᴰ z (whole h r) → List·Memᴰ z all)
     (in-halved : (z : Dart) → List·Memᴰ z all′ → List·Memᴰ z (halved c d r))
     (of-halved : (z : Dart) → List·Memᴰ z (halved c d r) → List·Memᴰ z all′) where
-  names : Halves sameDart tells (departs h c d) tail tail′ (λ z. way′ (departs h c d z)) way′ (back rev next)
-      (back rev next′) all n (rev c) d
+  names : Halves sameDart tells (departs h c d) tail tail′ (λ z. way′ (departs h c d z)) way′ (reverseLeads rev next)
+      (reverseLeads rev next′) all n (rev c) d
   names = record {
     tails = λ z k. H .tails z (in-whole z k);
     ways = λ z k. refl;
@@ -160,8 +160,8 @@ module _ (h : ℕ) (c d : Dart) (n : ℕ)
               (sameWay-sym _ _ (H .ways (y .0 .0) (in-whole (y .0 .0) (y .0 .1)))))
 
   -- at the joint
-  lawful-joint : Lawful way′ sameDart (from tail′ all′ n) (back rev next′)
-  lawful-joint = lawful-pair way′ sameDart tells (rev c) d (from tail′ all′ n) (back rev next′)
+  lawful-joint : Lawful way′ sameDart (from tail′ all′ n) (reverseLeads rev next′)
+  lawful-joint = lawful-pair way′ sameDart tells (rev c) d (from tail′ all′ n) (reverseLeads rev next′)
       (joint-differs (H .parts))
       (keep-has (λ z. same (tail′ z) n) all′ (of-halved (rev c) (joint-c (H .parts)))
       (same-eq (tail′ (rev c)) n (H .tail-c)))
@@ -181,23 +181,24 @@ module _ (h : ℕ) (c d : Dart) (n : ℕ)
   pub split-lawful : Apart tail way all → Law sameDart rev tail way all next → Law sameDart rev tail′ way′ all′ next′
   unfolding listed
   split-lawful apart l k = elim (equal? k n) [
-    | inl e ↦ subst (λ (k : ℕ). Lawful way′ sameDart (from tail′ all′ k) (back rev next′)) (sym e) lawful-joint
-    | inr ne ↦ law-order-at sameDart tells tail′ way′ listed all′ of-listed to-listed (back rev next′) k
+    | inl e ↦ subst (λ (k : ℕ). Lawful way′ sameDart (from tail′ all′ k) (reverseLeads rev next′)) (sym e) lawful-joint
+    | inr ne ↦ law-order-at sameDart tells tail′ way′ listed all′ of-listed to-listed (reverseLeads rev next′) k
         (differ-there apart k ne) (halves k)
   ]
     where
-      halves : AllLawful sameDart tail′ way′ (rev c ∷ d ∷ map (departs h c d) all) (back rev next′)
-      halves = split-law sameDart tells (departs h c d) tail tail′ (λ z. way′ (departs h c d z)) way′ (back rev next)
-          (back rev next′) all n (rev c) d names
-          (law-alike way (λ z. way′ (departs h c d z)) sameDart tail all (back rev next)
+      halves : AllLawful sameDart tail′ way′ (rev c ∷ d ∷ map (departs h c d) all) (reverseLeads rev next′)
+      halves = split-law sameDart tells (departs h c d) tail tail′ (λ z. way′ (departs h c d z)) way′
+          (reverseLeads rev next)
+          (reverseLeads rev next′) all n (rev c) d names
+          (law-alike way (λ z. way′ (departs h c d z)) sameDart tail all (reverseLeads rev next)
           (λ z k. H .ways z (in-whole z k)) l)
 
   -- so does a heal
   pub heal-lawful : Apart tail′ way′ all′ → Law sameDart rev tail′ way′ all′ next′ → Law sameDart rev tail way all next
   unfolding listed
-  heal-lawful apart l = law-alike (λ z. way′ (departs h c d z)) way sameDart tail all (back rev next)
+  heal-lawful apart l = law-alike (λ z. way′ (departs h c d z)) way sameDart tail all (reverseLeads rev next)
       (λ z k. sameWay-sym _ _ (H .ways z (in-whole z k)))
-      (heal-law sameDart tells (departs h c d) tail tail′ (λ z. way′ (departs h c d z)) way′ (back rev next)
-      (back rev next′) all n (rev c) d names
+      (heal-law sameDart tells (departs h c d) tail tail′ (λ z. way′ (departs h c d z)) way′ (reverseLeads rev next)
+      (reverseLeads rev next′) all n (rev c) d names
       (λ z k. of-whole (next (rev z)) (H .into (rev z) (rev-in (arc h 0 0 ∷ r) (in-whole z k))))
-      (law-order sameDart tells tail′ way′ all′ listed to-listed of-listed (back rev next′) apart l))
+      (law-order sameDart tells tail′ way′ all′ listed to-listed of-listed (reverseLeads rev next′) apart l))

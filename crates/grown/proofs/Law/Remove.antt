@@ -165,7 +165,7 @@ taken-obeys : (m X : Map) (e : ℕ) (μ : ℕ → ℕ) → Apart (leaves m) (way
     → Taken m X e μ → Obeys X
 taken-obeys m X e μ apart law has t = law-agree (directed X) (t .leaves) (t .way) N (next X)
     (λ d k. t .next (rev d) (rev-in (arcs X) k))
-    (law-order sameDart tells (leaves m) (way m) two (directed X) to fro (rotation.back rev N)
+    (law-order sameDart tells (leaves m) (way m) two (directed X) to fro (rotation.reverseLeads rev N)
     (λ n. differ-part (λ d k. let j = from-in (leaves m) two n k in
     from-has (leaves m) (directed m) n (inside (j .0) .0) (j .1)) (apart n))
     (unlink-edge-law sameDart rev (leaves m) (way m) tells rev-rev (directed m) (next m) (fwd e) law

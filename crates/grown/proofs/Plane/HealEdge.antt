@@ -8,7 +8,7 @@ use Rattle.lists.proofs.Bools.{same-refl, same-false, eq2}
 use Rattle.lists.proofs.Members.{map-same}
 use Rattle.planar_maps.specs.Map.{Arc, Dart, fwd, bwd, rev, darts}
 use Rattle.planar_maps.specs.Pieces.{nums, Isolated}
-use Rattle.planar_maps.specs.Weave.{with-edge, renamed, heal-next}
+use Rattle.planar_maps.specs.Weave.{with-edge, departsAs, heal-next}
 use Rattle.planar_maps.specs.Planar.{Planar}
 use Rattle.planar_maps.proofs.Cycles.{fwd-in}
 use Rattle.planar_maps.proofs.Hooks.{fwd≢bwd, fresh-dart, with-fwd, with-bwd, with-other}
@@ -132,12 +132,12 @@ module _ (h k : ℕ) (c d : Dart) (s n t : ℕ)
       (λ x m. ap (λ z. runs z (x .from) (x .to)) (σ-old (fwd (x .num)) (fwd-in m)))))
 
   -- a departure, as the halves' and back
-  back-again : (z : Dart) → List·Memᴰ z (whole h r) → renamed k h (σ (departs h c d z)) ≡ z
-  back-again = each-whole h r (λ z. renamed k h (σ (departs h c d z)) ≡ z)
-      (ap (λ z. renamed k h (σ z)) (f-fwd (H .parts)) ∙ ap (renamed k h) σ-c
+  back-again : (z : Dart) → List·Memᴰ z (whole h r) → departsAs k h (σ (departs h c d z)) ≡ z
+  back-again = each-whole h r (λ z. departsAs k h (σ (departs h c d z)) ≡ z)
+      (ap (λ z. departsAs k h (σ z)) (f-fwd (H .parts)) ∙ ap (departsAs k h) σ-c
       ∙ renamed-other k h (fwd h) fwd≢bwd)
-      (ap (λ z. renamed k h (σ z)) (f-bwd (H .parts)) ∙ ap (renamed k h) σ-d′ ∙ renamed-at k h)
-      (λ z m. ap (λ z. renamed k h (σ z)) (f-old (H .parts) z m) ∙ ap (renamed k h) (σ-old z m)
+      (ap (λ z. departsAs k h (σ z)) (f-bwd (H .parts)) ∙ ap (departsAs k h) σ-d′ ∙ renamed-at k h)
+      (λ z m. ap (λ z. departsAs k h (σ z)) (f-old (H .parts) z m) ∙ ap (departsAs k h) (σ-old z m)
       ∙ renamed-other k h z (λ e. old-k m (ap (λ (d : Dart). d .edge) e)))
 
   pub heal-planar : {nodes : List ℕ} {faces : ℕ}
@@ -191,19 +191,19 @@ module _ (h k : ℕ) (c d : Dart) (s n t : ℕ)
       face-old z m = sym (H .faces z (in-old m)) ∙ ap face′ (f-old (H .parts) z m ∙ sym (τ-old z m))
 
       -- where z goes on, by what it arrives as
-      led : (z y : Dart) → List·Memᴰ z (whole h r) → arrives h c d z ≡ τ y → next z ≡ renamed k h (N y)
+      led : (z y : Dart) → List·Memᴰ z (whole h r) → arrives h c d z ≡ τ y → next z ≡ departsAs k h (N y)
       led z y m e = sym (back-again (next z) (H .into z m))
-          ∙ ap (λ x. renamed k h (σ x)) (sym (H .nexts z m) ∙ ap next′ e)
+          ∙ ap (λ x. departsAs k h (σ x)) (sym (H .nexts z m) ∙ ap next′ e)
 
       next-f : next (fwd h) ≡ heal-next h k N (fwd h)
       next-f = led (fwd h) (fwd k) in-f (g-fwd (H .parts) ∙ sym τ-f′)
-          ∙ ap (λ z. renamed k h (N z)) (sym (healed-at h k))
+          ∙ ap (λ z. departsAs k h (N z)) (sym (healed-at h k))
 
       next-b : next (bwd h) ≡ heal-next h k N (bwd h)
       next-b = led (bwd h) (bwd h) in-b (g-bwd (H .parts) ∙ sym τ-b)
-          ∙ ap (λ z. renamed k h (N z)) (sym (healed-other h k (bwd h) (λ e. fwd≢bwd (sym e))))
+          ∙ ap (λ z. departsAs k h (N z)) (sym (healed-other h k (bwd h) (λ e. fwd≢bwd (sym e))))
 
       next-old : (z : Dart) → List·Memᴰ z (darts r) → next z ≡ heal-next h k N z
       next-old z m = led z z (in-old m) (g-old (H .parts) z m ∙ sym (τ-old z m))
-          ∙ ap (λ z. renamed k h (N z))
+          ∙ ap (λ z. departsAs k h (N z))
           (sym (healed-other h k z (λ e. old-h (H .parts) m (ap (λ (d : Dart). d .edge) e))))

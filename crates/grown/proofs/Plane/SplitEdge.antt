@@ -6,7 +6,7 @@ use Prim.Native.Nat.{ℕ}
 use Rattle.lists.proofs.Members.{map-same}
 use Rattle.planar_maps.specs.Map.{Arc, Dart, fwd, bwd, rev, darts}
 use Rattle.planar_maps.specs.Pieces.{nums}
-use Rattle.planar_maps.specs.Weave.{with-edge, renamed, split-tail, split-face, split-next}
+use Rattle.planar_maps.specs.Weave.{with-edge, departsAs, split-tail, split-face, split-next}
 use Rattle.planar_maps.specs.Planar.{Planar}
 use Rattle.planar_maps.proofs.Cycles.{fwd-in}
 use Rattle.planar_maps.proofs.Rings.{rev-in}
@@ -73,13 +73,13 @@ module _ (h a b s n t : ℕ) (r : List Arc) {tail tail′ : Dart → ℕ} {next 
       (map-same (named σ) r (λ x m. ap (λ z. runs z (x .from) (x .to)) (σ-old (fwd (x .num)) (fwd-in m))))
 
   -- e, then its halves' departures
-  departs-by : (z : Dart) → List·Memᴰ z (whole h r) → departs h (fwd a) (fwd b) z ≡ renamed a b (σ z)
-  departs-by = each-whole h r (λ z. departs h (fwd a) (fwd b) z ≡ renamed a b (σ z))
+  departs-by : (z : Dart) → List·Memᴰ z (whole h r) → departs h (fwd a) (fwd b) z ≡ departsAs a b (σ z)
+  departs-by = each-whole h r (λ z. departs h (fwd a) (fwd b) z ≡ departsAs a b (σ z))
       (f-fwd (H .parts)
-      ∙ sym (ap (renamed a b) σ-f ∙ renamed-other a b (fwd a) fwd≢bwd))
-      (f-bwd (H .parts) ∙ sym (ap (renamed a b) σ-b ∙ renamed-at a b))
+      ∙ sym (ap (departsAs a b) σ-f ∙ renamed-other a b (fwd a) fwd≢bwd))
+      (f-bwd (H .parts) ∙ sym (ap (departsAs a b) σ-b ∙ renamed-at a b))
       (λ z m. f-old (H .parts) z m
-      ∙ sym (ap (renamed a b) (σ-old z m)
+      ∙ sym (ap (departsAs a b) (σ-old z m)
       ∙ renamed-other a b z (λ e. old-c (H .parts) m (ap (λ (d : Dart). d .edge) e))))
 
   pub split-planar : {nodes : List ℕ} {faces : ℕ} → Planar nodes (arc h s t ∷ r) tail next face faces
@@ -159,8 +159,8 @@ module _ (h a b s n t : ℕ) (r : List Arc) {tail tail′ : Dart → ℕ} {next 
           ∙ sym (with-other b _ _ _ z (old-d (H .parts) m))
 
       -- what the old next becomes
-      led : (z : Dart) → List·Memᴰ z (whole h r) → (y : Dart) → τ y ≡ z → f (next z) ≡ renamed a b (σ (next (τ y)))
-      led z m y e = departs-by (next z) (H .into z m) ∙ ap (λ x. renamed a b (σ (next x))) (sym e)
+      led : (z : Dart) → List·Memᴰ z (whole h r) → (y : Dart) → τ y ≡ z → f (next z) ≡ departsAs a b (σ (next (τ y)))
+      led z m y e = departs-by (next z) (H .into z m) ∙ ap (λ x. departsAs a b (σ (next x))) (sym e)
 
       next-a : next′ (fwd a) ≡ N (fwd a)
       next-a = H .next-c ∙ sym (with-fwd a _ _ _)

@@ -20,14 +20,14 @@ use Rattle.map.specs.Faces.{Floor, faceOfPoint}
 use Rattle.map_rows.specs.Rows.{edgeAt, edgeMap}
 use Rattle.map_rows.proofs.Rows.{edges-table, edge-row-of}
 use Rattle.point_location.specs.declared.Highest.{Highest}
-use Rattle.point_location.specs.Highest.{Held, floor, held, rowed}
+use Rattle.point_location.specs.Highest.{HighestFits, floor, highestFloor, rowed}
 use Rattle.point_location.proofs.Folds.{upper, face-fold}
 use Rattle.point_location.proofs.face_of_point.Statement.{statement}
 use Rattle.point_location.proofs.face_of_point.Tie as tie
 
 abbrev Inv-loop : tie.InvT-loop
 Inv-loop edges count p best₀ i₀ best i =
-    (i ≤ count) × Held best × (upper (fold (rowed p) (held best) (table (edgeAt edges) i (count - i)))
+    (i ≤ count) × HighestFits best × (upper (fold (rowed p) (highestFloor best) (table (edgeAt edges) i (count - i)))
     ≡ faceOfPoint (edgeMap edges count) p)
 
 abbrev μ-loop : tie.MeasureT-loop
@@ -49,15 +49,15 @@ again c =
       omega arith,
       c .floor-over .ensures .1,
       rw (c .floor-over .ensures .0) (sym
-          (ap upper (fold-step (edgeAt (a .edges .now)) _ _ (rowed (a .p)) (held (b .loop .best))
+          (ap upper (fold-step (edgeAt (a .edges .now)) _ _ (rowed (a .p)) (highestFloor (b .loop .best))
           (c .before .loop-test .taken))) ∙ b .loop .inv .2),
     )
 
 -- after the last row
-rest : (l : List ℤ) (n i : ℕ) (p : Point) (h : Highest) (v : Option Floor) → n ≤ i → held h ≡ v
-    → upper (fold (rowed p) (held h) (table (edgeAt l) i (n - i))) ≡ faceOfPoint (edgeMap l n) p
+rest : (l : List ℤ) (n i : ℕ) (p : Point) (h : Highest) (v : Option Floor) → n ≤ i → highestFloor h ≡ v
+    → upper (fold (rowed p) (highestFloor h) (table (edgeAt l) i (n - i))) ≡ faceOfPoint (edgeMap l n) p
     → upper v ≡ faceOfPoint (edgeMap l n) p
-rest l n i p h v left e inv = sym (ap upper (fold-end (edgeAt l) i n (rowed p) (held h) left ∙ e)) ∙ inv
+rest l n i p h v left e inv = sym (ap upper (fold-end (edgeAt l) i n (rowed p) (highestFloor h) left ∙ e)) ∙ inv
 
 none-yet : tie.Need-returns Inv-loop μ-loop
 none-yet c =

@@ -14,14 +14,14 @@ use Rattle.curves.specs.Curves.{curveOf, segments, pointAt}
 use Rattle.curves.proofs.Runs.{two-points, curve-is}
 use Rattle.curves.proofs.Turns.{segmentsFrom, segments-step, segments-end}
 use Rattle.map.specs.Faces.{Floor}
-use Rattle.point_location.specs.Highest.{Held, held, passed}
+use Rattle.point_location.specs.Highest.{HighestFits, highestFloor, passed}
 use Rattle.point_location.proofs.floor_along.Statement.{statement}
 use Rattle.point_location.proofs.floor_along.Tie as tie
 
 abbrev Inv-loop : tie.InvT-loop
 Inv-loop p c left right n best₀ k₀ best k =
-    (k ≤ n) × Held best × (fold (passed p left right) (held best) (segmentsFrom c k)
-    ≡ fold (passed p left right) (held best₀) (segments (curveOf c)))
+    (k ≤ n) × HighestFits best × (fold (passed p left right) (highestFloor best) (segmentsFrom c k)
+    ≡ fold (passed p left right) (highestFloor best₀) (segments (curveOf c)))
 
 abbrev μ-loop : tie.MeasureT-loop
 μ-loop p c left right n best₀ k₀ best k = n - k
@@ -55,7 +55,7 @@ end c =
     let a = s .args in
     let all : c .before .before .point-count .result - 1 + 1 ≡ length (a .c .now) / 2 =
     omega (arith, two-points (s .pre .2), c .before .before .point-count .ensures) in (
-      sym (ap (fold (passed (a .p) (a .left) (a .right)) (held (c .before .loop .best)))
+      sym (ap (fold (passed (a .p) (a .left) (a .right)) (highestFloor (c .before .loop .best)))
           (segments-end (a .c .now) _ all (c .loop-test .left))) ∙ c .before .loop .inv .2,
       c .before .loop .inv .1,
     )

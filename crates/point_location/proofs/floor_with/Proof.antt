@@ -1,7 +1,7 @@
 -- `point_location::floor_with` meets its contract. Assumes nothing.
 use mathlib.Core.Path.{sym, ap, _∙_}
 use borrow.Author.Tests.{not-true, not-false}
-use Rattle.point_location.specs.Highest.{held, over}
+use Rattle.point_location.specs.Highest.{highestFloor, over}
 use Rattle.point_location.proofs.floor_with.Statement.{statement}
 use Rattle.point_location.proofs.floor_with.Tie as tie
 
@@ -12,7 +12,8 @@ with-it : tie.Need-returns-2
 with-it c =
     let s = c .before .before .before .before in
     let e = sym (c .before .before .before .passes-below .ensures) ∙ not-false _ (c .before .before .if1 .left) in (
-      rw e (c .higher-of .ensures .0 ∙ ap (over (s .args .p .x) (held (s .args .h))) (c .before .floor-of .ensures .1)),
+      rw e (c .higher-of .ensures .0 ∙ ap (over (s .args .p .x) (highestFloor (s .args .h)))
+          (c .before .floor-of .ensures .1)),
       c .higher-of .ensures .1,
     )
 

@@ -18,7 +18,7 @@ use Rattle.lists.proofs.Scans.{any-hit, any-miss, any-end}
 use Rattle.curves.specs.Curves.{Curve, curveOf}
 use Rattle.curves.specs.Tests.{meetWrongly}
 use Rattle.bounding_boxes.specs.declared.Extent.{Extent}
-use Rattle.bounding_boxes.specs.Extents.{extentOf, apart}
+use Rattle.bounding_boxes.specs.Extents.{extentOf, boxesApart}
 use Rattle.bounding_boxes.proofs.Extents.{apart-meet}
 use Rattle.map.specs.Rows.{Edge}
 use Rattle.map.specs.Reasons.{edgeWrong}
@@ -41,9 +41,9 @@ told l own i c ed er e = ap (λ (t : Bool). not (eqb i own) && t) (sym (er ∙ a
 
 -- row i lies apart
 passed : (l : List ℤ) (own i : ℕ) (c : Curve) {d : Curve} {e f : Extent} {r : Bool} → d ≡ edgeAt l i .curve → e
-    ≡ extentOf c → f ≡ extentOf d → r ≡ apart e f → not r ≡ false → other l own c i ≡ false
+    ≡ extentOf c → f ≡ extentOf d → r ≡ boxesApart e f → not r ≡ false → other l own c i ≡ false
 passed l own i c {d} {r = r} ed ee ef er h =
-    let away = (λ i. apart (sym ee i) (sym ef i)) ∙ sym er ∙ not-false r h in
+    let away = (λ i. boxesApart (sym ee i) (sym ef i)) ∙ sym er ∙ not-false r h in
     ap (λ (t : Bool). not (same i own) && t) (ap (meetWrongly c) (sym ed) ∙ apart-meet c d away)
     ∙ &&-false (not (same i own))
 

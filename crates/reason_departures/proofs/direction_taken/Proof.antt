@@ -21,7 +21,8 @@ use Rattle.reason_departures.proofs.direction_taken.Statement.{statemen
 use Rattle.reason_departures.proofs.direction_taken.Tie as tie
 
 -- the first test, in the map's terms
-start : (c : tie.After-way-taken) → (e a : ℕ) → Own (c .before .before .args .edges .now) (c .before .before .args .count)
+start : (c : tie.After-way-taken) → (e a : ℕ) → Own (c .before .before .args .edges .now)
+    (c .before .before .args .count)
     (c .before .before .args .own) e → c .before .before .args .u ≡ pos a
     → c .way-taken .result ≡ wayTaken (edgeMap (c .before .before .args .edges .now)
     (c .before .before .args .count)) e a (startWay (curveOf (c .before .before .args .c .now)))

@@ -1,5 +1,6 @@
 -- `records::run` meets its contract: a walk of its MIR, by hand. The head's borrow is opened and the head copied out;
--- the other loans go on to `ticket_lists::run` for good, and the head goes by value. The head that comes back is written
+-- the other loans go on to `ticket_lists::run` for good, and the head goes by value. The head that comes back is
+-- written
 -- whole, and the borrow is closed at it. All that the proof knows of the callee is that it meets its contract. Assumes
 -- nothing.
 use mathlib.Core.Path.{_≡_, refl, ap}

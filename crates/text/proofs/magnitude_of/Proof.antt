@@ -3,14 +3,14 @@
 use Prim.Native.Nat.{_≤_, _-_}
 use native.Mathlib.Omega.{arith}
 use lib.ListN.{length}
-use Rattle.text.specs.Steps.{reach}
+use Rattle.text.specs.Steps.{digitBound}
 use Rattle.text.proofs.Values.{Passed, passed-none, passed-more, passed-all, no-digit, too-large, is-digit}
 use Rattle.text.proofs.Values.{below-digits, above-digits}
 use Rattle.text.proofs.magnitude_of.Statement.{statement}
 use Rattle.text.proofs.magnitude_of.Tie as tie
 
 abbrev Inv-loop : tie.InvT-loop
-Inv-loop digits n₀ i₀ n i = (i ≤ length digits) × (n ≤ reach) × Passed digits n i
+Inv-loop digits n₀ i₀ n i = (i ≤ length digits) × (n ≤ digitBound) × Passed digits n i
 
 abbrev μ-loop : tie.MeasureT-loop
 μ-loop digits n₀ i₀ n i = length digits - i

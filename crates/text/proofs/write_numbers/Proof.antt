@@ -10,15 +10,15 @@ use mir.Val.{SFits}
 use mir.Facts.{toZ-ofZ}
 use borrow.Author.Needs.{needs}
 use Rattle.text.specs.Lines.{words, numbersOf}
-use Rattle.text.specs.Steps.{NextAs, numbersFrom, Room, written}
+use Rattle.text.specs.Steps.{NextAs, numbersFrom, NumbersFit, numbersWritten}
 use Rattle.text.proofs.Numbers.{room-more, written-more}
 use Rattle.text.proofs.write_numbers.Statement.{statement}
 use Rattle.text.proofs.write_numbers.Tie as tie
 
 abbrev Inv-loop : tie.InvT-loop
 Inv-loop line list₀ at₀ n₀ list at n =
-    (n ≤ at) × (at ≤ length line) × (length list ≡ length list₀) × Room (length list₀) n (numbersFrom line at)
-    × (written list₀ 0 (numbersOf (words line)) ≡ written list n (numbersFrom line at))
+    (n ≤ at) × (at ≤ length line) × (length list ≡ length list₀) × NumbersFit (length list₀) n (numbersFrom line at)
+    × (numbersWritten list₀ 0 (numbersOf (words line)) ≡ numbersWritten list n (numbersFrom line at))
 
 abbrev μ-loop : tie.MeasureT-loop
 μ-loop line list₀ at₀ n₀ list at n = length line - at
@@ -59,7 +59,7 @@ loop-again c =
       simp length-set (i .inv .2),
       room-more z size (i .n) (numbersFrom l (i .at)) rest (next .2) (i .inv .3) .1,
       i .inv .4 ∙ written-more z size (i .list) (i .n) (numbersFrom l (i .at)) rest (next .2) (i .inv .3)
-          ∙ ap (λ (x : ℤ). written (set (i .list) (i .n) x) (i .n + 1) rest) (sym (toZ-ofZ fits)),
+          ∙ ap (λ (x : ℤ). numbersWritten (set (i .list) (i .n) x) (i .n + 1) rest) (sym (toZ-ofZ fits)),
     )
 
 returns : tie.Need-returns Inv-loop μ-loop
@@ -67,14 +67,15 @@ returns c =
     let i = c .before .before .before .loop in
     let next = subst (NextAs (c .before .before .before .before .before .args .line .now) (i .at))
     (c .enum-told .given .1) (c .before .before .read-next .ensures) in
-    sym (i .inv .4 ∙ ap (written (i .list) (i .n)) next)
+    sym (i .inv .4 ∙ ap (numbersWritten (i .list) (i .n)) next)
 
 returns-2 : tie.Need-returns-2 Inv-loop μ-loop
 returns-2 c =
     let i = c .before .before .before .loop in
     let next = subst (NextAs (c .before .before .before .before .before .args .line .now) (i .at))
     (c .enum-told2 .given .1) (c .before .before .read-next .ensures) in
-    absurd (subst (Room (length (c .before .before .before .before .before .args .list .now)) (i .n)) next (i .inv .3))
+    absurd (subst (NumbersFit (length (c .before .before .before .before .before .args .list .now)) (i .n)) next
+    (i .inv .3))
 
 mul-z : tie.Need-mul-z Inv-loop μ-loop
 mul-z c = let h : c .before .before .before .before .loop .n < length (c .before .before .before .before .loop .list) =

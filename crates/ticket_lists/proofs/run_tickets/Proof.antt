@@ -1,4 +1,5 @@
--- `ticket_lists::run_tickets` meets its contract. The loop's invariant: what the tickets left give, with what is written so
+-- `ticket_lists::run_tickets` meets its contract. The loop's invariant: what the tickets left give, with what is
+-- written so
 -- far, is what all give. Assumes nothing.
 use borrow.Author.Needs.{needs, sfits-of}
 use mathlib.Core.Path.{_≡_, refl, ap, _∙_}
