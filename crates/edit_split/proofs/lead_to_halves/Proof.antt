@@ -1,4 +1,4 @@
--- `edit_split::rename` meets its contract. Assumes nothing.
+-- `edit_split::lead_to_halves` meets its contract. Assumes nothing.
 use borrow.Author.Needs.{needs}
 use mathlib.Core.Path.{_≡_, ap, ap₂, _∙_, subst}
 use mathlib.Core.List.{List}
@@ -13,8 +13,8 @@ use Rattle.map.specs.Rows.{dartCell}
 use Rattle.map_rows.specs.Rows.{EdgeRow}
 use Rattle.darts.specs.Positions.{dartAt}
 use Rattle.links.specs.Linking.{redirected}
-use Rattle.edit_split.proofs.rename.Statement.{statement}
-use Rattle.edit_split.proofs.rename.Tie as tie
+use Rattle.edit_split.proofs.lead_to_halves.Statement.{statement}
+use Rattle.edit_split.proofs.lead_to_halves.Tie as tie
 
 dart-at-requires : tie.Need-dart-at-requires
 dart-at-requires c κs = let s = c .before in let e : s .args .i ≡ s .args .i * 2 / 2 = omega arith in
@@ -44,8 +44,8 @@ returns c =
     c .before .redirect2 .ensures ∙ ap (λ (u : List ℤ). redirected (toZ w64 (ofZ w64 (back .result)))
     (toZ w64 (ofZ w64 (c .before .before .negated .result))) u n) f ∙ ap₂ (λ (x y : ℤ). redirected x y t n) e₃ e₄
 
-pub rename-spec : {M : Type 1} → statement M
-rename-spec =
+pub lead-to-halves-spec : {M : Type 1} → statement M
+lead-to-halves-spec =
     tie.close
     (tie.spec
     (λ c. search needs)
