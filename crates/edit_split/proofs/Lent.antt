@@ -28,8 +28,8 @@ use Rattle.form_ranges.specs.Ranges.{lent}
 use Rattle.outcomes.specs.Outcomes.{Formed}
 use Rattle.outcomes.proofs.Formed.{node-next, nodes-filled, edges-filled, faces-filled, edge-rows}
 use Rattle.outcomes.proofs.Formed.{edges-are-wide, edge-numbers-once, lent-is}
-use Rattle.outcomes.specs.Variants.{splitTicket}
-use Rattle.edit_split.specs.Cuts.{cutRow, startNumber, endNumber, splitNumbers}
+use Rattle.outcomes.specs.Variants.{splitTicket, ownOrNext}
+use Rattle.edit_split.specs.Cuts.{cutRow, endNumber, splitNumbers}
 use Rattle.edit_split.proofs.Cut.{cut-map, split-count}
 
 -- the numbers of a node where edges end
@@ -62,7 +62,7 @@ module _ {nodes edges faces : List ℤ} {h : Head} (f : Formed nodes edges faces
   -- the edges' table after it, and the nodes'
   abbrev edgesCut : List ℤ
   edgesCut = cutRow edges (natAbs (h .edges)) i (h .«next_node») (point x y) how
-      (pos (startNumber h how (edgeAt edges i .number))) (pos (endNumber h how))
+      (pos (ownOrNext h how (edgeAt edges i .number))) (pos (endNumber h how))
 
   abbrev nodesMore : List ℤ
   nodesMore = paste nodes (natAbs (h .nodes) * nodeWidth) (h .«next_node» ∷ x ∷ y ∷ negsuc 0 ∷ []) nodeWidth
@@ -75,7 +75,7 @@ module _ {nodes edges faces : List ℤ} {h : Head} (f : Formed nodes edges faces
       let n = natAbs (h .edges) in
       let N = length edges / edgeWidth * edgeWidth in
       let xs = edgesOf edges n in
-      let a = startNumber h how own in
+      let a = ownOrNext h how own in
       let b = endNumber h how in
       let row = edge-row-of (edge-rows f) i t in
       let at = edges-getD edges n i (edgeAt edges i) t in

@@ -106,9 +106,6 @@ pointReasons nodes n edges i x y =
 abbrev pub splitNumbers : Variant → Counts
 splitNumbers how = counts 1 (cond (isMod how) 1 2) 0
 
--- the numbers of the two halves of the edge `own`
-abbrev pub startNumber : Head → Variant → ℕ → ℕ
-startNumber h how own = cond (isMod how) own (natAbs (h .«next_edge»))
-
+-- the number of the half at the end
 abbrev pub endNumber : Head → Variant → ℕ
 endNumber h how = cond (isMod how) (natAbs (h .«next_edge»)) (natAbs (h .«next_edge») + 1)

@@ -27,10 +27,9 @@ ghost use Rattle.map_rows.specs.Cells.{cellsOf};
 ghost use Rattle.head.specs.Heads.{Counted, changedHead, sizesIn, roomAt};
 ghost use Rattle.form_ranges.specs.Ranges.{lent};
 ghost use Rattle.outcomes.specs.Outcomes.{Formed, decided, outcome};
-ghost use Rattle.outcomes.specs.Variants.{splitTicket};
+ghost use Rattle.outcomes.specs.Variants.{splitTicket, ownOrNext};
 ghost use Rattle.edit_split.specs.Cuts.{ledToHalves, startIncidence, endIncidence, startHalfWritten, cutRow};
-ghost use Rattle.edit_split.specs.Cuts.{CuttableEdge, CuttableRow, pointReasons};
-ghost use Rattle.edit_split.specs.Cuts.{splitNumbers, startNumber, endNumber};
+ghost use Rattle.edit_split.specs.Cuts.{CuttableEdge, CuttableRow, pointReasons, splitNumbers, endNumber};
 
 // ---- an edge row cut in two
 
@@ -197,18 +196,7 @@ fn split_reason(
 
 // ---- the split
 
-// The number of the half at the start of edge row i, and that of the half at its end.
-fn start_number(edges: &[i64], h: Head, how: Variant, i: usize) -> i64
-    requires { ⌜ Counted h × EdgeRow (now edges) i ⌝ }
-    ensures { λ r. ⌜ r ≡ pos (startNumber h how (edgeAt (now (edges .entry)) i .number)) ⌝ }
-{
-    let next = h.next_edge;
-    match how {
-        Variant::New => next,
-        Variant::Mod => edges[i * map::EDGE_WIDTH],
-    }
-}
-
+// The number of the half at the end; that of the half at the start is the own one or the next.
 fn end_number(h: Head, how: Variant) -> i64
     requires { ⌜ Counted h ⌝ }
     ensures { λ r. ⌜ r ≡ pos (endNumber h how) ⌝ }
@@ -232,12 +220,12 @@ fn after_split(h: Head, how: Variant) -> Head
 fn cut_edge(edges: &mut [i64], h: Head, how: Variant, i: usize, x: i64, y: i64)
     requires { ⌜ CuttableEdge (now edges) h i x y ⌝ }
     ensures { λ r. ⌜ now (edges .exit) ≡ cutRow (now (edges .entry)) (natAbs (h .edges)) i (h .«next_node»)
-        (point x y) how (pos (startNumber h how (edgeAt (now (edges .entry)) i .number))) (pos (endNumber h how)) ⌝ }
+        (point x y) how (pos (ownOrNext h how (edgeAt (now (edges .entry)) i .number))) (pos (endNumber h how)) ⌝ }
 {
     let node = h.next_node;
     let e = head::to_usize(h.edges);
     let p = reason_curves::point_of(x, y);
-    let a = start_number(edges, h, how, i);
+    let a = outcomes::own_or_next(edges, h, how, i);
     let b = end_number(h, how);
     cut_row(edges, e, i, node, p, how, a, b);
 }

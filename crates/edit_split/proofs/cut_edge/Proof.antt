@@ -10,16 +10,17 @@ use Rattle.integers.specs.Signs.{sent}
 use Rattle.curves.specs.Curves.{point}
 use Rattle.map_rows.specs.Rows.{edgeAt}
 use Rattle.outcomes.proofs.Counts.{edges-natural, edges-read, next-node-back}
-use Rattle.edit_split.specs.Cuts.{cutRow, startNumber, endNumber}
+use Rattle.outcomes.specs.Variants.{ownOrNext}
+use Rattle.edit_split.specs.Cuts.{cutRow, endNumber}
 use Rattle.edit_split.proofs.cut_edge.Statement.{statement}
 use Rattle.edit_split.proofs.cut_edge.Tie as tie
 
 -- the numbers of the halves
-start : (c : tie.After-start-number)
+start : (c : tie.After-own-or-next)
     → let a = c .before .before .before .before .before .before .args in
-    toZ w64 (ofZ w64 (c .start-number .result))
-    ≡ pos (startNumber (a .h) (a .how) (edgeAt (a .edges .now) (a .i) .number))
-start c = sent (c .start-number .ok) ∙ c .start-number .ensures
+    toZ w64 (ofZ w64 (c .own-or-next .result))
+    ≡ pos (ownOrNext (a .h) (a .how) (edgeAt (a .edges .now) (a .i) .number))
+start c = sent (c .own-or-next .ok) ∙ c .own-or-next .ensures
 
 end : (c : tie.After-end-number)
     → let a = c .before .before .before .before .before .before .before .args in

@@ -19,7 +19,8 @@ use Rattle.head.specs.Heads.{Left, sizesIn, roomAt}
 use Rattle.head.proofs.Heads.{room-left}
 use Rattle.outcomes.proofs.Formed.{edge-rows, nodes-size, edges-size, counted, decided-refused, decided-carried, done}
 use Rattle.outcomes.proofs.Counts.{nodes-natural, nodes-read, next-node-back}
-use Rattle.edit_split.specs.Cuts.{cutRow, pointReasons, startNumber, endNumber, splitNumbers}
+use Rattle.outcomes.specs.Variants.{ownOrNext}
+use Rattle.edit_split.specs.Cuts.{cutRow, pointReasons, endNumber, splitNumbers}
 use Rattle.edit_split.proofs.Told.{point-in, late-none, split-reasons}
 use Rattle.edit_split.proofs.Lent.{split-lent}
 use Rattle.edit_split.proofs.split_at_row.Statement.{statement}
@@ -88,7 +89,7 @@ carried c =
     ∙ (λ j. paste (a .nodes .now) (n j * nodeWidth) (z j ∷ x j ∷ y j ∷ negsuc 0 ∷ []) nodeWidth))
     (r .before .cut-edge .ensures
     ∙ (λ j. cutRow (a .edges .now) (natAbs (a .h .edges)) (a .i) (a .h .«next_node») (point (x j) (y j)) (a .how)
-    (pos (startNumber (a .h) (a .how) (edgeAt (a .edges .now) (a .i) .number))) (pos (endNumber (a .h) (a .how))))) in
+    (pos (ownOrNext (a .h) (a .how) (edgeAt (a .edges .now) (a .i) .number))) (pos (endNumber (a .h) (a .how))))) in
     decided-carried _ _ _ _ _ _ _ _ _ (a .h .«next_node»)
     (done (c .before .after-split .ensures) z (c .carried .ensures))
     (split-reasons f (a .how) (a .i) (s .pre .1) (a .x) (a .y) ∙ none) (after .0) (after .1)
