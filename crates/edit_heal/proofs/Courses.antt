@@ -25,7 +25,7 @@ use Rattle.map_rows.proofs.RowCurves.{runAt, run-at, curve-at}
 
 -- ---- points in range, 2 to 12
 
-pub record Listed (ps : List Point) : Type 0 where
+pub record PointsInRange (ps : List Point) : Type 0 where
   pub at : ℕ → Point
   pub count : ℕ
   pub is : ps ≡ table at 0 count
@@ -35,7 +35,7 @@ pub record Listed (ps : List Point) : Type 0 where
 
 -- the curve of an edge row, and its reverse
 pub course-listed : {l : List ℤ} {i : ℕ} → EdgeRow l i → (back : Bool)
-    → Listed (points (course back (edgeAt l i .curve)))
+    → PointsInRange (points (course back (edgeAt l i .curve)))
 course-listed {l} {i} row false =
     record {
       at = pointAt (runAt l i);
@@ -61,7 +61,7 @@ coordinates-of f h zero a = refl
 coordinates-of f h (suc n) a = rw (coordinate-of (f a .x) (h a .x), coordinate-of (f a .y) (h a .y))
     (coordinates-of f h n (a + 1))
 
-module _ {ps : List Point} (k : Listed ps) where
+module _ {ps : List Point} (k : PointsInRange ps) where
   pub points-count : length ps ≡ k .count
   points-count = ap length (k .is) ∙ length-table (k .at) 0 (k .count)
 
