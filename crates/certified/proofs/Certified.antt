@@ -44,8 +44,9 @@ module _ (m : Map) where
   numbered-says : formed m ≡ true → nextsInRange m ≡ true → Numbered m
   unfolding nextsInRange
   numbered-says form h =
-      let k = and-true (nextInRange (m .next .nodes) && nextInRange (m .next .edges)) (nextInRange (m .next .faces)) h in
-      let j = and-true (nextInRange (m .next .nodes)) (nextInRange (m .next .edges)) (k .0) in
+      let n = m .next in
+      let k = and-true (nextInRange (n .nodes) && nextInRange (n .edges)) (nextInRange (n .faces)) h in
+      let j = and-true (nextInRange (n .nodes)) (nextInRange (n .edges)) (k .0) in
       let node = in-range (m .next .nodes) (j .0) in
       let edge = in-range (m .next .edges) (j .1) in
       record {

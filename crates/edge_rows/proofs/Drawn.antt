@@ -4,7 +4,7 @@ use mathlib.Core.Bool.{Bool, true, false, cond, _&&_, _||_}
 use mathlib.Core.List.{List, [], _∷_, _++_, map, map-append}
 use mathlib.Core.Option.{none}
 use Prim.Native.Nat.{ℕ, suc, _+_, _*_, _-_, _/_, _≤_, _<_}
-use native.Mathlib.Nat.{add-zero}
+use native.Mathlib.Nat.{sub-zero}
 use native.Mathlib.Omega.{arith}
 use lib.Dec.{leb}
 use lib.IntN.{ℤ, pos, negsuc, natAbs}
@@ -40,8 +40,10 @@ use Rattle.map_rows.proofs.Rows.{edges-getD, edges-length, edge-numbers, node-c
 use Rattle.links.specs.Linking.{linkedEdge}
 use Rattle.links.proofs.Kept.{rest-kept, number-kept}
 use Rattle.links.proofs.LinkedEdges.{linked-alone, linked-edge-kept, linked-edge-relinked, linked-edge-map}
+use Rattle.head.specs.Heads.{changedHead}
+use Rattle.head.proofs.Heads.{unchanged}
 use Rattle.form_ranges.specs.Ranges.{lent}
-use Rattle.edge_rows.specs.Holds.{NodeTable, EdgeTable, NodeEdgeTables, Drawable, Drawn, drawnHead, newRow}
+use Rattle.edge_rows.specs.Holds.{NodeTable, EdgeTable, NodeEdgeTables, Drawable, Drawn, newRow}
 use Rattle.edge_rows.proofs.Lists.{numbered-push}
 use Rattle.edge_rows.proofs.Pushed.{Follows, pushed-long, pushed-edges, pushed-table}
 use Rattle.edge_rows.proofs.NodeFaces.{faced-nodes, faced-number, faced-table}
@@ -228,41 +230,54 @@ module _ {nodes edges : List ℤ} {h : Head} {u v : ℕ} {c : List ℤ} {face : 
 
   -- ---- the map
 
-  drawn-map : (faces : List ℤ) → mapOf (lent endMarked linkedTable faces (drawnHead h))
+  abbrev after : Head
+  after = changedHead h (counts 0 1 0) (counts 0 0 0) (counts 0 1 0)
+
+  drawn-map : (faces : List ℤ) → mapOf (lent endMarked linkedTable faces after)
       ≡ drawn (nodeAt nodes u .number) (nodeAt nodes v .number) (curveOf c) (natAbs face)
       (mapOf (lent nodes edges faces h))
-  unfolding mapOf drawn atNodes linkEdge linkIn lead redirect atEdge
+  unfolding mapOf drawn atNodes linkEdge linkIn lead redirect atEdge changedHead
   drawn-map faces i =
       record {
-        nodes = marked-are i;
-        edges = (linked-are ∙ sym (linked-alone (natAbs (h .«next_edge»))
+        nodes = (ap (nodesOf endMarked) (unchanged (natAbs (h .nodes))) ∙ marked-are) i;
+        edges = (ap (edgesOf linkedTable) (sub-zero (natAbs (h .edges) + 1)) ∙ linked-are
+            ∙ sym (linked-alone (natAbs (h .«next_edge»))
             (setEdges (edgesOf edges (natAbs (h .edges)) ++ row ∷ [])
             (given (counts 0 1 0) (mapOf (lent nodes edges faces h)))))) i;
-        faces = facesOf faces (natAbs (h .faces));
-        next = counts (sym (add-zero (natAbs (h .«next_node»))) i) (natAbs (h .«next_edge») + 1) (sym (add-zero (natAbs (h .«next_face»))) i);
+        faces = facesOf faces (unchanged (natAbs (h .faces)) i);
+        next = counts (natAbs (h .«next_node») + 0) (natAbs (h .«next_edge») + 1) (natAbs (h .«next_face») + 0);
       }
 
-  drawn-held : NodeEdgeTables endMarked linkedTable (drawnHead h)
+  drawn-held : NodeEdgeTables endMarked linkedTable after
+  unfolding changedHead
   drawn-held =
       let k = d .held in
+      let c = k .counted in
       record {
-        node-table = end-held;
-        edge-table = linked-held;
-        nodes-count = k .nodes-count;
-        edges-count = refl;
-        next = refl;
+        node-table = rw (unchanged (natAbs (h .nodes))) end-held;
+        edge-table = rw (sub-zero (natAbs (h .edges) + 1)) linked-held;
+        counted = record {
+          nodes = record { natural = refl; most = omega (arith, c .nodes .most) };
+          edges = record {
+            natural = refl;
+            most = omega (arith, d .room, whole-rows edgeWidth 0 maxEdges edges (k .edge-table .whole) .most);
+          };
+          faces = record { natural = refl; most = omega (arith, c .faces .most) };
+          next-node = record { natural = refl; most = omega (arith, c .next-node .most) };
+          next-edge = record { natural = refl; most = omega (arith, d .number) };
+          next-face = record { natural = refl; most = omega (arith, c .next-face .most) };
+        };
         next-least = omega arith;
-        next-most = let m = d .number in omega arith;
-        below = ap (numbered 1 (natAbs (h .«next_edge») + 1)) numbers-are
+        below = rw (sub-zero (natAbs (h .edges) + 1)) (ap (numbered 1 (natAbs (h .«next_edge») + 1)) numbers-are
             ∙ numbered-push 1 (natAbs (h .«next_edge»)) (natAbs (h .«next_edge») + 1)
             (map (λ (e : Edge). e .number) (edgesOf edges (natAbs (h .edges)))) (k .below) (k .next-least)
-            (omega arith);
+            (omega arith));
       }
 
   pub drawn-is : Drawn nodes edges h u v c face
       (set (set nodes (u * nodeWidth + 3) (negsuc 0)) (v * nodeWidth + 3) (negsuc 0))
       (linkedEdge (paste edges (natAbs (h .edges) * edgeWidth) (edgeCells (newRow nodes h u v c face)) edgeWidth)
-      (natAbs (h .edges) + 1)) (drawnHead h)
+      (natAbs (h .edges) + 1)) after
   drawn-is =
       record {
         held = drawn-held;
@@ -278,12 +293,19 @@ module _ {nodes edges : List ℤ} {h : Head} {u v : ℕ} {c : List ℤ} {face : 
   pub drawn-as : {nodes′ edges′ : List ℤ} {h′ : Head} → nodes′
       ≡ set (set nodes (u * nodeWidth + 3) (negsuc 0)) (v * nodeWidth + 3) (negsuc 0)
       → edges′ ≡ linkedEdge (paste edges (natAbs (h .edges) * edgeWidth)
-      (edgeCells (newRow nodes h u v c face)) edgeWidth) (natAbs (h .edges) + 1) → h′ ≡ drawnHead h
+      (edgeCells (newRow nodes h u v c face)) edgeWidth) (natAbs (h .edges) + 1)
+      → h′ ≡ changedHead h (counts 0 1 0) (counts 0 0 0) (counts 0 1 0)
       → Drawn nodes edges h u v c face nodes′ edges′ h′
   drawn-as {nodes′} {edges′} {h′} en ee eh =
       subst (λ (x : List ℤ). Drawn nodes edges h u v c face x edges′ h′) (sym en)
       (subst (λ (x : List ℤ). Drawn nodes edges h u v c face endMarked x h′) (sym ee)
       (subst (λ (x : Head). Drawn nodes edges h u v c face endMarked linkedTable x) (sym eh) drawn-is))
+
+-- as many faces
+pub drawn-faces : {nodes edges : List ℤ} {h : Head} {u v : ℕ} {c : List ℤ} {face : ℤ} {nodes′ edges′ : List ℤ}
+    {h′ : Head} → Drawn nodes edges h u v c face nodes′ edges′ h′ → natAbs (h′ .faces) ≡ natAbs (h .faces)
+unfolding changedHead
+drawn-faces {h = h} d = ap (λ (x : Head). natAbs (x .faces)) (d .head) ∙ unchanged (natAbs (h .faces))
 
 -- ---- the new row as it is written
 

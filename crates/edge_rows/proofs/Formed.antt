@@ -5,7 +5,7 @@ use Rattle.map.specs.declared.Head.{Head}
 use Rattle.map.proofs.RoundTrip.{whole-tables}
 use Rattle.form_ranges.specs.Ranges.{lent}
 use Rattle.outcomes.specs.Outcomes.{Formed}
-use Rattle.outcomes.proofs.Formed.{ranges, nodes-count, edges-count, edge-next, node-rows, edge-rows, numbers-rise}
+use Rattle.outcomes.proofs.Formed.{ranges, counted, edge-next, node-rows, edge-rows, numbers-rise}
 use Rattle.edge_rows.specs.Holds.{NodeEdgeTables}
 
 pub held : {nodes edges faces : List ℤ} {h : Head} → Formed nodes edges faces h → NodeEdgeTables nodes edges h
@@ -21,10 +21,7 @@ held {nodes} {edges} {faces} {h} f =
         rest = ranges f .edge-rest;
         whole = whole-tables (lent nodes edges faces h) (f .whole) .1;
       };
-      nodes-count = nodes-count f .0;
-      edges-count = edges-count f .0;
-      next = edge-next f .0;
+      counted = counted f;
       next-least = edge-next f .1;
-      next-most = edge-next f .2;
       below = numbers-rise f .1;
     }

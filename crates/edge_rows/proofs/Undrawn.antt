@@ -21,6 +21,7 @@ use Rattle.tables.proofs.Writes.{removed-at}
 use Rattle.map.specs.declared.Head.{Head}
 use Rattle.map.specs.Limits.{nodeWidth, edgeWidth}
 use Rattle.map.specs.Rows.{Node, Edge, Map, mapOf, headOf, edge, faceOf, nodeCells, edgeCells, atNodes, withoutEdge}
+use Rattle.map.specs.Rows.{counts}
 use Rattle.map.specs.Darts.{edgeEnds}
 use Rattle.map.specs.Links.{unlinkEdge, redirect}
 use Rattle.map.specs.Edits.{withFace, isEither, undrawn}
@@ -32,8 +33,10 @@ use Rattle.darts.proofs.Positions.{cells-of, edge-of}
 use Rattle.links.specs.Linking.{unlinkedEdge}
 use Rattle.links.proofs.Kept.{rest-kept, number-kept}
 use Rattle.links.proofs.LinkedEdges.{unlinked-alone, unlinked-edge-kept, unlinked-edge-relinked, unlinked-edge-gone}
+use Rattle.head.specs.Heads.{changedHead}
+use Rattle.head.proofs.Heads.{head-changed}
 use Rattle.form_ranges.specs.Ranges.{lent}
-use Rattle.edge_rows.specs.Holds.{NodeTable, EdgeTable, Undrawable, Undrawn, undrawnHead, isolatedWithout}
+use Rattle.edge_rows.specs.Holds.{NodeTable, EdgeTable, Undrawable, Undrawn, isolatedWithout}
 use Rattle.edge_rows.specs.Holds.{facedWhere, facedIf}
 use Rattle.edge_rows.proofs.Filled.{nodes-filled, edges-filled}
 use Rattle.edge_rows.proofs.NodeFaces.{faced-nodes, faced-table}
@@ -220,15 +223,20 @@ module _ {nodes edges : List ℤ} {h : Head} {i : ℕ} {face : ℤ} (d : Undrawa
         (table-edges-wide unlinked n (t .rows .fits) (t .rows .ranges)) (rw len (d .row)) fits)
         ∙ ap₂ (λ (x : List ℤ) (k : ℕ). closed edgeWidth x k i) (edges-filled t) len
 
-    edges-fewer : length (undrawn number (natAbs face) m .edges) ≡ n - 1
+    edges-fewer : length (undrawn number (natAbs face) m .edges) + 1 ≡ n
     unfolding undrawn atNodes
     edges-fewer =
         let es = edgesOf unlinked n in
-        let len : length es ≡ n = edges-length unlinked n in
-        let r = d .row in
-        ap length (edges-gone ∙ without-row (unlinked-held .rows) i (d .row))
-        ∙ length-append (take i es) (drop (suc i) es)
-        ∙ rw (length-take-le i es (rw len (omega arith)), length-drop (suc i) es, len) (omega arith)
+        let len = edges-length unlinked n in
+        omega (
+          arith,
+          d .row,
+          len,
+          ap length (edges-gone ∙ without-row (unlinked-held .rows) i (d .row))
+              ∙ length-append (take i es) (drop (suc i) es),
+          length-take-le i es (rw len (omega (arith, d .row))),
+          length-drop (suc i) es,
+        )
 
     row-is : edge m number ≡ edgeAt edges i
     unfolding mapOf edge
@@ -262,7 +270,7 @@ module _ {nodes edges : List ℤ} {h : Head} {i : ℕ} {face : ℤ} (d : Undrawa
 
   -- what a call left
   pub undrawn-as : {nodes′ edges′ : List ℤ} {h′ : Head} → nodes′ ≡ endFaced → edges′ ≡ closed edgeWidth unlinked n i
-      → h′ ≡ undrawnHead h → Undrawn nodes edges h i face nodes′ edges′ h′
+      → h′ ≡ changedHead h (counts 0 0 0) (counts 0 1 0) (counts 0 0 0) → Undrawn nodes edges h i face nodes′ edges′ h′
   undrawn-as en ee eh = record {
     node-cells = λ faces. node-cells faces ∙ sym en;
     edge-cells = λ faces. edge-cells faces ∙ sym ee;
@@ -292,19 +300,14 @@ pub isolated-alike : (l : List ℤ) (i : ℕ) {n n′ : ℕ} {z z′ : ℤ} → 
 isolated-alike l i en ez = ap₂ (λ (k : ℕ) (x : ℤ). isolatedWithout (unlinkedEdge l k i) k i x) en ez
 
 -- an edge less, and nothing else in the head
-pub undrawn-head : (k g : ℕ) (m : Map) {h : Head} → headOf m ≡ h → length (undrawn k g m .edges)
-    ≡ natAbs (h .edges) - 1 → headOf (undrawn k g m) ≡ undrawnHead h
+pub undrawn-head : (k g : ℕ) (m : Map) {h : Head} → headOf m ≡ h → length (undrawn k g m .edges) + 1 ≡ natAbs (h .edges)
+    → headOf (undrawn k g m) ≡ changedHead h (counts 0 0 0) (counts 0 1 0) (counts 0 0 0)
 unfolding undrawn atNodes unlinkEdge redirect
-undrawn-head k g m e fewer =
+undrawn-head k g m {h} e fewer =
     let isolated : Node → Bool = λ x. isEither (edge m k .start) (edge m k .end) x
     && same (edgeEnds (unlinkEdge k m) (x .number)) 0 in
-    λ j.
-    record {
-      nodes = (ap pos (length-map (m .nodes) (λ (x : Node). cond (isolated x) (withFace (some g) x) x))
-          ∙ ap (λ (x : Head). x .nodes) e) j;
-      edges = pos (fewer j);
-      faces = e j .faces;
-      «next_node» = e j .«next_node»;
-      «next_edge» = e j .«next_edge»;
-      «next_face» = e j .«next_face»;
-    }
+    let nodes = length-map (m .nodes) (λ (x : Node). cond (isolated x) (withFace (some g) x) x) in
+    head-changed (headOf m) (undrawn k g m) (counts 0 0 0) (counts 0 1 0) (counts 0 0 0) (omega (arith, nodes))
+    (omega (arith, fewer, ap (λ (x : Head). natAbs (x .edges)) e)) (omega arith) (omega arith) (omega arith)
+    (omega arith)
+    ∙ ap (λ (x : Head). changedHead x (counts 0 0 0) (counts 0 1 0) (counts 0 0 0)) e

@@ -3,7 +3,7 @@
 use mathlib.Core.Path.{_≡_}
 use mathlib.Core.Bool.{Bool, true, cond}
 use mathlib.Core.List.{List, map, flatMap}
-use Prim.Native.Nat.{ℕ, suc, _+_, _*_, _-_, _/_, _≤_, _<_}
+use Prim.Native.Nat.{ℕ, _+_, _*_, _/_, _≤_, _<_}
 use lib.IntN.{ℤ, pos, natAbs}
 use lib.ListN.{length, getD, set, drop}
 use lib.Signed.{nonNeg}
@@ -16,10 +16,11 @@ use Rattle.curves.specs.Curves.{Run, curveOf}
 use Rattle.map.specs.declared.Head.{Head}
 use Rattle.map.specs.Limits.{maxNodes, maxEdges, lastNumber, nodeWidth, edgeWidth}
 use Rattle.planar_maps.specs.Map.{fwd, bwd}
-use Rattle.map.specs.Rows.{Edge, mapOf, nodeCells, edgeCells}
+use Rattle.map.specs.Rows.{Edge, mapOf, nodeCells, edgeCells, counts}
 use Rattle.tables.specs.Tables.{sameZ, column, filled, wholeRows, isZero, numbered}
 use Rattle.map.specs.Edits.{drawn, undrawn}
 use Rattle.map_rows.specs.Rows.{NodeRows, EdgeRows, nodeAt, edgeAt, edgesOf}
+use Rattle.head.specs.Heads.{Counted, changedHead}
 use Rattle.form_ranges.specs.Ranges.{lent}
 use Rattle.links.specs.Linking.{positions, leavesNode}
 
@@ -38,42 +39,9 @@ pub record EdgeTable (l : List ℤ) (n : ℕ) : Type 0 where
 pub record NodeEdgeTables (nodes edges : List ℤ) (h : Head) : Type 0 where
   pub node-table : NodeTable nodes (natAbs (h .nodes))
   pub edge-table : EdgeTable edges (natAbs (h .edges))
-  pub nodes-count : h .nodes ≡ pos (natAbs (h .nodes))
-  pub edges-count : h .edges ≡ pos (natAbs (h .edges))
-  pub next : h .«next_edge» ≡ pos (natAbs (h .«next_edge»))
+  pub counted : Counted h
   pub next-least : 1 ≤ natAbs (h .«next_edge»)
-  pub next-most : natAbs (h .«next_edge») ≤ suc lastNumber
   pub below : numbered 1 (natAbs (h .«next_edge»)) (map (λ e. e .number) (edgesOf edges (natAbs (h .edges)))) ≡ true
-
--- an edge more, and its number given; an edge less
-abbrev pub drawnHead : Head → Head
-drawnHead h =
-    record {
-      nodes = h .nodes;
-      edges = pos (natAbs (h .edges) + 1);
-      faces = h .faces;
-      «next_node» = h .«next_node»;
-      «next_edge» = pos (natAbs (h .«next_edge») + 1);
-      «next_face» = h .«next_face»;
-    }
-
-abbrev pub undrawnHead : Head → Head
-undrawnHead h =
-    record {
-      nodes = h .nodes;
-      edges = pos (natAbs (h .edges) - 1);
-      faces = h .faces;
-      «next_node» = h .«next_node»;
-      «next_edge» = h .«next_edge»;
-      «next_face» = h .«next_face»;
-    }
-
--- what is asked of the head when an edge comes or goes
-pub record EdgesCounted (h : Head) : Type 0 where
-  pub count : h .edges ≡ pos (natAbs (h .edges))
-  pub few : natAbs (h .edges) ≤ maxEdges
-  pub next : h .«next_edge» ≡ pos (natAbs (h .«next_edge»))
-  pub most : natAbs (h .«next_edge») ≤ suc lastNumber
 
 -- the row of a new edge from node row u to node row v
 abbrev pub newRow : List ℤ → Head → ℕ → ℕ → List ℤ → ℤ → Edge
@@ -109,7 +77,7 @@ pub record Drawn (nodes edges : List ℤ) (h : Head) (u v : ℕ) (c : List ℤ) 
       (mapOf (lent nodes edges faces h))
   pub nodes-long : length nodes′ ≡ length nodes
   pub edges-long : length edges′ ≡ length edges
-  pub head : h′ ≡ drawnHead h
+  pub head : h′ ≡ changedHead h (counts 0 1 0) (counts 0 0 0) (counts 0 1 0)
 
 -- an edge row to undraw, and the face around nodes left isolated
 pub record Undrawable (nodes edges : List ℤ) (h : Head) (i : ℕ) (face : ℤ) : Type 0 where
@@ -141,5 +109,5 @@ pub record Undrawn (nodes edges : List ℤ) (h : Head) (i : ℕ) (face : ℤ) (n
       (flatMap edgeCells (undrawn (edgeAt edges i .number) (natAbs face) (mapOf (lent nodes edges faces h)) .edges))
       ≡ edges′
   pub edges-left : (faces : List ℤ) → length
-      (undrawn (edgeAt edges i .number) (natAbs face) (mapOf (lent nodes edges faces h)) .edges) ≡ natAbs (h .edges) - 1
-  pub head : h′ ≡ undrawnHead h
+      (undrawn (edgeAt edges i .number) (natAbs face) (mapOf (lent nodes edges faces h)) .edges) + 1 ≡ natAbs (h .edges)
+  pub head : h′ ≡ changedHead h (counts 0 0 0) (counts 0 1 0) (counts 0 0 0)

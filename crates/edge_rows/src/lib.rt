@@ -11,34 +11,10 @@ ghost use Rattle.tables.specs.Tables.{closed};
 ghost use Rattle.map.specs.Rows.{edgeCells};
 ghost use Rattle.map_rows.specs.Rows.{NodeRows, EdgeRows};
 ghost use Rattle.links.specs.Linking.{unlinkedEdge};
-ghost use Rattle.edge_rows.specs.Holds.{EdgesCounted, drawnHead, undrawnHead, newRow, Drawable, Drawn};
+ghost use Rattle.edge_rows.specs.Holds.{newRow, Drawable, Drawn};
 ghost use Rattle.edge_rows.specs.Holds.{isolatedWithout, facedIf, Undrawable, Undrawn};
 
 // ---- leaves
-
-// The head with an edge more, and its number given.
-fn with_edge(h: Head) -> Head
-    requires { ⌜ EdgesCounted h ⌝ }
-    ensures { λ r. ⌜ r ≡ drawnHead h ⌝ }
-{
-    let n = h.edges;
-    let k = h.next_edge;
-    let mut after = h;
-    after.edges = n + 1;
-    after.next_edge = k + 1;
-    after
-}
-
-// The head with an edge less.
-fn without_edge(h: Head) -> Head
-    requires { ⌜ EdgesCounted h × (1 ≤ natAbs (h .edges)) ⌝ }
-    ensures { λ r. ⌜ r ≡ undrawnHead h ⌝ }
-{
-    let n = h.edges;
-    let mut after = h;
-    after.edges = n - 1;
-    after
-}
 
 // The face of a node row.
 fn set_face(nodes: &mut [i64], i: usize, face: i64)
@@ -92,7 +68,7 @@ pub fn draw(
     links::link_edge(edges, e + 1);
     set_face(nodes, u, -1);
     set_face(nodes, v, -1);
-    with_edge(h)
+    head::changed(h, head::EDGE, head::NONE, head::EDGE)
 }
 
 // ---- an edge undrawn
@@ -154,5 +130,5 @@ pub fn undraw(nodes: &mut [i64], edges: &mut [i64], h: Head, i: usize, face: i64
     let isolated = undraw_edge(edges, e, i, u, v);
     give_face(nodes, n, u, face, isolated.start);
     give_face(nodes, n, v, face, isolated.end);
-    without_edge(h)
+    head::changed(h, head::NONE, head::EDGE, head::NONE)
 }

@@ -1,12 +1,11 @@
 -- What kind 4 answers: the reasons against it, and the tables it leaves. Assumes nothing.
 use mathlib.Core.Path.{_≡_, refl, sym, ap, _∙_}
-use mathlib.Core.Bool.{Bool, true, false, _||_}
+use mathlib.Core.Bool.{_||_}
 use mathlib.Core.Logic.{inl, inr}
 use mathlib.Core.List.{List, flatMap}
 use mathlib.Core.Option.{Option·getD}
-use Prim.Native.Nat.{ℕ, suc, _+_, _*_, _/_, _<_}
+use Prim.Native.Nat.{ℕ, _*_, _/_, _<_}
 use native.Mathlib.Omega.{arith}
-use lib.Dec.{ltb}
 use lib.IntN.{ℤ, pos, natAbs}
 use lib.ListN.{length}
 use Rattle.lists.specs.Tests.{same}
@@ -15,34 +14,31 @@ use Rattle.lists.specs.declared.Found.the-variants.{Missing}
 use Rattle.lists.proofs.Bools.{equal?, same-eq, same-false, or-right}
 use Rattle.curves.specs.Curves.{curveOf}
 use Rattle.map.specs.declared.Head.{Head}
-use Rattle.map.specs.Limits.{nodeWidth, edgeWidth, faceWidth, lastNumber}
+use Rattle.map.specs.Limits.{nodeWidth, faceWidth}
 use Rattle.map.specs.Rows.{counts, Node, Map, Sizes, mapOf, lentOf, sizesOf, headOf, node, nodeCells, edgeCells}
 use Rattle.tables.specs.Tables.{sameZ, column, filled}
 use Rattle.map.specs.Rows.{faceCells}
 use Rattle.map.specs.Edits.{drawn, addIsoEdge}
 use Rattle.map.specs.Tickets.{AddIsoEdge}
-use Rattle.map.specs.Reasons.{firstReason, reasons, noNode, nodeInside, full, spent}
+use Rattle.map.specs.Reasons.{firstReason, reasons, noNode, nodeInside}
 use Rattle.map.specs.Ticket.{carried}
 use Rattle.map.proofs.Reasons.{first-hit, first-miss}
 use Rattle.map_rows.specs.Rows.{nodesOf, edgesOf, facesOf, nodeAt, nodeMap}
 use Rattle.map_rows.proofs.Rows.{nodes-length, edges-length, faces-length}
+use Rattle.head.proofs.Heads.{head-same}
 use Rattle.form_ranges.specs.Ranges.{lent}
 use Rattle.reason_curves.specs.Sent.{edgesBut}
 use Rattle.reason_curves.proofs.Maps.{inside-alike}
 use Rattle.reason_curves.proofs.Others.{edges-all}
 use Rattle.outcomes.specs.Outcomes.{Formed}
-use Rattle.outcomes.proofs.Formed.{node-rows, faces-count, node-next, edge-next, face-next, nodes-size, edges-size}
-use Rattle.outcomes.proofs.Formed.{faces-filled, full-is, spent-is, nodes-room, faces-room, node-left, face-left}
-use Rattle.outcomes.proofs.Formed.{lent-is, node-none}
+use Rattle.outcomes.proofs.Formed.{node-rows, edge-next, nodes-size, edges-size, faces-filled, room-at, lent-is}
+use Rattle.outcomes.proofs.Formed.{node-none}
 use Rattle.edge_rows.specs.Holds.{Drawn}
+use Rattle.edge_rows.proofs.Drawn.{drawn-faces}
 use Rattle.edge_rows.proofs.Filled.{nodes-filled, edges-filled}
 use Rattle.edge_rows.proofs.NodeFaces.{node-once}
 use Rattle.edge_rows.proofs.FoundRows.{node-there, node-is}
 use Rattle.edit_isolated.specs.Isolated.{isolatedReasons}
-
-or-none : (a b c : Bool) → a ≡ false → c ≡ false → a || b || c ≡ b
-or-none a true c e g = rw e
-or-none a false c e g = rw (e, g)
 
 module _ {nodes edges faces : List ℤ} {h : Head} (f : Formed nodes edges faces h) where
   abbrev m : Map
@@ -75,14 +71,6 @@ module _ {nodes edges faces : List ℤ} {h : Head} (f : Formed nodes edges faces
       | inr q ↦ same-false start end (λ g. q (node-once (node-rows f) u v bu bv g)) ∙ sym (same-false u v q)
     ]
 
-    full-edges : full s m (counts 0 1 0) ≡ ltb (length edges / edgeWidth) (natAbs (h .edges) + 1)
-    full-edges = full-is f 0 1 0 ∙ or-none _ (ltb (length edges / edgeWidth) (natAbs (h .edges) + 1)) _ (nodes-room f)
-        (faces-room f)
-
-    spent-edges : spent m (counts 0 1 0) ≡ ltb (suc lastNumber) (natAbs (h .«next_edge») + 1)
-    spent-edges = spent-is f 0 1 0 ∙ or-none _ (ltb (suc lastNumber) (natAbs (h .«next_edge») + 1)) _ (node-left f)
-        (face-left f)
-
     edges-are : m .edges ≡ edgesBut edges (natAbs (h .edges)) (natAbs (h .edges))
     unfolding mapOf
     edges-are = sym (edges-all edges (natAbs (h .edges)) (natAbs (h .edges)) (omega arith))
@@ -92,11 +80,19 @@ module _ {nodes edges faces : List ℤ} {h : Head} (f : Formed nodes edges faces
     nodes-inside = inside-alike m (nodeMap nodes (natAbs (h .nodes))) (curveOf c) refl
 
     pub add-reasons : firstReason (reasons s m (AddIsoEdge (pos start) (pos end) c))
-        ≡ firstReason (isolatedReasons nodes edges h u v c)
+        ≡ firstReason (isolatedReasons nodes edges faces h u v c)
     unfolding reasons
     add-reasons =
         first-miss 4 (noNode m (pos start) || noNode m (pos end)) _ (rw (node-there f u bu, node-there f v bv))
-        ∙ rw (node-is f u bu, node-is f v bv, one-node, full-edges, spent-edges, nodes-inside, edges-are) refl
+        ∙ rw (
+          node-is f u bu,
+          node-is f v bv,
+          one-node,
+          ← room-at f (counts 0 1 0)
+              (counts 0 1 0),
+          nodes-inside,
+          edges-are,
+        ) refl
 
     -- ---- the edge drawn
 
@@ -113,21 +109,8 @@ module _ {nodes edges faces : List ℤ} {h : Head} (f : Formed nodes edges faces
 
       head-is : headOf m′ ≡ h′
       unfolding mapOf
-      head-is =
-          let k = d .held in
-          let e = d .head in
-          λ i.
-          record {
-            nodes = (ap pos (nodes-length nodes′ (natAbs (h′ .nodes))) ∙ sym (k .nodes-count)) i;
-            edges = (ap pos (edges-length edges′ (natAbs (h′ .edges))) ∙ sym (k .edges-count)) i;
-            faces = (ap pos (faces-length faces (natAbs (h′ .faces))) ∙ ap (λ (x : Head). pos (natAbs (x .faces))) e
-                ∙ sym (faces-count f .0) ∙ sym (ap (λ (x : Head). x .faces) e)) i;
-            «next_node» = (ap (λ (x : Head). pos (natAbs (x .«next_node»))) e ∙ sym (node-next f .0)
-                ∙ sym (ap (λ (x : Head). x .«next_node») e)) i;
-            «next_edge» = sym (k .next) i;
-            «next_face» = (ap (λ (x : Head). pos (natAbs (x .«next_face»))) e ∙ sym (face-next f .0)
-                ∙ sym (ap (λ (x : Head). x .«next_face») e)) i;
-          }
+      head-is = head-same (d .held .counted) m′ (nodes-length nodes′ (natAbs (h′ .nodes)))
+          (edges-length edges′ (natAbs (h′ .edges))) (faces-length faces (natAbs (h′ .faces))) refl refl refl
 
       written : lentOf s m′ ≡ lent nodes′ edges′ faces h′
       unfolding mapOf
@@ -137,8 +120,8 @@ module _ {nodes edges faces : List ℤ} {h : Head} (f : Formed nodes edges faces
           (nodes-size f .0 ∙ sym (d .nodes-long)) ∙ nodes-filled (d .held .node-table))
           (ap (λ (k : ℕ). filled k (flatMap edgeCells (edgesOf edges′ (natAbs (h′ .edges)))))
           (edges-size f .0 ∙ sym (d .edges-long)) ∙ edges-filled (d .held .edge-table))
-          (ap (λ (x : Head). filled (length faces / faceWidth * faceWidth)
-          (flatMap faceCells (facesOf faces (natAbs (x .faces))))) (d .head) ∙ faces-filled f)
+          (ap (λ (k : ℕ). filled (length faces / faceWidth * faceWidth) (flatMap faceCells (facesOf faces k)))
+          (drawn-faces d) ∙ faces-filled f)
           head-is
 
       pub add-lent : lentOf s (carried m (AddIsoEdge (pos start) (pos end) c) .0) ≡ lent nodes′ edges′ faces h′

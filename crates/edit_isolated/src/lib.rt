@@ -15,8 +15,8 @@ ghost use Rattle.map.specs.Tickets.{AddIsoEdge, RemoveIsoEdge};
 ghost use Rattle.map_rows.specs.Rows.{nodeAt, edgeAt, NodeRow, EdgeRow};
 ghost use Rattle.form_ranges.specs.Ranges.{lent};
 ghost use Rattle.outcomes.specs.Outcomes.{Formed, decided, outcome};
-ghost use Rattle.edge_rows.specs.Holds.{EdgesCounted, NodeEdgeTables};
-ghost use Rattle.edit_isolated.specs.Isolated.{roomReasons, meetingOrRoomReasons, isolatedReasons};
+ghost use Rattle.edge_rows.specs.Holds.{NodeEdgeTables};
+ghost use Rattle.edit_isolated.specs.Isolated.{meetingOrRoomReasons, isolatedReasons};
 
 // ---- kind 4
 
@@ -47,26 +47,11 @@ fn faces_differ(nodes: &[i64], u: usize, v: usize) -> bool
     a != b
 }
 
-// 20, 21 or 0: no room for a row, or no number for it.
-fn room_reason(edges: &[i64], h: Head) -> u64
-    requires { ⌜ EdgesCounted h ⌝ }
-    ensures { λ r. ⌜ r ≡ firstReason (roomReasons (now (edges .entry)) h) ⌝ }
-{
-    if edges.len() / map::EDGE_WIDTH < head::to_usize(h.edges) + 1 {
-        return 20;
-    }
-    if map::NUMBERS < head::to_usize(h.next_edge) + 1 {
-        21
-    } else {
-        0
-    }
-}
-
 // The first reason from 14 on against a curve between isolated nodes; 0 for none.
-fn meeting_or_room_reason(nodes: &[i64], edges: &[i64], h: Head, c: &[i64]) -> u64
+fn meeting_or_room_reason(nodes: &[i64], edges: &[i64], faces: &[i64], h: Head, c: &[i64]) -> u64
     requires { ⌜ NodeEdgeTables (now nodes) (now edges) h × Run (now c) ⌝ }
     ensures { λ r. ⌜ r ≡ firstReason
-        (meetingOrRoomReasons (now (nodes .entry)) (now (edges .entry)) h (now (c .entry))) ⌝ }
+        (meetingOrRoomReasons (now (nodes .entry)) (now (edges .entry)) (now (faces .entry)) h (now (c .entry))) ⌝ }
 {
     let n = head::to_usize(h.nodes);
     let e = head::to_usize(h.edges);
@@ -74,14 +59,27 @@ fn meeting_or_room_reason(nodes: &[i64], edges: &[i64], h: Head, c: &[i64]) -> u
     if meeting != 0 {
         return meeting;
     }
-    room_reason(edges, h)
+    head::room_reason(
+        head::sizes_of(nodes, edges, faces),
+        h,
+        head::EDGE,
+        head::EDGE,
+    )
 }
 
 // The first reason from 5 on against an edge between the isolated nodes of rows u and v; 0 for none.
-fn isolated_reason(nodes: &[i64], edges: &[i64], h: Head, u: usize, v: usize, c: &[i64]) -> u64
+fn isolated_reason(
+    nodes: &[i64],
+    edges: &[i64],
+    faces: &[i64],
+    h: Head,
+    u: usize,
+    v: usize,
+    c: &[i64],
+) -> u64
     requires { ⌜ NodeEdgeTables (now nodes) (now edges) h × (u < natAbs (h .nodes)) × (v < natAbs (h .nodes)) ⌝ }
-    ensures { λ r. ⌜ r ≡ firstReason (isolatedReasons (now (nodes .entry)) (now (edges .entry)) h u v
-        (now (c .entry))) ⌝ }
+    ensures { λ r. ⌜ r ≡ firstReason
+        (isolatedReasons (now (nodes .entry)) (now (edges .entry)) (now (faces .entry)) h u v (now (c .entry))) ⌝ }
 {
     let reason = reason_curves::curve_reason(nodes, u, v, c);
     if reason != 0 {
@@ -93,7 +91,7 @@ fn isolated_reason(nodes: &[i64], edges: &[i64], h: Head, u: usize, v: usize, c:
     if faces_differ(nodes, u, v) {
         return 12;
     }
-    meeting_or_room_reason(nodes, edges, h, c)
+    meeting_or_room_reason(nodes, edges, faces, h, c)
 }
 
 // The containing face of the node of row i.
@@ -120,7 +118,7 @@ fn add_at_rows(
         (AddIsoEdge (pos (nodeAt (now (nodes .entry)) u .number)) (pos (nodeAt (now (nodes .entry)) v .number))
         (now (c .entry))) ⌝ }
 {
-    let reason = isolated_reason(nodes, edges, h, u, v, c);
+    let reason = isolated_reason(nodes, edges, faces, h, u, v, c);
     if reason != 0 {
         return outcomes::refused(h, reason);
     }

@@ -36,7 +36,7 @@ use Rattle.darts.specs.Positions.{dartAt, sidePlace, sideCell}
 use Rattle.darts.proofs.Positions.{cells-of, cell-bears}
 use Rattle.face_relabel.specs.declared.Sides.{Sides}
 use Rattle.form_links.specs.Drawn.{drawnMap}
-use Rattle.face_relabel.specs.Sharing.{Shared, encloses, startOf, ringMark, sharesOf, nodeShared}
+use Rattle.face_relabel.specs.Sharing.{ShareableFace, ringEncloses, startOf, ringMark, sharesOf, nodeShared}
 use Rattle.face_relabel.specs.Sharing.{sideShared, edgeShared}
 use Rattle.face_relabel.proofs.Rings.{ring-same}
 
@@ -64,7 +64,8 @@ module _ (l t : List ℤ) (i : ℕ) (kept : (j : ℕ) → i * nodeWidth ≤ j �
 -- ---- sides
 
 -- the start node of edge row i, looked up
-module _ (ns : List ℤ) (n : ℕ) (l : List ℤ) (e : ℕ) (s : Sides) (h : Shared ns n l e s) (i : ℕ) (hi : i < e) where
+module _ (ns : List ℤ) (n : ℕ) (l : List ℤ) (e : ℕ) (s : Sides) (h : ShareableFace ns n l e s) (i : ℕ)
+    (hi : i < e) where
   start-cell : getD l (i * edgeWidth + 1) (pos 0) ≡ pos (edgeAt l i .start)
   start-cell = cells-of (h .edges) i hi .start
 
@@ -115,13 +116,13 @@ module _ (ns : List ℤ) (n : ℕ) (l : List ℤ) (e : ℕ) where
   unfolding next edge
   ring-drawn = ring-same (drawnMap ns n l e) (edgeMap l e) (λ d. refl) refl
 
-  module _ (s : Sides) (h : Shared ns n l e s) where
+  module _ (s : Sides) (h : ShareableFace ns n l e s) where
     -- the number of a point's side
-    pub point-side : (across : ℕ) (q : Point) → cond (encloses l e (s .ring) q) (s .inside) (s .other)
+    pub point-side : (across : ℕ) (q : Point) → cond (ringEncloses l e (s .ring) q) (s .inside) (s .other)
         ≡ pos (sideOfPoint (drawnMap ns n l e) (sharesOf ns n l e s across) q)
     unfolding sideOfPoint faces.encloses course edge
     point-side across q =
-        sides (encloses l e (s .ring) q) (s .inside) (s .other) (h .inside) (h .other)
+        sides (ringEncloses l e (s .ring) q) (s .inside) (s .other) (h .inside) (h .other)
         ∙ ap (λ (r : List Dart). pos (cond (faces.encloses (edgeMap l e) r q) (natAbs (s .inside))
         (natAbs (s .other)))) (sym (ring-drawn (dartAt l (s .ring))))
 
@@ -133,7 +134,7 @@ module _ (ns : List ℤ) (n : ℕ) (l : List ℤ) (e : ℕ) where
       ofOld =
           cond (among (ring (edgeMap l e) (dartAt l (s .ring))) (dartAt l p)) (natAbs (s .inside))
           (cond (among (ring (edgeMap l e) (dartAt l across)) (dartAt l p)) (natAbs (s .other))
-          (cond (encloses l e (s .ring) start) (natAbs (s .inside)) (natAbs (s .other))))
+          (cond (ringEncloses l e (s .ring) start) (natAbs (s .inside)) (natAbs (s .other))))
 
       -- the face that it comes to bear
       dart-side : sideOfDart (drawnMap ns n l e) (sharesOf ns n l e s across) (dartAt l p)
@@ -173,16 +174,17 @@ module _ (ns : List ℤ) (n : ℕ) (l : List ℤ) (e : ℕ) where
           sides (same v 1) (s .inside) (s .other) (h .inside) (h .other)
           ∙ ap pos (ap (λ (k : ℕ). cond (same k 1) (natAbs (s .inside)) (natAbs (s .other))) ev
           ∙ marked (among (ring (edgeMap l e) (dartAt l (s .ring))) (dartAt l p))
-          (among (ring (edgeMap l e) (dartAt l across)) (dartAt l p)) (encloses l e (s .ring) start)
+          (among (ring (edgeMap l e) (dartAt l across)) (dartAt l p)) (ringEncloses l e (s .ring) start)
           (natAbs (s .inside)) (natAbs (s .other)) ∙ sym (dart-side ∙ ap (λ (x : Bool). cond x ofOld b) old))
 
 -- ---- a turn over node row i, whose numbers are those of ns still
 
-module _ (ns : List ℤ) (n : ℕ) (l : List ℤ) (e : ℕ) (s : Sides) (h : Shared ns n l e s) (t : List ℤ) (i : ℕ) where
+module _ (ns : List ℤ) (n : ℕ) (l : List ℤ) (e : ℕ) (s : Sides) (h : ShareableFace ns n l e s) (t : List ℤ)
+    (i : ℕ) where
   pub node-hit : getD t (i * nodeWidth + 3) (pos 0) ≡ s .old
       → ((j : ℕ) → i * nodeWidth ≤ j → getD t j (pos 0) ≡ getD ns j (pos 0)) → (q : Point) → q ≡ nodeAt t i .at
       → (v : ℤ)
-      → v ≡ cond (encloses l e (s .ring) q) (s .inside) (s .other)
+      → v ≡ cond (ringEncloses l e (s .ring) q) (s .inside) (s .other)
       → set t (i * nodeWidth + 3) v ≡ nodeShared ns n l e s t i
   node-hit is kept q eq v ev =
       let at : q ≡ nodeAt ns i .at = eq ∙ point-kept ns t i kept in
@@ -257,7 +259,8 @@ rest-on l t i true v r =
     }
 rest-on l t i false v r = record { size = r .size; cells = λ q h. r .cells q (omega arith) }
 
-module _ (ns : List ℤ) (n : ℕ) (l : List ℤ) (e : ℕ) (s : Sides) (h : Shared ns n l e s) (across : ℕ) (marks : List ℕ)
+module _ (ns : List ℤ) (n : ℕ) (l : List ℤ) (e : ℕ) (s : Sides) (h : ShareableFace ns n l e s) (across : ℕ)
+    (marks : List ℕ)
     (told : (p : ℕ) → p < e * 2 → sideCell l p 5 ≡ s .old → getD marks p 0
     ≡ cond (same (firstMark l e (s .ring) across p) 0) (ringMark ns n l e (s .ring) p)
     (firstMark l e (s .ring) across p)) where

@@ -25,7 +25,7 @@ use Rattle.map_rows.specs.Rows.{EdgeRows, edgesOf, edgeMap, edgeAt}
 use Rattle.map_rows.proofs.Rows.{edge-rows-rising}
 use Rattle.darts.specs.Positions.{dartAt, sideCell}
 use Rattle.darts.proofs.Positions.{directed-table, cells-of, edge-of, position-in, cell-bears}
-use Rattle.face_relabel.specs.Sharing.{Ringed, Whole, encloses, markOf, startOf, ringMark}
+use Rattle.face_relabel.specs.Sharing.{Ringed, Whole, ringEncloses, markOf, startOf, ringMark}
 use Rattle.face_relabel.proofs.Faces.{firstMark}
 use Rattle.face_relabel.proofs.Rings.{lowest-here, ring-self, ring-in, ring-bears, ring-both, ring-lowest}
 
@@ -128,7 +128,7 @@ module _ {l : List ℤ} {e : ℕ} (t : EdgeRows l e) (g : Ringed l e) where
     target-some marks₀ q = go (same (getD marks₀ q 0) 0) refl
       where
         go : (b : Bool) → same (getD marks₀ q 0) 0 ≡ b → cond b (ringMark nodes n l e ref q) (getD marks₀ q 0) ≡ 0 → ⊥
-        go true f z = some-mark (encloses l e ref
+        go true f z = some-mark (ringEncloses l e ref
             (startOf nodes n (edge (edgeMap l e) (lowestEdge (dartAt l q .edge) (ring (edgeMap l e) (dartAt l q)))))) z
         go false f z = true≢false (sym (same-eq (getD marks₀ q 0) 0 z) ∙ f)
 

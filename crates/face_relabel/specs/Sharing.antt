@@ -24,7 +24,7 @@ use Rattle.form_links.specs.Drawn.{drawnMap}
 use Rattle.face_relabel.specs.declared.Sides.{Sides}
 
 -- what sharing out requires: rows in form, an existing ring, numbers that are faces
-pub record Shared (ns : List ℤ) (n : ℕ) (es : List ℤ) (e : ℕ) (s : Sides) : Type 0 where
+pub record ShareableFace (ns : List ℤ) (n : ℕ) (es : List ℤ) (e : ℕ) (s : Sides) : Type 0 where
   pub nodes : NodeRows ns n
   pub edges : EdgeRows es e
   pub few : e ≤ maxEdges
@@ -66,12 +66,12 @@ edgeShared nodes n edges e s across t p =
 -- ---- the functions below
 
 -- the ring of position p encloses a point
-abbrev pub encloses : List ℤ → ℕ → ℕ → Point → Bool
-encloses edges e p q = faces.encloses (edgeMap edges e) (ring (edgeMap edges e) (dartAt edges p)) q
+abbrev pub ringEncloses : List ℤ → ℕ → ℕ → Point → Bool
+ringEncloses edges e p q = faces.encloses (edgeMap edges e) (ring (edgeMap edges e) (dartAt edges p)) q
 
 -- the mark of a point's side: 1 for the reference side, that of the ring of p
 abbrev pub markOf : List ℤ → ℕ → ℕ → Point → ℕ
-markOf edges e p q = cond (encloses edges e p q) 1 2
+markOf edges e p q = cond (ringEncloses edges e p q) 1 2
 
 -- the point where an edge starts
 abbrev pub startOf : List ℤ → ℕ → Edge → Point

@@ -12,7 +12,7 @@ ghost use Rattle.plane.specs.Points.{InRange};
 ghost use Rattle.map.specs.Limits.{nodeWidth, edgeWidth};
 ghost use Rattle.map_rows.specs.Rows.{EdgeRows, edgeAt};
 ghost use Rattle.darts.specs.Positions.{sideCell};
-ghost use Rattle.face_relabel.specs.Sharing.{Ringed, Shared, Whole, encloses as enclosedBy, startOf, markOf};
+ghost use Rattle.face_relabel.specs.Sharing.{Ringed, ShareableFace, Whole, ringEncloses, startOf, markOf};
 ghost use Rattle.face_relabel.specs.Sharing.{ringMark, sideShared, nodeShared, edgeShared};
 
 // A face to share out: its number, a directed edge on the reference side and its ring's numbers for the two sides.
@@ -26,7 +26,7 @@ pub struct Sides {
 // The number of the side of a point.
 fn side_of(edges: &[i64], count: usize, s: Sides, q: Point) -> i64
     requires { ⌜ EdgeRows (now edges) count × (s .ring < count * 2) × InRange q ⌝ }
-    ensures { λ r. ⌜ r ≡ cond (enclosedBy (now (edges .entry)) count (s .ring) q) (s .inside) (s .other) ⌝ }
+    ensures { λ r. ⌜ r ≡ cond (ringEncloses (now (edges .entry)) count (s .ring) q) (s .inside) (s .other) ⌝ }
 {
     if rings::encloses(edges, count, s.ring, q) {
         s.inside
@@ -37,7 +37,7 @@ fn side_of(edges: &[i64], count: usize, s: Sides, q: Point) -> i64
 
 // Shares out the isolated nodes of the old face: each gets the number of its side.
 pub fn share_nodes(nodes: &mut [i64], n: usize, edges: &[i64], count: usize, s: Sides)
-    requires { ⌜ Shared (now nodes) n (now edges) count s ⌝ }
+    requires { ⌜ ShareableFace (now nodes) n (now edges) count s ⌝ }
     ensures { λ r. ⌜
         now (nodes .exit)
         ≡ sweep (nodeShared (now (nodes .entry)) n (now (edges .entry)) count s) (now (nodes .entry)) 0 n ⌝ }
@@ -53,7 +53,7 @@ pub fn share_nodes(nodes: &mut [i64], n: usize, edges: &[i64], count: usize, s: 
 // The mark of a ring whose lowest edge is row i, by the start node of that edge: 1 for the reference side, 2 for the
 // other.
 fn mark_of_ring(nodes: &[i64], n: usize, edges: &[i64], count: usize, s: Sides, i: usize) -> u8
-    requires { ⌜ Shared (now nodes) n (now edges) count s × (i < count) ⌝ }
+    requires { ⌜ ShareableFace (now nodes) n (now edges) count s × (i < count) ⌝ }
     ensures { λ r. ⌜
         r ≡ markOf (now (edges .entry)) count (s .ring)
         (startOf (now (nodes .entry)) n (edgeAt (now (edges .entry)) i)) ⌝ }
@@ -76,7 +76,7 @@ fn mark_of_ring(nodes: &[i64], n: usize, edges: &[i64], count: usize, s: Sides, 
 
 // Marks the rings of the old face that are not marked by their sides.
 fn mark_sides(nodes: &[i64], n: usize, edges: &[i64], count: usize, s: Sides, marks: &mut [u8])
-    requires { ⌜ Shared (now nodes) n (now edges) count s × Ringed (now edges) count
+    requires { ⌜ ShareableFace (now nodes) n (now edges) count s × Ringed (now edges) count
         × Whole (now edges) count (now marks) ⌝ }
     ensures { λ r. ⌜ (length (now (marks .exit)) ≡ length (now (marks .entry)))
         × ((q : ℕ) → q < count * 2 → sideCell (now (edges .entry)) q 5 ≡ s .old
@@ -121,7 +121,7 @@ pub fn share_edges(
     s: Sides,
     across: usize,
 )
-    requires { ⌜ Shared (now nodes) n (now edges) count s × Ringed (now edges) count × (across < count * 2) ⌝ }
+    requires { ⌜ ShareableFace (now nodes) n (now edges) count s × Ringed (now edges) count × (across < count * 2) ⌝ }
     ensures { λ r. ⌜
         now (edges .exit)
         ≡ sweep (edgeShared (now (nodes .entry)) n (now (edges .entry)) count s across)

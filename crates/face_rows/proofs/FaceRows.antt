@@ -4,10 +4,9 @@ use mathlib.Core.Bool.{Bool, true, false, not, true≢false}
 use mathlib.Core.Logic.{inl, inr}
 use mathlib.Core.List.{List, [], _∷_, _++_, map, flatMap, append-assoc, List·Memᴰ, List·Memᴰ·head, List·Memᴰ·tail}
 use Prim.Native.Nat.{ℕ, suc, _+_, _*_, _-_, _≤_, _<_}
-use native.Mathlib.Nat.{mul-one}
 use native.Mathlib.Omega.{arith}
 use lib.IntN.{ℤ, pos, natAbs}
-use lib.ListN.{length, getD, set, take, drop, replicate}
+use lib.ListN.{length, set, take, drop, replicate}
 use lib.Seq.{paste, set-split}
 use Rattle.lists.specs.Tests.{same}
 use Rattle.lists.specs.Scans.{anyOf, allOf}
@@ -25,18 +24,16 @@ use Rattle.map.specs.Rows.{faceCells, faceRowOf}
 use Rattle.map.specs.Form.{faceRanges}
 use Rattle.map.proofs.RoundTrip.{faces-wide}
 use Rattle.map_rows.specs.Rows.{FaceRows, facesOf}
-use Rattle.map_rows.proofs.Rows.{faces-getD}
+use Rattle.map_rows.proofs.Rows.{faces-getD, faces-length}
 use Rattle.map_rows.proofs.Lookups.{face-found, face-missing}
-use Rattle.face_rows.specs.Holds.{facesIn, FaceTable, withoutFace}
+use Rattle.face_rows.specs.Holds.{facesIn, FaceTable, withoutFace, Extendable}
 use Rattle.lists.proofs.Rising as scanning
 
 -- ---- a table read
 
-faces-flat : (fs : List ℕ) → length (flatMap faceCells fs) ≡ length fs
-faces-flat fs = flat-length faceWidth faceCells fs (faces-wide fs) ∙ mul-one (length fs)
-
-pub faces-long : (N : ℕ) (fs : List ℕ) {l : List ℤ} → length fs ≤ N → facesIn N fs ≡ l → length l ≡ N
-faces-long N fs h e = ap length (sym e) ∙ filled-length N (flatMap faceCells fs) (omega (arith, faces-flat fs))
+pub faces-long : (N : ℕ) (fs : List ℕ) {l : List ℤ} → length fs * faceWidth ≤ N → facesIn N fs ≡ l → length l ≡ N
+faces-long N fs h e = ap length (sym e)
+    ∙ filled-length N (flatMap faceCells fs) (rw (flat-length faceWidth faceCells fs (faces-wide fs)) h)
 
 rows-in : (N : ℕ) (fs : List ℕ) → rows faceWidth (length fs) (facesIn N fs) ≡ map faceCells fs
 rows-in N fs = rows-flat faceWidth faceCells fs (replicate (N - length (flatMap faceCells fs)) (pos 0)) (faces-wide fs)
@@ -113,63 +110,96 @@ module _ {N : ℕ} {fs : List ℕ} {l : List ℤ} (t : FaceTable N fs l) where
   pub table-long : length l ≡ N
   table-long = faces-long N fs (t .fits) (t .cells)
 
-  pub face-rows : FaceRows l (length fs)
+  pub less-rising : (f : ℕ) → numbered 0 (suc lastNumber) (withoutFace f fs) ≡ true
+  less-rising f = scanning.rising-numbered 0 (suc lastNumber) (withoutFace f fs)
+      (scanning.rising-keep 0 (suc lastNumber) (λ g. not (same g f)) fs table-rising)
+
+  pub two-less : (f g : ℕ) → (f ≡ g → ⊥) → anyOf (same f) fs ≡ true → anyOf (same g) fs ≡ true
+      → length (withoutFace g (withoutFace f fs)) + 2 ≡ length fs
+  two-less f g ne hf hg =
+      let a = without-length f fs table-distinct hf in
+      let gs = withoutFace f fs in
+      let d = scanning.rising-distinct gs (scanning.rising 0 (suc lastNumber) gs (less-rising f) .rises) in
+      let b = without-length g gs d (still-there f g fs ne hg) in
+      omega arith
+
+-- ---- a row gone
+
+module _ {l : List ℤ} (n : ℕ) (t : FaceTable (length l) (facesOf l n) l) where
+  abbrev fs : List ℕ
+  fs = facesOf l n
+
+  pub face-rows : FaceRows l n
   face-rows =
       record {
-        fits = let f = t .fits in let e = table-long in omega arith;
-        ranges = ap (λ (r : List ℤ). allOf faceRanges (rows faceWidth (length fs) r)) (sym (t .cells))
-            ∙ ap (allOf faceRanges) (rows-in N fs) ∙ cells-ranges fs;
-        rising = ap (numbered 0 (suc lastNumber)) (faces-read N fs (t .cells)) ∙ t .rising;
+        fits = rw (faces-length l n) at (t .fits);
+        ranges = sym (λ i. allOf faceRanges (rows faceWidth (faces-length l n i) (t .cells i)))
+            ∙ ap (allOf faceRanges) (rows-in (length l) fs) ∙ cells-ranges fs;
+        rising = t .rising;
       }
 
   module _ (f : ℕ) where
-    less-rising : numbered 0 (suc lastNumber) (withoutFace f fs) ≡ true
-    less-rising = scanning.rising-numbered 0 (suc lastNumber) (withoutFace f fs)
-        (scanning.rising-keep 0 (suc lastNumber) (λ g. not (same g f)) fs table-rising)
-
     -- the row that was found goes
-    pub found-gone : (i : ℕ) → place (sameZ (pos f)) 0 (column faceWidth l (length fs)) ≡ At i → (i < length fs)
-        × FaceTable N (withoutFace f fs) (closed faceWidth l (length fs) i)
+    pub found-gone : (i : ℕ) → place (sameZ (pos f)) 0 (column faceWidth l n) ≡ At i → (i < n)
+        × FaceTable (length l) (withoutFace f (facesOf l n)) (closed faceWidth l n i)
     found-gone i e =
-        let r = face-found l (length fs) (face-rows .ranges) (pos f) i e in
-        let at : getD fs i 0 ≡ f = ap (λ (gs : List ℕ). getD gs i 0) (sym (faces-read N fs (t .cells)))
-        ∙ faces-getD l (length fs) i 0 (r .0) ∙ sym (ap natAbs (r .1)) in
+        let r = face-found l n (face-rows .ranges) (pos f) i e in
+        let long = faces-length l n in
+        let below : i < length fs = rw long (r .0) in
         let is : withoutFace f fs ≡ take i fs ++ drop (suc i) fs =
-        ap (λ (k : ℕ). withoutFace k fs) (sym at)
-        ∙ without-at (λ (g : ℕ). g) fs (subst Distinct (sym (map-self fs)) table-distinct) i 0 (r .0) in (
+        ap (λ (k : ℕ). withoutFace k fs) (ap natAbs (r .1) ∙ sym (faces-getD l n i 0 (r .0)))
+        ∙ without-at (λ (g : ℕ). g) fs (subst Distinct (sym (map-self fs)) (table-distinct t)) i 0 below in (
           r .0,
           record {
-            cells = ap (facesIn N) is ∙ sym
-                (removed-at faceWidth faceCells N fs i 0 (faces-wide fs) (r .0) (let k = t .fits in omega arith))
-                ∙ ap (λ (k : List ℤ). closed faceWidth k (length fs) i) (t .cells);
-            rising = less-rising;
-            fits = let k = t .fits in let s =
-                without-length f fs table-distinct (ap (anyOf (same f)) (sym (faces-read N fs (t .cells))) ∙ r .2) in
-                omega arith;
+            cells = ap (facesIn (length l)) is
+                ∙ sym (removed-at faceWidth faceCells (length l) fs i 0 (faces-wide fs) below (t .fits))
+                ∙ (λ j. closed faceWidth (t .cells j) (long j) i);
+            rising = less-rising t f;
+            fits = omega (arith, t .fits, without-length f fs (table-distinct t) (r .2));
           },
         )
 
     -- no row is found, and none goes
-    pub missing-gone : place (sameZ (pos f)) 0 (column faceWidth l (length fs)) ≡ Missing
-        → FaceTable N (withoutFace f fs) l
-    missing-gone e =
-        let is : withoutFace f fs ≡ fs =
-        keep-all (λ g. not (same g f)) fs
-        (any-none f fs (ap (anyOf (same f)) (sym (faces-read N fs (t .cells)))
-        ∙ face-missing l (length fs) (face-rows .ranges) f e)) in
-        subst (λ (gs : List ℕ). FaceTable N gs l) (sym is) t
+    pub missing-gone : place (sameZ (pos f)) 0 (column faceWidth l n) ≡ Missing
+        → FaceTable (length l) (withoutFace f (facesOf l n)) l
+    missing-gone e = subst (λ (gs : List ℕ). FaceTable (length l) gs l)
+        (sym (keep-all (λ g. not (same g f)) fs (any-none f fs (face-missing l n (face-rows .ranges) f e)))) t
+
+-- ---- the table with its own length and its rows as they are read, from one call to the next
+
+module _ (N : ℕ) (fs : List ℕ) {l : List ℤ} (e : facesIn N fs ≡ l) (fits : length fs * faceWidth ≤ N) {n : ℕ}
+    (len : length fs ≡ n) where
+  faces-here : facesOf l n ≡ fs
+  faces-here = ap (facesOf l) (sym len) ∙ faces-read N fs e
+
+  pub extendable-here : n * faceWidth + faceWidth ≤ N → Extendable l n
+  extendable-here room = let long = faces-long N fs fits e in
+      record { cells = rw (long, faces-here) e; room = rw long room }
+
+  pub pushed-here : (f : ℕ) {l′ : List ℤ} → facesIn (length l) (facesOf l n ++ f ∷ []) ≡ l′
+      → facesIn N (fs ++ f ∷ []) ≡ l′
+  pushed-here f k = sym (λ i. facesIn (faces-long N fs fits e i) (faces-here i ++ f ∷ [])) ∙ k
+
+module _ {N : ℕ} {fs : List ℕ} {l : List ℤ} (t : FaceTable N fs l) {n : ℕ} (len : length fs ≡ n) where
+  pub table-here : FaceTable (length l) (facesOf l n) l
+  table-here = rw (table-long t, faces-here N fs (t .cells) (t .fits) len) t
+
+  pub removed-here : (f : ℕ) {l′ : List ℤ} → FaceTable (length l) (withoutFace f (facesOf l n)) l′
+      → FaceTable N (withoutFace f fs) l′
+  removed-here f k = rw (table-long t, faces-here N fs (t .cells) (t .fits) len) at k
 
 -- ---- a face after the last
 
-pub face-pushed : (N : ℕ) (fs : List ℕ) (l : List ℤ) (f : ℕ) → facesIn N fs ≡ l → length fs < N
-    → facesIn N (fs ++ f ∷ []) ≡ set l (length fs) (pos f)
-face-pushed N fs l f e room =
-    let n = length fs in
-    let long = faces-long N fs (omega arith) e in
-    let after : n + 1 ≡ suc n = omega arith in
-    sym (pushed faceWidth faceCells N fs f (faces-wide fs) refl (omega arith))
-    ∙ ap (λ (r : List ℤ). paste r (n * faceWidth) (pos f ∷ []) faceWidth) e
-    ∙ ap (λ (k : ℕ). paste l k (pos f ∷ []) 1) (mul-one n)
-    ∙ append-assoc (take n l) (pos f ∷ []) (drop (n + 1) l)
-    ∙ ap (λ (k : ℕ). take n l ++ pos f ∷ drop k l) after
-    ∙ sym (set-split l n (pos f) (omega arith))
+pub face-pushed : (l : List ℤ) (n f : ℕ) → Extendable l n
+    → facesIn (length l) (facesOf l n ++ f ∷ []) ≡ set l (n * faceWidth) (pos f)
+face-pushed l n f x =
+    let at = n * faceWidth in
+    let room = x .room in
+    let fs = facesOf l n in
+    let long = faces-length l n in
+    let after : at + faceWidth ≡ suc at = omega arith in
+    sym (pushed faceWidth faceCells (length l) fs f (faces-wide fs) refl (rw long room))
+    ∙ (λ i. paste (x .cells i) (long i * faceWidth) (pos f ∷ []) faceWidth)
+    ∙ append-assoc (take at l) (pos f ∷ []) (drop (at + faceWidth) l)
+    ∙ ap (λ (k : ℕ). take at l ++ pos f ∷ drop k l) after
+    ∙ sym (set-split l at (pos f) (omega arith))

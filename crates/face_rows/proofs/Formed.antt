@@ -24,7 +24,7 @@ use Rattle.head.proofs.Heads.{head-same}
 use Rattle.outcomes.proofs.Formed.{formed-map, counted}
 use Rattle.outcomes.proofs.Formed.{nodes-size, edges-size, faces-size, faces-fit, node-rows, edge-rows, face-rows}
 use Rattle.outcomes.proofs.Formed.{nodes-filled, edges-filled, faces-filled, lent-is}
-use Rattle.face_rows.specs.Holds.{facesIn, Held, Healable, Holds}
+use Rattle.face_rows.specs.Holds.{facesIn, MapTables, Healable, TablesOf}
 
 -- a face that is there is one of them
 any-member : (f : ℕ) (gs : List ℕ) → anyOf (same f) gs ≡ true → List·Memᴰ f gs
@@ -37,8 +37,8 @@ any-member f (g ∷ gs) e = go (same f g) refl (any-member f gs)
 
 -- ---- tables that hold a map
 
-pub held-holds : {nodes edges faces : List ℤ} {h : Head} → Held nodes edges faces h
-    → Holds nodes edges faces (mapOf (lent nodes edges faces h)) nodes edges faces h
+pub held-holds : {nodes edges faces : List ℤ} {h : Head} → MapTables nodes edges faces h
+    → TablesOf nodes edges faces (mapOf (lent nodes edges faces h)) nodes edges faces h
 unfolding mapOf
 held-holds {nodes} {edges} {faces} {h} k =
     record {
@@ -50,7 +50,7 @@ held-holds {nodes} {edges} {faces} {h} k =
     }
 
 module _ {nodes edges faces : List ℤ} {h : Head} (f : Formed nodes edges faces h) where
-  pub formed-held : Held nodes edges faces h
+  pub formed-held : MapTables nodes edges faces h
   formed-held =
       record {
         node-rows = node-rows f;
@@ -69,12 +69,12 @@ module _ {nodes edges faces : List ℤ} {h : Head} (f : Formed nodes edges faces
         counted = counted f;
       }
 
-  pub holds-before : Holds nodes edges faces (mapOf (lent nodes edges faces h)) nodes edges faces h
+  pub holds-before : TablesOf nodes edges faces (mapOf (lent nodes edges faces h)) nodes edges faces h
   holds-before = held-holds formed-held
 
   -- what is lent, in tables as long
   pub holds-lent : {nodes′ edges′ nodes″ edges″ faces″ : List ℤ} {M : Map} {h″ : Head} → length nodes′ ≡ length nodes
-      → length edges′ ≡ length edges → Holds nodes′ edges′ faces M nodes″ edges″ faces″ h″
+      → length edges′ ≡ length edges → TablesOf nodes′ edges′ faces M nodes″ edges″ faces″ h″
       → lentOf (sizesOf (lent nodes edges faces h)) M ≡ lent nodes″ edges″ faces″ h″
   holds-lent {M = M} p q k =
       lent-is (sizesOf (lent nodes edges faces h)) M

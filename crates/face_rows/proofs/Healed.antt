@@ -1,5 +1,5 @@
 -- After two faces are healed: the edge can be undrawn as `removeEdge` does it, and the tables are rows in range of the
--- healed map. Assumes nothing.
+-- mergedSides map. Assumes nothing.
 use mathlib.Core.Path.{_≡_, refl, sym, ap, _∙_}
 use mathlib.Core.Bool.{Bool, cond, _&&_}
 use mathlib.Core.List.{List, [], _∷_, _++_, map, flatMap}
@@ -15,6 +15,7 @@ use Rattle.tables.specs.Tables.{rows, filled, numbered}
 use Rattle.tables.proofs.Writes.{wide-map}
 use Rattle.tables.proofs.Filled.{Wide, rows-flat, filled-long}
 use Rattle.map.specs.declared.Head.{Head}
+use Rattle.map.specs.declared.Variant.{Variant}
 use Rattle.map.specs.Limits.{edgeWidth, lastNumber}
 use Rattle.map.specs.Rows.{Node, Edge, Map, nodeCells, edgeCells, edgeOf, mapOf, edge, hasEdge, setFaces, given}
 use Rattle.map.specs.Rows.{atNodes, counts}
@@ -26,7 +27,7 @@ use Rattle.map_rows.specs.Rows.{NodeRows, EdgeRows, nodesOf, edgesOf, facesOf, 
 use Rattle.map_rows.proofs.Rows.{nodes-length, edges-length, edge-numbers}
 use Rattle.map_rows.proofs.RowCurves.{table-edges-wide}
 use Rattle.form_ranges.specs.Ranges.{lent}
-use Rattle.face_rows.specs.Holds.{Held, Holds, faceKept, healed}
+use Rattle.face_rows.specs.Holds.{MapTables, TablesOf, faceKept, mergedSides}
 use Rattle.face_rows.proofs.FaceRows.{faces-read}
 use Rattle.face_rows.proofs.Renames.{sides-wide, map-size}
 use Rattle.face_rows.proofs.Shares.{node-rows-after, nodes-after, long-after}
@@ -40,14 +41,14 @@ pub undrawn-after : (e f : ℕ) (fs : List ℕ) (k : ℕ) (m : Map) → undrawn 
 unfolding undrawn unlinkEdge redirect atNodes next leaves departures edge
 undrawn-after e f fs k m = refl
 
--- kinds 13 and 14: the faces healed, and the edge undrawn
-pub removed-is : (news : Bool) (e : ℕ) (m : Map) → removeEdge news e m
-    ≡ undrawn e (faceLeft news e m) (healed (makesFace news e m) (edge m e) m)
+-- kinds 13 and 14: the faces mergedSides, and the edge undrawn
+pub removed-is : (how : Variant) (e : ℕ) (m : Map) → removeEdge how e m
+    ≡ undrawn e (faceLeft how e m) (mergedSides (makesFace how e m) (edge m e) m)
 unfolding removeEdge
-removed-is news e m =
-    let f = faceLeft news e m in
+removed-is how e m =
+    let f = faceLeft how e m in
     let left = keep (λ g. same g (renamed (edge m e) f g)) (m .faces) in
-    sym (undrawn-after e f (cond (makesFace news e m) (left ++ f ∷ []) left) (bit (makesFace news e m))
+    sym (undrawn-after e f (cond (makesFace how e m) (left ++ f ∷ []) left) (bit (makesFace how e m))
     (renamedFaces (edge m e) f m))
 
 -- ---- edges of which the sides alone are changed
@@ -142,9 +143,10 @@ renamed-at : (row : Edge) (f : ℕ) (x : Node) (q : Option ℕ) → renamedNode 
 renamed-at row f x none = refl
 renamed-at row f x (some g) = refl
 
-module _ {nodes edges faces : List ℤ} {h : Head} (held : Held nodes edges faces h) (row : Edge) (makes : Bool)
+module _ {nodes edges faces : List ℤ} {h : Head} (held : MapTables nodes edges faces h) (row : Edge) (makes : Bool)
     (nodes′ edges′ faces′ : List ℤ) (h′ : Head)
-    (after : Holds nodes edges faces (healed makes row (mapOf (lent nodes edges faces h))) nodes′ edges′ faces′ h′)
+    (after : TablesOf nodes edges faces (mergedSides makes row
+    (mapOf (lent nodes edges faces h))) nodes′ edges′ faces′ h′)
   where
     abbrev face : ℕ
     face = faceKept makes row (mapOf (lent nodes edges faces h))
@@ -165,7 +167,8 @@ module _ {nodes edges faces : List ℤ} {h : Head} (held : Held nodes edges face
         (λ x. renamed-number row face x (x .face))
         (λ x. renamed-at row face x (x .face)) (held .node-rows) (held .node-cells) node-cells-are
 
-    pub healed-nodes : nodesOf nodes′ (natAbs (h .nodes)) ≡ healed makes row (mapOf (lent nodes edges faces h)) .nodes
+    pub healed-nodes : nodesOf nodes′ (natAbs (h .nodes)) ≡ mergedSides makes row
+        (mapOf (lent nodes edges faces h)) .nodes
     unfolding renamedFaces mapOf
     healed-nodes = nodes-after (λ x. renamedNode row face x (x .face)) (λ x. renamed-number row face x (x .face))
         (λ x. renamed-at row face x (x .face)) (held .node-rows) (held .node-cells) node-cells-are
@@ -174,7 +177,8 @@ module _ {nodes edges faces : List ℤ} {h : Head} (held : Held nodes edges face
     healed-edge-rows = edge-rows-after (λ r. renamed row face (r .left)) (λ r. renamed row face (r .right))
         (held .edge-rows) (held .edge-cells) edge-cells-are
 
-    pub healed-edges : edgesOf edges′ (natAbs (h .edges)) ≡ healed makes row (mapOf (lent nodes edges faces h)) .edges
+    pub healed-edges : edgesOf edges′ (natAbs (h .edges)) ≡ mergedSides makes row
+        (mapOf (lent nodes edges faces h)) .edges
     unfolding renamedFaces mapOf
     healed-edges = edges-after (λ r. renamed row face (r .left)) (λ r. renamed row face (r .right)) (held .edge-rows)
         (held .edge-cells) edge-cells-are
@@ -212,10 +216,10 @@ module _ {nodes edges faces : List ℤ} {h : Head} (held : Held nodes edges face
         ∙ edges-length edges′ (natAbs (h .edges))
 
     -- the map that is lent after it
-    pub healed-map : mapOf (lent nodes′ edges′ faces′ h′) ≡ healed makes row (mapOf (lent nodes edges faces h))
+    pub healed-map : mapOf (lent nodes′ edges′ faces′ h′) ≡ mergedSides makes row (mapOf (lent nodes edges faces h))
     unfolding mapOf
     healed-map =
-        let m = healed makes row (mapOf (lent nodes edges faces h)) in
+        let m = mergedSides makes row (mapOf (lent nodes edges faces h)) in
         let back = sym (after .head) in
         λ i.
         record {
@@ -223,5 +227,5 @@ module _ {nodes edges faces : List ℤ} {h : Head} (held : Held nodes edges face
           edges = (ap (edgesOf edges′) healed-edge-count ∙ healed-edges) i;
           faces = (ap (λ (x : Head). facesOf faces′ (natAbs (x .faces))) back
               ∙ faces-read (length faces) (m .faces) (after .face-cells)) i;
-          next = counts (ap (λ (x : Head). natAbs (x .«next_node»)) back i) (ap (λ (x : Head). natAbs (x .«next_edge»)) back i) (ap (λ (x : Head). natAbs (x .«next_face»)) back i);
+          next = counts (natAbs (back i .«next_node»)) (natAbs (back i .«next_edge»)) (natAbs (back i .«next_face»));
         }

@@ -23,9 +23,9 @@ use Rattle.map_rows.proofs.Rows.{nodes-length, edges-length, faces-length}
 use Rattle.head.specs.Heads.{changedHead}
 use Rattle.head.proofs.Heads.{head-changed}
 use Rattle.form_ranges.specs.Ranges.{lent}
-use Rattle.face_rows.specs.Holds.{facesIn, FaceTable, withoutFace, Healable, Holds, faceKept, healed}
-use Rattle.face_rows.proofs.FaceRows.{table-rising, table-distinct, without-length, still-there}
-use Rattle.lists.proofs.Rising as scanning
+use Rattle.face_rows.specs.Holds.{facesIn, FaceTable, withoutFace, Healable, TablesOf, healFaces, faceKept}
+use Rattle.face_rows.specs.Holds.{mergedSides}
+use Rattle.face_rows.proofs.FaceRows.{table-distinct, without-length, two-less}
 
 -- ---- the map that is lent
 
@@ -102,8 +102,7 @@ module _ (l r : ℕ) (ne : l ≡ r → ⊥) where
       → cond makes (keep (λ g. same g (cond (same g l || same g r) (cond makes next (min l r)) g)) fs
       ++ cond makes next (min l r) ∷ [])
       (keep (λ g. same g (cond (same g l || same g r) (cond makes next (min l r)) g)) fs)
-      ≡ cond makes (withoutFace r (withoutFace l fs) ++ cond makes next (min l r) ∷ [])
-      (withoutFace (natAbs (cond (ltZ (pos l) (pos r)) (pos r) (pos l))) fs)
+      ≡ healFaces makes (pos l) (pos r) (cond makes next (min l r)) fs
   stays true next fs nl nr = ap (λ (gs : List ℕ). gs ++ next ∷ [])
       ((λ i. keep (λ g. new-stays next g nl nr i) fs) ∙ sym (keep-twice (λ g. not (same g r)) (λ g. not (same g l)) fs))
   stays false next fs nl nr = low-stays fs
@@ -113,21 +112,13 @@ high-there : (l r : ℕ) (fs : List ℕ) → anyOf (same l) fs ≡ true → anyO
     → anyOf (same (natAbs (cond (ltZ (pos l) (pos r)) (pos r) (pos l)))) fs ≡ true
 high-there l r fs hl hr = elim (which (ltb l r)) [ inl e ↦ rw e hr | inr e ↦ rw e hl ]
 
-one-less : (makes : Bool) (l r f n : ℕ) {N : ℕ} {fs : List ℕ} {t : List ℤ} → FaceTable N fs t → length fs ≡ n
-    → (l ≡ r → ⊥) → anyOf (same l) fs ≡ true → anyOf (same r) fs ≡ true
-    → length (cond makes (withoutFace r (withoutFace l fs) ++ f ∷ [])
-    (withoutFace (natAbs (cond (ltZ (pos l) (pos r)) (pos r) (pos l))) fs)) ≡ n - 1
-one-less true l r f n {N} {fs} t len ne hl hr =
-    let d = table-distinct t in
-    let a = without-length l fs d hl in
-    let keeps = scanning.rising-keep 0 1000000 (λ g. not (same g l)) fs (table-rising t) in
-    let b = without-length r (withoutFace l fs) (scanning.rising-distinct (withoutFace l fs) (keeps .rises))
-    (still-there l r fs ne hr) in
-    length-append (withoutFace r (withoutFace l fs)) (f ∷ []) ∙ omega arith
-one-less false l r f n {N} {fs} t len ne hl hr =
-    let a = without-length (natAbs (cond (ltZ (pos l) (pos r)) (pos r) (pos l))) fs (table-distinct t)
-    (high-there l r fs hl hr) in
-    omega arith
+one-less : (makes : Bool) (l r f : ℕ) {N : ℕ} {fs : List ℕ} {t : List ℤ} → FaceTable N fs t → (l ≡ r → ⊥)
+    → anyOf (same l) fs ≡ true → anyOf (same r) fs ≡ true → length (healFaces makes (pos l) (pos r) f fs) + 1
+    ≡ length fs
+one-less true l r f {N} {fs} t ne hl hr =
+    omega (arith, length-append (withoutFace r (withoutFace l fs)) (f ∷ []), two-less t l r ne hl hr)
+one-less false l r f {N} {fs} t ne hl hr =
+    without-length (natAbs (cond (ltZ (pos l) (pos r)) (pos r) (pos l))) fs (table-distinct t) (high-there l r fs hl hr)
 
 module _ {nodes edges faces : List ℤ} {h : Head} {left right : ℤ} (p : Healable nodes edges faces h left right)
     (row : Edge) (el : row .left ≡ natAbs left) (er : row .right ≡ natAbs right) (makes : Bool) where
@@ -149,38 +140,31 @@ module _ {nodes edges faces : List ℤ} {h : Head} {left right : ℤ} (p : Heala
 
   -- the faces in the terms of the tables
   abbrev facesLeft : List ℕ
-  facesLeft =
-      cond makes (withoutFace (row .right) (withoutFace (row .left) (facesOf faces (natAbs (h .faces))))
-      ++ faceKept makes row (mapOf (lent nodes edges faces h)) ∷ [])
-      (withoutFace (natAbs (cond (ltZ (pos (row .left)) (pos (row .right))) (pos (row .right)) (pos (row .left))))
-      (facesOf faces (natAbs (h .faces))))
+  facesLeft = healFaces makes (pos (row .left)) (pos (row .right))
+      (faceKept makes row (mapOf (lent nodes edges faces h))) (facesOf faces (natAbs (h .faces)))
 
-  faces-are : healed makes row (mapOf (lent nodes edges faces h)) .faces ≡ facesLeft
+  faces-are : mergedSides makes row (mapOf (lent nodes edges faces h)) .faces ≡ facesLeft
   unfolding mapOf
   faces-are =
       stays (row .left) (row .right) sides-differ makes (natAbs (h .«next_face»)) (facesOf faces (natAbs (h .faces)))
       (λ e. let k = p .left-below in let j = el in omega arith)
       (λ e. let k = p .right-below in let j = er in omega arith)
 
-  head-is : headOf (healed makes row (mapOf (lent nodes edges faces h)))
+  head-is : headOf (mergedSides makes row (mapOf (lent nodes edges faces h)))
       ≡ changedHead h (counts 0 0 0) (counts 0 0 1) (counts 0 0 (bit makes))
   unfolding mapOf renamedFaces
   head-is =
       let ns = nodesOf nodes (natAbs (h .nodes)) in
       let es = edgesOf edges (natAbs (h .edges)) in
       let f = faceKept makes row (mapOf (lent nodes edges faces h)) in
-      let held = p .held in
       let long = faces-length faces (natAbs (h .faces)) in
       let n = length-map ns (λ n. renamedNode row f n (n .face)) ∙ nodes-length nodes (natAbs (h .nodes)) in
       let e = length-map es (λ r. withSides (renamed row f (r .left)) (renamed row f (r .right)) r)
       ∙ edges-length edges (natAbs (h .edges)) in
-      let k = ap length faces-are
-      ∙ one-less makes (row .left) (row .right) f (natAbs (h .faces)) (held .face-table) long sides-differ there-left
-      there-right in
-      let some = without-length (row .left) (facesOf faces (natAbs (h .faces))) (table-distinct (held .face-table))
-      there-left in
-      head-changed h (healed makes row (mapOf (lent nodes edges faces h))) (counts 0 0 0) (counts 0 0 1)
-      (counts 0 0 (bit makes)) (omega (arith, n)) (omega (arith, e)) (omega (arith, k, some, long)) refl refl refl
+      let k = ap length faces-are in
+      let less = one-less makes (row .left) (row .right) f (p .held .face-table) sides-differ there-left there-right in
+      head-changed h (mergedSides makes row (mapOf (lent nodes edges faces h))) (counts 0 0 0) (counts 0 0 1)
+      (counts 0 0 (bit makes)) (omega (arith, n)) (omega (arith, e)) (omega (arith, k, less, long)) refl refl refl
 
   -- what the functions below leave, in the map's terms
   pub healed-holds : (f : ℕ) → f ≡ faceKept makes row (mapOf (lent nodes edges faces h))
@@ -189,11 +173,9 @@ module _ {nodes edges faces : List ℤ} {h : Head} {left right : ℤ} (p : Heala
       ≡ nodes′
       → filled (length edges) (flatMap edgeCells (renamedFaces row f (mapOf (lent nodes edges faces h)) .edges))
       ≡ edges′
-      → facesIn (length faces) (cond makes
-      (withoutFace (natAbs right) (withoutFace (natAbs left) (facesOf faces (natAbs (h .faces)))) ++ f ∷ [])
-      (withoutFace (natAbs (cond (ltZ left right) right left)) (facesOf faces (natAbs (h .faces))))) ≡ faces′
+      → facesIn (length faces) (healFaces makes left right f (facesOf faces (natAbs (h .faces)))) ≡ faces′
       → h′ ≡ changedHead h (counts 0 0 0) (counts 0 0 1) (counts 0 0 (bit makes))
-      → Holds nodes edges faces (healed makes row (mapOf (lent nodes edges faces h))) nodes′ edges′ faces′ h′
+      → TablesOf nodes edges faces (mergedSides makes row (mapOf (lent nodes edges faces h))) nodes′ edges′ faces′ h′
   healed-holds f ef nodes′ edges′ faces′ h′ en ee efs eh =
       let m = mapOf (lent nodes edges faces h) in
       record {
@@ -203,10 +185,8 @@ module _ {nodes edges faces : List ℤ} {h : Head} {left right : ℤ} (p : Heala
             ∙ ee;
         face-cells =
             ap (facesIn (length faces)) faces-are
-            ∙ (λ i. facesIn (length faces)
-            (cond makes (withoutFace (er i) (withoutFace (el i) (facesOf faces (natAbs (h .faces)))) ++ sym ef i ∷ [])
-            (withoutFace (natAbs (cond (ltZ (row-left i) (row-right i)) (row-right i) (row-left i)))
-            (facesOf faces (natAbs (h .faces))))))
+            ∙ (λ i. facesIn (length faces) (healFaces makes (row-left i) (row-right i) (sym ef i)
+            (facesOf faces (natAbs (h .faces)))))
             ∙ efs;
         head = head-is ∙ sym eh;
       }

@@ -40,7 +40,7 @@ use Rattle.map_rows.proofs.RowCurves.{edge-few}
 use Rattle.darts.specs.Positions.{dartAt, reverseOf, sidePlace}
 use Rattle.darts.proofs.Positions.{dart-even, dart-odd, dart-reverse}
 use Rattle.face_relabel.specs.declared.Sides.{Sides}
-use Rattle.face_relabel.specs.Sharing.{Shared, sharesOf, nodeShared, edgeShared}
+use Rattle.face_relabel.specs.Sharing.{ShareableFace, sharesOf, nodeShared, edgeShared}
 use Rattle.face_relabel.proofs.Rings.{ring-same}
 use Rattle.face_rows.specs.Holds.{sharesIn}
 use Rattle.face_rows.proofs.Renames.{sides-wide}
@@ -245,7 +245,7 @@ edge-step p rest a u v x e w =
 
 -- ---- what the sweeps leave
 
-module _ (nodes : List ℤ) (n : ℕ) (edges : List ℤ) (e : ℕ) (s : Sides) (h : Shared nodes n edges e s)
+module _ (nodes : List ℤ) (n : ℕ) (edges : List ℤ) (e : ℕ) (s : Sides) (h : ShareableFace nodes n edges e s)
     (cells : filled (length nodes) (flatMap nodeCells (nodesOf nodes n)) ≡ nodes) where
   abbrev turned : Node → Node
   turned x = sideOfNode (mapWith (nodesOf nodes n) (edgesOf edges e) [] 0 0 0) (sharesOf nodes n edges e s (s .ring)) x
@@ -278,7 +278,7 @@ module _ (nodes : List ℤ) (n : ℕ) (edges : List ℤ) (e : ℕ) (s : Sides) (
         (sharesOf nodes n edges e s (s .ring)) x (x .face)
 
     -- the same is asked of the tables with the nodes shared out
-    pub shared-after : Shared nodes′ n edges e s
+    pub shared-after : ShareableFace nodes′ n edges e s
     shared-after =
         record {
           nodes = node-rows-after turned turned-number turned-at (h .nodes) cells after;
@@ -371,13 +371,14 @@ module _ (nodes : List ℤ) (n : ℕ) (edges : List ℤ) (e : ℕ) (s : Sides) (
 
 -- ---- any map that has these rows
 
-module _ (nodes : List ℤ) (n : ℕ) (edges : List ℤ) (e : ℕ) (s : Sides) (h : Shared nodes n edges e s)
+module _ (nodes : List ℤ) (n : ℕ) (edges : List ℤ) (e : ℕ) (s : Sides) (h : ShareableFace nodes n edges e s)
     (cells : filled (length nodes) (flatMap nodeCells (nodesOf nodes n)) ≡ nodes)
     (full : filled (length edges) (flatMap edgeCells (edgesOf edges e)) ≡ edges)
     (nodes′ edges′ : List ℤ) (is : nodes′ ≡ sweep (nodeShared nodes n edges e s) nodes 0 n)
     (eq : edges′ ≡ sweep (edgeShared nodes′ n edges e s (reverseOf (s .ring))) edges 0 (e * 2))
     (m : Map) (en : m .nodes ≡ nodesOf nodes n) (ee : m .edges ≡ edgesOf edges e) where
-  whole-is : mapWith (nodesOf nodes n) (edgesOf edges e) (m .faces) (m .next .nodes) (m .next .edges) (m .next .faces) ≡ m
+  whole-is : mapWith (nodesOf nodes n) (edgesOf edges e) (m .faces) (m .next .nodes) (m .next .edges) (m .next .faces)
+      ≡ m
   whole-is = λ i. mapWith (sym en i) (sym ee i) (m .faces) (m .next .nodes) (m .next .edges) (m .next .faces)
 
   pub shared-nodes : filled (length nodes)

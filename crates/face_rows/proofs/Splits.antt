@@ -17,10 +17,11 @@ use Rattle.planar_maps.specs.Map.{Dart, fwd, bwd}
 use Rattle.tables.specs.Tables.{filled}
 use Rattle.plane.specs.Areas.{isPositive}
 use Rattle.map.specs.declared.Head.{Head}
+use Rattle.map.specs.declared.Variant.{Variant}
 use Rattle.map.specs.Rows.{Edge, Map, mapOf, headOf, nodeCells, edgeCells, edge, setFaces, given, counts}
 use Rattle.map.specs.Darts.{bears, course, ring}
 use Rattle.map.specs.Faces.{ringArea}
-use Rattle.map.specs.Edits.{Shares, sideOfNode, sideOfDart, withSides, sharedOut, splitFace}
+use Rattle.map.specs.Edits.{isNew, Shares, sideOfNode, sideOfDart, withSides, sharedOut, splitFace}
 use Rattle.map_rows.specs.Rows.{nodesOf, edgesOf, facesOf, edgeAt, edgeMap}
 use Rattle.map_rows.proofs.Rows.{nodes-length, edges-length, faces-length}
 use Rattle.head.specs.Heads.{changedHead}
@@ -30,8 +31,8 @@ use Rattle.darts.specs.Positions.{dartAt}
 use Rattle.darts.proofs.Positions.{dart-even, dart-odd, edge-of}
 use Rattle.form_ranges.specs.Ranges.{lent}
 use Rattle.face_relabel.specs.declared.Sides.{Sides}
-use Rattle.face_relabel.specs.Sharing.{Shared}
-use Rattle.face_rows.specs.Holds.{facesIn, FaceTable, withoutFace, Splittable, Holds, sharesIn, sidesOf}
+use Rattle.face_relabel.specs.Sharing.{ShareableFace}
+use Rattle.face_rows.specs.Holds.{facesIn, FaceTable, withoutFace, Splittable, TablesOf, sharesIn, sidesOf}
 use Rattle.face_rows.specs.Holds.{splitFaces}
 use Rattle.face_rows.proofs.FaceRows.{table-distinct, without-length}
 use Rattle.face_rows.proofs.Shares.{ring-any}
@@ -52,6 +53,9 @@ module _ {nodes edges faces : List ℤ} {h : Head} {old : ℤ} (p : Splittable n
 
   abbrev number : ℕ
   number = edgeAt edges last .number
+
+  pub old-natural : old ≡ pos (natAbs old)
+  old-natural = p .borne ∙ ap (λ (z : ℤ). pos (natAbs z)) (sym (p .borne))
 
   below : last < natAbs (h .edges)
   below = let k = p .drawn in omega arith
@@ -92,11 +96,11 @@ module _ {nodes edges faces : List ℤ} {h : Head} {old : ℤ} (p : Splittable n
   splitBy o isLeft goes = setFaces (facesBy o goes)
       (given (counts 0 0 (cond goes 2 1)) (sharedOut (sharesBy o isLeft goes) drawn))
 
-  split-by : (news : Bool) → splitFace news number drawn
+  split-by : (how : Variant) → splitFace how number drawn
       ≡ splitBy (bears drawn (fwd number)) (isPositive (sgn (ringArea drawn (ring drawn (fwd number)))))
-      (news && not (same (bears drawn (fwd number)) 0))
+      (isNew how && not (same (bears drawn (fwd number)) 0))
   unfolding splitFace
-  split-by news = refl
+  split-by how = refl
 
   -- the shares in the terms of the tables
   shares-are : (isLeft goes : Bool) → sharesBy (natAbs old) isLeft goes
@@ -146,8 +150,9 @@ module _ {nodes edges faces : List ℤ} {h : Head} {old : ℤ} (p : Splittable n
       (omega (arith, n)) (omega (arith, e)) (omega (arith, f)) refl refl refl
 
   -- what the functions below leave, in the map's terms
-  pub split-holds : (news isLeft goes : Bool) → isPositive (sgn (ringArea drawn (ring drawn (fwd number)))) ≡ isLeft
-      → news && not (same (natAbs old) 0) ≡ goes
+  pub split-holds : (how : Variant) (isLeft goes : Bool) → isPositive (sgn (ringArea drawn (ring drawn (fwd number))))
+      ≡ isLeft
+      → isNew how && not (same (natAbs old) 0) ≡ goes
       → (s : Sides) → s ≡ sidesOf isLeft goes (last * 2) old (h .«next_face»)
       → (nodes′ edges′ faces′ : List ℤ) (h′ : Head)
       → filled (length nodes) (flatMap nodeCells (sharedOut (sharesIn drawn (dartAt edges (s .ring)) s) drawn .nodes))
@@ -157,14 +162,14 @@ module _ {nodes edges faces : List ℤ} {h : Head} {old : ℤ} (p : Splittable n
       → facesIn (length faces) (splitFaces goes (natAbs old) (natAbs (h .«next_face»))
       (facesOf faces (natAbs (h .faces)))) ≡ faces′
       → h′ ≡ changedHead h (counts 0 0 1) (counts 0 0 0) (counts 0 0 (cond goes 2 1))
-      → Holds nodes edges faces (splitFace news number drawn) nodes′ edges′ faces′ h′
-  split-holds news isLeft goes il ig s es nodes′ edges′ faces′ h′ en ee ef eh =
-      let same-map : splitBy (natAbs old) isLeft goes ≡ splitFace news number drawn =
-      sym (split-by news ∙ (λ i. splitBy (borne-is i) (il i) (news && not (same (borne-is i) 0)))
+      → TablesOf nodes edges faces (splitFace how number drawn) nodes′ edges′ faces′ h′
+  split-holds how isLeft goes il ig s es nodes′ edges′ faces′ h′ en ee ef eh =
+      let same-map : splitBy (natAbs old) isLeft goes ≡ splitFace how number drawn =
+      sym (split-by how ∙ (λ i. splitBy (borne-is i) (il i) (isNew how && not (same (borne-is i) 0)))
       ∙ ap (splitBy (natAbs old) isLeft) ig) in
       let told : sharesBy (natAbs old) isLeft goes ≡ sharesIn drawn (dartAt edges (s .ring)) s = shares-are isLeft goes
       ∙ ap (λ (x : Sides). sharesIn drawn (dartAt edges (x .ring)) x) (sym es) in
-      subst (λ (k : Map). Holds nodes edges faces k nodes′ edges′ faces′ h′) same-map
+      subst (λ (k : Map). TablesOf nodes edges faces k nodes′ edges′ faces′ h′) same-map
       (record {
         node-cells = ap (λ (x : Shares). filled (length nodes) (flatMap nodeCells (sharedOut x drawn .nodes))) told
             ∙ en;
@@ -176,10 +181,11 @@ module _ {nodes edges faces : List ℤ} {h : Head} {old : ℤ} (p : Splittable n
 
   -- what is asked when the face is shared out
   pub sides-shared : (isLeft goes : Bool)
-      → Shared nodes (natAbs (h .nodes)) edges (natAbs (h .edges)) (sidesOf isLeft goes (last * 2) old (h .«next_face»))
+      → ShareableFace nodes (natAbs (h .nodes)) edges (natAbs (h .edges))
+      (sidesOf isLeft goes (last * 2) old (h .«next_face»))
   sides-shared isLeft goes =
       let k = p .held in
-      let o = is-natural old (p .borne ∙ ap (λ (z : ℤ). pos (natAbs z)) (sym (p .borne))) in
+      let o = is-natural old old-natural in
       let a = is-natural (h .«next_face») (k .counted .next-face .natural) in
       let natural : ℤ → Type 0 = λ z. nonNeg z ≡ true in
       let b = cond-has natural goes {x = pos (natAbs (h .«next_face») + 1)} refl o in

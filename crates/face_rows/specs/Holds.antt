@@ -2,15 +2,16 @@
 use mathlib.Core.Path.{_≡_}
 use mathlib.Core.Bool.{Bool, true, cond, not, _&&_, _||_}
 use mathlib.Core.List.{List, [], _∷_, _++_, flatMap}
-use Prim.Native.Nat.{ℕ, suc, _+_, _-_, _≤_, _<_, min}
+use Prim.Native.Nat.{ℕ, suc, _+_, _*_, _-_, _/_, _≤_, _<_, min}
 use lib.IntN.{ℤ, pos, natAbs}
 use lib.ListN.{length}
+use lib.Signed.{nonNeg, ltZ}
 use Rattle.lists.specs.Tests.{same, bit}
 use Rattle.lists.specs.Scans.{anyOf, allOf, keep}
 use Rattle.planar_maps.specs.Map.{Dart, rev}
 use Rattle.tables.specs.Tables.{filled, numbered}
 use Rattle.map.specs.declared.Head.{Head}
-use Rattle.map.specs.Limits.{lastNumber}
+use Rattle.map.specs.Limits.{lastNumber, faceWidth}
 use Rattle.map.specs.Rows.{Edge, Map, nodeCells, edgeCells, faceCells, headOf, hasNode, setFaces, given, counts}
 use Rattle.map.specs.Darts.{ring}
 use Rattle.map.specs.Edits.{Shares, renamed, renamedFaces}
@@ -19,22 +20,50 @@ use Rattle.head.specs.Heads.{Counted}
 use Rattle.face_relabel.specs.declared.Sides.{Sides}
 use Rattle.face_relabel.specs.Sharing.{Ringed}
 
--- the faces in a table of N numbers: from the front, zeros behind
+-- ---- the face table
+
+-- the faces in a table of n numbers: from the front, zeros behind
 abbrev pub facesIn : ℕ → List ℕ → List ℤ
-facesIn N fs = filled N (flatMap faceCells fs)
+facesIn n fs = filled n (flatMap faceCells fs)
 
 -- the table holds the faces, in rising order
-pub record FaceTable (N : ℕ) (fs : List ℕ) (l : List ℤ) : Type 0 where
-  pub cells : facesIn N fs ≡ l
+pub record FaceTable (n : ℕ) (fs : List ℕ) (l : List ℤ) : Type 0 where
+  pub cells : facesIn n fs ≡ l
   pub rising : numbered 0 (suc lastNumber) fs ≡ true
-  pub fits : length fs ≤ N
+  pub fits : length fs * faceWidth ≤ n
 
 -- the faces but one
 abbrev pub withoutFace : ℕ → List ℕ → List ℕ
 withoutFace f fs = keep (λ g. not (same g f)) fs
 
+-- the rows in use end with zeros behind them, and there is room for a row more
+pub record Extendable (l : List ℤ) (count : ℕ) : Type 0 where
+  pub cells : facesIn (length l) (facesOf l count) ≡ l
+  pub room : count * faceWidth + faceWidth ≤ length l
+
+-- `old` is a face of the table, `a` may be the number of a new one, and there is room for a row more
+pub record RowSplittable (l : List ℤ) (count : ℕ) (old a : ℤ) : Type 0 where
+  pub table : FaceTable (length l) (facesOf l count) l
+  pub there : anyOf (same (natAbs old)) (facesOf l count) ≡ true
+  pub room : count * faceWidth + faceWidth ≤ length l
+  pub old-natural : nonNeg old ≡ true
+  pub natural : nonNeg a ≡ true
+  pub most : natAbs a ≤ suc lastNumber
+
+-- left and right are two faces of the table, and `face` is a number
+pub record RowsHealable (l : List ℤ) (count : ℕ) (left right face : ℤ) : Type 0 where
+  pub table : FaceTable (length l) (facesOf l count) l
+  pub left-there : anyOf (same (natAbs left)) (facesOf l count) ≡ true
+  pub right-there : anyOf (same (natAbs right)) (facesOf l count) ≡ true
+  pub left-natural : nonNeg left ≡ true
+  pub right-natural : nonNeg right ≡ true
+  pub natural : nonNeg face ≡ true
+  pub differ : natAbs left ≡ natAbs right → ⊥
+
+-- ---- all three tables
+
 -- rows in use, zeros behind, as many rows as the head counts
-pub record Held (nodes edges faces : List ℤ) (h : Head) : Type 0 where
+pub record MapTables (nodes edges faces : List ℤ) (h : Head) : Type 0 where
   pub node-rows : NodeRows nodes (natAbs (h .nodes))
   pub edge-rows : EdgeRows edges (natAbs (h .edges))
   pub node-cells : filled (length nodes) (flatMap nodeCells (nodesOf nodes (natAbs (h .nodes)))) ≡ nodes
@@ -44,18 +73,18 @@ pub record Held (nodes edges faces : List ℤ) (h : Head) : Type 0 where
 
 -- the last edge is drawn inside the face `old`, and there is room for a face more
 pub record Splittable (nodes edges faces : List ℤ) (h : Head) (old : ℤ) : Type 0 where
-  pub held : Held nodes edges faces h
+  pub held : MapTables nodes edges faces h
   pub drawn : 1 ≤ natAbs (h .edges)
   pub ends : allOf (λ r. hasNode (nodeMap nodes (natAbs (h .nodes))) (r .start)
       && hasNode (nodeMap nodes (natAbs (h .nodes))) (r .end)) (edgesOf edges (natAbs (h .edges))) ≡ true
   pub rings : Ringed edges (natAbs (h .edges))
   pub borne : old ≡ pos (edgeAt edges (natAbs (h .edges) - 1) .left)
   pub there : anyOf (same (natAbs old)) (facesOf faces (natAbs (h .faces))) ≡ true
-  pub room : natAbs (h .faces) < length faces
+  pub room : natAbs (h .faces) < length faces / faceWidth
 
 -- left and right are two faces
 pub record Healable (nodes edges faces : List ℤ) (h : Head) (left right : ℤ) : Type 0 where
-  pub held : Held nodes edges faces h
+  pub held : MapTables nodes edges faces h
   pub left-face : left ≡ pos (natAbs left)
   pub right-face : right ≡ pos (natAbs right)
   pub left-there : anyOf (same (natAbs left)) (facesOf faces (natAbs (h .faces))) ≡ true
@@ -65,7 +94,7 @@ pub record Healable (nodes edges faces : List ℤ) (h : Head) (left right : ℤ)
   pub differ : natAbs left ≡ natAbs right → ⊥
 
 -- tables as long as those before, and the head, are those of the map
-pub record Holds (nodes edges faces : List ℤ) (m : Map) (nodes′ edges′ faces′ : List ℤ) (h′ : Head) : Type 0 where
+pub record TablesOf (nodes edges faces : List ℤ) (m : Map) (nodes′ edges′ faces′ : List ℤ) (h′ : Head) : Type 0 where
   pub node-cells : filled (length nodes) (flatMap nodeCells (m .nodes)) ≡ nodes′
   pub edge-cells : filled (length edges) (flatMap edgeCells (m .edges)) ≡ edges′
   pub face-cells : facesIn (length faces) (m .faces) ≡ faces′
@@ -97,13 +126,18 @@ sidesOf isLeft goes p old a =
 abbrev pub splitFaces : Bool → ℕ → ℕ → List ℕ → List ℕ
 splitFaces goes old a fs = cond goes (withoutFace old fs ++ a ∷ (a + 1) ∷ []) (fs ++ a ∷ [])
 
+-- the faces after a heal: face for both, or the lower alone
+abbrev pub healFaces : Bool → ℤ → ℤ → ℕ → List ℕ → List ℕ
+healFaces makes left right face fs = cond makes (withoutFace (natAbs right) (withoutFace (natAbs left) fs) ++ face ∷ [])
+    (withoutFace (natAbs (cond (ltZ left right) right left)) fs)
+
 -- the face that is left of the two sides of a row: a new one, or the lower
 abbrev pub faceKept : Bool → Edge → Map → ℕ
 faceKept makes row m = cond makes (m .next .faces) (min (row .left) (row .right))
 
 -- both sides of a row become one face: `removeEdge` but for the edge, which is still drawn
-abbrev pub healed : Bool → Edge → Map → Map
-healed makes row m =
+abbrev pub mergedSides : Bool → Edge → Map → Map
+mergedSides makes row m =
     let f = faceKept makes row m in
     let left = keep (λ g. same g (renamed row f g)) (m .faces) in
     setFaces (cond makes (left ++ f ∷ []) left) (given (counts 0 0 (bit makes)) (renamedFaces row f m))

@@ -3,33 +3,42 @@ use face_relabel::Sides;
 use lists::Found;
 use map::Counts;
 use map::Head;
+use map::Variant;
 use outcomes::Done;
 ghost use mathlib.Core.Path.{_≡_};
-ghost use mathlib.Core.Bool.{true, cond};
+ghost use mathlib.Core.Bool.{true, cond, not, _&&_};
 ghost use mathlib.Core.List.{[], _∷_, _++_, flatMap};
 ghost use Prim.Native.Nat.{suc, _+_, _*_, _-_, _≤_, _<_, min};
 ghost use lib.IntN.{pos, natAbs};
 ghost use lib.ListN.{length};
-ghost use lib.Signed.{nonNeg, ltZ};
+ghost use lib.Signed.{nonNeg};
 ghost use Rattle.integers.specs.Order.{sgn};
 ghost use Rattle.lists.specs.Tests.{same, bit};
-ghost use Rattle.lists.specs.Scans.{anyOf};
 ghost use Rattle.tables.specs.Tables.{filled};
 ghost use Rattle.plane.specs.Areas.{isPositive};
 ghost use Rattle.map.specs.Limits.{maxEdges, lastNumber};
 ghost use Rattle.map.specs.Rows.{Edge, Map, nodeCells, edgeCells, mapOf, counts};
 ghost use Rattle.map.specs.Darts.{ring};
 ghost use Rattle.map.specs.Faces.{ringArea};
-ghost use Rattle.map.specs.Edits.{sharedOut, splitFace, renamedFaces};
-ghost use Rattle.map_rows.specs.Rows.{NodeRows, EdgeRows, nodesOf, edgesOf, edgeAt, edgeMap};
+ghost use Rattle.map.specs.Edits.{isNew, sharedOut, splitFace, renamedFaces};
+ghost use Rattle.map_rows.specs.Rows.{NodeRows, EdgeRows, nodesOf, edgesOf, facesOf, edgeAt, edgeMap};
 ghost use Rattle.head.specs.Heads.{Counted, changedHead};
 ghost use Rattle.darts.specs.Positions.{dartAt};
 ghost use Rattle.form_ranges.specs.Ranges.{lent};
-ghost use Rattle.face_relabel.specs.Sharing.{Shared, Ringed};
-ghost use Rattle.face_rows.specs.Holds.{facesIn, FaceTable, withoutFace, Splittable, Healable, Holds, sharesIn};
-ghost use Rattle.face_rows.specs.Holds.{sidesOf, splitFaces, faceKept, healed};
+ghost use Rattle.face_relabel.specs.Sharing.{ShareableFace, Ringed};
+ghost use Rattle.face_rows.specs.Holds.{facesIn, FaceTable, withoutFace, Extendable, RowSplittable, RowsHealable};
+ghost use Rattle.face_rows.specs.Holds.{Splittable, Healable, TablesOf, sharesIn, sidesOf, splitFaces, healFaces};
+ghost use Rattle.face_rows.specs.Holds.{faceKept, mergedSides};
 
 // ---- leaves
+
+// The old face goes: it takes new numbers, and is not face 0.
+fn face_goes(how: Variant, old: i64) -> bool
+    requires { ⌜ old ≡ pos (natAbs old) ⌝ }
+    ensures { λ r. ⌜ r ≡ (isNew how && not (same (natAbs old) 0)) ⌝ }
+{
+    outcomes::is_new(how) & (old != 0)
+}
 
 // One of two numbers.
 fn select(first: bool, a: i64, b: i64) -> i64
@@ -68,9 +77,9 @@ fn without_face(h: Head, makes: bool) -> Head
 
 // The face's row goes, where it has one.
 fn remove_face(faces: &mut [i64], count: usize, face: i64)
-    requires { ⌜ ((n : _) × (fs : _) × FaceTable n fs (now faces) × (length fs ≡ count)) × (nonNeg face ≡ true) ⌝ }
-    ensures { λ r. ⌜ ((n : _) (fs : _) → FaceTable n fs (now (faces .entry)) → length fs ≡ count
-        → FaceTable n (withoutFace (natAbs face) fs) (now (faces .exit))) ⌝ }
+    requires { ⌜ FaceTable (length (now faces)) (facesOf (now faces) count) (now faces) × (nonNeg face ≡ true) ⌝ }
+    ensures { λ r. ⌜ FaceTable (length (now (faces .entry)))
+        (withoutFace (natAbs face) (facesOf (now (faces .entry)) count)) (now (faces .exit)) ⌝ }
 {
     let found = tables::find_row(faces, map::FACE_WIDTH, count, face);
     match found {
@@ -81,22 +90,18 @@ fn remove_face(faces: &mut [i64], count: usize, face: i64)
 
 // A face after the last.
 fn push_face(faces: &mut [i64], count: usize, face: i64)
-    requires { ⌜ ((n : _) × (fs : _) × (facesIn n fs ≡ now faces) × (length fs ≡ count) × (count < n))
-        × (nonNeg face ≡ true) ⌝ }
-    ensures { λ r. ⌜ ((n : _) (fs : _) → facesIn n fs ≡ now (faces .entry) → length fs ≡ count → count < n
-        → facesIn n (fs ++ natAbs face ∷ []) ≡ now (faces .exit)) ⌝ }
+    requires { ⌜ Extendable (now faces) count × (nonNeg face ≡ true) ⌝ }
+    ensures { λ r. ⌜ facesIn (length (now (faces .entry))) (facesOf (now (faces .entry)) count ++ natAbs face ∷ [])
+        ≡ now (faces .exit) ⌝ }
 {
-    faces[count] = face;
+    faces[count * map::FACE_WIDTH] = face;
 }
 
 // The faces after a split: `a` and the number after it for the old face, or `a` beside it.
 fn split_row(faces: &mut [i64], count: usize, old: i64, a: i64, goes: bool)
-    requires { ⌜ ((n : _) × (fs : _) × FaceTable n fs (now faces) × (length fs ≡ count) × (count < n)
-        × (anyOf (same (natAbs old)) fs ≡ true)) × (nonNeg old ≡ true) × (nonNeg a ≡ true)
-        × (natAbs a ≤ suc lastNumber) ⌝ }
-    ensures { λ r. ⌜ ((n : _) (fs : _) → FaceTable n fs (now (faces .entry)) → length fs ≡ count → count < n
-        → anyOf (same (natAbs old)) fs ≡ true → facesIn n (splitFaces goes (natAbs old) (natAbs a) fs)
-        ≡ now (faces .exit)) ⌝ }
+    requires { ⌜ RowSplittable (now faces) count old a ⌝ }
+    ensures { λ r. ⌜ facesIn (length (now (faces .entry)))
+        (splitFaces goes (natAbs old) (natAbs a) (facesOf (now (faces .entry)) count)) ≡ now (faces .exit) ⌝ }
 {
     if goes {
         remove_face(faces, count, old);
@@ -109,13 +114,9 @@ fn split_row(faces: &mut [i64], count: usize, old: i64, a: i64, goes: bool)
 
 // The faces after a heal: `face` for both, or the lower alone.
 fn heal_row(faces: &mut [i64], count: usize, left: i64, right: i64, face: i64, makes: bool)
-    requires { ⌜ ((n : _) × (fs : _) × FaceTable n fs (now faces) × (length fs ≡ count)
-        × (anyOf (same (natAbs left)) fs ≡ true) × (anyOf (same (natAbs right)) fs ≡ true)) × (nonNeg left ≡ true)
-        × (nonNeg right ≡ true) × (nonNeg face ≡ true) × (natAbs left ≡ natAbs right → ⊥) ⌝ }
-    ensures { λ r. ⌜ ((n : _) (fs : _) → FaceTable n fs (now (faces .entry)) → length fs ≡ count
-        → anyOf (same (natAbs left)) fs ≡ true → anyOf (same (natAbs right)) fs ≡ true
-        → facesIn n (cond makes (withoutFace (natAbs right) (withoutFace (natAbs left) fs) ++ natAbs face ∷ [])
-        (withoutFace (natAbs (cond (ltZ left right) right left)) fs)) ≡ now (faces .exit)) ⌝ }
+    requires { ⌜ RowsHealable (now faces) count left right face ⌝ }
+    ensures { λ r. ⌜ facesIn (length (now (faces .entry)))
+        (healFaces makes left right (natAbs face) (facesOf (now (faces .entry)) count)) ≡ now (faces .exit) ⌝ }
 {
     if makes {
         remove_face(faces, count, left);
@@ -151,7 +152,7 @@ fn sides_of(edges: &[i64], count: usize, old: i64, a: i64, goes: bool) -> Sides
 
 // All rows that named the old face.
 fn share_rows(nodes: &mut [i64], n: usize, edges: &mut [i64], count: usize, s: Sides)
-    requires { ⌜ Shared (now nodes) n (now edges) count s × Ringed (now edges) count
+    requires { ⌜ ShareableFace (now nodes) n (now edges) count s × Ringed (now edges) count
         × (filled (length (now nodes)) (flatMap nodeCells (nodesOf (now nodes) n)) ≡ now nodes)
         × (filled (length (now edges)) (flatMap edgeCells (edgesOf (now edges) count)) ≡ now edges) ⌝ }
     ensures { λ r. ⌜ ((m : Map) → m .nodes ≡ nodesOf (now (nodes .entry)) n → m .edges
@@ -172,21 +173,21 @@ pub fn split_face(
     edges: &mut [i64],
     faces: &mut [i64],
     h: Head,
-    news: bool,
+    how: Variant,
     old: i64,
 ) -> Head
     requires { ⌜ Splittable (now nodes) (now edges) (now faces) h old ⌝ }
-    ensures { λ r. ⌜ Holds (now (nodes .entry)) (now (edges .entry)) (now (faces .entry))
-        (splitFace news (edgeAt (now (edges .entry)) (natAbs (h .edges) - 1) .number)
+    ensures { λ r. ⌜ TablesOf (now (nodes .entry)) (now (edges .entry)) (now (faces .entry))
+        (splitFace how (edgeAt (now (edges .entry)) (natAbs (h .edges) - 1) .number)
         (mapOf (lent (now (nodes .entry)) (now (edges .entry)) (now (faces .entry)) h))) (now (nodes .exit))
         (now (edges .exit)) (now (faces .exit)) r ⌝ }
 {
-    let e = head::to_usize(h.edges);
+    let n = head::counts_of(h);
     let a = h.next_face;
-    let goes = news & (old != 0);
-    let s = sides_of(edges, e, old, a, goes);
-    share_rows(nodes, head::to_usize(h.nodes), edges, e, s);
-    split_row(faces, head::to_usize(h.faces), old, a, goes);
+    let goes = face_goes(how, old);
+    let s = sides_of(edges, n.edges, old, a, goes);
+    share_rows(nodes, n.nodes, edges, n.edges, s);
+    split_row(faces, n.faces, old, a, goes);
     with_face(h, goes)
 }
 
@@ -236,22 +237,15 @@ pub fn heal_faces(
 ) -> Done
     requires { ⌜ Healable (now nodes) (now edges) (now faces) h left right ⌝ }
     ensures { λ r. ⌜ ((row : Edge) → row .left ≡ natAbs left → row .right ≡ natAbs right
-        → Holds (now (nodes .entry)) (now (edges .entry)) (now (faces .entry))
-        (healed makes row (mapOf (lent (now (nodes .entry)) (now (edges .entry)) (now (faces .entry)) h)))
+        → TablesOf (now (nodes .entry)) (now (edges .entry)) (now (faces .entry))
+        (mergedSides makes row (mapOf (lent (now (nodes .entry)) (now (edges .entry)) (now (faces .entry)) h)))
         (now (nodes .exit)) (now (edges .exit)) (now (faces .exit)) (r .head)
         × (r .answer .value ≡ pos (faceKept makes row
         (mapOf (lent (now (nodes .entry)) (now (edges .entry)) (now (faces .entry)) h))))) ⌝ }
 {
+    let n = head::counts_of(h);
     let face = face_left(h.next_face, left, right, makes);
-    rename_faces(
-        nodes,
-        head::to_usize(h.nodes),
-        edges,
-        head::to_usize(h.edges),
-        left,
-        right,
-        face,
-    );
-    heal_row(faces, head::to_usize(h.faces), left, right, face, makes);
+    rename_faces(nodes, n.nodes, edges, n.edges, left, right, face);
+    heal_row(faces, n.faces, left, right, face, makes);
     outcomes::carried(without_face(h, makes), face)
 }

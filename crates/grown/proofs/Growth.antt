@@ -1,12 +1,12 @@
 -- A ticket that nothing turns down leaves a good map good, for all fourteen kinds; the empty map is good. Assumes
 -- nothing.
 use mathlib.Core.Path.{_≡_, refl}
-use mathlib.Core.Bool.{true, false}
 use mathlib.Core.List.{List·Memᴰ·not-nil, List·Memᴰ·eq-of-singleton}
 use native.Mathlib.Omega.{arith}
 use lib.IntN.{natAbs}
 use Rattle.curves.specs.Curves.{point, curveOf}
 use Rattle.planar_maps.proofs.Moves.{planar-empty}
+use Rattle.map.specs.declared.Variant.the-variants.{New, Mod}
 use Rattle.map.specs.Rows.{Map, Sizes, emptyMap}
 use Rattle.map.specs.Darts.{leaves, next, bears}
 use Rattle.map.specs.Tickets.{Ticket, AddIsoNode, MoveIsoNode, RemoveIsoNode, AddIsoEdge, RemoveIsoEdge, ChangeEdgeGeom}
@@ -73,13 +73,13 @@ module _ (s : Sizes) (m : Map) (g : Good m) where
       let k = split-new s m e x y h in
       record {
         planar = planar-7 m L s (natAbs e) (point x y) k o;
-        surveyed = surveyed-7 m g 2 s (natAbs e) (point x y) k;
+        surveyed = surveyed-7 m g New s (natAbs e) (point x y) k;
       }
   kept (ModEdgeSplit e x y) h =
       let k = split-mod s m e x y h in
       record {
         planar = planar-8 m L s (natAbs e) (point x y) k o;
-        surveyed = surveyed-8 m g 1 s (natAbs e) (point x y) k;
+        surveyed = surveyed-8 m g Mod s (natAbs e) (point x y) k;
       }
   kept (NewEdgeHeal e f) h =
       let k = heal-new s m e f h .0 in
@@ -90,21 +90,21 @@ module _ (s : Sizes) (m : Map) (g : Good m) where
   kept (AddEdgeNewFaces u v c) h =
       let k = add-new s m u v c h in
       record {
-        planar = planar-added true s m (natAbs u) (natAbs v) (curveOf c) g k;
-        surveyed = surveyed-add m g true s (natAbs u) (natAbs v) (curveOf c) k;
+        planar = planar-added New s m (natAbs u) (natAbs v) (curveOf c) g k;
+        surveyed = surveyed-add m g New s (natAbs u) (natAbs v) (curveOf c) k;
       }
   kept (AddEdgeModFace u v c) h =
       let k = add-mod s m u v c h in
       record {
-        planar = planar-added false s m (natAbs u) (natAbs v) (curveOf c) g k;
-        surveyed = surveyed-add m g false s (natAbs u) (natAbs v) (curveOf c) k;
+        planar = planar-added Mod s m (natAbs u) (natAbs v) (curveOf c) g k;
+        surveyed = surveyed-add m g Mod s (natAbs u) (natAbs v) (curveOf c) k;
       }
   kept (RemEdgeNewFace e) h =
       let k = remove-new s m e h .has in
-      record { planar = planar-removed true (natAbs e) m g k; surveyed = surveyed-remove m g true (natAbs e) }
+      record { planar = planar-removed New (natAbs e) m g k; surveyed = surveyed-remove m g New (natAbs e) }
   kept (RemEdgeModFace e) h =
       let k = remove-mod s m e h in
-      record { planar = planar-removed false (natAbs e) m g k; surveyed = surveyed-remove m g false (natAbs e) }
+      record { planar = planar-removed Mod (natAbs e) m g k; surveyed = surveyed-remove m g Mod (natAbs e) }
 
   -- the map after it is good
   pub good-kept : (t : Ticket) → firstReason (reasons s m t) ≡ 0 → Good (carried m t .0)

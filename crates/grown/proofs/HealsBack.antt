@@ -17,11 +17,13 @@ use Rattle.curves.specs.Curves.{Curve}
 use Rattle.curves.specs.Tests.{onCurve}
 use Rattle.planar_maps.specs.Map.{Dart, fwd, bwd, rev}
 use Rattle.planar_maps.proofs.Rings.{next-in}
+use Rattle.map.specs.declared.Variant.{Variant}
+use Rattle.map.specs.declared.Variant.the-variants.{New, Mod}
 use Rattle.map.specs.Rows.{Node, Edge, Map, edge, hasEdge, atEdge, setNodes, setEdges, given, withoutNode, withoutEdge}
 use Rattle.map.specs.Rows.{counts}
 use Rattle.map.specs.Darts.{leaves, next}
 use Rattle.map.specs.Links.{withLinks}
-use Rattle.map.specs.Edits.{startHalf, endHalf, split, joint, parts, healedCurve, heal}
+use Rattle.map.specs.Edits.{isMod, startHalf, endHalf, split, joint, parts, healedCurve, heal}
 use Rattle.map.specs.Reasons.{nodeAt}
 use Rattle.map.proofs.Laws.{edge-there}
 use Rattle.map_laws.proofs.Readings.{numberOf, nextIn, edge-at, row-has, has-dart, dart-has, next-row}
@@ -40,11 +42,12 @@ put e x r = cond (same (r .number) e) x r
 
 -- ---- a heal, by its joint n, the rows es with departures renamed, and the healed row x
 
-abbrev healedMap : Bool → ℕ → ℕ → ℕ → List Edge → Edge → Map → Map
-healedMap keeps a b n es x m =
+abbrev healedMap : Variant → ℕ → ℕ → ℕ → List Edge → Edge → Map → Map
+healedMap how a b n es x m =
     let kept = withoutEdge b (map (put a x) es) in
     let new = withoutEdge a (withoutEdge b es) ++ x ∷ [] in
-    setNodes (withoutNode n (m .nodes)) (setEdges (cond keeps kept new) (given (counts 0 (cond keeps 0 1) 0) m))
+    setNodes (withoutNode n (m .nodes))
+    (setEdges (cond (isMod how) kept new) (given (counts 0 (cond (isMod how) 0 1) 0) m))
 
 abbrev healRow : Map → ℕ → ℕ → Dart → Dart → Curve → Edge
 healRow m a h c d curve =
@@ -59,15 +62,15 @@ healRow m a h c d curve =
       curve = curve;
     }
 
-abbrev healedBy : Bool → ℕ → ℕ → ℕ → Dart → Dart → Curve → Map → Map
-healedBy keeps a b n c d curve m =
-    let h = cond keeps a (m .next .edges) in
-    healedMap keeps a b n (whole.rejoined m h c d .edges) (healRow m a h c d curve) m
+abbrev healedBy : Variant → ℕ → ℕ → ℕ → Dart → Dart → Curve → Map → Map
+healedBy how a b n c d curve m =
+    let h = cond (isMod how) a (m .next .edges) in
+    healedMap how a b n (whole.rejoined m h c d .edges) (healRow m a h c d curve) m
 
-heal-by : (keeps : Bool) (a b : ℕ) (m : Map) → heal keeps a b m
-    ≡ healedBy keeps a b (Option·getD (joint m a b) 0) (parts m a b .0) (parts m a b .1) (healedCurve m a b) m
+heal-by : (how : Variant) (a b : ℕ) (m : Map) → heal how a b m
+    ≡ healedBy how a b (Option·getD (joint m a b) 0) (parts m a b .0) (parts m a b .1) (healedCurve m a b) m
 unfolding heal atEdge
-heal-by keeps a b m = refl
+heal-by how a b m = refl
 
 -- ---- the edge e of a good map, its row and the links
 
@@ -107,18 +110,18 @@ module _ (m : Map) (e : ℕ) (g : Good m) (has : hasEdge m e ≡ true) where
       (back (r .nextRight) (link-below r k true))
 
   -- the heal of halves of e: departures are renamed, and the healed row is that of e with the number h
-  heal-is : (m′ : Map) (n a b : ℕ) (keeps : Bool) (h : ℕ)
-      → h ≡ cond keeps a (m′ .next .edges) → Rejoin m m′ e n a b → Back a b h
-      → heal keeps a b m′
-      ≡ healedMap keeps a b n (map (whole.relinked h (fwd a) (fwd b)) (m′ .edges)) (renumbered-row h) m′
-  heal-is m′ n a b keeps h is j back =
-      heal-by keeps a b m′
-      ∙ (λ i. healedBy keeps a b (Option·getD (j .joint i) 0) (j .parts i .0) (j .parts i .1) (j .curve i) m′)
+  heal-is : (m′ : Map) (n a b : ℕ) (how : Variant) (h : ℕ)
+      → h ≡ cond (isMod how) a (m′ .next .edges) → Rejoin m m′ e n a b → Back a b h
+      → heal how a b m′
+      ≡ healedMap how a b n (map (whole.relinked h (fwd a) (fwd b)) (m′ .edges)) (renumbered-row h) m′
+  heal-is m′ n a b how h is j back =
+      heal-by how a b m′
+      ∙ (λ i. healedBy how a b (Option·getD (j .joint i) 0) (j .parts i .0) (j .parts i .1) (j .curve i) m′)
       ∙ ap (λ (i : ℕ). by (whole.rejoined m′ i c d .edges) (healRow m′ a i c d (edge m e .curve))) (sym is)
       ∙ ap₂ by (whole.rejoined-edges m′ h c d) row
     where
       by : List Edge → Edge → Map
-      by es x = healedMap keeps a b n es x m′
+      by es x = healedMap how a b n es x m′
 
       c : Dart
       c = fwd a
@@ -175,7 +178,7 @@ module _ (m : Map) (e : ℕ) (p : Point) (g : Good m) (has : hasEdge m e ≡ tru
   abbrev second : Edge
   second = endHalf (relinked e e x (edge m e)) n e x p
 
-  kept-list : split true e p m .edges ≡ map (put e first) (map (relinked e e x) (m .edges)) ++ second ∷ []
+  kept-list : split Mod e p m .edges ≡ map (put e first) (map (relinked e e x) (m .edges)) ++ second ∷ []
   unfolding split atEdge
   kept-list =
       ap₂ (λ (y : Edge) (l : List Edge). map (put e (startHalf y n e x p)) l ++ endHalf y n e x p ∷ [])
@@ -216,7 +219,7 @@ module _ (m : Map) (e : ℕ) (p : Point) (g : Good m) (has : hasEdge m e ≡ tru
         ∙ ap₂ (λ (u v : Dart). withLinks u v r) (renamed-self e (r .nextLeft)) (renamed-self e (r .nextRight))
   ]
 
-  kept-edges : withoutEdge x (map back (map by-10 (split true e p m .edges))) ≡ m .edges
+  kept-edges : withoutEdge x (map back (map by-10 (split Mod e p m .edges))) ≡ m .edges
   kept-edges =
       ap (λ (l : List Edge). withoutEdge x (map back (map by-10 l))) kept-list
       ∙ ap (withoutEdge x) (map-map back by-10 (rows ++ second ∷ []))
@@ -245,16 +248,17 @@ module _ (m : Map) (e : ℕ) (p : Point) (g : Good m) (has : hasEdge m e ≡ tru
           ∙ ap not (same-refl x)
 
   -- the map is as before, but for the next numbers
-  pub kept-back : heal true e x (split true e p m) ≡ given (counts 1 1 0) m
+  pub kept-back : heal Mod e x (split Mod e p m) ≡ given (counts 1 1 0) m
   unfolding split
   kept-back =
-      heal-is m e g has (split true e p m) n e x true e refl
+      heal-is m e g has (split Mod e p m) n e x Mod e refl
       (rejoin m _ e n e x p g (kept-halves m e p (good-lawful m g) has free on)) kept-names
       ∙ (λ i. record {
         nodes = nodes-back i;
         edges = kept-edges i;
         faces = m .faces;
-        next = counts (add-zero (m .next .nodes + 1) i) (add-zero (m .next .edges + 1) i) (add-zero (m .next .faces + 0) i);
+        next = let k = m .next in
+            counts (add-zero (k .nodes + 1) i) (add-zero (k .edges + 1) i) (add-zero (k .faces + 0) i);
       })
 
   -- ---- kinds 7 and 9
@@ -265,7 +269,7 @@ module _ (m : Map) (e : ℕ) (p : Point) (g : Good m) (has : hasEdge m e ≡ tru
   abbrev rear : Edge
   rear = endHalf (relinked e x (x + 1) (edge m e)) n x (x + 1) p
 
-  new-list : split false e p m .edges ≡ withoutEdge e (map (relinked e x (x + 1)) (m .edges)) ++ front ∷ rear ∷ []
+  new-list : split New e p m .edges ≡ withoutEdge e (map (relinked e x (x + 1)) (m .edges)) ++ front ∷ rear ∷ []
   unfolding split
   new-list =
       ap₂ (λ (y : Edge) (l : List Edge). withoutEdge e l ++ startHalf y n x (x + 1) p ∷ endHalf y n x (x + 1) p ∷ [])
@@ -300,13 +304,13 @@ module _ (m : Map) (e : ℕ) (p : Point) (g : Good m) (has : hasEdge m e ≡ tru
         let q = ap (λ (z : Edge). z .number) (y .2) in
         ap not (same-false (r .number) k (λ w. omega arith))
 
-    new-edges : withoutEdge x (withoutEdge (x + 1) (map by-9 (split false e p m .edges))) ≡ others
+    new-edges : withoutEdge x (withoutEdge (x + 1) (map by-9 (split New e p m .edges))) ≡ others
     new-edges =
         ap (λ (l : List Edge). withoutEdge x (withoutEdge (x + 1) l)) listed
         ∙ ap (withoutEdge x) rear-out
         ∙ keep-last (λ r. not (same (r .number) x)) others (by-9 front) (kept-others x (omega arith)) front-out
       where
-        listed : map by-9 (split false e p m .edges) ≡ others ++ by-9 front ∷ by-9 rear ∷ []
+        listed : map by-9 (split New e p m .edges) ≡ others ++ by-9 front ∷ by-9 rear ∷ []
         listed =
             ap (map by-9) new-list
             ∙ map-append by-9 (withoutEdge e (map (relinked e x (x + 1)) (m .edges))) (front ∷ rear ∷ [])
@@ -324,10 +328,10 @@ module _ (m : Map) (e : ℕ) (p : Point) (g : Good m) (has : hasEdge m e ≡ tru
         front-out = ap not (same-refl x)
 
   -- the edge has the next number but two, its row is the last, and the links name it so
-  pub new-back : heal false x (x + 1) (split false e p m) ≡ given (counts 1 3 0) (renumbered e (x + 2) m)
+  pub new-back : heal New x (x + 1) (split New e p m) ≡ given (counts 1 3 0) (renumbered e (x + 2) m)
   unfolding split renumbered
   new-back =
-      heal-is m e g has (split false e p m) n x (x + 1) false (x + 2) refl
+      heal-is m e g has (split New e p m) n x (x + 1) New (x + 2) refl
       (rejoin m _ e n x (x + 1) p g (new-halves m e p (good-lawful m g) has free on)) (new-names (x + 2))
       ∙ (λ i. record {
         nodes = nodes-back i;

@@ -18,6 +18,7 @@ use Rattle.lists.proofs.Bools.{same-false, and-true, or-no, or-left, or-right}
 use Rattle.lists.proofs.Perms.{perm-length}
 use Rattle.plane.specs.declared.Point.{Point}
 use Rattle.curves.specs.Curves.{point, points, maxPoints}
+use Rattle.map.specs.declared.Variant.the-variants.{New, Mod}
 use Rattle.map.specs.declared.Answer.{Answer}
 use Rattle.map.specs.Limits.{lastNumber}
 use Rattle.map.specs.Rows.{Map, Lent, Sizes, mapOf, lentOf, headOf, sizesOf, whole, hasEdge, given, withoutEdge, counts}
@@ -197,11 +198,11 @@ module _ (s : Sizes) (m : Map) (g : Good m) (f : Fits s m) (e x y : ℤ) where
       o : Out s m g f t₈
       o = carried-out s m g f t₈ h
 
-      q : Split 1 s m k p
+      q : Split Mod s m k p
       q = split-mod s m e x y (o .free)
 
       m′ : Map
-      m′ = split true k p m
+      m′ = split Mod k p m
 
       j : Rejoin m m′ k (m .next .nodes) k (m .next .edges)
       j = rejoin m m′ k _ k (m .next .edges) p g (kept-halves m k p (good-lawful m g) (q .has) (q .free) (q .on))
@@ -209,7 +210,7 @@ module _ (s : Sizes) (m : Map) (g : Good m) (f : Fits s m) (e x y : ℤ) where
       reason : firstReason (healReasons m′ e (pos (m .next .edges))) ≡ 0
       reason = heal-free m m′ k (m .next .nodes) e (pos (m .next .edges)) j (plain m e _ (o .free)) refl
 
-      back : heal true k (m .next .edges) m′ ≡ given (counts 1 1 0) m
+      back : heal Mod k (m .next .edges) m′ ≡ given (counts 1 1 0) m
       back = kept-back m k p g (q .has) (q .free) (q .on)
 
   -- ---- kinds 7 and 9
@@ -224,11 +225,11 @@ module _ (s : Sizes) (m : Map) (g : Good m) (f : Fits s m) (e x y : ℤ) where
     o : Out s m g f t₇
     o = carried-out s m g f t₇ h
 
-    q : Split 2 s m k p
+    q : Split New s m k p
     q = split-new s m e x y (o .free)
 
     abbrev m′ : Map
-    m′ = split false k p m
+    m′ = split New k p m
 
     good′ : Good m′
     unfolding carried

@@ -39,6 +39,10 @@ head-changed h m more less given n e f a b c =
     left-over : (x y z : ℕ) → x + y ≡ z → x ≡ z - y
     left-over x y z e = omega arith
 
+-- a count that an edit leaves as it was
+pub unchanged : (n : ℕ) → n + 0 - 0 ≡ n
+unchanged n = omega arith
+
 -- a map in tables as they were
 pub head-same : {h : Head} → Counted h → (m : Map) → length (m .nodes) ≡ natAbs (h .nodes)
     → length (m .edges) ≡ natAbs (h .edges) → length (m .faces) ≡ natAbs (h .faces)

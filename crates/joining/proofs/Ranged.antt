@@ -24,6 +24,7 @@ use Rattle.curves.specs.Edits.{front, back}
 use Rattle.geometry.specs.Meaning.{Some}
 use Rattle.geometry.proofs.Cutting.{cut-place}
 use Rattle.geometry.proofs.Theorems.{onCurve-iff}
+use Rattle.map.specs.declared.Variant.the-variants.{Mod}
 use Rattle.map.specs.Rows.{Node, Edge, Map, Lent, Sizes, mapOf, sizesOf}
 use Rattle.map.specs.Rows.{whole, edge}
 use Rattle.map.specs.Tickets.{Ticket, AddIsoNode, ModEdgeSplit, AddEdgeModFace, read}
@@ -92,7 +93,7 @@ node-faces : (p : Point) (m : Map) → addIsoNode p m .faces ≡ m .faces
 unfolding addIsoNode
 node-faces p m = refl
 
-split-faces : (e : ℕ) (p : Point) (m : Map) → split true e p m .faces ≡ m .faces
+split-faces : (e : ℕ) (p : Point) (m : Map) → split Mod e p m .faces ≡ m .faces
 unfolding split
 split-faces e p m = refl
 
@@ -186,9 +187,9 @@ module _ (l : Lent) (r : ranged l ≡ true) (f : formed (mapOf l) ≡ true) wher
       (rw (node-faces p m) (some-face (m .faces) (ranks .zero))) old-line
       (more Plotted (places m) old-place (h .in-range))
 
-  split-tabled : (e : ℕ) (p : Point) → Split 1 s m e p → Tabled s (split true e p m)
+  split-tabled : (e : ℕ) (p : Point) → Split Mod s m e p → Tabled s (split Mod e p m)
   split-tabled e p h =
-      tabled (split true e p m) (split-mod-becomes e p m) (split-taken true e p m (h .has)) (h .room) (h .supply)
+      tabled (split Mod e p m) (split-mod-becomes e p m) (split-taken Mod e p m (h .has)) (h .room) (h .supply)
       (rw (split-faces e p m) (some-face (m .faces) (ranks .zero)))
       (more Drawn _ kept (halves .1))
       (more Plotted (places m) old-place (h .in-range))
@@ -209,11 +210,11 @@ module _ (l : Lent) (r : ranged l ≡ true) (f : formed (mapOf l) ≡ true) wher
           subst Drawn (x .2)
           (cond-has Drawn (same (x .0 .number) e) (halves .0) (old-line (x .0) (x .1)))
 
-  edge-tabled : (u v : ℕ) (c : Curve) → AddEdge false s m u v c → Tabled s (addEdge false u v c m)
+  edge-tabled : (u v : ℕ) (c : Curve) → AddEdge Mod s m u v c → Tabled s (addEdge Mod u v c m)
   edge-tabled u v c h =
-      tabled (addEdge false u v c m) (addEdge-becomes false u v c m)
-      (add-edge-taken false u v c m (h .has-start) ranks) (h .room) (h .supply)
-      (some-face (addEdge false u v c m .faces) (add-edge-ranked false u v c m (h .has-start) ranks .zero))
+      tabled (addEdge Mod u v c m) (addEdge-becomes Mod u v c m)
+      (add-edge-taken Mod u v c m (h .has-start) ranks) (h .room) (h .supply)
+      (some-face (addEdge Mod u v c m .faces) (add-edge-ranked Mod u v c m (h .has-start) ranks .zero))
       (more Drawn (lines m) old-line sent) old-place
     where
       sent : Stored c

@@ -26,6 +26,7 @@ use Rattle.rotation.specs.Ways.{Alike}
 use Rattle.rotation.specs.Law.{firstClockwise, from, Apart}
 use Rattle.rotation.proofs.Ways.{alike-is, alike-sym}
 use Rattle.rotation.proofs.Node.{first-none}
+use Rattle.map.specs.declared.Variant.{Variant}
 use Rattle.map.specs.Rows.{Node, Map, Sizes, node, atNodes}
 use Rattle.map.specs.Darts.{arcs, directed, leaves, next, bears, way, departures}
 use Rattle.map.specs.Links.{linkEdge}
@@ -222,7 +223,7 @@ lone-free {m = m} {u} {v} {c} h apart fresh none-u none-v =
     }
 
 -- kinds 11 and 12: no departure has its directions
-pub edge-free : {news : Bool} {s : Sizes} {m : Map} {u v : ℕ} {c : Curve} → AddEdge news s m u v c
+pub edge-free : {how : Variant} {s : Sizes} {m : Map} {u v : ℕ} {c : Curve} → AddEdge how s m u v c
     → Apart (leaves m) (way m) (directed m) → (List·Memᴰ (m .next .edges) (nums (arcs m)) → ⊥) → Free m u v c
 unfolding directionTaken
 edge-free {m = m} {u} {v} {c} h apart fresh = record {
@@ -238,7 +239,7 @@ edge-free {m = m} {u} {v} {c} h apart fresh = record {
     good = sent-good m c u v (h .sent)
 
     ways : (wayTaken m (m .next .edges) u (startWay c) ≡ false) × (wayTaken m (m .next .edges) v (endWay c) ≡ false)
-    ways = or-false (wayTaken m (m .next .edges) u (startWay c)) (wayTaken m (m .next .edges) v (endWay c)) (h .ways-free)
+    ways = let e = m .next .edges in or-false (wayTaken m e u (startWay c)) (wayTaken m e v (endWay c)) (h .ways-free)
 
     way-free : (n : ℕ) (w : Way) → wayTaken m (m .next .edges) n w ≡ false → (d : Dart) → List·Memᴰ d (departures m n)
         → sameWay (way m d) w ≡ false

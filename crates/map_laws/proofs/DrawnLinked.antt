@@ -1,6 +1,6 @@
 -- An edge drawn in between two corners of one face: a linked map stays linked. Assumes nothing.
 use mathlib.Core.Path.{_≡_, refl, sym, ap, _∙_, subst}
-use mathlib.Core.Bool.{Bool, true}
+use mathlib.Core.Bool.{true}
 use mathlib.Core.List.{List, _∷_, List·Memᴰ, List·Memᴰ·tail, List·Permᴰ, Permᴰ·symm, Permᴰ·map}
 use Prim.Native.Nat.{ℕ}
 use Rattle.lists.specs.Members.{Distinct}
@@ -18,6 +18,7 @@ use Rattle.rotation.specs.Law.{firstClockwise, from, Apart}
 use Rattle.rotation.specs.Law as rotation
 use Rattle.rotation.proofs.Order.{sameWay-refl}
 use Rattle.rotation.proofs.Node.{first-in}
+use Rattle.map.specs.declared.Variant.{Variant}
 use Rattle.map.specs.Rows.{Map, Sizes}
 use Rattle.map.specs.Darts.{arcs, directed, leaves, next, bears, way, departures}
 use Rattle.map.specs.Links.{cornerFace}
@@ -56,7 +57,7 @@ pub record WovenIn (m : Map) (u v : ℕ) (c : Curve) (φ : ℕ) : Type 0 where
       ≡ woven (m .next .edges) start end (next m) d
 
 -- kinds 11 and 12: its corners are in one face
-pub draws-edge : {news : Bool} {s : Sizes} {m : Map} {u v : ℕ} {c : Curve} → AddEdge news s m u v c
+pub draws-edge : {how : Variant} {s : Sizes} {m : Map} {u v : ℕ} {c : Curve} → AddEdge how s m u v c
     → Linked (arcs m) (leaves m) (next m) (bears m) → Distinct (nums (arcs m)) → Apart (leaves m) (way m) (directed m)
     → (List·Memᴰ (m .next .edges) (nums (arcs m)) → ⊥)
     → Draws m u v c (cornerFace m u (startWay c))

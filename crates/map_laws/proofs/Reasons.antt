@@ -1,6 +1,6 @@
 -- What holds of a ticket that nothing turns down: for each kind the facts, from `firstReason .. ≡ 0`. Assumes nothing.
 use mathlib.Core.Path.{_≡_}
-use mathlib.Core.Bool.{Bool, true, false, not, _&&_, _||_}
+use mathlib.Core.Bool.{true, false, cond, not, _&&_, _||_}
 use mathlib.Core.List.{List, [], _∷_, _++_, List·Memᴰ}
 use mathlib.Core.Logic.{_≢_}
 use mathlib.Core.Option.{Option·getD}
@@ -18,6 +18,8 @@ use Rattle.plane.specs.Points.{InRange, samePoint}
 use Rattle.plane.proofs.Laws.{samePoint-true}
 use Rattle.curves.specs.Curves.{Curve, points, lastPoint, startWay, endWay, point, curveOf, isRun, maxPoints}
 use Rattle.curves.specs.Tests.{neighboursDiffer, straightInside, onCurve, isSimple}
+use Rattle.map.specs.declared.Variant.{Variant}
+use Rattle.map.specs.declared.Variant.the-variants.{New, Mod}
 use Rattle.map.specs.Limits.{lastNumber}
 use Rattle.map.specs.Rows.{Map, Sizes, node, edge, hasNode, hasEdge, withoutNode, withoutEdge, counts}
 use Rattle.map.specs.Darts.{edgeEnds}
@@ -25,7 +27,7 @@ use Rattle.map.specs.Links.{cornerFace}
 use Rattle.map.specs.Tickets.{AddIsoNode, MoveIsoNode, RemoveIsoNode, AddIsoEdge, RemoveIsoEdge, ChangeEdgeGeom}
 use Rattle.map.specs.Tickets.{NewEdgesSplit, ModEdgeSplit, NewEdgeHeal, ModEdgeHeal, AddEdgeNewFaces, AddEdgeModFace}
 use Rattle.map.specs.Tickets.{RemEdgeNewFace, RemEdgeModFace}
-use Rattle.map.specs.Edits.{sharedNodes, joint, healedCurve, splitsFace, makesFace}
+use Rattle.map.specs.Edits.{isNew, isMod, sharedNodes, joint, healedCurve, splitsFace, makesFace}
 use Rattle.map.specs.Reasons.{Reasons, firstReason, reasons, noNode, noEdge, outside, endsDiffer, isolated}
 use Rattle.map.specs.Reasons.{edgeIsolated, nodeAt, edgeThrough, directionTaken, containingDiffer, cornersDiffer}
 use Rattle.map.specs.Reasons.{nodeInside, edgeWrong, orderChanges, full, spent, splitReasons, healReasons}
@@ -109,14 +111,14 @@ pub record Change (m : Map) (e : ℕ) (c : Curve) : Type 0 where
   pub clear : edgeWrong (withoutEdge e (m .edges)) c ≡ false
   pub order : orderChanges m e c ≡ false
 
--- kinds 7 (2 new numbers) and 8 (1)
-pub record Split (more : ℕ) (s : Sizes) (m : Map) (e : ℕ) (p : Point) : Type 0 where
+-- kinds 7 (New) and 8 (Mod)
+pub record Split (how : Variant) (s : Sizes) (m : Map) (e : ℕ) (p : Point) : Type 0 where
   pub has : hasEdge m e ≡ true
   pub in-range : InRange p
   pub free : nodeAt (m .nodes) p ≡ false
   pub on : onCurve (edge m e .curve) p ≡ true
   pub room : Room s m 1 1 0
-  pub supply : Supply m 1 more 0
+  pub supply : Supply m 1 (cond (isMod how) 1 2) 0
 
 -- kinds 9 and 10
 pub record Heal (m : Map) (e f : ℕ) : Type 0 where
@@ -127,12 +129,12 @@ pub record Heal (m : Map) (e f : ℕ) : Type 0 where
   pub most : length (points (healedCurve m e f)) ≤ maxPoints
 
 -- how many new faces an edge that splits one takes: 11 takes two, unless it is face 0
-abbrev pub newFaces : Bool → Map → ℕ → ℕ → Curve → ℕ
-newFaces news m u v c = bit (splitsFace u v c m)
-    + bit (splitsFace u v c m && news && not (same (cornerFace m u (startWay c)) 0))
+abbrev pub newFaces : Variant → Map → ℕ → ℕ → Curve → ℕ
+newFaces how m u v c = bit (splitsFace u v c m)
+    + bit (splitsFace u v c m && isNew how && not (same (cornerFace m u (startWay c)) 0))
 
--- kinds 11 (news) and 12
-pub record AddEdge (news : Bool) (s : Sizes) (m : Map) (u v : ℕ) (c : Curve) : Type 0 where
+-- kinds 11 (New) and 12 (Mod)
+pub record AddEdge (how : Variant) (s : Sizes) (m : Map) (u v : ℕ) (c : Curve) : Type 0 where
   pub has-start : hasNode m u ≡ true
   pub has-end : hasNode m v ≡ true
   pub sent : Sent m c u v
@@ -141,12 +143,12 @@ pub record AddEdge (news : Bool) (s : Sizes) (m : Map) (u v : ℕ) (c : Curve) :
   pub nodes-off : nodeInside m c ≡ false
   pub clear : edgeWrong (m .edges) c ≡ false
   pub room : Room s m 0 1 (bit (splitsFace u v c m))
-  pub supply : Supply m 0 1 (newFaces news m u v c)
+  pub supply : Supply m 0 1 (newFaces how m u v c)
 
 -- kind 13
 pub record RemoveEdge (m : Map) (e : ℕ) : Type 0 where
   pub has : hasEdge m e ≡ true
-  pub supply : Supply m 0 0 (bit (makesFace true e m))
+  pub supply : Supply m 0 0 (bit (makesFace New e m))
 
 -- ---- what the conditions say
 
@@ -321,30 +323,33 @@ module _ (s : Sizes) (m : Map) where
         order = h₁₉ .0;
       }
 
-  split : (more : ℕ) (e x y : ℤ) → firstReason (splitReasons more s m e x y) ≡ 0 → Split more s m (natAbs e) (point x y)
-  split more e x y h =
+  split : (how : Variant) (e x y : ℤ) → firstReason (splitReasons how s m e x y) ≡ 0
+      → Split how s m (natAbs e) (point x y)
+  split how e x y h =
       let h₄ = first-zero 4 (noEdge m e) _ (lit< tt) h in
       let h₅ = first-zero 5 (outside x y) _ (lit< tt) (h₄ .1) in
       let h₁₀ = first-zero 10 (nodeAt (m .nodes) (point x y)) _ (lit< tt) (h₅ .1) in
       let h₁₃ = first-zero 13 (not (onCurve (edge m (natAbs e) .curve) (point x y))) _ (lit< tt) (h₁₀ .1) in
       let h₂₀ = first-zero 20 (full s m (counts 1 1 0)) _ (lit< tt) (h₁₃ .1) in
-      let h₂₁ = first-zero 21 (spent m (counts 1 more 0)) _ (lit< tt) (h₂₀ .1) in
+      let h₂₁ = first-zero 21 (spent m (counts 1 (cond (isMod how) 1 2) 0)) _ (lit< tt) (h₂₀ .1) in
       record {
         has = has-edge m e (h₄ .0);
         in-range = point-in-range x y (h₅ .0);
         free = h₁₀ .0;
         on = not-false (onCurve (edge m (natAbs e) .curve) (point x y)) (h₁₃ .0);
         room = room s m 1 1 0 (h₂₀ .0);
-        supply = supply m 1 more 0 (h₂₁ .0);
+        supply = supply m 1 (cond (isMod how) 1 2) 0 (h₂₁ .0);
       }
 
-  pub split-new : (e x y : ℤ) → firstReason (reasons s m (NewEdgesSplit e x y)) ≡ 0 → Split 2 s m (natAbs e) (point x y)
+  pub split-new : (e x y : ℤ) → firstReason (reasons s m (NewEdgesSplit e x y)) ≡ 0
+      → Split New s m (natAbs e) (point x y)
   unfolding reasons
-  split-new e x y h = split 2 e x y h
+  split-new e x y h = split New e x y h
 
-  pub split-mod : (e x y : ℤ) → firstReason (reasons s m (ModEdgeSplit e x y)) ≡ 0 → Split 1 s m (natAbs e) (point x y)
+  pub split-mod : (e x y : ℤ) → firstReason (reasons s m (ModEdgeSplit e x y)) ≡ 0
+      → Split Mod s m (natAbs e) (point x y)
   unfolding reasons
-  split-mod e x y h = split 1 e x y h
+  split-mod e x y h = split Mod e x y h
 
   heals : (e f : ℤ) (rest : Reasons) → firstReason (healReasons m e f ++ rest) ≡ 0
       → Heal m (natAbs e) (natAbs f) × (firstReason rest ≡ 0)
@@ -383,9 +388,9 @@ module _ (s : Sizes) (m : Map) where
   unfolding cornersDiffer
   corners u v c h = same-true _ _ (not-false (same (cornerFace m u (startWay c)) (cornerFace m v (endWay c))) h)
 
-  add : (news : Bool) (u v : ℤ) (l : List ℤ) → firstReason (addEdgeReasons news s m u v l) ≡ 0
-      → AddEdge news s m (natAbs u) (natAbs v) (curveOf l)
-  add news u v l h =
+  add : (how : Variant) (u v : ℤ) (l : List ℤ) → firstReason (addEdgeReasons how s m u v l) ≡ 0
+      → AddEdge how s m (natAbs u) (natAbs v) (curveOf l)
+  add how u v l h =
       let a = natAbs u in
       let b = natAbs v in
       let c = curveOf l in
@@ -396,7 +401,7 @@ module _ (s : Sizes) (m : Map) where
       let h₁₄ = first-zero 14 (nodeInside m c) _ (lit< tt) (h₁₂ .1) in
       let h₁₅ = first-zero 15 (edgeWrong (m .edges) c) _ (lit< tt) (h₁₄ .1) in
       let h₂₀ = first-zero 20 (full s m (counts 0 1 (bit (splitsFace a b c m)))) _ (lit< tt) (h₁₅ .1) in
-      let h₂₁ = first-zero 21 (spent m (counts 0 1 (newFaces news m a b c))) _ (lit< tt) (h₂₀ .1) in
+      let h₂₁ = first-zero 21 (spent m (counts 0 1 (newFaces how m a b c))) _ (lit< tt) (h₂₀ .1) in
       let rows = or-false (noNode m u) (noNode m v) (h₄ .0) in
       record {
         has-start = has-node m u (rows .0);
@@ -407,25 +412,25 @@ module _ (s : Sizes) (m : Map) where
         nodes-off = h₁₄ .0;
         clear = h₁₅ .0;
         room = room s m 0 1 (bit (splitsFace a b c m)) (h₂₀ .0);
-        supply = supply m 0 1 (newFaces news m a b c) (h₂₁ .0);
+        supply = supply m 0 1 (newFaces how m a b c) (h₂₁ .0);
       }
 
   pub add-new : (u v : ℤ) (l : List ℤ) → firstReason (reasons s m (AddEdgeNewFaces u v l)) ≡ 0
-      → AddEdge true s m (natAbs u) (natAbs v) (curveOf l)
+      → AddEdge New s m (natAbs u) (natAbs v) (curveOf l)
   unfolding reasons
-  add-new u v l h = add true u v l h
+  add-new u v l h = add New u v l h
 
   pub add-mod : (u v : ℤ) (l : List ℤ) → firstReason (reasons s m (AddEdgeModFace u v l)) ≡ 0
-      → AddEdge false s m (natAbs u) (natAbs v) (curveOf l)
+      → AddEdge Mod s m (natAbs u) (natAbs v) (curveOf l)
   unfolding reasons
-  add-mod u v l h = add false u v l h
+  add-mod u v l h = add Mod u v l h
 
   pub remove-new : (e : ℤ) → firstReason (reasons s m (RemEdgeNewFace e)) ≡ 0 → RemoveEdge m (natAbs e)
   unfolding reasons
   remove-new e h =
       let h₄ = first-zero 4 (noEdge m e) _ (lit< tt) h in
-      let h₂₁ = first-zero 21 (spent m (counts 0 0 (bit (makesFace true (natAbs e) m)))) _ (lit< tt) (h₄ .1) in
-      record { has = has-edge m e (h₄ .0); supply = supply m 0 0 (bit (makesFace true (natAbs e) m)) (h₂₁ .0) }
+      let h₂₁ = first-zero 21 (spent m (counts 0 0 (bit (makesFace New (natAbs e) m)))) _ (lit< tt) (h₄ .1) in
+      record { has = has-edge m e (h₄ .0); supply = supply m 0 0 (bit (makesFace New (natAbs e) m)) (h₂₁ .0) }
 
   pub remove-mod : (e : ℤ) → firstReason (reasons s m (RemEdgeModFace e)) ≡ 0 → hasEdge m (natAbs e) ≡ true
   unfolding reasons

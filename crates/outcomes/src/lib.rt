@@ -1,9 +1,10 @@
-// What an edit answers: the head after it, refusal and value. The number of an edge that it changes.
+// What an edit answers: the head after it, refusal and value. What its variant decides.
 use map::Answer;
 use map::Head;
 use map::Variant;
 ghost use mathlib.Core.Path.{_≡_};
 ghost use lib.IntN.{pos};
+ghost use Rattle.map.specs.Edits.{isNew};
 ghost use Rattle.map_rows.specs.Rows.{EdgeRow, edgeAt};
 ghost use Rattle.head.specs.Heads.{Counted};
 ghost use Rattle.outcomes.specs.Variants.{ownOrNext};
@@ -31,6 +32,18 @@ pub fn carried(h: Head, value: i64) -> Done
 {
     let answer = Answer { refusal: 0, value };
     Done { head: h, answer }
+}
+
+// ---- New and Mod
+
+// Whether what an edit changes takes new numbers.
+pub fn is_new(how: Variant) -> bool
+    ensures { λ r. ⌜ r ≡ isNew how ⌝ }
+{
+    match how {
+        Variant::New => true,
+        Variant::Mod => false,
+    }
 }
 
 // The number of an edge that an edit makes of row i: the row's own under Mod, the next one under New.

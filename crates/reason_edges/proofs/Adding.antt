@@ -17,12 +17,13 @@ use Rattle.tables.specs.Tables.{sameZ, column}
 use Rattle.plane.specs.Directions.{Way}
 use Rattle.curves.specs.Curves.{Run, isRun, curveOf, startWay}
 use Rattle.map.specs.declared.Head.{Head}
-use Rattle.map.specs.Limits.{nodeWidth, lastNumber}
+use Rattle.map.specs.declared.Variant.{Variant}
+use Rattle.map.specs.declared.Variant.the-variants.{New, Mod}
+use Rattle.map.specs.Limits.{nodeWidth, edgeWidth, faceWidth, lastNumber}
 use Rattle.map.specs.Rows.{Map, Sizes, mapOf, sizesOf, findNode, counts}
 use Rattle.map.specs.Links.{cornerFace}
 use Rattle.map.specs.Edits.{splitsFace}
 use Rattle.map.specs.Reasons.{firstReason, reasons, noNode}
-use Rattle.map.proofs.Laws.{formed-is}
 use Rattle.map.proofs.Reasons.{first-hit, first-miss, first-zero, first-append, first-after}
 use Rattle.map_rows.specs.Rows.{nodeAt}
 use Rattle.map_rows.proofs.Lookups.{node-found}
@@ -30,13 +31,14 @@ use Rattle.head.specs.Heads.{Left, sizesIn, roomAt}
 use Rattle.head.proofs.Heads.{room-left}
 use Rattle.form_ranges.specs.Ranges.{lent}
 use Rattle.outcomes.specs.Outcomes.{Formed}
-use Rattle.outcomes.proofs.Formed.{ranges, formed-map, counted, node-rows, edge-rows, room-at, numbers-rise, node-none}
+use Rattle.outcomes.proofs.Formed.{ranges, node-rows, edge-rows, room-at, node-none}
 use Rattle.reason_corners.specs.CornerFaces.{cornerCell}
 use Rattle.reason_corners.proofs.CornerFaces.{corner-in-form}
 use Rattle.reason_edges.specs.declared.Judged.{Judged}
 use Rattle.outcomes.specs.Variants.{addTicket}
 use Rattle.reason_edges.specs.Parts.{drawingReasons, growthReasons, makesSecond}
-use Rattle.reason_edges.specs.Judging.{Held, JudgedRows, JudgedAdd}
+use Rattle.reason_edges.specs.Judging.{JudgedRows, JudgedAdd}
+use Rattle.reason_edges.proofs.Drawing.{nodes-are, edges-are, bare}
 use mathlib.Core.Option.{some}
 
 module _ {nodes edges faces : List ℤ} {h : Head} (f : Formed nodes edges faces h) where
@@ -46,27 +48,8 @@ module _ {nodes edges faces : List ℤ} {h : Head} (f : Formed nodes edges faces
   abbrev s : Sizes
   s = sizesOf (lent nodes edges faces h)
 
-  pub few-nodes : natAbs (h .nodes) ≤ 1000000
-  few-nodes = omega (arith, counted f .nodes .most)
-
-  pub few-edges : natAbs (h .edges) ≤ 2000
-  few-edges = counted f .edges .most
-
-  pub held : Held nodes (natAbs (h .nodes)) edges (natAbs (h .edges)) m
-  unfolding mapOf
-  held = record {
-    node-rows = refl;
-    edge-rows = refl;
-    rising = numbers-rise f .1;
-    bare = formed-is m (formed-map f) .bare;
-  }
-
-  -- of counts as they were read
-  pub held-at : {x y : ℕ} → x ≡ natAbs (h .nodes) → y ≡ natAbs (h .edges) → Held nodes x edges y m
-  held-at ex ey = rw (ex, ey) held
-
   -- an edge between two rows
-  module _ (news : Bool) (u v : ℕ) (hu : u < natAbs (h .nodes)) (sent : List ℤ) where
+  module _ (how : Variant) (u v : ℕ) (hu : u < natAbs (h .nodes)) (sent : List ℤ) where
     abbrev a : ℕ
     a = nodeAt nodes u .number
 
@@ -82,62 +65,62 @@ module _ {nodes edges faces : List ℤ} {h : Head} (f : Formed nodes edges faces
     pub corner-told : {x : ℕ} {w : Way} {z : ℤ} → x ≡ natAbs (h .edges) → w ≡ startWay (curveOf sent) → z
         ≡ cornerCell nodes u edges x w → z ≡ pos corner
     corner-told ex ew ez = ez ∙ (λ i. cornerCell nodes u edges (ex i) (ew i))
-        ∙ corner-in-form (node-rows f) (edge-rows f) m (held .node-rows) (held .edge-rows) u hu (held .bare)
+        ∙ corner-in-form (node-rows f) (edge-rows f) m (nodes-are f) (edges-are f refl) u hu (bare f)
         (startWay (curveOf sent))
 
     pub run-drawn : firstReason (drawingReasons m a b sent) ≡ 0 → Run sent
     run-drawn e = record { is = not-false (isRun sent) (first-zero 5 _ _ (lit< tt) e .0) }
 
-    growth-told : firstReason (growthReasons news s m a b sent)
+    growth-told : firstReason (growthReasons how s m a b sent)
         ≡ firstReason (roomAt (sizesIn nodes edges faces) h (counts 0 1 (bit splits))
-        (counts 0 1 (bit splits + bit (makesSecond splits news corner))))
+        (counts 0 1 (bit splits + bit (makesSecond splits how corner))))
     growth-told = ap firstReason (sym (room-at f (counts 0 1 (bit splits))
-        (counts 0 1 (bit splits + bit (makesSecond splits news corner)))))
+        (counts 0 1 (bit splits + bit (makesSecond splits how corner)))))
 
     pub rows-turned : {r : Judged} {k : ℕ} → 0 < k → k ≡ firstReason (drawingReasons m a b sent) → r .reason ≡ k
-        → JudgedRows news nodes edges faces h u v sent r
+        → JudgedRows how nodes edges faces h u v sent r
     rows-turned {r} {k} more e er =
         record {
-          reason = er ∙ sym (first-append (drawingReasons m a b sent) (growthReasons news s m a b sent) k more (sym e));
+          reason = er ∙ sym (first-append (drawingReasons m a b sent) (growthReasons how s m a b sent) k more (sym e));
           start = λ z. absurd (omega (arith, more, er, z));
           end = λ z. absurd (omega (arith, more, er, z));
           known = λ z. absurd (omega (arith, more, er, z));
         }
 
     -- nothing turns it down but room and numbers
-    pub rows-known : {r : Judged} {x y : ℕ} → firstReason (drawingReasons m a b sent) ≡ 0 → Run sent → r .start ≡ u
-        → r .end ≡ v → r .face ≡ pos corner → r .splits ≡ splits → x ≡ bit splits → y
-        ≡ bit (makesSecond splits news corner)
-        → r .reason ≡ firstReason (roomAt (sizesIn nodes edges faces) h (counts 0 1 x) (counts 0 1 (x + y)))
-        → JudgedRows news nodes edges faces h u v sent r
-    rows-known clear run eu ev ez ew ex ey e =
+    pub rows-known : {r : Judged} {w : Bool} → firstReason (drawingReasons m a b sent) ≡ 0 → Run sent → r .start ≡ u
+        → r .end ≡ v → r .face ≡ pos corner → r .splits ≡ splits → w ≡ makesSecond (r .splits) how (natAbs (r .face))
+        → r .reason ≡ firstReason (roomAt (sizesIn nodes edges faces) h (counts 0 1 (bit (r .splits)))
+        (counts 0 1 (bit (r .splits) + bit w))) → JudgedRows how nodes edges faces h u v sent r
+    rows-known {r} {w} clear run eu ev ez es ew e =
+        let second : w ≡ makesSecond splits how corner = ew ∙ (λ i. makesSecond (es i) how (natAbs (ez i))) in
         record {
-          reason = e ∙ (λ i. firstReason
-              (roomAt (sizesIn nodes edges faces) h (counts 0 1 (ex i)) (counts 0 1 (ex i + ey i)))) ∙ sym growth-told
-              ∙ sym (first-after (drawingReasons m a b sent) (growthReasons news s m a b sent) refl clear);
+          reason = e ∙ (λ i. firstReason (roomAt (sizesIn nodes edges faces) h (counts 0 1 (bit (es i)))
+              (counts 0 1 (bit (es i) + bit (second i))))) ∙ sym growth-told
+              ∙ sym (first-after (drawingReasons m a b sent) (growthReasons how s m a b sent) refl clear);
           start = λ z. eu;
           end = λ z. ev;
-          known = λ z. record { run = run; face = ez; splits = ew };
+          known = λ z. record { run = run; face = ez; splits = es };
         }
 
   -- ---- the nodes named
 
-  parts : (news : Bool) (u v : ℤ) (sent : List ℤ) → reasons s m (addTicket news u v sent)
+  parts : (how : Variant) (u v : ℤ) (sent : List ℤ) → reasons s m (addTicket how u v sent)
       ≡ (4, noNode m u || noNode m v) ∷ (drawingReasons m (natAbs u) (natAbs v) sent
-      ++ growthReasons news s m (natAbs u) (natAbs v) sent)
+      ++ growthReasons how s m (natAbs u) (natAbs v) sent)
   unfolding reasons
-  parts true u v sent = refl
-  parts false u v sent = refl
+  parts New u v sent = refl
+  parts Mod u v sent = refl
 
   pub end-none : (u v : ℤ) → place (sameZ v) 0 (column nodeWidth nodes (natAbs (h .nodes))) ≡ Missing → noNode m u
       || noNode m v ≡ true
   end-none u v e = or-right (noNode m u) (noNode m v) (node-none f v e)
 
-  pub add-missing : (news : Bool) (u v : ℤ) (sent : List ℤ) {r : Judged} → noNode m u || noNode m v ≡ true → r .reason
-      ≡ 4 → JudgedAdd news nodes edges faces h u v sent r
-  add-missing news u v sent e er =
+  pub add-missing : (how : Variant) (u v : ℤ) (sent : List ℤ) {r : Judged} → noNode m u || noNode m v ≡ true → r .reason
+      ≡ 4 → JudgedAdd how nodes edges faces h u v sent r
+  add-missing how u v sent e er =
       record {
-        reason = er ∙ sym (ap firstReason (parts news u v sent) ∙ first-hit 4 _ _ e);
+        reason = er ∙ sym (ap firstReason (parts how u v sent) ∙ first-hit 4 _ _ e);
         start = λ z. absurd (omega (arith, er, z));
         end = λ z. absurd (omega (arith, er, z));
         known = λ z. absurd (omega (arith, er, z));
@@ -157,18 +140,18 @@ module _ {nodes edges faces : List ℤ} {h : Head} (f : Formed nodes edges faces
     there : noNode m z ≡ false
     there = rw (ap nonNeg (hit .1), hit .2)
 
-  pub add-found : (news : Bool) (u v : ℤ) (i j : ℕ) (sent : List ℤ)
+  pub add-found : (how : Variant) (u v : ℤ) (i j : ℕ) (sent : List ℤ)
       → place (sameZ u) 0 (column nodeWidth nodes (natAbs (h .nodes))) ≡ At i
       → place (sameZ v) 0 (column nodeWidth nodes (natAbs (h .nodes))) ≡ At j
-      → {r : Judged} → JudgedRows news nodes edges faces h i j sent r → JudgedAdd news nodes edges faces h u v sent r
-  add-found news u v i j sent eu ev {r} k =
+      → {r : Judged} → JudgedRows how nodes edges faces h i j sent r → JudgedAdd how nodes edges faces h u v sent r
+  add-found how u v i j sent eu ev {r} k =
       let A = row-number u i eu in
       let B = row-number v j ev in
       let both : noNode m u || noNode m v ≡ false = rw (there u i eu, there v j ev) in
       record {
         reason = k .reason ∙ (λ l. firstReason
-            (drawingReasons m (A l) (B l) sent ++ growthReasons news s m (A l) (B l) sent))
-            ∙ sym (ap firstReason (parts news u v sent) ∙ first-miss 4 _ _ both);
+            (drawingReasons m (A l) (B l) sent ++ growthReasons how s m (A l) (B l) sent))
+            ∙ sym (ap firstReason (parts how u v sent) ∙ first-miss 4 _ _ both);
         start = λ z. eu ∙ ap At (sym (k .start z));
         end = λ z. ev ∙ ap At (sym (k .end z));
         known = λ z.
@@ -180,11 +163,11 @@ module _ {nodes edges faces : List ℤ} {h : Head} (f : Formed nodes edges faces
       }
 
   -- no reason holds: there is room for the rows, and a number for the edge
-  module _ (news : Bool) (u v : ℤ) (sent : List ℤ)
-      (clear : firstReason (reasons s m (addTicket news u v sent)) ≡ 0) where
-    grows : firstReason (growthReasons news s m (natAbs u) (natAbs v) sent) ≡ 0
+  module _ (how : Variant) (u v : ℤ) (sent : List ℤ)
+      (clear : firstReason (reasons s m (addTicket how u v sent)) ≡ 0) where
+    grows : firstReason (growthReasons how s m (natAbs u) (natAbs v) sent) ≡ 0
     grows =
-        let z4 = first-zero 4 _ _ (lit< tt) (sym (ap firstReason (parts news u v sent)) ∙ clear) .1 in
+        let z4 = first-zero 4 _ _ (lit< tt) (sym (ap firstReason (parts how u v sent)) ∙ clear) .1 in
         let z5 = first-zero 5 _ _ (lit< tt) z4 .1 in
         let z6 = first-zero 6 _ _ (lit< tt) z5 .1 in
         let z7 = first-zero 7 _ _ (lit< tt) z6 .1 in
@@ -196,12 +179,12 @@ module _ {nodes edges faces : List ℤ} {h : Head} (f : Formed nodes edges faces
 
     left : Left (sizesIn nodes edges faces) h (counts 0 1 (bit (splitsFace (natAbs u) (natAbs v) (curveOf sent) m)))
         (counts 0 1 (bit (splitsFace (natAbs u) (natAbs v) (curveOf sent) m)
-        + bit (makesSecond (splitsFace (natAbs u) (natAbs v) (curveOf sent) m) news
+        + bit (makesSecond (splitsFace (natAbs u) (natAbs v) (curveOf sent) m) how
         (cornerFace m (natAbs u) (startWay (curveOf sent))))))
     left = room-left (sizesIn nodes edges faces) h _ _ (ap firstReason (room-at f _ _) ∙ grows)
 
-    pub room-known : (natAbs (h .edges) + 1 ≤ length edges / 32)
-        × (natAbs (h .faces) + bit (splitsFace (natAbs u) (natAbs v) (curveOf sent) m) ≤ length faces / 1)
+    pub room-known : (natAbs (h .edges) + 1 ≤ length edges / edgeWidth)
+        × (natAbs (h .faces) + bit (splitsFace (natAbs u) (natAbs v) (curveOf sent) m) ≤ length faces / faceWidth)
     room-known = (left .edges, left .faces)
 
     pub number-known : natAbs (h .«next_edge») + 1 ≤ suc lastNumber

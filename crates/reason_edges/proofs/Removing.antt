@@ -1,17 +1,19 @@
 -- The first reason of kinds 13 and 14 from its parts, on tables in form. Assumes nothing.
-use mathlib.Core.Path.{_≡_, refl, sym, ap, _∙_}
+use mathlib.Core.Path.{_≡_, sym, ap, _∙_}
 use mathlib.Core.Bool.{Bool, true, false}
 use mathlib.Core.List.{List, [], _∷_}
 use mathlib.Core.Option.{some}
 use Prim.Native.Nat.{ℕ, _<_}
 use native.Mathlib.Omega.{arith}
-use lib.IntN.{ℤ, pos, negsuc, natAbs}
+use lib.IntN.{ℤ, pos, natAbs}
 use lib.Signed.{nonNeg}
 use Rattle.lists.specs.Tests.{bit}
 use Rattle.lists.specs.Tables.{place}
 use Rattle.lists.specs.declared.Found.the-variants.{At, Missing}
 use Rattle.tables.specs.Tables.{sameZ, column}
 use Rattle.map.specs.declared.Head.{Head}
+use Rattle.map.specs.declared.Variant.{Variant}
+use Rattle.map.specs.declared.Variant.the-variants.{New, Mod}
 use Rattle.map.specs.Limits.{edgeWidth}
 use Rattle.map.specs.Rows.{Map, Sizes, counts, mapOf, sizesOf, findEdge}
 use Rattle.map.specs.Edits.{makesFace, healsFaces}
@@ -19,11 +21,11 @@ use Rattle.map.specs.Reasons.{firstReason, reasons, noEdge}
 use Rattle.map.proofs.Reasons.{first-hit, first-miss, first-none}
 use Rattle.map.proofs.Laws.{edge-is}
 use Rattle.map_rows.specs.Rows.{edgeAt}
-use Rattle.map_rows.proofs.Lookups.{edge-found, edge-missing}
+use Rattle.map_rows.proofs.Lookups.{edge-found}
 use Rattle.head.specs.Heads.{spentAt}
 use Rattle.form_ranges.specs.Ranges.{lent}
 use Rattle.outcomes.specs.Outcomes.{Formed}
-use Rattle.outcomes.proofs.Formed.{ranges, spent-at, node-left, edge-left, face-left}
+use Rattle.outcomes.proofs.Formed.{ranges, edge-none, spent-at, node-left, edge-left, face-left}
 use Rattle.reason_edges.specs.declared.Removal.{Removal}
 use Rattle.outcomes.specs.Variants.{removeTicket}
 use Rattle.reason_edges.specs.Parts.{makesOf, faceReasons}
@@ -36,22 +38,17 @@ module _ {nodes edges faces : List ℤ} {h : Head} (f : Formed nodes edges faces
   abbrev s : Sizes
   s = sizesOf (lent nodes edges faces h)
 
-  edge-none : (z : ℤ) → place (sameZ z) 0 (column edgeWidth edges (natAbs (h .edges))) ≡ Missing → noEdge m z ≡ true
-  unfolding mapOf
-  edge-none (pos k) e = rw (edge-missing edges (natAbs (h .edges)) (ranges f .edge-rows) k e)
-  edge-none (negsuc k) e = refl
-
-  four : (news : Bool) (z : ℤ) → noEdge m z ≡ true → firstReason (reasons s m (removeTicket news z)) ≡ 4
+  four : (how : Variant) (z : ℤ) → noEdge m z ≡ true → firstReason (reasons s m (removeTicket how z)) ≡ 4
   unfolding reasons
-  four true z e = first-hit 4 _ _ e
-  four false z e = first-hit 4 _ _ e
+  four New z e = first-hit 4 _ _ e
+  four Mod z e = first-hit 4 _ _ e
 
-  pub removal-missing : (news : Bool) (z : ℤ) {r : Removal}
+  pub removal-missing : (how : Variant) (z : ℤ) {r : Removal}
       → place (sameZ z) 0 (column edgeWidth edges (natAbs (h .edges))) ≡ Missing → r .reason ≡ 4
-      → JudgedRemoval news nodes edges faces h z r
-  removal-missing news z e er =
+      → JudgedRemoval how nodes edges faces h z r
+  removal-missing how z e er =
       record {
-        reason = er ∙ sym (four news z (edge-none z e));
+        reason = er ∙ sym (four how z (edge-none f z e));
         row = λ k. absurd (omega (arith, er, k));
         makes = λ k. absurd (omega (arith, er, k));
       }
@@ -71,26 +68,24 @@ module _ {nodes edges faces : List ℤ} {h : Head} (f : Formed nodes edges faces
     there : noEdge m z ≡ false
     there = rw (ap nonNeg (hit .1), hit .2)
 
-    makes-told : (news : Bool) → makesOf news (edgeAt edges i) ≡ makesFace news (natAbs z) m
+    makes-told : (how : Variant) → makesOf how (edgeAt edges i) ≡ makesFace how (natAbs z) m
     unfolding makesFace healsFaces
-    makes-told news = ap (makesOf news) (sym (edge-is m (natAbs z) (edgeAt edges i) (hit .2)))
+    makes-told how = ap (makesOf how) (sym (edge-is m (natAbs z) (edgeAt edges i) (hit .2)))
 
-    late : (news : Bool) → firstReason (reasons s m (removeTicket news z))
-        ≡ firstReason (faceReasons h (bit (makesFace news (natAbs z) m)))
+    late : (how : Variant) → firstReason (reasons s m (removeTicket how z))
+        ≡ firstReason (faceReasons h (bit (makesFace how (natAbs z) m)))
     unfolding reasons makesFace
-    late true =
+    late New =
         first-miss 4 _ _ there
         ∙ ap (λ (b : Bool). firstReason ((21, b) ∷ []))
-        (sym (spent-at f (counts 0 0 (bit (makesFace true (natAbs z) m)))))
-    late false = first-miss 4 _ _ there ∙ first-none ∙ sym (first-miss 21 _ _ none-spent ∙ first-none)
+        (sym (spent-at f (counts 0 0 (bit (makesFace New (natAbs z) m)))))
+    late Mod = first-miss 4 _ _ there ∙ first-none ∙ sym (first-miss 21 _ _ none-spent ∙ first-none)
 
-    pub removal-found : (news : Bool) {r : Removal} {w : Bool} {x : ℕ} → r .row ≡ i → r .makes ≡ w → w
-        ≡ makesOf news (edgeAt edges i) → x ≡ bit w → r .reason ≡ firstReason (faceReasons h x)
-        → JudgedRemoval news nodes edges faces h z r
-    removal-found news {r} {w} {x} ei ew em ex er =
+    pub removal-found : (how : Variant) {r : Removal} → r .row ≡ i → r .makes ≡ makesOf how (edgeAt edges i)
+        → r .reason ≡ firstReason (faceReasons h (bit (r .makes))) → JudgedRemoval how nodes edges faces h z r
+    removal-found how ei em er =
         record {
-          reason = er ∙ ap (λ (k : ℕ). firstReason (faceReasons h k)) (ex ∙ ap bit (em ∙ makes-told news))
-              ∙ sym (late news);
+          reason = er ∙ ap (λ (b : Bool). firstReason (faceReasons h (bit b))) (em ∙ makes-told how) ∙ sym (late how);
           row = λ k. e ∙ ap At (sym ei);
-          makes = λ k. ew ∙ em ∙ makes-told news;
+          makes = λ k. em ∙ makes-told how;
         }

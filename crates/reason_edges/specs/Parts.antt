@@ -6,9 +6,10 @@ use lib.IntN.{ℤ}
 use Rattle.lists.specs.Tests.{same, bit}
 use Rattle.curves.specs.Curves.{curveOf, startWay}
 use Rattle.map.specs.declared.Head.{Head}
+use Rattle.map.specs.declared.Variant.{Variant}
 use Rattle.map.specs.Rows.{Map, Sizes, Edge, counts}
 use Rattle.map.specs.Links.{cornerFace}
-use Rattle.map.specs.Edits.{splitsFace}
+use Rattle.map.specs.Edits.{isNew, splitsFace}
 use Rattle.map.specs.Reasons.{Reasons, curveReasons, meetingReasons, directionTaken, cornersDiffer}
 use Rattle.map.specs.Reasons.{roomReasons}
 use Rattle.head.specs.Heads.{spentAt}
@@ -19,19 +20,19 @@ drawingReasons m a b sent = curveReasons m sent a b ++ (11, directionTaken m (m 
     ∷ (12, cornersDiffer m a b (curveOf sent)) ∷ meetingReasons m (m .edges) (curveOf sent)
 
 -- the old face goes, and a second new one is made
-abbrev pub makesSecond : Bool → Bool → ℕ → Bool
-makesSecond splits news face = splits && news && not (same face 0)
+abbrev pub makesSecond : Bool → Variant → ℕ → Bool
+makesSecond splits how face = splits && isNew how && not (same face 0)
 
 -- 20 and 21
-abbrev pub growthReasons : Bool → Sizes → Map → ℕ → ℕ → List ℤ → Reasons
-growthReasons news s m a b sent =
+abbrev pub growthReasons : Variant → Sizes → Map → ℕ → ℕ → List ℤ → Reasons
+growthReasons how s m a b sent =
     let splits = splitsFace a b (curveOf sent) m in
-    let second = makesSecond splits news (cornerFace m a (startWay (curveOf sent))) in
+    let second = makesSecond splits how (cornerFace m a (startWay (curveOf sent))) in
     roomReasons s m (counts 0 1 (bit splits)) (counts 0 1 (bit splits + bit second))
 
 -- a row whose removal makes a new face
-abbrev pub makesOf : Bool → Edge → Bool
-makesOf news e = news && not (same (e .left) (e .right)) && not (same (min (e .left) (e .right)) 0)
+abbrev pub makesOf : Variant → Edge → Bool
+makesOf how e = isNew how && not (same (e .left) (e .right)) && not (same (min (e .left) (e .right)) 0)
 
 -- 21, of so many numbers of faces
 abbrev pub faceReasons : Head → ℕ → Reasons

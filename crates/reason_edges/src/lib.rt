@@ -2,19 +2,21 @@
 use lists::Found;
 use map::Counts;
 use map::Head;
+use map::Variant;
 ghost use mathlib.Core.Path.{_≡_};
 ghost use mathlib.Core.Bool.{true};
-ghost use Prim.Native.Nat.{_≤_, _<_};
+ghost use Prim.Native.Nat.{_+_, _<_};
 ghost use lib.IntN.{natAbs};
 ghost use lib.Signed.{nonNeg};
 ghost use Rattle.lists.specs.Tests.{bit};
-ghost use Rattle.map.specs.Rows.{counts};
+ghost use Rattle.map.specs.Rows.{mapOf, counts};
 ghost use Rattle.map.specs.Reasons.{firstReason};
-ghost use Rattle.map_rows.specs.Rows.{NodeRows, EdgeRows, EdgeRow, nodeAt, edgeAt};
+ghost use Rattle.map_rows.specs.Rows.{EdgeRow, nodeAt, edgeAt};
 ghost use Rattle.head.specs.Heads.{Counted, sizesIn, roomAt};
+ghost use Rattle.form_ranges.specs.Ranges.{lent};
 ghost use Rattle.outcomes.specs.Outcomes.{Formed};
 ghost use Rattle.reason_edges.specs.Parts.{drawingReasons, makesSecond, makesOf, faceReasons};
-ghost use Rattle.reason_edges.specs.Judging.{Held, JudgedRows, JudgedAdd, JudgedRemoval};
+ghost use Rattle.reason_edges.specs.Judging.{JudgedRows, JudgedAdd, JudgedRemoval};
 
 // The first reason against a new edge; where it is 0, the rows of its nodes, its corner face, and whether that is
 // split.
@@ -35,18 +37,12 @@ pub struct Removal {
 
 // ---- leaves
 
-fn bit_of(b: bool) -> usize
-    ensures { λ r. ⌜ r ≡ bit b ⌝ }
-{
-    if b { 1 } else { 0 }
-}
-
 // The old face goes, and a second new one is made.
-fn makes_second(splits: bool, news: bool, face: i64) -> bool
+fn makes_second(splits: bool, how: Variant, face: i64) -> bool
     requires { ⌜ nonNeg face ≡ true ⌝ }
-    ensures { λ r. ⌜ r ≡ makesSecond splits news (natAbs face) ⌝ }
+    ensures { λ r. ⌜ r ≡ makesSecond splits how (natAbs face) ⌝ }
 {
-    splits & news & (face != 0)
+    splits & outcomes::is_new(how) & (face != 0)
 }
 
 // Nothing is known but the reason.
@@ -67,18 +63,20 @@ fn turned_down(reason: u64) -> Judged
 // 5 to 15, of an edge from node row u to node row v; 0 for none.
 fn drawing_reason(
     nodes: &[i64],
-    n: usize,
     edges: &[i64],
-    e: usize,
+    faces: &[i64],
+    h: Head,
     u: usize,
     v: usize,
     c: &[i64],
 ) -> u64
-    requires { ⌜ NodeRows (now nodes) n × EdgeRows (now edges) e × (u < n) × (v < n) ⌝ }
-    ensures { λ r. ⌜ ((m : _) → Held (now (nodes .entry)) n (now (edges .entry)) e m → r
-        ≡ firstReason (drawingReasons m (nodeAt (now (nodes .entry)) u .number) (nodeAt (now (nodes .entry)) v .number)
-        (now (c .entry)))) ⌝ }
+    requires { ⌜ Formed (now nodes) (now edges) (now faces) h × (u < natAbs (h .nodes)) × (v < natAbs (h .nodes)) ⌝ }
+    ensures { λ r. ⌜ r ≡ firstReason (drawingReasons
+        (mapOf (lent (now (nodes .entry)) (now (edges .entry)) (now (faces .entry)) h))
+        (nodeAt (now (nodes .entry)) u .number) (nodeAt (now (nodes .entry)) v .number) (now (c .entry))) ⌝ }
 {
+    let n = head::to_usize(h.nodes);
+    let e = head::to_usize(h.edges);
     let reason = reason_curves::curve_reason(nodes, u, v, c);
     if reason != 0 {
         return reason;
@@ -99,28 +97,29 @@ fn drawing_reason(
     reason_curves::meeting_reason(nodes, n, edges, e, e, c)
 }
 
-// 20 or 21 against an edge more, so many rows of faces and so many numbers of faces; 0 for none.
+// 20 or 21 against an edge more, and where it splits a face, a face more, and a second new one where the old face goes;
+// 0 for none.
 fn room_reason(
     nodes: &[i64],
     edges: &[i64],
     faces: &[i64],
     h: Head,
-    more: usize,
-    numbers: usize,
+    splits: bool,
+    second: bool,
 ) -> u64
-    requires { ⌜ Counted h × (more ≤ 1) × (numbers ≤ 2) ⌝ }
+    requires { ⌜ Counted h ⌝ }
     ensures { λ r. ⌜ r ≡ firstReason (roomAt (sizesIn (now (nodes .entry)) (now (edges .entry)) (now (faces .entry))) h
-        (counts 0 1 more) (counts 0 1 numbers)) ⌝ }
+        (counts 0 1 (bit splits)) (counts 0 1 (bit splits + bit second))) ⌝ }
 {
     let rows = Counts {
         nodes: 0,
         edges: 1,
-        faces: more,
+        faces: splits as usize,
     };
     let given = Counts {
         nodes: 0,
         edges: 1,
-        faces: numbers,
+        faces: splits as usize + second as usize,
     };
     head::room_reason(head::sizes_of(nodes, edges, faces), h, rows, given)
 }
@@ -131,25 +130,24 @@ fn judge_rows(
     edges: &[i64],
     faces: &[i64],
     h: Head,
-    news: bool,
+    how: Variant,
     u: usize,
     v: usize,
     c: &[i64],
 ) -> Judged
     requires { ⌜ Formed (now nodes) (now edges) (now faces) h × (u < natAbs (h .nodes)) × (v < natAbs (h .nodes)) ⌝ }
-    ensures { λ r. ⌜ JudgedRows news (now (nodes .entry)) (now (edges .entry)) (now (faces .entry)) h u v
+    ensures { λ r. ⌜ JudgedRows how (now (nodes .entry)) (now (edges .entry)) (now (faces .entry)) h u v
         (now (c .entry)) r ⌝ }
 {
-    let e = head::to_usize(h.edges);
-    let reason = drawing_reason(nodes, head::to_usize(h.nodes), edges, e, u, v, c);
+    let reason = drawing_reason(nodes, edges, faces, h, u, v, c);
     if reason != 0 {
         return turned_down(reason);
     }
+    let e = head::to_usize(h.edges);
     let face = reason_corners::corner_face(nodes, u, edges, e, darts::first_step(c, false));
     let splits = reason_corners::splits_face(nodes, edges, e, u, v, c);
-    let more = bit_of(splits);
-    let second = bit_of(makes_second(splits, news, face));
-    let late = room_reason(nodes, edges, faces, h, more, more + second);
+    let second = makes_second(splits, how, face);
+    let late = room_reason(nodes, edges, faces, h, splits, second);
     Judged {
         reason: late,
         start: u,
@@ -165,13 +163,13 @@ pub fn judge_add(
     edges: &[i64],
     faces: &[i64],
     h: Head,
-    news: bool,
+    how: Variant,
     start: i64,
     end: i64,
     c: &[i64],
 ) -> Judged
     requires { ⌜ Formed (now nodes) (now edges) (now faces) h ⌝ }
-    ensures { λ r. ⌜ JudgedAdd news (now (nodes .entry)) (now (edges .entry)) (now (faces .entry)) h start end
+    ensures { λ r. ⌜ JudgedAdd how (now (nodes .entry)) (now (edges .entry)) (now (faces .entry)) h start end
         (now (c .entry)) r ⌝ }
 {
     let n = head::to_usize(h.nodes);
@@ -183,39 +181,45 @@ pub fn judge_add(
     let Found::At(v) = found_end else {
         return turned_down(4);
     };
-    judge_rows(nodes, edges, faces, h, news, u, v, c)
+    judge_rows(nodes, edges, faces, h, how, u, v, c)
 }
 
 // ---- kinds 13 and 14
 
 // Whether a new face is made where edge row i goes.
-fn makes_face(edges: &[i64], i: usize, news: bool) -> bool
+fn makes_face(edges: &[i64], i: usize, how: Variant) -> bool
     requires { ⌜ EdgeRow (now edges) i ⌝ }
-    ensures { λ r. ⌜ r ≡ makesOf news (edgeAt (now (edges .entry)) i) ⌝ }
+    ensures { λ r. ⌜ r ≡ makesOf how (edgeAt (now (edges .entry)) i) ⌝ }
 {
     let left = edges[i * map::EDGE_WIDTH + map::LEFT];
     let right = edges[i * map::EDGE_WIDTH + map::RIGHT];
-    news & (left != right) & (left != 0) & (right != 0)
+    outcomes::is_new(how) & (left != right) & (left != 0) & (right != 0)
 }
 
-// 21 against so many numbers of faces; 0 for none.
-fn face_reason(h: Head, numbers: usize) -> u64
-    requires { ⌜ Counted h × (numbers ≤ 1) ⌝ }
-    ensures { λ r. ⌜ r ≡ firstReason (faceReasons h numbers) ⌝ }
+// 21 against the number of a new face, where one is made; 0 for none.
+fn face_reason(h: Head, makes: bool) -> u64
+    requires { ⌜ Counted h ⌝ }
+    ensures { λ r. ⌜ r ≡ firstReason (faceReasons h (bit makes)) ⌝ }
 {
     let given = Counts {
         nodes: 0,
         edges: 0,
-        faces: numbers,
+        faces: makes as usize,
     };
     if head::is_spent(h, given) { 21 } else { 0 }
 }
 
 // The first reason against kinds 13 and 14, and what the edit needs to know where there is none.
-pub fn judge_removal(edges: &[i64], h: Head, news: bool, edge: i64) -> Removal
-    requires { ⌜ ((nodes : _) × (faces : _) × Formed nodes (now edges) faces h) ⌝ }
-    ensures { λ r. ⌜ ((nodes : _) (faces : _) → Formed nodes (now (edges .entry)) faces h
-        → JudgedRemoval news nodes (now (edges .entry)) faces h edge r) ⌝ }
+pub fn judge_removal(
+    nodes: &[i64],
+    edges: &[i64],
+    faces: &[i64],
+    h: Head,
+    how: Variant,
+    edge: i64,
+) -> Removal
+    requires { ⌜ Formed (now nodes) (now edges) (now faces) h ⌝ }
+    ensures { λ r. ⌜ JudgedRemoval how (now (nodes .entry)) (now (edges .entry)) (now (faces .entry)) h edge r ⌝ }
 {
     let e = head::to_usize(h.edges);
     let found = tables::find_row(edges, map::EDGE_WIDTH, e, edge);
@@ -226,7 +230,7 @@ pub fn judge_removal(edges: &[i64], h: Head, news: bool, edge: i64) -> Removal
             makes: false,
         };
     };
-    let makes = makes_face(edges, row, news);
-    let reason = face_reason(h, bit_of(makes));
+    let makes = makes_face(edges, row, how);
+    let reason = face_reason(h, makes);
     Removal { reason, row, makes }
 }

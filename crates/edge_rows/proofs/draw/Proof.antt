@@ -13,7 +13,7 @@ use mir.Facts.{toZ-ofZ}
 use Rattle.map.specs.Rows.{edgeCells}
 use Rattle.links.specs.Linking.{linkedEdge}
 use Rattle.edge_rows.specs.Holds.{newRow}
-use Rattle.edge_rows.proofs.Counts.{edges-few, edges-counted, edges-natural, edges-read}
+use Rattle.head.proofs.Words.{edges-natural, edges-read}
 use Rattle.edge_rows.proofs.Drawn.{drawn-as, pushed-held, start-fits, end-fits}
 use Rattle.edge_rows.proofs.draw.Statement.{statement}
 use Rattle.edge_rows.proofs.draw.Tie as tie
@@ -34,15 +34,15 @@ written c =
 add-link-edge : tie.Need-add-link-edge
 add-link-edge c =
     let s = c .before .before .before .before .before .before .before in
-    let n = edges-read (s .pre .held) (c .before .to-usize .ensures) in
-    omega (arith, edges-few (s .pre .held))
+    let n = edges-read (s .pre .held .counted) (c .before .to-usize .ensures) in
+    omega (arith, s .pre .held .counted .edges .most)
 
 link-edge-requires : tie.Need-link-edge-requires
 link-edge-requires c κs =
     let w = c .before .before .before .before in
     let s = w .before .before .before in
-    let n = edges-read (s .pre .held) (c .before .to-usize .ensures) in
-    (rw (n, written w) (pushed-held (s .pre) .rows), omega arith, omega (arith, edges-few (s .pre .held)))
+    let n = edges-read (s .pre .held .counted) (c .before .to-usize .ensures) in
+    (rw (n, written w) (pushed-held (s .pre) .rows), omega arith, omega (arith, s .pre .held .counted .edges .most))
 
 returns : tie.Need-returns
 returns c =
@@ -54,24 +54,22 @@ returns c =
     ∙ ap (λ (l : List ℤ). set l (s .args .v * 4 + 3) (negsuc 0))
     (c .before .before .before .before .before .set-face .ensures))
     (k .link-edge .ensures ∙ ap₂ (λ (l : List ℤ) (j : ℕ). linkedEdge l (j + 1)) (written w)
-    (edges-read (s .pre .held) (k .before .before .to-usize .ensures)))
-    (c .with-edge .ensures)
+    (edges-read (s .pre .held .counted) (k .before .before .to-usize .ensures)))
+    (c .changed .ensures)
 
 pub draw-spec : {M : Type 1} → statement M
 draw-spec =
     tie.close
     (tie.spec
     (λ c κs. search needs)
-    (λ c κs. edges-natural (c .before .before .before .before .before .pre .held))
+    (λ c κs. edges-natural (c .before .before .before .before .before .pre .held .counted))
     add-link-edge
     link-edge-requires
     (λ c κs. start-fits (c .before .before .before .before .before .before .before .before .before .before .pre))
     (λ c κs. let s =
     c .before .before .before .before .before .before .before .before .before .before .before .before .before in
     rw (c .before .before .set-face .ensures, length-set) (end-fits (s .pre)))
-    (λ c κs. edges-counted
-    (c .before .before .before .before .before .before .before .before .before .before .before .before .before .before
-    .before .pre .held))
+    (λ c κs. search needs)
     (λ c. search needs)
     (λ c. search needs)
     returns)

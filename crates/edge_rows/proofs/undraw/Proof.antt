@@ -3,7 +3,6 @@
 use borrow.Author.Needs.{needs}
 use mathlib.Core.Path.{_≡_, refl, ap, _∙_}
 use Prim.Native.Nat.{ℕ}
-use native.Mathlib.Omega.{arith}
 use lib.IntN.{pos, natAbs}
 use mir.Syntax.{w64}
 use mir.Facts.{toZ-ofZ}
@@ -12,7 +11,7 @@ use Rattle.tables.specs.Tables.{closed}
 use Rattle.map_rows.specs.Rows.{edgeAt}
 use Rattle.links.specs.Linking.{unlinkedEdge}
 use Rattle.edge_rows.specs.Holds.{isolatedWithout, facedIf}
-use Rattle.edge_rows.proofs.Counts.{edges-counted, nodes-natural, nodes-read, edges-natural, edges-read}
+use Rattle.head.proofs.Words.{nodes-natural, nodes-read, edges-natural, edges-read}
 use Rattle.edge_rows.proofs.Undrawn.{undrawn-as, start-cell, end-cell, start-rows, faced-alike, isolated-alike}
 use Rattle.edge_rows.proofs.undraw.Statement.{statement}
 use Rattle.edge_rows.proofs.undraw.Tie as tie
@@ -20,7 +19,7 @@ use Rattle.edge_rows.proofs.undraw.Tie as tie
 undraw-edge-requires : tie.Need-undraw-edge-requires
 undraw-edge-requires c κs =
     let s = c .before .before .before .before .before .before .before in
-    let n = edges-read (s .pre .held) (c .before .before .before .to-usize2 .ensures) in
+    let n = edges-read (s .pre .held .counted) (c .before .before .before .to-usize2 .ensures) in
     (rw n (s .pre .held .edge-table .rows), rw n (s .pre .row))
 
 -- the edges without the row, and whether its nodes are isolated then
@@ -37,7 +36,7 @@ gone c =
     let a = s .args in
     let l = a .edges .now in
     let g = c .undraw-edge .ensures in
-    let n = edges-read (s .pre .held) (c .before .before .before .before .to-usize2 .ensures) in (
+    let n = edges-read (s .pre .held .counted) (c .before .before .before .before .to-usize2 .ensures) in (
       g .0 ∙ ap (λ (j : ℕ). closed 32 (unlinkedEdge l j (a .i)) j (a .i)) n,
       g .1 ∙ isolated-alike l (a .i) n (sent (c .before .before .before .u .given) ∙ start-cell (s .pre)),
       g .2 ∙ isolated-alike l (a .i) n (sent (c .before .before .v .given) ∙ end-cell (s .pre)),
@@ -46,7 +45,7 @@ gone c =
 give-face-requires : tie.Need-give-face-requires
 give-face-requires c κs =
     let s = c .before .before .before .before .before .before .before .before .before .before in
-    let n = nodes-read (s .pre .held)
+    let n = nodes-read (s .pre .held .counted)
     (c .before .before .before .before .before .before .before .before .to-usize .ensures) in
     rw n (s .pre .held .node-table .rows)
 
@@ -63,7 +62,7 @@ start-faced c =
     let l = s .args .nodes .now in
     c .give-face .ensures
     ∙ faced-alike {l = l} {l′ = l} refl
-    (nodes-read (s .pre .held) (g .before .before .before .before .before .before .to-usize .ensures))
+    (nodes-read (s .pre .held .counted) (g .before .before .before .before .before .before .to-usize .ensures))
     (sent (g .before .before .before .u .given) ∙ start-cell (s .pre)) (toZ-ofZ {w = w64} (s .fits .face)) (gone g .1)
 
 give-face-requires-2 : tie.Need-give-face-requires-2
@@ -71,7 +70,7 @@ give-face-requires-2 c κs =
     let f = c .before .before in
     let g = f .before .before .before in
     let s = g .before .before .before .before .before .before .before .before in
-    let n = nodes-read (s .pre .held) (g .before .before .before .before .before .before .to-usize .ensures) in
+    let n = nodes-read (s .pre .held .counted) (g .before .before .before .before .before .before .to-usize .ensures) in
     rw (start-faced f, n) (start-rows (s .pre))
 
 returns : tie.Need-returns
@@ -79,20 +78,20 @@ returns c =
     let f = c .before .before .before .before .before in
     let g = f .before .before .before in
     let s = g .before .before .before .before .before .before .before .before in
-    let n = nodes-read (s .pre .held) (g .before .before .before .before .before .before .to-usize .ensures) in
+    let n = nodes-read (s .pre .held .counted) (g .before .before .before .before .before .before .to-usize .ensures) in
     undrawn-as (s .pre)
     (c .before .before .give-face2 .ensures
     ∙ faced-alike (start-faced f) n (sent (g .before .before .v .given) ∙ end-cell (s .pre))
     (toZ-ofZ {w = w64} (s .fits .face)) (gone g .2))
     (gone g .0)
-    (c .without-edge .ensures)
+    (c .changed .ensures)
 
 pub undraw-spec : {M : Type 1} → statement M
 undraw-spec =
     tie.close
     (tie.spec
-    (λ c κs. nodes-natural (c .before .pre .held))
-    (λ c κs. edges-natural (c .before .before .before .pre .held))
+    (λ c κs. nodes-natural (c .before .pre .held .counted))
+    (λ c κs. edges-natural (c .before .before .before .pre .held .counted))
     (λ c. search needs)
     (λ c. search needs)
     (λ c. search needs)
@@ -106,7 +105,7 @@ undraw-spec =
     give-face-requires-2
     (λ c κs. let s =
     c .before .before .before .before .before .before .before .before .before .before .before .before .before .before
-    .before in (edges-counted (s .pre .held), let r = s .pre .row in omega arith))
+    .before in let r = s .pre .row in search needs)
     (λ c. search needs)
     (λ c. search needs)
     returns)

@@ -1,21 +1,17 @@
 -- `edit_curve::change_at_row` meets its contract: the rows of the edge's nodes are found. Assumes nothing.
 use borrow.Author.Needs.{needs}
-use mathlib.Core.Path.{_≡_, refl, sym, ap, ap₂, _∙_}
+use mathlib.Core.Path.{refl, sym, ap, ap₂, _∙_}
 use Prim.Native.Nat.{ℕ}
 use lib.IntN.{ℤ, pos, natAbs}
 use lib.Signed.{nonNeg}
 use Rattle.integers.specs.Signs.{sent}
-use Rattle.lists.specs.Tables.{place}
-use Rattle.lists.specs.declared.Found.the-variants.{At}
 use Rattle.map.specs.Limits.{nodeWidth}
 use Rattle.map.specs.Rows.{hasNode}
-use Rattle.tables.specs.Tables.{sameZ, column}
 use Rattle.map_rows.specs.Rows.{nodeMap, edgeAt}
 use Rattle.map_rows.proofs.Rows.{edge-row-of}
-use Rattle.outcomes.proofs.Formed.{node-rows, edge-rows}
+use Rattle.outcomes.proofs.Formed.{counted, node-rows, edge-rows}
 use Rattle.outcomes.proofs.Words.{place-told}
-use Rattle.edge_rows.proofs.Formed.{held}
-use Rattle.edge_rows.proofs.Counts.{nodes-natural, nodes-read}
+use Rattle.head.proofs.Words.{nodes-natural, nodes-read}
 use Rattle.edge_rows.proofs.FoundRows.{node-in, node-number}
 use Rattle.edit_curve.proofs.Changed.{start-there, end-there}
 use Rattle.edit_curve.proofs.change_at_row.Statement.{statement}
@@ -25,7 +21,7 @@ row-of-requires : tie.Need-row-of-requires
 row-of-requires c κs =
     let s = c .before .before .before .before in
     let a = s .args in
-    let n = nodes-read (held (s .pre .0)) (c .before .before .to-usize .ensures) in
+    let n = nodes-read (counted (s .pre .0)) (c .before .before .to-usize .ensures) in
     let q = sent (c .start-of .ok) ∙ c .start-of .ensures in (
       rw n (node-rows (s .pre .0)),
       ap nonNeg q,
@@ -37,7 +33,7 @@ row-of-requires-2 : tie.Need-row-of-requires-2
 row-of-requires-2 c κs =
     let s = c .before .before .before .before .before .before .before in
     let a = s .args in
-    let n = nodes-read (held (s .pre .0)) (c .before .before .before .before .before .to-usize .ensures) in
+    let n = nodes-read (counted (s .pre .0)) (c .before .before .before .before .before .to-usize .ensures) in
     let q = sent (c .end-of .ok) ∙ c .end-of .ensures in (
       rw n (node-rows (s .pre .0)),
       ap nonNeg q,
@@ -51,7 +47,7 @@ change-between-requires c κs =
     let u = v .before .before .before in
     let s = u .before .before .before .before .before in
     let a = s .args in
-    let n = nodes-read (held (s .pre .0)) (u .before .before .before .to-usize .ensures) in
+    let n = nodes-read (counted (s .pre .0)) (u .before .before .before .to-usize .ensures) in
     let x = u .before .start-of in
     let y = v .before .end-of in
     let zu = pos (edgeAt (a .edges .now) (a .i) .start) in
@@ -72,7 +68,7 @@ pub change-at-row-spec : {M : Type 1} → statement M
 change-at-row-spec =
     tie.close
     (tie.spec
-    (λ c κs. nodes-natural (held (c .before .pre .0)))
+    (λ c κs. nodes-natural (counted (c .before .pre .0)))
     (λ c κs. let s = c .before .before .before in edge-row-of (edge-rows (s .pre .0)) (s .args .i) (s .pre .1))
     row-of-requires
     (λ c κs. let s = c .before .before .before .before .before .before in

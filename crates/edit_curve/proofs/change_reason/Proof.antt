@@ -4,7 +4,7 @@ use Prim.Native.Nat.{ℕ}
 use native.Mathlib.Omega.{arith}
 use Rattle.map.specs.Reasons.{firstReason}
 use Rattle.map_rows.proofs.Rows.{node-row-of}
-use Rattle.edge_rows.proofs.Counts.{edges-few, nodes-natural, nodes-read, edges-natural, edges-read}
+use Rattle.head.proofs.Words.{nodes-natural, nodes-read, edges-natural, edges-read}
 use Rattle.edge_rows.proofs.FirstReasons.{sent-run}
 use Rattle.edit_curve.specs.Change.{turnReasons}
 use Rattle.edit_curve.proofs.ChangeReasons.{change-sent, change-turns}
@@ -26,11 +26,11 @@ turn-reason-requires c κs =
     let s = c .before .before .before .before .before .before in
     let a = s .args in
     let p = s .pre in
-    let n = nodes-read (p .0) (c .before .before .to-usize .ensures) in
-    let j = edges-read (p .0) (c .to-usize2 .ensures) in (
+    let n = nodes-read (p .0 .counted) (c .before .before .to-usize .ensures) in
+    let j = edges-read (p .0 .counted) (c .to-usize2 .ensures) in (
       rw n (p .0 .node-table .rows),
       rw j (p .0 .edge-table .rows),
-      omega (arith, j, edges-few (p .0)),
+      omega (arith, j, p .0 .counted .edges .most),
       rw j (p .1),
       sent-run (a .c .now) _
           (sym (c .before .before .before .before .before .curve-reason .ensures)
@@ -42,8 +42,8 @@ turns c =
     let s = c .before .before .before .before .before .before .before in
     let a = s .args in
     let p = s .pre in
-    let n = nodes-read (p .0) (c .before .before .before .to-usize .ensures) in
-    let j = edges-read (p .0) (c .before .to-usize2 .ensures) in
+    let n = nodes-read (p .0 .counted) (c .before .before .before .to-usize .ensures) in
+    let j = edges-read (p .0 .counted) (c .before .to-usize2 .ensures) in
     change-turns (a .nodes .now) (a .edges .now) (a .h) (a .i) (a .u) (a .v) (a .c .now)
     (sym (c .before .before .before .before .before .before .curve-reason .ensures)
     ∙ c .before .before .before .before .before .if1 .left)
@@ -56,7 +56,7 @@ change-reason-spec =
     (tie.spec
     curve-reason-requires
     sent
-    (λ c κs. nodes-natural (c .before .before .before .pre .0))
-    (λ c κs. edges-natural (c .before .before .before .before .before .pre .0))
+    (λ c κs. nodes-natural (c .before .before .before .pre .0 .counted))
+    (λ c κs. edges-natural (c .before .before .before .before .before .pre .0 .counted))
     turn-reason-requires
     turns)

@@ -15,7 +15,7 @@ use Rattle.map_rows.specs.Rows.{edgeAt}
 use Rattle.map_rows.proofs.Rows.{edge-row-of}
 use Rattle.outcomes.specs.Variants.{ownOrNext}
 use Rattle.outcomes.proofs.Formed.{done}
-use Rattle.outcomes.proofs.Counts.{nodes-natural, nodes-read, edges-natural, edges-read}
+use Rattle.head.proofs.Words.{nodes-natural, nodes-read, edges-natural, edges-read}
 use Rattle.edit_heal.specs.Heals.{healedRows}
 use Rattle.edit_heal.proofs.carry_out.Statement.{statement}
 use Rattle.edit_heal.proofs.carry_out.Tie as tie

@@ -14,7 +14,7 @@ use Rattle.map_rows.specs.Rows.{edgeAt, edgeMap}
 use Rattle.map_rows.proofs.Rows.{edge-row-of}
 use Rattle.reason_departures.specs.Turning.{jointReasons}
 use Rattle.outcomes.proofs.Formed.{node-rows, edge-rows, counted, decided-refused, decided-carried}
-use Rattle.outcomes.proofs.Counts.{edges-natural, edges-read}
+use Rattle.head.proofs.Words.{edges-natural, edges-read}
 use Rattle.outcomes.specs.Variants.{ownOrNext}
 use Rattle.edit_heal.specs.Heals.{PartsOf, lateReasons, healedValue, healedRows}
 use Rattle.edit_heal.proofs.Told.{late-few, joint-some, edges-differ, early-reason, late-reason}

@@ -18,7 +18,7 @@ use Rattle.form_ranges.specs.Ranges.{lent}
 use Rattle.outcomes.specs.Outcomes.{decided}
 use Rattle.outcomes.specs.Variants.{healTicket}
 use Rattle.outcomes.proofs.Formed.{edge-rows, counted, decided-refused, edge-none}
-use Rattle.outcomes.proofs.Counts.{edges-natural, edges-read}
+use Rattle.head.proofs.Words.{edges-natural, edges-read}
 use Rattle.outcomes.proofs.Words.{place-told}
 use Rattle.outcomes.proofs.FoundRows.{edge-in, edge-number}
 use Rattle.edit_heal.proofs.Told.{row-missing}

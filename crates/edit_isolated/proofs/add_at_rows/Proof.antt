@@ -43,7 +43,7 @@ face-of-requires c κs =
     let g = c .before .before .before in
     let s = g .before .before .before in
     let a = s .args in
-    let free = isolated-free (a .nodes .now) (a .edges .now) (a .h) (a .u) (a .v) (a .c .now)
+    let free = isolated-free (a .nodes .now) (a .edges .now) (a .faces .now) (a .h) (a .u) (a .v) (a .c .now)
     (sym (g .isolated-reason .ensures) ∙ c .before .before .if1 .left) in
     (node-row-of (node-rows (s .pre .0)) (a .u) (s .pre .1), free .1)
 
@@ -53,7 +53,7 @@ draw-requires c κs =
     let g = c .before .before .before .before .before .before in
     let s = g .before .before .before in
     let a = s .args in
-    let free = isolated-free (a .nodes .now) (a .edges .now) (a .h) (a .u) (a .v) (a .c .now)
+    let free = isolated-free (a .nodes .now) (a .edges .now) (a .faces .now) (a .h) (a .u) (a .v) (a .c .now)
     (sym (g .isolated-reason .ensures) ∙ c .before .before .before .before .before .if1 .left) in
     record {
       held = held (s .pre .0);

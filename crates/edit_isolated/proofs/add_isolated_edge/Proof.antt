@@ -14,10 +14,9 @@ use Rattle.tables.specs.Tables.{sameZ, column}
 use Rattle.map_rows.proofs.Rows.{node-rows-rising}
 use Rattle.form_ranges.specs.Ranges.{lent}
 use Rattle.outcomes.specs.Outcomes.{decided}
-use Rattle.outcomes.proofs.Formed.{node-rows, decided-refused}
+use Rattle.outcomes.proofs.Formed.{counted, node-rows, decided-refused}
 use Rattle.outcomes.proofs.Words.{place-told}
-use Rattle.edge_rows.proofs.Formed.{held}
-use Rattle.edge_rows.proofs.Counts.{nodes-natural, nodes-read}
+use Rattle.head.proofs.Words.{nodes-natural, nodes-read}
 use Rattle.edge_rows.proofs.FoundRows.{node-in, node-number}
 use Rattle.edit_isolated.proofs.Added.{start-missing, end-missing}
 use Rattle.edit_isolated.proofs.add_isolated_edge.Statement.{statement}
@@ -26,7 +25,7 @@ use Rattle.edit_isolated.proofs.add_isolated_edge.Tie as tie
 find-row-requires : tie.Need-find-row-requires
 find-row-requires c κs =
     let s = c .before .before .before in
-    rw (nodes-read (held (s .pre)) (c .before .to-usize .ensures)) (node-rows-rising (node-rows (s .pre)))
+    rw (nodes-read (counted (s .pre)) (c .before .to-usize .ensures)) (node-rows-rising (node-rows (s .pre)))
 
 no-start : tie.Need-returns
 no-start c =
@@ -36,7 +35,7 @@ no-start c =
     decided-refused (a .nodes .now) (a .edges .now) (a .faces .now) (a .h) (AddIsoEdge (a .start) (a .end) (a .c .now))
     4 (lit< tt) (c .refused .ensures)
     (start-missing (s .pre) (a .start) (a .end) (a .c .now)
-    (place-told nodeWidth (a .nodes .now) (nodes-read (held (s .pre)) (m .before .before .to-usize .ensures))
+    (place-told nodeWidth (a .nodes .now) (nodes-read (counted (s .pre)) (m .before .before .to-usize .ensures))
     (toZ-ofZ {w = w64} (s .fits .start)) (m .find-row .ensures) (c .before .enum-told .given .1)))
 
 start-at : (c : tie.After-found)
@@ -45,14 +44,14 @@ start-at : (c : tie.After-found)
 start-at c =
     let m = c .before .before in
     let s = m .before .before .before .before in
-    place-told nodeWidth (s .args .nodes .now) (nodes-read (held (s .pre)) (m .before .before .to-usize .ensures))
+    place-told nodeWidth (s .args .nodes .now) (nodes-read (counted (s .pre)) (m .before .before .to-usize .ensures))
     (toZ-ofZ {w = w64} (s .fits .start)) (m .find-row .ensures) (c .found .given .1)
 
 find-row-requires-2 : tie.Need-find-row-requires-2
 find-row-requires-2 c κs =
     let n = c .before .before .before .before .before .before in
     let s = n .before .before in
-    rw (nodes-read (held (s .pre)) (n .to-usize .ensures)) (node-rows-rising (node-rows (s .pre)))
+    rw (nodes-read (counted (s .pre)) (n .to-usize .ensures)) (node-rows-rising (node-rows (s .pre)))
 
 no-end : tie.Need-returns-2
 no-end c =
@@ -63,7 +62,7 @@ no-end c =
     decided-refused (a .nodes .now) (a .edges .now) (a .faces .now) (a .h) (AddIsoEdge (a .start) (a .end) (a .c .now))
     4 (lit< tt) (c .refused2 .ensures)
     (end-missing (s .pre) (a .start) (a .end) (a .c .now)
-    (place-told nodeWidth (a .nodes .now) (nodes-read (held (s .pre)) (n .to-usize .ensures))
+    (place-told nodeWidth (a .nodes .now) (nodes-read (counted (s .pre)) (n .to-usize .ensures))
     (toZ-ofZ {w = w64} (s .fits .end)) (m .find-row2 .ensures) (c .before .enum-told2 .given .1)))
 
 end-at : (c : tie.After-found-end)
@@ -73,7 +72,7 @@ end-at c =
     let m = c .before .before in
     let n = m .before .before .before .before .before .before .before in
     let s = n .before .before in
-    place-told nodeWidth (s .args .nodes .now) (nodes-read (held (s .pre)) (n .to-usize .ensures))
+    place-told nodeWidth (s .args .nodes .now) (nodes-read (counted (s .pre)) (n .to-usize .ensures))
     (toZ-ofZ {w = w64} (s .fits .end)) (m .find-row2 .ensures) (c .found-end .given .1)
 
 add-at-rows-requires : tie.Need-add-at-rows-requires
@@ -103,7 +102,7 @@ pub add-isolated-edge-spec : {M : Type 1} → statement M
 add-isolated-edge-spec =
     tie.close
     (tie.spec
-    (λ c κs. nodes-natural (held (c .before .pre)))
+    (λ c κs. nodes-natural (counted (c .before .pre)))
     find-row-requires
     (λ c. search needs)
     (λ c. search needs)

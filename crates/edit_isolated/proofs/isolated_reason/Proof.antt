@@ -13,7 +13,8 @@ use Rattle.edit_isolated.proofs.isolated_reason.Tie as tie
 sent : tie.Need-returns
 sent c =
     let a = c .before .before .args in
-    isolated-sent (a .nodes .now) (a .edges .now) (a .h) (a .u) (a .v) (a .c .now) (c .before .curve-reason .ensures)
+    isolated-sent (a .nodes .now) (a .edges .now) (a .faces .now) (a .h) (a .u) (a .v) (a .c .now)
+    (c .before .curve-reason .ensures)
     (c .if1 .taken)
 
 -- none of the curve's own reasons
@@ -25,7 +26,8 @@ own c = sym (c .before .curve-reason .ensures) ∙ c .if1 .left
 joined : tie.Need-returns-2
 joined c =
     let a = c .before .before .before .before .args in
-    isolated-joined (a .nodes .now) (a .edges .now) (a .h) (a .u) (a .v) (a .c .now) (own (c .before .before))
+    isolated-joined (a .nodes .now) (a .edges .now) (a .faces .now) (a .h) (a .u) (a .v) (a .c .now)
+    (own (c .before .before))
     (c .before .not-both-isolated .ensures) (c .if2 .taken)
 
 faces-differ-requires : tie.Need-faces-differ-requires
@@ -33,7 +35,8 @@ faces-differ-requires c κs =
     let s = c .before .before .before .before in
     let a = s .args in
     let p = s .pre in
-    let w = both-isolated (a .nodes .now) (a .edges .now) (a .h) (a .u) (a .v) (a .c .now) (own (c .before .before))
+    let w = both-isolated (a .nodes .now) (a .edges .now) (a .faces .now) (a .h) (a .u) (a .v) (a .c .now)
+    (own (c .before .before))
     (c .before .not-both-isolated .ensures) (c .if2 .left) in
     (node-row-of (p .0 .node-table .rows) (a .u) (p .1), node-row-of (p .0 .node-table .rows) (a .v) (p .2), w .0, w .1)
 
@@ -41,7 +44,8 @@ apart : tie.Need-returns-3
 apart c =
     let b = c .before .before in
     let a = b .before .before .before .before .args in
-    isolated-apart (a .nodes .now) (a .edges .now) (a .h) (a .u) (a .v) (a .c .now) (own (b .before .before))
+    isolated-apart (a .nodes .now) (a .edges .now) (a .faces .now) (a .h) (a .u) (a .v) (a .c .now)
+    (own (b .before .before))
     (b .before .not-both-isolated .ensures) (b .if2 .left) (c .before .faces-differ .ensures) (c .if3 .taken)
 
 late : tie.Need-returns-4
@@ -49,7 +53,8 @@ late c =
     let d = c .before in
     let b = d .before .before in
     let a = b .before .before .before .before .args in
-    isolated-late (a .nodes .now) (a .edges .now) (a .h) (a .u) (a .v) (a .c .now) (own (b .before .before))
+    isolated-late (a .nodes .now) (a .edges .now) (a .faces .now) (a .h) (a .u) (a .v) (a .c .now)
+    (own (b .before .before))
     (b .before .not-both-isolated .ensures) (b .if2 .left) (d .before .faces-differ .ensures) (d .if3 .left)
     (c .meeting-or-room-reason .ensures)
 

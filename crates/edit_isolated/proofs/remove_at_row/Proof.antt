@@ -12,9 +12,9 @@ use Rattle.map.specs.Tickets.{RemoveIsoEdge}
 use Rattle.map.specs.Reasons.{edgeIsolated}
 use Rattle.map_rows.specs.Rows.{edgeAt, edgeMap}
 use Rattle.map_rows.proofs.Rows.{edge-row-of}
-use Rattle.outcomes.proofs.Formed.{edge-rows, decided-refused, decided-carried}
+use Rattle.outcomes.proofs.Formed.{counted, edge-rows, decided-refused, decided-carried}
 use Rattle.edge_rows.proofs.Formed.{held}
-use Rattle.edge_rows.proofs.Counts.{edges-natural, edges-read}
+use Rattle.head.proofs.Words.{edges-natural, edges-read}
 use Rattle.edit_isolated.proofs.Removed.{remove-joined, remove-free, remove-lent, remove-value}
 use Rattle.edit_isolated.proofs.remove_at_row.Statement.{statement}
 use Rattle.edit_isolated.proofs.remove_at_row.Tie as tie
@@ -22,7 +22,7 @@ use Rattle.edit_isolated.proofs.remove_at_row.Tie as tie
 edge-isolated-requires : tie.Need-edge-isolated-requires
 edge-isolated-requires c κs =
     let s = c .before .before .before in
-    let n = edges-read (held (s .pre .0)) (c .before .to-usize .ensures) in
+    let n = edges-read (counted (s .pre .0)) (c .before .to-usize .ensures) in
     (rw n (edge-rows (s .pre .0)), rw n (s .pre .1))
 
 isolated : (c : tie.After-edge-isolated)
@@ -34,7 +34,7 @@ isolated c =
     let a = s .args in
     c .edge-isolated .ensures
     ∙ ap (λ (k : ℕ). edgeIsolated (edgeMap (a .edges .now) k) (edgeAt (a .edges .now) (a .i) .number))
-    (edges-read (held (s .pre .0)) (c .before .before .to-usize .ensures))
+    (edges-read (counted (s .pre .0)) (c .before .before .to-usize .ensures))
 
 joined : tie.Need-returns
 joined c =
@@ -71,7 +71,7 @@ pub remove-at-row-spec : {M : Type 1} → statement M
 remove-at-row-spec =
     tie.close
     (tie.spec
-    (λ c κs. edges-natural (held (c .before .pre .0)))
+    (λ c κs. edges-natural (counted (c .before .pre .0)))
     edge-isolated-requires
     (λ c κs. search needs)
     (λ c. search needs)

@@ -14,10 +14,9 @@ use Rattle.tables.specs.Tables.{sameZ, column}
 use Rattle.map_rows.proofs.Rows.{edge-rows-rising}
 use Rattle.form_ranges.specs.Ranges.{lent}
 use Rattle.outcomes.specs.Outcomes.{decided}
-use Rattle.outcomes.proofs.Formed.{edge-rows, decided-refused}
+use Rattle.outcomes.proofs.Formed.{counted, edge-rows, decided-refused}
 use Rattle.outcomes.proofs.Words.{place-told}
-use Rattle.edge_rows.proofs.Formed.{held}
-use Rattle.edge_rows.proofs.Counts.{edges-natural, edges-read}
+use Rattle.head.proofs.Words.{edges-natural, edges-read}
 use Rattle.edge_rows.proofs.FoundRows.{edge-in, edge-number}
 use Rattle.edit_isolated.proofs.Removed.{remove-missing}
 use Rattle.edit_isolated.proofs.remove_isolated_edge.Statement.{statement}
@@ -26,7 +25,7 @@ use Rattle.edit_isolated.proofs.remove_isolated_edge.Tie as tie
 find-row-requires : tie.Need-find-row-requires
 find-row-requires c κs =
     let s = c .before .before .before in
-    rw (edges-read (held (s .pre)) (c .before .to-usize .ensures)) (edge-rows-rising (edge-rows (s .pre)))
+    rw (edges-read (counted (s .pre)) (c .before .to-usize .ensures)) (edge-rows-rising (edge-rows (s .pre)))
 
 missing : tie.Need-returns
 missing c =
@@ -36,7 +35,7 @@ missing c =
     decided-refused (a .nodes .now) (a .edges .now) (a .faces .now) (a .h) (RemoveIsoEdge (a .edge)) 4 (lit< tt)
     (c .refused .ensures)
     (remove-missing (s .pre) (a .edge) (place-told edgeWidth (a .edges .now)
-    (edges-read (held (s .pre)) (m .before .before .to-usize .ensures)) (toZ-ofZ {w = w64} (s .fits .edge))
+    (edges-read (counted (s .pre)) (m .before .before .to-usize .ensures)) (toZ-ofZ {w = w64} (s .fits .edge))
     (m .find-row .ensures) (c .before .enum-told .given .1)))
 
 edge-at : (c : tie.After-found)
@@ -45,7 +44,7 @@ edge-at : (c : tie.After-found)
 edge-at c =
     let m = c .before .before in
     let s = m .before .before .before .before in
-    place-told edgeWidth (s .args .edges .now) (edges-read (held (s .pre)) (m .before .before .to-usize .ensures))
+    place-told edgeWidth (s .args .edges .now) (edges-read (counted (s .pre)) (m .before .before .to-usize .ensures))
     (toZ-ofZ {w = w64} (s .fits .edge)) (m .find-row .ensures) (c .found .given .1)
 
 remove-at-row-requires : tie.Need-remove-at-row-requires
@@ -67,7 +66,7 @@ pub remove-isolated-edge-spec : {M : Type 1} → statement M
 remove-isolated-edge-spec =
     tie.close
     (tie.spec
-    (λ c κs. edges-natural (held (c .before .pre)))
+    (λ c κs. edges-natural (counted (c .before .pre)))
     find-row-requires
     (λ c. search needs)
     (λ c. search needs)

@@ -23,7 +23,7 @@ use Rattle.form_ranges.specs.Ranges.{lent}
 use Rattle.head.specs.Heads.{sizesIn, roomAt}
 use Rattle.head.proofs.Heads.{room-told, room-left}
 use Rattle.outcomes.proofs.Formed.{edge-rows, nodes-size, counted, decided-refused, decided-carried}
-use Rattle.outcomes.proofs.Counts.{edges-natural, edges-read}
+use Rattle.head.proofs.Words.{edges-natural, edges-read}
 use Rattle.edit_nodes.specs.Parts.{addEarly}
 use Rattle.edit_nodes.proofs.Told.{early-told, other-told, around-told, add-early}
 use Rattle.edit_nodes.proofs.Told.{early-face, early-point, add-other, add-room}

@@ -12,7 +12,7 @@ use Rattle.map.specs.Reasons.{firstReason, minusOne, noFace, outside}
 use Rattle.map.proofs.Reasons.{first-hit, first-miss, first-none}
 use Rattle.form_ranges.specs.Ranges.{lent}
 use Rattle.outcomes.proofs.Formed.{node-rows, edge-rows, face-rows, counted}
-use Rattle.outcomes.proofs.Counts.{nodes-natural, nodes-read, edges-natural, edges-read, faces-natural, faces-read}
+use Rattle.head.proofs.Words.{nodes-natural, nodes-read, edges-natural, edges-read, faces-natural, faces-read}
 use Rattle.edit_nodes.specs.Parts.{addEarly}
 use Rattle.edit_nodes.proofs.Told.{face-told, range-told, taken-told}
 use Rattle.edit_nodes.proofs.add_reason.Statement.{statement}

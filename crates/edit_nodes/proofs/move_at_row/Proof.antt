@@ -15,7 +15,7 @@ use Rattle.map.specs.Limits.{nodeWidth}
 use Rattle.map.specs.Reasons.{firstReason}
 use Rattle.map_rows.proofs.Rows.{node-row-of, node-cells}
 use Rattle.outcomes.proofs.Formed.{node-rows, edge-rows, counted, decided-refused, decided-carried}
-use Rattle.outcomes.proofs.Counts.{edges-natural, edges-read}
+use Rattle.head.proofs.Words.{edges-natural, edges-read}
 use Rattle.edit_nodes.specs.Parts.{moveReasons}
 use Rattle.edit_nodes.proofs.Told.{around-told}
 use Rattle.edit_nodes.proofs.Rows.{move-reasons, move-point}

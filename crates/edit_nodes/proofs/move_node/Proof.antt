@@ -15,7 +15,7 @@ use Rattle.map_rows.proofs.Rows.{node-rows-rising}
 use Rattle.form_ranges.specs.Ranges.{lent}
 use Rattle.outcomes.specs.Outcomes.{decided}
 use Rattle.outcomes.proofs.Formed.{node-rows, counted, decided-refused}
-use Rattle.outcomes.proofs.Counts.{nodes-natural, nodes-read}
+use Rattle.head.proofs.Words.{nodes-natural, nodes-read}
 use Rattle.outcomes.proofs.Words.{place-told}
 use Rattle.outcomes.proofs.FoundRows.{node-in, node-number}
 use Rattle.edit_nodes.proofs.Rows.{move-missing}

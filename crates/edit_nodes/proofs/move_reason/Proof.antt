@@ -10,7 +10,7 @@ use Rattle.map.specs.Reasons.{firstReason, outside}
 use Rattle.map.proofs.Reasons.{first-hit, first-miss, first-none}
 use Rattle.map_rows.proofs.Rows.{node-row-of}
 use Rattle.outcomes.proofs.Formed.{node-rows, edge-rows, counted}
-use Rattle.outcomes.proofs.Counts.{nodes-natural, nodes-read, edges-natural, edges-read}
+use Rattle.head.proofs.Words.{nodes-natural, nodes-read, edges-natural, edges-read}
 use Rattle.edit_nodes.specs.Parts.{pointTaken, moveReasons}
 use Rattle.edit_nodes.proofs.Told.{range-told}
 use Rattle.edit_nodes.proofs.move_reason.Statement.{statement}

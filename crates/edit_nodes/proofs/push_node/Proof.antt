@@ -4,7 +4,8 @@ use mathlib.Core.Path.{_∙_}
 use mir.Syntax.{w64}
 use mir.Facts.{toZ-ofZ}
 use Rattle.outcomes.proofs.Formed.{done}
-use Rattle.outcomes.proofs.Counts.{nodes-natural, nodes-read, next-node-back}
+use Rattle.head.proofs.Words.{nodes-natural, nodes-read}
+use Rattle.outcomes.proofs.Words.{next-node-back}
 use Rattle.edit_nodes.proofs.push_node.Statement.{statement}
 use Rattle.edit_nodes.proofs.push_node.Tie as tie
 

@@ -9,7 +9,7 @@ use Rattle.map.specs.Limits.{nodeWidth}
 use Rattle.tables.specs.Tables.{closed}
 use Rattle.map_rows.proofs.Rows.{node-row-of}
 use Rattle.outcomes.proofs.Formed.{nodes-fit, node-rows, counted, done, decided-refused, decided-carried}
-use Rattle.outcomes.proofs.Counts.{nodes-natural, nodes-read}
+use Rattle.head.proofs.Words.{nodes-natural, nodes-read}
 use Rattle.edit_nodes.proofs.Rows.{remove-joined, remove-free}
 use Rattle.edit_nodes.proofs.Nodes.{remove-carried}
 use Rattle.edit_nodes.proofs.remove_at_row.Statement.{statement}

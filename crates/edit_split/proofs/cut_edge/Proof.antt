@@ -9,7 +9,8 @@ use mir.Facts.{toZ-ofZ}
 use Rattle.integers.specs.Signs.{sent}
 use Rattle.curves.specs.Curves.{point}
 use Rattle.map_rows.specs.Rows.{edgeAt}
-use Rattle.outcomes.proofs.Counts.{edges-natural, edges-read, next-node-back}
+use Rattle.head.proofs.Words.{edges-natural, edges-read}
+use Rattle.outcomes.proofs.Words.{next-node-back}
 use Rattle.outcomes.specs.Variants.{ownOrNext}
 use Rattle.edit_split.specs.Cuts.{cutRow, endNumber}
 use Rattle.edit_split.proofs.cut_edge.Statement.{statement}

@@ -18,7 +18,8 @@ use Rattle.map_rows.proofs.Rows.{edge-row-of}
 use Rattle.head.specs.Heads.{Left, sizesIn, roomAt}
 use Rattle.head.proofs.Heads.{room-left}
 use Rattle.outcomes.proofs.Formed.{edge-rows, nodes-size, edges-size, counted, decided-refused, decided-carried, done}
-use Rattle.outcomes.proofs.Counts.{nodes-natural, nodes-read, next-node-back}
+use Rattle.head.proofs.Words.{nodes-natural, nodes-read}
+use Rattle.outcomes.proofs.Words.{next-node-back}
 use Rattle.outcomes.specs.Variants.{ownOrNext}
 use Rattle.edit_split.specs.Cuts.{cutRow, pointReasons, endNumber, splitNumbers}
 use Rattle.edit_split.proofs.Told.{point-in, late-none, split-reasons}

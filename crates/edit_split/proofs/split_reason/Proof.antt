@@ -11,7 +11,7 @@ use Rattle.map.proofs.Reasons.{first-append, first-after}
 use Rattle.map_rows.proofs.Rows.{edge-row-of}
 use Rattle.head.specs.Heads.{roomAt}
 use Rattle.outcomes.proofs.Formed.{node-rows, edge-rows, counted}
-use Rattle.outcomes.proofs.Counts.{nodes-natural, nodes-read}
+use Rattle.head.proofs.Words.{nodes-natural, nodes-read}
 use Rattle.edit_split.specs.Cuts.{pointReasons}
 use Rattle.edit_split.proofs.Told.{few-numbers}
 use Rattle.edit_split.proofs.split_reason.Statement.{statement}

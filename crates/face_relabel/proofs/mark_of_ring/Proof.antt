@@ -11,46 +11,26 @@ use Rattle.lists.specs.Tables.{place}
 use Rattle.tables.specs.Tables.{sameZ, column}
 use Rattle.map_rows.specs.Rows.{nodeAt, edgeAt}
 use Rattle.map_rows.proofs.Rows.{node-row-of, node-rows-rising}
-use Rattle.face_relabel.specs.Sharing.{encloses, startOf}
+use Rattle.face_relabel.specs.Sharing.{ringEncloses, startOf}
 use Rattle.face_relabel.proofs.Faces.{start-found, start-there}
 use Rattle.face_relabel.proofs.mark_of_ring.Statement.{statement}
 use Rattle.face_relabel.proofs.mark_of_ring.Tie as tie
-use Rattle.face_relabel.proofs.mark_of_ring.Reads as reads
-use Rattle.face_relabel.proofs.mark_of_ring.Lts as lts
-use Rattle.rings.proofs.encloses.Reads as encloses-reads
-use Rattle.map_rows.proofs.node_point.Reads as node-point-reads
-use Rattle.tables.proofs.find_row.Reads as find-row-reads
 
 -- what the search answers
-answer : (c : lts.After-find-row (
-  find-row-reads.Asked,
-  find-row-reads.Learnt,
-  node-point-reads.Asked,
-  node-point-reads.Learnt,
-  encloses-reads.Asked,
-  encloses-reads.Learnt,
-) reads.Pre reads.Post) → c .find-row .result
-    ≡ place (sameZ (getD (c .before .before .args .edges .now) (c .before .before .args .i * 32 + 1) (pos 0))) 0
-    (column 4 (c .before .before .args .nodes .now) (c .before .before .args .n))
+answer : (c : tie.After-find-row)
+    → let a = c .before .before .args in
+    c .find-row .result ≡ place (sameZ (getD (a .edges .now) (a .i * 32 + 1) (pos 0))) 0
+    (column 4 (a .nodes .now) (a .n))
 answer c =
     let a = c .before .before .args in
     c .find-row .ensures ∙ ap (λ (z : ℤ). place (sameZ z) 0 (column 4 (a .nodes .now) (a .n)))
     (toZ-ofZ {w = w64} {z = getD (a .edges .now) (a .i * 32 + 1) (pos 0)} (sfits-of (c .before .find-row-arg .given)))
 
 -- the row that is found
-row : (c : lts.After-known-told (
-  find-row-reads.Asked,
-  find-row-reads.Learnt,
-  node-point-reads.Asked,
-  node-point-reads.Learnt,
-  encloses-reads.Asked,
-  encloses-reads.Learnt,
-) reads.Pre reads.Post) → (c .before .found .given .0 .0 < c .before .before .before .before .before .args .n)
-    × (startOf (c .before .before .before .before .before .args .nodes .now)
-    (c .before .before .before .before .before .args .n)
-    (edgeAt (c .before .before .before .before .before .args .edges .now)
-    (c .before .before .before .before .before .args .i))
-    ≡ nodeAt (c .before .before .before .before .before .args .nodes .now) (c .before .found .given .0 .0) .at)
+row : (c : tie.After-known-told)
+    → let a = c .before .before .before .before .before .args in
+    (c .before .found .given .0 .0 < a .n) × (startOf (a .nodes .now) (a .n) (edgeAt (a .edges .now) (a .i))
+    ≡ nodeAt (a .nodes .now) (c .before .found .given .0 .0) .at)
 row c =
     let b = c .before .before .before in
     let s = b .before .before in
@@ -59,23 +39,14 @@ row c =
     (c .before .found .given .0 .0) (sym (answer b) ∙ c .before .found .given .1)
 
 -- what the ring answers of the point
-told : (c : lts.After-encloses (
-  find-row-reads.Asked,
-  find-row-reads.Learnt,
-  node-point-reads.Asked,
-  node-point-reads.Learnt,
-  encloses-reads.Asked,
-  encloses-reads.Learnt,
-) reads.Pre reads.Post) → encloses (c .before .before .before .before .before .before .before .args .edges .now)
-    (c .before .before .before .before .before .before .before .args .count)
-    (c .before .before .before .before .before .before .before .args .s .ring)
-    (startOf (c .before .before .before .before .before .before .before .args .nodes .now)
-    (c .before .before .before .before .before .before .before .args .n)
-    (edgeAt (c .before .before .before .before .before .before .before .args .edges .now)
-    (c .before .before .before .before .before .before .before .args .i))) ≡ c .encloses .result
+told : (c : tie.After-encloses)
+    → let a = c .before .before .before .before .before .before .before .args in
+    ringEncloses (a .edges .now) (a .count) (a .s .ring) (startOf (a .nodes .now) (a .n)
+    (edgeAt (a .edges .now) (a .i)))
+    ≡ c .encloses .result
 told c =
     let a = c .before .before .before .before .before .before .before .args in
-    ap (encloses (a .edges .now) (a .count) (a .s .ring))
+    ap (ringEncloses (a .edges .now) (a .count) (a .s .ring))
     (row (c .before .before) .1 ∙ sym (c .before .node-point .ensures .0)) ∙ sym (c .encloses .ensures)
 
 returns : tie.Need-returns

@@ -15,21 +15,9 @@ use Rattle.face_relabel.proofs.Faces.{firstMark, sides-shared}
 use Rattle.face_relabel.proofs.Marks.{whole-first}
 use Rattle.face_relabel.proofs.share_edges.Statement.{statement}
 use Rattle.face_relabel.proofs.share_edges.Tie as tie
-use Rattle.face_relabel.proofs.share_edges.Reads as reads
-use Rattle.face_relabel.proofs.share_edges.Lts as lts
-use Rattle.rings.proofs.mark_ring.Reads as mark-ring-reads
-use Rattle.face_relabel.proofs.mark_sides.Reads as mark-sides-reads
-use Rattle.face_relabel.proofs.write_sides.Reads as write-sides-reads
 
 -- the marks of the two sides of the new edge
-module _ (c : lts.After-mark-ring2 (
-  mark-ring-reads.Asked,
-  mark-ring-reads.Learnt,
-  mark-sides-reads.Asked,
-  mark-sides-reads.Learnt,
-  write-sides-reads.Asked,
-  write-sides-reads.Learnt,
-) reads.Pre reads.Post) where
+module _ (c : tie.After-mark-ring2) where
   first : (q : ℕ) → q < c .before .before .before .before .before .before .before .args .count * 2
       → getD (c .mark-ring2 .last .1 .1 .1 .1 .0) q 0
       ≡ firstMark (c .before .before .before .before .before .before .before .args .edges .now)

@@ -5,141 +5,97 @@ use mathlib.Core.Bool.{cond}
 use Prim.Native.Nat.{min}
 use native.Mathlib.Omega.{arith}
 use lib.IntN.{ℤ, pos, natAbs}
-use lib.ListN.{length}
 use lib.Signed.{nonNeg}
 use mir.Syntax.{w64}
 use mir.Val.{ofZ, toZ}
 use mir.Facts.{toZ-ofZ}
 use Rattle.integers.specs.Signs.{sent}
-use Rattle.lists.specs.Tests.{same}
-use Rattle.lists.specs.Scans.{anyOf}
+use Rattle.map.specs.declared.Counts.{Counts}
 use Rattle.map.specs.Rows.{mapOf}
 use Rattle.map_rows.specs.Rows.{nodesOf, edgesOf, facesOf}
 use Rattle.map_rows.proofs.Rows.{faces-length}
 use Rattle.form_ranges.specs.Ranges.{lent}
 use Rattle.outcomes.specs.declared.Done.{Done}
-use Rattle.head.proofs.Words.{is-natural, count-natural, count-abs}
+use Rattle.head.proofs.Words.{is-natural, count-abs, counts-natural}
 use Rattle.face_rows.specs.Holds.{faceKept}
 use Rattle.face_rows.proofs.FaceRows.{table-distinct, without-length}
 use Rattle.face_rows.proofs.Heals.{map-nodes, map-edges, map-next, healed-holds}
 use Rattle.face_rows.proofs.heal_faces.Statement.{statement}
 use Rattle.face_rows.proofs.heal_faces.Tie as tie
 
-to-usize-requires : tie.Need-to-usize-requires
-to-usize-requires c κs = let s = c .before .before .before .before in let k = s .pre .held in
-    count-natural (s .args .h .nodes) (k .counted .nodes .natural) (omega (arith, k .counted .nodes .most))
+-- the two faces as they were passed
+left : (s : tie.Start) → toZ w64 (ofZ w64 (s .args .left)) ≡ s .args .left
+left s = toZ-ofZ {w = w64} (s .fits .left)
 
-to-usize-requires-2 : tie.Need-to-usize-requires-2
-to-usize-requires-2 c κs = let s = c .before .before .before .before .before .before .before in let k = s .pre .held in
-    count-natural (s .args .h .edges) (k .counted .edges .natural) (omega (arith, k .counted .edges .most))
+right : (s : tie.Start) → toZ w64 (ofZ w64 (s .args .right)) ≡ s .args .right
+right s = toZ-ofZ {w = w64} (s .fits .right)
 
 rename-faces-requires : tie.Need-rename-faces-requires
 rename-faces-requires c κs =
-    let s = c .before .before .before .before .before .before .before .before in
-    let a = s .args in
+    let f = c .before .before in
+    let s = f .before .before .before in
     let k = s .pre .held in
-    let n = c .before .before .before .to-usize .ensures
-    ∙ count-abs (a .h .nodes) (k .counted .nodes .natural) (omega (arith, k .counted .nodes .most)) in
-    let e = c .to-usize2 .ensures ∙ count-abs (a .h .edges) (k .counted .edges .natural)
-    (omega (arith, k .counted .edges .most)) in
-    let vl = toZ-ofZ {w = w64} {z = a .left} (s .fits .left) in
-    let vr = toZ-ofZ {w = w64} {z = a .right} (s .fits .right) in
-    let fl = c .before .before .before .before .before .before .face-left in
-    let vf = sent {z = fl .result} (fl .ok) in
-    rw (n, e, vl, vr, vf) (
+    let face = f .face-left .ensures in
+    rw (f .before .before .counts-of .ensures, left s, right s, sent {z = f .face-left .result} (f .face-left .ok)) (
       k .node-rows,
       k .edge-rows,
       k .node-cells,
       k .edge-cells,
       s .pre .left-face,
       s .pre .right-face,
-      fl .ensures ∙ ap (λ (z : ℤ). pos (natAbs z)) (sym (fl .ensures)),
+      face ∙ ap (λ (z : ℤ). pos (natAbs z)) (sym face),
     )
-
-to-usize-requires-3 : tie.Need-to-usize-requires-3
-to-usize-requires-3 c κs = let s =
-    c .before .before .before .before .before .before .before .before .before .before .before .before .before in
-    let k = s .pre .held in count-natural (s .args .h .faces) (k .counted .faces .natural)
-    (omega (arith, k .counted .faces .most))
 
 heal-row-requires : tie.Need-heal-row-requires
 heal-row-requires c κs =
-    let s = c .before .before .before .before .before .before .before .before .before .before .before .before .before
-    .before in
+    let f = c .before .before .before .before .before .before in
+    let s = f .before .before .before in
     let a = s .args in
     let p = s .pre in
-    let k = p .held in
-    let f = c .to-usize3 .ensures ∙ count-abs (a .h .faces) (k .counted .faces .natural)
-    (omega (arith, k .counted .faces .most)) in
-    let vl = toZ-ofZ {w = w64} {z = a .left} (s .fits .left) in
-    let vr = toZ-ofZ {w = w64} {z = a .right} (s .fits .right) in
-    let fl =
-    c .before .before .before .before .before .before .before .before .before .before .before .before .face-left in
-    let vf = sent {z = fl .result} (fl .ok) in
-    rw (f, vl, vr, vf) (
-      (
-        length (a .faces .now),
-        facesOf (a .faces .now) (natAbs (a .h .faces)),
-        k .face-table,
-        faces-length (a .faces .now) (natAbs (a .h .faces)),
-        p .left-there,
-        p .right-there,
-      ),
-      is-natural (a .left) (p .left-face),
-      is-natural (a .right) (p .right-face),
-      ap nonNeg (fl .ensures),
-      p .differ,
-    )
+    rw (f .before .before .counts-of .ensures, left s, right s, sent {z = f .face-left .result} (f .face-left .ok))
+    (record {
+      table = p .held .face-table;
+      left-there = p .left-there;
+      right-there = p .right-there;
+      left-natural = is-natural (a .left) (p .left-face);
+      right-natural = is-natural (a .right) (p .right-face);
+      natural = ap nonNeg (f .face-left .ensures);
+      differ = p .differ;
+    })
 
 without-face-requires : tie.Need-without-face-requires
 without-face-requires c κs =
-    let s = c .before .before .before .before .before .before .before .before .before .before .before .before .before
-    .before .before .before in
+    let s = c .before .before .before .before .before .before .before .before .before .before .before in
     let a = s .args in
-    let p = s .pre in
-    let k = p .held in
     let e = without-length (natAbs (a .left)) (facesOf (a .faces .now) (natAbs (a .h .faces)))
-    (table-distinct (k .face-table)) (p .left-there) in
-    let j = faces-length (a .faces .now) (natAbs (a .h .faces)) in
-    (k .counted, omega arith)
+    (table-distinct (s .pre .held .face-table)) (s .pre .left-there) in
+    (s .pre .held .counted, omega (arith, faces-length (a .faces .now) (natAbs (a .h .faces))))
 
 returns : tie.Need-returns
 returns c row el er =
-    let s = c .before .before .before .before .before .before .before .before .before .before .before .before .before
-    .before .before .before .before .before in
+    let f = c .before .before .before .before .before .before .before .before .before .before in
+    let n = f .before .before in
+    let s = n .before in
     let a = s .args in
-    let p = s .pre in
-    let k = p .held in
+    let k = s .pre .held .counted .next-face in
     let m = mapOf (lent (a .nodes .now) (a .edges .now) (a .faces .now) (a .h)) in
-    let fl =
-    c .before .before .before .before .before .before .before .before .before .before .before .before .before .before
-    .before .before .face-left in
-    let n = c .before .before .before .before .before .before .before .before .before .before .before .before .before
-    .to-usize .ensures ∙ count-abs (a .h .nodes) (k .counted .nodes .natural)
-    (omega (arith, k .counted .nodes .most)) in
-    let e = c .before .before .before .before .before .before .before .before .before .before .to-usize2 .ensures
-    ∙ count-abs (a .h .edges) (k .counted .edges .natural) (omega (arith, k .counted .edges .most)) in
-    let f = c .before .before .before .before .to-usize3 .ensures
-    ∙ count-abs (a .h .faces) (k .counted .faces .natural) (omega (arith, k .counted .faces .most)) in
-    let vl = toZ-ofZ {w = w64} {z = a .left} (s .fits .left) in
-    let vr = toZ-ofZ {w = w64} {z = a .right} (s .fits .right) in
-    let vf = sent {z = fl .result} (fl .ok) in
+    let count = n .counts-of .ensures in
+    let vf = sent {z = f .face-left .result} (f .face-left .ok) in
+    let vl = ap natAbs (left s) ∙ sym el in
+    let vr = ap natAbs (right s) ∙ sym er in
     let nx : natAbs (toZ w64 (ofZ w64 (a .h .«next_face»))) ≡ m .next .faces =
-    count-abs (a .h .«next_face») (k .counted .next-face .natural) (k .counted .next-face .most)
+    count-abs (a .h .«next_face») (k .natural) (k .most)
     ∙ sym (map-next (a .nodes .now) (a .edges .now) (a .faces .now) (a .h)) in
-    let face : fl .result ≡ pos (faceKept (a .makes) row m) = fl .ensures
-    ∙ (λ i. pos (cond (a .makes) (nx i) (min ((ap natAbs vl ∙ sym el) i) ((ap natAbs vr ∙ sym er) i)))) in
-    let rows = c .before .before .before .before .before .before .before .before .before .rename-faces .ensures row m
-    (el ∙ sym (ap natAbs vl)) (er ∙ sym (ap natAbs vr))
-    (map-nodes (a .nodes .now) (a .edges .now) (a .faces .now) (a .h) ∙ ap (nodesOf (a .nodes .now)) (sym n))
-    (map-edges (a .nodes .now) (a .edges .now) (a .faces .now) (a .h) ∙ ap (edgesOf (a .edges .now)) (sym e)) in
-    let table = c .before .before .before .heal-row .ensures (length (a .faces .now))
-    (facesOf (a .faces .now) (natAbs (a .h .faces))) (k .face-table)
-    (faces-length (a .faces .now) (natAbs (a .h .faces)) ∙ sym f)
-    (ap (λ (z : ℤ). anyOf (same (natAbs z)) (facesOf (a .faces .now) (natAbs (a .h .faces)))) vl ∙ p .left-there)
-    (ap (λ (z : ℤ). anyOf (same (natAbs z)) (facesOf (a .faces .now) (natAbs (a .h .faces)))) vr ∙ p .right-there) in (
-      healed-holds p row el er (a .makes) (natAbs (toZ w64 (ofZ w64 (fl .result)))) (ap natAbs (vf ∙ face)) _ _ _ _
-          (rows .0) (rows .1) (rw (vl, vr) at table)
+    let face : f .face-left .result ≡ pos (faceKept (a .makes) row m) = f .face-left .ensures
+    ∙ (λ i. pos (cond (a .makes) (nx i) (min (vl i) (vr i)))) in
+    let rows = c .before .before .before .before .before .before .before .rename-faces .ensures row m (sym vl) (sym vr)
+    (map-nodes (a .nodes .now) (a .edges .now) (a .faces .now) (a .h)
+    ∙ ap (λ (k : Counts). nodesOf (a .nodes .now) (k .nodes)) (sym count))
+    (map-edges (a .nodes .now) (a .edges .now) (a .faces .now) (a .h)
+    ∙ ap (λ (k : Counts). edgesOf (a .edges .now) (k .edges)) (sym count)) in (
+      healed-holds (s .pre) row el er (a .makes) (natAbs (toZ w64 (ofZ w64 (f .face-left .result))))
+          (ap natAbs (vf ∙ face)) _ _ _ _ (rows .0) (rows .1)
+          (rw (count, left s, right s) at (c .before .before .before .heal-row .ensures))
           (ap (λ (d : Done). d .head) (c .carried .ensures) ∙ c .before .without-face .ensures),
       ap (λ (d : Done). d .answer .value) (c .carried .ensures) ∙ vf ∙ face,
     )
@@ -148,11 +104,9 @@ pub heal-faces-spec : {M : Type 1} → statement M
 heal-faces-spec =
     tie.close
     (tie.spec
+    (λ c κs. counts-natural (c .pre .held .counted))
     (λ c κs. search needs)
-    to-usize-requires
-    to-usize-requires-2
     rename-faces-requires
-    to-usize-requires-3
     heal-row-requires
     without-face-requires
     (λ c κs. search needs)

@@ -2,142 +2,122 @@
 use borrow.Author.Needs.{needs}
 use mathlib.Core.Path.{_≡_, sym, ap, _∙_}
 use mathlib.Core.Bool.{Bool, true, cond}
-use mathlib.Core.List.{List, [], _∷_, _++_}
-use Prim.Native.Nat.{ℕ, _+_}
+use mathlib.Core.List.{List}
+use Prim.Native.Nat.{ℕ, _+_, _-_}
 use native.Mathlib.Omega.{arith}
 use lib.IntN.{ℤ, natAbs}
 use lib.ListN.{length}
 use lib.Signed.{nonNeg, ltZ}
 use mir.Syntax.{w64}
+use mir.Val.{toZ, ofZ}
 use mir.Facts.{toZ-ofZ}
-use Rattle.lists.specs.Tests.{same}
-use Rattle.lists.specs.Scans.{anyOf}
 use Rattle.lists.proofs.Bools.{cond-has}
-use Rattle.face_rows.specs.Holds.{facesIn, FaceTable, withoutFace}
+use Rattle.map_rows.specs.Rows.{facesOf}
+use Rattle.map_rows.proofs.Rows.{faces-length}
+use Rattle.face_rows.specs.Holds.{facesIn, FaceTable, withoutFace, healFaces}
 use Rattle.face_rows.proofs.Words.{either}
-use Rattle.face_rows.proofs.FaceRows.{table-distinct, without-length, still-there}
+use Rattle.face_rows.proofs.FaceRows.{table-distinct, without-length, two-less, extendable-here, pushed-here}
+use Rattle.face_rows.proofs.FaceRows.{table-here, removed-here}
 use Rattle.face_rows.proofs.heal_row.Statement.{statement}
 use Rattle.face_rows.proofs.heal_row.Tie as tie
 
--- one face less, and two less
-module _ {n : ℕ} {fs : List ℕ} {l : List ℤ} (t : FaceTable n fs l) (f g count : ℕ) (len : length fs ≡ count)
-    (hf : anyOf (same f) fs ≡ true) where
-  fewer : length (withoutFace f fs) + 1 ≡ count
-  fewer = without-length f fs (table-distinct t) hf ∙ len
+abbrev faces : tie.Start → List ℕ
+faces s = facesOf (s .args .faces .now) (s .args .count)
 
-  fewest : {l′ : List ℤ} → FaceTable n (withoutFace f fs) l′ → (f ≡ g → ⊥) → anyOf (same g) fs ≡ true
-      → length (withoutFace g (withoutFace f fs)) + 2 ≡ count
-  fewest t′ ne hg =
-      let a = fewer in
-      let b = without-length g (withoutFace f fs) (table-distinct t′) (still-there f g fs ne hg) in
-      omega arith
+-- without the left face, and without the right one too
+abbrev rest : tie.Start → List ℕ
+rest s = withoutFace (natAbs (s .args .left)) (faces s)
 
-sub-remove-face : tie.Need-sub-remove-face
-sub-remove-face c =
-    let p = c .before .before .before .before .before .pre in
-    let e = fewer (p .0 .2) _ 0 _ (p .0 .3) (p .0 .4) in
-    omega arith
+fewer : (s : tie.Start) → length (rest s) + 1 ≡ s .args .count
+fewer s = without-length (natAbs (s .args .left)) (faces s) (table-distinct (s .pre .table)) (s .pre .left-there)
+    ∙ faces-length (s .args .faces .now) (s .args .count)
+
+fewest : (s : tie.Start) → length (withoutFace (natAbs (s .args .right)) (rest s)) + 2 ≡ s .args .count
+fewest s = two-less (s .pre .table) _ _ (s .pre .differ) (s .pre .left-there) (s .pre .right-there)
+    ∙ faces-length (s .args .faces .now) (s .args .count)
+
+gone : (c : tie.After-remove-face)
+    → let s = c .before .before .before in FaceTable (length (s .args .faces .now)) (rest s) (c .remove-face .last .0)
+gone c = rw (toZ-ofZ {w = w64} (c .before .before .before .fits .left)) at (c .remove-face .ensures)
 
 remove-face-requires-2 : tie.Need-remove-face-requires-2
 remove-face-requires-2 c κs =
-    let s = c .before .before .before .before .before in
-    let a = s .args in
-    let p = s .pre in
-    let o = toZ-ofZ {w = w64} {z = a .left} (s .fits .left) in
-    let e = fewer (p .0 .2) _ 0 _ (p .0 .3) (p .0 .4) in
-    let t = rw o at (c .before .before .remove-face .ensures (p .0 .0) (p .0 .1) (p .0 .2) (p .0 .3)) in (
-      (p .0 .0, withoutFace (natAbs (a .left)) (p .0 .1), t, omega arith),
-      ap nonNeg (toZ-ofZ {w = w64} {z = a .right} (s .fits .right)) ∙ p .2,
+    let g = c .before .before in
+    let s = g .before .before .before in
+    let e = fewer s in (
+      table-here (gone g) {n = s .args .count - 1} (omega arith),
+      ap nonNeg (toZ-ofZ {w = w64} (s .fits .right)) ∙ s .pre .right-natural,
     )
 
-sub-push-face : tie.Need-sub-push-face
-sub-push-face c =
-    let s = c .before .before .before .before .before .before .before .before in
-    let a = s .args in
-    let p = s .pre in
-    let o = toZ-ofZ {w = w64} {z = a .left} (s .fits .left) in
-    let t = rw o at (c .before .before .before .before .before .remove-face .ensures (p .0 .0) (p .0 .1) (p .0 .2)
-    (p .0 .3)) in
-    let e = fewest (p .0 .2) (natAbs (a .left)) (natAbs (a .right)) _ (p .0 .3) (p .0 .4) t (p .4) (p .0 .5) in
-    omega arith
+both-gone : (c : tie.After-remove-face2)
+    → let s = c .before .before .before .before .before .before in
+    FaceTable (length (s .args .faces .now)) (withoutFace (natAbs (s .args .right)) (rest s)) (c .remove-face2 .last .0)
+both-gone c =
+    let g = c .before .before .before in
+    let s = g .before .before .before in
+    let e = fewer s in
+    rw (toZ-ofZ {w = w64} (s .fits .right)) at
+    (removed-here (gone g) {n = s .args .count - 1} (omega arith) _ (c .remove-face2 .ensures))
 
 push-face-requires : tie.Need-push-face-requires
 push-face-requires c κs =
-    let s = c .before .before .before .before .before .before .before .before in
-    let a = s .args in
-    let p = s .pre in
-    let o = toZ-ofZ {w = w64} {z = a .left} (s .fits .left) in
-    let o′ = toZ-ofZ {w = w64} {z = a .right} (s .fits .right) in
-    let t = rw o at (c .before .before .before .before .before .remove-face .ensures (p .0 .0) (p .0 .1) (p .0 .2)
-    (p .0 .3)) in
-    let e = fewer (p .0 .2) (natAbs (a .left)) 0 _ (p .0 .3) (p .0 .4) in
-    let k = fewest (p .0 .2) (natAbs (a .left)) (natAbs (a .right)) _ (p .0 .3) (p .0 .4) t (p .4) (p .0 .5) in
-    let fs = withoutFace (natAbs (a .left)) (p .0 .1) in
-    let t′ = rw o′ at (c .before .before .remove-face2 .ensures (p .0 .0) fs t (omega arith)) in
-    let most = p .0 .2 .fits in
-    let len = p .0 .3 in (
-      (p .0 .0, withoutFace (natAbs (a .right)) fs, t′ .cells, omega arith, omega arith),
-      ap nonNeg (toZ-ofZ {w = w64} {z = a .face} (s .fits .face)) ∙ p .3,
+    let g = c .before .before in
+    let s = g .before .before .before .before .before .before in
+    let e = fewest s in
+    let t = both-gone g in (
+      extendable-here _ _ (t .cells) (t .fits) (omega arith)
+          (omega (arith, s .pre .table .fits, faces-length (s .args .faces .now) (s .args .count))),
+      ap nonNeg (toZ-ofZ {w = w64} (s .fits .face)) ∙ s .pre .natural,
     )
+
+-- the higher of the two, as it was passed
+higher : (c : tie.After-select)
+    → let a = c .before .before .before .args in
+    toZ w64 (ofZ w64 (c .select .result)) ≡ cond (ltZ (a .left) (a .right)) (a .right) (a .left)
+higher c =
+    let s = c .before .before .before in
+    either (ltZ (s .args .left) (s .args .right)) (s .fits .right) (s .fits .left)
+    (rw (toZ-ofZ {w = w64} (s .fits .left), toZ-ofZ {w = w64} (s .fits .right)) at (c .select .ensures))
 
 remove-face-requires-3 : tie.Need-remove-face-requires-3
 remove-face-requires-3 c κs =
-    let s = c .before .before .before in
-    let a = s .args in
-    let p = s .pre in
-    let o = toZ-ofZ {w = w64} {z = a .left} (s .fits .left) in
-    let o′ = toZ-ofZ {w = w64} {z = a .right} (s .fits .right) in
-    let told = either (ltZ (a .left) (a .right)) (s .fits .right) (s .fits .left)
-    (rw (o, o′) at (c .select .ensures)) in (
-      (p .0 .0, p .0 .1, p .0 .2, p .0 .3),
-      ap nonNeg told
-          ∙ cond-has (λ (z : ℤ). nonNeg z ≡ true) (ltZ (a .left) (a .right)) (p .2) (p .1),
+    let s = c .before .before .before in (
+      s .pre .table,
+      ap nonNeg (higher c) ∙ cond-has (λ (z : ℤ). nonNeg z ≡ true) (ltZ (s .args .left) (s .args .right))
+          (s .pre .right-natural) (s .pre .left-natural),
     )
 
 returns : tie.Need-returns
-returns c n gs t₀ len hl hr =
-    let s = c .before .before .before .before .before .before .before .before .before .before in
+returns c =
+    let g = c .before .before .before .before in
+    let s = g .before .before .before .before .before .before in
     let a = s .args in
-    let p = s .pre in
-    let o = toZ-ofZ {w = w64} {z = a .left} (s .fits .left) in
-    let o′ = toZ-ofZ {w = w64} {z = a .right} (s .fits .right) in
-    let v = toZ-ofZ {w = w64} {z = a .face} (s .fits .face) in
-    let t = rw o at (c .before .before .before .before .before .before .before .remove-face .ensures n gs t₀ len) in
-    let e = fewer t₀ (natAbs (a .left)) 0 _ len hl in
-    let k = fewest t₀ (natAbs (a .left)) (natAbs (a .right)) _ len hl t (p .4) hr in
-    let fs = withoutFace (natAbs (a .left)) gs in
-    let t′ = rw o′ at (c .before .before .before .before .remove-face2 .ensures n fs t (omega arith)) in
-    let most = t₀ .fits in
-    let u = rw v at (c .before .push-face .ensures n (withoutFace (natAbs (a .right)) fs) (t′ .cells) (omega arith)
-    (omega arith)) in
-    ap (λ (b : Bool). facesIn n (cond b (withoutFace (natAbs (a .right)) fs ++ natAbs (a .face) ∷ [])
-    (withoutFace (natAbs (cond (ltZ (a .left) (a .right)) (a .right) (a .left))) gs)))
-    (c .before .before .before .before .before .before .before .before .before .if1 .taken) ∙ u
+    let e = fewest s in
+    let t = both-gone g in
+    ap (λ (b : Bool). facesIn (length (a .faces .now)) (healFaces b (a .left) (a .right) (natAbs (a .face)) (faces s)))
+    (g .before .before .before .before .before .if1 .taken)
+    ∙ (rw (toZ-ofZ {w = w64} (s .fits .face)) at (pushed-here _ (withoutFace (natAbs (a .right)) (rest s)) (t .cells)
+    (t .fits) {n = a .count - 2} (omega arith) _ (c .before .push-face .ensures)))
 
 returns-2 : tie.Need-returns-2
-returns-2 c n gs t₀ len hl hr =
+returns-2 c =
     let s = c .before .before .before .before .before in
     let a = s .args in
-    let o = toZ-ofZ {w = w64} {z = a .left} (s .fits .left) in
-    let o′ = toZ-ofZ {w = w64} {z = a .right} (s .fits .right) in
-    let told = either (ltZ (a .left) (a .right)) (s .fits .right) (s .fits .left)
-    (rw (o, o′) at (c .before .before .select .ensures)) in
-    let t = c .before .remove-face3 .ensures n gs t₀ len in
-    ap (λ (b : Bool). facesIn n (cond b
-    (withoutFace (natAbs (a .right)) (withoutFace (natAbs (a .left)) gs) ++ natAbs (a .face) ∷ [])
-    (withoutFace (natAbs (cond (ltZ (a .left) (a .right)) (a .right) (a .left))) gs)))
+    ap (λ (b : Bool). facesIn (length (a .faces .now)) (healFaces b (a .left) (a .right) (natAbs (a .face)) (faces s)))
     (c .before .before .before .before .if1 .left)
-    ∙ ap (λ (z : ℤ). facesIn n (withoutFace (natAbs z) gs)) (sym told)
-    ∙ t .cells
+    ∙ ap (λ (z : ℤ). facesIn (length (a .faces .now)) (withoutFace (natAbs z) (faces s)))
+    (sym (higher (c .before .before)))
+    ∙ c .before .remove-face3 .ensures .cells
 
 pub heal-row-spec : {M : Type 1} → statement M
 heal-row-spec =
     tie.close
     (tie.spec
-    (λ c κs. search needs)
-    sub-remove-face
+    (λ c κs. let s = c .before .before in
+    (s .pre .table, ap nonNeg (toZ-ofZ {w = w64} (s .fits .left)) ∙ s .pre .left-natural))
+    (λ c. omega (arith, fewer (c .before .before .before .before .before)))
     remove-face-requires-2
-    sub-push-face
+    (λ c. omega (arith, fewest (c .before .before .before .before .before .before .before .before)))
     push-face-requires
     (λ c κs. search needs)
     remove-face-requires-3

@@ -1,164 +1,114 @@
 -- `face_rows::split_face` meets its contract. Assumes nothing.
 use borrow.Author.Needs.{needs}
-use mathlib.Core.Path.{_≡_, sym, ap, _∙_, subst, refl}
-use mathlib.Core.Bool.{Bool, not, _&&_}
-use Prim.Native.Nat.{ℕ, _*_, _-_, _<_}
+use mathlib.Core.Path.{_≡_, sym, ap, _∙_, subst}
+use mathlib.Core.Bool.{Bool}
+use Prim.Native.Nat.{_*_, _-_}
 use native.Mathlib.Omega.{arith}
-use lib.Dec.{eqb, lit≤}
-use lib.IntN.{ℤ, pos, natAbs}
-use lib.ListN.{length}
+use lib.IntN.{ℤ, natAbs}
 use mir.Syntax.{w64}
-use mir.Val.{ofZ}
+use mir.Val.{toZ, ofZ}
 use mir.Facts.{toZ-ofZ}
 use Rattle.integers.specs.Order.{sgn}
-use Rattle.lists.specs.Tests.{same}
-use Rattle.lists.specs.Scans.{anyOf}
 use Rattle.plane.specs.Areas.{isPositive}
+use Rattle.map.specs.declared.Counts.{Counts}
 use Rattle.map.specs.Rows.{mapOf}
 use Rattle.map.specs.Darts.{ring}
 use Rattle.map.specs.Faces.{ringArea}
-use Rattle.map_rows.specs.Rows.{nodesOf, edgesOf, facesOf, edgeMap}
-use Rattle.map_rows.proofs.Rows.{faces-length}
+use Rattle.map_rows.specs.Rows.{nodesOf, edgesOf, edgeMap}
 use Rattle.darts.specs.Positions.{dartAt}
 use Rattle.form_ranges.specs.Ranges.{lent}
-use Rattle.face_relabel.specs.Sharing.{Shared}
-use Rattle.head.proofs.Words.{is-natural, count-natural, count-abs, count-back, small-fits}
-use Rattle.outcomes.proofs.Words.{number-test}
+use Rattle.face_relabel.specs.Sharing.{ShareableFace}
+use Rattle.head.proofs.Words.{is-natural, count-back, counts-natural}
+use Rattle.face_rows.specs.Holds.{sidesOf}
 use Rattle.face_rows.proofs.Heals.{map-nodes, map-edges}
-use Rattle.face_rows.proofs.Splits.{area-is, split-holds, sides-shared}
+use Rattle.face_rows.proofs.Splits.{area-is, old-natural, split-holds, sides-shared}
 use Rattle.face_rows.proofs.split_face.Statement.{statement}
 use Rattle.face_rows.proofs.split_face.Tie as tie
 
--- a number with no sign is itself
-self : {z : ℤ} {k : ℕ} → z ≡ pos k → z ≡ pos (natAbs z)
-self e = e ∙ ap (λ (x : ℤ). pos (natAbs x)) (sym e)
+-- old face and next face number, as they were passed and read
+old : (s : tie.Start) → toZ w64 (ofZ w64 (s .args .old)) ≡ s .args .old
+old s = toZ-ofZ {w = w64} (s .fits .old)
 
-to-usize-requires : tie.Need-to-usize-requires
-to-usize-requires c κs = let s = c .before in let k = s .pre .held in
-    count-natural (s .args .h .edges) (k .counted .edges .natural) (omega (arith, k .counted .edges .most))
+next : (s : tie.Start) → toZ w64 (ofZ w64 (s .args .h .«next_face»)) ≡ s .args .h .«next_face»
+next s = let k = s .pre .held .counted .next-face in count-back (s .args .h .«next_face») (k .natural) (k .most)
 
 sides-of-requires : tie.Need-sides-of-requires
 sides-of-requires c κs =
     let s = c .before .before .before .before in
-    let a = s .args in
     let k = s .pre .held in
-    let e = c .before .before .to-usize .ensures
-    ∙ count-abs (a .h .edges) (k .counted .edges .natural) (omega (arith, k .counted .edges .most)) in
-    rw (e, count-back (a .h .«next_face») (k .counted .next-face .natural) (k .counted .next-face .most))
+    rw (c .before .before .before .counts-of .ensures, next s)
     (k .edge-rows, s .pre .drawn, k .counted .edges .most, k .counted .next-face .natural, k .counted .next-face .most)
 
-to-usize-requires-2 : tie.Need-to-usize-requires-2
-to-usize-requires-2 c κs = let s = c .before .before .before .before .before .before .before in let k = s .pre .held in
-    count-natural (s .args .h .nodes) (k .counted .nodes .natural) (omega (arith, k .counted .nodes .most))
+-- the left ring's doubled area is positive
+abbrev isLeft : tie.Start → Bool
+isLeft s =
+    let l = s .args .edges .now in
+    let es = edgeMap l (natAbs (s .args .h .edges)) in
+    isPositive (sgn (ringArea es (ring es (dartAt l ((natAbs (s .args .h .edges) - 1) * 2)))))
+
+sides : (c : tie.After-sides-of)
+    → let s = c .before .before .before .before .before in
+    let a = s .args in
+    c .sides-of .result ≡ sidesOf (isLeft s) (c .before .before .face-goes .result) ((natAbs (a .h .edges) - 1) * 2)
+    (a .old) (a .h .«next_face»)
+sides c =
+    let s = c .before .before .before .before .before in
+    rw (c .before .before .before .before .counts-of .ensures, old s, next s) at (c .sides-of .ensures)
 
 share-rows-requires : tie.Need-share-rows-requires
 share-rows-requires c κs =
-    let s = c .before .before .before .before .before .before .before .before .before in
+    let d = c .before .before in
+    let s = d .before .before .before .before .before in
     let a = s .args in
-    let p = s .pre in
-    let k = p .held in
-    let e = c .before .before .before .before .before .before .before .to-usize .ensures
-    ∙ count-abs (a .h .edges) (k .counted .edges .natural) (omega (arith, k .counted .edges .most)) in
-    let n = c .before .to-usize2 .ensures
-    ∙ count-abs (a .h .nodes) (k .counted .nodes .natural) (omega (arith, k .counted .nodes .most)) in
-    let vo = toZ-ofZ {w = w64} {z = a .old} (s .fits .old) in
-    let vn = count-back (a .h .«next_face») (k .counted .next-face .natural) (k .counted .next-face .most) in
-    let sides = rw (e, vo, vn) at (c .before .before .before .before .sides-of .ensures) in
-    let goes = a .news && not (eqb (ofZ w64 (a .old)) (ofZ w64 (pos 0))) in
-    let es = edgeMap (a .edges .now) (natAbs (a .h .edges)) in
-    let isLeft = isPositive (sgn (ringArea es (ring es (dartAt (a .edges .now) ((natAbs (a .h .edges) - 1) * 2))))) in
-    let shared = subst (Shared (a .nodes .now) (natAbs (a .h .nodes)) (a .edges .now) (natAbs (a .h .edges)))
-    (sym sides) (sides-shared p isLeft goes) in
-    rw (e, n) (shared, p .rings, k .node-cells, k .edge-cells)
-
-to-usize-requires-3 : tie.Need-to-usize-requires-3
-to-usize-requires-3 c κs = let s =
-    c .before .before .before .before .before .before .before .before .before .before .before .before .before
-    .before in let k = s .pre .held in count-natural (s .args .h .faces) (k .counted .faces .natural)
-    (omega (arith, k .counted .faces .most))
+    let shared = subst (ShareableFace (a .nodes .now) (natAbs (a .h .nodes)) (a .edges .now) (natAbs (a .h .edges)))
+    (sym (sides d)) (sides-shared (s .pre) (isLeft s) (d .before .before .face-goes .result)) in
+    rw (d .before .before .before .before .counts-of .ensures)
+    (shared, s .pre .rings, s .pre .held .node-cells, s .pre .held .edge-cells)
 
 split-row-requires : tie.Need-split-row-requires
 split-row-requires c κs =
-    let s = c .before .before .before .before .before .before .before .before .before .before .before .before .before
-    .before .before in
-    let a = s .args in
-    let p = s .pre in
-    let k = p .held in
-    let f = c .to-usize3 .ensures ∙ count-abs (a .h .faces) (k .counted .faces .natural)
-    (omega (arith, k .counted .faces .most)) in
-    let vo = toZ-ofZ {w = w64} {z = a .old} (s .fits .old) in
-    let vn = count-back (a .h .«next_face») (k .counted .next-face .natural) (k .counted .next-face .most) in
-    rw (f, vo, vn) (
-      (
-        length (a .faces .now),
-        facesOf (a .faces .now) (natAbs (a .h .faces)),
-        k .face-table,
-        faces-length (a .faces .now) (natAbs (a .h .faces)),
-        p .room,
-        p .there,
-      ),
-      is-natural (a .old) (self (p .borne)),
-      is-natural (a .h .«next_face») (k .counted .next-face .natural),
-      k .counted .next-face .most,
-    )
-
-with-face-requires : tie.Need-with-face-requires
-with-face-requires c κs =
-    let s = c .before .before .before .before .before .before .before .before .before .before .before .before .before
-    .before .before .before .before in
+    let n = c .before .before .before .before .before .before .before .before .before .before in
+    let s = n .before in
     let k = s .pre .held in
-    k .counted
+    rw (n .counts-of .ensures, old s, next s)
+    (record {
+      table = k .face-table;
+      there = s .pre .there;
+      room = omega (arith, s .pre .room);
+      old-natural = is-natural (s .args .old) (old-natural (s .pre));
+      natural = is-natural (s .args .h .«next_face») (k .counted .next-face .natural);
+      most = k .counted .next-face .most;
+    })
 
 returns : tie.Need-returns
 returns c =
-    let s = c .before .before .before .before .before .before .before .before .before .before .before .before .before
-    .before .before .before .before .before in
+    let d = c .before .before .before .before .before .before .before .before .before in
+    let g = d .before .before in
+    let n = g .before .before in
+    let s = n .before in
     let a = s .args in
-    let p = s .pre in
-    let k = p .held in
-    let m = mapOf (lent (a .nodes .now) (a .edges .now) (a .faces .now) (a .h)) in
-    let e = c .before .before .before .before .before .before .before .before .before .before .before .before .before
-    .before .before .before .to-usize .ensures
-    ∙ count-abs (a .h .edges) (k .counted .edges .natural) (omega (arith, k .counted .edges .most)) in
-    let n = c .before .before .before .before .before .before .before .before .before .before .to-usize2 .ensures
-    ∙ count-abs (a .h .nodes) (k .counted .nodes .natural) (omega (arith, k .counted .nodes .most)) in
-    let f = c .before .before .before .to-usize3 .ensures
-    ∙ count-abs (a .h .faces) (k .counted .faces .natural) (omega (arith, k .counted .faces .most)) in
-    let vo = toZ-ofZ {w = w64} {z = a .old} (s .fits .old) in
-    let vn = count-back (a .h .«next_face») (k .counted .next-face .natural) (k .counted .next-face .most) in
-    let goes = a .news && not (eqb (ofZ w64 (a .old)) (ofZ w64 (pos 0))) in
-    let es = edgeMap (a .edges .now) (natAbs (a .h .edges)) in
-    let isLeft = isPositive (sgn (ringArea es (ring es (dartAt (a .edges .now) ((natAbs (a .h .edges) - 1) * 2))))) in
-    let sides =
-    rw (e, vo, vn) at
-    (c .before .before .before .before .before .before .before .before .before .before .before .before .before
-    .sides-of .ensures) in
-    let rows = c .before .before .before .before .before .before .before .before .share-rows .ensures m
-    (map-nodes (a .nodes .now) (a .edges .now) (a .faces .now) (a .h) ∙ ap (nodesOf (a .nodes .now)) (sym n))
-    (map-edges (a .nodes .now) (a .edges .now) (a .faces .now) (a .h) ∙ ap (edgesOf (a .edges .now)) (sym e)) in
-    let table = rw (vo, vn) at (c .before .before .split-row .ensures (length (a .faces .now))
-    (facesOf (a .faces .now) (natAbs (a .h .faces))) (k .face-table)
-    (faces-length (a .faces .now) (natAbs (a .h .faces)) ∙ sym f)
-    (subst (λ (j : ℕ). j < length (a .faces .now)) (sym f) (p .room))
-    (ap (λ (z : ℤ). anyOf (same (natAbs z)) (facesOf (a .faces .now) (natAbs (a .h .faces)))) vo ∙ p .there)) in
-    split-holds p (a .news) isLeft goes (ap (λ (z : ℤ). isPositive (sgn z)) (area-is p))
-    (ap (λ (b : Bool). a .news && not b)
-    (sym (number-test (a .old) (pos 0) (natAbs (a .old)) 0 (s .fits .old) (small-fits 0 (lit≤ tt))
-    (self (p .borne)) refl)))
-    (c .before .before .before .before .before .before .before .before .before .before .before .before .before
-    .sides-of .result) sides _ _ _ _ (rows .0) (rows .1) table (c .with-face .ensures)
+    let count = n .counts-of .ensures in
+    let rows = c .before .before .before .before .before .before .share-rows .ensures
+    (mapOf (lent (a .nodes .now) (a .edges .now) (a .faces .now) (a .h)))
+    (map-nodes (a .nodes .now) (a .edges .now) (a .faces .now) (a .h)
+    ∙ ap (λ (k : Counts). nodesOf (a .nodes .now) (k .nodes)) (sym count))
+    (map-edges (a .nodes .now) (a .edges .now) (a .faces .now) (a .h)
+    ∙ ap (λ (k : Counts). edgesOf (a .edges .now) (k .edges)) (sym count)) in
+    split-holds (s .pre) (a .how) _ (g .face-goes .result) (ap (λ (z : ℤ). isPositive (sgn z)) (area-is (s .pre)))
+    (sym (rw (old s) at (g .face-goes .ensures))) (d .sides-of .result) (sides d) _ _ _ _ (rows .0) (rows .1)
+    (rw (count, old s, next s) at (c .before .before .split-row .ensures)) (c .with-face .ensures)
 
 pub split-face-spec : {M : Type 1} → statement M
 split-face-spec =
     tie.close
     (tie.spec
-    to-usize-requires
+    (λ c κs. counts-natural (c .pre .held .counted))
+    (λ c κs. rw (old (c .before .before)) (old-natural (c .before .before .pre)))
     sides-of-requires
-    to-usize-requires-2
     share-rows-requires
-    to-usize-requires-3
     split-row-requires
-    with-face-requires
+    (λ c κs. c .before .before .before .before .before .before .before .before .before .before .before .before .before
+    .pre .held .counted)
     (λ c. search needs)
     (λ c. search needs)
     (λ c. search needs)

@@ -7,6 +7,7 @@ use Prim.Native.Nat.{ℕ, _+_}
 use Rattle.lists.specs.Tests.{same}
 use Rattle.plane.specs.declared.Point.{Point}
 use Rattle.planar_maps.specs.Map.{Dart, fwd, bwd, rev}
+use Rattle.map.specs.declared.Variant.the-variants.{New, Mod}
 use Rattle.map.specs.Rows.{Edge, Map, edge, atEdge, withoutEdge}
 use Rattle.map.specs.Darts.{leaves, arrives}
 use Rattle.map.specs.Links.{redirect}
@@ -70,22 +71,22 @@ module _ (e a b : ℕ) (p : Point) (m : Map) where
 module _ (e : ℕ) (p : Point) (m : Map) where
   -- kind 7
   pub split-new-becomes :
-      Becomes (split false e p m)
+      Becomes (split New e p m)
       (without lineNumber e (lines m) ++ (firstHalf (lineOf (edge m e)) (m .next .nodes) (m .next .edges) p
       ∷ secondHalf (lineOf (edge m e)) (m .next .nodes) (m .next .edges + 1) p ∷ []))
       (places m ++ (record { number = m .next .nodes; at = p } ∷ []))
   unfolding split
   split-new-becomes =
+      let a = m .next .edges in
       record {
-        lines = map-append lineOf (withoutEdge e (renamed e (m .next .edges) (m .next .edges + 1) m .edges)) (_ ∷ _ ∷ [])
-            ∙ (λ i. others e (m .next .edges) (m .next .edges + 1) p m i
-            ++ (first e (m .next .edges) (m .next .edges + 1) p m i ∷ second e (m .next .edges) (m .next .edges + 1) p m i ∷ []));
+        lines = map-append lineOf (withoutEdge e (renamed e a (a + 1) m .edges)) (_ ∷ _ ∷ [])
+            ∙ (λ i. others e a (a + 1) p m i ++ (first e a (a + 1) p m i ∷ second e a (a + 1) p m i ∷ []));
         places = map-append placeOf (m .nodes) (_ ∷ []);
       }
 
   -- kind 8
   pub split-mod-becomes :
-      Becomes (split true e p m)
+      Becomes (split Mod e p m)
       (map (replaced e (firstHalf (lineOf (edge m e)) (m .next .nodes) e p)) (lines m)
       ++ (secondHalf (lineOf (edge m e)) (m .next .nodes) (m .next .edges) p ∷ []))
       (places m ++ (record { number = m .next .nodes; at = p } ∷ []))
@@ -120,22 +121,23 @@ module _ (e f : ℕ) (m : Map) where
 
   -- kind 9
   pub heal-new-becomes :
-      Becomes (heal false e f m) (without lineNumber e (without lineNumber f (lines m))
+      Becomes (heal New e f m) (without lineNumber e (without lineNumber f (lines m))
       ++ (healedRow (m .next .edges) e f m ∷ [])) (without placeNumber (Option·getD (joint m e f) 0) (places m))
   unfolding heal
   heal-new-becomes =
+      let h = m .next .edges in
       record {
-        lines = map-append lineOf (withoutEdge e (withoutEdge f (rejoined (m .next .edges) .edges))) (_ ∷ [])
-            ∙ ap (λ (l : List Line). l ++ (healedRow (m .next .edges) e f m ∷ []))
-            (without-lines e (withoutEdge f (rejoined (m .next .edges) .edges))
+        lines = map-append lineOf (withoutEdge e (withoutEdge f (rejoined h .edges))) (_ ∷ [])
+            ∙ ap (λ (l : List Line). l ++ (healedRow h e f m ∷ []))
+            (without-lines e (withoutEdge f (rejoined h .edges))
             ∙ ap (without lineNumber e)
-            (without-lines f (rejoined (m .next .edges) .edges) ∙ ap (without lineNumber f) (same-lines (m .next .edges))));
+            (without-lines f (rejoined h .edges) ∙ ap (without lineNumber f) (same-lines h)));
         places = without-places (Option·getD (joint m e f) 0) (m .nodes);
       }
 
   -- kind 10
   pub heal-mod-becomes :
-      Becomes (heal true e f m) (without lineNumber f (map (replaced e (healedRow e e f m)) (lines m)))
+      Becomes (heal Mod e f m) (without lineNumber f (map (replaced e (healedRow e e f m)) (lines m)))
       (without placeNumber (Option·getD (joint m e f) 0) (places m))
   unfolding heal
   heal-mod-becomes =

@@ -12,6 +12,7 @@ use Rattle.curves.specs.Curves.{Curve, points, maxPoints}
 use Rattle.curves.specs.Edits as edits
 use Rattle.curves.specs.Edits.{joined}
 use Rattle.planar_maps.specs.Map.{Dart, fwd, bwd, rev}
+use Rattle.map.specs.declared.Variant.the-variants.{New, Mod}
 use Rattle.map.specs.Rows.{Edge, Map, edge, hasEdge}
 use Rattle.map.specs.Darts.{directed, leaves}
 use Rattle.map.specs.Edits.{heal, joint, parts, healedCurve}
@@ -135,15 +136,15 @@ module _ (m : Map) (G : Good m) (e f : ℕ) (h : Heal m e f) where
       (lines-once m G) seam
       (subst (λ (x : Curve). length (points x) ≤ maxPoints) curves (h .most)) ks js (left ∙ q))
 
-  pub surveyed-9 : Surveyed (heal false e f m)
-  surveyed-9 = let b = heal-new-becomes e f m in surveyed-by (heal false e f m) (b .lines) (b .places)
+  pub surveyed-9 : Surveyed (heal New e f m)
+  surveyed-9 = let b = heal-new-becomes e f m in surveyed-by (heal New e f m) (b .lines) (b .places)
       (heals (m .next .edges) (without lineNumber e (without lineNumber f (lines m))) []
       (sym (append-nil (without lineNumber e (without lineNumber f (lines m))))))
 
   -- the healed line stands where e stood
-  pub surveyed-10 : Surveyed (heal true e f m)
+  pub surveyed-10 : Surveyed (heal Mod e f m)
   surveyed-10 = let b = heal-mod-becomes e f m in
-      surveyed-by (heal true e f m) (b .lines ∙ lined) (b .places)
+      surveyed-by (heal Mod e f m) (b .lines ∙ lined) (b .places)
       (heals e (others (k .before)) (others (k .after)) split)
     where
       others : List Line → List Line

@@ -1,6 +1,6 @@
 -- Surveyed kept by all kinds of edits but heals. Assumes nothing.
 use mathlib.Core.Path.{_≡_, sym, ap, _∙_, subst}
-use mathlib.Core.Bool.{Bool, true, false, not, cond, true≢false}
+use mathlib.Core.Bool.{true, false, not, cond, true≢false}
 use mathlib.Core.List.{List, [], _∷_, _++_, map, map-map, List·Memᴰ, Memᴰ·map, Memᴰ·of-map, Memᴰ·cast}
 use mathlib.Core.Logic.{_⊎_, inl, inr, _≢_}
 use Prim.Native.Nat.{ℕ, _+_}
@@ -13,6 +13,8 @@ use Rattle.plane.specs.Points.{samePoint}
 use Rattle.curves.specs.Curves.{Curve}
 use Rattle.curves.specs.Tests.{meetWrongly}
 use Rattle.geometry.proofs.Meeting.{samePoint-differ, differs-true}
+use Rattle.map.specs.declared.Variant.{Variant}
+use Rattle.map.specs.declared.Variant.the-variants.{New, Mod}
 use Rattle.map.specs.Rows.{Edge, Map, Sizes, node, edge, hasNode, hasEdge, withoutNode, withoutEdge}
 use Rattle.map.specs.Edits.{addIsoNode, moveIsoNode, removeIsoNode, addIsoEdge, removeIsoEdge, changeEdgeGeom, split}
 use Rattle.map.specs.Edits.{addEdge, removeEdge}
@@ -135,15 +137,15 @@ module _ (m : Map) (G : Good m) where
   pub surveyed-5 : (e : ℕ) → Surveyed (removeIsoEdge e m)
   surveyed-5 e = by (removeIsoEdge-becomes e m) (survey-keep _ (lines m) (places m) (survey m G))
 
-  -- kinds 11 (news) and 12
-  pub surveyed-add : (news : Bool) (s : Sizes) (u v : ℕ) (c : Curve) → AddEdge news s m u v c
-      → Surveyed (addEdge news u v c m)
-  surveyed-add news s u v c h = by (addEdge-becomes news u v c m)
+  -- kinds 11 (how) and 12
+  pub surveyed-add : (how : Variant) (s : Sizes) (u v : ℕ) (c : Curve) → AddEdge how s m u v c
+      → Surveyed (addEdge how u v c m)
+  surveyed-add how s u v c h = by (addEdge-becomes how u v c m)
       (drawn-in u v c (h .has-start) (h .has-end) (h .sent) (h .clear))
 
-  -- kinds 13 (news) and 14
-  pub surveyed-remove : (news : Bool) (e : ℕ) → Surveyed (removeEdge news e m)
-  surveyed-remove news e = by (removeEdge-becomes news e m) (survey-keep _ (lines m) (places m) (survey m G))
+  -- kinds 13 (how) and 14
+  pub surveyed-remove : (how : Variant) (e : ℕ) → Surveyed (removeEdge how e m)
+  surveyed-remove how e = by (removeEdge-becomes how e m) (survey-keep _ (lines m) (places m) (survey m G))
 
   -- ---- kinds 6 to 8
 
@@ -170,8 +172,8 @@ module _ (m : Map) (G : Good m) where
           (subst (Drawable c) (without-lines e (m .edges))
           (sent-drawable c (edge m e .start) (edge m e .end) (withoutEdge e (m .edges)) (h .sent) (h .clear)))
 
-  pub surveyed-7 : (more : ℕ) (s : Sizes) (e : ℕ) (p : Point) → Split more s m e p → Surveyed (split false e p m)
-  surveyed-7 more s e p h = by (split-new-becomes e p m)
+  pub surveyed-7 : (how : Variant) (s : Sizes) (e : ℕ) (p : Point) → Split how s m e p → Surveyed (split New e p m)
+  surveyed-7 how s e p h = by (split-new-becomes e p m)
       (subst (λ (k : ℕ). Survey (without lineNumber k (lines m)
       ++ (firstHalf l n (m .next .edges) p ∷ secondHalf l n (m .next .edges + 1) p ∷ []))
       (places m ++ (record { number = n; at = p } ∷ []))) (numbered e (h .has))
@@ -184,8 +186,8 @@ module _ (m : Map) (G : Good m) where
       n : ℕ
       n = m .next .nodes
 
-  pub surveyed-8 : (more : ℕ) (s : Sizes) (e : ℕ) (p : Point) → Split more s m e p → Surveyed (split true e p m)
-  surveyed-8 more s e p h = by (split-mod-becomes e p m)
+  pub surveyed-8 : (how : Variant) (s : Sizes) (e : ℕ) (p : Point) → Split how s m e p → Surveyed (split Mod e p m)
+  surveyed-8 how s e p h = by (split-mod-becomes e p m)
       (subst (λ (k : ℕ). Survey (map (replaced k (firstHalf l n e p)) (lines m)
       ++ (secondHalf l n (m .next .edges) p ∷ [])) (places m ++ (record { number = n; at = p } ∷ [])))
       (numbered e (h .has))

@@ -9,6 +9,7 @@ use Rattle.lists.proofs.Keeps.{keep-map}
 use Rattle.plane.specs.declared.Point.{Point}
 use Rattle.curves.specs.Curves.{Curve, startWay}
 use Rattle.planar_maps.specs.Map.{Dart, fwd, bwd, rev}
+use Rattle.map.specs.declared.Variant.{Variant}
 use Rattle.map.specs.Rows.{Node, Edge, Map, edge, setEdges, atNodes, atEdge, withoutNode, withoutEdge}
 use Rattle.map.specs.Links.{withLinks, instead, redirect, lead, linkIn, linkEdge, unlinkEdge, cornerFace}
 use Rattle.map.specs.Edits.{Shares, withFace, withCurve, isEither, drawn, undrawn, addIsoEdge, removeIsoEdge}
@@ -87,9 +88,9 @@ sharedOut-alike s m = record {
     go n none = refl
     go n (some f) = pick (same f (s .old)) (sideOfPoint m s (n .at)) n
 
-splitFace-alike : (news : Bool) (e : ℕ) (m : Map) → Alike m (splitFace news e m)
+splitFace-alike : (how : Variant) (e : ℕ) (m : Map) → Alike m (splitFace how e m)
 unfolding splitFace
-splitFace-alike news e m = let h = sharedOut-alike _ m in record { lines = h .lines; places = h .places }
+splitFace-alike how e m = let h = sharedOut-alike _ m in record { lines = h .lines; places = h .places }
 
 renamedFaces-alike : (e : Edge) (f : ℕ) (m : Map) → Alike m (renamedFaces e f m)
 unfolding renamedFaces
@@ -200,23 +201,23 @@ changeEdgeGeom-becomes e c m = record {
     go false r = refl
 
 -- kinds 11 and 12
-pub addEdge-becomes : (news : Bool) (u v : ℕ) (c : Curve) (m : Map)
-    → Becomes (addEdge news u v c m) (lines m ++ (newLine (m .next .edges) u v c ∷ [])) (places m)
+pub addEdge-becomes : (how : Variant) (u v : ℕ) (c : Curve) (m : Map)
+    → Becomes (addEdge how u v c m) (lines m ++ (newLine (m .next .edges) u v c ∷ [])) (places m)
 unfolding addEdge
-addEdge-becomes news u v c m = go (splitsFace u v c m) (drawn-becomes u v c (cornerFace m u (startWay c)) m)
+addEdge-becomes how u v c m = go (splitsFace u v c m) (drawn-becomes u v c (cornerFace m u (startWay c)) m)
   where
     go : (b : Bool) {m′ : Map} → Becomes m′ (lines m ++ (newLine (m .next .edges) u v c ∷ [])) (places m)
-        → Becomes (cond b (splitFace news (m .next .edges) m′) m′) (lines m ++ (newLine (m .next .edges) u v c ∷ []))
+        → Becomes (cond b (splitFace how (m .next .edges) m′) m′) (lines m ++ (newLine (m .next .edges) u v c ∷ []))
         (places m)
-    go true {m′} h = becomes-alike (splitFace-alike news (m .next .edges) m′) h
+    go true {m′} h = becomes-alike (splitFace-alike how (m .next .edges) m′) h
     go false h = h
 
 -- kinds 13 and 14
-pub removeEdge-becomes : (news : Bool) (e : ℕ) (m : Map)
-    → Becomes (removeEdge news e m) (without lineNumber e (lines m)) (places m)
+pub removeEdge-becomes : (how : Variant) (e : ℕ) (m : Map)
+    → Becomes (removeEdge how e m) (without lineNumber e (lines m)) (places m)
 unfolding removeEdge
-removeEdge-becomes news e m =
-    let f = faceLeft news e m in
+removeEdge-becomes how e m =
+    let f = faceLeft how e m in
     let h = renamedFaces-alike (edge m e) f m in
     let k = undrawn-becomes e f (renamedFaces (edge m e) f m) in
     record { lines = k .lines ∙ ap (without lineNumber e) (h .lines); places = k .places ∙ h .places }

@@ -17,6 +17,7 @@ use Rattle.rotation.specs.Law.{Law}
 use Rattle.rotation.specs.Law as rotation
 use Rattle.rotation.proofs.Whole.{link-edge-law}
 use Rattle.rotation.proofs.Ties.{tells}
+use Rattle.map.specs.declared.Variant.{Variant}
 use Rattle.map.specs.Rows.{Map, Sizes, node, hasNode}
 use Rattle.map.specs.Darts.{arcs, directed, leaves, next, way, departures}
 use Rattle.map.specs.Links.{linkEdge, cornerFace}
@@ -104,20 +105,20 @@ module _ (m : Map) (L : Lawful m) (s : Sizes) (u v : ℕ) (c : Curve) where
   unfolding addIsoEdge
   add-lone-obeys h = drawn-obeys m u v c (Option·getD (node m u .face) 0) (lawful-lone h) (L .law)
 
-  module _ (news : Bool) (h : AddEdge news s m u v c) where
+  module _ (how : Variant) (h : AddEdge how s m u v c) where
     drawn-in-obeys : Obeys (drawnIn u v c m)
     drawn-in-obeys = drawn-obeys m u v c (cornerFace m u (startWay c))
         (edge-free h (L .apart) (edge-new m (L .edges-below))) (L .law)
 
     -- a face split changes faces only
-    split-face-obeys : (e : ℕ) (X : Map) → Obeys X → Obeys (splitFace news e X)
+    split-face-obeys : (e : ℕ) (X : Map) → Obeys X → Obeys (splitFace how e X)
     unfolding splitFace sharedOut
-    split-face-obeys e X l = sides-law X (splitFace news e X) _ _ refl l
+    split-face-obeys e X l = sides-law X (splitFace how e X) _ _ refl l
 
-    pub add-edge-obeys : Obeys (addEdge news u v c m)
+    pub add-edge-obeys : Obeys (addEdge how u v c m)
     unfolding addEdge
     add-edge-obeys = go (splitsFace u v c m)
       where
-        go : (x : Bool) → Obeys (cond x (splitFace news (m .next .edges) (drawnIn u v c m)) (drawnIn u v c m))
+        go : (x : Bool) → Obeys (cond x (splitFace how (m .next .edges) (drawnIn u v c m)) (drawnIn u v c m))
         go true = split-face-obeys (m .next .edges) (drawnIn u v c m) drawn-in-obeys
         go false = drawn-in-obeys

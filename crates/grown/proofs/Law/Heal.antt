@@ -17,6 +17,7 @@ use Rattle.curves.specs.Edits.{joined}
 use Rattle.planar_maps.specs.Map.{Arc, Dart, fwd, rev}
 use Rattle.planar_maps.specs.Pieces.{nums}
 use Rattle.planar_maps.proofs.Hooks.{fwd≢bwd}
+use Rattle.map.specs.declared.Variant.the-variants.{New, Mod}
 use Rattle.map.specs.Rows.{Edge, Map, edge, hasEdge, setEdges, atEdge, withoutEdge}
 use Rattle.map.specs.Darts.{leaves, next, course}
 use Rattle.map.specs.Edits.{joint, parts, healedCurve, heal}
@@ -171,7 +172,7 @@ module _ (m : Map) (L : Lawful m) (e f : ℕ) (q : Heal m e f) where
             (map (relinked h c d) (m .edges)) (λ r k. ap (λ (x : ℕ). not (same x f)) (put-number r))
             ∙ ap (map put) (left-out m f (relinked h c d) (λ r. refl) once-m (q .has-other))
 
-  pub new-healed : Healed m (heal false e f m) e (m .next .edges) c d rest
+  pub new-healed : Healed m (heal New e f m) e (m .next .edges) c d rest
   unfolding heal healed
   new-healed = record {
     rows = new-rows (m .next .edges);
@@ -187,7 +188,7 @@ module _ (m : Map) (L : Lawful m) (e f : ℕ) (q : Heal m e f) where
           let z = ap (λ (z : Dart). z .edge) p in
           omega arith
 
-  pub kept-healed : Healed m (heal true e f m) e e c d rest
+  pub kept-healed : Healed m (heal Mod e f m) e e c d rest
   unfolding heal atEdge healed
   kept-healed = record {
     rows = kept-rows e refl;
@@ -204,9 +205,9 @@ module _ (m : Map) (L : Lawful m) (e f : ℕ) (q : Heal m e f) where
       ]
 
   -- kind 9
-  pub heal-obeys : Obeys (heal false e f m)
-  heal-obeys = whole-obeys m L e f n c d seam (heal false e f m) (m .next .edges) rest new-healed
+  pub heal-obeys : Obeys (heal New e f m)
+  heal-obeys = whole-obeys m L e f n c d seam (heal New e f m) (m .next .edges) rest new-healed
 
   -- kind 10
-  pub mod-heal-obeys : Obeys (heal true e f m)
-  mod-heal-obeys = whole-obeys m L e f n c d seam (heal true e f m) e rest kept-healed
+  pub mod-heal-obeys : Obeys (heal Mod e f m)
+  mod-heal-obeys = whole-obeys m L e f n c d seam (heal Mod e f m) e rest kept-healed

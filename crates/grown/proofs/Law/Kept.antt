@@ -1,8 +1,8 @@
 -- After every carried-out ticket all links obey the law, given that they did before. Assumes nothing.
 use mathlib.Core.Path.{_≡_}
-use mathlib.Core.Bool.{true, false}
 use lib.IntN.{natAbs}
 use Rattle.curves.specs.Curves.{point, curveOf}
+use Rattle.map.specs.declared.Variant.the-variants.{New, Mod}
 use Rattle.map.specs.Rows.{Map, Sizes}
 use Rattle.map.specs.Tickets.{Ticket, AddIsoNode, MoveIsoNode, RemoveIsoNode, AddIsoEdge, RemoveIsoEdge, ChangeEdgeGeom}
 use Rattle.map.specs.Tickets.{NewEdgesSplit, ModEdgeSplit, NewEdgeHeal, ModEdgeHeal, AddEdgeNewFaces, AddEdgeModFace}
@@ -35,8 +35,8 @@ module _ (s : Sizes) (m : Map) (L : Lawful m) where
   carried-obeys (NewEdgeHeal e f) h = heal-obeys m L (natAbs e) (natAbs f) (facts.heal-new s m e f h .0)
   carried-obeys (ModEdgeHeal e f) h = mod-heal-obeys m L (natAbs e) (natAbs f) (facts.heal-mod s m e f h)
   carried-obeys (AddEdgeNewFaces u v c) h =
-      add-edge-obeys m L s (natAbs u) (natAbs v) (curveOf c) true (facts.add-new s m u v c h)
+      add-edge-obeys m L s (natAbs u) (natAbs v) (curveOf c) New (facts.add-new s m u v c h)
   carried-obeys (AddEdgeModFace u v c) h =
-      add-edge-obeys m L s (natAbs u) (natAbs v) (curveOf c) false (facts.add-mod s m u v c h)
-  carried-obeys (RemEdgeNewFace e) h = remove-edge-obeys m L (natAbs e) (facts.remove-new s m e h .has) true
-  carried-obeys (RemEdgeModFace e) h = remove-edge-obeys m L (natAbs e) (facts.remove-mod s m e h) false
+      add-edge-obeys m L s (natAbs u) (natAbs v) (curveOf c) Mod (facts.add-mod s m u v c h)
+  carried-obeys (RemEdgeNewFace e) h = remove-edge-obeys m L (natAbs e) (facts.remove-new s m e h .has) New
+  carried-obeys (RemEdgeModFace e) h = remove-edge-obeys m L (natAbs e) (facts.remove-mod s m e h) Mod

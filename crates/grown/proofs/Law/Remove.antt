@@ -22,6 +22,7 @@ use Rattle.rotation.specs.Law as rotation
 use Rattle.rotation.proofs.Whole.{unlink-edge-law}
 use Rattle.rotation.proofs.Tells.{is-yes, is-no}
 use Rattle.rotation.proofs.Ties.{tells}
+use Rattle.map.specs.declared.Variant.{Variant}
 use Rattle.map.specs.Rows.{Map, edge, hasEdge, Node, Edge, atNodes}
 use Rattle.map.specs.Darts.{arcs, directed, leaves, next, bears, way, edgeEnds}
 use Rattle.map.specs.Links.{instead, redirect, unlinkEdge}
@@ -207,16 +208,16 @@ module _ (m : Map) (L : Lawful m) (e : ℕ) (has : hasEdge m e ≡ true) where
   pub remove-lone-obeys : Obeys (removeIsoEdge e m)
   remove-lone-obeys = taken-obeys m (removeIsoEdge e m) e (λ g. g) (L .apart) (L .law) has lone-taken
 
-  module _ (news : Bool) where
+  module _ (how : Variant) where
     -- the face that is left, and what others become
     abbrev g : ℕ
-    g = faceLeft news e m
+    g = faceLeft how e m
 
     abbrev μ : ℕ → ℕ
-    μ = renamed (edge m e) (faceLeft news e m)
+    μ = renamed (edge m e) (faceLeft how e m)
 
     abbrev m₁ : Map
-    m₁ = renamedFaces (edge m e) (faceLeft news e m) m
+    m₁ = renamedFaces (edge m e) (faceLeft how e m) m
 
     rows₁ : m₁ .edges ≡ map (λ r. withSides (μ (r .left)) (μ (r .right)) r) (m .edges)
     unfolding renamedFaces
@@ -231,9 +232,9 @@ module _ (m : Map) (L : Lawful m) (e : ℕ) (has : hasEdge m e ≡ true) where
         number n none = refl
         number n (some f) = refl
 
-    pub edge-taken : Taken m (removeEdge news e m) e μ
+    pub edge-taken : Taken m (removeEdge how e m) e μ
     unfolding removeEdge
-    edge-taken = taken m m₁ (removeEdge news e m) e μ (L .once) has (sides-arcs m m₁ l r rows₁)
+    edge-taken = taken m m₁ (removeEdge how e m) e μ (L .once) has (sides-arcs m m₁ l r rows₁)
         (sides-has m m₁ l r rows₁) (sides-leaves m m₁ l r rows₁) (sides-way m m₁ l r rows₁) (sides-next m m₁ l r rows₁)
         (sides-bears m m₁ l r rows₁ (λ d. μ (bears m d)) (λ q k. ap μ (sym (bears-left m (L .once) k)))
         (λ q k. ap μ (sym (bears-right m (L .once) k)))) (undrawn-edges e g m₁) (undrawn-nodes e g m₁ ∙ nodes)
@@ -245,5 +246,5 @@ module _ (m : Map) (L : Lawful m) (e : ℕ) (has : hasEdge m e ≡ true) where
         r q = μ (q .right)
 
     -- kinds 13 and 14
-    pub remove-edge-obeys : Obeys (removeEdge news e m)
-    remove-edge-obeys = taken-obeys m (removeEdge news e m) e μ (L .apart) (L .law) has edge-taken
+    pub remove-edge-obeys : Obeys (removeEdge how e m)
+    remove-edge-obeys = taken-obeys m (removeEdge how e m) e μ (L .apart) (L .law) has edge-taken

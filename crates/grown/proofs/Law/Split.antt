@@ -25,6 +25,7 @@ use Rattle.curves.specs.Tests.{onCurve}
 use Rattle.curves.specs.Edits.{back}
 use Rattle.geometry.proofs.Meeting.{samePoint-refl}
 use Rattle.rotation.proofs.Order.{sameWay-refl}
+use Rattle.map.specs.declared.Variant.the-variants.{New, Mod}
 use Rattle.map.specs.Rows.{Edge, Map, node, edge, hasEdge, atEdge, withoutEdge}
 use Rattle.map.specs.Darts.{arcs, directed, leaves, next, bears, way}
 use Rattle.map.specs.Edits.{startHalf, endHalf, split}
@@ -292,7 +293,7 @@ module _ (m : Map) (e : ℕ) (p : Point) (L : Lawful m) (has : hasEdge m e ≡ t
         (map (relinked e a b) (withoutEdge e (m .edges))) (second-of (relinked e a b (edge m e)) ∷ []))
         (List·Permᴰ·cons refl (one-last _ _))))
 
-  pub new-halves : InHalves m (split false e p m) e (m .next .nodes) (m .next .edges) (m .next .edges + 1) p
+  pub new-halves : InHalves m (split New e p m) e (m .next .nodes) (m .next .edges) (m .next .edges + 1) p
   unfolding split target first-of second-of
   new-halves = record {
     has = has;
@@ -305,7 +306,7 @@ module _ (m : Map) (e : ℕ) (p : Point) (L : Lawful m) (has : hasEdge m e ≡ t
     new-b = λ k. omega (arith, other k .0);
   }
 
-  pub kept-halves : InHalves m (split true e p m) e (m .next .nodes) e (m .next .edges) p
+  pub kept-halves : InHalves m (split Mod e p m) e (m .next .nodes) e (m .next .edges) p
   unfolding split atEdge target first-of second-of
   kept-halves = record {
     has = has;
@@ -319,9 +320,9 @@ module _ (m : Map) (e : ℕ) (p : Point) (L : Lawful m) (has : hasEdge m e ≡ t
   }
 
   -- kind 7
-  pub split-obeys : Obeys (split false e p m)
-  split-obeys = halves-obey m (split false e p m) e (m .next .nodes) (m .next .edges) (m .next .edges + 1) p L new-halves
+  pub split-obeys : Obeys (split New e p m)
+  split-obeys = halves-obey m (split New e p m) e (m .next .nodes) (m .next .edges) (m .next .edges + 1) p L new-halves
 
   -- kind 8
-  pub mod-split-obeys : Obeys (split true e p m)
-  mod-split-obeys = halves-obey m (split true e p m) e (m .next .nodes) e (m .next .edges) p L kept-halves
+  pub mod-split-obeys : Obeys (split Mod e p m)
+  mod-split-obeys = halves-obey m (split Mod e p m) e (m .next .nodes) e (m .next .edges) p L kept-halves

@@ -28,6 +28,8 @@ use Rattle.curves.specs.Curves.{points, point, curveOf, maxPoints}
 use Rattle.curves.specs.Edits.{front, back}
 use Rattle.rotation.specs.Law.{from}
 use Rattle.rotation.proofs.Node.{lawful-in}
+use Rattle.map.specs.declared.Variant.{Variant}
+use Rattle.map.specs.declared.Variant.the-variants.{New, Mod}
 use Rattle.map.specs.Limits.{lastNumber}
 use Rattle.map.specs.Rows.{Edge, Map, Lent, Sizes, edge, mapOf, lentOf, sizesOf, whole}
 use Rattle.map.specs.Darts.{arcs, directed, leaves, next, way}
@@ -142,12 +144,13 @@ module _ {N : ℕ} {ls : List Line} (s : Sheet N ls) where
 
 -- ---- the lines after a ticket
 
-module _ (s : Sizes) (m : Map) (L : Lawful m) (one : 1 ≤ m .next .edges) (sheet : Sheet (m .next .edges) (lines m)) where
+module _ (s : Sizes) (m : Map) (L : Lawful m) (one : 1 ≤ m .next .edges)
+    (sheet : Sheet (m .next .edges) (lines m)) where
   -- the halves of a curve have no more points than it
-  few-halves : (more e : ℕ) (p : Point) → Split more s m e p
+  few-halves : (how : Variant) (e : ℕ) (p : Point) → Split how s m e p
       → (length (points (front p (edge m e .curve))) ≤ maxPoints)
       × (length (points (back p (edge m e .curve))) ≤ maxPoints)
-  few-halves more e p h =
+  few-halves how e p h =
       let row = edge-there m e (h .has) .0 in
       let few = sheet .few (lineOf (edge m e)) (Memᴰ·map lineOf row) in
       let off = off-ends m p (h .free) (L .within) row (L .anchored (edge m e) row) in
@@ -171,14 +174,14 @@ module _ (s : Sizes) (m : Map) (L : Lawful m) (one : 1 ≤ m .next .edges) (shee
       by-lines (changeEdgeGeom-becomes (natAbs e) (curveOf c) m .lines)
       (sheet-at sheet (natAbs e) (redrawn (curveOf c)) (λ l q. q) (λ l. facts.change s m e c h .sent .most))
   carried-sheet (NewEdgesSplit e x y) h =
-      let k = few-halves 2 (natAbs e) (point x y) (facts.split-new s m e x y h) in
+      let k = few-halves New (natAbs e) (point x y) (facts.split-new s m e x y h) in
       let a = firstHalf (lineOf (edge m (natAbs e))) (m .next .nodes) (m .next .edges) (point x y) in
       let b = secondHalf (lineOf (edge m (natAbs e))) (m .next .nodes) (m .next .edges + 1) (point x y) in
       by-lines (split-new-becomes (natAbs e) (point x y) m .lines
       ∙ sym (append-assoc (without lineNumber (natAbs e) (lines m)) (a ∷ []) (b ∷ [])))
       (sheet-more (sheet-more (sheet-less sheet (natAbs e)) a refl one (k .0)) b refl (omega arith) (k .1))
   carried-sheet (ModEdgeSplit e x y) h =
-      let k = few-halves 1 (natAbs e) (point x y) (facts.split-mod s m e x y h) in
+      let k = few-halves Mod (natAbs e) (point x y) (facts.split-mod s m e x y h) in
       by-lines (split-mod-becomes (natAbs e) (point x y) m .lines)
       (sheet-more (sheet-at sheet (natAbs e)
       (λ l. firstHalf (lineOf (edge m (natAbs e))) (m .next .nodes) (natAbs e) (point x y)) (λ l q. refl)
@@ -191,14 +194,14 @@ module _ (s : Sizes) (m : Map) (L : Lawful m) (one : 1 ≤ m .next .edges) (shee
       (sheet-less (sheet-at sheet (natAbs e) (λ l. healedRow (natAbs e) (natAbs e) (natAbs f) m) (λ l q. refl)
       (λ l. facts.heal-mod s m e f h .most)) (natAbs f))
   carried-sheet (AddEdgeNewFaces u v c) h =
-      by-lines (addEdge-becomes true (natAbs u) (natAbs v) (curveOf c) m .lines)
+      by-lines (addEdge-becomes New (natAbs u) (natAbs v) (curveOf c) m .lines)
       (sheet-more sheet _ refl one (facts.add-new s m u v c h .sent .most))
   carried-sheet (AddEdgeModFace u v c) h =
-      by-lines (addEdge-becomes false (natAbs u) (natAbs v) (curveOf c) m .lines)
+      by-lines (addEdge-becomes Mod (natAbs u) (natAbs v) (curveOf c) m .lines)
       (sheet-more sheet _ refl one (facts.add-mod s m u v c h .sent .most))
-  carried-sheet (RemEdgeNewFace e) h = by-lines (removeEdge-becomes true (natAbs e) m .lines)
+  carried-sheet (RemEdgeNewFace e) h = by-lines (removeEdge-becomes New (natAbs e) m .lines)
       (sheet-less sheet (natAbs e))
-  carried-sheet (RemEdgeModFace e) h = by-lines (removeEdge-becomes false (natAbs e) m .lines)
+  carried-sheet (RemEdgeModFace e) h = by-lines (removeEdge-becomes Mod (natAbs e) m .lines)
       (sheet-less sheet (natAbs e))
 
 -- ---- a map with such lines that obeys the law is read back

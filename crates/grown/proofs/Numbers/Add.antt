@@ -1,10 +1,11 @@
 -- Numbers, faces and marks kept by kinds 4, 11 and 12: an edge drawn. Assumes nothing.
 use mathlib.Core.Path.{_≡_, refl, sym, subst}
 use mathlib.Core.Bool.{Bool, true, false, cond}
-use mathlib.Core.List.{List, [], List·Memᴰ, List·Memᴰ·head, Memᴰ·append-right}
+use mathlib.Core.List.{List, List·Memᴰ, List·Memᴰ·head, Memᴰ·append-right}
 use mathlib.Core.Option.{Option·getD}
 use Prim.Native.Nat.{ℕ}
 use Rattle.curves.specs.Curves.{Curve, startWay}
+use Rattle.map.specs.declared.Variant.{Variant}
 use Rattle.map.specs.Rows.{Map, node, hasNode, hasEdge}
 use Rattle.map.specs.Links.{cornerFace}
 use Rattle.map.specs.Edits.{addIsoEdge, drawn, drawnIn, splitsFace, splitFace, addEdge}
@@ -28,10 +29,10 @@ drawn-has u v c f m =
     (subst (λ (os : List Outline). List·Memᴰ (drawnOutline (m .next .edges) u v f) os)
     (sym (drawn-shape u v c f m .outlines)) (Memᴰ·append-right (outlines m) (List·Memᴰ·head refl)))
 
-pub add-edge-ranked : (news : Bool) (u v : ℕ) (c : Curve) (m : Map) → hasNode m u ≡ true → RankedMap m
-    → RankedMap (addEdge news u v c m)
+pub add-edge-ranked : (how : Variant) (u v : ℕ) (c : Curve) (m : Map) → hasNode m u ≡ true → RankedMap m
+    → RankedMap (addEdge how u v c m)
 unfolding addEdge
-add-edge-ranked news u v c m h r = go (splitsFace u v c m)
+add-edge-ranked how u v c m h r = go (splitsFace u v c m)
   where
     f : ℕ
     f = cornerFace m u (startWay c)
@@ -39,7 +40,7 @@ add-edge-ranked news u v c m h r = go (splitsFace u v c m)
     joined : RankedMap (drawnIn u v c m)
     joined = drawn-ranked u v c f m (corner-in m u (startWay c) h (ranked-faces m r)) r
 
-    go : (b : Bool) → RankedMap (cond b (splitFace news (m .next .edges) (drawnIn u v c m)) (drawnIn u v c m))
-    go true = split-face-ranked news (m .next .edges) (drawnIn u v c m) (ranked-distinct (drawnIn u v c m) joined)
+    go : (b : Bool) → RankedMap (cond b (splitFace how (m .next .edges) (drawnIn u v c m)) (drawnIn u v c m))
+    go true = split-face-ranked how (m .next .edges) (drawnIn u v c m) (ranked-distinct (drawnIn u v c m) joined)
         (drawn-has u v c f m) joined
     go false = joined

@@ -1,12 +1,12 @@
 -- A carried-out ticket keeps numbers, faces and marks, and leaves rows that fit. Assumes nothing.
 use mathlib.Core.Path.{_≡_}
-use mathlib.Core.Bool.{true, false}
 use Prim.Native.Nat.{ℕ}
 use native.Mathlib.Omega.{arith}
 use lib.IntN.{natAbs}
 use lib.ListN.{length-map}
 use Rattle.lists.specs.Tests.{bit}
 use Rattle.curves.specs.Curves.{point, curveOf}
+use Rattle.map.specs.declared.Variant.the-variants.{New, Mod}
 use Rattle.map.specs.Rows.{Map, Sizes}
 use Rattle.map.specs.Tickets.{Ticket, AddIsoNode, MoveIsoNode, RemoveIsoNode, AddIsoEdge, RemoveIsoEdge, ChangeEdgeGeom}
 use Rattle.map.specs.Tickets.{NewEdgesSplit, ModEdgeSplit, NewEdgeHeal, ModEdgeHeal, AddEdgeNewFaces, AddEdgeModFace}
@@ -67,7 +67,7 @@ enough n = record {
   faces = omega (arith, n .next-face);
 }
 
-no-face : {m : Map} (e : ℕ) → Supply m 0 0 0 → Supply m 0 0 (bit (makesFace false e m))
+no-face : {m : Map} (e : ℕ) → Supply m 0 0 0 → Supply m 0 0 (bit (makesFace Mod e m))
 unfolding makesFace
 no-face e p = p
 
@@ -101,37 +101,37 @@ module _ (s : Sizes) (m : Map) (g : Good m) where
       (change-taken (natAbs e) (curveOf c) m) (enough (g .numbered)) (λ p. (no-more p))
   kept (NewEdgesSplit e x y) h =
       let k = split-new s m e x y h in
-      keeps (split-ranked false (natAbs e) (point x y) m (k .has) (ranks m g))
-      (split-taken false (natAbs e) (point x y) m (k .has)) (k .supply) (λ p. (k .room))
+      keeps (split-ranked New (natAbs e) (point x y) m (k .has) (ranks m g))
+      (split-taken New (natAbs e) (point x y) m (k .has)) (k .supply) (λ p. (k .room))
   kept (ModEdgeSplit e x y) h =
       let k = split-mod s m e x y h in
-      keeps (split-ranked true (natAbs e) (point x y) m (k .has) (ranks m g))
-      (split-taken true (natAbs e) (point x y) m (k .has)) (k .supply) (λ p. (k .room))
+      keeps (split-ranked Mod (natAbs e) (point x y) m (k .has) (ranks m g))
+      (split-taken Mod (natAbs e) (point x y) m (k .has)) (k .supply) (λ p. (k .room))
   kept (NewEdgeHeal e f) h =
       let k = heal-new s m e f h in
-      keeps (heal-ranked false (natAbs e) (natAbs f) m (k .0 .has) (k .0 .has-other) (k .0 .differ)
+      keeps (heal-ranked New (natAbs e) (natAbs f) m (k .0 .has) (k .0 .has-other) (k .0 .differ)
       (k .0 .joint) (ranks m g))
-      (heal-taken false (natAbs e) (natAbs f) m (k .0 .has) (k .0 .differ)) (k .1) (λ p. (no-more p))
+      (heal-taken New (natAbs e) (natAbs f) m (k .0 .has) (k .0 .differ)) (k .1) (λ p. (no-more p))
   kept (ModEdgeHeal e f) h =
       let k = heal-mod s m e f h in
-      keeps (heal-ranked true (natAbs e) (natAbs f) m (k .has) (k .has-other) (k .differ) (k .joint) (ranks m g))
-      (heal-taken true (natAbs e) (natAbs f) m (k .has) (k .differ)) (enough (g .numbered)) (λ p. (no-more p))
+      keeps (heal-ranked Mod (natAbs e) (natAbs f) m (k .has) (k .has-other) (k .differ) (k .joint) (ranks m g))
+      (heal-taken Mod (natAbs e) (natAbs f) m (k .has) (k .differ)) (enough (g .numbered)) (λ p. (no-more p))
   kept (AddEdgeNewFaces u v c) h =
       let k = add-new s m u v c h in
-      keeps (add-edge-ranked true (natAbs u) (natAbs v) (curveOf c) m (k .has-start) (ranks m g))
-      (add-edge-taken true (natAbs u) (natAbs v) (curveOf c) m (k .has-start) (ranks m g)) (k .supply) (λ p. (k .room))
+      keeps (add-edge-ranked New (natAbs u) (natAbs v) (curveOf c) m (k .has-start) (ranks m g))
+      (add-edge-taken New (natAbs u) (natAbs v) (curveOf c) m (k .has-start) (ranks m g)) (k .supply) (λ p. (k .room))
   kept (AddEdgeModFace u v c) h =
       let k = add-mod s m u v c h in
-      keeps (add-edge-ranked false (natAbs u) (natAbs v) (curveOf c) m (k .has-start) (ranks m g))
-      (add-edge-taken false (natAbs u) (natAbs v) (curveOf c) m (k .has-start) (ranks m g)) (k .supply) (λ p. (k .room))
+      keeps (add-edge-ranked Mod (natAbs u) (natAbs v) (curveOf c) m (k .has-start) (ranks m g))
+      (add-edge-taken Mod (natAbs u) (natAbs v) (curveOf c) m (k .has-start) (ranks m g)) (k .supply) (λ p. (k .room))
   kept (RemEdgeNewFace e) h =
       let k = remove-new s m e h in
-      keeps (remove-edge-ranked true (natAbs e) m (k .has) (ranks m g))
-      (remove-edge-taken true (natAbs e) m (k .has) (ranks m g)) (k .supply) (λ p. (no-more p))
+      keeps (remove-edge-ranked New (natAbs e) m (k .has) (ranks m g))
+      (remove-edge-taken New (natAbs e) m (k .has) (ranks m g)) (k .supply) (λ p. (no-more p))
   kept (RemEdgeModFace e) h =
       let k = remove-mod s m e h in
-      keeps (remove-edge-ranked false (natAbs e) m k (ranks m g))
-      (remove-edge-taken false (natAbs e) m k (ranks m g))
+      keeps (remove-edge-ranked Mod (natAbs e) m k (ranks m g))
+      (remove-edge-taken Mod (natAbs e) m k (ranks m g))
       (no-face (natAbs e) (enough (g .numbered))) (λ p. (no-more p))
 
   -- numbers rise and are below the next, nodes and sides of edges are in faces that exist

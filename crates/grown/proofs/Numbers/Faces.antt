@@ -22,11 +22,12 @@ use Rattle.planar_maps.specs.Map.{Arc, Dart, fwd, bwd}
 use Rattle.planar_maps.specs.Pieces.{nums}
 use Rattle.plane.specs.declared.Point.{Point}
 use Rattle.plane.specs.Areas.{isPositive}
+use Rattle.map.specs.declared.Variant.{Variant}
 use Rattle.map.specs.Rows.{Node, Edge, Map, hasEdge}
 use Rattle.map.specs.Darts.{arcs, bears, among, ring}
 use Rattle.map.specs.Faces.{encloses, ringArea}
-use Rattle.map.specs.Edits.{withFace, Shares, sideOfPoint, sideOfRing, sideOfDart, sideOfNode, withSides, sharedOut}
-use Rattle.map.specs.Edits.{splitFace}
+use Rattle.map.specs.Edits.{isNew, withFace, Shares, sideOfPoint, sideOfRing, sideOfDart, sideOfNode, withSides}
+use Rattle.map.specs.Edits.{sharedOut, splitFace}
 use Rattle.map_laws.proofs.Readings.{edge-at, bears-row, Outline, outlineOf, outlines, outlineNumber}
 use Rattle.map_laws.proofs.Outlines.{outlines-map}
 use Rattle.map_laws.proofs.Faces.{bears-in}
@@ -217,13 +218,13 @@ split-zero true old a fs h e = first-append (keep (λ f. not (same f old)) fs) (
     (first-keep (λ f. not (same f old)) fs (ap not (same-false 0 old (λ q. h refl (sym q)))) e)
 split-zero false old a fs h e = first-append fs (a ∷ []) e
 
-pub split-face-ranked : (news : Bool) (e : ℕ) (m : Map) → Distinct (nums (arcs m)) → hasEdge m e ≡ true → RankedMap m
-    → RankedMap (splitFace news e m)
+pub split-face-ranked : (how : Variant) (e : ℕ) (m : Map) → Distinct (nums (arcs m)) → hasEdge m e ≡ true → RankedMap m
+    → RankedMap (splitFace how e m)
 unfolding splitFace sharedOut
-split-face-ranked news e m dis h r =
+split-face-ranked how e m dis h r =
     let old = bears m (fwd e) in
     let a = m .next .faces in
-    let goes = news && not (same old 0) in
+    let goes = isNew how && not (same old 0) in
     let b = cond goes (a + 1) old in
     let k = bears-in m (fwd e) h (ranked-faces m r) in
     let isLeft = isPositive (sgn (ringArea m (ring m (fwd e)))) in
@@ -235,7 +236,7 @@ split-face-ranked news e m dis h r =
       ref = cond (isLeft || not goes) a b;
       other = cond (isLeft || not goes) b a;
     } in
-    ranked-shape {m = splitFace news e m}
+    ranked-shape {m = splitFace how e m}
     (record {
       nodes = refl;
       outlines = refl;
@@ -253,4 +254,4 @@ split-face-ranked news e m dis h r =
     r
     (split-rising old a (m .faces) k goes (r .faces))
     (split-zero goes old a (m .faces) (λ g. differ old 0
-    (not-true (same old 0) (and-true news (not (same old 0)) g .1))) (r .zero)))
+    (not-true (same old 0) (and-true (isNew how) (not (same old 0)) g .1))) (r .zero)))

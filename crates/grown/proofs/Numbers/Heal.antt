@@ -16,9 +16,11 @@ use Rattle.lists.proofs.Keeps.{keep-in, keep-has, keep-map}
 use Rattle.lists.proofs.Rising.{Rising, rising-keep}
 use Rattle.planar_maps.specs.Map.{Dart, fwd, bwd, rev}
 use Rattle.planar_maps.proofs.Turns.{rev-rev}
+use Rattle.map.specs.declared.Variant.{Variant}
+use Rattle.map.specs.declared.Variant.the-variants.{New, Mod}
 use Rattle.map.specs.Rows.{Node, Edge, Map, edge, hasEdge, atEdge, withoutNode, withoutEdge}
 use Rattle.map.specs.Darts.{leaves, arrives, next}
-use Rattle.map.specs.Edits.{joint, parts, healedCurve, heal}
+use Rattle.map.specs.Edits.{isMod, joint, parts, healedCurve, heal}
 use Rattle.map.proofs.Laws.{edge-there}
 use Rattle.map_laws.proofs.Readings.{leaves-row, tailIn, Outline, outlineOf, outlines, outlineNumber}
 use Rattle.map_laws.proofs.Outlines.{outlines-map, outlines-without, lessOutline}
@@ -81,11 +83,11 @@ module _ (m : Map) (e f : ℕ) (h : isSome (joint m e f) ≡ true) where
 
 -- ---- the outlines
 
-abbrev pub healedOutline : Bool → ℕ → ℕ → Map → Outline
-healedOutline keeps e f m =
+abbrev pub healedOutline : Variant → ℕ → ℕ → Map → Outline
+healedOutline how e f m =
     record {
       arc = record {
-        num = cond keeps e (m .next .edges);
+        num = cond (isMod how) e (m .next .edges);
         from = leaves m (parts m e f .0);
         to = arrives m (parts m e f .1);
       };
@@ -107,14 +109,14 @@ healedEdge e f h m m′ =
       curve = healedCurve m e f;
     }
 
-abbrev pub healOutlines : Bool → ℕ → ℕ → Outline → List Outline → List Outline
-healOutlines keeps e f x os = cond keeps (lessOutline f (map (placing e x) os))
+abbrev pub healOutlines : Variant → ℕ → ℕ → Outline → List Outline → List Outline
+healOutlines how e f x os = cond (isMod how) (lessOutline f (map (placing e x) os))
     (lessOutline e (lessOutline f os) ++ x ∷ [])
 
-pub heal-outlines : (keeps : Bool) (e f : ℕ) (m : Map) → outlines (heal keeps e f m)
-    ≡ healOutlines keeps e f (healedOutline keeps e f m) (outlines m)
+pub heal-outlines : (how : Variant) (e f : ℕ) (m : Map) → outlines (heal how e f m)
+    ≡ healOutlines how e f (healedOutline how e f m) (outlines m)
 unfolding heal atEdge
-heal-outlines true e f m =
+heal-outlines Mod e f m =
     let c = parts m e f .0 in
     let d = parts m e f .1 in
     let m′ = renaming c (fwd e) (rev d) (bwd e) m in
@@ -127,7 +129,7 @@ heal-outlines true e f m =
     at : (b : Bool) (x r : Edge) → outlineOf (cond b x r) ≡ cond b (outlineOf x) (outlineOf r)
     at true x r = refl
     at false x r = refl
-heal-outlines false e f m =
+heal-outlines New e f m =
     let c = parts m e f .0 in
     let d = parts m e f .1 in
     let h = m .next .edges in
@@ -155,19 +157,19 @@ less-has : (e : ℕ) (os : List Outline) (q : Outline) → List·Memᴰ q os →
 less-has e os q k h = keep-has (λ q. not (same (q .arc .num) e)) os k (ap not h)
 
 module _ (e f b : ℕ) (x : Outline) (os : List Outline) where
-  heal-rising : (keeps : Bool) → x .arc .num ≡ cond keeps e b → 1 ≤ b → Rising 1 b (map outlineNumber os)
-      → Rising 1 (b + cond keeps 0 1) (map outlineNumber (healOutlines keeps e f x os))
-  heal-rising true h low r = subst (λ (i : ℕ). Rising 1 i (map outlineNumber (lessOutline f (map (placing e x) os))))
+  heal-rising : (how : Variant) → x .arc .num ≡ cond (isMod how) e b → 1 ≤ b → Rising 1 b (map outlineNumber os)
+      → Rising 1 (b + cond (isMod how) 0 1) (map outlineNumber (healOutlines how e f x os))
+  heal-rising Mod h low r = subst (λ (i : ℕ). Rising 1 i (map outlineNumber (lessOutline f (map (placing e x) os))))
       (sym (add-zero b)) (less-rising f (map (placing e x) os) (subst (Rising 1 b) (sym (placing-numbers e x os h)) r))
-  heal-rising false h low r = rising-outlines b (lessOutline e (lessOutline f os)) x low h
+  heal-rising New h low r = rising-outlines b (lessOutline e (lessOutline f os)) x low h
       (less-rising e (lessOutline f os) (less-rising f os r))
 
   abbrev out : Outline → Bool
   out q = same (q .arc .num) e || same (q .arc .num) f
 
-  heal-replaced : (keeps : Bool) → x .arc .num ≡ cond keeps e b → e ≢ f → (o : Outline) → List·Memᴰ o os → o .arc .num
-      ≡ e → Replaced os (healOutlines keeps e f x os) out (x ∷ [])
-  heal-replaced true h ne o k q = record {
+  heal-replaced : (how : Variant) → x .arc .num ≡ cond (isMod how) e b → e ≢ f → (o : Outline) → List·Memᴰ o os
+      → o .arc .num ≡ e → Replaced os (healOutlines how e f x os) out (x ∷ [])
+  heal-replaced Mod h ne o k q = record {
     back = λ y j. let i = less-in f (map (placing e x) os) y j in
         elim (placing-back e x y os (i .0)) [
           | inl z ↦ inl (List·Memᴰ·head z)
@@ -180,7 +182,7 @@ module _ (e f b : ℕ) (x : Outline) (os : List Outline) where
     rest = λ y j z. let w = or-false (same (y .arc .num) e) (same (y .arc .num) f) z in
         less-has f (map (placing e x) os) y (placing-rest e x y os j (w .0)) (w .1);
   }
-  heal-replaced false h ne o k q = record {
+  heal-replaced New h ne o k q = record {
     back = λ y j. elim (List·Memᴰ·append-cases (lessOutline e (lessOutline f os)) j) [
       | inl i ↦ let u = less-in e (lessOutline f os) y i in let v = less-in f os y (u .0) in
           inr (v .0, or-no (u .1) (v .1))
@@ -193,21 +195,21 @@ module _ (e f b : ℕ) (x : Outline) (os : List Outline) where
 
 -- ---- kinds 9 and 10
 
-pub heal-ranked : (keeps : Bool) (e f : ℕ) (m : Map) → hasEdge m e ≡ true → hasEdge m f ≡ true → e ≢ f
-    → isSome (joint m e f) ≡ true → RankedMap m → RankedMap (heal keeps e f m)
+pub heal-ranked : (how : Variant) (e f : ℕ) (m : Map) → hasEdge m e ≡ true → hasEdge m f ≡ true → e ≢ f
+    → isSome (joint m e f) ≡ true → RankedMap m → RankedMap (heal how e f m)
 unfolding heal
-heal-ranked keeps e f m he hf ne h r =
-    ranked-shape {m = heal keeps e f m}
+heal-ranked how e f m he hf ne h r =
+    ranked-shape {m = heal how e f m}
     (record {
       nodes = refl;
-      outlines = heal-outlines keeps e f m;
+      outlines = heal-outlines how e f m;
       faces = refl;
       next-node = add-zero (m .next .nodes);
       next-edge = refl;
       next-face = add-zero (m .next .faces);
     })
-    (replaced-ranked (heal-replaced e f b x os keeps refl ne oe (in-row e he) (edge-there m e he .1))
-    (heal-rising e f b x os keeps refl (r .first-edge) (r .edges)) (low keeps) side meeting
+    (replaced-ranked (heal-replaced e f b x os how refl ne oe (in-row e he) (edge-there m e he .1))
+    (heal-rising e f b x os how refl (r .first-edge) (r .edges)) (omega (arith, r .first-edge)) side meeting
     (ranked-less-nodes (jointOf m e f) r))
   where
     os : List Outline
@@ -217,7 +219,7 @@ heal-ranked keeps e f m he hf ne h r =
     b = m .next .edges
 
     x : Outline
-    x = healedOutline keeps e f m
+    x = healedOutline how e f m
 
     oe : Outline
     oe = outlineOf (edge m e)
@@ -225,11 +227,7 @@ heal-ranked keeps e f m he hf ne h r =
     in-row : (i : ℕ) → hasEdge m i ≡ true → List·Memᴰ (outlineOf (edge m i)) (outlines m)
     in-row i k = Memᴰ·map outlineOf (edge-there m i k .0)
 
-    low : (k : Bool) → 1 ≤ m .next .edges + cond k 0 1
-    low true = let z = r .first-edge in omega arith
-    low false = omega arith
-
-    side : (y : Outline) → List·Memᴰ y (healedOutline keeps e f m ∷ []) → Sided (m .faces) y
+    side : (y : Outline) → List·Memᴰ y (healedOutline how e f m ∷ []) → Sided (m .faces) y
     side y j = subst (Sided (m .faces)) (sym (List·Memᴰ·eq-of-singleton j))
         (r .sided (outlineOf (edge m e)) (in-row e he))
 
@@ -255,11 +253,11 @@ heal-ranked keeps e f m he hf ne h r =
         (outline-at m i (ranked-distinct m r) o j (same-true (o .arc .num) i q)) z
 
     meeting : (n : Node) → List·Memᴰ n (withoutNode (jointOf m e f) (m .nodes))
-        → Meeting (outlines m) (out e f (m .next .edges) (healedOutline keeps e f m) (outlines m))
-        (healedOutline keeps e f m ∷ []) (n .number)
+        → Meeting (outlines m) (out e f (m .next .edges) (healedOutline how e f m) (outlines m))
+        (healedOutline how e f m ∷ []) (n .number)
     meeting n j = record {
       gone = λ o i q z. (
-        healedOutline keeps e f m,
+        healedOutline how e f m,
         List·Memᴰ·head refl,
         gone (n .number) away (elim (or-true (same (o .arc .num) e) (same (o .arc .num) f) q) [
           | inl y ↦ inl

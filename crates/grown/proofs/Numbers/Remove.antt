@@ -15,8 +15,9 @@ use Rattle.lists.proofs.Bools.{same-refl, same-true, same-eq, differ, or-true, 
 use Rattle.lists.proofs.Keeps.{keep-has}
 use Rattle.lists.proofs.Rising.{Rising, rising-append, rising-keep}
 use Rattle.planar_maps.proofs.Chains.{min-one}
+use Rattle.map.specs.declared.Variant.{Variant}
 use Rattle.map.specs.Rows.{Node, Edge, Map, edge, hasEdge}
-use Rattle.map.specs.Edits.{removeIsoEdge, withSides, renamed, renamedNode, renamedFaces, healsFaces, lowerFace}
+use Rattle.map.specs.Edits.{isNew, removeIsoEdge, withSides, renamed, renamedNode, renamedFaces, healsFaces, lowerFace}
 use Rattle.map.specs.Edits.{makesFace, faceLeft, removeEdge}
 use Rattle.map.proofs.Laws.{edge-there}
 use Rattle.map_laws.proofs.Readings.{Outline, outlineOf, outlines}
@@ -148,31 +149,31 @@ renamed-ranked m x f fs h rise z r =
     rw O (refaced (λ n. renamedNode x f n (n .face)) side (renamed-refaced m x f fs h r) rise z r)
 
 -- 13 makes a face only where neither is 0
-makes-above : (news : Bool) (e : ℕ) (m : Map) → makesFace news e m ≡ true → min (edge m e .left) (edge m e .right) ≢ 0
+makes-above : (how : Variant) (e : ℕ) (m : Map) → makesFace how e m ≡ true → min (edge m e .left) (edge m e .right) ≢ 0
 unfolding makesFace
-makes-above news e m h = differ (lowerFace e m) 0
-    (not-true (same (lowerFace e m) 0) (and-true (news && healsFaces e m) (not (same (lowerFace e m) 0)) h .1))
+makes-above how e m h = differ (lowerFace e m) 0
+    (not-true (same (lowerFace e m) 0) (and-true (isNew how && healsFaces e m) (not (same (lowerFace e m) 0)) h .1))
 
 pub renamed-next : (x : Edge) (f : ℕ) (m : Map) → (renamedFaces x f m .next .nodes ≡ m .next .nodes)
     × (renamedFaces x f m .next .edges ≡ m .next .edges) × (renamedFaces x f m .next .faces ≡ m .next .faces)
 unfolding renamedFaces
 renamed-next x f m = (refl, refl, refl)
 
-pub remove-edge-ranked : (news : Bool) (e : ℕ) (m : Map) → hasEdge m e ≡ true → RankedMap m
-    → RankedMap (removeEdge news e m)
+pub remove-edge-ranked : (how : Variant) (e : ℕ) (m : Map) → hasEdge m e ≡ true → RankedMap m
+    → RankedMap (removeEdge how e m)
 unfolding removeEdge
-remove-edge-ranked news e m h r =
+remove-edge-ranked how e m h r =
     let x = edge m e in
-    let makes = makesFace news e m in
-    let f = faceLeft news e m in
+    let makes = makesFace how e m in
+    let f = faceLeft how e m in
     let fs = renamedList makes x f (m .faces) in
     let sides = row-sides m e h r in
     let after = renamedFaces x f m in
     let next = renamed-next x f m in
     let ranked = renamed-ranked m x f fs (renamed-in x (m .next .faces) (m .faces) (sides .0) (sides .1) makes)
     (renamed-rising x (m .next .faces) (m .faces) (sides .0) (sides .1) makes (r .faces))
-    (renamed-zero x (m .next .faces) (m .faces) (sides .0) (sides .1) makes (makes-above news e m) (r .zero)) r in
-    ranked-shape {m = removeEdge news e m} (record {
+    (renamed-zero x (m .next .faces) (m .faces) (sides .0) (sides .1) makes (makes-above how e m) (r .zero)) r in
+    ranked-shape {m = removeEdge how e m} (record {
       nodes = refl;
       outlines = refl;
       faces = refl;

@@ -13,12 +13,14 @@ use Rattle.lists.proofs.Keeps.{keep-has, keep-le, keep-lt}
 use Rattle.plane.specs.declared.Point.{Point}
 use Rattle.curves.specs.Curves.{Curve, startWay}
 use Rattle.planar_maps.specs.Map.{fwd}
+use Rattle.map.specs.declared.Variant.{Variant}
+use Rattle.map.specs.declared.Variant.the-variants.{New, Mod}
 use Rattle.map.specs.Rows.{Edge, Map, edge, hasNode, hasEdge, atNodes, atEdge}
 use Rattle.map.specs.Darts.{bears}
 use Rattle.map.specs.Links.{cornerFace}
-use Rattle.map.specs.Edits.{addIsoNode, moveIsoNode, removeIsoNode, drawn, undrawn, addIsoEdge, removeIsoEdge}
-use Rattle.map.specs.Edits.{changeEdgeGeom, split, heal, drawnIn, splitsFace, splitFace, sharedOut, addEdge, renamed}
-use Rattle.map.specs.Edits.{renamedFaces, makesFace, faceLeft, removeEdge}
+use Rattle.map.specs.Edits.{isNew, isMod, addIsoNode, moveIsoNode, removeIsoNode, drawn, undrawn, addIsoEdge}
+use Rattle.map.specs.Edits.{removeIsoEdge, changeEdgeGeom, split, heal, drawnIn, splitsFace, splitFace, sharedOut}
+use Rattle.map.specs.Edits.{addEdge, renamed, renamedFaces, makesFace, faceLeft, removeEdge}
 use Rattle.map.proofs.Laws.{edge-there}
 use Rattle.map_laws.proofs.Readings.{bears-row, Outline, outlineOf, outlines}
 use Rattle.map_laws.proofs.Reasons.{newFaces}
@@ -128,12 +130,12 @@ remove-lone-taken e m = undrawn-taken e _ m
 
 -- ---- split and heal
 
-pub split-taken : (keeps : Bool) (e : ℕ) (p : Point) (m : Map) → hasEdge m e ≡ true
-    → Taken m (split keeps e p m) 1 1 0 1 (cond keeps 1 2) 0
+pub split-taken : (how : Variant) (e : ℕ) (p : Point) (m : Map) → hasEdge m e ≡ true
+    → Taken m (split how e p m) 1 1 0 1 (cond (isMod how) 1 2) 0
 unfolding split
-split-taken keeps e p m h = record {
+split-taken how e p m h = record {
   nodes = simp length-append (omega arith);
-  edges = omega (arith, ap length (split-outlines keeps e p m), count keeps);
+  edges = omega (arith, ap length (split-outlines how e p m), count how);
   faces = none-more _;
   next-node = refl;
   next-edge = refl;
@@ -144,17 +146,17 @@ split-taken keeps e p m h = record {
     less = keep-lt (λ o. not (same (o .arc .num) e)) (outlines m) (Memᴰ·map outlineOf (edge-there m e h .0))
         (ap not (same-eq (edge m e .number) e (edge-there m e h .1)))
 
-    count : (k : Bool) → length (splitOutlines k e (m .next .nodes) (m .next .edges) (outlineOf (edge m e))
+    count : (k : Variant) → length (splitOutlines k e (m .next .nodes) (m .next .edges) (outlineOf (edge m e))
         (outlines m)) ≤ length (outlines m) + 1
-    count true = simp (length-append, length-map) (omega arith)
-    count false = simp length-append (omega (arith, less))
+    count Mod = simp (length-append, length-map) (omega arith)
+    count New = simp length-append (omega (arith, less))
 
-pub heal-taken : (keeps : Bool) (e f : ℕ) (m : Map) → hasEdge m e ≡ true → e ≢ f
-    → Taken m (heal keeps e f m) 0 0 0 0 (cond keeps 0 1) 0
+pub heal-taken : (how : Variant) (e f : ℕ) (m : Map) → hasEdge m e ≡ true → e ≢ f
+    → Taken m (heal how e f m) 0 0 0 0 (cond (isMod how) 0 1) 0
 unfolding heal
-heal-taken keeps e f m h ne = record {
+heal-taken how e f m h ne = record {
   nodes = omega (arith, keep-le (λ r. not (same (r .number) (jointOf m e f))) (m .nodes));
-  edges = omega (arith, ap length (heal-outlines keeps e f m), count keeps);
+  edges = omega (arith, ap length (heal-outlines how e f m), count how);
   faces = none-more _;
   next-node = refl;
   next-edge = refl;
@@ -169,12 +171,12 @@ heal-taken keeps e f m h ne = record {
     less = keep-lt (λ o. not (same (o .arc .num) e)) (lessOutline f (outlines m)) here
         (ap not (same-eq (edge m e .number) e (edge-there m e h .1)))
 
-    count : (k : Bool) → length (healOutlines k e f (healedOutline k e f m) (outlines m)) ≤ length (outlines m) + 0
-    count true =
-        let x = keep-le (λ o. not (same (o .arc .num) f)) (map (placing e (healedOutline true e f m)) (outlines m)) in
-        let y = length-map (outlines m) (placing e (healedOutline true e f m)) in
+    count : (k : Variant) → length (healOutlines k e f (healedOutline k e f m) (outlines m)) ≤ length (outlines m) + 0
+    count Mod =
+        let x = keep-le (λ o. not (same (o .arc .num) f)) (map (placing e (healedOutline Mod e f m)) (outlines m)) in
+        let y = length-map (outlines m) (placing e (healedOutline Mod e f m)) in
         omega arith
-    count false =
+    count New =
         let x = keep-le (λ o. not (same (o .arc .num) f)) (outlines m) in
         simp length-append (omega (arith, less))
 
@@ -198,23 +200,23 @@ split-count true old a fs k = let x = keep-lt (λ f. not (same f old)) fs k (ap 
     simp length-append (omega arith)
 split-count false old a fs k = simp length-append (omega arith)
 
-split-face-taken : (news : Bool) (e : ℕ) (m : Map) → hasEdge m e ≡ true → RankedMap m
-    → Taken m (splitFace news e m) 0 0 1 0 0 (cond (news && not (same (bears m (fwd e)) 0)) 2 1)
+split-face-taken : (how : Variant) (e : ℕ) (m : Map) → hasEdge m e ≡ true → RankedMap m
+    → Taken m (splitFace how e m) 0 0 1 0 0 (cond (isNew how && not (same (bears m (fwd e)) 0)) 2 1)
 unfolding splitFace sharedOut
-split-face-taken news e m h r = record {
+split-face-taken how e m h r = record {
   nodes = simp length-map (omega arith);
   edges = simp length-map (omega arith);
-  faces = split-count (news && not (same (bears m (fwd e)) 0)) (bears m (fwd e)) (m .next .faces) (m .faces)
+  faces = split-count (isNew how && not (same (bears m (fwd e)) 0)) (bears m (fwd e)) (m .next .faces) (m .faces)
       (bears-in m (fwd e) h (ranked-faces m r));
   next-node = refl;
   next-edge = refl;
   next-face = refl;
 }
 
-pub add-edge-taken : (news : Bool) (u v : ℕ) (c : Curve) (m : Map) → hasNode m u ≡ true → RankedMap m
-    → Taken m (addEdge news u v c m) 0 1 (bit (splitsFace u v c m)) 0 1 (newFaces news m u v c)
+pub add-edge-taken : (how : Variant) (u v : ℕ) (c : Curve) (m : Map) → hasNode m u ≡ true → RankedMap m
+    → Taken m (addEdge how u v c m) 0 1 (bit (splitsFace u v c m)) 0 1 (newFaces how m u v c)
 unfolding addEdge
-add-edge-taken news u v c m h r = go (splitsFace u v c m)
+add-edge-taken how u v c m h r = go (splitsFace u v c m)
   where
     f : ℕ
     f = cornerFace m u (startWay c)
@@ -225,21 +227,21 @@ add-edge-taken news u v c m h r = go (splitsFace u v c m)
     joined : RankedMap (drawnIn u v c m)
     joined = drawn-ranked u v c f m (corner-in m u (startWay c) h (ranked-faces m r)) r
 
-    two : Taken (drawnIn u v c m) (splitFace news (m .next .edges) (drawnIn u v c m)) 0 0 1 0 0
-        (cond (news && not (same (bears (drawnIn u v c m) (fwd (m .next .edges))) 0)) 2 1)
-    two = split-face-taken news (m .next .edges) (drawnIn u v c m) (drawn-has u v c f m) joined
+    two : Taken (drawnIn u v c m) (splitFace how (m .next .edges) (drawnIn u v c m)) 0 0 1 0 0
+        (cond (isNew how && not (same (bears (drawnIn u v c m) (fwd (m .next .edges))) 0)) 2 1)
+    two = split-face-taken how (m .next .edges) (drawnIn u v c m) (drawn-has u v c f m) joined
 
     bits : (g : Bool) → cond g 2 1 ≡ 1 + bit g
     bits true = refl
     bits false = refl
 
-    go : (b : Bool) → Taken m (cond b (splitFace news (m .next .edges) (drawnIn u v c m)) (drawnIn u v c m)) 0 1
-        (bit b) 0 1 (bit b + bit (b && news && not (same (cornerFace m u (startWay c)) 0)))
+    go : (b : Bool) → Taken m (cond b (splitFace how (m .next .edges) (drawnIn u v c m)) (drawnIn u v c m)) 0 1
+        (bit b) 0 1 (bit b + bit (b && isNew how && not (same (cornerFace m u (startWay c)) 0)))
     go true =
-        let z : cond (news && not (same (bears (drawnIn u v c m) (fwd (m .next .edges))) 0)) 2 1
-        ≡ 1 + bit (news && not (same (cornerFace m u (startWay c)) 0)) =
-        bits (news && not (same (bears (drawnIn u v c m) (fwd (m .next .edges))) 0))
-        ∙ ap (λ (g : ℕ). 1 + bit (news && not (same g 0))) (drawn-bears u v c f m joined) in
+        let z : cond (isNew how && not (same (bears (drawnIn u v c m) (fwd (m .next .edges))) 0)) 2 1
+        ≡ 1 + bit (isNew how && not (same (cornerFace m u (startWay c)) 0)) =
+        bits (isNew how && not (same (bears (drawnIn u v c m) (fwd (m .next .edges))) 0))
+        ∙ ap (λ (g : ℕ). 1 + bit (isNew how && not (same g 0))) (drawn-bears u v c f m joined) in
         record {
           nodes = omega (arith, one .nodes, two .nodes);
           edges = omega (arith, one .edges, two .edges);
@@ -265,11 +267,11 @@ renamed-lengths : (x : Edge) (f : ℕ) (m : Map) → (length (renamedFaces x f m
 unfolding renamedFaces
 renamed-lengths x f m = (length-map (m .nodes) _, simp length-map)
 
-pub remove-edge-taken : (news : Bool) (e : ℕ) (m : Map) → hasEdge m e ≡ true → RankedMap m
-    → Taken m (removeEdge news e m) 0 0 0 0 0 (bit (makesFace news e m))
+pub remove-edge-taken : (how : Variant) (e : ℕ) (m : Map) → hasEdge m e ≡ true → RankedMap m
+    → Taken m (removeEdge how e m) 0 0 0 0 0 (bit (makesFace how e m))
 unfolding removeEdge
-remove-edge-taken news e m h r =
-    let f = faceLeft news e m in
+remove-edge-taken how e m h r =
+    let f = faceLeft how e m in
     let after = renamedFaces (edge m e) f m in
     let t = undrawn-taken e f after in
     let size = renamed-lengths (edge m e) f m in
@@ -278,7 +280,7 @@ remove-edge-taken news e m h r =
     record {
       nodes = omega (arith, t .nodes, size .0);
       edges = omega (arith, t .edges, size .1);
-      faces = renamed-count (makesFace news e m) (edge m e) (m .next .faces) (m .faces) k
+      faces = renamed-count (makesFace how e m) (edge m e) (m .next .faces) (m .faces) k
           (λ q. let b = r .faces .bounds (edge m e .left) k in omega arith);
       next-node = omega (arith, t .next-node, next .0);
       next-edge = omega (arith, t .next-edge, next .1);

@@ -17,9 +17,11 @@ use Rattle.lists.proofs.Rising.{Rising, rising-keep}
 use Rattle.lists.proofs.Lookups.{replaced-numbers, replaced-in}
 use Rattle.planar_maps.specs.Map.{Dart, fwd, bwd}
 use Rattle.plane.specs.declared.Point.{Point}
+use Rattle.map.specs.declared.Variant.{Variant}
+use Rattle.map.specs.declared.Variant.the-variants.{New, Mod}
 use Rattle.map.specs.Rows.{Node, Edge, Map, edge, hasEdge, atEdge, withoutEdge}
 use Rattle.map.specs.Links.{withLinks, instead, redirect}
-use Rattle.map.specs.Edits.{startHalf, endHalf, split}
+use Rattle.map.specs.Edits.{isMod, startHalf, endHalf, split}
 use Rattle.map.proofs.Laws.{edge-there}
 use Rattle.map_laws.proofs.Readings.{mapped-kept, Outline, outlineOf, outlines, outlineNumber, relinked-join}
 use Rattle.map_laws.proofs.Readings.{redirect-relinked}
@@ -102,19 +104,19 @@ abbrev pub endPart : Outline → ℕ → ℕ → Outline
 endPart o b n = record { arc = record { num = b; from = n; to = o .arc .to }; left = o .left; right = o .right }
 
 -- the outlines after a split of the outline o with the number e at the node n, x being the next number
-abbrev pub splitOutlines : Bool → ℕ → ℕ → ℕ → Outline → List Outline → List Outline
-splitOutlines keeps e n x o os = cond keeps (map (placing e (startPart o e n)) os ++ endPart o x n ∷ [])
+abbrev pub splitOutlines : Variant → ℕ → ℕ → ℕ → Outline → List Outline → List Outline
+splitOutlines how e n x o os = cond (isMod how) (map (placing e (startPart o e n)) os ++ endPart o x n ∷ [])
     (lessOutline e os ++ startPart o x n ∷ endPart o (x + 1) n ∷ [])
 
-abbrev pub splitParts : Bool → ℕ → ℕ → ℕ → Outline → List Outline
-splitParts keeps e n x o = startPart o (cond keeps e x) n ∷ endPart o (cond keeps x (x + 1)) n ∷ []
+abbrev pub splitParts : Variant → ℕ → ℕ → ℕ → Outline → List Outline
+splitParts how e n x o = startPart o (cond (isMod how) e x) n ∷ endPart o (cond (isMod how) x (x + 1)) n ∷ []
 
 module _ (e n x : ℕ) (o : Outline) (os : List Outline) (k : List·Memᴰ o os) (h : o .arc .num ≡ e) where
-  split-rising : (keeps : Bool) → 1 ≤ x → Rising 1 x (map outlineNumber os)
-      → Rising 1 (x + cond keeps 1 2) (map outlineNumber (splitOutlines keeps e n x o os))
-  split-rising true low r = rising-outlines x (map (placing e (startPart o e n)) os) (endPart o x n) low refl
+  split-rising : (how : Variant) → 1 ≤ x → Rising 1 x (map outlineNumber os)
+      → Rising 1 (x + cond (isMod how) 1 2) (map outlineNumber (splitOutlines how e n x o os))
+  split-rising Mod low r = rising-outlines x (map (placing e (startPart o e n)) os) (endPart o x n) low refl
       (subst (Rising 1 x) (sym (placing-numbers e (startPart o e n) os refl)) r)
-  split-rising false low r =
+  split-rising New low r =
       subst (λ (i : ℕ). Rising 1 i (map outlineNumber (lessOutline e os ++ startPart o x n ∷ endPart o (x + 1) n ∷ [])))
       (twice x) (subst (λ (l : List Outline). Rising 1 (x + 1 + 1) (map outlineNumber l))
       (append-assoc (lessOutline e os) (startPart o x n ∷ []) (endPart o (x + 1) n ∷ [])) last)
@@ -132,9 +134,9 @@ module _ (e n x : ℕ) (o : Outline) (os : List Outline) (k : List·Memᴰ o os)
       last = rising-outlines (x + 1) (lessOutline e os ++ startPart o x n ∷ []) (endPart o (x + 1) n) (omega arith) refl
           (rising-outlines x (lessOutline e os) (startPart o x n) low refl less)
 
-  split-replaced : (keeps : Bool)
-      → Replaced os (splitOutlines keeps e n x o os) (λ q. same (q .arc .num) e) (splitParts keeps e n x o)
-  split-replaced true = record {
+  split-replaced : (how : Variant)
+      → Replaced os (splitOutlines how e n x o os) (λ q. same (q .arc .num) e) (splitParts how e n x o)
+  split-replaced Mod = record {
     back = λ q j. elim (List·Memᴰ·append-cases (map (placing e (startPart o e n)) os) j) [
       | inl i ↦ elim (placing-back e (startPart o e n) q os i) [ inl y ↦ inl (List·Memᴰ·head y) | inr y ↦ inr y ]
       | inr i ↦ inl (List·Memᴰ·tail i)
@@ -145,7 +147,7 @@ module _ (e n x : ℕ) (o : Outline) (os : List Outline) (k : List·Memᴰ o os)
     ];
     rest = λ q j y. Memᴰ·append-left (endPart o x n ∷ []) (placing-rest e (startPart o e n) q os j y);
   }
-  split-replaced false = record {
+  split-replaced New = record {
     back = λ q j. elim (List·Memᴰ·append-cases (lessOutline e os) j) [
       | inl i ↦ let y = keep-in (λ q. not (same (q .arc .num) e)) os i in
           inr (y .0, not-true (same (q .arc .num) e) (y .1))
@@ -157,12 +159,12 @@ module _ (e n x : ℕ) (o : Outline) (os : List Outline) (k : List·Memᴰ o os)
   }
 
   -- at a node other than the new one the halves end where the whole did
-  split-meeting : (keeps : Bool) → ((q : Outline) → List·Memᴰ q os → q .arc .num ≡ e → q ≡ o) → (i : ℕ) → i ≢ n
-      → Meeting os (λ q. same (q .arc .num) e) (splitParts keeps e n x o) i
-  split-meeting keeps only i ne = record {
+  split-meeting : (how : Variant) → ((q : Outline) → List·Memᴰ q os → q .arc .num ≡ e → q ≡ o) → (i : ℕ) → i ≢ n
+      → Meeting os (λ q. same (q .arc .num) e) (splitParts how e n x o) i
+  split-meeting how only i ne = record {
     gone = λ q j y z. elim (subst (λ (w : Outline). EndsAt w i) (only q j (same-true (q .arc .num) e y)) z) [
-      | inl u ↦ (startPart o (cond keeps e x) n, List·Memᴰ·head refl, inl u)
-      | inr u ↦ (endPart o (cond keeps x (x + 1)) n, List·Memᴰ·tail (List·Memᴰ·head refl), inr u)
+      | inl u ↦ (startPart o (cond (isMod how) e x) n, List·Memᴰ·head refl, inl u)
+      | inr u ↦ (endPart o (cond (isMod how) x (x + 1)) n, List·Memᴰ·tail (List·Memᴰ·head refl), inr u)
     ];
     come = λ q j z. elim (List·Memᴰ·cases-cons j) [
       | inl y ↦ elim (subst (λ (w : Outline). EndsAt w i) y z) [ inl u ↦ (o, k, inl u) | inr u ↦ absurd (ne (sym u)) ]
@@ -193,11 +195,11 @@ renaming-outline : (p p′ q q′ : Dart) (m : Map) (e : ℕ)
     → outlineOf (edge (renaming p p′ q q′ m) e) ≡ outlineOf (edge m e)
 renaming-outline p p′ q q′ m e = redirect-outline q q′ (redirect p p′ m) e ∙ redirect-outline p p′ m e
 
-pub split-outlines : (keeps : Bool) (e : ℕ) (p : Point) (m : Map)
-    → outlines (split keeps e p m) ≡ splitOutlines keeps e (m .next .nodes) (m .next .edges) (outlineOf (edge m e))
+pub split-outlines : (how : Variant) (e : ℕ) (p : Point) (m : Map)
+    → outlines (split how e p m) ≡ splitOutlines how e (m .next .nodes) (m .next .edges) (outlineOf (edge m e))
     (outlines m)
 unfolding split atEdge
-split-outlines true e p m =
+split-outlines Mod e p m =
     let n = m .next .nodes in
     let x = m .next .edges in
     let m′ = renaming (fwd e) (fwd e) (bwd e) (bwd x) m in
@@ -215,7 +217,7 @@ split-outlines true e p m =
     at : (b : Bool) (f r : Edge) → outlineOf (cond b f r) ≡ cond b (outlineOf f) (outlineOf r)
     at true f r = refl
     at false f r = refl
-split-outlines false e p m =
+split-outlines New e p m =
     let n = m .next .nodes in
     let x = m .next .edges in
     let m′ = renaming (fwd e) (fwd x) (bwd e) (bwd (x + 1)) m in
@@ -228,10 +230,10 @@ split-outlines false e p m =
     ∙ ap (λ (o : Outline). lessOutline e (outlines m) ++ startPart o x n ∷ endPart o (x + 1) n ∷ [])
     (renaming-outline (fwd e) (fwd x) (bwd e) (bwd (x + 1)) m e)
 
-pub split-ranked : (keeps : Bool) (e : ℕ) (p : Point) (m : Map) → hasEdge m e ≡ true → RankedMap m
-    → RankedMap (split keeps e p m)
+pub split-ranked : (how : Variant) (e : ℕ) (p : Point) (m : Map) → hasEdge m e ≡ true → RankedMap m
+    → RankedMap (split how e p m)
 unfolding split
-split-ranked keeps e p m h r =
+split-ranked how e p m h r =
     let n = m .next .nodes in
     let x = m .next .edges in
     let o = outlineOf (edge m e) in
@@ -239,13 +241,14 @@ split-ranked keeps e p m h r =
     let k : List·Memᴰ o os = Memᴰ·map outlineOf (edge-there m e h .0) in
     let q : o .arc .num ≡ e = edge-there m e h .1 in
     let only : (y : Outline) → List·Memᴰ y os → y .arc .num ≡ e → y ≡ o = outline-at m e (ranked-distinct m r) in
-    let halves : Ranked (m .nodes) (splitOutlines keeps e n x o os) (m .faces) n (x + cond keeps 1 2) (m .next .faces) =
-    replaced-ranked (split-replaced e n x o os k q keeps) (split-rising e n x o os k q keeps (r .first-edge) (r .edges))
-    (low x keeps (r .first-edge)) (sides keeps o (r .sided o k))
-    (λ y j. split-meeting e n x o os k q keeps only (y .number) (old y j)) r in
-    ranked-shape {m = split keeps e p m} (record {
+    let y = x + cond (isMod how) 1 2 in
+    let halves : Ranked (m .nodes) (splitOutlines how e n x o os) (m .faces) n y (m .next .faces) =
+    replaced-ranked (split-replaced e n x o os k q how) (split-rising e n x o os k q how (r .first-edge) (r .edges))
+    (omega (arith, r .first-edge)) (sides how o (r .sided o k))
+    (λ y j. split-meeting e n x o os k q how only (y .number) (old y j)) r in
+    ranked-shape {m = split how e p m} (record {
       nodes = refl;
-      outlines = split-outlines keeps e p m;
+      outlines = split-outlines how e p m;
       faces = refl;
       next-node = refl;
       next-edge = refl;
@@ -255,18 +258,14 @@ split-ranked keeps e p m h r =
     (record {
       inside = none-inside;
       met = λ y. (
-        startPart o (cond keeps e x) n,
-        split-replaced e n x o os k q keeps .new _ (List·Memᴰ·head refl),
+        startPart o (cond (isMod how) e x) n,
+        split-replaced e n x o os k q how .new _ (List·Memᴰ·head refl),
         inr refl,
       );
       bare = λ y. refl;
     }) halves)
   where
-    low : (x : ℕ) (b : Bool) → 1 ≤ x → 1 ≤ x + cond b 1 2
-    low x true h = omega arith
-    low x false h = omega arith
-
-    sides : (b : Bool) (o : Outline) → Sided (m .faces) o → (y : Outline)
+    sides : (b : Variant) (o : Outline) → Sided (m .faces) o → (y : Outline)
         → List·Memᴰ y (splitParts b e (m .next .nodes) (m .next .edges) o) → Sided (m .faces) y
     sides b o s y j = elim (List·Memᴰ·cases-cons j) [
       | inl z ↦ subst (Sided (m .faces)) (sym z) s

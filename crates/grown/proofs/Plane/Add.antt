@@ -1,13 +1,14 @@
 -- Kinds 11 and 12 keep a map in the plane. Assumes nothing.
 use mathlib.Core.Path.{_≡_}
 use mathlib.Core.Logic.{inl, inr}
-use mathlib.Core.Bool.{Bool, true, false}
+use mathlib.Core.Bool.{true, false}
 use Prim.Native.Nat.{ℕ}
 use borrow.Author.Tests.{not-true}
 use Rattle.lists.proofs.Bools.{which}
 use Rattle.lists.proofs.Rising.{rising-distinct}
 use Rattle.planar_maps.specs.Map.{fwd, bwd}
 use Rattle.curves.specs.Curves.{Curve, startWay}
+use Rattle.map.specs.declared.Variant.{Variant}
 use Rattle.map.specs.Rows.{Map, Sizes}
 use Rattle.map.specs.Darts.{ring, among}
 use Rattle.map.specs.Links.{cornerFace}
@@ -29,7 +30,7 @@ faced m good = let r = ranks m good in record {
   borne = λ d k. bears-in m d (dart-has m k) (ranked-faces m r);
 }
 
-module _ (news : Bool) (s : Sizes) (m : Map) (u v : ℕ) (c : Curve) (good : Good m) (h : AddEdge news s m u v c) where
+module _ (how : Variant) (s : Sizes) (m : Map) (u v : ℕ) (c : Curve) (good : Good m) (h : AddEdge how s m u v c) where
   abbrev L : Lawful m
   L = good-lawful m good
 
@@ -38,12 +39,12 @@ module _ (news : Bool) (s : Sizes) (m : Map) (u v : ℕ) (c : Curve) (good : Goo
   unfolding splitsFace
   rings-apart e = not-true (among (ring (drawnIn u v c m) (fwd (m .next .edges))) (bwd (m .next .edges))) e
 
-  pub planar-added : InPlane (addEdge news u v c m)
+  pub planar-added : InPlane (addEdge how u v c m)
   unfolding addEdge
   planar-added = elim (which (splitsFace u v c m)) [
-    | inl e ↦ rw e (split-face-planar news m u v c (cornerFace m u (startWay c)) (draws-added m L s u v c news h)
+    | inl e ↦ rw e (split-face-planar how m u v c (cornerFace m u (startWay c)) (draws-added m L s u v c how h)
         (faced m good) (corner-in m u (startWay c) (h .has-start) (ranked-faces m (ranks m good))) (rings-apart e)
         (h .has-start)
         (h .has-end) (good .woven .planar))
-    | inr e ↦ rw e (planar-joining news s m u v c L h e (good .woven .planar))
+    | inr e ↦ rw e (planar-joining how s m u v c L h e (good .woven .planar))
   ]

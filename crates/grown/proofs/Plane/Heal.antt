@@ -1,7 +1,6 @@
 -- Kinds 9 and 10: a heal keeps a map in the plane. Assumes nothing.
 use mathlib.Core.Path.{_≡_, refl, sym, ap, _∙_, subst}
 use mathlib.Core.Logic.{inl, inr, _≢_}
-use mathlib.Core.Bool.{true, false}
 use mathlib.Core.List.{List, _∷_, map, List·Memᴰ, List·Memᴰ·tail, Memᴰ·map, List·Permᴰ, Permᴰ·symm}
 use mathlib.Core.Option.{Option·getD}
 use Prim.Native.Nat.{ℕ, _<_}
@@ -14,6 +13,7 @@ use Rattle.planar_maps.specs.Planar.{Planar}
 use Rattle.planar_maps.proofs.Cycles.{fwd-in, bwd-in}
 use Rattle.planar_maps.proofs.Moves.{planar-perm}
 use Rattle.planar_maps.proofs.Splitting.{tail-in}
+use Rattle.map.specs.declared.Variant.the-variants.{New, Mod}
 use Rattle.map.specs.Rows.{Edge, Map, edge, atEdge, withoutNode, withoutEdge}
 use Rattle.map.specs.Darts.{arcs, leaves, next, bears}
 use Rattle.map.specs.Links.{redirect}
@@ -86,12 +86,12 @@ module _ (m : Map) (L : Lawful m) (e f : ℕ) (q : Heal m e f) where
   f-below = let x = edge-there m f (q .has-other) in
       subst (λ (i : ℕ). i < m .next .edges) (x .1) (L .edges-below (edge m f .number) (Memᴰ·map numberOf (x .0)))
 
-  pub planar-9 : InPlane m → InPlane (heal false e f m)
+  pub planar-9 : InPlane m → InPlane (heal New e f m)
   unfolding heal redirect
-  planar-9 o = planar-whole m L e f n₀ c₀ d₀ (seam m L e f q) (heal false e f m) (m .next .edges) others
+  planar-9 o = planar-whole m L e f n₀ c₀ d₀ (seam m L e f q) (heal New e f m) (m .next .edges) others
       (new-healed m L e f q) refl (nodes o) (λ p. omega (arith, f-below, p)) (new-f m L e f q) o
 
-  pub planar-10 : InPlane m → InPlane (heal true e f m)
+  pub planar-10 : InPlane m → InPlane (heal Mod e f m)
   unfolding heal redirect atEdge
-  planar-10 o = planar-whole m L e f n₀ c₀ d₀ (seam m L e f q) (heal true e f m) e others (kept-healed m L e f q) refl
+  planar-10 o = planar-whole m L e f n₀ c₀ d₀ (seam m L e f q) (heal Mod e f m) e others (kept-healed m L e f q) refl
       (nodes o) (λ p. q .differ (sym p)) (new-f m L e f q) o

@@ -1,7 +1,7 @@
 -- Kind 4, and kinds 11 and 12 where no face is split, keep a map in the plane. Assumes nothing.
 use mathlib.Core.Path.{_≡_, refl, sym, ap, _∙_}
 use mathlib.Core.Logic.{inl, inr}
-use mathlib.Core.Bool.{Bool, true, false}
+use mathlib.Core.Bool.{true, false}
 use mathlib.Core.List.{_∷_, List·Memᴰ, List·Memᴰ·head, List·Memᴰ·cases-cons}
 use mathlib.Core.Option.{Option·getD}
 use Prim.Native.Nat.{ℕ}
@@ -12,6 +12,7 @@ use Rattle.planar_maps.specs.Rings.{Leads}
 use Rattle.planar_maps.specs.Weave.{with-edge}
 use Rattle.planar_maps.proofs.Hooks.{fresh-dart, with-fwd, with-bwd, with-other}
 use Rattle.rotation.specs.Law.{from}
+use Rattle.map.specs.declared.Variant.{Variant}
 use Rattle.map.specs.Rows.{Map, Sizes, node, hasNode}
 use Rattle.map.specs.Darts.{arcs, directed, leaves, next, ring, among}
 use Rattle.map.specs.Links.{cornerFace}
@@ -42,14 +43,15 @@ module _ (m : Map) (L : Lawful m) (s : Sizes) (u v : ℕ) (c : Curve) where
     corner-end = λ d k. absurd (L .bare v (h .has-end) (h .isolated-end) d (departs m v k .0) (departs m v k .1));
   }
 
-  pub draws-added : (news : Bool) → AddEdge news s m u v c → Draws m u v c (cornerFace m u (startWay c))
-  draws-added news h = draws-edge h (L .linked) (L .once) (L .apart) (edge-new m (L .edges-below))
+  pub draws-added : (how : Variant) → AddEdge how s m u v c → Draws m u v c (cornerFace m u (startWay c))
+  draws-added how h = draws-edge h (L .linked) (L .once) (L .apart) (edge-new m (L .edges-below))
 
 -- ---- both sides on one ring
 
 module _ (m : Map) (u v : ℕ) (c : Curve) (φ : ℕ) (draws : Draws m u v c φ) where
   joined-planar : hasNode m u ≡ true → hasNode m v ≡ true
-      → Leads (next (drawn u v c φ m)) (fwd (m .next .edges)) (bwd (m .next .edges)) → InPlane m → InPlane (drawn u v c φ m)
+      → Leads (next (drawn u v c φ m)) (fwd (m .next .edges)) (bwd (m .next .edges))
+      → InPlane m → InPlane (drawn u v c φ m)
   joined-planar has-u has-v leads o = D-join m u v c φ draws o (number-has nodeNumber noNode (m .nodes) u has-u)
       (number-has nodeNumber noNode (m .nodes) v has-v) leads
 
@@ -86,7 +88,7 @@ module _ (s : Sizes) (m : Map) (u v : ℕ) (c : Curve) (L : Lawful m) (h : AddLo
 
 -- ---- kinds 11 and 12, with e and -e on one ring
 
-module _ (news : Bool) (s : Sizes) (m : Map) (u v : ℕ) (c : Curve) (L : Lawful m) (h : AddEdge news s m u v c)
+module _ (how : Variant) (s : Sizes) (m : Map) (u v : ℕ) (c : Curve) (L : Lawful m) (h : AddEdge how s m u v c)
     (whole : splitsFace u v c m ≡ false) where
   one-ring : Leads (next (drawnIn u v c m)) (fwd (m .next .edges)) (bwd (m .next .edges))
   unfolding splitsFace
@@ -97,8 +99,8 @@ module _ (news : Bool) (s : Sizes) (m : Map) (u v : ℕ) (c : Curve) (L : Lawful
       (not-false (among (ring (drawnIn u v c m) (fwd (m .next .edges))) (bwd (m .next .edges))) whole))
     where
       draws : Draws m u v c (cornerFace m u (startWay c))
-      draws = draws-added m L s u v c news h
+      draws = draws-added m L s u v c how h
 
   pub planar-joining : InPlane m → InPlane (drawnIn u v c m)
-  planar-joining = joined-planar m u v c (cornerFace m u (startWay c)) (draws-added m L s u v c news h) (h .has-start)
+  planar-joining = joined-planar m u v c (cornerFace m u (startWay c)) (draws-added m L s u v c how h) (h .has-start)
       (h .has-end) one-ring

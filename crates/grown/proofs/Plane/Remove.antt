@@ -1,7 +1,7 @@
 -- Kinds 13 and 14 keep a map in the plane. Assumes nothing.
 use mathlib.Core.Path.{_≡_, refl, sym, ap, _∙_, subst}
 use mathlib.Core.Logic.{_⊎_, inl, inr, _≢_}
-use mathlib.Core.Bool.{Bool, true, false, cond, not, _&&_}
+use mathlib.Core.Bool.{true, false, cond, not, _&&_}
 use mathlib.Core.List.{List, [], _∷_, _++_, List·Memᴰ}
 use Prim.Native.Nat.{ℕ, suc}
 use native.Mathlib.Omega.{arith}
@@ -13,9 +13,10 @@ use Rattle.lists.proofs.Bools.{which, same-refl, same-false, equal?, differ, an
 use Rattle.planar_maps.specs.Map.{fwd, bwd}
 use Rattle.planar_maps.proofs.Bridges.{Either}
 use Rattle.rotation.proofs.Clock.{le-or}
+use Rattle.map.specs.declared.Variant.{Variant}
 use Rattle.map.specs.Rows.{Map, edge, hasEdge}
 use Rattle.map.specs.Darts.{bears}
-use Rattle.map.specs.Edits.{healsFaces, lowerFace, makesFace, faceLeft, renamed, removeEdge}
+use Rattle.map.specs.Edits.{isNew, healsFaces, lowerFace, makesFace, faceLeft, renamed, removeEdge}
 use Rattle.map_laws.proofs.Readings.{bears-row, has-dart}
 use Rattle.grown.specs.Good.{Good, InPlane}
 use Rattle.grown.proofs.Plane.Add.{faced}
@@ -26,14 +27,14 @@ use Rattle.grown.proofs.Law.Lawful.{good-lawful}
 use Rattle.grown.proofs.Law.Remove.{edge-taken}
 
 -- a face is made only where the two differ
-made-apart : (news : Bool) (e : ℕ) (m : Map) → makesFace news e m ≡ true → edge m e .left ≢ edge m e .right
+made-apart : (how : Variant) (e : ℕ) (m : Map) → makesFace how e m ≡ true → edge m e .left ≢ edge m e .right
 unfolding makesFace healsFaces
-made-apart news e m q =
-    let k = and-true (news && not (same (edge m e .left) (edge m e .right))) (not (same (lowerFace e m) 0)) q in
-    let j = and-true news (not (same (edge m e .left) (edge m e .right))) (k .0) in
+made-apart how e m q =
+    let k = and-true (isNew how && not (same (edge m e .left) (edge m e .right))) (not (same (lowerFace e m) 0)) q in
+    let j = and-true (isNew how) (not (same (edge m e .left) (edge m e .right))) (k .0) in
     differ (edge m e .left) (edge m e .right) (not-true (same (edge m e .left) (edge m e .right)) (j .1))
 
-module _ (news : Bool) (e : ℕ) (m : Map) (good : Good m) (has : hasEdge m e ≡ true) where
+module _ (how : Variant) (e : ℕ) (m : Map) (good : Good m) (has : hasEdge m e ≡ true) where
   abbrev L : ℕ
   L = edge m e .left
 
@@ -42,15 +43,15 @@ module _ (news : Bool) (e : ℕ) (m : Map) (good : Good m) (has : hasEdge m e �
 
   -- the face that is left
   abbrev g₀ : ℕ
-  g₀ = faceLeft news e m
+  g₀ = faceLeft how e m
 
   abbrev μ : ℕ → ℕ
-  μ = renamed (edge m e) (faceLeft news e m)
+  μ = renamed (edge m e) (faceLeft how e m)
 
   abbrev X : Map
-  X = removeEdge news e m
+  X = removeEdge how e m
 
-  X-faces : X .faces ≡ cond (makesFace news e m) (stay L R g₀ (m .faces) ++ g₀ ∷ []) (stay L R g₀ (m .faces))
+  X-faces : X .faces ≡ cond (makesFace how e m) (stay L R g₀ (m .faces) ++ g₀ ∷ []) (stay L R g₀ (m .faces))
   unfolding removeEdge
   X-faces = refl
 
@@ -72,17 +73,17 @@ module _ (news : Bool) (e : ℕ) (m : Map) (good : Good m) (has : hasEdge m e �
   low-is = elim (le-or L R) [ inl p ↦ inl (omega arith) | inr p ↦ inr (omega arith) ]
 
   -- it is new, or the lower of the two
-  left-new : makesFace news e m ≡ true → g₀ ≡ m .next .faces
+  left-new : makesFace how e m ≡ true → g₀ ≡ m .next .faces
   left-new q = ap (λ x. cond x (m .next .faces) (lowerFace e m)) q
 
-  left-low : makesFace news e m ≡ false → g₀ ≡ lowerFace e m
+  left-low : makesFace how e m ≡ false → g₀ ≡ lowerFace e m
   left-low q = ap (λ x. cond x (m .next .faces) (lowerFace e m)) q
 
-  left-one : makesFace news e m ≡ false → (g₀ ≡ L) ⊎ (g₀ ≡ R)
+  left-one : makesFace how e m ≡ false → (g₀ ≡ L) ⊎ (g₀ ≡ R)
   left-one q = elim low-is [ inl p ↦ inl (left-low q ∙ p) | inr p ↦ inr (left-low q ∙ p) ]
 
   not-left : (h : ℕ) → List·Memᴰ h (m .faces) → h ≢ L → h ≢ R → h ≢ g₀
-  not-left h k l r p = elim (which (makesFace news e m)) [
+  not-left h k l r p = elim (which (makesFace how e m)) [
     | inl q ↦ (let b = faced m good .below h k in let t = p ∙ left-new q in omega arith)
     | inr q ↦ elim (left-one q) [ inl t ↦ l (p ∙ t) | inr t ↦ r (p ∙ t) ]
   ]
@@ -107,10 +108,10 @@ module _ (news : Bool) (e : ℕ) (m : Map) (good : Good m) (has : hasEdge m e �
 
   face-count : ((bears m (fwd e) ≡ bears m (bwd e)) × (length (X .faces) ≡ length (m .faces)))
       ⊎ ((bears m (fwd e) ≢ bears m (bwd e)) × (length (m .faces) ≡ suc (length (X .faces))))
-  face-count = elim (which (makesFace news e m)) [
+  face-count = elim (which (makesFace how e m)) [
     | inl q ↦ inr (
-      apart-sides (made-apart news e m q),
-      fewer q (stay-none L R g₀ (m .faces) once in-left in-right (made-apart news e m q)
+      apart-sides (made-apart how e m q),
+      fewer q (stay-none L R g₀ (m .faces) once in-left in-right (made-apart how e m q)
           (λ h k p. let b = faced m good .below h k in let t = p ∙ left-new q in omega arith)),
     )
     | inr q ↦ elim (equal? L R) [
@@ -133,10 +134,10 @@ module _ (news : Bool) (e : ℕ) (m : Map) (good : Good m) (has : hasEdge m e �
       apart-sides : L ≢ R → bears m (fwd e) ≢ bears m (bwd e)
       apart-sides ne p = ne (sym on-f ∙ p ∙ on-b)
 
-      plain : makesFace news e m ≡ false → X .faces ≡ stay L R g₀ (m .faces)
+      plain : makesFace how e m ≡ false → X .faces ≡ stay L R g₀ (m .faces)
       plain q = X-faces ∙ ap (λ x. cond x (stay L R g₀ (m .faces) ++ g₀ ∷ []) (stay L R g₀ (m .faces))) q
 
-      fewer : makesFace news e m ≡ true → length (m .faces) ≡ suc (suc (length (stay L R g₀ (m .faces))))
+      fewer : makesFace how e m ≡ true → length (m .faces) ≡ suc (suc (length (stay L R g₀ (m .faces))))
           → length (m .faces) ≡ suc (length (X .faces))
       fewer q n = let k = ap length (X-faces
           ∙ ap (λ x. cond x (stay L R g₀ (m .faces) ++ g₀ ∷ []) (stay L R g₀ (m .faces))) q) in let j =
@@ -150,6 +151,6 @@ module _ (news : Bool) (e : ℕ) (m : Map) (good : Good m) (has : hasEdge m e �
     count = face-count;
   }
 
-  pub planar-removed : InPlane (removeEdge news e m)
-  planar-removed = taken-planar m X e μ (edge-taken m (good-lawful m good) e has news) (faced m good) merging
+  pub planar-removed : InPlane (removeEdge how e m)
+  planar-removed = taken-planar m X e μ (edge-taken m (good-lawful m good) e has how) (faced m good) merging
       (good .woven .planar)

@@ -1,6 +1,5 @@
 -- Kinds 7 and 8: a split keeps a map in the plane. Assumes nothing.
 use mathlib.Core.Path.{_≡_, refl, sym, ap, subst}
-use mathlib.Core.Bool.{true, false}
 use mathlib.Core.List.{List, _∷_, map, List·Permᴰ, Permᴰ·symm}
 use Prim.Native.Nat.{ℕ, _+_}
 use lib.ListN.{length}
@@ -8,6 +7,7 @@ use Rattle.plane.specs.declared.Point.{Point}
 use Rattle.planar_maps.specs.Map.{Arc}
 use Rattle.planar_maps.specs.Planar.{Planar}
 use Rattle.planar_maps.proofs.Moves.{planar-perm}
+use Rattle.map.specs.declared.Variant.the-variants.{New, Mod}
 use Rattle.map.specs.Rows.{Map, Sizes, edge, atEdge, withoutEdge}
 use Rattle.map.specs.Links.{redirect}
 use Rattle.map.specs.Darts.{arcs, leaves, next, bears}
@@ -37,12 +37,12 @@ module _ (m m′ : Map) (e n a b : ℕ) (p : Point) (L : Lawful m) (h : InHalves
 -- ---- the kinds
 
 module _ (m : Map) (L : Lawful m) (s : Sizes) (e : ℕ) (p : Point) where
-  pub planar-7 : Split 2 s m e p → InPlane m → InPlane (split false e p m)
+  pub planar-7 : Split New s m e p → InPlane m → InPlane (split New e p m)
   unfolding split redirect
-  planar-7 h = planar-halves m (split false e p m) e (m .next .nodes) (m .next .edges) (m .next .edges + 1) p L
+  planar-7 h = planar-halves m (split New e p m) e (m .next .nodes) (m .next .edges) (m .next .edges + 1) p L
       (new-halves m e p L (h .has) (h .free) (h .on)) refl (last-first nodeNumber (m .nodes) _)
 
-  pub planar-8 : Split 1 s m e p → InPlane m → InPlane (split true e p m)
+  pub planar-8 : Split Mod s m e p → InPlane m → InPlane (split Mod e p m)
   unfolding split redirect atEdge
-  planar-8 h = planar-halves m (split true e p m) e (m .next .nodes) e (m .next .edges) p L
+  planar-8 h = planar-halves m (split Mod e p m) e (m .next .nodes) e (m .next .edges) p L
       (kept-halves m e p L (h .has) (h .free) (h .on)) refl (last-first nodeNumber (m .nodes) _)

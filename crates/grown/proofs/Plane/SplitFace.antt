@@ -17,11 +17,12 @@ use Rattle.planar_maps.specs.Map.{Dart, fwd, bwd, Linked}
 use Rattle.planar_maps.specs.Planar.{Planar}
 use Rattle.planar_maps.proofs.Cycles.{Grown}
 use Rattle.planar_maps.proofs.Hooks.{with-fwd, with-bwd}
+use Rattle.map.specs.declared.Variant.{Variant}
 use Rattle.map.specs.Rows.{Node, Map, hasNode, atNodes, atEdge}
 use Rattle.map.specs.Darts.{arcs, directed, leaves, next, bears, ring, among}
 use Rattle.map.specs.Links.{redirect, lead, linkIn, linkEdge}
 use Rattle.map.specs.Faces.{ringArea}
-use Rattle.map.specs.Edits.{Shares, withSides, drawn, sideOfDart, sideOfNode, sharedOut, splitFace}
+use Rattle.map.specs.Edits.{isNew, Shares, withSides, drawn, sideOfDart, sideOfNode, sharedOut, splitFace}
 use Rattle.map_laws.proofs.Readings.{arcOf, number-has}
 use Rattle.map_laws.proofs.RowChanges.{nodeNumber, noNode, nodeNumbers}
 use Rattle.map_laws.proofs.LinkedIn.{drawnRow}
@@ -39,9 +40,9 @@ pub record Faced (m : Map) : Type 0 where
   pub below : (g : ℕ) → List·Memᴰ g (m .faces) → g < m .next .faces
   pub borne : (d : Dart) → List·Memᴰ d (directed m) → List·Memᴰ (bears m d) (m .faces)
 
-module _ (news : Bool) (m : Map) (u v : ℕ) (c : Curve) (φ : ℕ) (draws : Draws m u v c φ) (faced : Faced m)
-    (there : List·Memᴰ φ (m .faces)) (split : among (ring (drawn u v c φ m) (fwd (m .next .edges))) (bwd (m .next .edges))
-    ≡ false) where
+module _ (how : Variant) (m : Map) (u v : ℕ) (c : Curve) (φ : ℕ) (draws : Draws m u v c φ) (faced : Faced m)
+    (there : List·Memᴰ φ (m .faces))
+    (split : among (ring (drawn u v c φ m) (fwd (m .next .edges))) (bwd (m .next .edges)) ≡ false) where
   abbrev D : Map
   D = drawn u v c φ m
 
@@ -52,13 +53,13 @@ module _ (news : Bool) (m : Map) (u v : ℕ) (c : Curve) (φ : ℕ) (draws : Dra
   b = bwd (m .next .edges)
 
   abbrev X : Map
-  X = splitFace news (m .next .edges) (drawn u v c φ m)
+  X = splitFace how (m .next .edges) (drawn u v c φ m)
 
   abbrev old : ℕ
   old = bears (drawn u v c φ m) (fwd (m .next .edges))
 
   abbrev goes : Bool
-  goes = news && not (same old 0)
+  goes = isNew how && not (same old 0)
 
   abbrev isLeft : Bool
   isLeft = isPositive (sgn (ringArea D (ring D f)))
@@ -203,7 +204,7 @@ module _ (news : Bool) (m : Map) (u v : ℕ) (c : Curve) (φ : ℕ) (draws : Dra
       ∙ map-cong _ (λ (n : Node). n .number) (D .nodes) (λ n k. side-number D s n (n .face))
 
   pub split-face-planar : hasNode m u ≡ true → hasNode m v ≡ true → InPlane m
-      → InPlane (splitFace news (m .next .edges) (drawn u v c φ m))
+      → InPlane (splitFace how (m .next .edges) (drawn u v c φ m))
   split-face-planar has-u has-v o = subst (λ (k : ℕ). Planar (nodeNumbers X) (arcs X) (leaves X) (next X) (bears X) k)
       (sym (ap length X-faces ∙ shared .count))
       (subst (λ (ns : List ℕ). Planar ns (arcs X) (leaves X) (next X) (bears X) (suc (length (m .faces)))) (sym X-nodes)

@@ -1,93 +1,129 @@
 -- `reason_edges::drawing_reason` meets its contract: each test answers its reason, in order. Assumes nothing.
 use borrow.Author.Needs.{needs}
-use mathlib.Core.Path.{sym, _∙_}
+use mathlib.Core.Path.{_≡_, sym, _∙_}
 use Prim.Native.Nat.{_<_}
 use native.Mathlib.Omega.{arith}
+use lib.IntN.{natAbs}
 use Rattle.integers.specs.Signs.{sent}
+use Rattle.curves.specs.Curves.{Run, curveOf}
+use Rattle.map.specs.Rows.{mapOf}
+use Rattle.map.specs.Reasons.{firstReason, directionTaken}
+use Rattle.map_rows.specs.Rows.{nodeAt, edgeMap}
 use Rattle.map_rows.proofs.Rows.{node-row-of}
-use Rattle.reason_edges.proofs.Drawing.{number-cell, run-early, own-none, drawn-early, drawn-taken, drawn-differ}
-use Rattle.reason_edges.proofs.Drawing.{drawn-meets}
+use Rattle.head.proofs.Words.{nodes-natural, nodes-read, edges-natural, edges-read}
+use Rattle.form_ranges.specs.Ranges.{lent}
+use Rattle.outcomes.proofs.Formed.{counted, node-rows}
+use Rattle.reason_curves.specs.Sent.{sentReasons}
+use Rattle.reason_edges.proofs.Drawing.{number-cell, run-early, rows-read, own-none, drawn-early, drawn-taken}
+use Rattle.reason_edges.proofs.Drawing.{drawn-differ, drawn-meets}
 use Rattle.reason_edges.proofs.drawing_reason.Statement.{statement}
 use Rattle.reason_edges.proofs.drawing_reason.Tie as tie
 
+counts : (c : tie.After-to-usize2)
+    → let h = c .before .before .before .before .args .h in
+    (c .before .before .to-usize .result ≡ natAbs (h .nodes)) × (c .to-usize2 .result ≡ natAbs (h .edges))
+counts c = let k = counted (c .before .before .before .before .pre .0) in
+    (nodes-read k (c .before .before .to-usize .ensures), edges-read k (c .to-usize2 .ensures))
+
 early : tie.Need-returns
-early c m H =
-    let p = c .before .before .pre in
-    let a = c .before .before .args in
+early c =
+    let t = c .before .before in
+    let s = t .before .before .before .before in
+    let a = s .args in
     let some : 0 < c .before .curve-reason .result = omega (arith, c .if1 .taken) in
-    drawn-early (p .0) (p .1) H (a .u) (a .v) (p .2) (p .3) (a .c .now) some (c .before .curve-reason .ensures)
+    drawn-early (s .pre .0) (counts t .1) (a .u) (a .v) (s .pre .1) (s .pre .2) (a .c .now) some
+    (c .before .curve-reason .ensures)
+
+-- none of the curve's own reasons
+own : (c : tie.Else1)
+    → let a = c .before .before .before .before .before .before .args in
+    firstReason (sentReasons (a .c .now) (nodeAt (a .nodes .now) (a .u) .at) (nodeAt (a .nodes .now) (a .v) .at)) ≡ 0
+own c = sym (c .before .curve-reason .ensures) ∙ c .if1 .left
+
+run : (c : tie.Else1) → Run (c .before .before .before .before .before .before .args .c .now)
+run c = run-early _ _ _ (own c)
+
+-- 11, with the numbers as they were read
+told : (c : tie.After-direction-taken)
+    → let t = c .before .before .before .before .before in
+    let a = t .before .before .before .before .args in
+    c .direction-taken .result
+    ≡ directionTaken (edgeMap (a .edges .now) (t .to-usize2 .result))
+    (mapOf (lent (a .nodes .now) (a .edges .now) (a .faces .now) (a .h)) .next .edges)
+    (nodeAt (a .nodes .now) (a .u) .number) (nodeAt (a .nodes .now) (a .v) .number) (curveOf (a .c .now))
+told c =
+    let t = c .before .before .before .before .before in
+    let s = t .before .before .before .before in
+    let a = s .args in
+    let f = s .pre .0 in
+    c .direction-taken .ensures _ _ _ (own-none f (counts t .1))
+    (sent (c .before .before .direction-taken-arg .given) ∙ number-cell (node-rows f) (a .u) (s .pre .1))
+    (sent (c .before .direction-taken-arg2 .given) ∙ number-cell (node-rows f) (a .v) (s .pre .2))
 
 taken : tie.Need-returns-2
-taken c m H =
-    let p = c .before .before .before .before .before .before .pre in
-    let a = c .before .before .before .before .before .before .args in
-    drawn-taken (p .0) (p .1) H (a .u) (a .v) (p .2) (p .3) (a .c .now)
-    (sym (c .before .before .before .before .before .curve-reason .ensures)
-    ∙ c .before .before .before .before .if1 .left)
-    (c .before .direction-taken .ensures (m .next .edges) _ _
-    (own-none (p .0) (p .1) H (a .u) (a .v) (p .2) (p .3) (a .c .now))
-    (sent (c .before .before .before .direction-taken-arg .given) ∙ number-cell (p .0) (a .u) (p .2))
-    (sent (c .before .before .direction-taken-arg2 .given) ∙ number-cell (p .0) (a .v) (p .3))) (c .if2 .taken)
+taken c =
+    let o = c .before .before .before .before in
+    let t = o .before .before in
+    let s = t .before .before .before .before in
+    let a = s .args in
+    drawn-taken (s .pre .0) (counts t .1) (a .u) (a .v) (s .pre .1) (s .pre .2) (a .c .now) (own o) (told (c .before))
+    (c .if2 .taken)
+
+corners-differ-requires : tie.Need-corners-differ-requires
+corners-differ-requires c κs =
+    let o = c .before .before .before .before in
+    let t = o .before .before in
+    let s = t .before .before .before .before in
+    let rows = node-rows (s .pre .0) in
+    (node-row-of rows _ (s .pre .1), node-row-of rows _ (s .pre .2), rows-read (s .pre .0) (counts t .1), run o)
 
 differ : tie.Need-returns-3
-differ c m H =
-    let p = c .before .before .before .before .before .before .before .before .pre in
-    let a = c .before .before .before .before .before .before .before .before .args in
-    drawn-differ (p .0) (p .1) H (a .u) (a .v) (p .2) (p .3) (a .c .now)
-    (sym (c .before .before .before .before .before .before .before .curve-reason .ensures)
-    ∙ c .before .before .before .before .before .before .if1 .left)
-    (c .before .before .before .direction-taken .ensures (m .next .edges) _ _
-    (own-none (p .0) (p .1) H (a .u) (a .v) (p .2) (p .3) (a .c .now))
-    (sent (c .before .before .before .before .before .direction-taken-arg .given) ∙ number-cell (p .0) (a .u) (p .2))
-    (sent (c .before .before .before .before .direction-taken-arg2 .given) ∙ number-cell (p .0) (a .v) (p .3)))
-    (c .before .before .if2 .left) (c .before .corners-differ .ensures) (c .if3 .taken)
+differ c =
+    let d = c .before .before in
+    let o = d .before .before .before .before in
+    let t = o .before .before in
+    let s = t .before .before .before .before in
+    let a = s .args in
+    drawn-differ (s .pre .0) (counts t .1) (a .u) (a .v) (s .pre .1) (s .pre .2) (a .c .now) (own o) (told (d .before))
+    (d .if2 .left) (c .before .corners-differ .ensures) (c .if3 .taken)
+
+meeting-reason-requires : tie.Need-meeting-reason-requires
+meeting-reason-requires c κs =
+    let o = c .before .before .before .before .before .before in
+    let t = o .before .before in
+    let f = t .before .before .before .before .pre .0 in
+    (rw (counts t .0) (node-rows f), rows-read f (counts t .1), run o)
 
 meets : tie.Need-returns-4
-meets c m H =
-    let p = c .before .before .before .before .before .before .before .before .before .pre in
-    let a = c .before .before .before .before .before .before .before .before .before .args in
-    drawn-meets (p .0) (p .1) H (a .u) (a .v) (p .2) (p .3) (a .c .now)
-    (sym (c .before .before .before .before .before .before .before .before .curve-reason .ensures)
-    ∙ c .before .before .before .before .before .before .before .if1 .left)
-    (c .before .before .before .before .direction-taken .ensures (m .next .edges) _ _
-    (own-none (p .0) (p .1) H (a .u) (a .v) (p .2) (p .3) (a .c .now))
-    (sent (c .before .before .before .before .before .before .direction-taken-arg .given)
-    ∙ number-cell (p .0) (a .u) (p .2))
-    (sent (c .before .before .before .before .before .direction-taken-arg2 .given) ∙ number-cell (p .0) (a .v) (p .3)))
-    (c .before .before .before .if2 .left) (c .before .before .corners-differ .ensures) (c .before .if3 .left)
-    (c .meeting-reason .ensures)
+meets c =
+    let e = c .before in
+    let d = e .before .before in
+    let o = d .before .before .before .before in
+    let t = o .before .before in
+    let s = t .before .before .before .before in
+    let a = s .args in
+    drawn-meets (s .pre .0) (counts t .1) (a .u) (a .v) (s .pre .1) (s .pre .2) (a .c .now) (own o) (told (d .before))
+    (d .if2 .left) (e .before .corners-differ .ensures) (e .if3 .left) (counts t .0) (c .meeting-reason .ensures)
 
 pub drawing-reason-spec : {M : Type 1} → statement M
 drawing-reason-spec =
     tie.close
     (tie.spec
-    (λ c κs. (node-row-of (c .pre .0) (c .args .u) (c .pre .2), node-row-of (c .pre .0) (c .args .v) (c .pre .3)))
+    (λ c κs. nodes-natural (counted (c .before .pre .0)))
+    (λ c κs. edges-natural (counted (c .before .before .before .pre .0)))
+    (λ c κs. let s = c .before .before .before .before in let rows = node-rows (s .pre .0) in
+    (node-row-of rows _ (s .pre .1), node-row-of rows _ (s .pre .2)))
     early
-    (λ c. search needs)
-    (λ c. search needs)
-    (λ c. search needs)
-    (λ c. search needs)
-    (λ c. search needs)
-    (λ c. search needs)
-    (λ c κs. (
-      c .before .before .before .before .pre .1,
-      run-early _ _ _ (sym (c .before .before .before .curve-reason .ensures) ∙ c .before .before .if1 .left),
-    ))
+    (λ c. let r = node-rows (c .before .before .before .before .before .before .pre .0) in search needs)
+    (λ c. let r = node-rows (c .before .before .before .before .before .before .pre .0) in search needs)
+    (λ c. let r = node-rows (c .before .before .before .before .before .before .pre .0) in search needs)
+    (λ c. let r = node-rows (c .before .before .before .before .before .before .before .pre .0) in search needs)
+    (λ c. let r = node-rows (c .before .before .before .before .before .before .before .pre .0) in search needs)
+    (λ c. let r = node-rows (c .before .before .before .before .before .before .before .pre .0) in search needs)
+    (λ c κs. let o = c .before .before in let t = o .before .before in
+    (rows-read (t .before .before .before .before .pre .0) (counts t .1), run o))
     taken
-    (λ c κs. (
-      node-row-of (c .before .before .before .before .before .before .pre .0) _
-          (c .before .before .before .before .before .before .pre .2),
-      node-row-of (c .before .before .before .before .before .before .pre .0) _
-          (c .before .before .before .before .before .before .pre .3),
-      c .before .before .before .before .before .before .pre .1,
-      run-early _ _ _ (sym (c .before .before .before .before .before .curve-reason .ensures)
-          ∙ c .before .before .before .before .if1 .left),
-    ))
+    corners-differ-requires
     differ
-    (λ c κs. (
-      c .before .before .before .before .before .before .before .before .pre .0,
-      c .before .before .before .before .before .before .before .before .pre .1,
-      run-early _ _ _ (sym (c .before .before .before .before .before .before .before .curve-reason .ensures)
-          ∙ c .before .before .before .before .before .before .if1 .left),
-    ))
+    meeting-reason-requires
     meets)

@@ -1,168 +1,114 @@
 -- `reason_edges::judge_rows` meets its contract: turned down by 5 to 15, or by 20 or 21, or by none. Assumes nothing.
-use mathlib.Core.Path.{refl, sym, ap, _∙_}
+use mathlib.Core.Path.{_≡_, refl, sym, ap, _∙_}
 use Prim.Native.Nat.{_<_}
 use native.Mathlib.Omega.{arith}
-use lib.IntN.{natAbs}
+use lib.IntN.{pos, natAbs}
 use lib.Signed.{nonNeg}
+use mir.Syntax.{w64}
+use mir.Val.{toZ, ofZ}
 use Rattle.integers.specs.Signs.{sent}
-use Rattle.lists.specs.Tests.{bit}
-use Rattle.lists.proofs.Counts.{bit-most}
+use Rattle.curves.specs.Curves.{curveOf, startWay}
 use Rattle.map.specs.Rows.{mapOf}
+use Rattle.map.specs.Links.{cornerFace}
+use Rattle.map.specs.Reasons.{firstReason}
+use Rattle.map_rows.specs.Rows.{nodeAt}
 use Rattle.map_rows.proofs.Rows.{node-row-of}
+use Rattle.head.proofs.Words.{edges-natural, edges-read}
 use Rattle.form_ranges.specs.Ranges.{lent}
-use Rattle.outcomes.proofs.Formed.{nodes-count, edges-count, node-rows, edge-rows, counted}
-use Rattle.outcomes.proofs.Words.{count-natural, count-abs}
-use Rattle.reason_edges.specs.Parts.{makesSecond}
-use Rattle.reason_edges.proofs.Adding.{few-nodes, few-edges, held, held-at, run-drawn, corner-told, rows-turned}
-use Rattle.reason_edges.proofs.Adding.{rows-known}
+use Rattle.outcomes.proofs.Formed.{node-rows, counted}
+use Rattle.reason_edges.specs.Parts.{drawingReasons}
+use Rattle.reason_edges.proofs.Drawing.{rows-read, edges-are, edges-rise}
+use Rattle.reason_edges.proofs.Adding.{run-drawn, corner-told, rows-turned, rows-known}
 use Rattle.reason_edges.proofs.judge_rows.Statement.{statement}
 use Rattle.reason_edges.proofs.judge_rows.Tie as tie
 
 turned : tie.Need-returns
 turned c =
-    let a = c .before .before .before .before .before .before .before .args in
-    let f = c .before .before .before .before .before .before .before .pre .0 in
-    let k = c .before .before .before .before .before .to-usize .ensures
-    ∙ count-abs (a .h .edges) (edges-count f .0) (omega (arith, few-edges f)) in
-    let n = c .before .before .before .to-usize2 .ensures ∙ count-abs (a .h .nodes) (nodes-count f .0) (few-nodes f) in
-    let r = c .before .before .drawing-reason .ensures
-    (mapOf (lent (a .nodes .now) (a .edges .now) (a .faces .now) (a .h))) (held-at f n k) in
-    let some : 0 < c .before .before .drawing-reason .result = omega (arith, c .before .if1 .taken) in
-    rows-turned f (a .news) (a .u) (a .v) (c .before .before .before .before .before .before .before .pre .1)
-    (a .c .now) some r (c .turned-down .ensures)
+    let d = c .before .before in
+    let s = d .before in
+    let a = s .args in
+    let some : 0 < d .drawing-reason .result = omega (arith, c .before .if1 .taken) in
+    rows-turned (s .pre .0) (a .how) (a .u) (a .v) (s .pre .1) (a .c .now) some (d .drawing-reason .ensures)
+    (c .turned-down .ensures)
 
-judged : tie.Need-returns-2
-judged c =
-    let a = c .before .before .before .before .before .before .before .before .before .before .before .before .before
-    .args in
-    let f = c .before .before .before .before .before .before .before .before .before .before .before .before .before
-    .pre .0 in
-    let k = c .before .before .before .before .before .before .before .before .before .before .before .to-usize
-    .ensures ∙ count-abs (a .h .edges) (edges-count f .0) (omega (arith, few-edges f)) in
-    let n = c .before .before .before .before .before .before .before .before .before .to-usize2 .ensures
-    ∙ count-abs (a .h .nodes) (nodes-count f .0) (few-nodes f) in
-    let r = c .before .before .before .before .before .before .before .before .drawing-reason .ensures
-    (mapOf (lent (a .nodes .now) (a .edges .now) (a .faces .now) (a .h))) (held-at f n k) in
-    let clear = sym r ∙ c .before .before .before .before .before .before .before .if1 .left in
-    let run = run-drawn f (a .news) (a .u) (a .v)
-    (c .before .before .before .before .before .before .before .before .before .before .before .before .before .pre .1)
-    (a .c .now) clear in
-    let z = sent (c .before .before .before .before .before .corner-face .ok)
-    ∙ corner-told f (a .news) (a .u) (a .v)
-    (c .before .before .before .before .before .before .before .before .before .before .before .before .before .pre .1)
-    (a .c .now) k (c .before .before .before .before .before .before .first-step .ensures .way)
-    (c .before .before .before .before .before .corner-face .ensures) in
-    let w = c .before .before .before .before .splits-face .ensures
-    (mapOf (lent (a .nodes .now) (a .edges .now) (a .faces .now) (a .h))) (held-at f n k .edge-rows) (held f .rising) in
-    rows-known f (a .news) (a .u) (a .v)
-    (c .before .before .before .before .before .before .before .before .before .before .before .before .before .pre .1)
-    (a .c .now) clear run refl refl z w (c .before .before .before .bit-of .ensures ∙ ap bit w)
-    (c .before .bit-of2 .ensures ∙ ap bit
-    (c .before .before .makes-second .ensures ∙ (λ i. makesSecond (w i) (a .news) (natAbs (z i)))))
-    (c .room-reason .ensures)
+-- none of 5 to 15
+clear : (c : tie.Else1)
+    → let a = c .before .before .args in
+    firstReason (drawingReasons (mapOf (lent (a .nodes .now) (a .edges .now) (a .faces .now) (a .h)))
+    (nodeAt (a .nodes .now) (a .u) .number) (nodeAt (a .nodes .now) (a .v) .number) (a .c .now)) ≡ 0
+clear c = sym (c .before .drawing-reason .ensures) ∙ c .if1 .left
 
-drawing-reason-requires : tie.Need-drawing-reason-requires
-drawing-reason-requires c κs =
-    let a = c .before .before .before .before .args in
-    let f = c .before .before .before .before .pre .0 in
-    let k = c .before .before .to-usize .ensures
-    ∙ count-abs (a .h .edges) (edges-count f .0) (omega (arith, few-edges f)) in
-    let n = c .to-usize2 .ensures ∙ count-abs (a .h .nodes) (nodes-count f .0) (few-nodes f) in (
-      rw n (node-rows f),
-      rw k (edge-rows f),
-      rw n (c .before .before .before .before .pre .1),
-      rw n (c .before .before .before .before .pre .2),
-    )
+count : (c : tie.After-to-usize) → c .to-usize .result ≡ natAbs (c .before .before .before .before .args .h .edges)
+count c = edges-read (counted (c .before .before .before .before .pre .0)) (c .to-usize .ensures)
 
 first-step-requires : tie.Need-first-step-requires
 first-step-requires c κs =
-    let a = c .before .before .before .before .before .before .args in
-    let f = c .before .before .before .before .before .before .pre .0 in
-    let k = c .before .before .before .before .to-usize .ensures
-    ∙ count-abs (a .h .edges) (edges-count f .0) (omega (arith, few-edges f)) in
-    let n = c .before .before .to-usize2 .ensures ∙ count-abs (a .h .nodes) (nodes-count f .0) (few-nodes f) in
-    let r = c .before .drawing-reason .ensures (mapOf (lent (a .nodes .now) (a .edges .now) (a .faces .now) (a .h)))
-    (held-at f n k) in
-    let clear = sym r ∙ c .if1 .left in
-    let run = run-drawn f (a .news) (a .u) (a .v) (c .before .before .before .before .before .before .pre .1)
-    (a .c .now) clear in
-    run
+    let e = c .before .before in
+    let s = e .before .before in
+    let a = s .args in
+    run-drawn (s .pre .0) (a .how) (a .u) (a .v) (s .pre .1) (a .c .now) (clear e)
 
 corner-face-requires : tie.Need-corner-face-requires
 corner-face-requires c κs =
-    let a = c .before .before .before .before .before .before .before .args in
-    let f = c .before .before .before .before .before .before .before .pre .0 in
-    let k = c .before .before .before .before .before .to-usize .ensures
-    ∙ count-abs (a .h .edges) (edges-count f .0) (omega (arith, few-edges f)) in (
-      node-row-of (node-rows f) (a .u) (c .before .before .before .before .before .before .before .pre .1),
-      rw k (edge-rows f),
+    let s = c .before .before .before .before .before in (
+      node-row-of (node-rows (s .pre .0)) (s .args .u) (s .pre .1),
+      rows-read (s .pre .0) (count (c .before)),
       c .first-step .ensures .from,
       c .first-step .ensures .to,
     )
 
 splits-face-requires : tie.Need-splits-face-requires
 splits-face-requires c κs =
-    let a = c .before .before .before .before .before .before .before .before .args in
-    let f = c .before .before .before .before .before .before .before .before .pre .0 in
-    let k = c .before .before .before .before .before .before .to-usize .ensures
-    ∙ count-abs (a .h .edges) (edges-count f .0) (omega (arith, few-edges f)) in
-    let n = c .before .before .before .before .to-usize2 .ensures
-    ∙ count-abs (a .h .nodes) (nodes-count f .0) (few-nodes f) in
-    let r = c .before .before .before .drawing-reason .ensures
-    (mapOf (lent (a .nodes .now) (a .edges .now) (a .faces .now) (a .h))) (held-at f n k) in
-    let clear = sym r ∙ c .before .before .if1 .left in
-    let run = run-drawn f (a .news) (a .u) (a .v)
-    (c .before .before .before .before .before .before .before .before .pre .1) (a .c .now) clear in (
-      node-row-of (node-rows f) (a .u) (c .before .before .before .before .before .before .before .before .pre .1),
-      node-row-of (node-rows f) (a .v) (c .before .before .before .before .before .before .before .before .pre .2),
-      rw k (edge-rows f),
-      omega (arith, k, few-edges f),
-      run,
+    let t = c .before .before in
+    let e = t .before .before in
+    let s = e .before .before in
+    let a = s .args in
+    let f = s .pre .0 in (
+      node-row-of (node-rows f) (a .u) (s .pre .1),
+      node-row-of (node-rows f) (a .v) (s .pre .2),
+      rows-read f (count t),
+      omega (arith, count t, counted f .edges .most),
+      run-drawn f (a .how) (a .u) (a .v) (s .pre .1) (a .c .now) (clear e),
     )
 
-makes-second-requires : tie.Need-makes-second-requires
-makes-second-requires c κs =
-    let a = c .before .before .before .before .before .before .before .before .before .before .args in
-    let f = c .before .before .before .before .before .before .before .before .before .before .pre .0 in
-    let k = c .before .before .before .before .before .before .before .before .to-usize .ensures
-    ∙ count-abs (a .h .edges) (edges-count f .0) (omega (arith, few-edges f)) in
-    let z = sent (c .before .before .corner-face .ok)
-    ∙ corner-told f (a .news) (a .u) (a .v)
-    (c .before .before .before .before .before .before .before .before .before .before .pre .1) (a .c .now) k
-    (c .before .before .before .first-step .ensures .way) (c .before .before .corner-face .ensures) in
-    ap nonNeg z
+-- the corner face, as it was read
+corner : (c : tie.After-corner-face)
+    → let a = c .before .before .before .before .before .before .args in
+    toZ w64 (ofZ w64 (c .corner-face .result))
+    ≡ pos (cornerFace (mapOf (lent (a .nodes .now) (a .edges .now) (a .faces .now) (a .h)))
+    (nodeAt (a .nodes .now) (a .u) .number) (startWay (curveOf (a .c .now))))
+corner c =
+    let t = c .before .before in
+    let s = t .before .before .before .before in
+    let a = s .args in
+    sent (c .corner-face .ok)
+    ∙ corner-told (s .pre .0) (a .how) (a .u) (a .v) (s .pre .1) (a .c .now) (count t)
+    (c .before .first-step .ensures .way) (c .corner-face .ensures)
 
-room-reason-requires : tie.Need-room-reason-requires
-room-reason-requires c κs =
-    let x = bit-most (c .before .before .before .splits-face .result) in
-    let y = bit-most (c .before .makes-second .result) in
-    let e = c .before .before .bit-of .ensures in
-    let g = c .bit-of2 .ensures in (
-      counted
-          (c .before .before .before .before .before .before .before .before .before .before .before .before .pre .0),
-      omega (arith, x, e),
-      omega (arith, x, y, e, g),
-    )
+judged : tie.Need-returns-2
+judged c =
+    let k = c .before .before .before in
+    let t = k .before .before in
+    let e = t .before .before in
+    let s = e .before .before in
+    let a = s .args in
+    let f = s .pre .0 in
+    rows-known f (a .how) (a .u) (a .v) (s .pre .1) (a .c .now) (clear e)
+    (run-drawn f (a .how) (a .u) (a .v) (s .pre .1) (a .c .now) (clear e)) refl refl (corner k)
+    (c .before .before .splits-face .ensures _ (edges-are f (count t)) (edges-rise f))
+    (c .before .makes-second .ensures) (c .room-reason .ensures)
 
 pub judge-rows-spec : {M : Type 1} → statement M
 judge-rows-spec =
     tie.close
     (tie.spec
-    (λ c κs. let f = c .before .pre .0 in
-    count-natural (c .before .args .h .edges) (edges-count f .0) (omega (arith, few-edges f)))
-    (λ c κs. let f = c .before .before .before .pre .0 in
-    count-natural (c .before .before .before .args .h .nodes) (nodes-count f .0) (few-nodes f))
-    drawing-reason-requires
+    (λ c κs. c .pre)
     (λ c κs. tt)
     turned
+    (λ c κs. edges-natural (counted (c .before .before .before .pre .0)))
     first-step-requires
     corner-face-requires
     splits-face-requires
-    (λ c κs. tt)
-    makes-second-requires
-    (λ c κs. tt)
-    (λ c. let x = bit-most (c .before .before .before .splits-face .result) in let y =
-    bit-most (c .before .makes-second .result) in
-    omega (arith, x, y, c .before .before .bit-of .ensures, c .bit-of2 .ensures))
-    room-reason-requires
+    (λ c κs. ap nonNeg (corner (c .before)))
+    (λ c κs. counted (c .before .before .before .before .before .before .before .before .pre .0))
     judged)

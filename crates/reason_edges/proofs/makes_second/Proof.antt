@@ -1,6 +1,5 @@
 -- `reason_edges::makes_second` meets its contract. Assumes nothing.
-use mathlib.Core.Path.{refl, ap}
-use mathlib.Core.Bool.{Bool, not, _&&_}
+use mathlib.Core.Path.{refl}
 use lib.IntN.{pos, natAbs}
 use lib.Dec.{lit≤}
 use Rattle.tables.proofs.Tests.{pos-abs}
@@ -10,10 +9,13 @@ use Rattle.reason_edges.proofs.makes_second.Tie as tie
 
 returns : tie.Need-returns
 returns c =
-    let a = c .args in
-    ap (λ (b : Bool). a .splits && a .news && not b)
-    (number-test (a .face) (pos 0) (natAbs (a .face)) 0 (c .fits .face) (small-fits 0 (lit≤ tt))
-    (pos-abs (a .face) (c .pre)) refl)
+    let s = c .before in
+    let a = s .args in
+    rw (
+      c .is-new .ensures,
+      number-test (a .face) (pos 0) (natAbs (a .face)) 0 (s .fits .face) (small-fits 0 (lit≤ tt))
+          (pos-abs (a .face) (s .pre)) refl,
+    )
 
 pub makes-second-spec : {M : Type 1} → statement M
-makes-second-spec = tie.close (tie.spec returns)
+makes-second-spec = tie.close (tie.spec (λ c κs. tt) returns)
