@@ -124,7 +124,7 @@ healedWritten how t n i j r =
 pub record HealableRows (l : List ℤ) (n i j p q : ℕ) (a : ℤ) (line : Line) : Type 0 where
   pub darts : TwoDarts l n p q a
   pub rows : TwoRows l n i j
-  pub few-points : line .count ≤ 1000
+  pub few-points : line .count ≤ maxPoints
 
 -- rows i and j of n healed along p and q
 abbrev pub healedRows : List ℤ → ℕ → ℕ → ℕ → ℕ → ℕ → Variant → ℤ → Line → List ℤ
@@ -161,7 +161,7 @@ pub record HealableEdges (nodes edges : List ℤ) (h : Head) (i j : ℕ) (s : Pa
   pub apart : i ≡ j → ⊥
   pub first : s .first < natAbs (h .edges) * 2
   pub second : s .second < natAbs (h .edges) * 2
-  pub few-points : line .count ≤ 1000
+  pub few-points : line .count ≤ maxPoints
 
 -- they are healed, the joint's row is gone, and so the head and the answer
 pub record HealedTables (nodes edges : List ℤ) (h : Head) (how : Variant) (i j : ℕ) (s : Parts) (line : Line)

@@ -14,7 +14,7 @@ ghost use lib.ListN.{length};
 ghost use Rattle.lists.specs.Tables.{place};
 ghost use Rattle.lists.specs.declared.Found.the-variants.{At};
 ghost use Rattle.tables.specs.Tables.{sameZ, column, closed};
-ghost use Rattle.curves.specs.Curves.{points};
+ghost use Rattle.curves.specs.Curves.{points, maxPoints};
 ghost use Rattle.curve_edits.specs.Lines.{lineOf};
 ghost use Rattle.map.specs.Limits.{maxEdges, nodeWidth, edgeWidth};
 ghost use Rattle.map.specs.Rows.{counts};
@@ -163,7 +163,7 @@ fn write_healed(
     s: Incidence,
     l: Line,
 )
-    requires { ⌜ TwoRows (now edges) e i j × (l .count ≤ 1000) ⌝ }
+    requires { ⌜ TwoRows (now edges) e i j × (l .count ≤ maxPoints) ⌝ }
     ensures { λ r. ⌜ now (edges .exit) ≡ healedWritten how (now (edges .entry)) e i j (cellsOf s l) ⌝ }
 {
     match how {

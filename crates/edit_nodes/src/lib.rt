@@ -162,7 +162,7 @@ fn push_node(nodes: &mut [i64], h: Head, x: i64, y: i64, around: i64) -> Done
     outcomes::carried(head::changed(h, head::NODE, head::NONE, head::NODE), number)
 }
 
-// Kind 1: an isolated node added, in the face around its point.
+// Adds an isolated node in the face around its point, or answers the first reason against it.
 pub fn add_node(
     nodes: &mut [i64],
     edges: &[i64],
@@ -229,7 +229,7 @@ fn move_at_row(
     outcomes::carried(h, 0)
 }
 
-// Kind 2: an isolated node moved, into the face around its new point.
+// Moves an isolated node into the face around its new point, or answers the first reason against it.
 pub fn move_node(
     nodes: &mut [i64],
     edges: &[i64],
@@ -265,7 +265,7 @@ fn remove_at_row(nodes: &mut [i64], edges: &[i64], faces: &[i64], h: Head, i: us
     outcomes::carried(head::changed(h, head::NONE, head::NODE, head::NONE), 0)
 }
 
-// Kind 3: an isolated node removed.
+// Removes an isolated node, or answers the first reason against it.
 pub fn remove_node(nodes: &mut [i64], edges: &[i64], faces: &[i64], h: Head, node: i64) -> Done
     requires { ⌜ Formed (now nodes) (now edges) (now faces) h ⌝ }
     ensures { λ r. ⌜ outcome (now (nodes .exit)) (now (edges .entry)) (now (faces .entry)) r

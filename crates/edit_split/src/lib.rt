@@ -15,7 +15,7 @@ ghost use lib.IntN.{pos, natAbs};
 ghost use lib.ListN.{length};
 ghost use lib.Signed.{nonNeg};
 ghost use Rattle.plane.specs.Points.{InRange};
-ghost use Rattle.curves.specs.Curves.{points, point};
+ghost use Rattle.curves.specs.Curves.{points, point, maxPoints};
 ghost use Rattle.curves.specs.Tests.{onCurve};
 ghost use Rattle.curves.specs.Edits.{front, back};
 ghost use Rattle.curve_edits.specs.Lines.{lineOf};
@@ -101,7 +101,7 @@ fn end_half(edges: &[i64], i: usize, node: i64, a: i64, b: i64) -> Incidence
 
 // The half at the start in the place of row i or, where that number goes, last.
 fn write_start_half(edges: &mut [i64], e: usize, i: usize, how: Variant, s: Incidence, l: Line)
-    requires { ⌜ (i < e) × (e * edgeWidth ≤ length (now edges)) × (l .count ≤ 1000) ⌝ }
+    requires { ⌜ (i < e) × (e * edgeWidth ≤ length (now edges)) × (l .count ≤ maxPoints) ⌝ }
     ensures { λ r. ⌜ now (edges .exit) ≡ startHalfWritten how (now (edges .entry)) e i (cellsOf s l) ⌝ }
 {
     match how {

@@ -121,8 +121,6 @@ carry-out-requires c κs =
     let s = k .before .before .before .before .before in
     let a = s .args in
     let f = s .pre .0 in
-    let few = late-few (w .before .joined-line .result .count) (a .h) (a .how)
-    (sym (w .late-reason .ensures) ∙ c .before .before .if2 .left) in
     record {
       counted = counted f;
       node-rows = node-rows f;
@@ -135,7 +133,8 @@ carry-out-requires c κs =
           (ap (λ (i : ℕ). edgeAt (a .edges .now) i .number) t);
       first = parts o .first-below;
       second = parts o .second-below;
-      few-points = omega (arith, few);
+      few-points = late-few (w .before .joined-line .result .count) (a .h) (a .how)
+          (sym (w .late-reason .ensures) ∙ c .before .before .if2 .left);
     }
 
 healed : tie.Need-returns-3

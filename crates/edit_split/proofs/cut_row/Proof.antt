@@ -31,7 +31,7 @@ write-start-half-requires c κs =
     let p = l .before .before .pre in (
       omega (arith, p .below),
       omega (arith, r .lead-to-halves .kept .0, p .room),
-      omega (arith, start-few l),
+      start-few l,
     )
 
 write-edge-requires : tie.Need-write-edge-requires
