@@ -301,11 +301,16 @@ module _ {nodes edges : List ℤ} {h : Head} {u v : ℕ} {c : List ℤ} {face : 
       (subst (λ (x : List ℤ). Drawn nodes edges h u v c face endMarked x h′) (sym ee)
       (subst (λ (x : Head). Drawn nodes edges h u v c face endMarked linkedTable x) (sym eh) drawn-is))
 
--- as many faces
-pub drawn-faces : {nodes edges : List ℤ} {h : Head} {u v : ℕ} {c : List ℤ} {face : ℤ} {nodes′ edges′ : List ℤ}
-    {h′ : Head} → Drawn nodes edges h u v c face nodes′ edges′ h′ → natAbs (h′ .faces) ≡ natAbs (h .faces)
-unfolding changedHead
-drawn-faces {h = h} d = ap (λ (x : Head). natAbs (x .faces)) (d .head) ∙ unchanged (natAbs (h .faces))
+-- an edge more, and as many faces
+module _ {nodes edges : List ℤ} {h : Head} {u v : ℕ} {c : List ℤ} {face : ℤ} {nodes′ edges′ : List ℤ} {h′ : Head}
+    (d : Drawn nodes edges h u v c face nodes′ edges′ h′) where
+  pub drawn-edges : natAbs (h′ .edges) ≡ natAbs (h .edges) + 1
+  unfolding changedHead
+  drawn-edges = ap (λ (x : Head). natAbs (x .edges)) (d .head) ∙ sub-zero (natAbs (h .edges) + 1)
+
+  pub drawn-faces : natAbs (h′ .faces) ≡ natAbs (h .faces)
+  unfolding changedHead
+  drawn-faces = ap (λ (x : Head). natAbs (x .faces)) (d .head) ∙ unchanged (natAbs (h .faces))
 
 -- ---- the new row as it is written
 

@@ -1,12 +1,12 @@
 -- Tables in form with an edge drawn that nothing turns down: they hold the map with the edge linked in, and its face
 -- can be split. Assumes nothing.
-use mathlib.Core.Path.{_≡_, refl, sym, ap, _∙_, subst}
-use mathlib.Core.Bool.{Bool, true, false, _&&_}
+use mathlib.Core.Path.{_≡_, sym, ap, _∙_, subst}
+use mathlib.Core.Bool.{true, _&&_}
 use mathlib.Core.List.{List, [], map, List·Memᴰ}
-use Prim.Native.Nat.{ℕ, _+_, _-_}
+use Prim.Native.Nat.{ℕ, _-_, _/_, _<_}
 use native.Mathlib.Omega.{arith}
 use lib.IntN.{ℤ, pos, natAbs}
-use lib.ListN.{length-map, getD, List·getD-map}
+use lib.ListN.{length, length-map, getD, List·getD-map}
 use lib.Seq.{getD-at}
 use Rattle.lists.specs.Tests.{same}
 use Rattle.lists.specs.Scans.{allOf, anyOf}
@@ -14,11 +14,12 @@ use Rattle.lists.specs.Tables.{place}
 use Rattle.lists.specs.declared.Found.the-variants.{At}
 use Rattle.lists.proofs.Bools.{and-is}
 use Rattle.lists.proofs.Members.{each-all}
-use Rattle.tables.proofs.Filled.{whole-rows}
 use Rattle.tables.specs.Tables.{sameZ, column}
 use Rattle.curves.specs.Curves.{curveOf, startWay}
 use Rattle.map.specs.declared.Head.{Head}
-use Rattle.map.specs.Limits.{maxEdges, nodeWidth, edgeWidth}
+use Rattle.map.specs.declared.Variant.{Variant}
+use Rattle.map.specs.declared.Variant.the-variants.{New, Mod}
+use Rattle.map.specs.Limits.{nodeWidth, faceWidth}
 use Rattle.map.specs.Rows.{Map, Sizes, mapOf, sizesOf, hasNode}
 use Rattle.map.specs.Links.{cornerFace}
 use Rattle.map.specs.Edits.{drawn, drawnIn, splitsFace}
@@ -29,25 +30,24 @@ use Rattle.map_laws.proofs.Reasons.{AddEdge, add-new, add-mod}
 use Rattle.map_laws.proofs.Outlines.{drawnOutline, drawn-shape}
 use Rattle.map_laws.proofs.Faces.{has-face, formed-faces, corner-in}
 use Rattle.map_rows.specs.Rows.{nodesOf, edgesOf, facesOf, nodeAt, edgeAt, nodeMap}
-use Rattle.map_rows.proofs.Rows.{edges-length, edges-getD}
+use Rattle.map_rows.proofs.Rows.{edges-length, edges-getD, faces-length}
 use Rattle.map_rows.proofs.Lookups.{node-found}
 use Rattle.form_ranges.specs.Ranges.{lent}
 use Rattle.outcomes.specs.Outcomes.{Formed}
 use Rattle.outcomes.proofs.Formed.{ranges, formed-map}
 use Rattle.outcomes.specs.Variants.{addTicket}
-use Rattle.reason_edges.proofs.Adding.{room-known}
-use Rattle.face_rows.specs.Holds.{Held, Splittable}
+use Rattle.face_rows.specs.Holds.{MapTables, Splittable}
 use Rattle.face_rows.proofs.Formed.{formed-held}
-use Rattle.edge_rows.specs.Holds.{Drawn, drawnHead, NodeEdgeTables}
-use Rattle.edge_rows.proofs.Filled.{edges-room, nodes-filled, edges-filled}
+use Rattle.edge_rows.specs.Holds.{Drawn}
+use Rattle.edge_rows.proofs.Drawn.{drawn-edges, drawn-faces}
+use Rattle.edge_rows.proofs.Filled.{nodes-filled, edges-filled}
 use Rattle.edit_add.proofs.Rings.{drawn-ringed, drawn-ends}
-use Rattle.map.proofs.Linked as formedLinks
 
 -- what holds of a ticket that nothing turns down
-add-facts : (s : Sizes) (m : Map) (news : Bool) (a b : ℤ) (c : List ℤ)
-    → firstReason (reasons s m (addTicket news a b c)) ≡ 0 → AddEdge news s m (natAbs a) (natAbs b) (curveOf c)
-add-facts s m true a b c e = add-new s m a b c e
-add-facts s m false a b c e = add-mod s m a b c e
+pub add-facts : (s : Sizes) (m : Map) (how : Variant) (a b : ℤ) (c : List ℤ)
+    → firstReason (reasons s m (addTicket how a b c)) ≡ 0 → AddEdge how s m (natAbs a) (natAbs b) (curveOf c)
+add-facts s m New a b c e = add-new s m a b c e
+add-facts s m Mod a b c e = add-mod s m a b c e
 
 module _ {nodes edges faces : List ℤ} {h : Head} (f : Formed nodes edges faces h) where
   abbrev m : Map
@@ -57,32 +57,16 @@ module _ {nodes edges faces : List ℤ} {h : Head} (f : Formed nodes edges faces
   s = sizesOf (lent nodes edges faces h)
 
   -- the tables with an edge more hold a map, whatever edge it is
-  pub drawn-held : {nodes′ edges′ : List ℤ} → NodeEdgeTables nodes′ edges′ (drawnHead h)
-      → Held nodes′ edges′ faces (drawnHead h)
-  drawn-held {nodes′} {edges′} d =
-      let k = formed-held f in
+  pub drawn-held : {u v : ℕ} {c : List ℤ} {face : ℤ} {nodes′ edges′ : List ℤ} {h′ : Head}
+      → Drawn nodes edges h u v c face nodes′ edges′ h′ → MapTables nodes′ edges′ faces h′
+  drawn-held d =
       record {
-        node-rows = d .node-table .rows;
-        edge-rows = d .edge-table .rows;
-        node-cells = nodes-filled (d .node-table);
-        edge-cells = edges-filled (d .edge-table);
-        face-table = k .face-table;
-        counted =
-            record {
-              nodes = k .counted .nodes;
-              edges = record {
-                natural = refl;
-                most = omega (
-                  arith,
-                  edges-room (d .edge-table),
-                  whole-rows edgeWidth 0 maxEdges edges′ (d .edge-table .whole) .most,
-                );
-              };
-              faces = k .counted .faces;
-              next-node = k .counted .next-node;
-              next-edge = record { natural = refl; most = d .next-most };
-              next-face = k .counted .next-face;
-            };
+        node-rows = d .held .node-table .rows;
+        edge-rows = d .held .edge-table .rows;
+        node-cells = nodes-filled (d .held .node-table);
+        edge-cells = edges-filled (d .held .edge-table);
+        face-table = rw (drawn-faces d) (formed-held f .face-table);
+        counted = d .held .counted;
       }
 
   number-of : (z : ℤ) (i : ℕ) → place (sameZ z) 0 (column nodeWidth nodes (natAbs (h .nodes))) ≡ At i
@@ -90,10 +74,10 @@ module _ {nodes edges faces : List ℤ} {h : Head} (f : Formed nodes edges faces
   number-of z i e = sym (ap natAbs (node-found nodes (natAbs (h .nodes)) (ranges f .node-rows) z i e .1))
 
   -- an edge that nothing turns down, with its corner face
-  module _ (news : Bool) (a b : ℤ) (c : List ℤ) (u v : ℕ)
+  module _ (how : Variant) (a b : ℤ) (c : List ℤ) (u v : ℕ)
       (eu : place (sameZ a) 0 (column nodeWidth nodes (natAbs (h .nodes))) ≡ At u)
       (ev : place (sameZ b) 0 (column nodeWidth nodes (natAbs (h .nodes))) ≡ At v)
-      (clear : firstReason (reasons s m (addTicket news a b c)) ≡ 0) {face : ℤ}
+      (clear : firstReason (reasons s m (addTicket how a b c)) ≡ 0) {face : ℤ}
       (ef : face ≡ pos (cornerFace m (natAbs a) (startWay (curveOf c)))) where
     abbrev φ : ℕ
     φ = cornerFace m (natAbs a) (startWay (curveOf c))
@@ -101,60 +85,67 @@ module _ {nodes edges faces : List ℤ} {h : Head} (f : Formed nodes edges faces
     abbrev D : Map
     D = drawnIn (natAbs a) (natAbs b) (curveOf c) m
 
-    t : AddEdge news s m (natAbs a) (natAbs b) (curveOf c)
-    t = add-facts s m news a b c clear
+    t : AddEdge how s m (natAbs a) (natAbs b) (curveOf c)
+    t = add-facts s m how a b c clear
 
-    module _ {nodes′ edges′ : List ℤ} (d : Drawn nodes edges h u v c face nodes′ edges′ (drawnHead h)) where
-      pub map-is : mapOf (lent nodes′ edges′ faces (drawnHead h)) ≡ D
+    module _ {nodes′ edges′ : List ℤ} {h′ : Head} (d : Drawn nodes edges h u v c face nodes′ edges′ h′) where
+      pub map-is : mapOf (lent nodes′ edges′ faces h′) ≡ D
       map-is = d .map faces ∙ (λ i. drawn (number-of a u eu i) (number-of b v ev i) (curveOf c) (natAbs (ef i)) m)
 
-      nodes-are : nodesOf nodes′ (natAbs (h .nodes)) ≡ D .nodes
+      abbrev e : ℕ
+      e = natAbs (h′ .edges)
+
+      nodes-are : nodesOf nodes′ (natAbs (h′ .nodes)) ≡ D .nodes
       unfolding mapOf
       nodes-are = ap (λ (x : Map). x .nodes) map-is
 
-      edges-are : edgesOf edges′ (natAbs (h .edges) + 1) ≡ D .edges
+      edges-are : edgesOf edges′ e ≡ D .edges
       unfolding mapOf
       edges-are = ap (λ (x : Map). x .edges) map-is
 
       -- the last row is that of the new edge
-      pub last : outlineOf (edgeAt edges′ (natAbs (h .edges) + 1 - 1))
+      pub last : outlineOf (edgeAt edges′ (natAbs (h′ .edges) - 1))
           ≡ drawnOutline (m .next .edges) (natAbs a) (natAbs b) φ
       unfolding mapOf
       last =
-          ap outlineOf (sym (edges-getD edges′ (natAbs (h .edges) + 1) (natAbs (h .edges) + 1 - 1) missing
-          (omega arith)))
-          ∙ sym (List·getD-map outlineOf (edgesOf edges′ (natAbs (h .edges) + 1)) (natAbs (h .edges) + 1 - 1) missing)
-          ∙ ap (λ (os : List Outline). getD os (natAbs (h .edges) + 1 - 1) (outlineOf missing))
+          let more = drawn-edges d in
+          ap outlineOf (sym (edges-getD edges′ e (e - 1) missing (omega arith)))
+          ∙ sym (List·getD-map outlineOf (edgesOf edges′ e) (e - 1) missing)
+          ∙ ap (λ (os : List Outline). getD os (e - 1) (outlineOf missing))
           (ap (map outlineOf) edges-are ∙ drawn-shape (natAbs a) (natAbs b) (curveOf c) φ m .outlines)
-          ∙ getD-at (outlines m) (drawnOutline (m .next .edges) (natAbs a) (natAbs b) φ) [] (outlineOf missing)
-          (natAbs (h .edges) + 1 - 1) (omega
-          (arith, length-map (m .edges) outlineOf, edges-length edges (natAbs (h .edges))))
+          ∙ getD-at (outlines m) (drawnOutline (m .next .edges) (natAbs a) (natAbs b) φ) [] (outlineOf missing) (e - 1)
+          (omega (arith, length-map (m .edges) outlineOf, edges-length edges (natAbs (h .edges))))
 
-      ends : allOf (λ r. hasNode (nodeMap nodes′ (natAbs (h .nodes))) (r .start)
-          && hasNode (nodeMap nodes′ (natAbs (h .nodes))) (r .end)) (edgesOf edges′ (natAbs (h .edges) + 1)) ≡ true
-      ends = each-all _ (edgesOf edges′ (natAbs (h .edges) + 1))
+      ends : allOf (λ r. hasNode (nodeMap nodes′ (natAbs (h′ .nodes))) (r .start)
+          && hasNode (nodeMap nodes′ (natAbs (h′ .nodes))) (r .end)) (edgesOf edges′ e) ≡ true
+      ends = each-all _ (edgesOf edges′ e)
           (λ r k. let e = drawn-ends m (formed-map f) t r (subst (List·Memᴰ r) edges-are k) in
           and-is (there (r .start) (e .0)) (there (r .end) (e .1)))
         where
-          there : (n : ℕ) → List·Memᴰ n (map nodeNumber (D .nodes)) → hasNode (nodeMap nodes′ (natAbs (h .nodes))) n
+          there : (n : ℕ) → List·Memᴰ n (map nodeNumber (D .nodes)) → hasNode (nodeMap nodes′ (natAbs (h′ .nodes))) n
               ≡ true
-          there n k = has-number nodeNumber (nodesOf nodes′ (natAbs (h .nodes))) n (rw nodes-are k)
+          there n k = has-number nodeNumber (nodesOf nodes′ (natAbs (h′ .nodes))) n (rw nodes-are k)
 
       -- the corner face exists
-      face-there : anyOf (same (natAbs face)) (facesOf faces (natAbs (h .faces))) ≡ true
+      face-there : anyOf (same (natAbs face)) (facesOf faces (natAbs (h′ .faces))) ≡ true
       unfolding mapOf
-      face-there = ap (λ (z : ℤ). anyOf (same (natAbs z)) (facesOf faces (natAbs (h .faces)))) ef
+      face-there = (λ i. anyOf (same (natAbs (ef i))) (facesOf faces (drawn-faces d i)))
           ∙ has-face m φ (corner-in m (natAbs a) (startWay (curveOf c)) (t .has-start) (formed-faces m (formed-map f)))
 
-      pub splits : splitsFace (natAbs a) (natAbs b) (curveOf c) m ≡ true
-          → Splittable nodes′ edges′ faces (drawnHead h) face
-      splits e =
+      -- there is room for a face more
+      room : splitsFace (natAbs a) (natAbs b) (curveOf c) m ≡ true → natAbs (h′ .faces) < length faces / faceWidth
+      unfolding mapOf
+      room k = let r = rw k at (t .room .faces) in
+          omega (arith, r, drawn-faces d, faces-length faces (natAbs (h .faces)))
+
+      pub splits : splitsFace (natAbs a) (natAbs b) (curveOf c) m ≡ true → Splittable nodes′ edges′ faces h′ face
+      splits k =
           record {
-            held = drawn-held (d .held);
-            drawn = omega arith;
+            held = drawn-held d;
+            drawn = omega (arith, drawn-edges d);
             ends = ends;
-            rings = drawn-ringed m (formed-map f) t edges′ (natAbs (h .edges) + 1) (sym edges-are);
+            rings = drawn-ringed m (formed-map f) t edges′ e (sym edges-are);
             borne = ef ∙ ap (λ (o : Outline). pos (o .left)) (sym last);
             there = face-there;
-            room = let r = rw e at (room-known f news a b c clear .1) in omega arith;
+            room = room k;
           }

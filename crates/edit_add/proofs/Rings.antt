@@ -2,8 +2,8 @@
 -- and edges end at nodes. Assumes nothing.
 use mathlib.Core.Path.{_≡_, refl, sym, ap, _∙_, subst}
 use mathlib.Core.Logic.{inl, inr}
-use mathlib.Core.Bool.{Bool, true}
-use mathlib.Core.List.{List, [], map, List·Memᴰ, List·Memᴰ·append-cases, List·Memᴰ·eq-of-singleton, Memᴰ·map}
+use mathlib.Core.Bool.{true}
+use mathlib.Core.List.{List, map, List·Memᴰ, List·Memᴰ·append-cases, List·Memᴰ·eq-of-singleton, Memᴰ·map}
 use mathlib.Core.List.{Memᴰ·of-map}
 use mathlib.Core.Option.{none}
 use Prim.Native.Nat.{ℕ}
@@ -12,6 +12,7 @@ use Rattle.lists.specs.Members.{Distinct}
 use Rattle.curves.specs.Curves.{Curve, startWay}
 use Rattle.planar_maps.specs.Map.{Linked}
 use Rattle.planar_maps.specs.Pieces.{Within, nums}
+use Rattle.map.specs.declared.Variant.{Variant}
 use Rattle.map.specs.Rows.{Edge, Map, Sizes, edge}
 use Rattle.map.specs.Darts.{arcs, leaves, next, bears}
 use Rattle.map.specs.Links.{cornerFace}
@@ -47,7 +48,7 @@ abbrev Ends : List ℕ → Outline → Type 0
 Ends ns o = List·Memᴰ (o .arc .from) ns × List·Memᴰ (o .arc .to) ns
 
 module _ (m : Map) (h : formed m ≡ true) where
-  module _ {news : Bool} {s : Sizes} {u v : ℕ} {c : Curve} (t : AddEdge news s m u v c) where
+  module _ {how : Variant} {s : Sizes} {u v : ℕ} {c : Curve} (t : AddEdge how s m u v c) where
     draws : Draws m u v c (cornerFace m u (startWay c))
     draws = draws-edge t (formedLinks.linked m h) (formedLinks.edges-once m h) (formed-apart m h)
         (edge-new m (formed-is m h .numbers .edges .below))

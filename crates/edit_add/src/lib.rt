@@ -1,18 +1,20 @@
 // Kinds 11 and 12: an edge drawn, and where it splits a face, the face shared out.
 use map::Head;
+use map::Variant;
 use outcomes::Done;
 ghost use mathlib.Core.Path.{_≡_};
 ghost use Rattle.form_ranges.specs.Ranges.{lent};
 ghost use Rattle.outcomes.specs.Outcomes.{Formed, decided, outcome};
 ghost use Rattle.outcomes.specs.Variants.{addTicket};
 
-// Kinds 11 and 12: an edge drawn between two nodes; where it splits a face, the rows that named it are shared out.
+// Adds an edge between two nodes, or answers the first reason against it (kinds 11 and 12); where it splits a face, the
+// rows that named the face are shared out.
 pub fn add_edge(
     nodes: &mut [i64],
     edges: &mut [i64],
     faces: &mut [i64],
     h: Head,
-    news: bool,
+    how: Variant,
     start: i64,
     end: i64,
     c: &[i64],
@@ -20,9 +22,9 @@ pub fn add_edge(
     requires { ⌜ Formed (now nodes) (now edges) (now faces) h ⌝ }
     ensures { λ r. ⌜ outcome (now (nodes .exit)) (now (edges .exit)) (now (faces .exit)) r
         ≡ decided (lent (now (nodes .entry)) (now (edges .entry)) (now (faces .entry)) h)
-        (addTicket news start end (now (c .entry))) ⌝ }
+        (addTicket how start end (now (c .entry))) ⌝ }
 {
-    let judged = reason_edges::judge_add(nodes, edges, faces, h, news, start, end, c);
+    let judged = reason_edges::judge_add(nodes, edges, faces, h, how, start, end, c);
     let reason = judged.reason;
     if reason != 0 {
         return outcomes::refused(h, reason);
@@ -33,6 +35,6 @@ pub fn add_edge(
     if !judged.splits {
         return outcomes::carried(drawn, number);
     }
-    let after = face_rows::split_face(nodes, edges, faces, drawn, news, face);
+    let after = face_rows::split_face(nodes, edges, faces, drawn, how, face);
     outcomes::carried(after, number)
 }

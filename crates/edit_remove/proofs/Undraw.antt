@@ -5,7 +5,7 @@ use mathlib.Core.Bool.{Bool, true, false, _||_}
 use mathlib.Core.Logic.{_⊎_, inl, inr}
 use mathlib.Core.List.{List, map-id, flatMap}
 use mathlib.Core.Option.{Option, none, some}
-use Prim.Native.Nat.{ℕ, _<_, min}
+use Prim.Native.Nat.{ℕ, _+_, _<_, min}
 use native.Mathlib.Nat.{add-zero, min-eq-left}
 use native.Mathlib.Omega.{arith}
 use lib.IntN.{ℤ, pos, natAbs}
@@ -23,7 +23,7 @@ use Rattle.map_rows.specs.Rows.{edgeAt}
 use Rattle.form_ranges.specs.Ranges.{lent}
 use Rattle.outcomes.specs.declared.Done.{Done}
 use Rattle.outcomes.specs.Outcomes.{Formed}
-use Rattle.face_rows.specs.Holds.{facesIn, Holds, faceKept, healed}
+use Rattle.face_rows.specs.Holds.{facesIn, TablesOf, faceKept, mergedSides}
 use Rattle.face_rows.proofs.Formed.{formed-held, holds-before}
 use Rattle.face_rows.proofs.Healed.{healed-map, healed-nodes-long, healed-edges-long, healed-number}
 use Rattle.edge_rows.specs.Holds.{Undrawn}
@@ -33,11 +33,11 @@ use Rattle.edit_remove.specs.Cleared.{Cleared, cleared, valueLeft}
 -- ---- the edge undrawn
 
 module _ {nodes edges faces nodes₁ edges₁ faces₁ : List ℤ} {m : Map} {h₁ : Head}
-    (before : Holds nodes edges faces m nodes₁ edges₁ faces₁ h₁) (is : mapOf (lent nodes₁ edges₁ faces₁ h₁) ≡ m)
+    (before : TablesOf nodes edges faces m nodes₁ edges₁ faces₁ h₁) (is : mapOf (lent nodes₁ edges₁ faces₁ h₁) ≡ m)
     (nodes-same : length nodes₁ ≡ length nodes) (edges-same : length edges₁ ≡ length edges) where
   holds-undrawn : (i k : ℕ) {face : ℤ} {g : ℕ} {nodes′ edges′ : List ℤ} {h′ : Head} → edgeAt edges₁ i .number ≡ k
       → face ≡ pos g → Undrawn nodes₁ edges₁ h₁ i face nodes′ edges′ h′
-      → Holds nodes edges faces (undrawn k g m) nodes′ edges′ faces₁ h′
+      → TablesOf nodes edges faces (undrawn k g m) nodes′ edges′ faces₁ h′
   holds-undrawn i k {face} {g} ek ef u =
       let same : undrawn k g m
       ≡ undrawn (edgeAt edges₁ i .number) (natAbs face) (mapOf (lent nodes₁ edges₁ faces₁ h₁)) =
@@ -48,7 +48,7 @@ module _ {nodes edges faces nodes₁ edges₁ faces₁ : List ℤ} {m : Map} {h�
         edge-cells = ap₂ (λ (n : ℕ) (x : Map). filled n (flatMap edgeCells (x .edges))) (sym edges-same) same
             ∙ u .edge-cells faces₁;
         face-cells = ap (facesIn (length faces)) (undrawn-face-list k g m) ∙ before .face-cells;
-        head = undrawn-head k g m (before .head) (ap (λ (x : Map). length (x .edges)) same ∙ u .edges-left faces₁)
+        head = undrawn-head k g m (before .head) (ap (λ (x : Map). length (x .edges) + 1) same ∙ u .edges-left faces₁)
             ∙ sym (u .head);
       }
 
@@ -75,7 +75,7 @@ module _ (row : Edge) (one : row .left ≡ row .right) where
   node-kept x none e = refl
   node-kept x (some g) e = ap (λ (o : Option ℕ). withFace o x) (ap some (kept g) ∙ sym e)
 
-  unhealed : (m : Map) → healed false row m ≡ m
+  unhealed : (m : Map) → mergedSides false row m ≡ m
   unfolding renamedFaces
   unhealed m =
       λ j.
@@ -100,28 +100,28 @@ module _ {nodes edges faces : List ℤ} {h : Head} (f : Formed nodes edges faces
 
   pub cleared-one : row .left ≡ row .right → makes ≡ false → {face : ℤ} {nodes′ edges′ : List ℤ} {h′ : Head} → face
       ≡ pos (row .left) → Undrawn nodes edges h i face nodes′ edges′ h′
-      → Holds nodes edges faces (cleared makes row whole) nodes′ edges′ faces h′
+      → TablesOf nodes edges faces (cleared makes row whole) nodes′ edges′ faces h′
   cleared-one one kept {face} {nodes′} {edges′} {h′} ef u =
       let same : undrawn (row .number) (row .left) whole ≡ cleared false row whole =
       ap₂ (undrawn (row .number)) (sym (lower-is row one)) (sym (unhealed row one whole)) in
-      subst (λ (x : Map). Holds nodes edges faces x nodes′ edges′ faces h′)
+      subst (λ (x : Map). TablesOf nodes edges faces x nodes′ edges′ faces h′)
       (same ∙ ap (λ (b : Bool). cleared b row whole) (sym kept))
       (holds-undrawn (holds-before f) refl refl refl i (row .number) refl ef u)
 
   pub cleared-two : i < natAbs (h .edges) → {nodes₁ edges₁ faces₁ : List ℤ} {h₁ : Head}
-      → Holds nodes edges faces (healed makes row whole) nodes₁ edges₁ faces₁ h₁
+      → TablesOf nodes edges faces (mergedSides makes row whole) nodes₁ edges₁ faces₁ h₁
       → {face : ℤ} {nodes′ edges′ : List ℤ} {h′ : Head} → face ≡ pos (faceKept makes row whole)
       → Undrawn nodes₁ edges₁ h₁ i face nodes′ edges′ h′
-      → Holds nodes edges faces (cleared makes row whole) nodes′ edges′ faces₁ h′
+      → TablesOf nodes edges faces (cleared makes row whole) nodes′ edges′ faces₁ h′
   cleared-two t {nodes₁} {edges₁} {faces₁} {h₁} after ef u =
-      holds-undrawn after (healed-map (formed-held f) row makes nodes₁ edges₁ faces₁ h₁ after)
-      (healed-nodes-long (formed-held f) row makes nodes₁ edges₁ faces₁ h₁ after)
-      (healed-edges-long (formed-held f) row makes nodes₁ edges₁ faces₁ h₁ after) i (row .number)
-      (healed-number (formed-held f) row makes nodes₁ edges₁ faces₁ h₁ after i t) ef u
+      holds-undrawn after (healed-map (formed-held f) row makes after)
+      (healed-nodes-long (formed-held f) row makes after)
+      (healed-edges-long (formed-held f) row makes after) i (row .number)
+      (healed-number (formed-held f) row makes after i t) ef u
 
   -- what a call left and answered
   pub cleared-as : {nodes′ edges′ faces′ : List ℤ} {h′ : Head} {v : ℤ} {r : Done} → r
       ≡ record { head = h′; answer = record { refusal = 0; value = v } }
-      → Holds nodes edges faces (cleared makes row whole) nodes′ edges′ faces′ h′ → v ≡ valueLeft makes row whole
+      → TablesOf nodes edges faces (cleared makes row whole) nodes′ edges′ faces′ h′ → v ≡ valueLeft makes row whole
       → Cleared nodes edges faces h i makes nodes′ edges′ faces′ r
   cleared-as e holds value = record { holds = rw e holds; value = ap (λ (d : Done). d .answer .value) e ∙ value }

@@ -1,19 +1,24 @@
 // Kinds 13 and 14: the faces on an edge's two sides healed, and the edge undrawn.
 use map::Head;
+use map::Variant;
 use outcomes::Done;
 ghost use mathlib.Core.Path.{_≡_};
 ghost use mathlib.Core.Bool.{cond};
 ghost use lib.IntN.{pos};
+ghost use Rattle.map.specs.Edits.{isNew};
 ghost use Rattle.form_ranges.specs.Ranges.{lent};
 ghost use Rattle.outcomes.specs.Outcomes.{Formed, decided, outcome};
 ghost use Rattle.outcomes.specs.Variants.{removeTicket};
 ghost use Rattle.edit_remove.specs.Cleared.{Clearable, Cleared};
 
 // The value of a removal: the face that is left, or 0 for kind 14.
-fn value_of(news: bool, face: i64) -> i64
-    ensures { λ r. ⌜ r ≡ cond news face (pos 0) ⌝ }
+fn value_of(how: Variant, face: i64) -> i64
+    ensures { λ r. ⌜ r ≡ cond (isNew how) face (pos 0) ⌝ }
 {
-    if news { face } else { 0 }
+    match how {
+        Variant::New => face,
+        Variant::Mod => 0,
+    }
 }
 
 // Edge row i goes, and the faces on its sides become one: its number is the value, or -1 where they were one before.
@@ -41,25 +46,26 @@ fn remove_and_heal(
     outcomes::carried(after, face)
 }
 
-// Kinds 13 and 14: an edge removed; where its two faces differ, they become one.
+// Removes an edge, or answers the first reason against it (kinds 13 and 14); where its two faces differ, they become
+// one.
 pub fn remove_edge(
     nodes: &mut [i64],
     edges: &mut [i64],
     faces: &mut [i64],
     h: Head,
-    news: bool,
+    how: Variant,
     edge: i64,
 ) -> Done
     requires { ⌜ Formed (now nodes) (now edges) (now faces) h ⌝ }
     ensures { λ r. ⌜ outcome (now (nodes .exit)) (now (edges .exit)) (now (faces .exit)) r
-        ≡ decided (lent (now (nodes .entry)) (now (edges .entry)) (now (faces .entry)) h) (removeTicket news edge) ⌝ }
+        ≡ decided (lent (now (nodes .entry)) (now (edges .entry)) (now (faces .entry)) h) (removeTicket how edge) ⌝ }
 {
-    let judged = reason_edges::judge_removal(edges, h, news, edge);
+    let judged = reason_edges::judge_removal(nodes, edges, faces, h, how, edge);
     let reason = judged.reason;
     if reason != 0 {
         return outcomes::refused(h, reason);
     }
     let i = judged.row;
     let cleared = remove_and_heal(nodes, edges, faces, h, i, judged.makes);
-    outcomes::carried(cleared.head, value_of(news, cleared.answer.value))
+    outcomes::carried(cleared.head, value_of(how, cleared.answer.value))
 }

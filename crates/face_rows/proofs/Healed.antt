@@ -1,5 +1,5 @@
 -- After two faces are healed: the edge can be undrawn as `removeEdge` does it, and the tables are rows in range of the
--- mergedSides map. Assumes nothing.
+-- healed map. Assumes nothing.
 use mathlib.Core.Path.{_≡_, refl, sym, ap, _∙_}
 use mathlib.Core.Bool.{Bool, cond, _&&_}
 use mathlib.Core.List.{List, [], _∷_, _++_, map, flatMap}
@@ -41,7 +41,7 @@ pub undrawn-after : (e f : ℕ) (fs : List ℕ) (k : ℕ) (m : Map) → undrawn 
 unfolding undrawn unlinkEdge redirect atNodes next leaves departures edge
 undrawn-after e f fs k m = refl
 
--- kinds 13 and 14: the faces mergedSides, and the edge undrawn
+-- kinds 13 and 14: the faces healed, and the edge undrawn
 pub removed-is : (how : Variant) (e : ℕ) (m : Map) → removeEdge how e m
     ≡ undrawn e (faceLeft how e m) (mergedSides (makesFace how e m) (edge m e) m)
 unfolding removeEdge
@@ -144,7 +144,7 @@ renamed-at row f x none = refl
 renamed-at row f x (some g) = refl
 
 module _ {nodes edges faces : List ℤ} {h : Head} (held : MapTables nodes edges faces h) (row : Edge) (makes : Bool)
-    (nodes′ edges′ faces′ : List ℤ) (h′ : Head)
+    {nodes′ edges′ faces′ : List ℤ} {h′ : Head}
     (after : TablesOf nodes edges faces (mergedSides makes row
     (mapOf (lent nodes edges faces h))) nodes′ edges′ faces′ h′)
   where

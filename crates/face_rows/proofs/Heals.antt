@@ -150,10 +150,10 @@ module _ {nodes edges faces : List ℤ} {h : Head} {left right : ℤ} (p : Heala
       (λ e. let k = p .left-below in let j = el in omega arith)
       (λ e. let k = p .right-below in let j = er in omega arith)
 
-  head-is : headOf (mergedSides makes row (mapOf (lent nodes edges faces h)))
+  pub merged-head : headOf (mergedSides makes row (mapOf (lent nodes edges faces h)))
       ≡ changedHead h (counts 0 0 0) (counts 0 0 1) (counts 0 0 (bit makes))
   unfolding mapOf renamedFaces
-  head-is =
+  merged-head =
       let ns = nodesOf nodes (natAbs (h .nodes)) in
       let es = edgesOf edges (natAbs (h .edges)) in
       let f = faceKept makes row (mapOf (lent nodes edges faces h)) in
@@ -188,5 +188,5 @@ module _ {nodes edges faces : List ℤ} {h : Head} {left right : ℤ} (p : Heala
             ∙ (λ i. facesIn (length faces) (healFaces makes (row-left i) (row-right i) (sym ef i)
             (facesOf faces (natAbs (h .faces)))))
             ∙ efs;
-        head = head-is ∙ sym eh;
+        head = merged-head ∙ sym eh;
       }

@@ -2,11 +2,10 @@
 use mathlib.Core.Path.{_≡_, refl, sym, ap, ap₂, _∙_}
 use mathlib.Core.Bool.{Bool, true, false, _||_}
 use mathlib.Core.List.{List, _∷_, _++_}
-use Prim.Native.Nat.{ℕ, suc, _+_, _/_, _<_, _≤_}
+use Prim.Native.Nat.{ℕ, _+_, _<_}
 use native.Mathlib.Omega.{arith}
 use lib.Dec.{lit<}
 use lib.IntN.{ℤ, pos, natAbs}
-use lib.ListN.{length}
 use lib.Signed.{nonNeg}
 use borrow.Author.Tests.{not-false}
 use Rattle.lists.specs.Tests.{bit}
@@ -19,7 +18,7 @@ use Rattle.curves.specs.Curves.{Run, isRun, curveOf, startWay}
 use Rattle.map.specs.declared.Head.{Head}
 use Rattle.map.specs.declared.Variant.{Variant}
 use Rattle.map.specs.declared.Variant.the-variants.{New, Mod}
-use Rattle.map.specs.Limits.{nodeWidth, edgeWidth, faceWidth, lastNumber}
+use Rattle.map.specs.Limits.{nodeWidth}
 use Rattle.map.specs.Rows.{Map, Sizes, mapOf, sizesOf, findNode, counts}
 use Rattle.map.specs.Links.{cornerFace}
 use Rattle.map.specs.Edits.{splitsFace}
@@ -27,8 +26,7 @@ use Rattle.map.specs.Reasons.{firstReason, reasons, noNode}
 use Rattle.map.proofs.Reasons.{first-hit, first-miss, first-zero, first-append, first-after}
 use Rattle.map_rows.specs.Rows.{nodeAt}
 use Rattle.map_rows.proofs.Lookups.{node-found}
-use Rattle.head.specs.Heads.{Left, sizesIn, roomAt}
-use Rattle.head.proofs.Heads.{room-left}
+use Rattle.head.specs.Heads.{sizesIn, roomAt}
 use Rattle.form_ranges.specs.Ranges.{lent}
 use Rattle.outcomes.specs.Outcomes.{Formed}
 use Rattle.outcomes.proofs.Formed.{ranges, node-rows, edge-rows, room-at, node-none}
@@ -161,31 +159,3 @@ module _ {nodes edges faces : List ℤ} {h : Head} (f : Formed nodes edges faces
               splits = k .known z .splits ∙ ap₂ (λ (l o : ℕ). splitsFace l o (curveOf sent) m) A B;
             };
       }
-
-  -- no reason holds: there is room for the rows, and a number for the edge
-  module _ (how : Variant) (u v : ℤ) (sent : List ℤ)
-      (clear : firstReason (reasons s m (addTicket how u v sent)) ≡ 0) where
-    grows : firstReason (growthReasons how s m (natAbs u) (natAbs v) sent) ≡ 0
-    grows =
-        let z4 = first-zero 4 _ _ (lit< tt) (sym (ap firstReason (parts how u v sent)) ∙ clear) .1 in
-        let z5 = first-zero 5 _ _ (lit< tt) z4 .1 in
-        let z6 = first-zero 6 _ _ (lit< tt) z5 .1 in
-        let z7 = first-zero 7 _ _ (lit< tt) z6 .1 in
-        let z8 = first-zero 8 _ _ (lit< tt) z7 .1 in
-        let z11 = first-zero 11 _ _ (lit< tt) z8 .1 in
-        let z12 = first-zero 12 _ _ (lit< tt) z11 .1 in
-        let z14 = first-zero 14 _ _ (lit< tt) z12 .1 in
-        first-zero 15 _ _ (lit< tt) z14 .1
-
-    left : Left (sizesIn nodes edges faces) h (counts 0 1 (bit (splitsFace (natAbs u) (natAbs v) (curveOf sent) m)))
-        (counts 0 1 (bit (splitsFace (natAbs u) (natAbs v) (curveOf sent) m)
-        + bit (makesSecond (splitsFace (natAbs u) (natAbs v) (curveOf sent) m) how
-        (cornerFace m (natAbs u) (startWay (curveOf sent))))))
-    left = room-left (sizesIn nodes edges faces) h _ _ (ap firstReason (room-at f _ _) ∙ grows)
-
-    pub room-known : (natAbs (h .edges) + 1 ≤ length edges / edgeWidth)
-        × (natAbs (h .faces) + bit (splitsFace (natAbs u) (natAbs v) (curveOf sent) m) ≤ length faces / faceWidth)
-    room-known = (left .edges, left .faces)
-
-    pub number-known : natAbs (h .«next_edge») + 1 ≤ suc lastNumber
-    number-known = left .next-edge

@@ -22,7 +22,7 @@ refused c =
     let j = judged-told (toZ-ofZ {w = w64} (s .fits .start)) (toZ-ofZ {w = w64} (s .fits .end))
     (l .judge-add .ensures) in
     decided-refused (a .nodes .now) (a .edges .now) (a .faces .now) (a .h)
-    (addTicket (a .news) (a .start) (a .end) (a .c .now)) (l .judge-add .result .reason)
+    (addTicket (a .how) (a .start) (a .end) (a .c .now)) (l .judge-add .result .reason)
     (let d = c .before .if1 .taken in omega arith) (c .refused .ensures) (sym (j .reason))
 
 draw-requires : tie.Need-draw-requires
@@ -47,12 +47,12 @@ joined c =
     (l .judge-add .ensures) in
     let face = sent (n .struct-told2 .given .1 .1 .1 .0 .1) in
     decided-carried (a .nodes .now) (a .edges .now) (a .faces .now) (a .h)
-    (addTicket (a .news) (a .start) (a .end) (a .c .now)) (d .draw .last .0) (d .draw .last .1 .0) (a .faces .now)
+    (addTicket (a .how) (a .start) (a .end) (a .c .now)) (d .draw .last .0) (d .draw .last .1 .0) (a .faces .now)
     (d .draw .result) _ (c .carried .ensures)
     (sym (j .reason) ∙ e .if1 .left)
     (joined-lent (s .pre) j (e .if1 .left) face (d .draw .ensures)
     (not-true (l .judge-add .result .splits) (c .before .if2 .taken)))
-    (add-value (s .pre) (a .news) (a .start) (a .end) (a .c .now))
+    (add-value (s .pre) (a .how) (a .start) (a .end) (a .c .now))
 
 split-face-requires : tie.Need-split-face-requires
 split-face-requires c κs =
@@ -80,12 +80,12 @@ parted c =
     (l .judge-add .ensures) in
     let face = sent (n .struct-told2 .given .1 .1 .1 .0 .1) in
     decided-carried (a .nodes .now) (a .edges .now) (a .faces .now) (a .h)
-    (addTicket (a .news) (a .start) (a .end) (a .c .now)) (p .split-face .last .0) (p .split-face .last .1 .0)
+    (addTicket (a .how) (a .start) (a .end) (a .c .now)) (p .split-face .last .0) (p .split-face .last .1 .0)
     (p .split-face .last .1 .1 .0) (p .split-face .result) _ (c .carried2 .ensures)
     (sym (j .reason) ∙ e .if1 .left)
     (parted-lent (s .pre) j (e .if1 .left) face (d .draw .ensures)
     (not-false (l .judge-add .result .splits) (p .before .before .before .before .if2 .left)) (p .split-face .ensures))
-    (add-value (s .pre) (a .news) (a .start) (a .end) (a .c .now))
+    (add-value (s .pre) (a .how) (a .start) (a .end) (a .c .now))
 
 pub add-edge-spec : {M : Type 1} → statement M
 add-edge-spec =

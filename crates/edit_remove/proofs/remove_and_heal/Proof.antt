@@ -12,6 +12,7 @@ use Rattle.map_rows.specs.Rows.{edgeAt}
 use Rattle.map_rows.proofs.Rows.{edge-cells}
 use Rattle.tables.proofs.Order.{word-is}
 use Rattle.edge_rows.proofs.Formed.{held}
+use Rattle.face_rows.specs.Holds.{Healable}
 use Rattle.face_rows.proofs.Formed.{formed-healable, formed-held}
 use Rattle.face_rows.proofs.Healed.{healed-edge-count}
 use Rattle.edit_remove.proofs.Heal.{healed-held}
@@ -48,16 +49,25 @@ returns c =
     (u .undraw .ensures))
     (rw (same-eq (row .left) (row .right) one))
 
+-- the two faces of the row
+healable : (c : tie.Else1)
+    → let a = c .before .before .before .args in
+    let row = edgeAt (a .edges .now) (a .i) in
+    Healable (a .nodes .now) (a .edges .now) (a .faces .now) (a .h) (pos (row .left)) (pos (row .right))
+healable c =
+    let s = c .before .before .before in
+    let a = s .args in
+    let cells = edge-cells (a .edges .now) (a .i) (s .pre .cells .ranges) in
+    formed-healable (s .pre .formed) (a .i) (s .pre .row)
+    (λ e. c .if1 .left (ap (ofZ w64) (cells .left ∙ ap pos e ∙ sym (cells .right))))
+
 heal-faces-requires : tie.Need-heal-faces-requires
 heal-faces-requires c κs =
     let t = c .before .before .before in
     let b = t .before .before in
     let s = b .before in
-    let a = s .args in
-    let cells = edge-cells (a .edges .now) (a .i) (s .pre .cells .ranges) in
-    rw (sent (b .left .given) ∙ cells .left, sent (t .before .right .given) ∙ cells .right)
-    (formed-healable (s .pre .formed) (a .i) (s .pre .row)
-    (λ e. t .if1 .left (ap (ofZ w64) (cells .left ∙ ap pos e ∙ sym (cells .right)))))
+    let cells = edge-cells (s .args .edges .now) (s .args .i) (s .pre .cells .ranges) in
+    rw (sent (b .left .given) ∙ cells .left, sent (t .before .right .given) ∙ cells .right) (healable t)
 
 undraw-requires-2 : tie.Need-undraw-requires-2
 undraw-requires-2 c κs =
@@ -72,8 +82,8 @@ undraw-requires-2 c κs =
     (sym (ap natAbs (sent (t .before .right .given) ∙ cells .right))) in
     let v = sent (c .before .before .struct-told .given .1 .0 .1 .1 .1 .0 .1) in
     record {
-      held = healed-held (s .pre .formed) row (a .makes) (r .0);
-      row = rw (healed-edge-count (formed-held (s .pre .formed)) row (a .makes) _ _ _ _ (r .0)) (s .pre .row);
+      held = healed-held (s .pre .formed) row (healable t) (a .makes) (s .pre .number) (r .0);
+      row = rw (healed-edge-count (formed-held (s .pre .formed)) row (a .makes) (r .0)) (s .pre .row);
       natural = ap nonNeg (v ∙ r .1);
     }
 
