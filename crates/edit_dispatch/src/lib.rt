@@ -1,5 +1,6 @@
 // The fourteen kinds of tickets, chosen by the ticket's first number: a match on it decides argument count and edit.
 use map::Head;
+use map::Variant;
 use outcomes::Done;
 ghost use mathlib.Core.Path.{_≡_};
 ghost use lib.ListN.{drop};
@@ -41,30 +42,29 @@ fn add_node(nodes: &mut [i64], edges: &[i64], faces: &[i64], h: Head, t: &[i64])
 }
 
 // Kind 2, with three arguments.
-fn move_node(nodes: &mut [i64], edges: &[i64], h: Head, t: &[i64]) -> Done
-    requires { ⌜ ((faces : _) × Formed (now nodes) (now edges) faces h) ⌝ }
-    ensures { λ r. ⌜ ((faces : _) → Formed (now (nodes .entry)) (now (edges .entry)) faces h
-        → outcome (now (nodes .exit)) (now (edges .entry)) faces r
-        ≡ shaped (lent (now (nodes .entry)) (now (edges .entry)) faces h)
-        (three MoveIsoNode (drop 1 (now (t .entry))))) ⌝ }
+fn move_node(nodes: &mut [i64], edges: &[i64], faces: &[i64], h: Head, t: &[i64]) -> Done
+    requires { ⌜ Formed (now nodes) (now edges) (now faces) h ⌝ }
+    ensures { λ r. ⌜ outcome (now (nodes .exit)) (now (edges .entry)) (now (faces .entry)) r
+        ≡ shaped (lent (now (nodes .entry)) (now (edges .entry)) (now (faces .entry)) h)
+        (three MoveIsoNode (drop 1 (now (t .entry)))) ⌝ }
 {
     if t.len() != THREE_ARGUMENTS {
         return outcomes::refused(h, 3);
     }
-    edit_nodes::move_node(nodes, edges, h, t[FIRST], t[SECOND], t[THIRD])
+    edit_nodes::move_node(nodes, edges, faces, h, t[FIRST], t[SECOND], t[THIRD])
 }
 
 // Kind 3, with one argument.
-fn remove_node(nodes: &mut [i64], h: Head, t: &[i64]) -> Done
-    requires { ⌜ ((edges : _) × (faces : _) × Formed (now nodes) edges faces h) ⌝ }
-    ensures { λ r. ⌜ ((edges : _) (faces : _) → Formed (now (nodes .entry)) edges faces h
-        → outcome (now (nodes .exit)) edges faces r
-        ≡ shaped (lent (now (nodes .entry)) edges faces h) (one RemoveIsoNode (drop 1 (now (t .entry))))) ⌝ }
+fn remove_node(nodes: &mut [i64], edges: &[i64], faces: &[i64], h: Head, t: &[i64]) -> Done
+    requires { ⌜ Formed (now nodes) (now edges) (now faces) h ⌝ }
+    ensures { λ r. ⌜ outcome (now (nodes .exit)) (now (edges .entry)) (now (faces .entry)) r
+        ≡ shaped (lent (now (nodes .entry)) (now (edges .entry)) (now (faces .entry)) h)
+        (one RemoveIsoNode (drop 1 (now (t .entry)))) ⌝ }
 {
     if t.len() != ONE_ARGUMENT {
         return outcomes::refused(h, 3);
     }
-    edit_nodes::remove_node(nodes, h, t[FIRST])
+    edit_nodes::remove_node(nodes, edges, faces, h, t[FIRST])
 }
 
 // Kind 4, with two arguments and a curve.
@@ -129,31 +129,43 @@ fn change_curve(nodes: &[i64], edges: &mut [i64], faces: &[i64], h: Head, t: &[i
 }
 
 // Kinds 7 and 8, with three arguments.
-fn split_edge(nodes: &mut [i64], edges: &mut [i64], h: Head, keeps: bool, t: &[i64]) -> Done
-    requires { ⌜ ((faces : _) × Formed (now nodes) (now edges) faces h) ⌝ }
-    ensures { λ r. ⌜ ((faces : _) → Formed (now (nodes .entry)) (now (edges .entry)) faces h
-        → outcome (now (nodes .exit)) (now (edges .exit)) faces r
-        ≡ shaped (lent (now (nodes .entry)) (now (edges .entry)) faces h)
-        (three (splitTicket keeps) (drop 1 (now (t .entry))))) ⌝ }
+fn split_edge(
+    nodes: &mut [i64],
+    edges: &mut [i64],
+    faces: &[i64],
+    h: Head,
+    how: Variant,
+    t: &[i64],
+) -> Done
+    requires { ⌜ Formed (now nodes) (now edges) (now faces) h ⌝ }
+    ensures { λ r. ⌜ outcome (now (nodes .exit)) (now (edges .exit)) (now (faces .entry)) r
+        ≡ shaped (lent (now (nodes .entry)) (now (edges .entry)) (now (faces .entry)) h)
+        (three (splitTicket how) (drop 1 (now (t .entry)))) ⌝ }
 {
     if t.len() != THREE_ARGUMENTS {
         return outcomes::refused(h, 3);
     }
-    edit_split::split_edge(nodes, edges, h, keeps, t[FIRST], t[SECOND], t[THIRD])
+    edit_split::split_edge(nodes, edges, faces, h, how, t[FIRST], t[SECOND], t[THIRD])
 }
 
 // Kinds 9 and 10, with two arguments.
-fn heal_edges(nodes: &mut [i64], edges: &mut [i64], h: Head, keeps: bool, t: &[i64]) -> Done
-    requires { ⌜ ((faces : _) × Formed (now nodes) (now edges) faces h) ⌝ }
-    ensures { λ r. ⌜ ((faces : _) → Formed (now (nodes .entry)) (now (edges .entry)) faces h
-        → outcome (now (nodes .exit)) (now (edges .exit)) faces r
-        ≡ shaped (lent (now (nodes .entry)) (now (edges .entry)) faces h)
-        (two (healTicket keeps) (drop 1 (now (t .entry))))) ⌝ }
+fn heal_edges(
+    nodes: &mut [i64],
+    edges: &mut [i64],
+    faces: &[i64],
+    h: Head,
+    how: Variant,
+    t: &[i64],
+) -> Done
+    requires { ⌜ Formed (now nodes) (now edges) (now faces) h ⌝ }
+    ensures { λ r. ⌜ outcome (now (nodes .exit)) (now (edges .exit)) (now (faces .entry)) r
+        ≡ shaped (lent (now (nodes .entry)) (now (edges .entry)) (now (faces .entry)) h)
+        (two (healTicket how) (drop 1 (now (t .entry)))) ⌝ }
 {
     if t.len() != TWO_ARGUMENTS {
         return outcomes::refused(h, 3);
     }
-    edit_heal::heal_edges(nodes, edges, h, keeps, t[FIRST], t[SECOND])
+    edit_heal::heal_edges(nodes, edges, faces, h, how, t[FIRST], t[SECOND])
 }
 
 // Kinds 11 and 12, with two arguments and a curve.
@@ -162,13 +174,13 @@ fn add_edge(
     edges: &mut [i64],
     faces: &mut [i64],
     h: Head,
-    news: bool,
+    how: Variant,
     t: &[i64],
 ) -> Done
     requires { ⌜ Formed (now nodes) (now edges) (now faces) h ⌝ }
     ensures { λ r. ⌜ outcome (now (nodes .exit)) (now (edges .exit)) (now (faces .exit)) r
         ≡ shaped (lent (now (nodes .entry)) (now (edges .entry)) (now (faces .entry)) h)
-        (twoCurve (addTicket news) (drop 1 (now (t .entry)))) ⌝ }
+        (twoCurve (addTicket how) (drop 1 (now (t .entry)))) ⌝ }
 {
     let n = t.len();
     if (n < TWO_ARGUMENTS) | (n % 2 == 0) {
@@ -179,7 +191,7 @@ fn add_edge(
         edges,
         faces,
         h,
-        news,
+        how,
         t[FIRST],
         t[SECOND],
         &t[TWO_ARGUMENTS..],
@@ -192,18 +204,18 @@ fn remove_edge(
     edges: &mut [i64],
     faces: &mut [i64],
     h: Head,
-    news: bool,
+    how: Variant,
     t: &[i64],
 ) -> Done
     requires { ⌜ Formed (now nodes) (now edges) (now faces) h ⌝ }
     ensures { λ r. ⌜ outcome (now (nodes .exit)) (now (edges .exit)) (now (faces .exit)) r
         ≡ shaped (lent (now (nodes .entry)) (now (edges .entry)) (now (faces .entry)) h)
-        (one (removeTicket news) (drop 1 (now (t .entry)))) ⌝ }
+        (one (removeTicket how) (drop 1 (now (t .entry)))) ⌝ }
 {
     if t.len() != ONE_ARGUMENT {
         return outcomes::refused(h, 3);
     }
-    edit_remove::remove_edge(nodes, edges, faces, h, news, t[FIRST])
+    edit_remove::remove_edge(nodes, edges, faces, h, how, t[FIRST])
 }
 
 // ---- the kinds
@@ -220,19 +232,19 @@ pub fn edit(nodes: &mut [i64], edges: &mut [i64], faces: &mut [i64], h: Head, t:
     let kind = t[0];
     match kind {
         1 => add_node(nodes, edges, faces, h, t),
-        2 => move_node(nodes, edges, h, t),
-        3 => remove_node(nodes, h, t),
+        2 => move_node(nodes, edges, faces, h, t),
+        3 => remove_node(nodes, edges, faces, h, t),
         4 => add_isolated_edge(nodes, edges, faces, h, t),
         5 => remove_isolated_edge(nodes, edges, faces, h, t),
         6 => change_curve(nodes, edges, faces, h, t),
-        7 => split_edge(nodes, edges, h, false, t),
-        8 => split_edge(nodes, edges, h, true, t),
-        9 => heal_edges(nodes, edges, h, false, t),
-        10 => heal_edges(nodes, edges, h, true, t),
-        11 => add_edge(nodes, edges, faces, h, true, t),
-        12 => add_edge(nodes, edges, faces, h, false, t),
-        13 => remove_edge(nodes, edges, faces, h, true, t),
-        14 => remove_edge(nodes, edges, faces, h, false, t),
+        7 => split_edge(nodes, edges, faces, h, Variant::New, t),
+        8 => split_edge(nodes, edges, faces, h, Variant::Mod, t),
+        9 => heal_edges(nodes, edges, faces, h, Variant::New, t),
+        10 => heal_edges(nodes, edges, faces, h, Variant::Mod, t),
+        11 => add_edge(nodes, edges, faces, h, Variant::New, t),
+        12 => add_edge(nodes, edges, faces, h, Variant::Mod, t),
+        13 => remove_edge(nodes, edges, faces, h, Variant::New, t),
+        14 => remove_edge(nodes, edges, faces, h, Variant::Mod, t),
         _ => outcomes::refused(h, 3),
     }
 }

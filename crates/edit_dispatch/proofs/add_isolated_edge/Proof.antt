@@ -6,18 +6,11 @@ use lib.ListN.{length}
 use borrow.Rule.Slice.PartAt.{part-to-end}
 use Rattle.integers.specs.Signs.{sent}
 use Rattle.map.specs.Tickets.{AddIsoEdge}
-use Rattle.form_ranges.specs.Ranges.{lent}
 use Rattle.edit_dispatch.specs.Shaped.{shaped}
 use Rattle.edit_dispatch.proofs.Counts.{test-left, test-taken, two-curve-none, two-curve-read}
 use Rattle.edit_dispatch.proofs.Reading.{shaped-none}
 use Rattle.edit_dispatch.proofs.add_isolated_edge.Statement.{statement}
 use Rattle.edit_dispatch.proofs.add_isolated_edge.Tie as tie
-
-refused : tie.Need-returns
-refused c =
-    let a = c .before .before .args in
-    shaped-none (a .nodes .now) (a .edges .now) (a .faces .now) (a .h) (c .refused .ensures)
-    (two-curve-none AddIsoEdge (a .t .now) (test-taken (length (a .t .now)) 3 0 (c .before .if1 .taken)))
 
 number : tie.Need-shared-slice-copy-out-add-isolated-edge
 number c = omega (
@@ -43,7 +36,7 @@ returns c =
     let a = s .before .args in
     let t = a .t .now in
     c .before .before .add-isolated-edge .ensures
-    ∙ ap (shaped (lent (a .nodes .now) (a .edges .now) (a .faces .now) (a .h)))
+    ∙ ap (shaped _)
     (two-curve-read AddIsoEdge t (test-left (length t) 3 0 (s .if1 .left))
     (sent (c .before .before .before .before .before .add-isolated-edge-arg3 .given))
     (sent (c .before .before .before .before .add-isolated-edge-arg4 .given)) (part-to-end t 3))
@@ -53,7 +46,8 @@ add-isolated-edge-spec =
     tie.close
     (tie.spec
     (λ c κs. search needs)
-    refused
+    (λ c. let a = c .before .before .args in shaped-none _ _ _ _ (c .refused .ensures)
+    (two-curve-none AddIsoEdge (a .t .now) (test-taken _ 3 0 (c .before .if1 .taken))))
     number
     number-2
     curve

@@ -3,25 +3,18 @@ use borrow.Author.Needs.{needs}
 use mathlib.Core.Path.{ap, _∙_}
 use Rattle.integers.specs.Signs.{sent}
 use Rattle.map.specs.Tickets.{AddIsoNode}
-use Rattle.form_ranges.specs.Ranges.{lent}
 use Rattle.edit_dispatch.specs.Shaped.{shaped}
 use Rattle.edit_dispatch.proofs.Counts.{three-none, three-read}
 use Rattle.edit_dispatch.proofs.Reading.{shaped-none}
 use Rattle.edit_dispatch.proofs.add_node.Statement.{statement}
 use Rattle.edit_dispatch.proofs.add_node.Tie as tie
 
-refused : tie.Need-returns
-refused c =
-    let a = c .before .before .args in
-    shaped-none (a .nodes .now) (a .edges .now) (a .faces .now) (a .h) (c .refused .ensures)
-    (three-none AddIsoNode (a .t .now) (c .before .if1 .taken))
-
 returns : tie.Need-returns-2
 returns c =
     let s = c .before .before .before .before .before .before in
     let a = s .before .args in
     c .before .add-node .ensures
-    ∙ ap (shaped (lent (a .nodes .now) (a .edges .now) (a .faces .now) (a .h)))
+    ∙ ap (shaped _)
     (three-read AddIsoNode (a .t .now) (s .if1 .left) (sent (c .before .before .before .before .add-node-arg2 .given))
     (sent (c .before .before .before .add-node-arg3 .given)) (sent (c .before .before .add-node-arg4 .given)))
 
@@ -30,7 +23,8 @@ add-node-spec =
     tie.close
     (tie.spec
     (λ c κs. search needs)
-    refused
+    (λ c. let a = c .before .before .args in shaped-none _ _ _ _ (c .refused .ensures)
+    (three-none AddIsoNode (a .t .now) (c .before .if1 .taken)))
     (λ c. search needs)
     (λ c. search needs)
     (λ c. search needs)

@@ -6,18 +6,11 @@ use lib.ListN.{length}
 use borrow.Rule.Slice.PartAt.{part-to-end}
 use Rattle.integers.specs.Signs.{sent}
 use Rattle.map.specs.Tickets.{ChangeEdgeGeom}
-use Rattle.form_ranges.specs.Ranges.{lent}
 use Rattle.edit_dispatch.specs.Shaped.{shaped}
 use Rattle.edit_dispatch.proofs.Counts.{test-left, test-taken, one-curve-none, one-curve-read}
 use Rattle.edit_dispatch.proofs.Reading.{shaped-none}
 use Rattle.edit_dispatch.proofs.change_curve.Statement.{statement}
 use Rattle.edit_dispatch.proofs.change_curve.Tie as tie
-
-refused : tie.Need-returns
-refused c =
-    let a = c .before .before .args in
-    shaped-none (a .nodes .now) (a .edges .now) (a .faces .now) (a .h) (c .refused .ensures)
-    (one-curve-none ChangeEdgeGeom (a .t .now) (test-taken (length (a .t .now)) 2 1 (c .before .if1 .taken)))
 
 number : tie.Need-shared-slice-copy-out-change-curve
 number c = omega (arith, test-left (length (c .before .before .args .t .now)) 2 1 (c .before .if1 .left))
@@ -31,7 +24,7 @@ returns c =
     let a = s .before .args in
     let t = a .t .now in
     c .before .change-curve .ensures
-    ∙ ap (shaped (lent (a .nodes .now) (a .edges .now) (a .faces .now) (a .h)))
+    ∙ ap (shaped _)
     (one-curve-read ChangeEdgeGeom t (test-left (length t) 2 1 (s .if1 .left))
     (sent (c .before .before .before .change-curve-arg2 .given)) (part-to-end t 2))
 
@@ -40,7 +33,8 @@ change-curve-spec =
     tie.close
     (tie.spec
     (λ c κs. search needs)
-    refused
+    (λ c. let a = c .before .before .args in shaped-none _ _ _ _ (c .refused .ensures)
+    (one-curve-none ChangeEdgeGeom (a .t .now) (test-taken _ 2 1 (c .before .if1 .taken))))
     number
     curve
     curve

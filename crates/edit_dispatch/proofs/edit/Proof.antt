@@ -55,11 +55,13 @@ edit-spec =
     ∙ known (m .before) 0 (m .match .keys1) (lit< tt))
     (λ c. search needs)
     (λ c. search needs)
-    (λ c. let m = c .before .before .before .before in let s = m .before .before .before in
-    c .before .move-node .ensures (s .args .faces .now) (s .pre) ∙ known (m .before) 1 (m .match .keys2) (lit< tt))
     (λ c. search needs)
-    (λ c. let m = c .before .before .before in let s = m .before .before .before in
-    c .before .remove-node .ensures (s .args .edges .now) (s .args .faces .now) (s .pre)
+    (λ c. let m = c .before .before .before .before .before in c .before .move-node .ensures
+    ∙ known (m .before) 1 (m .match .keys2) (lit< tt))
+    (λ c. search needs)
+    (λ c. search needs)
+    (λ c. search needs)
+    (λ c. let m = c .before .before .before .before .before in c .before .remove-node .ensures
     ∙ known (m .before) 2 (m .match .keys3) (lit< tt))
     (λ c. search needs)
     (λ c. search needs)
@@ -78,23 +80,23 @@ edit-spec =
     ∙ known (m .before) 5 (m .match .keys6) (lit< tt))
     (λ c. search needs)
     (λ c. search needs)
-    (λ c. let m = c .before .before .before .before .before in let s = m .before .before .before in
-    c .before .before .split-edge .ensures (s .args .faces .now) (s .pre)
+    (λ c. search needs)
+    (λ c. let m = c .before .before .before .before .before .before in c .before .before .split-edge .ensures
     ∙ known (m .before) 6 (m .match .keys7) (lit< tt))
     (λ c. search needs)
     (λ c. search needs)
-    (λ c. let m = c .before .before .before .before .before in let s = m .before .before .before in
-    c .before .before .split-edge2 .ensures (s .args .faces .now) (s .pre)
+    (λ c. search needs)
+    (λ c. let m = c .before .before .before .before .before .before in c .before .before .split-edge2 .ensures
     ∙ known (m .before) 7 (m .match .keys8) (lit< tt))
     (λ c. search needs)
     (λ c. search needs)
-    (λ c. let m = c .before .before .before .before .before in let s = m .before .before .before in
-    c .before .before .heal-edges .ensures (s .args .faces .now) (s .pre)
+    (λ c. search needs)
+    (λ c. let m = c .before .before .before .before .before .before in c .before .before .heal-edges .ensures
     ∙ known (m .before) 8 (m .match .keys9) (lit< tt))
     (λ c. search needs)
     (λ c. search needs)
-    (λ c. let m = c .before .before .before .before .before in let s = m .before .before .before in
-    c .before .before .heal-edges2 .ensures (s .args .faces .now) (s .pre)
+    (λ c. search needs)
+    (λ c. let m = c .before .before .before .before .before .before in c .before .before .heal-edges2 .ensures
     ∙ known (m .before) 9 (m .match .keys10) (lit< tt))
     (λ c. search needs)
     (λ c. search needs)

@@ -2,7 +2,6 @@
 use borrow.Author.Needs.{needs}
 use mathlib.Core.Path.{ap, _∙_}
 use Rattle.integers.specs.Signs.{sent}
-use Rattle.form_ranges.specs.Ranges.{lent}
 use Rattle.outcomes.specs.Variants.{removeTicket}
 use Rattle.edit_dispatch.specs.Shaped.{shaped}
 use Rattle.edit_dispatch.proofs.Counts.{one-none, one-read}
@@ -10,19 +9,13 @@ use Rattle.edit_dispatch.proofs.Reading.{shaped-none}
 use Rattle.edit_dispatch.proofs.remove_edge.Statement.{statement}
 use Rattle.edit_dispatch.proofs.remove_edge.Tie as tie
 
-refused : tie.Need-returns
-refused c =
-    let a = c .before .before .args in
-    shaped-none (a .nodes .now) (a .edges .now) (a .faces .now) (a .h) (c .refused .ensures)
-    (one-none (removeTicket (a .news)) (a .t .now) (c .before .if1 .taken))
-
 returns : tie.Need-returns-2
 returns c =
     let s = c .before .before .before .before .before .before .before .before in
     let a = s .before .args in
     c .before .before .before .remove-edge .ensures
-    ∙ ap (shaped (lent (a .nodes .now) (a .edges .now) (a .faces .now) (a .h)))
-    (one-read (removeTicket (a .news)) (a .t .now) (s .if1 .left)
+    ∙ ap (shaped _)
+    (one-read (removeTicket (a .how)) (a .t .now) (s .if1 .left)
     (sent (c .before .before .before .before .remove-edge-arg4 .given)))
 
 pub remove-edge-spec : {M : Type 1} → statement M
@@ -30,7 +23,8 @@ remove-edge-spec =
     tie.close
     (tie.spec
     (λ c κs. search needs)
-    refused
+    (λ c. let a = c .before .before .args in shaped-none _ _ _ _ (c .refused .ensures)
+    (one-none (removeTicket (a .how)) (a .t .now) (c .before .if1 .taken)))
     (λ c. search needs)
     (λ c κs. search needs)
     (λ c. search needs)

@@ -2,7 +2,6 @@
 use borrow.Author.Needs.{needs}
 use mathlib.Core.Path.{ap, _∙_}
 use Rattle.integers.specs.Signs.{sent}
-use Rattle.form_ranges.specs.Ranges.{lent}
 use Rattle.outcomes.specs.Variants.{splitTicket}
 use Rattle.edit_dispatch.specs.Shaped.{shaped}
 use Rattle.edit_dispatch.proofs.Counts.{three-none, three-read}
@@ -10,19 +9,13 @@ use Rattle.edit_dispatch.proofs.Reading.{shaped-none}
 use Rattle.edit_dispatch.proofs.split_edge.Statement.{statement}
 use Rattle.edit_dispatch.proofs.split_edge.Tie as tie
 
-refused : tie.Need-returns
-refused c faces f =
-    let a = c .before .before .args in
-    shaped-none (a .nodes .now) (a .edges .now) faces (a .h) (c .refused .ensures)
-    (three-none (splitTicket (a .keeps)) (a .t .now) (c .before .if1 .taken))
-
 returns : tie.Need-returns-2
-returns c faces f =
+returns c =
     let s = c .before .before .before .before .before .before .before .before in
     let a = s .before .args in
-    c .before .before .split-edge .ensures faces f
-    ∙ ap (shaped (lent (a .nodes .now) (a .edges .now) faces (a .h)))
-    (three-read (splitTicket (a .keeps)) (a .t .now) (s .if1 .left)
+    c .before .before .split-edge .ensures
+    ∙ ap (shaped _)
+    (three-read (splitTicket (a .how)) (a .t .now) (s .if1 .left)
     (sent (c .before .before .before .before .before .split-edge-arg3 .given))
     (sent (c .before .before .before .before .split-edge-arg4 .given))
     (sent (c .before .before .before .split-edge-arg5 .given)))
@@ -32,7 +25,8 @@ split-edge-spec =
     tie.close
     (tie.spec
     (λ c κs. search needs)
-    refused
+    (λ c. let a = c .before .before .args in shaped-none _ _ _ _ (c .refused .ensures)
+    (three-none (splitTicket (a .how)) (a .t .now) (c .before .if1 .taken)))
     (λ c. search needs)
     (λ c. search needs)
     (λ c. search needs)
