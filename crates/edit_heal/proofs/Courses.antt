@@ -20,22 +20,25 @@ use Rattle.curve_edits.specs.declared.Line.{Line}
 use Rattle.curve_edits.specs.Lines.{lineOf}
 use Rattle.curve_edits.proofs.Lines.{length-coordinates}
 use Rattle.curve_edits.proofs.Curves.{whole-points, reversed-points}
+use Rattle.map.proofs.RoundTrip.{curve-back}
 use Rattle.map_rows.specs.Rows.{EdgeRow, edgeAt}
 use Rattle.map_rows.proofs.RowCurves.{runAt, run-at, curve-at}
+use Rattle.darts.specs.Positions.{odd}
+use Rattle.edit_heal.specs.Heals.{courseAt}
 
--- ---- points in range, 2 to 12
+-- ---- points in range, as many as a curve has
 
-pub record Listed (ps : List Point) : Type 0 where
+pub record PointsInRange (ps : List Point) : Type 0 where
   pub at : ℕ → Point
   pub count : ℕ
   pub is : ps ≡ table at 0 count
   pub ranges : (i : ℕ) → InRange (at i)
   pub least : 2 ≤ count
-  pub most : count ≤ 12
+  pub most : count ≤ maxPoints
 
 -- the curve of an edge row, and its reverse
-pub course-listed : {l : List ℤ} {i : ℕ} → EdgeRow l i → (back : Bool)
-    → Listed (points (course back (edgeAt l i .curve)))
+course-listed : {l : List ℤ} {i : ℕ} → EdgeRow l i → (back : Bool)
+    → PointsInRange (points (course back (edgeAt l i .curve)))
 course-listed {l} {i} row false =
     record {
       at = pointAt (runAt l i);
@@ -61,11 +64,11 @@ coordinates-of f h zero a = refl
 coordinates-of f h (suc n) a = rw (coordinate-of (f a .x) (h a .x), coordinate-of (f a .y) (h a .y))
     (coordinates-of f h n (a + 1))
 
-module _ {ps : List Point} (k : Listed ps) where
-  pub points-count : length ps ≡ k .count
+module _ {ps : List Point} (k : PointsInRange ps) where
+  points-count : length ps ≡ k .count
   points-count = ap length (k .is) ∙ length-table (k .at) 0 (k .count)
 
-  pub points-few : length ps ≤ 12
+  points-few : length ps ≤ maxPoints
   points-few = omega (arith, points-count, k .most)
 
   -- their numbers are a run
@@ -81,11 +84,11 @@ module _ {ps : List Point} (k : Listed ps) where
 
   -- the part of a line that is in use
   module _ (x : Line) (e : x ≡ lineOf ps) where
-    pub line-count : x .count ≡ length ps
+    line-count : x .count ≡ length ps
     unfolding lineOf
     line-count = ap (λ (y : Line). y .count) e
 
-    pub line-long : length (x .cells) ≡ 24
+    line-long : length (x .cells) ≡ 24
     unfolding lineOf
     line-long = ap (λ (y : Line). length (y .cells)) e
         ∙ length-take-le 24 (coordinates ps ++ replicate 24 (pos 0))
@@ -99,8 +102,20 @@ module _ {ps : List Point} (k : Listed ps) where
         ∙ take-take (length ps * 2 - 0) 24 (coordinates ps ++ replicate 24 (pos 0)) (omega (arith, points-few))
         ∙ take-at (coordinates ps) (replicate 24 (pos 0)) (length ps * 2 - 0) (sym n)
 
-    pub line-run : Run (take (x .count * 2 - 0) (x .cells))
-    line-run = rw line-part points-run
+-- the line of a directed edge's curve, which is read again from the part in use
+pub record CourseLine (x : Line) (c : Curve) : Type 0 where
+  pub few : x .count ≤ maxPoints
+  pub long : length (x .cells) ≡ 24
+  pub run : Run (take (x .count * 2 - 0) (x .cells))
+  pub curve : curveOf (take (x .count * 2 - 0) (x .cells)) ≡ c
 
-    pub line-curve : curveOf (take (x .count * 2 - 0) (x .cells)) ≡ curveOf (coordinates ps)
-    line-curve = ap curveOf line-part
+pub course-line : (l : List ℤ) (p : ℕ) (x : Line) → EdgeRow l (p / 2) → x ≡ lineOf (points (courseAt l p))
+    → CourseLine x (courseAt l p)
+course-line l p x row e =
+    let k = course-listed row (odd p) in
+    record {
+      few = omega (arith, points-few k, line-count k x e);
+      long = line-long k x e;
+      run = rw (line-part k x e) (points-run k);
+      curve = ap curveOf (line-part k x e) ∙ curve-back (courseAt l p);
+    }

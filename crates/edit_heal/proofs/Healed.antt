@@ -1,7 +1,7 @@
 -- What is lent after two edges are healed: the tables of the map that the definition gives. Assumes nothing.
 use mathlib.Core.Path.{_≡_, refl, sym, ap, ap₂, _∙_, subst}
 use mathlib.Core.Logic.{inl, inr, ⊎-elim}
-use mathlib.Core.Bool.{Bool, true, false, cond, _&&_, false≢true}
+use mathlib.Core.Bool.{true, _&&_, false≢true}
 use mathlib.Core.List.{List, _++_, map, flatMap, List·Memᴰ}
 use mathlib.Core.Option.{Option, Option·getD}
 use Prim.Native.Nat.{ℕ, suc, _+_, _*_, _-_, _/_, _%_, _≤_, _<_}
@@ -10,36 +10,36 @@ use lib.Dec.{lit<}
 use lib.IntN.{ℤ, pos, negℤ, natAbs}
 use lib.ListN.{length, getD, take, drop, length-append, length-drop, List·getD-map}
 use lib.Seq.{length-take-le}
-use Rattle.lists.specs.Scans.{allOf, isSome}
+use Rattle.lists.specs.Scans.{isSome}
 use Rattle.lists.specs.Tables.{place}
 use Rattle.lists.specs.declared.Found.the-variants.{At}
 use Rattle.lists.specs.Members.{Distinct}
-use Rattle.lists.proofs.Members.{all-each}
 use Rattle.planar_maps.specs.Map.{Dart, fwd, bwd, rev}
 use Rattle.tables.specs.Tables.{sameZ, column, closed, filled}
 use Rattle.tables.proofs.Writes.{removed-at}
 use Rattle.tables.proofs.Filled.{Wide}
 use Rattle.tables.proofs.Numbers.{without-at, getD-in}
 use Rattle.tables.proofs.Lookups.{which-place}
-use Rattle.curves.specs.Curves.{Curve, points}
+use Rattle.curves.specs.Curves.{Curve, points, maxPoints}
 use Rattle.curves.specs.Edits.{joined}
 use Rattle.curves.proofs.Runs.{and-left, and-right}
 use Rattle.curve_edits.specs.Lines.{lineOf}
 use Rattle.map.specs.declared.Head.{Head}
+use Rattle.map.specs.declared.Variant.{Variant}
+use Rattle.map.specs.declared.Variant.the-variants.{New, Mod}
 use Rattle.map.specs.Limits.{nodeWidth, edgeWidth}
 use Rattle.map.specs.Rows.{Node, Edge, Map, mapOf, lentOf, sizesOf, nodeCells, edgeCells, dartCell, edge, hasNode}
-use Rattle.map.specs.Rows.{hasEdge, hasFace, atEdge, withoutNode, counts}
+use Rattle.map.specs.Rows.{hasEdge, hasFace, given, atEdge, withoutNode, counts}
 use Rattle.map.specs.Darts.{leaves, arrives, next, course, departures}
 use Rattle.map.specs.Links.{redirect, instead}
-use Rattle.map.specs.Form.{edgeNames, inFace, named}
 use Rattle.map.specs.Edits.{sharedNodes, joint, parts, healedCurve, heal}
 use Rattle.map.specs.Ticket.{carried}
-use Rattle.map.proofs.Laws.{formed-is}
+use Rattle.map.proofs.Laws.{names}
 use Rattle.map.proofs.Redirects.{redirect-has, redirect-next}
 use Rattle.map.proofs.RoundTrip.{nodes-wide, edge-wide}
 use Rattle.map_rows.specs.Rows.{nodesOf, edgesOf, nodeAt, edgeAt, edgeMap, EdgeRows}
 use Rattle.map_rows.proofs.Rows.{nodes-length, edges-length, faces-length, nodes-getD, edges-getD}
-use Rattle.map_rows.proofs.Lookups.{node-found, node-missing}
+use Rattle.map_rows.proofs.Lookups.{node-missing}
 use Rattle.map_rows.specs.Cells.{cellsOf}
 use Rattle.head.specs.Heads.{changedHead}
 use Rattle.head.proofs.Heads.{head-changed}
@@ -53,22 +53,23 @@ use Rattle.outcomes.specs.Outcomes.{Formed}
 use Rattle.outcomes.proofs.Formed.{ranges, formed-map, nodes-count, edges-count, edge-next, edges-size, edge-rows}
 use Rattle.outcomes.proofs.Formed.{node-numbers-once, edge-numbers-once, nodes-filled, edges-filled, faces-filled}
 use Rattle.outcomes.proofs.Formed.{edges-are-wide, lent-is}
+use Rattle.outcomes.proofs.FoundRows.{node-in, node-number}
 use Rattle.edit_heal.specs.declared.Parts.{Parts}
-use Rattle.outcomes.specs.Variants.{healTicket}
-use Rattle.edit_heal.specs.Heals.{PartsOf, courseAt, lineAt, renamed, healedSides, healedRows, placed}
-use Rattle.edit_heal.specs.Heals.{healedNumber, healedValue, healNumbers}
+use Rattle.outcomes.specs.Variants.{healTicket, ownOrNext}
+use Rattle.edit_heal.specs.Heals.{PartsOf, courseAt, joinedLine, ledToHealed, healedIncidence, healedRows}
+use Rattle.edit_heal.specs.Heals.{healedWritten, healedValue, healNumbers}
 use Rattle.edit_heal.proofs.Joints.{joint-is}
-use Rattle.edit_heal.proofs.Renamed.{cell-instead, redirect-wide, redirect-numbers, redirect-length}
-use Rattle.edit_heal.proofs.Renamed.{redirect-filled}
-use Rattle.edit_heal.proofs.Placed.{placedEdges, placed-table, placed-length}
+use Rattle.edit_heal.proofs.Redirected.{cell-instead, redirect-wide, redirect-numbers, redirect-length}
+use Rattle.edit_heal.proofs.Redirected.{redirect-filled}
+use Rattle.edit_heal.proofs.Written.{healedEdges, healed-table, healed-length}
 use Rattle.map_rows.proofs.Cells as cells
 
 -- ---- the map after the ticket
 
-carried-map : (m : Map) (keeps : Bool) (a b : ℕ) → carried m (healTicket keeps (pos a) (pos b)) .0 ≡ heal keeps a b m
+carried-map : (m : Map) (how : Variant) (a b : ℕ) → carried m (healTicket how (pos a) (pos b)) .0 ≡ heal how a b m
 unfolding carried
-carried-map m true a b = refl
-carried-map m false a b = refl
+carried-map m New a b = refl
+carried-map m Mod a b = refl
 
 -- ---- the curve
 
@@ -84,13 +85,13 @@ module _ {l : List ℤ} {n i j : ℕ} {s : Parts} (t : EdgeRows l n) (ps : Parts
       ap₂ joined (sym (course-at (s .first) (ps .first-below)) ∙ ap (course (edgeMap l n)) (ps .first))
       (sym (course-at (s .second) (ps .second-below)) ∙ ap (course (edgeMap l n)) (ps .second))
 
-  pub line-counted : lineAt l (s .first) (s .second) .count
+  pub line-counted : joinedLine l (s .first) (s .second) .count
       ≡ length (points (healedCurve (edgeMap l n) (edgeAt l i .number) (edgeAt l j .number)))
   line-counted = cells.line-count (points (joined (courseAt l (s .first)) (courseAt l (s .second))))
       ∙ ap (λ (c : Curve). length (points c)) curve-is
 
 module _ {nodes edges faces : List ℤ} {h : Head} (f : Formed nodes edges faces h) (i j : ℕ)
-    (hi : i < natAbs (h .edges)) (hj : j < natAbs (h .edges)) (keeps : Bool)
+    (hi : i < natAbs (h .edges)) (hj : j < natAbs (h .edges)) (how : Variant)
     (s : Parts) (ps : PartsOf edges (natAbs (h .edges)) i j s) where
   abbrev n : ℕ
   n = natAbs (h .edges)
@@ -107,20 +108,13 @@ module _ {nodes edges faces : List ℤ} {h : Head} (f : Formed nodes edges faces
   abbrev whole : Map
   whole = mapOf (lent nodes edges faces h)
 
-  -- ---- the links renamed
+  -- ---- the links that lead there
 
   abbrev number : ℕ
-  number = cond keeps a (natAbs (h .«next_edge»))
+  number = ownOrNext h how a
 
   abbrev z : ℤ
-  z = healedNumber h keeps (getD edges (i * 32) (pos 0))
-
-  number-is : z ≡ pos number
-  number-is = go keeps
-    where
-      go : (k : Bool) → healedNumber h k (getD edges (i * 32) (pos 0)) ≡ pos (cond k a (natAbs (h .«next_edge»)))
-      go true = cells-of (edge-rows f) i hi .number
-      go false = edge-next f .0
+  z = pos number
 
   abbrev c : Dart
   c = parts m a b .0
@@ -145,7 +139,7 @@ module _ {nodes edges faces : List ℤ} {h : Head} (f : Formed nodes edges faces
       (dart-least (edge-rows f) (reverseOf (s .second)) (reverse-below n (s .second) (ps .second-below)))
 
   abbrev t : List ℤ
-  t = renamed edges n (s .first) (s .second) z
+  t = ledToHealed edges n (s .first) (s .second) z
 
   abbrev N : ℕ
   N = length edges / edgeWidth * edgeWidth
@@ -162,10 +156,10 @@ module _ {nodes edges faces : List ℤ} {h : Head} (f : Formed nodes edges faces
   long₂ : length (m₂ .edges) ≡ n
   long₂ = redirect-length (rev d) (bwd number) d-least m₁ ∙ long₁
 
-  renamed-is : t ≡ filled N (flatMap edgeCells (m₂ .edges))
-  renamed-is =
-      (λ x. redirected (dartCell (back-is x)) (negℤ (number-is x))
-      (redirected (dartCell (ps .first x)) (number-is x) (sym (edges-filled f) x) n) n)
+  led-is : t ≡ filled N (flatMap edgeCells (m₂ .edges))
+  led-is =
+      (λ x. redirected (dartCell (back-is x)) (negℤ z)
+      (redirected (dartCell (ps .first x)) z (sym (edges-filled f) x) n) n)
       ∙ ap (λ (u : List ℤ). redirected (dartCell (rev d)) (dartCell (bwd number)) u n)
       (redirect-filled c (fwd number) c-least m N n (edges-are-wide f) (edges-length edges n))
       ∙ redirect-filled (rev d) (bwd number) d-least m₁ N n wide₁ long₁
@@ -210,21 +204,22 @@ module _ {nodes edges faces : List ℤ} {h : Head} (f : Formed nodes edges faces
       (rw (first-relinked .long) (edge-rows f .fits)) p k
       ∙ ap (newFor (dartCell (dartAt edges (reverseOf (s .second)))) (negℤ z))
       (redirected-link (dartCell (dartAt edges (s .first))) z edges n (edge-rows f .fits) p k)
-      ∙ (λ y. newFor (dartCell (back-is y)) (negℤ (number-is y))
-      (newFor (dartCell (ps .first y)) (number-is y) (cell-next (edge-rows f) p k y)))
+      ∙ (λ y. newFor (dartCell (back-is y)) (negℤ z)
+      (newFor (dartCell (ps .first y)) z (cell-next (edge-rows f) p k y)))
       ∙ ap (newFor (dartCell (rev d)) (dartCell (bwd number))) (cell-instead c (fwd number) c-least (next m x))
       ∙ cell-instead (rev d) (bwd number) d-least (instead c (fwd number) (next m x))
       ∙ ap dartCell (sym (redirect-next (rev d) (bwd number) m₁ x (redirect-has c (fwd number) m (x .edge) ∙ has)
       ∙ ap (instead (rev d) (bwd number)) (redirect-next c (fwd number) m x has)))
 
-  module _ (few : length (points (healedCurve m a b)) ≤ 12) where
-    row-written : cellsOf (healedSides t i (s .first) (s .second) z) (lineAt edges (s .first) (s .second))
+  module _ (few : length (points (healedCurve m a b)) ≤ maxPoints) where
+    row-written : cellsOf (healedIncidence t i (s .first) (s .second) z) (joinedLine edges (s .first) (s .second))
         ≡ edgeCells row
     unfolding row
     row-written =
         let rows = edge-rows f in
-        ap (λ (y : Curve). cellsOf (healedSides t i (s .first) (s .second) z) (lineOf (points y))) (curve-is rows ps)
-        ∙ cells.row-cells (healedSides t i (s .first) (s .second) z) row number-is
+        ap (λ (y : Curve). cellsOf (healedIncidence t i (s .first) (s .second) z) (lineOf (points y)))
+        (curve-is rows ps)
+        ∙ cells.row-cells (healedIncidence t i (s .first) (s .second) z) row refl
         (node-kept (s .first) (ps .first-below) ∙ cell-leaves rows (s .first) (ps .first-below)
         ∙ ap (λ (x : Dart). pos (leaves m x)) (ps .first))
         (node-kept (reverseOf (s .second)) (reverse-below n (s .second) (ps .second-below))
@@ -238,7 +233,7 @@ module _ {nodes edges faces : List ℤ} {h : Head} (f : Formed nodes edges faces
         ∙ ap (λ (r : Edge). pos (r .right)) (sym (edge-of rows i hi)))
         few
 
-    row-wide : length (edgeCells row) ≡ 32
+    row-wide : length (edgeCells row) ≡ edgeWidth
     unfolding row
     row-wide = edge-wide row few
 
@@ -258,27 +253,27 @@ module _ {nodes edges faces : List ℤ} {h : Head} (f : Formed nodes edges faces
       once : Distinct (map (λ (e : Edge). e .number) (m₂ .edges))
       once = subst Distinct (sym numbers) (edge-numbers-once f)
 
-      kept : keeps ≡ true → row .number ≡ getD (m₂ .edges) i row .number
+      kept : how ≡ Mod → row .number ≡ getD (m₂ .edges) i row .number
       unfolding row
-      kept e = ap (λ (k : Bool). cond k a (natAbs (h .«next_edge»))) e ∙ sym (number-at i hi)
+      kept e = ap (λ (k : Variant). ownOrNext h k a) e ∙ sym (number-at i hi)
 
-      fits : length (m₂ .edges) * 32 ≤ N
+      fits : length (m₂ .edges) * edgeWidth ≤ N
       fits = rw long₂ (omega (arith, edges-count f .2, edges-size f .0))
 
-      edges-healed : healedRows edges n i j (s .first) (s .second) keeps z (lineAt edges (s .first) (s .second))
-          ≡ filled N (flatMap edgeCells (placedEdges keeps a b row (m₂ .edges)))
+      edges-healed : healedRows edges n i j (s .first) (s .second) how z (joinedLine edges (s .first) (s .second))
+          ≡ filled N (flatMap edgeCells (healedEdges how a b row (m₂ .edges)))
       edges-healed =
-          (λ x. placed keeps (renamed-is x) (sym long₂ x) i j (row-written x))
-          ∙ placed-table N (m₂ .edges) wide₂ once i j (rw long₂ hi) (rw long₂ hj) apart row row row-wide fits keeps kept
-          ∙ ap₂ (λ (x y : ℕ). filled N (flatMap edgeCells (placedEdges keeps x y row (m₂ .edges)))) (number-at i hi)
+          (λ x. healedWritten how (led-is x) (sym long₂ x) i j (row-written x))
+          ∙ healed-table N (m₂ .edges) wide₂ once i j (rw long₂ hi) (rw long₂ hj) apart row row row-wide fits how kept
+          ∙ ap₂ (λ (x y : ℕ). filled N (flatMap edgeCells (healedEdges how x y row (m₂ .edges)))) (number-at i hi)
           (number-at j hj)
 
-      edges-fewer : length (placedEdges keeps a b row (m₂ .edges)) ≡ n - 1
+      edges-fewer : length (healedEdges how a b row (m₂ .edges)) ≡ n - 1
       edges-fewer =
-          ap₂ (λ (x y : ℕ). length (placedEdges keeps x y row (m₂ .edges))) (sym (number-at i hi))
+          ap₂ (λ (x y : ℕ). length (healedEdges how x y row (m₂ .edges))) (sym (number-at i hi))
           (sym (number-at j hj))
-          ∙ placed-length N (m₂ .edges) wide₂ once i j (rw long₂ hi)
-          (rw long₂ hj) apart row row row-wide fits keeps kept
+          ∙ healed-length N (m₂ .edges) wide₂ once i j (rw long₂ hi)
+          (rw long₂ hj) apart row row row-wide fits how kept
           ∙ ap (λ (k : ℕ). k - 1) long₂
 
       -- ---- the nodes
@@ -291,10 +286,10 @@ module _ {nodes edges faces : List ℤ} {h : Head} (f : Formed nodes edges faces
         joined-node = Option·getD (joint m a b) 0
 
         below : k < nodeCount
-        below = node-found nodes nodeCount (ranges f .node-rows) (s .joint) k at .0
+        below = node-in f (s .joint) k at
 
         is-joint : joined-node ≡ nodeAt nodes k .number
-        is-joint = ap natAbs (sym (ps .joint) ∙ node-found nodes nodeCount (ranges f .node-rows) (s .joint) k at .1)
+        is-joint = ap natAbs (sym (ps .joint) ∙ node-number f (s .joint) k at)
 
         in-nodes : k < length (nodesOf nodes nodeCount)
         in-nodes = rw (nodes-length nodes nodeCount) below
@@ -331,38 +326,38 @@ module _ {nodes edges faces : List ℤ} {h : Head} (f : Formed nodes edges faces
         healed =
             record {
               nodes = withoutNode joined-node (whole .nodes);
-              edges = placedEdges keeps a b row (m₂ .edges);
+              edges = healedEdges how a b row (m₂ .edges);
               faces = whole .faces;
-              next = counts (whole .next .nodes + 0) (whole .next .edges + cond keeps 0 1) (whole .next .faces + 0);
+              next = given (healNumbers how) whole .next;
             }
 
-        heal-is : heal keeps a b whole ≡ healed
+        heal-is : heal how a b whole ≡ healed
         unfolding heal healed row mapOf healedCurve parts joint sharedNodes departures leaves next course edge redirect
             atEdge
         heal-is = refl
 
         healed-lent : lentOf (sizesOf (lent nodes edges faces h)) healed
             ≡ lent (closed nodeWidth nodes nodeCount k)
-            (healedRows edges n i j (s .first) (s .second) keeps z (lineAt edges (s .first) (s .second))) faces
-            (changedHead h (counts 0 0 0) (counts 1 1 0) (healNumbers keeps))
+            (healedRows edges n i j (s .first) (s .second) how z (joinedLine edges (s .first) (s .second))) faces
+            (changedHead h (counts 0 0 0) (counts 1 1 0) (healNumbers how))
         unfolding healed mapOf
         healed-lent =
             lent-is (sizesOf (lent nodes edges faces h)) healed nodes-healed (sym edges-healed) (faces-filled f)
-            (head-changed h healed (counts 0 0 0) (counts 1 1 0) (healNumbers keeps)
+            (head-changed h healed (counts 0 0 0) (counts 1 1 0) (healNumbers how)
             (omega (arith, nodes-fewer, below)) (omega (arith, edges-fewer))
             (omega (arith, faces-length faces (natAbs (h .faces)))) refl refl refl)
 
         -- the ticket carried out
         pub heal-carried : {l r : List ℤ} → l ≡ closed nodeWidth nodes nodeCount k → r
-            ≡ healedRows edges n i j (s .first) (s .second) keeps z (lineAt edges (s .first) (s .second))
-            → lentOf (sizesOf (lent nodes edges faces h)) (carried whole (healTicket keeps (pos a) (pos b)) .0)
-            ≡ lent l r faces (changedHead h (counts 0 0 0) (counts 1 1 0) (healNumbers keeps))
+            ≡ healedRows edges n i j (s .first) (s .second) how z (joinedLine edges (s .first) (s .second))
+            → lentOf (sizesOf (lent nodes edges faces h)) (carried whole (healTicket how (pos a) (pos b)) .0)
+            ≡ lent l r faces (changedHead h (counts 0 0 0) (counts 1 1 0) (healNumbers how))
         heal-carried el er =
-            ap (lentOf (sizesOf (lent nodes edges faces h))) (map-carried keeps ∙ heal-is) ∙ healed-lent
-            ∙ ap₂ (λ (x y : List ℤ). lent x y faces (changedHead h (counts 0 0 0) (counts 1 1 0) (healNumbers keeps)))
+            ap (lentOf (sizesOf (lent nodes edges faces h))) (map-carried how ∙ heal-is) ∙ healed-lent
+            ∙ ap₂ (λ (x y : List ℤ). lent x y faces (changedHead h (counts 0 0 0) (counts 1 1 0) (healNumbers how)))
             (sym el) (sym er)
           where
-            map-carried : (x : Bool) → carried whole (healTicket x (pos a) (pos b)) .0 ≡ heal x a b whole
+            map-carried : (x : Variant) → carried whole (healTicket x (pos a) (pos b)) .0 ≡ heal x a b whole
             map-carried x = carried-map whole x a b
 
   -- ---- the joint has a row
@@ -374,19 +369,14 @@ module _ {nodes edges faces : List ℤ} {h : Head} (f : Formed nodes edges faces
   edge-in = subst (λ (r : Edge). List·Memᴰ r (edgesOf edges n)) (edges-getD edges n i (edgeAt edges i) hi)
       (getD-in (edgesOf edges n) i (edgeAt edges i) (rw (edges-length edges n) hi))
 
-  names : edgeNames whole (edgeAt edges i) ≡ true
-  unfolding named mapOf
-  names =
-      all-each (edgeNames whole) (edgesOf edges n)
-      (and-right (allOf (λ r. inFace whole (r .face)) (whole .nodes)) (allOf (edgeNames whole) (whole .edges))
-      (formed-is whole (formed-map f) .named)) (edgeAt edges i) edge-in
-
   ends-named : hasNode whole (edgeAt edges i .start) && hasNode whole (edgeAt edges i .end) ≡ true
+  unfolding mapOf
   ends-named =
       let e = edgeAt edges i in
       and-left _ (hasEdge whole (e .nextLeft .edge))
       (and-left _ (hasEdge whole (e .nextRight .edge))
-      (and-left _ (hasFace whole (e .left)) (and-left _ (hasFace whole (e .right)) names)))
+      (and-left _ (hasFace whole (e .left))
+      (and-left _ (hasFace whole (e .right)) (names whole (formed-map f) e edge-in))))
 
   module _ (some-joint : isSome (joint m a b) ≡ true) where
     joint-named : hasNode whole (Option·getD (joint m a b) 0) ≡ true
@@ -409,12 +399,11 @@ module _ {nodes edges faces : List ℤ} {h : Head} (f : Formed nodes edges faces
         ]
 
     pub some-node : 1 ≤ count
-    some-node = let t = node-found nodes count (ranges f .node-rows) (s .joint) (joint-row .0) (joint-row .1) .0 in
-        omega arith
+    some-node = let t = node-in f (s .joint) (joint-row .0) (joint-row .1) in omega arith
 
 -- the value
-pub value-carried : {nodes edges faces : List ℤ} {h : Head} → Formed nodes edges faces h → (keeps : Bool) (x y : ℤ)
-    → carried (mapOf (lent nodes edges faces h)) (healTicket keeps x y) .1 ≡ healedValue h keeps
+pub value-carried : {nodes edges faces : List ℤ} {h : Head} → Formed nodes edges faces h → (how : Variant) (x y : ℤ)
+    → carried (mapOf (lent nodes edges faces h)) (healTicket how x y) .1 ≡ healedValue h how
 unfolding carried mapOf
-value-carried f true x y = refl
-value-carried f false x y = sym (edge-next f .0)
+value-carried f Mod x y = refl
+value-carried f New x y = sym (edge-next f .0)

@@ -13,6 +13,7 @@ use Rattle.lists.specs.Scans.{keep, find, isSome}
 use Rattle.lists.proofs.Bools.{which, same-refl, same-true, not-true, cond-has}
 use Rattle.curves.proofs.Runs.{and-left, and-right}
 use Rattle.planar_maps.specs.Map.{Dart, fwd, bwd}
+use Rattle.map.specs.Limits.{edgeWidth}
 use Rattle.map.specs.Rows.{Edge, Map, edge}
 use Rattle.map.specs.Darts.{leaves, arrives, edgeEnds}
 use Rattle.map.specs.Edits.{sharedNodes, joint, parts}
@@ -23,7 +24,7 @@ use Rattle.darts.specs.Positions.{dartAt}
 use Rattle.darts.proofs.Positions.{dart-even, dart-odd, edge-of}
 use Rattle.reason_departures.specs.Turning.{joinsAt}
 use Rattle.reason_departures.proofs.Ends.{start-cell, end-cell}
-use Rattle.edit_heal.specs.Heals.{leavingAt, arrivingAt, PartsOf}
+use Rattle.edit_heal.specs.Heals.{dartLeaving, dartArriving, PartsOf}
 
 -- ---- the first of two nodes that both tests take
 
@@ -97,42 +98,42 @@ module _ {l : List ℤ} {n : ℕ} (t : EdgeRows l n) (i j : ℕ) (hi : i < n) (h
   either-below : (x : Bool) → cond x (j * 2) (j * 2 + 1) < n * 2
   either-below x = cond-has (λ (p : ℕ). p < n * 2) x (omega arith) (omega arith)
 
-  leaving-is : (k : ℕ) → dartAt l (leavingAt l j (pos k)) ≡ cond (same (leaves m (fwd b)) k) (fwd b) (bwd b)
+  leaving-is : (k : ℕ) → dartAt l (dartLeaving l j (pos k)) ≡ cond (same (leaves m (fwd b)) k) (fwd b) (bwd b)
   unfolding leaves
   leaving-is k = ap (λ (z : ℤ). dartAt l (cond (sameZ z (pos k)) (j * 2) (j * 2 + 1))) (start-cell t j hj)
       ∙ ap (λ (x : Bool). dartAt l (cond x (j * 2) (j * 2 + 1))) (same-pos (edge m b .start) k)
       ∙ either (same (edge m b .start) k)
 
-  arriving-is : (k : ℕ) → dartAt l (arrivingAt l j (pos k)) ≡ cond (same (arrives m (fwd b)) k) (fwd b) (bwd b)
+  arriving-is : (k : ℕ) → dartAt l (dartArriving l j (pos k)) ≡ cond (same (arrives m (fwd b)) k) (fwd b) (bwd b)
   unfolding leaves
   arriving-is k = ap (λ (z : ℤ). dartAt l (cond (sameZ z (pos k)) (j * 2) (j * 2 + 1))) (end-cell t j hj)
       ∙ ap (λ (x : Bool). dartAt l (cond x (j * 2) (j * 2 + 1))) (same-pos (edge m b .end) k)
       ∙ either (same (edge m b .end) k)
 
-  pub parts-at-end : (v : ℤ) → v ≡ getD l (i * 32 + 2) (pos 0) → joinsAt m b (edge m a .end) ≡ true
-      → PartsOf l n i j (record { first = i * 2; second = leavingAt l j v; joint = v })
+  pub parts-at-end : (v : ℤ) → v ≡ getD l (i * edgeWidth + 2) (pos 0) → joinsAt m b (edge m a .end) ≡ true
+      → PartsOf l n i j (record { first = i * 2; second = dartLeaving l j v; joint = v })
   parts-at-end v ev e =
       let z : v ≡ pos (edge m a .end) = ev ∙ end-cell t i hi in
       let q = joint-end m a b e in
       record {
         first-below = omega arith;
-        second-below = either-below (sameZ (getD l (j * 32 + 1) (pos 0)) v);
+        second-below = either-below (sameZ (getD l (j * edgeWidth + 1) (pos 0)) v);
         first = dart-even l i ∙ sym (ap (λ (x : Dart × Dart). x .0) (parts-end m a b q));
-        second = ap (λ (x : ℤ). dartAt l (leavingAt l j x)) z ∙ leaving-is (edge m a .end)
+        second = ap (λ (x : ℤ). dartAt l (dartLeaving l j x)) z ∙ leaving-is (edge m a .end)
             ∙ sym (ap (λ (x : Dart × Dart). x .1) (parts-end m a b q));
         joint = z ∙ sym (ap (λ (x : Option ℕ). pos (Option·getD x 0)) q);
       }
 
-  pub parts-at-start : (u : ℤ) → u ≡ getD l (i * 32 + 1) (pos 0) → joinsAt m b (edge m a .end) ≡ false
-      → isSome (joint m a b) ≡ true → PartsOf l n i j (record { first = arrivingAt l j u; second = i * 2; joint = u })
+  pub parts-at-start : (u : ℤ) → u ≡ getD l (i * edgeWidth + 1) (pos 0) → joinsAt m b (edge m a .end) ≡ false
+      → isSome (joint m a b) ≡ true → PartsOf l n i j (record { first = dartArriving l j u; second = i * 2; joint = u })
   parts-at-start u eu e h =
       let z : u ≡ pos (edge m a .start) = eu ∙ start-cell t i hi in
       let q = joint-start m a b e h in
       let p = parts-start m a b (q .0) (apart m a b e (q .1)) in
       record {
-        first-below = either-below (sameZ (getD l (j * 32 + 2) (pos 0)) u);
+        first-below = either-below (sameZ (getD l (j * edgeWidth + 2) (pos 0)) u);
         second-below = omega arith;
-        first = ap (λ (x : ℤ). dartAt l (arrivingAt l j x)) z ∙ arriving-is (edge m a .start)
+        first = ap (λ (x : ℤ). dartAt l (dartArriving l j x)) z ∙ arriving-is (edge m a .start)
             ∙ sym (ap (λ (x : Dart × Dart). x .0) p);
         second = dart-even l i ∙ sym (ap (λ (x : Dart × Dart). x .1) p);
         joint = z ∙ sym (ap (λ (x : Option ℕ). pos (Option·getD x 0)) (q .0));

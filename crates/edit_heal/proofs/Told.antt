@@ -1,6 +1,6 @@
 -- The first reason against a heal from its parts. Assumes nothing.
 use mathlib.Core.Path.{_≡_, refl, sym, ap, _∙_}
-use mathlib.Core.Bool.{Bool, true, false, not, _||_, true≢false}
+use mathlib.Core.Bool.{Bool, true, false, _||_, true≢false}
 use mathlib.Core.List.{List, [], _∷_, _++_}
 use Prim.Native.Nat.{ℕ, _≤_, _<_}
 use lib.Dec.{ltb, lit<, lit≤}
@@ -13,6 +13,8 @@ use Rattle.lists.proofs.Bools.{differ}
 use Rattle.curves.specs.Curves.{points, maxPoints}
 use Rattle.map.specs.declared.Counts.{Counts}
 use Rattle.map.specs.declared.Head.{Head}
+use Rattle.map.specs.declared.Variant.{Variant}
+use Rattle.map.specs.declared.Variant.the-variants.{New, Mod}
 use Rattle.map.specs.Rows.{Map, mapOf, sizesOf, edge, counts}
 use Rattle.map.specs.Darts.{departures, leaves, course}
 use Rattle.map.specs.Edits.{sharedNodes, joint, parts, healedCurve}
@@ -20,10 +22,10 @@ use Rattle.map.specs.Reasons.{Reasons, firstReason, reasons, noEdge}
 use Rattle.map.proofs.Reasons.{first-hit, first-miss, first-zero, first-append, first-after}
 use Rattle.map_rows.specs.Rows.{edgeAt, edgeMap}
 use Rattle.head.specs.Heads.{Few}
-use Rattle.links.proofs.Darts.{row-named}
 use Rattle.form_ranges.specs.Ranges.{lent}
 use Rattle.outcomes.specs.Outcomes.{Formed}
-use Rattle.outcomes.proofs.Formed.{edge-rows, spent-at}
+use Rattle.outcomes.proofs.Formed.{spent-at}
+use Rattle.outcomes.proofs.FoundRows.{edge-there}
 use Rattle.reason_departures.specs.Turning.{jointReasons}
 use Rattle.outcomes.specs.Variants.{healTicket}
 use Rattle.edit_heal.specs.Heals.{lateReasons, healNumbers}
@@ -33,13 +35,14 @@ or-left true y e = absurd (true≢false e)
 or-left false y e = refl
 
 -- few numbers are given
-pub few-numbers : (keeps : Bool) {n : Counts} → n ≡ healNumbers keeps → Few n
-few-numbers true e = rw e (record { nodes = lit≤ tt; edges = lit≤ tt; faces = lit≤ tt })
-few-numbers false e = rw e (record { nodes = lit≤ tt; edges = lit≤ tt; faces = lit≤ tt })
+pub few-numbers : (how : Variant) {n : Counts} → n ≡ healNumbers how → Few n
+few-numbers Mod e = rw e (record { nodes = lit≤ tt; edges = lit≤ tt; faces = lit≤ tt })
+few-numbers New e = rw e (record { nodes = lit≤ tt; edges = lit≤ tt; faces = lit≤ tt })
 
--- no number of points above 12
-pub late-few : (count : ℕ) (h : Head) (keeps : Bool) → firstReason (lateReasons count h keeps) ≡ 0 → count ≤ 12
-late-few count h keeps e = ltb-false maxPoints count (first-zero 18 _ _ (lit< tt) e .0)
+-- no more points than fit
+pub late-few : (count : ℕ) (h : Head) (how : Variant) → firstReason (lateReasons count h how) ≡ 0
+    → count ≤ maxPoints
+late-few count h how e = ltb-false maxPoints count (first-zero 18 _ _ (lit< tt) e .0)
 
 -- 16 and 17 do not hold
 module _ (m : Map) (a b : ℕ) (e : firstReason (jointReasons m a b) ≡ 0) where
@@ -50,21 +53,22 @@ module _ (m : Map) (a b : ℕ) (e : firstReason (jointReasons m a b) ≡ 0) wher
   edges-differ = differ a b (or-left (same a b) (same (length (sharedNodes m a b)) 0)
       (first-zero 16 _ _ (lit< tt) e .0))
 
-module _ {nodes edges faces : List ℤ} {h : Head} (f : Formed nodes edges faces h) where
+module _ {nodes edges faces : List ℤ} {h : Head} (f : Formed nodes edges faces h) (how : Variant) where
+  abbrev whole : Map
+  whole = mapOf (lent nodes edges faces h)
+
+  abbrev listed : ℤ → ℤ → Reasons
+  listed y z = reasons (sizesOf (lent nodes edges faces h)) whole (healTicket how y z)
+
   -- ---- 4
 
-  pub row-missing : (keeps : Bool) (y z : ℤ) → noEdge (mapOf (lent nodes edges faces h)) y
-      || noEdge (mapOf (lent nodes edges faces h)) z ≡ true
-      → firstReason (reasons (sizesOf (lent nodes edges faces h)) (mapOf (lent nodes edges faces h))
-      (healTicket keeps y z)) ≡ 4
+  pub row-missing : (y z : ℤ) → noEdge whole y || noEdge whole z ≡ true → firstReason (listed y z) ≡ 4
   unfolding reasons
-  row-missing true y z e = first-hit 4 _ _ e
-  row-missing false y z e = first-hit 4 _ _ e
-
-  edge-there : (i : ℕ) → i < natAbs (h .edges)
-      → noEdge (mapOf (lent nodes edges faces h)) (pos (edgeAt edges i .number)) ≡ false
-  unfolding mapOf
-  edge-there i t = ap not (row-named (edge-rows f) i t)
+  row-missing y z e = go how
+    where
+      go : (k : Variant) → firstReason (reasons (sizesOf (lent nodes edges faces h)) whole (healTicket k y z)) ≡ 4
+      go New = first-hit 4 _ _ e
+      go Mod = first-hit 4 _ _ e
 
   -- ---- the others
 
@@ -78,33 +82,28 @@ module _ {nodes edges faces : List ℤ} {h : Head} (f : Formed nodes edges faces
     abbrev b : ℕ
     b = edgeAt edges j .number
 
-    abbrev late : Bool → Reasons
-    late keeps = lateReasons (length (points (healedCurve m a b))) h keeps
+    abbrev late : Reasons
+    late = lateReasons (length (points (healedCurve m a b))) h how
 
-    abbrev listed : Bool → Reasons
-    listed keeps = reasons (sizesOf (lent nodes edges faces h)) (mapOf (lent nodes edges faces h))
-        (healTicket keeps (pos a) (pos b))
-
-    abbrev four : Bool
-    four = noEdge (mapOf (lent nodes edges faces h)) (pos a) || noEdge (mapOf (lent nodes edges faces h)) (pos b)
-
-    in-parts : (keeps : Bool) → firstReason (listed keeps)
-        ≡ firstReason ((4, four) ∷ (jointReasons m a b ++ late keeps))
+    in-parts : firstReason (listed (pos a) (pos b))
+        ≡ firstReason ((4, noEdge whole (pos a) || noEdge whole (pos b)) ∷ (jointReasons m a b ++ late))
     unfolding reasons mapOf firstReason healedCurve parts joint sharedNodes departures leaves course edge
-    in-parts true = refl
-    in-parts false = ap (λ (x : Bool). firstReason
-        ((4, four) ∷ (jointReasons m a b
-        ++ ((18, ltb maxPoints (length (points (healedCurve m a b)))) ∷ (21, x) ∷ []))))
-        (sym (spent-at f (counts 0 1 0)))
+    in-parts = go how
+      where
+        go : (k : Variant) → firstReason (reasons (sizesOf (lent nodes edges faces h)) whole
+            (healTicket k (pos a) (pos b)))
+            ≡ firstReason ((4, noEdge whole (pos a) || noEdge whole (pos b))
+            ∷ (jointReasons m a b ++ lateReasons (length (points (healedCurve m a b))) h k))
+        go Mod = refl
+        go New = ap (λ (x : Bool). firstReason ((4, noEdge whole (pos a) || noEdge whole (pos b)) ∷ (jointReasons m a b
+            ++ ((18, ltb maxPoints (length (points (healedCurve m a b)))) ∷ (21, x) ∷ []))))
+            (sym (spent-at f (counts 0 1 0)))
 
-    known : four ≡ false
-    known = rw (edge-there i hi, edge-there j hj)
+    known : noEdge whole (pos a) || noEdge whole (pos b) ≡ false
+    known = rw (edge-there f i hi, edge-there f j hj)
 
-    pub early-reason : (keeps : Bool) (r : ℕ) → 0 < r → r ≡ firstReason (jointReasons m a b)
-        → firstReason (listed keeps) ≡ r
-    early-reason keeps r some e = in-parts keeps ∙ first-miss 4 _ _ known
-        ∙ first-append (jointReasons m a b) (late keeps) r some (sym e)
+    pub early-reason : (r : ℕ) → 0 < r → r ≡ firstReason (jointReasons m a b) → firstReason (listed (pos a) (pos b)) ≡ r
+    early-reason r some e = in-parts ∙ first-miss 4 _ _ known ∙ first-append (jointReasons m a b) late r some (sym e)
 
-    pub late-reason : (keeps : Bool) → firstReason (jointReasons m a b) ≡ 0 → firstReason (listed keeps)
-        ≡ firstReason (late keeps)
-    late-reason keeps e = in-parts keeps ∙ first-miss 4 _ _ known ∙ first-after (jointReasons m a b) (late keeps) refl e
+    pub late-reason : firstReason (jointReasons m a b) ≡ 0 → firstReason (listed (pos a) (pos b)) ≡ firstReason late
+    late-reason e = in-parts ∙ first-miss 4 _ _ known ∙ first-after (jointReasons m a b) late refl e

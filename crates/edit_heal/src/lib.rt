@@ -4,32 +4,31 @@ use lists::Found;
 use map::Counts;
 use map::Head;
 use map::Map;
+use map::Variant;
 use map_rows::Incidence;
 use outcomes::Done;
 ghost use mathlib.Core.Path.{_≡_};
-ghost use mathlib.Core.Bool.{true};
 ghost use Prim.Native.Nat.{ℕ, _+_, _*_, _/_, _≤_, _<_};
 ghost use lib.IntN.{pos, natAbs};
-ghost use lib.ListN.{length, getD};
-ghost use lib.Signed.{nonNeg};
-ghost use Rattle.lists.specs.Scans.{isSome};
+ghost use lib.ListN.{length};
 ghost use Rattle.lists.specs.Tables.{place};
 ghost use Rattle.lists.specs.declared.Found.the-variants.{At};
 ghost use Rattle.tables.specs.Tables.{sameZ, column, closed};
-ghost use Rattle.curves.specs.Curves.{points};
+ghost use Rattle.curves.specs.Curves.{points, maxPoints};
 ghost use Rattle.curve_edits.specs.Lines.{lineOf};
+ghost use Rattle.map.specs.Limits.{maxEdges, nodeWidth, edgeWidth};
 ghost use Rattle.map.specs.Rows.{counts};
-ghost use Rattle.map.specs.Edits.{joint};
 ghost use Rattle.map.specs.Reasons.{firstReason};
-ghost use Rattle.map_rows.specs.Rows.{edgeAt, edgeMap, EdgeRow, EdgeRows, NodeRows};
+ghost use Rattle.map_rows.specs.Rows.{edgeAt, EdgeRow, NodeRows};
 ghost use Rattle.map_rows.specs.Cells.{cellsOf};
 ghost use Rattle.head.specs.Heads.{Counted, changedHead};
 ghost use Rattle.form_ranges.specs.Ranges.{lent};
 ghost use Rattle.outcomes.specs.Outcomes.{Formed, decided, outcome};
 ghost use Rattle.outcomes.specs.Variants.{healTicket};
-ghost use Rattle.edit_heal.specs.Heals.{leavingAt, arrivingAt, PartsOf, courseAt, lineAt, renamed, healedSides};
-ghost use Rattle.edit_heal.specs.Heals.{closedUp, placed, healedRows, lateReasons, healedNumber, healedValue};
-ghost use Rattle.edit_heal.specs.Heals.{healNumbers};
+ghost use Rattle.edit_heal.specs.Heals.{dartLeaving, dartArriving, JointRows, PartsOf, courseAt, joinedLine};
+ghost use Rattle.edit_heal.specs.Heals.{TwoDarts, ledToHealed, RowAndDarts, healedIncidence, closedUp, TwoRows};
+ghost use Rattle.edit_heal.specs.Heals.{healedWritten, HealableRows, healedRows, lateReasons, healedValue};
+ghost use Rattle.edit_heal.specs.Heals.{healNumbers, HealableEdges, HealedTables};
 
 // ---- the two directed edges that are joined
 
@@ -41,9 +40,9 @@ struct Parts {
 }
 
 // The position of the directed edge of row j that leaves the node.
-fn leaving(edges: &[i64], j: usize, node: i64) -> usize
-    requires { ⌜ (j * 32 + 32 ≤ length (now edges)) × (j ≤ 2000) ⌝ }
-    ensures { λ r. ⌜ r ≡ leavingAt (now (edges .entry)) j node ⌝ }
+fn dart_leaving(edges: &[i64], j: usize, node: i64) -> usize
+    requires { ⌜ (j * edgeWidth + edgeWidth ≤ length (now edges)) × (j ≤ maxEdges) ⌝ }
+    ensures { λ r. ⌜ r ≡ dartLeaving (now (edges .entry)) j node ⌝ }
 {
     if edges[j * map::EDGE_WIDTH + map::START] == node {
         j * 2
@@ -53,9 +52,9 @@ fn leaving(edges: &[i64], j: usize, node: i64) -> usize
 }
 
 // The position of the directed edge of row j that arrives at the node.
-fn arriving(edges: &[i64], j: usize, node: i64) -> usize
-    requires { ⌜ (j * 32 + 32 ≤ length (now edges)) × (j ≤ 2000) ⌝ }
-    ensures { λ r. ⌜ r ≡ arrivingAt (now (edges .entry)) j node ⌝ }
+fn dart_arriving(edges: &[i64], j: usize, node: i64) -> usize
+    requires { ⌜ (j * edgeWidth + edgeWidth ≤ length (now edges)) × (j ≤ maxEdges) ⌝ }
+    ensures { λ r. ⌜ r ≡ dartArriving (now (edges .entry)) j node ⌝ }
 {
     if edges[j * map::EDGE_WIDTH + map::END] == node {
         j * 2
@@ -66,9 +65,7 @@ fn arriving(edges: &[i64], j: usize, node: i64) -> usize
 
 // The two directed edges that are joined, in the direction of edge row i.
 fn parts_of(edges: &[i64], e: usize, i: usize, j: usize) -> Parts
-    requires { ⌜ EdgeRows (now edges) e × (e ≤ 2000) × (i < e) × (j < e)
-        × (isSome (joint (edgeMap (now edges) e) (edgeAt (now edges) i .number) (edgeAt (now edges) j .number))
-        ≡ true) ⌝ }
+    requires { ⌜ JointRows (now edges) e i j ⌝ }
     ensures { λ r. ⌜ PartsOf (now (edges .entry)) e i j r ⌝ }
 {
     let u = edges[i * map::EDGE_WIDTH + map::START];
@@ -76,12 +73,12 @@ fn parts_of(edges: &[i64], e: usize, i: usize, j: usize) -> Parts
     if reason_departures::joins_at(edges, e, j, v) {
         return Parts {
             first: i * 2,
-            second: leaving(edges, j, v),
+            second: dart_leaving(edges, j, v),
             joint: v,
         };
     }
     Parts {
-        first: arriving(edges, j, u),
+        first: dart_arriving(edges, j, u),
         second: i * 2,
         joint: u,
     }
@@ -103,7 +100,7 @@ fn course_of(edges: &[i64], p: usize) -> Line
 // The curve of p, and after it that of q.
 fn joined_line(edges: &[i64], p: usize, q: usize) -> Line
     requires { ⌜ EdgeRow (now edges) (p / 2) × EdgeRow (now edges) (q / 2) ⌝ }
-    ensures { λ r. ⌜ r ≡ lineAt (now (edges .entry)) p q ⌝ }
+    ensures { λ r. ⌜ r ≡ joinedLine (now (edges .entry)) p q ⌝ }
 {
     let a = course_of(edges, p);
     let b = course_of(edges, q);
@@ -117,9 +114,9 @@ fn joined_line(edges: &[i64], p: usize, q: usize) -> Line
 // ---- the edge rows
 
 // What led to p leads to the edge `number`, and what led to the reverse of q to its reverse.
-fn rename(edges: &mut [i64], e: usize, p: usize, q: usize, number: i64)
-    requires { ⌜ EdgeRows (now edges) e × (e ≤ 2000) × (p < e * 2) × (q < e * 2) × (nonNeg number ≡ true) ⌝ }
-    ensures { λ r. ⌜ now (edges .exit) ≡ renamed (now (edges .entry)) e p q number ⌝ }
+fn lead_to_healed(edges: &mut [i64], e: usize, p: usize, q: usize, number: i64)
+    requires { ⌜ TwoDarts (now edges) e p q number ⌝ }
+    ensures { λ r. ⌜ now (edges .exit) ≡ ledToHealed (now (edges .entry)) e p q number ⌝ }
 {
     let c = darts::dart_at(edges, p);
     let d = darts::dart_at(edges, darts::reverse(q));
@@ -128,10 +125,9 @@ fn rename(edges: &mut [i64], e: usize, p: usize, q: usize, number: i64)
 }
 
 // The numbers of the healed edge, with the faces of row i.
-fn healed_sides(edges: &[i64], i: usize, p: usize, q: usize, number: i64) -> Incidence
-    requires { ⌜ (i * 32 + 32 ≤ length (now edges)) × (p / 2 * 32 + 32 ≤ length (now edges))
-        × (q / 2 * 32 + 32 ≤ length (now edges)) × (p < 5000) × (q < 5000) ⌝ }
-    ensures { λ r. ⌜ r ≡ healedSides (now (edges .entry)) i p q number ⌝ }
+fn healed_incidence(edges: &[i64], i: usize, p: usize, q: usize, number: i64) -> Incidence
+    requires { ⌜ RowAndDarts (now edges) i p q ⌝ }
+    ensures { λ r. ⌜ r ≡ healedIncidence (now (edges .entry)) i p q number ⌝ }
 {
     let start = darts::dart_cell(edges, p, map::START);
     let end = darts::dart_cell(edges, darts::reverse(q), map::START);
@@ -157,18 +153,29 @@ fn closed_up(i: usize, j: usize) -> usize
     if j < i { i - 1 } else { i }
 }
 
-// A row in the place of row i or, where its number goes, last; row j goes.
-fn place_row(edges: &mut [i64], e: usize, i: usize, j: usize, keeps: bool, s: Incidence, l: Line)
-    requires { ⌜ (i < e) × (j < e) × (i ≡ j → ⊥) × (e * 32 ≤ length (now edges)) × (l .count ≤ 1000) ⌝ }
-    ensures { λ r. ⌜ now (edges .exit) ≡ placed keeps (now (edges .entry)) e i j (cellsOf s l) ⌝ }
+// The healed edge in the place of row i or, where that number goes, last; row j goes.
+fn write_healed(
+    edges: &mut [i64],
+    e: usize,
+    i: usize,
+    j: usize,
+    how: Variant,
+    s: Incidence,
+    l: Line,
+)
+    requires { ⌜ TwoRows (now edges) e i j × (l .count ≤ maxPoints) ⌝ }
+    ensures { λ r. ⌜ now (edges .exit) ≡ healedWritten how (now (edges .entry)) e i j (cellsOf s l) ⌝ }
 {
-    if keeps {
-        map_rows::write_edge(edges, i, s, l);
-        tables::remove_row(edges, map::EDGE_WIDTH, e, j);
-    } else {
-        tables::remove_row(edges, map::EDGE_WIDTH, e, j);
-        tables::remove_row(edges, map::EDGE_WIDTH, e - 1, closed_up(i, j));
-        map_rows::write_edge(edges, e - 2, s, l);
+    match how {
+        Variant::Mod => {
+            map_rows::write_edge(edges, i, s, l);
+            tables::remove_row(edges, map::EDGE_WIDTH, e, j);
+        }
+        Variant::New => {
+            tables::remove_row(edges, map::EDGE_WIDTH, e, j);
+            tables::remove_row(edges, map::EDGE_WIDTH, e - 1, closed_up(i, j));
+            map_rows::write_edge(edges, e - 2, s, l);
+        }
     }
 }
 
@@ -180,17 +187,16 @@ fn heal_rows(
     j: usize,
     p: usize,
     q: usize,
-    keeps: bool,
+    how: Variant,
     number: i64,
     l: Line,
 )
-    requires { ⌜ EdgeRows (now edges) e × (e ≤ 2000) × (p < e * 2) × (q < e * 2) × (nonNeg number ≡ true) × (i < e)
-        × (j < e) × (i ≡ j → ⊥) × (l .count ≤ 1000) ⌝ }
-    ensures { λ r. ⌜ now (edges .exit) ≡ healedRows (now (edges .entry)) e i j p q keeps number l ⌝ }
+    requires { ⌜ HealableRows (now edges) e i j p q number l ⌝ }
+    ensures { λ r. ⌜ now (edges .exit) ≡ healedRows (now (edges .entry)) e i j p q how number l ⌝ }
 {
-    rename(edges, e, p, q, number);
-    let s = healed_sides(edges, i, p, q, number);
-    place_row(edges, e, i, j, keeps, s, l);
+    lead_to_healed(edges, e, p, q, number);
+    let s = healed_incidence(edges, i, p, q, number);
+    write_healed(edges, e, i, j, how, s, l);
 }
 
 // ---- nodes and head
@@ -198,8 +204,8 @@ fn heal_rows(
 // The row of the joint goes.
 fn remove_joint(nodes: &mut [i64], n: usize, joint: i64)
     requires { ⌜ NodeRows (now nodes) n ⌝ }
-    ensures { λ r. ⌜ ((k : ℕ) → place (sameZ joint) 0 (column 4 (now (nodes .entry)) n) ≡ At k → now (nodes .exit)
-        ≡ closed 4 (now (nodes .entry)) n k) ⌝ }
+    ensures { λ r. ⌜ ((k : ℕ) → place (sameZ joint) 0 (column nodeWidth (now (nodes .entry)) n) ≡ At k
+        → now (nodes .exit) ≡ closed nodeWidth (now (nodes .entry)) n k) ⌝ }
 {
     let found = tables::find_row(nodes, map::NODE_WIDTH, n, joint);
     match found {
@@ -208,50 +214,49 @@ fn remove_joint(nodes: &mut [i64], n: usize, joint: i64)
     }
 }
 
-// The number of the healed edge, and the value.
-fn healed_number(h: Head, keeps: bool, edge: i64) -> i64
-    ensures { λ r. ⌜ r ≡ healedNumber h keeps edge ⌝ }
+// The value: the healed edge's number where it is new.
+fn healed_value(h: Head, how: Variant) -> i64
+    ensures { λ r. ⌜ r ≡ healedValue h how ⌝ }
 {
     let next = h.next_edge;
-    if keeps { edge } else { next }
-}
-
-fn healed_value(h: Head, keeps: bool) -> i64
-    ensures { λ r. ⌜ r ≡ healedValue h keeps ⌝ }
-{
-    let next = h.next_edge;
-    if keeps { 0 } else { next }
+    match how {
+        Variant::New => next,
+        Variant::Mod => 0,
+    }
 }
 
 // The numbers that are given: an edge's, or none.
-fn heal_numbers(keeps: bool) -> Counts
-    ensures { λ r. ⌜ r ≡ healNumbers keeps ⌝ }
+fn heal_numbers(how: Variant) -> Counts
+    ensures { λ r. ⌜ r ≡ healNumbers how ⌝ }
 {
-    if keeps { head::NONE } else { head::EDGE }
+    match how {
+        Variant::New => head::EDGE,
+        Variant::Mod => head::NONE,
+    }
 }
 
 // The head with a node and an edge less.
-fn after_heal(h: Head, keeps: bool) -> Head
+fn after_heal(h: Head, how: Variant) -> Head
     requires { ⌜ Counted h × (1 ≤ natAbs (h .nodes)) × (1 ≤ natAbs (h .edges)) ⌝ }
-    ensures { λ r. ⌜ r ≡ changedHead h (counts 0 0 0) (counts 1 1 0) (healNumbers keeps) ⌝ }
+    ensures { λ r. ⌜ r ≡ changedHead h (counts 0 0 0) (counts 1 1 0) (healNumbers how) ⌝ }
 {
-    head::changed(h, head::NONE, head::NODE_AND_EDGE, heal_numbers(keeps))
+    head::changed(h, head::NONE, head::NODE_AND_EDGE, heal_numbers(how))
 }
 
 // ---- the heal
 
 // 18 or 21; 0 for none.
-fn late_reason(count: usize, h: Head, keeps: bool) -> u64
+fn late_reason(count: usize, h: Head, how: Variant) -> u64
     requires { ⌜ Counted h ⌝ }
-    ensures { λ r. ⌜ r ≡ firstReason (lateReasons count h keeps) ⌝ }
+    ensures { λ r. ⌜ r ≡ firstReason (lateReasons count h how) ⌝ }
 {
     if Map::POINTS < count {
         return 18;
     }
-    if keeps {
-        return 0;
+    match how {
+        Variant::Mod => 0,
+        Variant::New => if head::is_spent(h, head::EDGE) { 21 } else { 0 },
     }
-    if head::is_spent(h, head::EDGE) { 21 } else { 0 }
 }
 
 // Rows i and j healed along the parts s, and the joint gone.
@@ -259,26 +264,17 @@ fn carry_out(
     nodes: &mut [i64],
     edges: &mut [i64],
     h: Head,
-    keeps: bool,
+    how: Variant,
     i: usize,
     j: usize,
     s: Parts,
     l: Line,
 ) -> Done
-    requires { ⌜ Counted h × NodeRows (now nodes) (natAbs (h .nodes)) × EdgeRows (now edges) (natAbs (h .edges))
-        × (1 ≤ natAbs (h .nodes)) × (i < natAbs (h .edges)) × (j < natAbs (h .edges)) × (i ≡ j → ⊥)
-        × (s .first < natAbs (h .edges) * 2) × (s .second < natAbs (h .edges) * 2) × (l .count ≤ 1000) ⌝ }
-    ensures { λ r. ⌜ (now (edges .exit)
-        ≡ healedRows (now (edges .entry)) (natAbs (h .edges)) i j (s .first) (s .second) keeps
-        (healedNumber h keeps (getD (now (edges .entry)) (i * 32) (pos 0))) l)
-        × ((k : ℕ) → place (sameZ (s .joint)) 0 (column 4 (now (nodes .entry)) (natAbs (h .nodes))) ≡ At k
-        → now (nodes .exit) ≡ closed 4 (now (nodes .entry)) (natAbs (h .nodes)) k)
-        × (r ≡ record {
-          head = changedHead h (counts 0 0 0) (counts 1 1 0) (healNumbers keeps);
-          answer = record { refusal = 0; value = healedValue h keeps };
-        }) ⌝ }
+    requires { ⌜ HealableEdges (now nodes) (now edges) h i j s l ⌝ }
+    ensures { λ r. ⌜ HealedTables (now (nodes .entry)) (now (edges .entry)) h how i j s l (now (nodes .exit))
+        (now (edges .exit)) r ⌝ }
 {
-    let number = healed_number(h, keeps, edges[i * map::EDGE_WIDTH]);
+    let number = outcomes::own_or_next(edges, h, how, i);
     heal_rows(
         edges,
         head::to_usize(h.edges),
@@ -286,31 +282,29 @@ fn carry_out(
         j,
         s.first,
         s.second,
-        keeps,
+        how,
         number,
         l,
     );
     let joint = s.joint;
     remove_joint(nodes, head::to_usize(h.nodes), joint);
-    outcomes::carried(after_heal(h, keeps), healed_value(h, keeps))
+    outcomes::carried(after_heal(h, how), healed_value(h, how))
 }
 
-// The heal of edge rows i and j.
-fn heal_rows_of(
+// Kinds 9 and 10 on the edges of rows i and j.
+fn heal_at_rows(
     nodes: &mut [i64],
     edges: &mut [i64],
+    faces: &[i64],
     h: Head,
-    keeps: bool,
+    how: Variant,
     i: usize,
     j: usize,
 ) -> Done
-    requires { ⌜ ((faces : _) × Formed (now nodes) (now edges) faces h) × (i < natAbs (h .edges))
-        × (j < natAbs (h .edges)) ⌝ }
-    ensures { λ r. ⌜ ((faces : _) → Formed (now (nodes .entry)) (now (edges .entry)) faces h
-        → outcome (now (nodes .exit)) (now (edges .exit)) faces r
-        ≡ decided (lent (now (nodes .entry)) (now (edges .entry)) faces h)
-        (healTicket keeps (pos (edgeAt (now (edges .entry)) i .number))
-        (pos (edgeAt (now (edges .entry)) j .number)))) ⌝ }
+    requires { ⌜ Formed (now nodes) (now edges) (now faces) h × (i < natAbs (h .edges)) × (j < natAbs (h .edges)) ⌝ }
+    ensures { λ r. ⌜ outcome (now (nodes .exit)) (now (edges .exit)) (now (faces .entry)) r
+        ≡ decided (lent (now (nodes .entry)) (now (edges .entry)) (now (faces .entry)) h)
+        (healTicket how (pos (edgeAt (now (edges .entry)) i .number)) (pos (edgeAt (now (edges .entry)) j .number))) ⌝ }
 {
     let e = head::to_usize(h.edges);
     let early = reason_departures::joint_reason(edges, e, i, j);
@@ -319,26 +313,27 @@ fn heal_rows_of(
     }
     let s = parts_of(edges, e, i, j);
     let l = joined_line(edges, s.first, s.second);
-    let late = late_reason(l.count, h, keeps);
+    let late = late_reason(l.count, h, how);
     if late != 0 {
         return outcomes::refused(h, late);
     }
-    carry_out(nodes, edges, h, keeps, i, j, s, l)
+    carry_out(nodes, edges, h, how, i, j, s, l)
 }
 
-// Kinds 9 and 10: two edges joined into one at a node where no other edge ends.
+// Joins two edges into one at a node where no other edge ends, or answers the first reason against it.
 pub fn heal_edges(
     nodes: &mut [i64],
     edges: &mut [i64],
+    faces: &[i64],
     h: Head,
-    keeps: bool,
+    how: Variant,
     edge: i64,
     other: i64,
 ) -> Done
-    requires { ⌜ ((faces : _) × Formed (now nodes) (now edges) faces h) ⌝ }
-    ensures { λ r. ⌜ ((faces : _) → Formed (now (nodes .entry)) (now (edges .entry)) faces h
-        → outcome (now (nodes .exit)) (now (edges .exit)) faces r
-        ≡ decided (lent (now (nodes .entry)) (now (edges .entry)) faces h) (healTicket keeps edge other)) ⌝ }
+    requires { ⌜ Formed (now nodes) (now edges) (now faces) h ⌝ }
+    ensures { λ r. ⌜ outcome (now (nodes .exit)) (now (edges .exit)) (now (faces .entry)) r
+        ≡ decided (lent (now (nodes .entry)) (now (edges .entry)) (now (faces .entry)) h)
+        (healTicket how edge other) ⌝ }
 {
     let e = head::to_usize(h.edges);
     let found = tables::find_row(edges, map::EDGE_WIDTH, e, edge);
@@ -349,5 +344,5 @@ pub fn heal_edges(
     let Found::At(j) = found_other else {
         return outcomes::refused(h, 4);
     };
-    heal_rows_of(nodes, edges, h, keeps, i, j)
+    heal_at_rows(nodes, edges, faces, h, how, i, j)
 }

@@ -3,30 +3,27 @@ use mathlib.Core.Path.{_≡_, refl, sym, ap, _∙_}
 use mathlib.Core.Bool.{Bool, true, false, not, _&&_, _||_, true≢false}
 use mathlib.Core.List.{List, [], _∷_, _++_}
 use Prim.Native.Nat.{ℕ, _≤_, _<_}
-use native.Mathlib.Omega.{arith}
 use lib.Dec.{lit<}
 use lib.IntN.{ℤ, pos, natAbs}
 use lib.Signed.{nonNeg}
 use borrow.Author.Tests.{not-false}
 use Rattle.lists.specs.Tests.{same}
 use Rattle.lists.specs.Scans.{anyOf}
-use Rattle.lists.specs.Tables.{table}
 use Rattle.plane.specs.declared.Point.{Point}
-use Rattle.plane.specs.Points.{samePoint}
 use Rattle.curves.specs.Curves.{point, coordinate}
 use Rattle.map.specs.declared.Head.{Head}
-use Rattle.map.specs.Rows.{Map, mapOf, sizesOf, counts}
+use Rattle.map.specs.Rows.{Map, Sizes, mapOf, sizesOf, counts}
 use Rattle.map.specs.Faces.{faceOfPoint, floors}
 use Rattle.map.specs.Tickets.{AddIsoNode}
 use Rattle.map.specs.Reasons.{firstReason, minusOne, noFace, outside, edgeThrough}
 use Rattle.map.proofs.Reasons.{first-hit, first-miss, first-zero, first-append, first-after}
-use Rattle.map_rows.specs.Rows.{facesOf, nodeAt, edgeMap}
+use Rattle.map_rows.specs.Rows.{facesOf, edgeMap}
 use Rattle.head.specs.Heads.{sizesIn, roomAt}
 use Rattle.form_ranges.specs.Ranges.{lent}
 use Rattle.outcomes.specs.Outcomes.{Formed}
-use Rattle.outcomes.proofs.Formed.{counted, room-at}
+use Rattle.outcomes.proofs.Formed.{room-at}
 use Rattle.reason_curves.proofs.Others.{node-at-all}
-use Rattle.edit_nodes.specs.Parts.{addEarly, addLate}
+use Rattle.edit_nodes.specs.Parts.{pointTaken, addEarly, addLate}
 use Rattle.map.specs.Reasons as reasons
 
 -- a face that is not missing is none or a number
@@ -51,29 +48,22 @@ pub other-told : {face u w : ℤ} (k : ℕ) {r v : Bool} → u ≡ face → w �
 other-told k eu ew er ev = sym (λ i. not (minusOne (eu i)) && not (same (natAbs (eu i)) (natAbs (ew i)))) ∙ sym er ∙ ev
 
 module _ {nodes edges faces : List ℤ} {h : Head} (f : Formed nodes edges faces h) where
-  pub few-nodes : natAbs (h .nodes) ≤ 1000000
-  few-nodes = omega (arith, counted f .nodes .most)
+  abbrev m : Map
+  m = mapOf (lent nodes edges faces h)
 
-  pub few-edges : natAbs (h .edges) ≤ 1000000
-  few-edges = omega (arith, counted f .edges .most)
-
-  pub few-faces : natAbs (h .faces) ≤ 1000000
-  few-faces = omega (arith, counted f .faces .most)
+  abbrev s : Sizes
+  s = sizesOf (lent nodes edges faces h)
 
   -- the face that was looked for
   pub face-told : (k : ℕ) (face z : ℤ) {r v : Bool} → k ≡ natAbs (h .faces) → z ≡ face → r ≡ not (minusOne z)
       && not (nonNeg z && anyOf (same (natAbs z)) (facesOf faces k)) → r ≡ v
-      → not (minusOne face) && noFace (mapOf (lent nodes edges faces h)) face ≡ v
+      → not (minusOne face) && noFace m face ≡ v
   unfolding mapOf
   face-told k face z ek ez er ev = rw (← ek, ← ez) (sym er ∙ ev)
 
   -- the point that was looked for
   pub taken-told : (n k own : ℕ) (p q : Point) {r v : Bool} → n ≡ natAbs (h .nodes) → k ≡ natAbs (h .edges) → n ≤ own
-      → p ≡ q
-      → r ≡ anyOf (λ i. not (same i own) && samePoint (nodeAt nodes i .at) p) (table (λ i. i) 0 n)
-      || edgeThrough (edgeMap edges k) p → r ≡ v
-      → reasons.nodeAt (mapOf (lent nodes edges faces h) .nodes) q || edgeThrough (mapOf (lent nodes edges faces h)) q
-      ≡ v
+      → p ≡ q → r ≡ pointTaken nodes n edges k own p → r ≡ v → reasons.nodeAt (m .nodes) q || edgeThrough m q ≡ v
   unfolding mapOf edgeThrough
   taken-told n k own p q en ek past ep er ev =
       rw (← en, ← ek, ← ep) (ap (λ (t : Bool). t || edgeThrough (edgeMap edges k) p)
@@ -81,35 +71,31 @@ module _ {nodes edges faces : List ℤ} {h : Head} (f : Formed nodes edges faces
 
   -- the face around a point
   pub around-told : (k : ℕ) (p q : Point) → k ≡ natAbs (h .edges) → p ≡ q → faceOfPoint (edgeMap edges k) p
-      ≡ faceOfPoint (mapOf (lent nodes edges faces h)) q
+      ≡ faceOfPoint m q
   unfolding mapOf faceOfPoint floors
   around-told k p q ek ep = rw (ek, ep)
 
   -- ---- kind 1
 
   module _ (face x y : ℤ) where
-    parts : reasons.reasons (sizesOf (lent nodes edges faces h)) (mapOf (lent nodes edges faces h))
-        (AddIsoNode face x y)
-        ≡ addEarly (mapOf (lent nodes edges faces h)) face x y
-        ++ addLate (sizesOf (lent nodes edges faces h)) (mapOf (lent nodes edges faces h)) face x y
+    abbrev first : ℕ
+    first = firstReason (reasons.reasons s m (AddIsoNode face x y))
+
+    abbrev otherFace : Bool
+    otherFace = not (minusOne face) && not (same (natAbs face) (faceOfPoint m (point x y)))
+
+    in-parts : reasons.reasons s m (AddIsoNode face x y) ≡ addEarly m face x y ++ addLate s m face x y
     unfolding reasons.reasons
-    parts = refl
+    in-parts = refl
 
-    pub add-early : (r : ℕ) → 0 < r → r ≡ firstReason (addEarly (mapOf (lent nodes edges faces h)) face x y)
-        → firstReason (reasons.reasons (sizesOf (lent nodes edges faces h)) (mapOf (lent nodes edges faces h))
-        (AddIsoNode face x y)) ≡ r
-    add-early r some e = ap firstReason parts
-        ∙ first-append (addEarly (mapOf (lent nodes edges faces h)) face x y)
-        (addLate (sizesOf (lent nodes edges faces h)) (mapOf (lent nodes edges faces h)) face x y) r some (sym e)
+    pub add-early : (r : ℕ) → 0 < r → r ≡ firstReason (addEarly m face x y) → first ≡ r
+    add-early r some e =
+        ap firstReason in-parts ∙ first-append (addEarly m face x y) (addLate s m face x y) r some (sym e)
 
-    module _ (early : firstReason (addEarly (mapOf (lent nodes edges faces h)) face x y) ≡ 0) where
-      four : (not (minusOne face) && noFace (mapOf (lent nodes edges faces h)) face ≡ false)
-          × (firstReason ((5, outside x y)
-          ∷ (
-            10,
-            reasons.nodeAt (mapOf (lent nodes edges faces h) .nodes) (point x y)
-                || edgeThrough (mapOf (lent nodes edges faces h)) (point x y),
-          ) ∷ []) ≡ 0)
+    module _ (early : firstReason (addEarly m face x y) ≡ 0) where
+      four : (not (minusOne face) && noFace m face ≡ false)
+          × (firstReason ((5, outside x y) ∷ (10, reasons.nodeAt (m .nodes) (point x y) || edgeThrough m (point x y))
+          ∷ []) ≡ 0)
       four = first-zero 4 _ _ (lit< tt) early
 
       pub early-face : minusOne face || nonNeg face ≡ true
@@ -118,20 +104,12 @@ module _ {nodes edges faces : List ℤ} {h : Head} (f : Formed nodes edges faces
       pub early-point : coordinate x && coordinate y ≡ true
       early-point = not-false (coordinate x && coordinate y) (first-zero 5 _ _ (lit< tt) (four .1) .0)
 
-      late-part : firstReason (reasons.reasons (sizesOf (lent nodes edges faces h)) (mapOf (lent nodes edges faces h))
-          (AddIsoNode face x y)) ≡ firstReason
-          (addLate (sizesOf (lent nodes edges faces h)) (mapOf (lent nodes edges faces h)) face x y)
-      late-part = ap firstReason parts ∙ first-after (addEarly (mapOf (lent nodes edges faces h)) face x y)
-          (addLate (sizesOf (lent nodes edges faces h)) (mapOf (lent nodes edges faces h)) face x y) refl early
+      late-part : first ≡ firstReason (addLate s m face x y)
+      late-part = ap firstReason in-parts ∙ first-after (addEarly m face x y) (addLate s m face x y) refl early
 
-      pub add-other : not (minusOne face)
-          && not (same (natAbs face) (faceOfPoint (mapOf (lent nodes edges faces h)) (point x y))) ≡ true
-          → firstReason (reasons.reasons (sizesOf (lent nodes edges faces h)) (mapOf (lent nodes edges faces h))
-          (AddIsoNode face x y)) ≡ 12
+      pub add-other : otherFace ≡ true → first ≡ 12
       add-other e = late-part ∙ first-hit 12 _ _ e
 
-      pub add-room : not (minusOne face)
-          && not (same (natAbs face) (faceOfPoint (mapOf (lent nodes edges faces h)) (point x y))) ≡ false
-          → firstReason (reasons.reasons (sizesOf (lent nodes edges faces h)) (mapOf (lent nodes edges faces h))
-          (AddIsoNode face x y)) ≡ firstReason (roomAt (sizesIn nodes edges faces) h (counts 1 0 0) (counts 1 0 0))
+      pub add-room : otherFace ≡ false
+          → first ≡ firstReason (roomAt (sizesIn nodes edges faces) h (counts 1 0 0) (counts 1 0 0))
       add-room e = late-part ∙ first-miss 12 _ _ e ∙ ap firstReason (sym (room-at f (counts 1 0 0) (counts 1 0 0)))

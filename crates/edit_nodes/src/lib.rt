@@ -6,23 +6,23 @@ use plane::Point;
 ghost use mathlib.Core.Path.{_≡_};
 ghost use mathlib.Core.Bool.{true, not, _&&_, _||_};
 ghost use mathlib.Core.List.{[], _∷_};
-ghost use Prim.Native.Nat.{_+_, _*_, _/_, _≤_, _<_};
-ghost use lib.IntN.{natAbs};
+ghost use Prim.Native.Nat.{_+_, _*_, _≤_, _<_};
+ghost use lib.IntN.{pos, natAbs};
 ghost use lib.ListN.{length};
 ghost use lib.Seq.{paste};
 ghost use lib.Signed.{nonNeg};
 ghost use Rattle.lists.specs.Tests.{same};
 ghost use Rattle.lists.specs.Scans.{anyOf};
-ghost use Rattle.lists.specs.Tables.{table};
-ghost use Rattle.plane.specs.Points.{InRange, samePoint};
+ghost use Rattle.plane.specs.Points.{InRange};
+ghost use Rattle.map.specs.Limits.{nodeWidth};
 ghost use Rattle.map.specs.Rows.{mapOf, counts};
 ghost use Rattle.map.specs.Tickets.{AddIsoNode, MoveIsoNode, RemoveIsoNode};
-ghost use Rattle.map.specs.Reasons.{firstReason, minusOne, edgeThrough};
-ghost use Rattle.map_rows.specs.Rows.{FaceRows, NodeRows, EdgeRows, facesOf, nodeAt, edgeMap};
+ghost use Rattle.map.specs.Reasons.{firstReason, minusOne};
+ghost use Rattle.map_rows.specs.Rows.{FaceRows, NodeRows, EdgeRows, facesOf, nodeAt};
 ghost use Rattle.head.specs.Heads.{Counted, changedHead};
 ghost use Rattle.form_ranges.specs.Ranges.{lent};
 ghost use Rattle.outcomes.specs.Outcomes.{Formed, decided, outcome};
-ghost use Rattle.edit_nodes.specs.Parts.{addEarly, moveReasons};
+ghost use Rattle.edit_nodes.specs.Parts.{pointTaken, addEarly, moveReasons};
 
 // ---- leaves
 
@@ -58,10 +58,16 @@ fn face_missing(faces: &[i64], count: usize, face: i64) -> bool
 }
 
 // A node but that of row `own` lies on the point, or an edge passes through it.
-fn is_taken(nodes: &[i64], n: usize, edges: &[i64], count: usize, own: usize, p: Point) -> bool
+fn point_is_taken(
+    nodes: &[i64],
+    n: usize,
+    edges: &[i64],
+    count: usize,
+    own: usize,
+    p: Point,
+) -> bool
     requires { ⌜ NodeRows (now nodes) n × EdgeRows (now edges) count × InRange p ⌝ }
-    ensures { λ r. ⌜ r ≡ (anyOf (λ i. not (same i own) && samePoint (nodeAt (now (nodes .entry)) i .at) p)
-        (table (λ i. i) 0 n) || edgeThrough (edgeMap (now (edges .entry)) count) p) ⌝ }
+    ensures { λ r. ⌜ r ≡ pointTaken (now (nodes .entry)) n (now (edges .entry)) count own p ⌝ }
 {
     if reason_curves::node_at(nodes, n, own, p) {
         return true;
@@ -92,7 +98,7 @@ fn add_reason(
         return 5;
     }
     let n = head::to_usize(h.nodes);
-    if is_taken(
+    if point_is_taken(
         nodes,
         n,
         edges,
@@ -109,15 +115,15 @@ fn add_reason(
 // Kind 2, of node row i: 5, 9 or 10; 0 for none.
 fn move_reason(
     nodes: &[i64],
-    n: usize,
     edges: &[i64],
-    count: usize,
+    faces: &[i64],
+    h: Head,
     i: usize,
     x: i64,
     y: i64,
 ) -> u64
-    requires { ⌜ NodeRows (now nodes) n × EdgeRows (now edges) count × (i < n) ⌝ }
-    ensures { λ r. ⌜ r ≡ firstReason (moveReasons (now (nodes .entry)) n (now (edges .entry)) count i x y) ⌝ }
+    requires { ⌜ Formed (now nodes) (now edges) (now faces) h × (i < natAbs (h .nodes)) ⌝ }
+    ensures { λ r. ⌜ r ≡ firstReason (moveReasons (now (nodes .entry)) (now (edges .entry)) h i x y) ⌝ }
 {
     if !reason_curves::in_range(x, y) {
         return 5;
@@ -125,7 +131,14 @@ fn move_reason(
     if !map_rows::is_isolated(nodes, i) {
         return 9;
     }
-    if is_taken(nodes, n, edges, count, i, reason_curves::point_of(x, y)) {
+    if point_is_taken(
+        nodes,
+        head::to_usize(h.nodes),
+        edges,
+        head::to_usize(h.edges),
+        i,
+        reason_curves::point_of(x, y),
+    ) {
         10
     } else {
         0
@@ -136,9 +149,9 @@ fn move_reason(
 
 // A node more: the row after the last, and the head.
 fn push_node(nodes: &mut [i64], h: Head, x: i64, y: i64, around: i64) -> Done
-    requires { ⌜ Counted h × (natAbs (h .nodes) * 4 + 4 ≤ length (now nodes)) ⌝ }
-    ensures { λ r. ⌜ (now (nodes .exit)
-        ≡ paste (now (nodes .entry)) (natAbs (h .nodes) * 4) (h .«next_node» ∷ x ∷ y ∷ around ∷ []) 4)
+    requires { ⌜ Counted h × (natAbs (h .nodes) * nodeWidth + nodeWidth ≤ length (now nodes)) ⌝ }
+    ensures { λ r. ⌜ (now (nodes .exit) ≡ paste (now (nodes .entry)) (natAbs (h .nodes) * nodeWidth)
+        (h .«next_node» ∷ x ∷ y ∷ around ∷ []) nodeWidth)
         × (r ≡ record {
           head = changedHead h (counts 1 0 0) (counts 0 0 0) (counts 1 0 0);
           answer = record { refusal = 0; value = h .«next_node» };
@@ -149,7 +162,7 @@ fn push_node(nodes: &mut [i64], h: Head, x: i64, y: i64, around: i64) -> Done
     outcomes::carried(head::changed(h, head::NODE, head::NONE, head::NODE), number)
 }
 
-// Kind 1: an isolated node added, in the face around its point.
+// Adds an isolated node in the face around its point, or answers the first reason against it.
 pub fn add_node(
     nodes: &mut [i64],
     edges: &[i64],
@@ -187,43 +200,81 @@ pub fn add_node(
     push_node(nodes, h, x, y, around)
 }
 
-// Kind 2: an isolated node moved, into the face around its new point.
-pub fn move_node(nodes: &mut [i64], edges: &[i64], h: Head, node: i64, x: i64, y: i64) -> Done
-    requires { ⌜ ((faces : _) × Formed (now nodes) (now edges) faces h) ⌝ }
-    ensures { λ r. ⌜ ((faces : _) → Formed (now (nodes .entry)) (now (edges .entry)) faces h
-        → outcome (now (nodes .exit)) (now (edges .entry)) faces r
-        ≡ decided (lent (now (nodes .entry)) (now (edges .entry)) faces h) (MoveIsoNode node x y)) ⌝ }
+// Kind 2 on the node of row i.
+fn move_at_row(
+    nodes: &mut [i64],
+    edges: &[i64],
+    faces: &[i64],
+    h: Head,
+    i: usize,
+    x: i64,
+    y: i64,
+) -> Done
+    requires { ⌜ Formed (now nodes) (now edges) (now faces) h × (i < natAbs (h .nodes)) ⌝ }
+    ensures { λ r. ⌜ outcome (now (nodes .exit)) (now (edges .entry)) (now (faces .entry)) r
+        ≡ decided (lent (now (nodes .entry)) (now (edges .entry)) (now (faces .entry)) h)
+        (MoveIsoNode (pos (nodeAt (now (nodes .entry)) i .number)) x y) ⌝ }
 {
-    let n = head::to_usize(h.nodes);
-    let found = tables::find_row(nodes, map::NODE_WIDTH, n, node);
-    let Found::At(i) = found else {
-        return outcomes::refused(h, 4);
-    };
-    let count = head::to_usize(h.edges);
-    let reason = move_reason(nodes, n, edges, count, i, x, y);
+    let reason = move_reason(nodes, edges, faces, h, i, x, y);
     if reason != 0 {
         return outcomes::refused(h, reason);
     }
-    let around = point_location::face_of_point(edges, count, reason_curves::point_of(x, y));
-    map_rows::write_node(nodes, i, node, x, y, around);
+    let number = nodes[i * map::NODE_WIDTH];
+    let around = point_location::face_of_point(
+        edges,
+        head::to_usize(h.edges),
+        reason_curves::point_of(x, y),
+    );
+    map_rows::write_node(nodes, i, number, x, y, around);
     outcomes::carried(h, 0)
 }
 
-// Kind 3: an isolated node removed.
-pub fn remove_node(nodes: &mut [i64], h: Head, node: i64) -> Done
-    requires { ⌜ ((edges : _) × (faces : _) × Formed (now nodes) edges faces h) ⌝ }
-    ensures { λ r. ⌜ ((edges : _) (faces : _) → Formed (now (nodes .entry)) edges faces h
-        → outcome (now (nodes .exit)) edges faces r
-        ≡ decided (lent (now (nodes .entry)) edges faces h) (RemoveIsoNode node)) ⌝ }
+// Moves an isolated node into the face around its new point, or answers the first reason against it.
+pub fn move_node(
+    nodes: &mut [i64],
+    edges: &[i64],
+    faces: &[i64],
+    h: Head,
+    node: i64,
+    x: i64,
+    y: i64,
+) -> Done
+    requires { ⌜ Formed (now nodes) (now edges) (now faces) h ⌝ }
+    ensures { λ r. ⌜ outcome (now (nodes .exit)) (now (edges .entry)) (now (faces .entry)) r
+        ≡ decided (lent (now (nodes .entry)) (now (edges .entry)) (now (faces .entry)) h) (MoveIsoNode node x y) ⌝ }
 {
     let n = head::to_usize(h.nodes);
     let found = tables::find_row(nodes, map::NODE_WIDTH, n, node);
     let Found::At(i) = found else {
         return outcomes::refused(h, 4);
     };
+    move_at_row(nodes, edges, faces, h, i, x, y)
+}
+
+// Kind 3 on the node of row i.
+fn remove_at_row(nodes: &mut [i64], edges: &[i64], faces: &[i64], h: Head, i: usize) -> Done
+    requires { ⌜ Formed (now nodes) (now edges) (now faces) h × (i < natAbs (h .nodes)) ⌝ }
+    ensures { λ r. ⌜ outcome (now (nodes .exit)) (now (edges .entry)) (now (faces .entry)) r
+        ≡ decided (lent (now (nodes .entry)) (now (edges .entry)) (now (faces .entry)) h)
+        (RemoveIsoNode (pos (nodeAt (now (nodes .entry)) i .number))) ⌝ }
+{
     if !map_rows::is_isolated(nodes, i) {
         return outcomes::refused(h, 9);
     }
-    tables::remove_row(nodes, map::NODE_WIDTH, n, i);
+    tables::remove_row(nodes, map::NODE_WIDTH, head::to_usize(h.nodes), i);
     outcomes::carried(head::changed(h, head::NONE, head::NODE, head::NONE), 0)
+}
+
+// Removes an isolated node, or answers the first reason against it.
+pub fn remove_node(nodes: &mut [i64], edges: &[i64], faces: &[i64], h: Head, node: i64) -> Done
+    requires { ⌜ Formed (now nodes) (now edges) (now faces) h ⌝ }
+    ensures { λ r. ⌜ outcome (now (nodes .exit)) (now (edges .entry)) (now (faces .entry)) r
+        ≡ decided (lent (now (nodes .entry)) (now (edges .entry)) (now (faces .entry)) h) (RemoveIsoNode node) ⌝ }
+{
+    let n = head::to_usize(h.nodes);
+    let found = tables::find_row(nodes, map::NODE_WIDTH, n, node);
+    let Found::At(i) = found else {
+        return outcomes::refused(h, 4);
+    };
+    remove_at_row(nodes, edges, faces, h, i)
 }

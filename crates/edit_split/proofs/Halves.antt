@@ -13,16 +13,16 @@ use Rattle.map_rows.specs.Rows.{EdgeRow, edgeAt}
 use Rattle.map_rows.proofs.RowCurves.{edge-few}
 
 -- of n points after the first
-abbrev Few : Halves → ℕ → Type 0
-Few h n = (length (h .front) ≤ n) × (length (h .back) ≤ n)
+abbrev HalvesUpTo : Halves → ℕ → Type 0
+HalvesUpTo h n = (length (h .front) ≤ n) × (length (h .back) ≤ n)
 
-here-few : (t v : Bool) (m b : Point) (r : List Point) (h : Halves) → Few h (length r)
-    → Few (cutHere t v m b r h) (suc (length r))
+here-few : (t v : Bool) (m b : Point) (r : List Point) (h : Halves) → HalvesUpTo h (length r)
+    → HalvesUpTo (cutHere t v m b r h) (suc (length r))
 here-few true true m b r h k = (omega arith, omega arith)
 here-few true false m b r h k = (omega arith, omega arith)
 here-few false v m b r h k = (let q = k .0 in omega arith, let q = k .1 in omega arith)
 
-cut-few : (m a : Point) (r : List Point) → Few (cut m a r) (length r)
+cut-few : (m a : Point) (r : List Point) → HalvesUpTo (cut m a r) (length r)
 cut-few m a [] = (omega arith, omega arith)
 cut-few m a (b ∷ r) = here-few (onSegment m a b) (samePoint m b) m b r (cut m b r) (cut-few m b r)
 

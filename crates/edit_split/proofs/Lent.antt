@@ -1,6 +1,6 @@
 -- What is lent after a split: a node's row pushed, an edge's row cut, and the head. Assumes nothing.
-use mathlib.Core.Path.{_≡_, refl, sym, ap, ap₂, _∙_}
-use mathlib.Core.Bool.{Bool, true, false, cond, _&&_}
+use mathlib.Core.Path.{_≡_, refl, sym, ap, _∙_}
+use mathlib.Core.Bool.{true, _&&_}
 use mathlib.Core.List.{List, [], _∷_, flatMap}
 use mathlib.Core.Option.{none}
 use Prim.Native.Nat.{ℕ, _+_, _*_, _/_, _<_, _≤_}
@@ -13,21 +13,23 @@ use Rattle.tables.proofs.Writes.{pushed}
 use Rattle.curves.specs.Curves.{point, coordinate}
 use Rattle.curves.proofs.Runs.{and-left, and-right, coordinate-pos}
 use Rattle.map.specs.declared.Head.{Head}
-use Rattle.map.specs.Limits.{nodeWidth, edgeWidth}
-use Rattle.map.specs.Rows.{Node, Map, mapOf, lentOf, sizesOf, nodeCells, edgeCells, headOf, counts}
+use Rattle.map.specs.declared.Variant.{Variant}
+use Rattle.map.specs.declared.Variant.the-variants.{New, Mod}
+use Rattle.map.specs.Limits.{nodeWidth, edgeWidth, faceWidth}
+use Rattle.map.specs.Rows.{Node, Map, mapOf, lentOf, sizesOf, nodeCells, edgeCells, faceCells, headOf, counts}
 use Rattle.map.specs.Ticket.{carried}
 use Rattle.map.specs.Edits.{split}
 use Rattle.map.proofs.RoundTrip.{nodes-wide}
-use Rattle.map_rows.specs.Rows.{nodesOf, edgesOf, facesOf, edgeAt}
+use Rattle.map_rows.specs.Rows.{nodesOf, edgesOf, edgeAt}
 use Rattle.map_rows.proofs.Rows.{nodes-length, edges-length, faces-length, edges-getD, edge-row-of, edge-number-in}
 use Rattle.head.specs.Heads.{changedHead}
 use Rattle.head.proofs.Heads.{head-changed}
 use Rattle.form_ranges.specs.Ranges.{lent}
 use Rattle.outcomes.specs.Outcomes.{Formed}
-use Rattle.outcomes.proofs.Formed.{node-next, edge-next, nodes-filled, edges-filled, faces-filled, edge-rows}
+use Rattle.outcomes.proofs.Formed.{node-next, nodes-filled, edges-filled, faces-filled, edge-rows}
 use Rattle.outcomes.proofs.Formed.{edges-are-wide, edge-numbers-once, lent-is}
-use Rattle.outcomes.specs.Variants.{splitTicket}
-use Rattle.edit_split.specs.Cuts.{cutRow, startNumber, endNumber, splitNumbers}
+use Rattle.outcomes.specs.Variants.{splitTicket, ownOrNext}
+use Rattle.edit_split.specs.Cuts.{cutRow, endNumber, splitNumbers}
 use Rattle.edit_split.proofs.Cut.{cut-map, split-count}
 
 -- the numbers of a node where edges end
@@ -38,20 +40,15 @@ node-cells-are k number x y e en =
     λ i. sym en i ∷ sym (coordinate-pos x (and-left (coordinate x) (coordinate y) e)) i
     ∷ sym (coordinate-pos y (and-right (coordinate x) (coordinate y) e)) i ∷ negsuc 0 ∷ []
 
-carried-is : (keeps : Bool) (z x y : ℤ) (q : Map) → carried q (splitTicket keeps z x y)
-    ≡ (split keeps (natAbs z) (point x y) q, pos (q .next .nodes))
+carried-is : (how : Variant) (z x y : ℤ) (q : Map) → carried q (splitTicket how z x y)
+    ≡ (split how (natAbs z) (point x y) q, pos (q .next .nodes))
 unfolding carried
-carried-is true z x y q = refl
-carried-is false z x y q = refl
+carried-is New z x y q = refl
+carried-is Mod z x y q = refl
 
-start-pos : (keeps : Bool) (h : Head) (z : ℤ) (own : ℕ) → z ≡ pos own → h .«next_edge» ≡ pos (natAbs (h .«next_edge»))
-    → startNumber h keeps z ≡ pos (cond keeps own (natAbs (h .«next_edge»)))
-start-pos true h z own e k = e
-start-pos false h z own e k = k
-
-module _ {nodes edges faces : List ℤ} {h : Head} (f : Formed nodes edges faces h) (i : ℕ) (t : i < natAbs (h .edges))
-    (keeps : Bool) (z x y : ℤ) (ez : z ≡ pos (edgeAt edges i .number))
-    (range : coordinate x && coordinate y ≡ true) (node-room : natAbs (h .nodes) + 1 ≤ length nodes / nodeWidth)
+module _ {nodes edges faces : List ℤ} {h : Head} (f : Formed nodes edges faces h) (how : Variant) (i : ℕ)
+    (t : i < natAbs (h .edges)) (x y : ℤ) (range : coordinate x && coordinate y ≡ true)
+    (node-room : natAbs (h .nodes) + 1 ≤ length nodes / nodeWidth)
     (edge-room : natAbs (h .edges) + 1 ≤ length edges / edgeWidth) where
   own : ℕ
   own = edgeAt edges i .number
@@ -60,33 +57,37 @@ module _ {nodes edges faces : List ℤ} {h : Head} (f : Formed nodes edges faces
   m = mapOf (lent nodes edges faces h)
 
   after : Map
-  after = split keeps own (point x y) m
+  after = split how own (point x y) m
+
+  -- the edges' table after it, and the nodes'
+  abbrev edgesCut : List ℤ
+  edgesCut = cutRow edges (natAbs (h .edges)) i (h .«next_node») (point x y) how
+      (pos (ownOrNext h how (edgeAt edges i .number))) (pos (endNumber h how))
+
+  abbrev nodesMore : List ℤ
+  nodesMore = paste nodes (natAbs (h .nodes) * nodeWidth) (h .«next_node» ∷ x ∷ y ∷ negsuc 0 ∷ []) nodeWidth
 
   -- the rows of the edges, and how many
-  rows-after : (cutRow edges (natAbs (h .edges)) i (h .«next_node») (point x y) keeps (startNumber h keeps z)
-      (endNumber h keeps) ≡ filled (length edges / edgeWidth * edgeWidth) (flatMap edgeCells (after .edges)))
+  rows-after : (edgesCut ≡ filled (length edges / edgeWidth * edgeWidth) (flatMap edgeCells (after .edges)))
       × (length (after .edges) ≡ natAbs (h .edges) + 1)
   unfolding mapOf own m after
   rows-after =
       let n = natAbs (h .edges) in
-      let k = natAbs (h .«next_edge») in
       let N = length edges / edgeWidth * edgeWidth in
       let xs = edgesOf edges n in
-      let a = cond keeps own k in
-      let b = cond keeps k (k + 1) in
+      let a = ownOrNext h how own in
+      let b = endNumber h how in
       let row = edge-row-of (edge-rows f) i t in
       let at = edges-getD edges n i (edgeAt edges i) t in
       let least = edge-number-in (edge-rows f) i t .0 in (
-        ap₂ (λ (u v : ℤ). cutRow edges n i u (point x y) keeps v (endNumber h keeps)) (node-next f .0)
-            (start-pos keeps h z own ez (edge-next f .0))
+        ap (λ (u : ℤ). cutRow edges n i u (point x y) how (pos a) (pos b)) (node-next f .0)
             ∙ cut-map edges N n xs (edges-filled f) (edges-are-wide f) (edges-length edges n) (edge-numbers-once f)
-            (omega arith) i t row at least (natAbs (h .«next_node»)) a b (point x y) m refl keeps refl refl refl,
+            (omega arith) i t row at least (natAbs (h .«next_node»)) a b (point x y) m refl how refl refl refl,
         split-count edges N n xs (edges-filled f) (edges-are-wide f) (edges-length edges n) (edge-numbers-once f)
-            (omega arith) i t row at least (natAbs (h .«next_node»)) a b (point x y) m refl keeps refl refl refl,
+            (omega arith) i t row at least (natAbs (h .«next_node»)) a b (point x y) m refl how refl refl refl,
       )
 
-  nodes-after : filled (length nodes / nodeWidth * nodeWidth) (flatMap nodeCells (after .nodes))
-      ≡ paste nodes (natAbs (h .nodes) * 4) (h .«next_node» ∷ x ∷ y ∷ negsuc 0 ∷ []) 4
+  nodes-after : filled (length nodes / nodeWidth * nodeWidth) (flatMap nodeCells (after .nodes)) ≡ nodesMore
   unfolding mapOf split own m after
   nodes-after =
       let n = natAbs (h .nodes) in
@@ -98,10 +99,14 @@ module _ {nodes edges faces : List ℤ} {h : Head} (f : Formed nodes edges faces
       (nodes-wide (r ∷ []) .0) (rw long (omega arith)))
       ∙ rw (nodes-filled f, long, cells)
 
-  head-is : headOf after ≡ changedHead h (counts 1 1 0) (counts 0 0 0) (splitNumbers keeps)
+  faces-after : filled (length faces / faceWidth * faceWidth) (flatMap faceCells (after .faces)) ≡ faces
+  unfolding mapOf split own m after
+  faces-after = faces-filled f
+
+  head-is : headOf after ≡ changedHead h (counts 1 1 0) (counts 0 0 0) (splitNumbers how)
   unfolding mapOf split own m after
   head-is =
-      head-changed h after (counts 1 1 0) (counts 0 0 0) (splitNumbers keeps)
+      head-changed h after (counts 1 1 0) (counts 0 0 0) (splitNumbers how)
       (omega (
         arith,
         length-append (nodesOf nodes (natAbs (h .nodes)))
@@ -110,29 +115,21 @@ module _ {nodes edges faces : List ℤ} {h : Head} (f : Formed nodes edges faces
       )) (omega (arith, rows-after .1))
       (omega (arith, faces-length faces (natAbs (h .faces)))) refl refl refl
 
-  faces-after : after .faces ≡ facesOf faces (natAbs (h .faces))
-  unfolding mapOf split own m after
-  faces-after = refl
-
   number-is : pos (m .next .nodes) ≡ h .«next_node»
   unfolding mapOf m
   number-is = sym (node-next f .0)
 
-  pub split-lent : {nodes′ edges′ : List ℤ} → nodes′
-      ≡ paste nodes (natAbs (h .nodes) * 4) (h .«next_node» ∷ x ∷ y ∷ negsuc 0 ∷ []) 4
-      → edges′ ≡ cutRow edges (natAbs (h .edges)) i (h .«next_node») (point x y) keeps (startNumber h keeps z)
-      (endNumber h keeps)
+  pub split-lent : {nodes′ edges′ : List ℤ} → nodes′ ≡ nodesMore → edges′ ≡ edgesCut
       → (lentOf (sizesOf (lent nodes edges faces h))
-      (carried (mapOf (lent nodes edges faces h)) (splitTicket keeps z x y) .0)
-      ≡ lent nodes′ edges′ faces (changedHead h (counts 1 1 0) (counts 0 0 0) (splitNumbers keeps)))
-      × (carried (mapOf (lent nodes edges faces h)) (splitTicket keeps z x y) .1 ≡ h .«next_node»)
+      (carried (mapOf (lent nodes edges faces h)) (splitTicket how (pos (edgeAt edges i .number)) x y) .0)
+      ≡ lent nodes′ edges′ faces (changedHead h (counts 1 1 0) (counts 0 0 0) (splitNumbers how)))
+      × (carried (mapOf (lent nodes edges faces h)) (splitTicket how (pos (edgeAt edges i .number)) x y) .1
+      ≡ h .«next_node»)
   unfolding own m after
-  split-lent en ee = (
-    ap (λ (q : Map). lentOf (sizesOf (lent nodes edges faces h)) q)
-        (ap (λ (c : Map × ℤ). c .0) (carried-is keeps z x y m)
-        ∙ ap (λ (k : ℕ). split keeps k (point x y) m) (ap natAbs ez))
-        ∙ lent-is (sizesOf (lent nodes edges faces h)) after (nodes-after ∙ sym en) (sym (rows-after .0) ∙ sym ee)
-        (ap (λ (r : List ℕ). filled (length faces / 1 * 1) (flatMap (λ k. pos k ∷ []) r)) faces-after
-        ∙ faces-filled f) head-is,
-    ap (λ (c : Map × ℤ). c .1) (carried-is keeps z x y m) ∙ number-is,
-  )
+  split-lent en ee =
+      let c = carried-is how (pos own) x y m in (
+        ap (λ (q : Map × ℤ). lentOf (sizesOf (lent nodes edges faces h)) (q .0)) c
+            ∙ lent-is (sizesOf (lent nodes edges faces h)) after (nodes-after ∙ sym en) (sym (rows-after .0) ∙ sym ee)
+            faces-after head-is,
+        ap (λ (q : Map × ℤ). q .1) c ∙ number-is,
+      )

@@ -1,3 +1,5 @@
 -- `Words`: counts and next numbers as words. `Formed`: what tables in form hold, and what a call on them answers.
+-- `FoundRows`: their rows in the map's terms.
 pub mod Words
 pub mod Formed
+pub mod FoundRows

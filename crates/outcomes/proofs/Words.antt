@@ -1,26 +1,20 @@
--- A number looked up as it was passed, and a containing face in its row. Assumes nothing.
-use mathlib.Core.Path.{_≡_, refl, sym, ap, _∙_, ap₂}
-use mathlib.Core.Bool.{true}
+-- A number looked up as it was passed, two numbers compared as words, and the next node number as it is read. Assumes
+-- nothing.
+use mathlib.Core.Path.{_≡_, sym, _∙_, ap₂}
 use mathlib.Core.List.{List}
-use Prim.Native.Nat.{ℕ, _≤_}
-use native.Mathlib.Omega.{arith}
-use lib.Dec.{lit<, eqb}
-use lib.IntN.{ℤ, pos, natAbs, _+ℤ_, _-ℤ_}
-use lib.Signed.{nonNeg}
+use Prim.Native.Nat.{ℕ}
+use lib.Dec.{eqb}
+use lib.IntN.{ℤ, pos}
 use mir.Syntax.{w64}
 use mir.Val.{ofZ, toZ, SFits}
-use mir.Facts.{toZ-ofZ}
-use borrow.Author.Needs.{sfits-of}
 use Rattle.lists.specs.Tables.{place}
 use Rattle.lists.specs.declared.Found.{Found}
 use Rattle.lists.specs.Tests.{same}
 use Rattle.tables.specs.Tables.{sameZ, column}
 use Rattle.tables.proofs.Order.{word-test, same-pos}
-use lib.Dec.{eqb}
-use lib.IntN.{ℤ, pos, negsuc}
-use lib.Signed.{leZ}
-use mir.Val.{ofZ, SFits}
-use borrow.Author.Tests.{leb-true}
+use Rattle.map.specs.declared.Head.{Head}
+use Rattle.head.specs.Heads.{Counted}
+use Rattle.head.proofs.Words.{count-back}
 pub use Rattle.head.proofs.Words.{small-fits, small-read, more-fits, more-is, is-natural, count-fits, count-back}
 pub use Rattle.head.proofs.Words.{count-read, count-natural, count-abs, plus-fits, plus-is, minus-fits, minus-is}
 
@@ -28,6 +22,9 @@ pub use Rattle.head.proofs.Words.{count-read, count-natural, count-abs, plus-fi
 pub number-test : (x y : ℤ) (a b : ℕ) → SFits w64 x → SFits w64 y → x ≡ pos a → y ≡ pos b → eqb (ofZ w64 x) (ofZ w64 y)
     ≡ same a b
 number-test x y a b f g e k = word-test f g ∙ ap₂ sameZ e k ∙ same-pos a b
+
+pub next-node-back : {h : Head} → Counted h → toZ w64 (ofZ w64 (h .«next_node»)) ≡ h .«next_node»
+next-node-back {h} k = count-back (h .«next_node») (k .next-node .natural) (k .next-node .most)
 
 -- ---- the place of the number as it was passed
 

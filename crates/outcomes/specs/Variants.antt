@@ -1,8 +1,12 @@
--- The kind that one function carries out in either variant.
+-- The kind that one function carries out in either variant, and the number of an edge in each.
+use mathlib.Core.Bool.{cond}
 use mathlib.Core.List.{List}
-use lib.IntN.{ℤ}
+use Prim.Native.Nat.{ℕ}
+use lib.IntN.{ℤ, natAbs}
+use Rattle.map.specs.declared.Head.{Head}
 use Rattle.map.specs.declared.Variant.{Variant}
 use Rattle.map.specs.declared.Variant.the-variants.{New, Mod}
+use Rattle.map.specs.Edits.{isMod}
 use Rattle.map.specs.Tickets.{Ticket, NewEdgesSplit, ModEdgeSplit, NewEdgeHeal, ModEdgeHeal}
 use Rattle.map.specs.Tickets.{AddEdgeNewFaces, AddEdgeModFace, RemEdgeNewFace, RemEdgeModFace}
 
@@ -25,3 +29,7 @@ addTicket Mod u v c = AddEdgeModFace u v c
 abbrev pub removeTicket : Variant → ℤ → Ticket
 removeTicket New e = RemEdgeNewFace e
 removeTicket Mod e = RemEdgeModFace e
+
+-- the number of an edge that an edit changes: its own, or the next
+abbrev pub ownOrNext : Head → Variant → ℕ → ℕ
+ownOrNext h how own = cond (isMod how) own (natAbs (h .«next_edge»))

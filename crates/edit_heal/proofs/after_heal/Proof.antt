@@ -9,7 +9,7 @@ use Rattle.edit_heal.proofs.after_heal.Tie as tie
 
 changed-requires : tie.Need-changed-requires
 changed-requires c κs =
-    let k = few-numbers (c .before .args .keeps) (c .heal-numbers .ensures) in
+    let k = few-numbers (c .before .args .how) (c .heal-numbers .ensures) in
     search needs
 
 returns : tie.Need-returns

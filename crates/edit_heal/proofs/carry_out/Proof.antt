@@ -1,104 +1,87 @@
 -- `edit_heal::carry_out` meets its contract. Assumes nothing.
 use borrow.Author.Needs.{needs}
-use mathlib.Core.Path.{_≡_, ap, ap₂, _∙_}
-use mathlib.Core.Bool.{Bool, true, false}
-use Prim.Native.Nat.{ℕ, _*_}
-use native.Mathlib.Omega.{arith}
-use lib.IntN.{ℤ, pos, natAbs}
-use lib.ListN.{getD}
+use mathlib.Core.Path.{_≡_, ap, _∙_}
+use Prim.Native.Nat.{ℕ}
+use lib.IntN.{pos}
 use lib.Signed.{nonNeg}
 use mir.Syntax.{w64}
-use mir.Val.{SFits}
+use mir.Val.{SFits, toZ, ofZ}
 use mir.Facts.{toZ-ofZ}
 use Rattle.integers.specs.Signs.{sent}
 use Rattle.lists.specs.Tables.{place}
-use Rattle.map.specs.declared.Head.{Head}
+use Rattle.map.specs.Limits.{nodeWidth}
 use Rattle.tables.specs.Tables.{sameZ, column, closed}
-use Rattle.darts.proofs.Positions.{cells-of}
-use Rattle.head.specs.Heads.{Counted}
-use Rattle.head.proofs.Words.{count-natural, count-abs}
-use Rattle.edit_heal.specs.Heals.{healedNumber, healedRows}
+use Rattle.map_rows.specs.Rows.{edgeAt}
+use Rattle.map_rows.proofs.Rows.{edge-row-of}
+use Rattle.outcomes.specs.Variants.{ownOrNext}
+use Rattle.outcomes.proofs.Formed.{done}
+use Rattle.head.proofs.Words.{nodes-natural, nodes-read, edges-natural, edges-read}
+use Rattle.edit_heal.specs.Heals.{healedRows}
 use Rattle.edit_heal.proofs.carry_out.Statement.{statement}
 use Rattle.edit_heal.proofs.carry_out.Tie as tie
 
-natural : (h : Head) → Counted h → (keeps : Bool) (z : ℤ) (k : ℕ) → z ≡ pos k → nonNeg (healedNumber h keeps z) ≡ true
-natural h p true z k e = ap nonNeg e
-natural h p false z k e = ap nonNeg (p .next-edge .natural)
+number : (c : tie.After-own-or-next)
+    → let a = c .before .before .args in
+    toZ w64 (ofZ w64 (c .own-or-next .result)) ≡ pos (ownOrNext (a .h) (a .how) (edgeAt (a .edges .now) (a .i) .number))
+number c = sent (c .own-or-next .ok) ∙ c .own-or-next .ensures
 
-to-usize-requires : tie.Need-to-usize-requires
-to-usize-requires c κs = let s = c .before .before .before .before in
-    count-natural (s .args .h .edges) (s .pre .0 .edges .natural) (omega (arith, s .pre .0 .edges .most))
+joint-fits : (s : tie.Start) → SFits w64 (s .args .s .joint)
+joint-fits s = let g = s .good .1 .1 .1 .1 .1 .1 .0 in search (needs, g)
 
 heal-rows-requires : tie.Need-heal-rows-requires
 heal-rows-requires c κs =
-    let s = c .before .before .before .before .before in
-    let a = s .args in
-    let p = s .pre in
-    let e : c .to-usize .result ≡ natAbs (a .h .edges) = c .to-usize .ensures
-    ∙ count-abs (a .h .edges) (p .0 .edges .natural) (omega (arith, p .0 .edges .most)) in
-    let r = c .before .before .before .healed-number in
-    let z = sent (r .ok) ∙ r .ensures ∙ ap (healedNumber (a .h) (a .keeps))
-    (sent (c .before .before .before .before .healed-number-arg .given)) in
-    let g = ap nonNeg z ∙ natural (a .h) (p .0) (a .keeps) (getD (a .edges .now) (a .i * 32) (pos 0)) _
-    (cells-of (p .2) (a .i) (p .4) .number) in
-    rw e (p .2, p .0 .edges .most, p .7, p .8, g, p .4, p .5, p .6, p .9)
-
-to-usize-requires-2 : tie.Need-to-usize-requires-2
-to-usize-requires-2 c κs = let s = c .before .before .before .before .before .before .before .before .before .before in
-    count-natural (s .args .h .nodes) (s .pre .0 .nodes .natural) (omega (arith, s .pre .0 .nodes .most))
-
-remove-joint-requires : tie.Need-remove-joint-requires
-remove-joint-requires c κs =
-    let s = c .before .before .before .before .before .before .before .before .before .before .before in
-    let e : c .to-usize2 .result ≡ natAbs (s .args .h .nodes) = c .to-usize2 .ensures
-    ∙ count-abs (s .args .h .nodes) (s .pre .0 .nodes .natural) (omega (arith, s .pre .0 .nodes .most)) in
-    rw e (s .pre .1)
+    let o = c .before .before .before in
+    let p = o .before .before .pre in
+    let e = edges-read (p .counted) (c .to-usize .ensures) in
+    record {
+      darts = record {
+        rows = rw e (p .edge-rows);
+        few = rw e (p .counted .edges .most);
+        first = rw e (p .first);
+        second = rw e (p .second);
+        natural = ap nonNeg (number o);
+      };
+      rows = record {
+        first-row = rw e (p .first-row);
+        second-row = rw e (p .second-row);
+        apart = p .apart;
+        room = rw e (p .edge-rows .fits);
+      };
+      few-points = p .few-points;
+    }
 
 returns : tie.Need-returns
 returns c =
-    let s = c .before .before .before .before .before .before .before .before .before .before .before .before .before
-    .before .before .before in
+    let v = c .before .healed-value in
+    let j = c .before .before .before .before in
+    let r = j .before .before .before .before .before .before in
+    let o = r .before .before .before .before in
+    let s = o .before .before in
     let a = s .args in
     let p = s .pre in
-    let l = a .edges .now in
-    let e : c .before .before .before .before .before .before .before .before .before .before .before .to-usize .result
-    ≡ natAbs (a .h .edges) =
-    c .before .before .before .before .before .before .before .before .before .before .before .to-usize .ensures
-    ∙ count-abs (a .h .edges) (p .0 .edges .natural) (omega (arith, p .0 .edges .most)) in
-    let n : c .before .before .before .before .before .to-usize2 .result ≡ natAbs (a .h .nodes) =
-    c .before .before .before .before .before .to-usize2 .ensures
-    ∙ count-abs (a .h .nodes) (p .0 .nodes .natural) (omega (arith, p .0 .nodes .most)) in
-    let r = c .before .before .before .before .before .before .before .before .before .before .before .before .before
-    .before .healed-number in
-    let z = sent (r .ok) ∙ r .ensures ∙ ap (healedNumber (a .h) (a .keeps))
-    (sent (c .before .before .before .before .before .before .before .before .before .before .before .before .before
-    .before .before .healed-number-arg .given)) in
-    let g = s .good .1 .1 .1 .1 .1 .1 .0 in
-    let f : SFits w64 (a .s .joint) = search (needs, g) in
-    let v = sent (c .before .healed-value .ok) ∙ c .before .healed-value .ensures in (
-      c .before .before .before .before .before .before .before .before .before .before .heal-rows .ensures
-          ∙ ap₂ (λ (k : ℕ) (x : ℤ). healedRows l k (a .i) (a .j) (a .s .first) (a .s .second) (a .keeps) x (a .l)) e z,
-      λ k at. c .before .before .before .before .remove-joint .ensures k
-          ((λ t. place (sameZ (toZ-ofZ {w = w64} f t)) 0 (column 4 (a .nodes .now) (n t))) ∙ at)
-          ∙ ap (λ (x : ℕ). closed 4 (a .nodes .now) x k) n,
-      c .carried .ensures ∙ (λ t. record {
-        head = c .before .before .after-heal .ensures t;
-        answer = record { refusal = 0; value = v t };
-      }),
-    )
+    let e = edges-read (p .counted) (r .before .to-usize .ensures) in
+    let n = nodes-read (p .counted) (j .before .to-usize2 .ensures) in
+    record {
+      edges-after = r .heal-rows .ensures ∙ (λ t. healedRows (a .edges .now) (e t) (a .i) (a .j) (a .s .first)
+          (a .s .second) (a .how) (number o t) (a .l));
+      nodes-after = λ k at. j .remove-joint .ensures k
+          ((λ t. place (sameZ (toZ-ofZ {w = w64} (joint-fits s) t)) 0 (column nodeWidth (a .nodes .now) (n t))) ∙ at)
+          ∙ ap (λ (x : ℕ). closed nodeWidth (a .nodes .now) x k) n;
+      answered = done (c .before .before .after-heal .ensures) (sent (v .ok) ∙ v .ensures) (c .carried .ensures);
+    }
 
 pub carry-out-spec : {M : Type 1} → statement M
 carry-out-spec =
     tie.close
     (tie.spec
-    (λ c. search needs)
-    (λ c. search needs)
-    (λ c. search needs)
-    (λ c κs. search needs)
-    to-usize-requires
+    (λ c κs. let s = c .before in let p = s .pre in
+    (p .counted, edge-row-of (p .edge-rows) (s .args .i) (p .first-row)))
+    (λ c κs. edges-natural (c .before .before .before .before .pre .counted))
     heal-rows-requires
-    to-usize-requires-2
-    remove-joint-requires
+    (λ c κs. nodes-natural
+    (c .before .before .before .before .before .before .before .before .before .before .pre .counted))
+    (λ c κs. let p = c .before .before .before .before .before .before .before .before .before .before .before .pre in
+    rw (nodes-read (p .counted) (c .to-usize2 .ensures)) (p .node-rows))
     (λ c κs. search needs)
     (λ c κs. search needs)
     (λ c κs. search needs)

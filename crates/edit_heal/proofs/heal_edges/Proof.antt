@@ -1,140 +1,106 @@
--- `edit_heal::heal_edges` meets its contract: a missing row is turned down, and the rows that are found are healed.
+-- `edit_heal::heal_edges` meets its contract: a missing row is turned down, and rows that are found are worked on.
 -- Assumes nothing.
 use borrow.Author.Needs.{needs}
 use mathlib.Core.Path.{_≡_, sym, ap₂, _∙_}
-use native.Mathlib.Omega.{arith}
 use lib.Dec.{lit<}
 use lib.IntN.{ℤ, natAbs}
 use mir.Syntax.{w64}
 use mir.Facts.{toZ-ofZ}
+use Rattle.lists.specs.Tables.{place}
+use Rattle.lists.specs.declared.Found.{Found}
 use Rattle.lists.proofs.Bools.{or-right}
+use Rattle.map.specs.Limits.{edgeWidth}
 use Rattle.map.specs.Rows.{mapOf}
 use Rattle.map.specs.Reasons.{noEdge}
+use Rattle.tables.specs.Tables.{sameZ, column}
 use Rattle.map_rows.proofs.Rows.{edge-rows-rising}
-use Rattle.map_rows.proofs.Lookups.{edge-found}
 use Rattle.form_ranges.specs.Ranges.{lent}
 use Rattle.outcomes.specs.Outcomes.{decided}
-use Rattle.outcomes.proofs.Formed.{counted}
-use Rattle.outcomes.proofs.Formed.{ranges, edge-rows, decided-refused, edge-none}
-use Rattle.head.proofs.Words.{count-natural, count-abs}
-use Rattle.outcomes.proofs.Words.{place-told}
 use Rattle.outcomes.specs.Variants.{healTicket}
+use Rattle.outcomes.proofs.Formed.{edge-rows, counted, decided-refused, edge-none}
+use Rattle.head.proofs.Words.{edges-natural, edges-read}
+use Rattle.outcomes.proofs.Words.{place-told}
+use Rattle.outcomes.proofs.FoundRows.{edge-in, edge-number}
 use Rattle.edit_heal.proofs.Told.{row-missing}
 use Rattle.edit_heal.proofs.heal_edges.Statement.{statement}
 use Rattle.edit_heal.proofs.heal_edges.Tie as tie
 
-to-usize-requires : tie.Need-to-usize-requires
-to-usize-requires c κs = let s = c .before in let q = counted (s .pre .1) in
-    count-natural (s .args .h .edges) (q .edges .natural) (omega (arith, q .edges .most))
+-- the places of the numbers as they were passed
+first : (c : tie.After-find-row) {v : Found} → c .find-row .result ≡ v
+    → let a = c .before .before .before .before .args in
+    place (sameZ (a .edge)) 0 (column edgeWidth (a .edges .now) (natAbs (a .h .edges))) ≡ v
+first c e =
+    let s = c .before .before .before .before in
+    place-told edgeWidth (s .args .edges .now) (edges-read (counted (s .pre)) (c .before .before .to-usize .ensures))
+    (toZ-ofZ {w = w64} (s .fits .edge)) (c .find-row .ensures) e
 
-find-row-requires : tie.Need-find-row-requires
-find-row-requires c κs =
-    let s = c .before .before .before in
-    let q = counted (s .pre .1) in
-    let e : c .before .to-usize .result ≡ natAbs (s .args .h .edges) = c .before .to-usize .ensures
-    ∙ count-abs (s .args .h .edges) (q .edges .natural) (omega (arith, q .edges .most)) in
-    rw e (edge-rows-rising (edge-rows (s .pre .1)))
+second : (c : tie.After-find-row2) {v : Found} → c .find-row2 .result ≡ v
+    → let a = c .before .before .before .before .before .before .before .before .before .args in
+    place (sameZ (a .other)) 0 (column edgeWidth (a .edges .now) (natAbs (a .h .edges))) ≡ v
+second c e =
+    let t = c .before .before .before .before .before .before .before in
+    let s = t .before .before in
+    place-told edgeWidth (s .args .edges .now) (edges-read (counted (s .pre)) (t .to-usize .ensures))
+    (toZ-ofZ {w = w64} (s .fits .other)) (c .find-row2 .ensures) e
 
-returns : tie.Need-returns
-returns c faces f =
-    let s = c .before .before .before .before .before .before .before in
+missing : tie.Need-returns
+missing c =
+    let r = c .before .before .before in
+    let s = r .before .before .before .before in
     let a = s .args in
-    let q = counted f in
-    let e : c .before .before .before .before .before .to-usize .result ≡ natAbs (a .h .edges) =
-    c .before .before .before .before .before .to-usize .ensures
-    ∙ count-abs (a .h .edges) (q .edges .natural) (omega (arith, q .edges .most)) in
-    let at = place-told 32 (a .edges .now) e (toZ-ofZ {w = w64} {z = a .edge} (s .fits .edge))
-    (c .before .before .before .find-row .ensures) (c .before .enum-told .given .1) in
-    decided-refused (a .nodes .now) (a .edges .now) faces (a .h) (healTicket (a .keeps) (a .edge) (a .other)) 4
-    (lit< tt) (c .refused .ensures) (row-missing f (a .keeps) (a .edge) (a .other) (rw (edge-none f (a .edge) at)))
+    decided-refused _ _ _ _ _ 4 (lit< tt) (c .refused .ensures) (row-missing (s .pre) (a .how) (a .edge) (a .other)
+    (rw (edge-none (s .pre) (a .edge) (first r (c .before .enum-told .given .1)))))
 
-find-row-requires-2 : tie.Need-find-row-requires-2
-find-row-requires-2 c κs =
-    let s = c .before .before .before .before .before .before .before .before in
-    let q = counted (s .pre .1) in
-    let e : c .before .before .before .before .before .before .to-usize .result ≡ natAbs (s .args .h .edges) =
-    c .before .before .before .before .before .before .to-usize .ensures
-    ∙ count-abs (s .args .h .edges) (q .edges .natural) (omega (arith, q .edges .most)) in
-    rw e (edge-rows-rising (edge-rows (s .pre .1)))
-
-returns-2 : tie.Need-returns-2
-returns-2 c faces f =
-    let s = c .before .before .before .before .before .before .before .before .before .before .before .before in
+other-missing : tie.Need-returns-2
+other-missing c =
+    let r = c .before .before .before in
+    let s = r .before .before .before .before .before .before .before .before .before in
     let a = s .args in
-    let q = counted f in
-    let e : c .before .before .before .before .before .before .before .before .before .before .to-usize .result
-    ≡ natAbs (a .h .edges) =
-    c .before .before .before .before .before .before .before .before .before .before .to-usize .ensures
-    ∙ count-abs (a .h .edges) (q .edges .natural) (omega (arith, q .edges .most)) in
-    let at = place-told 32 (a .edges .now) e (toZ-ofZ {w = w64} {z = a .other} (s .fits .other))
-    (c .before .before .before .find-row2 .ensures) (c .before .enum-told2 .given .1) in
-    let m = mapOf (lent (a .nodes .now) (a .edges .now) faces (a .h)) in
-    decided-refused (a .nodes .now) (a .edges .now) faces (a .h) (healTicket (a .keeps) (a .edge) (a .other)) 4
-    (lit< tt) (c .refused2 .ensures) (row-missing f (a .keeps) (a .edge) (a .other)
-    (or-right (noEdge m (a .edge)) (noEdge m (a .other)) (edge-none f (a .other) at)))
+    decided-refused _ _ _ _ _ 4 (lit< tt) (c .refused2 .ensures) (row-missing (s .pre) (a .how) (a .edge) (a .other)
+    (or-right (noEdge (mapOf (lent (a .nodes .now) (a .edges .now) (a .faces .now) (a .h))) (a .edge)) _
+    (edge-none (s .pre) (a .other) (second r (c .before .enum-told2 .given .1)))))
 
-heal-rows-of-requires : tie.Need-heal-rows-of-requires
-heal-rows-of-requires c κs =
-    let s = c .before .before .before .before .before .before .before .before .before .before .before .before .before
-    .before in
-    let a = s .args in
-    let g = s .pre .1 in
-    let q = counted g in
-    let e : c .before .before .before .before .before .before .before .before .before .before .before .before .to-usize
-    .result ≡ natAbs (a .h .edges) =
-    c .before .before .before .before .before .before .before .before .before .before .before .before .to-usize
-    .ensures ∙ count-abs (a .h .edges) (q .edges .natural) (omega (arith, q .edges .most)) in
-    let at = place-told 32 (a .edges .now) e (toZ-ofZ {w = w64} {z = a .edge} (s .fits .edge))
-    (c .before .before .before .before .before .before .before .before .before .before .find-row .ensures)
-    (c .before .before .before .before .before .before .before .before .found .given .1) in
-    let at′ = place-told 32 (a .edges .now) e (toZ-ofZ {w = w64} {z = a .other} (s .fits .other))
-    (c .before .before .before .before .before .find-row2 .ensures)
-    (c .before .before .before .found-other .given .1) in (
+heal-at-rows-requires : tie.Need-heal-at-rows-requires
+heal-at-rows-requires c κs =
+    let d = c .before .before .before in
+    let b = d .before .before .before .before .before in
+    let s = b .before .before .before .before .before .before in (
       s .pre,
-      edge-found (a .edges .now) (natAbs (a .h .edges)) (ranges g .edge-rows) (a .edge) _ at .0,
-      edge-found (a .edges .now) (natAbs (a .h .edges)) (ranges g .edge-rows) (a .other) _ at′ .0,
+      edge-in (s .pre) (s .args .edge) _ (first (b .before .before) (b .found .given .1)),
+      edge-in (s .pre) (s .args .other) _ (second (d .before .before) (d .found-other .given .1)),
     )
 
-returns-3 : tie.Need-returns-3
-returns-3 c faces f =
-    let s = c .before .before .before .before .before .before .before .before .before .before .before .before .before
-    .before .before .before .before in
+found : tie.Need-returns-3
+found c =
+    let d = c .before .before .before .before .before .before in
+    let b = d .before .before .before .before .before in
+    let s = b .before .before .before .before .before .before in
     let a = s .args in
-    let q = counted f in
-    let e : c .before .before .before .before .before .before .before .before .before .before .before .before .before
-    .before .before .to-usize .result ≡ natAbs (a .h .edges) =
-    c .before .before .before .before .before .before .before .before .before .before .before .before .before .before
-    .before .to-usize .ensures ∙ count-abs (a .h .edges) (q .edges .natural) (omega (arith, q .edges .most)) in
-    let at = place-told 32 (a .edges .now) e (toZ-ofZ {w = w64} {z = a .edge} (s .fits .edge))
-    (c .before .before .before .before .before .before .before .before .before .before .before .before .before
-    .find-row .ensures)
-    (c .before .before .before .before .before .before .before .before .before .before .before .found .given .1) in
-    let at′ = place-told 32 (a .edges .now) e (toZ-ofZ {w = w64} {z = a .other} (s .fits .other))
-    (c .before .before .before .before .before .before .before .before .find-row2 .ensures)
-    (c .before .before .before .before .before .before .found-other .given .1) in
-    c .before .before .heal-rows-of .ensures faces f
-    ∙ ap₂ (λ (x y : ℤ). decided (lent (a .nodes .now) (a .edges .now) faces (a .h)) (healTicket (a .keeps) x y))
-    (sym (edge-found (a .edges .now) (natAbs (a .h .edges)) (ranges f .edge-rows) (a .edge) _ at .1))
-    (sym (edge-found (a .edges .now) (natAbs (a .h .edges)) (ranges f .edge-rows) (a .other) _ at′ .1))
+    c .before .before .heal-at-rows .ensures
+    ∙ ap₂ (λ (y z : ℤ). decided (lent (a .nodes .now) (a .edges .now) (a .faces .now) (a .h)) (healTicket (a .how) y z))
+    (sym (edge-number (s .pre) (a .edge) _ (first (b .before .before) (b .found .given .1))))
+    (sym (edge-number (s .pre) (a .other) _ (second (d .before .before) (d .found-other .given .1))))
 
 pub heal-edges-spec : {M : Type 1} → statement M
 heal-edges-spec =
     tie.close
     (tie.spec
-    to-usize-requires
-    find-row-requires
+    (λ c κs. edges-natural (counted (c .before .pre)))
+    (λ c κs. let s = c .before .before .before in
+    rw (edges-read (counted (s .pre)) (c .before .to-usize .ensures)) (edge-rows-rising (edge-rows (s .pre))))
     (λ c. search needs)
     (λ c. search needs)
     (λ c κs. search needs)
     (λ c. search needs)
-    returns
-    find-row-requires-2
+    missing
+    (λ c κs. let t = c .before .before .before .before .before .before in let f = t .before .before .pre in
+    rw (edges-read (counted f) (t .to-usize .ensures)) (edge-rows-rising (edge-rows f)))
     (λ c. search needs)
     (λ c. search needs)
     (λ c κs. search needs)
     (λ c. search needs)
-    returns-2
-    heal-rows-of-requires
+    other-missing
+    heal-at-rows-requires
     (λ c. search needs)
     (λ c. search needs)
-    returns-3)
+    found)

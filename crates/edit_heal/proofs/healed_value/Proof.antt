@@ -6,18 +6,13 @@ use mir.Facts.{toZ-ofZ}
 use Rattle.edit_heal.proofs.healed_value.Statement.{statement}
 use Rattle.edit_heal.proofs.healed_value.Tie as tie
 
-returns : tie.Need-returns
-returns c = rw (c .if1 .taken)
+next : tie.Need-returns
+next c =
+    let f : SFits w64 (c .before .before .before .args .h .«next_edge») = search needs in
+    rw (c .enum-told .given .1) (toZ-ofZ {w = w64} f)
 
-returns-2 : tie.Need-returns-2
-returns-2 c =
-    let s = c .before .before in
-    let f : SFits w64 (s .args .h .«next_edge») = search needs in
-    rw (c .if1 .left) (toZ-ofZ {w = w64} f)
+none : tie.Need-returns-2
+none c = rw (c .enum-told2 .given .1)
 
 pub healed-value-spec : {M : Type 1} → statement M
-healed-value-spec =
-    tie.close
-    (tie.spec
-    returns
-    returns-2)
+healed-value-spec = tie.close (tie.spec (λ c. search needs) (λ c. search needs) next none)

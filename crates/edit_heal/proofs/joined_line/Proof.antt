@@ -5,72 +5,24 @@ use native.Mathlib.Omega.{arith}
 use Rattle.curves.specs.Curves.{Curve, points}
 use Rattle.curves.specs.Edits.{joined}
 use Rattle.curve_edits.specs.Lines.{lineOf}
-use Rattle.map.proofs.RoundTrip.{curve-back}
-use Rattle.darts.specs.Positions.{odd}
 use Rattle.edit_heal.specs.Heals.{courseAt}
-use Rattle.edit_heal.proofs.Courses.{course-listed, points-few, line-count, line-long, line-run, line-curve}
+use Rattle.edit_heal.proofs.Courses.{CourseLine, course-line}
 use Rattle.edit_heal.proofs.joined_line.Statement.{statement}
 use Rattle.edit_heal.proofs.joined_line.Tie as tie
 
-mul-m : tie.Need-mul-m
-mul-m c =
-    let s = c .before .before .before .before .before in
-    let k = course-listed (s .pre .0) (odd (s .args .p)) in
-    let r = c .before .before .before .before in
-    omega (arith, points-few k, line-count k (r .course-of .result) (r .course-of .ensures))
+first : (c : tie.After-course-of)
+    → let a = c .before .args in CourseLine (c .course-of .result) (courseAt (a .edges .now) (a .p))
+first c = let s = c .before in course-line _ (s .args .p) _ (s .pre .0) (c .course-of .ensures)
 
-mul-n : tie.Need-mul-n
-mul-n c =
-    let s = c .before .before .before .before .before .before in
-    let k = course-listed (s .pre .1) (odd (s .args .q)) in
-    let r = c .before .before .before .before in
-    omega (arith, points-few k, line-count k (r .course-of2 .result) (r .course-of2 .ensures))
-
-part-joined-of-end : tie.Need-part-joined-of-end
-part-joined-of-end c =
-    let s = c .before .before .before .before .before .before .before in
-    let k = course-listed (s .pre .0) (odd (s .args .p)) in
-    let r = c .before .before .before .before .before .before in
-    omega (
-      arith,
-      points-few k,
-      line-count k (r .course-of .result) (r .course-of .ensures),
-      line-long k (r .course-of .result) (r .course-of .ensures),
-    )
-
-part-joined-of-end-2 : tie.Need-part-joined-of-end-2
-part-joined-of-end-2 c =
-    let s = c .before .before .before .before .before .before .before .before .before in
-    let k = course-listed (s .pre .1) (odd (s .args .q)) in
-    let r = c .before .before .before .before .before .before .before in
-    omega (
-      arith,
-      points-few k,
-      line-count k (r .course-of2 .result) (r .course-of2 .ensures),
-      line-long k (r .course-of2 .result) (r .course-of2 .ensures),
-    )
-
-joined-of-requires : tie.Need-joined-of-requires
-joined-of-requires c κs =
-    let s = c .before .before .before .before .before .before .before .before .before .before in
-    let x = c .before .before .before .before .before .before .before .before .before .course-of in
-    let y = c .before .before .before .before .before .before .before .before .course-of2 in (
-      line-run (course-listed (s .pre .0) (odd (s .args .p))) (x .result) (x .ensures),
-      line-run (course-listed (s .pre .1) (odd (s .args .q))) (y .result) (y .ensures),
-    )
+second : (c : tie.After-course-of2)
+    → let a = c .before .before .args in CourseLine (c .course-of2 .result) (courseAt (a .edges .now) (a .q))
+second c = let s = c .before .before in course-line _ (s .args .q) _ (s .pre .1) (c .course-of2 .ensures)
 
 returns : tie.Need-returns
 returns c =
-    let s = c .before .before .before .before .before .before .before .before .before .before .before in
-    let x = c .before .before .before .before .before .before .before .before .before .before .course-of in
-    let y = c .before .before .before .before .before .before .before .before .before .course-of2 in
-    let l = s .args .edges .now in
+    let r = c .before .before .before .before .before .before .before .before .before in
     c .joined-of .ensures
-    ∙ ap₂ (λ (a d : Curve). lineOf (points (joined a d)))
-    (line-curve (course-listed (s .pre .0) (odd (s .args .p))) (x .result) (x .ensures)
-    ∙ curve-back (courseAt l (s .args .p)))
-    (line-curve (course-listed (s .pre .1) (odd (s .args .q))) (y .result) (y .ensures)
-    ∙ curve-back (courseAt l (s .args .q)))
+    ∙ ap₂ (λ (a d : Curve). lineOf (points (joined a d))) (first (r .before) .curve) (second r .curve)
 
 pub joined-line-spec : {M : Type 1} → statement M
 joined-line-spec =
@@ -78,13 +30,14 @@ joined-line-spec =
     (tie.spec
     (λ c κs. search needs)
     (λ c κs. search needs)
-    mul-m
-    mul-n
+    (λ c. omega (arith, first (c .before .before .before .before) .few))
+    (λ c. omega (arith, second (c .before .before .before .before) .few))
     (λ c. search needs)
     (λ c. search needs)
-    part-joined-of-end
+    (λ c. let k = first (c .before .before .before .before .before .before) in omega (arith, k .few, k .long))
     (λ c. search needs)
     (λ c. search needs)
-    part-joined-of-end-2
-    joined-of-requires
+    (λ c. let k = second (c .before .before .before .before .before .before .before) in omega (arith, k .few, k .long))
+    (λ c κs. let r = c .before .before .before .before .before .before .before .before in
+    (first (r .before) .run, second r .run))
     returns)

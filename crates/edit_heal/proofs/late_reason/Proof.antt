@@ -1,45 +1,37 @@
 -- `edit_heal::late_reason` meets its contract: each test answers its reason, in order. Assumes nothing.
 use borrow.Author.Needs.{needs}
 use borrow.Author.Tests.{lt-ltb, le-ltb}
-use mathlib.Core.Path.{sym, _∙_}
+use mathlib.Core.Path.{_≡_, sym, _∙_}
+use mathlib.Core.List.{[], _∷_}
+use Rattle.curves.specs.Curves.{maxPoints}
 use Rattle.map.specs.Reasons.{firstReason}
+use Rattle.map.proofs.Reasons.{first-hit, first-miss, first-none}
+use Rattle.edit_heal.specs.Heals.{lateReasons}
 use Rattle.edit_heal.proofs.late_reason.Statement.{statement}
 use Rattle.edit_heal.proofs.late_reason.Tie as tie
 
-returns : tie.Need-returns
+kept : tie.Need-returns-2
 unfolding firstReason
-returns c = rw (lt-ltb 12 (c .before .args .count) (c .if1 .taken))
+kept c = let k = c .before .before in
+    rw (le-ltb maxPoints (k .before .args .count) (k .if1 .left), c .enum-told .given .1)
 
-returns-2 : tie.Need-returns-2
+-- 18 does not hold, and a number is needed
+passed : (c : tie.After-is-spent)
+    → let a = c .before .before .before .before .args in
+    firstReason ((21, c .is-spent .result) ∷ []) ≡ firstReason (lateReasons (a .count) (a .h) (a .how))
 unfolding firstReason
-returns-2 c = rw (le-ltb 12 (c .before .before .args .count) (c .before .if1 .left), c .if2 .taken)
-
-returns-3 : tie.Need-returns-3
-unfolding firstReason
-returns-3 c =
-    let s = c .before .before .before .before in
-    rw (
-      le-ltb 12 (s .args .count) (c .before .before .before .if1 .left),
-      c .before .before .if2 .left,
-      sym (c .before .is-spent .ensures) ∙ c .if3 .taken,
-    )
-
-returns-4 : tie.Need-returns-4
-unfolding firstReason
-returns-4 c =
-    let s = c .before .before .before .before in
-    rw (
-      le-ltb 12 (s .args .count) (c .before .before .before .if1 .left),
-      c .before .before .if2 .left,
-      sym (c .before .is-spent .ensures) ∙ c .if3 .left,
-    )
+passed c =
+    let k = c .before .before .before in
+    rw (le-ltb maxPoints (k .before .args .count) (k .if1 .left), c .before .enum-told2 .given .1, c .is-spent .ensures)
 
 pub late-reason-spec : {M : Type 1} → statement M
 late-reason-spec =
     tie.close
     (tie.spec
-    returns
-    returns-2
+    (λ c. sym (first-hit 18 _ _ (lt-ltb maxPoints (c .before .args .count) (c .if1 .taken))))
+    (λ c. search needs)
+    (λ c. search needs)
     (λ c κs. search needs)
-    returns-3
-    returns-4)
+    kept
+    (λ c. sym (first-hit 21 _ _ (c .if2 .taken)) ∙ passed (c .before))
+    (λ c. sym (first-miss 21 _ _ (c .if2 .left) ∙ first-none) ∙ passed (c .before)))

@@ -1,78 +1,73 @@
 -- `edit_nodes::move_reason` meets its contract: each test answers its reason, in order. Assumes nothing.
-use mathlib.Core.Path.{sym, ap, ap₂, _∙_}
-use mathlib.Core.Bool.{not, _&&_, _||_}
-use Prim.Native.Nat.{ℕ}
+use mathlib.Core.Path.{_≡_, sym, ap₂, _∙_}
+use mathlib.Core.Bool.{Bool, not}
+use mathlib.Core.List.{[], _∷_}
 use mir.Syntax.{w64}
 use mir.Facts.{toZ-ofZ}
 use borrow.Author.Tests.{not-false}
-use Rattle.lists.specs.Tests.{same}
-use Rattle.lists.specs.Scans.{anyOf}
-use Rattle.lists.specs.Tables.{table}
-use Rattle.plane.specs.declared.Point.{Point}
-use Rattle.plane.specs.Points.{samePoint}
 use Rattle.curves.specs.Curves.{point}
-use Rattle.map.specs.Reasons.{firstReason, edgeThrough}
-use Rattle.map_rows.specs.Rows.{nodeAt, edgeMap}
+use Rattle.map.specs.Reasons.{firstReason, outside}
+use Rattle.map.proofs.Reasons.{first-hit, first-miss, first-none}
 use Rattle.map_rows.proofs.Rows.{node-row-of}
-use Rattle.map.proofs.Reasons.{first-hit}
+use Rattle.outcomes.proofs.Formed.{node-rows, edge-rows, counted}
+use Rattle.head.proofs.Words.{nodes-natural, nodes-read, edges-natural, edges-read}
+use Rattle.edit_nodes.specs.Parts.{pointTaken, moveReasons}
 use Rattle.edit_nodes.proofs.Told.{range-told}
 use Rattle.edit_nodes.proofs.move_reason.Statement.{statement}
 use Rattle.edit_nodes.proofs.move_reason.Tie as tie
 
-outside-it : tie.Need-returns
-outside-it c =
-    let s = c .before .before in
-    sym (first-hit 5 _ _ (range-told (toZ-ofZ {w = w64} {z = s .args .x} (s .fits .x))
-    (toZ-ofZ {w = w64} {z = s .args .y} (s .fits .y)) (c .before .in-range .ensures) (c .if1 .taken)))
+range : (c : tie.After-in-range) {v : Bool} → not (c .in-range .result) ≡ v
+    → outside (c .before .args .x) (c .before .args .y) ≡ v
+range c e =
+    let s = c .before in
+    range-told (toZ-ofZ {w = w64} (s .fits .x)) (toZ-ofZ {w = w64} (s .fits .y)) (c .in-range .ensures) e
 
-bare : tie.Need-returns-2
+joined : tie.Need-returns-2
 unfolding firstReason
-bare c =
-    let s = c .before .before .before .before in
-    let g = range-told (toZ-ofZ {w = w64} {z = s .args .x} (s .fits .x))
-    (toZ-ofZ {w = w64} {z = s .args .y} (s .fits .y)) (c .before .before .before .in-range .ensures)
-    (c .before .before .if1 .left) in
-    rw (g, ← c .before .is-isolated .ensures, c .if2 .taken)
+joined c =
+    let k = c .before .before in
+    rw (range (k .before) (k .if1 .left), ← c .before .is-isolated .ensures, c .if2 .taken)
 
-taken : tie.Need-returns-3
+-- 5 and 9 do not hold
+passed : (c : tie.After-point-is-taken)
+    → let a = c .before .before .before .before .before .before .before .before .before .before .args in
+    firstReason ((10, c .point-is-taken .result) ∷ [])
+    ≡ firstReason (moveReasons (a .nodes .now) (a .edges .now) (a .h) (a .i) (a .x) (a .y))
 unfolding firstReason
-taken c =
-    let s = c .before .before .before .before .before .before .before in
+passed c =
+    let p = c .before in
+    let t = p .before in
+    let u = t .before .before in
+    let i = u .before .before in
+    let k = i .before .before in
+    let s = k .before .before in
     let a = s .args in
-    let zx = toZ-ofZ {w = w64} {z = s .args .x} (s .fits .x) in
-    let zy = toZ-ofZ {w = w64} {z = s .args .y} (s .fits .y) in
-    let g = range-told zx zy (c .before .before .before .before .before .before .in-range .ensures)
-    (c .before .before .before .before .before .if1 .left) in
-    let p = c .before .before .point-of .ensures .0 ∙ ap₂ point zx zy in
-    let t = sym (c .before .is-taken .ensures
-    ∙ ap (λ (q : Point). anyOf (λ (j : ℕ). not (same j (a .i)) && samePoint (nodeAt (a .nodes .now) j .at) q)
-    (table (λ j. j) 0 (a .n)) || edgeThrough (edgeMap (a .edges .now) (a .count)) q) p) ∙ c .if3 .taken in
-    rw (g, ← c .before .before .before .before .is-isolated .ensures, c .before .before .before .if2 .left, t)
+    let n = nodes-read (counted (s .pre .0)) (u .to-usize .ensures) in
+    let e = edges-read (counted (s .pre .0)) (t .to-usize2 .ensures) in
+    let q = p .point-of .ensures .0 ∙ ap₂ point (toZ-ofZ {w = w64} (s .fits .x)) (toZ-ofZ {w = w64} (s .fits .y)) in
+    let r = c .point-is-taken .ensures ∙ (λ j. pointTaken (a .nodes .now) (n j) (a .edges .now) (e j) (a .i) (q j)) in
+    rw (range (k .before) (k .if1 .left), ← i .before .is-isolated .ensures, i .if2 .left, ← r)
 
-none-holds : tie.Need-returns-4
-unfolding firstReason
-none-holds c =
-    let s = c .before .before .before .before .before .before .before in
-    let a = s .args in
-    let zx = toZ-ofZ {w = w64} {z = s .args .x} (s .fits .x) in
-    let zy = toZ-ofZ {w = w64} {z = s .args .y} (s .fits .y) in
-    let g = range-told zx zy (c .before .before .before .before .before .before .in-range .ensures)
-    (c .before .before .before .before .before .if1 .left) in
-    let p = c .before .before .point-of .ensures .0 ∙ ap₂ point zx zy in
-    let t = sym (c .before .is-taken .ensures
-    ∙ ap (λ (q : Point). anyOf (λ (j : ℕ). not (same j (a .i)) && samePoint (nodeAt (a .nodes .now) j .at) q)
-    (table (λ j. j) 0 (a .n)) || edgeThrough (edgeMap (a .edges .now) (a .count)) q) p) ∙ c .if3 .left in
-    rw (g, ← c .before .before .before .before .is-isolated .ensures, c .before .before .before .if2 .left, t)
+point-is-taken-requires : tie.Need-point-is-taken-requires
+point-is-taken-requires c κs =
+    let f = c .before .before .before .before .before .before .before .before .before .pre .0 in (
+      rw (nodes-read (counted f) (c .before .before .before .to-usize .ensures)) (node-rows f),
+      rw (edges-read (counted f) (c .before .to-usize2 .ensures)) (edge-rows f),
+      c .point-of .ensures .1,
+    )
 
 pub move-reason-spec : {M : Type 1} → statement M
 move-reason-spec =
     tie.close
     (tie.spec
     (λ c κs. tt)
-    outside-it
-    (λ c κs. node-row-of (c .before .before .pre .0) _ (c .before .before .pre .2))
-    bare
-    (λ c κs. sym (c .before .before .before .in-range .ensures) ∙ not-false _ (c .before .before .if1 .left))
-    (λ c κs. let p = c .before .before .before .before .before .pre in (p .0, p .1, c .point-of .ensures .1))
-    taken
-    none-holds)
+    (λ c. sym (first-hit 5 _ _ (range (c .before) (c .if1 .taken))))
+    (λ c κs. let s = c .before .before in node-row-of (node-rows (s .pre .0)) (s .args .i) (s .pre .1))
+    joined
+    (λ c κs. nodes-natural (counted (c .before .before .before .before .before .pre .0)))
+    (λ c κs. edges-natural (counted (c .before .before .before .before .before .before .before .pre .0)))
+    (λ c κs. let k = c .before .before .before .before .before .before in
+    sym (k .before .in-range .ensures) ∙ not-false _ (k .if1 .left))
+    point-is-taken-requires
+    (λ c. sym (first-hit 10 _ _ (c .if3 .taken)) ∙ passed (c .before))
+    (λ c. sym (first-miss 10 _ _ (c .if3 .left) ∙ first-none) ∙ passed (c .before)))

@@ -1,136 +1,67 @@
--- `edit_nodes::remove_node` meets its contract: turned down by the first reason, or a row less. Assumes nothing.
+-- `edit_nodes::remove_node` meets its contract: a missing row is turned down, and a row that is found is worked on.
+-- Assumes nothing.
 use borrow.Author.Needs.{needs}
-use mathlib.Core.Path.{ap, _∙_}
-use Prim.Native.Nat.{ℕ}
+use mathlib.Core.Path.{_≡_, sym, ap, _∙_}
 use lib.Dec.{lit<}
-use lib.IntN.{pos}
+use lib.IntN.{ℤ, natAbs}
 use mir.Syntax.{w64}
 use mir.Facts.{toZ-ofZ}
-use Rattle.tables.specs.Tables.{closed}
+use Rattle.lists.specs.Tables.{place}
+use Rattle.lists.specs.declared.Found.the-variants.{At}
+use Rattle.map.specs.Limits.{nodeWidth}
 use Rattle.map.specs.Tickets.{RemoveIsoNode}
-use Rattle.map_rows.proofs.Rows.{node-rows-rising, node-row-of}
-use Rattle.outcomes.proofs.Formed.{nodes-count, nodes-fit, node-rows, decided-refused, decided-carried, node-none}
-use Rattle.outcomes.proofs.Formed.{counted}
-use Rattle.outcomes.proofs.Words.{count-natural, count-abs, place-told}
-use Rattle.edit_nodes.proofs.Told.{few-nodes}
-use Rattle.edit_nodes.proofs.Rows.{remove-missing, row-below, row-number, remove-bare, remove-free}
-use Rattle.edit_nodes.proofs.Nodes.{remove-carried}
+use Rattle.tables.specs.Tables.{sameZ, column}
+use Rattle.map_rows.proofs.Rows.{node-rows-rising}
+use Rattle.form_ranges.specs.Ranges.{lent}
+use Rattle.outcomes.specs.Outcomes.{decided}
+use Rattle.outcomes.proofs.Formed.{node-rows, counted, decided-refused}
+use Rattle.head.proofs.Words.{nodes-natural, nodes-read}
+use Rattle.outcomes.proofs.Words.{place-told}
+use Rattle.outcomes.proofs.FoundRows.{node-in, node-number}
+use Rattle.edit_nodes.proofs.Rows.{remove-missing}
 use Rattle.edit_nodes.proofs.remove_node.Statement.{statement}
 use Rattle.edit_nodes.proofs.remove_node.Tie as tie
 
 missing : tie.Need-returns
-missing c edges faces f =
-    let s = c .before .before .before .before .before .before .before in
-    let a = s .args in
-    let g = s .pre .2 in
-    let n = c .before .before .before .before .before .to-usize .ensures
-    ∙ count-abs (a .h .nodes) (nodes-count g .0) (few-nodes g) in
-    let z = toZ-ofZ {w = w64} {z = a .node} (s .fits .node) in
-    let e = place-told 4 (a .nodes .now) n z (c .before .before .before .find-row .ensures)
-    (c .before .enum-told .given .1) in
-    decided-refused (a .nodes .now) edges faces (a .h) (RemoveIsoNode (a .node)) 4 (lit< tt) (c .refused .ensures)
-    (remove-missing f (a .node) (node-none f (a .node) e))
+missing c =
+    let m = c .before .before .before in
+    let s = m .before .before .before .before in
+    decided-refused _ _ _ _ _ 4 (lit< tt) (c .refused .ensures)
+    (remove-missing (s .pre) (s .args .node) (place-told nodeWidth (s .args .nodes .now)
+    (nodes-read (counted (s .pre)) (m .before .before .to-usize .ensures)) (toZ-ofZ {w = w64} (s .fits .node))
+    (m .find-row .ensures) (c .before .enum-told .given .1)))
 
-bare : tie.Need-returns-2
-bare c edges faces f =
-    let s = c .before .before .before .before .before .before .before .before .before .before .before in
-    let a = s .args in
-    let g = s .pre .2 in
-    let n = c .before .before .before .before .before .before .before .before .before .to-usize .ensures
-    ∙ count-abs (a .h .nodes) (nodes-count g .0) (few-nodes g) in
-    let z = toZ-ofZ {w = w64} {z = a .node} (s .fits .node) in
-    let e = place-told 4 (a .nodes .now) n z
-    (c .before .before .before .before .before .before .before .find-row .ensures)
-    (c .before .before .before .before .before .found .given .1) in
-    decided-refused (a .nodes .now) edges faces (a .h) (RemoveIsoNode (a .node)) 9 (lit< tt) (c .refused2 .ensures)
-    (remove-bare f (a .node) _ e (c .before .before .is-isolated .ensures) (c .before .if1 .taken))
+node-at : (c : tie.After-found)
+    → let a = c .before .before .before .before .before .before .args in
+    place (sameZ (a .node)) 0 (column nodeWidth (a .nodes .now) (natAbs (a .h .nodes))) ≡ At (c .found .given .0 .0)
+node-at c =
+    let m = c .before .before in
+    let s = m .before .before .before .before in
+    place-told nodeWidth (s .args .nodes .now) (nodes-read (counted (s .pre)) (m .before .before .to-usize .ensures))
+    (toZ-ofZ {w = w64} (s .fits .node)) (m .find-row .ensures) (c .found .given .1)
 
-gone : tie.Need-returns-3
-gone c edges faces f =
-    let s = c .before .before .before .before .before .before .before .before .before .before .before .before .before
-    .before .before in
+found : tie.Need-returns-2
+found c =
+    let d = c .before .before .before .before in
+    let s = d .before .before .before .before .before .before in
     let a = s .args in
-    let g = s .pre .2 in
-    let n = c .before .before .before .before .before .before .before .before .before .before .before .before .before
-    .to-usize .ensures ∙ count-abs (a .h .nodes) (nodes-count g .0) (few-nodes g) in
-    let z = toZ-ofZ {w = w64} {z = a .node} (s .fits .node) in
-    let e = place-told 4 (a .nodes .now) n z
-    (c .before .before .before .before .before .before .before .before .before .before .before .find-row .ensures)
-    (c .before .before .before .before .before .before .before .before .before .found .given .1) in
-    let row = c .before .before .before .remove-row .ensures
-    ∙ ap (λ (k : ℕ). closed 4 (a .nodes .now) k
-    (c .before .before .before .before .before .before .before .before .before .found .given .0 .0)) n in
-    let done = remove-carried f _ (row-below f (a .node) _ e) (a .node) (row-number f (a .node) _ e) row in
-    decided-carried (a .nodes .now) edges faces (a .h) (RemoveIsoNode (a .node)) _ edges faces _ (pos 0)
-    (c .carried .ensures ∙ ap (λ h. record { head = h; answer = record { refusal = 0; value = pos 0 } })
-    (c .before .changed .ensures))
-    (remove-free f (a .node) _ e (c .before .before .before .before .before .before .is-isolated .ensures)
-    (c .before .before .before .before .before .if1 .left)) (done .0) (done .1)
-
-find-row-requires : tie.Need-find-row-requires
-find-row-requires c κs =
-    let s = c .before .before .before in
-    let g = s .pre .2 in
-    rw (c .before .to-usize .ensures ∙ count-abs (s .args .h .nodes) (nodes-count g .0) (few-nodes g))
-    (node-rows-rising (node-rows g))
-
-is-isolated-requires : tie.Need-is-isolated-requires
-is-isolated-requires c κs =
-    let s = c .before .before .before .before .before .before .before .before in
-    let a = s .args in
-    let g = s .pre .2 in
-    let n = c .before .before .before .before .before .before .to-usize .ensures
-    ∙ count-abs (a .h .nodes) (nodes-count g .0) (few-nodes g) in
-    let z = toZ-ofZ {w = w64} {z = a .node} (s .fits .node) in
-    let e = place-told 4 (a .nodes .now) n z (c .before .before .before .before .find-row .ensures)
-    (c .before .before .found .given .1) in
-    node-row-of (node-rows g) _ (row-below g (a .node) _ e)
-
-remove-row-requires : tie.Need-remove-row-requires
-remove-row-requires c κs =
-    let s = c .before .before .before .before .before .before .before .before .before .before .before in
-    let a = s .args in
-    let g = s .pre .2 in
-    let n = c .before .before .before .before .before .before .before .before .before .to-usize .ensures
-    ∙ count-abs (a .h .nodes) (nodes-count g .0) (few-nodes g) in
-    let z = toZ-ofZ {w = w64} {z = a .node} (s .fits .node) in
-    let e = place-told 4 (a .nodes .now) n z
-    (c .before .before .before .before .before .before .before .find-row .ensures)
-    (c .before .before .before .before .before .found .given .1) in
-    rw n (row-below g (a .node) _ e, nodes-fit g)
-
-changed-requires : tie.Need-changed-requires
-changed-requires c κs =
-    let s = c .before .before .before .before .before .before .before .before .before .before .before .before .before in
-    let a = s .args in
-    let g = s .pre .2 in
-    let n = c .before .before .before .before .before .before .before .before .before .before .before .to-usize
-    .ensures ∙ count-abs (a .h .nodes) (nodes-count g .0) (few-nodes g) in
-    let z = toZ-ofZ {w = w64} {z = a .node} (s .fits .node) in
-    let e = place-told 4 (a .nodes .now) n z
-    (c .before .before .before .before .before .before .before .before .before .find-row .ensures)
-    (c .before .before .before .before .before .before .before .found .given .1) in
-    let t = row-below g (a .node) _ e in
-    let k = counted g in
-    search needs
+    c .before .remove-at-row .ensures
+    ∙ ap (λ (z : ℤ). decided (lent (a .nodes .now) (a .edges .now) (a .faces .now) (a .h)) (RemoveIsoNode z))
+    (sym (node-number (s .pre) (a .node) (d .found .given .0 .0) (node-at d)))
 
 pub remove-node-spec : {M : Type 1} → statement M
 remove-node-spec =
     tie.close
     (tie.spec
-    (λ c κs. let g = c .before .pre .2 in count-natural (c .before .args .h .nodes) (nodes-count g .0) (few-nodes g))
-    find-row-requires
+    (λ c κs. nodes-natural (counted (c .before .pre)))
+    (λ c κs. let s = c .before .before .before in
+    rw (nodes-read (counted (s .pre)) (c .before .to-usize .ensures)) (node-rows-rising (node-rows (s .pre))))
     (λ c. search needs)
     (λ c. search needs)
     (λ c κs. tt)
     (λ c. search needs)
     missing
-    is-isolated-requires
-    (λ c κs. tt)
+    (λ c κs. let d = c .before .before in let s = d .before .before .before .before .before .before in
+    (s .pre, node-in (s .pre) (s .args .node) (d .found .given .0 .0) (node-at d)))
     (λ c. search needs)
-    bare
-    remove-row-requires
-    changed-requires
-    (λ c κs. tt)
-    (λ c. search needs)
-    gone)
+    found)

@@ -9,7 +9,7 @@ use Rattle.edit_split.proofs.after_split.Tie as tie
 
 changed-requires : tie.Need-changed-requires
 changed-requires c κs =
-    let k = few-numbers (c .before .args .keeps) (c .split-numbers .ensures) in
+    let k = few-numbers (c .before .args .how) (c .split-numbers .ensures) in
     search needs
 
 returns : tie.Need-returns

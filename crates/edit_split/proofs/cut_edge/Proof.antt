@@ -1,74 +1,68 @@
 -- `edit_split::cut_edge` meets its contract. Assumes nothing.
 use borrow.Author.Needs.{needs}
 use mathlib.Core.Path.{_≡_, ap, ap₂, _∙_}
-use mathlib.Core.Bool.{Bool, true, false}
-use native.Mathlib.Omega.{arith}
-use lib.IntN.{ℤ}
+use lib.IntN.{pos}
 use lib.Signed.{nonNeg}
 use mir.Syntax.{w64}
 use mir.Val.{toZ, ofZ}
 use mir.Facts.{toZ-ofZ}
 use Rattle.integers.specs.Signs.{sent}
 use Rattle.curves.specs.Curves.{point}
-use Rattle.head.specs.Heads.{Counted}
-use Rattle.head.proofs.Words.{count-natural, count-abs, count-fits}
-use Rattle.edit_split.specs.Cuts.{cutRow, startNumber, endNumber}
+use Rattle.map_rows.specs.Rows.{edgeAt}
+use Rattle.head.proofs.Words.{edges-natural, edges-read}
+use Rattle.outcomes.proofs.Words.{next-node-back}
+use Rattle.outcomes.specs.Variants.{ownOrNext}
+use Rattle.edit_split.specs.Cuts.{cutRow, endNumber}
 use Rattle.edit_split.proofs.cut_edge.Statement.{statement}
 use Rattle.edit_split.proofs.cut_edge.Tie as tie
 
-start-natural : (b : Bool) (h : _) (z : ℤ) → Counted h → nonNeg z ≡ true → nonNeg (startNumber h b z) ≡ true
-start-natural true h z p e = e
-start-natural false h z p e = ap nonNeg (p .next-edge .natural)
+-- the numbers of the halves
+start : (c : tie.After-own-or-next)
+    → let a = c .before .before .before .before .before .before .args in
+    toZ w64 (ofZ w64 (c .own-or-next .result))
+    ≡ pos (ownOrNext (a .h) (a .how) (edgeAt (a .edges .now) (a .i) .number))
+start c = sent (c .own-or-next .ok) ∙ c .own-or-next .ensures
+
+end : (c : tie.After-end-number)
+    → let a = c .before .before .before .before .before .before .before .args in
+    toZ w64 (ofZ w64 (c .end-number .result)) ≡ pos (endNumber (a .h) (a .how))
+end c = sent (c .end-number .ok) ∙ c .end-number .ensures
 
 cut-row-requires : tie.Need-cut-row-requires
 cut-row-requires c κs =
-    let s = c .before .before .before .before .before .before .before in
-    let a = s .args in
-    let p = s .pre in
-    let e = c .before .before .before .before .to-usize .ensures
-    ∙ count-abs (a .h .edges) (p .0 .edges .natural) (omega (arith, p .0 .edges .most)) in
-    let za : toZ w64 (ofZ w64 (c .before .before .start-number .result)) ≡ startNumber (a .h) (a .keeps) (a .edge) =
-    sent (c .before .before .start-number .ok) ∙ c .before .before .start-number .ensures
-    ∙ ap (startNumber (a .h) (a .keeps)) (toZ-ofZ {w = w64} {z = a .edge} (s .fits .edge)) in
-    let zb : toZ w64 (ofZ w64 (c .before .end-number .result)) ≡ endNumber (a .h) (a .keeps) =
-    sent (c .before .end-number .ok) ∙ c .before .end-number .ensures in (
-      p .1,
-      c .before .before .before .point-of .ensures .1,
-      omega (arith, p .2),
-      omega (arith, p .0 .edges .most),
-      omega (arith, p .3),
-      ap nonNeg za ∙ start-natural (a .keeps) (a .h) (a .edge) (p .0) (p .4),
-      ap nonNeg zb,
-    )
+    let b = c .before in
+    let t = b .before .before .before .before in
+    let p = t .before .before .before .pre in
+    let e = edges-read (p .counted) (t .to-usize .ensures) in
+    record {
+      row = p .row;
+      point = b .before .before .before .point-of .ensures .1;
+      below = rw e (p .below);
+      few = rw e (p .counted .edges .most);
+      room = rw e (p .room);
+      start-natural = ap nonNeg (start (b .before));
+      end-natural = ap nonNeg (end b);
+    }
 
 returns : tie.Need-returns
 returns c =
-    let s = c .before .before .before .before .before .before .before .before .before in
+    let b = c .before .before .before in
+    let q = b .before .before .before in
+    let s = q .before .before .before .before in
     let a = s .args in
-    let p = s .pre in
-    let e = c .before .before .before .before .before .before .to-usize .ensures
-    ∙ count-abs (a .h .edges) (p .0 .edges .natural) (omega (arith, p .0 .edges .most)) in
-    let zn : toZ w64 (ofZ w64 (a .h .«next_node»)) ≡ a .h .«next_node» =
-    toZ-ofZ {w = w64} (count-fits (a .h .«next_node») (p .0 .next-node .natural)
-    (omega (arith, p .0 .next-node .most))) in
-    let zp = c .before .before .before .before .before .point-of .ensures .0
-    ∙ ap₂ point (toZ-ofZ {w = w64} {z = a .x} (s .fits .x)) (toZ-ofZ {w = w64} {z = a .y} (s .fits .y)) in
-    let za : toZ w64 (ofZ w64 (c .before .before .before .before .start-number .result))
-    ≡ startNumber (a .h) (a .keeps) (a .edge) = sent (c .before .before .before .before .start-number .ok)
-    ∙ c .before .before .before .before .start-number .ensures
-    ∙ ap (startNumber (a .h) (a .keeps)) (toZ-ofZ {w = w64} {z = a .edge} (s .fits .edge)) in
-    let zb : toZ w64 (ofZ w64 (c .before .before .before .end-number .result)) ≡ endNumber (a .h) (a .keeps) =
-    sent (c .before .before .before .end-number .ok) ∙ c .before .before .before .end-number .ensures in
-    c .before .cut-row .ensures ∙ (λ j. cutRow (a .edges .now) (e j) (a .i) (zn j) (zp j) (a .keeps) (za j) (zb j))
+    let e = edges-read (s .pre .counted) (q .before .to-usize .ensures) in
+    let n = next-node-back (s .pre .counted) in
+    let p = q .point-of .ensures .0 ∙ ap₂ point (toZ-ofZ {w = w64} (s .fits .x)) (toZ-ofZ {w = w64} (s .fits .y)) in
+    c .before .cut-row .ensures
+    ∙ (λ j. cutRow (a .edges .now) (e j) (a .i) (n j) (p j) (a .how) (start (b .before) j) (end b j))
 
 pub cut-edge-spec : {M : Type 1} → statement M
 cut-edge-spec =
     tie.close
     (tie.spec
-    (λ c κs. let s = c .before .before in
-    count-natural (s .args .h .edges) (s .pre .0 .edges .natural) (omega (arith, s .pre .0 .edges .most)))
+    (λ c κs. edges-natural (c .before .before .pre .counted))
     (λ c κs. search needs)
-    (λ c κs. search needs)
+    (λ c κs. let p = c .before .before .before .before .before .pre in (p .counted, p .row))
     (λ c κs. search needs)
     cut-row-requires
     (λ c. search needs)

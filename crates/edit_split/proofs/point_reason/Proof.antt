@@ -2,7 +2,8 @@
 use borrow.Author.Needs.{needs}
 use borrow.Author.Tests.{not-false}
 use mathlib.Core.Path.{_≡_, sym, ap, ap₂, _∙_}
-use mathlib.Core.Bool.{true, false, not, _&&_}
+use mathlib.Core.Bool.{Bool, not, _&&_}
+use mathlib.Core.List.{[], _∷_}
 use native.Mathlib.Omega.{arith}
 use lib.IntN.{ℤ}
 use mir.Syntax.{w64}
@@ -11,90 +12,65 @@ use Rattle.curves.specs.Curves.{point, coordinate}
 use Rattle.curves.specs.Tests.{onCurve}
 use Rattle.map.specs.Reasons as reasons
 use Rattle.map.specs.Reasons.{firstReason, outside}
+use Rattle.map.proofs.Reasons.{first-hit, first-miss, first-none}
 use Rattle.map_rows.specs.Rows.{edgeAt, nodesOf}
 use Rattle.reason_curves.proofs.Others.{node-at-all}
+use Rattle.edit_split.specs.Cuts.{pointReasons}
 use Rattle.edit_split.proofs.point_reason.Statement.{statement}
 use Rattle.edit_split.proofs.point_reason.Tie as tie
 
-outside-it : tie.Need-returns
-unfolding firstReason
-outside-it c =
-    let s = c .before .before in
-    let zx = toZ-ofZ {w = w64} {z = s .args .x} (s .fits .x) in
-    let zy = toZ-ofZ {w = w64} {z = s .args .y} (s .fits .y) in
-    let g : outside (s .args .x) (s .args .y) ≡ true =
-    ap not (sym (c .before .in-range .ensures ∙ ap₂ (λ (x y : ℤ). coordinate x && coordinate y) zx zy))
-    ∙ c .if1 .taken in
-    rw g
+range : (c : tie.After-in-range) {v : Bool} → not (c .in-range .result) ≡ v
+    → outside (c .before .args .x) (c .before .args .y) ≡ v
+range c e =
+    let s = c .before in
+    ap not (sym (c .in-range .ensures ∙ ap₂ (λ (x y : ℤ). coordinate x && coordinate y)
+    (toZ-ofZ {w = w64} (s .fits .x)) (toZ-ofZ {w = w64} (s .fits .y)))) ∙ e
 
-taken : tie.Need-returns-2
-unfolding firstReason
-taken c =
-    let s = c .before .before .before .before .before in
-    let zx = toZ-ofZ {w = w64} {z = s .args .x} (s .fits .x) in
-    let zy = toZ-ofZ {w = w64} {z = s .args .y} (s .fits .y) in
-    let g : outside (s .args .x) (s .args .y) ≡ false =
-    ap not (sym (c .before .before .before .before .in-range .ensures
-    ∙ ap₂ (λ (x y : ℤ). coordinate x && coordinate y) zx zy)) ∙ c .before .before .before .if1 .left in
-    let p : c .before .before .point-of .result ≡ point (s .args .x) (s .args .y) =
-    c .before .before .point-of .ensures .0 ∙ ap₂ point zx zy in
-    let k : reasons.nodeAt (nodesOf (s .args .nodes .now) (s .args .n)) (point (s .args .x) (s .args .y)) ≡ true =
-    ap (reasons.nodeAt (nodesOf (s .args .nodes .now) (s .args .n))) (sym p)
-    ∙ sym (node-at-all (s .args .nodes .now) (s .args .n) (s .args .n) (c .before .before .point-of .result)
-    (omega arith)) ∙ sym (c .before .node-at .ensures) ∙ c .if2 .taken in
-    rw (g, k)
+point-is : (c : tie.After-point-of)
+    → let a = c .before .before .before .args in c .point-of .result ≡ point (a .x) (a .y)
+point-is c = let s = c .before .before .before in
+    c .point-of .ensures .0 ∙ ap₂ point (toZ-ofZ {w = w64} (s .fits .x)) (toZ-ofZ {w = w64} (s .fits .y))
 
-fits : tie.Need-returns-3
-unfolding firstReason
-fits c =
-    let s = c .before .before .before .before .before .before .before in
-    let zx = toZ-ofZ {w = w64} {z = s .args .x} (s .fits .x) in
-    let zy = toZ-ofZ {w = w64} {z = s .args .y} (s .fits .y) in
-    let g : outside (s .args .x) (s .args .y) ≡ false =
-    ap not (sym (c .before .before .before .before .before .before .in-range .ensures
-    ∙ ap₂ (λ (x y : ℤ). coordinate x && coordinate y) zx zy)) ∙ c .before .before .before .before .before .if1 .left in
-    let p : c .before .before .before .before .point-of .result ≡ point (s .args .x) (s .args .y) =
-    c .before .before .before .before .point-of .ensures .0 ∙ ap₂ point zx zy in
-    let k : reasons.nodeAt (nodesOf (s .args .nodes .now) (s .args .n)) (point (s .args .x) (s .args .y)) ≡ false =
-    ap (reasons.nodeAt (nodesOf (s .args .nodes .now) (s .args .n))) (sym p)
-    ∙ sym (node-at-all (s .args .nodes .now) (s .args .n) (s .args .n)
-    (c .before .before .before .before .point-of .result) (omega arith))
-    ∙ sym (c .before .before .before .node-at .ensures) ∙ c .before .before .if2 .left in
-    let j : onCurve (edgeAt (s .args .edges .now) (s .args .i) .curve) (point (s .args .x) (s .args .y)) ≡ true =
-    ap (onCurve (edgeAt (s .args .edges .now) (s .args .i) .curve)) (sym p) ∙ sym (c .before .lies-on .ensures)
-    ∙ c .if3 .taken in
-    rw (g, k, j)
+taken : (c : tie.After-node-at) {v : Bool} → c .node-at .result ≡ v
+    → let a = c .before .before .before .before .args in
+    reasons.nodeAt (nodesOf (a .nodes .now) (a .n)) (point (a .x) (a .y)) ≡ v
+taken c e =
+    let p = c .before in
+    let a = p .before .before .before .args in
+    ap (reasons.nodeAt (nodesOf (a .nodes .now) (a .n))) (sym (point-is p))
+    ∙ sym (node-at-all (a .nodes .now) (a .n) (a .n) (p .point-of .result) (omega arith)) ∙ sym (c .node-at .ensures)
+    ∙ e
 
-off : tie.Need-returns-4
+node-there : tie.Need-returns-2
 unfolding firstReason
-off c =
-    let s = c .before .before .before .before .before .before .before in
-    let zx = toZ-ofZ {w = w64} {z = s .args .x} (s .fits .x) in
-    let zy = toZ-ofZ {w = w64} {z = s .args .y} (s .fits .y) in
-    let g : outside (s .args .x) (s .args .y) ≡ false =
-    ap not (sym (c .before .before .before .before .before .before .in-range .ensures
-    ∙ ap₂ (λ (x y : ℤ). coordinate x && coordinate y) zx zy)) ∙ c .before .before .before .before .before .if1 .left in
-    let p : c .before .before .before .before .point-of .result ≡ point (s .args .x) (s .args .y) =
-    c .before .before .before .before .point-of .ensures .0 ∙ ap₂ point zx zy in
-    let k : reasons.nodeAt (nodesOf (s .args .nodes .now) (s .args .n)) (point (s .args .x) (s .args .y)) ≡ false =
-    ap (reasons.nodeAt (nodesOf (s .args .nodes .now) (s .args .n))) (sym p)
-    ∙ sym (node-at-all (s .args .nodes .now) (s .args .n) (s .args .n)
-    (c .before .before .before .before .point-of .result) (omega arith))
-    ∙ sym (c .before .before .before .node-at .ensures) ∙ c .before .before .if2 .left in
-    let j : onCurve (edgeAt (s .args .edges .now) (s .args .i) .curve) (point (s .args .x) (s .args .y)) ≡ false =
-    ap (onCurve (edgeAt (s .args .edges .now) (s .args .i) .curve)) (sym p) ∙ sym (c .before .lies-on .ensures)
-    ∙ c .if3 .left in
-    rw (g, k, j)
+node-there c = let k = c .before .before .before in
+    rw (range (k .before) (k .if1 .left), taken (c .before) (c .if2 .taken))
+
+-- 5 and 10 do not hold
+passed : (c : tie.After-lies-on)
+    → let a = c .before .before .before .before .before .before .args in
+    firstReason ((13, not (c .lies-on .result)) ∷ [])
+    ≡ firstReason (pointReasons (a .nodes .now) (a .n) (a .edges .now) (a .i) (a .x) (a .y))
+unfolding firstReason
+passed c =
+    let n = c .before .before in
+    let k = n .before .before in
+    let a = k .before .before .args in
+    rw (
+      range (k .before) (k .if1 .left),
+      taken n (c .before .if2 .left),
+      ← c .lies-on .ensures ∙ ap (onCurve (edgeAt (a .edges .now) (a .i) .curve)) (point-is (n .before)),
+    )
 
 pub point-reason-spec : {M : Type 1} → statement M
 point-reason-spec =
     tie.close
     (tie.spec
     (λ c κs. search needs)
-    outside-it
+    (λ c. sym (first-hit 5 _ _ (range (c .before) (c .if1 .taken))))
     (λ c κs. sym (c .before .in-range .ensures) ∙ not-false _ (c .if1 .left))
     (λ c κs. search needs)
-    taken
+    node-there
     (λ c κs. search needs)
-    fits
-    off)
+    (λ c. sym (first-miss 13 _ _ (ap not (c .if3 .taken)) ∙ first-none) ∙ passed (c .before))
+    (λ c. sym (first-hit 13 _ _ (ap not (c .if3 .left))) ∙ passed (c .before)))

@@ -1,12 +1,13 @@
 -- `edit_split::split_numbers` meets its contract. Assumes nothing.
+use borrow.Author.Needs.{needs}
 use Rattle.edit_split.proofs.split_numbers.Statement.{statement}
 use Rattle.edit_split.proofs.split_numbers.Tie as tie
 
-one : tie.Need-returns
-one c = rw (c .if1 .taken)
+two : tie.Need-returns
+two c = rw (c .enum-told .given .1)
 
-two : tie.Need-returns-2
-two c = rw (c .if1 .left)
+one : tie.Need-returns-2
+one c = rw (c .enum-told2 .given .1)
 
 pub split-numbers-spec : {M : Type 1} → statement M
-split-numbers-spec = tie.close (tie.spec one two)
+split-numbers-spec = tie.close (tie.spec (λ c. search needs) (λ c. search needs) two one)

@@ -1,4 +1,4 @@
--- `edit_heal::healed_sides` meets its contract. Assumes nothing.
+-- `edit_heal::healed_incidence` meets its contract. Assumes nothing.
 use borrow.Author.Needs.{needs}
 use mathlib.Core.Path.{_≡_, ap, _∙_}
 use Prim.Native.Nat.{ℕ, _/_}
@@ -7,23 +7,23 @@ use mir.Syntax.{w64}
 use mir.Facts.{toZ-ofZ}
 use Rattle.integers.specs.Signs.{sent}
 use Rattle.darts.specs.Positions.{sideCell}
-use Rattle.edit_heal.proofs.Sides.{reverse-half}
-use Rattle.edit_heal.proofs.healed_sides.Statement.{statement}
-use Rattle.edit_heal.proofs.healed_sides.Tie as tie
+use Rattle.edit_heal.proofs.Reverses.{reverse-half}
+use Rattle.edit_heal.proofs.healed_incidence.Statement.{statement}
+use Rattle.edit_heal.proofs.healed_incidence.Tie as tie
 
 dart-cell-requires-2 : tie.Need-dart-cell-requires-2
 dart-cell-requires-2 c κs =
     let s = c .before .before in
     let e : c .reverse .result / 2 ≡ s .args .q / 2 = ap (λ (k : ℕ). k / 2) (c .reverse .ensures)
     ∙ reverse-half (s .args .q) in
-    (omega (arith, s .pre .2), omega arith)
+    (omega (arith, s .pre .second-row), omega arith)
 
 dart-cell-requires-4 : tie.Need-dart-cell-requires-4
 dart-cell-requires-4 c κs =
     let s = c .before .before .before .before .before in
     let e : c .reverse2 .result / 2 ≡ s .args .p / 2 = ap (λ (k : ℕ). k / 2) (c .reverse2 .ensures)
     ∙ reverse-half (s .args .p) in
-    (omega (arith, s .pre .1), omega arith)
+    (omega (arith, s .pre .first-row), omega arith)
 
 returns : tie.Need-returns
 returns c =
@@ -52,8 +52,8 @@ returns c =
       right = e₆ t;
     }
 
-pub healed-sides-spec : {M : Type 1} → statement M
-healed-sides-spec =
+pub healed-incidence-spec : {M : Type 1} → statement M
+healed-incidence-spec =
     tie.close
     (tie.spec
     (λ c κs. search needs)

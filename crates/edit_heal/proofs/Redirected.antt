@@ -1,4 +1,4 @@
--- Links renamed in a table that is written row by row are links renamed in the map. Assumes nothing.
+-- Links redirected in a table that is written row by row are links redirected in the map. Assumes nothing.
 use mathlib.Core.Path.{_≡_, refl, ap, _∙_}
 use mathlib.Core.Bool.{Bool, true, false, cond}
 use mathlib.Core.List.{map, flatMap, map-map}
@@ -40,7 +40,7 @@ module _ (old new : Dart) (h : 1 ≤ old .edge) where
     unfolding redirect
     redirect-length = length-map (m .edges) (renamedRow old new)
 
-    -- the table of a map with its links renamed
+    -- the table of a map with its links redirected
     pub redirect-filled : (N n : ℕ) → Wide edgeWidth edgeCells (m .edges) → length (m .edges) ≡ n
         → redirected (dartCell old) (dartCell new) (filled N (flatMap edgeCells (m .edges))) n
         ≡ filled N (flatMap edgeCells (redirect old new m .edges))

@@ -1,4 +1,4 @@
--- The row of a reverse, and the place of a number as it was passed. Assumes nothing.
+-- The row of a reverse. Assumes nothing.
 use mathlib.Core.Path.{_≡_}
 use mathlib.Core.Logic.{inl, inr}
 use Prim.Native.Nat.{ℕ, _/_}
