@@ -26,7 +26,7 @@ use Rattle.outcomes.specs.declared.Done.{Done}
 use Rattle.outcomes.specs.Outcomes.{Formed}
 use Rattle.outcomes.proofs.Formed.{counted, edge-rows}
 use Rattle.outcomes.specs.Variants.{removeTicket}
-use Rattle.edge_rows.proofs.FoundRows.{edge-in, edge-number, edge-is}
+use Rattle.outcomes.proofs.FoundRows.{edge-in, edge-number, edge-is}
 use Rattle.face_rows.specs.Holds.{faceKept, mergedSides}
 use Rattle.face_rows.proofs.Formed.{holds-lent}
 use Rattle.face_rows.proofs.Healed.{removed-is}
