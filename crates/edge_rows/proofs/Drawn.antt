@@ -50,9 +50,9 @@ use Rattle.edge_rows.proofs.NodeFaces.{faced-nodes, faced-number, faced
 
 -- ---- the row of a curve sent
 
-natural : (z : ℤ) → coordinate z ≡ true → coordinate (pos (natAbs z)) ≡ true
-natural (pos n) h = h
-natural (negsuc n) h = let z : false ≡ true = h in let k : _≡_ {A = ℕ} 0 1 = cc in absurd (omega arith)
+coordinate-natural : (z : ℤ) → coordinate z ≡ true → coordinate (pos (natAbs z)) ≡ true
+coordinate-natural (pos n) h = h
+coordinate-natural (negsuc n) h = let z : false ≡ true = h in let k : _≡_ {A = ℕ} 0 1 = cc in absurd (omega arith)
 
 sent-coordinates : (l : List ℤ) → allOf coordinate l ≡ true → allOf coordinate (coordinates (pointsOf l)) ≡ true
 sent-coordinates [] h = refl
@@ -60,8 +60,8 @@ sent-coordinates (x ∷ []) h = refl
 sent-coordinates (x ∷ y ∷ l) h =
     let k = and-right (coordinate x) (allOf coordinate (y ∷ l)) h in
     rw (
-      natural x (and-left (coordinate x) (allOf coordinate (y ∷ l)) h),
-      natural y (and-left (coordinate y) (allOf coordinate l) k),
+      coordinate-natural x (and-left (coordinate x) (allOf coordinate (y ∷ l)) h),
+      coordinate-natural y (and-left (coordinate y) (allOf coordinate l) k),
     ) (sent-coordinates l (and-right (coordinate y) (allOf coordinate l) k))
 
 module _ {c : List ℤ} (run : Run c) where

@@ -31,21 +31,21 @@ counting n k = record {
   «next_face» = pos 1;
 }
 
-abbrev nodesAlone : List ℤ → ℕ → Lent
-nodesAlone l n = lent l [] (pos 0 ∷ []) (counting n 0)
+abbrev nodesLent : List ℤ → ℕ → Lent
+nodesLent l n = lent l [] (pos 0 ∷ []) (counting n 0)
 
-abbrev edgesAlone : List ℤ → ℕ → Lent
-edgesAlone l n = lent [] l (pos 0 ∷ []) (counting 0 n)
+abbrev edgesLent : List ℤ → ℕ → Lent
+edgesLent l n = lent [] l (pos 0 ∷ []) (counting 0 n)
 
 module _ {l : List ℤ} {n : ℕ} (t : NodeTable l n) where
   pub nodes-room : n ≤ length l / nodeWidth
   nodes-room = let s = whole-rows nodeWidth 0 maxNodes l (t .whole) .size in let f = t .rows .fits in omega arith
 
-  nodes-whole : whole (nodesAlone l n) ≡ true
+  nodes-whole : whole (nodesLent l n) ≡ true
   unfolding whole same
   nodes-whole = rw (t .whole)
 
-  nodes-ranged : ranged (nodesAlone l n) ≡ true
+  nodes-ranged : ranged (nodesLent l n) ≡ true
   unfolding ranged same
   nodes-ranged = rw (leb·zero n, le-leb n (length l / nodeWidth) nodes-room, t .rest, t .rows .ranges)
 
@@ -54,17 +54,17 @@ module _ {l : List ℤ} {n : ℕ} (t : NodeTable l n) where
   nodes-filled =
       ap (λ (k : ℕ). filled k (flatMap nodeCells (nodesOf l n)))
       (sym (whole-rows nodeWidth 0 maxNodes l (t .whole) .size))
-      ∙ ap (λ (x : Lent). x .nodes) (writes-back (nodesAlone l n) nodes-whole nodes-ranged)
+      ∙ ap (λ (x : Lent). x .nodes) (writes-back (nodesLent l n) nodes-whole nodes-ranged)
 
 module _ {l : List ℤ} {n : ℕ} (t : EdgeTable l n) where
   pub edges-room : n ≤ length l / edgeWidth
   edges-room = let s = whole-rows edgeWidth 0 maxEdges l (t .whole) .size in let f = t .rows .fits in omega arith
 
-  edges-whole : whole (edgesAlone l n) ≡ true
+  edges-whole : whole (edgesLent l n) ≡ true
   unfolding whole same
   edges-whole = rw (t .whole)
 
-  edges-ranged : ranged (edgesAlone l n) ≡ true
+  edges-ranged : ranged (edgesLent l n) ≡ true
   unfolding ranged same
   edges-ranged = rw (leb·zero n, le-leb n (length l / edgeWidth) edges-room, t .rest, t .rows .ranges)
 
@@ -73,4 +73,4 @@ module _ {l : List ℤ} {n : ℕ} (t : EdgeTable l n) where
   edges-filled =
       ap (λ (k : ℕ). filled k (flatMap edgeCells (edgesOf l n)))
       (sym (whole-rows edgeWidth 0 maxEdges l (t .whole) .size))
-      ∙ ap (λ (x : Lent). x .edges) (writes-back (edgesAlone l n) edges-whole edges-ranged)
+      ∙ ap (λ (x : Lent). x .edges) (writes-back (edgesLent l n) edges-whole edges-ranged)

@@ -10,9 +10,9 @@ use Rattle.darts.proofs.Steps.{negative-is, minus-fits}
 use Rattle.outcomes.proofs.Words.{small-fits}
 
 -- as it is written
-back : (n : ℕ) → n ≤ 1000000 → SFits w64 (pos 0 -ℤ pos n)
-back n h = minus-fits (pos n) n refl (small-fits n (omega arith))
+negative-fits : (n : ℕ) → n ≤ 1000000 → SFits w64 (pos 0 -ℤ pos n)
+negative-fits n h = minus-fits (pos n) n refl (small-fits n (omega arith))
 
 pub back-read : {r z : ℤ} (n : ℕ) → r ≡ negℤ z → z ≡ pos n → n ≤ 1000000 → toZ w64 (ofZ w64 r) ≡ negℤ (pos n)
 back-read n e f h = ap (λ (k : ℤ). toZ w64 (ofZ w64 k)) (e ∙ ap negℤ f ∙ sym (negative-is (pos n)))
-    ∙ toZ-ofZ {w = w64} (back n h) ∙ negative-is (pos n)
+    ∙ toZ-ofZ {w = w64} (negative-fits n h) ∙ negative-is (pos n)

@@ -8,6 +8,7 @@ ghost use lib.IntN.{natAbs};
 ghost use lib.ListN.{length, set};
 ghost use lib.Seq.{paste};
 ghost use Rattle.tables.specs.Tables.{closed};
+ghost use Rattle.map.specs.Limits.{nodeWidth, edgeWidth};
 ghost use Rattle.map.specs.Rows.{edgeCells};
 ghost use Rattle.map_rows.specs.Rows.{NodeRows, EdgeRows};
 ghost use Rattle.links.specs.Linking.{unlinkedEdge};
@@ -18,8 +19,8 @@ ghost use Rattle.edge_rows.specs.Holds.{isolatedWithout, facedIf, Undraw
 
 // The face of a node row.
 fn set_face(nodes: &mut [i64], i: usize, face: i64)
-    requires { ⌜ i * 4 + 4 ≤ length (now nodes) ⌝ }
-    ensures { λ r. ⌜ now (nodes .exit) ≡ set (now (nodes .entry)) (i * 4 + 3) face ⌝ }
+    requires { ⌜ i * nodeWidth + nodeWidth ≤ length (now nodes) ⌝ }
+    ensures { λ r. ⌜ now (nodes .exit) ≡ set (now (nodes .entry)) (i * nodeWidth + 3) face ⌝ }
 {
     nodes[i * map::NODE_WIDTH + map::NODE_FACE] = face;
 }
@@ -29,8 +30,8 @@ fn set_face(nodes: &mut [i64], i: usize, face: i64)
 // The row of a new edge from node row u to node row v, with the face on both sides, is written last.
 fn write_last(nodes: &[i64], edges: &mut [i64], h: Head, u: usize, v: usize, c: &[i64], face: i64)
     requires { ⌜ Drawable (now nodes) (now edges) h u v (now c) face ⌝ }
-    ensures { λ r. ⌜ now (edges .exit) ≡ paste (now (edges .entry)) (natAbs (h .edges) * 32)
-        (edgeCells (newRow (now (nodes .entry)) h u v (now (c .entry)) face)) 32 ⌝ }
+    ensures { λ r. ⌜ now (edges .exit) ≡ paste (now (edges .entry)) (natAbs (h .edges) * edgeWidth)
+        (edgeCells (newRow (now (nodes .entry)) h u v (now (c .entry)) face)) edgeWidth ⌝ }
 {
     let e = head::to_usize(h.edges);
     let number = h.next_edge;
@@ -93,7 +94,7 @@ struct Isolated {
 // Edge row i unlinked and closed up.
 fn undraw_edge(edges: &mut [i64], count: usize, i: usize, u: i64, v: i64) -> Isolated
     requires { ⌜ EdgeRows (now edges) count × (i < count) ⌝ }
-    ensures { λ r. ⌜ (now (edges .exit) ≡ closed 32 (unlinkedEdge (now (edges .entry)) count i) count i)
+    ensures { λ r. ⌜ (now (edges .exit) ≡ closed edgeWidth (unlinkedEdge (now (edges .entry)) count i) count i)
         × (r .start ≡ isolatedWithout (unlinkedEdge (now (edges .entry)) count i) count i u)
         × (r .end ≡ isolatedWithout (unlinkedEdge (now (edges .entry)) count i) count i v) ⌝ }
 {

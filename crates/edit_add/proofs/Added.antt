@@ -25,7 +25,7 @@ use Rattle.outcomes.proofs.Formed.{edge-next}
 use Rattle.reason_edges.specs.declared.Judged.{Judged}
 use Rattle.outcomes.specs.Variants.{addTicket}
 use Rattle.reason_edges.specs.Judging.{JudgedAdd}
-use Rattle.reason_edges.proofs.Adding.{row-below}
+use Rattle.outcomes.proofs.FoundRows.{node-in}
 use Rattle.edge_rows.specs.Holds.{Drawable, Drawn}
 use Rattle.edge_rows.proofs.Formed.{held}
 use Rattle.face_rows.specs.Holds.{Splittable, TablesOf}
@@ -81,8 +81,8 @@ module _ {nodes edges faces : List ℤ} {h : Head} (f : Formed nodes edges faces
         let t = add-facts s m how a b c clear in
         record {
           held = held f;
-          start = row-below f a (r .start) (j .start z);
-          end = row-below f b (r .end) (j .end z);
+          start = node-in f a (r .start) (j .start z);
+          end = node-in f b (r .end) (j .end z);
           run = j .known z .run;
           room = omega (arith, t .room .edges, edges-length edges (natAbs (h .edges)));
           number = omega (arith, t .supply .edges);

@@ -31,10 +31,10 @@ use Rattle.map_laws.proofs.Outlines.{drawnOutline, drawn-shape}
 use Rattle.map_laws.proofs.Faces.{has-face, formed-faces, corner-in}
 use Rattle.map_rows.specs.Rows.{nodesOf, edgesOf, facesOf, nodeAt, edgeAt, nodeMap}
 use Rattle.map_rows.proofs.Rows.{edges-length, edges-getD, faces-length}
-use Rattle.map_rows.proofs.Lookups.{node-found}
 use Rattle.form_ranges.specs.Ranges.{lent}
 use Rattle.outcomes.specs.Outcomes.{Formed}
-use Rattle.outcomes.proofs.Formed.{ranges, formed-map}
+use Rattle.outcomes.proofs.Formed.{formed-map}
+use Rattle.outcomes.proofs.FoundRows.{node-number}
 use Rattle.outcomes.specs.Variants.{addTicket}
 use Rattle.face_rows.specs.Holds.{MapTables, Splittable}
 use Rattle.face_rows.proofs.Formed.{formed-held}
@@ -71,7 +71,7 @@ module _ {nodes edges faces : List ℤ} {h : Head} (f : Formed nodes edges faces
 
   number-of : (z : ℤ) (i : ℕ) → place (sameZ z) 0 (column nodeWidth nodes (natAbs (h .nodes))) ≡ At i
       → nodeAt nodes i .number ≡ natAbs z
-  number-of z i e = sym (ap natAbs (node-found nodes (natAbs (h .nodes)) (ranges f .node-rows) z i e .1))
+  number-of z i e = sym (ap natAbs (node-number f z i e))
 
   -- an edge that nothing turns down, with its corner face
   module _ (how : Variant) (a b : ℤ) (c : List ℤ) (u v : ℕ)

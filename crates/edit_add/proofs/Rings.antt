@@ -44,8 +44,8 @@ module _ (m : Map) (l : Linked (arcs m) (leaves m) (next m) (bears m)) (dis : Di
 -- ---- a map in form
 
 -- an edge starts and ends at nodes of these numbers
-abbrev Ends : List ℕ → Outline → Type 0
-Ends ns o = List·Memᴰ (o .arc .from) ns × List·Memᴰ (o .arc .to) ns
+abbrev EndsAmong : List ℕ → Outline → Type 0
+EndsAmong ns o = List·Memᴰ (o .arc .from) ns × List·Memᴰ (o .arc .to) ns
 
 module _ (m : Map) (h : formed m ≡ true) where
   module _ {how : Variant} {s : Sizes} {u v : ℕ} {c : Curve} (t : AddEdge how s m u v c) where
@@ -65,13 +65,13 @@ module _ (m : Map) (h : formed m ≡ true) where
     numbers = ap (map nodeNumber) (drawn-shape u v c (cornerFace m u (startWay c)) m .nodes)
         ∙ numbers-kept (isEither u v) (withFace none) (m .nodes) (λ n. refl)
 
-    ends : (o : Outline) → List·Memᴰ o (outlines D) → Ends (map nodeNumber (m .nodes)) o
+    ends : (o : Outline) → List·Memᴰ o (outlines D) → EndsAmong (map nodeNumber (m .nodes)) o
     ends o k = elim (List·Memᴰ·append-cases (outlines m)
         (subst (List·Memᴰ o) (drawn-shape u v c (cornerFace m u (startWay c)) m .outlines) k)) [
           | inl i ↦ let r = Memᴰ·of-map outlineOf (m .edges) i in
-              subst (Ends (map nodeNumber (m .nodes))) (r .2)
+              subst (EndsAmong (map nodeNumber (m .nodes))) (r .2)
               (within .starts _ (arc-at m (r .1)), within .ends _ (arc-at m (r .1)))
-          | inr i ↦ subst (Ends (map nodeNumber (m .nodes))) (sym (List·Memᴰ·eq-of-singleton i)) (
+          | inr i ↦ subst (EndsAmong (map nodeNumber (m .nodes))) (sym (List·Memᴰ·eq-of-singleton i)) (
             number-has nodeNumber noNode (m .nodes) u (t .has-start),
             number-has nodeNumber noNode (m .nodes) v (t .has-end),
           )

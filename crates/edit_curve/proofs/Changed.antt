@@ -39,7 +39,7 @@ use Rattle.outcomes.specs.Outcomes.{Formed}
 use Rattle.outcomes.proofs.Formed.{formed-map, edge-rows, edge-numbers-once, nodes-filled, edges-filled, faces-filled}
 use Rattle.outcomes.proofs.Formed.{edges-are-wide, head-back, lent-is, edge-none}
 use Rattle.edge_rows.proofs.Drawn.{points-few}
-use Rattle.edge_rows.proofs.FoundRows.{node-is, edge-there, edge-is}
+use Rattle.outcomes.proofs.FoundRows.{node-is, edge-there, edge-is}
 use Rattle.edit_curve.specs.Change.{takenAt, changeReasons, EndsAt}
 
 -- a node that is there is not missing

@@ -37,7 +37,7 @@ use Rattle.edge_rows.specs.Holds.{Drawn}
 use Rattle.edge_rows.proofs.Drawn.{drawn-faces}
 use Rattle.edge_rows.proofs.Filled.{nodes-filled, edges-filled}
 use Rattle.edge_rows.proofs.NodeFaces.{node-once}
-use Rattle.edge_rows.proofs.FoundRows.{node-there, node-is}
+use Rattle.outcomes.proofs.FoundRows.{node-there, node-is}
 use Rattle.edit_isolated.specs.Isolated.{isolatedReasons}
 
 module _ {nodes edges faces : List ℤ} {h : Head} (f : Formed nodes edges faces h) where

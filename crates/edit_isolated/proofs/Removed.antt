@@ -24,7 +24,7 @@ use Rattle.outcomes.specs.Outcomes.{Formed}
 use Rattle.outcomes.proofs.Formed.{nodes-size, edges-size, faces-filled, lent-is, edge-none, head-back}
 use Rattle.edge_rows.specs.Holds.{Undrawn}
 use Rattle.edge_rows.proofs.Undrawn.{undrawn-head}
-use Rattle.edge_rows.proofs.FoundRows.{edge-there, edge-is}
+use Rattle.outcomes.proofs.FoundRows.{edge-there, edge-is}
 
 module _ {nodes edges faces : List ℤ} {h : Head} (f : Formed nodes edges faces h) where
   abbrev m : Map

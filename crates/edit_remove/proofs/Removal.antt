@@ -26,11 +26,11 @@ use Rattle.outcomes.specs.declared.Done.{Done}
 use Rattle.outcomes.specs.Outcomes.{Formed}
 use Rattle.outcomes.proofs.Formed.{counted, edge-rows}
 use Rattle.outcomes.specs.Variants.{removeTicket}
-use Rattle.edge_rows.proofs.FoundRows.{edge-in, edge-number, edge-is}
+use Rattle.outcomes.proofs.FoundRows.{edge-in, edge-number, edge-is}
 use Rattle.face_rows.specs.Holds.{faceKept, mergedSides}
 use Rattle.face_rows.proofs.Formed.{holds-lent}
 use Rattle.face_rows.proofs.Healed.{removed-is}
-use Rattle.edit_remove.specs.Cleared.{Clearable, Cleared, cleared, valueLeft}
+use Rattle.edit_remove.specs.RemovedEdges.{RemovableEdge, EdgeRemoved, removedEdge, valueLeft}
 
 module _ {nodes edges faces : List ℤ} {h : Head} (f : Formed nodes edges faces h) (how : Variant) (makes : Bool)
     (z : ℤ) (i : ℕ) (at : place (sameZ z) 0 (column edgeWidth edges (natAbs (h .edges))) ≡ At i)
@@ -61,9 +61,9 @@ module _ {nodes edges faces : List ℤ} {h : Head} (f : Formed nodes edges faces
   number-left New e = remove-new (sizesOf (lent nodes edges faces h)) m z e .supply .faces
   number-left Mod e = omega (arith, counted f .next-face .most)
 
-  pub clearable : firstReason (reasons (sizesOf (lent nodes edges faces h)) m (removeTicket how z)) ≡ 0
-      → Clearable nodes edges faces h i makes
-  clearable e =
+  pub removable : firstReason (reasons (sizesOf (lent nodes edges faces h)) m (removeTicket how z)) ≡ 0
+      → RemovableEdge nodes edges faces h i makes
+  removable e =
       let t = edge-in f z i at in
       record {
         formed = f;
@@ -73,7 +73,7 @@ module _ {nodes edges faces : List ℤ} {h : Head} (f : Formed nodes edges faces
         number = rw made (number-left how e);
       }
 
-  removed-map : removeEdge how (natAbs z) m ≡ cleared makes row m
+  removed-map : removeEdge how (natAbs z) m ≡ removedEdge makes row m
   removed-map =
       removed-is how (natAbs z) m
       ∙ ap₂ (λ (b : Bool) (r : Edge). undrawn (natAbs z) (faceKept b r m) (mergedSides b r m)) (sym made) row-is
@@ -85,7 +85,7 @@ module _ {nodes edges faces : List ℤ} {h : Head} (f : Formed nodes edges faces
   carried-map Mod = refl
 
   pub removed-lent : {nodes′ edges′ faces′ : List ℤ} {r : Done}
-      → Cleared nodes edges faces h i makes nodes′ edges′ faces′ r
+      → EdgeRemoved nodes edges faces h i makes nodes′ edges′ faces′ r
       → lentOf (sizesOf (lent nodes edges faces h)) (carried m (removeTicket how z) .0)
       ≡ lent nodes′ edges′ faces′ (r .head)
   removed-lent c = ap (lentOf (sizesOf (lent nodes edges faces h))) (carried-map how ∙ removed-map)

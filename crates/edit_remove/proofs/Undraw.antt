@@ -28,7 +28,7 @@ use Rattle.face_rows.proofs.Formed.{formed-held, holds-before}
 use Rattle.face_rows.proofs.Healed.{healed-map, healed-nodes-long, healed-edges-long, healed-number}
 use Rattle.edge_rows.specs.Holds.{Undrawn}
 use Rattle.edge_rows.proofs.Undrawn.{undrawn-head}
-use Rattle.edit_remove.specs.Cleared.{Cleared, cleared, valueLeft}
+use Rattle.edit_remove.specs.RemovedEdges.{EdgeRemoved, removedEdge, valueLeft}
 
 -- ---- the edge undrawn
 
@@ -98,30 +98,30 @@ module _ {nodes edges faces : List ℤ} {h : Head} (f : Formed nodes edges faces
   abbrev row : Edge
   row = edgeAt edges i
 
-  pub cleared-one : row .left ≡ row .right → makes ≡ false → {face : ℤ} {nodes′ edges′ : List ℤ} {h′ : Head} → face
+  pub removed-one : row .left ≡ row .right → makes ≡ false → {face : ℤ} {nodes′ edges′ : List ℤ} {h′ : Head} → face
       ≡ pos (row .left) → Undrawn nodes edges h i face nodes′ edges′ h′
-      → TablesOf nodes edges faces (cleared makes row whole) nodes′ edges′ faces h′
-  cleared-one one kept {face} {nodes′} {edges′} {h′} ef u =
-      let same : undrawn (row .number) (row .left) whole ≡ cleared false row whole =
+      → TablesOf nodes edges faces (removedEdge makes row whole) nodes′ edges′ faces h′
+  removed-one one kept {face} {nodes′} {edges′} {h′} ef u =
+      let same : undrawn (row .number) (row .left) whole ≡ removedEdge false row whole =
       ap₂ (undrawn (row .number)) (sym (lower-is row one)) (sym (unhealed row one whole)) in
       subst (λ (x : Map). TablesOf nodes edges faces x nodes′ edges′ faces h′)
-      (same ∙ ap (λ (b : Bool). cleared b row whole) (sym kept))
+      (same ∙ ap (λ (b : Bool). removedEdge b row whole) (sym kept))
       (holds-undrawn (holds-before f) refl refl refl i (row .number) refl ef u)
 
-  pub cleared-two : i < natAbs (h .edges) → {nodes₁ edges₁ faces₁ : List ℤ} {h₁ : Head}
+  pub removed-two : i < natAbs (h .edges) → {nodes₁ edges₁ faces₁ : List ℤ} {h₁ : Head}
       → TablesOf nodes edges faces (mergedSides makes row whole) nodes₁ edges₁ faces₁ h₁
       → {face : ℤ} {nodes′ edges′ : List ℤ} {h′ : Head} → face ≡ pos (faceKept makes row whole)
       → Undrawn nodes₁ edges₁ h₁ i face nodes′ edges′ h′
-      → TablesOf nodes edges faces (cleared makes row whole) nodes′ edges′ faces₁ h′
-  cleared-two t {nodes₁} {edges₁} {faces₁} {h₁} after ef u =
+      → TablesOf nodes edges faces (removedEdge makes row whole) nodes′ edges′ faces₁ h′
+  removed-two t {nodes₁} {edges₁} {faces₁} {h₁} after ef u =
       holds-undrawn after (healed-map (formed-held f) row makes after)
       (healed-nodes-long (formed-held f) row makes after)
       (healed-edges-long (formed-held f) row makes after) i (row .number)
       (healed-number (formed-held f) row makes after i t) ef u
 
   -- what a call left and answered
-  pub cleared-as : {nodes′ edges′ faces′ : List ℤ} {h′ : Head} {v : ℤ} {r : Done} → r
+  pub removed-as : {nodes′ edges′ faces′ : List ℤ} {h′ : Head} {v : ℤ} {r : Done} → r
       ≡ record { head = h′; answer = record { refusal = 0; value = v } }
-      → TablesOf nodes edges faces (cleared makes row whole) nodes′ edges′ faces′ h′ → v ≡ valueLeft makes row whole
-      → Cleared nodes edges faces h i makes nodes′ edges′ faces′ r
-  cleared-as e holds value = record { holds = rw e holds; value = ap (λ (d : Done). d .answer .value) e ∙ value }
+      → TablesOf nodes edges faces (removedEdge makes row whole) nodes′ edges′ faces′ h′ → v ≡ valueLeft makes row whole
+      → EdgeRemoved nodes edges faces h i makes nodes′ edges′ faces′ r
+  removed-as e holds value = record { holds = rw e holds; value = ap (λ (d : Done). d .answer .value) e ∙ value }

@@ -1,2 +1,2 @@
--- `Cleared`: tables and head after an edge row goes and the faces on its sides become one.
-pub mod Cleared
+-- `RemovedEdges`: tables and head after an edge row goes and the faces on its sides become one.
+pub mod RemovedEdges

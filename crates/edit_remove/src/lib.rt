@@ -9,7 +9,7 @@ ghost use Rattle.map.specs.Edits.{isNew};
 ghost use Rattle.form_ranges.specs.Ranges.{lent};
 ghost use Rattle.outcomes.specs.Outcomes.{Formed, decided, outcome};
 ghost use Rattle.outcomes.specs.Variants.{removeTicket};
-ghost use Rattle.edit_remove.specs.Cleared.{Clearable, Cleared};
+ghost use Rattle.edit_remove.specs.RemovedEdges.{RemovableEdge, EdgeRemoved};
 
 // The value of a removal: the face that is left, or 0 for kind 14.
 fn value_of(how: Variant, face: i64) -> i64
@@ -30,8 +30,8 @@ fn remove_and_heal(
     i: usize,
     makes: bool,
 ) -> Done
-    requires { ⌜ Clearable (now nodes) (now edges) (now faces) h i makes ⌝ }
-    ensures { λ r. ⌜ Cleared (now (nodes .entry)) (now (edges .entry)) (now (faces .entry)) h i makes
+    requires { ⌜ RemovableEdge (now nodes) (now edges) (now faces) h i makes ⌝ }
+    ensures { λ r. ⌜ EdgeRemoved (now (nodes .entry)) (now (edges .entry)) (now (faces .entry)) h i makes
         (now (nodes .exit)) (now (edges .exit)) (now (faces .exit)) r ⌝ }
 {
     let left = edges[i * map::EDGE_WIDTH + map::LEFT];
@@ -66,6 +66,6 @@ pub fn remove_edge(
         return outcomes::refused(h, reason);
     }
     let i = judged.row;
-    let cleared = remove_and_heal(nodes, edges, faces, h, i, judged.makes);
-    outcomes::carried(cleared.head, value_of(how, cleared.answer.value))
+    let removed = remove_and_heal(nodes, edges, faces, h, i, judged.makes);
+    outcomes::carried(removed.head, value_of(how, removed.answer.value))
 }

@@ -247,14 +247,14 @@ record Rest (l t : List ℤ) (i : ℕ) : Type 0 where
   size : length t ≡ length l
   cells : (q : ℕ) → i ≤ q → sideCell t q 5 ≡ sideCell l q 5
 
-apart : (p q : ℕ) → p < q → sidePlace q 5 ≡ sidePlace p 5 → ⊥
-apart p q h e = omega arith
+places-differ : (p q : ℕ) → p < q → sidePlace q 5 ≡ sidePlace p 5 → ⊥
+places-differ p q h e = omega arith
 
 rest-on : (l t : List ℤ) (i : ℕ) (b : Bool) (v : ℤ) → Rest l t i → Rest l (cond b (set t (sidePlace i 5) v) t) (i + 1)
 rest-on l t i true v r =
     record {
       size = length-set t (sidePlace i 5) v ∙ r .size;
-      cells = λ q h. getD-set-other t (sidePlace i 5) (sidePlace q 5) v (pos 0) (apart i q (omega arith))
+      cells = λ q h. getD-set-other t (sidePlace i 5) (sidePlace q 5) v (pos 0) (places-differ i q (omega arith))
           ∙ r .cells q (omega arith);
     }
 rest-on l t i false v r = record { size = r .size; cells = λ q h. r .cells q (omega arith) }

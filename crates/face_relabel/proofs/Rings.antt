@@ -52,8 +52,8 @@ loop e = record {
 abbrev bare : Map → Map
 bare m = setEdges (map loop (m .edges)) m
 
-abbrev noEdge : Edge
-noEdge = record {
+abbrev blankEdge : Edge
+blankEdge = record {
   number = 0;
   start = 0;
   end = 0;
@@ -64,15 +64,15 @@ noEdge = record {
   curve = through [];
 }
 
-find-loop : (k : ℕ) (es : List Edge) → Option·getD (find (λ r. same (r .number) k) (map loop es)) noEdge
-    ≡ loop (Option·getD (find (λ r. same (r .number) k) es) noEdge)
+find-loop : (k : ℕ) (es : List Edge) → Option·getD (find (λ r. same (r .number) k) (map loop es)) blankEdge
+    ≡ loop (Option·getD (find (λ r. same (r .number) k) es) blankEdge)
 find-loop k [] = refl
 find-loop k (r ∷ es) = pick (same (r .number) k) (find-loop k es)
   where
-    pick : (b : Bool) → Option·getD (find (λ r. same (r .number) k) (map loop es)) noEdge
-        ≡ loop (Option·getD (find (λ r. same (r .number) k) es) noEdge)
-        → Option·getD (cond b (some (loop r)) (find (λ r. same (r .number) k) (map loop es))) noEdge
-        ≡ loop (Option·getD (cond b (some r) (find (λ r. same (r .number) k) es)) noEdge)
+    pick : (b : Bool) → Option·getD (find (λ r. same (r .number) k) (map loop es)) blankEdge
+        ≡ loop (Option·getD (find (λ r. same (r .number) k) es) blankEdge)
+        → Option·getD (cond b (some (loop r)) (find (λ r. same (r .number) k) (map loop es))) blankEdge
+        ≡ loop (Option·getD (cond b (some r) (find (λ r. same (r .number) k) es)) blankEdge)
     pick true later = refl
     pick false later = later
 

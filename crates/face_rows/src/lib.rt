@@ -167,7 +167,7 @@ fn share_rows(nodes: &mut [i64], n: usize, edges: &mut [i64], count: usize, s: S
     face_relabel::share_edges(nodes, n, edges, count, s, darts::reverse(s.ring));
 }
 
-// The face of the last edge split; `old` is the face on both its sides.
+// Splits the face of the last edge; `old` is the face on both its sides.
 pub fn split_face(
     nodes: &mut [i64],
     edges: &mut [i64],
@@ -225,7 +225,7 @@ fn rename_faces(
     face_relabel::rename_face(nodes, n, edges, count, right, face);
 }
 
-// The faces left and right become one. The head after it, and the face that is left.
+// Heals the faces left and right, which become one: the head after it, and the face that is left.
 pub fn heal_faces(
     nodes: &mut [i64],
     edges: &mut [i64],

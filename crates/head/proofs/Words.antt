@@ -1,11 +1,11 @@
 -- Counts and next numbers as words. Assumes nothing.
-use mathlib.Core.Path.{_≡_, refl, ap, _∙_}
+use mathlib.Core.Path.{_≡_, ap, _∙_}
 use mathlib.Core.Bool.{true}
-use Prim.Native.Nat.{ℕ, _+_, _-_, _≤_}
+use Prim.Native.Nat.{ℕ, _+_, _≤_}
 use native.Mathlib.Nat.{lt-of-le-of-lt}
 use native.Mathlib.Omega.{arith}
 use lib.Dec.{lit<, lit≤}
-use lib.IntN.{ℤ, pos, natAbs, _+ℤ_, _-ℤ_}
+use lib.IntN.{ℤ, pos, natAbs, _+ℤ_}
 use lib.Signed.{nonNeg}
 use mir.Syntax.{w64}
 use mir.Val.{ofZ, toZ, SFits}
@@ -13,7 +13,6 @@ use mir.Facts.{toZ-ofZ}
 use borrow.Author.Needs.{sfits-of}
 use Rattle.map.specs.declared.Head.{Head}
 use Rattle.head.specs.Heads.{UpTo, Counted}
-use Rattle.integers.specs.Solver.{con, _⊕_, _⊖_, _≐_, solve}
 
 -- ---- small numbers
 
@@ -23,15 +22,6 @@ small-fits n h = sfits-of (lt-of-le-of-lt h (lit< tt))
 -- as they are read again
 pub small-read : {z : ℤ} (n : ℕ) → z ≡ pos n → n ≤ 1000002 → toZ w64 (ofZ w64 z) ≡ pos n
 small-read n e h = ap (λ (k : ℤ). toZ w64 (ofZ w64 k)) e ∙ toZ-ofZ {w = w64} (small-fits n h)
-
--- the sum of two
-module _ {z v : ℤ} (n k : ℕ) (ez : z ≡ pos n) (ev : v ≡ pos k) (few : n + k ≤ 1000002) where
-  pub more-fits : SFits w64 (toZ w64 (ofZ w64 z) +ℤ v)
-  more-fits = rw (small-read n ez (omega arith), ev) (small-fits (n + k) few)
-
-  pub more-is : toZ w64 (ofZ w64 (toZ w64 (ofZ w64 z) +ℤ v)) ≡ pos (n + k)
-  more-is = (λ i. toZ w64 (ofZ w64 (small-read n ez (omega arith) i +ℤ ev i)))
-      ∙ toZ-ofZ {w = w64} (small-fits (n + k) few)
 
 -- ---- counts and next numbers
 
@@ -55,23 +45,11 @@ module _ (z : ℤ) (is : z ≡ pos (natAbs z)) (few : natAbs z ≤ 1000000) wher
   count-abs = ap natAbs count-read
 
   pub plus-fits : SFits w64 (toZ w64 (ofZ w64 z) +ℤ pos 1)
-  plus-fits = more-fits (natAbs z) 1 is refl (omega arith)
+  plus-fits = rw count-read (small-fits (natAbs z + 1) (omega arith))
 
   pub plus-is : toZ w64 (ofZ w64 (toZ w64 (ofZ w64 z) +ℤ pos 1)) ≡ pos (natAbs z + 1)
-  plus-is = more-is (natAbs z) 1 is refl (omega arith)
-
-  module _ (some : 1 ≤ natAbs z) where
-    less : pos (natAbs z) -ℤ pos 1 ≡ pos (natAbs z - 1)
-    less =
-        let e : natAbs z ≡ natAbs z - 1 + 1 = omega arith in
-        ap (λ (k : ℕ). pos k -ℤ pos 1) e ∙ solve 1 (λ a. (a ⊕ con (pos 1)) ⊖ con (pos 1) ≐ a) tt (pos (natAbs z - 1))
-
-    pub minus-fits : SFits w64 (toZ w64 (ofZ w64 z) -ℤ pos 1)
-    minus-fits = rw (count-read, less) (small-fits (natAbs z - 1) (omega arith))
-
-    pub minus-is : toZ w64 (ofZ w64 (toZ w64 (ofZ w64 z) -ℤ pos 1)) ≡ pos (natAbs z - 1)
-    minus-is = ap (λ (k : ℤ). toZ w64 (ofZ w64 k)) (ap (λ (k : ℤ). k -ℤ pos 1) count-read ∙ less)
-        ∙ toZ-ofZ {w = w64} (small-fits (natAbs z - 1) (omega arith))
+  plus-is = ap (λ (k : ℤ). toZ w64 (ofZ w64 (k +ℤ pos 1))) count-read
+      ∙ toZ-ofZ {w = w64} (small-fits (natAbs z + 1) (omega arith))
 
 -- ---- the counts of a head, as they are read
 

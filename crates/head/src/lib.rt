@@ -60,7 +60,7 @@ const NEXT_FACE_AT: usize = 5;
 
 // ---- counts
 
-// A count or a next number, which is not negative.
+// Reads a count or a next number, which is not negative.
 pub fn to_usize(z: i64) -> usize
     requires { ⌜ nonNeg z ≡ true ⌝ }
     ensures { λ r. ⌜ r ≡ natAbs z ⌝ }
@@ -68,7 +68,7 @@ pub fn to_usize(z: i64) -> usize
     z as usize
 }
 
-// The rows in use.
+// Counts the rows in use.
 pub fn counts_of(h: Head) -> Counts
     requires { ⌜ (nonNeg (h .nodes) ≡ true) × (nonNeg (h .edges) ≡ true) × (nonNeg (h .faces) ≡ true) ⌝ }
     ensures { λ r. ⌜ r ≡ countsOf h ⌝ }
@@ -80,7 +80,7 @@ pub fn counts_of(h: Head) -> Counts
     }
 }
 
-// How many rows each table has room for.
+// Counts the rows that each table has room for.
 pub fn sizes_of(nodes: &[i64], edges: &[i64], faces: &[i64]) -> Counts
     ensures { λ r. ⌜ r ≡ sizesIn (now (nodes .entry)) (now (edges .entry)) (now (faces .entry)) ⌝ }
 {
@@ -91,7 +91,7 @@ pub fn sizes_of(nodes: &[i64], edges: &[i64], faces: &[i64]) -> Counts
     }
 }
 
-// The head of the empty map: face 0 alone.
+// Builds the head of the empty map: face 0 alone.
 pub fn empty() -> Head
     ensures { λ r. ⌜ r ≡ headOf emptyMap ⌝ }
 {
@@ -125,7 +125,7 @@ fn is_full(sizes: Counts, h: Head, rows: Counts) -> bool
         | exceeds(sizes.faces, h.faces, rows.faces)
 }
 
-// One of so many numbers is above the last.
+// Tests whether one of so many numbers is above the last.
 pub fn is_spent(h: Head, numbers: Counts) -> bool
     requires { ⌜ Counted h × Few numbers ⌝ }
     ensures { λ r. ⌜ r ≡ spentAt h numbers ⌝ }
@@ -135,7 +135,7 @@ pub fn is_spent(h: Head, numbers: Counts) -> bool
         | exceeds(map::NUMBERS, h.next_face, numbers.faces)
 }
 
-// 20 or 21 against so many rows more and so many numbers; 0 for none.
+// Answers 20 or 21 against so many rows more and so many numbers; 0 for none.
 pub fn room_reason(sizes: Counts, h: Head, rows: Counts, numbers: Counts) -> u64
     requires { ⌜ Counted h × Few rows × Few numbers ⌝ }
     ensures { λ r. ⌜ r ≡ firstReason (roomAt sizes h rows numbers) ⌝ }
@@ -156,7 +156,7 @@ fn shifted(z: i64, more: usize, less: usize) -> i64
     (to_usize(z) + more - less) as i64
 }
 
-// So many rows more and less, and so many numbers given.
+// Changes the head: so many rows more and less, and so many numbers given.
 pub fn changed(h: Head, more: Counts, less: Counts, given: Counts) -> Head
     requires { ⌜ Changes h more less given ⌝ }
     ensures { λ r. ⌜ r ≡ changedHead h more less given ⌝ }

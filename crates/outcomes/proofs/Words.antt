@@ -15,8 +15,8 @@ use Rattle.tables.proofs.Order.{word-test, same-pos}
 use Rattle.map.specs.declared.Head.{Head}
 use Rattle.head.specs.Heads.{Counted}
 use Rattle.head.proofs.Words.{count-back}
-pub use Rattle.head.proofs.Words.{small-fits, small-read, more-fits, more-is, is-natural, count-fits, count-back}
-pub use Rattle.head.proofs.Words.{count-read, count-natural, count-abs, plus-fits, plus-is, minus-fits, minus-is}
+pub use Rattle.head.proofs.Words.{small-fits, small-read, is-natural, count-fits, count-back}
+pub use Rattle.head.proofs.Words.{count-read, count-natural, count-abs, plus-fits, plus-is}
 
 -- two numbers that are not negative, compared as words
 pub number-test : (x y : ℤ) (a b : ℕ) → SFits w64 x → SFits w64 y → x ≡ pos a → y ≡ pos b → eqb (ofZ w64 x) (ofZ w64 y)

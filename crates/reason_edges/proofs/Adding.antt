@@ -6,7 +6,6 @@ use Prim.Native.Nat.{ℕ, _+_, _<_}
 use native.Mathlib.Omega.{arith}
 use lib.Dec.{lit<}
 use lib.IntN.{ℤ, pos, natAbs}
-use lib.Signed.{nonNeg}
 use borrow.Author.Tests.{not-false}
 use Rattle.lists.specs.Tests.{bit}
 use Rattle.lists.specs.Tables.{place}
@@ -19,17 +18,17 @@ use Rattle.map.specs.declared.Head.{Head}
 use Rattle.map.specs.declared.Variant.{Variant}
 use Rattle.map.specs.declared.Variant.the-variants.{New, Mod}
 use Rattle.map.specs.Limits.{nodeWidth}
-use Rattle.map.specs.Rows.{Map, Sizes, mapOf, sizesOf, findNode, counts}
+use Rattle.map.specs.Rows.{Map, Sizes, mapOf, sizesOf, counts}
 use Rattle.map.specs.Links.{cornerFace}
 use Rattle.map.specs.Edits.{splitsFace}
 use Rattle.map.specs.Reasons.{firstReason, reasons, noNode}
 use Rattle.map.proofs.Reasons.{first-hit, first-miss, first-zero, first-append, first-after}
 use Rattle.map_rows.specs.Rows.{nodeAt}
-use Rattle.map_rows.proofs.Lookups.{node-found}
 use Rattle.head.specs.Heads.{sizesIn, roomAt}
 use Rattle.form_ranges.specs.Ranges.{lent}
 use Rattle.outcomes.specs.Outcomes.{Formed}
-use Rattle.outcomes.proofs.Formed.{ranges, node-rows, edge-rows, room-at, node-none}
+use Rattle.outcomes.proofs.Formed.{node-rows, edge-rows, room-at, node-none}
+use Rattle.outcomes.proofs.FoundRows.{node-there, node-in, node-number}
 use Rattle.reason_corners.specs.CornerFaces.{cornerCell}
 use Rattle.reason_corners.proofs.CornerFaces.{corner-in-form}
 use Rattle.reason_edges.specs.declared.Judged.{Judged}
@@ -37,7 +36,6 @@ use Rattle.outcomes.specs.Variants.{addTicket}
 use Rattle.reason_edges.specs.Parts.{drawingReasons, growthReasons, makesSecond}
 use Rattle.reason_edges.specs.Judging.{JudgedRows, JudgedAdd}
 use Rattle.reason_edges.proofs.Drawing.{nodes-are, edges-are, bare}
-use mathlib.Core.Option.{some}
 
 module _ {nodes edges faces : List ℤ} {h : Head} (f : Formed nodes edges faces h) where
   abbrev m : Map
@@ -125,18 +123,11 @@ module _ {nodes edges faces : List ℤ} {h : Head} (f : Formed nodes edges faces
       }
 
   module _ (z : ℤ) (i : ℕ) (e : place (sameZ z) 0 (column nodeWidth nodes (natAbs (h .nodes))) ≡ At i) where
-    hit : (i < natAbs (h .nodes)) × (z ≡ pos (nodeAt nodes i .number)) × (findNode m (natAbs z) ≡ some (nodeAt nodes i))
-    unfolding mapOf
-    hit = node-found nodes (natAbs (h .nodes)) (ranges f .node-rows) z i e
-
-    pub row-below : i < natAbs (h .nodes)
-    row-below = hit .0
-
     row-number : nodeAt nodes i .number ≡ natAbs z
-    row-number = sym (ap natAbs (hit .1))
+    row-number = sym (ap natAbs (node-number f z i e))
 
     there : noNode m z ≡ false
-    there = rw (ap nonNeg (hit .1), hit .2)
+    there = ap (noNode m) (node-number f z i e) ∙ node-there f i (node-in f z i e)
 
   pub add-found : (how : Variant) (u v : ℤ) (i j : ℕ) (sent : List ℤ)
       → place (sameZ u) 0 (column nodeWidth nodes (natAbs (h .nodes))) ≡ At i

@@ -2,11 +2,9 @@
 use mathlib.Core.Path.{_≡_, sym, ap, _∙_}
 use mathlib.Core.Bool.{Bool, true, false}
 use mathlib.Core.List.{List, [], _∷_}
-use mathlib.Core.Option.{some}
-use Prim.Native.Nat.{ℕ, _<_}
+use Prim.Native.Nat.{ℕ}
 use native.Mathlib.Omega.{arith}
-use lib.IntN.{ℤ, pos, natAbs}
-use lib.Signed.{nonNeg}
+use lib.IntN.{ℤ, natAbs}
 use Rattle.lists.specs.Tests.{bit}
 use Rattle.lists.specs.Tables.{place}
 use Rattle.lists.specs.declared.Found.the-variants.{At, Missing}
@@ -15,17 +13,16 @@ use Rattle.map.specs.declared.Head.{Head}
 use Rattle.map.specs.declared.Variant.{Variant}
 use Rattle.map.specs.declared.Variant.the-variants.{New, Mod}
 use Rattle.map.specs.Limits.{edgeWidth}
-use Rattle.map.specs.Rows.{Map, Sizes, counts, mapOf, sizesOf, findEdge}
+use Rattle.map.specs.Rows.{Map, Sizes, counts, mapOf, sizesOf, edge}
 use Rattle.map.specs.Edits.{makesFace, healsFaces}
 use Rattle.map.specs.Reasons.{firstReason, reasons, noEdge}
 use Rattle.map.proofs.Reasons.{first-hit, first-miss, first-none}
-use Rattle.map.proofs.Laws.{edge-is}
 use Rattle.map_rows.specs.Rows.{edgeAt}
-use Rattle.map_rows.proofs.Lookups.{edge-found}
 use Rattle.head.specs.Heads.{spentAt}
 use Rattle.form_ranges.specs.Ranges.{lent}
 use Rattle.outcomes.specs.Outcomes.{Formed}
-use Rattle.outcomes.proofs.Formed.{ranges, edge-none, spent-at, node-left, edge-left, face-left}
+use Rattle.outcomes.proofs.Formed.{edge-none, spent-at, node-left, edge-left, face-left}
+use Rattle.outcomes.proofs.FoundRows.{edge-there, edge-is, edge-in, edge-number}
 use Rattle.reason_edges.specs.declared.Removal.{Removal}
 use Rattle.outcomes.specs.Variants.{removeTicket}
 use Rattle.reason_edges.specs.Parts.{makesOf, faceReasons}
@@ -58,19 +55,13 @@ module _ {nodes edges faces : List ℤ} {h : Head} (f : Formed nodes edges faces
   none-spent = rw (node-left f, edge-left f, face-left f)
 
   module _ (z : ℤ) (i : ℕ) (e : place (sameZ z) 0 (column edgeWidth edges (natAbs (h .edges))) ≡ At i) where
-    hit : (i < natAbs (h .edges)) × (z ≡ pos (edgeAt edges i .number)) × (findEdge m (natAbs z) ≡ some (edgeAt edges i))
-    unfolding mapOf
-    hit = edge-found edges (natAbs (h .edges)) (ranges f .edge-rows) z i e
-
-    pub edge-below : i < natAbs (h .edges)
-    edge-below = hit .0
-
     there : noEdge m z ≡ false
-    there = rw (ap nonNeg (hit .1), hit .2)
+    there = ap (noEdge m) (edge-number f z i e) ∙ edge-there f i (edge-in f z i e)
 
     makes-told : (how : Variant) → makesOf how (edgeAt edges i) ≡ makesFace how (natAbs z) m
     unfolding makesFace healsFaces
-    makes-told how = ap (makesOf how) (sym (edge-is m (natAbs z) (edgeAt edges i) (hit .2)))
+    makes-told how = ap (makesOf how) (sym (ap (λ (k : ℤ). edge m (natAbs k)) (edge-number f z i e)
+        ∙ edge-is f i (edge-in f z i e)))
 
     late : (how : Variant) → firstReason (reasons s m (removeTicket how z))
         ≡ firstReason (faceReasons h (bit (makesFace how (natAbs z) m)))

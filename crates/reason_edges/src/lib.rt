@@ -157,7 +157,7 @@ fn judge_rows(
     }
 }
 
-// The first reason against kinds 11 and 12, and what the edit needs to know where there is none.
+// Judges kinds 11 and 12: the first reason against them, and what the edit needs to know where there is none.
 pub fn judge_add(
     nodes: &[i64],
     edges: &[i64],
@@ -209,7 +209,7 @@ fn face_reason(h: Head, makes: bool) -> u64
     if head::is_spent(h, given) { 21 } else { 0 }
 }
 
-// The first reason against kinds 13 and 14, and what the edit needs to know where there is none.
+// Judges kinds 13 and 14: the first reason against them, and what the edit needs to know where there is none.
 pub fn judge_removal(
     nodes: &[i64],
     edges: &[i64],

@@ -12,7 +12,7 @@ use Rattle.map_rows.proofs.Rows.{edge-row-of}
 use Rattle.outcomes.proofs.Formed.{counted, node-rows, edge-rows}
 use Rattle.outcomes.proofs.Words.{place-told}
 use Rattle.head.proofs.Words.{nodes-natural, nodes-read}
-use Rattle.edge_rows.proofs.FoundRows.{node-in, node-number}
+use Rattle.outcomes.proofs.FoundRows.{node-in, node-number}
 use Rattle.edit_curve.proofs.Changed.{start-there, end-there}
 use Rattle.edit_curve.proofs.change_at_row.Statement.{statement}
 use Rattle.edit_curve.proofs.change_at_row.Tie as tie

@@ -17,7 +17,7 @@ use Rattle.outcomes.specs.Outcomes.{decided}
 use Rattle.outcomes.proofs.Formed.{counted, node-rows, decided-refused}
 use Rattle.outcomes.proofs.Words.{place-told}
 use Rattle.head.proofs.Words.{nodes-natural, nodes-read}
-use Rattle.edge_rows.proofs.FoundRows.{node-in, node-number}
+use Rattle.outcomes.proofs.FoundRows.{node-in, node-number}
 use Rattle.edit_isolated.proofs.Added.{start-missing, end-missing}
 use Rattle.edit_isolated.proofs.add_isolated_edge.Statement.{statement}
 use Rattle.edit_isolated.proofs.add_isolated_edge.Tie as tie

@@ -17,7 +17,7 @@ use Rattle.outcomes.specs.Outcomes.{decided}
 use Rattle.outcomes.proofs.Formed.{counted, edge-rows, decided-refused}
 use Rattle.outcomes.proofs.Words.{place-told}
 use Rattle.head.proofs.Words.{edges-natural, edges-read}
-use Rattle.edge_rows.proofs.FoundRows.{edge-in, edge-number}
+use Rattle.outcomes.proofs.FoundRows.{edge-in, edge-number}
 use Rattle.edit_isolated.proofs.Removed.{remove-missing}
 use Rattle.edit_isolated.proofs.remove_isolated_edge.Statement.{statement}
 use Rattle.edit_isolated.proofs.remove_isolated_edge.Tie as tie

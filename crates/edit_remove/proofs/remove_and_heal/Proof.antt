@@ -16,7 +16,7 @@ use Rattle.face_rows.specs.Holds.{Healable}
 use Rattle.face_rows.proofs.Formed.{formed-healable, formed-held}
 use Rattle.face_rows.proofs.Healed.{healed-edge-count}
 use Rattle.edit_remove.proofs.Heal.{healed-held}
-use Rattle.edit_remove.proofs.Undraw.{cleared-one, cleared-two, cleared-as}
+use Rattle.edit_remove.proofs.Undraw.{removed-one, removed-two, removed-as}
 use Rattle.edit_remove.proofs.remove_and_heal.Statement.{statement}
 use Rattle.edit_remove.proofs.remove_and_heal.Tie as tie
 
@@ -44,8 +44,8 @@ returns c =
     let one : row .left ≡ row .right = ap natAbs
     (sym (cells .left) ∙ word-is (sfits-of (b .left .given)) (sfits-of (t .before .right .given)) (t .if1 .taken)
     ∙ cells .right) in
-    cleared-as (s .pre .formed) (a .i) (a .makes) (c .carried .ensures)
-    (cleared-one (s .pre .formed) (a .i) (a .makes) one (s .pre .kept one) (sent (b .left .given) ∙ cells .left)
+    removed-as (s .pre .formed) (a .i) (a .makes) (c .carried .ensures)
+    (removed-one (s .pre .formed) (a .i) (a .makes) one (s .pre .kept one) (sent (b .left .given) ∙ cells .left)
     (u .undraw .ensures))
     (rw (same-eq (row .left) (row .right) one))
 
@@ -103,8 +103,8 @@ returns-2 c =
     let v = sent (d .struct-told .given .1 .0 .1 .1 .1 .0 .1) ∙ r .1 in
     let two = same-false (row .left) (row .right)
     (λ e. t .if1 .left (ap (ofZ w64) (cells .left ∙ ap pos e ∙ sym (cells .right)))) in
-    cleared-as (s .pre .formed) (a .i) (a .makes) (c .carried2 .ensures)
-    (cleared-two (s .pre .formed) (a .i) (a .makes) (s .pre .row) (r .0) v (u .undraw2 .ensures))
+    removed-as (s .pre .formed) (a .i) (a .makes) (c .carried2 .ensures)
+    (removed-two (s .pre .formed) (a .i) (a .makes) (s .pre .row) (r .0) v (u .undraw2 .ensures))
     (v ∙ sym (rw two))
 
 pub remove-and-heal-spec : {M : Type 1} → statement M

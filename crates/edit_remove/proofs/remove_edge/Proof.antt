@@ -13,7 +13,7 @@ use Rattle.map.specs.Edits.{isNew}
 use Rattle.outcomes.proofs.Formed.{decided-refused, decided-carried}
 use Rattle.outcomes.specs.Variants.{removeTicket}
 use Rattle.reason_edges.specs.Judging.{JudgedRemoval}
-use Rattle.edit_remove.proofs.Removal.{clearable, removed-lent, removed-value}
+use Rattle.edit_remove.proofs.Removal.{removable, removed-lent, removed-value}
 use Rattle.edit_remove.proofs.remove_edge.Statement.{statement}
 use Rattle.edit_remove.proofs.remove_edge.Tie as tie
 
@@ -37,7 +37,7 @@ remove-and-heal-requires c κs =
     let g = e .before in
     let s = g .before .before .before .before in
     let zero = e .if1 .left in
-    clearable (s .pre) (s .args .how) _ (s .args .edge) _ (judged g .row zero) (judged g .makes zero)
+    removable (s .pre) (s .args .how) _ (s .args .edge) _ (judged g .row zero) (judged g .makes zero)
     (sym (judged g .reason) ∙ zero)
 
 carried : tie.Need-returns-2

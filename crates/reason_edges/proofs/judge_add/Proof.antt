@@ -11,8 +11,9 @@ use Rattle.map.specs.Limits.{nodeWidth}
 use Rattle.map_rows.proofs.Rows.{node-rows-rising}
 use Rattle.head.proofs.Words.{nodes-natural, nodes-read}
 use Rattle.outcomes.proofs.Formed.{counted, node-rows, node-none}
+use Rattle.outcomes.proofs.FoundRows.{node-in}
 use Rattle.outcomes.proofs.Words.{place-told}
-use Rattle.reason_edges.proofs.Adding.{end-none, row-below, add-missing, add-found}
+use Rattle.reason_edges.proofs.Adding.{end-none, add-missing, add-found}
 use Rattle.reason_edges.proofs.judge_add.Statement.{statement}
 use Rattle.reason_edges.proofs.judge_add.Tie as tie
 
@@ -63,7 +64,7 @@ judge-rows-requires c κs =
     let u = v .before .before .before .before in
     let s = u .before .before .before .before .before in
     let a = s .args in
-    (s .pre, row-below (s .pre) (a .start) _ (start-at u), row-below (s .pre) (a .end) _ (end-at v))
+    (s .pre, node-in (s .pre) (a .start) _ (start-at u), node-in (s .pre) (a .end) _ (end-at v))
 
 found : tie.Need-returns-3
 found c =

@@ -11,8 +11,9 @@ use Rattle.map.specs.Limits.{edgeWidth}
 use Rattle.map_rows.proofs.Rows.{edge-row-of, edge-rows-rising}
 use Rattle.head.proofs.Words.{edges-natural, edges-read}
 use Rattle.outcomes.proofs.Formed.{counted, edge-rows}
+use Rattle.outcomes.proofs.FoundRows.{edge-in}
 use Rattle.outcomes.proofs.Words.{place-told}
-use Rattle.reason_edges.proofs.Removing.{removal-missing, edge-below, removal-found}
+use Rattle.reason_edges.proofs.Removing.{removal-missing, removal-found}
 use Rattle.reason_edges.proofs.judge_removal.Statement.{statement}
 use Rattle.reason_edges.proofs.judge_removal.Tie as tie
 
@@ -40,7 +41,7 @@ edge-at c =
 makes-face-requires : tie.Need-makes-face-requires
 makes-face-requires c κs =
     let s = c .before .before .before .before .before .before in
-    edge-row-of (edge-rows (s .pre)) _ (edge-below (s .pre) (s .args .edge) _ (edge-at (c .before)))
+    edge-row-of (edge-rows (s .pre)) _ (edge-in (s .pre) (s .args .edge) _ (edge-at (c .before)))
 
 found : tie.Need-returns-2
 found c =

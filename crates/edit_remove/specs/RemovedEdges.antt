@@ -16,23 +16,23 @@ use Rattle.outcomes.specs.Outcomes.{Formed}
 use Rattle.face_rows.specs.Holds.{TablesOf, faceKept, mergedSides}
 
 -- `removeEdge` of a row, where it is known whether a new face is made
-abbrev pub cleared : Bool → Edge → Map → Map
-cleared makes row m = undrawn (row .number) (faceKept makes row m) (mergedSides makes row m)
+abbrev pub removedEdge : Bool → Edge → Map → Map
+removedEdge makes row m = undrawn (row .number) (faceKept makes row m) (mergedSides makes row m)
 
 -- the face that is left, or -1 where both sides were one
 abbrev pub valueLeft : Bool → Edge → Map → ℤ
 valueLeft makes row m = cond (same (row .left) (row .right)) (negsuc 0) (pos (faceKept makes row m))
 
 -- a row in use; no face is made where both sides are one, and where one is made there is a number for it
-pub record Clearable (nodes edges faces : List ℤ) (h : Head) (i : ℕ) (makes : Bool) : Type 0 where
+pub record RemovableEdge (nodes edges faces : List ℤ) (h : Head) (i : ℕ) (makes : Bool) : Type 0 where
   pub formed : Formed nodes edges faces h
   pub row : i < natAbs (h .edges)
   pub cells : EdgeRow edges i
   pub kept : edgeAt edges i .left ≡ edgeAt edges i .right → makes ≡ false
   pub number : natAbs (h .«next_face») + bit makes ≤ suc lastNumber
 
-pub record Cleared (nodes edges faces : List ℤ) (h : Head) (i : ℕ) (makes : Bool) (nodes′ edges′ faces′ : List ℤ)
+pub record EdgeRemoved (nodes edges faces : List ℤ) (h : Head) (i : ℕ) (makes : Bool) (nodes′ edges′ faces′ : List ℤ)
     (r : Done) : Type 0 where
-  pub holds : TablesOf nodes edges faces (cleared makes (edgeAt edges i)
+  pub holds : TablesOf nodes edges faces (removedEdge makes (edgeAt edges i)
       (mapOf (lent nodes edges faces h))) nodes′ edges′ faces′ (r .head)
   pub value : r .answer .value ≡ valueLeft makes (edgeAt edges i) (mapOf (lent nodes edges faces h))
