@@ -63,7 +63,7 @@ module _ {nodes edges faces : List ℤ} {h : Head} (f : Formed nodes edges faces
           ∙ first-miss 9 _ _ (ap not (isolated-row ∙ sym e) ∙ t) ∙ first-none
 
     -- kind 2
-    taken-row : (x y : ℤ) → reasons.nodeAt (withoutNode number (m .nodes)) (point x y) || edgeThrough m (point x y)
+    taken-row : (x y : ℤ) → reasons.anyNodeAt (withoutNode number (m .nodes)) (point x y) || edgeThrough m (point x y)
         ≡ pointTaken nodes (natAbs (h .nodes)) edges (natAbs (h .edges)) i (point x y)
     unfolding mapOf edgeThrough
     taken-row x y =

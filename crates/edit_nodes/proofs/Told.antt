@@ -63,7 +63,7 @@ module _ {nodes edges faces : List ℤ} {h : Head} (f : Formed nodes edges faces
 
   -- the point that was looked for
   pub taken-told : (n k own : ℕ) (p q : Point) {r v : Bool} → n ≡ natAbs (h .nodes) → k ≡ natAbs (h .edges) → n ≤ own
-      → p ≡ q → r ≡ pointTaken nodes n edges k own p → r ≡ v → reasons.nodeAt (m .nodes) q || edgeThrough m q ≡ v
+      → p ≡ q → r ≡ pointTaken nodes n edges k own p → r ≡ v → reasons.anyNodeAt (m .nodes) q || edgeThrough m q ≡ v
   unfolding mapOf edgeThrough
   taken-told n k own p q en ek past ep er ev =
       rw (← en, ← ek, ← ep) (ap (λ (t : Bool). t || edgeThrough (edgeMap edges k) p)
@@ -94,7 +94,7 @@ module _ {nodes edges faces : List ℤ} {h : Head} (f : Formed nodes edges faces
 
     module _ (early : firstReason (addEarly m face x y) ≡ 0) where
       four : (not (minusOne face) && noFace m face ≡ false)
-          × (firstReason ((5, outside x y) ∷ (10, reasons.nodeAt (m .nodes) (point x y) || edgeThrough m (point x y))
+          × (firstReason ((5, outside x y) ∷ (10, reasons.anyNodeAt (m .nodes) (point x y) || edgeThrough m (point x y))
           ∷ []) ≡ 0)
       four = first-zero 4 _ _ (lit< tt) early
 

@@ -19,7 +19,7 @@ use Rattle.map.specs.declared.Variant.{Variant}
 use Rattle.map.specs.Limits.{maxEdges, edgeWidth}
 use Rattle.map.specs.Rows.{dartCell, counts}
 use Rattle.map.specs.Edits.{isMod}
-use Rattle.map.specs.Reasons.{Reasons, outside, nodeAt}
+use Rattle.map.specs.Reasons.{Reasons, outside, anyNodeAt}
 use Rattle.tables.specs.Tables.{closed}
 use Rattle.map_rows.specs.Rows.{EdgeRow, edgeAt, nodesOf}
 use Rattle.map_rows.specs.declared.Incidence.{Incidence}
@@ -97,7 +97,7 @@ pub record CuttableEdge (edges : List ℤ) (h : Head) (i : ℕ) (x y : ℤ) : Ty
 -- 5, 10 and 13, of the point and edge row i
 abbrev pub pointReasons : List ℤ → ℕ → List ℤ → ℕ → ℤ → ℤ → Reasons
 pointReasons nodes n edges i x y =
-    (5, outside x y) ∷ (10, nodeAt (nodesOf nodes n) (point x y))
+    (5, outside x y) ∷ (10, anyNodeAt (nodesOf nodes n) (point x y))
     ∷ (13, not (onCurve (edgeAt edges i .curve) (point x y))) ∷ []
 
 -- ---- numbers

@@ -24,7 +24,7 @@ use Rattle.map.specs.Rows.{counts}
 use Rattle.map.specs.Darts.{leaves, next}
 use Rattle.map.specs.Links.{withLinks}
 use Rattle.map.specs.Edits.{isMod, startHalf, endHalf, split, joint, parts, healedCurve, heal}
-use Rattle.map.specs.Reasons.{nodeAt}
+use Rattle.map.specs.Reasons.{anyNodeAt}
 use Rattle.map.proofs.Laws.{edge-there}
 use Rattle.map_laws.proofs.Readings.{numberOf, nextIn, edge-at, row-has, has-dart, dart-has, next-row}
 use Rattle.map_laws.proofs.RowChanges.{nodeNumber}
@@ -151,7 +151,7 @@ module _ (m : Map) (e : ℕ) (g : Good m) (has : hasEdge m e ≡ true) where
 -- ---- split, then heal
 
 module _ (m : Map) (e : ℕ) (p : Point) (g : Good m) (has : hasEdge m e ≡ true)
-    (free : nodeAt (m .nodes) p ≡ false) (on : onCurve (edge m e .curve) p ≡ true) where
+    (free : anyNodeAt (m .nodes) p ≡ false) (on : onCurve (edge m e .curve) p ≡ true) where
   abbrev n : ℕ
   n = m .next .nodes
 

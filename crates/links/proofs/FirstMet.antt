@@ -18,7 +18,7 @@ use Rattle.rotation.specs.Law.{pick, firstClockwise}
 use Rattle.rotation.proofs.Node.{first-in}
 use Rattle.rotation.proofs.Rename.{first-map}
 use Rattle.darts.specs.Positions.{wayAt, wayWith}
-use Rattle.links.specs.Linking.{positions, leaving, firstMet}
+use Rattle.links.specs.Linking.{positions, departuresBut, firstMet}
 
 -- directions that are the same
 pub met-same : (way way′ : ℕ → Way) (v : Way) (ds : List ℕ) → ((d : ℕ) → List·Memᴰ d ds → way′ d ≡ way d)
@@ -74,7 +74,7 @@ from-has a (suc n) p h k = elim (equal? p a) [
 pub position-has : (n p : ℕ) → p < n * 2 → List·Memᴰ p (positions n)
 position-has n p h = from-has 0 (n * 2) p (omega arith) (omega arith)
 
-pub leaving-below : (l : List ℤ) (n : ℕ) (node : ℤ) (a b p : ℕ) → List·Memᴰ p (leaving l n node a b) → p < n * 2
+pub leaving-below : (l : List ℤ) (n : ℕ) (node : ℤ) (a b p : ℕ) → List·Memᴰ p (departuresBut l n node a b) → p < n * 2
 leaving-below l n node a b p m = position-below n p (keep-in _ (positions n) m .0)
 
 -- where no row has another curve

@@ -27,7 +27,7 @@ use Rattle.map_rows.specs.Rows.{edgesOf, edgeAt, edgeMap, EdgeRows, edgesAlone}
 use Rattle.darts.specs.Positions.{reverseOf, dartAt, sidePlace, sideCell, wayAt}
 use Rattle.darts.proofs.Positions.{dart-even, dart-odd, dart-reverse, dart-injective, reverse-below, number-injective}
 use Rattle.darts.proofs.Positions.{cell-leaves, cell-next, next-there, way-is}
-use Rattle.links.specs.Linking.{positions, leavesNode, leaving, firstMet, redirected, linkedAt, linkedWhere}
+use Rattle.links.specs.Linking.{positions, leavesNode, departuresBut, firstMet, redirected, linkedAt, linkedWhere}
 use Rattle.links.specs.Linking.{linkedIn, linkedEdge, unlinkedEdge}
 use Rattle.links.proofs.Kept.{Relinked, relinked-then, redirected-relinked}
 use Rattle.links.proofs.FirstMet.{first-none, position-below, leaving-below}
@@ -51,12 +51,12 @@ module _ {l : List ℤ} {n : ℕ} (t : EdgeRows l n) (p : ℕ) (h : p < n * 2) w
       (redirected-map t (dartAt l q) (dartAt l p) (dart-least t q k) (dart-least t p h))
 
   pub linked-in-map : (other : ℕ) → edgeMap (linkedIn l n p other) n
-      ≡ linkIn (dartAt l p) (map (dartAt l) (leaving l n (sideCell l p 1) p other)) (edgeMap l n)
+      ≡ linkIn (dartAt l p) (map (dartAt l) (departuresBut l n (sideCell l p 1) p other)) (edgeMap l n)
   unfolding linkIn
   linked-in-map other = go (firstMet (wayAt l) (wayAt l p) ds) refl
     where
       ds : List ℕ
-      ds = leaving l n (sideCell l p 1) p other
+      ds = departuresBut l n (sideCell l p 1) p other
 
       m : Map
       m = edgeMap l n
@@ -140,14 +140,14 @@ module _ {l l′ : List ℤ} {n : ℕ} (t : EdgeRows l n) (r : Relinked l l′ n
       go (inl o) = at 1 (omega arith) (omega arith)
       go (inr o) = at 2 (omega arith) (omega arith)
 
-  leaving-kept : (p a b : ℕ) → p < n * 2 → map (dartAt l′) (leaving l′ n (sideCell l′ p 1) a b)
-      ≡ map (dartAt l) (leaving l n (sideCell l p 1) a b)
+  leaving-kept : (p a b : ℕ) → p < n * 2 → map (dartAt l′) (departuresBut l′ n (sideCell l′ p 1) a b)
+      ≡ map (dartAt l) (departuresBut l n (sideCell l p 1) a b)
   leaving-kept p a b h =
-      ap (λ (z : ℤ). map (dartAt l′) (leaving l′ n z a b)) (node-kept p h)
+      ap (λ (z : ℤ). map (dartAt l′) (departuresBut l′ n z a b)) (node-kept p h)
       ∙ ap (map (dartAt l′)) (keep-cong _ _ (positions n)
       (λ q m. ap (λ (z : ℤ). sameZ z (sideCell l p 1) && not (same q a) && not (same q b))
       (node-kept q (position-below n q m))))
-      ∙ map-cong (dartAt l′) (dartAt l) (leaving l n (sideCell l p 1) a b)
+      ∙ map-cong (dartAt l′) (dartAt l) (departuresBut l n (sideCell l p 1) a b)
       (λ q m. dart-kept t r q (leaving-below l n (sideCell l p 1) a b q m))
 
 -- ---- the last row linked in
@@ -176,14 +176,14 @@ module _ {l : List ℤ} {n : ℕ} (t : EdgeRows l n) (some : 0 < n) where
       let b₁ : p + 1 < n * 2 = omega arith in
       let t₁ = linked-in-kept t p b₀ (p + 1) in
       let r = linked-in-relinked t p b₀ (p + 1) in
-      let start : map (dartAt l) (leaving l n (sideCell l p 1) p (p + 1))
+      let start : map (dartAt l) (departuresBut l n (sideCell l p 1) p (p + 1))
       ≡ keep (λ d. not (same (d .edge) e)) (departures m (leaves m (fwd e))) =
       ap (map (dartAt l)) (keep-cong _ _ (positions n)
       (λ q k. and-assoc (leavesNode l (sideCell l p 1) q) (not (same q p)) (not (same q (p + 1)))))
       ∙ sym (there-map t p b₀ (λ d. not (same (d .edge) e)) (λ q. not (same q p) && not (same q (p + 1)))
       (λ q k. other-edge t i q (omega arith) k))
       ∙ ap (λ (d : Dart). keep (λ d. not (same (d .edge) e)) (departures m (leaves m d))) (dart-even l i) in
-      let end : map (dartAt l) (leaving l n (sideCell l (p + 1) 1) (p + 1) (p + 1))
+      let end : map (dartAt l) (departuresBut l n (sideCell l (p + 1) 1) (p + 1) (p + 1))
       ≡ keep (λ d. not (sameDart d (bwd e))) (departures m (leaves m (bwd e))) =
       ap (map (dartAt l)) (keep-cong _ _ (positions n)
       (λ q k. eq2 (λ x y. x && y && y) (λ x y. x && y) tt (leavesNode l (sideCell l (p + 1) 1) q)

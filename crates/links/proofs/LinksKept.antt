@@ -14,7 +14,7 @@ use Rattle.tables.specs.Tables.{sameZ}
 use Rattle.map_rows.specs.Rows.{edgeMap, EdgeRows}
 use Rattle.darts.specs.Positions.{reverseOf, dartAt, sidePlace, sideCell, wayAt}
 use Rattle.darts.proofs.Positions.{reverse-below}
-use Rattle.links.specs.Linking.{redirected, linkedAt, linkedWhere, linkedIn, leaving, firstMet}
+use Rattle.links.specs.Linking.{redirected, linkedAt, linkedWhere, linkedIn, departuresBut, firstMet}
 use Rattle.links.proofs.Kept.{Relinked, relinked-then, redirected-relinked, redirected-link, stored-relinked}
 use Rattle.links.proofs.Kept.{stored-here, stored-there, rows-kept, has-kept}
 use Rattle.links.proofs.Darts.{link-named, written-named}
@@ -63,15 +63,15 @@ module _ {l : List ℤ} {n : ℕ} (t : EdgeRows l n) (p : ℕ) (h : p < n * 2) w
   linked-where-kept (At q) b = linked-at-kept q (b q refl)
   linked-where-kept Missing b = linked-at-kept p h
 
-  pub met-below : (other q : ℕ) → firstMet (wayAt l) (wayAt l p) (leaving l n (sideCell l p 1) p other) ≡ At q
+  pub met-below : (other q : ℕ) → firstMet (wayAt l) (wayAt l p) (departuresBut l n (sideCell l p 1) p other) ≡ At q
       → q < n * 2
   met-below other q e = leaving-below l n (sideCell l p 1) p other q
-      (met-in (wayAt l) (wayAt l p) (leaving l n (sideCell l p 1) p other) q e)
+      (met-in (wayAt l) (wayAt l p) (departuresBut l n (sideCell l p 1) p other) q e)
 
   pub linked-in-kept : (other : ℕ) → EdgeRows (linkedIn l n p other) n
-  linked-in-kept other = linked-where-kept (firstMet (wayAt l) (wayAt l p) (leaving l n (sideCell l p 1) p other))
+  linked-in-kept other = linked-where-kept (firstMet (wayAt l) (wayAt l p) (departuresBut l n (sideCell l p 1) p other))
       (met-below other)
 
   pub linked-in-relinked : (other : ℕ) → Relinked l (linkedIn l n p other) n
   linked-in-relinked other = linked-where-relinked
-      (firstMet (wayAt l) (wayAt l p) (leaving l n (sideCell l p 1) p other))
+      (firstMet (wayAt l) (wayAt l p) (departuresBut l n (sideCell l p 1) p other))

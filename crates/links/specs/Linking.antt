@@ -29,8 +29,8 @@ abbrev pub leavesNode : List ℤ → ℤ → ℕ → Bool
 leavesNode l node p = sameZ (sideCell l p 1) node
 
 -- the departures from a node but for a and b
-abbrev pub leaving : List ℤ → ℕ → ℤ → ℕ → ℕ → List ℕ
-leaving l n node a b = keep (λ p. leavesNode l node p && not (same p a) && not (same p b)) (positions n)
+abbrev pub departuresBut : List ℤ → ℕ → ℤ → ℕ → ℕ → List ℕ
+departuresBut l n node a b = keep (λ p. leavesNode l node p && not (same p a) && not (same p b)) (positions n)
 
 -- the first of the departures met turning clockwise from v
 abbrev pub firstMet : (ℕ → Way) → Way → List ℕ → Found
@@ -80,7 +80,7 @@ linkedWhere l n p Missing = linkedAt l n p (dartCell (dartAt l p))
 
 -- the new departure p linked in, the position `other` not being there yet
 abbrev pub linkedIn : List ℤ → ℕ → ℕ → ℕ → List ℤ
-linkedIn l n p other = linkedWhere l n p (firstMet (wayAt l) (wayAt l p) (leaving l n (sideCell l p 1) p other))
+linkedIn l n p other = linkedWhere l n p (firstMet (wayAt l) (wayAt l p) (departuresBut l n (sideCell l p 1) p other))
 
 -- the last row linked in, start first, then end
 abbrev pub linkedEdge : List ℤ → ℕ → List ℤ

@@ -15,7 +15,7 @@ ghost use Rattle.rotation.specs.Law.{lawfulNext};
 ghost use Rattle.map.specs.Limits.{edgeWidth, maxEdges};
 ghost use Rattle.map_rows.specs.Rows.{EdgeRows};
 ghost use Rattle.darts.specs.Positions.{sideCell, wayAt, wayWith, StepInRange};
-ghost use Rattle.links.specs.Linking.{Known, laterOf, chosenOf, positions, leavesNode, leaving, firstMet};
+ghost use Rattle.links.specs.Linking.{Known, laterOf, chosenOf, positions, leavesNode, departuresBut, firstMet};
 ghost use Rattle.links.specs.Linking.{redirected, linkedAt, linkedIn, linkedEdge, unlinkedEdge};
 
 // A choice among departures so far: the last counterclockwise of all, and of those before a direction.
@@ -83,7 +83,7 @@ pub fn first_clockwise(
     requires { ⌜ EdgeRows (now edges) count × (own < count → Run (now c)) × StepInRange v ⌝ }
     ensures { λ r. ⌜
         r ≡ firstMet (wayWith (now (edges .entry)) own (now (c .entry))) (wayTo (v .from) (v .to))
-        (leaving (now (edges .entry)) count node a b) ⌝ }
+        (departuresBut (now (edges .entry)) count node a b) ⌝ }
 {
     let mut h = Choice {
         any: false,
@@ -233,7 +233,7 @@ fn met(edges: &[i64], count: usize, p: usize, other: usize) -> Found
     requires { ⌜ EdgeRows (now edges) count × (p < count * 2) ⌝ }
     ensures { λ r. ⌜
         r ≡ firstMet (wayAt (now (edges .entry))) (wayAt (now (edges .entry)) p)
-        (leaving (now (edges .entry)) count (sideCell (now (edges .entry)) p 1) p other) ⌝ }
+        (departuresBut (now (edges .entry)) count (sideCell (now (edges .entry)) p 1) p other) ⌝ }
 {
     let node = darts::dart_cell(edges, p, map::START);
     let v = darts::step_at(edges, p);

@@ -94,8 +94,8 @@ edgeIsolated m e = not (same (edge m e .start) (edge m e .end)) && same (edgeEnd
 
 -- ---- 10: another node at the point, or an edge through it
 
-unfoldable pub nodeAt : List Node → Point → Bool
-nodeAt ns p = anyOf (λ n. samePoint (n .at) p) ns
+unfoldable pub anyNodeAt : List Node → Point → Bool
+anyNodeAt ns p = anyOf (λ n. samePoint (n .at) p) ns
 
 unfoldable pub edgeThrough : Map → Point → Bool
 edgeThrough m p = anyOf (λ e. onCurve (e .curve) p) (m .edges)
@@ -163,7 +163,7 @@ abbrev pub splitReasons : Variant → Sizes → Map → ℤ → ℤ → ℤ → 
 splitReasons how s m e x y =
     (4, noEdge m e)
     ∷ (5, outside x y)
-    ∷ (10, nodeAt (m .nodes) (point x y))
+    ∷ (10, anyNodeAt (m .nodes) (point x y))
     ∷ (13, not (onCurve (edge m (natAbs e) .curve) (point x y)))
     ∷ roomReasons s m (counts 1 1 0) (counts 1 (cond (isMod how) 1 2) 0)
 
@@ -199,7 +199,7 @@ reasons s m (AddIsoNode f x y) =
     let p = point x y in
     (4, not (minusOne f) && noFace m f)
     ∷ (5, outside x y)
-    ∷ (10, nodeAt (m .nodes) p || edgeThrough m p)
+    ∷ (10, anyNodeAt (m .nodes) p || edgeThrough m p)
     ∷ (12, not (minusOne f) && not (same (natAbs f) (faceOfPoint m p)))
     ∷ roomReasons s m (counts 1 0 0) (counts 1 0 0)
 reasons s m (MoveIsoNode n x y) =
@@ -207,7 +207,7 @@ reasons s m (MoveIsoNode n x y) =
     (4, noNode m n)
     ∷ (5, outside x y)
     ∷ (9, not (isolated m (natAbs n)))
-    ∷ (10, nodeAt (withoutNode (natAbs n) (m .nodes)) p || edgeThrough m p)
+    ∷ (10, anyNodeAt (withoutNode (natAbs n) (m .nodes)) p || edgeThrough m p)
     ∷ []
 reasons s m (RemoveIsoNode n) =
     (4, noNode m n)

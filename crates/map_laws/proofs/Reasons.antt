@@ -29,7 +29,7 @@ use Rattle.map.specs.Tickets.{NewEdgesSplit, ModEdgeSplit, NewEdgeHeal, ModEdge
 use Rattle.map.specs.Tickets.{RemEdgeNewFace, RemEdgeModFace}
 use Rattle.map.specs.Edits.{isNew, isMod, sharedNodes, joint, healedCurve, splitsFace, makesFace}
 use Rattle.map.specs.Reasons.{Reasons, firstReason, reasons, noNode, noEdge, outside, endsDiffer, isolated}
-use Rattle.map.specs.Reasons.{edgeIsolated, nodeAt, edgeThrough, directionTaken, containingDiffer, cornersDiffer}
+use Rattle.map.specs.Reasons.{edgeIsolated, anyNodeAt, edgeThrough, directionTaken, containingDiffer, cornersDiffer}
 use Rattle.map.specs.Reasons.{nodeInside, edgeWrong, orderChanges, full, spent, splitReasons, healReasons}
 use Rattle.map.specs.Reasons.{addEdgeReasons}
 use Rattle.map.proofs.Reasons.{first-zero, point-in-range}
@@ -63,7 +63,7 @@ pub record Sent (m : Map) (c : Curve) (u v : ℕ) : Type 0 where
 -- kind 1
 pub record AddNode (s : Sizes) (m : Map) (p : Point) : Type 0 where
   pub in-range : InRange p
-  pub free : nodeAt (m .nodes) p ≡ false
+  pub free : anyNodeAt (m .nodes) p ≡ false
   pub off : edgeThrough m p ≡ false
   pub room : Room s m 1 0 0
   pub supply : Supply m 1 0 0
@@ -73,7 +73,7 @@ pub record MoveNode (m : Map) (n : ℕ) (p : Point) : Type 0 where
   pub has : hasNode m n ≡ true
   pub in-range : InRange p
   pub isolated : isolated m n ≡ true
-  pub free : nodeAt (withoutNode n (m .nodes)) p ≡ false
+  pub free : anyNodeAt (withoutNode n (m .nodes)) p ≡ false
   pub off : edgeThrough m p ≡ false
 
 -- kind 3
@@ -115,7 +115,7 @@ pub record Change (m : Map) (e : ℕ) (c : Curve) : Type 0 where
 pub record Split (how : Variant) (s : Sizes) (m : Map) (e : ℕ) (p : Point) : Type 0 where
   pub has : hasEdge m e ≡ true
   pub in-range : InRange p
-  pub free : nodeAt (m .nodes) p ≡ false
+  pub free : anyNodeAt (m .nodes) p ≡ false
   pub on : onCurve (edge m e .curve) p ≡ true
   pub room : Room s m 1 1 0
   pub supply : Supply m 1 (cond (isMod how) 1 2) 0
@@ -216,11 +216,11 @@ module _ (s : Sizes) (m : Map) where
   add-node f x y h =
       let h₄ = first-zero 4 _ _ (lit< tt) h in
       let h₅ = first-zero 5 (outside x y) _ (lit< tt) (h₄ .1) in
-      let h₁₀ = first-zero 10 (nodeAt (m .nodes) (point x y) || edgeThrough m (point x y)) _ (lit< tt) (h₅ .1) in
+      let h₁₀ = first-zero 10 (anyNodeAt (m .nodes) (point x y) || edgeThrough m (point x y)) _ (lit< tt) (h₅ .1) in
       let h₁₂ = first-zero 12 _ _ (lit< tt) (h₁₀ .1) in
       let h₂₀ = first-zero 20 (full s m (counts 1 0 0)) _ (lit< tt) (h₁₂ .1) in
       let h₂₁ = first-zero 21 (spent m (counts 1 0 0)) _ (lit< tt) (h₂₀ .1) in
-      let apart = or-false (nodeAt (m .nodes) (point x y)) (edgeThrough m (point x y)) (h₁₀ .0) in
+      let apart = or-false (anyNodeAt (m .nodes) (point x y)) (edgeThrough m (point x y)) (h₁₀ .0) in
       record {
         in-range = point-in-range x y (h₅ .0);
         free = apart .0;
@@ -235,9 +235,9 @@ module _ (s : Sizes) (m : Map) where
       let h₄ = first-zero 4 (noNode m n) _ (lit< tt) h in
       let h₅ = first-zero 5 (outside x y) _ (lit< tt) (h₄ .1) in
       let h₉ = first-zero 9 (not (isolated m (natAbs n))) _ (lit< tt) (h₅ .1) in
-      let h₁₀ = first-zero 10 (nodeAt (withoutNode (natAbs n) (m .nodes)) (point x y) || edgeThrough m (point x y)) _
+      let h₁₀ = first-zero 10 (anyNodeAt (withoutNode (natAbs n) (m .nodes)) (point x y) || edgeThrough m (point x y)) _
       (lit< tt) (h₉ .1) in
-      let apart = or-false (nodeAt (withoutNode (natAbs n) (m .nodes)) (point x y)) (edgeThrough m (point x y))
+      let apart = or-false (anyNodeAt (withoutNode (natAbs n) (m .nodes)) (point x y)) (edgeThrough m (point x y))
       (h₁₀ .0) in
       record {
         has = has-node m n (h₄ .0);
@@ -328,7 +328,7 @@ module _ (s : Sizes) (m : Map) where
   split how e x y h =
       let h₄ = first-zero 4 (noEdge m e) _ (lit< tt) h in
       let h₅ = first-zero 5 (outside x y) _ (lit< tt) (h₄ .1) in
-      let h₁₀ = first-zero 10 (nodeAt (m .nodes) (point x y)) _ (lit< tt) (h₅ .1) in
+      let h₁₀ = first-zero 10 (anyNodeAt (m .nodes) (point x y)) _ (lit< tt) (h₅ .1) in
       let h₁₃ = first-zero 13 (not (onCurve (edge m (natAbs e) .curve) (point x y))) _ (lit< tt) (h₁₀ .1) in
       let h₂₀ = first-zero 20 (full s m (counts 1 1 0)) _ (lit< tt) (h₁₃ .1) in
       let h₂₁ = first-zero 21 (spent m (counts 1 (cond (isMod how) 1 2) 0)) _ (lit< tt) (h₂₀ .1) in

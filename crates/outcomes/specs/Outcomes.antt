@@ -27,5 +27,5 @@ abbrev pub outcome : List ℤ → List ℤ → List ℤ → Done → Outcome
 outcome nodes edges faces d = record { lent = lent nodes edges faces (d .head); answer = d .answer }
 
 -- what a call left, with the head in a loan of its own
-abbrev pub leaving : List ℤ → List ℤ → List ℤ → Head → Answer → Outcome
-leaving nodes edges faces h a = record { lent = lent nodes edges faces h; answer = a }
+abbrev pub outcomeWith : List ℤ → List ℤ → List ℤ → Head → Answer → Outcome
+outcomeWith nodes edges faces h a = record { lent = lent nodes edges faces h; answer = a }

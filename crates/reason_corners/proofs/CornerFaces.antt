@@ -35,7 +35,7 @@ use Rattle.map_rows.proofs.Lookups.{node-found}
 use Rattle.tables.proofs.Order.{same-pos}
 use Rattle.darts.specs.Positions.{dartAt, wayAt, wayWith}
 use Rattle.darts.proofs.Positions.{half-below, cell-bears}
-use Rattle.links.specs.Linking.{positions, leavesNode, leaving, firstMet}
+use Rattle.links.specs.Linking.{positions, leavesNode, departuresBut, firstMet}
 use Rattle.links.proofs.FirstMet.{met-same, met-in, leaving-below, position-below, with-none}
 use Rattle.links.proofs.Departures.{departures-map, met-found}
 use Rattle.reason_corners.specs.CornerFaces.{cornerBy, cornerCell}
@@ -44,15 +44,15 @@ use Rattle.reason_corners.specs.CornerFaces.{cornerBy, cornerCell}
 
 module _ (l : List ℤ) (n : ℕ) (z : ℤ) (a b : ℕ) (v : Way) where
   -- no row has another curve
-  pub met-alike : firstMet (wayWith l n []) v (leaving l n z a b) ≡ firstMet (wayAt l) v (leaving l n z a b)
-  met-alike = met-same (wayAt l) (wayWith l n []) v (leaving l n z a b)
+  pub met-alike : firstMet (wayWith l n []) v (departuresBut l n z a b) ≡ firstMet (wayAt l) v (departuresBut l n z a b)
+  met-alike = met-same (wayAt l) (wayWith l n []) v (departuresBut l n z a b)
       (λ p m. with-none l n [] p (half-below n p (leaving-below l n z a b p m)))
 
-  pub met-below : (q : ℕ) → firstMet (wayAt l) v (leaving l n z a b) ≡ At q → q < n * 2
-  met-below q e = leaving-below l n z a b q (met-in (wayAt l) v (leaving l n z a b) q e)
+  pub met-below : (q : ℕ) → firstMet (wayAt l) v (departuresBut l n z a b) ≡ At q → q < n * 2
+  met-below q e = leaving-below l n z a b q (met-in (wayAt l) v (departuresBut l n z a b) q e)
 
 -- all departures, where both exceptions are past the positions
-leaving-all : (l : List ℤ) (n : ℕ) (z : ℤ) → leaving l n z (n * 2) (n * 2) ≡ keep (leavesNode l z) (positions n)
+leaving-all : (l : List ℤ) (n : ℕ) (z : ℤ) → departuresBut l n z (n * 2) (n * 2) ≡ keep (leavesNode l z) (positions n)
 leaving-all l n z =
     keep-cong (λ p. leavesNode l z p && not (same p (n * 2)) && not (same p (n * 2))) (leavesNode l z) (positions n)
     (λ p m.
@@ -117,7 +117,7 @@ module _ {nodes : List ℤ} {r : ℕ} {l : List ℤ} {n : ℕ} (s : NodeRows nod
     unfolding cornerFace
     corner-cell face v =
         ap (λ (ds : List ℕ). cornerBy nodes i l (firstMet (wayAt l) v ds))
-        (ap (λ (z : ℤ). leaving l n z (n * 2) (n * 2)) (cells .number) ∙ leaving-all l n (pos number))
+        (ap (λ (z : ℤ). departuresBut l n z (n * 2) (n * 2)) (cells .number) ∙ leaving-all l n (pos number))
         ∙ corner-by v there (λ p k. position-below n p (keep-in (leavesNode l (pos number)) (positions n) k .0))
         (λ e. face (ap length (departures-are ∙ ap (map (dartAt l)) e)))
         ∙ ap (λ (ds : List Dart). pos (cornerOf m number v ds)) (sym departures-are)

@@ -8,7 +8,7 @@ use Rattle.lists.specs.declared.Found.the-variants.{At, Missing}
 use Rattle.plane.specs.Directions.{Way}
 use Rattle.map.specs.Limits.{nodeWidth}
 use Rattle.darts.specs.Positions.{sideCell, wayAt}
-use Rattle.links.specs.Linking.{leaving, firstMet}
+use Rattle.links.specs.Linking.{departuresBut, firstMet}
 
 abbrev pub cornerBy : List ℤ → ℕ → List ℤ → Found → ℤ
 cornerBy nodes i l (At p) = sideCell l p 5
@@ -17,4 +17,4 @@ cornerBy nodes i l Missing = getD nodes (i * nodeWidth + 3) (pos 0)
 -- left of the first departure met turning clockwise from v; at a node with none, its containing face
 abbrev pub cornerCell : List ℤ → ℕ → List ℤ → ℕ → Way → ℤ
 cornerCell nodes i l n v = cornerBy nodes i l
-    (firstMet (wayAt l) v (leaving l n (getD nodes (i * nodeWidth) (pos 0)) (n * 2) (n * 2)))
+    (firstMet (wayAt l) v (departuresBut l n (getD nodes (i * nodeWidth) (pos 0)) (n * 2) (n * 2)))

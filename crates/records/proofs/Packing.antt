@@ -11,7 +11,7 @@ use lib.Seq.{paste, paste-suc, take-paste, drop-paste, take-add, take-all, drop-
 use Rattle.lists.specs.Tables.{table}
 use Rattle.lists.proofs.Scans.{length-table, getD-table}
 use Rattle.records.specs.declared.Node.{Node}
-use Rattle.records.specs.Records.{nodeCells, nodeTable, rowNode}
+use Rattle.records.specs.Records.{recordCells, nodeTable, rowNode}
 
 -- what is read past the last record
 abbrev pub noNode : Node
@@ -28,7 +28,7 @@ length-cells (y ∷ ys) = let e = length-cells ys in omega arith
 
 -- row i of the table
 row-cells : (ys : List Node) (i : ℕ) → i < length ys → take 4 (drop (i * 4) (nodeTable ys))
-    ≡ nodeCells (getD ys i noNode)
+    ≡ recordCells (getD ys i noNode)
 unfolding flatMap
 row-cells [] i h = absurd (omega arith)
 row-cells (y ∷ ys) zero h = let e : zero * 4 ≡ 0 = omega arith in rw e
@@ -38,11 +38,11 @@ row-cells (y ∷ ys) (suc i) h = let e : suc i * 4 ≡ suc (suc (suc (suc (i * 4
 -- ---- packing: row i goes after the rows before it
 
 pub pack-turn : (d : List ℤ) (ys : List Node) (i : ℕ) → i < length ys → length ys * 4 ≤ length d
-    → paste (paste d 0 (nodeTable ys) (i * 4)) (i * 4) (nodeCells (getD ys i noNode)) 4
+    → paste (paste d 0 (nodeTable ys) (i * 4)) (i * 4) (recordCells (getD ys i noNode)) 4
     ≡ paste d 0 (nodeTable ys) ((i + 1) * 4)
 pack-turn d ys i h k =
     let s = nodeTable ys in
-    let c = nodeCells (getD ys i noNode) in
+    let c = recordCells (getD ys i noNode) in
     let n = i * 4 in
     let e = length-cells ys in
     let fits : n ≤ length s = omega arith in
@@ -121,7 +121,7 @@ rows-from l a (suc n) h =
     let next : (a + 1) * 4 ≡ m + 4 = omega arith in
     let more : suc n * 4 ≡ 4 + n * 4 = omega arith in
     let later : drop ((a + 1) * 4) l ≡ drop 4 (drop m l) = ap (λ (k : ℕ). drop k l) next ∙ sym (drop-drop 4 m l) in
-    ap (λ (r : List ℤ). nodeCells (rowNode l a) ++ r) (rows-from l (a + 1) n (omega arith) ∙ ap (take (n * 4)) later)
+    ap (λ (r : List ℤ). recordCells (rowNode l a) ++ r) (rows-from l (a + 1) n (omega arith) ∙ ap (take (n * 4)) later)
     ∙ ap (λ (r : List ℤ). r ++ take (n * 4) (drop 4 (drop m l))) (sym (four l m (omega arith)))
     ∙ sym (take-add 4 (n * 4) (drop m l))
     ∙ ap (λ (k : ℕ). take k (drop m l)) (sym more)

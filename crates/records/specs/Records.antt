@@ -11,12 +11,12 @@ use Rattle.tables.specs.Tables.{sameZ}
 use Rattle.records.specs.declared.Node.{Node}
 
 -- number, x, y and containing face
-abbrev pub nodeCells : Node → List ℤ
-nodeCells n = n .number ∷ n .x ∷ n .y ∷ n .face ∷ []
+abbrev pub recordCells : Node → List ℤ
+recordCells n = n .number ∷ n .x ∷ n .y ∷ n .face ∷ []
 
 -- the node table that the records are
 abbrev pub nodeTable : List Node → List ℤ
-nodeTable ns = flatMap nodeCells ns
+nodeTable ns = flatMap recordCells ns
 
 -- the node that row i of a node table is
 abbrev pub rowNode : List ℤ → ℕ → Node

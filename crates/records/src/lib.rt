@@ -12,9 +12,9 @@ ghost use lib.Seq.{paste};
 ghost use Rattle.lists.specs.Tables.{table};
 ghost use Rattle.map.specs.Ticket.{ticket, emptied, edgesOfFace};
 ghost use Rattle.form_ranges.specs.Ranges.{lent};
-ghost use Rattle.outcomes.specs.Outcomes.{outcome, leaving};
+ghost use Rattle.outcomes.specs.Outcomes.{outcome, outcomeWith};
 ghost use Rattle.ticket_lists.specs.Runs.{Runs};
-ghost use Rattle.records.specs.Records.{nodeCells, nodeTable, rowNode, nodeRow, changedAt};
+ghost use Rattle.records.specs.Records.{recordCells, nodeTable, rowNode, nodeRow, changedAt};
 
 pub struct Node {
     pub number: i64,
@@ -60,7 +60,7 @@ pub fn change_node(nodes: &mut [Node], count: usize, n: Node) -> Found
 // A node's numbers are row i.
 fn put_row(flat: &mut [i64], i: usize, n: Node)
     requires { ⌜ i * 4 + 4 ≤ length (now flat) ⌝ }
-    ensures { λ _. ⌜ now (flat .exit) ≡ paste (now (flat .entry)) (i * 4) (nodeCells n) 4 ⌝ }
+    ensures { λ _. ⌜ now (flat .exit) ≡ paste (now (flat .entry)) (i * 4) (recordCells n) 4 ⌝ }
 {
     let row = [n.number, n.x, n.y, n.face];
     tables::write(flat, i * map::NODE_WIDTH, &row);
@@ -115,7 +115,7 @@ pub fn ticket(
     head: &mut Head,
     t: &[i64],
 ) -> Answer
-    ensures { λ r. ⌜ leaving (now (nodes .exit)) (now (edges .exit)) (now (faces .exit)) (now (head .exit)) r
+    ensures { λ r. ⌜ outcomeWith (now (nodes .exit)) (now (edges .exit)) (now (faces .exit)) (now (head .exit)) r
         ≡ ticket (lent (now (nodes .entry)) (now (edges .entry)) (now (faces .entry)) (now (head .entry)))
         (now (t .entry)) ⌝ }
 {
@@ -127,7 +127,7 @@ pub fn ticket(
 
 // The empty map.
 pub fn empty_map(nodes: &mut [i64], edges: &mut [i64], faces: &mut [i64], head: &mut Head) -> Answer
-    ensures { λ r. ⌜ leaving (now (nodes .exit)) (now (edges .exit)) (now (faces .exit)) (now (head .exit)) r ≡ emptied
+    ensures { λ r. ⌜ outcomeWith (now (nodes .exit)) (now (edges .exit)) (now (faces .exit)) (now (head .exit)) r ≡ emptied
         (lent (now (nodes .entry)) (now (edges .entry)) (now (faces .entry)) (now (head .entry))) ⌝ }
 {
     let h = *head;

@@ -33,11 +33,11 @@ point-is c = let s = c .before .before .before in
 
 taken : (c : tie.After-node-at) {v : Bool} → c .node-at .result ≡ v
     → let a = c .before .before .before .before .args in
-    reasons.nodeAt (nodesOf (a .nodes .now) (a .n)) (point (a .x) (a .y)) ≡ v
+    reasons.anyNodeAt (nodesOf (a .nodes .now) (a .n)) (point (a .x) (a .y)) ≡ v
 taken c e =
     let p = c .before in
     let a = p .before .before .before .args in
-    ap (reasons.nodeAt (nodesOf (a .nodes .now) (a .n))) (sym (point-is p))
+    ap (reasons.anyNodeAt (nodesOf (a .nodes .now) (a .n))) (sym (point-is p))
     ∙ sym (node-at-all (a .nodes .now) (a .n) (a .n) (p .point-of .result) (omega arith)) ∙ sym (c .node-at .ensures)
     ∙ e
 

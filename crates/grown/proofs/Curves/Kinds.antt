@@ -18,7 +18,7 @@ use Rattle.map.specs.declared.Variant.the-variants.{New, Mod}
 use Rattle.map.specs.Rows.{Edge, Map, Sizes, node, edge, hasNode, hasEdge, withoutNode, withoutEdge}
 use Rattle.map.specs.Edits.{addIsoNode, moveIsoNode, removeIsoNode, addIsoEdge, removeIsoEdge, changeEdgeGeom, split}
 use Rattle.map.specs.Edits.{addEdge, removeEdge}
-use Rattle.map.specs.Reasons.{isolated, nodeAt, edgeWrong}
+use Rattle.map.specs.Reasons.{isolated, anyNodeAt, edgeWrong}
 use Rattle.map.proofs.Laws.{edge-there, node-there}
 use Rattle.map_laws.proofs.Readings.{without, outlineOf}
 use Rattle.map_laws.proofs.Reasons.{Sent, AddNode, MoveNode, RemoveNode, AddLone, Change, Split, AddEdge}
@@ -45,16 +45,16 @@ module _ (m : Map) (G : Good m) where
   -- ---- what the reasons say of lines and places
 
   -- no node lies on the point
-  free-point : (p : Point) → nodeAt (m .nodes) p ≡ false → List·Memᴰ p (map atIn (places m)) → ⊥
-  unfolding nodeAt
+  free-point : (p : Point) → anyNodeAt (m .nodes) p ≡ false → List·Memᴰ p (map atIn (places m)) → ⊥
+  unfolding anyNodeAt
   free-point p h k =
       let w = Memᴰ·of-map (λ n. n .at) (m .nodes) (subst (List·Memᴰ p) (map-map atIn placeOf (m .nodes)) k) in
       samePoint-differ (w .0 .at) p (none-has (λ n. samePoint (n .at) p) (m .nodes) h (w .0) (w .1)) (w .2)
 
   -- nor does another node
-  free-other : (n : ℕ) (p : Point) → nodeAt (withoutNode n (m .nodes)) p ≡ false → (q : Place) → List·Memᴰ q (places m)
+  free-other : (n : ℕ) (p : Point) → anyNodeAt (withoutNode n (m .nodes)) p ≡ false → (q : Place) → List·Memᴰ q (places m)
       → q .number ≢ n → q .at ≢ p
-  unfolding nodeAt
+  unfolding anyNodeAt
   free-other n p h q k d e =
       let w = Memᴰ·of-map placeOf (m .nodes) k in
       let other = keep-has (λ r. not (same (r .number) n)) (m .nodes) (w .1)

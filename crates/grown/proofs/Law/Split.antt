@@ -30,7 +30,7 @@ use Rattle.map.specs.declared.Variant.the-variants.{New, Mod}
 use Rattle.map.specs.Rows.{Edge, Map, node, edge, hasEdge, atEdge, withoutEdge}
 use Rattle.map.specs.Darts.{arcs, directed, leaves, next, bears, way}
 use Rattle.map.specs.Edits.{startHalf, endHalf, split}
-use Rattle.map.specs.Reasons.{nodeAt}
+use Rattle.map.specs.Reasons.{anyNodeAt}
 use Rattle.map.proofs.Laws.{edge-there, node-there}
 use Rattle.map_laws.proofs.Readings.{nextIn, leaves-row, next-row, bears-row, course-row, way-row, has-number, arcOf}
 use Rattle.map_laws.proofs.Readings.{numberOf, nums-rows}
@@ -46,16 +46,16 @@ use Rattle.grown.proofs.SplitsRows.{halfNames, relinked, names-are, par
 use Rattle.grown.proofs.SplitsRows.{rest-other, rows-m, replaced, left-out}
 
 -- the points of nodes are not p
-off-nodes : (m : Map) (p : Point) → nodeAt (m .nodes) p ≡ false → (k : ℕ)
+off-nodes : (m : Map) (p : Point) → anyNodeAt (m .nodes) p ≡ false → (k : ℕ)
     → List·Memᴰ k (map nodeNumber (m .nodes)) → node m k .at ≢ p
-unfolding nodeAt
+unfolding anyNodeAt
 off-nodes m p free k j q =
     true≢false (sym (ap (samePoint (node m k .at)) (sym q) ∙ samePoint-refl (node m k .at))
     ∙ none-has (λ x. samePoint (x .at) p) (m .nodes) free (node m k)
     (node-there m k (has-number nodeNumber (m .nodes) k j) .0))
 
 -- nor are the ends of a curve between nodes
-pub off-ends : (m : Map) (p : Point) → nodeAt (m .nodes) p ≡ false → Within (map nodeNumber (m .nodes)) (arcs m)
+pub off-ends : (m : Map) (p : Point) → anyNodeAt (m .nodes) p ≡ false → Within (map nodeNumber (m .nodes)) (arcs m)
     → {r : Edge} → List·Memᴰ r (m .edges) → Anchored m r → (r .curve .first ≢ p) × (lastPoint (r .curve) ≢ p)
 off-ends m p free w {r} k a = (
   λ q. off-nodes m p free (r .start) (w .starts (arcOf r) (Memᴰ·map arcOf k)) (sym (a .start) ∙ q),
@@ -66,7 +66,7 @@ off-ends m p free w {r} k a = (
 
 pub record InHalves (m m′ : Map) (e n a b : ℕ) (p : Point) : Type 0 where
   pub has : hasEdge m e ≡ true
-  pub free : nodeAt (m .nodes) p ≡ false
+  pub free : anyNodeAt (m .nodes) p ≡ false
   pub on : onCurve (edge m e .curve) p ≡ true
   pub rows : List·Permᴰ (m′ .edges) (startHalf (relinked e a b (edge m e)) n a b p
       ∷ endHalf (relinked e a b (edge m e)) n a b p ∷ map (relinked e a b) (withoutEdge e (m .edges)))
@@ -229,7 +229,7 @@ module _ (m m′ : Map) (e n a b : ℕ) (p : Point) (L : Lawful m) (h : InHalves
 
 -- ---- the rows of a split
 
-module _ (m : Map) (e : ℕ) (p : Point) (L : Lawful m) (has : hasEdge m e ≡ true) (free : nodeAt (m .nodes) p ≡ false)
+module _ (m : Map) (e : ℕ) (p : Point) (L : Lawful m) (has : hasEdge m e ≡ true) (free : anyNodeAt (m .nodes) p ≡ false)
     (on : onCurve (edge m e .curve) p ≡ true) where
   once-m : Distinct (map numberOf (m .edges))
   once-m = subst Distinct (nums-rows m) (L .once)

@@ -14,7 +14,7 @@ use Rattle.lists.specs.Tests.{same}
 use Rattle.plane.specs.Directions.{wayTo}
 use Rattle.darts.specs.Positions.{wayWith}
 use Rattle.darts.proofs.Positions.{side-even, side-odd}
-use Rattle.links.specs.Linking.{positions, leaving, firstMet, chosenOf, answer}
+use Rattle.links.specs.Linking.{positions, departuresBut, firstMet, chosenOf, answer}
 use Rattle.lists.specs.declared.Found.the-variants.{At, Missing}
 use Rattle.lists.specs.Scans.{keep, fold}
 use Rattle.lists.specs.Tables.{table}
@@ -164,7 +164,7 @@ loop-again c =
 answered : (c : tie.After-loop Inv-loop μ-loop)
     → (let a = c .before .before .args in answer (c .before .loop .h)
     ≡ firstMet (wayWith (a .edges .now) (a .own) (a .c .now)) (wayTo (a .v .from) (a .v .to))
-    (leaving (a .edges .now) (a .count) (a .node) (a .a) (a .b)))
+    (departuresBut (a .edges .now) (a .count) (a .node) (a .a) (a .b)))
 answered c =
     let s = c .before .before in
     let a = s .args in
@@ -176,7 +176,7 @@ answered c =
     ap answer (sym (scan-end w v f (l .h) (l .i * 2) (a .count * 2) (omega arith)) ∙ l .inv .1 .rest)
     ∙ ap (λ (m : ℕ). answer (fold (chosenOf w v) noChoice (keep f (table (λ p. p) 0 m)))) (sub-zero (a .count * 2))
     ∙ scan-all w v (keep f (positions (a .count)))
-    ∙ ap (λ (z : ℤ). firstMet w v (leaving (a .edges .now) (a .count) z (a .a) (a .b)))
+    ∙ ap (λ (z : ℤ). firstMet w v (departuresBut (a .edges .now) (a .count) z (a .a) (a .b)))
     (toZ-ofZ {w = w64} (s .fits .node))
 
 returns : tie.Need-returns Inv-loop μ-loop

@@ -11,7 +11,7 @@ use mir.Facts.{toZ-ofZ}
 use Rattle.plane.specs.Directions.{Way}
 use Rattle.map_rows.proofs.Rows.{edge-row-of}
 use Rattle.darts.specs.Positions.{sideCell, wayAt, wayWith}
-use Rattle.links.specs.Linking.{leaving, firstMet}
+use Rattle.links.specs.Linking.{departuresBut, firstMet}
 use Rattle.links.proofs.FirstMet.{met-same, leaving-below, with-none}
 use borrow.Author.Needs.{needs}
 use Rattle.links.proofs.met.Statement.{statement}
@@ -36,9 +36,9 @@ returns c =
     let node = b .before .dart-cell in
     let e : toZ w64 (ofZ w64 (node .result)) ≡ sideCell l (a .p) 1 = toZ-ofZ {w = w64} (sfits-of (node .ok))
     ∙ node .ensures in
-    let ds = leaving l n (sideCell l (a .p) 1) (a .p) (a .other) in
+    let ds = departuresBut l n (sideCell l (a .p) 1) (a .p) (a .other) in
     c .first-clockwise .ensures
-    ∙ ap₂ (λ (v : Way) (z : ℤ). firstMet (wayWith l n []) v (leaving l n z (a .p) (a .other)))
+    ∙ ap₂ (λ (v : Way) (z : ℤ). firstMet (wayWith l n []) v (departuresBut l n z (a .p) (a .other)))
     (b .step-at .ensures .way) e
     ∙ met-same (wayAt l) (wayWith l n []) (wayAt l (a .p)) ds
     (λ q m. with-none l n [] q (let h = leaving-below l n (sideCell l (a .p) 1) (a .p) (a .other) q m in omega arith))

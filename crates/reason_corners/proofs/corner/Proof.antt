@@ -16,14 +16,14 @@ use Rattle.curves.specs.Curves.{curveOf, startWay}
 use Rattle.curves.specs.Edits.{course}
 use Rattle.rotation.specs.Law.{firstClockwise}
 use Rattle.darts.specs.Positions.{wayWith}
-use Rattle.links.specs.Linking.{positions, leavesNode, leaving, firstMet}
+use Rattle.links.specs.Linking.{positions, leavesNode, departuresBut, firstMet}
 use Rattle.links.proofs.FirstMet.{met-at, met-none, first-none, position-below}
 use Rattle.reason_corners.specs.Drawing.{departing}
 use Rattle.reason_corners.proofs.corner.Statement.{statement}
 use Rattle.reason_corners.proofs.corner.Tie as tie
 
 -- the new edge's position is none of the rows'
-leaving-all : (l : List ℤ) (e : ℕ) (z : ℤ) → leaving l e z (e * 2) (e * 2) ≡ departing l e z
+leaving-all : (l : List ℤ) (e : ℕ) (z : ℤ) → departuresBut l e z (e * 2) (e * 2) ≡ departing l e z
 leaving-all l e z =
     keep-cong _ _ (positions e) (λ q m.
     let b = position-below e q m in
@@ -42,7 +42,7 @@ found c =
     let w = wayWith (a .edges .now) (a .e) (a .c .now) in
     let v = startWay (course (a .back) (curveOf (a .c .now))) in
     c .first-clockwise .ensures
-    ∙ ap₂ (λ (v : Way) (z : ℤ). firstMet w v (leaving (a .edges .now) (a .e) z (a .e * 2) (a .e * 2)))
+    ∙ ap₂ (λ (v : Way) (z : ℤ). firstMet w v (departuresBut (a .edges .now) (a .e) z (a .e * 2) (a .e * 2)))
     (c .before .first-step .ensures .way) (toZ-ofZ {w = w64} (s .fits .node))
     ∙ ap (firstMet w v) (leaving-all (a .edges .now) (a .e) (a .node))
 

@@ -12,7 +12,7 @@ use Rattle.integers.specs.Signs.{sent}
 use Rattle.plane.specs.Directions.{wayTo}
 use Rattle.darts.specs.Positions.{wayAt}
 use Rattle.darts.proofs.Positions.{half-below}
-use Rattle.links.specs.Linking.{leaving, firstMet}
+use Rattle.links.specs.Linking.{departuresBut, firstMet}
 use Rattle.reason_corners.specs.CornerFaces.{cornerBy}
 use Rattle.reason_corners.proofs.CornerFaces.{met-alike, met-below}
 use Rattle.reason_corners.proofs.corner_face.Statement.{statement}
@@ -29,7 +29,7 @@ enum-known-found c = search needs
 found : (c : tie.After-first-clockwise)
     → let a = c .before .before .before .args in c .first-clockwise .result
     ≡ firstMet (wayAt (a .edges .now)) (wayTo (a .v .from) (a .v .to))
-    (leaving (a .edges .now) (a .count) (getD (a .nodes .now) (a .i * 4) (pos 0)) (a .count * 2) (a .count * 2))
+    (departuresBut (a .edges .now) (a .count) (getD (a .nodes .now) (a .i * 4) (pos 0)) (a .count * 2) (a .count * 2))
 found c =
     let a = c .before .before .before .args in
     let l = a .edges .now in
@@ -38,7 +38,7 @@ found c =
     let z = getD (a .nodes .now) (a .i * 4) (pos 0) in
     let e : toZ w64 (ofZ w64 z) ≡ z = sent (c .before .first-clockwise-arg2 .given) in
     c .first-clockwise .ensures ∙ met-alike l n (toZ w64 (ofZ w64 z)) (n * 2) (n * 2) v
-    ∙ ap (λ (x : ℤ). firstMet (wayAt l) v (leaving l n x (n * 2) (n * 2))) e
+    ∙ ap (λ (x : ℤ). firstMet (wayAt l) v (departuresBut l n x (n * 2) (n * 2))) e
 
 dart-cell-requires : tie.Need-dart-cell-requires
 dart-cell-requires c κs =

@@ -56,7 +56,7 @@ use denote.Exit.{yes}
 use borrow.Author.Tests.{ltb-true, ltb-false}
 use Rattle.lists.proofs.Bools.{which}
 use Rattle.records.specs.declared.Node.{Node}
-use Rattle.records.specs.Records.{nodeCells, nodeTable}
+use Rattle.records.specs.Records.{recordCells, nodeTable}
 use Rattle.records.proofs.Heads.{relends}
 use Rattle.records.proofs.Packing.{noNode, place-fits, pack-turn}
 use Rattle.records.proofs.Again.{LentAgain, lends-again, comes-back}
@@ -285,8 +285,8 @@ module _ {M : Type 1} (𝓤 : URA M) (H : Heap 𝓤) (A : Atoms 𝓤) (W : Given
         split ! $ move ! (1 ∷ []) $ use1 W
         (some (λ (zs : List ℤ × (Unit {0} × (Unit {0} × Unit {0}))). ‵
         (lasts g.ended (ν ∷ [], tt) (args j δ elem) zs) ⊛ raw
-        (fact 𝓤 (zs .0 ≡ paste (j .zs) (j .i * 4) (nodeCells elem) 4)))) (id⊢ 𝓤 _) $ pick ! (λ zs.
-        split ! $ move ! (1 ∷ []) $ heard ! (zs .0 ≡ paste (j .zs) (j .i * 4) (nodeCells elem) 4)
+        (fact 𝓤 (zs .0 ≡ paste (j .zs) (j .i * 4) (recordCells elem) 4)))) (id⊢ 𝓤 _) $ pick ! (λ zs.
+        split ! $ move ! (1 ∷ []) $ heard ! (zs .0 ≡ paste (j .zs) (j .i * 4) (recordCells elem) 4)
         (λ e. fsplit ! $ fsplit ! $ move ! (1 ∷ []) $ feqL ! (λ long.
         move ! (2 ∷ []) $ split ! $ move ! (1 ∷ []) $ peeks ! unit (Is unit) (shows 𝓤 H A unit) r (w ∷ []) (λ is-r.
         -- [what r owns; the new token; the last table; …; what the lender keeps; what nodes owns; its token; _11; …;
@@ -311,14 +311,14 @@ module _ {M : Type 1} (𝓤 : URA M) (H : Heap 𝓤) (A : Atoms 𝓤) (W : Given
         elem : Node
         elem = getD ys (j .i) noNode
 
-        next : (zs : List ℤ) → length zs ≡ length (j .zs) → zs ≡ paste (j .zs) (j .i * 4) (nodeCells elem) 4 → Upto
+        next : (zs : List ℤ) → length zs ≡ length (j .zs) → zs ≡ paste (j .zs) (j .i * 4) (recordCells elem) 4 → Upto
         next zs long e = record {
           i = j .i + 1;
           within = (let k = within in omega arith);
           zs = zs;
           long = long
               ∙ j .long;
-          past = e ∙ ap (λ (l : List ℤ). paste l (j .i * 4) (nodeCells elem) 4) (j .past)
+          past = e ∙ ap (λ (l : List ℤ). paste l (j .i * 4) (recordCells elem) 4) (j .past)
               ∙ pack-turn d ys (j .i) within ok;
         }
 
