@@ -3,7 +3,7 @@
 ghost use mathlib.Core.Path.{_≡_};
 ghost use lib.IntN.{pos};
 ghost use Rattle.map.specs.Ticket.{ticket, emptied, edgesOfFace};
-ghost use Rattle.form_ranges.specs.Ranges.{lent};
+ghost use Rattle.map.specs.Loans.{lentNow};
 ghost use Rattle.ticket_lists.specs.Runs.{Runs};
 ghost use Rattle.head.specs.Heads.{headIn};
 
@@ -17,10 +17,10 @@ pub extern "C" fn solgwid_empty_map(
 ) -> u64
     ensures { λ r. ⌜
         record {
-          lent = lent (now (nodes .exit)) (now (edges .exit)) (now (faces .exit)) (headIn (now (head .exit)));
+          lent = lentNow (nodes .exit) (edges .exit) (faces .exit) (headIn (now (head .exit)));
           answer = record { refusal = r; value = pos 0 };
         }
-        ≡ emptied (lent (now (nodes .entry)) (now (edges .entry)) (now (faces .entry)) (headIn (now (head .entry)))) ⌝ }
+        ≡ emptied (lentNow (nodes .entry) (edges .entry) (faces .entry) (headIn (now (head .entry)))) ⌝ }
 {
     let done = engine::empty_map(nodes, edges, faces, head::from_numbers(head));
     head::put_numbers(head, done.head);
@@ -39,10 +39,10 @@ pub extern "C" fn solgwid_ticket(
 ) -> u64
     ensures { λ r. ⌜
         record {
-          lent = lent (now (nodes .exit)) (now (edges .exit)) (now (faces .exit)) (headIn (now (head .exit)));
+          lent = lentNow (nodes .exit) (edges .exit) (faces .exit) (headIn (now (head .exit)));
           answer = record { refusal = r; value = now (value .exit) };
         }
-        ≡ ticket (lent (now (nodes .entry)) (now (edges .entry)) (now (faces .entry)) (headIn (now (head .entry))))
+        ≡ ticket (lentNow (nodes .entry) (edges .entry) (faces .entry) (headIn (now (head .entry))))
         (now (numbers .entry)) ⌝ }
 {
     let done = engine::ticket(nodes, edges, faces, head::from_numbers(head), numbers);
@@ -66,7 +66,7 @@ pub extern "C" fn solgwid_edges_of_face(
     ensures { λ r. ⌜
         record { list = now (list .exit); answer = record { refusal = r; value = now (value .exit) } }
         ≡ edgesOfFace
-        (lent (now (nodes .entry)) (now (edges .entry)) (now (faces .entry)) (headIn (now (head .entry))))
+        (lentNow (nodes .entry) (edges .entry) (faces .entry) (headIn (now (head .entry))))
         face (now (list .entry)) ⌝ }
 {
     let answer = engine::edges_of_face(nodes, edges, faces, head::from_numbers(head), face, list);
@@ -88,10 +88,10 @@ pub extern "C" fn solgwid_run(
     values: &mut [i64],
 ) -> u64
     ensures { λ r. ⌜ Runs
-        (lent (now (nodes .entry)) (now (edges .entry)) (now (faces .entry)) (headIn (now (head .entry))))
+        (lentNow (nodes .entry) (edges .entry) (faces .entry) (headIn (now (head .entry))))
         (now (numbers .entry)) (now (lengths .entry)) (now (refusals .entry)) (now (values .entry))
         (record {
-          lent = lent (now (nodes .exit)) (now (edges .exit)) (now (faces .exit)) (headIn (now (head .exit)));
+          lent = lentNow (nodes .exit) (edges .exit) (faces .exit) (headIn (now (head .exit)));
           refusals = now (refusals .exit);
           values = now (values .exit);
           answer = record { refusal = r; value = pos 0 };

@@ -15,8 +15,7 @@ use Rattle.plane.specs.declared.Point.{Point}
 use Rattle.plane.specs.Points.{InRange, maxCoordinate, samePoint}
 use Rattle.curves.specs.Curves.{Curve, points, lastPoint, maxPoints}
 use Rattle.curves.specs.Tests.{neighboursDiffer, isSimple, meetWrongly, straightInside}
-use Rattle.geometry.specs.Drawing as drawing
-use Rattle.geometry.specs.Drawing.{ClearCurves}
+use Rattle.geometry.specs.Drawing.{ClearCurves, GoodCurve}
 use Rattle.geometry.proofs.Theorems.{samePoint-iff, meetWrongly-iff, good-iff}
 use Rattle.map.specs.Rows.{Edge, Map, node}
 use Rattle.map.specs.Form.{curveFits, formed}
@@ -122,7 +121,7 @@ module _ (m : Map) where
   surveys-says form l h j = record {
     drawn = record {
       good = all-of curves (λ c k. let r = Memᴰ·of-map (λ (e : Edge). e .curve) (m .edges) k in
-          subst drawing.GoodCurve (r .2) (good (r .0) (r .1)));
+          subst GoodCurve (r .2) (good (r .0) (r .1)));
       clear = noTwo-says meetWrongly ClearCurves (λ c d. meetWrongly-iff c d .0) curves (curves-halves h .1);
     };
     kept = λ e k. part h e k .kept;
@@ -131,7 +130,7 @@ module _ (m : Map) where
     places = places-says places (places-halves j .1);
   }
     where
-      good : (e : Edge) → List·Memᴰ e (m .edges) → drawing.GoodCurve (e .curve)
+      good : (e : Edge) → List·Memᴰ e (m .edges) → GoodCurve (e .curve)
       good e k = good-iff (e .curve) .1 (
         l .some e k,
         and-true (samePoint (e .curve .first) (node m (e .start) .at)

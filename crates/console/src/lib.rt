@@ -8,8 +8,8 @@ ghost use lib.ListN.{length};
 ghost use Rattle.io.specs.Counts.{Counts};
 ghost use Rattle.lists.specs.Scans.{fold};
 ghost use Rattle.map.specs.Limits.{edgeWidth};
-ghost use Rattle.form_ranges.specs.Ranges.{lent};
-ghost use Rattle.outcomes.specs.Outcomes.{outcome};
+ghost use Rattle.map.specs.Loans.{lentNow};
+ghost use Rattle.outcomes.specs.Outcomes.{outcomeNow};
 ghost use Rattle.console.specs.Lines.{parsedCount, lineAnswered, deskOf, keptBytes, served};
 
 // The bytes of a line that are kept: one more than a line may have.
@@ -58,8 +58,8 @@ pub fn answer_line(
     line: &[u8],
 ) -> Done
     ensures { λ r. ⌜
-        outcome (now (nodes .exit)) (now (edges .exit)) (now (faces .exit)) r
-        ≡ lineAnswered (lent (now (nodes .entry)) (now (edges .entry)) (now (faces .entry)) h) (now (line .entry)) ⌝ }
+        outcomeNow (nodes .exit) (edges .exit) (faces .exit) r
+        ≡ lineAnswered (lentNow (nodes .entry) (edges .entry) (faces .entry) h) (now (line .entry)) ⌝ }
 {
     let mut list = [0i64; text::NUMBERS];
     let n = count_of(text::parse(line, &mut list));
@@ -147,8 +147,8 @@ fn serve_line(
     rows: bool,
 ) -> Head
     ensures { λ r. ⌜
-        lent (now (nodes .exit)) (now (edges .exit)) (now (faces .exit)) r
-        ≡ lineAnswered (lent (now (nodes .entry)) (now (edges .entry)) (now (faces .entry)) h) (now (line .entry))
+        lentNow (nodes .exit) (edges .exit) (faces .exit) r
+        ≡ lineAnswered (lentNow (nodes .entry) (edges .entry) (faces .entry) h) (now (line .entry))
         .lent ⌝ }
 {
     let done = answer_line(nodes, edges, faces, h, line);
@@ -169,9 +169,9 @@ fn serve_byte(
 ) -> State
     requires { ⌜ (length (now line) ≡ keptBytes) × (state .length ≤ keptBytes) ⌝ }
     ensures { λ r. ⌜
-        (deskOf (lent (now (nodes .exit)) (now (edges .exit)) (now (faces .exit)) (r .head))
+        (deskOf (lentNow (nodes .exit) (edges .exit) (faces .exit) (r .head))
         (now (line .exit)) (r .length)
-        ≡ served (deskOf (lent (now (nodes .entry)) (now (edges .entry)) (now (faces .entry)) (state .head))
+        ≡ served (deskOf (lentNow (nodes .entry) (edges .entry) (faces .entry) (state .head))
         (now (line .entry)) (state .length)) b)
         × (r .length ≤ keptBytes) ⌝ }
 {
@@ -206,9 +206,9 @@ fn serve_bytes(
 ) -> State
     requires { ⌜ (length (now line) ≡ keptBytes) × (state .length ≤ keptBytes) ⌝ }
     ensures { λ r. ⌜
-        (deskOf (lent (now (nodes .exit)) (now (edges .exit)) (now (faces .exit)) (r .head))
+        (deskOf (lentNow (nodes .exit) (edges .exit) (faces .exit) (r .head))
         (now (line .exit)) (r .length)
-        ≡ fold served (deskOf (lent (now (nodes .entry)) (now (edges .entry)) (now (faces .entry)) (state .head))
+        ≡ fold served (deskOf (lentNow (nodes .entry) (edges .entry) (faces .entry) (state .head))
         (now (line .entry)) (state .length)) (now (bytes .entry)))
         × (r .length ≤ keptBytes) ⌝ }
 {

@@ -27,7 +27,7 @@ use Rattle.curve_edits.specs.declared.Line.{Line}
 use Rattle.curve_edits.specs.Lines.{lineOf}
 use Rattle.map.specs.declared.Head.{Head}
 use Rattle.map.specs.Limits.{maxEdges, nodeWidth, edgeWidth}
-use Rattle.map.specs.Rows.{Node, Edge, Map, mapOf, edgeCells, dartCell, atNodes, atEdge, setEdges, given, counts}
+use Rattle.map.specs.Rows.{Node, Edge, Map, mapOf, edgeCells, dartCell, atNodes, atEdge, setEdges, given, counts, lent}
 use Rattle.map.specs.Form.{nodeRanges, edgeRanges}
 use Rattle.map.specs.Links.{linkEdge, linkIn, lead, redirect}
 use Rattle.map.specs.Edits.{withFace, isEither, drawn}
@@ -42,7 +42,6 @@ use Rattle.links.proofs.Kept.{rest-kept, number-kept}
 use Rattle.links.proofs.LinkedEdges.{linked-alone, linked-edge-kept, linked-edge-relinked, linked-edge-map}
 use Rattle.head.specs.Heads.{changedHead}
 use Rattle.head.proofs.Heads.{unchanged}
-use Rattle.form_ranges.specs.Ranges.{lent}
 use Rattle.edge_rows.specs.Holds.{NodeTable, EdgeTable, NodeEdgeTables, Drawable, Drawn, newRow}
 use Rattle.edge_rows.proofs.Lists.{numbered-push}
 use Rattle.edge_rows.proofs.Pushed.{Follows, pushed-long, pushed-edges, pushed-table}

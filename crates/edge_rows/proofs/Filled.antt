@@ -11,13 +11,12 @@ use borrow.Author.Tests.{le-leb}
 use Rattle.lists.specs.Tests.{same}
 use Rattle.map.specs.declared.Head.{Head}
 use Rattle.map.specs.Limits.{maxNodes, maxEdges, nodeWidth, edgeWidth}
-use Rattle.map.specs.Rows.{Lent, mapOf, lentOf, nodeCells, edgeCells, whole}
+use Rattle.map.specs.Rows.{Lent, mapOf, lentOf, nodeCells, edgeCells, whole, lent}
 use Rattle.tables.specs.Tables.{filled}
 use Rattle.map.specs.Form.{ranged}
 use Rattle.map.proofs.RoundTrip.{writes-back}
 use Rattle.tables.proofs.Filled.{whole-rows}
 use Rattle.map_rows.specs.Rows.{nodesOf, edgesOf}
-use Rattle.form_ranges.specs.Ranges.{lent}
 use Rattle.edge_rows.specs.Holds.{NodeTable, EdgeTable}
 
 -- beside empty tables and face 0

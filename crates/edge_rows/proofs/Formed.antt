@@ -2,8 +2,8 @@
 use mathlib.Core.List.{List}
 use lib.IntN.{ℤ}
 use Rattle.map.specs.declared.Head.{Head}
+use Rattle.map.specs.Rows.{lent}
 use Rattle.map.proofs.RoundTrip.{whole-tables}
-use Rattle.form_ranges.specs.Ranges.{lent}
 use Rattle.outcomes.specs.Outcomes.{Formed}
 use Rattle.outcomes.proofs.Formed.{ranges, counted, edge-next, node-rows, edge-rows, numbers-rise}
 use Rattle.edge_rows.specs.Holds.{NodeEdgeTables}

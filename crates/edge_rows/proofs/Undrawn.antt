@@ -21,7 +21,7 @@ use Rattle.tables.proofs.Writes.{removed-at}
 use Rattle.map.specs.declared.Head.{Head}
 use Rattle.map.specs.Limits.{nodeWidth, edgeWidth}
 use Rattle.map.specs.Rows.{Node, Edge, Map, mapOf, headOf, edge, faceOf, nodeCells, edgeCells, atNodes, withoutEdge}
-use Rattle.map.specs.Rows.{counts}
+use Rattle.map.specs.Rows.{counts, lent}
 use Rattle.map.specs.Darts.{edgeEnds}
 use Rattle.map.specs.Links.{unlinkEdge, redirect}
 use Rattle.map.specs.Edits.{withFace, isEither, undrawn}
@@ -35,7 +35,6 @@ use Rattle.links.proofs.Kept.{rest-kept, number-kept}
 use Rattle.links.proofs.LinkedEdges.{unlinked-alone, unlinked-edge-kept, unlinked-edge-relinked, unlinked-edge-gone}
 use Rattle.head.specs.Heads.{changedHead}
 use Rattle.head.proofs.Heads.{head-changed}
-use Rattle.form_ranges.specs.Ranges.{lent}
 use Rattle.edge_rows.specs.Holds.{NodeTable, EdgeTable, Undrawable, Undrawn, isolatedWithout}
 use Rattle.edge_rows.specs.Holds.{facedWhere, facedIf}
 use Rattle.edge_rows.proofs.Filled.{nodes-filled, edges-filled}

@@ -16,12 +16,11 @@ use Rattle.curves.specs.Curves.{Run, curveOf}
 use Rattle.map.specs.declared.Head.{Head}
 use Rattle.map.specs.Limits.{maxNodes, maxEdges, lastNumber, nodeWidth, edgeWidth}
 use Rattle.planar_maps.specs.Map.{fwd, bwd}
-use Rattle.map.specs.Rows.{Edge, mapOf, nodeCells, edgeCells, counts}
+use Rattle.map.specs.Rows.{Edge, mapOf, nodeCells, edgeCells, counts, lent}
 use Rattle.tables.specs.Tables.{sameZ, column, filled, wholeRows, isZero, numbered}
 use Rattle.map.specs.Edits.{drawn, undrawn}
 use Rattle.map_rows.specs.Rows.{NodeRows, EdgeRows, nodeAt, edgeAt, edgesOf}
 use Rattle.head.specs.Heads.{Counted, changedHead}
-use Rattle.form_ranges.specs.Ranges.{lent}
 use Rattle.links.specs.Linking.{positions, leavesNode}
 
 -- whole rows, of which n are in use, with zeros behind

@@ -12,14 +12,13 @@ use Rattle.curves.specs.Curves.{Curve, curveOf, startWay}
 use Rattle.map.specs.declared.Head.{Head}
 use Rattle.map.specs.declared.Variant.{Variant}
 use Rattle.map.specs.declared.Variant.the-variants.{New, Mod}
-use Rattle.map.specs.Rows.{Map, Sizes, mapOf, lentOf, sizesOf}
+use Rattle.map.specs.Rows.{Map, Sizes, mapOf, lentOf, sizesOf, lent}
 use Rattle.map.specs.Links.{cornerFace}
 use Rattle.map.specs.Edits.{drawnIn, splitsFace, splitFace, addEdge}
 use Rattle.map.specs.Reasons.{firstReason, reasons}
 use Rattle.map.specs.Ticket.{carried}
 use Rattle.map_rows.specs.Rows.{edgeAt}
 use Rattle.map_rows.proofs.Rows.{edges-length}
-use Rattle.form_ranges.specs.Ranges.{lent}
 use Rattle.outcomes.specs.Outcomes.{Formed}
 use Rattle.outcomes.proofs.Formed.{edge-next}
 use Rattle.reason_edges.specs.declared.Judged.{Judged}

@@ -20,7 +20,7 @@ use Rattle.map.specs.declared.Head.{Head}
 use Rattle.map.specs.declared.Variant.{Variant}
 use Rattle.map.specs.declared.Variant.the-variants.{New, Mod}
 use Rattle.map.specs.Limits.{nodeWidth, faceWidth}
-use Rattle.map.specs.Rows.{Map, Sizes, mapOf, sizesOf, hasNode}
+use Rattle.map.specs.Rows.{Map, Sizes, mapOf, sizesOf, hasNode, lent}
 use Rattle.map.specs.Links.{cornerFace}
 use Rattle.map.specs.Edits.{drawn, drawnIn, splitsFace}
 use Rattle.map.specs.Reasons.{firstReason, reasons}
@@ -31,7 +31,6 @@ use Rattle.map_laws.proofs.Outlines.{drawnOutline, drawn-shape}
 use Rattle.map_laws.proofs.Faces.{has-face, formed-faces, corner-in}
 use Rattle.map_rows.specs.Rows.{nodesOf, edgesOf, facesOf, nodeAt, edgeAt, nodeMap}
 use Rattle.map_rows.proofs.Rows.{edges-length, edges-getD, faces-length}
-use Rattle.form_ranges.specs.Ranges.{lent}
 use Rattle.outcomes.specs.Outcomes.{Formed}
 use Rattle.outcomes.proofs.Formed.{formed-map}
 use Rattle.outcomes.proofs.FoundRows.{node-number}

@@ -3,8 +3,8 @@ use map::Head;
 use map::Variant;
 use outcomes::Done;
 ghost use mathlib.Core.Path.{_≡_};
-ghost use Rattle.form_ranges.specs.Ranges.{lent};
-ghost use Rattle.outcomes.specs.Outcomes.{Formed, decided, outcome};
+ghost use Rattle.map.specs.Loans.{lentNow};
+ghost use Rattle.outcomes.specs.Outcomes.{Formed, decided, outcomeNow};
 ghost use Rattle.outcomes.specs.Variants.{addTicket};
 
 // Adds an edge between two nodes, or answers the first reason against it (kinds 11 and 12); where it splits a face, the
@@ -20,8 +20,8 @@ pub fn add_edge(
     c: &[i64],
 ) -> Done
     requires { ⌜ Formed (now nodes) (now edges) (now faces) h ⌝ }
-    ensures { λ r. ⌜ outcome (now (nodes .exit)) (now (edges .exit)) (now (faces .exit)) r
-        ≡ decided (lent (now (nodes .entry)) (now (edges .entry)) (now (faces .entry)) h)
+    ensures { λ r. ⌜ outcomeNow (nodes .exit) (edges .exit) (faces .exit) r
+        ≡ decided (lentNow (nodes .entry) (edges .entry) (faces .entry) h)
         (addTicket how start end (now (c .entry))) ⌝ }
 {
     let judged = reason_edges::judge_add(nodes, edges, faces, h, how, start, end, c);

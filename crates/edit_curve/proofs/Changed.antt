@@ -15,9 +15,9 @@ use Rattle.curves.specs.Curves.{Run, curveOf}
 use Rattle.curves.proofs.Runs.{and-left, and-right}
 use Rattle.map.specs.declared.Head.{Head}
 use Rattle.map.specs.Limits.{nodeWidth, edgeWidth, faceWidth}
-use Rattle.map.specs.Rows.{Edge, Map, Sizes, mapOf, lentOf, sizesOf, headOf, node, hasNode, hasEdge, hasFace}
+use Rattle.map.specs.Rows.{Edge, Map, Sizes, mapOf, lentOf, sizesOf, headOf, node, hasNode, hasEdge, hasFace, nodeCells}
+use Rattle.map.specs.Rows.{edgeCells, faceCells, withoutEdge, atEdge, lent}
 use Rattle.tables.specs.Tables.{sameZ, column, filled}
-use Rattle.map.specs.Rows.{nodeCells, edgeCells, faceCells, withoutEdge, atEdge}
 use Rattle.map.specs.Edits.{withCurve, changeEdgeGeom}
 use Rattle.map.specs.Tickets.{ChangeEdgeGeom}
 use Rattle.map.specs.Reasons.{firstReason, reasons, noEdge, directionTaken, nodeInside, orderChanges}
@@ -30,7 +30,6 @@ use Rattle.map_rows.proofs.Lookups.{node-missing}
 use Rattle.tables.proofs.Numbers.{getD-in, changed-at}
 use Rattle.tables.proofs.Writes.{replaced-at}
 use Rattle.map.proofs.RoundTrip.{edge-wide}
-use Rattle.form_ranges.specs.Ranges.{lent}
 use Rattle.reason_curves.specs.Sent.{edgesBut}
 use Rattle.reason_curves.proofs.Maps.{inside-alike}
 use Rattle.reason_curves.proofs.Others.{edges-but}

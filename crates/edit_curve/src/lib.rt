@@ -17,9 +17,9 @@ ghost use Rattle.map.specs.Rows.{edgeCells, hasNode};
 ghost use Rattle.map.specs.Edits.{withCurve};
 ghost use Rattle.map.specs.Reasons.{firstReason};
 ghost use Rattle.map.specs.Tickets.{ChangeEdgeGeom};
+ghost use Rattle.map.specs.Loans.{lentNow};
 ghost use Rattle.map_rows.specs.Rows.{nodeMap, edgeAt, EdgeRow, NodeRows, EdgeRows};
-ghost use Rattle.form_ranges.specs.Ranges.{lent};
-ghost use Rattle.outcomes.specs.Outcomes.{Formed, decided, outcome};
+ghost use Rattle.outcomes.specs.Outcomes.{Formed, decided, outcomeNow};
 ghost use Rattle.edge_rows.specs.Holds.{NodeEdgeTables};
 ghost use Rattle.edit_curve.specs.Change.{takenAt, turnReasons, changeReasons, EndsAt};
 
@@ -119,8 +119,8 @@ fn change_between(
 ) -> Done
     requires { ⌜ Formed (now nodes) (now edges) (now faces) h × (i < natAbs (h .edges))
         × EndsAt (now nodes) (now edges) h i u v ⌝ }
-    ensures { λ r. ⌜ outcome (now (nodes .entry)) (now (edges .exit)) (now (faces .entry)) r
-        ≡ decided (lent (now (nodes .entry)) (now (edges .entry)) (now (faces .entry)) h)
+    ensures { λ r. ⌜ outcomeNow (nodes .entry) (edges .exit) (faces .entry) r
+        ≡ decided (lentNow (nodes .entry) (edges .entry) (faces .entry) h)
         (ChangeEdgeGeom (pos (edgeAt (now (edges .entry)) i .number)) (now (c .entry))) ⌝ }
 {
     let reason = change_reason(nodes, edges, h, i, u, v, c);
@@ -172,8 +172,8 @@ fn change_at_row(
     c: &[i64],
 ) -> Done
     requires { ⌜ Formed (now nodes) (now edges) (now faces) h × (i < natAbs (h .edges)) ⌝ }
-    ensures { λ r. ⌜ outcome (now (nodes .entry)) (now (edges .exit)) (now (faces .entry)) r
-        ≡ decided (lent (now (nodes .entry)) (now (edges .entry)) (now (faces .entry)) h)
+    ensures { λ r. ⌜ outcomeNow (nodes .entry) (edges .exit) (faces .entry) r
+        ≡ decided (lentNow (nodes .entry) (edges .entry) (faces .entry) h)
         (ChangeEdgeGeom (pos (edgeAt (now (edges .entry)) i .number)) (now (c .entry))) ⌝ }
 {
     let n = head::to_usize(h.nodes);
@@ -192,8 +192,8 @@ pub fn change_curve(
     c: &[i64],
 ) -> Done
     requires { ⌜ Formed (now nodes) (now edges) (now faces) h ⌝ }
-    ensures { λ r. ⌜ outcome (now (nodes .entry)) (now (edges .exit)) (now (faces .entry)) r
-        ≡ decided (lent (now (nodes .entry)) (now (edges .entry)) (now (faces .entry)) h)
+    ensures { λ r. ⌜ outcomeNow (nodes .entry) (edges .exit) (faces .entry) r
+        ≡ decided (lentNow (nodes .entry) (edges .entry) (faces .entry) h)
         (ChangeEdgeGeom edge (now (c .entry))) ⌝ }
 {
     let e = head::to_usize(h.edges);

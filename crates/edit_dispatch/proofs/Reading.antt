@@ -15,12 +15,11 @@ use mir.Facts.{toZ-ofZ, toZ-pos}
 use borrow.Author.Tests.{ltb-true, ltb-false}
 use Rattle.lists.proofs.Bools.{which, equal?}
 use Rattle.map.specs.declared.Head.{Head}
-use Rattle.map.specs.Rows.{mapOf, whole}
+use Rattle.map.specs.Rows.{mapOf, whole, lent}
 use Rattle.map.specs.Form.{inForm}
 use Rattle.map.specs.Tickets.{Ticket, read, kinds}
 use Rattle.map.specs.Reasons.{Reasons, firstReason}
 use Rattle.map.specs.Ticket.{ticket, judged, refused, lentReasons}
-use Rattle.form_ranges.specs.Ranges.{lent}
 use Rattle.map.proofs.Reasons.{first-hit, first-miss}
 use Rattle.outcomes.specs.declared.Done.{Done}
 use Rattle.outcomes.specs.Outcomes.{Formed, outcome}

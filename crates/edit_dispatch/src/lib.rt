@@ -7,8 +7,8 @@ ghost use lib.ListN.{drop};
 ghost use Rattle.map.specs.Tickets.{AddIsoNode, MoveIsoNode, RemoveIsoNode, AddIsoEdge, RemoveIsoEdge, ChangeEdgeGeom};
 ghost use Rattle.map.specs.Tickets.{one, two, three, oneCurve, twoCurve};
 ghost use Rattle.map.specs.Ticket.{ticket};
-ghost use Rattle.form_ranges.specs.Ranges.{lent};
-ghost use Rattle.outcomes.specs.Outcomes.{Formed, outcome};
+ghost use Rattle.map.specs.Loans.{lentNow};
+ghost use Rattle.outcomes.specs.Outcomes.{Formed, outcomeNow};
 ghost use Rattle.outcomes.specs.Variants.{splitTicket, healTicket, addTicket, removeTicket};
 ghost use Rattle.edit_dispatch.specs.Shaped.{shaped};
 
@@ -31,8 +31,8 @@ const THREE_ARGUMENTS: usize = THIRD + 1;
 // Kind 1, with three arguments.
 fn add_node(nodes: &mut [i64], edges: &[i64], faces: &[i64], h: Head, t: &[i64]) -> Done
     requires { ⌜ Formed (now nodes) (now edges) (now faces) h ⌝ }
-    ensures { λ r. ⌜ outcome (now (nodes .exit)) (now (edges .entry)) (now (faces .entry)) r
-        ≡ shaped (lent (now (nodes .entry)) (now (edges .entry)) (now (faces .entry)) h)
+    ensures { λ r. ⌜ outcomeNow (nodes .exit) (edges .entry) (faces .entry) r
+        ≡ shaped (lentNow (nodes .entry) (edges .entry) (faces .entry) h)
         (three AddIsoNode (drop 1 (now (t .entry)))) ⌝ }
 {
     if t.len() != THREE_ARGUMENTS {
@@ -44,8 +44,8 @@ fn add_node(nodes: &mut [i64], edges: &[i64], faces: &[i64], h: Head, t: &[i64])
 // Kind 2, with three arguments.
 fn move_node(nodes: &mut [i64], edges: &[i64], faces: &[i64], h: Head, t: &[i64]) -> Done
     requires { ⌜ Formed (now nodes) (now edges) (now faces) h ⌝ }
-    ensures { λ r. ⌜ outcome (now (nodes .exit)) (now (edges .entry)) (now (faces .entry)) r
-        ≡ shaped (lent (now (nodes .entry)) (now (edges .entry)) (now (faces .entry)) h)
+    ensures { λ r. ⌜ outcomeNow (nodes .exit) (edges .entry) (faces .entry) r
+        ≡ shaped (lentNow (nodes .entry) (edges .entry) (faces .entry) h)
         (three MoveIsoNode (drop 1 (now (t .entry)))) ⌝ }
 {
     if t.len() != THREE_ARGUMENTS {
@@ -57,8 +57,8 @@ fn move_node(nodes: &mut [i64], edges: &[i64], faces: &[i64], h: Head, t: &[i64]
 // Kind 3, with one argument.
 fn remove_node(nodes: &mut [i64], edges: &[i64], faces: &[i64], h: Head, t: &[i64]) -> Done
     requires { ⌜ Formed (now nodes) (now edges) (now faces) h ⌝ }
-    ensures { λ r. ⌜ outcome (now (nodes .exit)) (now (edges .entry)) (now (faces .entry)) r
-        ≡ shaped (lent (now (nodes .entry)) (now (edges .entry)) (now (faces .entry)) h)
+    ensures { λ r. ⌜ outcomeNow (nodes .exit) (edges .entry) (faces .entry) r
+        ≡ shaped (lentNow (nodes .entry) (edges .entry) (faces .entry) h)
         (one RemoveIsoNode (drop 1 (now (t .entry)))) ⌝ }
 {
     if t.len() != ONE_ARGUMENT {
@@ -76,8 +76,8 @@ fn add_isolated_edge(
     t: &[i64],
 ) -> Done
     requires { ⌜ Formed (now nodes) (now edges) (now faces) h ⌝ }
-    ensures { λ r. ⌜ outcome (now (nodes .exit)) (now (edges .exit)) (now (faces .entry)) r
-        ≡ shaped (lent (now (nodes .entry)) (now (edges .entry)) (now (faces .entry)) h)
+    ensures { λ r. ⌜ outcomeNow (nodes .exit) (edges .exit) (faces .entry) r
+        ≡ shaped (lentNow (nodes .entry) (edges .entry) (faces .entry) h)
         (twoCurve AddIsoEdge (drop 1 (now (t .entry)))) ⌝ }
 {
     let n = t.len();
@@ -104,8 +104,8 @@ fn remove_isolated_edge(
     t: &[i64],
 ) -> Done
     requires { ⌜ Formed (now nodes) (now edges) (now faces) h ⌝ }
-    ensures { λ r. ⌜ outcome (now (nodes .exit)) (now (edges .exit)) (now (faces .entry)) r
-        ≡ shaped (lent (now (nodes .entry)) (now (edges .entry)) (now (faces .entry)) h)
+    ensures { λ r. ⌜ outcomeNow (nodes .exit) (edges .exit) (faces .entry) r
+        ≡ shaped (lentNow (nodes .entry) (edges .entry) (faces .entry) h)
         (one RemoveIsoEdge (drop 1 (now (t .entry)))) ⌝ }
 {
     if t.len() != ONE_ARGUMENT {
@@ -117,8 +117,8 @@ fn remove_isolated_edge(
 // Kind 6, with one argument and a curve.
 fn change_curve(nodes: &[i64], edges: &mut [i64], faces: &[i64], h: Head, t: &[i64]) -> Done
     requires { ⌜ Formed (now nodes) (now edges) (now faces) h ⌝ }
-    ensures { λ r. ⌜ outcome (now (nodes .entry)) (now (edges .exit)) (now (faces .entry)) r
-        ≡ shaped (lent (now (nodes .entry)) (now (edges .entry)) (now (faces .entry)) h)
+    ensures { λ r. ⌜ outcomeNow (nodes .entry) (edges .exit) (faces .entry) r
+        ≡ shaped (lentNow (nodes .entry) (edges .entry) (faces .entry) h)
         (oneCurve ChangeEdgeGeom (drop 1 (now (t .entry)))) ⌝ }
 {
     let n = t.len();
@@ -138,8 +138,8 @@ fn split_edge(
     t: &[i64],
 ) -> Done
     requires { ⌜ Formed (now nodes) (now edges) (now faces) h ⌝ }
-    ensures { λ r. ⌜ outcome (now (nodes .exit)) (now (edges .exit)) (now (faces .entry)) r
-        ≡ shaped (lent (now (nodes .entry)) (now (edges .entry)) (now (faces .entry)) h)
+    ensures { λ r. ⌜ outcomeNow (nodes .exit) (edges .exit) (faces .entry) r
+        ≡ shaped (lentNow (nodes .entry) (edges .entry) (faces .entry) h)
         (three (splitTicket how) (drop 1 (now (t .entry)))) ⌝ }
 {
     if t.len() != THREE_ARGUMENTS {
@@ -158,8 +158,8 @@ fn heal_edges(
     t: &[i64],
 ) -> Done
     requires { ⌜ Formed (now nodes) (now edges) (now faces) h ⌝ }
-    ensures { λ r. ⌜ outcome (now (nodes .exit)) (now (edges .exit)) (now (faces .entry)) r
-        ≡ shaped (lent (now (nodes .entry)) (now (edges .entry)) (now (faces .entry)) h)
+    ensures { λ r. ⌜ outcomeNow (nodes .exit) (edges .exit) (faces .entry) r
+        ≡ shaped (lentNow (nodes .entry) (edges .entry) (faces .entry) h)
         (two (healTicket how) (drop 1 (now (t .entry)))) ⌝ }
 {
     if t.len() != TWO_ARGUMENTS {
@@ -178,8 +178,8 @@ fn add_edge(
     t: &[i64],
 ) -> Done
     requires { ⌜ Formed (now nodes) (now edges) (now faces) h ⌝ }
-    ensures { λ r. ⌜ outcome (now (nodes .exit)) (now (edges .exit)) (now (faces .exit)) r
-        ≡ shaped (lent (now (nodes .entry)) (now (edges .entry)) (now (faces .entry)) h)
+    ensures { λ r. ⌜ outcomeNow (nodes .exit) (edges .exit) (faces .exit) r
+        ≡ shaped (lentNow (nodes .entry) (edges .entry) (faces .entry) h)
         (twoCurve (addTicket how) (drop 1 (now (t .entry)))) ⌝ }
 {
     let n = t.len();
@@ -208,8 +208,8 @@ fn remove_edge(
     t: &[i64],
 ) -> Done
     requires { ⌜ Formed (now nodes) (now edges) (now faces) h ⌝ }
-    ensures { λ r. ⌜ outcome (now (nodes .exit)) (now (edges .exit)) (now (faces .exit)) r
-        ≡ shaped (lent (now (nodes .entry)) (now (edges .entry)) (now (faces .entry)) h)
+    ensures { λ r. ⌜ outcomeNow (nodes .exit) (edges .exit) (faces .exit) r
+        ≡ shaped (lentNow (nodes .entry) (edges .entry) (faces .entry) h)
         (one (removeTicket how) (drop 1 (now (t .entry)))) ⌝ }
 {
     if t.len() != ONE_ARGUMENT {
@@ -223,8 +223,8 @@ fn remove_edge(
 // Carries out a ticket on tables in form.
 pub fn edit(nodes: &mut [i64], edges: &mut [i64], faces: &mut [i64], h: Head, t: &[i64]) -> Done
     requires { ⌜ Formed (now nodes) (now edges) (now faces) h ⌝ }
-    ensures { λ r. ⌜ outcome (now (nodes .exit)) (now (edges .exit)) (now (faces .exit)) r
-        ≡ ticket (lent (now (nodes .entry)) (now (edges .entry)) (now (faces .entry)) h) (now (t .entry)) ⌝ }
+    ensures { λ r. ⌜ outcomeNow (nodes .exit) (edges .exit) (faces .exit) r
+        ≡ ticket (lentNow (nodes .entry) (edges .entry) (faces .entry) h) (now (t .entry)) ⌝ }
 {
     if t.len() == 0 {
         return outcomes::refused(h, 3);

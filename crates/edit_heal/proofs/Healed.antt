@@ -29,7 +29,7 @@ use Rattle.map.specs.declared.Variant.{Variant}
 use Rattle.map.specs.declared.Variant.the-variants.{New, Mod}
 use Rattle.map.specs.Limits.{nodeWidth, edgeWidth}
 use Rattle.map.specs.Rows.{Node, Edge, Map, mapOf, lentOf, sizesOf, nodeCells, edgeCells, dartCell, edge, hasNode}
-use Rattle.map.specs.Rows.{hasEdge, hasFace, given, atEdge, withoutNode, counts}
+use Rattle.map.specs.Rows.{hasEdge, hasFace, given, atEdge, withoutNode, counts, lent}
 use Rattle.map.specs.Darts.{leaves, arrives, next, course, departures}
 use Rattle.map.specs.Links.{redirect, instead}
 use Rattle.map.specs.Edits.{sharedNodes, joint, parts, healedCurve, heal}
@@ -48,7 +48,6 @@ use Rattle.darts.proofs.Positions.{cells-of, edge-of, dart-reverse, reverse-bel
 use Rattle.links.specs.Linking.{redirected}
 use Rattle.links.proofs.Kept.{Relinked, relinked-then, redirected-relinked, redirected-link, newFor}
 use Rattle.links.proofs.Darts.{dart-least, dart-named}
-use Rattle.form_ranges.specs.Ranges.{lent}
 use Rattle.outcomes.specs.Outcomes.{Formed}
 use Rattle.outcomes.proofs.Formed.{ranges, formed-map, nodes-count, edges-count, edge-next, edges-size, edge-rows}
 use Rattle.outcomes.proofs.Formed.{node-numbers-once, edge-numbers-once, nodes-filled, edges-filled, faces-filled}

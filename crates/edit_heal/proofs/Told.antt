@@ -15,14 +15,13 @@ use Rattle.map.specs.declared.Counts.{Counts}
 use Rattle.map.specs.declared.Head.{Head}
 use Rattle.map.specs.declared.Variant.{Variant}
 use Rattle.map.specs.declared.Variant.the-variants.{New, Mod}
-use Rattle.map.specs.Rows.{Map, mapOf, sizesOf, edge, counts}
+use Rattle.map.specs.Rows.{Map, mapOf, sizesOf, edge, counts, lent}
 use Rattle.map.specs.Darts.{departures, leaves, course}
 use Rattle.map.specs.Edits.{sharedNodes, joint, parts, healedCurve}
 use Rattle.map.specs.Reasons.{Reasons, firstReason, reasons, noEdge}
 use Rattle.map.proofs.Reasons.{first-hit, first-miss, first-zero, first-append, first-after}
 use Rattle.map_rows.specs.Rows.{edgeAt, edgeMap}
 use Rattle.head.specs.Heads.{Few}
-use Rattle.form_ranges.specs.Ranges.{lent}
 use Rattle.outcomes.specs.Outcomes.{Formed}
 use Rattle.outcomes.proofs.Formed.{spent-at}
 use Rattle.outcomes.proofs.FoundRows.{edge-there}

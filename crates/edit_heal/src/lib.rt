@@ -19,11 +19,11 @@ ghost use Rattle.curve_edits.specs.Lines.{lineOf};
 ghost use Rattle.map.specs.Limits.{maxEdges, nodeWidth, edgeWidth};
 ghost use Rattle.map.specs.Rows.{counts};
 ghost use Rattle.map.specs.Reasons.{firstReason};
+ghost use Rattle.map.specs.Loans.{lentNow};
 ghost use Rattle.map_rows.specs.Rows.{edgeAt, EdgeRow, NodeRows};
 ghost use Rattle.map_rows.specs.Cells.{cellsOf};
 ghost use Rattle.head.specs.Heads.{Counted, changedHead};
-ghost use Rattle.form_ranges.specs.Ranges.{lent};
-ghost use Rattle.outcomes.specs.Outcomes.{Formed, decided, outcome};
+ghost use Rattle.outcomes.specs.Outcomes.{Formed, decided, outcomeNow};
 ghost use Rattle.outcomes.specs.Variants.{healTicket};
 ghost use Rattle.edit_heal.specs.Heals.{dartLeaving, dartArriving, JointRows, PartsOf, courseAt, joinedLine};
 ghost use Rattle.edit_heal.specs.Heals.{TwoDarts, ledToHealed, RowAndDarts, healedIncidence, closedUp, TwoRows};
@@ -302,8 +302,8 @@ fn heal_at_rows(
     j: usize,
 ) -> Done
     requires { ⌜ Formed (now nodes) (now edges) (now faces) h × (i < natAbs (h .edges)) × (j < natAbs (h .edges)) ⌝ }
-    ensures { λ r. ⌜ outcome (now (nodes .exit)) (now (edges .exit)) (now (faces .entry)) r
-        ≡ decided (lent (now (nodes .entry)) (now (edges .entry)) (now (faces .entry)) h)
+    ensures { λ r. ⌜ outcomeNow (nodes .exit) (edges .exit) (faces .entry) r
+        ≡ decided (lentNow (nodes .entry) (edges .entry) (faces .entry) h)
         (healTicket how (pos (edgeAt (now (edges .entry)) i .number)) (pos (edgeAt (now (edges .entry)) j .number))) ⌝ }
 {
     let e = head::to_usize(h.edges);
@@ -331,8 +331,8 @@ pub fn heal_edges(
     other: i64,
 ) -> Done
     requires { ⌜ Formed (now nodes) (now edges) (now faces) h ⌝ }
-    ensures { λ r. ⌜ outcome (now (nodes .exit)) (now (edges .exit)) (now (faces .entry)) r
-        ≡ decided (lent (now (nodes .entry)) (now (edges .entry)) (now (faces .entry)) h)
+    ensures { λ r. ⌜ outcomeNow (nodes .exit) (edges .exit) (faces .entry) r
+        ≡ decided (lentNow (nodes .entry) (edges .entry) (faces .entry) h)
         (healTicket how edge other) ⌝ }
 {
     let e = head::to_usize(h.edges);

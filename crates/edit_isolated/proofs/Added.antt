@@ -16,8 +16,8 @@ use Rattle.curves.specs.Curves.{curveOf}
 use Rattle.map.specs.declared.Head.{Head}
 use Rattle.map.specs.Limits.{nodeWidth, faceWidth}
 use Rattle.map.specs.Rows.{counts, Node, Map, Sizes, mapOf, lentOf, sizesOf, headOf, node, nodeCells, edgeCells}
+use Rattle.map.specs.Rows.{faceCells, lent}
 use Rattle.tables.specs.Tables.{sameZ, column, filled}
-use Rattle.map.specs.Rows.{faceCells}
 use Rattle.map.specs.Edits.{drawn, addIsoEdge}
 use Rattle.map.specs.Tickets.{AddIsoEdge}
 use Rattle.map.specs.Reasons.{firstReason, reasons, noNode, nodeInside}
@@ -26,7 +26,6 @@ use Rattle.map.proofs.Reasons.{first-hit, first-miss}
 use Rattle.map_rows.specs.Rows.{nodesOf, edgesOf, facesOf, nodeAt, nodeMap}
 use Rattle.map_rows.proofs.Rows.{nodes-length, edges-length, faces-length}
 use Rattle.head.proofs.Heads.{head-same}
-use Rattle.form_ranges.specs.Ranges.{lent}
 use Rattle.reason_curves.specs.Sent.{edgesBut}
 use Rattle.reason_curves.proofs.Maps.{inside-alike}
 use Rattle.reason_curves.proofs.Others.{edges-all}

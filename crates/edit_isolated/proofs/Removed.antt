@@ -9,7 +9,7 @@ use Rattle.lists.specs.Tables.{place}
 use Rattle.lists.specs.declared.Found.the-variants.{Missing}
 use Rattle.map.specs.declared.Head.{Head}
 use Rattle.map.specs.Limits.{edgeWidth, faceWidth}
-use Rattle.map.specs.Rows.{Edge, Map, Sizes, mapOf, lentOf, sizesOf, nodeCells, edgeCells, faceCells, atNodes}
+use Rattle.map.specs.Rows.{Edge, Map, Sizes, mapOf, lentOf, sizesOf, nodeCells, edgeCells, faceCells, atNodes, lent}
 use Rattle.tables.specs.Tables.{sameZ, column, filled}
 use Rattle.map.specs.Links.{unlinkEdge, redirect}
 use Rattle.map.specs.Edits.{undrawn, removeIsoEdge}
@@ -18,7 +18,6 @@ use Rattle.map.specs.Reasons.{firstReason, reasons, noEdge, edgeIsolated}
 use Rattle.map.specs.Ticket.{carried}
 use Rattle.map.proofs.Reasons.{first-hit, first-miss, first-none}
 use Rattle.map_rows.specs.Rows.{edgeAt, edgeMap}
-use Rattle.form_ranges.specs.Ranges.{lent}
 use Rattle.reason_departures.proofs.Alone.{isolated-alone}
 use Rattle.outcomes.specs.Outcomes.{Formed}
 use Rattle.outcomes.proofs.Formed.{nodes-size, edges-size, faces-filled, lent-is, edge-none, head-back}

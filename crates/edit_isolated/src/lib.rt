@@ -12,9 +12,9 @@ ghost use Rattle.lists.specs.Scans.{isSome};
 ghost use Rattle.curves.specs.Curves.{Run};
 ghost use Rattle.map.specs.Reasons.{firstReason};
 ghost use Rattle.map.specs.Tickets.{AddIsoEdge, RemoveIsoEdge};
+ghost use Rattle.map.specs.Loans.{lentNow};
 ghost use Rattle.map_rows.specs.Rows.{nodeAt, edgeAt, NodeRow, EdgeRow};
-ghost use Rattle.form_ranges.specs.Ranges.{lent};
-ghost use Rattle.outcomes.specs.Outcomes.{Formed, decided, outcome};
+ghost use Rattle.outcomes.specs.Outcomes.{Formed, decided, outcomeNow};
 ghost use Rattle.edge_rows.specs.Holds.{NodeEdgeTables};
 ghost use Rattle.edit_isolated.specs.Isolated.{meetingOrRoomReasons, isolatedReasons};
 
@@ -113,8 +113,8 @@ fn add_at_rows(
     c: &[i64],
 ) -> Done
     requires { ⌜ Formed (now nodes) (now edges) (now faces) h × (u < natAbs (h .nodes)) × (v < natAbs (h .nodes)) ⌝ }
-    ensures { λ r. ⌜ outcome (now (nodes .exit)) (now (edges .exit)) (now (faces .entry)) r
-        ≡ decided (lent (now (nodes .entry)) (now (edges .entry)) (now (faces .entry)) h)
+    ensures { λ r. ⌜ outcomeNow (nodes .exit) (edges .exit) (faces .entry) r
+        ≡ decided (lentNow (nodes .entry) (edges .entry) (faces .entry) h)
         (AddIsoEdge (pos (nodeAt (now (nodes .entry)) u .number)) (pos (nodeAt (now (nodes .entry)) v .number))
         (now (c .entry))) ⌝ }
 {
@@ -139,8 +139,8 @@ pub fn add_isolated_edge(
     c: &[i64],
 ) -> Done
     requires { ⌜ Formed (now nodes) (now edges) (now faces) h ⌝ }
-    ensures { λ r. ⌜ outcome (now (nodes .exit)) (now (edges .exit)) (now (faces .entry)) r
-        ≡ decided (lent (now (nodes .entry)) (now (edges .entry)) (now (faces .entry)) h)
+    ensures { λ r. ⌜ outcomeNow (nodes .exit) (edges .exit) (faces .entry) r
+        ≡ decided (lentNow (nodes .entry) (edges .entry) (faces .entry) h)
         (AddIsoEdge start end (now (c .entry))) ⌝ }
 {
     let n = head::to_usize(h.nodes);
@@ -168,8 +168,8 @@ fn left_face(edges: &[i64], i: usize) -> i64
 // Kind 5 on the edge of row i.
 fn remove_at_row(nodes: &mut [i64], edges: &mut [i64], faces: &[i64], h: Head, i: usize) -> Done
     requires { ⌜ Formed (now nodes) (now edges) (now faces) h × (i < natAbs (h .edges)) ⌝ }
-    ensures { λ r. ⌜ outcome (now (nodes .exit)) (now (edges .exit)) (now (faces .entry)) r
-        ≡ decided (lent (now (nodes .entry)) (now (edges .entry)) (now (faces .entry)) h)
+    ensures { λ r. ⌜ outcomeNow (nodes .exit) (edges .exit) (faces .entry) r
+        ≡ decided (lentNow (nodes .entry) (edges .entry) (faces .entry) h)
         (RemoveIsoEdge (pos (edgeAt (now (edges .entry)) i .number))) ⌝ }
 {
     let e = head::to_usize(h.edges);
@@ -190,8 +190,8 @@ pub fn remove_isolated_edge(
     edge: i64,
 ) -> Done
     requires { ⌜ Formed (now nodes) (now edges) (now faces) h ⌝ }
-    ensures { λ r. ⌜ outcome (now (nodes .exit)) (now (edges .exit)) (now (faces .entry)) r
-        ≡ decided (lent (now (nodes .entry)) (now (edges .entry)) (now (faces .entry)) h) (RemoveIsoEdge edge) ⌝ }
+    ensures { λ r. ⌜ outcomeNow (nodes .exit) (edges .exit) (faces .entry) r
+        ≡ decided (lentNow (nodes .entry) (edges .entry) (faces .entry) h) (RemoveIsoEdge edge) ⌝ }
 {
     let e = head::to_usize(h.edges);
     let found = tables::find_row(edges, map::EDGE_WIDTH, e, edge);

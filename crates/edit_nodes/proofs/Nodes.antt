@@ -18,8 +18,8 @@ use Rattle.curves.proofs.Runs.{and-left, and-right, coordinate-pos}
 use Rattle.map.specs.declared.Counts.{Counts}
 use Rattle.map.specs.declared.Head.{Head}
 use Rattle.map.specs.Limits.{nodeWidth}
-use Rattle.map.specs.Rows.{Node, Map, Sizes, mapOf, lentOf, sizesOf, nodeCells, atNodes, withoutNode, headOf}
-use Rattle.map.specs.Rows.{given, counts}
+use Rattle.map.specs.Rows.{Node, Map, Sizes, mapOf, lentOf, sizesOf, nodeCells, atNodes, withoutNode, headOf, given}
+use Rattle.map.specs.Rows.{counts, lent}
 use Rattle.map.specs.Faces.{faceOfPoint}
 use Rattle.map.specs.Tickets.{AddIsoNode, MoveIsoNode, RemoveIsoNode}
 use Rattle.map.specs.Ticket.{carried}
@@ -29,7 +29,6 @@ use Rattle.map_rows.specs.Rows.{nodesOf, edgesOf, facesOf, nodeAt}
 use Rattle.map_rows.proofs.Rows.{nodes-length, edges-length, faces-length, nodes-getD}
 use Rattle.head.specs.Heads.{changedHead}
 use Rattle.head.proofs.Heads.{head-changed, head-same}
-use Rattle.form_ranges.specs.Ranges.{lent}
 use Rattle.outcomes.specs.Outcomes.{Formed}
 use Rattle.outcomes.proofs.Formed.{nodes-count, node-next, counted, nodes-filled, edges-filled, faces-filled}
 use Rattle.outcomes.proofs.Formed.{node-numbers-once, lent-is}

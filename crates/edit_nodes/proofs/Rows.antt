@@ -12,13 +12,11 @@ use Rattle.lists.specs.declared.Found.the-variants.{Missing}
 use Rattle.curves.specs.Curves.{point, coordinate}
 use Rattle.map.specs.declared.Head.{Head}
 use Rattle.map.specs.Limits.{nodeWidth}
-use Rattle.map.specs.Rows.{Node, Map, Sizes, mapOf, sizesOf, withoutNode}
+use Rattle.map.specs.Rows.{Node, Map, Sizes, mapOf, sizesOf, withoutNode, lent}
 use Rattle.map.specs.Tickets.{MoveIsoNode, RemoveIsoNode}
-use Rattle.map.specs.Reasons as reasons
-use Rattle.map.specs.Reasons.{firstReason, isolated, outside, edgeThrough}
+use Rattle.map.specs.Reasons.{firstReason, isolated, outside, edgeThrough, anyNodeAt, reasons}
 use Rattle.tables.specs.Tables.{sameZ, column}
 use Rattle.map_rows.specs.Rows.{nodeAt, edgeMap}
-use Rattle.form_ranges.specs.Ranges.{lent}
 use Rattle.outcomes.specs.Outcomes.{Formed}
 use Rattle.outcomes.proofs.Formed.{node-rows, node-none}
 use Rattle.outcomes.proofs.FoundRows.{node-there, node-is}
@@ -35,12 +33,12 @@ module _ {nodes edges faces : List ℤ} {h : Head} (f : Formed nodes edges faces
 
   -- a row that is missing is reason 4
   module _ (z : ℤ) (e : place (sameZ z) 0 (column nodeWidth nodes (natAbs (h .nodes))) ≡ Missing) where
-    pub move-missing : (x y : ℤ) → firstReason (reasons.reasons s m (MoveIsoNode z x y)) ≡ 4
-    unfolding reasons.reasons
+    pub move-missing : (x y : ℤ) → firstReason (reasons s m (MoveIsoNode z x y)) ≡ 4
+    unfolding reasons
     move-missing x y = first-hit 4 _ _ (node-none f z e)
 
-    pub remove-missing : firstReason (reasons.reasons s m (RemoveIsoNode z)) ≡ 4
-    unfolding reasons.reasons
+    pub remove-missing : firstReason (reasons s m (RemoveIsoNode z)) ≡ 4
+    unfolding reasons
     remove-missing = first-hit 4 _ _ (node-none f z e)
 
   module _ (i : ℕ) (b : i < natAbs (h .nodes)) where
@@ -52,27 +50,27 @@ module _ {nodes edges faces : List ℤ} {h : Head} (f : Formed nodes edges faces
 
     -- kind 3
     module _ {r : Bool} (e : r ≡ isSome (nodeAt nodes i .face)) where
-      pub remove-joined : not r ≡ true → firstReason (reasons.reasons s m (RemoveIsoNode (pos number))) ≡ 9
-      unfolding reasons.reasons
+      pub remove-joined : not r ≡ true → firstReason (reasons s m (RemoveIsoNode (pos number))) ≡ 9
+      unfolding reasons
       remove-joined t = first-miss 4 _ _ (node-there f i b)
           ∙ first-hit 9 _ _ (ap not (isolated-row ∙ sym e) ∙ t)
 
-      pub remove-free : not r ≡ false → firstReason (reasons.reasons s m (RemoveIsoNode (pos number))) ≡ 0
-      unfolding reasons.reasons
+      pub remove-free : not r ≡ false → firstReason (reasons s m (RemoveIsoNode (pos number))) ≡ 0
+      unfolding reasons
       remove-free t = first-miss 4 _ _ (node-there f i b)
           ∙ first-miss 9 _ _ (ap not (isolated-row ∙ sym e) ∙ t) ∙ first-none
 
     -- kind 2
-    taken-row : (x y : ℤ) → reasons.anyNodeAt (withoutNode number (m .nodes)) (point x y) || edgeThrough m (point x y)
+    taken-row : (x y : ℤ) → anyNodeAt (withoutNode number (m .nodes)) (point x y) || edgeThrough m (point x y)
         ≡ pointTaken nodes (natAbs (h .nodes)) edges (natAbs (h .edges)) i (point x y)
     unfolding mapOf edgeThrough
     taken-row x y =
         ap (λ (t : Bool). t || edgeThrough (edgeMap edges (natAbs (h .edges))) (point x y))
         (sym (node-at-but nodes (natAbs (h .nodes)) i (point x y) (node-rows f) b))
 
-    pub move-reasons : (x y : ℤ) → firstReason (reasons.reasons s m (MoveIsoNode (pos number) x y))
+    pub move-reasons : (x y : ℤ) → firstReason (reasons s m (MoveIsoNode (pos number) x y))
         ≡ firstReason (moveReasons nodes edges h i x y)
-    unfolding reasons.reasons
+    unfolding reasons
     move-reasons x y = first-miss 4 _ _ (node-there f i b)
         ∙ ap₂ (λ (a c : Bool). firstReason ((5, outside x y) ∷ (9, not a) ∷ (10, c) ∷ [])) isolated-row (taken-row x y)
 

@@ -12,19 +12,17 @@ use Rattle.lists.specs.Scans.{anyOf}
 use Rattle.plane.specs.declared.Point.{Point}
 use Rattle.curves.specs.Curves.{point, coordinate}
 use Rattle.map.specs.declared.Head.{Head}
-use Rattle.map.specs.Rows.{Map, Sizes, mapOf, sizesOf, counts}
+use Rattle.map.specs.Rows.{Map, Sizes, mapOf, sizesOf, counts, lent}
 use Rattle.map.specs.Faces.{faceOfPoint, floors}
 use Rattle.map.specs.Tickets.{AddIsoNode}
-use Rattle.map.specs.Reasons.{firstReason, minusOne, noFace, outside, edgeThrough}
+use Rattle.map.specs.Reasons.{firstReason, minusOne, noFace, outside, edgeThrough, anyNodeAt, reasons}
 use Rattle.map.proofs.Reasons.{first-hit, first-miss, first-zero, first-append, first-after}
 use Rattle.map_rows.specs.Rows.{facesOf, edgeMap}
 use Rattle.head.specs.Heads.{sizesIn, roomAt}
-use Rattle.form_ranges.specs.Ranges.{lent}
 use Rattle.outcomes.specs.Outcomes.{Formed}
 use Rattle.outcomes.proofs.Formed.{room-at}
 use Rattle.reason_curves.proofs.Others.{node-at-all}
 use Rattle.edit_nodes.specs.Parts.{pointTaken, addEarly, addLate}
-use Rattle.map.specs.Reasons as reasons
 
 -- a face that is not missing is none or a number
 pub given-face : (a b c : Bool) → not a && not (b && c) ≡ false → a || b ≡ true
@@ -63,7 +61,7 @@ module _ {nodes edges faces : List ℤ} {h : Head} (f : Formed nodes edges faces
 
   -- the point that was looked for
   pub taken-told : (n k own : ℕ) (p q : Point) {r v : Bool} → n ≡ natAbs (h .nodes) → k ≡ natAbs (h .edges) → n ≤ own
-      → p ≡ q → r ≡ pointTaken nodes n edges k own p → r ≡ v → reasons.anyNodeAt (m .nodes) q || edgeThrough m q ≡ v
+      → p ≡ q → r ≡ pointTaken nodes n edges k own p → r ≡ v → anyNodeAt (m .nodes) q || edgeThrough m q ≡ v
   unfolding mapOf edgeThrough
   taken-told n k own p q en ek past ep er ev =
       rw (← en, ← ek, ← ep) (ap (λ (t : Bool). t || edgeThrough (edgeMap edges k) p)
@@ -79,13 +77,13 @@ module _ {nodes edges faces : List ℤ} {h : Head} (f : Formed nodes edges faces
 
   module _ (face x y : ℤ) where
     abbrev first : ℕ
-    first = firstReason (reasons.reasons s m (AddIsoNode face x y))
+    first = firstReason (reasons s m (AddIsoNode face x y))
 
     abbrev otherFace : Bool
     otherFace = not (minusOne face) && not (same (natAbs face) (faceOfPoint m (point x y)))
 
-    in-parts : reasons.reasons s m (AddIsoNode face x y) ≡ addEarly m face x y ++ addLate s m face x y
-    unfolding reasons.reasons
+    in-parts : reasons s m (AddIsoNode face x y) ≡ addEarly m face x y ++ addLate s m face x y
+    unfolding reasons
     in-parts = refl
 
     pub add-early : (r : ℕ) → 0 < r → r ≡ firstReason (addEarly m face x y) → first ≡ r
@@ -94,7 +92,7 @@ module _ {nodes edges faces : List ℤ} {h : Head} (f : Formed nodes edges faces
 
     module _ (early : firstReason (addEarly m face x y) ≡ 0) where
       four : (not (minusOne face) && noFace m face ≡ false)
-          × (firstReason ((5, outside x y) ∷ (10, reasons.anyNodeAt (m .nodes) (point x y) || edgeThrough m (point x y))
+          × (firstReason ((5, outside x y) ∷ (10, anyNodeAt (m .nodes) (point x y) || edgeThrough m (point x y))
           ∷ []) ≡ 0)
       four = first-zero 4 _ _ (lit< tt) early
 

@@ -12,9 +12,8 @@ use Rattle.curves.specs.Curves.{point}
 use Rattle.map.specs.declared.Head.{Head}
 use Rattle.map.specs.Rows.{Map, Sizes, counts}
 use Rattle.map.specs.Faces.{faceOfPoint}
-use Rattle.map.specs.Reasons.{Reasons, minusOne, noFace, outside, edgeThrough, roomReasons}
+use Rattle.map.specs.Reasons.{Reasons, minusOne, noFace, outside, edgeThrough, roomReasons, anyNodeAt}
 use Rattle.map_rows.specs.Rows.{nodeAt, edgeMap}
-use Rattle.map.specs.Reasons as reasons
 
 -- a node but that of row `own` lies on the point, or an edge passes through it
 abbrev pub pointTaken : List ℤ → ℕ → List ℤ → ℕ → ℕ → Point → Bool
@@ -25,7 +24,7 @@ pointTaken nodes n edges k own p =
 -- kind 1, up to 10, and from 12 on
 abbrev pub addEarly : Map → ℤ → ℤ → ℤ → Reasons
 addEarly m f x y = (4, not (minusOne f) && noFace m f) ∷ (5, outside x y)
-    ∷ (10, reasons.anyNodeAt (m .nodes) (point x y) || edgeThrough m (point x y)) ∷ []
+    ∷ (10, anyNodeAt (m .nodes) (point x y) || edgeThrough m (point x y)) ∷ []
 
 abbrev pub addLate : Sizes → Map → ℤ → ℤ → ℤ → Reasons
 addLate s m f x y = (12, not (minusOne f) && not (same (natAbs f) (faceOfPoint m (point x y))))

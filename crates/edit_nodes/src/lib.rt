@@ -18,10 +18,10 @@ ghost use Rattle.map.specs.Limits.{nodeWidth};
 ghost use Rattle.map.specs.Rows.{mapOf, counts};
 ghost use Rattle.map.specs.Tickets.{AddIsoNode, MoveIsoNode, RemoveIsoNode};
 ghost use Rattle.map.specs.Reasons.{firstReason, minusOne};
+ghost use Rattle.map.specs.Loans.{lentNow};
 ghost use Rattle.map_rows.specs.Rows.{FaceRows, NodeRows, EdgeRows, facesOf, nodeAt};
 ghost use Rattle.head.specs.Heads.{Counted, changedHead};
-ghost use Rattle.form_ranges.specs.Ranges.{lent};
-ghost use Rattle.outcomes.specs.Outcomes.{Formed, decided, outcome};
+ghost use Rattle.outcomes.specs.Outcomes.{Formed, decided, outcomeNow};
 ghost use Rattle.edit_nodes.specs.Parts.{pointTaken, addEarly, moveReasons};
 
 // ---- leaves
@@ -89,7 +89,7 @@ fn add_reason(
 ) -> u64
     requires { ⌜ Formed (now nodes) (now edges) (now faces) h ⌝ }
     ensures { λ r. ⌜ r ≡ firstReason (addEarly
-        (mapOf (lent (now (nodes .entry)) (now (edges .entry)) (now (faces .entry)) h)) face x y) ⌝ }
+        (mapOf (lentNow (nodes .entry) (edges .entry) (faces .entry) h)) face x y) ⌝ }
 {
     if face_missing(faces, head::to_usize(h.faces), face) {
         return 4;
@@ -173,8 +173,8 @@ pub fn add_node(
     y: i64,
 ) -> Done
     requires { ⌜ Formed (now nodes) (now edges) (now faces) h ⌝ }
-    ensures { λ r. ⌜ outcome (now (nodes .exit)) (now (edges .entry)) (now (faces .entry)) r
-        ≡ decided (lent (now (nodes .entry)) (now (edges .entry)) (now (faces .entry)) h) (AddIsoNode face x y) ⌝ }
+    ensures { λ r. ⌜ outcomeNow (nodes .exit) (edges .entry) (faces .entry) r
+        ≡ decided (lentNow (nodes .entry) (edges .entry) (faces .entry) h) (AddIsoNode face x y) ⌝ }
 {
     let early = add_reason(nodes, edges, faces, h, face, x, y);
     if early != 0 {
@@ -211,8 +211,8 @@ fn move_at_row(
     y: i64,
 ) -> Done
     requires { ⌜ Formed (now nodes) (now edges) (now faces) h × (i < natAbs (h .nodes)) ⌝ }
-    ensures { λ r. ⌜ outcome (now (nodes .exit)) (now (edges .entry)) (now (faces .entry)) r
-        ≡ decided (lent (now (nodes .entry)) (now (edges .entry)) (now (faces .entry)) h)
+    ensures { λ r. ⌜ outcomeNow (nodes .exit) (edges .entry) (faces .entry) r
+        ≡ decided (lentNow (nodes .entry) (edges .entry) (faces .entry) h)
         (MoveIsoNode (pos (nodeAt (now (nodes .entry)) i .number)) x y) ⌝ }
 {
     let reason = move_reason(nodes, edges, faces, h, i, x, y);
@@ -240,8 +240,8 @@ pub fn move_node(
     y: i64,
 ) -> Done
     requires { ⌜ Formed (now nodes) (now edges) (now faces) h ⌝ }
-    ensures { λ r. ⌜ outcome (now (nodes .exit)) (now (edges .entry)) (now (faces .entry)) r
-        ≡ decided (lent (now (nodes .entry)) (now (edges .entry)) (now (faces .entry)) h) (MoveIsoNode node x y) ⌝ }
+    ensures { λ r. ⌜ outcomeNow (nodes .exit) (edges .entry) (faces .entry) r
+        ≡ decided (lentNow (nodes .entry) (edges .entry) (faces .entry) h) (MoveIsoNode node x y) ⌝ }
 {
     let n = head::to_usize(h.nodes);
     let found = tables::find_row(nodes, map::NODE_WIDTH, n, node);
@@ -254,8 +254,8 @@ pub fn move_node(
 // Kind 3 on the node of row i.
 fn remove_at_row(nodes: &mut [i64], edges: &[i64], faces: &[i64], h: Head, i: usize) -> Done
     requires { ⌜ Formed (now nodes) (now edges) (now faces) h × (i < natAbs (h .nodes)) ⌝ }
-    ensures { λ r. ⌜ outcome (now (nodes .exit)) (now (edges .entry)) (now (faces .entry)) r
-        ≡ decided (lent (now (nodes .entry)) (now (edges .entry)) (now (faces .entry)) h)
+    ensures { λ r. ⌜ outcomeNow (nodes .exit) (edges .entry) (faces .entry) r
+        ≡ decided (lentNow (nodes .entry) (edges .entry) (faces .entry) h)
         (RemoveIsoNode (pos (nodeAt (now (nodes .entry)) i .number))) ⌝ }
 {
     if !map_rows::is_isolated(nodes, i) {
@@ -268,8 +268,8 @@ fn remove_at_row(nodes: &mut [i64], edges: &[i64], faces: &[i64], h: Head, i: us
 // Removes an isolated node, or answers the first reason against it.
 pub fn remove_node(nodes: &mut [i64], edges: &[i64], faces: &[i64], h: Head, node: i64) -> Done
     requires { ⌜ Formed (now nodes) (now edges) (now faces) h ⌝ }
-    ensures { λ r. ⌜ outcome (now (nodes .exit)) (now (edges .entry)) (now (faces .entry)) r
-        ≡ decided (lent (now (nodes .entry)) (now (edges .entry)) (now (faces .entry)) h) (RemoveIsoNode node) ⌝ }
+    ensures { λ r. ⌜ outcomeNow (nodes .exit) (edges .entry) (faces .entry) r
+        ≡ decided (lentNow (nodes .entry) (edges .entry) (faces .entry) h) (RemoveIsoNode node) ⌝ }
 {
     let n = head::to_usize(h.nodes);
     let found = tables::find_row(nodes, map::NODE_WIDTH, n, node);

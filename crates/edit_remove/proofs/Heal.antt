@@ -12,13 +12,12 @@ use Rattle.tables.specs.Tables.{filled}
 use Rattle.tables.proofs.Filled.{Wide, filled-rest}
 use Rattle.map.specs.declared.Head.{Head}
 use Rattle.map.specs.Limits.{nodeWidth, edgeWidth, lastNumber}
-use Rattle.map.specs.Rows.{Node, Edge, Map, mapOf, nodeCells, edgeCells, counts}
+use Rattle.map.specs.Rows.{Node, Edge, Map, mapOf, nodeCells, edgeCells, counts, lent}
 use Rattle.map.proofs.RoundTrip.{nodes-wide}
 use Rattle.map_rows.specs.Rows.{EdgeRows, nodesOf, edgesOf}
 use Rattle.map_rows.proofs.Rows.{nodes-length, edges-length}
 use Rattle.map_rows.proofs.RowCurves.{table-edges-wide}
 use Rattle.head.specs.Heads.{Counted, changedHead}
-use Rattle.form_ranges.specs.Ranges.{lent}
 use Rattle.outcomes.specs.Outcomes.{Formed}
 use Rattle.outcomes.proofs.Formed.{counted}
 use Rattle.face_rows.specs.Holds.{Healable, TablesOf, mergedSides}

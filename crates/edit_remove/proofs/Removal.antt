@@ -13,7 +13,7 @@ use Rattle.map.specs.declared.Head.{Head}
 use Rattle.map.specs.declared.Variant.{Variant}
 use Rattle.map.specs.declared.Variant.the-variants.{New, Mod}
 use Rattle.map.specs.Limits.{edgeWidth, lastNumber}
-use Rattle.map.specs.Rows.{Edge, Map, mapOf, lentOf, sizesOf, edge}
+use Rattle.map.specs.Rows.{Edge, Map, mapOf, lentOf, sizesOf, edge, lent}
 use Rattle.tables.specs.Tables.{sameZ, column}
 use Rattle.map.specs.Edits.{isNew, undrawn, healsFaces, makesFace, removeEdge}
 use Rattle.map.specs.Reasons.{firstReason, reasons}
@@ -21,7 +21,6 @@ use Rattle.map.specs.Ticket.{carried}
 use Rattle.map_laws.proofs.Reasons.{remove-new}
 use Rattle.map_rows.specs.Rows.{edgeAt}
 use Rattle.map_rows.proofs.Rows.{edge-row-of}
-use Rattle.form_ranges.specs.Ranges.{lent}
 use Rattle.outcomes.specs.declared.Done.{Done}
 use Rattle.outcomes.specs.Outcomes.{Formed}
 use Rattle.outcomes.proofs.Formed.{counted, edge-rows}

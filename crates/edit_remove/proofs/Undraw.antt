@@ -16,11 +16,10 @@ use Rattle.lists.proofs.Keeps.{keep-all}
 use Rattle.lists.proofs.Members.{map-cong}
 use Rattle.tables.specs.Tables.{filled}
 use Rattle.map.specs.declared.Head.{Head}
-use Rattle.map.specs.Rows.{Node, Edge, Map, mapOf, nodeCells, edgeCells, counts}
+use Rattle.map.specs.Rows.{Node, Edge, Map, mapOf, nodeCells, edgeCells, counts, lent}
 use Rattle.map.specs.Edits.{withFace, undrawn, withSides, renamed, renamedNode, renamedFaces}
 use Rattle.map_laws.proofs.Outlines.{undrawn-face-list}
 use Rattle.map_rows.specs.Rows.{edgeAt}
-use Rattle.form_ranges.specs.Ranges.{lent}
 use Rattle.outcomes.specs.declared.Done.{Done}
 use Rattle.outcomes.specs.Outcomes.{Formed}
 use Rattle.face_rows.specs.Holds.{facesIn, TablesOf, faceKept, mergedSides}

@@ -7,10 +7,9 @@ use lib.IntN.{ℤ, pos, negsuc, natAbs}
 use Rattle.lists.specs.Tests.{same, bit}
 use Rattle.map.specs.declared.Head.{Head}
 use Rattle.map.specs.Limits.{lastNumber}
-use Rattle.map.specs.Rows.{Edge, Map, mapOf}
+use Rattle.map.specs.Rows.{Edge, Map, mapOf, lent}
 use Rattle.map.specs.Edits.{undrawn}
 use Rattle.map_rows.specs.Rows.{edgeAt, EdgeRow}
-use Rattle.form_ranges.specs.Ranges.{lent}
 use Rattle.outcomes.specs.declared.Done.{Done}
 use Rattle.outcomes.specs.Outcomes.{Formed}
 use Rattle.face_rows.specs.Holds.{TablesOf, faceKept, mergedSides}

@@ -6,8 +6,8 @@ ghost use mathlib.Core.Path.{_≡_};
 ghost use mathlib.Core.Bool.{cond};
 ghost use lib.IntN.{pos};
 ghost use Rattle.map.specs.Edits.{isNew};
-ghost use Rattle.form_ranges.specs.Ranges.{lent};
-ghost use Rattle.outcomes.specs.Outcomes.{Formed, decided, outcome};
+ghost use Rattle.map.specs.Loans.{lentNow};
+ghost use Rattle.outcomes.specs.Outcomes.{Formed, decided, outcomeNow};
 ghost use Rattle.outcomes.specs.Variants.{removeTicket};
 ghost use Rattle.edit_remove.specs.RemovedEdges.{RemovableEdge, EdgeRemoved};
 
@@ -57,8 +57,8 @@ pub fn remove_edge(
     edge: i64,
 ) -> Done
     requires { ⌜ Formed (now nodes) (now edges) (now faces) h ⌝ }
-    ensures { λ r. ⌜ outcome (now (nodes .exit)) (now (edges .exit)) (now (faces .exit)) r
-        ≡ decided (lent (now (nodes .entry)) (now (edges .entry)) (now (faces .entry)) h) (removeTicket how edge) ⌝ }
+    ensures { λ r. ⌜ outcomeNow (nodes .exit) (edges .exit) (faces .exit) r
+        ≡ decided (lentNow (nodes .entry) (edges .entry) (faces .entry) h) (removeTicket how edge) ⌝ }
 {
     let judged = reason_edges::judge_removal(nodes, edges, faces, h, how, edge);
     let reason = judged.reason;

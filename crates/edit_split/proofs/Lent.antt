@@ -16,7 +16,7 @@ use Rattle.map.specs.declared.Head.{Head}
 use Rattle.map.specs.declared.Variant.{Variant}
 use Rattle.map.specs.declared.Variant.the-variants.{New, Mod}
 use Rattle.map.specs.Limits.{nodeWidth, edgeWidth, faceWidth}
-use Rattle.map.specs.Rows.{Node, Map, mapOf, lentOf, sizesOf, nodeCells, edgeCells, faceCells, headOf, counts}
+use Rattle.map.specs.Rows.{Node, Map, mapOf, lentOf, sizesOf, nodeCells, edgeCells, faceCells, headOf, counts, lent}
 use Rattle.map.specs.Ticket.{carried}
 use Rattle.map.specs.Edits.{split}
 use Rattle.map.proofs.RoundTrip.{nodes-wide}
@@ -24,7 +24,6 @@ use Rattle.map_rows.specs.Rows.{nodesOf, edgesOf, edgeAt}
 use Rattle.map_rows.proofs.Rows.{nodes-length, edges-length, faces-length, edges-getD, edge-row-of, edge-number-in}
 use Rattle.head.specs.Heads.{changedHead}
 use Rattle.head.proofs.Heads.{head-changed}
-use Rattle.form_ranges.specs.Ranges.{lent}
 use Rattle.outcomes.specs.Outcomes.{Formed}
 use Rattle.outcomes.proofs.Formed.{node-next, nodes-filled, edges-filled, faces-filled, edge-rows}
 use Rattle.outcomes.proofs.Formed.{edges-are-wide, edge-numbers-once, lent-is}

@@ -22,11 +22,11 @@ ghost use Rattle.curve_edits.specs.Lines.{lineOf};
 ghost use Rattle.map.specs.Limits.{maxEdges, edgeWidth};
 ghost use Rattle.map.specs.Rows.{counts};
 ghost use Rattle.map.specs.Reasons.{firstReason};
+ghost use Rattle.map.specs.Loans.{lentNow};
 ghost use Rattle.map_rows.specs.Rows.{EdgeRow, NodeRows, edgeAt};
 ghost use Rattle.map_rows.specs.Cells.{cellsOf};
 ghost use Rattle.head.specs.Heads.{Counted, changedHead, sizesIn, roomAt};
-ghost use Rattle.form_ranges.specs.Ranges.{lent};
-ghost use Rattle.outcomes.specs.Outcomes.{Formed, decided, outcome};
+ghost use Rattle.outcomes.specs.Outcomes.{Formed, decided, outcomeNow};
 ghost use Rattle.outcomes.specs.Variants.{splitTicket, ownOrNext};
 ghost use Rattle.edit_split.specs.Cuts.{ledToHalves, startIncidence, endIncidence, startHalfWritten, cutRow};
 ghost use Rattle.edit_split.specs.Cuts.{CuttableEdge, CuttableRow, pointReasons, splitNumbers, endNumber};
@@ -242,8 +242,8 @@ fn split_at_row(
     y: i64,
 ) -> Done
     requires { ⌜ Formed (now nodes) (now edges) (now faces) h × (i < natAbs (h .edges)) ⌝ }
-    ensures { λ r. ⌜ outcome (now (nodes .exit)) (now (edges .exit)) (now (faces .entry)) r
-        ≡ decided (lent (now (nodes .entry)) (now (edges .entry)) (now (faces .entry)) h)
+    ensures { λ r. ⌜ outcomeNow (nodes .exit) (edges .exit) (faces .entry) r
+        ≡ decided (lentNow (nodes .entry) (edges .entry) (faces .entry) h)
         (splitTicket how (pos (edgeAt (now (edges .entry)) i .number)) x y) ⌝ }
 {
     let reason = split_reason(nodes, edges, faces, h, how, i, x, y);
@@ -268,8 +268,8 @@ pub fn split_edge(
     y: i64,
 ) -> Done
     requires { ⌜ Formed (now nodes) (now edges) (now faces) h ⌝ }
-    ensures { λ r. ⌜ outcome (now (nodes .exit)) (now (edges .exit)) (now (faces .entry)) r
-        ≡ decided (lent (now (nodes .entry)) (now (edges .entry)) (now (faces .entry)) h)
+    ensures { λ r. ⌜ outcomeNow (nodes .exit) (edges .exit) (faces .entry) r
+        ≡ decided (lentNow (nodes .entry) (edges .entry) (faces .entry) h)
         (splitTicket how edge x y) ⌝ }
 {
     let e = head::to_usize(h.edges);

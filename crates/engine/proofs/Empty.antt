@@ -12,11 +12,10 @@ use Rattle.tables.specs.Tables.{filled, wholeRows}
 use Rattle.tables.proofs.Filled.{whole-rows}
 use Rattle.map.specs.declared.Head.{Head}
 use Rattle.map.specs.Limits.{maxNodes, maxEdges, maxFaces, nodeWidth, edgeWidth, faceWidth}
-use Rattle.map.specs.Rows.{Lent, emptyMap, lentOf, sizesOf, whole, headOf}
+use Rattle.map.specs.Rows.{Lent, emptyMap, lentOf, sizesOf, whole, headOf, lent}
 use Rattle.map.specs.Reasons.{firstReason}
 use Rattle.map.specs.Ticket.{emptied, refused}
 use Rattle.map.proofs.RoundTrip.{whole-tables}
-use Rattle.form_ranges.specs.Ranges.{lent}
 use Rattle.outcomes.proofs.Formed.{lent-is}
 
 -- a write over the whole of a list

@@ -6,8 +6,8 @@ ghost use mathlib.Core.Path.{_≡_};
 ghost use lib.IntN.{pos};
 ghost use lib.ListN.{length, replicate};
 ghost use Rattle.map.specs.Ticket.{ticket, emptied, edgesOfFace};
-ghost use Rattle.form_ranges.specs.Ranges.{lent};
-ghost use Rattle.outcomes.specs.Outcomes.{outcome};
+ghost use Rattle.map.specs.Loans.{lentNow};
+ghost use Rattle.outcomes.specs.Outcomes.{outcomeNow};
 
 // Every number of the table is 0.
 fn wipe(t: &mut [i64])
@@ -19,8 +19,8 @@ fn wipe(t: &mut [i64])
 
 // The empty map everywhere in the tables, whatever they and the head held; 1 where the tables are not whole.
 pub fn empty_map(nodes: &mut [i64], edges: &mut [i64], faces: &mut [i64], h: Head) -> Done
-    ensures { λ r. ⌜ outcome (now (nodes .exit)) (now (edges .exit)) (now (faces .exit)) r
-        ≡ emptied (lent (now (nodes .entry)) (now (edges .entry)) (now (faces .entry)) h) ⌝ }
+    ensures { λ r. ⌜ outcomeNow (nodes .exit) (edges .exit) (faces .exit) r
+        ≡ emptied (lentNow (nodes .entry) (edges .entry) (faces .entry) h) ⌝ }
 {
     if !form_ranges::is_whole(nodes, edges, faces) {
         return outcomes::refused(h, 1);
@@ -33,8 +33,8 @@ pub fn empty_map(nodes: &mut [i64], edges: &mut [i64], faces: &mut [i64], h: Hea
 
 // One ticket, on any tables and any run of numbers.
 pub fn ticket(nodes: &mut [i64], edges: &mut [i64], faces: &mut [i64], h: Head, t: &[i64]) -> Done
-    ensures { λ r. ⌜ outcome (now (nodes .exit)) (now (edges .exit)) (now (faces .exit)) r
-        ≡ ticket (lent (now (nodes .entry)) (now (edges .entry)) (now (faces .entry)) h) (now (t .entry)) ⌝ }
+    ensures { λ r. ⌜ outcomeNow (nodes .exit) (edges .exit) (faces .exit) r
+        ≡ ticket (lentNow (nodes .entry) (edges .entry) (faces .entry) h) (now (t .entry)) ⌝ }
 {
     if !form_ranges::is_whole(nodes, edges, faces) {
         return outcomes::refused(h, 1);
@@ -55,7 +55,7 @@ pub fn edges_of_face(
     list: &mut [i64],
 ) -> Answer
     ensures { λ r. ⌜ record { list = now (list .exit); answer = r }
-        ≡ edgesOfFace (lent (now (nodes .entry)) (now (edges .entry)) (now (faces .entry)) h) face
+        ≡ edgesOfFace (lentNow (nodes .entry) (edges .entry) (faces .entry) h) face
         (now (list .entry)) ⌝ }
 {
     face_edges::edges_of_face(nodes, edges, faces, h, face, list)

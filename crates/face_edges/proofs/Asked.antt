@@ -17,7 +17,7 @@ use Rattle.planar_maps.specs.Rings.{sameDart}
 use Rattle.tables.specs.Tables.{sameZ, column}
 use Rattle.map.specs.declared.Head.{Head}
 use Rattle.map.specs.Limits.{faceWidth}
-use Rattle.map.specs.Rows.{Map, Lent, mapOf, whole, edge}
+use Rattle.map.specs.Rows.{Map, Lent, mapOf, whole, edge, lent}
 use Rattle.map.specs.Darts.{arcs, directed, leaves, next, bears, stepsTo, ring, lower, firsts}
 use Rattle.map.specs.Form.{formed, inForm}
 use Rattle.map.specs.Reasons.{firstReason, noFace}
@@ -26,7 +26,7 @@ use Rattle.map_rows.specs.Rows.{faceAt, edgeMap}
 use Rattle.map_rows.proofs.Rows.{face-number-in}
 use Rattle.map_rows.proofs.Lookups.{face-found, face-missing}
 use Rattle.head.specs.Heads.{countsOf}
-use Rattle.form_ranges.specs.Ranges.{lent, mapIn}
+use Rattle.form_ranges.specs.Ranges.{mapIn}
 use Rattle.form_ranges.proofs.Parts.{face-rows, edge-rows, map-is}
 use Rattle.form.proofs.Parts.{InForm, whole-room}
 use Rattle.face_edges.specs.Listing.{Rings}

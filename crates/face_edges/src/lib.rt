@@ -8,8 +8,8 @@ ghost use Prim.Native.Nat.{_+_, _*_, _≤_, _<_};
 ghost use lib.ListN.{length, drop};
 ghost use Rattle.map.specs.Limits.{lastNumber};
 ghost use Rattle.map.specs.Ticket.{faceEdges, edgesOfFace};
+ghost use Rattle.map.specs.Loans.{lentNow};
 ghost use Rattle.map_rows.specs.Rows.{edgeMap};
-ghost use Rattle.form_ranges.specs.Ranges.{lent};
 ghost use Rattle.face_edges.specs.Listing.{Rings, Marked, Size};
 
 // How many numbers the ring of p takes, where p is the first member of a ring of the face, and 0 elsewhere; the ring is
@@ -79,7 +79,7 @@ pub fn edges_of_face(
 ) -> Answer
     ensures { λ r. ⌜
         record { list = now (list .exit); answer = r }
-        ≡ edgesOfFace (lent (now (nodes .entry)) (now (edges .entry)) (now (faces .entry)) h) face
+        ≡ edgesOfFace (lentNow (nodes .entry) (edges .entry) (faces .entry) h) face
         (now (list .entry)) ⌝ }
 {
     if !form_ranges::is_whole(nodes, edges, faces) {

@@ -11,14 +11,13 @@ use Rattle.lists.specs.Scans.{allOf, anyOf}
 use Rattle.lists.proofs.Bools.{same-true}
 use Rattle.curves.proofs.Runs.{and-left, and-right}
 use Rattle.map.specs.declared.Head.{Head}
-use Rattle.map.specs.Rows.{mapOf, nodeCells, edgeCells, hasNode, hasEdge, hasFace, Map, lentOf, sizesOf}
+use Rattle.map.specs.Rows.{mapOf, nodeCells, edgeCells, hasNode, hasEdge, hasFace, Map, lentOf, sizesOf, lent}
 use Rattle.tables.specs.Tables.{filled}
 use Rattle.map.specs.Form.{inFace, edgeNames, named}
 use Rattle.map.proofs.Laws.{formed-is, face-below}
 use Rattle.map_rows.specs.Rows.{nodesOf, edgesOf, facesOf, edgeAt}
 use Rattle.tables.proofs.Rows.{all-table}
 use Rattle.map_rows.proofs.Rows.{edges-table, faces-length, nodes-length, edges-length}
-use Rattle.form_ranges.specs.Ranges.{lent}
 use Rattle.outcomes.specs.Outcomes.{Formed}
 use Rattle.head.proofs.Heads.{head-same}
 use Rattle.outcomes.proofs.Formed.{formed-map, counted}

@@ -18,7 +18,7 @@ use Rattle.map.specs.declared.Head.{Head}
 use Rattle.map.specs.declared.Variant.{Variant}
 use Rattle.map.specs.Limits.{edgeWidth, lastNumber}
 use Rattle.map.specs.Rows.{Node, Edge, Map, nodeCells, edgeCells, edgeOf, mapOf, edge, hasEdge, setFaces, given}
-use Rattle.map.specs.Rows.{atNodes, counts}
+use Rattle.map.specs.Rows.{atNodes, counts, lent}
 use Rattle.map.specs.Darts.{leaves, next, departures}
 use Rattle.map.specs.Links.{redirect, unlinkEdge}
 use Rattle.map.specs.Form.{edgeRanges}
@@ -26,7 +26,6 @@ use Rattle.map.specs.Edits.{withSides, undrawn, renamed, renamedNode, renamedFa
 use Rattle.map_rows.specs.Rows.{NodeRows, EdgeRows, nodesOf, edgesOf, facesOf, edgeMap, edgeAt}
 use Rattle.map_rows.proofs.Rows.{nodes-length, edges-length, edge-numbers}
 use Rattle.map_rows.proofs.RowCurves.{table-edges-wide}
-use Rattle.form_ranges.specs.Ranges.{lent}
 use Rattle.face_rows.specs.Holds.{MapTables, TablesOf, faceKept, mergedSides}
 use Rattle.face_rows.proofs.FaceRows.{faces-read}
 use Rattle.face_rows.proofs.Renames.{sides-wide, map-size}

@@ -16,13 +16,12 @@ use Rattle.lists.specs.Scans.{anyOf, keep}
 use Rattle.lists.proofs.Bools.{which, same-true, same-refl, same-false, differ}
 use Rattle.tables.specs.Tables.{filled}
 use Rattle.map.specs.declared.Head.{Head}
-use Rattle.map.specs.Rows.{Edge, mapOf, headOf, nodeCells, edgeCells, counts}
+use Rattle.map.specs.Rows.{Edge, mapOf, headOf, nodeCells, edgeCells, counts, lent}
 use Rattle.map.specs.Edits.{renamed, renamedNode, renamedFaces, withSides}
 use Rattle.map_rows.specs.Rows.{nodesOf, edgesOf, facesOf}
 use Rattle.map_rows.proofs.Rows.{nodes-length, edges-length, faces-length}
 use Rattle.head.specs.Heads.{changedHead}
 use Rattle.head.proofs.Heads.{head-changed}
-use Rattle.form_ranges.specs.Ranges.{lent}
 use Rattle.face_rows.specs.Holds.{facesIn, FaceTable, withoutFace, Healable, TablesOf, healFaces, faceKept}
 use Rattle.face_rows.specs.Holds.{mergedSides}
 use Rattle.face_rows.proofs.FaceRows.{table-distinct, without-length, two-less}

@@ -18,7 +18,7 @@ use Rattle.tables.specs.Tables.{filled}
 use Rattle.plane.specs.Areas.{isPositive}
 use Rattle.map.specs.declared.Head.{Head}
 use Rattle.map.specs.declared.Variant.{Variant}
-use Rattle.map.specs.Rows.{Edge, Map, mapOf, headOf, nodeCells, edgeCells, edge, setFaces, given, counts}
+use Rattle.map.specs.Rows.{Edge, Map, mapOf, headOf, nodeCells, edgeCells, edge, setFaces, given, counts, lent}
 use Rattle.map.specs.Darts.{bears, course, ring}
 use Rattle.map.specs.Faces.{ringArea}
 use Rattle.map.specs.Edits.{isNew, Shares, sideOfNode, sideOfDart, withSides, sharedOut, splitFace}
@@ -29,7 +29,6 @@ use Rattle.head.proofs.Heads.{head-changed}
 use Rattle.head.proofs.Words.{is-natural}
 use Rattle.darts.specs.Positions.{dartAt}
 use Rattle.darts.proofs.Positions.{dart-even, dart-odd, edge-of}
-use Rattle.form_ranges.specs.Ranges.{lent}
 use Rattle.face_relabel.specs.declared.Sides.{Sides}
 use Rattle.face_relabel.specs.Sharing.{ShareableFace}
 use Rattle.face_rows.specs.Holds.{facesIn, FaceTable, withoutFace, Splittable, TablesOf, sharesIn, sidesOf}

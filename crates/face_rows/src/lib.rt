@@ -21,10 +21,10 @@ ghost use Rattle.map.specs.Rows.{Edge, Map, nodeCells, edgeCells, mapOf, counts
 ghost use Rattle.map.specs.Darts.{ring};
 ghost use Rattle.map.specs.Faces.{ringArea};
 ghost use Rattle.map.specs.Edits.{isNew, sharedOut, splitFace, renamedFaces};
+ghost use Rattle.map.specs.Loans.{lentNow};
 ghost use Rattle.map_rows.specs.Rows.{NodeRows, EdgeRows, nodesOf, edgesOf, facesOf, edgeAt, edgeMap};
 ghost use Rattle.head.specs.Heads.{Counted, changedHead};
 ghost use Rattle.darts.specs.Positions.{dartAt};
-ghost use Rattle.form_ranges.specs.Ranges.{lent};
 ghost use Rattle.face_relabel.specs.Sharing.{ShareableFace, Ringed};
 ghost use Rattle.face_rows.specs.Holds.{facesIn, FaceTable, withoutFace, Extendable, RowSplittable, RowsHealable};
 ghost use Rattle.face_rows.specs.Holds.{Splittable, Healable, TablesOf, sharesIn, sidesOf, splitFaces, healFaces};
@@ -179,7 +179,7 @@ pub fn split_face(
     requires { ⌜ Splittable (now nodes) (now edges) (now faces) h old ⌝ }
     ensures { λ r. ⌜ TablesOf (now (nodes .entry)) (now (edges .entry)) (now (faces .entry))
         (splitFace how (edgeAt (now (edges .entry)) (natAbs (h .edges) - 1) .number)
-        (mapOf (lent (now (nodes .entry)) (now (edges .entry)) (now (faces .entry)) h))) (now (nodes .exit))
+        (mapOf (lentNow (nodes .entry) (edges .entry) (faces .entry) h))) (now (nodes .exit))
         (now (edges .exit)) (now (faces .exit)) r ⌝ }
 {
     let n = head::counts_of(h);
@@ -238,10 +238,10 @@ pub fn heal_faces(
     requires { ⌜ Healable (now nodes) (now edges) (now faces) h left right ⌝ }
     ensures { λ r. ⌜ ((row : Edge) → row .left ≡ natAbs left → row .right ≡ natAbs right
         → TablesOf (now (nodes .entry)) (now (edges .entry)) (now (faces .entry))
-        (mergedSides makes row (mapOf (lent (now (nodes .entry)) (now (edges .entry)) (now (faces .entry)) h)))
+        (mergedSides makes row (mapOf (lentNow (nodes .entry) (edges .entry) (faces .entry) h)))
         (now (nodes .exit)) (now (edges .exit)) (now (faces .exit)) (r .head)
         × (r .answer .value ≡ pos (faceKept makes row
-        (mapOf (lent (now (nodes .entry)) (now (edges .entry)) (now (faces .entry)) h))))) ⌝ }
+        (mapOf (lentNow (nodes .entry) (edges .entry) (faces .entry) h))))) ⌝ }
 {
     let n = head::counts_of(h);
     let face = face_left(h.next_face, left, right, makes);

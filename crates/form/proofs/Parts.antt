@@ -12,7 +12,7 @@ use Rattle.lists.specs.Scans.{allOf}
 use Rattle.tables.proofs.Filled.{whole-rows}
 use Rattle.curves.proofs.Runs.{and-left, and-right}
 use Rattle.map.specs.declared.Head.{Head}
-use Rattle.map.specs.Rows.{whole, sizesOf, edge}
+use Rattle.map.specs.Rows.{whole, sizesOf, edge, lent}
 use Rattle.map.specs.Darts.{leaves, next, bears, course, way, departures}
 use Rattle.map.specs.Form.{countsFit, nextsFit, curveFits, numbers, named, departuresDiffer, bareMarked, linksOnce}
 use Rattle.map.specs.Form.{linksMeet, ringsBearOne, formed, inForm}
@@ -21,7 +21,7 @@ use Rattle.map.proofs.RoundTrip.{whole-tables}
 use Rattle.map.specs.declared.Counts.{Counts}
 use Rattle.map_rows.specs.Rows.{edgesOf, nodeMap, edgeMap}
 use Rattle.head.specs.Heads.{countsOf}
-use Rattle.form_ranges.specs.Ranges.{lent, mapIn, rangedRows, Named}
+use Rattle.form_ranges.specs.Ranges.{mapIn, rangedRows, Named}
 use Rattle.form_ranges.proofs.Parts.{ranged-is, map-is, curves-are, counted, counts-natural}
 use Rattle.form_links.specs.Drawn.{drawnMap}
 

@@ -7,7 +7,8 @@ ghost use Prim.Native.Nat.{_≤_};
 ghost use Rattle.map.specs.Limits.{maxNodes, maxEdges, maxFaces};
 ghost use Rattle.map.specs.Rows.{whole};
 ghost use Rattle.map.specs.Form.{formed, inForm};
-ghost use Rattle.form_ranges.specs.Ranges.{lent, mapIn, InRanges};
+ghost use Rattle.map.specs.Loans.{lentNow};
+ghost use Rattle.form_ranges.specs.Ranges.{mapIn, InRanges};
 
 // Whether tables in range are in form.
 fn is_formed(nodes: &[i64], edges: &[i64], faces: &[i64], c: Counts, h: Head) -> bool
@@ -35,8 +36,8 @@ fn is_formed(nodes: &[i64], edges: &[i64], faces: &[i64], c: Counts, h: Head) ->
 
 // Whether tables that are whole are in form.
 pub fn in_form(nodes: &[i64], edges: &[i64], faces: &[i64], h: Head) -> bool
-    requires { ⌜ whole (lent (now nodes) (now edges) (now faces) h) ≡ true ⌝ }
-    ensures { λ r. ⌜ r ≡ inForm (lent (now (nodes .entry)) (now (edges .entry)) (now (faces .entry)) h) ⌝ }
+    requires { ⌜ whole (lentNow nodes edges faces h) ≡ true ⌝ }
+    ensures { λ r. ⌜ r ≡ inForm (lentNow (nodes .entry) (edges .entry) (faces .entry) h) ⌝ }
 {
     if !form_ranges::head_fits(
         h,

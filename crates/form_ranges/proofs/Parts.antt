@@ -15,14 +15,14 @@ use Rattle.tables.proofs.Rising.{all-same, all-weaker, numbered-wider}
 use Rattle.curves.proofs.Runs.{and-left, and-right}
 use Rattle.map.specs.declared.Head.{Head}
 use Rattle.map.specs.Limits.{nodeWidth, edgeWidth, faceWidth, lastNumber}
-use Rattle.map.specs.Rows.{Edge, mapOf, node, hasNode, hasEdge, hasFace}
+use Rattle.map.specs.Rows.{Edge, mapOf, node, hasNode, hasEdge, hasFace, lent}
 use Rattle.map.specs.Form.{countsFit, nextsFit, nodeRanges, edgeRanges, faceRanges, ranged, numbers, named, edgeNames}
 use Rattle.map.specs.Form.{inFace, curveFits}
 use Rattle.map.specs.declared.Counts.{Counts}
 use Rattle.map_rows.specs.Rows.{nodesOf, edgesOf, facesOf, nodeMap, NodeRows, EdgeRows, FaceRows}
 use Rattle.head.specs.Heads.{countsOf, UpTo}
 use Rattle.head.proofs.Words.{is-natural}
-use Rattle.form_ranges.specs.Ranges.{lent, mapIn, rangedRows, EdgesInOrder, InRanges, InOrder, HeadFits, Named}
+use Rattle.form_ranges.specs.Ranges.{mapIn, rangedRows, EdgesInOrder, InRanges, InOrder, HeadFits, Named}
 
 module _ (a b c d e f : Bool) (h : a && b && c && d && e && f ≡ true) where
   pub and₆ : (a ≡ true) × (b ≡ true) × (c ≡ true) × (d ≡ true) × (e ≡ true) × (f ≡ true)

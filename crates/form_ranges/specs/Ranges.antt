@@ -9,14 +9,10 @@ use Rattle.lists.specs.Scans.{allOf}
 use Rattle.tables.specs.Tables.{rows, restZero, numbered}
 use Rattle.map.specs.declared.Head.{Head}
 use Rattle.map.specs.Limits.{nodeWidth, edgeWidth, faceWidth, lastNumber}
-use Rattle.map.specs.Rows.{Map, Lent, counts}
+use Rattle.map.specs.Rows.{Map, counts}
 use Rattle.map.specs.Form.{nextsFit, nodeRanges, edgeRanges, faceRanges, numbers, named}
 use Rattle.map.specs.declared.Counts.{Counts}
 use Rattle.map_rows.specs.Rows.{nodesOf, edgesOf, facesOf}
-
--- what is lent
-abbrev pub lent : List ℤ → List ℤ → List ℤ → Head → Lent
-lent nodes edges faces h = record { nodes = nodes; edges = edges; faces = faces; head = h }
 
 -- the map that the rows in use and the next numbers make: `mapOf` with the counts by themselves
 abbrev pub mapIn : List ℤ → List ℤ → List ℤ → Counts → Head → Map

@@ -6,8 +6,7 @@ ghost use mathlib.Core.Path.{_≡_};
 ghost use mathlib.Core.Bool.{true, false, _&&_};
 ghost use mathlib.Core.List.{[], _∷_};
 ghost use Prim.Native.Nat.{_+_, _*_, _≤_, _<_};
-ghost use lib.Dec.{T};
-ghost use lib.IntN.{pos, natAbs};
+ghost use lib.IntN.{pos};
 ghost use lib.Signed.{leZ, nonNeg};
 ghost use lib.ListN.{length, getD, take, drop};
 ghost use Rattle.lists.specs.Scans.{allOf};
@@ -16,7 +15,8 @@ ghost use Rattle.curves.specs.Curves.{coordinate, maxPoints};
 ghost use Rattle.map.specs.Limits.{maxNodes, maxEdges, maxFaces, nodeWidth, edgeWidth, faceWidth};
 ghost use Rattle.map.specs.Rows.{whole, sizesOf};
 ghost use Rattle.map.specs.Form.{countsFit, nextsFit, nodeRanges, edgeRanges, faceRanges, numbers};
-ghost use Rattle.form_ranges.specs.Ranges.{lent, mapIn, rangedRows, InRanges};
+ghost use Rattle.map.specs.Loans.{lentNow};
+ghost use Rattle.form_ranges.specs.Ranges.{mapIn, rangedRows, InRanges};
 
 const POINTS: i64 = Map::POINTS as i64;
 
@@ -24,7 +24,7 @@ const POINTS: i64 = Map::POINTS as i64;
 
 // Whether the tables are whole rows, within the limits, with a face row: condition 1.
 pub fn is_whole(nodes: &[i64], edges: &[i64], faces: &[i64]) -> bool
-    ensures { λ r. ⌜ ((h : _) → r ≡ whole (lent (now (nodes .entry)) (now (edges .entry)) (now (faces .entry)) h)) ⌝ }
+    ensures { λ r. ⌜ ((h : _) → r ≡ whole (lentNow (nodes .entry) (edges .entry) (faces .entry) h)) ⌝ }
 {
     tables::whole_rows(nodes, map::NODE_WIDTH, 0, Map::NODES)
         & tables::whole_rows(edges, map::EDGE_WIDTH, 0, Map::EDGES)

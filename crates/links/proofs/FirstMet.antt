@@ -2,16 +2,14 @@
 -- Assumes nothing.
 use mathlib.Core.Path.{_≡_, refl, sym, ap, _∙_}
 use mathlib.Core.Logic.{inl, inr, ⊎-elim}
-use mathlib.Core.Bool.{_&&_}
 use mathlib.Core.List.{List, [], _∷_, map-id, List·Memᴰ, List·Memᴰ·head, List·Memᴰ·tail, List·Memᴰ·cases-cons}
 use mathlib.Core.List.{List·Memᴰ·not-nil}
 use Prim.Native.Nat.{ℕ, zero, suc, _+_, _*_, _/_, _<_, _≤_}
 use native.Mathlib.Omega.{arith}
 use lib.IntN.{ℤ}
 use Rattle.lists.specs.declared.Found.the-variants.{At, Missing}
-use Rattle.lists.specs.Scans.{keep}
 use Rattle.lists.specs.Tables.{table}
-use Rattle.lists.proofs.Keeps.{keep-in, keep-map}
+use Rattle.lists.proofs.Keeps.{keep-in}
 use Rattle.lists.proofs.Bools.{equal?, same-false}
 use Rattle.plane.specs.Directions.{Way}
 use Rattle.rotation.specs.Law.{pick, firstClockwise}

@@ -11,3 +11,4 @@ pub mod Reasons
 pub mod Ticket
 pub mod Grow
 pub mod Sound
+pub mod Loans

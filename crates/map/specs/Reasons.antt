@@ -1,6 +1,6 @@
 -- Reasons to turn a ticket down: for each kind a list of numbers with their conditions, looked at in order; the first
 -- that holds is the answer.
-use mathlib.Core.Bool.{Bool, true, false, cond, not, _&&_, _||_}
+use mathlib.Core.Bool.{Bool, false, cond, not, _&&_, _||_}
 use mathlib.Core.List.{List, [], _∷_, _++_}
 use mathlib.Core.Option.{Option·getD}
 use Prim.Native.Nat.{ℕ, suc, _+_}

@@ -47,6 +47,9 @@ pub record Lent : Type 0 where
   pub faces : List ℤ
   pub head : Head
 
+abbrev pub lent : List ℤ → List ℤ → List ℤ → Head → Lent
+lent nodes edges faces h = record { nodes = nodes; edges = edges; faces = faces; head = h }
+
 -- how many rows each table has room for
 pub record Sizes : Type 0 where
   pub nodes : ℕ

@@ -1,6 +1,6 @@
 -- One ticket on any tables and any run of numbers: tables and head after it, refusal and value. The empty map, and the
 -- edges of a face.
-use mathlib.Core.Bool.{true, false, cond, not}
+use mathlib.Core.Bool.{true, cond, not}
 use mathlib.Core.List.{List, [], _∷_, _++_, map, flatMap}
 use mathlib.Core.Option.{Option, none, some}
 use Prim.Native.Nat.{ℕ, zero, suc}

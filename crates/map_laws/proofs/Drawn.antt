@@ -41,7 +41,7 @@ use Rattle.map_laws.proofs.LinkedIn.{drawnRow, appended, leaves₁, bea
 use Rattle.map_laws.proofs.LinkedIn.{linkEdge-relinked}
 use Rattle.curves.specs.Edits as edits
 use Rattle.rotation.specs.Law as rotation
-use Rattle.geometry.specs.Drawing as drawing
+use Rattle.geometry.specs.Drawing.{GoodCurve}
 
 -- an edge with the next number from u to v along c departs in directions of its own, as others do
 pub record Free (m : Map) (u v : ℕ) (c : Curve) : Type 0 where
@@ -205,7 +205,7 @@ pub some-rest : (p : Point) (r : List Point) → 2 ≤ length (p ∷ r) → Some
 some-rest p [] h = absurd (omega arith)
 some-rest p (q ∷ r) h = tt
 
-sent-good : (m : Map) (c : Curve) (u v : ℕ) → Sent m c u v → drawing.GoodCurve c
+sent-good : (m : Map) (c : Curve) (u v : ℕ) → Sent m c u v → GoodCurve c
 sent-good m c u v h = good-iff c .1 (some-rest (c .first) (c .rest) (h .least), h .differ, h .simple)
 
 -- kind 4: nothing departs from either node
@@ -235,7 +235,7 @@ edge-free {m = m} {u} {v} {c} h apart fresh = record {
   loop = λ p. closed-differ c good (h .sent .end ∙ ap (λ (n : ℕ). node m n .at) (sym p) ∙ sym (h .sent .start));
 }
   where
-    good : drawing.GoodCurve c
+    good : GoodCurve c
     good = sent-good m c u v (h .sent)
 
     ways : (wayTaken m (m .next .edges) u (startWay c) ≡ false) × (wayTaken m (m .next .edges) v (endWay c) ≡ false)

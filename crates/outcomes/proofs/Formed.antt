@@ -24,7 +24,7 @@ use Rattle.map.specs.declared.Counts.{Counts}
 use Rattle.map.specs.declared.Head.{Head}
 use Rattle.map.specs.Limits.{maxNodes, maxEdges, maxFaces, lastNumber, nodeWidth, edgeWidth, faceWidth}
 use Rattle.map.specs.Rows.{Edge, Map, Lent, Sizes, mapOf, lentOf, sizesOf, headOf, nodeCells, edgeCells, faceCells}
-use Rattle.map.specs.Rows.{whole, hasNode, hasEdge, hasFace, counts}
+use Rattle.map.specs.Rows.{whole, hasNode, hasEdge, hasFace, counts, lent}
 use Rattle.map.specs.Form.{numbers, inFace, edgeNames, named, ranged, formed, inForm}
 use Rattle.map.specs.Tickets.{Ticket}
 use Rattle.map.specs.Reasons.{firstReason, reasons, full, spent, roomReasons, noNode, noEdge}
@@ -36,7 +36,6 @@ use Rattle.map_rows.proofs.Rows.{nodes-length, edges-length, faces-length}
 use Rattle.map_rows.proofs.RowCurves.{table-edges-wide}
 use Rattle.map_rows.proofs.Lookups.{node-missing, edge-missing}
 use Rattle.head.specs.Heads.{Counted, sizesIn, fullAt, spentAt, roomAt}
-use Rattle.form_ranges.specs.Ranges.{lent}
 use Rattle.outcomes.specs.declared.Done.{Done}
 use Rattle.outcomes.specs.Outcomes.{Formed, decided, outcome}
 

@@ -11,7 +11,7 @@ use Rattle.lists.specs.Tables.{place}
 use Rattle.lists.specs.declared.Found.the-variants.{At}
 use Rattle.map.specs.declared.Head.{Head}
 use Rattle.map.specs.Limits.{nodeWidth, edgeWidth}
-use Rattle.map.specs.Rows.{mapOf, node, edge, findNode, findEdge}
+use Rattle.map.specs.Rows.{mapOf, node, edge, findNode, findEdge, lent}
 use Rattle.map.specs.Form.{nodeRanges, edgeRanges}
 use Rattle.map.specs.Reasons.{noNode, noEdge}
 use Rattle.tables.specs.Tables.{sameZ, column}
@@ -20,7 +20,6 @@ use Rattle.tables.proofs.Lookups.{row-met}
 use Rattle.map_rows.specs.Rows.{nodeAt, edgeAt}
 use Rattle.map_rows.proofs.Rows.{node-cells, edge-cells, node-rows-rising, edge-rows-rising}
 use Rattle.map_rows.proofs.Lookups.{node-found, edge-found}
-use Rattle.form_ranges.specs.Ranges.{lent}
 use Rattle.outcomes.specs.Outcomes.{Formed}
 use Rattle.outcomes.proofs.Formed.{ranges, node-rows, edge-rows}
 

@@ -5,12 +5,12 @@ use mathlib.Core.List.{List}
 use lib.IntN.{ℤ}
 use Rattle.map.specs.declared.Answer.{Answer}
 use Rattle.map.specs.declared.Head.{Head}
-use Rattle.map.specs.Rows.{Lent, mapOf, sizesOf, whole}
+use Rattle.map.specs.Rows.{Lent, mapOf, sizesOf, whole, lent}
 use Rattle.map.specs.Form.{inForm}
 use Rattle.map.specs.Tickets.{Ticket}
 use Rattle.map.specs.Reasons.{firstReason, reasons}
 use Rattle.map.specs.Ticket.{Outcome, unless, carried}
-use Rattle.form_ranges.specs.Ranges.{lent}
+use Rattle.map.specs.Loans.{Table, lentNow}
 use Rattle.outcomes.specs.declared.Done.{Done}
 
 -- the one record that edits require, which `form` establishes: conditions 1 and 2 do not hold
@@ -26,6 +26,9 @@ decided l t = unless l (firstReason (reasons (sizesOf l) (mapOf l) t)) (carried 
 abbrev pub outcome : List ℤ → List ℤ → List ℤ → Done → Outcome
 outcome nodes edges faces d = record { lent = lent nodes edges faces (d .head); answer = d .answer }
 
+abbrev pub outcomeNow : Table → Table → Table → Done → Outcome
+outcomeNow nodes edges faces d = record { lent = lentNow nodes edges faces (d .head); answer = d .answer }
+
 -- what a call left, with the head in a loan of its own
-abbrev pub outcomeWith : List ℤ → List ℤ → List ℤ → Head → Answer → Outcome
-outcomeWith nodes edges faces h a = record { lent = lent nodes edges faces h; answer = a }
+abbrev pub outcomeWith : Table → Table → Table → Head → Answer → Outcome
+outcomeWith nodes edges faces h a = record { lent = lentNow nodes edges faces h; answer = a }

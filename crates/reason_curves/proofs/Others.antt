@@ -19,7 +19,7 @@ use Rattle.plane.specs.Points.{samePoint}
 use Rattle.map.specs.Limits.{nodeWidth, edgeWidth}
 use Rattle.map.specs.Rows.{Node, Edge, withoutNode, withoutEdge}
 use Rattle.map.specs.Form.{nodeRanges, edgeRanges}
-use Rattle.map.specs.Reasons as reasons
+use Rattle.map.specs.Reasons.{anyNodeAt}
 use Rattle.tables.specs.Tables.{sameZ, column, Rising}
 use Rattle.map_rows.specs.Rows.{NodeRows, EdgeRows, nodeAt, edgeAt, nodesOf, edgesOf}
 use Rattle.tables.proofs.Rows.{map-table, rows-all}
@@ -113,17 +113,17 @@ edges-all l n own past = but-none (edgeAt l) n own past ∙ sym (edges-table l n
 -- what `node_at` answers
 module _ (l : List ℤ) (n own : ℕ) (p : Point) where
   others : anyOf (λ i. not (same i own) && samePoint (nodeAt l i .at) p) (table (λ i. i) 0 n)
-      ≡ reasons.anyNodeAt (map (nodeAt l) (keep (λ i. not (same i own)) (table (λ i. i) 0 n))) p
-  unfolding reasons.anyNodeAt
+      ≡ anyNodeAt (map (nodeAt l) (keep (λ i. not (same i own)) (table (λ i. i) 0 n))) p
+  unfolding anyNodeAt
   others = sym (any-kept (λ (r : Node). samePoint (r .at) p) (nodeAt l) (λ i. not (same i own)) (table (λ i. i) 0 n))
 
   -- of all nodes, where `own` is past the last row
   pub node-at-all : n ≤ own → anyOf (λ i. not (same i own) && samePoint (nodeAt l i .at) p) (table (λ i. i) 0 n)
-      ≡ reasons.anyNodeAt (nodesOf l n) p
-  node-at-all past = others ∙ ap (λ ns. reasons.anyNodeAt ns p) (but-none (nodeAt l) n own past ∙ sym (nodes-table l n))
+      ≡ anyNodeAt (nodesOf l n) p
+  node-at-all past = others ∙ ap (λ ns. anyNodeAt ns p) (but-none (nodeAt l) n own past ∙ sym (nodes-table l n))
 
   -- of the others, where it is a row
   pub node-at-but : NodeRows l n → own < n
       → anyOf (λ i. not (same i own) && samePoint (nodeAt l i .at) p) (table (λ i. i) 0 n)
-      ≡ reasons.anyNodeAt (withoutNode (nodeAt l own .number) (nodesOf l n)) p
-  node-at-but rows s = others ∙ ap (λ ns. reasons.anyNodeAt ns p) (nodes-but rows own s)
+      ≡ anyNodeAt (withoutNode (nodeAt l own .number) (nodesOf l n)) p
+  node-at-but rows s = others ∙ ap (λ ns. anyNodeAt ns p) (nodes-but rows own s)

@@ -18,14 +18,13 @@ use Rattle.map.specs.declared.Head.{Head}
 use Rattle.map.specs.declared.Variant.{Variant}
 use Rattle.map.specs.declared.Variant.the-variants.{New, Mod}
 use Rattle.map.specs.Limits.{nodeWidth}
-use Rattle.map.specs.Rows.{Map, Sizes, mapOf, sizesOf, counts}
+use Rattle.map.specs.Rows.{Map, Sizes, mapOf, sizesOf, counts, lent}
 use Rattle.map.specs.Links.{cornerFace}
 use Rattle.map.specs.Edits.{splitsFace}
 use Rattle.map.specs.Reasons.{firstReason, reasons, noNode}
 use Rattle.map.proofs.Reasons.{first-hit, first-miss, first-zero, first-append, first-after}
 use Rattle.map_rows.specs.Rows.{nodeAt}
 use Rattle.head.specs.Heads.{sizesIn, roomAt}
-use Rattle.form_ranges.specs.Ranges.{lent}
 use Rattle.outcomes.specs.Outcomes.{Formed}
 use Rattle.outcomes.proofs.Formed.{node-rows, edge-rows, room-at, node-none}
 use Rattle.outcomes.proofs.FoundRows.{node-there, node-in, node-number}

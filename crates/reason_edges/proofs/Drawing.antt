@@ -15,7 +15,7 @@ use Rattle.curves.specs.Curves.{Run, isRun, curveOf, startWay}
 use Rattle.curves.specs.Edits.{course}
 use Rattle.map.specs.declared.Head.{Head}
 use Rattle.map.specs.Limits.{nodeWidth}
-use Rattle.map.specs.Rows.{Node, Edge, Map, mapOf, node}
+use Rattle.map.specs.Rows.{Node, Edge, Map, mapOf, node, lent}
 use Rattle.map.specs.Form.{bareMarked}
 use Rattle.map.specs.Reasons.{Reasons, firstReason, curveReasons, meetingReasons, directionTaken, cornersDiffer}
 use Rattle.tables.specs.Tables.{sameZ, column, numbered}
@@ -23,7 +23,6 @@ use Rattle.map_rows.specs.Rows.{nodeAt, nodesOf, edgesOf, nodeMap, edgeMap, Nod
 use Rattle.map_rows.proofs.Rows.{node-cells, node-rows-rising, node-row-of}
 use Rattle.tables.proofs.Lookups.{row-place}
 use Rattle.map_rows.proofs.Lookups.{node-found}
-use Rattle.form_ranges.specs.Ranges.{lent}
 use Rattle.outcomes.specs.Outcomes.{Formed}
 use Rattle.outcomes.proofs.Formed.{formed-map, node-rows, edge-rows, numbers-rise}
 use Rattle.reason_curves.specs.Sent.{sentReasons, edgesBut}

@@ -13,13 +13,12 @@ use Rattle.map.specs.declared.Head.{Head}
 use Rattle.map.specs.declared.Variant.{Variant}
 use Rattle.map.specs.declared.Variant.the-variants.{New, Mod}
 use Rattle.map.specs.Limits.{edgeWidth}
-use Rattle.map.specs.Rows.{Map, Sizes, counts, mapOf, sizesOf, edge}
+use Rattle.map.specs.Rows.{Map, Sizes, counts, mapOf, sizesOf, edge, lent}
 use Rattle.map.specs.Edits.{makesFace, healsFaces}
 use Rattle.map.specs.Reasons.{firstReason, reasons, noEdge}
 use Rattle.map.proofs.Reasons.{first-hit, first-miss, first-none}
 use Rattle.map_rows.specs.Rows.{edgeAt}
 use Rattle.head.specs.Heads.{spentAt}
-use Rattle.form_ranges.specs.Ranges.{lent}
 use Rattle.outcomes.specs.Outcomes.{Formed}
 use Rattle.outcomes.proofs.Formed.{edge-none, spent-at, node-left, edge-left, face-left}
 use Rattle.outcomes.proofs.FoundRows.{edge-there, edge-is, edge-in, edge-number}

@@ -9,13 +9,12 @@ use Rattle.curves.specs.Curves.{Run, curveOf, startWay}
 use Rattle.map.specs.Limits.{nodeWidth, edgeWidth}
 use Rattle.map.specs.declared.Head.{Head}
 use Rattle.map.specs.declared.Variant.{Variant}
-use Rattle.map.specs.Rows.{Map, mapOf, sizesOf}
+use Rattle.map.specs.Rows.{Map, mapOf, sizesOf, lent}
 use Rattle.tables.specs.Tables.{sameZ, column}
 use Rattle.map.specs.Links.{cornerFace}
 use Rattle.map.specs.Edits.{splitsFace, makesFace}
 use Rattle.map.specs.Reasons.{firstReason, reasons}
 use Rattle.map_rows.specs.Rows.{nodeAt}
-use Rattle.form_ranges.specs.Ranges.{lent}
 use Rattle.reason_edges.specs.declared.Judged.{Judged}
 use Rattle.reason_edges.specs.declared.Removal.{Removal}
 use Rattle.outcomes.specs.Variants.{addTicket, removeTicket}

@@ -11,9 +11,9 @@ ghost use lib.Signed.{nonNeg};
 ghost use Rattle.lists.specs.Tests.{bit};
 ghost use Rattle.map.specs.Rows.{mapOf, counts};
 ghost use Rattle.map.specs.Reasons.{firstReason};
+ghost use Rattle.map.specs.Loans.{lentNow};
 ghost use Rattle.map_rows.specs.Rows.{EdgeRow, nodeAt, edgeAt};
 ghost use Rattle.head.specs.Heads.{Counted, sizesIn, roomAt};
-ghost use Rattle.form_ranges.specs.Ranges.{lent};
 ghost use Rattle.outcomes.specs.Outcomes.{Formed};
 ghost use Rattle.reason_edges.specs.Parts.{drawingReasons, makesSecond, makesOf, faceReasons};
 ghost use Rattle.reason_edges.specs.Judging.{JudgedRows, JudgedAdd, JudgedRemoval};
@@ -72,7 +72,7 @@ fn drawing_reason(
 ) -> u64
     requires { ⌜ Formed (now nodes) (now edges) (now faces) h × (u < natAbs (h .nodes)) × (v < natAbs (h .nodes)) ⌝ }
     ensures { λ r. ⌜ r ≡ firstReason (drawingReasons
-        (mapOf (lent (now (nodes .entry)) (now (edges .entry)) (now (faces .entry)) h))
+        (mapOf (lentNow (nodes .entry) (edges .entry) (faces .entry) h))
         (nodeAt (now (nodes .entry)) u .number) (nodeAt (now (nodes .entry)) v .number) (now (c .entry))) ⌝ }
 {
     let n = head::to_usize(h.nodes);

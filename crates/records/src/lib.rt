@@ -10,8 +10,9 @@ ghost use Prim.Native.Nat.{_+_, _*_, _≤_, _<_};
 ghost use lib.ListN.{length, take};
 ghost use lib.Seq.{paste};
 ghost use Rattle.lists.specs.Tables.{table};
+ghost use Rattle.map.specs.Rows.{lent};
 ghost use Rattle.map.specs.Ticket.{ticket, emptied, edgesOfFace};
-ghost use Rattle.form_ranges.specs.Ranges.{lent};
+ghost use Rattle.map.specs.Loans.{lentNow};
 ghost use Rattle.outcomes.specs.Outcomes.{outcome, outcomeWith};
 ghost use Rattle.ticket_lists.specs.Runs.{Runs};
 ghost use Rattle.records.specs.Records.{recordCells, nodeTable, rowNode, nodeRow, changedAt};
@@ -115,8 +116,8 @@ pub fn ticket(
     head: &mut Head,
     t: &[i64],
 ) -> Answer
-    ensures { λ r. ⌜ outcomeWith (now (nodes .exit)) (now (edges .exit)) (now (faces .exit)) (now (head .exit)) r
-        ≡ ticket (lent (now (nodes .entry)) (now (edges .entry)) (now (faces .entry)) (now (head .entry)))
+    ensures { λ r. ⌜ outcomeWith (nodes .exit) (edges .exit) (faces .exit) (now (head .exit)) r
+        ≡ ticket (lentNow (nodes .entry) (edges .entry) (faces .entry) (now (head .entry)))
         (now (t .entry)) ⌝ }
 {
     let h = *head;
@@ -127,8 +128,8 @@ pub fn ticket(
 
 // The empty map.
 pub fn empty_map(nodes: &mut [i64], edges: &mut [i64], faces: &mut [i64], head: &mut Head) -> Answer
-    ensures { λ r. ⌜ outcomeWith (now (nodes .exit)) (now (edges .exit)) (now (faces .exit)) (now (head .exit)) r ≡ emptied
-        (lent (now (nodes .entry)) (now (edges .entry)) (now (faces .entry)) (now (head .entry))) ⌝ }
+    ensures { λ r. ⌜ outcomeWith (nodes .exit) (edges .exit) (faces .exit) (now (head .exit)) r ≡ emptied
+        (lentNow (nodes .entry) (edges .entry) (faces .entry) (now (head .entry))) ⌝ }
 {
     let h = *head;
     let done = engine::empty_map(nodes, edges, faces, h);
@@ -146,7 +147,7 @@ pub fn edges_of_face(
     list: &mut [i64],
 ) -> Answer
     ensures { λ r. ⌜ record { list = now (list .exit); answer = r }
-        ≡ edgesOfFace (lent (now (nodes .entry)) (now (edges .entry)) (now (faces .entry)) (now (head .entry))) face
+        ≡ edgesOfFace (lentNow (nodes .entry) (edges .entry) (faces .entry) (now (head .entry))) face
         (now (list .entry)) ⌝ }
 {
     let h = *head;
@@ -164,10 +165,10 @@ pub fn run(
     refusals: &mut [u64],
     values: &mut [i64],
 ) -> Answer
-    ensures { λ r. ⌜ Runs (lent (now (nodes .entry)) (now (edges .entry)) (now (faces .entry)) (now (head .entry)))
+    ensures { λ r. ⌜ Runs (lentNow (nodes .entry) (edges .entry) (faces .entry) (now (head .entry)))
         (now (numbers .entry)) (now (lengths .entry)) (now (refusals .entry)) (now (values .entry))
         (record {
-          lent = lent (now (nodes .exit)) (now (edges .exit)) (now (faces .exit)) (now (head .exit));
+          lent = lentNow (nodes .exit) (edges .exit) (faces .exit) (now (head .exit));
           refusals = now (refusals .exit);
           values = now (values .exit);
           answer = r;

@@ -6,7 +6,7 @@ ghost use mathlib.Core.List.{map};
 ghost use Prim.Native.Nat.{min, _≤_};
 ghost use lib.ListN.{length};
 ghost use Rattle.map.specs.Grow.{Grown, after};
-ghost use Rattle.form_ranges.specs.Ranges.{lent};
+ghost use Rattle.map.specs.Loans.{lentNow};
 ghost use Rattle.ticket_lists.specs.Runs.{ticketsOf, overFront, Runs};
 
 // The lesser of two numbers.
@@ -28,9 +28,9 @@ fn run_tickets(
     values: &mut [i64],
 ) -> Head
     requires { ⌜ (length (now lengths) ≤ length (now refusals)) × (length (now lengths) ≤ length (now values)) ⌝ }
-    ensures { λ r. ⌜ ((g : Grown) → g ≡ after (lent (now (nodes .entry)) (now (edges .entry)) (now (faces .entry)) h)
+    ensures { λ r. ⌜ ((g : Grown) → g ≡ after (lentNow (nodes .entry) (edges .entry) (faces .entry) h)
         (ticketsOf (now (numbers .entry)) (now (lengths .entry)))
-        → (lent (now (nodes .exit)) (now (edges .exit)) (now (faces .exit)) r ≡ g .lent)
+        → (lentNow (nodes .exit) (edges .exit) (faces .exit) r ≡ g .lent)
         × (now (refusals .exit) ≡ overFront (map (λ a. a .refusal) (g .answers)) (now (refusals .entry)))
         × (now (values .exit) ≡ overFront (map (λ a. a .value) (g .answers)) (now (values .entry)))) ⌝ }
 {
@@ -60,10 +60,10 @@ pub fn run(
     refusals: &mut [u64],
     values: &mut [i64],
 ) -> Done
-    ensures { λ r. ⌜ Runs (lent (now (nodes .entry)) (now (edges .entry)) (now (faces .entry)) h)
+    ensures { λ r. ⌜ Runs (lentNow (nodes .entry) (edges .entry) (faces .entry) h)
         (now (numbers .entry)) (now (lengths .entry)) (now (refusals .entry)) (now (values .entry))
         (record {
-          lent = lent (now (nodes .exit)) (now (edges .exit)) (now (faces .exit)) (r .head);
+          lent = lentNow (nodes .exit) (edges .exit) (faces .exit) (r .head);
           refusals = now (refusals .exit);
           values = now (values .exit);
           answer = r .answer;

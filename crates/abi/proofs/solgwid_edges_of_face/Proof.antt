@@ -6,8 +6,7 @@ use mir.Syntax.{w64}
 use mir.Val.{toZ, ofZ}
 use mir.Facts.{toZ-ofZ}
 use Rattle.map.specs.declared.Head.{Head}
-use Rattle.map.specs.Rows.{Lent}
-use Rattle.form_ranges.specs.Ranges.{lent}
+use Rattle.map.specs.Rows.{Lent, lent}
 use Rattle.map.specs.Ticket.{edgesOfFace}
 use Rattle.head.specs.Heads.{headIn}
 use Rattle.abi.proofs.solgwid_edges_of_face.Statement.{statement}

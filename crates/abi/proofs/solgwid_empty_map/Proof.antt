@@ -3,8 +3,7 @@ use borrow.Author.Needs.{needs}
 use mathlib.Core.Path.{ap, _∙_}
 use lib.IntN.{pos}
 use Rattle.map.specs.declared.Head.{Head}
-use Rattle.map.specs.Rows.{Lent}
-use Rattle.form_ranges.specs.Ranges.{lent}
+use Rattle.map.specs.Rows.{Lent, lent}
 use Rattle.map.specs.Ticket.{emptied}
 use Rattle.abi.proofs.Values.{emptied-told}
 use Rattle.abi.proofs.solgwid_empty_map.Statement.{statement}

@@ -3,8 +3,7 @@ use borrow.Author.Needs.{needs}
 use mathlib.Core.Path.{sym, subst}
 use lib.IntN.{pos}
 use Rattle.map.specs.declared.Head.{Head}
-use Rattle.map.specs.Rows.{Lent}
-use Rattle.form_ranges.specs.Ranges.{lent}
+use Rattle.map.specs.Rows.{Lent, lent}
 use Rattle.ticket_lists.specs.Runs.{Runs}
 use Rattle.head.specs.Heads.{headIn}
 use Rattle.abi.proofs.Values.{runs-told}

@@ -6,8 +6,7 @@ use mir.Syntax.{w64}
 use mir.Val.{toZ, ofZ}
 use mir.Facts.{toZ-ofZ}
 use Rattle.map.specs.declared.Head.{Head}
-use Rattle.map.specs.Rows.{Lent}
-use Rattle.form_ranges.specs.Ranges.{lent}
+use Rattle.map.specs.Rows.{Lent, lent}
 use Rattle.map.specs.Ticket.{ticket}
 use Rattle.abi.proofs.solgwid_ticket.Statement.{statement}
 use Rattle.abi.proofs.solgwid_ticket.Tie as tie

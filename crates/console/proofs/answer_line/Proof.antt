@@ -6,8 +6,8 @@ use Prim.Native.Nat.{_≤_}
 use lib.IntN.{pos}
 use lib.ListN.{length, take, replicate}
 use lib.Seq.{length-take-le}
+use Rattle.map.specs.Rows.{lent}
 use Rattle.map.specs.Ticket.{ticket}
-use Rattle.form_ranges.specs.Ranges.{lent}
 use Rattle.text.specs.Lines.{lineNumbers}
 use Rattle.console.specs.Lines.{lineTicket, lineAnswered}
 use Rattle.console.proofs.Lines.{parsed-numbers}

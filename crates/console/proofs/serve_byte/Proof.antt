@@ -3,7 +3,7 @@ use borrow.Author.Needs.{needs}
 use mathlib.Core.Path.{sym}
 use native.Mathlib.Omega.{arith}
 use lib.Seq.{length-take-le}
-use Rattle.form_ranges.specs.Ranges.{lent}
+use Rattle.map.specs.Rows.{lent}
 use Rattle.console.proofs.Lines.{line-ended, line-longer, line-full}
 use Rattle.console.proofs.serve_byte.Statement.{statement}
 use Rattle.console.proofs.serve_byte.Tie as tie

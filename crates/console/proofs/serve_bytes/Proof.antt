@@ -7,7 +7,7 @@ use native.Mathlib.Omega.{arith}
 use lib.ListN.{length, getD, drop, drop-of-length-le}
 use lib.Seq.{drop-cons}
 use Rattle.lists.specs.Scans.{fold}
-use Rattle.form_ranges.specs.Ranges.{lent}
+use Rattle.map.specs.Rows.{lent}
 use Rattle.console.specs.Lines.{Desk, deskOf, keptBytes, served}
 use Rattle.console.proofs.serve_bytes.Statement.{statement}
 use Rattle.console.proofs.serve_bytes.Tie as tie

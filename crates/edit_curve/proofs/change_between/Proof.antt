@@ -4,12 +4,11 @@ use borrow.Author.Needs.{needs}
 use mathlib.Core.Path.{_≡_, sym, _∙_}
 use native.Mathlib.Omega.{arith}
 use lib.IntN.{pos}
-use Rattle.map.specs.Rows.{mapOf, sizesOf}
+use Rattle.map.specs.Rows.{mapOf, sizesOf, lent}
 use Rattle.map.specs.Tickets.{ChangeEdgeGeom}
 use Rattle.map.specs.Reasons.{firstReason, reasons}
 use Rattle.map_rows.specs.Rows.{edgeAt}
 use Rattle.map_rows.proofs.Rows.{edge-row-of}
-use Rattle.form_ranges.specs.Ranges.{lent}
 use Rattle.outcomes.proofs.Formed.{edge-rows, decided-refused, decided-carried}
 use Rattle.edge_rows.proofs.Formed.{held}
 use Rattle.edit_curve.proofs.ChangeReasons.{change-run}

@@ -9,9 +9,9 @@ use lib.IntN.{pos}
 use lib.ListN.{getD, drop}
 use mir.Syntax.{w64}
 use mir.Val.{ofZ}
+use Rattle.map.specs.Rows.{lent}
 use Rattle.map.specs.Tickets.{kinds}
 use Rattle.map.specs.Ticket.{ticket}
-use Rattle.form_ranges.specs.Ranges.{lent}
 use Rattle.edit_dispatch.specs.Shaped.{shaped}
 use Rattle.edit_dispatch.proofs.Reading.{ticket-kind, ticket-unknown, ticket-empty}
 use Rattle.edit_dispatch.proofs.edit.Statement.{statement}

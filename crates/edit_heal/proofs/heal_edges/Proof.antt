@@ -10,11 +10,10 @@ use Rattle.lists.specs.Tables.{place}
 use Rattle.lists.specs.declared.Found.{Found}
 use Rattle.lists.proofs.Bools.{or-right}
 use Rattle.map.specs.Limits.{edgeWidth}
-use Rattle.map.specs.Rows.{mapOf}
+use Rattle.map.specs.Rows.{mapOf, lent}
 use Rattle.map.specs.Reasons.{noEdge}
 use Rattle.tables.specs.Tables.{sameZ, column}
 use Rattle.map_rows.proofs.Rows.{edge-rows-rising}
-use Rattle.form_ranges.specs.Ranges.{lent}
 use Rattle.outcomes.specs.Outcomes.{decided}
 use Rattle.outcomes.specs.Variants.{healTicket}
 use Rattle.outcomes.proofs.Formed.{edge-rows, counted, decided-refused, edge-none}

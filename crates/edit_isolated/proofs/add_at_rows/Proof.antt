@@ -6,12 +6,11 @@ use native.Mathlib.Omega.{arith}
 use lib.IntN.{pos}
 use lib.Signed.{nonNeg}
 use Rattle.integers.specs.Signs.{sent}
-use Rattle.map.specs.Rows.{mapOf, sizesOf}
+use Rattle.map.specs.Rows.{mapOf, sizesOf, lent}
 use Rattle.map.specs.Tickets.{AddIsoEdge}
 use Rattle.map.specs.Reasons.{firstReason, reasons}
 use Rattle.map_rows.specs.Rows.{nodeAt}
 use Rattle.map_rows.proofs.Rows.{node-row-of}
-use Rattle.form_ranges.specs.Ranges.{lent}
 use Rattle.outcomes.proofs.Formed.{node-rows, edge-next, decided-refused, decided-carried}
 use Rattle.outcomes.proofs.Words.{count-read}
 use Rattle.edge_rows.proofs.Formed.{held}

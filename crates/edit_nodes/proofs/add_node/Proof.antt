@@ -16,10 +16,9 @@ use Rattle.lists.specs.Tests.{same}
 use Rattle.integers.specs.Signs.{sent}
 use Rattle.curves.specs.Curves.{point}
 use Rattle.map.specs.Limits.{nodeWidth}
-use Rattle.map.specs.Rows.{Map, mapOf, counts}
+use Rattle.map.specs.Rows.{Map, mapOf, counts, lent}
 use Rattle.map.specs.Faces.{faceOfPoint}
 use Rattle.map.specs.Reasons.{firstReason, minusOne}
-use Rattle.form_ranges.specs.Ranges.{lent}
 use Rattle.head.specs.Heads.{sizesIn, roomAt}
 use Rattle.head.proofs.Heads.{room-told, room-left}
 use Rattle.outcomes.proofs.Formed.{edge-rows, nodes-size, counted, decided-refused, decided-carried}

@@ -7,10 +7,9 @@ use mir.Syntax.{w64}
 use mir.Facts.{toZ-ofZ}
 use borrow.Author.Tests.{not-false}
 use Rattle.curves.specs.Curves.{point}
-use Rattle.map.specs.Rows.{mapOf}
+use Rattle.map.specs.Rows.{mapOf, lent}
 use Rattle.map.specs.Reasons.{firstReason, minusOne, noFace, outside}
 use Rattle.map.proofs.Reasons.{first-hit, first-miss, first-none}
-use Rattle.form_ranges.specs.Ranges.{lent}
 use Rattle.outcomes.proofs.Formed.{node-rows, edge-rows, face-rows, counted}
 use Rattle.head.proofs.Words.{nodes-natural, nodes-read, edges-natural, edges-read, faces-natural, faces-read}
 use Rattle.edit_nodes.specs.Parts.{addEarly}

@@ -9,10 +9,10 @@ use mir.Facts.{toZ-ofZ}
 use Rattle.lists.specs.Tables.{place}
 use Rattle.lists.specs.declared.Found.the-variants.{At}
 use Rattle.map.specs.Limits.{nodeWidth}
+use Rattle.map.specs.Rows.{lent}
 use Rattle.map.specs.Tickets.{MoveIsoNode}
 use Rattle.tables.specs.Tables.{sameZ, column}
 use Rattle.map_rows.proofs.Rows.{node-rows-rising}
-use Rattle.form_ranges.specs.Ranges.{lent}
 use Rattle.outcomes.specs.Outcomes.{decided}
 use Rattle.outcomes.proofs.Formed.{node-rows, counted, decided-refused}
 use Rattle.head.proofs.Words.{nodes-natural, nodes-read}

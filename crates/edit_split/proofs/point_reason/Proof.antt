@@ -10,8 +10,7 @@ use mir.Syntax.{w64}
 use mir.Facts.{toZ-ofZ}
 use Rattle.curves.specs.Curves.{point, coordinate}
 use Rattle.curves.specs.Tests.{onCurve}
-use Rattle.map.specs.Reasons as reasons
-use Rattle.map.specs.Reasons.{firstReason, outside}
+use Rattle.map.specs.Reasons.{firstReason, outside, anyNodeAt}
 use Rattle.map.proofs.Reasons.{first-hit, first-miss, first-none}
 use Rattle.map_rows.specs.Rows.{edgeAt, nodesOf}
 use Rattle.reason_curves.proofs.Others.{node-at-all}
@@ -33,11 +32,11 @@ point-is c = let s = c .before .before .before in
 
 taken : (c : tie.After-node-at) {v : Bool} → c .node-at .result ≡ v
     → let a = c .before .before .before .before .args in
-    reasons.anyNodeAt (nodesOf (a .nodes .now) (a .n)) (point (a .x) (a .y)) ≡ v
+    anyNodeAt (nodesOf (a .nodes .now) (a .n)) (point (a .x) (a .y)) ≡ v
 taken c e =
     let p = c .before in
     let a = p .before .before .before .args in
-    ap (reasons.anyNodeAt (nodesOf (a .nodes .now) (a .n))) (sym (point-is p))
+    ap (anyNodeAt (nodesOf (a .nodes .now) (a .n))) (sym (point-is p))
     ∙ sym (node-at-all (a .nodes .now) (a .n) (a .n) (p .point-of .result) (omega arith)) ∙ sym (c .node-at .ensures)
     ∙ e
 

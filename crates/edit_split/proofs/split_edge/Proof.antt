@@ -10,8 +10,8 @@ use Rattle.lists.specs.Tables.{place}
 use Rattle.lists.specs.declared.Found.the-variants.{At}
 use Rattle.map.specs.Limits.{edgeWidth}
 use Rattle.tables.specs.Tables.{sameZ, column}
+use Rattle.map.specs.Rows.{lent}
 use Rattle.map_rows.proofs.Rows.{edge-rows-rising}
-use Rattle.form_ranges.specs.Ranges.{lent}
 use Rattle.outcomes.specs.Outcomes.{decided}
 use Rattle.outcomes.specs.Variants.{splitTicket}
 use Rattle.outcomes.proofs.Formed.{edge-rows, counted, decided-refused}

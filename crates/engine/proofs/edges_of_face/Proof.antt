@@ -4,8 +4,8 @@ use mathlib.Core.Path.{ap, _∙_}
 use lib.IntN.{ℤ}
 use mir.Syntax.{w64}
 use mir.Facts.{toZ-ofZ}
+use Rattle.map.specs.Rows.{lent}
 use Rattle.map.specs.Ticket.{edgesOfFace}
-use Rattle.form_ranges.specs.Ranges.{lent}
 use Rattle.engine.proofs.edges_of_face.Statement.{statement}
 use Rattle.engine.proofs.edges_of_face.Tie as tie
 

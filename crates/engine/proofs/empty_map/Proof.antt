@@ -2,7 +2,7 @@
 use borrow.Author.Needs.{needs}
 use borrow.Author.Tests.{not-true, not-false}
 use mathlib.Core.Path.{refl, sym, ap, _∙_}
-use Rattle.form_ranges.specs.Ranges.{lent}
+use Rattle.map.specs.Rows.{lent}
 use Rattle.outcomes.specs.Outcomes.{outcome}
 use Rattle.outcomes.proofs.Formed.{done}
 use Rattle.engine.proofs.Empty.{emptied-done, emptied-refused}

@@ -3,8 +3,7 @@ use borrow.Author.Needs.{needs}
 use borrow.Author.Tests.{not-true, not-false}
 use mathlib.Core.Path.{_≡_, sym, ap, _∙_}
 use mathlib.Core.Bool.{true}
-use Rattle.map.specs.Rows.{whole}
-use Rattle.form_ranges.specs.Ranges.{lent}
+use Rattle.map.specs.Rows.{whole, lent}
 use Rattle.outcomes.specs.Outcomes.{outcome}
 use Rattle.engine.proofs.Answers.{ticket-1, ticket-2}
 use Rattle.engine.proofs.ticket.Statement.{statement}

@@ -19,7 +19,7 @@ use Rattle.tables.specs.Tables.{sameZ, column, Rising}
 use Rattle.map.specs.declared.Answer.{Answer}
 use Rattle.map.specs.declared.Head.{Head}
 use Rattle.map.specs.Limits.{faceWidth}
-use Rattle.map.specs.Rows.{whole, mapOf}
+use Rattle.map.specs.Rows.{whole, mapOf, lent}
 use Rattle.map.specs.Form.{inForm}
 use Rattle.map.specs.Reasons.{noFace}
 use Rattle.map.specs.Ticket.{faceEdges}
@@ -27,7 +27,6 @@ use Rattle.map.specs.declared.Counts.{Counts}
 use Rattle.map_rows.specs.Rows.{edgeMap}
 use Rattle.map_rows.proofs.Rows.{face-rows-rising}
 use Rattle.head.specs.Heads.{countsOf}
-use Rattle.form_ranges.specs.Ranges.{lent}
 use Rattle.form_ranges.proofs.Parts.{face-rows}
 use Rattle.form_links.proofs.Words.{flipped}
 use Rattle.form.proofs.Parts.{InForm, in-form-known, in-form-natural}

@@ -11,10 +11,9 @@ use mir.Val.{ofZ, toZ}
 use mir.Facts.{toZ-ofZ}
 use Rattle.integers.specs.Signs.{sent}
 use Rattle.map.specs.declared.Counts.{Counts}
-use Rattle.map.specs.Rows.{mapOf}
+use Rattle.map.specs.Rows.{mapOf, lent}
 use Rattle.map_rows.specs.Rows.{nodesOf, edgesOf, facesOf}
 use Rattle.map_rows.proofs.Rows.{faces-length}
-use Rattle.form_ranges.specs.Ranges.{lent}
 use Rattle.outcomes.specs.declared.Done.{Done}
 use Rattle.head.proofs.Words.{is-natural, count-abs, counts-natural}
 use Rattle.face_rows.specs.Holds.{faceKept}

@@ -11,12 +11,11 @@ use mir.Facts.{toZ-ofZ}
 use Rattle.integers.specs.Order.{sgn}
 use Rattle.plane.specs.Areas.{isPositive}
 use Rattle.map.specs.declared.Counts.{Counts}
-use Rattle.map.specs.Rows.{mapOf}
+use Rattle.map.specs.Rows.{mapOf, lent}
 use Rattle.map.specs.Darts.{ring}
 use Rattle.map.specs.Faces.{ringArea}
 use Rattle.map_rows.specs.Rows.{nodesOf, edgesOf, edgeMap}
 use Rattle.darts.specs.Positions.{dartAt}
-use Rattle.form_ranges.specs.Ranges.{lent}
 use Rattle.face_relabel.specs.Sharing.{ShareableFace}
 use Rattle.head.proofs.Words.{is-natural, count-back, counts-natural}
 use Rattle.face_rows.specs.Holds.{sidesOf}

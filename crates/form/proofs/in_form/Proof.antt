@@ -2,11 +2,12 @@
 use mathlib.Core.Path.{_≡_, sym, ap, _∙_, subst}
 use mathlib.Core.Bool.{true, false, _&&_}
 use native.Mathlib.Omega.{arith}
+use Rattle.map.specs.Rows.{lent}
 use Rattle.map.specs.Form.{countsFit, nextsFit, formed}
 use Rattle.map.specs.declared.Counts.{Counts}
 use Rattle.curves.proofs.Runs.{and-left, and-right}
 use Rattle.head.specs.Heads.{countsOf}
-use Rattle.form_ranges.specs.Ranges.{lent, mapIn, rangedRows, HeadFits}
+use Rattle.form_ranges.specs.Ranges.{mapIn, rangedRows, HeadFits}
 use Rattle.form_ranges.proofs.Parts.{counted, counts-natural}
 use Rattle.form_links.proofs.Words.{flipped}
 use Rattle.form.proofs.Parts.{unfit-head, unranged, by-formed, whole-room, sizes-are}

@@ -15,8 +15,7 @@ use Rattle.planar_maps.specs.Map.{Dart}
 use Rattle.rotation.specs.Law.{Apart}
 use Rattle.rotation.proofs.Ways.{alike-is}
 use Rattle.rotation.proofs.Order.{sameWay-sym}
-use Rattle.geometry.specs.Drawing as drawing
-use Rattle.geometry.specs.Drawing.{ClearCurves}
+use Rattle.geometry.specs.Drawing.{ClearCurves, GoodCurve}
 use Rattle.geometry.specs.Meaning.{Some}
 use Rattle.geometry.proofs.Drawing.{clear-sym}
 use Rattle.geometry.proofs.Theorems.{departures-differ, closed-differ, reverse-ways}
@@ -27,8 +26,8 @@ use Rattle.map_laws.proofs.Readings.{tailIn, courseIn, leaves-row, course-row, 
 use Rattle.grown.specs.Good.{Surveyed}
 
 module _ (m : Map) (s : Surveyed m) where
-  pub curve-good : (r : Edge) → List·Memᴰ r (m .edges) → drawing.GoodCurve (r .curve)
-  curve-good r k = each-of drawing.GoodCurve (map (λ (e : Edge). e .curve) (m .edges)) (s .drawn .good) (r .curve)
+  pub curve-good : (r : Edge) → List·Memᴰ r (m .edges) → GoodCurve (r .curve)
+  curve-good r k = each-of GoodCurve (map (λ (e : Edge). e .curve) (m .edges)) (s .drawn .good) (r .curve)
       (Memᴰ·map (λ (e : Edge). e .curve) k)
 
   pub curve-long : (r : Edge) → List·Memᴰ r (m .edges) → 2 ≤ length (points (r .curve))

@@ -17,8 +17,7 @@ use Rattle.curves.specs.Curves.{lastPoint}
 use Rattle.curves.specs.Tests.{onCurve}
 use Rattle.curves.specs.Edits.{front, back}
 use Rattle.geometry.specs.Spots.{spot}
-use Rattle.geometry.specs.Drawing as geometry
-use Rattle.geometry.specs.Drawing.{OnCurve, Drawn}
+use Rattle.geometry.specs.Drawing.{OnCurve, Drawn, GoodCurve}
 use Rattle.geometry.proofs.Drawing.{take}
 use Rattle.geometry.proofs.Edits.{split-new, split-mod}
 use Rattle.geometry.proofs.Theorems.{cut-ends, onCurve-iff}
@@ -57,7 +56,7 @@ module _ (ls : List Line) (ps : List Place) (l : Line) (n a b : ℕ) (p : Point)
   old : Drawn (map curveIn (h .before) ++ (l .curve ∷ map curveIn (h .after)))
   old = subst Drawn (ap (map curveIn) (h .is) ∙ map-append curveIn (h .before) (l ∷ h .after)) (S .drawn)
 
-  good : geometry.GoodCurve (l .curve)
+  good : GoodCurve (l .curve)
   good = take (map curveIn (h .before)) (map curveIn (h .after)) (l .curve) old .good
 
   there : List·Memᴰ place (ps ++ (place ∷ []))

@@ -13,7 +13,7 @@ use Rattle.lists.proofs.Lookups.{Located, located}
 use Rattle.lists.proofs.Members.{between-cases}
 use Rattle.curves.specs.Curves.{Curve, lastPoint, points, maxPoints}
 use Rattle.curves.specs.Edits.{joined, course}
-use Rattle.geometry.specs.Drawing.{NoEnd, ClearCurves, Drawn}
+use Rattle.geometry.specs.Drawing.{NoEnd, ClearCurves, Drawn, GoodCurve}
 use Rattle.geometry.proofs.Drawing.{Taken, take, put-taken, heal-taken, good-course, clear-course, clear-sym, all-take}
 use Rattle.geometry.proofs.Theorems.{join-last}
 use Rattle.geometry.proofs.Turning.{last-turned}
@@ -21,7 +21,6 @@ use Rattle.map_laws.proofs.Readings.{without}
 use Rattle.grown.proofs.Curves.Kept.{kept-course, kept-joined}
 use Rattle.grown.proofs.Curves.Survey.{Line, Place, curveIn, placeNumber, lineNumber, Sited, Survey}
 use Rattle.grown.proofs.Curves.Sites.{number-one, point-one, unplot, Clear, sited-without}
-use Rattle.geometry.specs.Drawing as geometry
 
 -- the place where a line, taken one way round or the other, leaves and the one where it arrives
 abbrev pub tailPlace : Bool → Line → Place
@@ -159,10 +158,10 @@ module _ (ls : List Line) (ps : List Place) (n e : ℕ) (s : Bool) (c : Line) (t
   taken-d : Taken (d .curve) (us ++ vs)
   taken-d = take us vs (d .curve) (subst Drawn around-d (taken-c .drawn))
 
-  good-c : geometry.GoodCurve c′
+  good-c : GoodCurve c′
   good-c = good-course s (c .curve) (taken-c .good)
 
-  good-d : geometry.GoodCurve d′
+  good-d : GoodCurve d′
   good-d = good-course t (d .curve) (taken-d .good)
 
   clear : ClearCurves c′ d′

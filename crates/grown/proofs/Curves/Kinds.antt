@@ -52,7 +52,8 @@ module _ (m : Map) (G : Good m) where
       samePoint-differ (w .0 .at) p (none-has (λ n. samePoint (n .at) p) (m .nodes) h (w .0) (w .1)) (w .2)
 
   -- nor does another node
-  free-other : (n : ℕ) (p : Point) → anyNodeAt (withoutNode n (m .nodes)) p ≡ false → (q : Place) → List·Memᴰ q (places m)
+  free-other : (n : ℕ) (p : Point) → anyNodeAt (withoutNode n (m .nodes)) p ≡ false → (q : Place)
+      → List·Memᴰ q (places m)
       → q .number ≢ n → q .at ≢ p
   unfolding anyNodeAt
   free-other n p h q k d e =

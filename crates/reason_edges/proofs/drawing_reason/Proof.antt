@@ -6,12 +6,11 @@ use native.Mathlib.Omega.{arith}
 use lib.IntN.{natAbs}
 use Rattle.integers.specs.Signs.{sent}
 use Rattle.curves.specs.Curves.{Run, curveOf}
-use Rattle.map.specs.Rows.{mapOf}
+use Rattle.map.specs.Rows.{mapOf, lent}
 use Rattle.map.specs.Reasons.{firstReason, directionTaken}
 use Rattle.map_rows.specs.Rows.{nodeAt, edgeMap}
 use Rattle.map_rows.proofs.Rows.{node-row-of}
 use Rattle.head.proofs.Words.{nodes-natural, nodes-read, edges-natural, edges-read}
-use Rattle.form_ranges.specs.Ranges.{lent}
 use Rattle.outcomes.proofs.Formed.{counted, node-rows}
 use Rattle.reason_curves.specs.Sent.{sentReasons}
 use Rattle.reason_edges.proofs.Drawing.{number-cell, run-early, rows-read, own-none, drawn-early, drawn-taken}

@@ -8,13 +8,12 @@ use mir.Syntax.{w64}
 use mir.Val.{toZ, ofZ}
 use Rattle.integers.specs.Signs.{sent}
 use Rattle.curves.specs.Curves.{curveOf, startWay}
-use Rattle.map.specs.Rows.{mapOf}
+use Rattle.map.specs.Rows.{mapOf, lent}
 use Rattle.map.specs.Links.{cornerFace}
 use Rattle.map.specs.Reasons.{firstReason}
 use Rattle.map_rows.specs.Rows.{nodeAt}
 use Rattle.map_rows.proofs.Rows.{node-row-of}
 use Rattle.head.proofs.Words.{edges-natural, edges-read}
-use Rattle.form_ranges.specs.Ranges.{lent}
 use Rattle.outcomes.proofs.Formed.{node-rows, counted}
 use Rattle.reason_edges.specs.Parts.{drawingReasons}
 use Rattle.reason_edges.proofs.Drawing.{rows-read, edges-are, edges-rise}

@@ -50,12 +50,12 @@ use denote.Exit.{yes}
 use borrow.Author.Needs.{sfits-of}
 use Rattle.map.specs.declared.Answer.{Answer}
 use Rattle.map.specs.declared.Head.{Head}
+use Rattle.map.specs.Rows.{lent}
 use Rattle.map.specs.Ticket.{edgesOfFace}
 use Rattle.map.proofs.Head as S
 use Rattle.map.proofs.Head.Laws as S′
 use Rattle.map.proofs.Answer as U
 use Rattle.map.proofs.Answer.Laws as U′
-use Rattle.form_ranges.specs.Ranges.{lent}
 use Rattle.records.proofs.Heads.{vals, said-last, frees-local, relends}
 use Rattle.engine.proofs.edges_of_face as g
 use Rattle.engine.proofs.edges_of_face.Symbol as g-def

@@ -42,12 +42,12 @@ use denote.Triple.Table.{entered, cited}
 use denote.Triple.Walked.{says, Stays, gave-slice, stay-ref, walkOf, AllGo, goes-gave-slice, goes-ref, Walks, ends-at}
 use denote.Triple.Walked.{walked, walk-meets}
 use Rattle.map.specs.declared.Head.{Head}
+use Rattle.map.specs.Rows.{lent}
 use Rattle.map.specs.Ticket.{emptied}
 use Rattle.map.proofs.Head as S
 use Rattle.map.proofs.Head.Laws as S′
 use Rattle.map.proofs.Answer as U
 use Rattle.map.proofs.Answer.Laws as U′
-use Rattle.form_ranges.specs.Ranges.{lent}
 use Rattle.outcomes.specs.declared.Done.{Done}
 use Rattle.outcomes.specs.Outcomes.{outcome}
 use Rattle.outcomes.proofs.Done as D

@@ -44,12 +44,12 @@ use denote.Triple.Walked.{says, Stays, gave-slice, stay-ref, stay-none-slice, wa
 use denote.Triple.Walked.{goes-none-slice, Walks, ends-at, walked, walk-meets}
 use denote.Exit.{yes}
 use Rattle.map.specs.declared.Head.{Head}
+use Rattle.map.specs.Rows.{lent}
 use Rattle.map.specs.Ticket.{ticket}
 use Rattle.map.proofs.Head as S
 use Rattle.map.proofs.Head.Laws as S′
 use Rattle.map.proofs.Answer as U
 use Rattle.map.proofs.Answer.Laws as U′
-use Rattle.form_ranges.specs.Ranges.{lent}
 use Rattle.outcomes.specs.declared.Done.{Done}
 use Rattle.outcomes.specs.Outcomes.{outcome}
 use Rattle.outcomes.proofs.Done as D

@@ -52,12 +52,12 @@ use denote.Triple.Walked.{goes-gave-slice, goes-slice, goes-ref, goes-none-slice
 use denote.Exit.{yes}
 use Rattle.lists.specs.Tables.{table}
 use Rattle.map.specs.declared.Head.{Head}
+use Rattle.map.specs.Rows.{lent}
 use Rattle.map.specs.Ticket.{ticket}
 use Rattle.map.proofs.Head as S
 use Rattle.map.proofs.Head.Laws as S′
 use Rattle.map.proofs.Answer as B
 use Rattle.map.proofs.Answer.Laws as B′
-use Rattle.form_ranges.specs.Ranges.{lent}
 use Rattle.outcomes.specs.declared.Done.{Done}
 use Rattle.outcomes.specs.Outcomes.{outcome}
 use Rattle.outcomes.proofs.Done as D

@@ -56,11 +56,11 @@ use denote.Triple.Walked.{goes-gave-ref, goes-none-slice, Walks, ends-at, walked
 use denote.Exit.{yes}
 use Rattle.map.specs.declared.Head.{Head}
 use Rattle.map.specs.declared.Answer.{Answer}
+use Rattle.map.specs.Rows.{lent}
 use Rattle.map.specs.Ticket.{Outcome, ticket}
 use Rattle.map.proofs.Head as S
 use Rattle.map.proofs.Answer as B
 use Rattle.map.proofs.Answer.Laws as B′
-use Rattle.form_ranges.specs.Ranges.{lent}
 use Rattle.records.specs.declared.Node.{Node}
 use Rattle.records.specs.Records.{nodeTable}
 use Rattle.records.proofs.Heads.{vals, slice-last, ref-last, relends}

@@ -6,10 +6,9 @@ use mathlib.Core.Bool.{true}
 use lib.Dec.{ltb}
 use lib.ListN.{length}
 use Rattle.lists.proofs.Bools.{or-false}
-use Rattle.map.specs.Rows.{whole}
+use Rattle.map.specs.Rows.{whole, lent}
 use Rattle.map.specs.Ticket.{Outcome, emptied}
 use Rattle.map.specs.Grow.{after}
-use Rattle.form_ranges.specs.Ranges.{lent}
 use Rattle.ticket_lists.specs.Runs.{ticketsOf}
 use Rattle.ticket_lists.proofs.Answers.{runs-1, runs-20, runs-0}
 use Rattle.ticket_lists.proofs.run.Statement.{statement}

@@ -9,9 +9,9 @@ use lib.ListN.{length, take, drop, length-set}
 use mir.Syntax.{w64}
 use mir.Val.{SFits}
 use mir.Facts.{toZ-ofZ}
+use Rattle.map.specs.Rows.{lent}
 use Rattle.map.specs.Ticket.{ticket}
 use Rattle.map.specs.Grow.{after}
-use Rattle.form_ranges.specs.Ranges.{lent}
 use Rattle.outcomes.specs.Outcomes.{outcome}
 use Rattle.ticket_lists.specs.Runs.{ticketsOf}
 use Rattle.ticket_lists.proofs.Turns.{Left, left-all, left-next, left-none}
