@@ -2,7 +2,7 @@
 -- with zeros behind. What a call on them answers: turned down by the first reason, or the map carried out. Assumes
 -- nothing.
 use mathlib.Core.Path.{_≡_, refl, ap, _∙_}
-use mathlib.Core.Bool.{true, false, _&&_, _||_}
+use mathlib.Core.Bool.{true, false, _&&_}
 use mathlib.Core.List.{List, [], _∷_, map, flatMap}
 use Prim.Native.Nat.{ℕ, zero, suc, _+_, _*_, _/_, _≤_, _<_}
 use native.Mathlib.Omega.{arith}
@@ -24,7 +24,7 @@ use Rattle.map.specs.declared.Counts.{Counts}
 use Rattle.map.specs.declared.Head.{Head}
 use Rattle.map.specs.Limits.{maxNodes, maxEdges, maxFaces, lastNumber, nodeWidth, edgeWidth, faceWidth}
 use Rattle.map.specs.Rows.{Edge, Map, Lent, Sizes, mapOf, lentOf, sizesOf, headOf, nodeCells, edgeCells, faceCells}
-use Rattle.map.specs.Rows.{whole, hasNode, hasEdge, hasFace, counts, lent}
+use Rattle.map.specs.Rows.{whole, hasNode, hasEdge, hasFace, lent}
 use Rattle.map.specs.Form.{numbers, inFace, edgeNames, named, ranged, formed, inForm}
 use Rattle.map.specs.Tickets.{Ticket}
 use Rattle.map.specs.Reasons.{firstReason, reasons, full, spent, roomReasons, noNode, noEdge}
@@ -233,35 +233,7 @@ module _ {nodes edges faces : List ℤ} {h : Head} (f : Formed nodes edges faces
   pub edges-are-wide : Wide edgeWidth edgeCells (edgesOf edges (natAbs (h .edges)))
   edges-are-wide = table-edges-wide edges (natAbs (h .edges)) edges-fit (ranges .edge-rows)
 
-  -- ---- 20 and 21: what no table lacks room or numbers for
-
-  pub full-is : (a b c : ℕ) → full (sizesOf (lent nodes edges faces h)) (mapOf (lent nodes edges faces h))
-      (counts a b c)
-      ≡ ltb (length nodes / nodeWidth) (natAbs (h .nodes) + a)
-      || ltb (length edges / edgeWidth) (natAbs (h .edges) + b)
-      || ltb (length faces / faceWidth) (natAbs (h .faces) + c)
-  unfolding mapOf
-  full-is a b c = rw (
-    nodes-length nodes (natAbs (h .nodes)),
-    edges-length edges (natAbs (h .edges)),
-    faces-length faces (natAbs (h .faces)),
-  )
-
-  pub spent-is : (a b c : ℕ) → spent (mapOf (lent nodes edges faces h)) (counts a b c)
-      ≡ ltb (suc lastNumber) (natAbs (h .«next_node») + a) || ltb (suc lastNumber) (natAbs (h .«next_edge») + b)
-      || ltb (suc lastNumber) (natAbs (h .«next_face») + c)
-  unfolding mapOf
-  spent-is a b c = refl
-
-  -- no more rows, and no more numbers
-  pub nodes-room : ltb (length nodes / nodeWidth) (natAbs (h .nodes) + 0) ≡ false
-  nodes-room = le-ltb (length nodes / nodeWidth) (natAbs (h .nodes) + 0) (omega (arith, nodes-count .2))
-
-  pub edges-room : ltb (length edges / edgeWidth) (natAbs (h .edges) + 0) ≡ false
-  edges-room = le-ltb (length edges / edgeWidth) (natAbs (h .edges) + 0) (omega (arith, edges-count .2))
-
-  pub faces-room : ltb (length faces / faceWidth) (natAbs (h .faces) + 0) ≡ false
-  faces-room = le-ltb (length faces / faceWidth) (natAbs (h .faces) + 0) (omega (arith, faces-count .2))
+  -- ---- 21: no more numbers
 
   pub node-left : ltb (suc lastNumber) (natAbs (h .«next_node») + 0) ≡ false
   node-left = le-ltb (suc lastNumber) (natAbs (h .«next_node») + 0) (omega (arith, node-next .2))
@@ -272,7 +244,8 @@ module _ {nodes edges faces : List ℤ} {h : Head} (f : Formed nodes edges faces
   pub face-left : ltb (suc lastNumber) (natAbs (h .«next_face») + 0) ≡ false
   face-left = le-ltb (suc lastNumber) (natAbs (h .«next_face») + 0) (omega (arith, face-next .2))
 
-  -- 20 and 21 of the map are those that are read from the head
+  -- ---- 20 and 21 of the map are those that are read from the head
+
   pub full-at : (rows : Counts) → fullAt (sizesIn nodes edges faces) h rows
       ≡ full (sizesOf (lent nodes edges faces h)) (mapOf (lent nodes edges faces h)) rows
   unfolding mapOf fullAt
