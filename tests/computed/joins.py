@@ -12,14 +12,14 @@ from .scratch import Case, Claim
 
 CRATES = ('joining',)
 HEADER = """use Rattle.map.specs.Ticket.{Outcome}
-use Rattle.joining.specs.Join.{joined}
+use Rattle.joining.specs.Join.{joinedSheet}
 """
 REFUSALS = (0, 1, 2, 6, 7, 11, 12, 14, 15, 20, 21)     # what kinds 1, 8 and 12 can get on places and rows that exist
 
 
 def call(first, second):
     t, h, r, v = jn.join(*first, *second, 0)
-    left = f'joined ({antt.sheet(*first)}) ({antt.sheet(*second)})'
+    left = f'joinedSheet ({antt.sheet(*first)}) ({antt.sheet(*second)})'
     return Case('call', lent.said(lent.tables(*first), lent.tables(*second)),
                 (Claim(left, antt.outcome(antt.sheet(t, h), r, v), 'Outcome'),), (('joined', r),))
 
