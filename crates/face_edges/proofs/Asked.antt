@@ -1,17 +1,18 @@
 -- The call's answer, reason by reason, and what tables in form give the walks. Assumes nothing.
 use mathlib.Core.Path.{_≡_, refl, ap, ap₂, _∙_}
 use mathlib.Core.Bool.{Bool, true, false, cond, not, _&&_}
-use mathlib.Core.List.{List, [], _∷_, _++_, flatMap}
+use mathlib.Core.List.{List, [], _∷_, flatMap}
 use Prim.Native.Nat.{ℕ, zero, suc, _*_, _≤_}
 use native.Mathlib.Omega.{arith}
-use lib.Dec.{ltb}
+use lib.Dec.{T, ltb}
 use lib.IntN.{ℤ, pos, negsuc, natAbs}
-use lib.ListN.{length, drop}
+use lib.ListN.{length}
 use lib.Signed.{nonNeg}
 use Rattle.lists.specs.Tests.{same}
 use Rattle.lists.specs.Scans.{anyOf, keep}
 use Rattle.lists.specs.Tables.{place}
 use Rattle.lists.specs.declared.Found.the-variants.{At, Missing}
+use Rattle.lists.proofs.Bools.{≡→T}
 use Rattle.planar_maps.specs.Map.{Dart, Linked}
 use Rattle.planar_maps.specs.Rings.{sameDart}
 use Rattle.tables.specs.Tables.{sameZ, column}
@@ -21,8 +22,8 @@ use Rattle.map.specs.Rows.{Map, Lent, mapOf, whole, edge, lent}
 use Rattle.map.specs.Darts.{arcs, directed, leaves, next, bears, stepsTo, ring, lower, firsts}
 use Rattle.map.specs.Form.{formed, inForm}
 use Rattle.map.specs.Reasons.{firstReason, noFace}
-use Rattle.map.specs.Ticket.{Listed, ringNumbers, faceEdges, edgesOfFace}
-use Rattle.map_rows.specs.Rows.{faceAt, edgeMap}
+use Rattle.map.specs.Ticket.{Listed, ringNumbers, faceEdges, listUnless, edgesOfFace}
+use Rattle.map_rows.specs.Rows.{edgeMap}
 use Rattle.map_rows.proofs.Rows.{face-number-in}
 use Rattle.map_rows.proofs.Lookups.{face-found, face-missing}
 use Rattle.head.specs.Heads.{countsOf}
@@ -52,18 +53,10 @@ module _ (l : Lent) (f : ℤ) (list : List ℤ) where
       unfolding edgesOfFace firstReason
       face-missed e = rw (w, g, e)
 
-      module _ (k : noFace (mapOf l) f ≡ false) (written : List ℤ) (is : faceEdges (mapOf l) (natAbs f) ≡ written) where
-        pub no-room : ltb (length list) (length written) ≡ true → edgesOfFace l f list ≡ refused list 20
-        unfolding edgesOfFace firstReason
-        no-room e = rw (w, g, k, is, e)
-
-        pub listed : ltb (length list) (length written) ≡ false → edgesOfFace l f list
-            ≡ record {
-              list = written ++ drop (length written) list;
-              answer = record { refusal = 0; value = pos (length written) };
-            }
-        unfolding edgesOfFace firstReason
-        listed e = rw (w, g, k, is, e)
+      pub from-here : noFace (mapOf l) f ≡ false → (written : List ℤ) → faceEdges (mapOf l) (natAbs f) ≡ written
+          → edgesOfFace l f list ≡ listUnless list written (cond (ltb (length list) (length written)) 20 0)
+      unfolding edgesOfFace firstReason
+      from-here k written is = rw (w, g, k, is)
 
 -- ---- rings are read from the edges
 
@@ -133,13 +126,13 @@ module _ (nodes edges faces : List ℤ) (h : Head) where
     -- ---- the face
 
     pub face-there : (z : ℤ) (i : ℕ) → place (sameZ z) 0 (column faceWidth faces (natAbs (h .faces))) ≡ At i
-        → (z ≡ pos (faceAt faces i)) × (faceAt faces i ≤ 999999) × (noFace (mapOf (lent nodes edges faces h)) z ≡ false)
+        → T (nonNeg z) × (natAbs z ≤ 999999) × (noFace (mapOf (lent nodes edges faces h)) z ≡ false)
     face-there z i e =
         let r = face-rows (k .named .in-order) in
         let f = face-found faces (natAbs (h .faces)) (r .ranges) z i e in
         let n = face-number-in r i (f .0) .1 in (
-          f .1,
-          omega (arith, n),
+          ≡→T (nonNeg z) (ap nonNeg (f .1)),
+          omega (arith, n, ap natAbs (f .1)),
           ap (λ (m : Map). noFace m z) (map-is nodes edges faces h)
               ∙ ap₂ (λ (a b : Bool). not (a && b)) (ap nonNeg (f .1)) (f .2),
         )

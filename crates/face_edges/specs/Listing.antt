@@ -1,9 +1,10 @@
 -- Rings by position, as a pass over the positions finds them: which are marked, and what is left to write.
 use mathlib.Core.Path.{_≡_}
-use mathlib.Core.Bool.{Bool, true, not}
+use mathlib.Core.Bool.{Bool, true, not, cond}
 use mathlib.Core.Logic.{_⊎_}
 use mathlib.Core.List.{List, _++_, flatMap}
 use Prim.Native.Nat.{ℕ, _+_, _*_, _-_, _<_, _≤_}
+use lib.Dec.{ltb}
 use lib.IntN.{ℤ}
 use lib.ListN.{length, getD}
 use Rattle.lists.specs.Tests.{same}
@@ -13,7 +14,7 @@ use Rattle.lists.specs.Tables.{table}
 use Rattle.planar_maps.specs.Map.{Dart, Linked}
 use Rattle.planar_maps.specs.Pieces.{nums}
 use Rattle.map.specs.Darts.{arcs, leaves, next, bears, ring, among, lower}
-use Rattle.map.specs.Ticket.{ringNumbers}
+use Rattle.map.specs.Ticket.{ringNumbers, faceEdges, Listed, listUnless}
 use Rattle.map_rows.specs.Rows.{EdgeRows, edgeMap}
 use Rattle.darts.specs.Positions.{dartAt}
 
@@ -55,3 +56,8 @@ left l n f p = flatMap (λ d. ringNumbers (ring (edgeMap l n) d))
 abbrev pub Size : List ℤ → ℕ → ℕ → ℕ → ℕ → Type 0
 Size l n f p r = ((r ≡ 0) × (left l n f p ≡ left l n f (p + 1)))
     ⊎ ((r ≡ length (ringAt l n p) + 1) × (left l n f p ≡ ringNumbers (ringAt l n p) ++ left l n f (p + 1)))
+
+-- the list after the rings of the face are written from the front, where there is room for them, and the answer
+abbrev pub listRings : List ℤ → ℕ → ℕ → List ℤ → Listed
+listRings l n f list =
+    let written = faceEdges (edgeMap l n) f in listUnless list written (cond (ltb (length list) (length written)) 20 0)

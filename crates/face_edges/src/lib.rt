@@ -10,7 +10,7 @@ ghost use Rattle.map.specs.Limits.{lastNumber};
 ghost use Rattle.map.specs.Ticket.{faceEdges, edgesOfFace};
 ghost use Rattle.map.specs.Loans.{lentNow};
 ghost use Rattle.map_rows.specs.Rows.{edgeMap};
-ghost use Rattle.face_edges.specs.Listing.{Rings, Marked, Size};
+ghost use Rattle.face_edges.specs.Listing.{Rings, Marked, Size, listRings};
 
 // How many numbers the ring of p takes, where p is the first member of a ring of the face, and 0 elsewhere; the ring is
 // marked.
@@ -67,6 +67,21 @@ fn answered(refusal: u64, value: i64) -> Answer
     Answer { refusal, value }
 }
 
+// Lists the rings of the face from the front of the list, where there is room for them.
+fn list_rings(edges: &[i64], count: usize, face: usize, list: &mut [i64]) -> Answer
+    requires { ⌜ Rings (now edges) count × (face ≤ lastNumber) ⌝ }
+    ensures { λ r. ⌜
+        record { list = now (list .exit); answer = r }
+        ≡ listRings (now (edges .entry)) count face (now (list .entry)) ⌝ }
+{
+    let size = rings_size(edges, count, face);
+    if list.len() < size {
+        return answered(20, 0);
+    }
+    write_rings(edges, count, face, list);
+    answered(0, size as i64)
+}
+
 // Lists the edges of a face from the front of the list; the value is the count of numbers written. The list's remainder
 // is untouched, and all of it where the call is turned down.
 pub fn edges_of_face(
@@ -93,11 +108,5 @@ pub fn edges_of_face(
     let Found::At(i) = found else {
         return answered(4, 0);
     };
-    let f = face as usize;
-    let size = rings_size(edges, c.edges, f);
-    if list.len() < size {
-        return answered(20, 0);
-    }
-    write_rings(edges, c.edges, f, list);
-    answered(0, size as i64)
+    list_rings(edges, c.edges, face as usize, list)
 }

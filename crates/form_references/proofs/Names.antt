@@ -1,21 +1,24 @@
 -- Named rows: a search of the first column tells whether the map has the row. Containing faces, edges of links, ends of
 -- curves. Assumes nothing.
-use mathlib.Core.Path.{_≡_, refl, sym, ap, _∙_}
+use mathlib.Core.Path.{_≡_, refl, sym, ap, _∙_, subst}
 use mathlib.Core.Bool.{Bool, true, false, true≢false}
 use mathlib.Core.Logic.{inl, inr}
 use mathlib.Core.List.{List}
-use Prim.Native.Nat.{ℕ, suc, _+_, _*_, _/_, _≤_}
+use Prim.Native.Nat.{ℕ, suc, _+_, _*_, _/_, _≤_, _<_}
 use native.Mathlib.Nat.{zero-add}
 use native.Mathlib.Omega.{arith}
 use lib.IntN.{ℤ, pos, negsuc, natAbs, _-ℤ_}
-use lib.ListN.{length, getD}
+use lib.ListN.{length, getD, set}
+use lib.Seq.{getD-set-same, getD-set-other}
 use lib.Signed.{ltZ}
+use borrow.Author.Count.{below-more}
 use borrow.Author.Tests.{ltb-true, ltb-false}
 pub use Rattle.integers.specs.Signs.{not-negative}
 use Rattle.lists.specs.Scans.{anyOf, isSome}
 use Rattle.lists.specs.Tables.{table, place}
 use Rattle.lists.specs.declared.Found.the-variants.{At, Missing}
 use Rattle.tables.specs.Tables.{sameZ, column, Rising, numbered}
+use Rattle.tables.proofs.Order.{same-is}
 use Rattle.tables.proofs.Rows.{number-in}
 use Rattle.tables.proofs.Lookups.{place-first, place-missing, any-find, which-place}
 use Rattle.curves.specs.Curves.{Curve, Run, pointAt, curveOf, lastPoint}
@@ -27,6 +30,7 @@ use Rattle.map_rows.specs.Rows.{edgeAt, nodeMap, edgeMap, NodeRows, FaceRows}
 use Rattle.map_rows.proofs.Rows.{edge-numbers, edges-rising}
 use Rattle.map_rows.proofs.Lookups.{node-found, node-missing, edge-found, edge-missing, face-found, face-missing}
 use Rattle.form_ranges.specs.Ranges.{faceMap, EdgesInOrder}
+use Rattle.form_references.specs.Sides.{hasRow}
 
 module _ {A : Type 0} (p : A → Bool) (f : ℕ → A) (n : ℕ) where
   pub any-at : (i : ℕ) → place p 0 (table f 0 n) ≡ At i → anyOf p (table f 0 n) ≡ true
@@ -41,6 +45,20 @@ module _ (w : ℕ) (l : List ℤ) (n : ℕ) (z : ℤ) where
 
   pub column-missing : place (sameZ z) 0 (column w l n) ≡ Missing → anyOf (sameZ z) (column w l n) ≡ false
   column-missing = any-missing (sameZ z) (λ i. getD l (i * w) (pos 0)) n
+
+  -- the row that is found has the number
+  pub found-row : (i : ℕ) → place (sameZ z) 0 (column w l n) ≡ At i → (i < n) × (getD l (i * w) (pos 0) ≡ z)
+      × (hasRow w l n z ≡ true)
+  found-row i e =
+      let f = place-first (sameZ z) (λ i. getD l (i * w) (pos 0)) n i e in
+      (f .below, sym (same-is z (getD l (i * w) (pos 0)) (f .taken)), column-at i e)
+
+-- what holds of the first p cells, and of the one that is written, holds of those up to p
+pub one-more : (P : ℕ → ℕ → Type 0) (r : List ℕ) (p x : ℕ) → p < length r → ((q : ℕ) → q < p → P q (getD r q 0))
+    → P p x → (q : ℕ) → q < p + 1 → P q (getD (set r p x) q 0)
+one-more P r p x room old new = below-more (λ q. P q (getD (set r p x) q 0)) p
+    (λ q h. subst (P q) (sym (getD-set-other r p q x 0 (λ e. omega arith))) (old q h))
+    (subst (P p) (sym (getD-set-same r p x 0 room)) new)
 
 module _ {l : List ℤ} {n : ℕ} where
   pub node-named : NodeRows l n → (m : ℕ) → anyOf (sameZ (pos m)) (column 4 l n) ≡ hasNode (nodeMap l n) m

@@ -1,5 +1,4 @@
--- Rows that directed edges name: found, written down two by two, and the parts of `named` that they tell. Assumes
--- nothing.
+-- Rows that directed edges name, and the parts of `named` that they tell. Assumes nothing.
 use mathlib.Core.Path.{_≡_, refl, sym, ap, ap₂, _∙_}
 use mathlib.Core.Bool.{Bool, true, false, _&&_}
 use mathlib.Core.List.{List, [], _∷_}
@@ -7,54 +6,23 @@ use mathlib.Core.Option.{Option, none, some}
 use Prim.Native.Nat.{ℕ, zero, suc, _+_, _*_, _≤_, _<_}
 use native.Mathlib.Omega.{arith}
 use lib.IntN.{ℤ, pos}
-use lib.ListN.{length, getD, set}
-use Rattle.lists.specs.Scans.{anyOf, allOf}
-use Rattle.lists.specs.Tables.{table, place}
-use Rattle.lists.specs.declared.Found.the-variants.{At}
+use lib.ListN.{getD}
+use Rattle.lists.specs.Scans.{allOf}
+use Rattle.lists.specs.Tables.{table}
 use Rattle.lists.proofs.Bools.{eq4, &&-false}
-use Rattle.tables.specs.Tables.{sameZ, column}
-use Rattle.tables.proofs.Order.{same-is}
 use Rattle.tables.proofs.Rows.{rows-all}
-use Rattle.tables.proofs.Lookups.{place-first}
 use Rattle.tables.proofs.Rising.{all-same}
 use Rattle.map.specs.declared.Head.{Head}
-use Rattle.map.specs.Rows.{Edge, Map, hasNode, hasEdge, hasFace}
+use Rattle.map.specs.Rows.{Edge, Map, hasNode, hasEdge, hasFace, dartOf}
 use Rattle.map.specs.Form.{inFace, edgeNames, edgeRanges, named}
 use Rattle.map.specs.declared.Counts.{Counts}
-use Rattle.map_rows.specs.Rows.{nodesOf, edgesOf, edgeAt, edgeMap}
+use Rattle.map_rows.specs.Rows.{nodesOf, edgesOf, edgeAt}
 use Rattle.map_rows.proofs.Rows.{EdgeCells, edge-cells, edges-table}
-use Rattle.darts.specs.Positions.{sideCell, RowsNamed}
 use Rattle.darts.proofs.Positions.{side-even, side-odd}
 use Rattle.form_ranges.specs.Ranges.{mapIn, faceMap, InOrder}
 use Rattle.form_ranges.proofs.Parts.{node-rows, edges-in-order, face-rows}
-use Rattle.form_references.proofs.Names.{node-named, face-named}
-use Rattle.form_references.proofs.Nexts.{two-more}
-
--- ---- what is written down
-
-module _ (w : ℕ) (t : List ℤ) (n : ℕ) where
-  -- the row that is found has the number
-  pub found-row : (z : ℤ) (x : ℕ) → place (sameZ z) 0 (column w t n) ≡ At x → (x < n) × (getD t (x * w) (pos 0) ≡ z)
-  found-row z x e =
-      let f = place-first (sameZ z) (λ i. getD t (i * w) (pos 0)) n x e in
-      (f .below, sym (same-is z (getD t (x * w) (pos 0)) (f .taken)))
-
-  -- both sides of edge row i name rows
-  abbrev pub bothNamed : List ℤ → ℕ → ℕ → Bool
-  bothNamed l k i = anyOf (sameZ (getD l (i * 32 + k) (pos 0))) (column w t n)
-      && anyOf (sameZ (getD l (i * 32 + k + 1) (pos 0))) (column w t n)
-
-  pub rows-on : (l : List ℤ) (k : ℕ) (rows : List ℕ) (i x y : ℕ) → i * 2 + 1 < length rows
-      → RowsNamed w t n l k rows (i * 2)
-      → place (sameZ (getD l (i * 32 + k) (pos 0))) 0 (column w t n) ≡ At x
-      → place (sameZ (getD l (i * 32 + k + 1) (pos 0))) 0 (column w t n) ≡ At y
-      → RowsNamed w t n l k (set (set rows (i * 2) x) (i * 2 + 1) y) ((i + 1) * 2)
-  rows-on l k rows i x y room below e f =
-      let a = found-row (getD l (i * 32 + k) (pos 0)) x e in
-      let b = found-row (getD l (i * 32 + k + 1) (pos 0)) y f in
-      let there : i * 32 + k + 1 ≡ i * 32 + (k + 1) = omega arith in
-      two-more (λ p v. (v < n) × (getD t (v * w) (pos 0) ≡ sideCell l p k)) rows i x y (omega arith) below
-      (a .0, a .1 ∙ sym (side-even l i k)) (b .0, b .1 ∙ ap (λ (j : ℕ). getD l j (pos 0)) there ∙ sym (side-odd l i k))
+use Rattle.form_references.specs.Sides.{hasRow, hasLink, bothSides, allSides}
+use Rattle.form_references.proofs.Names.{node-named, face-named, dart-edge}
 
 -- ---- tests of all rows
 
@@ -97,25 +65,16 @@ module _ (m : Map) where
       ∙ all-both sidesNamed (λ e. endsNamed e && linksNamed e) l
       ∙ ap (λ (b : Bool). allOf sidesNamed l && b) (all-both endsNamed linksNamed l)
 
--- the numbers in columns k and k + 1, looked up
-module _ (w : ℕ) (t : List ℤ) (c : ℕ) (l : List ℤ) (n k : ℕ) (has : ℕ → Bool)
-    (is : (m : ℕ) → anyOf (sameZ (pos m)) (column w t c) ≡ has m) (a b : Edge → ℕ) where
-  pair-named : ((i : ℕ) → i < n → getD l (i * 32 + k) (pos 0) ≡ pos (a (edgeAt l i)))
-      → ((i : ℕ) → i < n → getD l (i * 32 + (k + 1)) (pos 0) ≡ pos (b (edgeAt l i)))
-      → allOf (bothNamed w t c l k) (table (λ i. i) 0 n) ≡ allOf (λ e. has (a e) && has (b e)) (edgesOf l n)
-  pair-named first second =
-      all-tables (bothNamed w t c l k) (λ e. has (a e) && has (b e)) (λ i. i) (edgeAt l) 0 n both
-      ∙ ap (allOf (λ e. has (a e) && has (b e))) (sym (edges-table l n))
-    where
-      looked : (z : ℤ) (m : ℕ) → z ≡ pos m → anyOf (sameZ z) (column w t c) ≡ has m
-      looked z m e = ap (λ (x : ℤ). anyOf (sameZ x) (column w t c)) e ∙ is m
-
-      both : (i : ℕ) → 0 ≤ i → i < 0 + n → bothNamed w t c l k i ≡ has (a (edgeAt l i)) && has (b (edgeAt l i))
-      both i s h =
-          let e : i * 32 + k + 1 ≡ i * 32 + (k + 1) = omega arith in
-          ap₂ _&&_ (looked (getD l (i * 32 + k) (pos 0)) (a (edgeAt l i)) (first i (omega arith)))
-          (looked (getD l (i * 32 + k + 1) (pos 0)) (b (edgeAt l i))
-          (ap (λ (j : ℕ). getD l j (pos 0)) e ∙ second i (omega arith)))
+-- a test of the numbers in columns k and k + 1
+pair-named : (q : ℤ → Bool) (l : List ℤ) (n k : ℕ) (u v : Edge → Bool)
+    → ((i : ℕ) → i < n → q (getD l (i * 32 + k) (pos 0)) ≡ u (edgeAt l i))
+    → ((i : ℕ) → i < n → q (getD l (i * 32 + (k + 1)) (pos 0)) ≡ v (edgeAt l i))
+    → allSides q l k n ≡ allOf (λ e. u e && v e) (edgesOf l n)
+pair-named q l n k u v first second =
+    all-tables (bothSides q l k) (λ e. u e && v e) (λ i. i) (edgeAt l) 0 n
+    (λ i s h. ap₂ _&&_ (ap q (side-even l i k) ∙ first i (omega arith))
+    (ap q (side-odd l i k) ∙ second i (omega arith)))
+    ∙ ap (allOf (λ e. u e && v e)) (sym (edges-table l n))
 
 -- faces are looked up among the faces
 in-faces : (nodes edges faces : List ℤ) (c : Counts) (h : Head) (o : Option ℕ) → inFace (mapIn nodes edges faces c h) o
@@ -129,13 +88,13 @@ module _ (nodes edges faces : List ℤ) (c : Counts) where
   facesPass = allOf (λ n. inFace (faceMap faces (c .faces)) (n .face)) (nodesOf nodes (c .nodes))
 
   abbrev pub sidesPass : Bool
-  sidesPass = allOf (bothNamed 1 faces (c .faces) edges 5) (table (λ i. i) 0 (c .edges))
+  sidesPass = allSides (hasRow 1 faces (c .faces)) edges 5 (c .edges)
 
   abbrev pub endsPass : Bool
-  endsPass = allOf (bothNamed 4 nodes (c .nodes) edges 1) (table (λ i. i) 0 (c .edges))
+  endsPass = allSides (hasRow 4 nodes (c .nodes)) edges 1 (c .edges)
 
   abbrev pub linksPass : Bool
-  linksPass = allOf (linksNamed (edgeMap edges (c .edges))) (edgesOf edges (c .edges))
+  linksPass = allSides (hasLink edges (c .edges)) edges 3 (c .edges)
 
 -- named rows exist where all of them pass
 module _ {nodes edges faces : List ℤ} {c : Counts} {h₀ : Head} (r : InOrder nodes edges faces c h₀) (h : Head) where
@@ -145,8 +104,7 @@ module _ {nodes edges faces : List ℤ} {c : Counts} {h₀ : Head} (r : InOrder 
   named-parts =
       ap₂ _&&_ (all-same (λ n. inFace m (n .face)) (λ n. inFace (faceMap faces (c .faces)) (n .face))
       (λ n. in-faces nodes edges faces c h (n .face)) (nodesOf nodes (c .nodes)))
-      (names-parts m (edgesOf edges (c .edges))
-      ∙ ap₂ _&&_ (sym sides) (ap (λ (b : Bool). b && allOf (linksNamed m) (edgesOf edges (c .edges))) (sym ends)))
+      (names-parts m (edgesOf edges (c .edges)) ∙ ap₂ _&&_ (sym sides) (ap₂ _&&_ (sym ends) (sym links)))
     where
       m : Map
       m = mapIn nodes edges faces c h
@@ -154,13 +112,28 @@ module _ {nodes edges faces : List ℤ} {c : Counts} {h₀ : Head} (r : InOrder 
       cells : (i : ℕ) → i < c .edges → EdgeCells edges i
       cells i l = edge-cells edges i (rows-all 32 edges edgeRanges (c .edges) (edges-in-order r .ranges) i l)
 
+      face : {z : ℤ} {n : ℕ} → z ≡ pos n → hasRow 1 faces (c .faces) z ≡ hasFace m n
+      face {n = n} e = ap (hasRow 1 faces (c .faces)) e ∙ face-named (face-rows r) n
+
+      node : {z : ℤ} {n : ℕ} → z ≡ pos n → hasRow 4 nodes (c .nodes) z ≡ hasNode m n
+      node {n = n} e = ap (hasRow 4 nodes (c .nodes)) e ∙ node-named (node-rows r) n
+
+      link : (z : ℤ) {k : ℕ} → dartOf z .edge ≡ k → hasLink edges (c .edges) z ≡ hasEdge m k
+      link z e = ap (hasEdge m) (dart-edge z ∙ e)
+
       sides : sidesPass nodes edges faces c ≡ allOf (sidesNamed m) (edgesOf edges (c .edges))
-      sides = pair-named 1 faces (c .faces) edges (c .edges) 5 (hasFace m) (face-named (face-rows r)) (λ e. e .left)
-          (λ e. e .right) (λ i l. cells i l .left) (λ i l. cells i l .right)
+      sides = pair-named (hasRow 1 faces (c .faces)) edges (c .edges) 5 (λ e. hasFace m (e .left))
+          (λ e. hasFace m (e .right)) (λ i l. face (cells i l .left)) (λ i l. face (cells i l .right))
 
       ends : endsPass nodes edges faces c ≡ allOf (endsNamed m) (edgesOf edges (c .edges))
-      ends = pair-named 4 nodes (c .nodes) edges (c .edges) 1 (hasNode m) (node-named (node-rows r)) (λ e. e .start)
-          (λ e. e .end) (λ i l. cells i l .start) (λ i l. cells i l .end)
+      ends = pair-named (hasRow 4 nodes (c .nodes)) edges (c .edges) 1 (λ e. hasNode m (e .start))
+          (λ e. hasNode m (e .end)) (λ i l. node (cells i l .start)) (λ i l. node (cells i l .end))
+
+      links : linksPass nodes edges faces c ≡ allOf (linksNamed m) (edgesOf edges (c .edges))
+      links = pair-named (hasLink edges (c .edges)) edges (c .edges) 3 (λ e. hasEdge m (e .nextLeft .edge))
+          (λ e. hasEdge m (e .nextRight .edge))
+          (λ i l. link (getD edges (i * 32 + 3) (pos 0)) (ap (λ d. d .edge) (cells i l .nextLeft)))
+          (λ i l. link (getD edges (i * 32 + 4) (pos 0)) (ap (λ d. d .edge) (cells i l .nextRight)))
 
   module _ (faces-pass : facesPass nodes edges faces c ≡ true) where
     module _ (sides-pass : sidesPass nodes edges faces c ≡ true) where

@@ -8,28 +8,27 @@ ghost use mathlib.Core.Bool.{true, false, _&&_};
 ghost use Prim.Native.Nat.{ℕ, _+_, _*_, _/_, _≤_, _<_};
 ghost use lib.IntN.{pos, negsuc, natAbs};
 ghost use lib.Signed.{ltZ};
-ghost use lib.ListN.{length, getD};
-ghost use Rattle.lists.specs.Scans.{anyOf, allOf};
-ghost use Rattle.lists.specs.Tables.{table};
+ghost use lib.ListN.{length};
+ghost use Rattle.lists.specs.Scans.{allOf};
 ghost use Rattle.lists.specs.declared.Found.the-variants.{At, Missing};
-ghost use Rattle.tables.specs.Tables.{Rising, sameZ, column};
+ghost use Rattle.tables.specs.Tables.{Rising};
 ghost use Rattle.plane.specs.Points.{samePoint};
 ghost use Rattle.curves.specs.Curves.{Run, curveOf, lastPoint};
 ghost use Rattle.curves.specs.Tests.{neighboursDiffer};
 ghost use Rattle.map.specs.Limits.{nodeWidth, edgeWidth, faceWidth, maxNodes, maxEdges, maxFaces};
-ghost use Rattle.map.specs.Rows.{hasEdge, nodeOf, dartOf};
+ghost use Rattle.map.specs.Rows.{nodeOf, dartOf};
 ghost use Rattle.map.specs.Form.{inFace, named, curveFits};
 ghost use Rattle.map_rows.specs.Rows.{NodeRows, EdgeRow, EdgeRows, FaceRows, nodesOf, edgesOf, edgeAt, nodeMap};
-ghost use Rattle.map_rows.specs.Rows.{edgeMap};
-ghost use Rattle.darts.specs.Positions.{dartAt, RowsNamed, NextsNamed};
+ghost use Rattle.darts.specs.Positions.{dartAt, sideCell, RowsNamed, NextsNamed};
 ghost use Rattle.form_ranges.specs.Ranges.{mapIn, faceMap, EdgesInOrder, InOrder};
+ghost use Rattle.form_references.specs.Sides.{hasRow, hasLink, allSides};
 
 // ---- names
 
 // Whether a row with the number exists.
 fn exists(t: &[i64], w: usize, count: usize, number: i64, index: &[u16]) -> bool
     requires { ⌜ Rising w (now t) count × (length (now index) ≡ 4096) ⌝ }
-    ensures { λ r. ⌜ r ≡ anyOf (sameZ number) (column w (now (t .entry)) count) ⌝ }
+    ensures { λ r. ⌜ r ≡ hasRow w (now (t .entry)) count number ⌝ }
 {
     let found = tables::find_indexed(t, w, count, number, index);
     match found {
@@ -66,6 +65,34 @@ fn nodes_name_faces(nodes: &[i64], n: usize, faces: &[i64], f: usize, index: &[u
     true
 }
 
+// Whether the row exists that the directed edge at position p names in a column pair; it is written.
+fn find_row_of(
+    t: &[i64],
+    w: usize,
+    n: usize,
+    edges: &[i64],
+    p: usize,
+    k: usize,
+    index: &[u16],
+    rows: &mut [u16],
+) -> bool
+    requires { ⌜ Rising w (now t) n × (n ≤ maxEdges)
+        × (p / 2 * edgeWidth + edgeWidth ≤ length (now edges)) × (k + 2 ≤ edgeWidth)
+        × (length (now index) ≡ 4096) × (p < length (now rows)) ⌝ }
+    ensures { λ r. ⌜
+        (r ≡ hasRow w (now (t .entry)) n (sideCell (now (edges .entry)) p k))
+        × (length (now (rows .exit)) ≡ length (now (rows .entry)))
+        × (r ≡ true → RowsNamed w (now (t .entry)) n (now (edges .entry)) k (now (rows .entry)) p
+        → RowsNamed w (now (t .entry)) n (now (edges .entry)) k (now (rows .exit)) (p + 1)) ⌝ }
+{
+    let found = tables::find_indexed(t, w, n, darts::dart_cell(edges, p, k), index);
+    let Found::At(x) = found else {
+        return false;
+    };
+    rows[p] = x as u16;
+    true
+}
+
 // Whether the rows exist that both sides of each edge name in columns k and k + 1; they are written.
 fn find_rows(
     t: &[i64],
@@ -81,24 +108,18 @@ fn find_rows(
         × (count * edgeWidth ≤ length (now edges)) × (k + 2 ≤ edgeWidth)
         × (length (now index) ≡ 4096) × (count * 2 ≤ length (now rows)) ⌝ }
     ensures { λ r. ⌜
-        (r ≡ allOf (λ i.
-        anyOf (sameZ (getD (now (edges .entry)) (i * edgeWidth + k) (pos 0))) (column w (now (t .entry)) n)
-        && anyOf (sameZ (getD (now (edges .entry)) (i * edgeWidth + k + 1) (pos 0))) (column w (now (t .entry)) n))
-        (table (λ i. i) 0 count))
+        (r ≡ allSides (hasRow w (now (t .entry)) n) (now (edges .entry)) k count)
         × (length (now (rows .exit)) ≡ length (now (rows .entry)))
         × (r ≡ true → RowsNamed w (now (t .entry)) n (now (edges .entry)) k (now (rows .exit)) (count * 2)) ⌝ }
 {
+    // two positions a turn: their places in the row are then constants
     for i in 0..count {
-        let a = tables::find_indexed(t, w, n, edges[i * map::EDGE_WIDTH + k], index);
-        let Found::At(x) = a else {
+        if !find_row_of(t, w, n, edges, i * 2, k, index, rows) {
             return false;
-        };
-        let b = tables::find_indexed(t, w, n, edges[i * map::EDGE_WIDTH + k + 1], index);
-        let Found::At(y) = b else {
+        }
+        if !find_row_of(t, w, n, edges, i * 2 + 1, k, index, rows) {
             return false;
-        };
-        rows[i * 2] = x as u16;
-        rows[i * 2 + 1] = y as u16;
+        }
     }
     true
 }
@@ -117,10 +138,10 @@ fn edge_of(d: i64) -> i64
 // The position of the directed edge that a link names: found, or missing.
 fn find_position(edges: &[i64], count: usize, d: i64, index: &[u16]) -> Found
     requires { ⌜ EdgesInOrder (now edges) count × (length (now index) ≡ 4096) ⌝ }
-    ensures { λ r. ⌜ (r ≡ Missing → hasEdge (edgeMap (now (edges .entry)) count) (natAbs d) ≡ false)
+    ensures { λ r. ⌜ (r ≡ Missing → hasLink (now (edges .entry)) count d ≡ false)
         × ((q : ℕ) → r ≡ At q
         → (q < count * 2) × (dartAt (now (edges .entry)) q ≡ dartOf d)
-        × (hasEdge (edgeMap (now (edges .entry)) count) (natAbs d) ≡ true)) ⌝ }
+        × (hasLink (now (edges .entry)) count d ≡ true)) ⌝ }
 {
     if d < map::LEAST_LINK {
         return Found::Missing;
@@ -132,37 +153,45 @@ fn find_position(edges: &[i64], count: usize, d: i64, index: &[u16]) -> Found
     Found::At(i * 2 + (d < 0) as usize)
 }
 
+// Whether the edge exists that the link of the directed edge at position p names; the position of its next is written.
+fn find_next_of(edges: &[i64], count: usize, p: usize, index: &[u16], nexts: &mut [u16]) -> bool
+    requires { ⌜ EdgesInOrder (now edges) count × (count ≤ maxEdges) × (p < count * 2)
+        × (length (now index) ≡ 4096) × (p < length (now nexts)) ⌝ }
+    ensures { λ r. ⌜
+        (r ≡ hasLink (now (edges .entry)) count (sideCell (now (edges .entry)) p 3))
+        × (length (now (nexts .exit)) ≡ length (now (nexts .entry)))
+        × (r ≡ true → NextsNamed (now (edges .entry)) count (now (nexts .entry)) p
+        → NextsNamed (now (edges .entry)) count (now (nexts .exit)) (p + 1)) ⌝ }
+{
+    let found = find_position(
+        edges,
+        count,
+        darts::dart_cell(edges, p, map::NEXT_LEFT),
+        index,
+    );
+    let Found::At(x) = found else {
+        return false;
+    };
+    nexts[p] = x as u16;
+    true
+}
+
 // Whether the edges exist that both links of each edge name; their positions are written.
 fn find_nexts(edges: &[i64], count: usize, index: &[u16], nexts: &mut [u16]) -> bool
     requires { ⌜ EdgesInOrder (now edges) count × (count ≤ maxEdges)
         × (length (now index) ≡ 4096) × (count * 2 ≤ length (now nexts)) ⌝ }
     ensures { λ r. ⌜
-        (r ≡ allOf (λ e. hasEdge (edgeMap (now (edges .entry)) count) (e .nextLeft .edge)
-        && hasEdge (edgeMap (now (edges .entry)) count) (e .nextRight .edge)) (edgesOf (now (edges .entry)) count))
+        (r ≡ allSides (hasLink (now (edges .entry)) count) (now (edges .entry)) 3 count)
         × (length (now (nexts .exit)) ≡ length (now (nexts .entry)))
         × (r ≡ true → NextsNamed (now (edges .entry)) count (now (nexts .exit)) (count * 2)) ⌝ }
 {
     for i in 0..count {
-        let a = find_position(
-            edges,
-            count,
-            edges[i * map::EDGE_WIDTH + map::NEXT_LEFT],
-            index,
-        );
-        let Found::At(x) = a else {
+        if !find_next_of(edges, count, i * 2, index, nexts) {
             return false;
-        };
-        let b = find_position(
-            edges,
-            count,
-            edges[i * map::EDGE_WIDTH + map::NEXT_RIGHT],
-            index,
-        );
-        let Found::At(y) = b else {
+        }
+        if !find_next_of(edges, count, i * 2 + 1, index, nexts) {
             return false;
-        };
-        nexts[i * 2] = x as u16;
-        nexts[i * 2 + 1] = y as u16;
+        }
     }
     true
 }

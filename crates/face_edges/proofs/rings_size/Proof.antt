@@ -17,22 +17,16 @@ abbrev μ-loop : tie.MeasureT-loop
 μ-loop edges count face marks₀ size₀ p₀ p-end marks size p = p-end - p
 
 -- what a turn takes
-taken : (c : tie.After-marks2 Inv-loop μ-loop)
-    → (length (left (c .before .before .before .before .before .args .edges .now)
-    (c .before .before .before .before .before .args .count) (c .before .before .before .before .before .args .face)
-    (c .before .before .before .before .loop .p))
-    ≡ c .before .ring-size .result + length
-    (left (c .before .before .before .before .before .args .edges .now)
-    (c .before .before .before .before .before .args .count) (c .before .before .before .before .before .args .face)
-    (c .before .before .before .before .loop .p + 1)))
-    × (c .before .ring-size .result ≤ c .before .before .before .before .before .args .count * 2 + 1)
+taken : (c : tie.After-marks2 Inv-loop μ-loop) →
+    let a = c .before .before .before .before .before .args in
+    let p = c .before .before .before .before .loop .p in
+    let z = c .before .ring-size .result in
+    (length (left (a .edges .now) (a .count) (a .face) p)
+    ≡ z + length (left (a .edges .now) (a .count) (a .face) (p + 1))) × (z ≤ a .count * 2 + 1)
 taken c =
     let a = c .before .before .before .before .before .args in
     size-left (a .edges .now) (a .count) (a .face) (c .before .before .before .before .loop .p)
     (c .before .ring-size .result) (c .before .ring-size .ensures .1)
-
-mul-p-end : tie.Need-mul-p-end Inv-loop μ-loop
-mul-p-end c = omega (arith, c .pre .0 .small)
 
 loop-holds : tie.Need-loop-holds Inv-loop μ-loop
 loop-holds c = let a = c .args in (
@@ -41,9 +35,6 @@ loop-holds c = let a = c .args in (
   omega arith,
   none-marked (a .edges .now) (a .count) (a .face),
 )
-
-slice-aggregate-ring-size : tie.Need-slice-aggregate-ring-size Inv-loop μ-loop
-slice-aggregate-ring-size c = sym (c .before .before .loop .inv .3 .room)
 
 ring-size-requires : tie.Need-ring-size-requires Inv-loop μ-loop
 ring-size-requires c κs = let s = c .before .before .before in
@@ -54,12 +45,6 @@ add-size c =
     let w = c .before .before .before .before .loop in
     let s = c .before .before .before .before .before in
     omega (arith, taken c .1, w .inv .2, c .before .before .before .loop-test .taken, s .pre .0 .small)
-
-add-p : tie.Need-add-p Inv-loop μ-loop
-add-p c = omega (arith, c .before .before .before .loop-test .taken)
-
-loop-less : tie.Need-loop-less Inv-loop μ-loop
-loop-less c = omega (arith, c .before .before .before .loop-test .taken)
 
 loop-again : tie.Need-loop-again Inv-loop μ-loop
 loop-again c =
@@ -87,12 +72,12 @@ rings-size-spec =
     (tie.spec
     Inv-loop
     μ-loop
-    mul-p-end
+    (λ c. omega (arith, c .pre .0 .small))
     loop-holds
-    slice-aggregate-ring-size
+    (λ c. sym (c .before .before .loop .inv .3 .room))
     ring-size-requires
     add-size
-    add-p
-    loop-less
+    (λ c. omega arith)
+    (λ c. omega arith)
     loop-again
     returns)

@@ -1,4 +1,5 @@
 -- `face_edges::write_rings` meets its contract: what is written, and what is left, make up the whole. Assumes nothing.
+use borrow.Author.Needs.{needs}
 use mathlib.Core.Path.{_≡_, refl, sym, ap, _∙_, subst}
 use mathlib.Core.Logic.{⊎-elim}
 use mathlib.Core.List.{List, _++_}
@@ -21,7 +22,7 @@ abbrev Inv-loop : tie.InvT-loop
 Inv-loop edges count face list₀ marks₀ at₀ p₀ p-end list marks at p =
     (p ≤ count * 2) × (at ≤ length (left edges count face 0)) × (length list ≡ length list₀)
     × (list ≡ paste list₀ 0 (left edges count face 0) at)
-    × (drop at (left edges count face 0) ≡ left edges count face p) × Marked edges count face p marks × (at ≤ p * 4001)
+    × (drop at (left edges count face 0) ≡ left edges count face p) × Marked edges count face p marks
 
 abbrev μ-loop : tie.MeasureT-loop
 μ-loop edges count face list₀ marks₀ at₀ p₀ p-end list marks at p = p-end - p
@@ -32,7 +33,7 @@ room : (c : tie.Start Inv-loop μ-loop)
 room c = let a = c .args in subst (λ (l : List ℤ). length l ≤ length (a .list .now))
     (all-left (a .edges .now) (a .count) (a .face)) (c .pre .2)
 
--- the ring that a turn writes: r numbers from `at` on
+-- the ring that a turn writes: its numbers from `at` on
 record Turn (l : List ℤ) (n f p at r end : ℕ) : Type 0 where
   size : r ≡ length (ringAt l n p) + 1
   is : drop at (left l n f 0) ≡ ringNumbers (ringAt l n p) ++ left l n f (p + 1)
@@ -40,11 +41,10 @@ record Turn (l : List ℤ) (n f p at r end : ℕ) : Type 0 where
   inside : at + r ≤ length (left l n f 0)
   room : at + r ≤ end
 
-ring-at : (c : tie.After-marks2 Inv-loop μ-loop) → 0 < c .before .ring-size .result
-    → Turn (c .before .before .before .before .before .args .edges .now)
-    (c .before .before .before .before .before .args .count) (c .before .before .before .before .before .args .face)
-    (c .before .before .before .before .loop .p) (c .before .before .before .before .loop .at)
-    (c .before .ring-size .result) (length (c .before .before .before .before .loop .list))
+ring-at : (c : tie.After-marks2 Inv-loop μ-loop) → 0 < c .before .ring-size .result →
+    let a = c .before .before .before .before .before .args in
+    let w = c .before .before .before .before .loop in
+    Turn (a .edges .now) (a .count) (a .face) (w .p) (w .at) (c .before .ring-size .result) (length (w .list))
 ring-at c h =
     let a = c .before .before .before .before .before .args in
     let w = c .before .before .before .before .loop in
@@ -62,9 +62,6 @@ ring-at c h =
       room = omega (arith, k, r .0, enough, w .inv .2);
     }
 
-mul-p-end : tie.Need-mul-p-end Inv-loop μ-loop
-mul-p-end c = omega (arith, c .pre .0 .small)
-
 loop-holds : tie.Need-loop-holds Inv-loop μ-loop
 loop-holds c = let a = c .args in (
   omega arith,
@@ -73,37 +70,14 @@ loop-holds c = let a = c .args in (
   refl,
   refl,
   none-marked (a .edges .now) (a .count) (a .face),
-  omega arith,
 )
-
-slice-aggregate-ring-size : tie.Need-slice-aggregate-ring-size Inv-loop μ-loop
-slice-aggregate-ring-size c = sym (c .before .before .loop .inv .5 .room)
 
 ring-size-requires : tie.Need-ring-size-requires Inv-loop μ-loop
 ring-size-requires c κs = let s = c .before .before .before in
     (s .pre .0, s .pre .1, c .before .loop-test .taken, c .before .before .loop .inv .5)
 
-sub-list : tie.Need-sub-list Inv-loop μ-loop
-sub-list c = omega arith
-
 cast-list : tie.Need-cast-list Inv-loop μ-loop
-cast-list c =
-    let r = ring-at (c .before) (c .if1 .taken) in
-    record { sfits = omega (arith, r .most) }
-
-mul-t15 : tie.Need-mul-t15 Inv-loop μ-loop
-mul-t15 c =
-    let w = c .before .before .before .before .before .loop in
-    omega (arith, w .inv .0, w .inv .6, c .before .before .before .before .before .before .pre .0 .small)
-
-slice-set-from-list : tie.Need-slice-set-from-list Inv-loop μ-loop
-slice-set-from-list c = let r = ring-at (c .before) (c .if1 .taken) in omega (arith, r .room)
-
-sub-write-ring : tie.Need-sub-write-ring Inv-loop μ-loop
-sub-write-ring c = omega arith
-
-add-write-ring : tie.Need-add-write-ring Inv-loop μ-loop
-add-write-ring c = let r = ring-at (c .before .before) (c .before .if1 .taken) in omega (arith, r .room)
+cast-list c = record { sfits = omega (arith, ring-at (c .before) (c .if1 .taken) .most) }
 
 write-ring-requires : tie.Need-write-ring-requires Inv-loop μ-loop
 write-ring-requires c κs =
@@ -121,16 +95,6 @@ write-ring-requires c κs =
             (k .before .before .before .before .loop .at) (toZ w64 (ofZ w64 (pos (k .before .ring-size .result - 1)))),
       ),
     )
-
-add-at : tie.Need-add-at Inv-loop μ-loop
-add-at c = let r = ring-at (c .before .before .before .before) (c .before .before .before .if1 .taken) in
-    omega (arith, r .room, r .size)
-
-add-p : tie.Need-add-p Inv-loop μ-loop
-add-p c = omega (arith, c .before .before .before .before .loop-test .taken)
-
-loop-less : tie.Need-loop-less Inv-loop μ-loop
-loop-less c = omega (arith, c .before .before .before .before .loop-test .taken)
 
 loop-again : tie.Need-loop-again Inv-loop μ-loop
 loop-again c =
@@ -160,7 +124,6 @@ loop-again c =
       is,
       ap (λ (k : ℕ). drop k all) (sym end) ∙ rest-left (a .list .now) all (v .at) ring rest (r .is) (room s),
       z .ensures .0,
-      omega (arith, more, r .most, v .inv .6, s .pre .0 .small),
     ))
     (λ w.
     let same-at : c .if1 .at ≡ v .at = w .2 in
@@ -172,12 +135,8 @@ loop-again c =
       ap (λ (k : ℕ). drop k all) same-at ∙ v .inv .4
           ∙ none-size (a .edges .now) (a .count) (a .face) (v .p) (z .result) (z .ensures .1) (w .0 .left),
       z .ensures .0,
-      omega (arith, same-at, v .inv .6),
     ))
     (c .if1 .came)
-
-same-length : tie.Need-same-length Inv-loop μ-loop
-same-length c = c .before .loop .inv .2
 
 returns : tie.Need-returns Inv-loop μ-loop
 returns c =
@@ -194,20 +153,20 @@ write-rings-spec =
     (tie.spec
     Inv-loop
     μ-loop
-    mul-p-end
+    (λ c. omega (arith, c .pre .0 .small))
     loop-holds
-    slice-aggregate-ring-size
+    (λ c. sym (c .before .before .loop .inv .5 .room))
     ring-size-requires
-    sub-list
+    (λ c. omega arith)
     cast-list
-    mul-t15
-    slice-set-from-list
-    sub-write-ring
-    add-write-ring
+    (λ c. let r = ring-at (c .before) (c .if1 .taken) .room in search needs)
+    (λ c. omega (arith, ring-at (c .before) (c .if1 .taken) .room))
+    (λ c. omega arith)
+    (λ c. omega (arith, ring-at (c .before .before) (c .before .if1 .taken) .room))
     write-ring-requires
-    add-at
-    add-p
-    loop-less
+    (λ c. omega (arith, ring-at (c .before .before .before .before) (c .before .before .before .if1 .taken) .room))
+    (λ c. omega arith)
+    (λ c. omega arith)
     loop-again
-    same-length
+    (λ c. c .before .loop .inv .2)
     returns)

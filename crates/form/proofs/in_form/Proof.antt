@@ -16,20 +16,19 @@ use Rattle.form.proofs.in_form.Tie as tie
 
 -- ---- what is known after each part
 
-fits-is : (c : tie.After-head-fits) → c .head-fits .result
-    ≡ (countsFit (lent (c .before .args .nodes .now) (c .before .args .edges .now) (c .before .args .faces .now)
-    (c .before .args .h)) && nextsFit (c .before .args .h))
+fits-is : (c : tie.After-head-fits) → let a = c .before .args in
+    c .head-fits .result
+    ≡ (countsFit (lent (a .nodes .now) (a .edges .now) (a .faces .now) (a .h)) && nextsFit (a .h))
 fits-is c = let a = c .before .args in c .head-fits .ensures
     (lent (a .nodes .now) (a .edges .now) (a .faces .now) (a .h))
     (sizes-are (a .nodes .now) (a .edges .now) (a .faces .now) (a .h))
 
-head-in : (c : tie.Else1) → (countsFit (lent (c .before .before .args .nodes .now) (c .before .before .args .edges .now)
-    (c .before .before .args .faces .now) (c .before .before .args .h)) && nextsFit (c .before .before .args .h)) ≡ true
+head-in : (c : tie.Else1) → let a = c .before .before .args in
+    (countsFit (lent (a .nodes .now) (a .edges .now) (a .faces .now) (a .h)) && nextsFit (a .h)) ≡ true
 head-in c = sym (fits-is (c .before)) ∙ flipped (c .before .head-fits .result) false (c .if1 .left)
 
-counted-in : (c : tie.After-counts-of) → HeadFits (c .before .before .before .args .nodes .now)
-    (c .before .before .before .args .edges .now) (c .before .before .before .args .faces .now) (c .counts-of .result)
-    (c .before .before .before .args .h)
+counted-in : (c : tie.After-counts-of) → let a = c .before .before .before .args in
+    HeadFits (a .nodes .now) (a .edges .now) (a .faces .now) (c .counts-of .result) (a .h)
 counted-in c =
     let a = c .before .before .before .args in
     let e = head-in (c .before) in
@@ -39,10 +38,8 @@ counted-in c =
     (and-left p (nextsFit (a .h)) e) (and-right p (nextsFit (a .h)) e))
 
 -- the answer on ranges, of the head's counts
-ranged-in : (c : tie.After-is-ranged) → c .is-ranged .result
-    ≡ rangedRows (c .before .before .before .before .args .nodes .now)
-    (c .before .before .before .before .args .edges .now) (c .before .before .before .before .args .faces .now)
-    (countsOf (c .before .before .before .before .args .h))
+ranged-in : (c : tie.After-is-ranged) → let a = c .before .before .before .before .args in
+    c .is-ranged .result ≡ rangedRows (a .nodes .now) (a .edges .now) (a .faces .now) (countsOf (a .h))
 ranged-in c =
     let a = c .before .before .before .before .args in
     c .is-ranged .ensures ∙ ap (rangedRows (a .nodes .now) (a .edges .now) (a .faces .now))

@@ -15,8 +15,8 @@ use Rattle.form.proofs.is_formed.Tie as tie
 
 -- ---- what is known after each part
 
-in-order : (c : tie.Else1) → InOrder (c .before .before .args .nodes .now) (c .before .before .args .edges .now)
-    (c .before .before .args .faces .now) (c .before .before .args .c) (c .before .before .args .h)
+in-order : (c : tie.Else1) → let a = c .before .before .args in
+    InOrder (a .nodes .now) (a .edges .now) (a .faces .now) (a .c) (a .h)
 in-order c = let f = c .before .numbers-fit in
     record {
       in-ranges = c .before .before .pre .0;
@@ -24,66 +24,36 @@ in-order c = let f = c .before .numbers-fit in
           ∙ flipped (f .result) false (c .if1 .left);
     }
 
-named-in : (c : tie.Else2)
-    → Named (c .before .before .before .before .before .before .before .before .before .before .args .nodes .now)
-    (c .before .before .before .before .before .before .before .before .before .before .args .edges .now)
-    (c .before .before .before .before .before .before .before .before .before .before .args .faces .now)
-    (c .before .before .before .before .before .before .before .before .before .before .args .c)
-    (c .before .before .before .before .before .before .before .before .before .before .args .h)
+-- where the call starts
+abbrev start : tie.Else2 → tie.Start
+start c = c .before .before .before .before .before .before .before .before .before .before
+
+named-in : (c : tie.Else2) → let a = start c .args in
+    Named (a .nodes .now) (a .edges .now) (a .faces .now) (a .c) (a .h)
 named-in c =
     let n = c .before .before .before .before in
     record {
       in-order = in-order (n .before .before .before .before);
-      named =
-          sym (n .names-exist .ensures .0
-          (c .before .before .before .before .before .before .before .before .before .before .args .h))
+      named = sym (n .names-exist .ensures .0 (start c .args .h))
           ∙ flipped (n .names-exist .result) false (c .if2 .left);
     }
 
 -- the rows and positions that are written down
-rows-in : (c : tie.Else2)
-    → RowsNamed 4 (c .before .before .before .before .before .before .before .before .before .before .args .nodes .now)
-    (c .before .before .before .before .before .before .before .before .before .before .args .c .nodes)
-    (c .before .before .before .before .before .before .before .before .before .before .args .edges .now) 1
-    (c .before .before .before .before .names-exist .last .1 .1 .1 .1 .0)
-    (c .before .before .before .before .before .before .before .before .before .before .args .c .edges * 2)
-    × NextsNamed (c .before .before .before .before .before .before .before .before .before .before .args .edges .now)
-    (c .before .before .before .before .before .before .before .before .before .before .args .c .edges)
-    (c .before .before .before .before .names-exist .last .1 .1 .1 .1 .1 .0)
-    (c .before .before .before .before .before .before .before .before .before .before .args .c .edges * 2)
-    × RowsNamed 1 (c .before .before .before .before .before .before .before .before .before .before .args .faces .now)
-    (c .before .before .before .before .before .before .before .before .before .before .args .c .faces)
-    (c .before .before .before .before .before .before .before .before .before .before .args .edges .now) 5
-    (c .before .before .before .before .names-exist .last .1 .1 .1 .1 .1 .1 .0)
-    (c .before .before .before .before .before .before .before .before .before .before .args .c .edges * 2)
+rows-in : (c : tie.Else2) →
+    let a = start c .args in
+    let l = c .before .before .before .before .names-exist .last .1 .1 .1 .1 in
+    RowsNamed 4 (a .nodes .now) (a .c .nodes) (a .edges .now) 1 (l .0) (a .c .edges * 2)
+    × NextsNamed (a .edges .now) (a .c .edges) (l .1 .0) (a .c .edges * 2)
+    × RowsNamed 1 (a .faces .now) (a .c .faces) (a .edges .now) 5 (l .1 .1 .0) (a .c .edges * 2)
 rows-in c = let n = c .before .before .before .before in
     n .names-exist .ensures .4 (flipped (n .names-exist .result) false (c .if2 .left))
 
-curved-in : (c : tie.Else3)
-    → curved
-    (c .before .before .before .before .before .before .before .before .before .before .before .before .before .args
-    .nodes .now)
-    (c .before .before .before .before .before .before .before .before .before .before .before .before .before .args
-    .edges .now)
-    (c .before .before .before .before .before .before .before .before .before .before .before .before .before .args
-    .faces .now)
-    (c .before .before .before .before .before .before .before .before .before .before .before .before .before .args
-    .c) (c .before .before .before .before .before .before .before .before .before .before .before .before .before
-    .args .h) ≡ true
+curved-in : (c : tie.Else3) → let a = start (c .before .before .before) .args in
+    curved (a .nodes .now) (a .edges .now) (a .faces .now) (a .c) (a .h) ≡ true
 curved-in c = let f = c .before .curves-fit in sym (f .ensures) ∙ flipped (f .result) false (c .if3 .left)
 
-departed-in : (c : tie.Else4)
-    → departed
-    (c .before .before .before .before .before .before .before .before .before .before .before .before .before .before
-    .before .before .args .nodes .now)
-    (c .before .before .before .before .before .before .before .before .before .before .before .before .before .before
-    .before .before .args .edges .now)
-    (c .before .before .before .before .before .before .before .before .before .before .before .before .before .before
-    .before .before .args .faces .now)
-    (c .before .before .before .before .before .before .before .before .before .before .before .before .before .before
-    .before .before .args .c)
-    (c .before .before .before .before .before .before .before .before .before .before .before .before .before .before
-    .before .before .args .h) ≡ true
+departed-in : (c : tie.Else4) → let a = start (c .before .before .before .before .before .before) .args in
+    departed (a .nodes .now) (a .edges .now) (a .faces .now) (a .c) (a .h) ≡ true
 departed-in c = let f = c .before .departures-formed in sym (f .ensures) ∙ flipped (f .result) false (c .if4 .left)
 
 -- ---- the answers
@@ -123,15 +93,14 @@ curves-fit-requires c κs =
     let f = e .before .before .before .before .names-exist .ensures in (
       node-rows (k .in-order),
       edge-rows k,
-      omega (arith, f .1, e .before .before .before .before .before .before .before .before .before .before .pre .2),
+      omega (arith, f .1, start e .pre .2),
       rows-in e .0,
     )
 
 returns-3 : tie.Need-returns-3
 returns-3 c =
     let k = named-in (c .before .before .before) in
-    let a = c .before .before .before .before .before .before .before .before .before .before .before .before .before
-    .args in
+    let a = start (c .before .before .before) .args in
     let f = c .before .curves-fit in
     sym (stop₃ (a .nodes .now) (a .edges .now) (a .faces .now) (a .c) (a .h) (k .in-order .numbers) (k .named)
     (sym (f .ensures) ∙ flipped (f .result) true (c .if3 .taken)))
@@ -140,15 +109,14 @@ departures-formed-requires : tie.Need-departures-formed-requires
 departures-formed-requires c κs =
     let e = c .before .before .before .before in
     let k = named-in e in
-    let s = e .before .before .before .before .before .before .before .before .before .before in
+    let s = start e in
     let f = e .before .before .before .before .names-exist .ensures in
     (node-rows (k .in-order), edge-rows k, s .pre .1, s .pre .2, omega (arith, f .1, s .pre .2), rows-in e .0)
 
 returns-4 : tie.Need-returns-4
 returns-4 c =
     let k = named-in (c .before .before .before .before .before .before) in
-    let a = c .before .before .before .before .before .before .before .before .before .before .before .before .before
-    .before .before .before .args in
+    let a = start (c .before .before .before .before .before .before) .args in
     let f = c .before .departures-formed in
     sym (stop₄ (a .nodes .now) (a .edges .now) (a .faces .now) (a .c) (a .h) (k .in-order .numbers) (k .named)
     (curved-in (c .before .before .before)) (sym (f .ensures) ∙ flipped (f .result) true (c .if4 .taken)))
@@ -156,7 +124,7 @@ returns-4 c =
 links-formed-requires : tie.Need-links-formed-requires
 links-formed-requires c κs =
     let e = c .before .before .before .before .before .before .before .before .before in
-    let s = e .before .before .before .before .before .before .before .before .before .before in
+    let s = start e in
     let f = e .before .before .before .before .names-exist .ensures in (
       s .pre .2,
       omega (arith, f .1, s .pre .2),
@@ -171,8 +139,7 @@ returns-5 c =
     let e = d .before .before .before .before .before .before in
     let k = named-in e in
     let r = rows-in e in
-    let a = d .before .before .before .before .before .before .before .before .before .before .before .before .before
-    .before .before .before .args in
+    let a = start e .args in
     c .links-formed .ensures (a .nodes .now) (a .edges .now) (a .faces .now) (a .c .nodes) (a .c .faces)
     (node-rows (k .in-order)) (edge-rows k) (face-rows (k .in-order)) (r .0) (r .1) (r .2)
     ∙ sym (last₅ (a .nodes .now) (a .edges .now) (a .faces .now) (a .c) (a .h) (k .in-order .numbers) (k .named)

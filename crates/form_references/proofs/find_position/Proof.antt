@@ -10,6 +10,7 @@ use mir.Syntax.{w64}
 use mir.Val.{toZ, ofZ}
 use mir.Facts.{toZ-ofZ}
 use Rattle.lists.specs.Tables.{place}
+use Rattle.lists.specs.declared.Found.the-variants.{At}
 use Rattle.lists.proofs.Counts.{byte-bit, bit-most}
 use Rattle.tables.specs.Tables.{sameZ, column}
 use Rattle.map.specs.Limits.{edgeWidth}
@@ -49,36 +50,30 @@ returns-2 c =
       (λ q e. absurd (missing-at e)),
     )
 
+-- the row that is found
+row : (c : tie.After-known-told) →
+    let s = c .before .before .before .before .before .before .before in
+    place (sameZ (pos (natAbs (s .args .d)))) 0 (column edgeWidth (s .args .edges .now) (s .args .count))
+    ≡ At (c .before .found .given .0 .0)
+row c = sym (sought (c .before .before .before)) ∙ c .before .found .given .1
+
 mul-t9 : tie.Need-mul-t9
-mul-t9 c =
-    let f = c .before .before .before in
-    let s = f .before .before .before .before in
-    omega (arith, link-below (s .pre .0) (s .args .d) _ (sym (sought f) ∙ c .before .found .given .1), s .pre .0 .fits)
+mul-t9 c = let s = c .before .before .before .before .before .before .before in
+    omega (arith, link-below (s .pre .0) (s .args .d) _ (row c), s .pre .0 .fits)
 
 add-t11 : tie.Need-add-t11
 add-t11 c =
-    let f = c .before .before .before in
-    let s = f .before .before .before .before in
+    let s = c .before .before .before .before .before .before .before in
     let b = ltZ (toZ w64 (ofZ w64 (s .args .d))) (pos 0) in
-    omega (
-      arith,
-      byte-bit b,
-      bit-most b,
-      link-below (s .pre .0) (s .args .d) _ (sym (sought f) ∙ c .before .found .given .1),
-      s .pre .0 .fits,
-    )
+    omega (arith, byte-bit b, bit-most b, link-below (s .pre .0) (s .args .d) _ (row c), s .pre .0 .fits)
 
 returns-3 : tie.Need-returns-3
 returns-3 c =
-    let f = c .before .before .before in
-    let s = f .before .before .before .before in (
+    let s = c .before .before .before .before .before .before .before in (
       (λ e. absurd (missing-at (sym e))),
-      λ q e.
-          let r = link-at (s .pre .0) (s .args .d) (c .before .found .given .0 .0)
+      link-at (s .pre .0) (s .args .d) (c .before .found .given .0 .0)
           (ltZ (toZ w64 (ofZ w64 (s .args .d))) (pos 0))
-          (ap (λ (z : ℤ). ltZ z (pos 0)) (toZ-ofZ {w = w64} (s .fits .d)))
-          (sym (sought f) ∙ c .before .found .given .1) q e in
-          (r .below, r .dart, r .named),
+          (ap (λ (z : ℤ). ltZ z (pos 0)) (toZ-ofZ {w = w64} (s .fits .d))) (row c),
     )
 
 pub find-position-spec : {M : Type 1} → statement M

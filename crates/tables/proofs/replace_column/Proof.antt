@@ -33,37 +33,9 @@ loop-holds : tie.Need-loop-holds Inv-loop μ-loop
 loop-holds c = (omega arith, refl, rw sub-zero)
 
 -- row i lies in the table
-mul-if1 : tie.Need-mul-if1 Inv-loop μ-loop
-mul-if1 c = let a = c .before .before .args in
-    omega (arith, row-room (a .w) (a .count) (c .before .loop .i) (c .loop-test .taken))
-
-add-if1 : tie.Need-add-if1 Inv-loop μ-loop
-add-if1 c = let a = c .before .before .args in
-    omega (arith, row-room (a .w) (a .count) (c .before .loop .i) (c .loop-test .taken))
-
-mul-if1-2 : tie.Need-mul-if1-2 Inv-loop μ-loop
-mul-if1-2 c = let a = c .before .before .args in
-    omega (arith, row-room (a .w) (a .count) (c .before .loop .i) (c .loop-test .taken))
-
-copy-out-if1 : tie.Need-slice-copy-out-if1 Inv-loop μ-loop
-copy-out-if1 c = let a = c .before .before .args in
-    omega (arith, row-room (a .w) (a .count) (c .before .loop .i) (c .loop-test .taken))
-
-mul-new : tie.Need-mul-new Inv-loop μ-loop
-mul-new c = let a = c .before .before .before .before .args in
-    omega (arith, row-room (a .w) (a .count) (c .before .before .before .loop .i) (c .before .before .loop-test .taken))
-
-add-new : tie.Need-add-new Inv-loop μ-loop
-add-new c = let a = c .before .before .before .before .args in
-    omega (arith, row-room (a .w) (a .count) (c .before .before .before .loop .i) (c .before .before .loop-test .taken))
-
-mul-new-2 : tie.Need-mul-new-2 Inv-loop μ-loop
-mul-new-2 c = let a = c .before .before .before .before .args in
-    omega (arith, row-room (a .w) (a .count) (c .before .before .before .loop .i) (c .before .before .loop-test .taken))
-
-set-from-new : tie.Need-slice-set-from-new Inv-loop μ-loop
-set-from-new c = let a = c .before .before .before .before .args in
-    omega (arith, row-room (a .w) (a .count) (c .before .before .before .loop .i) (c .before .before .loop-test .taken))
+room : (c : tie.In-loop Inv-loop μ-loop) → let a = c .before .before .args in
+    c .before .loop .i * a .w + a .w ≤ a .count * a .w
+room c = let a = c .before .before .args in row-room (a .w) (a .count) (c .before .loop .i) (c .loop-test .taken)
 
 loop-again : tie.Need-loop-again Inv-loop μ-loop
 loop-again c =
@@ -98,14 +70,14 @@ replace-column-spec =
     tie.close
     (tie.spec Inv-loop μ-loop
     loop-holds
-    mul-if1
-    add-if1
-    mul-if1-2
-    copy-out-if1
-    mul-new
-    add-new
-    mul-new-2
-    set-from-new
+    (λ c. omega (arith, room c))
+    (λ c. omega (arith, room c))
+    (λ c. omega (arith, room c))
+    (λ c. omega (arith, room c))
+    (λ c. omega (arith, room (c .before .before)))
+    (λ c. omega (arith, room (c .before .before)))
+    (λ c. omega (arith, room (c .before .before)))
+    (λ c. omega (arith, room (c .before .before)))
     (λ c. omega arith)
     (λ c. omega arith)
     loop-again

@@ -1,0 +1,2 @@
+-- `Sides`: what both sides of each edge name.
+pub mod Sides
