@@ -3,8 +3,7 @@
 use mathlib.Core.Path.{_≡_, refl, sym, ap, ap₂, _∙_}
 use mathlib.Core.Bool.{Bool, true, false, _&&_, and-assoc}
 use mathlib.Core.List.{List}
-use Prim.Native.Nat.{ℕ, _/_, _≤_}
-use native.Mathlib.Omega.{arith}
+use Prim.Native.Nat.{_/_, _≤_}
 use lib.IntN.{ℤ}
 use lib.ListN.{length}
 use lib.Signed.{nonNeg}
@@ -12,7 +11,7 @@ use Rattle.lists.specs.Scans.{allOf}
 use Rattle.tables.proofs.Filled.{whole-rows}
 use Rattle.curves.proofs.Runs.{and-left, and-right}
 use Rattle.map.specs.declared.Head.{Head}
-use Rattle.map.specs.Rows.{whole, sizesOf, edge, lent}
+use Rattle.map.specs.Rows.{whole, edge, lent}
 use Rattle.map.specs.Darts.{leaves, next, bears, course, way, departures}
 use Rattle.map.specs.Form.{countsFit, nextsFit, curveFits, numbers, named, departuresDiffer, bareMarked, linksOnce}
 use Rattle.map.specs.Form.{linksMeet, ringsBearOne, formed, inForm}
@@ -132,20 +131,14 @@ module _ (nodes edges faces : List ℤ) (h : Head) where
     by-formed f = in-form-is ∙ rw (e, f)
 
   -- room of whole tables
-  pub whole-room : whole (lent nodes edges faces h) ≡ true → (length nodes / 4 ≤ 1000) × (length edges / 32 ≤ 2000)
-      × (length faces ≤ 1000)
+  pub whole-room : whole (lent nodes edges faces h) ≡ true → (length nodes / nodeWidth ≤ maxNodes)
+      × (length edges / edgeWidth ≤ maxEdges) × (length faces / faceWidth ≤ maxFaces)
   whole-room e =
-      let t = whole-tables (lent nodes edges faces h) e in
-      let f = whole-rows faceWidth 1 maxFaces faces (t .2) .most in (
+      let t = whole-tables (lent nodes edges faces h) e in (
         whole-rows nodeWidth 0 maxNodes nodes (t .0) .most,
         whole-rows edgeWidth 0 maxEdges edges (t .1) .most,
-        omega arith,
+        whole-rows faceWidth 1 maxFaces faces (t .2) .most,
       )
-
-  pub sizes-are : sizesOf (lent nodes edges faces h)
-      ≡ record { nodes = length nodes / 4; edges = length edges / 32; faces = length faces }
-  sizes-are = let e : length faces / 1 ≡ length faces = omega arith in
-      ap (λ (k : ℕ). record { nodes = length nodes / 4; edges = length edges / 32; faces = k }) e
 
 -- what a map in form is known to be
 pub record InForm (nodes edges faces : List ℤ) (c : Counts) (h : Head) : Type 0 where

@@ -43,7 +43,7 @@ pub fn in_form(nodes: &[i64], edges: &[i64], faces: &[i64], h: Head) -> bool
         h,
         nodes.len() / map::NODE_WIDTH,
         edges.len() / map::EDGE_WIDTH,
-        faces.len(),
+        faces.len() / map::FACE_WIDTH,
     ) {
         return false;
     }
