@@ -31,7 +31,5 @@ pub solgwid-edges-of-face-spec : {M : Type 1} → statement M
 solgwid-edges-of-face-spec =
     tie.close
     (tie.spec
-    (λ c κs. search needs)
-    (λ c κs. search needs)
-    (λ c. search needs)
+    (λ c κs. search needs) (λ c κs. search needs) (λ c. search needs)
     returns)

@@ -34,13 +34,9 @@ pub answer-line-spec : {M : Type 1} → statement M
 answer-line-spec =
     tie.close
     (tie.spec
-    (λ c κs. search needs)
-    (λ c κs. search needs)
+    (λ c κs. search needs) (λ c κs. search needs)
     (λ c. numbers (c .before .before .before) .0)
     (λ c. sym (length-take-le (c .before .before .before .before .count-of .result)
     (c .before .before .before .before .before .parse .last .1 .0) (numbers (c .before .before .before .before) .0)))
-    (λ c κs. search needs)
-    (λ c. search needs)
-    (λ c. search needs)
-    (λ c. search needs)
+    (λ c κs. search needs) (λ c. search needs) (λ c. search needs) (λ c. search needs)
     returns)

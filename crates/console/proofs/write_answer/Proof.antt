@@ -34,10 +34,7 @@ pub write-answer-spec : {M : Type 1} → statement M
 write-answer-spec =
     tie.close
     (tie.spec
-    (λ c. search needs)
-    (λ c κs. search needs)
-    (λ c. search needs)
-    (λ c. search needs)
+    (λ c. search needs) (λ c κs. search needs) (λ c. search needs) (λ c. search needs)
     write-row-requires
     (λ c. within (c .before))
     (λ c. sym (length-take-le (c .before .before .write-row .result) (c .before .before .write-row .last .0)

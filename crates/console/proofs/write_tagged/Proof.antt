@@ -22,9 +22,7 @@ pub write-tagged-spec : {M : Type 1} → statement M
 write-tagged-spec =
     tie.close
     (tie.spec
-    (λ c. search needs)
-    (λ c. search needs)
-    (λ c κs. search needs)
+    (λ c. search needs) (λ c. search needs) (λ c κs. search needs)
     (λ c. within (c .before))
     (λ c. sym (length-take-le (c .before .before .write-row .result) (c .before .before .write-row .last .0)
     (within (c .before .before))))

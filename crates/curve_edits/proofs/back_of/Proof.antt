@@ -111,9 +111,7 @@ back-of-spec =
     (tie.spec
     (λ c κs. search needs)
     with-point-requires
-    (λ c κs. search needs)
-    (λ c. search needs)
-    (λ c. search needs)
+    (λ c κs. search needs) (λ c. search needs) (λ c. search needs)
     returns
     (λ c κs. search needs)
     add-point-at

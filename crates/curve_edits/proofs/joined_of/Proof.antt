@@ -103,8 +103,7 @@ pub joined-of-spec : {M : Type 1} → statement M
 joined-of-spec =
     tie.close
     (tie.spec
-    (λ c κs. search needs)
-    (λ c κs. search needs)
+    (λ c κs. search needs) (λ c κs. search needs)
     (λ c. omega (arith, two-points (c .before .before .pre .0)))
     (λ c κs. (c .before .before .pre .0, omega (arith, two-points (c .before .before .pre .0))))
     (λ c κs. search needs)

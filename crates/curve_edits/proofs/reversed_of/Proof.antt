@@ -46,8 +46,7 @@ pub reversed-of-spec : {M : Type 1} → statement M
 reversed-of-spec =
     tie.close
     (tie.spec Inv-loop μ-loop
-    (λ c κs. search needs)
-    (λ c κs. search needs)
+    (λ c κs. search needs) (λ c κs. search needs)
     loop-holds
     (λ c. omega arith)
     (λ c. omega arith)

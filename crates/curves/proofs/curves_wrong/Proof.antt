@@ -56,8 +56,7 @@ pub curves-wrong-spec : {M : Type 1} → statement M
 curves-wrong-spec =
     tie.close
     (tie.spec Inv-loop μ-loop
-    (λ c κs. search needs)
-    (λ c κs. search needs)
+    (λ c κs. search needs) (λ c κs. search needs)
     loop-holds
     (λ c κs. (c .before .before .before .before .pre .0, omega arith))
     (λ c. omega arith)

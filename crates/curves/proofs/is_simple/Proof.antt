@@ -61,11 +61,7 @@ pub is-simple-spec : {M : Type 1} → statement M
 is-simple-spec =
     tie.close
     (tie.spec Inv-loop μ-loop
-    (λ c κs. search needs)
-    (λ c κs. search needs)
-    (λ c κs. search needs)
-    (λ c κs. search needs)
-    (λ c κs. search needs)
+    (λ c κs. search needs) (λ c κs. search needs) (λ c κs. search needs) (λ c κs. search needs) (λ c κs. search needs)
     first
     loop-holds
     (λ c κs. search needs)

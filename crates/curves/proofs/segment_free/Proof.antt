@@ -86,11 +86,9 @@ pub segment-free-spec : {M : Type 1} → statement M
 segment-free-spec =
     tie.close
     (tie.spec Inv-loop μ-loop
-    (λ c κs. search needs)
-    (λ c κs. search needs)
+    (λ c κs. search needs) (λ c κs. search needs)
     (λ c. omega arith)
-    (λ c κs. search needs)
-    (λ c κs. search needs)
+    (λ c κs. search needs) (λ c κs. search needs)
     (λ c. omega arith)
     loop-holds
     (λ c. omega arith)

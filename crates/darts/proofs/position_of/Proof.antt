@@ -105,15 +105,13 @@ position-of-spec =
     returns
     sub-find-row
     (λ c κs. edge-rows-rising (c .before .before .pre))
-    (λ c. search needs)
-    (λ c. search needs)
+    (λ c. search needs) (λ c. search needs)
     returns-2
     mul-t12
     add-t13
     returns-3
     (λ c κs. edge-rows-rising (c .before .before .pre))
-    (λ c. search needs)
-    (λ c. search needs)
+    (λ c. search needs) (λ c. search needs)
     returns-4
     mul-t14
     returns-5)

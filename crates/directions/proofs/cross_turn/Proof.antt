@@ -29,8 +29,7 @@ pub cross-turn-spec : {M : Type 1} → statement M
 cross-turn-spec =
     tie.close
     (tie.spec
-    (λ c κs. search needs)
-    (λ c κs. search needs)
+    (λ c κs. search needs) (λ c κs. search needs)
     returns
     returns-2
     returns-3)

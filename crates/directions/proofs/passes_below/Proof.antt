@@ -17,7 +17,6 @@ pub passes-below-spec : {M : Type 1} → statement M
 passes-below-spec =
     tie.close
     (tie.spec
-    (λ c κs. search needs)
-    (λ c κs. search needs)
+    (λ c κs. search needs) (λ c κs. search needs)
     returns
     returns-2)

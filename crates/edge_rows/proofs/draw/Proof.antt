@@ -69,7 +69,5 @@ draw-spec =
     (λ c κs. let s =
     c .before .before .before .before .before .before .before .before .before .before .before .before .before in
     rw (c .before .before .set-face .ensures, length-set) (end-fits (s .pre)))
-    (λ c κs. search needs)
-    (λ c. search needs)
-    (λ c. search needs)
+    (λ c κs. search needs) (λ c. search needs) (λ c. search needs)
     returns)

@@ -65,8 +65,7 @@ give-face-spec =
     find-row-requires
     (λ c. search needs)
     set-face-requires
-    (λ c. search needs)
-    (λ c. search needs)
+    (λ c. search needs) (λ c. search needs)
     returns
     (λ c. search needs)
     returns-2

@@ -92,20 +92,13 @@ undraw-spec =
     (tie.spec
     (λ c κs. nodes-natural (c .before .pre .held .counted))
     (λ c κs. edges-natural (c .before .before .before .pre .held .counted))
-    (λ c. search needs)
-    (λ c. search needs)
-    (λ c. search needs)
-    (λ c. search needs)
-    (λ c. search needs)
-    (λ c. search needs)
-    (λ c. search needs)
-    (λ c. search needs)
+    (λ c. search needs) (λ c. search needs) (λ c. search needs) (λ c. search needs) (λ c. search needs)
+    (λ c. search needs) (λ c. search needs) (λ c. search needs)
     undraw-edge-requires
     give-face-requires
     give-face-requires-2
     (λ c κs. let s =
     c .before .before .before .before .before .before .before .before .before .before .before .before .before .before
     .before in let r = s .pre .row in search needs)
-    (λ c. search needs)
-    (λ c. search needs)
+    (λ c. search needs) (λ c. search needs)
     returns)

@@ -43,6 +43,5 @@ undraw-edge-spec =
     (λ c κs. search needs)
     is-isolated-without-requires
     is-isolated-without-requires-2
-    (λ c κs. search needs)
-    (λ c. search needs)
+    (λ c κs. search needs) (λ c. search needs)
     returns)

@@ -61,11 +61,7 @@ write-last-spec =
     tie.close
     (tie.spec
     to-usize-requires
-    (λ c. search needs)
-    (λ c. search needs)
-    (λ c. search needs)
-    (λ c. search needs)
-    (λ c. search needs)
+    (λ c. search needs) (λ c. search needs) (λ c. search needs) (λ c. search needs) (λ c. search needs)
     (λ c. search needs)
     negated-requires
     (λ c κs. search needs)

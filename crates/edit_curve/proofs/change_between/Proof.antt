@@ -64,10 +64,8 @@ change-between-spec =
     tie.close
     (tie.spec
     (λ c κs. let p = c .before .pre in (held (p .0), p .1, p .2 .start-in, p .2 .end-in))
-    (λ c κs. search needs)
-    (λ c. search needs)
+    (λ c κs. search needs) (λ c. search needs)
     refused
     write-curve-requires
-    (λ c κs. search needs)
-    (λ c. search needs)
+    (λ c κs. search needs) (λ c. search needs)
     written)

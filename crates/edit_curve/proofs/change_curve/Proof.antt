@@ -69,10 +69,7 @@ change-curve-spec =
     (tie.spec
     (λ c κs. edges-natural (counted (c .before .pre)))
     find-row-requires
-    (λ c. search needs)
-    (λ c. search needs)
-    (λ c κs. search needs)
-    (λ c. search needs)
+    (λ c. search needs) (λ c. search needs) (λ c κs. search needs) (λ c. search needs)
     missing
     change-at-row-requires
     (λ c. search needs)

@@ -31,7 +31,6 @@ row-of-spec =
     tie.close
     (tie.spec
     (λ c κs. node-rows-rising (c .pre .0))
-    (λ c. search needs)
-    (λ c. search needs)
+    (λ c. search needs) (λ c. search needs)
     missing
     found)

@@ -52,8 +52,5 @@ add-isolated-edge-spec =
     number-2
     curve
     curve
-    (λ c. search needs)
-    (λ c κs. search needs)
-    (λ c. search needs)
-    (λ c. search needs)
+    (λ c. search needs) (λ c κs. search needs) (λ c. search needs) (λ c. search needs)
     returns)

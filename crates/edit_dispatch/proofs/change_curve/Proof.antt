@@ -38,7 +38,5 @@ change-curve-spec =
     number
     curve
     curve
-    (λ c. search needs)
-    (λ c κs. search needs)
-    (λ c. search needs)
+    (λ c. search needs) (λ c κs. search needs) (λ c. search needs)
     returns)

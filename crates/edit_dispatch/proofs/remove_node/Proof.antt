@@ -24,7 +24,5 @@ remove-node-spec =
     (λ c κs. search needs)
     (λ c. let a = c .before .before .args in shaped-none _ _ _ _ (c .refused .ensures)
     (one-none RemoveIsoNode (a .t .now) (c .before .if1 .taken)))
-    (λ c. search needs)
-    (λ c κs. search needs)
-    (λ c. search needs)
+    (λ c. search needs) (λ c κs. search needs) (λ c. search needs)
     returns)

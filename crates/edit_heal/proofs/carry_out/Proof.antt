@@ -82,9 +82,5 @@ carry-out-spec =
     (c .before .before .before .before .before .before .before .before .before .before .pre .counted))
     (λ c κs. let p = c .before .before .before .before .before .before .before .before .before .before .before .pre in
     rw (nodes-read (p .counted) (c .to-usize2 .ensures)) (p .node-rows))
-    (λ c κs. search needs)
-    (λ c κs. search needs)
-    (λ c κs. search needs)
-    (λ c. search needs)
-    (λ c. search needs)
+    (λ c κs. search needs) (λ c κs. search needs) (λ c κs. search needs) (λ c. search needs) (λ c. search needs)
     returns)

@@ -165,16 +165,13 @@ heal-at-rows-spec =
     (tie.spec
     (λ c κs. edges-natural (counted (c .before .pre .0)))
     joint-reason-requires
-    (λ c κs. search needs)
-    (λ c. search needs)
+    (λ c κs. search needs) (λ c. search needs)
     refused-early
     parts-of-requires
     joined-line-requires
     (λ c κs. counted (c .before .before .before .before .before .before .before .before .before .pre .0))
-    (λ c κs. search needs)
-    (λ c. search needs)
+    (λ c κs. search needs) (λ c. search needs)
     refused-late
     carry-out-requires
-    (λ c. search needs)
-    (λ c. search needs)
+    (λ c. search needs) (λ c. search needs)
     healed)

@@ -87,19 +87,12 @@ heal-edges-spec =
     (λ c κs. edges-natural (counted (c .before .pre)))
     (λ c κs. let s = c .before .before .before in
     rw (edges-read (counted (s .pre)) (c .before .to-usize .ensures)) (edge-rows-rising (edge-rows (s .pre))))
-    (λ c. search needs)
-    (λ c. search needs)
-    (λ c κs. search needs)
-    (λ c. search needs)
+    (λ c. search needs) (λ c. search needs) (λ c κs. search needs) (λ c. search needs)
     missing
     (λ c κs. let t = c .before .before .before .before .before .before in let f = t .before .before .pre in
     rw (edges-read (counted f) (t .to-usize .ensures)) (edge-rows-rising (edge-rows f)))
-    (λ c. search needs)
-    (λ c. search needs)
-    (λ c κs. search needs)
-    (λ c. search needs)
+    (λ c. search needs) (λ c. search needs) (λ c κs. search needs) (λ c. search needs)
     other-missing
     heal-at-rows-requires
-    (λ c. search needs)
-    (λ c. search needs)
+    (λ c. search needs) (λ c. search needs)
     found)

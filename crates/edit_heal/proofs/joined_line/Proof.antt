@@ -28,15 +28,12 @@ pub joined-line-spec : {M : Type 1} → statement M
 joined-line-spec =
     tie.close
     (tie.spec
-    (λ c κs. search needs)
-    (λ c κs. search needs)
+    (λ c κs. search needs) (λ c κs. search needs)
     (λ c. omega (arith, first (c .before .before .before .before) .few))
     (λ c. omega (arith, second (c .before .before .before .before) .few))
-    (λ c. search needs)
-    (λ c. search needs)
+    (λ c. search needs) (λ c. search needs)
     (λ c. let k = first (c .before .before .before .before .before .before) in omega (arith, k .few, k .long))
-    (λ c. search needs)
-    (λ c. search needs)
+    (λ c. search needs) (λ c. search needs)
     (λ c. let k = second (c .before .before .before .before .before .before .before) in omega (arith, k .few, k .long))
     (λ c κs. let r = c .before .before .before .before .before .before .before .before in
     (first (r .before) .run, second r .run))

@@ -29,9 +29,7 @@ late-reason-spec =
     tie.close
     (tie.spec
     (λ c. sym (first-hit 18 _ _ (lt-ltb maxPoints (c .before .args .count) (c .if1 .taken))))
-    (λ c. search needs)
-    (λ c. search needs)
-    (λ c κs. search needs)
+    (λ c. search needs) (λ c. search needs) (λ c κs. search needs)
     kept
     (λ c. sym (first-hit 21 _ _ (c .if2 .taken)) ∙ passed (c .before))
     (λ c. sym (first-miss 21 _ _ (c .if2 .left) ∙ first-none) ∙ passed (c .before)))

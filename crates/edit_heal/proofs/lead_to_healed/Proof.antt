@@ -46,8 +46,5 @@ lead-to-healed-spec =
     (λ c κs. let s = c .before in edge-row-of (s .pre .rows) (s .args .p / 2) (omega (arith, s .pre .first)))
     (λ c κs. search needs)
     dart-at-requires-2
-    (λ c κs. search needs)
-    (λ c κs. search needs)
-    (λ c κs. search needs)
-    (λ c. search needs)
+    (λ c κs. search needs) (λ c κs. search needs) (λ c κs. search needs) (λ c. search needs)
     returns)

@@ -53,8 +53,7 @@ remove-joint-spec =
     find-row-requires
     (λ c. search needs)
     remove-row-requires
-    (λ c. search needs)
-    (λ c. search needs)
+    (λ c. search needs) (λ c. search needs)
     returns
     (λ c. search needs)
     returns-2)

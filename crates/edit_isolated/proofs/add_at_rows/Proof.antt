@@ -86,13 +86,9 @@ add-at-rows-spec =
     tie.close
     (tie.spec
     (λ c κs. let s = c .before .before in (held (s .pre .0), s .pre .1, s .pre .2))
-    (λ c κs. search needs)
-    (λ c. search needs)
-    (λ c. search needs)
+    (λ c κs. search needs) (λ c. search needs) (λ c. search needs)
     refused
     face-of-requires
     draw-requires
-    (λ c κs. search needs)
-    (λ c. search needs)
-    (λ c. search needs)
+    (λ c κs. search needs) (λ c. search needs) (λ c. search needs)
     drawn)

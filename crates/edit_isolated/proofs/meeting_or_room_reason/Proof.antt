@@ -56,6 +56,5 @@ meeting-or-room-reason-spec =
     (λ c κs. edges-natural (c .before .before .before .pre .0 .counted))
     meeting-reason-requires
     meeting
-    (λ c κs. search needs)
-    (λ c κs. search needs)
+    (λ c κs. search needs) (λ c κs. search needs)
     room)

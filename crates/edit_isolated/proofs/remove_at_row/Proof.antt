@@ -73,13 +73,10 @@ remove-at-row-spec =
     (tie.spec
     (λ c κs. edges-natural (counted (c .before .pre .0)))
     edge-isolated-requires
-    (λ c κs. search needs)
-    (λ c. search needs)
+    (λ c κs. search needs) (λ c. search needs)
     joined
     (λ c κs. let s = c .before .before .before .before .before .before in
     edge-row-of (edge-rows (s .pre .0)) (s .args .i) (s .pre .1))
     undraw-requires
-    (λ c κs. search needs)
-    (λ c. search needs)
-    (λ c. search needs)
+    (λ c κs. search needs) (λ c. search needs) (λ c. search needs)
     undrawn)

@@ -68,12 +68,8 @@ remove-isolated-edge-spec =
     (tie.spec
     (λ c κs. edges-natural (counted (c .before .pre)))
     find-row-requires
-    (λ c. search needs)
-    (λ c. search needs)
-    (λ c κs. search needs)
-    (λ c. search needs)
+    (λ c. search needs) (λ c. search needs) (λ c κs. search needs) (λ c. search needs)
     missing
     remove-at-row-requires
-    (λ c. search needs)
-    (λ c. search needs)
+    (λ c. search needs) (λ c. search needs)
     found)

@@ -52,7 +52,6 @@ face-missing-spec =
     (λ c κs. tt)
     none-given
     (λ c κs. face-rows-rising (c .before .before .pre))
-    (λ c. search needs)
-    (λ c. search needs)
+    (λ c. search needs) (λ c. search needs)
     found
     missing)

@@ -56,8 +56,7 @@ remove-node-spec =
     (λ c κs. nodes-natural (counted (c .before .pre)))
     (λ c κs. let s = c .before .before .before in
     rw (nodes-read (counted (s .pre)) (c .before .to-usize .ensures)) (node-rows-rising (node-rows (s .pre))))
-    (λ c. search needs)
-    (λ c. search needs)
+    (λ c. search needs) (λ c. search needs)
     (λ c κs. tt)
     (λ c. search needs)
     missing

@@ -10,7 +10,6 @@ pub value-of-spec : {M : Type 1} → statement M
 value-of-spec =
     tie.close
     (tie.spec
-    (λ c. search needs)
-    (λ c. search needs)
+    (λ c. search needs) (λ c. search needs)
     (λ c. rw (c .enum-told .given .1) (toZ-ofZ {w = w64} (c .before .before .fits .face)))
     (λ c. rw (c .enum-told2 .given .1) refl))

@@ -73,11 +73,7 @@ pub cut-row-spec : {M : Type 1} → statement M
 cut-row-spec =
     tie.close
     (tie.spec
-    (λ c κs. search needs)
-    (λ c κs. search needs)
-    (λ c κs. search needs)
-    (λ c κs. search needs)
-    (λ c κs. search needs)
+    (λ c κs. search needs) (λ c κs. search needs) (λ c κs. search needs) (λ c κs. search needs) (λ c κs. search needs)
     write-start-half-requires
     write-edge-requires
     (λ c. search needs)

@@ -107,8 +107,7 @@ split-at-row-spec =
     (tie.spec
     (λ c κs. c .before .before .pre)
     (λ c κs. tt)
-    (λ c. search needs)
-    (λ c. search needs)
+    (λ c. search needs) (λ c. search needs)
     refused
     cut-edge-requires
     (λ c κs. nodes-natural
@@ -117,6 +116,5 @@ split-at-row-spec =
     (λ c κs. counted
     (c .before .before .before .before .before .before .before .before .before .before .before .before .before .pre .0))
     (λ c κs. tt)
-    (λ c. search needs)
-    (λ c. search needs)
+    (λ c. search needs) (λ c. search needs)
     carried)

@@ -60,13 +60,11 @@ split-edge-spec =
     (λ c κs. edges-natural (counted (c .before .pre)))
     (λ c κs. let s = c .before .before .before in
     rw (edges-read (counted (s .pre)) (c .before .to-usize .ensures)) (edge-rows-rising (edge-rows (s .pre))))
-    (λ c. search needs)
-    (λ c. search needs)
+    (λ c. search needs) (λ c. search needs)
     (λ c κs. tt)
     (λ c. search needs)
     missing
     (λ c κs. let d = c .before .before .before in let s = d .before .before .before .before .before .before in
     (s .pre, edge-in (s .pre) (s .args .edge) (d .found .given .0 .0) (edge-at d)))
-    (λ c. search needs)
-    (λ c. search needs)
+    (λ c. search needs) (λ c. search needs)
     found)

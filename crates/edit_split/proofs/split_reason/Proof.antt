@@ -61,7 +61,6 @@ split-reason-spec =
     (λ c κs. nodes-natural (counted (c .before .pre .0)))
     point-reason-requires
     (λ c. sym (first-append _ _ _ (omega (arith, c .if1 .taken)) (told (c .before))))
-    (λ c κs. search needs)
-    (λ c κs. search needs)
+    (λ c κs. search needs) (λ c κs. search needs)
     room-reason-requires
     room)

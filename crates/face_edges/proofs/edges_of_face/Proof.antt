@@ -139,17 +139,14 @@ pub edges-of-face-spec : {M : Type 1} → statement M
 edges-of-face-spec =
     tie.close
     (tie.spec
-    (λ c κs. search needs)
-    (λ c κs. search needs)
+    (λ c κs. search needs) (λ c κs. search needs)
     returns
     (λ c κs. whole-in c)
     (λ c κs. search needs)
     returns-2
     counts-of-requires
     find-row-requires
-    (λ c. search needs)
-    (λ c. search needs)
-    (λ c κs. search needs)
+    (λ c. search needs) (λ c. search needs) (λ c κs. search needs)
     returns-3
     cast-list-rings
     list-rings-requires

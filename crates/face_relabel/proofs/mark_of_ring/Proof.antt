@@ -61,13 +61,9 @@ pub mark-of-ring-spec : {M : Type 1} → statement M
 mark-of-ring-spec =
     tie.close
     (tie.spec
-    (λ c. search needs)
-    (λ c. search needs)
-    (λ c. search needs)
-    (λ c. search needs)
+    (λ c. search needs) (λ c. search needs) (λ c. search needs) (λ c. search needs)
     (λ c κs. node-rows-rising (c .before .pre .0 .nodes))
-    (λ c. search needs)
-    (λ c. search needs)
+    (λ c. search needs) (λ c. search needs)
     returns
     (λ c κs. node-row-of (c .before .before .before .before .before .pre .0 .nodes) (c .before .found .given .0 .0)
     (row c .0))

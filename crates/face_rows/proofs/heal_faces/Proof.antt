@@ -108,8 +108,5 @@ heal-faces-spec =
     rename-faces-requires
     heal-row-requires
     without-face-requires
-    (λ c κs. search needs)
-    (λ c. search needs)
-    (λ c. search needs)
-    (λ c. search needs)
+    (λ c κs. search needs) (λ c. search needs) (λ c. search needs) (λ c. search needs)
     returns)

@@ -59,8 +59,7 @@ remove-face-spec =
     (λ c κs. face-rows-rising (face-rows (c .before .args .count) (c .before .pre .0)))
     (λ c. search needs)
     remove-row-requires
-    (λ c. search needs)
-    (λ c. search needs)
+    (λ c. search needs) (λ c. search needs)
     returns
     (λ c. search needs)
     returns-2)

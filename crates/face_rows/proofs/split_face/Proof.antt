@@ -108,7 +108,5 @@ split-face-spec =
     split-row-requires
     (λ c κs. c .before .before .before .before .before .before .before .before .before .before .before .before .before
     .pre .held .counted)
-    (λ c. search needs)
-    (λ c. search needs)
-    (λ c. search needs)
+    (λ c. search needs) (λ c. search needs) (λ c. search needs)
     returns)

@@ -151,9 +151,7 @@ is-formed-spec =
     (tie.spec
     (λ c κs. search needs)
     returns
-    (λ c. search needs)
-    (λ c. search needs)
-    (λ c. search needs)
+    (λ c. search needs) (λ c. search needs) (λ c. search needs)
     names-exist-requires
     returns-2
     (λ c. search needs)
@@ -162,8 +160,6 @@ is-formed-spec =
     (λ c. search needs)
     departures-formed-requires
     returns-4
-    (λ c. search needs)
-    (λ c. search needs)
-    (λ c. search needs)
+    (λ c. search needs) (λ c. search needs) (λ c. search needs)
     links-formed-requires
     returns-5)

@@ -60,6 +60,5 @@ departures-formed-spec =
     returns
     (λ c. search needs)
     mark-starts-requires
-    (λ c. search needs)
-    (λ c κs. search needs)
+    (λ c. search needs) (λ c κs. search needs)
     returns-2)

@@ -88,8 +88,7 @@ curve-fits-spec =
     cast-v
     node-point-requires
     node-point-requires-2
-    (λ c κs. search needs)
-    (λ c κs. search needs)
+    (λ c κs. search needs) (λ c κs. search needs)
     returns
     (λ c κs. search needs)
     returns-2)

@@ -160,14 +160,11 @@ names-exist-spec =
     index-rows-requires-2
     (λ c. search needs)
     find-rows-requires-2
-    (λ c. search needs)
-    (λ c. search needs)
+    (λ c. search needs) (λ c. search needs)
     returns-3
     (λ c. search needs)
     index-rows-requires-3
     (λ c. search needs)
     find-nexts-requires
-    (λ c. search needs)
-    (λ c. search needs)
-    (λ c. search needs)
+    (λ c. search needs) (λ c. search needs) (λ c. search needs)
     returns-4)

@@ -44,6 +44,5 @@ runs-between-spec =
     (λ c κs. search needs)
     sub-point-at
     point-at-requires-2
-    (λ c κs. search needs)
-    (λ c κs. search needs)
+    (λ c κs. search needs) (λ c κs. search needs)
     returns)

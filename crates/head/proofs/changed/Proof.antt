@@ -75,7 +75,5 @@ changed-spec =
     nodes
     edges
     faces
-    (λ c κs. search needs)
-    (λ c κs. search needs)
-    (λ c κs. search needs)
+    (λ c κs. search needs) (λ c κs. search needs) (λ c κs. search needs)
     returns)

@@ -51,8 +51,7 @@ link-at-spec =
     tie.close
     (tie.spec
     dart-at-requires
-    (λ c κs. search needs)
-    (λ c κs. search needs)
+    (λ c κs. search needs) (λ c κs. search needs)
     set-dart-cell-requires
     (λ c. search needs)
     returns)

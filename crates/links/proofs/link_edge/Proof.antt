@@ -33,11 +33,7 @@ pub link-edge-spec : {M : Type 1} → statement M
 link-edge-spec =
     tie.close
     (tie.spec
-    (λ c. search needs)
-    (λ c. search needs)
-    (λ c. search needs)
-    (λ c κs. search needs)
-    (λ c. search needs)
+    (λ c. search needs) (λ c. search needs) (λ c. search needs) (λ c κs. search needs) (λ c. search needs)
     (λ c. search needs)
     link-in-requires-2
     (λ c. search needs)

@@ -49,8 +49,6 @@ met-spec =
     (tie.spec
     (λ c κs. search needs)
     step-at-requires
-    (λ c. search needs)
-    (λ c. search needs)
-    (λ c. search needs)
+    (λ c. search needs) (λ c. search needs) (λ c. search needs)
     first-clockwise-requires
     returns)

@@ -60,11 +60,7 @@ pub write-edge-spec : {M : Type 1} → statement M
 write-edge-spec =
     tie.close
     (tie.spec
-    (λ c. search needs)
-    (λ c. search needs)
-    (λ c. search needs)
-    (λ c κs. search needs)
-    (λ c. search needs)
+    (λ c. search needs) (λ c. search needs) (λ c. search needs) (λ c κs. search needs) (λ c. search needs)
     (λ c. search needs)
     slice-aggregate-write-2
     write-requires-2

@@ -33,11 +33,9 @@ pub floor-over-spec : {M : Type 1} → statement M
 floor-over-spec =
     tie.close
     (tie.spec
-    (λ c. search needs)
-    (λ c. search needs)
+    (λ c. search needs) (λ c. search needs)
     left-requires
-    (λ c. search needs)
-    (λ c. search needs)
+    (λ c. search needs) (λ c. search needs)
     right-requires
     (λ c κs. c .before .before .pre .2)
     (λ c κs. let p = c .before .before .before .pre in

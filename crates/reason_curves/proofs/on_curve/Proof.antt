@@ -23,8 +23,6 @@ pub on-curve-spec : {M : Type 1} → statement M
 on-curve-spec =
     tie.close
     (tie.spec
-    (λ c κs. search needs)
-    (λ c. search needs)
-    (λ c. search needs)
+    (λ c κs. search needs) (λ c. search needs) (λ c. search needs)
     hit
     miss)

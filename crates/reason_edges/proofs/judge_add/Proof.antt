@@ -80,14 +80,12 @@ judge-add-spec =
     (tie.spec
     (λ c κs. nodes-natural (counted (c .before .pre)))
     (λ c κs. rw (count c) (node-rows-rising (node-rows (c .before .before .pre))))
-    (λ c. search needs)
-    (λ c. search needs)
+    (λ c. search needs) (λ c. search needs)
     (λ c κs. tt)
     no-start
     (λ c κs. let t = c .before .before .before .before in
     rw (count t) (node-rows-rising (node-rows (t .before .before .pre))))
-    (λ c. search needs)
-    (λ c. search needs)
+    (λ c. search needs) (λ c. search needs)
     (λ c κs. tt)
     no-end
     judge-rows-requires

@@ -57,8 +57,7 @@ judge-removal-spec =
     (tie.spec
     (λ c κs. edges-natural (counted (c .before .pre)))
     (λ c κs. rw (count c) (edge-rows-rising (edge-rows (c .before .before .pre))))
-    (λ c. search needs)
-    (λ c. search needs)
+    (λ c. search needs) (λ c. search needs)
     missing
     makes-face-requires
     (λ c κs. counted (c .before .before .before .before .before .before .before .pre))

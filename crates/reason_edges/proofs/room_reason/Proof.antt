@@ -22,9 +22,7 @@ pub room-reason-spec : {M : Type 1} → statement M
 room-reason-spec =
     tie.close
     (tie.spec
-    (λ c. search needs)
-    (λ c. search needs)
-    (λ c. search needs)
+    (λ c. search needs) (λ c. search needs) (λ c. search needs)
     (λ c. omega (arith, byte-most (c .args .splits), byte-most (c .args .second)))
     (λ c κs. search needs)
     (λ c κs. let a = c .before .args in let x = byte-most (a .splits) in let y = byte-most (a .second) in search needs)

@@ -45,8 +45,7 @@ find-indexed-spec =
     tie.close
     (tie.spec
     (λ c κs. tt)
-    (λ c. search needs)
-    (λ c. search needs)
+    (λ c. search needs) (λ c. search needs)
     cast-i
     mul-if2
     mul-if2-2

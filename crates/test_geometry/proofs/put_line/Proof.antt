@@ -22,6 +22,5 @@ put-line-spec =
     (λ c. omega arith)
     (λ c. omega arith)
     (λ c. (omega arith, omega arith))
-    (λ c κs. search needs)
-    (λ c κs. search needs)
+    (λ c κs. search needs) (λ c κs. search needs)
     (λ c. search needs))

@@ -35,8 +35,7 @@ parse-spec =
     (tie.spec
     returns
     (λ c κs. tt)
-    (λ c. search needs)
-    (λ c. search needs)
+    (λ c. search needs) (λ c. search needs)
     returns-2
     write-numbers-requires
     returns-3)

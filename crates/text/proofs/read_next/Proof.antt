@@ -50,7 +50,6 @@ read-next-spec =
     (λ c. c .run-end2 .ensures .from)
     (λ c. c .run-end2 .ensures .within)
     (λ c κs. tt)
-    (λ c. search needs)
-    (λ c. search needs)
+    (λ c. search needs) (λ c. search needs)
     returns-2
     returns-3)

@@ -43,8 +43,7 @@ signed-spec =
     (tie.spec
     returns
     (λ c κs. tt)
-    (λ c. search needs)
-    (λ c. search needs)
+    (λ c. search needs) (λ c. search needs)
     returns-2
     (λ c κs. tt)
     (λ c κs. search needs)
