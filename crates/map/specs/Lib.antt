@@ -1,4 +1,4 @@
--- Document 01 as definitions, in its order.
+-- Document 01 as definitions, in its order; and `Loans`, by which contracts read what is lent.
 pub mod Limits
 pub mod Rows
 pub mod Darts
