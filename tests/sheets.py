@@ -3,8 +3,10 @@
 
   sheets.py [--seed S]     REFERENCE names the reference's folder (default: ../shared/reference beside the repository)
 
-The square sheet's P cases first, then lists by hand and random ones, each from a map that the removals before it made bare; wrong lines among them; for
-`ticket` a full node table at the end, for `sheet` every edge of a sheet with islands split and healed at once. Fails where a kind is not carried out, a reason of a kind never answers, or one of 3 to 19 is missing.
+The square sheet's P cases first, then lists by hand and random ones, each from a map that the removals before it made
+bare; wrong lines among them. For `ticket` each table is filled and asked for one row more; for `sheet` every edge of a
+sheet with islands is split and healed at once, and edges and faces are filled. The last line is one byte without a line
+end. Fails where a kind is not carried out, a reason of a kind never answers, or one of 3 to 20 is missing.
 """
 
 import argparse
@@ -105,6 +107,28 @@ class Sheet:
         for k in ((1, -1, 5, 5), (7, e, 10, 0), (8, e, 10, 0), (11, v.number, u.number, *at(v), 10, 10, *at(u)), (3, self.map.nodes[-1].number), (8, e, 10, 0), (1, 0, 5, 5)):
             self.put(k)
 
+    def fill_edges(self):
+        """Loops about one node until no face row is free, then edges to a second node until no edge row is."""
+        self.clear()
+        self.put((1, -1, 0, 0))
+        hub = self.map.nodes[0].number
+        loop = lambda kind, k: (kind, hub, hub, 0, 0, 999, 4 * k, 999, 4 * k + 2, 0, 0)
+        while len(self.map.faces) < ROOM.faces:
+            k = len(self.map.edges)
+            self.put(loop(11 + k % 2, k))
+        k = len(self.map.edges)
+        for t in (loop(11, k), loop(12, k), (14, self.map.edges[-1].number), (1, -1, 0, 9), (1, -1, 9, 20), (1, -1, 9, 21)):
+            self.put(t)
+        a, b, c = (n.number for n in self.map.nodes[1:])
+        self.put((12, hub, a, 0, 0, 0, 9))
+        self.put((11, a, hub, 0, 9, -1, 9, 0, 0))
+        self.put((11, a, hub, 0, 9, 2, 8, 0, 0))
+        assert (len(self.map.edges), len(self.map.faces)) == (ROOM.edges, ROOM.faces)
+        e = self.map.edges[-1].number
+        for t in ((12, hub, b, 0, 0, 9, 20), (4, b, c, 9, 20, 9, 21), (7, e, 2, 8), (8, e, 2, 8), (9, e - 1, e),
+                  (13, e), (4, b, c, 9, 20, 9, 21), (12, hub, b, 0, 0, 9, 20)):
+            self.put(t)
+
 
 def spelled(rng, ticket):
     """The ticket as a line, some with signs, zeros and blanks that change nothing."""
@@ -146,8 +170,9 @@ def ticket_lines(rng):
     s.map = after(s.lines)
     for mix in MIXES * 4:
         s.grow(mix, 60)
+    s.fill_edges()
     s.fill()
-    return s.lines
+    return s.lines + [b'1']
 
 
 def sheet_lines(rng):
@@ -157,8 +182,8 @@ def sheet_lines(rng):
         s.grow(mix, 50)
     s.chapter(SLUICES)
     s.cancel()
-    s.clear()
-    return s.lines
+    s.fill_edges()
+    return s.lines + [b'0']
 
 
 def after(lines):
@@ -189,7 +214,7 @@ def told(name, said):
         print(f'  kind {kind}: {counts.get(0, 0)} carried out, {sum(counts.values()) - counts.get(0, 0)} refused', {r: n for r, n in counts.items() if r})
         missing += [f'kind {kind} answered {r}' for r in (0, *(r for r, _ in pm.reasons(pm.EMPTY_MAP, ROOM, shape) if r < 20)) if r not in counts]
     print('  by refusal:', dict(sorted(by_refusal.items())))
-    return missing + [f'refusal {r}' for r in range(3, 20) if not by_refusal[r]]
+    return missing + [f'refusal {r}' for r in range(3, 21) if not by_refusal[r]]
 
 
 def main():
