@@ -1,5 +1,5 @@
 -- The numbers of a line in a list, and the bytes of lines one after the other. Assumes nothing.
-use mathlib.Core.Path.{_≡_, refl}
+use mathlib.Core.Path.{_≡_, refl, sym, ap, _∙_}
 use mathlib.Core.List.{List, [], _∷_, _++_}
 use mathlib.Core.Option.{Option, none, some, Option·getD}
 use Prim.Native.Nat.{ℕ, _+_, _≤_, _<_}
@@ -8,11 +8,17 @@ use native.Mathlib.Omega.{arith}
 use lib.IntN.{ℤ}
 use lib.ListN.{length, take, drop, set, length-append}
 use lib.Seq.{take-append-seam, length-take-le, take-suc-set, take-all, take-at}
-use Rattle.lists.proofs.Bools.{same-eq, same-false}
-use Rattle.map.specs.Rows.{Lent}
+use Rattle.lists.specs.Scans.{fold}
+use Rattle.lists.proofs.Appends.{fold-append}
+use Rattle.lists.proofs.Bools.{same-refl, same-eq, same-false}
+use Rattle.map.specs.declared.Head.{Head}
+use Rattle.map.specs.Limits.{nodeWidth, edgeWidth, faceWidth}
+use Rattle.map.specs.Rows.{Lent, lent, emptyMap, headOf}
+use Rattle.map.specs.Ticket.{emptied}
 use Rattle.text.specs.declared.Parsed.{Parsed}
 use Rattle.text.specs.Parsed.{ParsedAs}
-use Rattle.console.specs.Lines.{parsedCount, lineAnswered, deskOf, keptBytes, served}
+use Rattle.console.specs.Lines.{parsedCount, lineAnswered, Desk, deskOf, keptBytes, served, DeskServed}
+use Rattle.console.specs.Lines.{finished, afterInput, InputServed, programTable, programTables, ProgramServed}
 
 -- the numbers stand at the front of the list
 pub parsed-numbers : (o : Option (List ℤ)) (before : List ℤ) (r : Parsed) (after : List ℤ) → ParsedAs o before r after
@@ -41,3 +47,45 @@ module _ (l : Lent) (buffer : List ℕ) (n b : ℕ) (size : length buffer ≡ ke
   pub line-full : (b ≡ 10 → ⊥) → keptBytes ≤ n → deskOf l buffer n ≡ served (deskOf l buffer n) b
   unfolding served
   line-full e g = rw (same-false b 10 e, take-at (take n buffer) (b ∷ []) keptBytes (omega (arith, count)))
+
+-- ---- the input
+
+pub none-served : (d : Desk) → DeskServed d d
+none-served d = record { bytes = []; leaves = refl }
+
+-- some bytes and then others
+pub more-served : {d e f : Desk} (bytes : List ℕ) → DeskServed d e → f ≡ fold served e bytes → DeskServed d f
+more-served {d} bytes s q = record {
+  bytes = s .bytes ++ bytes;
+  leaves = q ∙ ap (λ (e : Desk). fold served e bytes) (s .leaves) ∙ sym (fold-append served d (s .bytes) bytes);
+}
+
+-- its end, with n bytes of a line that has not ended
+module _ (l : Lent) (buffer : List ℕ) (n : ℕ) where
+  pub finished-line : 0 < n → n ≤ length buffer → finished (deskOf l buffer n) ≡ lineAnswered l (take n buffer) .lent
+  unfolding finished
+  finished-line h g = rw (length-take-le n buffer g, same-false n 0 (λ e. omega arith))
+
+  pub finished-none : n ≤ 0 → finished (deskOf l buffer n) ≡ l
+  unfolding finished
+  finished-none h = let e : n ≡ 0 = omega arith in rw (e, same-refl 0)
+
+pub input-served : {start before after : Lent} {rest : Desk} → DeskServed (record { lent = start; line = [] }) rest
+    → start ≡ before → after ≡ finished rest → InputServed before after
+input-served s e f = record {
+  bytes = s .bytes;
+  leaves = f ∙ ap finished (s .leaves) ∙ ap (λ (l : Lent). afterInput l (s .bytes)) e;
+}
+
+pub program-served : (h : Head) (after : Lent) → h ≡ headOf emptyMap
+    → InputServed
+    (emptied (lent (programTable nodeWidth) (programTable edgeWidth) (programTable faceWidth) h) .lent) after
+    → ProgramServed (after .head)
+unfolding programTables
+program-served h after e s = record {
+  bytes = s .bytes;
+  leaves = ap (λ (l : Lent). l .head) (s .leaves)
+      ∙ ap (λ (k : Head). afterInput
+      (emptied (lent (programTable nodeWidth) (programTable edgeWidth) (programTable faceWidth) k) .lent)
+      (s .bytes) .head) e;
+}

@@ -1,2 +1,4 @@
--- `Lines`: a ticket on a line, and the bytes of lines one after the other.
+-- `Lines`: a ticket on a line, the bytes of lines one after the other, and the ticket program. `Texts`: what is
+-- printed.
 pub mod Lines
+pub mod Texts

@@ -1,13 +1,17 @@
--- A ticket on a line of text, and the bytes of lines one after the other.
+-- A ticket on a line of text, the bytes of lines one after the other, and the ticket program.
+use mathlib.Core.Path.{_≡_}
 use mathlib.Core.Bool.{cond}
 use mathlib.Core.List.{List, [], _∷_, _++_}
 use mathlib.Core.Option.{Option·getD}
-use Prim.Native.Nat.{ℕ, suc}
-use lib.IntN.{ℤ}
-use lib.ListN.{take}
+use Prim.Native.Nat.{ℕ, suc, _*_}
+use lib.IntN.{ℤ, pos}
+use lib.ListN.{length, take, replicate}
 use Rattle.lists.specs.Tests.{same}
-use Rattle.map.specs.Rows.{Lent}
-use Rattle.map.specs.Ticket.{Outcome, ticket}
+use Rattle.lists.specs.Scans.{fold}
+use Rattle.map.specs.declared.Head.{Head}
+use Rattle.map.specs.Limits.{nodeWidth, edgeWidth, faceWidth}
+use Rattle.map.specs.Rows.{Lent, lent, emptyMap, headOf}
+use Rattle.map.specs.Ticket.{Outcome, ticket, emptied}
 use Rattle.text.specs.declared.Parsed.{Parsed}
 use Rattle.text.specs.declared.Parsed.the-variants.{Numbers, Wrong}
 use Rattle.text.specs.Lines.{maxLine, lineNumbers}
@@ -41,3 +45,41 @@ keptBytes = suc maxLine
 unfoldable pub served : Desk → ℕ → Desk
 served d b = cond (same b 10) (record { lent = lineAnswered (d .lent) (d .line) .lent; line = [] })
     (record { lent = d .lent; line = take keptBytes (d .line ++ b ∷ []) })
+
+-- some bytes lead from one desk to another
+pub record DeskServed (before after : Desk) : Type 0 where
+  pub bytes : List ℕ
+  pub leaves : after ≡ fold served before bytes
+
+-- ---- the whole input
+
+-- at its end a line that has not ended is answered as if it had
+unfoldable pub finished : Desk → Lent
+finished d = cond (same (length (d .line)) 0) (d .lent) (lineAnswered (d .lent) (d .line) .lent)
+
+-- what is lent after all bytes of an input
+abbrev pub afterInput : Lent → List ℕ → Lent
+afterInput l bytes = finished (fold served (record { lent = l; line = [] }) bytes)
+
+-- some input was answered to its end; no contract says which bytes a call reads
+pub record InputServed (before after : Lent) : Type 0 where
+  pub bytes : List ℕ
+  pub leaves : after ≡ afterInput before bytes
+
+-- ---- the ticket program
+
+-- it has 200 rows a table
+abbrev pub programRows : ℕ
+programRows = 200
+
+-- a table of rows of w numbers
+abbrev pub programTable : ℕ → List ℤ
+programTable w = replicate (programRows * w) (pos 0)
+
+unfoldable pub programTables : Lent
+programTables = lent (programTable nodeWidth) (programTable edgeWidth) (programTable faceWidth) (headOf emptyMap)
+
+-- the head after some input, from the empty map on
+pub record ProgramServed (h : Head) : Type 0 where
+  pub bytes : List ℕ
+  pub leaves : h ≡ afterInput (emptied programTables .lent) bytes .head

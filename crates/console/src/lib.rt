@@ -1,16 +1,21 @@
 // Tickets as lines of text, answered as they come.
+use map::Answer;
 use map::Head;
 use outcomes::Done;
 use text::Parsed;
 ghost use mathlib.Core.Path.{_≡_};
-ghost use Prim.Native.Nat.{_≤_};
+ghost use Prim.Native.Nat.{_/_, _≤_, _<_};
 ghost use lib.ListN.{length};
-ghost use Rattle.io.specs.Counts.{Counts};
+ghost use Rattle.io.specs.Counts.{Counts, clamped};
 ghost use Rattle.lists.specs.Scans.{fold};
+ghost use Rattle.head.specs.Heads.{headIn};
 ghost use Rattle.map.specs.Limits.{edgeWidth};
 ghost use Rattle.map.specs.Loans.{lentNow};
+ghost use Rattle.map.specs.Ticket.{emptied};
 ghost use Rattle.outcomes.specs.Outcomes.{outcomeNow};
-ghost use Rattle.console.specs.Lines.{parsedCount, lineAnswered, deskOf, keptBytes, served};
+ghost use Rattle.console.specs.Lines.{parsedCount, lineAnswered, deskOf, keptBytes, served, finished};
+ghost use Rattle.console.specs.Lines.{DeskServed, InputServed, ProgramServed};
+ghost use Rattle.console.specs.Texts.{answerText, taggedText, headNumbers, rowAt, TextPut};
 
 // The bytes of a line that are kept: one more than a line may have.
 const KEPT: usize = text::LINE + 1;
@@ -68,59 +73,98 @@ pub fn answer_line(
 
 // ---- what is printed
 
-// Writes refusal and value.
-fn write_answer(refusal: u64, value: i64) {
-    let mut out = [0u8; ANSWER];
-    let at = printing::write_natural(&mut out, 0, refusal);
-    let end = printing::write_row(&mut out, at, &[value]);
-    io::write_all(libc::STDOUT_FILENO, &out[..end]);
-}
-
-// Writes a row, no longer than an edge's, after a letter.
-fn write_tagged(tag: u8, row: &[i64])
-    requires { ⌜ length (now row) ≤ edgeWidth ⌝ }
+// Puts refusal and value.
+fn put_answer(out: &mut [u8; ANSWER], answer: Answer) -> usize
+    ensures { λ r. ⌜ TextPut (now (out .entry)) (answerText (answer .refusal) (answer .value)) (now (out .exit)) r ⌝ }
 {
-    let mut out = [0u8; ROW];
-    out[0] = tag;
-    let end = printing::write_row(&mut out, 1, row);
-    io::write_all(libc::STDOUT_FILENO, &out[..end]);
+    let value = answer.value;
+    let at = printing::write_natural(out, 0, answer.refusal);
+    printing::write_row(out, at, &[value])
 }
 
-// A count of rows; a number below 0 counts as 0.
-fn clamped(z: i64) -> usize {
-    if z < 0 {
+// Puts a row, no longer than an edge's, after a letter.
+fn put_tagged(out: &mut [u8; ROW], tag: u8, row: &[i64]) -> usize
+    requires { ⌜ length (now row) ≤ edgeWidth ⌝ }
+    ensures { λ r. ⌜ TextPut (now (out .entry)) (taggedText tag (now (row .entry))) (now (out .exit)) r ⌝ }
+{
+    out[0] = tag;
+    printing::write_row(out, 1, row)
+}
+
+// Puts the numbers of a head.
+fn put_head_numbers(out: &mut [u8; ROW], numbers: &[i64; head::WIDTH]) -> usize
+    ensures { λ r. ⌜ TextPut (now (out .entry)) (taggedText 72 (headNumbers (headIn (now (numbers .entry)))))
+        (now (out .exit)) r ⌝ }
+{
+    put_tagged(out, b'H', numbers)
+}
+
+// Puts the head.
+fn put_head(out: &mut [u8; ROW], h: Head) -> usize
+    ensures { λ r. ⌜ TextPut (now (out .entry)) (taggedText 72 (headNumbers h)) (now (out .exit)) r ⌝ }
+{
+    let mut numbers = [0i64; head::WIDTH];
+    head::put_numbers(&mut numbers, h);
+    put_head_numbers(out, &numbers)
+}
+
+// Puts row i of a table.
+fn put_row(out: &mut [u8; ROW], tag: u8, table: &[i64], width: usize, i: usize) -> usize
+    requires { ⌜ (1 ≤ width) × (width ≤ edgeWidth) × (i < length (now table) / width) ⌝ }
+    ensures { λ r. ⌜ TextPut (now (out .entry)) (taggedText tag (rowAt width (now (table .entry)) i))
+        (now (out .exit)) r ⌝ }
+{
+    let at = i * width;
+    let end = at + width;
+    put_tagged(out, tag, &table[at..end])
+}
+
+// How many rows are printed: as many as the head counts, as far as the table has them.
+fn printed_rows(count: i64, most: usize) -> usize
+    ensures { λ r. ⌜ (r ≡ clamped count most) × (r ≤ most) ⌝ }
+{
+    if count < 0 {
         return 0;
     }
-    z as usize
+    let n = count as usize;
+    if n < most { n } else { most }
 }
 
-// Writes the first `count` rows of a table, as far as it has them.
+// Writes an answer.
+fn write_answer(answer: Answer) {
+    let mut out = [0u8; ANSWER];
+    let end = put_answer(&mut out, answer);
+    io::write_all(libc::STDOUT_FILENO, &out[..end]);
+}
+
+// Writes the head.
+fn write_head(h: Head) {
+    let mut out = [0u8; ROW];
+    let end = put_head(&mut out, h);
+    io::write_all(libc::STDOUT_FILENO, &out[..end]);
+}
+
+// Writes row i of a table.
+fn write_row(tag: u8, table: &[i64], width: usize, i: usize)
+    requires { ⌜ (1 ≤ width) × (width ≤ edgeWidth) × (i < length (now table) / width) ⌝ }
+{
+    let mut out = [0u8; ROW];
+    let end = put_row(&mut out, tag, table, width, i);
+    io::write_all(libc::STDOUT_FILENO, &out[..end]);
+}
+
+// Writes the rows of a table that are in use.
 fn write_rows(tag: u8, table: &[i64], width: usize, count: i64)
     requires { ⌜ (1 ≤ width) × (width ≤ edgeWidth) ⌝ }
 {
-    let mut left = clamped(count);
-    let mut at = 0;
-    while 0 < left {
-        if table.len() - at < width {
-            return;
-        }
-        let end = at + width;
-        write_tagged(tag, &table[at..end]);
-        at = end;
-        left -= 1;
+    for i in 0..printed_rows(count, table.len() / width) {
+        write_row(tag, table, width, i);
     }
-}
-
-// Writes the numbers of the head.
-fn write_head(numbers: &[i64; head::WIDTH]) {
-    write_tagged(b'H', numbers);
 }
 
 // Writes the head and the rows in use.
 fn write_sheet(nodes: &[i64], edges: &[i64], faces: &[i64], h: Head) {
-    let mut numbers = [0i64; head::WIDTH];
-    head::put_numbers(&mut numbers, h);
-    write_head(&numbers);
+    write_head(h);
     write_rows(b'N', nodes, map::NODE_WIDTH, h.nodes);
     write_rows(b'E', edges, map::EDGE_WIDTH, h.edges);
     write_rows(b'F', faces, map::FACE_WIDTH, h.faces);
@@ -129,7 +173,8 @@ fn write_sheet(nodes: &[i64], edges: &[i64], faces: &[i64], h: Head) {
 // Writes an answer, with `rows` the head and the rows in use after it.
 fn write_done(nodes: &[i64], edges: &[i64], faces: &[i64], done: Done, rows: bool) {
     let head = done.head;
-    write_answer(done.answer.refusal, done.answer.value);
+    let answer = done.answer;
+    write_answer(answer);
     if rows {
         write_sheet(nodes, edges, faces, head);
     }
@@ -237,7 +282,10 @@ fn serve_input(
     rows: bool,
 ) -> State
     requires { ⌜ length (now line) ≡ keptBytes ⌝ }
-    ensures { λ r. ⌜ r .length ≤ keptBytes ⌝ }
+    ensures { λ r. ⌜
+        DeskServed (deskOf (lentNow (nodes .entry) (edges .entry) (faces .entry) h) (now (line .entry)) 0)
+        (deskOf (lentNow (nodes .exit) (edges .exit) (faces .exit) (r .head)) (now (line .exit)) (r .length))
+        × (r .length ≤ keptBytes) ⌝ }
 {
     let mut buf = [0u8; INPUT];
     let mut state = State { head: h, length: 0 };
@@ -253,19 +301,57 @@ fn serve_input(
     state
 }
 
-// Answers standard input to its end, a ticket a line, in tables of `ROWS` rows; each line is answered on standard
-// output as it comes, with `rows` the head and the rows in use after it.
-pub fn serve(rows: bool) {
+// At the input's end: answers the line that has not ended, if one has begun; the head after it.
+fn serve_rest(
+    nodes: &mut [i64],
+    edges: &mut [i64],
+    faces: &mut [i64],
+    state: State,
+    line: &[u8],
+    rows: bool,
+) -> Head
+    requires { ⌜ state .length ≤ length (now line) ⌝ }
+    ensures { λ r. ⌜
+        lentNow (nodes .exit) (edges .exit) (faces .exit) r
+        ≡ finished (deskOf (lentNow (nodes .entry) (edges .entry) (faces .entry) (state .head))
+        (now (line .entry)) (state .length)) ⌝ }
+{
+    let n = state.length;
+    let head = state.head;
+    if 0 < n {
+        return serve_line(nodes, edges, faces, head, &line[..n], rows);
+    }
+    head
+}
+
+// Makes the empty map and answers standard input to its end, a ticket a line; the head after it. Each line is answered
+// on standard output as it comes, with `rows` the head and the rows in use after it.
+pub fn serve_tables(
+    nodes: &mut [i64],
+    edges: &mut [i64],
+    faces: &mut [i64],
+    h: Head,
+    rows: bool,
+) -> Head
+    ensures { λ r. ⌜ InputServed (emptied (lentNow (nodes .entry) (edges .entry) (faces .entry) h) .lent)
+        (lentNow (nodes .exit) (edges .exit) (faces .exit) r) ⌝ }
+{
+    let mut line = [0u8; KEPT];
+    let empty = engine::empty_map(nodes, edges, faces, h);
+    let start = empty.head;
+    let state = serve_input(nodes, edges, faces, start, &mut line, rows);
+    serve_rest(nodes, edges, faces, state, &line, rows)
+}
+
+// The same in tables of `ROWS` rows; the head's numbers after it.
+pub fn serve(rows: bool) -> [i64; head::WIDTH]
+    ensures { λ r. ⌜ ProgramServed (headIn r) ⌝ }
+{
     let mut nodes = [0i64; NODE_CELLS];
     let mut edges = [0i64; EDGE_CELLS];
     let mut faces = [0i64; FACE_CELLS];
-    let mut line = [0u8; KEPT];
-    let empty = engine::empty_map(&mut nodes, &mut edges, &mut faces, head::empty());
-    let start = empty.head;
-    let state = serve_input(&mut nodes, &mut edges, &mut faces, start, &mut line, rows);
-    let head = state.head;
-    let n = state.length;
-    if 0 < n {
-        serve_line(&mut nodes, &mut edges, &mut faces, head, &line[..n], rows);
-    }
+    let mut numbers = [0i64; head::WIDTH];
+    let h = serve_tables(&mut nodes, &mut edges, &mut faces, head::empty(), rows);
+    head::put_numbers(&mut numbers, h);
+    numbers
 }
