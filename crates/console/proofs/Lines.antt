@@ -2,14 +2,14 @@
 use mathlib.Core.Path.{_≡_, refl, sym, ap, _∙_}
 use mathlib.Core.List.{List, [], _∷_, _++_}
 use mathlib.Core.Option.{Option, none, some, Option·getD}
-use Prim.Native.Nat.{ℕ, _+_, _≤_, _<_}
+use Prim.Native.Nat.{ℕ, suc, _+_, _≤_, _<_}
 use native.Mathlib.Numerals.{add-one}
 use native.Mathlib.Omega.{arith}
 use lib.IntN.{ℤ}
-use lib.ListN.{length, take, drop, set, length-append}
+use lib.ListN.{length, getD, take, drop, set, length-append}
 use lib.Seq.{take-append-seam, length-take-le, take-suc-set, take-all, take-at}
 use Rattle.lists.specs.Scans.{fold}
-use Rattle.lists.proofs.Appends.{fold-append}
+use Rattle.lists.proofs.Appends.{fold-append, each-append}
 use Rattle.lists.proofs.Bools.{same-refl, same-eq, same-false}
 use Rattle.map.specs.declared.Head.{Head}
 use Rattle.map.specs.Limits.{nodeWidth, edgeWidth, faceWidth}
@@ -17,7 +17,7 @@ use Rattle.map.specs.Rows.{Lent, lent, emptyMap, headOf}
 use Rattle.map.specs.Ticket.{emptied}
 use Rattle.text.specs.declared.Parsed.{Parsed}
 use Rattle.text.specs.Parsed.{ParsedAs}
-use Rattle.console.specs.Lines.{parsedCount, lineAnswered, Desk, deskOf, keptBytes, served, DeskServed}
+use Rattle.console.specs.Lines.{parsedCount, lineAnswered, Desk, deskOf, keptBytes, served, Bytes, DeskServed}
 use Rattle.console.specs.Lines.{finished, afterInput, InputServed, programTable, programTables, ProgramServed}
 
 -- the numbers stand at the front of the list
@@ -50,13 +50,19 @@ module _ (l : Lent) (buffer : List ℕ) (n b : ℕ) (size : length buffer ≡ ke
 
 -- ---- the input
 
+pub each-byte : (l : List ℕ) → ((i : ℕ) → getD l i 0 < 256) → Bytes l
+each-byte [] h = tt
+each-byte (b ∷ l) h = (h 0, each-byte l (λ i. h (suc i)))
+
 pub none-served : (d : Desk) → DeskServed d d
-none-served d = record { bytes = []; leaves = refl }
+none-served d = record { bytes = []; are-bytes = tt; leaves = refl }
 
 -- some bytes and then others
-pub more-served : {d e f : Desk} (bytes : List ℕ) → DeskServed d e → f ≡ fold served e bytes → DeskServed d f
-more-served {d} bytes s q = record {
+pub more-served : {d e f : Desk} (bytes : List ℕ) → Bytes bytes → DeskServed d e → f ≡ fold served e bytes
+    → DeskServed d f
+more-served {d} bytes b s q = record {
   bytes = s .bytes ++ bytes;
+  are-bytes = each-append (λ n. n < 256) (s .bytes) bytes (s .are-bytes) b;
   leaves = q ∙ ap (λ (e : Desk). fold served e bytes) (s .leaves) ∙ sym (fold-append served d (s .bytes) bytes);
 }
 
@@ -74,6 +80,7 @@ pub input-served : {start before after : Lent} {rest : Desk} → DeskServed (rec
     → start ≡ before → after ≡ finished rest → InputServed before after
 input-served s e f = record {
   bytes = s .bytes;
+  are-bytes = s .are-bytes;
   leaves = f ∙ ap finished (s .leaves) ∙ ap (λ (l : Lent). afterInput l (s .bytes)) e;
 }
 
@@ -84,6 +91,7 @@ pub program-served : (h : Head) (after : Lent) → h ≡ headOf emptyMap
 unfolding programTables
 program-served h after e s = record {
   bytes = s .bytes;
+  are-bytes = s .are-bytes;
   leaves = ap (λ (l : Lent). l .head) (s .leaves)
       ∙ ap (λ (k : Head). afterInput
       (emptied (lent (programTable nodeWidth) (programTable edgeWidth) (programTable faceWidth) k) .lent)

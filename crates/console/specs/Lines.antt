@@ -3,11 +3,12 @@ use mathlib.Core.Path.{_≡_}
 use mathlib.Core.Bool.{cond}
 use mathlib.Core.List.{List, [], _∷_, _++_}
 use mathlib.Core.Option.{Option·getD}
-use Prim.Native.Nat.{ℕ, suc, _*_}
+use Prim.Native.Nat.{ℕ, suc, _*_, _<_}
 use lib.IntN.{ℤ, pos}
 use lib.ListN.{length, take, replicate}
 use Rattle.lists.specs.Tests.{same}
 use Rattle.lists.specs.Scans.{fold}
+use Rattle.lists.specs.Members.{All}
 use Rattle.map.specs.declared.Head.{Head}
 use Rattle.map.specs.Limits.{nodeWidth, edgeWidth, faceWidth}
 use Rattle.map.specs.Rows.{Lent, lent, emptyMap, headOf}
@@ -46,9 +47,13 @@ unfoldable pub served : Desk → ℕ → Desk
 served d b = cond (same b 10) (record { lent = lineAnswered (d .lent) (d .line) .lent; line = [] })
     (record { lent = d .lent; line = take keptBytes (d .line ++ b ∷ []) })
 
+abbrev pub Bytes : List ℕ → Type 0
+Bytes l = All (λ b. b < 256) l
+
 -- some bytes lead from one desk to another
 pub record DeskServed (before after : Desk) : Type 0 where
   pub bytes : List ℕ
+  pub are-bytes : Bytes bytes
   pub leaves : after ≡ fold served before bytes
 
 -- ---- the whole input
@@ -64,6 +69,7 @@ afterInput l bytes = finished (fold served (record { lent = l; line = [] }) byte
 -- some input was answered to its end; no contract says which bytes a call reads
 pub record InputServed (before after : Lent) : Type 0 where
   pub bytes : List ℕ
+  pub are-bytes : Bytes bytes
   pub leaves : after ≡ afterInput before bytes
 
 -- ---- the ticket program
@@ -82,4 +88,5 @@ programTables = lent (programTable nodeWidth) (programTable edgeWidth) (programT
 -- the head after some input, from the empty map on
 pub record ProgramServed (h : Head) : Type 0 where
   pub bytes : List ℕ
+  pub are-bytes : Bytes bytes
   pub leaves : h ≡ afterInput (emptied programTables .lent) bytes .head

@@ -14,7 +14,7 @@ ghost use Rattle.map.specs.Loans.{lentNow};
 ghost use Rattle.map.specs.Ticket.{emptied};
 ghost use Rattle.outcomes.specs.Outcomes.{outcomeNow};
 ghost use Rattle.console.specs.Lines.{parsedCount, lineAnswered, deskOf, keptBytes, served, finished};
-ghost use Rattle.console.specs.Lines.{DeskServed, InputServed, ProgramServed};
+ghost use Rattle.console.specs.Lines.{Bytes, DeskServed, InputServed, ProgramServed};
 ghost use Rattle.console.specs.Texts.{answerText, taggedText, headNumbers, rowAt, TextPut};
 
 // The bytes of a line that are kept: one more than a line may have.
@@ -75,7 +75,8 @@ pub fn answer_line(
 
 // Puts refusal and value.
 fn put_answer(out: &mut [u8; ANSWER], answer: Answer) -> usize
-    ensures { λ r. ⌜ TextPut (now (out .entry)) (answerText (answer .refusal) (answer .value)) (now (out .exit)) r ⌝ }
+    ensures { λ r. ⌜ TextPut (now (out .entry)) (answerText (answer .refusal) (answer .value))
+        (now (out .exit)) r ⌝ }
 {
     let value = answer.value;
     let at = printing::write_natural(out, 0, answer.refusal);
@@ -255,7 +256,7 @@ fn serve_bytes(
         (now (line .exit)) (r .length)
         ≡ fold served (deskOf (lentNow (nodes .entry) (edges .entry) (faces .entry) (state .head))
         (now (line .entry)) (state .length)) (now (bytes .entry)))
-        × (r .length ≤ keptBytes) ⌝ }
+        × (r .length ≤ keptBytes) × Bytes (now (bytes .entry)) ⌝ }
 {
     let mut at = state;
     for i in 0..bytes.len() {

@@ -16,7 +16,8 @@ use Rattle.console.proofs.put_answer.Tie as tie
 write-row-requires : tie.Need-write-row-requires
 write-row-requires c κs =
     let w = c .before .before .write-natural in
-    omega (arith, w .ensures .1, w .kept .0, natural-few (c .before .before .before .before .before .args .answer .refusal))
+    let a = c .before .before .before .before .before .args .answer in
+    omega (arith, w .ensures .1, w .kept .0, natural-few (a .refusal))
 
 returns : tie.Need-returns
 returns c =

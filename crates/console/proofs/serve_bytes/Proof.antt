@@ -9,6 +9,7 @@ use lib.Seq.{drop-cons}
 use Rattle.lists.specs.Scans.{fold}
 use Rattle.map.specs.Rows.{lent}
 use Rattle.console.specs.Lines.{Desk, deskOf, keptBytes, served}
+use Rattle.console.proofs.Lines.{each-byte}
 use Rattle.console.proofs.serve_bytes.Statement.{statement}
 use Rattle.console.proofs.serve_bytes.Tie as tie
 
@@ -52,7 +53,11 @@ returns : tie.Need-returns Inv-loop μ-loop
 returns c =
     let l = c .before .loop in
     let none-left = drop-of-length-le (c .before .before .before .before .args .bytes .now) {i = l .i} (omega arith) in
-    (sym (l .inv .7 ∙ rw none-left), l .inv .6)
+    let k = c .before .before .shared-slice-known in (
+      sym (l .inv .7 ∙ rw none-left),
+      l .inv .6,
+      each-byte (c .before .before .before .before .args .bytes .now) (λ i. k .given i .fits),
+    )
 
 pub serve-bytes-spec : {M : Type 1} → statement M
 serve-bytes-spec =

@@ -39,7 +39,7 @@ loop-again c =
       w .kept .1 .1 .1 .1 .0
           ∙ l .inv .3,
       w .ensures .1,
-      more-served (take (got .result) (got .last .0)) (l .inv .5) (w .ensures .0),
+      more-served (take (got .result) (got .last .0)) (w .ensures .2) (l .inv .5) (w .ensures .0),
     )
 
 pub serve-input-spec : {M : Type 1} → statement M
