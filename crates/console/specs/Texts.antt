@@ -1,9 +1,9 @@
 -- What is printed: answers, the head and rows as text.
 use mathlib.Core.Path.{_≡_}
 use mathlib.Core.List.{List, [], _∷_, _++_}
-use Prim.Native.Nat.{ℕ, _*_, _≤_}
+use Prim.Native.Nat.{ℕ, _≤_}
 use lib.IntN.{ℤ}
-use lib.ListN.{length, take, drop}
+use lib.ListN.{length, take}
 use lib.Seq.{sets}
 use Rattle.map.specs.declared.Head.{Head}
 use Rattle.printing.specs.Texts.{naturalText, numberText, rowText}
@@ -19,10 +19,6 @@ taggedText tag row = tag ∷ rowText row
 -- the head's numbers: the counts, then the next numbers
 abbrev pub headNumbers : Head → List ℤ
 headNumbers h = h .nodes ∷ h .edges ∷ h .faces ∷ h .«next_node» ∷ h .«next_edge» ∷ h .«next_face» ∷ []
-
--- row i of a table of rows of w numbers
-abbrev pub rowAt : ℕ → List ℤ → ℕ → List ℤ
-rowAt w table i = take w (drop (i * w) table)
 
 -- a text put at the front of a buffer, and its length
 pub record TextPut (before text after : List ℕ) (r : ℕ) : Type 0 where

@@ -8,6 +8,7 @@ ghost use Prim.Native.Nat.{_/_, _≤_, _<_};
 ghost use lib.ListN.{length};
 ghost use Rattle.io.specs.Counts.{Counts, clamped};
 ghost use Rattle.lists.specs.Scans.{fold};
+ghost use Rattle.tables.specs.Tables.{rowAt};
 ghost use Rattle.head.specs.Heads.{headIn};
 ghost use Rattle.map.specs.Limits.{edgeWidth};
 ghost use Rattle.map.specs.Loans.{lentNow};
@@ -15,7 +16,7 @@ ghost use Rattle.map.specs.Ticket.{emptied};
 ghost use Rattle.outcomes.specs.Outcomes.{outcomeNow};
 ghost use Rattle.console.specs.Lines.{parsedCount, lineAnswered, deskOf, keptBytes, served, finished};
 ghost use Rattle.console.specs.Lines.{Bytes, DeskServed, InputServed, ProgramServed};
-ghost use Rattle.console.specs.Texts.{answerText, taggedText, headNumbers, rowAt, TextPut};
+ghost use Rattle.console.specs.Texts.{answerText, taggedText, headNumbers, TextPut};
 
 // The bytes of a line that are kept: one more than a line may have.
 const KEPT: usize = text::LINE + 1;
@@ -344,15 +345,12 @@ pub fn serve_tables(
     serve_rest(nodes, edges, faces, state, &line, rows)
 }
 
-// The same in tables of `ROWS` rows; the head's numbers after it.
-pub fn serve(rows: bool) -> [i64; head::WIDTH]
-    ensures { λ r. ⌜ ProgramServed (headIn r) ⌝ }
+// The same in tables of `ROWS` rows.
+pub fn serve(rows: bool) -> Head
+    ensures { λ r. ⌜ ProgramServed r ⌝ }
 {
     let mut nodes = [0i64; NODE_CELLS];
     let mut edges = [0i64; EDGE_CELLS];
     let mut faces = [0i64; FACE_CELLS];
-    let mut numbers = [0i64; head::WIDTH];
-    let h = serve_tables(&mut nodes, &mut edges, &mut faces, head::empty(), rows);
-    head::put_numbers(&mut numbers, h);
-    numbers
+    serve_tables(&mut nodes, &mut edges, &mut faces, head::empty(), rows)
 }
