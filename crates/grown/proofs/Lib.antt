@@ -20,6 +20,10 @@ pub mod Sounds
 -- every ticket leaves a good map good; the theorems
 pub mod Growth
 pub mod Grows
+-- the law and pieces by their names in the claims; numbers are never given twice, on all tables
+pub mod Claimed
+pub mod Given
+pub mod NeverBack
 -- a split that is healed at once
 pub mod Rejoined
 pub mod HealsBack

@@ -1,22 +1,26 @@
 -- What is claimed of every list of tickets, kinds mixed, senseless and refused ones included. Proved in proofs/:
--- Grows.antt (`grows`, `never-lent`), SplitHeal.antt (`split-cancelled`, `split-renewed`, `split-spent`).
+-- Grows.antt (`grows`, `never-lent`), Claimed.antt (`keeps-law`, `pieces-counted`), NeverBack.antt
+-- (`gives-numbers`, `never-back`, `grown-never-back`), SplitHeal.antt (`split-cancelled`, `split-renewed`, `split-spent`).
 use mathlib.Core.Path.{_≡_}
-use mathlib.Core.Bool.{true, cond}
+use mathlib.Core.Bool.{Bool, true, cond}
 use mathlib.Core.List.{List, [], _∷_, _++_, map, List·Memᴰ}
-use mathlib.Core.Logic.{_≢_}
-use Prim.Native.Nat.{ℕ, _+_, _≤_, _<_}
+use mathlib.Core.Logic.{_≢_, _↔_}
+use Prim.Native.Nat.{ℕ, _+_, _-_, _≤_, _<_}
 use lib.IntN.{ℤ, pos, natAbs, _+ℤ_}
 use Rattle.lists.specs.Tests.{same}
+use Rattle.lists.specs.Scans.{keep, countOf}
+use Rattle.lists.specs.Tables.{table}
 use Rattle.planar_maps.specs.Map.{Dart}
+use Rattle.planar_maps.specs.Pieces.{Chain}
 use Rattle.map.specs.declared.Head.{Head}
 use Rattle.map.specs.Limits.{maxNodes, maxEdges, maxFaces, lastNumber}
 use Rattle.map.specs.Rows.{Edge, Map, Lent, Sizes, mapOf, lentOf, sizesOf, edge, setEdges, withoutEdge}
-use Rattle.map.specs.Darts.{directed, bears}
+use Rattle.map.specs.Darts.{arcs, directed, bears, pieceCount}
 use Rattle.map.specs.Form.{inForm}
 use Rattle.map.specs.Links.{withLinks, obeysLaw}
 use Rattle.map.specs.Reasons.{firstReason}
 use Rattle.map.specs.Ticket.{Outcome, refused, lentReasons, ticket}
-use Rattle.map.specs.Grow.{grow}
+use Rattle.map.specs.Grow.{after, grow}
 use Rattle.map.specs.Sound.{Sound}
 
 -- what is lent after any tickets
@@ -46,6 +50,63 @@ pub record Limited (s : Sizes) : Type 0 where
 -- for all sizes within the limits and all lists of tickets neither 1 nor 2 ever answers
 abbrev pub NeverLent : Type 0
 NeverLent = (s : Sizes) → Limited s → (ts : List (List ℤ)) → firstReason (lentReasons (grow s ts .lent)) ≡ 0
+
+-- ---- the link law, and pieces
+
+-- whatever the tables: after every ticket, carried out or turned down, all links obey the law if they did before
+abbrev pub KeepsLaw : Type 0
+KeepsLaw = (l : Lent) (t : List ℤ) → obeysLaw (mapOf l) ≡ true → obeysLaw (mapOf (ticket l t .lent)) ≡ true
+
+-- there are as many pieces as node rows from which no chain leads to a node of lower number
+pub record Pieces (m : Map) : Type 0 where
+  pub lowest : ℕ → Bool
+  pub takes : (n : ℕ) → (lowest n ≡ true) ↔ ((k : ℕ) → Chain (arcs m) n k → n ≤ k)
+  pub count : pieceCount m ≡ countOf (λ r. lowest (r .number)) (m .nodes)
+
+abbrev pub PiecesCounted : Type 0
+PiecesCounted = (m : Map) → Pieces m
+
+-- ---- numbers are never given twice
+
+-- one table: the numbers after are some of those before, in their order, and then next, next + 1, .. up to then
+pub record Given (before : List ℕ) (next : ℕ) (after : List ℕ) (then : ℕ) : Type 0 where
+  pub rises : next ≤ then
+  pub stays : ℕ → Bool
+  pub numbers : after ≡ keep stays before ++ table (λ n. n) next (then - next)
+
+abbrev pub nodeNumbers : Map → List ℕ
+nodeNumbers m = map (λ n. n .number) (m .nodes)
+
+abbrev pub edgeNumbers : Map → List ℕ
+edgeNumbers m = map (λ e. e .number) (m .edges)
+
+pub record NumbersGiven (m m′ : Map) : Type 0 where
+  pub nodes : Given (nodeNumbers m) (m .next .nodes) (nodeNumbers m′) (m′ .next .nodes)
+  pub edges : Given (edgeNumbers m) (m .next .edges) (edgeNumbers m′) (m′ .next .edges)
+  pub faces : Given (m .faces) (m .next .faces) (m′ .faces) (m′ .next .faces)
+
+-- every ticket on all tables
+abbrev pub GivesNumbers : Type 0
+GivesNumbers = (l : Lent) (t : List ℤ) → NumbersGiven (mapOf l) (mapOf (ticket l t .lent))
+
+-- one table: next numbers do not fall, and a number below the next one that is in use after was in use before
+pub record NotBack (before : List ℕ) (next : ℕ) (after : List ℕ) (then : ℕ) : Type 0 where
+  pub rises : next ≤ then
+  pub old : (n : ℕ) → n < next → List·Memᴰ n after → List·Memᴰ n before
+
+pub record NoneBack (m m′ : Map) : Type 0 where
+  pub nodes : NotBack (nodeNumbers m) (m .next .nodes) (nodeNumbers m′) (m′ .next .nodes)
+  pub edges : NotBack (edgeNumbers m) (m .next .edges) (edgeNumbers m′) (m′ .next .edges)
+  pub faces : NotBack (m .faces) (m .next .faces) (m′ .faces) (m′ .next .faces)
+
+-- what any list of tickets does, on all tables
+abbrev pub NeverBack : Type 0
+NeverBack = (l : Lent) (ts : List (List ℤ)) → NoneBack (mapOf l) (mapOf (after l ts .lent))
+
+-- and further tickets on every grown map
+abbrev pub GrownNeverBack : Type 0
+GrownNeverBack = (s : Sizes) (ts us : List (List ℤ))
+    → NoneBack (mapOf (grow s ts .lent)) (mapOf (grow s (ts ++ us) .lent))
 
 -- ---- document 02 (vi): on every grown map a split that is healed at once gives the sheet back
 

@@ -1,8 +1,8 @@
--- What a caller of `ticket_lists::run` may count on beside its contract: document 02 (vi), a split that is healed at
--- once.
--- Proved in proofs/SplitHeal.antt (`run-cancels`, `run-renews`).
+-- What a caller of `ticket_lists::run` may count on beside its contract: every list can be handed in; document 02 (vi),
+-- a split that is healed at once.
+-- Proved in proofs/: Handed.antt (`handed-in`), SplitHeal.antt (`run-cancels`, `run-renews`).
 use mathlib.Core.Path.{_≡_}
-use mathlib.Core.List.{List, [], _∷_, _++_}
+use mathlib.Core.List.{List, [], _∷_, _++_, map, flatten}
 use Prim.Native.Nat.{ℕ, _+_, _≤_}
 use lib.IntN.{ℤ, pos, natAbs, _+ℤ_}
 use lib.ListN.{length, getD}
@@ -12,6 +12,10 @@ use Rattle.map.specs.Ticket.{Outcome}
 use Rattle.map.specs.Grow.{grow}
 use Rattle.grown.specs.Claims.{restored, renewed}
 use Rattle.ticket_lists.specs.Runs.{ticketsOf, Ran, Runs}
+
+-- every list of tickets is one that two slices hold: the numbers one after the other, and how many each ticket has
+abbrev pub EveryList : Type 0
+EveryList = (ts : List (List ℤ)) → ticketsOf (flatten ts) (map length ts) ≡ ts
 
 -- a call of `run` on the tables l with the list ts was carried out, and left and answered r
 pub record Called (l : Lent) (ts : List (List ℤ)) (r : Ran) : Type 0 where
