@@ -1,9 +1,16 @@
 #!/usr/bin/env python3
-"""Slips in the definitions that the theorem over every list of tickets must refuse.
+"""Slips in the definitions that must not pass, each made in a copy of the repository.
 
-  slips.py [NAME..]     each edit is made in a copy of the repository, without the P cases, and `grown` must not be proved there
+  slips.py [NAME..]     all of them, or those named
 
-An edit of the gate's must-fail changes one crate and checks that crate; the theorem stands in a crate above the definitions, hence this script.
+GROWN: slips that the theorem over every list of tickets must refuse. `grown` must not be proved, with the P cases and
+the worked examples left out. Where a witness is given it is computed under the slip: a list of tickets after which a
+statement of the theorem is false, so that the theorem itself is false there, and not only a proof that no longer fits.
+WORKED: slips of what a call does or of what is in form, most of which the theorem need not notice. The worked examples
+of `map` must fail.
+
+An edit of the gate's must-fail changes one crate and checks that crate; the theorem stands in a crate above the
+definitions, hence this script.
 """
 
 import pathlib
@@ -15,49 +22,228 @@ import tempfile
 
 ROOT = pathlib.Path(__file__).resolve().parent.parent
 MAP = 'crates/map/specs/'
-SLIPS = {
+PROOFS = 'crates/map/proofs/'
+EDITS, REASONS, FORM, TICKET = (MAP + f'{n}.antt' for n in ('Edits', 'Reasons', 'Form', 'Ticket'))
+
+# the statements of the theorem that are told, the four of demand 3 first, and what computes each of the map m in the
+# tables l
+STATEMENTS = {
+    'links once': 'linksOnce m',
+    'rings bear one': 'ringsBearOne m',
+    'curves apart': 'allOf (λ e. not (edgeWrong (withoutEdge (e .number) (m .edges)) (e .curve))) (m .edges)',
+    'sum': 'same (length (m .nodes) + length (m .faces)) (length (m .edges) + pieceCount m + 1)',
+    'in form': 'inForm l',
+}
+LOOP = ('1 -1 0 0', '12 1 1 0 0 10 0 10 10 0 10 0 0')
+
+# name: file, old, new, the statement that is false, the tickets after which it is
+GROWN = {
     'other rings half relabelled': (
-        MAP + 'Edits.antt',
+        EDITS,
         'withSides (sideOfDart m s (fwd (e .number))) (sideOfDart m s (bwd (e .number))) e',
-        'withSides (sideOfDart m s (fwd (e .number))) (bears m (bwd (e .number))) e'),
+        'withSides (sideOfDart m s (fwd (e .number))) (bears m (bwd (e .number))) e',
+        'rings bear one', ('1 -1 0 0', '1 -1 10 10', '12 1 2 0 0 10 0 10 10', '12 1 2 0 0 0 10 10 10')),
     'led to the wrong place': (
         MAP + 'Links.antt',
         'let m′ = redirect (fwd e) (next m (bwd e)) m in',
-        'let m′ = redirect (fwd e) (next m (fwd e)) m in'),
+        'let m′ = redirect (fwd e) (next m (fwd e)) m in',
+        'links once', ('1 -1 0 0', '1 -1 5 0', '1 -1 9 4', '4 1 2 0 0 5 0', '12 2 3 5 0 9 4', '13 2')),
     'joint node kept': (
-        MAP + 'Edits.antt',
+        EDITS,
         'setNodes (withoutNode (Option·getD (joint m e f) 0) (m .nodes))\n',
-        'setNodes (m .nodes)\n'),
+        'setNodes (m .nodes)\n',
+        'in form', (*LOOP, '8 1 10 4', '10 1 2')),    # the node is a piece of its own: the sum holds
     'pieces of edges': (
         MAP + 'Darts.antt',
         'pieceCount m = pieces (map (λ n. n .number) (m .nodes)) (arcs m)',
-        'pieceCount m = pieces (map (λ e. e .start) (m .edges)) (arcs m)'),
+        'pieceCount m = pieces (map (λ e. e .start) (m .edges)) (arcs m)',
+        'sum', ('1 -1 0 0',)),
     'old number on both sides': (
-        MAP + 'Edits.antt',
+        EDITS,
         'ref = cond (isLeft || not goes) a b;',
-        'ref = cond (isLeft && goes) a b;'),
+        'ref = cond (isLeft && goes) a b;',
+        'sum', (*LOOP, '14 1')),
+    'no new face': (
+        EDITS,
+        '(m .faces ++ a ∷ []) in\n    setFaces faces',
+        '(m .faces) in\n    setFaces faces',
+        'sum', LOOP),
+    'face of the removed edge stays': (
+        EDITS,
+        'let left = keep (λ g. same g (renamed (edge m e) f g)) (m .faces) in',
+        'let left = m .faces in',
+        'sum', (*LOOP, '14 1')),
+    'curves cross': (
+        REASONS,
+        '(15, edgeWrong others c)',
+        '(15, false)',
+        'curves apart', ('1 -1 0 0', '1 -1 9 9', '1 -1 0 9', '1 -1 9 0', '4 1 2 0 0 9 9', '4 3 4 0 9 9 0')),
+    'split relinks nothing': (
+        EDITS,
+        'let m′ = redirect (bwd e) (bwd b) (redirect (fwd e) (fwd a) m) in',
+        'let m′ = m in',
+        'links once', (*LOOP, '7 1 10 4')),
 }
 
+# name: file, old, new
+WORKED = {
+    'face of a point: ties to the later': (
+        MAP + 'Faces.antt',
+        'cond (higher x (g .segment) (f .segment)) g f', 'cond (higher x (f .segment) (g .segment)) f g'),
+    'face of a point: the first below': (
+        MAP + 'Faces.antt', 'highest x (cond (higher x (g .segment) (f .segment)) g f) r', 'highest x f r'),
+    'face of a point: the lower side': (
+        MAP + 'Faces.antt', '(e .left) (e .right)', '(e .right) (e .left)'),
+    'enclosed: an edge counts once': (
+        MAP + 'Faces.antt', 'encloses m r p = oddCount r (',
+        'encloses m r p = oddCount (keep (λ d. ltb 0 (cond (d .back) 0 1)) r) ('),
+    'isolated nodes stay behind': (
+        EDITS, '(withFace (some (sideOfPoint m s (n .at))) n) n', '(withFace (some (s .other)) n) n'),
+    'other rings stay behind': (
+        EDITS, 'let elsewhere = sideOfRing m s d in', 'let elsewhere = s .other in'),
+    'other rings by any edge': (
+        EDITS, '(lowestEdge (d .edge) (ring m d)) .start', '(d .edge) .start'),
+    'other rings by the end node': (
+        EDITS, '(lowestEdge (d .edge) (ring m d)) .start', '(lowestEdge (d .edge) (ring m d)) .end'),
+    'reference side is left': (
+        EDITS, 'let isLeft = isPositive (sgn (ringArea m left)) in', 'let isLeft = true in'),
+    'reference side takes the lower number': (
+        EDITS,
+        'ref = cond (isLeft || not goes) a b;\n      other = cond (isLeft || not goes) b a;',
+        'ref = a;\n      other = b;'),
+    'face 0 goes': (
+        EDITS, 'let goes = isNew how && not (same old 0) in', 'let goes = isNew how in'),
+    'value of kind 4': (
+        TICKET, '(addIsoEdge (natAbs u) (natAbs v) (curveOf c) m, pos (m .next .edges))',
+        '(addIsoEdge (natAbs u) (natAbs v) (curveOf c) m, pos (m .next .nodes))'),
+    'value of kind 13 where none healed': (
+        TICKET, '(negsuc 0),\n)', '(pos 0),\n)'),
+    'a bare node goes to face 0': (
+        EDITS, '(withFace (some f)) m′', '(withFace (some 0)) m′'),
+    'nodes of a face that goes': (
+        EDITS, 'renamedNode e f n (some g) = withFace (some (renamed e f g)) n', 'renamedNode e f n (some g) = n'),
+    '12: any given face': (
+        REASONS, '(12, not (minusOne f) && not (same (natAbs f) (faceOfPoint m p)))', '(12, false)'),
+    '14: only at a corner': (
+        REASONS, '(λ n. onCurve c (n .at) &&', '(λ n. anyOf (samePoint (n .at)) (points c) &&'),
+    '18: at 12 points': (REASONS, '(18, ltb maxPoints (', '(18, ltb 11 ('),
+    '18: not at 13 points': (REASONS, '(18, ltb maxPoints (', '(18, ltb (suc maxPoints) ('),
+    '21: at 999,999': (
+        REASONS, 'ltb (suc lastNumber) (m .next .nodes', 'ltb lastNumber (m .next .nodes'),
+    '21: kind 7 needs one number': (
+        REASONS, '(counts 1 (cond (isMod how) 1 2) 0)', '(counts 1 1 0)'),
+    '21: 13 always needs a face': (
+        REASONS, '(counts 0 0 (bit (makesFace New (natAbs e) m)))', '(counts 0 0 1)'),
+    'edges of a face: -e before e': (
+        MAP + 'Darts.antt', 'not (c .back) && d .back', 'c .back && not (d .back)'),
+    'edges of a face: the remainder goes': (
+        TICKET, 'list = written ++ drop (length written) list;', 'list = written;'),
+    'edges of a face: room to spare': (
+        TICKET, '(20, ltb (length list) (length written))', '(20, ltb (length list) (suc (length written)))'),
+    'form: departures': (FORM, '    && departuresDiffer m\n', ''),
+    'form: marks': (FORM, '    && bareMarked m\n', ''),
+    'form: links once': (FORM, '    && linksOnce m\n', ''),
+    'form: links meet': (FORM, '    && linksMeet m\n', ''),
+    'form: rings': (FORM, '    && ringsBearOne m', ''),
+    'form: named nodes': (FORM, 'hasNode m (e .start) && hasNode m (e .end) && hasEdge', 'hasEdge'),
+    'form: zero rows': (FORM, '    && restZero edgeWidth (l .head .edges) (l .edges)\n', ''),
+    'form: face 0': (FORM, ' && same (firstOr 1 (m .faces)) 0', ''),
+    'form: unused points': (FORM, '\n    && allOf isZero (drop (2 * natAbs (cell r 7)) (drop 8 r))', ''),
+}
 
-def slip(name, path, old, new):
-    with tempfile.TemporaryDirectory() as folder:
-        copy = pathlib.Path(folder) / 'copy'
-        shutil.copytree(ROOT, copy, ignore=shutil.ignore_patterns('.git', '__pycache__'))
-        text = (copy / path).read_text()
-        assert text.count(old) == 1, f'{name}: {text.count(old)} places'
-        (copy / path).write_text(text.replace(old, new))
-        sheet = copy / 'crates/map/proofs/Sheet.antt'
-        sheet.write_text(sheet.read_text().split('\npub P : ')[0] + '\n')
-        run = subprocess.run(['rt', 'dev', 'grown'], cwd=copy, capture_output=True, text=True)
-        out = run.stdout + run.stderr
-        errors = [re.sub(r'^.*/crates/', '', l)[:160] for l in out.split('\n') if re.match(r'^/\S+:\d+:\d+: error', l)]
-        print(f'{name}: {"refused" if run.returncode else "NOT REFUSED"}; {errors[0] if errors else ""}', flush=True)
-        return run.returncode != 0
+WITNESS = '''use mathlib.Core.Path.{_≡_, refl}
+use mathlib.Core.Bool.{Bool, true, false, not}
+use mathlib.Core.List.{List, [], _∷_}
+use Prim.Native.Nat.{_+_}
+use lib.IntN.{ℤ, pos, negsuc}
+use lib.ListN.{length}
+use Rattle.lists.specs.Tests.{same}
+use Rattle.lists.specs.Scans.{allOf}
+use Rattle.map.specs.Rows.{Lent, Sizes, mapOf, withoutEdge}
+use Rattle.map.specs.Darts.{pieceCount}
+use Rattle.map.specs.Form.{linksOnce, ringsBearOne, inForm}
+use Rattle.map.specs.Reasons.{edgeWrong}
+use Rattle.map.specs.Grow.{grow}
+use Rattle.map.proofs.Opened.{opened}
+
+abbrev room : Sizes
+room = record { nodes = 9; edges = 9; faces = 9 }
+
+abbrev stated : Lent → Bool
+stated l = let m = mapOf l in %s
+
+pub witness : stated (grow room (%s) .lent) ≡ %s
+unfolding opened
+witness = refl
+'''
+
+
+def numbers(line):
+    return '(' + ''.join(f'pos {n} ∷ ' if n >= 0 else f'negsuc {-n - 1} ∷ ' for n in map(int, line.split())) + '[])'
+
+
+def witness(copy, statement, tickets, value):
+    """Whether the statement computes to the value after the tickets, by the definitions of the copy."""
+    lib, file = copy / PROOFS / 'Lib.antt', copy / PROOFS / 'Witness.antt'
+    text = lib.read_text()
+    file.write_text(WITNESS % (STATEMENTS[statement], ''.join(f'{numbers(t)} ∷ ' for t in tickets) + '[]', value))
+    lib.write_text(text + 'pub mod Witness\n')
+    _, found = check(copy, 'map')
+    lib.write_text(text)
+    file.unlink()
+    return not any('Witness.antt' in e for e in found)
+
+
+def check(copy, crate):
+    """Whether the crate is proved, and the errors."""
+    run = subprocess.run(['rt', 'dev', crate], cwd=copy, stdout=subprocess.PIPE, stderr=subprocess.STDOUT, text=True)
+    errors = [re.sub(r'^.*/crates/', '', l) for l in run.stdout.split('\n') if re.match(r'^/\S+:\d+:\d+: error', l)]
+    assert not any('/specs/' in e.split(':')[0] for e in errors), errors    # a slip that is no definition
+    return run.returncode == 0, errors
+
+
+def slipped(copy, path, old, new):
+    """The text of the file before the slip is made in it."""
+    text = (copy / path).read_text()
+    assert text.count(old) == 1, f'{old}: {text.count(old)} places'
+    (copy / path).write_text(text.replace(old, new))
+    return text
+
+
+def grown(copy, name):
+    path, old, new, statement, tickets = GROWN[name]
+    left_out = {n: (copy / PROOFS / n).read_text() for n in ('Sheet.antt', 'Worked.antt')}
+    for n, text in left_out.items():
+        (copy / PROOFS / n).write_text(re.split(r'\npub (?:P|Worked) : ', text)[0] + '\n')
+    held = witness(copy, statement, tickets, 'true')
+    before = slipped(copy, path, old, new)
+    false = held and witness(copy, statement, tickets, 'false')
+    proved, errors = check(copy, 'grown')
+    (copy / path).write_text(before)
+    for n, text in left_out.items():
+        (copy / PROOFS / n).write_text(text)
+    said = f'false ({statement})' if false else f'NO WITNESS ({statement})'
+    print(f'{name}: {"NOT REFUSED" if proved else "refused"}, {said}; {errors[0][:110] if errors else ""}', flush=True)
+    return false and not proved
+
+
+def worked(copy, name):
+    before = slipped(copy, *WORKED[name])
+    _, errors = check(copy, 'map')
+    (copy / WORKED[name][0]).write_text(before)
+    found = [e for e in errors if 'Worked.antt' in e]
+    other = sorted({e.split(':')[0].split('/')[-1] for e in errors if 'Worked.antt' not in e})
+    print(f'{name}: {"refused" if found else "NOT REFUSED"}{"; beside it " * bool(other)}{" ".join(other)}', flush=True)
+    return bool(found)
 
 
 def main():
-    names = sys.argv[1:] or list(SLIPS)
-    sys.exit(0 if all([slip(n, *SLIPS[n]) for n in names]) else 1)
+    names = sys.argv[1:] or [*GROWN, *WORKED]
+    with tempfile.TemporaryDirectory() as folder:
+        copy = pathlib.Path(folder) / 'copy'
+        shutil.copytree(ROOT, copy, ignore=shutil.ignore_patterns('.git', '__pycache__'))
+        results = [grown(copy, n) if n in GROWN else worked(copy, n) for n in names]
+    sys.exit(0 if all(results) else 1)
 
 
 main()
