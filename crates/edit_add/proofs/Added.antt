@@ -1,5 +1,5 @@
 -- What kinds 11 and 12 leave and answer, where nothing turns them down. Assumes nothing.
-use mathlib.Core.Path.{_≡_, refl, sym, ap, ap₂, _∙_, subst₂}
+use mathlib.Core.Path.{_≡_, refl, sym, ap, ap₂, _∙_}
 use mathlib.Core.Bool.{true, false}
 use mathlib.Core.List.{List}
 use Prim.Native.Nat.{ℕ, _-_}
@@ -23,7 +23,8 @@ use Rattle.outcomes.specs.Outcomes.{Formed}
 use Rattle.outcomes.proofs.Formed.{edge-next}
 use Rattle.reason_edges.specs.declared.Judged.{Judged}
 use Rattle.outcomes.specs.Variants.{addTicket}
-use Rattle.reason_edges.specs.Judging.{JudgedAdd}
+use Rattle.reason_edges.specs.Judging.{judgedAdd}
+use Rattle.reason_edges.proofs.Adding.{JudgedAdd, add-judged}
 use Rattle.outcomes.proofs.FoundRows.{node-in}
 use Rattle.edge_rows.specs.Holds.{Drawable, Drawn}
 use Rattle.edge_rows.proofs.Formed.{held}
@@ -121,8 +122,8 @@ module _ {nodes edges faces : List ℤ} {h : Head} (f : Formed nodes edges faces
           ∙ holds-lent f (d .nodes-long) (d .edges-long) w
 
 -- what was judged of numbers as they were passed
-pub judged-told : {how : Variant} {nodes edges faces : List ℤ} {h : Head} {x y a b : ℤ} {c : List ℤ} {r : Judged} → x
-    ≡ a
-    → y ≡ b → JudgedAdd how nodes edges faces h x y c r → JudgedAdd how nodes edges faces h a b c r
-judged-told {how} {nodes} {edges} {faces} {h} {c = c} {r} p q j =
-    subst₂ (λ (a b : ℤ). JudgedAdd how nodes edges faces h a b c r) p q j
+pub judged-told : {how : Variant} {nodes edges faces : List ℤ} {h : Head} {x y a b : ℤ} {c : List ℤ} {r : Judged}
+    → Formed nodes edges faces h → x ≡ a → y ≡ b → r ≡ judgedAdd how nodes edges faces h x y c
+    → JudgedAdd how nodes edges faces h a b c r
+judged-told {how} {nodes} {edges} {faces} {h} {a = a} {b} {c} f p q e =
+    add-judged f how a b c (e ∙ ap₂ (λ (x y : ℤ). judgedAdd how nodes edges faces h x y c) p q)

@@ -1,11 +1,12 @@
--- What the functions promise: the first reason, and what is known where there is none.
-use mathlib.Core.Path.{_≡_}
+-- What the functions answer: the first reason, and where there is none, what the edit needs to know.
+use mathlib.Core.Bool.{Bool, false}
 use mathlib.Core.List.{List, _++_}
-use Prim.Native.Nat.{ℕ}
+use Prim.Native.Nat.{ℕ, zero, suc}
 use lib.IntN.{ℤ, pos, natAbs}
 use Rattle.lists.specs.Tables.{place}
-use Rattle.lists.specs.declared.Found.the-variants.{At}
-use Rattle.curves.specs.Curves.{Run, curveOf, startWay}
+use Rattle.lists.specs.declared.Found.{Found}
+use Rattle.lists.specs.declared.Found.the-variants.{At, Missing}
+use Rattle.curves.specs.Curves.{curveOf, startWay}
 use Rattle.map.specs.Limits.{nodeWidth, edgeWidth}
 use Rattle.map.specs.declared.Head.{Head}
 use Rattle.map.specs.declared.Variant.{Variant}
@@ -20,36 +21,59 @@ use Rattle.reason_edges.specs.declared.Removal.{Removal}
 use Rattle.outcomes.specs.Variants.{addTicket, removeTicket}
 use Rattle.reason_edges.specs.Parts.{drawingReasons, growthReasons}
 
--- no reason from 4 on holds: the corner face, and whether it is split
-pub record JudgedClear (m : Map) (a b : ℕ) (sent : List ℤ) (r : Judged) : Type 0 where
-  pub run : Run sent
-  pub face : r .face ≡ pos (cornerFace m a (startWay (curveOf sent)))
-  pub splits : r .splits ≡ splitsFace a b (curveOf sent) m
+-- the row found, 0 for none
+abbrev pub rowFound : Found → ℕ
+rowFound (At i) = i
+rowFound Missing = 0
+
+-- ---- kinds 11 and 12
+
+abbrev pub turnedDown : ℕ → Judged
+turnedDown reason = record { reason = reason; start = 0; end = 0; face = pos 0; splits = false }
+
+-- an edge from the node a to the node b, in rows u and v, under a first reason: where that is 0, the corner face, and
+-- whether it is split
+abbrev pub judgedBy : ℕ → ℕ → ℕ → Map → ℕ → ℕ → List ℤ → Judged
+judgedBy zero u v m a b sent =
+    record {
+      reason = 0;
+      start = u;
+      end = v;
+      face = pos (cornerFace m a (startWay (curveOf sent)));
+      splits = splitsFace a b (curveOf sent) m;
+    }
+judgedBy (suc k) u v m a b sent = turnedDown (suc k)
 
 -- of an edge from node row u to node row v
-pub record JudgedRows (how : Variant) (nodes edges faces : List ℤ) (h : Head) (u v : ℕ) (sent : List ℤ)
-    (r : Judged) : Type 0 where
-  pub reason : r .reason
-      ≡ firstReason (drawingReasons (mapOf (lent nodes edges faces h)) (nodeAt nodes u .number)
-      (nodeAt nodes v .number) sent ++ growthReasons how (sizesOf (lent nodes edges faces h))
-      (mapOf (lent nodes edges faces h)) (nodeAt nodes u .number) (nodeAt nodes v .number) sent)
-  pub start : r .reason ≡ 0 → r .start ≡ u
-  pub end : r .reason ≡ 0 → r .end ≡ v
-  pub known : r .reason ≡ 0 → JudgedClear (mapOf (lent nodes edges faces h)) (nodeAt nodes u .number)
-      (nodeAt nodes v .number) sent r
+abbrev pub judgedRows : Variant → List ℤ → List ℤ → List ℤ → Head → ℕ → ℕ → List ℤ → Judged
+judgedRows how nodes edges faces h u v sent =
+    let m = mapOf (lent nodes edges faces h) in
+    let a = nodeAt nodes u .number in
+    let b = nodeAt nodes v .number in
+    judgedBy (firstReason (drawingReasons m a b sent
+    ++ growthReasons how (sizesOf (lent nodes edges faces h)) m a b sent)) u v m a b sent
 
 -- of an edge from the node u to the node v
-pub record JudgedAdd (how : Variant) (nodes edges faces : List ℤ) (h : Head) (u v : ℤ) (sent : List ℤ)
-    (r : Judged) : Type 0 where
-  pub reason : r .reason ≡ firstReason (reasons (sizesOf (lent nodes edges faces h)) (mapOf (lent nodes edges faces h))
-      (addTicket how u v sent))
-  pub start : r .reason ≡ 0 → place (sameZ u) 0 (column nodeWidth nodes (natAbs (h .nodes))) ≡ At (r .start)
-  pub end : r .reason ≡ 0 → place (sameZ v) 0 (column nodeWidth nodes (natAbs (h .nodes))) ≡ At (r .end)
-  pub known : r .reason ≡ 0 → JudgedClear (mapOf (lent nodes edges faces h)) (natAbs u) (natAbs v) sent r
+abbrev pub judgedAdd : Variant → List ℤ → List ℤ → List ℤ → Head → ℤ → ℤ → List ℤ → Judged
+judgedAdd how nodes edges faces h u v sent =
+    let m = mapOf (lent nodes edges faces h) in
+    let numbers = column nodeWidth nodes (natAbs (h .nodes)) in
+    judgedBy (firstReason (reasons (sizesOf (lent nodes edges faces h)) m (addTicket how u v sent)))
+    (rowFound (place (sameZ u) 0 numbers)) (rowFound (place (sameZ v) 0 numbers)) m (natAbs u) (natAbs v) sent
 
--- of an edge to remove
-pub record JudgedRemoval (how : Variant) (nodes edges faces : List ℤ) (h : Head) (e : ℤ) (r : Removal) : Type 0 where
-  pub reason : r .reason ≡ firstReason (reasons (sizesOf (lent nodes edges faces h)) (mapOf (lent nodes edges faces h))
-      (removeTicket how e))
-  pub row : r .reason ≡ 0 → place (sameZ e) 0 (column edgeWidth edges (natAbs (h .edges))) ≡ At (r .row)
-  pub makes : r .reason ≡ 0 → r .makes ≡ makesFace how (natAbs e) (mapOf (lent nodes edges faces h))
+-- ---- kinds 13 and 14
+
+abbrev pub removalRefused : ℕ → Removal
+removalRefused reason = record { reason = reason; row = 0; makes = false }
+
+-- the edge in a row, under a first reason
+abbrev pub removalBy : ℕ → ℕ → Bool → Removal
+removalBy zero i makes = record { reason = 0; row = i; makes = makes }
+removalBy (suc k) i makes = removalRefused (suc k)
+
+-- of the edge e
+abbrev pub judgedRemoval : Variant → List ℤ → List ℤ → List ℤ → Head → ℤ → Removal
+judgedRemoval how nodes edges faces h e =
+    let m = mapOf (lent nodes edges faces h) in
+    removalBy (firstReason (reasons (sizesOf (lent nodes edges faces h)) m (removeTicket how e)))
+    (rowFound (place (sameZ e) 0 (column edgeWidth edges (natAbs (h .edges))))) (makesFace how (natAbs e) m)

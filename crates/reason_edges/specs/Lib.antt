@@ -1,3 +1,3 @@
--- `Parts`: reasons in parts. `Judging`: what is known of an edge that nothing turns down.
+-- `Parts`: reasons in parts. `Judging`: what is answered of an edge.
 pub mod Parts
 pub mod Judging

@@ -16,10 +16,10 @@ ghost use Rattle.map_rows.specs.Rows.{EdgeRow, nodeAt, edgeAt};
 ghost use Rattle.head.specs.Heads.{Counted, sizesIn, roomAt};
 ghost use Rattle.outcomes.specs.Outcomes.{Formed};
 ghost use Rattle.reason_edges.specs.Parts.{drawingReasons, makesSecond, makesOf, faceReasons};
-ghost use Rattle.reason_edges.specs.Judging.{JudgedRows, JudgedAdd, JudgedRemoval};
+ghost use Rattle.reason_edges.specs.Judging.{turnedDown, judgedRows, judgedAdd, removalRefused, judgedRemoval};
 
 // The first reason against a new edge; where it is 0, the rows of its nodes, its corner face, and whether that is
-// split.
+// split, and else zeros.
 pub struct Judged {
     pub reason: u64,
     pub start: usize,
@@ -28,7 +28,7 @@ pub struct Judged {
     pub splits: bool,
 }
 
-// The first reason against removing an edge; where it is 0, its row, and whether a new face is made.
+// The first reason against removing an edge; where it is 0, its row, and whether a new face is made, and else zeros.
 pub struct Removal {
     pub reason: u64,
     pub row: usize,
@@ -47,7 +47,7 @@ fn makes_second(splits: bool, how: Variant, face: i64) -> bool
 
 // Nothing is known but the reason.
 fn turned_down(reason: u64) -> Judged
-    ensures { λ r. ⌜ r .reason ≡ reason ⌝ }
+    ensures { λ r. ⌜ r ≡ turnedDown reason ⌝ }
 {
     Judged {
         reason,
@@ -55,6 +55,17 @@ fn turned_down(reason: u64) -> Judged
         end: 0,
         face: 0,
         splits: false,
+    }
+}
+
+// Nothing is known but the reason.
+fn removal_refused(reason: u64) -> Removal
+    ensures { λ r. ⌜ r ≡ removalRefused reason ⌝ }
+{
+    Removal {
+        reason,
+        row: 0,
+        makes: false,
     }
 }
 
@@ -136,8 +147,8 @@ fn judge_rows(
     c: &[i64],
 ) -> Judged
     requires { ⌜ Formed (now nodes) (now edges) (now faces) h × (u < natAbs (h .nodes)) × (v < natAbs (h .nodes)) ⌝ }
-    ensures { λ r. ⌜ JudgedRows how (now (nodes .entry)) (now (edges .entry)) (now (faces .entry)) h u v
-        (now (c .entry)) r ⌝ }
+    ensures { λ r. ⌜ r ≡ judgedRows how (now (nodes .entry)) (now (edges .entry)) (now (faces .entry)) h u v
+        (now (c .entry)) ⌝ }
 {
     let reason = drawing_reason(nodes, edges, faces, h, u, v, c);
     if reason != 0 {
@@ -148,8 +159,11 @@ fn judge_rows(
     let splits = reason_corners::splits_face(nodes, edges, e, u, v, c);
     let second = makes_second(splits, how, face);
     let late = room_reason(nodes, edges, faces, h, splits, second);
+    if late != 0 {
+        return turned_down(late);
+    }
     Judged {
-        reason: late,
+        reason: 0,
         start: u,
         end: v,
         face,
@@ -169,8 +183,8 @@ pub fn judge_add(
     c: &[i64],
 ) -> Judged
     requires { ⌜ Formed (now nodes) (now edges) (now faces) h ⌝ }
-    ensures { λ r. ⌜ JudgedAdd how (now (nodes .entry)) (now (edges .entry)) (now (faces .entry)) h start end
-        (now (c .entry)) r ⌝ }
+    ensures { λ r. ⌜ r ≡ judgedAdd how (now (nodes .entry)) (now (edges .entry)) (now (faces .entry)) h start end
+        (now (c .entry)) ⌝ }
 {
     let n = head::to_usize(h.nodes);
     let found = tables::find_row(nodes, map::NODE_WIDTH, n, start);
@@ -219,18 +233,21 @@ pub fn judge_removal(
     edge: i64,
 ) -> Removal
     requires { ⌜ Formed (now nodes) (now edges) (now faces) h ⌝ }
-    ensures { λ r. ⌜ JudgedRemoval how (now (nodes .entry)) (now (edges .entry)) (now (faces .entry)) h edge r ⌝ }
+    ensures { λ r. ⌜ r ≡ judgedRemoval how (now (nodes .entry)) (now (edges .entry)) (now (faces .entry)) h edge ⌝ }
 {
     let e = head::to_usize(h.edges);
     let found = tables::find_row(edges, map::EDGE_WIDTH, e, edge);
     let Found::At(row) = found else {
-        return Removal {
-            reason: 4,
-            row: 0,
-            makes: false,
-        };
+        return removal_refused(4);
     };
     let makes = makes_face(edges, row, how);
     let reason = face_reason(h, makes);
-    Removal { reason, row, makes }
+    if reason != 0 {
+        return removal_refused(reason);
+    }
+    Removal {
+        reason: 0,
+        row,
+        makes,
+    }
 }

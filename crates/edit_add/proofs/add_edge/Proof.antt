@@ -9,18 +9,27 @@ use mir.Facts.{toZ-ofZ}
 use Rattle.integers.specs.Signs.{sent}
 use Rattle.outcomes.proofs.Formed.{decided-refused, decided-carried}
 use Rattle.outcomes.specs.Variants.{addTicket}
+use Rattle.reason_edges.proofs.Adding.{JudgedAdd}
 use Rattle.edit_add.proofs.Added.{judged-told, add-value, add-drawable, drawn-splittable, joined-lent}
 use Rattle.edit_add.proofs.Added.{parted-lent}
 use Rattle.edit_add.proofs.add_edge.Statement.{statement}
 use Rattle.edit_add.proofs.add_edge.Tie as tie
+
+-- what was judged, of the numbers as they were passed
+judged : (c : tie.After-judge-add)
+    → let a = c .before .before .before .before .args in
+    JudgedAdd (a .how) (a .nodes .now) (a .edges .now) (a .faces .now) (a .h) (a .start) (a .end) (a .c .now)
+    (c .judge-add .result)
+judged c = let s = c .before .before .before .before in
+    judged-told (s .pre) (toZ-ofZ {w = w64} (s .fits .start)) (toZ-ofZ {w = w64} (s .fits .end))
+    (c .judge-add .ensures)
 
 refused : tie.Need-returns
 refused c =
     let l = c .before .before in
     let s = l .before .before .before .before in
     let a = s .args in
-    let j = judged-told (toZ-ofZ {w = w64} (s .fits .start)) (toZ-ofZ {w = w64} (s .fits .end))
-    (l .judge-add .ensures) in
+    let j = judged l in
     decided-refused (a .nodes .now) (a .edges .now) (a .faces .now) (a .h)
     (addTicket (a .how) (a .start) (a .end) (a .c .now)) (l .judge-add .result .reason)
     (let d = c .before .if1 .taken in omega arith) (c .refused .ensures) (sym (j .reason))
@@ -31,8 +40,7 @@ draw-requires c κs =
     let e = n .before .before in
     let l = e .before in
     let s = l .before .before .before .before in
-    let j = judged-told (toZ-ofZ {w = w64} (s .fits .start)) (toZ-ofZ {w = w64} (s .fits .end))
-    (l .judge-add .ensures) in
+    let j = judged l in
     add-drawable (s .pre) j (e .if1 .left) (sent (n .struct-told2 .given .1 .1 .1 .0 .1))
 
 joined : tie.Need-returns-2
@@ -43,8 +51,7 @@ joined c =
     let l = e .before in
     let s = l .before .before .before .before in
     let a = s .args in
-    let j = judged-told (toZ-ofZ {w = w64} (s .fits .start)) (toZ-ofZ {w = w64} (s .fits .end))
-    (l .judge-add .ensures) in
+    let j = judged l in
     let face = sent (n .struct-told2 .given .1 .1 .1 .0 .1) in
     decided-carried (a .nodes .now) (a .edges .now) (a .faces .now) (a .h)
     (addTicket (a .how) (a .start) (a .end) (a .c .now)) (d .draw .last .0) (d .draw .last .1 .0) (a .faces .now)
@@ -61,8 +68,7 @@ split-face-requires c κs =
     let e = n .before .before in
     let l = e .before in
     let s = l .before .before .before .before in
-    let j = judged-told (toZ-ofZ {w = w64} (s .fits .start)) (toZ-ofZ {w = w64} (s .fits .end))
-    (l .judge-add .ensures) in
+    let j = judged l in
     let face = sent (n .struct-told2 .given .1 .1 .1 .0 .1) in
     drawn-splittable (s .pre) j (e .if1 .left) face (d .draw .ensures)
     (not-false (l .judge-add .result .splits) (c .before .before .before .if2 .left))
@@ -76,8 +82,7 @@ parted c =
     let l = e .before in
     let s = l .before .before .before .before in
     let a = s .args in
-    let j = judged-told (toZ-ofZ {w = w64} (s .fits .start)) (toZ-ofZ {w = w64} (s .fits .end))
-    (l .judge-add .ensures) in
+    let j = judged l in
     let face = sent (n .struct-told2 .given .1 .1 .1 .0 .1) in
     decided-carried (a .nodes .now) (a .edges .now) (a .faces .now) (a .h)
     (addTicket (a .how) (a .start) (a .end) (a .c .now)) (p .split-face .last .0) (p .split-face .last .1 .0)

@@ -12,7 +12,7 @@ use Rattle.integers.specs.Signs.{sent}
 use Rattle.map.specs.Edits.{isNew}
 use Rattle.outcomes.proofs.Formed.{decided-refused, decided-carried}
 use Rattle.outcomes.specs.Variants.{removeTicket}
-use Rattle.reason_edges.specs.Judging.{JudgedRemoval}
+use Rattle.reason_edges.proofs.Removing.{JudgedRemoval, removal-judged}
 use Rattle.edit_remove.proofs.Removal.{removable, removed-lent, removed-value}
 use Rattle.edit_remove.proofs.remove_edge.Statement.{statement}
 use Rattle.edit_remove.proofs.remove_edge.Tie as tie
@@ -21,7 +21,9 @@ use Rattle.edit_remove.proofs.remove_edge.Tie as tie
 judged : (c : tie.After-judge-removal)
     → let a = c .before .before .before .before .args in
     JudgedRemoval (a .how) (a .nodes .now) (a .edges .now) (a .faces .now) (a .h) (a .edge) (c .judge-removal .result)
-judged c = rw (toZ-ofZ {w = w64} (c .before .before .before .before .fits .edge)) at (c .judge-removal .ensures)
+judged c = let s = c .before .before .before .before in
+    removal-judged (s .pre) (s .args .how) (s .args .edge)
+    (rw (toZ-ofZ {w = w64} (s .fits .edge)) at (c .judge-removal .ensures))
 
 refused : tie.Need-returns
 refused c =

@@ -17,7 +17,7 @@ use Rattle.head.proofs.Words.{edges-natural, edges-read}
 use Rattle.outcomes.proofs.Formed.{node-rows, counted}
 use Rattle.reason_edges.specs.Parts.{drawingReasons}
 use Rattle.reason_edges.proofs.Drawing.{rows-read, edges-are, edges-rise}
-use Rattle.reason_edges.proofs.Adding.{run-drawn, corner-told, rows-turned, rows-known}
+use Rattle.reason_edges.proofs.Adding.{run-drawn, corner-told, rows-turned, rows-late, rows-known}
 use Rattle.reason_edges.proofs.judge_rows.Statement.{statement}
 use Rattle.reason_edges.proofs.judge_rows.Tie as tie
 
@@ -84,18 +84,32 @@ corner c =
     ∙ corner-told (s .pre .0) (a .how) (a .u) (a .v) (s .pre .1) (a .c .now) (count t)
     (c .before .first-step .ensures .way) (c .corner-face .ensures)
 
-judged : tie.Need-returns-2
-judged c =
-    let k = c .before .before .before in
+late : tie.Need-returns-2
+late c =
+    let g = c .before .before in
+    let k = g .before .before .before in
     let t = k .before .before in
     let e = t .before .before in
     let s = e .before .before in
     let a = s .args in
     let f = s .pre .0 in
-    rows-known f (a .how) (a .u) (a .v) (s .pre .1) (a .c .now) (clear e)
-    (run-drawn f (a .how) (a .u) (a .v) (s .pre .1) (a .c .now) (clear e)) refl refl (corner k)
-    (c .before .before .splits-face .ensures _ (edges-are f (count t)) (edges-rise f))
-    (c .before .makes-second .ensures) (c .room-reason .ensures)
+    rows-late f (a .how) (a .u) (a .v) (s .pre .1) (a .c .now) (clear e) (corner k)
+    (g .before .before .splits-face .ensures _ (edges-are f (count t)) (edges-rise f))
+    (g .before .makes-second .ensures) (g .room-reason .ensures) (omega (arith, c .before .if2 .taken))
+    (c .turned-down2 .ensures)
+
+judged : tie.Need-returns-3
+judged c =
+    let g = c .before in
+    let k = g .before .before .before in
+    let t = k .before .before in
+    let e = t .before .before in
+    let s = e .before .before in
+    let a = s .args in
+    let f = s .pre .0 in
+    rows-known f (a .how) (a .u) (a .v) (s .pre .1) (a .c .now) (clear e) (corner k)
+    (g .before .before .splits-face .ensures _ (edges-are f (count t)) (edges-rise f))
+    (g .before .makes-second .ensures) (g .room-reason .ensures) (c .if2 .left)
 
 pub judge-rows-spec : {M : Type 1} → statement M
 judge-rows-spec =
@@ -110,4 +124,6 @@ judge-rows-spec =
     splits-face-requires
     (λ c κs. ap nonNeg (corner (c .before)))
     (λ c κs. counted (c .before .before .before .before .before .before .before .before .pre .0))
+    (λ c κs. tt)
+    late
     judged)
