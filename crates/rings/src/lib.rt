@@ -1,30 +1,26 @@
 // Ring walks by position: marks, the list of a ring, its doubled area, and what it encloses.
 use plane::Point;
 ghost use mathlib.Core.Path.{_≡_};
-ghost use mathlib.Core.Bool.{cond};
 ghost use mathlib.Core.List.{map};
-ghost use Prim.Native.Nat.{ℕ, _+_, _*_, _<_, _≤_, _/_};
-ghost use lib.ListN.{getD, length};
+ghost use Prim.Native.Nat.{_+_, _*_, _<_, _≤_, _/_};
+ghost use lib.ListN.{length};
 ghost use lib.Seq.{paste};
 ghost use Rattle.map.specs.Limits.{maxEdges};
 ghost use Rattle.map.specs.Rows.{dartCell};
-ghost use Rattle.map.specs.Darts.{ring, among};
+ghost use Rattle.map.specs.Darts.{ring};
 ghost use Rattle.map_rows.specs.Rows.{EdgeRows, edgeMap, EdgeRow, edgeAt};
 ghost use Rattle.darts.specs.Positions.{dartAt, odd};
 ghost use Rattle.plane.specs.Points.{InRange};
 ghost use Rattle.curves.specs.Edits.{course};
 ghost use Rattle.curves.specs.Measures.{curveArea};
 ghost use Rattle.map.specs.Faces.{ringArea, encloses as enclosedBy};
+ghost use Rattle.rings.specs.Marks.{ringMarked};
 
 // Marks the ring of p with v; its length.
 pub fn mark_ring(edges: &[i64], count: usize, p: usize, v: u8, marks: &mut [u8]) -> usize
     requires { ⌜ EdgeRows (now edges) count × (p < count * 2) × (count * 2 ≤ length (now marks)) ⌝ }
     ensures { λ r. ⌜ (r ≡ length (ring (edgeMap (now (edges .entry)) count) (dartAt (now (edges .entry)) p)))
-        × (length (now (marks .exit)) ≡ length (now (marks .entry)))
-        × ((q : ℕ) → q < count * 2
-        → getD (now (marks .exit)) q 0
-        ≡ cond (among (ring (edgeMap (now (edges .entry)) count) (dartAt (now (edges .entry)) p))
-        (dartAt (now (edges .entry)) q)) v (getD (now (marks .entry)) q 0)) ⌝ }
+        × (now (marks .exit) ≡ ringMarked (now (edges .entry)) count p v (now (marks .entry))) ⌝ }
 {
     let mut c = p;
     for k in 0..count * 2 {

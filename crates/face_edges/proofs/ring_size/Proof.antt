@@ -17,6 +17,7 @@ use Rattle.curves.proofs.Runs.{and-left, and-right}
 use Rattle.tables.proofs.Order.{same-pos}
 use Rattle.darts.specs.Positions.{dartAt}
 use Rattle.darts.proofs.Positions.{cell-bears}
+use Rattle.rings.proofs.Marks.{marked-places}
 use Rattle.form_links.proofs.Words.{word-test}
 use Rattle.face_edges.specs.Listing.{borne}
 use Rattle.face_edges.proofs.Walks.{marked-other, marked-old, marked-new, old-first, new-first, left-taken}
@@ -72,8 +73,10 @@ returns c =
     let clear = zero-is (getD (a .marks .now) (a .p) 0) (and-right x y t) in
     let g = s .pre .0 in
     let w = s .pre .3 in
-    let h = s .pre .2 in (
-      marked-new g w h e clear _ (m .ensures .1) (m .ensures .2),
+    let h = s .pre .2 in
+    let after = marked-places (a .edges .now) (a .count) (a .p) 1 (a .marks .now)
+    (omega (arith, g .small, w .room)) (m .ensures .1) in (
+      marked-new g w h e clear _ (after .0) (after .1),
       inr (
         ap (λ (r : ℕ). r + 1) (m .ensures .0),
         left-taken (a .edges .now) (a .count) f (a .p) h (new-first g w h e clear) one,

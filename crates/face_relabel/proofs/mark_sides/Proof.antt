@@ -15,6 +15,7 @@ use borrow.Author.Tests.{eqb-true, eqb-false}
 use Rattle.lists.proofs.Bools.{which}
 use Rattle.curves.proofs.Runs.{and-left, and-right}
 use Rattle.tables.proofs.Order.{word-is}
+use Rattle.rings.proofs.Marks.{marked-places}
 use Rattle.face_relabel.proofs.Marks.{Marking, marking-start, marking-other, marking-marked, marking-ring}
 use Rattle.face_relabel.proofs.mark_sides.Statement.{statement}
 use Rattle.face_relabel.proofs.mark_sides.Tie as tie
@@ -80,9 +81,11 @@ loop-again c =
           let face = sym (cell .ensures)
           ∙ word-is (sfits-of (cell .ok)) fits-old (eqb-true _ _ (and-left is-old is-none (x .0 .taken))) in
           let none = eqb-true (getD (w .marks) (w .p) 0) 0 (and-right is-old is-none (x .0 .taken)) in
+          let after = marked-places (a .edges .now) (a .count) (w .p) (x .1 .result) (w .marks)
+          (w .inv .1 .whole .room) (x .3 .ensures .1) in
           subst Next (sym (x .6)) (marking-ring (s .pre .0 .edges) (s .pre .1) (a .nodes .now) (a .n) (a .s .ring)
           (a .s .old) (a .marks .now) (w .marks) (w .p) (w .inv .1) (t .loop-test .taken) face none (x .1 .result)
-          (x .1 .ensures) (x .3 .last .1 .1 .1 .1 .0) (x .3 .ensures .1) (x .3 .ensures .2)))
+          (x .1 .ensures) (x .3 .last .1 .1 .1 .1 .0) (after .0) (after .1)))
           (λ x.
           subst Next (sym (x .1))
           (elim (which is-old) [

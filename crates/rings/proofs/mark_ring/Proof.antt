@@ -6,12 +6,14 @@ use mathlib.Core.List.{List}
 use Prim.Native.Nat.{ℕ, suc, _+_, _*_, _-_, _<_, _≤_}
 use native.Mathlib.Nat.{zero-add}
 use native.Mathlib.Omega.{arith}
-use lib.ListN.{length, getD, length-set}
+use lib.ListN.{length, getD, set, drop, length-set}
+use lib.Seq.{drop-set-lt}
 use Rattle.planar_maps.specs.Map.{Dart}
 use Rattle.map.specs.Darts.{among}
 use Rattle.darts.specs.Positions.{dartAt}
 use Rattle.rings.proofs.Walks.{steps, ringAt, ring-steps, Follows, steps-end, steps-on, steps-last, mark-on}
 use Rattle.rings.proofs.Walks.{mark-last}
+use Rattle.rings.proofs.Marks.{marked-from}
 use Rattle.rings.proofs.mark_ring.Statement.{statement}
 use Rattle.rings.proofs.mark_ring.Tie as tie
 
@@ -21,6 +23,7 @@ Inv-loop edges count p v marks₀ c₀ k₀ k-end marks c k =
     × (k + length (steps edges count p (count * 2 - k) c) ≡ length (ringAt edges count p))
     × ((q : ℕ) → q < count * 2 → cond (among (steps edges count p (count * 2 - k) c) (dartAt edges q)) v
     (getD marks q 0) ≡ cond (among (ringAt edges count p) (dartAt edges q)) v (getD marks₀ q 0))
+    × (drop (count * 2) marks ≡ drop (count * 2) marks₀)
 
 abbrev μ-loop : tie.MeasureT-loop
 μ-loop edges count p v marks₀ c₀ k₀ k-end marks c k = k-end - k
@@ -40,6 +43,7 @@ loop-holds c =
       refl,
       zero-add (length (steps (a .edges .now) (a .count) (a .p) (a .count * 2 - 0) (a .p))) ∙ ap length e,
       (λ q h. ap (λ (r : List Dart). cond (among r (dartAt (a .edges .now) q)) (a .v) (getD (a .marks .now) q 0)) e),
+      refl,
     )
 
 follows : (c : tie.After-next-position Inv-loop μ-loop)
@@ -58,9 +62,11 @@ returns c =
       ap (λ (l : List Dart). w .k + length l)
           (sym (steps-last (s .pre .0) (s .args .p) (s .pre .1) (w .k) (w .c) (b .loop-test .taken) r f
           (c .if1 .taken))) ∙ w .inv .3,
-      length-set (w .marks) (w .c) (s .args .v) ∙ w .inv .2,
-      (λ q h. mark-last (s .pre .0) (s .args .p) (s .pre .1) (w .k) (w .c) (b .loop-test .taken) r f (w .inv .0)
-          (s .args .v) (w .marks) room q h (c .if1 .taken) ∙ w .inv .4 q h),
+      marked-from (s .args .edges .now) (s .args .count) (s .args .p) (s .args .v) (s .args .marks .now)
+          (s .pre .2) (set (w .marks) (w .c) (s .args .v)) (length-set (w .marks) (w .c) (s .args .v) ∙ w .inv .2)
+          (λ q h. mark-last (s .pre .0) (s .args .p) (s .pre .1) (w .k) (w .c) (b .loop-test .taken) r f (w .inv .0)
+          (s .args .v) (w .marks) room q h (c .if1 .taken) ∙ w .inv .4 q h)
+          (drop-set-lt (s .args .count * 2) (w .marks) (w .c) (s .args .v) (w .inv .0) ∙ w .inv .5),
     )
 
 loop-again : tie.Need-loop-again Inv-loop μ-loop
@@ -80,6 +86,7 @@ loop-again c =
           (s .args .count * 2 - (w .k + 1)) r)) ∙ sym e ∙ w .inv .3,
       (λ q h. mark-on (s .pre .0) (s .args .p) (s .pre .1) (w .k) (w .c) (b .loop-test .taken) r f (w .inv .0)
           (s .args .v) (w .marks) room q h (c .if1 .left) ∙ w .inv .4 q h),
+      drop-set-lt (s .args .count * 2) (w .marks) (w .c) (s .args .v) (w .inv .0) ∙ w .inv .5,
     )
 
 returns-2 : tie.Need-returns-2 Inv-loop μ-loop
@@ -90,9 +97,10 @@ returns-2 c =
     let e = ap (λ (l : List Dart). w .k + length l) end ∙ w .inv .3 in
     let all : s .args .count * 2 ≡ w .k + 0 = omega (arith, w .inv .1, c .loop-test .left) in (
       all ∙ e,
-      w .inv .2,
-      (λ q h. ap (λ (l : List Dart). cond (among l (dartAt (s .args .edges .now) q)) (s .args .v)
-          (getD (w .marks) q 0)) end ∙ w .inv .4 q h),
+      marked-from (s .args .edges .now) (s .args .count) (s .args .p) (s .args .v) (s .args .marks .now)
+          (s .pre .2) (w .marks) (w .inv .2)
+          (λ q h. ap (λ (l : List Dart). cond (among l (dartAt (s .args .edges .now) q)) (s .args .v)
+          (getD (w .marks) q 0)) end ∙ w .inv .4 q h) (w .inv .5),
     )
 
 pub mark-ring-spec : {M : Type 1} → statement M

@@ -1,0 +1,2 @@
+-- `Marks`: a ring marked.
+pub mod Marks
