@@ -1,63 +1,82 @@
 -- Departures written to the front of a list, and the first one met clockwise of those that are listed. Assumes nothing.
 use mathlib.Core.Path.{_≡_, sym, ap, ap₂, _∙_}
 use mathlib.Core.Bool.{Bool, true, false, cond}
-use mathlib.Core.List.{List, [], _∷_, _++_, append-assoc, append-nil}
-use Prim.Native.Nat.{ℕ, _+_, _-_, _<_, _≤_}
+use mathlib.Core.List.{List, [], _∷_}
+use Prim.Native.Nat.{ℕ, _+_, _*_, _-_, _<_, _≤_}
 use native.Mathlib.Nat.{sub-zero}
 use native.Mathlib.Numerals.{add-one}
 use native.Mathlib.Omega.{arith}
+use lib.IntN.{ℤ}
 use lib.ListN.{length, getD, take, drop, set, length-set, drop-of-length-le}
-use lib.Seq.{take-suc-set, drop-cons}
+use lib.Seq.{drop-cons, sets, length-sets, sets-eq, take-append-seam}
 use Rattle.lists.specs.declared.Found.the-variants.{At}
 use Rattle.lists.specs.Scans.{keep, fold}
 use Rattle.lists.specs.Tables.{table}
-use Rattle.lists.proofs.Scans.{table-step, table-end}
+use Rattle.lists.proofs.Scans.{table-step, table-end, length-table}
+use Rattle.lists.proofs.Keeps.{keep-le}
 use Rattle.plane.specs.Directions.{Way}
 use Rattle.rotation.specs.Law.{firstClockwise}
 use Rattle.links.specs.declared.Choice.{Choice}
-use Rattle.links.specs.Linking.{chosenOf, answer}
+use Rattle.links.specs.Linking.{positions, leavesNode, departuresOf, chosenOf, answer}
 use Rattle.links.proofs.Choices.{scan-none}
 use Rattle.links.proofs.FirstMet.{first-any, first-none}
 
 -- ---- written
 
 module _ (f : ℕ → Bool) where
-  -- what is written, and what is left from p on
-  abbrev pub listed : List ℕ → ℕ → ℕ → ℕ → List ℕ
-  listed l k p n = take k l ++ keep f (table (λ q. q) p (n - p))
+  -- what is left from p on
+  abbrev pub left : ℕ → ℕ → List ℕ
+  left p n = keep f (table (λ q. q) p (n - p))
 
   -- what stands there after p
   pub record Written (n p : ℕ) (l : List ℕ) (k : ℕ) (l′ : List ℕ) (k′ : ℕ) : Type 0 where
     pub long : length l′ ≡ length l
     pub most : k′ ≤ k + 1
-    pub rest : listed l′ k′ (p + 1) n ≡ listed l k p n
+    pub rest : sets l′ k′ (left (p + 1) n) ≡ sets l k (left p n)
+    pub count : k′ + length (left (p + 1) n) ≡ k + length (left p n)
 
-  pub listed-all : (l : List ℕ) (n : ℕ) → listed l 0 0 n ≡ keep f (table (λ q. q) 0 n)
-  listed-all l n = rw sub-zero
+  pub left-all : (n : ℕ) → left 0 n ≡ keep f (table (λ q. q) 0 n)
+  left-all n = rw sub-zero
+
+  pub left-end : (p n : ℕ) → n ≤ p → left p n ≡ []
+  left-end p n h = rw (table-end (λ q. q) p n h)
 
   module _ (l : List ℕ) (k p n : ℕ) where
-    pub listed-end : n ≤ p → listed l k p n ≡ take k l
-    listed-end h = rw (table-end (λ q. q) p n h) (append-nil (take k l))
-
     module _ (l′ : List ℕ) (k′ : ℕ) (h : p < n) where
-      pub written-hit : k < length l → f p ≡ true → l′ ≡ set l k p → k′ ≡ k + 1 → Written n p l k l′ k′
-      written-hit t e x y =
+      pub written-hit : f p ≡ true → l′ ≡ set l k p → k′ ≡ k + 1 → Written n p l k l′ k′
+      written-hit e x y =
+          let step : left p n ≡ p ∷ left (p + 1) n = rw (table-step (λ q. q) p n h, e) in
           record {
             long = ap length x ∙ length-set l k p;
             most = omega arith;
-            rest =
-                ap₂ (λ (u : List ℕ) (j : ℕ). listed u j (p + 1) n) x y
-                ∙ rw (add-one k, take-suc-set l k p t, table-step (λ q. q) p n h, e)
-                (append-assoc (take k l) (p ∷ []) (keep f (table (λ q. q) (p + 1) (n - (p + 1)))));
+            rest = ap₂ (λ (u : List ℕ) (j : ℕ). sets u j (left (p + 1) n)) x (y ∙ add-one k)
+                ∙ ap (sets l k) (sym step);
+            count = omega (arith, y, ap length step);
           }
 
       pub written-miss : f p ≡ false → l′ ≡ l → k′ ≡ k → Written n p l k l′ k′
       written-miss e x y =
+          let step : left p n ≡ left (p + 1) n = rw (table-step (λ q. q) p n h, e) in
           record {
             long = ap length x;
             most = omega arith;
-            rest = ap₂ (λ (u : List ℕ) (j : ℕ). listed u j (p + 1) n) x y ∙ rw (table-step (λ q. q) p n h, e);
+            rest = ap₂ (λ (u : List ℕ) (j : ℕ). sets u j (left (p + 1) n)) x y ∙ ap (sets l k) (sym step);
+            count = omega (arith, y, ap length step);
           }
+
+-- the departures stand at the front
+module _ (l : List ℤ) (n : ℕ) (node : ℤ) (list : List ℕ) (room : n * 2 ≤ length list) where
+  pub departures-listed : {after : List ℕ} {r : ℕ} → r ≡ length (departuresOf l n node) → after
+      ≡ sets list 0 (departuresOf l n node) → (r ≤ n * 2) × (length after ≡ length list)
+      × (take r after ≡ departuresOf l n node)
+  departures-listed {after} {r} er e =
+      let ds = departuresOf l n node in
+      let few : length ds ≤ n * 2 =
+      omega (arith, keep-le (leavesNode l node) (positions n), length-table (λ p. p) 0 (n * 2)) in (
+        omega (arith, few, er),
+        ap length e ∙ length-sets list 0 ds,
+        ap₂ take er (e ∙ sets-eq ds list 0 (omega (arith, few))) ∙ take-append-seam ds (drop (0 + length ds) list),
+      )
 
 -- ---- chosen
 

@@ -28,6 +28,10 @@ positions n = table (λ p. p) 0 (n * 2)
 abbrev pub leavesNode : List ℤ → ℤ → ℕ → Bool
 leavesNode l node p = sameZ (sideCell l p 1) node
 
+-- the departures from a node
+abbrev pub departuresOf : List ℤ → ℕ → ℤ → List ℕ
+departuresOf l n node = keep (leavesNode l node) (positions n)
+
 -- the departures from a node but for a and b
 abbrev pub departuresBut : List ℤ → ℕ → ℤ → ℕ → ℕ → List ℕ
 departuresBut l n node a b = keep (λ p. leavesNode l node p && not (same p a) && not (same p b)) (positions n)

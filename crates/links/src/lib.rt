@@ -5,10 +5,11 @@ ghost use mathlib.Core.Path.{_≡_};
 ghost use mathlib.Core.Bool.{true, false, not, _&&_};
 ghost use Prim.Native.Nat.{ℕ, _+_, _*_, _/_, _<_, _≤_};
 ghost use lib.IntN.{negℤ};
-ghost use lib.ListN.{length, getD, take};
+ghost use lib.ListN.{length, getD};
+ghost use lib.Seq.{sets};
 ghost use lib.Signed.{nonNeg};
 ghost use Rattle.lists.specs.Tests.{same};
-ghost use Rattle.lists.specs.Scans.{anyOf, countOf, keep};
+ghost use Rattle.lists.specs.Scans.{anyOf, countOf};
 ghost use Rattle.plane.specs.Directions.{wayTo, sameWay};
 ghost use Rattle.curves.specs.Curves.{Run};
 ghost use Rattle.rotation.specs.Law.{lawfulNext};
@@ -16,7 +17,7 @@ ghost use Rattle.map.specs.Limits.{edgeWidth, maxEdges};
 ghost use Rattle.map_rows.specs.Rows.{EdgeRows};
 ghost use Rattle.darts.specs.Positions.{sideCell, wayAt, wayWith, StepInRange};
 ghost use Rattle.links.specs.Linking.{Known, laterOf, chosenOf, positions, leavesNode, departuresBut, firstMet};
-ghost use Rattle.links.specs.Linking.{redirected, linkedAt, linkedIn, linkedEdge, unlinkedEdge};
+ghost use Rattle.links.specs.Linking.{departuresOf, redirected, linkedAt, linkedIn, linkedEdge, unlinkedEdge};
 
 // A choice among departures so far: the last counterclockwise of all, and of those before a direction.
 struct Choice {
@@ -117,9 +118,8 @@ pub fn first_clockwise(
 // Lists the departures from the node at the front of the list; their count.
 pub fn departures_at(edges: &[i64], count: usize, node: i64, list: &mut [u16]) -> usize
     requires { ⌜ EdgeRows (now edges) count × (count ≤ maxEdges) × (count * 2 ≤ length (now list)) ⌝ }
-    ensures { λ r. ⌜ (r ≤ count * 2)
-        × (length (now (list .exit)) ≡ length (now (list .entry)))
-        × (take r (now (list .exit)) ≡ keep (leavesNode (now (edges .entry)) node) (positions count)) ⌝ }
+    ensures { λ r. ⌜ (r ≡ length (departuresOf (now (edges .entry)) count node))
+        × (now (list .exit) ≡ sets (now (list .entry)) 0 (departuresOf (now (edges .entry)) count node)) ⌝ }
 {
     let mut k = 0;
     for i in 0..count {

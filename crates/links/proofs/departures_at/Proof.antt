@@ -5,35 +5,38 @@ use mathlib.Core.Logic.{⊎-elim}
 use Prim.Native.Nat.{ℕ, _+_, _*_, _-_, _<_, _≤_}
 use native.Mathlib.Omega.{arith}
 use lib.ListN.{length}
+use lib.Seq.{sets}
 use mir.Syntax.{w64}
 use mir.Val.{toZ, ofZ}
 use mir.Facts.{toZ-ofZ}
 use borrow.Author.Needs.{sfits-of}
-use Rattle.lists.specs.Scans.{keep}
 use Rattle.darts.proofs.Positions.{side-even, side-odd}
-use Rattle.links.specs.Linking.{positions, leavesNode}
+use Rattle.links.specs.Linking.{leavesNode, departuresOf}
 use Rattle.links.proofs.ByRows.{cell-is, cell-differs}
-use Rattle.links.proofs.Listed.{listed, Written, listed-all, listed-end, written-hit, written-miss}
+use Rattle.links.proofs.Listed.{left, Written, left-all, left-end, written-hit, written-miss}
 use Rattle.links.proofs.departures_at.Statement.{statement}
 use Rattle.links.proofs.departures_at.Tie as tie
 
 abbrev Inv-loop : tie.InvT-loop
 Inv-loop edges count node list₀ k₀ i₀ list k i =
     (i ≤ count) × (k ≤ i * 2) × (length list ≡ length list₀)
-    × (listed (leavesNode edges (toZ w64 node)) list k (i * 2) (count * 2)
-    ≡ keep (leavesNode edges (toZ w64 node)) (positions count))
+    × (sets list k (left (leavesNode edges (toZ w64 node)) (i * 2) (count * 2))
+    ≡ sets list₀ 0 (departuresOf edges count (toZ w64 node)))
+    × (k + length (left (leavesNode edges (toZ w64 node)) (i * 2) (count * 2))
+    ≡ length (departuresOf edges count (toZ w64 node)))
 
 abbrev μ-loop : tie.MeasureT-loop
 μ-loop edges count node list₀ k₀ i₀ list k i = count - i
 
 loop-holds : tie.Need-loop-holds Inv-loop μ-loop
-loop-holds c = (
-  omega arith,
-  omega arith,
-  refl,
-  listed-all (leavesNode (c .args .edges .now) (toZ w64 (ofZ w64 (c .args .node)))) (c .args .list .now)
-      (c .args .count * 2),
-)
+loop-holds c =
+    let all = left-all (leavesNode (c .args .edges .now) (toZ w64 (ofZ w64 (c .args .node)))) (c .args .count * 2) in (
+      omega arith,
+      omega arith,
+      refl,
+      ap (sets (c .args .list .now) 0) all,
+      omega (arith, ap length all),
+    )
 
 in-row : tie.Need-shared-slice-copy-out-if1 Inv-loop μ-loop
 in-row c = omega (arith, c .before .before .pre .0 .fits)
@@ -54,7 +57,7 @@ first c =
     let fits = sfits-of (c .before .if12 .given) in
     let cell = sym (side-even (a .edges .now) (l .i) 1) in
     ⊎-elim
-    (λ k. written-hit f (l .list) (l .k) (l .i * 2) n (c .if1 .list) (c .if1 .k) there (omega arith)
+    (λ k. written-hit f (l .list) (l .k) (l .i * 2) n (c .if1 .list) (c .if1 .k) there
     (cell-is fits (s .fits .node) cell (k .0 .taken)) (k .1) (k .2))
     (λ k. written-miss f (l .list) (l .k) (l .i * 2) n (c .if1 .list) (c .if1 .k) there
     (cell-differs fits (s .fits .node) cell (k .0 .left)) (k .1) (k .2))
@@ -78,9 +81,8 @@ second c =
     let there : p < n = omega arith in
     let fits = sfits-of (c .before .if22 .given) in
     let cell = sym (side-odd (a .edges .now) (l .i) 1) in
-    let e = first (c .before .before) in
     ⊎-elim
-    (λ k. written-hit f (m .list) (m .k) p n (c .if2 .list) (c .if2 .k) there (omega (arith, e .long, e .most))
+    (λ k. written-hit f (m .list) (m .k) p n (c .if2 .list) (c .if2 .k) there
     (cell-is fits (s .fits .node) cell (k .0 .taken)) (k .2) (k .3))
     (λ k. written-miss f (m .list) (m .k) p n (c .if2 .list) (c .if2 .k) there
     (cell-differs fits (s .fits .node) cell (k .0 .left)) (k .1) (k .2))
@@ -98,7 +100,8 @@ loop-again c =
       omega arith,
       omega (arith, x .most, y .most),
       y .long ∙ x .long ∙ l .inv .2,
-      ap (λ (p : ℕ). listed f (c .if2 .list) (c .if2 .k) p (a .count * 2)) next ∙ y .rest ∙ x .rest ∙ l .inv .3,
+      ap (λ (p : ℕ). sets (c .if2 .list) (c .if2 .k) (left f p (a .count * 2))) next ∙ y .rest ∙ x .rest ∙ l .inv .3,
+      ap (λ (p : ℕ). c .if2 .k + length (left f p (a .count * 2))) next ∙ y .count ∙ x .count ∙ l .inv .4,
     )
 
 returns : tie.Need-returns Inv-loop μ-loop
@@ -106,11 +109,12 @@ returns c =
     let s = c .before .before in
     let a = s .args in
     let l = c .before .loop in
-    let f = leavesNode (a .edges .now) (toZ w64 (ofZ w64 (a .node))) in (
-      omega arith,
-      l .inv .2,
-      rw (toZ-ofZ {w = w64} (s .fits .node)) at
-          (sym (listed-end f (l .list) (l .k) (l .i * 2) (a .count * 2) (omega arith)) ∙ l .inv .3),
+    let f = leavesNode (a .edges .now) (toZ w64 (ofZ w64 (a .node))) in
+    let none = left-end f (l .i * 2) (a .count * 2) (omega arith) in
+    let many : l .k ≡ length (departuresOf (a .edges .now) (a .count) (toZ w64 (ofZ w64 (a .node)))) =
+    omega (arith, ap length none, l .inv .4) in (
+      rw (toZ-ofZ {w = w64} (s .fits .node)) at many,
+      rw (toZ-ofZ {w = w64} (s .fits .node)) at (ap (sets (l .list) (l .k)) (sym none) ∙ l .inv .3),
     )
 
 pub departures-at-spec : {M : Type 1} → statement M

@@ -3,17 +3,19 @@
 use mathlib.Core.Path.{_≡_, refl, sym, ap, ap₂, _∙_}
 use mathlib.Core.Bool.{Bool, true, false, not}
 use mathlib.Core.List.{List}
-use Prim.Native.Nat.{ℕ, _-_, _≤_}
+use Prim.Native.Nat.{ℕ, _*_, _-_, _≤_}
 use native.Mathlib.Omega.{arith}
 use lib.IntN.{ℤ}
-use lib.ListN.{getD, take, drop}
+use lib.ListN.{length, getD, take, drop, replicate, length-replicate}
 use mir.Syntax.{w64}
 use mir.Val.{toZ, ofZ}
 use mir.Facts.{toZ-ofZ}
 use Rattle.lists.specs.Tests.{same}
 use Rattle.lists.specs.Scans.{anyOf}
 use Rattle.lists.proofs.Bools.{same-eq, same-false}
+use Rattle.links.specs.Linking.{departuresOf}
 use Rattle.links.proofs.ByRows.{known-of}
+use Rattle.links.proofs.Listed.{departures-listed}
 use Rattle.reason_departures.specs.Turning.{turnsAt}
 use Rattle.reason_departures.proofs.Listed.{Listing, listed-any, listed-end, listed-below, listed-turn}
 use Rattle.reason_departures.proofs.Listed.{listed-hit, listed-miss, listed-long, listed-known}
@@ -32,22 +34,35 @@ Inv-loop edges count own c node list n k₀ k =
 abbrev μ-loop : tie.MeasureT-loop
 μ-loop edges count own c node list n k₀ k = n - k
 
+told : (c : tie.After-departures-at Inv-loop μ-loop)
+    → (let a = c .before .before .args in
+    (c .departures-at .result ≤ a .count * 2)
+    × (length (c .departures-at .last .1 .1 .1 .0) ≡ length (replicate {A = ℕ} 4000 0))
+    × (take (c .departures-at .result) (c .departures-at .last .1 .1 .1 .0)
+    ≡ departuresOf (a .edges .now) (a .count) (toZ w64 (ofZ w64 (a .node)))))
+told c =
+    let s = c .before .before in
+    let a = s .args in
+    let e = c .departures-at .ensures in
+    departures-listed (a .edges .now) (a .count) (toZ w64 (ofZ w64 (a .node))) (replicate {A = ℕ} 4000 0)
+    (omega (arith, length-replicate {A = ℕ} 4000 0, s .pre .1)) (e .0) (e .1)
+
 -- the departures as they are listed
 listing : (c : tie.After-departures-at Inv-loop μ-loop)
     → (let a = c .before .before .args in
     Listing (a .edges .now) (a .count) (toZ w64 (ofZ w64 (a .node))) (c .departures-at .last .1 .1 .1 .0)
     (c .departures-at .result))
 listing c =
-    let e = c .departures-at .ensures in
+    let e = told c in
     let s = c .before .before in
-    record { room = omega (arith, e .0, e .1, s .pre .1); is = e .2 }
+    record { room = omega (arith, e .0, e .1, length-replicate {A = ℕ} 4000 0, s .pre .1); is = e .2 }
 
 loop-holds : tie.Need-loop-holds Inv-loop μ-loop
 loop-holds c = (omega arith, refl)
 
 array-read-p : tie.Need-array-read-p Inv-loop μ-loop
 array-read-p c = let d = c .before .before .before in
-    omega (arith, d .departures-at .ensures .0, d .before .before .pre .1)
+    omega (arith, told d .0, d .before .before .pre .1)
 
 cast-p : tie.Need-cast-p Inv-loop μ-loop
 cast-p c =
