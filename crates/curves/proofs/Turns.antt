@@ -19,7 +19,8 @@ use Rattle.plane.specs.Points.{samePoint}
 use Rattle.plane.specs.Segments.{onSegment, straightBetween}
 use Rattle.plane.specs.Below.{Segment, passesBelow}
 use Rattle.curves.specs.Curves.{Run, pointAt, pointsFrom, segmentsOf, curveOf}
-use Rattle.curves.specs.Tests.{differs, straightIn, shares, segWrong, mayShare, commonEnds, segCurve, curveCurve}
+use Rattle.curves.specs.Tests.{differs, straightIn, shares, segWrong, mayShare, segCurve, curveCurve}
+use Rattle.curves.specs.Shares.{markedEnds}
 use Rattle.curves.specs.Tests.{lastly, free, freeAfter, arc, simple, isSimple}
 use Rattle.curves.proofs.Runs.{two-points, from-step, from-end, curve-is, last-is}
 
@@ -154,13 +155,12 @@ pub straight-end : (l : List ℤ) (i n : ℕ) → n + 1 ≡ length l / 2 → 1 �
     → straightIn (pointAt l i) (pointsFrom l (i + 1)) ≡ false
 straight-end l i n all one left in-it = rw (from-step l (i + 1) (omega arith), from-end l (i + 1 + 1) (omega arith))
 
--- the ends of one run that are ends of the other
+-- the ends of one run, marked where they are ends of the other
 pub common-ends-are : {l k : List ℤ} (n m : ℕ) {a z b y : Point} {s t u v : Bool} → Run l → Run k → n + 1
     ≡ length l / 2 → m + 1 ≡ length k / 2
     → a ≡ pointAt l 0 → z ≡ pointAt l n → b ≡ pointAt k 0 → y ≡ pointAt k m
     → s ≡ samePoint a b → t ≡ samePoint a y → u ≡ samePoint z b → v ≡ samePoint z y
-    → mayShare (s || t) a (mayShare (u || v) z [])
-    ≡ commonEnds (curveOf l .first) (curveOf l .rest) (curveOf k .first) (curveOf k .rest)
+    → record { first = a; «first_may» = s || t; last = z; «last_may» = u || v } ≡ markedEnds (curveOf l) (curveOf k)
 common-ends-are {l} {k} n m run run′ en em ea ez eb ey es et eu ev =
     rw (curve-is run, curve-is run′, last-is l n en, last-is k m em, es, et, eu, ev, ea, ez, eb, ey)
 

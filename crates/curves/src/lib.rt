@@ -10,9 +10,9 @@ ghost use Rattle.plane.specs.Points.{InRange};
 ghost use Rattle.plane.specs.Segments.{onSegment};
 ghost use Rattle.curves.specs.Curves.{Run, isRun, pointAt, pointsFrom, curveOf};
 ghost use Rattle.curves.specs.Tests.{neighboursDiffer, straightInside, firstPlace, segWrong, mayShare, segCurve};
-ghost use Rattle.curves.specs.Tests.{commonEnds, meetWrongly, free, freeAfter, isSimple};
+ghost use Rattle.curves.specs.Tests.{meetWrongly, free, freeAfter, isSimple};
 ghost use Rattle.curves.specs.Measures.{curveArea, oddBelow};
-ghost use Rattle.curves.specs.Shares.{Shareable, shareable};
+ghost use Rattle.curves.specs.Shares.{Shareable, shareable, markedEnds};
 
 // Points of a curve, at most, and their coordinates.
 pub const POINTS: usize = 12;
@@ -156,12 +156,10 @@ fn segments_wrong(l: Shares, a: Point, b: Point, c: Point, d: Point) -> bool
 
 // ---- two curves
 
-// The ends of c that are ends of d.
+// The ends of c, each marked where it is an end of d.
 pub fn common_ends(c: &[i64], d: &[i64]) -> Shares
     requires { ⌜ Run (now c) × Run (now d) ⌝ }
-    ensures { λ r. ⌜ Shareable r × (shareable r
-        ≡ commonEnds (curveOf (now (c .entry)) .first) (curveOf (now (c .entry)) .rest)
-        (curveOf (now (d .entry)) .first) (curveOf (now (d .entry)) .rest)) ⌝ }
+    ensures { λ r. ⌜ (r ≡ markedEnds (curveOf (now (c .entry))) (curveOf (now (d .entry)))) × Shareable r ⌝ }
 {
     let a = point_at(c, 0);
     let z = point_at(c, segment_count(c));

@@ -1,6 +1,6 @@
 -- The first step along a curve and along its reverse, by the points of a run; the negative of a number. Assumes
 -- nothing.
-use mathlib.Core.Path.{_≡_, sym, ap, _∙_}
+use mathlib.Core.Path.{_≡_, sym, ap, ap₂, _∙_}
 use mathlib.Core.Bool.{true, false}
 use mathlib.Core.List.{List, _∷_}
 use Prim.Native.Nat.{ℕ, zero, suc, _+_, _-_, _/_}
@@ -12,12 +12,13 @@ use mir.Syntax.{w64}
 use mir.Val.{SFits}
 use Rattle.plane.specs.declared.Point.{Point}
 use Rattle.plane.specs.Points.{InRange}
-use Rattle.plane.specs.Directions.{Way, wayTo}
-use Rattle.curves.specs.Curves.{Run, Curve, curveOf, pointAt, pointsFrom, lastOf, secondOf, beforeLast, startWay}
+use Rattle.plane.specs.Directions.{wayTo}
+use Rattle.curves.specs.Curves.{Run, Curve, curveOf, pointAt, pointsFrom, lastOf, secondOf, beforeLast}
 use Rattle.curves.specs.Edits.{turned, course}
 use Rattle.curves.proofs.Runs.{two-points, from-step, from-end, curve-is, last-is}
 use Rattle.curves.proofs.Reverses.{second-turned}
-use Rattle.darts.specs.Positions.{Along}
+use Rattle.darts.specs.declared.Step.{Step}
+use Rattle.darts.specs.Positions.{stepOf, Along}
 
 before-from : (l : List ℤ) (k i : ℕ) → i + k + 2 ≡ length l / 2 → beforeLast (pointAt l i) (pointsFrom l (i + 1))
     ≡ pointAt l (i + k)
@@ -28,34 +29,39 @@ before-from l (suc k) i h =
     rw (from-step l (i + 1) (omega arith), from-step l (i + 1 + 1) (omega arith)) (rest ∙ ap (pointAt l) e)
 
 module _ {l : List ℤ} (run : Run l) where
-  pub start-forward : startWay (course false (curveOf l)) ≡ wayTo (pointAt l 0) (pointAt l 1)
-  start-forward = ap startWay (curve-is run)
-      ∙ ap (λ (r : List Point). wayTo (pointAt l 0) (secondOf (pointAt l 0) r))
+  pub step-forward : stepOf (course false (curveOf l)) ≡ record { from = pointAt l 0; to = pointAt l 1 }
+  step-forward = ap stepOf (curve-is run)
+      ∙ ap (λ (r : List Point). stepOf (record { first = pointAt l 0; rest = r }))
       (from-step l 1 (omega (arith, two-points run)))
 
-  pub start-back : (n : ℕ) → n ≡ length l / 2 → startWay (course true (curveOf l))
-      ≡ wayTo (pointAt l (n - 1)) (pointAt l (n - 2))
-  start-back n e =
+  pub step-back : (n : ℕ) → n ≡ length l / 2 → stepOf (course true (curveOf l))
+      ≡ record { from = pointAt l (n - 1); to = pointAt l (n - 2) }
+  step-back n e =
       let h = two-points run in
       let first = from-step l 1 (omega arith) in
       let z = lastOf (pointAt l 0) (pointsFrom l 1) in
-      let last = last-is l (n - 1) (omega arith) in
+      let last : z ≡ pointAt l (n - 1) = last-is l (n - 1) (omega arith) in
       let second : secondOf z (turned (pointAt l 0) (pointsFrom l 1)) ≡ beforeLast (pointAt l 0) (pointsFrom l 1) =
       rw first (second-turned (lastOf (pointAt l 0) (pointAt l 1 ∷ pointsFrom l 2)) (pointAt l 0) (pointAt l 1)
       (pointsFrom l 2)) in
       let before : beforeLast (pointAt l 0) (pointsFrom l 1) ≡ pointAt l (n - 2) =
       before-from l (n - 2) 0 (omega arith) ∙ ap (pointAt l) (zero-add (n - 2)) in
-      ap (λ (c : Curve). startWay (course true c)) (curve-is run)
-      ∙ ap (wayTo z) (second ∙ before)
-      ∙ ap (λ (p : Point). wayTo p (pointAt l (n - 2))) last
+      ap (λ (c : Curve). stepOf (course true c)) (curve-is run) ∙ ap₂ step last (second ∙ before)
+    where
+      step : Point → Point → Step
+      step p q = record { from = p; to = q }
 
-pub along : {a b p q : Point} {v : Way} → (a ≡ p) × InRange a → (b ≡ q) × InRange b → v ≡ wayTo p q
-    → Along (record { from = a; to = b }) v
-along {b = b} {p} {q} e f h = record {
-  way = ap (λ (x : Point). wayTo x b) (e .0) ∙ ap (wayTo p) (f .0) ∙ sym h;
+pub along : {a b p q : Point} {c : Curve} → (a ≡ p) × InRange a → (b ≡ q) × InRange b → stepOf c
+    ≡ record { from = p; to = q } → Along (record { from = a; to = b }) c
+along {a} {b} {p} {q} {c} e f h = record {
+  is = same;
+  way = ap (λ (s : Step). wayTo (s .from) (s .to)) same;
   from = e .1;
   to = f .1;
 }
+  where
+    same : record { from = a; to = b } ≡ stepOf c
+    same = (λ i. record { from = e .0 i; to = f .0 i }) ∙ sym h
 
 -- ---- the negative of a number that is not negative
 

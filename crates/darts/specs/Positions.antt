@@ -9,7 +9,7 @@ use lib.ListN.{getD}
 use Rattle.lists.specs.Tests.{same}
 use Rattle.plane.specs.Points.{InRange}
 use Rattle.plane.specs.Directions.{Way, wayTo}
-use Rattle.curves.specs.Curves.{curveOf, startWay}
+use Rattle.curves.specs.Curves.{Curve, curveOf, secondOf, startWay}
 use Rattle.curves.specs.Edits.{course}
 use Rattle.planar_maps.specs.Map.{Dart}
 use Rattle.map.specs.Limits.{edgeWidth}
@@ -45,19 +45,31 @@ abbrev pub NextsNamed : List ℤ → ℕ → List ℕ → ℕ → Type 0
 NextsNamed l n nexts m = (p : ℕ) → p < m → (getD nexts p 0 < n * 2)
     × (dartAt l (getD nexts p 0) ≡ dartOf (sideCell l p 3))
 
--- its direction, and the same where edge row `own` has the curve c
+-- its curve as it goes, and the same where edge row `own` has the curve c
+abbrev pub courseAt : List ℤ → ℕ → Curve
+courseAt l p = course (odd p) (edgeAt l (p / 2) .curve)
+
+abbrev pub courseWith : List ℤ → ℕ → List ℤ → ℕ → Curve
+courseWith l own c p = course (odd p) (cond (same (p / 2) own) (curveOf c) (edgeAt l (p / 2) .curve))
+
+-- the direction in which it departs
 abbrev pub wayAt : List ℤ → ℕ → Way
-wayAt l p = startWay (course (odd p) (edgeAt l (p / 2) .curve))
+wayAt l p = startWay (courseAt l p)
 
 abbrev pub wayWith : List ℤ → ℕ → List ℤ → ℕ → Way
-wayWith l own c p = startWay (course (odd p) (cond (same (p / 2) own) (curveOf c) (edgeAt l (p / 2) .curve)))
+wayWith l own c p = startWay (courseWith l own c p)
 
 -- two points in range
 abbrev pub StepInRange : Step → Type 0
 StepInRange s = InRange (s .from) × InRange (s .to)
 
--- two points in range that go in a direction
-pub record Along (s : Step) (v : Way) : Type 0 where
-  pub way : wayTo (s .from) (s .to) ≡ v
+-- the first and the second point of a curve
+abbrev pub stepOf : Curve → Step
+stepOf c = record { from = c .first; to = secondOf (c .first) (c .rest) }
+
+-- s is that step of c; its direction, and its points in range
+pub record Along (s : Step) (c : Curve) : Type 0 where
+  pub is : s ≡ stepOf c
+  pub way : wayTo (s .from) (s .to) ≡ startWay c
   pub from : InRange (s .from)
   pub to : InRange (s .to)

@@ -9,14 +9,14 @@ ghost use lib.ListN.{length, set};
 ghost use Rattle.lists.specs.Tables.{place};
 ghost use Rattle.planar_maps.specs.Rings.{sameDart};
 ghost use Rattle.plane.specs.Directions.{wayTo, signs, before as beforeWay, sameWay};
-ghost use Rattle.curves.specs.Curves.{Run, curveOf, startWay};
+ghost use Rattle.curves.specs.Curves.{Run, curveOf};
 ghost use Rattle.curves.specs.Edits.{course};
 ghost use Rattle.map.specs.Limits.{edgeWidth};
 ghost use Rattle.map.specs.Rows.{dartOf, dartCell};
 ghost use Rattle.map.specs.Darts.{directed, next};
 ghost use Rattle.map_rows.specs.Rows.{EdgeRow, EdgeRows, edgeMap};
-ghost use Rattle.darts.specs.Positions.{reverseOf, dartAt, sidePlace, sideCell, wayAt, wayWith, StepInRange};
-ghost use Rattle.darts.specs.Positions.{Along};
+ghost use Rattle.darts.specs.Positions.{reverseOf, dartAt, sidePlace, sideCell, wayAt, StepInRange};
+ghost use Rattle.darts.specs.Positions.{courseAt, courseWith, Along};
 
 // The places of a step's signs.
 pub const SIGN_PAIRS: usize = directions::SIGN_PAIRS;
@@ -102,7 +102,7 @@ pub struct Step {
 // The first step along a curve, or along its reverse.
 pub fn first_step(c: &[i64], back: bool) -> Step
     requires { ⌜ Run (now c) ⌝ }
-    ensures { λ r. ⌜ Along r (startWay (course back (curveOf (now (c .entry))))) ⌝ }
+    ensures { λ r. ⌜ Along r (course back (curveOf (now (c .entry)))) ⌝ }
 {
     let n = curves::point_count(c);
     if back {
@@ -128,7 +128,7 @@ pub fn first_step(c: &[i64], back: bool) -> Step
 // The first step of the directed edge at a position.
 pub fn step_at(edges: &[i64], p: usize) -> Step
     requires { ⌜ EdgeRow (now edges) (p / 2) ⌝ }
-    ensures { λ r. ⌜ Along r (wayAt (now (edges .entry)) p) ⌝ }
+    ensures { λ r. ⌜ Along r (courseAt (now (edges .entry)) p) ⌝ }
 {
     first_step(map_rows::curve_of(edges, p / 2), p % 2 == 1)
 }
@@ -147,7 +147,7 @@ pub fn signs_at(edges: &[i64], p: usize) -> usize
 pub fn step_with(edges: &[i64], own: usize, c: &[i64], p: usize) -> Step
     requires { ⌜ (p / 2 ≡ own → Run (now c))
         × (((p / 2 ≡ own) → ⊥) → EdgeRow (now edges) (p / 2)) ⌝ }
-    ensures { λ r. ⌜ Along r (wayWith (now (edges .entry)) own (now (c .entry)) p) ⌝ }
+    ensures { λ r. ⌜ Along r (courseWith (now (edges .entry)) own (now (c .entry)) p) ⌝ }
 {
     if p / 2 == own {
         first_step(c, p % 2 == 1)

@@ -21,8 +21,8 @@ use Rattle.curve_edits.specs.Lines.{lineOf}
 use Rattle.curve_edits.proofs.Lines.{length-coordinates}
 use Rattle.curve_edits.proofs.Curves.{whole-points, reversed-points}
 use Rattle.map.proofs.RoundTrip.{curve-back}
-use Rattle.map_rows.specs.Rows.{EdgeRow, edgeAt}
-use Rattle.map_rows.proofs.RowCurves.{runAt, run-at, curve-at}
+use Rattle.map_rows.specs.Rows.{EdgeRow, edgeAt, runAt}
+use Rattle.map_rows.proofs.RowCurves.{run-at, curve-at}
 use Rattle.darts.specs.Positions.{odd}
 use Rattle.edit_heal.specs.Heals.{courseAt}
 

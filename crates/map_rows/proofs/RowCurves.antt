@@ -23,7 +23,7 @@ use Rattle.map.specs.Limits.{edgeWidth}
 use Rattle.map.specs.Rows.{edgeOf, edgeCells}
 use Rattle.map.specs.Form.{edgeRanges}
 use Rattle.map.proofs.RoundTrip.{edge-wide}
-use Rattle.map_rows.specs.Rows.{EdgeRow, edgeCellsAt, edgesOf, edgeAt}
+use Rattle.map_rows.specs.Rows.{EdgeRow, edgeCellsAt, edgesOf, edgeAt, pointCount, runAt}
 use Rattle.map_rows.proofs.Rows.{edge-row, edges-table}
 
 drop-take : {A : Type 0} (k n : ℕ) (l : List A) → drop k (take (k + n) l) ≡ take n (drop k l)
@@ -35,13 +35,6 @@ drop-take {A} (suc k) n (x ∷ l) = ap (drop (suc k)) (ap (λ (m : ℕ). take m 
     suc-plus a b = omega arith
 
 -- ---- the curve of an edge row
-
--- its number of points, and its numbers in use
-abbrev pub pointCount : List ℤ → ℕ → ℕ
-pointCount l i = natAbs (getD l (i * 32 + 7) (pos 0))
-
-abbrev pub runAt : List ℤ → ℕ → List ℤ
-runAt l i = take (2 * pointCount l i) (drop (i * 32 + 8) l)
 
 module _ {l : List ℤ} {i : ℕ} (row : EdgeRow l i) where
   cell-7 : cell (edgeCellsAt l i) 7 ≡ getD l (i * 32 + 7) (pos 0)

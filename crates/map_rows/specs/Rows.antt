@@ -3,8 +3,8 @@ use mathlib.Core.Path.{_≡_}
 use mathlib.Core.Bool.{true, _&&_}
 use mathlib.Core.List.{List, [], map}
 use Prim.Native.Nat.{ℕ, suc, _+_, _*_, _≤_}
-use lib.IntN.{ℤ}
-use lib.ListN.{length, take, drop}
+use lib.IntN.{ℤ, pos, natAbs}
+use lib.ListN.{length, getD, take, drop}
 use Rattle.lists.specs.Scans.{allOf}
 use Rattle.tables.specs.Tables.{rows, rowAt, numbered}
 use Rattle.map.specs.Limits.{nodeWidth, edgeWidth, faceWidth, lastNumber}
@@ -35,6 +35,13 @@ edgeCellsAt l i = take edgeWidth (drop (i * edgeWidth) l)
 
 abbrev pub edgeAt : List ℤ → ℕ → Edge
 edgeAt l i = edgeOf (edgeCellsAt l i)
+
+-- its number of points, and their numbers as they stand
+abbrev pub pointCount : List ℤ → ℕ → ℕ
+pointCount l i = natAbs (getD l (i * edgeWidth + 7) (pos 0))
+
+abbrev pub runAt : List ℤ → ℕ → List ℤ
+runAt l i = take (2 * pointCount l i) (drop (i * edgeWidth + 8) l)
 
 -- the map that has these edges alone: links, rings and directions are read from it
 abbrev pub edgesAlone : List Edge → Map

@@ -9,7 +9,7 @@ ghost use lib.Seq.{paste};
 ghost use Rattle.lists.specs.Scans.{isSome};
 ghost use Rattle.plane.specs.Points.{InRange};
 ghost use Rattle.curves.specs.Curves.{Run, curveOf};
-ghost use Rattle.map_rows.specs.Rows.{NodeRow, EdgeRow, nodeAt, edgeAt};
+ghost use Rattle.map_rows.specs.Rows.{NodeRow, EdgeRow, nodeAt, edgeAt, runAt};
 ghost use Rattle.map_rows.specs.Cells.{cellsOf};
 
 // ---- read
@@ -39,7 +39,8 @@ pub fn is_isolated(nodes: &[i64], i: usize) -> bool
 // The curve of edge row i.
 pub fn curve_of(edges: &[i64], i: usize) -> &[i64]
     requires { ⌜ EdgeRow (now edges) i ⌝ }
-    ensures { λ r. ⌜ Run (now r) × (curveOf (now r) ≡ edgeAt (now (edges .entry)) i .curve) ⌝ }
+    ensures { λ r. ⌜ Run (now r) × (curveOf (now r) ≡ edgeAt (now (edges .entry)) i .curve)
+        × (now r ≡ runAt (now (edges .entry)) i) ⌝ }
 {
     let a = i * map::EDGE_WIDTH + map::POINTS_AT;
     let n = edges[i * map::EDGE_WIDTH + map::POINT_COUNT] as usize;

@@ -103,7 +103,7 @@ module _ {nodes edges faces : List ℤ} {h : Head} (f : Formed nodes edges faces
     found = place (sameZ z) 0 (column edgeWidth edges (natAbs (h .edges)))
 
     row-found : firstReason (reasons s m (removeTicket how z)) ≡ 0 → found ≡ At (rowFound found)
-    row-found clear = row-there found (λ e. let k = sym (four how z (edge-none f z e)) ∙ clear in absurd (omega (arith, k)))
+    row-found clear = row-there found (λ e. absurd (omega (arith, sym (four how z (edge-none f z e)) ∙ clear)))
 
     facts : {r : Removal} (k : ℕ) → k ≡ firstReason (reasons s m (removeTicket how z)) → r
         ≡ removalBy k (rowFound found) (makesFace how (natAbs z) m) → JudgedRemoval how nodes edges faces h z r

@@ -5,7 +5,7 @@ use mathlib.Core.Bool.{Bool, true, cond, _&&_}
 use mathlib.Core.List.{List, [], _∷_, _++_}
 use Prim.Native.Nat.{ℕ, zero, suc, _+_, _*_, _-_, _/_, _%_, _≤_}
 use lib.Dec.{leb, ltb}
-use lib.IntN.{ℤ, pos, natAbs}
+use lib.IntN.{ℤ, pos, negsuc, natAbs}
 use lib.ListN.{length, getD, take, drop, replicate, set}
 use lib.Seq.{paste}
 use lib.Signed.{leZ, ltZ}
@@ -68,6 +68,15 @@ pub record Rising (w : ℕ) (l : List ℤ) (n : ℕ) : Type 0 where
   pub fits : n * w ≤ length l
   pub some : 1 ≤ w
   pub rising : linked ltZ (column w l n) ≡ true
+
+-- a number's last 12 bits
+abbrev pub lastBits : ℤ → ℕ
+lastBits (pos n) = n % 4096
+lastBits (negsuc n) = 4095 - n % 4096
+
+-- row i in the index under its number's last bits
+abbrev pub indexed : ℕ → List ℤ → List ℕ → ℕ → List ℕ
+indexed w l index i = set index (lastBits (getD l (i * w) (pos 0))) (i % 65536)
 
 -- ---- rows written
 

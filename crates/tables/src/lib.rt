@@ -11,6 +11,7 @@ ghost use lib.Seq.{paste};
 ghost use lib.Signed.{ltZ, nonNeg};
 ghost use Rattle.lists.specs.Scans.{allOf};
 ghost use Rattle.lists.specs.Tables.{place, sweep, table};
+ghost use Rattle.tables.specs.Tables.{lastBits, indexed};
 ghost use Rattle.tables.specs.Tables.{sameZ, column, Rising, wholeRows, isZero, numbered, replaceAt, closed};
 
 // ---- lookup
@@ -80,7 +81,7 @@ const PLACES: usize = 65536;
 
 // A number's last 12 bits.
 fn last_bits(z: i64) -> usize
-    ensures { λ r. ⌜ r < 4096 ⌝ }
+    ensures { λ r. ⌜ (r ≡ lastBits z) × (r < 4096) ⌝ }
 {
     (z & LAST_BITS) as usize
 }
@@ -89,7 +90,8 @@ fn last_bits(z: i64) -> usize
 // to look first, and no more.
 pub fn index_rows(t: &[i64], w: usize, count: usize, index: &mut [u16])
     requires { ⌜ (1 ≤ w) × (count * w ≤ length (now t)) × (length (now index) ≡ 4096) ⌝ }
-    ensures { λ r. ⌜ length (now (index .exit)) ≡ 4096 ⌝ }
+    ensures { λ r. ⌜ (now (index .exit) ≡ sweep (indexed w (now (t .entry))) (now (index .entry)) 0 count)
+        × (length (now (index .exit)) ≡ 4096) ⌝ }
 {
     for i in 0..count {
         index[last_bits(t[i * w])] = (i % PLACES) as u16;

@@ -18,10 +18,6 @@ point-at-requires-3 c κs = (
 returns : tie.Need-returns
 returns c =
     let s = c .before .before .before .before .before .before .before .before .before .before in (
-      record {
-        first = c .before .before .before .before .before .before .before .before .before .point-at .ensures .1;
-        last = c .before .before .before .before .before .before .before .point-at2 .ensures .1;
-      },
       common-ends-are _ _ (s .pre .0) (s .pre .1)
           (c .before .before .before .before .before .before .before .before .segment-count .ensures .0)
           (c .before .before .before .before .before .segment-count2 .ensures .0)
@@ -31,6 +27,10 @@ returns c =
           (c .before .before .before .before .point-at4 .ensures .0)
           (c .before .before .before .same-point .ensures) (c .before .before .same-point2 .ensures)
           (c .before .same-point3 .ensures) (c .same-point4 .ensures),
+      record {
+        first = c .before .before .before .before .before .before .before .before .before .point-at .ensures .1;
+        last = c .before .before .before .before .before .before .before .point-at2 .ensures .1;
+      },
     )
 
 pub common-ends-spec : {M : Type 1} → statement M

@@ -1,7 +1,7 @@
 -- `curves::curves_wrong` meets its contract: a segment from point i on meets the other curve wrongly if and only if one
 -- does. Assumes nothing.
 use borrow.Author.Needs.{needs}
-use mathlib.Core.Path.{_≡_, sym, _∙_}
+use mathlib.Core.Path.{_≡_, sym, ap, _∙_}
 use Prim.Native.Nat.{_+_, _-_, _≤_}
 use native.Mathlib.Omega.{arith}
 use Rattle.curves.specs.Curves.{pointAt, pointsFrom, curveOf}
@@ -22,7 +22,10 @@ abbrev μ-loop : tie.MeasureT-loop
 
 loop-holds : tie.Need-loop-holds Inv-loop μ-loop
 unfolding wrong
-loop-holds c = (omega arith, rw (c .before .common-ends .ensures .1) (rw (curve-is (c .before .before .pre .0))))
+loop-holds c = (
+  omega arith,
+  rw (ap shareable (c .before .common-ends .ensures .0)) (rw (curve-is (c .before .before .pre .0))),
+)
 
 hit : tie.Need-returns Inv-loop μ-loop
 hit c =
@@ -62,7 +65,7 @@ curves-wrong-spec =
     (λ c. omega arith)
     (λ c κs. (c .before .before .before .before .before .pre .0, omega arith))
     (λ c κs. (
-      c .before .before .before .before .before .common-ends .ensures .0,
+      c .before .before .before .before .before .common-ends .ensures .1,
       c .before .point-at .ensures .1,
       c .point-at2 .ensures .1,
       c .before .before .before .before .before .before .pre .1,

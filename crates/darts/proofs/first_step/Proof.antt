@@ -3,10 +3,11 @@ use borrow.Author.Needs.{needs}
 use mathlib.Core.Path.{sym, ap, _∙_}
 use mathlib.Core.Bool.{Bool}
 use native.Mathlib.Omega.{arith}
-use Rattle.curves.specs.Curves.{curveOf, startWay}
+use Rattle.curves.specs.Curves.{curveOf}
 use Rattle.curves.specs.Edits.{course}
 use Rattle.curves.proofs.Runs.{two-points}
-use Rattle.darts.proofs.Steps.{start-forward, start-back, along}
+use Rattle.darts.specs.Positions.{stepOf}
+use Rattle.darts.proofs.Steps.{step-forward, step-back, along}
 use Rattle.darts.proofs.first_step.Statement.{statement}
 use Rattle.darts.proofs.first_step.Tie as tie
 
@@ -27,8 +28,8 @@ returns c =
     let s = t .before .before in
     let l = s .before .args .c .now in
     along (c .before .point-at .ensures) (c .point-at2 .ensures)
-    (ap (λ (b : Bool). startWay (course b (curveOf l))) (t .before .if1 .taken)
-    ∙ start-back (s .before .pre) 2 (sym (t .if2 .taken) ∙ s .point-count .ensures))
+    (ap (λ (b : Bool). stepOf (course b (curveOf l))) (t .before .if1 .taken)
+    ∙ step-back (s .before .pre) 2 (sym (t .if2 .taken) ∙ s .point-count .ensures))
 
 sub-point-at : tie.Need-sub-point-at
 sub-point-at c = omega (arith, two-points (c .before .before .before .pre), c .before .before .point-count .ensures)
@@ -58,8 +59,8 @@ returns-2 c =
     let s = t .before .before in
     let l = s .before .args .c .now in
     along (c .before .point-at3 .ensures) (c .point-at4 .ensures)
-    (ap (λ (b : Bool). startWay (course b (curveOf l))) (t .before .if1 .taken)
-    ∙ start-back (s .before .pre) (s .point-count .result) (s .point-count .ensures))
+    (ap (λ (b : Bool). stepOf (course b (curveOf l))) (t .before .if1 .taken)
+    ∙ step-back (s .before .pre) (s .point-count .result) (s .point-count .ensures))
 
 point-at-requires-5 : tie.Need-point-at-requires-5
 point-at-requires-5 c κs = (c .before .before .pre, omega (arith, two-points (c .before .before .pre)))
@@ -72,7 +73,7 @@ returns-3 c =
     let s = c .before .before .before in
     let l = s .before .args .c .now in
     along (c .before .point-at5 .ensures) (c .point-at6 .ensures)
-    (ap (λ (b : Bool). startWay (course b (curveOf l))) (c .before .before .if1 .left) ∙ start-forward (s .before .pre))
+    (ap (λ (b : Bool). stepOf (course b (curveOf l))) (c .before .before .if1 .left) ∙ step-forward (s .before .pre))
 
 pub first-step-spec : {M : Type 1} → statement M
 first-step-spec =

@@ -2,7 +2,7 @@
 use borrow.Author.Needs.{needs}
 use mathlib.Core.Path.{subst}
 use Rattle.lists.specs.Tests.{same}
-use Rattle.curves.specs.Curves.{Curve, startWay}
+use Rattle.curves.specs.Curves.{Curve}
 use Rattle.curves.specs.Edits.{course}
 use Rattle.darts.specs.Positions.{odd, Along}
 use Rattle.darts.proofs.step_at.Statement.{statement}
@@ -11,7 +11,7 @@ use Rattle.darts.proofs.step_at.Tie as tie
 returns : tie.Need-returns
 unfolding same
 returns c =
-    subst (λ (k : Curve). Along (c .first-step .result) (startWay (course (odd (c .before .before .args .p)) k)))
+    subst (λ (k : Curve). Along (c .first-step .result) (course (odd (c .before .before .args .p)) k))
     (c .before .curve-of .ensures .1) (c .first-step .ensures)
 
 pub step-at-spec : {M : Type 1} → statement M

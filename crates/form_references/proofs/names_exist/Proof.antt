@@ -41,7 +41,7 @@ index-rows-requires c κs = search needs
 
 nodes-name-faces-requires : tie.Need-nodes-name-faces-requires
 nodes-name-faces-requires c κs = let p = c .before .before .before .before .before .before .before .pre .0 .1 in
-    (p .in-ranges .counted .nodes-fit, face-rows p, c .before .before .index-rows .ensures)
+    (p .in-ranges .counted .nodes-fit, face-rows p, c .before .before .index-rows .ensures .1)
 
 returns : tie.Need-returns
 returns c =
@@ -58,7 +58,7 @@ find-rows-requires c κs =
       omega (arith, s .pre .3),
       p .in-ranges .counted .edges-fit,
       lit≤ tt,
-      c .before .before .before .before .before .before .index-rows .ensures,
+      c .before .before .before .before .before .before .index-rows .ensures .1,
       omega (arith, s .pre .2, s .pre .6),
     )
 
@@ -88,7 +88,7 @@ find-rows-requires-2 c κs =
       omega (arith, s .pre .1),
       p .in-ranges .counted .edges-fit,
       lit≤ tt,
-      c .before .before .before .index-rows2 .ensures,
+      c .before .before .before .index-rows2 .ensures .1,
       omega (arith, s .pre .2, s .pre .4),
     )
 
@@ -113,7 +113,7 @@ index-rows-requires-3 c κs =
       lit≤ tt,
       k .before .before .before .before .before .before .before .before .before .before .before .before .before .before
           .before .before .before .pre .0 .1 .in-ranges .counted .edges-fit,
-      k .index-rows2 .ensures,
+      k .index-rows2 .ensures .1,
     )
 
 find-nexts-requires : tie.Need-find-nexts-requires
@@ -123,7 +123,7 @@ find-nexts-requires c κs =
     .before .before in (
       edges-in-order (s .pre .0 .1),
       s .pre .2,
-      c .before .before .before .index-rows3 .ensures,
+      c .before .before .before .index-rows3 .ensures .1,
       omega (arith, s .pre .2, s .pre .5),
     )
 

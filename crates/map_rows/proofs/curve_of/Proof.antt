@@ -1,6 +1,6 @@
 -- `map_rows::curve_of` meets its contract: the row has 2 to 12 points, which lie in the table. Assumes nothing.
 use borrow.Author.Needs.{needs, sfits-of}
-use mathlib.Core.Path.{_≡_, sym, ap, _∙_, subst}
+use mathlib.Core.Path.{_≡_, refl, sym, ap, _∙_, subst}
 use Prim.Native.Nat.{ℕ, _+_, _*_, _-_}
 use native.Mathlib.Omega.{arith}
 use lib.IntN.{pos, natAbs}
@@ -9,8 +9,8 @@ use mir.Syntax.{w64}
 use mir.Val.{toZ, ofZ}
 use mir.Facts.{toZ-ofZ}
 use Rattle.curves.specs.Curves.{Run, curveOf}
-use Rattle.map_rows.specs.Rows.{edgeAt}
-use Rattle.map_rows.proofs.RowCurves.{pointCount, count-pos, count-most, run-at, curve-at}
+use Rattle.map_rows.specs.Rows.{edgeAt, pointCount, runAt}
+use Rattle.map_rows.proofs.RowCurves.{count-pos, count-most, run-at, curve-at}
 use Rattle.map_rows.proofs.curve_of.Statement.{statement}
 use Rattle.map_rows.proofs.curve_of.Tie as tie
 use Rattle.map_rows.proofs.curve_of.Reads as reads
@@ -48,7 +48,8 @@ returns c =
     let e : i * 32 + 8 + 2 * natAbs (toZ w64 (ofZ w64 (getD l (i * 32 + 7) (pos 0)))) - (i * 32 + 8)
     ≡ 2 * pointCount l i = omega (arith, count (c .before)) in
     subst (λ (k : ℕ). Run (take k (drop (i * 32 + 8) l))
-    × (curveOf (take k (drop (i * 32 + 8) l)) ≡ edgeAt l i .curve)) (sym e) (run-at p, curve-at p)
+    × (curveOf (take k (drop (i * 32 + 8) l)) ≡ edgeAt l i .curve)
+    × (take k (drop (i * 32 + 8) l) ≡ runAt l i)) (sym e) (run-at p, curve-at p, refl)
 
 pub curve-of-spec : {M : Type 1} → statement M
 curve-of-spec =
