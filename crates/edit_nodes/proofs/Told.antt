@@ -9,20 +9,27 @@ use lib.Signed.{nonNeg}
 use borrow.Author.Tests.{not-false}
 use Rattle.lists.specs.Tests.{same}
 use Rattle.lists.specs.Scans.{anyOf}
+use Rattle.lists.specs.Tables.{place}
+use Rattle.lists.specs.declared.Found.the-variants.{At, Missing}
+use Rattle.lists.proofs.Bools.{&&-false}
+use Rattle.tables.specs.Tables.{sameZ, column}
 use Rattle.plane.specs.declared.Point.{Point}
 use Rattle.curves.specs.Curves.{point, coordinate}
 use Rattle.map.specs.declared.Head.{Head}
+use Rattle.map.specs.Limits.{faceWidth}
 use Rattle.map.specs.Rows.{Map, Sizes, mapOf, sizesOf, counts, lent}
 use Rattle.map.specs.Faces.{faceOfPoint, floors}
 use Rattle.map.specs.Tickets.{AddIsoNode}
 use Rattle.map.specs.Reasons.{firstReason, minusOne, noFace, outside, edgeThrough, anyNodeAt, reasons}
 use Rattle.map.proofs.Reasons.{first-hit, first-miss, first-zero, first-append, first-after}
-use Rattle.map_rows.specs.Rows.{facesOf, edgeMap}
+use Rattle.map_rows.specs.Rows.{edgeMap}
+use Rattle.map_rows.proofs.Lookups.{face-found}
 use Rattle.head.specs.Heads.{sizesIn, roomAt}
 use Rattle.outcomes.specs.Outcomes.{Formed}
-use Rattle.outcomes.proofs.Formed.{room-at}
+use Rattle.outcomes.proofs.Formed.{room-at, face-rows}
 use Rattle.reason_curves.proofs.Others.{node-at-all}
-use Rattle.edit_nodes.specs.Parts.{pointTaken, addEarly, addLate}
+use Rattle.edit_nodes.specs.Parts.{pointTaken, pointReasons, addEarly, addLate}
+use Rattle.edit_nodes.proofs.Faces.{face-none}
 
 -- a face that is not missing is none or a number
 pub given-face : (a b c : Bool) → not a && not (b && c) ≡ false → a || b ≡ true
@@ -34,6 +41,11 @@ given-face false false c e = absurd (true≢false e)
 pub range-told : {x y u v : ℤ} {r t : Bool} → u ≡ x → v ≡ y → r ≡ coordinate u && coordinate v → not r ≡ t
     → outside x y ≡ t
 range-told eu ev er et = rw (← eu, ← ev, ← er) et
+
+-- the reasons of the point, of numbers as they were passed
+pub point-told : (m : Map) {x y u v : ℤ} {r : ℕ} → u ≡ x → v ≡ y → r ≡ firstReason (pointReasons m u v)
+    → r ≡ firstReason (pointReasons m x y)
+point-told m eu ev e = e ∙ (λ i. firstReason (pointReasons m (eu i) (ev i)))
 
 -- the first reasons of kind 1, of numbers as they were passed
 pub early-told : (m : Map) {face x y u v w : ℤ} {r : ℕ} → u ≡ face → v ≡ x → w ≡ y → r ≡ firstReason (addEarly m u v w)
@@ -52,13 +64,6 @@ module _ {nodes edges faces : List ℤ} {h : Head} (f : Formed nodes edges faces
   abbrev s : Sizes
   s = sizesOf (lent nodes edges faces h)
 
-  -- the face that was looked for
-  pub face-told : (k : ℕ) (face z : ℤ) {r v : Bool} → k ≡ natAbs (h .faces) → z ≡ face → r ≡ not (minusOne z)
-      && not (nonNeg z && anyOf (same (natAbs z)) (facesOf faces k)) → r ≡ v
-      → not (minusOne face) && noFace m face ≡ v
-  unfolding mapOf
-  face-told k face z ek ez er ev = rw (← ek, ← ez) (sym er ∙ ev)
-
   -- the point that was looked for
   pub taken-told : (n k own : ℕ) (p q : Point) {r v : Bool} → n ≡ natAbs (h .nodes) → k ≡ natAbs (h .edges) → n ≤ own
       → p ≡ q → r ≡ pointTaken nodes n edges k own p → r ≡ v → anyNodeAt (m .nodes) q || edgeThrough m q ≡ v
@@ -76,6 +81,23 @@ module _ {nodes edges faces : List ℤ} {h : Head} (f : Formed nodes edges faces
   -- ---- kind 1
 
   module _ (face x y : ℤ) where
+    -- reason 4: the face that was looked for
+    pub face-not-given : minusOne face ≡ true → firstReason (pointReasons m x y) ≡ firstReason (addEarly m face x y)
+    face-not-given e = sym (first-miss 4 _ _ (rw e))
+
+    pub face-there : {i : ℕ} → place (sameZ face) 0 (column faceWidth faces (natAbs (h .faces))) ≡ At i
+        → firstReason (pointReasons m x y) ≡ firstReason (addEarly m face x y)
+    unfolding mapOf
+    face-there e =
+        let r = face-found faces (natAbs (h .faces)) (face-rows f .ranges) face _ e in
+        sym (first-miss 4 _ _ (rw (ap nonNeg (r .1), r .2) (&&-false (not (minusOne face)))))
+
+    pub face-missing : place (sameZ face) 0 (column faceWidth faces (natAbs (h .faces))) ≡ Missing
+        → minusOne face ≡ false → 4 ≡ firstReason (addEarly m face x y)
+    unfolding mapOf
+    face-missing e given =
+        sym (first-hit 4 _ _ (rw (given, face-none faces (natAbs (h .faces)) (face-rows f .ranges) face e)))
+
     abbrev first : ℕ
     first = firstReason (reasons s m (AddIsoNode face x y))
 
@@ -92,8 +114,7 @@ module _ {nodes edges faces : List ℤ} {h : Head} (f : Formed nodes edges faces
 
     module _ (early : firstReason (addEarly m face x y) ≡ 0) where
       four : (not (minusOne face) && noFace m face ≡ false)
-          × (firstReason ((5, outside x y) ∷ (10, anyNodeAt (m .nodes) (point x y) || edgeThrough m (point x y))
-          ∷ []) ≡ 0)
+          × (firstReason (pointReasons m x y) ≡ 0)
       four = first-zero 4 _ _ (lit< tt) early
 
       pub early-face : minusOne face || nonNeg face ≡ true

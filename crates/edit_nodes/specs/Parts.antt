@@ -21,10 +21,13 @@ pointTaken nodes n edges k own p =
     anyOf (λ i. not (same i own) && samePoint (nodeAt nodes i .at) p) (table (λ i. i) 0 n)
     || edgeThrough (edgeMap edges k) p
 
--- kind 1, up to 10, and from 12 on
+-- kind 1: of its point, up to 10, and from 12 on
+abbrev pub pointReasons : Map → ℤ → ℤ → Reasons
+pointReasons m x y =
+    (5, outside x y) ∷ (10, anyNodeAt (m .nodes) (point x y) || edgeThrough m (point x y)) ∷ []
+
 abbrev pub addEarly : Map → ℤ → ℤ → ℤ → Reasons
-addEarly m f x y = (4, not (minusOne f) && noFace m f) ∷ (5, outside x y)
-    ∷ (10, anyNodeAt (m .nodes) (point x y) || edgeThrough m (point x y)) ∷ []
+addEarly m f x y = (4, not (minusOne f) && noFace m f) ∷ pointReasons m x y
 
 abbrev pub addLate : Sizes → Map → ℤ → ℤ → ℤ → Reasons
 addLate s m f x y = (12, not (minusOne f) && not (same (natAbs f) (faceOfPoint m (point x y))))

@@ -22,7 +22,7 @@ ghost use Rattle.map.specs.Loans.{lentNow};
 ghost use Rattle.map_rows.specs.Rows.{FaceRows, NodeRows, EdgeRows, facesOf, nodeAt};
 ghost use Rattle.head.specs.Heads.{Counted, changedHead};
 ghost use Rattle.outcomes.specs.Outcomes.{Formed, decided, outcomeNow};
-ghost use Rattle.edit_nodes.specs.Parts.{pointTaken, addEarly, moveReasons};
+ghost use Rattle.edit_nodes.specs.Parts.{pointTaken, pointReasons, addEarly, moveReasons};
 
 // ---- leaves
 
@@ -39,22 +39,6 @@ fn other_face(face: i64, around: i64) -> bool
     ensures { λ r. ⌜ r ≡ (not (minusOne face) && not (same (natAbs face) (natAbs around))) ⌝ }
 {
     !is_none(face) & (face != around)
-}
-
-// A face is given that does not exist.
-fn face_missing(faces: &[i64], count: usize, face: i64) -> bool
-    requires { ⌜ FaceRows (now faces) count ⌝ }
-    ensures { λ r. ⌜ r ≡ (not (minusOne face)
-        && not (nonNeg face && anyOf (same (natAbs face)) (facesOf (now (faces .entry)) count))) ⌝ }
-{
-    if is_none(face) {
-        return false;
-    }
-    let found = tables::find_row(faces, map::FACE_WIDTH, count, face);
-    match found {
-        Found::At(i) => false,
-        Found::Missing => true,
-    }
 }
 
 // A node but that of row `own` lies on the point, or an edge passes through it.
@@ -77,23 +61,12 @@ fn point_is_taken(
 
 // ---- reasons
 
-// Kind 1: 4, 5 or 10; 0 for none.
-fn add_reason(
-    nodes: &[i64],
-    edges: &[i64],
-    faces: &[i64],
-    h: Head,
-    face: i64,
-    x: i64,
-    y: i64,
-) -> u64
+// Kind 1, of its point: 5 or 10; 0 for none.
+fn point_reason(nodes: &[i64], edges: &[i64], faces: &[i64], h: Head, x: i64, y: i64) -> u64
     requires { ⌜ Formed (now nodes) (now edges) (now faces) h ⌝ }
-    ensures { λ r. ⌜ r ≡ firstReason (addEarly
-        (mapOf (lentNow (nodes .entry) (edges .entry) (faces .entry) h)) face x y) ⌝ }
+    ensures { λ r. ⌜ r ≡ firstReason (pointReasons
+        (mapOf (lentNow (nodes .entry) (edges .entry) (faces .entry) h)) x y) ⌝ }
 {
-    if face_missing(faces, head::to_usize(h.faces), face) {
-        return 4;
-    }
     if !reason_curves::in_range(x, y) {
         return 5;
     }
@@ -110,6 +83,31 @@ fn add_reason(
     } else {
         0
     }
+}
+
+// Kind 1: 4, 5 or 10; 0 for none.
+fn add_reason(
+    nodes: &[i64],
+    edges: &[i64],
+    faces: &[i64],
+    h: Head,
+    face: i64,
+    x: i64,
+    y: i64,
+) -> u64
+    requires { ⌜ Formed (now nodes) (now edges) (now faces) h ⌝ }
+    ensures { λ r. ⌜ r ≡ firstReason (addEarly
+        (mapOf (lentNow (nodes .entry) (edges .entry) (faces .entry) h)) face x y) ⌝ }
+{
+    if is_none(face) {
+        return point_reason(nodes, edges, faces, h, x, y);
+    }
+    let n = head::to_usize(h.faces);
+    let found = tables::find_row(faces, map::FACE_WIDTH, n, face);
+    let Found::At(_) = found else {
+        return 4;
+    };
+    point_reason(nodes, edges, faces, h, x, y)
 }
 
 // Kind 2, of node row i: 5, 9 or 10; 0 for none.
