@@ -8,7 +8,7 @@ use Prim.Native.Nat.{ℕ, zero, suc, _<_}
 use native.Mathlib.Omega.{arith}
 use lib.Dec.{ltb}
 use lib.IntN.{ℤ, pos, negsuc}
-use lib.ListN.{length, getD, drop, List·getD-eq-default}
+use lib.ListN.{length, getD, drop, List·getD-map, List·getD-eq-default}
 use mir.Syntax.{w64}
 use mir.Val.{SFits, ofZ, toZ}
 use mir.Facts.{toZ-ofZ, toZ-pos}
@@ -17,21 +17,16 @@ use Rattle.lists.proofs.Bools.{which, equal?}
 use Rattle.map.specs.declared.Head.{Head}
 use Rattle.map.specs.Rows.{mapOf, whole, lent}
 use Rattle.map.specs.Form.{inForm}
-use Rattle.map.specs.Tickets.{Ticket, read, kinds}
+use Rattle.map.specs.Tickets.{Ticket, read}
 use Rattle.map.specs.Reasons.{Reasons, firstReason}
 use Rattle.map.specs.Ticket.{ticket, judged, refused, lentReasons}
 use Rattle.map.proofs.Reasons.{first-hit, first-miss}
 use Rattle.outcomes.specs.declared.Done.{Done}
 use Rattle.outcomes.specs.Outcomes.{Formed, outcome}
-use Rattle.edit_dispatch.specs.Shaped.{shaped}
+use Rattle.edit_dispatch.specs.declared.Routine.the-variants.{Unknown}
+use Rattle.edit_dispatch.specs.Shaped.{shaped, routines, routineOf, kindFor, readFor}
 
 -- ---- what a first number is read as
-
--- a kind
-read-kind : (t : List ℤ) (k : ℕ) → getD t 0 (pos 0) ≡ pos (suc k) → read t ≡ getD kinds k (λ s. none) (drop 1 t)
-unfolding read
-read-kind [] k e = let z : 0 ≡ suc k = cc in absurd (omega arith)
-read-kind (z ∷ r) k e = rw e
 
 -- x is none of the numbers 1 to n
 abbrev NoneOf : ℕ → ℕ → Type 0
@@ -46,21 +41,32 @@ none-of (suc n) k x h e l = elim (equal? k n) [
       (omega arith)
 ]
 
--- no kind
-read-unknown : (t : List ℤ) → NoneOf 14 (ofZ w64 (getD t 0 (pos 0))) → read t ≡ none
-unfolding read
-read-unknown [] h = refl
-read-unknown (pos zero ∷ r) h = refl
-read-unknown (pos (suc k) ∷ r) h =
+-- a kind, and no kind
+module _ {z : ℤ} (s : SFits w64 z) where
+  pub kind-told : (k : ℕ) → ofZ w64 z ≡ suc k → k < 14 → kindFor (getD routines k Unknown) ≡ kindFor (routineOf z)
+  kind-told k e l =
+      let is : z ≡ pos (suc k) = sym (toZ-ofZ {w = w64} s) ∙ ap (toZ w64) e ∙ toZ-pos w64 (omega arith) in
+      ap (λ (y : ℤ). kindFor (routineOf y)) (sym is)
+
+pub kind-unknown : (z : ℤ) → NoneOf 14 (ofZ w64 z) → kindFor Unknown ≡ kindFor (routineOf z)
+kind-unknown (pos zero) h = refl
+kind-unknown (pos (suc k)) h =
     elim (which (ltb k 14)) [
       | inl e ↦ absurd (none-of 14 k (suc k) h refl (ltb-true k 14 e))
-      | inr e ↦ ap (λ (g : List ℤ → Option Ticket). g r) (List·getD-eq-default kinds (λ s. none) (ltb-false k 14 e))
+      | inr e ↦ ap kindFor (sym (List·getD-eq-default routines Unknown (ltb-false k 14 e)))
     ]
-read-unknown (negsuc k ∷ r) h = refl
+kind-unknown (negsuc k) h = refl
+
+-- the kinds of tickets are those of routines
+read-kind : (t : List ℤ) → readFor (routineOf (getD t 0 (pos 0))) (drop 1 t) ≡ read t
+unfolding read
+read-kind [] = refl
+read-kind (pos zero ∷ r) = refl
+read-kind (pos (suc k) ∷ r) = ap (λ (g : List ℤ → Option Ticket). g r) (sym (List·getD-map readFor routines k Unknown))
+read-kind (negsuc k ∷ r) = refl
 
 -- no number
-read-empty : (t : List ℤ) → length t ≡ 0 → read t ≡ none
-unfolding read
+pub read-empty : (t : List ℤ) → length t ≡ 0 → readFor (routineOf (getD t 0 (pos 0))) (drop 1 t) ≡ none
 read-empty [] n = refl
 read-empty (z ∷ r) n = absurd (omega arith)
 
@@ -87,18 +93,6 @@ module _ {nodes edges faces : List ℤ} {h : Head} (f : Formed nodes edges faces
   unfolding ticket
   ticket-shaped t = judged-shaped (read t)
 
-  module _ (t : List ℤ) where
-    pub ticket-kind : (k : ℕ) → SFits w64 (getD t 0 (pos 0)) → ofZ w64 (getD t 0 (pos 0)) ≡ suc k → k < 14
-        → shaped (lent nodes edges faces h) (getD kinds k (λ s. none) (drop 1 t)) ≡ ticket (lent nodes edges faces h) t
-    ticket-kind k s e l =
-        let z : getD t 0 (pos 0) ≡ pos (suc k) = sym (toZ-ofZ {w = w64} s) ∙ ap (toZ w64) e
-        ∙ toZ-pos w64 (omega arith) in
-        sym (ticket-shaped t ∙ ap (shaped (lent nodes edges faces h)) (read-kind t k z))
-
-    module _ {d : Done} (e : d ≡ record { head = h; answer = record { refusal = 3; value = pos 0 } }) where
-      pub ticket-unknown : NoneOf 14 (ofZ w64 (getD t 0 (pos 0))) → outcome nodes edges faces d
-          ≡ ticket (lent nodes edges faces h) t
-      ticket-unknown n = shaped-none nodes edges faces h e (read-unknown t n) ∙ sym (ticket-shaped t)
-
-      pub ticket-empty : length t ≡ 0 → outcome nodes edges faces d ≡ ticket (lent nodes edges faces h) t
-      ticket-empty n = shaped-none nodes edges faces h e (read-empty t n) ∙ sym (ticket-shaped t)
+  pub ticket-read : (t : List ℤ) → shaped (lent nodes edges faces h) (readFor (routineOf (getD t 0 (pos 0))) (drop 1 t))
+      ≡ ticket (lent nodes edges faces h) t
+  ticket-read t = ap (shaped (lent nodes edges faces h)) (read-kind t) ∙ sym (ticket-shaped t)

@@ -1,81 +1,86 @@
--- `edit_dispatch::edit` meets its contract: each arm answers as its kind's numbers are read, and the others read as no
--- ticket. Assumes nothing.
-use borrow.Author.Needs.{needs, sfits-of}
-use mathlib.Core.Path.{_≡_, _∙_}
-use mathlib.Core.Option.{none}
-use Prim.Native.Nat.{ℕ, suc, _<_}
-use lib.Dec.{lit<}
-use lib.IntN.{pos}
-use lib.ListN.{getD, drop}
-use mir.Syntax.{w64}
-use mir.Val.{ofZ}
+-- `edit_dispatch::edit` meets its contract: without its kind's count a ticket is none, and any other is carried out as
+-- it is read. Assumes nothing.
+use borrow.Author.Needs.{needs}
+use borrow.Author.Tests.{not-true, not-false}
+use mathlib.Core.Path.{_≡_, sym, ap, _∙_}
+use mathlib.Core.Bool.{Bool}
+use mathlib.Core.List.{List}
+use Prim.Native.Nat.{ℕ, _-_}
+use native.Mathlib.Omega.{arith}
+use lib.IntN.{ℤ, pos}
+use lib.ListN.{length, getD, drop}
+use Rattle.integers.specs.Signs.{sent}
 use Rattle.map.specs.Rows.{lent}
-use Rattle.map.specs.Tickets.{kinds}
-use Rattle.map.specs.Ticket.{ticket}
-use Rattle.edit_dispatch.specs.Shaped.{shaped}
-use Rattle.edit_dispatch.proofs.Reading.{ticket-kind, ticket-unknown, ticket-empty}
+use Rattle.edit_dispatch.specs.declared.Kind.{Kind}
+use Rattle.edit_dispatch.specs.declared.Routine.{Routine}
+use Rattle.edit_dispatch.specs.Shaped.{shaped, routineOf, kindFor, countFits, readFor}
+use Rattle.edit_dispatch.proofs.Counts.{unfit}
+use Rattle.edit_dispatch.proofs.Reading.{read-empty, ticket-read, shaped-none}
 use Rattle.edit_dispatch.proofs.edit.Statement.{statement}
 use Rattle.edit_dispatch.proofs.edit.Tie as tie
 
--- the first number is a kind's
-known : (c : tie.After-kind) (k : ℕ)
-    → let a = c .before .before .args in
-    let l = lent (a .nodes .now) (a .edges .now) (a .faces .now) (a .h) in
-    ofZ w64 (getD (a .t .now) 0 (pos 0)) ≡ suc k → k < 14 → shaped l (getD kinds k (λ s. none) (drop 1 (a .t .now)))
-    ≡ ticket l (a .t .now)
-known c k e l = let s = c .before .before in ticket-kind (s .pre) (s .args .t .now) k (sfits-of (c .kind .given)) e l
+abbrev ticketAt : tie.Start → List ℤ
+ticketAt s = s .args .t .now
+
+abbrev count : tie.Start → ℕ
+count s = length (ticketAt s) - 1
+
+abbrev routineAt : tie.Start → Routine
+routineAt s = routineOf (getD (ticketAt s) 0 (pos 0))
+
+kind : (c : tie.After-kind-of) → c .kind-of .result ≡ kindFor (routineAt (c .before .before .before))
+kind c =
+    let z = getD (ticketAt (c .before .before .before)) 0 (pos 0) in
+    c .kind-of .ensures ∙ ap (λ (y : ℤ). kindFor (routineOf y)) {y = z} (sent (c .before .kind-of-arg .given))
+
+fits : (c : tie.After-count-fits) {v : Bool} → c .count-fits .result ≡ v
+    → let s = c .before .before .before .before in countFits (kindFor (routineAt s)) (count s) ≡ v
+fits c e =
+    let s = c .before .before .before .before in
+    sym (c .count-fits .ensures ∙ ap (λ (k : Kind). countFits k (count s)) (kind (c .before))) ∙ e
+
+empty : tie.Need-returns
+empty c =
+    let s = c .before .before in
+    shaped-none _ _ _ _ (c .refused .ensures) (read-empty (ticketAt s) (c .before .if1 .taken))
+    ∙ ticket-read (s .pre) (ticketAt s)
+
+other-count : tie.Need-returns-2
+other-count c =
+    let n = c .before .before in
+    let s = n .before .before .before .before in
+    shaped-none _ _ _ _ (c .refused2 .ensures)
+    (unfit (routineAt s) (ticketAt s) (omega arith) (fits n (not-true _ (c .before .if2 .taken))))
+    ∙ ticket-read (s .pre) (ticketAt s)
+
+carried : tie.Need-returns-3
+carried c =
+    let k = c .before .before .before .before .before .before .before .before .before in
+    let s = k .before .before .before in
+    let a = s .args in
+    c .before .before .before .carry-out .ensures
+    ∙ ap (λ (q : Kind). shaped (lent (a .nodes .now) (a .edges .now) (a .faces .now) (a .h))
+    (readFor (q .routine) (drop 1 (ticketAt s)))) (kind k)
+    ∙ ticket-read (s .pre) (ticketAt s)
+
+carry-out-requires : tie.Need-carry-out-requires
+carry-out-requires c κs =
+    let l = c .before .before .before in
+    let n = l .before in
+    let s = n .before .before .before .before in (
+      s .pre,
+      ap (λ (q : Kind). countFits (kindFor (q .routine)) (count s)) (kind (n .before))
+          ∙ fits n (not-false _ (l .if2 .left)),
+    )
 
 pub edit-spec : {M : Type 1} → statement M
 edit-spec =
     tie.close
     (tie.spec
     (λ c κs. search needs)
-    (λ c. ticket-empty (c .before .before .pre) (c .before .before .args .t .now) (c .refused .ensures)
-    (c .before .if1 .taken))
-    (λ c. search needs) (λ c κs. search needs) (λ c κs. search needs) (λ c κs. search needs) (λ c κs. search needs)
-    (λ c κs. search needs) (λ c κs. search needs) (λ c κs. search needs) (λ c κs. search needs) (λ c κs. search needs)
-    (λ c κs. search needs) (λ c κs. search needs) (λ c κs. search needs) (λ c κs. search needs) (λ c κs. search needs)
-    (λ c κs. search needs) (λ c. search needs) (λ c. search needs) (λ c. search needs)
-    (λ c. let m = c .before .before .before .before .before in c .before .add-node .ensures
-    ∙ known (m .before) 0 (m .match .keys1) (lit< tt))
+    empty
+    (λ c. search needs) (λ c κs. search needs) (λ c. search needs) (λ c κs. search needs) (λ c κs. search needs)
+    other-count
+    carry-out-requires
     (λ c. search needs) (λ c. search needs) (λ c. search needs)
-    (λ c. let m = c .before .before .before .before .before in c .before .move-node .ensures
-    ∙ known (m .before) 1 (m .match .keys2) (lit< tt))
-    (λ c. search needs) (λ c. search needs) (λ c. search needs)
-    (λ c. let m = c .before .before .before .before .before in c .before .remove-node .ensures
-    ∙ known (m .before) 2 (m .match .keys3) (lit< tt))
-    (λ c. search needs) (λ c. search needs) (λ c. search needs)
-    (λ c. let m = c .before .before .before .before .before .before in c .before .before .add-isolated-edge .ensures
-    ∙ known (m .before) 3 (m .match .keys4) (lit< tt))
-    (λ c. search needs) (λ c. search needs) (λ c. search needs)
-    (λ c. let m = c .before .before .before .before .before .before in c .before .before .remove-isolated-edge .ensures
-    ∙ known (m .before) 4 (m .match .keys5) (lit< tt))
-    (λ c. search needs) (λ c. search needs) (λ c. search needs)
-    (λ c. let m = c .before .before .before .before .before in c .before .change-curve .ensures
-    ∙ known (m .before) 5 (m .match .keys6) (lit< tt))
-    (λ c. search needs) (λ c. search needs) (λ c. search needs)
-    (λ c. let m = c .before .before .before .before .before .before in c .before .before .split-edge .ensures
-    ∙ known (m .before) 6 (m .match .keys7) (lit< tt))
-    (λ c. search needs) (λ c. search needs) (λ c. search needs)
-    (λ c. let m = c .before .before .before .before .before .before in c .before .before .split-edge2 .ensures
-    ∙ known (m .before) 7 (m .match .keys8) (lit< tt))
-    (λ c. search needs) (λ c. search needs) (λ c. search needs)
-    (λ c. let m = c .before .before .before .before .before .before in c .before .before .heal-edges .ensures
-    ∙ known (m .before) 8 (m .match .keys9) (lit< tt))
-    (λ c. search needs) (λ c. search needs) (λ c. search needs)
-    (λ c. let m = c .before .before .before .before .before .before in c .before .before .heal-edges2 .ensures
-    ∙ known (m .before) 9 (m .match .keys10) (lit< tt))
-    (λ c. search needs) (λ c. search needs) (λ c. search needs)
-    (λ c. let m = c .before .before .before .before .before .before .before in
-    c .before .before .before .add-edge .ensures ∙ known (m .before) 10 (m .match .keys11) (lit< tt))
-    (λ c. search needs) (λ c. search needs) (λ c. search needs)
-    (λ c. let m = c .before .before .before .before .before .before .before in
-    c .before .before .before .add-edge2 .ensures ∙ known (m .before) 11 (m .match .keys12) (lit< tt))
-    (λ c. search needs) (λ c. search needs) (λ c. search needs)
-    (λ c. let m = c .before .before .before .before .before .before .before in
-    c .before .before .before .remove-edge .ensures ∙ known (m .before) 12 (m .match .keys13) (lit< tt))
-    (λ c. search needs) (λ c. search needs) (λ c. search needs)
-    (λ c. let m = c .before .before .before .before .before .before .before in
-    c .before .before .before .remove-edge2 .ensures ∙ known (m .before) 13 (m .match .keys14) (lit< tt))
-    (λ c. let s = c .before .before .before .before in
-    ticket-unknown (s .pre) (s .args .t .now) (c .refused2 .ensures) (c .before .match .rest)))
+    carried)
