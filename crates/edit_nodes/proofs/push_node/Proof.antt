@@ -1,8 +1,12 @@
 -- `edit_nodes::push_node` meets its contract. Assumes nothing.
 use borrow.Author.Needs.{needs}
 use mathlib.Core.Path.{_∙_}
+use mathlib.Core.List.{[], _∷_}
+use Prim.Native.Nat.{_*_}
+use lib.Seq.{paste}
 use mir.Syntax.{w64}
 use mir.Facts.{toZ-ofZ}
+use Rattle.map.specs.Limits.{nodeWidth}
 use Rattle.outcomes.proofs.Formed.{done}
 use Rattle.head.proofs.Words.{nodes-natural, nodes-read}
 use Rattle.outcomes.proofs.Words.{next-node-back}
@@ -13,16 +17,14 @@ returns : tie.Need-returns
 returns c =
     let w = c .before .before .before in
     let s = w .before .before .before .before .before in
+    let a = s .args in
     let n = nodes-read (s .pre .0) (w .before .to-usize .ensures) in
-    let k = next-node-back (s .pre .0) in (
+    let k = next-node-back (s .pre .0) in
+    let x = toZ-ofZ {w = w64} (s .fits .x) in
+    let y = toZ-ofZ {w = w64} (s .fits .y) in
+    let z = toZ-ofZ {w = w64} (s .fits .around) in (
       w .write-node .ensures
-          ∙ rw (
-            n,
-            k,
-            toZ-ofZ {w = w64} {z = s .args .x} (s .fits .x),
-            toZ-ofZ {w = w64} {z = s .args .y} (s .fits .y),
-            toZ-ofZ {w = w64} {z = s .args .around} (s .fits .around),
-          ),
+          ∙ (λ i. paste (a .nodes .now) (n i * nodeWidth) (k i ∷ x i ∷ y i ∷ z i ∷ []) nodeWidth),
       done (c .before .changed .ensures) k (c .carried .ensures),
     )
 
