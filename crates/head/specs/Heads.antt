@@ -87,6 +87,32 @@ pub record Left (s : Counts) (h : Head) (rows numbers : Counts) : Type 0 where
   pub next-edge : natAbs (h .«next_edge») + numbers .edges ≤ suc lastNumber
   pub next-face : natAbs (h .«next_face») + numbers .faces ≤ suc lastNumber
 
+-- ---- a head with other numbers
+
+-- these row counts, and the next numbers that it has
+abbrev pub withCounts : Head → ℤ → ℤ → ℤ → Head
+withCounts h nodes edges faces =
+    record {
+      nodes = nodes;
+      edges = edges;
+      faces = faces;
+      «next_node» = h .«next_node»;
+      «next_edge» = h .«next_edge»;
+      «next_face» = h .«next_face»;
+    }
+
+-- these next numbers, and the row counts that it has
+abbrev pub withNext : Head → ℤ → ℤ → ℤ → Head
+withNext h node edge face =
+    record {
+      nodes = h .nodes;
+      edges = h .edges;
+      faces = h .faces;
+      «next_node» = node;
+      «next_edge» = edge;
+      «next_face» = face;
+    }
+
 -- ---- the head as a list of numbers, in document 01's order
 
 abbrev pub headIn : List ℤ → Head

@@ -10,7 +10,7 @@ ghost use lib.Signed.{nonNeg};
 ghost use Rattle.map.specs.Rows.{emptyMap, headOf};
 ghost use Rattle.map.specs.Reasons.{firstReason};
 ghost use Rattle.head.specs.Heads.{UpTo, Counted, Few, Changes, countsOf, sizesIn, changedHead};
-ghost use Rattle.head.specs.Heads.{fullAt, spentAt, roomAt, headIn};
+ghost use Rattle.head.specs.Heads.{fullAt, spentAt, roomAt, headIn, withCounts, withNext};
 
 // No row or number; a node's; an edge's; a face's; a node's and an edge's.
 pub const NONE: Counts = Counts {
@@ -168,6 +168,36 @@ pub fn changed(h: Head, more: Counts, less: Counts, given: Counts) -> Head
         next_node: shifted(h.next_node, given.nodes, 0),
         next_edge: shifted(h.next_edge, given.edges, 0),
         next_face: shifted(h.next_face, given.faces, 0),
+    }
+}
+
+// ---- a head with other numbers
+
+// The head with these row counts.
+pub fn with_counts(h: Head, nodes: i64, edges: i64, faces: i64) -> Head
+    ensures { λ r. ⌜ r ≡ withCounts h nodes edges faces ⌝ }
+{
+    Head {
+        nodes,
+        edges,
+        faces,
+        next_node: h.next_node,
+        next_edge: h.next_edge,
+        next_face: h.next_face,
+    }
+}
+
+// The head with these next numbers.
+pub fn with_next(h: Head, node: i64, edge: i64, face: i64) -> Head
+    ensures { λ r. ⌜ r ≡ withNext h node edge face ⌝ }
+{
+    Head {
+        nodes: h.nodes,
+        edges: h.edges,
+        faces: h.faces,
+        next_node: node,
+        next_edge: edge,
+        next_face: face,
     }
 }
 

@@ -2,7 +2,10 @@
 use mathlib.Core.Path.{_≡_}
 use mathlib.Core.Bool.{true}
 use mathlib.Core.List.{List}
+use Prim.Native.Nat.{ℕ}
 use lib.IntN.{ℤ}
+use Rattle.lists.specs.declared.Found.{Found}
+use Rattle.lists.specs.declared.Found.the-variants.{At, Missing}
 use Rattle.map.specs.declared.Answer.{Answer}
 use Rattle.map.specs.declared.Head.{Head}
 use Rattle.map.specs.Rows.{Lent, mapOf, sizesOf, whole, lent}
@@ -32,3 +35,8 @@ outcomeNow nodes edges faces d = record { lent = lentNow nodes edges faces (d .h
 -- what a call left, with the head in a loan of its own
 abbrev pub outcomeWith : Table → Table → Table → Head → Answer → Outcome
 outcomeWith nodes edges faces h a = record { lent = lentNow nodes edges faces h; answer = a }
+
+-- document 01's number for the answer of a lookup: 4 a named row is missing
+abbrev pub lookupRefusal : Found → ℕ
+lookupRefusal (At i) = 0
+lookupRefusal Missing = 4

@@ -1,7 +1,7 @@
--- The search for a node from a row on: it hits, it goes on, it is at the end; and a row that is found is there. Assumes
+-- The search for a node from a row on: a row is asked, there is none left; and a row that is found is there. Assumes
 -- nothing.
-use mathlib.Core.Path.{_≡_, refl, sym}
-use mathlib.Core.Bool.{Bool, true, false, _&&_}
+use mathlib.Core.Path.{_≡_, refl}
+use mathlib.Core.Bool.{Bool, true, false, cond, _&&_}
 use mathlib.Core.Logic.{inl, inr}
 use mathlib.Core.List.{List, [], _∷_, map}
 use Prim.Native.Nat.{ℕ, suc, _+_, _<_, _≤_, min}
@@ -11,13 +11,12 @@ use lib.IntN.{ℤ}
 use lib.Dec.{ltb}
 use lib.ListN.{length, getD, take, drop, length-take, length-map, drop-of-length-le}
 use lib.Seq.{drop-cons, getD-take}
-use borrow.Author.Tests.{ltb-false}
+use borrow.Author.Tests.{ltb-true, ltb-false}
 use Rattle.lists.specs.declared.Found.{Found}
 use Rattle.lists.specs.declared.Found.the-variants.{At, Missing}
 use Rattle.lists.specs.Tables.{place}
 use Rattle.lists.proofs.Bools.{which}
 use Rattle.tables.specs.Tables.{sameZ}
-use Rattle.tables.proofs.Order.{is-same, not-same}
 use Rattle.records.specs.declared.Node.{Node}
 use Rattle.records.specs.Records.{nodeRow}
 pub use Rattle.records.proofs.Packing.{noNode, place-fits}
@@ -31,27 +30,19 @@ next-row : (ys : List Node) (n i : ℕ) → i < length ys → i < n → drop i (
 next-row ys n i h k = let e : length (take n ys) ≡ min n (length ys) = length-take n ys in let s =
     drop-cons (take n ys) i noNode (omega arith) in rw (getD-take n ys i noNode k) at s
 
-pub hits : (ys : List Node) (n : ℕ) (v : ℤ) (i : ℕ) → i < length ys → i < n → getD ys i noNode .number ≡ v
-    → searched ys n v i ≡ At i
-hits ys n v i h k e = rw (next-row ys n i h k, is-same v (getD ys i noNode .number) (sym e))
+-- past the last row nothing is found
+pub ended : (ys : List Node) (n : ℕ) (v : ℤ) (i : ℕ) → min n (length ys) ≤ i → searched ys n v i ≡ Missing
+ended ys n v i h = let e : length (take n ys) ≡ min n (length ys) = length-take n ys in
+    rw (drop-of-length-le (take n ys) {i = i} (omega (arith, e)))
 
-pub misses : (ys : List Node) (n : ℕ) (v : ℤ) (i : ℕ) → i < length ys → i < n → (getD ys i noNode .number ≡ v → ⊥)
-    → searched ys n v i ≡ searched ys n v (i + 1)
-misses ys n v i h k d = rw (next-row ys n i h k, not-same v (getD ys i noNode .number) (λ e. d (sym e)), add-one i)
-
-pub ended : (ys : List Node) (n : ℕ) (v : ℤ) (i : ℕ) → ltb i (length ys) && ltb i n ≡ false → searched ys n v i
-    ≡ Missing
-ended ys n v i h = rw (drop-of-length-le (take n ys) {i = i} past)
-  where
-    e : length (take n ys) ≡ min n (length ys)
-    e = length-take n ys
-
-    past : length (take n ys) ≤ i
-    past = elim (which (ltb i (length ys))) [
-      | inl q ↦ (let k = ltb-false i n (rw q at h) in omega (arith, e))
-      | inr q ↦
-          (let k = ltb-false i (length ys) q in omega (arith, e))
-    ]
+-- row i is asked, and what the rows after it gave
+pub asked : (ys : List Node) (n : ℕ) (v : ℤ) (i : ℕ) → i < length ys
+    → cond (ltb i n && sameZ v (getD ys i noNode .number)) (At i) (searched ys n v (i + 1)) ≡ searched ys n v i
+asked ys n v i h = elim (which (ltb i n)) [
+  | inl q ↦ rw (q, next-row ys n i h (ltb-true i n q), add-one i)
+  | inr q ↦ (let k = ltb-false i n q in
+      rw (q, ended ys n v i (omega arith), ended ys n v (i + 1) (omega arith)))
+]
 
 -- a row that is found is there
 place-below : {A : Type 0} (p : A → Bool) (k : ℕ) (l : List A) (i : ℕ) → place p k l ≡ At i → i < k + length l

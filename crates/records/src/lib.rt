@@ -6,14 +6,20 @@ use map::Head;
 use map::Map;
 use outcomes::Done;
 ghost use mathlib.Core.Path.{_≡_};
+ghost use mathlib.Core.Bool.{cond, _&&_};
 ghost use Prim.Native.Nat.{_+_, _*_, _≤_, _<_};
+ghost use lib.Dec.{ltb};
+ghost use lib.IntN.{pos};
 ghost use lib.ListN.{length, take};
 ghost use lib.Seq.{paste};
+ghost use Rattle.lists.specs.declared.Found.the-variants.{At};
 ghost use Rattle.lists.specs.Tables.{table};
+ghost use Rattle.tables.specs.Tables.{sameZ};
 ghost use Rattle.map.specs.Rows.{lent};
 ghost use Rattle.map.specs.Ticket.{ticket, emptied, edgesOfFace};
 ghost use Rattle.map.specs.Loans.{lentNow};
-ghost use Rattle.outcomes.specs.Outcomes.{outcome, outcomeWith};
+ghost use Rattle.head.specs.Heads.{withCounts, withNext};
+ghost use Rattle.outcomes.specs.Outcomes.{outcome, outcomeWith, lookupRefusal};
 ghost use Rattle.ticket_lists.specs.Runs.{Runs};
 ghost use Rattle.records.specs.Records.{recordCells, nodeTable, rowNode, nodeRow, changedAt};
 
@@ -29,31 +35,50 @@ const CELLS: usize = Map::NODES * map::NODE_WIDTH;
 
 // ---- nodes
 
-// The row of a node among the first `count`: found, or missing.
+// The answer of a search from row i on: row i if it is one of the first `count` and has the number, or else what the
+// rows after it gave.
+fn found_from(n: Node, i: usize, count: usize, number: i64, later: Found) -> Found
+    ensures { λ r. ⌜ r ≡ cond (ltb i count && sameZ number (n .number)) (At i) later ⌝ }
+{
+    if (i < count) & (number == n.number) {
+        return Found::At(i);
+    }
+    later
+}
+
+// The row of a node among the first `count`: found, or missing. Each record, the last first, is copied out and asked.
 pub fn find_node(nodes: &[Node], count: usize, number: i64) -> Found
     ensures { λ r. ⌜ r ≡ nodeRow (now (nodes .entry)) count number ⌝ }
 {
-    let mut i = 0;
-    while (i < nodes.len()) & (i < count) {
-        if nodes[i].number == number {
-            return Found::At(i);
-        }
-        i += 1;
+    let mut found = Found::Missing;
+    let mut i = nodes.len();
+    while 0 < i {
+        i -= 1;
+        let n = nodes[i];
+        found = found_from(n, i, count, number, found);
     }
-    Found::Missing
+    found
 }
 
-// A node is changed where it is found; the answer says whether it was.
-pub fn change_node(nodes: &mut [Node], count: usize, n: Node) -> Found
-    ensures { λ r. ⌜ (r ≡ nodeRow (now (nodes .entry)) count (n .number))
-        × (now (nodes .exit) ≡ changedAt (now (nodes .entry)) n (nodeRow (now (nodes .entry)) count (n .number))) ⌝ }
+// A node is changed where it is found; a missing one is refusal 4.
+pub fn change_node(nodes: &mut [Node], count: usize, n: Node) -> Answer
+    ensures { λ r. ⌜ (r ≡ record {
+      refusal = lookupRefusal (nodeRow (now (nodes .entry)) count (n .number));
+      value = pos 0;
+    }) × (now (nodes .exit) ≡ changedAt (now (nodes .entry)) n (nodeRow (now (nodes .entry)) count (n .number))) ⌝ }
 {
     let found = find_node(nodes, count, n.number);
     let Found::At(i) = found else {
-        return found;
+        return Answer {
+            refusal: 4,
+            value: 0,
+        };
     };
     nodes[i] = n;
-    found
+    Answer {
+        refusal: 0,
+        value: 0,
+    }
 }
 
 // ---- nodes as records and as numbers
@@ -106,6 +131,32 @@ fn unpack(flat: &[i64], nodes: &mut [Node])
     }
 }
 
+// ---- the head
+
+// The row counts, through the head's loan.
+pub fn set_counts(head: &mut Head, nodes: i64, edges: i64, faces: i64)
+    ensures { λ _. ⌜ now (head .exit) ≡ withCounts (now (head .entry)) nodes edges faces ⌝ }
+{
+    let h = *head;
+    *head = head::with_counts(h, nodes, edges, faces);
+}
+
+// The next numbers, through the head's loan.
+pub fn set_next(head: &mut Head, node: i64, edge: i64, face: i64)
+    ensures { λ _. ⌜ now (head .exit) ≡ withNext (now (head .entry)) node edge face ⌝ }
+{
+    let h = *head;
+    *head = head::with_next(h, node, edge, face);
+}
+
+// All numbers of a head.
+fn set_head(head: &mut Head, h: Head)
+    ensures { λ _. ⌜ now (head .exit) ≡ h ⌝ }
+{
+    set_counts(head, h.nodes, h.edges, h.faces);
+    set_next(head, h.next_node, h.next_edge, h.next_face);
+}
+
 // ---- the head, with nodes as numbers
 
 // One ticket; the head is changed through its loan.
@@ -122,7 +173,7 @@ pub fn ticket(
 {
     let h = *head;
     let done = engine::ticket(nodes, edges, faces, h, t);
-    *head = done.head;
+    set_head(head, done.head);
     done.answer
 }
 
@@ -133,7 +184,7 @@ pub fn empty_map(nodes: &mut [i64], edges: &mut [i64], faces: &mut [i64], head: 
 {
     let h = *head;
     let done = engine::empty_map(nodes, edges, faces, h);
-    *head = done.head;
+    set_head(head, done.head);
     done.answer
 }
 
@@ -176,7 +227,7 @@ pub fn run(
 {
     let h = *head;
     let done = ticket_lists::run(nodes, edges, faces, h, numbers, lengths, refusals, values);
-    *head = done.head;
+    set_head(head, done.head);
     done.answer
 }
 
@@ -220,7 +271,7 @@ fn ticket_by(
     let h = *head;
     let done = ticket_front(flat, k, edges, faces, h, t);
     unpack(flat, nodes);
-    *head = done.head;
+    set_head(head, done.head);
     done.answer
 }
 
