@@ -1,8 +1,10 @@
--- `Finding`: a search from a row on. `Packing`: nodes as rows of numbers. `Refused`: too many nodes. `Heads`: what the
--- walks over a lent head share. `Setting`: a head that is set through its loan. `Shared`, `Again`: a mutable slice lent for a call, as a shared one and as a mutable
--- one. `Arrays`: a local array lent as a slice.
+-- `Finding`: a search from a row on. `Packing`: nodes as rows of numbers. `Moving`: kind 2 on them. `Refused`: too many
+-- nodes. `Heads`: what the walks over a lent head share. `Setting`: a head that is set through its loan. `Shared`,
+-- `Again`: a mutable slice lent for a call, as a shared one and as a mutable one. `Arrays`: a local array lent as a
+-- slice.
 pub mod Finding
 pub mod Packing
+pub mod Moving
 pub mod Refused
 pub mod Heads
 pub mod Setting

@@ -1,14 +1,17 @@
 -- Nodes as records: the same four numbers as a row of the node table.
 use mathlib.Core.List.{List, [], _∷_, flatMap, map}
-use Prim.Native.Nat.{ℕ, _+_, _*_}
+use Prim.Native.Nat.{ℕ, zero, suc, _+_, _*_}
 use lib.IntN.{ℤ, pos}
 use lib.ListN.{getD, take, set}
 use Rattle.lists.specs.declared.Found.{Found}
 use Rattle.lists.specs.declared.Found.the-variants.{At, Missing}
 use Rattle.lists.specs.Tables.{place}
+use Rattle.map.specs.declared.Answer.{Answer}
 use Rattle.map.specs.Limits.{nodeWidth}
 use Rattle.tables.specs.Tables.{sameZ}
+use Rattle.outcomes.specs.Outcomes.{lookupRefusal}
 use Rattle.records.specs.declared.Node.{Node}
+use Rattle.records.specs.declared.Moved.{Moved}
 
 -- number, x, y and containing face
 abbrev pub recordCells : Node → List ℤ
@@ -35,3 +38,18 @@ nodeRow ns n number = place (sameZ number) 0 (map (λ r. r .number) (take n ns))
 abbrev pub changedAt : List Node → Node → Found → List Node
 changedAt ns n (At i) = set ns i n
 changedAt ns n Missing = ns
+
+-- a and b by whether a call was turned down
+abbrev pub unlessRefused : {A : Type 0} → ℕ → A → A → A
+unlessRefused zero a b = a
+unlessRefused (suc r) a b = b
+
+-- the records after kind 2, which changes one, and its answer
+abbrev pub movedNodes : List Node → Moved → List Node
+movedNodes ns r =
+    unlessRefused (r .answer .refusal) (changedAt ns (r .node) (nodeRow ns (r .count) (r .node .number))) ns
+
+abbrev pub movedAnswer : List Node → Moved → Answer
+movedAnswer ns r =
+    unlessRefused (r .answer .refusal)
+    (record { refusal = lookupRefusal (nodeRow ns (r .count) (r .node .number)); value = pos 0 }) (r .answer)

@@ -7,6 +7,7 @@ use map::Map;
 use outcomes::Done;
 ghost use mathlib.Core.Path.{_≡_};
 ghost use mathlib.Core.Bool.{cond, _&&_};
+ghost use mathlib.Core.List.{[], _∷_};
 ghost use Prim.Native.Nat.{_+_, _*_, _≤_, _<_};
 ghost use lib.Dec.{ltb};
 ghost use lib.IntN.{pos};
@@ -22,6 +23,7 @@ ghost use Rattle.head.specs.Heads.{withCounts, withNext};
 ghost use Rattle.outcomes.specs.Outcomes.{outcome, outcomeWith, lookupRefusal};
 ghost use Rattle.ticket_lists.specs.Runs.{Runs};
 ghost use Rattle.records.specs.Records.{recordCells, nodeTable, rowNode, nodeRow, changedAt};
+ghost use Rattle.records.specs.Records.{movedNodes, movedAnswer};
 
 pub struct Node {
     pub number: i64,
@@ -29,6 +31,24 @@ pub struct Node {
     pub y: i64,
     pub face: i64,
 }
+
+// What kind 2 came to on a node table: the answer and, where it was carried out, the rows in use and the node.
+struct Moved {
+    answer: Answer,
+    count: usize,
+    node: Node,
+}
+
+// No node.
+const NO_NODE: Node = Node {
+    number: 0,
+    x: 0,
+    y: 0,
+    face: 0,
+};
+
+// Kind 2, MoveIsoNode.
+const MOVE: i64 = 2;
 
 // The numbers of a full node table.
 const CELLS: usize = Map::NODES * map::NODE_WIDTH;
@@ -298,4 +318,112 @@ pub fn ticket_on(
     }
     let mut flat = [0; CELLS];
     ticket_by(nodes, &mut flat, edges, faces, head, t)
+}
+
+// ---- kind 2, with nodes as records
+
+// Turned down: no node is changed.
+fn not_moved(answer: Answer) -> Moved
+    ensures { λ r. ⌜ r .answer ≡ answer ⌝ }
+{
+    Moved {
+        answer,
+        count: 0,
+        node: NO_NODE,
+    }
+}
+
+// Kind 2 on the first k numbers. The node that it moved is read from its row.
+fn move_front(
+    flat: &mut [i64],
+    k: usize,
+    edges: &mut [i64],
+    faces: &mut [i64],
+    h: Head,
+    node: i64,
+    x: i64,
+    y: i64,
+) -> Moved
+    requires { ⌜ k ≤ length (now flat) ⌝ }
+    ensures { λ r. ⌜ ((ns : _) → nodeTable ns ≡ take k (now (flat .entry))
+        → record {
+          lent = lent (nodeTable (movedNodes ns r)) (now (edges .exit)) (now (faces .exit)) h;
+          answer = movedAnswer ns r;
+        } ≡ ticket (lent (nodeTable ns) (now (edges .entry)) (now (faces .entry)) h) (pos 2 ∷ node ∷ x ∷ y ∷ [])) ⌝ }
+{
+    let t = [MOVE, node, x, y];
+    let done = ticket_front(flat, k, edges, faces, h, &t);
+    let answer = done.answer;
+    if answer.refusal != 0 {
+        return not_moved(answer);
+    }
+    let count = head::to_usize(h.nodes);
+    let found = tables::find_row(flat, map::NODE_WIDTH, count, node);
+    let Found::At(i) = found else {
+        return not_moved(Answer {
+            refusal: 4,
+            value: 0,
+        });
+    };
+    let n = row_at(flat, i);
+    Moved {
+        answer,
+        count,
+        node: n,
+    }
+}
+
+// Kind 2 by way of a node table: the one record is changed.
+fn move_by(
+    nodes: &mut [Node],
+    flat: &mut [i64],
+    edges: &mut [i64],
+    faces: &mut [i64],
+    h: Head,
+    node: i64,
+    x: i64,
+    y: i64,
+) -> Answer
+    requires { ⌜ length (now nodes) * 4 ≤ length (now flat) ⌝ }
+    ensures { λ r. ⌜ record {
+      lent = lent (nodeTable (now (nodes .exit))) (now (edges .exit)) (now (faces .exit)) h;
+      answer = r;
+    } ≡ ticket (lent (nodeTable (now (nodes .entry))) (now (edges .entry)) (now (faces .entry)) h)
+        (pos 2 ∷ node ∷ x ∷ y ∷ []) ⌝ }
+{
+    pack(nodes, flat);
+    let k = nodes.len() * map::NODE_WIDTH;
+    let moved = move_front(flat, k, edges, faces, h, node, x, y);
+    if moved.answer.refusal != 0 {
+        return moved.answer;
+    }
+    change_node(nodes, moved.count, moved.node)
+}
+
+// Moves an isolated node into the face around its new point; the head stays as it is.
+pub fn move_node(
+    nodes: &mut [Node],
+    edges: &mut [i64],
+    faces: &mut [i64],
+    head: &Head,
+    node: i64,
+    x: i64,
+    y: i64,
+) -> Answer
+    ensures { λ r. ⌜ record {
+      lent = lent (nodeTable (now (nodes .exit))) (now (edges .exit)) (now (faces .exit))
+          (now (head .entry));
+      answer = r;
+    } ≡ ticket (lent (nodeTable (now (nodes .entry))) (now (edges .entry)) (now (faces .entry)) (now (head .entry)))
+        (pos 2 ∷ node ∷ x ∷ y ∷ []) ⌝ }
+{
+    if Map::NODES < nodes.len() {
+        return Answer {
+            refusal: 1,
+            value: 0,
+        };
+    }
+    let mut flat = [0; CELLS];
+    let h = *head;
+    move_by(nodes, &mut flat, edges, faces, h, node, x, y)
 }
