@@ -176,7 +176,8 @@ module _ (l d : List ℤ) (k n i : ℕ) (z x y a : ℤ) (long : length d ≡ k) 
                   ∙ ap (λ (m : ℕ). getD d m (pos 0)) g)
               | inr s ↦
                   cell (j * 4) (omega (arith, fits, h))
-                  ∙ paste-after d (i * 4) (z ∷ x ∷ y ∷ a ∷ []) 4 (pos 0) (omega (arith, below, fits, long)) (omega arith)
+                  ∙ paste-after d (i * 4) (z ∷ x ∷ y ∷ a ∷ []) 4 (pos 0) (omega (arith, below, fits, long)) (omega
+                  arith)
                   (j * 4) (omega (arith, b, s))
             ])
       ]
@@ -242,7 +243,11 @@ module _ (k : ℕ) (flat zs edges es faces ss : List ℤ) (h : Head) (z x y : �
   N = take k flat
 
   abbrev Moves : List Node → Moved → Type 0
-  Moves ns m = _≡_ {A = Outcome} (record { lent = lent (nodeTable (movedNodes ns m)) es ss h; answer = movedAnswer ns m })
+  Moves ns m = _≡_ {A = Outcome} (record {
+    lent = lent (nodeTable (movedNodes ns m)) es ss h;
+    answer = movedAnswer ns
+        m;
+  })
       (ticket (lent (nodeTable ns) edges faces h) (pos 2 ∷ z ∷ x ∷ y ∷ []))
 
   -- from the nodes, the head and the answer that are left
@@ -363,7 +368,8 @@ module _ (k : ℕ) (flat zs edges es faces ss : List ℤ) (h : Head) (z x y : �
         ∙ ap (λ (l : List ℤ). paste l (i * 4) (z ∷ x ∷ y ∷ face ∷ []) 4) e ∙ sym pasted)
         (sym (ap (λ (o : Outcome). o .lent .head) all))
         (ap (movedAnswer ns) is
-        ∙ ap (λ (t : ℕ). unlessRefused t (record { refusal = lookupRefusal (nodeRow ns n z); value = pos 0 }) (r .answer))
+        ∙ ap (λ (t : ℕ). unlessRefused t (record { refusal = lookupRefusal (nodeRow ns n z); value = pos 0 }) (r
+        .answer))
         out
         ∙ ap (λ (f : Found). record { refusal = lookupRefusal f; value = pos 0 }) at
         ∙ sym (ap (λ (o : Outcome). o .answer) all))

@@ -41,7 +41,8 @@ use denote.Triple.Statement.{Contract, Triple}
 use denote.Triple.Call.{calls-at}
 use denote.Triple.Clauses.{ensured, lasts}
 use denote.Triple.Table.{entered, cited}
-use denote.Triple.Walked.{says, Stays, gave-slice, gave-ref, walkOf, AllGo, goes-gave-slice, goes-gave-ref, Walks, ends-at}
+use denote.Triple.Walked.{says, Stays, gave-slice, gave-ref, walkOf, AllGo, goes-gave-slice, goes-gave-ref, Walks}
+use denote.Triple.Walked.{ends-at}
 use denote.Triple.Walked.{walked, walk-meets}
 use Rattle.map.specs.declared.Head.{Head}
 use Rattle.map.specs.Rows.{lent}
@@ -174,7 +175,8 @@ module _ {M : Type 1} (𝓤 : URA M) (H : Heap 𝓤) (A : Atoms 𝓤) (W : Given
         (λ l₂. alloc1 ! (λ l₃. alloc1 !
         (λ l₄. alloc1 ! (λ l₅. alloc1 !
         (λ l₆. alloc1 ! (λ l₇. alloc1 !
-        (λ l₈. alloc1 ! (λ l₉. alloc1 ! (λ l₁₀. alloc1 ! (λ l₁₁. alloc1 ! (λ l₁₂. alloc1 ! (λ l₁₃. alloc1 ! (λ l₁₄. alloc0 ! $ params1 ! $
+        (λ l₈. alloc1 ! (λ l₉. alloc1 ! (λ l₁₀. alloc1 ! (λ l₁₁. alloc1 ! (λ l₁₂. alloc1 ! (λ l₁₃. alloc1 ! (λ l₁₄.
+        alloc0 ! $ params1 ! $
         pass1 ! (init ! 26 refl (tt, (tt, (record { fits = rn .0 }, tt)))) $ pass1 !
         (init ! 24 refl (tt, (tt, (record { fits = re .0 }, tt)))) $ pass1 !
         (init ! 22 refl (tt, (tt, (record { fits = rs .0 }, tt)))) $ pass1 ! (init ! 20 refl (tt, tt)) $ pass0 ! $
@@ -239,7 +241,8 @@ module _ {M : Type 1} (𝓤 : URA M) (H : Heap 𝓤) (A : Atoms 𝓤) (W : Given
 module _ {M : Type 1} (𝓤 : URA M) (H : Heap 𝓤) (A : Atoms 𝓤) (W : Given 𝓤 H A) (at-mem : Memory → SProp 𝓤)
     (run : Routine → Fun 𝓤) where
   walks : (C : Calls 𝓤 H) (Λ : Loops 𝓤 H) → FmC 𝓤 H (W .laws) C → Triple 𝓤 (C #g) (G 𝓤 H A at-mem run)
-      → Triple 𝓤 (C #s) (Set 𝓤 H A at-mem run) → Walks 𝓤 H A f.ended stayed (WpFn 𝓤 H C Λ code.function) (f.clauses 𝓤 H A at-mem run)
+      → Triple 𝓤 (C #s) (Set 𝓤 H A at-mem run) → Walks 𝓤 H A f.ended stayed (WpFn 𝓤 H C Λ code.function) (f.clauses 𝓤
+      H A at-mem run)
   walks C Λ fm known known-s = walked 𝓤 H A f.ended stayed (f.clauses 𝓤 H A at-mem run) (WpFn 𝓤 H C Λ code.function)
       (λ κs. (slice-vals, (slice-vals, (slice-vals, (ptr-vals, tt)))))
       (λ κs. (
@@ -252,7 +255,8 @@ module _ {M : Type 1} (𝓤 : URA M) (H : Heap 𝓤) (A : Atoms 𝓤) (W : Given
       (λ κs qs bounds a _ are. via 𝓤 _ (fst∗ 𝓤 _ (emp 𝓤))
       (walk 𝓤 H A W at-mem run (κs .0) (κs .1 .0) (κs .1 .1 .0) (κs .1 .1 .1 .0) (qs .0) (qs .1 .0) (qs .1 .1 .0)
       (qs .1 .1 .1 .0) (a .0) (a .1 .0) (a .1 .1 .0) (a .1 .1 .1 .0 .ptr .0) (a .1 .1 .1 .0 .ptr .1)
-      (a .1 .1 .1 .0 .name) (a .1 .1 .1 .0 .now) (are .0 .0 .1) (are .1 .0 .0 .1) (are .1 .1 .0 .0 .1) C Λ fm known known-s))
+      (a .1 .1 .1 .0 .name) (a .1 .1 .1 .0 .now) (are .0 .0 .1) (are .1 .0 .0 .1) (are .1 .1 .0 .0 .1) C Λ fm known
+      known-s))
 
   goes : AllGo 𝓤 H A W 4 (f.signature .params) (f.ended .kept) stayed
   goes = (
@@ -264,7 +268,8 @@ module _ {M : Type 1} (𝓤 : URA M) (H : Heap 𝓤) (A : Atoms 𝓤) (W : Given
   )
 
   meets : (𝓣 : Tables 𝓤 H) → Triple 𝓤 (𝓣 .C #g) (G 𝓤 H A at-mem run)
-      → Triple 𝓤 (𝓣 .C #s) (Set 𝓤 H A at-mem run) → Meets 𝓤 H A f.signature (WpFn 𝓤 H (𝓣 .C) (𝓣 .Λ) code.function) (f.spec 𝓤 H A at-mem run)
+      → Triple 𝓤 (𝓣 .C #s) (Set 𝓤 H A at-mem run) → Meets 𝓤 H A f.signature (WpFn 𝓤 H (𝓣 .C) (𝓣 .Λ) code.function)
+      (f.spec 𝓤 H A at-mem run)
   meets 𝓣 known known-s = walk-meets 𝓤 H A f.ended stayed W goes (f.clauses 𝓤 H A at-mem run)
       (WpFn 𝓤 H (𝓣 .C) (𝓣 .Λ) code.function) (WpFn-mono 𝓤 H (W .laws) 𝓣 code.function)
       (walks (𝓣 .C) (𝓣 .Λ) (fmOf 𝓤 H (W .laws) 𝓣) known known-s)

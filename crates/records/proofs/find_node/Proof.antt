@@ -267,7 +267,8 @@ module _ {M : Type 1} (𝓤 : URA M) (H : Heap 𝓤) (A : Atoms 𝓤) (W : Given
         (LL.copy T.the-type T′.the-copy 𝓤 H A W) ys b o
         (λ q′. elem-out ! R (Is R) (shows 𝓤 H A R) (LL.vals T.the-type T′.the-laws)
         (LL.tells T.the-type T′.the-laws) q′ ys i noNode b o l (λ is-r.
-        -- [nodes[i]; what it owns; the others; what shuts; the fractured borrow; res; nodes's fact; _10; …; _9; …; …; _1;
+        -- [nodes[i]; what it owns; the others; what shuts; the fractured borrow; res; nodes's fact; _10; …; _9; …; …;
+        -- _1;
         -- …; room for _0; …]
         assigns ! (of-opd ! (load ! (from ! (hop ! (look ! 9 refl) (stop !))) (look-raw ! 0 refl))) (from ! (stop !))
         (init ! 7 refl (LL.lawful T.the-type T′.the-laws 𝓤 H A W .typed row _ is-r .0)) $

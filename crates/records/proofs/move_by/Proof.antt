@@ -1,4 +1,5 @@
--- `records::move_by` meets its contract: a walk of its MIR, by hand, over four loans and three calls. The nodes are lent
+-- `records::move_by` meets its contract: a walk of its MIR, by hand, over four loans and three calls. The nodes are
+-- lent
 -- as shared ones to `pack`, and go on to `change_node` for good where the move is carried out; the table is lent again
 -- to `pack` and goes on to `move_front` with the edges and faces. All that the proof knows of the callees is that they
 -- meet their contracts. Assumes nothing.
@@ -311,9 +312,12 @@ module _ {M : Type 1} (𝓤 : URA M) (H : Heap 𝓤) (A : Atoms 𝓤) (W : Given
 
   exits : (a : Answer) (w : Val) (ns : List Node) (fs es ss : List ℤ) → Ends ns es ss a → length ns ≡ n → length fs ≡ m
       → length es ≡ length (e .now) → length ss ≡ length (s .now)
-      → ent 𝓤 (⋆ 𝓤 H A (‵ (flft κ₀ q₀) ∷ ‵ (flft κ₁ q₁) ∷ ‵ (flft κ₂ q₂) ∷ ‵ (flft κ₃ q₃) ∷ ‵ (finally R γ ns) ∷ ‵ (finally i64 γ′ fs) ∷ ‵ (finally i64 (e .name) es) ∷ ‵ (finally i64 (s .name) ss) ∷ ‵ (B.the-row .own a (w ∷ [])) ∷ [])) (Post w)
+      → ent 𝓤 (⋆ 𝓤 H A (‵ (flft κ₀ q₀) ∷ ‵ (flft κ₁ q₁) ∷ ‵ (flft κ₂ q₂) ∷ ‵ (flft κ₃ q₃) ∷ ‵ (finally R γ ns) ∷ ‵
+      (finally i64 γ′ fs) ∷ ‵ (finally i64 (e .name) es) ∷ ‵ (finally i64 (s .name) ss) ∷ ‵ (B.the-row .own a (w ∷
+      [])) ∷ [])) (Post w)
   exits a w ns fs es ss ends ln lf le ls =
-      qed W (‵ (flft κ₀ q₀) ∷ ‵ (flft κ₁ q₁) ∷ ‵ (flft κ₂ q₂) ∷ ‵ (flft κ₃ q₃) ∷ ‵ (finally R γ ns) ∷ ‵ (finally i64 γ′ fs) ∷ ‵ (finally i64 (e .name) es) ∷ ‵ (finally i64 (s .name) ss) ∷ ‵ (B.the-row .own a (w ∷ [])) ∷ []) ∵
+      qed W (‵ (flft κ₀ q₀) ∷ ‵ (flft κ₁ q₁) ∷ ‵ (flft κ₂ q₂) ∷ ‵ (flft κ₃ q₃) ∷ ‵ (finally R γ ns) ∷ ‵ (finally i64
+      γ′ fs) ∷ ‵ (finally i64 (e .name) es) ∷ ‵ (finally i64 (s .name) ss) ∷ ‵ (B.the-row .own a (w ∷ [])) ∷ []) ∵
       suffices ! _ (ends-at 𝓤 H A f.ended stayed (f.clauses 𝓤 H A at-mem run) W bound w a
       (ns, (fs, (es, (ss, (tt, (tt, (tt, (tt, tt)))))))) (ln, (lf, (le, (ls, (tt, (tt, (tt, (tt, tt))))))))) $
       says ! ends $
@@ -340,7 +344,8 @@ module _ {M : Type 1} (𝓤 : URA M) (H : Heap 𝓤) (A : Atoms 𝓤) (W : Given
 
     -- after the second call: what nodes owns, the tokens, the last lists, and the locals, the last first
     abbrev After : Moved → List ℤ → List ℤ → List ℤ → List (Item 𝓤)
-    After r fs es ss = ‵ (MutSlice (named 0) κ₀ R .own (x γ ys) vx) ∷ ‵ (flft κ₀ q₀) ∷ ‵ (flft κ₁ q₁) ∷ ‵ (flft κ₂ q₂) ∷ ‵ (flft κ₃
+    After r fs es ss = ‵ (MutSlice (named 0) κ₀ R .own (x γ ys) vx) ∷ ‵ (flft κ₀ q₀) ∷ ‵ (flft κ₁ q₁) ∷ ‵ (flft κ₂ q₂)
+        ∷ ‵ (flft κ₃
         q₃) ∷ ‵ (finally i64 γ′ fs) ∷ ‵ (finally i64 (e .name) es) ∷ ‵ (finally i64 (s .name) ss) ∷ ‵ (froom (sliceTy
         (node-ptr mut)) l₂₅ 0) ∷ ‵ (fdies (sliceTy (node-ptr mut)) l₂₅) ∷ ‵ (froom (node-ptr mut) l₂₄ 0) ∷ ‵ (fdies
         (node-ptr mut) l₂₄) ∷ ‵ (froom tyBool l₂₃ 0) ∷ ‵ (fdies tyBool l₂₃) ∷ ‵ (fat fullShare (sliceTy lent-ty) l₂₂
@@ -366,7 +371,8 @@ module _ {M : Type 1} (𝓤 : URA M) (H : Heap 𝓤) (A : Atoms 𝓤) (W : Given
 
     -- the same with the test in _23
     abbrev Tested : Moved → List ℤ → List ℤ → List ℤ → List (Item 𝓤)
-    Tested r fs es ss = ‵ (MutSlice (named 0) κ₀ R .own (x γ ys) vx) ∷ ‵ (flft κ₀ q₀) ∷ ‵ (flft κ₁ q₁) ∷ ‵ (flft κ₂ q₂) ∷ ‵ (flft κ₃
+    Tested r fs es ss = ‵ (MutSlice (named 0) κ₀ R .own (x γ ys) vx) ∷ ‵ (flft κ₀ q₀) ∷ ‵ (flft κ₁ q₁) ∷ ‵ (flft κ₂
+        q₂) ∷ ‵ (flft κ₃
         q₃) ∷ ‵ (finally i64 γ′ fs) ∷ ‵ (finally i64 (e .name) es) ∷ ‵ (finally i64 (s .name) ss) ∷ ‵ (froom (sliceTy
         (node-ptr mut)) l₂₅ 0) ∷ ‵ (fdies (sliceTy (node-ptr mut)) l₂₅) ∷ ‵ (froom (node-ptr mut) l₂₄ 0) ∷ ‵ (fdies
         (node-ptr mut) l₂₄) ∷ ‵ (fat fullShare tyBool l₂₃ 0 (vbool (not (eqb (r .answer .refusal) 0)))) ∷ ‵ (fdies
@@ -553,7 +559,8 @@ module _ {M : Type 1} (𝓤 : URA M) (H : Heap 𝓤) (A : Atoms 𝓤) (W : Given
         27 ∷ 28 ∷ 29 ∷ 30 ∷ 31 ∷ 32 ∷ 33 ∷ 34 ∷ 35 ∷ 36 ∷ 37 ∷ 38 ∷ 39 ∷ 40 ∷ 41 ∷ 42 ∷ 43 ∷ 44 ∷ 45 ∷ 46 ∷ 47 ∷ 48 ∷
         49 ∷ 50 ∷ 51 ∷ 52 ∷ 53 ∷ 54 ∷ 55 ∷ 56 ∷ 57 ∷ 58 ∷ 59 ∷ 60 ∷ 61 ∷ 62 ∷ []) $ rest C Λ fm known-d l₀ l₁ l₂ l₃
         l₄ l₅ l₆ l₇ l₈ l₉ l₁₀ l₁₁ l₁₂ l₁₃ l₁₄ l₁₅ l₁₆ l₁₇ l₁₈ l₁₉ l₂₀ l₂₁ l₂₂ l₂₃ l₂₄ l₂₅ r (zs .0) (zs .1 .1 .0) (zs
-        .1 .1 .1 .0) (said ys (sym (ap (take k) packs ∙ packed d ys ok))) (lf ∙ long₁) le ls (lowers r w₂ is)))))))))))))))))))))))))))))))))))))))))))))
+        .1 .1 .1 .0) (said ys (sym (ap (take k) packs ∙ packed d ys ok))) (lf ∙ long₁) le ls (lowers r w₂
+        is)))))))))))))))))))))))))))))))))))))))))))))
 
 module _ {M : Type 1} (𝓤 : URA M) (H : Heap 𝓤) (A : Atoms 𝓤) (W : Given 𝓤 H A) (at-mem : Memory → SProp 𝓤)
     (run : Routine → Fun 𝓤) where

@@ -95,7 +95,8 @@ told c v q =
     let u = c .before .before in
     let t = u .before .before .before .before .before .before .before .before in
     let s = t .before .before .before .before .before in
-    place-told 4 (t .ticket-front .last .0) (counted-rows u) (toZ-ofZ {w = w64} (s .fits .node)) (c .find-row .ensures) q
+    place-told 4 (t .ticket-front .last .0) (counted-rows u) (toZ-ofZ {w = w64} (s .fits .node)) (c .find-row
+    .ensures) q
 
 missing : tie.Need-returns-2
 missing c =
@@ -109,7 +110,8 @@ missing c =
     let q : Missing ≡ At (done-at (a .k) (a .flat .now) (l .0) (a .edges .now) (l .1 .1 .0) (a .faces .now)
     (l .1 .1 .1 .0) (a .h) (a .node) (a .x) (a .y) (t .ticket-front .result) (s .pre) (said t) (e .if1 .left) .i) =
     sym (told f Missing (c .before .enum-told .given .1))
-    ∙ found-at (a .k) (a .flat .now) (l .0) (a .edges .now) (l .1 .1 .0) (a .faces .now) (l .1 .1 .1 .0) (a .h) (a .node)
+    ∙ found-at (a .k) (a .flat .now) (l .0) (a .edges .now) (l .1 .1 .0) (a .faces .now) (l .1 .1 .1 .0) (a .h) (a
+    .node)
     (a .x) (a .y) (t .ticket-front .result) (s .pre) (said t) (e .if1 .left) in
     let z : _≡_ {A = ℕ} 0 1 = cc in
     absurd (omega arith)

@@ -1,6 +1,7 @@
 -- `records::move_node` meets its contract: a walk of its MIR, by hand. More nodes than a map may have are turned down
 -- with 1, and nothing is touched. Otherwise the head is copied out of its loan, and a local array is lent to `move_by`
--- with the other loans, for a lifetime of the call. All that the proof knows of `move_by` is that it meets its contract.
+-- with the other loans, for a lifetime of the call. All that the proof knows of `move_by` is that it meets its
+-- contract.
 -- Assumes nothing.
 use mathlib.Core.Path.{_≡_, refl, sym, subst}
 use Prim.Native.Nat.{ℕ, _≤_, _<_, _^_}
@@ -29,7 +30,8 @@ use types.Kit.{use1, use2, use3, split, join, pick, rewrite, fsplit, fsplit3, fj
 use types.Kit.{await, done}
 use types.Kit as Kit
 use types.Part.{agg, rep, whole, sub, look-in}
-use types.Run.{look, look-raw, init, stop, hop, fld, from, load, lit, addr, of-opd, bin, and-then, no-more, assigns, land}
+use types.Run.{look, look-raw, init, stop, hop, fld, from, load, lit, addr, of-opd, bin, and-then, no-more, assigns}
+use types.Run.{land}
 use types.Run.{first, skips, branches, exec, returns, returns-within, enter, alloc1, alloc0, params1, pass1, pass0}
 use types.Run.{free1, free0}
 use types.SemTy.{cells, Arr}
@@ -215,9 +217,13 @@ module _ {M : Type 1} (𝓤 : URA M) (H : Heap 𝓤) (A : Atoms 𝓤) (W : Given
 
   exits : (r : Answer) (w : Val) (ns : List Node) (es ss : List ℤ) → Ends ns es ss r → length ns ≡ n
       → length es ≡ length (e .now) → length ss ≡ length (s .now)
-      → ent 𝓤 (⋆ 𝓤 H A (‵ (flft κ₀ q₀) ∷ ‵ (flft κ₁ q₁) ∷ ‵ (flft κ₂ q₂) ∷ ‵ (flft κ₃ q₃) ∷ ‵ (finally R γ ns) ∷ ‵ (finally i64 (e .name) es) ∷ ‵ (finally i64 (s .name) ss) ∷ ‵ (fres η (Q .coded .code h)) ∷ ‵ (fshr-bor κ₃ (λ y. partAt Q y h c a)) ∷ ‵ (B.the-row .own r (w ∷ [])) ∷ [])) (Post w)
+      → ent 𝓤 (⋆ 𝓤 H A (‵ (flft κ₀ q₀) ∷ ‵ (flft κ₁ q₁) ∷ ‵ (flft κ₂ q₂) ∷ ‵ (flft κ₃ q₃) ∷ ‵ (finally R γ ns) ∷ ‵
+      (finally i64 (e .name) es) ∷ ‵ (finally i64 (s .name) ss) ∷ ‵ (fres η (Q .coded .code h)) ∷ ‵ (fshr-bor κ₃ (λ y.
+      partAt Q y h c a)) ∷ ‵ (B.the-row .own r (w ∷ [])) ∷ [])) (Post w)
   exits r w ns es ss ends ln le lo =
-      qed W (‵ (flft κ₀ q₀) ∷ ‵ (flft κ₁ q₁) ∷ ‵ (flft κ₂ q₂) ∷ ‵ (flft κ₃ q₃) ∷ ‵ (finally R γ ns) ∷ ‵ (finally i64 (e .name) es) ∷ ‵ (finally i64 (s .name) ss) ∷ ‵ (fres η (Q .coded .code h)) ∷ ‵ (fshr-bor κ₃ (λ y. partAt Q y h c a)) ∷ ‵ (B.the-row .own r (w ∷ [])) ∷ []) ∵
+      qed W (‵ (flft κ₀ q₀) ∷ ‵ (flft κ₁ q₁) ∷ ‵ (flft κ₂ q₂) ∷ ‵ (flft κ₃ q₃) ∷ ‵ (finally R γ ns) ∷ ‵ (finally i64
+      (e .name) es) ∷ ‵ (finally i64 (s .name) ss) ∷ ‵ (fres η (Q .coded .code h)) ∷ ‵ (fshr-bor κ₃ (λ y. partAt Q y h
+      c a)) ∷ ‵ (B.the-row .own r (w ∷ [])) ∷ []) ∵
       suffices ! _ (ends-at 𝓤 H A f.ended stayed (f.clauses 𝓤 H A at-mem run) W bound w r
       (ns, (es, (ss, (tt, (tt, (tt, (tt, tt))))))) (ln, (le, (lo, (tt, (tt, (tt, (tt, tt)))))))) $ says ! ends $
       nothing ! $ move ! (4 ∷ 0 ∷ []) $ join ! $ move ! (3 ∷ 0 ∷ []) $ join ! $ move ! (2 ∷ 0 ∷ []) $ join ! $ move !

@@ -43,7 +43,8 @@ use denote.Triple.Statement.{Contract, Triple}
 use denote.Triple.Call.{calls-at}
 use denote.Triple.Clauses.{ensured, lasts}
 use denote.Triple.Table.{entered, cited}
-use denote.Triple.Walked.{says, Stays, gave-slice, gave-ref, stay-none-slice, walkOf, AllGo, goes-gave-slice, goes-gave-ref}
+use denote.Triple.Walked.{says, Stays, gave-slice, gave-ref, stay-none-slice, walkOf, AllGo, goes-gave-slice}
+use denote.Triple.Walked.{goes-gave-ref}
 use denote.Triple.Walked.{goes-none-slice, Walks, ends-at, walked, walk-meets}
 use denote.Exit.{yes}
 use Rattle.map.specs.declared.Head.{Head}
@@ -238,7 +239,8 @@ module _ {M : Type 1} (𝓤 : URA M) (H : Heap 𝓤) (A : Atoms 𝓤) (W : Given
         (λ l₁₀. alloc1 ! (λ l₁₁. alloc1 !
         (λ l₁₂. alloc1 ! (λ l₁₃. alloc1 !
         (λ l₁₄. alloc1 ! (λ l₁₅. alloc1 !
-        (λ l₁₆. alloc1 ! (λ l₁₇. alloc1 ! (λ l₁₈. alloc1 ! (λ l₁₉. alloc1 ! (λ l₂₀. alloc1 ! (λ l₂₁. alloc1 ! (λ l₂₂. alloc0 ! $ params1 ! $
+        (λ l₁₆. alloc1 ! (λ l₁₇. alloc1 ! (λ l₁₈. alloc1 ! (λ l₁₉. alloc1 ! (λ l₂₀. alloc1 ! (λ l₂₁. alloc1 ! (λ l₂₂.
+        alloc0 ! $ params1 ! $
         pass1 ! (init ! 42 refl (tt, (tt, (record { fits = rn .0 }, tt)))) $ pass1 !
         (init ! 40 refl (tt, (tt, (record { fits = re .0 }, tt)))) $ pass1 !
         (init ! 38 refl (tt, (tt, (record { fits = rs .0 }, tt)))) $ pass1 ! (init ! 36 refl (tt, tt)) $ pass1 !
@@ -301,7 +303,8 @@ module _ {M : Type 1} (𝓤 : URA M) (H : Heap 𝓤) (A : Atoms 𝓤) (W : Given
         land ! (from ! (stop !)) (init ! 36 refl
         (LL.lawful D.the-type D′.the-laws 𝓤 H A W .typed r _ is .0)) $ rewrite ! 36
         (λ (y : Val). ‵ (fat fullShare D′.mir l₁₀ 0 y)) (ap only (LL.tells D.the-type D′.the-laws r _ is)) refl $
-        -- [what r owns; the tokens; …; the last lists; what is kept of the shared loans; the head's loan; its token; the
+        -- [what r owns; the tokens; …; the last lists; what is kept of the shared loans; the head's loan; its token;
+        -- the
         -- locals, the last first]
         -- the head is set through its loan, which goes on for good
         assigns ! (addr ! (from ! (hop ! (look ! 48 refl) (stop !)))) (from ! (stop !)) (init ! 12 refl (tt, tt)) $
@@ -330,7 +333,8 @@ module _ {M : Type 1} (𝓤 : URA M) (H : Heap 𝓤) (A : Atoms 𝓤) (W : Given
 module _ {M : Type 1} (𝓤 : URA M) (H : Heap 𝓤) (A : Atoms 𝓤) (W : Given 𝓤 H A) (at-mem : Memory → SProp 𝓤)
     (run : Routine → Fun 𝓤) where
   walks : (C : Calls 𝓤 H) (Λ : Loops 𝓤 H) → FmC 𝓤 H (W .laws) C → Triple 𝓤 (C #g) (G 𝓤 H A at-mem run)
-      → Triple 𝓤 (C #s) (Set 𝓤 H A at-mem run) → Walks 𝓤 H A f.ended stayed (WpFn 𝓤 H C Λ code.function) (f.clauses 𝓤 H A at-mem run)
+      → Triple 𝓤 (C #s) (Set 𝓤 H A at-mem run) → Walks 𝓤 H A f.ended stayed (WpFn 𝓤 H C Λ code.function) (f.clauses 𝓤
+      H A at-mem run)
   walks C Λ fm known known-s = walked 𝓤 H A f.ended stayed (f.clauses 𝓤 H A at-mem run) (WpFn 𝓤 H C Λ code.function)
       (λ κs. (
         slice-vals,
@@ -370,7 +374,8 @@ module _ {M : Type 1} (𝓤 : URA M) (H : Heap 𝓤) (A : Atoms 𝓤) (W : Given
       (qs .1 .1 .1 .1 .1 .1 .1 .0) (a .0) (a .1 .0) (a .1 .1 .0) (a .1 .1 .1 .0 .ptr .0) (a .1 .1 .1 .0 .ptr .1)
       (a .1 .1 .1 .0 .name) (a .1 .1 .1 .0 .now) (a .1 .1 .1 .1 .0) (a .1 .1 .1 .1 .1 .0) (a .1 .1 .1 .1 .1 .1 .0)
       (a .1 .1 .1 .1 .1 .1 .1 .0) (are .0 .0 .1) (are .1 .0 .0 .1) (are .1 .1 .0 .0 .1) (are .1 .1 .1 .1 .0 .0 .1)
-      (are .1 .1 .1 .1 .1 .0 .0 .1) (are .1 .1 .1 .1 .1 .1 .0 .0 .1) (are .1 .1 .1 .1 .1 .1 .1 .0 .0 .1) C Λ fm known known-s))
+      (are .1 .1 .1 .1 .1 .0 .0 .1) (are .1 .1 .1 .1 .1 .1 .0 .0 .1) (are .1 .1 .1 .1 .1 .1 .1 .0 .0 .1) C Λ fm known
+      known-s))
 
   goes : AllGo 𝓤 H A W 8 (f.signature .params) (f.ended .kept) stayed
   goes = (
@@ -397,7 +402,8 @@ module _ {M : Type 1} (𝓤 : URA M) (H : Heap 𝓤) (A : Atoms 𝓤) (W : Given
   )
 
   meets : (𝓣 : Tables 𝓤 H) → Triple 𝓤 (𝓣 .C #g) (G 𝓤 H A at-mem run)
-      → Triple 𝓤 (𝓣 .C #s) (Set 𝓤 H A at-mem run) → Meets 𝓤 H A f.signature (WpFn 𝓤 H (𝓣 .C) (𝓣 .Λ) code.function) (f.spec 𝓤 H A at-mem run)
+      → Triple 𝓤 (𝓣 .C #s) (Set 𝓤 H A at-mem run) → Meets 𝓤 H A f.signature (WpFn 𝓤 H (𝓣 .C) (𝓣 .Λ) code.function)
+      (f.spec 𝓤 H A at-mem run)
   meets 𝓣 known known-s = walk-meets 𝓤 H A f.ended stayed W goes (f.clauses 𝓤 H A at-mem run)
       (WpFn 𝓤 H (𝓣 .C) (𝓣 .Λ) code.function) (WpFn-mono 𝓤 H (W .laws) 𝓣 code.function)
       (walks (𝓣 .C) (𝓣 .Λ) (fmOf 𝓤 H (W .laws) 𝓣) known known-s)

@@ -21,7 +21,8 @@ use contract.Monad.{Fun, fact}
 use contract.Running.{givenOf, tables, tablesOf}
 use types.Kit.{Given, ‵, raw, some, later, _⊛_, ⋆, _$_, _∵_, !, qed, by, move, keep, use1, split, join, pick, rewrite}
 use types.Kit.{fsplit, fjoin, feqI, suffices, frame, await, done}
-use types.Run.{look, look-raw, init, store-raw, stop, hop, from, load, unit-lit, of-opd, and-then, no-more, assigns, land}
+use types.Run.{look, look-raw, init, store-raw, stop, hop, from, load, unit-lit, of-opd, and-then, no-more, assigns}
+use types.Run.{land}
 use types.Run.{returns, enter, alloc1, alloc0, params1, pass1, pass0, free0}
 use sound.WpLaws.{FmC, fmOf, WpFn-mono}
 use denote.RattleType.{RattleType, owns}

@@ -1,4 +1,5 @@
--- `records::set_head` meets its contract: a walk of its MIR, by hand. The head's loan is lent again to `set_counts`, for
+-- `records::set_head` meets its contract: a walk of its MIR, by hand. The head's loan is lent again to `set_counts`,
+-- for
 -- a lifetime that is made for the call, and goes on to `set_next` for good. All that the proof knows of the two is that
 -- they meet their contracts. Assumes nothing.
 use mathlib.Core.Path.{_≡_, refl, sym, ap, subst}
@@ -18,7 +19,8 @@ use prog.Wp.{Heap, Calls, Loops, WpFn, Tables}
 use ghost.Atoms.{Atoms, sem}
 use contract.Monad.{Fun, fact}
 use contract.Running.{givenOf, tables, tablesOf}
-use types.Kit.{Given, ‵, raw, some, later, given, _⊛_, ⋆, _$_, _∵_, !, qed, by, move, keep, use1, use2, use3, split, join}
+use types.Kit.{Given, ‵, raw, some, later, given, _⊛_, ⋆, _$_, _∵_, !, qed, by, move, keep, use1, use2, use3, split}
+use types.Kit.{join}
 use types.Kit.{pick, rewrite, fsplit, fjoin, feqL, feqI, check, learn, suffices, frame, await, updating, now as at-once}
 use types.Kit.{done}
 use types.Part.{whole, sub, look-in}
@@ -150,18 +152,24 @@ module _ {M : Type 1} (𝓤 : URA M) (H : Heap 𝓤) (A : Atoms 𝓤) (W : Given
       (N 𝓤 H A mem run .pre (to-c κ′ p δ))
   goes-c κ′ p δ =
       qed W (‵ (flft κ′ p) ∷ ‵ (lends κ′ δ h) ∷ []) ∵ nothing ! $ move ! (1 ∷ 0 ∷ []) $ join ! $ nothing ! $
-      owned ! i64 (Is i64) (sint-makes 𝓤 H A W w64) (r .faces) _ (LL.owed S.the-type S′.the-laws r _ is-r .1 .1 .0) $ fjoin ! $
-      owned ! i64 (Is i64) (sint-makes 𝓤 H A W w64) (r .edges) _ (LL.owed S.the-type S′.the-laws r _ is-r .1 .0) $ fjoin ! $
-      owned ! i64 (Is i64) (sint-makes 𝓤 H A W w64) (r .nodes) _ (LL.owed S.the-type S′.the-laws r _ is-r .0) $ fjoin ! $
+      owned ! i64 (Is i64) (sint-makes 𝓤 H A W w64) (r .faces) _ (LL.owed S.the-type S′.the-laws r _ is-r .1 .1 .0) $
+      fjoin ! $
+      owned ! i64 (Is i64) (sint-makes 𝓤 H A W w64) (r .edges) _ (LL.owed S.the-type S′.the-laws r _ is-r .1 .0) $
+      fjoin ! $
+      owned ! i64 (Is i64) (sint-makes 𝓤 H A W w64) (r .nodes) _ (LL.owed S.the-type S′.the-laws r _ is-r .0) $ fjoin
+      ! $
       move ! (2 ∷ 0 ∷ []) $ fjoin ! $ move ! (1 ∷ 0 ∷ []) $ join ! $ frame ! $ done !
 
   goes-g : (κ′ : Lft) (p : Share) (δ : GName) → ent 𝓤 (sep 𝓤 (A .lft κ′ p) (sem 𝓤 H A (lends κ′ δ counted)))
       (G 𝓤 H A mem run .pre (to-g κ′ p δ))
   goes-g κ′ p δ =
       qed W (‵ (flft κ′ p) ∷ ‵ (lends κ′ δ counted) ∷ []) ∵ nothing ! $ move ! (1 ∷ 0 ∷ []) $ join ! $ nothing ! $
-      owned ! i64 (Is i64) (sint-makes 𝓤 H A W w64) (r .«next_face») _ (LL.owed S.the-type S′.the-laws r _ is-r .1 .1 .1 .1 .1 .0) $ fjoin ! $
-      owned ! i64 (Is i64) (sint-makes 𝓤 H A W w64) (r .«next_edge») _ (LL.owed S.the-type S′.the-laws r _ is-r .1 .1 .1 .1 .0) $ fjoin ! $
-      owned ! i64 (Is i64) (sint-makes 𝓤 H A W w64) (r .«next_node») _ (LL.owed S.the-type S′.the-laws r _ is-r .1 .1 .1 .0) $ fjoin ! $
+      owned ! i64 (Is i64) (sint-makes 𝓤 H A W w64) (r .«next_face») _ (LL.owed S.the-type S′.the-laws r _ is-r .1 .1
+      .1 .1 .1 .0) $ fjoin ! $
+      owned ! i64 (Is i64) (sint-makes 𝓤 H A W w64) (r .«next_edge») _ (LL.owed S.the-type S′.the-laws r _ is-r .1 .1
+      .1 .1 .0) $ fjoin ! $
+      owned ! i64 (Is i64) (sint-makes 𝓤 H A W w64) (r .«next_node») _ (LL.owed S.the-type S′.the-laws r _ is-r .1 .1
+      .1 .0) $ fjoin ! $
       move ! (2 ∷ 0 ∷ []) $ fjoin ! $ move ! (1 ∷ 0 ∷ []) $ join ! $ frame ! $ done !
 
   abbrev Lasts : Type 0
@@ -172,7 +180,8 @@ module _ {M : Type 1} (𝓤 : URA M) (H : Heap 𝓤) (A : Atoms 𝓤) (W : Given
   gives-c κ′ p δ v =
       qed W (raw (N 𝓤 H A mem run .post (to-c κ′ p δ) v) ∷ []) ∵ updating ! $
       use1 W (later (some (λ (u : Unit {0}). ((‵ (flft κ′ p) ⊛ ‵ ftrue) ⊛ ‵ (unit .own u (v ∷ []))) ⊛ raw
-      (ensured 𝓤 H A c.ended (c.clauses 𝓤 H A mem run) (κ′, tt) (args-c δ) tt u)))) (id⊢ 𝓤 _) $ await ! tt $ pick ! (λ u.
+      (ensured 𝓤 H A c.ended (c.clauses 𝓤 H A mem run) (κ′, tt) (args-c δ) tt u)))) (id⊢ 𝓤 _) $ await ! tt $ pick ! (λ
+      u.
       split ! $ move ! (1 ∷ []) $ use1 W (some (λ (zs : Lasts). ‵ (lasts c.ended (κ′, tt) (args-c δ) zs) ⊛ raw
       (fact 𝓤 (zs .0 ≡ counted)))) (id⊢ 𝓤 _) $ pick ! (λ zs.
       split ! $ move ! (1 ∷ []) $ heard ! (zs .0 ≡ counted) (λ e. fsplit ! $
@@ -184,7 +193,8 @@ module _ {M : Type 1} (𝓤 : URA M) (H : Heap 𝓤) (A : Atoms 𝓤) (W : Given
   gives-g κ′ p δ v =
       qed W (raw (G 𝓤 H A mem run .post (to-g κ′ p δ) v) ∷ []) ∵ updating ! $
       use1 W (later (some (λ (u : Unit {0}). ((‵ (flft κ′ p) ⊛ ‵ ftrue) ⊛ ‵ (unit .own u (v ∷ []))) ⊛ raw
-      (ensured 𝓤 H A g.ended (g.clauses 𝓤 H A mem run) (κ′, tt) (args-g δ) tt u)))) (id⊢ 𝓤 _) $ await ! tt $ pick ! (λ u.
+      (ensured 𝓤 H A g.ended (g.clauses 𝓤 H A mem run) (κ′, tt) (args-g δ) tt u)))) (id⊢ 𝓤 _) $ await ! tt $ pick ! (λ
+      u.
       split ! $ move ! (1 ∷ []) $ use1 W (some (λ (zs : Lasts). ‵ (lasts g.ended (κ′, tt) (args-g δ) zs) ⊛ raw
       (fact 𝓤 (zs .0 ≡ r)))) (id⊢ 𝓤 _) $ pick ! (λ zs.
       split ! $ move ! (1 ∷ []) $ heard ! (zs .0 ≡ r) (λ e. fsplit ! $
@@ -213,7 +223,8 @@ module _ {M : Type 1} (𝓤 : URA M) (H : Heap 𝓤) (A : Atoms 𝓤) (W : Given
         (and-then ! (load ! (from ! (stop !)) (look ! 6 refl))
         (and-then ! (load ! (from ! (fld ! refl (stop !))) (look-in ! 10 (sub ! 0 refl (whole !))))
         (and-then ! (load ! (from ! (fld ! refl (stop !))) (look-in ! 10 (sub ! 1 refl (whole !))))
-        (and-then ! (load ! (from ! (fld ! refl (stop !))) (look-in ! 10 (sub ! 2 refl (whole !)))) (no-more !))))) (λ v.
+        (and-then ! (load ! (from ! (fld ! refl (stop !))) (look-in ! 10 (sub ! 2 refl (whole !)))) (no-more !))))) (λ
+        v.
         use1 W (later (given (v ≡ vunit) (‵ (flft (ν ∷ []) fullShare) ⊛ ‵ (fres δ (Q .coded .code counted)))))
         (gives-c (ν ∷ []) fullShare δ v) $ await ! tt $ learn ! (λ e. split ! $
         land ! (from ! (stop !)) (init ! 9 refl (subst (λ (y : Val). T (hasTy tyUnit y) × WT y) (sym e) (tt, tt))) $
@@ -226,7 +237,8 @@ module _ {M : Type 1} (𝓤 : URA M) (H : Heap 𝓤) (A : Atoms 𝓤) (W : Given
         (and-then ! (load ! (from ! (stop !)) (look ! 3 refl))
         (and-then ! (load ! (from ! (fld ! refl (stop !))) (look-in ! 9 (sub ! 3 refl (whole !))))
         (and-then ! (load ! (from ! (fld ! refl (stop !))) (look-in ! 9 (sub ! 4 refl (whole !))))
-        (and-then ! (load ! (from ! (fld ! refl (stop !))) (look-in ! 9 (sub ! 5 refl (whole !)))) (no-more !))))) (λ v′.
+        (and-then ! (load ! (from ! (fld ! refl (stop !))) (look-in ! 9 (sub ! 5 refl (whole !)))) (no-more !))))) (λ
+        v′.
         use1 W (later (given (v′ ≡ vunit) (‵ (flft κ q) ⊛ ‵ (fres γ (Q .coded .code r))))) (gives-g κ q γ v′) $ await !
         tt $ learn ! (λ e′. split ! $
         land ! (from ! (stop !)) (store ! 8 refl (subst (λ (y : Val). T (hasTy tyUnit y) × WT y) (sym e′) (tt, tt))) $

@@ -42,7 +42,8 @@ use denote.Triple.Statement.{Contract, Triple}
 use denote.Triple.Call.{calls-at}
 use denote.Triple.Clauses.{ensured, lasts}
 use denote.Triple.Table.{entered, cited}
-use denote.Triple.Walked.{says, Stays, gave-slice, gave-ref, stay-none-slice, walkOf, AllGo, goes-gave-slice, goes-gave-ref}
+use denote.Triple.Walked.{says, Stays, gave-slice, gave-ref, stay-none-slice, walkOf, AllGo, goes-gave-slice}
+use denote.Triple.Walked.{goes-gave-ref}
 use denote.Triple.Walked.{goes-none-slice, Walks, ends-at, walked, walk-meets}
 use denote.Exit.{yes}
 use Rattle.map.specs.declared.Head.{Head}
@@ -187,7 +188,8 @@ module _ {M : Type 1} (𝓤 : URA M) (H : Heap 𝓤) (A : Atoms 𝓤) (W : Given
         (λ l₄. alloc1 ! (λ l₅. alloc1 !
         (λ l₆. alloc1 ! (λ l₇. alloc1 !
         (λ l₈. alloc1 ! (λ l₉. alloc1 !
-        (λ l₁₀. alloc1 ! (λ l₁₁. alloc1 ! (λ l₁₂. alloc1 ! (λ l₁₃. alloc1 ! (λ l₁₄. alloc1 ! (λ l₁₅. alloc0 ! $ params1 ! $
+        (λ l₁₀. alloc1 ! (λ l₁₁. alloc1 ! (λ l₁₂. alloc1 ! (λ l₁₃. alloc1 ! (λ l₁₄. alloc1 ! (λ l₁₅. alloc0 ! $
+        params1 ! $
         pass1 ! (init ! 28 refl (tt, (tt, (record { fits = rn .0 }, tt)))) $ pass1 !
         (init ! 26 refl (tt, (tt, (record { fits = re .0 }, tt)))) $ pass1 !
         (init ! 24 refl (tt, (tt, (record { fits = rs .0 }, tt)))) $ pass1 ! (init ! 22 refl (tt, tt)) $ pass1 !
@@ -235,7 +237,8 @@ module _ {M : Type 1} (𝓤 : URA M) (H : Heap 𝓤) (A : Atoms 𝓤) (W : Given
         land ! (from ! (stop !)) (init ! 25 refl
         (LL.lawful D.the-type D′.the-laws 𝓤 H A W .typed r _ is .0)) $ rewrite ! 25
         (λ (y : Val). ‵ (fat fullShare D′.mir l₇ 0 y)) (ap only (LL.tells D.the-type D′.the-laws r _ is)) refl $
-        -- [what r owns; the tokens; …; the last lists; what is kept of the shared loans; the head's loan; its token; the
+        -- [what r owns; the tokens; …; the last lists; what is kept of the shared loans; the head's loan; its token;
+        -- the
         -- locals, the last first]
         -- the head is set through its loan, which goes on for good
         assigns ! (addr ! (from ! (hop ! (look ! 31 refl) (stop !)))) (from ! (stop !)) (init ! 9 refl (tt, tt)) $
@@ -261,7 +264,8 @@ module _ {M : Type 1} (𝓤 : URA M) (H : Heap 𝓤) (A : Atoms 𝓤) (W : Given
 module _ {M : Type 1} (𝓤 : URA M) (H : Heap 𝓤) (A : Atoms 𝓤) (W : Given 𝓤 H A) (at-mem : Memory → SProp 𝓤)
     (run : Routine → Fun 𝓤) where
   walks : (C : Calls 𝓤 H) (Λ : Loops 𝓤 H) → FmC 𝓤 H (W .laws) C → Triple 𝓤 (C #g) (G 𝓤 H A at-mem run)
-      → Triple 𝓤 (C #s) (Set 𝓤 H A at-mem run) → Walks 𝓤 H A f.ended stayed (WpFn 𝓤 H C Λ code.function) (f.clauses 𝓤 H A at-mem run)
+      → Triple 𝓤 (C #s) (Set 𝓤 H A at-mem run) → Walks 𝓤 H A f.ended stayed (WpFn 𝓤 H C Λ code.function) (f.clauses 𝓤
+      H A at-mem run)
   walks C Λ fm known known-s = walked 𝓤 H A f.ended stayed (f.clauses 𝓤 H A at-mem run) (WpFn 𝓤 H C Λ code.function)
       (λ κs. (slice-vals, (slice-vals, (slice-vals, (ptr-vals, (slice-vals, tt))))))
       (λ κs. (
@@ -287,13 +291,20 @@ module _ {M : Type 1} (𝓤 : URA M) (H : Heap 𝓤) (A : Atoms 𝓤) (W : Given
       goes-gave-slice 𝓤 H A W 5 1 tt (plain (λ _. i64)),
       (
         goes-gave-slice 𝓤 H A W 5 2 tt (plain (λ _. i64)),
-        (goes-gave-ref 𝓤 H A W 5 3 tt (plain (λ _. Q)), (goes-none-slice 𝓤 H A W 5 (4 ∷ []) tt (plain (λ _. i64)) yes, tt)),
+        (
+          goes-gave-ref 𝓤 H A W 5 3 tt (plain (λ _. Q)),
+          (
+            goes-none-slice 𝓤 H A W 5 (4 ∷ []) tt (plain (λ _. i64)) yes,
+            tt,
+          ),
+        ),
       ),
     ),
   )
 
   meets : (𝓣 : Tables 𝓤 H) → Triple 𝓤 (𝓣 .C #g) (G 𝓤 H A at-mem run)
-      → Triple 𝓤 (𝓣 .C #s) (Set 𝓤 H A at-mem run) → Meets 𝓤 H A f.signature (WpFn 𝓤 H (𝓣 .C) (𝓣 .Λ) code.function) (f.spec 𝓤 H A at-mem run)
+      → Triple 𝓤 (𝓣 .C #s) (Set 𝓤 H A at-mem run) → Meets 𝓤 H A f.signature (WpFn 𝓤 H (𝓣 .C) (𝓣 .Λ) code.function)
+      (f.spec 𝓤 H A at-mem run)
   meets 𝓣 known known-s = walk-meets 𝓤 H A f.ended stayed W goes (f.clauses 𝓤 H A at-mem run)
       (WpFn 𝓤 H (𝓣 .C) (𝓣 .Λ) code.function) (WpFn-mono 𝓤 H (W .laws) 𝓣 code.function)
       (walks (𝓣 .C) (𝓣 .Λ) (fmOf 𝓤 H (W .laws) 𝓣) known known-s)

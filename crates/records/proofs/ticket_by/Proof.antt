@@ -1,7 +1,8 @@
 -- `records::ticket_by` meets its contract: a walk of its MIR, by hand, over six loans and four calls. The nodes are
 -- lent as shared ones to `pack` and go on to `unpack` for good; the table is lent again to `pack` and `ticket_front`,
 -- and as a shared one to `unpack`. The head's borrow is opened, the head
--- copied out, and the borrow closed; it goes on to `set_head` for good. All that the proof knows of the callees is that they meet their contracts. Assumes nothing.
+-- copied out, and the borrow closed; it goes on to `set_head` for good. All that the proof knows of the callees is
+-- that they meet their contracts. Assumes nothing.
 use mathlib.Core.Path.{_≡_, refl, sym, ap, _∙_, subst}
 use Prim.Native.Nat.{ℕ, _*_, _≤_, _<_, _^_}
 use native.Mathlib.Omega.{arith}
@@ -46,7 +47,8 @@ use denote.Triple.Call.{calls-at}
 use denote.Triple.Clauses.{ensured, lasts}
 use denote.Triple.Table.{entered, cited}
 use denote.Triple.Walked.{says, needs, Stays, gave-slice, stay-slice, gave-ref, stay-none-slice, walkOf, AllGo}
-use denote.Triple.Walked.{goes-gave-slice, goes-slice, goes-gave-ref, goes-none-slice, Walks, ends-at, walked, walk-meets}
+use denote.Triple.Walked.{goes-gave-slice, goes-slice, goes-gave-ref, goes-none-slice, Walks, ends-at, walked}
+use denote.Triple.Walked.{walk-meets}
 use denote.Exit.{yes}
 use Rattle.lists.specs.Tables.{table}
 use Rattle.map.specs.declared.Head.{Head}
@@ -352,7 +354,8 @@ module _ {M : Type 1} (𝓤 : URA M) (H : Heap 𝓤) (A : Atoms 𝓤) (W : Given
         assigns ! (of-opd ! (load ! (from ! (hop ! (look ! 57 refl) (stop !))) (look-raw ! 0 refl))) (from ! (stop !))
         (init ! 51 refl (LL.lawful S.the-type S′.the-laws 𝓤 H A W .typed h _ is-h .0)) $
         move ! (0 ∷ 2 ∷ 3 ∷ 4 ∷ []) $ closes-head ! tt h is-h c a $
-        -- [the head's loan; κ₄; what h owns; what flat owns; κ₁; what nodes owns; κ₀; κ₅; κ₃; κ₂; what t owns; what faces
+        -- [the head's loan; κ₄; what h owns; what flat owns; κ₁; what nodes owns; κ₀; κ₅; κ₃; κ₂; what t owns; what
+        -- faces
         -- owns; what edges owns; the locals, the last first]
         relends ! 61 33 31 (room-d .0) (refl, refl, refl) (refl, refl) (refl, refl, refl) $
         relends ! 59 29 27 (room-e .0) (refl, refl, refl) (refl, refl) (refl, refl, refl) $
