@@ -4,8 +4,8 @@
   slips.py [NAME..]     all of them, or those named
 
 GROWN: slips that the theorem over every list of tickets must refuse. `grown` must not be proved, with the P cases and
-the worked examples left out. Where a witness is given it is computed under the slip: a list of tickets after which a
-statement of the theorem is false, so that the theorem itself is false there, and not only a proof that no longer fits.
+the worked examples left out. For each a list of tickets is computed, after which a statement of the theorem is true
+without the slip and false under it: the theorem itself is false there, and not only a proof that no longer fits.
 WORKED: slips of what a call does or of what is in form, most of which the theorem need not notice. The worked examples
 of `map` must fail.
 
@@ -172,9 +172,16 @@ room = record { nodes = 9; edges = 9; faces = 9 }
 abbrev stated : Lent → Bool
 stated l = let m = mapOf l in %s
 
-pub witness : stated (grow room (%s) .lent) ≡ %s
+abbrev after : Bool
+after = stated (grow room (%s) .lent)
+
+pub holds : after ≡ true
 unfolding opened
-witness = refl
+holds = refl
+
+pub fails : after ≡ false
+unfolding opened
+fails = refl
 '''
 
 
@@ -182,16 +189,18 @@ def numbers(line):
     return '(' + ''.join(f'pos {n} ∷ ' if n >= 0 else f'negsuc {-n - 1} ∷ ' for n in map(int, line.split())) + '[])'
 
 
-def witness(copy, statement, tickets, value):
-    """Whether the statement computes to the value after the tickets, by the definitions of the copy."""
+def witness(copy, statement, tickets):
+    """Whether the statement is true after the tickets, by the definitions of the copy."""
     lib, file = copy / PROOFS / 'Lib.antt', copy / PROOFS / 'Witness.antt'
     text = lib.read_text()
-    file.write_text(WITNESS % (STATEMENTS[statement], ''.join(f'{numbers(t)} ∷ ' for t in tickets) + '[]', value))
+    file.write_text(WITNESS % (STATEMENTS[statement], ''.join(f'{numbers(t)} ∷ ' for t in tickets) + '[]'))
     lib.write_text(text + 'pub mod Witness\n')
-    _, found = check(copy, 'map')
+    _, errors = check(copy, 'map')
     lib.write_text(text)
     file.unlink()
-    return not any('Witness.antt' in e for e in found)
+    refuted = [re.search('error: `(.*?)`', e)[1] for e in errors if 'Witness.antt' in e]
+    assert refuted in (['fails'], ['holds']), refuted
+    return refuted == ['fails']
 
 
 def check(copy, crate):
@@ -215,9 +224,9 @@ def grown(copy, name):
     left_out = {n: (copy / PROOFS / n).read_text() for n in ('Sheet.antt', 'Worked.antt')}
     for n, text in left_out.items():
         (copy / PROOFS / n).write_text(re.split(r'\npub (?:P|Worked) : ', text)[0] + '\n')
-    held = witness(copy, statement, tickets, 'true')
+    held = witness(copy, statement, tickets)
     before = slipped(copy, path, old, new)
-    false = held and witness(copy, statement, tickets, 'false')
+    false = held and not witness(copy, statement, tickets)
     proved, errors = check(copy, 'grown')
     (copy / path).write_text(before)
     for n, text in left_out.items():
