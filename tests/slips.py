@@ -85,17 +85,36 @@ GROWN = {
         'links once', (*LOOP, '7 1 10 4')),
 }
 
-# name: file, old, new
+FACES = MAP + 'Faces.antt'
+TESTS = ('use mathlib.Core.Bool.{Bool, cond}',
+         'use mathlib.Core.Bool.{Bool, cond, _&&_, _||_}\nuse Rattle.lists.specs.Tests.{same}')
+# the segment passes below p, or its end of greater x is below p
+PASSES = ('(λ s. passesBelow p s || same (ordered s .to .x) (p .x) && ltb (ordered s .from .x) (p .x)'
+          ' && ltb (ordered s .to .y) (p .y))')
+
+# name: file, old, new, and more of both
 WORKED = {
     'face of a point: ties to the later': (
-        MAP + 'Faces.antt',
+        FACES,
         'cond (higher x (g .segment) (f .segment)) g f', 'cond (higher x (f .segment) (g .segment)) f g'),
     'face of a point: the first below': (
-        MAP + 'Faces.antt', 'highest x (cond (higher x (g .segment) (f .segment)) g f) r', 'highest x f r'),
+        FACES, 'highest x (cond (higher x (g .segment) (f .segment)) g f) r', 'highest x f r'),
+    'face of a point: slopes do not count': (
+        FACES,
+        'higher x (g .segment) (f .segment)',
+        'isPositive (sgn (height x (g .segment) *ℤ along (f .segment) .dx'
+        ' -ℤ height x (f .segment) *ℤ along (g .segment) .dx))',
+        'use lib.IntN.{ℤ, pos, _+ℤ_}', 'use lib.IntN.{ℤ, pos, _+ℤ_, _-ℤ_, _*ℤ_}',
+        'use Rattle.plane.specs.Below.{Segment, ordered, passesBelow, higher}',
+        'use Rattle.integers.specs.Order.{sgn}\nuse Rattle.plane.specs.Areas.{isPositive}\n'
+        'use Rattle.plane.specs.Below.{Segment, ordered, passesBelow, along, height}'),
+    'face of a point: x up to x2': (FACES, 'keep (passesBelow p)', f'keep {PASSES}', *TESTS),
+    'enclosed: x up to x2': (
+        FACES, 'oddBelow (course m d) p', f'oddCount (segments (course m d)) {PASSES}', *TESTS),
     'face of a point: the lower side': (
-        MAP + 'Faces.antt', '(e .left) (e .right)', '(e .right) (e .left)'),
+        FACES, '(e .left) (e .right)', '(e .right) (e .left)'),
     'enclosed: an edge counts once': (
-        MAP + 'Faces.antt', 'encloses m r p = oddCount r (',
+        FACES, 'encloses m r p = oddCount r (',
         'encloses m r p = oddCount (keep (λ d. ltb 0 (cond (d .back) 0 1)) r) ('),
     'isolated nodes stay behind': (
         EDITS, '(withFace (some (sideOfPoint m s (n .at))) n) n', '(withFace (some (s .other)) n) n'),
@@ -211,12 +230,14 @@ def check(copy, crate):
     return run.returncode == 0, errors
 
 
-def slipped(copy, path, old, new):
+def slipped(copy, path, *words):
     """The text of the file before the slip is made in it."""
-    text = (copy / path).read_text()
-    assert text.count(old) == 1, f'{old}: {text.count(old)} places'
-    (copy / path).write_text(text.replace(old, new))
-    return text
+    before = text = (copy / path).read_text()
+    for old, new in zip(words[::2], words[1::2]):
+        assert text.count(old) == 1, f'{old}: {text.count(old)} places'
+        text = text.replace(old, new)
+    (copy / path).write_text(text)
+    return before
 
 
 def grown(copy, name):
