@@ -215,8 +215,8 @@ module _ (m : Map) where
 
   remove-node-take : (n : ℕ) → AllTake m (removeIsoNode n m) 0 0 0
   unfolding removeIsoNode
-  remove-node-take n = becomes-take (removeIsoNode-becomes n m) (less-places n) same-lines same-faces (still _) (still _)
-      (still _)
+  remove-node-take n = becomes-take (removeIsoNode-becomes n m) (less-places n) same-lines same-faces
+      (still _) (still _) (still _)
 
   add-lone-take : (u v : ℕ) (c : Curve) → AllTake m (addIsoEdge u v c m) 0 1 0
   unfolding addIsoEdge drawn atNodes linkEdge linkIn lead redirect atEdge
@@ -225,8 +225,8 @@ module _ (m : Map) where
 
   remove-lone-take : (e : ℕ) → AllTake m (removeIsoEdge e m) 0 0 0
   unfolding removeIsoEdge undrawn atNodes unlinkEdge redirect
-  remove-lone-take e = becomes-take (removeIsoEdge-becomes e m) same-places (less-lines e) same-faces (still _) (still _)
-      (still _)
+  remove-lone-take e = becomes-take (removeIsoEdge-becomes e m) same-places (less-lines e) same-faces
+      (still _) (still _) (still _)
 
   change-take : (e : ℕ) (c : Curve) → AllTake m (changeEdgeGeom e c m) 0 0 0
   unfolding changeEdgeGeom atEdge

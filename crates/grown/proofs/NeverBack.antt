@@ -1,5 +1,5 @@
--- Numbers are never given twice, on all tables and over lists of tickets (specs/Claims.antt): the numbers after a ticket
--- are read back from the tables, where a row has at most 12 points. Assumes nothing.
+-- Numbers are never given twice, on all tables and over lists of tickets (specs/Claims.antt): the numbers after a
+-- ticket are read back from the tables, where a row has at most 12 points. Assumes nothing.
 use mathlib.Core.Path.{_≡_, refl, sym, ap, _∙_, subst}
 use mathlib.Core.Logic.{inl, inr}
 use mathlib.Core.Bool.{true, not, cond}
@@ -103,7 +103,8 @@ module _ (s : Sizes) (m : Map) (within : Within (map nodeNumber (m .nodes)) (arc
   carried-few (AddIsoEdge u v c) h =
       subst Few (sym (addIsoEdge-becomes (natAbs u) (natAbs v) (curveOf c) m .lines))
       (few-more few _ (facts.add-lone s m u v c h .sent .most))
-  carried-few (RemoveIsoEdge e) h = subst Few (sym (removeIsoEdge-becomes (natAbs e) m .lines)) (few-less few (natAbs e))
+  carried-few (RemoveIsoEdge e) h =
+      subst Few (sym (removeIsoEdge-becomes (natAbs e) m .lines)) (few-less few (natAbs e))
   carried-few (ChangeEdgeGeom e c) h =
       subst Few (sym (changeEdgeGeom-becomes (natAbs e) (curveOf c) m .lines))
       (few-at few (natAbs e) (redrawn (curveOf c)) (λ l. facts.change s m e c h .sent .most))
@@ -153,7 +154,8 @@ module _ (s : Sizes) (m : Map) (few : Few (lines m)) where
       (rows-flat edgeWidth edgeCells (m .edges)
       (replicate (s .edges * edgeWidth - length (flatMap edgeCells (m .edges))) (pos 0))
       (all-of (m .edges) (λ e k. edge-wide e (few (lineOf e) (Memᴰ·map lineOf k)))))
-      ∙ ap (map (λ (e : Edge). e .number)) (map-twice edgeOf edgeCells (λ e. edgeOf (edgeCells e)) (m .edges) (λ e k. refl))
+      ∙ ap (map (λ (e : Edge). e .number))
+      (map-twice edgeOf edgeCells (λ e. edgeOf (edgeCells e)) (m .edges) (λ e k. refl))
       ∙ map-twice (λ (e : Edge). e .number) (λ e. edgeOf (edgeCells e)) (λ e. e .number) (m .edges) (λ e k. refl)
 
   faces-back : mapOf (lentOf s m) .faces ≡ m .faces

@@ -1,6 +1,6 @@
 -- What is claimed of every list of tickets, kinds mixed, senseless and refused ones included. Proved in proofs/:
--- Grows.antt (`grows`, `never-lent`), Claimed.antt (`keeps-law`, `pieces-counted`), NeverBack.antt
--- (`gives-numbers`, `never-back`, `grown-never-back`), SplitHeal.antt (`split-cancelled`, `split-renewed`, `split-spent`).
+-- Grows.antt (`grows`, `never-lent`), Claimed.antt (`keeps-law`, `pieces-counted`), NeverBack.antt (`gives-numbers`,
+-- `never-back`, `grown-never-back`), SplitHeal.antt (`split-cancelled`, `split-renewed`, `split-spent`).
 use mathlib.Core.Path.{_≡_}
 use mathlib.Core.Bool.{Bool, true, cond}
 use mathlib.Core.List.{List, [], _∷_, _++_, map, List·Memᴰ}
