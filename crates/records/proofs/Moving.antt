@@ -5,7 +5,6 @@ use mathlib.Core.Bool.{Bool, true, false, not}
 use mathlib.Core.Logic.{inl, inr}
 use mathlib.Core.List.{List, [], _∷_, _++_, map, flatMap}
 use Prim.Native.Nat.{ℕ, zero, suc, _+_, _*_, _<_, _≤_, min}
-use native.Mathlib.Nat.{zero-add}
 use native.Mathlib.Omega.{arith}
 use native.Mathlib.Numerals.{add-one}
 use lib.Dec.{T, eqb, eqb→eq, ltb, lit<}
@@ -15,7 +14,7 @@ use lib.Seq.{paste, length-paste, length-paste-head, length-take-le, getD-take, 
 use lib.Signed.{ltZ}
 use borrow.Author.Tests.{ltb-true, ltb-false, not-false}
 use Rattle.lists.specs.declared.Found.{Found}
-use Rattle.lists.specs.declared.Found.the-variants.{At, Missing}
+use Rattle.lists.specs.declared.Found.the-variants.{At}
 use Rattle.lists.specs.Scans.{linked}
 use Rattle.lists.specs.Tables.{place, table}
 use Rattle.lists.proofs.Bools.{which, equal?}

@@ -39,7 +39,7 @@ abbrev pub changedAt : List Node → Node → Found → List Node
 changedAt ns n (At i) = set ns i n
 changedAt ns n Missing = ns
 
--- a and b by whether a call was turned down
+-- a where a call was carried out, b where it was turned down
 abbrev pub unlessRefused : {A : Type 0} → ℕ → A → A → A
 unlessRefused zero a b = a
 unlessRefused (suc r) a b = b

@@ -27,7 +27,7 @@ use types.Kit.{use1, use2, split, join, pick, rewrite, fsplit, fjoin, suffices, 
 use types.Kit as Kit
 use types.Part.{agg, whole, sub, look-in}
 use types.Match.{vrt, look-tag, in-variant}
-use types.Run.{look, init, store-raw, forget, stop, hop, fld, from, load, lit, of-opd, bin, and-then, no-more, assigns}
+use types.Run.{look, init, store-raw, stop, hop, fld, from, load, lit, of-opd, bin, and-then, no-more, assigns}
 use types.Run.{assigns-last, land, first, switches-on, exec, returns, returns-within, enter, alloc1, alloc0, params1}
 use types.Run.{pass1, pass0, free1, free0}
 use types.Tokens.{lft-new, lft-end}
@@ -65,7 +65,7 @@ use Rattle.map.proofs.Answer.Laws as B′
 use Rattle.outcomes.specs.Outcomes.{lookupRefusal}
 use Rattle.records.specs.declared.Node.{Node}
 use Rattle.records.specs.Records.{nodeRow, changedAt}
-use Rattle.records.proofs.Heads.{relends}
+use Rattle.records.proofs.Heads.{frees-local, relends}
 use Rattle.records.proofs.Finding.{place-fits, found-below}
 use Rattle.records.proofs.Shared.{LentShared, lends-shared, comes-back}
 use Rattle.records.proofs.Node as T
@@ -219,12 +219,9 @@ module _ {M : Type 1} (𝓤 : URA M) (H : Heap 𝓤) (A : Atoms 𝓤) (W : Given
         (look-tag ! 12 (whole !))) $ exec ! C Λ En gives-up Then $
         assigns ! (agg ! (and-then ! (lit ! tt) (and-then ! (lit ! tt) (no-more !)))) (from ! (stop !)) (init ! 20 refl
         (LL.lawful B.the-type B′.the-laws 𝓤 H A W .typed (answered Missing) _ (is-answered Missing) .0)) $
-        returns-within ! Post refl (look ! 20 refl) $ forget ! 6 refl $ forget ! 8 refl $ forget ! 12 refl $ forget !
-        14 refl $ forget ! 16 refl $ forget ! 18 refl $ forget ! 20 refl $
-        move ! (20 ∷ 21 ∷ []) $ free1 ! $ move ! (18 ∷ 19 ∷ []) $ free1 ! $ move ! (16 ∷ 17 ∷ []) $ free1 ! $ move !
-        (14 ∷ 15 ∷ []) $ free1 ! $ move ! (12 ∷ 13 ∷ []) $ free1 ! $ move ! (10 ∷ 11 ∷ []) $ free1 ! $ move !
-        (8 ∷ 9 ∷ []) $ free1 ! $ move ! (6 ∷ 7 ∷ []) $ free1 ! $ move ! (4 ∷ 5 ∷ []) $ free1 ! $ move !
-        (2 ∷ 3 ∷ []) $ free1 ! $ free0 ! $
+        returns-within ! Post refl (look ! 20 refl) $ keep ! (20 ∷ 21 ∷ 18 ∷ 19 ∷ 16 ∷ 17 ∷ 14 ∷ 15 ∷ 12 ∷ 13 ∷ 10 ∷
+        11 ∷ 8 ∷ 9 ∷ 6 ∷ 7 ∷ 4 ∷ 5 ∷ 2 ∷ 3 ∷ 0 ∷ 1 ∷ []) $ frees-local ! $ frees-local ! $ frees-local ! $
+        frees-local ! $ frees-local ! $ free1 ! $ frees-local ! $ frees-local ! $ free1 ! $ free1 ! $ free0 ! $
         by ! (exits Missing ys e (ap (changedAt ys v) e) refl)
     matched (At i) e is =
         switches-on ! (load ! (from ! (vrt ! refl (fld ! refl (stop !))))
@@ -251,12 +248,9 @@ module _ {M : Type 1} (𝓤 : URA M) (H : Heap 𝓤) (A : Atoms 𝓤) (W : Given
         -- [obs; the borrow; the token; nodes's fact; _9; …; _8; …; …; _1; …; room for _0; …]
         assigns ! (agg ! (and-then ! (lit ! tt) (and-then ! (lit ! tt) (no-more !)))) (from ! (stop !)) (init ! 22 refl
         (LL.lawful B.the-type B′.the-laws 𝓤 H A W .typed (answered (At i)) _ (is-answered (At i)) .0)) $
-        returns ! (look ! 22 refl) $ forget ! 4 refl $ forget ! 6 refl $ forget ! 8 refl $ forget ! 10 refl $ forget !
-        12 refl $ forget ! 14 refl $ forget ! 16 refl $ forget ! 18 refl $ forget ! 20 refl $ forget ! 22 refl $
-        move ! (22 ∷ 23 ∷ []) $ free1 ! $ move ! (20 ∷ 21 ∷ []) $ free1 ! $ move ! (18 ∷ 19 ∷ []) $ free1 ! $ move !
-        (16 ∷ 17 ∷ []) $ free1 ! $ move ! (14 ∷ 15 ∷ []) $ free1 ! $ move ! (12 ∷ 13 ∷ []) $ free1 ! $ move !
-        (10 ∷ 11 ∷ []) $ free1 ! $ move ! (8 ∷ 9 ∷ []) $ free1 ! $ move ! (6 ∷ 7 ∷ []) $ free1 ! $ move !
-        (4 ∷ 5 ∷ []) $ free1 ! $ free0 ! $
+        returns ! (look ! 22 refl) $ keep ! (22 ∷ 23 ∷ 20 ∷ 21 ∷ 18 ∷ 19 ∷ 16 ∷ 17 ∷ 14 ∷ 15 ∷ 12 ∷ 13 ∷ 10 ∷ 11 ∷ 8
+        ∷ 9 ∷ 6 ∷ 7 ∷ 4 ∷ 5 ∷ 0 ∷ 1 ∷ 2 ∷ 3 ∷ []) $ frees-local ! $ frees-local ! $ frees-local ! $ frees-local ! $
+        frees-local ! $ frees-local ! $ frees-local ! $ frees-local ! $ frees-local ! $ frees-local ! $ free0 ! $
         fjoin ! $ pureI ! (at-slice R (x γ (set ys i v)) vs) (tt, (tt, tt)) (
           ap (λ (m : ℕ). sliceVal (b, o) m ∷ []) (sym (length-set ys i v)),
           subst (Room R) (sym (length-set ys i v)) room,

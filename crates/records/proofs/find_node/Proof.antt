@@ -66,6 +66,7 @@ use Rattle.tables.specs.Tables.{sameZ}
 use Rattle.records.specs.declared.Node.{Node}
 use Rattle.records.specs.Records.{nodeRow}
 use Rattle.records.proofs.Finding.{noNode, place-fits, searched, asked, ended}
+use Rattle.records.proofs.Heads.{frees-local}
 use Rattle.records.proofs.Node as T
 use Rattle.records.proofs.Node.Laws as T′
 use Rattle.records.proofs.found_from as g
@@ -235,12 +236,9 @@ module _ {M : Type 1} (𝓤 : URA M) (H : Heap 𝓤) (A : Atoms 𝓤) (W : Given
         leaves-loop ! (load ! (from ! (stop !)) (look ! 8 refl)) $ exec ! C Λ En body.t-4 (atRet En Post) $
         assigns ! (of-opd ! (load ! (from ! (stop !)) (look ! 14 refl))) (from ! (stop !))
         (init ! 22 refl (EL.lawful S.the-type S′.the-laws 𝓤 H A W tt .typed (j .found) _ (j .fine) .0)) $
-        returns ! (look ! 22 refl) $ forget ! 8 refl $ forget ! 12 refl $ forget ! 14 refl $ forget ! 16 refl $
-        forget ! 18 refl $ forget ! 20 refl $ forget ! 22 refl $
-        move ! (22 ∷ 23 ∷ []) $ free1 ! $ move ! (20 ∷ 21 ∷ []) $ free1 ! $ move ! (18 ∷ 19 ∷ []) $ free1 ! $ move !
-        (16 ∷ 17 ∷ []) $ free1 ! $ move ! (14 ∷ 15 ∷ []) $ free1 ! $ move ! (12 ∷ 13 ∷ []) $ free1 ! $ move !
-        (10 ∷ 11 ∷ []) $ free1 ! $ move ! (8 ∷ 9 ∷ []) $ free1 ! $ move ! (6 ∷ 7 ∷ []) $ free1 ! $ move !
-        (4 ∷ 5 ∷ []) $ free1 ! $ move ! (2 ∷ 3 ∷ []) $ free1 ! $ free0 ! $
+        returns ! (look ! 22 refl) $ keep ! (22 ∷ 23 ∷ 20 ∷ 21 ∷ 18 ∷ 19 ∷ 16 ∷ 17 ∷ 14 ∷ 15 ∷ 12 ∷ 13 ∷ 10 ∷ 11 ∷ 8
+        ∷ 9 ∷ 6 ∷ 7 ∷ 4 ∷ 5 ∷ 2 ∷ 3 ∷ 0 ∷ 1 ∷ []) $ frees-local ! $ frees-local ! $ frees-local ! $ frees-local ! $
+        frees-local ! $ frees-local ! $ free1 ! $ frees-local ! $ free1 ! $ free1 ! $ free1 ! $ free0 ! $
         by ! (exits (j .found) (j .past ∙ ap (searched ys c v) first-row) (j .fine))
       where
         first-row : j .i ≡ 0

@@ -67,7 +67,7 @@ use Rattle.map.proofs.Answer.Laws as B′
 use Rattle.outcomes.specs.Outcomes.{lookupRefusal}
 use Rattle.records.specs.declared.Node.{Node}
 use Rattle.records.specs.declared.Moved.{Moved}
-use Rattle.records.specs.Records.{nodeTable, nodeRow, changedAt, unlessRefused, movedNodes, movedAnswer}
+use Rattle.records.specs.Records.{nodeTable, nodeRow, changedAt, movedNodes, movedAnswer}
 use Rattle.records.proofs.Heads.{vals, slice-last, said-last, frees-local, relends}
 use Rattle.records.proofs.Packing.{packed}
 use Rattle.records.proofs.Moving.{by-refusal, by-zero}

@@ -1,7 +1,7 @@
 -- `records::move_front` meets its contract: turned down, nothing is touched; carried out, the row that the number is
 -- found at is the one written anew. Assumes nothing.
 use borrow.Author.Needs.{needs}
-use mathlib.Core.Path.{_≡_, refl, sym, _∙_}
+use mathlib.Core.Path.{_≡_, sym, _∙_}
 use mathlib.Core.List.{[], _∷_}
 use Prim.Native.Nat.{ℕ}
 use native.Mathlib.Omega.{arith}

@@ -26,7 +26,7 @@ use types.Kit.{Given, Item, ‵, raw, some, later, _⊛_, ⋆, runs, anyQ, atRet
 use types.Kit.{use2, use3, split, join, pick, rewrite, fsplit, fjoin, feqL, suffices, frame, await, done}
 use types.Kit as Kit
 use types.Part.{agg, rep, whole, sub, look-in}
-use types.Run.{look, init, forget, stop, hop, fld, from, load, lit, addr, of-opd, bin, and-then, no-more, assigns, land}
+use types.Run.{look, init, stop, hop, fld, from, load, lit, addr, of-opd, bin, and-then, no-more, assigns, land}
 use types.Run.{first, skips, branches, exec, returns, returns-within, enter, alloc1, alloc0, params1, pass1, pass0}
 use types.Run.{free1, free0}
 use types.SemTy.{cells, Arr}
@@ -63,7 +63,7 @@ use Rattle.map.proofs.Answer as B
 use Rattle.map.proofs.Answer.Laws as B′
 use Rattle.records.specs.declared.Node.{Node}
 use Rattle.records.specs.Records.{nodeTable}
-use Rattle.records.proofs.Heads.{vals, slice-last, ref-last, relends}
+use Rattle.records.proofs.Heads.{frees-local, vals, slice-last, ref-last, relends}
 use Rattle.records.proofs.Refused.{crowded}
 use Rattle.records.proofs.Arrays.{zeros, numbers, typed-zeros, lies-in, lies-out, big-lit}
 use Rattle.records.proofs.Node as T
@@ -273,14 +273,11 @@ module _ {M : Type 1} (𝓤 : URA M) (H : Heap 𝓤) (A : Atoms 𝓤) (W : Given
     refuses many =
         assigns ! (agg ! (and-then ! (lit ! tt) (and-then ! (lit ! tt) (no-more !)))) (from ! (stop !))
         (init ! 44 refl (LL.lawful B.the-type B′.the-laws 𝓤 H A W .typed turned-down _ is-down .0)) $
-        returns-within ! Post refl (look ! 44 refl) $ forget ! 42 refl $ forget ! 40 refl $ forget ! 38 refl $ forget !
-        36 refl $ forget ! 34 refl $ forget ! 30 refl $ forget ! 28 refl $ forget ! 44 refl $
-        move ! (44 ∷ 45 ∷ []) $ free1 ! $ move ! (42 ∷ 43 ∷ []) $ free1 ! $ move ! (40 ∷ 41 ∷ []) $ free1 ! $ move !
-        (38 ∷ 39 ∷ []) $ free1 ! $ move ! (36 ∷ 37 ∷ []) $ free1 ! $ move ! (34 ∷ 35 ∷ []) $ free1 ! $ move !
-        (32 ∷ 33 ∷ []) $ free1 ! $ move ! (30 ∷ 31 ∷ []) $ free1 ! $ move ! (28 ∷ 29 ∷ []) $ free1 ! $ move !
-        (26 ∷ 27 ∷ []) $ free1 ! $ move ! (24 ∷ 25 ∷ []) $ free1 ! $ move ! (22 ∷ 23 ∷ []) $ free1 ! $ move !
-        (20 ∷ 21 ∷ []) $ free1 ! $ move ! (18 ∷ 19 ∷ []) $ free1 ! $ move ! (16 ∷ 17 ∷ []) $ free1 ! $ move !
-        (14 ∷ 15 ∷ []) $ free1 ! $ move ! (12 ∷ 13 ∷ []) $ free1 ! $ move ! (10 ∷ 11 ∷ []) $ free1 ! $ free0 ! $
+        returns-within ! Post refl (look ! 44 refl) $ keep ! (44 ∷ 45 ∷ 42 ∷ 43 ∷ 40 ∷ 41 ∷ 38 ∷ 39 ∷ 36 ∷ 37 ∷ 34 ∷
+        35 ∷ 32 ∷ 33 ∷ 30 ∷ 31 ∷ 28 ∷ 29 ∷ 26 ∷ 27 ∷ 24 ∷ 25 ∷ 22 ∷ 23 ∷ 20 ∷ 21 ∷ 18 ∷ 19 ∷ 16 ∷ 17 ∷ 14 ∷ 15 ∷ 12 ∷
+        13 ∷ 10 ∷ 11 ∷ 0 ∷ 1 ∷ 2 ∷ 3 ∷ 4 ∷ 5 ∷ 6 ∷ 7 ∷ 8 ∷ 9 ∷ []) $ frees-local ! $ frees-local ! $ frees-local ! $
+        frees-local ! $ frees-local ! $ frees-local ! $ free1 ! $ frees-local ! $ frees-local ! $ free1 ! $ free1 ! $
+        free1 ! $ free1 ! $ free1 ! $ free1 ! $ free1 ! $ free1 ! $ free1 ! $ free0 ! $
         move ! (0 ∷ []) $ use1 W (‵ (finally R γ ys)) (slice-last 𝓤 H A W (named 0) κ₀ R (x γ ys) vx) $ move !
         (1 ∷ []) $ use1 W (‵ (finally i64 (e .name) (e .now)))
         (slice-last 𝓤 H A W (named 1) κ₁ i64 e (vals e)) $ move ! (2 ∷ []) $ use1 W
@@ -349,17 +346,12 @@ module _ {M : Type 1} (𝓤 : URA M) (H : Heap 𝓤) (A : Atoms 𝓤) (W : Given
         (slice-back 𝓤 H A W i64 (ν ∷ []) ε (zs .1 .0) (length (zeros 4000)) l₆ 0) $ await ! tt $ use1 W
         (‵ (fat fullShare (numbers 4000) l₆ 0 (only (array-vals (sint-vals w64) (zs .1 .0)))))
         (lies-out 𝓤 H A W 4000 (length (zeros 4000)) l₆ long-zeros (zs .1 .0)) $
-        returns ! (look ! 47 refl) $ forget ! 47 refl $ forget ! 45 refl $ forget ! 43 refl $ forget ! 41 refl $
-        forget ! 39 refl $ forget ! 37 refl $ forget ! 0 refl $ forget ! 34 refl $ forget ! 32 refl $ forget ! 30
-        refl $ forget ! 28 refl $ forget ! 26 refl $ forget ! 24 refl $ forget ! 22 refl $ forget ! 20 refl $ forget !
-        18 refl $ forget ! 16 refl $ forget ! 14 refl $
-        move ! (47 ∷ 48 ∷ []) $ free1 ! $ move ! (45 ∷ 46 ∷ []) $ free1 ! $ move ! (43 ∷ 44 ∷ []) $ free1 ! $ move !
-        (41 ∷ 42 ∷ []) $ free1 ! $ move ! (39 ∷ 40 ∷ []) $ free1 ! $ move ! (37 ∷ 38 ∷ []) $ free1 ! $ move !
-        (0 ∷ 36 ∷ []) $ free1 ! $ move ! (33 ∷ 34 ∷ []) $ free1 ! $ move ! (31 ∷ 32 ∷ []) $ free1 ! $ move !
-        (29 ∷ 30 ∷ []) $ free1 ! $ move ! (27 ∷ 28 ∷ []) $ free1 ! $ move ! (25 ∷ 26 ∷ []) $ free1 ! $ move !
-        (23 ∷ 24 ∷ []) $ free1 ! $ move ! (21 ∷ 22 ∷ []) $ free1 ! $ move ! (19 ∷ 20 ∷ []) $ free1 ! $ move !
-        (17 ∷ 18 ∷ []) $ free1 ! $ move ! (15 ∷ 16 ∷ []) $ free1 ! $ move ! (13 ∷ 14 ∷ []) $ free1 ! $ free0 ! $
-        keep ! (5 ∷ 4 ∷ 3 ∷ 2 ∷ 0 ∷ 11 ∷ 10 ∷ 9 ∷ 7 ∷ 6 ∷ 12 ∷ []) $ by !
+        returns ! (look ! 47 refl) $ keep ! (47 ∷ 48 ∷ 45 ∷ 46 ∷ 43 ∷ 44 ∷ 41 ∷ 42 ∷ 39 ∷ 40 ∷ 37 ∷ 38 ∷ 0 ∷ 36 ∷ 34
+        ∷ 35 ∷ 32 ∷ 33 ∷ 30 ∷ 31 ∷ 28 ∷ 29 ∷ 26 ∷ 27 ∷ 24 ∷ 25 ∷ 22 ∷ 23 ∷ 20 ∷ 21 ∷ 18 ∷ 19 ∷ 16 ∷ 17 ∷ 14 ∷ 15 ∷ 6
+        ∷ 5 ∷ 4 ∷ 3 ∷ 1 ∷ 12 ∷ 11 ∷ 10 ∷ 8 ∷ 7 ∷ 13 ∷ []) $ frees-local ! $ frees-local ! $ frees-local ! $
+        frees-local ! $ frees-local ! $ frees-local ! $ frees-local ! $ frees-local ! $ frees-local ! $ frees-local !
+        $ frees-local ! $ frees-local ! $ frees-local ! $ frees-local ! $ frees-local ! $ frees-local ! $ frees-local
+        ! $ frees-local ! $ free0 ! $ by !
         (lands r w (zs .0) (zs .1 .1 .0) (zs .1 .1 .1 .0) (zs .1 .1 .1 .1 .0) ends ln le lo))))))))))))
 
     tested : Sq W Before (runs C Λ En body.s-3 Then)

@@ -60,7 +60,7 @@ use Rattle.lists.specs.Tables.{table}
 use Rattle.lists.proofs.Bools.{which}
 use Rattle.records.specs.declared.Node.{Node}
 use Rattle.records.specs.Records.{rowNode}
-use Rattle.records.proofs.Heads.{vals}
+use Rattle.records.proofs.Heads.{frees-local, vals}
 use Rattle.records.proofs.Packing.{noNode, place-fits, unpack-turn, unpack-end}
 use Rattle.records.proofs.Node as T
 use Rattle.records.proofs.Node.Laws as T′
@@ -206,11 +206,9 @@ module _ {M : Type 1} (𝓤 : URA M) (H : Heap 𝓤) (A : Atoms 𝓤) (W : Given
         rewrite ! 6 (λ (t : Bool). ‵ (fat fullShare tyBool l₆ 0 (vbool t))) over refl $
         leaves-loop ! (load ! (from ! (stop !)) (look ! 6 refl)) $ exec ! C Λ En body.t-3 (atRet En Post) $
         assigns ! (of-opd ! (unit-lit !)) (from ! (stop !)) (init ! 18 refl (tt, tt)) $
-        returns ! (look ! 18 refl) $ forget ! 6 refl $ forget ! 8 refl $ forget ! 12 refl $ forget ! 14 refl $ forget !
-        16 refl $ forget ! 18 refl $
-        move ! (18 ∷ 19 ∷ []) $ free1 ! $ move ! (16 ∷ 17 ∷ []) $ free1 ! $ move ! (14 ∷ 15 ∷ []) $ free1 ! $ move !
-        (12 ∷ 13 ∷ []) $ free1 ! $ move ! (10 ∷ 11 ∷ []) $ free1 ! $ move ! (8 ∷ 9 ∷ []) $ free1 ! $ move !
-        (6 ∷ 7 ∷ []) $ free1 ! $ move ! (4 ∷ 5 ∷ []) $ free1 ! $ free0 ! $
+        returns ! (look ! 18 refl) $ keep ! (18 ∷ 19 ∷ 16 ∷ 17 ∷ 14 ∷ 15 ∷ 12 ∷ 13 ∷ 10 ∷ 11 ∷ 8 ∷ 9 ∷ 6 ∷ 7 ∷ 4 ∷ 5
+        ∷ 0 ∷ 1 ∷ 2 ∷ 3 ∷ []) $ frees-local ! $ frees-local ! $ frees-local ! $ frees-local ! $ free1 ! $ frees-local
+        ! $ frees-local ! $ free1 ! $ free0 ! $
         by ! (exits (j .zs) (j .past ∙ unpack-end (l .now) ys (j .i) (ltb-false (j .i) n over)) (j .long))
 
     -- a turn that writes a row
