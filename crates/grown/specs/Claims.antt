@@ -68,7 +68,7 @@ PiecesCounted = (m : Map) → Pieces m
 
 -- ---- numbers are never given twice
 
--- one table: the numbers after are some of those before, in their order, and then next, next + 1, .. up to then
+-- one table: the numbers after are some of those before, in their order, and then next, next + 1, .. below then
 pub record Given (before : List ℕ) (next : ℕ) (after : List ℕ) (then : ℕ) : Type 0 where
   pub rises : next ≤ then
   pub stays : ℕ → Bool
