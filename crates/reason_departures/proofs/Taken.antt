@@ -1,18 +1,19 @@
 -- A direction that is taken at a node, by position and in the map. Assumes nothing.
 use mathlib.Core.Path.{_≡_, sym, ap, ap₂, _∙_}
 use mathlib.Core.Logic.{⊎-elim}
-use mathlib.Core.Bool.{Bool, not, _&&_}
+use mathlib.Core.Bool.{Bool, not, _&&_, _||_}
 use mathlib.Core.List.{List}
-use Prim.Native.Nat.{ℕ, _*_, _/_, _<_}
+use Prim.Native.Nat.{ℕ, _*_, _/_, _<_, _≤_}
 use native.Mathlib.Omega.{arith}
 use lib.IntN.{ℤ, pos}
 use Rattle.lists.specs.Tests.{same}
 use Rattle.lists.specs.Scans.{anyOf, keep}
 use Rattle.lists.proofs.Bools.{eq3, same-false}
 use Rattle.plane.specs.Directions.{Way, sameWay}
+use Rattle.curves.specs.Curves.{Curve, startWay, endWay}
 use Rattle.planar_maps.specs.Map.{Dart}
 use Rattle.map.specs.Darts.{departures, way}
-use Rattle.map.specs.Reasons.{wayTaken}
+use Rattle.map.specs.Reasons.{wayTaken, directionTaken}
 use Rattle.map_rows.specs.Rows.{edgeAt, edgeMap, EdgeRows}
 use Rattle.tables.proofs.Order.{lt-or-ge}
 use Rattle.darts.specs.Positions.{dartAt, wayAt}
@@ -20,9 +21,14 @@ use Rattle.darts.proofs.Positions.{way-is}
 use Rattle.links.specs.Linking.{positions, leavesNode}
 use Rattle.links.proofs.FirstMet.{position-below}
 use Rattle.links.proofs.Departures.{departures-map}
-use Rattle.reason_departures.specs.Turning.{Own}
+use Rattle.reason_departures.specs.Turning.{wayTakenAt, directionTakenAt}
 use Rattle.reason_departures.proofs.Scans.{any-map, any-keep, any-same}
 use Rattle.reason_departures.proofs.Ends.{same-row}
+
+-- e is the number of edge row `own`, and of none where `own` is past them all
+pub record Own (l : List ℤ) (n own e : ℕ) : Type 0 where
+  pub is : own < n → edgeAt l own .number ≡ e
+  pub none : n ≤ own → (i : ℕ) → i < n → edgeAt l i .number ≡ e → ⊥
 
 module _ {l : List ℤ} {n : ℕ} (t : EdgeRows l n) where
   own-row : (own e : ℕ) → Own l n own e → (i : ℕ) → i < n → same (edgeAt l i .number) e ≡ same i own
@@ -40,9 +46,7 @@ module _ {l : List ℤ} {n : ℕ} (t : EdgeRows l n) where
       ∙ any-same (λ p. leavesNode l (pos a) p && f (dartAt l p)) (λ p. leavesNode l (pos a) p && g p) (positions n)
       (λ p m. ap (λ (b : Bool). leavesNode l (pos a) p && b) (h p (position-below n p m)))
 
-  pub taken-is : (own e a : ℕ) (v : Way) → Own l n own e
-      → anyOf (λ p. leavesNode l (pos a) p && not (same (p / 2) own) && sameWay (wayAt l p) v) (positions n)
-      ≡ wayTaken (edgeMap l n) e a v
+  taken-is : (own e a : ℕ) (v : Way) → Own l n own e → wayTakenAt l n own (pos a) v ≡ wayTaken (edgeMap l n) e a v
   taken-is own e a v o =
       any-same (λ p. leavesNode l (pos a) p && not (same (p / 2) own) && sameWay (wayAt l p) v)
       (λ p. leavesNode l (pos a) p && (not (same (p / 2) own) && sameWay (wayAt l p) v)) (positions n)
@@ -52,3 +56,11 @@ module _ {l : List ℤ} {n : ℕ} (t : EdgeRows l n) where
       (λ p. not (same (p / 2) own) && sameWay (wayAt l p) v)
       (λ p h. ap₂ (λ (b : Bool) (w : Way). not b && sameWay w v) (own-row own e o (p / 2) (omega arith))
       (way-is t p h)))
+
+  -- both ends, by the numbers of the nodes and of the edge
+  pub direction-is : (own e : ℕ) (c : Curve) {a b : ℕ} {u v : ℤ} → Own l n own e → u ≡ pos a → v ≡ pos b
+      → directionTakenAt l n own u v c ≡ directionTaken (edgeMap l n) e a b c
+  unfolding directionTaken
+  direction-is own e c {a} {b} o p q =
+      ap₂ (λ (x y : ℤ). directionTakenAt l n own x y c) p q
+      ∙ ap₂ _||_ (taken-is own e a (startWay c) o) (taken-is own e b (endWay c) o)

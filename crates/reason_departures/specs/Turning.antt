@@ -1,12 +1,13 @@
 -- Turns at a node by position, and two edges joined.
-use mathlib.Core.Path.{_≡_}
 use mathlib.Core.Bool.{Bool, not, _&&_, _||_}
 use mathlib.Core.List.{List, [], _∷_}
-use Prim.Native.Nat.{ℕ, _+_, _*_, _<_, _≤_}
+use Prim.Native.Nat.{ℕ, _+_, _*_, _/_}
 use lib.IntN.{ℤ, pos}
 use lib.ListN.{length, getD}
 use Rattle.lists.specs.Tests.{same}
-use Rattle.lists.specs.Scans.{keep, isSome}
+use Rattle.lists.specs.Scans.{anyOf, keep, isSome}
+use Rattle.plane.specs.Directions.{Way, sameWay}
+use Rattle.curves.specs.Curves.{Curve, startWay, endWay}
 use Rattle.rotation.specs.Law.{lawfulNext}
 use Rattle.map.specs.Limits.{edgeWidth}
 use Rattle.map.specs.Rows.{Map, edge}
@@ -14,14 +15,17 @@ use Rattle.map.specs.Darts.{edgeEnds}
 use Rattle.map.specs.Edits.{sharedNodes, joint}
 use Rattle.map.specs.Reasons.{Reasons}
 use Rattle.tables.specs.Tables.{sameZ}
-use Rattle.map_rows.specs.Rows.{edgeAt}
-use Rattle.darts.specs.Positions.{sideCell, wayWith}
+use Rattle.darts.specs.Positions.{sideCell, wayAt, wayWith}
 use Rattle.links.specs.Linking.{positions, leavesNode}
 
--- e is the number of edge row `own`, and of none where `own` is past them all
-pub record Own (l : List ℤ) (n own e : ℕ) : Type 0 where
-  pub is : own < n → edgeAt l own .number ≡ e
-  pub none : n ≤ own → (i : ℕ) → i < n → edgeAt l i .number ≡ e → ⊥
+-- a departure from the node, but of edge row `own`, has the direction v
+abbrev pub wayTakenAt : List ℤ → ℕ → ℕ → ℤ → Way → Bool
+wayTakenAt l n own node v = anyOf (λ p. leavesNode l node p && not (same (p / 2) own) && sameWay (wayAt l p) v)
+    (positions n)
+
+-- another edge than that of row `own` departs from u in the direction of the curve, or from v in that of its reverse
+abbrev pub directionTakenAt : List ℤ → ℕ → ℕ → ℤ → ℤ → Curve → Bool
+directionTakenAt l n own u v c = wayTakenAt l n own u (startWay c) || wayTakenAt l n own v (endWay c)
 
 -- the first departure met clockwise from the departure p, where edge row `own` has the curve c
 abbrev pub turnsAt : List ℤ → ℕ → ℕ → List ℤ → ℕ → ℕ

@@ -2,16 +2,17 @@
 ghost use mathlib.Core.Path.{_≡_};
 ghost use mathlib.Core.Bool.{true, false, not, _&&_};
 ghost use Prim.Native.Nat.{ℕ, _+_, _*_, _<_, _≤_};
-ghost use lib.IntN.{pos};
+ghost use lib.IntN.{pos, natAbs};
 ghost use lib.ListN.{length};
+ghost use lib.Signed.{nonNeg};
 ghost use Rattle.lists.specs.Tests.{same};
 ghost use Rattle.lists.specs.Scans.{anyOf};
 ghost use Rattle.curves.specs.Curves.{Run, curveOf};
 ghost use Rattle.map.specs.Limits.{edgeWidth, maxEdges};
-ghost use Rattle.map.specs.Reasons.{edgeIsolated, directionTaken, orderChanges, firstReason};
+ghost use Rattle.map.specs.Reasons.{edgeIsolated, orderChanges, firstReason};
 ghost use Rattle.map_rows.specs.Rows.{edgeAt, edgeMap, EdgeRows};
 ghost use Rattle.links.specs.Linking.{positions, leavesNode};
-ghost use Rattle.reason_departures.specs.Turning.{Own, turnsAt, endsAt, joinsAt, jointReasons};
+ghost use Rattle.reason_departures.specs.Turning.{directionTakenAt, turnsAt, endsAt, joinsAt, jointReasons};
 
 // ---- 9: isolated edges
 
@@ -31,8 +32,7 @@ pub fn edge_isolated(edges: &[i64], count: usize, i: usize) -> bool
 // is the row of the edge that has the curve, and past them all for a new one.
 pub fn direction_taken(edges: &[i64], count: usize, own: usize, u: i64, v: i64, c: &[i64]) -> bool
     requires { ⌜ EdgeRows (now edges) count × Run (now c) ⌝ }
-    ensures { λ r. ⌜ ((e a b : ℕ) → Own (now (edges .entry)) count own e → u ≡ pos a → v ≡ pos b
-        → r ≡ directionTaken (edgeMap (now (edges .entry)) count) e a b (curveOf (now (c .entry)))) ⌝ }
+    ensures { λ r. ⌜ r ≡ directionTakenAt (now (edges .entry)) count own u v (curveOf (now (c .entry))) ⌝ }
 {
     if links::way_taken(edges, count, u, own, darts::first_step(c, false)) {
         return true;
@@ -121,9 +121,9 @@ pub fn joint_reason(edges: &[i64], count: usize, i: usize, j: usize) -> u64
 
 // Whether edge row j ends at the node, which has exactly two edge ends.
 pub fn joins_at(edges: &[i64], count: usize, j: usize, node: i64) -> bool
-    requires { ⌜ EdgeRows (now edges) count × (j < count) ⌝ }
-    ensures { λ r. ⌜ ((k : ℕ) → node ≡ pos k
-        → r ≡ joinsAt (edgeMap (now (edges .entry)) count) (edgeAt (now (edges .entry)) j .number) k) ⌝ }
+    requires { ⌜ EdgeRows (now edges) count × (j < count) × (nonNeg node ≡ true) ⌝ }
+    ensures { λ r. ⌜
+        r ≡ joinsAt (edgeMap (now (edges .entry)) count) (edgeAt (now (edges .entry)) j .number) (natAbs node) ⌝ }
 {
     if !ends_at(edges, j, node) {
         return false;

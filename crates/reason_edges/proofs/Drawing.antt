@@ -30,7 +30,7 @@ use Rattle.map.proofs.Laws.{formed-is}
 use Rattle.map.proofs.Reasons.{first-hit, first-miss, first-zero, first-append, first-after}
 use Rattle.reason_curves.proofs.Maps.{meeting-alike, sent-is}
 use Rattle.reason_curves.proofs.Others.{edges-all}
-use Rattle.reason_departures.specs.Turning.{Own}
+use Rattle.reason_departures.proofs.Taken.{Own}
 use Rattle.reason_departures.proofs.Alone.{taken-alone}
 use Rattle.reason_corners.specs.CornerFaces.{cornerCell}
 use Rattle.reason_corners.proofs.CornerFaces.{corners-differ}

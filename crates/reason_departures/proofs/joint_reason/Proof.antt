@@ -3,8 +3,9 @@ use borrow.Author.Needs.{sfits-of}
 use mathlib.Core.Path.{_≡_, sym, ap, ap₂, _∙_}
 use mathlib.Core.Bool.{Bool, cond, not, _||_}
 use Prim.Native.Nat.{_+_, _*_}
-use lib.IntN.{pos}
+use lib.IntN.{ℤ, pos, natAbs}
 use lib.ListN.{getD}
+use lib.Signed.{nonNeg}
 use mir.Syntax.{w64}
 use mir.Val.{toZ, ofZ}
 use mir.Facts.{toZ-ofZ}
@@ -17,6 +18,21 @@ use borrow.Author.Needs.{needs}
 use Rattle.reason_departures.proofs.joint_reason.Statement.{statement}
 use Rattle.reason_departures.proofs.joint_reason.Tie as tie
 
+-- the nodes of row i, as they were read
+start-read : (c : tie.After-v)
+    → let a = c .before .before .args in
+    toZ w64 (ofZ w64 (getD (a .edges .now) (a .i * 32 + 1) (pos 0)))
+    ≡ pos (edge (edgeMap (a .edges .now) (a .count)) (edgeAt (a .edges .now) (a .i) .number) .start)
+start-read c = let s = c .before .before in
+    toZ-ofZ {w = w64} (sfits-of (c .before .u .given)) ∙ start-cell (s .pre .0) (s .args .i) (s .pre .1)
+
+end-read : (c : tie.After-v)
+    → let a = c .before .before .args in
+    toZ w64 (ofZ w64 (getD (a .edges .now) (a .i * 32 + 2) (pos 0)))
+    ≡ pos (edge (edgeMap (a .edges .now) (a .count)) (edgeAt (a .edges .now) (a .i) .number) .end)
+end-read c = let s = c .before .before in
+    toZ-ofZ {w = w64} (sfits-of (c .v .given)) ∙ end-cell (s .pre .0) (s .args .i) (s .pre .1)
+
 -- the first test: one edge, or no node shared
 apart : (c : tie.After-ends-at2) → (let s = c .before .before .before .before in let m =
     edgeMap (s .args .edges .now) (s .args .count) in let a = edgeAt (s .args .edges .now) (s .args .i) .number in
@@ -25,19 +41,16 @@ apart : (c : tie.After-ends-at2) → (let s = c .before .before .before .before 
     || not ((same (edge m a .start) (edge m b .start) || same (edge m a .start) (edge m b .end))
     || (same (edge m a .end) (edge m b .start) || same (edge m a .end) (edge m b .end))))
 apart c =
-    let s = c .before .before .before .before in
+    let r = c .before .before in
+    let s = r .before .before in
     let x = s .args in
     let l = x .edges .now in
     let t = s .pre .0 in
-    let m = edgeMap l (x .count) in
-    let a = edgeAt l (x .i) .number in
-    let u : toZ w64 (ofZ w64 (getD l (x .i * 32 + 1) (pos 0))) ≡ pos (edge m a .start) =
-    toZ-ofZ {w = w64} (sfits-of (c .before .before .before .u .given)) ∙ start-cell t (x .i) (s .pre .1) in
-    let v : toZ w64 (ofZ w64 (getD l (x .i * 32 + 2) (pos 0))) ≡ pos (edge m a .end) =
-    toZ-ofZ {w = w64} (sfits-of (c .before .before .v .given)) ∙ end-cell t (x .i) (s .pre .1) in
+    let e = edge (edgeMap l (x .count)) (edgeAt l (x .i) .number) in
     ap₂ (λ (p q : Bool). p || not q) (same-row t (x .i) (x .j) (s .pre .1) (s .pre .2))
-    (ap₂ _||_ (c .before .ends-at .ensures ∙ ap (endsAt l (x .j)) u ∙ ends-is t (x .j) (s .pre .2) (edge m a .start))
-    (c .ends-at2 .ensures ∙ ap (endsAt l (x .j)) v ∙ ends-is t (x .j) (s .pre .2) (edge m a .end)))
+    (ap₂ _||_ (c .before .ends-at .ensures ∙ ap (endsAt l (x .j)) (start-read r)
+    ∙ ends-is t (x .j) (s .pre .2) (e .start))
+    (c .ends-at2 .ensures ∙ ap (endsAt l (x .j)) (end-read r) ∙ ends-is t (x .j) (s .pre .2) (e .end)))
 
 -- the second: a node to join at
 joined : (c : tie.After-joins-at2) → (let s = c .before .before .before .before .before .before .before in let m =
@@ -45,19 +58,23 @@ joined : (c : tie.After-joins-at2) → (let s = c .before .before .before .befor
     let b = edgeAt (s .args .edges .now) (s .args .j) .number in
     c .before .joins-at .result || c .joins-at2 .result ≡ joinsAt m b (edge m a .end) || joinsAt m b (edge m a .start))
 joined c =
-    let s = c .before .before .before .before .before .before .before in
-    let x = s .args in
+    let r = c .before .before .before .before .before in
+    let x = r .before .before .args in
     let l = x .edges .now in
-    let t = s .pre .0 in
-    let m = edgeMap l (x .count) in
-    let a = edgeAt l (x .i) .number in
-    let u : toZ w64 (ofZ w64 (getD l (x .i * 32 + 1) (pos 0))) ≡ pos (edge m a .start) =
-    toZ-ofZ {w = w64} (sfits-of (c .before .before .before .before .before .before .u .given))
-    ∙ start-cell t (x .i) (s .pre .1) in
-    let v : toZ w64 (ofZ w64 (getD l (x .i * 32 + 2) (pos 0))) ≡ pos (edge m a .end) =
-    toZ-ofZ {w = w64} (sfits-of (c .before .before .before .before .before .v .given))
-    ∙ end-cell t (x .i) (s .pre .1) in
-    ap₂ _||_ (c .before .joins-at .ensures (edge m a .end) v) (c .joins-at2 .ensures (edge m a .start) u)
+    let here : ℤ → Bool = λ z. joinsAt (edgeMap l (x .count)) (edgeAt l (x .j) .number) (natAbs z) in
+    ap₂ _||_ (c .before .joins-at .ensures ∙ ap here (end-read r)) (c .joins-at2 .ensures ∙ ap here (start-read r))
+
+joins-at-requires : tie.Need-joins-at-requires
+joins-at-requires c κs =
+    let r = c .before .before .before in
+    let s = r .before .before in
+    (s .pre .0, s .pre .2, ap nonNeg (end-read r))
+
+joins-at-requires-2 : tie.Need-joins-at-requires-2
+joins-at-requires-2 c κs =
+    let r = c .before .before .before .before in
+    let s = r .before .before in
+    (s .pre .0, s .pre .2, ap nonNeg (start-read r))
 
 returns : tie.Need-returns
 unfolding same
@@ -101,6 +118,7 @@ joint-reason-spec =
     (λ c. search needs) (λ c. search needs) (λ c. search needs) (λ c. search needs) (λ c. search needs)
     (λ c. search needs) (λ c. search needs) (λ c. search needs) (λ c κs. search needs) (λ c κs. search needs)
     returns
-    (λ c κs. search needs) (λ c κs. search needs)
+    joins-at-requires
+    joins-at-requires-2
     returns-2
     returns-3)

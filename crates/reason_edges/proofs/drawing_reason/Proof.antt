@@ -13,6 +13,7 @@ use Rattle.map_rows.proofs.Rows.{node-row-of}
 use Rattle.head.proofs.Words.{nodes-natural, nodes-read, edges-natural, edges-read}
 use Rattle.outcomes.proofs.Formed.{counted, node-rows}
 use Rattle.reason_curves.specs.Sent.{sentReasons}
+use Rattle.reason_departures.proofs.Taken.{direction-is}
 use Rattle.reason_edges.proofs.Drawing.{number-cell, run-early, rows-read, own-none, drawn-early, drawn-taken}
 use Rattle.reason_edges.proofs.Drawing.{drawn-differ, drawn-meets}
 use Rattle.reason_edges.proofs.drawing_reason.Statement.{statement}
@@ -55,7 +56,8 @@ told c =
     let s = t .before .before .before .before in
     let a = s .args in
     let f = s .pre .0 in
-    c .direction-taken .ensures _ _ _ (own-none f (counts t .1))
+    c .direction-taken .ensures
+    ∙ direction-is (rows-read f (counts t .1)) _ _ (curveOf (a .c .now)) (own-none f (counts t .1))
     (sent (c .before .before .direction-taken-arg .given) ∙ number-cell (node-rows f) (a .u) (s .pre .1))
     (sent (c .before .direction-taken-arg2 .given) ∙ number-cell (node-rows f) (a .v) (s .pre .2))
 
