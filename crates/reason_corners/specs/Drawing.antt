@@ -15,10 +15,10 @@ use Rattle.curves.specs.Curves.{curveOf, startWay}
 use Rattle.curves.specs.Edits.{course}
 use Rattle.rotation.specs.Law.{firstClockwise}
 use Rattle.map.specs.Limits.{maxEdges}
-use Rattle.map.specs.Rows.{Map}
+use Rattle.map.specs.Rows.{Map, counts}
 use Rattle.map.specs.Darts.{next}
 use Rattle.map.specs.Links.{instead}
-use Rattle.map_rows.specs.Rows.{edgeAt, edgeMap, EdgeRows}
+use Rattle.map_rows.specs.Rows.{edgeAt, edgesOf, edgeMap, EdgeRows}
 use Rattle.darts.specs.Positions.{odd, dartAt, wayWith}
 use Rattle.links.specs.Linking.{positions, leavesNode}
 use Rattle.reason_corners.specs.declared.Corners.{Corners}
@@ -26,6 +26,10 @@ use Rattle.reason_corners.specs.declared.Corners.{Corners}
 -- the directed edge at a position, where the row e has the number new
 abbrev pub drawnDart : List ℤ → ℕ → ℕ → ℕ → Dart
 drawnDart l e new p = record { edge = cond (same (p / 2) e) new (edgeAt l (p / 2) .number); back = odd p }
+
+-- the rows' edges alone, and the number of the next one
+abbrev pub edgesNumbered : List ℤ → ℕ → ℕ → Map
+edgesNumbered l e new = record { nodes = []; edges = edgesOf l e; faces = []; next = counts 0 new 0 }
 
 -- the rows' departures from the node
 abbrev pub departing : List ℤ → ℕ → ℤ → List ℕ

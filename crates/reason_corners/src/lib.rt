@@ -6,23 +6,21 @@ ghost use mathlib.Core.Path.{_≡_};
 ghost use mathlib.Core.Bool.{true, false, not, cond};
 ghost use Rattle.lists.specs.Tests.{same};
 ghost use Rattle.planar_maps.specs.Map.{fwd, bwd};
-ghost use Rattle.tables.specs.Tables.{sameZ, numbered};
+ghost use Rattle.tables.specs.Tables.{sameZ};
 ghost use Rattle.plane.specs.Points.{InRange};
 ghost use Rattle.plane.specs.Directions.{wayTo};
 ghost use Rattle.curves.specs.Curves.{Run, curveOf, startWay};
 ghost use Rattle.curves.specs.Edits.{course};
-ghost use Rattle.map.specs.Limits.{maxEdges};
+ghost use Rattle.map.specs.Limits.{maxEdges, lastNumber};
 ghost use Rattle.map.specs.Rows.{Map};
 ghost use Rattle.map.specs.Darts.{next, ring, among};
 ghost use Rattle.map.specs.Edits.{splitsFace};
-ghost use Rattle.map_rows.specs.Rows.{NodeRow, EdgeRows, nodeAt, edgesOf};
+ghost use Rattle.map_rows.specs.Rows.{NodeRow, EdgeRows, nodeAt};
 ghost use Rattle.darts.specs.Positions.{wayWith};
 ghost use Rattle.reason_corners.specs.CornerFaces.{cornerCell};
-ghost use Rattle.reason_corners.specs.Drawing.{drawnDart, cornerAt, endCorner, firstOf, Linkable, Joined};
-ghost use mathlib.Core.List.{map};
-ghost use Prim.Native.Nat.{ℕ, _+_, _*_, _≤_, _<_};
-ghost use mathlib.Core.List.{map};
-ghost use Prim.Native.Nat.{ℕ, _+_, _*_, _≤_, _<_};
+ghost use Rattle.reason_corners.specs.Drawing.{drawnDart, edgesNumbered, cornerAt, endCorner, firstOf, Linkable};
+ghost use Rattle.reason_corners.specs.Drawing.{Joined};
+ghost use Prim.Native.Nat.{ℕ, suc, _+_, _*_, _≤_, _<_};
 
 // The corner face of v: left of the first existing departure met turning clockwise from it; at an isolated node, the
 // containing face.
@@ -176,14 +174,14 @@ fn rings_differ(edges: &[i64], e: usize, k: Corners) -> bool
     true
 }
 
-// Whether a new edge with the curve c from node row u to node row v would lie on another ring than its reverse.
+// Whether a new edge with the curve c from node row u to node row v would lie on another ring than its reverse. Its
+// number makes no difference: here it is one past the last.
 pub fn splits_face(nodes: &[i64], edges: &[i64], e: usize, u: usize, v: usize, c: &[i64]) -> bool
     requires { ⌜ NodeRow (now nodes) u × NodeRow (now nodes) v × EdgeRows (now edges) e × (e ≤ maxEdges)
         × Run (now c) ⌝ }
-    ensures { λ r. ⌜ ((m : _) → m .edges ≡ edgesOf (now (edges .entry)) e
-        → numbered 1 (m .next .edges) (map (λ x. x .number) (m .edges)) ≡ true
-        → r ≡ splitsFace (nodeAt (now (nodes .entry)) u .number) (nodeAt (now (nodes .entry)) v .number)
-        (curveOf (now (c .entry))) m) ⌝ }
+    ensures { λ r. ⌜
+        r ≡ splitsFace (nodeAt (now (nodes .entry)) u .number) (nodeAt (now (nodes .entry)) v .number)
+        (curveOf (now (c .entry))) (edgesNumbered (now (edges .entry)) e (suc lastNumber)) ⌝ }
 {
     let from = nodes[u * map::NODE_WIDTH];
     let to = nodes[v * map::NODE_WIDTH];

@@ -1,17 +1,18 @@
 -- `reason_corners::splits_face` meets its contract. Assumes nothing.
 use borrow.Author.Needs.{needs}
-use mathlib.Core.Path.{_≡_, sym, ap, ap₂, _∙_, subst}
+use mathlib.Core.Path.{_≡_, refl, sym, ap, ap₂, _∙_, subst}
 use mathlib.Core.Bool.{false}
-use Prim.Native.Nat.{ℕ, _+_, _*_, _<_}
+use Prim.Native.Nat.{ℕ, suc, _+_, _*_, _<_}
 use native.Mathlib.Omega.{arith}
 use lib.IntN.{pos}
 use Rattle.integers.specs.Signs.{sent}
 use Rattle.curves.specs.Curves.{curveOf, startWay}
+use Rattle.map.specs.Limits.{lastNumber}
 use Rattle.map.specs.Links.{cornerFace}
 use Rattle.map.specs.Edits.{drawn, splitsFace}
 use Rattle.map_rows.specs.Rows.{nodeAt}
 use Rattle.map_rows.proofs.Rows.{node-cells}
-use Rattle.reason_corners.specs.Drawing.{startCorner, endCorner, Joined}
+use Rattle.reason_corners.specs.Drawing.{edgesNumbered, startCorner, endCorner, Joined}
 use Rattle.reason_corners.proofs.Ends.{corner-below, end-below}
 use Rattle.reason_corners.proofs.Drawn.{fresh-number, joined}
 use Rattle.reason_corners.proofs.splits_face.Statement.{statement}
@@ -49,7 +50,7 @@ rings-differ-requires c κs =
 
 returns : tie.Need-returns
 unfolding splitsFace
-returns c = λ m E ok.
+returns c =
     let s = c .before .before .before .before .before in
     let a = s .args in
     let k = corners (c .before) in
@@ -57,8 +58,9 @@ returns c = λ m E ok.
     let u = nodeAt (a .nodes .now) (a .u) .number in
     let v = nodeAt (a .nodes .now) (a .v) .number in
     let d = curveOf (a .c .now) in
+    let m = edgesNumbered l (a .e) (suc lastNumber) in
     let φ = cornerFace m u (startWay d) in
-    let j = joined (s .pre .2) (a .c .now) m E (fresh-number l (a .e) m E ok) u v φ in
+    let j = joined (s .pre .2) (a .c .now) m refl (fresh-number l (a .e) m refl (s .pre .2 .rising)) u v φ in
     let i = subst (λ (x : ℕ). Joined l (a .e) x (endCorner l (a .e) (a .c .now) (pos u) (pos v)) (m .next .edges)
     (drawn u v d φ m)) (sym (k .0)) j in
     c .rings-differ .ensures (m .next .edges) (drawn u v d φ m)

@@ -15,6 +15,7 @@ use Rattle.map_rows.specs.Rows.{nodeAt}
 use Rattle.map_rows.proofs.Rows.{node-row-of}
 use Rattle.head.proofs.Words.{edges-natural, edges-read}
 use Rattle.outcomes.proofs.Formed.{node-rows, counted}
+use Rattle.reason_corners.proofs.Alike.{splits-alike}
 use Rattle.reason_edges.specs.Parts.{drawingReasons}
 use Rattle.reason_edges.proofs.Drawing.{rows-read, edges-are, edges-rise}
 use Rattle.reason_edges.proofs.Adding.{run-drawn, corner-told, rows-turned, rows-late, rows-known}
@@ -94,7 +95,8 @@ late c =
     let a = s .args in
     let f = s .pre .0 in
     rows-late f (a .how) (a .u) (a .v) (s .pre .1) (a .c .now) (clear e) (corner k)
-    (g .before .before .splits-face .ensures _ (edges-are f (count t)) (edges-rise f))
+    (g .before .before .splits-face .ensures
+    ∙ splits-alike (rows-read f (count t)) (a .c .now) _ (edges-are f (count t)) (edges-rise f) _ _)
     (g .before .makes-second .ensures) (g .room-reason .ensures) (omega (arith, c .before .if2 .taken))
     (c .turned-down2 .ensures)
 
@@ -108,7 +110,8 @@ judged c =
     let a = s .args in
     let f = s .pre .0 in
     rows-known f (a .how) (a .u) (a .v) (s .pre .1) (a .c .now) (clear e) (corner k)
-    (g .before .before .splits-face .ensures _ (edges-are f (count t)) (edges-rise f))
+    (g .before .before .splits-face .ensures
+    ∙ splits-alike (rows-read f (count t)) (a .c .now) _ (edges-are f (count t)) (edges-rise f) _ _)
     (g .before .makes-second .ensures) (g .room-reason .ensures) (c .if2 .left)
 
 pub judge-rows-spec : {M : Type 1} → statement M
