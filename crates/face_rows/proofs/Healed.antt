@@ -1,6 +1,6 @@
 -- After two faces are healed: the edge can be undrawn as `removeEdge` does it, and the tables are rows in range of the
 -- healed map. Assumes nothing.
-use mathlib.Core.Path.{_≡_, refl, sym, ap, _∙_}
+use mathlib.Core.Path.{_≡_, refl, sym, ap, _∙_, subst}
 use mathlib.Core.Bool.{Bool, cond, _&&_}
 use mathlib.Core.List.{List, [], _∷_, _++_, map, flatMap}
 use mathlib.Core.Option.{Option, none, some}
@@ -18,7 +18,7 @@ use Rattle.map.specs.declared.Head.{Head}
 use Rattle.map.specs.declared.Variant.{Variant}
 use Rattle.map.specs.Limits.{edgeWidth, lastNumber}
 use Rattle.map.specs.Rows.{Node, Edge, Map, nodeCells, edgeCells, edgeOf, mapOf, edge, hasEdge, setFaces, given}
-use Rattle.map.specs.Rows.{atNodes, counts, lent}
+use Rattle.map.specs.Rows.{setNodes, setEdges, atNodes, counts, lent}
 use Rattle.map.specs.Darts.{leaves, next, departures}
 use Rattle.map.specs.Links.{redirect, unlinkEdge}
 use Rattle.map.specs.Form.{edgeRanges}
@@ -26,7 +26,7 @@ use Rattle.map.specs.Edits.{withSides, undrawn, renamed, renamedNode, renamedFa
 use Rattle.map_rows.specs.Rows.{NodeRows, EdgeRows, nodesOf, edgesOf, facesOf, edgeMap, edgeAt}
 use Rattle.map_rows.proofs.Rows.{nodes-length, edges-length, edge-numbers}
 use Rattle.map_rows.proofs.RowCurves.{table-edges-wide}
-use Rattle.face_rows.specs.Holds.{MapTables, TablesOf, faceKept, mergedSides}
+use Rattle.face_rows.specs.Holds.{MapTables, TablesOf, sidesAlone, faceKept, mergedSides}
 use Rattle.face_rows.proofs.FaceRows.{faces-read}
 use Rattle.face_rows.proofs.Renames.{sides-wide, map-size}
 use Rattle.face_rows.proofs.Shares.{node-rows-after, nodes-after, long-after}
@@ -141,6 +141,38 @@ renamed-number row f x (some g) = refl
 renamed-at : (row : Edge) (f : ℕ) (x : Node) (q : Option ℕ) → renamedNode row f x q .at ≡ x .at
 renamed-at row f x none = refl
 renamed-at row f x (some g) = refl
+
+-- the sides alone of the row count
+renamed-by : (row : Edge) (f : ℕ) (x : Node) (q : Option ℕ)
+    → renamedNode (sidesAlone (row .left) (row .right)) f x q ≡ renamedNode row f x q
+renamed-by row f x none = refl
+renamed-by row f x (some g) = refl
+
+renamed-sides : (row : Edge) (f : ℕ) (m : Map) → renamedFaces (sidesAlone (row .left) (row .right)) f m
+    ≡ renamedFaces row f m
+unfolding renamedFaces
+renamed-sides row f m =
+    λ i. setNodes (map (λ x. renamed-by row f x (x .face) i) (m .nodes))
+    (setEdges (map (λ r. withSides (renamed row f (r .left)) (renamed row f (r .right)) r) (m .edges)) m)
+
+module _ (makes : Bool) (row : Edge) (m : Map) {l r : ℕ} (el : l ≡ row .left) (er : r ≡ row .right) where
+  merged-sides : mergedSides makes (sidesAlone l r) m ≡ mergedSides makes row m
+  merged-sides =
+      let f = faceKept makes row m in
+      let left = keep (λ g. same g (renamed row f g)) (m .faces) in
+      (λ i. mergedSides makes (sidesAlone (el i) (er i)) m)
+      ∙ ap (λ (x : Map). setFaces (cond makes (left ++ f ∷ []) left) (given (counts 0 0 (bit makes)) x))
+      (renamed-sides row f m)
+
+  -- the heal of two faces is that of a row with these sides
+  pub healed-as : {nodes edges faces nodes′ edges′ faces′ : List ℤ} {h′ : Head} {k : ℕ} {z : ℤ}
+      → TablesOf nodes edges faces (mergedSides makes (sidesAlone l r) m) nodes′ edges′ faces′ h′ × (k ≡ 0)
+      × (z ≡ pos (faceKept makes (sidesAlone l r) m))
+      → TablesOf nodes edges faces (mergedSides makes row m) nodes′ edges′ faces′ h′ × (z ≡ pos (faceKept makes row m))
+  healed-as {nodes} {edges} {faces} {nodes′} {edges′} {faces′} {h′} t = (
+    subst (λ (x : Map). TablesOf nodes edges faces x nodes′ edges′ faces′ h′) merged-sides (t .0),
+    t .2 ∙ (λ i. pos (faceKept makes (sidesAlone (el i) (er i)) m)),
+  )
 
 module _ {nodes edges faces : List ℤ} {h : Head} (held : MapTables nodes edges faces h) (row : Edge) (makes : Bool)
     {nodes′ edges′ faces′ : List ℤ} {h′ : Head}

@@ -8,7 +8,8 @@ use lib.ListN.{length}
 use lib.Signed.{nonNeg, ltZ}
 use Rattle.lists.specs.Tests.{same, bit}
 use Rattle.lists.specs.Scans.{anyOf, allOf, keep}
-use Rattle.planar_maps.specs.Map.{Dart, rev}
+use Rattle.planar_maps.specs.Map.{Dart, fwd, rev}
+use Rattle.curves.specs.Curves.{through}
 use Rattle.tables.specs.Tables.{filled, numbered}
 use Rattle.map.specs.declared.Head.{Head}
 use Rattle.map.specs.Limits.{lastNumber, faceWidth}
@@ -130,6 +131,19 @@ splitFaces goes old a fs = cond goes (withoutFace old fs ++ a ∷ (a + 1) ∷ []
 abbrev pub healFaces : Bool → ℤ → ℤ → ℕ → List ℕ → List ℕ
 healFaces makes left right face fs = cond makes (withoutFace (natAbs right) (withoutFace (natAbs left) fs) ++ face ∷ [])
     (withoutFace (natAbs (cond (ltZ left right) right left)) fs)
+
+-- a row of two sides and nothing else
+abbrev pub sidesAlone : ℕ → ℕ → Edge
+sidesAlone left right = record {
+  number = 0;
+  start = 0;
+  end = 0;
+  nextLeft = fwd 0;
+  nextRight = fwd 0;
+  left = left;
+  right = right;
+  curve = through [];
+}
 
 -- the face that is left of the two sides of a row: a new one, or the lower
 abbrev pub faceKept : Bool → Edge → Map → ℕ

@@ -28,7 +28,7 @@ ghost use Rattle.darts.specs.Positions.{dartAt};
 ghost use Rattle.face_relabel.specs.Sharing.{ShareableFace, Ringed};
 ghost use Rattle.face_rows.specs.Holds.{facesIn, FaceTable, withoutFace, Extendable, RowSplittable, RowsHealable};
 ghost use Rattle.face_rows.specs.Holds.{Splittable, Healable, TablesOf, sharesIn, sidesOf, splitFaces, healFaces};
-ghost use Rattle.face_rows.specs.Holds.{faceKept, mergedSides};
+ghost use Rattle.face_rows.specs.Holds.{sidesAlone, faceKept, mergedSides};
 
 // ---- leaves
 
@@ -236,12 +236,13 @@ pub fn heal_faces(
     makes: bool,
 ) -> Done
     requires { ⌜ Healable (now nodes) (now edges) (now faces) h left right ⌝ }
-    ensures { λ r. ⌜ ((row : Edge) → row .left ≡ natAbs left → row .right ≡ natAbs right
-        → TablesOf (now (nodes .entry)) (now (edges .entry)) (now (faces .entry))
-        (mergedSides makes row (mapOf (lentNow (nodes .entry) (edges .entry) (faces .entry) h)))
+    ensures { λ r. ⌜ TablesOf (now (nodes .entry)) (now (edges .entry)) (now (faces .entry))
+        (mergedSides makes (sidesAlone (natAbs left) (natAbs right))
+        (mapOf (lentNow (nodes .entry) (edges .entry) (faces .entry) h)))
         (now (nodes .exit)) (now (edges .exit)) (now (faces .exit)) (r .head)
-        × (r .answer .value ≡ pos (faceKept makes row
-        (mapOf (lentNow (nodes .entry) (edges .entry) (faces .entry) h))))) ⌝ }
+        × (r .answer .refusal ≡ 0)
+        × (r .answer .value ≡ pos (faceKept makes (sidesAlone (natAbs left) (natAbs right))
+        (mapOf (lentNow (nodes .entry) (edges .entry) (faces .entry) h)))) ⌝ }
 {
     let n = head::counts_of(h);
     let face = face_left(h.next_face, left, right, makes);

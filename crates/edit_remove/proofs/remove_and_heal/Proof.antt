@@ -14,7 +14,7 @@ use Rattle.tables.proofs.Order.{word-is}
 use Rattle.edge_rows.proofs.Formed.{held}
 use Rattle.face_rows.specs.Holds.{Healable}
 use Rattle.face_rows.proofs.Formed.{formed-healable, formed-held}
-use Rattle.face_rows.proofs.Healed.{healed-edge-count}
+use Rattle.face_rows.proofs.Healed.{healed-as, healed-edge-count}
 use Rattle.edit_remove.proofs.Heal.{healed-held}
 use Rattle.edit_remove.proofs.Undraw.{removed-one, removed-two, removed-as}
 use Rattle.edit_remove.proofs.remove_and_heal.Statement.{statement}
@@ -78,8 +78,8 @@ undraw-requires-2 c κs =
     let a = s .args in
     let row = edgeAt (a .edges .now) (a .i) in
     let cells = edge-cells (a .edges .now) (a .i) (s .pre .cells .ranges) in
-    let r = g .heal-faces .ensures row (sym (ap natAbs (sent (b .left .given) ∙ cells .left)))
-    (sym (ap natAbs (sent (t .before .right .given) ∙ cells .right))) in
+    let r = healed-as (a .makes) row _ (ap natAbs (sent (b .left .given) ∙ cells .left))
+    (ap natAbs (sent (t .before .right .given) ∙ cells .right)) (g .heal-faces .ensures) in
     let v = sent (c .before .before .struct-told .given .1 .0 .1 .1 .1 .0 .1) in
     record {
       held = healed-held (s .pre .formed) row (healable t) (a .makes) (s .pre .number) (r .0);
@@ -98,8 +98,8 @@ returns-2 c =
     let a = s .args in
     let row = edgeAt (a .edges .now) (a .i) in
     let cells = edge-cells (a .edges .now) (a .i) (s .pre .cells .ranges) in
-    let r = g .heal-faces .ensures row (sym (ap natAbs (sent (b .left .given) ∙ cells .left)))
-    (sym (ap natAbs (sent (t .before .right .given) ∙ cells .right))) in
+    let r = healed-as (a .makes) row _ (ap natAbs (sent (b .left .given) ∙ cells .left))
+    (ap natAbs (sent (t .before .right .given) ∙ cells .right)) (g .heal-faces .ensures) in
     let v = sent (d .struct-told .given .1 .0 .1 .1 .1 .0 .1) ∙ r .1 in
     let two = same-false (row .left) (row .right)
     (λ e. t .if1 .left (ap (ofZ w64) (cells .left ∙ ap pos e ∙ sym (cells .right)))) in

@@ -1,6 +1,6 @@
 -- `face_rows::heal_faces` meets its contract. Assumes nothing.
 use borrow.Author.Needs.{needs}
-use mathlib.Core.Path.{_≡_, sym, ap, _∙_}
+use mathlib.Core.Path.{_≡_, refl, sym, ap, _∙_}
 use mathlib.Core.Bool.{cond}
 use Prim.Native.Nat.{min}
 use native.Mathlib.Omega.{arith}
@@ -16,7 +16,7 @@ use Rattle.map_rows.specs.Rows.{nodesOf, edgesOf, facesOf}
 use Rattle.map_rows.proofs.Rows.{faces-length}
 use Rattle.outcomes.specs.declared.Done.{Done}
 use Rattle.head.proofs.Words.{is-natural, count-abs, counts-natural}
-use Rattle.face_rows.specs.Holds.{faceKept}
+use Rattle.face_rows.specs.Holds.{sidesAlone, faceKept}
 use Rattle.face_rows.proofs.FaceRows.{table-distinct, without-length}
 use Rattle.face_rows.proofs.Heals.{map-nodes, map-edges, map-next, healed-holds}
 use Rattle.face_rows.proofs.heal_faces.Statement.{statement}
@@ -71,17 +71,18 @@ without-face-requires c κs =
     (s .pre .held .counted, omega (arith, faces-length (a .faces .now) (natAbs (a .h .faces))))
 
 returns : tie.Need-returns
-returns c row el er =
+returns c =
     let f = c .before .before .before .before .before .before .before .before .before .before in
     let n = f .before .before in
     let s = n .before in
     let a = s .args in
     let k = s .pre .held .counted .next-face in
     let m = mapOf (lent (a .nodes .now) (a .edges .now) (a .faces .now) (a .h)) in
+    let row = sidesAlone (natAbs (a .left)) (natAbs (a .right)) in
     let count = n .counts-of .ensures in
     let vf = sent {z = f .face-left .result} (f .face-left .ok) in
-    let vl = ap natAbs (left s) ∙ sym el in
-    let vr = ap natAbs (right s) ∙ sym er in
+    let vl = ap natAbs (left s) in
+    let vr = ap natAbs (right s) in
     let nx : natAbs (toZ w64 (ofZ w64 (a .h .«next_face»))) ≡ m .next .faces =
     count-abs (a .h .«next_face») (k .natural) (k .most)
     ∙ sym (map-next (a .nodes .now) (a .edges .now) (a .faces .now) (a .h)) in
@@ -92,10 +93,11 @@ returns c row el er =
     ∙ ap (λ (k : Counts). nodesOf (a .nodes .now) (k .nodes)) (sym count))
     (map-edges (a .nodes .now) (a .edges .now) (a .faces .now) (a .h)
     ∙ ap (λ (k : Counts). edgesOf (a .edges .now) (k .edges)) (sym count)) in (
-      healed-holds (s .pre) row el er (a .makes) (natAbs (toZ w64 (ofZ w64 (f .face-left .result))))
+      healed-holds (s .pre) row refl refl (a .makes) (natAbs (toZ w64 (ofZ w64 (f .face-left .result))))
           (ap natAbs (vf ∙ face)) _ _ _ _ (rows .0) (rows .1)
           (rw (count, left s, right s) at (c .before .before .before .heal-row .ensures))
           (ap (λ (d : Done). d .head) (c .carried .ensures) ∙ c .before .without-face .ensures),
+      ap (λ (d : Done). d .answer .refusal) (c .carried .ensures),
       ap (λ (d : Done). d .answer .value) (c .carried .ensures) ∙ vf ∙ face,
     )
 
