@@ -12,12 +12,19 @@ use Rattle.integers.specs.Signs.{sent}
 use Rattle.map.specs.Rows.{edge}
 use Rattle.map_rows.specs.Rows.{edgeAt, edgeMap}
 use Rattle.reason_departures.specs.Turning.{joinsAt}
-use Rattle.reason_departures.proofs.Ends.{end-cell}
+use Rattle.reason_departures.proofs.Ends.{start-cell, end-cell}
 use Rattle.edit_heal.proofs.Joints.{parts-at-end, parts-at-start}
 use Rattle.edit_heal.proofs.parts_of.Statement.{statement}
 use Rattle.edit_heal.proofs.parts_of.Tie as tie
 
--- the node where row i ends, as it was read
+-- the nodes of row i, as they were read
+start-read : (c : tie.After-v)
+    → let a = c .before .before .args in
+    toZ w64 (ofZ w64 (getD (a .edges .now) (a .i * 32 + 1) (pos 0)))
+    ≡ pos (edge (edgeMap (a .edges .now) (a .e)) (edgeAt (a .edges .now) (a .i) .number) .start)
+start-read c = let s = c .before .before in
+    sent (c .before .u .given) ∙ start-cell (s .pre .rows) (s .args .i) (s .pre .first-row)
+
 end-read : (c : tie.After-v)
     → let a = c .before .before .args in
     toZ w64 (ofZ w64 (getD (a .edges .now) (a .i * 32 + 2) (pos 0)))
@@ -25,8 +32,9 @@ end-read : (c : tie.After-v)
 end-read c = let s = c .before .before in
     sent (c .v .given) ∙ end-cell (s .pre .rows) (s .args .i) (s .pre .first-row)
 
+-- either may be asked for
 joins-at-requires : tie.Need-joins-at-requires
-joins-at-requires c κs = let s = c .before .before in (s .pre .rows, s .pre .second-row, ap nonNeg (end-read c))
+joins-at-requires c κs = let u = ap nonNeg (start-read c) in let v = ap nonNeg (end-read c) in search needs
 
 -- whether the edges join at the end of row i
 joins : (c : tie.After-joins-at) {v : Bool} → c .joins-at .result ≡ v
