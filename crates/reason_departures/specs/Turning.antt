@@ -1,4 +1,4 @@
--- Turns at a node by position, and two edges joined.
+-- Directions taken and turns at a node by position, and two edges joined.
 use mathlib.Core.Bool.{Bool, not, _&&_, _||_}
 use mathlib.Core.List.{List, [], _∷_}
 use Prim.Native.Nat.{ℕ, _+_, _*_, _/_}
