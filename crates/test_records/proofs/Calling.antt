@@ -63,8 +63,8 @@ abbrev pub TicketOn : {M : Type 1} (𝓤 : URA M) (H : Heap 𝓤) (A : Atoms �
 TicketOn 𝓤 H A at-mem run = tripleOf 𝓤 H A n.signature (n.spec 𝓤 H A at-mem run)
 
 module _ {M : Type 1} (𝓤 : URA M) (H : Heap 𝓤) (A : Atoms 𝓤) (W : Given 𝓤 H A) (at-mem : Memory → SProp 𝓤)
-    (run : Routine → Fun 𝓤) (ns : List Node) (es : List ℤ) (ss : List ℤ) (h : Head) (ticket : List ℤ) (lₙ lₑ lₛ lₕ lₜ
-    : ℕ) where
+    (run : Routine → Fun 𝓤) (ns : List Node) (es : List ℤ) (ss : List ℤ) (h : Head) (ticket : List ℤ)
+    (lₙ lₑ lₛ lₕ lₜ : ℕ) where
   abbrev κs-n : (ν₀ ν₁ ν₂ ν₃ ν₄ : ℕ) → Lft × (Lft × (Lft × (Lft × (Lft × Unit {0}))))
   κs-n ν₀ ν₁ ν₂ ν₃ ν₄ = (ν₀ ∷ [], (ν₁ ∷ [], (ν₂ ∷ [], (ν₃ ∷ [], (ν₄ ∷ [], tt)))))
 
@@ -72,59 +72,27 @@ module _ {M : Type 1} (𝓤 : URA M) (H : Heap 𝓤) (A : Atoms 𝓤) (W : Given
       (List ℤ) × Unit {0}))))
   args-n γ₀ γ₁ γ₂ γ₃ γ₄ = (
     at-start lₙ γ₀ ns,
-    (
-      at-start lₑ γ₁ es,
-      (
-        at-start lₛ γ₂ ss,
-        (
-          at-start lₕ γ₃ h,
-          (
-            at-start lₜ
-                γ₄ ticket,
-            tt,
-          ),
-        ),
-      ),
-    ),
+    (at-start lₑ γ₁ es, (at-start lₛ γ₂ ss, (at-start lₕ γ₃ h, (at-start lₜ γ₄ ticket, tt)))),
   )
 
   abbrev to-n : (ν₀ ν₁ ν₂ ν₃ ν₄ : ℕ) (γ₀ γ₁ γ₂ γ₃ γ₄ : GName) → TicketOn 𝓤 H A at-mem run .Ghost
   to-n ν₀ ν₁ ν₂ ν₃ ν₄ γ₀ γ₁ γ₂ γ₃ γ₄ = (
     (
       κs-n ν₀ ν₁ ν₂ ν₃ ν₄,
-      (
-        fullShare,
-        (
-          fullShare,
-          (
-            fullShare,
-            (
-              fullShare,
-              (fullShare, tt),
-            ),
-          ),
-        ),
-      ),
+      (fullShare, (fullShare, (fullShare, (fullShare, (fullShare, tt))))),
       tt,
       args-n γ₀ γ₁ γ₂ γ₃ γ₄,
       (
         sliceVal (lₙ, 0) 3 ∷ [],
-        (
-          sliceVal (lₑ, 0) 64 ∷ [],
-          (
-            sliceVal
-                (lₛ, 0) 3 ∷ [],
-            (vptr lₕ 0 ∷ [], (sliceVal (lₜ, 0) 4 ∷ [], tt)),
-          ),
-        ),
+        (sliceVal (lₑ, 0) 64 ∷ [], (sliceVal (lₛ, 0) 3 ∷ [], (vptr lₕ 0 ∷ [], (sliceVal (lₜ, 0) 4 ∷ [], tt)))),
       ),
     ),
     tt,
   )
 
-  pub adds : {K : Type 0} {Γ : List (Item 𝓤)} → K → {C : Calls 𝓤 H} → FmC 𝓤 H (W .laws) C → {Λ : Loops 𝓤 H} {E : Env
-      𝓤 H} {q : Post 𝓤 H} {f : Name}
-      {xs : List Operand} {d : Place} {rest : Body} → Triple 𝓤 (C f) (TicketOn 𝓤 H A at-mem run)
+  pub adds : {K : Type 0} {Γ : List (Item 𝓤)} → K → {C : Calls 𝓤 H} → FmC 𝓤 H (W .laws) C
+      → {Λ : Loops 𝓤 H} {E : Env 𝓤 H} {q : Post 𝓤 H} {f : Name} {xs : List Operand} {d : Place} {rest : Body} →
+      Triple 𝓤 (C f) (TicketOn 𝓤 H A at-mem run)
       → ((i j : Item 𝓤) → Opds K W (i ∷ j ∷ Γ) E xs (sliceVal (lₙ, 0) 3 ∷ sliceVal (lₑ, 0) 64 ∷ sliceVal (lₛ, 0) 3 ∷
       vptr lₕ 0 ∷ sliceVal (lₜ, 0) 4 ∷ []))
       → ((r : Answer) (w : Val) (ns′ : List Node) (es′ : List ℤ) (ss′ : List ℤ) (h′ : Head) → Is B.the-row r (w ∷ [])
@@ -177,22 +145,7 @@ module _ {M : Type 1} (𝓤 : URA M) (H : Heap 𝓤) (A : Atoms 𝓤) (W : Given
       (ℤ × Unit {0}))))))
   args-m γ₀ γ₁ γ₂ γ₃ = (
     at-start lₙ γ₀ ns,
-    (
-      at-start lₑ γ₁ es,
-      (
-        at-start lₛ γ₂ ss,
-        (
-          at-start lₕ γ₃ h,
-          (
-            number,
-            (
-              x,
-              (y, tt),
-            ),
-          ),
-        ),
-      ),
-    ),
+    (at-start lₑ γ₁ es, (at-start lₛ γ₂ ss, (at-start lₕ γ₃ h, (number, (x, (y, tt)))))),
   )
 
   abbrev to-m : (ν₀ ν₁ ν₂ ν₃ : ℕ) (γ₀ γ₁ γ₂ γ₃ : GName) → MoveNode 𝓤 H A at-mem run .Ghost
@@ -206,23 +159,16 @@ module _ {M : Type 1} (𝓤 : URA M) (H : Heap 𝓤) (A : Atoms 𝓤) (W : Given
         sliceVal (lₙ, 0) 3 ∷ [],
         (
           sliceVal (lₑ, 0) 64 ∷ [],
-          (
-            sliceVal (lₛ, 0) 3 ∷ [],
-            (
-              vptr lₕ 0 ∷
-                  [],
-              (num number ∷ [], (num x ∷ [], (num y ∷ [], tt))),
-            ),
-          ),
+          (sliceVal (lₛ, 0) 3 ∷ [], (vptr lₕ 0 ∷ [], (num number ∷ [], (num x ∷ [], (num y ∷ [], tt))))),
         ),
       ),
     ),
     tt,
   )
 
-  pub moves : {K : Type 0} {Γ : List (Item 𝓤)} → K → {C : Calls 𝓤 H} → FmC 𝓤 H (W .laws) C → {Λ : Loops 𝓤 H} {E : Env
-      𝓤 H} {q : Post 𝓤 H} {f : Name}
-      {xs : List Operand} {d : Place} {rest : Body} → Triple 𝓤 (C f) (MoveNode 𝓤 H A at-mem run)
+  pub moves : {K : Type 0} {Γ : List (Item 𝓤)} → K → {C : Calls 𝓤 H} → FmC 𝓤 H (W .laws) C
+      → {Λ : Loops 𝓤 H} {E : Env 𝓤 H} {q : Post 𝓤 H} {f : Name} {xs : List Operand} {d : Place} {rest : Body} →
+      Triple 𝓤 (C f) (MoveNode 𝓤 H A at-mem run)
       → ((i j : Item 𝓤) → Opds K W (i ∷ j ∷ Γ) E xs (sliceVal (lₙ, 0) 3 ∷ sliceVal (lₑ, 0) 64 ∷ sliceVal (lₛ, 0) 3 ∷
       vptr lₕ 0 ∷ num number ∷ num x ∷ num y ∷ []))
       → ((r : Answer) (w : Val) (ns′ : List Node) (es′ : List ℤ) (ss′ : List ℤ) → Is B.the-row r (w ∷ [])
@@ -279,24 +225,14 @@ module _ {M : Type 1} (𝓤 : URA M) (H : Heap 𝓤) (A : Atoms 𝓤) (W : Given
       (fullShare, tt),
       tt,
       args-c γ₀,
-      (
-        sliceVal (lₙ, 0) 3 ∷ [],
-        (
-          vint w64 count ∷ [],
-          (
-            T′.lowered
-                x ∷ [],
-            tt,
-          ),
-        ),
-      ),
+      (sliceVal (lₙ, 0) 3 ∷ [], (vint w64 count ∷ [], (T′.lowered x ∷ [], tt))),
     ),
     tt,
   )
 
-  pub changes : {K : Type 0} {Γ : List (Item 𝓤)} → K → {C : Calls 𝓤 H} → FmC 𝓤 H (W .laws) C → {Λ : Loops 𝓤 H} {E :
-      Env 𝓤 H} {q : Post 𝓤 H} {f : Name}
-      {xs : List Operand} {d : Place} {rest : Body} → Triple 𝓤 (C f) (ChangeNode 𝓤 H A at-mem run)
+  pub changes : {K : Type 0} {Γ : List (Item 𝓤)} → K → {C : Calls 𝓤 H} → FmC 𝓤 H (W .laws) C
+      → {Λ : Loops 𝓤 H} {E : Env 𝓤 H} {q : Post 𝓤 H} {f : Name} {xs : List Operand} {d : Place} {rest : Body} →
+      Triple 𝓤 (C f) (ChangeNode 𝓤 H A at-mem run)
       → ((i j : Item 𝓤) → Opds K W (i ∷ j ∷ Γ) E xs (sliceVal (lₙ, 0) 3 ∷ vint w64 count ∷ T′.lowered x ∷ []))
       → ((r : Answer) (w : Val) (ns′ : List Node) → Is B.the-row r (w ∷ [])
       → Seq K W (‵ (Rows T.the-row 3 ns′ lₙ) ∷ Γ) (lands C Λ E d w rest q))
@@ -338,24 +274,14 @@ module _ {M : Type 1} (𝓤 : URA M) (H : Heap 𝓤) (A : Atoms 𝓤) (W : Given
       (fullShare, tt),
       tt,
       args-g γ₀,
-      (
-        sliceVal (lₙ, 0) 3 ∷ [],
-        (
-          vint w64 count ∷ [],
-          (
-            num number
-                ∷ [],
-            tt,
-          ),
-        ),
-      ),
+      (sliceVal (lₙ, 0) 3 ∷ [], (vint w64 count ∷ [], (num number ∷ [], tt))),
     ),
     tt,
   )
 
-  pub finds : {K : Type 0} {Γ : List (Item 𝓤)} → K → {C : Calls 𝓤 H} → FmC 𝓤 H (W .laws) C → {Λ : Loops 𝓤 H} {E : Env
-      𝓤 H} {q : Post 𝓤 H} {f : Name}
-      {xs : List Operand} {d : Place} {rest : Body} → Triple 𝓤 (C f) (FindNode 𝓤 H A at-mem run)
+  pub finds : {K : Type 0} {Γ : List (Item 𝓤)} → K → {C : Calls 𝓤 H} → FmC 𝓤 H (W .laws) C
+      → {Λ : Loops 𝓤 H} {E : Env 𝓤 H} {q : Post 𝓤 H} {f : Name} {xs : List Operand} {d : Place} {rest : Body} →
+      Triple 𝓤 (C f) (FindNode 𝓤 H A at-mem run)
       → ((i j : Item 𝓤) → Opds K W (i ∷ j ∷ Γ) E xs (sliceVal (lₙ, 0) 3 ∷ vint w64 count ∷ num number ∷ []))
       → ((r : Found) (w : Val) → Is U.the-row r (w ∷ [])
       → Seq K W (‵ (Rows T.the-row 3 ns lₙ) ∷ Γ) (lands C Λ E d w rest q))
@@ -396,26 +322,14 @@ module _ {M : Type 1} (𝓤 : URA M) (H : Heap 𝓤) (A : Atoms 𝓤) (W : Given
       (fullShare, tt),
       tt,
       args-s γ₀,
-      (
-        vptr lₕ 0 ∷ [],
-        (
-          num x ∷ [],
-          (
-            num y ∷ [],
-            (
-              num z ∷ [],
-              tt,
-            ),
-          ),
-        ),
-      ),
+      (vptr lₕ 0 ∷ [], (num x ∷ [], (num y ∷ [], (num z ∷ [], tt)))),
     ),
     tt,
   )
 
-  pub counts : {K : Type 0} {Γ : List (Item 𝓤)} → K → {C : Calls 𝓤 H} → FmC 𝓤 H (W .laws) C → {Λ : Loops 𝓤 H} {E :
-      Env 𝓤 H} {q : Post 𝓤 H} {f : Name}
-      {xs : List Operand} {d : Place} {rest : Body} → Triple 𝓤 (C f) (SetCounts 𝓤 H A at-mem run)
+  pub counts : {K : Type 0} {Γ : List (Item 𝓤)} → K → {C : Calls 𝓤 H} → FmC 𝓤 H (W .laws) C
+      → {Λ : Loops 𝓤 H} {E : Env 𝓤 H} {q : Post 𝓤 H} {f : Name} {xs : List Operand} {d : Place} {rest : Body} →
+      Triple 𝓤 (C f) (SetCounts 𝓤 H A at-mem run)
       → ((i j : Item 𝓤) → Opds K W (i ∷ j ∷ Γ) E xs (vptr lₕ 0 ∷ num x ∷ num y ∷ num z ∷ []))
       → ((r : Unit {0}) (w : Val) (h′ : Head) → Is unit r (w ∷ [])
       → Seq K W (‵ (partAt S.the-row fullShare h′ lₕ 0) ∷ Γ) (lands C Λ E d w rest q))

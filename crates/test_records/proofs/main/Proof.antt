@@ -26,7 +26,7 @@ use types.Kit.{feqI, suffices, done}
 use types.Part.{agg, rep}
 use types.Run.{look, look-raw, init, store, forget, stop, hop, from, load, lit, neg-lit, unit-lit, addr, of-opd, bin}
 use types.Run.{and-then}
-use types.Run.{no-more, assigns, land, returns, enter, alloc1, alloc0, params1, pass0, free1, free0}
+use types.Run.{no-more, assigns, land, returns, enter, alloc1, alloc0, params1, pass0}
 use sound.WpLaws.{FmC, fmOf, WpFn-mono}
 use denote.RattleType.{RattleType}
 use denote.Laws.{Is}
@@ -54,7 +54,6 @@ use Rattle.map.proofs.Answer.Laws as B′
 use Rattle.records.specs.declared.Node.{Node}
 use Rattle.records.proofs.Node as T
 use Rattle.records.proofs.Node.Laws as T′
-use Rattle.records.proofs.Heads.{frees-local}
 use Rattle.records.proofs.Arrays.{zeros, numbers, is-zeros, typed-zeros}
 use Rattle.records.proofs.ticket_on.Symbol as ticket-on-def
 use Rattle.records.proofs.ticket_on.Symbol.{name as #ticket-on}
@@ -71,7 +70,8 @@ use Rattle.records.proofs.find_node.Met as find-node-thm
 use Rattle.records.proofs.set_counts.Symbol as set-counts-def
 use Rattle.records.proofs.set_counts.Symbol.{name as #set-counts}
 use Rattle.records.proofs.set_counts.Met as set-counts-thm
-use Rattle.test_records.proofs.Lending.{Rows, rows-in, rows-out, first-out, first-back, one-in, one-out}
+use Rattle.test_records.proofs.Lending.{Rows, unset, frees-all, rows-in, rows-out, first-out}
+use Rattle.test_records.proofs.Lending.{first-back, one-in, one-out}
 use Rattle.test_records.proofs.Calling.{num, TicketOn, MoveNode, ChangeNode, FindNode, SetCounts, adds, moves}
 use Rattle.test_records.proofs.Calling.{changes, finds, counts}
 use Rattle.test_records.proofs.Printing.{Taking, prints}
@@ -185,41 +185,28 @@ module _ {M : Type 1} (𝓤 : URA M) (H : Heap 𝓤) (A : Atoms 𝓤) (W : Given
       (l₀ l₁ l₂ l₃ l₄ l₅ l₆ l₇ l₈ l₉ l₁₀ l₁₁ l₁₂ l₁₃ l₁₄ l₁₅ l₁₆ l₁₇ : ℕ)
       (l₁₈ l₁₉ l₂₀ l₂₁ l₂₂ l₂₃ l₂₄ l₂₅ l₂₆ l₂₇ l₂₈ l₂₉ l₃₀ l₃₁ l₃₂ l₃₃ l₃₄ l₃₅ : ℕ) where
     abbrev En : Env 𝓤 H
-    En = (tyUnit, l₀) ∷ (tyArray T′.mir 3, l₁) ∷ (numbers 64, l₂) ∷ (numbers 3, l₃) ∷ (S′.mir, l₄) ∷ (
-      numbers 4,
-      l₅,
-    ) ∷ (T′.mir, l₆) ∷ (S′.mir, l₇) ∷ (tyUnit, l₈) ∷ (B′.mir, l₉) ∷ (
-      tyRef erased mut (Array R 3 .written .ty),
-      l₁₀,
-    ) ∷ (sliceTy (tyRef erased mut (pointee (R .written))), l₁₁) ∷ (tyRef erased mut (numbers 64), l₁₂) ∷
-        (sliceTy (tyRef erased mut word), l₁₃) ∷ (tyRef erased mut (numbers 3), l₁₄) ∷ (
-          sliceTy (tyRef erased mut
-              word),
-          l₁₅,
-        ) ∷ (tyRef erased mut (pointee (Q .written)), l₁₆) ∷ (tyRef erased imm (numbers 4), l₁₇) ∷ (
-          sliceTy
-              (tyRef erased imm word),
-          l₁₈,
-        ) ∷ (tyRef erased mut (Array R 3 .written .ty), l₁₉) ∷ (
-          sliceTy (tyRef erased mut
-              (pointee (R .written))),
-          l₂₀,
-        ) ∷ (tyRef erased mut (numbers 64), l₂₁) ∷ (sliceTy (tyRef erased mut word), l₂₂)
-        ∷ (tyRef erased mut (numbers 3), l₂₃) ∷ (sliceTy (tyRef erased mut word), l₂₄) ∷ (
-          tyRef erased imm (pointee
-              (Q .written)),
-          l₂₅,
-        ) ∷ (tyPtr, l₂₆) ∷ (tyPtr, l₂₇) ∷ (tyRef erased mut (Array R 3 .written .ty), l₂₈) ∷
+    En = (tyUnit, l₀) ∷ (tyArray T′.mir 3, l₁) ∷ (numbers 64, l₂) ∷ (numbers 3, l₃) ∷ (S′.mir, l₄) ∷
+        (numbers 4, l₅) ∷ (T′.mir, l₆) ∷ (S′.mir, l₇) ∷ (tyUnit, l₈) ∷ (B′.mir, l₉) ∷
+        (tyRef erased mut (Array R 3 .written .ty), l₁₀) ∷ (sliceTy (tyRef erased mut (pointee (R .written))), l₁₁) ∷
+        (tyRef erased mut (numbers 64), l₁₂) ∷ (sliceTy (tyRef erased mut word), l₁₃) ∷
+        (tyRef erased mut (numbers 3), l₁₄) ∷ (sliceTy (tyRef erased mut word), l₁₅) ∷
+        (tyRef erased mut (pointee (Q .written)), l₁₆) ∷ (tyRef erased imm (numbers 4), l₁₇) ∷
+        (sliceTy (tyRef erased imm word), l₁₈) ∷ (tyRef erased mut (Array R 3 .written .ty), l₁₉) ∷
+        (sliceTy (tyRef erased mut (pointee (R .written))), l₂₀) ∷ (tyRef erased mut (numbers 64), l₂₁) ∷
+        (sliceTy (tyRef erased mut word), l₂₂) ∷ (tyRef erased mut (numbers 3), l₂₃) ∷
+        (sliceTy (tyRef erased mut word), l₂₄) ∷ (tyRef erased imm (pointee (Q .written)), l₂₅) ∷ (tyPtr, l₂₆) ∷
+        (tyPtr, l₂₇) ∷ (tyRef erased mut (Array R 3 .written .ty), l₂₈) ∷
         (sliceTy (tyRef erased mut (pointee (R .written))), l₂₉) ∷ (tyPtr, l₃₀) ∷ (tyPtr, l₃₁) ∷ (U′.mir, l₃₂) ∷
         (tyRef erased imm (Array R 3 .written .ty), l₃₃) ∷ (sliceTy (tyRef erased imm (pointee (R .written))), l₃₄) ∷
         (tyRef erased mut (pointee (Q .written)), l₃₅) ∷ []
 
     -- the arrays and the head are set
-    starts : {Γ : List (Item 𝓤)} → (Sq W (‵ (Rows R 3 (replicate 3 none) l₁) ∷ ‵ (Rows i64 64 (zeros 64) l₂) ∷ ‵
-        (Rows i64 3 (zeros 3) l₃) ∷ ‵ (partAt Q fullShare fresh l₄ 0) ∷ ‵ (Rows i64 4 order l₅) ∷ ‵ (froom T′.mir l₆
-        0) ∷ ‵ (froom S′.mir l₇ 0) ∷ Γ) (runs C Λ En body.t-8 (atRet En Post))) → Sq W (‵ (froom (tyArray T′.mir 3)
-        l₁ 0) ∷ ‵ (froom (numbers 64) l₂ 0) ∷ ‵ (froom (numbers 3) l₃ 0) ∷ ‵ (froom S′.mir l₄ 0) ∷ ‵ (froom (numbers
-        4) l₅ 0) ∷ ‵ (froom T′.mir l₆ 0) ∷ ‵ (froom S′.mir l₇ 0) ∷ Γ) (runs C Λ En body.t-1 (atRet En Post))
+    starts : {Γ : List (Item 𝓤)} → (Sq W (‵ (Rows R 3 (replicate 3 none) l₁) ∷ ‵ (Rows i64 64 (zeros 64) l₂) ∷
+        ‵ (Rows i64 3 (zeros 3) l₃) ∷ ‵ (partAt Q fullShare fresh l₄ 0) ∷ ‵ (Rows i64 4 order l₅) ∷
+        ‵ (froom T′.mir l₆ 0) ∷ ‵ (froom S′.mir l₇ 0) ∷ Γ) (runs C Λ En body.t-8 (atRet En Post))) → Sq W
+        (‵ (froom (tyArray T′.mir 3) l₁ 0) ∷ ‵ (froom (numbers 64) l₂ 0) ∷ ‵ (froom (numbers 3) l₃ 0) ∷
+        ‵ (froom S′.mir l₄ 0) ∷ ‵ (froom (numbers 4) l₅ 0) ∷ ‵ (froom T′.mir l₆ 0) ∷ ‵ (froom S′.mir l₇ 0) ∷ Γ) (runs
+        C Λ En body.t-1 (atRet En Post))
     starts k =
         assigns ! (agg ! (and-then ! (lit ! tt) (and-then ! (lit ! tt) (and-then ! (lit ! tt) (and-then ! (lit ! tt)
         (no-more !)))))) (from ! (stop !)) (init ! 5 refl (LL.lawful T.the-type T′.the-laws 𝓤 H A W .typed none _
@@ -239,73 +226,64 @@ module _ {M : Type 1} (𝓤 : URA M) (H : Heap 𝓤) (A : Atoms 𝓤) (W : Given
         w64) 4 order _ l₅ is-order $ forget ! 5 refl $ forget ! 6 refl $ move ! (4 ∷ 3 ∷ 2 ∷ 1 ∷ 0 ∷ 5 ∷ 6 ∷ []) $ k
 
     -- a node is added
-    adds-one : {Γ : List (Item 𝓤)} → ((ns : List Node) (es : List ℤ) (ss : List ℤ) (h : Head) → Sq W (‵ (Rows R 3
-        ns l₁) ∷ ‵ (Rows i64 64 es l₂) ∷ ‵ (Rows i64 3 ss l₃) ∷ ‵ (partAt Q fullShare h l₄ 0) ∷ ‵ (Rows i64 4 order
-        l₅) ∷ ‵ (froom S′.mir l₇ 0) ∷ ‵ (froom tyUnit l₈ 0) ∷ ‵ (froom B′.mir l₉ 0) ∷ ‵ (froom (tyRef erased mut
-        (Array R 3 .written .ty)) l₁₀ 0) ∷ ‵ (froom (sliceTy (tyRef erased mut (pointee (R .written)))) l₁₁ 0) ∷ ‵
-        (froom (tyRef erased mut (numbers 64)) l₁₂ 0) ∷ ‵ (froom (sliceTy (tyRef erased mut word)) l₁₃ 0) ∷ ‵ (froom
-        (tyRef erased mut (numbers 3)) l₁₄ 0) ∷ ‵ (froom (sliceTy (tyRef erased mut word)) l₁₅ 0) ∷ ‵ (froom (tyRef
-        erased mut (pointee (Q .written))) l₁₆ 0) ∷ ‵ (froom (tyRef erased imm (numbers 4)) l₁₇ 0) ∷ ‵ (froom
-        (sliceTy (tyRef erased imm word)) l₁₈ 0) ∷ Γ) (runs C Λ En body.t-21 (atRet En Post))) → Sq W (‵ (Rows R 3
-        (replicate 3 none) l₁) ∷ ‵ (Rows i64 64 (zeros 64) l₂) ∷ ‵ (Rows i64 3 (zeros 3) l₃) ∷ ‵ (partAt Q fullShare
-        fresh l₄ 0) ∷ ‵ (Rows i64 4 order l₅) ∷ ‵ (froom S′.mir l₇ 0) ∷ ‵ (froom tyUnit l₈ 0) ∷ ‵ (froom B′.mir l₉ 0)
-        ∷ ‵ (froom (tyRef erased mut (Array R 3 .written .ty)) l₁₀ 0) ∷ ‵ (froom (sliceTy (tyRef erased mut (pointee
-        (R .written)))) l₁₁ 0) ∷ ‵ (froom (tyRef erased mut (numbers 64)) l₁₂ 0) ∷ ‵ (froom (sliceTy (tyRef erased
-        mut word)) l₁₃ 0) ∷ ‵ (froom (tyRef erased mut (numbers 3)) l₁₄ 0) ∷ ‵ (froom (sliceTy (tyRef erased mut
-        word)) l₁₅ 0) ∷ ‵ (froom (tyRef erased mut (pointee (Q .written))) l₁₆ 0) ∷ ‵ (froom (tyRef erased imm
-        (numbers 4)) l₁₇ 0) ∷ ‵ (froom (sliceTy (tyRef erased imm word)) l₁₈ 0) ∷ Γ) (runs C Λ En body.t-8 (atRet En
-        Post))
+    abbrev rooms-adds-one : List (Item 𝓤) → List (Item 𝓤)
+    rooms-adds-one Γ = ‵ (froom S′.mir l₇ 0) ∷ ‵ (froom tyUnit l₈ 0) ∷ ‵ (froom B′.mir l₉ 0) ∷
+        ‵ (froom (tyRef erased mut (Array R 3 .written .ty)) l₁₀ 0) ∷
+        ‵ (froom (sliceTy (tyRef erased mut (pointee (R .written)))) l₁₁ 0) ∷
+        ‵ (froom (tyRef erased mut (numbers 64)) l₁₂ 0) ∷ ‵ (froom (sliceTy (tyRef erased mut word)) l₁₃ 0) ∷
+        ‵ (froom (tyRef erased mut (numbers 3)) l₁₄ 0) ∷ ‵ (froom (sliceTy (tyRef erased mut word)) l₁₅ 0) ∷
+        ‵ (froom (tyRef erased mut (pointee (Q .written))) l₁₆ 0) ∷ ‵ (froom (tyRef erased imm (numbers 4)) l₁₇ 0) ∷
+        ‵ (froom (sliceTy (tyRef erased imm word)) l₁₈ 0) ∷ Γ
+
+    adds-one : {Γ : List (Item 𝓤)} → ((ns : List Node) (es : List ℤ) (ss : List ℤ) (h : Head) → Sq W
+        (‵ (Rows R 3 ns l₁) ∷ ‵ (Rows i64 64 es l₂) ∷ ‵ (Rows i64 3 ss l₃) ∷ ‵ (partAt Q fullShare h l₄ 0) ∷
+        ‵ (Rows i64 4 order l₅) ∷ rooms-adds-one Γ) (runs C Λ En body.t-21 (atRet En Post))) → Sq W
+        (‵ (Rows R 3 (replicate 3 none) l₁) ∷ ‵ (Rows i64 64 (zeros 64) l₂) ∷ ‵ (Rows i64 3 (zeros 3) l₃) ∷
+        ‵ (partAt Q fullShare fresh l₄ 0) ∷ ‵ (Rows i64 4 order l₅) ∷ rooms-adds-one Γ) (runs C Λ En body.t-8 (atRet
+        En Post))
     adds-one k =
         assigns ! (addr ! (from ! (stop !))) (from ! (stop !)) (init ! 8 refl (tt, tt)) $ assigns ! (agg ! (and-then
         ! (load ! (from ! (stop !)) (look ! 8 refl)) (and-then ! (lit ! tt) (no-more !)))) (from ! (stop !)) (init !
         9 refl (tt, (tt, (record { fits = lit< tt }, tt)))) $ assigns ! (addr ! (from ! (stop !))) (from ! (stop !))
         (init ! 10 refl (tt, tt)) $ assigns ! (agg ! (and-then ! (load ! (from ! (stop !)) (look ! 10 refl))
-        (and-then ! (lit ! tt) (no-more !)))) (from ! (stop !)) (init ! 11 refl (
-          tt,
-          (
-            tt,
-            (
-              record { fits = lit< tt },
-              tt,
-            ),
-          ),
-        )) $ assigns ! (addr ! (from ! (stop !))) (from ! (stop !)) (init ! 12 refl (tt, tt)) $ assigns ! (agg !
-        (and-then ! (load ! (from ! (stop !)) (look ! 12 refl)) (and-then ! (lit ! tt) (no-more !)))) (from ! (stop
-        !)) (init ! 13 refl (tt, (tt, (record { fits = lit< tt }, tt)))) $ assigns ! (addr ! (from ! (stop !))) (from
-        ! (stop !)) (init ! 14 refl (tt, tt)) $ assigns ! (addr ! (from ! (stop !))) (from ! (stop !)) (init ! 15
-        refl (tt, tt)) $ assigns ! (agg ! (and-then ! (load ! (from ! (stop !)) (look ! 15 refl)) (and-then ! (lit !
-        tt) (no-more !)))) (from ! (stop !)) (init ! 16 refl (tt, (tt, (record { fits = lit< tt }, tt)))) $ adds 𝓤 H
-        A W at-mem run (replicate 3 none) (zeros 64) (zeros 3) fresh order l₁ l₂ l₃ l₄ l₅ ! fm known-ticket-on (λ i
-        j. (and-then ! (load ! (from ! (stop !)) (look ! 6 refl)) (and-then ! (load ! (from ! (stop !)) (look ! 8
-        refl)) (and-then ! (load ! (from ! (stop !)) (look ! 10 refl)) (and-then ! (load ! (from ! (stop !)) (look !
-        11 refl)) (and-then ! (load ! (from ! (stop !)) (look ! 13 refl)) (no-more !))))))) (λ r w ns es ss h is.
-        land ! (from ! (stop !)) (init ! 7 refl (LL.lawful B.the-type B′.the-laws 𝓤 H A W .typed r _ is .0)) $ prints
-        ! fm B.the-row (LL.makes B.the-type B′.the-plain 𝓤 H A) known-put-answer r w is (and-then ! (load ! (from !
-        (stop !)) (look ! 8 refl)) (no-more !)) (from ! (stop !)) (init ! 6 refl (tt, tt)) $ move ! (3 ∷ []) $
-        one-out ! Q S′.mir refl S′.lowered (LL.tells S.the-type S′.the-laws) h l₄ (λ is-h. assigns ! (of-opd ! (load
-        ! (from ! (stop !)) (look ! 0 refl))) (from ! (stop !)) (init ! 5 refl (LL.lawful S.the-type S′.the-laws 𝓤 H
-        A W .typed h _ is-h .0)) $ one-in ! Q S′.mir refl (LL.makes S.the-type S′.the-plain 𝓤 H A) h _ l₄ is-h $
-        prints ! fm Q (LL.makes S.the-type S′.the-plain 𝓤 H A) known-put-head h (S′.lowered h) is-h (and-then ! (load
-        ! (from ! (stop !)) (look ! 6 refl)) (no-more !)) (from ! (stop !)) (store ! 6 refl (tt, tt)) $ forget ! 5
-        refl $ forget ! 6 refl $ forget ! 7 refl $ forget ! 8 refl $ forget ! 9 refl $ forget ! 10 refl $ forget ! 11
-        refl $ forget ! 12 refl $ forget ! 13 refl $ forget ! 14 refl $ forget ! 15 refl $ forget ! 16 refl $ move !
-        (1 ∷ 2 ∷ 3 ∷ 0 ∷ 4 ∷ 5 ∷ 6 ∷ 7 ∷ 8 ∷ 9 ∷ 10 ∷ 11 ∷ 12 ∷ 13 ∷ 14 ∷ 15 ∷ 16 ∷ []) $ k ns es ss h))
+        (and-then ! (lit ! tt) (no-more !)))) (from ! (stop !)) (init ! 11 refl
+        (tt, (tt, (record { fits = lit< tt }, tt)))) $ assigns ! (addr ! (from ! (stop !))) (from ! (stop !)) (init !
+        12 refl (tt, tt)) $ assigns ! (agg ! (and-then ! (load ! (from ! (stop !)) (look ! 12 refl)) (and-then ! (lit
+        ! tt) (no-more !)))) (from ! (stop !)) (init ! 13 refl (tt, (tt, (record { fits = lit< tt }, tt)))) $ assigns
+        ! (addr ! (from ! (stop !))) (from ! (stop !)) (init ! 14 refl (tt, tt)) $ assigns ! (addr ! (from ! (stop
+        !))) (from ! (stop !)) (init ! 15 refl (tt, tt)) $ assigns ! (agg ! (and-then ! (load ! (from ! (stop !))
+        (look ! 15 refl)) (and-then ! (lit ! tt) (no-more !)))) (from ! (stop !)) (init ! 16 refl
+        (tt, (tt, (record { fits = lit< tt }, tt)))) $ adds 𝓤 H A W at-mem run (replicate 3 none) (zeros 64) (zeros
+        3) fresh order l₁ l₂ l₃ l₄ l₅ ! fm known-ticket-on (λ i j. (and-then ! (load ! (from ! (stop !)) (look ! 6
+        refl)) (and-then ! (load ! (from ! (stop !)) (look ! 8 refl)) (and-then ! (load ! (from ! (stop !)) (look !
+        10 refl)) (and-then ! (load ! (from ! (stop !)) (look ! 11 refl)) (and-then ! (load ! (from ! (stop !)) (look
+        ! 13 refl)) (no-more !))))))) (λ r w ns es ss h is. land ! (from ! (stop !)) (init ! 7 refl (LL.lawful
+        B.the-type B′.the-laws 𝓤 H A W .typed r _ is .0)) $ prints ! fm B.the-row (LL.makes B.the-type B′.the-plain 𝓤
+        H A) known-put-answer r w is (and-then ! (load ! (from ! (stop !)) (look ! 8 refl)) (no-more !)) (from !
+        (stop !)) (init ! 6 refl (tt, tt)) $ move ! (3 ∷ []) $ one-out ! Q S′.mir refl S′.lowered (LL.tells
+        S.the-type S′.the-laws) h l₄ (λ is-h. assigns ! (of-opd ! (load ! (from ! (stop !)) (look ! 0 refl))) (from !
+        (stop !)) (init ! 5 refl (LL.lawful S.the-type S′.the-laws 𝓤 H A W .typed h _ is-h .0)) $ one-in ! Q S′.mir
+        refl (LL.makes S.the-type S′.the-plain 𝓤 H A) h _ l₄ is-h $ prints ! fm Q (LL.makes S.the-type S′.the-plain 𝓤
+        H A) known-put-head h (S′.lowered h) is-h (and-then ! (load ! (from ! (stop !)) (look ! 6 refl)) (no-more !))
+        (from ! (stop !)) (store ! 6 refl (tt, tt)) $ forget ! 5 refl $ forget ! 6 refl $ forget ! 7 refl $ forget !
+        8 refl $ forget ! 9 refl $ forget ! 10 refl $ forget ! 11 refl $ forget ! 12 refl $ forget ! 13 refl $ forget
+        ! 14 refl $ forget ! 15 refl $ forget ! 16 refl $ move ! (1 ∷ 2 ∷ 3 ∷ 0 ∷ 4 ∷ 5 ∷ 6 ∷ 7 ∷ 8 ∷ 9 ∷ 10 ∷ 11 ∷
+        12 ∷ 13 ∷ 14 ∷ 15 ∷ 16 ∷ []) $ k ns es ss h))
 
     -- the node is moved
+    abbrev rooms-moves-one : List (Item 𝓤) → List (Item 𝓤)
+    rooms-moves-one Γ = ‵ (froom T′.mir l₆ 0) ∷ ‵ (froom tyUnit l₈ 0) ∷ ‵ (froom B′.mir l₉ 0) ∷
+        ‵ (froom (tyRef erased mut (Array R 3 .written .ty)) l₁₉ 0) ∷
+        ‵ (froom (sliceTy (tyRef erased mut (pointee (R .written)))) l₂₀ 0) ∷
+        ‵ (froom (tyRef erased mut (numbers 64)) l₂₁ 0) ∷ ‵ (froom (sliceTy (tyRef erased mut word)) l₂₂ 0) ∷
+        ‵ (froom (tyRef erased mut (numbers 3)) l₂₃ 0) ∷ ‵ (froom (sliceTy (tyRef erased mut word)) l₂₄ 0) ∷
+        ‵ (froom (tyRef erased imm (pointee (Q .written))) l₂₅ 0) ∷ ‵ (froom tyPtr l₂₆ 0) ∷ ‵ (froom tyPtr l₂₇ 0) ∷ Γ
+
     moves-one : {Γ : List (Item 𝓤)} (ns : List Node) (es : List ℤ) (ss : List ℤ) (h : Head) → ((ns′ : List Node)
         (es′ : List ℤ) (ss′ : List ℤ) → Sq W (‵ (Rows R 3 ns′ l₁) ∷ ‵ (Rows i64 64 es′ l₂) ∷ ‵ (Rows i64 3 ss′ l₃) ∷
-        ‵ (partAt Q fullShare h l₄ 0) ∷ ‵ (froom T′.mir l₆ 0) ∷ ‵ (froom tyUnit l₈ 0) ∷ ‵ (froom B′.mir l₉ 0) ∷ ‵
-        (froom (tyRef erased mut (Array R 3 .written .ty)) l₁₉ 0) ∷ ‵ (froom (sliceTy (tyRef erased mut (pointee (R
-        .written)))) l₂₀ 0) ∷ ‵ (froom (tyRef erased mut (numbers 64)) l₂₁ 0) ∷ ‵ (froom (sliceTy (tyRef erased mut
-        word)) l₂₂ 0) ∷ ‵ (froom (tyRef erased mut (numbers 3)) l₂₃ 0) ∷ ‵ (froom (sliceTy (tyRef erased mut word))
-        l₂₄ 0) ∷ ‵ (froom (tyRef erased imm (pointee (Q .written))) l₂₅ 0) ∷ ‵ (froom tyPtr l₂₆ 0) ∷ ‵ (froom tyPtr
-        l₂₇ 0) ∷ Γ) (runs C Λ En body.t-34 (atRet En Post))) → Sq W (‵ (Rows R 3 ns l₁) ∷ ‵ (Rows i64 64 es l₂) ∷ ‵
-        (Rows i64 3 ss l₃) ∷ ‵ (partAt Q fullShare h l₄ 0) ∷ ‵ (froom T′.mir l₆ 0) ∷ ‵ (froom tyUnit l₈ 0) ∷ ‵ (froom
-        B′.mir l₉ 0) ∷ ‵ (froom (tyRef erased mut (Array R 3 .written .ty)) l₁₉ 0) ∷ ‵ (froom (sliceTy (tyRef erased
-        mut (pointee (R .written)))) l₂₀ 0) ∷ ‵ (froom (tyRef erased mut (numbers 64)) l₂₁ 0) ∷ ‵ (froom (sliceTy
-        (tyRef erased mut word)) l₂₂ 0) ∷ ‵ (froom (tyRef erased mut (numbers 3)) l₂₃ 0) ∷ ‵ (froom (sliceTy (tyRef
-        erased mut word)) l₂₄ 0) ∷ ‵ (froom (tyRef erased imm (pointee (Q .written))) l₂₅ 0) ∷ ‵ (froom tyPtr l₂₆ 0)
-        ∷ ‵ (froom tyPtr l₂₇ 0) ∷ Γ) (runs C Λ En body.t-21 (atRet En Post))
+        ‵ (partAt Q fullShare h l₄ 0) ∷ rooms-moves-one Γ) (runs C Λ En body.t-34 (atRet En Post))) → Sq W
+        (‵ (Rows R 3 ns l₁) ∷ ‵ (Rows i64 64 es l₂) ∷ ‵ (Rows i64 3 ss l₃) ∷ ‵ (partAt Q fullShare h l₄ 0) ∷
+        rooms-moves-one Γ) (runs C Λ En body.t-21 (atRet En Post))
     moves-one ns es ss h k =
         assigns ! (addr ! (from ! (stop !))) (from ! (stop !)) (init ! 7 refl (tt, tt)) $ assigns ! (agg ! (and-then
         ! (load ! (from ! (stop !)) (look ! 7 refl)) (and-then ! (lit ! tt) (no-more !)))) (from ! (stop !)) (init !
@@ -335,13 +313,15 @@ module _ {M : Type 1} (𝓤 : URA M) (H : Heap 𝓤) (A : Atoms 𝓤) (W : Given
         refl $ forget ! 14 refl $ forget ! 15 refl $ k ns′ es′ ss′))
 
     -- the node is changed
-    changes-one : {Γ : List (Item 𝓤)} (ns : List Node) → ((ns′ : List Node) → Sq W (‵ (Rows R 3 ns′ l₁) ∷ ‵
-        (froom T′.mir l₆ 0) ∷ ‵ (froom tyUnit l₈ 0) ∷ ‵ (froom B′.mir l₉ 0) ∷ ‵ (froom (tyRef erased mut (Array R 3
-        .written .ty)) l₂₈ 0) ∷ ‵ (froom (sliceTy (tyRef erased mut (pointee (R .written)))) l₂₉ 0) ∷ ‵ (froom tyPtr
-        l₃₀ 0) ∷ ‵ (froom tyPtr l₃₁ 0) ∷ Γ) (runs C Λ En body.t-43 (atRet En Post))) → Sq W (‵ (Rows R 3 ns l₁) ∷ ‵
-        (froom T′.mir l₆ 0) ∷ ‵ (froom tyUnit l₈ 0) ∷ ‵ (froom B′.mir l₉ 0) ∷ ‵ (froom (tyRef erased mut (Array R 3
-        .written .ty)) l₂₈ 0) ∷ ‵ (froom (sliceTy (tyRef erased mut (pointee (R .written)))) l₂₉ 0) ∷ ‵ (froom tyPtr
-        l₃₀ 0) ∷ ‵ (froom tyPtr l₃₁ 0) ∷ Γ) (runs C Λ En body.t-34 (atRet En Post))
+    abbrev rooms-changes-one : List (Item 𝓤) → List (Item 𝓤)
+    rooms-changes-one Γ = ‵ (froom T′.mir l₆ 0) ∷ ‵ (froom tyUnit l₈ 0) ∷ ‵ (froom B′.mir l₉ 0) ∷
+        ‵ (froom (tyRef erased mut (Array R 3 .written .ty)) l₂₈ 0) ∷
+        ‵ (froom (sliceTy (tyRef erased mut (pointee (R .written)))) l₂₉ 0) ∷ ‵ (froom tyPtr l₃₀ 0) ∷
+        ‵ (froom tyPtr l₃₁ 0) ∷ Γ
+
+    changes-one : {Γ : List (Item 𝓤)} (ns : List Node) → ((ns′ : List Node) → Sq W (‵ (Rows R 3 ns′ l₁) ∷
+        rooms-changes-one Γ) (runs C Λ En body.t-43 (atRet En Post))) → Sq W (‵ (Rows R 3 ns l₁) ∷
+        rooms-changes-one Γ) (runs C Λ En body.t-34 (atRet En Post))
     changes-one ns k =
         assigns ! (addr ! (from ! (stop !))) (from ! (stop !)) (init ! 4 refl (tt, tt)) $ assigns ! (agg ! (and-then
         ! (load ! (from ! (stop !)) (look ! 4 refl)) (and-then ! (lit ! tt) (no-more !)))) (from ! (stop !)) (init !
@@ -364,12 +344,13 @@ module _ {M : Type 1} (𝓤 : URA M) (H : Heap 𝓤) (A : Atoms 𝓤) (W : Given
         refl $ forget ! 3 refl $ forget ! 4 refl $ forget ! 5 refl $ forget ! 6 refl $ forget ! 7 refl $ k ns′))
 
     -- the node is looked up
-    finds-one : {Γ : List (Item 𝓤)} (ns : List Node) → (Sq W (‵ (Rows R 3 ns l₁) ∷ ‵ (froom tyUnit l₈ 0) ∷ ‵
-        (froom U′.mir l₃₂ 0) ∷ ‵ (froom (tyRef erased imm (Array R 3 .written .ty)) l₃₃ 0) ∷ ‵ (froom (sliceTy (tyRef
-        erased imm (pointee (R .written)))) l₃₄ 0) ∷ Γ) (runs C Λ En body.t-47 (atRet En Post))) → Sq W (‵ (Rows R 3
-        ns l₁) ∷ ‵ (froom tyUnit l₈ 0) ∷ ‵ (froom U′.mir l₃₂ 0) ∷ ‵ (froom (tyRef erased imm (Array R 3 .written
-        .ty)) l₃₃ 0) ∷ ‵ (froom (sliceTy (tyRef erased imm (pointee (R .written)))) l₃₄ 0) ∷ Γ) (runs C Λ En
-        body.t-43 (atRet En Post))
+    finds-one : {Γ : List (Item 𝓤)} (ns : List Node) → (Sq W (‵ (Rows R 3 ns l₁) ∷ ‵ (froom tyUnit l₈ 0) ∷
+        ‵ (froom U′.mir l₃₂ 0) ∷ ‵ (froom (tyRef erased imm (Array R 3 .written .ty)) l₃₃ 0) ∷
+        ‵ (froom (sliceTy (tyRef erased imm (pointee (R .written)))) l₃₄ 0) ∷ Γ) (runs C Λ En body.t-47 (atRet En
+        Post))) → Sq W (‵ (Rows R 3 ns l₁) ∷ ‵ (froom tyUnit l₈ 0) ∷ ‵ (froom U′.mir l₃₂ 0) ∷
+        ‵ (froom (tyRef erased imm (Array R 3 .written .ty)) l₃₃ 0) ∷
+        ‵ (froom (sliceTy (tyRef erased imm (pointee (R .written)))) l₃₄ 0) ∷ Γ) (runs C Λ En body.t-43 (atRet En
+        Post))
     finds-one ns k =
         assigns ! (addr ! (from ! (stop !))) (from ! (stop !)) (init ! 3 refl (tt, tt)) $ assigns ! (agg ! (and-then
         ! (load ! (from ! (stop !)) (look ! 3 refl)) (and-then ! (lit ! tt) (no-more !)))) (from ! (stop !)) (init !
@@ -382,10 +363,10 @@ module _ {M : Type 1} (𝓤 : URA M) (H : Heap 𝓤) (A : Atoms 𝓤) (W : Given
         ! 4 refl $ k)
 
     -- the counts are set
-    counts-three : {Γ : List (Item 𝓤)} (h : Head) → ((h′ : Head) → Sq W (‵ (partAt Q fullShare h′ l₄ 0) ∷ ‵
-        (froom S′.mir l₇ 0) ∷ ‵ (froom tyUnit l₈ 0) ∷ ‵ (froom (tyRef erased mut (pointee (Q .written))) l₃₅ 0) ∷ Γ)
-        (runs C Λ En body.t-51 (atRet En Post))) → Sq W (‵ (partAt Q fullShare h l₄ 0) ∷ ‵ (froom S′.mir l₇ 0) ∷ ‵
-        (froom tyUnit l₈ 0) ∷ ‵ (froom (tyRef erased mut (pointee (Q .written))) l₃₅ 0) ∷ Γ) (runs C Λ En body.t-47
+    counts-three : {Γ : List (Item 𝓤)} (h : Head) → ((h′ : Head) → Sq W (‵ (partAt Q fullShare h′ l₄ 0) ∷
+        ‵ (froom S′.mir l₇ 0) ∷ ‵ (froom tyUnit l₈ 0) ∷ ‵ (froom (tyRef erased mut (pointee (Q .written))) l₃₅ 0) ∷
+        Γ) (runs C Λ En body.t-51 (atRet En Post))) → Sq W (‵ (partAt Q fullShare h l₄ 0) ∷ ‵ (froom S′.mir l₇ 0) ∷
+        ‵ (froom tyUnit l₈ 0) ∷ ‵ (froom (tyRef erased mut (pointee (Q .written))) l₃₅ 0) ∷ Γ) (runs C Λ En body.t-47
         (atRet En Post))
     counts-three h k =
         assigns ! (addr ! (from ! (stop !))) (from ! (stop !)) (init ! 3 refl (tt, tt)) $ counts 𝓤 H A W at-mem run h
@@ -402,17 +383,31 @@ module _ {M : Type 1} (𝓤 : URA M) (H : Heap 𝓤) (A : Atoms 𝓤) (W : Given
         )) $ forget ! 1 refl $ forget ! 2 refl $ forget ! 3 refl $ k h′))
 
     -- the arrays and the head are locals again
-    lets-go : {Γ : List (Item 𝓤)} (ns : List Node) (es : List ℤ) (ss : List ℤ) (h : Head) → (Sq W (‵ (froom
-        (tyArray T′.mir 3) l₁ 0) ∷ ‵ (froom (numbers 64) l₂ 0) ∷ ‵ (froom (numbers 3) l₃ 0) ∷ ‵ (froom S′.mir l₄ 0) ∷
-        ‵ (froom (numbers 4) l₅ 0) ∷ Γ) (runs C Λ En body.t-51 (atRet En Post))) → Sq W (‵ (Rows R 3 ns l₁) ∷ ‵ (Rows
-        i64 64 es l₂) ∷ ‵ (Rows i64 3 ss l₃) ∷ ‵ (partAt Q fullShare h l₄ 0) ∷ ‵ (Rows i64 4 order l₅) ∷ Γ) (runs C Λ
-        En body.t-51 (atRet En Post))
+    lets-go : {Γ : List (Item 𝓤)} (ns : List Node) (es : List ℤ) (ss : List ℤ) (h : Head) → (Sq W
+        (‵ (froom (tyArray T′.mir 3) l₁ 0) ∷ ‵ (froom (numbers 64) l₂ 0) ∷ ‵ (froom (numbers 3) l₃ 0) ∷
+        ‵ (froom S′.mir l₄ 0) ∷ ‵ (froom (numbers 4) l₅ 0) ∷ Γ) (runs C Λ En body.t-51 (atRet En Post))) → Sq W
+        (‵ (Rows R 3 ns l₁) ∷ ‵ (Rows i64 64 es l₂) ∷ ‵ (Rows i64 3 ss l₃) ∷ ‵ (partAt Q fullShare h l₄ 0) ∷
+        ‵ (Rows i64 4 order l₅) ∷ Γ) (runs C Λ En body.t-51 (atRet En Post))
     lets-go ns es ss h k =
         rows-out ! R (LL.vals T.the-type T′.the-laws) (LL.tells T.the-type T′.the-laws) 3 ns l₁ $ move ! (1 ∷ []) $
         rows-out ! i64 (sint-vals w64) (sint-tells w64) 64 es l₂ $ move ! (2 ∷ []) $ rows-out ! i64 (sint-vals w64)
         (sint-tells w64) 3 ss l₃ $ move ! (4 ∷ []) $ rows-out ! i64 (sint-vals w64) (sint-tells w64) 4 order l₅ $
         move ! (4 ∷ []) $ one-out ! Q S′.mir refl S′.lowered (LL.tells S.the-type S′.the-laws) h l₄ (λ is. forget ! 0
         refl $ move ! (4 ∷ 3 ∷ 2 ∷ 0 ∷ 1 ∷ []) $ k)
+
+    -- the whole body, over locals that are not set
+    rest : Sq W (unset 𝓤 H En (‵ ftrue ∷ [])) (runs C Λ En body.t-1 (atRet En Post))
+    rest =
+        move ! (2 ∷ 4 ∷ 6 ∷ 8 ∷ 10 ∷ 12 ∷ 14 ∷ []) $ starts (move ! (0 ∷ 1 ∷ 2 ∷ 3 ∷ 4 ∷ 6 ∷ 16 ∷ 18 ∷ 20 ∷ 22 ∷ 24 ∷
+        26 ∷ 28 ∷ 30 ∷ 32 ∷ 34 ∷ 36 ∷ []) $ adds-one (λ ns es ss h. move ! (0 ∷ 1 ∷ 2 ∷ 3 ∷ 17 ∷ 6 ∷ 7 ∷ 38 ∷ 40 ∷ 42
+        ∷ 44 ∷ 46 ∷ 48 ∷ 50 ∷ 52 ∷ 54 ∷ []) $ moves-one ns es ss h (λ ns₁ es₁ ss₁. move ! (0 ∷ 4 ∷ 5 ∷ 6 ∷ 56 ∷ 58 ∷
+        60 ∷ 62 ∷ []) $ changes-one ns₁ (λ ns₂. move ! (0 ∷ 2 ∷ 64 ∷ 66 ∷ 68 ∷ []) $ finds-one ns₂ (move ! (13 ∷ 24 ∷
+        1 ∷ 70 ∷ []) $ counts-three h (λ h₁. move ! (4 ∷ 14 ∷ 15 ∷ 0 ∷ 25 ∷ []) $ lets-go ns₂ es₁ ss₁ h₁ (assigns !
+        (of-opd ! (unit-lit !)) (from ! (stop !)) (init ! 35 refl (tt, tt)) $ returns ! (look ! 35 refl) $ forget !
+        35 refl $ move ! (35 ∷ 36 ∷ 0 ∷ 37 ∷ 1 ∷ 38 ∷ 2 ∷ 39 ∷ 3 ∷ 40 ∷ 4 ∷ 41 ∷ 11 ∷ 42 ∷ 5 ∷ 43 ∷ 6 ∷ 44 ∷ 12 ∷ 45
+        ∷ 26 ∷ 46 ∷ 27 ∷ 47 ∷ 28 ∷ 48 ∷ 29 ∷ 49 ∷ 30 ∷ 50 ∷ 31 ∷ 51 ∷ 32 ∷ 52 ∷ 33 ∷ 53 ∷ 34 ∷ 54 ∷ 17 ∷ 55 ∷ 18 ∷ 56
+        ∷ 19 ∷ 57 ∷ 20 ∷ 58 ∷ 21 ∷ 59 ∷ 22 ∷ 60 ∷ 23 ∷ 61 ∷ 24 ∷ 62 ∷ 25 ∷ 63 ∷ 13 ∷ 64 ∷ 14 ∷ 65 ∷ 15 ∷ 66 ∷ 16 ∷ 67
+        ∷ 8 ∷ 68 ∷ 9 ∷ 69 ∷ 10 ∷ 70 ∷ 7 ∷ 71 ∷ 72 ∷ []) $ frees-all ! En $ by ! exits)))))))
 
   module _ (C : Calls 𝓤 H) (Λ : Loops 𝓤 H) (fm : FmC 𝓤 H (W .laws) C)
       (known-ticket-on : Triple 𝓤 (C #ticket-on) (TicketOn 𝓤 H A at-mem run))
@@ -433,42 +428,13 @@ module _ {M : Type 1} (𝓤 : URA M) (H : Heap 𝓤) (A : Atoms 𝓤) (W : Given
         l₁₉. alloc1 ! (λ l₂₀. alloc1 ! (λ l₂₁. alloc1 ! (λ l₂₂. alloc1 ! (λ l₂₃. alloc1 ! (λ l₂₄. alloc1 ! (λ l₂₅.
         alloc1 ! (λ l₂₆. alloc1 ! (λ l₂₇. alloc1 ! (λ l₂₈. alloc1 ! (λ l₂₉. alloc1 ! (λ l₃₀. alloc1 ! (λ l₃₁. alloc1
         ! (λ l₃₂. alloc1 ! (λ l₃₃. alloc1 ! (λ l₃₄. alloc1 ! (λ l₃₅. alloc0 ! $ params1 ! $ pass0 ! $
-        keep ! (68 ∷ 66 ∷ 64 ∷ 62 ∷ 60 ∷ 58 ∷ 56 ∷ 70 ∷ 54 ∷ 52 ∷ 50 ∷ 48 ∷ 46 ∷ 44 ∷ 42 ∷ 40 ∷ 38 ∷ 36 ∷ 34 ∷ 32 ∷
-        30 ∷ 28 ∷ 26 ∷ 24 ∷ 22 ∷ 20 ∷ 18 ∷ 16 ∷ 14 ∷ 12 ∷ 10 ∷ 8 ∷ 6 ∷ 4 ∷ 2 ∷ 0 ∷ 71 ∷ 69 ∷ 67 ∷ 65 ∷ 63 ∷ 61 ∷ 59 ∷
-        57 ∷ 55 ∷ 53 ∷ 51 ∷ 49 ∷ 47 ∷ 45 ∷ 43 ∷ 41 ∷ 39 ∷ 37 ∷ 35 ∷ 33 ∷ 31 ∷ 29 ∷ 27 ∷ 25 ∷ 23 ∷ 21 ∷ 19 ∷ 17 ∷ 15 ∷
-        13 ∷ 11 ∷ 9 ∷ 7 ∷ 5 ∷ 3 ∷ 1 ∷ 72 ∷ []) $ starts C Λ fm known-ticket-on known-move-node known-change-node
+        keep ! (70 ∷ 71 ∷ 68 ∷ 69 ∷ 66 ∷ 67 ∷ 64 ∷ 65 ∷ 62 ∷ 63 ∷ 60 ∷ 61 ∷ 58 ∷ 59 ∷ 56 ∷ 57 ∷ 54 ∷ 55 ∷ 52 ∷ 53 ∷
+        50 ∷ 51 ∷ 48 ∷ 49 ∷ 46 ∷ 47 ∷ 44 ∷ 45 ∷ 42 ∷ 43 ∷ 40 ∷ 41 ∷ 38 ∷ 39 ∷ 36 ∷ 37 ∷ 34 ∷ 35 ∷ 32 ∷ 33 ∷ 30 ∷ 31 ∷
+        28 ∷ 29 ∷ 26 ∷ 27 ∷ 24 ∷ 25 ∷ 22 ∷ 23 ∷ 20 ∷ 21 ∷ 18 ∷ 19 ∷ 16 ∷ 17 ∷ 14 ∷ 15 ∷ 12 ∷ 13 ∷ 10 ∷ 11 ∷ 8 ∷ 9 ∷ 6
+        ∷ 7 ∷ 4 ∷ 5 ∷ 2 ∷ 3 ∷ 0 ∷ 1 ∷ 72 ∷ []) $ rest C Λ fm known-ticket-on known-move-node known-change-node
         known-find-node known-set-counts known-put-answer known-put-node known-put-head known-put-found l₀ l₁ l₂ l₃
         l₄ l₅ l₆ l₇ l₈ l₉ l₁₀ l₁₁ l₁₂ l₁₃ l₁₄ l₁₅ l₁₆ l₁₇ l₁₈ l₁₉ l₂₀ l₂₁ l₂₂ l₂₃ l₂₄ l₂₅ l₂₆ l₂₇ l₂₈ l₂₉ l₃₀ l₃₁ l₃₂
-        l₃₃ l₃₄ l₃₅ (move ! (0 ∷ 1 ∷ 2 ∷ 3 ∷ 4 ∷ 6 ∷ 8 ∷ 9 ∷ 10 ∷ 11 ∷ 12 ∷ 13 ∷ 14 ∷ 15 ∷ 16 ∷ 17 ∷ 18 ∷ []) $
-        adds-one C Λ fm known-ticket-on known-move-node known-change-node known-find-node known-set-counts
-        known-put-answer known-put-node known-put-head known-put-found l₀ l₁ l₂ l₃ l₄ l₅ l₆ l₇ l₈ l₉ l₁₀ l₁₁ l₁₂ l₁₃
-        l₁₄ l₁₅ l₁₆ l₁₇ l₁₈ l₁₉ l₂₀ l₂₁ l₂₂ l₂₃ l₂₄ l₂₅ l₂₆ l₂₇ l₂₈ l₂₉ l₃₀ l₃₁ l₃₂ l₃₃ l₃₄ l₃₅ (λ ns es ss h. move !
-        (0 ∷ 1 ∷ 2 ∷ 3 ∷ 17 ∷ 6 ∷ 7 ∷ 19 ∷ 20 ∷ 21 ∷ 22 ∷ 23 ∷ 24 ∷ 25 ∷ 26 ∷ 27 ∷ []) $ moves-one C Λ fm
-        known-ticket-on known-move-node known-change-node known-find-node known-set-counts known-put-answer
-        known-put-node known-put-head known-put-found l₀ l₁ l₂ l₃ l₄ l₅ l₆ l₇ l₈ l₉ l₁₀ l₁₁ l₁₂ l₁₃ l₁₄ l₁₅ l₁₆ l₁₇
-        l₁₈ l₁₉ l₂₀ l₂₁ l₂₂ l₂₃ l₂₄ l₂₅ l₂₆ l₂₇ l₂₈ l₂₉ l₃₀ l₃₁ l₃₂ l₃₃ l₃₄ l₃₅ ns es ss h (λ ns₁ es₁ ss₁. move ! (0
-        ∷ 4 ∷ 5 ∷ 6 ∷ 28 ∷ 29 ∷ 30 ∷ 31 ∷ []) $ changes-one C Λ fm known-ticket-on known-move-node known-change-node
-        known-find-node known-set-counts known-put-answer known-put-node known-put-head known-put-found l₀ l₁ l₂ l₃
-        l₄ l₅ l₆ l₇ l₈ l₉ l₁₀ l₁₁ l₁₂ l₁₃ l₁₄ l₁₅ l₁₆ l₁₇ l₁₈ l₁₉ l₂₀ l₂₁ l₂₂ l₂₃ l₂₄ l₂₅ l₂₆ l₂₇ l₂₈ l₂₉ l₃₀ l₃₁ l₃₂
-        l₃₃ l₃₄ l₃₅ ns₁ (λ ns₂. move ! (0 ∷ 2 ∷ 32 ∷ 33 ∷ 34 ∷ []) $ finds-one C Λ fm known-ticket-on known-move-node
-        known-change-node known-find-node known-set-counts known-put-answer known-put-node known-put-head
-        known-put-found l₀ l₁ l₂ l₃ l₄ l₅ l₆ l₇ l₈ l₉ l₁₀ l₁₁ l₁₂ l₁₃ l₁₄ l₁₅ l₁₆ l₁₇ l₁₈ l₁₉ l₂₀ l₂₁ l₂₂ l₂₃ l₂₄ l₂₅
-        l₂₆ l₂₇ l₂₈ l₂₉ l₃₀ l₃₁ l₃₂ l₃₃ l₃₄ l₃₅ ns₂ (move ! (13 ∷ 24 ∷ 1 ∷ 35 ∷ []) $ counts-three C Λ fm
-        known-ticket-on known-move-node known-change-node known-find-node known-set-counts known-put-answer
-        known-put-node known-put-head known-put-found l₀ l₁ l₂ l₃ l₄ l₅ l₆ l₇ l₈ l₉ l₁₀ l₁₁ l₁₂ l₁₃ l₁₄ l₁₅ l₁₆ l₁₇
-        l₁₈ l₁₉ l₂₀ l₂₁ l₂₂ l₂₃ l₂₄ l₂₅ l₂₆ l₂₇ l₂₈ l₂₉ l₃₀ l₃₁ l₃₂ l₃₃ l₃₄ l₃₅ h (λ h₁. move ! (4 ∷ 14 ∷ 15 ∷ 0 ∷ 25
-        ∷ []) $ lets-go C Λ fm known-ticket-on known-move-node known-change-node known-find-node known-set-counts
-        known-put-answer known-put-node known-put-head known-put-found l₀ l₁ l₂ l₃ l₄ l₅ l₆ l₇ l₈ l₉ l₁₀ l₁₁ l₁₂ l₁₃
-        l₁₄ l₁₅ l₁₆ l₁₇ l₁₈ l₁₉ l₂₀ l₂₁ l₂₂ l₂₃ l₂₄ l₂₅ l₂₆ l₂₇ l₂₈ l₂₉ l₃₀ l₃₁ l₃₂ l₃₃ l₃₄ l₃₅ ns₂ es₁ ss₁ h₁ (
-        assigns ! (of-opd ! (unit-lit !)) (from ! (stop !)) (init ! 35 refl (tt, tt)) $ returns ! (look ! 35 refl) $
-        keep ! (35 ∷ 36 ∷ 0 ∷ 37 ∷ 1 ∷ 38 ∷ 2 ∷ 39 ∷ 3 ∷ 40 ∷ 4 ∷ 41 ∷ 11 ∷ 42 ∷ 5 ∷ 43 ∷ 6 ∷ 44 ∷ 12 ∷ 45 ∷ 26 ∷ 46
-        ∷ 27 ∷ 47 ∷ 28 ∷ 48 ∷ 29 ∷ 49 ∷ 30 ∷ 50 ∷ 31 ∷ 51 ∷ 32 ∷ 52 ∷ 33 ∷ 53 ∷ 34 ∷ 54 ∷ 17 ∷ 55 ∷ 18 ∷ 56 ∷ 19 ∷ 57
-        ∷ 20 ∷ 58 ∷ 21 ∷ 59 ∷ 22 ∷ 60 ∷ 23 ∷ 61 ∷ 24 ∷ 62 ∷ 25 ∷ 63 ∷ 13 ∷ 64 ∷ 14 ∷ 65 ∷ 15 ∷ 66 ∷ 16 ∷ 67 ∷ 8 ∷ 68
-        ∷ 9 ∷ 69 ∷ 10 ∷ 70 ∷ 7 ∷ 71 ∷ 72 ∷ []) $ frees-local ! $ free1 ! $ free1 ! $ free1 ! $ free1 ! $ free1 ! $
-        free1 ! $ free1 ! $ free1 ! $ free1 ! $ free1 ! $ free1 ! $ free1 ! $ free1 ! $ free1 ! $ free1 ! $ free1 ! $
-        free1 ! $ free1 ! $ free1 ! $ free1 ! $ free1 ! $ free1 ! $ free1 ! $ free1 ! $ free1 ! $ free1 ! $ free1 ! $
-        free1 ! $ free1 ! $ free1 ! $ free1 ! $ free1 ! $ free1 ! $ free1 ! $ free1 ! $ free0 ! $ by !
-        exits)))))))))))))))))))))))))))))))))))))))))))
+        l₃₃ l₃₄ l₃₅))))))))))))))))))))))))))))))))))))
 
     walks : Walks 𝓤 H A f.ended tt (WpFn 𝓤 H C Λ code.function) (f.clauses 𝓤 H A at-mem run)
     walks = walked 𝓤 H A f.ended tt (f.clauses 𝓤 H A at-mem run) (WpFn 𝓤 H C Λ code.function) (λ κs. tt) (λ κs. tt)
