@@ -1,4 +1,4 @@
--- `abi::solgwid_ticket` meets its contract: the head is read and put back. Assumes nothing.
+-- `solgwid::solgwid_ticket` meets its contract: the head is read and put back. Assumes nothing.
 use borrow.Author.Needs.{needs, sfits-of}
 use mathlib.Core.Path.{ap, _∙_}
 use lib.IntN.{ℤ}
@@ -8,8 +8,8 @@ use mir.Facts.{toZ-ofZ}
 use Rattle.map.specs.declared.Head.{Head}
 use Rattle.map.specs.Rows.{Lent, lent}
 use Rattle.map.specs.Ticket.{ticket}
-use Rattle.abi.proofs.solgwid_ticket.Statement.{statement}
-use Rattle.abi.proofs.solgwid_ticket.Tie as tie
+use Rattle.solgwid.proofs.solgwid_ticket.Statement.{statement}
+use Rattle.solgwid.proofs.solgwid_ticket.Tie as tie
 
 returns : tie.Need-returns
 returns c =

@@ -1,4 +1,4 @@
--- `abi::solgwid_edges_of_face` meets its contract. Assumes nothing.
+-- `solgwid::solgwid_edges_of_face` meets its contract. Assumes nothing.
 use borrow.Author.Needs.{needs, sfits-of}
 use mathlib.Core.Path.{ap, _∙_}
 use lib.IntN.{ℤ}
@@ -9,8 +9,8 @@ use Rattle.map.specs.declared.Head.{Head}
 use Rattle.map.specs.Rows.{Lent, lent}
 use Rattle.map.specs.Ticket.{edgesOfFace}
 use Rattle.head.specs.Heads.{headIn}
-use Rattle.abi.proofs.solgwid_edges_of_face.Statement.{statement}
-use Rattle.abi.proofs.solgwid_edges_of_face.Tie as tie
+use Rattle.solgwid.proofs.solgwid_edges_of_face.Statement.{statement}
+use Rattle.solgwid.proofs.solgwid_edges_of_face.Tie as tie
 
 returns : tie.Need-returns
 returns c =

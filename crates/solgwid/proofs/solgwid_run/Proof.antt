@@ -1,4 +1,4 @@
--- `abi::solgwid_run` meets its contract: the value is 0. Assumes nothing.
+-- `solgwid::solgwid_run` meets its contract: the value is 0. Assumes nothing.
 use borrow.Author.Needs.{needs}
 use mathlib.Core.Path.{sym, subst}
 use lib.IntN.{pos}
@@ -6,9 +6,9 @@ use Rattle.map.specs.declared.Head.{Head}
 use Rattle.map.specs.Rows.{Lent, lent}
 use Rattle.ticket_lists.specs.Runs.{Runs}
 use Rattle.head.specs.Heads.{headIn}
-use Rattle.abi.proofs.Values.{runs-told}
-use Rattle.abi.proofs.solgwid_run.Statement.{statement}
-use Rattle.abi.proofs.solgwid_run.Tie as tie
+use Rattle.solgwid.proofs.Values.{runs-told}
+use Rattle.solgwid.proofs.solgwid_run.Statement.{statement}
+use Rattle.solgwid.proofs.solgwid_run.Tie as tie
 
 returns : tie.Need-returns
 returns c =

@@ -1,13 +1,13 @@
--- `abi::solgwid_empty_map` meets its contract: the value is 0. Assumes nothing.
+-- `solgwid::solgwid_empty_map` meets its contract: the value is 0. Assumes nothing.
 use borrow.Author.Needs.{needs}
 use mathlib.Core.Path.{ap, _∙_}
 use lib.IntN.{pos}
 use Rattle.map.specs.declared.Head.{Head}
 use Rattle.map.specs.Rows.{Lent, lent}
 use Rattle.map.specs.Ticket.{emptied}
-use Rattle.abi.proofs.Values.{emptied-told}
-use Rattle.abi.proofs.solgwid_empty_map.Statement.{statement}
-use Rattle.abi.proofs.solgwid_empty_map.Tie as tie
+use Rattle.solgwid.proofs.Values.{emptied-told}
+use Rattle.solgwid.proofs.solgwid_empty_map.Statement.{statement}
+use Rattle.solgwid.proofs.solgwid_empty_map.Tie as tie
 
 returns : tie.Need-returns
 returns c =
