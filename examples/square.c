@@ -1,58 +1,55 @@
-/* The square sheet from C: a node, a loop around a plot, the loop split, a boundary across the plot. Then a split taken
-   back. */
+/* The square sheet: a loop around a plot, the loop split, a boundary across the plot. Then a split taken back.
+
+       rt staticlib solgwid && cc -Iinclude examples/square.c target/staticlib/libsolgwid.a -o square */
+#include <inttypes.h>
 #include <stdio.h>
 #include <string.h>
 #include "solgwid.h"
 
-static int64_t nodes[200 * 4], edges[200 * 32], faces[200], head[6];
+enum { ROWS = 200 };
 
-static void ticket(const int64_t *numbers, size_t length) {
-    int64_t value;
-    uint64_t refusal = solgwid_ticket(nodes, 800, edges, 6400, faces, 200, head, numbers, length, &value);
-    printf("%llu %lld\n", (unsigned long long)refusal, (long long)value);
+static solgwid_node nodes[ROWS];
+static solgwid_edge edges[ROWS];
+static solgwid_face faces[ROWS];
+static solgwid_map map = {nodes, ROWS, edges, ROWS, faces, ROWS, {0, 0, 0, 0, 0, 0}};
+static int64_t value;
+
+/* The answer to a call that stored `value`. */
+static void print_answer(const char *call, solgwid_refusal refusal) {
+    if (refusal == SOLGWID_DONE) printf("%s: %" PRId64 "\n", call, value);
+    else printf("%s: refused, %d: %s\n", call, (int)refusal, solgwid_refusal_text(refusal));
 }
 
-static void face(int64_t number) {
-    int64_t list[64], value;
-    uint64_t refusal = solgwid_edges_of_face(nodes, 800, edges, 6400, faces, 200, head, number, list, 64, &value);
-    printf("face %lld: %llu", (long long)number, (unsigned long long)refusal);
-    for (int64_t i = 0; i < value; i++) printf(" %lld", (long long)list[i]);
+static void print_edges_of_face(int64_t face) {
+    int64_t list[4 * ROWS];
+    solgwid_map_edges_of_face(&map, face, list, 4 * ROWS, &value);
+    printf("edges of face %" PRId64 ":", face);
+    for (int64_t i = 0; i < value; i++) printf(" %" PRId64, list[i]);
     printf("\n");
 }
-
-#define TICKET(...) do { int64_t t[] = {__VA_ARGS__}; ticket(t, sizeof t / sizeof *t); } while (0)
 
 int main(void) {
-    solgwid_empty_map(nodes, 800, edges, 6400, faces, 200, head);
-    TICKET(1, -1, 0, 0);
-    TICKET(12, 1, 1, 0, 0, 10, 0, 10, 10, 0, 10, 0, 0);
-    TICKET(8, 1, 10, 10);
-    TICKET(12, 1, 2, 0, 0, 10, 10);
-    TICKET(9, 1, 2);
-    face(1);
-    face(2);
-    TICKET(13, 3);
+    const solgwid_point loop[] = {{0, 0}, {10, 0}, {10, 10}, {0, 10}, {0, 0}};
+    const solgwid_point across[] = {{0, 0}, {10, 10}};
+    if (solgwid_map_empty(&map) != SOLGWID_DONE) return 1;
+    print_answer("node", solgwid_add_iso_node(&map, -1, 0, 0, &value));
+    print_answer("loop", solgwid_add_edge_mod_face(&map, 1, 1, loop, 5, &value));
+    print_answer("split", solgwid_mod_edge_split(&map, 1, 10, 10, &value));
+    print_answer("boundary", solgwid_add_edge_mod_face(&map, 1, 2, across, 2, &value));
+    print_answer("heal", solgwid_new_edge_heal(&map, 1, 2, &value));
+    print_edges_of_face(1);
+    print_edges_of_face(2);
+    print_answer("face left", solgwid_rem_edge_new_face(&map, 3, &value));
 
-    /* the same list in one call */
-    int64_t numbers[] = {1, -1, 0, 0, 12, 1, 1, 0, 0, 10, 0, 10, 10, 0, 10, 0, 0, 8, 1, 10, 10, 12, 1, 2, 0, 0, 10, 10, 9, 1, 2, 13, 3};
-    size_t lengths[] = {4, 13, 4, 7, 3, 2};
-    uint64_t refusals[6];
-    int64_t values[6];
-    uint64_t refusal = solgwid_run(nodes, 800, edges, 6400, faces, 200, head, numbers, 33, lengths, 6, refusals, 6, values, 6);
-    printf("run: %llu", (unsigned long long)refusal);
-    for (int i = 0; i < 6; i++) printf(" %llu/%lld", (unsigned long long)refusals[i], (long long)values[i]);
-    printf("\n");
-
-    /* a ditch is split where a sluice will stand; the sluice is cancelled, and every row is as before */
-    static int64_t before[3][6400];
-    memcpy(before[0], nodes, sizeof nodes);
-    memcpy(before[1], edges, sizeof edges);
-    memcpy(before[2], faces, sizeof faces);
-    int64_t next_edge = head[4];
-    TICKET(8, 1, 10, 4);
-    TICKET(10, 1, next_edge);
-    int same = !memcmp(before[0], nodes, sizeof nodes) && !memcmp(before[1], edges, sizeof edges)
-        && !memcmp(before[2], faces, sizeof faces);
-    printf("taken back: %s\n", same ? "every row as before" : "rows differ");
+    /* the loop is split where a sluice will stand; the sluice is cancelled, and every row is as before */
+    static solgwid_node nodes_before[ROWS];
+    static solgwid_edge edges_before[ROWS];
+    memcpy(nodes_before, nodes, sizeof nodes);
+    memcpy(edges_before, edges, sizeof edges);
+    int64_t half = map.head.next_edge;
+    print_answer("sluice", solgwid_mod_edge_split(&map, 1, 10, 4, &value));
+    solgwid_refusal refusal = solgwid_mod_edge_heal(&map, 1, half);
+    int same = !memcmp(nodes_before, nodes, sizeof nodes) && !memcmp(edges_before, edges, sizeof edges);
+    printf("taken back: %s, %s\n", solgwid_refusal_text(refusal), same ? "every row as before" : "rows differ");
     return 0;
 }

@@ -199,38 +199,40 @@ uint64_t solgwid_run(int64_t *nodes, size_t nodes_length, int64_t *edges, size_t
 
 /* ---- the same over a map */
 
-/* A map as the first seven arguments of a proved function. */
-#define SOLGWID_LENT(map) \
+/* The tables of a map as the first six arguments of a proved function. */
+#define SOLGWID_TABLES(map) \
     (int64_t *)(map)->nodes, (map)->node_room * SOLGWID_NODE_WIDTH, \
     (int64_t *)(map)->edges, (map)->edge_room * SOLGWID_EDGE_WIDTH, \
-    (int64_t *)(map)->faces, (map)->face_room * SOLGWID_FACE_WIDTH, (int64_t *)&(map)->head
+    (int64_t *)(map)->faces, (map)->face_room * SOLGWID_FACE_WIDTH
 
 static inline solgwid_refusal solgwid_map_empty(solgwid_map *map) {
-    return (solgwid_refusal)solgwid_empty_map(SOLGWID_LENT(map));
+    return (solgwid_refusal)solgwid_empty_map(SOLGWID_TABLES(map), (int64_t *)&map->head);
 }
 
 static inline solgwid_refusal solgwid_map_ticket(solgwid_map *map, const int64_t *numbers, size_t numbers_length,
                                                  int64_t *value) {
     int64_t dropped;
-    return (solgwid_refusal)solgwid_ticket(SOLGWID_LENT(map), numbers, numbers_length, value ? value : &dropped);
+    return (solgwid_refusal)solgwid_ticket(SOLGWID_TABLES(map), (int64_t *)&map->head, numbers, numbers_length,
+                                           value ? value : &dropped);
 }
 
+/* `written` is how many numbers of the list were written. */
 static inline solgwid_refusal solgwid_map_edges_of_face(const solgwid_map *map, int64_t face, int64_t *list,
                                                         size_t list_length, int64_t *written) {
     int64_t dropped;
-    return (solgwid_refusal)solgwid_edges_of_face(SOLGWID_LENT(map), face, list, list_length,
-                                                  written ? written : &dropped);
+    return (solgwid_refusal)solgwid_edges_of_face(SOLGWID_TABLES(map), (const int64_t *)&map->head, face, list,
+                                                  list_length, written ? written : &dropped);
 }
 
 /* `refusals` and `values` have room for an answer to each ticket, so the call answers 0 or 1. */
 static inline solgwid_refusal solgwid_map_run(solgwid_map *map, const int64_t *numbers, size_t numbers_length,
                                               const size_t *lengths, size_t ticket_count,
                                               uint64_t *refusals, int64_t *values) {
-    return (solgwid_refusal)solgwid_run(SOLGWID_LENT(map), numbers, numbers_length, lengths, ticket_count,
-                                        refusals, ticket_count, values, ticket_count);
+    return (solgwid_refusal)solgwid_run(SOLGWID_TABLES(map), (int64_t *)&map->head, numbers, numbers_length, lengths,
+                                        ticket_count, refusals, ticket_count, values, ticket_count);
 }
 
-#undef SOLGWID_LENT
+#undef SOLGWID_TABLES
 
 /* ---- the fourteen tickets by the names of SQL/MM */
 

@@ -1,53 +1,170 @@
-//! Solgwid for Rust: a map with its tables, over the static library (`rt staticlib abi`). See solgwid.h.
+//! Solgwid for Rust: a map with its tables, over the static library. See solgwid.h for list lengths, threads and stack.
+//!
+//!     rt staticlib solgwid && rustc --edition 2021 program.rs -L target/staticlib -l static=solgwid
 #![allow(dead_code)]
+
+use std::fmt;
+
+/// The landing (docs/LANDINGS.md). It rises with each landing that changes what a call takes or does.
+pub const VERSION: u32 = 11;
+
+/// Rows of a table, at most.
+pub const MAX_NODES: usize = 1000;
+pub const MAX_EDGES: usize = 2000;
+pub const MAX_FACES: usize = 1000;
+/// Points of a curve, at most; at least 2.
+pub const MAX_POINTS: usize = 12;
+/// Coordinates are 0 to this.
+pub const MAX_COORDINATE: i64 = 1_048_575;
+/// The last number of a node, edge or face.
+pub const LAST_NUMBER: i64 = 999_999;
+
+/// Numbers of a row, and of the head.
+pub const NODE_WIDTH: usize = 4;
+pub const EDGE_WIDTH: usize = 32;
+pub const FACE_WIDTH: usize = 1;
+pub const HEAD_WIDTH: usize = 6;
 
 extern "C" {
     fn solgwid_empty_map(
         nodes: *mut i64, nodes_length: usize, edges: *mut i64, edges_length: usize,
-        faces: *mut i64, faces_length: usize, head: *mut [i64; 6],
+        faces: *mut i64, faces_length: usize, head: *mut [i64; HEAD_WIDTH],
     ) -> u64;
     fn solgwid_ticket(
         nodes: *mut i64, nodes_length: usize, edges: *mut i64, edges_length: usize,
-        faces: *mut i64, faces_length: usize, head: *mut [i64; 6],
+        faces: *mut i64, faces_length: usize, head: *mut [i64; HEAD_WIDTH],
         numbers: *const i64, numbers_length: usize, value: *mut i64,
     ) -> u64;
     fn solgwid_edges_of_face(
         nodes: *const i64, nodes_length: usize, edges: *const i64, edges_length: usize,
-        faces: *const i64, faces_length: usize, head: *const [i64; 6], face: i64,
+        faces: *const i64, faces_length: usize, head: *const [i64; HEAD_WIDTH], face: i64,
         list: *mut i64, list_length: usize, value: *mut i64,
     ) -> u64;
     fn solgwid_run(
         nodes: *mut i64, nodes_length: usize, edges: *mut i64, edges_length: usize,
-        faces: *mut i64, faces_length: usize, head: *mut [i64; 6],
+        faces: *mut i64, faces_length: usize, head: *mut [i64; HEAD_WIDTH],
         numbers: *const i64, numbers_length: usize, lengths: *const usize, lengths_length: usize,
         refusals: *mut u64, refusals_length: usize, values: *mut i64, values_length: usize,
     ) -> u64;
 }
 
-/// A map with its tables. Every call is safe: the engine asks nothing of what the tables hold.
-#[derive(Clone)]
-pub struct Sheet {
-    pub nodes: Vec<i64>,
-    pub edges: Vec<i64>,
-    pub faces: Vec<i64>,
-    pub head: [i64; 6],
+/// Why a call was turned down: the first reason against it. Nothing of the map differs then.
+#[derive(Clone, Copy, Debug, PartialEq, Eq, Hash)]
+#[repr(u64)]
+pub enum Refusal {
+    NotWhole = 1,
+    NotInForm = 2,
+    BadTicket = 3,
+    MissingRow = 4,
+    OutOfRange = 5,
+    RedundantPoint = 6,
+    NotSimple = 7,
+    EndsOffNodes = 8,
+    NotIsolated = 9,
+    PointTaken = 10,
+    SameDirection = 11,
+    FacesDiffer = 12,
+    NotOnEdge = 13,
+    CrossesNode = 14,
+    CrossesEdge = 15,
+    NotAdjacent = 16,
+    OtherEdges = 17,
+    TooManyPoints = 18,
+    OrderChanges = 19,
+    NoRoom = 20,
+    NumbersUsedUp = 21,
+    /// A number that this file does not name: it belongs to another version of the library.
+    Unknown = u64::MAX,
 }
 
-impl Sheet {
-    /// The empty map in tables of so many rows.
-    pub fn new(nodes: usize, edges: usize, faces: usize) -> Sheet {
-        let mut s = Sheet { nodes: vec![0; nodes * 4], edges: vec![0; edges * 32], faces: vec![0; faces], head: [0; 6] };
-        unsafe {
+/// The refusals from 1 on, with their texts.
+const REFUSALS: [(Refusal, &str); 21] = [
+    (Refusal::NotWhole, "a table is not whole rows or exceeds a limit, or the face table is empty"),
+    (Refusal::NotInForm, "the tables and the head are not in form"),
+    (Refusal::BadTicket, "the kind is unknown, or its count of numbers is wrong"),
+    (Refusal::MissingRow, "a named node, edge or face is missing"),
+    (Refusal::OutOfRange, "a coordinate is out of range, or the curve does not have 2 to 12 points"),
+    (Refusal::RedundantPoint, "neighbouring points are equal, or an inner point lies straight between its neighbours"),
+    (Refusal::NotSimple, "the curve meets itself other than by closing"),
+    (Refusal::EndsOffNodes, "the curve does not start and end on its nodes' points"),
+    (Refusal::NotIsolated, "the node or edge is not isolated, or one node is both ends"),
+    (Refusal::PointTaken, "another node is at the point, or an edge passes through it"),
+    (Refusal::SameDirection, "the curve leaves a node in the direction of another edge"),
+    (Refusal::FacesDiffer, "the given face is not the point's, or the ends lie in different faces"),
+    (Refusal::NotOnEdge, "the split point is not on the edge"),
+    (Refusal::CrossesNode, "a node lies inside the curve"),
+    (Refusal::CrossesEdge, "the curve meets another edge other than at an end of both"),
+    (Refusal::NotAdjacent, "the edges are one and the same, or share no node"),
+    (Refusal::OtherEdges, "no shared node has exactly two edge ends"),
+    (Refusal::TooManyPoints, "the healed curve would have more than 12 points"),
+    (Refusal::OrderChanges, "the order of the edges about an end would change"),
+    (Refusal::NoRoom, "the rows after the edit, or the list, would not fit"),
+    (Refusal::NumbersUsedUp, "a number above 999,999 would be needed"),
+];
+
+/// The table's row for a number; none for 0 and for numbers that it does not name.
+fn named(number: u64) -> Option<&'static (Refusal, &'static str)> {
+    REFUSALS.iter().find(|row| row.0 as u64 == number)
+}
+
+impl Refusal {
+    /// Its number, as solgwid.h has it.
+    pub fn number(self) -> u64 {
+        self as u64
+    }
+}
+
+impl fmt::Display for Refusal {
+    fn fmt(&self, f: &mut fmt::Formatter) -> fmt::Result {
+        f.write_str(named(self.number()).map_or("unknown refusal", |row| row.1))
+    }
+}
+
+impl std::error::Error for Refusal {}
+
+/// An answer of the library as a result.
+fn answered<T>(refusal: u64, value: T) -> Result<T, Refusal> {
+    match refusal {
+        0 => Ok(value),
+        _ => Err(named(refusal).map_or(Refusal::Unknown, |row| row.0)),
+    }
+}
+
+/// A map with its tables. Every call is safe: the engine asks nothing of what they hold, nor of how long they are.
+#[derive(Clone, Debug, PartialEq, Eq)]
+pub struct Map {
+    /// Rows of 4: number, x, y, containing face (-1 where an edge ends).
+    pub nodes: Vec<i64>,
+    /// Rows of 32: number, start, end, next left, next right, left face, right face, point count, 12 points as x, y.
+    pub edges: Vec<i64>,
+    /// Rows of 1: number. Face 0 always exists.
+    pub faces: Vec<i64>,
+    /// The three row counts, then the next node, edge and face number.
+    pub head: [i64; HEAD_WIDTH],
+}
+
+impl Map {
+    /// The empty map in tables of so many rows. More than the limits, or no face row, is refusal 1.
+    pub fn new(nodes: usize, edges: usize, faces: usize) -> Result<Map, Refusal> {
+        // one row above a limit is refused like any more, and needs no great table
+        let table = |rows: usize, most: usize, width: usize| vec![0; rows.min(most + 1) * width];
+        let mut map = Map {
+            nodes: table(nodes, MAX_NODES, NODE_WIDTH),
+            edges: table(edges, MAX_EDGES, EDGE_WIDTH),
+            faces: table(faces, MAX_FACES, FACE_WIDTH),
+            head: [0; HEAD_WIDTH],
+        };
+        let refusal = unsafe {
             solgwid_empty_map(
-                s.nodes.as_mut_ptr(), s.nodes.len(), s.edges.as_mut_ptr(), s.edges.len(),
-                s.faces.as_mut_ptr(), s.faces.len(), &mut s.head,
-            );
-        }
-        s
+                map.nodes.as_mut_ptr(), map.nodes.len(), map.edges.as_mut_ptr(), map.edges.len(),
+                map.faces.as_mut_ptr(), map.faces.len(), &mut map.head,
+            )
+        };
+        answered(refusal, map)
     }
 
-    /// One ticket: refusal and value.
-    pub fn ticket(&mut self, numbers: &[i64]) -> (u64, i64) {
+    /// One ticket: its kind and the numbers after it. Answers its value.
+    pub fn ticket(&mut self, numbers: &[i64]) -> Result<i64, Refusal> {
         let mut value = 0;
         let refusal = unsafe {
             solgwid_ticket(
@@ -56,12 +173,12 @@ impl Sheet {
                 numbers.as_ptr(), numbers.len(), &mut value,
             )
         };
-        (refusal, value)
+        answered(refusal, value)
     }
 
-    /// The rings of a face, each as its length and then its directed edges; or the refusal.
-    pub fn edges_of_face(&self, face: i64) -> Result<Vec<i64>, u64> {
-        let mut list = vec![0; 4 * self.edges.len() / 32];
+    /// The rings of a face, each as its length and then its directed edges.
+    pub fn edges_of_face(&self, face: i64) -> Result<Vec<i64>, Refusal> {
+        let mut list = vec![0; self.edges.len() / EDGE_WIDTH * 4];
         let mut value = 0;
         let refusal = unsafe {
             solgwid_edges_of_face(
@@ -71,13 +188,25 @@ impl Sheet {
             )
         };
         list.truncate(value as usize);
-        if refusal == 0 { Ok(list) } else { Err(refusal) }
+        answered(refusal, list)
     }
 
-    /// A list of tickets from the empty map on: refusal and value of each; or the refusal of the whole call.
-    pub fn run(&mut self, tickets: &[&[i64]]) -> Result<Vec<(u64, i64)>, u64> {
-        let numbers: Vec<i64> = tickets.concat();
-        let lengths: Vec<usize> = tickets.iter().map(|t| t.len()).collect();
+    /// The rings of a face, each as its directed edges.
+    pub fn rings(&self, face: i64) -> Result<Vec<Vec<i64>>, Refusal> {
+        let list = self.edges_of_face(face)?;
+        let mut numbers = list.into_iter();
+        let mut rings = Vec::new();
+        while let Some(length) = numbers.next() {
+            rings.push(numbers.by_ref().take(length as usize).collect());
+        }
+        Ok(rings)
+    }
+
+    /// A list of tickets from the empty map on, whatever the tables held: the answer to each. Refusal 1 alone can meet
+    /// the whole call.
+    pub fn run(&mut self, tickets: &[&[i64]]) -> Result<Vec<Result<i64, Refusal>>, Refusal> {
+        let numbers = tickets.concat();
+        let lengths: Vec<usize> = tickets.iter().map(|ticket| ticket.len()).collect();
         let (mut refusals, mut values) = (vec![0; tickets.len()], vec![0; tickets.len()]);
         let refusal = unsafe {
             solgwid_run(
@@ -87,6 +216,80 @@ impl Sheet {
                 refusals.as_mut_ptr(), refusals.len(), values.as_mut_ptr(), values.len(),
             )
         };
-        if refusal == 0 { Ok(refusals.into_iter().zip(values).collect()) } else { Err(refusal) }
+        answered(refusal, refusals.into_iter().zip(values).map(|(r, v)| answered(r, v)).collect())
     }
+}
+
+/// The fourteen tickets by the names of SQL/MM. A curve is its points as (x, y).
+impl Map {
+    /// `face` is the face that the point must lie in, or -1. Answers the node.
+    pub fn add_iso_node(&mut self, face: i64, x: i64, y: i64) -> Result<i64, Refusal> {
+        self.ticket(&[1, face, x, y])
+    }
+
+    pub fn move_iso_node(&mut self, node: i64, x: i64, y: i64) -> Result<(), Refusal> {
+        self.ticket(&[2, node, x, y]).map(drop)
+    }
+
+    pub fn remove_iso_node(&mut self, node: i64) -> Result<(), Refusal> {
+        self.ticket(&[3, node]).map(drop)
+    }
+
+    /// Answers the edge.
+    pub fn add_iso_edge(&mut self, start: i64, end: i64, curve: &[(i64, i64)]) -> Result<i64, Refusal> {
+        self.ticket(&with_curve(&[4, start, end], curve))
+    }
+
+    pub fn remove_iso_edge(&mut self, edge: i64) -> Result<(), Refusal> {
+        self.ticket(&[5, edge]).map(drop)
+    }
+
+    pub fn change_edge_geom(&mut self, edge: i64, curve: &[(i64, i64)]) -> Result<(), Refusal> {
+        self.ticket(&with_curve(&[6, edge], curve)).map(drop)
+    }
+
+    /// The edge goes; its halves are the two last edges, the start half first. Answers the node.
+    pub fn new_edges_split(&mut self, edge: i64, x: i64, y: i64) -> Result<i64, Refusal> {
+        self.ticket(&[7, edge, x, y])
+    }
+
+    /// The start half keeps the edge's number; the other is the last edge. Answers the node.
+    pub fn mod_edge_split(&mut self, edge: i64, x: i64, y: i64) -> Result<i64, Refusal> {
+        self.ticket(&[8, edge, x, y])
+    }
+
+    /// Both edges go. Answers the healed one, which is new.
+    pub fn new_edge_heal(&mut self, edge: i64, other: i64) -> Result<i64, Refusal> {
+        self.ticket(&[9, edge, other])
+    }
+
+    /// The healed edge keeps the number of the first.
+    pub fn mod_edge_heal(&mut self, edge: i64, other: i64) -> Result<(), Refusal> {
+        self.ticket(&[10, edge, other]).map(drop)
+    }
+
+    /// Where a face is split it goes, and both sides are new faces; face 0 never goes. Answers the edge.
+    pub fn add_edge_new_faces(&mut self, start: i64, end: i64, curve: &[(i64, i64)]) -> Result<i64, Refusal> {
+        self.ticket(&with_curve(&[11, start, end], curve))
+    }
+
+    /// Where a face is split it stays, and one side is a new face. Answers the edge.
+    pub fn add_edge_mod_face(&mut self, start: i64, end: i64, curve: &[(i64, i64)]) -> Result<i64, Refusal> {
+        self.ticket(&with_curve(&[12, start, end], curve))
+    }
+
+    /// Answers the face left after a heal of faces, and -1 where none healed.
+    pub fn rem_edge_new_face(&mut self, edge: i64) -> Result<i64, Refusal> {
+        self.ticket(&[13, edge])
+    }
+
+    /// Of two faces healed the lower number remains.
+    pub fn rem_edge_mod_face(&mut self, edge: i64) -> Result<(), Refusal> {
+        self.ticket(&[14, edge]).map(drop)
+    }
+}
+
+/// A ticket of some numbers and then a curve.
+fn with_curve(first: &[i64], curve: &[(i64, i64)]) -> Vec<i64> {
+    first.iter().copied().chain(curve.iter().flat_map(|&(x, y)| [x, y])).collect()
 }

@@ -1,0 +1,59 @@
+/* Friday's levy: a week of tickets in one call, then a walk round every plot.
+
+       rt staticlib solgwid && cc -Iinclude examples/levy.c target/staticlib/libsolgwid.a -o levy
+       ./levy < examples/meadow.txt */
+#include <inttypes.h>
+#include <stdio.h>
+#include <stdlib.h>
+#include <string.h>
+#include "solgwid.h"
+
+enum { ROWS = 200, TICKETS = 100, LINE = 1000 };
+
+static solgwid_node nodes[ROWS];
+static solgwid_edge edges[ROWS];
+static solgwid_face faces[ROWS];
+static solgwid_map map = {nodes, ROWS, edges, ROWS, faces, ROWS, {0, 0, 0, 0, 0, 0}};
+static int64_t numbers[TICKETS * LINE], values[TICKETS], list[4 * ROWS];
+static size_t lengths[TICKETS], number_count, ticket_count;
+static uint64_t refusals[TICKETS];
+
+/* Twice the area between a directed edge and the origin. Round a ring these add up to the ring's own. */
+static int64_t doubled_area(int64_t directed) {
+    const solgwid_edge *edge = edges;
+    while (edge->number != llabs(directed)) edge++;
+    int64_t sum = 0;
+    for (int64_t i = 1; i < edge->point_count; i++)
+        sum += edge->points[i - 1].x * edge->points[i].y - edge->points[i].x * edge->points[i - 1].y;
+    return directed < 0 ? -sum : sum;
+}
+
+/* The rings of a face, and twice its area: that of its outer ring less those of its holes. */
+static void print_face(int64_t face) {
+    int64_t written, area = 0;
+    if (solgwid_map_edges_of_face(&map, face, list, 4 * ROWS, &written) != SOLGWID_DONE) exit(1);
+    printf("face %" PRId64 ":", face);
+    for (int64_t i = 0; i < written; i += list[i] + 1) {
+        printf(" (");
+        for (int64_t j = 1; j <= list[i]; j++) {
+            printf("%s%" PRId64, j > 1 ? " " : "", list[i + j]);
+            area += doubled_area(list[i + j]);
+        }
+        printf(")");
+    }
+    if (face != 0) printf(" doubled area %" PRId64, area);
+    printf("\n");
+}
+
+int main(void) {
+    char line[LINE];
+    for (; ticket_count < TICKETS && fgets(line, LINE, stdin); ticket_count++)
+        for (char *word = strtok(line, " \n"); word; word = strtok(NULL, " \n"), lengths[ticket_count]++)
+            numbers[number_count++] = atoll(word);
+    if (solgwid_map_run(&map, numbers, number_count, lengths, ticket_count, refusals, values) != SOLGWID_DONE) return 1;
+    for (size_t i = 0; i < ticket_count; i++)
+        if (refusals[i] != SOLGWID_DONE)
+            printf("ticket %zu: refused, %" PRIu64 ": %s\n", i + 1, refusals[i], solgwid_refusal_text(refusals[i]));
+    for (int64_t i = 0; i < map.head.face_count; i++) print_face(faces[i].number);
+    return 0;
+}

@@ -1,0 +1,59 @@
+/* The refusals that the lending program causes (1, 2) and those of an old map (20, 21). Nothing lent differs.
+
+       rt staticlib solgwid && cc -Iinclude examples/refusals.c target/staticlib/libsolgwid.a -o refusals */
+#include <stdio.h>
+#include <string.h>
+#include "solgwid.h"
+
+enum { ROWS = 10 };
+
+/* All that is lent, so that it can be compared as a whole. */
+static struct loan {
+    solgwid_node nodes[SOLGWID_MAX_NODES + 1];
+    solgwid_edge edges[ROWS];
+    solgwid_face faces[ROWS];
+    solgwid_map map;
+    int64_t list[4 * ROWS], value;
+} lent, before;
+
+/* A map of one plot. Each case below spoils it, or outgrows it, in its own way. */
+static void draw_plot(void) {
+    const solgwid_map map = {lent.nodes, ROWS, lent.edges, ROWS, lent.faces, ROWS, {0, 0, 0, 0, 0, 0}};
+    const solgwid_point loop[] = {{0, 0}, {10, 0}, {10, 10}, {0, 10}, {0, 0}};
+    lent.map = map;
+    solgwid_map_empty(&lent.map);
+    solgwid_add_iso_node(&lent.map, -1, 0, 0, NULL);
+    solgwid_add_edge_mod_face(&lent.map, 1, 1, loop, 5, NULL);
+    memcpy(&before, &lent, sizeof lent);
+}
+
+static void print_refusal(const char *cause, uint64_t refusal) {
+    const char *lending = memcmp(&before, &lent, sizeof lent) ? "what was lent differs" : "nothing lent differs";
+    printf("%d %s: %s; %s\n", (int)refusal, cause, solgwid_refusal_text(refusal), lending);
+    draw_plot();
+}
+
+static void try_well(const char *cause) {
+    memcpy(&before, &lent, sizeof lent);
+    print_refusal(cause, solgwid_add_iso_node(&lent.map, -1, 5, 5, &lent.value));
+}
+
+int main(void) {
+    int64_t *nodes = (int64_t *)lent.nodes, *edges = (int64_t *)lent.edges, *faces = (int64_t *)lent.faces;
+    draw_plot();
+    print_refusal("half a row", solgwid_empty_map(nodes, 6, edges, 32, faces, 1, (int64_t *)&lent.map.head));
+    lent.map.node_room = SOLGWID_MAX_NODES + 1;
+    try_well("a row above the limit");
+    lent.map.face_room = 0;
+    try_well("no face row");
+    lent.edges[0].next_left = -1;
+    try_well("a spoiled link");
+    lent.map.head.node_count = 2;
+    try_well("a spoiled count");
+    lent.map.node_room = 1;
+    try_well("a full table");
+    print_refusal("a short list", solgwid_map_edges_of_face(&lent.map, 1, lent.list, 1, &lent.value));
+    lent.map.head.next_node = SOLGWID_LAST_NUMBER + 1;
+    try_well("the last number given");
+    return 0;
+}
