@@ -3,8 +3,8 @@
        rt staticlib solgwid && cc -Iinclude program.c target/staticlib/libsolgwid.a -o program
 
    A map is three tables of rows and a head. The caller owns all four and lends them to each call. The library
-   allocates nothing and keeps nothing: copy a map to undo, write it to a file to store it, free it as you like. It is
-   for x86-64 and needs memcpy and memset, no more.
+   allocates nothing and keeps nothing: copy tables and head to undo, write them to a file to store them, free them as
+   you like. It is for x86-64 and needs memcpy and memset, no more.
 
    Every function answers a refusal: 0 (SOLGWID_DONE) where the call was carried out, else the first reason against it.
    Then nothing lent differs, and the value stored is 0. A call is safe whatever the tables and the head hold.
@@ -13,12 +13,12 @@
      directed edges, and each may be a ring by itself, with its length before it. So 4 * edge_count always suffices,
      and 8,000 for any map; a shorter list may be refusal 20. A run stores a refusal and a value for each ticket; room
      for fewer of either is refusal 20.
-   NULL. Of length 0, a table, `numbers`, `list`, `lengths`, `refusals` and `values` may be NULL. `head` and `value` may
-     never be, nor may the map of an inline function. Where an inline function stores a value the pointer to it may be
-     NULL, and the value is dropped.
+   NULL. Of length 0, a table, `numbers`, `points`, `list`, `lengths`, `refusals` and `values` may be NULL. `head` and
+     `value` may never be, nor may the map of an inline function. Where an inline function stores a value the pointer to
+     it may be NULL, and the value is dropped.
    Threads. There is no state between calls, so any number of maps may be worked on at once. One map is for one thread
      at a time; solgwid_edges_of_face only reads, so several threads may list one map together.
-   Stack. A call takes 57 KB (solgwid_empty_map under 1 KB). Where many edge ends leave one node into one quadrant, each
+   Stack. A call takes up to 57 KB, solgwid_empty_map under 1 KB. Where many edge ends leave one node into one quadrant, each
      of them takes 112 bytes more: 169 KB for 999 of them, and 505 KB for 4,000, the most that tables can hold.
    Memory. Things lent in one call do not overlap, and each is aligned as its type asks.
    Version. SOLGWID_VERSION is the number of a landing (docs/LANDINGS.md). It rises with each landing that changes what
@@ -85,7 +85,8 @@ static_assert(sizeof(solgwid_edge) == SOLGWID_EDGE_WIDTH * sizeof(int64_t), "an 
 static_assert(sizeof(solgwid_face) == SOLGWID_FACE_WIDTH * sizeof(int64_t), "a face row is 1 number");
 static_assert(sizeof(solgwid_head) == SOLGWID_HEAD_WIDTH * sizeof(int64_t), "the head is 6 numbers");
 
-/* The three tables, each with its room in rows, and the head. A new map is made by solgwid_map_empty. */
+/* The three tables, each with its room in rows, and the head. solgwid_map_empty makes the empty map in it; a copy of
+   this struct shares the tables. */
 typedef struct solgwid_map {
     solgwid_node *nodes;
     size_t node_room;
@@ -236,8 +237,8 @@ static inline solgwid_refusal solgwid_map_run(solgwid_map *map, const int64_t *n
 
 /* ---- the fourteen tickets by the names of SQL/MM */
 
-/* A ticket of some numbers and then a curve. Above 12 points every count gets the same answer, so the first 13 points
-   stand for all: the buffer need not grow. */
+/* A ticket of some numbers and then a curve. Every count of points above 12 gets the same answer (5, unless 1, 2 or 4
+   comes first), so the first 13 stand for all, and the buffer need not grow. */
 static inline solgwid_refusal solgwid_map_curve(solgwid_map *map, const int64_t *first, size_t first_length,
                                                 const solgwid_point *points, size_t point_count, int64_t *value) {
     int64_t numbers[3 + 2 * (SOLGWID_MAX_POINTS + 1)];
