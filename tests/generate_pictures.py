@@ -70,12 +70,14 @@ MEADOW = """
 
 # --- the page: its points are complex numbers, x to the right and y down ---------------------------------------------
 
-FACE_FILLS = ('#f6f4ee', '#fdf0c4', '#dcebf7', '#e3f2d9', '#f9e0d6', '#ece2f4', '#fbe4ee', '#dff3ef')
-RING_COLOURS = ('#6b6b6b', '#b26a00', '#0b6fb8', '#2e7d32', '#b0452b', '#7a3fa0', '#b5307a', '#00796b')
+OUTSIDE_FILL, OUTSIDE_COLOUR = '#f6f4ee', '#6b6b6b'      # of face 0
+FACE_FILLS = ('#fdf0c4', '#dcebf7', '#e3f2d9', '#f9e0d6', '#ece2f4', '#dff3ef', '#f0ecd8', '#fbe4ee')
+RING_COLOURS = ('#b26a00', '#0b6fb8', '#2e7d32', '#b0452b', '#7a3fa0', '#00796b', '#8a6d3b', '#c2185b')
 
 STYLE = """
 text { font-family: sans-serif; fill: #222 }
 .edge { fill: none; stroke: #1f4e79; stroke-width: 2; stroke-linejoin: round }
+.directed { fill: none; stroke: #1f4e79; stroke-width: 1.5 }
 .edge-tip { fill: #1f4e79 }
 .edge-number { font-size: 13px; fill: #1f4e79; font-weight: bold }
 .link { fill: none; stroke: #b5472a; stroke-width: 1.8 }
@@ -85,6 +87,9 @@ text { font-family: sans-serif; fill: #222 }
 .isolated { fill: #fff; stroke: #111; stroke-width: 1.5 }
 .node-number { font-size: 13px; font-weight: bold; fill: #111 }
 .face-number { font-size: 17px; font-style: italic; fill: #2e7d32 }
+.tight { font-size: 14px }
+.class-number { font-size: 17px; font-weight: bold; fill: #1f4e79 }
+.piece { font-size: 13px; font-weight: bold; fill: #7a3fa0 }
 .ticket { font-family: monospace; font-size: 12px }
 .note { font-size: 13px }
 .small { font-size: 11px; fill: #555 }
@@ -183,6 +188,17 @@ def beside(points, gap, rounding):
     return f"M{spot(first)}{''.join(corners)}L{spot(last)}"
 
 
+def distance(p, a, b):
+    """From a point to a segment."""
+    along = ((p - a) * (b - a).conjugate()).real / abs(b - a) ** 2 if a != b else 0
+    return abs(p - a - (b - a) * min(max(along, 0), 1))
+
+
+def room(p, segments):
+    """From a point to the nearest of the segments."""
+    return min((distance(p, *s) for s in segments), default=math.inf)
+
+
 # --- the map on the page ---------------------------------------------------------------------------------------------
 
 def grown(tickets):
@@ -192,10 +208,11 @@ def grown(tickets):
 
 
 class View:
-    """Where the sheet lies on the page, and how large."""
+    """Where the sheet lies on the page and how large, and how far off numbers stand."""
 
-    def __init__(self, m, origin, scale):
+    def __init__(self, m, origin, scale, node_gap=15, edge_gap=13, segments=None):
         self.m, self.origin, self.scale = m, origin, scale
+        self.node_gap, self.edge_gap, self.segments = node_gap, edge_gap, segments or {}
 
     def at(self, x, y):
         return self.origin + complex(x, -y) * self.scale
@@ -214,15 +231,34 @@ class View:
         courses = [self.course(d) for d in pm.departures(self.m, n)]
         return sorted((unit(c[1] - c[0]) for c in courses), key=cmath.phase)
 
+    def segment(self, e):
+        """The segment that bears the edge's number: the one named, else the longest."""
+        points = self.course(e)
+        pairs = list(zip(points, points[1:]))
+        if e in self.segments:
+            return pairs[self.segments[e]]
+        return max(pairs, key=lambda s: round(abs(s[1] - s[0]), 3))
+
+    def edge_label(self, e):
+        """The first place with room: right of the edge, left of it, or further off; else the one with most."""
+        a, b = self.segment(e)
+        other = [s for s in self.drawn_segments() if s != (a, b)]
+        places = [(a + b) / 2 + left_of(unit(b - a)) * gap * self.edge_gap for gap in (-1, 1, -2, 2)]
+        roomy = (p for p in places if room(p, other) > 0.95 * self.edge_gap)
+        return next(roomy, max(places, key=lambda p: room(p, other)))
+
+    def drawn_segments(self):
+        courses = (self.course(e.number) for e in self.m.edges)
+        return [s for c in courses for s in zip(c, c[1:])]
+
+    def node_label(self, n):
+        return self.node(n) + widest_gap(self.ways(n)) * self.node_gap
+
     def walk(self, ring):
         """The points of a ring, from the middle of its first segment round to there again."""
         points = [p for d in ring for p in self.course(d)[:-1]]
         middle = (points[0] + points[1]) / 2
         return [middle, *points[1:], points[0], middle]
-
-
-def longest_segment(points):
-    return max(zip(points, points[1:]), key=lambda s: round(abs(s[1] - s[0]), 3))
 
 
 def widest_gap(ways):
@@ -239,32 +275,22 @@ def draw_faces(page, view):
     rings = [(pm.ring_area2(view.m, r), r) for r in pm.rings(view.m)]
     for _, ring in sorted((r for r in rings if r[0] > 0), reverse=True):
         face = pm.borne(view.m, ring[0])
-        page.area([p for d in ring for p in view.course(d)[:-1]], FACE_FILLS[face % len(FACE_FILLS)])
+        page.area([p for d in ring for p in view.course(d)[:-1]], FACE_FILLS[(face - 1) % len(FACE_FILLS)])
 
 
-def draw_edges(page, view, numbers=True):
+def draw_edges(page, view, numbers=True, tip=10):
     for e in view.m.edges:
-        points = view.course(e.number)
-        page.line(points, 'edge')
-        a, b = longest_segment(points)
-        page.tip((a + b) / 2 + unit(b - a) * 5, unit(b - a), 10, 'edge-tip')
+        page.line(view.course(e.number), 'edge')
+        a, b = view.segment(e.number)
+        page.tip((a + b) / 2 + unit(b - a) * tip / 2, unit(b - a), tip, 'edge-tip')
         if numbers:
-            page.label(edge_label(view, e.number), e.number, 'edge-number')
+            page.label(view.edge_label(e.number), e.number, 'edge-number')
 
 
-def edge_label(view, e):
-    a, b = longest_segment(view.course(e))
-    return (a + b) / 2 - left_of(unit(b - a)) * 13
-
-
-def node_label(view, n, away):
-    return view.node(n) + widest_gap(view.ways(n)) * away
-
-
-def draw_nodes(page, view, away=15, radius=4.5):
+def draw_nodes(page, view, radius=4.5):
     for n in view.m.nodes:
         page.disc(view.node(n.number), radius, 'node' if n.face < 0 else 'isolated')
-        page.label(node_label(view, n.number, away), n.number, 'node-number')
+        page.label(view.node_label(n.number), n.number, 'node-number')
 
 
 def draw_link(page, view, d, gap=9, reach=26):
@@ -285,35 +311,29 @@ def draw_links(page, view):
         draw_link(page, view, d)
 
 
-def distance(p, a, b):
-    """From a point to a segment."""
-    along = ((p - a) * (b - a).conjugate()).real / abs(b - a) ** 2 if a != b else 0
-    return abs(p - a - (b - a) * min(max(along, 0), 1))
-
-
 def face_label(view, face, corners, taken):
     """The place in the face furthest from edges, from places taken and from the border of the part shown."""
-    m, (low, high) = view.m, corners
-    segments = [tuple(view.line(s)) for e in m.edges for s in pm.segments(e.points)] + [(p, p) for p in taken]
-    best = (0, view.at(*low))
-    steps = 4
-    for i in range(low[0] * steps + 1, high[0] * steps):
-        for j in range(low[1] * steps + 1, high[1] * steps):
+    (left, low), (right, high) = corners
+    segments = view.drawn_segments() + [(p, p) for p in taken]
+    best, steps = (0, None), 4
+    for i in range(left * steps + 1, right * steps):
+        for j in range(low * steps + 1, high * steps):
             x, y = i / steps, j / steps
-            if pm.face_of_point(m, (x, y)) == face:
-                border = min(x - low[0], high[0] - x, y - low[1], high[1] - y) * view.scale
-                room = min([border] + [distance(view.at(x, y), *s) for s in segments])
-                best = max(best, (round(room, 1), view.at(x, y)), key=lambda b: b[0])
+            if pm.face_of_point(view.m, (x, y)) == face:
+                border = min(x - left, right - x, y - low, high - y) * view.scale
+                free = round(min(border, room(view.at(x, y), segments)), 1)
+                best = max(best, (free, view.at(x, y)), key=lambda b: b[0])
     return best[1]
 
 
-def draw_face_numbers(page, view, corners, fixed=None, words=''):
+def draw_face_numbers(page, view, corners, fixed, taken=(), style='face-number'):
     """Numbers of the faces, at the places given or where there is room."""
-    taken = [node_label(view, n.number, 15) for n in view.m.nodes]
-    taken += [view.node(n.number) for n in view.m.nodes] + [edge_label(view, e.number) for e in view.m.edges]
-    for face in view.m.faces:
-        at = view.at(*fixed[face]) if face in (fixed or {}) else face_label(view, face, corners, taken)
-        page.label(at, f'{words}{face}', 'face-number')
+    m = view.m
+    taken = [*taken, *(view.edge_label(e.number) for e in m.edges)]
+    taken += [p for n in m.nodes for p in (view.node(n.number), view.node_label(n.number))]
+    for face in m.faces:
+        at = view.at(*fixed[face]) if face in fixed else face_label(view, face, corners, taken)
+        page.label(at, face, style)
 
 
 # --- docs/square.svg -------------------------------------------------------------------------------------------------
@@ -347,15 +367,15 @@ def corner_notes(page, view):
 def square_panel(page, at, count):
     tickets = [entry[0] for entry in SQUARE[:count]]
     m, answer = grown(tickets)
-    view = View(m, at + complex(68, 240), 16)
-    page.box(at + 4 + 30j, PANEL_WIDTH - 8, 256, FACE_FILLS[0], 6)
+    view = View(m, at + complex(68, 240), 16, node_gap=23 if m.edges else 15)
+    page.box(at + 4 + 30j, PANEL_WIDTH - 8, 256, OUTSIDE_FILL, 6)
     ticket_line(page, at + complex(PANEL_WIDTH / 2, 20), tickets[-1], answer)
     draw_faces(page, view)
     if answer[0]:
         mark_edge_ends(page, view)
     draw_edges(page, view)
     draw_links(page, view)
-    draw_nodes(page, view, away=23 if m.edges else 15)
+    draw_nodes(page, view)
     draw_face_numbers(page, view, ((0, 0), (10, 10)), {0: (-2.6, 11.6)})
     if count < 3:
         corner_notes(page, view)
@@ -388,7 +408,213 @@ def square():
     page.save('square')
 
 
-PICTURES = {'square': square}
+# --- docs/edge.svg ---------------------------------------------------------------------------------------------------
+
+EDGE = ['1 -1 0 8', '1 -1 32 8', '12 1 2 0 8 32 8', '12 2 1 32 8 32 16 0 16 0 8', '12 2 1 32 8 32 0 0 0 0 8']
+COLUMNS = ('number', 'start', 'end', 'next left', 'next right', 'left face', 'right face', 'points')
+
+
+def draw_directed(page, view, d, words):
+    """A straight directed edge as an arrow on its left side."""
+    first, last = view.course(d)
+    way = unit(last - first)
+    aside = left_of(way) * 9
+    first, last = first + way * 48 + aside, last - way * 48 + aside
+    page.line([first, last - way * 6], 'directed')
+    page.tip(last, way, 10, 'edge-tip')
+    page.label((first + last) / 2 + left_of(way) * 13, words, 'note')
+
+
+def row_of_edge(page, at, e):
+    """The row as a small table."""
+    points = ' '.join(f'({x},{y})' for x, y in e.points)
+    values = (e.number, e.start, e.end, e.next_left, e.next_right, e.left, e.right, points)
+    for i, (column, value) in enumerate(zip(COLUMNS, values)):
+        page.text(at + 84 * i, column, 'small')
+        page.text(at + 84 * i + 19j, value, 'ticket')
+
+
+def edge():
+    m, _ = grown(EDGE)
+    page, view = Page(760, 386), View(m, 108 + 302j, 17)
+    page.box(4 + 4j, 752, 328, OUTSIDE_FILL, 6)
+    draw_faces(page, view)
+    for e in m.edges:
+        page.line(view.course(e.number), 'edge')
+    for e in m.edges[1:]:
+        a, b = view.segment(e.number)
+        page.tip((a + b) / 2, unit(b - a), 10, 'edge-tip')
+        page.label(view.edge_label(e.number), e.number, 'edge-number')
+    draw_directed(page, view, 1, 'e = 1, from start to end')
+    draw_directed(page, view, -1, '-e = -1, from end to start')
+    for d in (1, -1):
+        draw_link(page, view, d)
+    for n, words, anchor, aside in ((1, 'start: node 1', 'end', -10), (2, 'end: node 2', 'start', 10)):
+        page.disc(view.node(n), 4.5, 'node')
+        page.text(view.node(n) + aside + 5j, words, 'note', anchor)
+    page.text(view.node(2) - 24 - 40j, 'next left follows e', 'link-note', 'end')
+    page.text(view.node(1) + 24 + 48j, 'next right follows -e', 'link-note', 'start')
+    page.label(view.at(16, 12.4), f'left face: {m.edges[0].left}', 'face-number')
+    page.label(view.at(16, 3.6), f'right face: {m.edges[0].right}', 'face-number')
+    row_of_edge(page, 84 + 352j, m.edges[0])
+    page.save('edge')
+
+
+# --- docs/links.svg --------------------------------------------------------------------------------------------------
+
+CROSSING = ['1 -1 16 13', '1 -1 0 9', '12 2 1 0 9 16 13', '1 -1 9 26', '12 1 3 16 13 9 26',
+            '1 -1 31 19', '12 1 4 16 13 31 19', '1 -1 21 0', '12 1 5 16 13 21 0']
+SIGNS = {1: '+', 0: '0', -1: '-'}
+
+
+def draw_turn(page, at, first, last, radius):
+    """The turn from one way to another, clockwise, as an arc with an arrow."""
+    start, end = at + first * radius, at + last * radius
+    large = int(turn(first, last) > math.pi)
+    page.path(f'M{spot(start)}A{radius} {radius} 0 {large} 1 {spot(end)}', 'turn')
+    page.tip(end, last * 1j * cmath.rect(1, -5 / radius), 10, 'turn-tip')
+
+
+def link_law(page, at):
+    """A node with four departures, and which of them follows the directed edge that arrives."""
+    m, _ = grown(CROSSING)
+    view, d = View(m, at, 10), 1
+    centre, following = view.node(1), pm.lawful_next(m, d)
+    ways = {p: unit(view.course(p)[1] - view.course(p)[0]) for p in pm.departures(m, 1)}
+    draw_edges(page, view, numbers=False)
+    for n in m.nodes:
+        page.disc(view.node(n.number), 4.5, 'node')
+    draw_turn(page, centre, ways[-d], ways[following], 104)
+    draw_link(page, view, d, reach=36)
+    others = sorted((p for p in ways if p not in (-d, following)), key=lambda p: turn(ways[-d], ways[p]))
+    middle = ways[-d] * cmath.rect(112, turn(ways[-d], ways[following]) / 2)
+    page.text(centre + middle, 'turn clockwise', 'small', 'end')
+    page.text(centre + ways[-d] * 84 + 28j, 'd arrives', 'note')
+    page.text(centre + ways[-d] * 84 + 45j, '-d, its reverse, leaves', 'small')
+    page.text(centre + ways[following] * 96 + 14, 'first met: the next of d', 'link-note', 'start')
+    for p, words in zip(others, ('second', 'third')):
+        page.text(centre + ways[p] * 96 + 16 + 14j, words, 'note', 'start')
+
+
+def compass(page, at, radius):
+    """The eight classes: four ways along the axes, and between them four quarters."""
+    for i, (dx, dy) in enumerate(((1, 0), (1, 1), (0, 1), (-1, 1), (-1, 0), (-1, -1), (0, -1), (1, -1))):
+        way, words = unit(complex(dx, -dy)), f'({SIGNS[dx]},{SIGNS[dy]})'
+        if i % 2:
+            first, last = at + dx * radius, at - dy * radius * 1j
+            page.put(f'<path d="M{spot(at)}L{spot(first)}A{radius} {radius} 0 0 {int(dx == -dy)} {spot(last)}Z" '
+                     f'fill="{FACE_FILLS[i // 2]}"/>')
+        place = at + way * (radius * 0.62 if i % 2 else radius + 22)
+        page.label(place - 8j, pm.direction_class((dx, dy)), 'class-number')
+        page.label(place + 10j, words, 'small')
+    for way in (1, 1j, -1, -1j):
+        page.line([at, at + way * (radius - 6)], 'edge')
+        page.tip(at + way * radius, way, 10, 'edge-tip')
+    page.disc(at, 4.5, 'node')
+
+
+def links():
+    page = Page(760, 340)
+    page.box(4 + 4j, 428, 332, OUTSIDE_FILL, 6)
+    page.box(436 + 4j, 320, 332, OUTSIDE_FILL, 6)
+    page.text(18 + 26j, 'link law: turn clockwise from the reverse of d', 'note', 'start')
+    page.text(450 + 26j, 'direction classes by the signs of dx and dy', 'note', 'start')
+    link_law(page, 56 + 306j)
+    compass(page, 596 + 184j, 104)
+    page.save('links')
+
+
+# --- docs/meadow.svg -------------------------------------------------------------------------------------------------
+
+def draw_grid(page, view, width, height):
+    """Lines at every second coordinate, with numbers at the tens."""
+    for x in range(0, width + 1, 2):
+        page.line([view.at(x, 0), view.at(x, height)], 'grid' if x % 10 else 'tens')
+    for y in range(0, height + 1, 2):
+        page.line([view.at(0, y), view.at(width, y)], 'grid' if y % 10 else 'tens')
+    for x in range(0, width + 1, 10):
+        page.text(view.at(x, 0) + 36j, x, 'small')
+    for y in range(0, height + 1, 10):
+        page.text(view.at(0, y) - 20 + 4j, y, 'small', 'end')
+
+
+def meadow():
+    m, _ = grown(MEADOW)
+    page, view = Page(930, 300), View(m, 44 + 248j, 13.6, node_gap=14, edge_gap=12, segments={18: 5})
+    page.box(4 + 4j, 922, 292, OUTSIDE_FILL, 6)
+    draw_faces(page, view)
+    draw_grid(page, view, 62, 16)
+    draw_edges(page, view, tip=8)
+    draw_nodes(page, view, 3.6)
+    draw_face_numbers(page, view, ((0, 0), (62, 16)), {0: (46, 12)}, style='face-number tight')
+    page.save('meadow')
+
+
+# --- docs/rings.svg --------------------------------------------------------------------------------------------------
+
+# by the lowest node of a piece: where its letter stands, and what it is
+PIECES = {1: ((2.2, 11.9), 'two plots and two ditches'), 3: ((2.1, 5), 'a well'), 5: ((23, 11.5), 'a plot'),
+          9: ((26.2, 8), 'a tank, an island'), 10: ((37.6, 5), 'a lone ditch')}
+
+
+def ring_colour(face):
+    return RING_COLOURS[(face - 1) % len(RING_COLOURS)] if face else OUTSIDE_COLOUR
+
+
+def draw_ring(page, view, ring):
+    """The walk round a ring, dashed, inside the face that it bears."""
+    points, colour = view.walk(ring), ring_colour(pm.borne(view.m, ring[0]))
+    page.path(beside(points, 7, 4), 'ring', f' stroke="{colour}"')
+    way = unit(points[1] - points[0])
+    page.tip((points[0] + points[1]) / 2 + left_of(way) * 7 + way * 4.5, way, 9, '', f' fill="{colour}"')
+
+
+def list_faces(page, at, m):
+    """The rings of each face, as the list of its edges has them."""
+    for i, face in enumerate(m.faces):
+        found = [f"({' '.join(map(str, r))})" for r in pm.rings(m) if pm.borne(m, r[0]) == face]
+        row = at + 19j * i
+        page.path(f'M{spot(row - 4j)}h28', 'ring', f' stroke="{ring_colour(face)}"')
+        page.text(row + 38, f"face {face}: ring{'s' * (len(found) > 1)} {' '.join(found)}", 'note', 'start')
+
+
+def face_around(m, nodes):
+    """The face around a piece: that of its isolated node, or the one that its outer ring bears."""
+    row = pm.node(m, nodes[0])
+    if row.face >= 0:
+        return row.face
+    outer = (r for r in pm.rings(m) if pm.leaves(m, r[0]) in nodes and pm.ring_area2(m, r) <= 0)
+    return pm.borne(m, next(outer)[0])
+
+
+def list_pieces(page, at, m, lowest):
+    for i, n in enumerate(lowest):
+        nodes = sorted(pm.piece(m, n))
+        listed = f"node{'s' * (len(nodes) > 1)} {' '.join(map(str, nodes))}"
+        words = f'piece {chr(65 + i)}: {listed}; {PIECES[n][1]} in face {face_around(m, nodes)}'
+        page.text(at + 19j * i, words, 'note', 'start')
+
+
+def rings():
+    m, _ = grown(MEADOW[:35])
+    page, view = Page(900, 436), View(m, 44 + 298j, 19, node_gap=18, edge_gap=19)
+    lowest = [n.number for n in m.nodes if min(pm.piece(m, n.number)) == n.number]
+    letters = [view.at(*PIECES[n][0]) for n in lowest]
+    page.box(4 + 4j, 892, 326, OUTSIDE_FILL, 6)
+    draw_faces(page, view)
+    draw_edges(page, view)
+    for ring in pm.rings(m):
+        draw_ring(page, view, ring)
+    draw_nodes(page, view)
+    draw_face_numbers(page, view, ((0, 0), (42, 14)), {0: (35, 12)}, letters, 'face-number tight')
+    for i, at in enumerate(letters):
+        page.label(at, f'piece {chr(65 + i)}', 'piece')
+    list_faces(page, 24 + 353j, m)
+    list_pieces(page, 480 + 353j, m, lowest)
+    page.save('rings')
+
+
+PICTURES = {'edge': edge, 'links': links, 'meadow': meadow, 'rings': rings, 'square': square}
 
 
 def main(names):
