@@ -1,56 +1,60 @@
 //! Microseconds a ticket, by kind and size, beside one bare pass over the rows in use in the same run.
 //!
-//! A sheet is a grid of plots with wells (isolated nodes), islands (isolated edges), boundaries across some plots and ditches split at a sluice.
-//! Each ticket is timed alone on a fresh copy of the sheet's tables, at many places of the sheet, once as it is carried out and once as it is
-//! turned down: the least of some calls at each place, then the median over the places. The bare pass adds up every number of the rows in use; beside it the time of one that compares each with a bound. Prints a table, and writes a plot to the path given.
+//! A sheet is a grid of plots with wells (isolated nodes), islands (isolated edges), boundaries across some plots and
+//! ditches split at a sluice. Each ticket is timed alone on a fresh copy of the sheet's tables, at many places of the
+//! sheet, once as it is carried out and once as it is turned down: the least of some calls at each place, then the
+//! median over the places. The bare pass adds up every number of the rows in use; beside it stands the time of one that
+//! compares each with a bound. Prints tables, and writes the times to the CSV file given.
 
+use std::collections::HashMap;
+use std::fmt::Write;
 use std::hint::black_box;
 use std::time::Instant;
 
 #[path = "../include/solgwid.rs"]
 mod solgwid;
-use solgwid::Sheet;
+use solgwid::Map;
 
 const SIDE: i64 = 100;
 const KINDS: usize = 14;
 const PLACES: usize = 60;
 /// Calls at each place; the least counts, since a call is now and then interrupted.
 const ROUNDS: usize = 5;
+/// Plots along a side of the grid, and edges with the boundaries.
+const SIZES: [(i64, i64); 4] = [(6, 100), (14, 500), (21, 1000), (30, 2000)];
 
-fn must(s: &mut Sheet, numbers: &[i64]) -> i64 {
-    let (refusal, value) = s.ticket(numbers);
-    assert_eq!(refusal, 0, "{numbers:?}");
-    value
+fn must(map: &mut Map, numbers: &[i64]) -> i64 {
+    map.ticket(numbers).unwrap_or_else(|refusal| panic!("{numbers:?}: {refusal}"))
 }
 
 /// The same rows in tables with so many rows to spare.
-fn roomy(s: &Sheet, spare: usize) -> Sheet {
-    let fit = |t: &[i64], w: usize, count: i64, most: usize| {
+fn roomy(map: &Map, spare: usize) -> Map {
+    let fit = |table: &[i64], width: usize, count: i64, most: usize| {
         let rows = (count as usize + spare).min(most);
-        let mut l = vec![0; rows * w];
-        let used = count as usize * w;
-        l[..used].copy_from_slice(&t[..used]);
-        l
+        let used = count as usize * width;
+        let mut wide = vec![0; rows * width];
+        wide[..used].copy_from_slice(&table[..used]);
+        wide
     };
-    Sheet {
-        nodes: fit(&s.nodes, 4, s.head[0], 1000),
-        edges: fit(&s.edges, 32, s.head[1], 2000),
-        faces: fit(&s.faces, 1, s.head[2], 1000),
-        head: s.head,
-    }
+    let mut wide = map.clone();
+    wide.nodes = fit(&map.nodes, 4, map.head[0], 1000);
+    wide.edges = fit(&map.edges, 32, map.head[1], 2000);
+    wide.faces = fit(&map.faces, 1, map.head[2], 1000);
+    wide
 }
 
-fn bare_pass(s: &Sheet) -> i64 {
-    let sum = |t: &[i64], n: i64| t[..n as usize].iter().fold(0i64, |a, &b| a.wrapping_add(b));
-    sum(&s.nodes, s.head[0] * 4)
-        .wrapping_add(sum(&s.edges, s.head[1] * 32))
-        .wrapping_add(sum(&s.faces, s.head[2]))
+fn bare_pass(map: &Map) -> i64 {
+    let sum = |table: &[i64], n: i64| table[..n as usize].iter().fold(0i64, |a, &b| a.wrapping_add(b));
+    sum(&map.nodes, map.head[0] * 4)
+        .wrapping_add(sum(&map.edges, map.head[1] * 32))
+        .wrapping_add(sum(&map.faces, map.head[2]))
 }
 
-/// The same rows, each number compared with a bound: what a check costs that finds nothing. It may stop at each number, so it is not made into vector instructions.
-fn tested_pass(s: &Sheet) -> bool {
-    let tested = |t: &[i64], n: i64| t[..n as usize].iter().all(|&z| z >= -1_000_000);
-    tested(&s.nodes, s.head[0] * 4) && tested(&s.edges, s.head[1] * 32) && tested(&s.faces, s.head[2])
+/// The same rows, each number compared with a bound: what a check costs that finds nothing. It may stop at each number,
+/// so it is not made into vector instructions.
+fn tested_pass(map: &Map) -> bool {
+    let tested = |table: &[i64], n: i64| table[..n as usize].iter().all(|&z| z >= -1_000_000);
+    tested(&map.nodes, map.head[0] * 4) && tested(&map.edges, map.head[1] * 32) && tested(&map.faces, map.head[2])
 }
 
 /// What stands in one plot of the grid.
@@ -64,80 +68,104 @@ struct Plot {
     sluice: Option<(i64, i64)>,
 }
 
-/// A grid of k by k plots, with boundaries across plots until there are about `target` edges.
-fn grid(k: i64, target: i64, gaps: bool) -> (Sheet, Vec<Plot>) {
-    let mut s = Sheet::new(1000, 2000, 1000);
-    let mut number = std::collections::HashMap::new();
-    for y in 0..=k {
-        for x in 0..=k {
-            if gaps && (x + y) % 3 == 0 {
-                let n = must(&mut s, &[1, -1, x * SIDE + 7, y * SIDE + 7]);
-                must(&mut s, &[3, n]);
+type Numbers = HashMap<(i64, i64), i64>;
+
+/// The nodes of k by k plots; with gaps, some are given numbers after others were removed.
+fn draw_nodes(map: &mut Map, k: i64, gaps: bool) -> Numbers {
+    let mut number = Numbers::new();
+    for (x, y) in (0..=k).flat_map(|y| (0..=k).map(move |x| (x, y))) {
+        if gaps && (x + y) % 3 == 0 {
+            let n = must(map, &[1, -1, x * SIDE + 7, y * SIDE + 7]);
+            must(map, &[3, n]);
+        }
+        number.insert((x, y), must(map, &[1, -1, x * SIDE, y * SIDE]));
+    }
+    number
+}
+
+/// The edges of the plots. Answers those along the bottom of each.
+fn draw_edges(map: &mut Map, k: i64, gaps: bool, number: &Numbers) -> Numbers {
+    let mut bottom = Numbers::new();
+    for (x, y) in (0..=k).flat_map(|y| (0..=k).map(move |x| (x, y))) {
+        let (a, b) = (x * SIDE, y * SIDE);
+        if x < k {
+            let edge = [12, number[&(x, y)], number[&(x + 1, y)], a, b, a + SIDE, b];
+            if gaps && (x + y) % 4 == 0 {
+                let e = must(map, &edge);
+                must(map, &[14, e]);
             }
-            number.insert((x, y), must(&mut s, &[1, -1, x * SIDE, y * SIDE]));
+            bottom.insert((x, y), must(map, &edge));
+        }
+        if y < k {
+            must(map, &[12, number[&(x, y)], number[&(x, y + 1)], a, b, a, b + SIDE]);
         }
     }
-    let mut bottom = std::collections::HashMap::new();
-    for y in 0..=k {
-        for x in 0..=k {
-            let (a, b) = (x * SIDE, y * SIDE);
-            if x < k {
-                if gaps && (x + y) % 4 == 0 {
-                    let e = must(&mut s, &[12, number[&(x, y)], number[&(x + 1, y)], a, b, a + SIDE, b]);
-                    must(&mut s, &[14, e]);
-                }
-                let e = must(&mut s, &[12, number[&(x, y)], number[&(x + 1, y)], a, b, a + SIDE, b]);
-                bottom.insert((x, y), e);
-            }
-            if y < k {
-                must(&mut s, &[12, number[&(x, y)], number[&(x, y + 1)], a, b, a, b + SIDE]);
-            }
-        }
-    }
-    let mut plots: Vec<Plot> = (0..k * k)
+    bottom
+}
+
+fn plots_of(k: i64, number: &Numbers, bottom: &Numbers) -> Vec<Plot> {
+    (0..k * k)
         .map(|i| {
             let (x, y) = (i % k, i / k);
-            let n = |dx, dy| number[&(x + dx, y + dy)];
+            let corner = |dx, dy| number[&(x + dx, y + dy)];
             Plot {
-                at: (x * SIDE, y * SIDE), corners: [n(0, 0), n(1, 0), n(1, 1), n(0, 1)], bottom: bottom[&(x, y)],
-                wells: vec![], island: None, boundary: None, sluice: None,
+                at: (x * SIDE, y * SIDE),
+                corners: [corner(0, 0), corner(1, 0), corner(1, 1), corner(0, 1)],
+                bottom: bottom[&(x, y)],
+                wells: vec![],
+                island: None,
+                boundary: None,
+                sluice: None,
             }
         })
-        .collect();
-    let count = plots.len();
-    let spare = (1000 - s.head[0]).min(s.head[0] / 5);
-    // an eighth of the spare nodes for each of: islands (two nodes), pairs of wells, sluices
-    let each = (spare / 8).max(3) as usize;
+        .collect()
+}
+
+/// An eighth of the spare nodes for each of: islands (two nodes), pairs of wells, sluices.
+fn furnish(map: &mut Map, plots: &mut [Plot]) {
+    let spare = (1000 - map.head[0]).min(map.head[0] / 5);
+    let (each, count) = ((spare / 8).max(3) as usize, plots.len());
     let step = (count / (3 * each + 1)).max(1);
     for j in 0..each {
         let place = |m: usize| ((3 * j + m) * step) % count;
         let p = &mut plots[place(0)];
         let (x, y) = p.at;
-        let a = must(&mut s, &[1, -1, x + 60, y + 30]);
-        let b = must(&mut s, &[1, -1, x + 80, y + 30]);
-        p.island = Some(must(&mut s, &[4, a, b, x + 60, y + 30, x + 80, y + 30]));
+        let a = must(map, &[1, -1, x + 60, y + 30]);
+        let b = must(map, &[1, -1, x + 80, y + 30]);
+        p.island = Some(must(map, &[4, a, b, x + 60, y + 30, x + 80, y + 30]));
         let p = &mut plots[place(1)];
         let (x, y) = p.at;
-        p.wells = vec![must(&mut s, &[1, -1, x + 60, y + 30]), must(&mut s, &[1, -1, x + 80, y + 30])];
+        p.wells = vec![must(map, &[1, -1, x + 60, y + 30]), must(map, &[1, -1, x + 80, y + 30])];
         let p = &mut plots[place(2)];
         let (x, y) = p.at;
-        must(&mut s, &[8, p.bottom, x + 50, y]);
-        p.sluice = Some((p.bottom, s.head[4] - 1));
+        must(map, &[8, p.bottom, x + 50, y]);
+        p.sluice = Some((p.bottom, map.head[4] - 1));
     }
+}
+
+/// A grid of k by k plots, with boundaries across plots until there are about `target` edges.
+fn grid(k: i64, target: i64, gaps: bool) -> (Map, Vec<Plot>) {
+    let mut map = Map::new(1000, 2000, 1000).expect("tables at the limits hold the empty map");
+    let number = draw_nodes(&mut map, k, gaps);
+    let bottom = draw_edges(&mut map, k, gaps, &number);
+    let mut plots = plots_of(k, &number, &bottom);
+    furnish(&mut map, &mut plots);
+    let count = plots.len();
     for i in 0..count {
-        if s.head[1] >= target || s.head[2] >= 990 {
+        if map.head[1] >= target || map.head[2] >= 990 {
             break;
         }
         let p = &mut plots[(i * 11) % count];
         if p.boundary.is_none() {
             let (x, y) = p.at;
-            p.boundary = Some(must(&mut s, &[12, p.corners[0], p.corners[2], x, y, x + SIDE, y + SIDE]));
+            p.boundary = Some(must(&mut map, &[12, p.corners[0], p.corners[2], x, y, x + SIDE, y + SIDE]));
         }
     }
-    (s, plots)
+    (map, plots)
 }
 
-/// A ticket of the kind at the plot that is carried out, and one that is turned down late; none where the plot has nothing of the sort.
+/// A ticket of the kind at the plot that is carried out, and one that is turned down late; none where the plot has
+/// nothing of the sort.
 fn tickets(kind: usize, p: &Plot) -> Option<(Vec<i64>, Vec<i64>)> {
     let (x, y) = p.at;
     let k = kind as i64;
@@ -148,7 +176,8 @@ fn tickets(kind: usize, p: &Plot) -> Option<(Vec<i64>, Vec<i64>)> {
         3 => (vec![3, *p.wells.first()?], vec![3, p.corners[0]]),
         4 => {
             let (a, b) = (*p.wells.first()?, *p.wells.get(1)?);
-            (vec![4, a, b, x + 60, y + 30, x + 80, y + 30], vec![4, a, b, x + 60, y + 30, x + 70, y - 10, x + 80, y + 30])
+            let start = [4, a, b, x + 60, y + 30];
+            ([&start[..], &[x + 80, y + 30]].concat(), [&start[..], &[x + 70, y - 10, x + 80, y + 30]].concat())
         }
         5 => (vec![5, p.island?], vec![5, p.bottom]),
         6 if plain && p.boundary.is_none() => (
@@ -181,8 +210,18 @@ fn least(mut f: impl FnMut() -> f64) -> f64 {
     (0..ROUNDS).map(|_| f()).fold(f64::MAX, f64::min)
 }
 
+/// The least time of the ticket on a fresh copy; it must be carried out or turned down as told.
+fn ticket_time(map: &Map, numbers: &[i64], carried_out: bool) -> f64 {
+    least(|| {
+        let mut copy = map.clone();
+        let mut answer = Ok(0);
+        let time = micros(|| answer = copy.ticket(black_box(numbers)));
+        assert_eq!(answer.is_ok(), carried_out, "{numbers:?}: {answer:?}");
+        time
+    })
+}
+
 struct Times {
-    edges: i64,
     rows: [i64; 3],
     pass: f64,
     tested: f64,
@@ -190,7 +229,7 @@ struct Times {
     refused: [f64; KINDS],
 }
 
-fn measure(sheet: &Sheet, plots: &[Plot]) -> Times {
+fn measure(map: &Map, plots: &[Plot]) -> Times {
     // the passes are timed among the tickets: the machine's clock changes within a run
     let (mut passes, mut tests) = (vec![], vec![]);
     let (mut carried, mut refused) = ([0.0; KINDS], [0.0; KINDS]);
@@ -199,110 +238,85 @@ fn measure(sheet: &Sheet, plots: &[Plot]) -> Times {
         assert!(!pairs.is_empty(), "kind {kind} has no place");
         let (mut yes, mut no) = (vec![], vec![]);
         for i in 0..PLACES {
-            passes.push(least(|| micros(|| { black_box(bare_pass(black_box(sheet))); })));
-            tests.push(least(|| micros(|| { black_box(tested_pass(black_box(sheet))); })));
+            passes.push(least(|| micros(|| { black_box(bare_pass(black_box(map))); })));
+            tests.push(least(|| micros(|| { black_box(tested_pass(black_box(map))); })));
             let (good, bad) = &pairs[(i * 13) % pairs.len()];
-            for (numbers, times, carried_out) in [(good, &mut yes, true), (bad, &mut no, false)] {
-                times.push(least(|| {
-                    let mut copy = sheet.clone();
-                    let mut answer = (0, 0);
-                    let time = micros(|| answer = copy.ticket(black_box(numbers)));
-                    assert_eq!(answer.0 == 0, carried_out, "kind {kind}, {numbers:?}: {answer:?}");
-                    time
-                }));
-            }
+            yes.push(ticket_time(map, good, true));
+            no.push(ticket_time(map, bad, false));
         }
         carried[kind - 1] = median(yes);
         refused[kind - 1] = median(no);
     }
-    Times { edges: sheet.head[1], rows: [sheet.head[0], sheet.head[1], sheet.head[2]], pass: median(passes), tested: median(tests), carried, refused }
+    let rows = [map.head[0], map.head[1], map.head[2]];
+    Times { rows, pass: median(passes), tested: median(tests), carried, refused }
 }
 
 fn mean(v: &[f64]) -> f64 {
     v.iter().sum::<f64>() / v.len() as f64
 }
 
+/// A line of the table: its name, then a cell for each size.
+fn line(name: &str, all: &[Times], cell: impl Fn(&Times) -> String) {
+    let cells: String = all.iter().map(|t| format!("{:>20}", cell(t))).collect();
+    println!("{name:>24}{cells}");
+}
+
 fn report(title: &str, all: &[Times]) {
     println!("\n{title}\n");
-    print!("{:>24}", "nodes/edges/faces");
-    for t in all { print!("{:>20}", format!("{}/{}/{}", t.rows[0], t.rows[1], t.rows[2])); }
-    println!();
-    print!("{:>24}", "bare pass, us");
-    for t in all { print!("{:>20.2}", t.pass); }
-    print!("\n{:>24}", "pass that tests, us");
-    for t in all { print!("{:>20.2}", t.tested); }
-    println!("\n{:>24}   carried out / turned down, us", "kind");
+    line("nodes/edges/faces", all, |t| format!("{}/{}/{}", t.rows[0], t.rows[1], t.rows[2]));
+    line("bare pass, us", all, |t| format!("{:.2}", t.pass));
+    line("pass that tests, us", all, |t| format!("{:.2}", t.tested));
+    println!("{:>24}   carried out / turned down, us", "kind");
     for kind in 0..KINDS {
-        print!("{:>24}", kind + 1);
-        for t in all { print!("{:>20}", format!("{:.1} / {:.1}", t.carried[kind], t.refused[kind])); }
-        println!();
+        line(&(kind + 1).to_string(), all, |t| format!("{:.1} / {:.1}", t.carried[kind], t.refused[kind]));
     }
-    print!("{:>24}", "mean, us");
-    for t in all { print!("{:>20}", format!("{:.1} / {:.1}", mean(&t.carried), mean(&t.refused))); }
-    print!("\n{:>24}", "mean, bare passes");
-    for t in all { print!("{:>20}", format!("{:.1} / {:.1}", mean(&t.carried) / t.pass, mean(&t.refused) / t.pass)); }
+    line("mean, us", all, |t| format!("{:.1} / {:.1}", mean(&t.carried), mean(&t.refused)));
+    line("mean, bare passes", all, |t| {
+        format!("{:.1} / {:.1}", mean(&t.carried) / t.pass, mean(&t.refused) / t.pass)
+    });
     let (first, last) = (&all[0], &all[all.len() - 1]);
-    let growth = |a: f64, b: f64| (b / a).ln() / (last.edges as f64 / first.edges as f64).ln();
+    let larger = last.rows[1] as f64 / first.rows[1] as f64;
+    let growth = |time: fn(&Times) -> f64| (time(last) / time(first)).ln() / larger.ln();
     println!(
-        "\n{:>24}   carried out n^{:.2}, turned down n^{:.2}, bare pass n^{:.2}",
-        "growth", growth(mean(&first.carried), mean(&last.carried)), growth(mean(&first.refused), mean(&last.refused)), growth(first.pass, last.pass)
+        "{:>24}   carried out n^{:.2}, turned down n^{:.2}, bare pass n^{:.2}",
+        "growth", growth(|t| mean(&t.carried)), growth(|t| mean(&t.refused)), growth(|t| t.pass)
     );
 }
 
-/// A plot on logarithmic axes: mean time carried out, turned down, and the bare pass.
-fn plot(all: &[Times]) -> String {
-    let (w, h, pad) = (640.0, 420.0, 56.0);
-    let xs: Vec<f64> = all.iter().map(|t| t.edges as f64).collect();
-    let lines: [(&str, &str, Vec<f64>); 3] = [
-        ("carried out, mean over kinds", "#1f6fb4", all.iter().map(|t| mean(&t.carried)).collect()),
-        ("turned down, mean over kinds", "#c8641e", all.iter().map(|t| mean(&t.refused)).collect()),
-        ("one bare pass over the rows in use", "#555555", all.iter().map(|t| t.pass).collect()),
-    ];
-    let (x0, x1) = (xs[0].ln(), xs[xs.len() - 1].ln());
-    let low = lines.iter().flat_map(|l| l.2.iter()).cloned().fold(f64::MAX, f64::min);
-    let high = lines.iter().flat_map(|l| l.2.iter()).cloned().fold(0.0, f64::max);
-    let (y0, y1) = (10f64.powf(low.log10().floor()).ln(), 10f64.powf(high.log10().ceil()).ln());
-    let px = |x: f64| pad + (x.ln() - x0) / (x1 - x0) * (w - 2.0 * pad);
-    let py = |y: f64| h - pad - (y.ln() - y0) / (y1 - y0) * (h - 2.0 * pad);
-    let mut s = format!("<svg xmlns=\"http://www.w3.org/2000/svg\" viewBox=\"0 0 {w} {h}\" font-family=\"sans-serif\" font-size=\"12\">\n<rect width=\"{w}\" height=\"{h}\" fill=\"white\"/>\n");
-    for &x in &xs {
-        s += &format!("<text x=\"{:.0}\" y=\"{:.0}\" text-anchor=\"middle\">{}</text>\n", px(x), h - pad + 18.0, x);
-        s += &format!("<line x1=\"{0:.0}\" y1=\"{1:.0}\" x2=\"{0:.0}\" y2=\"{2:.0}\" stroke=\"#ddd\"/>\n", px(x), pad, h - pad);
+/// The times as rows of a CSV file; a pass has one time.
+fn rows(setting: &str, all: &[Times]) -> String {
+    let mut out = String::new();
+    for t in all {
+        let edges = t.rows[1];
+        for (kind, (carried, refused)) in t.carried.iter().zip(t.refused).enumerate() {
+            writeln!(out, "Solgwid,{setting},{},{edges},{carried:.2},{refused:.2}", kind + 1).unwrap();
+        }
+        writeln!(out, "Solgwid,{setting},bare pass,{edges},{:.2},", t.pass).unwrap();
+        writeln!(out, "Solgwid,{setting},tested pass,{edges},{:.2},", t.tested).unwrap();
     }
-    let mut y = y0.exp();
-    while y <= y1.exp() * 1.01 {
-        s += &format!("<text x=\"{:.0}\" y=\"{:.0}\" text-anchor=\"end\">{}</text>\n", pad - 6.0, py(y) + 4.0, (y * 10.0).round() / 10.0);
-        s += &format!("<line x1=\"{0:.0}\" y1=\"{1:.0}\" x2=\"{2:.0}\" y2=\"{1:.0}\" stroke=\"#ddd\"/>\n", pad, py(y), w - pad);
-        y *= 10.0;
-    }
-    s += &format!("<text x=\"{:.0}\" y=\"{:.0}\" text-anchor=\"middle\">edges</text>\n<text x=\"{pad}\" y=\"{:.0}\">microseconds</text>\n", w / 2.0, h - 12.0, pad - 12.0);
-    for (i, (name, colour, ys)) in lines.iter().enumerate() {
-        let points: Vec<String> = xs.iter().zip(ys).map(|(&x, &y)| format!("{:.1},{:.1}", px(x), py(y))).collect();
-        s += &format!("<polyline points=\"{}\" fill=\"none\" stroke=\"{colour}\" stroke-width=\"2\"/>\n", points.join(" "));
-        s += &format!("<text x=\"{:.0}\" y=\"{:.0}\" fill=\"{colour}\">{name}</text>\n", pad + 10.0, pad + 16.0 * (i as f64 + 1.0));
-    }
-    s + "</svg>\n"
+    out
 }
 
 fn main() {
-    let sizes = [(6, 100), (14, 500), (21, 1000), (30, 2000)];
-    for (title, gaps, spare, draw) in [
-        ("Numbers without gaps, 25 rows to spare", false, 25, true),
-        ("Numbers with gaps (a third of the nodes and a quarter of the edges were removed and drawn again), 25 rows to spare", true, 25, false),
-        ("Numbers without gaps, tables at the limits", false, 2000, false),
+    let mut csv = String::from("engine,setting,kind,edges,carried out,turned down\n");
+    for (setting, gaps, spare, title) in [
+        ("no gaps", false, 25, "Numbers without gaps, 25 rows to spare"),
+        (
+            "gaps", true, 25,
+            "Numbers with gaps (a third of the nodes and a quarter of the edges were removed and drawn again), \
+             25 rows to spare",
+        ),
+        ("at the limits", false, 2000, "Numbers without gaps, tables at the limits"),
     ] {
-        let all: Vec<Times> = sizes
-            .iter()
-            .map(|&(k, target)| {
-                let (sheet, plots) = grid(k, target, gaps);
-                measure(&roomy(&sheet, spare), &plots)
-            })
-            .collect();
+        let timed = |&(k, target): &(i64, i64)| {
+            let (map, plots) = grid(k, target, gaps);
+            measure(&roomy(&map, spare), &plots)
+        };
+        let all: Vec<Times> = SIZES.iter().map(timed).collect();
         report(title, &all);
-        if draw {
-            if let Some(path) = std::env::args().nth(1) {
-                std::fs::write(path, plot(&all)).expect("the plot is written");
-            }
-        }
+        csv += &rows(setting, &all);
+    }
+    if let Some(path) = std::env::args().nth(1) {
+        std::fs::write(path, csv).expect("the times are written");
     }
 }
