@@ -1,20 +1,25 @@
 #!/usr/bin/env python3
 """Where PostgreSQL with PostGIS or SpatiaLite is installed, times the same tickets there.
 
-  others.py [SIZE ...]    microseconds a ticket, by kind, on the grid sheets of bench.rs with about SIZE edges (default 100 500)
-  others.py --links       every link after a split (kinds 7 and 8) on small sheets, held against the link law of document 01
+  others.py [SIZE ...]    microseconds a ticket, by kind, on the grid sheets of bench.rs with about SIZE edges
+                          (default 100 500); --csv FILE adds the times to the file
+  others.py --links       every link after a split (kinds 7 and 8) on small sheets, held against the link law of
+                          document 01, and what the engine's own check says of the smallest fault
   others.py --sluices     each of these splits healed at once (kinds 9 and 10): whether the edge rows are as before
 
-PostGIS runs in a server of its own: started in a temporary folder as an unprivileged user, reached through a socket there, stopped and
-removed at the end. SpatiaLite runs inside this process on a database in memory. What is not installed is named and left out.
-Needs Python 3.10 and its standard library; no network. For --links, REFERENCE names the reference's folder
-(default: ../shared/reference beside the repository).
+PostGIS runs in a server of its own: started in a temporary folder as an unprivileged user, reached through a socket
+there, stopped and removed at the end. SpatiaLite runs inside this process on a database in memory. What is not
+installed is named and left out; on Debian the packages are postgresql-15-postgis-3 and libsqlite3-mod-spatialite.
+Needs Python 3.10 and its standard library; no network.
 
-A time is that of one call as the server itself sees it (SQL text parsed, routine run), the least of some calls at each place, then the
-median over the places. Each call is undone; neither that nor a commit, with the checks that PostGIS puts off until then, is counted.
+A time is that of one call as the server itself sees it (SQL text parsed, routine run), the least of some calls at each
+place, then the median over the places. Each call is undone; neither that nor a commit, with the checks that PostGIS
+puts off until then, is counted.
 """
 
+import argparse
 import contextlib
+import csv
 import ctypes
 import ctypes.util
 import functools
@@ -34,19 +39,21 @@ import time
 from pathlib import Path
 
 ROOT = Path(__file__).resolve().parent.parent
-REFERENCE = Path(os.environ.get('REFERENCE', ROOT.parent / 'shared' / 'reference'))
+REFERENCE = ROOT / 'tests' / 'reference'
 SIDE = 100
 PLACES = 21
 ROUNDS = 5          # calls at each place: on a busy machine a call of milliseconds is often interrupted
-KINDS = ('AddIsoNode', 'MoveIsoNode', 'RemoveIsoNode', 'AddIsoEdge', 'RemoveIsoEdge', 'ChangeEdgeGeom', 'NewEdgesSplit', 'ModEdgeSplit',
-         'NewEdgeHeal', 'ModEdgeHeal', 'AddEdgeNewFaces', 'AddEdgeModFace', 'RemEdgeNewFace', 'RemEdgeModFace')
+KINDS = ('AddIsoNode', 'MoveIsoNode', 'RemoveIsoNode', 'AddIsoEdge', 'RemoveIsoEdge', 'ChangeEdgeGeom', 'NewEdgesSplit',
+         'ModEdgeSplit', 'NewEdgeHeal', 'ModEdgeHeal', 'AddEdgeNewFaces', 'AddEdgeModFace', 'RemEdgeNewFace',
+         'RemEdgeModFace')
+COLUMNS = ('engine', 'setting', 'kind', 'edges', 'carried out', 'turned down')
 
 
 class Missing(Exception):
     """Something needed is not installed."""
 
 
-# --- the sheet of bench.rs, as tickets ------------------------------------------------------------------------------------------------
+# --- the sheet of bench.rs, as tickets -------------------------------------------------------------------------------
 
 class Sheet:
     """Tickets, each with the number that it must return; numbers are given in order, so they are known beforehand."""
@@ -120,7 +127,7 @@ def grid(target):
 
 
 def at_place(kind, p):
-    """A ticket of the kind at the plot that is carried out, and one that is turned down; None where the plot has nothing of the sort."""
+    """A ticket of the kind at the plot that is carried out, and one that is turned down; None where it has no place."""
     (x, y), first, last, bottom = p['at'], p['first'], p['last'], p['bottom']
     wells, island, boundary, sluice = p['wells'], p['island'], p['boundary'], p['sluice']
     if kind == 1:
@@ -141,13 +148,14 @@ def at_place(kind, p):
     if kind in (9, 10) and sluice:
         return (kind, *sluice), (kind, sluice[0], sluice[0] + 1)
     if kind in (11, 12) and not (boundary or island or wells):
-        return (kind, first, last, x, y, x + SIDE, y + SIDE), (kind, first, last, x, y, x + 30, y + 150, x + SIDE, y + SIDE)
+        start, end = (kind, first, last, x, y), (x + SIDE, y + SIDE)
+        return (*start, *end), (*start, x + 30, y + 150, *end)
     if kind in (13, 14):
         return (kind, boundary or bottom), (kind, 999_999)
     return None
 
 
-# --- tickets as SQL -------------------------------------------------------------------------------------------------------------------
+# --- tickets as SQL --------------------------------------------------------------------------------------------------
 
 def call(engine, ticket):
     """The ticket as one SELECT of the engine."""
@@ -170,7 +178,7 @@ def edge_row(columns):
     return tuple(int(c) for c in columns[:5]), tuple(zip(values[::2], values[1::2]))
 
 
-# --- PostGIS --------------------------------------------------------------------------------------------------------------------------
+# --- PostGIS ---------------------------------------------------------------------------------------------------------
 
 FUNCTIONS = """
 CREATE FUNCTION answer(call text) RETURNS text LANGUAGE plpgsql AS $body$
@@ -199,19 +207,25 @@ END $body$;
 """
 
 
+SERVER_FOLDERS = ('/usr/lib/postgresql/*/bin', '/usr/pgsql-*/bin', '/usr/local/pgsql*/bin',
+                  '/opt/homebrew/opt/postgresql*/bin')
+
+
 def server_folders():
     """Folders that hold initdb, postgres and psql, the newest version first."""
     found = [os.path.dirname(os.path.realpath(p)) for p in map(shutil.which, ('postgres', 'initdb')) if p]
-    for pattern in ('/usr/lib/postgresql/*/bin', '/usr/pgsql-*/bin', '/usr/local/pgsql*/bin', '/opt/homebrew/opt/postgresql*/bin'):
+    for pattern in SERVER_FOLDERS:
         found += glob.glob(pattern)
-    whole = {f for f in found if all(os.access(os.path.join(f, name), os.X_OK) for name in ('initdb', 'postgres', 'psql'))}
+    tools = ('initdb', 'postgres', 'psql')
+    whole = {f for f in found if all(os.access(os.path.join(f, name), os.X_OK) for name in tools)}
     return sorted(whole, key=lambda f: [int(n) for n in re.findall(r'\d+', f)], reverse=True)
 
 
 def has_topology(folder):
     """Whether PostGIS's topology is installed for the server in the folder."""
     with contextlib.suppress(OSError):
-        share = subprocess.run([os.path.join(folder, 'pg_config'), '--sharedir'], capture_output=True, text=True).stdout.strip()
+        words = [os.path.join(folder, 'pg_config'), '--sharedir']
+        share = subprocess.run(words, capture_output=True, text=True).stdout.strip()
         return os.path.exists(os.path.join(share, 'extension', 'postgis_topology.control'))
     return False
 
@@ -228,7 +242,8 @@ def unprivileged():
 
 
 class PostGis:
-    NAME, PREFIX, POINT, CURVE, NAMES = 'PostGIS', 'topology.ST_', 'ST_MakePoint({}, {})', "'LINESTRING({})'::geometry", {}
+    NAME, SETTING, CHECK = 'PostGIS', 'in its server', 'ValidateTopology'
+    PREFIX, POINT, CURVE, NAMES = 'topology.ST_', 'ST_MakePoint({}, {})', "'LINESTRING({})'::geometry", {}
 
     def __init__(self):
         folders = server_folders()
@@ -254,12 +269,13 @@ class PostGis:
             os.chown(self.folder, who['user'], who['group'])
         data = os.path.join(self.folder, 'data')
         common = dict(cwd=self.folder, env=self.environment, stdin=subprocess.DEVNULL, **who)
-        made = subprocess.run([self.tool('initdb'), '-D', data, '-U', 'others', '-A', 'trust', '-E', 'UTF8', '--no-sync'],
-                              capture_output=True, text=True, **common)
+        words = [self.tool('initdb'), '-D', data, '-U', 'others', '-A', 'trust', '-E', 'UTF8', '--no-sync']
+        made = subprocess.run(words, capture_output=True, text=True, **common)
         if made.returncode:
             raise Missing(f'initdb failed: {made.stderr.strip()}')
         # no commit is timed, and the tables are vacuumed below, so neither -F nor autovacuum=off changes a time
-        words = [self.tool('postgres'), '-D', data, '-k', self.folder, '-F', '-c', 'listen_addresses=', '-c', 'autovacuum=off']
+        words = [self.tool('postgres'), '-D', data, '-k', self.folder, '-F']
+        words += ['-c', 'listen_addresses=', '-c', 'autovacuum=off']
         with open(os.path.join(self.folder, 'log'), 'w') as log:
             self.server = subprocess.Popen(words, stdout=log, stderr=log, **common)
         for _ in range(150):
@@ -273,13 +289,15 @@ class PostGis:
     def extend(self):
         made = self.psql('CREATE EXTENSION postgis; CREATE EXTENSION postgis_topology;' + FUNCTIONS)
         if made.returncode:
-            raise Missing(f'PostgreSQL in {self.bin} has not the extensions postgis and postgis_topology: {made.stderr.strip()}')
-        versions = "current_setting('server_version'), postgis_lib_version(), postgis_geos_version()"
-        self.version = 'PostgreSQL {}, PostGIS {}, GEOS {}'.format(*self.rows(f'SELECT {versions}')[0])
+            raise Missing(f'no extensions postgis and postgis_topology in {self.bin}: {made.stderr.strip()}')
+        versions = "postgis_lib_version(), current_setting('server_version'), postgis_geos_version()"
+        self.version = 'PostGIS {}, PostgreSQL {}, GEOS {}'.format(*self.rows(f'SELECT {versions}')[0])
 
     def psql(self, sql):
-        words = [self.tool('psql'), '-XqAt', '-v', 'ON_ERROR_STOP=1', '-h', self.folder, '-U', 'others', '-d', 'postgres', '-f', '-']
-        return subprocess.run(words, input='SET client_min_messages = error;\n' + sql, capture_output=True, text=True, env=self.environment)
+        words = [self.tool('psql'), '-XqAt', '-v', 'ON_ERROR_STOP=1', '-f', '-']
+        words += ['-h', self.folder, '-U', 'others', '-d', 'postgres']
+        text = 'SET client_min_messages = error;\n' + sql
+        return subprocess.run(words, input=text, capture_output=True, text=True, env=self.environment)
 
     def lines(self, sql):
         made = self.psql(sql)
@@ -292,7 +310,8 @@ class PostGis:
 
     def fresh(self):
         """SQL that makes the topology anew."""
-        return "SELECT topology.DropTopology('sheet') FROM topology.topology; SELECT topology.CreateTopology('sheet', 0, 0) \\g /dev/null\n"
+        return ("SELECT topology.DropTopology('sheet') FROM topology.topology; "
+                "SELECT topology.CreateTopology('sheet', 0, 0) \\g /dev/null\n")
 
     def build(self, tickets):
         """A fresh topology with the tickets carried out. Answers their answers."""
@@ -307,7 +326,8 @@ class PostGis:
         calls = ', '.join(f'$call${call(self, t)}$call$' for t in tickets)
         # rows of undone calls stay in the tables until they are vacuumed
         once = (f'VACUUM ANALYZE sheet.node, sheet.edge_data, sheet.face;\n'
-                f'SELECT micros, answer FROM unnest(ARRAY[{calls}]) WITH ORDINALITY c(call, i), LATERAL timed(call) ORDER BY i;\n')
+                f'SELECT micros, answer FROM unnest(ARRAY[{calls}]) WITH ORDINALITY c(call, i), '
+                f'LATERAL timed(call) ORDER BY i;\n')
         rows = [(float(micros), answer) for micros, answer in self.rows(once * ROUNDS)]
         return [rows[i:i + len(tickets)] for i in range(0, len(rows), len(tickets))]
 
@@ -327,7 +347,8 @@ class PostGis:
         return out
 
     def own_check(self):
-        return [': '.join(row) for row in self.rows("SELECT error, 'ids ' || id1 || ', ' || id2 FROM topology.ValidateTopology('sheet')")]
+        sql = f"SELECT error, 'ids ' || id1 || ', ' || id2 FROM topology.{self.CHECK}('sheet')"
+        return [': '.join(row) for row in self.rows(sql)]
 
     def close(self):
         if self.server and self.server.poll() is None:
@@ -340,7 +361,7 @@ class PostGis:
         shutil.rmtree(self.folder, ignore_errors=True)
 
 
-# --- SpatiaLite -----------------------------------------------------------------------------------------------------------------------
+# --- SpatiaLite ------------------------------------------------------------------------------------------------------
 
 class Database:
     """SQLite through its C library: many builds of Python's own module cannot load extensions."""
@@ -392,7 +413,8 @@ def hushed():
 
 
 class SpatiaLite:
-    NAME, PREFIX, POINT, CURVE = 'SpatiaLite', 'ST_', 'MakePoint({}, {}, -1)', "GeomFromText('LINESTRING({})', -1)"
+    NAME, SETTING, CHECK = 'SpatiaLite', 'in memory', 'ST_ValidateTopoGeo'
+    PREFIX, POINT, CURVE = 'ST_', 'MakePoint({}, {}, -1)', "GeomFromText('LINESTRING({})', -1)"
     NAMES = {3: 'RemIsoNode', 5: 'RemIsoEdge'}
 
     def __init__(self):
@@ -446,7 +468,8 @@ class SpatiaLite:
         return micros, answer
 
     def histories(self, sheets):
-        row = 'SELECT edge_id, start_node, end_node, next_left_edge, next_right_edge, AsText(geom) FROM sheet_edge ORDER BY edge_id'
+        row = ('SELECT edge_id, start_node, end_node, next_left_edge, next_right_edge, AsText(geom)'
+               ' FROM sheet_edge ORDER BY edge_id')
         out = []
         with hushed():
             for tickets in sheets:
@@ -456,14 +479,14 @@ class SpatiaLite:
 
     def own_check(self):
         with hushed():
-            self.db.rows("SELECT ST_ValidateTopoGeo('sheet')")
+            self.db.rows(f"SELECT {self.CHECK}('sheet')")
             return [' '.join(row) for row in self.db.rows('SELECT * FROM sheet_validate_topogeo')]
 
     def close(self):
         self.db.close()
 
 
-# --- times ----------------------------------------------------------------------------------------------------------------------------
+# --- times -----------------------------------------------------------------------------------------------------------
 
 def built(engine, sheet):
     """The sheet drawn on the engine, with every number as predicted. Answers the row counts."""
@@ -524,7 +547,21 @@ def report(engine, measured):
     sys.stdout.flush()
 
 
-# --- links ----------------------------------------------------------------------------------------------------------------------------
+def record(path, engine, measured):
+    """Adds the times to the CSV file."""
+    new = not os.path.exists(path)
+    with open(path, 'a', newline='') as file:
+        file.write(f'# {engine.version}\n')
+        out = csv.writer(file, lineterminator='\n')
+        if new:
+            out.writerow(COLUMNS)
+        for rows, times, _ in measured:
+            for kind, pair in enumerate(times, 1):
+                name = engine.version.split(',')[0]
+                out.writerow([name, engine.SETTING, kind, rows[1], *('' if t is None else f'{t:.1f}' for t in pair)])
+
+
+# --- links -----------------------------------------------------------------------------------------------------------
 
 # curves with at most three edges: dangling, closed, and both at one node
 SHAPES = {
@@ -551,11 +588,12 @@ def points_of(text):
 def drawn(curves):
     """Tickets that draw the curves: their ends by kind 1, then each by kind 12."""
     ends = list(dict.fromkeys(p for c in curves for p in (c[0], c[-1])))
-    return [(1, -1, *p) for p in ends] + [(12, ends.index(c[0]) + 1, ends.index(c[-1]) + 1, *itertools.chain(*c)) for c in curves]
+    node = {p: n for n, p in enumerate(ends, 1)}
+    return [(1, -1, *p) for p in ends] + [(12, node[c[0]], node[c[-1]], *itertools.chain(*c)) for c in curves]
 
 
 def cut_sheets():
-    """Every shape, with its edges drawn in every pair of directions, and each edge split in its first segment by kinds 7 and 8."""
+    """Every shape, each edge drawn in both directions and split in its first segment by kinds 7 and 8."""
     for name, texts in SHAPES.items():
         for ways in itertools.product((1, -1), repeat=len(texts)):
             curves = [points_of(t)[::w] for t, w in zip(texts, ways)]
@@ -572,7 +610,7 @@ def turn(a, b):
 
 
 def lawful(rows):
-    """The links of the law, (next left, next right) by edge: the next of d is the first departure met clockwise from the reverse of d."""
+    """The links of the law by edge: the next of d is the first departure met clockwise from the reverse of d."""
     around = {}
     for (e, start, end, _, _), curve in rows:
         for d, node, p, q in ((e, start, curve[0], curve[1]), (-e, end, curve[-1], curve[-2])):
@@ -590,12 +628,12 @@ def written(rows):
 
 
 def reference_links(tickets):
-    """The links that the reference writes, or None where it is not at hand."""
-    if not (REFERENCE / 'ticket.py').is_file():
-        return None
+    """The links that the reference writes."""
     text = ''.join(' '.join(map(str, t)) + '\n' for t in tickets)
-    out = subprocess.run([sys.executable, str(REFERENCE / 'ticket.py'), '--dump'], input=text, capture_output=True, text=True, check=True).stdout
-    rows = [[int(w) for w in line.split()[1:]] for line in out[out.rindex('\nH '):].splitlines() if line.startswith('E ')]
+    words = [sys.executable, str(REFERENCE / 'ticket.py'), '--dump']
+    out = subprocess.run(words, input=text, capture_output=True, text=True, check=True).stdout
+    lines = out[out.rindex('\nH '):].splitlines()
+    rows = [[int(w) for w in line.split()[1:]] for line in lines if line.startswith('E ')]
     return {r[0]: tuple(r[3:5]) for r in rows}
 
 
@@ -616,6 +654,10 @@ def first_fault(tickets, history):
     return None
 
 
+def points_shown(curve):
+    return ', '.join(f'{x} {y}' for x, y in curve)
+
+
 def show_fault(name, tickets, rows):
     law, reference = lawful(rows), reference_links(tickets)
     print(f'    {name}')
@@ -623,10 +665,10 @@ def show_fault(name, tickets, rows):
         print(f"    {' '.join(map(str, t)):<48} {KINDS[t[0] - 1]}")
     print(f"    {'edge':>6}{'nodes':>10}   {'links written':<18}{'by the law':<18}reference   curve")
     for (e, start, end, *links), curve in rows:
-        ours = '-' if reference is None else '{} {}'.format(*reference[e]) if e in reference else 'no such edge'
+        ours = '{} {}'.format(*reference[e]) if e in reference else 'no such edge'
         mark = '' if tuple(links) == law[e] else '  <- wrong'
-        print(f"    {e:>6}{f'{start} -> {end}':>10}   {'{} {}'.format(*links):<18}{'{} {}'.format(*law[e]):<18}{ours:<12}"
-              f"{', '.join(f'{x} {y}' for x, y in curve)}{mark}")
+        print(f"    {e:>6}{f'{start} -> {end}':>10}   {'{} {}'.format(*links):<18}{'{} {}'.format(*law[e]):<18}"
+              f"{ours:<12}{points_shown(curve)}{mark}")
     for text in strays(rows):
         print(f'    {text}')
 
@@ -646,18 +688,17 @@ def hold_links(engine):
         print('  no fault shown: every link is the one of the law')
     for kind, found in sorted(faults.items()):
         shapes = '; '.join(dict.fromkeys(name for name, _, _ in found))
-        print(f"\n  {KINDS[kind - 1]} (kind {kind}) leaves a link that is not the law's on {len(found)} sheets ({shapes})")
+        print(f"\n  {KINDS[kind - 1]} (kind {kind}) leaves a link that is not the law's on {len(found)} sheets")
+        print(f'  ({shapes})')
         print('  the one with the fewest numbers:')
         smallest = min(found, key=lambda f: sum(map(len, f[1])))
         show_fault(*smallest)
         engine.build(smallest[1])
-        print("    the engine's own check of the sheet:", '; '.join(engine.own_check()) or 'nothing wrong')
-    if not (REFERENCE / 'ticket.py').is_file():
-        print(f'  the reference is not at hand ({REFERENCE}); name its folder in REFERENCE')
+        print(f"    {engine.CHECK}, the engine's own check, says: {'; '.join(engine.own_check()) or 'nothing wrong'}")
     sys.stdout.flush()
 
 
-# --- sluices --------------------------------------------------------------------------------------------------------------------------
+# --- sluices ---------------------------------------------------------------------------------------------------------
 
 def renamed(rows, e, h):
     """The rows with the edge e numbered h, in links too; by number."""
@@ -702,15 +743,27 @@ def hold_sluices(engine):
             (name, *_, tickets), history = min(cases, key=lambda c: sum(map(len, c[0][-1])))
             print(f'    {name}: ' + '; '.join(' '.join(map(str, t)) for t in tickets))
             for label, (answer, rows) in zip(('before', 'split', 'healed'), history[-3:]):
-                print(f'    {label} ({answer}):', '; '.join(f"{row} {', '.join(f'{x} {y}' for x, y in c)}" for row, c in rows))
+                print(f'    {label} ({answer}):', '; '.join(f'{row} {points_shown(c)}' for row, c in rows))
     sys.stdout.flush()
 
 
-def main(args):
-    hold = {('--links',): hold_links, ('--sluices',): hold_sluices}.get(tuple(args))
-    if not hold and not all(a.isdigit() and int(a) >= 20 for a in args):
-        print(__doc__, file=sys.stderr)
-        return 2
+def size(word):
+    if not word.isdigit() or int(word) < 20:
+        raise argparse.ArgumentTypeError('a size is a number of edges, 20 or more')
+    return int(word)
+
+
+def arguments():
+    parser = argparse.ArgumentParser(description=__doc__, formatter_class=argparse.RawDescriptionHelpFormatter)
+    parser.add_argument('sizes', nargs='*', type=size, default=[100, 500], metavar='SIZE')
+    parser.add_argument('--csv', metavar='FILE')
+    parser.add_argument('--links', dest='hold', action='store_const', const=hold_links)
+    parser.add_argument('--sluices', dest='hold', action='store_const', const=hold_sluices)
+    return parser.parse_args()
+
+
+def main():
+    asked = arguments()
     signal.signal(signal.SIGTERM, lambda *_: sys.exit(1))  # so that the server is stopped then too
     for kind in (PostGis, SpatiaLite):
         try:
@@ -719,12 +772,14 @@ def main(args):
             print(f'\n{kind.NAME}: left out, {e}')
             continue
         with contextlib.closing(engine):
-            if hold:
-                hold(engine)
-            else:
-                report(engine, [measure(engine, int(size)) for size in args or ('100', '500')])
-    return 0
+            if asked.hold:
+                asked.hold(engine)
+                continue
+            measured = [measure(engine, target) for target in asked.sizes]
+            report(engine, measured)
+            if asked.csv:
+                record(asked.csv, engine, measured)
 
 
 if __name__ == '__main__':
-    sys.exit(main(sys.argv[1:]))
+    main()
