@@ -4,11 +4,13 @@
 //! ditches split at a sluice. Each ticket is timed alone on a fresh copy of the sheet's tables, at many places of the
 //! sheet, once as it is carried out and once as it is turned down: the least of some calls at each place, then the
 //! median over the places. The bare pass adds up every number of the rows in use; beside it stands the time of one that
-//! compares each with a bound. Prints tables, and writes the times to the CSV file given.
+//! compares each with a bound. Prints tables, and adds the times to the CSV file given.
 
 use std::collections::HashMap;
-use std::fmt::Write;
+use std::fmt::Write as _;
+use std::fs::OpenOptions;
 use std::hint::black_box;
+use std::io::Write as _;
 use std::time::Instant;
 
 #[path = "../include/solgwid.rs"]
@@ -317,6 +319,7 @@ fn main() {
         csv += &rows(setting, &all);
     }
     if let Some(path) = std::env::args().nth(1) {
-        std::fs::write(path, csv).expect("the times are written");
+        let file = OpenOptions::new().create(true).append(true).open(path);
+        file.and_then(|mut f| f.write_all(csv.as_bytes())).expect("the times are written");
     }
 }
