@@ -7,13 +7,12 @@
 import cmath
 import html
 import math
-import pathlib
 import sys
 
-ROOT = pathlib.Path(__file__).resolve().parent.parent
-sys.path.insert(0, str(ROOT / 'tests' / 'reference'))
-import plotmap as pm     # noqa: E402
-import ticket as tk      # noqa: E402
+from repository import ROOT     # finds the reference
+
+import plotmap as pm
+import ticket as tk
 
 SQUARE = [
     ('1 -1 0 0', 'node 1 at (0,0), in face 0'),
@@ -24,13 +23,7 @@ SQUARE = [
     ('13 3', 'the boundary goes: faces 1 and 2', 'become the new face 3'),
 ]
 
-MEADOW = """
-1 -1 0 0
-12 1 1 0 0 10 0 10 10 0 10 0 0
-8 1 10 10
-12 1 2 0 0 10 10
-9 1 2
-13 3
+MEADOW = [entry[0] for entry in SQUARE] + """
 1 -1 4 6
 1 0 20 2
 2 4 20 0
@@ -128,12 +121,13 @@ class Page:
     def put(self, part):
         self.parts.append(part)
 
-    def box(self, at, width, height, fill, radius=0):
-        self.put(f'<rect x="{trimmed(at.real)}" y="{trimmed(at.imag)}" width="{trimmed(width)}" '
-                 f'height="{trimmed(height)}" rx="{radius}" fill="{fill}"/>')
+    def box(self, at, width, height):
+        """A part of face 0."""
+        self.put(f'<rect x="{trimmed(at.real)}" y="{trimmed(at.imag)}" width="{width}" height="{height}" rx="6" '
+                 f'fill="{OUTSIDE_FILL}"/>')
 
-    def text(self, at, words, style, anchor='middle', more=''):
-        self.put(f'<text x="{trimmed(at.real)}" y="{trimmed(at.imag)}" class="{style}" text-anchor="{anchor}"{more}>'
+    def text(self, at, words, style, anchor='middle'):
+        self.put(f'<text x="{trimmed(at.real)}" y="{trimmed(at.imag)}" class="{style}" text-anchor="{anchor}">'
                  f'{html.escape(str(words), quote=False)}</text>')
 
     def label(self, at, words, style):
@@ -361,14 +355,14 @@ def mark_edge_ends(page, view):
 def corner_notes(page, view):
     """The points of the square sheet, in brackets."""
     for x, y in ((10, 0), (10, 10), (0, 10)) if view.m.edges else ((0, 0),):
-        page.label(view.at(x, y) + complex(x - 5, (5 - y) if view.m.edges else 5) * 3.4, f'({x},{y})', 'small')
+        page.label(view.at(x, y) + complex(x - 5, 5 - y) * 3.4, f'({x},{y})', 'small')
 
 
 def square_panel(page, at, count):
     tickets = [entry[0] for entry in SQUARE[:count]]
     m, answer = grown(tickets)
     view = View(m, at + complex(68, 240), 16, node_gap=23 if m.edges else 15)
-    page.box(at + 4 + 30j, PANEL_WIDTH - 8, 256, OUTSIDE_FILL, 6)
+    page.box(at + 4 + 30j, PANEL_WIDTH - 8, 256)
     ticket_line(page, at + complex(PANEL_WIDTH / 2, 20), tickets[-1], answer)
     draw_faces(page, view)
     if answer[0]:
@@ -437,7 +431,7 @@ def row_of_edge(page, at, e):
 def edge():
     m, _ = grown(EDGE)
     page, view = Page(760, 386), View(m, 108 + 302j, 17)
-    page.box(4 + 4j, 752, 328, OUTSIDE_FILL, 6)
+    page.box(4 + 4j, 752, 328)
     draw_faces(page, view)
     for e in m.edges:
         page.line(view.course(e.number), 'edge')
@@ -515,8 +509,8 @@ def compass(page, at, radius):
 
 def links():
     page = Page(760, 340)
-    page.box(4 + 4j, 428, 332, OUTSIDE_FILL, 6)
-    page.box(436 + 4j, 320, 332, OUTSIDE_FILL, 6)
+    page.box(4 + 4j, 428, 332)
+    page.box(436 + 4j, 320, 332)
     page.text(18 + 26j, 'link law: turn clockwise from the reverse of d', 'note', 'start')
     page.text(450 + 26j, 'direction classes by the signs of dx and dy', 'note', 'start')
     link_law(page, 56 + 306j)
@@ -541,7 +535,7 @@ def draw_grid(page, view, width, height):
 def meadow():
     m, _ = grown(MEADOW)
     page, view = Page(930, 300), View(m, 44 + 248j, 13.6, node_gap=14, edge_gap=12, segments={18: 5})
-    page.box(4 + 4j, 922, 292, OUTSIDE_FILL, 6)
+    page.box(4 + 4j, 922, 292)
     draw_faces(page, view)
     draw_grid(page, view, 62, 16)
     draw_edges(page, view, tip=8)
@@ -600,7 +594,7 @@ def rings():
     page, view = Page(900, 436), View(m, 44 + 298j, 19, node_gap=18, edge_gap=19)
     lowest = [n.number for n in m.nodes if min(pm.piece(m, n.number)) == n.number]
     letters = [view.at(*PIECES[n][0]) for n in lowest]
-    page.box(4 + 4j, 892, 326, OUTSIDE_FILL, 6)
+    page.box(4 + 4j, 892, 326)
     draw_faces(page, view)
     draw_edges(page, view)
     for ring in pm.rings(m):
