@@ -86,7 +86,7 @@ def axes():
     out.append(text((LEFT + RIGHT) / 2, BOTTOM + 42, 'edges in the map', ' text-anchor="middle"'))
     middle = (TOP + BOTTOM) / 2
     out.append(text(18, middle, 'microseconds a ticket, mean over fourteen kinds',
-                    f' text-anchor="middle" transform="rotate(-90 18 {middle:.0f})"'))
+                    f' text-anchor="middle"\n transform="rotate(-90 18 {middle:.0f})"'))
     return out
 
 
@@ -96,7 +96,7 @@ def drawn(line):
     places = [place(p) for p in points]
     data = 'M' + 'L'.join(f'{x:.1f} {y:.1f}' for x, y in places)
     dash = ' stroke-dasharray="6 4"' if dashed else ''
-    out = [f'<path d="{data}" fill="none" stroke="{colour}" stroke-width="2"{dash}/>']
+    out = [f'<path d="{data}" fill="none"\n stroke="{colour}" stroke-width="2"{dash}/>']
     fill = '#fff' if dashed else colour
     return out + [f'<circle cx="{x:.1f}" cy="{y:.1f}" r="3.5" fill="{fill}" stroke="{colour}" stroke-width="1.5"/>'
                   for x, y in places]
@@ -126,8 +126,9 @@ def labels(lines):
 def plot(rows, notes):
     lines = series(rows)
     versions = '; '.join(note.split(',')[0] for note in notes)
-    out = [f'<svg xmlns="http://www.w3.org/2000/svg" viewBox="0 0 {WIDTH} {HEIGHT}" width="{WIDTH}" height="{HEIGHT}" '
-           'font-family="sans-serif" font-size="12">', f'<rect width="{WIDTH}" height="{HEIGHT}" fill="#fff"/>',
+    out = [f'<svg xmlns="http://www.w3.org/2000/svg" viewBox="0 0 {WIDTH} {HEIGHT}" width="{WIDTH}" '
+           f'height="{HEIGHT}"\n font-family="sans-serif" font-size="12">',
+           f'<rect width="{WIDTH}" height="{HEIGHT}" fill="#fff"/>',
            text(LEFT, 30, 'Time of a ticket by size of the map', ' font-size="18"'),
            text(LEFT, 52, versions, ' fill="#555"'), *axes()]
     for line in lines:

@@ -8,6 +8,7 @@ import cmath
 import html
 import math
 import sys
+import textwrap
 
 from repository import ROOT     # finds the reference
 
@@ -68,7 +69,9 @@ FACE_FILLS = ('#fdf0c4', '#dcebf7', '#e3f2d9', '#f9e0d6', '#ece2f4', '#dff3ef', 
 RING_COLOURS = ('#b26a00', '#0b6fb8', '#2e7d32', '#b0452b', '#7a3fa0', '#00796b', '#8a6d3b', '#c2185b')
 
 STYLE = """
-text { font-family: sans-serif; fill: #222 }
+text { font-family: sans-serif; fill: #222; text-anchor: middle }
+.start { text-anchor: start }
+.end { text-anchor: end }
 .edge { fill: none; stroke: #1f4e79; stroke-width: 2; stroke-linejoin: round }
 .directed { fill: none; stroke: #1f4e79; stroke-width: 1.5 }
 .edge-tip { fill: #1f4e79 }
@@ -92,6 +95,7 @@ text { font-family: sans-serif; fill: #222 }
 .ring { fill: none; stroke-width: 1.8; stroke-dasharray: 5 3 }
 .turn { fill: none; stroke: #555; stroke-width: 1.5; stroke-dasharray: 3 2 }
 .turn-tip { fill: #555 }
+.answer { font-weight: bold }
 .refused { fill: #a32020 }
 """
 
@@ -126,8 +130,8 @@ class Page:
         self.put(f'<rect x="{trimmed(at.real)}" y="{trimmed(at.imag)}" width="{width}" height="{height}" rx="6" '
                  f'fill="{OUTSIDE_FILL}"/>')
 
-    def text(self, at, words, style, anchor='middle'):
-        self.put(f'<text x="{trimmed(at.real)}" y="{trimmed(at.imag)}" class="{style}" text-anchor="{anchor}">'
+    def text(self, at, words, style):
+        self.put(f'<text x="{trimmed(at.real)}" y="{trimmed(at.imag)}" class="{style}">'
                  f'{html.escape(str(words), quote=False)}</text>')
 
     def label(self, at, words, style):
@@ -135,7 +139,7 @@ class Page:
         self.text(at + 4.6j, words, style)
 
     def path(self, data, style, more=''):
-        self.put(f'<path d="{data}" class="{style}"{more}/>')
+        self.put(textwrap.fill(f'<path d="{data}" class="{style}"{more}/>', 120, break_on_hyphens=False))
 
     def line(self, points, style):
         self.path('M' + 'L'.join(map(spot, points)), style)
@@ -338,8 +342,8 @@ PANEL_WIDTH, PANEL_HEIGHT = 296, 330
 def ticket_line(page, at, ticket, answer):
     words = f'{ticket} → '
     refused = ' refused' if answer[0] else ''
-    page.put(f'<text x="{trimmed(at.real)}" y="{trimmed(at.imag)}" class="ticket" text-anchor="middle">'
-             f'{words}<tspan font-weight="bold" class="ticket{refused}">{answer[0]} {answer[1]}</tspan></text>')
+    page.put(f'<text x="{trimmed(at.real)}" y="{trimmed(at.imag)}" class="ticket">'
+             f'{words}<tspan class="answer{refused}">{answer[0]} {answer[1]}</tspan></text>')
 
 
 def mark_edge_ends(page, view):
@@ -380,18 +384,18 @@ def square_panel(page, at, count):
 def legend(page, at):
     """What the signs of the square sheet are."""
     page.disc(at + 6, 4.5, 'isolated')
-    page.text(at + 16 + 4.5j, 'isolated node', 'note', 'start')
+    page.text(at + 16 + 4.5j, 'isolated node', 'note start')
     page.disc(at + 126, 4.5, 'node')
-    page.text(at + 136 + 4.5j, 'node', 'note', 'start')
+    page.text(at + 136 + 4.5j, 'node', 'note start')
     page.line([at + 186, at + 226], 'edge')
     page.tip(at + 211, 1, 10, 'edge-tip')
-    page.text(at + 234 + 4.5j, 'edge', 'note', 'start')
+    page.text(at + 234 + 4.5j, 'edge', 'note start')
     page.label(at + 290, '1', 'face-number')
-    page.text(at + 301 + 4.5j, 'face', 'note', 'start')
+    page.text(at + 301 + 4.5j, 'face', 'note start')
     page.disc(at + 351, 2.2, 'link-tip')
     page.line([at + 351, at + 380], 'link')
     page.tip(at + 386, 1, 9, 'link-tip')
-    page.text(at + 396 + 4.5j, 'link: from a directed edge to its next, round one face', 'note', 'start')
+    page.text(at + 396 + 4.5j, 'link: from a directed edge to its next, round one face', 'note start')
 
 
 def square():
@@ -445,9 +449,9 @@ def edge():
         draw_link(page, view, d)
     for n, words, anchor, aside in ((1, 'start: node 1', 'end', -10), (2, 'end: node 2', 'start', 10)):
         page.disc(view.node(n), 4.5, 'node')
-        page.text(view.node(n) + aside + 5j, words, 'note', anchor)
-    page.text(view.node(2) - 24 - 40j, 'next left follows e', 'link-note', 'end')
-    page.text(view.node(1) + 24 + 48j, 'next right follows -e', 'link-note', 'start')
+        page.text(view.node(n) + aside + 5j, words, f'note {anchor}')
+    page.text(view.node(2) - 24 - 40j, 'next left follows e', 'link-note end')
+    page.text(view.node(1) + 24 + 48j, 'next right follows -e', 'link-note start')
     page.label(view.at(16, 12.4), f'left face: {m.edges[0].left}', 'face-number')
     page.label(view.at(16, 3.6), f'right face: {m.edges[0].right}', 'face-number')
     row_of_edge(page, 84 + 352j, m.edges[0])
@@ -482,12 +486,12 @@ def link_law(page, at):
     draw_link(page, view, d, reach=36)
     others = sorted((p for p in ways if p not in (-d, following)), key=lambda p: turn(ways[-d], ways[p]))
     middle = ways[-d] * cmath.rect(112, turn(ways[-d], ways[following]) / 2)
-    page.text(centre + middle, 'turn clockwise', 'small', 'end')
+    page.text(centre + middle, 'turn clockwise', 'small end')
     page.text(centre + ways[-d] * 84 + 28j, 'd arrives', 'note')
     page.text(centre + ways[-d] * 84 + 45j, '-d, its reverse, leaves', 'small')
-    page.text(centre + ways[following] * 96 + 14, 'first met: the next of d', 'link-note', 'start')
+    page.text(centre + ways[following] * 96 + 14, 'first met: the next of d', 'link-note start')
     for p, words in zip(others, ('second', 'third')):
-        page.text(centre + ways[p] * 96 + 16 + 14j, words, 'note', 'start')
+        page.text(centre + ways[p] * 96 + 16 + 14j, words, 'note start')
 
 
 def compass(page, at, radius):
@@ -511,8 +515,8 @@ def links():
     page = Page(760, 340)
     page.box(4 + 4j, 428, 332)
     page.box(436 + 4j, 320, 332)
-    page.text(18 + 26j, 'link law: turn clockwise from the reverse of d', 'note', 'start')
-    page.text(450 + 26j, 'direction classes by the signs of dx and dy', 'note', 'start')
+    page.text(18 + 26j, 'link law: turn clockwise from the reverse of d', 'note start')
+    page.text(450 + 26j, 'direction classes by the signs of dx and dy', 'note start')
     link_law(page, 56 + 306j)
     compass(page, 596 + 184j, 104)
     page.save('links')
@@ -529,7 +533,7 @@ def draw_grid(page, view, width, height):
     for x in range(0, width + 1, 10):
         page.text(view.at(x, 0) + 36j, x, 'small')
     for y in range(0, height + 1, 10):
-        page.text(view.at(0, y) - 20 + 4j, y, 'small', 'end')
+        page.text(view.at(0, y) - 20 + 4j, y, 'small end')
 
 
 def meadow():
@@ -569,7 +573,7 @@ def list_faces(page, at, m):
         found = [f"({' '.join(map(str, r))})" for r in pm.rings(m) if pm.borne(m, r[0]) == face]
         row = at + 19j * i
         page.path(f'M{spot(row - 4j)}h28', 'ring', f' stroke="{ring_colour(face)}"')
-        page.text(row + 38, f"face {face}: ring{'s' * (len(found) > 1)} {' '.join(found)}", 'note', 'start')
+        page.text(row + 38, f"face {face}: ring{'s' * (len(found) > 1)} {' '.join(found)}", 'note start')
 
 
 def face_around(m, nodes):
@@ -586,7 +590,7 @@ def list_pieces(page, at, m, lowest):
         nodes = sorted(pm.piece(m, n))
         listed = f"node{'s' * (len(nodes) > 1)} {' '.join(map(str, nodes))}"
         words = f'piece {chr(65 + i)}: {listed}; {PIECES[n][1]} in face {face_around(m, nodes)}'
-        page.text(at + 19j * i, words, 'note', 'start')
+        page.text(at + 19j * i, words, 'note start')
 
 
 def rings():
