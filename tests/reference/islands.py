@@ -1,0 +1,133 @@
+"""Random tickets that build what plain random lists seldom reach: islands and wells inside big faces that are
+then split, healed, redrawn and joined.
+
+The sheet is n by n cells of 6 by 6; routes run on the cell borders, wells and islands lie inside cells.
+Everything is then bent by one whole-number linear map, so that segments have all slopes.
+"""
+
+import plotmap as pm
+
+CELL = 6
+
+
+class World:
+    def __init__(self, rng):
+        self.n = rng.choice([2, 2, 3, 3, 4])
+        while True:
+            a, b, c, d = (rng.randint(-3, 3) for _ in range(4))
+            if a * d != b * c:
+                break
+        size = CELL * self.n
+        spots = [(u, v) for u in range(size + 1) for v in range(size + 1)]
+        left = min(a * u + b * v for u, v in spots)
+        low = min(c * u + d * v for u, v in spots)
+        self.to = {(u, v): (a * u + b * v - left, c * u + d * v - low) for u, v in spots}
+        self.back = {p: s for s, p in self.to.items()}
+
+    def flat(self, spots):
+        return [c for s in spots for c in self.to[s]]
+
+
+def border(rng, w):
+    return (CELL * rng.randint(0, w.n), CELL * rng.randint(0, w.n))
+
+
+def inside(rng, w):
+    return (CELL * rng.randrange(w.n) + rng.randint(1, CELL - 1), CELL * rng.randrange(w.n) + rng.randint(1, CELL - 1))
+
+
+def on_border(s):
+    return s[0] % CELL == 0 and s[1] % CELL == 0
+
+
+def tidy(route):
+    """Without repeated or straight inner points."""
+    out = [route[0]]
+    for p in route[1:]:
+        if p != out[-1]:
+            out.append(p)
+    i = 1
+    while i < len(out) - 1:
+        if pm.straight_between(out[i], out[i - 1], out[i + 1]):
+            del out[i]
+        else:
+            i += 1
+    return out
+
+
+def route(rng, w, p, q):
+    """From border place p to q along borders."""
+    if p == q:
+        u, v = border(rng, w)
+        r = [p, (u, p[1]), (u, v), (p[0], v), p]
+        return tidy(r if rng.random() < 0.5 else r[::-1])
+    u, v = border(rng, w)
+    c = rng.random()
+    if c < 0.35:
+        r = [p, (p[0], q[1]), q] if rng.random() < 0.5 else [p, (q[0], p[1]), q]
+    elif c < 0.7:
+        r = [p, (u, p[1]), (u, q[1]), q] if rng.random() < 0.5 else [p, (p[0], v), (q[0], v), q]
+    elif c < 0.85:
+        r = [p, (u, p[1]), (u, v), (q[0], v), q]
+    else:
+        r = [p, q]
+    return tidy(r)
+
+
+def ticket(rng, m, w):
+    at = {n.number: w.back[(n.x, n.y)] for n in m.nodes}
+    lattice = [n for n, s in at.items() if on_border(s)]
+    inner = [n for n, s in at.items() if not on_border(s)]
+    bare = [n.number for n in m.nodes if n.face != -1]
+    pick = lambda ns: rng.choice(ns) if ns else 0
+    c = rng.random()
+    if len(m.nodes) < 4:
+        c *= 0.24
+    new = rng.choice([11, 12])
+    if c < 0.06:
+        return (1, -1, *w.to[border(rng, w)])
+    if c < 0.24:
+        return (1, -1, *w.to[inside(rng, w)])
+    if c < 0.27 and bare:
+        return (2, pick(bare), *w.to[inside(rng, w)])
+    if c < 0.29:
+        return (3, pick(bare))
+    if c < 0.37 and inner:                    # an island of one edge
+        u = pick(inner)
+        cell = lambda s: (s[0] // CELL, s[1] // CELL)
+        near = [v for v in inner if v != u and cell(at[v]) == cell(at[u])]
+        v = pick(near) or pick(inner)
+        return (rng.choice([4, 4, new]), u, v, *w.flat([at[u], at[v]]))
+    if c < 0.43 and inner:                    # an island of one loop
+        u = pick(inner)
+        x, y = (min(c // CELL, w.n - 1) * CELL for c in at[u])
+        spots = [(x + rng.randint(1, CELL - 1), y + rng.randint(1, CELL - 1)) for _ in range(2)]
+        return (new, u, u, *w.flat([at[u], *spots, at[u]]))
+    if c < 0.62 and lattice:                  # a route on the borders
+        u, v = pick(lattice), pick(lattice)
+        return (new, u, v, *w.flat(route(rng, w, at[u], at[v])))
+    if c < 0.72 and m.edges:                  # a node on a border of an edge, or anywhere along it
+        e = rng.choice(m.edges)
+        spots = [s for s in w.to if pm.on_curve(w.to[s], e.points) and (rng.random() < 0.3 or on_border(s))]
+        s = rng.choice(spots or [border(rng, w)])
+        return (rng.choice([7, 8]), e.number, *w.to[s])
+    if c < 0.83 and m.edges:                  # redrawn
+        e = rng.choice(m.edges)
+        p, q = at[e.start], at[e.end]
+        if on_border(p) and on_border(q):
+            return (6, e.number, *w.flat(route(rng, w, p, q)))
+        spots = [inside(rng, w) for _ in range(rng.choice([0, 1, 1, 2]))]
+        return (6, e.number, *w.flat([p, *spots, q]))
+    if c < 0.88 and len(m.nodes) > 1:         # joined, or left dangling
+        u, v = rng.choice(m.nodes).number, rng.choice(m.nodes).number
+        mid = [inside(rng, w)] if rng.random() < 0.3 else []
+        return (new, *(u, v), *w.flat([at[u], *mid, at[v]]))
+    if c < 0.93 and m.edges:
+        return (rng.choice([13, 14]), rng.choice(m.edges).number)
+    if c < 0.95 and m.edges:
+        return (5, rng.choice([e.number for e in m.edges if e.left == e.right] or [1]))
+    if m.edges:
+        e = rng.choice(m.edges)
+        near = [f.number for f in m.edges if f.number != e.number and {f.start, f.end} & {e.start, e.end}]
+        return (rng.choice([9, 10]), e.number, rng.choice(near or [e.number]))
+    return (1, -1, *w.to[border(rng, w)])
