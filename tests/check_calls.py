@@ -1,39 +1,42 @@
 #!/usr/bin/env python3
-"""Whole calls on tables that no list of tickets grows, and whole lists in one call: the static library held against the reference.
+"""The static library held against the reference: whole calls on tables that no list of tickets grows, and whole lists
+in one call.
 
-  whole_calls.py [CALLS] [LISTS] [--seed S]     REFERENCE names the reference's folder (default: ../shared/reference beside the repository)
+  check_calls.py [CALLS] [LISTS] [--seed S]
 
-Needs `rt staticlib abi` and a C compiler. The tables are grown maps that are distorted (links off the law, faces at will, crossing curves, nodes on one
-point) or spoiled. Tables, head, list, refusal and value after the call must be the reference's, in refusals too.
+Needs target/staticlib/libsolgwid.a (`rt staticlib solgwid`) and a C compiler. The tables are grown maps that are
+distorted (links off the law, faces at will, crossing curves, nodes on one point) or spoiled. Tables, head, list,
+refusal and value after the call must be the reference's, in refusals too.
 """
 
 import argparse
-import collections
-import contextlib
 import ctypes
-import io
-import os
-import pathlib
+import itertools
 import random
 import subprocess
 import sys
+from dataclasses import astuple
 
-ROOT = pathlib.Path(__file__).resolve().parent.parent
-sys.path.insert(0, os.environ.get('REFERENCE', str(ROOT.parent / 'shared' / 'reference')))
+from comparison import counted, seeds, tally
+from repository import ROOT, static_library     # finds the reference
 
-import compare              # noqa: E402
-import plotmap as pm        # noqa: E402
-import raw_gen              # noqa: E402
-import ticket as tk         # noqa: E402
+import compare
+import plotmap as pm
+import raw
+import raw_gen
+import ticket as tk
 
 LEAST, MOST = -2 ** 63, 2 ** 63 - 1
+FUNCTIONS = ('ticket', 'edges_of_face', 'run')
 
 
 def library():
-    shared = ROOT / 'target' / 'whole_calls.so'
-    subprocess.run(['cc', '-shared', '-o', shared, '-Wl,--whole-archive', ROOT / 'target/staticlib/libabi.a', '-Wl,--no-whole-archive'], check=True)
+    """The static library, linked into a shared one that Python can load."""
+    archive, shared = static_library(), ROOT / 'target/solgwid.so'
+    whole = ['-Wl,--whole-archive', archive, '-Wl,--no-whole-archive']
+    subprocess.run(['cc', '-shared', '-o', shared, *whole], check=True)
     lib = ctypes.CDLL(str(shared))
-    for name in ('ticket', 'edges_of_face', 'run', 'empty_map'):
+    for name in FUNCTIONS:
         getattr(lib, f'solgwid_{name}').restype = ctypes.c_uint64
     return lib
 
@@ -61,86 +64,89 @@ class Lent:
         return [list(t)[:n] for t, n in zip(self.tables, self.sizes)], list(self.head)
 
 
-def parse(line):
-    words = line.split()
-    cut = next(i for i, w in enumerate(words) if w in 'TL')
-    numbers, tables = list(map(int, words[:cut])), []
-    for _ in range(3):
-        n = numbers[0]
-        tables.append(tuple(numbers[1:n + 1]))
-        numbers = numbers[n + 1:]
-    return tables, numbers, words[cut], list(map(int, words[cut + 1:]))
+def listed(t, h):
+    """Tables and head as lists."""
+    return [list(x) for x in astuple(t)], list(pm.head_numbers(h, 0))
 
 
-def one_call(lib, line):
-    """What differs, and the refusal."""
-    tables, head, letter, rest = parse(line)
-    if any(not LEAST <= n <= MOST for t in (*tables, head, rest) for n in t):
-        return None, None
-    lent, value = Lent(tables, head), ctypes.c_int64(99)
-    t, h = pm.Tables(*tables), pm.Head(*head)
-    if letter == 'T':
-        refusal = lib.solgwid_ticket(*lent.words(), *slice_of(cells(rest), len(rest)), ctypes.byref(value))
-        t, h, r, v = pm.run(t, h, tuple(rest))
-        expected = ([list(x) for x in (t.nodes, t.edges, t.faces)], list(pm.head_numbers(h, 0)), r, v)
-        said = (*lent.now(), refusal, value.value)
-    else:
-        face, n = rest
-        before = (77,) * n
-        space = cells(before)
-        refusal = lib.solgwid_edges_of_face(*lent.words(), ctypes.c_int64(face), *slice_of(space, n), ctypes.byref(value))
-        after, r, v = pm.list_edges_of_face(t, h, face, before)
-        expected = ([list(x) for x in tables], list(head), list(after if r == 0 else before), r, v)
-        said = (*lent.now(), list(space)[:n], refusal, value.value)
-    return said != expected, (letter, r)
+def ticket_differs(lib, t, h, ticket):
+    """Whether the call differs, and the reference's refusal."""
+    lent, value = Lent(*listed(t, h)), ctypes.c_int64(99)
+    refusal = lib.solgwid_ticket(*lent.words(), *slice_of(cells(ticket), len(ticket)), ctypes.byref(value))
+    *after, r, v = pm.run(t, h, ticket)
+    return (*lent.now(), refusal, value.value) != (*listed(*after), r, v), r
 
 
-def one_list(lib, rng, seed):
-    """A whole list in one call, in tables of random sizes."""
-    lines = compare.make(seed, rng.randint(0, 60), 'all', 0, None)
-    tickets = [tuple(map(int, x.split())) for x in lines]
-    sizes = [rng.choice([1, 3, 8, 40, 200]) for _ in range(3)]
-    lent = Lent([[rng.randint(-5, 5) for _ in range(n * w)] for n, w in zip(sizes, (4, 32, 1))], [rng.randint(-9, 9) for _ in range(6)])
-    numbers = [n for t in tickets for n in t]
-    lengths = [len(t) for t in tickets]
-    n = len(tickets) + rng.randint(0, 2)
-    refusals, values = cells([88] * n, ctypes.c_uint64), cells([-88] * n)
-    answer = lib.solgwid_run(*lent.words(), *slice_of(cells(numbers), len(numbers)), *slice_of(cells(lengths, ctypes.c_size_t), len(lengths)),
-                             *slice_of(refusals, n), *slice_of(values, n))
-    t, h = tk.blank(tuple(sizes), 0)
-    expected = []
+def list_differs(lib, t, h, face, length):
+    """The same for the edges of a face; the list holds 77 before."""
+    lent, value, before = Lent(*listed(t, h)), ctypes.c_int64(99), (77,) * length
+    space = cells(before)
+    refusal = lib.solgwid_edges_of_face(*lent.words(), ctypes.c_int64(face), *slice_of(space, length),
+                                        ctypes.byref(value))
+    after, r, v = pm.list_edges_of_face(t, h, face, before)
+    return (*lent.now(), tuple(space)[:length], refusal, value.value) != (*listed(t, h), after, r, v), r
+
+
+def fits(t, h, numbers):
+    return all(LEAST <= n <= MOST for row in (*astuple(t), astuple(h), numbers) for n in row)
+
+
+def calls(lib, seed):
+    """Whole calls, by what they answer."""
+    for text in itertools.chain.from_iterable(raw_gen.calls(1, s) for s in seeds(seed)):
+        t, h, letter, numbers = raw.parse(text)
+        if fits(t, h, numbers):
+            differs, r = list_differs(lib, t, h, *numbers) if letter == 'L' else ticket_differs(lib, t, h, numbers)
+            yield {(letter, r): 1}, [text[:2000]] * differs
+
+
+def run_expected(sizes, tickets):
+    """Tables, head and answers after a list of tickets, by the reference."""
+    t, h = tk.blank(sizes, 0)
+    answers = []
     for k in tickets:
         t, h, r, v = pm.run(t, h, k)
-        expected.append((r, v))
+        answers.append((r, v))
+    return *listed(t, h), answers
+
+
+def list_in_one_call(lib, rng, tickets):
+    """Whether a whole list in one call differs, in tables of random sizes that hold anything."""
+    sizes = tuple(rng.choice([1, 3, 8, 40, 200]) for _ in range(3))
+    lent = Lent([[rng.randint(-5, 5) for _ in range(n * w)] for n, w in zip(sizes, (4, 32, 1))],
+                [rng.randint(-9, 9) for _ in range(6)])
+    numbers, lengths = [n for t in tickets for n in t], [len(t) for t in tickets]
+    spare = rng.randint(0, 2)
+    n = len(tickets) + spare
+    refusals, values = cells([88] * n, ctypes.c_uint64), cells([-88] * n)
+    refusal = lib.solgwid_run(*lent.words(), *slice_of(cells(numbers), len(numbers)),
+                              *slice_of(cells(lengths, ctypes.c_size_t), len(lengths)),
+                              *slice_of(refusals, n), *slice_of(values, n))
+    *expected, answers = run_expected(sizes, tickets)
     said = list(zip(list(refusals)[:n], list(values)[:n]))
-    rest = [(88, -88)] * (n - len(tickets))
-    return (answer, *lent.now(), said) != (0, [list(x) for x in (t.nodes, t.edges, t.faces)], list(pm.head_numbers(h, 0)), expected + rest)
+    return (refusal, *lent.now(), said) != (0, *expected, answers + [(88, -88)] * spare)
+
+
+def lists(lib, seed):
+    for s in seeds(seed):
+        rng = random.Random(s)
+        lines = compare.make(s, rng.randint(0, 60))
+        differs = list_in_one_call(lib, rng, [tuple(map(int, x.split())) for x in lines])
+        yield {'lists in one call': 1}, ['in one call: ' + '; '.join(lines)] * differs
 
 
 def main():
-    p = argparse.ArgumentParser()
+    p = argparse.ArgumentParser(description=__doc__, formatter_class=argparse.RawDescriptionHelpFormatter)
     p.add_argument('calls', nargs='?', type=int, default=2000)
     p.add_argument('lists', nargs='?', type=int, default=300)
     p.add_argument('--seed', type=int, default=1)
     a = p.parse_args()
-    lib, seen, wrong, done = library(), collections.Counter(), 0, 0
-    text = io.StringIO()
-    with contextlib.redirect_stdout(text):
-        raw_gen.main(a.calls // 6 + 1, a.seed)
-    for line in text.getvalue().splitlines():
-        differs, key = one_call(lib, line)
-        if key is None:
-            continue
-        done += 1
-        seen[key] += 1
-        if differs:
-            wrong += 1
-            print('differs:', line[:2000])
-    rng = random.Random(a.seed)
-    lists = sum(one_list(lib, rng, a.seed * 100_000 + i) for i in range(a.lists))
-    print(f'{done} whole calls, {wrong} differences; {a.lists} lists in one call, {lists} differences')
-    print('answers:', ', '.join(f'{k}{r}: {n}' for (k, r), n in sorted(seen.items())))
-    return 1 if wrong or lists else 0
+    lib = library()
+    answers, wrong_calls = tally(itertools.islice(calls(lib, a.seed), a.calls))
+    whole, wrong_lists = tally(itertools.islice(lists(lib, a.seed), a.lists))
+    print(f'{answers.total()} whole calls, {wrong_calls} differences; {counted(whole)}, {wrong_lists} differences')
+    print('answers:', ', '.join(f'{letter}{r}: {n}' for (letter, r), n in sorted(answers.items())))
+    return 1 if wrong_calls or wrong_lists else 0
 
 
 if __name__ == '__main__':

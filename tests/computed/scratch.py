@@ -9,13 +9,15 @@ import time
 from collections import Counter
 from dataclasses import dataclass
 
-from opened import shut
+from generate_opened import shut
+
+from repository import needed
 
 from . import ROOT, antt
 
 REPOSITORY = ROOT / 'target/definitions'
 SCRATCH = REPOSITORY / 'crates/scratch'
-WRITTEN = 'Written by tests/definitions.py.'
+WRITTEN = 'Written by tests/check_definitions.py.'
 KIT = (('mathlib.Core.List', 'flatMap'), ('lib.Count', 'leadingZeros'))     # shut definitions of the kit that ours use
 
 
@@ -40,7 +42,7 @@ class Case:
 
 # ---- the crates
 
-def needed(crates):
+def closure(crates):
     """The crate map, these, and all that they need: of each what it needs, and those that are taken whole. That are the
     map and what is below it, whose functions need their proofs; of the others the definitions are enough."""
     lines = [l.split('#')[0].partition(':') for l in (ROOT / 'crates.txt').read_text().splitlines()]
@@ -79,9 +81,9 @@ def opened(crates):
     return '\n'.join(uses) + f'\n\nunfoldable pub opened : Unit {{0}}\nunfolding {" ".join(names)}\nopened = tt\n'
 
 
-def repository(crates):
+def scratch_crates(crates):
     shutil.rmtree(REPOSITORY / 'crates', ignore_errors=True)
-    found, whole = needed(crates)
+    found, whole = closure(crates)
     for c in found:
         for part in ('src', 'specs', 'proofs') if c in whole else ('src', 'specs'):
             if (ROOT / 'crates' / c / part).exists():      # copied: rt sees no change behind a link
@@ -118,8 +120,9 @@ def spoiled(rng, claim):
 
 
 def check(kind, theorems, per):
-    """The names of the theorems that fail, and the seconds spent; what rt said stands in target/definitions/out."""
-    repository(kind.CRATES)
+    """By the prover: the names of the theorems that fail, and the seconds spent; what rt said stands in target/definitions/out."""
+    needed('rt', 'the Rattle kit')
+    scratch_crates(kind.CRATES)
     texts = [theorem(n, c) for n, c in theorems.items()]
     header = f'-- {WRITTEN}\n{antt.HEADER}use Rattle.scratch.specs.Opened.{{opened}}\n{kind.HEADER}'
     modules = ['Opened']
@@ -137,21 +140,38 @@ def check(kind, theorems, per):
     raise SystemExit('\n'.join(l[:600] for l in run.stdout.splitlines()[-25:] if not l.startswith('rt:')))
 
 
-def run(kind, cases, per, rng=None):
-    """The cases computed; with rng each expectation is spoiled in one place, and each must be told."""
-    theorems = {n: c for i, case in enumerate(cases) for n, c in case.named(i).items()}
-    if rng:
-        theorems = {n: s for n, c in theorems.items() if (s := spoiled(rng, c))}
+def claims(cases):
+    return {n: c for i, case in enumerate(cases) for n, c in case.named(i).items()}
+
+
+def told(kind, cases, per, rng):
+    """Each expectation is spoiled in one place, and each must be told."""
+    theorems = {n: s for n, c in claims(cases).items() if (s := spoiled(rng, c))}
     failed, spent = check(kind, theorems, per)
-    if rng:
-        untold = sorted(set(theorems) - failed)
-        print(f'{len(theorems)} claims spoiled, {len(failed)} told, {spent:.1f} s', *untold[:5])
-        return 1 if untold else 0
-    bad = sorted({int(re.match(r'case(\d+)', n)[1]) for n in failed})
-    print(line(kind, cases, bad, spent))
-    for i in sorted(bad, key=lambda i: len(cases[i].said))[:5]:
-        print(f'case{i}', *sorted(n for n in failed if n.startswith(f'case{i}-')), '\n ', cases[i].said)
+    untold = sorted(set(theorems) - failed)
+    print(f'{len(theorems)} claims spoiled, {len(failed)} told, {spent:.1f} s', *untold[:5])
+    return 1 if untold else 0
+
+
+def differing(cases, failed):
+    """The cases with a theorem that fails, as text, the shortest first."""
+    bad = {int(re.match(r'case(\d+)', n)[1]) for n in failed}
+    return [f'case{i} ' + ' '.join(sorted(n for n in failed if n.startswith(f'case{i}-'))) + f'\n  {cases[i].said}'
+            for i in sorted(bad, key=lambda i: len(cases[i].said))]
+
+
+def run(kind, cases, per):
+    """The cases computed, and what came of it printed."""
+    failed, spent = check(kind, claims(cases), per)
+    bad = differing(cases, failed)
+    print(line(kind, cases, bad, spent), *bad[:5], sep='\n')
     return 1 if bad else 0
+
+
+def compared(kind, cases, per):
+    """The cases computed, as a comparison."""
+    failed, _ = check(kind, claims(cases), per)
+    return Counter(c.what + 's' for c in cases), differing(cases, failed)
 
 
 def in_order(tally):

@@ -3,11 +3,9 @@
 The pieces and the link law are held against it too, and the empty map on the tables of calls.
 """
 
-import io
-from contextlib import redirect_stdout
-
 import compare
 import plotmap as pm
+import raw as calls
 import raw_gen
 import telling
 import ticket as tk
@@ -52,15 +50,7 @@ def outcome(t, h, r, v):
 
 
 def call(text):
-    words = text.split()
-    cut = next(i for i, w in enumerate(words) if w in 'TL')
-    numbers, letter, rest = list(map(int, words[:cut])), words[cut], tuple(map(int, words[cut + 1:]))
-    tables = []
-    for _ in range(3):
-        n = numbers[0]
-        tables.append(tuple(numbers[1:n + 1]))
-        numbers = numbers[n + 1:]
-    t, h = pm.Tables(*tables), pm.Head(*numbers)
+    t, h, letter, rest = calls.parse(text)
     lent = antt.sheet(t, h)
     if letter == 'L':
         out = (77,) * rest[1]
@@ -75,15 +65,12 @@ def call(text):
 
 def cases(count, seed, size=20, mix='all', room=0):
     """Ticket lists, in tables of four sizes or of one."""
-    return [grown(compare.make(seed + i, size, mix, 0, set()), room or (3, 5, 9, 20)[i % 4]) for i in range(count)]
+    return [grown(compare.make(seed + i, size, mix), room or (3, 5, 9, 20)[i % 4]) for i in range(count)]
 
 
 def raw(count, seed):
     """Calls on tables not grown."""
-    out = io.StringIO()
-    with redirect_stdout(out):
-        raw_gen.main(count // 5 + 1, seed)
-    return [call(text) for text in out.getvalue().splitlines()[:count]]
+    return [call(text) for text in [*raw_gen.calls(count // 5 + 1, seed)][:count]]
 
 
 def tell(seconds, seed):
