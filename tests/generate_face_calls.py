@@ -1,29 +1,42 @@
 #!/usr/bin/env python3
 """The stored calls of crates/test_face_edges: writes its stdin and stdout, the answers worked out by the reference.
 
-  calls.py [CALLS] [--seed S]     REFERENCE names the reference's folder (default: ../shared/reference beside the repository)
+  generate_face_calls.py [CALLS] [--seed S]
 
-Small grown maps, a third of them distorted (curves bent, nodes moved, links off the law, faces at will) and a third spoiled in one place, so that each part
-of condition 2 answers; lists too short, just long enough and longer.
+First the calls of the manual's chapter on the edges of a face, on the square sheet after its fourth ticket. Then so
+many on small grown maps, a third of them distorted (curves bent, nodes moved, links off the law, faces at will) and a
+third spoiled in one place, so that each part of condition 2 answers; lists too short, just long enough and longer.
+Needs nothing that is built.
 """
 
 import argparse
-import os
-import pathlib
+import itertools
 import random
-import sys
 from dataclasses import replace
 
-ROOT = pathlib.Path(__file__).resolve().parent.parent
-sys.path.insert(0, os.environ.get('REFERENCE', str(ROOT.parent / 'shared' / 'reference')))
+from repository import ROOT     # finds the reference
 
-import fuzz                 # noqa: E402
-import fuzz_tables as ft    # noqa: E402
-import plotmap as pm        # noqa: E402
-import raw_gen              # noqa: E402
+import fuzz
+import fuzz_tables as ft
+import plotmap as pm
+import raw_gen
+import ticket as tk
 
 ROOM = (32, 192, 8)
 LIST = 40
+SQUARE = (b'1 -1 0 0', b'12 1 1 0 0 10 0 10 10 0 10 0 0', b'8 1 10 10', b'12 1 2 0 0 10 10')
+FOUR_TICKETS = pm.Sizes(2, 3, 3)     # the rows that they make
+
+
+def by_manual():
+    """Each face, in a list of four numbers an edge; a list one short; no such face; tables not whole; not in form."""
+    *_, (_, _, t, h) = tk.answers(SQUARE)
+    m = pm.decode(t, h, 0)
+    t, h = pm.encode(m, FOUR_TICKETS, 0)
+    enough, needed = 4 * len(m.edges), len(pm.edges_of_face(m, 1))
+    spoiled, _ = pm.encode(pm.lead(m, 3, 1), FOUR_TICKETS, 0)
+    return [*((t, h, face, enough) for face in m.faces), (t, h, 1, needed - 1), (t, h, 9, enough),
+            (replace(t, nodes=t.nodes[:-1]), h, 1, enough), (spoiled, h, 1, enough)]
 
 
 def grown(rng, grid):
@@ -43,7 +56,8 @@ def call(rng):
         m = raw_gen.bend(rng, m, grid) if rng.random() < 0.5 else raw_gen.move(rng, m, grid)
     if how > 0.8:
         m = ft.off_law(rng, m)
-    sizes = pm.Sizes(min(8, len(m.nodes) + rng.randint(0, 2)), min(6, len(m.edges) + rng.randint(0, 1)), min(8, len(m.faces) + rng.randint(0, 2)))
+    sizes = pm.Sizes(min(8, len(m.nodes) + rng.randint(0, 2)), min(6, len(m.edges) + rng.randint(0, 1)),
+                     min(8, len(m.faces) + rng.randint(0, 2)))
     t, h = pm.encode(m, sizes, 0)
     if how < 0.35:
         t, h = ft.spoil(rng, t, h, 0)
@@ -70,19 +84,17 @@ def answer(t, h, face, length):
 
 
 def main():
-    args = argparse.ArgumentParser()
-    args.add_argument('calls', type=int, nargs='?', default=1000)
-    args.add_argument('--seed', type=int, default=1)
-    args = args.parse_args()
+    p = argparse.ArgumentParser(description=__doc__, formatter_class=argparse.RawDescriptionHelpFormatter)
+    p.add_argument('calls', type=int, nargs='?', default=1000)
+    p.add_argument('--seed', type=int, default=1)
+    args = p.parse_args()
     rng = random.Random(args.seed)
-    calls = []
-    while len(calls) < args.calls:
-        c = call(rng)
-        if fits(*c[:3]):
-            calls.append(c)
+    some = (call(rng) for _ in itertools.count())
+    calls = by_manual() + list(itertools.islice((c for c in some if fits(*c[:3])), args.calls))
     folder = ROOT / 'crates' / 'test_face_edges'
     (folder / 'stdin').write_text(''.join(record(*c) for c in calls))
     (folder / 'stdout').write_text(''.join(answer(*c) for c in calls))
 
 
-main()
+if __name__ == '__main__':
+    main()

@@ -1,21 +1,18 @@
 #!/usr/bin/env python3
 """The stored cases of crates/test_geometry: writes its stdin and stdout, the answers worked out by the reference.
 
-  cases.py [CASES] [--seed S]     REFERENCE names the reference's folder (default: ../shared/reference beside the repository)
+  generate_geometry.py [CASES] [--seed S]
 
-Half of the cases lie on a small grid, where coincidences abound, a quarter at the corners of the coordinate range, the rest anywhere.
+Half of the cases lie on a small grid, where coincidences abound, a quarter at the corners of the coordinate range, the
+rest anywhere. Needs nothing that is built.
 """
 
 import argparse
-import os
-import pathlib
 import random
-import sys
 
-ROOT = pathlib.Path(__file__).resolve().parent.parent
-sys.path.insert(0, os.environ.get('REFERENCE', str(ROOT.parent / 'shared' / 'reference')))
+from repository import ROOT     # finds the reference
 
-import plotmap as pm      # noqa: E402
+import plotmap as pm
 
 TOP = 1048575
 CELLS = 24
@@ -96,11 +93,13 @@ def answers(c, d, p):
     turn = pm.area2(*s, t[0])
     out = signed(turn) + [pm.sign(turn) + 1, pm.segments_meet(s, t), contact(s, t), pm.on_segment(t[0], s)]
     out += [pm.straight_between(t[0], *s), pm.passes_below(p, s), direction_class(v)]
-    out += [pm.cross(v, w) > 0 if same else direction_class(v) < direction_class(w), same and pm.cross(v, w) == 0, higher(p[0], s, t)]
+    out += [pm.cross(v, w) > 0 if same else direction_class(v) < direction_class(w)]
+    out += [same and pm.cross(v, w) == 0, higher(p[0], s, t)]
     segments = pm.segments(c)
     places = [i for i, u in enumerate(segments) if pm.on_segment(p, u)]
-    out += [not pm.equal_neighbours(c), any(pm.surplus(c, i) for i in range(len(c))), pm.simple(c), places[0] if places else 99]
-    out += [pm.curves_wrong(c, d), *signed(sum(pm.cross(a, b) for a, b in segments)), sum(pm.passes_below(p, u) for u in segments) % 2]
+    out += [not pm.equal_neighbours(c), any(pm.surplus(c, i) for i in range(len(c))), pm.simple(c)]
+    out += [places[0] if places else 99, pm.curves_wrong(c, d), *signed(sum(pm.cross(a, b) for a, b in segments))]
+    out += [sum(pm.passes_below(p, u) for u in segments) % 2]
     front, back = halves(c, p)
     for points in (front, back, pm.joined_points(tuple(c), tuple(d)), c[::-1]):
         out += digest(points)
@@ -108,10 +107,10 @@ def answers(c, d, p):
 
 
 def main():
-    args = argparse.ArgumentParser()
-    args.add_argument('cases', type=int, nargs='?', default=3200)
-    args.add_argument('--seed', type=int, default=1)
-    args = args.parse_args()
+    p = argparse.ArgumentParser(description=__doc__, formatter_class=argparse.RawDescriptionHelpFormatter)
+    p.add_argument('cases', type=int, nargs='?', default=3200)
+    p.add_argument('--seed', type=int, default=1)
+    args = p.parse_args()
     rng = random.Random(args.seed)
     cases = [case(rng) for _ in range(args.cases)]
     folder = ROOT / 'crates' / 'test_geometry'
@@ -119,4 +118,5 @@ def main():
     (folder / 'stdout').write_text(''.join(answers(*c) for c in cases))
 
 
-main()
+if __name__ == '__main__':
+    main()

@@ -1,48 +1,54 @@
 #!/usr/bin/env python3
-"""The stored lines of crates/ticket and crates/sheet: writes their stdin and stdout, the answers worked out by the reference.
+"""The stored lines of crates/ticket and crates/sheet: writes their stdin and stdout, the answers by the reference.
 
-  sheets.py [--seed S]     REFERENCE names the reference's folder (default: ../shared/reference beside the repository)
+  generate_lines.py [--seed S]
 
-The square sheet's P cases first, then lists by hand and random ones, each from a map that the removals before it made
-bare; wrong lines among them. For `ticket` each table is filled and asked for one row more; for `sheet` every edge of a
-sheet with islands is split and healed at once, and edges and faces are filled. The last line is one byte without a line
-end. Fails where a kind is not carried out, a reason of a kind never answers, or one of 3 to 20 is missing.
+For `sheet` the tickets of docs/MANUAL.md come first, as they stand there, from the empty map. Then, for both, the
+square sheet's P cases, lists by hand and random ones, each from a map that the removals before it made bare; wrong
+lines among them. For `ticket` each table is filled and asked for one row more; for `sheet` every edge of a sheet with
+islands is split and healed at once, and edges and faces are filled. The last line is one byte without a line end.
+
+Needs nothing that is built. Fails where the manual's answers and rows are not the reference's, a kind is not carried
+out, a reason of a kind never answers, or one of 3 to 20 is missing.
 """
 
 import argparse
-import os
-import pathlib
 import random
 import sys
 from collections import Counter
 
-ROOT = pathlib.Path(__file__).resolve().parent.parent
-sys.path[:0] = [os.environ.get('REFERENCE', str(ROOT.parent / 'shared' / 'reference')), str(ROOT / 'tests')]
+import manual
+from repository import ROOT     # finds the reference
 
-import check              # noqa: E402
-import fuzz               # noqa: E402
-import islands            # noqa: E402
-import plotmap as pm      # noqa: E402
-import telling            # noqa: E402
-import ticket as tk       # noqa: E402
+import check
+import fuzz
+import islands
+import plotmap as pm
+import telling
+import ticket as tk
 
 ROOM = pm.Sizes(200, 200, 200)
 SQUARE = ['1 -1 0 0', '12 1 1 0 0 10 0 10 10 0 10 0 0']
 BACK = ['1 -1 0 0', '12 1 1 0 0 0 10 10 10 10 0 0 0']
 # P2, P5, P6 and P8 to P10; P4 and P7; P3
-CASES = [SQUARE + ['8 1 0 0', '8 1 5 5', '8 1 10 10', '12 1 2 0 0 10 10', '10 1 2', '13 3'], SQUARE + ['8 1 10 4', '10 1 2'], BACK]
-# three edges at a node, two bare nodes, and reasons that random tickets seldom meet; the last two redraws would change the order at the node
-RARE = ['1 -1 10 10', '1 -1 20 10', '1 -1 10 20', '1 -1 0 10', '12 1 2 10 10 20 10', '12 1 3 10 10 10 20', '11 4 1 0 10 10 10', '1 -1 30 30', '1 -1 40 40',
-        '2 5 0 1048576', '2 1 5 5', '3 1', '4 5 6 30 30 41 40', '7 1 -1 0', '8 1 1048576 0', '11 5 6 31 30 40 40', '12 5 6 30 30 41 40',
-        '6 1 10 10 21 10', '6 1 10 10 5 30 15 30 20 10', '6 3 0 10 5 30 15 30 10 10']
+CASES = [SQUARE + ['8 1 0 0', '8 1 5 5', '8 1 10 10', '12 1 2 0 0 10 10', '10 1 2', '13 3'],
+         SQUARE + ['8 1 10 4', '10 1 2'], BACK]
+# three edges at a node, two bare nodes, and reasons that random tickets seldom meet; the last two redraws would change
+# the order at the node
+RARE = ['1 -1 10 10', '1 -1 20 10', '1 -1 10 20', '1 -1 0 10', '12 1 2 10 10 20 10', '12 1 3 10 10 10 20',
+        '11 4 1 0 10 10 10', '1 -1 30 30', '1 -1 40 40', '2 5 0 1048576', '2 1 5 5', '3 1', '4 5 6 30 30 41 40',
+        '7 1 -1 0', '8 1 1048576 0', '11 5 6 31 30 40 40', '12 5 6 30 30 41 40', '6 1 10 10 21 10',
+        '6 1 10 10 5 30 15 30 20 10', '6 3 0 10 5 30 15 30 10 10']
 # a plot with a boundary across it, a walled tank and a ditch apart from all others in it, a well, and a stub
 SLUICES = ['1 -1 0 0', '12 1 1 0 0 100 0 100 60 0 60 0 0', '8 1 100 60', '12 1 2 0 0 50 20 100 60',
            '1 -1 70 20', '12 3 3 70 20 80 20 80 30 70 30 70 20', '1 -1 20 40', '1 -1 40 50', '4 4 5 20 40 30 48 40 50',
            '1 -1 10 30', '1 -1 90 5', '12 2 7 100 60 90 5']
 # what a number of a ticket names, by kind: a face, nodes, edges
-NAMES = {1: 'f', 2: 'n', 3: 'n', 4: 'nn', 5: 'e', 6: 'e', 7: 'e', 8: 'e', 9: 'ee', 10: 'ee', 11: 'nn', 12: 'nn', 13: 'e', 14: 'e'}
-# a ticket of each kind, to read its reasons off
-SHAPES = {k: (k, *[1] * len(NAMES[k]), *([0, 0] if k in (1, 2, 7, 8) else [0, 0, 1, 1] if k in (4, 6, 11, 12) else [])) for k in NAMES}
+NAMES = {1: 'f', 2: 'n', 3: 'n', 4: 'nn', 5: 'e', 6: 'e', 7: 'e', 8: 'e', 9: 'ee', 10: 'ee', 11: 'nn', 12: 'nn',
+         13: 'e', 14: 'e'}
+# how many coordinates follow in a ticket of each kind, to read its reasons off
+COORDINATES = {**dict.fromkeys((1, 2, 7, 8), 2), **dict.fromkeys((4, 6, 11, 12), 4)}
+SHAPES = {k: (k, *[1] * len(names), *(0, 0, 1, 1)[:COORDINATES.get(k, 0)]) for k, names in NAMES.items()}
 
 
 class Sheet:
@@ -51,8 +57,8 @@ class Sheet:
     def __init__(self, rng):
         self.rng, self.map, self.lines = rng, pm.EMPTY_MAP, []
 
-    def put(self, ticket):
-        self.lines.append(spelled(self.rng, ticket))
+    def put(self, ticket, line=None):
+        self.lines.append(line or spelled(self.rng, ticket))
         if pm.shape_ok(ticket) and pm.first_reason(pm.reasons(self.map, ROOM, ticket)) == 0:
             self.map = pm.apply(self.map, ticket)[0]
 
@@ -79,10 +85,12 @@ class Sheet:
         for _ in range(tickets):
             if self.rng.random() < 0.05:
                 self.lines.append(self.rng.choice(WRONG))
-            self.put(islands.ticket(self.rng, self.map, world) if world else fuzz.make_ticket(self.rng, self.map, grid, fuzz.MIXES[mix]))
+            self.put(islands.ticket(self.rng, self.map, world) if world
+                     else fuzz.make_ticket(self.rng, self.map, grid, fuzz.MIXES[mix]))
 
     def cancel(self):
-        """Request (vi): each edge split inside a segment and at a point, by 8 and healed by 10, by 7 and healed by 9."""
+        """Each edge split inside a segment and at a point, by 8 and healed by 10, by 7 and healed by 9 (request (vi)).
+        """
         for mod in (True, False):
             for e in self.map.edges:
                 between = [q for _ in range(40) if (q := fuzz.along(self.rng, e)) not in e.points][:1]
@@ -104,7 +112,8 @@ class Sheet:
         u, v = self.map.nodes[:2]
         self.put((4, u.number, v.number, *at(u), *at(v)))
         e = self.map.edges[0].number
-        for k in ((1, -1, 5, 5), (7, e, 10, 0), (8, e, 10, 0), (11, v.number, u.number, *at(v), 10, 10, *at(u)), (3, self.map.nodes[-1].number), (8, e, 10, 0), (1, 0, 5, 5)):
+        for k in ((1, -1, 5, 5), (7, e, 10, 0), (8, e, 10, 0), (11, v.number, u.number, *at(v), 10, 10, *at(u)),
+                  (3, self.map.nodes[-1].number), (8, e, 10, 0), (1, 0, 5, 5)):
             self.put(k)
 
     def fill_edges(self):
@@ -117,7 +126,8 @@ class Sheet:
             k = len(self.map.edges)
             self.put(loop(11 + k % 2, k))
         k = len(self.map.edges)
-        for t in (loop(11, k), loop(12, k), (14, self.map.edges[-1].number), (1, -1, 0, 9), (1, -1, 9, 20), (1, -1, 9, 21)):
+        for t in (loop(11, k), loop(12, k), (14, self.map.edges[-1].number),
+                  (1, -1, 0, 9), (1, -1, 9, 20), (1, -1, 9, 21)):
             self.put(t)
         a, b, c = (n.number for n in self.map.nodes[1:])
         self.put((12, hub, a, 0, 0, 0, 9))
@@ -136,7 +146,8 @@ def spelled(rng, ticket):
     if rng.random() < 0.9:
         return ' '.join(words).encode()
     words = [rng.choice([w, w, '+' + w, '000' + w] if w[0] != '-' else [w, '-0' + w[1:]]) for w in words]
-    return b'%s%s%s' % (rng.choice([b'', b' ', b'\t']), rng.choice([b' ', b'  ', b'\t', b' \f ', b'\r']).join(w.encode() for w in words), rng.choice([b'', b' ', b'\r']))
+    before, blank = rng.choice([b'', b' ', b'\t']), rng.choice([b' ', b'  ', b'\t', b' \f ', b'\r'])
+    return before + blank.join(w.encode() for w in words) + rng.choice([b'', b' ', b'\r'])
 
 
 def long_line(size, y):
@@ -145,15 +156,17 @@ def long_line(size, y):
     return head + b' ' * (size - len(head) - len(tail)) + tail
 
 
-WRONG = [b'', b' ', b'\t\r\f ', b'x', b'hello', b'1 -1 0 0.5', b'1 -1 0 1e3', b'1 -1 0x10 0', b'1,-1,0,0', b'1 -1 0 0 ;', b'+', b'-', b'--1', b'1 -1 3- 4', b'1_000', b'\x00',
-         b'1 -1 0\x0b0', '١ -1 0 0'.encode(), b'\xff\xfe', b'0', b'15 1', b'-1', b'3', b'12 1', b'12 1 1 5', b'1 -1 0', b'1 -1 0 0 0', b'10 1',
-         b'1 -1 0 99999999999999999999', b'9223372036854775808', b'-9223372036854775809', b'1 -1 0 18446744073709551616', b'3 9223372036854775808', b'3 9223372036854775807',
-         b'3 -9223372036854775808', b'1 -1 9223372036854775807 0', b'1 -1 -9223372036854775808 0', b'2 18446744073709551617 1 1']
-LONG = [b'1 ' * 500, b'1 ' * 499 + b'1', b'9' * 1000, long_line(1001, 0), long_line(1002, 0), long_line(5000, 0), b'1 -1 0 0' + b' ' * 993, b'x' * 20000]
+WRONG = [b'', b' ', b'\t\r\f ', b'x', b'hello', b'1 -1 0 0.5', b'1 -1 0 1e3', b'1 -1 0x10 0', b'1,-1,0,0',
+         b'1 -1 0 0 ;', b'+', b'-', b'--1', b'1 -1 3- 4', b'1_000', b'\x00', b'1 -1 0\x0b0', '١ -1 0 0'.encode(),
+         b'\xff\xfe', b'0', b'15 1', b'-1', b'3', b'12 1', b'12 1 1 5', b'1 -1 0', b'1 -1 0 0 0', b'10 1',
+         b'1 -1 0 99999999999999999999', b'9223372036854775808', b'-9223372036854775809',
+         b'1 -1 0 18446744073709551616', b'3 9223372036854775808', b'3 9223372036854775807', b'3 -9223372036854775808',
+         b'1 -1 9223372036854775807 0', b'1 -1 -9223372036854775808 0', b'2 18446744073709551617 1 1']
+LONG = [b'1 ' * 500, b'1 ' * 499 + b'1', b'9' * 1000, long_line(1001, 0), long_line(1002, 0), long_line(5000, 0),
+        b'1 -1 0 0' + b' ' * 993, b'x' * 20000]
 # lines that are right and look wrong
-RIGHT = [b'1 -1 ' + b'0' * 990 + b'1 77', long_line(1000, 78), b'1 -1 0 79' + b'\t' * 991, b'\r\f\t1 -1 +0 +80\r', b'1 -1 0 00000000000000000000000000000081']
-
-
+RIGHT = [b'1 -1 ' + b'0' * 990 + b'1 77', long_line(1000, 78), b'1 -1 0 79' + b'\t' * 991, b'\r\f\t1 -1 +0 +80\r',
+         b'1 -1 0 00000000000000000000000000000081']
 MIXES = [*fuzz.MIXES, 'islands', 'islands', 'islands']
 
 
@@ -177,6 +190,9 @@ def ticket_lines(rng):
 
 def sheet_lines(rng):
     s = Sheet(rng)
+    for e in manual.examples():
+        line = e.ticket.encode()
+        s.put(tk.read_ticket(line) or (), line)
     by_hand(s)
     for mix in MIXES:
         s.grow(mix, 50)
@@ -210,21 +226,32 @@ def told(name, said):
     print(f'{name}: {len(said)} lines, {by_refusal[0]} carried out, {len(said) - by_refusal[0]} refused')
     missing = []
     for kind, shape in SHAPES.items():
-        counts = {r: by_kind[kind, r] for r in range(22) if by_kind[kind, r]}
-        print(f'  kind {kind}: {counts.get(0, 0)} carried out, {sum(counts.values()) - counts.get(0, 0)} refused', {r: n for r, n in counts.items() if r})
-        missing += [f'kind {kind} answered {r}' for r in (0, *(r for r, _ in pm.reasons(pm.EMPTY_MAP, ROOM, shape) if r < 20)) if r not in counts]
+        refused = {r: by_kind[kind, r] for r in range(1, 22) if by_kind[kind, r]}
+        print(f'  kind {kind}: {by_kind[kind, 0]} carried out, {sum(refused.values())} refused', refused)
+        wanted = 0, *(r for r, _ in pm.reasons(pm.EMPTY_MAP, ROOM, shape) if r < 20)
+        missing += [f'kind {kind} answered {r}' for r in wanted if not by_kind[kind, r]]
     print('  by refusal:', dict(sorted(by_refusal.items())))
     return missing + [f'refusal {r}' for r in range(3, 21) if not by_refusal[r]]
 
 
+def hold_manual():
+    """Ends where an answer or a row of the manual is not the reference's."""
+    examples = manual.examples()
+    for e, (r, v, t, h) in zip(examples, tk.answers([e.ticket.encode() for e in examples])):
+        for fault in manual.faults(e, f'{r} {v}', tk.dump_lines(t, h, 0)):
+            sys.exit(fault)
+
+
 def main():
-    args = argparse.ArgumentParser()
-    args.add_argument('--seed', type=int, default=1)
-    rng = random.Random(args.parse_args().seed)
+    p = argparse.ArgumentParser(description=__doc__, formatter_class=argparse.RawDescriptionHelpFormatter)
+    p.add_argument('--seed', type=int, default=1)
+    rng = random.Random(p.parse_args().seed)
+    hold_manual()
     missing = told('ticket', store('ticket', ticket_lines(rng), False))
     told('sheet', store('sheet', sheet_lines(rng), True))
     if missing:
         sys.exit('missing: ' + ', '.join(missing))
 
 
-main()
+if __name__ == '__main__':
+    main()

@@ -1,13 +1,18 @@
 #!/usr/bin/env python3
-"""Writes Opened.antt of the crates whose closed examples compute: every shut definition that a crate's definitions
-use, opened at once. The map's has those of the crates below it."""
+"""Writes proofs/Opened.antt of the crates whose closed examples compute: every shut definition that a crate's
+definitions use, opened at once. The map's has those of the crates below it.
 
-import pathlib
+  generate_opened.py     no arguments; needs nothing that is built
+"""
+
 import re
 
-CRATES = pathlib.Path(__file__).resolve().parent.parent / 'crates'
+from repository import ROOT
+
+CRATES = ROOT / 'crates'
 HEADER = """\
--- Every definition opened at once: `unfolding opened` lets closed examples compute. Written by tests/opened.py.
+-- Every definition opened at once: `unfolding opened` lets closed examples compute.
+-- Written by tests/generate_opened.py.
 """
 # a crate, the crates below whose definitions it opens itself, and what is opened already
 OPENED = (

@@ -1,4 +1,5 @@
--- Every definition opened at once: `unfolding opened` lets closed examples compute. Written by tests/opened.py.
+-- Every definition opened at once: `unfolding opened` lets closed examples compute.
+-- Written by tests/generate_opened.py.
 use Rattle.network.proofs.Opened as below
 use Rattle.paths.specs.Nearest.{steps, nextNearest, examine, nearest}
 use Rattle.paths.specs.Route.{routeLength, routeBound, routeReasons}
