@@ -92,12 +92,12 @@ def fits(t, h, numbers):
 
 
 def calls(lib, seed):
-    """Whole calls, by what they answer."""
+    """Whole calls, also by what they answer: T a ticket, L a list of a face's edges."""
     for text in itertools.chain.from_iterable(raw_gen.calls(1, s) for s in seeds(seed)):
         t, h, letter, numbers = raw.parse(text)
         if fits(t, h, numbers):
             differs, r = list_differs(lib, t, h, *numbers) if letter == 'L' else ticket_differs(lib, t, h, numbers)
-            yield {(letter, r): 1}, [text[:2000]] * differs
+            yield {'whole calls': 1, (letter, r): 1}, [text[:2000]] * differs
 
 
 def run_expected(sizes, tickets):
@@ -144,7 +144,9 @@ def main():
     lib = library()
     answers, wrong_calls = tally(itertools.islice(calls(lib, a.seed), a.calls))
     whole, wrong_lists = tally(itertools.islice(lists(lib, a.seed), a.lists))
-    print(f'{answers.total()} whole calls, {wrong_calls} differences; {counted(whole)}, {wrong_lists} differences')
+    print(f'{counted(answers, "whole calls")}, {wrong_calls} differences; '
+          f'{counted(whole, "lists in one call")}, {wrong_lists} differences')
+    del answers['whole calls']
     print('answers:', ', '.join(f'{letter}{r}: {n}' for (letter, r), n in sorted(answers.items())))
     return 1 if wrong_calls or wrong_lists else 0
 

@@ -18,6 +18,7 @@ import compare
 import fuzz
 
 MIXES = ('all', 'islands', *fuzz.MIXES)
+COUNTED = 'lists', 'tickets'
 
 
 def class_of(lines, at, expected, said):
@@ -52,7 +53,7 @@ def main():
     p.add_argument('--mix', default='all', choices=MIXES)
     a = p.parse_args()
     counts, differences = tally(itertools.islice(comparisons(a.seed, a.mix, a.size), a.lists))
-    print(f'sheet: {counted(counts)}, {differences} differences')
+    print(f'{counted(counts, *COUNTED)}, {differences} differences')
     return 1 if differences else 0
 
 

@@ -27,6 +27,8 @@ import grown
 import plotmap as pm
 
 HIGH = range(999_996, 1_000_001)
+COUNTED = ('maps', 'maps with islands', 'cuts healed', 'cuts of loops', 'cuts with next edge above 999,997',
+           'splits turned down')
 
 
 def by_library(lib):
@@ -83,7 +85,7 @@ def main():
     p.add_argument('--seed', type=int, default=1)
     a = p.parse_args()
     counts, differences = tally(itertools.islice(comparisons(library(), a.seed), a.maps))
-    print(f'{counted(counts)}; {differences} differences')
+    print(f'{counted(counts, *COUNTED)}; {differences} differences')
     return 1 if differences else 0
 
 

@@ -27,6 +27,6 @@ def tally(comparisons, seconds=None):
     return counts, differences
 
 
-def counted(counts):
-    """As text, names by the alphabet."""
-    return ', '.join(f'{n} {name}' for name, n in sorted(counts.items()))
+def counted(counts, *names):
+    """These counts as text."""
+    return ', '.join(f'{counts[name]:,} {name}' for name in names)
