@@ -40,7 +40,7 @@ def blocks(text):
         elif now:
             now.lines.append(line)
     if now:
-        raise SystemExit(f'MANUAL.md:{now.line}: a block that does not end')
+        raise SystemExit(f'docs/MANUAL.md:{now.line}: a block that does not end')
     return found
 
 
@@ -52,7 +52,7 @@ def examples_of(block):
         elif line.startswith('#') or not line.strip():
             continue
         elif not found:
-            raise SystemExit(f'MANUAL.md:{i}: an answer without a ticket')
+            raise SystemExit(f'docs/MANUAL.md:{i}: an answer without a ticket')
         elif not found[-1].answer:
             found[-1].answer = line
         else:
@@ -60,11 +60,11 @@ def examples_of(block):
     return found
 
 
-def examples(path=MANUAL):
+def examples():
     """The tickets of the sheet, in order, with answers and rows."""
-    if not path.is_file():
-        raise SystemExit(f'{path} is missing')
-    return [e for b in blocks(path.read_text()) if b.info[:1] == ['sheet'] for e in examples_of(b)]
+    if not MANUAL.is_file():
+        raise SystemExit('docs/MANUAL.md is missing')
+    return [e for b in blocks(MANUAL.read_text()) if b.info[:1] == ['sheet'] for e in examples_of(b)]
 
 
 def matches(row, printed):
@@ -84,6 +84,6 @@ def missing_row(rows, printed):
 def faults(example, answer, printed):
     """What the program said and printed that the manual does not say, as text."""
     if example.answer != answer:
-        return [f'MANUAL.md:{example.line}: > {example.ticket}: answer {example.answer!r}, but {answer!r}']
+        return [f'docs/MANUAL.md:{example.line}: > {example.ticket}: answer {example.answer!r}, but {answer!r}']
     row = missing_row(example.rows, printed)
-    return [] if row is None else [f'MANUAL.md:{example.line}: > {example.ticket}: no row {row!r}, or not in this place']
+    return [] if row is None else [f'docs/MANUAL.md:{example.line}: > {example.ticket}: no row {row!r}, or not in this place']
