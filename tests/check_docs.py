@@ -25,7 +25,8 @@ NOTES = ('docs/DECISIONS.md', 'docs/LANDINGS.md')
 
 def documents():
     """All that have links, by path."""
-    return {str(p.relative_to(ROOT)): p.read_text() for p in [ROOT / 'README.md', *sorted((ROOT / 'docs').glob('*.md'))]}
+    paths = [ROOT / 'README.md', *sorted((ROOT / 'docs').glob('*.md'))]
+    return {str(p.relative_to(ROOT)): p.read_text() for p in paths}
 
 
 def printed(tickets):
@@ -80,8 +81,9 @@ def link_faults(path, text):
         file = (ROOT / path).parent / unquote(link.path) if link.path else ROOT / path
         if not file.exists():
             yield f'{path}:{number}: no file {target}'
-        elif link.fragment and file.suffix == '.md' and unquote(link.fragment) not in markdown.anchors(file.read_text()):
-            yield f'{path}:{number}: no heading {target}'
+        elif link.fragment and file.suffix == '.md':
+            if unquote(link.fragment) not in markdown.anchors(file.read_text()):
+                yield f'{path}:{number}: no heading {target}'
     yield from (f'{path}:{number}: no link [{label}]' for number, label in markdown.undefined(text))
 
 

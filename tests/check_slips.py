@@ -1,7 +1,7 @@
 #!/usr/bin/env python3
 """Slips in the definitions that must not pass, each made in a copy of the repository.
 
-  slips.py [NAME..]     all of them, or those named
+  check_slips.py [NAME..]     all of them, or those named; all take ten minutes and more
 
 GROWN: slips that the theorem over every list of tickets must refuse. `grown` must not be proved, with the P cases and
 the worked examples left out. For each a list of tickets is computed, after which a statement of the theorem is true
@@ -9,6 +9,7 @@ without the slip and false under it: the theorem itself is false there, and not 
 WORKED: slips of what a call does or of what is in form, most of which the theorem need not notice. The worked examples
 of `map` must fail.
 
+Needs the Rattle kit (`rt`). One prover at a time: not beside check_definitions.py or the gate.
 An edit of the gate's must-fail changes one crate and checks that crate; the theorem stands in a crate above the
 definitions, hence this script.
 """
@@ -20,7 +21,8 @@ import subprocess
 import sys
 import tempfile
 
-ROOT = pathlib.Path(__file__).resolve().parent.parent
+from repository import ROOT, needed
+
 MAP = 'crates/map/specs/'
 PROOFS = 'crates/map/proofs/'
 EDITS, REASONS, FORM, TICKET = (MAP + f'{n}.antt' for n in ('Edits', 'Reasons', 'Form', 'Ticket'))
@@ -267,13 +269,29 @@ def worked(copy, name):
     return bool(found)
 
 
-def main():
-    names = sys.argv[1:] or [*GROWN, *WORKED]
+def refused(names):
+    """Each slip tried in one copy of the repository, by name."""
     with tempfile.TemporaryDirectory() as folder:
         copy = pathlib.Path(folder) / 'copy'
-        shutil.copytree(ROOT, copy, ignore=shutil.ignore_patterns('.git', '__pycache__'))
-        results = [grown(copy, n) if n in GROWN else worked(copy, n) for n in names]
-    sys.exit(0 if all(results) else 1)
+        shutil.copytree(ROOT, copy, ignore=shutil.ignore_patterns('.git', '__pycache__', 'definitions'))
+        return {n: grown(copy, n) if n in GROWN else worked(copy, n) for n in names}
 
 
-main()
+def counted(results, slips):
+    tried = [refused for name, refused in results.items() if name in slips]
+    return f'{sum(tried)} of {len(tried)}'
+
+
+def main():
+    needed('rt', 'the Rattle kit')
+    names = sys.argv[1:] or [*GROWN, *WORKED]
+    unknown = [n for n in names if n not in GROWN and n not in WORKED]
+    if unknown:
+        sys.exit(f'no such slip: {", ".join(unknown)}')
+    results = refused(names)
+    print(f'{counted(results, GROWN)} refused by the theorem, {counted(results, WORKED)} by the worked examples')
+    return 0 if all(results.values()) else 1
+
+
+if __name__ == '__main__':
+    sys.exit(main())

@@ -83,7 +83,8 @@ def missing_row(rows, printed):
 
 def faults(example, answer, printed):
     """What the program said and printed that the manual does not say, as text."""
+    where = f'docs/MANUAL.md:{example.line}: > {example.ticket}'
     if example.answer != answer:
-        return [f'docs/MANUAL.md:{example.line}: > {example.ticket}: answer {example.answer!r}, but {answer!r}']
+        return [f'{where}: answer {example.answer!r}, but {answer!r}']
     row = missing_row(example.rows, printed)
-    return [] if row is None else [f'docs/MANUAL.md:{example.line}: > {example.ticket}: no row {row!r}, or not in this place']
+    return [] if row is None else [f'{where}: no row {row!r}, or not in this place']

@@ -5,4 +5,4 @@ REFUSALS, the numbers that its calls can answer; and cases(count, seed). `antt` 
 `scratch` has cases and claims, the scratch crate and the run.
 """
 
-from repository import ROOT
+import repository     # finds the reference

@@ -11,9 +11,9 @@ from dataclasses import dataclass
 
 from generate_opened import shut
 
-from repository import needed
+from repository import ROOT, needed
 
-from . import ROOT, antt
+from . import antt
 
 REPOSITORY = ROOT / 'target/definitions'
 SCRATCH = REPOSITORY / 'crates/scratch'
@@ -120,7 +120,8 @@ def spoiled(rng, claim):
 
 
 def check(kind, theorems, per):
-    """By the prover: the names of the theorems that fail, and the seconds spent; what rt said stands in target/definitions/out."""
+    """The names of the theorems that the prover refuses, and the seconds spent; what rt said stands in
+    target/definitions/out."""
     needed('rt', 'the Rattle kit')
     scratch_crates(kind.CRATES)
     texts = [theorem(n, c) for n, c in theorems.items()]
