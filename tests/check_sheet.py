@@ -22,15 +22,18 @@ COUNTED = 'lists', 'tickets'
 
 
 def class_of(lines, at, expected, said):
-    """The kind of the ticket, what was expected and what was said; or that the ends differ."""
-    return (lines[at].split()[:1], expected[0], said[0]) if at < len(lines) else 'end'
+    """The kind of the ticket, the refusal expected and the one said; or that the ends differ."""
+    if at >= len(lines):
+        return 'at the end'
+    kind, wanted, given = (text.split()[:1] for text in (lines[at], expected[0], said[0]))
+    return ' '.join(['kind', *kind, 'expected', *wanted, 'said', *given])
 
 
 def shown(sheet, lines, class_):
     """The shortest list that differs, and how."""
     lines = compare.shortest(sheet, lines, 0, True)
     _, expected, said = compare.difference(sheet, lines, 0, True)
-    return '\n  '.join([f'class {class_}', *lines, 'expected:', *expected, 'said:', *said])
+    return '\n  '.join([class_, *lines, 'expected:', *expected, 'said:', *said])
 
 
 def comparisons(seed, mix='all', size=60):
@@ -39,8 +42,8 @@ def comparisons(seed, mix='all', size=60):
         lines, found = compare.make(s, size, mix), []
         differs = compare.difference(sheet, lines, 0, True)
         if differs:
-            class_ = str(class_of(lines, *differs))
-            found.append(f'class {class_} again' if class_ in classes else shown(sheet, lines[:differs[0] + 1], class_))
+            class_ = class_of(lines, *differs)
+            found.append(f'{class_}, again' if class_ in classes else shown(sheet, lines[:differs[0] + 1], class_))
             classes.add(class_)
         yield {'lists': 1, 'tickets': len(lines)}, found
 
