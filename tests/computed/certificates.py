@@ -50,17 +50,6 @@ def faces_reached(m):
     return set(m.faces) <= reached
 
 
-def simple(c):
-    """Neighbouring segments share their common point only, others none, first and last of a closed curve its end."""
-    segs = check.segs(c)
-    for (i, s), (j, t) in combinations(enumerate(segs), 2):
-        x = check.shared(*s, *t)
-        closed = c[0] == c[-1] and i == 0 and j == len(segs) - 1
-        if x is not None and not (j == i + 1 and x == s[1]) and not (closed and x == s[0]):
-            return False
-    return True
-
-
 def straight_inside(c):
     """An inner point lies straight between its neighbours."""
     return any(check.on(p, a, b) and p not in (a, b) for a, p, b in zip(c, c[1:], c[2:]))
@@ -78,8 +67,8 @@ def in_range(points):
 
 def curves_clear(m):
     """Curves of 2 to 12 points in range are simple, have no straight inner point and share common ends only."""
-    return (all(2 <= len(e.points) <= 12 and in_range(e.points) and simple(e.points) and not straight_inside(e.points)
-                for e in m.edges)
+    clear = lambda c: 2 <= len(c) <= 12 and in_range(c) and check.simple(c) and not straight_inside(c)
+    return (all(clear(e.points) for e in m.edges)
             and not any(meet_wrongly(e.points, f.points) for e, f in combinations(m.edges, 2)))
 
 

@@ -90,6 +90,29 @@ def along(rng, e):
     return (ax + (bx - ax) // g * k, ay + (by - ay) // g * k)
 
 
+def on_isolated(rng, m, grid, kind):
+    """Kinds 2 to 4, for the most part on isolated nodes."""
+    bare = [n.number for n in m.nodes if n.face != -1] or [0]
+    pick = lambda: rng.choice(bare) if rng.random() < 0.9 else some_node(rng, m)
+    if kind == 2:
+        return (2, pick(), *spot(rng, grid))
+    if kind == 3:
+        return (3, pick())
+    u, v = pick(), pick()
+    return (4, u, v, *(c for p in curve(rng, m, grid, u, v) for c in p))
+
+
+def redrawn(rng, m, grid):
+    """Kind 6, loops often."""
+    e = some_edge(rng, m)
+    loops = [f.number for f in m.edges if f.start == f.end]
+    if loops and rng.random() < 0.4:
+        e = rng.choice(loops)
+    r = pm.edge(m, e)
+    pts = curve(rng, m, grid, r.start, r.end, r.points) if r else [spot(rng, grid), spot(rng, grid)]
+    return (6, e, *(c for p in pts for c in p))
+
+
 def make_ticket(rng, m, grid, weights):
     kind = rng.choices(list(weights), list(weights.values()))[0]
     if len(m.nodes) < 3 and rng.random() < 0.6:
@@ -100,24 +123,11 @@ def make_ticket(rng, m, grid, weights):
         f = -1 if rng.random() < 0.7 else rng.choice(m.faces + (m.next_face, -2))
         return (1, f, *spot(rng, grid))
     if kind in (2, 3, 4):
-        bare = [n.number for n in m.nodes if n.face != -1] or [0]
-        pick = lambda: rng.choice(bare) if rng.random() < 0.9 else some_node(rng, m)
-        if kind == 2:
-            return (2, pick(), *spot(rng, grid))
-        if kind == 3:
-            return (3, pick())
-        u, v = pick(), pick()
-        return (4, u, v, *(c for p in curve(rng, m, grid, u, v) for c in p))
+        return on_isolated(rng, m, grid, kind)
     if kind in (5, 13, 14):
         return (kind, some_edge(rng, m))
     if kind == 6:
-        e = some_edge(rng, m)
-        loops = [f.number for f in m.edges if f.start == f.end]
-        if loops and rng.random() < 0.4:
-            e = rng.choice(loops)
-        r = pm.edge(m, e)
-        pts = curve(rng, m, grid, r.start, r.end, r.points) if r else [spot(rng, grid), spot(rng, grid)]
-        return (6, e, *(c for p in pts for c in p))
+        return redrawn(rng, m, grid)
     if kind in (7, 8):
         e = some_edge(rng, m)
         r = pm.edge(m, e)

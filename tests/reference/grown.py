@@ -65,6 +65,12 @@ def net_curve(rng, net, u, v, w):
     return [c for x in pts for c in x]
 
 
+def neighbours(net, e):
+    """Links that share a node with e."""
+    r = nw.link(net, e)
+    return [f.number for f in net.links if r and f.number != e and {f.start, f.end} & {r.start, r.end}]
+
+
 def net_op(rng, net, w):
     """A random operation on a network."""
     if rng.random() < 0.02:
@@ -103,8 +109,7 @@ def net_op(rng, net, w):
             return (op, k, *spot())
         case _:
             e = a_link()
-            r = nw.link(net, e)
-            near = [f.number for f in net.links if r and f.number != e and {f.start, f.end} & {r.start, r.end}]
+            near = neighbours(net, e)
             return (op, e, rng.choice(near) if near and rng.random() < 0.9 else a_link())
 
 

@@ -74,60 +74,86 @@ def route(rng, w, p, q):
     return tidy(r)
 
 
+def pick(rng, numbers):
+    return rng.choice(numbers) if numbers else 0
+
+
+def island_edge(rng, w, at, inner, new):
+    """Between two nodes inside cells, of one cell if it finds such."""
+    u = pick(rng, inner)
+    cell = lambda s: (s[0] // CELL, s[1] // CELL)
+    near = [v for v in inner if v != u and cell(at[v]) == cell(at[u])]
+    v = pick(rng, near) or pick(rng, inner)
+    return (rng.choice([4, 4, new]), u, v, *w.flat([at[u], at[v]]))
+
+
+def island_loop(rng, w, at, inner, new):
+    u = pick(rng, inner)
+    x, y = (min(c // CELL, w.n - 1) * CELL for c in at[u])
+    spots = [(x + rng.randint(1, CELL - 1), y + rng.randint(1, CELL - 1)) for _ in range(2)]
+    return (new, u, u, *w.flat([at[u], *spots, at[u]]))
+
+
+def cut(rng, m, w):
+    """On a border of an edge, or anywhere along it."""
+    e = rng.choice(m.edges)
+    spots = [s for s in w.to if pm.on_curve(w.to[s], e.points) and (rng.random() < 0.3 or on_border(s))]
+    s = rng.choice(spots or [border(rng, w)])
+    return (rng.choice([7, 8]), e.number, *w.to[s])
+
+
+def redrawn(rng, m, w, at):
+    e = rng.choice(m.edges)
+    p, q = at[e.start], at[e.end]
+    if on_border(p) and on_border(q):
+        return (6, e.number, *w.flat(route(rng, w, p, q)))
+    spots = [inside(rng, w) for _ in range(rng.choice([0, 1, 1, 2]))]
+    return (6, e.number, *w.flat([p, *spots, q]))
+
+
+def joined(rng, m, w, at, new):
+    """Two nodes, or one left dangling."""
+    u, v = rng.choice(m.nodes).number, rng.choice(m.nodes).number
+    mid = [inside(rng, w)] if rng.random() < 0.3 else []
+    return (new, u, v, *w.flat([at[u], *mid, at[v]]))
+
+
+def healed(rng, m):
+    e = rng.choice(m.edges)
+    near = [f.number for f in m.edges if f.number != e.number and {f.start, f.end} & {e.start, e.end}]
+    return (rng.choice([9, 10]), e.number, rng.choice(near or [e.number]))
+
+
 def ticket(rng, m, w):
     at = {n.number: w.back[(n.x, n.y)] for n in m.nodes}
     lattice = [n for n, s in at.items() if on_border(s)]
     inner = [n for n, s in at.items() if not on_border(s)]
     bare = [n.number for n in m.nodes if n.face != -1]
-    pick = lambda ns: rng.choice(ns) if ns else 0
-    c = rng.random()
-    if len(m.nodes) < 4:
-        c *= 0.24
+    c = rng.random() * (0.24 if len(m.nodes) < 4 else 1)
     new = rng.choice([11, 12])
     if c < 0.06:
         return (1, -1, *w.to[border(rng, w)])
     if c < 0.24:
         return (1, -1, *w.to[inside(rng, w)])
     if c < 0.27 and bare:
-        return (2, pick(bare), *w.to[inside(rng, w)])
+        return (2, pick(rng, bare), *w.to[inside(rng, w)])
     if c < 0.29:
-        return (3, pick(bare))
-    if c < 0.37 and inner:                    # an island of one edge
-        u = pick(inner)
-        cell = lambda s: (s[0] // CELL, s[1] // CELL)
-        near = [v for v in inner if v != u and cell(at[v]) == cell(at[u])]
-        v = pick(near) or pick(inner)
-        return (rng.choice([4, 4, new]), u, v, *w.flat([at[u], at[v]]))
-    if c < 0.43 and inner:                    # an island of one loop
-        u = pick(inner)
-        x, y = (min(c // CELL, w.n - 1) * CELL for c in at[u])
-        spots = [(x + rng.randint(1, CELL - 1), y + rng.randint(1, CELL - 1)) for _ in range(2)]
-        return (new, u, u, *w.flat([at[u], *spots, at[u]]))
+        return (3, pick(rng, bare))
+    if c < 0.37 and inner:
+        return island_edge(rng, w, at, inner, new)
+    if c < 0.43 and inner:
+        return island_loop(rng, w, at, inner, new)
     if c < 0.62 and lattice:                  # a route on the borders
-        u, v = pick(lattice), pick(lattice)
+        u, v = pick(rng, lattice), pick(rng, lattice)
         return (new, u, v, *w.flat(route(rng, w, at[u], at[v])))
-    if c < 0.72 and m.edges:                  # a node on a border of an edge, or anywhere along it
-        e = rng.choice(m.edges)
-        spots = [s for s in w.to if pm.on_curve(w.to[s], e.points) and (rng.random() < 0.3 or on_border(s))]
-        s = rng.choice(spots or [border(rng, w)])
-        return (rng.choice([7, 8]), e.number, *w.to[s])
-    if c < 0.83 and m.edges:                  # redrawn
-        e = rng.choice(m.edges)
-        p, q = at[e.start], at[e.end]
-        if on_border(p) and on_border(q):
-            return (6, e.number, *w.flat(route(rng, w, p, q)))
-        spots = [inside(rng, w) for _ in range(rng.choice([0, 1, 1, 2]))]
-        return (6, e.number, *w.flat([p, *spots, q]))
-    if c < 0.88 and len(m.nodes) > 1:         # joined, or left dangling
-        u, v = rng.choice(m.nodes).number, rng.choice(m.nodes).number
-        mid = [inside(rng, w)] if rng.random() < 0.3 else []
-        return (new, *(u, v), *w.flat([at[u], *mid, at[v]]))
+    if c < 0.72 and m.edges:
+        return cut(rng, m, w)
+    if c < 0.83 and m.edges:
+        return redrawn(rng, m, w, at)
+    if c < 0.88 and len(m.nodes) > 1:
+        return joined(rng, m, w, at, new)
     if c < 0.93 and m.edges:
         return (rng.choice([13, 14]), rng.choice(m.edges).number)
     if c < 0.95 and m.edges:
         return (5, rng.choice([e.number for e in m.edges if e.left == e.right] or [1]))
-    if m.edges:
-        e = rng.choice(m.edges)
-        near = [f.number for f in m.edges if f.number != e.number and {f.start, f.end} & {e.start, e.end}]
-        return (rng.choice([9, 10]), e.number, rng.choice(near or [e.number]))
-    return (1, -1, *w.to[border(rng, w)])
+    return healed(rng, m) if m.edges else (1, -1, *w.to[border(rng, w)])

@@ -75,43 +75,47 @@ def turn_from_down(v):
     return (0, k) if v[0] > 0 and v[1] < 0 else (2, ()) if v[0] == 0 and v[1] < 0 else (1, k)
 
 
-def parted(m, rng, around=True):
-    out = set()
+def nodes_parted(m):
     for n in m.nodes:
-        p = (n.x, n.y)
+        face = pm.face_of_point(m, (n.x, n.y))
         if n.face != -1:
-            if n.face != pm.face_of_point(m, p):
-                out.add('well')
-        else:
-            ds = sorted(pm.departures(m, n.number), key=lambda d: turn_from_down(pm.way(m, d)))
-            if pm.borne(m, ds[-1]) != pm.face_of_point(m, p):
-                out.add('corner')
-    m2 = scaled(m, 2)
-    a = check.arcs(m)
+            if n.face != face:
+                yield 'well'
+        elif pm.borne(m, from_down(m, n.number)[-1]) != face:
+            yield 'corner'
+
+
+def from_down(m, n):
+    """The departures of a node, counterclockwise from just after straight down."""
+    return sorted(pm.departures(m, n), key=lambda d: turn_from_down(pm.way(m, d)))
+
+
+def segments_parted(m, m2, a, around):
     for d in a:
-        c = pm.course(m2, d)
-        for i, (p, q) in enumerate(pm.segments(c)):
+        for i, (p, q) in enumerate(pm.segments(pm.course(m2, d))):
             mid = ((p[0] + q[0]) // 2, (p[1] + q[1]) // 2)
             if pm.face_of_point(m2, mid) != (pm.borne(m, -d) if lex(p, q) else pm.borne(m, d)):
-                out.add('lower')
+                yield 'lower'
             if around and check.point_face(m, beside(m, pm.course(m, d), i)) != a[d][3]:
-                out.add('beside')
-    rs = pm.rings(m)
-    for r in rs:
-        inner = left_winding(m2, r, r[0], 0)
-        if (pm.ring_area2(m, r) > 0) != (inner == 1) or inner not in (0, 1):
-            out.add('area')
-        if len({left_winding(m2, r, d, i) for d in r for i in range(len(pm.course(m, d)) - 1)}) != 1:
-            out.add('around')
-        if around:
-            for n in m.nodes:
-                ds = sorted(pm.departures(m, n.number), key=lambda d: turn_from_down(pm.way(m, d)))
-                w = winding(m, r, (n.x, n.y))
-                for d in ds:
-                    w += (d in r) - (-d in r)
-                    if left_winding(m2, r, d, 0) != w:
-                        out.add('around')
-    out |= pieces_parted(m, m2, a, rs)
+                yield 'beside'
+
+
+def ring_parted(m, m2, r, around):
+    inner = left_winding(m2, r, r[0], 0)
+    if (pm.ring_area2(m, r) > 0) != (inner == 1) or inner not in (0, 1):
+        yield 'area'
+    if len({left_winding(m2, r, d, i) for d in r for i in range(len(pm.course(m, d)) - 1)}) != 1:
+        yield 'around'
+    for n in m.nodes if around else ():
+        w = winding(m, r, (n.x, n.y))
+        for d in from_down(m, n.number):
+            w += (d in r) - (-d in r)
+            if left_winding(m2, r, d, 0) != w:
+                yield 'around'
+
+
+def points_parted(m, a, rng):
+    """Some points, on no edge, of whole coordinates or not."""
     box = [c for e in m.edges for p in e.points for c in p] or [5]
     for _ in range(12):
         k = rng.choice([1, 2, 3, 7])
@@ -126,8 +130,15 @@ def parted(m, rng, around=True):
         for f in m.faces:
             ds = [d for d in a if a[d][3] == f]
             if winding(mk, ds, p) != (g == f) - (f == 0):
-                out.add('winding')
-    return sorted(out)
+                yield 'winding'
+
+
+def parted(m, rng, around=True):
+    m2, a, rs = scaled(m, 2), check.arcs(m), pm.rings(m)
+    out = {*nodes_parted(m), *segments_parted(m, m2, a, around)}
+    for r in rs:
+        out.update(ring_parted(m, m2, r, around))
+    return sorted(out | pieces_parted(m, m2, a, rs) | set(points_parted(m, a, rng)))
 
 
 def pieces_parted(m, m2, a, rs):
@@ -179,6 +190,35 @@ def changes(m, after, e, rings, own):
                or any(pm.encloses(m, r, p) != pm.encloses(after, r, p) for p in marks) for r in rings)
 
 
+def redrawing_parted(m, k, r, level, rng):
+    """What is wrong with the answer r, 0 or 22, to a redrawing; none where nothing is."""
+    e, c = k[1], pm.curve_kept(k, level)
+    after, own = pm.with_curve(m, e, c), pm.piece(m, pm.edge(m, e).start)
+    left, right = pm.ring(m, e), pm.ring(m, -e)
+    if changes(m, after, e, [left], own) != (r == 22) or changes(m, after, e, [right], own) != (r == 22):
+        return ['one']
+    if r == 22 and -e in left:
+        return ['bridge']
+    bad = [x for x in parted(after, rng, False) if x in ('well', 'lower', 'corner')]
+    return ['exact'] + bad if bool(bad) != (r == 22) else []
+
+
+def undrawable(m, k, level):
+    """A curve that only 12 turns down."""
+    return not [n for n, holds in pm.reasons(m, BIG, k, level) if n in (14, 15, 23, 24) and holds()]
+
+
+def counts(m):
+    return collections.Counter({
+        'looks': 1, 'lists': 1, 'islands': len(set(check.component(m).values())) > 1, 'edges': len(m.edges),
+        'wells': sum(n.face > 0 for n in m.nodes),
+        'holes': sum(1 for r in pm.rings(m) if pm.borne(m, r[0]) != 0 and pm.ring_area2(m, r) <= 0)})
+
+
+def ticket_of(rng, m, mix, world, w):
+    return islands.ticket(rng, m, world) if world else fuzz.make_ticket(rng, m, (0, 0, w), fuzz.MIXES[mix])
+
+
 def one_list(seed, size, level, every):
     rng = random.Random(seed)
     mix = rng.choice(['islands'] * 6 + ['abuse', 'abuse', 'redraw', 'redraw', 'faces', 'even', 'stitch'])
@@ -187,28 +227,18 @@ def one_list(seed, size, level, every):
     thin = rng.choice([0, 0.7, 0.9])           # so many removals are left out, for fuller maps
     m, tally, tickets = pm.EMPTY_MAP, collections.Counter(), []
     for _ in range(size):
-        k = islands.ticket(rng, m, world) if world else fuzz.make_ticket(rng, m, (0, 0, w), fuzz.MIXES[mix])
+        k = ticket_of(rng, m, mix, world, w)
         if not pm.shape_ok(k) or k[0] in (3, 5, 13, 14) and rng.random() < thin:
             continue
-        r = pm.first_reason(pm.reasons(m, BIG, k, level))
+        r, bad = pm.first_reason(pm.reasons(m, BIG, k, level)), []
         if r == 12 and k[0] in (4, 11, 12):
             tally['12'] += 1
-            later = [n for n, holds in pm.reasons(m, BIG, k, level) if n in (14, 15, 23, 24) and holds()]
-            if not later:
-                return ['drawable'], tickets + [k], tally, mix
+            bad = ['drawable'] if undrawable(m, k, level) else []
         if k[0] == 6 and r in (0, 22):
-            e, c = k[1], pm.curve_kept(k, level)
-            after, own = pm.with_curve(m, e, c), pm.piece(m, pm.edge(m, e).start)
-            l, rr = pm.ring(m, e), pm.ring(m, -e)
-            tally['6'] += 1
-            tally['22'] += r == 22
-            if changes(m, after, e, [l], own) != (r == 22) or changes(m, after, e, [rr], own) != (r == 22):
-                return ['one'], tickets + [k], tally, mix
-            if r == 22 and -e in l:
-                return ['bridge'], tickets + [k], tally, mix
-            bad = [x for x in parted(after, rng, False) if x in ('well', 'lower', 'corner')]
-            if bool(bad) != (r == 22):
-                return ['exact'] + bad, tickets + [k], tally, mix
+            tally.update({'6': 1, '22': r == 22})
+            bad = redrawing_parted(m, k, r, level, rng)
+        if bad:
+            return bad, tickets + [k], tally, mix
         if r:
             continue
         m = pm.apply(m, k, level)[0]
@@ -218,14 +248,7 @@ def one_list(seed, size, level, every):
             tally['looks'] += 1
             if bad:
                 return bad, tickets, tally, mix
-    bad = parted(m, rng)
-    tally['looks'] += 1
-    tally['lists'] += 1
-    tally['islands'] += len(set(check.component(m).values())) > 1
-    tally['edges'] += len(m.edges)
-    tally['wells'] += sum(n.face > 0 for n in m.nodes)
-    tally['holes'] += sum(1 for r in pm.rings(m) if pm.borne(m, r[0]) != 0 and pm.ring_area2(m, r) <= 0)
-    return bad, tickets, tally, mix
+    return parted(m, rng), tickets, tally + counts(m), mix
 
 
 def work(job):

@@ -1097,11 +1097,17 @@ def meeting_reasons(m: Map, points: tuple, own: int, level: int) -> Reasons:
     return [inside, (23, stretch), (15, crossing), (24, wrong)]
 
 
-def reasons(m: Map, s: Sizes, ticket: tuple, level: int = 0) -> Reasons:
-    """4 and up, for a map in form and a ticket of known kind and right count."""
+def no_node(m: Map, n: int) -> bool:
+    return node(m, n) is None
+
+
+def no_edge(m: Map, e: int) -> bool:
+    return edge(m, e) is None
+
+
+def node_reasons(m: Map, s: Sizes, ticket: tuple) -> Reasons:
+    """Kinds 1 to 3."""
     kind, a = ticket[0], ticket[1:]
-    no_node = lambda n: node(m, n) is None
-    no_edge = lambda e: edge(m, e) is None
     match kind:
         case 1:
             f, p = a[0], (a[1], a[2])
@@ -1116,20 +1122,26 @@ def reasons(m: Map, s: Sizes, ticket: tuple, level: int = 0) -> Reasons:
         case 2:
             n, p = a[0], (a[1], a[2])
             return [
-                (4, lambda: no_node(n)),
+                (4, lambda: no_node(m, n)),
                 (5, lambda: bad_point(p)),
                 (9, lambda: not isolated(m, n)),
                 (10, lambda: node_at(m, p, but=n) or edge_through(m, p)),
             ]
         case 3:
             return [
-                (4, lambda: no_node(a[0])),
+                (4, lambda: no_node(m, a[0])),
                 (9, lambda: not isolated(m, a[0])),
             ]
+
+
+def iso_edge_reasons(m: Map, s: Sizes, ticket: tuple, level: int) -> Reasons:
+    """Kinds 4 and 5."""
+    kind, a = ticket[0], ticket[1:]
+    match kind:
         case 4:
             u, v, c = a[0], a[1], curve_kept(ticket, level)
             return [
-                (4, lambda: no_node(u) or no_node(v)),
+                (4, lambda: no_node(m, u) or no_node(m, v)),
                 *curve_reasons(m, ticket, lambda: u, lambda: v, level),
                 (9, lambda: u == v or not isolated(m, u) or not isolated(m, v)),
                 (12, lambda: node(m, u).face != node(m, v).face),
@@ -1139,59 +1151,95 @@ def reasons(m: Map, s: Sizes, ticket: tuple, level: int = 0) -> Reasons:
             ]
         case 5:
             return [
-                (4, lambda: no_edge(a[0])),
+                (4, lambda: no_edge(m, a[0])),
                 (9, lambda: not edge_isolated(m, a[0])),
             ]
+
+
+def redraw_reasons(m: Map, ticket: tuple, level: int) -> Reasons:
+    """Kind 6."""
+    e, c = ticket[1], curve_kept(ticket, level)
+    start, end = lambda: edge(m, e).start, lambda: edge(m, e).end
+    return [
+        (4, lambda: no_edge(m, e)),
+        *curve_reasons(m, ticket, start, end, level),
+        (11, lambda: direction_reason(m, start(), end(), c, own=e)),
+        *meeting_reasons(m, c, e, level),
+        (19, lambda: order_changes(m, e, c)),
+        *([(22, lambda: side_changes(m, e, c))] if level >= 1 else []),
+    ]
+
+
+def split_reasons(m: Map, s: Sizes, ticket: tuple) -> Reasons:
+    """Kinds 7 and 8."""
+    kind, e, x, y = ticket
+    p, more = (x, y), 2 if kind == 7 else 1
+    return [
+        (4, lambda: no_edge(m, e)),
+        (5, lambda: bad_point(p)),
+        (10, lambda: node_at(m, p)),
+        (13, lambda: not on_curve(p, edge(m, e).points)),
+        (20, lambda: no_room(m, s, 1, 1, 0)),
+        (21, lambda: no_number(m, 1, more, 0)),
+    ]
+
+
+def heal_reasons(m: Map, ticket: tuple) -> Reasons:
+    """Kinds 9 and 10."""
+    kind, e, f = ticket
+    return [
+        (4, lambda: no_edge(m, e) or no_edge(m, f)),
+        (16, lambda: e == f or not shared_nodes(m, e, f)),
+        (17, lambda: not joints(m, e, f)),
+        (18, lambda: len(healed_points(m, e, f)) > m.points),
+        (21, lambda: kind == 9 and no_number(m, 0, 1, 0)),
+    ]
+
+
+def add_edge_reasons(m: Map, s: Sizes, ticket: tuple, level: int) -> Reasons:
+    """Kinds 11 and 12."""
+    kind, u, v, c = *ticket[:3], curve_kept(ticket, level)
+    corner_u = lambda: corner_face(m, u, heading(c))
+    corner_v = lambda: corner_face(m, v, heading(c[::-1]))
+    cuts = lambda: splits_face(m, u, v, c)
+    wanted = lambda: 0 if not cuts() else 2 if kind == 11 and corner_u() != 0 else 1
+    return [
+        (4, lambda: no_node(m, u) or no_node(m, v)),
+        *curve_reasons(m, ticket, lambda: u, lambda: v, level),
+        (11, lambda: direction_reason(m, u, v, c)),
+        (12, lambda: corner_u() != corner_v()),
+        *meeting_reasons(m, c, 0, level),
+        (20, lambda: no_room(m, s, 0, 1, 1 if cuts() else 0)),
+        (21, lambda: no_number(m, 0, 1, wanted())),
+    ]
+
+
+def remove_edge_reasons(m: Map, ticket: tuple) -> Reasons:
+    """Kinds 13 and 14."""
+    kind, e = ticket
+    return [
+        (4, lambda: no_edge(m, e)),
+        (21, lambda: no_number(m, 0, 0, needs_face(m, e, kind == 13))),
+    ]
+
+
+def reasons(m: Map, s: Sizes, ticket: tuple, level: int = 0) -> Reasons:
+    """4 and up, for a map in form and a ticket of known kind and right count."""
+    match ticket[0]:
+        case 1 | 2 | 3:
+            return node_reasons(m, s, ticket)
+        case 4 | 5:
+            return iso_edge_reasons(m, s, ticket, level)
         case 6:
-            e, c = a[0], curve_kept(ticket, level)
-            start, end = lambda: edge(m, e).start, lambda: edge(m, e).end
-            return [
-                (4, lambda: no_edge(e)),
-                *curve_reasons(m, ticket, start, end, level),
-                (11, lambda: direction_reason(m, start(), end(), c, own=e)),
-                *meeting_reasons(m, c, e, level),
-                (19, lambda: order_changes(m, e, c)),
-                *([(22, lambda: side_changes(m, e, c))] if level >= 1 else []),
-            ]
+            return redraw_reasons(m, ticket, level)
         case 7 | 8:
-            e, p, more = a[0], (a[1], a[2]), 2 if kind == 7 else 1
-            return [
-                (4, lambda: no_edge(e)),
-                (5, lambda: bad_point(p)),
-                (10, lambda: node_at(m, p)),
-                (13, lambda: not on_curve(p, edge(m, e).points)),
-                (20, lambda: no_room(m, s, 1, 1, 0)),
-                (21, lambda: no_number(m, 1, more, 0)),
-            ]
+            return split_reasons(m, s, ticket)
         case 9 | 10:
-            e, f = a
-            return [
-                (4, lambda: no_edge(e) or no_edge(f)),
-                (16, lambda: e == f or not shared_nodes(m, e, f)),
-                (17, lambda: not joints(m, e, f)),
-                (18, lambda: len(healed_points(m, e, f)) > m.points),
-                (21, lambda: kind == 9 and no_number(m, 0, 1, 0)),
-            ]
+            return heal_reasons(m, ticket)
         case 11 | 12:
-            u, v, c = a[0], a[1], curve_kept(ticket, level)
-            corner_u = lambda: corner_face(m, u, heading(c))
-            corner_v = lambda: corner_face(m, v, heading(c[::-1]))
-            cuts = lambda: splits_face(m, u, v, c)
-            wanted = lambda: 0 if not cuts() else 2 if kind == 11 and corner_u() != 0 else 1
-            return [
-                (4, lambda: no_node(u) or no_node(v)),
-                *curve_reasons(m, ticket, lambda: u, lambda: v, level),
-                (11, lambda: direction_reason(m, u, v, c)),
-                (12, lambda: corner_u() != corner_v()),
-                *meeting_reasons(m, c, 0, level),
-                (20, lambda: no_room(m, s, 0, 1, 1 if cuts() else 0)),
-                (21, lambda: no_number(m, 0, 1, wanted())),
-            ]
+            return add_edge_reasons(m, s, ticket, level)
         case 13 | 14:
-            return [
-                (4, lambda: no_edge(a[0])),
-                (21, lambda: no_number(m, 0, 0, needs_face(m, a[0], kind == 13))),
-            ]
+            return remove_edge_reasons(m, ticket)
 
 
 def refusal(t: Tables, h: Head, ticket: tuple, level: int = 0) -> int:
