@@ -5,8 +5,10 @@
 
 Needs target/bin/sheet (`rt check sheet`).
 - Answers and rows of docs/MANUAL.md are those of target/bin/sheet, and crates/sheet/stdin begins with its tickets.
+- examples/meadow.txt is the first tickets of the manual, up to its meadow.
 - A block that names a file (```c examples/square.c) stands in that file, line by line.
 - Every relative link of README.md and docs/*.md leads to a file, and its #anchor to a heading.
+- Each name of docs/CODE.md is declared where its link leads; every crate and every public function is named there.
 - No line is above 120 columns; in README.md, MANUAL.md, CODE.md and FIGURES.md no sentence is above 40 words.
 """
 
@@ -14,6 +16,7 @@ import subprocess
 import sys
 from urllib.parse import unquote, urlsplit
 
+import code_names
 import manual
 import markdown
 from repository import ROOT, program
@@ -52,6 +55,9 @@ def example_faults():
     stored = (ROOT / 'crates/sheet/stdin').read_bytes().split(b'\n')
     if stored[:len(tickets)] != [t.encode() for t in tickets]:
         yield 'crates/sheet/stdin does not begin with the tickets of docs/MANUAL.md: tests/generate_lines.py writes it'
+    meadow = (ROOT / 'examples/meadow.txt').read_text().splitlines()
+    if meadow != tickets[:len(meadow)]:
+        yield 'examples/meadow.txt is not the first tickets of docs/MANUAL.md'
 
 
 def stands_in(part, whole):
@@ -104,6 +110,7 @@ def faults():
     found = documents()
     yield from (f'{path} is missing' for path in (*PROSE, *NOTES) if path not in found)
     yield from example_faults()
+    yield from code_names.faults()
     for path, text in found.items():
         yield from block_faults(path, text)
         yield from link_faults(path, text)
