@@ -46,8 +46,8 @@ static void print_face(int64_t face) {
 }
 
 int main(void) {
-    char line[LINE];
-    for (; ticket_count < TICKETS && fgets(line, LINE, stdin); ticket_count++)
+    char line[LINE + 2];
+    for (; ticket_count < TICKETS && fgets(line, LINE + 2, stdin); ticket_count++)
         for (char *word = strtok(line, " \n"); word; word = strtok(NULL, " \n"), lengths[ticket_count]++)
             numbers[number_count++] = atoll(word);
     if (solgwid_map_run(&map, numbers, number_count, lengths, ticket_count, refusals, values) != SOLGWID_DONE) return 1;

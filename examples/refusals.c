@@ -1,4 +1,5 @@
-/* The refusals that the lending program causes (1, 2) and those of an old map (20, 21). Nothing lent differs.
+/* The refusals that the lending program causes (1, 2), full tables and short lists (20), and an old map (21). Nothing
+   lent differs after any of them.
 
        rt staticlib solgwid && cc -Iinclude examples/refusals.c target/staticlib/libsolgwid.a -o refusals */
 #include <stdio.h>
@@ -28,8 +29,8 @@ static void draw_plot(void) {
 }
 
 static void print_refusal(const char *cause, uint64_t refusal) {
-    const char *lending = memcmp(&before, &lent, sizeof lent) ? "what was lent differs" : "nothing lent differs";
-    printf("%d %s: %s; %s\n", (int)refusal, cause, solgwid_refusal_text(refusal), lending);
+    printf("%d %s: %s\n", (int)refusal, cause, solgwid_refusal_text(refusal));
+    if (memcmp(&before, &lent, sizeof lent)) printf("but something lent differs\n");
     draw_plot();
 }
 

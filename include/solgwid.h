@@ -4,10 +4,10 @@
 
    A map is three tables of rows and a head. The caller owns all four and lends them to each call. The library
    allocates nothing and keeps nothing: copy tables and head to undo, write them to a file to store them, free them as
-   you like. It is for x86-64 and needs memcpy and memset, no more.
+   you like. It is for x86-64 and needs memcpy and memset, no more; this header needs C11 or C++11.
 
    Every function answers a refusal: 0 (SOLGWID_DONE) where the call was carried out, else the first reason against it.
-   Then nothing lent differs, and the value stored is 0. A call is safe whatever the tables and the head hold.
+   Where it is not 0, nothing lent differs and the value stored is 0. A call is safe whatever tables and head hold.
 
    How long a list must be. The edges of a face are at most 4 numbers for each edge of the map: an edge has two
      directed edges, and each may be a ring by itself, with its length before it. So 4 * edge_count always suffices,
@@ -21,7 +21,7 @@
    Stack. A call takes up to 57 KB; solgwid_empty_map takes under 1 KB. Where many edge ends leave one node into one
      quadrant, each of them takes 112 bytes more: 169 KB for 999 of them, and 505 KB for 4,000, the most that tables
      can hold.
-   Memory. Things lent in one call do not overlap, and each is aligned as its type asks.
+   Memory. Things lent in one call must not overlap, and each is aligned as its type asks.
    Version. SOLGWID_VERSION is the number of a landing (docs/LANDINGS.md). It rises with each landing that changes what
      a call takes or does. */
 
@@ -140,7 +140,7 @@ typedef enum solgwid_refusal {
     SOLGWID_OTHER_EDGES = 17,
     SOLGWID_TOO_MANY_POINTS = 18,
     SOLGWID_ORDER_CHANGES = 19,
-    SOLGWID_NO_ROOM = 20,               /* 20 and 21: the map's age */
+    SOLGWID_NO_ROOM = 20,               /* 20: tables or list too small; 21: the map's age */
     SOLGWID_NUMBERS_USED_UP = 21
 } solgwid_refusal;
 
@@ -158,11 +158,12 @@ static inline const char *solgwid_refusal_text(uint64_t refusal) {
     case SOLGWID_NOT_SIMPLE: return "the curve meets itself other than by closing";
     case SOLGWID_ENDS_OFF_NODES: return "the curve does not start and end on its nodes' points";
     case SOLGWID_NOT_ISOLATED: return "the node or edge is not isolated, or one node is both ends";
-    case SOLGWID_POINT_TAKEN: return "another node is at the point, or an edge passes through it";
+    case SOLGWID_POINT_TAKEN: return "another node is at the point, or an isolated node would lie on an edge";
     case SOLGWID_SAME_DIRECTION: return "the curve leaves a node in the direction of another edge";
-    case SOLGWID_FACES_DIFFER: return "the given face is not the point's, or the ends lie in different faces";
+    case SOLGWID_FACES_DIFFER:
+        return "the given face is not the point's, or the curve leaves its nodes into different faces";
     case SOLGWID_NOT_ON_EDGE: return "the split point is not on the edge";
-    case SOLGWID_CROSSES_NODE: return "a node lies inside the curve";
+    case SOLGWID_CROSSES_NODE: return "a node lies on the curve between its ends";
     case SOLGWID_CROSSES_EDGE: return "the curve meets another edge other than at an end of both";
     case SOLGWID_NOT_ADJACENT: return "the edges are one and the same, or share no node";
     case SOLGWID_OTHER_EDGES: return "no shared node has exactly two edge ends";
@@ -283,6 +284,7 @@ static inline solgwid_refusal solgwid_remove_iso_edge(solgwid_map *map, int64_t 
     return solgwid_map_ticket(map, numbers, 2, NULL);
 }
 
+/* Links and faces stay: redrawn past a well, the well's row names a plot that it no longer lies in. */
 static inline solgwid_refusal solgwid_change_edge_geom(solgwid_map *map, int64_t edge,
                                                        const solgwid_point *points, size_t point_count) {
     int64_t first[] = {SOLGWID_CHANGE_EDGE_GEOM, edge};
@@ -303,19 +305,20 @@ static inline solgwid_refusal solgwid_mod_edge_split(solgwid_map *map, int64_t e
     return solgwid_map_ticket(map, numbers, 4, node);
 }
 
-/* Both edges go; the healed one is new. */
+/* Both edges go; the healed one is new. They join at the end node of the first if both share it and exactly two edge
+   ends meet there, else at its start node on the same terms. */
 static inline solgwid_refusal solgwid_new_edge_heal(solgwid_map *map, int64_t edge, int64_t other, int64_t *healed) {
     int64_t numbers[] = {SOLGWID_NEW_EDGE_HEAL, edge, other};
     return solgwid_map_ticket(map, numbers, 3, healed);
 }
 
-/* The healed edge keeps the number of the first. */
+/* The same; the healed edge keeps the number of the first. */
 static inline solgwid_refusal solgwid_mod_edge_heal(solgwid_map *map, int64_t edge, int64_t other) {
     int64_t numbers[] = {SOLGWID_MOD_EDGE_HEAL, edge, other};
     return solgwid_map_ticket(map, numbers, 3, NULL);
 }
 
-/* Where a face is split it goes, and both sides are new faces; face 0 never goes. */
+/* Where a face is split it goes, and both sides are new faces; face 0 stays, and one side is new. */
 static inline solgwid_refusal solgwid_add_edge_new_faces(solgwid_map *map, int64_t start, int64_t end,
                                                          const solgwid_point *points, size_t point_count,
                                                          int64_t *edge) {
@@ -331,13 +334,13 @@ static inline solgwid_refusal solgwid_add_edge_mod_face(solgwid_map *map, int64_
     return solgwid_map_curve(map, first, 3, points, point_count, edge);
 }
 
-/* The face is the one left after a heal of faces, and -1 where none healed. */
+/* The face is the one that remains of two, and -1 where one face was on both sides. */
 static inline solgwid_refusal solgwid_rem_edge_new_face(solgwid_map *map, int64_t edge, int64_t *face) {
     int64_t numbers[] = {SOLGWID_REM_EDGE_NEW_FACE, edge};
     return solgwid_map_ticket(map, numbers, 2, face);
 }
 
-/* Of two faces healed the lower number remains. */
+/* Of two faces the one with the lower number remains. */
 static inline solgwid_refusal solgwid_rem_edge_mod_face(solgwid_map *map, int64_t edge) {
     int64_t numbers[] = {SOLGWID_REM_EDGE_MOD_FACE, edge};
     return solgwid_map_ticket(map, numbers, 2, NULL);

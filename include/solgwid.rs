@@ -25,7 +25,7 @@ pub const EDGE_WIDTH: usize = 32;
 pub const FACE_WIDTH: usize = 1;
 pub const HEAD_WIDTH: usize = 6;
 
-extern "C" {
+unsafe extern "C" {
     fn solgwid_empty_map(
         nodes: *mut i64, nodes_length: usize, edges: *mut i64, edges_length: usize,
         faces: *mut i64, faces_length: usize, head: *mut [i64; HEAD_WIDTH],
@@ -88,11 +88,11 @@ const REFUSALS: [(Refusal, &str); 21] = [
     (Refusal::NotSimple, "the curve meets itself other than by closing"),
     (Refusal::EndsOffNodes, "the curve does not start and end on its nodes' points"),
     (Refusal::NotIsolated, "the node or edge is not isolated, or one node is both ends"),
-    (Refusal::PointTaken, "another node is at the point, or an edge passes through it"),
+    (Refusal::PointTaken, "another node is at the point, or an isolated node would lie on an edge"),
     (Refusal::SameDirection, "the curve leaves a node in the direction of another edge"),
-    (Refusal::FacesDiffer, "the given face is not the point's, or the ends lie in different faces"),
+    (Refusal::FacesDiffer, "the given face is not the point's, or the curve leaves its nodes into different faces"),
     (Refusal::NotOnEdge, "the split point is not on the edge"),
-    (Refusal::CrossesNode, "a node lies inside the curve"),
+    (Refusal::CrossesNode, "a node lies on the curve between its ends"),
     (Refusal::CrossesEdge, "the curve meets another edge other than at an end of both"),
     (Refusal::NotAdjacent, "the edges are one and the same, or share no node"),
     (Refusal::OtherEdges, "no shared node has exactly two edge ends"),
@@ -244,6 +244,7 @@ impl Map {
         self.ticket(&[5, edge]).map(drop)
     }
 
+    /// Links and faces stay: redrawn past a well, the well's row names a plot that it no longer lies in.
     pub fn change_edge_geom(&mut self, edge: i64, curve: &[(i64, i64)]) -> Result<(), Refusal> {
         self.ticket(&with_curve(&[6, edge], curve)).map(drop)
     }
@@ -258,17 +259,19 @@ impl Map {
         self.ticket(&[8, edge, x, y])
     }
 
-    /// Both edges go. Answers the healed one, which is new.
+    /// Both edges go. They join at the end node of the first if both share it and exactly two edge ends meet there,
+    /// else at its start node on the same terms. Answers the healed edge, which is new.
     pub fn new_edge_heal(&mut self, edge: i64, other: i64) -> Result<i64, Refusal> {
         self.ticket(&[9, edge, other])
     }
 
-    /// The healed edge keeps the number of the first.
+    /// The same; the healed edge keeps the number of the first.
     pub fn mod_edge_heal(&mut self, edge: i64, other: i64) -> Result<(), Refusal> {
         self.ticket(&[10, edge, other]).map(drop)
     }
 
-    /// Where a face is split it goes, and both sides are new faces; face 0 never goes. Answers the edge.
+    /// Where a face is split it goes, and both sides are new faces; face 0 stays, and one side is new. Answers
+    /// the edge.
     pub fn add_edge_new_faces(&mut self, start: i64, end: i64, curve: &[(i64, i64)]) -> Result<i64, Refusal> {
         self.ticket(&with_curve(&[11, start, end], curve))
     }
@@ -278,12 +281,12 @@ impl Map {
         self.ticket(&with_curve(&[12, start, end], curve))
     }
 
-    /// Answers the face left after a heal of faces, and -1 where none healed.
+    /// Answers the face that remains of two, and -1 where one face was on both sides.
     pub fn rem_edge_new_face(&mut self, edge: i64) -> Result<i64, Refusal> {
         self.ticket(&[13, edge])
     }
 
-    /// Of two faces healed the lower number remains.
+    /// Of two faces the one with the lower number remains.
     pub fn rem_edge_mod_face(&mut self, edge: i64) -> Result<(), Refusal> {
         self.ticket(&[14, edge]).map(drop)
     }

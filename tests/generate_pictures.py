@@ -1,7 +1,7 @@
 #!/usr/bin/env python3
 """Writes the pictures under docs/ from lists of tickets; what they show is worked out by the reference.
 
-  generate_pictures.py [NAME ...]    of edge, links, meadow, rings, square; all where none is named
+  generate_pictures.py [NAME ...]    of directions, edge, links, meadow, rings, square; all where none is named
 """
 
 import cmath
@@ -374,7 +374,7 @@ def square():
 # --- docs/edge.svg ---------------------------------------------------------------------------------------------------
 
 EDGE = ['1 -1 0 8', '1 -1 32 8', '12 1 2 0 8 32 8', '12 2 1 32 8 32 16 0 16 0 8', '12 2 1 32 8 32 0 0 0 0 8']
-COLUMNS = ('number', 'start', 'end', 'next left', 'next right', 'left face', 'right face', 'points')
+COLUMNS = ('number', 'start', 'end', 'next left', 'next right', 'left face', 'right face', 'count', 'points')
 
 
 def draw_directed(page, view, d, words):
@@ -391,10 +391,10 @@ def draw_directed(page, view, d, words):
 def row_of_edge(page, at, e):
     """The row as a small table."""
     points = ' '.join(f'({x},{y})' for x, y in e.points)
-    values = (e.number, e.start, e.end, e.next_left, e.next_right, e.left, e.right, points)
+    values = (e.number, e.start, e.end, e.next_left, e.next_right, e.left, e.right, len(e.points), points)
     for i, (column, value) in enumerate(zip(COLUMNS, values)):
-        page.text(at + 84 * i, column, 'small')
-        page.text(at + 84 * i + 19j, value, 'ticket')
+        page.text(at + 77 * i, column, 'small')
+        page.text(at + 77 * i + 19j, value, 'ticket')
 
 
 def edge():
@@ -419,11 +419,11 @@ def edge():
     page.text(view.node(1) + 24 + 48j, 'next right follows -e', 'link-note start')
     page.label(view.at(16, 12.4), f'left face: {m.edges[0].left}', 'face-number')
     page.label(view.at(16, 3.6), f'right face: {m.edges[0].right}', 'face-number')
-    row_of_edge(page, 84 + 352j, m.edges[0])
+    row_of_edge(page, 62 + 352j, m.edges[0])
     page.save('edge')
 
 
-# --- docs/links.svg --------------------------------------------------------------------------------------------------
+# --- docs/links.svg, docs/directions.svg -----------------------------------------------------------------------------
 
 CROSSING = ['1 -1 16 13', '1 -1 0 9', '12 2 1 0 9 16 13', '1 -1 9 26', '12 1 3 16 13 9 26',
             '1 -1 31 19', '12 1 4 16 13 31 19', '1 -1 21 0', '12 1 5 16 13 21 0']
@@ -477,14 +477,18 @@ def compass(page, at, radius):
 
 
 def links():
-    page = Page(760, 340)
-    page.box(4 + 4j, 428, 332)
-    page.box(436 + 4j, 320, 332)
+    page = Page(440, 340)
+    page.box(4 + 4j, 432, 332)
     page.text(18 + 26j, 'link law: turn clockwise from the reverse of d', 'note start')
-    page.text(450 + 26j, 'direction classes by the signs of dx and dy', 'note start')
     link_law(page, 56 + 306j)
-    compass(page, 596 + 184j, 104)
     page.save('links')
+
+
+def directions():
+    page = Page(340, 320)
+    page.box(4 + 4j, 332, 312)
+    compass(page, 170 + 160j, 104)
+    page.save('directions')
 
 
 # --- docs/meadow.svg -------------------------------------------------------------------------------------------------
@@ -577,7 +581,7 @@ def rings():
     page.save('rings')
 
 
-PICTURES = {'edge': edge, 'links': links, 'meadow': meadow, 'rings': rings, 'square': square}
+PICTURES = {'directions': directions, 'edge': edge, 'links': links, 'meadow': meadow, 'rings': rings, 'square': square}
 
 
 def main(names):
