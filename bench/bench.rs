@@ -1,4 +1,5 @@
-//! Microseconds a ticket, by kind and size, beside one bare pass over the rows in use in the same run.
+//! Microseconds a ticket, by kind and size, and for the edges of a face, beside one bare pass over the rows in use in the
+//! same run.
 //!
 //! A sheet is a grid of plots with wells (isolated nodes), islands (isolated edges), boundaries across some plots and
 //! ditches split at a sluice. Each ticket is timed alone on a fresh copy of the sheet's tables, at many places of the
@@ -223,10 +224,22 @@ fn ticket_time(map: &Map, numbers: &[i64], carried_out: bool) -> f64 {
     })
 }
 
+/// The least time of the edges of a face; they must be listed or not as told.
+fn face_time(map: &Map, face: i64, listed: bool) -> f64 {
+    least(|| {
+        let mut answer = Ok(vec![]);
+        let time = micros(|| answer = map.edges_of_face(black_box(face)));
+        assert_eq!(answer.is_ok(), listed, "face {face}: {answer:?}");
+        time
+    })
+}
+
 struct Times {
     rows: [i64; 3],
     pass: f64,
     tested: f64,
+    listed: f64,
+    unlisted: f64,
     carried: [f64; KINDS],
     refused: [f64; KINDS],
 }
@@ -249,8 +262,11 @@ fn measure(map: &Map, plots: &[Plot]) -> Times {
         carried[kind - 1] = median(yes);
         refused[kind - 1] = median(no);
     }
+    let face = |i: usize| map.faces[i * 13 % map.head[2] as usize];
+    let listed = median((0..PLACES).map(|i| face_time(map, face(i), true)).collect());
+    let unlisted = median((0..PLACES).map(|_| face_time(map, 999_999, false)).collect());
     let rows = [map.head[0], map.head[1], map.head[2]];
-    Times { rows, pass: median(passes), tested: median(tests), carried, refused }
+    Times { rows, pass: median(passes), tested: median(tests), listed, unlisted, carried, refused }
 }
 
 fn mean(v: &[f64]) -> f64 {
@@ -272,7 +288,8 @@ fn report(title: &str, all: &[Times]) {
     for kind in 0..KINDS {
         line(&(kind + 1).to_string(), all, |t| format!("{:.1} / {:.1}", t.carried[kind], t.refused[kind]));
     }
-    line("mean, us", all, |t| format!("{:.1} / {:.1}", mean(&t.carried), mean(&t.refused)));
+    line("edges of a face, us", all, |t| format!("{:.1} / {:.1}", t.listed, t.unlisted));
+    line("mean of kinds, us", all, |t| format!("{:.1} / {:.1}", mean(&t.carried), mean(&t.refused)));
     line("mean, bare passes", all, |t| {
         format!("{:.1} / {:.1}", mean(&t.carried) / t.pass, mean(&t.refused) / t.pass)
     });
@@ -293,6 +310,7 @@ fn rows(setting: &str, all: &[Times]) -> String {
         for (kind, (carried, refused)) in t.carried.iter().zip(t.refused).enumerate() {
             writeln!(out, "Solgwid,{setting},{},{edges},{carried:.2},{refused:.2}", kind + 1).unwrap();
         }
+        writeln!(out, "Solgwid,{setting},edges of a face,{edges},{:.2},{:.2}", t.listed, t.unlisted).unwrap();
         writeln!(out, "Solgwid,{setting},bare pass,{edges},{:.2},", t.pass).unwrap();
         writeln!(out, "Solgwid,{setting},tested pass,{edges},{:.2},", t.tested).unwrap();
     }

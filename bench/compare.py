@@ -16,7 +16,10 @@ import sys
 import tempfile
 
 BENCH = pathlib.Path(__file__).resolve().parent / 'bench.rs'
-GROUPS = (('kinds 1 to 10, 13, 14', {*range(1, 11), 13, 14}), ('kinds 11, 12', {11, 12}))
+NEW_FACES = {'11', '12'}                       # the kinds that walk rings
+LISTED = 'edges of a face'
+KINDS = {str(kind) for kind in range(1, 15)}
+GROUPS = (('kinds 1 to 10, 13, 14', KINDS - NEW_FACES), ('kinds 11, 12', NEW_FACES), (LISTED, {LISTED}))
 
 
 def build(library, folder):
@@ -35,8 +38,8 @@ def times(program):
     file.write_text('')
     subprocess.run([program, file], check=True, stdout=subprocess.DEVNULL)
     rows = csv.DictReader(line for line in file.open() if not line.startswith('#'))
-    return {(row['setting'], int(row['kind']), row['edges'], end): float(row[end])
-            for row in rows if row['kind'].isdigit() for end in ('carried out', 'turned down')}
+    return {(row['setting'], row['kind'], row['edges'], end): float(row[end])
+            for row in rows if row['kind'] in KINDS | {LISTED} for end in ('carried out', 'turned down')}
 
 
 def least(runs):

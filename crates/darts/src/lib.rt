@@ -11,7 +11,7 @@ ghost use Rattle.planar_maps.specs.Rings.{sameDart};
 ghost use Rattle.plane.specs.Directions.{wayTo, signs, before as beforeWay, sameWay};
 ghost use Rattle.curves.specs.Curves.{Run, curveOf};
 ghost use Rattle.curves.specs.Edits.{course};
-ghost use Rattle.map.specs.Limits.{edgeWidth};
+ghost use Rattle.map.specs.Limits.{edgeWidth, maxEdges};
 ghost use Rattle.map.specs.Rows.{dartOf, dartCell};
 ghost use Rattle.map.specs.Darts.{directed, next};
 ghost use Rattle.map_rows.specs.Rows.{EdgeRow, EdgeRows, edgeMap};
@@ -77,18 +77,18 @@ pub fn position_of(edges: &[i64], count: usize, d: i64) -> Found
     Found::At(i * 2)
 }
 
-// The position of what follows; in form it is never missing.
-pub fn next_position(edges: &[i64], count: usize, p: usize) -> usize
-    requires { ⌜ EdgeRows (now edges) count × (p < count * 2) ⌝ }
+// The position of what follows; in form it is never missing. One step of a ring: walks hold positions in 16 bits.
+pub fn next_position(edges: &[i64], count: usize, p: u16) -> u16
+    requires { ⌜ EdgeRows (now edges) count × (count ≤ maxEdges) × (p < count * 2) ⌝ }
     ensures { λ r. ⌜ (r < count * 2)
         × (dartAt (now (edges .entry)) r
         ≡ next (edgeMap (now (edges .entry)) count) (dartAt (now (edges .entry)) p)) ⌝ }
 {
-    let found = position_of(edges, count, dart_cell(edges, p, map::NEXT_LEFT));
+    let found = position_of(edges, count, dart_cell(edges, p as usize, map::NEXT_LEFT));
     let Found::At(q) = found else {
         return p;
     };
-    q
+    q as u16
 }
 
 // ---- directions

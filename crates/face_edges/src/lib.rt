@@ -14,7 +14,7 @@ ghost use Rattle.face_edges.specs.Listing.{Rings, Marked, Size, listRing
 
 // How many numbers the ring of p takes, where p is the first member of a ring of the face, and 0 elsewhere; the ring is
 // marked.
-fn ring_size(edges: &[i64], count: usize, face: usize, p: usize, marks: &mut [u8]) -> usize
+fn ring_size(edges: &[i64], count: usize, face: usize, p: usize, marks: &mut [u16]) -> usize
     requires { ⌜ Rings (now edges) count × (face ≤ lastNumber) × (p < count * 2)
         × Marked (now edges) count face p (now marks) ⌝ }
     ensures { λ r. ⌜ Marked (now (edges .entry)) count face (p + 1) (now (marks .exit))
@@ -31,7 +31,7 @@ fn rings_size(edges: &[i64], count: usize, face: usize) -> usize
     requires { ⌜ Rings (now edges) count × (face ≤ lastNumber) ⌝ }
     ensures { λ r. ⌜ (r ≡ length (faceEdges (edgeMap (now (edges .entry)) count) face)) × (r ≤ 20000000) ⌝ }
 {
-    let mut marks = [0u8; map::DARTS];
+    let mut marks = [0u16; map::DARTS];
     let mut size: usize = 0;
     for p in 0..count * 2 {
         size += ring_size(edges, count, face, p, &mut marks);
@@ -48,7 +48,7 @@ fn write_rings(edges: &[i64], count: usize, face: usize, list: &mut [i64])
         ≡ faceEdges (edgeMap (now (edges .entry)) count) face
         ++ drop (length (faceEdges (edgeMap (now (edges .entry)) count) face)) (now (list .entry)) ⌝ }
 {
-    let mut marks = [0u8; map::DARTS];
+    let mut marks = [0u16; map::DARTS];
     let mut at: usize = 0;
     for p in 0..count * 2 {
         let n = ring_size(edges, count, face, p, &mut marks);

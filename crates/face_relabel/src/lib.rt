@@ -9,7 +9,7 @@ ghost use Rattle.lists.specs.Tests.{same};
 ghost use Rattle.lists.specs.Tables.{sweep};
 ghost use Rattle.tables.specs.Tables.{replaceAt};
 ghost use Rattle.plane.specs.Points.{InRange};
-ghost use Rattle.map.specs.Limits.{nodeWidth, edgeWidth};
+ghost use Rattle.map.specs.Limits.{nodeWidth, edgeWidth, maxEdges};
 ghost use Rattle.map_rows.specs.Rows.{EdgeRows, edgeAt};
 ghost use Rattle.darts.specs.Positions.{sideCell};
 ghost use Rattle.face_relabel.specs.Sharing.{Ringed, ShareableFace, Whole, ringEncloses, startOf, markOf};
@@ -25,7 +25,7 @@ pub struct Sides {
 
 // The number of the side of a point.
 fn side_of(edges: &[i64], count: usize, s: Sides, q: Point) -> i64
-    requires { ⌜ EdgeRows (now edges) count × (s .ring < count * 2) × InRange q ⌝ }
+    requires { ⌜ EdgeRows (now edges) count × (count ≤ maxEdges) × (s .ring < count * 2) × InRange q ⌝ }
     ensures { λ r. ⌜ r ≡ cond (ringEncloses (now (edges .entry)) count (s .ring) q) (s .inside) (s .other) ⌝ }
 {
     if rings::encloses(edges, count, s.ring, q) {
@@ -52,7 +52,7 @@ pub fn share_nodes(nodes: &mut [i64], n: usize, edges: &[i64], count: usize, s: 
 
 // The mark of a ring whose lowest edge is row i, by the start node of that edge: 1 for the reference side, 2 for the
 // other.
-fn mark_of_ring(nodes: &[i64], n: usize, edges: &[i64], count: usize, s: Sides, i: usize) -> u8
+fn mark_of_ring(nodes: &[i64], n: usize, edges: &[i64], count: usize, s: Sides, i: usize) -> u16
     requires { ⌜ ShareableFace (now nodes) n (now edges) count s × (i < count) ⌝ }
     ensures { λ r. ⌜
         r ≡ markOf (now (edges .entry)) count (s .ring)
@@ -75,7 +75,7 @@ fn mark_of_ring(nodes: &[i64], n: usize, edges: &[i64], count: usize, s: Sides, 
 }
 
 // Marks the rings of the old face that are not marked by their sides.
-fn mark_sides(nodes: &[i64], n: usize, edges: &[i64], count: usize, s: Sides, marks: &mut [u8])
+fn mark_sides(nodes: &[i64], n: usize, edges: &[i64], count: usize, s: Sides, marks: &mut [u16])
     requires { ⌜ ShareableFace (now nodes) n (now edges) count s × Ringed (now edges) count
         × Whole (now edges) count (now marks) ⌝ }
     ensures { λ r. ⌜ (length (now (marks .exit)) ≡ length (now (marks .entry)))
@@ -93,14 +93,14 @@ fn mark_sides(nodes: &[i64], n: usize, edges: &[i64], count: usize, s: Sides, ma
 }
 
 // The number of a marked side.
-fn number_of(s: Sides, mark: u8) -> i64
+fn number_of(s: Sides, mark: u16) -> i64
     ensures { λ r. ⌜ r ≡ cond (same mark 1) (s .inside) (s .other) ⌝ }
 {
     if mark == 1 { s.inside } else { s.other }
 }
 
 // Writes the number of their side to the directed edges of the old face.
-fn write_sides(edges: &mut [i64], count: usize, s: Sides, marks: &[u8])
+fn write_sides(edges: &mut [i64], count: usize, s: Sides, marks: &[u16])
     requires { ⌜ (count * edgeWidth ≤ length (now edges)) × (count * 2 ≤ length (now marks)) ⌝ }
     ensures { λ r. ⌜
         now (edges .exit) ≡ sweep (sideShared s (now (marks .entry))) (now (edges .entry)) 0 (count * 2) ⌝ }
@@ -127,7 +127,7 @@ pub fn share_edges(
         ≡ sweep (edgeShared (now (nodes .entry)) n (now (edges .entry)) count s across)
         (now (edges .entry)) 0 (count * 2) ⌝ }
 {
-    let mut marks = [0u8; map::DARTS];
+    let mut marks = [0u16; map::DARTS];
     rings::mark_ring(edges, count, across, 2, &mut marks);
     rings::mark_ring(edges, count, s.ring, 1, &mut marks);
     mark_sides(nodes, n, edges, count, s, &mut marks);

@@ -68,10 +68,10 @@ pub fn corners_differ(
 }
 
 // Where a new edge would be linked in: the departures met clockwise from its two ends, by position. Its own are 2 e and
-// 2 e + 1 for the row e.
+// 2 e + 1 for the row e. In 16 bits, as the walk holds them.
 struct Corners {
-    start: usize,
-    end: usize,
+    start: u16,
+    end: u16,
 }
 
 // The first departure from the node met clockwise from the curve, or from its reverse; `none` where there is none.
@@ -132,27 +132,28 @@ fn end_corner(edges: &[i64], e: usize, c: &[i64], from: i64, to: i64) -> usize
 }
 
 // The position q, and `new` for `old`.
-fn instead(q: usize, old: usize, new: usize) -> usize
+fn instead(q: u16, old: u16, new: u16) -> u16
     ensures { λ r. ⌜ r ≡ cond (same q old) new q ⌝ }
 {
     if q == old { new } else { q }
 }
 
 // What would follow the directed edge at p with the new edge linked in.
-fn drawn_next(edges: &[i64], e: usize, k: Corners, p: usize) -> usize
+fn drawn_next(edges: &[i64], e: usize, k: Corners, p: u16) -> u16
     requires { ⌜ Linkable (now edges) e k × (p < e * 2 + 2) ⌝ }
     ensures { λ r. ⌜ (r < e * 2 + 2)
         × ((new : ℕ) (m : Map) → Joined (now (edges .entry)) e (k .start) (k .end) new m
         → drawnDart (now (edges .entry)) e new r ≡ next m (drawnDart (now (edges .entry)) e new p)) ⌝ }
 {
-    if p == e * 2 {
+    let own = (e * 2) as u16;
+    if p == own {
         return k.end;
     }
-    if p == e * 2 + 1 {
-        return instead(k.start, k.end, e * 2 + 1);
+    if p == own + 1 {
+        return instead(k.start, k.end, own + 1);
     }
-    let q = instead(darts::next_position(edges, e, p), k.start, e * 2);
-    instead(q, k.end, e * 2 + 1)
+    let q = instead(darts::next_position(edges, e, p), k.start, own);
+    instead(q, k.end, own + 1)
 }
 
 // Whether the new edge and its reverse would lie on different rings, linked in at these corners.
@@ -161,13 +162,14 @@ fn rings_differ(edges: &[i64], e: usize, k: Corners) -> bool
     ensures { λ r. ⌜ ((new : ℕ) (m : Map) → Joined (now (edges .entry)) e (k .start) (k .end) new m
         → r ≡ not (among (ring m (fwd new)) (bwd new))) ⌝ }
 {
-    let mut p = e * 2;
+    let own = (e * 2) as u16;
+    let mut p = own;
     for n in 0..e * 2 + 2 {
-        if p == e * 2 + 1 {
+        if p == own + 1 {
             return false;
         }
         p = drawn_next(edges, e, k, p);
-        if p == e * 2 {
+        if p == own {
             return true;
         }
     }
@@ -185,7 +187,7 @@ pub fn splits_face(nodes: &[i64], edges: &[i64], e: usize, u: usize, v: usize, c
 {
     let from = nodes[u * map::NODE_WIDTH];
     let to = nodes[v * map::NODE_WIDTH];
-    let start = corner(edges, e, c, false, from, e * 2);
-    let end = end_corner(edges, e, c, from, to);
+    let start = corner(edges, e, c, false, from, e * 2) as u16;
+    let end = end_corner(edges, e, c, from, to) as u16;
     rings_differ(edges, e, Corners { start, end })
 }

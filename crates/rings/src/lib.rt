@@ -1,4 +1,4 @@
-// Ring walks by position: marks, the list of a ring, its doubled area, and what it encloses.
+// Ring walks by position, in 16 bits: marks, the list of a ring, its doubled area, and what it encloses.
 use plane::Point;
 ghost use mathlib.Core.Path.{_≡_};
 ghost use mathlib.Core.List.{map};
@@ -17,16 +17,18 @@ ghost use Rattle.map.specs.Faces.{ringArea, encloses as enclosedBy};
 ghost use Rattle.rings.specs.Marks.{ringMarked};
 
 // Marks the ring of p with v; its length.
-pub fn mark_ring(edges: &[i64], count: usize, p: usize, v: u8, marks: &mut [u8]) -> usize
-    requires { ⌜ EdgeRows (now edges) count × (p < count * 2) × (count * 2 ≤ length (now marks)) ⌝ }
+pub fn mark_ring(edges: &[i64], count: usize, p: usize, v: u16, marks: &mut [u16]) -> usize
+    requires { ⌜ EdgeRows (now edges) count × (count ≤ maxEdges) × (p < count * 2)
+        × (count * 2 ≤ length (now marks)) ⌝ }
     ensures { λ r. ⌜ (r ≡ length (ring (edgeMap (now (edges .entry)) count) (dartAt (now (edges .entry)) p)))
         × (now (marks .exit) ≡ ringMarked (now (edges .entry)) count p v (now (marks .entry))) ⌝ }
 {
-    let mut c = p;
+    let first = p as u16;
+    let mut c = first;
     for k in 0..count * 2 {
-        marks[c] = v;
+        marks[c as usize] = v;
         c = darts::next_position(edges, count, c);
-        if c == p {
+        if c == first {
             return k + 1;
         }
     }
@@ -35,16 +37,16 @@ pub fn mark_ring(edges: &[i64], count: usize, p: usize, v: u8, marks: &mut [u8])
 
 // Writes the ring of p from `at` on, as n directed edges.
 pub fn write_ring(edges: &[i64], count: usize, p: usize, n: usize, list: &mut [i64], at: usize)
-    requires { ⌜ EdgeRows (now edges) count × (p < count * 2)
+    requires { ⌜ EdgeRows (now edges) count × (count ≤ maxEdges) × (p < count * 2)
         × (n ≡ length (ring (edgeMap (now edges) count) (dartAt (now edges) p)))
         × (at + n ≤ length (now list)) ⌝ }
     ensures { λ r. ⌜
         now (list .exit) ≡ paste (now (list .entry)) at
         (map dartCell (ring (edgeMap (now (edges .entry)) count) (dartAt (now (edges .entry)) p))) n ⌝ }
 {
-    let mut c = p;
+    let mut c = p as u16;
     for k in 0..n {
-        list[at + k] = darts::dart_at(edges, c);
+        list[at + k] = darts::dart_at(edges, c as usize);
         c = darts::next_position(edges, count, c);
     }
 }
@@ -65,12 +67,13 @@ pub fn ring_area(edges: &[i64], count: usize, p: usize) -> i64
         r ≡ ringArea (edgeMap (now (edges .entry)) count)
         (ring (edgeMap (now (edges .entry)) count) (dartAt (now (edges .entry)) p)) ⌝ }
 {
-    let mut c = p;
+    let first = p as u16;
+    let mut c = first;
     let mut sum: i64 = 0;
     for k in 0..count * 2 {
-        sum += dart_area(edges, c);
+        sum += dart_area(edges, c as usize);
         c = darts::next_position(edges, count, c);
-        if c == p {
+        if c == first {
             return sum;
         }
     }
@@ -79,17 +82,18 @@ pub fn ring_area(edges: &[i64], count: usize, p: usize) -> i64
 
 // Whether the ring of p encloses a point.
 pub fn encloses(edges: &[i64], count: usize, p: usize, q: Point) -> bool
-    requires { ⌜ EdgeRows (now edges) count × (p < count * 2) × InRange q ⌝ }
+    requires { ⌜ EdgeRows (now edges) count × (count ≤ maxEdges) × (p < count * 2) × InRange q ⌝ }
     ensures { λ r. ⌜
         r ≡ enclosedBy (edgeMap (now (edges .entry)) count)
         (ring (edgeMap (now (edges .entry)) count) (dartAt (now (edges .entry)) p)) q ⌝ }
 {
-    let mut c = p;
+    let first = p as u16;
+    let mut c = first;
     let mut odd = false;
     for k in 0..count * 2 {
-        odd = odd != curves::odd_below(map_rows::curve_of(edges, c / 2), q);
+        odd = odd != curves::odd_below(map_rows::curve_of(edges, c as usize / 2), q);
         c = darts::next_position(edges, count, c);
-        if c == p {
+        if c == first {
             return odd;
         }
     }

@@ -110,4 +110,4 @@ returns-2 c =
 
 pub ring-size-spec : {M : Type 1} → statement M
 ring-size-spec = tie.close (tie.spec (λ c κs. search needs) (λ c. search needs) (λ c. search needs)
-    (λ c κs. search needs) add-result (λ c. search needs) returns returns-2)
+    (λ c. search needs) (λ c κs. search needs) add-result (λ c. search needs) returns returns-2)

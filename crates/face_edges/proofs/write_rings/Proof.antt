@@ -85,6 +85,7 @@ write-ring-requires c κs =
     let s = k .before .before .before .before .before in
     let r = ring-at k (c .before .if1 .taken) in (
       s .pre .0 .rows,
+      s .pre .0 .small,
       k .before .before .before .loop-test .taken,
       omega (arith, r .size),
       omega (

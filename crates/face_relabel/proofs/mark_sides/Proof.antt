@@ -47,6 +47,11 @@ dart-cell-requires c κs =
     omega (arith, s .pre .0 .edges .fits, c .loop-test .taken) in
     (h, omega arith)
 
+mul-if1 : tie.Need-mul-if1 Inv-loop μ-loop
+mul-if1 c =
+    let t = c .before .before .before in
+    omega (arith, t .before .before .before .pre .0 .few, t .loop-test .taken)
+
 slice-read-if1 : tie.Need-slice-read-if1 Inv-loop μ-loop
 slice-read-if1 c =
     let t = c .before .before .before .before in
@@ -60,7 +65,8 @@ mark-of-ring-requires c κs =
 mark-ring-requires : tie.Need-mark-ring-requires Inv-loop μ-loop
 mark-ring-requires c κs =
     let t = c .before .before .before .before .before .before .before in
-    (t .before .before .before .pre .0 .edges, t .loop-test .taken, t .before .loop .inv .1 .whole .room)
+    let h = t .before .before .before .pre .0 in
+    (h .edges, h .few, t .loop-test .taken, t .before .loop .inv .1 .whole .room)
 
 loop-again : tie.Need-loop-again Inv-loop μ-loop
 loop-again c =
@@ -115,6 +121,7 @@ mark-sides-spec =
     mul-p-end
     loop-holds
     dart-cell-requires
+    mul-if1
     slice-read-if1
     mark-of-ring-requires
     mark-ring-requires

@@ -67,7 +67,7 @@ module _ (c : tie.After-mark-ring2) where
 
 mark-ring-requires-2 : tie.Need-mark-ring-requires-2
 mark-ring-requires-2 c κs = let b = c .before .before .before in let s = b .before .before .before in
-    (s .pre .0 .edges, s .pre .0 .ring, room-first b)
+    (s .pre .0 .edges, s .pre .0 .few, s .pre .0 .ring, room-first b)
 
 mark-sides-requires : tie.Need-mark-sides-requires
 mark-sides-requires c κs =

@@ -56,7 +56,7 @@ node-point-requires c κs =
 side-of-requires : tie.Need-side-of-requires Inv-loop μ-loop
 side-of-requires c κs =
     let s = c .before .before .before .before .before .before .before .before in
-    (s .pre .edges, s .pre .ring, c .node-point .ensures .1)
+    (s .pre .edges, s .pre .few, s .pre .ring, c .node-point .ensures .1)
 
 mul-side : tie.Need-mul-side Inv-loop μ-loop
 mul-side c = let t = c .before .before .before .before .before .before .before in

@@ -41,6 +41,11 @@ dart-cell-requires c κs =
     let h : w .p / 2 * 32 + 32 ≤ length (w .edges) = omega (arith, s .pre .0, w .inv .1, c .before .loop-test .taken) in
     (h, omega arith)
 
+mul-number-of : tie.Need-mul-number-of Inv-loop μ-loop
+mul-number-of c =
+    let t = c .before .before .before .before .before .before in
+    omega (arith, t .before .before .before .pre .0, t .loop-test .taken)
+
 shared-slice-read-number-of : tie.Need-shared-slice-read-number-of Inv-loop μ-loop
 shared-slice-read-number-of c =
     let t = c .before .before .before .before .before .before .before in
@@ -92,6 +97,7 @@ write-sides-spec =
     mul-p-end
     loop-holds
     dart-cell-requires
+    mul-number-of
     shared-slice-read-number-of
     (λ c κs. search needs)
     set-dart-cell-requires

@@ -49,16 +49,16 @@ next-position-requires c κs =
     let x = c .before .if1 .left in
     let y = c .if2 .left in
     let h = s .pre .1 in
-    (s .pre .0 .rows, omega arith)
+    (s .pre .0 .rows, s .pre .0 .few, omega arith)
 
 pub drawn-next-spec : {M : Type 1} → statement M
 drawn-next-spec =
     tie.close
     (tie.spec
-    (λ c. search needs)
+    (λ c. search needs) (λ c. search needs)
     returns
-    (λ c. search needs) (λ c. search needs) (λ c. search needs) (λ c. search needs) (λ c κs. search needs)
+    (λ c. search needs) (λ c. search needs) (λ c κs. search needs)
     returns-2
     next-position-requires
-    (λ c. search needs) (λ c κs. search needs) (λ c. search needs) (λ c. search needs) (λ c κs. search needs)
+    (λ c κs. search needs) (λ c. search needs) (λ c κs. search needs)
     returns-3)

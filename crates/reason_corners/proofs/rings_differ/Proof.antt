@@ -13,12 +13,12 @@ use Rattle.reason_corners.proofs.rings_differ.Statement.{statement}
 use Rattle.reason_corners.proofs.rings_differ.Tie as tie
 
 abbrev Inv-loop : tie.InvT-loop
-Inv-loop edges e k p₀ n₀ n-end p n =
+Inv-loop edges e k own p₀ n₀ n-end p n =
     (p < e * 2 + 2) × ((new : ℕ) (m : Map) → Joined edges e (k .start) (k .end) new m
     → among (ring m (fwd new)) (bwd new) ≡ meets edges e new m (e * 2 + 2 - n) p)
 
 abbrev μ-loop : tie.MeasureT-loop
-μ-loop edges e k p₀ n₀ n-end p n = n-end - n
+μ-loop edges e k own p₀ n₀ n-end p n = n-end - n
 
 loop-holds : tie.Need-loop-holds Inv-loop μ-loop
 loop-holds c = (omega arith, λ new m j. ring-meets (c .pre .rows) j)
@@ -72,12 +72,11 @@ rings-differ-spec =
     (λ c. omega (arith, c .pre .few))
     (λ c. omega (arith, c .pre .few))
     (λ c. omega (arith, c .pre .few))
+    (λ c. omega (arith, c .pre .few))
     loop-holds
-    (λ c. omega (arith, c .before .before .pre .few))
     (λ c. omega (arith, c .before .before .pre .few))
     returns
     drawn-next-requires
-    (λ c. omega (arith, c .before .before .before .before .pre .few))
     returns-2
     (λ c. omega arith)
     (λ c. omega arith)

@@ -1,5 +1,6 @@
 -- `rings::ring_area` meets its contract: the sum, with the area of what is left of the ring, is the ring's; it is at
 -- most a curve's greatest area for each step. Assumes nothing.
+use borrow.Author.Needs.{needs}
 use mathlib.Core.Path.{_≡_, sym, ap, _∙_, subst}
 use Prim.Native.Nat.{_+_, _*_, _-_, _/_, _<_, _≤_}
 use native.Mathlib.Omega.{arith}
@@ -18,13 +19,13 @@ use Rattle.rings.proofs.ring_area.Statement.{statement}
 use Rattle.rings.proofs.ring_area.Tie as tie
 
 abbrev Inv-loop : tie.InvT-loop
-Inv-loop edges count p c₀ sum₀ k₀ k-end c sum k =
+Inv-loop edges count p first c₀ sum₀ k₀ k-end c sum k =
     (c < count * 2) × (k ≤ count * 2) × Within (curveMost * k) (toZ w64 sum)
     × (toZ w64 sum +ℤ areaLeft edges count (steps edges count p (count * 2 - k) c)
     ≡ areaLeft edges count (ringAt edges count p))
 
 abbrev μ-loop : tie.MeasureT-loop
-μ-loop edges count p c₀ sum₀ k₀ k-end c sum k = k-end - k
+μ-loop edges count p first c₀ sum₀ k₀ k-end c sum k = k-end - k
 
 mul-k-end : tie.Need-mul-k-end Inv-loop μ-loop
 mul-k-end c = omega (arith, c .pre .1)
@@ -99,11 +100,13 @@ ring-area-spec =
     (tie.spec
     Inv-loop
     μ-loop
+    (λ c. omega (arith, c .pre .1, c .pre .2))
     mul-k-end
     loop-holds
+    (λ c. search needs)
     (λ c κs. edge-row-of (c .before .before .pre .0) (c .before .loop .c / 2) (omega (arith, c .before .loop .inv .0)))
     (λ c. fits c)
-    (λ c κs. (c .before .before .before .pre .0, c .before .before .loop .inv .0))
+    (λ c κs. (c .before .before .before .pre .0, c .before .before .before .pre .1, c .before .before .loop .inv .0))
     returns
     (λ c. omega arith)
     (λ c. omega arith)

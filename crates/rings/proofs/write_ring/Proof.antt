@@ -1,4 +1,5 @@
 -- `rings::write_ring` meets its contract: k numbers of the ring are written, and c is the next of it. Assumes nothing.
+use borrow.Author.Needs.{needs}
 use mathlib.Core.Path.{_≡_, refl, sym, ap, _∙_}
 use mathlib.Core.List.{map}
 use Prim.Native.Nat.{_+_, _*_, _-_, _/_, _<_, _≤_}
@@ -27,7 +28,7 @@ abbrev μ-loop : tie.MeasureT-loop
 loop-holds : tie.Need-loop-holds Inv-loop μ-loop
 loop-holds c =
     let a = c .args in (
-      c .pre .1,
+      c .pre .2,
       omega arith,
       refl,
       paste-zero (a .list .now) (a .at) (cells (a .edges .now) (a .count) (a .p)),
@@ -42,7 +43,7 @@ loop-again c =
     let a = s .args in
     let f : Follows (a .edges .now) (a .count) (w .c) (c .next-position .result) =
     record { below = c .next-position .ensures .0; is = c .next-position .ensures .1 } in
-    let h : w .k < length (ringAt (a .edges .now) (a .count) (a .p)) = omega (arith, b .loop-test .taken, s .pre .2) in
+    let h : w .k < length (ringAt (a .edges .now) (a .count) (a .p)) = omega (arith, b .loop-test .taken, s .pre .3) in
     let left = w .inv .4 (b .loop-test .taken) in
     let many : length (cells (a .edges .now) (a .count) (a .p)) ≡ length (ringAt (a .edges .now) (a .count) (a .p)) =
     length-map (ringAt (a .edges .now) (a .count) (a .p)) dartCell in
@@ -52,10 +53,10 @@ loop-again c =
       omega arith,
       length-set (w .list) (a .at + w .k) v ∙ w .inv .2,
       copy-more (a .list .now) (a .at) (cells (a .edges .now) (a .count) (a .p)) (w .k) (pos 0) (w .list) v
-          (omega (arith, s .pre .3)) (omega arith) (w .inv .3)
-          (read ∙ sym (written-here (s .pre .0) (a .p) (s .pre .1) (w .k) (w .c) h left)),
-      (λ g. written-on (s .pre .0) (a .p) (s .pre .1) (w .k) (w .c) h left (c .next-position .result) f
-          (omega (arith, s .pre .2))),
+          (omega (arith, s .pre .4)) (omega arith) (w .inv .3)
+          (read ∙ sym (written-here (s .pre .0) (a .p) (s .pre .2) (w .k) (w .c) h left)),
+      (λ g. written-on (s .pre .0) (a .p) (s .pre .2) (w .k) (w .c) h left (c .next-position .result) f
+          (omega (arith, s .pre .3))),
     )
 
 returns : tie.Need-returns Inv-loop μ-loop
@@ -71,12 +72,14 @@ write-ring-spec =
     (tie.spec
     Inv-loop
     μ-loop
+    (λ c. omega (arith, c .pre .1, c .pre .2))
     loop-holds
+    (λ c. search needs)
     (λ c κs. edge-row-of (c .before .before .pre .0) (c .before .loop .c / 2) (omega (arith, c .before .loop .inv .0)))
-    (λ c. omega (arith, c .before .before .before .pre .3))
-    (λ c. omega (arith, c .before .before .before .pre .3))
-    (λ c. omega (arith, c .before .before .before .pre .3, c .before .before .loop .inv .2))
-    (λ c κs. (c .before .before .before .pre .0, c .before .before .loop .inv .0))
+    (λ c. omega (arith, c .before .before .before .pre .4))
+    (λ c. omega (arith, c .before .before .before .pre .4))
+    (λ c. omega (arith, c .before .before .before .pre .4, c .before .before .loop .inv .2))
+    (λ c κs. (c .before .before .before .pre .0, c .before .before .before .pre .1, c .before .before .loop .inv .0))
     (λ c. omega arith)
     (λ c. omega arith)
     loop-again
