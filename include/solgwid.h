@@ -18,8 +18,8 @@
      it may be NULL, and the value is dropped.
    Threads. There is no state between calls, so any number of maps may be worked on at once. One map is for one thread
      at a time; solgwid_edges_of_face only reads, so several threads may list one map together.
-   Stack. A call takes up to 57 KB; solgwid_empty_map takes under 1 KB. Where many edge ends leave one node into one
-     quadrant, each of them takes 112 bytes more: 169 KB for 999 of them, and 505 KB for 4,000, the most that tables
+   Stack. A call takes up to 61 KB; solgwid_empty_map takes under 1 KB. Where many edge ends leave one node into one
+     quadrant, each of them takes 112 bytes more: 173 KB for 999 of them, and 509 KB for 4,000, the most that tables
      can hold.
    Memory. Things lent in one call must not overlap, and each is aligned as its type asks.
    Version. SOLGWID_VERSION is the number of a landing (docs/LANDINGS.md). It rises with each landing that changes what
