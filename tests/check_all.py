@@ -16,6 +16,7 @@ import time
 
 import check_calls
 import check_definitions
+import check_limits
 import check_sheet
 import check_split_heal
 from comparison import counted, tally
@@ -28,11 +29,12 @@ def parts(seed):
     needed('rt', 'the Rattle kit')
     program('sheet')
     lib = check_calls.library()
-    return (('sheet, all mixes', check_sheet.comparisons(seed), 0.2, check_sheet.COUNTED),
+    return (('sheet, all mixes', check_sheet.comparisons(seed), 0.15, check_sheet.COUNTED),
             ('sheet, islands', check_sheet.comparisons(seed, 'islands'), 0.15, check_sheet.COUNTED),
             ('library', check_calls.calls(lib, seed), 0.15, ('whole calls',)),
             ('library', check_calls.lists(lib, seed), 0.1, ('lists in one call',)),
-            ('library', check_split_heal.comparisons(lib, seed), 0.15, ('maps', 'cuts healed')),
+            ('library', check_split_heal.comparisons(lib, seed), 0.1, ('maps', 'cuts healed')),
+            ('library', check_limits.comparisons(lib, seed), 0.1, ('calls at the limits',)),
             ('definitions', check_definitions.comparisons(seed), 0.25, ('lists', 'calls')))
 
 
