@@ -10,15 +10,13 @@ reference takes some seconds for each, with an index for its lookups. What is ca
 another map.
 """
 
-import argparse
 import contextlib
 import ctypes
-import itertools
 import random
 import sys
 
 from check_calls import Lent, cells, library, list_differs, slice_of, ticket_differs
-from comparison import counted, seeds, tally
+from comparison import command, seeds
 
 import plotmap as pm
 
@@ -112,15 +110,5 @@ def comparisons(lib, seed):
                    [f'seed {s}, call {i}, {edges} edges: {call}'] * differs)
 
 
-def main():
-    p = argparse.ArgumentParser(description=__doc__, formatter_class=argparse.RawDescriptionHelpFormatter)
-    p.add_argument('calls', nargs='?', type=int, default=40)
-    p.add_argument('--seed', type=int, default=1)
-    a = p.parse_args()
-    counts, differences = tally(itertools.islice(comparisons(library(), a.seed), a.calls))
-    print(f'{counted(counts, *COUNTED)}; {differences} differences')
-    return 1 if differences else 0
-
-
 if __name__ == '__main__':
-    sys.exit(main())
+    sys.exit(command(__doc__, 'calls', 40, lambda seed: comparisons(library(), seed), COUNTED))

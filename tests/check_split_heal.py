@@ -10,7 +10,6 @@ the same in tables with one free row, also with the next edge number at 999,996 
 leaves a number for kind 9).
 """
 
-import argparse
 import ctypes
 import itertools
 import random
@@ -18,7 +17,7 @@ import sys
 from collections import Counter
 from dataclasses import astuple, replace
 
-from comparison import counted, seeds, tally
+from comparison import command, seeds
 from check_calls import Lent, cells, library, listed, slice_of     # finds the reference
 
 import check
@@ -79,15 +78,5 @@ def comparisons(lib, seed):
         yield of_map(rng, grown.grow(rng, rng.choice([30, 60, 120]), 0))
 
 
-def main():
-    p = argparse.ArgumentParser(description=__doc__, formatter_class=argparse.RawDescriptionHelpFormatter)
-    p.add_argument('maps', nargs='?', type=int, default=200)
-    p.add_argument('--seed', type=int, default=1)
-    a = p.parse_args()
-    counts, differences = tally(itertools.islice(comparisons(library(), a.seed), a.maps))
-    print(f'{counted(counts, *COUNTED)}; {differences} differences')
-    return 1 if differences else 0
-
-
 if __name__ == '__main__':
-    sys.exit(main())
+    sys.exit(command(__doc__, 'maps', 200, lambda seed: comparisons(library(), seed), COUNTED))

@@ -3,6 +3,7 @@
 A comparison is a pair: what was compared, as counts by name, and the differences found, each as text.
 """
 
+import argparse
 import itertools
 import sys
 import time
@@ -30,3 +31,14 @@ def tally(comparisons, seconds=None):
 def counted(counts, *names):
     """These counts as text."""
     return ', '.join(f'{counts[name]:,} {name}' for name in names)
+
+
+def command(doc, what, most, comparisons, names):
+    """A script that takes a number of comparisons and a seed: it prints the counts, and answers its exit status."""
+    p = argparse.ArgumentParser(description=doc, formatter_class=argparse.RawDescriptionHelpFormatter)
+    p.add_argument(what, nargs='?', type=int, default=most)
+    p.add_argument('--seed', type=int, default=1)
+    a = vars(p.parse_args())
+    counts, differences = tally(itertools.islice(comparisons(a['seed']), a[what]))
+    print(f'{counted(counts, *names)}; {differences} differences')
+    return 1 if differences else 0
