@@ -1,11 +1,14 @@
-//! Microseconds a ticket, by kind and size, and for the edges of a face, beside one bare pass over the rows in use in the
-//! same run.
+//! Microseconds a ticket, by kind and size, and for the edges of a face, beside one bare pass over the rows in use in
+//! the same run.
 //!
 //! A sheet is a grid of plots with wells (isolated nodes), islands (isolated edges), boundaries across some plots and
 //! ditches split at a sluice. Each ticket is timed alone on a fresh copy of the sheet's tables, at many places of the
 //! sheet, once as it is carried out and once as it is turned down: the least of some calls at each place, then the
 //! median over the places. The bare pass adds up every number of the rows in use; beside it stands the time of one that
 //! compares each with a bound. Prints tables, and adds the times to the CSV file given.
+//!
+//! Kind 6 is also timed at the plots with wells and at those with islands: a side led short of them, and past them. The
+//! second is turned down with 22; a library of before landing 13 carries it out, and is timed as it does.
 
 use std::collections::HashMap;
 use std::fmt::Write as _;
@@ -16,7 +19,7 @@ use std::time::Instant;
 
 #[path = "../include/solgwid.rs"]
 mod solgwid;
-use solgwid::Map;
+use solgwid::{Map, Refusal};
 
 const SIDE: i64 = 100;
 const KINDS: usize = 14;
@@ -198,6 +201,17 @@ fn tickets(kind: usize, p: &Plot) -> Option<(Vec<i64>, Vec<i64>)> {
     })
 }
 
+/// What a side of a plot is redrawn beside, with the name of its rows.
+const BESIDE: [(&str, fn(&Plot) -> bool); 2] =
+    [("6 beside wells", |p| !p.wells.is_empty()), ("6 beside an island", |p| p.island.is_some())];
+
+/// The bottom of the plot led short of what lies in it, and past that; both leave a boundary across the plot alone.
+fn redrawings(p: &Plot) -> Option<(Vec<i64>, Vec<i64>)> {
+    let (x, y) = p.at;
+    let by = |mx, my| vec![6, p.bottom, x, y, x + mx, y + my, x + SIDE, y];
+    p.sluice.is_none().then(|| (by(50, 10), by(70, 60)))
+}
+
 fn median(mut v: Vec<f64>) -> f64 {
     v.sort_by(f64::total_cmp);
     v[v.len() / 2]
@@ -213,13 +227,13 @@ fn least(mut f: impl FnMut() -> f64) -> f64 {
     (0..ROUNDS).map(|_| f()).fold(f64::MAX, f64::min)
 }
 
-/// The least time of the ticket on a fresh copy; it must be carried out or turned down as told.
-fn ticket_time(map: &Map, numbers: &[i64], carried_out: bool) -> f64 {
+/// The least time of the ticket on a fresh copy; it must be answered as told.
+fn ticket_time(map: &Map, numbers: &[i64], as_told: impl Fn(&Result<i64, Refusal>) -> bool) -> f64 {
     least(|| {
         let mut copy = map.clone();
         let mut answer = Ok(0);
         let time = micros(|| answer = copy.ticket(black_box(numbers)));
-        assert_eq!(answer.is_ok(), carried_out, "{numbers:?}: {answer:?}");
+        assert!(as_told(&answer), "{numbers:?}: {answer:?}");
         time
     })
 }
@@ -242,6 +256,7 @@ struct Times {
     unlisted: f64,
     carried: [f64; KINDS],
     refused: [f64; KINDS],
+    beside: [[f64; 2]; BESIDE.len()],
 }
 
 fn measure(map: &Map, plots: &[Plot]) -> Times {
@@ -256,17 +271,30 @@ fn measure(map: &Map, plots: &[Plot]) -> Times {
             passes.push(least(|| micros(|| { black_box(bare_pass(black_box(map))); })));
             tests.push(least(|| micros(|| { black_box(tested_pass(black_box(map))); })));
             let (good, bad) = &pairs[(i * 13) % pairs.len()];
-            yes.push(ticket_time(map, good, true));
-            no.push(ticket_time(map, bad, false));
+            yes.push(ticket_time(map, good, Result::is_ok));
+            no.push(ticket_time(map, bad, Result::is_err));
         }
         carried[kind - 1] = median(yes);
         refused[kind - 1] = median(no);
     }
+    let beside = BESIDE.map(|(_, has)| redrawing_times(map, plots, has));
     let face = |i: usize| map.faces[i * 13 % map.head[2] as usize];
     let listed = median((0..PLACES).map(|i| face_time(map, face(i), true)).collect());
     let unlisted = median((0..PLACES).map(|_| face_time(map, 999_999, false)).collect());
     let rows = [map.head[0], map.head[1], map.head[2]];
-    Times { rows, pass: median(passes), tested: median(tests), listed, unlisted, carried, refused }
+    Times { rows, pass: median(passes), tested: median(tests), listed, unlisted, carried, refused, beside }
+}
+
+/// Kind 6 at the plots that have something: short of it, and past it.
+fn redrawing_times(map: &Map, plots: &[Plot], has: fn(&Plot) -> bool) -> [f64; 2] {
+    let pairs: Vec<_> = plots.iter().filter(|p| has(p)).filter_map(redrawings).collect();
+    let (mut short, mut past) = (vec![], vec![]);
+    for i in 0..PLACES {
+        let (good, bad) = &pairs[i % pairs.len()];
+        short.push(ticket_time(map, good, Result::is_ok));
+        past.push(ticket_time(map, bad, |a| matches!(a, Ok(_) | Err(Refusal::SidesChange))));
+    }
+    [median(short), median(past)]
 }
 
 fn mean(v: &[f64]) -> f64 {
@@ -289,6 +317,9 @@ fn report(title: &str, all: &[Times]) {
         line(&(kind + 1).to_string(), all, |t| format!("{:.1} / {:.1}", t.carried[kind], t.refused[kind]));
     }
     line("edges of a face, us", all, |t| format!("{:.1} / {:.1}", t.listed, t.unlisted));
+    for (i, (name, _)) in BESIDE.iter().enumerate() {
+        line(&format!("{name}, us"), all, |t| format!("{:.1} / {:.1}", t.beside[i][0], t.beside[i][1]));
+    }
     line("mean of kinds, us", all, |t| format!("{:.1} / {:.1}", mean(&t.carried), mean(&t.refused)));
     line("mean, bare passes", all, |t| {
         format!("{:.1} / {:.1}", mean(&t.carried) / t.pass, mean(&t.refused) / t.pass)
@@ -311,6 +342,9 @@ fn rows(setting: &str, all: &[Times]) -> String {
             writeln!(out, "Solgwid,{setting},{},{edges},{carried:.2},{refused:.2}", kind + 1).unwrap();
         }
         writeln!(out, "Solgwid,{setting},edges of a face,{edges},{:.2},{:.2}", t.listed, t.unlisted).unwrap();
+        for ((name, _), [short, past]) in BESIDE.iter().zip(t.beside) {
+            writeln!(out, "Solgwid,{setting},{name},{edges},{short:.2},{past:.2}").unwrap();
+        }
         writeln!(out, "Solgwid,{setting},bare pass,{edges},{:.2},", t.pass).unwrap();
         writeln!(out, "Solgwid,{setting},tested pass,{edges},{:.2},", t.tested).unwrap();
     }

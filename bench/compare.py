@@ -1,10 +1,13 @@
 #!/usr/bin/env python3
 """Two builds of the static library timed in turn: what a change did to speed.
 
-  compare.py OLD.a NEW.a [RUNS]    ratios of the least times, NEW to OLD, by setting and kinds (default 6 runs each)
+  compare.py OLD.a NEW.a [RUNS]    ratios of the least times, NEW to OLD, by setting and kinds (default 6 runs each);
+                                   of redrawings (kind 6) at 1,000 edges also the times
 
 Runs are taken in turn, so that both meet the same minutes, and of each cell the least time counts: a machine's clock
 moves, and times alone say little. Needs rustc; about six seconds a run.
+A redrawing past wells or an island is turned down with 22, and carried out by a library of before landing 13: there
+the ratio is that of a refusal to an edit.
 """
 
 import csv
@@ -16,10 +19,15 @@ import sys
 import tempfile
 
 BENCH = pathlib.Path(__file__).resolve().parent / 'bench.rs'
-NEW_FACES = {'11', '12'}                       # the kinds that walk rings
+NEW_FACES = {'11', '12'}                       # kinds that walk rings, as 6 does
 LISTED = 'edges of a face'
+BESIDE = ('6 beside wells', '6 beside an island')
 KINDS = {str(kind) for kind in range(1, 15)}
-GROUPS = (('kinds 1 to 10, 13, 14', KINDS - NEW_FACES), ('kinds 11, 12', NEW_FACES), (LISTED, {LISTED}))
+ENDS = CARRIED, REFUSED = 'carried out', 'turned down'
+GROUPS = (('kinds 1 to 5, 7 to 10, 13, 14', KINDS - NEW_FACES - {'6'}, ENDS), ('kinds 11, 12', NEW_FACES, ENDS),
+          ('kind 6, carried out', {'6', *BESIDE}, [CARRIED]), ('kind 6, turned down with 15', {'6'}, [REFUSED]),
+          ('kind 6, past wells or an island', set(BESIDE), [REFUSED]), (LISTED, {LISTED}, ENDS))
+EDGES = '1000'
 
 
 def build(library, folder):
@@ -39,18 +47,22 @@ def times(program):
     subprocess.run([program, file], check=True, stdout=subprocess.DEVNULL)
     rows = csv.DictReader(line for line in file.open() if not line.startswith('#'))
     return {(row['setting'], row['kind'], row['edges'], end): float(row[end])
-            for row in rows if row['kind'] in KINDS | {LISTED} for end in ('carried out', 'turned down')}
+            for row in rows if row['kind'] in KINDS | {LISTED, *BESIDE} for end in ENDS}
 
 
 def least(runs):
     return {cell: min(run[cell] for run in runs) for cell in runs[0]}
 
 
-def report(ratios):
-    for setting in dict.fromkeys(cell[0] for cell in ratios):
-        for name, kinds in GROUPS:
-            found = [r for cell, r in ratios.items() if cell[0] == setting and cell[1] in kinds]
+def report(before, after):
+    for setting in dict.fromkeys(cell[0] for cell in before):
+        for name, kinds, ends in GROUPS:
+            found = [after[c] / before[c] for c in before if c[0] == setting and c[1] in kinds and c[3] in ends]
             print(f'{setting}, {name}: mean {statistics.mean(found):.3f}, {min(found):.3f} to {max(found):.3f}')
+        for cell in before:
+            if cell[0] == setting and cell[1] in ('6', *BESIDE) and cell[2] == EDGES:
+                end = 'past them' if cell[1] in BESIDE and cell[3] == REFUSED else cell[3]
+                print(f'{setting}, {cell[1]}, {end}: {before[cell]:.1f} us before, {after[cell]:.1f} after')
 
 
 def main(old, new, count='6'):
@@ -60,8 +72,7 @@ def main(old, new, count='6'):
         for _ in range(int(count)):
             for found, program in zip(runs, programs):
                 found.append(times(program))
-    before, after = map(least, runs)
-    report({cell: after[cell] / before[cell] for cell in before})
+    report(*map(least, runs))
 
 
 if __name__ == '__main__':

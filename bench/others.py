@@ -6,6 +6,8 @@
   others.py --links       every link after a split (kinds 7 and 8) on small sheets, held against the link law of
                           document 01, and what the engine's own check says of the smallest fault
   others.py --sluices     each of these splits healed at once (kinds 9 and 10): whether the edge rows are as before
+  others.py --redrawings  edges redrawn past wells and islands or turned over (kind 6): what the engine answers, and
+                          what its own check says where it carries one out that Solgwid turns down
 
 PostGIS runs in a server of its own: started in a temporary folder as an unprivileged user, reached through a socket
 there, stopped and removed at the end. SpatiaLite runs inside this process on a database in memory. What is not
@@ -39,6 +41,9 @@ import time
 from pathlib import Path
 
 ROOT = Path(__file__).resolve().parent.parent
+sys.path.append(str(ROOT / 'tests'))
+from repository import LEVEL     # noqa: E402
+
 REFERENCE = ROOT / 'tests' / 'reference'
 SIDE = 100
 PLACES = 21
@@ -627,11 +632,16 @@ def written(rows):
     return {row[0]: row[3:] for row, _ in rows}
 
 
+def reference_says(tickets, *options):
+    """What the reference prints."""
+    text = ''.join(' '.join(map(str, t)) + '\n' for t in tickets)
+    words = [sys.executable, str(REFERENCE / 'ticket.py'), '--level', str(LEVEL), *options]
+    return subprocess.run(words, input=text, capture_output=True, text=True, check=True).stdout
+
+
 def reference_links(tickets):
     """The links that the reference writes."""
-    text = ''.join(' '.join(map(str, t)) + '\n' for t in tickets)
-    words = [sys.executable, str(REFERENCE / 'ticket.py'), '--dump']
-    out = subprocess.run(words, input=text, capture_output=True, text=True, check=True).stdout
+    out = reference_says(tickets, '--dump')
     lines = out[out.rindex('\nH '):].splitlines()
     rows = [[int(w) for w in line.split()[1:]] for line in lines if line.startswith('E ')]
     return {r[0]: tuple(r[3:5]) for r in rows}
@@ -747,6 +757,54 @@ def hold_sluices(engine):
     sys.stdout.flush()
 
 
+# --- redrawings ------------------------------------------------------------------------------------------------------
+
+# a plot with a loop round it, one with two edges round it, and the second cut in two
+PLOT = ('1 -1 10 10', '12 1 1 10 10 30 10 30 30 10 30 10 10')
+PAIR = ('1 -1 10 20', '1 -1 30 20', '12 1 2 10 20 20 10 30 20', '12 1 2 10 20 20 30 30 20')
+CUT = (*PAIR, '12 1 2 10 20 30 20')
+WELL, DITCH = ('1 -1 25 25',), ('1 -1 24 25', '1 -1 26 25', '4 2 3 24 25 26 25')
+TANK = ('1 -1 24 24', '12 2 2 24 24 26 24 26 26 24 26 24 24')
+INWARD, OUTWARD = '6 1 10 10 30 10 19 19 10 30 10 10', '6 1 10 10 30 10 40 40 10 30 10 10'
+BACK = '10 10 10 30 30 30 30 10 10 10'
+REDRAWINGS = {
+    'a loop past a well in it': (*PLOT, *WELL, INWARD),
+    'a loop past a ditch in it': (*PLOT, *DITCH, INWARD),
+    'a loop past a tank in it': (*PLOT, *TANK, INWARD),
+    'a loop short of a well in it': (*PLOT, '1 -1 15 15', INWARD),
+    'a loop round a well beside it': (*PLOT, '1 -1 32 32', OUTWARD),
+    'a loop round a ditch beside it': (*PLOT, '1 -1 31 32', '1 -1 32 31', '4 2 3 31 32 32 31', OUTWARD),
+    'a loop with nothing in it, the other way round': (*PLOT, f'6 1 {BACK}'),
+    'a loop with a well in it, the other way round': (*PLOT, *WELL, f'6 1 {BACK}'),
+    'a tank in a plot, the other way round': (*PLOT, *TANK, '6 2 24 24 24 26 26 26 26 24 24 24'),
+    'a loop to the far side of its node': (*PLOT, '6 1 10 10 5 10 5 5 10 5 10 10'),
+    'a loop to the far side of its node, the other way round': (*PLOT, '6 1 10 10 10 5 5 5 5 10 10 10'),
+    'one of two edges past a well between them': (*PAIR, '1 -1 20 25', '6 2 10 20 20 22 30 20'),
+    'one of two edges to the far side of the other': (*PAIR, '6 1 10 20 10 40 30 40 30 20'),
+    'one of two edges to the far side of the other, past a well': (*PAIR, '1 -1 20 35', '6 1 10 20 10 40 30 40 30 20'),
+    'an outer edge of two plots round both': (*CUT, '6 1 10 20 5 20 5 40 35 40 35 20 30 20'),
+    'an outer edge of two plots round both and a well': (*CUT, '1 -1 20 35', '6 1 10 20 5 20 5 40 35 40 35 20 30 20'),
+    'a ditch with one plot on both banks, over a well': (
+        '1 -1 10 10', '1 -1 30 10', '4 1 2 10 10 30 10', '1 -1 20 15', '6 1 10 10 20 20 30 10'),
+    'a stub in a plot, over a well': (*PLOT, '1 -1 20 20', '12 1 2 10 10 20 20', '1 -1 20 15', '6 2 10 10 22 12 20 20'),
+}
+
+
+def hold_redrawings(engine):
+    """Each redrawing on the engine, beside the reference's refusal."""
+    print(f'\n{engine.version}')
+    for name, lines in REDRAWINGS.items():
+        tickets = [tuple(map(int, line.split())) for line in lines]
+        *before, last = reference_says(tickets).splitlines()
+        *drawn, answer = engine.build(tickets)
+        assert all(a.startswith('0 ') for a in before) and all(a.startswith('done') for a in drawn), name
+        refusal = last.split()[0]
+        told = '; '.join(engine.own_check()) or 'nothing wrong'
+        own = f'; its {engine.CHECK}: {told}' if refusal != '0' and answer.startswith('done') else ''
+        print(f'  {refusal:>2}  {name}: {answer}{own}')
+    sys.stdout.flush()
+
+
 def size(word):
     if not word.isdigit() or int(word) < 20:
         raise argparse.ArgumentTypeError('a size is a number of edges, 20 or more')
@@ -759,6 +817,7 @@ def arguments():
     parser.add_argument('--csv', metavar='FILE')
     parser.add_argument('--links', dest='hold', action='store_const', const=hold_links)
     parser.add_argument('--sluices', dest='hold', action='store_const', const=hold_sluices)
+    parser.add_argument('--redrawings', dest='hold', action='store_const', const=hold_redrawings)
     return parser.parse_args()
 
 

@@ -1,5 +1,5 @@
-/* The refusals that the lending program causes (1, 2), full tables and short lists (20), and an old map (21). Nothing
-   lent differs after any of them.
+/* The refusals that the lending program causes (1, 2), full tables and short lists (20), an old map (21), and a plot
+   redrawn so that its well would lie outside (22). Nothing lent differs after any of them.
 
        rt staticlib solgwid && cc -Iinclude examples/refusals.c target/staticlib/libsolgwid.a -o refusals */
 #include <stdio.h>
@@ -34,6 +34,14 @@ static void print_refusal(const char *cause, uint64_t refusal) {
     draw_plot();
 }
 
+/* The plot redrawn with one corner cut off, once that corner has a well. */
+static void redraw_past_well(const char *cause) {
+    const solgwid_point smaller[] = {{0, 0}, {10, 0}, {3, 3}, {0, 10}, {0, 0}};
+    solgwid_add_iso_node(&lent.map, 1, 8, 8, NULL);
+    memcpy(&before, &lent, sizeof lent);
+    print_refusal(cause, solgwid_change_edge_geom(&lent.map, 1, smaller, 5));
+}
+
 static void try_well(const char *cause) {
     memcpy(&before, &lent, sizeof lent);
     print_refusal(cause, solgwid_add_iso_node(&lent.map, -1, 5, 5, &lent.value));
@@ -56,5 +64,6 @@ int main(void) {
     print_refusal("a short list", solgwid_map_edges_of_face(&lent.map, 1, lent.list, 1, &lent.value));
     lent.map.head.next_node = SOLGWID_LAST_NUMBER + 1;
     try_well("the last number given");
+    redraw_past_well("a well left outside");
     return 0;
 }

@@ -36,7 +36,7 @@
 extern "C" {
 #endif
 
-#define SOLGWID_VERSION 11
+#define SOLGWID_VERSION 13
 
 /* ---- limits and widths */
 
@@ -123,7 +123,7 @@ typedef enum solgwid_refusal {
     SOLGWID_DONE = 0,
     SOLGWID_NOT_WHOLE = 1,              /* 1 and 2: the lending program */
     SOLGWID_NOT_IN_FORM = 2,
-    SOLGWID_BAD_TICKET = 3,             /* 3 to 19: the person at the screen */
+    SOLGWID_BAD_TICKET = 3,             /* 3 to 19 and 22: the person at the screen */
     SOLGWID_MISSING_ROW = 4,
     SOLGWID_OUT_OF_RANGE = 5,
     SOLGWID_REDUNDANT_POINT = 6,
@@ -141,7 +141,8 @@ typedef enum solgwid_refusal {
     SOLGWID_TOO_MANY_POINTS = 18,
     SOLGWID_ORDER_CHANGES = 19,
     SOLGWID_NO_ROOM = 20,               /* 20: tables or list too small; 21: the map's age */
-    SOLGWID_NUMBERS_USED_UP = 21
+    SOLGWID_NUMBERS_USED_UP = 21,
+    SOLGWID_SIDES_CHANGE = 22           /* after 19 and before 20 where a ticket is looked at */
 } solgwid_refusal;
 
 /* A refusal as a sentence. */
@@ -171,6 +172,7 @@ static inline const char *solgwid_refusal_text(uint64_t refusal) {
     case SOLGWID_ORDER_CHANGES: return "the order of the edges about an end would change";
     case SOLGWID_NO_ROOM: return "the rows after the edit, or the list, would not fit";
     case SOLGWID_NUMBERS_USED_UP: return "a number above 999,999 would be needed";
+    case SOLGWID_SIDES_CHANGE: return "an isolated node or another piece would change sides, or a face turn inside out";
     default: return "unknown refusal";
     }
 }
@@ -284,7 +286,8 @@ static inline solgwid_refusal solgwid_remove_iso_edge(solgwid_map *map, int64_t 
     return solgwid_map_ticket(map, numbers, 2, NULL);
 }
 
-/* Links and faces stay: redrawn past a well, the well's row names a plot that it no longer lies in. */
+/* Links and faces stay, so a curve that would leave a well or another piece in another face, or turn a face inside
+   out, is refusal 22. */
 static inline solgwid_refusal solgwid_change_edge_geom(solgwid_map *map, int64_t edge,
                                                        const solgwid_point *points, size_t point_count) {
     int64_t first[] = {SOLGWID_CHANGE_EDGE_GEOM, edge};

@@ -6,7 +6,7 @@
 use std::fmt;
 
 /// The landing (docs/LANDINGS.md). It rises with each landing that changes what a call takes or does.
-pub const VERSION: u32 = 11;
+pub const VERSION: u32 = 13;
 
 /// Rows of a table, at most.
 pub const MAX_NODES: usize = 1000;
@@ -73,12 +73,13 @@ pub enum Refusal {
     OrderChanges = 19,
     NoRoom = 20,
     NumbersUsedUp = 21,
+    SidesChange = 22,
     /// A number that this file does not name: it belongs to another version of the library.
     Unknown = u64::MAX,
 }
 
 /// The refusals from 1 on, with their texts.
-const REFUSALS: [(Refusal, &str); 21] = [
+const REFUSALS: [(Refusal, &str); 22] = [
     (Refusal::NotWhole, "a table is not whole rows or exceeds a limit, or the face table is empty"),
     (Refusal::NotInForm, "the tables and the head are not in form"),
     (Refusal::BadTicket, "the kind is unknown, or its count of numbers is wrong"),
@@ -100,6 +101,7 @@ const REFUSALS: [(Refusal, &str); 21] = [
     (Refusal::OrderChanges, "the order of the edges about an end would change"),
     (Refusal::NoRoom, "the rows after the edit, or the list, would not fit"),
     (Refusal::NumbersUsedUp, "a number above 999,999 would be needed"),
+    (Refusal::SidesChange, "an isolated node or another piece would change sides, or a face turn inside out"),
 ];
 
 /// The table's row for a number; none for 0 and for numbers that it does not name.
@@ -244,7 +246,8 @@ impl Map {
         self.ticket(&[5, edge]).map(drop)
     }
 
-    /// Links and faces stay: redrawn past a well, the well's row names a plot that it no longer lies in.
+    /// Links and faces stay, so a curve that would leave a well or another piece in another face, or turn a face inside
+    /// out, is turned down: `SidesChange`.
     pub fn change_edge_geom(&mut self, edge: i64, curve: &[(i64, i64)]) -> Result<(), Refusal> {
         self.ticket(&with_curve(&[6, edge], curve)).map(drop)
     }

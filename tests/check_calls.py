@@ -18,7 +18,7 @@ import sys
 from dataclasses import astuple
 
 from comparison import counted, seeds, tally
-from repository import ROOT, static_library     # finds the reference
+from repository import LEVEL, ROOT, static_library     # finds the reference
 
 import compare
 import plotmap as pm
@@ -28,6 +28,7 @@ import ticket as tk
 
 LEAST, MOST = -2 ** 63, 2 ** 63 - 1
 FUNCTIONS = ('ticket', 'edges_of_face', 'run')
+WIDTHS = pm.NODE_WIDTH, pm.EDGE_WIDTH, pm.face_width(LEVEL)
 
 
 def library():
@@ -66,14 +67,14 @@ class Lent:
 
 def listed(t, h):
     """Tables and head as lists."""
-    return [list(x) for x in astuple(t)], list(pm.head_numbers(h, 0))
+    return [list(x) for x in astuple(t)], list(pm.head_numbers(h, LEVEL))
 
 
 def ticket_differs(lib, t, h, ticket):
     """Whether the call differs, and the reference's refusal."""
     lent, value = Lent(*listed(t, h)), ctypes.c_int64(99)
     refusal = lib.solgwid_ticket(*lent.words(), *slice_of(cells(ticket), len(ticket)), ctypes.byref(value))
-    *after, r, v = pm.run(t, h, ticket)
+    *after, r, v = pm.run(t, h, ticket, LEVEL)
     return (*lent.now(), refusal, value.value) != (*listed(*after), r, v), r
 
 
@@ -83,7 +84,7 @@ def list_differs(lib, t, h, face, length):
     space = cells(before)
     refusal = lib.solgwid_edges_of_face(*lent.words(), ctypes.c_int64(face), *slice_of(space, length),
                                         ctypes.byref(value))
-    after, r, v = pm.list_edges_of_face(t, h, face, before)
+    after, r, v = pm.list_edges_of_face(t, h, face, before, LEVEL)
     return (*lent.now(), tuple(space)[:length], refusal, value.value) != (*listed(t, h), after, r, v), r
 
 
@@ -93,7 +94,7 @@ def fits(t, h, numbers):
 
 def calls(lib, seed):
     """Whole calls, also by what they answer: T a ticket, L a list of a face's edges."""
-    for text in itertools.chain.from_iterable(raw_gen.calls(1, s) for s in seeds(seed)):
+    for text in itertools.chain.from_iterable(raw_gen.calls(1, s, LEVEL) for s in seeds(seed)):
         t, h, letter, numbers = raw.parse(text)
         if fits(t, h, numbers):
             differs, r = list_differs(lib, t, h, *numbers) if letter == 'L' else ticket_differs(lib, t, h, numbers)
@@ -102,10 +103,10 @@ def calls(lib, seed):
 
 def run_expected(sizes, tickets):
     """Tables, head and answers after a list of tickets, by the reference."""
-    t, h = tk.blank(sizes, 0)
+    t, h = tk.blank(sizes, LEVEL)
     answers = []
     for k in tickets:
-        t, h, r, v = pm.run(t, h, k)
+        t, h, r, v = pm.run(t, h, k, LEVEL)
         answers.append((r, v))
     return *listed(t, h), answers
 
@@ -113,7 +114,7 @@ def run_expected(sizes, tickets):
 def list_in_one_call(lib, rng, tickets):
     """Whether a whole list in one call differs, in tables of random sizes that hold anything."""
     sizes = tuple(rng.choice([1, 3, 8, 40, 200]) for _ in range(3))
-    lent = Lent([[rng.randint(-5, 5) for _ in range(n * w)] for n, w in zip(sizes, (4, 32, 1))],
+    lent = Lent([[rng.randint(-5, 5) for _ in range(n * w)] for n, w in zip(sizes, WIDTHS)],
                 [rng.randint(-9, 9) for _ in range(6)])
     numbers, lengths = [n for t in tickets for n in t], [len(t) for t in tickets]
     spare = rng.randint(0, 2)
@@ -130,7 +131,7 @@ def list_in_one_call(lib, rng, tickets):
 def lists(lib, seed):
     for s in seeds(seed):
         rng = random.Random(s)
-        lines = compare.make(s, rng.randint(0, 60))
+        lines = compare.make(s, rng.randint(0, 60), level=LEVEL)
         differs = list_in_one_call(lib, rng, [tuple(map(int, x.split())) for x in lines])
         yield {'lists in one call': 1}, ['in one call: ' + '; '.join(lines)] * differs
 

@@ -4,10 +4,11 @@
   check_limits.py [CALLS] [--seed S]
 
 Needs target/staticlib/libsolgwid.a (`rt staticlib solgwid`) and a C compiler. The library grows a map in tables at the
-limits: plots in a grid, drawn in random order, wells in some maps, and plots divided until no face is left. A map of
-1,000 nodes and no wells has 1,998 edges then, the most that tickets can draw. Every call on it is compared whole; the
-reference takes some seconds for each, with an index for its lookups. What is carried out stays, so that each call meets
-another map.
+limits: plots in a grid, drawn in random order, wells, ditches apart and tanks in some maps, and plots divided until no
+face is left. A map of 1,000 nodes in one piece has 1,998 edges then, the most that tickets can draw. Every call on it
+is compared whole; the reference takes some seconds for each, with an index for its lookups. What is carried out stays,
+so that each call meets another map. Sides of plots are redrawn past what lies beside them or short of it, and outer
+sides round the whole sheet, which turns it inside out.
 """
 
 import contextlib
@@ -15,15 +16,19 @@ import ctypes
 import random
 import sys
 
-from check_calls import Lent, cells, library, list_differs, slice_of, ticket_differs
+from check_calls import WIDTHS, Lent, cells, library, list_differs, slice_of, ticket_differs
 from comparison import command, seeds
 
 import plotmap as pm
 
-SIDE, HIGH = 10, 40                 # of a plot; nodes from bottom to top
+SIDE, WIDE, HIGH = 10, 25, 40       # of a plot; nodes from left to right, from bottom to top
+ROOM = pm.MAX_NODES, pm.MAX_EDGES, pm.MAX_FACES
 CALLS_A_MAP = 40
-NO_ROOM = 20
-COUNTED = ('calls at the limits', 'maps', 'divisions', 'removals', 'lists of edges', 'carried out')
+NO_ROOM, CHANGES_SIDES = 20, 22
+# what lies in the left part of a plot, which no boundary across it reaches: a well, a ditch, a tank
+WELL, DITCH, TANK = [(3, 5)], [(2, 4), (2, 6)], [(3, 5), (2, 6), (2, 4), (3, 5)]
+COUNTED = ('calls at the limits', 'maps', 'divisions', 'removals', 'redrawings', 'lists of edges', 'carried out',
+           'turned down with 22')
 
 
 @contextlib.contextmanager
@@ -51,52 +56,90 @@ def carry_out(lib, lent, ticket):
 
 
 class Sheet:
-    """A map grown by the library: plots, wells or none, and boundaries across plots."""
+    """A map grown by the library: plots, what lies in some of them, and boundaries across plots."""
 
     def __init__(self, lib, rng):
-        self.lib, self.rng, self.wide = lib, rng, rng.choice((24, 25))
-        self.lent = Lent([[0] * 4000, [0] * 64000, [0] * 1000], [0] * 6)
+        self.lib, self.rng = lib, rng
+        self.lent = Lent([[0] * (n * w) for n, w in zip(ROOM, WIDTHS)], [0] * 6)
         lib.solgwid_empty_map(*self.lent.words())
-        corners = [(x, y) for x in range(self.wide) for y in range(HIGH)]
-        self.node = {c: carry_out(lib, self.lent, (1, -1, c[0] * SIDE, c[1] * SIDE))[1] for c in corners}
-        self.plots = [(x, y) for x in range(self.wide - 1) for y in range(HIGH - 1)]
+        corners = [(x, y) for x in range(WIDE) for y in range(HIGH)]
+        corners = rng.sample(corners, len(corners) - rng.choice((0, 4, 40)))
+        self.node = {c: self.put(1, -1, *at(c)) for c in corners}
+        around = lambda x, y: ((x, y), (x + 1, y), (x + 1, y + 1), (x, y + 1))
+        self.plots = [c for c in corners if all(d in self.node for d in around(*c))]
         self.sides = [(c, d) for c in corners for d in ((c[0] + 1, c[1]), (c[0], c[1] + 1)) if d in self.node]
         for side in rng.sample(self.sides, len(self.sides)):
-            carry_out(lib, self.lent, self.drawn(*side))
-        for x, y in rng.sample(self.plots, 1000 - len(corners)):
-            carry_out(lib, self.lent, (1, -1, x * SIDE + 3, y * SIDE + 5))
+            self.put(*self.drawn(*side))
+        self.furnish()
         while carry_out(lib, self.lent, self.boundary())[0] != NO_ROOM:
             pass
 
+    def put(self, *ticket):
+        """The value of a ticket that is carried out."""
+        refusal, value = carry_out(self.lib, self.lent, ticket)
+        assert refusal == 0, (ticket, refusal)
+        return value
+
+    def furnish(self):
+        """Wells, ditches and tanks, as many as nodes are left for."""
+        self.furnished = []
+        while self.lent.head[0] < pm.MAX_NODES:
+            c, thing = self.rng.choice(self.plots), self.rng.choice((WELL, DITCH, TANK))
+            if c in self.furnished or thing is DITCH and self.lent.head[0] + 2 > pm.MAX_NODES:
+                continue
+            self.furnished.append(c)
+            points = [at(c, p) for p in thing]
+            ends = {p: self.put(1, -1, *p) for p in dict.fromkeys((points[0], points[-1]))}
+            if thing is not WELL:
+                self.put(12, ends[points[0]], ends[points[-1]], *(v for p in points for v in p))
+
     def drawn(self, a, b):
         """The ticket that draws the edge between two corners."""
-        kind = self.rng.choice((11, 12))
-        return kind, self.node[a], self.node[b], *(SIDE * c for c in (*a, *b))
+        return self.rng.choice((11, 12)), self.node[a], self.node[b], *at(a), *at(b)
 
     def boundary(self):
         """One that divides a plot across."""
         x, y = self.rng.choice(self.plots)
         return self.drawn(*self.rng.choice((((x, y), (x + 1, y + 1)), ((x + 1, y), (x, y + 1)))))
 
+    def redrawn(self, t, h):
+        """The left side of a plot past what lies in the plot or short of it, or a side at the bottom of the sheet round
+        all of it; where that edge is gone, one that is missing."""
+        x, y = c = self.rng.choice(self.furnished or self.plots)
+        d, way = (x, y + 1), [at(c, (self.rng.choice((4, 4, 1, -4)), 5))]
+        if self.rng.random() < (0.2 if self.furnished else 0.5):
+            c, d = self.rng.choice([s for s in self.sides if s[0][1] == s[1][1] == 0])
+            way = [(0, 0), (0, SIDE * (HIGH + 1)), (SIDE * (WIDE + 1), SIDE * (HIGH + 1)), (SIDE * (WIDE + 1), 0)]
+        ends = self.node[c], self.node[d]
+        e = next((r[0] for r in pm.rows(t.edges, pm.EDGE_WIDTH)[:h.edge_count] if r[1:3] == ends), h.next_edge)
+        return 6, e, *(v for p in (at(c), *way, at(d)) for v in p)
+
     def now(self):
         tables, head = self.lent.now()
         return pm.Tables(*map(tuple, tables)), pm.Head(*head)
 
 
+def at(corner, off=(0, 0)):
+    """The place of a corner, or of what is so far off it."""
+    return tuple(SIDE * (v + 1) + d for v, d in zip(corner, off))
+
+
 def one_call(sheet):
-    """What was compared and whether it differs: the edges of a face, a division or a removal."""
+    """What was compared and whether it differs: the edges of a face, a removal, a redrawing or a division."""
     t, h = sheet.now()
     rng, draw = sheet.rng, sheet.rng.random()
-    if draw < 0.2:
-        face = rng.choice((0, rng.choice(t.faces[:h.face_count])))
+    if draw < 0.15:
+        face = rng.choice((0, t.faces[WIDTHS[2] * rng.randrange(h.face_count)]))
         return {'lists of edges': 1}, list_differs(sheet.lib, t, h, face, 4000)[0], ('edges of face', face)
-    if draw < 0.5:
+    if draw < 0.35:
         name, ticket = 'removals', (rng.choice((13, 14)), t.edges[32 * rng.randrange(h.edge_count)])
+    elif draw < 0.65:
+        name, ticket = 'redrawings', sheet.redrawn(t, h)
     else:
         name, ticket = 'divisions', rng.choice((sheet.boundary, lambda: sheet.drawn(*rng.choice(sheet.sides))))()
     differs, refusal = ticket_differs(sheet.lib, t, h, ticket)
     carry_out(sheet.lib, sheet.lent, ticket)
-    return {name: 1, 'carried out': refusal == 0}, differs, ticket
+    return {name: 1, 'carried out': refusal == 0, 'turned down with 22': refusal == CHANGES_SIDES}, differs, ticket
 
 
 def comparisons(lib, seed):

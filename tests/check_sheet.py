@@ -12,7 +12,7 @@ import itertools
 import sys
 
 from comparison import counted, seeds, tally
-from repository import program     # finds the reference
+from repository import LEVEL, program     # finds the reference
 
 import compare
 import fuzz
@@ -31,16 +31,16 @@ def class_of(lines, at, expected, said):
 
 def shown(sheet, lines, class_):
     """The shortest list that differs, and how."""
-    lines = compare.shortest(sheet, lines, 0, True)
-    _, expected, said = compare.difference(sheet, lines, 0, True)
+    lines = compare.shortest(sheet, lines, LEVEL, True)
+    _, expected, said = compare.difference(sheet, lines, LEVEL, True)
     return '\n  '.join([class_, *lines, 'expected:', *expected, 'said:', *said])
 
 
 def comparisons(seed, mix='all', size=60):
     sheet, classes = program('sheet'), set()
     for s in seeds(seed):
-        lines, found = compare.make(s, size, mix), []
-        differs = compare.difference(sheet, lines, 0, True)
+        lines, found = compare.make(s, size, mix, LEVEL), []
+        differs = compare.difference(sheet, lines, LEVEL, True)
         if differs:
             class_ = class_of(lines, *differs)
             found.append(f'{class_}, again' if class_ in classes else shown(sheet, lines[:differs[0] + 1], class_))

@@ -25,6 +25,7 @@ from repository import ROOT, needed
 
 MAP = 'crates/map/specs/'
 PROOFS = 'crates/map/proofs/'
+EXAMPLES = 'Worked.antt', 'WorkedSides.antt'
 EDITS, REASONS, FORM, TICKET = (MAP + f'{n}.antt' for n in ('Edits', 'Reasons', 'Form', 'Ticket'))
 
 # the statements of the theorem that are told, the four of demand 3 first, and what computes each of the map m in the
@@ -134,6 +135,38 @@ WORKED = {
         'ref = a;\n      other = b;'),
     'face 0 goes': (
         EDITS, 'let goes = isNew how && not (same old 0) in', 'let goes = isNew how in'),
+    '22: the ring on the left alone': (
+        REASONS, '|| ringChanges m m′ ps (ring m (bwd e))', '|| ringChanges m m′ ps (ring m (fwd e))'),
+    '22: the ring on the right alone': (
+        REASONS, 'ringChanges m m′ ps (ring m (fwd e)) ||', 'ringChanges m m′ ps (ring m (bwd e)) ||'),
+    '22: the area does not count': (
+        REASONS, '⊕ isPositive (sgn (ringArea m′ r))', '⊕ isPositive (sgn (ringArea m r))'),
+    '22: area 0 is positive': (
+        REASONS,
+        'isPositive (sgn (ringArea m r)) ⊕ isPositive (sgn (ringArea m′ r))',
+        'isPositive (sgn (negℤ (ringArea m r))) ⊕ isPositive (sgn (negℤ (ringArea m′ r)))',
+        'use lib.IntN.{ℤ, pos, negsuc, natAbs}', 'use lib.IntN.{ℤ, pos, negsuc, natAbs, negℤ}'),
+    '22: isolated nodes do not count': (
+        REASONS, 'isolatedPoints m ++ otherPiecePoints m n', 'otherPiecePoints m n'),
+    '22: other pieces do not count': (
+        REASONS, '++ otherPiecePoints m n', '++ []'),
+    '22: isolated nodes of face 0 do not count': (
+        REASONS, '(keep (λ n. isSome (n .face)) (m .nodes))',
+        '(keep (λ n. not (same (Option·getD (n .face) 0) 0)) (m .nodes))'),
+    '22: other rings of the piece count': (
+        REASONS, 'not (same (pieceOf m (leaves m d)) (pieceOf m n))', 'not (same (leaves m d) n)'),
+    '22: rings by any edge': (
+        REASONS, '(pieceOf m n))) (firsts m))', '(pieceOf m n))) (directed m))',
+        'Darts.{leaves, departures, edgeEnds, way, ring, firsts, pieceOf}',
+        'Darts.{directed, leaves, departures, edgeEnds, way, ring, pieceOf}'),
+    '22: rings by the end node': (
+        REASONS, 'node m (edge m (d .edge) .start) .at', 'node m (edge m (d .edge) .end) .at'),
+    '22: rings by the node that their first member leaves': (
+        REASONS, 'node m (edge m (d .edge) .start) .at', 'node m (leaves m d) .at'),
+    '22 before 19': (
+        REASONS,
+        '(19, orderChanges m (natAbs e) c)\n    ∷ (22, sidesChange m (natAbs e) c)',
+        '(22, sidesChange m (natAbs e) c)\n    ∷ (19, orderChanges m (natAbs e) c)'),
     'value of kind 4': (
         TICKET, '(addIsoEdge (natAbs u) (natAbs v) (curveOf c) m, pos (m .next .edges))',
         '(addIsoEdge (natAbs u) (natAbs v) (curveOf c) m, pos (m .next .nodes))'),
@@ -244,9 +277,9 @@ def slipped(copy, path, *words):
 
 def grown(copy, name):
     path, old, new, statement, tickets = GROWN[name]
-    left_out = {n: (copy / PROOFS / n).read_text() for n in ('Sheet.antt', 'Worked.antt')}
+    left_out = {n: (copy / PROOFS / n).read_text() for n in ('Sheet.antt', *EXAMPLES)}
     for n, text in left_out.items():
-        (copy / PROOFS / n).write_text(re.split(r'\npub (?:P|Worked) : ', text)[0] + '\n')
+        (copy / PROOFS / n).write_text(re.split(r'\npub (?:P|Worked|WorkedSides) : ', text)[0] + '\n')
     held = witness(copy, statement, tickets)
     before = slipped(copy, path, old, new)
     false = held and not witness(copy, statement, tickets)
@@ -263,8 +296,9 @@ def worked(copy, name):
     before = slipped(copy, *WORKED[name])
     _, errors = check(copy, 'map')
     (copy / WORKED[name][0]).write_text(before)
-    found = [e for e in errors if 'Worked.antt' in e]
-    other = sorted({e.split(':')[0].split('/')[-1] for e in errors if 'Worked.antt' not in e})
+    files = [e.split(':')[0].split('/')[-1] for e in errors]
+    found = [f for f in files if f in EXAMPLES]
+    other = sorted({f for f in files if f not in EXAMPLES})
     print(f'{name}: {"refused" if found else "NOT REFUSED"}{"; beside it " * bool(other)}{" ".join(other)}', flush=True)
     return bool(found)
 

@@ -19,6 +19,7 @@ from dataclasses import astuple, replace
 
 from comparison import command, seeds
 from check_calls import Lent, cells, library, listed, slice_of     # finds the reference
+from repository import LEVEL
 
 import check
 import fuzz
@@ -62,7 +63,7 @@ def of_map(rng, m):
     seen, found = Counter({'maps': 1, 'maps with islands': pm.piece_count(m) > 1}), []
     for e in m.edges:
         for at, (x, sizes) in itertools.product(places(rng, e), settings(m)):
-            faults = check.sluice_faults(x, sizes, e.number, at)
+            faults = check.sluice_faults(x, sizes, e.number, at, LEVEL)
             found += [f'{faults} at {at} on {e} of {x}'] * bool(faults)
             healed = faults == []
             seen['cuts healed' if healed else 'splits turned down'] += 1
@@ -75,7 +76,7 @@ def comparisons(lib, seed):
     check.answered = by_library(lib)
     for s in seeds(seed):
         rng = random.Random(s)
-        yield of_map(rng, grown.grow(rng, rng.choice([30, 60, 120]), 0))
+        yield of_map(rng, grown.grow(rng, rng.choice([30, 60, 120]), LEVEL))
 
 
 if __name__ == '__main__':

@@ -14,7 +14,7 @@ import itertools
 import random
 from dataclasses import replace
 
-from repository import ROOT     # finds the reference
+from repository import LEVEL, ROOT     # finds the reference
 
 import fuzz
 import fuzz_tables as ft
@@ -30,11 +30,11 @@ FOUR_TICKETS = pm.Sizes(2, 3, 3)     # the rows that they make
 
 def by_manual():
     """Each face, in a list of four numbers an edge; a list one short; no such face; tables not whole; not in form."""
-    *_, (_, _, t, h) = tk.answers(SQUARE)
-    m = pm.decode(t, h, 0)
-    t, h = pm.encode(m, FOUR_TICKETS, 0)
+    *_, (_, _, t, h) = tk.answers(SQUARE, level=LEVEL)
+    m = pm.decode(t, h, LEVEL)
+    t, h = pm.encode(m, FOUR_TICKETS, LEVEL)
     enough, needed = 4 * len(m.edges), len(pm.edges_of_face(m, 1))
-    spoiled, _ = pm.encode(pm.lead(m, 3, 1), FOUR_TICKETS, 0)
+    spoiled, _ = pm.encode(pm.lead(m, 3, 1), FOUR_TICKETS, LEVEL)
     return [*((t, h, face, enough) for face in m.faces), (t, h, 1, needed - 1), (t, h, 9, enough),
             (replace(t, nodes=t.nodes[:-1]), h, 1, enough), (spoiled, h, 1, enough)]
 
@@ -43,8 +43,8 @@ def grown(rng, grid):
     m, sizes = pm.EMPTY_MAP, pm.Sizes(8, 6, 8)
     for _ in range(rng.randint(2, 30)):
         k = fuzz.make_ticket(rng, m, grid, fuzz.MIXES[rng.choice(['faces', 'even', 'stitch'])])
-        if pm.shape_ok(k) and pm.first_reason(pm.reasons(m, sizes, k)) == 0:
-            m = pm.apply(m, k)[0]
+        if pm.shape_ok(k) and pm.first_reason(pm.reasons(m, sizes, k, LEVEL)) == 0:
+            m = pm.apply(m, k, LEVEL)[0]
     return m
 
 
@@ -58,28 +58,28 @@ def call(rng):
         m = ft.off_law(rng, m)
     sizes = pm.Sizes(min(8, len(m.nodes) + rng.randint(0, 2)), min(6, len(m.edges) + rng.randint(0, 1)),
                      min(8, len(m.faces) + rng.randint(0, 2)))
-    t, h = pm.encode(m, sizes, 0)
+    t, h = pm.encode(m, sizes, LEVEL)
     if how < 0.35:
-        t, h = ft.spoil(rng, t, h, 0)
+        t, h = ft.spoil(rng, t, h, LEVEL)
     return t, h, rng.choice(m.faces * 4 + (-1, m.next_face)), rng.randint(0, LIST)
 
 
 def fits(t, h, face):
     tables = (t.nodes, t.edges, t.faces)
-    numbers = [v for table in tables for v in table] + [*pm.head_numbers(h, 0), face]
+    numbers = [v for table in tables for v in table] + [*pm.head_numbers(h, LEVEL), face]
     return all(len(table) <= room for table, room in zip(tables, ROOM)) and all(abs(v) < 10 ** 7 for v in numbers)
 
 
 def record(t, h, face, length):
     tables = (t.nodes, t.edges, t.faces)
-    numbers = [*map(len, tables), *pm.head_numbers(h, 0), face, length] + [0] * 5
+    numbers = [*map(len, tables), *pm.head_numbers(h, LEVEL), face, length] + [0] * 5
     for table, room in zip(tables, ROOM):
         numbers += [*table] + [0] * (room - len(table))
     return ''.join(f'{"-" if v < 0 else "+"}{abs(v):07d}' for v in numbers) + '\n'
 
 
 def answer(t, h, face, length):
-    after, r, v = pm.list_edges_of_face(t, h, face, (77,) * length)
+    after, r, v = pm.list_edges_of_face(t, h, face, (77,) * length, LEVEL)
     return ' '.join(map(str, (r, v, *after))) + ' \n'
 
 

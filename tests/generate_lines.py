@@ -9,7 +9,7 @@ lines among them. For `ticket` each table is filled and asked for one row more; 
 islands is split and healed at once, and edges and faces are filled. The last line is one byte without a line end.
 
 Needs nothing that is built. Fails where the manual's answers and rows are not the reference's, a kind is not carried
-out, a reason of a kind never answers, or one of 3 to 20 is missing.
+out, a reason of a kind never answers (20 and 21 left aside), or 3 or 20 is missing.
 """
 
 import argparse
@@ -18,7 +18,7 @@ import sys
 from collections import Counter
 
 import manual
-from repository import ROOT     # finds the reference
+from repository import LEVEL, ROOT     # finds the reference
 
 import check
 import fuzz
@@ -59,8 +59,8 @@ class Sheet:
 
     def put(self, ticket, line=None):
         self.lines.append(line or spelled(self.rng, ticket))
-        if pm.shape_ok(ticket) and pm.first_reason(pm.reasons(self.map, ROOM, ticket)) == 0:
-            self.map = pm.apply(self.map, ticket)[0]
+        if pm.shape_ok(ticket) and pm.first_reason(pm.reasons(self.map, ROOM, ticket, LEVEL)) == 0:
+            self.map = pm.apply(self.map, ticket, LEVEL)[0]
 
     def clear(self):
         for e in self.rng.sample(self.map.edges, len(self.map.edges)):
@@ -96,7 +96,7 @@ class Sheet:
                 between = [q for _ in range(40) if (q := fuzz.along(self.rng, e)) not in e.points][:1]
                 number = e.number
                 for at in between + list(e.points[1:2] if len(e.points) > 2 else []):
-                    assert check.sluice_faults(self.map, ROOM, number, at) == []
+                    assert check.sluice_faults(self.map, ROOM, number, at, LEVEL) == []
                     new = self.map.next_edge
                     self.put((8 if mod else 7, number, *at))
                     self.put((10, number, new) if mod else (9, new, new + 1))
@@ -203,16 +203,16 @@ def sheet_lines(rng):
 
 
 def after(lines):
-    for r, v, t, h in tk.answers(lines):
+    for r, v, t, h in tk.answers(lines, level=LEVEL):
         pass
-    return pm.decode(t, h, 0)
+    return pm.decode(t, h, LEVEL)
 
 
 def store(name, lines, rows):
     """Writes stdin, with no line end after the last line, and stdout; the answers by kind."""
     folder, out, said = ROOT / 'crates' / name, [], []
-    for line, (r, v, t, h) in zip(lines, tk.answers(lines)):
-        out += [f'{r} {v}'] + (tk.dump_lines(t, h, 0) if rows else [])
+    for line, (r, v, t, h) in zip(lines, tk.answers(lines, level=LEVEL)):
+        out += [f'{r} {v}'] + (tk.dump_lines(t, h, LEVEL) if rows else [])
         numbers = tk.read_ticket(line)
         said.append((numbers[0] if numbers and numbers[0] in NAMES else 0, r))
     (folder / 'stdin').write_bytes(b'\n'.join(lines))
@@ -226,19 +226,19 @@ def told(name, said):
     print(f'{name}: {len(said)} lines, {by_refusal[0]} carried out, {len(said) - by_refusal[0]} refused')
     missing = []
     for kind, shape in SHAPES.items():
-        refused = {r: by_kind[kind, r] for r in range(1, 22) if by_kind[kind, r]}
+        refused = {r: by_kind[kind, r] for r in sorted({r for _, r in by_kind}) if r and by_kind[kind, r]}
         print(f'  kind {kind}: {by_kind[kind, 0]} carried out, {sum(refused.values())} refused', refused)
-        wanted = 0, *(r for r, _ in pm.reasons(pm.EMPTY_MAP, ROOM, shape) if r < 20)
+        wanted = 0, *(r for r, _ in pm.reasons(pm.EMPTY_MAP, ROOM, shape, LEVEL) if r not in (20, 21))
         missing += [f'kind {kind} answered {r}' for r in wanted if not by_kind[kind, r]]
     print('  by refusal:', dict(sorted(by_refusal.items())))
-    return missing + [f'refusal {r}' for r in range(3, 21) if not by_refusal[r]]
+    return missing + [f'refusal {r}' for r in (3, 20) if not by_refusal[r]]
 
 
 def hold_manual():
     """Ends where an answer or a row of the manual is not the reference's."""
     examples = manual.examples()
-    for e, (r, v, t, h) in zip(examples, tk.answers([e.ticket.encode() for e in examples])):
-        for fault in manual.faults(e, f'{r} {v}', tk.dump_lines(t, h, 0)):
+    for e, (r, v, t, h) in zip(examples, tk.answers([e.ticket.encode() for e in examples], level=LEVEL)):
+        for fault in manual.faults(e, f'{r} {v}', tk.dump_lines(t, h, LEVEL)):
             sys.exit(fault)
 
 

@@ -1,7 +1,7 @@
 #!/usr/bin/env python3
 """Writes the pictures under docs/ from lists of tickets; what they show is worked out by the reference.
 
-  generate_pictures.py [NAME ...]    of directions, edge, links, meadow, rings, square; all where none is named
+  generate_pictures.py [NAME ...]    of directions, edge, links, meadow, rings, sides, square; all where none is named
 """
 
 import cmath
@@ -10,7 +10,7 @@ import math
 import sys
 import textwrap
 
-from repository import ROOT     # finds the reference
+from repository import LEVEL, ROOT     # finds the reference
 
 import plotmap as pm
 import ticket as tk
@@ -120,10 +120,11 @@ class Page:
         back, wide = at - way * size, left_of(way) * size * 0.45
         self.path(f'M{spot(at)}L{spot(back + wide)}L{spot(back - wide)}Z', style, more)
 
-    def save(self, name):
+    def save(self, name, style=''):
         width, height = self.size
         head = (f'<svg xmlns="http://www.w3.org/2000/svg" viewBox="0 0 {width} {height}" width="{width}" '
-                f'height="{height}">\n<style>{STYLE}</style>\n<rect width="{width}" height="{height}" fill="#fff"/>\n')
+                f'height="{height}">\n<style>{STYLE}{style}</style>\n'
+                f'<rect width="{width}" height="{height}" fill="#fff"/>\n')
         (ROOT / 'docs' / f'{name}.svg').write_text(head + '\n'.join(self.parts) + '\n</svg>\n')
 
 
@@ -166,8 +167,8 @@ def room(p, segments):
 
 def grown(tickets):
     """The map after the tickets, and the answer to the last."""
-    *_, (refusal, value, tables, head) = tk.answers(t.encode() for t in tickets)
-    return pm.decode(tables, head, 0), (refusal, value)
+    *_, (refusal, value, tables, head) = tk.answers((t.encode() for t in tickets), level=LEVEL)
+    return pm.decode(tables, head, LEVEL), (refusal, value)
 
 
 class View:
@@ -241,13 +242,17 @@ def draw_faces(page, view):
         page.area([p for d in ring for p in view.course(d)[:-1]], FACE_FILLS[(face - 1) % len(FACE_FILLS)])
 
 
+def draw_edge(page, view, e, numbers=True, tip=10, style='edge'):
+    page.line(view.course(e), style)
+    a, b = view.segment(e)
+    page.tip((a + b) / 2 + unit(b - a) * tip / 2, unit(b - a), tip, 'edge-tip')
+    if numbers:
+        page.label(view.edge_label(e), e, 'edge-number')
+
+
 def draw_edges(page, view, numbers=True, tip=10):
     for e in view.m.edges:
-        page.line(view.course(e.number), 'edge')
-        a, b = view.segment(e.number)
-        page.tip((a + b) / 2 + unit(b - a) * tip / 2, unit(b - a), tip, 'edge-tip')
-        if numbers:
-            page.label(view.edge_label(e.number), e.number, 'edge-number')
+        draw_edge(page, view, e.number, numbers, tip)
 
 
 def draw_nodes(page, view, radius=4.5):
@@ -581,7 +586,73 @@ def rings():
     page.save('rings')
 
 
-PICTURES = {'directions': directions, 'edge': edge, 'links': links, 'meadow': meadow, 'rings': rings, 'square': square}
+# --- docs/sides.svg --------------------------------------------------------------------------------------------------
+
+PLOT = ['1 -1 0 4', '1 -1 9 4', '12 1 2 0 4 2 2 7 2 9 4', '12 1 2 0 4 0 9 9 9 9 4']      # edge 2 is redrawn
+WELL_AND_TANK = ['1 -1 2 6', '1 -1 6 6', '12 4 4 6 6 8 6 8 8 6 8 6 6']
+SIDES = [
+    (PLOT + WELL_AND_TANK, '6 2 0 4 1 7 4 9 9 9 9 4', 'short of the well'),
+    (PLOT + WELL_AND_TANK, '6 2 0 4 4 4 4 9 9 9 9 4', 'past the well'),
+    (PLOT + WELL_AND_TANK, '6 2 0 4 0 9 4 9 4 4 9 4', 'past the tank, an island'),
+    (PLOT, '6 2 0 4 0 0 9 0 9 4', 'past edge 1: the plot inside out'),
+]
+SIDES_NAMES = {3: ((2, 5.1), 'well'), 4: ((7, 7), 'tank')}
+SIDES_WIDTH = 232
+SIDES_STYLE = """.old { fill: none; stroke: #8a8a8a; stroke-width: 1.2 }
+.redrawn { fill: none; stroke: #1f4e79; stroke-width: 4; stroke-linejoin: round }
+"""
+
+
+def mark_changes(page, view, e, drawn):
+    """The nodes that the ring of e would take in or leave out by the curve as it is drawn."""
+    ring = pm.ring(view.m, e)
+    own = pm.piece(view.m, pm.leaves(view.m, e))
+    for n in view.m.nodes:
+        place = pm.place(view.m, n.number)
+        if n.number not in own and pm.encloses(view.m, ring, place) != pm.encloses(drawn, ring, place):
+            page.disc(view.node(n.number), 15, 'mark')
+
+
+def sides_panel(page, at, tickets, ticket, words):
+    """Filled are the plots after the ticket; the bold line is the curve that it gives, whatever the answer."""
+    before, _ = grown(tickets)
+    after, answer = grown([*tickets, ticket])
+    _, e, *numbers = map(int, ticket.split())
+    drawn = pm.with_curve(before, e, tuple(zip(numbers[::2], numbers[1::2])))
+    origin = at + complex(SIDES_WIDTH / 2 - 72, 170)
+    old, new = View(before, origin, 16), View(drawn, origin, 16)
+    page.box(at + 4 + 4j, SIDES_WIDTH - 8, 190)
+    draw_faces(page, View(after, origin, 16))
+    mark_changes(page, old, e, drawn)
+    page.line(old.course(e), 'old')
+    for row in before.edges:
+        if row.number != e:
+            draw_edge(page, new, row.number)
+    draw_edge(page, new, e, tip=14, style='redrawn')
+    draw_nodes(page, old)
+    for n in before.nodes:
+        if n.number in SIDES_NAMES:
+            place, name = SIDES_NAMES[n.number]
+            page.label(old.at(*place), name, 'small')
+    ticket_line(page, at + complex(SIDES_WIDTH / 2, 213), ticket, answer)
+    page.text(at + complex(SIDES_WIDTH / 2, 232), words, 'note')
+
+
+def sides():
+    page = Page(len(SIDES) * SIDES_WIDTH, 266)
+    for i, panel in enumerate(SIDES):
+        sides_panel(page, i * SIDES_WIDTH, *panel)
+    page.line([12 + 252j, 52 + 252j], 'old')
+    page.text(60 + 256.5j, 'edge 2 as it was', 'note start')
+    page.line([186 + 252j, 226 + 252j], 'redrawn')
+    page.text(234 + 256.5j, 'edge 2 as the ticket draws it', 'note start')
+    page.disc(452 + 252j, 7, 'mark')
+    page.text(466 + 256.5j, 'would change sides', 'note start')
+    page.save('sides', SIDES_STYLE)
+
+
+PICTURES = {'directions': directions, 'edge': edge, 'links': links, 'meadow': meadow, 'rings': rings, 'sides': sides,
+            'square': square}
 
 
 def main(names):

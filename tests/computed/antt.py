@@ -2,6 +2,8 @@
 
 import plotmap as pm
 
+from repository import LEVEL
+
 HEADER = """use mathlib.Core.Path.{_≡_, refl}
 use mathlib.Core.Bool.{Bool, true, false}
 use mathlib.Core.List.{List, [], _∷_}
@@ -41,7 +43,7 @@ def head(numbers, *names):
 def sheet(t, h):
     """The lent tables and head of a map."""
     names = ('nodes', 'edges', 'faces', 'next_node', 'next_edge', 'next_face')
-    return record(nodes=zs(t.nodes), edges=zs(t.edges), faces=zs(t.faces), head=head(pm.head_numbers(h, 0), *names))
+    return record(nodes=zs(t.nodes), edges=zs(t.edges), faces=zs(t.faces), head=head(pm.head_numbers(h, LEVEL), *names))
 
 
 def answer(refusal, value):

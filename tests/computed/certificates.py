@@ -15,6 +15,8 @@ import grown
 import plotmap as pm
 import raw_gen
 
+from repository import LEVEL
+
 from . import antt, lent
 from .scratch import Case, Claim
 
@@ -83,9 +85,9 @@ def places_differ(m):
 
 def readable(t, h):
     """In form, or but for curve ends and the range of coordinates, so that each test can be read."""
-    if not (pm.whole_tables(t, 0) and pm.counts_fit(t, h, 0) and pm.edge_rows_shaped(t, h, 0)):
+    if not (pm.whole_tables(t, LEVEL) and pm.counts_fit(t, h, LEVEL) and pm.edge_rows_shaped(t, h, LEVEL)):
         return False
-    m = pm.decode(t, h, 0)
+    m = pm.decode(t, h, LEVEL)
     points = places(m) + [p for e in m.edges for p in e.points]
     return (pm.numbers_ok(m) and pm.named_rows_exist(m) and pm.named_edges_exist(m) and pm.links_ok(m)
             and not any(pm.equal_neighbours(e.points) for e in m.edges) and pm.departures_differ(m)
@@ -93,9 +95,9 @@ def readable(t, h):
 
 
 def call(t, h):
-    sheet, formed = f'({antt.sheet(t, h)})', pm.whole_tables(t, 0) and pm.in_form(t, h)
+    sheet, formed = f'({antt.sheet(t, h)})', pm.whole_tables(t, LEVEL) and pm.in_form(t, h, LEVEL)
     tests = lawful, curves_clear, places_differ, sum_holds, faces_reached
-    parts = [test(pm.decode(t, h, 0)) for test in tests] if readable(t, h) else []
+    parts = [test(pm.decode(t, h, LEVEL)) for test in tests] if readable(t, h) else []
     good = antt.truth(formed and all(parts))
     claims = [Claim(f'certifies {sheet}', good, 'Bool')]
     if parts:
@@ -174,16 +176,16 @@ WAYS = (node_moved, on_one_point, inside, redrawn, redrawn, unborne, reborne, ra
 
 def some(rng):
     grid = (0, 0, rng.choice([5, 7, 9, 14, 30, pm.MAX_COORDINATE + 1]))
-    m = grown.grow(rng, rng.choice([5, 15, 25, 40]), 0, grid=grid)
+    m = grown.grow(rng, rng.choice([5, 15, 25, 40]), LEVEL, grid=grid)
     if rng.random() < 0.75:
         way = rng.choice(WAYS)
         tries = (way(rng, m, grid) for _ in range(8))
-        m = next((x for x in tries if x != m and pm.in_form(*grown.exact(x, 0))), m)
+        m = next((x for x in tries if x != m and pm.in_form(*grown.exact(x, LEVEL), LEVEL)), m)
     elif rng.random() < 0.2:
         m = beyond(rng, m)
     if rng.random() < 0.1:
         m = replace(m, **{f'next_{row}': rng.choice([999_999, 1_000_000]) for row in ('node', 'edge', 'face')})
-    t, h = grown.exact(m, 0, more=rng.choice([0, 1]))
+    t, h = grown.exact(m, LEVEL, more=rng.choice([0, 1]))
     return lent.spoiled(rng, t, h) if rng.random() < 0.06 else (t, h)
 
 

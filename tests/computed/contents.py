@@ -7,6 +7,8 @@ import contents as ct
 import grown
 import plotmap as pm
 
+from repository import LEVEL
+
 from . import antt, lent
 from .scratch import Case, Claim
 
@@ -18,7 +20,7 @@ REFUSALS = (0, 1, 2, 20, 28)
 
 
 def call(t, h, out):
-    after, r, v = ct.list_contents(t, h, out, 0)
+    after, r, v = ct.list_contents(t, h, out, LEVEL)
     claim = Claim(f'contentsOf ({antt.sheet(t, h)}) ({antt.zs(out)})', antt.written(after, r, v), 'Listed')
     return Case('call', lent.said(lent.tables(t, h), len(out)), (claim,), (('contents', r),))
 
@@ -29,7 +31,7 @@ def by_hand():
     inner = lent.played(*loop, '1 -1 2 2', '12 2 2 2 2 4 2 4 4 2 2')
     flat = replace(pm.with_borne(lent.played(*loop), (1,), 0), faces=(0,))
     maps = (pm.EMPTY_MAP, flat, lent.played(*loop), inner, *(pm.with_borne(inner, (d,), 0) for d in (2, -2)))
-    return [(*grown.exact(m, 0), (77,) * n) for m in maps for n in (0, 20)]
+    return [(*grown.exact(m, LEVEL), (77,) * n) for m in maps for n in (0, 20)]
 
 
 def reborne(rng, m):
@@ -45,7 +47,7 @@ def reborne(rng, m):
 
 
 def some(rng):
-    m = grown.grow(rng, rng.choice([10, 30, 60]), 0, mix=rng.choice(['islands', 'islands', 'islands', 'faces', 'even']))
+    m = grown.grow(rng, rng.choice([10, 30, 60]), LEVEL, mix=rng.choice(['islands'] * 3 + ['faces', 'even']))
     c = rng.random()
     if c < 0.25:
         m = reborne(rng, m)
@@ -53,10 +55,10 @@ def some(rng):
         m = grown.distort(rng, m, (0, 0, 9))
     if 0.15 < c < 0.35:
         m = lent.without_unborne(m)
-    t, h = grown.exact(m, 0, more=rng.choice([0, 1]))
+    t, h = grown.exact(m, LEVEL, more=rng.choice([0, 1]))
     if rng.random() < 0.06:
         t, h = lent.spoiled(rng, t, h)
-    lines = ct.contents(m) if pm.in_form(*grown.exact(m, 0)) else None
+    lines = ct.contents(m) if pm.in_form(*grown.exact(m, LEVEL), LEVEL) else None
     wanted = 3 * len(lines if lines is not None else m.faces)
     return t, h, (77,) * max(0, wanted + rng.choice([0, 0, 1, 5, -1, -3]))
 

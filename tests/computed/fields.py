@@ -7,6 +7,8 @@ import grown
 import plotmap as pm
 import transport as tr
 
+from repository import LEVEL
+
 from . import antt
 from .scratch import Case, Claim
 
@@ -73,7 +75,7 @@ def of_bits(rng):
 
 def of_map(rng):
     """The fields of a whole map, put one behind the other, make its file."""
-    m = grown.grow(rng, rng.choice([0, 5, 12]), 0, replace(pm.EMPTY_MAP, points=rng.choice([6, 12])))
+    m = grown.grow(rng, rng.choice([0, 5, 12]), LEVEL, replace(pm.EMPTY_MAP, points=rng.choice([6, 12])))
     fields = ' ++ '.join(f'bits {w} {int(v)}' for v, w in tr.fields(m))
     return call(f'bytesOf ({fields})', nats(tr.file_of(m)), 'List ℕ')
 

@@ -7,6 +7,8 @@ import grown
 import join as jn
 import plotmap as pm
 
+from repository import LEVEL
+
 from . import antt, lent
 from .scratch import Case, Claim
 
@@ -18,7 +20,7 @@ REFUSALS = (0, 1, 2, 6, 7, 11, 12, 14, 15, 20, 21)     # what kinds 1, 8 and 12 
 
 
 def call(first, second):
-    t, h, r, v = jn.join(*first, *second, 0)
+    t, h, r, v = jn.join(*first, *second, LEVEL)
     left = f'joinedSheet ({antt.sheet(*first)}) ({antt.sheet(*second)})'
     return Case('call', lent.said(lent.tables(*first), lent.tables(*second)),
                 (Claim(left, antt.outcome(antt.sheet(t, h), r, v), 'Outcome'),), (('joined', r),))
@@ -40,9 +42,10 @@ def by_hand():
     pairs = ((square, beside), (beside, square), (line, longer), (longer, longer), (pm.EMPTY_MAP, longer),
              (line, beyond), (beyond, line), (beyond, beyond), (back, turn), (back, more), (halves, line),
              (line, halves), (square, twice), (twice, square))
-    t, h = grown.exact(square, 0)
+    t, h = grown.exact(square, LEVEL)
     bad = ((t, replace(h, face_count=0)), (replace(t, faces=()), h), (t, h))       # the first is looked at first
-    return [(grown.exact(a, 0, more=5), grown.exact(b, 0)) for a, b in pairs] + [(a, b) for a in bad for b in bad]
+    good = [(grown.exact(a, LEVEL, more=5), grown.exact(b, LEVEL)) for a, b in pairs]
+    return good + [(a, b) for a in bad for b in bad]
 
 
 def moved(m, dx, dy):
@@ -57,7 +60,7 @@ def some(rng):
     """Two sheets grown from one, one sheet twice, a sheet and its neighbour; some of them distorted or spoiled."""
     w = rng.choice([5, 7, 9, 14])
     grid, mix = (0, 0, w), rng.choice(['even', 'faces', 'stitch'])
-    more = lambda n, m=pm.EMPTY_MAP: grown.grow(rng, n, 0, m, grid, mix)
+    more = lambda n, m=pm.EMPTY_MAP: grown.grow(rng, n, LEVEL, m, grid, mix)
     base = more(rng.choice([0, 6, 12, 18]))
     a = more(rng.choice([0, 4, 8]), base)
     c = rng.random()
@@ -74,7 +77,7 @@ def some(rng):
     if rng.random() < 0.08:
         a = replace(a, **{f'next_{x}': rng.choice([999_999, 1_000_000]) for x in ('node', 'edge', 'face')})
     free = rng.choice([0, 1, 3, 6, 6, 6])
-    first, second = grown.exact(a, 0, more=free), grown.exact(b, 0, more=rng.choice([0, 1]))
+    first, second = grown.exact(a, LEVEL, more=free), grown.exact(b, LEVEL, more=rng.choice([0, 1]))
     if rng.random() < 0.06:
         first = lent.spoiled(rng, *first)
     if rng.random() < 0.06:

@@ -7,6 +7,8 @@ import grown
 import plotmap as pm
 import ticket as tk
 
+from repository import LEVEL
+
 
 def said(*parts):
     """Runs of numbers and single words in one line."""
@@ -19,13 +21,13 @@ def tables(t, h):
 
 def played(*lines):
     """The map that tickets, one a line, leave."""
-    *_, (_, _, t, h) = tk.answers([l.encode() for l in lines])
-    return pm.decode(t, h, 0)
+    *_, (_, _, t, h) = tk.answers([l.encode() for l in lines], level=LEVEL)
+    return pm.decode(t, h, LEVEL)
 
 
 def spoiled(rng, t, h, most=400):
     """One to three numbers or lengths at will; no table above so many numbers."""
-    t, h = ft.spoil(rng, t, h, 0)
+    t, h = ft.spoil(rng, t, h, LEVEL)
     if rng.random() < 0.2:
         return pm.Tables(t.nodes[:most] + (0,), t.edges[:most], t.faces[:most]), h
     return pm.Tables(*(x[:most] for x in astuple(t))), h
@@ -34,7 +36,7 @@ def spoiled(rng, t, h, most=400):
 def distorted(rng, m, grid):
     """In form, seldom grown; the map itself where no try succeeds."""
     tries = (grown.distort(rng, m, grid) for _ in range(6))
-    return next((x for x in tries if x != m and pm.in_form(*grown.exact(x, 0))), m)
+    return next((x for x in tries if x != m and pm.in_form(*grown.exact(x, LEVEL), LEVEL)), m)
 
 
 def straightened(rng, m):

@@ -7,6 +7,8 @@ import grown
 import mend as md
 import plotmap as pm
 
+from repository import LEVEL
+
 from . import antt, lent
 from .scratch import Case, Claim
 
@@ -17,7 +19,7 @@ REFUSALS = (0, 1, 2, 11, 20, 31)
 
 
 def call(t, h, out):
-    t2, h2, after, r, v = md.mend(t, h, out, 0)
+    t2, h2, after, r, v = md.mend(t, h, out, LEVEL)
     right = antt.record(lent=antt.sheet(t2, h2), list=antt.zs(after), answer=antt.answer(r, v))
     claim = Claim(f'mend ({antt.sheet(t, h)}) ({antt.zs(out)})', right, 'Mended')
     return Case('call', lent.said(lent.tables(t, h), len(out)), (claim,), (('mended', r),))
@@ -58,11 +60,11 @@ def by_hand():
             for e in m.edges for side in ('start', 'end', 'left', 'right')]
     maps += [replace(m, nodes=pm.changed(m.nodes, replace(n, face=9))) for n in m.nodes]
     maps.append(pm.with_curve(m, 1, ((0, 0), (10, 0), (10, 10), (5, 0), (0, 0))))
-    return [(*grown.exact(x, 0), (77,) * 15) for x in (m, *maps)]
+    return [(*grown.exact(x, LEVEL), (77,) * 15) for x in (m, *maps)]
 
 
 def some(rng):
-    m = grown.grow(rng, rng.choice([12, 25, 40]), 0)
+    m = grown.grow(rng, rng.choice([12, 25, 40]), LEVEL)
     c = rng.random()
     if c < 0.25:
         m = grown.distort(rng, m, (0, 0, 9))
@@ -72,7 +74,7 @@ def some(rng):
         m = twin(rng, m)
     if rng.random() < 0.75:
         m = spoilt(rng, m)
-    t, h = grown.exact(m, 0, more=rng.choice([0, 1]))
+    t, h = grown.exact(m, LEVEL, more=rng.choice([0, 1]))
     if rng.random() < 0.06:
         t, h = lent.spoiled(rng, t, h)
     wanted = 5 * len(m.edges)

@@ -6,6 +6,8 @@ from dataclasses import astuple, replace
 import grown
 import networks as nw
 
+from repository import LEVEL
+
 from . import antt, lent as sheets
 from .lent import said
 from .scratch import Case, Claim
@@ -191,7 +193,7 @@ def used():
 
 def some_sheets():
     """Two nodes and two edges, and the same out of form, or not whole."""
-    t, h = grown.exact(sheets.played('1 -1 0 0', '1 -1 9 0', '4 1 2 0 0 9 0', '12 1 2 0 0 5 5 9 0'), 0)
+    t, h = grown.exact(sheets.played('1 -1 0 0', '1 -1 9 0', '4 1 2 0 0 9 0', '12 1 2 0 0 5 5 9 0'), LEVEL)
     return (t, h), (t, replace(h, node_count=1)), (replace(t, faces=()), h)
 
 
@@ -207,10 +209,10 @@ def made(rng):
 # ---- networks made from a map
 
 def from_map(rng):
-    m = grown.grow(rng, rng.choice([0, 8, 20, 30]), 0)
+    m = grown.grow(rng, rng.choice([0, 8, 20, 30]), LEVEL)
     if rng.random() < 0.3:
         m = grown.distort(rng, m, (0, 0, 9))
-    s, sh = grown.exact(m, 0, more=rng.choice([0, 1]))
+    s, sh = grown.exact(m, LEVEL, more=rng.choice([0, 1]))
     if rng.random() < 0.15:
         s, sh = sheets.spoiled(rng, s, sh)
     less = rng.choice([0, 0, 0, 0, 1])
@@ -225,7 +227,7 @@ def from_map(rng):
 
 
 def copied(t, h, s, sh, spatial):
-    t2, h2, r, v = nw.make_from_map(t, h, s, sh, spatial, 0)
+    t2, h2, r, v = nw.make_from_map(t, h, s, sh, spatial, LEVEL)
     left = f'fromMap {antt.truth(spatial)} ({antt.sheet(s, sh)}) ({lent(t, h)})'
     return Case('call', said('from map', spatial, sheets.tables(s, sh), sheets.tables(t, h)),
                 (Claim(left, outcome(t2, h2, r, v), 'Outcome'),), (('from map', r),))

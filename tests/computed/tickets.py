@@ -10,6 +10,8 @@ import raw_gen
 import telling
 import ticket as tk
 
+from repository import LEVEL
+
 from . import antt
 from .scratch import Case, Claim
 
@@ -28,15 +30,15 @@ REFUSALS = ()
 
 def told(t, h):
     """The pieces of the map in these tables, and whether its links obey the law."""
-    m = pm.decode(t, h, 0)
+    m = pm.decode(t, h, LEVEL)
     return Claim(f'told ({antt.sheet(t, h)})', f'({pm.piece_count(m)}, {antt.truth(pm.lawful(m))})', 'ℕ × Bool')
 
 
 def grown(lines, room):
     cap = (room,) * 3
-    t, h = tk.blank(cap, 0)
+    t, h = tk.blank(cap, LEVEL)
     said = []
-    for r, v, t, h in tk.answers([l.encode() for l in lines], cap, 0):
+    for r, v, t, h in tk.answers([l.encode() for l in lines], cap, LEVEL):
         said.append((r, v))
     tickets = [tuple(map(int, l.split())) for l in lines]
     left = f'grow ({antt.record(nodes=room, edges=room, faces=room)}) ({antt.runs(tickets)})'
@@ -54,23 +56,23 @@ def call(text):
     lent = antt.sheet(t, h)
     if letter == 'L':
         out = (77,) * rest[1]
-        after, r, v = pm.list_edges_of_face(t, h, rest[0], out)
+        after, r, v = pm.list_edges_of_face(t, h, rest[0], out, LEVEL)
         claim = Claim(f'edgesOfFace ({lent}) ({antt.z(rest[0])}) ({antt.zs(out)})', antt.written(after, r, v), 'Listed')
         return Case('call', text, (claim,), (('edges of a face', r),))
-    t2, h2, r, v = pm.run(t, h, rest)
+    t2, h2, r, v = pm.run(t, h, rest, LEVEL)
     claims = (Claim(f'ticket ({lent}) ({antt.zs(rest)})', outcome(t2, h2, r, v), 'Outcome'),
-              Claim(f'emptied ({lent})', outcome(*pm.make_empty(t, h)), 'Outcome'))
+              Claim(f'emptied ({lent})', outcome(*pm.make_empty(t, h, LEVEL)), 'Outcome'))
     return Case('call', text, claims + (() if r in (1, 2) else (told(t, h),)), ((rest[0] if rest else 0, r),))
 
 
 def cases(count, seed, size=20, mix='all', room=0):
     """Ticket lists, in tables of four sizes or of one."""
-    return [grown(compare.make(seed + i, size, mix), room or (3, 5, 9, 20)[i % 4]) for i in range(count)]
+    return [grown(compare.make(seed + i, size, mix, LEVEL), room or (3, 5, 9, 20)[i % 4]) for i in range(count)]
 
 
 def raw(count, seed):
     """Calls on tables not grown."""
-    return [call(text) for text in [*raw_gen.calls(count // 5 + 1, seed)][:count]]
+    return [call(text) for text in [*raw_gen.calls(count // 5 + 1, seed, LEVEL)][:count]]
 
 
 def tell(seconds, seed):

@@ -19,13 +19,15 @@ from math import gcd
 import check
 import islands
 import plotmap as pm
+import sweeps
 import ticket as tk
 
+SWEEP = 'sweep'     # kind 6 past a well or a node, or turned over
 MIXES = {
     'even':   {1: 10, 2: 5, 3: 3, 4: 8, 5: 4, 6: 12, 7: 6, 8: 6, 9: 5, 10: 5, 11: 14, 12: 14,
                13: 4, 14: 4, 0: 2},
-    'redraw': {1: 10, 2: 2, 3: 1, 4: 4, 5: 3, 6: 40, 7: 3, 8: 3, 9: 2, 10: 2, 11: 16, 12: 16,
-               13: 6, 14: 6, 0: 0},
+    'redraw': {1: 10, 2: 2, 3: 1, 4: 4, 5: 3, 6: 25, 7: 3, 8: 3, 9: 2, 10: 2, 11: 16, 12: 16,
+               13: 6, 14: 6, 0: 0, SWEEP: 15},
     'abuse':  {1: 22, 2: 2, 3: 1, 4: 6, 5: 2, 6: 30, 7: 2, 8: 2, 9: 1, 10: 1, 11: 14, 12: 14,
                13: 2, 14: 2, 0: 0},
     'faces':  {1: 10, 2: 2, 3: 1, 4: 4, 5: 2, 6: 10, 7: 4, 8: 4, 9: 2, 10: 2, 11: 28, 12: 28,
@@ -126,7 +128,9 @@ def make_ticket(rng, m, grid, weights):
         return on_isolated(rng, m, grid, kind)
     if kind in (5, 13, 14):
         return (kind, some_edge(rng, m))
-    if kind == 6:
+    if kind == SWEEP and m.edges:
+        return sweeps.ticket(rng, m)
+    if kind in (6, SWEEP):
         return redrawn(rng, m, grid)
     if kind in (7, 8):
         e = some_edge(rng, m)

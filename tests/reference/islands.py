@@ -6,6 +6,7 @@ Everything is then bent by one whole-number linear map, so that segments have al
 """
 
 import plotmap as pm
+import sweeps
 
 CELL = 6
 
@@ -102,7 +103,21 @@ def cut(rng, m, w):
     return (rng.choice([7, 8]), e.number, *w.to[s])
 
 
+def rerouted(rng, m, w, at):
+    """An edge between two faces by another route on the borders that nothing of the base speaks against, if one is
+    found: it passes over what lies in the cells between."""
+    walls = [e for e in m.edges if e.left != e.right and on_border(at[e.start]) and on_border(at[e.end])]
+    e = rng.choice(walls or m.edges)
+    tickets = [(6, e.number, *w.flat(route(rng, w, at[e.start], at[e.end]))) for _ in range(12 if walls else 1)]
+    return next((k for k in tickets if pm.curve_sent(k) != e.points and sweeps.right(m, k)), tickets[0])
+
+
 def redrawn(rng, m, w, at):
+    c = rng.random()
+    if c < 0.3:
+        return sweeps.ticket(rng, m, w.to.get, w.back.get)
+    if c < 0.6:
+        return rerouted(rng, m, w, at)
     e = rng.choice(m.edges)
     p, q = at[e.start], at[e.end]
     if on_border(p) and on_border(q):

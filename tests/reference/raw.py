@@ -4,6 +4,8 @@
   length and numbers of the node, edge and face table, three counts, three next numbers, then
   T and the ticket's numbers, or L, a face and the length of a list (filled with 77)
 
+  raw.py [LEVEL]
+
 Prints `refusal value`, and where carried out ` | ` and tables and head (T) or the list (L).
 """
 
@@ -25,17 +27,17 @@ def parse(text: str) -> tuple:
     return pm.Tables(*tables), pm.Head(*numbers), letter, rest
 
 
-def call(text: str) -> str:
+def call(text: str, level: int = 0) -> str:
     t, h, letter, rest = parse(text)
     if letter == 'T':
-        t, h, r, v = pm.run(t, h, rest)
+        t, h, r, v = pm.run(t, h, rest, level)
         after = [x for table in (t.nodes, t.edges, t.faces) for x in (len(table), *table)]
-        after += pm.head_numbers(h, 0)
+        after += pm.head_numbers(h, level)
     else:
-        after, r, v = pm.list_edges_of_face(t, h, rest[0], (77,) * rest[1])
+        after, r, v = pm.list_edges_of_face(t, h, rest[0], (77,) * rest[1], level)
     return f'{r} {v}' + ('' if r else ' | ' + ' '.join(map(str, after)))
 
 
 if __name__ == '__main__':
     for line in sys.stdin:
-        print(call(line))
+        print(call(line, *map(int, sys.argv[1:2])))

@@ -1,8 +1,8 @@
 #!/usr/bin/env python3
-"""Calls for raw.py: grown maps, distorted (links off the law, faces at will, crossing curves, nodes on one point) or
-spoiled, with tickets and lists.
+"""Calls for raw.py: grown maps, distorted (links off the law, faces at will, crossing curves, nodes on one point),
+crossed (an edge led over a node, to be drawn back) or spoiled, with tickets and lists.
 
-  raw_gen.py MAPS SEED     up to six calls on each map
+  raw_gen.py MAPS SEED [LEVEL]     up to six calls on each map
 """
 
 import random
@@ -11,14 +11,16 @@ from dataclasses import replace
 
 import fuzz
 import fuzz_tables as ft
+import islands
 import plotmap as pm
+import sweeps
 
 BIG = pm.Sizes(30, 40, 30)
 
 
-def text(t, h):
+def text(t, h, level):
     return ' '.join(str(x) for table in (t.nodes, t.edges, t.faces) for x in (len(table), *table)) \
-        + ' ' + ' '.join(map(str, pm.head_numbers(h, 0)))
+        + ' ' + ' '.join(map(str, pm.head_numbers(h, level)))
 
 
 def bend(rng, m, grid):
@@ -40,16 +42,17 @@ def move(rng, m, grid):
     return m
 
 
-def grown(rng, grid):
-    m = pm.EMPTY_MAP
+def grown(rng, grid, level):
+    m, world = pm.EMPTY_MAP, islands.World(rng) if rng.random() < 0.3 else None
     for _ in range(rng.randint(2, 40)):
-        k = fuzz.make_ticket(rng, m, grid, fuzz.MIXES[rng.choice(['faces', 'even', 'stitch', 'abuse'])])
-        if pm.shape_ok(k) and pm.first_reason(pm.reasons(m, BIG, k)) == 0:
-            m = pm.apply(m, k)[0]
+        k = islands.ticket(rng, m, world) if world else fuzz.make_ticket(
+            rng, m, grid, fuzz.MIXES[rng.choice(['faces', 'even', 'stitch', 'abuse'])])
+        if pm.shape_ok(k) and pm.first_reason(pm.reasons(m, BIG, k, level)) == 0:
+            m = pm.apply(m, k, level)[0]
     return m
 
 
-def redrawn(rng, m, grid):
+def redrawn(rng, m, grid, level):
     """Other curves and places, mostly in form."""
     for _ in range(8):
         x = m
@@ -57,14 +60,14 @@ def redrawn(rng, m, grid):
             x = bend(rng, x, grid)
         if rng.random() < 0.3:
             x = move(rng, x, grid)
-        if pm.in_form(*pm.encode(x, BIG, 0)):
+        if pm.in_form(*pm.encode(x, BIG, level), level):
             break
     return x
 
 
-def distorted(rng, m, grid):
+def distorted(rng, m, grid, level):
     """Redrawn, off the link law, near the last numbers, nodes in any face."""
-    x = redrawn(rng, m, grid)
+    x = redrawn(rng, m, grid, level)
     if rng.random() < 0.5:
         x = ft.off_law(rng, x)
     if rng.random() < 0.15:
@@ -74,42 +77,44 @@ def distorted(rng, m, grid):
     return x
 
 
-def ticket(rng, m, s, grid):
-    """Carried out for the most part."""
-    form = pm.in_form(*pm.encode(m, s, 0))
+def ticket(rng, m, s, grid, level):
+    """Carried out for the most part; some redrawings past a node or turned over."""
+    form = pm.in_form(*pm.encode(m, s, level), level)
+    if form and m.edges and rng.random() < 0.15:
+        return sweeps.ticket(rng, m)
     for _ in range(6):
         k = fuzz.make_ticket(rng, m, grid, fuzz.MIXES['even'])
-        if form and pm.shape_ok(k) and pm.first_reason(pm.reasons(m, s, k)) == 0:
+        if form and pm.shape_ok(k) and pm.first_reason(pm.reasons(m, s, k, level)) == 0:
             break
     return k
 
 
-def call(rng, m, grid):
+def call(rng, m, grid, level):
     """One call on the map distorted; None where a spoiled number does not fit 64 bits."""
-    x = distorted(rng, m, grid)
+    x, back = sweeps.crossed(rng, m) if rng.random() < 0.15 else (distorted(rng, m, grid, level), None)
     s = pm.Sizes(*(len(r) + rng.randint(0, 2) for r in (x.nodes, x.edges, x.faces)))
-    t, h = pm.encode(x, s, 0)
-    k = ticket(rng, x, s, grid)
+    t, h = pm.encode(x, s, level)
+    k = back or ticket(rng, x, s, grid, level)
     if rng.random() < 0.15:
-        t, h = ft.spoil(rng, t, h, 0)
-        if any(abs(v) >= 2 ** 63 for v in (*t.nodes, *t.edges, *t.faces, *pm.head_numbers(h, 0), *k)):
+        t, h = ft.spoil(rng, t, h, level)
+        if any(abs(v) >= 2 ** 63 for v in (*t.nodes, *t.edges, *t.faces, *pm.head_numbers(h, level), *k)):
             return None
     if rng.random() < 0.15:
         k = 'L', rng.choice(x.faces + (-1, x.next_face)), rng.randint(0, 3 * len(x.edges) + 2)
     else:
         k = 'T', *k
-    return f'{text(t, h)} {" ".join(map(str, k))}'
+    return f'{text(t, h, level)} {" ".join(map(str, k))}'
 
 
-def calls(count, seed):
+def calls(count, seed, level=0):
     """Up to six calls on each of so many maps."""
     rng = random.Random(seed)
     for _ in range(count):
         grid = (0, 0, rng.choice([4, 6, 9, pm.MAX_COORDINATE + 1]))
-        m = grown(rng, grid)
-        yield from filter(None, [call(rng, m, grid) for _ in range(6)])
+        m = grown(rng, grid, level)
+        yield from filter(None, [call(rng, m, grid, level) for _ in range(6)])
 
 
 if __name__ == '__main__':
-    for line in calls(int(sys.argv[1]), int(sys.argv[2])):
+    for line in calls(*map(int, sys.argv[1:4])):
         print(line)

@@ -63,5 +63,21 @@ module _ (nodes edges : List ℤ) (h : Head) (i u v : ℕ) (c : List ℤ) where
   change-turns e g = g ∙ sym (first-after sent turns refl e)
 
   -- a curve without a reason against it is a run
-  pub change-run : firstReason (changeReasons nodes edges h i u v c) ≡ 0 → Run c
-  change-run e = sent-run c _ e
+  pub change-run : (rs : Reasons) → firstReason (changeReasons nodes edges h i u v c ++ rs) ≡ 0 → Run c
+  change-run rs e = sent-run c _ e
+
+  -- 22 behind them
+  module _ (b : Bool) where
+    pub redraw-changed : {r : ℕ} → r ≡ firstReason (changeReasons nodes edges h i u v c) → (r ≡ 0 → ⊥)
+        → r ≡ firstReason (changeReasons nodes edges h i u v c ++ (22, b) ∷ [])
+    redraw-changed {r} e d = first-of (sent ++ turns) ((22, b) ∷ []) r e d
+
+    module _ (e : firstReason (changeReasons nodes edges h i u v c) ≡ 0) where
+      after-changed : firstReason (changeReasons nodes edges h i u v c ++ (22, b) ∷ []) ≡ firstReason ((22, b) ∷ [])
+      after-changed = first-after (sent ++ turns) ((22, b) ∷ []) refl e
+
+      pub redraw-sides : b ≡ true → 22 ≡ firstReason (changeReasons nodes edges h i u v c ++ (22, b) ∷ [])
+      redraw-sides t = sym (after-changed ∙ first-hit 22 b [] t)
+
+      pub redraw-free : b ≡ false → 0 ≡ firstReason (changeReasons nodes edges h i u v c ++ (22, b) ∷ [])
+      redraw-free t = sym (after-changed ∙ first-miss 22 b [] t ∙ first-none)

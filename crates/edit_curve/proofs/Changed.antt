@@ -1,7 +1,7 @@
 -- What kind 6 answers: the reasons against it, and the tables it leaves. Assumes nothing.
 use mathlib.Core.Path.{_≡_, refl, sym, ap, _∙_}
 use mathlib.Core.Bool.{true, cond, _&&_, false≢true}
-use mathlib.Core.List.{List, map, flatMap}
+use mathlib.Core.List.{List, [], _∷_, _++_, map, flatMap}
 use Prim.Native.Nat.{ℕ, _*_, _/_, _<_}
 use lib.IntN.{ℤ, pos, negsuc, natAbs}
 use lib.ListN.{length, getD, set, length-map}
@@ -20,7 +20,7 @@ use Rattle.map.specs.Rows.{edgeCells, faceCells, withoutEdge, atEdge, lent}
 use Rattle.tables.specs.Tables.{sameZ, column, filled}
 use Rattle.map.specs.Edits.{withCurve, changeEdgeGeom}
 use Rattle.map.specs.Tickets.{ChangeEdgeGeom}
-use Rattle.map.specs.Reasons.{firstReason, reasons, noEdge, directionTaken, nodeInside, orderChanges}
+use Rattle.map.specs.Reasons.{firstReason, reasons, noEdge, directionTaken, nodeInside, orderChanges, sidesChange}
 use Rattle.map.specs.Ticket.{carried}
 use Rattle.map.proofs.Laws.{names}
 use Rattle.map.proofs.Reasons.{first-hit, first-miss}
@@ -111,8 +111,10 @@ module _ {nodes edges faces : List ℤ} {h : Head} (f : Formed nodes edges faces
     unfolding mapOf
     order-is = order-alone m number (curveOf c)
 
+    -- those from 5 to 19, and then 22
     pub change-reasons : (u v : ℕ) → EndsAt nodes edges h i u v
-        → firstReason (reasons s m (ChangeEdgeGeom (pos number) c)) ≡ firstReason (changeReasons nodes edges h i u v c)
+        → firstReason (reasons s m (ChangeEdgeGeom (pos number) c))
+        ≡ firstReason (changeReasons nodes edges h i u v c ++ (22, sidesChange m number (curveOf c)) ∷ [])
     unfolding reasons
     change-reasons u v k =
         first-miss 4 (noEdge m (pos number)) _ (edge-there f i b)

@@ -19,7 +19,7 @@ ghost use Rattle.map.specs.Reasons.{firstReason};
 ghost use Rattle.map.specs.Tickets.{ChangeEdgeGeom};
 ghost use Rattle.map.specs.Loans.{lentNow};
 ghost use Rattle.map_rows.specs.Rows.{nodeMap, edgeAt, EdgeRow, NodeRows, EdgeRows};
-ghost use Rattle.outcomes.specs.Outcomes.{Formed, decided, outcomeNow};
+ghost use Rattle.outcomes.specs.Outcomes.{Formed, reasonAgainst, decided, outcomeNow};
 ghost use Rattle.edge_rows.specs.Holds.{NodeEdgeTables};
 ghost use Rattle.edit_curve.specs.Change.{takenAt, turnReasons, changeReasons, EndsAt};
 
@@ -79,6 +79,33 @@ fn change_reason(
     turn_reason(nodes, n, edges, e, i, c)
 }
 
+// The first reason against a curve for the edge of row i, between the nodes of rows u and v, with 22 last; 0 for none.
+fn redraw_reason(
+    nodes: &[i64],
+    edges: &[i64],
+    faces: &[i64],
+    h: Head,
+    i: usize,
+    u: usize,
+    v: usize,
+    c: &[i64],
+) -> u64
+    requires { ⌜ Formed (now nodes) (now edges) (now faces) h × (i < natAbs (h .edges))
+        × EndsAt (now nodes) (now edges) h i u v ⌝ }
+    ensures { λ r. ⌜ r ≡ reasonAgainst (lentNow (nodes .entry) (edges .entry) (faces .entry) h)
+        (ChangeEdgeGeom (pos (edgeAt (now (edges .entry)) i .number)) (now (c .entry))) ⌝ }
+{
+    let reason = change_reason(nodes, edges, h, i, u, v, c);
+    if reason != 0 {
+        return reason;
+    }
+    if reason_sides::sides_change(nodes, edges, faces, h, i, c) {
+        22
+    } else {
+        0
+    }
+}
+
 // ---- the curve written
 
 // Edge row i with another curve.
@@ -123,7 +150,7 @@ fn change_between(
         ≡ decided (lentNow (nodes .entry) (edges .entry) (faces .entry) h)
         (ChangeEdgeGeom (pos (edgeAt (now (edges .entry)) i .number)) (now (c .entry))) ⌝ }
 {
-    let reason = change_reason(nodes, edges, h, i, u, v, c);
+    let reason = redraw_reason(nodes, edges, faces, h, i, u, v, c);
     if reason != 0 {
         return outcomes::refused(h, reason);
     }

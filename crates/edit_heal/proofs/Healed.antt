@@ -2,7 +2,7 @@
 use mathlib.Core.Path.{_≡_, refl, sym, ap, ap₂, _∙_, subst}
 use mathlib.Core.Logic.{inl, inr, ⊎-elim}
 use mathlib.Core.Bool.{true, _&&_, false≢true}
-use mathlib.Core.List.{List, _++_, map, flatMap, List·Memᴰ}
+use mathlib.Core.List.{List, _++_, map, flatMap}
 use mathlib.Core.Option.{Option, Option·getD}
 use Prim.Native.Nat.{ℕ, suc, _+_, _*_, _-_, _/_, _%_, _≤_, _<_}
 use native.Mathlib.Omega.{arith}
@@ -18,7 +18,7 @@ use Rattle.planar_maps.specs.Map.{Dart, fwd, bwd, rev}
 use Rattle.tables.specs.Tables.{sameZ, column, closed, filled}
 use Rattle.tables.proofs.Writes.{removed-at}
 use Rattle.tables.proofs.Filled.{Wide}
-use Rattle.tables.proofs.Numbers.{without-at, getD-in}
+use Rattle.tables.proofs.Numbers.{without-at}
 use Rattle.tables.proofs.Lookups.{which-place}
 use Rattle.curves.specs.Curves.{Curve, points, maxPoints}
 use Rattle.curves.specs.Edits.{joined}
@@ -38,7 +38,7 @@ use Rattle.map.proofs.Laws.{names}
 use Rattle.map.proofs.Redirects.{redirect-has, redirect-next}
 use Rattle.map.proofs.RoundTrip.{nodes-wide, edge-wide}
 use Rattle.map_rows.specs.Rows.{nodesOf, edgesOf, nodeAt, edgeAt, edgeMap, EdgeRows}
-use Rattle.map_rows.proofs.Rows.{nodes-length, edges-length, faces-length, nodes-getD, edges-getD}
+use Rattle.map_rows.proofs.Rows.{nodes-length, edges-length, faces-length, nodes-getD, edges-getD, edge-member}
 use Rattle.map_rows.proofs.Lookups.{node-missing}
 use Rattle.map_rows.specs.Cells.{cellsOf}
 use Rattle.head.specs.Heads.{changedHead}
@@ -364,10 +364,6 @@ module _ {nodes edges faces : List ℤ} {h : Head} (f : Formed nodes edges faces
   abbrev count : ℕ
   count = natAbs (h .nodes)
 
-  edge-in : List·Memᴰ (edgeAt edges i) (edgesOf edges n)
-  edge-in = subst (λ (r : Edge). List·Memᴰ r (edgesOf edges n)) (edges-getD edges n i (edgeAt edges i) hi)
-      (getD-in (edgesOf edges n) i (edgeAt edges i) (rw (edges-length edges n) hi))
-
   ends-named : hasNode whole (edgeAt edges i .start) && hasNode whole (edgeAt edges i .end) ≡ true
   unfolding mapOf
   ends-named =
@@ -375,7 +371,7 @@ module _ {nodes edges faces : List ℤ} {h : Head} (f : Formed nodes edges faces
       and-left _ (hasEdge whole (e .nextLeft .edge))
       (and-left _ (hasEdge whole (e .nextRight .edge))
       (and-left _ (hasFace whole (e .left))
-      (and-left _ (hasFace whole (e .right)) (names whole (formed-map f) e edge-in))))
+      (and-left _ (hasFace whole (e .right)) (names whole (formed-map f) e (edge-member edges n i hi)))))
 
   module _ (some-joint : isSome (joint m a b) ≡ true) where
     joint-named : hasNode whole (Option·getD (joint m a b) 0) ≡ true

@@ -2,7 +2,7 @@
 use mathlib.Core.Path.{_≡_, refl, ap, ap₂, _∙_}
 use mathlib.Core.Bool.{Bool, true, false, cond, not, _&&_}
 use mathlib.Core.List.{List, [], _∷_, flatMap}
-use Prim.Native.Nat.{ℕ, zero, suc, _*_, _≤_}
+use Prim.Native.Nat.{ℕ, _≤_}
 use native.Mathlib.Omega.{arith}
 use lib.Dec.{T, ltb}
 use lib.IntN.{ℤ, pos, negsuc, natAbs}
@@ -14,15 +14,15 @@ use Rattle.lists.specs.Tables.{place}
 use Rattle.lists.specs.declared.Found.the-variants.{At, Missing}
 use Rattle.lists.proofs.Bools.{≡→T}
 use Rattle.planar_maps.specs.Map.{Dart, Linked}
-use Rattle.planar_maps.specs.Rings.{sameDart}
 use Rattle.tables.specs.Tables.{sameZ, column}
 use Rattle.map.specs.declared.Head.{Head}
 use Rattle.map.specs.Limits.{faceWidth}
 use Rattle.map.specs.Rows.{Map, Lent, mapOf, whole, edge, lent}
-use Rattle.map.specs.Darts.{arcs, directed, leaves, next, bears, stepsTo, ring, lower, firsts}
+use Rattle.map.specs.Darts.{arcs, directed, leaves, next, bears, ring, lower, firsts}
 use Rattle.map.specs.Form.{formed, inForm}
 use Rattle.map.specs.Reasons.{firstReason, noFace}
 use Rattle.map.specs.Ticket.{Listed, ringNumbers, faceEdges, listUnless, edgesOfFace}
+use Rattle.map_laws.proofs.Rings.{ring-same}
 use Rattle.map_rows.specs.Rows.{edgeMap}
 use Rattle.map_rows.proofs.Rows.{face-number-in}
 use Rattle.map_rows.proofs.Lookups.{face-found, face-missing}
@@ -70,17 +70,9 @@ flat-same f g h [] = refl
 flat-same f g h (d ∷ l) = rw (h d, flat-same f g h l)
 
 module _ (nodes edges faces : List ℤ) (h : Head) where
-  steps-same : (d : Dart) (k : ℕ) (c : Dart) → stepsTo (mapIn nodes edges faces (countsOf h) h) d k c
-      ≡ stepsTo (edgeMap edges (natAbs (h .edges))) d k c
-  unfolding stepsTo next edge
-  steps-same d zero c = refl
-  steps-same d (suc k) c =
-      let m = edgeMap edges (natAbs (h .edges)) in
-      ap (λ (r : List Dart). c ∷ cond (sameDart (next m c) d) [] r) (steps-same d k (next m c))
-
-  ring-same : (d : Dart) → ring (mapIn nodes edges faces (countsOf h) h) d ≡ ring (edgeMap edges (natAbs (h .edges))) d
-  unfolding ring
-  ring-same d = steps-same d (2 * length (edgeMap edges (natAbs (h .edges)) .edges)) d
+  rings-same : (d : Dart) → ring (mapIn nodes edges faces (countsOf h) h) d ≡ ring (edgeMap edges (natAbs (h .edges))) d
+  unfolding next edge
+  rings-same = ring-same (mapIn nodes edges faces (countsOf h) h) (edgeMap edges (natAbs (h .edges))) (λ d. refl) refl
 
   bears-same : (f : ℕ) (l : List Dart) → keep (λ d. same (bears (mapIn nodes edges faces (countsOf h) h) d) f) l
       ≡ keep (λ d. same (bears (edgeMap edges (natAbs (h .edges))) d) f) l
@@ -91,7 +83,7 @@ module _ (nodes edges faces : List ℤ) (h : Head) where
   unfolding firsts
   firsts-same = keep-same (λ d. not (anyOf (λ c. lower c d) (ring (mapIn nodes edges faces (countsOf h) h) d)))
       (λ d. not (anyOf (λ c. lower c d) (ring (edgeMap edges (natAbs (h .edges))) d)))
-      (λ d. ap (λ (r : List Dart). not (anyOf (λ c. lower c d) r)) (ring-same d))
+      (λ d. ap (λ (r : List Dart). not (anyOf (λ c. lower c d) r)) (rings-same d))
       (directed (edgeMap edges (natAbs (h .edges))))
 
   pub edges-are : (f : ℕ) → faceEdges (mapOf (lent nodes edges faces h)) f
@@ -102,7 +94,7 @@ module _ (nodes edges faces : List ℤ) (h : Head) where
       let e = edgeMap edges (natAbs (h .edges)) in
       ap (λ (m : Map). flatMap (λ d. ringNumbers (ring m d)) (keep (λ d. same (bears m d) f) (firsts m)))
       (map-is nodes edges faces h)
-      ∙ flat-same (λ d. ringNumbers (ring m d)) (λ d. ringNumbers (ring e d)) (λ d. ap ringNumbers (ring-same d))
+      ∙ flat-same (λ d. ringNumbers (ring m d)) (λ d. ringNumbers (ring e d)) (λ d. ap ringNumbers (rings-same d))
       (keep (λ d. same (bears m d) f) (firsts m))
       ∙ ap (flatMap (λ d. ringNumbers (ring e d)))
       (bears-same f (firsts m) ∙ ap (keep (λ d. same (bears e d) f)) firsts-same)

@@ -27,6 +27,7 @@ use Rattle.tables.specs.Tables.{sameZ, column, rowAt, cell}
 use Rattle.map.specs.Darts.{next, bears, course, ring, among, lowestEdge}
 use Rattle.map.specs.Faces as faces
 use Rattle.map.specs.Edits.{sideOfPoint, sideOfRing, sideOfDart}
+use Rattle.map_laws.proofs.Rings.{ring-same}
 use Rattle.map_rows.specs.Rows.{NodeRow, nodeAt, nodeMap, edgeAt, edgeMap}
 use Rattle.tables.proofs.Order.{is-same, not-same, same-is}
 use Rattle.tables.proofs.Rows.{row-cell, all-table}
@@ -38,7 +39,6 @@ use Rattle.face_relabel.specs.declared.Sides.{Sides}
 use Rattle.form_links.specs.Drawn.{drawnMap}
 use Rattle.face_relabel.specs.Sharing.{ShareableFace, ringEncloses, startOf, ringMark, sharesOf, nodeShared}
 use Rattle.face_relabel.specs.Sharing.{sideShared, edgeShared}
-use Rattle.face_relabel.proofs.Rings.{ring-same}
 
 -- ---- a node row that is as it was
 

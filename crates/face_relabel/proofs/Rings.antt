@@ -6,9 +6,9 @@ use mathlib.Core.Bool.{Bool, true, false, cond}
 use mathlib.Core.Option.{Option·getD, some}
 use mathlib.Core.List.{List, [], _∷_, map, map-map, List·Memᴰ, List·Memᴰ·head, List·Memᴰ·tail, List·Memᴰ·cases-cons}
 use mathlib.Core.List.{List·Memᴰ·not-nil, List·Permᴰ}
-use Prim.Native.Nat.{ℕ, zero, suc, _*_, _≤_, min}
+use Prim.Native.Nat.{ℕ, zero, suc, _≤_, min}
 use native.Mathlib.Omega.{arith}
-use lib.ListN.{length, length-map}
+use lib.ListN.{length-map}
 use Rattle.lists.specs.Tests.{same, iterate}
 use Rattle.lists.specs.Scans.{find}
 use Rattle.lists.specs.Members.{Distinct}
@@ -19,21 +19,10 @@ use Rattle.planar_maps.specs.Pieces.{nums}
 use Rattle.planar_maps.specs.Rings.{Leads}
 use Rattle.planar_maps.proofs.Rings.{next-in}
 use Rattle.map.specs.Rows.{Edge, Map, edge, setEdges}
-use Rattle.map.specs.Darts.{arcs, directed, leaves, next, bears, stepsTo, ring, among, lowestEdge}
+use Rattle.map.specs.Darts.{arcs, directed, leaves, next, bears, ring, among, lowestEdge}
 use Rattle.map.specs.Form.{linksOnce, ringsBearOne}
 use Rattle.map.proofs.Linked.{arcOf, nums-rows, links-perm, links-keep}
-use Rattle.map_laws.proofs.Rings.{among-in, among-has, ring-here, ring-leads, ring-alike, lowest-same}
-
--- two maps whose links are the same have the same rings
-module _ (m k : Map) (h : (d : Dart) → next m d ≡ next k d) where
-  steps-same : (d : Dart) (j : ℕ) (c : Dart) → stepsTo m d j c ≡ stepsTo k d j c
-  unfolding stepsTo
-  steps-same d zero c = refl
-  steps-same d (suc j) c = rw (h c, steps-same d j (next k c))
-
-  pub ring-same : length (m .edges) ≡ length (k .edges) → (d : Dart) → ring m d ≡ ring k d
-  unfolding ring
-  ring-same e d = ap (λ (j : ℕ). stepsTo m d (2 * j) d) e ∙ steps-same d (2 * length (k .edges)) d
+use Rattle.map_laws.proofs.Rings.{ring-same, among-in, among-has, ring-here, ring-leads, ring-alike, lowest-same}
 
 -- ---- the map with every edge a loop at node 0: its rings are the map's, and its links meet
 

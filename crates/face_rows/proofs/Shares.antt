@@ -34,6 +34,7 @@ use Rattle.map.specs.Form.{nodeRanges}
 use Rattle.map.specs.Edits.{Shares, sideOfPoint, sideOfRing, sideOfDart, sideOfNode, withFace, withSides, sharedOut}
 use Rattle.map.proofs.RoundTrip.{node-back, nodes-wide, edge-wide}
 use Rattle.map_laws.proofs.Faces.{side-number}
+use Rattle.map_laws.proofs.Rings.{ring-same}
 use Rattle.map_rows.specs.Rows.{NodeRows, nodeAt, edgeAt, nodesOf, edgesOf, nodeMap}
 use Rattle.map_rows.proofs.Rows.{nodes-table, edges-table, nodes-length, edge-row}
 use Rattle.map_rows.proofs.RowCurves.{edge-few}
@@ -41,7 +42,6 @@ use Rattle.darts.specs.Positions.{dartAt, reverseOf, sidePlace}
 use Rattle.darts.proofs.Positions.{dart-even, dart-odd, dart-reverse}
 use Rattle.face_relabel.specs.declared.Sides.{Sides}
 use Rattle.face_relabel.specs.Sharing.{ShareableFace, sharesOf, nodeShared, edgeShared}
-use Rattle.face_relabel.proofs.Rings.{ring-same}
 use Rattle.face_rows.specs.Holds.{sharesIn}
 use Rattle.face_rows.proofs.Renames.{sides-wide}
 use Rattle.face_rows.proofs.Sweeps.{cell-mid, swept-rows, both, sweep-pairs}

@@ -1,20 +1,18 @@
 -- One of two numbers, and the lower of two. Assumes nothing.
-use mathlib.Core.Path.{_≡_, refl, sym, ap, _∙_}
+use mathlib.Core.Path.{_≡_, sym, ap, _∙_}
 use mathlib.Core.Bool.{Bool, true, false, cond}
 use mathlib.Core.Logic.{inl, inr}
-use Prim.Native.Nat.{ℕ, zero, suc, min}
+use Prim.Native.Nat.{ℕ, min}
 use native.Mathlib.Nat.{min-comm, min-eq-left}
 use native.Mathlib.Omega.{arith}
 use lib.Dec.{ltb}
-use lib.IntN.{ℤ, pos, negsuc, natAbs}
+use lib.IntN.{ℤ, pos, natAbs}
 use lib.Signed.{ltZ}
 use mir.Syntax.{w64}
 use mir.Val.{ofZ, toZ, SFits}
 use mir.Facts.{toZ-ofZ}
-use borrow.Author.Tests.{ltb-true, ltb-false, lt-ltb}
-use Rattle.integers.specs.Order.{sgn}
+use borrow.Author.Tests.{ltb-true, ltb-false}
 use Rattle.lists.proofs.Bools.{which, cond-has}
-use Rattle.plane.specs.Areas.{isPositive}
 
 -- one of two numbers as it was passed
 pub either : (b : Bool) {x y r : ℤ} → SFits w64 x → SFits w64 y → r ≡ cond b x y → toZ w64 (ofZ w64 r) ≡ cond b x y
@@ -33,9 +31,3 @@ pub kept-is : (b : Bool) {n l r : ℤ} → n ≡ pos (natAbs n) → l ≡ pos (n
     → cond b n (cond (ltZ l r) l r) ≡ pos (cond b (natAbs n) (min (natAbs l) (natAbs r)))
 kept-is true en el er = en
 kept-is false {n} {l} {r} en el er = (λ i. cond (ltZ (el i) (er i)) (el i) (er i)) ∙ lower-is (natAbs l) (natAbs r)
-
--- the sign of an area
-pub positive-is : (z : ℤ) → ltZ (pos 0) z ≡ isPositive (sgn z)
-positive-is (pos zero) = refl
-positive-is (pos (suc n)) = lt-ltb 0 (suc n) (omega arith)
-positive-is (negsuc n) = refl

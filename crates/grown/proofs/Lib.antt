@@ -24,6 +24,8 @@ pub mod Grows
 pub mod Claimed
 pub mod Given
 pub mod NeverBack
+-- a redrawn edge keeps the sides of all rings
+pub mod RedrawnSides
 -- a split that is healed at once
 pub mod Rejoined
 pub mod HealsBack

@@ -1,25 +1,31 @@
 -- What is claimed of every list of tickets, kinds mixed, senseless and refused ones included. Proved in proofs/:
 -- Grows.antt (`grows`, `never-lent`), Claimed.antt (`keeps-law`, `pieces-counted`), NeverBack.antt (`gives-numbers`,
--- `never-back`, `grown-never-back`), SplitHeal.antt (`split-cancelled`, `split-renewed`, `split-spent`).
+-- `never-back`, `grown-never-back`), RedrawnSides.antt (`redraw-keeps-sides`), SplitHeal.antt (`split-cancelled`,
+-- `split-renewed`, `split-spent`).
 use mathlib.Core.Path.{_≡_}
 use mathlib.Core.Bool.{Bool, true, cond}
 use mathlib.Core.List.{List, [], _∷_, _++_, map, List·Memᴰ}
 use mathlib.Core.Logic.{_≢_, _↔_}
 use Prim.Native.Nat.{ℕ, _+_, _-_, _≤_, _<_}
 use lib.IntN.{ℤ, pos, natAbs, _+ℤ_}
+use Rattle.integers.specs.Order.{sgn}
 use Rattle.lists.specs.Tests.{same}
 use Rattle.lists.specs.Scans.{keep, countOf}
 use Rattle.lists.specs.Tables.{table}
+use Rattle.plane.specs.declared.Point.{Point}
+use Rattle.plane.specs.Areas.{isPositive}
 use Rattle.planar_maps.specs.Map.{Dart}
 use Rattle.planar_maps.specs.Pieces.{Chain}
 use Rattle.map.specs.declared.Head.{Head}
 use Rattle.map.specs.Limits.{maxNodes, maxEdges, maxFaces, lastNumber}
 use Rattle.map.specs.Rows.{Edge, Map, Lent, Sizes, mapOf, lentOf, sizesOf, edge, setEdges, withoutEdge}
-use Rattle.map.specs.Darts.{arcs, directed, bears, pieceCount}
-use Rattle.map.specs.Form.{inForm}
+use Rattle.map.specs.Darts.{arcs, directed, bears, ring, pieceCount}
+use Rattle.map.specs.Faces.{encloses, ringArea}
+use Rattle.map.specs.Form.{formed, inForm}
 use Rattle.map.specs.Links.{withLinks, obeysLaw}
-use Rattle.map.specs.Reasons.{firstReason}
-use Rattle.map.specs.Ticket.{Outcome, refused, lentReasons, ticket}
+use Rattle.map.specs.Tickets.{ChangeEdgeGeom}
+use Rattle.map.specs.Reasons.{firstReason, reasons, sidePoints}
+use Rattle.map.specs.Ticket.{Outcome, refused, carried, lentReasons, ticket}
 use Rattle.map.specs.Grow.{after, grow}
 use Rattle.map.specs.Sound.{Sound}
 
@@ -107,6 +113,26 @@ NeverBack = (l : Lent) (ts : List (List ℤ)) → NoneBack (mapOf l) (mapOf (aft
 abbrev pub GrownNeverBack : Type 0
 GrownNeverBack = (s : Sizes) (ts us : List (List ℤ))
     → NoneBack (mapOf (grow s ts .lent)) (mapOf (grow s (ts ++ us) .lent))
+
+-- ---- document 02 (i): a carried-out redrawing changes no side
+
+-- every ring of m, by its links: its area is positive in m′ exactly if it was in m, and of these points it encloses the
+-- same
+pub record SidesKept (m m′ : Map) (ps : List Point) : Type 0 where
+  pub areas :
+      (d : Dart) → List·Memᴰ d (directed m)
+      → isPositive (sgn (ringArea m′ (ring m′ d))) ≡ isPositive (sgn (ringArea m (ring m d)))
+  pub points :
+      (d : Dart) → List·Memᴰ d (directed m) → (p : Point) → List·Memᴰ p ps
+      → encloses m′ (ring m′ d) p ≡ encloses m (ring m d) p
+
+-- whatever map in form, grown or not: after a kind 6 that nothing turns down all rings have kept their sides, not only
+-- the two beside the edge, as to the isolated nodes and to the rings on other pieces (`sidePoints`)
+abbrev pub RedrawKeepsSides : Type 0
+RedrawKeepsSides = (s : Sizes) (m : Map) (e : ℤ) (c : List ℤ) → formed m ≡ true
+    → firstReason (reasons s m (ChangeEdgeGeom e c)) ≡ 0
+    → SidesKept m (carried m (ChangeEdgeGeom e c) .0)
+    (sidePoints m (edge m (natAbs e) .start))
 
 -- ---- document 02 (vi): on every grown map a split that is healed at once gives the sheet back
 

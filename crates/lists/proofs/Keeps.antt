@@ -7,8 +7,9 @@ use mathlib.Core.List.{List·Memᴰ·cases-cons, List·Memᴰ·not-nil, Memᴰ·
 use Prim.Native.Nat.{suc, _≤_}
 use native.Mathlib.Omega.{arith}
 use lib.ListN.{length}
-use Rattle.lists.specs.Scans.{keep}
+use Rattle.lists.specs.Scans.{anyOf, keep}
 use Rattle.lists.specs.Members.{Distinct, All, Pairs}
+use Rattle.lists.proofs.Bools.{which}
 
 pub keep-in : {D : Type 0} (f : D → Bool) (ds : List D) {x : D} → List·Memᴰ x (keep f ds) → List·Memᴰ x ds
     × (f x ≡ true)
@@ -158,3 +159,11 @@ module _ {A B : Type 0} (f : A → B) (p : A → Bool) where
       go : (b : Bool) → Pairs R (map f (keep p l)) → Pairs R (map f (cond b (x ∷ keep p l) (keep p l)))
       go true k = (all-keep (R (f x)) l (h .0), k)
       go false k = k
+
+-- a scan of the images of the elements that are kept
+module _ {A B : Type 0} (q : B → Bool) (f : A → B) (k : A → Bool) where
+  pub any-kept : (l : List A) → anyOf q (map f (keep k l)) ≡ anyOf (λ a. k a && q (f a)) l
+  any-kept [] = refl
+  any-kept (a ∷ l) =
+      let later = any-kept l in
+      elim (which (k a)) [ inl e ↦ rw (e, later) | inr e ↦ rw e later ]

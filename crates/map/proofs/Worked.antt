@@ -20,7 +20,7 @@ use Rattle.map.proofs.Opened.{opened}
 use Rattle.map.proofs.Sheet.{at, ok, no-to, nodeRow, edgeRow}
 
 -- tables of a few rows
-abbrev room : Sizes
+abbrev pub room : Sizes
 room = record { nodes = 9; edges = 8; faces = 6 }
 
 -- from a map by tickets: what they answer, and the map after them
@@ -30,7 +30,7 @@ pub record Case : Type 0 where
   pub answers : List Answer
   pub left : Map
 
-abbrev case : Map → List (List ℤ) → List Answer → Map → Case
+abbrev pub case : Map → List (List ℤ) → List Answer → Map → Case
 case m ts rs m′ = record { start = m; tickets = ts; answers = rs; left = m′ }
 
 -- the edges of a face of a map in a list: the list after the call, and the answer
@@ -56,16 +56,16 @@ add x y = pos 1 ∷ negsuc 0 ∷ pos x ∷ pos y ∷ []
 abbrev draw : ℕ → ℕ → ℕ → List Point → List ℤ
 draw k u v c = pos k ∷ pos u ∷ pos v ∷ coordinates c
 
-abbrev lone : ℕ → Point → ℕ → Node
+abbrev pub lone : ℕ → Point → ℕ → Node
 lone n p f = record { number = n; at = p; face = some f }
 
-abbrev rows : List Node → List Edge → List ℕ → ℕ → ℕ → ℕ → Map
+abbrev pub rows : List Node → List Edge → List ℕ → ℕ → ℕ → ℕ → Map
 rows ns es fs a b c = record { nodes = ns; edges = es; faces = fs; next = counts a b c }
 
 -- ---- maps and cases
 
 -- a square, and two isolated nodes in it
-abbrev square : Map
+abbrev pub square : Map
 square =
     rows (nodeRow 1 (at 0 0) ∷ lone 2 (at 5 5) 1 ∷ lone 3 (at 5 9) 1 ∷ [])
     (edgeRow 1 1 1 (fwd 1) (bwd 1) 1 0 (at 0 0 ∷ at 20 0 ∷ at 20 20 ∷ at 0 20 ∷ at 0 0 ∷ []) ∷ [])
@@ -95,7 +95,7 @@ given-face =
     (0 ∷ 1 ∷ []) 6 2 2)
 
 -- a square that stands on a corner
-abbrev diamond : Map
+abbrev pub diamond : Map
 diamond =
     rows (nodeRow 1 (at 0 10) ∷ [])
     (edgeRow 1 1 1 (fwd 1) (bwd 1) 1 0 (at 0 10 ∷ at 10 0 ∷ at 20 10 ∷ at 10 20 ∷ at 0 10 ∷ []) ∷ [])

@@ -11,7 +11,7 @@ use Rattle.curves.specs.Curves.{Curve, startWay}
 use Rattle.curves.specs.Edits as edits
 use Rattle.planar_maps.specs.Map.{Arc, Dart, rev, darts}
 use Rattle.planar_maps.specs.Rings.{sameDart}
-use Rattle.planar_maps.specs.Pieces.{pieces}
+use Rattle.planar_maps.specs.Pieces.{label, pieces}
 use Rattle.map.specs.Rows.{Map, edge}
 
 -- an edge as its number and the nodes where it starts and ends
@@ -71,14 +71,22 @@ among r d = anyOf (sameDart d) r
 abbrev pub lower : Dart → Dart → Bool
 lower c d = ltb (c .edge) (d .edge) || same (c .edge) (d .edge) && not (c .back) && d .back
 
+-- d is the lowest of its ring
+abbrev pub isLowest : Map → Dart → Bool
+isLowest m d = not (anyOf (λ c. lower c d) (ring m d))
+
 -- the first members of the rings: the directed edges that are the lowest of theirs
 unfoldable pub firsts : Map → List Dart
-firsts m = keep (λ d. not (anyOf (λ c. lower c d) (ring m d))) (directed m)
+firsts m = keep (isLowest m) (directed m)
 
 -- the lowest edge of e and a ring
 abbrev pub lowestEdge : ℕ → List Dart → ℕ
 lowestEdge e [] = e
 lowestEdge e (d ∷ r) = lowestEdge (min e (d .edge)) r
+
+-- the piece of a node, by its lowest node number
+abbrev pub pieceOf : Map → ℕ → ℕ
+pieceOf m n = label (arcs m) n
 
 -- as many pieces as node rows from which no chain of edges leads to a node of lower number
 abbrev pub pieceCount : Map → ℕ

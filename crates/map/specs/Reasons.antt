@@ -1,21 +1,24 @@
 -- Reasons to turn a ticket down: for each kind a list of numbers with their conditions, looked at in order; the first
 -- that holds is the answer.
 use mathlib.Core.Bool.{Bool, false, cond, not, _&&_, _||_}
-use mathlib.Core.List.{List, [], _∷_, _++_}
+use mathlib.Core.List.{List, [], _∷_, _++_, map}
 use mathlib.Core.Option.{Option·getD}
 use Prim.Native.Nat.{ℕ, suc, _+_}
 use lib.Dec.{ltb}
 use lib.IntN.{ℤ, pos, negsuc, natAbs}
 use lib.ListN.{length}
 use lib.Signed.{nonNeg}
-use Rattle.lists.specs.Tests.{same, bit}
-use Rattle.lists.specs.Scans.{anyOf, isSome}
+use Rattle.integers.specs.Order.{sgn}
+use Rattle.lists.specs.Tests.{same, bit, _⊕_}
+use Rattle.lists.specs.Scans.{anyOf, keep, isSome}
 use Rattle.plane.specs.declared.Point.{Point}
+use Rattle.plane.specs.Areas.{isPositive}
 use Rattle.plane.specs.Points.{samePoint}
 use Rattle.plane.specs.Directions.{Way, sameWay}
 use Rattle.curves.specs.Curves.{Curve, points, lastPoint, startWay, endWay, point, curveOf, coordinate, isRun}
 use Rattle.curves.specs.Curves.{maxPoints}
 use Rattle.curves.specs.Tests.{neighboursDiffer, straightInside, onCurve, isSimple, meetWrongly}
+use Rattle.planar_maps.specs.Map.{Dart, fwd, bwd}
 use Rattle.planar_maps.specs.Rings.{sameDart}
 use Rattle.map.specs.declared.Counts.{Counts}
 use Rattle.map.specs.declared.Variant.{Variant}
@@ -23,9 +26,9 @@ use Rattle.map.specs.declared.Variant.the-variants.{New, Mod}
 use Rattle.map.specs.Limits.{lastNumber}
 use Rattle.map.specs.Rows.{Node, Edge, Map, Sizes, node, edge, hasNode, hasEdge, hasFace, withoutNode}
 use Rattle.map.specs.Rows.{withoutEdge, counts}
-use Rattle.map.specs.Darts.{departures, edgeEnds, way}
+use Rattle.map.specs.Darts.{leaves, departures, edgeEnds, way, ring, firsts, pieceOf}
 use Rattle.map.specs.Links.{clockwise, cornerFace}
-use Rattle.map.specs.Faces.{faceOfPoint}
+use Rattle.map.specs.Faces.{faceOfPoint, encloses, ringArea}
 use Rattle.map.specs.Tickets.{Ticket, AddIsoNode, MoveIsoNode, RemoveIsoNode, AddIsoEdge, RemoveIsoEdge}
 use Rattle.map.specs.Tickets.{ChangeEdgeGeom, NewEdgesSplit, ModEdgeSplit, NewEdgeHeal, ModEdgeHeal}
 use Rattle.map.specs.Tickets.{AddEdgeNewFaces, AddEdgeModFace, RemEdgeNewFace, RemEdgeModFace}
@@ -141,6 +144,35 @@ unfoldable pub orderChanges : Map → ℕ → Curve → Bool
 orderChanges m e c = let m′ = changeEdgeGeom e c m in turnChanges m m′ (edge m e .start)
     || turnChanges m m′ (edge m e .end)
 
+-- ---- 22: for the ring on either side of the edge, the doubled area would change between positive and not positive, or
+-- a point between enclosed and not
+
+-- the points of the isolated nodes
+unfoldable pub isolatedPoints : Map → List Point
+isolatedPoints m = map (λ n. n .at) (keep (λ n. isSome (n .face)) (m .nodes))
+
+-- the start node of the lowest edge of each ring on another piece than that of the node n
+unfoldable pub otherPiecePoints : Map → ℕ → List Point
+otherPiecePoints m n =
+    map (λ d. node m (edge m (d .edge) .start) .at)
+    (keep (λ d. not (same (pieceOf m (leaves m d)) (pieceOf m n))) (firsts m))
+
+-- the points that must keep their side of an edge that starts at n
+abbrev pub sidePoints : Map → ℕ → List Point
+sidePoints m n = isolatedPoints m ++ otherPiecePoints m n
+
+-- the area of the ring r would change from the map m to m′, or what it encloses of these points
+abbrev pub ringChanges : Map → Map → List Point → List Dart → Bool
+ringChanges m m′ ps r =
+    isPositive (sgn (ringArea m r)) ⊕ isPositive (sgn (ringArea m′ r))
+    || anyOf (λ p. encloses m r p ⊕ encloses m′ r p) ps
+
+unfoldable pub sidesChange : Map → ℕ → Curve → Bool
+sidesChange m e c =
+    let m′ = changeEdgeGeom e c m in
+    let ps = sidePoints m (edge m e .start) in
+    ringChanges m m′ ps (ring m (fwd e)) || ringChanges m m′ ps (ring m (bwd e))
+
 -- ---- 20: the rows after the edit, so many more, would not fit. 21: one of so many needed numbers exceeds 999,999
 
 abbrev pub full : Sizes → Map → Counts → Bool
@@ -235,6 +267,7 @@ reasons s m (ChangeEdgeGeom e sent) =
     ++ (11, directionTaken m (natAbs e) a b c)
     ∷ meetingReasons m (withoutEdge (natAbs e) (m .edges)) c
     ++ (19, orderChanges m (natAbs e) c)
+    ∷ (22, sidesChange m (natAbs e) c)
     ∷ []
 reasons s m (NewEdgesSplit e x y) = splitReasons New s m e x y
 reasons s m (ModEdgeSplit e x y) = splitReasons Mod s m e x y

@@ -14,6 +14,8 @@ pub mod Rings
 pub mod Departures
 pub mod LawOrder
 pub mod Form
+-- an edge with another curve: what the map then reads
+pub mod Redrawn
 -- an edge drawn: its row linked in, what the map then reads, and that a linked map stays linked
 pub mod LinkedIn
 pub mod Drawn

@@ -30,8 +30,8 @@ use Rattle.map.specs.Tickets.{RemEdgeNewFace, RemEdgeModFace}
 use Rattle.map.specs.Edits.{isNew, isMod, sharedNodes, joint, healedCurve, splitsFace, makesFace}
 use Rattle.map.specs.Reasons.{Reasons, firstReason, reasons, noNode, noEdge, outside, endsDiffer, isolated}
 use Rattle.map.specs.Reasons.{edgeIsolated, anyNodeAt, edgeThrough, directionTaken, containingDiffer, cornersDiffer}
-use Rattle.map.specs.Reasons.{nodeInside, edgeWrong, orderChanges, full, spent, splitReasons, healReasons}
-use Rattle.map.specs.Reasons.{addEdgeReasons}
+use Rattle.map.specs.Reasons.{nodeInside, edgeWrong, orderChanges, sidesChange, full, spent, splitReasons}
+use Rattle.map.specs.Reasons.{healReasons, addEdgeReasons}
 use Rattle.map.proofs.Reasons.{first-zero, point-in-range}
 use Rattle.map.proofs.RoundTrip.{run-stored}
 
@@ -110,6 +110,7 @@ pub record Change (m : Map) (e : ℕ) (c : Curve) : Type 0 where
   pub nodes-off : nodeInside m c ≡ false
   pub clear : edgeWrong (withoutEdge e (m .edges)) c ≡ false
   pub order : orderChanges m e c ≡ false
+  pub sides : sidesChange m e c ≡ false
 
 -- kinds 7 (New) and 8 (Mod)
 pub record Split (how : Variant) (s : Sizes) (m : Map) (e : ℕ) (p : Point) : Type 0 where
@@ -314,6 +315,7 @@ module _ (s : Sizes) (m : Map) where
       let h₁₄ = first-zero 14 (nodeInside m (curveOf l)) _ (lit< tt) (h₁₁ .1) in
       let h₁₅ = first-zero 15 (edgeWrong (withoutEdge (natAbs e) (m .edges)) (curveOf l)) _ (lit< tt) (h₁₄ .1) in
       let h₁₉ = first-zero 19 (orderChanges m (natAbs e) (curveOf l)) _ (lit< tt) (h₁₅ .1) in
+      let h₂₂ = first-zero 22 (sidesChange m (natAbs e) (curveOf l)) _ (lit< tt) (h₁₉ .1) in
       record {
         has = has-edge m e (h₄ .0);
         sent = h₅ .0;
@@ -321,6 +323,7 @@ module _ (s : Sizes) (m : Map) where
         nodes-off = h₁₄ .0;
         clear = h₁₅ .0;
         order = h₁₉ .0;
+        sides = h₂₂ .0;
       }
 
   split : (how : Variant) (e x y : ℤ) → firstReason (splitReasons how s m e x y) ≡ 0

@@ -1,4 +1,5 @@
--- The ring that is walked lists just what `next` leads to: 2 * edges steps are enough to come round. Assumes nothing.
+-- The ring that is walked lists just what `next` leads to: 2 * edges steps are enough to come round. It is read from
+-- the links alone. Assumes nothing.
 use mathlib.Core.Path.{_≡_, refl, sym, ap, _∙_, subst}
 use mathlib.Core.Logic.{_⊎_, inl, inr}
 use mathlib.Core.Bool.{Bool, true, false, cond, true≢false}
@@ -19,6 +20,17 @@ use Rattle.planar_maps.proofs.Hooks.{distinct-darts}
 use Rattle.planar_maps.proofs.Leads.{leads-on, leads-join, leads-keep}
 use Rattle.map.specs.Rows.{Map}
 use Rattle.map.specs.Darts.{arcs, directed, leaves, next, bears, stepsTo, ring, among, lowestEdge}
+
+-- two maps whose links are the same have the same rings
+module _ (m k : Map) (h : (d : Dart) → next m d ≡ next k d) where
+  steps-same : (d : Dart) (j : ℕ) (c : Dart) → stepsTo m d j c ≡ stepsTo k d j c
+  unfolding stepsTo
+  steps-same d zero c = refl
+  steps-same d (suc j) c = rw (h c, steps-same d j (next k c))
+
+  pub ring-same : length (m .edges) ≡ length (k .edges) → (d : Dart) → ring m d ≡ ring k d
+  unfolding ring
+  ring-same e d = ap (λ (j : ℕ). stepsTo m d (2 * j) d) e ∙ steps-same d (2 * length (k .edges)) d
 
 -- as many darts as twice the edges
 darts-length : (es : List Arc) → length (darts es) ≡ 2 * length es
@@ -82,6 +94,28 @@ module _ (m : Map) (ds : List Dart) (into : (c : Dart) → List·Memᴰ c ds →
                 inl q
             | inr q ↦ inr (List·Memᴰ·tail q)
           ]
+
+  -- nothing stands twice on the walk, nor what was visited before
+  walk-once : (k : ℕ) {W : List Dart} {c : Dart} → Walk W c → Distinct (stepsTo m d k c)
+      × ((x : Dart) → List·Memᴰ x (stepsTo m d k c) → List·Memᴰ x W → ⊥)
+  unfolding stepsTo
+  walk-once zero w = (tt, λ x i j. List·Memᴰ·not-nil i)
+  walk-once (suc k) {W} {c} w = go (sameDart (next m c) d) refl (λ (u : Walk (c ∷ W) (next m c)). walk-once k u)
+    where
+      go : (b : Bool) → sameDart (next m c) d ≡ b
+          → (Walk (c ∷ W) (next m c) → Distinct (stepsTo m d k (next m c))
+          × ((x : Dart) → List·Memᴰ x (stepsTo m d k (next m c)) → List·Memᴰ x (c ∷ W) → ⊥))
+          → Distinct (c ∷ cond b [] (stepsTo m d k (next m c)))
+          × ((x : Dart) → List·Memᴰ x (c ∷ cond b [] (stepsTo m d k (next m c))) → List·Memᴰ x W → ⊥)
+      go true e ih = (
+        (List·Memᴰ·not-nil, tt),
+        each-cons {p = λ x. List·Memᴰ x W → ⊥} (w .once .0) (λ x i. absurd (List·Memᴰ·not-nil i)),
+      )
+      go false e ih =
+          let r = ih (walk-on w (λ q. true≢false (sym (sameDart-refl d) ∙ ap (λ y. sameDart y d) (sym q) ∙ e))) in (
+            (λ i. r .1 c i (List·Memᴰ·head refl), r .0),
+            each-cons {p = λ x. List·Memᴰ x W → ⊥} (w .once .0) (λ x i j. r .1 x i (List·Memᴰ·tail j)),
+          )
 
 -- only what `next` leads to is walked
 steps-lead : (m : Map) (d : Dart) (k : ℕ) {c : Dart} → Leads (next m) d c → {x : Dart} → List·Memᴰ x (stepsTo m d k c)
@@ -164,6 +198,11 @@ module _ (m : Map) (l : Linked (arcs m) (leaves m) (next m) (bears m)) (dis : Di
     pub ring-leads : {c : Dart} → List·Memᴰ c (ring m d) → Leads (next m) d c
     unfolding ring
     ring-leads k = steps-lead m d (2 * length (m .edges)) (zero, refl) k
+
+    -- nothing stands twice on it
+    pub ring-once : Distinct (ring m d)
+    unfolding ring
+    ring-once = walk-once m (directed m) (λ c k. next-in l k) next-one d (2 * length (m .edges)) start .0
 
     -- a dart is on the ring where the next one is
     pub ring-alike : (x : Dart) → List·Memᴰ x (directed m) → among (ring m d) (next m x) ≡ among (ring m d) x

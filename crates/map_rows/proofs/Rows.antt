@@ -1,8 +1,8 @@
 -- The map's rows by their place in a table: the rows in use are `table` of row i, what the numbers of row i are, and
 -- numbers that rise. Assumes nothing.
-use mathlib.Core.Path.{_≡_, sym, ap, _∙_}
+use mathlib.Core.Path.{_≡_, sym, ap, _∙_, subst}
 use mathlib.Core.Bool.{true, _&&_}
-use mathlib.Core.List.{List, [], _∷_, map}
+use mathlib.Core.List.{List, [], _∷_, map, List·Memᴰ}
 use Prim.Native.Nat.{ℕ, suc, _+_, _*_, _<_, _≤_}
 use native.Mathlib.Omega.{arith}
 use lib.IntN.{ℤ, pos, negsuc, natAbs}
@@ -14,6 +14,7 @@ use Rattle.lists.specs.Tables.{table}
 use Rattle.lists.proofs.Bools.{and-left, and-right}
 use Rattle.tables.specs.Tables.{rows, rowAt, cell, within, isZero, numbered, Rising}
 use Rattle.tables.proofs.Cells.{row-room}
+use Rattle.tables.proofs.Numbers.{getD-in}
 use Rattle.tables.proofs.Tests.{pos-abs}
 use Rattle.tables.proofs.Rows.{row-cell, row-first, rows-all, of-table, of-length, of-getD, rows-rising, numbers-table}
 use Rattle.tables.proofs.Rows.{rises, number-in}
@@ -51,6 +52,11 @@ module _ (l : List ℤ) (n : ℕ) where
 
   pub edges-getD : (i : ℕ) (d : Edge) → i < n → getD (edgesOf l n) i d ≡ edgeAt l i
   edges-getD = of-getD edgeWidth l edgeOf n
+
+  -- edge row i is one of the edges
+  pub edge-member : (i : ℕ) → i < n → List·Memᴰ (edgeAt l i) (edgesOf l n)
+  edge-member i h = subst (λ (r : Edge). List·Memᴰ r (edgesOf l n)) (edges-getD i (edgeAt l i) h)
+      (getD-in (edgesOf l n) i (edgeAt l i) (rw edges-length h))
 
   pub faces-getD : (i d : ℕ) → i < n → getD (facesOf l n) i d ≡ faceAt l i
   faces-getD = of-getD faceWidth l faceRowOf n

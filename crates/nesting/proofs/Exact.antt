@@ -21,13 +21,13 @@ use Rattle.lists.proofs.Keeps.{keep-in, distinct-keep}
 use Rattle.lists.proofs.Perms.{perm-length, perm-of-distinct, perm-distinct, distinct-map, distinct-append}
 use Rattle.planar_maps.specs.Pieces.{pieces}
 use Rattle.map.specs.Rows.{Map, Lent, mapOf, whole}
-use Rattle.map.specs.Darts.{pieceCount}
+use Rattle.map.specs.Darts.{pieceOf, pieceCount}
 use Rattle.map.specs.Form.{formed, ranged, inForm, numbers}
 use Rattle.map.specs.Reasons.{firstReason}
 use Rattle.map.specs.Ticket.{listUnless}
 use Rattle.map.proofs.Laws.{formed-is}
 use Rattle.map_laws.proofs.Faces.{formed-faces}
-use Rattle.nesting.specs.Contents.{pieceOf, pieceRows, partCount, isIn, listedUnder, Line, lines, complete}
+use Rattle.nesting.specs.Contents.{pieceRows, partCount, isIn, listedUnder, Line, lines, complete}
 use Rattle.nesting.specs.Contents.{contents}
 use Rattle.nesting.specs.Contents.{lineCells, contentsOf}
 use Rattle.nesting.specs.Claims.{Part, partOf, facesAndPieces, Once, byRule, DepthEnough, ContentsExact}

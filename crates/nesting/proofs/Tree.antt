@@ -25,7 +25,7 @@ use Rattle.planar_maps.proofs.Rings.{dart-cases, rev-in, Parted, label-rev, rin
 use Rattle.planar_maps.proofs.Splitting.{tail-in}
 use Rattle.map.specs.Rows.{Node, Map, node}
 use Rattle.map.specs.Rows as rows
-use Rattle.map.specs.Darts.{arcs, directed, leaves, next, bears}
+use Rattle.map.specs.Darts.{arcs, directed, leaves, next, bears, pieceOf}
 use Rattle.map.specs.Form.{formed}
 use Rattle.grown.specs.Good.{Good}
 use Rattle.map.proofs.Laws.{edge-there}
@@ -34,7 +34,7 @@ use Rattle.map_laws.proofs.RowChanges.{nodeNumber, node-at}
 use Rattle.grown.proofs.Numbers.Ranked.{RankedMap, Met, numbered-ranked}
 use Rattle.grown.proofs.Plane.Reached.{good-reached}
 use Rattle.grown.proofs.Forms.{good-formed}
-use Rattle.nesting.specs.Contents.{pieceOf, pieceRows, partCount, isIt, ringBears, nodeBears, isIn, listedUnder}
+use Rattle.nesting.specs.Contents.{pieceRows, partCount, isIt, ringBears, nodeBears, isIn, listedUnder}
 use Rattle.nesting.specs.Contents.{Line, listed, lines}
 use Rattle.nesting.specs.Claims.{Part, partOf, facesAndPieces, HasContents}
 use Rattle.nesting.proofs.Branches.{Set, Graph, Edge, Only, Connected, Bridges, endFalse, endTrue}

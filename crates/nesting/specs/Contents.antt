@@ -8,17 +8,12 @@ use lib.IntN.{ℤ, pos}
 use lib.ListN.{length}
 use Rattle.lists.specs.Tests.{same, bit}
 use Rattle.lists.specs.Scans.{anyOf, keep, isSome}
-use Rattle.planar_maps.specs.Pieces.{label}
 use Rattle.map.specs.Rows.{Map, Lent, mapOf}
-use Rattle.map.specs.Darts.{arcs, directed, leaves, bears, pieceCount}
+use Rattle.map.specs.Darts.{directed, leaves, bears, pieceOf, pieceCount}
 use Rattle.map.specs.Reasons.{firstReason}
 use Rattle.map.specs.Ticket.{Listed, lentReasons, listUnless}
 
 -- ---- what is in what
-
--- the piece of a node, by its lowest node number
-abbrev pub pieceOf : Map → ℕ → ℕ
-pieceOf m n = label (arcs m) n
 
 -- all pieces, by lowest node number
 unfoldable pub pieceRows : Map → List ℕ

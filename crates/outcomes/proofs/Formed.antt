@@ -155,7 +155,7 @@ module _ {nodes edges faces : List ℤ} {h : Head} (f : Formed nodes edges faces
       (hasEdge m (e .nextRight .edge)) k₁ in
       rw left right
 
-  edges-named : allOf (edgeNames (mapOf (lent nodes edges faces h))) (edgesOf edges (natAbs (h .edges))) ≡ true
+  pub edges-named : allOf (edgeNames (mapOf (lent nodes edges faces h))) (edgesOf edges (natAbs (h .edges))) ≡ true
   unfolding mapOf named
   edges-named =
       let m = mapOf (lent nodes edges faces h) in

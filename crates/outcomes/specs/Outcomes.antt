@@ -21,9 +21,13 @@ pub record Formed (nodes edges faces : List ℤ) (h : Head) : Type 0 where
   pub whole : whole (lent nodes edges faces h) ≡ true
   pub in-form : inForm (lent nodes edges faces h) ≡ true
 
--- a ticket of a known kind on tables in form: carried out unless a reason from 4 on holds
+-- the first reason from 4 on against a ticket of a known kind, on tables in form; 0 for none
+abbrev pub reasonAgainst : Lent → Ticket → ℕ
+reasonAgainst l t = firstReason (reasons (sizesOf l) (mapOf l) t)
+
+-- such a ticket: carried out unless a reason holds
 abbrev pub decided : Lent → Ticket → Outcome
-decided l t = unless l (firstReason (reasons (sizesOf l) (mapOf l) t)) (carried (mapOf l) t)
+decided l t = unless l (reasonAgainst l t) (carried (mapOf l) t)
 
 -- what a call left and answered
 abbrev pub outcome : List ℤ → List ℤ → List ℤ → Done → Outcome

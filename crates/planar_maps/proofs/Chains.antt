@@ -51,7 +51,7 @@ chain-image φ h (against a m p) = chain-join (chain-back (h a m)) (chain-image 
 
 -- ---- labels
 
-merge-cases : (s t x : ℕ)
+pub merge-cases : (s t x : ℕ)
     → ((merge s t x ≡ min s t) × ((x ≡ s) ⊎ (x ≡ t))) ⊎ ((merge s t x ≡ x) × ((x ≡ s) → ⊥) × ((x ≡ t) → ⊥))
 merge-cases s t x = elim (which (same x s)) [
   | inl e ↦ inl (rw e, inl (same-true x s e))
@@ -64,7 +64,7 @@ merge-cases s t x = elim (which (same x s)) [
 merge-left : (s t : ℕ) → merge s t s ≡ min s t
 merge-left s t = rw (same-refl s)
 
-merge-right : (s t : ℕ) → merge s t t ≡ min s t
+pub merge-right : (s t : ℕ) → merge s t t ≡ min s t
 merge-right s t = elim (which (same t s)) [ inl e ↦ rw e | inr e ↦ rw (e, same-refl t) ]
 
 pub min-one : (s t : ℕ) → (min s t ≡ s) ⊎ (min s t ≡ t)

@@ -1,9 +1,9 @@
 -- Scans of all rows but one: of all rows, where that one is past the last, and else of the rows without its number.
 -- Assumes nothing.
-use mathlib.Core.Path.{_≡_, refl, sym, ap, _∙_}
-use mathlib.Core.Bool.{Bool, not, _&&_}
+use mathlib.Core.Path.{_≡_, sym, ap, _∙_}
+use mathlib.Core.Bool.{not, _&&_}
 use mathlib.Core.Logic.{inl, inr, ⊎-elim}
-use mathlib.Core.List.{List, [], _∷_, map, List·Memᴰ, List·Memᴰ·cases-cons, List·Memᴰ·not-nil}
+use mathlib.Core.List.{List, map, List·Memᴰ, List·Memᴰ·cases-cons, List·Memᴰ·not-nil}
 use Prim.Native.Nat.{ℕ, zero, suc, _+_, _*_, _<_, _≤_}
 use native.Mathlib.Omega.{arith}
 use lib.IntN.{ℤ, pos}
@@ -12,8 +12,8 @@ use Rattle.lists.specs.Tests.{same}
 use Rattle.lists.specs.Scans.{anyOf, keep}
 use Rattle.lists.specs.Tables.{table, place}
 use Rattle.lists.specs.declared.Found.the-variants.{At}
-use Rattle.lists.proofs.Bools.{which, equal?, same-eq, same-false}
-use Rattle.lists.proofs.Keeps.{keep-map, keep-all}
+use Rattle.lists.proofs.Bools.{equal?, same-eq, same-false}
+use Rattle.lists.proofs.Keeps.{keep-map, keep-all, any-kept}
 use Rattle.plane.specs.declared.Point.{Point}
 use Rattle.plane.specs.Points.{samePoint}
 use Rattle.map.specs.Limits.{nodeWidth, edgeWidth}
@@ -26,14 +26,6 @@ use Rattle.tables.proofs.Rows.{map-table, rows-all}
 use Rattle.map_rows.proofs.Rows.{node-cells, edge-cells, nodes-table, edges-table, node-rows-rising, edge-rows-rising}
 use Rattle.tables.proofs.Lookups.{row-place}
 use Rattle.reason_curves.specs.Sent.{edgesBut}
-
-module _ {A B : Type 0} (q : B → Bool) (f : A → B) (k : A → Bool) where
-  -- a scan of the images of the elements that are kept
-  pub any-kept : (l : List A) → anyOf q (map f (keep k l)) ≡ anyOf (λ a. k a && q (f a)) l
-  any-kept [] = refl
-  any-kept (a ∷ l) =
-      let later = any-kept l in
-      elim (which (k a)) [ inl e ↦ rw (e, later) | inr e ↦ rw e later ]
 
 -- ---- the rows but row `own`, by place and by number
 

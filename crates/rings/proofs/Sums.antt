@@ -2,17 +2,21 @@
 use mathlib.Core.Path.{_≡_, refl, sym, ap, _∙_}
 use mathlib.Core.Bool.{Bool, true, false, not, Bool·beq}
 use mathlib.Core.List.{List, [], _∷_}
-use Prim.Native.Nat.{ℕ, _+_, _*_, _-_, _/_, _≤_, _<_}
+use Prim.Native.Nat.{ℕ, zero, suc, _+_, _*_, _-_, _/_, _≤_, _<_}
 use native.Mathlib.Omega.{arith}
 use lib.Dec.{lit<}
-use lib.IntN.{ℤ, pos, _+ℤ_}
+use lib.IntN.{ℤ, pos, negsuc, _+ℤ_}
+use lib.Signed.{ltZ}
 use mir.Syntax.{w64}
 use mir.Val.{SFits}
+use borrow.Author.Tests.{lt-ltb}
 use Rattle.lists.specs.Tests.{_⊕_}
 use Rattle.lists.proofs.Bools.{eq1, eq3}
 use Rattle.integers.specs.Machine.{fits-within}
+use Rattle.integers.specs.Order.{sgn}
 use Rattle.integers.specs.Solver.{con, _⊕_ as _⊞_, _≐_, solve}
 use Rattle.plane.specs.declared.Point.{Point}
+use Rattle.plane.specs.Areas.{isPositive}
 use Rattle.curves.specs.Curves.{Curve}
 use Rattle.curves.specs.Edits as edits
 use Rattle.curves.specs.Measures.{curveArea, oddBelow}
@@ -56,6 +60,12 @@ pub sum-fits : (k : ℕ) {z : ℤ} → k ≤ 4000 → Within (curveMost * k) z �
 sum-fits k {z} few h =
     let m = within-more (curveMost * k) 48378419347500000 (omega arith) h in
     fits-within w64 48378419347500000 z (lit< tt) (m .least) (m .most)
+
+-- an area is positive
+pub positive-is : (z : ℤ) → ltZ (pos 0) z ≡ isPositive (sgn z)
+positive-is (pos zero) = refl
+positive-is (pos (suc n)) = lt-ltb 0 (suc n) (omega arith)
+positive-is (negsuc n) = refl
 
 add-zero-left : (z : ℤ) → pos 0 +ℤ z ≡ z
 add-zero-left = solve 1 (λ z. con (pos 0) ⊞ z ≐ z) tt

@@ -7,7 +7,7 @@ ghost use lib.ListN.{length};
 ghost use lib.Seq.{paste};
 ghost use Rattle.map.specs.Limits.{maxEdges};
 ghost use Rattle.map.specs.Rows.{dartCell};
-ghost use Rattle.map.specs.Darts.{ring};
+ghost use Rattle.map.specs.Darts.{ring, among, isLowest};
 ghost use Rattle.map_rows.specs.Rows.{EdgeRows, edgeMap, EdgeRow, edgeAt};
 ghost use Rattle.darts.specs.Positions.{dartAt, odd};
 ghost use Rattle.plane.specs.Points.{InRange};
@@ -33,6 +33,44 @@ pub fn mark_ring(edges: &[i64], count: usize, p: usize, v: u16, marks: &mut [u16
         }
     }
     count * 2
+}
+
+// Whether the ring of p meets position q.
+pub fn on_ring(edges: &[i64], count: usize, p: usize, q: usize) -> bool
+    requires { ⌜ EdgeRows (now edges) count × (count ≤ maxEdges) × (p < count * 2) × (q < count * 2) ⌝ }
+    ensures { λ r. ⌜
+        r ≡ among (ring (edgeMap (now (edges .entry)) count) (dartAt (now (edges .entry)) p))
+        (dartAt (now (edges .entry)) q) ⌝ }
+{
+    let first = p as u16;
+    let mut c = first;
+    for k in 0..count * 2 {
+        if c as usize == q {
+            return true;
+        }
+        c = darts::next_position(edges, count, c);
+        if c == first {
+            return false;
+        }
+    }
+    false
+}
+
+// Whether position p is the lowest of its ring.
+pub fn is_lowest(edges: &[i64], count: usize, p: usize) -> bool
+    requires { ⌜ EdgeRows (now edges) count × (count ≤ maxEdges) × (p < count * 2) ⌝ }
+    ensures { λ r. ⌜
+        r ≡ isLowest (edgeMap (now (edges .entry)) count) (dartAt (now (edges .entry)) p) ⌝ }
+{
+    let first = p as u16;
+    let mut c = first;
+    for k in 0..count * 2 - 1 {
+        c = darts::next_position(edges, count, c);
+        if c <= first {
+            return c == first;
+        }
+    }
+    true
 }
 
 // Writes the ring of p from `at` on, as n directed edges.

@@ -4,46 +4,38 @@ use borrow.Author.Needs.{needs}
 use mathlib.Core.Path.{_≡_, sym, _∙_}
 use native.Mathlib.Omega.{arith}
 use lib.IntN.{pos}
-use Rattle.map.specs.Rows.{mapOf, sizesOf, lent}
+use Rattle.curves.specs.Curves.{Run}
 use Rattle.map.specs.Tickets.{ChangeEdgeGeom}
-use Rattle.map.specs.Reasons.{firstReason, reasons}
 use Rattle.map_rows.specs.Rows.{edgeAt}
 use Rattle.map_rows.proofs.Rows.{edge-row-of}
 use Rattle.outcomes.proofs.Formed.{edge-rows, decided-refused, decided-carried}
-use Rattle.edge_rows.proofs.Formed.{held}
 use Rattle.edit_curve.proofs.ChangeReasons.{change-run}
 use Rattle.edit_curve.proofs.Changed.{change-reasons, change-lent, change-value}
 use Rattle.edit_curve.proofs.change_between.Statement.{statement}
 use Rattle.edit_curve.proofs.change_between.Tie as tie
-
-first : (c : tie.After-change-reason)
-    → let a = c .before .before .args in
-    let l = lent (a .nodes .now) (a .edges .now) (a .faces .now) (a .h) in
-    firstReason (reasons (sizesOf l) (mapOf l)
-    (ChangeEdgeGeom (pos (edgeAt (a .edges .now) (a .i) .number)) (a .c .now))) ≡ c .change-reason .result
-first c =
-    let s = c .before .before in
-    let a = s .args in
-    change-reasons (s .pre .0) (a .c .now) (a .i) (s .pre .1) (a .u) (a .v) (s .pre .2)
-    ∙ sym (c .change-reason .ensures)
 
 refused : tie.Need-returns
 refused c =
     let g = c .before .before in
     let a = g .before .before .args in
     decided-refused (a .nodes .now) (a .edges .now) (a .faces .now) (a .h)
-    (ChangeEdgeGeom (pos (edgeAt (a .edges .now) (a .i) .number)) (a .c .now)) (g .change-reason .result)
-    (let z = c .before .if1 .taken in omega arith) (c .refused .ensures) (first g)
+    (ChangeEdgeGeom (pos (edgeAt (a .edges .now) (a .i) .number)) (a .c .now)) (g .redraw-reason .result)
+    (let z = c .before .if1 .taken in omega arith) (c .refused .ensures) (sym (g .redraw-reason .ensures))
+
+-- with no reason against it the curve is a run
+run : (c : tie.After-redraw-reason) → c .redraw-reason .result ≡ 0 → Run (c .before .before .args .c .now)
+run c none =
+    let s = c .before .before in
+    let a = s .args in
+    change-run (a .nodes .now) (a .edges .now) (a .h) (a .i) (a .u) (a .v) (a .c .now) _
+    (sym (change-reasons (s .pre .0) (a .c .now) (a .i) (s .pre .1) (a .u) (a .v) (s .pre .2))
+    ∙ sym (c .redraw-reason .ensures) ∙ none)
 
 write-curve-requires : tie.Need-write-curve-requires
 write-curve-requires c κs =
     let g = c .before .before in
     let s = g .before .before in
-    let a = s .args in (
-      edge-row-of (edge-rows (s .pre .0)) (a .i) (s .pre .1),
-      change-run (a .nodes .now) (a .edges .now) (a .h) (a .i) (a .u) (a .v) (a .c .now)
-          (sym (g .change-reason .ensures) ∙ c .before .if1 .left),
-    )
+    (edge-row-of (edge-rows (s .pre .0)) (s .args .i) (s .pre .1), run g (c .before .if1 .left))
 
 written : tie.Need-returns-2
 written c =
@@ -52,18 +44,16 @@ written c =
     let g = c .before .before .before .before .before in
     let s = g .before .before in
     let a = s .args in
-    let run = change-run (a .nodes .now) (a .edges .now) (a .h) (a .i) (a .u) (a .v) (a .c .now)
-    (sym (g .change-reason .ensures) ∙ none) in
     decided-carried (a .nodes .now) (a .edges .now) (a .faces .now) (a .h)
     (ChangeEdgeGeom (pos (edgeAt (a .edges .now) (a .i) .number)) (a .c .now)) (a .nodes .now) (w .last .0)
-    (a .faces .now) (a .h) (pos 0) (c .carried .ensures) (first g ∙ none)
-    (change-lent (s .pre .0) (a .c .now) (a .i) (s .pre .1) run (w .ensures)) (change-value _ _ _)
+    (a .faces .now) (a .h) (pos 0) (c .carried .ensures) (sym (g .redraw-reason .ensures) ∙ none)
+    (change-lent (s .pre .0) (a .c .now) (a .i) (s .pre .1) (run g none) (w .ensures)) (change-value _ _ _)
 
 pub change-between-spec : {M : Type 1} → statement M
 change-between-spec =
     tie.close
     (tie.spec
-    (λ c κs. let p = c .before .pre in (held (p .0), p .1, p .2 .start-in, p .2 .end-in))
+    (λ c κs. c .before .pre)
     (λ c κs. search needs) (λ c. search needs)
     refused
     write-curve-requires

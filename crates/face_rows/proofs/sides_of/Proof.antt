@@ -19,7 +19,8 @@ use Rattle.map.specs.Faces.{ringArea}
 use Rattle.map_rows.specs.Rows.{edgeMap}
 use Rattle.darts.specs.Positions.{dartAt}
 use Rattle.head.proofs.Words.{small-fits, plus-fits, plus-is}
-use Rattle.face_rows.proofs.Words.{either, positive-is}
+use Rattle.rings.proofs.Sums.{positive-is}
+use Rattle.face_rows.proofs.Words.{either}
 use Rattle.face_rows.proofs.sides_of.Statement.{statement}
 use Rattle.face_rows.proofs.sides_of.Tie as tie
 

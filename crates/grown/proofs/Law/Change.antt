@@ -1,12 +1,11 @@
--- Kinds 1, 2, 3 and 6: isolated nodes, and an edge redrawn that leaves the cyclic order at its ends, keep the law. What
--- a redrawn map reads. Curves may cross. Assumes nothing.
-use mathlib.Core.Path.{_≡_, refl, sym, ap, _∙_, subst}
+-- Kinds 1, 2, 3 and 6: isolated nodes, and an edge redrawn that leaves the cyclic order at its ends, keep the law.
+-- Curves may cross. Assumes nothing.
+use mathlib.Core.Path.{_≡_, sym, ap, _∙_, subst}
 use mathlib.Core.Logic.{inl, inr, _≢_}
-use mathlib.Core.Bool.{Bool, true, false, cond, not}
+use mathlib.Core.Bool.{Bool, true, false, not}
 use mathlib.Core.List.{List·Memᴰ}
 use Prim.Native.Nat.{ℕ}
 use borrow.Author.Tests.{not-false}
-use Rattle.lists.specs.Tests.{same}
 use Rattle.lists.proofs.Bools.{equal?, or-false}
 use Rattle.lists.proofs.Members.{none-has}
 use Rattle.planar_maps.specs.Map.{Dart, rev}
@@ -17,14 +16,13 @@ use Rattle.plane.specs.Directions.{sameWay}
 use Rattle.curves.specs.Curves.{Curve}
 use Rattle.rotation.specs.Law.{lawfulNext}
 use Rattle.rotation.proofs.Order.{sameWay-refl}
-use Rattle.map.specs.Rows.{Edge, Map, edge, atNodes, atEdge}
-use Rattle.map.specs.Darts.{arcs, leaves, next, bears, course, way, departures}
+use Rattle.map.specs.Rows.{Map, edge, atNodes}
+use Rattle.map.specs.Darts.{leaves, next, course, way, departures}
 use Rattle.map.specs.Links.{clockwise}
-use Rattle.map.specs.Edits.{addIsoNode, moveIsoNode, removeIsoNode, withCurve, changeEdgeGeom}
+use Rattle.map.specs.Edits.{addIsoNode, moveIsoNode, removeIsoNode, changeEdgeGeom}
 use Rattle.map.specs.Reasons.{turnChanges, orderChanges}
-use Rattle.map_laws.proofs.Readings.{tailIn, nextIn, faceIn, leaves-row, next-row, bears-row, course-row, way-row}
-use Rattle.map_laws.proofs.Readings.{departs, departures-by, mapped-kept, mapped-arcs}
-use Rattle.map_laws.proofs.RowChanges.{at-other}
+use Rattle.map_laws.proofs.Readings.{tailIn, leaves-row, way-row, departs, departures-by}
+use Rattle.map_laws.proofs.Redrawn.{same-arcs, same-leaves, same-next, other-course}
 use Rattle.map_laws.proofs.LawOrder.{lawful-alike}
 use Rattle.grown.proofs.Law.Lawful.{Obeys}
 
@@ -48,43 +46,12 @@ module _ (m : Map) (e : ℕ) (c : Curve) where
   abbrev redrawn : Map
   redrawn = changeEdgeGeom e c m
 
-  abbrev recurved : Edge → Edge
-  recurved r = cond (same (r .number) e) (withCurve c r) r
-
-  by-case : {B : Type 0} (g : Edge → B) → ((r : Edge) → g (withCurve c r) ≡ g r) → (r : Edge) → g (recurved r) ≡ g r
-  by-case {B} g h r = go (same (r .number) e)
-    where
-      go : (b : Bool) → g (cond b (withCurve c r) r) ≡ g r
-      go true = h r
-      go false = refl
-
-  kept : {B : Type 0} (g : Edge → B) → ((r : Edge) → g (withCurve c r) ≡ g r) → (x : ℕ) → g (edge redrawn x)
-      ≡ g (edge m x)
-  unfolding changeEdgeGeom atEdge
-  kept g h = mapped-kept m (changeEdgeGeom e c m) recurved refl (λ r k. by-case (λ r. r .number) (λ r. refl) r) g
-      (by-case g h)
-
-  pub same-arcs : arcs redrawn ≡ arcs m
-  unfolding changeEdgeGeom atEdge
-  same-arcs = mapped-arcs m (changeEdgeGeom e c m) recurved refl (λ r k. by-case (λ r. r .number) (λ r. refl) r)
-      (λ r k. by-case (λ r. record { num = r .number; from = r .start; to = r .end }) (λ r. refl) r)
-
-  pub same-leaves : (d : Dart) → leaves redrawn d ≡ leaves m d
-  same-leaves d = leaves-row redrawn d ∙ kept (tailIn (d .back)) (λ r. refl) (d .edge) ∙ sym (leaves-row m d)
-
-  pub same-next : (d : Dart) → next redrawn d ≡ next m d
-  same-next d = next-row redrawn d ∙ kept (nextIn (d .back)) (λ r. refl) (d .edge) ∙ sym (next-row m d)
-
-  pub same-bears : (d : Dart) → bears redrawn d ≡ bears m d
-  same-bears d = bears-row redrawn d ∙ kept (faceIn (d .back)) (λ r. refl) (d .edge) ∙ sym (bears-row m d)
-
   -- only the edge e departs in other directions
   same-way : (d : Dart) → d .edge ≢ e → way redrawn d ≡ way m d
-  unfolding changeEdgeGeom
-  same-way d ne = rw (way-row, way-row, course-row, course-row, at-other e (withCurve c) m (λ r k q. q) (d .edge) ne)
+  same-way d ne = rw (way-row, way-row, other-course m e c d ne)
 
   same-departures : (n : ℕ) → departures redrawn n ≡ departures m n
-  same-departures = departures-by m redrawn same-arcs (λ d k. same-leaves d)
+  same-departures = departures-by m redrawn (same-arcs m e c) (λ d k. same-leaves m e c d)
 
   -- the first departure met clockwise from each is the one it was, by the cyclic order at the ends of e
   same-first : (n : ℕ) (d : Dart) → List·Memᴰ d (departures m n) → turnChanges m redrawn n ≡ false
@@ -93,7 +60,8 @@ module _ (m : Map) (e : ℕ) (c : Curve) where
   same-first n d k h = ap (λ (x : ℕ). lawfulNext (way m) sameDart d (departures m x)) (sym (departs m n k .1))
       ∙ sameDart-true (clockwise m d) (clockwise redrawn d)
       (not-false _ (none-has (λ d. not (sameDart (clockwise m d) (clockwise redrawn d))) (departures m n) h d k))
-      ∙ ap (λ (x : ℕ). lawfulNext (way redrawn) sameDart d (departures redrawn x)) (same-leaves d ∙ departs m n k .1)
+      ∙ ap (λ (x : ℕ). lawfulNext (way redrawn) sameDart d (departures redrawn x))
+      (same-leaves m e c d ∙ departs m n k .1)
 
   -- and away from them nothing turns
   same-elsewhere : (n : ℕ) (d : Dart) → List·Memᴰ d (departures m n) → edge m e .start ≢ n → edge m e .end ≢ n
@@ -114,7 +82,7 @@ module _ (m : Map) (e : ℕ) (c : Curve) where
 
   pub change-obeys : orderChanges m e c ≡ false → Obeys m → Obeys (changeEdgeGeom e c m)
   unfolding departures orderChanges
-  change-obeys order l n d k = same-next (rev d) ∙ l n d old ∙ elim (equal? (edge m e .start) n) [
+  change-obeys order l n d k = same-next m e c (rev d) ∙ l n d old ∙ elim (equal? (edge m e .start) n) [
     | inl p ↦ same-first n d old (subst (λ (x : ℕ). turnChanges m redrawn x ≡ false) p (ends .0))
     | inr ns ↦ elim (equal? (edge m e .end) n) [
       | inl p ↦ same-first n d old

@@ -29,8 +29,8 @@ use Rattle.map.specs.Reasons.{isolated}
 use Rattle.map.proofs.Laws.{node-there}
 use Rattle.map_laws.proofs.RowChanges.{nodeNumber, noNode}
 use Rattle.grown.specs.Good.{InPlane}
+use Rattle.map_laws.proofs.Redrawn.{same-arcs, same-leaves, same-next, same-bears}
 use Rattle.grown.proofs.Law.Lawful.{Lawful}
-use Rattle.grown.proofs.Law.Change.{same-arcs, same-leaves, same-next, same-bears}
 
 -- ---- the nodes in another order
 

@@ -14,6 +14,7 @@ use Rattle.lists.specs.Tests.{same}
 use Rattle.lists.specs.Scans.{anyOf}
 use Rattle.lists.specs.Tables.{table}
 use Rattle.lists.proofs.Bools.{&&-false}
+use Rattle.lists.proofs.Keeps.{any-kept}
 use Rattle.lists.proofs.Scans.{any-hit, any-miss, any-end}
 use Rattle.curves.specs.Curves.{Curve, curveOf}
 use Rattle.curves.specs.Tests.{meetWrongly}
@@ -25,7 +26,6 @@ use Rattle.map.specs.Reasons.{edgeWrong}
 use Rattle.map_rows.specs.Rows.{edgeAt}
 use Rattle.map_rows.proofs.Rows.{edge-row-of}
 use Rattle.reason_curves.specs.Sent.{edgesBut}
-use Rattle.reason_curves.proofs.Others.{any-kept}
 use Rattle.reason_curves.proofs.edge_wrong.Statement.{statement}
 use Rattle.reason_curves.proofs.edge_wrong.Tie as tie
 
