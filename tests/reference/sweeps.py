@@ -30,7 +30,10 @@ def passes(p, old, new):
 def led_round(rng, e, i, points, to, back):
     """Segment i of the edge led round the points, over the first of them, in some order."""
     a, b = e.points[i:i + 2]
-    ways = [(a, *map(to, path), b) for path in paths([back(p) for p in points])]
+    spots = [back(p) for p in points]
+    if None in spots:       # a curve that was turned over may lie off the sheet
+        return []
+    ways = [(a, *map(to, path), b) for path in paths(spots)]
     ways = [w for w in ways if None not in w and passes(points[0], (a, b), w)]
     return [drawn(e, e.points[:i] + w + e.points[i + 2:]) for w in rng.sample(ways, len(ways))]
 
