@@ -19,7 +19,7 @@ use std::time::Instant;
 
 #[path = "../include/solgwid.rs"]
 mod solgwid;
-use solgwid::{Map, Refusal};
+use solgwid::{EDGE_WIDTH, FACE_WIDTH, Map, NODE_WIDTH, Refusal};
 
 const SIDE: i64 = 100;
 const KINDS: usize = 14;
@@ -43,24 +43,27 @@ fn roomy(map: &Map, spare: usize) -> Map {
         wide
     };
     let mut wide = map.clone();
-    wide.nodes = fit(&map.nodes, 4, map.head[0], 1000);
-    wide.edges = fit(&map.edges, 32, map.head[1], 2000);
-    wide.faces = fit(&map.faces, 1, map.head[2], 1000);
+    wide.nodes = fit(&map.nodes, NODE_WIDTH, map.head[0], 1000);
+    wide.edges = fit(&map.edges, EDGE_WIDTH, map.head[1], 2000);
+    wide.faces = fit(&map.faces, FACE_WIDTH, map.head[2], 1000);
     wide
 }
 
+/// The rows in use of the three tables.
+fn used(map: &Map) -> [&[i64]; 3] {
+    let cells = |i: usize, width: usize| map.head[i] as usize * width;
+    [&map.nodes[..cells(0, NODE_WIDTH)], &map.edges[..cells(1, EDGE_WIDTH)], &map.faces[..cells(2, FACE_WIDTH)]]
+}
+
 fn bare_pass(map: &Map) -> i64 {
-    let sum = |table: &[i64], n: i64| table[..n as usize].iter().fold(0i64, |a, &b| a.wrapping_add(b));
-    sum(&map.nodes, map.head[0] * 4)
-        .wrapping_add(sum(&map.edges, map.head[1] * 32))
-        .wrapping_add(sum(&map.faces, map.head[2]))
+    let sum = |table: &[i64]| table.iter().fold(0i64, |a, &b| a.wrapping_add(b));
+    used(map).into_iter().fold(0i64, |a, table| a.wrapping_add(sum(table)))
 }
 
 /// The same rows, each number compared with a bound: what a check costs that finds nothing. It may stop at each number,
 /// so it is not made into vector instructions.
 fn tested_pass(map: &Map) -> bool {
-    let tested = |table: &[i64], n: i64| table[..n as usize].iter().all(|&z| z >= -1_000_000);
-    tested(&map.nodes, map.head[0] * 4) && tested(&map.edges, map.head[1] * 32) && tested(&map.faces, map.head[2])
+    used(map).iter().all(|table| table.iter().all(|&z| z >= -1_000_000))
 }
 
 /// What stands in one plot of the grid.
@@ -278,7 +281,7 @@ fn measure(map: &Map, plots: &[Plot]) -> Times {
         refused[kind - 1] = median(no);
     }
     let beside = BESIDE.map(|(_, has)| redrawing_times(map, plots, has));
-    let face = |i: usize| map.faces[i * 13 % map.head[2] as usize];
+    let face = |i: usize| map.faces[i * 13 % map.head[2] as usize * FACE_WIDTH];
     let listed = median((0..PLACES).map(|i| face_time(map, face(i), true)).collect());
     let unlisted = median((0..PLACES).map(|_| face_time(map, 999_999, false)).collect());
     let rows = [map.head[0], map.head[1], map.head[2]];

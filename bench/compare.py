@@ -2,15 +2,16 @@
 """Two builds of the static library timed in turn: what a change did to speed.
 
   compare.py OLD.a NEW.a [RUNS]    ratios of the least times, NEW to OLD, by setting and kinds (default 6 runs each);
-                                   of redrawings (kind 6) at 1,000 edges also the times
+                                   at 1,000 edges also the times, of all kinds in the mean and of redrawings (kind 6)
 
 Runs are taken in turn, so that both meet the same minutes, and of each cell the least time counts: a machine's clock
-moves, and times alone say little. Needs rustc; about six seconds a run.
+moves, and times alone say little. Needs rustc and a C compiler; about six seconds a run.
 A redrawing past wells or an island is turned down with 22, and carried out by a library of before landing 13: there
-the ratio is that of a refusal to an edit.
+the ratio is that of a refusal to an edit. A library of before landing 14 gets face rows of one number.
 """
 
 import csv
+import ctypes
 import pathlib
 import shutil
 import statistics
@@ -18,9 +19,11 @@ import subprocess
 import sys
 import tempfile
 
-BENCH = pathlib.Path(__file__).resolve().parent / 'bench.rs'
+ROOT = pathlib.Path(__file__).resolve().parent.parent
+BENCH, WRAPPER = 'bench/bench.rs', 'include/solgwid.rs'
+FACE_WIDTH = 'FACE_WIDTH: usize = {};'
 NEW_FACES = {'11', '12'}                       # kinds that walk rings, as 6 does
-LISTED = 'edges of a face'
+LISTED, PASS = 'edges of a face', 'bare pass'
 BESIDE = ('6 beside wells', '6 beside an island')
 KINDS = {str(kind) for kind in range(1, 15)}
 ENDS = CARRIED, REFUSED = 'carried out', 'turned down'
@@ -30,13 +33,28 @@ GROUPS = (('kinds 1 to 5, 7 to 10, 13, 14', KINDS - NEW_FACES - {'6'}, ENDS), ('
 EDGES = '1000'
 
 
+def face_width(library, folder):
+    """The numbers of a face row: one where a face table of one number is whole."""
+    shared = folder / 'solgwid.so'
+    whole = '-Wl,--whole-archive', library, '-Wl,--no-whole-archive'
+    subprocess.run(['cc', '-shared', '-o', shared, *whole], check=True)
+    none = None, ctypes.c_size_t(0)
+    one, head = (ctypes.c_int64 * 1)(), (ctypes.c_int64 * 6)()
+    refusal = ctypes.CDLL(str(shared)).solgwid_empty_map(*none, *none, one, ctypes.c_size_t(1), head)
+    return 5 if refusal else 1
+
+
 def build(library, folder):
-    """The bench over a library."""
+    """The bench over a library, with the face rows that this takes."""
     folder.mkdir()
     shutil.copy(library, folder / 'libsolgwid.a')
-    program = folder / 'bench'
-    subprocess.run(['rustc', '-O', '--edition', '2021', BENCH, '-L', folder, '-l', 'static=solgwid', '-o', program],
-                   check=True)
+    width = face_width(library, folder)
+    for path in BENCH, WRAPPER:
+        (folder / path).parent.mkdir()
+        (folder / path).write_text((ROOT / path).read_text().replace(FACE_WIDTH.format(5), FACE_WIDTH.format(width)))
+    program = folder / 'times'
+    subprocess.run(['rustc', '-O', '--edition', '2021', folder / BENCH, '-L', folder, '-l', 'static=solgwid', '-o',
+                    program], check=True)
     return program
 
 
@@ -47,7 +65,7 @@ def times(program):
     subprocess.run([program, file], check=True, stdout=subprocess.DEVNULL)
     rows = csv.DictReader(line for line in file.open() if not line.startswith('#'))
     return {(row['setting'], row['kind'], row['edges'], end): float(row[end])
-            for row in rows if row['kind'] in KINDS | {LISTED, *BESIDE} for end in ENDS}
+            for row in rows if row['kind'] in KINDS | {LISTED, PASS, *BESIDE} for end in ENDS if row[end]}
 
 
 def least(runs):
@@ -59,6 +77,11 @@ def report(before, after):
         for name, kinds, ends in GROUPS:
             found = [after[c] / before[c] for c in before if c[0] == setting and c[1] in kinds and c[3] in ends]
             print(f'{setting}, {name}: mean {statistics.mean(found):.3f}, {min(found):.3f} to {max(found):.3f}')
+        bare = before[setting, PASS, EDGES, CARRIED]
+        for end in ENDS:
+            old, new = (statistics.mean(run[setting, kind, EDGES, end] for kind in KINDS) for run in (before, after))
+            print(f'{setting}, kinds 1 to 14, {end}: {old:.1f} us before, {new:.1f} after, '
+                  f'{(new - old) / bare:.2f} bare passes of {bare:.1f} us more')
         for cell in before:
             if cell[0] == setting and cell[1] in ('6', *BESIDE) and cell[2] == EDGES:
                 end = 'past them' if cell[1] in BESIDE and cell[3] == REFUSED else cell[3]

@@ -1,4 +1,5 @@
-/* Friday's levy: a week of tickets in one call, then a walk round every plot.
+/* Friday's levy: a week of tickets in one call, then a walk round every plot. At last a screen's question: which plots
+   may have a point in a window?
 
        rt staticlib solgwid && cc -Iinclude examples/levy.c target/staticlib/libsolgwid.a -o levy
        ./levy < examples/meadow.txt */
@@ -45,7 +46,18 @@ static void print_face(int64_t face) {
     printf("\n");
 }
 
+/* The plots whose rectangles meet a window. The first row is face 0, which has none. */
+static void print_window(solgwid_point least, solgwid_point greatest) {
+    printf("window (%" PRId64 ",%" PRId64 ") to (%" PRId64 ",%" PRId64 "):", least.x, least.y, greatest.x, greatest.y);
+    for (int64_t i = 1; i < map.head.face_count; i++)
+        if (faces[i].least_x <= greatest.x && least.x <= faces[i].greatest_x
+            && faces[i].least_y <= greatest.y && least.y <= faces[i].greatest_y)
+            printf(" %" PRId64, faces[i].number);
+    printf("\n");
+}
+
 int main(void) {
+    const solgwid_point least = {12, 7}, greatest = {23, 12};
     char line[LINE + 2];
     for (; ticket_count < TICKETS && fgets(line, LINE + 2, stdin); ticket_count++)
         for (char *word = strtok(line, " \n"); word; word = strtok(NULL, " \n"), lengths[ticket_count]++)
@@ -55,5 +67,6 @@ int main(void) {
         if (refusals[i] != SOLGWID_DONE)
             printf("ticket %zu: refused, %" PRIu64 ": %s\n", i + 1, refusals[i], solgwid_refusal_text(refusals[i]));
     for (int64_t i = 0; i < map.head.face_count; i++) print_face(faces[i].number);
+    print_window(least, greatest);
     return 0;
 }

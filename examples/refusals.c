@@ -50,13 +50,16 @@ static void try_well(const char *cause) {
 int main(void) {
     int64_t *nodes = (int64_t *)lent.nodes, *edges = (int64_t *)lent.edges, *faces = (int64_t *)lent.faces;
     draw_plot();
-    print_refusal("half a row", solgwid_empty_map(nodes, 6, edges, 32, faces, 1, (int64_t *)&lent.map.head));
+    print_refusal("half a row", solgwid_empty_map(nodes, 6, edges, SOLGWID_EDGE_WIDTH, faces, SOLGWID_FACE_WIDTH,
+                                                  (int64_t *)&lent.map.head));
     lent.map.node_room = SOLGWID_MAX_NODES + 1;
     try_well("a row above the limit");
     lent.map.face_room = 0;
     try_well("no face row");
     lent.edges[0].next_left = -1;
     try_well("a spoiled link");
+    lent.faces[1].greatest_x = 11;
+    try_well("a spoiled rectangle");
     lent.map.head.node_count = 2;
     try_well("a spoiled count");
     lent.map.node_room = 1;

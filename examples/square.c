@@ -44,12 +44,15 @@ int main(void) {
     /* the loop is split where a sluice will stand; the sluice is cancelled, and every row is as before */
     static solgwid_node nodes_before[ROWS];
     static solgwid_edge edges_before[ROWS];
+    static solgwid_face faces_before[ROWS];
     memcpy(nodes_before, nodes, sizeof nodes);
     memcpy(edges_before, edges, sizeof edges);
+    memcpy(faces_before, faces, sizeof faces);
     int64_t half = map.head.next_edge;
     print_answer("sluice", solgwid_mod_edge_split(&map, 1, 10, 4, &value));
     solgwid_refusal refusal = solgwid_mod_edge_heal(&map, 1, half);
-    int same = !memcmp(nodes_before, nodes, sizeof nodes) && !memcmp(edges_before, edges, sizeof edges);
+    int same = !memcmp(nodes_before, nodes, sizeof nodes) && !memcmp(edges_before, edges, sizeof edges)
+        && !memcmp(faces_before, faces, sizeof faces);
     printf("taken back: %s, %s\n", solgwid_refusal_text(refusal), same ? "every row as before" : "rows differ");
     return 0;
 }

@@ -18,8 +18,8 @@
      it may be NULL, and the value is dropped.
    Threads. There is no state between calls, so any number of maps may be worked on at once. One map is for one thread
      at a time; solgwid_edges_of_face only reads, so several threads may list one map together.
-   Stack. A call takes up to 61 KB; solgwid_empty_map takes under 1 KB. Where many edge ends leave one node into one
-     quadrant, each of them takes 112 bytes more: 173 KB for 999 of them, and 509 KB for 4,000, the most that tables
+   Stack. A call takes up to 68 KB; solgwid_empty_map takes under 1 KB. Where many edge ends leave one node into one
+     quadrant, each of them takes 112 bytes more: 181 KB for 999 of them, and 517 KB for 4,000, the most that tables
      can hold.
    Memory. Things lent in one call must not overlap, and each is aligned as its type asks.
    Version. SOLGWID_VERSION is the number of a landing (docs/LANDINGS.md). It rises with each landing that changes what
@@ -36,7 +36,7 @@
 extern "C" {
 #endif
 
-#define SOLGWID_VERSION 13
+#define SOLGWID_VERSION 14
 
 /* ---- limits and widths */
 
@@ -49,7 +49,7 @@ extern "C" {
 
 #define SOLGWID_NODE_WIDTH 4            /* numbers of a row, and of the head */
 #define SOLGWID_EDGE_WIDTH 32
-#define SOLGWID_FACE_WIDTH 1
+#define SOLGWID_FACE_WIDTH 5
 #define SOLGWID_HEAD_WIDTH 6
 
 /* ---- rows: each table is filled from the front in rising number order, and rows past its count are all 0 */
@@ -72,8 +72,13 @@ typedef struct solgwid_edge {
     solgwid_point points[SOLGWID_MAX_POINTS];
 } solgwid_edge;
 
+/* The rectangle is the least one around all points of edges with the face on a side. Face 0, and a face that no edge
+   has on a side, has zeros. Every ticket sets the rectangles that it affects. Tables with other rectangles
+   get refusal 2. */
 typedef struct solgwid_face {
     int64_t number;                     /* face 0, the universal face, always exists */
+    int64_t least_x, least_y;
+    int64_t greatest_x, greatest_y;
 } solgwid_face;
 
 typedef struct solgwid_head {
@@ -83,7 +88,7 @@ typedef struct solgwid_head {
 
 static_assert(sizeof(solgwid_node) == SOLGWID_NODE_WIDTH * sizeof(int64_t), "a node row is 4 numbers");
 static_assert(sizeof(solgwid_edge) == SOLGWID_EDGE_WIDTH * sizeof(int64_t), "an edge row is 32 numbers");
-static_assert(sizeof(solgwid_face) == SOLGWID_FACE_WIDTH * sizeof(int64_t), "a face row is 1 number");
+static_assert(sizeof(solgwid_face) == SOLGWID_FACE_WIDTH * sizeof(int64_t), "a face row is 5 numbers");
 static_assert(sizeof(solgwid_head) == SOLGWID_HEAD_WIDTH * sizeof(int64_t), "the head is 6 numbers");
 
 /* The three tables, each with its room in rows, and the head. solgwid_map_empty makes the empty map in it; a copy of

@@ -6,7 +6,7 @@
 use std::fmt;
 
 /// The landing (docs/LANDINGS.md). It rises with each landing that changes what a call takes or does.
-pub const VERSION: u32 = 13;
+pub const VERSION: u32 = 14;
 
 /// Rows of a table, at most.
 pub const MAX_NODES: usize = 1000;
@@ -22,7 +22,7 @@ pub const LAST_NUMBER: i64 = 999_999;
 /// Numbers of a row, and of the head.
 pub const NODE_WIDTH: usize = 4;
 pub const EDGE_WIDTH: usize = 32;
-pub const FACE_WIDTH: usize = 1;
+pub const FACE_WIDTH: usize = 5;
 pub const HEAD_WIDTH: usize = 6;
 
 unsafe extern "C" {
@@ -139,7 +139,8 @@ pub struct Map {
     pub nodes: Vec<i64>,
     /// Rows of 32: number, start, end, next left, next right, left face, right face, point count, 12 points as x, y.
     pub edges: Vec<i64>,
-    /// Rows of 1: number. Face 0 always exists.
+    /// Rows of 5: number, then the rectangle of the face: least x, least y, greatest x, greatest y. Face 0 always
+    /// exists; it has four zeros there, and so has a face that no edge has on a side.
     pub faces: Vec<i64>,
     /// The three row counts, then the next node, edge and face number.
     pub head: [i64; HEAD_WIDTH],

@@ -1,12 +1,13 @@
 #!/usr/bin/env python3
-"""The static library held against the reference: whole calls on tables that no list of tickets grows, and whole lists
-in one call.
+"""The static library held against the reference: whole calls on tables that no list of tickets grows, whole lists in
+one call, and other rectangles.
 
-  check_calls.py [CALLS] [LISTS] [--seed S]
+  check_calls.py [CALLS] [LISTS] [MAPS] [--seed S]
 
 Needs target/staticlib/libsolgwid.a (`rt staticlib solgwid`) and a C compiler. The tables are grown maps that are
-distorted (links off the law, faces at will, crossing curves, nodes on one point) or spoiled. Tables, head, list,
-refusal and value after the call must be the reference's, in refusals too.
+distorted (links off the law, faces at will, crossing curves, nodes on one point) or spoiled. Of each of the MAPS, all
+in form, every face table is tried that tests/reference/rectangles.py spoils. Tables, head, list, refusal and value
+after the call must be the reference's, in refusals too.
 """
 
 import argparse
@@ -24,6 +25,8 @@ import compare
 import plotmap as pm
 import raw
 import raw_gen
+import rectangles
+import telling
 import ticket as tk
 
 LEAST, MOST = -2 ** 63, 2 ** 63 - 1
@@ -93,8 +96,9 @@ def fits(t, h, numbers):
 
 
 def calls(lib, seed):
-    """Whole calls, also by what they answer: T a ticket, L a list of a face's edges."""
-    for text in itertools.chain.from_iterable(raw_gen.calls(1, s, LEVEL) for s in seeds(seed)):
+    """Whole calls, also by what they answer: T a ticket, L a list of a face's edges. Those by hand come first."""
+    by_chance = itertools.chain.from_iterable(raw_gen.calls(1, s, LEVEL) for s in seeds(seed))
+    for text in itertools.chain(telling.hand(), by_chance):
         t, h, letter, numbers = raw.parse(text)
         if fits(t, h, numbers):
             differs, r = list_differs(lib, t, h, *numbers) if letter == 'L' else ticket_differs(lib, t, h, numbers)
@@ -136,20 +140,44 @@ def lists(lib, seed):
         yield {'lists in one call': 1}, ['in one call: ' + '; '.join(lines)] * differs
 
 
+def map_in_form(rng):
+    """Tables of a map, mostly distorted, that are in form, and a ticket for it."""
+    while True:
+        grid = (0, 0, rng.choice([4, 6, 9, pm.MAX_COORDINATE + 1]))
+        m = raw_gen.distorted(rng, raw_gen.grown(rng, grid, LEVEL), grid, LEVEL)
+        s = pm.Sizes(*(len(r) + rng.randint(0, 2) for r in (m.nodes, m.edges, m.faces)))
+        t, h = pm.encode(m, s, LEVEL)
+        if pm.in_form(t, h, LEVEL):
+            return t, h, raw_gen.ticket(rng, m, s, grid, LEVEL)
+
+
+def face_tables(lib, seed):
+    """Every spoiled face table of a map, with a ticket and with a list of the edges of face 0."""
+    for s in seeds(seed):
+        t, h, ticket = map_in_form(random.Random(s))
+        tables = rectangles.spoiled(t, h, LEVEL) if fits(t, h, ticket) else []
+        differing = [x.faces[:200] for x in tables
+                     if ticket_differs(lib, x, h, ticket)[0] or list_differs(lib, x, h, 0, 9)[0]]
+        yield {'spoiled face tables': len(tables)}, [f'seed {s}, ticket {ticket}: {faces}' for faces in differing]
+
+
 def main():
     p = argparse.ArgumentParser(description=__doc__, formatter_class=argparse.RawDescriptionHelpFormatter)
     p.add_argument('calls', nargs='?', type=int, default=2000)
     p.add_argument('lists', nargs='?', type=int, default=300)
+    p.add_argument('maps', nargs='?', type=int, default=100)
     p.add_argument('--seed', type=int, default=1)
     a = p.parse_args()
     lib = library()
     answers, wrong_calls = tally(itertools.islice(calls(lib, a.seed), a.calls))
     whole, wrong_lists = tally(itertools.islice(lists(lib, a.seed), a.lists))
+    spoiled, wrong_tables = tally(itertools.islice(face_tables(lib, a.seed), a.maps))
     print(f'{counted(answers, "whole calls")}, {wrong_calls} differences; '
-          f'{counted(whole, "lists in one call")}, {wrong_lists} differences')
+          f'{counted(whole, "lists in one call")}, {wrong_lists} differences; '
+          f'{counted(spoiled, "spoiled face tables")}, {wrong_tables} differences')
     del answers['whole calls']
     print('answers:', ', '.join(f'{letter}{r}: {n}' for (letter, r), n in sorted(answers.items())))
-    return 1 if wrong_calls or wrong_lists else 0
+    return 1 if wrong_calls or wrong_lists or wrong_tables else 0
 
 
 if __name__ == '__main__':

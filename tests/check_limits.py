@@ -8,13 +8,15 @@ limits: plots in a grid, drawn in random order, wells, ditches apart and tanks i
 face is left. A map of 1,000 nodes in one piece has 1,998 edges then, the most that tickets can draw. Every call on it
 is compared whole; the reference takes some seconds for each, with an index for its lookups. What is carried out stays,
 so that each call meets another map. Sides of plots are redrawn past what lies beside them or short of it, and outer
-sides round the whole sheet, which turns it inside out.
+sides round the whole sheet, which turns it inside out. Some calls are on tables with one number of a rectangle off by
+one.
 """
 
 import contextlib
 import ctypes
 import random
 import sys
+from dataclasses import replace
 
 from check_calls import WIDTHS, Lent, cells, library, list_differs, slice_of, ticket_differs
 from comparison import command, seeds
@@ -27,8 +29,8 @@ CALLS_A_MAP = 40
 NO_ROOM, CHANGES_SIDES = 20, 22
 # what lies in the left part of a plot, which no boundary across it reaches: a well, a ditch, a tank
 WELL, DITCH, TANK = [(3, 5)], [(2, 4), (2, 6)], [(3, 5), (2, 6), (2, 4), (3, 5)]
-COUNTED = ('calls at the limits', 'maps', 'divisions', 'removals', 'redrawings', 'lists of edges', 'carried out',
-           'turned down with 22')
+COUNTED = ('calls at the limits', 'maps', 'divisions', 'removals', 'redrawings', 'lists of edges', 'other rectangles',
+           'carried out', 'turned down with 22')
 
 
 @contextlib.contextmanager
@@ -124,10 +126,20 @@ def at(corner, off=(0, 0)):
     return tuple(SIDE * (v + 1) + d for v, d in zip(corner, off))
 
 
+def other_rectangle(rng, t, h):
+    """The tables with one number of a rectangle off by one, often in the last row."""
+    at = WIDTHS[2] * rng.choice((h.face_count - 1, rng.randrange(h.face_count))) + rng.randrange(1, WIDTHS[2])
+    return replace(t, faces=t.faces[:at] + (t.faces[at] + rng.choice((-1, 1)),) + t.faces[at + 1:])
+
+
 def one_call(sheet):
-    """What was compared and whether it differs: the edges of a face, a removal, a redrawing or a division."""
+    """What was compared and whether it differs: the edges of a face, another rectangle, a removal, a redrawing or a
+    division."""
     t, h = sheet.now()
     rng, draw = sheet.rng, sheet.rng.random()
+    if draw < 0.05:
+        differs, _ = ticket_differs(sheet.lib, other_rectangle(rng, t, h), h, sheet.boundary())
+        return {'other rectangles': 1}, differs, 'another rectangle'
     if draw < 0.15:
         face = rng.choice((0, t.faces[WIDTHS[2] * rng.randrange(h.face_count)]))
         return {'lists of edges': 1}, list_differs(sheet.lib, t, h, face, 4000)[0], ('edges of face', face)

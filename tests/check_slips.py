@@ -25,8 +25,8 @@ from repository import ROOT, needed
 
 MAP = 'crates/map/specs/'
 PROOFS = 'crates/map/proofs/'
-EXAMPLES = 'Worked.antt', 'WorkedSides.antt'
-EDITS, REASONS, FORM, TICKET = (MAP + f'{n}.antt' for n in ('Edits', 'Reasons', 'Form', 'Ticket'))
+EXAMPLES = 'Worked.antt', 'WorkedSides.antt', 'WorkedRectangles.antt'
+EDITS, REASONS, FORM, TICKET, ROWS = (MAP + f'{n}.antt' for n in ('Edits', 'Reasons', 'Form', 'Ticket', 'Rows'))
 
 # the statements of the theorem that are told, the four of demand 3 first, and what computes each of the map m in the
 # tables l
@@ -86,6 +86,11 @@ GROWN = {
         'let m′ = redirect (bwd e) (bwd b) (redirect (fwd e) (fwd a) m) in',
         'let m′ = m in',
         'links once', (*LOOP, '7 1 10 4')),
+    'rectangles of no edges': (
+        ROWS,
+        'lentOf s m = lentWith (rectangle (m .edges)) s m',
+        'lentOf s m = lentWith (rectangle []) s m',
+        'in form', LOOP),
 }
 
 FACES = MAP + 'Faces.antt'
@@ -202,6 +207,21 @@ WORKED = {
     'form: named nodes': (FORM, 'hasNode m (e .start) && hasNode m (e .end) && hasEdge', 'hasEdge'),
     'form: zero rows': (FORM, '    && restZero edgeWidth (l .head .edges) (l .edges)\n', ''),
     'form: face 0': (FORM, ' && same (firstOr 1 (m .faces)) 0', ''),
+    'form: rectangles': (FORM, ' && boxed l', ''),
+    'rectangle of face 0': (ROWS, 'rectangle es zero = boxOf []', 'rectangle es zero = boxOf (boundary es 0)'),
+    'rectangle: inner points left out': (
+        ROWS, 'flatMap (λ e. points (e .curve))', 'flatMap (λ e. e .curve .first ∷ lastPoint (e .curve) ∷ [])',
+        'Curves.{Curve, points, point,', 'Curves.{Curve, points, lastPoint, point,'),
+    'rectangle: left sides alone': (
+        ROWS, 'borders f e = same (e .left) f || same (e .right) f', 'borders f e = same (e .left) f'),
+    'rectangle: right sides alone': (
+        ROWS, 'borders f e = same (e .left) f || same (e .right) f', 'borders f e = same (e .right) f'),
+    'rectangle: y before x': (
+        ROWS, 'pos (box f .left) ∷ pos (box f .low) ∷', 'pos (box f .low) ∷ pos (box f .left) ∷'),
+    'rectangle: greatest before least': (
+        ROWS,
+        'pos (box f .left) ∷ pos (box f .low) ∷ pos (box f .right) ∷ pos (box f .high)',
+        'pos (box f .right) ∷ pos (box f .high) ∷ pos (box f .left) ∷ pos (box f .low)'),
     'form: unused points': (FORM, '\n    && allOf isZero (drop (2 * natAbs (cell r 7)) (drop 8 r))', ''),
 }
 
@@ -279,7 +299,7 @@ def grown(copy, name):
     path, old, new, statement, tickets = GROWN[name]
     left_out = {n: (copy / PROOFS / n).read_text() for n in ('Sheet.antt', *EXAMPLES)}
     for n, text in left_out.items():
-        (copy / PROOFS / n).write_text(re.split(r'\npub (?:P|Worked|WorkedSides) : ', text)[0] + '\n')
+        (copy / PROOFS / n).write_text(re.split(r'\npub (?:P|Worked|WorkedSides|WorkedRectangles) : ', text)[0] + '\n')
     held = witness(copy, statement, tickets)
     before = slipped(copy, path, old, new)
     false = held and not witness(copy, statement, tickets)

@@ -43,7 +43,8 @@ def by_library(lib):
             return refusal
         rows, head = lent.now()
         after = pm.decode(pm.Tables(*map(tuple, rows)), pm.Head(*head), level)
-        assert tuple(map(tuple, rows)) == astuple(pm.encode(after, s, level)[0]), 'rows past a count are not 0'
+        again = astuple(pm.encode(after, s, level)[0])
+        assert tuple(map(tuple, rows)) == again, 'another rectangle, or rows past a count that are not 0'
         return after
     return answered
 

@@ -5,14 +5,15 @@
 
 First the calls of the manual's chapter on the edges of a face, on the square sheet after its fourth ticket. Then so
 many on small grown maps, a third of them distorted (curves bent, nodes moved, links off the law, faces at will) and a
-third spoiled in one place, so that each part of condition 2 answers; lists too short, just long enough and longer.
+third spoiled in one place or with another rectangle, so that each part of condition 2 answers; lists too short, just
+long enough and longer.
 Needs nothing that is built.
 """
 
 import argparse
 import itertools
 import random
-from dataclasses import replace
+from dataclasses import astuple, replace
 
 from repository import LEVEL, ROOT     # finds the reference
 
@@ -20,30 +21,34 @@ import fuzz
 import fuzz_tables as ft
 import plotmap as pm
 import raw_gen
+import rectangles
 import ticket as tk
 
-ROOM = (32, 192, 8)
+ROWS = pm.Sizes(8, 6, 8)
+ROOM = ROWS.nodes * pm.NODE_WIDTH, ROWS.edges * pm.EDGE_WIDTH, ROWS.faces * pm.face_width(LEVEL)
 LIST = 40
 SQUARE = (b'1 -1 0 0', b'12 1 1 0 0 10 0 10 10 0 10 0 0', b'8 1 10 10', b'12 1 2 0 0 10 10')
 FOUR_TICKETS = pm.Sizes(2, 3, 3)     # the rows that they make
 
 
 def by_manual():
-    """Each face, in a list of four numbers an edge; a list one short; no such face; tables not whole; not in form."""
+    """Each face, in a list of four numbers an edge; a list one short; no such face; tables not whole; not in form: a
+    link, a rectangle."""
     *_, (_, _, t, h) = tk.answers(SQUARE, level=LEVEL)
     m = pm.decode(t, h, LEVEL)
     t, h = pm.encode(m, FOUR_TICKETS, LEVEL)
     enough, needed = 4 * len(m.edges), len(pm.edges_of_face(m, 1))
     spoiled, _ = pm.encode(pm.lead(m, 3, 1), FOUR_TICKETS, LEVEL)
     return [*((t, h, face, enough) for face in m.faces), (t, h, 1, needed - 1), (t, h, 9, enough),
-            (replace(t, nodes=t.nodes[:-1]), h, 1, enough), (spoiled, h, 1, enough)]
+            (replace(t, nodes=t.nodes[:-1]), h, 1, enough), (spoiled, h, 1, enough),
+            (replace(t, faces=t.faces[:-1] + (t.faces[-1] + 1,)), h, 1, enough)]
 
 
 def grown(rng, grid):
-    m, sizes = pm.EMPTY_MAP, pm.Sizes(8, 6, 8)
+    m = pm.EMPTY_MAP
     for _ in range(rng.randint(2, 30)):
         k = fuzz.make_ticket(rng, m, grid, fuzz.MIXES[rng.choice(['faces', 'even', 'stitch'])])
-        if pm.shape_ok(k) and pm.first_reason(pm.reasons(m, sizes, k, LEVEL)) == 0:
+        if pm.shape_ok(k) and pm.first_reason(pm.reasons(m, ROWS, k, LEVEL)) == 0:
             m = pm.apply(m, k, LEVEL)[0]
     return m
 
@@ -56,10 +61,11 @@ def call(rng):
         m = raw_gen.bend(rng, m, grid) if rng.random() < 0.5 else raw_gen.move(rng, m, grid)
     if how > 0.8:
         m = ft.off_law(rng, m)
-    sizes = pm.Sizes(min(8, len(m.nodes) + rng.randint(0, 2)), min(6, len(m.edges) + rng.randint(0, 1)),
-                     min(8, len(m.faces) + rng.randint(0, 2)))
-    t, h = pm.encode(m, sizes, LEVEL)
-    if how < 0.35:
+    rows = zip(astuple(ROWS), (m.nodes, m.edges, m.faces))
+    t, h = pm.encode(m, pm.Sizes(*(min(most, len(r) + rng.randint(0, 2)) for most, r in rows)), LEVEL)
+    if how < 0.1 or 0.9 < how:
+        t = rng.choice(rectangles.spoiled(t, h, LEVEL))
+    elif how < 0.35:
         t, h = ft.spoil(rng, t, h, LEVEL)
     return t, h, rng.choice(m.faces * 4 + (-1, m.next_face)), rng.randint(0, LIST)
 

@@ -1,7 +1,8 @@
 #!/usr/bin/env python3
 """Writes the pictures under docs/ from lists of tickets; what they show is worked out by the reference.
 
-  generate_pictures.py [NAME ...]    of directions, edge, links, meadow, rings, sides, square; all where none is named
+  generate_pictures.py [NAME ...]    of directions, edge, links, meadow, rectangles, rings, sides, square; all for none
+                                     is named
 """
 
 import cmath
@@ -651,8 +652,49 @@ def sides():
     page.save('sides', SIDES_STYLE)
 
 
-PICTURES = {'directions': directions, 'edge': edge, 'links': links, 'meadow': meadow, 'rings': rings, 'sides': sides,
-            'square': square}
+# --- docs/rectangles.svg ---------------------------------------------------------------------------------------------
+
+# a bent ditch, edge 1, and the outer boundaries of the plots on either side of it
+DITCH = ['1 -1 12 1', '1 -1 14 10', '12 1 2 12 1 17 4 9 7 14 10', '12 1 2 12 1 2 2 0 8 4 11 14 10',
+         '12 1 2 12 1 22 0 26 8 14 10']
+
+
+def draw_rectangle(page, view, face):
+    """The rectangle of a face, dashed, and the inner points of its edges that lie on it."""
+    left, low, right, high = pm.rectangle(view.m, face)
+    colour = f' stroke="{ring_colour(face)}"'
+    corners = view.line([(left, low), (right, low), (right, high), (left, high)])
+    page.path(f'M{"L".join(map(spot, corners))}Z', 'ring', colour)
+    for x, y in (p for e in view.m.edges if face in (e.left, e.right) for p in e.points[1:-1]):
+        aside = complex(24 * (x == right) - 24 * (x == left), 15 * (y == low) - 15 * (y == high))
+        if aside:
+            at = view.at(x, y)
+            page.put(f'<circle cx="{trimmed(at.real)}" cy="{trimmed(at.imag)}" r="5" fill="#fff"{colour} '
+                     f'stroke-width="2"/>')
+            page.label(at + aside, f'({x},{y})', 'small')
+
+
+def rectangles():
+    m, _ = grown(DITCH)
+    page, view = Page(520, 318), View(m, 52 + 242j, 16, node_gap=24)
+    page.box(4 + 4j, 512, 262)
+    draw_faces(page, view)
+    draw_edges(page, view)
+    for face in m.faces[1:]:
+        draw_rectangle(page, view, face)
+    draw_nodes(page, view)
+    draw_face_numbers(page, view, ((0, 0), (26, 11)), {0: (-1.6, 12.4)})
+    for i, face in enumerate(m.faces[1:]):
+        row = 16 + 288j + 250 * i
+        page.path(f'M{spot(row - 4j)}h28', 'ring', f' stroke="{ring_colour(face)}"')
+        page.text(row + 36, f"face row {' '.join(map(str, pm.encode_face(m, face, LEVEL)))}", 'note start')
+    page.text(16 + 308j, 'The ditch between them is bent: two of its inner points lie on the rectangles.',
+              'small start')
+    page.save('rectangles')
+
+
+PICTURES = {'directions': directions, 'edge': edge, 'links': links, 'meadow': meadow, 'rectangles': rectangles,
+            'rings': rings, 'sides': sides, 'square': square}
 
 
 def main(names):

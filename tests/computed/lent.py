@@ -5,6 +5,7 @@ from dataclasses import astuple, replace
 import fuzz_tables as ft
 import grown
 import plotmap as pm
+import rectangles
 import ticket as tk
 
 from repository import LEVEL
@@ -26,8 +27,11 @@ def played(*lines):
 
 
 def spoiled(rng, t, h, most=400):
-    """One to three numbers or lengths at will; no table above so many numbers."""
-    t, h = ft.spoil(rng, t, h, LEVEL)
+    """One to three numbers or lengths at will, or another rectangle; no table above so many numbers."""
+    if rng.random() < 0.2:
+        t = rng.choice(rectangles.spoiled(t, h, LEVEL))
+    else:
+        t, h = ft.spoil(rng, t, h, LEVEL)
     if rng.random() < 0.2:
         return pm.Tables(t.nodes[:most] + (0,), t.edges[:most], t.faces[:most]), h
     return pm.Tables(*(x[:most] for x in astuple(t))), h

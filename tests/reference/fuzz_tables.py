@@ -11,11 +11,14 @@ import sys
 from dataclasses import astuple
 
 import plotmap as pm
+import rectangles
 import ticket as tk
 import fuzz
 
 
 def spoil(rng, t, h, level):
+    """One to three numbers or lengths at will. Half the time rectangles are set anew: an edge's curve or side that was
+    spoiled is met alone then, and else by the rectangles too."""
     t = [list(x) for x in (t.nodes, t.edges, t.faces)]
     h = list(astuple(h))
     for _ in range(rng.randint(1, 3)):
@@ -32,7 +35,8 @@ def spoil(rng, t, h, level):
                 used = max(1, len(x) // 8)
                 i = rng.randrange(used)
                 x[i] = rng.choice([x[i] + 1, x[i] - 1, -x[i], 0, 13, -1, rng.choice(x)])
-    return pm.Tables(*map(tuple, t)), pm.Head(*h)
+    t, h = pm.Tables(*map(tuple, t)), pm.Head(*h)
+    return rectangles.set_anew(t, h, level) if rng.random() < 0.5 else t, h
 
 
 def off_law(rng, m):

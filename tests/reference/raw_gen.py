@@ -1,6 +1,6 @@
 #!/usr/bin/env python3
 """Calls for raw.py: grown maps, distorted (links off the law, faces at will, crossing curves, nodes on one point),
-crossed (an edge led over a node, to be drawn back) or spoiled, with tickets and lists.
+crossed (an edge led over a node, to be drawn back), spoiled or with other rectangles, with tickets and lists.
 
   raw_gen.py MAPS SEED [LEVEL]     up to six calls on each map
 """
@@ -13,6 +13,7 @@ import fuzz
 import fuzz_tables as ft
 import islands
 import plotmap as pm
+import rectangles
 import sweeps
 
 BIG = pm.Sizes(30, 40, 30)
@@ -95,7 +96,10 @@ def call(rng, m, grid, level):
     s = pm.Sizes(*(len(r) + rng.randint(0, 2) for r in (x.nodes, x.edges, x.faces)))
     t, h = pm.encode(x, s, level)
     k = back or ticket(rng, x, s, grid, level)
-    if rng.random() < 0.15:
+    how = rng.random()
+    if how < 0.1:
+        t = rng.choice(rectangles.spoiled(t, h, level) or [t])
+    elif how < 0.25:
         t, h = ft.spoil(rng, t, h, level)
         if any(abs(v) >= 2 ** 63 for v in (*t.nodes, *t.edges, *t.faces, *pm.head_numbers(h, level), *k)):
             return None

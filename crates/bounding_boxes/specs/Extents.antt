@@ -23,6 +23,15 @@ widen e p = record {
 abbrev pub extentOf : Curve → Extent
 extentOf c = fold widen (extentAt (c .first)) (c .rest)
 
+-- the least box around two
+abbrev pub union : Extent → Extent → Extent
+union e f = record {
+  left = min (e .left) (f .left);
+  right = max (e .right) (f .right);
+  low = min (e .low) (f .low);
+  high = max (e .high) (f .high);
+}
+
 -- no point in common
 abbrev pub boxesApart : Extent → Extent → Bool
 boxesApart e f = ltb (e .right) (f .left) || ltb (f .right) (e .left) || ltb (e .high) (f .low) || ltb (f .high)

@@ -2,7 +2,7 @@
 use plane::Point;
 ghost use mathlib.Core.Path.{_≡_};
 ghost use Rattle.curves.specs.Curves.{Run, curveOf};
-ghost use Rattle.bounding_boxes.specs.Extents.{widen, extentOf, boxesApart};
+ghost use Rattle.bounding_boxes.specs.Extents.{widen, extentOf, union, boxesApart};
 
 pub struct Extent {
     pub left: u64,
@@ -40,6 +40,18 @@ pub fn extent_of(c: &[i64]) -> Extent
         e = widened(e, curves::point_at(c, i));
     }
     e
+}
+
+// The least box around two.
+pub fn united(e: Extent, f: Extent) -> Extent
+    ensures { λ r. ⌜ r ≡ union e f ⌝ }
+{
+    Extent {
+        left: plane::least(e.left, f.left),
+        right: plane::greatest(e.right, f.right),
+        low: plane::least(e.low, f.low),
+        high: plane::greatest(e.high, f.high),
+    }
 }
 
 // Whether the extents have no point in common.

@@ -8,8 +8,9 @@ use lib.ListN.{length-map}
 use Rattle.lists.proofs.Bools.{and-true, and-is}
 use Rattle.map.specs.Limits.{nodeWidth, edgeWidth, faceWidth}
 use Rattle.map.specs.Rows.{Lent, Sizes, nodeOf, edgeOf, faceRowOf, nodeRows, edgeRows, faceRows, mapOf, sizesOf, whole}
-use Rattle.map.specs.Form.{ranged, formed, inForm}
-use Rattle.map.proofs.RoundTrip.{Ranged, ranged-is, writes-back}
+use Rattle.map.specs.Form.{inForm}
+use Rattle.map.proofs.RoundTrip.{Ranged, ranged-is}
+use Rattle.map.proofs.Laws.{in-form-is, in-form-back}
 use Rattle.tables.proofs.Filled.{rows-count}
 use Rattle.tables.proofs.Tests.{within-most}
 use Rattle.grown.specs.Good.{Good, Fits}
@@ -21,12 +22,8 @@ use Rattle.certified.specs.Claims.{CertifiesIff, CertifiedGrows, Certifi
 use Rattle.certified.proofs.Certified.{nexts-are, certified-good, good-plane}
 
 module _ (l : Lent) (h : inForm l ≡ true) where
-  parts : (ranged l ≡ true) × (formed (mapOf l) ≡ true)
-  unfolding inForm
-  parts = and-true (ranged l) (formed (mapOf l)) h
-
   r : Ranged l
-  r = ranged-is l (parts .0)
+  r = ranged-is l (in-form-is l h .ranged)
 
   -- as many rows as the head says
   fits : Fits (sizesOf l) (mapOf l)
@@ -60,7 +57,7 @@ module _ (l : Lent) (h : inForm l ≡ true) where
   -- the map of tables in form is good if it is in the plane
   plane-good : inPlane (mapOf l) ≡ true → Good (mapOf l)
   unfolding certified
-  plane-good p = certified-good (mapOf l) (and-is (and-is (parts .1) nexts) p)
+  plane-good p = certified-good (mapOf l) (and-is (and-is (in-form-is l h .formed) nexts) p)
 
 pub certifies-iff : CertifiesIff
 unfolding certifies
@@ -85,7 +82,7 @@ passed l e =
         map = mapOf l;
         good = plane-good l (j .1) (k .1);
         fits = fits l (j .1);
-        lent = sym (writes-back l (j .0) (parts l (j .1) .0));
+        lent = sym (in-form-back l (j .0) (j .1));
       };
     }
 

@@ -1,5 +1,5 @@
 -- A table whose rows in use are in range, with zeros behind, is its rows' numbers and zeros. Assumes nothing.
-use mathlib.Core.Path.{_≡_, sym, ap, _∙_}
+use mathlib.Core.Path.{_≡_, refl, sym, ap, _∙_}
 use mathlib.Core.Bool.{true}
 use mathlib.Core.List.{List, [], _∷_, flatMap}
 use Prim.Native.Nat.{ℕ, _/_, _≤_}
@@ -11,7 +11,7 @@ use borrow.Author.Tests.{le-leb}
 use Rattle.lists.specs.Tests.{same}
 use Rattle.map.specs.declared.Head.{Head}
 use Rattle.map.specs.Limits.{maxNodes, maxEdges, nodeWidth, edgeWidth}
-use Rattle.map.specs.Rows.{Lent, mapOf, lentOf, nodeCells, edgeCells, whole, lent}
+use Rattle.map.specs.Rows.{Lent, mapOf, lentWith, boxOf, nodeCells, edgeCells, whole, lent}
 use Rattle.tables.specs.Tables.{filled}
 use Rattle.map.specs.Form.{ranged}
 use Rattle.map.proofs.RoundTrip.{writes-back}
@@ -19,7 +19,10 @@ use Rattle.tables.proofs.Filled.{whole-rows}
 use Rattle.map_rows.specs.Rows.{nodesOf, edgesOf}
 use Rattle.edge_rows.specs.Holds.{NodeTable, EdgeTable}
 
--- beside empty tables and face 0
+-- beside empty tables and face 0, whose rectangle is four zeros
+abbrev face0 : List ℤ
+face0 = pos 0 ∷ pos 0 ∷ pos 0 ∷ pos 0 ∷ pos 0 ∷ []
+
 abbrev counting : ℕ → ℕ → Head
 counting n k = record {
   nodes = pos n;
@@ -31,10 +34,10 @@ counting n k = record {
 }
 
 abbrev nodesLent : List ℤ → ℕ → Lent
-nodesLent l n = lent l [] (pos 0 ∷ []) (counting n 0)
+nodesLent l n = lent l [] face0 (counting n 0)
 
 abbrev edgesLent : List ℤ → ℕ → Lent
-edgesLent l n = lent [] l (pos 0 ∷ []) (counting 0 n)
+edgesLent l n = lent [] l face0 (counting 0 n)
 
 module _ {l : List ℤ} {n : ℕ} (t : NodeTable l n) where
   pub nodes-room : n ≤ length l / nodeWidth
@@ -49,11 +52,11 @@ module _ {l : List ℤ} {n : ℕ} (t : NodeTable l n) where
   nodes-ranged = rw (leb·zero n, le-leb n (length l / nodeWidth) nodes-room, t .rest, t .rows .ranges)
 
   pub nodes-filled : filled (length l) (flatMap nodeCells (nodesOf l n)) ≡ l
-  unfolding lentOf mapOf
+  unfolding lentWith mapOf same
   nodes-filled =
       ap (λ (k : ℕ). filled k (flatMap nodeCells (nodesOf l n)))
       (sym (whole-rows nodeWidth 0 maxNodes l (t .whole) .size))
-      ∙ ap (λ (x : Lent). x .nodes) (writes-back (nodesLent l n) nodes-whole nodes-ranged)
+      ∙ ap (λ (x : Lent). x .nodes) (writes-back (λ f. boxOf []) (nodesLent l n) nodes-whole nodes-ranged refl)
 
 module _ {l : List ℤ} {n : ℕ} (t : EdgeTable l n) where
   pub edges-room : n ≤ length l / edgeWidth
@@ -68,8 +71,8 @@ module _ {l : List ℤ} {n : ℕ} (t : EdgeTable l n) where
   edges-ranged = rw (leb·zero n, le-leb n (length l / edgeWidth) edges-room, t .rest, t .rows .ranges)
 
   pub edges-filled : filled (length l) (flatMap edgeCells (edgesOf l n)) ≡ l
-  unfolding lentOf mapOf
+  unfolding lentWith mapOf same
   edges-filled =
       ap (λ (k : ℕ). filled k (flatMap edgeCells (edgesOf l n)))
       (sym (whole-rows edgeWidth 0 maxEdges l (t .whole) .size))
-      ∙ ap (λ (x : Lent). x .edges) (writes-back (edgesLent l n) edges-whole edges-ranged)
+      ∙ ap (λ (x : Lent). x .edges) (writes-back (λ f. boxOf []) (edgesLent l n) edges-whole edges-ranged refl)

@@ -23,7 +23,7 @@ use Rattle.tables.proofs.Rising.{all-weaker}
 use Rattle.curves.specs.Curves.{points, maxPoints}
 use Rattle.curves.proofs.Runs.{and-left, and-right}
 use Rattle.map.specs.Limits.{maxEdges, lastNumber, edgeWidth}
-use Rattle.map.specs.Rows.{Edge, Map, Sizes, mapOf, lentOf, edgeCells, hasEdge}
+use Rattle.map.specs.Rows.{Edge, Map, Sizes, mapOf, lentWith, boxOf, edgeCells, hasEdge}
 use Rattle.map.specs.Form.{edgeRanges}
 use Rattle.map.proofs.RoundTrip.{Holds, reads-back, edge-wide}
 use Rattle.map_rows.specs.Rows.{edgesOf, edgeAt, edgeMap, EdgeRows, edgesAlone}
@@ -76,10 +76,10 @@ module _ {l : List ℤ} {n : ℕ} (t : EdgeTable l n) where
 -- edges written into a table are read back
 pub edges-read : (N : ℕ) (es : List Edge) → ((e : Edge) → List·Memᴰ e es → Holds e)
     → edgesOf (filled (N * edgeWidth) (flatMap edgeCells es)) (length es) ≡ es
-unfolding mapOf lentOf
+unfolding mapOf lentWith
 edges-read N es h =
     let s : Sizes = record { nodes = 0; edges = N; faces = 0 } in
-    ap (λ (x : Map). x .edges) (reads-back s (edgesAlone es) h)
+    ap (λ (x : Map). x .edges) (reads-back (λ f. boxOf []) s (edgesAlone es) h)
 
 module _ {l : List ℤ} {n : ℕ} (t : EdgeTable l n) (row : Edge) (f : Follows l n row)
     (room : n < length l / edgeWidth) where

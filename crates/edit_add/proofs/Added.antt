@@ -12,7 +12,7 @@ use Rattle.curves.specs.Curves.{Curve, curveOf, startWay}
 use Rattle.map.specs.declared.Head.{Head}
 use Rattle.map.specs.declared.Variant.{Variant}
 use Rattle.map.specs.declared.Variant.the-variants.{New, Mod}
-use Rattle.map.specs.Rows.{Map, Sizes, mapOf, lentOf, sizesOf, lent}
+use Rattle.map.specs.Rows.{Map, Sizes, mapOf, lentWith, sizesOf, lent}
 use Rattle.map.specs.Links.{cornerFace}
 use Rattle.map.specs.Edits.{drawnIn, splitsFace, splitFace, addEdge}
 use Rattle.map.specs.Reasons.{firstReason, reasons}
@@ -31,8 +31,8 @@ use Rattle.edge_rows.proofs.Formed.{held}
 use Rattle.face_rows.specs.Holds.{Splittable, TablesOf}
 use Rattle.map_laws.proofs.Readings.{Outline}
 use Rattle.outcomes.proofs.Words.{count-read}
-use Rattle.face_rows.proofs.Formed.{held-holds, holds-lent}
-use Rattle.edit_add.proofs.Drawn.{add-facts, drawn-held, map-is, last, splits}
+use Rattle.face_rows.proofs.Formed.{boxes, held-holds, holds-lent}
+use Rattle.edit_add.proofs.Drawn.{add-facts, drawn-table, drawn-held, map-is, last, splits}
 
 -- ---- the map of kinds 11 and 12
 
@@ -99,12 +99,13 @@ module _ {nodes edges faces : List ℤ} {h : Head} (f : Formed nodes edges faces
       map-drawn = map-is f how a b c (r .start) (r .end) (j .start z) (j .end z) clear corner d
 
       -- no face is split
-      pub joined-lent : r .splits ≡ false → lentOf s (carried m (addTicket how a b c) .0) ≡ lent nodes′ edges′ faces h′
+      pub joined-lent : r .splits ≡ false
+          → lentWith (boxes f) s (carried m (addTicket how a b c) .0) ≡ lent nodes′ edges′ faces h′
       joined-lent e =
-          ap (λ (x : Map × ℤ). lentOf s (x .0)) (add-carried m a b c how)
-          ∙ ap (lentOf s) (add-joined how (natAbs a) (natAbs b) (curveOf c) m (sym (j .known z .splits) ∙ e)
+          ap (λ (x : Map × ℤ). lentWith (boxes f) s (x .0)) (add-carried m a b c how)
+          ∙ ap (lentWith (boxes f) s) (add-joined how (natAbs a) (natAbs b) (curveOf c) m (sym (j .known z .splits) ∙ e)
           ∙ sym map-drawn)
-          ∙ holds-lent f (d .nodes-long) (d .edges-long) (held-holds (drawn-held f d))
+          ∙ holds-lent f (d .nodes-long) (d .edges-long) (held-holds (drawn-held f d) (boxes f) (drawn-table f d))
 
       last-number : edgeAt edges′ (natAbs (h′ .edges) - 1) .number ≡ m .next .edges
       last-number = ap (λ (o : Outline). o .arc .num)
@@ -112,12 +113,12 @@ module _ {nodes edges faces : List ℤ} {h : Head} (f : Formed nodes edges faces
 
       -- a face is split
       pub parted-lent : {nodes″ edges″ faces″ : List ℤ} {h″ : Head} → r .splits ≡ true
-          → TablesOf nodes′ edges′ faces (splitFace how (edgeAt edges′ (natAbs (h′ .edges) - 1) .number)
+          → TablesOf (boxes f) nodes′ edges′ faces (splitFace how (edgeAt edges′ (natAbs (h′ .edges) - 1) .number)
           (mapOf (lent nodes′ edges′ faces h′))) nodes″ edges″ faces″ h″
-          → lentOf s (carried m (addTicket how a b c) .0) ≡ lent nodes″ edges″ faces″ h″
+          → lentWith (boxes f) s (carried m (addTicket how a b c) .0) ≡ lent nodes″ edges″ faces″ h″
       parted-lent e w =
-          ap (λ (x : Map × ℤ). lentOf s (x .0)) (add-carried m a b c how)
-          ∙ ap (lentOf s) (add-parted how (natAbs a) (natAbs b) (curveOf c) m (sym (j .known z .splits) ∙ e)
+          ap (λ (x : Map × ℤ). lentWith (boxes f) s (x .0)) (add-carried m a b c how)
+          ∙ ap (lentWith (boxes f) s) (add-parted how (natAbs a) (natAbs b) (curveOf c) m (sym (j .known z .splits) ∙ e)
           ∙ sym (ap₂ (splitFace how) last-number map-drawn))
           ∙ holds-lent f (d .nodes-long) (d .edges-long) w
 

@@ -4,6 +4,7 @@ use mathlib.Core.Path.{_≡_, sym, ap, _∙_, subst}
 use mathlib.Core.Bool.{true, _&&_}
 use mathlib.Core.List.{List, [], map, List·Memᴰ}
 use Prim.Native.Nat.{ℕ, _-_, _/_, _<_}
+use native.Mathlib.Nat.{add-zero}
 use native.Mathlib.Omega.{arith}
 use lib.IntN.{ℤ, pos, natAbs}
 use lib.ListN.{length, length-map, getD, List·getD-map}
@@ -31,12 +32,13 @@ use Rattle.map_laws.proofs.Outlines.{drawnOutline, drawn-shape}
 use Rattle.map_laws.proofs.Faces.{has-face, formed-faces, corner-in}
 use Rattle.map_rows.specs.Rows.{nodesOf, edgesOf, facesOf, nodeAt, edgeAt, nodeMap}
 use Rattle.map_rows.proofs.Rows.{edges-length, edges-getD, faces-length}
+use Rattle.head.specs.Heads.{changedHead}
 use Rattle.outcomes.specs.Outcomes.{Formed}
 use Rattle.outcomes.proofs.Formed.{formed-map}
 use Rattle.outcomes.proofs.FoundRows.{node-number}
 use Rattle.outcomes.specs.Variants.{addTicket}
-use Rattle.face_rows.specs.Holds.{MapTables, Splittable}
-use Rattle.face_rows.proofs.Formed.{formed-held}
+use Rattle.face_rows.specs.Holds.{FaceTable, Unboxed, MapTables, Splittable}
+use Rattle.face_rows.proofs.Formed.{boxes, formed-table, formed-unboxed}
 use Rattle.edge_rows.specs.Holds.{Drawn}
 use Rattle.edge_rows.proofs.Drawn.{drawn-edges, drawn-faces}
 use Rattle.edge_rows.proofs.Filled.{nodes-filled, edges-filled}
@@ -55,7 +57,21 @@ module _ {nodes edges faces : List ℤ} {h : Head} (f : Formed nodes edges faces
   abbrev s : Sizes
   s = sizesOf (lent nodes edges faces h)
 
-  -- the tables with an edge more hold a map, whatever edge it is
+  -- the face table is as it was, whatever edge is drawn
+  pub drawn-table : {u v : ℕ} {c : List ℤ} {face : ℤ} {nodes′ edges′ : List ℤ} {h′ : Head}
+      → Drawn nodes edges h u v c face nodes′ edges′ h′
+      → FaceTable (length faces) (boxes f) (facesOf faces (natAbs (h′ .faces))) faces
+  drawn-table d = rw (drawn-faces d) (formed-table f)
+
+  -- and no face number is given
+  pub drawn-unboxed : {u v : ℕ} {c : List ℤ} {face : ℤ} {nodes′ edges′ : List ℤ} {h′ : Head}
+      → Drawn nodes edges h u v c face nodes′ edges′ h′ → Unboxed (boxes f) (natAbs (h′ .«next_face»))
+  unfolding changedHead
+  drawn-unboxed {h′ = h′} d = let e : natAbs (h′ .«next_face») ≡ natAbs (h .«next_face») =
+      ap (λ (x : Head). natAbs (x .«next_face»)) (d .head) ∙ add-zero (natAbs (h .«next_face»)) in
+      rw e (formed-unboxed f)
+
+  -- the tables with an edge more hold a map
   pub drawn-held : {u v : ℕ} {c : List ℤ} {face : ℤ} {nodes′ edges′ : List ℤ} {h′ : Head}
       → Drawn nodes edges h u v c face nodes′ edges′ h′ → MapTables nodes′ edges′ faces h′
   drawn-held d =
@@ -64,7 +80,7 @@ module _ {nodes edges faces : List ℤ} {h : Head} (f : Formed nodes edges faces
         edge-rows = d .held .edge-table .rows;
         node-cells = nodes-filled (d .held .node-table);
         edge-cells = edges-filled (d .held .edge-table);
-        face-table = rw (drawn-faces d) (formed-held f .face-table);
+        face-table = (boxes f, drawn-unboxed d, drawn-table d);
         counted = d .held .counted;
       }
 

@@ -4,7 +4,7 @@ use map::Variant;
 use outcomes::Done;
 ghost use mathlib.Core.Path.{_≡_};
 ghost use Rattle.map.specs.Loans.{lentNow};
-ghost use Rattle.outcomes.specs.Outcomes.{Formed, decided, outcomeNow};
+ghost use Rattle.outcomes.specs.Outcomes.{Formed, edited, outcomeNow};
 ghost use Rattle.outcomes.specs.Variants.{addTicket};
 
 // Adds an edge between two nodes, or answers the first reason against it (kinds 11 and 12); where it splits a face, the
@@ -21,7 +21,7 @@ pub fn add_edge(
 ) -> Done
     requires { ⌜ Formed (now nodes) (now edges) (now faces) h ⌝ }
     ensures { λ r. ⌜ outcomeNow (nodes .exit) (edges .exit) (faces .exit) r
-        ≡ decided (lentNow (nodes .entry) (edges .entry) (faces .entry) h)
+        ≡ edited (lentNow (nodes .entry) (edges .entry) (faces .entry) h)
         (addTicket how start end (now (c .entry))) ⌝ }
 {
     let judged = reason_edges::judge_add(nodes, edges, faces, h, how, start, end, c);

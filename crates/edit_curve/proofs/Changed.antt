@@ -15,8 +15,8 @@ use Rattle.curves.specs.Curves.{Run, curveOf}
 use Rattle.curves.proofs.Runs.{and-left, and-right}
 use Rattle.map.specs.declared.Head.{Head}
 use Rattle.map.specs.Limits.{nodeWidth, edgeWidth, faceWidth}
-use Rattle.map.specs.Rows.{Edge, Map, Sizes, mapOf, lentOf, sizesOf, headOf, node, hasNode, hasEdge, hasFace, nodeCells}
-use Rattle.map.specs.Rows.{edgeCells, faceCells, withoutEdge, atEdge, lent}
+use Rattle.map.specs.Rows.{Edge, Map, Sizes, mapOf, lentWith, sizesOf, headOf, node, hasNode, hasEdge, hasFace}
+use Rattle.map.specs.Rows.{nodeCells, edgeCells, rectangle, withoutEdge, atEdge, lent}
 use Rattle.tables.specs.Tables.{sameZ, column, filled}
 use Rattle.map.specs.Edits.{withCurve, changeEdgeGeom}
 use Rattle.map.specs.Tickets.{ChangeEdgeGeom}
@@ -24,7 +24,7 @@ use Rattle.map.specs.Reasons.{firstReason, reasons, noEdge, directionTaken, nod
 use Rattle.map.specs.Ticket.{carried}
 use Rattle.map.proofs.Laws.{names}
 use Rattle.map.proofs.Reasons.{first-hit, first-miss}
-use Rattle.map_rows.specs.Rows.{edgesOf, nodeMap, edgeAt, edgeMap, NodeRows}
+use Rattle.map_rows.specs.Rows.{edgesOf, facesIn, nodeMap, edgeAt, edgeMap, NodeRows}
 use Rattle.map_rows.proofs.Rows.{edges-length, edges-getD}
 use Rattle.map_rows.proofs.Lookups.{node-missing}
 use Rattle.tables.proofs.Numbers.{getD-in, changed-at}
@@ -164,17 +164,17 @@ module _ {nodes edges faces : List ℤ} {h : Head} (f : Formed nodes edges faces
     unfolding changeEdgeGeom atEdge mapOf
     same-nodes = nodes-filled f
 
-    same-faces : filled (length faces / faceWidth * faceWidth) (flatMap faceCells (m′ .faces)) ≡ faces
+    same-faces : facesIn (length faces / faceWidth * faceWidth) (rectangle (m .edges)) (m′ .faces) ≡ faces
     unfolding changeEdgeGeom atEdge mapOf
     same-faces = faces-filled f
 
     pub change-lent : {edges′ : List ℤ} → Run c → edges′
         ≡ paste edges (i * edgeWidth) (edgeCells (withCurve (curveOf c) (edgeAt edges i))) edgeWidth
-        → lentOf s (carried m (ChangeEdgeGeom (pos number) c) .0) ≡ lent nodes edges′ faces h
+        → lentWith (rectangle (m .edges)) s (carried m (ChangeEdgeGeom (pos number) c) .0) ≡ lent nodes edges′ faces h
     unfolding carried
     change-lent run w =
         let size = length edges / edgeWidth * edgeWidth in
-        lent-is s m′ same-nodes
+        lent-is (rectangle (m .edges)) s m′ same-nodes
         (ap (λ (xs : List Edge). filled size (flatMap edgeCells xs)) edges-are
         ∙ sym (replaced-at edgeWidth edgeCells size es i (edgeAt edges i) (edges-are-wide f) inside row
         (edge-wide row (points-few run)))

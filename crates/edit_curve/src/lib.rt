@@ -19,7 +19,7 @@ ghost use Rattle.map.specs.Reasons.{firstReason};
 ghost use Rattle.map.specs.Tickets.{ChangeEdgeGeom};
 ghost use Rattle.map.specs.Loans.{lentNow};
 ghost use Rattle.map_rows.specs.Rows.{nodeMap, edgeAt, EdgeRow, NodeRows, EdgeRows};
-ghost use Rattle.outcomes.specs.Outcomes.{Formed, reasonAgainst, decided, outcomeNow};
+ghost use Rattle.outcomes.specs.Outcomes.{Formed, reasonAgainst, edited, outcomeNow};
 ghost use Rattle.edge_rows.specs.Holds.{NodeEdgeTables};
 ghost use Rattle.edit_curve.specs.Change.{takenAt, turnReasons, changeReasons, EndsAt};
 
@@ -147,7 +147,7 @@ fn change_between(
     requires { ⌜ Formed (now nodes) (now edges) (now faces) h × (i < natAbs (h .edges))
         × EndsAt (now nodes) (now edges) h i u v ⌝ }
     ensures { λ r. ⌜ outcomeNow (nodes .entry) (edges .exit) (faces .entry) r
-        ≡ decided (lentNow (nodes .entry) (edges .entry) (faces .entry) h)
+        ≡ edited (lentNow (nodes .entry) (edges .entry) (faces .entry) h)
         (ChangeEdgeGeom (pos (edgeAt (now (edges .entry)) i .number)) (now (c .entry))) ⌝ }
 {
     let reason = redraw_reason(nodes, edges, faces, h, i, u, v, c);
@@ -200,7 +200,7 @@ fn change_at_row(
 ) -> Done
     requires { ⌜ Formed (now nodes) (now edges) (now faces) h × (i < natAbs (h .edges)) ⌝ }
     ensures { λ r. ⌜ outcomeNow (nodes .entry) (edges .exit) (faces .entry) r
-        ≡ decided (lentNow (nodes .entry) (edges .entry) (faces .entry) h)
+        ≡ edited (lentNow (nodes .entry) (edges .entry) (faces .entry) h)
         (ChangeEdgeGeom (pos (edgeAt (now (edges .entry)) i .number)) (now (c .entry))) ⌝ }
 {
     let n = head::to_usize(h.nodes);
@@ -220,7 +220,7 @@ pub fn change_curve(
 ) -> Done
     requires { ⌜ Formed (now nodes) (now edges) (now faces) h ⌝ }
     ensures { λ r. ⌜ outcomeNow (nodes .entry) (edges .exit) (faces .entry) r
-        ≡ decided (lentNow (nodes .entry) (edges .entry) (faces .entry) h)
+        ≡ edited (lentNow (nodes .entry) (edges .entry) (faces .entry) h)
         (ChangeEdgeGeom edge (now (c .entry))) ⌝ }
 {
     let e = head::to_usize(h.edges);

@@ -3,7 +3,7 @@ use mathlib.Core.Path.{_≡_, refl, sym, ap, _∙_}
 use mathlib.Core.Bool.{true, false, _&&_, true≢false}
 use mathlib.Core.List.{List, [], _∷_}
 use mathlib.Core.Option.{none, some}
-use Prim.Native.Nat.{ℕ, suc, _-_, _%_, _≤_, _<_}
+use Prim.Native.Nat.{ℕ, suc, _+_, _-_, _%_, _≤_, _<_}
 use native.Mathlib.Omega.{arith}
 use lib.Dec.{leb, eqb}
 use lib.IntN.{ℤ, pos}
@@ -17,7 +17,7 @@ use Rattle.edit_dispatch.specs.declared.Routine.{Routine}
 use Rattle.edit_dispatch.specs.declared.Routine.the-variants.{AddNode, MoveNode, RemoveNode, AddIsolatedEdge}
 use Rattle.edit_dispatch.specs.declared.Routine.the-variants.{RemoveIsolatedEdge, ChangeCurve, Split, Heal}
 use Rattle.edit_dispatch.specs.declared.Routine.the-variants.{AddEdge, RemoveEdge, Unknown}
-use Rattle.edit_dispatch.specs.Shaped.{kindFor, countFits, readFor}
+use Rattle.edit_dispatch.specs.Shaped.{kindFor, countFits, readFor, edgesNamed}
 
 -- ---- numbers
 
@@ -117,3 +117,19 @@ unfit (Heal how) t p e = two-none (healTicket how) t (not-so t 2 p e)
 unfit (AddEdge how) t p e = two-curve-none (addTicket how) t (pairs-unfit _ 2 e)
 unfit (RemoveEdge how) t p e = one-none (removeTicket how) t (not-so t 1 p e)
 unfit Unknown t p e = refl
+
+-- ---- the edges that a ticket names
+
+-- they are among its arguments
+pub named-fit : (r : Routine) (n : ℕ) → 0 < n → countFits (kindFor r) (n - 1) ≡ true → edgesNamed r + 1 ≤ n
+named-fit AddNode n h e = omega arith
+named-fit MoveNode n h e = omega arith
+named-fit RemoveNode n h e = omega arith
+named-fit AddIsolatedEdge n h e = omega arith
+named-fit RemoveIsolatedEdge n h e = omega (arith, so-many n 0 e)
+named-fit ChangeCurve n h e = omega (arith, pairs-fit (n - 1) 1 e .0)
+named-fit (Split how) n h e = omega (arith, so-many n 2 e)
+named-fit (Heal how) n h e = omega (arith, so-many n 1 e)
+named-fit (AddEdge how) n h e = omega arith
+named-fit (RemoveEdge how) n h e = omega (arith, so-many n 0 e)
+named-fit Unknown n h e = omega arith

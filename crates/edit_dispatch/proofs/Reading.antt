@@ -24,7 +24,7 @@ use Rattle.map.proofs.Reasons.{first-hit, first-miss}
 use Rattle.outcomes.specs.declared.Done.{Done}
 use Rattle.outcomes.specs.Outcomes.{Formed, outcome}
 use Rattle.edit_dispatch.specs.declared.Routine.the-variants.{Unknown}
-use Rattle.edit_dispatch.specs.Shaped.{shaped, routines, routineOf, kindFor, readFor}
+use Rattle.edit_dispatch.specs.Shaped.{shaped, shapedRows, routines, routineOf, kindFor, readFor}
 
 -- ---- what a first number is read as
 
@@ -76,6 +76,12 @@ pub shaped-none : (nodes edges faces : List ℤ) (h : Head) {o : Option Ticket} 
     ≡ record { head = h; answer = record { refusal = 3; value = pos 0 } } → o ≡ none → outcome nodes edges faces d
     ≡ shaped (lent nodes edges faces h) o
 shaped-none nodes edges faces h e n = rw (n, e)
+
+-- the same of the rows
+pub rows-none : (nodes edges faces : List ℤ) (h : Head) {o : Option Ticket} {d : Done} → d
+    ≡ record { head = h; answer = record { refusal = 3; value = pos 0 } } → o ≡ none → outcome nodes edges faces d
+    ≡ shapedRows (lent nodes edges faces h) o
+rows-none nodes edges faces h e n = rw (n, e)
 
 -- ---- tables in form
 

@@ -11,7 +11,7 @@ use Rattle.map.specs.Rows.{Lent}
 use Rattle.map.specs.Tickets.{Ticket, AddIsoNode, MoveIsoNode, RemoveIsoNode, AddIsoEdge, RemoveIsoEdge, ChangeEdgeGeom}
 use Rattle.map.specs.Tickets.{one, two, three, oneCurve, twoCurve}
 use Rattle.map.specs.Ticket.{Outcome, refused}
-use Rattle.outcomes.specs.Outcomes.{decided}
+use Rattle.outcomes.specs.Outcomes.{decided, edited}
 use Rattle.outcomes.specs.Variants.{splitTicket, healTicket, addTicket, removeTicket}
 use Rattle.edit_dispatch.specs.declared.Kind.{Kind}
 use Rattle.edit_dispatch.specs.declared.Routine.{Routine}
@@ -23,6 +23,11 @@ use Rattle.edit_dispatch.specs.declared.Routine.the-variants.{AddEdge, R
 abbrev pub shaped : Lent → Option Ticket → Outcome
 shaped l none = refused l 3
 shaped l (some t) = decided l t
+
+-- the same of the rows, with the rectangles still those of before
+abbrev pub shapedRows : Lent → Option Ticket → Outcome
+shapedRows l none = refused l 3
+shapedRows l (some t) = edited l t
 
 -- ---- kinds
 
@@ -74,3 +79,33 @@ readFor (Heal how) = two (healTicket how)
 readFor (AddEdge how) = twoCurve (addTicket how)
 readFor (RemoveEdge how) = one (removeTicket how)
 readFor Unknown = λ r. none
+
+-- ---- what a routine does to edges
+
+-- how many edges its ticket names, by its first numbers
+abbrev pub edgesNamed : Routine → ℕ
+edgesNamed AddNode = 0
+edgesNamed MoveNode = 0
+edgesNamed RemoveNode = 0
+edgesNamed AddIsolatedEdge = 0
+edgesNamed RemoveIsolatedEdge = 1
+edgesNamed ChangeCurve = 1
+edgesNamed (Split how) = 1
+edgesNamed (Heal how) = 2
+edgesNamed (AddEdge how) = 0
+edgesNamed (RemoveEdge how) = 1
+edgesNamed Unknown = 0
+
+-- whether it draws an edge
+abbrev pub drawsEdge : Routine → Bool
+drawsEdge AddNode = false
+drawsEdge MoveNode = false
+drawsEdge RemoveNode = false
+drawsEdge AddIsolatedEdge = true
+drawsEdge RemoveIsolatedEdge = false
+drawsEdge ChangeCurve = false
+drawsEdge (Split how) = false
+drawsEdge (Heal how) = false
+drawsEdge (AddEdge how) = true
+drawsEdge (RemoveEdge how) = false
+drawsEdge Unknown = false

@@ -14,12 +14,13 @@ use map::Variant;
 use outcomes::Done;
 ghost use mathlib.Core.Path.{_≡_};
 ghost use mathlib.Core.Bool.{true, false};
-ghost use Prim.Native.Nat.{_-_};
+ghost use Prim.Native.Nat.{_-_, _<_};
 ghost use lib.ListN.{length, drop};
 ghost use Rattle.map.specs.Ticket.{ticket};
 ghost use Rattle.map.specs.Loans.{lentNow};
 ghost use Rattle.outcomes.specs.Outcomes.{Formed, outcomeNow};
-ghost use Rattle.edit_dispatch.specs.Shaped.{shaped, kind, routineOf, kindFor, countFits, readFor};
+ghost use Rattle.edit_dispatch.specs.Shaped.{shaped, shapedRows, kind, routineOf, kindFor, countFits, readFor};
+ghost use Rattle.edit_dispatch.specs.Shaped.{edgesNamed, drawsEdge};
 
 // The edits, each by the function that carries it out.
 enum Routine {
@@ -108,10 +109,10 @@ fn count_fits(k: Kind, n: usize) -> bool
     }
 }
 
-// ---- the edit
+// ---- the edit of rows
 
-// Carries out a routine on numbers of its count.
-fn carry_out(
+// Carries out a routine on numbers of its count, but for the rectangles.
+fn edit_rows(
     nodes: &mut [i64],
     edges: &mut [i64],
     faces: &mut [i64],
@@ -122,7 +123,7 @@ fn carry_out(
     requires { ⌜ Formed (now nodes) (now edges) (now faces) h
         × (countFits (kindFor routine) (length (now t) - 1) ≡ true) ⌝ }
     ensures { λ r. ⌜ outcomeNow (nodes .exit) (edges .exit) (faces .exit) r
-        ≡ shaped (lentNow (nodes .entry) (edges .entry) (faces .entry) h)
+        ≡ shapedRows (lentNow (nodes .entry) (edges .entry) (faces .entry) h)
         (readFor routine (drop 1 (now (t .entry)))) ⌝ }
 {
     match routine {
@@ -153,6 +154,74 @@ fn carry_out(
         Routine::RemoveEdge(how) => remove_edge(nodes, edges, faces, h, how, t[FIRST]),
         Routine::Unknown => outcomes::refused(h, 3),
     }
+}
+
+// ---- the rectangles that it affects
+
+// How many edges a ticket names, by its first numbers.
+fn edges_named(routine: Routine) -> usize
+    ensures { λ r. ⌜ r ≡ edgesNamed routine ⌝ }
+{
+    match routine {
+        Routine::AddNode => 0,
+        Routine::MoveNode => 0,
+        Routine::RemoveNode => 0,
+        Routine::AddIsolatedEdge => 0,
+        Routine::RemoveIsolatedEdge => 1,
+        Routine::ChangeCurve => 1,
+        Routine::Split(how) => 1,
+        Routine::Heal(how) => 2,
+        Routine::AddEdge(how) => 0,
+        Routine::RemoveEdge(how) => 1,
+        Routine::Unknown => 0,
+    }
+}
+
+// Whether it draws an edge.
+fn draws_edge(routine: Routine) -> bool
+    ensures { λ r. ⌜ r ≡ drawsEdge routine ⌝ }
+{
+    match routine {
+        Routine::AddNode => false,
+        Routine::MoveNode => false,
+        Routine::RemoveNode => false,
+        Routine::AddIsolatedEdge => true,
+        Routine::RemoveIsolatedEdge => false,
+        Routine::ChangeCurve => false,
+        Routine::Split(how) => false,
+        Routine::Heal(how) => false,
+        Routine::AddEdge(how) => true,
+        Routine::RemoveEdge(how) => false,
+        Routine::Unknown => false,
+    }
+}
+
+// Carries out a routine on numbers of its count: the rows, and then the rectangles that it affects.
+fn carry_out(
+    nodes: &mut [i64],
+    edges: &mut [i64],
+    faces: &mut [i64],
+    h: Head,
+    routine: Routine,
+    t: &[i64],
+) -> Done
+    requires { ⌜ Formed (now nodes) (now edges) (now faces) h
+        × (countFits (kindFor routine) (length (now t) - 1) ≡ true) × (0 < length (now t)) ⌝ }
+    ensures { λ r. ⌜ outcomeNow (nodes .exit) (edges .exit) (faces .exit) r
+        ≡ shaped (lentNow (nodes .entry) (edges .entry) (faces .entry) h)
+        (readFor routine (drop 1 (now (t .entry)))) ⌝ }
+{
+    let e = head::to_usize(h.edges);
+    let before = edit_rectangles::affected_before(edges, e, edges_named(routine), t);
+    let done = edit_rows(nodes, edges, faces, h, routine, t);
+    let refusal = done.answer.refusal;
+    if refusal != 0 {
+        return done;
+    }
+    let after = done.head;
+    let a = edit_rectangles::affected_after(edges, h, after, draws_edge(routine), before);
+    edit_rectangles::set_affected(edges, faces, after, a);
+    done
 }
 
 // Carries out a ticket on tables in form.

@@ -28,8 +28,8 @@ use Rattle.map.specs.declared.Head.{Head}
 use Rattle.map.specs.declared.Variant.{Variant}
 use Rattle.map.specs.declared.Variant.the-variants.{New, Mod}
 use Rattle.map.specs.Limits.{nodeWidth, edgeWidth}
-use Rattle.map.specs.Rows.{Node, Edge, Map, mapOf, lentOf, sizesOf, nodeCells, edgeCells, dartCell, edge, hasNode}
-use Rattle.map.specs.Rows.{hasEdge, hasFace, given, atEdge, withoutNode, counts, lent}
+use Rattle.map.specs.Rows.{Node, Edge, Map, mapOf, lentWith, rectangle, sizesOf, nodeCells, edgeCells, dartCell, edge}
+use Rattle.map.specs.Rows.{hasNode, hasEdge, hasFace, given, atEdge, withoutNode, counts, lent}
 use Rattle.map.specs.Darts.{leaves, arrives, next, course, departures}
 use Rattle.map.specs.Links.{redirect, instead}
 use Rattle.map.specs.Edits.{sharedNodes, joint, parts, healedCurve, heal}
@@ -335,13 +335,14 @@ module _ {nodes edges faces : List ℤ} {h : Head} (f : Formed nodes edges faces
             atEdge
         heal-is = refl
 
-        healed-lent : lentOf (sizesOf (lent nodes edges faces h)) healed
+        healed-lent : lentWith (rectangle (whole .edges)) (sizesOf (lent nodes edges faces h)) healed
             ≡ lent (closed nodeWidth nodes nodeCount k)
             (healedRows edges n i j (s .first) (s .second) how z (joinedLine edges (s .first) (s .second))) faces
             (changedHead h (counts 0 0 0) (counts 1 1 0) (healNumbers how))
         unfolding healed mapOf
         healed-lent =
-            lent-is (sizesOf (lent nodes edges faces h)) healed nodes-healed (sym edges-healed) (faces-filled f)
+            lent-is (rectangle (whole .edges)) (sizesOf (lent nodes edges faces h)) healed nodes-healed
+            (sym edges-healed) (faces-filled f)
             (head-changed h healed (counts 0 0 0) (counts 1 1 0) (healNumbers how)
             (omega (arith, nodes-fewer, below)) (omega (arith, edges-fewer))
             (omega (arith, faces-length faces (natAbs (h .faces)))) refl refl refl)
@@ -349,10 +350,12 @@ module _ {nodes edges faces : List ℤ} {h : Head} (f : Formed nodes edges faces
         -- the ticket carried out
         pub heal-carried : {l r : List ℤ} → l ≡ closed nodeWidth nodes nodeCount k → r
             ≡ healedRows edges n i j (s .first) (s .second) how z (joinedLine edges (s .first) (s .second))
-            → lentOf (sizesOf (lent nodes edges faces h)) (carried whole (healTicket how (pos a) (pos b)) .0)
+            → lentWith (rectangle (whole .edges)) (sizesOf (lent nodes edges faces h))
+            (carried whole (healTicket how (pos a) (pos b)) .0)
             ≡ lent l r faces (changedHead h (counts 0 0 0) (counts 1 1 0) (healNumbers how))
         heal-carried el er =
-            ap (lentOf (sizesOf (lent nodes edges faces h))) (map-carried how ∙ heal-is) ∙ healed-lent
+            ap (lentWith (rectangle (whole .edges)) (sizesOf (lent nodes edges faces h))) (map-carried how ∙ heal-is)
+            ∙ healed-lent
             ∙ ap₂ (λ (x y : List ℤ). lent x y faces (changedHead h (counts 0 0 0) (counts 1 1 0) (healNumbers how)))
             (sym el) (sym er)
           where

@@ -23,7 +23,7 @@ ghost use Rattle.map.specs.Loans.{lentNow};
 ghost use Rattle.map_rows.specs.Rows.{edgeAt, EdgeRow, NodeRows};
 ghost use Rattle.map_rows.specs.Cells.{cellsOf};
 ghost use Rattle.head.specs.Heads.{Counted, changedHead};
-ghost use Rattle.outcomes.specs.Outcomes.{Formed, decided, outcomeNow};
+ghost use Rattle.outcomes.specs.Outcomes.{Formed, edited, outcomeNow};
 ghost use Rattle.outcomes.specs.Variants.{healTicket};
 ghost use Rattle.edit_heal.specs.Heals.{dartLeaving, dartArriving, JointRows, PartsOf, courseAt, joinedLine};
 ghost use Rattle.edit_heal.specs.Heals.{TwoDarts, ledToHealed, RowAndDarts, healedIncidence, closedUp, TwoRows};
@@ -303,7 +303,7 @@ fn heal_at_rows(
 ) -> Done
     requires { ⌜ Formed (now nodes) (now edges) (now faces) h × (i < natAbs (h .edges)) × (j < natAbs (h .edges)) ⌝ }
     ensures { λ r. ⌜ outcomeNow (nodes .exit) (edges .exit) (faces .entry) r
-        ≡ decided (lentNow (nodes .entry) (edges .entry) (faces .entry) h)
+        ≡ edited (lentNow (nodes .entry) (edges .entry) (faces .entry) h)
         (healTicket how (pos (edgeAt (now (edges .entry)) i .number)) (pos (edgeAt (now (edges .entry)) j .number))) ⌝ }
 {
     let e = head::to_usize(h.edges);
@@ -332,7 +332,7 @@ pub fn heal_edges(
 ) -> Done
     requires { ⌜ Formed (now nodes) (now edges) (now faces) h ⌝ }
     ensures { λ r. ⌜ outcomeNow (nodes .exit) (edges .exit) (faces .entry) r
-        ≡ decided (lentNow (nodes .entry) (edges .entry) (faces .entry) h)
+        ≡ edited (lentNow (nodes .entry) (edges .entry) (faces .entry) h)
         (healTicket how edge other) ⌝ }
 {
     let e = head::to_usize(h.edges);

@@ -15,15 +15,15 @@ use Rattle.lists.proofs.Bools.{equal?, same-eq, same-false, or-right}
 use Rattle.curves.specs.Curves.{curveOf}
 use Rattle.map.specs.declared.Head.{Head}
 use Rattle.map.specs.Limits.{nodeWidth, faceWidth}
-use Rattle.map.specs.Rows.{counts, Node, Map, Sizes, mapOf, lentOf, sizesOf, headOf, node, nodeCells, edgeCells}
-use Rattle.map.specs.Rows.{faceCells, lent}
+use Rattle.map.specs.Rows.{counts, Node, Map, Sizes, mapOf, lentWith, rectangle, sizesOf, headOf, node}
+use Rattle.map.specs.Rows.{nodeCells, edgeCells, lent}
 use Rattle.tables.specs.Tables.{sameZ, column, filled}
 use Rattle.map.specs.Edits.{drawn, addIsoEdge}
 use Rattle.map.specs.Tickets.{AddIsoEdge}
 use Rattle.map.specs.Reasons.{firstReason, reasons, noNode, nodeInside}
 use Rattle.map.specs.Ticket.{carried}
 use Rattle.map.proofs.Reasons.{first-hit, first-miss}
-use Rattle.map_rows.specs.Rows.{nodesOf, edgesOf, facesOf, nodeAt, nodeMap}
+use Rattle.map_rows.specs.Rows.{nodesOf, edgesOf, facesOf, facesIn, nodeAt, nodeMap}
 use Rattle.map_rows.proofs.Rows.{nodes-length, edges-length, faces-length}
 use Rattle.head.proofs.Heads.{head-same}
 use Rattle.reason_curves.specs.Sent.{edgesBut}
@@ -111,21 +111,22 @@ module _ {nodes edges faces : List ℤ} {h : Head} (f : Formed nodes edges faces
       head-is = head-same (d .held .counted) m′ (nodes-length nodes′ (natAbs (h′ .nodes)))
           (edges-length edges′ (natAbs (h′ .edges))) (faces-length faces (natAbs (h′ .faces))) refl refl refl
 
-      written : lentOf s m′ ≡ lent nodes′ edges′ faces h′
+      written : lentWith (rectangle (m .edges)) s m′ ≡ lent nodes′ edges′ faces h′
       unfolding mapOf
       written =
-          lent-is s m′
+          lent-is (rectangle (m .edges)) s m′
           (ap (λ (k : ℕ). filled k (flatMap nodeCells (nodesOf nodes′ (natAbs (h′ .nodes)))))
           (nodes-size f .0 ∙ sym (d .nodes-long)) ∙ nodes-filled (d .held .node-table))
           (ap (λ (k : ℕ). filled k (flatMap edgeCells (edgesOf edges′ (natAbs (h′ .edges)))))
           (edges-size f .0 ∙ sym (d .edges-long)) ∙ edges-filled (d .held .edge-table))
-          (ap (λ (k : ℕ). filled (length faces / faceWidth * faceWidth) (flatMap faceCells (facesOf faces k)))
+          (ap (λ (k : ℕ). facesIn (length faces / faceWidth * faceWidth) (rectangle (m .edges)) (facesOf faces k))
           (drawn-faces d) ∙ faces-filled f)
           head-is
 
-      pub add-lent : lentOf s (carried m (AddIsoEdge (pos start) (pos end) c) .0) ≡ lent nodes′ edges′ faces h′
+      pub add-lent : lentWith (rectangle (m .edges)) s (carried m (AddIsoEdge (pos start) (pos end) c) .0)
+          ≡ lent nodes′ edges′ faces h′
       unfolding carried addIsoEdge
-      add-lent = ap (lentOf s) map-is ∙ written
+      add-lent = ap (lentWith (rectangle (m .edges)) s) map-is ∙ written
 
   pub add-value : (a b : ℤ) (c : List ℤ) → carried m (AddIsoEdge a b c) .1 ≡ h .«next_edge»
   unfolding carried mapOf

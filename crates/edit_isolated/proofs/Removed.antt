@@ -9,7 +9,7 @@ use Rattle.lists.specs.Tables.{place}
 use Rattle.lists.specs.declared.Found.the-variants.{Missing}
 use Rattle.map.specs.declared.Head.{Head}
 use Rattle.map.specs.Limits.{edgeWidth, faceWidth}
-use Rattle.map.specs.Rows.{Edge, Map, Sizes, mapOf, lentOf, sizesOf, nodeCells, edgeCells, faceCells, atNodes, lent}
+use Rattle.map.specs.Rows.{Edge, Map, Sizes, mapOf, lentWith, rectangle, sizesOf, nodeCells, edgeCells, atNodes, lent}
 use Rattle.tables.specs.Tables.{sameZ, column, filled}
 use Rattle.map.specs.Links.{unlinkEdge, redirect}
 use Rattle.map.specs.Edits.{undrawn, removeIsoEdge}
@@ -17,7 +17,7 @@ use Rattle.map.specs.Tickets.{RemoveIsoEdge}
 use Rattle.map.specs.Reasons.{firstReason, reasons, noEdge, edgeIsolated}
 use Rattle.map.specs.Ticket.{carried}
 use Rattle.map.proofs.Reasons.{first-hit, first-miss, first-none}
-use Rattle.map_rows.specs.Rows.{edgeAt, edgeMap}
+use Rattle.map_rows.specs.Rows.{edgeAt, edgeMap, facesIn}
 use Rattle.reason_departures.proofs.Alone.{isolated-alone}
 use Rattle.outcomes.specs.Outcomes.{Formed}
 use Rattle.outcomes.proofs.Formed.{nodes-size, edges-size, faces-filled, lent-is, edge-none, head-back}
@@ -57,19 +57,20 @@ module _ {nodes edges faces : List ℤ} {h : Head} (f : Formed nodes edges faces
       remove-free e = first-miss 4 (noEdge m (pos number)) _ (edge-there f i b)
           ∙ first-miss 9 (not (edgeIsolated m number)) [] (ap not (isolated-is ∙ e)) ∙ first-none
 
-    same-faces : (g : ℕ) → filled (length faces / faceWidth * faceWidth)
-        (flatMap faceCells (undrawn number g m .faces)) ≡ faces
+    same-faces : (g : ℕ) → facesIn (length faces / faceWidth * faceWidth) (rectangle (m .edges))
+        (undrawn number g m .faces) ≡ faces
     unfolding undrawn atNodes unlinkEdge redirect mapOf
     same-faces g = faces-filled f
 
     pub remove-lent : {face : ℤ} {nodes′ edges′ : List ℤ} {h′ : Head} → face ≡ pos (edgeAt edges i .left)
         → Undrawn nodes edges h i face nodes′ edges′ h′
-        → lentOf s (carried m (RemoveIsoEdge (pos number)) .0) ≡ lent nodes′ edges′ faces h′
+        → lentWith (rectangle (m .edges)) s (carried m (RemoveIsoEdge (pos number)) .0) ≡ lent nodes′ edges′ faces h′
     unfolding carried removeIsoEdge
     remove-lent {face} ef u =
         let m′ = undrawn number (natAbs face) m in
-        ap (λ (g : ℕ). lentOf s (undrawn number g m)) (ap (λ (r : Edge). r .left) (edge-is f i b) ∙ sym (ap natAbs ef))
-        ∙ lent-is s m′
+        ap (λ (g : ℕ). lentWith (rectangle (m .edges)) s (undrawn number g m))
+        (ap (λ (r : Edge). r .left) (edge-is f i b) ∙ sym (ap natAbs ef))
+        ∙ lent-is (rectangle (m .edges)) s m′
         (ap (λ (k : ℕ). filled k (flatMap nodeCells (m′ .nodes))) (nodes-size f .0) ∙ u .node-cells faces)
         (ap (λ (k : ℕ). filled k (flatMap edgeCells (m′ .edges))) (edges-size f .0) ∙ u .edge-cells faces)
         (same-faces (natAbs face))

@@ -14,7 +14,7 @@ ghost use Rattle.map.specs.Reasons.{firstReason};
 ghost use Rattle.map.specs.Tickets.{AddIsoEdge, RemoveIsoEdge};
 ghost use Rattle.map.specs.Loans.{lentNow};
 ghost use Rattle.map_rows.specs.Rows.{nodeAt, edgeAt, NodeRow, EdgeRow};
-ghost use Rattle.outcomes.specs.Outcomes.{Formed, decided, outcomeNow};
+ghost use Rattle.outcomes.specs.Outcomes.{Formed, edited, outcomeNow};
 ghost use Rattle.edge_rows.specs.Holds.{NodeEdgeTables};
 ghost use Rattle.edit_isolated.specs.Isolated.{meetingOrRoomReasons, isolatedReasons};
 
@@ -114,7 +114,7 @@ fn add_at_rows(
 ) -> Done
     requires { ⌜ Formed (now nodes) (now edges) (now faces) h × (u < natAbs (h .nodes)) × (v < natAbs (h .nodes)) ⌝ }
     ensures { λ r. ⌜ outcomeNow (nodes .exit) (edges .exit) (faces .entry) r
-        ≡ decided (lentNow (nodes .entry) (edges .entry) (faces .entry) h)
+        ≡ edited (lentNow (nodes .entry) (edges .entry) (faces .entry) h)
         (AddIsoEdge (pos (nodeAt (now (nodes .entry)) u .number)) (pos (nodeAt (now (nodes .entry)) v .number))
         (now (c .entry))) ⌝ }
 {
@@ -140,7 +140,7 @@ pub fn add_isolated_edge(
 ) -> Done
     requires { ⌜ Formed (now nodes) (now edges) (now faces) h ⌝ }
     ensures { λ r. ⌜ outcomeNow (nodes .exit) (edges .exit) (faces .entry) r
-        ≡ decided (lentNow (nodes .entry) (edges .entry) (faces .entry) h)
+        ≡ edited (lentNow (nodes .entry) (edges .entry) (faces .entry) h)
         (AddIsoEdge start end (now (c .entry))) ⌝ }
 {
     let n = head::to_usize(h.nodes);
@@ -169,7 +169,7 @@ fn left_face(edges: &[i64], i: usize) -> i64
 fn remove_at_row(nodes: &mut [i64], edges: &mut [i64], faces: &[i64], h: Head, i: usize) -> Done
     requires { ⌜ Formed (now nodes) (now edges) (now faces) h × (i < natAbs (h .edges)) ⌝ }
     ensures { λ r. ⌜ outcomeNow (nodes .exit) (edges .exit) (faces .entry) r
-        ≡ decided (lentNow (nodes .entry) (edges .entry) (faces .entry) h)
+        ≡ edited (lentNow (nodes .entry) (edges .entry) (faces .entry) h)
         (RemoveIsoEdge (pos (edgeAt (now (edges .entry)) i .number))) ⌝ }
 {
     let e = head::to_usize(h.edges);
@@ -191,7 +191,7 @@ pub fn remove_isolated_edge(
 ) -> Done
     requires { ⌜ Formed (now nodes) (now edges) (now faces) h ⌝ }
     ensures { λ r. ⌜ outcomeNow (nodes .exit) (edges .exit) (faces .entry) r
-        ≡ decided (lentNow (nodes .entry) (edges .entry) (faces .entry) h) (RemoveIsoEdge edge) ⌝ }
+        ≡ edited (lentNow (nodes .entry) (edges .entry) (faces .entry) h) (RemoveIsoEdge edge) ⌝ }
 {
     let e = head::to_usize(h.edges);
     let found = tables::find_row(edges, map::EDGE_WIDTH, e, edge);

@@ -19,7 +19,7 @@ use Rattle.map.specs.declared.Counts.{Counts}
 use Rattle.map.specs.declared.Head.{Head}
 use Rattle.map.specs.Limits.{nodeWidth}
 use Rattle.map.specs.Rows.{Node, Map, Sizes, mapOf, lentOf, sizesOf, nodeCells, atNodes, withoutNode, headOf, given}
-use Rattle.map.specs.Rows.{counts, lent}
+use Rattle.map.specs.Rows.{counts, lent, rectangle}
 use Rattle.map.specs.Faces.{faceOfPoint}
 use Rattle.map.specs.Tickets.{AddIsoNode, MoveIsoNode, RemoveIsoNode}
 use Rattle.map.specs.Ticket.{carried}
@@ -68,7 +68,8 @@ module _ {nodes edges faces : List ℤ} {h : Head} (f : Formed nodes edges faces
 
   nodes-lent : (ns : List Node) (k : Counts) {l : List ℤ} {g : Head} → filled size (flatMap nodeCells ns) ≡ l
       → headOf (changed ns k) ≡ g → lentOf s (changed ns k) ≡ lent l edges faces g
-  nodes-lent ns k e head = lent-is s (changed ns k) e (edges-filled f) (faces-filled f) head
+  nodes-lent ns k e head = lent-is (rectangle (edgesOf edges (natAbs (h .edges)))) s (changed ns k) e
+      (edges-filled f) (faces-filled f) head
 
   edge-count : length (edgesOf edges (natAbs (h .edges))) ≡ natAbs (h .edges)
   edge-count = edges-length edges (natAbs (h .edges))

@@ -21,7 +21,7 @@ use Rattle.head.specs.Heads.{Counted, changedHead}
 use Rattle.outcomes.specs.Outcomes.{Formed}
 use Rattle.outcomes.proofs.Formed.{counted}
 use Rattle.face_rows.specs.Holds.{Healable, TablesOf, mergedSides}
-use Rattle.face_rows.proofs.Formed.{formed-held}
+use Rattle.face_rows.proofs.Formed.{boxes, formed-held}
 use Rattle.face_rows.proofs.Heals.{merged-head}
 use Rattle.face_rows.proofs.Healed.{healed-node-rows, healed-nodes, healed-edge-rows, healed-edges, healed-nodes-long}
 use Rattle.face_rows.proofs.Healed.{healed-edges-long, healed-numbers, healed-node-count, healed-edge-count}
@@ -31,7 +31,7 @@ use Rattle.edge_rows.proofs.Formed.{held}
 module _ {nodes edges faces : List ℤ} {h : Head} (f : Formed nodes edges faces h) (row : Edge)
     (p : Healable nodes edges faces h (pos (row .left)) (pos (row .right))) (makes : Bool)
     (number : natAbs (h .«next_face») + bit makes ≤ suc lastNumber) {nodes′ edges′ faces′ : List ℤ} {h′ : Head}
-    (after : TablesOf nodes edges faces (mergedSides makes row
+    (after : TablesOf (boxes f) nodes edges faces (mergedSides makes row
     (mapOf (lent nodes edges faces h))) nodes′ edges′ faces′ h′)
   where
     abbrev m : Map

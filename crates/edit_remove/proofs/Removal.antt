@@ -13,7 +13,7 @@ use Rattle.map.specs.declared.Head.{Head}
 use Rattle.map.specs.declared.Variant.{Variant}
 use Rattle.map.specs.declared.Variant.the-variants.{New, Mod}
 use Rattle.map.specs.Limits.{edgeWidth, lastNumber}
-use Rattle.map.specs.Rows.{Edge, Map, mapOf, lentOf, sizesOf, edge, lent}
+use Rattle.map.specs.Rows.{Edge, Map, mapOf, lentWith, sizesOf, edge, lent}
 use Rattle.tables.specs.Tables.{sameZ, column}
 use Rattle.map.specs.Edits.{isNew, undrawn, healsFaces, makesFace, removeEdge}
 use Rattle.map.specs.Reasons.{firstReason, reasons}
@@ -27,7 +27,7 @@ use Rattle.outcomes.proofs.Formed.{counted, edge-rows}
 use Rattle.outcomes.specs.Variants.{removeTicket}
 use Rattle.outcomes.proofs.FoundRows.{edge-in, edge-number, edge-is}
 use Rattle.face_rows.specs.Holds.{faceKept, mergedSides}
-use Rattle.face_rows.proofs.Formed.{holds-lent}
+use Rattle.face_rows.proofs.Formed.{boxes, holds-lent}
 use Rattle.face_rows.proofs.Healed.{removed-is}
 use Rattle.edit_remove.specs.RemovedEdges.{RemovableEdge, EdgeRemoved, removedEdge, valueLeft}
 
@@ -85,9 +85,9 @@ module _ {nodes edges faces : List ℤ} {h : Head} (f : Formed nodes edges faces
 
   pub removed-lent : {nodes′ edges′ faces′ : List ℤ} {r : Done}
       → EdgeRemoved nodes edges faces h i makes nodes′ edges′ faces′ r
-      → lentOf (sizesOf (lent nodes edges faces h)) (carried m (removeTicket how z) .0)
+      → lentWith (boxes f) (sizesOf (lent nodes edges faces h)) (carried m (removeTicket how z) .0)
       ≡ lent nodes′ edges′ faces′ (r .head)
-  removed-lent c = ap (lentOf (sizesOf (lent nodes edges faces h))) (carried-map how ∙ removed-map)
+  removed-lent c = ap (lentWith (boxes f) (sizesOf (lent nodes edges faces h))) (carried-map how ∙ removed-map)
       ∙ holds-lent f refl refl (c .holds)
 
   turned : (b : Bool) (x y : ℤ) → cond (not b) x y ≡ cond b y x

@@ -7,7 +7,7 @@ use lib.IntN.{ℤ, pos, negsuc, natAbs}
 use Rattle.lists.specs.Tests.{same, bit}
 use Rattle.map.specs.declared.Head.{Head}
 use Rattle.map.specs.Limits.{lastNumber}
-use Rattle.map.specs.Rows.{Edge, Map, mapOf, lent}
+use Rattle.map.specs.Rows.{Edge, Map, mapOf, rectangle, lent}
 use Rattle.map.specs.Edits.{undrawn}
 use Rattle.map_rows.specs.Rows.{edgeAt, EdgeRow}
 use Rattle.outcomes.specs.declared.Done.{Done}
@@ -30,8 +30,9 @@ pub record RemovableEdge (nodes edges faces : List ℤ) (h : Head) (i : ℕ) (ma
   pub kept : edgeAt edges i .left ≡ edgeAt edges i .right → makes ≡ false
   pub number : natAbs (h .«next_face») + bit makes ≤ suc lastNumber
 
+-- the rectangles are still those of the edges before
 pub record EdgeRemoved (nodes edges faces : List ℤ) (h : Head) (i : ℕ) (makes : Bool) (nodes′ edges′ faces′ : List ℤ)
     (r : Done) : Type 0 where
-  pub holds : TablesOf nodes edges faces (removedEdge makes (edgeAt edges i)
-      (mapOf (lent nodes edges faces h))) nodes′ edges′ faces′ (r .head)
+  pub holds : TablesOf (rectangle (mapOf (lent nodes edges faces h) .edges)) nodes edges faces
+      (removedEdge makes (edgeAt edges i) (mapOf (lent nodes edges faces h))) nodes′ edges′ faces′ (r .head)
   pub value : r .answer .value ≡ valueLeft makes (edgeAt edges i) (mapOf (lent nodes edges faces h))

@@ -7,7 +7,7 @@ ghost use mathlib.Core.Bool.{cond};
 ghost use lib.IntN.{pos};
 ghost use Rattle.map.specs.Edits.{isNew};
 ghost use Rattle.map.specs.Loans.{lentNow};
-ghost use Rattle.outcomes.specs.Outcomes.{Formed, decided, outcomeNow};
+ghost use Rattle.outcomes.specs.Outcomes.{Formed, edited, outcomeNow};
 ghost use Rattle.outcomes.specs.Variants.{removeTicket};
 ghost use Rattle.edit_remove.specs.RemovedEdges.{RemovableEdge, EdgeRemoved};
 
@@ -58,7 +58,7 @@ pub fn remove_edge(
 ) -> Done
     requires { ⌜ Formed (now nodes) (now edges) (now faces) h ⌝ }
     ensures { λ r. ⌜ outcomeNow (nodes .exit) (edges .exit) (faces .exit) r
-        ≡ decided (lentNow (nodes .entry) (edges .entry) (faces .entry) h) (removeTicket how edge) ⌝ }
+        ≡ edited (lentNow (nodes .entry) (edges .entry) (faces .entry) h) (removeTicket how edge) ⌝ }
 {
     let judged = reason_edges::judge_removal(nodes, edges, faces, h, how, edge);
     let reason = judged.reason;

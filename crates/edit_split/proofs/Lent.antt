@@ -16,11 +16,11 @@ use Rattle.map.specs.declared.Head.{Head}
 use Rattle.map.specs.declared.Variant.{Variant}
 use Rattle.map.specs.declared.Variant.the-variants.{New, Mod}
 use Rattle.map.specs.Limits.{nodeWidth, edgeWidth, faceWidth}
-use Rattle.map.specs.Rows.{Node, Map, mapOf, lentOf, sizesOf, nodeCells, edgeCells, faceCells, headOf, counts, lent}
+use Rattle.map.specs.Rows.{Node, Map, mapOf, lentWith, rectangle, sizesOf, nodeCells, edgeCells, headOf, counts, lent}
 use Rattle.map.specs.Ticket.{carried}
 use Rattle.map.specs.Edits.{split}
 use Rattle.map.proofs.RoundTrip.{nodes-wide}
-use Rattle.map_rows.specs.Rows.{nodesOf, edgesOf, edgeAt}
+use Rattle.map_rows.specs.Rows.{nodesOf, edgesOf, facesIn, edgeAt}
 use Rattle.map_rows.proofs.Rows.{nodes-length, edges-length, faces-length, edges-getD, edge-row-of, edge-number-in}
 use Rattle.head.specs.Heads.{changedHead}
 use Rattle.head.proofs.Heads.{head-changed}
@@ -98,7 +98,7 @@ module _ {nodes edges faces : List ℤ} {h : Head} (f : Formed nodes edges faces
       (nodes-wide (r ∷ []) .0) (rw long (omega arith)))
       ∙ rw (nodes-filled f, long, cells)
 
-  faces-after : filled (length faces / faceWidth * faceWidth) (flatMap faceCells (after .faces)) ≡ faces
+  faces-after : facesIn (length faces / faceWidth * faceWidth) (rectangle (m .edges)) (after .faces) ≡ faces
   unfolding mapOf split own m after
   faces-after = faces-filled f
 
@@ -119,16 +119,17 @@ module _ {nodes edges faces : List ℤ} {h : Head} (f : Formed nodes edges faces
   number-is = sym (node-next f .0)
 
   pub split-lent : {nodes′ edges′ : List ℤ} → nodes′ ≡ nodesMore → edges′ ≡ edgesCut
-      → (lentOf (sizesOf (lent nodes edges faces h))
+      → (lentWith (rectangle (mapOf (lent nodes edges faces h) .edges)) (sizesOf (lent nodes edges faces h))
       (carried (mapOf (lent nodes edges faces h)) (splitTicket how (pos (edgeAt edges i .number)) x y) .0)
       ≡ lent nodes′ edges′ faces (changedHead h (counts 1 1 0) (counts 0 0 0) (splitNumbers how)))
       × (carried (mapOf (lent nodes edges faces h)) (splitTicket how (pos (edgeAt edges i .number)) x y) .1
       ≡ h .«next_node»)
   unfolding own m after
   split-lent en ee =
-      let c = carried-is how (pos own) x y m in (
-        ap (λ (q : Map × ℤ). lentOf (sizesOf (lent nodes edges faces h)) (q .0)) c
-            ∙ lent-is (sizesOf (lent nodes edges faces h)) after (nodes-after ∙ sym en) (sym (rows-after .0) ∙ sym ee)
-            faces-after head-is,
+      let c = carried-is how (pos own) x y m in
+      let s = sizesOf (lent nodes edges faces h) in (
+        ap (λ (q : Map × ℤ). lentWith (rectangle (m .edges)) s (q .0)) c
+            ∙ lent-is (rectangle (m .edges)) s after (nodes-after ∙ sym en) (sym (rows-after .0) ∙ sym ee) faces-after
+            head-is,
         ap (λ (q : Map × ℤ). q .1) c ∙ number-is,
       )

@@ -26,7 +26,7 @@ ghost use Rattle.map.specs.Loans.{lentNow};
 ghost use Rattle.map_rows.specs.Rows.{EdgeRow, NodeRows, edgeAt};
 ghost use Rattle.map_rows.specs.Cells.{cellsOf};
 ghost use Rattle.head.specs.Heads.{Counted, changedHead, sizesIn, roomAt};
-ghost use Rattle.outcomes.specs.Outcomes.{Formed, decided, outcomeNow};
+ghost use Rattle.outcomes.specs.Outcomes.{Formed, edited, outcomeNow};
 ghost use Rattle.outcomes.specs.Variants.{splitTicket, ownOrNext};
 ghost use Rattle.edit_split.specs.Cuts.{ledToHalves, startIncidence, endIncidence, startHalfWritten, cutRow};
 ghost use Rattle.edit_split.specs.Cuts.{CuttableEdge, CuttableRow, pointReasons, splitNumbers, endNumber};
@@ -243,7 +243,7 @@ fn split_at_row(
 ) -> Done
     requires { ⌜ Formed (now nodes) (now edges) (now faces) h × (i < natAbs (h .edges)) ⌝ }
     ensures { λ r. ⌜ outcomeNow (nodes .exit) (edges .exit) (faces .entry) r
-        ≡ decided (lentNow (nodes .entry) (edges .entry) (faces .entry) h)
+        ≡ edited (lentNow (nodes .entry) (edges .entry) (faces .entry) h)
         (splitTicket how (pos (edgeAt (now (edges .entry)) i .number)) x y) ⌝ }
 {
     let reason = split_reason(nodes, edges, faces, h, how, i, x, y);
@@ -269,7 +269,7 @@ pub fn split_edge(
 ) -> Done
     requires { ⌜ Formed (now nodes) (now edges) (now faces) h ⌝ }
     ensures { λ r. ⌜ outcomeNow (nodes .exit) (edges .exit) (faces .entry) r
-        ≡ decided (lentNow (nodes .entry) (edges .entry) (faces .entry) h)
+        ≡ edited (lentNow (nodes .entry) (edges .entry) (faces .entry) h)
         (splitTicket how edge x y) ⌝ }
 {
     let e = head::to_usize(h.edges);

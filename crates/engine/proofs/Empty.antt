@@ -1,8 +1,8 @@
 -- Tables of zeros hold the empty map. Assumes nothing.
-use mathlib.Core.Path.{_≡_, refl, ap}
+use mathlib.Core.Path.{_≡_, refl, sym, ap, _∙_}
 use mathlib.Core.Bool.{true, false}
 use mathlib.Core.List.{List, [], _∷_, append-nil, flatMap}
-use Prim.Native.Nat.{ℕ, zero, suc, _*_, _-_, _/_, _≤_}
+use Prim.Native.Nat.{ℕ, suc, _+_, _*_, _-_, _/_, _≤_}
 use native.Mathlib.Nat.{zero-add, sub-zero}
 use native.Mathlib.Omega.{arith}
 use lib.IntN.{ℤ, pos}
@@ -12,7 +12,7 @@ use Rattle.tables.specs.Tables.{filled, wholeRows}
 use Rattle.tables.proofs.Filled.{whole-rows}
 use Rattle.map.specs.declared.Head.{Head}
 use Rattle.map.specs.Limits.{maxNodes, maxEdges, maxFaces, nodeWidth, edgeWidth, faceWidth}
-use Rattle.map.specs.Rows.{Lent, emptyMap, lentOf, sizesOf, whole, headOf, lent}
+use Rattle.map.specs.Rows.{Lent, emptyMap, lentOf, rectangle, sizesOf, whole, headOf, lent}
 use Rattle.map.specs.Reasons.{firstReason}
 use Rattle.map.specs.Ticket.{emptied, refused}
 use Rattle.map.proofs.RoundTrip.{whole-tables}
@@ -36,27 +36,31 @@ module _ (w least most : ℕ) (l : List ℤ) (h : wholeRows w least most l ≡ t
   pub filled-none : filled (length l / w * w) [] ≡ zeros l
   filled-none = rw (whole-rows w least most l h .size) (ap (λ (n : ℕ). replicate n (pos 0)) (sub-zero (length l)))
 
-face-zero : (n : ℕ) → 1 ≤ n → filled n (pos 0 ∷ []) ≡ replicate n (pos 0)
-face-zero zero h = absurd (omega arith)
-face-zero (suc n) h =
-    let e : suc n - 1 ≡ n = omega arith in
-    ap (λ (k : ℕ). pos 0 ∷ replicate k (pos 0)) e
+-- the row of face 0
+abbrev five : List ℤ
+five = pos 0 ∷ pos 0 ∷ pos 0 ∷ pos 0 ∷ pos 0 ∷ []
+
+face-zero : (n : ℕ) → 5 ≤ n → filled n five ≡ replicate n (pos 0)
+face-zero n h =
+    let e : n - 5 + 5 ≡ n = omega arith in
+    let s : n - 5 + 5 ≡ suc (suc (suc (suc (suc (n - 5))))) = omega arith in
+    ap (λ (k : ℕ). replicate k (pos 0)) (sym s ∙ e)
 
 module _ (nodes edges faces : List ℤ) (h : Head) (w : whole (lent nodes edges faces h) ≡ true) where
   parts : (wholeRows nodeWidth 0 maxNodes nodes ≡ true) × (wholeRows edgeWidth 0 maxEdges edges ≡ true)
       × (wholeRows faceWidth 1 maxFaces faces ≡ true)
   parts = whole-tables (lent nodes edges faces h) w
 
-  face-table : filled (length faces / faceWidth * faceWidth) (pos 0 ∷ []) ≡ zeros faces
+  face-table : filled (length faces / faceWidth * faceWidth) five ≡ zeros faces
   face-table =
       let r = whole-rows faceWidth 1 maxFaces faces (parts .2) in
       rw (r .size) (face-zero (length faces) (omega (arith, r .size, r .least)))
 
   pub empty-lent : lentOf (sizesOf (lent nodes edges faces h)) emptyMap
       ≡ lent (zeros nodes) (zeros edges) (zeros faces) (headOf emptyMap)
-  unfolding flatMap
+  unfolding flatMap rectangle
   empty-lent =
-      lent-is (sizesOf (lent nodes edges faces h)) emptyMap
+      lent-is (rectangle []) (sizesOf (lent nodes edges faces h)) emptyMap
       (filled-none nodeWidth 0 maxNodes nodes (parts .0))
       (filled-none edgeWidth 0 maxEdges edges (parts .1)) face-table refl
 

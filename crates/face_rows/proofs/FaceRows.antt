@@ -2,12 +2,13 @@
 use mathlib.Core.Path.{_≡_, refl, sym, ap, _∙_, subst}
 use mathlib.Core.Bool.{Bool, true, false, not, true≢false}
 use mathlib.Core.Logic.{inl, inr}
-use mathlib.Core.List.{List, [], _∷_, _++_, map, flatMap, append-assoc, List·Memᴰ, List·Memᴰ·head, List·Memᴰ·tail}
+use mathlib.Core.List.{List, [], _∷_, _++_, map, flatMap, List·Memᴰ, List·Memᴰ·head, List·Memᴰ·tail}
 use Prim.Native.Nat.{ℕ, suc, _+_, _*_, _-_, _≤_, _<_}
+use native.Mathlib.Nat.{add-zero}
 use native.Mathlib.Omega.{arith}
 use lib.IntN.{ℤ, pos, natAbs}
-use lib.ListN.{length, set, take, drop, replicate}
-use lib.Seq.{paste, set-split}
+use lib.ListN.{length, set, take, drop, replicate, replicate-append-replicate}
+use lib.Seq.{paste}
 use Rattle.lists.specs.Tests.{same}
 use Rattle.lists.specs.Scans.{anyOf, allOf}
 use Rattle.lists.specs.Members.{Distinct}
@@ -15,40 +16,45 @@ use Rattle.lists.specs.Tables.{place}
 use Rattle.lists.specs.declared.Found.the-variants.{At, Missing}
 use Rattle.lists.proofs.Bools.{which, same-true, same-eq, same-false, differ}
 use Rattle.lists.proofs.Keeps.{keep-all}
-use Rattle.tables.specs.Tables.{Rising, sameZ, column, closed, rows, numbered}
-use Rattle.tables.proofs.Filled.{filled-length, rows-flat, flat-length}
+use Rattle.tables.specs.Tables.{sameZ, column, closed, rows, numbered}
+use Rattle.tables.proofs.Filled.{filled-long, rows-flat, flat-length}
 use Rattle.tables.proofs.Numbers.{without-at}
-use Rattle.tables.proofs.Writes.{pushed, removed-at}
+use Rattle.tables.proofs.Writes.{pushed, removed-at, paste-mid, set-mid}
+use Rattle.bounding_boxes.specs.declared.Extent.{Extent}
 use Rattle.map.specs.Limits.{faceWidth, lastNumber}
-use Rattle.map.specs.Rows.{faceCells, faceRowOf}
+use Rattle.map.specs.Rows.{faceCells, faceRowOf, boxOf}
 use Rattle.map.specs.Form.{faceRanges}
 use Rattle.map.proofs.RoundTrip.{faces-wide}
-use Rattle.map_rows.specs.Rows.{FaceRows, facesOf}
+use Rattle.map_rows.specs.Rows.{FaceRows, facesOf, facesIn}
 use Rattle.map_rows.proofs.Rows.{faces-getD, faces-length}
 use Rattle.map_rows.proofs.Lookups.{face-found, face-missing}
-use Rattle.face_rows.specs.Holds.{facesIn, FaceTable, withoutFace, Extendable}
+use Rattle.face_rows.specs.Holds.{FaceTable, withoutFace}
 use Rattle.lists.proofs.Rising as scanning
 
 -- ---- a table read
 
-pub faces-long : (N : ℕ) (fs : List ℕ) {l : List ℤ} → length fs * faceWidth ≤ N → facesIn N fs ≡ l → length l ≡ N
-faces-long N fs h e = ap length (sym e)
-    ∙ filled-length N (flatMap faceCells fs) (rw (flat-length faceWidth faceCells fs (faces-wide fs)) h)
+pub faces-long : (N : ℕ) (box : ℕ → Extent) (fs : List ℕ) {l : List ℤ} → length fs * faceWidth ≤ N → facesIn N box fs
+    ≡ l → length l ≡ N
+faces-long N box fs h e =
+    filled-long faceWidth (faceCells box) N fs (length fs) (faces-wide box fs) refl e h
 
-rows-in : (N : ℕ) (fs : List ℕ) → rows faceWidth (length fs) (facesIn N fs) ≡ map faceCells fs
-rows-in N fs = rows-flat faceWidth faceCells fs (replicate (N - length (flatMap faceCells fs)) (pos 0)) (faces-wide fs)
+rows-in : (N : ℕ) (box : ℕ → Extent) (fs : List ℕ) → rows faceWidth (length fs) (facesIn N box fs)
+    ≡ map (faceCells box) fs
+rows-in N box fs = rows-flat faceWidth (faceCells box) fs
+    (replicate (N - length (flatMap (faceCells box) fs)) (pos 0)) (faces-wide box fs)
 
-cells-back : (fs : List ℕ) → map faceRowOf (map faceCells fs) ≡ fs
-cells-back [] = refl
-cells-back (f ∷ fs) = ap (λ (r : List ℕ). f ∷ r) (cells-back fs)
+cells-back : (box : ℕ → Extent) (fs : List ℕ) → map faceRowOf (map (faceCells box) fs) ≡ fs
+cells-back box [] = refl
+cells-back box (f ∷ fs) = ap (λ (r : List ℕ). f ∷ r) (cells-back box fs)
 
-cells-ranges : (fs : List ℕ) → allOf faceRanges (map faceCells fs) ≡ true
-cells-ranges [] = refl
-cells-ranges (f ∷ fs) = cells-ranges fs
+cells-ranges : (box : ℕ → Extent) (fs : List ℕ) → allOf faceRanges (map (faceCells box) fs) ≡ true
+cells-ranges box [] = refl
+cells-ranges box (f ∷ fs) = cells-ranges box fs
 
-pub faces-read : (N : ℕ) (fs : List ℕ) {l : List ℤ} → facesIn N fs ≡ l → facesOf l (length fs) ≡ fs
-faces-read N fs e = ap (λ (r : List ℤ). facesOf r (length fs)) (sym e) ∙ ap (map faceRowOf) (rows-in N fs)
-    ∙ cells-back fs
+pub faces-read : (N : ℕ) (box : ℕ → Extent) (fs : List ℕ) {l : List ℤ} → facesIn N box fs ≡ l → facesOf l (length fs)
+    ≡ fs
+faces-read N box fs e = ap (λ (r : List ℤ). facesOf r (length fs)) (sym e) ∙ ap (map faceRowOf) (rows-in N box fs)
+    ∙ cells-back box fs
 
 map-self : (fs : List ℕ) → map (λ (f : ℕ). f) fs ≡ fs
 map-self [] = refl
@@ -100,7 +106,7 @@ still-there f g (x ∷ fs) ne h = go (same x f) (same g x) refl refl (still-ther
 
 -- ---- a table that holds faces
 
-module _ {N : ℕ} {fs : List ℕ} {l : List ℤ} (t : FaceTable N fs l) where
+module _ {N : ℕ} {box : ℕ → Extent} {fs : List ℕ} {l : List ℤ} (t : FaceTable N box fs l) where
   pub table-rising : scanning.Rising 0 (suc lastNumber) fs
   table-rising = scanning.rising 0 (suc lastNumber) fs (t .rising)
 
@@ -108,7 +114,7 @@ module _ {N : ℕ} {fs : List ℕ} {l : List ℤ} (t : FaceTable N fs l) where
   table-distinct = scanning.rising-distinct fs (table-rising .rises)
 
   pub table-long : length l ≡ N
-  table-long = faces-long N fs (t .fits) (t .cells)
+  table-long = faces-long N box fs (t .fits) (t .cells)
 
   pub less-rising : (f : ℕ) → numbered 0 (suc lastNumber) (withoutFace f fs) ≡ true
   less-rising f = scanning.rising-numbered 0 (suc lastNumber) (withoutFace f fs)
@@ -125,7 +131,7 @@ module _ {N : ℕ} {fs : List ℕ} {l : List ℤ} (t : FaceTable N fs l) where
 
 -- ---- a row gone
 
-module _ {l : List ℤ} (n : ℕ) (t : FaceTable (length l) (facesOf l n) l) where
+module _ {box : ℕ → Extent} {l : List ℤ} (n : ℕ) (t : FaceTable (length l) box (facesOf l n) l) where
   abbrev fs : List ℕ
   fs = facesOf l n
 
@@ -134,14 +140,14 @@ module _ {l : List ℤ} (n : ℕ) (t : FaceTable (length l) (facesOf l n) l) whe
       record {
         fits = rw (faces-length l n) at (t .fits);
         ranges = sym (λ i. allOf faceRanges (rows faceWidth (faces-length l n i) (t .cells i)))
-            ∙ ap (allOf faceRanges) (rows-in (length l) fs) ∙ cells-ranges fs;
+            ∙ ap (allOf faceRanges) (rows-in (length l) box fs) ∙ cells-ranges box fs;
         rising = t .rising;
       }
 
   module _ (f : ℕ) where
     -- the row that was found goes
     pub found-gone : (i : ℕ) → place (sameZ (pos f)) 0 (column faceWidth l n) ≡ At i → (i < n)
-        × FaceTable (length l) (withoutFace f (facesOf l n)) (closed faceWidth l n i)
+        × FaceTable (length l) box (withoutFace f (facesOf l n)) (closed faceWidth l n i)
     found-gone i e =
         let r = face-found l n (face-rows .ranges) (pos f) i e in
         let long = faces-length l n in
@@ -151,8 +157,8 @@ module _ {l : List ℤ} (n : ℕ) (t : FaceTable (length l) (facesOf l n) l) whe
         ∙ without-at (λ (g : ℕ). g) fs (subst Distinct (sym (map-self fs)) (table-distinct t)) i 0 below in (
           r .0,
           record {
-            cells = ap (facesIn (length l)) is
-                ∙ sym (removed-at faceWidth faceCells (length l) fs i 0 (faces-wide fs) below (t .fits))
+            cells = ap (facesIn (length l) box) is
+                ∙ sym (removed-at faceWidth (faceCells box) (length l) fs i 0 (faces-wide box fs) below (t .fits))
                 ∙ (λ j. closed faceWidth (t .cells j) (long j) i);
             rising = less-rising t f;
             fits = omega (arith, t .fits, without-length f fs (table-distinct t) (r .2));
@@ -161,45 +167,57 @@ module _ {l : List ℤ} (n : ℕ) (t : FaceTable (length l) (facesOf l n) l) whe
 
     -- no row is found, and none goes
     pub missing-gone : place (sameZ (pos f)) 0 (column faceWidth l n) ≡ Missing
-        → FaceTable (length l) (withoutFace f (facesOf l n)) l
-    missing-gone e = subst (λ (gs : List ℕ). FaceTable (length l) gs l)
+        → FaceTable (length l) box (withoutFace f (facesOf l n)) l
+    missing-gone e = subst (λ (gs : List ℕ). FaceTable (length l) box gs l)
         (sym (keep-all (λ g. not (same g f)) fs (any-none f fs (face-missing l n (face-rows .ranges) f e)))) t
 
 -- ---- the table with its own length and its rows as they are read, from one call to the next
 
-module _ (N : ℕ) (fs : List ℕ) {l : List ℤ} (e : facesIn N fs ≡ l) (fits : length fs * faceWidth ≤ N) {n : ℕ}
-    (len : length fs ≡ n) where
+module _ (N : ℕ) (box : ℕ → Extent) (fs : List ℕ) {l : List ℤ} (e : facesIn N box fs ≡ l)
+    (fits : length fs * faceWidth ≤ N) {n : ℕ} (len : length fs ≡ n) where
   faces-here : facesOf l n ≡ fs
-  faces-here = ap (facesOf l) (sym len) ∙ faces-read N fs e
+  faces-here = ap (facesOf l) (sym len) ∙ faces-read N box fs e
 
-  pub extendable-here : n * faceWidth + faceWidth ≤ N → Extendable l n
-  extendable-here room = let long = faces-long N fs fits e in
-      record { cells = rw (long, faces-here) e; room = rw long room }
+  pub cells-here : facesIn (length l) box (facesOf l n) ≡ l
+  cells-here = rw (faces-long N box fs fits e, faces-here) e
 
-  pub pushed-here : (f : ℕ) {l′ : List ℤ} → facesIn (length l) (facesOf l n ++ f ∷ []) ≡ l′
-      → facesIn N (fs ++ f ∷ []) ≡ l′
-  pushed-here f k = sym (λ i. facesIn (faces-long N fs fits e i) (faces-here i ++ f ∷ [])) ∙ k
+  pub pushed-here : (f : ℕ) {l′ : List ℤ} → facesIn (length l) box (facesOf l n ++ f ∷ []) ≡ l′
+      → facesIn N box (fs ++ f ∷ []) ≡ l′
+  pushed-here f k = sym (λ i. facesIn (faces-long N box fs fits e i) box (faces-here i ++ f ∷ [])) ∙ k
 
-module _ {N : ℕ} {fs : List ℕ} {l : List ℤ} (t : FaceTable N fs l) {n : ℕ} (len : length fs ≡ n) where
-  pub table-here : FaceTable (length l) (facesOf l n) l
-  table-here = rw (table-long t, faces-here N fs (t .cells) (t .fits) len) t
+module _ {N : ℕ} {box : ℕ → Extent} {fs : List ℕ} {l : List ℤ} (t : FaceTable N box fs l) {n : ℕ}
+    (len : length fs ≡ n) where
+  pub table-here : FaceTable (length l) box (facesOf l n) l
+  table-here = rw (table-long t, faces-here N box fs (t .cells) (t .fits) len) t
 
-  pub removed-here : (f : ℕ) {l′ : List ℤ} → FaceTable (length l) (withoutFace f (facesOf l n)) l′
-      → FaceTable N (withoutFace f fs) l′
-  removed-here f k = rw (table-long t, faces-here N fs (t .cells) (t .fits) len) at k
+  pub removed-here : (f : ℕ) {l′ : List ℤ} → FaceTable (length l) box (withoutFace f (facesOf l n)) l′
+      → FaceTable N box (withoutFace f fs) l′
+  removed-here f k = rw (table-long t, faces-here N box fs (t .cells) (t .fits) len) at k
 
 -- ---- a face after the last
 
-pub face-pushed : (l : List ℤ) (n f : ℕ) → Extendable l n
-    → facesIn (length l) (facesOf l n ++ f ∷ []) ≡ set l (n * faceWidth) (pos f)
-face-pushed l n f x =
-    let at = n * faceWidth in
-    let room = x .room in
+-- a face without a rectangle is its number and zeros
+blank : (box : ℕ → Extent) (f : ℕ) → box f ≡ boxOf [] → faceCells box f ≡ set (replicate faceWidth (pos 0)) 0 (pos f)
+blank box f e = ap (λ (b : Extent). pos f ∷ pos (b .left) ∷ pos (b .low) ∷ pos (b .right) ∷ pos (b .high) ∷ []) e
+
+pub face-pushed : (l : List ℤ) (n f : ℕ) (box : ℕ → Extent) → n * faceWidth + faceWidth ≤ length l → box f ≡ boxOf []
+    → facesIn (length l) box (facesOf l n) ≡ l
+    → facesIn (length l) box (facesOf l n ++ f ∷ []) ≡ set l (n * faceWidth) (pos f)
+face-pushed l n f box room none cells =
     let fs = facesOf l n in
-    let long = faces-length l n in
-    let after : at + faceWidth ≡ suc at = omega arith in
-    sym (pushed faceWidth faceCells (length l) fs f (faces-wide fs) refl (rw long room))
-    ∙ (λ i. paste (x .cells i) (long i * faceWidth) (pos f ∷ []) faceWidth)
-    ∙ append-assoc (take at l) (pos f ∷ []) (drop (at + faceWidth) l)
-    ∙ ap (λ (k : ℕ). take at l ++ pos f ∷ drop k l) after
-    ∙ sym (set-split l at (pos f) (omega arith))
+    let at = n * faceWidth in
+    let count = faces-length l n in
+    let used = flatMap (faceCells box) fs in
+    let long : length used ≡ at = flat-length faceWidth (faceCells box) fs (faces-wide box fs)
+    ∙ ap (λ (k : ℕ). k * faceWidth) count in
+    let row = replicate faceWidth (pos 0) in
+    let rest = replicate (length l - at - faceWidth) (pos 0) in
+    let zeros : length l - length used ≡ faceWidth + (length l - at - faceWidth) = omega arith in
+    let is : l ≡ used ++ (row ++ rest) = sym cells
+    ∙ ap (λ (k : ℕ). used ++ replicate k (pos 0)) zeros
+    ∙ ap (λ (r : List ℤ). used ++ r) (sym (replicate-append-replicate faceWidth (length l - at - faceWidth) (pos 0))) in
+    sym (pushed faceWidth (faceCells box) (length l) fs f (faces-wide box fs) refl (rw count room))
+    ∙ (λ i. paste ((cells ∙ is) i) (count i * faceWidth) (blank box f none i) faceWidth)
+    ∙ paste-mid used row rest (set row 0 (pos f)) at faceWidth long refl refl
+    ∙ sym (set-mid used row rest at 0 (pos f) long (omega arith))
+    ∙ (λ i. set (sym is i) (add-zero at i) (pos f))

@@ -1,21 +1,27 @@
--- Tables in form hold a map, and are what a heal asks for: an edge row with two faces. Assumes nothing.
+-- Tables in form hold a map, with the rectangles that its edges give and none for a number not yet given; they are what
+-- a heal asks for: an edge row with two faces. Assumes nothing.
 use mathlib.Core.Path.{_≡_, refl, sym, ap, _∙_}
 use mathlib.Core.Bool.{Bool, true, false, _&&_, true≢false}
 use mathlib.Core.List.{List, [], _∷_, flatMap, List·Memᴰ, List·Memᴰ·head, List·Memᴰ·tail}
-use Prim.Native.Nat.{ℕ, _<_}
+use Prim.Native.Nat.{ℕ, zero, suc, _≤_, _<_}
 use native.Mathlib.Omega.{arith}
 use lib.IntN.{ℤ, pos, natAbs}
 use lib.ListN.{length}
 use Rattle.lists.specs.Tests.{same}
-use Rattle.lists.specs.Scans.{allOf, anyOf}
-use Rattle.lists.proofs.Bools.{same-true}
+use Rattle.lists.specs.Scans.{allOf, anyOf, keep}
+use Rattle.lists.proofs.Bools.{same-true, same-false}
+use Rattle.lists.proofs.Keeps.{keep-none}
+use Rattle.curves.specs.Curves.{points}
 use Rattle.curves.proofs.Runs.{and-left, and-right}
 use Rattle.map.specs.declared.Head.{Head}
-use Rattle.map.specs.Rows.{mapOf, nodeCells, edgeCells, hasNode, hasEdge, hasFace, Map, lentOf, sizesOf, lent}
+use Rattle.bounding_boxes.specs.declared.Extent.{Extent}
+use Rattle.map.specs.Rows.{Edge, Map, mapOf, nodeCells, edgeCells, hasNode, hasEdge, hasFace, lentWith, sizesOf, lent}
+use Rattle.map.specs.Rows.{borders, boxOf, rectangle}
 use Rattle.tables.specs.Tables.{filled}
-use Rattle.map.specs.Form.{inFace, edgeNames, named}
+use Rattle.map.specs.Form.{inFace, edgeNames, named, formed}
 use Rattle.map.proofs.Laws.{formed-is, face-below}
-use Rattle.map_rows.specs.Rows.{nodesOf, edgesOf, facesOf, edgeAt}
+use Rattle.map_laws.proofs.Faces.{formed-faces}
+use Rattle.map_rows.specs.Rows.{nodesOf, edgesOf, facesOf, facesIn, edgeAt}
 use Rattle.tables.proofs.Rows.{all-table}
 use Rattle.map_rows.proofs.Rows.{edges-table, faces-length, nodes-length, edges-length}
 use Rattle.outcomes.specs.Outcomes.{Formed}
@@ -23,7 +29,7 @@ use Rattle.head.proofs.Heads.{head-same}
 use Rattle.outcomes.proofs.Formed.{formed-map, counted}
 use Rattle.outcomes.proofs.Formed.{nodes-size, edges-size, faces-size, faces-fit, node-rows, edge-rows, face-rows}
 use Rattle.outcomes.proofs.Formed.{nodes-filled, edges-filled, faces-filled, lent-is}
-use Rattle.face_rows.specs.Holds.{facesIn, MapTables, Healable, TablesOf}
+use Rattle.face_rows.specs.Holds.{FaceTable, Unboxed, MapTables, Healable, TablesOf}
 
 -- a face that is there is one of them
 any-member : (f : ℕ) (gs : List ℕ) → anyOf (same f) gs ≡ true → List·Memᴰ f gs
@@ -34,21 +40,60 @@ any-member f (g ∷ gs) e = go (same f g) refl (any-member f gs)
     go true k rest = List·Memᴰ·head (same-true f g k)
     go false k rest = List·Memᴰ·tail (rest (rw k at e))
 
+-- ---- a number not yet given has no rectangle
+
+module _ (m : Map) (h : formed m ≡ true) (f : ℕ) (t : m .next .faces ≤ f) where
+  -- no face that there is has it
+  off : (g : ℕ) → List·Memᴰ g (m .faces) → same g f ≡ false
+  off g k = same-false g f (λ e. let b = face-below m h g k in omega arith)
+
+  no-border : (e : Edge) → List·Memᴰ e (m .edges) → borders f e ≡ false
+  no-border e k = let x = formed-faces m h .sides e k in
+      rw (off (e .left) (x .0), off (e .right) (x .1))
+
+  none-there : rectangle (m .edges) f ≡ boxOf []
+  unfolding rectangle flatMap
+  none-there = bare f (keep-none (borders f) (m .edges) no-border)
+    where
+      bare : (g : ℕ) → keep (borders g) (m .edges) ≡ [] → rectangle (m .edges) g ≡ boxOf []
+      bare zero e = refl
+      bare (suc g) e = ap (λ (es : List Edge). boxOf (flatMap (λ x. points (x .curve)) es)) e
+
 -- ---- tables that hold a map
 
-pub held-holds : {nodes edges faces : List ℤ} {h : Head} → MapTables nodes edges faces h
-    → TablesOf nodes edges faces (mapOf (lent nodes edges faces h)) nodes edges faces h
+pub held-holds : {nodes edges faces : List ℤ} {h : Head} → MapTables nodes edges faces h → (box : ℕ → Extent)
+    → FaceTable (length faces) box (facesOf faces (natAbs (h .faces))) faces
+    → TablesOf box nodes edges faces (mapOf (lent nodes edges faces h)) nodes edges faces h
 unfolding mapOf
-held-holds {nodes} {edges} {faces} {h} k =
+held-holds {nodes} {edges} {faces} {h} k box t =
     record {
       node-cells = k .node-cells;
       edge-cells = k .edge-cells;
-      face-cells = k .face-table .cells;
+      face-cells = t .cells;
       head = head-same (k .counted) (mapOf (lent nodes edges faces h)) (nodes-length nodes (natAbs (h .nodes)))
           (edges-length edges (natAbs (h .edges))) (faces-length faces (natAbs (h .faces))) refl refl refl;
     }
 
 module _ {nodes edges faces : List ℤ} {h : Head} (f : Formed nodes edges faces h) where
+  -- the rectangles that the edges give
+  abbrev pub boxes : ℕ → Extent
+  boxes = rectangle (mapOf (lent nodes edges faces h) .edges)
+
+  pub formed-table : FaceTable (length faces) boxes (facesOf faces (natAbs (h .faces))) faces
+  unfolding mapOf
+  formed-table =
+      record {
+        cells = ap (λ (k : ℕ). facesIn k boxes (facesOf faces (natAbs (h .faces)))) (sym (faces-size f .0))
+            ∙ faces-filled f;
+        rising = face-rows f .rising;
+        fits = rw (faces-length faces (natAbs (h .faces))) (omega (arith, faces-fit f));
+      }
+
+  -- faces that there are have numbers that were given, and edges have faces that there are
+  pub formed-unboxed : Unboxed boxes (natAbs (h .«next_face»))
+  unfolding mapOf
+  formed-unboxed g t = none-there (mapOf (lent nodes edges faces h)) (formed-map f) g t
+
   pub formed-held : MapTables nodes edges faces h
   formed-held =
       record {
@@ -58,28 +103,22 @@ module _ {nodes edges faces : List ℤ} {h : Head} (f : Formed nodes edges faces
             (sym (nodes-size f .0)) ∙ nodes-filled f;
         edge-cells = ap (λ (k : ℕ). filled k (flatMap edgeCells (edgesOf edges (natAbs (h .edges)))))
             (sym (edges-size f .0)) ∙ edges-filled f;
-        face-table =
-            record {
-              cells = ap (λ (k : ℕ). facesIn k (facesOf faces (natAbs (h .faces)))) (sym (faces-size f .0))
-                  ∙ faces-filled f;
-              rising = face-rows f .rising;
-              fits = rw (faces-length faces (natAbs (h .faces))) (omega (arith, faces-fit f));
-            };
+        face-table = (boxes, formed-unboxed, formed-table);
         counted = counted f;
       }
 
-  pub holds-before : TablesOf nodes edges faces (mapOf (lent nodes edges faces h)) nodes edges faces h
-  holds-before = held-holds formed-held
+  pub holds-before : TablesOf boxes nodes edges faces (mapOf (lent nodes edges faces h)) nodes edges faces h
+  holds-before = held-holds formed-held boxes formed-table
 
   -- what is lent, in tables as long
   pub holds-lent : {nodes′ edges′ nodes″ edges″ faces″ : List ℤ} {M : Map} {h″ : Head} → length nodes′ ≡ length nodes
-      → length edges′ ≡ length edges → TablesOf nodes′ edges′ faces M nodes″ edges″ faces″ h″
-      → lentOf (sizesOf (lent nodes edges faces h)) M ≡ lent nodes″ edges″ faces″ h″
+      → length edges′ ≡ length edges → TablesOf boxes nodes′ edges′ faces M nodes″ edges″ faces″ h″
+      → lentWith boxes (sizesOf (lent nodes edges faces h)) M ≡ lent nodes″ edges″ faces″ h″
   holds-lent {M = M} p q k =
-      lent-is (sizesOf (lent nodes edges faces h)) M
+      lent-is boxes (sizesOf (lent nodes edges faces h)) M
       (ap (λ (n : ℕ). filled n (flatMap nodeCells (M .nodes))) (nodes-size f .0 ∙ sym p) ∙ k .node-cells)
       (ap (λ (n : ℕ). filled n (flatMap edgeCells (M .edges))) (edges-size f .0 ∙ sym q) ∙ k .edge-cells)
-      (ap (λ (n : ℕ). facesIn n (M .faces)) (faces-size f .0) ∙ k .face-cells)
+      (ap (λ (n : ℕ). facesIn n boxes (M .faces)) (faces-size f .0) ∙ k .face-cells)
       (k .head)
 
   module _ (i : ℕ) (t : i < natAbs (h .edges)) where

@@ -14,6 +14,7 @@ use Rattle.lists.proofs.Lookups.{has-map}
 use Rattle.tables.specs.Tables.{rows, filled, numbered}
 use Rattle.tables.proofs.Writes.{wide-map}
 use Rattle.tables.proofs.Filled.{Wide, rows-flat, filled-long}
+use Rattle.bounding_boxes.specs.declared.Extent.{Extent}
 use Rattle.map.specs.declared.Head.{Head}
 use Rattle.map.specs.declared.Variant.{Variant}
 use Rattle.map.specs.Limits.{edgeWidth, lastNumber}
@@ -165,18 +166,18 @@ module _ (makes : Bool) (row : Edge) (m : Map) {l r : ℕ} (el : l ≡ row .left
       (renamed-sides row f m)
 
   -- the heal of two faces is that of a row with these sides
-  pub healed-as : {nodes edges faces nodes′ edges′ faces′ : List ℤ} {h′ : Head} {k : ℕ} {z : ℤ}
-      → TablesOf nodes edges faces (mergedSides makes (sidesAlone l r) m) nodes′ edges′ faces′ h′ × (k ≡ 0)
-      × (z ≡ pos (faceKept makes (sidesAlone l r) m))
-      → TablesOf nodes edges faces (mergedSides makes row m) nodes′ edges′ faces′ h′ × (z ≡ pos (faceKept makes row m))
-  healed-as {nodes} {edges} {faces} {nodes′} {edges′} {faces′} {h′} t = (
-    subst (λ (x : Map). TablesOf nodes edges faces x nodes′ edges′ faces′ h′) merged-sides (t .0),
-    t .2 ∙ (λ i. pos (faceKept makes (sidesAlone (el i) (er i)) m)),
-  )
+  pub healed-as : {box : ℕ → Extent} {nodes edges faces nodes′ edges′ faces′ : List ℤ} {h′ : Head}
+      → TablesOf box nodes edges faces (mergedSides makes (sidesAlone l r) m) nodes′ edges′ faces′ h′
+      → TablesOf box nodes edges faces (mergedSides makes row m) nodes′ edges′ faces′ h′
+  healed-as {box} {nodes} {edges} {faces} {nodes′} {edges′} {faces′} {h′} t =
+      subst (λ (x : Map). TablesOf box nodes edges faces x nodes′ edges′ faces′ h′) merged-sides t
+
+  pub kept-as : {z : ℤ} → z ≡ pos (faceKept makes (sidesAlone l r) m) → z ≡ pos (faceKept makes row m)
+  kept-as e = e ∙ (λ i. pos (faceKept makes (sidesAlone (el i) (er i)) m))
 
 module _ {nodes edges faces : List ℤ} {h : Head} (held : MapTables nodes edges faces h) (row : Edge) (makes : Bool)
-    {nodes′ edges′ faces′ : List ℤ} {h′ : Head}
-    (after : TablesOf nodes edges faces (mergedSides makes row
+    {box : ℕ → Extent} {nodes′ edges′ faces′ : List ℤ} {h′ : Head}
+    (after : TablesOf box nodes edges faces (mergedSides makes row
     (mapOf (lent nodes edges faces h))) nodes′ edges′ faces′ h′)
   where
     abbrev face : ℕ
@@ -257,6 +258,6 @@ module _ {nodes edges faces : List ℤ} {h : Head} (held : MapTables nodes edges
           nodes = (ap (nodesOf nodes′) healed-node-count ∙ healed-nodes) i;
           edges = (ap (edgesOf edges′) healed-edge-count ∙ healed-edges) i;
           faces = (ap (λ (x : Head). facesOf faces′ (natAbs (x .faces))) back
-              ∙ faces-read (length faces) (m .faces) (after .face-cells)) i;
+              ∙ faces-read (length faces) box (m .faces) (after .face-cells)) i;
           next = counts (natAbs (back i .«next_node»)) (natAbs (back i .«next_edge»)) (natAbs (back i .«next_face»));
         }

@@ -13,16 +13,17 @@ use lib.Signed.{ltZ}
 use borrow.Author.Tests.{ltb-true, ltb-false}
 use Rattle.lists.specs.Tests.{same, bit}
 use Rattle.lists.specs.Scans.{anyOf, keep}
-use Rattle.lists.proofs.Bools.{which, same-true, same-refl, same-false, differ}
+use Rattle.lists.proofs.Bools.{which, same-true, same-refl, same-false}
 use Rattle.tables.specs.Tables.{filled}
+use Rattle.bounding_boxes.specs.declared.Extent.{Extent}
 use Rattle.map.specs.declared.Head.{Head}
 use Rattle.map.specs.Rows.{Edge, mapOf, headOf, nodeCells, edgeCells, counts, lent}
 use Rattle.map.specs.Edits.{renamed, renamedNode, renamedFaces, withSides}
-use Rattle.map_rows.specs.Rows.{nodesOf, edgesOf, facesOf}
+use Rattle.map_rows.specs.Rows.{nodesOf, edgesOf, facesOf, facesIn}
 use Rattle.map_rows.proofs.Rows.{nodes-length, edges-length, faces-length}
 use Rattle.head.specs.Heads.{changedHead}
 use Rattle.head.proofs.Heads.{head-changed}
-use Rattle.face_rows.specs.Holds.{facesIn, FaceTable, withoutFace, Healable, TablesOf, healFaces, faceKept}
+use Rattle.face_rows.specs.Holds.{FaceTable, withoutFace, Healable, TablesOf, healFaces, faceKept}
 use Rattle.face_rows.specs.Holds.{mergedSides}
 use Rattle.face_rows.proofs.FaceRows.{table-distinct, without-length, two-less}
 
@@ -111,12 +112,12 @@ high-there : (l r : ℕ) (fs : List ℕ) → anyOf (same l) fs ≡ true → anyO
     → anyOf (same (natAbs (cond (ltZ (pos l) (pos r)) (pos r) (pos l)))) fs ≡ true
 high-there l r fs hl hr = elim (which (ltb l r)) [ inl e ↦ rw e hr | inr e ↦ rw e hl ]
 
-one-less : (makes : Bool) (l r f : ℕ) {N : ℕ} {fs : List ℕ} {t : List ℤ} → FaceTable N fs t → (l ≡ r → ⊥)
-    → anyOf (same l) fs ≡ true → anyOf (same r) fs ≡ true → length (healFaces makes (pos l) (pos r) f fs) + 1
-    ≡ length fs
-one-less true l r f {N} {fs} t ne hl hr =
+one-less : (makes : Bool) (l r f : ℕ) {N : ℕ} {box : ℕ → Extent} {fs : List ℕ} {t : List ℤ} → FaceTable N box fs t
+    → (l ≡ r → ⊥) → anyOf (same l) fs ≡ true → anyOf (same r) fs ≡ true
+    → length (healFaces makes (pos l) (pos r) f fs) + 1 ≡ length fs
+one-less true l r f {fs = fs} t ne hl hr =
     omega (arith, length-append (withoutFace r (withoutFace l fs)) (f ∷ []), two-less t l r ne hl hr)
-one-less false l r f {N} {fs} t ne hl hr =
+one-less false l r f {fs = fs} t ne hl hr =
     without-length (natAbs (cond (ltZ (pos l) (pos r)) (pos r) (pos l))) fs (table-distinct t) (high-there l r fs hl hr)
 
 module _ {nodes edges faces : List ℤ} {h : Head} {left right : ℤ} (p : Healable nodes edges faces h left right)
@@ -161,21 +162,23 @@ module _ {nodes edges faces : List ℤ} {h : Head} {left right : ℤ} (p : Heala
       let e = length-map es (λ r. withSides (renamed row f (r .left)) (renamed row f (r .right)) r)
       ∙ edges-length edges (natAbs (h .edges)) in
       let k = ap length faces-are in
-      let less = one-less makes (row .left) (row .right) f (p .held .face-table) sides-differ there-left there-right in
+      let less = one-less makes (row .left) (row .right) f (p .held .face-table .2) sides-differ there-left
+      there-right in
       head-changed h (mergedSides makes row (mapOf (lent nodes edges faces h))) (counts 0 0 0) (counts 0 0 1)
       (counts 0 0 (bit makes)) (omega (arith, n)) (omega (arith, e)) (omega (arith, k, less, long)) refl refl refl
 
   -- what the functions below leave, in the map's terms
-  pub healed-holds : (f : ℕ) → f ≡ faceKept makes row (mapOf (lent nodes edges faces h))
+  pub healed-holds : (box : ℕ → Extent) (f : ℕ) → f ≡ faceKept makes row (mapOf (lent nodes edges faces h))
       → (nodes′ edges′ faces′ : List ℤ) (h′ : Head)
       → filled (length nodes) (flatMap nodeCells (renamedFaces row f (mapOf (lent nodes edges faces h)) .nodes))
       ≡ nodes′
       → filled (length edges) (flatMap edgeCells (renamedFaces row f (mapOf (lent nodes edges faces h)) .edges))
       ≡ edges′
-      → facesIn (length faces) (healFaces makes left right f (facesOf faces (natAbs (h .faces)))) ≡ faces′
+      → facesIn (length faces) box (healFaces makes left right f (facesOf faces (natAbs (h .faces)))) ≡ faces′
       → h′ ≡ changedHead h (counts 0 0 0) (counts 0 0 1) (counts 0 0 (bit makes))
-      → TablesOf nodes edges faces (mergedSides makes row (mapOf (lent nodes edges faces h))) nodes′ edges′ faces′ h′
-  healed-holds f ef nodes′ edges′ faces′ h′ en ee efs eh =
+      → TablesOf box nodes edges faces (mergedSides makes row (mapOf (lent nodes edges faces h))) nodes′ edges′ faces′
+      h′
+  healed-holds box f ef nodes′ edges′ faces′ h′ en ee efs eh =
       let m = mapOf (lent nodes edges faces h) in
       record {
         node-cells = ap (λ (k : ℕ). filled (length nodes) (flatMap nodeCells (renamedFaces row k m .nodes))) (sym ef)
@@ -183,8 +186,8 @@ module _ {nodes edges faces : List ℤ} {h : Head} {left right : ℤ} (p : Heala
         edge-cells = ap (λ (k : ℕ). filled (length edges) (flatMap edgeCells (renamedFaces row k m .edges))) (sym ef)
             ∙ ee;
         face-cells =
-            ap (facesIn (length faces)) faces-are
-            ∙ (λ i. facesIn (length faces) (healFaces makes (row-left i) (row-right i) (sym ef i)
+            ap (facesIn (length faces) box) faces-are
+            ∙ (λ i. facesIn (length faces) box (healFaces makes (row-left i) (row-right i) (sym ef i)
             (facesOf faces (natAbs (h .faces)))))
             ∙ efs;
         head = merged-head ∙ sym eh;

@@ -16,13 +16,14 @@ use Rattle.lists.proofs.Counts.{bit-most}
 use Rattle.planar_maps.specs.Map.{Dart, fwd, bwd}
 use Rattle.tables.specs.Tables.{filled}
 use Rattle.plane.specs.Areas.{isPositive}
+use Rattle.bounding_boxes.specs.declared.Extent.{Extent}
 use Rattle.map.specs.declared.Head.{Head}
 use Rattle.map.specs.declared.Variant.{Variant}
 use Rattle.map.specs.Rows.{Edge, Map, mapOf, headOf, nodeCells, edgeCells, edge, setFaces, given, counts, lent}
 use Rattle.map.specs.Darts.{bears, course, ring}
 use Rattle.map.specs.Faces.{ringArea}
 use Rattle.map.specs.Edits.{isNew, Shares, sideOfNode, sideOfDart, withSides, sharedOut, splitFace}
-use Rattle.map_rows.specs.Rows.{nodesOf, edgesOf, facesOf, edgeAt, edgeMap}
+use Rattle.map_rows.specs.Rows.{nodesOf, edgesOf, facesOf, facesIn, edgeAt, edgeMap}
 use Rattle.map_rows.proofs.Rows.{nodes-length, edges-length, faces-length}
 use Rattle.head.specs.Heads.{changedHead}
 use Rattle.head.proofs.Heads.{head-changed}
@@ -31,17 +32,18 @@ use Rattle.darts.specs.Positions.{dartAt}
 use Rattle.darts.proofs.Positions.{dart-even, dart-odd, edge-of}
 use Rattle.face_relabel.specs.declared.Sides.{Sides}
 use Rattle.face_relabel.specs.Sharing.{ShareableFace}
-use Rattle.face_rows.specs.Holds.{facesIn, FaceTable, withoutFace, Splittable, TablesOf, sharesIn, sidesOf}
+use Rattle.face_rows.specs.Holds.{FaceTable, withoutFace, Splittable, TablesOf, sharesIn, sidesOf}
 use Rattle.face_rows.specs.Holds.{splitFaces}
 use Rattle.face_rows.proofs.FaceRows.{table-distinct, without-length}
 use Rattle.face_rows.proofs.Shares.{ring-any}
 
 -- one face more
-one-more : (goes : Bool) (o a n : ℕ) {N : ℕ} {fs : List ℕ} {t : List ℤ} → FaceTable N fs t → length fs ≡ n
+one-more : (goes : Bool) (o a n : ℕ) {N : ℕ} {box : ℕ → Extent} {fs : List ℕ} {t : List ℤ} → FaceTable N box fs t
+    → length fs ≡ n
     → anyOf (same o) fs ≡ true → length (splitFaces goes o a fs) ≡ n + 1
-one-more true o a n {N} {fs} t len h = let k = without-length o fs (table-distinct t) h in
+one-more true o a n {fs = fs} t len h = let k = without-length o fs (table-distinct t) h in
     length-append (withoutFace o fs) (a ∷ (a + 1) ∷ []) ∙ omega arith
-one-more false o a n {N} {fs} t len h = length-append fs (a ∷ []) ∙ omega arith
+one-more false o a n {fs = fs} t len h = length-append fs (a ∷ []) ∙ omega arith
 
 module _ {nodes edges faces : List ℤ} {h : Head} {old : ℤ} (p : Splittable nodes edges faces h old) where
   abbrev last : ℕ
@@ -143,14 +145,14 @@ module _ {nodes edges faces : List ℤ} {h : Head} {old : ℤ} (p : Splittable n
       let e = length-map es (λ e. withSides (sideOfDart drawn s (fwd (e .number)))
       (sideOfDart drawn s (bwd (e .number))) e) ∙ edges-length edges (natAbs (h .edges)) in
       let f = ap length (faces-are goes)
-      ∙ one-more goes (natAbs old) (natAbs (h .«next_face»)) (natAbs (h .faces)) (held .face-table)
+      ∙ one-more goes (natAbs old) (natAbs (h .«next_face»)) (natAbs (h .faces)) (held .face-table .2)
       (faces-length faces (natAbs (h .faces))) (p .there) in
       head-changed h (splitBy (natAbs old) isLeft goes) (counts 0 0 1) (counts 0 0 0) (counts 0 0 (cond goes 2 1))
       (omega (arith, n)) (omega (arith, e)) (omega (arith, f)) refl refl refl
 
   -- what the functions below leave, in the map's terms
-  pub split-holds : (how : Variant) (isLeft goes : Bool) → isPositive (sgn (ringArea drawn (ring drawn (fwd number))))
-      ≡ isLeft
+  pub split-holds : (box : ℕ → Extent) (how : Variant) (isLeft goes : Bool)
+      → isPositive (sgn (ringArea drawn (ring drawn (fwd number)))) ≡ isLeft
       → isNew how && not (same (natAbs old) 0) ≡ goes
       → (s : Sides) → s ≡ sidesOf isLeft goes (last * 2) old (h .«next_face»)
       → (nodes′ edges′ faces′ : List ℤ) (h′ : Head)
@@ -158,23 +160,23 @@ module _ {nodes edges faces : List ℤ} {h : Head} {old : ℤ} (p : Splittable n
       ≡ nodes′
       → filled (length edges) (flatMap edgeCells (sharedOut (sharesIn drawn (dartAt edges (s .ring)) s) drawn .edges))
       ≡ edges′
-      → facesIn (length faces) (splitFaces goes (natAbs old) (natAbs (h .«next_face»))
+      → facesIn (length faces) box (splitFaces goes (natAbs old) (natAbs (h .«next_face»))
       (facesOf faces (natAbs (h .faces)))) ≡ faces′
       → h′ ≡ changedHead h (counts 0 0 1) (counts 0 0 0) (counts 0 0 (cond goes 2 1))
-      → TablesOf nodes edges faces (splitFace how number drawn) nodes′ edges′ faces′ h′
-  split-holds how isLeft goes il ig s es nodes′ edges′ faces′ h′ en ee ef eh =
+      → TablesOf box nodes edges faces (splitFace how number drawn) nodes′ edges′ faces′ h′
+  split-holds box how isLeft goes il ig s es nodes′ edges′ faces′ h′ en ee ef eh =
       let same-map : splitBy (natAbs old) isLeft goes ≡ splitFace how number drawn =
       sym (split-by how ∙ (λ i. splitBy (borne-is i) (il i) (isNew how && not (same (borne-is i) 0)))
       ∙ ap (splitBy (natAbs old) isLeft) ig) in
       let told : sharesBy (natAbs old) isLeft goes ≡ sharesIn drawn (dartAt edges (s .ring)) s = shares-are isLeft goes
       ∙ ap (λ (x : Sides). sharesIn drawn (dartAt edges (x .ring)) x) (sym es) in
-      subst (λ (k : Map). TablesOf nodes edges faces k nodes′ edges′ faces′ h′) same-map
+      subst (λ (k : Map). TablesOf box nodes edges faces k nodes′ edges′ faces′ h′) same-map
       (record {
         node-cells = ap (λ (x : Shares). filled (length nodes) (flatMap nodeCells (sharedOut x drawn .nodes))) told
             ∙ en;
         edge-cells = ap (λ (x : Shares). filled (length edges) (flatMap edgeCells (sharedOut x drawn .edges))) told
             ∙ ee;
-        face-cells = ap (facesIn (length faces)) (faces-are goes) ∙ ef;
+        face-cells = ap (facesIn (length faces) box) (faces-are goes) ∙ ef;
         head = head-is isLeft goes ∙ sym eh;
       })
 

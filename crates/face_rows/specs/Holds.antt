@@ -10,50 +10,59 @@ use Rattle.lists.specs.Tests.{same, bit}
 use Rattle.lists.specs.Scans.{anyOf, allOf, keep}
 use Rattle.planar_maps.specs.Map.{Dart, fwd, rev}
 use Rattle.curves.specs.Curves.{through}
+use Rattle.bounding_boxes.specs.declared.Extent.{Extent}
 use Rattle.tables.specs.Tables.{filled, numbered}
 use Rattle.map.specs.declared.Head.{Head}
 use Rattle.map.specs.Limits.{lastNumber, faceWidth}
-use Rattle.map.specs.Rows.{Edge, Map, nodeCells, edgeCells, faceCells, headOf, hasNode, setFaces, given, counts}
+use Rattle.map.specs.Rows.{Edge, Map, nodeCells, edgeCells, boxOf, headOf, hasNode, setFaces, given, counts}
 use Rattle.map.specs.Darts.{ring}
 use Rattle.map.specs.Edits.{Shares, renamed, renamedFaces}
-use Rattle.map_rows.specs.Rows.{NodeRows, EdgeRows, nodesOf, edgesOf, facesOf, edgeAt, nodeMap}
+use Rattle.map_rows.specs.Rows.{NodeRows, EdgeRows, nodesOf, edgesOf, facesOf, facesIn, edgeAt, nodeMap}
 use Rattle.head.specs.Heads.{Counted}
 use Rattle.face_relabel.specs.declared.Sides.{Sides}
 use Rattle.face_relabel.specs.Sharing.{Ringed}
 
 -- ---- the face table
 
--- the faces in a table of n numbers: from the front, zeros behind
-abbrev pub facesIn : ℕ → List ℕ → List ℤ
-facesIn n fs = filled n (flatMap faceCells fs)
-
--- the table holds the faces, in rising order
-pub record FaceTable (n : ℕ) (fs : List ℕ) (l : List ℤ) : Type 0 where
-  pub cells : facesIn n fs ≡ l
+-- the table holds the faces with these rectangles, in rising order
+pub record FaceTable (n : ℕ) (box : ℕ → Extent) (fs : List ℕ) (l : List ℤ) : Type 0 where
+  pub cells : facesIn n box fs ≡ l
   pub rising : numbered 0 (suc lastNumber) fs ≡ true
   pub fits : length fs * faceWidth ≤ n
+
+-- the same, whatever the rectangles are
+abbrev pub SomeTable : List ℤ → ℕ → Type 0
+SomeTable l count = (box : ℕ → Extent) × FaceTable (length l) box (facesOf l count) l
+
+-- numbers not yet given have no rectangle
+abbrev pub Unboxed : (ℕ → Extent) → ℕ → Type 0
+Unboxed box next = (f : ℕ) → next ≤ f → box f ≡ boxOf []
+
+-- the table with some rectangles, but none for numbers from `next` on
+abbrev pub FreshTable : List ℤ → ℕ → ℕ → Type 0
+FreshTable l count next = (box : ℕ → Extent) × Unboxed box next × FaceTable (length l) box (facesOf l count) l
+
+-- rows with some rectangles, but none for f
+abbrev pub Blank : List ℤ → ℕ → ℕ → Type 0
+Blank l count f = (box : ℕ → Extent) × (box f ≡ boxOf []) × (facesIn (length l) box (facesOf l count) ≡ l)
 
 -- the faces but one
 abbrev pub withoutFace : ℕ → List ℕ → List ℕ
 withoutFace f fs = keep (λ g. not (same g f)) fs
 
--- the rows in use end with zeros behind them, and there is room for a row more
-pub record Extendable (l : List ℤ) (count : ℕ) : Type 0 where
-  pub cells : facesIn (length l) (facesOf l count) ≡ l
-  pub room : count * faceWidth + faceWidth ≤ length l
-
 -- `old` is a face of the table, `a` may be the number of a new one, and there is room for a row more
 pub record RowSplittable (l : List ℤ) (count : ℕ) (old a : ℤ) : Type 0 where
-  pub table : FaceTable (length l) (facesOf l count) l
+  pub table : FreshTable l count (natAbs a)
   pub there : anyOf (same (natAbs old)) (facesOf l count) ≡ true
   pub room : count * faceWidth + faceWidth ≤ length l
   pub old-natural : nonNeg old ≡ true
   pub natural : nonNeg a ≡ true
   pub most : natAbs a ≤ suc lastNumber
 
--- left and right are two faces of the table, and `face` is a number
-pub record RowsHealable (l : List ℤ) (count : ℕ) (left right face : ℤ) : Type 0 where
-  pub table : FaceTable (length l) (facesOf l count) l
+-- left and right are two faces of the table, and `face` is a number, without a rectangle where the face is new
+pub record RowsHealable (l : List ℤ) (count : ℕ) (left right face : ℤ) (makes : Bool) : Type 0 where
+  pub table : (box : ℕ → Extent) × (makes ≡ true → box (natAbs face) ≡ boxOf [])
+      × FaceTable (length l) box (facesOf l count) l
   pub left-there : anyOf (same (natAbs left)) (facesOf l count) ≡ true
   pub right-there : anyOf (same (natAbs right)) (facesOf l count) ≡ true
   pub left-natural : nonNeg left ≡ true
@@ -63,13 +72,13 @@ pub record RowsHealable (l : List ℤ) (count : ℕ) (left right face : ℤ) : T
 
 -- ---- all three tables
 
--- rows in use, zeros behind, as many rows as the head counts
+-- rows in use, zeros behind, as many rows as the head counts, and no rectangle for a face not yet given
 pub record MapTables (nodes edges faces : List ℤ) (h : Head) : Type 0 where
   pub node-rows : NodeRows nodes (natAbs (h .nodes))
   pub edge-rows : EdgeRows edges (natAbs (h .edges))
   pub node-cells : filled (length nodes) (flatMap nodeCells (nodesOf nodes (natAbs (h .nodes)))) ≡ nodes
   pub edge-cells : filled (length edges) (flatMap edgeCells (edgesOf edges (natAbs (h .edges)))) ≡ edges
-  pub face-table : FaceTable (length faces) (facesOf faces (natAbs (h .faces))) faces
+  pub face-table : FreshTable faces (natAbs (h .faces)) (natAbs (h .«next_face»))
   pub counted : Counted h
 
 -- the last edge is drawn inside the face `old`, and there is room for a face more
@@ -94,11 +103,12 @@ pub record Healable (nodes edges faces : List ℤ) (h : Head) (left right : ℤ)
   pub right-below : natAbs right < natAbs (h .«next_face»)
   pub differ : natAbs left ≡ natAbs right → ⊥
 
--- tables as long as those before, and the head, are those of the map
-pub record TablesOf (nodes edges faces : List ℤ) (m : Map) (nodes′ edges′ faces′ : List ℤ) (h′ : Head) : Type 0 where
+-- tables as long as those before, and the head, are those of the map, with these rectangles
+pub record TablesOf (box : ℕ → Extent) (nodes edges faces : List ℤ) (m : Map) (nodes′ edges′ faces′ : List ℤ)
+    (h′ : Head) : Type 0 where
   pub node-cells : filled (length nodes) (flatMap nodeCells (m .nodes)) ≡ nodes′
   pub edge-cells : filled (length edges) (flatMap edgeCells (m .edges)) ≡ edges′
-  pub face-cells : facesIn (length faces) (m .faces) ≡ faces′
+  pub face-cells : facesIn (length faces) box (m .faces) ≡ faces′
   pub head : headOf m ≡ h′
 
 -- the face to share out in the map's terms: d is on the reference side, its reverse on the other

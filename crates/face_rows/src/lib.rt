@@ -8,7 +8,7 @@ use outcomes::Done;
 ghost use mathlib.Core.Path.{_≡_};
 ghost use mathlib.Core.Bool.{true, cond, not, _&&_};
 ghost use mathlib.Core.List.{[], _∷_, _++_, flatMap};
-ghost use Prim.Native.Nat.{suc, _+_, _*_, _-_, _≤_, _<_, min};
+ghost use Prim.Native.Nat.{ℕ, suc, _+_, _*_, _-_, _≤_, _<_, min};
 ghost use lib.IntN.{pos, natAbs};
 ghost use lib.ListN.{length};
 ghost use lib.Signed.{nonNeg};
@@ -16,19 +16,20 @@ ghost use Rattle.integers.specs.Order.{sgn};
 ghost use Rattle.lists.specs.Tests.{same, bit};
 ghost use Rattle.tables.specs.Tables.{filled};
 ghost use Rattle.plane.specs.Areas.{isPositive};
-ghost use Rattle.map.specs.Limits.{maxEdges, lastNumber};
-ghost use Rattle.map.specs.Rows.{Edge, Map, nodeCells, edgeCells, mapOf, counts};
+ghost use Rattle.bounding_boxes.specs.declared.Extent.{Extent};
+ghost use Rattle.map.specs.Limits.{maxEdges, lastNumber, faceWidth};
+ghost use Rattle.map.specs.Rows.{Edge, Map, nodeCells, edgeCells, mapOf, boxOf, counts};
 ghost use Rattle.map.specs.Darts.{ring};
 ghost use Rattle.map.specs.Faces.{ringArea};
 ghost use Rattle.map.specs.Edits.{isNew, sharedOut, splitFace, renamedFaces};
 ghost use Rattle.map.specs.Loans.{lentNow};
-ghost use Rattle.map_rows.specs.Rows.{NodeRows, EdgeRows, nodesOf, edgesOf, facesOf, edgeAt, edgeMap};
+ghost use Rattle.map_rows.specs.Rows.{NodeRows, EdgeRows, nodesOf, edgesOf, facesOf, facesIn, edgeAt, edgeMap};
 ghost use Rattle.head.specs.Heads.{Counted, changedHead};
 ghost use Rattle.darts.specs.Positions.{dartAt};
 ghost use Rattle.face_relabel.specs.Sharing.{ShareableFace, Ringed};
-ghost use Rattle.face_rows.specs.Holds.{facesIn, FaceTable, withoutFace, Extendable, RowSplittable, RowsHealable};
-ghost use Rattle.face_rows.specs.Holds.{Splittable, Healable, TablesOf, sharesIn, sidesOf, splitFaces, healFaces};
-ghost use Rattle.face_rows.specs.Holds.{sidesAlone, faceKept, mergedSides};
+ghost use Rattle.face_rows.specs.Holds.{FaceTable, SomeTable, Unboxed, Blank, withoutFace, RowSplittable};
+ghost use Rattle.face_rows.specs.Holds.{RowsHealable, Splittable, Healable, TablesOf, sharesIn, sidesOf};
+ghost use Rattle.face_rows.specs.Holds.{splitFaces, healFaces, sidesAlone, faceKept, mergedSides};
 
 // ---- leaves
 
@@ -77,9 +78,11 @@ fn without_face(h: Head, makes: bool) -> Head
 
 // The face's row goes, where it has one.
 fn remove_face(faces: &mut [i64], count: usize, face: i64)
-    requires { ⌜ FaceTable (length (now faces)) (facesOf (now faces) count) (now faces) × (nonNeg face ≡ true) ⌝ }
-    ensures { λ r. ⌜ FaceTable (length (now (faces .entry)))
-        (withoutFace (natAbs face) (facesOf (now (faces .entry)) count)) (now (faces .exit)) ⌝ }
+    requires { ⌜ SomeTable (now faces) count × (nonNeg face ≡ true) ⌝ }
+    ensures { λ r. ⌜ ((box : ℕ → Extent)
+        → FaceTable (length (now (faces .entry))) box (facesOf (now (faces .entry)) count) (now (faces .entry))
+        → FaceTable (length (now (faces .entry))) box
+        (withoutFace (natAbs face) (facesOf (now (faces .entry)) count)) (now (faces .exit))) ⌝ }
 {
     let found = tables::find_row(faces, map::FACE_WIDTH, count, face);
     match found {
@@ -88,11 +91,15 @@ fn remove_face(faces: &mut [i64], count: usize, face: i64)
     }
 }
 
-// A face after the last.
+// A face after the last; it has no rectangle yet.
 fn push_face(faces: &mut [i64], count: usize, face: i64)
-    requires { ⌜ Extendable (now faces) count × (nonNeg face ≡ true) ⌝ }
-    ensures { λ r. ⌜ facesIn (length (now (faces .entry))) (facesOf (now (faces .entry)) count ++ natAbs face ∷ [])
-        ≡ now (faces .exit) ⌝ }
+    requires { ⌜ (count * faceWidth + faceWidth ≤ length (now faces)) × (nonNeg face ≡ true)
+        × Blank (now faces) count (natAbs face) ⌝ }
+    ensures { λ r. ⌜ (length (now (faces .exit)) ≡ length (now (faces .entry)))
+        × ((box : ℕ → Extent) → box (natAbs face) ≡ boxOf []
+        → facesIn (length (now (faces .entry))) box (facesOf (now (faces .entry)) count) ≡ now (faces .entry)
+        → facesIn (length (now (faces .entry))) box (facesOf (now (faces .entry)) count ++ natAbs face ∷ [])
+        ≡ now (faces .exit)) ⌝ }
 {
     faces[count * map::FACE_WIDTH] = face;
 }
@@ -100,8 +107,10 @@ fn push_face(faces: &mut [i64], count: usize, face: i64)
 // The faces after a split: `a` and the number after it for the old face, or `a` beside it.
 fn split_row(faces: &mut [i64], count: usize, old: i64, a: i64, goes: bool)
     requires { ⌜ RowSplittable (now faces) count old a ⌝ }
-    ensures { λ r. ⌜ facesIn (length (now (faces .entry)))
-        (splitFaces goes (natAbs old) (natAbs a) (facesOf (now (faces .entry)) count)) ≡ now (faces .exit) ⌝ }
+    ensures { λ r. ⌜ ((box : ℕ → Extent) → Unboxed box (natAbs a)
+        → FaceTable (length (now (faces .entry))) box (facesOf (now (faces .entry)) count) (now (faces .entry))
+        → facesIn (length (now (faces .entry))) box
+        (splitFaces goes (natAbs old) (natAbs a) (facesOf (now (faces .entry)) count)) ≡ now (faces .exit)) ⌝ }
 {
     if goes {
         remove_face(faces, count, old);
@@ -114,9 +123,11 @@ fn split_row(faces: &mut [i64], count: usize, old: i64, a: i64, goes: bool)
 
 // The faces after a heal: `face` for both, or the lower alone.
 fn heal_row(faces: &mut [i64], count: usize, left: i64, right: i64, face: i64, makes: bool)
-    requires { ⌜ RowsHealable (now faces) count left right face ⌝ }
-    ensures { λ r. ⌜ facesIn (length (now (faces .entry)))
-        (healFaces makes left right (natAbs face) (facesOf (now (faces .entry)) count)) ≡ now (faces .exit) ⌝ }
+    requires { ⌜ RowsHealable (now faces) count left right face makes ⌝ }
+    ensures { λ r. ⌜ ((box : ℕ → Extent) → (makes ≡ true → box (natAbs face) ≡ boxOf [])
+        → FaceTable (length (now (faces .entry))) box (facesOf (now (faces .entry)) count) (now (faces .entry))
+        → facesIn (length (now (faces .entry))) box
+        (healFaces makes left right (natAbs face) (facesOf (now (faces .entry)) count)) ≡ now (faces .exit)) ⌝ }
 {
     if makes {
         remove_face(faces, count, left);
@@ -177,10 +188,13 @@ pub fn split_face(
     old: i64,
 ) -> Head
     requires { ⌜ Splittable (now nodes) (now edges) (now faces) h old ⌝ }
-    ensures { λ r. ⌜ TablesOf (now (nodes .entry)) (now (edges .entry)) (now (faces .entry))
+    ensures { λ r. ⌜ ((box : ℕ → Extent) → Unboxed box (natAbs (h .«next_face»))
+        → FaceTable (length (now (faces .entry))) box (facesOf (now (faces .entry)) (natAbs (h .faces)))
+        (now (faces .entry))
+        → TablesOf box (now (nodes .entry)) (now (edges .entry)) (now (faces .entry))
         (splitFace how (edgeAt (now (edges .entry)) (natAbs (h .edges) - 1) .number)
         (mapOf (lentNow (nodes .entry) (edges .entry) (faces .entry) h))) (now (nodes .exit))
-        (now (edges .exit)) (now (faces .exit)) r ⌝ }
+        (now (edges .exit)) (now (faces .exit)) r) ⌝ }
 {
     let n = head::counts_of(h);
     let a = h.next_face;
@@ -236,10 +250,13 @@ pub fn heal_faces(
     makes: bool,
 ) -> Done
     requires { ⌜ Healable (now nodes) (now edges) (now faces) h left right ⌝ }
-    ensures { λ r. ⌜ TablesOf (now (nodes .entry)) (now (edges .entry)) (now (faces .entry))
+    ensures { λ r. ⌜ ((box : ℕ → Extent) → Unboxed box (natAbs (h .«next_face»))
+        → FaceTable (length (now (faces .entry))) box (facesOf (now (faces .entry)) (natAbs (h .faces)))
+        (now (faces .entry))
+        → TablesOf box (now (nodes .entry)) (now (edges .entry)) (now (faces .entry))
         (mergedSides makes (sidesAlone (natAbs left) (natAbs right))
         (mapOf (lentNow (nodes .entry) (edges .entry) (faces .entry) h)))
-        (now (nodes .exit)) (now (edges .exit)) (now (faces .exit)) (r .head)
+        (now (nodes .exit)) (now (edges .exit)) (now (faces .exit)) (r .head))
         × (r .answer .refusal ≡ 0)
         × (r .answer .value ≡ pos (faceKept makes (sidesAlone (natAbs left) (natAbs right))
         (mapOf (lentNow (nodes .entry) (edges .entry) (faces .entry) h)))) ⌝ }

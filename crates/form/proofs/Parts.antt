@@ -1,20 +1,21 @@
 -- Condition 2 by its parts: each is read from the rows that it needs, and the first that does not hold decides. Assumes
 -- nothing.
 use mathlib.Core.Path.{_≡_, refl, sym, ap, ap₂, _∙_}
-use mathlib.Core.Bool.{Bool, true, false, _&&_, and-assoc}
+use mathlib.Core.Bool.{Bool, true, false, _&&_}
 use mathlib.Core.List.{List}
 use Prim.Native.Nat.{_/_, _≤_}
 use lib.IntN.{ℤ}
 use lib.ListN.{length}
 use lib.Signed.{nonNeg}
 use Rattle.lists.specs.Scans.{allOf}
+use Rattle.tables.specs.Tables.{rows}
 use Rattle.tables.proofs.Filled.{whole-rows}
 use Rattle.curves.proofs.Runs.{and-left, and-right}
 use Rattle.map.specs.declared.Head.{Head}
-use Rattle.map.specs.Rows.{whole, edge, lent}
+use Rattle.map.specs.Rows.{mapOf, whole, edge, lent, rectangle}
 use Rattle.map.specs.Darts.{leaves, next, bears, course, way, departures}
 use Rattle.map.specs.Form.{countsFit, nextsFit, curveFits, numbers, named, departuresDiffer, bareMarked, linksOnce}
-use Rattle.map.specs.Form.{linksMeet, ringsBearOne, formed, inForm}
+use Rattle.map.specs.Form.{linksMeet, ringsBearOne, formed, hasBox, boxed, inForm}
 use Rattle.map.specs.Limits.{maxNodes, maxEdges, maxFaces, nodeWidth, edgeWidth, faceWidth}
 use Rattle.map.proofs.RoundTrip.{whole-tables}
 use Rattle.map.specs.declared.Counts.{Counts}
@@ -88,35 +89,59 @@ module _ (nodes edges faces : List ℤ) (c : Counts) (h : Head) where
       (linksMeet m) (ringsBearOne m)
       (ap₂ _&&_ differ-drawn bare-drawn) (ap₂ _&&_ (ap₂ _&&_ once-linked meet-linked) bear-linked))
 
+  -- and the sixth: the rectangles
+  abbrev pub fitted : Bool
+  fitted = allOf (hasBox (rectangle (edgesOf edges (c .edges)))) (rows faceWidth (c .faces) faces)
+
+  abbrev pub judged : Bool
+  judged = formed (mapIn nodes edges faces c h) && fitted
+
+  judged-is : judged ≡ five (numbers (mapIn nodes edges faces c h)) (named (mapIn nodes edges faces c h)) curved
+      departed linked && fitted
+  judged-is = ap (λ (b : Bool). b && fitted) formed-is
+
   -- the first that does not hold decides
   module _ (n : numbers (mapIn nodes edges faces c h) ≡ true) where
-    pub stop₂ : named (mapIn nodes edges faces c h) ≡ false → formed (mapIn nodes edges faces c h) ≡ false
-    stop₂ e = formed-is ∙ rw (n, e)
+    pub stop₂ : named (mapIn nodes edges faces c h) ≡ false → judged ≡ false
+    stop₂ e = judged-is ∙ rw (n, e)
 
     module _ (m : named (mapIn nodes edges faces c h) ≡ true) where
-      pub stop₃ : curved ≡ false → formed (mapIn nodes edges faces c h) ≡ false
-      stop₃ e = formed-is ∙ rw (n, m, e)
+      pub stop₃ : curved ≡ false → judged ≡ false
+      stop₃ e = judged-is ∙ rw (n, m, e)
 
       module _ (k : curved ≡ true) where
-        pub stop₄ : departed ≡ false → formed (mapIn nodes edges faces c h) ≡ false
-        stop₄ e = formed-is ∙ rw (n, m, k, e)
+        pub stop₄ : departed ≡ false → judged ≡ false
+        stop₄ e = judged-is ∙ rw (n, m, k, e)
 
-        pub last₅ : departed ≡ true → formed (mapIn nodes edges faces c h) ≡ linked
-        last₅ e = formed-is ∙ rw (n, m, k, e)
+        module _ (d : departed ≡ true) where
+          pub stop₅ : linked ≡ false → judged ≡ false
+          stop₅ e = judged-is ∙ rw (n, m, k, d, e)
 
-  pub stop₁ : numbers (mapIn nodes edges faces c h) ≡ false → formed (mapIn nodes edges faces c h) ≡ false
-  stop₁ e = formed-is ∙ rw e
+          pub last₆ : linked ≡ true → judged ≡ fitted
+          last₆ e = judged-is ∙ rw (n, m, k, d, e)
+
+  pub stop₁ : numbers (mapIn nodes edges faces c h) ≡ false → judged ≡ false
+  stop₁ e = judged-is ∙ rw e
 
 -- ---- in form
 
 module _ (nodes edges faces : List ℤ) (h : Head) where
+  boxed-is : boxed (lent nodes edges faces h) ≡ fitted nodes edges faces (countsOf h) h
+  unfolding boxed mapOf
+  boxed-is = refl
+
   in-form-is : inForm (lent nodes edges faces h) ≡ (countsFit (lent nodes edges faces h) && nextsFit h)
-      && (rangedRows nodes edges faces (countsOf h) && formed (mapIn nodes edges faces (countsOf h) h))
+      && (rangedRows nodes edges faces (countsOf h) && judged nodes edges faces (countsOf h) h)
   unfolding inForm
   in-form-is =
-      ap₂ _&&_ (ranged-is nodes edges faces h) (ap formed (map-is nodes edges faces h))
-      ∙ and-assoc (countsFit (lent nodes edges faces h) && nextsFit h) (rangedRows nodes edges faces (countsOf h))
-      (formed (mapIn nodes edges faces (countsOf h) h))
+      ap₂ _&&_ (ap₂ _&&_ (ranged-is nodes edges faces h) (ap formed (map-is nodes edges faces h))) boxed-is
+      ∙ regroup₄ (countsFit (lent nodes edges faces h) && nextsFit h) (rangedRows nodes edges faces (countsOf h))
+      (formed (mapIn nodes edges faces (countsOf h) h)) (fitted nodes edges faces (countsOf h) h)
+    where
+      regroup₄ : (x y z w : Bool) → x && y && z && w ≡ x && (y && (z && w))
+      regroup₄ true true z w = refl
+      regroup₄ true false z w = refl
+      regroup₄ false y z w = refl
 
   pub unfit-head : countsFit (lent nodes edges faces h) && nextsFit h ≡ false → inForm (lent nodes edges faces h)
       ≡ false
@@ -127,7 +152,7 @@ module _ (nodes edges faces : List ℤ) (h : Head) where
     unranged f = in-form-is ∙ rw (e, f)
 
     pub by-formed : rangedRows nodes edges faces (countsOf h) ≡ true → inForm (lent nodes edges faces h)
-        ≡ formed (mapIn nodes edges faces (countsOf h) h)
+        ≡ judged nodes edges faces (countsOf h) h
     by-formed f = in-form-is ∙ rw (e, f)
 
   -- room of whole tables
@@ -152,9 +177,10 @@ in-form-known nodes edges faces h e =
     let p = countsFit (lent nodes edges faces h) in
     let q = rangedRows nodes edges faces (countsOf h) in
     let f = sym (in-form-is nodes edges faces h) ∙ e in
-    let head = and-left (p && nextsFit h) (q && formed m) f in
-    let rows = and-right (p && nextsFit h) (q && formed m) f in
-    let g = and-right q (formed m) rows in
+    let w = judged nodes edges faces (countsOf h) h in
+    let head = and-left (p && nextsFit h) (q && w) f in
+    let rows = and-right (p && nextsFit h) (q && w) f in
+    let g = and-left (formed m) (fitted nodes edges faces (countsOf h) h) (and-right q w rows) in
     let k = curved nodes edges faces (countsOf h) h
     && (departed nodes edges faces (countsOf h) h && linked nodes edges faces (countsOf h) h) in
     let five = sym (formed-is nodes edges faces (countsOf h) h) ∙ g in
@@ -163,7 +189,7 @@ in-form-known nodes edges faces h e =
         in-order = record {
           in-ranges = record {
             counted = counted nodes edges faces h (and-left p (nextsFit h) head) (and-right p (nextsFit h) head);
-            ranged = and-left q (formed m) rows;
+            ranged = and-left q w rows;
           };
           numbers = and-left (numbers m) (named m && k) five;
         };
@@ -177,6 +203,6 @@ pub in-form-natural : (nodes edges faces : List ℤ) (h : Head) → inForm (lent
     → (nonNeg (h .nodes) ≡ true) × (nonNeg (h .edges) ≡ true) × (nonNeg (h .faces) ≡ true)
 in-form-natural nodes edges faces h e =
     let p = countsFit (lent nodes edges faces h) in
-    let rest = rangedRows nodes edges faces (countsOf h) && formed (mapIn nodes edges faces (countsOf h) h) in
+    let rest = rangedRows nodes edges faces (countsOf h) && judged nodes edges faces (countsOf h) h in
     counts-natural nodes edges faces h (and-left p (nextsFit h)
     (and-left (p && nextsFit h) rest (sym (in-form-is nodes edges faces h) ∙ e)))

@@ -29,9 +29,9 @@ module _ (l : List ℤ) (n : ℕ) where
   edge-naturals r = all-of-table nonNeg (λ i. getD l (i * 32) (pos 0)) 0 n
       (λ i s t. ap nonNeg (edge-cells l i (rows-all 32 l edgeRanges n r i (omega arith)) .number))
 
-  pub face-naturals : allOf faceRanges (rows 1 n l) ≡ true → allOf nonNeg (column 1 l n) ≡ true
-  face-naturals r = all-of-table nonNeg (λ i. getD l (i * 1) (pos 0)) 0 n
-      (λ i s t. ap nonNeg (face-cell l i (rows-all 1 l faceRanges n r i (omega arith))))
+  pub face-naturals : allOf faceRanges (rows 5 n l) ≡ true → allOf nonNeg (column 5 l n) ≡ true
+  face-naturals r = all-of-table nonNeg (λ i. getD l (i * 5) (pos 0)) 0 n
+      (λ i s t. ap nonNeg (face-cell l i (rows-all 5 l faceRanges n r i (omega arith))))
 
   -- they are the rows' numbers
   pub node-column : table (λ i. natAbs (getD l (i * 4) (pos 0))) 0 n ≡ map (λ r. r .number) (nodesOf l n)
@@ -44,15 +44,15 @@ module _ (l : List ℤ) (n : ℕ) where
   edge-column = sym (edge-numbers l n ∙ table-same (λ i. edgeAt l i .number)
       (λ i. natAbs (getD l (i * 32) (pos 0))) 0 n (λ i s t. ap natAbs (row-first 32 l i (lit< tt))))
 
-  pub face-column : table (λ i. natAbs (getD l (i * 1) (pos 0))) 0 n ≡ facesOf l n
-  face-column = sym (faces-table l n ∙ table-same (faceAt l) (λ i. natAbs (getD l (i * 1) (pos 0))) 0 n
-      (λ i s t. ap natAbs (row-first 1 l i (lit< tt))))
+  pub face-column : table (λ i. natAbs (getD l (i * 5) (pos 0))) 0 n ≡ facesOf l n
+  face-column = sym (faces-table l n ∙ table-same (faceAt l) (λ i. natAbs (getD l (i * 5) (pos 0))) 0 n
+      (λ i s t. ap natAbs (row-first 5 l i (lit< tt))))
 
 -- the first face
 pub first-face : (l : List ℤ) (n : ℕ) → 1 ≤ n → firstOr 1 (facesOf l n) ≡ natAbs (getD l 0 (pos 0))
 first-face l zero h = absurd (omega arith)
-first-face l (suc n) h = ap natAbs (getD-take 1 l 0 (pos 0) (lit< tt))
+first-face l (suc n) h = ap natAbs (getD-take 5 l 0 (pos 0) (lit< tt))
 
--- a face row is its number
-pub face-tested : (l : List ℤ) (i : ℕ) → faceRanges (rowAt 1 l i) ≡ nonNeg (getD l (i * 1) (pos 0))
-face-tested l i = ap nonNeg (row-first 1 l i (lit< tt))
+-- a face row is in range by its number
+pub face-tested : (l : List ℤ) (i : ℕ) → faceRanges (rowAt 5 l i) ≡ nonNeg (getD l (i * 5) (pos 0))
+face-tested l i = ap nonNeg (row-first 5 l i (lit< tt))

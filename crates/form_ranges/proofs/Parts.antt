@@ -77,7 +77,7 @@ counted nodes edges faces h e f =
           (within-pos 0 (length nodes / nodeWidth) (h .nodes) (and-left p q g) .2);
       edges-fit = div-room (natAbs (h .edges)) (length edges) 31
           (within-pos 0 (length edges / edgeWidth) (h .edges) (and-right p q g) .2);
-      faces-fit = div-room (natAbs (h .faces)) (length faces) 0
+      faces-fit = div-room (natAbs (h .faces)) (length faces) 4
           (within-pos 1 (length faces / faceWidth) (h .faces) k .2);
       a-face = within-least 1 (length faces / faceWidth) (h .faces) k;
       nexts = f;

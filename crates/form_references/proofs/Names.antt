@@ -68,11 +68,11 @@ module _ {l : List ℤ} {n : ℕ} where
         | inr e ↦ column-missing 4 l n (pos m) e ∙ sym (ap isSome (node-missing l n (r .ranges) m e))
       ]
 
-  pub face-named : FaceRows l n → (m : ℕ) → anyOf (sameZ (pos m)) (column 1 l n) ≡ hasFace (faceMap l n) m
+  pub face-named : FaceRows l n → (m : ℕ) → anyOf (sameZ (pos m)) (column 5 l n) ≡ hasFace (faceMap l n) m
   face-named r m =
-      elim (which-place (place (sameZ (pos m)) 0 (column 1 l n))) [
-        | inl (i, e) ↦ column-at 1 l n (pos m) i e ∙ sym (face-found l n (r .ranges) (pos m) i e .2)
-        | inr e ↦ column-missing 1 l n (pos m) e ∙ sym (face-missing l n (r .ranges) m e)
+      elim (which-place (place (sameZ (pos m)) 0 (column 5 l n))) [
+        | inl (i, e) ↦ column-at 5 l n (pos m) i e ∙ sym (face-found l n (r .ranges) (pos m) i e .2)
+        | inr e ↦ column-missing 5 l n (pos m) e ∙ sym (face-missing l n (r .ranges) m e)
       ]
 
   pub edges-in-order-rise : EdgesInOrder l n → Rising 32 l n

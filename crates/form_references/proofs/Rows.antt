@@ -88,7 +88,7 @@ module _ (nodes edges faces : List ℤ) (c : Counts) where
   facesPass = allOf (λ n. inFace (faceMap faces (c .faces)) (n .face)) (nodesOf nodes (c .nodes))
 
   abbrev pub sidesPass : Bool
-  sidesPass = allSides (hasRow 1 faces (c .faces)) edges 5 (c .edges)
+  sidesPass = allSides (hasRow 5 faces (c .faces)) edges 5 (c .edges)
 
   abbrev pub endsPass : Bool
   endsPass = allSides (hasRow 4 nodes (c .nodes)) edges 1 (c .edges)
@@ -112,8 +112,8 @@ module _ {nodes edges faces : List ℤ} {c : Counts} {h₀ : Head} (r : InOrder 
       cells : (i : ℕ) → i < c .edges → EdgeCells edges i
       cells i l = edge-cells edges i (rows-all 32 edges edgeRanges (c .edges) (edges-in-order r .ranges) i l)
 
-      face : {z : ℤ} {n : ℕ} → z ≡ pos n → hasRow 1 faces (c .faces) z ≡ hasFace m n
-      face {n = n} e = ap (hasRow 1 faces (c .faces)) e ∙ face-named (face-rows r) n
+      face : {z : ℤ} {n : ℕ} → z ≡ pos n → hasRow 5 faces (c .faces) z ≡ hasFace m n
+      face {n = n} e = ap (hasRow 5 faces (c .faces)) e ∙ face-named (face-rows r) n
 
       node : {z : ℤ} {n : ℕ} → z ≡ pos n → hasRow 4 nodes (c .nodes) z ≡ hasNode m n
       node {n = n} e = ap (hasRow 4 nodes (c .nodes)) e ∙ node-named (node-rows r) n
@@ -122,7 +122,7 @@ module _ {nodes edges faces : List ℤ} {c : Counts} {h₀ : Head} (r : InOrder 
       link z e = ap (hasEdge m) (dart-edge z ∙ e)
 
       sides : sidesPass nodes edges faces c ≡ allOf (sidesNamed m) (edgesOf edges (c .edges))
-      sides = pair-named (hasRow 1 faces (c .faces)) edges (c .edges) 5 (λ e. hasFace m (e .left))
+      sides = pair-named (hasRow 5 faces (c .faces)) edges (c .edges) 5 (λ e. hasFace m (e .left))
           (λ e. hasFace m (e .right)) (λ i l. face (cells i l .left)) (λ i l. face (cells i l .right))
 
       ends : endsPass nodes edges faces c ≡ allOf (endsNamed m) (edgesOf edges (c .edges))

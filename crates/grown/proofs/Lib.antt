@@ -29,5 +29,6 @@ pub mod RedrawnSides
 -- a split that is healed at once
 pub mod Rejoined
 pub mod HealsBack
+pub mod Rectangles
 pub mod SplitHeal
 pub mod SplitHealCases

@@ -13,7 +13,7 @@ use lib.IntN.{ℤ, pos, natAbs}
 use lib.ListN.{length, replicate}
 use Rattle.lists.specs.Tests.{same}
 use Rattle.lists.specs.Scans.{keep}
-use Rattle.lists.proofs.Bools.{and-true, cond-has}
+use Rattle.lists.proofs.Bools.{cond-has}
 use Rattle.lists.proofs.Keeps.{keep-in}
 use Rattle.lists.proofs.Maps.{map-twice}
 use Rattle.lists.proofs.Members.{all-of, each-last}
@@ -27,9 +27,9 @@ use Rattle.map.specs.declared.Variant.{Variant}
 use Rattle.map.specs.declared.Variant.the-variants.{New, Mod}
 use Rattle.map.specs.Limits.{nodeWidth, edgeWidth, faceWidth}
 use Rattle.map.specs.Rows.{Edge, Map, Lent, Sizes, emptyMap, edge, nodeOf, edgeOf, faceRowOf, mapOf, nodeCells}
-use Rattle.map.specs.Rows.{edgeCells, faceCells, lentOf, sizesOf, whole}
+use Rattle.map.specs.Rows.{edgeCells, faceCells, rectangle, lentWith, lentOf, sizesOf, whole}
 use Rattle.map.specs.Darts.{arcs}
-use Rattle.map.specs.Form.{ranged, formed, inForm}
+use Rattle.map.specs.Form.{formed, inForm}
 use Rattle.map.specs.Tickets.{Ticket, AddIsoNode, MoveIsoNode, RemoveIsoNode, AddIsoEdge, RemoveIsoEdge, ChangeEdgeGeom}
 use Rattle.map.specs.Tickets.{NewEdgesSplit, ModEdgeSplit, NewEdgeHeal, ModEdgeHeal, AddEdgeNewFaces, AddEdgeModFace}
 use Rattle.map.specs.Tickets.{RemEdgeNewFace, RemEdgeModFace, read}
@@ -38,7 +38,7 @@ use Rattle.map.specs.Ticket.{carried, lentReasons, unless, judged, ticket}
 use Rattle.map.specs.Grow.{after, grow}
 use Rattle.map.proofs.RoundTrip.{nodes-wide, node-back, edge-wide, faces-wide}
 use Rattle.map.proofs.Reasons.{first-zero}
-use Rattle.map.proofs.Laws.{in-form-points, edge-there}
+use Rattle.map.proofs.Laws.{in-form-is, in-form-points, edge-there}
 use Rattle.map.proofs.Linked.{within-nodes}
 use Rattle.map.proofs.Facts.{after-append}
 use Rattle.map_laws.proofs.Reasons.{Split}
@@ -142,13 +142,13 @@ module _ (s : Sizes) (m : Map) (within : Within (map nodeNumber (m .nodes)) (arc
 
 module _ (s : Sizes) (m : Map) (few : Few (lines m)) where
   nodes-back : nodeNumbers (mapOf (lentOf s m)) ≡ nodeNumbers m
-  unfolding mapOf lentOf
+  unfolding mapOf lentWith
   nodes-back = ap (map nodeNumber) (reads nodeWidth nodeCells nodeOf (m .nodes)
       (replicate (s .nodes * nodeWidth - length (flatMap nodeCells (m .nodes))) (pos 0)) (nodes-wide (m .nodes))
       (λ n k. node-back n))
 
   edges-back : edgeNumbers (mapOf (lentOf s m)) ≡ edgeNumbers m
-  unfolding mapOf lentOf edgeOf edgeCells
+  unfolding mapOf lentWith edgeOf edgeCells
   edges-back =
       ap (λ (rs : List (List ℤ)). map (λ (e : Edge). e .number) (map edgeOf rs))
       (rows-flat edgeWidth edgeCells (m .edges)
@@ -159,13 +159,15 @@ module _ (s : Sizes) (m : Map) (few : Few (lines m)) where
       ∙ map-twice (λ (e : Edge). e .number) (λ e. edgeOf (edgeCells e)) (λ e. e .number) (m .edges) (λ e k. refl)
 
   faces-back : mapOf (lentOf s m) .faces ≡ m .faces
-  unfolding mapOf lentOf
-  faces-back = reads faceWidth faceCells faceRowOf (m .faces)
-      (replicate (s .faces * faceWidth - length (flatMap faceCells (m .faces))) (pos 0)) (faces-wide (m .faces))
-      (λ f k. refl)
+  unfolding mapOf lentWith
+  faces-back =
+      let box = rectangle (m .edges) in
+      reads faceWidth (faceCells box) faceRowOf (m .faces)
+      (replicate (s .faces * faceWidth - length (flatMap (faceCells box) (m .faces))) (pos 0))
+      (faces-wide box (m .faces)) (λ f k. refl)
 
   next-back : mapOf (lentOf s m) .next ≡ m .next
-  unfolding mapOf lentOf
+  unfolding mapOf lentWith
   next-back = refl
 
   given-back : (m₀ : Map) → NumbersGiven m₀ m → NumbersGiven m₀ (mapOf (lentOf s m))
@@ -182,8 +184,7 @@ module _ (s : Sizes) (m : Map) (few : Few (lines m)) where
 
 module _ (l : Lent) (form : inForm l ≡ true) where
   is-formed : formed (mapOf l) ≡ true
-  unfolding inForm
-  is-formed = and-true (ranged l) (formed (mapOf l)) form .1
+  is-formed = in-form-is l form .formed
 
   in-form-few : Few (lines (mapOf l))
   in-form-few x k =

@@ -16,14 +16,17 @@ use Rattle.lists.proofs.Bools.{and-is}
 use Rattle.lists.proofs.Members.{all-of}
 use Rattle.tables.specs.Tables.{filled, within}
 use Rattle.tables.proofs.Filled.{Wide, each-row, flat-rest, table-length, whole-table}
+use Rattle.tables.proofs.Order.{same-self}
 use Rattle.tables.proofs.Tests.{in-bounds, within-least, within-most}
 use Rattle.plane.specs.Points.{InRange}
 use Rattle.curves.specs.Curves.{points, maxPoints}
 use Rattle.curves.proofs.Runs.{coordinate-of}
+use Rattle.bounding_boxes.specs.declared.Extent.{Extent}
 use Rattle.map.specs.Limits.{maxNodes, maxEdges, maxFaces, lastNumber, nodeWidth, edgeWidth, faceWidth}
-use Rattle.map.specs.Rows.{Node, Edge, Map, Sizes, nodeCells, edgeCells, faceCells, faceCell, lentOf, mapOf, sizesOf}
-use Rattle.map.specs.Rows.{whole, nodeRows, edgeRows, faceRows}
-use Rattle.map.specs.Form.{nodeRanges, edgeRanges, faceRanges, ranged, formed, inForm, countsFit, nextsFit}
+use Rattle.map.specs.Rows.{Node, Edge, Map, Sizes, nodeCells, edgeCells, faceCells, faceCell, rectangle, lentWith}
+use Rattle.map.specs.Rows.{lentOf, mapOf, sizesOf, whole, nodeRows, edgeRows, faceRows}
+use Rattle.map.specs.Form.{nodeRanges, edgeRanges, faceRanges, ranged, formed, hasBox, boxed, inForm, countsFit}
+use Rattle.map.specs.Form.{nextsFit}
 use Rattle.map.proofs.RoundTrip.{nodes-wide, edge-wide, faces-wide, Stored, points-ranged}
 use Rattle.map.proofs.Laws.{formed-back}
 use Rattle.map_laws.proofs.Faces.{zero-in}
@@ -43,7 +46,7 @@ unfolding nodeCells
 node-ranges n h = and-is (and-is (coordinate-of (n .at .x) (h .x)) (coordinate-of (n .at .y) (h .y)))
     (face-low (n .face))
 
-edge-ranges : (e : Edge) → Stored (e .curve) → edgeRanges (edgeCells e) ≡ true
+pub edge-ranges : (e : Edge) → Stored (e .curve) → edgeRanges (edgeCells e) ≡ true
 unfolding edgeCells
 edge-ranges e h =
     let n = length (points (e .curve)) in
@@ -90,11 +93,14 @@ edges-wide : (m : Map) → ((e : Edge) → List·Memᴰ e (m .edges) → length 
 edges-wide m few = all-of (m .edges) (λ e k. edge-wide e (few e k))
 
 module _ (s : Sizes) (m : Map) (t : Tabled s m) where
+  abbrev box : ℕ → Extent
+  box = rectangle (m .edges)
+
   wide : Wide edgeWidth edgeCells (m .edges)
   wide = edges-wide m (λ e k. t .edges e k .most)
 
   counts : countsFit (lentOf s m) ≡ true
-  unfolding lentOf
+  unfolding lentWith
   counts =
       let f = t .fits in
       and-is
@@ -102,31 +108,31 @@ module _ (s : Sizes) (m : Map) (t : Tabled s m) where
       (count-fits nodeWidth nodeCells (s .nodes) (m .nodes) (nodes-wide (m .nodes)) (omega arith) 0 (omega arith)
       (f .nodes))
       (count-fits edgeWidth edgeCells (s .edges) (m .edges) wide (omega arith) 0 (omega arith) (f .edges)))
-      (count-fits faceWidth faceCells (s .faces) (m .faces) (faces-wide (m .faces)) (omega arith) 1 (t .some-face)
-      (f .faces))
+      (count-fits faceWidth (faceCells box) (s .faces) (m .faces) (faces-wide box (m .faces)) (omega arith) 1
+      (t .some-face) (f .faces))
 
   nexts : nextsFit (lentOf s m .head) ≡ true
-  unfolding lentOf
+  unfolding lentWith
   nexts = and-is (fits (t .next-node)) (and-is (fits (t .next-edge)) (and-is (fits (t .next-face)) refl))
     where
       fits : {n : ℕ} → NextInRange n → within 1 (suc lastNumber) (pos n) ≡ true
       fits {n} r = in-bounds 1 (suc lastNumber) n (r .least) (r .most)
 
   node-row-ranges : allOf nodeRanges (nodeRows (lentOf s m)) ≡ true
-  unfolding lentOf
+  unfolding lentWith
   node-row-ranges = each-row nodeWidth nodeCells nodeRanges (m .nodes) _ (nodes-wide (m .nodes))
       (λ n k. node-ranges n (t .nodes n k))
 
   edge-row-ranges : allOf edgeRanges (edgeRows (lentOf s m)) ≡ true
-  unfolding lentOf
+  unfolding lentWith
   edge-row-ranges = each-row edgeWidth edgeCells edgeRanges (m .edges) _ wide (λ e k. edge-ranges e (t .edges e k))
 
   face-row-ranges : allOf faceRanges (faceRows (lentOf s m)) ≡ true
-  unfolding lentOf
-  face-row-ranges = each-row faceWidth faceCells faceRanges (m .faces) _ (faces-wide (m .faces)) (λ f k. refl)
+  unfolding lentWith
+  face-row-ranges = each-row faceWidth (faceCells box) faceRanges (m .faces) _ (faces-wide box (m .faces)) (λ f k. refl)
 
   pub tabled-ranged : ranged (lentOf s m) ≡ true
-  unfolding ranged lentOf
+  unfolding ranged lentWith
   tabled-ranged =
       and-is
       (and-is
@@ -134,8 +140,17 @@ module _ (s : Sizes) (m : Map) (t : Tabled s m) where
       (and-is
       (and-is (and-is (and-is counts nexts) (flat-rest nodeWidth nodeCells _ (m .nodes) (nodes-wide (m .nodes))))
       (flat-rest edgeWidth edgeCells _ (m .edges) wide))
-      (flat-rest faceWidth faceCells _ (m .faces) (faces-wide (m .faces)))) node-row-ranges) edge-row-ranges)
+      (flat-rest faceWidth (faceCells box) _ (m .faces) (faces-wide box (m .faces)))) node-row-ranges) edge-row-ranges)
       face-row-ranges
+
+-- the face rows have the rectangles that the edges give
+pub tabled-boxed : (s : Sizes) (m : Map) → allOf (hasBox (rectangle (m .edges))) (faceRows (lentOf s m)) ≡ true
+unfolding lentWith
+tabled-boxed s m =
+    let box = rectangle (m .edges) in
+    each-row faceWidth (faceCells box) (hasBox box) (m .faces) _ (faces-wide box (m .faces))
+    (λ f k. and-is (and-is (and-is (same-self (pos (box f .left))) (same-self (pos (box f .low))))
+    (same-self (pos (box f .right)))) (same-self (pos (box f .high))))
 
 -- ---- a good map
 
@@ -145,6 +160,9 @@ some-face [] e = absurd (omega arith)
 some-face (f ∷ fs) e = omega arith
 
 module _ (m : Map) (g : Good m) where
+  abbrev given-box : ℕ → Extent
+  given-box = rectangle (m .edges)
+
   few : (e : Edge) → List·Memᴰ e (m .edges) → length (points (e .curve)) ≤ maxPoints
   few e k = g .surveyed .kept e k .most
 
@@ -155,12 +173,13 @@ module _ (m : Map) (g : Good m) where
   module _ (s : Sizes) (f : Fits s m) where
     -- so are the sizes
     pub sizes-back : sizesOf (lentOf s m) ≡ s
-    unfolding lentOf
+    unfolding lentWith
     sizes-back = λ i.
         record {
           nodes = room nodeWidth nodeCells (s .nodes) (m .nodes) (nodes-wide (m .nodes)) (omega arith) (f .nodes) i;
           edges = room edgeWidth edgeCells (s .edges) (m .edges) (edges-wide m few) (omega arith) (f .edges) i;
-          faces = room faceWidth faceCells (s .faces) (m .faces) (faces-wide (m .faces)) (omega arith) (f .faces) i;
+          faces = room faceWidth (faceCells given-box) (s .faces) (m .faces) (faces-wide given-box (m .faces))
+              (omega arith) (f .faces) i;
         }
 
     good-tabled : Tabled s m
@@ -184,15 +203,23 @@ module _ (m : Map) (g : Good m) where
           };
         }
 
+    -- with the rectangles that its edges give
+    good-boxed : boxed (lentOf s m) ≡ true
+    unfolding boxed
+    good-boxed =
+        ap (λ (q : Map). allOf (hasBox (rectangle (q .edges))) (faceRows (lentOf s m))) (good-back s)
+        ∙ tabled-boxed s m
+
     -- a good map in its tables is in form
     pub good-in-form : inForm (lentOf s m) ≡ true
     unfolding inForm
-    good-in-form = and-is (tabled-ranged s m good-tabled) (ap formed (good-back s) ∙ good-formed m g)
+    good-in-form = and-is (and-is (tabled-ranged s m good-tabled) (ap formed (good-back s) ∙ good-formed m g))
+        good-boxed
 
 -- tables of these sizes are whole
 pub good-whole : (m : Map) (g : Good m) (s : Sizes) (f : Fits s m) → 1 ≤ s .faces → s .nodes ≤ maxNodes
     → s .edges ≤ maxEdges → s .faces ≤ maxFaces → whole (lentOf s m) ≡ true
-unfolding whole lentOf
+unfolding whole lentWith
 good-whole m g s f h a b c =
     and-is
     (and-is
@@ -201,4 +228,5 @@ good-whole m g s f h a b c =
     (whole-table edgeWidth 0 maxEdges (s .edges) (lentOf s m .edges) (omega arith)
     (table-length edgeWidth edgeCells (s .edges) (m .edges) (edges-wide m (few m g)) (f .edges)) (omega arith) b))
     (whole-table faceWidth 1 maxFaces (s .faces) (lentOf s m .faces) (omega arith)
-    (table-length faceWidth faceCells (s .faces) (m .faces) (faces-wide (m .faces)) (f .faces)) h c)
+    (table-length faceWidth (faceCells (rectangle (m .edges))) (s .faces) (m .faces)
+    (faces-wide (rectangle (m .edges)) (m .faces)) (f .faces)) h c)

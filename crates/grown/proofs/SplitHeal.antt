@@ -2,9 +2,9 @@
 -- on every grown map. Assumes nothing.
 use mathlib.Core.Path.{_≡_, refl, sym, ap, ap₂, _∙_, subst}
 use mathlib.Core.Bool.{true, false, not, _&&_}
-use mathlib.Core.List.{[], _∷_, _++_, map}
+use mathlib.Core.List.{[], _∷_, _++_, map, flatMap}
 use mathlib.Core.Option.{Option, some}
-use Prim.Native.Nat.{ℕ, zero, suc, _+_, _≤_, _<_}
+use Prim.Native.Nat.{ℕ, zero, suc, _+_, _*_, _≤_, _<_}
 use native.Mathlib.Nat.{add-zero}
 use native.Mathlib.Omega.{arith}
 use borrow.Author.Tests.{le-ltb, lt-ltb, not-false}
@@ -16,12 +16,14 @@ use Rattle.lists.specs.Members.{Distinct}
 use Rattle.lists.specs.Scans.{isSome}
 use Rattle.lists.proofs.Bools.{same-false, and-true, or-no, or-left, or-right}
 use Rattle.lists.proofs.Perms.{perm-length}
+use Rattle.tables.specs.Tables.{filled}
 use Rattle.plane.specs.declared.Point.{Point}
 use Rattle.curves.specs.Curves.{point, points, maxPoints}
 use Rattle.map.specs.declared.Variant.the-variants.{New, Mod}
 use Rattle.map.specs.declared.Answer.{Answer}
-use Rattle.map.specs.Limits.{lastNumber}
-use Rattle.map.specs.Rows.{Map, Lent, Sizes, mapOf, lentOf, headOf, sizesOf, whole, hasEdge, given, withoutEdge, counts}
+use Rattle.map.specs.Limits.{lastNumber, faceWidth}
+use Rattle.map.specs.Rows.{Map, Lent, Sizes, mapOf, faceCells, lentWith, lentOf, headOf, sizesOf, whole, hasEdge}
+use Rattle.map.specs.Rows.{given, withoutEdge, counts}
 use Rattle.map.specs.Tickets.{Ticket, NewEdgesSplit, ModEdgeSplit, NewEdgeHeal, ModEdgeHeal, read}
 use Rattle.map.specs.Edits.{split, heal, healedCurve}
 use Rattle.map.specs.Reasons.{Reasons, firstReason, reasons, healReasons, noEdge, spent}
@@ -40,6 +42,7 @@ use Rattle.grown.proofs.Growth.{good-kept}
 use Rattle.grown.proofs.Ranges.{good-back, sizes-back, good-in-form, good-whole}
 use Rattle.grown.proofs.Grows.{State, free, grown-state, whole-limited}
 use Rattle.grown.proofs.SplitsRows.{rows-m}
+use Rattle.grown.proofs.Rectangles.{renumbered-rectangle}
 use Rattle.grown.proofs.Rejoined.{Rejoin, rejoin}
 use Rattle.grown.proofs.HealsBack.{kept-back, new-back}
 
@@ -127,7 +130,7 @@ head-raised a b m = λ i. record {
 }
 
 restored-is : (s : Sizes) (m : Map) → lentOf s (given (counts 1 1 0) m) ≡ restored (lentOf s m) .lent
-unfolding lentOf
+unfolding lentWith
 restored-is s m = λ i. record {
   nodes = lentOf s m .nodes;
   edges = lentOf s m .edges;
@@ -136,6 +139,9 @@ restored-is s m = λ i. record {
 }
 
 module _ (s : Sizes) (m : Map) (g : Good m) (f : Fits s m) where
+  once : Distinct (map numberOf (m .edges))
+  once = subst Distinct (nums-rows m) (good-lawful m g .once)
+
   -- there are as many edges as before
   renumbered-head : (e h : ℕ) → hasEdge m e ≡ true → headOf (renumbered e h m) ≡ headOf m
   unfolding renumbered
@@ -148,9 +154,6 @@ module _ (s : Sizes) (m : Map) (g : Good m) (f : Fits s m) where
     «next_face» = pos (m .next .faces);
   }
     where
-      once : Distinct (map numberOf (m .edges))
-      once = subst Distinct (nums-rows m) (good-lawful m g .once)
-
       count : length (renumbered e h m .edges) ≡ length (m .edges)
       count =
           length-append (map (linksRenamed e h) (withoutEdge e (m .edges))) _
@@ -159,11 +162,12 @@ module _ (s : Sizes) (m : Map) (g : Good m) (f : Fits s m) where
 
   renewed-is : (e h : ℕ) → hasEdge m e ≡ true
       → lentOf s (given (counts 1 3 0) (renumbered e h m)) ≡ renewed e h (lentOf s m) .lent
-  unfolding lentOf renumbered
+  unfolding lentWith renumbered
   renewed-is e h has = λ i. record {
     nodes = lentOf s m .nodes;
     edges = lentOf (sym (sizes-back m g s f) i) (renumbered e h (sym (good-back m g s) i)) .edges;
-    faces = lentOf s m .faces;
+    faces = filled (s .faces * faceWidth)
+        (flatMap (faceCells (λ n. renumbered-rectangle m e h once has n i)) (m .faces));
     head = (head-raised 1 3 (renumbered e h m) ∙ ap (raised 1 3) (renumbered-head e h has)) i;
   }
 
@@ -296,7 +300,7 @@ module _ (s : Sizes) (m : Map) (g : Good m) (f : Fits s m) (e x y : ℤ) where
 
 module _ (s : Sizes) (l : Lent) (z : State s l) where
   pub state-cancels : Cancels l
-  unfolding ticket read lentOf
+  unfolding ticket read lentWith
   state-cancels = subst Cancels (sym (z .lent)) (λ e x y. cancel s (z .map) (z .good) (z .fits) e x y)
 
   -- the next edge number as the head has it
@@ -311,12 +315,12 @@ module _ (s : Sizes) (l : Lent) (z : State s l) where
       → tried (tried l (NewEdgesSplit e x y) .lent) (NewEdgeHeal (pos a) (pos (a + 1))) ≡ renewed (natAbs e) (n + 2) l
 
   pub state-renews : Renews l
-  unfolding ticket read lentOf
+  unfolding ticket read lentWith
   state-renews = subst Renews (sym (z .lent)) (λ e x y h.
       subst (Renewing e x y) (sym head-next) (renew s (z .map) (z .good) (z .fits) e x y h))
 
   pub state-spends : Spends l
-  unfolding ticket read lentOf
+  unfolding ticket read lentWith
   state-spends = subst Spends (sym (z .lent)) (λ e x y h high.
       spend s (z .map) (z .good) (z .fits) e x y h (subst (λ (n : ℕ). lastNumber < n + 2) head-next high))
 

@@ -13,17 +13,13 @@ use lib.IntN.{ℤ, pos, negsuc}
 use lib.ListN.{length, length-map, take}
 use Rattle.lists.specs.Tests.{same}
 use Rattle.lists.specs.Members.{All}
-use Rattle.lists.proofs.Bools.{and-true, cond-has}
+use Rattle.lists.proofs.Bools.{cond-has}
 use Rattle.lists.proofs.Appends.{each-append}
 use Rattle.lists.proofs.Members.{each-last}
 use Rattle.plane.specs.declared.Point.{Point}
 use Rattle.plane.specs.Points.{InRange}
 use Rattle.curves.specs.Curves.{Curve, points, point, curveOf, lastPoint, coordinates}
-use Rattle.curves.specs.Tests.{onCurve}
 use Rattle.curves.specs.Edits.{front, back}
-use Rattle.geometry.specs.Meaning.{Some}
-use Rattle.geometry.proofs.Cutting.{cut-place}
-use Rattle.geometry.proofs.Theorems.{onCurve-iff}
 use Rattle.map.specs.declared.Variant.the-variants.{Mod}
 use Rattle.map.specs.Rows.{Node, Edge, Map, Lent, Sizes, mapOf, sizesOf, whole, edge}
 use Rattle.map.specs.Tickets.{Ticket, AddIsoNode, ModEdgeSplit, AddEdgeModFace, read}
@@ -31,7 +27,7 @@ use Rattle.map.specs.Reasons.{firstReason, reasons}
 use Rattle.map.specs.Ticket.{Outcome, lentReasons, unless, judged, carried, ticket}
 use Rattle.map.specs.Edits.{addIsoNode, split, addEdge}
 use Rattle.map.specs.Form.{ranged, formed, inForm}
-use Rattle.map.proofs.Laws.{edge-there, formed-is}
+use Rattle.map.proofs.Laws.{edge-there, formed-is, in-form-is}
 use Rattle.map.proofs.Linked.{edges-once, within-nodes}
 use Rattle.map.proofs.RoundTrip.{Stored, ranged-is, ranged-nodes, ranged-curves}
 use Rattle.map.proofs.Reasons.{first-zero}
@@ -44,39 +40,13 @@ use Rattle.grown.proofs.Curves.Survey.{Line, Place, lineOf, placeOf, lines, pla
 use Rattle.grown.proofs.Curves.Rows.{Becomes, addIsoNode-becomes, addEdge-becomes}
 use Rattle.grown.proofs.Curves.Cut.{firstHalf}
 use Rattle.grown.proofs.Curves.Halves.{replaced, split-mod-becomes}
-use Rattle.grown.proofs.Curves.Kept.{each-halves}
 use Rattle.grown.proofs.Law.Lawful.{formed-anchored}
 use Rattle.grown.proofs.Law.Split.{off-ends}
-use Rattle.grown.proofs.Curves.Ends.{halves-few}
+use Rattle.affected_faces.proofs.Stored.{halves-stored}
 use Rattle.grown.proofs.Ranges.{NextInRange, next-in-range, Tabled, tabled-ranged, some-face}
 use Rattle.joining.specs.Join.{nodeThere, edgeThere, placing, unlessServed, nodeTicket, serving, edgeExists}
 use Rattle.joining.specs.Join.{edgeTicket, Entry, entries, enter, unlessReason, enterAll}
 use Rattle.joining.specs.Claims.{JoinRanged}
-
--- ---- a curve cut at a point inside
-
-some-two : (a : Point) (r : List Point) → Some r → 2 ≤ length (a ∷ r)
-some-two a [] h = absurd h
-some-two a (b ∷ r) h = omega arith
-
-halves-in : (p : Point) (c : Curve) → c .first ≢ p → lastPoint c ≢ p → onCurve c p ≡ true → InRange p → Stored c
-    → Stored (front p c) × Stored (back p c)
-halves-in p c n l o i d =
-    let place = cut-place p (c .first) (c .rest) n l (onCurve-iff c p .0 o) in
-    let few = halves-few p c n l o in
-    let most = d .most in
-    let parts = each-halves InRange p c i (d .in-range) in (
-      record {
-        least = some-two (c .first) (front p c .rest) (place .some-front);
-        most = omega (arith, few .0, most);
-        in-range = parts .0;
-      },
-      record {
-        least = some-two p (back p c .rest) (place .some-back);
-        most = omega (arith, few .1, most);
-        in-range = parts .1;
-      },
-    )
 
 -- ---- kinds 1, 8 and 12 on a sheet in form
 
@@ -183,7 +153,8 @@ module _ (l : Lent) (r : ranged l ≡ true) (f : formed (mapOf l) ≡ true) wher
       off = off-ends m p (h .free) (within-nodes m f) here (formed-anchored m f (edge m e) here)
 
       halves : Stored (front p (edge m e .curve)) × Stored (back p (edge m e .curve))
-      halves = halves-in p (edge m e .curve) (off .0) (off .1) (h .on) (h .in-range) (ranged-curves l r (edge m e) here)
+      halves = halves-stored p (edge m e .curve) (off .0) (off .1) (h .on) (h .in-range)
+          (ranged-curves l r (edge m e) here)
 
       kept : (k : Line) → List·Memᴰ k (map (replaced e (firstHalf (lineOf (edge m e)) (m .next .nodes) e p)) (lines m))
           → Drawn k
@@ -210,12 +181,11 @@ module _ (l : Lent) (r : ranged l ≡ true) where
       → Tabled (sizesOf l) (carried (mapOf l) t .0))
       → (n : ℕ) → firstReason (lentReasons l ++ reasons (sizesOf l) (mapOf l) t) ≡ n
       → ranged (unless l n (carried (mapOf l) t) .lent) ≡ true
-  unfolding inForm
   carry t then zero e =
       let h₁ = first-zero 1 (not (whole l)) _ (lit< tt) e in
       let h₂ = first-zero 2 (not (inForm l)) (reasons (sizesOf l) (mapOf l) t) (lit< tt) (h₁ .1) in
-      let form = and-true (ranged l) (formed (mapOf l)) (not-false (inForm l) (h₂ .0)) in
-      tabled-ranged (sizesOf l) (carried (mapOf l) t .0) (then (form .1) (h₂ .1))
+      let form = in-form-is l (not-false (inForm l) (h₂ .0)) in
+      tabled-ranged (sizesOf l) (carried (mapOf l) t .0) (then (form .formed) (h₂ .1))
   carry t then (suc n) e = r
 
   node-kept : (x y : ℕ) → ranged (ticket l (pos 1 ∷ negsuc 0 ∷ pos x ∷ pos y ∷ []) .lent) ≡ true

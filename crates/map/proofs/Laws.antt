@@ -16,10 +16,10 @@ use Rattle.lists.proofs.Rising.{Rising, rising, rising-distinct}
 use Rattle.lists.proofs.Lookups.{look-at, look-row}
 use Rattle.curves.specs.Curves.{points, maxPoints}
 use Rattle.map.specs.Rows.{Node, Edge, Map, Lent, Sizes, mapOf, lentOf, sizesOf, whole, findEdge}
-use Rattle.map.specs.Rows.{hasNode, hasEdge, hasFace, node, edge}
+use Rattle.map.specs.Rows.{hasNode, hasEdge, hasFace, node, edge, faceRows, rectangle}
 use Rattle.map.specs.Form.{ranged, numbers, inFace, edgeNames, named, curveFits, departuresDiffer}
 use Rattle.tables.specs.Tables.{numbered}
-use Rattle.map.specs.Form.{bareMarked, linksOnce, linksMeet, ringsBearOne, formed, inForm}
+use Rattle.map.specs.Form.{bareMarked, linksOnce, linksMeet, ringsBearOne, formed, hasBox, boxed, inForm}
 use Rattle.map.proofs.RoundTrip.{Holds, Points, reads-back, writes-back, ranged-points}
 
 -- ---- rows by number
@@ -157,13 +157,24 @@ module _ (m : Map) (h : formed m ≡ true) where
   -- a map in form, with curves of at most 12 points, is read back from the tables
   pub formed-back : (s : Sizes) → ((r : Edge) → List·Memᴰ r (m .edges) → length (points (r .curve)) ≤ maxPoints)
       → mapOf (lentOf s m) ≡ m
-  formed-back s few = reads-back s m (λ r k. holds r k (few r k))
+  formed-back s few = reads-back (rectangle (m .edges)) s m (λ r k. holds r k (few r k))
+
+-- in form, part by part
+pub record InForm (l : Lent) : Type 0 where
+  pub ranged : ranged l ≡ true
+  pub formed : formed (mapOf l) ≡ true
+  pub boxed : allOf (hasBox (rectangle (mapOf l .edges))) (faceRows l) ≡ true
+
+pub in-form-is : (l : Lent) → inForm l ≡ true → InForm l
+unfolding inForm boxed
+in-form-is l h =
+    let h₁ = and-true (ranged l && formed (mapOf l)) (boxed l) h in
+    let h₂ = and-true (ranged l) (formed (mapOf l)) (h₁ .0) in
+    record { ranged = h₂ .0; formed = h₂ .1; boxed = h₁ .1 }
 
 -- whole tables in form are written again as they were
 pub in-form-back : (l : Lent) → whole l ≡ true → inForm l ≡ true → lentOf (sizesOf l) (mapOf l) ≡ l
-unfolding inForm
-in-form-back l w h = writes-back l w (and-true (ranged l) (formed (mapOf l)) h .0)
+in-form-back l w h = let i = in-form-is l h in writes-back (rectangle (mapOf l .edges)) l w (i .ranged) (i .boxed)
 
 pub in-form-points : (l : Lent) → inForm l ≡ true → (e : Edge) → List·Memᴰ e (mapOf l .edges) → Points e
-unfolding inForm
-in-form-points l h = ranged-points l (and-true (ranged l) (formed (mapOf l)) h .0)
+in-form-points l h = ranged-points l (in-form-is l h .ranged)

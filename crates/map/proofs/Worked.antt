@@ -12,7 +12,7 @@ use Rattle.curves.specs.Curves.{coordinates}
 use Rattle.planar_maps.specs.Map.{fwd, bwd}
 use Rattle.map.specs.declared.Answer.{Answer}
 use Rattle.map.specs.declared.Head.{Head}
-use Rattle.map.specs.Rows.{Node, Edge, Map, Lent, Sizes, lent, emptyMap, lentOf, counts}
+use Rattle.map.specs.Rows.{Node, Edge, Map, Lent, Sizes, lent, emptyMap, mapOf, lentOf, counts}
 use Rattle.map.specs.Form.{inForm}
 use Rattle.map.specs.Ticket.{Listed, edgesOfFace}
 use Rattle.map.specs.Grow.{after}
@@ -49,11 +49,11 @@ listed l a = record { list = l; answer = a }
 -- ---- words
 
 -- kind 1 without a face
-abbrev add : ℕ → ℕ → List ℤ
+abbrev pub add : ℕ → ℕ → List ℤ
 add x y = pos 1 ∷ negsuc 0 ∷ pos x ∷ pos y ∷ []
 
 -- kinds 4, 11 and 12
-abbrev draw : ℕ → ℕ → ℕ → List Point → List ℤ
+abbrev pub draw : ℕ → ℕ → ℕ → List Point → List ℤ
 draw k u v c = pos k ∷ pos u ∷ pos v ∷ coordinates c
 
 abbrev pub lone : ℕ → Point → ℕ → Node
@@ -480,7 +480,7 @@ minus-one =
 -- ---- tables not in form
 
 -- in form: an isolated node first, a square in two halves, one in it, two edges in a row, an island
-abbrev base : Map
+abbrev pub base : Map
 base =
     rows (lone 1 (at 30 30) 0 ∷ nodeRow 2 (at 0 0) ∷ nodeRow 3 (at 10 10) ∷ lone 4 (at 3 9) 2 ∷ nodeRow 5 (at 20 0)
     ∷ nodeRow 6 (at 20 5) ∷ nodeRow 7 (at 22 9) ∷ nodeRow 8 (at 40 40) ∷ [])
@@ -529,12 +529,18 @@ abbrev no-face-0 : Map
 no-face-0 =
     rows [] [] (1 ∷ []) 1 1 2
 
+-- the face table with the rectangles that the edges give
+abbrev refitted : Lent → Lent
+refitted l = lent (l .nodes) (l .edges) (lentOf room (mapOf l) .faces) (l .head)
+
 -- number i of a table or of the head of the base changed
 abbrev inNodes : ℕ → ℤ → Lent
 inNodes i z = let l = lentOf room base in lent (set (l .nodes) i z) (l .edges) (l .faces) (l .head)
 
 abbrev inEdges : ℕ → ℤ → Lent
-inEdges i z = let l = lentOf room base in lent (l .nodes) (set (l .edges) i z) (l .faces) (l .head)
+inEdges i z =
+    let l = lentOf room base in
+    refitted (lent (l .nodes) (set (l .edges) i z) (l .faces) (l .head))
 
 abbrev inFaces : ℕ → ℤ → Lent
 inFaces i z = let l = lentOf room base in lent (l .nodes) (l .edges) (set (l .faces) i z) (l .head)
@@ -570,7 +576,7 @@ spoiled =
     -- rows past a count are all 0
     ∷ inNodes 32 (pos 1)
     ∷ inEdges 192 (pos 1)
-    ∷ inFaces 4 (pos 1)
+    ∷ inFaces 20 (pos 1)
     -- ranges of a node row: number, x, y, face
     ∷ inNodes 0 (negsuc 0)
     ∷ inNodes 1 (negsuc 29)
@@ -591,7 +597,7 @@ spoiled =
     ∷ inEdges 10 (pos 1048576)
     ∷ inEdges 14 (pos 1)
     -- range of a face row
-    ∷ inFaces 1 (negsuc 0)
+    ∷ inFaces 5 (negsuc 0)
     -- numbers rise from 1, those of faces from 0
     ∷ inNodes 12 (pos 1)
     ∷ inNodes 0 (pos 0)
@@ -617,6 +623,12 @@ spoiled =
     ∷ inEdges 99 (negsuc 3)
     -- a ring bears one face
     ∷ inEdges 5 (pos 2)
+    -- each face has its rectangle: face 0 four zeros, and of face 2 least x, least y, greatest x, greatest y
+    ∷ inFaces 3 (pos 45)
+    ∷ inFaces 11 (pos 1)
+    ∷ inFaces 12 (negsuc 0)
+    ∷ inFaces 13 (pos 11)
+    ∷ inFaces 14 (pos 10)
     ∷ []
 
 -- where no one cell does it: order of edges, the next of d leaves the node where d arrives, named nodes exist, face 0

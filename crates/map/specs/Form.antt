@@ -4,21 +4,22 @@ use mathlib.Core.Bool.{Bool, true, not, Bool·beq, _&&_}
 use mathlib.Core.List.{List, [], _∷_, map}
 use mathlib.Core.Option.{Option, none, some}
 use Prim.Native.Nat.{ℕ, suc, _*_}
-use lib.IntN.{ℤ, negsuc, natAbs}
+use lib.IntN.{ℤ, pos, negsuc, natAbs}
 use lib.ListN.{take, drop}
 use lib.Signed.{leZ, nonNeg}
 use Rattle.lists.specs.Tests.{same}
 use Rattle.lists.specs.Scans.{anyOf, allOf, countOf, firstOr, isSome}
-use Rattle.tables.specs.Tables.{within, isZero, restZero, numbered, cell}
+use Rattle.tables.specs.Tables.{within, sameZ, isZero, restZero, numbered, cell}
 use Rattle.plane.specs.Points.{samePoint}
 use Rattle.plane.specs.Directions.{Way, sameWay}
 use Rattle.curves.specs.Curves.{maxPoints, coordinate, lastPoint}
 use Rattle.curves.specs.Tests.{neighboursDiffer}
+use Rattle.bounding_boxes.specs.declared.Extent.{Extent}
 use Rattle.planar_maps.specs.Rings.{sameDart}
 use Rattle.map.specs.declared.Head.{Head}
 use Rattle.map.specs.Limits.{lastNumber, nodeWidth, edgeWidth, faceWidth}
 use Rattle.map.specs.Rows.{Edge, Map, Lent, nodeRows, edgeRows, faceRows, mapOf, sizesOf, node, hasNode}
-use Rattle.map.specs.Rows.{hasEdge, hasFace}
+use Rattle.map.specs.Rows.{hasEdge, hasFace, faceRowOf, rectangle}
 use Rattle.map.specs.Darts.{directed, leaves, arrives, next, bears, departures, edgeEnds, way}
 
 -- ---- numbers as they stand
@@ -125,6 +126,17 @@ formed m =
     && linksMeet m
     && ringsBearOne m
 
+-- the row has the rectangle of its face
+abbrev pub hasBox : (ℕ → Extent) → List ℤ → Bool
+hasBox box r =
+    let b = box (faceRowOf r) in
+    sameZ (cell r 1) (pos (b .left)) && sameZ (cell r 2) (pos (b .low))
+    && sameZ (cell r 3) (pos (b .right)) && sameZ (cell r 4) (pos (b .high))
+
+-- each face has the rectangle that the edges give
+unfoldable pub boxed : Lent → Bool
+boxed l = allOf (hasBox (rectangle (mapOf l .edges))) (faceRows l)
+
 -- in form
 unfoldable pub inForm : Lent → Bool
-inForm l = ranged l && formed (mapOf l)
+inForm l = ranged l && formed (mapOf l) && boxed l

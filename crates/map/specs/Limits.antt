@@ -34,4 +34,4 @@ abbrev pub edgeWidth : ℕ
 edgeWidth = 8 + 2 * maxPoints
 
 abbrev pub faceWidth : ℕ
-faceWidth = 1
+faceWidth = 5

@@ -1,16 +1,18 @@
 -- Tables and head: the rows, the map that they make, and how both stand in flat tables.
-use mathlib.Core.Bool.{Bool, cond, not, _&&_}
+use mathlib.Core.Bool.{Bool, cond, not, _&&_, _||_}
 use mathlib.Core.List.{List, [], _∷_, map, flatMap}
 use mathlib.Core.Option.{Option, none, some, Option·getD}
-use Prim.Native.Nat.{ℕ, suc, _+_, _*_, _/_}
+use Prim.Native.Nat.{ℕ, zero, suc, _+_, _*_, _/_}
 use lib.IntN.{ℤ, pos, negsuc, negℤ, natAbs}
 use lib.ListN.{length, take, drop}
 use Rattle.lists.specs.Tests.{same}
-use Rattle.lists.specs.Scans.{anyOf, find, isSome, keep}
+use Rattle.lists.specs.Scans.{anyOf, find, isSome, keep, fold}
 use Rattle.tables.specs.Tables.{rows, cell, filled, wholeRows}
 use Rattle.plane.specs.declared.Point.{Point}
 use Rattle.plane.specs.Points.{origin}
 use Rattle.curves.specs.Curves.{Curve, points, point, through, curveOf, coordinates, maxPoints}
+use Rattle.bounding_boxes.specs.declared.Extent.{Extent}
+use Rattle.bounding_boxes.specs.Extents.{extentAt, widen}
 use Rattle.planar_maps.specs.Map.{Dart, fwd, bwd}
 use Rattle.map.specs.declared.Counts.{Counts}
 use Rattle.map.specs.declared.Head.{Head}
@@ -94,7 +96,7 @@ edgeOf r =
       curve = curveOf (take (2 * natAbs (cell r 7)) (drop 8 r));
     }
 
--- a face row is its number
+-- a face row is read as its number: the edges give its rectangle
 abbrev pub faceRowOf : List ℤ → ℕ
 faceRowOf r = natAbs (cell r 0)
 
@@ -126,6 +128,26 @@ sizesOf l = record {
   faces = length (l .faces) / faceWidth;
 }
 
+-- ---- rectangles
+
+-- the edge has the face on a side
+abbrev pub borders : ℕ → Edge → Bool
+borders f e = same (e .left) f || same (e .right) f
+
+-- all points of edges with that face on a side
+abbrev pub boundary : List Edge → ℕ → List Point
+boundary es f = flatMap (λ e. points (e .curve)) (keep (borders f) es)
+
+-- the least box around points; four zeros where there is none
+abbrev pub boxOf : List Point → Extent
+boxOf [] = record { left = 0; right = 0; low = 0; high = 0 }
+boxOf (p ∷ ps) = fold widen (extentAt p) ps
+
+-- the rectangle of a face; face 0 has four zeros
+unfoldable pub rectangle : List Edge → ℕ → Extent
+rectangle es zero = boxOf []
+rectangle es (suc f) = boxOf (boundary es (suc f))
+
 -- ---- to the flat tables
 
 -- e is written e, -e is written -e
@@ -147,8 +169,9 @@ edgeCells e =
     ∷ pos (e .left) ∷ pos (e .right) ∷ pos (length (points (e .curve)))
     ∷ filled (2 * maxPoints) (coordinates (points (e .curve)))
 
-abbrev pub faceCells : ℕ → List ℤ
-faceCells f = pos f ∷ []
+-- number, least x, least y, greatest x, greatest y
+abbrev pub faceCells : (ℕ → Extent) → ℕ → List ℤ
+faceCells box f = pos f ∷ pos (box f .left) ∷ pos (box f .low) ∷ pos (box f .right) ∷ pos (box f .high) ∷ []
 
 -- the head of a map
 abbrev pub headOf : Map → Head
@@ -162,15 +185,19 @@ headOf m =
       «next_face» = pos (m .next .faces);
     }
 
--- the map in tables of these sizes: rows from the front, zeros behind
-unfoldable pub lentOf : Sizes → Map → Lent
-lentOf s m =
+-- the map in tables of these sizes, with these rectangles: rows from the front, zeros behind
+unfoldable pub lentWith : (ℕ → Extent) → Sizes → Map → Lent
+lentWith box s m =
     record {
       nodes = filled (s .nodes * nodeWidth) (flatMap nodeCells (m .nodes));
       edges = filled (s .edges * edgeWidth) (flatMap edgeCells (m .edges));
-      faces = filled (s .faces * faceWidth) (flatMap faceCells (m .faces));
+      faces = filled (s .faces * faceWidth) (flatMap (faceCells box) (m .faces));
       head = headOf m;
     }
+
+-- the map in tables of these sizes, with the rectangles that its edges give
+abbrev pub lentOf : Sizes → Map → Lent
+lentOf s m = lentWith (rectangle (m .edges)) s m
 
 -- the tables are whole rows, within the limits, and the face table is not empty
 unfoldable pub whole : Lent → Bool

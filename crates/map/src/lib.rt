@@ -63,8 +63,16 @@ pub const POINT_COUNT: usize = 7;
 
 pub const POINTS_AT: usize = 8;
 
-// A face row: its number.
-pub const FACE_WIDTH: usize = 1;
+// A face row: its number and its rectangle.
+pub const FACE_WIDTH: usize = 5;
+
+pub const LEAST_X: usize = 1;
+
+pub const LEAST_Y: usize = 2;
+
+pub const GREATEST_X: usize = 3;
+
+pub const GREATEST_Y: usize = 4;
 
 // Directed edges, at most.
 pub const DARTS: usize = 2 * Map::EDGES;

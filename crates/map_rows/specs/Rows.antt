@@ -1,14 +1,15 @@
 -- The map's rows in flat tables: nodes, edges and faces by their place, and what functions on tables require.
 use mathlib.Core.Path.{_≡_}
 use mathlib.Core.Bool.{true, _&&_}
-use mathlib.Core.List.{List, [], map}
+use mathlib.Core.List.{List, [], map, flatMap}
 use Prim.Native.Nat.{ℕ, suc, _+_, _*_, _≤_}
 use lib.IntN.{ℤ, pos, natAbs}
 use lib.ListN.{length, getD, take, drop}
 use Rattle.lists.specs.Scans.{allOf}
-use Rattle.tables.specs.Tables.{rows, rowAt, numbered}
+use Rattle.tables.specs.Tables.{rows, rowAt, filled, numbered}
+use Rattle.bounding_boxes.specs.declared.Extent.{Extent}
 use Rattle.map.specs.Limits.{nodeWidth, edgeWidth, faceWidth, lastNumber}
-use Rattle.map.specs.Rows.{Node, Edge, Map, nodeOf, edgeOf, faceRowOf, hasEdge, counts}
+use Rattle.map.specs.Rows.{Node, Edge, Map, nodeOf, edgeOf, faceRowOf, faceCells, hasEdge, counts}
 use Rattle.map.specs.Form.{nodeRanges, edgeRanges, faceRanges}
 
 -- ---- the rows in use
@@ -54,12 +55,21 @@ edgeMap l n = edgesAlone (edgesOf l n)
 abbrev pub nodeMap : List ℤ → ℕ → Map
 nodeMap l n = record { nodes = nodesOf l n; edges = []; faces = []; next = counts 0 0 0 }
 
+-- the faces in a table of n numbers, with these rectangles: from the front, zeros behind
+abbrev pub facesIn : ℕ → (ℕ → Extent) → List ℕ → List ℤ
+facesIn n box fs = filled n (flatMap (faceCells box) fs)
+
 -- ---- what functions on tables require, as `form` finds it
 
 -- edge row i is in range
 pub record EdgeRow (l : List ℤ) (i : ℕ) : Type 0 where
   pub fits : i * edgeWidth + edgeWidth ≤ length l
   pub ranges : edgeRanges (edgeCellsAt l i) ≡ true
+
+-- edge rows in range
+pub record EdgesInRange (l : List ℤ) (n : ℕ) : Type 0 where
+  pub fits : n * edgeWidth ≤ length l
+  pub ranges : allOf edgeRanges (rows edgeWidth n l) ≡ true
 
 -- node row i is in range
 pub record NodeRow (l : List ℤ) (i : ℕ) : Type 0 where

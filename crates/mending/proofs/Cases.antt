@@ -8,7 +8,7 @@ use lib.IntN.{ℤ, pos, negsuc}
 use lib.ListN.{replicate}
 use Rattle.curves.specs.Curves.{through}
 use Rattle.planar_maps.specs.Map.{Dart, fwd, bwd}
-use Rattle.map.specs.Rows.{Node, Edge, Map, Sizes, dartCell, lentOf, counts}
+use Rattle.map.specs.Rows.{Node, Edge, Map, Sizes, dartCell, boxOf, lentWith, lentOf, counts}
 use Rattle.map.specs.Form.{inForm}
 use Rattle.map.specs.Grow.{grow}
 use Rattle.mending.specs.Mend.{mend}
@@ -123,6 +123,11 @@ two-faces = (refl, refl)
 pub no-face : Refuses 2 (loop (fwd 2) (bwd 2) (fwd 1) (bwd 1) 9) []
 unfolding opened
 no-face = refl
+
+-- a rectangle that the edges do not give
+pub other-rectangle : mend (lentWith (λ f. boxOf []) small loopGrown) [] .answer .refusal ≡ 2
+unfolding opened
+other-rectangle = refl
 
 -- ---- two ditches in a row, the first cut by kind 7
 

@@ -1,5 +1,5 @@
 -- The claims on mended links, for all tables and lists. Assumes nothing.
-use mathlib.Core.Path.{_≡_, refl, sym, ap, ap₂, _∙_}
+use mathlib.Core.Path.{_≡_, refl, sym, ap, ap₂, fun-ext, _∙_}
 use mathlib.Core.Bool.{true, not}
 use mathlib.Core.List.{List, [], List·Memᴰ}
 use mathlib.Core.Logic.{_≢_}
@@ -7,26 +7,32 @@ use Prim.Native.Nat.{ℕ, zero, suc, _≤_}
 use native.Mathlib.Omega.{arith}
 use borrow.Author.Tests.{not-false, le-ltb}
 use lib.Dec.{ltb, lit<}
-use lib.IntN.{ℤ, pos}
+use lib.IntN.{ℤ, pos, natAbs}
 use lib.ListN.{length}
-use Rattle.lists.proofs.Bools.{and-true, and-is}
+use Rattle.lists.specs.Scans.{allOf}
+use Rattle.lists.proofs.Bools.{and-is}
+use Rattle.tables.specs.Tables.{rows}
 use Rattle.curves.specs.Curves.{points, maxPoints}
-use Rattle.map.specs.Rows.{Edge, Map, Lent, Sizes, mapOf, lentOf, sizesOf, whole}
-use Rattle.map.specs.Form.{departuresDiffer, ringsBearOne, ranged, formed, inForm}
+use Rattle.bounding_boxes.specs.declared.Extent.{Extent}
+use Rattle.map.specs.declared.Head.{Head}
+use Rattle.map.specs.Limits.{faceWidth}
+use Rattle.map.specs.Rows.{Edge, Map, Lent, Sizes, mapOf, lentOf, sizesOf, whole, faceRows, rectangle}
+use Rattle.map.specs.Form.{departuresDiffer, ringsBearOne, ranged, formed, hasBox, boxed, inForm}
 use Rattle.map.specs.Links.{obeysLaw}
 use Rattle.map.specs.Reasons.{firstReason}
 use Rattle.map.specs.Ticket.{listUnless}
 use Rattle.map.proofs.RoundTrip.{writes-back, ranged-points}
 use Rattle.map.proofs.Reasons.{first-miss, first-none, first-zero}
-use Rattle.map.proofs.Laws.{formed-back, in-form-back}
+use Rattle.map.proofs.Laws.{formed-back, in-form-is, in-form-back}
 use Rattle.map.proofs.Linked.{edges-once}
 use Rattle.mending.specs.Mend.{sketched, mended, changes, mendReasons, mendUnless, Mended, mend}
 use Rattle.mending.specs.Claims.{Mends, MendedLawful, MendedInForm, LinksAlone, MendedLinksAlone}
 use Rattle.mending.specs.Claims.{LawfulUntouched, MendedTwice, RefusedUntouched}
-use Rattle.mending.proofs.Sketched.{Sketch, sketched-is, in-form-sketched}
+use Rattle.mending.proofs.Sketched.{Sketch, Boxed, sketched-is, in-form-sketched}
 use Rattle.mending.proofs.Mended.{mended-lawful}
 use Rattle.mending.proofs.Formed.{mended-formed}
-use Rattle.mending.proofs.Tables.{nodes-now, faces-now, head-now, few-now, size-now, whole-now, ranged-now}
+use Rattle.mending.proofs.Tables.{rectangle-now, nodes-now, faces-now, head-now, few-now, size-now, whole-now}
+use Rattle.mending.proofs.Tables.{ranged-now}
 use Rattle.mending.proofs.Lawful.{lawful-empty, lawful-kept}
 
 -- ---- a call by its first reason
@@ -72,6 +78,7 @@ record Taken (l : Lent) (list : List ℤ) : Type 0 where
   whole : whole l ≡ true
   ranged : ranged l ≡ true
   sketch : Sketch (mapOf l)
+  boxed : Boxed l
   differ : departuresDiffer (mapOf l) ≡ true
   rings : ringsBearOne (mended (mapOf l)) ≡ true
   lent : mend l list .lent ≡ lentOf (sizesOf l) (mended (mapOf l))
@@ -88,6 +95,7 @@ taken l list h =
       whole = not-false (whole l) (h₁ .0);
       ranged = drawn .0;
       sketch = drawn .1;
+      boxed = drawn .2;
       differ = not-false (departuresDiffer (mapOf l)) (h₁₁ .0);
       rings = not-false (ringsBearOne (mended (mapOf l))) (h₃₁ .0);
       lent = ap (λ (o : Mended). o .lent) (by-reason l list) ∙ ap (mendUnless l) none;
@@ -111,7 +119,7 @@ module _ (l : Lent) (list : List ℤ) (h : Mends l list) where
 
   -- what was lent, written again
   back : lentOf s m ≡ l
-  back = writes-back l (t .whole) (t .ranged)
+  back = writes-back (rectangle (m .edges)) l (t .whole) (t .ranged) (t .boxed)
 
   reads : mapOf (lentOf s (mended m)) ≡ mended m
   reads = formed-back (mended m) in-form s (few-now s m few)
@@ -129,9 +137,20 @@ module _ (l : Lent) (list : List ℤ) (h : Mends l list) where
   is-whole : whole (lentOf s (mended m)) ≡ true
   is-whole = whole-now s m few (ap whole back ∙ t .whole)
 
+  is-boxed : boxed (lentOf s (mended m)) ≡ true
+  unfolding boxed
+  is-boxed =
+      let l′ = lentOf s (mended m) in
+      ap (λ (q : Map). allOf (hasBox (rectangle (q .edges))) (faceRows l′)) reads
+      ∙ ap (λ (box : ℕ → Extent). allOf (hasBox box) (faceRows l′)) (fun-ext (rectangle-now m))
+      ∙ ap₂ (λ (h : Head) (fs : List ℤ).
+      allOf (hasBox (rectangle (m .edges))) (rows faceWidth (natAbs (h .faces)) fs))
+      (links-alone .head) (links-alone .faces)
+      ∙ t .boxed
+
   is-in-form : inForm (lentOf s (mended m)) ≡ true
   unfolding inForm
-  is-in-form = and-is (ranged-now s m few (ap ranged back ∙ t .ranged)) (ap formed reads ∙ in-form)
+  is-in-form = and-is (and-is (ranged-now s m few (ap ranged back ∙ t .ranged)) (ap formed reads ∙ in-form)) is-boxed
 
 pub mended-links-alone : MendedLinksAlone
 mended-links-alone l list h = rw (taken l list h .lent) (links-alone l list h)
@@ -145,7 +164,6 @@ mended-in-form l list h = rw (taken l list h .lent) (is-whole l list h, is-in-fo
 -- ---- a lawful map
 
 pub lawful-untouched : LawfulUntouched
-unfolding inForm
 lawful-untouched l w f law list =
     by-reason l list
     ∙ ap (given l list) none
@@ -156,7 +174,7 @@ lawful-untouched l w f law list =
     }) (ap (lentOf (sizesOf l)) same ∙ in-form-back l w f) empty
   where
     formed-was : formed (mapOf l) ≡ true
-    formed-was = and-true (ranged l) (formed (mapOf l)) f .1
+    formed-was = in-form-is l f .formed
 
     same : mended (mapOf l) ≡ mapOf l
     same = lawful-kept (mapOf l) (edges-once (mapOf l) formed-was) law

@@ -6,10 +6,10 @@ use mathlib.Core.List.{List·Memᴰ}
 use Rattle.lists.specs.Scans.{allOf}
 use Rattle.lists.proofs.Bools.{which, not-true, and-true, and-is}
 use Rattle.lists.proofs.Members.{all-each, each-all}
-use Rattle.map.specs.Rows.{Edge, Map, Lent, mapOf, hasNode, hasEdge, hasFace}
+use Rattle.map.specs.Rows.{Edge, Map, Lent, mapOf, hasNode, hasEdge, hasFace, faceRows, rectangle}
 use Rattle.map.specs.Form.{ranged, numbers, inFace, edgeNames, named, curveFits, departuresDiffer, bareMarked}
-use Rattle.map.specs.Form.{linksOnce, linksMeet, ringsBearOne, formed, inForm}
-use Rattle.map.proofs.Laws.{formed-is, names}
+use Rattle.map.specs.Form.{linksOnce, linksMeet, ringsBearOne, formed, hasBox, boxed, inForm}
+use Rattle.map.proofs.Laws.{formed-is, names, in-form-is}
 use Rattle.mending.specs.Mend.{sidesNamed, sketched}
 use Rattle.mending.specs.Claims.{linksNamed, SketchedButFor}
 
@@ -29,19 +29,25 @@ pub record Linking (m : Map) : Type 0 where
   pub meet : linksMeet m ≡ true
   pub rings : ringsBearOne m ≡ true
 
-pub sketched-is : (l : Lent) → sketched l ≡ true → (ranged l ≡ true) × Sketch (mapOf l)
-unfolding sketched
+-- the face rows have the rectangles that the edges give
+abbrev pub Boxed : Lent → Type 0
+Boxed l = allOf (hasBox (rectangle (mapOf l .edges))) (faceRows l) ≡ true
+
+pub sketched-is : (l : Lent) → sketched l ≡ true → (ranged l ≡ true) × Sketch (mapOf l) × Boxed l
+unfolding sketched boxed
 sketched-is l h =
-    let h₁ = and-true _ (bareMarked (mapOf l)) h in
+    let h₀ = and-true _ (boxed l) h in
+    let h₁ = and-true _ (bareMarked (mapOf l)) (h₀ .0) in
     let h₂ = and-true _ (allOf (curveFits (mapOf l)) (mapOf l .edges)) (h₁ .0) in
     let h₃ = and-true _ (allOf (sidesNamed (mapOf l)) (mapOf l .edges)) (h₂ .0) in
     let h₄ = and-true _ (allOf (λ n. inFace (mapOf l) (n .face)) (mapOf l .nodes)) (h₃ .0) in
     let h₅ = and-true (ranged l) (numbers (mapOf l)) (h₄ .0) in
-    (h₅ .0, record { rising = h₅ .1; faces = h₄ .1; sides = h₃ .1; curves = h₂ .1; bare = h₁ .1 })
+    (h₅ .0, record { rising = h₅ .1; faces = h₄ .1; sides = h₃ .1; curves = h₂ .1; bare = h₁ .1 }, h₀ .1)
 
-is-sketched : (l : Lent) → ranged l ≡ true → Sketch (mapOf l) → sketched l ≡ true
-unfolding sketched
-is-sketched l r k = and-is (and-is (and-is (and-is (and-is r (k .rising)) (k .faces)) (k .sides)) (k .curves)) (k .bare)
+is-sketched : (l : Lent) → ranged l ≡ true → Sketch (mapOf l) → Boxed l → sketched l ≡ true
+unfolding sketched boxed
+is-sketched l r k b =
+    and-is (and-is (and-is (and-is (and-is (and-is r (k .rising)) (k .faces)) (k .sides)) (k .curves)) (k .bare)) b
 
 -- ---- both make a map in form
 
@@ -95,15 +101,14 @@ module _ (m : Map) where
       (k .once)) (k .meet)) (k .rings)
 
 pub in-form-sketched : (l : Lent) → inForm l ≡ true → (sketched l ≡ true) × Linking (mapOf l)
-unfolding inForm
 in-form-sketched l h =
-    let k = and-true (ranged l) (formed (mapOf l)) h in
-    let p = formed-parts (mapOf l) (k .1) in
-    (is-sketched l (k .0) (p .0), p .1)
+    let k = in-form-is l h in
+    let p = formed-parts (mapOf l) (k .formed) in
+    (is-sketched l (k .ranged) (p .0) (k .boxed), p .1)
 
 sketched-in-form : (l : Lent) → sketched l ≡ true → Linking (mapOf l) → inForm l ≡ true
-unfolding inForm
-sketched-in-form l h k = let s = sketched-is l h in and-is (s .0) (parts-formed (mapOf l) (s .1) k)
+unfolding inForm boxed
+sketched-in-form l h k = let s = sketched-is l h in and-is (and-is (s .0) (parts-formed (mapOf l) (s .1) k)) (s .2)
 
 pub sketched-but-for : SketchedButFor
 sketched-but-for l =

@@ -15,17 +15,16 @@ use lib.ListN.{length, length-map, length-append}
 use Rattle.lists.specs.Tests.{same}
 use Rattle.lists.specs.Scans.{isSome}
 use Rattle.lists.specs.Members.{Distinct}
-use Rattle.lists.proofs.Bools.{and-right}
 use Rattle.lists.proofs.Counts.{count-keep}
 use Rattle.lists.proofs.Keeps.{keep-in, distinct-keep}
 use Rattle.lists.proofs.Perms.{perm-length, perm-of-distinct, perm-distinct, distinct-map, distinct-append}
 use Rattle.planar_maps.specs.Pieces.{pieces}
 use Rattle.map.specs.Rows.{Map, Lent, mapOf, whole}
 use Rattle.map.specs.Darts.{pieceOf, pieceCount}
-use Rattle.map.specs.Form.{formed, ranged, inForm, numbers}
+use Rattle.map.specs.Form.{formed, inForm}
 use Rattle.map.specs.Reasons.{firstReason}
 use Rattle.map.specs.Ticket.{listUnless}
-use Rattle.map.proofs.Laws.{formed-is}
+use Rattle.map.proofs.Laws.{formed-is, in-form-is}
 use Rattle.map_laws.proofs.Faces.{formed-faces}
 use Rattle.nesting.specs.Contents.{pieceRows, partCount, isIn, listedUnder, Line, lines, complete}
 use Rattle.nesting.specs.Contents.{contents}
@@ -182,15 +181,11 @@ is-28 : (a b d : Bool) → a ≡ true → b ≡ true → reason a b false d ≡ 
 unfolding firstReason
 is-28 a b d p q = rw (p, q)
 
-in-formed : (l : Lent) → inForm l ≡ true → formed (mapOf l) ≡ true
-unfolding inForm
-in-formed l h = and-right (ranged l) (formed (mapOf l)) h
-
 pub exactly-28 : Exactly28
 exactly-28 l list w f k le = (there, λ off. refusal-is l list ∙ back off (contents (mapOf l)) refl)
   where
     exact : (ls : List Line) → (contents (mapOf l) ≡ some ls) ↔ (byRule k (mapOf l) ≡ ls) × Once (mapOf l) ls
-    exact = contents-exact (mapOf l) (in-formed l f) k le
+    exact = contents-exact (mapOf l) (in-form-is l f .formed) k le
 
     there : contentsOf l list .answer .refusal ≡ 28 → Once (mapOf l) (byRule k (mapOf l)) → ⊥
     there e once = not-28 (whole l) (inForm l) (short l list)

@@ -23,33 +23,31 @@ use Rattle.curves.proofs.Runs.{and-left, and-right}
 use Rattle.map.specs.declared.Counts.{Counts}
 use Rattle.map.specs.declared.Head.{Head}
 use Rattle.map.specs.Limits.{maxNodes, maxEdges, maxFaces, lastNumber, nodeWidth, edgeWidth, faceWidth}
-use Rattle.map.specs.Rows.{Edge, Map, Lent, Sizes, mapOf, lentOf, sizesOf, headOf, nodeCells, edgeCells, faceCells}
-use Rattle.map.specs.Rows.{whole, hasNode, hasEdge, hasFace, lent}
-use Rattle.map.specs.Form.{numbers, inFace, edgeNames, named, ranged, formed, inForm}
+use Rattle.bounding_boxes.specs.declared.Extent.{Extent}
+use Rattle.map.specs.Rows.{Edge, Map, Lent, Sizes, mapOf, lentOf, lentWith, rectangle, sizesOf, headOf, nodeCells}
+use Rattle.map.specs.Rows.{edgeCells, hasNode, hasEdge, hasFace, lent}
+use Rattle.map.specs.Form.{numbers, inFace, edgeNames, named, formed}
 use Rattle.map.specs.Tickets.{Ticket}
 use Rattle.map.specs.Reasons.{firstReason, reasons, full, spent, roomReasons, noNode, noEdge}
 use Rattle.map.specs.Ticket.{carried}
 use Rattle.map.proofs.RoundTrip.{Ranged, ranged-is, whole-tables}
-use Rattle.map.proofs.Laws.{formed-is, in-form-back}
-use Rattle.map_rows.specs.Rows.{nodesOf, edgesOf, facesOf, edgeMap, NodeRows, EdgeRows, FaceRows}
+use Rattle.map.proofs.Laws.{formed-is, in-form-is, in-form-back}
+use Rattle.map_rows.specs.Rows.{nodesOf, edgesOf, facesOf, facesIn, edgeMap, NodeRows, EdgeRows, FaceRows}
 use Rattle.map_rows.proofs.Rows.{nodes-length, edges-length, faces-length}
 use Rattle.map_rows.proofs.RowCurves.{table-edges-wide}
 use Rattle.map_rows.proofs.Lookups.{node-missing, edge-missing}
 use Rattle.head.specs.Heads.{Counted, sizesIn, fullAt, spentAt, roomAt}
 use Rattle.outcomes.specs.declared.Done.{Done}
-use Rattle.outcomes.specs.Outcomes.{Formed, decided, outcome}
+use Rattle.outcomes.specs.Outcomes.{Formed, decided, edited, outcome}
 
 -- ---- tables in form
 
 module _ {nodes edges faces : List ℤ} {h : Head} (f : Formed nodes edges faces h) where
   pub ranges : Ranged (lent nodes edges faces h)
-  unfolding inForm
-  ranges = ranged-is (lent nodes edges faces h)
-      (and-left (ranged (lent nodes edges faces h)) (formed (mapOf (lent nodes edges faces h))) (f .in-form))
+  ranges = ranged-is (lent nodes edges faces h) (in-form-is (lent nodes edges faces h) (f .in-form) .ranged)
 
   pub formed-map : formed (mapOf (lent nodes edges faces h)) ≡ true
-  unfolding inForm
-  formed-map = and-right (ranged (lent nodes edges faces h)) (formed (mapOf (lent nodes edges faces h))) (f .in-form)
+  formed-map = in-form-is (lent nodes edges faces h) (f .in-form) .formed
 
   -- counts
   pub nodes-count : (h .nodes ≡ pos (natAbs (h .nodes))) × (0 ≤ natAbs (h .nodes))
@@ -212,22 +210,23 @@ module _ {nodes edges faces : List ℤ} {h : Head} (f : Formed nodes edges faces
   back = in-form-back (lent nodes edges faces h) (f .whole) (f .in-form)
 
   pub head-back : headOf (mapOf (lent nodes edges faces h)) ≡ h
-  unfolding lentOf
+  unfolding lentWith
   head-back = ap (λ (l : Lent). l .head) back
 
   pub nodes-filled : filled (length nodes / nodeWidth * nodeWidth)
       (flatMap nodeCells (nodesOf nodes (natAbs (h .nodes)))) ≡ nodes
-  unfolding lentOf mapOf
+  unfolding lentWith mapOf
   nodes-filled = ap (λ (l : Lent). l .nodes) back
 
   pub edges-filled : filled (length edges / edgeWidth * edgeWidth)
       (flatMap edgeCells (edgesOf edges (natAbs (h .edges)))) ≡ edges
-  unfolding lentOf mapOf
+  unfolding lentWith mapOf
   edges-filled = ap (λ (l : Lent). l .edges) back
 
-  pub faces-filled : filled (length faces / faceWidth * faceWidth)
-      (flatMap faceCells (facesOf faces (natAbs (h .faces)))) ≡ faces
-  unfolding lentOf mapOf
+  -- with the rectangles that the edges give
+  pub faces-filled : facesIn (length faces / faceWidth * faceWidth) (rectangle (edgesOf edges (natAbs (h .edges))))
+      (facesOf faces (natAbs (h .faces))) ≡ faces
+  unfolding lentWith mapOf
   faces-filled = ap (λ (l : Lent). l .faces) back
 
   pub edges-are-wide : Wide edgeWidth edgeCells (edgesOf edges (natAbs (h .edges)))
@@ -265,14 +264,14 @@ module _ {nodes edges faces : List ℤ} {h : Head} (f : Formed nodes edges faces
 
 -- ---- what is lent after an edit
 
-pub lent-is : (s : Sizes) (m : Map) {nodes edges faces : List ℤ} {h : Head}
+pub lent-is : (box : ℕ → Extent) (s : Sizes) (m : Map) {nodes edges faces : List ℤ} {h : Head}
     → filled (s .nodes * nodeWidth) (flatMap nodeCells (m .nodes)) ≡ nodes
     → filled (s .edges * edgeWidth) (flatMap edgeCells (m .edges)) ≡ edges
-    → filled (s .faces * faceWidth) (flatMap faceCells (m .faces)) ≡ faces
+    → facesIn (s .faces * faceWidth) box (m .faces) ≡ faces
     → headOf m ≡ h
-    → lentOf s m ≡ lent nodes edges faces h
-unfolding lentOf
-lent-is s m a b c d = λ i. record { nodes = a i; edges = b i; faces = c i; head = d i }
+    → lentWith box s m ≡ lent nodes edges faces h
+unfolding lentWith
+lent-is box s m a b c d = λ i. record { nodes = a i; edges = b i; faces = c i; head = d i }
 
 -- ---- what a call answers
 
@@ -300,3 +299,20 @@ module _ (nodes edges faces : List ℤ) (h : Head) (t : Ticket) where
       → carried (mapOf (lent nodes edges faces h)) t .1 ≡ v
       → outcome nodes′ edges′ faces′ d ≡ decided (lent nodes edges faces h) t
   decided-carried nodes′ edges′ faces′ h′ v e k l w = rw (k, e, l, w)
+
+  -- the same of an edit of rows, which leaves the rectangles
+  pub edited-refused : (r : ℕ) {d : Done} → 0 < r → d
+      ≡ record { head = h; answer = record { refusal = r; value = pos 0 } }
+      → firstReason (reasons (sizesOf (lent nodes edges faces h)) (mapOf (lent nodes edges faces h)) t) ≡ r
+      → outcome nodes edges faces d ≡ edited (lent nodes edges faces h) t
+  edited-refused zero some e k = absurd (omega arith)
+  edited-refused (suc r) some e k = rw (k, e)
+
+  pub edited-carried : (nodes′ edges′ faces′ : List ℤ) (h′ : Head) (v : ℤ) {d : Done} → d
+      ≡ record { head = h′; answer = record { refusal = 0; value = v } }
+      → firstReason (reasons (sizesOf (lent nodes edges faces h)) (mapOf (lent nodes edges faces h)) t) ≡ 0
+      → lentWith (rectangle (mapOf (lent nodes edges faces h) .edges)) (sizesOf (lent nodes edges faces h))
+      (carried (mapOf (lent nodes edges faces h)) t .0) ≡ lent nodes′ edges′ faces′ h′
+      → carried (mapOf (lent nodes edges faces h)) t .1 ≡ v
+      → outcome nodes′ edges′ faces′ d ≡ edited (lent nodes edges faces h) t
+  edited-carried nodes′ edges′ faces′ h′ v e k l w = rw (k, e, l, w)

@@ -2,17 +2,18 @@
 use mathlib.Core.Path.{_≡_}
 use mathlib.Core.Bool.{true}
 use mathlib.Core.List.{List}
-use Prim.Native.Nat.{ℕ}
+use Prim.Native.Nat.{ℕ, zero, suc}
 use lib.IntN.{ℤ}
 use Rattle.lists.specs.declared.Found.{Found}
 use Rattle.lists.specs.declared.Found.the-variants.{At, Missing}
 use Rattle.map.specs.declared.Answer.{Answer}
 use Rattle.map.specs.declared.Head.{Head}
-use Rattle.map.specs.Rows.{Lent, mapOf, sizesOf, whole, lent}
+use Rattle.bounding_boxes.specs.declared.Extent.{Extent}
+use Rattle.map.specs.Rows.{Map, Lent, mapOf, sizesOf, whole, lent, rectangle, lentWith}
 use Rattle.map.specs.Form.{inForm}
 use Rattle.map.specs.Tickets.{Ticket}
 use Rattle.map.specs.Reasons.{firstReason, reasons}
-use Rattle.map.specs.Ticket.{Outcome, unless, carried}
+use Rattle.map.specs.Ticket.{Outcome, refused, unless, carried}
 use Rattle.map.specs.Loans.{Table, lentNow}
 use Rattle.outcomes.specs.declared.Done.{Done}
 
@@ -28,6 +29,18 @@ reasonAgainst l t = firstReason (reasons (sizesOf l) (mapOf l) t)
 -- such a ticket: carried out unless a reason holds
 abbrev pub decided : Lent → Ticket → Outcome
 decided l t = unless l (reasonAgainst l t) (carried (mapOf l) t)
+
+-- carried out unless there is a reason against it, with these rectangles in the face rows
+abbrev pub unlessWith : (ℕ → Extent) → Lent → ℕ → Map × ℤ → Outcome
+unlessWith box l zero c = record {
+  lent = lentWith box (sizesOf l) (c .0);
+  answer = record { refusal = 0; value = c .1 };
+}
+unlessWith box l (suc r) c = refused l (suc r)
+
+-- as `decided`, with the rectangles still those of the edges before it: what the edits of rows leave
+abbrev pub edited : Lent → Ticket → Outcome
+edited l t = unlessWith (rectangle (mapOf l .edges)) l (reasonAgainst l t) (carried (mapOf l) t)
 
 -- what a call left and answered
 abbrev pub outcome : List ℤ → List ℤ → List ℤ → Done → Outcome

@@ -105,7 +105,7 @@ fn digit(b: u8) -> u64
 
 // Three digits from place j on.
 fn group_at(record: &[u8; RECORD], j: usize) -> u64
-    requires { ⌜ j + 3 ≤ 1985 ⌝ }
+    requires { ⌜ j + 3 ≤ 2241 ⌝ }
     ensures { λ r. ⌜ r ≤ 999 ⌝ }
 {
     (digit(record[j]) * BASE + digit(record[j + 1])) * BASE + digit(record[j + 2])
@@ -113,7 +113,7 @@ fn group_at(record: &[u8; RECORD], j: usize) -> u64
 
 // The seven digits after the sign at place j.
 fn magnitude_at(record: &[u8; RECORD], j: usize) -> u64
-    requires { ⌜ j + 8 ≤ 1985 ⌝ }
+    requires { ⌜ j + 8 ≤ 2241 ⌝ }
     ensures { λ r. ⌜ r ≤ 9999999 ⌝ }
 {
     let high = group_at(record, j + 1);
@@ -123,7 +123,7 @@ fn magnitude_at(record: &[u8; RECORD], j: usize) -> u64
 
 // The number at place j: a sign and seven digits.
 fn number_at(record: &[u8; RECORD], j: usize) -> i64
-    requires { ⌜ j + 8 ≤ 1985 ⌝ }
+    requires { ⌜ j + 8 ≤ 2241 ⌝ }
 {
     let m = magnitude_at(record, j);
     let v = m as i64;
@@ -132,7 +132,7 @@ fn number_at(record: &[u8; RECORD], j: usize) -> i64
 
 // Fills a table with the numbers from number `from` on.
 fn fill(record: &[u8; RECORD], from: usize, table: &mut [i64])
-    requires { ⌜ from + length (now table) ≤ 248 ⌝ }
+    requires { ⌜ from + length (now table) ≤ 280 ⌝ }
 {
     for i in 0..table.len() {
         table[i] = number_at(record, (from + i) * FIELD);
@@ -141,7 +141,7 @@ fn fill(record: &[u8; RECORD], from: usize, table: &mut [i64])
 
 // The number at place j as a length of at most `most`; a number below 0 counts as 0.
 fn length_at(record: &[u8; RECORD], j: usize, most: usize) -> usize
-    requires { ⌜ j + 8 ≤ 1985 ⌝ }
+    requires { ⌜ j + 8 ≤ 2241 ⌝ }
     ensures { λ r. ⌜ r ≤ most ⌝ }
 {
     if record[j] == b'-' {

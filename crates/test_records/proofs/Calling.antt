@@ -84,7 +84,7 @@ module _ {M : Type 1} (𝓤 : URA M) (H : Heap 𝓤) (A : Atoms 𝓤) (W : Given
       args-n γ₀ γ₁ γ₂ γ₃ γ₄,
       (
         sliceVal (lₙ, 0) 3 ∷ [],
-        (sliceVal (lₑ, 0) 64 ∷ [], (sliceVal (lₛ, 0) 3 ∷ [], (vptr lₕ 0 ∷ [], (sliceVal (lₜ, 0) 4 ∷ [], tt)))),
+        (sliceVal (lₑ, 0) 64 ∷ [], (sliceVal (lₛ, 0) 15 ∷ [], (vptr lₕ 0 ∷ [], (sliceVal (lₜ, 0) 4 ∷ [], tt)))),
       ),
     ),
     tt,
@@ -93,16 +93,16 @@ module _ {M : Type 1} (𝓤 : URA M) (H : Heap 𝓤) (A : Atoms 𝓤) (W : Given
   pub adds : {K : Type 0} {Γ : List (Item 𝓤)} → K → {C : Calls 𝓤 H} → FmC 𝓤 H (W .laws) C
       → {Λ : Loops 𝓤 H} {E : Env 𝓤 H} {q : Post 𝓤 H} {f : Name} {xs : List Operand} {d : Place} {rest : Body} →
       Triple 𝓤 (C f) (TicketOn 𝓤 H A at-mem run)
-      → ((i j : Item 𝓤) → Opds K W (i ∷ j ∷ Γ) E xs (sliceVal (lₙ, 0) 3 ∷ sliceVal (lₑ, 0) 64 ∷ sliceVal (lₛ, 0) 3 ∷
+      → ((i j : Item 𝓤) → Opds K W (i ∷ j ∷ Γ) E xs (sliceVal (lₙ, 0) 3 ∷ sliceVal (lₑ, 0) 64 ∷ sliceVal (lₛ, 0) 15 ∷
       vptr lₕ 0 ∷ sliceVal (lₜ, 0) 4 ∷ []))
       → ((r : Answer) (w : Val) (ns′ : List Node) (es′ : List ℤ) (ss′ : List ℤ) (h′ : Head) → Is B.the-row r (w ∷ [])
-      → Seq K W (‵ (Rows T.the-row 3 ns′ lₙ) ∷ ‵ (Rows i64 64 es′ lₑ) ∷ ‵ (Rows i64 3 ss′ lₛ) ∷ ‵ (partAt S.the-row
+      → Seq K W (‵ (Rows T.the-row 3 ns′ lₙ) ∷ ‵ (Rows i64 64 es′ lₑ) ∷ ‵ (Rows i64 15 ss′ lₛ) ∷ ‵ (partAt S.the-row
       fullShare h′ lₕ 0) ∷ ‵ (Rows i64 4 ticket lₜ) ∷ Γ) (lands C Λ E d w rest q))
-      → Seq K W (‵ (Rows T.the-row 3 ns lₙ) ∷ ‵ (Rows i64 64 es lₑ) ∷ ‵ (Rows i64 3 ss lₛ) ∷ ‵ (partAt S.the-row
+      → Seq K W (‵ (Rows T.the-row 3 ns lₙ) ∷ ‵ (Rows i64 64 es lₑ) ∷ ‵ (Rows i64 15 ss lₛ) ∷ ‵ (partAt S.the-row
       fullShare h lₕ 0) ∷ ‵ (Rows i64 4 ticket lₜ) ∷ Γ) (runs C Λ E (seq (call f xs d) rest) q)
   adds t fm known os k =
       lends-rows t tt T.the-row (named 0) 3 ns lₙ (lit< tt, lit< tt) (λ ν₀ γ₀. move t (3 ∷ []) $ lends-rows t tt
-      i64 (named 1) 64 es lₑ (lit< tt, lit< tt) (λ ν₁ γ₁. move t (6 ∷ []) $ lends-rows t tt i64 (named 2) 3 ss lₛ
+      i64 (named 1) 64 es lₑ (lit< tt, lit< tt) (λ ν₁ γ₁. move t (6 ∷ []) $ lends-rows t tt i64 (named 2) 15 ss lₛ
       (lit< tt, lit< tt) (λ ν₂ γ₂. move t (9 ∷ []) $ lends-one t tt S.the-row (named 3) h lₕ (λ ν₃ γ₃. move t (12 ∷
       []) $ lends-front t tt i64 (named 4) 4 ticket lₜ (lit< tt, lit< tt) (λ ν₄ γ₄. nothing t $ move t (3 ∷ 0 ∷ [])
       $ join t $ move t (5 ∷ 0 ∷ []) $ join t $ move t (7 ∷ 0 ∷ []) $ join t $ move t (9 ∷ 0 ∷ []) $ join t $ move
@@ -159,7 +159,7 @@ module _ {M : Type 1} (𝓤 : URA M) (H : Heap 𝓤) (A : Atoms 𝓤) (W : Given
         sliceVal (lₙ, 0) 3 ∷ [],
         (
           sliceVal (lₑ, 0) 64 ∷ [],
-          (sliceVal (lₛ, 0) 3 ∷ [], (vptr lₕ 0 ∷ [], (num number ∷ [], (num x ∷ [], (num y ∷ [], tt))))),
+          (sliceVal (lₛ, 0) 15 ∷ [], (vptr lₕ 0 ∷ [], (num number ∷ [], (num x ∷ [], (num y ∷ [], tt))))),
         ),
       ),
     ),
@@ -169,16 +169,16 @@ module _ {M : Type 1} (𝓤 : URA M) (H : Heap 𝓤) (A : Atoms 𝓤) (W : Given
   pub moves : {K : Type 0} {Γ : List (Item 𝓤)} → K → {C : Calls 𝓤 H} → FmC 𝓤 H (W .laws) C
       → {Λ : Loops 𝓤 H} {E : Env 𝓤 H} {q : Post 𝓤 H} {f : Name} {xs : List Operand} {d : Place} {rest : Body} →
       Triple 𝓤 (C f) (MoveNode 𝓤 H A at-mem run)
-      → ((i j : Item 𝓤) → Opds K W (i ∷ j ∷ Γ) E xs (sliceVal (lₙ, 0) 3 ∷ sliceVal (lₑ, 0) 64 ∷ sliceVal (lₛ, 0) 3 ∷
+      → ((i j : Item 𝓤) → Opds K W (i ∷ j ∷ Γ) E xs (sliceVal (lₙ, 0) 3 ∷ sliceVal (lₑ, 0) 64 ∷ sliceVal (lₛ, 0) 15 ∷
       vptr lₕ 0 ∷ num number ∷ num x ∷ num y ∷ []))
       → ((r : Answer) (w : Val) (ns′ : List Node) (es′ : List ℤ) (ss′ : List ℤ) → Is B.the-row r (w ∷ [])
-      → Seq K W (‵ (Rows T.the-row 3 ns′ lₙ) ∷ ‵ (Rows i64 64 es′ lₑ) ∷ ‵ (Rows i64 3 ss′ lₛ) ∷ ‵ (partAt S.the-row
+      → Seq K W (‵ (Rows T.the-row 3 ns′ lₙ) ∷ ‵ (Rows i64 64 es′ lₑ) ∷ ‵ (Rows i64 15 ss′ lₛ) ∷ ‵ (partAt S.the-row
       fullShare h lₕ 0) ∷ Γ) (lands C Λ E d w rest q))
-      → Seq K W (‵ (Rows T.the-row 3 ns lₙ) ∷ ‵ (Rows i64 64 es lₑ) ∷ ‵ (Rows i64 3 ss lₛ) ∷ ‵ (partAt S.the-row
+      → Seq K W (‵ (Rows T.the-row 3 ns lₙ) ∷ ‵ (Rows i64 64 es lₑ) ∷ ‵ (Rows i64 15 ss lₛ) ∷ ‵ (partAt S.the-row
       fullShare h lₕ 0) ∷ Γ) (runs C Λ E (seq (call f xs d) rest) q)
   moves t fm known os k =
       lends-rows t tt T.the-row (named 0) 3 ns lₙ (lit< tt, lit< tt) (λ ν₀ γ₀. move t (3 ∷ []) $ lends-rows t tt
-      i64 (named 1) 64 es lₑ (lit< tt, lit< tt) (λ ν₁ γ₁. move t (6 ∷ []) $ lends-rows t tt i64 (named 2) 3 ss lₛ
+      i64 (named 1) 64 es lₑ (lit< tt, lit< tt) (λ ν₁ γ₁. move t (6 ∷ []) $ lends-rows t tt i64 (named 2) 15 ss lₛ
       (lit< tt, lit< tt) (λ ν₂ γ₂. move t (9 ∷ []) $ lends-view t tt S.the-row (named 3) h lₕ (λ ν₃ γ₃. nothing t $
       move t (3 ∷ 0 ∷ []) $ join t $ move t (5 ∷ 0 ∷ []) $ join t $ move t (7 ∷ 0 ∷ []) $ join t $ move t (9 ∷ 0 ∷
       []) $ join t $ nothing t $ nothing t $ owned t i64 (Is i64) (sint-makes 𝓤 H A W w64) y _ (refl, gy) $ fjoin t

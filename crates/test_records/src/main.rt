@@ -5,6 +5,9 @@ use map::Answer;
 use map::Head;
 use records::Node;
 
+// Three face rows.
+const FACE_CELLS: usize = 3 * map::FACE_WIDTH;
+
 const NO_NODE: Node = Node {
     number: 0,
     x: 0,
@@ -93,7 +96,7 @@ fn put_found(f: Found) {
 fn main() {
     let mut nodes = [NO_NODE; 3];
     let mut edges = [0i64; 64];
-    let mut faces = [0i64; 3];
+    let mut faces = [0i64; FACE_CELLS];
     let mut head = EMPTY;
     let t = [1, -1, 4, 5];
     put_answer(records::ticket_on(&mut nodes, &mut edges, &mut faces, &mut head, &t));

@@ -7,11 +7,12 @@ use borrow.Author.Tests.{not-true, not-false}
 use mir.Syntax.{w64}
 use mir.Facts.{toZ-ofZ}
 use Rattle.integers.specs.Signs.{sent}
-use Rattle.outcomes.proofs.Formed.{decided-refused, decided-carried}
+use Rattle.outcomes.proofs.Formed.{edited-refused, edited-carried}
 use Rattle.outcomes.specs.Variants.{addTicket}
 use Rattle.reason_edges.proofs.Adding.{JudgedAdd}
 use Rattle.edit_add.proofs.Added.{judged-told, add-value, add-drawable, drawn-splittable, joined-lent}
 use Rattle.edit_add.proofs.Added.{parted-lent}
+use Rattle.edit_add.proofs.Drawn.{drawn-table, drawn-unboxed}
 use Rattle.edit_add.proofs.add_edge.Statement.{statement}
 use Rattle.edit_add.proofs.add_edge.Tie as tie
 
@@ -30,7 +31,7 @@ refused c =
     let s = l .before .before .before .before in
     let a = s .args in
     let j = judged l in
-    decided-refused (a .nodes .now) (a .edges .now) (a .faces .now) (a .h)
+    edited-refused (a .nodes .now) (a .edges .now) (a .faces .now) (a .h)
     (addTicket (a .how) (a .start) (a .end) (a .c .now)) (l .judge-add .result .reason)
     (let d = c .before .if1 .taken in omega arith) (c .refused .ensures) (sym (j .reason))
 
@@ -53,7 +54,7 @@ joined c =
     let a = s .args in
     let j = judged l in
     let face = sent (n .struct-told2 .given .1 .1 .1 .0 .1) in
-    decided-carried (a .nodes .now) (a .edges .now) (a .faces .now) (a .h)
+    edited-carried (a .nodes .now) (a .edges .now) (a .faces .now) (a .h)
     (addTicket (a .how) (a .start) (a .end) (a .c .now)) (d .draw .last .0) (d .draw .last .1 .0) (a .faces .now)
     (d .draw .result) _ (c .carried .ensures)
     (sym (j .reason) ∙ e .if1 .left)
@@ -84,12 +85,13 @@ parted c =
     let a = s .args in
     let j = judged l in
     let face = sent (n .struct-told2 .given .1 .1 .1 .0 .1) in
-    decided-carried (a .nodes .now) (a .edges .now) (a .faces .now) (a .h)
+    edited-carried (a .nodes .now) (a .edges .now) (a .faces .now) (a .h)
     (addTicket (a .how) (a .start) (a .end) (a .c .now)) (p .split-face .last .0) (p .split-face .last .1 .0)
     (p .split-face .last .1 .1 .0) (p .split-face .result) _ (c .carried2 .ensures)
     (sym (j .reason) ∙ e .if1 .left)
     (parted-lent (s .pre) j (e .if1 .left) face (d .draw .ensures)
-    (not-false (l .judge-add .result .splits) (p .before .before .before .before .if2 .left)) (p .split-face .ensures))
+    (not-false (l .judge-add .result .splits) (p .before .before .before .before .if2 .left))
+    (p .split-face .ensures _ (drawn-unboxed (s .pre) (d .draw .ensures)) (drawn-table (s .pre) (d .draw .ensures))))
     (add-value (s .pre) (a .how) (a .start) (a .end) (a .c .now))
 
 pub add-edge-spec : {M : Type 1} → statement M

@@ -8,7 +8,7 @@ use Rattle.curves.specs.Curves.{Run}
 use Rattle.map.specs.Tickets.{ChangeEdgeGeom}
 use Rattle.map_rows.specs.Rows.{edgeAt}
 use Rattle.map_rows.proofs.Rows.{edge-row-of}
-use Rattle.outcomes.proofs.Formed.{edge-rows, decided-refused, decided-carried}
+use Rattle.outcomes.proofs.Formed.{edge-rows, edited-refused, edited-carried}
 use Rattle.edit_curve.proofs.ChangeReasons.{change-run}
 use Rattle.edit_curve.proofs.Changed.{change-reasons, change-lent, change-value}
 use Rattle.edit_curve.proofs.change_between.Statement.{statement}
@@ -18,7 +18,7 @@ refused : tie.Need-returns
 refused c =
     let g = c .before .before in
     let a = g .before .before .args in
-    decided-refused (a .nodes .now) (a .edges .now) (a .faces .now) (a .h)
+    edited-refused (a .nodes .now) (a .edges .now) (a .faces .now) (a .h)
     (ChangeEdgeGeom (pos (edgeAt (a .edges .now) (a .i) .number)) (a .c .now)) (g .redraw-reason .result)
     (let z = c .before .if1 .taken in omega arith) (c .refused .ensures) (sym (g .redraw-reason .ensures))
 
@@ -44,7 +44,7 @@ written c =
     let g = c .before .before .before .before .before in
     let s = g .before .before in
     let a = s .args in
-    decided-carried (a .nodes .now) (a .edges .now) (a .faces .now) (a .h)
+    edited-carried (a .nodes .now) (a .edges .now) (a .faces .now) (a .h)
     (ChangeEdgeGeom (pos (edgeAt (a .edges .now) (a .i) .number)) (a .c .now)) (a .nodes .now) (w .last .0)
     (a .faces .now) (a .h) (pos 0) (c .carried .ensures) (sym (g .redraw-reason .ensures) ∙ none)
     (change-lent (s .pre .0) (a .c .now) (a .i) (s .pre .1) (run g none) (w .ensures)) (change-value _ _ _)

@@ -13,8 +13,8 @@ use Rattle.map.specs.Rows.{lent}
 use Rattle.map.specs.Tickets.{ChangeEdgeGeom}
 use Rattle.tables.specs.Tables.{sameZ, column}
 use Rattle.map_rows.proofs.Rows.{edge-rows-rising}
-use Rattle.outcomes.specs.Outcomes.{decided}
-use Rattle.outcomes.proofs.Formed.{counted, edge-rows, decided-refused}
+use Rattle.outcomes.specs.Outcomes.{edited}
+use Rattle.outcomes.proofs.Formed.{counted, edge-rows, edited-refused}
 use Rattle.outcomes.proofs.Words.{place-told}
 use Rattle.head.proofs.Words.{edges-natural, edges-read}
 use Rattle.outcomes.proofs.FoundRows.{edge-in, edge-number}
@@ -32,7 +32,7 @@ missing c =
     let m = c .before .before .before in
     let s = m .before .before .before .before in
     let a = s .args in
-    decided-refused (a .nodes .now) (a .edges .now) (a .faces .now) (a .h) (ChangeEdgeGeom (a .edge) (a .c .now))
+    edited-refused (a .nodes .now) (a .edges .now) (a .faces .now) (a .h) (ChangeEdgeGeom (a .edge) (a .c .now))
     4 (lit< tt) (c .refused .ensures)
     (change-missing (s .pre) (a .c .now) (a .edge) (place-told edgeWidth (a .edges .now)
     (edges-read (counted (s .pre)) (m .before .before .to-usize .ensures)) (toZ-ofZ {w = w64} (s .fits .edge))
@@ -59,7 +59,7 @@ found c =
     let s = d .before .before .before .before .before .before in
     let a = s .args in
     c .before .change-at-row .ensures
-    ∙ ap (λ (z : ℤ). decided (lent (a .nodes .now) (a .edges .now) (a .faces .now) (a .h))
+    ∙ ap (λ (z : ℤ). edited (lent (a .nodes .now) (a .edges .now) (a .faces .now) (a .h))
     (ChangeEdgeGeom z (a .c .now)))
     (sym (edge-number (s .pre) (a .edge) (d .found .given .0 .0) (edge-at d)))
 

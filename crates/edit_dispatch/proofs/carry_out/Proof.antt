@@ -1,176 +1,155 @@
--- `edit_dispatch::carry_out` meets its contract: each arm answers as its routine's numbers are read. Assumes nothing.
+-- `edit_dispatch::carry_out` meets its contract: a ticket that is turned down leaves all as it was, and after one that
+-- is carried out the rectangles that it affects are set. Assumes nothing.
 use borrow.Author.Needs.{needs}
-use mathlib.Core.Path.{_≡_, sym, ap, _∙_}
-use mathlib.Core.Bool.{true}
-use mathlib.Core.List.{List}
-use mathlib.Core.Option.{some}
-use Prim.Native.Nat.{ℕ, _-_}
-use native.Mathlib.Omega.{arith}
-use lib.IntN.{ℤ}
+use mathlib.Core.Path.{_≡_, sym, ap, _∙_, subst}
+use mathlib.Core.Option.{Option}
+use lib.IntN.{natAbs}
 use lib.ListN.{length, drop}
-use borrow.Rule.Slice.PartAt.{part-to-end}
-use Rattle.integers.specs.Signs.{sent}
-use Rattle.map.specs.Rows.{Lent, lent}
-use Rattle.map.specs.Tickets.{Ticket, AddIsoNode, MoveIsoNode, RemoveIsoNode, AddIsoEdge, RemoveIsoEdge, ChangeEdgeGeom}
+use Rattle.map.specs.Rows.{Lent, lent, rectangle}
+use Rattle.map.specs.Tickets.{Ticket}
 use Rattle.map.specs.Ticket.{Outcome}
-use Rattle.outcomes.specs.Outcomes.{decided}
-use Rattle.outcomes.specs.Variants.{splitTicket, healTicket, addTicket, removeTicket}
-use Rattle.edit_dispatch.specs.declared.Routine.{Routine}
-use Rattle.edit_dispatch.specs.Shaped.{shaped, kindFor, countFits, readFor}
-use Rattle.edit_dispatch.proofs.Counts.{Pairs, so-many, pairs-fit}
-use Rattle.edit_dispatch.proofs.Counts.{one-read, two-read, three-read, one-curve-read, two-curve-read}
-use Rattle.edit_dispatch.proofs.Reading.{shaped-none}
+use Rattle.map_rows.specs.Rows.{edgesOf}
+use Rattle.head.proofs.Words.{edges-natural, edges-read}
+use Rattle.outcomes.specs.Outcomes.{Formed, outcome}
+use Rattle.outcomes.proofs.Formed.{counted, edge-rows}
+use Rattle.edit_rectangles.specs.declared.Affected.{Affected}
+use Rattle.edit_rectangles.specs.FacePairs.{affectedBefore, affectedAfter, AreFaces, setFour}
+use Rattle.edit_rectangles.proofs.Covers.{namedEdges, draws, namedPairs}
+use Rattle.edit_rectangles.proofs.Settled as settling
+use Rattle.edit_dispatch.specs.Shaped.{shaped, shapedRows, readFor}
+use Rattle.edit_dispatch.proofs.Counts.{named-fit}
+use Rattle.edit_dispatch.proofs.Affected.{says, turned-down, CarriedOut, carried-out, decided-zero}
 use Rattle.edit_dispatch.proofs.carry_out.Statement.{statement}
 use Rattle.edit_dispatch.proofs.carry_out.Tie as tie
 
-abbrev ticketAt : tie.Start → List ℤ
-ticketAt s = s .args .t .now
+-- ---- after the rows are edited
 
-abbrev count : tie.Start → ℕ
-count s = length (ticketAt s)
+abbrev start : tie.After-edit-rows → tie.Start
+start c = c .before .before .before .before .before .before .before .before .before
 
-abbrev lentAt : tie.Start → Lent
-lentAt s = let a = s .args in lent (a .nodes .now) (a .edges .now) (a .faces .now) (a .h)
+abbrev formed : (c : tie.After-edit-rows) → let a = start c .args in
+    Formed (a .nodes .now) (a .edges .now) (a .faces .now) (a .h)
+formed c = start c .pre .0
 
-module _ (s : tie.Start) {r : Routine} (e : s .args .routine ≡ r) where
-  -- the count is the routine's
-  held : countFits (kindFor r) (count s - 1) ≡ true
-  held = ap (λ (q : Routine). countFits (kindFor q) (count s - 1)) (sym e) ∙ s .pre .1
+abbrev was : tie.After-edit-rows → Lent
+was c = let a = start c .args in lent (a .nodes .now) (a .edges .now) (a .faces .now) (a .h)
 
-  -- the edit is that of what is read
-  answered : {o : Outcome} {k : Ticket} → o ≡ decided (lentAt s) k → some k ≡ readFor r (drop 1 (ticketAt s))
-      → o ≡ shaped (lentAt s) (readFor (s .args .routine) (drop 1 (ticketAt s)))
-  answered eo ek = eo ∙ ap (shaped (lentAt s)) (ek ∙ ap (λ (q : Routine). readFor q (drop 1 (ticketAt s))) (sym e))
+abbrev asked : tie.After-edit-rows → Option Ticket
+asked c = let a = start c .args in readFor (a .routine) (drop 1 (a .t .now))
 
--- ---- how many numbers there are in each arm
+abbrev left : tie.After-edit-rows → Outcome
+left c = let x = c .edit-rows in outcome (x .last .0) (x .last .1 .0) (x .last .1 .1 .0) (x .result)
 
-add-node : (c : tie.After-enum-told) → count (c .before .before) ≡ 4
-add-node c = let s = c .before .before in so-many (count s) 2 (held s (c .enum-told .given .1))
+rows : (c : tie.After-edit-rows) → left c ≡ shapedRows (was c) (asked c)
+rows c = c .edit-rows .ensures
 
-move-node : (c : tie.After-enum-told2) → count (c .before .before) ≡ 4
-move-node c = let s = c .before .before in so-many (count s) 2 (held s (c .enum-told2 .given .1))
+to-usize-requires : tie.Need-to-usize-requires
+to-usize-requires c κs = edges-natural (counted (c .before .pre .0))
 
-remove-node : (c : tie.After-enum-told3) → count (c .before .before) ≡ 2
-remove-node c = let s = c .before .before in so-many (count s) 0 (held s (c .enum-told3 .given .1))
+affected-before-requires : tie.Need-affected-before-requires
+affected-before-requires c κs =
+    let s = c .before .before .before .before in (
+      rw (edges-read (counted (s .pre .0)) (c .before .before .to-usize .ensures)) (edge-rows (s .pre .0)),
+      rw (c .edges-named .ensures) (named-fit (s .args .routine) (length (s .args .t .now)) (s .pre .2) (s .pre .1)),
+    )
 
-add-isolated-edge : (c : tie.After-enum-told4) → Pairs 2 (count (c .before .before) - 1)
-add-isolated-edge c = let s = c .before .before in pairs-fit _ 2 (held s (c .enum-told4 .given .1))
+returns : tie.Need-returns
+returns c = let e = c .before .before .before .before in
+    turned-down (was e) (left e) (asked e) (rows e) (c .if1 .taken)
 
-remove-isolated-edge : (c : tie.After-enum-told5) → count (c .before .before) ≡ 2
-remove-isolated-edge c = let s = c .before .before in so-many (count s) 0 (held s (c .enum-told5 .given .1))
+-- ---- a ticket that is carried out
 
-change-curve : (c : tie.After-enum-told6) → Pairs 1 (count (c .before .before) - 1)
-change-curve c = let s = c .before .before in pairs-fit _ 1 (held s (c .enum-told6 .given .1))
+abbrev edited : tie.Else1 → tie.After-edit-rows
+edited c = c .before .before .before .before
 
-split-edge : (c : tie.After-known-told) → count (c .before .before .before) ≡ 4
-split-edge c = let s = c .before .before .before in so-many (count s) 2 (held s (c .before .routine .given .1))
+done : (c : tie.Else1) → let e = edited c in CarriedOut (was e) (left e) (asked e)
+done c = let e = edited c in carried-out (was e) (left e) (asked e) (rows e) (c .if1 .left)
 
-heal-edges : (c : tie.After-known-told2) → count (c .before .before .before) ≡ 3
-heal-edges c = let s = c .before .before .before in so-many (count s) 1 (held s (c .before .routine2 .given .1))
+affected-after-requires : tie.Need-affected-after-requires
+affected-after-requires c κs =
+    let b = c .before .before .before in
+    let d = done b in
+    let f = formed (edited b) in (
+      settling.edges-natural f (d .ticket) (d .none) (d .lent),
+      settling.edges-in f (d .ticket) (d .none) (d .lent),
+    )
 
-add-edge : (c : tie.After-known-told3) → Pairs 2 (count (c .before .before .before) - 1)
-add-edge c = let s = c .before .before .before in pairs-fit _ 2 (held s (c .before .routine3 .given .1))
+-- the faces whose rectangles are set are those of the ticket
+abbrev carried : tie.After-affected-after → tie.Else1
+carried c = c .before .before .before .before
 
-remove-edge : (c : tie.After-known-told4) → count (c .before .before .before) ≡ 2
-remove-edge c = let s = c .before .before .before in so-many (count s) 0 (held s (c .before .routine4 .given .1))
+faces-set : (c : tie.After-affected-after) → let b = carried c in
+    let e = edited b in
+    let a = start e .args in
+    let k = done b .ticket in
+    c .affected-after .result
+    ≡ affectedAfter (draws k) (e .edit-rows .last .1 .0) (a .h) (e .edit-rows .result .head)
+    (namedPairs (a .edges .now) (natAbs (a .h .edges)) (namedEdges k))
+faces-set c =
+    let b = carried c in
+    let e = edited b in
+    let s = start e in
+    let a = s .args in
+    let k = done b .ticket in
+    let n = natAbs (a .h .edges) in
+    let said = says (a .edges .now) n (a .routine) (a .t .now) k (done b .reads) in
+    let before = e .before .before .before .before in
+    let named = before .before in
+    c .affected-after .ensures
+    ∙ (λ i. affectedAfter ((c .before .draws-edge .ensures ∙ sym (said .draws)) i) (e .edit-rows .last .1 .0) (a .h)
+    (e .edit-rows .result .head)
+    ((before .affected-before .ensures
+    ∙ (λ j. affectedBefore (named .edges-named .ensures j) (a .edges .now)
+    (edges-read (counted (s .pre .0)) (named .before .before .to-usize .ensures) j) (a .t .now))
+    ∙ sym (said .named)) i))
 
--- ---- the arms
+set-affected-requires : tie.Need-set-affected-requires
+set-affected-requires c κs =
+    let b = carried (c .before .before) in
+    let e = edited b in
+    let d = done b in
+    let f = formed e in
+    let a = start e .args in (
+      settling.edges-natural f (d .ticket) (d .none) (d .lent),
+      settling.faces-natural f (d .ticket) (d .none) (d .lent),
+      settling.edges-in f (d .ticket) (d .none) (d .lent),
+      settling.faces-fit f (d .ticket) (d .none) (d .lent),
+      subst AreFaces (sym (faces-set (c .before .before)))
+          (settling.after-faces (draws (d .ticket)) (e .edit-rows .last .1 .0) (a .h) (e .edit-rows .result .head)
+          (namedPairs (a .edges .now) (natAbs (a .h .edges)) (namedEdges (d .ticket)))
+          (settling.named-faces (a .edges .now) (natAbs (a .h .edges)) (namedEdges (d .ticket)))
+          (counted f .next-face .natural)),
+    )
+
+returns-2 : tie.Need-returns-2
+returns-2 c =
+    let x = c .before in
+    let z = x .before .before .before in
+    let b = carried z in
+    let e = edited b in
+    let d = done b in
+    let f = formed e in
+    let k = d .ticket in
+    let l = was e in
+    let new = rectangle (edgesOf (e .edit-rows .last .1 .0) (natAbs (e .edit-rows .result .head .edges))) in
+    let set = x .set-affected .ensures
+    ∙ ap (λ (a : Affected). setFour (natAbs (e .edit-rows .result .head .faces)) new a (e .edit-rows .last .1 .1 .0))
+    (faces-set z) in
+    (λ i. record { lent = sym (settling.settled f k (d .none) (d .lent) set) i; answer = d .answer i })
+    ∙ sym (decided-zero l k (d .none)) ∙ sym (ap (shaped l) (d .reads))
 
 pub carry-out-spec : {M : Type 1} → statement M
 carry-out-spec =
     tie.close
     (tie.spec
-    (λ c. search needs) (λ c. omega (arith, add-node (c .before .before .before)))
-    (λ c. omega (arith, add-node (c .before .before .before .before)))
-    (λ c. omega (arith, add-node (c .before .before .before .before .before))) (λ c κs. search needs)
-    (λ c. search needs) (λ c. omega (arith, move-node (c .before .before .before)))
-    (λ c. omega (arith, move-node (c .before .before .before .before)))
-    (λ c. omega (arith, move-node (c .before .before .before .before .before))) (λ c κs. search needs)
-    (λ c. search needs) (λ c. omega (arith, remove-node (c .before .before .before))) (λ c κs. search needs)
-    (λ c. search needs) (λ c. omega (arith, add-isolated-edge (c .before .before .before)))
-    (λ c. omega (arith, add-isolated-edge (c .before .before .before .before)))
-    (λ c. omega (arith, add-isolated-edge (c .before .before .before .before .before)))
-    (λ c. omega (arith, add-isolated-edge (c .before .before .before .before .before))) (λ c. search needs)
-    (λ c κs. search needs) (λ c. search needs) (λ c. omega (arith, remove-isolated-edge (c .before .before .before)))
-    (λ c κs. search needs) (λ c. search needs) (λ c. omega (arith, change-curve (c .before .before .before)))
-    (λ c. omega (arith, change-curve (c .before .before .before .before)))
-    (λ c. omega (arith, change-curve (c .before .before .before .before))) (λ c. search needs) (λ c κs. search needs)
-    (λ c. search needs) (λ c. omega (arith, split-edge (c .before .before .before)))
-    (λ c. omega (arith, split-edge (c .before .before .before .before)))
-    (λ c. omega (arith, split-edge (c .before .before .before .before .before))) (λ c κs. search needs)
-    (λ c. search needs) (λ c. omega (arith, heal-edges (c .before .before .before)))
-    (λ c. omega (arith, heal-edges (c .before .before .before .before))) (λ c κs. search needs) (λ c. search needs)
-    (λ c. omega (arith, add-edge (c .before .before .before)))
-    (λ c. omega (arith, add-edge (c .before .before .before .before)))
-    (λ c. omega (arith, add-edge (c .before .before .before .before .before)))
-    (λ c. omega (arith, add-edge (c .before .before .before .before .before))) (λ c. search needs)
-    (λ c κs. search needs) (λ c. search needs) (λ c. omega (arith, remove-edge (c .before .before .before)))
-    (λ c κs. search needs) (λ c. search needs) (λ c κs. search needs)
+    to-usize-requires
+    (λ c κs. search needs)
+    affected-before-requires
+    (λ c κs. search needs)
     (λ c. search needs) (λ c. search needs) (λ c. search needs)
-    (λ c. let e = c .before .before .before .before .before .before .before .before in
-    let s = e .before .before in answered s (e .enum-told .given .1)
-    (c .before .add-node .ensures)
-    (three-read AddIsoNode (ticketAt s) (add-node e) (sent (c .before .before .before .before .add-node-arg4 .given))
-    (sent (c .before .before .before .add-node-arg5 .given)) (sent (c .before .before .add-node-arg6 .given))))
+    returns
+    (λ c κs. search needs)
+    affected-after-requires
+    set-affected-requires
     (λ c. search needs) (λ c. search needs) (λ c. search needs)
-    (λ c. let e = c .before .before .before .before .before .before .before .before in
-    let s = e .before .before in answered s (e .enum-told2 .given .1)
-    (c .before .move-node .ensures)
-    (three-read MoveIsoNode (ticketAt s) (move-node e)
-    (sent (c .before .before .before .before .move-node-arg4 .given))
-    (sent (c .before .before .before .move-node-arg5 .given)) (sent (c .before .before .move-node-arg6 .given))))
-    (λ c. search needs) (λ c. search needs) (λ c. search needs)
-    (λ c. let e = c .before .before .before .before .before .before in
-    let s = e .before .before in answered s (e .enum-told3 .given .1)
-    (c .before .remove-node .ensures)
-    (one-read RemoveIsoNode (ticketAt s) (remove-node e) (sent (c .before .before .remove-node-arg4 .given))))
-    (λ c. search needs) (λ c. search needs) (λ c. search needs)
-    (λ c. let e = c .before .before .before .before .before .before .before .before .before in
-    let s = e .before .before in answered s (e .enum-told4 .given .1)
-    (c .before .before .add-isolated-edge .ensures)
-    (two-curve-read AddIsoEdge (ticketAt s) (add-isolated-edge e)
-    (sent (c .before .before .before .before .before .add-isolated-edge-arg4 .given))
-    (sent (c .before .before .before .before .add-isolated-edge-arg5 .given)) (part-to-end (ticketAt s) 3)))
-    (λ c. search needs) (λ c. search needs) (λ c. search needs)
-    (λ c. let e = c .before .before .before .before .before .before .before in
-    let s = e .before .before in answered s (e .enum-told5 .given .1)
-    (c .before .before .remove-isolated-edge .ensures)
-    (one-read RemoveIsoEdge (ticketAt s) (remove-isolated-edge e)
-    (sent (c .before .before .before .remove-isolated-edge-arg4 .given))))
-    (λ c. search needs) (λ c. search needs) (λ c. search needs)
-    (λ c. let e = c .before .before .before .before .before .before .before in
-    let s = e .before .before in answered s (e .enum-told6 .given .1)
-    (c .before .change-curve .ensures)
-    (one-curve-read ChangeEdgeGeom (ticketAt s) (change-curve e)
-    (sent (c .before .before .before .change-curve-arg4 .given)) (part-to-end (ticketAt s) 2)))
-    (λ c. search needs) (λ c. search needs) (λ c. search needs)
-    (λ c. let e = c .before .before .before .before .before .before .before .before .before in
-    let s = e .before .before .before in answered s (e .before .routine .given .1)
-    (c .before .before .split-edge .ensures)
-    (three-read (splitTicket (e .before .routine .given .0 .0)) (ticketAt s) (split-edge e)
-    (sent (c .before .before .before .before .before .split-edge-arg4 .given))
-    (sent (c .before .before .before .before .split-edge-arg5 .given))
-    (sent (c .before .before .before .split-edge-arg6 .given))))
-    (λ c. search needs) (λ c. search needs) (λ c. search needs)
-    (λ c. let e = c .before .before .before .before .before .before .before .before in
-    let s = e .before .before .before in answered s (e .before .routine2 .given .1)
-    (c .before .before .heal-edges .ensures)
-    (two-read (healTicket (e .before .routine2 .given .0 .0)) (ticketAt s) (heal-edges e)
-    (sent (c .before .before .before .before .heal-edges-arg4 .given))
-    (sent (c .before .before .before .heal-edges-arg5 .given))))
-    (λ c. search needs) (λ c. search needs) (λ c. search needs)
-    (λ c. let e = c .before .before .before .before .before .before .before .before .before .before in
-    let s = e .before .before .before in answered s (e .before .routine3 .given .1)
-    (c .before .before .before .add-edge .ensures)
-    (two-curve-read (addTicket (e .before .routine3 .given .0 .0)) (ticketAt s) (add-edge e)
-    (sent (c .before .before .before .before .before .before .add-edge-arg4 .given))
-    (sent (c .before .before .before .before .before .add-edge-arg5 .given)) (part-to-end (ticketAt s) 3)))
-    (λ c. search needs) (λ c. search needs) (λ c. search needs)
-    (λ c. let e = c .before .before .before .before .before .before .before .before in
-    let s = e .before .before .before in answered s (e .before .routine4 .given .1)
-    (c .before .before .before .remove-edge .ensures)
-    (one-read (removeTicket (e .before .routine4 .given .0 .0)) (ticketAt s) (remove-edge e)
-    (sent (c .before .before .before .before .remove-edge-arg4 .given))))
-    (λ c. let e = c .before in
-    shaped-none _ _ _ _ (c .refused .ensures)
-    (ap (λ (q : Routine). readFor q (drop 1 (ticketAt (e .before .before)))) (e .enum-told7 .given .1))))
+    returns-2)

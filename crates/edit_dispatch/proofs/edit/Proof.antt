@@ -71,6 +71,7 @@ carry-out-requires c κs =
       s .pre,
       ap (λ (q : Kind). countFits (kindFor (q .routine)) (count s)) (kind (n .before))
           ∙ fits n (not-false _ (l .if2 .left)),
+      omega arith,
     )
 
 pub edit-spec : {M : Type 1} → statement M

@@ -13,7 +13,7 @@ use Rattle.map.specs.Reasons.{firstReason}
 use Rattle.map_rows.specs.Rows.{edgeAt, edgeMap}
 use Rattle.map_rows.proofs.Rows.{edge-row-of}
 use Rattle.reason_departures.specs.Turning.{jointReasons}
-use Rattle.outcomes.proofs.Formed.{node-rows, edge-rows, counted, decided-refused, decided-carried}
+use Rattle.outcomes.proofs.Formed.{node-rows, edge-rows, counted, edited-refused, edited-carried}
 use Rattle.head.proofs.Words.{edges-natural, edges-read}
 use Rattle.outcomes.specs.Variants.{ownOrNext}
 use Rattle.edit_heal.specs.Heals.{PartsOf, lateReasons, healedValue, healedRows}
@@ -79,7 +79,7 @@ refused-early c =
     let s = r .before .before .before .before in
     let a = s .args in
     let some : 0 < r .joint-reason .result = omega (arith, c .before .if1 .taken) in
-    decided-refused _ _ _ _ _ _ some (c .refused .ensures)
+    edited-refused _ _ _ _ _ _ some (c .refused .ensures)
     (early-reason (s .pre .0) (a .how) (a .i) (a .j) (s .pre .1) (s .pre .2) _ some (early r))
 
 parts-of-requires : tie.Need-parts-of-requires
@@ -110,7 +110,7 @@ refused-late c =
     let k = w .before .before .before .before .before in
     let s = k .before .before .before .before .before in
     let a = s .args in
-    decided-refused _ _ _ _ _ _ (omega (arith, c .before .if2 .taken)) (c .refused2 .ensures)
+    edited-refused _ _ _ _ _ _ (omega (arith, c .before .if2 .taken)) (c .refused2 .ensures)
     (late-reason (s .pre .0) (a .how) (a .i) (a .j) (s .pre .1) (s .pre .2) (passed k) ∙ late w)
 
 carry-out-requires : tie.Need-carry-out-requires
@@ -152,7 +152,7 @@ healed c =
     (joint-some (mapAt s) (first s) (second s) (passed k)) in
     let rows = u .edges-after ∙ ap (healedRows (a .edges .now) (natAbs (a .h .edges)) (a .i) (a .j) (p .first)
     (p .second) (a .how) (pos (ownOrNext (a .h) (a .how) (first s)))) (w .before .joined-line .ensures) in
-    decided-carried _ _ _ _ _ _ _ _ _ (healedValue (a .h) (a .how)) (u .answered)
+    edited-carried _ _ _ _ _ _ _ _ _ (healedValue (a .h) (a .how)) (u .answered)
     (late-reason f (a .how) (a .i) (a .j) (s .pre .1) (s .pre .2) (passed k) ∙ none)
     (heal-carried f (a .i) (a .j) (s .pre .1) (s .pre .2) (a .how) p (parts o) (late-few _ (a .h) (a .how) none)
     (λ t. edges-differ (mapAt s) (first s) (second s) (passed k) (ap (λ (i : ℕ). edgeAt (a .edges .now) i .number) t))

@@ -14,9 +14,9 @@ use Rattle.map.specs.Rows.{mapOf, lent}
 use Rattle.map.specs.Reasons.{noEdge}
 use Rattle.tables.specs.Tables.{sameZ, column}
 use Rattle.map_rows.proofs.Rows.{edge-rows-rising}
-use Rattle.outcomes.specs.Outcomes.{decided}
+use Rattle.outcomes.specs.Outcomes.{edited}
 use Rattle.outcomes.specs.Variants.{healTicket}
-use Rattle.outcomes.proofs.Formed.{edge-rows, counted, decided-refused, edge-none}
+use Rattle.outcomes.proofs.Formed.{edge-rows, counted, edited-refused, edge-none}
 use Rattle.head.proofs.Words.{edges-natural, edges-read}
 use Rattle.outcomes.proofs.Words.{place-told}
 use Rattle.outcomes.proofs.FoundRows.{edge-in, edge-number}
@@ -47,7 +47,7 @@ missing c =
     let r = c .before .before .before in
     let s = r .before .before .before .before in
     let a = s .args in
-    decided-refused _ _ _ _ _ 4 (lit< tt) (c .refused .ensures) (row-missing (s .pre) (a .how) (a .edge) (a .other)
+    edited-refused _ _ _ _ _ 4 (lit< tt) (c .refused .ensures) (row-missing (s .pre) (a .how) (a .edge) (a .other)
     (rw (edge-none (s .pre) (a .edge) (first r (c .before .enum-told .given .1)))))
 
 other-missing : tie.Need-returns-2
@@ -55,7 +55,7 @@ other-missing c =
     let r = c .before .before .before in
     let s = r .before .before .before .before .before .before .before .before .before in
     let a = s .args in
-    decided-refused _ _ _ _ _ 4 (lit< tt) (c .refused2 .ensures) (row-missing (s .pre) (a .how) (a .edge) (a .other)
+    edited-refused _ _ _ _ _ 4 (lit< tt) (c .refused2 .ensures) (row-missing (s .pre) (a .how) (a .edge) (a .other)
     (or-right (noEdge (mapOf (lent (a .nodes .now) (a .edges .now) (a .faces .now) (a .h))) (a .edge)) _
     (edge-none (s .pre) (a .other) (second r (c .before .enum-told2 .given .1)))))
 
@@ -76,7 +76,7 @@ found c =
     let s = b .before .before .before .before .before .before in
     let a = s .args in
     c .before .before .heal-at-rows .ensures
-    ∙ ap₂ (λ (y z : ℤ). decided (lent (a .nodes .now) (a .edges .now) (a .faces .now) (a .h)) (healTicket (a .how) y z))
+    ∙ ap₂ (λ (y z : ℤ). edited (lent (a .nodes .now) (a .edges .now) (a .faces .now) (a .h)) (healTicket (a .how) y z))
     (sym (edge-number (s .pre) (a .edge) _ (first (b .before .before) (b .found .given .1))))
     (sym (edge-number (s .pre) (a .other) _ (second (d .before .before) (d .found-other .given .1))))
 

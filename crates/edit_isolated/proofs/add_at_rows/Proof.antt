@@ -11,7 +11,7 @@ use Rattle.map.specs.Tickets.{AddIsoEdge}
 use Rattle.map.specs.Reasons.{firstReason, reasons}
 use Rattle.map_rows.specs.Rows.{nodeAt}
 use Rattle.map_rows.proofs.Rows.{node-row-of}
-use Rattle.outcomes.proofs.Formed.{node-rows, edge-next, decided-refused, decided-carried}
+use Rattle.outcomes.proofs.Formed.{node-rows, edge-next, edited-refused, edited-carried}
 use Rattle.outcomes.proofs.Words.{count-read}
 use Rattle.edge_rows.proofs.Formed.{held}
 use Rattle.edit_isolated.proofs.IsolatedReasons.{isolated-free}
@@ -33,7 +33,7 @@ refused : tie.Need-returns
 refused c =
     let g = c .before .before in
     let a = g .before .before .before .args in
-    decided-refused (a .nodes .now) (a .edges .now) (a .faces .now) (a .h)
+    edited-refused (a .nodes .now) (a .edges .now) (a .faces .now) (a .h)
     (AddIsoEdge (pos (nodeAt (a .nodes .now) (a .u) .number)) (pos (nodeAt (a .nodes .now) (a .v) .number)) (a .c .now))
     (g .isolated-reason .result) (let d = c .before .if1 .taken in omega arith) (c .refused .ensures) (first g)
 
@@ -75,7 +75,7 @@ drawn c =
     let k = edge-next f in
     let start = pos (nodeAt (a .nodes .now) (a .u) .number) in
     let end = pos (nodeAt (a .nodes .now) (a .v) .number) in
-    decided-carried (a .nodes .now) (a .edges .now) (a .faces .now) (a .h) (AddIsoEdge start end (a .c .now))
+    edited-carried (a .nodes .now) (a .edges .now) (a .faces .now) (a .h) (AddIsoEdge start end (a .c .now))
     (d .last .0) (d .last .1 .0) (a .faces .now) (d .result) _ (c .carried .ensures)
     (first g ∙ c .before .before .before .before .before .before .before .before .before .if1 .left)
     (add-lent f (a .c .now) (a .u) (a .v) (s .pre .1) (s .pre .2) (sent (x .ok) ∙ x .ensures) (d .ensures))

@@ -13,8 +13,8 @@ use Rattle.map.specs.Rows.{lent}
 use Rattle.map.specs.Tickets.{AddIsoEdge}
 use Rattle.tables.specs.Tables.{sameZ, column}
 use Rattle.map_rows.proofs.Rows.{node-rows-rising}
-use Rattle.outcomes.specs.Outcomes.{decided}
-use Rattle.outcomes.proofs.Formed.{counted, node-rows, decided-refused}
+use Rattle.outcomes.specs.Outcomes.{edited}
+use Rattle.outcomes.proofs.Formed.{counted, node-rows, edited-refused}
 use Rattle.outcomes.proofs.Words.{place-told}
 use Rattle.head.proofs.Words.{nodes-natural, nodes-read}
 use Rattle.outcomes.proofs.FoundRows.{node-in, node-number}
@@ -32,7 +32,7 @@ no-start c =
     let m = c .before .before .before in
     let s = m .before .before .before .before in
     let a = s .args in
-    decided-refused (a .nodes .now) (a .edges .now) (a .faces .now) (a .h) (AddIsoEdge (a .start) (a .end) (a .c .now))
+    edited-refused (a .nodes .now) (a .edges .now) (a .faces .now) (a .h) (AddIsoEdge (a .start) (a .end) (a .c .now))
     4 (lit< tt) (c .refused .ensures)
     (start-missing (s .pre) (a .start) (a .end) (a .c .now)
     (place-told nodeWidth (a .nodes .now) (nodes-read (counted (s .pre)) (m .before .before .to-usize .ensures))
@@ -59,7 +59,7 @@ no-end c =
     let n = m .before .before .before .before .before .before .before in
     let s = n .before .before in
     let a = s .args in
-    decided-refused (a .nodes .now) (a .edges .now) (a .faces .now) (a .h) (AddIsoEdge (a .start) (a .end) (a .c .now))
+    edited-refused (a .nodes .now) (a .edges .now) (a .faces .now) (a .h) (AddIsoEdge (a .start) (a .end) (a .c .now))
     4 (lit< tt) (c .refused2 .ensures)
     (end-missing (s .pre) (a .start) (a .end) (a .c .now)
     (place-told nodeWidth (a .nodes .now) (nodes-read (counted (s .pre)) (n .to-usize .ensures))
@@ -93,7 +93,7 @@ found c =
     let s = u .before .before .before .before .before .before in
     let a = s .args in
     c .before .before .add-at-rows .ensures
-    ∙ ap₂ (λ (x y : ℤ). decided (lent (a .nodes .now) (a .edges .now) (a .faces .now) (a .h))
+    ∙ ap₂ (λ (x y : ℤ). edited (lent (a .nodes .now) (a .edges .now) (a .faces .now) (a .h))
     (AddIsoEdge x y (a .c .now)))
     (sym (node-number (s .pre) (a .start) (u .found .given .0 .0) (start-at u)))
     (sym (node-number (s .pre) (a .end) (v .found-end .given .0 .0) (end-at v)))

@@ -12,7 +12,7 @@ use Rattle.map.specs.Tickets.{RemoveIsoEdge}
 use Rattle.map.specs.Reasons.{edgeIsolated}
 use Rattle.map_rows.specs.Rows.{edgeAt, edgeMap}
 use Rattle.map_rows.proofs.Rows.{edge-row-of}
-use Rattle.outcomes.proofs.Formed.{counted, edge-rows, decided-refused, decided-carried}
+use Rattle.outcomes.proofs.Formed.{counted, edge-rows, edited-refused, edited-carried}
 use Rattle.edge_rows.proofs.Formed.{held}
 use Rattle.head.proofs.Words.{edges-natural, edges-read}
 use Rattle.edit_isolated.proofs.Removed.{remove-joined, remove-free, remove-lent, remove-value}
@@ -41,7 +41,7 @@ joined c =
     let g = c .before .before in
     let s = g .before .before .before .before in
     let a = s .args in
-    decided-refused (a .nodes .now) (a .edges .now) (a .faces .now) (a .h)
+    edited-refused (a .nodes .now) (a .edges .now) (a .faces .now) (a .h)
     (RemoveIsoEdge (pos (edgeAt (a .edges .now) (a .i) .number))) 9 (lit< tt) (c .refused .ensures)
     (remove-joined (s .pre .0) (a .i) (s .pre .1) (isolated g)
     (not-true (g .edge-isolated .result) (c .before .if1 .taken)))
@@ -59,7 +59,7 @@ undrawn c =
     let g = c .before .before .before .before .before .before .before .before .before in
     let s = g .before .before .before .before in
     let a = s .args in
-    decided-carried (a .nodes .now) (a .edges .now) (a .faces .now) (a .h)
+    edited-carried (a .nodes .now) (a .edges .now) (a .faces .now) (a .h)
     (RemoveIsoEdge (pos (edgeAt (a .edges .now) (a .i) .number))) (u .last .0) (u .last .1 .0) (a .faces .now)
     (u .result) (pos 0) (c .carried .ensures)
     (remove-free (s .pre .0) (a .i) (s .pre .1) (isolated g)

@@ -10,7 +10,7 @@ use mir.Val.{toZ, ofZ}
 use mir.Facts.{toZ-ofZ}
 use Rattle.integers.specs.Signs.{sent}
 use Rattle.map.specs.Edits.{isNew}
-use Rattle.outcomes.proofs.Formed.{decided-refused, decided-carried}
+use Rattle.outcomes.proofs.Formed.{edited-refused, edited-carried}
 use Rattle.outcomes.specs.Variants.{removeTicket}
 use Rattle.reason_edges.proofs.Removing.{JudgedRemoval, removal-judged}
 use Rattle.edit_remove.proofs.Removal.{removable, removed-lent, removed-value}
@@ -29,7 +29,7 @@ refused : tie.Need-returns
 refused c =
     let g = c .before .before in
     let a = g .before .before .before .before .args in
-    decided-refused (a .nodes .now) (a .edges .now) (a .faces .now) (a .h) (removeTicket (a .how) (a .edge))
+    edited-refused (a .nodes .now) (a .edges .now) (a .faces .now) (a .h) (removeTicket (a .how) (a .edge))
     (g .judge-removal .result .reason) (omega (arith, c .before .if1 .taken)) (c .refused .ensures)
     (sym (judged g .reason))
 
@@ -54,7 +54,7 @@ carried c =
     let l = k .remove-and-heal .last in
     let v = c .before .value-of in
     let face = sent (t .struct-told .given .1 .0 .1 .1 .1 .0 .1) ∙ k .remove-and-heal .ensures .value in
-    decided-carried (a .nodes .now) (a .edges .now) (a .faces .now) (a .h) (removeTicket (a .how) (a .edge)) (l .0)
+    edited-carried (a .nodes .now) (a .edges .now) (a .faces .now) (a .h) (removeTicket (a .how) (a .edge)) (l .0)
     (l .1 .0) (l .1 .1 .0) (k .remove-and-heal .result .head) (toZ w64 (ofZ w64 (v .result)))
     (c .carried .ensures)
     (sym (judged g .reason) ∙ zero)

@@ -17,7 +17,7 @@ use Rattle.map_rows.specs.Rows.{edgeAt}
 use Rattle.map_rows.proofs.Rows.{edge-row-of}
 use Rattle.head.specs.Heads.{Left, sizesIn, roomAt}
 use Rattle.head.proofs.Heads.{room-left}
-use Rattle.outcomes.proofs.Formed.{edge-rows, nodes-size, edges-size, counted, decided-refused, decided-carried, done}
+use Rattle.outcomes.proofs.Formed.{edge-rows, nodes-size, edges-size, counted, edited-refused, edited-carried, done}
 use Rattle.head.proofs.Words.{nodes-natural, nodes-read}
 use Rattle.outcomes.proofs.Words.{next-node-back}
 use Rattle.outcomes.specs.Variants.{ownOrNext}
@@ -54,7 +54,7 @@ refused c =
     let r = c .before .before in
     let s = r .before .before .before in
     let a = s .args in
-    decided-refused _ _ _ _ _ _ (omega (arith, c .before .if1 .taken)) (c .refused .ensures)
+    edited-refused _ _ _ _ _ _ (omega (arith, c .before .if1 .taken)) (c .refused .ensures)
     (split-reasons (s .pre .0) (a .how) (a .i) (s .pre .1) (a .x) (a .y) ∙ told r)
 
 cut-edge-requires : tie.Need-cut-edge-requires
@@ -91,7 +91,7 @@ carried c =
     (r .before .cut-edge .ensures
     ∙ (λ j. cutRow (a .edges .now) (natAbs (a .h .edges)) (a .i) (a .h .«next_node») (point (x j) (y j)) (a .how)
     (pos (ownOrNext (a .h) (a .how) (edgeAt (a .edges .now) (a .i) .number))) (pos (endNumber (a .h) (a .how))))) in
-    decided-carried _ _ _ _ _ _ _ _ _ (a .h .«next_node»)
+    edited-carried _ _ _ _ _ _ _ _ _ (a .h .«next_node»)
     (done (c .before .after-split .ensures) z (c .carried .ensures))
     (split-reasons f (a .how) (a .i) (s .pre .1) (a .x) (a .y) ∙ none) (after .0) (after .1)
 

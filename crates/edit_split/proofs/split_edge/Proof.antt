@@ -12,9 +12,9 @@ use Rattle.map.specs.Limits.{edgeWidth}
 use Rattle.tables.specs.Tables.{sameZ, column}
 use Rattle.map.specs.Rows.{lent}
 use Rattle.map_rows.proofs.Rows.{edge-rows-rising}
-use Rattle.outcomes.specs.Outcomes.{decided}
+use Rattle.outcomes.specs.Outcomes.{edited}
 use Rattle.outcomes.specs.Variants.{splitTicket}
-use Rattle.outcomes.proofs.Formed.{edge-rows, counted, decided-refused}
+use Rattle.outcomes.proofs.Formed.{edge-rows, counted, edited-refused}
 use Rattle.head.proofs.Words.{edges-natural, edges-read}
 use Rattle.outcomes.proofs.Words.{place-told}
 use Rattle.outcomes.proofs.FoundRows.{edge-in, edge-number}
@@ -27,7 +27,7 @@ missing c =
     let m = c .before .before .before in
     let s = m .before .before .before .before in
     let a = s .args in
-    decided-refused _ _ _ _ _ 4 (lit< tt) (c .refused .ensures)
+    edited-refused _ _ _ _ _ 4 (lit< tt) (c .refused .ensures)
     (split-missing (s .pre) (a .how) (a .edge) (a .x) (a .y) (place-told edgeWidth (a .edges .now)
     (edges-read (counted (s .pre)) (m .before .before .to-usize .ensures)) (toZ-ofZ {w = w64} (s .fits .edge))
     (m .find-row .ensures) (c .before .enum-told .given .1)))
@@ -50,7 +50,7 @@ found c =
     let x = toZ-ofZ {w = w64} (s .fits .x) in
     let y = toZ-ofZ {w = w64} (s .fits .y) in
     c .before .before .split-at-row .ensures
-    ∙ (λ j. decided (lent (a .nodes .now) (a .edges .now) (a .faces .now) (a .h))
+    ∙ (λ j. edited (lent (a .nodes .now) (a .edges .now) (a .faces .now) (a .h))
     (splitTicket (a .how) (number j) (x j) (y j)))
 
 pub split-edge-spec : {M : Type 1} → statement M

@@ -12,12 +12,13 @@ use mir.Syntax.{w64}
 use mir.Val.{toZ, ofZ}
 use mir.Facts.{toZ-ofZ}
 use Rattle.lists.proofs.Bools.{cond-has}
-use Rattle.map_rows.specs.Rows.{facesOf}
+use Rattle.bounding_boxes.specs.declared.Extent.{Extent}
+use Rattle.map_rows.specs.Rows.{facesOf, facesIn}
 use Rattle.map_rows.proofs.Rows.{faces-length}
-use Rattle.face_rows.specs.Holds.{facesIn, FaceTable, withoutFace, healFaces}
+use Rattle.face_rows.specs.Holds.{FaceTable, withoutFace, healFaces}
 use Rattle.face_rows.proofs.Words.{either}
-use Rattle.face_rows.proofs.FaceRows.{table-distinct, without-length, two-less, extendable-here, pushed-here}
-use Rattle.face_rows.proofs.FaceRows.{table-here, removed-here}
+use Rattle.face_rows.proofs.FaceRows.{table-distinct, table-long, without-length, two-less, cells-here}
+use Rattle.face_rows.proofs.FaceRows.{pushed-here, table-here, removed-here}
 use Rattle.face_rows.proofs.heal_row.Statement.{statement}
 use Rattle.face_rows.proofs.heal_row.Tie as tie
 
@@ -29,45 +30,62 @@ abbrev rest : tie.Start → List ℕ
 rest s = withoutFace (natAbs (s .args .left)) (faces s)
 
 fewer : (s : tie.Start) → length (rest s) + 1 ≡ s .args .count
-fewer s = without-length (natAbs (s .args .left)) (faces s) (table-distinct (s .pre .table)) (s .pre .left-there)
+fewer s = without-length (natAbs (s .args .left)) (faces s) (table-distinct (s .pre .table .2)) (s .pre .left-there)
     ∙ faces-length (s .args .faces .now) (s .args .count)
 
 fewest : (s : tie.Start) → length (withoutFace (natAbs (s .args .right)) (rest s)) + 2 ≡ s .args .count
-fewest s = two-less (s .pre .table) _ _ (s .pre .differ) (s .pre .left-there) (s .pre .right-there)
+fewest s = two-less (s .pre .table .2) _ _ (s .pre .differ) (s .pre .left-there) (s .pre .right-there)
     ∙ faces-length (s .args .faces .now) (s .args .count)
 
-gone : (c : tie.After-remove-face)
-    → let s = c .before .before .before in FaceTable (length (s .args .faces .now)) (rest s) (c .remove-face .last .0)
-gone c = rw (toZ-ofZ {w = w64} (c .before .before .before .fits .left)) at (c .remove-face .ensures)
+module _ (box : ℕ → Extent) where
+  -- the table on entry, with these rectangles
+  abbrev Table : tie.Start → Type 0
+  Table s = FaceTable (length (s .args .faces .now)) box (faces s) (s .args .faces .now)
+
+  gone : (c : tie.After-remove-face)
+      → let s = c .before .before .before in
+      Table s → FaceTable (length (s .args .faces .now)) box (rest s) (c .remove-face .last .0)
+  gone c t = rw (toZ-ofZ {w = w64} (c .before .before .before .fits .left)) at (c .remove-face .ensures box t)
+
+  both-gone : (c : tie.After-remove-face2)
+      → let s = c .before .before .before .before .before .before in
+      Table s
+      → FaceTable (length (s .args .faces .now)) box (withoutFace (natAbs (s .args .right)) (rest s))
+      (c .remove-face2 .last .0)
+  both-gone c t =
+      let g = c .before .before .before in
+      let s = g .before .before .before in
+      let e = fewer s in
+      let k = gone g t in
+      rw (toZ-ofZ {w = w64} (s .fits .right)) at
+      (removed-here k {n = s .args .count - 1} (omega arith) _
+      (c .remove-face2 .ensures box (table-here k {n = s .args .count - 1} (omega arith))))
 
 remove-face-requires-2 : tie.Need-remove-face-requires-2
 remove-face-requires-2 c κs =
     let g = c .before .before in
     let s = g .before .before .before in
     let e = fewer s in (
-      table-here (gone g) {n = s .args .count - 1} (omega arith),
+      (_, table-here (gone _ g (s .pre .table .2)) {n = s .args .count - 1} (omega arith)),
       ap nonNeg (toZ-ofZ {w = w64} (s .fits .right)) ∙ s .pre .right-natural,
     )
-
-both-gone : (c : tie.After-remove-face2)
-    → let s = c .before .before .before .before .before .before in
-    FaceTable (length (s .args .faces .now)) (withoutFace (natAbs (s .args .right)) (rest s)) (c .remove-face2 .last .0)
-both-gone c =
-    let g = c .before .before .before in
-    let s = g .before .before .before in
-    let e = fewer s in
-    rw (toZ-ofZ {w = w64} (s .fits .right)) at
-    (removed-here (gone g) {n = s .args .count - 1} (omega arith) _ (c .remove-face2 .ensures))
 
 push-face-requires : tie.Need-push-face-requires
 push-face-requires c κs =
     let g = c .before .before in
     let s = g .before .before .before .before .before .before in
     let e = fewest s in
-    let t = both-gone g in (
-      extendable-here _ _ (t .cells) (t .fits) (omega arith)
-          (omega (arith, s .pre .table .fits, faces-length (s .args .faces .now) (s .args .count))),
-      ap nonNeg (toZ-ofZ {w = w64} (s .fits .face)) ∙ s .pre .natural,
+    let t = s .pre .table .2 in
+    let k = both-gone _ g t in
+    let v = toZ-ofZ {w = w64} (s .fits .face) in (
+      rw (table-long k) (omega (arith, t .fits, faces-length (s .args .faces .now) (s .args .count))),
+      ap nonNeg v ∙ s .pre .natural,
+      (
+        s .pre .table .0,
+        rw v (s .pre .table .1 (g .before .before .before .before .before .if1 .taken)),
+        cells-here _ _ (withoutFace (natAbs (s .args .right)) (rest s)) (k .cells) (k .fits) {n = s .args .count - 2}
+            (omega arith),
+      ),
     )
 
 -- the higher of the two, as it was passed
@@ -82,39 +100,43 @@ higher c =
 remove-face-requires-3 : tie.Need-remove-face-requires-3
 remove-face-requires-3 c κs =
     let s = c .before .before .before in (
-      s .pre .table,
+      (s .pre .table .0, s .pre .table .2),
       ap nonNeg (higher c) ∙ cond-has (λ (z : ℤ). nonNeg z ≡ true) (ltZ (s .args .left) (s .args .right))
           (s .pre .right-natural) (s .pre .left-natural),
     )
 
 returns : tie.Need-returns
-returns c =
+returns c box none t =
     let g = c .before .before .before .before in
     let s = g .before .before .before .before .before .before in
     let a = s .args in
     let e = fewest s in
-    let t = both-gone g in
-    ap (λ (b : Bool). facesIn (length (a .faces .now)) (healFaces b (a .left) (a .right) (natAbs (a .face)) (faces s)))
-    (g .before .before .before .before .before .if1 .taken)
-    ∙ (rw (toZ-ofZ {w = w64} (s .fits .face)) at (pushed-here _ (withoutFace (natAbs (a .right)) (rest s)) (t .cells)
-    (t .fits) {n = a .count - 2} (omega arith) _ (c .before .push-face .ensures)))
+    let makes = g .before .before .before .before .before .if1 .taken in
+    let k = both-gone box g t in
+    let v = toZ-ofZ {w = w64} (s .fits .face) in
+    let both = withoutFace (natAbs (a .right)) (rest s) in
+    ap (λ (b : Bool). facesIn (length (a .faces .now)) box
+    (healFaces b (a .left) (a .right) (natAbs (a .face)) (faces s))) makes
+    ∙ (rw v at (pushed-here _ box both (k .cells) (k .fits) {n = a .count - 2} (omega arith) _
+    (c .before .push-face .ensures .1 box (rw v (none makes))
+    (cells-here _ box both (k .cells) (k .fits) {n = a .count - 2} (omega arith)))))
 
 returns-2 : tie.Need-returns-2
-returns-2 c =
+returns-2 c box none t =
     let s = c .before .before .before .before .before in
     let a = s .args in
-    ap (λ (b : Bool). facesIn (length (a .faces .now)) (healFaces b (a .left) (a .right) (natAbs (a .face)) (faces s)))
-    (c .before .before .before .before .if1 .left)
-    ∙ ap (λ (z : ℤ). facesIn (length (a .faces .now)) (withoutFace (natAbs z) (faces s)))
+    ap (λ (b : Bool). facesIn (length (a .faces .now)) box
+    (healFaces b (a .left) (a .right) (natAbs (a .face)) (faces s))) (c .before .before .before .before .if1 .left)
+    ∙ ap (λ (z : ℤ). facesIn (length (a .faces .now)) box (withoutFace (natAbs z) (faces s)))
     (sym (higher (c .before .before)))
-    ∙ c .before .remove-face3 .ensures .cells
+    ∙ c .before .remove-face3 .ensures box t .cells
 
 pub heal-row-spec : {M : Type 1} → statement M
 heal-row-spec =
     tie.close
     (tie.spec
     (λ c κs. let s = c .before .before in
-    (s .pre .table, ap nonNeg (toZ-ofZ {w = w64} (s .fits .left)) ∙ s .pre .left-natural))
+    ((s .pre .table .0, s .pre .table .2), ap nonNeg (toZ-ofZ {w = w64} (s .fits .left)) ∙ s .pre .left-natural))
     (λ c. omega (arith, fewer (c .before .before .before .before .before)))
     remove-face-requires-2
     (λ c. omega (arith, fewest (c .before .before .before .before .before .before .before .before)))

@@ -32,22 +32,22 @@ found c =
 remove-row-requires : tie.Need-remove-row-requires
 remove-row-requires c κs =
     let s = c .before .before .before .before .before .before in (
-      found-gone (s .args .count) (s .pre .0) (natAbs (s .args .face)) _ (found (c .before .before)) .0,
+      found-gone (s .args .count) (s .pre .0 .1) (natAbs (s .args .face)) _ (found (c .before .before)) .0,
       face-rows
-          (s .args .count) (s .pre .0) .fits,
+          (s .args .count) (s .pre .0 .1) .fits,
     )
 
 returns : tie.Need-returns
-returns c =
+returns c box t =
     let s = c .before .before .before .before .before .before .before .before in
     let a = s .args in
     rw (c .before .remove-row .ensures)
-    (found-gone (s .args .count) (s .pre .0) (natAbs (a .face)) _ (found (c .before .before .before .before)) .1)
+    (found-gone (s .args .count) t (natAbs (a .face)) _ (found (c .before .before .before .before)) .1)
 
 returns-2 : tie.Need-returns-2
-returns-2 c =
+returns-2 c box t =
     let s = c .before .before .before .before in
-    missing-gone (s .args .count) (s .pre .0) (natAbs (s .args .face))
+    missing-gone (s .args .count) t (natAbs (s .args .face))
     (place-told faceWidth (s .args .faces .now) {a = s .args .count} refl (face s)
     (c .before .before .find-row .ensures)
     (c .enum-told .given .1))
@@ -56,7 +56,7 @@ pub remove-face-spec : {M : Type 1} → statement M
 remove-face-spec =
     tie.close
     (tie.spec
-    (λ c κs. face-rows-rising (face-rows (c .before .args .count) (c .before .pre .0)))
+    (λ c κs. face-rows-rising (face-rows (c .before .args .count) (c .before .pre .0 .1)))
     (λ c. search needs)
     remove-row-requires
     (λ c. search needs) (λ c. search needs)

@@ -80,7 +80,7 @@ split-row-requires c κs =
     })
 
 returns : tie.Need-returns
-returns c =
+returns c box none t =
     let d = c .before .before .before .before .before .before .before .before .before in
     let g = d .before .before in
     let n = g .before .before in
@@ -93,9 +93,10 @@ returns c =
     ∙ ap (λ (k : Counts). nodesOf (a .nodes .now) (k .nodes)) (sym count))
     (map-edges (a .nodes .now) (a .edges .now) (a .faces .now) (a .h)
     ∙ ap (λ (k : Counts). edgesOf (a .edges .now) (k .edges)) (sym count)) in
-    split-holds (s .pre) (a .how) _ (g .face-goes .result) (ap (λ (z : ℤ). isPositive (sgn z)) (area-is (s .pre)))
+    split-holds (s .pre) box (a .how) _ (g .face-goes .result) (ap (λ (z : ℤ). isPositive (sgn z)) (area-is (s .pre)))
     (sym (rw (old s) at (g .face-goes .ensures))) (d .sides-of .result) (sides d) _ _ _ _ (rows .0) (rows .1)
-    (rw (count, old s, next s) at (c .before .before .split-row .ensures)) (c .with-face .ensures)
+    (rw (count, old s, next s) at (c .before .before .split-row .ensures box (rw (next s) none) (rw count t)))
+    (c .with-face .ensures)
 
 pub split-face-spec : {M : Type 1} → statement M
 split-face-spec =

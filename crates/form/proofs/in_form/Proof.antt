@@ -3,14 +3,14 @@ use mathlib.Core.Path.{_≡_, refl, sym, ap, _∙_, subst}
 use mathlib.Core.Bool.{true, false, _&&_}
 use native.Mathlib.Omega.{arith}
 use Rattle.map.specs.Rows.{lent}
-use Rattle.map.specs.Form.{countsFit, nextsFit, formed}
+use Rattle.map.specs.Form.{countsFit, nextsFit}
 use Rattle.map.specs.declared.Counts.{Counts}
 use Rattle.curves.proofs.Runs.{and-left, and-right}
 use Rattle.head.specs.Heads.{countsOf}
-use Rattle.form_ranges.specs.Ranges.{mapIn, rangedRows, HeadFits}
+use Rattle.form_ranges.specs.Ranges.{rangedRows, HeadFits}
 use Rattle.form_ranges.proofs.Parts.{counted, counts-natural}
 use Rattle.form_links.proofs.Words.{flipped}
-use Rattle.form.proofs.Parts.{unfit-head, unranged, by-formed, whole-room}
+use Rattle.form.proofs.Parts.{judged, unfit-head, unranged, by-formed, whole-room}
 use Rattle.form.proofs.in_form.Statement.{statement}
 use Rattle.form.proofs.in_form.Tie as tie
 
@@ -93,7 +93,7 @@ returns-3 c =
     let r = e .before in
     let a = r .before .before .before .before .args in
     c .is-formed .ensures
-    ∙ ap (λ (k : Counts). formed (mapIn (a .nodes .now) (a .edges .now) (a .faces .now) k (a .h)))
+    ∙ ap (λ (k : Counts). judged (a .nodes .now) (a .edges .now) (a .faces .now) k (a .h))
     (r .before .counts-of .ensures)
     ∙ sym (by-formed (a .nodes .now) (a .edges .now) (a .faces .now) (a .h) (head-in (r .before .before))
     (sym (ranged-in r) ∙ flipped (r .is-ranged .result) false (e .if2 .left)))

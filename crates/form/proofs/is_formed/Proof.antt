@@ -9,7 +9,7 @@ use Rattle.form_ranges.specs.Ranges.{InOrder, Named}
 use Rattle.form_ranges.proofs.Parts.{node-rows, edge-rows, face-rows}
 use Rattle.darts.specs.Positions.{RowsNamed, NextsNamed}
 use Rattle.form_links.proofs.Words.{flipped}
-use Rattle.form.proofs.Parts.{curved, departed, stop₁, stop₂, stop₃, stop₄, last₅}
+use Rattle.form.proofs.Parts.{curved, departed, linked, stop₁, stop₂, stop₃, stop₄, stop₅, last₆}
 use Rattle.form.proofs.is_formed.Statement.{statement}
 use Rattle.form.proofs.is_formed.Tie as tie
 
@@ -44,7 +44,7 @@ rows-in : (c : tie.Else2) →
     let l = c .before .before .before .before .names-exist .last .1 .1 .1 .1 in
     RowsNamed 4 (a .nodes .now) (a .c .nodes) (a .edges .now) 1 (l .0) (a .c .edges * 2)
     × NextsNamed (a .edges .now) (a .c .edges) (l .1 .0) (a .c .edges * 2)
-    × RowsNamed 1 (a .faces .now) (a .c .faces) (a .edges .now) 5 (l .1 .1 .0) (a .c .edges * 2)
+    × RowsNamed 5 (a .faces .now) (a .c .faces) (a .edges .now) 5 (l .1 .1 .0) (a .c .edges * 2)
 rows-in c = let n = c .before .before .before .before in
     n .names-exist .ensures .4 (flipped (n .names-exist .result) false (c .if2 .left))
 
@@ -55,6 +55,18 @@ curved-in c = let f = c .before .curves-fit in sym (f .ensures) ∙ flipped (f .
 departed-in : (c : tie.Else4) → let a = start (c .before .before .before .before .before .before) .args in
     departed (a .nodes .now) (a .edges .now) (a .faces .now) (a .c) (a .h) ≡ true
 departed-in c = let f = c .before .departures-formed in sym (f .ensures) ∙ flipped (f .result) false (c .if4 .left)
+
+-- the answer on links
+links-told : (c : tie.After-links-formed) →
+    let a = start (c .before .before .before .before .before .before .before .before .before .before) .args in
+    c .links-formed .result ≡ linked (a .nodes .now) (a .edges .now) (a .faces .now) (a .c) (a .h)
+links-told c =
+    let e = c .before .before .before .before .before .before .before .before .before .before in
+    let k = named-in e in
+    let r = rows-in e in
+    let a = start e .args in
+    c .links-formed .ensures (a .nodes .now) (a .edges .now) (a .faces .now) (a .c .nodes) (a .c .faces)
+    (node-rows (k .in-order)) (edge-rows k) (face-rows (k .in-order)) (r .0) (r .1) (r .2)
 
 -- ---- the answers
 
@@ -135,15 +147,34 @@ links-formed-requires c κs =
 
 returns-5 : tie.Need-returns-5
 returns-5 c =
-    let d = c .before .before .before .before in
+    let l = c .before in
+    let d = l .before .before .before .before in
     let e = d .before .before .before .before .before .before in
     let k = named-in e in
-    let r = rows-in e in
     let a = start e .args in
-    c .links-formed .ensures (a .nodes .now) (a .edges .now) (a .faces .now) (a .c .nodes) (a .c .faces)
-    (node-rows (k .in-order)) (edge-rows k) (face-rows (k .in-order)) (r .0) (r .1) (r .2)
-    ∙ sym (last₅ (a .nodes .now) (a .edges .now) (a .faces .now) (a .c) (a .h) (k .in-order .numbers) (k .named)
-    (curved-in (d .before .before .before)) (departed-in d))
+    sym (stop₅ (a .nodes .now) (a .edges .now) (a .faces .now) (a .c) (a .h) (k .in-order .numbers) (k .named)
+    (curved-in (d .before .before .before)) (departed-in d)
+    (sym (links-told l) ∙ flipped (l .links-formed .result) true (c .if5 .taken)))
+
+rectangles-fit-requires : tie.Need-rectangles-fit-requires
+rectangles-fit-requires c κs =
+    let e = c .before .before .before .before .before .before .before .before .before .before .before .before in
+    let k = named-in e in
+    let s = start e in
+    let f = e .before .before .before .before .names-exist .ensures in
+    (edge-rows k, face-rows (k .in-order), s .pre .2, s .pre .3, omega (arith, f .3, s .pre .2), rows-in e .2)
+
+returns-6 : tie.Need-returns-6
+returns-6 c =
+    let l = c .before .before .before in
+    let d = l .before .before .before .before in
+    let e = d .before .before .before .before .before .before in
+    let k = named-in e in
+    let a = start e .args in
+    c .rectangles-fit .ensures
+    ∙ sym (last₆ (a .nodes .now) (a .edges .now) (a .faces .now) (a .c) (a .h) (k .in-order .numbers) (k .named)
+    (curved-in (d .before .before .before)) (departed-in d)
+    (sym (links-told l) ∙ flipped (l .links-formed .result) false (c .before .before .if5 .left)))
 
 pub is-formed-spec : {M : Type 1} → statement M
 is-formed-spec =
@@ -162,4 +193,7 @@ is-formed-spec =
     returns-4
     (λ c. search needs) (λ c. search needs) (λ c. search needs)
     links-formed-requires
-    returns-5)
+    returns-5
+    (λ c. search needs)
+    rectangles-fit-requires
+    returns-6)

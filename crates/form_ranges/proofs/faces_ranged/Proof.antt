@@ -15,21 +15,21 @@ use Rattle.form_ranges.proofs.faces_ranged.Statement.{statement}
 use Rattle.form_ranges.proofs.faces_ranged.Tie as tie
 
 abbrev Inv-loop : tie.InvT-loop
-Inv-loop faces n i₀ i = (i ≤ n) × (allOf faceRanges (table (rowAt 1 faces) i (n - i))
-    ≡ allOf faceRanges (rows 1 n faces))
+Inv-loop faces n i₀ i = (i ≤ n) × (allOf faceRanges (table (rowAt 5 faces) i (n - i))
+    ≡ allOf faceRanges (rows 5 n faces))
 
 abbrev μ-loop : tie.MeasureT-loop
 μ-loop faces n i₀ i = n - i
 
 loop-holds : tie.Need-loop-holds Inv-loop μ-loop
-loop-holds c = (omega arith, rows-start 1 (c .args .faces .now) faceRanges (c .args .n))
+loop-holds c = (omega arith, rows-start 5 (c .args .faces .now) faceRanges (c .args .n))
 
 returns : tie.Need-returns Inv-loop μ-loop
 returns c =
     let a = c .before .before .before .before .args in
     let i = c .before .before .before .loop .i in
     let e = face-tested (a .faces .now) i ∙ sym (c .before .is-natural .ensures) ∙ not-true _ (c .if1 .taken) in
-    sym (all-miss (rowAt 1 (a .faces .now)) i (a .n) faceRanges (c .before .before .loop-test .taken) e)
+    sym (all-miss (rowAt 5 (a .faces .now)) i (a .n) faceRanges (c .before .before .loop-test .taken) e)
     ∙ c .before .before .before .loop .inv .1
 
 loop-again : tie.Need-loop-again Inv-loop μ-loop
@@ -38,13 +38,13 @@ loop-again c =
     let i = c .before .before .before .loop .i in
     let e = face-tested (a .faces .now) i ∙ sym (c .before .is-natural .ensures) ∙ not-false _ (c .if1 .left) in (
       omega arith,
-      sym (all-hit (rowAt 1 (a .faces .now)) i (a .n) faceRanges (c .before .before .loop-test .taken) e)
+      sym (all-hit (rowAt 5 (a .faces .now)) i (a .n) faceRanges (c .before .before .loop-test .taken) e)
           ∙ c .before .before .before .loop .inv .1,
     )
 
 returns-2 : tie.Need-returns-2 Inv-loop μ-loop
 returns-2 c = let a = c .before .before .args in
-    sym (rows-end 1 (a .faces .now) faceRanges (a .n) (c .before .loop .i) (c .loop-test .left))
+    sym (rows-end 5 (a .faces .now) faceRanges (a .n) (c .before .loop .i) (c .loop-test .left))
     ∙ c .before .loop .inv .1
 
 pub faces-ranged-spec : {M : Type 1} → statement M

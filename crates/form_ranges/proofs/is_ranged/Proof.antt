@@ -27,7 +27,7 @@ returns c =
     (c .before .before .before .rest-zero2 .ensures)
     (c .before .rest-zero3 .ensures) (not-true _ (c .if1 .taken))
     (allOf nodeRanges (rows 4 (a .c .nodes) (a .nodes .now)))
-    (allOf edgeRanges (rows 32 (a .c .edges) (a .edges .now))) (allOf faceRanges (rows 1 (a .c .faces) (a .faces .now)))
+    (allOf edgeRanges (rows 32 (a .c .edges) (a .edges .now))) (allOf faceRanges (rows 5 (a .c .faces) (a .faces .now)))
 
 returns-2 : tie.Need-returns-2
 returns-2 c =
@@ -37,7 +37,7 @@ returns-2 c =
     (c .before .before .before .before .rest-zero3 .ensures)
     (not-false _ (c .before .before .before .if1 .left))
     (allOf nodeRanges (rows 4 (a .c .nodes) (a .nodes .now)))
-    (allOf edgeRanges (rows 32 (a .c .edges) (a .edges .now))) (allOf faceRanges (rows 1 (a .c .faces) (a .faces .now)))
+    (allOf edgeRanges (rows 32 (a .c .edges) (a .edges .now))) (allOf faceRanges (rows 5 (a .c .faces) (a .faces .now)))
     (c .before .before .nodes-ranged .ensures) (c .before .edges-ranged .ensures) (c .faces-ranged .ensures)
 
 pub is-ranged-spec : {M : Type 1} → statement M

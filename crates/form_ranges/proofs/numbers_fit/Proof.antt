@@ -112,7 +112,7 @@ natural-requires c κs =
     let room = s .pre .counted .faces-fit in (
       omega arith,
       ≡→T (nonNeg (getD l 0 (pos 0)))
-          (all-table nonNeg (λ i. getD l (i * 1) (pos 0)) (s .args .c .faces)
+          (all-table nonNeg (λ i. getD l (i * 5) (pos 0)) (s .args .c .faces)
           (face-naturals l (s .args .c .faces) (ranged-rows (s .pre) .2)) 0 some),
     )
 

@@ -37,7 +37,7 @@ returns-2 c =
     let f = toZ-ofZ {w = w64} {z = z} (sfits-of (c .before .before .z .given)) in
     let t : ltZ z (pos 0) ≡ false = subst (λ (x : ℤ). ltZ x (pos 0) ≡ false) f (c .before .if1 .left) in
     c .exists .ensures
-    ∙ ap (λ (x : ℤ). anyOf (sameZ x) (column 1 (a .faces .now) (a .n))) (f ∙ sym (pos-natAbs z (not-negative z t)))
+    ∙ ap (λ (x : ℤ). anyOf (sameZ x) (column 5 (a .faces .now) (a .n))) (f ∙ sym (pos-natAbs z (not-negative z t)))
     ∙ face-named (s .pre .1) (natAbs z)
     ∙ a-face (faceMap (a .faces .now) (a .n)) z t
 

@@ -10,7 +10,6 @@ use lib.IntN.{ℤ, natAbs}
 use lib.ListN.{length}
 use Rattle.lists.specs.Tests.{same}
 use Rattle.lists.specs.Members.{Distinct}
-use Rattle.lists.proofs.Bools.{and-true}
 use Rattle.lists.proofs.RisingRows.{RisingRows, rows-less, rows-more, rows-of, rows-at}
 use Rattle.lists.proofs.Rising.{rising-distinct}
 use Rattle.planar_maps.specs.Map.{Dart, fwd, bwd, rev}
@@ -18,7 +17,6 @@ use Rattle.planar_maps.specs.Pieces.{nums}
 use Rattle.planar_maps.specs.Rings.{sameDart}
 use Rattle.planar_maps.proofs.Rings.{rev-in}
 use Rattle.planar_maps.proofs.Turns.{rev-rev}
-use Rattle.tables.specs.Tables.{within}
 use Rattle.tables.proofs.Tests.{within-least}
 use Rattle.plane.specs.declared.Point.{Point}
 use Rattle.curves.specs.Curves.{points, point, curveOf, maxPoints}
@@ -28,10 +26,10 @@ use Rattle.rotation.proofs.Node.{lawful-in}
 use Rattle.map.specs.declared.Variant.{Variant}
 use Rattle.map.specs.declared.Variant.the-variants.{New, Mod}
 use Rattle.map.specs.Limits.{lastNumber}
-use Rattle.map.specs.Rows.{Edge, Map, Lent, Sizes, edge, mapOf, lentOf, sizesOf, whole}
+use Rattle.map.specs.Rows.{Edge, Map, Lent, Sizes, edge, rectangle, mapOf, lentOf, sizesOf, whole}
 use Rattle.map.specs.Darts.{arcs, directed, leaves, next, way}
 use Rattle.map.specs.Links.{obeysLaw}
-use Rattle.map.specs.Form.{ranged, formed, inForm}
+use Rattle.map.specs.Form.{inForm}
 use Rattle.map.specs.Tickets.{Ticket, AddIsoNode, MoveIsoNode, RemoveIsoNode, AddIsoEdge, RemoveIsoEdge, ChangeEdgeGeom}
 use Rattle.map.specs.Tickets.{NewEdgesSplit, ModEdgeSplit, NewEdgeHeal, ModEdgeHeal, AddEdgeNewFaces, AddEdgeModFace}
 use Rattle.map.specs.Tickets.{RemEdgeNewFace, RemEdgeModFace, read}
@@ -39,7 +37,7 @@ use Rattle.map.specs.Reasons.{firstReason, reasons}
 use Rattle.map.specs.Ticket.{carried, lentReasons, unless, judged, ticket}
 use Rattle.map.proofs.RoundTrip.{Holds, reads-back, ranged-is}
 use Rattle.map.proofs.Reasons.{first-zero}
-use Rattle.map.proofs.Laws.{formed-is, in-form-points, edge-there}
+use Rattle.map.proofs.Laws.{formed-is, in-form-is, in-form-points, edge-there}
 use Rattle.map_laws.proofs.Readings.{numberOf, nums-rows, next-row, edge-at, row-has, has-dart, dart-has, without}
 use Rattle.map_laws.proofs.Reasons.{Split}
 use Rattle.map_laws.proofs.Departures.{from-in, from-has}
@@ -175,25 +173,23 @@ module _ (m : Map) (law : Obeys m) {N : ℕ} (sheet : Sheet N (lines m)) where
       record { few = sheet .each (lineOf r) (Memᴰ·map lineOf k); left = λ b z. omega arith; right = λ b z. omega arith }
 
   lawful-back : (s : Sizes) → mapOf (lentOf s m) ≡ m
-  lawful-back s = reads-back s m holds
+  lawful-back s = reads-back (rectangle (m .edges)) s m holds
 
 -- ---- the theorem
 
 module _ (l : Lent) (form : inForm l ≡ true) (law : obeysLaw (mapOf l) ≡ true) where
-  both : (ranged l ≡ true) × (formed (mapOf l) ≡ true)
-  unfolding inForm
-  both = and-true (ranged l) (formed (mapOf l)) form
-
   in-form-lawful : Lawful (mapOf l)
-  in-form-lawful = formed-lawful (mapOf l) (both .1) (λ r k. in-form-points l form r k .least) law
+  in-form-lawful = formed-lawful (mapOf l) (in-form-is l form .formed) (λ r k. in-form-points l form r k .least) law
 
   first-edge : 1 ≤ mapOf l .next .edges
   unfolding mapOf
-  first-edge = within-least 1 (suc lastNumber) (l .head .«next_edge») (ranged-is l (both .0) .next-edge)
+  first-edge = within-least 1 (suc lastNumber) (l .head .«next_edge»)
+      (ranged-is l (in-form-is l form .ranged) .next-edge)
 
   in-form-sheet : Sheet (mapOf l .next .edges) (lines (mapOf l))
   in-form-sheet = rows-of numberOf lineNumber FewPoints lineOf _ (mapOf l .edges)
-      (formed-is (mapOf l) (both .1) .numbers .edges .rising) (λ e k. refl) (λ e k. in-form-points l form e k .most)
+      (formed-is (mapOf l) (in-form-is l form .formed) .numbers .edges .rising) (λ e k. refl)
+      (λ e k. in-form-points l form e k .most)
 
   carried-lawful : (t : Ticket) → firstReason (reasons (sizesOf l) (mapOf l) t) ≡ 0
       → obeysLaw (mapOf (lentOf (sizesOf l) (carried (mapOf l) t .0))) ≡ true

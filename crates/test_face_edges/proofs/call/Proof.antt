@@ -28,7 +28,7 @@ slice-aggregate-answer-2 c = front (c .before .before .before .before .length-at
     (c .before .before .before .before .length-at2 .ensures)
 
 slice-aggregate-answer-3 : tie.Need-slice-aggregate-answer-3
-slice-aggregate-answer-3 c = front (c .before .before .before .before .length-at3 .result) 8
+slice-aggregate-answer-3 c = front (c .before .before .before .before .length-at3 .result) 40
     (c .before .before .before .before .before .before .before .before .fill3 .last .1 .1 .0)
     (c .before .before .before .before .before .before .before .faces2 .given)
     (c .before .before .before .before .length-at3 .ensures)

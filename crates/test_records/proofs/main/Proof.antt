@@ -185,15 +185,15 @@ module _ {M : Type 1} (𝓤 : URA M) (H : Heap 𝓤) (A : Atoms 𝓤) (W : Given
       (l₀ l₁ l₂ l₃ l₄ l₅ l₆ l₇ l₈ l₉ l₁₀ l₁₁ l₁₂ l₁₃ l₁₄ l₁₅ l₁₆ l₁₇ : ℕ)
       (l₁₈ l₁₉ l₂₀ l₂₁ l₂₂ l₂₃ l₂₄ l₂₅ l₂₆ l₂₇ l₂₈ l₂₉ l₃₀ l₃₁ l₃₂ l₃₃ l₃₄ l₃₅ : ℕ) where
     abbrev En : Env 𝓤 H
-    En = (tyUnit, l₀) ∷ (tyArray T′.mir 3, l₁) ∷ (numbers 64, l₂) ∷ (numbers 3, l₃) ∷ (S′.mir, l₄) ∷
+    En = (tyUnit, l₀) ∷ (tyArray T′.mir 3, l₁) ∷ (numbers 64, l₂) ∷ (numbers 15, l₃) ∷ (S′.mir, l₄) ∷
         (numbers 4, l₅) ∷ (T′.mir, l₆) ∷ (S′.mir, l₇) ∷ (tyUnit, l₈) ∷ (B′.mir, l₉) ∷
         (tyRef erased mut (Array R 3 .written .ty), l₁₀) ∷ (sliceTy (tyRef erased mut (pointee (R .written))), l₁₁) ∷
         (tyRef erased mut (numbers 64), l₁₂) ∷ (sliceTy (tyRef erased mut word), l₁₃) ∷
-        (tyRef erased mut (numbers 3), l₁₄) ∷ (sliceTy (tyRef erased mut word), l₁₅) ∷
+        (tyRef erased mut (numbers 15), l₁₄) ∷ (sliceTy (tyRef erased mut word), l₁₅) ∷
         (tyRef erased mut (pointee (Q .written)), l₁₆) ∷ (tyRef erased imm (numbers 4), l₁₇) ∷
         (sliceTy (tyRef erased imm word), l₁₈) ∷ (tyRef erased mut (Array R 3 .written .ty), l₁₉) ∷
         (sliceTy (tyRef erased mut (pointee (R .written))), l₂₀) ∷ (tyRef erased mut (numbers 64), l₂₁) ∷
-        (sliceTy (tyRef erased mut word), l₂₂) ∷ (tyRef erased mut (numbers 3), l₂₃) ∷
+        (sliceTy (tyRef erased mut word), l₂₂) ∷ (tyRef erased mut (numbers 15), l₂₃) ∷
         (sliceTy (tyRef erased mut word), l₂₄) ∷ (tyRef erased imm (pointee (Q .written)), l₂₅) ∷ (tyPtr, l₂₆) ∷
         (tyPtr, l₂₇) ∷ (tyRef erased mut (Array R 3 .written .ty), l₂₈) ∷
         (sliceTy (tyRef erased mut (pointee (R .written))), l₂₉) ∷ (tyPtr, l₃₀) ∷ (tyPtr, l₃₁) ∷ (U′.mir, l₃₂) ∷
@@ -202,9 +202,9 @@ module _ {M : Type 1} (𝓤 : URA M) (H : Heap 𝓤) (A : Atoms 𝓤) (W : Given
 
     -- the arrays and the head are set
     starts : {Γ : List (Item 𝓤)} → (Sq W (‵ (Rows R 3 (replicate 3 none) l₁) ∷ ‵ (Rows i64 64 (zeros 64) l₂) ∷
-        ‵ (Rows i64 3 (zeros 3) l₃) ∷ ‵ (partAt Q fullShare fresh l₄ 0) ∷ ‵ (Rows i64 4 order l₅) ∷
+        ‵ (Rows i64 15 (zeros 15) l₃) ∷ ‵ (partAt Q fullShare fresh l₄ 0) ∷ ‵ (Rows i64 4 order l₅) ∷
         ‵ (froom T′.mir l₆ 0) ∷ ‵ (froom S′.mir l₇ 0) ∷ Γ) (runs C Λ En body.t-8 (atRet En Post))) → Sq W
-        (‵ (froom (tyArray T′.mir 3) l₁ 0) ∷ ‵ (froom (numbers 64) l₂ 0) ∷ ‵ (froom (numbers 3) l₃ 0) ∷
+        (‵ (froom (tyArray T′.mir 3) l₁ 0) ∷ ‵ (froom (numbers 64) l₂ 0) ∷ ‵ (froom (numbers 15) l₃ 0) ∷
         ‵ (froom S′.mir l₄ 0) ∷ ‵ (froom (numbers 4) l₅ 0) ∷ ‵ (froom T′.mir l₆ 0) ∷ ‵ (froom S′.mir l₇ 0) ∷ Γ) (runs
         C Λ En body.t-1 (atRet En Post))
     starts k =
@@ -212,7 +212,7 @@ module _ {M : Type 1} (𝓤 : URA M) (H : Heap 𝓤) (A : Atoms 𝓤) (W : Given
         (no-more !)))))) (from ! (stop !)) (init ! 5 refl (LL.lawful T.the-type T′.the-laws 𝓤 H A W .typed none _
         is-none .0)) $ assigns ! (rep ! 3 (load ! (from ! (stop !)) (look ! 5 refl))) (from ! (stop !)) (init ! 0
         refl (typed-nodes 𝓤 H A W)) $ assigns ! (rep ! 64 (lit ! tt)) (from ! (stop !)) (init ! 1 refl (typed-zeros 𝓤
-        H A W 64)) $ assigns ! (rep ! 3 (lit ! tt)) (from ! (stop !)) (init ! 2 refl (typed-zeros 𝓤 H A W 3)) $
+        H A W 64)) $ assigns ! (rep ! 15 (lit ! tt)) (from ! (stop !)) (init ! 2 refl (typed-zeros 𝓤 H A W 15)) $
         assigns ! (agg ! (and-then ! (lit ! tt) (and-then ! (lit ! tt) (and-then ! (lit ! tt) (and-then ! (lit ! tt)
         (and-then ! (lit ! tt) (and-then ! (lit ! tt) (no-more !)))))))) (from ! (stop !)) (init ! 6 refl (LL.lawful
         S.the-type S′.the-laws 𝓤 H A W .typed fresh _ is-fresh .0)) $ assigns ! (of-opd ! (load ! (from ! (stop !))
@@ -221,7 +221,7 @@ module _ {M : Type 1} (𝓤 : URA M) (H : Heap 𝓤) (A : Atoms 𝓤) (W : Given
         (and-then ! (lit ! tt) (no-more !)))))) (from ! (stop !)) (init ! 4 refl (typed-order 𝓤 H A W)) $ rows-in ! R
         tt (LL.makes T.the-type T′.the-plain 𝓤 H A) 3 (replicate 3 none) _ l₁ is-nodes $ move ! (1 ∷ []) $ rows-in !
         i64 tt (sint-makes 𝓤 H A W w64) 64 (zeros 64) _ l₂ (is-zeros 64) $ move ! (2 ∷ []) $ rows-in ! i64 tt
-        (sint-makes 𝓤 H A W w64) 3 (zeros 3) _ l₃ (is-zeros 3) $ move ! (3 ∷ []) $ one-in ! Q S′.mir refl (LL.makes
+        (sint-makes 𝓤 H A W w64) 15 (zeros 15) _ l₃ (is-zeros 15) $ move ! (3 ∷ []) $ one-in ! Q S′.mir refl (LL.makes
         S.the-type S′.the-plain 𝓤 H A) fresh _ l₄ is-fresh $ move ! (4 ∷ []) $ rows-in ! i64 tt (sint-makes 𝓤 H A W
         w64) 4 order _ l₅ is-order $ forget ! 5 refl $ forget ! 6 refl $ move ! (4 ∷ 3 ∷ 2 ∷ 1 ∷ 0 ∷ 5 ∷ 6 ∷ []) $ k
 
@@ -231,14 +231,14 @@ module _ {M : Type 1} (𝓤 : URA M) (H : Heap 𝓤) (A : Atoms 𝓤) (W : Given
         ‵ (froom (tyRef erased mut (Array R 3 .written .ty)) l₁₀ 0) ∷
         ‵ (froom (sliceTy (tyRef erased mut (pointee (R .written)))) l₁₁ 0) ∷
         ‵ (froom (tyRef erased mut (numbers 64)) l₁₂ 0) ∷ ‵ (froom (sliceTy (tyRef erased mut word)) l₁₃ 0) ∷
-        ‵ (froom (tyRef erased mut (numbers 3)) l₁₄ 0) ∷ ‵ (froom (sliceTy (tyRef erased mut word)) l₁₅ 0) ∷
+        ‵ (froom (tyRef erased mut (numbers 15)) l₁₄ 0) ∷ ‵ (froom (sliceTy (tyRef erased mut word)) l₁₅ 0) ∷
         ‵ (froom (tyRef erased mut (pointee (Q .written))) l₁₆ 0) ∷ ‵ (froom (tyRef erased imm (numbers 4)) l₁₇ 0) ∷
         ‵ (froom (sliceTy (tyRef erased imm word)) l₁₈ 0) ∷ Γ
 
     adds-one : {Γ : List (Item 𝓤)} → ((ns : List Node) (es : List ℤ) (ss : List ℤ) (h : Head) → Sq W
-        (‵ (Rows R 3 ns l₁) ∷ ‵ (Rows i64 64 es l₂) ∷ ‵ (Rows i64 3 ss l₃) ∷ ‵ (partAt Q fullShare h l₄ 0) ∷
+        (‵ (Rows R 3 ns l₁) ∷ ‵ (Rows i64 64 es l₂) ∷ ‵ (Rows i64 15 ss l₃) ∷ ‵ (partAt Q fullShare h l₄ 0) ∷
         ‵ (Rows i64 4 order l₅) ∷ rooms-adds-one Γ) (runs C Λ En body.t-21 (atRet En Post))) → Sq W
-        (‵ (Rows R 3 (replicate 3 none) l₁) ∷ ‵ (Rows i64 64 (zeros 64) l₂) ∷ ‵ (Rows i64 3 (zeros 3) l₃) ∷
+        (‵ (Rows R 3 (replicate 3 none) l₁) ∷ ‵ (Rows i64 64 (zeros 64) l₂) ∷ ‵ (Rows i64 15 (zeros 15) l₃) ∷
         ‵ (partAt Q fullShare fresh l₄ 0) ∷ ‵ (Rows i64 4 order l₅) ∷ rooms-adds-one Γ) (runs C Λ En body.t-8 (atRet
         En Post))
     adds-one k =
@@ -254,7 +254,7 @@ module _ {M : Type 1} (𝓤 : URA M) (H : Heap 𝓤) (A : Atoms 𝓤) (W : Given
         !))) (from ! (stop !)) (init ! 15 refl (tt, tt)) $ assigns ! (agg ! (and-then ! (load ! (from ! (stop !))
         (look ! 15 refl)) (and-then ! (lit ! tt) (no-more !)))) (from ! (stop !)) (init ! 16 refl
         (tt, (tt, (record { fits = lit< tt }, tt)))) $ adds 𝓤 H A W at-mem run (replicate 3 none) (zeros 64) (zeros
-        3) fresh order l₁ l₂ l₃ l₄ l₅ ! fm known-ticket-on (λ i j. (and-then ! (load ! (from ! (stop !)) (look ! 6
+        15) fresh order l₁ l₂ l₃ l₄ l₅ ! fm known-ticket-on (λ i j. (and-then ! (load ! (from ! (stop !)) (look ! 6
         refl)) (and-then ! (load ! (from ! (stop !)) (look ! 8 refl)) (and-then ! (load ! (from ! (stop !)) (look !
         10 refl)) (and-then ! (load ! (from ! (stop !)) (look ! 11 refl)) (and-then ! (load ! (from ! (stop !)) (look
         ! 13 refl)) (no-more !))))))) (λ r w ns es ss h is. land ! (from ! (stop !)) (init ! 7 refl (LL.lawful
@@ -276,13 +276,13 @@ module _ {M : Type 1} (𝓤 : URA M) (H : Heap 𝓤) (A : Atoms 𝓤) (W : Given
         ‵ (froom (tyRef erased mut (Array R 3 .written .ty)) l₁₉ 0) ∷
         ‵ (froom (sliceTy (tyRef erased mut (pointee (R .written)))) l₂₀ 0) ∷
         ‵ (froom (tyRef erased mut (numbers 64)) l₂₁ 0) ∷ ‵ (froom (sliceTy (tyRef erased mut word)) l₂₂ 0) ∷
-        ‵ (froom (tyRef erased mut (numbers 3)) l₂₃ 0) ∷ ‵ (froom (sliceTy (tyRef erased mut word)) l₂₄ 0) ∷
+        ‵ (froom (tyRef erased mut (numbers 15)) l₂₃ 0) ∷ ‵ (froom (sliceTy (tyRef erased mut word)) l₂₄ 0) ∷
         ‵ (froom (tyRef erased imm (pointee (Q .written))) l₂₅ 0) ∷ ‵ (froom tyPtr l₂₆ 0) ∷ ‵ (froom tyPtr l₂₇ 0) ∷ Γ
 
     moves-one : {Γ : List (Item 𝓤)} (ns : List Node) (es : List ℤ) (ss : List ℤ) (h : Head) → ((ns′ : List Node)
-        (es′ : List ℤ) (ss′ : List ℤ) → Sq W (‵ (Rows R 3 ns′ l₁) ∷ ‵ (Rows i64 64 es′ l₂) ∷ ‵ (Rows i64 3 ss′ l₃) ∷
+        (es′ : List ℤ) (ss′ : List ℤ) → Sq W (‵ (Rows R 3 ns′ l₁) ∷ ‵ (Rows i64 64 es′ l₂) ∷ ‵ (Rows i64 15 ss′ l₃) ∷
         ‵ (partAt Q fullShare h l₄ 0) ∷ rooms-moves-one Γ) (runs C Λ En body.t-34 (atRet En Post))) → Sq W
-        (‵ (Rows R 3 ns l₁) ∷ ‵ (Rows i64 64 es l₂) ∷ ‵ (Rows i64 3 ss l₃) ∷ ‵ (partAt Q fullShare h l₄ 0) ∷
+        (‵ (Rows R 3 ns l₁) ∷ ‵ (Rows i64 64 es l₂) ∷ ‵ (Rows i64 15 ss l₃) ∷ ‵ (partAt Q fullShare h l₄ 0) ∷
         rooms-moves-one Γ) (runs C Λ En body.t-21 (atRet En Post))
     moves-one ns es ss h k =
         assigns ! (addr ! (from ! (stop !))) (from ! (stop !)) (init ! 7 refl (tt, tt)) $ assigns ! (agg ! (and-then
@@ -384,14 +384,14 @@ module _ {M : Type 1} (𝓤 : URA M) (H : Heap 𝓤) (A : Atoms 𝓤) (W : Given
 
     -- the arrays and the head are locals again
     lets-go : {Γ : List (Item 𝓤)} (ns : List Node) (es : List ℤ) (ss : List ℤ) (h : Head) → (Sq W
-        (‵ (froom (tyArray T′.mir 3) l₁ 0) ∷ ‵ (froom (numbers 64) l₂ 0) ∷ ‵ (froom (numbers 3) l₃ 0) ∷
+        (‵ (froom (tyArray T′.mir 3) l₁ 0) ∷ ‵ (froom (numbers 64) l₂ 0) ∷ ‵ (froom (numbers 15) l₃ 0) ∷
         ‵ (froom S′.mir l₄ 0) ∷ ‵ (froom (numbers 4) l₅ 0) ∷ Γ) (runs C Λ En body.t-51 (atRet En Post))) → Sq W
-        (‵ (Rows R 3 ns l₁) ∷ ‵ (Rows i64 64 es l₂) ∷ ‵ (Rows i64 3 ss l₃) ∷ ‵ (partAt Q fullShare h l₄ 0) ∷
+        (‵ (Rows R 3 ns l₁) ∷ ‵ (Rows i64 64 es l₂) ∷ ‵ (Rows i64 15 ss l₃) ∷ ‵ (partAt Q fullShare h l₄ 0) ∷
         ‵ (Rows i64 4 order l₅) ∷ Γ) (runs C Λ En body.t-51 (atRet En Post))
     lets-go ns es ss h k =
         rows-out ! R (LL.vals T.the-type T′.the-laws) (LL.tells T.the-type T′.the-laws) 3 ns l₁ $ move ! (1 ∷ []) $
         rows-out ! i64 (sint-vals w64) (sint-tells w64) 64 es l₂ $ move ! (2 ∷ []) $ rows-out ! i64 (sint-vals w64)
-        (sint-tells w64) 3 ss l₃ $ move ! (4 ∷ []) $ rows-out ! i64 (sint-vals w64) (sint-tells w64) 4 order l₅ $
+        (sint-tells w64) 15 ss l₃ $ move ! (4 ∷ []) $ rows-out ! i64 (sint-vals w64) (sint-tells w64) 4 order l₅ $
         move ! (4 ∷ []) $ one-out ! Q S′.mir refl S′.lowered (LL.tells S.the-type S′.the-laws) h l₄ (λ is. forget ! 0
         refl $ move ! (4 ∷ 3 ∷ 2 ∷ 0 ∷ 1 ∷ []) $ k)
 

@@ -1,0 +1,2 @@
+-- `Merged`: boxes of faces in lists of numbers.
+pub mod Merged
