@@ -1,5 +1,6 @@
-/* The refusals that the lending program causes (1, 2), full tables and short lists (20), an old map (21), and a plot
-   redrawn so that its well would lie outside (22). Nothing lent differs after any of them.
+/* The refusals that the lending program causes (1, 2), full tables and short lists (20), an old map (21), a plot
+   redrawn so that its well would lie outside (22), and a ditch that lies along a boundary (23), crosses it (15) or
+   touches it (24). Nothing lent differs after any of them.
 
        rt staticlib solgwid && cc -Iinclude examples/refusals.c target/staticlib/libsolgwid.a -o refusals */
 #include <stdio.h>
@@ -42,12 +43,22 @@ static void redraw_past_well(const char *cause) {
     print_refusal(cause, solgwid_change_edge_geom(&lent.map, 1, smaller, 5));
 }
 
+/* A ditch along the points, between two new nodes to the right of the plot. */
+static void draw_ditch(const char *cause, const solgwid_point *points, size_t point_count) {
+    solgwid_add_iso_node(&lent.map, 0, 12, 2, NULL);
+    solgwid_add_iso_node(&lent.map, 0, 12, 8, NULL);
+    memcpy(&before, &lent, sizeof lent);
+    print_refusal(cause, solgwid_add_iso_edge(&lent.map, 2, 3, points, point_count, &lent.value));
+}
+
 static void try_well(const char *cause) {
     memcpy(&before, &lent, sizeof lent);
     print_refusal(cause, solgwid_add_iso_node(&lent.map, -1, 5, 5, &lent.value));
 }
 
 int main(void) {
+    const solgwid_point along[] = {{12, 2}, {10, 4}, {10, 6}, {12, 8}};
+    const solgwid_point across[] = {{12, 2}, {9, 5}, {12, 8}}, touching[] = {{12, 2}, {10, 5}, {12, 8}};
     int64_t *nodes = (int64_t *)lent.nodes, *edges = (int64_t *)lent.edges, *faces = (int64_t *)lent.faces;
     draw_plot();
     print_refusal("half a row", solgwid_empty_map(nodes, 6, edges, SOLGWID_EDGE_WIDTH, faces, SOLGWID_FACE_WIDTH,
@@ -68,5 +79,8 @@ int main(void) {
     lent.map.head.next_node = SOLGWID_LAST_NUMBER + 1;
     try_well("the last number given");
     redraw_past_well("a well left outside");
+    draw_ditch("a ditch along the boundary", along, 4);
+    draw_ditch("a ditch across it", across, 3);
+    draw_ditch("a ditch that touches it", touching, 3);
     return 0;
 }

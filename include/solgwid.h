@@ -36,7 +36,7 @@
 extern "C" {
 #endif
 
-#define SOLGWID_VERSION 14
+#define SOLGWID_VERSION 15
 
 /* ---- limits and widths */
 
@@ -128,7 +128,7 @@ typedef enum solgwid_refusal {
     SOLGWID_DONE = 0,
     SOLGWID_NOT_WHOLE = 1,              /* 1 and 2: the lending program */
     SOLGWID_NOT_IN_FORM = 2,
-    SOLGWID_BAD_TICKET = 3,             /* 3 to 19 and 22: the person at the screen */
+    SOLGWID_BAD_TICKET = 3,             /* 3 to 19 and 22 to 24: the person at the screen */
     SOLGWID_MISSING_ROW = 4,
     SOLGWID_OUT_OF_RANGE = 5,
     SOLGWID_REDUNDANT_POINT = 6,
@@ -140,14 +140,16 @@ typedef enum solgwid_refusal {
     SOLGWID_FACES_DIFFER = 12,
     SOLGWID_NOT_ON_EDGE = 13,
     SOLGWID_CROSSES_NODE = 14,
-    SOLGWID_CROSSES_EDGE = 15,
+    SOLGWID_CROSSES_EDGE = 15,          /* where a ticket is looked at, 23 comes just before 15, and 24 just after */
     SOLGWID_NOT_ADJACENT = 16,
     SOLGWID_OTHER_EDGES = 17,
     SOLGWID_TOO_MANY_POINTS = 18,
     SOLGWID_ORDER_CHANGES = 19,
     SOLGWID_NO_ROOM = 20,               /* 20: tables or list too small; 21: the map's age */
     SOLGWID_NUMBERS_USED_UP = 21,
-    SOLGWID_SIDES_CHANGE = 22           /* after 19 and before 20 where a ticket is looked at */
+    SOLGWID_SIDES_CHANGE = 22,          /* after 19 and before 20 */
+    SOLGWID_OVERLAPS_EDGE = 23,
+    SOLGWID_TOUCHES_EDGE = 24
 } solgwid_refusal;
 
 /* A refusal as a sentence. */
@@ -170,7 +172,7 @@ static inline const char *solgwid_refusal_text(uint64_t refusal) {
         return "the given face is not the point's, or the curve leaves its nodes into different faces";
     case SOLGWID_NOT_ON_EDGE: return "the split point is not on the edge";
     case SOLGWID_CROSSES_NODE: return "a node lies on the curve between its ends";
-    case SOLGWID_CROSSES_EDGE: return "the curve meets another edge other than at an end of both";
+    case SOLGWID_CROSSES_EDGE: return "the curve crosses another edge";
     case SOLGWID_NOT_ADJACENT: return "the edges are one and the same, or share no node";
     case SOLGWID_OTHER_EDGES: return "no shared node has exactly two edge ends";
     case SOLGWID_TOO_MANY_POINTS: return "the healed curve would have more than 12 points";
@@ -178,6 +180,8 @@ static inline const char *solgwid_refusal_text(uint64_t refusal) {
     case SOLGWID_NO_ROOM: return "the rows after the edit, or the list, would not fit";
     case SOLGWID_NUMBERS_USED_UP: return "a number above 999,999 would be needed";
     case SOLGWID_SIDES_CHANGE: return "an isolated node or another piece would change sides, or a face turn inside out";
+    case SOLGWID_OVERLAPS_EDGE: return "the curve lies along another edge for a stretch";
+    case SOLGWID_TOUCHES_EDGE: return "the curve touches another edge other than at an end of both";
     default: return "unknown refusal";
     }
 }

@@ -6,7 +6,7 @@
 use std::fmt;
 
 /// The landing (docs/LANDINGS.md). It rises with each landing that changes what a call takes or does.
-pub const VERSION: u32 = 14;
+pub const VERSION: u32 = 15;
 
 /// Rows of a table, at most.
 pub const MAX_NODES: usize = 1000;
@@ -74,12 +74,14 @@ pub enum Refusal {
     NoRoom = 20,
     NumbersUsedUp = 21,
     SidesChange = 22,
+    OverlapsEdge = 23,
+    TouchesEdge = 24,
     /// A number that this file does not name: it belongs to another version of the library.
     Unknown = u64::MAX,
 }
 
 /// The refusals from 1 on, with their texts.
-const REFUSALS: [(Refusal, &str); 22] = [
+const REFUSALS: [(Refusal, &str); 24] = [
     (Refusal::NotWhole, "a table is not whole rows or exceeds a limit, or the face table is empty"),
     (Refusal::NotInForm, "the tables and the head are not in form"),
     (Refusal::BadTicket, "the kind is unknown, or its count of numbers is wrong"),
@@ -94,7 +96,7 @@ const REFUSALS: [(Refusal, &str); 22] = [
     (Refusal::FacesDiffer, "the given face is not the point's, or the curve leaves its nodes into different faces"),
     (Refusal::NotOnEdge, "the split point is not on the edge"),
     (Refusal::CrossesNode, "a node lies on the curve between its ends"),
-    (Refusal::CrossesEdge, "the curve meets another edge other than at an end of both"),
+    (Refusal::CrossesEdge, "the curve crosses another edge"),
     (Refusal::NotAdjacent, "the edges are one and the same, or share no node"),
     (Refusal::OtherEdges, "no shared node has exactly two edge ends"),
     (Refusal::TooManyPoints, "the healed curve would have more than 12 points"),
@@ -102,6 +104,8 @@ const REFUSALS: [(Refusal, &str); 22] = [
     (Refusal::NoRoom, "the rows after the edit, or the list, would not fit"),
     (Refusal::NumbersUsedUp, "a number above 999,999 would be needed"),
     (Refusal::SidesChange, "an isolated node or another piece would change sides, or a face turn inside out"),
+    (Refusal::OverlapsEdge, "the curve lies along another edge for a stretch"),
+    (Refusal::TouchesEdge, "the curve touches another edge other than at an end of both"),
 ];
 
 /// The table's row for a number; none for 0 and for numbers that it does not name.

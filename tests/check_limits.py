@@ -8,8 +8,8 @@ limits: plots in a grid, drawn in random order, wells, ditches apart and tanks i
 face is left. A map of 1,000 nodes in one piece has 1,998 edges then, the most that tickets can draw. Every call on it
 is compared whole; the reference takes some seconds for each, with an index for its lookups. What is carried out stays,
 so that each call meets another map. Sides of plots are redrawn past what lies beside them or short of it, and outer
-sides round the whole sheet, which turns it inside out. Some calls are on tables with one number of a rectangle off by
-one.
+sides round the whole sheet, which turns it inside out. Boundaries lie along a side of a plot, cross it or touch it.
+Some calls are on tables with one number of a rectangle off by one.
 """
 
 import contextlib
@@ -26,11 +26,13 @@ import plotmap as pm
 SIDE, WIDE, HIGH = 10, 25, 40       # of a plot; nodes from left to right, from bottom to top
 ROOM = pm.MAX_NODES, pm.MAX_EDGES, pm.MAX_FACES
 CALLS_A_MAP = 40
-NO_ROOM, CHANGES_SIDES = 20, 22
+NO_ROOM, CHANGES_SIDES, MEETS = 20, 22, (23, 15, 24)
 # what lies in the left part of a plot, which no boundary across it reaches: a well, a ditch, a tank
 WELL, DITCH, TANK = [(3, 5)], [(2, 4), (2, 6)], [(3, 5), (2, 6), (2, 4), (3, 5)]
-COUNTED = ('calls at the limits', 'maps', 'divisions', 'removals', 'redrawings', 'lists of edges', 'other rectangles',
-           'carried out', 'turned down with 22')
+# a boundary from the lower left corner of a plot along its upper side, across it, or with a point on it; then inward
+MET, INWARD = ([(2, 10), (4, 10)], [(3, 13)], [(3, 10)]), (5, 8)
+COUNTED = ('calls at the limits', 'maps', 'divisions', 'removals', 'redrawings', 'meetings', 'lists of edges',
+           'other rectangles', 'carried out', 'turned down with 22', 'turned down with 23, 15 or 24')
 
 
 @contextlib.contextmanager
@@ -104,6 +106,13 @@ class Sheet:
         x, y = self.rng.choice(self.plots)
         return self.drawn(*self.rng.choice((((x, y), (x + 1, y + 1)), ((x + 1, y), (x, y + 1)))))
 
+    def met(self):
+        """A boundary that meets the upper side of a plot, from its lower left corner to its upper right one."""
+        x, y = c = self.rng.choice(self.plots)
+        kind, start, end, *_ = self.drawn(c, (x + 1, y + 1))
+        points = [at(c, p) for p in ((0, 0), *self.rng.choice(MET), INWARD, (SIDE, SIDE))]
+        return kind, start, end, *(v for p in points for v in p)
+
     def redrawn(self, t, h):
         """The left side of a plot past what lies in the plot or short of it, or a side at the bottom of the sheet round
         all of it; where that edge is gone, one that is missing."""
@@ -133,8 +142,8 @@ def other_rectangle(rng, t, h):
 
 
 def one_call(sheet):
-    """What was compared and whether it differs: the edges of a face, another rectangle, a removal, a redrawing or a
-    division."""
+    """What was compared and whether it differs: the edges of a face, another rectangle, a removal, a redrawing, a
+    boundary that meets a side or a division."""
     t, h = sheet.now()
     rng, draw = sheet.rng, sheet.rng.random()
     if draw < 0.05:
@@ -145,13 +154,17 @@ def one_call(sheet):
         return {'lists of edges': 1}, list_differs(sheet.lib, t, h, face, 4000)[0], ('edges of face', face)
     if draw < 0.35:
         name, ticket = 'removals', (rng.choice((13, 14)), t.edges[32 * rng.randrange(h.edge_count)])
-    elif draw < 0.65:
+    elif draw < 0.6:
         name, ticket = 'redrawings', sheet.redrawn(t, h)
+    elif draw < 0.75:
+        name, ticket = 'meetings', sheet.met()
     else:
         name, ticket = 'divisions', rng.choice((sheet.boundary, lambda: sheet.drawn(*rng.choice(sheet.sides))))()
     differs, refusal = ticket_differs(sheet.lib, t, h, ticket)
     carry_out(sheet.lib, sheet.lent, ticket)
-    return {name: 1, 'carried out': refusal == 0, 'turned down with 22': refusal == CHANGES_SIDES}, differs, ticket
+    seen = {name: 1, 'carried out': refusal == 0, 'turned down with 22': refusal == CHANGES_SIDES,
+            'turned down with 23, 15 or 24': refusal in MEETS}
+    return seen, differs, ticket
 
 
 def comparisons(lib, seed):

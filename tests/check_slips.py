@@ -25,7 +25,7 @@ from repository import ROOT, needed
 
 MAP = 'crates/map/specs/'
 PROOFS = 'crates/map/proofs/'
-EXAMPLES = 'Worked.antt', 'WorkedSides.antt', 'WorkedRectangles.antt'
+EXAMPLES = 'Worked.antt', 'WorkedSides.antt', 'WorkedRectangles.antt', 'WorkedMeetings.antt'
 EDITS, REASONS, FORM, TICKET, ROWS = (MAP + f'{n}.antt' for n in ('Edits', 'Reasons', 'Form', 'Ticket', 'Rows'))
 
 # the statements of the theorem that are told, the four of demand 3 first, and what computes each of the map m in the
@@ -33,7 +33,7 @@ EDITS, REASONS, FORM, TICKET, ROWS = (MAP + f'{n}.antt' for n in ('Edits', 'Reas
 STATEMENTS = {
     'links once': 'linksOnce m',
     'rings bear one': 'ringsBearOne m',
-    'curves apart': 'allOf (λ e. not (edgeWrong (withoutEdge (e .number) (m .edges)) (e .curve))) (m .edges)',
+    'curves apart': 'allOf (λ e. not (isMet (edgeMeeting (withoutEdge (e .number) (m .edges)) (e .curve)))) (m .edges)',
     'sum': 'same (length (m .nodes) + length (m .faces)) (length (m .edges) + pieceCount m + 1)',
     'in form': 'inForm l',
 }
@@ -78,7 +78,7 @@ GROWN = {
         'sum', (*LOOP, '14 1')),
     'curves cross': (
         REASONS,
-        '(15, edgeWrong others c)',
+        '(15, same found 15)',
         '(15, false)',
         'curves apart', ('1 -1 0 0', '1 -1 9 9', '1 -1 0 9', '1 -1 9 0', '4 1 2 0 0 9 9', '4 3 4 0 9 9 0')),
     'split relinks nothing': (
@@ -99,6 +99,67 @@ TESTS = ('use mathlib.Core.Bool.{Bool, cond}',
 # the segment passes below p, or its end of greater x is below p
 PASSES = ('(λ s. passesBelow p s || same (ordered s .to .x) (p .x) && ltb (ordered s .from .x) (p .x)'
           ' && ltb (ordered s .to .y) (p .y))')
+
+# how the map's definitions word what a curve meets, and what they take for it from those of curves
+EDGES, MET = 'edgeMeeting es c = gravest (map (λ e. meeting c (e .curve)) es)', 'meeting, gravest}'
+ABOVE = '-- over all edges, the gravest that the curve does with one\n'
+CONTACTS = 'None', 'Touch', 'Crossing', 'Stretch'
+# contacts by place
+FIRST_MET = '''abbrev firstMet : List Contact → Contact
+firstMet [] = None
+firstMet (k ∷ ks) = cond (isMet k) k (firstMet ks)
+
+'''
+LAST_MET = '''abbrev lastMet : List Contact → Contact
+lastMet [] = None
+lastMet (k ∷ ks) = let later = lastMet ks in cond (isMet later) later k
+
+'''
+# two curves, by a choice from the contacts of their segments, each changed before
+CURVES_BY = '''abbrev segBy : (Point → Point → Point → Point → Contact → Contact) → List Point
+    → Point → Point → Point → Point → Contact
+segBy change l a b p q = change a b p q (segMeeting l a b p q)
+
+abbrev curvesBy : (List Contact → Contact) → (Point → Point → Point → Point → Contact → Contact)
+    → Curve → Curve → Contact
+curvesBy choose change c d =
+    let l = commonEnds c d in
+    choose (map (λ s. choose (map (λ t. segBy change l (s .from) (s .to) (t .from) (t .to)) (segments d))) (segments c))
+
+'''
+CURVES_USED = ('point, curveOf, coordinate, isRun}', 'point, curveOf, coordinate, isRun, segments}')
+AS_FOUND = '''abbrev asFound : Point → Point → Point → Point → Contact → Contact
+asFound a b p q k = k
+
+'''
+# a touch is a crossing where a point of one lies inside the segment of the other
+INNER = '''abbrev innerCrosses : Point → Point → Point → Point → Contact → Contact
+innerCrosses a b p q None = None
+innerCrosses a b p q Touch =
+    cond (straightBetween p a q || straightBetween p b q || straightBetween a p b || straightBetween a q b)
+    Crossing Touch
+innerCrosses a b p q Crossing = Crossing
+innerCrosses a b p q Stretch = Stretch
+
+'''
+
+
+def ranking(*order):
+    """The definition of `ranked`: the first of a list by another order."""
+    first = lambda j, k: next(c for c in (*order, 'None') if c in (j, k))
+    rows = ''.join(f'rankedTwo {j} {k} = {first(j, k)}\n' for j in CONTACTS for k in CONTACTS)
+    return ('abbrev rankedTwo : Contact → Contact → Contact\n' + rows
+            + '\nabbrev ranked : List Contact → Contact\nranked [] = None\n'
+              'ranked (k ∷ ks) = rankedTwo k (ranked ks)\n\n')
+
+
+def by_segments(choose, above, change='asFound'):
+    """Curves that meet by another choice, or with segments told apart otherwise; edges by the same choice. What is
+    chosen by, or the change, stands above."""
+    used = 'segMeeting, commonEnds' + {'gravest': ', gravest', 'firstMet': ', isMet'}.get(choose, '')
+    return (REASONS, EDGES, f'edgeMeeting es c = {choose} (map (λ e. curvesBy {choose} {change} c (e .curve)) es)',
+            ABOVE, above + AS_FOUND * (change == 'asFound') + CURVES_BY + ABOVE, MET, used + '}', *CURVES_USED)
+
 
 # name: file, old, new, and more of both
 WORKED = {
@@ -172,6 +233,40 @@ WORKED = {
         REASONS,
         '(19, orderChanges m (natAbs e) c)\n    ∷ (22, sidesChange m (natAbs e) c)',
         '(22, sidesChange m (natAbs e) c)\n    ∷ (19, orderChanges m (natAbs e) c)'),
+    '23: a stretch is a crossing': (REASONS, 'contactReason Stretch = 23', 'contactReason Stretch = 15'),
+    '24: a touch is a crossing': (REASONS, 'contactReason Touch = 24', 'contactReason Touch = 15'),
+    '24: a crossing is a touch': (REASONS, 'contactReason Crossing = 15', 'contactReason Crossing = 24'),
+    '23 for 24': (
+        REASONS, 'contactReason Touch = 24', 'contactReason Touch = 23',
+        'contactReason Stretch = 23', 'contactReason Stretch = 24'),
+    '23: the first edge that is met': (
+        REASONS, EDGES, EDGES.replace('gravest', 'firstMet'), ABOVE, FIRST_MET + ABOVE, MET, 'meeting, isMet}'),
+    '23: the last edge that is met': (
+        REASONS, EDGES, EDGES.replace('gravest', 'lastMet'), ABOVE, LAST_MET + ABOVE, MET, 'meeting, isMet}'),
+    '23: by place': by_segments('firstMet', FIRST_MET),
+    '15 before 23': by_segments('ranked', ranking('Crossing', 'Stretch', 'Touch')),
+    '24 before 15': by_segments('ranked', ranking('Stretch', 'Touch', 'Crossing')),
+    '15: a point inside a segment crosses': (
+        *by_segments('gravest', INNER, 'innerCrosses'),
+        'use Rattle.plane.specs.Points.{samePoint}\n',
+        'use Rattle.plane.specs.Points.{samePoint}\nuse Rattle.plane.specs.Segments.{straightBetween}\n'),
+    '23: the own edge too': (
+        REASONS, 'meetingReasons m (withoutEdge (natAbs e) (m .edges)) c', 'meetingReasons m (m .edges) c',
+        'use Rattle.map.specs.Rows.{withoutEdge, counts}', 'use Rattle.map.specs.Rows.{counts}'),
+    '15 before 14': (
+        REASONS,
+        '(14, nodeInside m c)\n    ∷ (23, same found 23)\n    ∷ (15, same found 15)',
+        '(15, same found 15)\n    ∷ (14, nodeInside m c)\n    ∷ (23, same found 23)'),
+    '23 before 14': (
+        REASONS,
+        '(14, nodeInside m c)\n    ∷ (23, same found 23)', '(23, same found 23)\n    ∷ (14, nodeInside m c)'),
+    '24 never': (REASONS, '(24, same found 24)', '(24, false)'),
+    '23 before 11': (
+        REASONS,
+        '(11, directionTaken m (m .next .edges) a b c)\n    ∷ (12, cornersDiffer m a b c)\n'
+        '    ∷ meetingReasons m (m .edges) c\n    ++ roomReasons',
+        'meetingReasons m (m .edges) c\n    ++ (11, directionTaken m (m .next .edges) a b c)\n'
+        '    ∷ (12, cornersDiffer m a b c)\n    ∷ roomReasons'),
     'value of kind 4': (
         TICKET, '(addIsoEdge (natAbs u) (natAbs v) (curveOf c) m, pos (m .next .edges))',
         '(addIsoEdge (natAbs u) (natAbs v) (curveOf c) m, pos (m .next .nodes))'),
@@ -233,10 +328,11 @@ use lib.IntN.{ℤ, pos, negsuc}
 use lib.ListN.{length}
 use Rattle.lists.specs.Tests.{same}
 use Rattle.lists.specs.Scans.{allOf}
+use Rattle.curves.specs.Tests.{isMet}
 use Rattle.map.specs.Rows.{Lent, Sizes, mapOf, withoutEdge}
 use Rattle.map.specs.Darts.{pieceCount}
 use Rattle.map.specs.Form.{linksOnce, ringsBearOne, inForm}
-use Rattle.map.specs.Reasons.{edgeWrong}
+use Rattle.map.specs.Reasons.{edgeMeeting}
 use Rattle.map.specs.Grow.{grow}
 use Rattle.map.proofs.Opened.{opened}
 
@@ -299,7 +395,7 @@ def grown(copy, name):
     path, old, new, statement, tickets = GROWN[name]
     left_out = {n: (copy / PROOFS / n).read_text() for n in ('Sheet.antt', *EXAMPLES)}
     for n, text in left_out.items():
-        (copy / PROOFS / n).write_text(re.split(r'\npub (?:P|Worked|WorkedSides|WorkedRectangles) : ', text)[0] + '\n')
+        (copy / PROOFS / n).write_text(re.split(r'\npub (?:P|Worked\w*) : ', text)[0] + '\n')
     held = witness(copy, statement, tickets)
     before = slipped(copy, path, old, new)
     false = held and not witness(copy, statement, tickets)

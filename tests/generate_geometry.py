@@ -70,6 +70,13 @@ def contact(s, t):
     return 3 if pm.segments_stretch(s, t) else 2 if pm.segments_cross(s, t) else 1
 
 
+def meeting(c, d):
+    """The gravest that segments do where they meet wrongly. The curves need not be simple: one that passes its own end
+    inside a segment may cross the other there, and that point is an end of both."""
+    ends, pairs = pm.common_ends(c, d), [(s, t) for s in pm.segments(c) for t in pm.segments(d)]
+    return max((contact(s, t) for s, t in pairs if pm.segments_wrong(s, t, ends)), default=0)
+
+
 def direction_class(v):
     return 8 if v == (0, 0) else pm.direction_class(v)
 
@@ -98,7 +105,7 @@ def answers(c, d, p):
     segments = pm.segments(c)
     places = [i for i, u in enumerate(segments) if pm.on_segment(p, u)]
     out += [not pm.equal_neighbours(c), any(pm.surplus(c, i) for i in range(len(c))), pm.simple(c)]
-    out += [places[0] if places else 99, pm.curves_wrong(c, d), *signed(sum(pm.cross(a, b) for a, b in segments))]
+    out += [places[0] if places else 99, meeting(c, d), *signed(sum(pm.cross(a, b) for a, b in segments))]
     out += [sum(pm.passes_below(p, u) for u in segments) % 2]
     front, back = halves(c, p)
     for points in (front, back, pm.joined_points(tuple(c), tuple(d)), c[::-1]):

@@ -30,9 +30,9 @@ import ticket as tk
 ROOM = pm.Sizes(200, 200, 200)
 SQUARE = ['1 -1 0 0', '12 1 1 0 0 10 0 10 10 0 10 0 0']
 BACK = ['1 -1 0 0', '12 1 1 0 0 0 10 10 10 10 0 0 0']
-# P2, P5, P6 and P8 to P10; P4 and P7; P3
+# P2, P5, P6 and P8 to P10; P4 and P7; P3; a ditch out of the square
 CASES = [SQUARE + ['8 1 0 0', '8 1 5 5', '8 1 10 10', '12 1 2 0 0 10 10', '10 1 2', '13 3'],
-         SQUARE + ['8 1 10 4', '10 1 2'], BACK]
+         SQUARE + ['8 1 10 4', '10 1 2'], BACK, SQUARE + ['1 1 5 5', '1 0 15 5', '4 2 3 5 5 15 5']]
 # three edges at a node, two bare nodes, and reasons that random tickets seldom meet; the last two redraws would change
 # the order at the node
 RARE = ['1 -1 10 10', '1 -1 20 10', '1 -1 10 20', '1 -1 0 10', '12 1 2 10 10 20 10', '12 1 3 10 10 10 20',

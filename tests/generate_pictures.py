@@ -1,8 +1,8 @@
 #!/usr/bin/env python3
 """Writes the pictures under docs/ from lists of tickets; what they show is worked out by the reference.
 
-  generate_pictures.py [NAME ...]    of directions, edge, links, meadow, rectangles, rings, sides, square; all for none
-                                     is named
+  generate_pictures.py [NAME ...]    of directions, edge, links, meadow, meetings, rectangles, rings, sides, square;
+                                     all if none is named
 """
 
 import cmath
@@ -13,6 +13,7 @@ import textwrap
 
 from repository import LEVEL, ROOT     # finds the reference
 
+import check
 import plotmap as pm
 import ticket as tk
 
@@ -693,8 +694,68 @@ def rectangles():
     page.save('rectangles')
 
 
-PICTURES = {'directions': directions, 'edge': edge, 'links': links, 'meadow': meadow, 'rectangles': rectangles,
-            'rings': rings, 'sides': sides, 'square': square}
+# --- docs/meetings.svg -----------------------------------------------------------------------------------------------
+
+BENT = ['1 -1 0 4', '1 -1 14 4', '4 1 2 0 4 4 6 10 6 14 4', '1 -1 1 10', '1 -1 13 10']       # edge 1, which is met
+MEETINGS = [
+    ('5 6 8 6', 'along a segment'),
+    ('7 4', 'across a segment, twice'),
+    ('7 6', 'a bend on a segment'),
+    ('4 6', 'a bend at a bend'),
+    ('3 8 5 4 16 1', 'through a bend'),
+]
+NAMED = {23: 'OVERLAPS_EDGE', 15: 'CROSSES_EDGE', 24: 'TOUCHES_EDGE'}
+MEETINGS_WIDTH = 186
+MEETINGS_STYLE = """.drawn { fill: none; stroke: #1f4e79; stroke-width: 3.5; stroke-linejoin: round }
+.stretch { fill: none; stroke: #f2a89c; stroke-width: 15; stroke-linecap: round }
+.met { fill: #f2a89c }
+"""
+
+
+def mark_meetings(page, view, points, met):
+    """What the curve and the other one share, worked out by fractions: stretches, or else points."""
+    shared = [check.shared(*s, *t) for s in pm.segments(points) for t in pm.segments(met)]
+    found = dict.fromkeys(x for x in shared if x is not None)
+    stretches = [x for x in found if isinstance(x[0], tuple)]
+    for x in stretches:
+        page.line(view.line(x), 'stretch')
+    for x in () if stretches else found:
+        page.disc(view.at(*map(float, x)), 8, 'met')
+
+
+def meetings_panel(page, at, inner, words):
+    """The bold line is the curve that the ticket asks for."""
+    ticket = f'4 3 4 1 10 {inner} 13 10'
+    m, _ = grown(BENT)
+    _, answer = grown([*BENT, ticket])
+    points = pm.curve_sent(tuple(map(int, ticket.split())))
+    view = View(m, at + complex(MEETINGS_WIDTH / 2 - 70, 126), 9.5)
+    page.box(at + 4 + 4j, MEETINGS_WIDTH - 8, 142)
+    mark_meetings(page, view, points, m.edges[0].points)
+    page.line(view.course(1), 'edge')
+    page.line(view.line(points), 'drawn')
+    page.label(view.at(12.6, 5.9), '1', 'edge-number')
+    for n in m.nodes:
+        page.disc(view.node(n.number), 4.5, 'node' if n.face < 0 else 'isolated')
+    page.text(at + complex(MEETINGS_WIDTH / 2, 164), f'{answer[0]} {NAMED[answer[0]]}', 'note answer refused')
+    page.text(at + complex(MEETINGS_WIDTH / 2, 182), words, 'note')
+
+
+def meetings():
+    page = Page(len(MEETINGS) * MEETINGS_WIDTH, 216)
+    for i, panel in enumerate(MEETINGS):
+        meetings_panel(page, i * MEETINGS_WIDTH, *panel)
+    page.line([12 + 203j, 52 + 203j], 'edge')
+    page.text(60 + 207.5j, 'edge 1', 'note start')
+    page.line([132 + 203j, 172 + 203j], 'drawn')
+    page.text(180 + 207.5j, 'the line that the ticket draws', 'note start')
+    page.disc(400 + 203j, 7, 'met')
+    page.text(414 + 207.5j, 'what they share', 'note start')
+    page.save('meetings', MEETINGS_STYLE)
+
+
+PICTURES = {'directions': directions, 'edge': edge, 'links': links, 'meadow': meadow, 'meetings': meetings,
+            'rectangles': rectangles, 'rings': rings, 'sides': sides, 'square': square}
 
 
 def main(names):

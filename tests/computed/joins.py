@@ -16,7 +16,8 @@ CRATES = ('joining',)
 HEADER = """use Rattle.map.specs.Ticket.{Outcome}
 use Rattle.joining.specs.Join.{joinedSheet}
 """
-REFUSALS = (0, 1, 2, 6, 7, 11, 12, 14, 15, 20, 21)     # what kinds 1, 8 and 12 can get on places and rows that exist
+# what kinds 1, 8 and 12 can get on places and rows that exist
+REFUSALS = (0, 1, 2, 6, 7, 11, 12, 14, 15, 20, 21, 23, 24)
 
 
 def call(first, second):
@@ -29,7 +30,7 @@ def call(first, second):
 def by_hand():
     """A square and its neighbour, which has a node inside the square's side, both ways round; a line with a straight
     point more, and one that goes on from its end and comes back; one curve that turns back, which kind 8 leaves out of
-    form at the turn: then another ticket gets 2."""
+    form at the turn: then another ticket gets 2; a line that lies along another one, and one that touches it."""
     square = lent.played('1 -1 0 0', '12 1 1 0 0 10 0 10 10 0 10 0 0')
     beside = lent.played('1 -1 10 0', '1 -1 10 10', '12 1 2 10 0 10 10', '12 1 2 10 0 20 0 20 10 10 10')
     line = lent.played('1 -1 0 0', '1 -1 9 0', '4 1 2 0 0 9 0')
@@ -39,9 +40,10 @@ def by_hand():
     turn, more = lent.played('1 -1 9 0'), lent.played('1 -1 9 0', '1 -1 20 20')
     halves = lent.played('1 -1 0 0', '1 -1 5 0', '1 -1 9 0', '4 1 2 0 0 5 0', '12 2 3 5 0 9 0')
     twice = replace(turn, nodes=(*turn.nodes, replace(turn.nodes[0], number=2)), next_node=3)
+    along, touching = (lent.played('1 -1 1 5', '1 -1 8 5', f'4 1 2 1 5 {inner} 8 5') for inner in ('3 0 6 0', '4 0'))
     pairs = ((square, beside), (beside, square), (line, longer), (longer, longer), (pm.EMPTY_MAP, longer),
              (line, beyond), (beyond, line), (beyond, beyond), (back, turn), (back, more), (halves, line),
-             (line, halves), (square, twice), (twice, square))
+             (line, halves), (square, twice), (twice, square), (line, along), (touching, line))
     t, h = grown.exact(square, LEVEL)
     bad = ((t, replace(h, face_count=0)), (replace(t, faces=()), h), (t, h))       # the first is looked at first
     good = [(grown.exact(a, LEVEL, more=5), grown.exact(b, LEVEL)) for a, b in pairs]

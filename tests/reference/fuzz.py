@@ -6,7 +6,7 @@
           [--no-form]   (skip the in-form test of plotmap itself; check.py still looks)
 
 Mixes: even, redraw (many kind 6), abuse (wells and loops redrawn), faces (many 11 to 14), stitch (many 7 to 10),
-islands (see islands.py).
+islands (see islands.py). In all of them some curves meet edges on purpose (see meetings.py).
 """
 
 import argparse
@@ -18,22 +18,24 @@ from math import gcd
 
 import check
 import islands
+import meetings
 import plotmap as pm
 import sweeps
 import ticket as tk
 
 SWEEP = 'sweep'     # kind 6 past a well or a node, or turned over
+MEET = 'meet'       # kinds 4, 6, 11 and 12 along, across or touching other edges
 MIXES = {
     'even':   {1: 10, 2: 5, 3: 3, 4: 8, 5: 4, 6: 12, 7: 6, 8: 6, 9: 5, 10: 5, 11: 14, 12: 14,
-               13: 4, 14: 4, 0: 2},
+               13: 4, 14: 4, 0: 2, MEET: 10},
     'redraw': {1: 10, 2: 2, 3: 1, 4: 4, 5: 3, 6: 25, 7: 3, 8: 3, 9: 2, 10: 2, 11: 16, 12: 16,
-               13: 6, 14: 6, 0: 0, SWEEP: 15},
+               13: 6, 14: 6, 0: 0, SWEEP: 15, MEET: 10},
     'abuse':  {1: 22, 2: 2, 3: 1, 4: 6, 5: 2, 6: 30, 7: 2, 8: 2, 9: 1, 10: 1, 11: 14, 12: 14,
-               13: 2, 14: 2, 0: 0},
+               13: 2, 14: 2, 0: 0, MEET: 8},
     'faces':  {1: 10, 2: 2, 3: 1, 4: 4, 5: 2, 6: 10, 7: 4, 8: 4, 9: 2, 10: 2, 11: 28, 12: 28,
-               13: 7, 14: 7, 0: 1},
+               13: 7, 14: 7, 0: 1, MEET: 12},
     'stitch': {1: 8, 2: 2, 3: 1, 4: 10, 5: 3, 6: 10, 7: 15, 8: 15, 9: 12, 10: 12, 11: 12, 12: 12,
-               13: 3, 14: 3, 0: 1},
+               13: 3, 14: 3, 0: 1, MEET: 10},
 }
 
 
@@ -130,7 +132,9 @@ def make_ticket(rng, m, grid, weights):
         return (kind, some_edge(rng, m))
     if kind == SWEEP and m.edges:
         return sweeps.ticket(rng, m)
-    if kind in (6, SWEEP):
+    if kind == MEET and m.edges:
+        return meetings.ticket(rng, m)
+    if kind in (6, SWEEP, MEET):
         return redrawn(rng, m, grid)
     if kind in (7, 8):
         e = some_edge(rng, m)

@@ -5,6 +5,7 @@ The sheet is n by n cells of 6 by 6; routes run on the cell borders, wells and i
 Everything is then bent by one whole-number linear map, so that segments have all slopes.
 """
 
+import meetings
 import plotmap as pm
 import sweeps
 
@@ -140,6 +141,8 @@ def healed(rng, m):
 
 
 def ticket(rng, m, w):
+    if m.edges and rng.random() < 0.08:
+        return meetings.ticket(rng, m)
     at = {n.number: w.back[(n.x, n.y)] for n in m.nodes}
     lattice = [n for n, s in at.items() if on_border(s)]
     inner = [n for n, s in at.items() if not on_border(s)]

@@ -12,6 +12,7 @@ from dataclasses import replace
 import fuzz
 import fuzz_tables as ft
 import islands
+import meetings
 import plotmap as pm
 import rectangles
 import sweeps
@@ -79,10 +80,13 @@ def distorted(rng, m, grid, level):
 
 
 def ticket(rng, m, s, grid, level):
-    """Carried out for the most part; some redrawings past a node or turned over."""
+    """Carried out for the most part; some redrawings past a node or turned over, some curves that meet edges."""
     form = pm.in_form(*pm.encode(m, s, level), level)
-    if form and m.edges and rng.random() < 0.15:
+    how = rng.random()
+    if form and m.edges and how < 0.15:
         return sweeps.ticket(rng, m)
+    if form and m.edges and how < 0.3:
+        return meetings.ticket(rng, m)
     for _ in range(6):
         k = fuzz.make_ticket(rng, m, grid, fuzz.MIXES['even'])
         if form and pm.shape_ok(k) and pm.first_reason(pm.reasons(m, s, k, level)) == 0:

@@ -10,9 +10,11 @@ use borrow.Author.Tests.{ltb-true, lt-leb}
 use Rattle.lists.specs.Scans.{fold}
 use Rattle.lists.proofs.Bools.{&&-false, or-true}
 use Rattle.plane.specs.declared.Point.{Point}
+use Rattle.plane.specs.declared.Contact.the-variants.{None}
 use Rattle.plane.specs.Segments.{overlap, meets}
 use Rattle.curves.specs.Curves.{Curve, points}
-use Rattle.curves.specs.Tests.{segWrong, segCurve, commonEnds, curveCurve, wrong, meetWrongly}
+use Rattle.curves.specs.Tests.{segWrong, segMeeting, commonEnds, meeting}
+use Rattle.curves.proofs.Meetings.{segCurve, curveCurve}
 use Rattle.bounding_boxes.specs.declared.Extent.{Extent}
 use Rattle.bounding_boxes.specs.Extents.{extentAt, widen, extentOf, boxesApart}
 
@@ -76,9 +78,9 @@ module _ (a b c d : Point) where
   unfolding meets
   clear-y h = rw h (&&-false (overlap (a .x) (b .x) (c .x) (d .x)))
 
-  clear-wrong : (l : List Point) → meets a b c d ≡ false → segWrong l a b c d ≡ false
-  unfolding segWrong
-  clear-wrong l h = rw h
+  clear-seg : (l : List Point) → meets a b c d ≡ false → segMeeting l a b c d ≡ None
+  unfolding segMeeting segWrong
+  clear-seg l h = rw h
 
 module _ (e f : Extent) (away : boxesApart e f ≡ true) where
   clear : (a b c d : Point) → Within e a → Within e b → Within f c → Within f d → meets a b c d ≡ false
@@ -100,19 +102,19 @@ module _ (e f : Extent) (away : boxesApart e f ≡ true) where
       ]
 
   segment-apart : (l : List Point) (a b c : Point) (s : List Point) → Within e a → Within e b → Inside f (c ∷ s)
-      → segCurve l a b c s ≡ false
+      → segCurve l a b c s ≡ None
   segment-apart l a b c [] wa wb i = refl
   segment-apart l a b c (d ∷ s) wa wb (more wc (more wd i)) =
-      rw (clear-wrong a b c d l (clear a b c d wa wb wc wd)) (segment-apart l a b d s wa wb (more wd i))
+      rw (clear-seg a b c d l (clear a b c d wa wb wc wd)) (segment-apart l a b d s wa wb (more wd i))
 
   curve-apart : (l : List Point) (a : Point) (r : List Point) (c : Point) (s : List Point) → Inside e (a ∷ r)
-      → Inside f (c ∷ s) → curveCurve l a r c s ≡ false
+      → Inside f (c ∷ s) → curveCurve l a r c s ≡ None
   curve-apart l a [] c s i j = refl
   curve-apart l a (b ∷ r) c s (more wa (more wb i)) j =
       rw (segment-apart l a b c s wa wb j) (curve-apart l b r c s (more wb i) j)
 
--- curves whose extents lie apart do not meet wrongly
-pub apart-meet : (c d : Curve) → boxesApart (extentOf c) (extentOf d) ≡ true → meetWrongly c d ≡ false
-unfolding wrong
-apart-meet c d h = curve-apart (extentOf c) (extentOf d) h (commonEnds (c .first) (c .rest) (d .first) (d .rest))
-    (c .first) (c .rest) (d .first) (d .rest) (curve-inside c) (curve-inside d)
+-- curves whose extents lie apart do not meet
+pub apart-meeting : (c d : Curve) → boxesApart (extentOf c) (extentOf d) ≡ true → meeting c d ≡ None
+unfolding meeting
+apart-meeting c d h = curve-apart (extentOf c) (extentOf d) h (commonEnds c d) (c .first) (c .rest) (d .first) (d .rest)
+    (curve-inside c) (curve-inside d)

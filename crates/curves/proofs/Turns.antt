@@ -2,7 +2,7 @@
 -- and the loop's end is `-end`. Assumes nothing.
 use mathlib.Core.Path.{_≡_, refl, sym, ap, ap₂, _∙_}
 use mathlib.Core.Bool.{Bool, true, false, not, _&&_, _||_, Bool·beq}
-use mathlib.Core.List.{List, [], _∷_}
+use mathlib.Core.List.{List, [], _∷_, map}
 use Prim.Native.Nat.{ℕ, _+_, _-_, _/_, _≤_, _<_}
 use native.Mathlib.Omega.{arith}
 use lib.Dec.{eqb}
@@ -15,13 +15,15 @@ use Rattle.lists.specs.Tables.{place}
 use Rattle.lists.specs.declared.Found.the-variants.{At}
 use Rattle.lists.proofs.Bools.{eq1, eq3, ⊕-false}
 use Rattle.plane.specs.declared.Point.{Point}
+use Rattle.plane.specs.declared.Contact.{Contact}
 use Rattle.plane.specs.Points.{samePoint}
 use Rattle.plane.specs.Segments.{onSegment, straightBetween}
 use Rattle.plane.specs.Below.{Segment, passesBelow}
 use Rattle.curves.specs.Curves.{Run, pointAt, pointsFrom, segmentsOf, curveOf}
-use Rattle.curves.specs.Tests.{differs, straightIn, shares, segWrong, mayShare, segCurve, curveCurve}
+use Rattle.curves.specs.Tests.{differs, straightIn, shares, segWrong, mayShare, graver, gravest}
 use Rattle.curves.specs.Shares.{markedEnds}
 use Rattle.curves.specs.Tests.{lastly, free, freeAfter, arc, simple, isSimple}
+use Rattle.curves.proofs.Meetings.{graver-none, graver-assoc}
 use Rattle.curves.proofs.Runs.{two-points, from-step, from-end, curve-is, last-is}
 
 -- what a test of two points answered, of the points that they are
@@ -65,15 +67,6 @@ module _ (l : List ℤ) (i : ℕ) {n : ℕ} (all : n + 1 ≡ length l / 2) (take
     place-miss e = rw (segments-step, e)
 
   module _ (k : List Point) (a b : Point) where
-    pub segCurve-hit : segWrong k a b (pointAt l i) (pointAt l (i + 1)) ≡ true
-        → segCurve k a b (pointAt l i) (pointsFrom l (i + 1)) ≡ true
-    segCurve-hit e = rw (from-step l (i + 1) within, e)
-
-    pub segCurve-miss : segWrong k a b (pointAt l i) (pointAt l (i + 1)) ≡ false
-        → segCurve k a b (pointAt l i) (pointsFrom l (i + 1))
-        ≡ segCurve k a b (pointAt l (i + 1)) (pointsFrom l (i + 1 + 1))
-    segCurve-miss e = rw (from-step l (i + 1) within, e)
-
     pub free-hit : segWrong (lastly k (pointsFrom l (i + 1 + 1))) a b (pointAt l i) (pointAt l (i + 1)) ≡ true
         → free k a b (pointAt l i) (pointsFrom l (i + 1)) ≡ false
     free-hit e = rw (from-step l (i + 1) within, e)
@@ -82,16 +75,6 @@ module _ (l : List ℤ) (i : ℕ) {n : ℕ} (all : n + 1 ≡ length l / 2) (take
         → free k a b (pointAt l i) (pointsFrom l (i + 1)) ≡ free k a b (pointAt l (i + 1)) (pointsFrom l (i + 1 + 1))
     free-miss e = rw (from-step l (i + 1) within, e)
 
-  module _ (k : List Point) (c : Point) (s : List Point) where
-    pub curves-hit : segCurve k (pointAt l i) (pointAt l (i + 1)) c s ≡ true
-        → curveCurve k (pointAt l i) (pointsFrom l (i + 1)) c s ≡ true
-    curves-hit e = rw (from-step l (i + 1) within, e)
-
-    pub curves-miss : segCurve k (pointAt l i) (pointAt l (i + 1)) c s ≡ false
-        → curveCurve k (pointAt l i) (pointsFrom l (i + 1)) c s
-        ≡ curveCurve k (pointAt l (i + 1)) (pointsFrom l (i + 1 + 1)) c s
-    curves-miss e = rw (from-step l (i + 1) within, e)
-
   pub arc-hit : freeAfter [] (pointAt l i) (pointAt l (i + 1)) (pointsFrom l (i + 2)) ≡ false
       → arc (pointAt l i) (pointsFrom l (i + 1)) ≡ false
   arc-hit e = let f : i + 1 + 1 ≡ i + 2 = omega arith in rw (from-step l (i + 1) within, f, e)
@@ -99,6 +82,14 @@ module _ (l : List ℤ) (i : ℕ) {n : ℕ} (all : n + 1 ≡ length l / 2) (take
   pub arc-miss : freeAfter [] (pointAt l i) (pointAt l (i + 1)) (pointsFrom l (i + 2)) ≡ true
       → arc (pointAt l i) (pointsFrom l (i + 1)) ≡ arc (pointAt l (i + 1)) (pointsFrom l (i + 1 + 1))
   arc-miss e = let f : i + 2 ≡ i + 1 + 1 = omega arith in rw (from-step l (i + 1) within, rw f at e)
+
+  -- one segment more that may meet
+  pub meeting-again : (f : Segment → Contact) (found : Contact) {a b : Point} {r whole : Contact} → a ≡ pointAt l i
+      → b ≡ pointAt l (i + 1) → r ≡ graver found (f (record { from = a; to = b }))
+      → graver found (gravest (map f (segmentsFrom l i))) ≡ whole
+      → graver r (gravest (map f (segmentsFrom l (i + 1)))) ≡ whole
+  meeting-again f found ea eb er inv =
+      rw (er, ea, eb) (graver-assoc found _ (gravest (map f (segmentsFrom l (i + 1)))) ∙ rw segments-step at inv)
 
   -- one segment more that may pass below p
   pub odd-again : (p : Point) (o r : Bool) {a b : Point} {t : Bool} → a ≡ pointAt l i → b ≡ pointAt l (i + 1)
@@ -138,12 +129,9 @@ module _ (l : List ℤ) (i : ℕ) {n : ℕ} (all : n + 1 ≡ length l / 2) (left
   pub odd-end : (p : Point) (o : Bool) → o ⊕ oddCount (segmentsFrom l i) (passesBelow p) ≡ o
   odd-end p o = rw segments-end (⊕-false o)
 
-  pub segCurve-end : (k : List Point) (a b : Point) → segCurve k a b (pointAt l i) (pointsFrom l (i + 1)) ≡ false
-  segCurve-end k a b = rw (from-end l (i + 1) past)
-
-  pub curves-end : (k : List Point) (c : Point) (s : List Point)
-      → curveCurve k (pointAt l i) (pointsFrom l (i + 1)) c s ≡ false
-  curves-end k c s = rw (from-end l (i + 1) past)
+  pub meeting-end : (f : Segment → Contact) (found : Contact) → graver found (gravest (map f (segmentsFrom l i)))
+      ≡ found
+  meeting-end f found = rw segments-end (graver-none found)
 
   pub free-end : (k : List Point) (a b : Point) → free k a b (pointAt l i) (pointsFrom l (i + 1)) ≡ true
   free-end k a b = rw (from-end l (i + 1) past)

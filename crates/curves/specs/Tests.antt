@@ -1,13 +1,15 @@
--- What is asked of curves: neighbouring points, straight points, places on a curve, simple curves, and curves that meet
--- wrongly. Over a ∷ r first, then over a curve. What a test may leave out is bound by a `let`, which waits.
-use mathlib.Core.Bool.{Bool, true, false, not, _&&_, _||_}
-use mathlib.Core.List.{List, [], _∷_}
+-- What is asked of curves: neighbouring points, straight points, places on a curve, simple curves, and how two curves
+-- meet. Over a ∷ r first, then over a curve. What a test may leave out is bound by a `let`, which waits.
+use mathlib.Core.Bool.{Bool, true, false, cond, not, _&&_, _||_}
+use mathlib.Core.List.{List, [], _∷_, map}
 use Rattle.lists.specs.declared.Found.{Found}
 use Rattle.lists.specs.Tables.{place}
 use Rattle.plane.specs.declared.Point.{Point}
+use Rattle.plane.specs.declared.Contact.{Contact}
+use Rattle.plane.specs.declared.Contact.the-variants.{None, Touch, Crossing, Stretch}
 use Rattle.plane.specs.Points.{samePoint}
-use Rattle.plane.specs.Segments.{meets, stretches, onSegment, straightBetween}
-use Rattle.curves.specs.Curves.{Curve, lastOf, segments}
+use Rattle.plane.specs.Segments.{meets, stretches, contact, onSegment, straightBetween}
+use Rattle.curves.specs.Curves.{Curve, lastOf, lastPoint, segments}
 
 -- ---- points of one curve
 
@@ -43,27 +45,29 @@ abbrev pub mayShare : Bool → Point → List Point → List Point
 mayShare true p l = p ∷ l
 mayShare false p l = l
 
--- ---- two curves
+-- ---- how segments meet
 
--- the ends of the one that are ends of the other
-abbrev pub commonEnds : Point → List Point → Point → List Point → List Point
-commonEnds a r b s =
-    let z = lastOf a r in
-    let y = lastOf b s in
-    mayShare (samePoint a b || samePoint a y) a (mayShare (samePoint z b || samePoint z y) z [])
+-- two segments that share a point that is none of the list
+unfoldable pub segMeeting : List Point → Point → Point → Point → Point → Contact
+segMeeting l a b c d = let found = contact a b c d in cond (segWrong l a b c d) found None
 
--- the segment a b and one of the segments of c ∷ s share a point that is none of the list
-abbrev pub segCurve : List Point → Point → Point → Point → List Point → Bool
-segCurve l a b c [] = false
-segCurve l a b c (d ∷ s) = let rest = segCurve l a b d s in segWrong l a b c d || rest
+-- a stretch is reported before a crossing, and a crossing before a touch
+abbrev pub graver : Contact → Contact → Contact
+graver None k = k
+graver Touch None = Touch
+graver Touch Touch = Touch
+graver Touch Crossing = Crossing
+graver Touch Stretch = Stretch
+graver Crossing None = Crossing
+graver Crossing Touch = Crossing
+graver Crossing Crossing = Crossing
+graver Crossing Stretch = Stretch
+graver Stretch k = Stretch
 
-abbrev pub curveCurve : List Point → Point → List Point → Point → List Point → Bool
-curveCurve l a [] c s = false
-curveCurve l a (b ∷ r) c s = let rest = curveCurve l b r c s in segCurve l a b c s || rest
-
--- two curves meet wrongly when they share a point that is not an end of both
-unfoldable pub wrong : Point → List Point → Point → List Point → Bool
-wrong a r b s = curveCurve (commonEnds a r b s) a r b s
+-- for several segments or edges
+abbrev pub gravest : List Contact → Contact
+gravest [] = None
+gravest (k ∷ ks) = graver k (gravest ks)
 
 -- ---- simple curves
 
@@ -110,5 +114,29 @@ firstPlace c p = place (λ s. onSegment p (s .from) (s .to)) 0 (segments c)
 abbrev pub isSimple : Curve → Bool
 isSimple c = simple (c .first) (c .rest)
 
+-- ---- two curves
+
+-- the ends of the one that are ends of the other
+abbrev pub commonEnds : Curve → Curve → List Point
+commonEnds c d =
+    let a = c .first in
+    let z = lastPoint c in
+    let b = d .first in
+    let y = lastPoint d in
+    mayShare (samePoint a b || samePoint a y) a (mayShare (samePoint z b || samePoint z y) z [])
+
+-- how two curves meet but in common ends: the gravest that a segment of each do
+unfoldable pub meeting : Curve → Curve → Contact
+meeting c d =
+    let l = commonEnds c d in
+    gravest (map (λ s. gravest (map (λ t. segMeeting l (s .from) (s .to) (t .from) (t .to)) (segments d))) (segments c))
+
+abbrev pub isMet : Contact → Bool
+isMet None = false
+isMet Touch = true
+isMet Crossing = true
+isMet Stretch = true
+
+-- two curves meet wrongly when they share a point that is not an end of both
 abbrev pub meetWrongly : Curve → Curve → Bool
-meetWrongly c d = wrong (c .first) (c .rest) (d .first) (d .rest)
+meetWrongly c d = isMet (meeting c d)

@@ -1,16 +1,17 @@
 // Curves as runs of numbers x, y, x, y, .. in a lent slice: part of a ticket or of an edge row.
 use lists::Found;
+use plane::Contact;
 use plane::Point;
 ghost use mathlib.Core.Path.{_≡_};
 ghost use mathlib.Core.Bool.{true, false, _&&_};
-ghost use mathlib.Core.List.{[]};
+ghost use mathlib.Core.List.{[], map};
 ghost use Prim.Native.Nat.{_+_, _*_, _-_, _≤_, _<_, _/_};
 ghost use lib.ListN.{length};
 ghost use Rattle.plane.specs.Points.{InRange};
 ghost use Rattle.plane.specs.Segments.{onSegment};
-ghost use Rattle.curves.specs.Curves.{Run, isRun, pointAt, pointsFrom, curveOf};
-ghost use Rattle.curves.specs.Tests.{neighboursDiffer, straightInside, firstPlace, segWrong, mayShare, segCurve};
-ghost use Rattle.curves.specs.Tests.{meetWrongly, free, freeAfter, isSimple};
+ghost use Rattle.curves.specs.Curves.{Run, isRun, pointAt, pointsFrom, segments, curveOf};
+ghost use Rattle.curves.specs.Tests.{neighboursDiffer, straightInside, firstPlace, segWrong, mayShare};
+ghost use Rattle.curves.specs.Tests.{segMeeting, graver, gravest, meeting, free, freeAfter, isSimple};
 ghost use Rattle.curves.specs.Measures.{curveArea, oddBelow};
 ghost use Rattle.curves.specs.Shares.{Shareable, shareable, markedEnds};
 
@@ -173,34 +174,67 @@ pub fn common_ends(c: &[i64], d: &[i64]) -> Shares
     }
 }
 
-// Whether the segment a b shares with one of the curve's a point that they may not share.
-fn segment_wrong(l: Shares, a: Point, b: Point, c: &[i64]) -> bool
-    requires { ⌜ (Shareable l) × (InRange a) × (InRange b) × Run (now c) ⌝ }
-    ensures { λ r. ⌜ r ≡ segCurve (shareable l) a b (curveOf (now (c .entry)) .first)
-        (curveOf (now (c .entry)) .rest) ⌝ }
+// The graver of two contacts: a stretch before a crossing, and a crossing before a touch.
+pub fn graver(j: Contact, k: Contact) -> Contact
+    ensures { λ r. ⌜ r ≡ graver j k ⌝ }
 {
-    let n = segment_count(c);
-    for i in 0..n {
-        if segments_wrong(l, a, b, point_at(c, i), point_at(c, i + 1)) {
-            return true;
-        }
+    match j {
+        Contact::None => k,
+        Contact::Touch => match k {
+            Contact::None => Contact::Touch,
+            Contact::Touch => Contact::Touch,
+            Contact::Crossing => Contact::Crossing,
+            Contact::Stretch => Contact::Stretch,
+        },
+        Contact::Crossing => match k {
+            Contact::None => Contact::Crossing,
+            Contact::Touch => Contact::Crossing,
+            Contact::Crossing => Contact::Crossing,
+            Contact::Stretch => Contact::Stretch,
+        },
+        Contact::Stretch => Contact::Stretch,
     }
-    false
 }
 
-// Whether two curves share a point that is not an end of both.
-pub fn curves_wrong(c: &[i64], d: &[i64]) -> bool
+// The graver of what was found so far and of how the segments a b and c d meet, where they share a point that they may
+// not share.
+fn segments_meeting(found: Contact, l: Shares, a: Point, b: Point, c: Point, d: Point) -> Contact
+    requires { ⌜ (Shareable l) × (InRange a) × (InRange b) × (InRange c) × (InRange d) ⌝ }
+    ensures { λ r. ⌜ r ≡ graver found (segMeeting (shareable l) a b c d) ⌝ }
+{
+    if segments_wrong(l, a, b, c, d) {
+        return graver(found, plane::contact_of(a, b, c, d));
+    }
+    found
+}
+
+// The gravest of what was found so far and of what the segment a b does with one of the curve's.
+fn segment_meeting(so_far: Contact, l: Shares, a: Point, b: Point, c: &[i64]) -> Contact
+    requires { ⌜ (Shareable l) × (InRange a) × (InRange b) × Run (now c) ⌝ }
+    ensures { λ r. ⌜
+        r ≡ graver «so_far» (gravest (map (λ t. segMeeting (shareable l) a b (t .from) (t .to))
+        (segments (curveOf (now (c .entry)))))) ⌝ }
+{
+    let n = segment_count(c);
+    let mut found = so_far;
+    for i in 0..n {
+        found = segments_meeting(found, l, a, b, point_at(c, i), point_at(c, i + 1));
+    }
+    found
+}
+
+// How two curves meet but in common ends: the gravest that a segment of each do.
+pub fn curves_meeting(c: &[i64], d: &[i64]) -> Contact
     requires { ⌜ Run (now c) × Run (now d) ⌝ }
-    ensures { λ r. ⌜ r ≡ meetWrongly (curveOf (now (c .entry))) (curveOf (now (d .entry))) ⌝ }
+    ensures { λ r. ⌜ r ≡ meeting (curveOf (now (c .entry))) (curveOf (now (d .entry))) ⌝ }
 {
     let l = common_ends(c, d);
     let n = segment_count(c);
+    let mut found = Contact::None;
     for i in 0..n {
-        if segment_wrong(l, point_at(c, i), point_at(c, i + 1), d) {
-            return true;
-        }
+        found = segment_meeting(found, l, point_at(c, i), point_at(c, i + 1), d);
     }
-    false
+    found
 }
 
 // ---- simple curves

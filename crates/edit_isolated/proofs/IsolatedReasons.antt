@@ -107,6 +107,8 @@ module _ (nodes edges faces : List ℤ) (h : Head) (u v : ℕ) (c : List ℤ) wh
       let e₉ = first-zero 9 joined _ (omega arith) (e₈ .1) in
       let e₁₂ = first-zero 12 _ _ (omega arith) (e₉ .1) in
       let e₁₄ = first-zero 14 _ _ (omega arith) (e₁₂ .1) in
-      let e₁₅ = first-zero 15 _ _ (omega arith) (e₁₄ .1) in
-      let r = room-left (sizesIn nodes edges faces) h (counts 0 1 0) (counts 0 1 0) (e₁₅ .1) in
+      let e₂₃ = first-zero 23 _ _ (omega arith) (e₁₄ .1) in
+      let e₁₅ = first-zero 15 _ _ (omega arith) (e₂₃ .1) in
+      let e₂₄ = first-zero 24 _ _ (omega arith) (e₁₅ .1) in
+      let r = room-left (sizesIn nodes edges faces) h (counts 0 1 0) (counts 0 1 0) (e₂₄ .1) in
       (sent-run c _ e, both-of (e₉ .0) .0, omega (arith, r .edges), omega (arith, r .next-edge))

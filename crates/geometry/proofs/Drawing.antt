@@ -17,7 +17,7 @@ use Rattle.geometry.proofs.Chains.{end-on, arc-simple}
 use Rattle.geometry.proofs.Cutting.{Cloven, cut-cloven}
 use Rattle.geometry.proofs.Joining.{Joined, heal-joined}
 use Rattle.geometry.proofs.Turning.{some-turned, differ-turned, simple-turned, clear-turned}
-use Rattle.geometry.proofs.Truth.{wrong-clear, simple-true}
+use Rattle.geometry.proofs.Truth.{unmet-clear, simple-true}
 
 -- ---- lists
 
@@ -94,7 +94,7 @@ pub add : (xs ys : List Curve) (c : Curve) → Some (c .rest) → Differ (c .fir
 add xs ys c s n e w d =
     put xs ys c (record { some = s; differ = n; simple = simple-true (c .first) (c .rest) e })
     (all-map (λ d. meetWrongly c d ≡ false) (ClearCurves c)
-    (λ d f. wrong-clear (c .first) (c .rest) (d .first) (d .rest) f) (xs ++ ys) w) d
+    (λ d f. unmet-clear c d f) (xs ++ ys) w) d
 
 -- ---- halves
 

@@ -1,4 +1,4 @@
--- The tests of curves refuse no curve wrongly: curves that share common ends only pass `wrong`, and simple curves pass
+-- The tests of curves refuse no curve wrongly: curves that share common ends only do not meet, and simple curves pass
 -- `simple`. Assumes nothing.
 use mathlib.Core.Path.{_≡_, refl, sym, ap, _∙_, subst}
 use mathlib.Core.Bool.{Bool, true, false, not, _&&_, _||_}
@@ -10,17 +10,18 @@ use native.Mathlib.Omega.{arith}
 use lib.IntN.{pos}
 use Rattle.integers.specs.Solver.{con, _⊕_, _⊗_, _≐_, solve}
 use Rattle.integers.specs.Linear.{pos-injective}
-use Rattle.lists.proofs.Bools.{which, or-right, and-is, or-left, or-no}
+use Rattle.lists.proofs.Bools.{which, or-right, and-is, or-left}
 use Rattle.plane.specs.declared.Point.{Point}
 use Rattle.plane.specs.Points.{samePoint}
 use Rattle.plane.specs.Segments.{meets, onSegment, stretches}
 use Rattle.plane.proofs.Laws.{point-path}
-use Rattle.curves.specs.Curves.{lastOf}
-use Rattle.curves.specs.Tests.{shares, segWrong, mayShare, commonEnds, segCurve, curveCurve, wrong, free, freeAfter}
-use Rattle.curves.specs.Tests.{arc}
-use Rattle.curves.specs.Tests.{simple}
+use Rattle.curves.specs.Curves.{Curve, lastOf, lastPoint}
+use Rattle.curves.specs.Tests.{shares, segWrong, mayShare, segMeeting, commonEnds, meeting, isMet, meetWrongly}
+use Rattle.curves.specs.Tests.{free, freeAfter, arc, simple}
+use Rattle.curves.proofs.Meetings.{met-seg, unmet-graver, segCurve, curveCurve}
 use Rattle.geometry.specs.Spots.{Spot, spot, At, OnSeg, Among}
-use Rattle.geometry.specs.Meaning.{On, Differ, SimpleArc, Simple, End, Clear}
+use Rattle.geometry.specs.Meaning.{On, Differ, SimpleArc, Simple, End}
+use Rattle.geometry.specs.Drawing.{ClearCurves}
 use Rattle.geometry.proofs.Segments.{at-one, at-spot, at-first, at-last}
 use Rattle.geometry.proofs.Chains.{end-on, arc-open}
 use Rattle.geometry.proofs.Meeting.{samePoint-refl, meets-true, onSegment-is}
@@ -105,7 +106,7 @@ no-stretch : {a b c d : Point} (u v : Point) → ((P : Spot) → OnSeg P a b →
 no-stretch {a} {b} {c} {d} u v h = elim
     (which (stretches a b c d)) [ inl e ↦ absurd (no-two u v h (stretch-two a b c d e)) | inr e ↦ e ]
 
-shares-is : (P : Spot) (l : List Point) {a b c d : Point} → OnSeg P a b → OnSeg P c d → Among P l → shares l a b c d
+pub shares-is : (P : Spot) (l : List Point) {a b c d : Point} → OnSeg P a b → OnSeg P c d → Among P l → shares l a b c d
     ≡ true
 shares-is P [] o p h = absurd h
 shares-is P (q ∷ l) {a} {b} {c} {d} o p (inl h) =
@@ -132,15 +133,17 @@ seg-right l {a} {b} {c} {d} u v h = go (which (meets a b c d))
 -- ---- two curves
 
 seg-curve : (l : List Point) {a b : Point} (u v c : Point) (s : List Point)
-    → ((P : Spot) → OnSeg P a b → On P c s → Among P l × (At P u ⊎ At P v)) → segCurve l a b c s ≡ false
+    → ((P : Spot) → OnSeg P a b → On P c s → Among P l × (At P u ⊎ At P v)) → isMet (segCurve l a b c s) ≡ false
 seg-curve l u v c [] h = refl
-seg-curve l u v c (d ∷ s) h = or-no (seg-right l u v (λ P o p. h P o (inl p)))
-    (seg-curve l u v d s (λ P o p. h P o (inr p)))
+seg-curve l {a} {b} u v c (d ∷ s) h =
+    unmet-graver (segMeeting l a b c d) (segCurve l a b d s)
+    (met-seg l a b c d ∙ seg-right l u v (λ P o p. h P o (inl p))) (seg-curve l u v d s (λ P o p. h P o (inr p)))
 
 curve-curve : (l : List Point) (u v a : Point) (r : List Point) (c : Point) (s : List Point)
-    → ((P : Spot) → On P a r → On P c s → Among P l × (At P u ⊎ At P v)) → curveCurve l a r c s ≡ false
+    → ((P : Spot) → On P a r → On P c s → Among P l × (At P u ⊎ At P v)) → isMet (curveCurve l a r c s) ≡ false
 curve-curve l u v a [] c s h = refl
-curve-curve l u v a (b ∷ r) c s h = or-no (seg-curve l u v c s (λ P o p. h P (inl o) p))
+curve-curve l u v a (b ∷ r) c s h =
+    unmet-graver (segCurve l a b c s) (curveCurve l b r c s) (seg-curve l u v c s (λ P o p. h P (inl o) p))
     (curve-curve l u v b r c s (λ P o p. h P (inr o) p))
 
 among-first : (P : Spot) (t : Bool) (q : Point) (l : List Point) → t ≡ true → At P q → Among P (mayShare t q l)
@@ -155,24 +158,30 @@ hit P q b s h (inl k) = or-left (samePoint q (lastOf b s)) (ap (samePoint q) (at
 hit P q b s h (inr k) = or-right (samePoint q b) (samePoint q (lastOf b s))
     (ap (samePoint q) (at-one k h) ∙ samePoint-refl q)
 
-pub clear-wrong : (a : Point) (r : List Point) (b : Point) (s : List Point) → Clear a r b s → wrong a r b s ≡ false
-unfolding wrong
-clear-wrong a r b s h = curve-curve (commonEnds a r b s) a (lastOf a r) a r b s
-    (λ P o p. go P (h P o p .0) (h P o p .1))
+-- an end of both is a common end
+pub ends-among : (P : Spot) (c d : Curve) → End P (c .first) (c .rest) → End P (d .first) (d .rest)
+    → Among P (commonEnds c d)
+ends-among P c d h e = go h
   where
+    a : Point
+    a = c .first
+
     z : Point
-    z = lastOf a r
+    z = lastPoint c
 
     ends : Point → Bool
-    ends q = samePoint q b || samePoint q (lastOf b s)
+    ends q = samePoint q (d .first) || samePoint q (lastPoint d)
 
-    go : (P : Spot) → End P a r → End P b s → Among P (commonEnds a r b s) × (At P a ⊎ At P (lastOf a r))
-    go P (inl k) e = (among-first P (ends a) a (mayShare (ends z) z []) (hit P a b s k e) k, inl k)
-    go P (inr k) e = (
-      among-rest P (ends a) a (mayShare (ends z) z [])
-          (among-first P (ends z) z [] (hit P z b s k e) k),
-      inr k,
-    )
+    go : End P (c .first) (c .rest) → Among P (commonEnds c d)
+    go (inl k) = among-first P (ends a) a (mayShare (ends z) z []) (hit P a (d .first) (d .rest) k e) k
+    go (inr k) = among-rest P (ends a) a (mayShare (ends z) z [])
+        (among-first P (ends z) z [] (hit P z (d .first) (d .rest) k e) k)
+
+pub clear-unmet : (c d : Curve) → ClearCurves c d → meetWrongly c d ≡ false
+unfolding meeting
+clear-unmet c d h =
+    curve-curve (commonEnds c d) (c .first) (lastPoint c) (c .first) (c .rest) (d .first) (d .rest)
+    (λ P o p. (ends-among P c d (h P o p .0) (h P o p .1), h P o p .0))
 
 -- ---- one curve
 

@@ -10,7 +10,8 @@ use Rattle.plane.specs.declared.Contact.the-variants.{None, Touch, Crossing, St
 use Rattle.plane.specs.Points.{samePoint}
 use Rattle.plane.specs.Areas.{area, turn}
 use Rattle.plane.specs.Segments.{overlap, straddle, meets, overlapMore, straightBetween, stretches, ended, contact}
-use Rattle.curves.specs.Tests.{segWrong, wrong, simple}
+use Rattle.curves.specs.Curves.{Curve}
+use Rattle.curves.specs.Tests.{segWrong, segMeeting, meeting, simple}
 use Rattle.curves.specs.Edits.{cut, join, turned}
 
 abbrev at : ℕ → ℕ → Point
@@ -26,15 +27,22 @@ contacts : _≡_ {A = List Contact}
 unfolding meets overlap straddle turn area overlapMore stretches ended contact
 contacts = refl
 
-wrongs : _≡_ {A = List Bool}
-    (wrong (at 2 3) (at 3 3 ∷ at 3 0 ∷ []) (at 0 2) (at 0 3 ∷ at 0 1 ∷ at 0 3 ∷ [])
-    ∷ wrong (at 1 0) (at 3 3 ∷ at 1 3 ∷ []) (at 1 0) (at 0 1 ∷ at 1 3 ∷ [])
-    ∷ wrong (at 1 1) (at 3 1 ∷ at 2 1 ∷ []) (at 1 3) (at 2 1 ∷ [])
-    ∷ wrong (at 1 3) (at 0 2 ∷ []) (at 2 0) (at 0 2 ∷ at 1 3 ∷ [])
-    ∷ wrong (at 2 2) (at 2 0 ∷ []) (at 3 0) (at 1 0 ∷ at 3 0 ∷ []) ∷ [])
-    (false ∷ false ∷ false ∷ true ∷ true ∷ [])
-unfolding meets overlap straddle turn area same samePoint overlapMore stretches segWrong wrong
-wrongs = refl
+abbrev drawn : Point → List Point → Curve
+drawn a r = record { first = a; rest = r }
+
+meetings : _≡_ {A = List Contact}
+    (meeting (drawn (at 2 3) (at 3 3 ∷ at 3 0 ∷ [])) (drawn (at 0 2) (at 0 3 ∷ at 0 1 ∷ at 0 3 ∷ []))
+    ∷ meeting (drawn (at 1 0) (at 3 3 ∷ at 1 3 ∷ [])) (drawn (at 1 0) (at 0 1 ∷ at 1 3 ∷ []))
+    ∷ meeting (drawn (at 1 1) (at 3 1 ∷ at 2 1 ∷ [])) (drawn (at 1 3) (at 2 1 ∷ []))
+    ∷ meeting (drawn (at 1 3) (at 0 2 ∷ [])) (drawn (at 2 0) (at 0 2 ∷ at 1 3 ∷ []))
+    ∷ meeting (drawn (at 2 2) (at 2 0 ∷ [])) (drawn (at 3 0) (at 1 0 ∷ at 3 0 ∷ []))
+    ∷ meeting (drawn (at 0 0) (at 3 2 ∷ [])) (drawn (at 1 0) (at 1 3 ∷ []))
+    ∷ meeting (drawn (at 0 0) (at 1 1 ∷ at 2 0 ∷ at 4 2 ∷ [])) (drawn (at 0 1) (at 5 1 ∷ []))
+    ∷ meeting (drawn (at 0 1) (at 3 1 ∷ at 3 3 ∷ [])) (drawn (at 1 0) (at 1 2 ∷ at 3 2 ∷ at 3 4 ∷ [])) ∷ [])
+    (None ∷ None ∷ None ∷ Stretch ∷ Touch ∷ Crossing ∷ Crossing ∷ Stretch ∷ [])
+unfolding meets overlap straddle turn area same samePoint overlapMore stretches ended contact segWrong segMeeting
+    meeting
+meetings = refl
 
 simples : _≡_ {A = List Bool}
     (simple (at 1 1) (at 1 0 ∷ []) ∷ simple (at 5 1) (at 5 4 ∷ at 3 0 ∷ at 5 1 ∷ [])

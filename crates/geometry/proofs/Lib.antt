@@ -6,6 +6,7 @@
 -- curves say neither too little nor too much.
 -- `Nth`: simple, by the numbers of segments. `Alike`: lists of points that draw one curve. `Cutting`, `Joining`,
 -- `Turning`, `Undo`: the edits of curves.
+-- `Meetings`: what a stretch, a crossing and a touch of two curves mean.
 -- `InnerCuts`: the cut at the first place inside the ends.
 -- `Bent`: no inner point straight between its neighbours. `Thinning`: surplus points dropped.
 -- `Ways`: departures differ. `Drawing`: one curve more or less in a list of curves.
@@ -23,6 +24,7 @@ pub mod Chains
 pub mod Truth
 pub mod Exact
 pub mod Nth
+pub mod Meetings
 pub mod Alike
 pub mod Cutting
 pub mod Joining

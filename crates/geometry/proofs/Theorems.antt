@@ -1,5 +1,6 @@
 -- The theorems of this crate, each in one line from the other files. A spot is a rational point; what stands right of
--- `↔` is defined in specs/. What every edit keeps on the list of all curves is `Edits`. Assumes nothing.
+-- `↔` is defined in specs/. What every edit keeps on the list of all curves is `Edits`; which way two curves meet is
+-- `Meetings`. Assumes nothing.
 use mathlib.Core.Path.{_≡_, sym, ap, _∙_, subst}
 use mathlib.Core.Bool.{Bool, true, false}
 use mathlib.Core.List.{[]}
@@ -24,8 +25,8 @@ use Rattle.geometry.proofs.Meeting.{straightBetween-true, straightBetwe
 use Rattle.geometry.proofs.Meeting.{passes-true, passes-is}
 use Rattle.geometry.proofs.Contact.{contact-means, contact-is}
 use Rattle.geometry.proofs.Chains.{simple-arc}
-use Rattle.geometry.proofs.Truth.{wrong-clear, simple-true}
-use Rattle.geometry.proofs.Exact.{clear-wrong, simple-is}
+use Rattle.geometry.proofs.Truth.{unmet-clear, simple-true}
+use Rattle.geometry.proofs.Exact.{clear-unmet, simple-is}
 use Rattle.geometry.proofs.Nth.{nth-on, on-nth, simple-pair}
 use Rattle.geometry.proofs.Turning.{last-turned, turned-twice, on-turned, on-turned′, second-turned}
 use Rattle.geometry.proofs.Turning.{before-turned, length-turned}
@@ -81,10 +82,7 @@ neighboursDiffer-iff c = (differs-true (c .first) (c .rest), differs-is (c .firs
 
 -- the curves share no point but common ends
 pub meetWrongly-iff : (c d : Curve) → (meetWrongly c d ≡ false) ↔ ClearCurves c d
-meetWrongly-iff c d = (
-  wrong-clear (c .first) (c .rest) (d .first) (d .rest),
-  clear-wrong (c .first) (c .rest) (d .first) (d .rest),
-)
+meetWrongly-iff c d = (unmet-clear c d, clear-unmet c d)
 
 pub isSimple-iff : (c : Curve) → neighboursDiffer c ≡ true → (isSimple c ≡ true) ↔ Simple (c .first) (c .rest)
 isSimple-iff c n = (simple-true (c .first) (c .rest), simple-is (c .first) (c .rest) (neighboursDiffer-iff c .0 n))

@@ -1,4 +1,4 @@
--- The tests of curves tell the truth: `wrong` false means common ends only, `simple` true means simple. Assumes
+-- The tests of curves tell the truth: `meetWrongly` false means common ends only, `simple` true means simple. Assumes
 -- nothing.
 use mathlib.Core.Path.{_≡_, refl, sym, ap, _∙_, subst}
 use mathlib.Core.Bool.{Bool, true, false, not, false≢true, _&&_, _||_}
@@ -10,12 +10,13 @@ use Rattle.plane.specs.declared.Point.{Point}
 use Rattle.plane.specs.Points.{samePoint}
 use Rattle.plane.specs.Segments.{onSegment, stretches}
 use Rattle.plane.proofs.Laws.{samePoint-true}
-use Rattle.curves.specs.Curves.{lastOf}
-use Rattle.curves.specs.Tests.{shares, segWrong, mayShare, commonEnds, segCurve, curveCurve, wrong, lastly, free}
-use Rattle.curves.specs.Tests.{freeAfter}
-use Rattle.curves.specs.Tests.{arc, simple}
+use Rattle.curves.specs.Curves.{Curve, lastOf, lastPoint}
+use Rattle.curves.specs.Tests.{shares, segWrong, mayShare, segMeeting, commonEnds, meeting, isMet, meetWrongly}
+use Rattle.curves.specs.Tests.{lastly, free, freeAfter, arc, simple}
+use Rattle.curves.proofs.Meetings.{met-seg, graver-unmet, segCurve, curveCurve}
 use Rattle.geometry.specs.Spots.{Spot, At, OnSeg, Among}
-use Rattle.geometry.specs.Meaning.{On, SimpleArc, Simple, End, Clear}
+use Rattle.geometry.specs.Meaning.{On, SimpleArc, Simple, End}
+use Rattle.geometry.specs.Drawing.{ClearCurves}
 use Rattle.geometry.proofs.Meeting.{onSegment-true, meets-spot}
 use Rattle.geometry.proofs.Stretch.{unique, same-at}
 
@@ -46,21 +47,21 @@ seg-among P l {a} {b} {c} {d} e o p =
 
 -- ---- two curves
 
-seg-curve : (P : Spot) (l : List Point) {a b : Point} (c : Point) (s : List Point) → segCurve l a b c s ≡ false
+seg-curve : (P : Spot) (l : List Point) {a b : Point} (c : Point) (s : List Point) → isMet (segCurve l a b c s) ≡ false
     → OnSeg P a b → On P c s → Among P l
 seg-curve P l c [] e o p = absurd p
 seg-curve P l {a} {b} c (d ∷ s) e o (inl p) =
-    seg-among P l (or-false (segWrong l a b c d) (segCurve l a b d s) e .0) o p
+    seg-among P l (sym (met-seg l a b c d) ∙ graver-unmet (segMeeting l a b c d) (segCurve l a b d s) e .0) o p
 seg-curve P l {a} {b} c (d ∷ s) e o (inr p) =
-    seg-curve P l d s (or-false (segWrong l a b c d) (segCurve l a b d s) e .1) o p
+    seg-curve P l d s (graver-unmet (segMeeting l a b c d) (segCurve l a b d s) e .1) o p
 
 curve-curve : (P : Spot) (l : List Point) (a : Point) (r : List Point) (c : Point) (s : List Point)
-    → curveCurve l a r c s ≡ false → On P a r → On P c s → Among P l
+    → isMet (curveCurve l a r c s) ≡ false → On P a r → On P c s → Among P l
 curve-curve P l a [] c s e o p = absurd o
 curve-curve P l a (b ∷ r) c s e (inl o) p =
-    seg-curve P l c s (or-false (segCurve l a b c s) (curveCurve l b r c s) e .0) o p
+    seg-curve P l c s (graver-unmet (segCurve l a b c s) (curveCurve l b r c s) e .0) o p
 curve-curve P l a (b ∷ r) c s e (inr o) p =
-    curve-curve P l b r c s (or-false (segCurve l a b c s) (curveCurve l b r c s) e .1) o p
+    curve-curve P l b r c s (graver-unmet (segCurve l a b c s) (curveCurve l b r c s) e .1) o p
 
 kept : (P : Spot) (t : Bool) (q : Point) (l : List Point) → Among P (mayShare t q l) → ((t ≡ true) × At P q) ⊎ Among P l
 kept P true q l (inl h) = inl (refl, h)
@@ -76,27 +77,28 @@ is-end P q b s h e = go (or-true (samePoint q b) (samePoint q (lastOf b s)) e)
     go (inl f) = inl (subst (At P) (samePoint-true q b f) h)
     go (inr f) = inr (subst (At P) (samePoint-true q (lastOf b s) f) h)
 
-ends : (P : Spot) (a : Point) (r : List Point) (b : Point) (s : List Point) → Among P (commonEnds a r b s) → End P a r
-    × End P b s
-ends P a r b s h = go (kept P (hit a) a (mayShare (hit z) z []) h)
+pub ends : (P : Spot) (c d : Curve) → Among P (commonEnds c d) → End P (c .first) (c .rest) × End P (d .first) (d .rest)
+ends P c d h = go (kept P (hit (c .first)) (c .first) (mayShare (hit z) z []) h)
   where
     z : Point
-    z = lastOf a r
+    z = lastPoint c
 
     hit : Point → Bool
-    hit q = samePoint q b || samePoint q (lastOf b s)
+    hit q = samePoint q (d .first) || samePoint q (lastPoint d)
 
-    next : ((hit z ≡ true) × At P z) ⊎ ⊥ → End P a r × End P b s
-    next (inl k) = (inr (k .1), is-end P z b s (k .1) (k .0))
+    next : ((hit z ≡ true) × At P z) ⊎ ⊥ → End P (c .first) (c .rest) × End P (d .first) (d .rest)
+    next (inl k) = (inr (k .1), is-end P z (d .first) (d .rest) (k .1) (k .0))
     next (inr k) = absurd k
 
-    go : ((hit a ≡ true) × At P a) ⊎ Among P (mayShare (hit z) z []) → End P a r × End P b s
-    go (inl k) = (inl (k .1), is-end P a b s (k .1) (k .0))
+    go : ((hit (c .first) ≡ true) × At P (c .first)) ⊎ Among P (mayShare (hit z) z [])
+        → End P (c .first) (c .rest) × End P (d .first) (d .rest)
+    go (inl k) = (inl (k .1), is-end P (c .first) (d .first) (d .rest) (k .1) (k .0))
     go (inr k) = next (kept P (hit z) z [] k)
 
-pub wrong-clear : (a : Point) (r : List Point) (b : Point) (s : List Point) → wrong a r b s ≡ false → Clear a r b s
-unfolding wrong
-wrong-clear a r b s e P o p = ends P a r b s (curve-curve P (commonEnds a r b s) a r b s e o p)
+pub unmet-clear : (c d : Curve) → meetWrongly c d ≡ false → ClearCurves c d
+unfolding meeting
+unmet-clear c d e P o p =
+    ends P c d (curve-curve P (commonEnds c d) (c .first) (c .rest) (d .first) (d .rest) e o p)
 
 -- ---- one curve
 

@@ -1,11 +1,12 @@
--- Curves, and lists of curves that share no points but common ends. Definitions only.
+-- Curves, how two of them meet, and lists of curves that share no points but common ends. Definitions only.
 use mathlib.Core.List.{List}
 use mathlib.Core.Logic.{_≢_}
 use Rattle.lists.specs.Members.{All, Pairs}
 use Rattle.plane.specs.declared.Point.{Point}
+use Rattle.plane.specs.declared.Contact.{Contact}
 use Rattle.curves.specs.Curves.{Curve, lastPoint}
 use Rattle.geometry.specs.Spots.{Spot}
-use Rattle.geometry.specs.Meaning.{On, Some, Differ, Simple, Clear}
+use Rattle.geometry.specs.Meaning.{On, Some, Differ, Simple, End, Clear, Meet}
 
 abbrev pub OnCurve : Spot → Curve → Type 0
 OnCurve P c = On P (c .first) (c .rest)
@@ -18,6 +19,16 @@ pub record GoodCurve (c : Curve) : Type 0 where
 
 abbrev pub ClearCurves : Curve → Curve → Type 0
 ClearCurves c d = Clear (c .first) (c .rest) (d .first) (d .rest)
+
+abbrev pub MeetCurves : Contact → Curve → Curve → Type 0
+MeetCurves k c d = Meet k (c .first) (c .rest) (d .first) (d .rest)
+
+-- a spot of both that is not an end of both
+pub record CommonSpot (c d : Curve) : Type 0 where
+  pub spot : Spot
+  pub on-one : OnCurve spot c
+  pub on-other : OnCurve spot d
+  pub no-end : End spot (c .first) (c .rest) × End spot (d .first) (d .rest) → ⊥
 
 -- no end of the curve is the point
 pub record NoEnd (m : Point) (c : Curve) : Type 0 where

@@ -1,5 +1,5 @@
--- What the four contacts of two segments mean, which points a curve has, and when curves are simple and share common
--- ends only. Definitions only.
+-- What the four contacts of two segments mean, which points and segments a curve has, when curves are simple and share
+-- common ends only, and how a segment of each meet. Definitions only.
 use mathlib.Core.Path.{_≡_}
 use mathlib.Core.List.{List, [], _∷_}
 use mathlib.Core.Logic.{_⊎_, _≢_}
@@ -81,6 +81,11 @@ abbrev pub Simple : Point → List Point → Type 0
 Simple a [] = Unit {0}
 Simple a (b ∷ r) = ((P : Spot) → OnSeg P a b → On P b r → At P b ⊎ (At P a × (lastOf b r ≡ a))) × SimpleArc b r
 
+-- u v is one of its segments
+abbrev pub IsSeg : Point → Point → Point → List Point → Type 0
+IsSeg u v a [] = ⊥
+IsSeg u v a (b ∷ r) = ((u ≡ a) × (v ≡ b)) ⊎ IsSeg u v b r
+
 -- the spot is an end
 abbrev pub End : Spot → Point → List Point → Type 0
 End P a r = At P a ⊎ At P (lastOf a r)
@@ -88,3 +93,13 @@ End P a r = At P a ⊎ At P (lastOf a r)
 -- two curves share no point but common ends
 abbrev pub Clear : Point → List Point → Point → List Point → Type 0
 Clear a r b s = (P : Spot) → On P a r → On P b s → End P a r × End P b s
+
+-- a segment of a ∷ r and one of b ∷ s have this contact
+pub record Meet (k : Contact) (a : Point) (r : List Point) (b : Point) (s : List Point) : Type 0 where
+  pub from : Point
+  pub to : Point
+  pub from′ : Point
+  pub to′ : Point
+  pub one : IsSeg from to a r
+  pub other : IsSeg from′ to′ b s
+  pub means : Means k from to from′ to′

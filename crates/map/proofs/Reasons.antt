@@ -8,12 +8,15 @@ use native.Mathlib.Omega.{arith}
 use lib.Dec.{ltb}
 use lib.IntN.{ℤ}
 use borrow.Author.Tests.{ltb-true, not-false}
+use Rattle.lists.specs.Tests.{same}
 use Rattle.lists.specs.Scans.{allOf}
 use Rattle.lists.proofs.Bools.{which, and-true, and-left, and-right}
+use Rattle.plane.specs.declared.Contact.{Contact}
+use Rattle.plane.specs.declared.Contact.the-variants.{None, Touch, Crossing, Stretch}
 use Rattle.plane.specs.Points.{InRange}
 use Rattle.curves.specs.Curves.{point, coordinate}
 use Rattle.curves.proofs.Runs.{coordinate-le}
-use Rattle.map.specs.Reasons.{Reasons, firstReason, outside}
+use Rattle.map.specs.Reasons.{Reasons, firstReason, outside, contactReason}
 
 -- the reason at the front holds, or the others are looked at
 pub first-hit : (n : ℕ) (b : Bool) (rs : Reasons) → b ≡ true → firstReason ((n, b) ∷ rs) ≡ n
@@ -64,3 +67,25 @@ first-after (r ∷ rs) ss a e =
 pub point-in-range : (x y : ℤ) → outside x y ≡ false → InRange (point x y)
 point-in-range x y h = let k = and-true (coordinate x) (coordinate y) (not-false (coordinate x && coordinate y) h) in
     record { x = coordinate-le x (k .0); y = coordinate-le y (k .1) }
+
+-- ---- 23, 15 and 24
+
+-- the number of what was found is the first of them
+pub first-contact : (k : Contact) → firstReason
+    ((23, same (contactReason k) 23) ∷ (15, same (contactReason k) 15) ∷ (24, same (contactReason k) 24) ∷ [])
+    ≡ contactReason k
+unfolding firstReason same
+first-contact None = refl
+first-contact Touch = refl
+first-contact Crossing = refl
+first-contact Stretch = refl
+
+-- none of them holds where nothing was found
+pub zero-contact : (k : Contact) (rs : Reasons) → firstReason
+    ((23, same (contactReason k) 23) ∷ (15, same (contactReason k) 15) ∷ (24, same (contactReason k) 24) ∷ rs) ≡ 0
+    → (k ≡ None) × (firstReason rs ≡ 0)
+unfolding firstReason same
+zero-contact None rs e = (refl, e)
+zero-contact Touch rs e = absurd (omega (arith, e))
+zero-contact Crossing rs e = absurd (omega (arith, e))
+zero-contact Stretch rs e = absurd (omega (arith, e))

@@ -14,7 +14,7 @@ use Rattle.map.proofs.Sheet.{at, ok, no-to, nodeRow, edgeRow}
 use Rattle.map.proofs.Worked.{Case, room, case, lone, rows, square, diamond}
 
 -- kind 6
-abbrev redraw : ℕ → List Point → List ℤ
+abbrev pub redraw : ℕ → List Point → List ℤ
 redraw e c = pos 6 ∷ pos e ∷ coordinates c
 
 -- a boundary that would pass over one well, over both, or turn inside out; short of them it may move

@@ -12,12 +12,14 @@ use Rattle.integers.specs.Order.{sgn}
 use Rattle.lists.specs.Tests.{same, bit, _⊕_}
 use Rattle.lists.specs.Scans.{anyOf, keep, isSome}
 use Rattle.plane.specs.declared.Point.{Point}
+use Rattle.plane.specs.declared.Contact.{Contact}
+use Rattle.plane.specs.declared.Contact.the-variants.{None, Touch, Crossing, Stretch}
 use Rattle.plane.specs.Areas.{isPositive}
 use Rattle.plane.specs.Points.{samePoint}
 use Rattle.plane.specs.Directions.{Way, sameWay}
 use Rattle.curves.specs.Curves.{Curve, points, lastPoint, startWay, endWay, point, curveOf, coordinate, isRun}
 use Rattle.curves.specs.Curves.{maxPoints}
-use Rattle.curves.specs.Tests.{neighboursDiffer, straightInside, onCurve, isSimple, meetWrongly}
+use Rattle.curves.specs.Tests.{neighboursDiffer, straightInside, onCurve, isSimple, meeting, gravest}
 use Rattle.planar_maps.specs.Map.{Dart, fwd, bwd}
 use Rattle.planar_maps.specs.Rings.{sameDart}
 use Rattle.map.specs.declared.Counts.{Counts}
@@ -120,7 +122,7 @@ containingDiffer m u v = not (same (Option·getD (node m u .face) 0) (Option·ge
 unfoldable pub cornersDiffer : Map → ℕ → ℕ → Curve → Bool
 cornersDiffer m u v c = not (same (cornerFace m u (startWay c)) (cornerFace m v (endWay c)))
 
--- ---- 14: a node inside the curve. 15: the curve meets another edge wrongly
+-- ---- 14: a node inside the curve. 23, 15, 24: the curve meets another edge but in common ends
 
 -- p is an end of the curve
 abbrev pub isEnd : Curve → Point → Bool
@@ -129,11 +131,25 @@ isEnd c p = samePoint p (c .first) || samePoint p (lastPoint c)
 unfoldable pub nodeInside : Map → Curve → Bool
 nodeInside m c = anyOf (λ n. onCurve c (n .at) && not (isEnd c (n .at))) (m .nodes)
 
-unfoldable pub edgeWrong : List Edge → Curve → Bool
-edgeWrong es c = anyOf (λ e. meetWrongly c (e .curve)) es
+-- over all edges, the gravest that the curve does with one
+unfoldable pub edgeMeeting : List Edge → Curve → Contact
+edgeMeeting es c = gravest (map (λ e. meeting c (e .curve)) es)
+
+-- the number of what was found
+abbrev pub contactReason : Contact → ℕ
+contactReason None = 0
+contactReason Touch = 24
+contactReason Crossing = 15
+contactReason Stretch = 23
 
 abbrev pub meetingReasons : Map → List Edge → Curve → Reasons
-meetingReasons m others c = (14, nodeInside m c) ∷ (15, edgeWrong others c) ∷ []
+meetingReasons m others c =
+    let found = contactReason (edgeMeeting others c) in
+    (14, nodeInside m c)
+    ∷ (23, same found 23)
+    ∷ (15, same found 15)
+    ∷ (24, same found 24)
+    ∷ []
 
 -- ---- 19: cyclic order at an end would change
 

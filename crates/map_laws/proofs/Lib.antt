@@ -4,8 +4,9 @@
 pub mod Readings
 pub mod RowChanges
 pub mod RowDarts
--- what holds of a ticket that nothing turns down
+-- what holds of a ticket that nothing turns down, and what 23, 15 and 24 say over rational points
 pub mod Reasons
+pub mod MeetingsTold
 -- nodes, outlines of edges, faces and next numbers after an edit; faces that are named exist
 pub mod Outlines
 pub mod Faces

@@ -14,6 +14,7 @@ use Rattle.lists.specs.Tests.{same, bit}
 use Rattle.lists.specs.Scans.{isSome}
 use Rattle.lists.proofs.Bools.{same-true, differ, and-true, or-false}
 use Rattle.plane.specs.declared.Point.{Point}
+use Rattle.plane.specs.declared.Contact.the-variants.{None}
 use Rattle.plane.specs.Points.{InRange, samePoint}
 use Rattle.plane.proofs.Laws.{samePoint-true}
 use Rattle.curves.specs.Curves.{Curve, points, lastPoint, startWay, endWay, point, curveOf, isRun, maxPoints}
@@ -30,9 +31,9 @@ use Rattle.map.specs.Tickets.{RemEdgeNewFace, RemEdgeModFace}
 use Rattle.map.specs.Edits.{isNew, isMod, sharedNodes, joint, healedCurve, splitsFace, makesFace}
 use Rattle.map.specs.Reasons.{Reasons, firstReason, reasons, noNode, noEdge, outside, endsDiffer, isolated}
 use Rattle.map.specs.Reasons.{edgeIsolated, anyNodeAt, edgeThrough, directionTaken, containingDiffer, cornersDiffer}
-use Rattle.map.specs.Reasons.{nodeInside, edgeWrong, orderChanges, sidesChange, full, spent, splitReasons}
+use Rattle.map.specs.Reasons.{nodeInside, edgeMeeting, orderChanges, sidesChange, full, spent, splitReasons}
 use Rattle.map.specs.Reasons.{healReasons, addEdgeReasons}
-use Rattle.map.proofs.Reasons.{first-zero, point-in-range}
+use Rattle.map.proofs.Reasons.{first-zero, zero-contact, point-in-range}
 use Rattle.map.proofs.RoundTrip.{run-stored}
 
 -- ---- the facts
@@ -91,7 +92,7 @@ pub record AddLone (s : Sizes) (m : Map) (u v : ℕ) (c : Curve) : Type 0 where
   pub isolated-end : isolated m v ≡ true
   pub one-face : Option·getD (node m u .face) 0 ≡ Option·getD (node m v .face) 0
   pub nodes-off : nodeInside m c ≡ false
-  pub clear : edgeWrong (m .edges) c ≡ false
+  pub clear : edgeMeeting (m .edges) c ≡ None
   pub room : Room s m 0 1 0
   pub supply : Supply m 0 1 0
 
@@ -108,7 +109,7 @@ pub record Change (m : Map) (e : ℕ) (c : Curve) : Type 0 where
   pub sent : Sent m c (edge m e .start) (edge m e .end)
   pub ways-free : directionTaken m e (edge m e .start) (edge m e .end) c ≡ false
   pub nodes-off : nodeInside m c ≡ false
-  pub clear : edgeWrong (withoutEdge e (m .edges)) c ≡ false
+  pub clear : edgeMeeting (withoutEdge e (m .edges)) c ≡ None
   pub order : orderChanges m e c ≡ false
   pub sides : sidesChange m e c ≡ false
 
@@ -142,7 +143,7 @@ pub record AddEdge (how : Variant) (s : Sizes) (m : Map) (u v : ℕ) (c : Curve)
   pub ways-free : directionTaken m (m .next .edges) u v c ≡ false
   pub one-face : cornerFace m u (startWay c) ≡ cornerFace m v (endWay c)
   pub nodes-off : nodeInside m c ≡ false
-  pub clear : edgeWrong (m .edges) c ≡ false
+  pub clear : edgeMeeting (m .edges) c ≡ None
   pub room : Room s m 0 1 (bit (splitsFace u v c m))
   pub supply : Supply m 0 1 (newFaces how m u v c)
 
@@ -266,7 +267,7 @@ module _ (s : Sizes) (m : Map) where
       let h₉ = first-zero 9 (same a b || not (isolated m a && isolated m b)) _ (lit< tt) (h₅ .1) in
       let h₁₂ = first-zero 12 (containingDiffer m a b) _ (lit< tt) (h₉ .1) in
       let h₁₄ = first-zero 14 (nodeInside m (curveOf l)) _ (lit< tt) (h₁₂ .1) in
-      let h₁₅ = first-zero 15 (edgeWrong (m .edges) (curveOf l)) _ (lit< tt) (h₁₄ .1) in
+      let h₁₅ = zero-contact (edgeMeeting (m .edges) (curveOf l)) _ (h₁₄ .1) in
       let h₂₀ = first-zero 20 (full s m (counts 0 1 0)) _ (lit< tt) (h₁₅ .1) in
       let h₂₁ = first-zero 21 (spent m (counts 0 1 0)) _ (lit< tt) (h₂₀ .1) in
       let rows = or-false (noNode m u) (noNode m v) (h₄ .0) in
@@ -313,7 +314,7 @@ module _ (s : Sizes) (m : Map) where
       let h₅ = sent m l a b _ (h₄ .1) in
       let h₁₁ = first-zero 11 (directionTaken m (natAbs e) a b (curveOf l)) _ (lit< tt) (h₅ .1) in
       let h₁₄ = first-zero 14 (nodeInside m (curveOf l)) _ (lit< tt) (h₁₁ .1) in
-      let h₁₅ = first-zero 15 (edgeWrong (withoutEdge (natAbs e) (m .edges)) (curveOf l)) _ (lit< tt) (h₁₄ .1) in
+      let h₁₅ = zero-contact (edgeMeeting (withoutEdge (natAbs e) (m .edges)) (curveOf l)) _ (h₁₄ .1) in
       let h₁₉ = first-zero 19 (orderChanges m (natAbs e) (curveOf l)) _ (lit< tt) (h₁₅ .1) in
       let h₂₂ = first-zero 22 (sidesChange m (natAbs e) (curveOf l)) _ (lit< tt) (h₁₉ .1) in
       record {
@@ -402,7 +403,7 @@ module _ (s : Sizes) (m : Map) where
       let h₁₁ = first-zero 11 (directionTaken m (m .next .edges) a b c) _ (lit< tt) (h₅ .1) in
       let h₁₂ = first-zero 12 (cornersDiffer m a b c) _ (lit< tt) (h₁₁ .1) in
       let h₁₄ = first-zero 14 (nodeInside m c) _ (lit< tt) (h₁₂ .1) in
-      let h₁₅ = first-zero 15 (edgeWrong (m .edges) c) _ (lit< tt) (h₁₄ .1) in
+      let h₁₅ = zero-contact (edgeMeeting (m .edges) c) _ (h₁₄ .1) in
       let h₂₀ = first-zero 20 (full s m (counts 0 1 (bit (splitsFace a b c m)))) _ (lit< tt) (h₁₅ .1) in
       let h₂₁ = first-zero 21 (spent m (counts 0 1 (newFaces how m a b c))) _ (lit< tt) (h₂₀ .1) in
       let rows = or-false (noNode m u) (noNode m v) (h₄ .0) in

@@ -1,6 +1,8 @@
-// The tests behind the reasons that look at points and curves alone: 5 to 8, 10, 14 and 15.
+// The tests behind the reasons that look at points and curves alone: 5 to 8, 10, 14, 23, 15 and 24.
+use bounding_boxes::Extent;
 use lists::Found;
 use map::Map;
+use plane::Contact;
 use plane::Point;
 ghost use mathlib.Core.Path.{_≡_};
 ghost use mathlib.Core.Bool.{true, not, _&&_};
@@ -9,9 +11,11 @@ ghost use Rattle.lists.specs.Scans.{anyOf};
 ghost use Rattle.lists.specs.Tables.{table};
 ghost use Rattle.plane.specs.Points.{InRange, samePoint};
 ghost use Rattle.curves.specs.Curves.{Run, coordinate, curveOf, lastPoint, point};
-ghost use Rattle.curves.specs.Tests.{onCurve};
-ghost use Rattle.map.specs.Reasons.{firstReason, edgeThrough, isEnd, nodeInside, edgeWrong, meetingReasons};
-ghost use Rattle.map_rows.specs.Rows.{NodeRow, NodeRows, EdgeRows, nodeAt, nodeMap, edgeMap};
+ghost use Rattle.curves.specs.Tests.{onCurve, graver, meeting};
+ghost use Rattle.bounding_boxes.specs.Extents.{extentOf};
+ghost use Rattle.map.specs.Reasons.{firstReason, edgeThrough, isEnd, nodeInside, edgeMeeting, contactReason};
+ghost use Rattle.map.specs.Reasons.{meetingReasons};
+ghost use Rattle.map_rows.specs.Rows.{NodeRow, NodeRows, EdgeRow, EdgeRows, nodeAt, edgeAt, nodeMap, edgeMap};
 ghost use Rattle.reason_curves.specs.Sent.{sentReasons, edgesBut};
 
 // ---- 5: coordinate out of range
@@ -124,7 +128,7 @@ pub fn edge_through(edges: &[i64], count: usize, p: Point) -> bool
     false
 }
 
-// ---- 14: a node inside the curve. 15: the curve meets another edge wrongly
+// ---- 14: a node inside the curve. 23, 15, 24: the curve meets another edge but in common ends
 
 // Whether the point is an end of the curve.
 fn is_end(c: &[i64], p: Point) -> bool
@@ -148,24 +152,47 @@ fn node_inside(nodes: &[i64], n: usize, c: &[i64]) -> bool
     false
 }
 
-// Whether an edge but that of row `own` meets the curve wrongly.
-fn edge_wrong(edges: &[i64], count: usize, own: usize, c: &[i64]) -> bool
-    requires { ⌜ EdgeRows (now edges) count × Run (now c) ⌝ }
-    ensures { λ r. ⌜ r ≡ edgeWrong (edgesBut (now (edges .entry)) count own) (curveOf (now (c .entry))) ⌝ }
+// The graver of what was found so far and of how the curve c, of extent e, meets that of edge row i; extents that lie
+// apart show that it does not.
+fn row_meeting(found: Contact, edges: &[i64], i: usize, e: Extent, c: &[i64]) -> Contact
+    requires { ⌜ EdgeRow (now edges) i × Run (now c) × (e ≡ extentOf (curveOf (now c))) ⌝ }
+    ensures { λ r. ⌜ r ≡ graver found (meeting (curveOf (now (c .entry))) (edgeAt (now (edges .entry)) i .curve)) ⌝ }
 {
-    let e = bounding_boxes::extent_of(c);
-    for i in 0..count {
-        let d = map_rows::curve_of(edges, i);
-        if !bounding_boxes::lie_apart(e, bounding_boxes::extent_of(d)) {
-            if (i != own) & curves::curves_wrong(c, d) {
-                return true;
-            }
-        }
+    let d = map_rows::curve_of(edges, i);
+    if bounding_boxes::lie_apart(e, bounding_boxes::extent_of(d)) {
+        return found;
     }
-    false
+    curves::graver(found, curves::curves_meeting(c, d))
 }
 
-// The first reason, of 14 and 15, against a curve of edge row `own`; 0 for none.
+// The gravest that the curve does with an edge but that of row `own`.
+fn edge_meeting(edges: &[i64], count: usize, own: usize, c: &[i64]) -> Contact
+    requires { ⌜ EdgeRows (now edges) count × Run (now c) ⌝ }
+    ensures { λ r. ⌜ r ≡ edgeMeeting (edgesBut (now (edges .entry)) count own) (curveOf (now (c .entry))) ⌝ }
+{
+    let e = bounding_boxes::extent_of(c);
+    let mut found = Contact::None;
+    for i in 0..count {
+        if i != own {
+            found = row_meeting(found, edges, i, e, c);
+        }
+    }
+    found
+}
+
+// The number of what was found; 0 for none.
+fn contact_reason(k: Contact) -> u64
+    ensures { λ r. ⌜ r ≡ contactReason k ⌝ }
+{
+    match k {
+        Contact::None => 0,
+        Contact::Touch => 24,
+        Contact::Crossing => 15,
+        Contact::Stretch => 23,
+    }
+}
+
+// The first reason, of 14, 23, 15 and 24, against a curve of edge row `own`; 0 for none.
 pub fn meeting_reason(
     nodes: &[i64],
     n: usize,
@@ -182,9 +209,5 @@ pub fn meeting_reason(
     if node_inside(nodes, n, c) {
         return 14;
     }
-    if edge_wrong(edges, count, own, c) {
-        15
-    } else {
-        0
-    }
+    contact_reason(edge_meeting(edges, count, own, c))
 }

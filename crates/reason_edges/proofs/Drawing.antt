@@ -1,4 +1,4 @@
--- Reasons 5 to 15 against an edge between two rows of tables in form, in the map's terms. Assumes nothing.
+-- The reasons before 20 against an edge between two rows of tables in form, in the map's terms. Assumes nothing.
 use mathlib.Core.Path.{_≡_, refl, sym, ap, _∙_}
 use mathlib.Core.Bool.{Bool, true, false, not}
 use mathlib.Core.List.{List, _∷_, map}

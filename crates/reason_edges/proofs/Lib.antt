@@ -1,5 +1,5 @@
--- `Words`: the lower of two faces, a row that is found. `Drawing`: 5 to 15, in the map's terms. `Adding`: the reasons
--- of kinds 11 and 12. `Removing`: those of 13 and 14.
+-- `Words`: the lower of two faces, a row that is found. `Drawing`: the reasons before 20, in the map's terms.
+-- `Adding`: those of kinds 11 and 12. `Removing`: those of 13 and 14.
 pub mod Words
 pub mod Drawing
 pub mod Adding

@@ -14,7 +14,7 @@ use Rattle.map.specs.Reasons.{Reasons, curveReasons, meetingReasons, directionT
 use Rattle.map.specs.Reasons.{roomReasons}
 use Rattle.head.specs.Heads.{spentAt}
 
--- kinds 11 and 12, of nodes that exist: 5 to 15
+-- kinds 11 and 12, of nodes that exist: the reasons before 20
 abbrev pub drawingReasons : Map → ℕ → ℕ → List ℤ → Reasons
 drawingReasons m a b sent = curveReasons m sent a b ++ (11, directionTaken m (m .next .edges) a b (curveOf sent))
     ∷ (12, cornersDiffer m a b (curveOf sent)) ∷ meetingReasons m (m .edges) (curveOf sent)

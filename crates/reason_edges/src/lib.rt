@@ -71,7 +71,7 @@ fn removal_refused(reason: u64) -> Removal
 
 // ---- kinds 11 and 12
 
-// 5 to 15, of an edge from node row u to node row v; 0 for none.
+// The first reason before 20, of an edge from node row u to node row v; 0 for none.
 fn drawing_reason(
     nodes: &[i64],
     edges: &[i64],

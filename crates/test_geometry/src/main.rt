@@ -140,7 +140,7 @@ fn answer_curves(c: &[i64], d: &[i64], p: Point)
         Found::At(i) => put(i as u64),
         Found::Missing => put(NO_PLACE),
     }
-    put_bool(curves::curves_wrong(c, d));
+    put(contact_number(curves::curves_meeting(c, d)));
     put_signed(curves::area_of(c));
     put_bool(curves::odd_below(c, p));
 }

@@ -22,7 +22,7 @@ meeting-reason-requires c κs =
       p .1,
     )
 
--- 14 and 15, with the counts as they are read
+-- 14, 23, 15 and 24, with the counts as they are read
 met : (c : tie.After-meeting-reason)
     → let a = c .before .before .before .before .before .args in
     c .meeting-reason .result

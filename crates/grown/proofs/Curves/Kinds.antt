@@ -9,16 +9,18 @@ use Rattle.lists.proofs.Bools.{same-false}
 use Rattle.lists.proofs.Keeps.{keep-has}
 use Rattle.lists.proofs.Members.{none-has}
 use Rattle.plane.specs.declared.Point.{Point}
+use Rattle.plane.specs.declared.Contact.the-variants.{None}
 use Rattle.plane.specs.Points.{samePoint}
 use Rattle.curves.specs.Curves.{Curve}
-use Rattle.curves.specs.Tests.{meetWrongly}
+use Rattle.curves.specs.Tests.{meeting, isMet, meetWrongly}
+use Rattle.curves.proofs.Meetings.{met-adds, gravest-any}
 use Rattle.geometry.proofs.Meeting.{samePoint-differ, differs-true}
 use Rattle.map.specs.declared.Variant.{Variant}
 use Rattle.map.specs.declared.Variant.the-variants.{New, Mod}
 use Rattle.map.specs.Rows.{Edge, Map, Sizes, node, edge, hasNode, hasEdge, withoutNode, withoutEdge}
 use Rattle.map.specs.Edits.{addIsoNode, moveIsoNode, removeIsoNode, addIsoEdge, removeIsoEdge, changeEdgeGeom, split}
 use Rattle.map.specs.Edits.{addEdge, removeEdge}
-use Rattle.map.specs.Reasons.{isolated, anyNodeAt, edgeWrong}
+use Rattle.map.specs.Reasons.{isolated, anyNodeAt, edgeMeeting}
 use Rattle.map.proofs.Laws.{edge-there, node-there}
 use Rattle.map_laws.proofs.Readings.{without, outlineOf}
 use Rattle.map_laws.proofs.Reasons.{Sent, AddNode, MoveNode, RemoveNode, AddLone, Change, Split, AddEdge}
@@ -80,13 +82,14 @@ module _ (m : Map) (G : Good m) where
           at (inr e) = inr (ap (λ (x : Line). x .end) (w .2) ∙ e ∙ sym (node-there m n h .1))
 
   -- the curve meets no line wrongly
-  meets-none : (es : List Edge) (c : Curve) → edgeWrong es c ≡ false → (l : Line) → List·Memᴰ l (map lineOf es)
+  meets-none : (es : List Edge) (c : Curve) → edgeMeeting es c ≡ None → (l : Line) → List·Memᴰ l (map lineOf es)
       → meetWrongly c (l .curve) ≡ false
-  unfolding edgeWrong
+  unfolding edgeMeeting
   meets-none es c h l k =
       let w = Memᴰ·of-map lineOf es k in
       subst (λ (x : Line). meetWrongly c (x .curve) ≡ false) (w .2)
-      (none-has (λ e. meetWrongly c (e .curve)) es h (w .0) (w .1))
+      (none-has (λ e. meetWrongly c (e .curve)) es
+      (sym (gravest-any isMet met-adds (λ e. meeting c (e .curve)) es) ∙ ap isMet h) (w .0) (w .1))
 
   -- a sent curve between two nodes
   sent-sited : (e u v : ℕ) (c : Curve) → hasNode m u ≡ true → hasNode m v ≡ true → Sent m c u v
@@ -98,7 +101,7 @@ module _ (m : Map) (G : Good m) where
         end = Memᴰ·cast (λ t. record { number = v; at = s .end t }) (place-in m v hv);
       }
 
-  sent-drawable : (c : Curve) (u v : ℕ) (es : List Edge) → Sent m c u v → edgeWrong es c ≡ false
+  sent-drawable : (c : Curve) (u v : ℕ) (es : List Edge) → Sent m c u v → edgeMeeting es c ≡ None
       → Drawable c (map lineOf es)
   sent-drawable c u v es s h =
       record {
@@ -126,8 +129,8 @@ module _ (m : Map) (G : Good m) where
   -- ---- kinds 4, 5, 11 to 14
 
   -- a curve that a ticket draws
-  drawn-in : (u v : ℕ) (c : Curve) → hasNode m u ≡ true → hasNode m v ≡ true → Sent m c u v → edgeWrong (m .edges) c
-      ≡ false → Survey (lines m ++ (newLine (m .next .edges) u v c ∷ [])) (places m)
+  drawn-in : (u v : ℕ) (c : Curve) → hasNode m u ≡ true → hasNode m v ≡ true → Sent m c u v
+      → edgeMeeting (m .edges) c ≡ None → Survey (lines m ++ (newLine (m .next .edges) u v c ∷ [])) (places m)
   drawn-in u v c hu hv s w = survey-append (lines m) (places m) (newLine (m .next .edges) u v c) (survey m G)
       (sent-drawable c u v (m .edges) s w) (sent-sited (m .next .edges) u v c hu hv s)
 

@@ -1,5 +1,5 @@
--- `reason_edges::judge_rows` meets its contract: turned down by 5 to 15, or by 20 or 21, or by none. Assumes nothing.
-use mathlib.Core.Path.{_≡_, refl, sym, ap, _∙_}
+-- `reason_edges::judge_rows` meets its contract: turned down before 20, or by 20 or 21, or by none. Assumes nothing.
+use mathlib.Core.Path.{_≡_, sym, ap, _∙_}
 use Prim.Native.Nat.{_<_}
 use native.Mathlib.Omega.{arith}
 use lib.IntN.{pos, natAbs}
@@ -31,7 +31,7 @@ turned c =
     rows-turned (s .pre .0) (a .how) (a .u) (a .v) (s .pre .1) (a .c .now) some (d .drawing-reason .ensures)
     (c .turned-down .ensures)
 
--- none of 5 to 15
+-- none before 20
 clear : (c : tie.Else1)
     → let a = c .before .before .args in
     firstReason (drawingReasons (mapOf (lent (a .nodes .now) (a .edges .now) (a .faces .now) (a .h)))

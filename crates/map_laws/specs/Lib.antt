@@ -1,0 +1,2 @@
+-- `Claims`: what refusals say of the drawing.
+pub mod Claims
