@@ -1,11 +1,14 @@
 #!/usr/bin/env python3
 """Two builds of the static library timed in turn: what a change did to speed.
 
-  compare.py OLD.a NEW.a [RUNS]    ratios of the least times, NEW to OLD, by setting and kinds (default 6 runs each);
-                                   at 1,000 edges also the times, of all kinds in the mean and of redrawings (kind 6)
+  compare.py [--as-built] OLD.a NEW.a [RUNS]
+                     ratios of the least times, NEW to OLD, by setting and kinds (default 6 runs each); at 1,000 edges
+                     also the times, of all kinds in the mean and of redrawings (kind 6)
 
 Runs are taken in turn, so that both meet the same minutes, and of each cell the least time counts: a machine's clock
-moves, and times alone say little. Needs rustc and a C compiler; about six seconds a run.
+moves, and times alone say little. In both builds each function is put at a multiple of 64 bytes, unless they are timed
+as built: where the linker happens to put one moved the time of a ticket by a tenth. Needs rustc, a C compiler and
+objcopy; about six seconds a run.
 A redrawing past wells or an island is turned down with 22, and carried out by a library of before landing 13: there
 the ratio is that of a refusal to an edit. A library of before landing 14 gets face rows of one number.
 """
@@ -13,7 +16,6 @@ the ratio is that of a refusal to an edit. A library of before landing 14 gets f
 import csv
 import ctypes
 import pathlib
-import shutil
 import statistics
 import subprocess
 import sys
@@ -31,6 +33,7 @@ GROUPS = (('kinds 1 to 5, 7 to 10, 13, 14', KINDS - NEW_FACES - {'6'}, ENDS), ('
           ('kind 6, carried out', {'6', *BESIDE}, [CARRIED]), ('kind 6, turned down with 15', {'6'}, [REFUSED]),
           ('kind 6, past wells or an island', set(BESIDE), [REFUSED]), (LISTED, {LISTED}, ENDS))
 EDGES = '1000'
+AS_BUILT = '--as-built'
 
 
 def face_width(library, folder):
@@ -44,10 +47,11 @@ def face_width(library, folder):
     return 5 if refusal else 1
 
 
-def build(library, folder):
+def build(library, folder, as_built):
     """The bench over a library, with the face rows that this takes."""
     folder.mkdir()
-    shutil.copy(library, folder / 'libsolgwid.a')
+    align = [] if as_built else ['--set-section-alignment', '.text*=64']
+    subprocess.run(['objcopy', *align, library, folder / 'libsolgwid.a'], check=True)
     width = face_width(library, folder)
     for path in BENCH, WRAPPER:
         (folder / path).parent.mkdir()
@@ -88,9 +92,10 @@ def report(before, after):
                 print(f'{setting}, {cell[1]}, {end}: {before[cell]:.1f} us before, {after[cell]:.1f} after')
 
 
-def main(old, new, count='6'):
+def main(old, new, count='6', as_built=False):
     with tempfile.TemporaryDirectory() as folder:
-        programs = [build(library, pathlib.Path(folder, name)) for library, name in ((old, 'old'), (new, 'new'))]
+        programs = [build(library, pathlib.Path(folder, name), as_built)
+                    for library, name in ((old, 'old'), (new, 'new'))]
         runs = [[], []]
         for _ in range(int(count)):
             for found, program in zip(runs, programs):
@@ -99,6 +104,7 @@ def main(old, new, count='6'):
 
 
 if __name__ == '__main__':
-    if len(sys.argv) not in (3, 4):
+    words = [word for word in sys.argv[1:] if word != AS_BUILT]
+    if len(words) not in (2, 3):
         sys.exit(__doc__)
-    main(*sys.argv[1:])
+    main(*words, as_built=AS_BUILT in sys.argv)
