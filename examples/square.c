@@ -1,4 +1,5 @@
-/* The square sheet: a loop around a plot, the loop split, a boundary across the plot. Then a split taken back.
+/* The square sheet: a loop around a plot, the loop split, a boundary across the plot. Then a split taken back, and a
+   curve sent with points along its straight runs.
 
        rt staticlib solgwid && cc -Iinclude examples/square.c target/staticlib/libsolgwid.a -o square */
 #include <inttypes.h>
@@ -54,5 +55,11 @@ int main(void) {
     int same = !memcmp(nodes_before, nodes, sizeof nodes) && !memcmp(edges_before, edges, sizeof edges)
         && !memcmp(faces_before, faces, sizeof faces);
     printf("taken back: %s, %s\n", solgwid_refusal_text(refusal), same ? "every row as before" : "rows differ");
+
+    /* the surveyor sends the first half again, with points along the way: they are dropped, and the row is the same */
+    const solgwid_point surveyed[] = {{0, 0}, {3, 0}, {8, 0}, {10, 0}, {10, 4}, {10, 10}};
+    refusal = solgwid_change_edge_geom(&map, 1, surveyed, 6);
+    printf("surveyed: %s, 6 points sent, %" PRId64 " in the row, %s\n", solgwid_refusal_text(refusal),
+           edges[0].point_count, memcmp(edges_before, edges, sizeof edges) ? "which differs" : "which is as before");
     return 0;
 }

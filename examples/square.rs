@@ -36,5 +36,11 @@ fn main() -> Result<(), Refusal> {
     map.mod_edge_heal(1, before.head[4])?;
     let same = map.nodes == before.nodes && map.edges == before.edges && map.faces == before.faces;
     println!("taken back: done, {}", if same { "every row as before" } else { "rows differ" });
+
+    // the surveyor sends the first half again, with points along the way: they are dropped, and the row is the same
+    map.change_edge_geom(1, &[(0, 0), (3, 0), (8, 0), (10, 0), (10, 4), (10, 10)])?;
+    let same = map.edges == before.edges;
+    let how = if same { "which is as before" } else { "which differs" };
+    println!("surveyed: done, 6 points sent, {} in the row, {how}", map.edges[7]);
     Ok(())
 }

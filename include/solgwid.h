@@ -36,7 +36,7 @@
 extern "C" {
 #endif
 
-#define SOLGWID_VERSION 15
+#define SOLGWID_VERSION 16
 
 /* ---- limits and widths */
 
@@ -161,8 +161,7 @@ static inline const char *solgwid_refusal_text(uint64_t refusal) {
     case SOLGWID_BAD_TICKET: return "the kind is unknown, or its count of numbers is wrong";
     case SOLGWID_MISSING_ROW: return "a named node, edge or face is missing";
     case SOLGWID_OUT_OF_RANGE: return "a coordinate is out of range, or the curve does not have 2 to 12 points";
-    case SOLGWID_REDUNDANT_POINT:
-        return "neighbouring points are equal, or an inner point lies straight between its neighbours";
+    case SOLGWID_REDUNDANT_POINT: return "neighbouring points of the curve are equal";
     case SOLGWID_NOT_SIMPLE: return "the curve meets itself other than by closing";
     case SOLGWID_ENDS_OFF_NODES: return "the curve does not start and end on its nodes' points";
     case SOLGWID_NOT_ISOLATED: return "the node or edge is not isolated, or one node is both ends";
@@ -250,7 +249,8 @@ static inline solgwid_refusal solgwid_map_run(solgwid_map *map, const int64_t *n
 
 /* ---- the fourteen tickets by the names of SQL/MM */
 
-/* A ticket of some numbers and then a curve. Every count of points above 12 gets the same answer (5, unless 1, 2 or 4
+/* A ticket of some numbers and then a curve. Inner points straight between their neighbours are dropped, so that the
+   row may have fewer points than were sent. Every count of points above 12 gets the same answer (5, unless 1, 2 or 4
    comes first), so the first 13 stand for all, and the buffer need not grow. */
 static inline solgwid_refusal solgwid_map_curve(solgwid_map *map, const int64_t *first, size_t first_length,
                                                 const solgwid_point *points, size_t point_count, int64_t *value) {

@@ -6,7 +6,7 @@
 use std::fmt;
 
 /// The landing (docs/LANDINGS.md). It rises with each landing that changes what a call takes or does.
-pub const VERSION: u32 = 15;
+pub const VERSION: u32 = 16;
 
 /// Rows of a table, at most.
 pub const MAX_NODES: usize = 1000;
@@ -87,7 +87,7 @@ const REFUSALS: [(Refusal, &str); 24] = [
     (Refusal::BadTicket, "the kind is unknown, or its count of numbers is wrong"),
     (Refusal::MissingRow, "a named node, edge or face is missing"),
     (Refusal::OutOfRange, "a coordinate is out of range, or the curve does not have 2 to 12 points"),
-    (Refusal::RedundantPoint, "neighbouring points are equal, or an inner point lies straight between its neighbours"),
+    (Refusal::RedundantPoint, "neighbouring points of the curve are equal"),
     (Refusal::NotSimple, "the curve meets itself other than by closing"),
     (Refusal::EndsOffNodes, "the curve does not start and end on its nodes' points"),
     (Refusal::NotIsolated, "the node or edge is not isolated, or one node is both ends"),
@@ -227,7 +227,8 @@ impl Map {
     }
 }
 
-/// The fourteen tickets by the names of SQL/MM. A curve is its points as (x, y).
+/// The fourteen tickets by the names of SQL/MM. A curve is its points as (x, y); inner ones straight between their
+/// neighbours are dropped.
 impl Map {
     /// `face` is the face that the point must lie in, or -1. Answers the node.
     pub fn add_iso_node(&mut self, face: i64, x: i64, y: i64) -> Result<i64, Refusal> {

@@ -25,7 +25,7 @@ from repository import ROOT, needed
 
 MAP = 'crates/map/specs/'
 PROOFS = 'crates/map/proofs/'
-EXAMPLES = 'Worked.antt', 'WorkedSides.antt', 'WorkedRectangles.antt', 'WorkedMeetings.antt'
+EXAMPLES = tuple(f'Worked{part}.antt' for part in ('', 'Sides', 'Rectangles', 'Meetings', 'Surplus'))
 EDITS, REASONS, FORM, TICKET, ROWS = (MAP + f'{n}.antt' for n in ('Edits', 'Reasons', 'Form', 'Ticket', 'Rows'))
 
 # the statements of the theorem that are told, the four of demand 3 first, and what computes each of the map m in the
@@ -161,6 +161,12 @@ def by_segments(choose, above, change='asFound'):
             ABOVE, above + AS_FOUND * (change == 'asFound') + CURVES_BY + ABOVE, MET, used + '}', *CURVES_USED)
 
 
+def stored(edit):
+    """An edit that stores the points sent."""
+    return (TICKET, f'{edit} (curveIn sent) m', f'{edit} (curveOf sent) m',
+            'use Rattle.curves.specs.Curves.{point}', 'use Rattle.curves.specs.Curves.{point, curveOf}')
+
+
 # name: file, old, new, and more of both
 WORKED = {
     'face of a point: ties to the later': (
@@ -231,8 +237,8 @@ WORKED = {
         REASONS, 'node m (edge m (d .edge) .start) .at', 'node m (leaves m d) .at'),
     '22 before 19': (
         REASONS,
-        '(19, orderChanges m (natAbs e) c)\n    ∷ (22, sidesChange m (natAbs e) c)',
-        '(22, sidesChange m (natAbs e) c)\n    ∷ (19, orderChanges m (natAbs e) c)'),
+        '(19, orderChanges m e c)\n    ∷ (22, sidesChange m e c)',
+        '(22, sidesChange m e c)\n    ∷ (19, orderChanges m e c)'),
     '23: a stretch is a crossing': (REASONS, 'contactReason Stretch = 23', 'contactReason Stretch = 15'),
     '24: a touch is a crossing': (REASONS, 'contactReason Touch = 24', 'contactReason Touch = 15'),
     '24: a crossing is a touch': (REASONS, 'contactReason Crossing = 15', 'contactReason Crossing = 24'),
@@ -251,7 +257,7 @@ WORKED = {
         'use Rattle.plane.specs.Points.{samePoint}\n',
         'use Rattle.plane.specs.Points.{samePoint}\nuse Rattle.plane.specs.Segments.{straightBetween}\n'),
     '23: the own edge too': (
-        REASONS, 'meetingReasons m (withoutEdge (natAbs e) (m .edges)) c', 'meetingReasons m (m .edges) c',
+        REASONS, 'meetingReasons m (withoutEdge e (m .edges)) c', 'meetingReasons m (m .edges) c',
         'use Rattle.map.specs.Rows.{withoutEdge, counts}', 'use Rattle.map.specs.Rows.{counts}'),
     '15 before 14': (
         REASONS,
@@ -267,9 +273,24 @@ WORKED = {
         '    ∷ meetingReasons m (m .edges) c\n    ++ roomReasons',
         'meetingReasons m (m .edges) c\n    ++ (11, directionTaken m (m .next .edges) a b c)\n'
         '    ∷ (12, cornersDiffer m a b c)\n    ∷ roomReasons'),
+    'surplus: nothing is dropped': (
+        REASONS, 'curveIn sent = withoutSurplus (curveOf sent)', 'curveIn sent = curveOf sent'),
+    'surplus: kind 4 stores the points sent': stored('addIsoEdge (natAbs u) (natAbs v)'),
+    'surplus: kind 6 stores the points sent': stored('changeEdgeGeom (natAbs e)'),
+    'surplus: kind 11 stores the points sent': stored('addEdge New (natAbs u) (natAbs v)'),
+    'surplus: kind 12 stores the points sent': stored('addEdge Mod (natAbs u) (natAbs v)'),
+    'surplus: 7 to 24 by the points sent': (REASONS, 'sent ++ rest (curveIn sent)', 'sent ++ rest (curveOf sent)'),
+    'surplus: 5 by the points left': (
+        REASONS, '(5, badCurve sent)', '(5, badCurve (coordinates (points (withoutSurplus (curveOf sent)))))',
+        'use Rattle.curves.specs.Curves.{maxPoints}', 'use Rattle.curves.specs.Curves.{maxPoints, coordinates}'),
+    '6: straight points too': (
+        REASONS, '(6, not (neighboursDiffer (curveOf sent)))',
+        '(6, not (neighboursDiffer (curveOf sent)) || straightInside (curveOf sent))',
+        'Tests.{neighboursDiffer, onCurve', 'Tests.{neighboursDiffer, straightInside, onCurve'),
+    '6: never': (REASONS, '(6, not (neighboursDiffer (curveOf sent)))', '(6, false)'),
     'value of kind 4': (
-        TICKET, '(addIsoEdge (natAbs u) (natAbs v) (curveOf c) m, pos (m .next .edges))',
-        '(addIsoEdge (natAbs u) (natAbs v) (curveOf c) m, pos (m .next .nodes))'),
+        TICKET, '(addIsoEdge (natAbs u) (natAbs v) (curveIn sent) m, pos (m .next .edges))',
+        '(addIsoEdge (natAbs u) (natAbs v) (curveIn sent) m, pos (m .next .nodes))'),
     'value of kind 13 where none healed': (
         TICKET, '(negsuc 0),\n)', '(pos 0),\n)'),
     'a bare node goes to face 0': (

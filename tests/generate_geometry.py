@@ -4,7 +4,7 @@
   generate_geometry.py [CASES] [--seed S]
 
 Half of the cases lie on a small grid, where coincidences abound, a quarter at the corners of the coordinate range, the
-rest anywhere. Needs nothing that is built.
+rest anywhere. Some curves have points along their straight runs. Needs nothing that is built.
 """
 
 import argparse
@@ -13,6 +13,7 @@ import random
 from repository import ROOT     # finds the reference
 
 import plotmap as pm
+import surplus
 
 TOP = 1048575
 CELLS = 24
@@ -40,6 +41,8 @@ def case(rng):
         d[0] = c[-1]
     if rng.random() < 0.2:
         d[-1] = c[0]
+    if rng.random() < 0.2:
+        c = surplus.thickened(rng, c, 6 - len(c))
     p = rng.choice(c + d) if rng.random() < 0.5 else (coordinate(rng, field), coordinate(rng, field))
     return c, d, p
 
@@ -104,11 +107,12 @@ def answers(c, d, p):
     out += [same and pm.cross(v, w) == 0, higher(p[0], s, t)]
     segments = pm.segments(c)
     places = [i for i, u in enumerate(segments) if pm.on_segment(p, u)]
-    out += [not pm.equal_neighbours(c), any(pm.surplus(c, i) for i in range(len(c))), pm.simple(c)]
+    out += [not pm.equal_neighbours(c), pm.simple(c)]
     out += [places[0] if places else 99, meeting(c, d), *signed(sum(pm.cross(a, b) for a, b in segments))]
     out += [sum(pm.passes_below(p, u) for u in segments) % 2]
     front, back = halves(c, p)
-    for points in (front, back, pm.joined_points(tuple(c), tuple(d)), c[::-1]):
+    left = [q for i, q in enumerate(c) if not pm.surplus(c, i)]
+    for points in (front, back, pm.joined_points(tuple(c), tuple(d)), left, c[::-1]):
         out += digest(points)
     return ' '.join(str(int(n)) for n in out) + ' 0 \n'
 

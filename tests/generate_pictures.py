@@ -1,8 +1,8 @@
 #!/usr/bin/env python3
 """Writes the pictures under docs/ from lists of tickets; what they show is worked out by the reference.
 
-  generate_pictures.py [NAME ...]    of directions, edge, links, meadow, meetings, rectangles, rings, sides, square;
-                                     all if none is named
+  generate_pictures.py [NAME ...]    of directions, edge, links, meadow, meetings, rectangles, rings, sides, square,
+                                     surplus; all if none is named
 """
 
 import cmath
@@ -754,8 +754,52 @@ def meetings():
     page.save('meetings', MEETINGS_STYLE)
 
 
+# --- docs/surplus.svg ------------------------------------------------------------------------------------------------
+
+ENDS = ['1 -1 1 2', '1 -1 13 8']
+SURPLUS = [
+    (ENDS, '4 1 2 1 2 4 2 10 2 13 2 13 5 13 8', '6 points sent, 3 stay'),
+    (ENDS, '4 1 2 1 2 3 3 7 5 11 7 13 8', '5 points sent, 2 stay'),
+    (['1 -1 6 2'], '12 1 1 6 2 10 2 13 2 13 8 7 8 1 8 1 2 3 2 6 2', 'the end of a closed line stays'),
+    (ENDS, '4 1 2 1 2 4 2 11 2 7 2 13 8', 'it doubles back'),
+    (ENDS, '4 1 2 1 2 7 5 7 5 13 8', 'one point is sent twice'),
+]
+SURPLUS_NAMES = {0: 'carried out', 6: 'REDUNDANT_POINT', 7: 'NOT_SIMPLE'}
+SURPLUS_STYLE = """.drawn { fill: none; stroke: #1f4e79; stroke-width: 2.5; stroke-linejoin: round }
+.kept { fill: #1f4e79 }
+.gone { fill: #fff; stroke: #b5472a; stroke-width: 1.8 }
+.done { fill: #2e7d32 }
+"""
+
+
+def surplus_panel(page, at, tickets, ticket, words):
+    """The line that the ticket sends, with its points."""
+    m, _ = grown(tickets)
+    _, (refusal, _) = grown([*tickets, ticket])
+    points = pm.curve_sent(tuple(map(int, ticket.split())))
+    view = View(m, at + complex(MEETINGS_WIDTH / 2 - 70, 118), 10)
+    page.box(at + 4 + 4j, MEETINGS_WIDTH - 8, 124)
+    page.line(view.line(points), 'drawn')
+    for i, p in enumerate(points):
+        page.disc(view.at(*p), 4.5, 'gone' if pm.surplus(points, i) else 'kept')
+    style = 'refused' if refusal else 'done'
+    page.text(at + complex(MEETINGS_WIDTH / 2, 146), f'{refusal} {SURPLUS_NAMES[refusal]}', f'note answer {style}')
+    page.text(at + complex(MEETINGS_WIDTH / 2, 164), words, 'note')
+
+
+def surplus():
+    page = Page(len(SURPLUS) * MEETINGS_WIDTH, 198)
+    for i, panel in enumerate(SURPLUS):
+        surplus_panel(page, i * MEETINGS_WIDTH, *panel)
+    page.disc(16 + 185j, 4.5, 'kept')
+    page.text(28 + 189.5j, 'a point that stays', 'note start')
+    page.disc(176 + 185j, 4.5, 'gone')
+    page.text(188 + 189.5j, 'a surplus point: straight between its neighbours', 'note start')
+    page.save('surplus', SURPLUS_STYLE)
+
+
 PICTURES = {'directions': directions, 'edge': edge, 'links': links, 'meadow': meadow, 'meetings': meetings,
-            'rectangles': rectangles, 'rings': rings, 'sides': sides, 'square': square}
+            'rectangles': rectangles, 'rings': rings, 'sides': sides, 'square': square, 'surplus': surplus}
 
 
 def main(names):

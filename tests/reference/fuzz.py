@@ -6,7 +6,8 @@
           [--no-form]   (skip the in-form test of plotmap itself; check.py still looks)
 
 Mixes: even, redraw (many kind 6), abuse (wells and loops redrawn), faces (many 11 to 14), stitch (many 7 to 10),
-islands (see islands.py). In all of them some curves meet edges on purpose (see meetings.py).
+islands (see islands.py). In all of them some curves meet edges on purpose (see meetings.py), and some have points along
+straight runs (see surplus.py).
 """
 
 import argparse
@@ -20,6 +21,7 @@ import check
 import islands
 import meetings
 import plotmap as pm
+import surplus
 import sweeps
 import ticket as tk
 
@@ -118,6 +120,10 @@ def redrawn(rng, m, grid):
 
 
 def make_ticket(rng, m, grid, weights):
+    return surplus.mixed(rng, plain_ticket(rng, m, grid, weights))
+
+
+def plain_ticket(rng, m, grid, weights):
     kind = rng.choices(list(weights), list(weights.values()))[0]
     if len(m.nodes) < 3 and rng.random() < 0.6:
         kind = 1

@@ -7,6 +7,7 @@ Everything is then bent by one whole-number linear map, so that segments have al
 
 import meetings
 import plotmap as pm
+import surplus
 import sweeps
 
 CELL = 6
@@ -141,6 +142,10 @@ def healed(rng, m):
 
 
 def ticket(rng, m, w):
+    return surplus.mixed(rng, plain_ticket(rng, m, w))
+
+
+def plain_ticket(rng, m, w):
     if m.edges and rng.random() < 0.08:
         return meetings.ticket(rng, m)
     at = {n.number: w.back[(n.x, n.y)] for n in m.nodes}

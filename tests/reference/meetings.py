@@ -87,6 +87,6 @@ def ticket(rng, m):
     wanted, how = rng.choice(((23, along), (15, across), (24, touching)))
     for _ in range(TRIES):
         k = curve(rng, m, how)
-        if pm.first_reason(pm.reasons(m, ROOM, k, 4)) == wanted:
+        if pm.first_reason(pm.reasons(m, ROOM, k, 5)) == wanted:
             break
     return k

@@ -13,7 +13,7 @@ use Rattle.lists.specs.Members.{Distinct}
 use Rattle.lists.proofs.Bools.{same-true}
 use Rattle.lists.proofs.Lookups.{without}
 use Rattle.lists.proofs.Maps.{map-twice}
-use Rattle.curves.specs.Curves.{Curve, point, curveOf}
+use Rattle.curves.specs.Curves.{Curve, point}
 use Rattle.map.specs.declared.Variant.{Variant}
 use Rattle.map.specs.declared.Variant.the-variants.{New, Mod}
 use Rattle.map.specs.Rows.{Edge, Map, Sizes, edge, atEdge, atNodes}
@@ -21,7 +21,7 @@ use Rattle.map.specs.Form.{formed}
 use Rattle.map.specs.Tickets.{Ticket, AddIsoNode, MoveIsoNode, RemoveIsoNode, AddIsoEdge, RemoveIsoEdge, ChangeEdgeGeom}
 use Rattle.map.specs.Tickets.{NewEdgesSplit, ModEdgeSplit, NewEdgeHeal, ModEdgeHeal, AddEdgeNewFaces, AddEdgeModFace}
 use Rattle.map.specs.Tickets.{RemEdgeNewFace, RemEdgeModFace}
-use Rattle.map.specs.Reasons.{firstReason, reasons}
+use Rattle.map.specs.Reasons.{firstReason, reasons, curveIn}
 use Rattle.map.specs.Ticket.{carried}
 use Rattle.map.specs.Edits.{addIsoNode, moveIsoNode, removeIsoNode, addIsoEdge, removeIsoEdge, withCurve}
 use Rattle.map.specs.Edits.{changeEdgeGeom, heal, lowerFace, makesFace, faceLeft, renamedFaces, removeEdge}
@@ -109,10 +109,10 @@ module _ (s : Sizes) (m : Map) (h : formed m ≡ true) (f : ℕ) where
   carried-along (AddIsoNode g x y) z k n = refl
   carried-along (MoveIsoNode v x y) z k n = refl
   carried-along (RemoveIsoNode v) z k n = refl
-  carried-along (AddIsoEdge u v c) z k n = add-lone-along f m (natAbs u) (natAbs v) (curveOf c) n
+  carried-along (AddIsoEdge u v c) z k n = add-lone-along f m (natAbs u) (natAbs v) (curveIn c) n
   carried-along (RemoveIsoEdge e) z k n = remove-lone-along f m dis (natAbs e) (off-edge (natAbs e) n)
   carried-along (ChangeEdgeGeom e c) z k n =
-      ap along (change-stretches f m dis (natAbs e) (off-edge (natAbs e) n) (curveOf c))
+      ap along (change-stretches f m dis (natAbs e) (off-edge (natAbs e) n) (curveIn c))
   carried-along (NewEdgesSplit e x y) z k n =
       split-along f m dis (natAbs e) (off-edge (natAbs e) n) New (point x y)
   carried-along (ModEdgeSplit e x y) z k n =

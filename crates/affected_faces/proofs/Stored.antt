@@ -1,7 +1,7 @@
 -- Curves of 2 to 12 points in range: where all of a map in form are such, all are after a ticket that is carried out.
 -- Assumes nothing.
 use mathlib.Core.Path.{_≡_, refl, sym, _∙_, subst}
-use mathlib.Core.Bool.{Bool, true, false, cond, not}
+use mathlib.Core.Bool.{true, cond, not}
 use mathlib.Core.List.{List, [], _∷_, _++_, map, append-assoc, List·Memᴰ, List·Memᴰ·head, List·Memᴰ·tail}
 use mathlib.Core.List.{Memᴰ·map, Memᴰ·of-map}
 use mathlib.Core.Logic.{_≢_, inl, inr}
@@ -16,14 +16,13 @@ use Rattle.lists.proofs.Members.{each-cons, each-last}
 use Rattle.lists.proofs.Lookups.{without}
 use Rattle.plane.specs.declared.Point.{Point}
 use Rattle.plane.specs.Points.{InRange}
-use Rattle.curves.specs.Curves.{Curve, points, point, curveOf, lastPoint, maxPoints}
+use Rattle.curves.specs.Curves.{Curve, points, point, lastPoint, maxPoints}
 use Rattle.curves.specs.Tests.{onCurve}
-use Rattle.curves.specs.Edits.{front, back, joined, course}
+use Rattle.curves.specs.Edits.{front, back, joined}
 use Rattle.geometry.specs.Meaning.{Some}
 use Rattle.geometry.proofs.Cutting.{cut-place}
 use Rattle.geometry.proofs.Joining.{join-alike, join-given}
-use Rattle.geometry.proofs.Theorems.{onCurve-iff, reverse-count}
-use Rattle.geometry.proofs.Turning.{turned-given}
+use Rattle.geometry.proofs.Theorems.{onCurve-iff}
 use Rattle.planar_maps.specs.Map.{Dart}
 use Rattle.map.specs.declared.Variant.{Variant}
 use Rattle.map.specs.declared.Variant.the-variants.{New, Mod}
@@ -34,12 +33,13 @@ use Rattle.map.specs.Form.{formed}
 use Rattle.map.specs.Tickets.{Ticket, AddIsoNode, MoveIsoNode, RemoveIsoNode, AddIsoEdge, RemoveIsoEdge, ChangeEdgeGeom}
 use Rattle.map.specs.Tickets.{NewEdgesSplit, ModEdgeSplit, NewEdgeHeal, ModEdgeHeal, AddEdgeNewFaces, AddEdgeModFace}
 use Rattle.map.specs.Tickets.{RemEdgeNewFace, RemEdgeModFace}
-use Rattle.map.specs.Reasons.{firstReason, reasons}
+use Rattle.map.specs.Reasons.{firstReason, reasons, curveIn}
 use Rattle.map.specs.Ticket.{carried}
 use Rattle.map.specs.Edits.{parts, healedCurve}
 use Rattle.map.proofs.Laws.{edge-there}
 use Rattle.map.proofs.Linked.{within-nodes}
 use Rattle.map.proofs.RoundTrip.{Stored}
+use Rattle.map.proofs.Surplus.{course-stored}
 use Rattle.map_laws.proofs.Readings.{dart-has, course-row}
 use Rattle.map_laws.proofs.Reasons.{Sent, Split, Heal}
 use Rattle.map_laws.proofs.Reasons as facts
@@ -82,14 +82,6 @@ halves-stored p c n l o i d =
         in-range = halves .1;
       },
     )
-
-course-stored : (b : Bool) (c : Curve) → Stored c → Stored (course b c)
-course-stored false c s = s
-course-stored true c s = record {
-  least = omega (arith, reverse-count c, s .least);
-  most = omega (arith, reverse-count c, s .most);
-  in-range = λ p k. s .in-range p (turned-given (c .first) (c .rest) k);
-}
 
 joined-stored : (c d : Curve) → Stored c → Stored d → length (points (joined c d)) ≤ maxPoints → Stored (joined c d)
 joined-stored c d s t few = record {
@@ -156,13 +148,13 @@ module _ (s : Sizes) (m : Map) (h : formed m ≡ true)
   carried-all (MoveIsoNode n x y) z = by (moveIsoNode-becomes (natAbs n) (point x y) m .lines) all-old
   carried-all (RemoveIsoNode n) z = by (removeIsoNode-becomes (natAbs n) m .lines) all-old
   carried-all (AddIsoEdge u v c) z =
-      by (addIsoEdge-becomes (natAbs u) (natAbs v) (curveOf c) m .lines)
+      by (addIsoEdge-becomes (natAbs u) (natAbs v) (curveIn c) m .lines)
       (all-more _ _ _ (sent-stored (facts.add-lone s m u v c z .sent)))
   carried-all (RemoveIsoEdge e) z =
       by (removeIsoEdge-becomes (natAbs e) m .lines) (all-without (natAbs e) (lines m) all-old)
   carried-all (ChangeEdgeGeom e c) z =
-      by (changeEdgeGeom-becomes (natAbs e) (curveOf c) m .lines)
-      (all-at (natAbs e) (redrawn (curveOf c)) (lines m) (λ l. sent-stored (facts.change s m e c z .sent)) all-old)
+      by (changeEdgeGeom-becomes (natAbs e) (curveIn c) m .lines)
+      (all-at (natAbs e) (redrawn (curveIn c)) (lines m) (λ l. sent-stored (facts.change s m e c z .sent)) all-old)
   carried-all (NewEdgesSplit e x y) z =
       let n = halves New (natAbs e) (point x y) (facts.split-new s m e x y z) in
       let rest = without lineNumber (natAbs e) (lines m) in
@@ -183,10 +175,10 @@ module _ (s : Sizes) (m : Map) (h : formed m ≡ true)
       (all-without (natAbs g) _ (all-at (natAbs e) (λ l. _) (lines m)
       (λ l. healed (natAbs e) (natAbs g) (facts.heal-mod s m e g z)) all-old))
   carried-all (AddEdgeNewFaces u v c) z =
-      by (addEdge-becomes New (natAbs u) (natAbs v) (curveOf c) m .lines)
+      by (addEdge-becomes New (natAbs u) (natAbs v) (curveIn c) m .lines)
       (all-more _ _ _ (sent-stored (facts.add-new s m u v c z .sent)))
   carried-all (AddEdgeModFace u v c) z =
-      by (addEdge-becomes Mod (natAbs u) (natAbs v) (curveOf c) m .lines)
+      by (addEdge-becomes Mod (natAbs u) (natAbs v) (curveIn c) m .lines)
       (all-more _ _ _ (sent-stored (facts.add-mod s m u v c z .sent)))
   carried-all (RemEdgeNewFace e) z =
       by (removeEdge-becomes New (natAbs e) m .lines) (all-without (natAbs e) (lines m) all-old)

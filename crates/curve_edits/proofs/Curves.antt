@@ -1,8 +1,8 @@
--- The curve of a run cut, joined and reversed, point by point. Assumes nothing.
+-- The curve of a run cut, joined, reversed and without surplus points, point by point. Assumes nothing.
 use mathlib.Core.Path.{_≡_, sym, ap, _∙_}
 use mathlib.Core.Bool.{true, false}
 use mathlib.Core.List.{List, [], _∷_, _++_, append-assoc}
-use Prim.Native.Nat.{ℕ, suc, _+_, _-_, _/_, _<_}
+use Prim.Native.Nat.{ℕ, suc, _+_, _-_, _/_, _≤_, _<_}
 use native.Mathlib.Nat.{zero-add, sub-zero}
 use native.Mathlib.Omega.{arith}
 use lib.IntN.{ℤ}
@@ -14,8 +14,10 @@ use Rattle.plane.specs.Points.{samePoint}
 use Rattle.plane.specs.Segments.{straightBetween}
 use Rattle.curves.specs.Curves.{Run, pointAt, pointsFrom, curveOf, points}
 use Rattle.curves.specs.Tests.{firstPlace}
-use Rattle.curves.specs.Edits.{front, back, join, joined, reversed, joinHere, dropped}
-use Rattle.curves.proofs.Runs.{two-points, from-step, curve-is}
+use Rattle.curves.specs.Edits.{front, back, join, joined, reversed, joinHere, dropped, thinned, withoutSurplus}
+use Rattle.curves.proofs.Runs.{two-points, from-step, from-end, curve-is}
+use Rattle.curve_edits.specs.declared.Line.{Line}
+use Rattle.curve_edits.specs.Lines.{lineOf}
 use Rattle.curve_edits.proofs.Places.{Found-at, cut-found, cut-missing, turned-table, join-table}
 
 -- all points of a run
@@ -110,3 +112,54 @@ module _ {l k : List ℤ} (run : Run l) (run′ : Run k) where
         ((rw (rw en at e) at joint)
         ∙ sym (append-assoc (table (pointAt l) 0 (length l / 2 - 1 - 0)) (pointAt l (length l / 2 - 1) ∷ [])
         (pointsFrom k 1)))
+
+-- ---- without surplus points
+
+-- a line of what is left of the points before point i
+pub record LeftSoFar (l : List ℤ) (i : ℕ) (out : Line) : Type 0 where
+  pub few : out .count ≤ i
+  pub kept : List Point
+  pub line : out ≡ lineOf kept
+  -- with what would be left of the others it is what is left of all
+  pub whole : kept ++ thinned (pointAt l (i - 1)) (pointsFrom l i) ≡ points (withoutSurplus (curveOf l))
+
+pub thinned-start : {l : List ℤ} {out : Line} → Run l → out .count ≤ 1 → out ≡ lineOf (pointAt l 0 ∷ [])
+    → LeftSoFar l 1 out
+thinned-start {l} run n e = record { few = n; kept = pointAt l 0 ∷ []; line = e; whole = rw (curve-is run) }
+
+-- a point that is not the last
+thinned-step : (l : List ℤ) (i : ℕ) → i + 1 < length l / 2 → thinned (pointAt l (i - 1)) (pointsFrom l i)
+    ≡ joinHere (straightBetween (pointAt l (i - 1)) (pointAt l i) (pointAt l (i + 1))) (pointAt l i)
+    (thinned (pointAt l (i + 1 - 1)) (pointsFrom l (i + 1)))
+thinned-step l i h =
+    let e : i + 1 - 1 ≡ i = omega arith in
+    rw (e, from-step l i (omega arith), from-step l (i + 1) h)
+
+module _ (l : List ℤ) (i : ℕ) {out r : Line} (t : LeftSoFar l i out) where
+  pub thinned-dropped : i + 1 < length l / 2
+      → straightBetween (pointAt l (i - 1)) (pointAt l i) (pointAt l (i + 1)) ≡ true → r ≡ out → LeftSoFar l (i + 1) r
+  thinned-dropped h e f =
+      record {
+        few = rw f (omega (arith, t .few));
+        kept = t .kept;
+        line = f ∙ t .line;
+        whole = rw (thinned-step l i h, e) at (t .whole);
+      }
+
+  pub thinned-kept : {p : Point} → i + 1 < length l / 2
+      → straightBetween (pointAt l (i - 1)) (pointAt l i) (pointAt l (i + 1)) ≡ false → p ≡ pointAt l i
+      → r .count ≡ out .count + 1 → r ≡ lineOf (t .kept ++ p ∷ []) → LeftSoFar l (i + 1) r
+  thinned-kept h e ep n f =
+      record {
+        few = omega (arith, t .few);
+        kept = t .kept ++ pointAt l i ∷ [];
+        line = f ∙ ap (λ q. lineOf (t .kept ++ q ∷ [])) ep;
+        whole = append-assoc (t .kept) (pointAt l i ∷ []) _ ∙ (rw (thinned-step l i h, e) at (t .whole));
+      }
+
+  -- the last point is left
+  pub thinned-end : {k : ℕ} {p : Point} → i ≡ k → k + 1 ≡ length l / 2 → p ≡ pointAt l k
+      → r ≡ lineOf (t .kept ++ p ∷ []) → r ≡ lineOf (points (withoutSurplus (curveOf l)))
+  thinned-end e h ep f =
+      let all = rw (from-step l i (omega arith), from-end l (i + 1) (omega arith)) at (t .whole) in
+      f ∙ ap (λ q. lineOf (t .kept ++ q ∷ [])) (ep ∙ ap (pointAt l) (sym e)) ∙ ap lineOf all

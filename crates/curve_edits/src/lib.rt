@@ -1,4 +1,4 @@
-// Curves cut, joined and reversed. A new curve is built point by point in a line, by value.
+// Curves cut, joined, reversed and without surplus points. A new curve is built point by point in a line, by value.
 use lists::Found;
 use plane::Point;
 ghost use mathlib.Core.Path.{_≡_};
@@ -8,7 +8,7 @@ ghost use lib.ListN.{length};
 ghost use Rattle.lists.specs.Tables.{table};
 ghost use Rattle.plane.specs.Points.{InRange};
 ghost use Rattle.curves.specs.Curves.{Run, pointAt, curveOf, points};
-ghost use Rattle.curves.specs.Edits.{front, back, joined, reversed};
+ghost use Rattle.curves.specs.Edits.{front, back, joined, withoutSurplus, reversed};
 ghost use Rattle.curve_edits.specs.Lines.{lineOf};
 
 // The points of a curve as the 24 numbers of an edge row, and their number.
@@ -113,6 +113,22 @@ pub fn joined_of(c: &[i64], d: &[i64]) -> Line
     } else {
         with_points(with_point(begin, joint), d, 1, k)
     }
+}
+
+// The curve without surplus points: the inner ones that lie straight between their given neighbours.
+pub fn without_surplus(c: &[i64]) -> Line
+    requires { ⌜ Run (now c) ⌝ }
+    ensures { λ r. ⌜ r ≡ lineOf (points (withoutSurplus (curveOf (now (c .entry))))) ⌝ }
+{
+    let last = curves::point_count(c) - 1;
+    let mut out = with_point(Line::empty(), curves::point_at(c, 0));
+    for i in 1..last {
+        let p = curves::point_at(c, i);
+        if !plane::straight_between(curves::point_at(c, i - 1), p, curves::point_at(c, i + 1)) {
+            out = with_point(out, p);
+        }
+    }
+    with_point(out, curves::point_at(c, last))
 }
 
 // The curve the other way round.

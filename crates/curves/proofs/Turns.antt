@@ -17,10 +17,10 @@ use Rattle.lists.proofs.Bools.{eq1, eq3, ⊕-false}
 use Rattle.plane.specs.declared.Point.{Point}
 use Rattle.plane.specs.declared.Contact.{Contact}
 use Rattle.plane.specs.Points.{samePoint}
-use Rattle.plane.specs.Segments.{onSegment, straightBetween}
+use Rattle.plane.specs.Segments.{onSegment}
 use Rattle.plane.specs.Below.{Segment, passesBelow}
 use Rattle.curves.specs.Curves.{Run, pointAt, pointsFrom, segmentsOf, curveOf}
-use Rattle.curves.specs.Tests.{differs, straightIn, shares, segWrong, mayShare, graver, gravest}
+use Rattle.curves.specs.Tests.{differs, shares, segWrong, mayShare, graver, gravest}
 use Rattle.curves.specs.Shares.{markedEnds}
 use Rattle.curves.specs.Tests.{lastly, free, freeAfter, arc, simple, isSimple}
 use Rattle.curves.proofs.Meetings.{graver-none, graver-assoc}
@@ -99,22 +99,6 @@ module _ (l : List ℤ) (i : ℕ) {n : ℕ} (all : n + 1 ≡ length l / 2) (take
       rw (e, ea, eb) (eq3 (λ a b c. not (Bool·beq a b) ⊕ c) (λ a b c. a ⊕ (b ⊕ c)) tt o _
       (oddCount (segmentsFrom l (i + 1)) (passesBelow p)) ∙ rw segments-step at inv)
 
-module _ (l : List ℤ) (i : ℕ) (n : ℕ) (all : n + 1 ≡ length l / 2) (taken : i < n - 1) where
-  straight-step : straightIn (pointAt l i) (pointsFrom l (i + 1))
-      ≡ straightBetween (pointAt l i) (pointAt l (i + 1)) (pointAt l (i + 2))
-      || straightIn (pointAt l (i + 1)) (pointsFrom l (i + 1 + 1))
-  straight-step =
-      let f : i + 2 ≡ i + 1 + 1 = omega arith in
-      rw (f, from-step l (i + 1) (omega arith), from-step l (i + 1 + 1) (omega arith))
-
-  pub straight-hit : straightBetween (pointAt l i) (pointAt l (i + 1)) (pointAt l (i + 2)) ≡ true
-      → straightIn (pointAt l i) (pointsFrom l (i + 1)) ≡ true
-  straight-hit e = rw (straight-step, e)
-
-  pub straight-miss : straightBetween (pointAt l i) (pointAt l (i + 1)) (pointAt l (i + 2)) ≡ false
-      → straightIn (pointAt l i) (pointsFrom l (i + 1)) ≡ straightIn (pointAt l (i + 1)) (pointsFrom l (i + 1 + 1))
-  straight-miss e = rw (straight-step, e)
-
 -- after the last segment
 module _ (l : List ℤ) (i : ℕ) {n : ℕ} (all : n + 1 ≡ length l / 2) (left : n ≤ i) where
   past : length l / 2 ≤ i + 1
@@ -138,10 +122,6 @@ module _ (l : List ℤ) (i : ℕ) {n : ℕ} (all : n + 1 ≡ length l / 2) (left
 
   pub arc-end : arc (pointAt l i) (pointsFrom l (i + 1)) ≡ true
   arc-end = rw (from-end l (i + 1) past)
-
-pub straight-end : (l : List ℤ) (i n : ℕ) → n + 1 ≡ length l / 2 → 1 ≤ n → n - 1 ≤ i → i ≤ n - 1
-    → straightIn (pointAt l i) (pointsFrom l (i + 1)) ≡ false
-straight-end l i n all one left in-it = rw (from-step l (i + 1) (omega arith), from-end l (i + 1 + 1) (omega arith))
 
 -- the ends of one run, marked where they are ends of the other
 pub common-ends-are : {l k : List ℤ} (n m : ℕ) {a z b y : Point} {s t u v : Bool} → Run l → Run k → n + 1

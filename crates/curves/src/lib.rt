@@ -10,7 +10,7 @@ ghost use lib.ListN.{length};
 ghost use Rattle.plane.specs.Points.{InRange};
 ghost use Rattle.plane.specs.Segments.{onSegment};
 ghost use Rattle.curves.specs.Curves.{Run, isRun, pointAt, pointsFrom, segments, curveOf};
-ghost use Rattle.curves.specs.Tests.{neighboursDiffer, straightInside, firstPlace, segWrong, mayShare};
+ghost use Rattle.curves.specs.Tests.{neighboursDiffer, firstPlace, segWrong, mayShare};
 ghost use Rattle.curves.specs.Tests.{segMeeting, graver, gravest, meeting, free, freeAfter, isSimple};
 ghost use Rattle.curves.specs.Measures.{curveArea, oddBelow};
 ghost use Rattle.curves.specs.Shares.{Shareable, shareable, markedEnds};
@@ -90,20 +90,6 @@ pub fn neighbours_differ(c: &[i64]) -> bool
         }
     }
     true
-}
-
-// Whether an inner point lies straight between its neighbours.
-pub fn has_straight_point(c: &[i64]) -> bool
-    requires { ⌜ Run (now c) ⌝ }
-    ensures { λ r. ⌜ r ≡ straightInside (curveOf (now (c .entry))) ⌝ }
-{
-    let n = segment_count(c) - 1;
-    for i in 0..n {
-        if plane::straight_between(point_at(c, i), point_at(c, i + 1), point_at(c, i + 2)) {
-            return true;
-        }
-    }
-    false
 }
 
 // The first place of p along the curve: the segment, counted from 0.

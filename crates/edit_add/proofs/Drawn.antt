@@ -11,23 +11,18 @@ use lib.ListN.{length, length-map, getD, List·getD-map}
 use lib.Seq.{getD-at}
 use Rattle.lists.specs.Tests.{same}
 use Rattle.lists.specs.Scans.{allOf, anyOf}
-use Rattle.lists.specs.Tables.{place}
-use Rattle.lists.specs.declared.Found.the-variants.{At}
 use Rattle.lists.proofs.Bools.{and-is}
 use Rattle.lists.proofs.Members.{each-all}
-use Rattle.tables.specs.Tables.{sameZ, column}
-use Rattle.curves.specs.Curves.{curveOf, startWay}
+use Rattle.curves.specs.Curves.{Curve, curveOf, startWay}
 use Rattle.map.specs.declared.Head.{Head}
 use Rattle.map.specs.declared.Variant.{Variant}
-use Rattle.map.specs.declared.Variant.the-variants.{New, Mod}
-use Rattle.map.specs.Limits.{nodeWidth, faceWidth}
+use Rattle.map.specs.Limits.{faceWidth}
 use Rattle.map.specs.Rows.{Map, Sizes, mapOf, sizesOf, hasNode, lent}
 use Rattle.map.specs.Links.{cornerFace}
 use Rattle.map.specs.Edits.{drawn, drawnIn, splitsFace}
-use Rattle.map.specs.Reasons.{firstReason, reasons}
 use Rattle.map_laws.proofs.Readings.{missing, has-number, Outline, outlineOf, outlines}
 use Rattle.map_laws.proofs.RowChanges.{nodeNumber}
-use Rattle.map_laws.proofs.Reasons.{AddEdge, add-new, add-mod}
+use Rattle.map_laws.proofs.Reasons.{AddEdge}
 use Rattle.map_laws.proofs.Outlines.{drawnOutline, drawn-shape}
 use Rattle.map_laws.proofs.Faces.{has-face, formed-faces, corner-in}
 use Rattle.map_rows.specs.Rows.{nodesOf, edgesOf, facesOf, nodeAt, edgeAt, nodeMap}
@@ -35,20 +30,12 @@ use Rattle.map_rows.proofs.Rows.{edges-length, edges-getD, faces-length}
 use Rattle.head.specs.Heads.{changedHead}
 use Rattle.outcomes.specs.Outcomes.{Formed}
 use Rattle.outcomes.proofs.Formed.{formed-map}
-use Rattle.outcomes.proofs.FoundRows.{node-number}
-use Rattle.outcomes.specs.Variants.{addTicket}
 use Rattle.face_rows.specs.Holds.{FaceTable, Unboxed, MapTables, Splittable}
 use Rattle.face_rows.proofs.Formed.{boxes, formed-table, formed-unboxed}
 use Rattle.edge_rows.specs.Holds.{Drawn}
 use Rattle.edge_rows.proofs.Drawn.{drawn-edges, drawn-faces}
 use Rattle.edge_rows.proofs.Filled.{nodes-filled, edges-filled}
 use Rattle.edit_add.proofs.Rings.{drawn-ringed, drawn-ends}
-
--- what holds of a ticket that nothing turns down
-pub add-facts : (s : Sizes) (m : Map) (how : Variant) (a b : ℤ) (c : List ℤ)
-    → firstReason (reasons s m (addTicket how a b c)) ≡ 0 → AddEdge how s m (natAbs a) (natAbs b) (curveOf c)
-add-facts s m New a b c e = add-new s m a b c e
-add-facts s m Mod a b c e = add-mod s m a b c e
 
 module _ {nodes edges faces : List ℤ} {h : Head} (f : Formed nodes edges faces h) where
   abbrev m : Map
@@ -84,28 +71,28 @@ module _ {nodes edges faces : List ℤ} {h : Head} (f : Formed nodes edges faces
         counted = d .held .counted;
       }
 
-  number-of : (z : ℤ) (i : ℕ) → place (sameZ z) 0 (column nodeWidth nodes (natAbs (h .nodes))) ≡ At i
-      → nodeAt nodes i .number ≡ natAbs z
-  number-of z i e = sym (ap natAbs (node-number f z i e))
+  -- an edge between two rows that nothing turns down, with its corner face
+  module _ {how : Variant} (u v : ℕ) (l : List ℤ)
+      (t : AddEdge how s m (nodeAt nodes u .number) (nodeAt nodes v .number) (curveOf l)) {face : ℤ}
+      (ef : face ≡ pos (cornerFace m (nodeAt nodes u .number) (startWay (curveOf l)))) where
+    abbrev a : ℕ
+    a = nodeAt nodes u .number
 
-  -- an edge that nothing turns down, with its corner face
-  module _ (how : Variant) (a b : ℤ) (c : List ℤ) (u v : ℕ)
-      (eu : place (sameZ a) 0 (column nodeWidth nodes (natAbs (h .nodes))) ≡ At u)
-      (ev : place (sameZ b) 0 (column nodeWidth nodes (natAbs (h .nodes))) ≡ At v)
-      (clear : firstReason (reasons s m (addTicket how a b c)) ≡ 0) {face : ℤ}
-      (ef : face ≡ pos (cornerFace m (natAbs a) (startWay (curveOf c)))) where
+    abbrev b : ℕ
+    b = nodeAt nodes v .number
+
+    abbrev c : Curve
+    c = curveOf l
+
     abbrev φ : ℕ
-    φ = cornerFace m (natAbs a) (startWay (curveOf c))
+    φ = cornerFace m a (startWay c)
 
     abbrev D : Map
-    D = drawnIn (natAbs a) (natAbs b) (curveOf c) m
+    D = drawnIn a b c m
 
-    t : AddEdge how s m (natAbs a) (natAbs b) (curveOf c)
-    t = add-facts s m how a b c clear
-
-    module _ {nodes′ edges′ : List ℤ} {h′ : Head} (d : Drawn nodes edges h u v c face nodes′ edges′ h′) where
+    module _ {nodes′ edges′ : List ℤ} {h′ : Head} (d : Drawn nodes edges h u v l face nodes′ edges′ h′) where
       pub map-is : mapOf (lent nodes′ edges′ faces h′) ≡ D
-      map-is = d .map faces ∙ (λ i. drawn (number-of a u eu i) (number-of b v ev i) (curveOf c) (natAbs (ef i)) m)
+      map-is = d .map faces ∙ ap (λ (z : ℤ). drawn a b c (natAbs z) m) ef
 
       abbrev e : ℕ
       e = natAbs (h′ .edges)
@@ -119,16 +106,15 @@ module _ {nodes edges faces : List ℤ} {h : Head} (f : Formed nodes edges faces
       edges-are = ap (λ (x : Map). x .edges) map-is
 
       -- the last row is that of the new edge
-      pub last : outlineOf (edgeAt edges′ (natAbs (h′ .edges) - 1))
-          ≡ drawnOutline (m .next .edges) (natAbs a) (natAbs b) φ
+      pub last : outlineOf (edgeAt edges′ (natAbs (h′ .edges) - 1)) ≡ drawnOutline (m .next .edges) a b φ
       unfolding mapOf
       last =
           let more = drawn-edges d in
           ap outlineOf (sym (edges-getD edges′ e (e - 1) missing (omega arith)))
           ∙ sym (List·getD-map outlineOf (edgesOf edges′ e) (e - 1) missing)
           ∙ ap (λ (os : List Outline). getD os (e - 1) (outlineOf missing))
-          (ap (map outlineOf) edges-are ∙ drawn-shape (natAbs a) (natAbs b) (curveOf c) φ m .outlines)
-          ∙ getD-at (outlines m) (drawnOutline (m .next .edges) (natAbs a) (natAbs b) φ) [] (outlineOf missing) (e - 1)
+          (ap (map outlineOf) edges-are ∙ drawn-shape a b c φ m .outlines)
+          ∙ getD-at (outlines m) (drawnOutline (m .next .edges) a b φ) [] (outlineOf missing) (e - 1)
           (omega (arith, length-map (m .edges) outlineOf, edges-length edges (natAbs (h .edges))))
 
       ends : allOf (λ r. hasNode (nodeMap nodes′ (natAbs (h′ .nodes))) (r .start)
@@ -145,15 +131,15 @@ module _ {nodes edges faces : List ℤ} {h : Head} (f : Formed nodes edges faces
       face-there : anyOf (same (natAbs face)) (facesOf faces (natAbs (h′ .faces))) ≡ true
       unfolding mapOf
       face-there = (λ i. anyOf (same (natAbs (ef i))) (facesOf faces (drawn-faces d i)))
-          ∙ has-face m φ (corner-in m (natAbs a) (startWay (curveOf c)) (t .has-start) (formed-faces m (formed-map f)))
+          ∙ has-face m φ (corner-in m a (startWay c) (t .has-start) (formed-faces m (formed-map f)))
 
       -- there is room for a face more
-      room : splitsFace (natAbs a) (natAbs b) (curveOf c) m ≡ true → natAbs (h′ .faces) < length faces / faceWidth
+      room : splitsFace a b c m ≡ true → natAbs (h′ .faces) < length faces / faceWidth
       unfolding mapOf
       room k = let r = rw k at (t .room .faces) in
           omega (arith, r, drawn-faces d, faces-length faces (natAbs (h .faces)))
 
-      pub splits : splitsFace (natAbs a) (natAbs b) (curveOf c) m ≡ true → Splittable nodes′ edges′ faces h′ face
+      pub splits : splitsFace a b c m ≡ true → Splittable nodes′ edges′ faces h′ face
       splits k =
           record {
             held = drawn-held d;

@@ -4,14 +4,14 @@ use mathlib.Core.Bool.{Bool, true, false}
 use mathlib.Core.List.{List, [], _∷_, _++_}
 use Prim.Native.Nat.{ℕ}
 use lib.IntN.{ℤ, natAbs}
-use Rattle.curves.specs.Curves.{Run, curveOf}
+use Rattle.curves.specs.Curves.{curveOf}
 use Rattle.map.specs.declared.Head.{Head}
 use Rattle.map.specs.Reasons.{Reasons, firstReason, meetingReasons, orderChanges}
 use Rattle.map_rows.specs.Rows.{nodeAt, nodeMap, edgeAt, edgeMap}
-use Rattle.reason_curves.specs.Sent.{sentReasons, edgesBut}
+use Rattle.reason_curves.specs.Sent.{curveReasonsAt, edgesBut}
 use Rattle.map.proofs.Reasons.{first-hit, first-miss, first-none, first-after}
 use Rattle.edit_curve.specs.Change.{takenAt, turnReasons, changeReasons}
-use Rattle.edge_rows.proofs.FirstReasons.{first-of, sent-run}
+use Rattle.edge_rows.proofs.FirstReasons.{first-of}
 
 -- from 11 on
 module _ (nodes : List ℤ) (n : ℕ) (edges : List ℤ) (count i : ℕ) (c : List ℤ) where
@@ -45,36 +45,32 @@ module _ (nodes : List ℤ) (n : ℕ) (edges : List ℤ) (count i : ℕ) (c : Li
       pub turn-free : d ≡ false → 0 ≡ firstReason (turnReasons nodes n edges count i c)
       turn-free w = sym (after-meeting ∙ first-miss 19 turned [] (sym p ∙ w) ∙ first-none)
 
--- from 5 on
+-- from 7 on
 module _ (nodes edges : List ℤ) (h : Head) (i u v : ℕ) (c : List ℤ) where
-  abbrev sent : Reasons
-  sent = sentReasons c (nodeAt nodes u .at) (nodeAt nodes v .at)
+  abbrev ends : Reasons
+  ends = curveReasonsAt (curveOf c) (nodeAt nodes u .at) (nodeAt nodes v .at)
 
   abbrev turns : Reasons
   turns = turnReasons nodes (natAbs (h .nodes)) edges (natAbs (h .edges)) i c
 
-  pub change-sent : {r : ℕ} → r ≡ firstReason (sentReasons c (nodeAt nodes u .at) (nodeAt nodes v .at)) → (r ≡ 0 → ⊥)
+  pub change-ends : {r : ℕ} → r ≡ firstReason (curveReasonsAt (curveOf c) (nodeAt nodes u .at) (nodeAt nodes v .at))
+      → (r ≡ 0 → ⊥) → r ≡ firstReason (changeReasons nodes edges h i u v c)
+  change-ends {r} e d = first-of ends turns r e d
+
+  pub change-turns : {r : ℕ} → firstReason (curveReasonsAt (curveOf c) (nodeAt nodes u .at) (nodeAt nodes v .at)) ≡ 0
+      → r ≡ firstReason (turnReasons nodes (natAbs (h .nodes)) edges (natAbs (h .edges)) i c)
       → r ≡ firstReason (changeReasons nodes edges h i u v c)
-  change-sent {r} e d = first-of sent turns r e d
-
-  pub change-turns : {r : ℕ} → firstReason (sentReasons c (nodeAt nodes u .at) (nodeAt nodes v .at)) ≡ 0 → r
-      ≡ firstReason (turnReasons nodes (natAbs (h .nodes)) edges (natAbs (h .edges)) i c) → r
-      ≡ firstReason (changeReasons nodes edges h i u v c)
-  change-turns e g = g ∙ sym (first-after sent turns refl e)
-
-  -- a curve without a reason against it is a run
-  pub change-run : (rs : Reasons) → firstReason (changeReasons nodes edges h i u v c ++ rs) ≡ 0 → Run c
-  change-run rs e = sent-run c _ e
+  change-turns e g = g ∙ sym (first-after ends turns refl e)
 
   -- 22 behind them
   module _ (b : Bool) where
     pub redraw-changed : {r : ℕ} → r ≡ firstReason (changeReasons nodes edges h i u v c) → (r ≡ 0 → ⊥)
         → r ≡ firstReason (changeReasons nodes edges h i u v c ++ (22, b) ∷ [])
-    redraw-changed {r} e d = first-of (sent ++ turns) ((22, b) ∷ []) r e d
+    redraw-changed {r} e d = first-of (ends ++ turns) ((22, b) ∷ []) r e d
 
     module _ (e : firstReason (changeReasons nodes edges h i u v c) ≡ 0) where
       after-changed : firstReason (changeReasons nodes edges h i u v c ++ (22, b) ∷ []) ≡ firstReason ((22, b) ∷ [])
-      after-changed = first-after (sent ++ turns) ((22, b) ∷ []) refl e
+      after-changed = first-after (ends ++ turns) ((22, b) ∷ []) refl e
 
       pub redraw-sides : b ≡ true → 22 ≡ firstReason (changeReasons nodes edges h i u v c ++ (22, b) ∷ [])
       redraw-sides t = sym (after-changed ∙ first-hit 22 b [] t)

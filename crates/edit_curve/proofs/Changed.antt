@@ -20,10 +20,11 @@ use Rattle.map.specs.Rows.{nodeCells, edgeCells, rectangle, withoutEdge, atEdge
 use Rattle.tables.specs.Tables.{sameZ, column, filled}
 use Rattle.map.specs.Edits.{withCurve, changeEdgeGeom}
 use Rattle.map.specs.Tickets.{ChangeEdgeGeom}
-use Rattle.map.specs.Reasons.{firstReason, reasons, noEdge, directionTaken, nodeInside, orderChanges, sidesChange}
+use Rattle.map.specs.Reasons.{firstReason, reasons, noEdge, sentReasons, curveIn, directionTaken, nodeInside}
+use Rattle.map.specs.Reasons.{orderChanges, sidesChange, changeGeomReasons}
 use Rattle.map.specs.Ticket.{carried}
 use Rattle.map.proofs.Laws.{names}
-use Rattle.map.proofs.Reasons.{first-hit, first-miss}
+use Rattle.map.proofs.Reasons.{first-hit}
 use Rattle.map_rows.specs.Rows.{edgesOf, facesIn, nodeMap, edgeAt, edgeMap, NodeRows}
 use Rattle.map_rows.proofs.Rows.{edges-length, edges-getD}
 use Rattle.map_rows.proofs.Lookups.{node-missing}
@@ -34,12 +35,12 @@ use Rattle.reason_curves.specs.Sent.{edgesBut}
 use Rattle.reason_curves.proofs.Maps.{inside-alike}
 use Rattle.reason_curves.proofs.Others.{edges-but}
 use Rattle.reason_departures.proofs.Alone.{taken-alone, order-alone}
-use Rattle.outcomes.specs.Outcomes.{Formed}
+use Rattle.outcomes.specs.Outcomes.{Formed, edited}
 use Rattle.outcomes.proofs.Formed.{formed-map, edge-rows, edge-numbers-once, nodes-filled, edges-filled, faces-filled}
-use Rattle.outcomes.proofs.Formed.{edges-are-wide, head-back, lent-is, edge-none}
+use Rattle.outcomes.proofs.Formed.{edges-are-wide, head-back, lent-is, edge-none, against-sent, by-points-left}
 use Rattle.edge_rows.proofs.Drawn.{points-few}
 use Rattle.outcomes.proofs.FoundRows.{node-is, edge-there, edge-is}
-use Rattle.edit_curve.specs.Change.{takenAt, changeReasons, EndsAt}
+use Rattle.edit_curve.specs.Change.{takenAt, changeReasons, changedAlong, EndsAt}
 
 -- a node that is there is not missing
 pub node-placed : {l : List ℤ} {n : ℕ} → NodeRows l n → (z : ℤ) → nonNeg z ≡ true → hasNode (nodeMap l n) (natAbs z)
@@ -47,7 +48,7 @@ pub node-placed : {l : List ℤ} {n : ℕ} → NodeRows l n → (z : ℤ) → no
 node-placed {l} {n} t (pos k) s has e = false≢true (sym (ap isSome (node-missing l n (t .ranges) k e)) ∙ has)
 node-placed t (negsuc k) s has e = false≢true s
 
-module _ {nodes edges faces : List ℤ} {h : Head} (f : Formed nodes edges faces h) (c : List ℤ) where
+module _ {nodes edges faces : List ℤ} {h : Head} (f : Formed nodes edges faces h) where
   abbrev m : Map
   m = mapOf (lent nodes edges faces h)
 
@@ -58,10 +59,11 @@ module _ {nodes edges faces : List ℤ} {h : Head} (f : Formed nodes edges faces
   es = edgesOf edges (natAbs (h .edges))
 
   -- a row that is missing is reason 4
-  pub change-missing : (z : ℤ) → place (sameZ z) 0 (column edgeWidth edges (natAbs (h .edges))) ≡ Missing
-      → firstReason (reasons s m (ChangeEdgeGeom z c)) ≡ 4
+  pub change-missing : (z : ℤ) (sent : List ℤ)
+      → place (sameZ z) 0 (column edgeWidth edges (natAbs (h .edges))) ≡ Missing
+      → firstReason (reasons s m (ChangeEdgeGeom z sent)) ≡ 4
   unfolding reasons
-  change-missing z e = first-hit 4 (noEdge m z) _ (edge-none f z e)
+  change-missing z sent e = first-hit 4 (noEdge m z) _ (edge-none f z e)
 
   module _ (i : ℕ) (b : i < natAbs (h .edges)) where
     abbrev number : ℕ
@@ -91,96 +93,104 @@ module _ {nodes edges faces : List ℤ} {h : Head} (f : Formed nodes edges faces
     unfolding mapOf
     end-there = and-right (hasNode m (edgeAt edges i .start)) (hasNode m (edgeAt edges i .end)) ends
 
-    -- ---- the reasons
+    -- ---- by the points sent
 
-    taken-is : directionTaken m number (edgeAt edges i .start) (edgeAt edges i .end) (curveOf c)
-        ≡ takenAt edges (natAbs (h .edges)) i c
-    unfolding mapOf
-    taken-is = taken-alone m number (edgeAt edges i .start) (edgeAt edges i .end) (curveOf c)
-
-    inside-is : nodeInside m (curveOf c) ≡ nodeInside (nodeMap nodes (natAbs (h .nodes))) (curveOf c)
-    unfolding mapOf
-    inside-is = inside-alike m (nodeMap nodes (natAbs (h .nodes))) (curveOf c) refl
-
-    others-are : withoutEdge number (m .edges) ≡ edgesBut edges (natAbs (h .edges)) i
-    unfolding mapOf
-    others-are = sym (edges-but (edge-rows f) i b)
-
-    order-is : orderChanges m number (curveOf c)
-        ≡ orderChanges (edgeMap edges (natAbs (h .edges))) (edgeAt edges i .number) (curveOf c)
-    unfolding mapOf
-    order-is = order-alone m number (curveOf c)
-
-    -- those from 5 to 19, and then 22
-    pub change-reasons : (u v : ℕ) → EndsAt nodes edges h i u v
-        → firstReason (reasons s m (ChangeEdgeGeom (pos number) c))
-        ≡ firstReason (changeReasons nodes edges h i u v c ++ (22, sidesChange m number (curveOf c)) ∷ [])
+    pub change-refused : (sent : List ℤ) (r : ℕ) → 0 < r → firstReason (sentReasons sent) ≡ r
+        → firstReason (reasons s m (ChangeEdgeGeom (pos number) sent)) ≡ r
     unfolding reasons
-    change-reasons u v k =
-        first-miss 4 (noEdge m (pos number)) _ (edge-there f i b)
-        ∙ rw (
-          edge-is f i b,
-          ap (node m) (sym (k .start)) ∙ node-is f u (k .start-in),
-          ap (node m) (sym (k .end)) ∙ node-is f v (k .end-in),
-          taken-is,
-          inside-is,
-          others-are,
-          order-is,
-        ) refl
+    change-refused sent r some k = against-sent (lent nodes edges faces h) (ChangeEdgeGeom (pos number) sent)
+        (edge-there f i b) sent (changeGeomReasons m number) refl r some k
 
-    -- ---- the curve written
+    pub change-left : (sent : List ℤ) → firstReason (sentReasons sent) ≡ 0
+        → changedAlong (lent nodes edges faces h) number (curveIn sent)
+        ≡ edited (lent nodes edges faces h) (ChangeEdgeGeom (pos number) sent)
+    unfolding reasons carried
+    change-left sent k = by-points-left (lent nodes edges faces h) (ChangeEdgeGeom (pos number) sent)
+        (edge-there f i b) sent (changeGeomReasons m number) refl k
 
-    abbrev row : Edge
-    row = withCurve (curveOf c) (edgeAt edges i)
+    -- ---- along a curve: the reasons
 
-    abbrev m′ : Map
-    m′ = changeEdgeGeom number (curveOf c) m
+    module _ (c : List ℤ) where
+      taken-is : directionTaken m number (edgeAt edges i .start) (edgeAt edges i .end) (curveOf c)
+          ≡ takenAt edges (natAbs (h .edges)) i c
+      unfolding mapOf
+      taken-is = taken-alone m number (edgeAt edges i .start) (edgeAt edges i .end) (curveOf c)
 
-    edges-are : m′ .edges ≡ set es i row
-    unfolding changeEdgeGeom atEdge mapOf
-    edges-are =
-        ap (λ (k : ℕ). map (λ (r : Edge). cond (same (r .number) k) (withCurve (curveOf c) r) r) es)
-        (ap (λ (r : Edge). r .number) (sym row-is))
-        ∙ changed-at (λ (r : Edge). r .number) (withCurve (curveOf c)) es (edge-numbers-once f) i
-        (edgeAt edges i) inside
-        ∙ ap (λ (r : Edge). set es i (withCurve (curveOf c) r)) row-is
+      inside-is : nodeInside m (curveOf c) ≡ nodeInside (nodeMap nodes (natAbs (h .nodes))) (curveOf c)
+      unfolding mapOf
+      inside-is = inside-alike m (nodeMap nodes (natAbs (h .nodes))) (curveOf c) refl
 
-    head-is : headOf m′ ≡ h
-    unfolding changeEdgeGeom atEdge mapOf
-    head-is =
-        let g : Edge → Edge = λ r. cond (same (r .number) number) (withCurve (curveOf c) r) r in
-        let e = head-back f in
-        λ j.
-        record {
-          nodes = e j .nodes;
-          edges = (ap pos (length-map es g) ∙ ap (λ (x : Head). x .edges) e) j;
-          faces = e j .faces;
-          «next_node» = e j .«next_node»;
-          «next_edge» = e j .«next_edge»;
-          «next_face» = e j .«next_face»;
-        }
+      others-are : withoutEdge number (m .edges) ≡ edgesBut edges (natAbs (h .edges)) i
+      unfolding mapOf
+      others-are = sym (edges-but (edge-rows f) i b)
 
-    same-nodes : filled (length nodes / nodeWidth * nodeWidth) (flatMap nodeCells (m′ .nodes)) ≡ nodes
-    unfolding changeEdgeGeom atEdge mapOf
-    same-nodes = nodes-filled f
+      order-is : orderChanges m number (curveOf c)
+          ≡ orderChanges (edgeMap edges (natAbs (h .edges))) (edgeAt edges i .number) (curveOf c)
+      unfolding mapOf
+      order-is = order-alone m number (curveOf c)
 
-    same-faces : facesIn (length faces / faceWidth * faceWidth) (rectangle (m .edges)) (m′ .faces) ≡ faces
-    unfolding changeEdgeGeom atEdge mapOf
-    same-faces = faces-filled f
+      -- those from 7 to 19, and then 22
+      pub change-reasons : (u v : ℕ) → EndsAt nodes edges h i u v
+          → firstReason (changeGeomReasons m number (curveOf c))
+          ≡ firstReason (changeReasons nodes edges h i u v c ++ (22, sidesChange m number (curveOf c)) ∷ [])
+      change-reasons u v k = rw (
+        edge-is f i b,
+        ap (node m) (sym (k .start)) ∙ node-is f u (k .start-in),
+        ap (node m) (sym (k .end)) ∙ node-is f v (k .end-in),
+        taken-is,
+        inside-is,
+        others-are,
+        order-is,
+      ) refl
 
-    pub change-lent : {edges′ : List ℤ} → Run c → edges′
-        ≡ paste edges (i * edgeWidth) (edgeCells (withCurve (curveOf c) (edgeAt edges i))) edgeWidth
-        → lentWith (rectangle (m .edges)) s (carried m (ChangeEdgeGeom (pos number) c) .0) ≡ lent nodes edges′ faces h
-    unfolding carried
-    change-lent run w =
-        let size = length edges / edgeWidth * edgeWidth in
-        lent-is (rectangle (m .edges)) s m′ same-nodes
-        (ap (λ (xs : List Edge). filled size (flatMap edgeCells xs)) edges-are
-        ∙ sym (replaced-at edgeWidth edgeCells size es i (edgeAt edges i) (edges-are-wide f) inside row
-        (edge-wide row (points-few run)))
-        ∙ ap (λ (l : List ℤ). paste l (i * edgeWidth) (edgeCells row) edgeWidth) (edges-filled f) ∙ sym w)
-        same-faces head-is
+      -- ---- the curve written
 
-pub change-value : (m : Map) (z : ℤ) (c : List ℤ) → carried m (ChangeEdgeGeom z c) .1 ≡ pos 0
-unfolding carried
-change-value m z c = refl
+      abbrev row : Edge
+      row = withCurve (curveOf c) (edgeAt edges i)
+
+      abbrev m′ : Map
+      m′ = changeEdgeGeom number (curveOf c) m
+
+      edges-are : m′ .edges ≡ set es i row
+      unfolding changeEdgeGeom atEdge mapOf
+      edges-are =
+          ap (λ (k : ℕ). map (λ (r : Edge). cond (same (r .number) k) (withCurve (curveOf c) r) r) es)
+          (ap (λ (r : Edge). r .number) (sym row-is))
+          ∙ changed-at (λ (r : Edge). r .number) (withCurve (curveOf c)) es (edge-numbers-once f) i
+          (edgeAt edges i) inside
+          ∙ ap (λ (r : Edge). set es i (withCurve (curveOf c) r)) row-is
+
+      head-is : headOf m′ ≡ h
+      unfolding changeEdgeGeom atEdge mapOf
+      head-is =
+          let g : Edge → Edge = λ r. cond (same (r .number) number) (withCurve (curveOf c) r) r in
+          let e = head-back f in
+          λ j.
+          record {
+            nodes = e j .nodes;
+            edges = (ap pos (length-map es g) ∙ ap (λ (x : Head). x .edges) e) j;
+            faces = e j .faces;
+            «next_node» = e j .«next_node»;
+            «next_edge» = e j .«next_edge»;
+            «next_face» = e j .«next_face»;
+          }
+
+      same-nodes : filled (length nodes / nodeWidth * nodeWidth) (flatMap nodeCells (m′ .nodes)) ≡ nodes
+      unfolding changeEdgeGeom atEdge mapOf
+      same-nodes = nodes-filled f
+
+      same-faces : facesIn (length faces / faceWidth * faceWidth) (rectangle (m .edges)) (m′ .faces) ≡ faces
+      unfolding changeEdgeGeom atEdge mapOf
+      same-faces = faces-filled f
+
+      pub change-lent : {edges′ : List ℤ} → Run c → edges′
+          ≡ paste edges (i * edgeWidth) (edgeCells (withCurve (curveOf c) (edgeAt edges i))) edgeWidth
+          → lentWith (rectangle (m .edges)) s (changeEdgeGeom number (curveOf c) m) ≡ lent nodes edges′ faces h
+      change-lent run w =
+          let size = length edges / edgeWidth * edgeWidth in
+          lent-is (rectangle (m .edges)) s m′ same-nodes
+          (ap (λ (xs : List Edge). filled size (flatMap edgeCells xs)) edges-are
+          ∙ sym (replaced-at edgeWidth edgeCells size es i (edgeAt edges i) (edges-are-wide f) inside row
+          (edge-wide row (points-few run)))
+          ∙ ap (λ (l : List ℤ). paste l (i * edgeWidth) (edgeCells row) edgeWidth) (edges-filled f) ∙ sym w)
+          same-faces head-is

@@ -1,2 +1,2 @@
--- `Change`: the reasons of kind 6 by rows.
+-- `Change`: the reasons of kind 6 by rows, and kind 6 along a curve, from 7 on.
 pub mod Change

@@ -13,15 +13,15 @@ ghost use Rattle.lists.specs.Tables.{place};
 ghost use Rattle.lists.specs.declared.Found.the-variants.{At};
 ghost use Rattle.tables.specs.Tables.{sameZ, column};
 ghost use Rattle.curves.specs.Curves.{Run, curveOf};
-ghost use Rattle.map.specs.Rows.{edgeCells, hasNode};
+ghost use Rattle.map.specs.Rows.{mapOf, edgeCells, hasNode};
 ghost use Rattle.map.specs.Edits.{withCurve};
-ghost use Rattle.map.specs.Reasons.{firstReason};
+ghost use Rattle.map.specs.Reasons.{firstReason, changeGeomReasons};
 ghost use Rattle.map.specs.Tickets.{ChangeEdgeGeom};
 ghost use Rattle.map.specs.Loans.{lentNow};
 ghost use Rattle.map_rows.specs.Rows.{nodeMap, edgeAt, EdgeRow, NodeRows, EdgeRows};
-ghost use Rattle.outcomes.specs.Outcomes.{Formed, reasonAgainst, edited, outcomeNow};
+ghost use Rattle.outcomes.specs.Outcomes.{Formed, edited, outcomeNow};
 ghost use Rattle.edge_rows.specs.Holds.{NodeEdgeTables};
-ghost use Rattle.edit_curve.specs.Change.{takenAt, turnReasons, changeReasons, EndsAt};
+ghost use Rattle.edit_curve.specs.Change.{takenAt, turnReasons, changeReasons, changedAlong, EndsAt};
 
 // ---- the reasons
 
@@ -55,7 +55,7 @@ fn turn_reason(nodes: &[i64], n: usize, edges: &[i64], count: usize, i: usize, c
     }
 }
 
-// The first reason from 5 on against a curve for the edge of row i, between node rows u and v; 0 for none.
+// The first reason from 7 on, but for 22, against a curve for the edge of row i, between node rows u and v; 0 for none.
 fn change_reason(
     nodes: &[i64],
     edges: &[i64],
@@ -66,7 +66,7 @@ fn change_reason(
     c: &[i64],
 ) -> u64
     requires { ⌜ NodeEdgeTables (now nodes) (now edges) h × (i < natAbs (h .edges))
-        × (u < natAbs (h .nodes)) × (v < natAbs (h .nodes)) ⌝ }
+        × (u < natAbs (h .nodes)) × (v < natAbs (h .nodes)) × Run (now c) ⌝ }
     ensures { λ r. ⌜ r ≡ firstReason (changeReasons (now (nodes .entry)) (now (edges .entry)) h i u v
         (now (c .entry))) ⌝ }
 {
@@ -79,7 +79,7 @@ fn change_reason(
     turn_reason(nodes, n, edges, e, i, c)
 }
 
-// The first reason against a curve for the edge of row i, between the nodes of rows u and v, with 22 last; 0 for none.
+// The first reason from 7 on against a curve for the edge of row i, between the nodes of rows u and v; 0 for none.
 fn redraw_reason(
     nodes: &[i64],
     edges: &[i64],
@@ -91,9 +91,10 @@ fn redraw_reason(
     c: &[i64],
 ) -> u64
     requires { ⌜ Formed (now nodes) (now edges) (now faces) h × (i < natAbs (h .edges))
-        × EndsAt (now nodes) (now edges) h i u v ⌝ }
-    ensures { λ r. ⌜ r ≡ reasonAgainst (lentNow (nodes .entry) (edges .entry) (faces .entry) h)
-        (ChangeEdgeGeom (pos (edgeAt (now (edges .entry)) i .number)) (now (c .entry))) ⌝ }
+        × EndsAt (now nodes) (now edges) h i u v × Run (now c) ⌝ }
+    ensures { λ r. ⌜ r ≡ firstReason (changeGeomReasons
+        (mapOf (lentNow (nodes .entry) (edges .entry) (faces .entry) h))
+        (edgeAt (now (edges .entry)) i .number) (curveOf (now (c .entry)))) ⌝ }
 {
     let reason = change_reason(nodes, edges, h, i, u, v, c);
     if reason != 0 {
@@ -133,8 +134,8 @@ fn write_curve(edges: &mut [i64], i: usize, c: &[i64])
     map_rows::write_edge(edges, i, row, curve_edits::whole_of(c));
 }
 
-// Kind 6 on the edge of row i, between the nodes of rows u and v.
-fn change_between(
+// Kind 6 along the curve on the edge of row i, between the nodes of rows u and v.
+fn change_along(
     nodes: &[i64],
     edges: &mut [i64],
     faces: &[i64],
@@ -145,10 +146,10 @@ fn change_between(
     c: &[i64],
 ) -> Done
     requires { ⌜ Formed (now nodes) (now edges) (now faces) h × (i < natAbs (h .edges))
-        × EndsAt (now nodes) (now edges) h i u v ⌝ }
+        × EndsAt (now nodes) (now edges) h i u v × Run (now c) ⌝ }
     ensures { λ r. ⌜ outcomeNow (nodes .entry) (edges .exit) (faces .entry) r
-        ≡ edited (lentNow (nodes .entry) (edges .entry) (faces .entry) h)
-        (ChangeEdgeGeom (pos (edgeAt (now (edges .entry)) i .number)) (now (c .entry))) ⌝ }
+        ≡ changedAlong (lentNow (nodes .entry) (edges .entry) (faces .entry) h)
+        (edgeAt (now (edges .entry)) i .number) (curveOf (now (c .entry))) ⌝ }
 {
     let reason = redraw_reason(nodes, edges, faces, h, i, u, v, c);
     if reason != 0 {
@@ -156,6 +157,34 @@ fn change_between(
     }
     write_curve(edges, i, c);
     outcomes::carried(h, 0)
+}
+
+// Kind 6 on the edge of row i, between the nodes of rows u and v, by the points sent.
+fn change_between(
+    nodes: &[i64],
+    edges: &mut [i64],
+    faces: &[i64],
+    h: Head,
+    i: usize,
+    u: usize,
+    v: usize,
+    sent: &[i64],
+) -> Done
+    requires { ⌜ Formed (now nodes) (now edges) (now faces) h × (i < natAbs (h .edges))
+        × EndsAt (now nodes) (now edges) h i u v ⌝ }
+    ensures { λ r. ⌜ outcomeNow (nodes .entry) (edges .exit) (faces .entry) r
+        ≡ edited (lentNow (nodes .entry) (edges .entry) (faces .entry) h)
+        (ChangeEdgeGeom (pos (edgeAt (now (edges .entry)) i .number)) (now (sent .entry))) ⌝ }
+{
+    let read = reason_curves::read_curve(sent);
+    let reason = read.reason;
+    if reason != 0 {
+        return outcomes::refused(h, reason);
+    }
+    let line = read.line;
+    let cells = line.cells;
+    let n = line.count * 2;
+    change_along(nodes, edges, faces, h, i, u, v, &cells[0..n])
 }
 
 // ---- rows looked up
@@ -196,17 +225,17 @@ fn change_at_row(
     faces: &[i64],
     h: Head,
     i: usize,
-    c: &[i64],
+    sent: &[i64],
 ) -> Done
     requires { ⌜ Formed (now nodes) (now edges) (now faces) h × (i < natAbs (h .edges)) ⌝ }
     ensures { λ r. ⌜ outcomeNow (nodes .entry) (edges .exit) (faces .entry) r
         ≡ edited (lentNow (nodes .entry) (edges .entry) (faces .entry) h)
-        (ChangeEdgeGeom (pos (edgeAt (now (edges .entry)) i .number)) (now (c .entry))) ⌝ }
+        (ChangeEdgeGeom (pos (edgeAt (now (edges .entry)) i .number)) (now (sent .entry))) ⌝ }
 {
     let n = head::to_usize(h.nodes);
     let u = row_of(nodes, n, start_of(edges, i));
     let v = row_of(nodes, n, end_of(edges, i));
-    change_between(nodes, edges, faces, h, i, u, v, c)
+    change_between(nodes, edges, faces, h, i, u, v, sent)
 }
 
 // Gives an edge another curve, or answers the first reason against it.
@@ -216,17 +245,17 @@ pub fn change_curve(
     faces: &[i64],
     h: Head,
     edge: i64,
-    c: &[i64],
+    sent: &[i64],
 ) -> Done
     requires { ⌜ Formed (now nodes) (now edges) (now faces) h ⌝ }
     ensures { λ r. ⌜ outcomeNow (nodes .entry) (edges .exit) (faces .entry) r
         ≡ edited (lentNow (nodes .entry) (edges .entry) (faces .entry) h)
-        (ChangeEdgeGeom edge (now (c .entry))) ⌝ }
+        (ChangeEdgeGeom edge (now (sent .entry))) ⌝ }
 {
     let e = head::to_usize(h.edges);
     let found = tables::find_row(edges, map::EDGE_WIDTH, e, edge);
     let Found::At(i) = found else {
         return outcomes::refused(h, 4);
     };
-    change_at_row(nodes, edges, faces, h, i, c)
+    change_at_row(nodes, edges, faces, h, i, sent)
 }

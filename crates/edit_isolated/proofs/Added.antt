@@ -1,6 +1,6 @@
 -- What kind 4 answers: the reasons against it, and the tables it leaves. Assumes nothing.
 use mathlib.Core.Path.{_≡_, refl, sym, ap, _∙_}
-use mathlib.Core.Bool.{_||_}
+use mathlib.Core.Bool.{true, false, _||_}
 use mathlib.Core.Logic.{inl, inr}
 use mathlib.Core.List.{List, flatMap}
 use mathlib.Core.Option.{Option·getD}
@@ -9,35 +9,39 @@ use native.Mathlib.Omega.{arith}
 use lib.IntN.{ℤ, pos, natAbs}
 use lib.ListN.{length}
 use Rattle.lists.specs.Tests.{same}
-use Rattle.lists.specs.Tables.{place}
-use Rattle.lists.specs.declared.Found.the-variants.{Missing}
-use Rattle.lists.proofs.Bools.{equal?, same-eq, same-false, or-right}
+use Rattle.lists.proofs.Bools.{equal?, same-eq, same-false}
 use Rattle.curves.specs.Curves.{curveOf}
 use Rattle.map.specs.declared.Head.{Head}
-use Rattle.map.specs.Limits.{nodeWidth, faceWidth}
+use Rattle.map.specs.Limits.{faceWidth}
 use Rattle.map.specs.Rows.{counts, Node, Map, Sizes, mapOf, lentWith, rectangle, sizesOf, headOf, node}
 use Rattle.map.specs.Rows.{nodeCells, edgeCells, lent}
-use Rattle.tables.specs.Tables.{sameZ, column, filled}
+use Rattle.tables.specs.Tables.{filled}
 use Rattle.map.specs.Edits.{drawn, addIsoEdge}
 use Rattle.map.specs.Tickets.{AddIsoEdge}
-use Rattle.map.specs.Reasons.{firstReason, reasons, noNode, nodeInside}
+use Rattle.map.specs.Reasons.{firstReason, reasons, noNode, sentReasons, curveIn, nodeInside, addIsoEdgeReasons}
 use Rattle.map.specs.Ticket.{carried}
-use Rattle.map.proofs.Reasons.{first-hit, first-miss}
+use Rattle.map.proofs.Reasons.{first-hit}
 use Rattle.map_rows.specs.Rows.{nodesOf, edgesOf, facesOf, facesIn, nodeAt, nodeMap}
 use Rattle.map_rows.proofs.Rows.{nodes-length, edges-length, faces-length}
 use Rattle.head.proofs.Heads.{head-same}
 use Rattle.reason_curves.specs.Sent.{edgesBut}
 use Rattle.reason_curves.proofs.Maps.{inside-alike}
 use Rattle.reason_curves.proofs.Others.{edges-all}
-use Rattle.outcomes.specs.Outcomes.{Formed}
+use Rattle.outcomes.specs.Outcomes.{Formed, edited}
 use Rattle.outcomes.proofs.Formed.{node-rows, edge-next, nodes-size, edges-size, faces-filled, room-at, lent-is}
-use Rattle.outcomes.proofs.Formed.{node-none}
+use Rattle.outcomes.proofs.Formed.{against-sent, by-points-left}
 use Rattle.edge_rows.specs.Holds.{Drawn}
 use Rattle.edge_rows.proofs.Drawn.{drawn-faces}
 use Rattle.edge_rows.proofs.Filled.{nodes-filled, edges-filled}
 use Rattle.edge_rows.proofs.NodeFaces.{node-once}
 use Rattle.outcomes.proofs.FoundRows.{node-there, node-is}
-use Rattle.edit_isolated.specs.Isolated.{isolatedReasons}
+use Rattle.edit_isolated.specs.Isolated.{isolatedReasons, isolatedAlong}
+
+-- a node that is missing
+pub missing : (s : Sizes) (m : Map) (a b : ℤ) (sent : List ℤ) → noNode m a || noNode m b ≡ true
+    → firstReason (reasons s m (AddIsoEdge a b sent)) ≡ 4
+unfolding reasons
+missing s m a b sent = first-hit 4 (noNode m a || noNode m b) _
 
 module _ {nodes edges faces : List ℤ} {h : Head} (f : Formed nodes edges faces h) where
   abbrev m : Map
@@ -46,23 +50,32 @@ module _ {nodes edges faces : List ℤ} {h : Head} (f : Formed nodes edges faces
   abbrev s : Sizes
   s = sizesOf (lent nodes edges faces h)
 
-  -- a node that is missing
-  pub start-missing : (a b : ℤ) (c : List ℤ) → place (sameZ a) 0 (column nodeWidth nodes (natAbs (h .nodes))) ≡ Missing
-      → firstReason (reasons s m (AddIsoEdge a b c)) ≡ 4
-  unfolding reasons
-  start-missing a b c e = first-hit 4 (noNode m a || noNode m b) _ (rw (node-none f a e))
-
-  pub end-missing : (a b : ℤ) (c : List ℤ) → place (sameZ b) 0 (column nodeWidth nodes (natAbs (h .nodes))) ≡ Missing
-      → firstReason (reasons s m (AddIsoEdge a b c)) ≡ 4
-  unfolding reasons
-  end-missing a b c e = first-hit 4 (noNode m a || noNode m b) _ (or-right (noNode m a) (noNode m b) (node-none f b e))
-
-  module _ (c : List ℤ) (u v : ℕ) (bu : u < natAbs (h .nodes)) (bv : v < natAbs (h .nodes)) where
+  module _ (u v : ℕ) (bu : u < natAbs (h .nodes)) (bv : v < natAbs (h .nodes)) where
     abbrev start : ℕ
     start = nodeAt nodes u .number
 
     abbrev end : ℕ
     end = nodeAt nodes v .number
+
+    -- ---- by the points sent
+
+    both-there : noNode m (pos start) || noNode m (pos end) ≡ false
+    both-there = rw (node-there f u bu, node-there f v bv)
+
+    pub add-refused : (sent : List ℤ) (r : ℕ) → 0 < r → firstReason (sentReasons sent) ≡ r
+        → firstReason (reasons s m (AddIsoEdge (pos start) (pos end) sent)) ≡ r
+    unfolding reasons
+    add-refused sent r some k = against-sent (lent nodes edges faces h) (AddIsoEdge (pos start) (pos end) sent)
+        both-there sent (addIsoEdgeReasons s m start end) refl r some k
+
+    pub add-left : (sent : List ℤ) → firstReason (sentReasons sent) ≡ 0
+        → isolatedAlong (lent nodes edges faces h) start end (curveIn sent)
+        ≡ edited (lent nodes edges faces h) (AddIsoEdge (pos start) (pos end) sent)
+    unfolding reasons carried
+    add-left sent k = by-points-left (lent nodes edges faces h) (AddIsoEdge (pos start) (pos end) sent)
+        both-there sent (addIsoEdgeReasons s m start end) refl k
+
+    -- ---- along a curve
 
     one-node : same start end ≡ same u v
     one-node = elim (equal? u v) [
@@ -74,28 +87,25 @@ module _ {nodes edges faces : List ℤ} {h : Head} (f : Formed nodes edges faces
     unfolding mapOf
     edges-are = sym (edges-all edges (natAbs (h .edges)) (natAbs (h .edges)) (omega arith))
 
-    nodes-inside : nodeInside m (curveOf c) ≡ nodeInside (nodeMap nodes (natAbs (h .nodes))) (curveOf c)
+    nodes-inside : (c : List ℤ) → nodeInside m (curveOf c) ≡ nodeInside (nodeMap nodes (natAbs (h .nodes))) (curveOf c)
     unfolding mapOf
-    nodes-inside = inside-alike m (nodeMap nodes (natAbs (h .nodes))) (curveOf c) refl
+    nodes-inside c = inside-alike m (nodeMap nodes (natAbs (h .nodes))) (curveOf c) refl
 
-    pub add-reasons : firstReason (reasons s m (AddIsoEdge (pos start) (pos end) c))
+    pub add-reasons : (c : List ℤ) → firstReason (addIsoEdgeReasons s m start end (curveOf c))
         ≡ firstReason (isolatedReasons nodes edges faces h u v c)
-    unfolding reasons
-    add-reasons =
-        first-miss 4 (noNode m (pos start) || noNode m (pos end)) _ (rw (node-there f u bu, node-there f v bv))
-        ∙ rw (
-          node-is f u bu,
-          node-is f v bv,
-          one-node,
-          ← room-at f (counts 0 1 0)
-              (counts 0 1 0),
-          nodes-inside,
-          edges-are,
-        ) refl
+    add-reasons c = rw (
+      node-is f u bu,
+      node-is f v bv,
+      one-node,
+      ← room-at f (counts 0 1 0) (counts 0 1 0),
+      nodes-inside c,
+      edges-are,
+    ) refl
 
     -- ---- the edge drawn
 
-    module _ {face : ℤ} {nodes′ edges′ : List ℤ} {h′ : Head} (ef : face ≡ pos (Option·getD (nodeAt nodes u .face) 0))
+    module _ {c : List ℤ} {face : ℤ} {nodes′ edges′ : List ℤ} {h′ : Head}
+        (ef : face ≡ pos (Option·getD (nodeAt nodes u .face) 0))
         (d : Drawn nodes edges h u v c face nodes′ edges′ h′) where
       abbrev m′ : Map
       m′ = mapOf (lent nodes′ edges′ faces h′)
@@ -123,11 +133,11 @@ module _ {nodes edges faces : List ℤ} {h : Head} (f : Formed nodes edges faces
           (drawn-faces d) ∙ faces-filled f)
           head-is
 
-      pub add-lent : lentWith (rectangle (m .edges)) s (carried m (AddIsoEdge (pos start) (pos end) c) .0)
+      pub add-lent : lentWith (rectangle (m .edges)) s (addIsoEdge start end (curveOf c) m)
           ≡ lent nodes′ edges′ faces h′
-      unfolding carried addIsoEdge
+      unfolding addIsoEdge
       add-lent = ap (lentWith (rectangle (m .edges)) s) map-is ∙ written
 
-  pub add-value : (a b : ℤ) (c : List ℤ) → carried m (AddIsoEdge a b c) .1 ≡ h .«next_edge»
-  unfolding carried mapOf
-  add-value a b c = sym (edge-next f .0)
+  pub add-value : pos (m .next .edges) ≡ h .«next_edge»
+  unfolding mapOf
+  add-value = sym (edge-next f .0)

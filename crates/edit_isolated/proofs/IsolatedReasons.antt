@@ -9,7 +9,7 @@ use native.Mathlib.Omega.{arith}
 use lib.IntN.{ℤ, natAbs}
 use Rattle.lists.specs.Tests.{same}
 use Rattle.lists.specs.Scans.{isSome}
-use Rattle.curves.specs.Curves.{Run, curveOf}
+use Rattle.curves.specs.Curves.{curveOf}
 use Rattle.map.specs.declared.Head.{Head}
 use Rattle.map.specs.Limits.{edgeWidth, lastNumber}
 use Rattle.map.specs.Rows.{counts}
@@ -17,9 +17,9 @@ use Rattle.map.specs.Reasons.{Reasons, firstReason, meetingReasons}
 use Rattle.map_rows.specs.Rows.{nodeAt, nodeMap}
 use Rattle.head.specs.Heads.{sizesIn, roomAt}
 use Rattle.head.proofs.Heads.{room-left}
-use Rattle.reason_curves.specs.Sent.{sentReasons, edgesBut}
+use Rattle.reason_curves.specs.Sent.{curveReasonsAt, edgesBut}
 use Rattle.map.proofs.Reasons.{first-hit, first-miss, first-after, first-zero}
-use Rattle.edge_rows.proofs.FirstReasons.{first-of, sent-run}
+use Rattle.edge_rows.proofs.FirstReasons.{first-of}
 use Rattle.edit_isolated.specs.Isolated.{meetingOrRoomReasons, isolatedReasons}
 
 -- from 14 on
@@ -44,10 +44,10 @@ module _ (nodes edges faces : List ℤ) (h : Head) (c : List ℤ) where
       → r ≡ firstReason (meetingOrRoomReasons nodes edges faces h c)
   late-room m g = g ∙ sym (first-after meeting room refl m)
 
--- from 5 on
+-- from 7 on
 module _ (nodes edges faces : List ℤ) (h : Head) (u v : ℕ) (c : List ℤ) where
-  abbrev sent : Reasons
-  sent = sentReasons c (nodeAt nodes u .at) (nodeAt nodes v .at)
+  abbrev ends : Reasons
+  ends = curveReasonsAt (curveOf c) (nodeAt nodes u .at) (nodeAt nodes v .at)
 
   abbrev late : Reasons
   late = meetingOrRoomReasons nodes edges faces h c
@@ -67,22 +67,22 @@ module _ (nodes edges faces : List ℤ) (h : Head) (u v : ℕ) (c : List ℤ) wh
       go false true false e = let z : _≡_ {A = ℕ} 0 1 = cc in absurd (omega arith)
       go false false y e = let z : _≡_ {A = ℕ} 0 1 = cc in absurd (omega arith)
 
-  pub isolated-sent : {r : ℕ} → r ≡ firstReason (sentReasons c (nodeAt nodes u .at) (nodeAt nodes v .at))
+  pub isolated-ends : {r : ℕ} → r ≡ firstReason (curveReasonsAt (curveOf c) (nodeAt nodes u .at) (nodeAt nodes v .at))
       → (r ≡ 0 → ⊥) → r ≡ firstReason (isolatedReasons nodes edges faces h u v c)
-  isolated-sent {r} e d = first-of sent ((9, joined) ∷ (12, apart) ∷ late) r e d
+  isolated-ends {r} e d = first-of ends ((9, joined) ∷ (12, apart) ∷ late) r e d
 
-  module _ (e : firstReason (sentReasons c (nodeAt nodes u .at) (nodeAt nodes v .at)) ≡ 0) where
-    after-sent : firstReason (isolatedReasons nodes edges faces h u v c)
+  module _ (e : firstReason (curveReasonsAt (curveOf c) (nodeAt nodes u .at) (nodeAt nodes v .at)) ≡ 0) where
+    after-ends : firstReason (isolatedReasons nodes edges faces h u v c)
         ≡ firstReason ((9, joined) ∷ (12, apart) ∷ late)
-    after-sent = first-after sent ((9, joined) ∷ (12, apart) ∷ late) refl e
+    after-ends = first-after ends ((9, joined) ∷ (12, apart) ∷ late) refl e
 
     pub isolated-joined : {b : Bool} → b ≡ joined → b ≡ true
         → 9 ≡ firstReason (isolatedReasons nodes edges faces h u v c)
-    isolated-joined q t = sym (after-sent ∙ first-hit 9 joined ((12, apart) ∷ late) (sym q ∙ t))
+    isolated-joined q t = sym (after-ends ∙ first-hit 9 joined ((12, apart) ∷ late) (sym q ∙ t))
 
     module _ {b : Bool} (q : b ≡ joined) (t : b ≡ false) where
       after-joined : firstReason (isolatedReasons nodes edges faces h u v c) ≡ firstReason ((12, apart) ∷ late)
-      after-joined = after-sent ∙ first-miss 9 joined ((12, apart) ∷ late) (sym q ∙ t)
+      after-joined = after-ends ∙ first-miss 9 joined ((12, apart) ∷ late) (sym q ∙ t)
 
       pub both-isolated : (isSome (nodeAt nodes u .face) ≡ true) × (isSome (nodeAt nodes v .face) ≡ true)
       both-isolated = both-of (sym q ∙ t)
@@ -96,13 +96,11 @@ module _ (nodes edges faces : List ℤ) (h : Head) (u v : ℕ) (c : List ℤ) wh
         isolated-late w g = g ∙ sym (after-joined ∙ first-miss 12 apart late (sym p ∙ w))
 
   -- no reason at all
-  pub isolated-free : firstReason (isolatedReasons nodes edges faces h u v c) ≡ 0 → Run c
-      × (isSome (nodeAt nodes u .face) ≡ true) × (natAbs (h .edges) < length edges / edgeWidth)
+  pub isolated-free : firstReason (isolatedReasons nodes edges faces h u v c) ≡ 0
+      → (isSome (nodeAt nodes u .face) ≡ true) × (natAbs (h .edges) < length edges / edgeWidth)
       × (natAbs (h .«next_edge») ≤ lastNumber)
   isolated-free e =
-      let e₅ = first-zero 5 _ _ (omega arith) e in
-      let e₆ = first-zero 6 _ _ (omega arith) (e₅ .1) in
-      let e₇ = first-zero 7 _ _ (omega arith) (e₆ .1) in
+      let e₇ = first-zero 7 _ _ (omega arith) e in
       let e₈ = first-zero 8 _ _ (omega arith) (e₇ .1) in
       let e₉ = first-zero 9 joined _ (omega arith) (e₈ .1) in
       let e₁₂ = first-zero 12 _ _ (omega arith) (e₉ .1) in
@@ -111,4 +109,4 @@ module _ (nodes edges faces : List ℤ) (h : Head) (u v : ℕ) (c : List ℤ) wh
       let e₁₅ = first-zero 15 _ _ (omega arith) (e₂₃ .1) in
       let e₂₄ = first-zero 24 _ _ (omega arith) (e₁₅ .1) in
       let r = room-left (sizesIn nodes edges faces) h (counts 0 1 0) (counts 0 1 0) (e₂₄ .1) in
-      (sent-run c _ e, both-of (e₉ .0) .0, omega (arith, r .edges), omega (arith, r .next-edge))
+      (both-of (e₉ .0) .0, omega (arith, r .edges), omega (arith, r .next-edge))

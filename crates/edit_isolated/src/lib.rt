@@ -2,6 +2,7 @@
 use lists::Found;
 use map::Head;
 use outcomes::Done;
+use outcomes::EndRows;
 ghost use mathlib.Core.Path.{_≡_};
 ghost use mathlib.Core.Bool.{true, not, _&&_, _||_};
 ghost use mathlib.Core.Option.{Option·getD};
@@ -9,14 +10,14 @@ ghost use Prim.Native.Nat.{_<_};
 ghost use lib.IntN.{pos, natAbs};
 ghost use Rattle.lists.specs.Tests.{same};
 ghost use Rattle.lists.specs.Scans.{isSome};
-ghost use Rattle.curves.specs.Curves.{Run};
+ghost use Rattle.curves.specs.Curves.{Run, curveOf};
 ghost use Rattle.map.specs.Reasons.{firstReason};
 ghost use Rattle.map.specs.Tickets.{AddIsoEdge, RemoveIsoEdge};
 ghost use Rattle.map.specs.Loans.{lentNow};
 ghost use Rattle.map_rows.specs.Rows.{nodeAt, edgeAt, NodeRow, EdgeRow};
 ghost use Rattle.outcomes.specs.Outcomes.{Formed, edited, outcomeNow};
 ghost use Rattle.edge_rows.specs.Holds.{NodeEdgeTables};
-ghost use Rattle.edit_isolated.specs.Isolated.{meetingOrRoomReasons, isolatedReasons};
+ghost use Rattle.edit_isolated.specs.Isolated.{meetingOrRoomReasons, isolatedReasons, isolatedAlong};
 
 // ---- kind 4
 
@@ -67,7 +68,7 @@ fn meeting_or_room_reason(nodes: &[i64], edges: &[i64], faces: &[i64], h: Head, 
     )
 }
 
-// The first reason from 5 on against an edge between the isolated nodes of rows u and v; 0 for none.
+// The first reason from 7 on against an edge along the curve between the nodes of rows u and v; 0 for none.
 fn isolated_reason(
     nodes: &[i64],
     edges: &[i64],
@@ -77,7 +78,8 @@ fn isolated_reason(
     v: usize,
     c: &[i64],
 ) -> u64
-    requires { ⌜ NodeEdgeTables (now nodes) (now edges) h × (u < natAbs (h .nodes)) × (v < natAbs (h .nodes)) ⌝ }
+    requires { ⌜ NodeEdgeTables (now nodes) (now edges) h × (u < natAbs (h .nodes)) × (v < natAbs (h .nodes))
+        × Run (now c) ⌝ }
     ensures { λ r. ⌜ r ≡ firstReason
         (isolatedReasons (now (nodes .entry)) (now (edges .entry)) (now (faces .entry)) h u v (now (c .entry))) ⌝ }
 {
@@ -102,8 +104,8 @@ fn face_of(nodes: &[i64], i: usize) -> i64
     nodes[i * map::NODE_WIDTH + map::NODE_FACE]
 }
 
-// Kind 4 between the nodes of rows u and v.
-fn add_at_rows(
+// Kind 4 along the curve between the nodes of rows u and v.
+fn add_along(
     nodes: &mut [i64],
     edges: &mut [i64],
     faces: &[i64],
@@ -112,11 +114,11 @@ fn add_at_rows(
     v: usize,
     c: &[i64],
 ) -> Done
-    requires { ⌜ Formed (now nodes) (now edges) (now faces) h × (u < natAbs (h .nodes)) × (v < natAbs (h .nodes)) ⌝ }
+    requires { ⌜ Formed (now nodes) (now edges) (now faces) h × (u < natAbs (h .nodes)) × (v < natAbs (h .nodes))
+        × Run (now c) ⌝ }
     ensures { λ r. ⌜ outcomeNow (nodes .exit) (edges .exit) (faces .entry) r
-        ≡ edited (lentNow (nodes .entry) (edges .entry) (faces .entry) h)
-        (AddIsoEdge (pos (nodeAt (now (nodes .entry)) u .number)) (pos (nodeAt (now (nodes .entry)) v .number))
-        (now (c .entry))) ⌝ }
+        ≡ isolatedAlong (lentNow (nodes .entry) (edges .entry) (faces .entry) h)
+        (nodeAt (now (nodes .entry)) u .number) (nodeAt (now (nodes .entry)) v .number) (curveOf (now (c .entry))) ⌝ }
 {
     let reason = isolated_reason(nodes, edges, faces, h, u, v, c);
     if reason != 0 {
@@ -128,7 +130,34 @@ fn add_at_rows(
     outcomes::carried(after, number)
 }
 
-// Adds an edge along the curve between two isolated nodes, or answers the first reason against it.
+// Kind 4 between the nodes of rows u and v, by the points sent.
+fn add_at_rows(
+    nodes: &mut [i64],
+    edges: &mut [i64],
+    faces: &[i64],
+    h: Head,
+    u: usize,
+    v: usize,
+    sent: &[i64],
+) -> Done
+    requires { ⌜ Formed (now nodes) (now edges) (now faces) h × (u < natAbs (h .nodes)) × (v < natAbs (h .nodes)) ⌝ }
+    ensures { λ r. ⌜ outcomeNow (nodes .exit) (edges .exit) (faces .entry) r
+        ≡ edited (lentNow (nodes .entry) (edges .entry) (faces .entry) h)
+        (AddIsoEdge (pos (nodeAt (now (nodes .entry)) u .number)) (pos (nodeAt (now (nodes .entry)) v .number))
+        (now (sent .entry))) ⌝ }
+{
+    let read = reason_curves::read_curve(sent);
+    let reason = read.reason;
+    if reason != 0 {
+        return outcomes::refused(h, reason);
+    }
+    let line = read.line;
+    let cells = line.cells;
+    let n = line.count * 2;
+    add_along(nodes, edges, faces, h, u, v, &cells[0..n])
+}
+
+// Adds an edge between two isolated nodes, or answers the first reason against it.
 pub fn add_isolated_edge(
     nodes: &mut [i64],
     edges: &mut [i64],
@@ -136,23 +165,18 @@ pub fn add_isolated_edge(
     h: Head,
     start: i64,
     end: i64,
-    c: &[i64],
+    sent: &[i64],
 ) -> Done
     requires { ⌜ Formed (now nodes) (now edges) (now faces) h ⌝ }
     ensures { λ r. ⌜ outcomeNow (nodes .exit) (edges .exit) (faces .entry) r
         ≡ edited (lentNow (nodes .entry) (edges .entry) (faces .entry) h)
-        (AddIsoEdge start end (now (c .entry))) ⌝ }
+        (AddIsoEdge start end (now (sent .entry))) ⌝ }
 {
-    let n = head::to_usize(h.nodes);
-    let found = tables::find_row(nodes, map::NODE_WIDTH, n, start);
-    let Found::At(u) = found else {
+    let found = outcomes::find_ends(nodes, edges, faces, h, start, end);
+    let EndRows::Both(u, v) = found else {
         return outcomes::refused(h, 4);
     };
-    let found_end = tables::find_row(nodes, map::NODE_WIDTH, n, end);
-    let Found::At(v) = found_end else {
-        return outcomes::refused(h, 4);
-    };
-    add_at_rows(nodes, edges, faces, h, u, v, c)
+    add_at_rows(nodes, edges, faces, h, u, v, sent)
 }
 
 // ---- kind 5

@@ -19,7 +19,7 @@ use Rattle.tables.specs.Tables.{filled}
 use Rattle.tables.proofs.Filled.{Wide}
 use Rattle.tables.proofs.Order.{is-same, not-same}
 use Rattle.plane.specs.declared.Point.{Point}
-use Rattle.curves.specs.Curves.{Curve, point, curveOf}
+use Rattle.curves.specs.Curves.{Curve, point}
 use Rattle.map.specs.declared.Head.{Head}
 use Rattle.map.specs.declared.Variant.{Variant}
 use Rattle.map.specs.declared.Variant.the-variants.{New, Mod}
@@ -32,7 +32,7 @@ use Rattle.map.specs.Edits.{removeIsoEdge, changeEdgeGeom, split, heal, removeE
 use Rattle.map.specs.Edits.{faceLeft}
 use Rattle.map.specs.Rows.{atEdge}
 use Rattle.map_rows.specs.Rows.{edgeAt}
-use Rattle.map.specs.Reasons.{Reasons, firstReason, reasons, noEdge}
+use Rattle.map.specs.Reasons.{Reasons, firstReason, reasons, noEdge, curveIn}
 use Rattle.map.specs.Ticket.{carried}
 use Rattle.map.proofs.Reasons.{first-zero}
 use Rattle.map.proofs.Laws.{face-below}
@@ -253,7 +253,7 @@ module _ {nodes edges faces : List ℤ} {h : Head} (F : Formed nodes edges faces
     covers (RemoveIsoEdge e) z head wide cells i j =
         by-one edges′ (removeIsoEdge (natAbs e) m) head (removeIso-next (natAbs e)) f e (no-named s e _ z) j
     covers (ChangeEdgeGeom e c) z head wide cells i j =
-        by-one edges′ (changeEdgeGeom (natAbs e) (curveOf c) m) head (change-next (natAbs e) (curveOf c)) f e
+        by-one edges′ (changeEdgeGeom (natAbs e) (curveIn c) m) head (change-next (natAbs e) (curveIn c)) f e
         (no-named s e _ z) j
     covers (NewEdgesSplit e x y) z head wide cells i j =
         by-one edges′ (split New (natAbs e) (point x y) m) head (split-next New (natAbs e) (point x y)) f e

@@ -2,13 +2,13 @@
 -- spots, ends and directions, is simple and has different neighbours exactly where the curve did, and has no straight
 -- inner point. Assumes nothing.
 use mathlib.Core.Path.{_≡_, refl, sym, ap, _∙_, subst}
-use mathlib.Core.Bool.{Bool, true, false}
+use mathlib.Core.Bool.{Bool, true, false, cond, false≢true}
 use mathlib.Core.List.{List, [], _∷_, List·Memᴰ, List·Memᴰ·head, List·Memᴰ·tail, List·Memᴰ·cases-cons}
 use mathlib.Core.Logic.{_↔_, _⊎_, inl, inr}
 use Prim.Native.Nat.{suc, _≤_}
 use native.Mathlib.Omega.{arith}
 use lib.ListN.{length}
-use Rattle.lists.proofs.Bools.{or-false}
+use Rattle.lists.proofs.Bools.{which, or-false, not-true}
 use Rattle.plane.specs.declared.Point.{Point}
 use Rattle.plane.specs.Segments.{straightBetween}
 use Rattle.plane.specs.Directions.{sameWay}
@@ -18,7 +18,7 @@ use Rattle.curves.specs.Edits.{joinHere, thinned, withoutSurplus}
 use Rattle.geometry.specs.Spots.{Spot, Between}
 use Rattle.geometry.specs.Meaning.{Some, On, Differ}
 use Rattle.geometry.specs.Drawing.{OnCurve}
-use Rattle.geometry.proofs.Meeting.{straightBetween-true, differs-true, differs-is}
+use Rattle.geometry.proofs.Meeting.{straightBetween-true, straightBetween-is, differs-true, differs-is}
 use Rattle.geometry.proofs.Truth.{simple-true}
 use Rattle.geometry.proofs.Exact.{simple-is}
 use Rattle.geometry.proofs.Ways.{sameWay-is}
@@ -95,6 +95,40 @@ thinned-bent a (b ∷ c ∷ r) e =
     let k = or-false (straightBetween a b c) (straightIn b (c ∷ r)) e in
     ap (λ (q : Bool). joinHere q b (thinned b (c ∷ r))) (k .0)
     ∙ ap (λ (t : List Point). b ∷ t) (thinned-bent b (c ∷ r) (k .1))
+
+-- ---- by which neighbours
+
+-- the points after p, the last one kept: each is judged by the neighbours that are left, one after the other
+abbrev pub thinnedInTurn : Point → List Point → List Point
+thinnedInTurn p [] = []
+thinnedInTurn p (b ∷ []) = b ∷ []
+thinnedInTurn p (b ∷ c ∷ r) = cond (straightBetween p b c) (thinnedInTurn p (c ∷ r)) (b ∷ thinnedInTurn b (c ∷ r))
+
+-- that leaves the same points: where a was dropped after p, it lies straight between p and the next
+pub in-turn : (p a b : Point) (r : List Point) → (p ≡ a) ⊎ Between p a b → thinnedInTurn p (b ∷ r) ≡ thinned a (b ∷ r)
+in-turn p a b [] h = refl
+in-turn p a b (c ∷ r) h = go (straightBetween a b c) refl (λ k. in-turn p b c r k) (in-turn b b c r (inl refl))
+  where
+    behind : (p ≡ a) ⊎ Between p a b → Between a b c → Between p b c
+    behind (inl e) k = subst (λ (q : Point). Between q b c) (sym e) k
+    behind (inr s) k = extend s k
+
+    before : (p ≡ a) ⊎ Between p a b → Between p b c → Between a b c
+    before (inl e) k = subst (λ (q : Point). Between q b c) e k
+    before (inr s) k = shorten s k
+
+    go : (q : Bool) → straightBetween a b c ≡ q
+        → ((p ≡ b) ⊎ Between p b c → thinnedInTurn p (c ∷ r) ≡ thinned b (c ∷ r))
+        → thinnedInTurn b (c ∷ r) ≡ thinned b (c ∷ r)
+        → cond (straightBetween p b c) (thinnedInTurn p (c ∷ r)) (b ∷ thinnedInTurn b (c ∷ r))
+        ≡ joinHere q b (thinned b (c ∷ r))
+    go true e drops keeps = let k = behind h (straightBetween-true a b c e) in
+        ap (λ (t : Bool). cond t (thinnedInTurn p (c ∷ r)) (b ∷ thinnedInTurn b (c ∷ r))) (straightBetween-is k)
+        ∙ drops (inr k)
+    go false e drops keeps =
+        ap (λ (t : Bool). cond t (thinnedInTurn p (c ∷ r)) (b ∷ thinnedInTurn b (c ∷ r)))
+        (unless-between (before h) e)
+        ∙ ap (λ (t : List Point). b ∷ t) keeps
 
 -- ---- the same of curves
 
@@ -180,6 +214,19 @@ module _ (c : Curve) (differ : neighboursDiffer c ≡ true) where
             λ k. simple-is (c .first) (thinned (c .first) (c .rest)) left
                 (h .simple (simple-true (c .first) (c .rest) k)),
           )
+
+-- equal neighbours are never dropped
+pub surplus-differs : (c : Curve) → neighboursDiffer (withoutSurplus c) ≡ neighboursDiffer c
+surplus-differs c = elim (which (neighboursDiffer c)) [
+  | inl e ↦ surplus-differ c e ∙ sym e
+  | inr e ↦ not-true (neighboursDiffer (withoutSurplus c)) (λ t. false≢true (sym e
+      ∙ differs-is (c .first) (c .rest) (back (c .rest)
+      (differs-true (c .first) (thinned (c .first) (c .rest)) t)))) ∙ sym e
+]
+  where
+    back : (r : List Point) → Differ (c .first) (thinned (c .first) r) → Differ (c .first) r
+    back [] n = n
+    back (b ∷ r) n = thin (c .first) (b ∷ r) tt .alike .differ′ n
 
 -- the same directions of departure
 pub surplus-ways : (c : Curve) → Some (c .rest)

@@ -14,7 +14,7 @@ use Rattle.lists.proofs.Keeps.{keep-all, keep-both}
 use Rattle.lists.proofs.Lookups.{without, without-numbers, replaced-numbers}
 use Rattle.lists.proofs.Maps.{map-twice}
 use Rattle.plane.specs.declared.Point.{Point}
-use Rattle.curves.specs.Curves.{Curve, startWay, point, curveOf}
+use Rattle.curves.specs.Curves.{Curve, startWay, point}
 use Rattle.planar_maps.specs.Map.{fwd}
 use Rattle.map.specs.declared.Counts.{Counts}
 use Rattle.map.specs.declared.Variant.{Variant}
@@ -28,6 +28,7 @@ use Rattle.map.specs.Edits.{addEdge, lowerFace, makesFace, renamed, renamedFace
 use Rattle.map.specs.Tickets.{Ticket, AddIsoNode, MoveIsoNode, RemoveIsoNode, AddIsoEdge, RemoveIsoEdge, ChangeEdgeGeom}
 use Rattle.map.specs.Tickets.{NewEdgesSplit, ModEdgeSplit, NewEdgeHeal, ModEdgeHeal, AddEdgeNewFaces, AddEdgeModFace}
 use Rattle.map.specs.Tickets.{RemEdgeNewFace, RemEdgeModFace}
+use Rattle.map.specs.Reasons.{curveIn}
 use Rattle.map.specs.Ticket.{carried}
 use Rattle.map_laws.proofs.Outlines.{drawn-shape}
 use Rattle.grown.specs.Claims.{Given, NumbersGiven, nodeNumbers, edgeNumbers}
@@ -325,14 +326,14 @@ module _ (m : Map) where
   carried-given (AddIsoNode f x y) = take-given (add-node-take (point x y))
   carried-given (MoveIsoNode n x y) = take-given (move-node-take (natAbs n) (point x y))
   carried-given (RemoveIsoNode n) = take-given (remove-node-take (natAbs n))
-  carried-given (AddIsoEdge u v c) = take-given (add-lone-take (natAbs u) (natAbs v) (curveOf c))
+  carried-given (AddIsoEdge u v c) = take-given (add-lone-take (natAbs u) (natAbs v) (curveIn c))
   carried-given (RemoveIsoEdge e) = take-given (remove-lone-take (natAbs e))
-  carried-given (ChangeEdgeGeom e c) = take-given (change-take (natAbs e) (curveOf c))
+  carried-given (ChangeEdgeGeom e c) = take-given (change-take (natAbs e) (curveIn c))
   carried-given (NewEdgesSplit e x y) = take-given (split-new-take (natAbs e) (point x y))
   carried-given (ModEdgeSplit e x y) = take-given (split-mod-take (natAbs e) (point x y))
   carried-given (NewEdgeHeal e f) = take-given (heal-new-take (natAbs e) (natAbs f))
   carried-given (ModEdgeHeal e f) = take-given (heal-mod-take (natAbs e) (natAbs f))
-  carried-given (AddEdgeNewFaces u v c) = add-edge-take New (natAbs u) (natAbs v) (curveOf c)
-  carried-given (AddEdgeModFace u v c) = add-edge-take Mod (natAbs u) (natAbs v) (curveOf c)
+  carried-given (AddEdgeNewFaces u v c) = add-edge-take New (natAbs u) (natAbs v) (curveIn c)
+  carried-given (AddEdgeModFace u v c) = add-edge-take Mod (natAbs u) (natAbs v) (curveIn c)
   carried-given (RemEdgeNewFace e) = take-given (remove-edge-take New (natAbs e))
   carried-given (RemEdgeModFace e) = take-given (remove-edge-take Mod (natAbs e))

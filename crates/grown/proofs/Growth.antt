@@ -7,7 +7,7 @@ use native.Mathlib.Omega.{arith}
 use Prim.Native.Nat.{ℕ}
 use lib.IntN.{natAbs}
 use Rattle.plane.specs.declared.Point.{Point}
-use Rattle.curves.specs.Curves.{Curve, point, curveOf}
+use Rattle.curves.specs.Curves.{Curve, point}
 use Rattle.planar_maps.proofs.Moves.{planar-empty}
 use Rattle.map.specs.declared.Variant.{Variant}
 use Rattle.map.specs.declared.Variant.the-variants.{New, Mod}
@@ -17,7 +17,7 @@ use Rattle.map.specs.Tickets.{Ticket, AddIsoNode, MoveIsoNode, RemoveIsoNode, A
 use Rattle.map.specs.Tickets.{NewEdgesSplit, ModEdgeSplit, NewEdgeHeal, ModEdgeHeal, AddEdgeNewFaces, AddEdgeModFace}
 use Rattle.map.specs.Tickets.{RemEdgeNewFace, RemEdgeModFace}
 use Rattle.map.specs.Edits.{split, heal, addEdge, removeEdge}
-use Rattle.map.specs.Reasons.{firstReason, reasons}
+use Rattle.map.specs.Reasons.{firstReason, reasons, curveIn}
 use Rattle.map.specs.Ticket.{carried}
 use Rattle.map.proofs.Opened.{opened}
 use Rattle.map_laws.proofs.Reasons.{Split, Heal, AddEdge, add-node, move-node, remove-node, add-lone, remove-lone}
@@ -78,21 +78,21 @@ module _ (s : Sizes) (m : Map) (g : Good m) where
   kept (AddIsoEdge u v c) h =
       let k = add-lone s m u v c h in
       record {
-        planar = planar-4 s m (natAbs u) (natAbs v) (curveOf c) L k o;
-        surveyed = surveyed-4 m g s (natAbs u) (natAbs v) (curveOf c) k;
+        planar = planar-4 s m (natAbs u) (natAbs v) (curveIn c) L k o;
+        surveyed = surveyed-4 m g s (natAbs u) (natAbs v) (curveIn c) k;
       }
   kept (RemoveIsoEdge e) h =
       let k = remove-lone s m e h in
       record { planar = planar-5 m (natAbs e) g k; surveyed = surveyed-5 m g (natAbs e) }
   kept (ChangeEdgeGeom e c) h =
       let k = change s m e c h in
-      record { planar = planar-6 m (natAbs e) (curveOf c) o; surveyed = surveyed-6 m g (natAbs e) (curveOf c) k }
+      record { planar = planar-6 m (natAbs e) (curveIn c) o; surveyed = surveyed-6 m g (natAbs e) (curveIn c) k }
   kept (NewEdgesSplit e x y) h = split-kept New (natAbs e) (point x y) (split-new s m e x y h)
   kept (ModEdgeSplit e x y) h = split-kept Mod (natAbs e) (point x y) (split-mod s m e x y h)
   kept (NewEdgeHeal e f) h = heal-kept New (natAbs e) (natAbs f) (heal-new s m e f h .0)
   kept (ModEdgeHeal e f) h = heal-kept Mod (natAbs e) (natAbs f) (heal-mod s m e f h)
-  kept (AddEdgeNewFaces u v c) h = add-kept New (natAbs u) (natAbs v) (curveOf c) (add-new s m u v c h)
-  kept (AddEdgeModFace u v c) h = add-kept Mod (natAbs u) (natAbs v) (curveOf c) (add-mod s m u v c h)
+  kept (AddEdgeNewFaces u v c) h = add-kept New (natAbs u) (natAbs v) (curveIn c) (add-new s m u v c h)
+  kept (AddEdgeModFace u v c) h = add-kept Mod (natAbs u) (natAbs v) (curveIn c) (add-mod s m u v c h)
   kept (RemEdgeNewFace e) h = remove-kept New (natAbs e) (remove-new s m e h .has)
   kept (RemEdgeModFace e) h = remove-kept Mod (natAbs e) (remove-mod s m e h)
 

@@ -21,7 +21,7 @@ use Rattle.lists.proofs.Scans.{table-in}
 use Rattle.planar_maps.specs.Pieces.{Within}
 use Rattle.tables.proofs.Filled.{reads, rows-flat}
 use Rattle.plane.specs.declared.Point.{Point}
-use Rattle.curves.specs.Curves.{points, point, curveOf, maxPoints}
+use Rattle.curves.specs.Curves.{points, point, maxPoints}
 use Rattle.curves.specs.Edits.{front, back}
 use Rattle.map.specs.declared.Variant.{Variant}
 use Rattle.map.specs.declared.Variant.the-variants.{New, Mod}
@@ -33,7 +33,7 @@ use Rattle.map.specs.Form.{formed, inForm}
 use Rattle.map.specs.Tickets.{Ticket, AddIsoNode, MoveIsoNode, RemoveIsoNode, AddIsoEdge, RemoveIsoEdge, ChangeEdgeGeom}
 use Rattle.map.specs.Tickets.{NewEdgesSplit, ModEdgeSplit, NewEdgeHeal, ModEdgeHeal, AddEdgeNewFaces, AddEdgeModFace}
 use Rattle.map.specs.Tickets.{RemEdgeNewFace, RemEdgeModFace, read}
-use Rattle.map.specs.Reasons.{firstReason, reasons}
+use Rattle.map.specs.Reasons.{firstReason, reasons, curveIn}
 use Rattle.map.specs.Ticket.{carried, lentReasons, unless, judged, ticket}
 use Rattle.map.specs.Grow.{after, grow}
 use Rattle.map.proofs.RoundTrip.{nodes-wide, node-back, edge-wide, faces-wide}
@@ -101,13 +101,13 @@ module _ (s : Sizes) (m : Map) (within : Within (map nodeNumber (m .nodes)) (arc
   carried-few (MoveIsoNode n x y) h = subst Few (sym (moveIsoNode-becomes (natAbs n) (point x y) m .lines)) few
   carried-few (RemoveIsoNode n) h = subst Few (sym (removeIsoNode-becomes (natAbs n) m .lines)) few
   carried-few (AddIsoEdge u v c) h =
-      subst Few (sym (addIsoEdge-becomes (natAbs u) (natAbs v) (curveOf c) m .lines))
+      subst Few (sym (addIsoEdge-becomes (natAbs u) (natAbs v) (curveIn c) m .lines))
       (few-more few _ (facts.add-lone s m u v c h .sent .most))
   carried-few (RemoveIsoEdge e) h =
       subst Few (sym (removeIsoEdge-becomes (natAbs e) m .lines)) (few-less few (natAbs e))
   carried-few (ChangeEdgeGeom e c) h =
-      subst Few (sym (changeEdgeGeom-becomes (natAbs e) (curveOf c) m .lines))
-      (few-at few (natAbs e) (redrawn (curveOf c)) (λ l. facts.change s m e c h .sent .most))
+      subst Few (sym (changeEdgeGeom-becomes (natAbs e) (curveIn c) m .lines))
+      (few-at few (natAbs e) (redrawn (curveIn c)) (λ l. facts.change s m e c h .sent .most))
   carried-few (NewEdgesSplit e x y) h =
       let k = few-halves New (natAbs e) (point x y) (facts.split-new s m e x y h) in
       let a = firstHalf (lineOf (edge m (natAbs e))) (m .next .nodes) (m .next .edges) (point x y) in
@@ -128,10 +128,10 @@ module _ (s : Sizes) (m : Map) (within : Within (map nodeNumber (m .nodes)) (arc
       (few-less (few-at few (natAbs e) (λ l. healedRow (natAbs e) (natAbs e) (natAbs f) m)
       (λ l. facts.heal-mod s m e f h .most)) (natAbs f))
   carried-few (AddEdgeNewFaces u v c) h =
-      subst Few (sym (addEdge-becomes New (natAbs u) (natAbs v) (curveOf c) m .lines))
+      subst Few (sym (addEdge-becomes New (natAbs u) (natAbs v) (curveIn c) m .lines))
       (few-more few _ (facts.add-new s m u v c h .sent .most))
   carried-few (AddEdgeModFace u v c) h =
-      subst Few (sym (addEdge-becomes Mod (natAbs u) (natAbs v) (curveOf c) m .lines))
+      subst Few (sym (addEdge-becomes Mod (natAbs u) (natAbs v) (curveIn c) m .lines))
       (few-more few _ (facts.add-mod s m u v c h .sent .most))
   carried-few (RemEdgeNewFace e) h = subst Few (sym (removeEdge-becomes New (natAbs e) m .lines))
       (few-less few (natAbs e))

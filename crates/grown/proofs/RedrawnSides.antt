@@ -13,7 +13,7 @@ use Rattle.lists.proofs.Members.{none-has}
 use Rattle.lists.proofs.Perms.{perm-of-distinct, distinct-length}
 use Rattle.plane.specs.declared.Point.{Point}
 use Rattle.plane.specs.Areas.{isPositive}
-use Rattle.curves.specs.Curves.{Curve, curveOf}
+use Rattle.curves.specs.Curves.{Curve}
 use Rattle.planar_maps.specs.Map.{Dart}
 use Rattle.planar_maps.proofs.Leads.{leads-join}
 use Rattle.map.specs.Rows.{Map, edge, hasEdge}
@@ -21,7 +21,7 @@ use Rattle.map.specs.Darts.{directed, ring, among}
 use Rattle.map.specs.Faces.{encloses, ringArea}
 use Rattle.map.specs.Form.{formed}
 use Rattle.map.specs.Edits.{changeEdgeGeom}
-use Rattle.map.specs.Reasons.{sidePoints, ringChanges, sidesChange}
+use Rattle.map.specs.Reasons.{sidePoints, ringChanges, sidesChange, curveIn}
 use Rattle.map.specs.Ticket.{carried}
 use Rattle.map.proofs.Linked.{linked, edges-once}
 use Rattle.map_laws.proofs.Readings.{has-dart}
@@ -105,8 +105,8 @@ pub redraw-keeps-sides : RedrawKeepsSides
 unfolding carried
 redraw-keeps-sides s m e c h none =
     let k = facts.change s m e c none in
-    let kept = kept-ring m h (natAbs e) (k .has) (curveOf c) (k .sides) in
+    let kept = kept-ring m h (natAbs e) (k .has) (curveIn c) (k .sides) in
     record {
-      areas = λ d i. rw (same-ring m (natAbs e) (curveOf c) d) (kept d i .area);
-      points = λ d i p j. rw (same-ring m (natAbs e) (curveOf c) d) (kept d i .points p j);
+      areas = λ d i. rw (same-ring m (natAbs e) (curveIn c) d) (kept d i .area);
+      points = λ d i p j. rw (same-ring m (natAbs e) (curveIn c) d) (kept d i .points p j);
     }

@@ -18,12 +18,12 @@ use Rattle.lists.proofs.Appends.{each-append}
 use Rattle.lists.proofs.Members.{each-last}
 use Rattle.plane.specs.declared.Point.{Point}
 use Rattle.plane.specs.Points.{InRange}
-use Rattle.curves.specs.Curves.{Curve, points, point, curveOf, lastPoint, coordinates}
+use Rattle.curves.specs.Curves.{Curve, points, point, lastPoint, coordinates}
 use Rattle.curves.specs.Edits.{front, back}
 use Rattle.map.specs.declared.Variant.the-variants.{Mod}
 use Rattle.map.specs.Rows.{Node, Edge, Map, Lent, Sizes, mapOf, sizesOf, whole, edge}
 use Rattle.map.specs.Tickets.{Ticket, AddIsoNode, ModEdgeSplit, AddEdgeModFace, read}
-use Rattle.map.specs.Reasons.{firstReason, reasons}
+use Rattle.map.specs.Reasons.{firstReason, reasons, curveIn}
 use Rattle.map.specs.Ticket.{Outcome, lentReasons, unless, judged, carried, ticket}
 use Rattle.map.specs.Edits.{addIsoNode, split, addEdge}
 use Rattle.map.specs.Form.{ranged, formed, inForm}
@@ -204,7 +204,7 @@ module _ (l : Lent) (r : ranged l ≡ true) where
     where
       go : (b : Bool) → ranged (judged l (mapOf l) (cond b (some (AddEdgeModFace (pos u) (pos v) c)) none) .lent) ≡ true
       go true = carry (AddEdgeModFace (pos u) (pos v) c) (λ f h.
-          edge-tabled l r f u v (curveOf c) (add-mod (sizesOf l) (mapOf l) (pos u) (pos v) c h)) _ refl
+          edge-tabled l r f u v (curveIn c) (add-mod (sizesOf l) (mapOf l) (pos u) (pos v) c h)) _ refl
       go false = r
 
 -- ---- the rows' tickets

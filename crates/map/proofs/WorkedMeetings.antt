@@ -14,11 +14,11 @@ use Rattle.map.proofs.WorkedSides.{redraw}
 use Rattle.map.proofs.Worked.{Case, room, case, draw, lone, rows}
 
 -- an edge in face 0 that ends where no other edge ends
-abbrev ditch : ℕ → ℕ → ℕ → List Point → Edge
+abbrev pub ditch : ℕ → ℕ → ℕ → List Point → Edge
 ditch e u v c = edgeRow e u v (bwd e) (fwd e) 0 0 c
 
 -- turned down one by one, and all is as before
-abbrev refused : Map → List (List ℤ) → List ℕ → Case
+abbrev pub refused : Map → List (List ℤ) → List ℕ → Case
 refused m ts rs = case m ts (map no-to rs) m
 
 -- ---- each number, each kind

@@ -19,7 +19,8 @@ use Rattle.plane.specs.Points.{samePoint}
 use Rattle.plane.specs.Directions.{Way, sameWay}
 use Rattle.curves.specs.Curves.{Curve, points, lastPoint, startWay, endWay, point, curveOf, coordinate, isRun}
 use Rattle.curves.specs.Curves.{maxPoints}
-use Rattle.curves.specs.Tests.{neighboursDiffer, straightInside, onCurve, isSimple, meeting, gravest}
+use Rattle.curves.specs.Tests.{neighboursDiffer, onCurve, isSimple, meeting, gravest}
+use Rattle.curves.specs.Edits.{withoutSurplus}
 use Rattle.planar_maps.specs.Map.{Dart, fwd, bwd}
 use Rattle.planar_maps.specs.Rings.{sameDart}
 use Rattle.map.specs.declared.Counts.{Counts}
@@ -69,22 +70,30 @@ abbrev pub outside : ℤ → ℤ → Bool
 outside x y = not (coordinate x && coordinate y)
 
 abbrev pub badCurve : List ℤ → Bool
-badCurve c = not (isRun c)
+badCurve sent = not (isRun sent)
 
--- ---- 8: curve ends differ from the nodes' points
+-- 5, and 6: neighbouring points are equal
+abbrev pub sentReasons : List ℤ → Reasons
+sentReasons sent = (5, badCurve sent) ∷ (6, not (neighboursDiffer (curveOf sent))) ∷ []
+
+-- ---- surplus points are dropped
+
+-- the curve that a ticket draws: what is left of the points sent
+abbrev pub curveIn : List ℤ → Curve
+curveIn sent = withoutSurplus (curveOf sent)
+
+-- a ticket with a curve: 4, then 5 and 6 by the points sent, then the others by what is left
+abbrev pub curveTicketReasons : Bool → List ℤ → (Curve → Reasons) → Reasons
+curveTicketReasons missing sent rest = (4, missing) ∷ sentReasons sent ++ rest (curveIn sent)
+
+-- ---- 7: not simple. 8: curve ends differ from the nodes' points
 
 abbrev pub endsDiffer : Map → Curve → ℕ → ℕ → Bool
 endsDiffer m c u v = not (samePoint (c .first) (node m u .at) && samePoint (lastPoint c) (node m v .at))
 
--- 5 to 8, for a curve from the node u to the node v
-abbrev pub curveReasons : Map → List ℤ → ℕ → ℕ → Reasons
-curveReasons m sent u v =
-    let c = curveOf sent in
-    (5, badCurve sent)
-    ∷ (6, not (neighboursDiffer c) || straightInside c)
-    ∷ (7, not (isSimple c))
-    ∷ (8, endsDiffer m c u v)
-    ∷ []
+-- for a curve from the node u to the node v
+abbrev pub curveReasons : Map → Curve → ℕ → ℕ → Reasons
+curveReasons m c u v = (7, not (isSimple c)) ∷ (8, endsDiffer m c u v) ∷ []
 
 -- ---- 9: not isolated
 
@@ -204,6 +213,40 @@ spent m needed = ltb (suc lastNumber) (m .next .nodes + needed .nodes)
 abbrev pub roomReasons : Sizes → Map → Counts → Counts → Reasons
 roomReasons s m rows numbers = (20, full s m rows) ∷ (21, spent m numbers) ∷ []
 
+-- ---- the kinds that draw a curve, from 7 on
+
+-- kind 4, from the node a to the node b
+abbrev pub addIsoEdgeReasons : Sizes → Map → ℕ → ℕ → Curve → Reasons
+addIsoEdgeReasons s m a b c =
+    curveReasons m c a b
+    ++ (9, same a b || not (isolated m a && isolated m b))
+    ∷ (12, containingDiffer m a b)
+    ∷ meetingReasons m (m .edges) c
+    ++ roomReasons s m (counts 0 1 0) (counts 0 1 0)
+
+-- kind 6, for the edge e
+abbrev pub changeGeomReasons : Map → ℕ → Curve → Reasons
+changeGeomReasons m e c =
+    let a = edge m e .start in
+    let b = edge m e .end in
+    curveReasons m c a b
+    ++ (11, directionTaken m e a b c)
+    ∷ meetingReasons m (withoutEdge e (m .edges)) c
+    ++ (19, orderChanges m e c)
+    ∷ (22, sidesChange m e c)
+    ∷ []
+
+-- kinds 11 (New) and 12 (Mod), from the node a to the node b
+abbrev pub addEdgeReasons : Variant → Sizes → Map → ℕ → ℕ → Curve → Reasons
+addEdgeReasons how s m a b c =
+    let splits = splitsFace a b c m in
+    let second = splits && isNew how && not (same (cornerFace m a (startWay c)) 0) in
+    curveReasons m c a b
+    ++ (11, directionTaken m (m .next .edges) a b c)
+    ∷ (12, cornersDiffer m a b c)
+    ∷ meetingReasons m (m .edges) c
+    ++ roomReasons s m (counts 0 1 (bit splits)) (counts 0 1 (bit splits + bit second))
+
 -- ---- the kinds, with 4 and up
 
 -- kinds 7 and 8
@@ -226,21 +269,6 @@ healReasons m e f =
     ∷ (18, ltb maxPoints (length (points (healedCurve m a b))))
     ∷ []
 
--- kinds 11 (New) and 12 (Mod)
-abbrev pub addEdgeReasons : Variant → Sizes → Map → ℤ → ℤ → List ℤ → Reasons
-addEdgeReasons how s m u v sent =
-    let a = natAbs u in
-    let b = natAbs v in
-    let c = curveOf sent in
-    let splits = splitsFace a b c m in
-    let second = splits && isNew how && not (same (cornerFace m a (startWay c)) 0) in
-    (4, noNode m u || noNode m v)
-    ∷ curveReasons m sent a b
-    ++ (11, directionTaken m (m .next .edges) a b c)
-    ∷ (12, cornersDiffer m a b c)
-    ∷ meetingReasons m (m .edges) c
-    ++ roomReasons s m (counts 0 1 (bit splits)) (counts 0 1 (bit splits + bit second))
-
 -- the reasons of each kind, in order
 unfoldable pub reasons : Sizes → Map → Ticket → Reasons
 reasons s m (AddIsoNode f x y) =
@@ -262,35 +290,20 @@ reasons s m (RemoveIsoNode n) =
     ∷ (9, not (isolated m (natAbs n)))
     ∷ []
 reasons s m (AddIsoEdge u v sent) =
-    let a = natAbs u in
-    let b = natAbs v in
-    (4, noNode m u || noNode m v)
-    ∷ curveReasons m sent a b
-    ++ (9, same a b || not (isolated m a && isolated m b))
-    ∷ (12, containingDiffer m a b)
-    ∷ meetingReasons m (m .edges) (curveOf sent)
-    ++ roomReasons s m (counts 0 1 0) (counts 0 1 0)
+    curveTicketReasons (noNode m u || noNode m v) sent (addIsoEdgeReasons s m (natAbs u) (natAbs v))
 reasons s m (RemoveIsoEdge e) =
     (4, noEdge m e)
     ∷ (9, not (edgeIsolated m (natAbs e)))
     ∷ []
-reasons s m (ChangeEdgeGeom e sent) =
-    let a = edge m (natAbs e) .start in
-    let b = edge m (natAbs e) .end in
-    let c = curveOf sent in
-    (4, noEdge m e)
-    ∷ curveReasons m sent a b
-    ++ (11, directionTaken m (natAbs e) a b c)
-    ∷ meetingReasons m (withoutEdge (natAbs e) (m .edges)) c
-    ++ (19, orderChanges m (natAbs e) c)
-    ∷ (22, sidesChange m (natAbs e) c)
-    ∷ []
+reasons s m (ChangeEdgeGeom e sent) = curveTicketReasons (noEdge m e) sent (changeGeomReasons m (natAbs e))
 reasons s m (NewEdgesSplit e x y) = splitReasons New s m e x y
 reasons s m (ModEdgeSplit e x y) = splitReasons Mod s m e x y
 reasons s m (NewEdgeHeal e f) = healReasons m e f ++ (21, spent m (counts 0 1 0)) ∷ []
 reasons s m (ModEdgeHeal e f) = healReasons m e f
-reasons s m (AddEdgeNewFaces u v sent) = addEdgeReasons New s m u v sent
-reasons s m (AddEdgeModFace u v sent) = addEdgeReasons Mod s m u v sent
+reasons s m (AddEdgeNewFaces u v sent) =
+    curveTicketReasons (noNode m u || noNode m v) sent (addEdgeReasons New s m (natAbs u) (natAbs v))
+reasons s m (AddEdgeModFace u v sent) =
+    curveTicketReasons (noNode m u || noNode m v) sent (addEdgeReasons Mod s m (natAbs u) (natAbs v))
 reasons s m (RemEdgeNewFace e) =
     (4, noEdge m e)
     ∷ (21, spent m (counts 0 0 (bit (makesFace New (natAbs e) m))))

@@ -9,7 +9,7 @@ use lib.IntN.{ℤ, pos, negsuc, natAbs}
 use lib.ListN.{length, drop}
 use Rattle.lists.specs.Tests.{same}
 use Rattle.lists.specs.Scans.{keep}
-use Rattle.curves.specs.Curves.{point, curveOf}
+use Rattle.curves.specs.Curves.{point}
 use Rattle.planar_maps.specs.Map.{Dart}
 use Rattle.map.specs.declared.Answer.{Answer}
 use Rattle.map.specs.declared.Variant.the-variants.{New, Mod}
@@ -21,22 +21,22 @@ use Rattle.map.specs.Tickets.{ChangeEdgeGeom, NewEdgesSplit, ModEdgeSpli
 use Rattle.map.specs.Tickets.{AddEdgeNewFaces, AddEdgeModFace, RemEdgeNewFace, RemEdgeModFace, read}
 use Rattle.map.specs.Edits.{addIsoNode, moveIsoNode, removeIsoNode, addIsoEdge, removeIsoEdge, changeEdgeGeom}
 use Rattle.map.specs.Edits.{split, heal, addEdge, removeEdge, healsFaces, faceLeft}
-use Rattle.map.specs.Reasons.{Reasons, firstReason, reasons, noFace}
+use Rattle.map.specs.Reasons.{Reasons, firstReason, reasons, noFace, curveIn}
 
 -- a ticket carried out: the map after it and the value
 unfoldable pub carried : Map → Ticket → Map × ℤ
 carried m (AddIsoNode f x y) = (addIsoNode (point x y) m, pos (m .next .nodes))
 carried m (MoveIsoNode n x y) = (moveIsoNode (natAbs n) (point x y) m, pos 0)
 carried m (RemoveIsoNode n) = (removeIsoNode (natAbs n) m, pos 0)
-carried m (AddIsoEdge u v c) = (addIsoEdge (natAbs u) (natAbs v) (curveOf c) m, pos (m .next .edges))
+carried m (AddIsoEdge u v sent) = (addIsoEdge (natAbs u) (natAbs v) (curveIn sent) m, pos (m .next .edges))
 carried m (RemoveIsoEdge e) = (removeIsoEdge (natAbs e) m, pos 0)
-carried m (ChangeEdgeGeom e c) = (changeEdgeGeom (natAbs e) (curveOf c) m, pos 0)
+carried m (ChangeEdgeGeom e sent) = (changeEdgeGeom (natAbs e) (curveIn sent) m, pos 0)
 carried m (NewEdgesSplit e x y) = (split New (natAbs e) (point x y) m, pos (m .next .nodes))
 carried m (ModEdgeSplit e x y) = (split Mod (natAbs e) (point x y) m, pos (m .next .nodes))
 carried m (NewEdgeHeal e f) = (heal New (natAbs e) (natAbs f) m, pos (m .next .edges))
 carried m (ModEdgeHeal e f) = (heal Mod (natAbs e) (natAbs f) m, pos 0)
-carried m (AddEdgeNewFaces u v c) = (addEdge New (natAbs u) (natAbs v) (curveOf c) m, pos (m .next .edges))
-carried m (AddEdgeModFace u v c) = (addEdge Mod (natAbs u) (natAbs v) (curveOf c) m, pos (m .next .edges))
+carried m (AddEdgeNewFaces u v sent) = (addEdge New (natAbs u) (natAbs v) (curveIn sent) m, pos (m .next .edges))
+carried m (AddEdgeModFace u v sent) = (addEdge Mod (natAbs u) (natAbs v) (curveIn sent) m, pos (m .next .edges))
 carried m (RemEdgeNewFace e) = (
   removeEdge New (natAbs e) m,
   cond (healsFaces (natAbs e) m) (pos (faceLeft New (natAbs e) m)) (negsuc 0),

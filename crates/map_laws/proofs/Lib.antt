@@ -4,9 +4,11 @@
 pub mod Readings
 pub mod RowChanges
 pub mod RowDarts
--- what holds of a ticket that nothing turns down, and what 23, 15 and 24 say over rational points
+-- what holds of a ticket that nothing turns down; what 23, 15 and 24 say over rational points; what is left of a curve
+-- that is sent, and that tickets which did not get 6 before have the same outcome
 pub mod Reasons
 pub mod MeetingsTold
+pub mod Surplus
 -- nodes, outlines of edges, faces and next numbers after an edit; faces that are named exist
 pub mod Outlines
 pub mod Faces

@@ -1,7 +1,7 @@
 -- How a curve meets other edges, and what the answer to it says of that, over rational points (specs/Claims.antt).
 -- Assumes nothing.
 use mathlib.Core.Path.{_≡_, refl, sym, ap, _∙_}
-use mathlib.Core.Bool.{Bool, true, false, cond, not, true≢false, false≢true, _&&_, _||_}
+use mathlib.Core.Bool.{Bool, true, false, cond, true≢false, false≢true, _&&_, _||_}
 use mathlib.Core.List.{List, [], _∷_, _++_, List·Memᴰ, append-nil}
 use mathlib.Core.Logic.{_↔_, inl, inr}
 use Prim.Native.Nat.{ℕ}
@@ -16,16 +16,17 @@ use Rattle.lists.proofs.Members.{any-some, some-any, none-has}
 use Rattle.plane.specs.declared.Contact.{Contact}
 use Rattle.plane.specs.declared.Contact.the-variants.{None, Touch, Crossing, Stretch}
 use Rattle.curves.specs.Curves.{Curve, curveOf}
-use Rattle.curves.specs.Tests.{neighboursDiffer, straightInside, isSimple, meeting, isMet}
+use Rattle.curves.specs.Tests.{neighboursDiffer, isSimple, meeting, isMet}
 use Rattle.curves.proofs.Meetings.{Adds, isGrave, isStretch, met-adds, grave-adds, stretch-adds, gravest-any}
 use Rattle.curves.proofs.Meetings.{unmet, stretch-only, crossing-only, touch-only}
 use Rattle.geometry.specs.Meaning.{Differ, Simple}
 use Rattle.geometry.specs.Drawing.{MeetCurves}
 use Rattle.geometry.proofs.Theorems.{neighboursDiffer-iff, isSimple-iff, meetWrongly-iff}
 use Rattle.geometry.proofs.Meetings.{stretch-meeting, crossing-meeting, wrong-shares, shares-wrong}
+use Rattle.geometry.proofs.Thinning.{surplus-differ}
 use Rattle.map.specs.Rows.{Map, Edge, withoutEdge}
 use Rattle.map.specs.Reasons.{Reasons, firstReason, reasons, edgeMeeting, contactReason, curveReasons, meetingReasons}
-use Rattle.map.specs.Reasons.{nodeInside}
+use Rattle.map.specs.Reasons.{nodeInside, sentReasons, curveIn}
 use Rattle.map.proofs.Reasons.{first-hit, first-miss}
 use Rattle.map_laws.specs.Claims.{MeetsOne, SharesOne, Crosses, Touches, AllClear, MeetingMeans}
 use Rattle.map_laws.specs.Claims.{MeetingsMean, Told, MeetingsTold}
@@ -204,25 +205,29 @@ unfound Stretch n rs q e = absurd (false≢true (ap isLater e ∙ q))
 abbrev isTold : ℕ → Bool
 isTold n = isFound n || isLater n
 
--- the shape of all four: 4, the reasons of a curve, others, those of its meeting, others
+-- the shape of all four: 4 to 6, the reasons of the curve that is left, others, those of its meeting, others
 module _ (m : Map) (l : List ℤ) (u v : ℕ) (es : List Edge) (missing : Bool) (before after : Reasons)
     (others : anyOf (λ r. isTold (r .0)) before ≡ false) (rest : anyOf (λ r. isFound (r .0)) after ≡ false) where
   abbrev c : Curve
-  c = curveOf l
+  c = curveIn l
+
+  abbrev early : Reasons
+  early = (4, missing) ∷ sentReasons l ++ curveReasons m c u v ++ before
 
   abbrev answer : ℕ
-  answer = firstReason ((4, missing) ∷ curveReasons m l u v ++ before ++ (meetingReasons m es c ++ after))
+  answer = firstReason (early ++ (meetingReasons m es c ++ after))
 
   -- up to the meeting
   let-pass : isTold answer ≡ true
       → (neighboursDiffer c ≡ true) × (isSimple c ≡ true) × (firstReason (contactsOf (edgeMeeting es c) after) ≡ answer)
   unfolding same
   let-pass q =
-      let x = passed isTold answer q ((4, missing) ∷ curveReasons m l u v ++ before) (meetingReasons m es c ++ after)
-      others refl in
-      let y = passed isTold answer q ((14, nodeInside m c) ∷ []) _ refl (x .1) in
-      let n = or-false (not (neighboursDiffer c)) (straightInside c) (x .0 .1 .1 .0) in
-      (not-false (neighboursDiffer c) (n .0), not-false (isSimple c) (x .0 .1 .1 .1 .0), y .1)
+      let x = passed isTold answer q early (meetingReasons m es c ++ after) others refl in
+      let y = passed isTold answer q ((14, nodeInside m c) ∷ []) _ refl (x .1) in (
+        surplus-differ (curveOf l) (not-false (neighboursDiffer (curveOf l)) (x .0 .1 .1 .0)),
+        not-false (isSimple c) (x .0 .1 .1 .1 .0),
+        y .1,
+      )
 
   answered : (k : Contact) → answer ≡ contactReason k → MeetingMeans c es × (edgeMeeting es c ≡ k)
   answered k e =

@@ -1,7 +1,7 @@
 -- What holds of a ticket that nothing turns down: for each kind the facts, from `firstReason .. ≡ 0`. Assumes nothing.
 use mathlib.Core.Path.{_≡_}
 use mathlib.Core.Bool.{true, false, cond, not, _&&_, _||_}
-use mathlib.Core.List.{List, [], _∷_, _++_, List·Memᴰ}
+use mathlib.Core.List.{List, [], _++_, List·Memᴰ}
 use mathlib.Core.Logic.{_≢_}
 use mathlib.Core.Option.{Option·getD}
 use Prim.Native.Nat.{ℕ, suc, _+_, _≤_}
@@ -17,7 +17,7 @@ use Rattle.plane.specs.declared.Point.{Point}
 use Rattle.plane.specs.declared.Contact.the-variants.{None}
 use Rattle.plane.specs.Points.{InRange, samePoint}
 use Rattle.plane.proofs.Laws.{samePoint-true}
-use Rattle.curves.specs.Curves.{Curve, points, lastPoint, startWay, endWay, point, curveOf, isRun, maxPoints}
+use Rattle.curves.specs.Curves.{Curve, points, lastPoint, startWay, endWay, point, maxPoints}
 use Rattle.curves.specs.Tests.{neighboursDiffer, straightInside, onCurve, isSimple}
 use Rattle.map.specs.declared.Variant.{Variant}
 use Rattle.map.specs.declared.Variant.the-variants.{New, Mod}
@@ -32,9 +32,9 @@ use Rattle.map.specs.Edits.{isNew, isMod, sharedNodes, joint, healedCurve, spli
 use Rattle.map.specs.Reasons.{Reasons, firstReason, reasons, noNode, noEdge, outside, endsDiffer, isolated}
 use Rattle.map.specs.Reasons.{edgeIsolated, anyNodeAt, edgeThrough, directionTaken, containingDiffer, cornersDiffer}
 use Rattle.map.specs.Reasons.{nodeInside, edgeMeeting, orderChanges, sidesChange, full, spent, splitReasons}
-use Rattle.map.specs.Reasons.{healReasons, addEdgeReasons}
+use Rattle.map.specs.Reasons.{healReasons, curveIn, curveReasons, curveTicketReasons, addEdgeReasons}
 use Rattle.map.proofs.Reasons.{first-zero, zero-contact, point-in-range}
-use Rattle.map.proofs.RoundTrip.{run-stored}
+use Rattle.map.proofs.Surplus.{Left, sent-left}
 
 -- ---- the facts
 
@@ -160,30 +160,23 @@ has-node m z h = and-true (nonNeg z) (hasNode m (natAbs z)) (not-false (nonNeg z
 has-edge : (m : Map) (z : ℤ) → noEdge m z ≡ false → hasEdge m (natAbs z) ≡ true
 has-edge m z h = and-true (nonNeg z) (hasEdge m (natAbs z)) (not-false (nonNeg z && hasEdge m (natAbs z)) h) .1
 
--- 5 to 8, and what follows them
-sent : (m : Map) (l : List ℤ) (u v : ℕ) (rest : Reasons)
-    → firstReason ((5, not (isRun l)) ∷ (6, not (neighboursDiffer (curveOf l)) || straightInside (curveOf l))
-    ∷ (7, not (isSimple (curveOf l))) ∷ (8, endsDiffer m (curveOf l) u v) ∷ rest) ≡ 0
-    → Sent m (curveOf l) u v × (firstReason rest ≡ 0)
-sent m l u v rest h =
-    let c = curveOf l in
-    let h₅ = first-zero 5 (not (isRun l)) _ (lit< tt) h in
-    let h₆ = first-zero 6 (not (neighboursDiffer c) || straightInside c) _ (lit< tt) (h₅ .1) in
-    let h₇ = first-zero 7 (not (isSimple c)) _ (lit< tt) (h₆ .1) in
+-- 7 and 8, and what follows them
+ends : (m : Map) (c : Curve) (u v : ℕ) (rest : Reasons) → Left c → firstReason (curveReasons m c u v ++ rest) ≡ 0
+    → Sent m c u v × (firstReason rest ≡ 0)
+ends m c u v rest l h =
+    let h₇ = first-zero 7 (not (isSimple c)) _ (lit< tt) h in
     let h₈ = first-zero 8 (endsDiffer m c u v) rest (lit< tt) (h₇ .1) in
-    let r = run-stored l (not-false (isRun l) (h₅ .0)) in
-    let bends = or-false (not (neighboursDiffer c)) (straightInside c) (h₆ .0) in
-    let ends = and-true (samePoint (c .first) (node m u .at)) (samePoint (lastPoint c) (node m v .at))
+    let both = and-true (samePoint (c .first) (node m u .at)) (samePoint (lastPoint c) (node m v .at))
     (not-false (samePoint (c .first) (node m u .at) && samePoint (lastPoint c) (node m v .at)) (h₈ .0)) in (
       record {
-        least = r .least;
-        most = r .most;
-        in-range = r .in-range;
-        differ = not-false (neighboursDiffer c) (bends .0);
-        bent = bends .1;
+        least = l .stored .least;
+        most = l .stored .most;
+        in-range = l .stored .in-range;
+        differ = l .differ;
+        bent = l .bent;
         simple = not-false (isSimple c) (h₇ .0);
-        start = samePoint-true (c .first) (node m u .at) (ends .0);
-        end = samePoint-true (lastPoint c) (node m v .at) (ends .1);
+        start = samePoint-true (c .first) (node m u .at) (both .0);
+        end = samePoint-true (lastPoint c) (node m v .at) (both .1);
       },
       h₈ .1,
     )
@@ -257,17 +250,18 @@ module _ (s : Sizes) (m : Map) where
       record { has = has-node m n (h₄ .0); isolated = not-false (isolated m (natAbs n)) (h₉ .0) }
 
   pub add-lone : (u v : ℤ) (l : List ℤ) → firstReason (reasons s m (AddIsoEdge u v l)) ≡ 0
-      → AddLone s m (natAbs u) (natAbs v) (curveOf l)
+      → AddLone s m (natAbs u) (natAbs v) (curveIn l)
   unfolding reasons
   add-lone u v l h =
       let a = natAbs u in
       let b = natAbs v in
       let h₄ = first-zero 4 (noNode m u || noNode m v) _ (lit< tt) h in
-      let h₅ = sent m l a b _ (h₄ .1) in
-      let h₉ = first-zero 9 (same a b || not (isolated m a && isolated m b)) _ (lit< tt) (h₅ .1) in
+      let h₅ = sent-left l _ (h₄ .1) in
+      let h₇ = ends m (curveIn l) a b _ (h₅ .0) (h₅ .1) in
+      let h₉ = first-zero 9 (same a b || not (isolated m a && isolated m b)) _ (lit< tt) (h₇ .1) in
       let h₁₂ = first-zero 12 (containingDiffer m a b) _ (lit< tt) (h₉ .1) in
-      let h₁₄ = first-zero 14 (nodeInside m (curveOf l)) _ (lit< tt) (h₁₂ .1) in
-      let h₁₅ = zero-contact (edgeMeeting (m .edges) (curveOf l)) _ (h₁₄ .1) in
+      let h₁₄ = first-zero 14 (nodeInside m (curveIn l)) _ (lit< tt) (h₁₂ .1) in
+      let h₁₅ = zero-contact (edgeMeeting (m .edges) (curveIn l)) _ (h₁₄ .1) in
       let h₂₀ = first-zero 20 (full s m (counts 0 1 0)) _ (lit< tt) (h₁₅ .1) in
       let h₂₁ = first-zero 21 (spent m (counts 0 1 0)) _ (lit< tt) (h₂₀ .1) in
       let rows = or-false (noNode m u) (noNode m v) (h₄ .0) in
@@ -276,7 +270,7 @@ module _ (s : Sizes) (m : Map) where
       record {
         has-start = has-node m u (rows .0);
         has-end = has-node m v (rows .1);
-        sent = h₅ .0;
+        sent = h₇ .0;
         differ = differ a b (alone .0);
         isolated-start = both .0;
         isolated-end = both .1;
@@ -305,21 +299,22 @@ module _ (s : Sizes) (m : Map) where
       }
 
   pub change : (e : ℤ) (l : List ℤ) → firstReason (reasons s m (ChangeEdgeGeom e l)) ≡ 0
-      → Change m (natAbs e) (curveOf l)
+      → Change m (natAbs e) (curveIn l)
   unfolding reasons
   change e l h =
       let a = edge m (natAbs e) .start in
       let b = edge m (natAbs e) .end in
       let h₄ = first-zero 4 (noEdge m e) _ (lit< tt) h in
-      let h₅ = sent m l a b _ (h₄ .1) in
-      let h₁₁ = first-zero 11 (directionTaken m (natAbs e) a b (curveOf l)) _ (lit< tt) (h₅ .1) in
-      let h₁₄ = first-zero 14 (nodeInside m (curveOf l)) _ (lit< tt) (h₁₁ .1) in
-      let h₁₅ = zero-contact (edgeMeeting (withoutEdge (natAbs e) (m .edges)) (curveOf l)) _ (h₁₄ .1) in
-      let h₁₉ = first-zero 19 (orderChanges m (natAbs e) (curveOf l)) _ (lit< tt) (h₁₅ .1) in
-      let h₂₂ = first-zero 22 (sidesChange m (natAbs e) (curveOf l)) _ (lit< tt) (h₁₉ .1) in
+      let h₅ = sent-left l _ (h₄ .1) in
+      let h₇ = ends m (curveIn l) a b _ (h₅ .0) (h₅ .1) in
+      let h₁₁ = first-zero 11 (directionTaken m (natAbs e) a b (curveIn l)) _ (lit< tt) (h₇ .1) in
+      let h₁₄ = first-zero 14 (nodeInside m (curveIn l)) _ (lit< tt) (h₁₁ .1) in
+      let h₁₅ = zero-contact (edgeMeeting (withoutEdge (natAbs e) (m .edges)) (curveIn l)) _ (h₁₄ .1) in
+      let h₁₉ = first-zero 19 (orderChanges m (natAbs e) (curveIn l)) _ (lit< tt) (h₁₅ .1) in
+      let h₂₂ = first-zero 22 (sidesChange m (natAbs e) (curveIn l)) _ (lit< tt) (h₁₉ .1) in
       record {
         has = has-edge m e (h₄ .0);
-        sent = h₅ .0;
+        sent = h₇ .0;
         ways-free = h₁₁ .0;
         nodes-off = h₁₄ .0;
         clear = h₁₅ .0;
@@ -392,25 +387,21 @@ module _ (s : Sizes) (m : Map) where
   unfolding cornersDiffer
   corners u v c h = same-true _ _ (not-false (same (cornerFace m u (startWay c)) (cornerFace m v (endWay c))) h)
 
-  add : (how : Variant) (u v : ℤ) (l : List ℤ) → firstReason (addEdgeReasons how s m u v l) ≡ 0
-      → AddEdge how s m (natAbs u) (natAbs v) (curveOf l)
-  add how u v l h =
-      let a = natAbs u in
-      let b = natAbs v in
-      let c = curveOf l in
-      let h₄ = first-zero 4 (noNode m u || noNode m v) _ (lit< tt) h in
-      let h₅ = sent m l a b _ (h₄ .1) in
-      let h₁₁ = first-zero 11 (directionTaken m (m .next .edges) a b c) _ (lit< tt) (h₅ .1) in
+  -- kinds 11 and 12 along a curve between nodes that are there
+  pub add-along : (how : Variant) (a b : ℕ) (c : Curve) → hasNode m a ≡ true → hasNode m b ≡ true → Left c
+      → firstReason (addEdgeReasons how s m a b c) ≡ 0 → AddEdge how s m a b c
+  add-along how a b c there there′ l h =
+      let h₇ = ends m c a b _ l h in
+      let h₁₁ = first-zero 11 (directionTaken m (m .next .edges) a b c) _ (lit< tt) (h₇ .1) in
       let h₁₂ = first-zero 12 (cornersDiffer m a b c) _ (lit< tt) (h₁₁ .1) in
       let h₁₄ = first-zero 14 (nodeInside m c) _ (lit< tt) (h₁₂ .1) in
       let h₁₅ = zero-contact (edgeMeeting (m .edges) c) _ (h₁₄ .1) in
       let h₂₀ = first-zero 20 (full s m (counts 0 1 (bit (splitsFace a b c m)))) _ (lit< tt) (h₁₅ .1) in
       let h₂₁ = first-zero 21 (spent m (counts 0 1 (newFaces how m a b c))) _ (lit< tt) (h₂₀ .1) in
-      let rows = or-false (noNode m u) (noNode m v) (h₄ .0) in
       record {
-        has-start = has-node m u (rows .0);
-        has-end = has-node m v (rows .1);
-        sent = h₅ .0;
+        has-start = there;
+        has-end = there′;
+        sent = h₇ .0;
         ways-free = h₁₁ .0;
         one-face = corners a b c (h₁₂ .0);
         nodes-off = h₁₄ .0;
@@ -419,13 +410,22 @@ module _ (s : Sizes) (m : Map) where
         supply = supply m 0 1 (newFaces how m a b c) (h₂₁ .0);
       }
 
+  add : (how : Variant) (u v : ℤ) (l : List ℤ)
+      → firstReason (curveTicketReasons (noNode m u || noNode m v) l (addEdgeReasons how s m (natAbs u) (natAbs v))) ≡ 0
+      → AddEdge how s m (natAbs u) (natAbs v) (curveIn l)
+  add how u v l h =
+      let h₄ = first-zero 4 (noNode m u || noNode m v) _ (lit< tt) h in
+      let h₅ = sent-left l _ (h₄ .1) in
+      let rows = or-false (noNode m u) (noNode m v) (h₄ .0) in
+      add-along how (natAbs u) (natAbs v) (curveIn l) (has-node m u (rows .0)) (has-node m v (rows .1)) (h₅ .0) (h₅ .1)
+
   pub add-new : (u v : ℤ) (l : List ℤ) → firstReason (reasons s m (AddEdgeNewFaces u v l)) ≡ 0
-      → AddEdge New s m (natAbs u) (natAbs v) (curveOf l)
+      → AddEdge New s m (natAbs u) (natAbs v) (curveIn l)
   unfolding reasons
   add-new u v l h = add New u v l h
 
   pub add-mod : (u v : ℤ) (l : List ℤ) → firstReason (reasons s m (AddEdgeModFace u v l)) ≡ 0
-      → AddEdge Mod s m (natAbs u) (natAbs v) (curveOf l)
+      → AddEdge Mod s m (natAbs u) (natAbs v) (curveIn l)
   unfolding reasons
   add-mod u v l h = add Mod u v l h
 

@@ -1,19 +1,26 @@
--- What refusals say of the drawing, over rational points. Proved in proofs/MeetingsTold.antt (`meetings-mean`,
--- `meetings-told`).
+-- What refusals say of the drawing, and what is left of a curve without surplus points, over rational points. Proved in
+-- proofs/: MeetingsTold.antt (`meetings-mean`, `meetings-told`), Surplus.antt (`surplus-dropped`, `surplus-alike`,
+-- `same-outcome`).
 use mathlib.Core.Path.{_≡_}
-use mathlib.Core.Bool.{true}
+use mathlib.Core.Bool.{true, false}
 use mathlib.Core.List.{List, List·Memᴰ}
-use mathlib.Core.Logic.{_↔_}
+use mathlib.Core.Logic.{_≢_, _↔_}
 use Prim.Native.Nat.{ℕ, _≤_}
 use lib.IntN.{ℤ, natAbs}
+use lib.ListN.{length}
+use Rattle.plane.specs.declared.Point.{Point}
 use Rattle.plane.specs.declared.Contact.{Contact}
 use Rattle.plane.specs.declared.Contact.the-variants.{None, Touch, Crossing, Stretch}
-use Rattle.curves.specs.Curves.{Curve, curveOf}
-use Rattle.curves.specs.Tests.{neighboursDiffer, isSimple}
-use Rattle.geometry.specs.Drawing.{ClearCurves, MeetCurves, CommonSpot}
-use Rattle.map.specs.Rows.{Edge, Map, Sizes, withoutEdge}
-use Rattle.map.specs.Tickets.{AddIsoEdge, ChangeEdgeGeom, AddEdgeNewFaces, AddEdgeModFace}
-use Rattle.map.specs.Reasons.{firstReason, reasons, edgeMeeting}
+use Rattle.curves.specs.Curves.{Curve, points, lastPoint, coordinates, isRun}
+use Rattle.curves.specs.Tests.{neighboursDiffer, straightInside, isSimple}
+use Rattle.curves.specs.Edits.{withoutSurplus}
+use Rattle.geometry.specs.Spots.{Spot}
+use Rattle.geometry.specs.Drawing.{OnCurve, ClearCurves, MeetCurves, CommonSpot}
+use Rattle.map.specs.Rows.{Edge, Map, Lent, Sizes, withoutEdge}
+use Rattle.map.specs.Tickets.{Ticket, AddIsoEdge, ChangeEdgeGeom, AddEdgeNewFaces, AddEdgeModFace}
+use Rattle.map.specs.Reasons.{firstReason, reasons, curveIn, edgeMeeting}
+use Rattle.map.specs.Ticket.{carried, ticket}
+use Rattle.map_laws.specs.Before.{ticketBefore}
 
 -- ---- document 02 (iv): 23, 15 and 24
 
@@ -64,13 +71,55 @@ pub record Told (answer : ℕ) (c : Curve) (es : List Edge) : Type 0 where
 pub record MeetingsTold : Type 0 where
   pub add-isolated :
       (s : Sizes) (m : Map) (u v : ℤ) (sent : List ℤ)
-      → Told (firstReason (reasons s m (AddIsoEdge u v sent))) (curveOf sent) (m .edges)
+      → Told (firstReason (reasons s m (AddIsoEdge u v sent))) (curveIn sent) (m .edges)
   pub change :
       (s : Sizes) (m : Map) (e : ℤ) (sent : List ℤ)
-      → Told (firstReason (reasons s m (ChangeEdgeGeom e sent))) (curveOf sent) (withoutEdge (natAbs e) (m .edges))
+      → Told (firstReason (reasons s m (ChangeEdgeGeom e sent))) (curveIn sent) (withoutEdge (natAbs e) (m .edges))
   pub add-new :
       (s : Sizes) (m : Map) (u v : ℤ) (sent : List ℤ)
-      → Told (firstReason (reasons s m (AddEdgeNewFaces u v sent))) (curveOf sent) (m .edges)
+      → Told (firstReason (reasons s m (AddEdgeNewFaces u v sent))) (curveIn sent) (m .edges)
   pub add-mod :
       (s : Sizes) (m : Map) (u v : ℤ) (sent : List ℤ)
-      → Told (firstReason (reasons s m (AddEdgeModFace u v sent))) (curveOf sent) (m .edges)
+      → Told (firstReason (reasons s m (AddEdgeModFace u v sent))) (curveIn sent) (m .edges)
+
+-- ---- document 02 (v): surplus points
+
+-- what is left of the curve c is d
+pub record Thinned (c d : Curve) : Type 0 where
+  -- they are the same spots of the plane, of whole coordinates or not
+  pub spots : (P : Spot) → OnCurve P d ↔ OnCurve P c
+  pub first : d .first ≡ c .first
+  pub last : lastPoint d ≡ lastPoint c
+  -- no inner point is left straight between its neighbours
+  pub bent : straightInside d ≡ false
+  -- nothing is added, and d is c where nothing is surplus
+  pub given : (p : Point) → List·Memᴰ p (points d) → List·Memᴰ p (points c)
+  pub fewer : length (points d) ≤ length (points c)
+  pub none : straightInside c ≡ false → d ≡ c
+  -- two equal neighbours are left exactly if there were two, and a line that doubles back, or is otherwise not simple,
+  -- is left so: 6 and 7 would be the same by either
+  pub differ : neighboursDiffer d ≡ neighboursDiffer c
+  pub simple : neighboursDiffer c ≡ true → isSimple d ≡ isSimple c
+
+abbrev pub SurplusDropped : Type 0
+SurplusDropped = (c : Curve) → Thinned c (withoutSurplus c)
+
+-- the numbers of what is left
+abbrev pub numbersLeft : List ℤ → List ℤ
+numbersLeft sent = coordinates (points (curveIn sent))
+
+-- points that 5 lets pass, and what is left of them sent instead: the same reasons and the same edit, on all maps
+abbrev pub Alike : (List ℤ → Ticket) → Type 0
+Alike t = (s : Sizes) (m : Map) (sent : List ℤ) → isRun sent ≡ true
+    → (reasons s m (t (numbersLeft sent)) ≡ reasons s m (t sent))
+    × (carried m (t (numbersLeft sent)) ≡ carried m (t sent))
+
+pub record SurplusAlike : Type 0 where
+  pub add-isolated : (u v : ℤ) → Alike (AddIsoEdge u v)
+  pub change : (e : ℤ) → Alike (ChangeEdgeGeom e)
+  pub add-new : (u v : ℤ) → Alike (AddEdgeNewFaces u v)
+  pub add-mod : (u v : ℤ) → Alike (AddEdgeModFace u v)
+
+-- on all tables, every ticket that did not get 6 before, those carried out among them, has the same outcome
+abbrev pub SameOutcome : Type 0
+SameOutcome = (l : Lent) (t : List ℤ) → ticketBefore l t .answer .refusal ≢ 6 → ticket l t ≡ ticketBefore l t

@@ -1,8 +1,8 @@
 -- What tables in form hold: rows in range and in rising order, counts and next numbers, each table as its map's rows
 -- with zeros behind. What a call on them answers: turned down by the first reason, or the map carried out. Assumes
 -- nothing.
-use mathlib.Core.Path.{_≡_, refl, ap, _∙_}
-use mathlib.Core.Bool.{true, false, _&&_}
+use mathlib.Core.Path.{_≡_, refl, sym, ap, _∙_}
+use mathlib.Core.Bool.{Bool, true, false, _&&_}
 use mathlib.Core.List.{List, [], _∷_, map, flatMap}
 use Prim.Native.Nat.{ℕ, zero, suc, _+_, _*_, _/_, _≤_, _<_}
 use native.Mathlib.Omega.{arith}
@@ -19,6 +19,7 @@ use Rattle.tables.specs.Tables.{sameZ, column, filled, numbered}
 use Rattle.tables.proofs.Filled.{WholeRows, whole-rows, Wide}
 use Rattle.tables.proofs.Tests.{within-pos}
 use Rattle.tables.proofs.Rising.{all-weaker, numbered-wider}
+use Rattle.curves.specs.Curves.{Curve}
 use Rattle.curves.proofs.Runs.{and-left, and-right}
 use Rattle.map.specs.declared.Counts.{Counts}
 use Rattle.map.specs.declared.Head.{Head}
@@ -28,8 +29,10 @@ use Rattle.map.specs.Rows.{Edge, Map, Lent, Sizes, mapOf, lentOf, lentWith, rec
 use Rattle.map.specs.Rows.{edgeCells, hasNode, hasEdge, hasFace, lent}
 use Rattle.map.specs.Form.{numbers, inFace, edgeNames, named, formed}
 use Rattle.map.specs.Tickets.{Ticket}
-use Rattle.map.specs.Reasons.{firstReason, reasons, full, spent, roomReasons, noNode, noEdge}
+use Rattle.map.specs.Reasons.{Reasons, firstReason, reasons, full, spent, roomReasons, noNode, noEdge, sentReasons}
+use Rattle.map.specs.Reasons.{curveIn, curveTicketReasons}
 use Rattle.map.specs.Ticket.{carried}
+use Rattle.map.proofs.Surplus.{sent-refused, sent-passed}
 use Rattle.map.proofs.RoundTrip.{Ranged, ranged-is, whole-tables}
 use Rattle.map.proofs.Laws.{formed-is, in-form-is, in-form-back}
 use Rattle.map_rows.specs.Rows.{nodesOf, edgesOf, facesOf, facesIn, edgeMap, NodeRows, EdgeRows, FaceRows}
@@ -38,7 +41,7 @@ use Rattle.map_rows.proofs.RowCurves.{table-edges-wide}
 use Rattle.map_rows.proofs.Lookups.{node-missing, edge-missing}
 use Rattle.head.specs.Heads.{Counted, sizesIn, fullAt, spentAt, roomAt}
 use Rattle.outcomes.specs.declared.Done.{Done}
-use Rattle.outcomes.specs.Outcomes.{Formed, decided, edited, outcome}
+use Rattle.outcomes.specs.Outcomes.{Formed, decided, unlessWith, editedUnless, edited, outcome}
 
 -- ---- tables in form
 
@@ -281,6 +284,23 @@ pub done : {h g : Head} {v u : ℤ} {d : Done} → g ≡ h → u ≡ v → d
     ≡ record { head = h; answer = record { refusal = 0; value = v } }
 done eg eu e = e ∙ (λ i. record { head = eg i; answer = record { refusal = 0; value = eu i } })
 
+-- an edit of rows, which leaves the rectangles, by its reasons and what it does where none holds
+module _ (nodes edges faces : List ℤ) (h : Head) (rs : Reasons) (c : Map × ℤ) where
+  -- turned down by the first reason r: the head as it was, and value 0
+  pub unless-refused : (r : ℕ) {d : Done} → 0 < r → d
+      ≡ record { head = h; answer = record { refusal = r; value = pos 0 } }
+      → firstReason rs ≡ r → outcome nodes edges faces d ≡ editedUnless (lent nodes edges faces h) rs c
+  unless-refused zero some e k = absurd (omega arith)
+  unless-refused (suc r) some e k = rw (k, e)
+
+  -- carried out: tables and head after it, and its value
+  pub unless-carried : (nodes′ edges′ faces′ : List ℤ) (h′ : Head) (v : ℤ) {d : Done} → d
+      ≡ record { head = h′; answer = record { refusal = 0; value = v } } → firstReason rs ≡ 0
+      → lentWith (rectangle (mapOf (lent nodes edges faces h) .edges)) (sizesOf (lent nodes edges faces h)) (c .0)
+      ≡ lent nodes′ edges′ faces′ h′
+      → c .1 ≡ v → outcome nodes′ edges′ faces′ d ≡ editedUnless (lent nodes edges faces h) rs c
+  unless-carried nodes′ edges′ faces′ h′ v e k l w = rw (k, e, l, w)
+
 module _ (nodes edges faces : List ℤ) (h : Head) (t : Ticket) where
   -- turned down by the first reason r: the head as it was, and value 0
   pub decided-refused : (r : ℕ) {d : Done} → 0 < r → d
@@ -305,8 +325,9 @@ module _ (nodes edges faces : List ℤ) (h : Head) (t : Ticket) where
       ≡ record { head = h; answer = record { refusal = r; value = pos 0 } }
       → firstReason (reasons (sizesOf (lent nodes edges faces h)) (mapOf (lent nodes edges faces h)) t) ≡ r
       → outcome nodes edges faces d ≡ edited (lent nodes edges faces h) t
-  edited-refused zero some e k = absurd (omega arith)
-  edited-refused (suc r) some e k = rw (k, e)
+  edited-refused = unless-refused nodes edges faces h
+      (reasons (sizesOf (lent nodes edges faces h)) (mapOf (lent nodes edges faces h)) t)
+      (carried (mapOf (lent nodes edges faces h)) t)
 
   pub edited-carried : (nodes′ edges′ faces′ : List ℤ) (h′ : Head) (v : ℤ) {d : Done} → d
       ≡ record { head = h′; answer = record { refusal = 0; value = v } }
@@ -315,4 +336,20 @@ module _ (nodes edges faces : List ℤ) (h : Head) (t : Ticket) where
       (carried (mapOf (lent nodes edges faces h)) t .0) ≡ lent nodes′ edges′ faces′ h′
       → carried (mapOf (lent nodes edges faces h)) t .1 ≡ v
       → outcome nodes′ edges′ faces′ d ≡ edited (lent nodes edges faces h) t
-  edited-carried nodes′ edges′ faces′ h′ v e k l w = rw (k, e, l, w)
+  edited-carried = unless-carried nodes edges faces h
+      (reasons (sizesOf (lent nodes edges faces h)) (mapOf (lent nodes edges faces h)) t)
+      (carried (mapOf (lent nodes edges faces h)) t)
+
+-- a ticket with a curve, of rows that are there
+module _ (l : Lent) (t : Ticket) {missing : Bool} (there : missing ≡ false) (sent : List ℤ) (rest : Curve → Reasons)
+    (e : reasons (sizesOf l) (mapOf l) t ≡ curveTicketReasons missing sent rest) where
+  -- 5 or 6 is against the points sent
+  pub against-sent : (r : ℕ) → 0 < r → firstReason (sentReasons sent) ≡ r
+      → firstReason (reasons (sizesOf l) (mapOf l) t) ≡ r
+  against-sent r some k = ap firstReason e ∙ sent-refused there sent rest r some k
+
+  -- neither is: it is decided by what is left
+  pub by-points-left : firstReason (sentReasons sent) ≡ 0
+      → editedUnless l (rest (curveIn sent)) (carried (mapOf l) t) ≡ edited l t
+  by-points-left k = ap (λ (r : ℕ). unlessWith (rectangle (mapOf l .edges)) l r (carried (mapOf l) t))
+      (sym (ap firstReason e ∙ sent-passed there sent rest k))

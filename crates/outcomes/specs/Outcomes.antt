@@ -12,10 +12,12 @@ use Rattle.bounding_boxes.specs.declared.Extent.{Extent}
 use Rattle.map.specs.Rows.{Map, Lent, mapOf, sizesOf, whole, lent, rectangle, lentWith}
 use Rattle.map.specs.Form.{inForm}
 use Rattle.map.specs.Tickets.{Ticket}
-use Rattle.map.specs.Reasons.{firstReason, reasons}
+use Rattle.map.specs.Reasons.{Reasons, firstReason, reasons}
 use Rattle.map.specs.Ticket.{Outcome, refused, unless, carried}
 use Rattle.map.specs.Loans.{Table, lentNow}
 use Rattle.outcomes.specs.declared.Done.{Done}
+use Rattle.outcomes.specs.declared.EndRows.{EndRows}
+use Rattle.outcomes.specs.declared.EndRows.the-variants.{Both, NotBoth}
 
 -- the one record that edits require, which `form` establishes: conditions 1 and 2 do not hold
 pub record Formed (nodes edges faces : List ℤ) (h : Head) : Type 0 where
@@ -38,9 +40,13 @@ unlessWith box l zero c = record {
 }
 unlessWith box l (suc r) c = refused l (suc r)
 
--- as `decided`, with the rectangles still those of the edges before it: what the edits of rows leave
+-- carried out unless one of the reasons holds, with the rectangles still those of the edges before it
+abbrev pub editedUnless : Lent → Reasons → Map × ℤ → Outcome
+editedUnless l rs c = unlessWith (rectangle (mapOf l .edges)) l (firstReason rs) c
+
+-- as `decided`, with the rectangles of before: what the edits of rows leave
 abbrev pub edited : Lent → Ticket → Outcome
-edited l t = unlessWith (rectangle (mapOf l .edges)) l (reasonAgainst l t) (carried (mapOf l) t)
+edited l t = editedUnless l (reasons (sizesOf l) (mapOf l) t) (carried (mapOf l) t)
 
 -- what a call left and answered
 abbrev pub outcome : List ℤ → List ℤ → List ℤ → Done → Outcome
@@ -52,6 +58,12 @@ outcomeNow nodes edges faces d = record { lent = lentNow nodes edges faces (d .h
 -- what a call left, with the head in a loan of its own
 abbrev pub outcomeWith : Table → Table → Table → Head → Answer → Outcome
 outcomeWith nodes edges faces h a = record { lent = lentNow nodes edges faces h; answer = a }
+
+-- what was found of two numbers, as one answer
+abbrev pub endRows : Found → Found → EndRows
+endRows (At u) (At v) = Both u v
+endRows (At u) Missing = NotBoth
+endRows Missing f = NotBoth
 
 -- document 01's number for the answer of a lookup: 4 a named row is missing
 abbrev pub lookupRefusal : Found → ℕ

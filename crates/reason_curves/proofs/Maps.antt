@@ -1,15 +1,14 @@
--- Tests of points and curves, which look at the nodes alone or at the edges alone, and reasons against a curve sent, in
--- the map's terms. Assumes nothing.
+-- Tests of points and curves, which look at the nodes alone or at the edges alone, and reasons against a curve, in the
+-- map's terms. Assumes nothing.
 use mathlib.Core.Path.{_≡_}
 use mathlib.Core.Option.{some}
 use mathlib.Core.List.{List}
 use Prim.Native.Nat.{ℕ}
-use lib.IntN.{ℤ}
 use Rattle.plane.specs.declared.Point.{Point}
 use Rattle.curves.specs.Curves.{Curve}
 use Rattle.map.specs.Rows.{Node, Edge, Map, findNode, node}
 use Rattle.map.specs.Reasons.{nodeInside, meetingReasons, curveReasons}
-use Rattle.reason_curves.specs.Sent.{sentReasons}
+use Rattle.reason_curves.specs.Sent.{curveReasonsAt}
 
 -- a row that is found is the row
 pub node-is : (m : Map) (k : ℕ) (r : Node) → findNode m k ≡ some r → node m k ≡ r
@@ -26,7 +25,7 @@ module _ (m m′ : Map) where
       ≡ meetingReasons m′ es′ c
   meeting-alike c e f = rw (inside-alike c e, f)
 
--- a curve sent between two nodes
-pub sent-is : (m : Map) (sent : List ℤ) (u v : ℕ) {p q : Point} → node m u .at ≡ p → node m v .at ≡ q
-    → sentReasons sent p q ≡ curveReasons m sent u v
-sent-is m sent u v e f = rw (e, f)
+-- a curve between two nodes
+pub curve-reasons-at : (m : Map) (c : Curve) (u v : ℕ) {p q : Point} → node m u .at ≡ p → node m v .at ≡ q
+    → curveReasonsAt c p q ≡ curveReasons m c u v
+curve-reasons-at m c u v e f = rw (e, f)

@@ -1,2 +1,2 @@
--- `Sent`: reasons as the functions are asked for them, by points and rows.
+-- `Sent`: a curve read from a ticket, and reasons as the functions are asked for them, by points and rows.
 pub mod Sent

@@ -1,5 +1,6 @@
 // The tests behind the reasons that look at points and curves alone: 5 to 8, 10, 14, 23, 15 and 24.
 use bounding_boxes::Extent;
+use curve_edits::Line;
 use lists::Found;
 use map::Map;
 use plane::Contact;
@@ -16,7 +17,7 @@ ghost use Rattle.bounding_boxes.specs.Extents.{extentOf};
 ghost use Rattle.map.specs.Reasons.{firstReason, edgeThrough, isEnd, nodeInside, edgeMeeting, contactReason};
 ghost use Rattle.map.specs.Reasons.{meetingReasons};
 ghost use Rattle.map_rows.specs.Rows.{NodeRow, NodeRows, EdgeRow, EdgeRows, nodeAt, edgeAt, nodeMap, edgeMap};
-ghost use Rattle.reason_curves.specs.Sent.{sentReasons, edgesBut};
+ghost use Rattle.reason_curves.specs.Sent.{withoutCurve, curveRead, curveReasonsAt, edgesBut};
 
 // ---- 5: coordinate out of range
 
@@ -54,7 +55,41 @@ fn last_point(c: &[i64]) -> Point
     curves::point_at(c, curves::point_count(c) - 1)
 }
 
-// ---- 5 to 8: a curve sent from node row u to node row v
+// ---- 5 and 6: the points sent
+
+// The curve of a ticket, without surplus points, or the first reason, 5 or 6, against the points sent, and no point.
+pub struct CurveRead {
+    pub reason: u64,
+    pub line: Line,
+}
+
+// No curve, for a reason.
+fn without_curve(reason: u64) -> CurveRead
+    ensures { λ r. ⌜ r ≡ withoutCurve reason ⌝ }
+{
+    CurveRead {
+        reason,
+        line: Line::empty(),
+    }
+}
+
+// Reads the curve of a ticket: 5 and 6 go by the points sent, all that comes after by the points left.
+pub fn read_curve(sent: &[i64]) -> CurveRead
+    ensures { λ r. ⌜ r ≡ curveRead (now (sent .entry)) ⌝ }
+{
+    if !curves::is_run(sent) {
+        return without_curve(5);
+    }
+    if !curves::neighbours_differ(sent) {
+        return without_curve(6);
+    }
+    CurveRead {
+        reason: 0,
+        line: curve_edits::without_surplus(sent),
+    }
+}
+
+// ---- 7 and 8: a curve from node row u to node row v
 
 // Whether the curve runs from the point of node row u to that of node row v.
 fn ends_on(nodes: &[i64], u: usize, v: usize, c: &[i64]) -> bool
@@ -68,19 +103,13 @@ fn ends_on(nodes: &[i64], u: usize, v: usize, c: &[i64]) -> bool
     starts & ends
 }
 
-// The first reason, of 5 to 8, against a curve sent from node row u to node row v; 0 for none.
+// The first reason, 7 or 8, against a curve from node row u to node row v; 0 for none.
 pub fn curve_reason(nodes: &[i64], u: usize, v: usize, c: &[i64]) -> u64
-    requires { ⌜ NodeRow (now nodes) u × NodeRow (now nodes) v ⌝ }
+    requires { ⌜ NodeRow (now nodes) u × NodeRow (now nodes) v × Run (now c) ⌝ }
     ensures { λ r. ⌜
-        r ≡ firstReason (sentReasons (now (c .entry))
+        r ≡ firstReason (curveReasonsAt (curveOf (now (c .entry)))
         (nodeAt (now (nodes .entry)) u .at) (nodeAt (now (nodes .entry)) v .at)) ⌝ }
 {
-    if !curves::is_run(c) {
-        return 5;
-    }
-    if !curves::neighbours_differ(c) | curves::has_straight_point(c) {
-        return 6;
-    }
     if !curves::is_simple(c) {
         return 7;
     }

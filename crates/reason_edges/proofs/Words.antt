@@ -1,10 +1,10 @@
 -- The lower of two faces, and a row that is found. Assumes nothing.
-use mathlib.Core.Path.{_≡_, refl, ap}
-use mathlib.Core.Bool.{true, false, not, _&&_}
+use mathlib.Core.Path.{_≡_, refl}
+use mathlib.Core.Bool.{false, not, _&&_}
 use Prim.Native.Nat.{ℕ, zero, suc, min}
 use native.Mathlib.Nat.{zero-min, min-zero, suc-min-suc}
 use native.Mathlib.Omega.{arith}
-use Rattle.lists.specs.Tests.{same, bit}
+use Rattle.lists.specs.Tests.{same}
 use Rattle.lists.specs.declared.Found.{Found}
 use Rattle.lists.specs.declared.Found.the-variants.{At, Missing}
 use Rattle.lists.proofs.Bools.{same-refl, same-false, &&-false}
@@ -23,6 +23,3 @@ lower-zero (suc a) (suc b) = rw (suc-min-suc a b, some a, some b, some (min a b)
 pub row-there : (x : Found) → (x ≡ Missing → ⊥) → x ≡ At (rowFound x)
 row-there (At i) there = refl
 row-there Missing there = absurd (there refl)
-
-pub true-false : true ≡ false → ⊥
-true-false e = omega (arith, ap bit e)

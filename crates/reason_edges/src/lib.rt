@@ -1,4 +1,4 @@
-// The reasons against kinds 11 to 14, in order, and what is known of the edge where none holds.
+// The reasons against kinds 11 and 12 from 7 on and against 13 and 14, in order, and what is known where none holds.
 use lists::Found;
 use map::Counts;
 use map::Head;
@@ -9,6 +9,7 @@ ghost use Prim.Native.Nat.{_+_, _<_};
 ghost use lib.IntN.{natAbs};
 ghost use lib.Signed.{nonNeg};
 ghost use Rattle.lists.specs.Tests.{bit};
+ghost use Rattle.curves.specs.Curves.{Run, curveOf};
 ghost use Rattle.map.specs.Rows.{mapOf, counts};
 ghost use Rattle.map.specs.Reasons.{firstReason};
 ghost use Rattle.map.specs.Loans.{lentNow};
@@ -16,14 +17,12 @@ ghost use Rattle.map_rows.specs.Rows.{EdgeRow, nodeAt, edgeAt};
 ghost use Rattle.head.specs.Heads.{Counted, sizesIn, roomAt};
 ghost use Rattle.outcomes.specs.Outcomes.{Formed};
 ghost use Rattle.reason_edges.specs.Parts.{drawingReasons, makesSecond, makesOf, faceReasons};
-ghost use Rattle.reason_edges.specs.Judging.{turnedDown, judgedRows, judgedAdd, removalRefused, judgedRemoval};
+ghost use Rattle.reason_edges.specs.Judging.{turnedDown, judgedAdd, removalRefused, judgedRemoval};
 
-// The first reason against a new edge; where it is 0, the rows of its nodes, its corner face, and whether that is
-// split, and else zeros.
+// The first reason from 7 on against a new edge; where it is 0, its corner face, and whether that is split, and else
+// zeros.
 pub struct Judged {
     pub reason: u64,
-    pub start: usize,
-    pub end: usize,
     pub face: i64,
     pub splits: bool,
 }
@@ -51,8 +50,6 @@ fn turned_down(reason: u64) -> Judged
 {
     Judged {
         reason,
-        start: 0,
-        end: 0,
         face: 0,
         splits: false,
     }
@@ -71,7 +68,7 @@ fn removal_refused(reason: u64) -> Removal
 
 // ---- kinds 11 and 12
 
-// The first reason before 20, of an edge from node row u to node row v; 0 for none.
+// The first reason from 7 on and before 20, of an edge along the curve from node row u to node row v; 0 for none.
 fn drawing_reason(
     nodes: &[i64],
     edges: &[i64],
@@ -81,10 +78,12 @@ fn drawing_reason(
     v: usize,
     c: &[i64],
 ) -> u64
-    requires { ⌜ Formed (now nodes) (now edges) (now faces) h × (u < natAbs (h .nodes)) × (v < natAbs (h .nodes)) ⌝ }
+    requires { ⌜ Formed (now nodes) (now edges) (now faces) h × (u < natAbs (h .nodes)) × (v < natAbs (h .nodes))
+        × Run (now c) ⌝ }
     ensures { λ r. ⌜ r ≡ firstReason (drawingReasons
         (mapOf (lentNow (nodes .entry) (edges .entry) (faces .entry) h))
-        (nodeAt (now (nodes .entry)) u .number) (nodeAt (now (nodes .entry)) v .number) (now (c .entry))) ⌝ }
+        (nodeAt (now (nodes .entry)) u .number) (nodeAt (now (nodes .entry)) v .number)
+        (curveOf (now (c .entry)))) ⌝ }
 {
     let n = head::to_usize(h.nodes);
     let e = head::to_usize(h.edges);
@@ -135,8 +134,9 @@ fn room_reason(
     head::room_reason(head::sizes_of(nodes, edges, faces), h, rows, given)
 }
 
-// From 5 on, of an edge from node row u to node row v.
-fn judge_rows(
+// Judges kinds 11 and 12 along the curve from node row u to node row v: the first reason from 7 on, and what the edit
+// needs to know where there is none.
+pub fn judge_add(
     nodes: &[i64],
     edges: &[i64],
     faces: &[i64],
@@ -146,8 +146,9 @@ fn judge_rows(
     v: usize,
     c: &[i64],
 ) -> Judged
-    requires { ⌜ Formed (now nodes) (now edges) (now faces) h × (u < natAbs (h .nodes)) × (v < natAbs (h .nodes)) ⌝ }
-    ensures { λ r. ⌜ r ≡ judgedRows how (now (nodes .entry)) (now (edges .entry)) (now (faces .entry)) h u v
+    requires { ⌜ Formed (now nodes) (now edges) (now faces) h × (u < natAbs (h .nodes)) × (v < natAbs (h .nodes))
+        × Run (now c) ⌝ }
+    ensures { λ r. ⌜ r ≡ judgedAdd how (now (nodes .entry)) (now (edges .entry)) (now (faces .entry)) h u v
         (now (c .entry)) ⌝ }
 {
     let reason = drawing_reason(nodes, edges, faces, h, u, v, c);
@@ -164,38 +165,9 @@ fn judge_rows(
     }
     Judged {
         reason: 0,
-        start: u,
-        end: v,
         face,
         splits,
     }
-}
-
-// Judges kinds 11 and 12: the first reason against them, and what the edit needs to know where there is none.
-pub fn judge_add(
-    nodes: &[i64],
-    edges: &[i64],
-    faces: &[i64],
-    h: Head,
-    how: Variant,
-    start: i64,
-    end: i64,
-    c: &[i64],
-) -> Judged
-    requires { ⌜ Formed (now nodes) (now edges) (now faces) h ⌝ }
-    ensures { λ r. ⌜ r ≡ judgedAdd how (now (nodes .entry)) (now (edges .entry)) (now (faces .entry)) h start end
-        (now (c .entry)) ⌝ }
-{
-    let n = head::to_usize(h.nodes);
-    let found = tables::find_row(nodes, map::NODE_WIDTH, n, start);
-    let Found::At(u) = found else {
-        return turned_down(4);
-    };
-    let found_end = tables::find_row(nodes, map::NODE_WIDTH, n, end);
-    let Found::At(v) = found_end else {
-        return turned_down(4);
-    };
-    judge_rows(nodes, edges, faces, h, how, u, v, c)
 }
 
 // ---- kinds 13 and 14

@@ -133,7 +133,6 @@ fn answer_curves(c: &[i64], d: &[i64], p: Point)
     requires { ⌜ Run (now c) × Run (now d) × InRange p ⌝ }
 {
     put_bool(curves::neighbours_differ(c));
-    put_bool(curves::has_straight_point(c));
     put_bool(curves::is_simple(c));
     let found = curves::first_place(c, p);
     match found {
@@ -174,6 +173,7 @@ fn answer_lines(c: &[i64], d: &[i64], p: Point)
     put_line(curve_edits::front_of(c, p));
     put_line(curve_edits::back_of(c, p));
     put_line(curve_edits::joined_of(c, d));
+    put_line(curve_edits::without_surplus(c));
     put_line(curve_edits::reversed_of(c));
 }
 

@@ -26,7 +26,7 @@ row-of-requires c κs =
       rw n (node-rows (s .pre .0)),
       ap nonNeg q,
       ap₂ (λ (k : ℕ) (z : ℤ). hasNode (nodeMap (a .nodes .now) k) (natAbs z)) n q
-          ∙ start-there (s .pre .0) (a .c .now) (a .i) (s .pre .1),
+          ∙ start-there (s .pre .0) (a .i) (s .pre .1),
     )
 
 row-of-requires-2 : tie.Need-row-of-requires-2
@@ -38,7 +38,7 @@ row-of-requires-2 c κs =
       rw n (node-rows (s .pre .0)),
       ap nonNeg q,
       ap₂ (λ (k : ℕ) (z : ℤ). hasNode (nodeMap (a .nodes .now) k) (natAbs z)) n q
-          ∙ end-there (s .pre .0) (a .c .now) (a .i) (s .pre .1),
+          ∙ end-there (s .pre .0) (a .i) (s .pre .1),
     )
 
 change-between-requires : tie.Need-change-between-requires

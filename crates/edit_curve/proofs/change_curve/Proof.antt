@@ -32,9 +32,9 @@ missing c =
     let m = c .before .before .before in
     let s = m .before .before .before .before in
     let a = s .args in
-    edited-refused (a .nodes .now) (a .edges .now) (a .faces .now) (a .h) (ChangeEdgeGeom (a .edge) (a .c .now))
+    edited-refused (a .nodes .now) (a .edges .now) (a .faces .now) (a .h) (ChangeEdgeGeom (a .edge) (a .sent .now))
     4 (lit< tt) (c .refused .ensures)
-    (change-missing (s .pre) (a .c .now) (a .edge) (place-told edgeWidth (a .edges .now)
+    (change-missing (s .pre) (a .edge) (a .sent .now) (place-told edgeWidth (a .edges .now)
     (edges-read (counted (s .pre)) (m .before .before .to-usize .ensures)) (toZ-ofZ {w = w64} (s .fits .edge))
     (m .find-row .ensures) (c .before .enum-told .given .1)))
 
@@ -60,7 +60,7 @@ found c =
     let a = s .args in
     c .before .change-at-row .ensures
     ∙ ap (λ (z : ℤ). edited (lent (a .nodes .now) (a .edges .now) (a .faces .now) (a .h))
-    (ChangeEdgeGeom z (a .c .now)))
+    (ChangeEdgeGeom z (a .sent .now)))
     (sym (edge-number (s .pre) (a .edge) (d .found .given .0 .0) (edge-at d)))
 
 pub change-curve-spec : {M : Type 1} → statement M

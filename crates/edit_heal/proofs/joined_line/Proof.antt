@@ -5,17 +5,18 @@ use native.Mathlib.Omega.{arith}
 use Rattle.curves.specs.Curves.{Curve, points}
 use Rattle.curves.specs.Edits.{joined}
 use Rattle.curve_edits.specs.Lines.{lineOf}
+use Rattle.map_rows.proofs.Lines.{LineRead}
 use Rattle.edit_heal.specs.Heals.{courseAt}
-use Rattle.edit_heal.proofs.Courses.{CourseLine, course-line}
+use Rattle.edit_heal.proofs.Courses.{course-line}
 use Rattle.edit_heal.proofs.joined_line.Statement.{statement}
 use Rattle.edit_heal.proofs.joined_line.Tie as tie
 
 first : (c : tie.After-course-of)
-    → let a = c .before .args in CourseLine (c .course-of .result) (courseAt (a .edges .now) (a .p))
+    → let a = c .before .args in LineRead (c .course-of .result) (courseAt (a .edges .now) (a .p))
 first c = let s = c .before in course-line _ (s .args .p) _ (s .pre .0) (c .course-of .ensures)
 
 second : (c : tie.After-course-of2)
-    → let a = c .before .before .args in CourseLine (c .course-of2 .result) (courseAt (a .edges .now) (a .q))
+    → let a = c .before .before .args in LineRead (c .course-of2 .result) (courseAt (a .edges .now) (a .q))
 second c = let s = c .before .before in course-line _ (s .args .q) _ (s .pre .1) (c .course-of2 .ensures)
 
 returns : tie.Need-returns

@@ -1,94 +1,61 @@
--- `edit_isolated::add_at_rows` meets its contract: the first reason is answered, and else the edge is drawn. Assumes
--- nothing.
+-- `edit_isolated::add_at_rows` meets its contract: 5 and 6 go by the points sent, and the rest by what is left of them.
+-- Assumes nothing.
 use borrow.Author.Needs.{needs}
-use mathlib.Core.Path.{_≡_, sym, ap, _∙_}
+use mathlib.Core.Path.{ap, _∙_}
+use Prim.Native.Nat.{_<_}
 use native.Mathlib.Omega.{arith}
 use lib.IntN.{pos}
-use lib.Signed.{nonNeg}
-use Rattle.integers.specs.Signs.{sent}
-use Rattle.map.specs.Rows.{mapOf, sizesOf, lent}
+use Rattle.map.specs.Rows.{lent}
 use Rattle.map.specs.Tickets.{AddIsoEdge}
-use Rattle.map.specs.Reasons.{firstReason, reasons}
 use Rattle.map_rows.specs.Rows.{nodeAt}
-use Rattle.map_rows.proofs.Rows.{node-row-of}
-use Rattle.outcomes.proofs.Formed.{node-rows, edge-next, edited-refused, edited-carried}
-use Rattle.outcomes.proofs.Words.{count-read}
-use Rattle.edge_rows.proofs.Formed.{held}
-use Rattle.edit_isolated.proofs.IsolatedReasons.{isolated-free}
-use Rattle.edit_isolated.proofs.Added.{add-reasons, add-lent, add-value}
+use Rattle.reason_curves.proofs.Left.{ReadLine, read-line, read-refused}
+use Rattle.outcomes.proofs.Formed.{edited-refused}
+use Rattle.edit_isolated.specs.Isolated.{isolatedAlong}
+use Rattle.edit_isolated.proofs.Added.{add-refused, add-left}
 use Rattle.edit_isolated.proofs.add_at_rows.Statement.{statement}
 use Rattle.edit_isolated.proofs.add_at_rows.Tie as tie
-
-first : (c : tie.After-isolated-reason)
-    → let a = c .before .before .before .args in
-    let l = lent (a .nodes .now) (a .edges .now) (a .faces .now) (a .h) in
-    firstReason (reasons (sizesOf l) (mapOf l) (AddIsoEdge (pos (nodeAt (a .nodes .now) (a .u) .number))
-    (pos (nodeAt (a .nodes .now) (a .v) .number)) (a .c .now))) ≡ c .isolated-reason .result
-first c =
-    let s = c .before .before .before in
-    let a = s .args in
-    add-reasons (s .pre .0) (a .c .now) (a .u) (a .v) (s .pre .1) (s .pre .2) ∙ sym (c .isolated-reason .ensures)
 
 refused : tie.Need-returns
 refused c =
     let g = c .before .before in
-    let a = g .before .before .before .args in
+    let s = g .before in
+    let a = s .args in
+    let p = s .pre in
+    let r = g .read-curve .result in
+    let taken = c .before .if1 .taken in
+    let some : 0 < r .reason = omega arith in
     edited-refused (a .nodes .now) (a .edges .now) (a .faces .now) (a .h)
-    (AddIsoEdge (pos (nodeAt (a .nodes .now) (a .u) .number)) (pos (nodeAt (a .nodes .now) (a .v) .number)) (a .c .now))
-    (g .isolated-reason .result) (let d = c .before .if1 .taken in omega arith) (c .refused .ensures) (first g)
+    (AddIsoEdge (pos (nodeAt (a .nodes .now) (a .u) .number)) (pos (nodeAt (a .nodes .now) (a .v) .number))
+    (a .sent .now)) (r .reason) some (c .refused .ensures)
+    (add-refused (p .0) (a .u) (a .v) (p .1) (p .2) (a .sent .now) (r .reason) some
+    (read-refused (a .sent .now) r (g .read-curve .ensures)))
 
-face-of-requires : tie.Need-face-of-requires
-face-of-requires c κs =
-    let g = c .before .before .before in
-    let s = g .before .before .before in
-    let a = s .args in
-    let free = isolated-free (a .nodes .now) (a .edges .now) (a .faces .now) (a .h) (a .u) (a .v) (a .c .now)
-    (sym (g .isolated-reason .ensures) ∙ c .before .before .if1 .left) in
-    (node-row-of (node-rows (s .pre .0)) (a .u) (s .pre .1), free .1)
-
-draw-requires : tie.Need-draw-requires
-draw-requires c κs =
-    let x = c .before .before .face-of in
-    let g = c .before .before .before .before .before .before in
-    let s = g .before .before .before in
-    let a = s .args in
-    let free = isolated-free (a .nodes .now) (a .edges .now) (a .faces .now) (a .h) (a .u) (a .v) (a .c .now)
-    (sym (g .isolated-reason .ensures) ∙ c .before .before .before .before .before .if1 .left) in
-    record {
-      held = held (s .pre .0);
-      start = s .pre .1;
-      end = s .pre .2;
-      run = free .0;
-      room = free .2;
-      number = free .3;
-      natural = ap nonNeg (sent (x .ok) ∙ x .ensures);
-    }
+-- what is left of the points sent
+left : (c : tie.Else1) → ReadLine (c .before .read-curve .result .line) (c .before .before .args .sent .now)
+left c = read-line (c .before .before .args .sent .now) (c .before .read-curve .result) (c .before .read-curve .ensures)
+    (c .if1 .left)
 
 drawn : tie.Need-returns-2
 drawn c =
-    let d = c .before .before .before .draw in
-    let x = c .before .before .before .before .before .before .face-of in
-    let g = c .before .before .before .before .before .before .before .before .before .before in
-    let s = g .before .before .before in
+    let e = c .before .before .before .before .before .before .before .before .before .before in
+    let s = e .before .before in
     let a = s .args in
-    let f = s .pre .0 in
-    let k = edge-next f in
-    let start = pos (nodeAt (a .nodes .now) (a .u) .number) in
-    let end = pos (nodeAt (a .nodes .now) (a .v) .number) in
-    edited-carried (a .nodes .now) (a .edges .now) (a .faces .now) (a .h) (AddIsoEdge start end (a .c .now))
-    (d .last .0) (d .last .1 .0) (a .faces .now) (d .result) _ (c .carried .ensures)
-    (first g ∙ c .before .before .before .before .before .before .before .before .before .if1 .left)
-    (add-lent f (a .c .now) (a .u) (a .v) (s .pre .1) (s .pre .2) (sent (x .ok) ∙ x .ensures) (d .ensures))
-    (add-value f start end (a .c .now) ∙ k .0 ∙ sym (count-read (a .h .«next_edge») (k .0) (k .2)))
+    let p = s .pre in
+    c .before .before .add-along .ensures
+    ∙ ap (isolatedAlong (lent (a .nodes .now) (a .edges .now) (a .faces .now) (a .h))
+    (nodeAt (a .nodes .now) (a .u) .number) (nodeAt (a .nodes .now) (a .v) .number)) (left e .curve)
+    ∙ add-left (p .0) (a .u) (a .v) (p .1) (p .2) (a .sent .now) (left e .passed)
 
 pub add-at-rows-spec : {M : Type 1} → statement M
 add-at-rows-spec =
     tie.close
     (tie.spec
-    (λ c κs. let s = c .before .before in (held (s .pre .0), s .pre .1, s .pre .2))
-    (λ c κs. search needs) (λ c. search needs) (λ c. search needs)
+    (λ c κs. search needs) (λ c κs. search needs)
     refused
-    face-of-requires
-    draw-requires
-    (λ c κs. search needs) (λ c. search needs) (λ c. search needs)
+    (λ c. omega (arith, left (c .before .before .before) .few))
+    (λ c. search needs) (λ c. search needs)
+    (λ c. let k = left (c .before .before .before .before .before .before) in omega (arith, k .few, k .long))
+    (λ c κs. let e = c .before .before .before .before .before .before .before in let p = e .before .before .pre in
+    (p .0, p .1, p .2, left e .left .run))
+    (λ c. search needs) (λ c. search needs)
     drawn)

@@ -1,26 +1,27 @@
 -- `edit_isolated::isolated_reason` meets its contract: each test answers its reason, in order. Assumes nothing.
 use mathlib.Core.Path.{_≡_, sym, _∙_}
+use Rattle.curves.specs.Curves.{curveOf}
 use Rattle.map.specs.Reasons.{firstReason}
 use Rattle.map_rows.specs.Rows.{nodeAt}
 use Rattle.map_rows.proofs.Rows.{node-row-of}
-use Rattle.reason_curves.specs.Sent.{sentReasons}
-use Rattle.edge_rows.proofs.FirstReasons.{sent-run}
-use Rattle.edit_isolated.proofs.IsolatedReasons.{isolated-sent, isolated-joined, both-isolated, isolated-apart}
+use Rattle.reason_curves.specs.Sent.{curveReasonsAt}
+use Rattle.edit_isolated.proofs.IsolatedReasons.{isolated-ends, isolated-joined, both-isolated, isolated-apart}
 use Rattle.edit_isolated.proofs.IsolatedReasons.{isolated-late}
 use Rattle.edit_isolated.proofs.isolated_reason.Statement.{statement}
 use Rattle.edit_isolated.proofs.isolated_reason.Tie as tie
 
-sent : tie.Need-returns
-sent c =
+ends : tie.Need-returns
+ends c =
     let a = c .before .before .args in
-    isolated-sent (a .nodes .now) (a .edges .now) (a .faces .now) (a .h) (a .u) (a .v) (a .c .now)
+    isolated-ends (a .nodes .now) (a .edges .now) (a .faces .now) (a .h) (a .u) (a .v) (a .c .now)
     (c .before .curve-reason .ensures)
     (c .if1 .taken)
 
 -- none of the curve's own reasons
 own : (c : tie.Else1)
     → let a = c .before .before .args in
-    firstReason (sentReasons (a .c .now) (nodeAt (a .nodes .now) (a .u) .at) (nodeAt (a .nodes .now) (a .v) .at)) ≡ 0
+    firstReason (curveReasonsAt (curveOf (a .c .now))
+    (nodeAt (a .nodes .now) (a .u) .at) (nodeAt (a .nodes .now) (a .v) .at)) ≡ 0
 own c = sym (c .before .curve-reason .ensures) ∙ c .if1 .left
 
 joined : tie.Need-returns-2
@@ -63,13 +64,12 @@ isolated-reason-spec =
     tie.close
     (tie.spec
     (λ c κs. let p = c .pre in let t = p .0 .node-table .rows in
-    (node-row-of t (c .args .u) (p .1), node-row-of t (c .args .v) (p .2)))
-    sent
+    (node-row-of t (c .args .u) (p .1), node-row-of t (c .args .v) (p .2), p .3))
+    ends
     (λ c κs. let s = c .before .before in let p = s .pre in let t = p .0 .node-table .rows in
     (node-row-of t (s .args .u) (p .1), node-row-of t (s .args .v) (p .2)))
     joined
     faces-differ-requires
     apart
-    (λ c κs. let e = c .before .before .before .before in let s = e .before .before in
-    (s .pre .0, sent-run (s .args .c .now) _ (own e)))
+    (λ c κs. let p = c .before .before .before .before .before .before .pre in (p .0, p .3))
     late)

@@ -19,7 +19,7 @@ use Rattle.planar_maps.proofs.Rings.{rev-in}
 use Rattle.planar_maps.proofs.Turns.{rev-rev}
 use Rattle.tables.proofs.Tests.{within-least}
 use Rattle.plane.specs.declared.Point.{Point}
-use Rattle.curves.specs.Curves.{points, point, curveOf, maxPoints}
+use Rattle.curves.specs.Curves.{points, point, maxPoints}
 use Rattle.curves.specs.Edits.{front, back}
 use Rattle.rotation.specs.Law.{from}
 use Rattle.rotation.proofs.Node.{lawful-in}
@@ -33,7 +33,7 @@ use Rattle.map.specs.Form.{inForm}
 use Rattle.map.specs.Tickets.{Ticket, AddIsoNode, MoveIsoNode, RemoveIsoNode, AddIsoEdge, RemoveIsoEdge, ChangeEdgeGeom}
 use Rattle.map.specs.Tickets.{NewEdgesSplit, ModEdgeSplit, NewEdgeHeal, ModEdgeHeal, AddEdgeNewFaces, AddEdgeModFace}
 use Rattle.map.specs.Tickets.{RemEdgeNewFace, RemEdgeModFace, read}
-use Rattle.map.specs.Reasons.{firstReason, reasons}
+use Rattle.map.specs.Reasons.{firstReason, reasons, curveIn}
 use Rattle.map.specs.Ticket.{carried, lentReasons, unless, judged, ticket}
 use Rattle.map.proofs.RoundTrip.{Holds, reads-back, ranged-is}
 use Rattle.map.proofs.Reasons.{first-zero}
@@ -99,12 +99,12 @@ module _ (s : Sizes) (m : Map) (L : Lawful m) (one : 1 ≤ m .next .edges)
   carried-sheet (AddIsoNode f x y) h = by-lines (addIsoNode-becomes (point x y) m .lines) sheet
   carried-sheet (MoveIsoNode n x y) h = by-lines (moveIsoNode-becomes (natAbs n) (point x y) m .lines) sheet
   carried-sheet (RemoveIsoNode n) h = by-lines (removeIsoNode-becomes (natAbs n) m .lines) sheet
-  carried-sheet (AddIsoEdge u v c) h = by-lines (addIsoEdge-becomes (natAbs u) (natAbs v) (curveOf c) m .lines)
+  carried-sheet (AddIsoEdge u v c) h = by-lines (addIsoEdge-becomes (natAbs u) (natAbs v) (curveIn c) m .lines)
       (sheet-more sheet _ refl one (facts.add-lone s m u v c h .sent .most))
   carried-sheet (RemoveIsoEdge e) h = by-lines (removeIsoEdge-becomes (natAbs e) m .lines) (sheet-less sheet (natAbs e))
   carried-sheet (ChangeEdgeGeom e c) h =
-      by-lines (changeEdgeGeom-becomes (natAbs e) (curveOf c) m .lines)
-      (sheet-at sheet (natAbs e) (redrawn (curveOf c)) (λ l q. q) (λ l. facts.change s m e c h .sent .most))
+      by-lines (changeEdgeGeom-becomes (natAbs e) (curveIn c) m .lines)
+      (sheet-at sheet (natAbs e) (redrawn (curveIn c)) (λ l q. q) (λ l. facts.change s m e c h .sent .most))
   carried-sheet (NewEdgesSplit e x y) h =
       let k = few-halves New (natAbs e) (point x y) (facts.split-new s m e x y h) in
       let a = firstHalf (lineOf (edge m (natAbs e))) (m .next .nodes) (m .next .edges) (point x y) in
@@ -126,10 +126,10 @@ module _ (s : Sizes) (m : Map) (L : Lawful m) (one : 1 ≤ m .next .edges)
       (sheet-less (sheet-at sheet (natAbs e) (λ l. healedRow (natAbs e) (natAbs e) (natAbs f) m) (λ l q. refl)
       (λ l. facts.heal-mod s m e f h .most)) (natAbs f))
   carried-sheet (AddEdgeNewFaces u v c) h =
-      by-lines (addEdge-becomes New (natAbs u) (natAbs v) (curveOf c) m .lines)
+      by-lines (addEdge-becomes New (natAbs u) (natAbs v) (curveIn c) m .lines)
       (sheet-more sheet _ refl one (facts.add-new s m u v c h .sent .most))
   carried-sheet (AddEdgeModFace u v c) h =
-      by-lines (addEdge-becomes Mod (natAbs u) (natAbs v) (curveOf c) m .lines)
+      by-lines (addEdge-becomes Mod (natAbs u) (natAbs v) (curveIn c) m .lines)
       (sheet-more sheet _ refl one (facts.add-mod s m u v c h .sent .most))
   carried-sheet (RemEdgeNewFace e) h = by-lines (removeEdge-becomes New (natAbs e) m .lines)
       (sheet-less sheet (natAbs e))

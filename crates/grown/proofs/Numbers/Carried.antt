@@ -7,7 +7,7 @@ use lib.IntN.{natAbs}
 use lib.ListN.{length-map}
 use Rattle.lists.specs.Tests.{bit}
 use Rattle.plane.specs.declared.Point.{Point}
-use Rattle.curves.specs.Curves.{Curve, point, curveOf}
+use Rattle.curves.specs.Curves.{Curve, point}
 use Rattle.map.specs.declared.Variant.{Variant}
 use Rattle.map.specs.declared.Variant.the-variants.{New, Mod}
 use Rattle.map.specs.Rows.{Map, Sizes, hasEdge}
@@ -15,7 +15,7 @@ use Rattle.map.specs.Tickets.{Ticket, AddIsoNode, MoveIsoNode, RemoveIsoNode, A
 use Rattle.map.specs.Tickets.{NewEdgesSplit, ModEdgeSplit, NewEdgeHeal, ModEdgeHeal, AddEdgeNewFaces, AddEdgeModFace}
 use Rattle.map.specs.Tickets.{RemEdgeNewFace, RemEdgeModFace}
 use Rattle.map.specs.Edits.{isMod, split, heal, addEdge, makesFace, removeEdge}
-use Rattle.map.specs.Reasons.{firstReason, reasons}
+use Rattle.map.specs.Reasons.{firstReason, reasons, curveIn}
 use Rattle.map.specs.Ticket.{carried}
 use Rattle.map_laws.proofs.Reasons.{Room, Supply, Split, Heal, AddEdge, add-node, move-node, add-lone, remove-lone}
 use Rattle.map_laws.proofs.Reasons.{split-new, split-mod, heal-new, heal-mod, add-new, add-mod, remove-new, remove-mod}
@@ -107,21 +107,21 @@ module _ (s : Sizes) (m : Map) (g : Good m) where
       (remove-node-taken (natAbs n) m) (enough (g .numbered)) (λ p. (no-more p))
   kept (AddIsoEdge u v c) h =
       let k = add-lone s m u v c h in
-      keeps (add-lone-ranked (natAbs u) (natAbs v) (curveOf c) m (k .has-start) (ranks m g))
-      (add-lone-taken (natAbs u) (natAbs v) (curveOf c) m) (k .supply) (λ p. (k .room))
+      keeps (add-lone-ranked (natAbs u) (natAbs v) (curveIn c) m (k .has-start) (ranks m g))
+      (add-lone-taken (natAbs u) (natAbs v) (curveIn c) m) (k .supply) (λ p. (k .room))
   kept (RemoveIsoEdge e) h =
       let k = remove-lone s m e h in
       keeps (remove-lone-ranked m (natAbs e) (k .has) (ranks m g))
       (remove-lone-taken (natAbs e) m) (enough (g .numbered)) (λ p. (no-more p))
   kept (ChangeEdgeGeom e c) h =
-      keeps (change-ranked m (natAbs e) (curveOf c) (ranks m g))
-      (change-taken (natAbs e) (curveOf c) m) (enough (g .numbered)) (λ p. (no-more p))
+      keeps (change-ranked m (natAbs e) (curveIn c) (ranks m g))
+      (change-taken (natAbs e) (curveIn c) m) (enough (g .numbered)) (λ p. (no-more p))
   kept (NewEdgesSplit e x y) h = split-kept New (natAbs e) (point x y) (split-new s m e x y h)
   kept (ModEdgeSplit e x y) h = split-kept Mod (natAbs e) (point x y) (split-mod s m e x y h)
   kept (NewEdgeHeal e f) h = let k = heal-new s m e f h in heal-kept New (natAbs e) (natAbs f) (k .0) (k .1)
   kept (ModEdgeHeal e f) h = heal-kept Mod (natAbs e) (natAbs f) (heal-mod s m e f h) (enough (g .numbered))
-  kept (AddEdgeNewFaces u v c) h = add-kept New (natAbs u) (natAbs v) (curveOf c) (add-new s m u v c h)
-  kept (AddEdgeModFace u v c) h = add-kept Mod (natAbs u) (natAbs v) (curveOf c) (add-mod s m u v c h)
+  kept (AddEdgeNewFaces u v c) h = add-kept New (natAbs u) (natAbs v) (curveIn c) (add-new s m u v c h)
+  kept (AddEdgeModFace u v c) h = add-kept Mod (natAbs u) (natAbs v) (curveIn c) (add-mod s m u v c h)
   kept (RemEdgeNewFace e) h = let k = remove-new s m e h in remove-kept New (natAbs e) (k .has) (k .supply)
   kept (RemEdgeModFace e) h =
       remove-kept Mod (natAbs e) (remove-mod s m e h) (no-face (natAbs e) (enough (g .numbered)))

@@ -5,16 +5,16 @@ use Prim.Native.Nat.{_<_}
 use native.Mathlib.Omega.{arith}
 use lib.IntN.{natAbs}
 use Rattle.integers.specs.Signs.{sent}
-use Rattle.curves.specs.Curves.{Run, curveOf}
+use Rattle.curves.specs.Curves.{curveOf}
 use Rattle.map.specs.Rows.{mapOf, lent}
 use Rattle.map.specs.Reasons.{firstReason, directionTaken}
 use Rattle.map_rows.specs.Rows.{nodeAt, edgeMap}
 use Rattle.map_rows.proofs.Rows.{node-row-of}
 use Rattle.head.proofs.Words.{nodes-natural, nodes-read, edges-natural, edges-read}
 use Rattle.outcomes.proofs.Formed.{counted, node-rows}
-use Rattle.reason_curves.specs.Sent.{sentReasons}
+use Rattle.reason_curves.specs.Sent.{curveReasonsAt}
 use Rattle.reason_departures.proofs.Taken.{direction-is}
-use Rattle.reason_edges.proofs.Drawing.{number-cell, run-early, rows-read, own-none, drawn-early, drawn-taken}
+use Rattle.reason_edges.proofs.Drawing.{number-cell, rows-read, own-none, drawn-early, drawn-taken}
 use Rattle.reason_edges.proofs.Drawing.{drawn-differ, drawn-meets}
 use Rattle.reason_edges.proofs.drawing_reason.Statement.{statement}
 use Rattle.reason_edges.proofs.drawing_reason.Tie as tie
@@ -31,17 +31,15 @@ early c =
     let s = t .before .before .before .before in
     let a = s .args in
     let some : 0 < c .before .curve-reason .result = omega (arith, c .if1 .taken) in
-    drawn-early (s .pre .0) (counts t .1) (a .u) (a .v) (s .pre .1) (s .pre .2) (a .c .now) some
+    drawn-early (s .pre .0) (counts t .1) (a .u) (a .v) (s .pre .1) (s .pre .2) (s .pre .3) some
     (c .before .curve-reason .ensures)
 
 -- none of the curve's own reasons
 own : (c : tie.Else1)
     → let a = c .before .before .before .before .before .before .args in
-    firstReason (sentReasons (a .c .now) (nodeAt (a .nodes .now) (a .u) .at) (nodeAt (a .nodes .now) (a .v) .at)) ≡ 0
+    firstReason (curveReasonsAt (curveOf (a .c .now)) (nodeAt (a .nodes .now) (a .u) .at)
+    (nodeAt (a .nodes .now) (a .v) .at)) ≡ 0
 own c = sym (c .before .curve-reason .ensures) ∙ c .if1 .left
-
-run : (c : tie.Else1) → Run (c .before .before .before .before .before .before .args .c .now)
-run c = run-early _ _ _ (own c)
 
 -- 11, with the numbers as they were read
 told : (c : tie.After-direction-taken)
@@ -67,7 +65,7 @@ taken c =
     let t = o .before .before in
     let s = t .before .before .before .before in
     let a = s .args in
-    drawn-taken (s .pre .0) (counts t .1) (a .u) (a .v) (s .pre .1) (s .pre .2) (a .c .now) (own o) (told (c .before))
+    drawn-taken (s .pre .0) (counts t .1) (a .u) (a .v) (s .pre .1) (s .pre .2) (s .pre .3) (own o) (told (c .before))
     (c .if2 .taken)
 
 corners-differ-requires : tie.Need-corners-differ-requires
@@ -76,7 +74,7 @@ corners-differ-requires c κs =
     let t = o .before .before in
     let s = t .before .before .before .before in
     let rows = node-rows (s .pre .0) in
-    (node-row-of rows _ (s .pre .1), node-row-of rows _ (s .pre .2), rows-read (s .pre .0) (counts t .1), run o)
+    (node-row-of rows _ (s .pre .1), node-row-of rows _ (s .pre .2), rows-read (s .pre .0) (counts t .1), s .pre .3)
 
 differ : tie.Need-returns-3
 differ c =
@@ -85,15 +83,15 @@ differ c =
     let t = o .before .before in
     let s = t .before .before .before .before in
     let a = s .args in
-    drawn-differ (s .pre .0) (counts t .1) (a .u) (a .v) (s .pre .1) (s .pre .2) (a .c .now) (own o) (told (d .before))
+    drawn-differ (s .pre .0) (counts t .1) (a .u) (a .v) (s .pre .1) (s .pre .2) (s .pre .3) (own o) (told (d .before))
     (d .if2 .left) (c .before .corners-differ .ensures) (c .if3 .taken)
 
 meeting-reason-requires : tie.Need-meeting-reason-requires
 meeting-reason-requires c κs =
     let o = c .before .before .before .before .before .before in
     let t = o .before .before in
-    let f = t .before .before .before .before .pre .0 in
-    (rw (counts t .0) (node-rows f), rows-read f (counts t .1), run o)
+    let s = t .before .before .before .before in
+    (rw (counts t .0) (node-rows (s .pre .0)), rows-read (s .pre .0) (counts t .1), s .pre .3)
 
 meets : tie.Need-returns-4
 meets c =
@@ -103,7 +101,7 @@ meets c =
     let t = o .before .before in
     let s = t .before .before .before .before in
     let a = s .args in
-    drawn-meets (s .pre .0) (counts t .1) (a .u) (a .v) (s .pre .1) (s .pre .2) (a .c .now) (own o) (told (d .before))
+    drawn-meets (s .pre .0) (counts t .1) (a .u) (a .v) (s .pre .1) (s .pre .2) (s .pre .3) (own o) (told (d .before))
     (d .if2 .left) (e .before .corners-differ .ensures) (e .if3 .left) (counts t .0) (c .meeting-reason .ensures)
 
 pub drawing-reason-spec : {M : Type 1} → statement M
@@ -113,7 +111,7 @@ drawing-reason-spec =
     (λ c κs. nodes-natural (counted (c .before .pre .0)))
     (λ c κs. edges-natural (counted (c .before .before .before .pre .0)))
     (λ c κs. let s = c .before .before .before .before in let rows = node-rows (s .pre .0) in
-    (node-row-of rows _ (s .pre .1), node-row-of rows _ (s .pre .2)))
+    (node-row-of rows _ (s .pre .1), node-row-of rows _ (s .pre .2), s .pre .3))
     early
     (λ c. let r = node-rows (c .before .before .before .before .before .before .pre .0) in search needs)
     (λ c. let r = node-rows (c .before .before .before .before .before .before .pre .0) in search needs)
@@ -121,8 +119,8 @@ drawing-reason-spec =
     (λ c. let r = node-rows (c .before .before .before .before .before .before .before .pre .0) in search needs)
     (λ c. let r = node-rows (c .before .before .before .before .before .before .before .pre .0) in search needs)
     (λ c. let r = node-rows (c .before .before .before .before .before .before .before .pre .0) in search needs)
-    (λ c κs. let o = c .before .before in let t = o .before .before in
-    (rows-read (t .before .before .before .before .pre .0) (counts t .1), run o))
+    (λ c κs. let t = c .before .before .before .before in let s = t .before .before .before .before in
+    (rows-read (s .pre .0) (counts t .1), s .pre .3))
     taken
     corners-differ-requires
     differ

@@ -1,92 +1,124 @@
--- `reason_edges::judge_add` meets its contract: both nodes are found, or 4. Assumes nothing.
-use borrow.Author.Needs.{needs}
-use mathlib.Core.Path.{_≡_}
-use lib.IntN.{natAbs}
+-- `reason_edges::judge_add` meets its contract: turned down before 20, or by 20 or 21, or by none. Assumes nothing.
+use mathlib.Core.Path.{_≡_, sym, ap, _∙_}
+use Prim.Native.Nat.{_<_}
+use native.Mathlib.Omega.{arith}
+use lib.IntN.{pos, natAbs}
+use lib.Signed.{nonNeg}
 use mir.Syntax.{w64}
-use mir.Facts.{toZ-ofZ}
-use Rattle.lists.specs.Tables.{place}
-use Rattle.lists.specs.declared.Found.the-variants.{At}
-use Rattle.tables.specs.Tables.{sameZ, column}
-use Rattle.map.specs.Limits.{nodeWidth}
-use Rattle.map_rows.proofs.Rows.{node-rows-rising}
-use Rattle.head.proofs.Words.{nodes-natural, nodes-read}
-use Rattle.outcomes.proofs.Formed.{counted, node-rows, node-none}
-use Rattle.outcomes.proofs.FoundRows.{node-in}
-use Rattle.outcomes.proofs.Words.{place-told}
-use Rattle.reason_edges.proofs.Adding.{end-none, add-missing, add-found}
+use mir.Val.{toZ, ofZ}
+use Rattle.integers.specs.Signs.{sent}
+use Rattle.curves.specs.Curves.{curveOf, startWay}
+use Rattle.map.specs.Rows.{mapOf, lent}
+use Rattle.map.specs.Links.{cornerFace}
+use Rattle.map.specs.Reasons.{firstReason}
+use Rattle.map_rows.specs.Rows.{nodeAt}
+use Rattle.map_rows.proofs.Rows.{node-row-of}
+use Rattle.head.proofs.Words.{edges-natural, edges-read}
+use Rattle.outcomes.proofs.Formed.{node-rows, counted}
+use Rattle.reason_corners.proofs.Alike.{splits-alike}
+use Rattle.reason_edges.specs.Parts.{drawingReasons}
+use Rattle.reason_edges.proofs.Drawing.{rows-read, edges-are, edges-rise}
+use Rattle.reason_edges.proofs.Adding.{corner-told, rows-turned, rows-late, rows-known}
 use Rattle.reason_edges.proofs.judge_add.Statement.{statement}
 use Rattle.reason_edges.proofs.judge_add.Tie as tie
 
-count : (c : tie.After-to-usize) → c .to-usize .result ≡ natAbs (c .before .before .args .h .nodes)
-count c = nodes-read (counted (c .before .before .pre)) (c .to-usize .ensures)
-
-no-start : tie.Need-returns
-no-start c =
-    let t = c .before .before .before .before in
-    let s = t .before .before in
+turned : tie.Need-returns
+turned c =
+    let d = c .before .before in
+    let s = d .before in
     let a = s .args in
-    let e = node-none (s .pre) (a .start) (place-told nodeWidth (a .nodes .now) (count t)
-    (toZ-ofZ {w = w64} (s .fits .start)) (c .before .before .before .find-row .ensures)
-    (c .before .enum-told .given .1)) in
-    add-missing (s .pre) (a .how) (a .start) (a .end) (a .c .now) (rw e) (c .turned-down .ensures)
+    let some : 0 < d .drawing-reason .result = omega (arith, c .before .if1 .taken) in
+    rows-turned (s .pre .0) (a .how) (a .u) (a .v) (a .c .now) some (d .drawing-reason .ensures)
+    (c .turned-down .ensures)
 
-start-at : (c : tie.After-found)
-    → let a = c .before .before .before .before .before .args in
-    place (sameZ (a .start)) 0 (column nodeWidth (a .nodes .now) (natAbs (a .h .nodes))) ≡ At (c .found .given .0 .0)
-start-at c =
-    let t = c .before .before .before in
-    let s = t .before .before in
-    place-told nodeWidth (s .args .nodes .now) (count t) (toZ-ofZ {w = w64} (s .fits .start))
-    (c .before .before .find-row .ensures) (c .found .given .1)
+-- none before 20
+clear : (c : tie.Else1)
+    → let a = c .before .before .args in
+    firstReason (drawingReasons (mapOf (lent (a .nodes .now) (a .edges .now) (a .faces .now) (a .h)))
+    (nodeAt (a .nodes .now) (a .u) .number) (nodeAt (a .nodes .now) (a .v) .number) (curveOf (a .c .now))) ≡ 0
+clear c = sym (c .before .drawing-reason .ensures) ∙ c .if1 .left
 
-no-end : tie.Need-returns-2
-no-end c =
-    let t = c .before .before .before .before .before .before .before .before in
-    let s = t .before .before in
+count : (c : tie.After-to-usize) → c .to-usize .result ≡ natAbs (c .before .before .before .before .args .h .edges)
+count c = edges-read (counted (c .before .before .before .before .pre .0)) (c .to-usize .ensures)
+
+corner-face-requires : tie.Need-corner-face-requires
+corner-face-requires c κs =
+    let s = c .before .before .before .before .before in (
+      node-row-of (node-rows (s .pre .0)) (s .args .u) (s .pre .1),
+      rows-read (s .pre .0) (count (c .before)),
+      c .first-step .ensures .from,
+      c .first-step .ensures .to,
+    )
+
+splits-face-requires : tie.Need-splits-face-requires
+splits-face-requires c κs =
+    let t = c .before .before in
+    let s = t .before .before .before .before in
     let a = s .args in
-    let e = end-none (s .pre) (a .start) (a .end) (place-told nodeWidth (a .nodes .now) (count t)
-    (toZ-ofZ {w = w64} (s .fits .end)) (c .before .before .before .find-row2 .ensures)
-    (c .before .enum-told2 .given .1)) in
-    add-missing (s .pre) (a .how) (a .start) (a .end) (a .c .now) e (c .turned-down2 .ensures)
+    let f = s .pre .0 in (
+      node-row-of (node-rows f) (a .u) (s .pre .1),
+      node-row-of (node-rows f) (a .v) (s .pre .2),
+      rows-read f (count t),
+      omega (arith, count t, counted f .edges .most),
+      s .pre .3,
+    )
 
-end-at : (c : tie.After-found-end)
-    → let a = c .before .before .before .before .before .before .before .before .before .args in
-    place (sameZ (a .end)) 0 (column nodeWidth (a .nodes .now) (natAbs (a .h .nodes))) ≡ At (c .found-end .given .0 .0)
-end-at c =
-    let t = c .before .before .before .before .before .before .before in
-    let s = t .before .before in
-    place-told nodeWidth (s .args .nodes .now) (count t) (toZ-ofZ {w = w64} (s .fits .end))
-    (c .before .before .find-row2 .ensures) (c .found-end .given .1)
-
-judge-rows-requires : tie.Need-judge-rows-requires
-judge-rows-requires c κs =
-    let v = c .before in
-    let u = v .before .before .before .before in
-    let s = u .before .before .before .before .before in
+-- the corner face, as it was read
+corner : (c : tie.After-corner-face)
+    → let a = c .before .before .before .before .before .before .args in
+    toZ w64 (ofZ w64 (c .corner-face .result))
+    ≡ pos (cornerFace (mapOf (lent (a .nodes .now) (a .edges .now) (a .faces .now) (a .h)))
+    (nodeAt (a .nodes .now) (a .u) .number) (startWay (curveOf (a .c .now))))
+corner c =
+    let t = c .before .before in
+    let s = t .before .before .before .before in
     let a = s .args in
-    (s .pre, node-in (s .pre) (a .start) _ (start-at u), node-in (s .pre) (a .end) _ (end-at v))
+    sent (c .corner-face .ok)
+    ∙ corner-told (s .pre .0) (a .how) (a .u) (a .v) (a .c .now) (s .pre .1) (count t)
+    (c .before .first-step .ensures .way) (c .corner-face .ensures)
 
-found : tie.Need-returns-3
-found c =
-    let v = c .before .before in
-    let u = v .before .before .before .before in
-    let s = u .before .before .before .before .before in
+late : tie.Need-returns-2
+late c =
+    let g = c .before .before in
+    let k = g .before .before .before in
+    let t = k .before .before in
+    let e = t .before .before in
+    let s = e .before .before in
     let a = s .args in
-    add-found (s .pre) (a .how) (a .start) (a .end) _ _ (a .c .now) (start-at u) (end-at v) (c .judge-rows .ensures)
+    let f = s .pre .0 in
+    rows-late f (a .how) (a .u) (a .v) (a .c .now) (clear e) (corner k)
+    (g .before .before .splits-face .ensures
+    ∙ splits-alike (rows-read f (count t)) (a .c .now) _ (edges-are f (count t)) (edges-rise f) _ _)
+    (g .before .makes-second .ensures) (g .room-reason .ensures) (omega (arith, c .before .if2 .taken))
+    (c .turned-down2 .ensures)
+
+judged : tie.Need-returns-3
+judged c =
+    let g = c .before in
+    let k = g .before .before .before in
+    let t = k .before .before in
+    let e = t .before .before in
+    let s = e .before .before in
+    let a = s .args in
+    let f = s .pre .0 in
+    rows-known f (a .how) (a .u) (a .v) (a .c .now) (clear e) (corner k)
+    (g .before .before .splits-face .ensures
+    ∙ splits-alike (rows-read f (count t)) (a .c .now) _ (edges-are f (count t)) (edges-rise f) _ _)
+    (g .before .makes-second .ensures) (g .room-reason .ensures) (c .if2 .left)
 
 pub judge-add-spec : {M : Type 1} → statement M
 judge-add-spec =
     tie.close
     (tie.spec
-    (λ c κs. nodes-natural (counted (c .before .pre)))
-    (λ c κs. rw (count c) (node-rows-rising (node-rows (c .before .before .pre))))
-    (λ c. search needs) (λ c. search needs)
+    (λ c κs. c .pre)
     (λ c κs. tt)
-    no-start
-    (λ c κs. let t = c .before .before .before .before in
-    rw (count t) (node-rows-rising (node-rows (t .before .before .pre))))
-    (λ c. search needs) (λ c. search needs)
+    turned
+    (λ c κs. edges-natural (counted (c .before .before .before .pre .0)))
+    (λ c κs. c .before .before .before .before .pre .3)
+    corner-face-requires
+    splits-face-requires
+    (λ c κs. ap nonNeg (corner (c .before)))
+    (λ c κs. counted (c .before .before .before .before .before .before .before .before .pre .0))
     (λ c κs. tt)
-    no-end
-    judge-rows-requires
-    found)
+    late
+    judged)
