@@ -8,6 +8,8 @@
   others.py --sluices     each of these splits healed at once (kinds 9 and 10): whether the edge rows are as before
   others.py --redrawings  edges redrawn past wells and islands or turned over (kind 6): what the engine answers, and
                           what its own check says where it carries one out that Solgwid turns down
+  others.py --surveys     lines with points along straight runs, a point twice, a line that doubles back: what the
+                          engine answers, and how many points it stores
 
 PostGIS runs in a server of its own: started in a temporary folder as an unprivileged user, reached through a socket
 there, stopped and removed at the end. SpatiaLite runs inside this process on a database in memory. What is not
@@ -805,6 +807,40 @@ def hold_redrawings(engine):
     sys.stdout.flush()
 
 
+# --- points along straight runs --------------------------------------------------------------------------------------
+
+ENDS = ('1 -1 0 0', '1 -1 12 0')
+SURVEYS = {
+    'an isolated edge with points along it': (*ENDS, '4 1 2 0 0 3 0 8 0 12 0'),
+    'an edge with points along both of its runs': (*ENDS, '12 1 2 0 0 3 3 6 6 9 3 12 0'),
+    'a loop that starts on a straight side': ('1 -1 10 0', '12 1 1 10 0 20 0 20 20 10 20 0 20 0 0 5 0 10 0'),
+    'an edge redrawn with points along it': (*ENDS, '12 1 2 0 0 12 0', '6 1 0 0 4 2 6 3 9 1 12 0'),
+    'a point sent twice': (*ENDS, '12 1 2 0 0 6 6 6 6 12 0'),
+    'a point sent twice on a straight run': (*ENDS, '12 1 2 0 0 6 0 6 0 12 0'),
+    'a line that doubles back': (*ENDS, '12 1 2 0 0 8 0 4 0 12 0'),
+}
+
+
+def reference_survey(tickets):
+    """The reference's last answer, and the points of its last edge."""
+    lines = reference_says(tickets, '--dump').splitlines()
+    edges = [line.split() for line in lines if line.startswith('E ')]
+    return [line for line in lines if line[0].isdigit()][-1], int(edges[-1][8]) if edges else 0
+
+
+def hold_surveys(engine):
+    """Each line on the engine, beside the reference."""
+    sheets = [[tuple(map(int, line.split())) for line in lines] for lines in SURVEYS.values()]
+    print(f'\n{engine.version}')
+    for name, tickets, history in zip(SURVEYS, sheets, engine.histories(sheets), strict=True):
+        answer, rows = history[-1]
+        said, left = reference_survey(tickets)
+        stored = f', {len(rows[-1][1])} points' if answer.startswith('done') else ''
+        ours = f'{said.split()[0]}, {left} points' if said.startswith('0') else said.split()[0]
+        print(f'  {ours}: {name}: {answer}{stored}')
+    sys.stdout.flush()
+
+
 def size(word):
     if not word.isdigit() or int(word) < 20:
         raise argparse.ArgumentTypeError('a size is a number of edges, 20 or more')
@@ -818,6 +854,7 @@ def arguments():
     parser.add_argument('--links', dest='hold', action='store_const', const=hold_links)
     parser.add_argument('--sluices', dest='hold', action='store_const', const=hold_sluices)
     parser.add_argument('--redrawings', dest='hold', action='store_const', const=hold_redrawings)
+    parser.add_argument('--surveys', dest='hold', action='store_const', const=hold_surveys)
     return parser.parse_args()
 
 
