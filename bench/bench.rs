@@ -19,7 +19,7 @@ use std::time::Instant;
 
 #[path = "../include/solgwid.rs"]
 mod solgwid;
-use solgwid::{EDGE_WIDTH, FACE_WIDTH, Map, NODE_WIDTH, Refusal};
+use solgwid::{EDGE_WIDTH, FACE_WIDTH, MAX_POINTS, Map, NODE_WIDTH, Refusal};
 
 const SIDE: i64 = 100;
 const KINDS: usize = 14;
@@ -154,7 +154,7 @@ fn furnish(map: &mut Map, plots: &mut [Plot]) {
 
 /// A grid of k by k plots, with boundaries across plots until there are about `target` edges.
 fn grid(k: i64, target: i64, gaps: bool) -> (Map, Vec<Plot>) {
-    let mut map = Map::new(1000, 2000, 1000).expect("tables at the limits hold the empty map");
+    let mut map = Map::new(1000, 2000, 1000, MAX_POINTS).expect("tables at the limits hold the empty map");
     let number = draw_nodes(&mut map, k, gaps);
     let bottom = draw_edges(&mut map, k, gaps, &number);
     let mut plots = plots_of(k, &number, &bottom);

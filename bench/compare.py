@@ -10,7 +10,8 @@ moves, and times alone say little. In both builds each function is put at a mult
 as built: where the linker happens to put one moved the time of a ticket by a tenth. Needs rustc, a C compiler and
 objcopy; about six seconds a run.
 A redrawing past wells or an island is turned down with 22, and carried out by a library of before landing 13: there
-the ratio is that of a refusal to an edit. A library of before landing 14 gets face rows of one number.
+the ratio is that of a refusal to an edit. A library of before landing 14 gets face rows of one number, and one of
+before landing 17 a head of six numbers and no record of points.
 """
 
 import csv
@@ -23,7 +24,8 @@ import tempfile
 
 ROOT = pathlib.Path(__file__).resolve().parent.parent
 BENCH, WRAPPER = 'bench/bench.rs', 'include/solgwid.rs'
-FACE_WIDTH = 'FACE_WIDTH: usize = {};'
+FACE_WIDTH, HEAD_WIDTH = 'FACE_WIDTH: usize = {};', 'HEAD_WIDTH: usize = {};'
+RECORD = ' points: i64,', ' points as i64,'    # declared and handed over; not in a library whose head has six numbers
 NEW_FACES = {'11', '12'}                       # kinds that walk rings, as 6 does
 LISTED, PASS = 'edges of a face', 'bare pass'
 BESIDE = ('6 beside wells', '6 beside an island')
@@ -36,29 +38,41 @@ EDGES = '1000'
 AS_BUILT = '--as-built'
 
 
-def face_width(library, folder):
-    """The numbers of a face row: one where a face table of one number is whole."""
+def widths(library, folder):
+    """The numbers of a face row, one where a face table of one number is whole, and of the head, seven where an empty
+    map has a record of points behind the six."""
     shared = folder / 'solgwid.so'
     whole = '-Wl,--whole-archive', library, '-Wl,--no-whole-archive'
     subprocess.run(['cc', '-shared', '-o', shared, *whole], check=True)
     none = None, ctypes.c_size_t(0)
-    one, head = (ctypes.c_int64 * 1)(), (ctypes.c_int64 * 6)()
-    refusal = ctypes.CDLL(str(shared)).solgwid_empty_map(*none, *none, one, ctypes.c_size_t(1), head)
-    return 5 if refusal else 1
+    faces, head, points = (ctypes.c_int64 * 5)(), (ctypes.c_int64 * 7)(), ctypes.c_int64(12)
+    empty_map = ctypes.CDLL(str(shared)).solgwid_empty_map
+    # a library without a record does not look at the last argument
+    face = next(n for n in (1, 5) if not empty_map(*none, *none, faces, ctypes.c_size_t(n), head, points))
+    return face, 7 if head[6] else 6
+
+
+def adapted(text, face, head):
+    """A source of the bench, for a library with such face rows and such a head."""
+    for line, new, width in ((FACE_WIDTH, 5, face), (HEAD_WIDTH, 7, head)):
+        text = text.replace(line.format(new), line.format(width))
+    for words in RECORD if head == 6 else ():
+        text = text.replace(words, '')
+    return text
 
 
 def build(library, folder, as_built):
-    """The bench over a library, with the face rows that this takes."""
+    """The bench over a library, with the face rows and the head that this takes."""
     folder.mkdir()
     align = [] if as_built else ['--set-section-alignment', '.text*=64']
     subprocess.run(['objcopy', *align, library, folder / 'libsolgwid.a'], check=True)
-    width = face_width(library, folder)
+    face, head = widths(library, folder)
     for path in BENCH, WRAPPER:
         (folder / path).parent.mkdir()
-        (folder / path).write_text((ROOT / path).read_text().replace(FACE_WIDTH.format(5), FACE_WIDTH.format(width)))
+        (folder / path).write_text(adapted((ROOT / path).read_text(), face, head))
     program = folder / 'times'
-    subprocess.run(['rustc', '-O', '--edition', '2021', folder / BENCH, '-L', folder, '-l', 'static=solgwid', '-o',
-                    program], check=True)
+    words = '-O', '--edition', '2021', '-A', 'unused', '-L', folder, '-l', 'static=solgwid'
+    subprocess.run(['rustc', *words, folder / BENCH, '-o', program], check=True)
     return program
 
 

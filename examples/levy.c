@@ -14,7 +14,7 @@ enum { ROWS = 200, TICKETS = 100, LINE = 1000 };
 static solgwid_node nodes[ROWS];
 static solgwid_edge edges[ROWS];
 static solgwid_face faces[ROWS];
-static solgwid_map map = {nodes, ROWS, edges, ROWS, faces, ROWS, {0, 0, 0, 0, 0, 0}};
+static solgwid_map map = {nodes, ROWS, edges, ROWS, faces, ROWS, {0, 0, 0, 0, 0, 0, 0}};
 static int64_t numbers[TICKETS * LINE], values[TICKETS], list[4 * ROWS];
 static size_t lengths[TICKETS], number_count, ticket_count;
 static uint64_t refusals[TICKETS];
@@ -62,7 +62,9 @@ int main(void) {
     for (; ticket_count < TICKETS && fgets(line, LINE + 2, stdin); ticket_count++)
         for (char *word = strtok(line, " \n"); word; word = strtok(NULL, " \n"), lengths[ticket_count]++)
             numbers[number_count++] = atoll(word);
-    if (solgwid_map_run(&map, numbers, number_count, lengths, ticket_count, refusals, values) != SOLGWID_DONE) return 1;
+    solgwid_refusal refusal = solgwid_map_run(&map, SOLGWID_MAX_POINTS, numbers, number_count, lengths, ticket_count,
+                                              refusals, values);
+    if (refusal != SOLGWID_DONE) return 1;
     for (size_t i = 0; i < ticket_count; i++)
         if (refusals[i] != SOLGWID_DONE)
             printf("ticket %zu: refused, %" PRIu64 ": %s\n", i + 1, refusals[i], solgwid_refusal_text(refusals[i]));

@@ -20,10 +20,10 @@ static struct loan {
 
 /* A map of one plot. Each case below spoils it, or outgrows it, in its own way. */
 static void draw_plot(void) {
-    const solgwid_map map = {lent.nodes, ROWS, lent.edges, ROWS, lent.faces, ROWS, {0, 0, 0, 0, 0, 0}};
+    const solgwid_map map = {lent.nodes, ROWS, lent.edges, ROWS, lent.faces, ROWS, {0, 0, 0, 0, 0, 0, 0}};
     const solgwid_point loop[] = {{0, 0}, {10, 0}, {10, 10}, {0, 10}, {0, 0}};
     lent.map = map;
-    solgwid_map_empty(&lent.map);
+    solgwid_map_empty(&lent.map, SOLGWID_MAX_POINTS);
     solgwid_add_iso_node(&lent.map, -1, 0, 0, NULL);
     solgwid_add_edge_mod_face(&lent.map, 1, 1, loop, 5, NULL);
     memcpy(&before, &lent, sizeof lent);
@@ -62,7 +62,7 @@ int main(void) {
     int64_t *nodes = (int64_t *)lent.nodes, *edges = (int64_t *)lent.edges, *faces = (int64_t *)lent.faces;
     draw_plot();
     print_refusal("half a row", solgwid_empty_map(nodes, 6, edges, SOLGWID_EDGE_WIDTH, faces, SOLGWID_FACE_WIDTH,
-                                                  (int64_t *)&lent.map.head));
+                                                  (int64_t *)&lent.map.head, SOLGWID_MAX_POINTS));
     lent.map.node_room = SOLGWID_MAX_NODES + 1;
     try_well("a row above the limit");
     lent.map.face_room = 0;

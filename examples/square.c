@@ -1,5 +1,5 @@
-/* The square sheet: a loop around a plot, the loop split, a boundary across the plot. Then a split taken back, and a
-   curve sent with points along its straight runs.
+/* The square sheet: a loop around a plot, the loop split, a boundary across the plot. Then a split taken back, a curve
+   sent with points along its straight runs, and a map for a plotting program.
 
        rt staticlib solgwid && cc -Iinclude examples/square.c target/staticlib/libsolgwid.a -o square */
 #include <inttypes.h>
@@ -12,7 +12,7 @@ enum { ROWS = 200 };
 static solgwid_node nodes[ROWS];
 static solgwid_edge edges[ROWS];
 static solgwid_face faces[ROWS];
-static solgwid_map map = {nodes, ROWS, edges, ROWS, faces, ROWS, {0, 0, 0, 0, 0, 0}};
+static solgwid_map map = {nodes, ROWS, edges, ROWS, faces, ROWS, {0, 0, 0, 0, 0, 0, 0}};
 static int64_t value;
 
 /* The answer to a call that stored `value`. */
@@ -32,7 +32,7 @@ static void print_edges_of_face(int64_t face) {
 int main(void) {
     const solgwid_point loop[] = {{0, 0}, {10, 0}, {10, 10}, {0, 10}, {0, 0}};
     const solgwid_point across[] = {{0, 0}, {10, 10}};
-    if (solgwid_map_empty(&map) != SOLGWID_DONE) return 1;
+    if (solgwid_map_empty(&map, SOLGWID_MAX_POINTS) != SOLGWID_DONE) return 1;
     print_answer("node", solgwid_add_iso_node(&map, -1, 0, 0, &value));
     print_answer("loop", solgwid_add_edge_mod_face(&map, 1, 1, loop, 5, &value));
     print_answer("split", solgwid_mod_edge_split(&map, 1, 10, 10, &value));
@@ -61,5 +61,17 @@ int main(void) {
     refusal = solgwid_change_edge_geom(&map, 1, surveyed, 6);
     printf("surveyed: %s, 6 points sent, %" PRId64 " in the row, %s\n", solgwid_refusal_text(refusal),
            edges[0].point_count, memcmp(edges_before, edges, sizeof edges) ? "which differs" : "which is as before");
+
+    /* a map for a plotting program: a line has at most 6 points, drawn or healed */
+    const solgwid_point line[] = {{0, 0}, {1, 1}, {2, 0}, {3, 1}, {4, 0}, {5, 1}, {6, 0}};
+    print_answer("a map for 7 points", solgwid_map_empty(&map, 7));
+    if (solgwid_map_empty(&map, SOLGWID_PLOTTER_POINTS) != SOLGWID_DONE) return 1;
+    solgwid_add_iso_node(&map, -1, 0, 0, NULL);
+    solgwid_add_iso_node(&map, -1, 5, 1, NULL);
+    solgwid_add_iso_node(&map, -1, 6, 0, NULL);
+    print_answer("7 points", solgwid_add_edge_mod_face(&map, 1, 3, line, 7, &value));
+    print_answer("6 points", solgwid_add_edge_mod_face(&map, 1, 2, line, 6, &value));
+    print_answer("the rest", solgwid_add_edge_mod_face(&map, 2, 3, line + 5, 2, &value));
+    print_answer("heal to 7", solgwid_new_edge_heal(&map, 1, 2, &value));
     return 0;
 }

@@ -1,4 +1,5 @@
-//! The square sheet: a loop around a plot, the loop split, a boundary across the plot. Then a split taken back.
+//! The square sheet: a loop around a plot, the loop split, a boundary across the plot. Then a split taken back, a curve
+//! sent with points along its straight runs, and a map for a plotting program.
 //!
 //!     rt staticlib solgwid && rustc --edition 2021 examples/square.rs -L target/staticlib -l static=solgwid
 
@@ -20,7 +21,7 @@ fn print_edges_of_face(map: &Map, face: i64) -> Result<(), Refusal> {
 }
 
 fn main() -> Result<(), Refusal> {
-    let mut map = Map::new(200, 200, 200)?;
+    let mut map = Map::new(200, 200, 200, solgwid::MAX_POINTS)?;
     print_answer("node", map.add_iso_node(-1, 0, 0));
     print_answer("loop", map.add_edge_mod_face(1, 1, &[(0, 0), (10, 0), (10, 10), (0, 10), (0, 0)]));
     print_answer("split", map.mod_edge_split(1, 10, 10));
@@ -42,5 +43,17 @@ fn main() -> Result<(), Refusal> {
     let same = map.edges == before.edges;
     let how = if same { "which is as before" } else { "which differs" };
     println!("surveyed: done, 6 points sent, {} in the row, {how}", map.edges[7]);
+
+    // a map for a plotting program: a line has at most 6 points, drawn or healed
+    let line = [(0, 0), (1, 1), (2, 0), (3, 1), (4, 0), (5, 1), (6, 0)];
+    print_answer("a map for 7 points", Map::new(200, 200, 200, 7).map(|map| map.head[6]));
+    let mut map = Map::new(200, 200, 200, solgwid::PLOTTER_POINTS)?;
+    for (x, y) in [line[0], line[5], line[6]] {
+        map.add_iso_node(-1, x, y)?;
+    }
+    print_answer("7 points", map.add_edge_mod_face(1, 3, &line));
+    print_answer("6 points", map.add_edge_mod_face(1, 2, &line[..6]));
+    print_answer("the rest", map.add_edge_mod_face(2, 3, &line[5..]));
+    print_answer("heal to 7", map.new_edge_heal(1, 2));
     Ok(())
 }

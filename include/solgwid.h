@@ -9,11 +9,14 @@
    Every function answers a refusal: 0 (SOLGWID_DONE) where the call was carried out, else the first reason against it.
    Where it is not 0, nothing lent differs and the value stored is 0. A call is safe whatever tables and head hold.
 
+   Points. A map is created for curves of at most 12 points or of at most 6, and the head records which: 12 for screens,
+     6 for a plotting program. Refusals 2, 5 and 18 go by the record, and no ticket changes it. Any record but 6 and 12
+     is refusal 2 in every call that looks at a map, and at creation too. Rows have room for 12 points in either case.
    How long a list must be. The edges of a face are at most 4 numbers for each edge of the map: an edge has two
      directed edges, and each may be a ring by itself, with its length before it. So 4 * edge_count always suffices,
      and 8,000 for any map; a shorter list may be refusal 20. A run stores a refusal and a value for each ticket; room
      for fewer of either is refusal 20.
-   NULL. Of length 0, a table, `numbers`, `points`, `list`, `lengths`, `refusals` and `values` may be NULL. `head` and
+   NULL. Of length 0, a table, `numbers`, a curve, `list`, `lengths`, `refusals` and `values` may be NULL. `head` and
      `value` may never be, nor may the map of an inline function. Where an inline function stores a value the pointer to
      it may be NULL, and the value is dropped.
    Threads. There is no state between calls, so any number of maps may be worked on at once. One map is for one thread
@@ -36,7 +39,7 @@
 extern "C" {
 #endif
 
-#define SOLGWID_VERSION 16
+#define SOLGWID_VERSION 17
 
 /* ---- limits and widths */
 
@@ -44,13 +47,14 @@ extern "C" {
 #define SOLGWID_MAX_EDGES 2000
 #define SOLGWID_MAX_FACES 1000
 #define SOLGWID_MAX_POINTS 12           /* points of a curve; at least 2 */
+#define SOLGWID_PLOTTER_POINTS 6        /* in a map for a plotting program; 12 and 6 are the records of points */
 #define SOLGWID_MAX_COORDINATE 1048575  /* coordinates are 0 to this */
 #define SOLGWID_LAST_NUMBER 999999      /* the last number of a node, edge or face */
 
 #define SOLGWID_NODE_WIDTH 4            /* numbers of a row, and of the head */
 #define SOLGWID_EDGE_WIDTH 32
 #define SOLGWID_FACE_WIDTH 5
-#define SOLGWID_HEAD_WIDTH 6
+#define SOLGWID_HEAD_WIDTH 7
 
 /* ---- rows: each table is filled from the front in rising number order, and rows past its count are all 0 */
 
@@ -84,12 +88,13 @@ typedef struct solgwid_face {
 typedef struct solgwid_head {
     int64_t node_count, edge_count, face_count;
     int64_t next_node, next_edge, next_face;
+    int64_t points;                     /* the record: how many points a curve has at most, 6 or 12 */
 } solgwid_head;
 
 static_assert(sizeof(solgwid_node) == SOLGWID_NODE_WIDTH * sizeof(int64_t), "a node row is 4 numbers");
 static_assert(sizeof(solgwid_edge) == SOLGWID_EDGE_WIDTH * sizeof(int64_t), "an edge row is 32 numbers");
 static_assert(sizeof(solgwid_face) == SOLGWID_FACE_WIDTH * sizeof(int64_t), "a face row is 5 numbers");
-static_assert(sizeof(solgwid_head) == SOLGWID_HEAD_WIDTH * sizeof(int64_t), "the head is 6 numbers");
+static_assert(sizeof(solgwid_head) == SOLGWID_HEAD_WIDTH * sizeof(int64_t), "the head is 7 numbers");
 
 /* The three tables, each with its room in rows, and the head. solgwid_map_empty makes the empty map in it; a copy of
    this struct shares the tables. */
@@ -127,10 +132,10 @@ typedef enum solgwid_kind {
 typedef enum solgwid_refusal {
     SOLGWID_DONE = 0,
     SOLGWID_NOT_WHOLE = 1,              /* 1 and 2: the lending program */
-    SOLGWID_NOT_IN_FORM = 2,
+    SOLGWID_NOT_IN_FORM = 2,            /* at creation: a record of points other than 6 and 12 */
     SOLGWID_BAD_TICKET = 3,             /* 3 to 19 and 22 to 24: the person at the screen */
     SOLGWID_MISSING_ROW = 4,
-    SOLGWID_OUT_OF_RANGE = 5,
+    SOLGWID_OUT_OF_RANGE = 5,           /* 5 and 18 go by the record of points */
     SOLGWID_REDUNDANT_POINT = 6,
     SOLGWID_NOT_SIMPLE = 7,
     SOLGWID_ENDS_OFF_NODES = 8,
@@ -157,10 +162,12 @@ static inline const char *solgwid_refusal_text(uint64_t refusal) {
     switch (refusal) {
     case SOLGWID_DONE: return "done";
     case SOLGWID_NOT_WHOLE: return "a table is not whole rows or exceeds a limit, or the face table is empty";
-    case SOLGWID_NOT_IN_FORM: return "the tables and the head are not in form";
+    case SOLGWID_NOT_IN_FORM:
+        return "the tables and the head are not in form, or the record of points is neither 6 nor 12";
     case SOLGWID_BAD_TICKET: return "the kind is unknown, or its count of numbers is wrong";
     case SOLGWID_MISSING_ROW: return "a named node, edge or face is missing";
-    case SOLGWID_OUT_OF_RANGE: return "a coordinate is out of range, or the curve does not have 2 to 12 points";
+    case SOLGWID_OUT_OF_RANGE:
+        return "a coordinate is out of range, or the curve has too few points or more than the map allows";
     case SOLGWID_REDUNDANT_POINT: return "neighbouring points of the curve are equal";
     case SOLGWID_NOT_SIMPLE: return "the curve meets itself other than by closing";
     case SOLGWID_ENDS_OFF_NODES: return "the curve does not start and end on its nodes' points";
@@ -174,7 +181,7 @@ static inline const char *solgwid_refusal_text(uint64_t refusal) {
     case SOLGWID_CROSSES_EDGE: return "the curve crosses another edge";
     case SOLGWID_NOT_ADJACENT: return "the edges are one and the same, or share no node";
     case SOLGWID_OTHER_EDGES: return "no shared node has exactly two edge ends";
-    case SOLGWID_TOO_MANY_POINTS: return "the healed curve would have more than 12 points";
+    case SOLGWID_TOO_MANY_POINTS: return "the healed curve would have more points than the map allows";
     case SOLGWID_ORDER_CHANGES: return "the order of the edges about an end would change";
     case SOLGWID_NO_ROOM: return "the rows after the edit, or the list, would not fit";
     case SOLGWID_NUMBERS_USED_UP: return "a number above 999,999 would be needed";
@@ -187,9 +194,10 @@ static inline const char *solgwid_refusal_text(uint64_t refusal) {
 
 /* ---- the four proved functions; lengths count numbers, not rows */
 
-/* The empty map, whatever the tables and the head held. */
+/* The empty map for curves of at most `points` points, 6 or 12, whatever the tables and the head held. Refusals: 1, and
+   2 where `points` is anything else. */
 uint64_t solgwid_empty_map(int64_t *nodes, size_t nodes_length, int64_t *edges, size_t edges_length,
-                           int64_t *faces, size_t faces_length, int64_t head[SOLGWID_HEAD_WIDTH]);
+                           int64_t *faces, size_t faces_length, int64_t head[SOLGWID_HEAD_WIDTH], int64_t points);
 
 /* One ticket: its kind and the numbers after it. */
 uint64_t solgwid_ticket(int64_t *nodes, size_t nodes_length, int64_t *edges, size_t edges_length,
@@ -202,11 +210,12 @@ uint64_t solgwid_edges_of_face(const int64_t *nodes, size_t nodes_length, const 
                                const int64_t *faces, size_t faces_length, const int64_t head[SOLGWID_HEAD_WIDTH],
                                int64_t face, int64_t *list, size_t list_length, int64_t *value);
 
-/* A list of tickets from the empty map on, whatever the tables and the head held: the tickets' numbers one after the
-   other, and how many each has. Where the lengths ask for more numbers than there are, the last tickets have what is
-   left. A refusal and a value for each ticket; the answer is that of the whole call: 0, 1 or 20. */
+/* A list of tickets from the empty map for `points` points on, whatever the tables and the head held: the tickets'
+   numbers one after the other, and how many each has. Where the lengths ask for more numbers than there are, the last
+   tickets have what is left. A refusal and a value for each ticket; the answer is that of the whole call: 0, 1, 2 (as
+   for the empty map) or 20. */
 uint64_t solgwid_run(int64_t *nodes, size_t nodes_length, int64_t *edges, size_t edges_length,
-                     int64_t *faces, size_t faces_length, int64_t head[SOLGWID_HEAD_WIDTH],
+                     int64_t *faces, size_t faces_length, int64_t head[SOLGWID_HEAD_WIDTH], int64_t points,
                      const int64_t *numbers, size_t numbers_length, const size_t *lengths, size_t lengths_length,
                      uint64_t *refusals, size_t refusals_length, int64_t *values, size_t values_length);
 
@@ -218,8 +227,9 @@ uint64_t solgwid_run(int64_t *nodes, size_t nodes_length, int64_t *edges, size_t
     (int64_t *)(map)->edges, (map)->edge_room * SOLGWID_EDGE_WIDTH, \
     (int64_t *)(map)->faces, (map)->face_room * SOLGWID_FACE_WIDTH
 
-static inline solgwid_refusal solgwid_map_empty(solgwid_map *map) {
-    return (solgwid_refusal)solgwid_empty_map(SOLGWID_TABLES(map), (int64_t *)&map->head);
+/* `points` is the record: SOLGWID_MAX_POINTS or SOLGWID_PLOTTER_POINTS. */
+static inline solgwid_refusal solgwid_map_empty(solgwid_map *map, int64_t points) {
+    return (solgwid_refusal)solgwid_empty_map(SOLGWID_TABLES(map), (int64_t *)&map->head, points);
 }
 
 static inline solgwid_refusal solgwid_map_ticket(solgwid_map *map, const int64_t *numbers, size_t numbers_length,
@@ -237,12 +247,14 @@ static inline solgwid_refusal solgwid_map_edges_of_face(const solgwid_map *map, 
                                                   list_length, written ? written : &dropped);
 }
 
-/* `refusals` and `values` have room for an answer to each ticket, so the call answers 0 or 1. */
-static inline solgwid_refusal solgwid_map_run(solgwid_map *map, const int64_t *numbers, size_t numbers_length,
+/* `points` is the record. `refusals` and `values` have room for an answer to each ticket, so the call answers 0, 1
+   or 2. */
+static inline solgwid_refusal solgwid_map_run(solgwid_map *map, int64_t points,
+                                              const int64_t *numbers, size_t numbers_length,
                                               const size_t *lengths, size_t ticket_count,
                                               uint64_t *refusals, int64_t *values) {
-    return (solgwid_refusal)solgwid_run(SOLGWID_TABLES(map), (int64_t *)&map->head, numbers, numbers_length, lengths,
-                                        ticket_count, refusals, ticket_count, values, ticket_count);
+    return (solgwid_refusal)solgwid_run(SOLGWID_TABLES(map), (int64_t *)&map->head, points, numbers, numbers_length,
+                                        lengths, ticket_count, refusals, ticket_count, values, ticket_count);
 }
 
 #undef SOLGWID_TABLES

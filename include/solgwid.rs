@@ -6,7 +6,7 @@
 use std::fmt;
 
 /// The landing (docs/LANDINGS.md). It rises with each landing that changes what a call takes or does.
-pub const VERSION: u32 = 16;
+pub const VERSION: u32 = 17;
 
 /// Rows of a table, at most.
 pub const MAX_NODES: usize = 1000;
@@ -14,6 +14,8 @@ pub const MAX_EDGES: usize = 2000;
 pub const MAX_FACES: usize = 1000;
 /// Points of a curve, at most; at least 2.
 pub const MAX_POINTS: usize = 12;
+/// Points of a curve in a map for a plotting program, at most. 12 and 6 are the records of points.
+pub const PLOTTER_POINTS: usize = 6;
 /// Coordinates are 0 to this.
 pub const MAX_COORDINATE: i64 = 1_048_575;
 /// The last number of a node, edge or face.
@@ -23,12 +25,12 @@ pub const LAST_NUMBER: i64 = 999_999;
 pub const NODE_WIDTH: usize = 4;
 pub const EDGE_WIDTH: usize = 32;
 pub const FACE_WIDTH: usize = 5;
-pub const HEAD_WIDTH: usize = 6;
+pub const HEAD_WIDTH: usize = 7;
 
 unsafe extern "C" {
     fn solgwid_empty_map(
         nodes: *mut i64, nodes_length: usize, edges: *mut i64, edges_length: usize,
-        faces: *mut i64, faces_length: usize, head: *mut [i64; HEAD_WIDTH],
+        faces: *mut i64, faces_length: usize, head: *mut [i64; HEAD_WIDTH], points: i64,
     ) -> u64;
     fn solgwid_ticket(
         nodes: *mut i64, nodes_length: usize, edges: *mut i64, edges_length: usize,
@@ -42,7 +44,7 @@ unsafe extern "C" {
     ) -> u64;
     fn solgwid_run(
         nodes: *mut i64, nodes_length: usize, edges: *mut i64, edges_length: usize,
-        faces: *mut i64, faces_length: usize, head: *mut [i64; HEAD_WIDTH],
+        faces: *mut i64, faces_length: usize, head: *mut [i64; HEAD_WIDTH], points: i64,
         numbers: *const i64, numbers_length: usize, lengths: *const usize, lengths_length: usize,
         refusals: *mut u64, refusals_length: usize, values: *mut i64, values_length: usize,
     ) -> u64;
@@ -83,10 +85,13 @@ pub enum Refusal {
 /// The refusals from 1 on, with their texts.
 const REFUSALS: [(Refusal, &str); 24] = [
     (Refusal::NotWhole, "a table is not whole rows or exceeds a limit, or the face table is empty"),
-    (Refusal::NotInForm, "the tables and the head are not in form"),
+    (Refusal::NotInForm, "the tables and the head are not in form, or the record of points is neither 6 nor 12"),
     (Refusal::BadTicket, "the kind is unknown, or its count of numbers is wrong"),
     (Refusal::MissingRow, "a named node, edge or face is missing"),
-    (Refusal::OutOfRange, "a coordinate is out of range, or the curve does not have 2 to 12 points"),
+    (
+        Refusal::OutOfRange,
+        "a coordinate is out of range, or the curve has too few points or more than the map allows",
+    ),
     (Refusal::RedundantPoint, "neighbouring points of the curve are equal"),
     (Refusal::NotSimple, "the curve meets itself other than by closing"),
     (Refusal::EndsOffNodes, "the curve does not start and end on its nodes' points"),
@@ -99,7 +104,7 @@ const REFUSALS: [(Refusal, &str); 24] = [
     (Refusal::CrossesEdge, "the curve crosses another edge"),
     (Refusal::NotAdjacent, "the edges are one and the same, or share no node"),
     (Refusal::OtherEdges, "no shared node has exactly two edge ends"),
-    (Refusal::TooManyPoints, "the healed curve would have more than 12 points"),
+    (Refusal::TooManyPoints, "the healed curve would have more points than the map allows"),
     (Refusal::OrderChanges, "the order of the edges about an end would change"),
     (Refusal::NoRoom, "the rows after the edit, or the list, would not fit"),
     (Refusal::NumbersUsedUp, "a number above 999,999 would be needed"),
@@ -146,13 +151,15 @@ pub struct Map {
     /// Rows of 5: number, then the rectangle of the face: least x, least y, greatest x, greatest y. Face 0 always
     /// exists; it has four zeros there, and so has a face that no edge has on a side.
     pub faces: Vec<i64>,
-    /// The three row counts, then the next node, edge and face number.
+    /// The three row counts, the next node, edge and face number, then the record of points: 6 or 12, the most that a
+    /// curve of this map may have. `NotInForm`, `OutOfRange` and `TooManyPoints` go by it; no ticket changes it.
     pub head: [i64; HEAD_WIDTH],
 }
 
 impl Map {
-    /// The empty map in tables of so many rows. More than the limits, or no face row, is refusal 1.
-    pub fn new(nodes: usize, edges: usize, faces: usize) -> Result<Map, Refusal> {
+    /// The empty map in tables of so many rows, for curves of at most `points` points: `MAX_POINTS` or
+    /// `PLOTTER_POINTS`. More rows than the limits, or no face row, is refusal 1, any other number of points refusal 2.
+    pub fn new(nodes: usize, edges: usize, faces: usize, points: usize) -> Result<Map, Refusal> {
         // one row above a limit is refused like any more, and needs no great table
         let table = |rows: usize, most: usize, width: usize| vec![0; rows.min(most + 1) * width];
         let mut map = Map {
@@ -164,7 +171,7 @@ impl Map {
         let refusal = unsafe {
             solgwid_empty_map(
                 map.nodes.as_mut_ptr(), map.nodes.len(), map.edges.as_mut_ptr(), map.edges.len(),
-                map.faces.as_mut_ptr(), map.faces.len(), &mut map.head,
+                map.faces.as_mut_ptr(), map.faces.len(), &mut map.head, points as i64,
             )
         };
         answered(refusal, map)
@@ -209,16 +216,16 @@ impl Map {
         Ok(rings)
     }
 
-    /// A list of tickets from the empty map on, whatever the tables held: the answer to each. Refusal 1 alone can meet
-    /// the whole call.
-    pub fn run(&mut self, tickets: &[&[i64]]) -> Result<Vec<Result<i64, Refusal>>, Refusal> {
+    /// A list of tickets from the empty map for `points` points on, whatever tables and head held: the answer to each.
+    /// Refusals 1 and 2 alone can meet the whole call, as they can `new`.
+    pub fn run(&mut self, points: usize, tickets: &[&[i64]]) -> Result<Vec<Result<i64, Refusal>>, Refusal> {
         let numbers = tickets.concat();
         let lengths: Vec<usize> = tickets.iter().map(|ticket| ticket.len()).collect();
         let (mut refusals, mut values) = (vec![0; tickets.len()], vec![0; tickets.len()]);
         let refusal = unsafe {
             solgwid_run(
                 self.nodes.as_mut_ptr(), self.nodes.len(), self.edges.as_mut_ptr(), self.edges.len(),
-                self.faces.as_mut_ptr(), self.faces.len(), &mut self.head,
+                self.faces.as_mut_ptr(), self.faces.len(), &mut self.head, points as i64,
                 numbers.as_ptr(), numbers.len(), lengths.as_ptr(), lengths.len(),
                 refusals.as_mut_ptr(), refusals.len(), values.as_mut_ptr(), values.len(),
             )

@@ -32,8 +32,9 @@ def parts(seed):
     return (('sheet, all mixes', check_sheet.comparisons(seed), 0.15, check_sheet.COUNTED),
             ('sheet, islands', check_sheet.comparisons(seed, 'islands'), 0.15, check_sheet.COUNTED),
             ('library', check_calls.calls(lib, seed), 0.15, ('whole calls',)),
-            ('library', check_calls.lists(lib, seed), 0.05, ('lists in one call',)),
-            ('library', check_calls.face_tables(lib, seed), 0.05, ('spoiled face tables',)),
+            ('library', check_calls.lists(lib, seed), 0.05, ('lists in one call', 'lists turned down')),
+            ('library', check_calls.face_tables(lib, seed), 0.04, ('spoiled face tables',)),
+            ('library', check_calls.creations(lib, seed), 0.01, ('maps created',)),
             ('library', check_split_heal.comparisons(lib, seed), 0.1, ('maps', 'cuts healed')),
             ('library', check_limits.comparisons(lib, seed), 0.1, ('calls at the limits',)),
             ('definitions', check_definitions.comparisons(seed), 0.25, ('lists', 'calls')))

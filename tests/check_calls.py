@@ -1,13 +1,15 @@
 #!/usr/bin/env python3
 """The static library held against the reference: whole calls on tables that no list of tickets grows, whole lists in
-one call, and other rectangles.
+one call, other rectangles, and maps created.
 
-  check_calls.py [CALLS] [LISTS] [MAPS] [--seed S]
+  check_calls.py [CALLS] [LISTS] [MAPS] [CREATED] [--seed S]
 
-Needs target/staticlib/libsolgwid.a (`rt staticlib solgwid`) and a C compiler. The tables are grown maps that are
-distorted (links off the law, faces at will, crossing curves, nodes on one point) or spoiled. Of each of the MAPS, all
-in form, every face table is tried that tests/reference/rectangles.py spoils. Tables, head, list, refusal and value
-after the call must be the reference's, in refusals too.
+Needs target/staticlib/libsolgwid.a (`rt staticlib solgwid`) and a C compiler. The tables are grown maps, for 6 points
+or 12, that are distorted (links off the law, faces at will, crossing curves, nodes on one point), spoiled, or have
+another record of points. Each list in one call is run a second time with tables not whole, another record or too little
+room for the answers. Of each of the MAPS, all in form, every face table is tried that tests/reference/rectangles.py
+spoils. The maps are created in tables that hold anything, whole or not, under right records and others. Tables, head,
+list, refusal and value after the call must be the reference's, in refusals too.
 """
 
 import argparse
@@ -16,22 +18,24 @@ import itertools
 import random
 import subprocess
 import sys
+from collections import Counter
 from dataclasses import astuple
 
 from comparison import counted, seeds, tally
 from repository import LEVEL, ROOT, static_library     # finds the reference
 
 import compare
+import fuzz_tables as ft
 import plotmap as pm
 import raw
 import raw_gen
 import rectangles
 import telling
-import ticket as tk
 
 LEAST, MOST = -2 ** 63, 2 ** 63 - 1
-FUNCTIONS = ('ticket', 'edges_of_face', 'run')
+FUNCTIONS = ('empty_map', 'ticket', 'edges_of_face', 'run')
 WIDTHS = pm.NODE_WIDTH, pm.EDGE_WIDTH, pm.face_width(LEVEL)
+LIMITS = pm.MAX_NODES, pm.MAX_EDGES, pm.MAX_FACES
 
 
 def library():
@@ -91,53 +95,105 @@ def list_differs(lib, t, h, face, length):
     return (*lent.now(), tuple(space)[:length], refusal, value.value) != (*listed(t, h), after, r, v), r
 
 
+def creation_differs(lib, t, h, points):
+    """The same for the empty map created."""
+    lent = Lent(*listed(t, h))
+    refusal = lib.solgwid_empty_map(*lent.words(), ctypes.c_int64(points))
+    *after, r, _ = pm.make_empty(t, h, LEVEL, points)
+    return (*lent.now(), refusal) != (*listed(*after), r), r
+
+
+def differs(lib, t, h, letter, numbers):
+    """The same for a call of tests/reference/raw.py."""
+    if letter == 'T':
+        return ticket_differs(lib, t, h, numbers)
+    return (list_differs if letter == 'L' else creation_differs)(lib, t, h, *numbers)
+
+
 def fits(t, h, numbers):
     return all(LEAST <= n <= MOST for row in (*astuple(t), astuple(h), numbers) for n in row)
 
 
 def calls(lib, seed):
-    """Whole calls, also by what they answer: T a ticket, L a list of a face's edges. Those by hand come first."""
+    """Whole calls, also by what they answer: T a ticket, L a list of a face's edges, C a map created. Those by hand
+    come first."""
     by_chance = itertools.chain.from_iterable(raw_gen.calls(1, s, LEVEL) for s in seeds(seed))
     for text in itertools.chain(telling.hand(), by_chance):
         t, h, letter, numbers = raw.parse(text)
         if fits(t, h, numbers):
-            differs, r = list_differs(lib, t, h, *numbers) if letter == 'L' else ticket_differs(lib, t, h, numbers)
-            yield {'whole calls': 1, (letter, r): 1}, [text[:2000]] * differs
+            wrong, r = differs(lib, t, h, letter, numbers)
+            yield {'whole calls': 1, (letter, r): 1}, [text[:2000]] * wrong
 
 
-def run_expected(sizes, tickets):
-    """Tables, head and answers after a list of tickets, by the reference."""
-    t, h = tk.blank(sizes, LEVEL)
-    answers = []
-    for k in tickets:
-        t, h, r, v = pm.run(t, h, k, LEVEL)
-        answers.append((r, v))
-    return *listed(t, h), answers
+def run_expected(t, h, points, tickets, refusals, values):
+    """Tables, head, answers and the call's refusal after a list of tickets in one call, by the reference."""
+    *empty, r, _ = pm.make_empty(t, h, LEVEL, points)
+    r = r or (20 if min(len(refusals), len(values)) < len(tickets) else 0)
+    if r:
+        return *listed(t, h), refusals, values, r
+    t, h = empty
+    for i, k in enumerate(tickets):
+        t, h, refusals[i], values[i] = pm.run(t, h, k, LEVEL)
+    return *listed(t, h), refusals, values, 0
 
 
-def list_in_one_call(lib, rng, tickets):
-    """Whether a whole list in one call differs, in tables of random sizes that hold anything."""
-    sizes = tuple(rng.choice([1, 3, 8, 40, 200]) for _ in range(3))
-    lent = Lent([[rng.randint(-5, 5) for _ in range(n * w)] for n, w in zip(sizes, WIDTHS)],
-                [rng.randint(-9, 9) for _ in range(6)])
-    numbers, lengths = [n for t in tickets for n in t], [len(t) for t in tickets]
-    spare = rng.randint(0, 2)
-    n = len(tickets) + spare
-    refusals, values = cells([88] * n, ctypes.c_uint64), cells([-88] * n)
-    refusal = lib.solgwid_run(*lent.words(), *slice_of(cells(numbers), len(numbers)),
+def run_differs(lib, t, h, points, tickets, rooms):
+    """Whether a list of tickets in one call differs, with room for so many refusals and values, and its refusal."""
+    lent, answers = Lent(*listed(t, h)), [[88] * rooms[0], [-88] * rooms[1]]
+    numbers, lengths = [n for k in tickets for n in k], [len(k) for k in tickets]
+    refusals, values = cells(answers[0], ctypes.c_uint64), cells(answers[1])
+    refusal = lib.solgwid_run(*lent.words(), ctypes.c_int64(points), *slice_of(cells(numbers), len(numbers)),
                               *slice_of(cells(lengths, ctypes.c_size_t), len(lengths)),
-                              *slice_of(refusals, n), *slice_of(values, n))
-    *expected, answers = run_expected(sizes, tickets)
-    said = list(zip(list(refusals)[:n], list(values)[:n]))
-    return (refusal, *lent.now(), said) != (0, *expected, answers + [(88, -88)] * spare)
+                              *slice_of(refusals, rooms[0]), *slice_of(values, rooms[1]))
+    said = list(refusals)[:rooms[0]], list(values)[:rooms[1]]
+    *expected, r = run_expected(t, h, points, tickets, *answers)
+    return (*lent.now(), *said, refusal) != (*expected, r), r
+
+
+def used(rng, lengths):
+    """Tables of so many numbers, and a head, that hold anything."""
+    some = lambda n: tuple(rng.choices((0, 0, 1, 2, 6, 12, -1, -9, LEAST, MOST), k=n))
+    return pm.Tables(*map(some, lengths)), pm.Head(*some(7))
+
+
+def whole(rng):
+    """The lengths of tables of some rows."""
+    return [rng.choice((1, 3, 8, 40, 200)) * w for w in WIDTHS]
+
+
+def not_whole(rng):
+    """One of them is off by a number, none, or at the limit or a row above it: most are not whole, or above."""
+    lengths, i = whole(rng), rng.randrange(3)
+    lengths[i] = rng.choice((0, lengths[i] - 1, lengths[i] + 1, WIDTHS[i] * LIMITS[i], WIDTHS[i] * (LIMITS[i] + 1)))
+    return lengths
 
 
 def lists(lib, seed):
+    """Each list as it is, and turned down for one of 1, 2 and 20 or for several of them: R by what it answers."""
     for s in seeds(seed):
         rng = random.Random(s)
-        lines = compare.make(s, rng.randint(0, 60), level=LEVEL)
-        differs = list_in_one_call(lib, rng, [tuple(map(int, x.split())) for x in lines])
-        yield {'lists in one call': 1}, ['in one call: ' + '; '.join(lines)] * differs
+        points = rng.choice(pm.POINT_RECORDS)
+        lines = compare.make(s, rng.randint(0, 60), level=LEVEL, points=points)
+        tickets = [tuple(map(int, x.split())) for x in lines]
+        n = len(tickets)
+        wrong, _ = run_differs(lib, *used(rng, whole(rng)), points, tickets,
+                               [n + rng.randint(0, 2) for _ in range(2)])
+        faults = rng.choice(((1,), (2,), (20,), (1, 2), (1, 20), (2, 20), (1, 2, 20)))
+        short = [n, max(0, n - rng.choice((1, 2, n)))] if 20 in faults else [n, n]
+        bad, r = run_differs(lib, *used(rng, (not_whole if 1 in faults else whole)(rng)),
+                             rng.choice(ft.RECORDS[2:]) if 2 in faults else points, tickets, rng.sample(short, 2))
+        yield ({'lists in one call': 1, 'lists turned down': r != 0, ('R', r): 1},
+               [f'{points} points, in one call: {"; ".join(lines)}'] * wrong + [f'seed {s}, turned down'] * bad)
+
+
+def creations(lib, seed):
+    """The empty map in tables that hold anything, under any record, also by what is answered."""
+    for s in seeds(seed):
+        rng = random.Random(s)
+        lengths = (not_whole if rng.random() < 0.3 else whole)(rng)
+        points = rng.choice(ft.RECORDS + 3 * pm.POINT_RECORDS)
+        wrong, r = creation_differs(lib, *used(rng, lengths), points)
+        yield {'maps created': 1, ('C', r): 1}, [f'seed {s}, created for {points} points in {lengths}'] * wrong
 
 
 def map_in_form(rng):
@@ -166,18 +222,20 @@ def main():
     p.add_argument('calls', nargs='?', type=int, default=2000)
     p.add_argument('lists', nargs='?', type=int, default=300)
     p.add_argument('maps', nargs='?', type=int, default=100)
+    p.add_argument('created', nargs='?', type=int, default=1000)
     p.add_argument('--seed', type=int, default=1)
     a = p.parse_args()
-    lib = library()
-    answers, wrong_calls = tally(itertools.islice(calls(lib, a.seed), a.calls))
-    whole, wrong_lists = tally(itertools.islice(lists(lib, a.seed), a.lists))
-    spoiled, wrong_tables = tally(itertools.islice(face_tables(lib, a.seed), a.maps))
-    print(f'{counted(answers, "whole calls")}, {wrong_calls} differences; '
-          f'{counted(whole, "lists in one call")}, {wrong_lists} differences; '
-          f'{counted(spoiled, "spoiled face tables")}, {wrong_tables} differences')
-    del answers['whole calls']
+    lib, answers, said, differences = library(), Counter(), [], 0
+    for part, count, *names in ((calls, a.calls, 'whole calls'),
+                                (lists, a.lists, 'lists in one call', 'lists turned down'),
+                                (face_tables, a.maps, 'spoiled face tables'), (creations, a.created, 'maps created')):
+        counts, wrong = tally(itertools.islice(part(lib, a.seed), count))
+        answers.update({k: n for k, n in counts.items() if isinstance(k, tuple)})
+        said.append(f'{counted(counts, *names)}, {wrong} differences')
+        differences += wrong
+    print('; '.join(said))
     print('answers:', ', '.join(f'{letter}{r}: {n}' for (letter, r), n in sorted(answers.items())))
-    return 1 if wrong_calls or wrong_lists or wrong_tables else 0
+    return 1 if differences else 0
 
 
 if __name__ == '__main__':

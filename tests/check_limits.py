@@ -4,12 +4,13 @@
   check_limits.py [CALLS] [--seed S]
 
 Needs target/staticlib/libsolgwid.a (`rt staticlib solgwid`) and a C compiler. The library grows a map in tables at the
-limits: plots in a grid, drawn in random order, wells, ditches apart and tanks in some maps, and plots divided until no
-face is left. A map of 1,000 nodes in one piece has 1,998 edges then, the most that tickets can draw. Every call on it
-is compared whole; the reference takes some seconds for each, with an index for its lookups. What is carried out stays,
-so that each call meets another map. Sides of plots are redrawn past what lies beside them or short of it, and outer
-sides round the whole sheet, which turns it inside out. Boundaries lie along a side of a plot, cross it or touch it.
-Some calls are on tables with one number of a rectangle off by one.
+limits, for 6 and 12 points by turns: plots in a grid, drawn in random order, wells, ditches apart and tanks in some
+maps, and plots divided until no face is left. A map of 1,000 nodes in one piece has 1,998 edges then, the most that
+tickets can draw. Every call on it is compared whole; the reference takes some seconds for each, with an index for its
+lookups. What is carried out stays, so that each call meets another map. Sides of plots are redrawn past what lies
+beside them or short of it, and outer sides round the whole sheet, which turns it inside out. Boundaries lie along a
+side of a plot, cross it or touch it. Some calls are on tables with one number of a rectangle off by one, or with
+another record of points.
 """
 
 import contextlib
@@ -21,18 +22,19 @@ from dataclasses import replace
 from check_calls import WIDTHS, Lent, cells, library, list_differs, slice_of, ticket_differs
 from comparison import command, seeds
 
+import fuzz_tables as ft
 import plotmap as pm
 
 SIDE, WIDE, HIGH = 10, 25, 40       # of a plot; nodes from left to right, from bottom to top
 ROOM = pm.MAX_NODES, pm.MAX_EDGES, pm.MAX_FACES
-CALLS_A_MAP = 40
+CALLS_A_MAP = 20
 NO_ROOM, CHANGES_SIDES, MEETS = 20, 22, (23, 15, 24)
 # what lies in the left part of a plot, which no boundary across it reaches: a well, a ditch, a tank
 WELL, DITCH, TANK = [(3, 5)], [(2, 4), (2, 6)], [(3, 5), (2, 6), (2, 4), (3, 5)]
 # a boundary from the lower left corner of a plot along its upper side, across it, or with a point on it; then inward
 MET, INWARD = ([(2, 10), (4, 10)], [(3, 13)], [(3, 10)]), (5, 8)
 COUNTED = ('calls at the limits', 'maps', 'divisions', 'removals', 'redrawings', 'meetings', 'lists of edges',
-           'other rectangles', 'carried out', 'turned down with 22', 'turned down with 23, 15 or 24')
+           'other rectangles', 'other records', 'carried out', 'turned down with 22', 'turned down with 23, 15 or 24')
 
 
 @contextlib.contextmanager
@@ -62,10 +64,10 @@ def carry_out(lib, lent, ticket):
 class Sheet:
     """A map grown by the library: plots, what lies in some of them, and boundaries across plots."""
 
-    def __init__(self, lib, rng):
+    def __init__(self, lib, rng, points):
         self.lib, self.rng = lib, rng
-        self.lent = Lent([[0] * (n * w) for n, w in zip(ROOM, WIDTHS)], [0] * 6)
-        lib.solgwid_empty_map(*self.lent.words())
+        self.lent = Lent([[0] * (n * w) for n, w in zip(ROOM, WIDTHS)], [0] * 7)
+        lib.solgwid_empty_map(*self.lent.words(), ctypes.c_int64(points))
         corners = [(x, y) for x in range(WIDE) for y in range(HIGH)]
         corners = rng.sample(corners, len(corners) - rng.choice((0, 4, 40)))
         self.node = {c: self.put(1, -1, *at(c)) for c in corners}
@@ -142,14 +144,17 @@ def other_rectangle(rng, t, h):
 
 
 def one_call(sheet):
-    """What was compared and whether it differs: the edges of a face, another rectangle, a removal, a redrawing, a
-    boundary that meets a side or a division."""
+    """What was compared and whether it differs: the edges of a face, another rectangle, another record, a removal, a
+    redrawing, a boundary that meets a side or a division."""
     t, h = sheet.now()
     rng, draw = sheet.rng, sheet.rng.random()
     if draw < 0.05:
         differs, _ = ticket_differs(sheet.lib, other_rectangle(rng, t, h), h, sheet.boundary())
         return {'other rectangles': 1}, differs, 'another rectangle'
-    if draw < 0.15:
+    if draw < 0.09:
+        other = replace(h, points=rng.choice(ft.RECORDS))
+        return {'other records': 1}, ticket_differs(sheet.lib, t, other, sheet.boundary())[0], other
+    if draw < 0.17:
         face = rng.choice((0, t.faces[WIDTHS[2] * rng.randrange(h.face_count)]))
         return {'lists of edges': 1}, list_differs(sheet.lib, t, h, face, 4000)[0], ('edges of face', face)
     if draw < 0.35:
@@ -169,7 +174,7 @@ def one_call(sheet):
 
 def comparisons(lib, seed):
     for s in seeds(seed):
-        sheet = Sheet(lib, random.Random(s))
+        sheet = Sheet(lib, random.Random(s), pm.POINT_RECORDS[s % 2])
         for i in range(CALLS_A_MAP):
             edges = sheet.lent.head[1]
             with indexed():

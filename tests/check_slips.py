@@ -25,8 +25,9 @@ from repository import ROOT, needed
 
 MAP = 'crates/map/specs/'
 PROOFS = 'crates/map/proofs/'
-EXAMPLES = tuple(f'Worked{part}.antt' for part in ('', 'Sides', 'Rectangles', 'Meetings', 'Surplus'))
-EDITS, REASONS, FORM, TICKET, ROWS = (MAP + f'{n}.antt' for n in ('Edits', 'Reasons', 'Form', 'Ticket', 'Rows'))
+EXAMPLES = tuple(f'Worked{part}.antt' for part in ('', 'Sides', 'Rectangles', 'Meetings', 'Surplus', 'Points'))
+EDITS, REASONS, FORM, TICKET, ROWS, LIMITS = (
+    MAP + f'{n}.antt' for n in ('Edits', 'Reasons', 'Form', 'Ticket', 'Rows', 'Limits'))
 
 # the statements of the theorem that are told, the four of demand 3 first, and what computes each of the map m in the
 # tables l
@@ -127,7 +128,8 @@ curvesBy choose change c d =
     choose (map (λ s. choose (map (λ t. segBy change l (s .from) (s .to) (t .from) (t .to)) (segments d))) (segments c))
 
 '''
-CURVES_USED = ('point, curveOf, coordinate, isRun}', 'point, curveOf, coordinate, isRun, segments}')
+CURVES_USED = ('point, curveOf, coordinate, isRunTo}', 'point, curveOf, coordinate, isRunTo, segments}')
+TWELVE_USED = (CURVES_USED[0], 'point, curveOf, coordinate, isRunTo, maxPoints}')
 AS_FOUND = '''abbrev asFound : Point → Point → Point → Point → Contact → Contact
 asFound a b p q k = k
 
@@ -281,8 +283,8 @@ WORKED = {
     'surplus: kind 12 stores the points sent': stored('addEdge Mod (natAbs u) (natAbs v)'),
     'surplus: 7 to 24 by the points sent': (REASONS, 'sent ++ rest (curveIn sent)', 'sent ++ rest (curveOf sent)'),
     'surplus: 5 by the points left': (
-        REASONS, '(5, badCurve sent)', '(5, badCurve (coordinates (points (withoutSurplus (curveOf sent)))))',
-        'use Rattle.curves.specs.Curves.{maxPoints}', 'use Rattle.curves.specs.Curves.{maxPoints, coordinates}'),
+        REASONS, '(5, badCurve most sent)', '(5, badCurve most (coordinates (points (withoutSurplus (curveOf sent)))))',
+        CURVES_USED[0], 'point, curveOf, coordinate, isRunTo, coordinates}'),
     '6: straight points too': (
         REASONS, '(6, not (neighboursDiffer (curveOf sent)))',
         '(6, not (neighboursDiffer (curveOf sent)) || straightInside (curveOf sent))',
@@ -301,8 +303,15 @@ WORKED = {
         REASONS, '(12, not (minusOne f) && not (same (natAbs f) (faceOfPoint m p)))', '(12, false)'),
     '14: only at a corner': (
         REASONS, '(λ n. onCurve c (n .at) &&', '(λ n. anyOf (samePoint (n .at)) (points c) &&'),
-    '18: at 12 points': (REASONS, '(18, ltb maxPoints (', '(18, ltb 11 ('),
-    '18: not at 13 points': (REASONS, '(18, ltb maxPoints (', '(18, ltb (suc maxPoints) ('),
+    '18: at the record': (
+        REASONS, '(18, ltb (mostPoints (s .limit)) (length (points (healedCurve m a b))))',
+        '(18, ltb (mostPoints (s .limit)) (suc (length (points (healedCurve m a b)))))'),
+    '18: not at one point more': (
+        REASONS, '(18, ltb (mostPoints (s .limit)) (', '(18, ltb (suc (mostPoints (s .limit))) ('),
+    '18: by 12 whatever the record': (
+        REASONS, '(18, ltb (mostPoints (s .limit)) (', '(18, ltb maxPoints (', *TWELVE_USED),
+    '5: by 12 whatever the record': (
+        REASONS, 'sentReasons (mostPoints (s .limit)) sent', 'sentReasons maxPoints sent', *TWELVE_USED),
     '21: at 999,999': (
         REASONS, 'ltb (suc lastNumber) (m .next .nodes', 'ltb lastNumber (m .next .nodes'),
     '21: kind 7 needs one number': (
@@ -338,6 +347,18 @@ WORKED = {
         ROWS,
         'pos (box f .left) ∷ pos (box f .low) ∷ pos (box f .right) ∷ pos (box f .high)',
         'pos (box f .right) ∷ pos (box f .high) ∷ pos (box f .left) ∷ pos (box f .low)'),
+    'form: the record': (
+        FORM, '    && isRecord (l .head .points)\n', '    && true\n', 'mostPoints, isRecord,', 'mostPoints,'),
+    'form: point counts by 12 whatever the record': (
+        FORM, 'allOf (edgeRangesTo (mostPoints (sizesOf l .limit))) (edgeRows l)',
+        'allOf (edgeRangesTo maxPoints) (edgeRows l)', 'mostPoints, isRecord,', 'isRecord,'),
+    'a record of 7': (
+        LIMITS, '|| sameZ k (pos maxPoints)', '|| (sameZ k (pos 7) || sameZ k (pos maxPoints))'),
+    'created for 12 whatever is asked for': (
+        TICKET, 'createdUnless l (sizesFor (limitOf k) l) (', 'createdUnless l (sizesFor TwelvePoints l) (',
+        'Limits.{isRecord, limitOf}', 'Limits.{isRecord, TwelvePoints}'),
+    'created: 2 before 1': (
+        TICKET, '(1, not (whole l)) ∷ (2, not (isRecord k)) ∷ []', '(2, not (isRecord k)) ∷ (1, not (whole l)) ∷ []'),
     'form: unused points': (FORM, '\n    && allOf isZero (drop (2 * natAbs (cell r 7)) (drop 8 r))', ''),
 }
 
@@ -350,6 +371,7 @@ use lib.ListN.{length}
 use Rattle.lists.specs.Tests.{same}
 use Rattle.lists.specs.Scans.{allOf}
 use Rattle.curves.specs.Tests.{isMet}
+use Rattle.map.specs.Limits.{TwelvePoints}
 use Rattle.map.specs.Rows.{Lent, Sizes, mapOf, withoutEdge}
 use Rattle.map.specs.Darts.{pieceCount}
 use Rattle.map.specs.Form.{linksOnce, ringsBearOne, inForm}
@@ -358,7 +380,7 @@ use Rattle.map.specs.Grow.{grow}
 use Rattle.map.proofs.Opened.{opened}
 
 abbrev room : Sizes
-room = record { nodes = 9; edges = 9; faces = 9 }
+room = record { nodes = 9; edges = 9; faces = 9; limit = TwelvePoints }
 
 abbrev stated : Lent → Bool
 stated l = let m = mapOf l in %s

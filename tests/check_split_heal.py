@@ -4,10 +4,10 @@ reference's `sluice_faults`.
 
   check_split_heal.py [MAPS] [--seed S]
 
-Needs target/staticlib/libsolgwid.a (`rt staticlib solgwid`) and a C compiler. The maps are grown by the reference, with
-islands among them. Every edge is cut at its points and between them: by 8 and healed by 10, by 7 and healed by 9. Then
-the same in tables with one free row, also with the next edge number at 999,996 to 1,000,000 (999,997 is the last that
-leaves a number for kind 9).
+Needs target/staticlib/libsolgwid.a (`rt staticlib solgwid`) and a C compiler. The maps are grown by the reference, for
+6 points or 12, with islands among them and curves of as many points. Every edge is cut at its points and between them:
+by 8 and healed by 10, by 7 and healed by 9. Then the same in tables with one free row, also with the next edge number
+at 999,996 to 1,000,000 (999,997 is the last that leaves a number for kind 9).
 """
 
 import ctypes
@@ -22,13 +22,14 @@ from check_calls import Lent, cells, library, listed, slice_of     # finds the r
 from repository import LEVEL
 
 import check
+import full
 import fuzz
 import grown
 import plotmap as pm
 
 HIGH = range(999_996, 1_000_001)
-COUNTED = ('maps', 'maps with islands', 'cuts healed', 'cuts of loops', 'cuts with next edge above 999,997',
-           'splits turned down')
+COUNTED = ('maps', 'maps for 6 points', 'maps with islands', 'cuts healed', 'cuts of loops',
+           'cuts of curves with the most points', 'cuts with next edge above 999,997', 'splits turned down')
 
 
 def by_library(lib):
@@ -61,7 +62,8 @@ def settings(m):
 
 def of_map(rng, m):
     """All edges of a map cut and healed: the counts and the differences."""
-    seen, found = Counter({'maps': 1, 'maps with islands': pm.piece_count(m) > 1}), []
+    seen, found = Counter({'maps': 1, 'maps for 6 points': m.points == 6}), []
+    seen['maps with islands'] += pm.piece_count(m) > 1
     for e in m.edges:
         for at, (x, sizes) in itertools.product(places(rng, e), settings(m)):
             faults = check.sluice_faults(x, sizes, e.number, at, LEVEL)
@@ -69,6 +71,7 @@ def of_map(rng, m):
             healed = faults == []
             seen['cuts healed' if healed else 'splits turned down'] += 1
             seen['cuts of loops'] += healed and e.start == e.end
+            seen['cuts of curves with the most points'] += healed and len(e.points) == m.points
             seen['cuts with next edge above 999,997'] += healed and x.next_edge in HIGH[2:]
     return seen, found
 
@@ -77,7 +80,7 @@ def comparisons(lib, seed):
     check.answered = by_library(lib)
     for s in seeds(seed):
         rng = random.Random(s)
-        yield of_map(rng, grown.grow(rng, rng.choice([30, 60, 120]), LEVEL))
+        yield of_map(rng, full.filled(rng, grown.grow(rng, rng.choice([30, 60, 120]), LEVEL), LEVEL))
 
 
 if __name__ == '__main__':

@@ -4,9 +4,9 @@
   generate_face_calls.py [CALLS] [--seed S]
 
 First the calls of the manual's chapter on the edges of a face, on the square sheet after its fourth ticket. Then so
-many on small grown maps, a third of them distorted (curves bent, nodes moved, links off the law, faces at will) and a
-third spoiled in one place or with another rectangle, so that each part of condition 2 answers; lists too short, just
-long enough and longer.
+many on small grown maps for 6 points or 12, a third of them distorted (curves bent, nodes moved, links off the law,
+faces at will) and a third spoiled in one place, with another rectangle or with another record of points, so that each
+part of condition 2 answers; lists too short, just long enough and longer.
 Needs nothing that is built.
 """
 
@@ -45,7 +45,7 @@ def by_manual():
 
 
 def grown(rng, grid):
-    m = pm.EMPTY_MAP
+    m = fuzz.empty_map(rng, LEVEL)
     for _ in range(rng.randint(2, 30)):
         k = fuzz.make_ticket(rng, m, grid, fuzz.MIXES[rng.choice(['faces', 'even', 'stitch'])])
         if pm.shape_ok(k) and pm.first_reason(pm.reasons(m, ROWS, k, LEVEL)) == 0:
@@ -67,6 +67,8 @@ def call(rng):
         t = rng.choice(rectangles.spoiled(t, h, LEVEL))
     elif how < 0.35:
         t, h = ft.spoil(rng, t, h, LEVEL)
+    elif how < 0.4:
+        h = replace(h, points=rng.choice(ft.RECORDS))
     return t, h, rng.choice(m.faces * 4 + (-1, m.next_face)), rng.randint(0, LIST)
 
 
@@ -78,7 +80,7 @@ def fits(t, h, face):
 
 def record(t, h, face, length):
     tables = (t.nodes, t.edges, t.faces)
-    numbers = [*map(len, tables), *pm.head_numbers(h, LEVEL), face, length] + [0] * 5
+    numbers = [*map(len, tables), *pm.head_numbers(h, LEVEL), face, length] + [0] * 4
     for table, room in zip(tables, ROOM):
         numbers += [*table] + [0] * (room - len(table))
     return ''.join(f'{"-" if v < 0 else "+"}{abs(v):07d}' for v in numbers) + '\n'

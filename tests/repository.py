@@ -7,7 +7,7 @@ import sys
 ROOT = pathlib.Path(__file__).resolve().parent.parent
 sys.path.insert(0, str(ROOT / 'tests/reference'))
 LIBRARY = 'target/staticlib/libsolgwid.a'
-LEVEL = 5     # the level of the reference at which the engine stands (tests/reference/README.md)
+LEVEL = 9     # the level of the reference at which the engine stands (tests/reference/README.md)
 
 
 def built(path, command):

@@ -42,8 +42,13 @@ def head(numbers, *names):
 
 def sheet(t, h):
     """The lent tables and head of a map."""
-    names = ('nodes', 'edges', 'faces', 'next_node', 'next_edge', 'next_face')
+    names = ('nodes', 'edges', 'faces', 'next_node', 'next_edge', 'next_face', 'points')
     return record(nodes=zs(t.nodes), edges=zs(t.edges), faces=zs(t.faces), head=head(pm.head_numbers(h, LEVEL), *names))
+
+
+def sizes(room, points):
+    """So many rows a table, for curves of at most so many points."""
+    return record(nodes=room, edges=room, faces=room, limit={6: 'SixPoints', 12: 'TwelvePoints'}[points])
 
 
 def answer(refusal, value):

@@ -85,7 +85,8 @@ def places_differ(m):
 
 def readable(t, h):
     """In form, or but for curve ends and the range of coordinates, so that each test can be read."""
-    if not (pm.whole_tables(t, LEVEL) and pm.counts_fit(t, h, LEVEL) and pm.edge_rows_shaped(t, h, LEVEL)):
+    if not (pm.whole_tables(t, LEVEL) and pm.counts_fit(t, h, LEVEL) and pm.record_ok(h, LEVEL)
+            and pm.edge_rows_shaped(t, h, LEVEL)):
         return False
     m = pm.decode(t, h, LEVEL)
     points = places(m) + [p for e in m.edges for p in e.points]

@@ -1,10 +1,8 @@
 """Bit fields: crates/fields against the bit code of transport.py."""
 
 import random
-from dataclasses import replace
 
 import grown
-import plotmap as pm
 import transport as tr
 
 from repository import LEVEL
@@ -75,7 +73,7 @@ def of_bits(rng):
 
 def of_map(rng):
     """The fields of a whole map, put one behind the other, make its file."""
-    m = grown.grow(rng, rng.choice([0, 5, 12]), LEVEL, replace(pm.EMPTY_MAP, points=rng.choice([6, 12])))
+    m = grown.grow(rng, rng.choice([0, 5, 12]), LEVEL)
     fields = ' ++ '.join(f'bits {w} {int(v)}' for v, w in tr.fields(m))
     return call(f'bytesOf ({fields})', nats(tr.file_of(m)), 'List ℕ')
 

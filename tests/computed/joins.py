@@ -17,7 +17,7 @@ HEADER = """use Rattle.map.specs.Ticket.{Outcome}
 use Rattle.joining.specs.Join.{joinedSheet}
 """
 # what kinds 1, 8 and 12 can get on places and rows that exist
-REFUSALS = (0, 1, 2, 6, 7, 11, 12, 14, 15, 20, 21, 23, 24)
+REFUSALS = (0, 1, 2, 5, 6, 7, 11, 12, 14, 15, 20, 21, 23, 24)
 
 
 def call(first, second):
@@ -30,7 +30,8 @@ def call(first, second):
 def by_hand():
     """A square and its neighbour, which has a node inside the square's side, both ways round; a line with a straight
     point more, and one that goes on from its end and comes back; one curve that turns back, which kind 8 leaves out of
-    form at the turn: then another ticket gets 2; a line that lies along another one, and one that touches it."""
+    form at the turn: then another ticket gets 2; a line that lies along another one, and one that touches it; a line of
+    seven points to a sheet of six."""
     square = lent.played('1 -1 0 0', '12 1 1 0 0 10 0 10 10 0 10 0 0')
     beside = lent.played('1 -1 10 0', '1 -1 10 10', '12 1 2 10 0 10 10', '12 1 2 10 0 20 0 20 10 10 10')
     line = lent.played('1 -1 0 0', '1 -1 9 0', '4 1 2 0 0 9 0')
@@ -41,9 +42,12 @@ def by_hand():
     halves = lent.played('1 -1 0 0', '1 -1 5 0', '1 -1 9 0', '4 1 2 0 0 5 0', '12 2 3 5 0 9 0')
     twice = replace(turn, nodes=(*turn.nodes, replace(turn.nodes[0], number=2)), next_node=3)
     along, touching = (lent.played('1 -1 1 5', '1 -1 8 5', f'4 1 2 1 5 {inner} 8 5') for inner in ('3 0 6 0', '4 0'))
+    seven = lent.played('1 -1 20 20', '1 -1 26 56', f'4 1 2 {" ".join(f"{20 + i} {20 + i * i}" for i in range(7))}')
+    six = replace(line, points=6)
     pairs = ((square, beside), (beside, square), (line, longer), (longer, longer), (pm.EMPTY_MAP, longer),
              (line, beyond), (beyond, line), (beyond, beyond), (back, turn), (back, more), (halves, line),
-             (line, halves), (square, twice), (twice, square), (line, along), (touching, line))
+             (line, halves), (square, twice), (twice, square), (line, along), (touching, line), (six, seven),
+             (seven, six))
     t, h = grown.exact(square, LEVEL)
     bad = ((t, replace(h, face_count=0)), (replace(t, faces=()), h), (t, h))       # the first is looked at first
     good = [(grown.exact(a, LEVEL, more=5), grown.exact(b, LEVEL)) for a, b in pairs]
@@ -62,7 +66,7 @@ def some(rng):
     """Two sheets grown from one, one sheet twice, a sheet and its neighbour; some of them distorted or spoiled."""
     w = rng.choice([5, 7, 9, 14])
     grid, mix = (0, 0, w), rng.choice(['even', 'faces', 'stitch'])
-    more = lambda n, m=pm.EMPTY_MAP: grown.grow(rng, n, LEVEL, m, grid, mix)
+    more = lambda n, m=None: grown.grow(rng, n, LEVEL, m, grid, mix)
     base = more(rng.choice([0, 6, 12, 18]))
     a = more(rng.choice([0, 4, 8]), base)
     c = rng.random()

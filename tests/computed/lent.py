@@ -48,7 +48,7 @@ def straightened(rng, m):
     for e in m.edges:
         (a, b), (c, d) = e.points[:2]
         p = ((a + c) // 2, (b + d) // 2)
-        if len(e.points) < pm.MAX_POINTS and pm.straight_between(p, (a, b), (c, d)) and rng.random() < 0.5:
+        if len(e.points) < m.points and pm.straight_between(p, (a, b), (c, d)) and rng.random() < 0.5:
             m = pm.with_curve(m, e.number, (e.points[0], p, *e.points[1:]))
     return m
 

@@ -49,7 +49,7 @@ def twin(rng, m):
     d, q = rng.choice(pairs)
     c, v = pm.course(m, d), pm.way(m, q)
     c = (c[0], (c[0][0] + v[0], c[0][1] + v[1]), *c[1:])
-    return pm.with_curve(m, abs(d), c if d > 0 else c[::-1]) if len(c) <= 12 and not pm.equal_neighbours(c) else m
+    return pm.with_curve(m, abs(d), c if d > 0 else c[::-1]) if len(c) <= m.points and not pm.equal_neighbours(c) else m
 
 
 def by_hand():

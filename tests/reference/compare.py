@@ -16,12 +16,12 @@ import ticket as tk
 CAP = (200, 200, 200)
 
 
-def make(seed, size, mix='all', level=0):
-    """A list of so many tickets; mixes are those of fuzz.py, `islands`, or `all`."""
+def make(seed, size, mix='all', level=0, points=pm.MAX_POINTS):
+    """A list of so many tickets for a map under a record of points; mixes are those of fuzz.py, `islands`, or `all`."""
     rng = random.Random(seed)
     grid = (0, 0, rng.choice([4, 6, 8, 12, 20, 60, 1000, pm.MAX_COORDINATE + 1]))
     mix = rng.choice([*fuzz.MIXES, 'islands', 'islands']) if mix == 'all' else mix
-    t, h = tk.blank(CAP, level)
+    t, h = tk.blank(CAP, level, points=points)
     m, s, out = pm.decode(t, h, level), pm.Sizes(*CAP), []
     world = islands.World(rng) if mix == 'islands' else None
     for _ in range(size):

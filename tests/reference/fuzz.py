@@ -2,12 +2,12 @@
 """Grow maps by random tickets and check them after every carried-out ticket.
 
   fuzz.py LISTS [--seed S] [--size TICKETS] [--grid G] [--level L] [--mix NAME] [--jobs J]
-          [--out DIR]   (write each ticket list to DIR/list-<seed>.txt)
+          [--out DIR]   (write each ticket list to DIR/list-<seed>.txt, rows a table and record of points first)
           [--no-form]   (skip the in-form test of plotmap itself; check.py still looks)
 
 Mixes: even, redraw (many kind 6), abuse (wells and loops redrawn), faces (many 11 to 14), stitch (many 7 to 10),
 islands (see islands.py). In all of them some curves meet edges on purpose (see meetings.py), and some have points along
-straight runs (see surplus.py).
+straight runs (see surplus.py); in all but islands some have as many points as the head records (see full.py).
 """
 
 import argparse
@@ -15,9 +15,11 @@ import collections
 import multiprocessing
 import random
 import sys
+from dataclasses import replace
 from math import gcd
 
 import check
+import full
 import islands
 import meetings
 import plotmap as pm
@@ -27,18 +29,24 @@ import ticket as tk
 
 SWEEP = 'sweep'     # kind 6 past a well or a node, or turned over
 MEET = 'meet'       # kinds 4, 6, 11 and 12 along, across or touching other edges
+FULL = 'full'       # to the recorded number of points, or one more: kinds 4, 6, 11, 12, and heals
 MIXES = {
     'even':   {1: 10, 2: 5, 3: 3, 4: 8, 5: 4, 6: 12, 7: 6, 8: 6, 9: 5, 10: 5, 11: 14, 12: 14,
-               13: 4, 14: 4, 0: 2, MEET: 10},
+               13: 4, 14: 4, 0: 2, MEET: 10, FULL: 8},
     'redraw': {1: 10, 2: 2, 3: 1, 4: 4, 5: 3, 6: 25, 7: 3, 8: 3, 9: 2, 10: 2, 11: 16, 12: 16,
-               13: 6, 14: 6, 0: 0, SWEEP: 15, MEET: 10},
+               13: 6, 14: 6, 0: 0, SWEEP: 15, MEET: 10, FULL: 8},
     'abuse':  {1: 22, 2: 2, 3: 1, 4: 6, 5: 2, 6: 30, 7: 2, 8: 2, 9: 1, 10: 1, 11: 14, 12: 14,
-               13: 2, 14: 2, 0: 0, MEET: 8},
+               13: 2, 14: 2, 0: 0, MEET: 8, FULL: 4},
     'faces':  {1: 10, 2: 2, 3: 1, 4: 4, 5: 2, 6: 10, 7: 4, 8: 4, 9: 2, 10: 2, 11: 28, 12: 28,
-               13: 7, 14: 7, 0: 1, MEET: 12},
+               13: 7, 14: 7, 0: 1, MEET: 12, FULL: 6},
     'stitch': {1: 8, 2: 2, 3: 1, 4: 10, 5: 3, 6: 10, 7: 15, 8: 15, 9: 12, 10: 12, 11: 12, 12: 12,
-               13: 3, 14: 3, 0: 1, MEET: 10},
+               13: 3, 14: 3, 0: 1, MEET: 10, FULL: 20},
 }
+
+
+def empty_map(rng, level):
+    """Under either record of points; below level 9 it is 12."""
+    return replace(pm.EMPTY_MAP, points=rng.choice(pm.POINT_RECORDS)) if level >= 9 else pm.EMPTY_MAP
 
 
 def some_node(rng, m):
@@ -74,7 +82,8 @@ def curve(rng, m, grid, u, v, old=None):
             elif len(pts) > 2:
                 pts.pop(rng.randrange(1, len(pts) - 1))
         return pts
-    n = rng.choice([0, 0, 1, 1, 2, 3, 4, 5, 10, 11, 12]) if rng.random() < 0.3 else rng.choice([0, 0, 0, 1, 1, 2])
+    most = m.points                           # the curve has n points more than its ends: up to two over the record
+    n = rng.choice([0, 0, 1, 1, 2, 3, 4, 5, most - 2, most - 1, most] if rng.random() < 0.3 else [0, 0, 0, 1, 1, 2])
     if u == v and n < 2:
         n = rng.choice([2, 2, 3])
     if u == v and rng.random() < 0.5 and n >= 2:     # a rectangle or triangle about the node
@@ -120,7 +129,7 @@ def redrawn(rng, m, grid):
 
 
 def make_ticket(rng, m, grid, weights):
-    return surplus.mixed(rng, plain_ticket(rng, m, grid, weights))
+    return surplus.mixed(rng, plain_ticket(rng, m, grid, weights), m.points)
 
 
 def plain_ticket(rng, m, grid, weights):
@@ -140,7 +149,9 @@ def plain_ticket(rng, m, grid, weights):
         return sweeps.ticket(rng, m)
     if kind == MEET and m.edges:
         return meetings.ticket(rng, m)
-    if kind in (6, SWEEP, MEET):
+    if kind == FULL and m.edges:
+        return full.ticket(rng, m)
+    if kind in (6, SWEEP, MEET, FULL):
         return redrawn(rng, m, grid)
     if kind in (7, 8):
         e = some_edge(rng, m)
@@ -158,10 +169,10 @@ def plain_ticket(rng, m, grid, weights):
     return (kind, u, v, *(c for p in curve(rng, m, grid, u, v) for c in p))
 
 
-def one_list(seed, size, grid, level, mix, cap, form=True):
+def one_list(seed, size, grid, level, mix, cap, form=True, points=pm.MAX_POINTS):
     """Tickets, answers and the first fault found (or None)."""
     rng = random.Random(seed)
-    t, h = tk.blank(cap, level)
+    t, h = tk.blank(cap, level, points=points)
     tickets, said = [], []
     world = islands.World(rng) if mix == 'islands' else None
     for _ in range(size):
@@ -196,10 +207,11 @@ def work(job):
     grid = (0, 0, w) if rng.random() < 0.8 else (pm.MAX_COORDINATE + 1 - w,) * 2 + (w,)
     cap = (40, 60, 40) if rng.random() < 0.85 else (rng.randint(1, 12), rng.randint(0, 14), rng.randint(1, 6))
     mix = args.mix or rng.choice([*MIXES, 'islands'])
-    tickets, said, fault = one_list(seed, args.size, grid, args.level, mix, cap, not args.no_form)
+    points = empty_map(rng, args.level).points
+    tickets, said, fault = one_list(seed, args.size, grid, args.level, mix, cap, not args.no_form, points)
     if args.out:
         with open(f'{args.out}/list-{seed}.txt', 'w') as f:
-            f.write(f'{cap[0]} {cap[1]} {cap[2]}\n')
+            f.write(f'{cap[0]} {cap[1]} {cap[2]} {points}\n')
             f.writelines(' '.join(map(str, k)) + '\n' for k in tickets)
     return seed, mix, grid, said, fault, tickets
 

@@ -10,8 +10,9 @@ import fuzz_tables as ft
 BIG = pm.Sizes(80, 120, 80)
 
 
-def grow(rng, size, level=5, m=pm.EMPTY_MAP, grid=None, mix=None):
-    """A map grown by random tickets, from m."""
+def grow(rng, size, level=5, m=None, grid=None, mix=None):
+    """A map grown by random tickets, from m, or from the empty map under either record of points."""
+    m = m or fuzz.empty_map(rng, level)
     mix = mix or rng.choice(list(fuzz.MIXES) + ['islands'] * 4)
     grid = grid or (0, 0, rng.choice([5, 7, 9, 14, 30, pm.MAX_COORDINATE + 1]))
     world = islands.World(rng) if mix == 'islands' else None

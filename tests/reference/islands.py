@@ -142,7 +142,7 @@ def healed(rng, m):
 
 
 def ticket(rng, m, w):
-    return surplus.mixed(rng, plain_ticket(rng, m, w))
+    return surplus.mixed(rng, plain_ticket(rng, m, w), m.points)
 
 
 def plain_ticket(rng, m, w):

@@ -225,7 +225,7 @@ def one_list(seed, size, level, every):
     world = islands.World(rng) if mix == 'islands' else None
     w = rng.choice([4, 5, 6, 8, 12, 30])
     thin = rng.choice([0, 0.7, 0.9])           # so many removals are left out, for fuller maps
-    m, tally, tickets = pm.EMPTY_MAP, collections.Counter(), []
+    m, tally, tickets = fuzz.empty_map(rng, level), collections.Counter(), []
     for _ in range(size):
         k = ticket_of(rng, m, mix, world, w)
         if not pm.shape_ok(k) or k[0] in (3, 5, 13, 14) and rng.random() < thin:

@@ -1,6 +1,7 @@
 #!/usr/bin/env python3
 """Calls for raw.py: grown maps, distorted (links off the law, faces at will, crossing curves, nodes on one point),
-crossed (an edge led over a node, to be drawn back), spoiled or with other rectangles, with tickets and lists.
+crossed (an edge led over a node, to be drawn back), spoiled, with other rectangles or another record of points, with
+tickets and lists.
 
   raw_gen.py MAPS SEED [LEVEL]     up to six calls on each map
 """
@@ -45,7 +46,7 @@ def move(rng, m, grid):
 
 
 def grown(rng, grid, level):
-    m, world = pm.EMPTY_MAP, islands.World(rng) if rng.random() < 0.3 else None
+    m, world = fuzz.empty_map(rng, level), islands.World(rng) if rng.random() < 0.3 else None
     for _ in range(rng.randint(2, 40)):
         k = islands.ticket(rng, m, world) if world else fuzz.make_ticket(
             rng, m, grid, fuzz.MIXES[rng.choice(['faces', 'even', 'stitch', 'abuse'])])
@@ -107,6 +108,8 @@ def call(rng, m, grid, level):
         t, h = ft.spoil(rng, t, h, level)
         if any(abs(v) >= 2 ** 63 for v in (*t.nodes, *t.edges, *t.faces, *pm.head_numbers(h, level), *k)):
             return None
+    elif how < 0.32:
+        h = replace(h, points=rng.choice(ft.RECORDS))
     if rng.random() < 0.15:
         k = 'L', rng.choice(x.faces + (-1, x.next_face)), rng.randint(0, 3 * len(x.edges) + 2)
     else:

@@ -33,13 +33,14 @@ def spoiled(rng, points):
     return points
 
 
-def mixed(rng, ticket):
-    """The ticket, or, some of the time where it has a curve, with surplus points: to 12 in all, or one or two over."""
+def mixed(rng, ticket, most):
+    """The ticket, or, some of the time where it has a curve, with surplus points: to the recorded number in all, or one
+    or two over."""
     if not ticket or ticket[0] not in CURVES or not pm.shape_ok(ticket) or rng.random() > SHARE:
         return ticket
     points = pm.curve_sent(ticket)
     if len(points) < 2:
         return ticket
-    n = rng.choice((1, 1, 2, 2, 3, 5, *(most - len(points) for most in (12, 13, 14))))
+    n = rng.choice((1, 1, 2, 2, 3, 5, *(most + over - len(points) for over in (0, 1, 2))))
     course = spoiled(rng, thickened(rng, points, n))
     return (*ticket[:len(ticket) - 2 * len(points)], *(c for p in course for c in p))

@@ -80,5 +80,5 @@ def crossed(rng, m):
         return m, None
     e, n = rng.choice(own if own and rng.random() < 0.7 else pairs)
     found = led_round(rng, e, rng.randrange(len(e.points) - 1), [(n.x, n.y)], lambda s: s, lambda p: p)
-    curves = [c for c in map(pm.curve_sent, found) if len(c) <= pm.MAX_POINTS]
+    curves = [c for c in map(pm.curve_sent, found) if len(c) <= m.points]
     return (pm.with_curve(m, e.number, curves[0]), drawn(e)) if curves else (m, None)

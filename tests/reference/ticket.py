@@ -4,7 +4,7 @@
   ticket.py [--cap N E F] [--level N] [--dump] [--check] [--start-next N]
 
 --dump prints, after each answer, the head and the rows in use, whole:
-  H counts and next numbers / N node row / E edge row / F face row
+  H counts, next numbers and, from level 9 on, the record of points / N node row / E edge row / F face row
 --start-next starts with all three next numbers at N (1 in an empty map).
 --check runs the checker of check.py after each carried-out ticket and stops at a fault.
 """
@@ -39,16 +39,16 @@ def dump_lines(t: pm.Tables, h: pm.Head, level: int) -> list:
             + lines('F', t.faces, pm.face_width(level), h.face_count))
 
 
-def blank(cap: tuple, level: int, start_next: int = 1) -> tuple:
+def blank(cap: tuple, level: int, start_next: int = 1, points: int = pm.MAX_POINTS) -> tuple:
     t = pm.Tables((0,) * (cap[0] * pm.NODE_WIDTH), (0,) * (cap[1] * pm.EDGE_WIDTH),
                   (0,) * (cap[2] * pm.face_width(level)))
-    t, h, _, _ = pm.make_empty(t, pm.Head(0, 0, 0, 0, 0, 0), level)
+    t, h, _, _ = pm.make_empty(t, pm.Head(0, 0, 0, 0, 0, 0), level, points)
     return t, replace(h, next_node=start_next, next_edge=start_next, next_face=start_next)
 
 
-def answers(lines, cap=(200, 200, 200), level=0, start_next=1):
+def answers(lines, cap=(200, 200, 200), level=0, start_next=1, points=pm.MAX_POINTS):
     """For each line: refusal, value, and tables and head after it."""
-    t, h = blank(cap, level, start_next)
+    t, h = blank(cap, level, start_next, points)
     for line in lines:
         ticket = read_ticket(line)
         if ticket is None:

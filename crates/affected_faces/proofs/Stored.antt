@@ -38,7 +38,7 @@ use Rattle.map.specs.Ticket.{carried}
 use Rattle.map.specs.Edits.{parts, healedCurve}
 use Rattle.map.proofs.Laws.{edge-there}
 use Rattle.map.proofs.Linked.{within-nodes}
-use Rattle.map.proofs.RoundTrip.{Stored}
+use Rattle.map.proofs.RoundTrip.{StoredTo, Stored}
 use Rattle.map.proofs.Surplus.{course-stored}
 use Rattle.map_laws.proofs.Readings.{dart-has, course-row}
 use Rattle.map_laws.proofs.Reasons.{Sent, Split, Heal}
@@ -64,8 +64,8 @@ some-two : (a : Point) (r : List Point) → Some r → 2 ≤ length (a ∷ r)
 some-two a [] h = absurd h
 some-two a (b ∷ r) h = omega arith
 
-pub halves-stored : (p : Point) (c : Curve) → c .first ≢ p → lastPoint c ≢ p → onCurve c p ≡ true → InRange p → Stored c
-    → Stored (front p c) × Stored (back p c)
+pub halves-stored : {k : ℕ} (p : Point) (c : Curve) → c .first ≢ p → lastPoint c ≢ p → onCurve c p ≡ true → InRange p
+    → StoredTo k c → StoredTo k (front p c) × StoredTo k (back p c)
 halves-stored p c n l o i d =
     let place = cut-place p (c .first) (c .rest) n l (onCurve-iff c p .0 o) in
     let few = halves-few p c n l o in

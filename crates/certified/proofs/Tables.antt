@@ -15,6 +15,7 @@ use Rattle.tables.proofs.Filled.{rows-count}
 use Rattle.tables.proofs.Tests.{within-most}
 use Rattle.grown.specs.Good.{Good, Fits}
 use Rattle.grown.specs.Claims.{Limited}
+use Rattle.grown.proofs.Short.{in-form-short}
 use Rattle.grown.proofs.Ranges.{next-in-range, good-back, good-in-form, good-whole}
 use Rattle.grown.proofs.Grows.{State, steps, grown-state, state-grown, whole-limited}
 use Rattle.certified.specs.Certified.{nextsInRange, inPlane, certified, certifies}
@@ -47,6 +48,7 @@ module _ (l : Lent) (h : inForm l ≡ true) where
       rows-count faceWidth (natAbs (l .head .faces)) (l .faces),
       length-map (faceRows l) faceRowOf,
     );
+    short = in-form-short l h;
   }
 
   nexts : nextsInRange (mapOf l) ≡ true

@@ -33,7 +33,7 @@ nextsInRange m = nextInRange (m .next .nodes) && nextInRange (m .next .edges) &&
 abbrev pub inRange : Point → Bool
 inRange p = leb (p .x) maxCoordinate && leb (p .y) maxCoordinate
 
--- 2 to 12 points
+-- 2 to 12 points; of tables `inForm` holds them to the recorded number
 abbrev pub countFits : Curve → Bool
 countFits c = leb 2 (length (points c)) && leb (length (points c)) maxPoints
 

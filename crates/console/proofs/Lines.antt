@@ -5,14 +5,15 @@ use mathlib.Core.Option.{Option, none, some, Option·getD}
 use Prim.Native.Nat.{ℕ, suc, _+_, _≤_, _<_}
 use native.Mathlib.Numerals.{add-one}
 use native.Mathlib.Omega.{arith}
-use lib.IntN.{ℤ}
+use lib.IntN.{ℤ, pos}
 use lib.ListN.{length, getD, take, drop, set, length-append}
 use lib.Seq.{take-append-seam, length-take-le, take-suc-set, take-all, take-at}
 use Rattle.lists.specs.Scans.{fold}
 use Rattle.lists.proofs.Appends.{fold-append, each-append}
 use Rattle.lists.proofs.Bools.{same-refl, same-eq, same-false}
 use Rattle.map.specs.declared.Head.{Head}
-use Rattle.map.specs.Limits.{nodeWidth, edgeWidth, faceWidth}
+use Rattle.curves.specs.Curves.{maxPoints}
+use Rattle.map.specs.Limits.{TwelvePoints, nodeWidth, edgeWidth, faceWidth}
 use Rattle.map.specs.Rows.{Lent, lent, emptyMap, headOf}
 use Rattle.map.specs.Ticket.{emptied}
 use Rattle.text.specs.declared.Parsed.{Parsed}
@@ -84,9 +85,10 @@ input-served s e f = record {
   leaves = f ∙ ap finished (s .leaves) ∙ ap (λ (l : Lent). afterInput l (s .bytes)) e;
 }
 
-pub program-served : (h : Head) (after : Lent) → h ≡ headOf emptyMap
+pub program-served : (h : Head) (after : Lent) → h ≡ headOf TwelvePoints emptyMap
     → InputServed
-    (emptied (lent (programTable nodeWidth) (programTable edgeWidth) (programTable faceWidth) h) .lent) after
+    (emptied (lent (programTable nodeWidth) (programTable edgeWidth) (programTable faceWidth) h) (pos maxPoints) .lent)
+    after
     → ProgramServed (after .head)
 unfolding programTables
 program-served h after e s = record {
@@ -94,6 +96,6 @@ program-served h after e s = record {
   are-bytes = s .are-bytes;
   leaves = ap (λ (l : Lent). l .head) (s .leaves)
       ∙ ap (λ (k : Head). afterInput
-      (emptied (lent (programTable nodeWidth) (programTable edgeWidth) (programTable faceWidth) k) .lent)
-      (s .bytes) .head) e;
+      (emptied (lent (programTable nodeWidth) (programTable edgeWidth) (programTable faceWidth) k) (pos maxPoints)
+      .lent) (s .bytes) .head) e;
 }

@@ -61,15 +61,16 @@ tagged-put before after tag r row e n h size =
     text-put before (tag ∷ rowText row) after r e (omega arith) (omega (arith, row-few row))
 
 -- the head's numbers are those that it is read from
-pub head-numbers : (l : List ℤ) → length l ≡ 6 → l ≡ headNumbers (headIn l)
+pub head-numbers : (l : List ℤ) → length l ≡ 7 → l ≡ headNumbers (headIn l)
 head-numbers [] e = absurd (omega arith)
 head-numbers (a ∷ []) e = absurd (omega arith)
 head-numbers (a ∷ b ∷ []) e = absurd (omega arith)
 head-numbers (a ∷ b ∷ c ∷ []) e = absurd (omega arith)
 head-numbers (a ∷ b ∷ c ∷ d ∷ []) e = absurd (omega arith)
 head-numbers (a ∷ b ∷ c ∷ d ∷ f ∷ []) e = absurd (omega arith)
-head-numbers (a ∷ b ∷ c ∷ d ∷ f ∷ g ∷ []) e = refl
-head-numbers (a ∷ b ∷ c ∷ d ∷ f ∷ g ∷ h ∷ l) e = absurd (omega arith)
+head-numbers (a ∷ b ∷ c ∷ d ∷ f ∷ g ∷ []) e = absurd (omega arith)
+head-numbers (a ∷ b ∷ c ∷ d ∷ f ∷ g ∷ h ∷ []) e = refl
+head-numbers (a ∷ b ∷ c ∷ d ∷ f ∷ g ∷ h ∷ i ∷ l) e = absurd (omega arith)
 
 -- row i stands within the table
 pub row-within : (w n i : ℕ) → 1 ≤ w → i < n / w → i * w + w ≤ n

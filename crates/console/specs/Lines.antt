@@ -10,7 +10,8 @@ use Rattle.lists.specs.Tests.{same}
 use Rattle.lists.specs.Scans.{fold}
 use Rattle.lists.specs.Members.{All}
 use Rattle.map.specs.declared.Head.{Head}
-use Rattle.map.specs.Limits.{nodeWidth, edgeWidth, faceWidth}
+use Rattle.curves.specs.Curves.{maxPoints}
+use Rattle.map.specs.Limits.{nodeWidth, edgeWidth, faceWidth, TwelvePoints}
 use Rattle.map.specs.Rows.{Lent, lent, emptyMap, headOf}
 use Rattle.map.specs.Ticket.{Outcome, ticket, emptied}
 use Rattle.text.specs.declared.Parsed.{Parsed}
@@ -74,7 +75,7 @@ pub record InputServed (before after : Lent) : Type 0 where
 
 -- ---- the ticket program
 
--- it has 200 rows a table
+-- it has 200 rows a table, and takes 12 points
 abbrev pub programRows : ℕ
 programRows = 200
 
@@ -83,10 +84,11 @@ abbrev pub programTable : ℕ → List ℤ
 programTable w = replicate (programRows * w) (pos 0)
 
 unfoldable pub programTables : Lent
-programTables = lent (programTable nodeWidth) (programTable edgeWidth) (programTable faceWidth) (headOf emptyMap)
+programTables = lent (programTable nodeWidth) (programTable edgeWidth) (programTable faceWidth)
+    (headOf TwelvePoints emptyMap)
 
 -- the head after some input, from the empty map on
 pub record ProgramServed (h : Head) : Type 0 where
   pub bytes : List ℕ
   pub are-bytes : Bytes bytes
-  pub leaves : h ≡ afterInput (emptied programTables .lent) bytes .head
+  pub leaves : h ≡ afterInput (emptied programTables (pos maxPoints) .lent) bytes .head

@@ -16,9 +16,9 @@ answerText refusal value = naturalText refusal ++ 32 ∷ numberText value ++ 10 
 unfoldable pub taggedText : ℕ → List ℤ → List ℕ
 taggedText tag row = tag ∷ rowText row
 
--- the head's numbers: the counts, then the next numbers
+-- the head's numbers: the counts, the next numbers, the record of points
 abbrev pub headNumbers : Head → List ℤ
-headNumbers h = h .nodes ∷ h .edges ∷ h .faces ∷ h .«next_node» ∷ h .«next_edge» ∷ h .«next_face» ∷ []
+headNumbers h = h .nodes ∷ h .edges ∷ h .faces ∷ h .«next_node» ∷ h .«next_edge» ∷ h .«next_face» ∷ h .points ∷ []
 
 -- a text put at the front of a buffer, and its length
 pub record TextPut (before text after : List ℕ) (r : ℕ) : Type 0 where

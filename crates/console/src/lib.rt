@@ -5,10 +5,12 @@ use outcomes::Done;
 use text::Parsed;
 ghost use mathlib.Core.Path.{_≡_};
 ghost use Prim.Native.Nat.{_/_, _≤_, _<_};
+ghost use lib.IntN.{pos};
 ghost use lib.ListN.{length};
 ghost use Rattle.io.specs.Counts.{Counts, clamped};
 ghost use Rattle.lists.specs.Scans.{fold};
 ghost use Rattle.tables.specs.Tables.{rowAt};
+ghost use Rattle.curves.specs.Curves.{maxPoints};
 ghost use Rattle.head.specs.Heads.{headIn};
 ghost use Rattle.map.specs.Limits.{edgeWidth};
 ghost use Rattle.map.specs.Loans.{lentNow};
@@ -326,8 +328,8 @@ fn serve_rest(
     head
 }
 
-// Makes the empty map and answers standard input to its end, a ticket a line; the head after it. Each line is answered
-// on standard output as it comes, with `rows` the head and the rows in use after it.
+// Makes the empty map, for 12 points, and answers standard input to its end, a ticket a line; the head after it. Each
+// line is answered on standard output as it comes, with `rows` the head and the rows in use after it.
 pub fn serve_tables(
     nodes: &mut [i64],
     edges: &mut [i64],
@@ -335,11 +337,12 @@ pub fn serve_tables(
     h: Head,
     rows: bool,
 ) -> Head
-    ensures { λ r. ⌜ InputServed (emptied (lentNow (nodes .entry) (edges .entry) (faces .entry) h) .lent)
+    ensures { λ r. ⌜ InputServed
+        (emptied (lentNow (nodes .entry) (edges .entry) (faces .entry) h) (pos maxPoints) .lent)
         (lentNow (nodes .exit) (edges .exit) (faces .exit) r) ⌝ }
 {
     let mut line = [0u8; KEPT];
-    let empty = engine::empty_map(nodes, edges, faces, h);
+    let empty = engine::empty_map(nodes, edges, faces, h, head::TWELVE_POINTS);
     let start = empty.head;
     let state = serve_input(nodes, edges, faces, start, &mut line, rows);
     serve_rest(nodes, edges, faces, state, &line, rows)
@@ -352,5 +355,11 @@ pub fn serve(rows: bool) -> Head
     let mut nodes = [0i64; NODE_CELLS];
     let mut edges = [0i64; EDGE_CELLS];
     let mut faces = [0i64; FACE_CELLS];
-    serve_tables(&mut nodes, &mut edges, &mut faces, head::empty(), rows)
+    serve_tables(
+        &mut nodes,
+        &mut edges,
+        &mut faces,
+        head::empty(head::TWELVE_POINTS),
+        rows,
+    )
 }

@@ -21,8 +21,8 @@ use Rattle.lists.specs.Tables.{table}
 use Rattle.lists.proofs.Bools.{&&-false}
 pub use Rattle.lists.proofs.Bools.{and-left, and-right}
 use Rattle.plane.specs.Points.{maxCoordinate, InRange}
-use Rattle.curves.specs.Curves.{Run, isRun, maxPoints, coordinate, pointAt, pointsFrom, pointsOf, curveOf, lastOf}
-use Rattle.curves.specs.Curves.{through}
+use Rattle.curves.specs.Curves.{Run, isRunTo, maxPoints, coordinate, pointAt, pointsFrom, pointsOf, curveOf}
+use Rattle.curves.specs.Curves.{lastOf, through}
 
 -- ---- tables
 
@@ -75,17 +75,17 @@ coordinate-cast z e = rw (coordinate-read z e)
 
 module _ {l : List ℤ} (run : Run l) where
   pub two-points : 2 ≤ length l / 2
-  unfolding isRun
+  unfolding isRunTo
   two-points = leb-true 2 (length l / 2)
       (and-left _ (leb (length l / 2) maxPoints) (and-left _ (allOf coordinate l) (run .is)))
 
   pub few-points : length l / 2 ≤ maxPoints
-  unfolding isRun
+  unfolding isRunTo
   few-points = leb-true (length l / 2) maxPoints
       (and-right (leb 2 (length l / 2)) _ (and-left _ (allOf coordinate l) (run .is)))
 
   cells : allOf coordinate l ≡ true
-  unfolding isRun
+  unfolding isRunTo
   cells = and-right (leb 2 (length l / 2) && leb (length l / 2) maxPoints) _ (run .is)
 
   -- each number of a run is a coordinate
@@ -103,16 +103,28 @@ module _ {l : List ℤ} (run : Run l) where
   pub point-in : (i : ℕ) → InRange (pointAt l i)
   point-in i = record { x = cell-le (i * 2); y = cell-le (i * 2 + 1) }
 
+-- a run of at most k points is one of at most n, if that is more
+pub run-wider : {k n : ℕ} → k ≤ n → (l : List ℤ) → isRunTo k l ≡ true → isRunTo n l ≡ true
+unfolding isRunTo
+run-wider {k} {n} le l h =
+    let few = and-left (leb 2 (length l / 2) && leb (length l / 2) k) (allOf coordinate l) h in
+    let most = leb-true (length l / 2) k (and-right (leb 2 (length l / 2)) (leb (length l / 2) k) few) in
+    rw (
+      and-left (leb 2 (length l / 2)) (leb (length l / 2) k) few,
+      le-leb (length l / 2) n (omega arith),
+      and-right (leb 2 (length l / 2) && leb (length l / 2) k) (allOf coordinate l) h,
+    )
+
 -- ---- whether a list is a run
 
 -- the number of points, tested
-pub few-tested : (n : ℕ) → leb 2 n && leb n maxPoints ≡ not (ltb n 2 || ltb maxPoints n)
-few-tested n = go (ltb n 2) refl (ltb maxPoints n) refl
+pub few-tested : (most n : ℕ) → leb 2 n && leb n most ≡ not (ltb n 2 || ltb most n)
+few-tested most n = go (ltb n 2) refl (ltb most n) refl
   where
-    go : (s : Bool) → ltb n 2 ≡ s → (t : Bool) → ltb maxPoints n ≡ t → leb 2 n && leb n maxPoints ≡ not (s || t)
+    go : (s : Bool) → ltb n 2 ≡ s → (t : Bool) → ltb most n ≡ t → leb 2 n && leb n most ≡ not (s || t)
     go true e t f = rw (lt-leb 2 n (ltb-true n 2 e))
-    go false e true f = rw (lt-leb n maxPoints (ltb-true maxPoints n f)) (&&-false (leb 2 n))
-    go false e false f = rw (le-leb 2 n (ltb-false n 2 e), le-leb n maxPoints (ltb-false maxPoints n f))
+    go false e true f = rw (lt-leb n most (ltb-true most n f)) (&&-false (leb 2 n))
+    go false e false f = rw (le-leb 2 n (ltb-false n 2 e), le-leb n most (ltb-false most n f))
 
 -- a number, tested
 pub coordinate-tested : {z : ℤ} → SFits w64 z → coordinate z
@@ -127,13 +139,14 @@ coordinate-tested {z} f = rw (toZ-ofZ f) (go z)
         below true e = lt-leb n maxCoordinate (ltb-true maxCoordinate n e)
         below false e = le-leb n maxCoordinate (ltb-false maxCoordinate n e)
 
-pub not-few : (l : List ℤ) → ltb (length l / 2) 2 || ltb maxPoints (length l / 2) ≡ true → isRun l ≡ false
-unfolding isRun
-not-few l e = rw (few-tested (length l / 2), e)
+pub not-few : (most : ℕ) (l : List ℤ) → ltb (length l / 2) 2 || ltb most (length l / 2) ≡ true → isRunTo most l ≡ false
+unfolding isRunTo
+not-few most l e = rw (few-tested most (length l / 2), e)
 
-pub if-few : (l : List ℤ) → ltb (length l / 2) 2 || ltb maxPoints (length l / 2) ≡ false → isRun l ≡ allOf coordinate l
-unfolding isRun
-if-few l e = rw (few-tested (length l / 2), e)
+pub if-few : (most : ℕ) (l : List ℤ) → ltb (length l / 2) 2 || ltb most (length l / 2) ≡ false
+    → isRunTo most l ≡ allOf coordinate l
+unfolding isRunTo
+if-few most l e = rw (few-tested most (length l / 2), e)
 
 -- ---- the points of a run
 

@@ -93,9 +93,13 @@ maxPoints = 12
 abbrev pub coordinate : ℤ → Bool
 coordinate z = leZ (pos 0) z && leZ z (pos maxCoordinate)
 
--- 2 to 12 points, and every coordinate in range
-unfoldable pub isRun : List ℤ → Bool
-isRun l = leb 2 (length l / 2) && leb (length l / 2) maxPoints && allOf coordinate l
+-- 2 to `most` points, and every coordinate in range
+unfoldable pub isRunTo : ℕ → List ℤ → Bool
+isRunTo most l = leb 2 (length l / 2) && leb (length l / 2) most && allOf coordinate l
+
+-- 2 to 12 points
+abbrev pub isRun : List ℤ → Bool
+isRun l = isRunTo maxPoints l
 
 -- what the functions on runs require; any other run is the caller's refusal 5
 pub record Run (l : List ℤ) : Type 0 where

@@ -9,7 +9,7 @@ ghost use Prim.Native.Nat.{_+_, _*_, _-_, _≤_, _<_, _/_};
 ghost use lib.ListN.{length};
 ghost use Rattle.plane.specs.Points.{InRange};
 ghost use Rattle.plane.specs.Segments.{onSegment};
-ghost use Rattle.curves.specs.Curves.{Run, isRun, pointAt, pointsFrom, segments, curveOf};
+ghost use Rattle.curves.specs.Curves.{Run, isRunTo, pointAt, pointsFrom, segments, curveOf};
 ghost use Rattle.curves.specs.Tests.{neighboursDiffer, firstPlace, segWrong, mayShare};
 ghost use Rattle.curves.specs.Tests.{segMeeting, graver, gravest, meeting, free, freeAfter, isSimple};
 ghost use Rattle.curves.specs.Measures.{curveArea, oddBelow};
@@ -45,12 +45,12 @@ fn segment_count(c: &[i64]) -> usize
     point_count(c) - 1
 }
 
-// Whether the run has 2 to 12 points, and every coordinate in range.
-pub fn is_run(c: &[i64]) -> bool
-    ensures { λ r. ⌜ r ≡ isRun (now (c .entry)) ⌝ }
+// Whether the run has 2 to `most` points, and every coordinate in range.
+pub fn is_run(c: &[i64], most: usize) -> bool
+    ensures { λ r. ⌜ r ≡ isRunTo most (now (c .entry)) ⌝ }
 {
     let n = point_count(c);
-    if (n < 2) | (POINTS < n) {
+    if (n < 2) | (most < n) {
         return false;
     }
     for i in 0..c.len() {

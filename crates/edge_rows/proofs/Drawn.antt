@@ -20,8 +20,8 @@ use Rattle.tables.proofs.Tests.{zeros, pos-abs}
 use Rattle.tables.proofs.Rows.{rows-all}
 use Rattle.tables.proofs.Cells.{row-room}
 use Rattle.plane.specs.declared.Point.{Point}
-use Rattle.curves.specs.Curves.{Curve, Run, isRun, points, pointsOf, through, curveOf, pointAt, coordinates, coordinate}
-use Rattle.curves.specs.Curves.{maxPoints}
+use Rattle.curves.specs.Curves.{Curve, Run, isRunTo, points, pointsOf, through, curveOf, pointAt, coordinates}
+use Rattle.curves.specs.Curves.{coordinate, maxPoints}
 use Rattle.curves.proofs.Runs.{and-left, and-right, two-points, few-points, curve-is}
 use Rattle.curve_edits.specs.declared.Line.{Line}
 use Rattle.curve_edits.specs.Lines.{lineOf}
@@ -83,7 +83,7 @@ module _ {c : List ℤ} (run : Run c) where
       go (p ∷ ps) h = refl
 
   in-range : allOf coordinate (coordinates (points (curveOf c))) ≡ true
-  unfolding isRun
+  unfolding isRunTo
   in-range = ap (λ (ps : List Point). allOf coordinate (coordinates ps)) points-are
       ∙ sent-coordinates c (and-right (leb 2 (length c / 2) && leb (length c / 2) maxPoints) (allOf coordinate c)
       (run .is))
@@ -265,6 +265,7 @@ module _ {nodes edges : List ℤ} {h : Head} {u v : ℕ} {c : List ℤ} {face : 
           next-node = record { natural = refl; most = omega (arith, c .next-node .most) };
           next-edge = record { natural = refl; most = omega (arith, d .number) };
           next-face = record { natural = refl; most = omega (arith, c .next-face .most) };
+          recorded = c .recorded;
         };
         next-least = omega arith;
         below = rw (sub-zero (natAbs (h .edges) + 1)) (ap (numbered 1 (natAbs (h .«next_edge») + 1)) numbers-are
@@ -300,7 +301,7 @@ module _ {nodes edges : List ℤ} {h : Head} {u v : ℕ} {c : List ℤ} {face : 
       (subst (λ (x : List ℤ). Drawn nodes edges h u v c face endMarked x h′) (sym ee)
       (subst (λ (x : Head). Drawn nodes edges h u v c face endMarked linkedTable x) (sym eh) drawn-is))
 
--- an edge more, and as many faces
+-- an edge more, as many faces, and the same record
 module _ {nodes edges : List ℤ} {h : Head} {u v : ℕ} {c : List ℤ} {face : ℤ} {nodes′ edges′ : List ℤ} {h′ : Head}
     (d : Drawn nodes edges h u v c face nodes′ edges′ h′) where
   pub drawn-edges : natAbs (h′ .edges) ≡ natAbs (h .edges) + 1
@@ -310,6 +311,10 @@ module _ {nodes edges : List ℤ} {h : Head} {u v : ℕ} {c : List ℤ} {face : 
   pub drawn-faces : natAbs (h′ .faces) ≡ natAbs (h .faces)
   unfolding changedHead
   drawn-faces = ap (λ (x : Head). natAbs (x .faces)) (d .head) ∙ unchanged (natAbs (h .faces))
+
+  pub drawn-points : h′ .points ≡ h .points
+  unfolding changedHead
+  drawn-points = ap (λ (x : Head). x .points) (d .head)
 
 -- ---- the new row as it is written
 

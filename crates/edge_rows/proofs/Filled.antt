@@ -9,6 +9,7 @@ use lib.IntN.{ℤ, pos}
 use lib.ListN.{length}
 use borrow.Author.Tests.{le-leb}
 use Rattle.lists.specs.Tests.{same}
+use Rattle.curves.specs.Curves.{maxPoints}
 use Rattle.map.specs.declared.Head.{Head}
 use Rattle.map.specs.Limits.{maxNodes, maxEdges, nodeWidth, edgeWidth}
 use Rattle.map.specs.Rows.{Lent, mapOf, lentWith, boxOf, nodeCells, edgeCells, whole, lent}
@@ -23,6 +24,7 @@ use Rattle.edge_rows.specs.Holds.{NodeTable, EdgeTable}
 abbrev face0 : List ℤ
 face0 = pos 0 ∷ pos 0 ∷ pos 0 ∷ pos 0 ∷ pos 0 ∷ []
 
+-- under the wider record, for all that a row can hold
 abbrev counting : ℕ → ℕ → Head
 counting n k = record {
   nodes = pos n;
@@ -31,6 +33,7 @@ counting n k = record {
   «next_node» = pos 1;
   «next_edge» = pos 1;
   «next_face» = pos 1;
+  points = pos maxPoints;
 }
 
 abbrev nodesLent : List ℤ → ℕ → Lent

@@ -22,7 +22,7 @@ use Rattle.tables.proofs.Writes.{pushed}
 use Rattle.tables.proofs.Rising.{all-weaker}
 use Rattle.curves.specs.Curves.{points, maxPoints}
 use Rattle.curves.proofs.Runs.{and-left, and-right}
-use Rattle.map.specs.Limits.{maxEdges, lastNumber, edgeWidth}
+use Rattle.map.specs.Limits.{TwelvePoints, maxEdges, lastNumber, edgeWidth}
 use Rattle.map.specs.Rows.{Edge, Map, Sizes, mapOf, lentWith, boxOf, edgeCells, hasEdge}
 use Rattle.map.specs.Form.{edgeRanges}
 use Rattle.map.proofs.RoundTrip.{Holds, reads-back, edge-wide}
@@ -78,7 +78,7 @@ pub edges-read : (N : ℕ) (es : List Edge) → ((e : Edge) → List·Memᴰ e e
     → edgesOf (filled (N * edgeWidth) (flatMap edgeCells es)) (length es) ≡ es
 unfolding mapOf lentWith
 edges-read N es h =
-    let s : Sizes = record { nodes = 0; edges = N; faces = 0 } in
+    let s : Sizes = record { nodes = 0; edges = N; faces = 0; limit = TwelvePoints } in
     ap (λ (x : Map). x .edges) (reads-back (λ f. boxOf []) s (edgesAlone es) h)
 
 module _ {l : List ℤ} {n : ℕ} (t : EdgeTable l n) (row : Edge) (f : Follows l n row)

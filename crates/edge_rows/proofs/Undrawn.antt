@@ -19,12 +19,13 @@ use Rattle.lists.proofs.Bools.{which, same-true, eq3}
 use Rattle.tables.specs.Tables.{sameZ, column, closed, filled, isZero}
 use Rattle.tables.proofs.Writes.{removed-at}
 use Rattle.map.specs.declared.Head.{Head}
-use Rattle.map.specs.Limits.{nodeWidth, edgeWidth}
+use Rattle.map.specs.Limits.{PointLimit, nodeWidth, edgeWidth}
 use Rattle.map.specs.Rows.{Node, Edge, Map, mapOf, headOf, edge, faceOf, nodeCells, edgeCells, atNodes, withoutEdge}
 use Rattle.map.specs.Rows.{counts, lent}
 use Rattle.map.specs.Darts.{edgeEnds}
 use Rattle.map.specs.Links.{unlinkEdge, redirect}
 use Rattle.map.specs.Edits.{withFace, isEither, undrawn}
+use Rattle.map.proofs.PointLimits.{limit-back, limit-record}
 use Rattle.map_rows.specs.Rows.{nodesOf, edgesOf, nodeAt, edgeAt, NodeRows}
 use Rattle.map_rows.proofs.Rows.{edges-length}
 use Rattle.map_rows.proofs.Lookups.{node-found, node-missing}
@@ -299,14 +300,16 @@ pub isolated-alike : (l : List ℤ) (i : ℕ) {n n′ : ℕ} {z z′ : ℤ} → 
 isolated-alike l i en ez = ap₂ (λ (k : ℕ) (x : ℤ). isolatedWithout (unlinkedEdge l k i) k i x) en ez
 
 -- an edge less, and nothing else in the head
-pub undrawn-head : (k g : ℕ) (m : Map) {h : Head} → headOf m ≡ h → length (undrawn k g m .edges) + 1 ≡ natAbs (h .edges)
-    → headOf (undrawn k g m) ≡ changedHead h (counts 0 0 0) (counts 0 1 0) (counts 0 0 0)
+pub undrawn-head : (limit : PointLimit) (k g : ℕ) (m : Map) {h : Head} → headOf limit m ≡ h
+    → length (undrawn k g m .edges) + 1 ≡ natAbs (h .edges)
+    → headOf limit (undrawn k g m) ≡ changedHead h (counts 0 0 0) (counts 0 1 0) (counts 0 0 0)
 unfolding undrawn atNodes unlinkEdge redirect
-undrawn-head k g m {h} e fewer =
+undrawn-head limit k g m {h} e fewer =
     let isolated : Node → Bool = λ x. isEither (edge m k .start) (edge m k .end) x
     && same (edgeEnds (unlinkEdge k m) (x .number)) 0 in
     let nodes = length-map (m .nodes) (λ (x : Node). cond (isolated x) (withFace (some g) x) x) in
-    head-changed (headOf m) (undrawn k g m) (counts 0 0 0) (counts 0 1 0) (counts 0 0 0) (omega (arith, nodes))
-    (omega (arith, fewer, ap (λ (x : Head). natAbs (x .edges)) e)) (omega arith) (omega arith) (omega arith)
-    (omega arith)
+    ap (λ (l : PointLimit). headOf l (undrawn k g m)) (sym (limit-back limit))
+    ∙ head-changed (headOf limit m) (undrawn k g m) (counts 0 0 0) (counts 0 1 0) (counts 0 0 0) (limit-record limit)
+    (omega (arith, nodes)) (omega (arith, fewer, ap (λ (x : Head). natAbs (x .edges)) e)) (omega arith) (omega arith)
+    (omega arith) (omega arith)
     ∙ ap (λ (x : Head). changedHead x (counts 0 0 0) (counts 0 1 0) (counts 0 0 0)) e

@@ -9,7 +9,7 @@ use lib.Signed.{nonNeg}
 use mir.Syntax.{w64}
 use mir.Val.{toZ, ofZ}
 use Rattle.lists.specs.Scans.{isSome}
-use Rattle.curves.specs.Curves.{Curve, Run, curveOf}
+use Rattle.curves.specs.Curves.{Curve, Run, curveOf, maxPoints}
 use Rattle.map.specs.declared.Head.{Head}
 use Rattle.map.specs.declared.Variant.{Variant}
 use Rattle.map.specs.Rows.{Map, Sizes, mapOf, lentWith, sizesOf, lent}
@@ -25,6 +25,7 @@ use Rattle.outcomes.proofs.Words.{count-read}
 use Rattle.reason_edges.specs.declared.Judged.{Judged}
 use Rattle.reason_edges.proofs.Adding.{JudgedClear}
 use Rattle.edge_rows.specs.Holds.{Drawable, Drawn}
+use Rattle.edge_rows.proofs.Drawn.{drawn-points}
 use Rattle.edge_rows.proofs.Formed.{held}
 use Rattle.face_rows.specs.Holds.{Splittable, TablesOf}
 use Rattle.face_rows.proofs.Formed.{boxes, held-holds, holds-lent}
@@ -57,7 +58,7 @@ module _ {nodes edges faces : List ℤ} {h : Head} (f : Formed nodes edges faces
 
   -- what holds where nothing turns it down
   pub add-facts : (how : Variant) (u v : ℕ) (l : List ℤ) → u < natAbs (h .nodes) → v < natAbs (h .nodes)
-      → Left (curveOf l)
+      → Left maxPoints (curveOf l)
       → firstReason (addEdgeReasons how s m (nodeAt nodes u .number) (nodeAt nodes v .number) (curveOf l)) ≡ 0
       → AddEdge how s m (nodeAt nodes u .number) (nodeAt nodes v .number) (curveOf l)
   add-facts how u v l hu hv = add-along s m how (nodeAt nodes u .number) (nodeAt nodes v .number) (curveOf l)
@@ -100,17 +101,18 @@ module _ {nodes edges faces : List ℤ} {h : Head} (f : Formed nodes edges faces
       -- no face is split
       pub joined-lent : r .splits ≡ false → lentWith (boxes f) s (addEdge how a b c m) ≡ lent nodes′ edges′ faces h′
       joined-lent e = ap (lentWith (boxes f) s) (add-joined how a b c m (sym (known .splits) ∙ e) ∙ sym map-drawn)
-          ∙ holds-lent f (d .nodes-long) (d .edges-long) (held-holds (drawn-held f d) (boxes f) (drawn-table f d))
+          ∙ holds-lent f (d .nodes-long) (d .edges-long) (drawn-points d)
+          (held-holds (drawn-held f d) (boxes f) (drawn-table f d))
 
       last-number : edgeAt edges′ (natAbs (h′ .edges) - 1) .number ≡ m .next .edges
       last-number = ap (λ (o : Outline). o .arc .num) (last f u v l t (ef ∙ known .face) d)
 
       -- a face is split
       pub parted-lent : {nodes″ edges″ faces″ : List ℤ} {h″ : Head} → r .splits ≡ true
-          → TablesOf (boxes f) nodes′ edges′ faces (splitFace how (edgeAt edges′ (natAbs (h′ .edges) - 1) .number)
+          → TablesOf (boxes f) nodes′ edges′ faces h′ (splitFace how (edgeAt edges′ (natAbs (h′ .edges) - 1) .number)
           (mapOf (lent nodes′ edges′ faces h′))) nodes″ edges″ faces″ h″
           → lentWith (boxes f) s (addEdge how a b c m) ≡ lent nodes″ edges″ faces″ h″
       parted-lent e w =
           ap (lentWith (boxes f) s) (add-parted how a b c m (sym (known .splits) ∙ e)
           ∙ sym (ap₂ (splitFace how) last-number map-drawn))
-          ∙ holds-lent f (d .nodes-long) (d .edges-long) w
+          ∙ holds-lent f (d .nodes-long) (d .edges-long) (drawn-points d) w

@@ -9,6 +9,7 @@ use Rattle.curves.specs.Curves.{Curve}
 use Rattle.map.specs.declared.Head.{Head}
 use Rattle.map.specs.declared.Variant.{Variant}
 use Rattle.map.specs.declared.Variant.the-variants.{New, Mod}
+use Rattle.map.specs.Limits.{mostPoints}
 use Rattle.map.specs.Rows.{Map, Sizes, mapOf, sizesOf, lent}
 use Rattle.map.specs.Edits.{addEdge}
 use Rattle.map.specs.Reasons.{firstReason, reasons, noNode, sentReasons, curveIn, curveTicketReasons, addEdgeReasons}
@@ -23,7 +24,7 @@ use Rattle.edit_add.specs.Along.{addedAlong}
 
 module _ (m : Map) (a b : ℤ) (sent : List ℤ) where
   add-reasons : (s : Sizes) (how : Variant) → reasons s m (addTicket how a b sent)
-      ≡ curveTicketReasons (noNode m a || noNode m b) sent (addEdgeReasons how s m (natAbs a) (natAbs b))
+      ≡ curveTicketReasons s (noNode m a || noNode m b) sent (addEdgeReasons how s m (natAbs a) (natAbs b))
   unfolding reasons
   add-reasons s New = refl
   add-reasons s Mod = refl
@@ -57,12 +58,12 @@ module _ {nodes edges faces : List ℤ} {h : Head} (f : Formed nodes edges faces
     there : noNode m (pos a) || noNode m (pos b) ≡ false
     there = rw (node-there f u hu, node-there f v hv)
 
-    pub add-refused : (r : ℕ) → 0 < r → firstReason (sentReasons sent) ≡ r
+    pub add-refused : (r : ℕ) → 0 < r → firstReason (sentReasons (mostPoints (s .limit)) sent) ≡ r
         → firstReason (reasons s m (addTicket how (pos a) (pos b) sent)) ≡ r
     add-refused = against-sent (lent nodes edges faces h) (addTicket how (pos a) (pos b) sent) there sent
         (addEdgeReasons how s m a b) (add-reasons m (pos a) (pos b) sent s how)
 
-    pub add-left : firstReason (sentReasons sent) ≡ 0 → {c : Curve} → c ≡ curveIn sent
+    pub add-left : firstReason (sentReasons (mostPoints (s .limit)) sent) ≡ 0 → {c : Curve} → c ≡ curveIn sent
         → addedAlong how (lent nodes edges faces h) a b c
         ≡ edited (lent nodes edges faces h) (addTicket how (pos a) (pos b) sent)
     add-left passed e =

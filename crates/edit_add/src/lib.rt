@@ -63,7 +63,7 @@ fn add_at_rows(
         (addTicket how (pos (nodeAt (now (nodes .entry)) u .number)) (pos (nodeAt (now (nodes .entry)) v .number))
         (now (sent .entry))) ⌝ }
 {
-    let read = reason_curves::read_curve(sent);
+    let read = reason_curves::read_curve(sent, head::most_points(h));
     let reason = read.reason;
     if reason != 0 {
         return outcomes::refused(h, reason);

@@ -14,7 +14,7 @@ use Rattle.lists.specs.declared.Found.the-variants.{Missing}
 use Rattle.curves.specs.Curves.{Run, curveOf}
 use Rattle.curves.proofs.Runs.{and-left, and-right}
 use Rattle.map.specs.declared.Head.{Head}
-use Rattle.map.specs.Limits.{nodeWidth, edgeWidth, faceWidth}
+use Rattle.map.specs.Limits.{mostPoints, nodeWidth, edgeWidth, faceWidth}
 use Rattle.map.specs.Rows.{Edge, Map, Sizes, mapOf, lentWith, sizesOf, headOf, node, hasNode, hasEdge, hasFace}
 use Rattle.map.specs.Rows.{nodeCells, edgeCells, rectangle, withoutEdge, atEdge, lent}
 use Rattle.tables.specs.Tables.{sameZ, column, filled}
@@ -95,13 +95,13 @@ module _ {nodes edges faces : List ℤ} {h : Head} (f : Formed nodes edges faces
 
     -- ---- by the points sent
 
-    pub change-refused : (sent : List ℤ) (r : ℕ) → 0 < r → firstReason (sentReasons sent) ≡ r
+    pub change-refused : (sent : List ℤ) (r : ℕ) → 0 < r → firstReason (sentReasons (mostPoints (s .limit)) sent) ≡ r
         → firstReason (reasons s m (ChangeEdgeGeom (pos number) sent)) ≡ r
     unfolding reasons
     change-refused sent r some k = against-sent (lent nodes edges faces h) (ChangeEdgeGeom (pos number) sent)
         (edge-there f i b) sent (changeGeomReasons m number) refl r some k
 
-    pub change-left : (sent : List ℤ) → firstReason (sentReasons sent) ≡ 0
+    pub change-left : (sent : List ℤ) → firstReason (sentReasons (mostPoints (s .limit)) sent) ≡ 0
         → changedAlong (lent nodes edges faces h) number (curveIn sent)
         ≡ edited (lent nodes edges faces h) (ChangeEdgeGeom (pos number) sent)
     unfolding reasons carried
@@ -160,7 +160,7 @@ module _ {nodes edges faces : List ℤ} {h : Head} (f : Formed nodes edges faces
           (edgeAt edges i) inside
           ∙ ap (λ (r : Edge). set es i (withCurve (curveOf c) r)) row-is
 
-      head-is : headOf m′ ≡ h
+      head-is : headOf (s .limit) m′ ≡ h
       unfolding changeEdgeGeom atEdge mapOf
       head-is =
           let g : Edge → Edge = λ r. cond (same (r .number) number) (withCurve (curveOf c) r) r in
@@ -173,6 +173,7 @@ module _ {nodes edges faces : List ℤ} {h : Head} (f : Formed nodes edges faces
             «next_node» = e j .«next_node»;
             «next_edge» = e j .«next_edge»;
             «next_face» = e j .«next_face»;
+            points = e j .points;
           }
 
       same-nodes : filled (length nodes / nodeWidth * nodeWidth) (flatMap nodeCells (m′ .nodes)) ≡ nodes

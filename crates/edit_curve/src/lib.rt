@@ -176,7 +176,7 @@ fn change_between(
         ≡ edited (lentNow (nodes .entry) (edges .entry) (faces .entry) h)
         (ChangeEdgeGeom (pos (edgeAt (now (edges .entry)) i .number)) (now (sent .entry))) ⌝ }
 {
-    let read = reason_curves::read_curve(sent);
+    let read = reason_curves::read_curve(sent, head::most_points(h));
     let reason = read.reason;
     if reason != 0 {
         return outcomes::refused(h, reason);

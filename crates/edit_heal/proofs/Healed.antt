@@ -51,7 +51,7 @@ use Rattle.links.proofs.Darts.{dart-least, dart-named}
 use Rattle.outcomes.specs.Outcomes.{Formed}
 use Rattle.outcomes.proofs.Formed.{ranges, formed-map, nodes-count, edges-count, edge-next, edges-size, edge-rows}
 use Rattle.outcomes.proofs.Formed.{node-numbers-once, edge-numbers-once, nodes-filled, edges-filled, faces-filled}
-use Rattle.outcomes.proofs.Formed.{edges-are-wide, lent-is}
+use Rattle.outcomes.proofs.Formed.{edges-are-wide, lent-is, counted}
 use Rattle.outcomes.proofs.FoundRows.{node-in, node-number}
 use Rattle.edit_heal.specs.declared.Parts.{Parts}
 use Rattle.outcomes.specs.Variants.{healTicket, ownOrNext}
@@ -343,7 +343,7 @@ module _ {nodes edges faces : List ℤ} {h : Head} (f : Formed nodes edges faces
         healed-lent =
             lent-is (rectangle (whole .edges)) (sizesOf (lent nodes edges faces h)) healed nodes-healed
             (sym edges-healed) (faces-filled f)
-            (head-changed h healed (counts 0 0 0) (counts 1 1 0) (healNumbers how)
+            (head-changed h healed (counts 0 0 0) (counts 1 1 0) (healNumbers how) (counted f .recorded)
             (omega (arith, nodes-fewer, below)) (omega (arith, edges-fewer))
             (omega (arith, faces-length faces (natAbs (h .faces)))) refl refl refl)
 

@@ -3,6 +3,7 @@ use mathlib.Core.Path.{_≡_, refl, sym, ap, _∙_}
 use mathlib.Core.Bool.{Bool, true, false, _||_, true≢false}
 use mathlib.Core.List.{List, [], _∷_, _++_}
 use Prim.Native.Nat.{ℕ, _≤_, _<_}
+use native.Mathlib.Nat.{le-trans}
 use lib.Dec.{ltb, lit<, lit≤}
 use lib.IntN.{ℤ, pos, natAbs}
 use lib.ListN.{length}
@@ -15,10 +16,12 @@ use Rattle.map.specs.declared.Counts.{Counts}
 use Rattle.map.specs.declared.Head.{Head}
 use Rattle.map.specs.declared.Variant.{Variant}
 use Rattle.map.specs.declared.Variant.the-variants.{New, Mod}
+use Rattle.map.specs.Limits.{mostPoints, limitOf}
 use Rattle.map.specs.Rows.{Map, mapOf, sizesOf, edge, counts, lent}
 use Rattle.map.specs.Darts.{departures, leaves, course}
 use Rattle.map.specs.Edits.{sharedNodes, joint, parts, healedCurve}
 use Rattle.map.specs.Reasons.{Reasons, firstReason, reasons, noEdge}
+use Rattle.map.proofs.PointLimits.{most-fits}
 use Rattle.map.proofs.Reasons.{first-hit, first-miss, first-zero, first-append, first-after}
 use Rattle.map_rows.specs.Rows.{edgeAt, edgeMap}
 use Rattle.head.specs.Heads.{Few}
@@ -41,7 +44,8 @@ few-numbers New e = rw e (record { nodes = lit≤ tt; edges = lit≤ tt; faces =
 -- no more points than fit
 pub late-few : (count : ℕ) (h : Head) (how : Variant) → firstReason (lateReasons count h how) ≡ 0
     → count ≤ maxPoints
-late-few count h how e = ltb-false maxPoints count (first-zero 18 _ _ (lit< tt) e .0)
+late-few count h how e = let k = limitOf (h .points) in
+    le-trans (ltb-false (mostPoints k) count (first-zero 18 _ _ (lit< tt) e .0)) (most-fits k)
 
 -- 16 and 17 do not hold
 module _ (m : Map) (a b : ℕ) (e : firstReason (jointReasons m a b) ≡ 0) where
@@ -95,7 +99,7 @@ module _ {nodes edges faces : List ℤ} {h : Head} (f : Formed nodes edges faces
             ∷ (jointReasons m a b ++ lateReasons (length (points (healedCurve m a b))) h k))
         go Mod = refl
         go New = ap (λ (x : Bool). firstReason ((4, noEdge whole (pos a) || noEdge whole (pos b)) ∷ (jointReasons m a b
-            ++ ((18, ltb maxPoints (length (points (healedCurve m a b)))) ∷ (21, x) ∷ []))))
+            ++ ((18, ltb (mostPoints (limitOf (h .points))) (length (points (healedCurve m a b)))) ∷ (21, x) ∷ []))))
             (sym (spent-at f (counts 0 1 0)))
 
     known : noEdge whole (pos a) || noEdge whole (pos b) ≡ false

@@ -20,7 +20,7 @@ use Rattle.curve_edits.specs.Lines.{lineOf}
 use Rattle.map.specs.declared.Counts.{Counts}
 use Rattle.map.specs.declared.Head.{Head}
 use Rattle.map.specs.declared.Variant.{Variant}
-use Rattle.map.specs.Limits.{maxEdges, nodeWidth, edgeWidth}
+use Rattle.map.specs.Limits.{maxEdges, nodeWidth, edgeWidth, mostPoints, limitOf}
 use Rattle.map.specs.Rows.{dartCell, counts}
 use Rattle.map.specs.Edits.{isNew, isMod, joint, parts}
 use Rattle.map.specs.Reasons.{Reasons}
@@ -133,9 +133,9 @@ healedRows l n i j p q how a line = let t = ledToHealed l n p q a in
 
 -- ---- the reasons
 
--- 18 and 21, of the number of points and the next edge's number
+-- 18 and 21, of the number of points, the record and the next edge's number
 abbrev pub lateReasons : ℕ → Head → Variant → Reasons
-lateReasons count h how = (18, ltb maxPoints count)
+lateReasons count h how = (18, ltb (mostPoints (limitOf (h .points))) count)
     ∷ (21, isNew how && spentAt h (counts 0 1 0)) ∷ []
 
 -- ---- numbers

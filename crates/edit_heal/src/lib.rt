@@ -3,7 +3,6 @@ use curve_edits::Line;
 use lists::Found;
 use map::Counts;
 use map::Head;
-use map::Map;
 use map::Variant;
 use map_rows::Incidence;
 use outcomes::Done;
@@ -250,7 +249,7 @@ fn late_reason(count: usize, h: Head, how: Variant) -> u64
     requires { ⌜ Counted h ⌝ }
     ensures { λ r. ⌜ r ≡ firstReason (lateReasons count h how) ⌝ }
 {
-    if Map::POINTS < count {
+    if head::most_points(h) < count {
         return 18;
     }
     match how {

@@ -12,7 +12,7 @@ use Rattle.lists.specs.Tests.{same}
 use Rattle.lists.proofs.Bools.{equal?, same-eq, same-false}
 use Rattle.curves.specs.Curves.{curveOf}
 use Rattle.map.specs.declared.Head.{Head}
-use Rattle.map.specs.Limits.{faceWidth}
+use Rattle.map.specs.Limits.{faceWidth, mostPoints, limitOf}
 use Rattle.map.specs.Rows.{counts, Node, Map, Sizes, mapOf, lentWith, rectangle, sizesOf, headOf, node}
 use Rattle.map.specs.Rows.{nodeCells, edgeCells, lent}
 use Rattle.tables.specs.Tables.{filled}
@@ -31,7 +31,7 @@ use Rattle.outcomes.specs.Outcomes.{Formed, edited}
 use Rattle.outcomes.proofs.Formed.{node-rows, edge-next, nodes-size, edges-size, faces-filled, room-at, lent-is}
 use Rattle.outcomes.proofs.Formed.{against-sent, by-points-left}
 use Rattle.edge_rows.specs.Holds.{Drawn}
-use Rattle.edge_rows.proofs.Drawn.{drawn-faces}
+use Rattle.edge_rows.proofs.Drawn.{drawn-faces, drawn-points}
 use Rattle.edge_rows.proofs.Filled.{nodes-filled, edges-filled}
 use Rattle.edge_rows.proofs.NodeFaces.{node-once}
 use Rattle.outcomes.proofs.FoundRows.{node-there, node-is}
@@ -62,13 +62,13 @@ module _ {nodes edges faces : List ℤ} {h : Head} (f : Formed nodes edges faces
     both-there : noNode m (pos start) || noNode m (pos end) ≡ false
     both-there = rw (node-there f u bu, node-there f v bv)
 
-    pub add-refused : (sent : List ℤ) (r : ℕ) → 0 < r → firstReason (sentReasons sent) ≡ r
+    pub add-refused : (sent : List ℤ) (r : ℕ) → 0 < r → firstReason (sentReasons (mostPoints (s .limit)) sent) ≡ r
         → firstReason (reasons s m (AddIsoEdge (pos start) (pos end) sent)) ≡ r
     unfolding reasons
     add-refused sent r some k = against-sent (lent nodes edges faces h) (AddIsoEdge (pos start) (pos end) sent)
         both-there sent (addIsoEdgeReasons s m start end) refl r some k
 
-    pub add-left : (sent : List ℤ) → firstReason (sentReasons sent) ≡ 0
+    pub add-left : (sent : List ℤ) → firstReason (sentReasons (mostPoints (s .limit)) sent) ≡ 0
         → isolatedAlong (lent nodes edges faces h) start end (curveIn sent)
         ≡ edited (lent nodes edges faces h) (AddIsoEdge (pos start) (pos end) sent)
     unfolding reasons carried
@@ -116,9 +116,11 @@ module _ {nodes edges faces : List ℤ} {h : Head} (f : Formed nodes edges faces
           (ap (λ (r : Node). Option·getD (r .face) 0) (node-is f u bu) ∙ sym (ap natAbs ef))
           ∙ sym (d .map faces)
 
-      head-is : headOf m′ ≡ h′
+      head-is : headOf (s .limit) m′ ≡ h′
       unfolding mapOf
-      head-is = head-same (d .held .counted) m′ (nodes-length nodes′ (natAbs (h′ .nodes)))
+      head-is =
+          ap (λ (z : ℤ). headOf (limitOf z) m′) (sym (drawn-points d))
+          ∙ head-same (d .held .counted) m′ (nodes-length nodes′ (natAbs (h′ .nodes)))
           (edges-length edges′ (natAbs (h′ .edges))) (faces-length faces (natAbs (h′ .faces))) refl refl refl
 
       written : lentWith (rectangle (m .edges)) s m′ ≡ lent nodes′ edges′ faces h′

@@ -74,7 +74,7 @@ module _ {nodes edges faces : List ℤ} {h : Head} (f : Formed nodes edges faces
         (ap (λ (k : ℕ). filled k (flatMap nodeCells (m′ .nodes))) (nodes-size f .0) ∙ u .node-cells faces)
         (ap (λ (k : ℕ). filled k (flatMap edgeCells (m′ .edges))) (edges-size f .0) ∙ u .edge-cells faces)
         (same-faces (natAbs face))
-        (undrawn-head number (natAbs face) m (head-back f) (u .edges-left faces) ∙ sym (u .head))
+        (undrawn-head (s .limit) number (natAbs face) m (head-back f) (u .edges-left faces) ∙ sym (u .head))
 
 pub remove-value : (m : Map) (z : ℤ) → carried m (RemoveIsoEdge z) .1 ≡ pos 0
 unfolding carried

@@ -67,7 +67,7 @@ module _ {nodes edges faces : List ℤ} {h : Head} (f : Formed nodes edges faces
   }
 
   nodes-lent : (ns : List Node) (k : Counts) {l : List ℤ} {g : Head} → filled size (flatMap nodeCells ns) ≡ l
-      → headOf (changed ns k) ≡ g → lentOf s (changed ns k) ≡ lent l edges faces g
+      → headOf (s .limit) (changed ns k) ≡ g → lentOf s (changed ns k) ≡ lent l edges faces g
   nodes-lent ns k e head = lent-is (rectangle (edgesOf edges (natAbs (h .edges)))) s (changed ns k) e
       (edges-filled f) (faces-filled f) head
 
@@ -81,9 +81,9 @@ module _ {nodes edges faces : List ℤ} {h : Head} (f : Formed nodes edges faces
   nodes-head : (ns : List Node) (k : Counts) (more less given : ℕ) → length ns + less ≡ n + more
       → k .nodes ≡ natAbs (h .«next_node») + given → k .edges ≡ natAbs (h .«next_edge»)
       → k .faces ≡ natAbs (h .«next_face»)
-      → headOf (changed ns k) ≡ changedHead h (counts more 0 0) (counts less 0 0) (counts given 0 0)
+      → headOf (s .limit) (changed ns k) ≡ changedHead h (counts more 0 0) (counts less 0 0) (counts given 0 0)
   nodes-head ns k more less given e ea eb ec =
-      head-changed h (changed ns k) (counts more 0 0) (counts less 0 0) (counts given 0 0) e
+      head-changed h (changed ns k) (counts more 0 0) (counts less 0 0) (counts given 0 0) (counted f .recorded) e
       (omega (arith, edge-count)) (omega (arith, face-count)) ea (omega arith) (omega arith)
 
   -- ---- kind 1

@@ -1,6 +1,6 @@
 -- The faces whose rectangles are set after a ticket are all that it affects. Assumes nothing.
 use mathlib.Core.Path.{_≡_, refl, sym, ap, ap₂, _∙_, subst}
-use mathlib.Core.Bool.{Bool, true, false, cond, not, _||_}
+use mathlib.Core.Bool.{Bool, true, false, cond, _||_}
 use mathlib.Core.Logic.{_≢_, inl, inr}
 use mathlib.Core.List.{List, [], _∷_, _++_, flatMap, List·Memᴰ, List·Memᴰ·head, List·Memᴰ·tail}
 use mathlib.Core.List.{List·Memᴰ·not-nil, List·Memᴰ·append-cases, List·Memᴰ·eq-of-singleton}
@@ -23,7 +23,7 @@ use Rattle.curves.specs.Curves.{Curve, point}
 use Rattle.map.specs.declared.Head.{Head}
 use Rattle.map.specs.declared.Variant.{Variant}
 use Rattle.map.specs.declared.Variant.the-variants.{New, Mod}
-use Rattle.map.specs.Limits.{edgeWidth}
+use Rattle.map.specs.Limits.{PointLimit, limitOf, edgeWidth}
 use Rattle.map.specs.Rows.{Edge, Map, Sizes, edge, mapOf, lent, edgeCells, headOf}
 use Rattle.map.specs.Tickets.{Ticket, AddIsoNode, MoveIsoNode, RemoveIsoNode, AddIsoEdge, RemoveIsoEdge, ChangeEdgeGeom}
 use Rattle.map.specs.Tickets.{NewEdgesSplit, ModEdgeSplit, NewEdgeHeal, ModEdgeHeal, AddEdgeNewFaces, AddEdgeModFace}
@@ -105,13 +105,17 @@ module _ {nodes edges faces : List ℤ} {h : Head} (F : Formed nodes edges faces
   abbrev m : Map
   m = mapOf (lent nodes edges faces h)
 
+  -- the record of points, which stays
+  abbrev limit : PointLimit
+  limit = limitOf (h .points)
+
   next-is : m .next .faces ≡ natAbs (h .«next_face»)
   unfolding mapOf
   next-is = refl
 
   -- ---- the next face stayed, or rose
 
-  module _ (edges′ : List ℤ) {h′ : Head} (m′ : Map) (head : headOf m′ ≡ h′) (a : Affected) where
+  module _ (edges′ : List ℤ) {h′ : Head} (m′ : Map) (head : headOf limit m′ ≡ h′) (a : Affected) where
     after-same : m′ .next .faces ≡ m .next .faces → affectedAfter false edges′ h h′ a ≡ a
     after-same e =
         let is : h′ .«next_face» ≡ h .«next_face» = sym (ap (λ (x : Head). x .«next_face») head)
@@ -126,7 +130,7 @@ module _ {nodes edges faces : List ℤ} {h : Head} (F : Formed nodes edges faces
 
   -- ---- one edge named, or two, and no face made
 
-  module _ (edges′ : List ℤ) {h′ : Head} (m′ : Map) (head : headOf m′ ≡ h′)
+  module _ (edges′ : List ℤ) {h′ : Head} (m′ : Map) (head : headOf limit m′ ≡ h′)
       (stays : m′ .next .faces ≡ m .next .faces) (f : ℕ) where
     by-one : (e : ℤ) → noEdge m e ≡ false → List·Memᴰ f (facesBeside (edge m (natAbs e)))
         → Covered f (affectedAfter false edges′ h h′ (namedPairs edges (natAbs (h .edges)) (e ∷ [])))
@@ -145,7 +149,7 @@ module _ {nodes edges faces : List ℤ} {h : Head} (F : Formed nodes edges faces
 
   -- ---- an edge drawn
 
-  module _ {edges′ : List ℤ} {h′ : Head} (m′ : Map) (head : headOf m′ ≡ h′)
+  module _ {edges′ : List ℤ} {h′ : Head} (m′ : Map) (head : headOf limit m′ ≡ h′)
       (wide : Wide edgeWidth edgeCells (m′ .edges)) (n : ℕ)
       (cells : filled n (flatMap edgeCells (m′ .edges)) ≡ edges′) (a : Affected) (f : ℕ) where
     by-drawn : List·Memᴰ f (facesBesideLast (m′ .edges)) → Covered f (affectedAfter true edges′ h h′ a)
@@ -164,7 +168,7 @@ module _ {nodes edges faces : List ℤ} {h : Head} (F : Formed nodes edges faces
   -- ---- an edge removed
 
   module _ (edges′ : List ℤ) {h′ : Head} (how : Variant) (z : ℤ) (has : noEdge m z ≡ false)
-      (head : headOf (removeEdge how (natAbs z) m) ≡ h′) (f : ℕ) where
+      (head : headOf limit (removeEdge how (natAbs z) m) ≡ h′) (f : ℕ) where
     abbrev e : ℕ
     e = natAbs z
 
@@ -239,7 +243,7 @@ module _ {nodes edges faces : List ℤ} {h : Head} (F : Formed nodes edges faces
   heal-next how e d = add-zero (m .next .faces)
 
   module _ (s : Sizes) {edges′ : List ℤ} {h′ : Head} (n : ℕ) (f : ℕ) where
-    pub covers : (k : Ticket) → firstReason (reasons s m k) ≡ 0 → headOf (carried m k .0) ≡ h′
+    pub covers : (k : Ticket) → firstReason (reasons s m k) ≡ 0 → headOf limit (carried m k .0) ≡ h′
         → Wide edgeWidth edgeCells (carried m k .0 .edges)
         → filled n (flatMap edgeCells (carried m k .0 .edges)) ≡ edges′
         → List·Memᴰ f (carried m k .0 .faces) → List·Memᴰ f (affected m k)

@@ -17,7 +17,7 @@ use Rattle.lists.specs.declared.Found.the-variants.{At, Missing}
 use Rattle.lists.proofs.Bools.{which, same-refl}
 use Rattle.lists.proofs.Members.{all-of, some-any}
 use Rattle.lists.proofs.Maps.{map-twice}
-use Rattle.tables.specs.Tables.{sameZ, column, filled, rows}
+use Rattle.tables.specs.Tables.{sameZ, column, filled}
 use Rattle.tables.proofs.Filled.{Wide, flat-length, each-row}
 use Rattle.curves.specs.Curves.{points}
 use Rattle.bounding_boxes.specs.declared.Extent.{Extent}
@@ -137,7 +137,7 @@ module _ {nodes edges faces : List ℤ} {h : Head} (F : Formed nodes edges faces
 
   module _ {nodes′ edges′ faces′ : List ℤ} {h′ : Head}
       (left : lentWith old s m′ ≡ lent nodes′ edges′ faces′ h′) where
-    head : headOf m′ ≡ h′
+    head : headOf (s .limit) m′ ≡ h′
     unfolding lentWith
     head = ap (λ (x : Lent). x .head) left
 

@@ -31,7 +31,7 @@ use Rattle.edge_rows.proofs.Formed.{held}
 module _ {nodes edges faces : List ℤ} {h : Head} (f : Formed nodes edges faces h) (row : Edge)
     (p : Healable nodes edges faces h (pos (row .left)) (pos (row .right))) (makes : Bool)
     (number : natAbs (h .«next_face») + bit makes ≤ suc lastNumber) {nodes′ edges′ faces′ : List ℤ} {h′ : Head}
-    (after : TablesOf (boxes f) nodes edges faces (mergedSides makes row
+    (after : TablesOf (boxes f) nodes edges faces h (mergedSides makes row
     (mapOf (lent nodes edges faces h))) nodes′ edges′ faces′ h′)
   where
     abbrev m : Map
@@ -99,6 +99,7 @@ module _ {nodes edges faces : List ℤ} {h : Head} (f : Formed nodes edges faces
           next-node = record { natural = refl; most = omega (arith, c .next-node .most) };
           next-edge = record { natural = refl; most = omega (arith, c .next-edge .most) };
           next-face = record { natural = refl; most = number };
+          recorded = c .recorded;
         })
 
     pub healed-held : NodeEdgeTables nodes′ edges′ h′

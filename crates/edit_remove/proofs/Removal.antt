@@ -88,7 +88,7 @@ module _ {nodes edges faces : List ℤ} {h : Head} (f : Formed nodes edges faces
       → lentWith (boxes f) (sizesOf (lent nodes edges faces h)) (carried m (removeTicket how z) .0)
       ≡ lent nodes′ edges′ faces′ (r .head)
   removed-lent c = ap (lentWith (boxes f) (sizesOf (lent nodes edges faces h))) (carried-map how ∙ removed-map)
-      ∙ holds-lent f refl refl (c .holds)
+      ∙ holds-lent f refl refl refl (c .holds)
 
   turned : (b : Bool) (x y : ℤ) → cond (not b) x y ≡ cond b y x
   turned true x y = refl

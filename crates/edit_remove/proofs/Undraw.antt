@@ -17,6 +17,7 @@ use Rattle.lists.proofs.Members.{map-cong}
 use Rattle.tables.specs.Tables.{filled}
 use Rattle.bounding_boxes.specs.declared.Extent.{Extent}
 use Rattle.map.specs.declared.Head.{Head}
+use Rattle.map.specs.Limits.{limitOf}
 use Rattle.map.specs.Rows.{Node, Edge, Map, mapOf, nodeCells, edgeCells, counts, lent}
 use Rattle.map.specs.Edits.{withFace, undrawn, withSides, renamed, renamedNode, renamedFaces}
 use Rattle.map_laws.proofs.Outlines.{undrawn-face-list}
@@ -32,12 +33,13 @@ use Rattle.edit_remove.specs.RemovedEdges.{EdgeRemoved, removedEdge, val
 
 -- ---- the edge undrawn
 
-module _ {box : ℕ → Extent} {nodes edges faces nodes₁ edges₁ faces₁ : List ℤ} {m : Map} {h₁ : Head}
-    (before : TablesOf box nodes edges faces m nodes₁ edges₁ faces₁ h₁) (is : mapOf (lent nodes₁ edges₁ faces₁ h₁) ≡ m)
+module _ {box : ℕ → Extent} {nodes edges faces nodes₁ edges₁ faces₁ : List ℤ} {m : Map} {h h₁ : Head}
+    (before : TablesOf box nodes edges faces h m nodes₁ edges₁ faces₁ h₁)
+    (is : mapOf (lent nodes₁ edges₁ faces₁ h₁) ≡ m)
     (nodes-same : length nodes₁ ≡ length nodes) (edges-same : length edges₁ ≡ length edges) where
   holds-undrawn : (i k : ℕ) {face : ℤ} {g : ℕ} {nodes′ edges′ : List ℤ} {h′ : Head} → edgeAt edges₁ i .number ≡ k
       → face ≡ pos g → Undrawn nodes₁ edges₁ h₁ i face nodes′ edges′ h′
-      → TablesOf box nodes edges faces (undrawn k g m) nodes′ edges′ faces₁ h′
+      → TablesOf box nodes edges faces h (undrawn k g m) nodes′ edges′ faces₁ h′
   holds-undrawn i k {face} {g} ek ef u =
       let same : undrawn k g m
       ≡ undrawn (edgeAt edges₁ i .number) (natAbs face) (mapOf (lent nodes₁ edges₁ faces₁ h₁)) =
@@ -48,8 +50,8 @@ module _ {box : ℕ → Extent} {nodes edges faces nodes₁ edges₁ faces₁ : 
         edge-cells = ap₂ (λ (n : ℕ) (x : Map). filled n (flatMap edgeCells (x .edges))) (sym edges-same) same
             ∙ u .edge-cells faces₁;
         face-cells = ap (facesIn (length faces) box) (undrawn-face-list k g m) ∙ before .face-cells;
-        head = undrawn-head k g m (before .head) (ap (λ (x : Map). length (x .edges) + 1) same ∙ u .edges-left faces₁)
-            ∙ sym (u .head);
+        head = undrawn-head (limitOf (h .points)) k g m (before .head)
+            (ap (λ (x : Map). length (x .edges) + 1) same ∙ u .edges-left faces₁) ∙ sym (u .head);
       }
 
 -- ---- one face on both sides: nothing is healed
@@ -100,19 +102,19 @@ module _ {nodes edges faces : List ℤ} {h : Head} (f : Formed nodes edges faces
 
   pub removed-one : row .left ≡ row .right → makes ≡ false → {face : ℤ} {nodes′ edges′ : List ℤ} {h′ : Head} → face
       ≡ pos (row .left) → Undrawn nodes edges h i face nodes′ edges′ h′
-      → TablesOf (boxes f) nodes edges faces (removedEdge makes row whole) nodes′ edges′ faces h′
+      → TablesOf (boxes f) nodes edges faces h (removedEdge makes row whole) nodes′ edges′ faces h′
   removed-one one kept {face} {nodes′} {edges′} {h′} ef u =
       let same : undrawn (row .number) (row .left) whole ≡ removedEdge false row whole =
       ap₂ (undrawn (row .number)) (sym (lower-is row one)) (sym (unhealed row one whole)) in
-      subst (λ (x : Map). TablesOf (boxes f) nodes edges faces x nodes′ edges′ faces h′)
+      subst (λ (x : Map). TablesOf (boxes f) nodes edges faces h x nodes′ edges′ faces h′)
       (same ∙ ap (λ (b : Bool). removedEdge b row whole) (sym kept))
       (holds-undrawn (holds-before f) refl refl refl i (row .number) refl ef u)
 
   pub removed-two : i < natAbs (h .edges) → {nodes₁ edges₁ faces₁ : List ℤ} {h₁ : Head}
-      → TablesOf (boxes f) nodes edges faces (mergedSides makes row whole) nodes₁ edges₁ faces₁ h₁
+      → TablesOf (boxes f) nodes edges faces h (mergedSides makes row whole) nodes₁ edges₁ faces₁ h₁
       → {face : ℤ} {nodes′ edges′ : List ℤ} {h′ : Head} → face ≡ pos (faceKept makes row whole)
       → Undrawn nodes₁ edges₁ h₁ i face nodes′ edges′ h′
-      → TablesOf (boxes f) nodes edges faces (removedEdge makes row whole) nodes′ edges′ faces₁ h′
+      → TablesOf (boxes f) nodes edges faces h (removedEdge makes row whole) nodes′ edges′ faces₁ h′
   removed-two t {nodes₁} {edges₁} {faces₁} {h₁} after ef u =
       holds-undrawn after (healed-map (formed-held f) row makes after)
       (healed-nodes-long (formed-held f) row makes after)
@@ -122,7 +124,7 @@ module _ {nodes edges faces : List ℤ} {h : Head} (f : Formed nodes edges faces
   -- what a call left and answered
   pub removed-as : {nodes′ edges′ faces′ : List ℤ} {h′ : Head} {v : ℤ} {r : Done} → r
       ≡ record { head = h′; answer = record { refusal = 0; value = v } }
-      → TablesOf (boxes f) nodes edges faces (removedEdge makes row whole) nodes′ edges′ faces′ h′
+      → TablesOf (boxes f) nodes edges faces h (removedEdge makes row whole) nodes′ edges′ faces′ h′
       → v ≡ valueLeft makes row whole
       → EdgeRemoved nodes edges faces h i makes nodes′ edges′ faces′ r
   removed-as e holds value = record { holds = rw e holds; value = ap (λ (d : Done). d .answer .value) e ∙ value }

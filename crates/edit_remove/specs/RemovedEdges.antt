@@ -33,6 +33,6 @@ pub record RemovableEdge (nodes edges faces : List ℤ) (h : Head) (i : ℕ) (ma
 -- the rectangles are still those of the edges before
 pub record EdgeRemoved (nodes edges faces : List ℤ) (h : Head) (i : ℕ) (makes : Bool) (nodes′ edges′ faces′ : List ℤ)
     (r : Done) : Type 0 where
-  pub holds : TablesOf (rectangle (mapOf (lent nodes edges faces h) .edges)) nodes edges faces
+  pub holds : TablesOf (rectangle (mapOf (lent nodes edges faces h) .edges)) nodes edges faces h
       (removedEdge makes (edgeAt edges i) (mapOf (lent nodes edges faces h))) nodes′ edges′ faces′ (r .head)
   pub value : r .answer .value ≡ valueLeft makes (edgeAt edges i) (mapOf (lent nodes edges faces h))

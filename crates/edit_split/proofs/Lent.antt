@@ -15,7 +15,7 @@ use Rattle.curves.proofs.Runs.{and-left, and-right, coordinate-pos}
 use Rattle.map.specs.declared.Head.{Head}
 use Rattle.map.specs.declared.Variant.{Variant}
 use Rattle.map.specs.declared.Variant.the-variants.{New, Mod}
-use Rattle.map.specs.Limits.{nodeWidth, edgeWidth, faceWidth}
+use Rattle.map.specs.Limits.{limitOf, nodeWidth, edgeWidth, faceWidth}
 use Rattle.map.specs.Rows.{Node, Map, mapOf, lentWith, rectangle, sizesOf, nodeCells, edgeCells, headOf, counts, lent}
 use Rattle.map.specs.Ticket.{carried}
 use Rattle.map.specs.Edits.{split}
@@ -25,7 +25,7 @@ use Rattle.map_rows.proofs.Rows.{nodes-length, edges-length, faces-length, edge
 use Rattle.head.specs.Heads.{changedHead}
 use Rattle.head.proofs.Heads.{head-changed}
 use Rattle.outcomes.specs.Outcomes.{Formed}
-use Rattle.outcomes.proofs.Formed.{node-next, nodes-filled, edges-filled, faces-filled, edge-rows}
+use Rattle.outcomes.proofs.Formed.{node-next, counted, nodes-filled, edges-filled, faces-filled, edge-rows}
 use Rattle.outcomes.proofs.Formed.{edges-are-wide, edge-numbers-once, lent-is}
 use Rattle.outcomes.specs.Variants.{splitTicket, ownOrNext}
 use Rattle.edit_split.specs.Cuts.{cutRow, endNumber, splitNumbers}
@@ -102,10 +102,10 @@ module _ {nodes edges faces : List ℤ} {h : Head} (f : Formed nodes edges faces
   unfolding mapOf split own m after
   faces-after = faces-filled f
 
-  head-is : headOf after ≡ changedHead h (counts 1 1 0) (counts 0 0 0) (splitNumbers how)
+  head-is : headOf (limitOf (h .points)) after ≡ changedHead h (counts 1 1 0) (counts 0 0 0) (splitNumbers how)
   unfolding mapOf split own m after
   head-is =
-      head-changed h after (counts 1 1 0) (counts 0 0 0) (splitNumbers how)
+      head-changed h after (counts 1 1 0) (counts 0 0 0) (splitNumbers how) (counted f .recorded)
       (omega (
         arith,
         length-append (nodesOf nodes (natAbs (h .nodes)))

@@ -12,7 +12,8 @@ use Rattle.tables.specs.Tables.{filled, wholeRows}
 use Rattle.tables.proofs.Filled.{whole-rows}
 use Rattle.map.specs.declared.Head.{Head}
 use Rattle.map.specs.Limits.{maxNodes, maxEdges, maxFaces, nodeWidth, edgeWidth, faceWidth}
-use Rattle.map.specs.Rows.{Lent, emptyMap, lentOf, rectangle, sizesOf, whole, headOf, lent}
+use Rattle.map.specs.Limits.{PointLimit, isRecord, limitOf}
+use Rattle.map.specs.Rows.{Lent, emptyMap, lentOf, rectangle, sizesFor, whole, headOf, lent}
 use Rattle.map.specs.Reasons.{firstReason}
 use Rattle.map.specs.Ticket.{emptied, refused}
 use Rattle.map.proofs.RoundTrip.{whole-tables}
@@ -56,25 +57,29 @@ module _ (nodes edges faces : List ℤ) (h : Head) (w : whole (lent nodes edges 
       let r = whole-rows faceWidth 1 maxFaces faces (parts .2) in
       rw (r .size) (face-zero (length faces) (omega (arith, r .size, r .least)))
 
-  pub empty-lent : lentOf (sizesOf (lent nodes edges faces h)) emptyMap
-      ≡ lent (zeros nodes) (zeros edges) (zeros faces) (headOf emptyMap)
+  pub empty-lent : (k : PointLimit) → lentOf (sizesFor k (lent nodes edges faces h)) emptyMap
+      ≡ lent (zeros nodes) (zeros edges) (zeros faces) (headOf k emptyMap)
   unfolding flatMap rectangle
-  empty-lent =
-      lent-is (rectangle []) (sizesOf (lent nodes edges faces h)) emptyMap
+  empty-lent k =
+      lent-is (rectangle []) (sizesFor k (lent nodes edges faces h)) emptyMap
       (filled-none nodeWidth 0 maxNodes nodes (parts .0))
       (filled-none edgeWidth 0 maxEdges edges (parts .1)) face-table refl
 
-  pub emptied-done : emptied (lent nodes edges faces h)
+  pub emptied-done : (k : ℤ) → isRecord k ≡ true → emptied (lent nodes edges faces h) k
       ≡ record {
-        lent = lent (zeros nodes) (zeros edges) (zeros faces) (headOf emptyMap);
+        lent = lent (zeros nodes) (zeros edges) (zeros faces) (headOf (limitOf k) emptyMap);
         answer = record { refusal = 0; value = pos 0 };
       }
   unfolding emptied firstReason
-  emptied-done = rw w (ap (λ (l : Lent). record {
+  emptied-done k r = rw (w, r) (ap (λ (l : Lent). record {
     lent = l;
     answer = record { refusal = 0; value = pos 0 };
-  }) empty-lent)
+  }) (empty-lent (limitOf k)))
 
-pub emptied-refused : (l : Lent) → whole l ≡ false → emptied l ≡ refused l 1
+pub emptied-refused : (l : Lent) (k : ℤ) → whole l ≡ false → emptied l k ≡ refused l 1
 unfolding emptied firstReason
-emptied-refused l w = rw w
+emptied-refused l k w = rw w
+
+pub emptied-unrecorded : (l : Lent) (k : ℤ) → whole l ≡ true → isRecord k ≡ false → emptied l k ≡ refused l 2
+unfolding emptied firstReason
+emptied-unrecorded l k w r = rw (w, r)

@@ -17,18 +17,28 @@ fn wipe(t: &mut [i64])
     tables::clear(t, 0, n);
 }
 
-// The empty map everywhere in the tables, whatever they and the head held; 1 where the tables are not whole.
-pub fn empty_map(nodes: &mut [i64], edges: &mut [i64], faces: &mut [i64], h: Head) -> Done
+// The empty map for curves of at most so many points, 6 or 12, whatever the tables and the head held; 1 where the
+// tables are not whole, 2 for any other number of points.
+pub fn empty_map(
+    nodes: &mut [i64],
+    edges: &mut [i64],
+    faces: &mut [i64],
+    h: Head,
+    points: i64,
+) -> Done
     ensures { λ r. ⌜ outcomeNow (nodes .exit) (edges .exit) (faces .exit) r
-        ≡ emptied (lentNow (nodes .entry) (edges .entry) (faces .entry) h) ⌝ }
+        ≡ emptied (lentNow (nodes .entry) (edges .entry) (faces .entry) h) points ⌝ }
 {
     if !form_ranges::is_whole(nodes, edges, faces) {
         return outcomes::refused(h, 1);
     }
+    if !head::is_record(points) {
+        return outcomes::refused(h, 2);
+    }
     wipe(nodes);
     wipe(edges);
     wipe(faces);
-    outcomes::carried(head::empty(), 0)
+    outcomes::carried(head::empty(points), 0)
 }
 
 // One ticket, on any tables and any run of numbers.

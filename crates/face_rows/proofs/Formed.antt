@@ -15,8 +15,9 @@ use Rattle.curves.specs.Curves.{points}
 use Rattle.curves.proofs.Runs.{and-left, and-right}
 use Rattle.map.specs.declared.Head.{Head}
 use Rattle.bounding_boxes.specs.declared.Extent.{Extent}
+use Rattle.map.specs.Limits.{limitOf}
 use Rattle.map.specs.Rows.{Edge, Map, mapOf, nodeCells, edgeCells, hasNode, hasEdge, hasFace, lentWith, sizesOf, lent}
-use Rattle.map.specs.Rows.{borders, boxOf, rectangle}
+use Rattle.map.specs.Rows.{headOf, borders, boxOf, rectangle}
 use Rattle.tables.specs.Tables.{filled}
 use Rattle.map.specs.Form.{inFace, edgeNames, named, formed}
 use Rattle.map.proofs.Laws.{formed-is, face-below}
@@ -63,7 +64,7 @@ module _ (m : Map) (h : formed m ≡ true) (f : ℕ) (t : m .next .faces ≤ f) 
 
 pub held-holds : {nodes edges faces : List ℤ} {h : Head} → MapTables nodes edges faces h → (box : ℕ → Extent)
     → FaceTable (length faces) box (facesOf faces (natAbs (h .faces))) faces
-    → TablesOf box nodes edges faces (mapOf (lent nodes edges faces h)) nodes edges faces h
+    → TablesOf box nodes edges faces h (mapOf (lent nodes edges faces h)) nodes edges faces h
 unfolding mapOf
 held-holds {nodes} {edges} {faces} {h} k box t =
     record {
@@ -107,19 +108,20 @@ module _ {nodes edges faces : List ℤ} {h : Head} (f : Formed nodes edges faces
         counted = counted f;
       }
 
-  pub holds-before : TablesOf boxes nodes edges faces (mapOf (lent nodes edges faces h)) nodes edges faces h
+  pub holds-before : TablesOf boxes nodes edges faces h (mapOf (lent nodes edges faces h)) nodes edges faces h
   holds-before = held-holds formed-held boxes formed-table
 
-  -- what is lent, in tables as long
-  pub holds-lent : {nodes′ edges′ nodes″ edges″ faces″ : List ℤ} {M : Map} {h″ : Head} → length nodes′ ≡ length nodes
-      → length edges′ ≡ length edges → TablesOf boxes nodes′ edges′ faces M nodes″ edges″ faces″ h″
+  -- what is lent, in tables as long and under the same record
+  pub holds-lent : {nodes′ edges′ nodes″ edges″ faces″ : List ℤ} {M : Map} {h′ h″ : Head}
+      → length nodes′ ≡ length nodes → length edges′ ≡ length edges → h′ .points ≡ h .points
+      → TablesOf boxes nodes′ edges′ faces h′ M nodes″ edges″ faces″ h″
       → lentWith boxes (sizesOf (lent nodes edges faces h)) M ≡ lent nodes″ edges″ faces″ h″
-  holds-lent {M = M} p q k =
+  holds-lent {M = M} p q r k =
       lent-is boxes (sizesOf (lent nodes edges faces h)) M
       (ap (λ (n : ℕ). filled n (flatMap nodeCells (M .nodes))) (nodes-size f .0 ∙ sym p) ∙ k .node-cells)
       (ap (λ (n : ℕ). filled n (flatMap edgeCells (M .edges))) (edges-size f .0 ∙ sym q) ∙ k .edge-cells)
       (ap (λ (n : ℕ). facesIn n boxes (M .faces)) (faces-size f .0) ∙ k .face-cells)
-      (k .head)
+      (ap (λ (z : ℤ). headOf (limitOf z) M) (sym r) ∙ k .head)
 
   module _ (i : ℕ) (t : i < natAbs (h .edges)) where
     -- the row's names are of rows

@@ -166,18 +166,18 @@ module _ (makes : Bool) (row : Edge) (m : Map) {l r : ℕ} (el : l ≡ row .left
       (renamed-sides row f m)
 
   -- the heal of two faces is that of a row with these sides
-  pub healed-as : {box : ℕ → Extent} {nodes edges faces nodes′ edges′ faces′ : List ℤ} {h′ : Head}
-      → TablesOf box nodes edges faces (mergedSides makes (sidesAlone l r) m) nodes′ edges′ faces′ h′
-      → TablesOf box nodes edges faces (mergedSides makes row m) nodes′ edges′ faces′ h′
-  healed-as {box} {nodes} {edges} {faces} {nodes′} {edges′} {faces′} {h′} t =
-      subst (λ (x : Map). TablesOf box nodes edges faces x nodes′ edges′ faces′ h′) merged-sides t
+  pub healed-as : {box : ℕ → Extent} {nodes edges faces nodes′ edges′ faces′ : List ℤ} {h h′ : Head}
+      → TablesOf box nodes edges faces h (mergedSides makes (sidesAlone l r) m) nodes′ edges′ faces′ h′
+      → TablesOf box nodes edges faces h (mergedSides makes row m) nodes′ edges′ faces′ h′
+  healed-as {box} {nodes} {edges} {faces} {nodes′} {edges′} {faces′} {h} {h′} t =
+      subst (λ (x : Map). TablesOf box nodes edges faces h x nodes′ edges′ faces′ h′) merged-sides t
 
   pub kept-as : {z : ℤ} → z ≡ pos (faceKept makes (sidesAlone l r) m) → z ≡ pos (faceKept makes row m)
   kept-as e = e ∙ (λ i. pos (faceKept makes (sidesAlone (el i) (er i)) m))
 
 module _ {nodes edges faces : List ℤ} {h : Head} (held : MapTables nodes edges faces h) (row : Edge) (makes : Bool)
     {box : ℕ → Extent} {nodes′ edges′ faces′ : List ℤ} {h′ : Head}
-    (after : TablesOf box nodes edges faces (mergedSides makes row
+    (after : TablesOf box nodes edges faces h (mergedSides makes row
     (mapOf (lent nodes edges faces h))) nodes′ edges′ faces′ h′)
   where
     abbrev face : ℕ

@@ -17,6 +17,7 @@ use Rattle.lists.proofs.Bools.{which, same-true, same-refl, same-false}
 use Rattle.tables.specs.Tables.{filled}
 use Rattle.bounding_boxes.specs.declared.Extent.{Extent}
 use Rattle.map.specs.declared.Head.{Head}
+use Rattle.map.specs.Limits.{limitOf}
 use Rattle.map.specs.Rows.{Edge, mapOf, headOf, nodeCells, edgeCells, counts, lent}
 use Rattle.map.specs.Edits.{renamed, renamedNode, renamedFaces, withSides}
 use Rattle.map_rows.specs.Rows.{nodesOf, edgesOf, facesOf, facesIn}
@@ -150,7 +151,7 @@ module _ {nodes edges faces : List ℤ} {h : Head} {left right : ℤ} (p : Heala
       (λ e. let k = p .left-below in let j = el in omega arith)
       (λ e. let k = p .right-below in let j = er in omega arith)
 
-  pub merged-head : headOf (mergedSides makes row (mapOf (lent nodes edges faces h)))
+  pub merged-head : headOf (limitOf (h .points)) (mergedSides makes row (mapOf (lent nodes edges faces h)))
       ≡ changedHead h (counts 0 0 0) (counts 0 0 1) (counts 0 0 (bit makes))
   unfolding mapOf renamedFaces
   merged-head =
@@ -165,7 +166,8 @@ module _ {nodes edges faces : List ℤ} {h : Head} {left right : ℤ} (p : Heala
       let less = one-less makes (row .left) (row .right) f (p .held .face-table .2) sides-differ there-left
       there-right in
       head-changed h (mergedSides makes row (mapOf (lent nodes edges faces h))) (counts 0 0 0) (counts 0 0 1)
-      (counts 0 0 (bit makes)) (omega (arith, n)) (omega (arith, e)) (omega (arith, k, less, long)) refl refl refl
+      (counts 0 0 (bit makes)) (p .held .counted .recorded) (omega (arith, n)) (omega (arith, e))
+      (omega (arith, k, less, long)) refl refl refl
 
   -- what the functions below leave, in the map's terms
   pub healed-holds : (box : ℕ → Extent) (f : ℕ) → f ≡ faceKept makes row (mapOf (lent nodes edges faces h))
@@ -176,7 +178,7 @@ module _ {nodes edges faces : List ℤ} {h : Head} {left right : ℤ} (p : Heala
       ≡ edges′
       → facesIn (length faces) box (healFaces makes left right f (facesOf faces (natAbs (h .faces)))) ≡ faces′
       → h′ ≡ changedHead h (counts 0 0 0) (counts 0 0 1) (counts 0 0 (bit makes))
-      → TablesOf box nodes edges faces (mergedSides makes row (mapOf (lent nodes edges faces h))) nodes′ edges′ faces′
+      → TablesOf box nodes edges faces h (mergedSides makes row (mapOf (lent nodes edges faces h))) nodes′ edges′ faces′
       h′
   healed-holds box f ef nodes′ edges′ faces′ h′ en ee efs eh =
       let m = mapOf (lent nodes edges faces h) in

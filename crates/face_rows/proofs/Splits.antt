@@ -19,6 +19,7 @@ use Rattle.plane.specs.Areas.{isPositive}
 use Rattle.bounding_boxes.specs.declared.Extent.{Extent}
 use Rattle.map.specs.declared.Head.{Head}
 use Rattle.map.specs.declared.Variant.{Variant}
+use Rattle.map.specs.Limits.{limitOf}
 use Rattle.map.specs.Rows.{Edge, Map, mapOf, headOf, nodeCells, edgeCells, edge, setFaces, given, counts, lent}
 use Rattle.map.specs.Darts.{bears, course, ring}
 use Rattle.map.specs.Faces.{ringArea}
@@ -133,7 +134,7 @@ module _ {nodes edges faces : List ℤ} {h : Head} {old : ℤ} (p : Splittable n
   faces-are true = refl
   faces-are false = refl
 
-  head-is : (isLeft goes : Bool) → headOf (splitBy (natAbs old) isLeft goes)
+  head-is : (isLeft goes : Bool) → headOf (limitOf (h .points)) (splitBy (natAbs old) isLeft goes)
       ≡ changedHead h (counts 0 0 1) (counts 0 0 0) (counts 0 0 (cond goes 2 1))
   unfolding mapOf sharedOut
   head-is isLeft goes =
@@ -148,7 +149,7 @@ module _ {nodes edges faces : List ℤ} {h : Head} {old : ℤ} (p : Splittable n
       ∙ one-more goes (natAbs old) (natAbs (h .«next_face»)) (natAbs (h .faces)) (held .face-table .2)
       (faces-length faces (natAbs (h .faces))) (p .there) in
       head-changed h (splitBy (natAbs old) isLeft goes) (counts 0 0 1) (counts 0 0 0) (counts 0 0 (cond goes 2 1))
-      (omega (arith, n)) (omega (arith, e)) (omega (arith, f)) refl refl refl
+      (held .counted .recorded) (omega (arith, n)) (omega (arith, e)) (omega (arith, f)) refl refl refl
 
   -- what the functions below leave, in the map's terms
   pub split-holds : (box : ℕ → Extent) (how : Variant) (isLeft goes : Bool)
@@ -163,14 +164,14 @@ module _ {nodes edges faces : List ℤ} {h : Head} {old : ℤ} (p : Splittable n
       → facesIn (length faces) box (splitFaces goes (natAbs old) (natAbs (h .«next_face»))
       (facesOf faces (natAbs (h .faces)))) ≡ faces′
       → h′ ≡ changedHead h (counts 0 0 1) (counts 0 0 0) (counts 0 0 (cond goes 2 1))
-      → TablesOf box nodes edges faces (splitFace how number drawn) nodes′ edges′ faces′ h′
+      → TablesOf box nodes edges faces h (splitFace how number drawn) nodes′ edges′ faces′ h′
   split-holds box how isLeft goes il ig s es nodes′ edges′ faces′ h′ en ee ef eh =
       let same-map : splitBy (natAbs old) isLeft goes ≡ splitFace how number drawn =
       sym (split-by how ∙ (λ i. splitBy (borne-is i) (il i) (isNew how && not (same (borne-is i) 0)))
       ∙ ap (splitBy (natAbs old) isLeft) ig) in
       let told : sharesBy (natAbs old) isLeft goes ≡ sharesIn drawn (dartAt edges (s .ring)) s = shares-are isLeft goes
       ∙ ap (λ (x : Sides). sharesIn drawn (dartAt edges (x .ring)) x) (sym es) in
-      subst (λ (k : Map). TablesOf box nodes edges faces k nodes′ edges′ faces′ h′) same-map
+      subst (λ (k : Map). TablesOf box nodes edges faces h k nodes′ edges′ faces′ h′) same-map
       (record {
         node-cells = ap (λ (x : Shares). filled (length nodes) (flatMap nodeCells (sharedOut x drawn .nodes))) told
             ∙ en;

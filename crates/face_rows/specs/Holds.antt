@@ -13,7 +13,7 @@ use Rattle.curves.specs.Curves.{through}
 use Rattle.bounding_boxes.specs.declared.Extent.{Extent}
 use Rattle.tables.specs.Tables.{filled, numbered}
 use Rattle.map.specs.declared.Head.{Head}
-use Rattle.map.specs.Limits.{lastNumber, faceWidth}
+use Rattle.map.specs.Limits.{lastNumber, limitOf, faceWidth}
 use Rattle.map.specs.Rows.{Edge, Map, nodeCells, edgeCells, boxOf, headOf, hasNode, setFaces, given, counts}
 use Rattle.map.specs.Darts.{ring}
 use Rattle.map.specs.Edits.{Shares, renamed, renamedFaces}
@@ -103,13 +103,13 @@ pub record Healable (nodes edges faces : List ℤ) (h : Head) (left right : ℤ)
   pub right-below : natAbs right < natAbs (h .«next_face»)
   pub differ : natAbs left ≡ natAbs right → ⊥
 
--- tables as long as those before, and the head, are those of the map, with these rectangles
-pub record TablesOf (box : ℕ → Extent) (nodes edges faces : List ℤ) (m : Map) (nodes′ edges′ faces′ : List ℤ)
-    (h′ : Head) : Type 0 where
+-- tables as long as those before, and the head with the same record, are those of the map, with these rectangles
+pub record TablesOf (box : ℕ → Extent) (nodes edges faces : List ℤ) (h : Head) (m : Map)
+    (nodes′ edges′ faces′ : List ℤ) (h′ : Head) : Type 0 where
   pub node-cells : filled (length nodes) (flatMap nodeCells (m .nodes)) ≡ nodes′
   pub edge-cells : filled (length edges) (flatMap edgeCells (m .edges)) ≡ edges′
   pub face-cells : facesIn (length faces) box (m .faces) ≡ faces′
-  pub head : headOf m ≡ h′
+  pub head : headOf (limitOf (h .points)) m ≡ h′
 
 -- the face to share out in the map's terms: d is on the reference side, its reverse on the other
 abbrev pub sharesIn : Map → Dart → Sides → Shares

@@ -191,7 +191,7 @@ pub fn split_face(
     ensures { λ r. ⌜ ((box : ℕ → Extent) → Unboxed box (natAbs (h .«next_face»))
         → FaceTable (length (now (faces .entry))) box (facesOf (now (faces .entry)) (natAbs (h .faces)))
         (now (faces .entry))
-        → TablesOf box (now (nodes .entry)) (now (edges .entry)) (now (faces .entry))
+        → TablesOf box (now (nodes .entry)) (now (edges .entry)) (now (faces .entry)) h
         (splitFace how (edgeAt (now (edges .entry)) (natAbs (h .edges) - 1) .number)
         (mapOf (lentNow (nodes .entry) (edges .entry) (faces .entry) h))) (now (nodes .exit))
         (now (edges .exit)) (now (faces .exit)) r) ⌝ }
@@ -253,7 +253,7 @@ pub fn heal_faces(
     ensures { λ r. ⌜ ((box : ℕ → Extent) → Unboxed box (natAbs (h .«next_face»))
         → FaceTable (length (now (faces .entry))) box (facesOf (now (faces .entry)) (natAbs (h .faces)))
         (now (faces .entry))
-        → TablesOf box (now (nodes .entry)) (now (edges .entry)) (now (faces .entry))
+        → TablesOf box (now (nodes .entry)) (now (edges .entry)) (now (faces .entry)) h
         (mergedSides makes (sidesAlone (natAbs left) (natAbs right))
         (mapOf (lentNow (nodes .entry) (edges .entry) (faces .entry) h)))
         (now (nodes .exit)) (now (edges .exit)) (now (faces .exit)) (r .head))

@@ -16,12 +16,12 @@ use Rattle.map.specs.Rows.{mapOf, whole, edge, lent, rectangle}
 use Rattle.map.specs.Darts.{leaves, next, bears, course, way, departures}
 use Rattle.map.specs.Form.{countsFit, nextsFit, curveFits, numbers, named, departuresDiffer, bareMarked, linksOnce}
 use Rattle.map.specs.Form.{linksMeet, ringsBearOne, formed, hasBox, boxed, inForm}
-use Rattle.map.specs.Limits.{maxNodes, maxEdges, maxFaces, nodeWidth, edgeWidth, faceWidth}
+use Rattle.map.specs.Limits.{maxNodes, maxEdges, maxFaces, nodeWidth, edgeWidth, faceWidth, isRecord, limitOf}
 use Rattle.map.proofs.RoundTrip.{whole-tables}
 use Rattle.map.specs.declared.Counts.{Counts}
 use Rattle.map_rows.specs.Rows.{edgesOf, nodeMap, edgeMap}
 use Rattle.head.specs.Heads.{countsOf}
-use Rattle.form_ranges.specs.Ranges.{mapIn, rangedRows, Named}
+use Rattle.form_ranges.specs.Ranges.{mapIn, rangedRows, HeadFits, Named}
 use Rattle.form_ranges.proofs.Parts.{ranged-is, map-is, curves-are, counted, counts-natural}
 use Rattle.form_links.specs.Drawn.{drawnMap}
 
@@ -126,33 +126,51 @@ module _ (nodes edges faces : List ℤ) (c : Counts) (h : Head) where
 -- ---- in form
 
 module _ (nodes edges faces : List ℤ) (h : Head) where
+  -- counts, next numbers and the record
+  abbrev pub headed : Bool
+  headed = countsFit (lent nodes edges faces h) && nextsFit h && isRecord (h .points)
+
+  -- the rows, under the record
+  abbrev pub inRange : Bool
+  inRange = rangedRows nodes edges faces (countsOf h) (limitOf (h .points))
+
   boxed-is : boxed (lent nodes edges faces h) ≡ fitted nodes edges faces (countsOf h) h
   unfolding boxed mapOf
   boxed-is = refl
 
-  in-form-is : inForm (lent nodes edges faces h) ≡ (countsFit (lent nodes edges faces h) && nextsFit h)
-      && (rangedRows nodes edges faces (countsOf h) && judged nodes edges faces (countsOf h) h)
+  in-form-is : inForm (lent nodes edges faces h) ≡ headed && (inRange && judged nodes edges faces (countsOf h) h)
   unfolding inForm
   in-form-is =
       ap₂ _&&_ (ap₂ _&&_ (ranged-is nodes edges faces h) (ap formed (map-is nodes edges faces h))) boxed-is
-      ∙ regroup₄ (countsFit (lent nodes edges faces h) && nextsFit h) (rangedRows nodes edges faces (countsOf h))
-      (formed (mapIn nodes edges faces (countsOf h) h)) (fitted nodes edges faces (countsOf h) h)
+      ∙ regroup₄ headed inRange (formed (mapIn nodes edges faces (countsOf h) h))
+      (fitted nodes edges faces (countsOf h) h)
     where
       regroup₄ : (x y z w : Bool) → x && y && z && w ≡ x && (y && (z && w))
       regroup₄ true true z w = refl
       regroup₄ true false z w = refl
       regroup₄ false y z w = refl
 
-  pub unfit-head : countsFit (lent nodes edges faces h) && nextsFit h ≡ false → inForm (lent nodes edges faces h)
-      ≡ false
+  pub unfit-head : headed ≡ false → inForm (lent nodes edges faces h) ≡ false
   unfit-head e = in-form-is ∙ rw e
 
-  module _ (e : countsFit (lent nodes edges faces h) && nextsFit h ≡ true) where
-    pub unranged : rangedRows nodes edges faces (countsOf h) ≡ false → inForm (lent nodes edges faces h) ≡ false
+  module _ (e : headed ≡ true) where
+    counts-in : countsFit (lent nodes edges faces h) && nextsFit h ≡ true
+    counts-in = and-left (countsFit (lent nodes edges faces h) && nextsFit h) (isRecord (h .points)) e
+
+    pub head-known : HeadFits nodes edges faces (countsOf h) h
+    head-known =
+        let p = countsFit (lent nodes edges faces h) in
+        counted nodes edges faces h (and-left p (nextsFit h) counts-in) (and-right p (nextsFit h) counts-in)
+        (and-right (p && nextsFit h) (isRecord (h .points)) e)
+
+    pub head-natural : (nonNeg (h .nodes) ≡ true) × (nonNeg (h .edges) ≡ true) × (nonNeg (h .faces) ≡ true)
+    head-natural = counts-natural nodes edges faces h
+        (and-left (countsFit (lent nodes edges faces h)) (nextsFit h) counts-in)
+
+    pub unranged : inRange ≡ false → inForm (lent nodes edges faces h) ≡ false
     unranged f = in-form-is ∙ rw (e, f)
 
-    pub by-formed : rangedRows nodes edges faces (countsOf h) ≡ true → inForm (lent nodes edges faces h)
-        ≡ judged nodes edges faces (countsOf h) h
+    pub by-formed : inRange ≡ true → inForm (lent nodes edges faces h) ≡ judged nodes edges faces (countsOf h) h
     by-formed f = in-form-is ∙ rw (e, f)
 
   -- room of whole tables
@@ -174,12 +192,11 @@ pub in-form-known : (nodes edges faces : List ℤ) (h : Head) → inForm (lent n
     → InForm nodes edges faces (countsOf h) h
 in-form-known nodes edges faces h e =
     let m = mapIn nodes edges faces (countsOf h) h in
-    let p = countsFit (lent nodes edges faces h) in
-    let q = rangedRows nodes edges faces (countsOf h) in
+    let p = headed nodes edges faces h in
+    let q = inRange nodes edges faces h in
     let f = sym (in-form-is nodes edges faces h) ∙ e in
     let w = judged nodes edges faces (countsOf h) h in
-    let head = and-left (p && nextsFit h) (q && w) f in
-    let rows = and-right (p && nextsFit h) (q && w) f in
+    let rows = and-right p (q && w) f in
     let g = and-left (formed m) (fitted nodes edges faces (countsOf h) h) (and-right q w rows) in
     let k = curved nodes edges faces (countsOf h) h
     && (departed nodes edges faces (countsOf h) h && linked nodes edges faces (countsOf h) h) in
@@ -188,7 +205,7 @@ in-form-known nodes edges faces h e =
       named = record {
         in-order = record {
           in-ranges = record {
-            counted = counted nodes edges faces h (and-left p (nextsFit h) head) (and-right p (nextsFit h) head);
+            counted = head-known nodes edges faces h (and-left p (q && w) f);
             ranged = and-left q w rows;
           };
           numbers = and-left (numbers m) (named m && k) five;
@@ -202,7 +219,5 @@ in-form-known nodes edges faces h e =
 pub in-form-natural : (nodes edges faces : List ℤ) (h : Head) → inForm (lent nodes edges faces h) ≡ true
     → (nonNeg (h .nodes) ≡ true) × (nonNeg (h .edges) ≡ true) × (nonNeg (h .faces) ≡ true)
 in-form-natural nodes edges faces h e =
-    let p = countsFit (lent nodes edges faces h) in
-    let rest = rangedRows nodes edges faces (countsOf h) && judged nodes edges faces (countsOf h) h in
-    counts-natural nodes edges faces h (and-left p (nextsFit h)
-    (and-left (p && nextsFit h) rest (sym (in-form-is nodes edges faces h) ∙ e)))
+    head-natural nodes edges faces h (and-left (headed nodes edges faces h)
+    (inRange nodes edges faces h && judged nodes edges faces (countsOf h) h) (sym (in-form-is nodes edges faces h) ∙ e))

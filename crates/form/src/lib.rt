@@ -56,7 +56,7 @@ pub fn in_form(nodes: &[i64], edges: &[i64], faces: &[i64], h: Head) -> bool
         return false;
     }
     let c = head::counts_of(h);
-    if !form_ranges::is_ranged(nodes, edges, faces, c) {
+    if !form_ranges::is_ranged(nodes, edges, faces, c, h.points) {
         return false;
     }
     is_formed(nodes, edges, faces, c, h)

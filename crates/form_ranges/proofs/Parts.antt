@@ -14,11 +14,12 @@ use Rattle.tables.proofs.Tests.{within-least, within-pos}
 use Rattle.tables.proofs.Rising.{all-same, all-weaker, numbered-wider}
 use Rattle.curves.proofs.Runs.{and-left, and-right}
 use Rattle.map.specs.declared.Head.{Head}
-use Rattle.map.specs.Limits.{nodeWidth, edgeWidth, faceWidth, lastNumber}
+use Rattle.map.specs.Limits.{nodeWidth, edgeWidth, faceWidth, lastNumber, mostPoints, isRecord, limitOf}
 use Rattle.map.specs.Rows.{Edge, mapOf, node, hasNode, hasEdge, hasFace, lent}
-use Rattle.map.specs.Form.{countsFit, nextsFit, nodeRanges, edgeRanges, faceRanges, ranged, numbers, named, edgeNames}
-use Rattle.map.specs.Form.{inFace, curveFits}
+use Rattle.map.specs.Form.{countsFit, nextsFit, nodeRanges, edgeRangesTo, edgeRanges, faceRanges, ranged, numbers}
+use Rattle.map.specs.Form.{named, edgeNames, inFace, curveFits}
 use Rattle.map.specs.declared.Counts.{Counts}
+use Rattle.map.proofs.RoundTrip.{rows-wider}
 use Rattle.map_rows.specs.Rows.{nodesOf, edgesOf, facesOf, nodeMap, NodeRows, EdgeRows, FaceRows}
 use Rattle.head.specs.Heads.{countsOf, UpTo}
 use Rattle.head.proofs.Words.{is-natural}
@@ -63,10 +64,10 @@ nexts-in h e =
 div-room : (a n w : ℕ) → a ≤ n / suc w → a * suc w ≤ n
 div-room a n w h = le-trans (mul-le-mul-right (suc w) h) (div-mul-le-self n (suc w))
 
--- counts and next numbers that fit, as the other parts require them
+-- counts, next numbers and a record that fit, as the other parts require them
 pub counted : (nodes edges faces : List ℤ) (h : Head) → countsFit (lent nodes edges faces h) ≡ true → nextsFit h ≡ true
-    → HeadFits nodes edges faces (countsOf h) h
-counted nodes edges faces h e f =
+    → isRecord (h .points) ≡ true → HeadFits nodes edges faces (countsOf h) h
+counted nodes edges faces h e f r =
     let p = within 0 (length nodes / nodeWidth) (h .nodes) in
     let q = within 0 (length edges / edgeWidth) (h .edges) in
     let s = within 1 (length faces / faceWidth) (h .faces) in
@@ -81,6 +82,7 @@ counted nodes edges faces h e f =
           (within-pos 1 (length faces / faceWidth) (h .faces) k .2);
       a-face = within-least 1 (length faces / faceWidth) (h .faces) k;
       nexts = f;
+      recorded = r;
     }
 
 -- the counts are not negative
@@ -100,13 +102,14 @@ counts-natural nodes edges faces h e =
 
 module _ (nodes edges faces : List ℤ) (h : Head) where
   pub ranged-is : ranged (lent nodes edges faces h) ≡ countsFit (lent nodes edges faces h) && nextsFit h
-      && rangedRows nodes edges faces (countsOf h)
+      && isRecord (h .points) && rangedRows nodes edges faces (countsOf h) (limitOf (h .points))
   unfolding ranged
   ranged-is =
-      regroup (countsFit (lent nodes edges faces h) && nextsFit h) (restZero nodeWidth (h .nodes) nodes)
+      regroup (countsFit (lent nodes edges faces h) && nextsFit h && isRecord (h .points))
+      (restZero nodeWidth (h .nodes) nodes)
       (restZero edgeWidth (h .edges) edges) (restZero faceWidth (h .faces) faces)
       (allOf nodeRanges (rows nodeWidth (natAbs (h .nodes)) nodes))
-      (allOf edgeRanges (rows edgeWidth (natAbs (h .edges)) edges))
+      (allOf (edgeRangesTo (mostPoints (limitOf (h .points)))) (rows edgeWidth (natAbs (h .edges)) edges))
       (allOf faceRanges (rows faceWidth (natAbs (h .faces)) faces))
     where
       regroup : (x a b c d e f : Bool) → x && a && b && c && d && e && f ≡ x && (a && b && c && d && e && f)
@@ -128,15 +131,17 @@ module _ {nodes edges faces : List ℤ} {c : Counts} {h : Head} where
   -- ---- rows in range
 
   module _ (r : InRanges nodes edges faces c h) where
+    -- a row holds either record
     pub ranged-rows : (allOf nodeRanges (rows nodeWidth (c .nodes) nodes) ≡ true)
         × (allOf edgeRanges (rows edgeWidth (c .edges) edges) ≡ true)
         × (allOf faceRanges (rows faceWidth (c .faces) faces) ≡ true)
     ranged-rows =
         let e = and₆ (restZero nodeWidth (pos (c .nodes)) nodes) (restZero edgeWidth (pos (c .edges)) edges)
         (restZero faceWidth (pos (c .faces)) faces)
-        (allOf nodeRanges (rows nodeWidth (c .nodes) nodes)) (allOf edgeRanges (rows edgeWidth (c .edges) edges))
+        (allOf nodeRanges (rows nodeWidth (c .nodes) nodes))
+        (allOf (edgeRangesTo (mostPoints (limitOf (h .points)))) (rows edgeWidth (c .edges) edges))
         (allOf faceRanges (rows faceWidth (c .faces) faces)) (r .ranged) in
-        (e .3, e .4, e .5)
+        (e .3, rows-wider (limitOf (h .points)) (rows edgeWidth (c .edges) edges) (e .4), e .5)
 
   -- ---- rows in order
 

@@ -8,9 +8,9 @@ use lib.ListN.{length}
 use Rattle.lists.specs.Scans.{allOf}
 use Rattle.tables.specs.Tables.{rows, restZero, numbered}
 use Rattle.map.specs.declared.Head.{Head}
-use Rattle.map.specs.Limits.{nodeWidth, edgeWidth, faceWidth, lastNumber}
+use Rattle.map.specs.Limits.{nodeWidth, edgeWidth, faceWidth, lastNumber, PointLimit, mostPoints, isRecord, limitOf}
 use Rattle.map.specs.Rows.{Map, counts}
-use Rattle.map.specs.Form.{nextsFit, nodeRanges, edgeRanges, faceRanges, numbers, named}
+use Rattle.map.specs.Form.{nextsFit, nodeRanges, edgeRangesTo, edgeRanges, faceRanges, numbers, named}
 use Rattle.map.specs.declared.Counts.{Counts}
 use Rattle.map_rows.specs.Rows.{nodesOf, edgesOf, facesOf}
 
@@ -24,27 +24,28 @@ mapIn nodes edges faces c h =
       next = counts (natAbs (h .«next_node»)) (natAbs (h .«next_edge»)) (natAbs (h .«next_face»));
     }
 
--- the rows in use fit the tables, and the next numbers are 1 to 1,000,000
+-- the rows in use fit the tables, the next numbers are 1 to 1,000,000, and the record is 6 or 12
 pub record HeadFits (nodes edges faces : List ℤ) (c : Counts) (h : Head) : Type 0 where
   pub nodes-fit : c .nodes * nodeWidth ≤ length nodes
   pub edges-fit : c .edges * edgeWidth ≤ length edges
   pub faces-fit : c .faces * faceWidth ≤ length faces
   pub a-face : 1 ≤ c .faces
   pub nexts : nextsFit h ≡ true
+  pub recorded : isRecord (h .points) ≡ true
 
--- their numbers are in range, and zeros stand behind them
-abbrev pub rangedRows : List ℤ → List ℤ → List ℤ → Counts → Bool
-rangedRows nodes edges faces c =
+-- their numbers are in range, under a record of points, and zeros stand behind them
+abbrev pub rangedRows : List ℤ → List ℤ → List ℤ → Counts → PointLimit → Bool
+rangedRows nodes edges faces c k =
     restZero nodeWidth (pos (c .nodes)) nodes
     && restZero edgeWidth (pos (c .edges)) edges
     && restZero faceWidth (pos (c .faces)) faces
     && allOf nodeRanges (rows nodeWidth (c .nodes) nodes)
-    && allOf edgeRanges (rows edgeWidth (c .edges) edges)
+    && allOf (edgeRangesTo (mostPoints k)) (rows edgeWidth (c .edges) edges)
     && allOf faceRanges (rows faceWidth (c .faces) faces)
 
 pub record InRanges (nodes edges faces : List ℤ) (c : Counts) (h : Head) : Type 0 where
   pub counted : HeadFits nodes edges faces c h
-  pub ranged : rangedRows nodes edges faces c ≡ true
+  pub ranged : rangedRows nodes edges faces c (limitOf (h .points)) ≡ true
 
 -- the map that has these faces alone: named faces are looked up in it
 abbrev pub faceMap : List ℤ → ℕ → Map

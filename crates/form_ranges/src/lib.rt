@@ -13,12 +13,12 @@ ghost use Rattle.lists.specs.Scans.{allOf};
 ghost use Rattle.tables.specs.Tables.{cell, rows, isZero};
 ghost use Rattle.curves.specs.Curves.{coordinate, maxPoints};
 ghost use Rattle.map.specs.Limits.{maxNodes, maxEdges, maxFaces, nodeWidth, edgeWidth, faceWidth};
-ghost use Rattle.map.specs.Rows.{whole, sizesOf};
-ghost use Rattle.map.specs.Form.{countsFit, nextsFit, nodeRanges, edgeRanges, faceRanges, numbers};
+ghost use Rattle.map.specs.Limits.{mostPoints, isRecord, limitOf};
+ghost use Rattle.map.specs.Rows.{Lent, whole, counts};
+ghost use Rattle.map.specs.Form.{countsFit, nextsFit, nodeRanges, edgeRangesTo, faceRanges, numbers};
 ghost use Rattle.map.specs.Loans.{lentNow};
+ghost use Rattle.head.specs.Heads.{sizesIn};
 ghost use Rattle.form_ranges.specs.Ranges.{mapIn, rangedRows, InRanges};
-
-const POINTS: i64 = Map::POINTS as i64;
 
 // ---- 1: whole rows within the limits, and a face row
 
@@ -39,11 +39,12 @@ fn within(z: i64, a: i64, b: i64) -> bool
     (a <= z) & (z <= b)
 }
 
-// Counts within the tables, and next numbers 1 to 1,000,000.
+// Counts within the tables, next numbers 1 to 1,000,000, and 6 or 12 recorded.
 pub fn head_fits(h: Head, nodes: usize, edges: usize, faces: usize) -> bool
     requires { ⌜ (nodes ≤ maxNodes) × (edges ≤ maxEdges) × (faces ≤ maxFaces) ⌝ }
-    ensures { λ r. ⌜ ((l : _) → sizesOf l ≡ record { nodes = nodes; edges = edges; faces = faces } → r
-        ≡ (countsFit (record { nodes = l .nodes; edges = l .edges; faces = l .faces; head = h }) && nextsFit h)) ⌝ }
+    ensures { λ r. ⌜ ((l : Lent) → sizesIn (l .nodes) (l .edges) (l .faces) ≡ counts nodes edges faces
+        → r ≡ (countsFit (record { nodes = l .nodes; edges = l .edges; faces = l .faces; head = h }) && nextsFit h
+        && isRecord (h .points))) ⌝ }
 {
     let counts = within(h.nodes, 0, nodes as i64)
         & within(h.edges, 0, edges as i64)
@@ -51,7 +52,7 @@ pub fn head_fits(h: Head, nodes: usize, edges: usize, faces: usize) -> bool
     let nexts = within(h.next_node, 1, map::LAST_NEXT)
         & within(h.next_edge, 1, map::LAST_NEXT)
         & within(h.next_face, 1, map::LAST_NEXT);
-    counts & nexts
+    counts & nexts & head::is_record(h.points)
 }
 
 // Number k is not negative.
@@ -127,12 +128,13 @@ fn points_ranged(row: &[i64], n: usize) -> bool
     are_coordinates(&row[map::POINTS_AT..end]) & tables::rest_zero(row, end)
 }
 
-fn edge_ranges(row: &[i64]) -> bool
-    requires { ⌜ length (now row) ≡ edgeWidth ⌝ }
-    ensures { λ r. ⌜ r ≡ edgeRanges (now (row .entry)) ⌝ }
+// The ranges of an edge row, with 2 points or more, to the number that the head records.
+fn edge_ranges(row: &[i64], points: i64) -> bool
+    requires { ⌜ (length (now row) ≡ edgeWidth) × (isRecord points ≡ true) ⌝ }
+    ensures { λ r. ⌜ r ≡ edgeRangesTo (mostPoints (limitOf points)) (now (row .entry)) ⌝ }
 {
     let z = row[map::POINT_COUNT];
-    if !(edge_naturals(row) & within(z, 2, POINTS)) {
+    if !(edge_naturals(row) & within(z, 2, points)) {
         return false;
     }
     let n = tables::natural(row, map::POINT_COUNT);
@@ -143,14 +145,14 @@ fn edge_ranges(row: &[i64]) -> bool
     points_ranged(row, n)
 }
 
-fn edges_ranged(edges: &[i64], n: usize) -> bool
-    requires { ⌜ n * edgeWidth ≤ length (now edges) ⌝ }
-    ensures { λ r. ⌜ r ≡ allOf edgeRanges (rows edgeWidth n (now (edges .entry))) ⌝ }
+fn edges_ranged(edges: &[i64], n: usize, points: i64) -> bool
+    requires { ⌜ (n * edgeWidth ≤ length (now edges)) × (isRecord points ≡ true) ⌝ }
+    ensures { λ r. ⌜ r ≡ allOf (edgeRangesTo (mostPoints (limitOf points))) (rows edgeWidth n (now (edges .entry))) ⌝ }
 {
     for i in 0..n {
         let a = i * map::EDGE_WIDTH;
         let b = a + map::EDGE_WIDTH;
-        if !edge_ranges(&edges[a..b]) {
+        if !edge_ranges(&edges[a..b], points) {
             return false;
         }
     }
@@ -170,17 +172,20 @@ fn faces_ranged(faces: &[i64], n: usize) -> bool
 }
 
 // Whether the rows in use are in range, and all numbers behind them 0.
-pub fn is_ranged(nodes: &[i64], edges: &[i64], faces: &[i64], c: Counts) -> bool
+pub fn is_ranged(nodes: &[i64], edges: &[i64], faces: &[i64], c: Counts, points: i64) -> bool
     requires { ⌜ (c .nodes * nodeWidth ≤ length (now nodes)) × (c .edges * edgeWidth ≤ length (now edges))
-        × (c .faces * faceWidth ≤ length (now faces)) ⌝ }
-    ensures { λ r. ⌜ r ≡ rangedRows (now (nodes .entry)) (now (edges .entry)) (now (faces .entry)) c ⌝ }
+        × (c .faces * faceWidth ≤ length (now faces)) × (isRecord points ≡ true) ⌝ }
+    ensures { λ r. ⌜ r ≡ rangedRows (now (nodes .entry)) (now (edges .entry)) (now (faces .entry)) c
+        (limitOf points) ⌝ }
 {
     if !(tables::rest_zero(nodes, c.nodes * map::NODE_WIDTH)
         & tables::rest_zero(edges, c.edges * map::EDGE_WIDTH)
         & tables::rest_zero(faces, c.faces * map::FACE_WIDTH)) {
         return false;
     }
-    nodes_ranged(nodes, c.nodes) & edges_ranged(edges, c.edges) & faces_ranged(faces, c.faces)
+    nodes_ranged(nodes, c.nodes)
+        & edges_ranged(edges, c.edges, points)
+        & faces_ranged(faces, c.faces)
 }
 
 // ---- numbers

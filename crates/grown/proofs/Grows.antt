@@ -3,7 +3,7 @@
 use mathlib.Core.Path.{_≡_, refl, sym, ap, ap₂, _∙_, subst}
 use mathlib.Core.Logic.{_≢_}
 use mathlib.Core.Bool.{true, not}
-use mathlib.Core.List.{List, [], _∷_, _++_, List·Memᴰ}
+use mathlib.Core.List.{List, [], _∷_, _++_, List·Memᴰ, List·Memᴰ·not-nil}
 use mathlib.Core.Option.{Option, none, some}
 use Prim.Native.Nat.{ℕ, zero, suc, _≤_}
 use native.Mathlib.Omega.{arith}
@@ -25,7 +25,7 @@ use Rattle.map.proofs.Reasons.{first-zero}
 use Rattle.grown.specs.Good.{Good, Fits}
 use Rattle.grown.specs.Claims.{GrownMap, Grows, Limited, NeverLent}
 use Rattle.grown.proofs.Law.Lawful.{law-is}
-use Rattle.grown.proofs.Numbers.Carried.{fits-kept}
+use Rattle.grown.proofs.Short.{fits-kept}
 use Rattle.grown.proofs.Sounds.{good-sound}
 use Rattle.grown.proofs.Ranges.{good-back, sizes-back, good-in-form, good-whole}
 use Rattle.grown.proofs.Growth.{good-kept, empty-good}
@@ -84,7 +84,13 @@ steps s l (t ∷ ts) x = steps s (ticket l t .lent) ts (step s l t x)
 pub grown-state : (s : Sizes) → 1 ≤ s .faces → (ts : List (List ℤ)) → State s (grow s ts .lent)
 unfolding grow
 grown-state s h ts = steps s (lentOf s emptyMap) ts
-    (here s emptyMap empty-good (record { nodes = omega arith; edges = omega arith; faces = h }))
+    (here s emptyMap empty-good (
+    record {
+      nodes = omega arith;
+      edges = omega arith;
+      faces = h;
+      short = λ e k. absurd (List·Memᴰ·not-nil k);
+    }))
 
 -- whole tables are within the limits
 pub whole-limited : (l : Lent) → whole l ≡ true → Limited (sizesOf l)

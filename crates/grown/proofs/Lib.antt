@@ -13,6 +13,8 @@ pub mod Numbers
 pub mod Curves
 pub mod Law
 pub mod Plane
+-- no curve has more points than the map was created for
+pub mod Short
 -- a good map is in form, read back from its tables, and sound
 pub mod Forms
 pub mod Ranges

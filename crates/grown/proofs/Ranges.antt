@@ -22,11 +22,12 @@ use Rattle.plane.specs.Points.{InRange}
 use Rattle.curves.specs.Curves.{points, maxPoints}
 use Rattle.curves.proofs.Runs.{coordinate-of}
 use Rattle.bounding_boxes.specs.declared.Extent.{Extent}
-use Rattle.map.specs.Limits.{maxNodes, maxEdges, maxFaces, lastNumber, nodeWidth, edgeWidth, faceWidth}
+use Rattle.map.specs.Limits.{maxNodes, maxEdges, maxFaces, lastNumber, mostPoints, nodeWidth, edgeWidth, faceWidth}
 use Rattle.map.specs.Rows.{Node, Edge, Map, Sizes, nodeCells, edgeCells, faceCells, faceCell, rectangle, lentWith}
 use Rattle.map.specs.Rows.{lentOf, mapOf, sizesOf, whole, nodeRows, edgeRows, faceRows}
-use Rattle.map.specs.Form.{nodeRanges, edgeRanges, faceRanges, ranged, formed, hasBox, boxed, inForm, countsFit}
-use Rattle.map.specs.Form.{nextsFit}
+use Rattle.map.specs.Form.{nodeRanges, edgeRangesTo, edgeRanges, faceRanges, ranged, formed, hasBox, boxed, inForm}
+use Rattle.map.specs.Form.{countsFit, nextsFit}
+use Rattle.map.proofs.PointLimits.{limit-back, limit-record}
 use Rattle.map.proofs.RoundTrip.{nodes-wide, edge-wide, faces-wide, Stored, points-ranged}
 use Rattle.map.proofs.Laws.{formed-back}
 use Rattle.map_laws.proofs.Faces.{zero-in}
@@ -46,12 +47,17 @@ unfolding nodeCells
 node-ranges n h = and-is (and-is (coordinate-of (n .at .x) (h .x)) (coordinate-of (n .at .y) (h .y)))
     (face-low (n .face))
 
-pub edge-ranges : (e : Edge) → Stored (e .curve) → edgeRanges (edgeCells e) ≡ true
+-- under a limit, and as a row can hold it
+edge-ranges-to : {k : ℕ} (e : Edge) → Stored (e .curve) → length (points (e .curve)) ≤ k
+    → edgeRangesTo k (edgeCells e) ≡ true
 unfolding edgeCells
-edge-ranges e h =
+edge-ranges-to {k} e h few =
     let n = length (points (e .curve)) in
     let r = points-ranged (e .curve) h in
-    and-is (and-is (and-is (le-leb 2 n (h .least)) (le-leb n maxPoints (h .most))) (r .0)) (r .1)
+    and-is (and-is (and-is (le-leb 2 n (h .least)) (le-leb n k few)) (r .0)) (r .1)
+
+pub edge-ranges : (e : Edge) → Stored (e .curve) → edgeRanges (edgeCells e) ≡ true
+edge-ranges e h = edge-ranges-to e h (h .most)
 
 -- ---- a map whose rows are in range
 
@@ -123,9 +129,17 @@ module _ (s : Sizes) (m : Map) (t : Tabled s m) where
   node-row-ranges = each-row nodeWidth nodeCells nodeRanges (m .nodes) _ (nodes-wide (m .nodes))
       (λ n k. node-ranges n (t .nodes n k))
 
-  edge-row-ranges : allOf edgeRanges (edgeRows (lentOf s m)) ≡ true
+  -- the limit as the head has it
+  limit-read : mostPoints (sizesOf (lentOf s m) .limit) ≡ mostPoints (s .limit)
   unfolding lentWith
-  edge-row-ranges = each-row edgeWidth edgeCells edgeRanges (m .edges) _ wide (λ e k. edge-ranges e (t .edges e k))
+  limit-read = ap mostPoints (limit-back (s .limit))
+
+  edge-row-ranges : allOf (edgeRangesTo (mostPoints (sizesOf (lentOf s m) .limit))) (edgeRows (lentOf s m)) ≡ true
+  unfolding lentWith
+  edge-row-ranges =
+      ap (λ (k : ℕ). allOf (edgeRangesTo k) (edgeRows (lentOf s m))) limit-read
+      ∙ each-row edgeWidth edgeCells (edgeRangesTo (mostPoints (s .limit))) (m .edges) _ wide
+      (λ e k. edge-ranges-to e (t .edges e k) (t .fits .short e k))
 
   face-row-ranges : allOf faceRanges (faceRows (lentOf s m)) ≡ true
   unfolding lentWith
@@ -134,11 +148,12 @@ module _ (s : Sizes) (m : Map) (t : Tabled s m) where
   pub tabled-ranged : ranged (lentOf s m) ≡ true
   unfolding ranged lentWith
   tabled-ranged =
+      let head = and-is (and-is counts nexts) (limit-record (s .limit)) in
       and-is
       (and-is
       (and-is
       (and-is
-      (and-is (and-is (and-is counts nexts) (flat-rest nodeWidth nodeCells _ (m .nodes) (nodes-wide (m .nodes))))
+      (and-is (and-is head (flat-rest nodeWidth nodeCells _ (m .nodes) (nodes-wide (m .nodes))))
       (flat-rest edgeWidth edgeCells _ (m .edges) wide))
       (flat-rest faceWidth (faceCells box) _ (m .faces) (faces-wide box (m .faces)))) node-row-ranges) edge-row-ranges)
       face-row-ranges
@@ -180,6 +195,7 @@ module _ (m : Map) (g : Good m) where
           edges = room edgeWidth edgeCells (s .edges) (m .edges) (edges-wide m few) (omega arith) (f .edges) i;
           faces = room faceWidth (faceCells given-box) (s .faces) (m .faces) (faces-wide given-box (m .faces))
               (omega arith) (f .faces) i;
+          limit = limit-back (s .limit) i;
         }
 
     good-tabled : Tabled s m

@@ -5,7 +5,7 @@ use mathlib.Core.Logic.{inl, inr, _≢_}
 use mathlib.Core.Bool.{Bool, true, false, cond, _||_}
 use mathlib.Core.List.{List, [], _∷_, map, List·Memᴰ, List·Memᴰ·head, List·Memᴰ·tail}
 use mathlib.Core.Option.{some}
-use Prim.Native.Nat.{ℕ, _≤_}
+use Prim.Native.Nat.{ℕ}
 use native.Mathlib.Omega.{arith}
 use lib.ListN.{length}
 use Rattle.lists.specs.Tests.{same}
@@ -14,7 +14,7 @@ use Rattle.lists.proofs.Bools.{same-refl, same-true, same-false, equal?}
 use Rattle.lists.proofs.Counts.{count-perm, count-keep}
 use Rattle.lists.proofs.Keeps.{keep-none}
 use Rattle.plane.specs.declared.Point.{Point}
-use Rattle.curves.specs.Curves.{Curve, points, maxPoints}
+use Rattle.curves.specs.Curves.{Curve}
 use Rattle.curves.specs.Edits.{joined}
 use Rattle.planar_maps.specs.Map.{Arc, Dart, fwd, bwd, darts}
 use Rattle.planar_maps.proofs.Hooks.{fwd≢bwd}
@@ -102,7 +102,6 @@ pub record Rejoin (m m′ : Map) (e n a b : ℕ) : Type 0 where
   pub joint : joint m′ a b ≡ some n
   pub parts : parts m′ a b ≡ (fwd a, fwd b)
   pub curve : healedCurve m′ a b ≡ edge m e .curve
-  pub few-points : length (points (healedCurve m′ a b)) ≤ maxPoints
   pub start : leaves m′ (fwd a) ≡ edge m e .start
   pub end : leaves m′ (bwd b) ≡ edge m e .end
   pub left : edge m′ a .left ≡ edge m e .left
@@ -197,9 +196,6 @@ module _ (m m′ : Map) (e n a b : ℕ) (p : Point) (g : Good m) (H : InHalves m
       curve : Edge → Curve
       curve x = x .curve
 
-  abbrev Few : Curve → Type 0
-  Few c = length (points c) ≤ maxPoints
-
   pub rejoin : Rejoin m m′ e n a b
   rejoin =
       let once = once-m′ m m′ e n a b p L H in
@@ -213,7 +209,6 @@ module _ (m m′ : Map) (e n a b : ℕ) (p : Point) (g : Good m) (H : InHalves m
         joint = joint-is;
         parts = parts-are;
         curve = curve-is;
-        few-points = subst Few (sym curve-is) (g .surveyed .kept (edge m e) row .most);
         start = leaves-of m′ once first u (fwd a) refl;
         end = leaves-of m′ once second v (bwd b) refl;
         left = ap (λ (x : Edge). x .left) first-is;

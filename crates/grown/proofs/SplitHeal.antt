@@ -18,24 +18,25 @@ use Rattle.lists.proofs.Bools.{same-false, and-true, or-no, or-left, or-right}
 use Rattle.lists.proofs.Perms.{perm-length}
 use Rattle.tables.specs.Tables.{filled}
 use Rattle.plane.specs.declared.Point.{Point}
-use Rattle.curves.specs.Curves.{point, points, maxPoints}
+use Rattle.curves.specs.Curves.{Curve, point, points}
 use Rattle.map.specs.declared.Variant.the-variants.{New, Mod}
 use Rattle.map.specs.declared.Answer.{Answer}
-use Rattle.map.specs.Limits.{lastNumber, faceWidth}
+use Rattle.map.specs.Limits.{PointLimit, mostPoints, lastNumber, faceWidth}
 use Rattle.map.specs.Rows.{Map, Lent, Sizes, mapOf, faceCells, lentWith, lentOf, headOf, sizesOf, whole, hasEdge}
-use Rattle.map.specs.Rows.{given, withoutEdge, counts}
+use Rattle.map.specs.Rows.{edge, given, withoutEdge, counts}
 use Rattle.map.specs.Tickets.{Ticket, NewEdgesSplit, ModEdgeSplit, NewEdgeHeal, ModEdgeHeal, read}
 use Rattle.map.specs.Edits.{split, heal, healedCurve}
 use Rattle.map.specs.Reasons.{Reasons, firstReason, reasons, healReasons, noEdge, spent}
 use Rattle.map.specs.Ticket.{Outcome, refused, carried, lentReasons, unless, judged, ticket}
 use Rattle.map.specs.Grow.{grow}
 use Rattle.map.proofs.Reasons.{first-hit, first-miss, first-none, first-zero, first-after}
+use Rattle.map.proofs.Laws.{edge-there}
 use Rattle.map_laws.proofs.Readings.{numberOf, nums-rows}
 use Rattle.map_laws.proofs.Reasons.{Split, split-new, split-mod}
 use Rattle.grown.specs.Good.{Good, Fits}
 use Rattle.grown.specs.Claims.{Limited, raised, restored, Cancels, SplitCancelled, linksRenamed, renumbered}
 use Rattle.grown.specs.Claims.{renewed, Renews, SplitRenewed, Spends, SplitSpent}
-use Rattle.grown.proofs.Numbers.Carried.{fits-kept}
+use Rattle.grown.proofs.Short.{fits-kept}
 use Rattle.grown.proofs.Law.Lawful.{good-lawful}
 use Rattle.grown.proofs.Law.Split.{new-halves, kept-halves}
 use Rattle.grown.proofs.Growth.{good-kept}
@@ -106,27 +107,30 @@ plain m e rs h =
     let has = not-false (nonNeg e && hasEdge m (natAbs e)) (first-zero 4 (noEdge m e) rs (lit< tt) h .0) in
     and-true (nonNeg e) (hasEdge m (natAbs e)) has .0
 
-heal-free : (m m′ : Map) (e n : ℕ) (a b : ℤ) → Rejoin m m′ e n (natAbs a) (natAbs b) → nonNeg a ≡ true → nonNeg b ≡ true
-    → firstReason (healReasons m′ a b) ≡ 0
-heal-free m m′ e n a b j ha hb =
+heal-free : (s : Sizes) (m m′ : Map) (e n : ℕ) (a b : ℤ) → Rejoin m m′ e n (natAbs a) (natAbs b)
+    → length (points (edge m e .curve)) ≤ mostPoints (s .limit) → nonNeg a ≡ true → nonNeg b ≡ true
+    → firstReason (healReasons s m′ a b) ≡ 0
+heal-free s m m′ e n a b j few ha hb =
     let i = natAbs a in
     let k = natAbs b in
     first-miss 4 _ _ (or-no {a = noEdge m′ a} {b = noEdge m′ b} (rw (ha, j .has-first)) (rw (hb, j .has-second)))
     ∙ first-miss 16 _ _ (or-no (same-false i k (j .differ)) (j .shared))
     ∙ first-miss 17 _ _ (ap (λ (o : Option ℕ). not (isSome o)) (j .joint))
-    ∙ first-miss 18 _ _ (le-ltb maxPoints (length (points (healedCurve m′ i k))) (j .few-points))
+    ∙ first-miss 18 _ _ (le-ltb (mostPoints (s .limit)) (length (points (healedCurve m′ i k)))
+    (subst (λ (c : Curve). length (points c) ≤ mostPoints (s .limit)) (sym (j .curve)) few))
     ∙ first-none
 
 -- ---- the tables afterwards
 
-head-raised : (a b : ℕ) (m : Map) → headOf (given (counts a b 0) m) ≡ raised a b (headOf m)
-head-raised a b m = λ i. record {
+head-raised : (k : PointLimit) (a b : ℕ) (m : Map) → headOf k (given (counts a b 0) m) ≡ raised a b (headOf k m)
+head-raised k a b m = λ i. record {
   nodes = pos (length (m .nodes));
   edges = pos (length (m .edges));
   faces = pos (length (m .faces));
   «next_node» = pos (m .next .nodes + a);
   «next_edge» = pos (m .next .edges + b);
   «next_face» = pos (add-zero (m .next .faces) i);
+  points = pos (mostPoints k);
 }
 
 restored-is : (s : Sizes) (m : Map) → lentOf s (given (counts 1 1 0) m) ≡ restored (lentOf s m) .lent
@@ -135,7 +139,7 @@ restored-is s m = λ i. record {
   nodes = lentOf s m .nodes;
   edges = lentOf s m .edges;
   faces = lentOf s m .faces;
-  head = head-raised 1 1 m i;
+  head = head-raised (s .limit) 1 1 m i;
 }
 
 module _ (s : Sizes) (m : Map) (g : Good m) (f : Fits s m) where
@@ -143,7 +147,7 @@ module _ (s : Sizes) (m : Map) (g : Good m) (f : Fits s m) where
   once = subst Distinct (nums-rows m) (good-lawful m g .once)
 
   -- there are as many edges as before
-  renumbered-head : (e h : ℕ) → hasEdge m e ≡ true → headOf (renumbered e h m) ≡ headOf m
+  renumbered-head : (e h : ℕ) → hasEdge m e ≡ true → headOf (s .limit) (renumbered e h m) ≡ headOf (s .limit) m
   unfolding renumbered
   renumbered-head e h has = λ i. record {
     nodes = pos (length (m .nodes));
@@ -152,6 +156,7 @@ module _ (s : Sizes) (m : Map) (g : Good m) (f : Fits s m) where
     «next_node» = pos (m .next .nodes);
     «next_edge» = pos (m .next .edges);
     «next_face» = pos (m .next .faces);
+    points = pos (mostPoints (s .limit));
   }
     where
       count : length (renumbered e h m .edges) ≡ length (m .edges)
@@ -168,7 +173,7 @@ module _ (s : Sizes) (m : Map) (g : Good m) (f : Fits s m) where
     edges = lentOf (sym (sizes-back m g s f) i) (renumbered e h (sym (good-back m g s) i)) .edges;
     faces = filled (s .faces * faceWidth)
         (flatMap (faceCells (λ n. renumbered-rectangle m e h once has n i)) (m .faces));
-    head = (head-raised 1 3 (renumbered e h m) ∙ ap (raised 1 3) (renumbered-head e h has)) i;
+    head = (head-raised (s .limit) 1 3 (renumbered e h m) ∙ ap (raised 1 3) (renumbered-head e h has)) i;
   }
 
 -- ---- the two pairs, on a good map
@@ -179,6 +184,10 @@ module _ (s : Sizes) (m : Map) (g : Good m) (f : Fits s m) (e x y : ℤ) where
 
   abbrev p : Point
   p = point x y
+
+  -- the curve that is split has no more points than the map was created for
+  few : hasEdge m k ≡ true → length (points (edge m k .curve)) ≤ mostPoints (s .limit)
+  few has = f .short (edge m k) (edge-there m k has .0)
 
   -- ---- kinds 8 and 10
 
@@ -211,8 +220,8 @@ module _ (s : Sizes) (m : Map) (g : Good m) (f : Fits s m) (e x y : ℤ) where
       j : Rejoin m m′ k (m .next .nodes) k (m .next .edges)
       j = rejoin m m′ k _ k (m .next .edges) p g (kept-halves m k p (good-lawful m g) (q .has) (q .free) (q .on))
 
-      reason : firstReason (healReasons m′ e (pos (m .next .edges))) ≡ 0
-      reason = heal-free m m′ k (m .next .nodes) e (pos (m .next .edges)) j (plain m e _ (o .free)) refl
+      reason : firstReason (healReasons s m′ e (pos (m .next .edges))) ≡ 0
+      reason = heal-free s m m′ k _ e (pos (m .next .edges)) j (few (q .has)) (plain m e _ (o .free)) refl
 
       back : heal Mod k (m .next .edges) m′ ≡ given (counts 1 1 0) m
       back = kept-back m k p g (q .has) (q .free) (q .on)
@@ -259,7 +268,7 @@ module _ (s : Sizes) (m : Map) (g : Good m) (f : Fits s m) (e x y : ℤ) where
     answer n z =
         let a = pos (m .next .edges) in
         let b = pos (m .next .edges + 1) in
-        let rest = first-after (healReasons m′ a b) _ refl (heal-free m m′ k _ a b j refl refl) in
+        let rest = first-after (healReasons s m′ a b) _ refl (heal-free s m m′ k _ a b j (few (q .has)) refl refl) in
         ap (λ (l : Lent). tried l t₉) lent′ ∙ answered s m′ good′ fits′ t₉ (o .limited) n (rest ∙ z)
 
     renew : m .next .edges + 2 ≤ lastNumber

@@ -11,6 +11,7 @@ use lib.ListN.{getD}
 use Rattle.plane.specs.declared.Point.{Point}
 use Rattle.curves.specs.Curves.{through}
 use Rattle.planar_maps.specs.Map.{fwd, bwd}
+use Rattle.map.specs.Limits.{TwelvePoints}
 use Rattle.map.specs.Rows.{Map, Lent, Sizes, lentOf, whole, counts}
 use Rattle.map.specs.Form.{inForm}
 use Rattle.map.specs.Ticket.{Outcome}
@@ -19,7 +20,7 @@ use Rattle.map.proofs.Opened.{opened}
 use Rattle.grown.specs.Claims.{Cancels}
 
 abbrev small : Sizes
-small = record { nodes = 4; edges = 4; faces = 2 }
+small = record { nodes = 4; edges = 4; faces = 2; limit = TwelvePoints }
 
 abbrev at : ℕ → ℕ → Point
 at x y = record { x = x; y = y }

@@ -1,7 +1,7 @@
--- What is claimed of every list of tickets, kinds mixed, senseless and refused ones included. Proved in proofs/:
--- Grows.antt (`grows`, `never-lent`), Claimed.antt (`keeps-law`, `pieces-counted`), NeverBack.antt (`gives-numbers`,
--- `never-back`, `grown-never-back`), RedrawnSides.antt (`redraw-keeps-sides`), SplitHeal.antt (`split-cancelled`,
--- `split-renewed`, `split-spent`).
+-- What is claimed of every list of tickets, kinds mixed, senseless and refused ones included, for 6 points as for 12:
+-- `Sizes` has the limit with it. Proved in proofs/: Grows.antt (`grows`, `never-lent`), Claimed.antt (`keeps-law`,
+-- `pieces-counted`), NeverBack.antt (`gives-numbers`, `never-back`, `grown-never-back`), RedrawnSides.antt
+-- (`redraw-keeps-sides`), SplitHeal.antt (`split-cancelled`, `split-renewed`, `split-spent`).
 use mathlib.Core.Path.{_≡_}
 use mathlib.Core.Bool.{Bool, true, cond}
 use mathlib.Core.List.{List, [], _∷_, _++_, map, List·Memᴰ}
@@ -146,6 +146,7 @@ raised a b h =
       «next_node» = h .«next_node» +ℤ pos a;
       «next_edge» = h .«next_edge» +ℤ pos b;
       «next_face» = h .«next_face»;
+      points = h .points;
     }
 
 -- carried out; every row of all three tables is as before, only the next node and edge numbers have risen

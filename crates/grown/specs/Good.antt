@@ -15,7 +15,7 @@ use Rattle.planar_maps.specs.Rings.{sameDart}
 use Rattle.planar_maps.specs.Planar.{Planar}
 use Rattle.rotation.specs.Law.{Law}
 use Rattle.geometry.specs.Drawing.{Drawn}
-use Rattle.map.specs.Limits.{lastNumber}
+use Rattle.map.specs.Limits.{lastNumber, mostPoints}
 use Rattle.map.specs.Rows.{Node, Edge, Map, Sizes, node}
 use Rattle.map.specs.Darts.{arcs, directed, leaves, next, bears, way}
 use Rattle.map.specs.Form.{numbers, named, bareMarked}
@@ -65,8 +65,13 @@ pub record Good (m : Map) : Type 0 where
   pub woven : Woven m
   pub surveyed : Surveyed m
 
--- the rows fit the tables
+-- no curve has more points than the map was created for
+abbrev pub Short : Sizes → Map → Type 0
+Short s m = (e : Edge) → List·Memᴰ e (m .edges) → length (points (e .curve)) ≤ mostPoints (s .limit)
+
+-- the rows fit the tables, and the curves the record of points
 pub record Fits (s : Sizes) (m : Map) : Type 0 where
   pub nodes : length (m .nodes) ≤ s .nodes
   pub edges : length (m .edges) ≤ s .edges
   pub faces : length (m .faces) ≤ s .faces
+  pub short : Short s m

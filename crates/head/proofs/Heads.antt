@@ -10,23 +10,24 @@ use lib.ListN.{length}
 use borrow.Author.Tests.{ltb-false}
 use Rattle.map.specs.declared.Counts.{Counts}
 use Rattle.map.specs.declared.Head.{Head}
-use Rattle.map.specs.Limits.{lastNumber}
+use Rattle.map.specs.Limits.{lastNumber, isRecord, limitOf}
 use Rattle.map.specs.Rows.{Map, headOf}
 use Rattle.map.specs.Reasons.{firstReason}
 use Rattle.map.proofs.Reasons.{first-zero}
+use Rattle.map.proofs.PointLimits.{record-back}
 use Rattle.head.specs.Heads.{UpTo, Counted, Left, changedHead, fullAt, spentAt, roomAt}
 
 -- the head of a map by its counts and next numbers
-pub head-changed : (h : Head) (m : Map) (more less given : Counts)
+pub head-changed : (h : Head) (m : Map) (more less given : Counts) → isRecord (h .points) ≡ true
     → length (m .nodes) + less .nodes ≡ natAbs (h .nodes) + more .nodes
     → length (m .edges) + less .edges ≡ natAbs (h .edges) + more .edges
     → length (m .faces) + less .faces ≡ natAbs (h .faces) + more .faces
     → m .next .nodes ≡ natAbs (h .«next_node») + given .nodes
     → m .next .edges ≡ natAbs (h .«next_edge») + given .edges
     → m .next .faces ≡ natAbs (h .«next_face») + given .faces
-    → headOf m ≡ changedHead h more less given
+    → headOf (limitOf (h .points)) m ≡ changedHead h more less given
 unfolding changedHead
-head-changed h m more less given n e f a b c =
+head-changed h m more less given k n e f a b c =
     λ i. record {
       nodes = pos (left-over (length (m .nodes)) (less .nodes) (natAbs (h .nodes) + more .nodes) n i);
       edges = pos (left-over (length (m .edges)) (less .edges) (natAbs (h .edges) + more .edges) e i);
@@ -34,6 +35,7 @@ head-changed h m more less given n e f a b c =
       «next_node» = pos (a i);
       «next_edge» = pos (b i);
       «next_face» = pos (c i);
+      points = record-back (h .points) k i;
     }
   where
     left-over : (x y z : ℕ) → x + y ≡ z → x ≡ z - y
@@ -47,8 +49,8 @@ unchanged n = omega arith
 pub head-same : {h : Head} → Counted h → (m : Map) → length (m .nodes) ≡ natAbs (h .nodes)
     → length (m .edges) ≡ natAbs (h .edges) → length (m .faces) ≡ natAbs (h .faces)
     → m .next .nodes ≡ natAbs (h .«next_node») → m .next .edges ≡ natAbs (h .«next_edge»)
-    → m .next .faces ≡ natAbs (h .«next_face») → headOf m ≡ h
-head-same k m n e f a b c =
+    → m .next .faces ≡ natAbs (h .«next_face») → headOf (limitOf (h .points)) m ≡ h
+head-same {h} k m n e f a b c =
     λ i. record {
       nodes = (ap pos n ∙ sym (k .nodes .natural)) i;
       edges = (ap pos e ∙ sym (k .edges .natural)) i;
@@ -56,6 +58,7 @@ head-same k m n e f a b c =
       «next_node» = (ap pos a ∙ sym (k .next-node .natural)) i;
       «next_edge» = (ap pos b ∙ sym (k .next-edge .natural)) i;
       «next_face» = (ap pos c ∙ sym (k .next-face .natural)) i;
+      points = record-back (h .points) (k .recorded) i;
     }
 
 -- a wider limit

@@ -1,6 +1,6 @@
--- The head's six numbers: what is asked of them, what they are after an edit, and 20 and 21 read from them.
+-- The head's seven numbers: what is asked of them, what they are after an edit, and 20 and 21 read from them.
 use mathlib.Core.Path.{_≡_}
-use mathlib.Core.Bool.{Bool, _||_}
+use mathlib.Core.Bool.{Bool, true, _||_}
 use mathlib.Core.List.{List, [], _∷_}
 use Prim.Native.Nat.{ℕ, suc, _+_, _-_, _/_, _≤_}
 use lib.Dec.{ltb}
@@ -8,7 +8,7 @@ use lib.IntN.{ℤ, pos, natAbs}
 use lib.ListN.{length, getD}
 use Rattle.map.specs.declared.Counts.{Counts}
 use Rattle.map.specs.declared.Head.{Head}
-use Rattle.map.specs.Limits.{maxNodes, maxEdges, maxFaces, lastNumber, nodeWidth, edgeWidth, faceWidth}
+use Rattle.map.specs.Limits.{maxNodes, maxEdges, maxFaces, lastNumber, isRecord, nodeWidth, edgeWidth, faceWidth}
 use Rattle.map.specs.Rows.{counts}
 use Rattle.map.specs.Reasons.{Reasons}
 
@@ -17,7 +17,7 @@ pub record UpTo (n : ℕ) (z : ℤ) : Type 0 where
   pub natural : z ≡ pos (natAbs z)
   pub most : natAbs z ≤ n
 
--- counts and next numbers within the limits, as tables in form have them
+-- counts and next numbers within the limits, and 6 or 12 recorded, as tables in form have them
 pub record Counted (h : Head) : Type 0 where
   pub nodes : UpTo maxNodes (h .nodes)
   pub edges : UpTo maxEdges (h .edges)
@@ -25,6 +25,7 @@ pub record Counted (h : Head) : Type 0 where
   pub next-node : UpTo (suc lastNumber) (h .«next_node»)
   pub next-edge : UpTo (suc lastNumber) (h .«next_edge»)
   pub next-face : UpTo (suc lastNumber) (h .«next_face»)
+  pub recorded : isRecord (h .points) ≡ true
 
 -- the rows in use, where the counts are not negative
 abbrev pub countsOf : Head → Counts
@@ -43,7 +44,7 @@ pub record Few (c : Counts) : Type 0 where
 
 -- ---- the head after an edit
 
--- so many rows more and less, and so many numbers given
+-- so many rows more and less, and so many numbers given; the record stays
 unfoldable pub changedHead : Head → Counts → Counts → Counts → Head
 changedHead h more less given =
     record {
@@ -53,6 +54,7 @@ changedHead h more less given =
       «next_node» = pos (natAbs (h .«next_node») + given .nodes);
       «next_edge» = pos (natAbs (h .«next_edge») + given .edges);
       «next_face» = pos (natAbs (h .«next_face») + given .faces);
+      points = h .points;
     }
 
 -- no more rows go than there are
@@ -89,7 +91,7 @@ pub record Left (s : Counts) (h : Head) (rows numbers : Counts) : Type 0 where
 
 -- ---- a head with other numbers
 
--- these row counts, and the next numbers that it has
+-- these row counts, and the next numbers and the record that it has
 abbrev pub withCounts : Head → ℤ → ℤ → ℤ → Head
 withCounts h nodes edges faces =
     record {
@@ -99,9 +101,10 @@ withCounts h nodes edges faces =
       «next_node» = h .«next_node»;
       «next_edge» = h .«next_edge»;
       «next_face» = h .«next_face»;
+      points = h .points;
     }
 
--- these next numbers, and the row counts that it has
+-- these next numbers, and the row counts and the record that it has
 abbrev pub withNext : Head → ℤ → ℤ → ℤ → Head
 withNext h node edge face =
     record {
@@ -111,9 +114,10 @@ withNext h node edge face =
       «next_node» = node;
       «next_edge» = edge;
       «next_face» = face;
+      points = h .points;
     }
 
--- ---- the head as a list of numbers, in document 01's order
+-- ---- the head as a list of numbers: document 01's order, then the record
 
 abbrev pub headIn : List ℤ → Head
 headIn l =
@@ -124,4 +128,5 @@ headIn l =
       «next_node» = getD l 3 (pos 0);
       «next_edge» = getD l 4 (pos 0);
       «next_face» = getD l 5 (pos 0);
+      points = getD l 6 (pos 0);
     }

@@ -1,12 +1,14 @@
-// Counts and next numbers: one place changes them, and tests whether rows and numbers are left.
+// Counts, next numbers and the record of points: one place changes them, and tests whether rows and numbers are left.
 use map::Counts;
 use map::Head;
+use map::Map;
 ghost use mathlib.Core.Path.{_≡_};
 ghost use mathlib.Core.Bool.{true};
 ghost use Prim.Native.Nat.{_+_, _-_, _≤_};
 ghost use lib.Dec.{ltb};
 ghost use lib.IntN.{pos, natAbs};
 ghost use lib.Signed.{nonNeg};
+ghost use Rattle.map.specs.Limits.{mostPoints, isRecord, limitOf};
 ghost use Rattle.map.specs.Rows.{emptyMap, headOf};
 ghost use Rattle.map.specs.Reasons.{firstReason};
 ghost use Rattle.head.specs.Heads.{UpTo, Counted, Few, Changes, countsOf, sizesIn, changedHead};
@@ -44,7 +46,7 @@ pub const NODE_AND_EDGE: Counts = Counts {
 };
 
 // The numbers of the head where it is lent as a list, and their places.
-pub const WIDTH: usize = 6;
+pub const WIDTH: usize = 7;
 
 const NODES_AT: usize = 0;
 
@@ -57,6 +59,13 @@ const NEXT_NODE_AT: usize = 3;
 const NEXT_EDGE_AT: usize = 4;
 
 const NEXT_FACE_AT: usize = 5;
+
+const POINTS_AT: usize = 6;
+
+// The two records of points.
+pub const SIX_POINTS: i64 = Map::PLOTTER_POINTS as i64;
+
+pub const TWELVE_POINTS: i64 = Map::POINTS as i64;
 
 // ---- counts
 
@@ -91,9 +100,27 @@ pub fn sizes_of(nodes: &[i64], edges: &[i64], faces: &[i64]) -> Counts
     }
 }
 
-// Builds the head of the empty map: face 0 alone.
-pub fn empty() -> Head
-    ensures { λ r. ⌜ r ≡ headOf emptyMap ⌝ }
+// ---- the record of points
+
+// Whether the number is a record: 6 or 12.
+pub fn is_record(points: i64) -> bool
+    ensures { λ r. ⌜ r ≡ isRecord points ⌝ }
+{
+    (points == SIX_POINTS) | (points == TWELVE_POINTS)
+}
+
+// The most points of a curve, as the head records them.
+pub fn most_points(h: Head) -> usize
+    requires { ⌜ isRecord (h .points) ≡ true ⌝ }
+    ensures { λ r. ⌜ r ≡ mostPoints (limitOf (h .points)) ⌝ }
+{
+    to_usize(h.points)
+}
+
+// Builds the head of the empty map, face 0 alone, for so many points.
+pub fn empty(points: i64) -> Head
+    requires { ⌜ isRecord points ≡ true ⌝ }
+    ensures { λ r. ⌜ r ≡ headOf (limitOf points) emptyMap ⌝ }
 {
     Head {
         nodes: 0,
@@ -102,6 +129,7 @@ pub fn empty() -> Head
         next_node: 1,
         next_edge: 1,
         next_face: 1,
+        points,
     }
 }
 
@@ -168,6 +196,7 @@ pub fn changed(h: Head, more: Counts, less: Counts, given: Counts) -> Head
         next_node: shifted(h.next_node, given.nodes, 0),
         next_edge: shifted(h.next_edge, given.edges, 0),
         next_face: shifted(h.next_face, given.faces, 0),
+        points: h.points,
     }
 }
 
@@ -184,6 +213,7 @@ pub fn with_counts(h: Head, nodes: i64, edges: i64, faces: i64) -> Head
         next_node: h.next_node,
         next_edge: h.next_edge,
         next_face: h.next_face,
+        points: h.points,
     }
 }
 
@@ -198,6 +228,7 @@ pub fn with_next(h: Head, node: i64, edge: i64, face: i64) -> Head
         next_node: node,
         next_edge: edge,
         next_face: face,
+        points: h.points,
     }
 }
 
@@ -214,6 +245,7 @@ pub fn from_numbers(l: &[i64; WIDTH]) -> Head
         next_node: l[NEXT_NODE_AT],
         next_edge: l[NEXT_EDGE_AT],
         next_face: l[NEXT_FACE_AT],
+        points: l[POINTS_AT],
     }
 }
 
@@ -228,5 +260,6 @@ pub fn put_numbers(l: &mut [i64; WIDTH], h: Head)
         h.next_node,
         h.next_edge,
         h.next_face,
+        h.points,
     ];
 }

@@ -10,6 +10,7 @@ use Rattle.plane.specs.declared.Point.{Point}
 use Rattle.curves.specs.Curves.{through, coordinates}
 use Rattle.planar_maps.specs.Map.{Dart, fwd, bwd}
 use Rattle.map.specs.declared.Answer.{Answer}
+use Rattle.map.specs.Limits.{TwelvePoints}
 use Rattle.map.specs.Rows.{Node, Edge, Map, Lent, Sizes, mapOf, lentOf, counts}
 use Rattle.map.specs.Form.{inForm}
 use Rattle.map.specs.Ticket.{Outcome, refused}
@@ -18,7 +19,7 @@ use Rattle.joining.specs.Join.{entries, asIs, joinedSheet, ticketsFor, j
 use Rattle.joining.proofs.Opened.{opened}
 
 abbrev small : Sizes
-small = record { nodes = 4; edges = 4; faces = 3 }
+small = record { nodes = 4; edges = 4; faces = 3; limit = TwelvePoints }
 
 abbrev at : ℕ → ℕ → Point
 at x y = record { x = x; y = y }
@@ -123,7 +124,7 @@ nothing-new = refl
 
 -- room for one of the two nodes: the second cut gets 20, and the first is undone
 abbrev narrow : Sizes
-narrow = record { nodes = 2; edges = 4; faces = 3 }
+narrow = record { nodes = 2; edges = 4; faces = 3; limit = TwelvePoints }
 
 pub no-room : joinedSheet (lentOf narrow squareRows) neighbour ≡ refused (lentOf narrow squareRows) 20
 unfolding opened

@@ -21,6 +21,7 @@ use Rattle.plane.specs.Points.{InRange}
 use Rattle.curves.specs.Curves.{Curve, points, point, lastPoint, coordinates}
 use Rattle.curves.specs.Edits.{front, back}
 use Rattle.map.specs.declared.Variant.the-variants.{Mod}
+use Rattle.map.specs.Limits.{mostPoints}
 use Rattle.map.specs.Rows.{Node, Edge, Map, Lent, Sizes, mapOf, sizesOf, whole, edge}
 use Rattle.map.specs.Tickets.{Ticket, AddIsoNode, ModEdgeSplit, AddEdgeModFace, read}
 use Rattle.map.specs.Reasons.{firstReason, reasons, curveIn}
@@ -29,9 +30,11 @@ use Rattle.map.specs.Edits.{addIsoNode, split, addEdge}
 use Rattle.map.specs.Form.{ranged, formed, inForm}
 use Rattle.map.proofs.Laws.{edge-there, formed-is, in-form-is}
 use Rattle.map.proofs.Linked.{edges-once, within-nodes}
-use Rattle.map.proofs.RoundTrip.{Stored, ranged-is, ranged-nodes, ranged-curves}
+use Rattle.map.proofs.PointLimits.{most-fits}
+use Rattle.map.proofs.RoundTrip.{StoredTo, stored-wider, ranged-is, ranged-nodes, recorded-curves}
 use Rattle.map.proofs.Reasons.{first-zero}
-use Rattle.map_laws.proofs.Reasons.{Room, Supply, AddNode, Split, AddEdge, add-node, split-mod, add-mod}
+use Rattle.map_laws.proofs.Reasons.{Room, Supply, AddNode, Split, AddEdge, Few, add-node, split-mod, add-mod}
+use Rattle.map_laws.proofs.Reasons.{add-mod-few}
 use Rattle.map_laws.proofs.Readings.{outlineOf}
 use Rattle.grown.proofs.Numbers.Ranked.{RankedMap, numbered-ranked}
 use Rattle.grown.proofs.Numbers.Add.{add-edge-ranked}
@@ -58,10 +61,7 @@ split-faces : (e : ℕ) (p : Point) (m : Map) → split Mod e p m .faces ≡ m .
 unfolding split
 split-faces e p m = refl
 
--- a line and a place in range
-abbrev Drawn : Line → Type 0
-Drawn k = Stored (k .curve)
-
+-- a place in range
 abbrev Plotted : Place → Type 0
 Plotted p = InRange (p .at)
 
@@ -71,6 +71,13 @@ module _ (l : Lent) (r : ranged l ≡ true) (f : formed (mapOf l) ≡ true) wher
 
   abbrev s : Sizes
   s = sizesOf l
+
+  -- a curve in range, of no more points than the head records
+  abbrev Kept : Curve → Type 0
+  Kept c = StoredTo (mostPoints (s .limit)) c
+
+  abbrev Drawn : Line → Type 0
+  Drawn k = Kept (k .curve)
 
   next-node : NextInRange (m .next .nodes)
   unfolding mapOf
@@ -102,7 +109,7 @@ module _ (l : Lent) (r : ranged l ≡ true) (f : formed (mapOf l) ≡ true) wher
   old-line : (k : Line) → List·Memᴰ k (lines m) → Drawn k
   old-line k j =
       let e = Memᴰ·of-map lineOf (m .edges) j in
-      subst Drawn (e .2) (ranged-curves l r (e .0) (e .1))
+      subst Drawn (e .2) (recorded-curves l r (e .0) (e .1))
 
   old-place : (p : Place) → List·Memᴰ p (places m) → Plotted p
   old-place p j =
@@ -119,14 +126,17 @@ module _ (l : Lent) (r : ranged l ≡ true) (f : formed (mapOf l) ≡ true) wher
       let a = next-node .least in
       let b = next-edge .least in
       let c = next-face .least in
+      let stored : (e : Edge) → List·Memᴰ e (m′ .edges) → Kept (e .curve) =
+      λ e j. lines-in (lineOf e) (subst (List·Memᴰ (lineOf e)) (w .lines) (Memᴰ·map lineOf j)) in
       record {
         nodes = λ k j. places-in (placeOf k) (subst (List·Memᴰ (placeOf k)) (w .places) (Memᴰ·map placeOf j));
-        edges = λ k j. lines-in (lineOf k) (subst (List·Memᴰ (lineOf k)) (w .lines) (Memᴰ·map lineOf j));
+        edges = λ e j. stored-wider (most-fits (s .limit)) (stored e j);
         some-face = faces;
         fits = record {
           nodes = omega (arith, t .nodes, room .nodes);
           edges = omega (arith, t .edges, room .edges, n, n′);
           faces = omega (arith, t .faces, room .faces);
+          short = λ e j. stored e j .most;
         };
         next-node = rw (t .next) (record { least = omega (arith, a); most = supply .nodes });
         next-edge = rw (t .next) (record { least = omega (arith, b); most = supply .edges });
@@ -152,9 +162,9 @@ module _ (l : Lent) (r : ranged l ≡ true) (f : formed (mapOf l) ≡ true) wher
       off : (edge m e .curve .first ≢ p) × (lastPoint (edge m e .curve) ≢ p)
       off = off-ends m p (h .free) (within-nodes m f) here (formed-anchored m f (edge m e) here)
 
-      halves : Stored (front p (edge m e .curve)) × Stored (back p (edge m e .curve))
+      halves : Kept (front p (edge m e .curve)) × Kept (back p (edge m e .curve))
       halves = halves-stored p (edge m e .curve) (off .0) (off .1) (h .on) (h .in-range)
-          (ranged-curves l r (edge m e) here)
+          (recorded-curves l r (edge m e) here)
 
       kept : (k : Line) → List·Memᴰ k (map (replaced e (firstHalf (lineOf (edge m e)) (m .next .nodes) e p)) (lines m))
           → Drawn k
@@ -163,15 +173,15 @@ module _ (l : Lent) (r : ranged l ≡ true) (f : formed (mapOf l) ≡ true) wher
           subst Drawn (x .2)
           (cond-has Drawn (same (x .0 .number) e) (halves .0) (old-line (x .0) (x .1)))
 
-  edge-tabled : (u v : ℕ) (c : Curve) → AddEdge Mod s m u v c → Tabled s (addEdge Mod u v c m)
-  edge-tabled u v c h =
+  edge-tabled : (u v : ℕ) (c : Curve) → AddEdge Mod s m u v c → Few s m c → Tabled s (addEdge Mod u v c m)
+  edge-tabled u v c h few =
       tabled (addEdge Mod u v c m) (addEdge-becomes Mod u v c m)
       (add-edge-taken Mod u v c m (h .has-start) ranks) (h .room) (h .supply)
       (some-face (addEdge Mod u v c m .faces) (add-edge-ranked Mod u v c m (h .has-start) ranks .zero))
       (each-last {R = Drawn} (lines m) old-line sent) old-place
     where
-      sent : Stored c
-      sent = record { least = h .sent .least; most = h .sent .most; in-range = h .sent .in-range }
+      sent : Kept c
+      sent = record { least = h .sent .least; most = few; in-range = h .sent .in-range }
 
 -- ---- a ticket of these kinds, on any sheet in range
 
@@ -204,7 +214,8 @@ module _ (l : Lent) (r : ranged l ≡ true) where
     where
       go : (b : Bool) → ranged (judged l (mapOf l) (cond b (some (AddEdgeModFace (pos u) (pos v) c)) none) .lent) ≡ true
       go true = carry (AddEdgeModFace (pos u) (pos v) c) (λ f h.
-          edge-tabled l r f u v (curveIn c) (add-mod (sizesOf l) (mapOf l) (pos u) (pos v) c h)) _ refl
+          edge-tabled l r f u v (curveIn c) (add-mod (sizesOf l) (mapOf l) (pos u) (pos v) c h)
+          (add-mod-few (sizesOf l) (mapOf l) (pos u) (pos v) c h)) _ refl
       go false = r
 
 -- ---- the rows' tickets

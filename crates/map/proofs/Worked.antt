@@ -12,6 +12,7 @@ use Rattle.curves.specs.Curves.{coordinates}
 use Rattle.planar_maps.specs.Map.{fwd, bwd}
 use Rattle.map.specs.declared.Answer.{Answer}
 use Rattle.map.specs.declared.Head.{Head}
+use Rattle.map.specs.Limits.{TwelvePoints}
 use Rattle.map.specs.Rows.{Node, Edge, Map, Lent, Sizes, lent, emptyMap, mapOf, lentOf, counts}
 use Rattle.map.specs.Form.{inForm}
 use Rattle.map.specs.Ticket.{Listed, edgesOfFace}
@@ -21,7 +22,7 @@ use Rattle.map.proofs.Sheet.{at, ok, no-to, nodeRow, edgeRow}
 
 -- tables of a few rows
 abbrev pub room : Sizes
-room = record { nodes = 9; edges = 8; faces = 6 }
+room = record { nodes = 9; edges = 8; faces = 6; limit = TwelvePoints }
 
 -- from a map by tickets: what they answer, and the map after them
 pub record Case : Type 0 where
@@ -554,13 +555,14 @@ headBy l =
       «next_node» = getD l 3 (pos 0);
       «next_edge» = getD l 4 (pos 0);
       «next_face» = getD l 5 (pos 0);
+      points = getD l 6 (pos 0);
     }
 
 abbrev inHead : ℕ → ℤ → Lent
 inHead i z =
     let l = lentOf room base in
     lent (l .nodes) (l .edges) (l .faces)
-    (headBy (set (pos 8 ∷ pos 6 ∷ pos 4 ∷ pos 9 ∷ pos 7 ∷ pos 4 ∷ []) i z))
+    (headBy (set (pos 8 ∷ pos 6 ∷ pos 4 ∷ pos 9 ∷ pos 7 ∷ pos 4 ∷ pos 12 ∷ []) i z))
 
 -- one cell each, and in each all other rules hold
 abbrev pub spoiled : List Lent
@@ -573,6 +575,12 @@ spoiled =
     ∷ inHead 3 (pos 1000001)
     ∷ inHead 4 (pos 1000001)
     ∷ inHead 5 (pos 1000001)
+    -- the record is 6 or 12; with 6 the curve of 12 points is too long
+    ∷ inHead 6 (pos 0)
+    ∷ inHead 6 (pos 7)
+    ∷ inHead 6 (pos 13)
+    ∷ inHead 6 (negsuc 11)
+    ∷ inHead 6 (pos 6)
     -- rows past a count are all 0
     ∷ inNodes 32 (pos 1)
     ∷ inEdges 192 (pos 1)

@@ -17,7 +17,7 @@ use Rattle.curves.specs.Tests.{neighboursDiffer}
 use Rattle.bounding_boxes.specs.declared.Extent.{Extent}
 use Rattle.planar_maps.specs.Rings.{sameDart}
 use Rattle.map.specs.declared.Head.{Head}
-use Rattle.map.specs.Limits.{lastNumber, nodeWidth, edgeWidth, faceWidth}
+use Rattle.map.specs.Limits.{lastNumber, mostPoints, isRecord, nodeWidth, edgeWidth, faceWidth}
 use Rattle.map.specs.Rows.{Edge, Map, Lent, nodeRows, edgeRows, faceRows, mapOf, sizesOf, node, hasNode}
 use Rattle.map.specs.Rows.{hasEdge, hasFace, faceRowOf, rectangle}
 use Rattle.map.specs.Darts.{directed, leaves, arrives, next, bears, departures, edgeEnds, way}
@@ -38,26 +38,31 @@ nextsFit h = allOf (within 1 (suc lastNumber)) (h .«next_node» ∷ h .«next_e
 abbrev pub nodeRanges : List ℤ → Bool
 nodeRanges r = nonNeg (cell r 0) && coordinate (cell r 1) && coordinate (cell r 2) && leZ (negsuc 0) (cell r 3)
 
--- 2 to 12 points; unused points are 0
-abbrev pub edgeRanges : List ℤ → Bool
-edgeRanges r =
-    allOf nonNeg (cell r 0 ∷ cell r 1 ∷ cell r 2 ∷ cell r 5 ∷ cell r 6 ∷ []) && within 2 maxPoints (cell r 7)
+-- 2 to `most` points; unused points are 0
+abbrev pub edgeRangesTo : ℕ → List ℤ → Bool
+edgeRangesTo most r =
+    allOf nonNeg (cell r 0 ∷ cell r 1 ∷ cell r 2 ∷ cell r 5 ∷ cell r 6 ∷ []) && within 2 most (cell r 7)
     && allOf coordinate (take (2 * natAbs (cell r 7)) (drop 8 r))
     && allOf isZero (drop (2 * natAbs (cell r 7)) (drop 8 r))
+
+-- 2 to 12 points, whatever the record: what a row can hold
+abbrev pub edgeRanges : List ℤ → Bool
+edgeRanges r = edgeRangesTo maxPoints r
 
 abbrev pub faceRanges : List ℤ → Bool
 faceRanges r = nonNeg (cell r 0)
 
--- counts, ranges and zero rows
+-- counts, ranges and zero rows; the record of points is 6 or 12, and no curve has more
 unfoldable pub ranged : Lent → Bool
 ranged l =
     countsFit l
     && nextsFit (l .head)
+    && isRecord (l .head .points)
     && restZero nodeWidth (l .head .nodes) (l .nodes)
     && restZero edgeWidth (l .head .edges) (l .edges)
     && restZero faceWidth (l .head .faces) (l .faces)
     && allOf nodeRanges (nodeRows l)
-    && allOf edgeRanges (edgeRows l)
+    && allOf (edgeRangesTo (mostPoints (sizesOf l .limit))) (edgeRows l)
     && allOf faceRanges (faceRows l)
 
 -- ---- the map

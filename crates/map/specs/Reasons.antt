@@ -17,8 +17,7 @@ use Rattle.plane.specs.declared.Contact.the-variants.{None, Touch, Crossing, St
 use Rattle.plane.specs.Areas.{isPositive}
 use Rattle.plane.specs.Points.{samePoint}
 use Rattle.plane.specs.Directions.{Way, sameWay}
-use Rattle.curves.specs.Curves.{Curve, points, lastPoint, startWay, endWay, point, curveOf, coordinate, isRun}
-use Rattle.curves.specs.Curves.{maxPoints}
+use Rattle.curves.specs.Curves.{Curve, points, lastPoint, startWay, endWay, point, curveOf, coordinate, isRunTo}
 use Rattle.curves.specs.Tests.{neighboursDiffer, onCurve, isSimple, meeting, gravest}
 use Rattle.curves.specs.Edits.{withoutSurplus}
 use Rattle.planar_maps.specs.Map.{Dart, fwd, bwd}
@@ -26,7 +25,7 @@ use Rattle.planar_maps.specs.Rings.{sameDart}
 use Rattle.map.specs.declared.Counts.{Counts}
 use Rattle.map.specs.declared.Variant.{Variant}
 use Rattle.map.specs.declared.Variant.the-variants.{New, Mod}
-use Rattle.map.specs.Limits.{lastNumber}
+use Rattle.map.specs.Limits.{lastNumber, mostPoints}
 use Rattle.map.specs.Rows.{Node, Edge, Map, Sizes, node, edge, hasNode, hasEdge, hasFace, withoutNode}
 use Rattle.map.specs.Rows.{withoutEdge, counts}
 use Rattle.map.specs.Darts.{leaves, departures, edgeEnds, way, ring, firsts, pieceOf}
@@ -64,17 +63,17 @@ abbrev pub minusOne : ℤ → Bool
 minusOne (pos n) = false
 minusOne (negsuc n) = same n 0
 
--- ---- 5: coordinate out of range, or points not 2 to 12
+-- ---- 5: coordinate out of range, or points not 2 to `most`, which is 6 or 12 by the head's record
 
 abbrev pub outside : ℤ → ℤ → Bool
 outside x y = not (coordinate x && coordinate y)
 
-abbrev pub badCurve : List ℤ → Bool
-badCurve sent = not (isRun sent)
+abbrev pub badCurve : ℕ → List ℤ → Bool
+badCurve most sent = not (isRunTo most sent)
 
 -- 5, and 6: neighbouring points are equal
-abbrev pub sentReasons : List ℤ → Reasons
-sentReasons sent = (5, badCurve sent) ∷ (6, not (neighboursDiffer (curveOf sent))) ∷ []
+abbrev pub sentReasons : ℕ → List ℤ → Reasons
+sentReasons most sent = (5, badCurve most sent) ∷ (6, not (neighboursDiffer (curveOf sent))) ∷ []
 
 -- ---- surplus points are dropped
 
@@ -83,8 +82,9 @@ abbrev pub curveIn : List ℤ → Curve
 curveIn sent = withoutSurplus (curveOf sent)
 
 -- a ticket with a curve: 4, then 5 and 6 by the points sent, then the others by what is left
-abbrev pub curveTicketReasons : Bool → List ℤ → (Curve → Reasons) → Reasons
-curveTicketReasons missing sent rest = (4, missing) ∷ sentReasons sent ++ rest (curveIn sent)
+abbrev pub curveTicketReasons : Sizes → Bool → List ℤ → (Curve → Reasons) → Reasons
+curveTicketReasons s missing sent rest =
+    (4, missing) ∷ sentReasons (mostPoints (s .limit)) sent ++ rest (curveIn sent)
 
 -- ---- 7: not simple. 8: curve ends differ from the nodes' points
 
@@ -259,14 +259,14 @@ splitReasons how s m e x y =
     ∷ roomReasons s m (counts 1 1 0) (counts 1 (cond (isMod how) 1 2) 0)
 
 -- kinds 9 and 10
-abbrev pub healReasons : Map → ℤ → ℤ → Reasons
-healReasons m e f =
+abbrev pub healReasons : Sizes → Map → ℤ → ℤ → Reasons
+healReasons s m e f =
     let a = natAbs e in
     let b = natAbs f in
     (4, noEdge m e || noEdge m f)
     ∷ (16, same a b || same (length (sharedNodes m a b)) 0)
     ∷ (17, not (isSome (joint m a b)))
-    ∷ (18, ltb maxPoints (length (points (healedCurve m a b))))
+    ∷ (18, ltb (mostPoints (s .limit)) (length (points (healedCurve m a b))))
     ∷ []
 
 -- the reasons of each kind, in order
@@ -290,20 +290,20 @@ reasons s m (RemoveIsoNode n) =
     ∷ (9, not (isolated m (natAbs n)))
     ∷ []
 reasons s m (AddIsoEdge u v sent) =
-    curveTicketReasons (noNode m u || noNode m v) sent (addIsoEdgeReasons s m (natAbs u) (natAbs v))
+    curveTicketReasons s (noNode m u || noNode m v) sent (addIsoEdgeReasons s m (natAbs u) (natAbs v))
 reasons s m (RemoveIsoEdge e) =
     (4, noEdge m e)
     ∷ (9, not (edgeIsolated m (natAbs e)))
     ∷ []
-reasons s m (ChangeEdgeGeom e sent) = curveTicketReasons (noEdge m e) sent (changeGeomReasons m (natAbs e))
+reasons s m (ChangeEdgeGeom e sent) = curveTicketReasons s (noEdge m e) sent (changeGeomReasons m (natAbs e))
 reasons s m (NewEdgesSplit e x y) = splitReasons New s m e x y
 reasons s m (ModEdgeSplit e x y) = splitReasons Mod s m e x y
-reasons s m (NewEdgeHeal e f) = healReasons m e f ++ (21, spent m (counts 0 1 0)) ∷ []
-reasons s m (ModEdgeHeal e f) = healReasons m e f
+reasons s m (NewEdgeHeal e f) = healReasons s m e f ++ (21, spent m (counts 0 1 0)) ∷ []
+reasons s m (ModEdgeHeal e f) = healReasons s m e f
 reasons s m (AddEdgeNewFaces u v sent) =
-    curveTicketReasons (noNode m u || noNode m v) sent (addEdgeReasons New s m (natAbs u) (natAbs v))
+    curveTicketReasons s (noNode m u || noNode m v) sent (addEdgeReasons New s m (natAbs u) (natAbs v))
 reasons s m (AddEdgeModFace u v sent) =
-    curveTicketReasons (noNode m u || noNode m v) sent (addEdgeReasons Mod s m (natAbs u) (natAbs v))
+    curveTicketReasons s (noNode m u || noNode m v) sent (addEdgeReasons Mod s m (natAbs u) (natAbs v))
 reasons s m (RemEdgeNewFace e) =
     (4, noEdge m e)
     ∷ (21, spent m (counts 0 0 (bit (makesFace New (natAbs e) m))))

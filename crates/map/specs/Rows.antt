@@ -16,7 +16,8 @@ use Rattle.bounding_boxes.specs.Extents.{extentAt, widen}
 use Rattle.planar_maps.specs.Map.{Dart, fwd, bwd}
 use Rattle.map.specs.declared.Counts.{Counts}
 use Rattle.map.specs.declared.Head.{Head}
-use Rattle.map.specs.Limits.{maxNodes, maxEdges, maxFaces, nodeWidth, edgeWidth, faceWidth}
+use Rattle.map.specs.Limits.{maxNodes, maxEdges, maxFaces, PointLimit, mostPoints, limitOf}
+use Rattle.map.specs.Limits.{nodeWidth, edgeWidth, faceWidth}
 
 -- a node row: number, point and containing face; no face where an edge ends
 pub record Node : Type 0 where
@@ -52,11 +53,12 @@ pub record Lent : Type 0 where
 abbrev pub lent : List ℤ → List ℤ → List ℤ → Head → Lent
 lent nodes edges faces h = record { nodes = nodes; edges = edges; faces = faces; head = h }
 
--- how many rows each table has room for
+-- how many rows each table has room for, and how many points the map was created for
 pub record Sizes : Type 0 where
   pub nodes : ℕ
   pub edges : ℕ
   pub faces : ℕ
+  pub limit : PointLimit
 
 -- so many nodes, edges and faces
 abbrev pub counts : ℕ → ℕ → ℕ → Counts
@@ -120,13 +122,18 @@ mapOf l =
       next = counts (natAbs (l .head .«next_node»)) (natAbs (l .head .«next_edge»)) (natAbs (l .head .«next_face»));
     }
 
--- the room of the tables
-abbrev pub sizesOf : Lent → Sizes
-sizesOf l = record {
+-- the room of the tables, for curves with this limit
+abbrev pub sizesFor : PointLimit → Lent → Sizes
+sizesFor limit l = record {
   nodes = length (l .nodes) / nodeWidth;
   edges = length (l .edges) / edgeWidth;
   faces = length (l .faces) / faceWidth;
+  limit = limit;
 }
+
+-- with the limit that the head records
+abbrev pub sizesOf : Lent → Sizes
+sizesOf l = sizesFor (limitOf (l .head .points)) l
 
 -- ---- rectangles
 
@@ -173,9 +180,9 @@ edgeCells e =
 abbrev pub faceCells : (ℕ → Extent) → ℕ → List ℤ
 faceCells box f = pos f ∷ pos (box f .left) ∷ pos (box f .low) ∷ pos (box f .right) ∷ pos (box f .high) ∷ []
 
--- the head of a map
-abbrev pub headOf : Map → Head
-headOf m =
+-- the head of a map that was created for so many points
+abbrev pub headOf : PointLimit → Map → Head
+headOf limit m =
     record {
       nodes = pos (length (m .nodes));
       edges = pos (length (m .edges));
@@ -183,6 +190,7 @@ headOf m =
       «next_node» = pos (m .next .nodes);
       «next_edge» = pos (m .next .edges);
       «next_face» = pos (m .next .faces);
+      points = pos (mostPoints limit);
     }
 
 -- the map in tables of these sizes, with these rectangles: rows from the front, zeros behind
@@ -192,7 +200,7 @@ lentWith box s m =
       nodes = filled (s .nodes * nodeWidth) (flatMap nodeCells (m .nodes));
       edges = filled (s .edges * edgeWidth) (flatMap edgeCells (m .edges));
       faces = filled (s .faces * faceWidth) (flatMap (faceCells box) (m .faces));
-      head = headOf m;
+      head = headOf (s .limit) m;
     }
 
 -- the map in tables of these sizes, with the rectangles that its edges give

@@ -13,7 +13,8 @@ use Rattle.curves.specs.Curves.{point}
 use Rattle.planar_maps.specs.Map.{Dart}
 use Rattle.map.specs.declared.Answer.{Answer}
 use Rattle.map.specs.declared.Variant.the-variants.{New, Mod}
-use Rattle.map.specs.Rows.{Map, Lent, emptyMap, mapOf, lentOf, sizesOf, whole, dartCell}
+use Rattle.map.specs.Limits.{isRecord, limitOf}
+use Rattle.map.specs.Rows.{Map, Lent, Sizes, emptyMap, mapOf, lentOf, sizesOf, sizesFor, whole, dartCell}
 use Rattle.map.specs.Darts.{bears, ring, firsts}
 use Rattle.map.specs.Form.{inForm}
 use Rattle.map.specs.Tickets.{Ticket, AddIsoNode, MoveIsoNode, RemoveIsoNode, AddIsoEdge, RemoveIsoEdge}
@@ -74,9 +75,20 @@ judged l m (some t) = unless l (firstReason (lentReasons l ++ reasons (sizesOf l
 unfoldable pub ticket : Lent → List ℤ → Outcome
 ticket l numbers = judged l (mapOf l) (read numbers)
 
--- the empty map, whatever the tables and the head held
-unfoldable pub emptied : Lent → Outcome
-emptied l = unless l (firstReason ((1, not (whole l)) ∷ [])) (emptyMap, pos 0)
+-- ---- the empty map, whatever the tables and the head held
+
+-- 1 the tables are not whole, 2 the record is neither 6 nor 12
+abbrev pub createReasons : Lent → ℤ → Reasons
+createReasons l k = (1, not (whole l)) ∷ (2, not (isRecord k)) ∷ []
+
+-- created in tables of these sizes, unless there is a reason against it
+abbrev pub createdUnless : Lent → Sizes → ℕ → Outcome
+createdUnless l s zero = record { lent = lentOf s emptyMap; answer = record { refusal = 0; value = pos 0 } }
+createdUnless l s (suc r) = refused l (suc r)
+
+-- for curves of at most k points, which the head records
+unfoldable pub emptied : Lent → ℤ → Outcome
+emptied l k = createdUnless l (sizesFor (limitOf k) l) (firstReason (createReasons l k))
 
 -- ---- edges of a face: each ring as its length and then its directed edges, rings by first member
 

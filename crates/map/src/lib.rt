@@ -16,6 +16,8 @@ impl Map {
 
     pub const POINTS: usize = curves::POINTS;
 
+    pub const PLOTTER_POINTS: usize = 6;
+
     pub const COORDINATE: i64 = plane::COORDINATE;
 
     pub const LAST_NUMBER: i64 = 999999;
@@ -29,6 +31,7 @@ impl Map {
             edges: Map::EDGES,
             faces: Map::FACES,
             points: Map::POINTS,
+            plotter_points: Map::PLOTTER_POINTS,
             coordinate: COORDINATE,
             last_number: LAST,
         }
@@ -94,11 +97,12 @@ pub struct Limits {
     pub edges: usize,
     pub faces: usize,
     pub points: usize,
+    pub plotter_points: usize,
     pub coordinate: u64,
     pub last_number: u64,
 }
 
-// The record lent beside the tables: the row counts and the next numbers.
+// The head, lent beside the tables: the row counts, the next numbers, and the record of points, 6 or 12.
 pub struct Head {
     pub nodes: i64,
     pub edges: i64,
@@ -106,6 +110,7 @@ pub struct Head {
     pub next_node: i64,
     pub next_edge: i64,
     pub next_face: i64,
+    pub points: i64,
 }
 
 // So many rows of each table, or so many numbers.

@@ -9,6 +9,8 @@ pub mod RowDarts
 pub mod Reasons
 pub mod MeetingsTold
 pub mod Surplus
+-- a map keeps the record of points that it is created with, and 5 and 18 are all that it decides
+pub mod Recorded
 -- nodes, outlines of edges, faces and next numbers after an edit; faces that are named exist
 pub mod Outlines
 pub mod Faces

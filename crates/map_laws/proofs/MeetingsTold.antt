@@ -206,13 +206,13 @@ abbrev isTold : ℕ → Bool
 isTold n = isFound n || isLater n
 
 -- the shape of all four: 4 to 6, the reasons of the curve that is left, others, those of its meeting, others
-module _ (m : Map) (l : List ℤ) (u v : ℕ) (es : List Edge) (missing : Bool) (before after : Reasons)
+module _ (most : ℕ) (m : Map) (l : List ℤ) (u v : ℕ) (es : List Edge) (missing : Bool) (before after : Reasons)
     (others : anyOf (λ r. isTold (r .0)) before ≡ false) (rest : anyOf (λ r. isFound (r .0)) after ≡ false) where
   abbrev c : Curve
   c = curveIn l
 
   abbrev early : Reasons
-  early = (4, missing) ∷ sentReasons l ++ curveReasons m c u v ++ before
+  early = (4, missing) ∷ sentReasons most l ++ curveReasons m c u v ++ before
 
   abbrev answer : ℕ
   answer = firstReason (early ++ (meetingReasons m es c ++ after))
@@ -249,12 +249,12 @@ module _ (m : Map) (l : List ℤ) (u v : ℕ) (es : List Edge) (missing : Bool) 
 pub meetings-told : MeetingsTold
 unfolding reasons same
 meetings-told = record {
-  add-isolated = λ s m u v l. told m l (natAbs u) (natAbs v) (m .edges) _ ((9, _) ∷ (12, _) ∷ [])
+  add-isolated = λ s m u v l. told _ m l (natAbs u) (natAbs v) (m .edges) _ ((9, _) ∷ (12, _) ∷ [])
       ((20, _) ∷ (21, _) ∷ []) refl refl;
-  change = λ s m e l. told m l _ _ (withoutEdge (natAbs e) (m .edges)) _ ((11, _) ∷ [])
+  change = λ s m e l. told _ m l _ _ (withoutEdge (natAbs e) (m .edges)) _ ((11, _) ∷ [])
       ((19, _) ∷ (22, _) ∷ []) refl refl;
-  add-new = λ s m u v l. told m l (natAbs u) (natAbs v) (m .edges) _ ((11, _) ∷ (12, _) ∷ [])
+  add-new = λ s m u v l. told _ m l (natAbs u) (natAbs v) (m .edges) _ ((11, _) ∷ (12, _) ∷ [])
       ((20, _) ∷ (21, _) ∷ []) refl refl;
-  add-mod = λ s m u v l. told m l (natAbs u) (natAbs v) (m .edges) _ ((11, _) ∷ (12, _) ∷ [])
+  add-mod = λ s m u v l. told _ m l (natAbs u) (natAbs v) (m .edges) _ ((11, _) ∷ (12, _) ∷ [])
       ((20, _) ∷ (21, _) ∷ []) refl refl;
 }

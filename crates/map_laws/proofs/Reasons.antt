@@ -1,10 +1,11 @@
 -- What holds of a ticket that nothing turns down: for each kind the facts, from `firstReason .. ≡ 0`. Assumes nothing.
 use mathlib.Core.Path.{_≡_}
-use mathlib.Core.Bool.{true, false, cond, not, _&&_, _||_}
-use mathlib.Core.List.{List, [], _++_, List·Memᴰ}
+use mathlib.Core.Bool.{Bool, true, false, cond, not, _&&_, _||_}
+use mathlib.Core.List.{List, [], _∷_, _++_, List·Memᴰ}
 use mathlib.Core.Logic.{_≢_}
 use mathlib.Core.Option.{Option·getD}
 use Prim.Native.Nat.{ℕ, suc, _+_, _≤_}
+use native.Mathlib.Nat.{le-trans}
 use borrow.Author.Tests.{ltb-false, not-true, not-false}
 use lib.Dec.{ltb, lit<}
 use lib.IntN.{ℤ, natAbs}
@@ -21,7 +22,7 @@ use Rattle.curves.specs.Curves.{Curve, points, lastPoint, startWay, endWay, poi
 use Rattle.curves.specs.Tests.{neighboursDiffer, straightInside, onCurve, isSimple}
 use Rattle.map.specs.declared.Variant.{Variant}
 use Rattle.map.specs.declared.Variant.the-variants.{New, Mod}
-use Rattle.map.specs.Limits.{lastNumber}
+use Rattle.map.specs.Limits.{lastNumber, mostPoints}
 use Rattle.map.specs.Rows.{Map, Sizes, node, edge, hasNode, hasEdge, withoutNode, withoutEdge, counts}
 use Rattle.map.specs.Darts.{edgeEnds}
 use Rattle.map.specs.Links.{cornerFace}
@@ -32,8 +33,10 @@ use Rattle.map.specs.Edits.{isNew, isMod, sharedNodes, joint, healedCurve, spli
 use Rattle.map.specs.Reasons.{Reasons, firstReason, reasons, noNode, noEdge, outside, endsDiffer, isolated}
 use Rattle.map.specs.Reasons.{edgeIsolated, anyNodeAt, edgeThrough, directionTaken, containingDiffer, cornersDiffer}
 use Rattle.map.specs.Reasons.{nodeInside, edgeMeeting, orderChanges, sidesChange, full, spent, splitReasons}
-use Rattle.map.specs.Reasons.{healReasons, curveIn, curveReasons, curveTicketReasons, addEdgeReasons}
+use Rattle.map.specs.Reasons.{healReasons, sentReasons, curveIn, curveReasons, curveTicketReasons, addEdgeReasons}
+use Rattle.map.proofs.PointLimits.{most-fits}
 use Rattle.map.proofs.Reasons.{first-zero, zero-contact, point-in-range}
+use Rattle.map.proofs.RoundTrip.{stored-wider}
 use Rattle.map.proofs.Surplus.{Left, sent-left}
 
 -- ---- the facts
@@ -161,8 +164,8 @@ has-edge : (m : Map) (z : ℤ) → noEdge m z ≡ false → hasEdge m (natAbs z)
 has-edge m z h = and-true (nonNeg z) (hasEdge m (natAbs z)) (not-false (nonNeg z && hasEdge m (natAbs z)) h) .1
 
 -- 7 and 8, and what follows them
-ends : (m : Map) (c : Curve) (u v : ℕ) (rest : Reasons) → Left c → firstReason (curveReasons m c u v ++ rest) ≡ 0
-    → Sent m c u v × (firstReason rest ≡ 0)
+ends : (m : Map) (c : Curve) (u v : ℕ) (rest : Reasons) → Left maxPoints c
+    → firstReason (curveReasons m c u v ++ rest) ≡ 0 → Sent m c u v × (firstReason rest ≡ 0)
 ends m c u v rest l h =
     let h₇ = first-zero 7 (not (isSimple c)) _ (lit< tt) h in
     let h₈ = first-zero 8 (endsDiffer m c u v) rest (lit< tt) (h₇ .1) in
@@ -206,6 +209,18 @@ supply m a b c h =
 -- ---- the kinds
 
 module _ (s : Sizes) (m : Map) where
+  -- no more points than the map was created for
+  abbrev pub Few : Curve → Type 0
+  Few c = length (points c) ≤ mostPoints (s .limit)
+
+  -- 5 and 6, and what follows them; a row can hold what is left
+  left : (l : List ℤ) (rest : Reasons) → firstReason (sentReasons (mostPoints (s .limit)) l ++ rest) ≡ 0
+      → Left maxPoints (curveIn l) × (firstReason rest ≡ 0)
+  left l rest h =
+      let k = sent-left (mostPoints (s .limit)) l rest h in
+      let stored = stored-wider (most-fits (s .limit)) (k .0 .stored) in
+      (record { stored = stored; differ = k .0 .differ; bent = k .0 .bent }, k .1)
+
   pub add-node : (f x y : ℤ) → firstReason (reasons s m (AddIsoNode f x y)) ≡ 0 → AddNode s m (point x y)
   unfolding reasons
   add-node f x y h =
@@ -256,7 +271,7 @@ module _ (s : Sizes) (m : Map) where
       let a = natAbs u in
       let b = natAbs v in
       let h₄ = first-zero 4 (noNode m u || noNode m v) _ (lit< tt) h in
-      let h₅ = sent-left l _ (h₄ .1) in
+      let h₅ = left l _ (h₄ .1) in
       let h₇ = ends m (curveIn l) a b _ (h₅ .0) (h₅ .1) in
       let h₉ = first-zero 9 (same a b || not (isolated m a && isolated m b)) _ (lit< tt) (h₇ .1) in
       let h₁₂ = first-zero 12 (containingDiffer m a b) _ (lit< tt) (h₉ .1) in
@@ -305,7 +320,7 @@ module _ (s : Sizes) (m : Map) where
       let a = edge m (natAbs e) .start in
       let b = edge m (natAbs e) .end in
       let h₄ = first-zero 4 (noEdge m e) _ (lit< tt) h in
-      let h₅ = sent-left l _ (h₄ .1) in
+      let h₅ = left l _ (h₄ .1) in
       let h₇ = ends m (curveIn l) a b _ (h₅ .0) (h₅ .1) in
       let h₁₁ = first-zero 11 (directionTaken m (natAbs e) a b (curveIn l)) _ (lit< tt) (h₇ .1) in
       let h₁₄ = first-zero 14 (nodeInside m (curveIn l)) _ (lit< tt) (h₁₁ .1) in
@@ -350,24 +365,27 @@ module _ (s : Sizes) (m : Map) where
   unfolding reasons
   split-mod e x y h = split Mod e x y h
 
-  heals : (e f : ℤ) (rest : Reasons) → firstReason (healReasons m e f ++ rest) ≡ 0
-      → Heal m (natAbs e) (natAbs f) × (firstReason rest ≡ 0)
+  heals : (e f : ℤ) (rest : Reasons) → firstReason (healReasons s m e f ++ rest) ≡ 0
+      → Heal m (natAbs e) (natAbs f) × (firstReason rest ≡ 0) × Few (healedCurve m (natAbs e) (natAbs f))
   heals e f rest h =
       let a = natAbs e in
       let b = natAbs f in
       let h₄ = first-zero 4 (noEdge m e || noEdge m f) _ (lit< tt) h in
       let h₁₆ = first-zero 16 (same a b || same (length (sharedNodes m a b)) 0) _ (lit< tt) (h₄ .1) in
       let h₁₇ = first-zero 17 (not (isSome (joint m a b))) _ (lit< tt) (h₁₆ .1) in
-      let h₁₈ = first-zero 18 (ltb maxPoints (length (points (healedCurve m a b)))) rest (lit< tt) (h₁₇ .1) in
+      let n = length (points (healedCurve m a b)) in
+      let h₁₈ = first-zero 18 (ltb (mostPoints (s .limit)) n) rest (lit< tt) (h₁₇ .1) in
+      let few = ltb-false (mostPoints (s .limit)) n (h₁₈ .0) in
       let rows = or-false (noEdge m e) (noEdge m f) (h₄ .0) in (
         record {
           has = has-edge m e (rows .0);
           has-other = has-edge m f (rows .1);
           differ = differ a b (or-false (same a b) (same (length (sharedNodes m a b)) 0) (h₁₆ .0) .0);
           joint = not-false (isSome (joint m a b)) (h₁₇ .0);
-          most = ltb-false maxPoints (length (points (healedCurve m a b))) (h₁₈ .0);
+          most = le-trans few (most-fits (s .limit));
         },
         h₁₈ .1,
+        few,
       )
 
   pub heal-new : (e f : ℤ) → firstReason (reasons s m (NewEdgeHeal e f)) ≡ 0
@@ -388,8 +406,8 @@ module _ (s : Sizes) (m : Map) where
   corners u v c h = same-true _ _ (not-false (same (cornerFace m u (startWay c)) (cornerFace m v (endWay c))) h)
 
   -- kinds 11 and 12 along a curve between nodes that are there
-  pub add-along : (how : Variant) (a b : ℕ) (c : Curve) → hasNode m a ≡ true → hasNode m b ≡ true → Left c
-      → firstReason (addEdgeReasons how s m a b c) ≡ 0 → AddEdge how s m a b c
+  pub add-along : (how : Variant) (a b : ℕ) (c : Curve) → hasNode m a ≡ true → hasNode m b ≡ true
+      → Left maxPoints c → firstReason (addEdgeReasons how s m a b c) ≡ 0 → AddEdge how s m a b c
   add-along how a b c there there′ l h =
       let h₇ = ends m c a b _ l h in
       let h₁₁ = first-zero 11 (directionTaken m (m .next .edges) a b c) _ (lit< tt) (h₇ .1) in
@@ -411,11 +429,12 @@ module _ (s : Sizes) (m : Map) where
       }
 
   add : (how : Variant) (u v : ℤ) (l : List ℤ)
-      → firstReason (curveTicketReasons (noNode m u || noNode m v) l (addEdgeReasons how s m (natAbs u) (natAbs v))) ≡ 0
+      → firstReason (curveTicketReasons s (noNode m u || noNode m v) l (addEdgeReasons how s m (natAbs u) (natAbs v)))
+      ≡ 0
       → AddEdge how s m (natAbs u) (natAbs v) (curveIn l)
   add how u v l h =
       let h₄ = first-zero 4 (noNode m u || noNode m v) _ (lit< tt) h in
-      let h₅ = sent-left l _ (h₄ .1) in
+      let h₅ = left l _ (h₄ .1) in
       let rows = or-false (noNode m u) (noNode m v) (h₄ .0) in
       add-along how (natAbs u) (natAbs v) (curveIn l) (has-node m u (rows .0)) (has-node m v (rows .1)) (h₅ .0) (h₅ .1)
 
@@ -428,6 +447,39 @@ module _ (s : Sizes) (m : Map) where
       → AddEdge Mod s m (natAbs u) (natAbs v) (curveIn l)
   unfolding reasons
   add-mod u v l h = add Mod u v l h
+
+  -- the curve of a ticket that brings one
+  few-sent : (missing : Bool) (l : List ℤ) (rest : Reasons)
+      → firstReason ((4, missing) ∷ sentReasons (mostPoints (s .limit)) l ++ rest) ≡ 0 → Few (curveIn l)
+  few-sent missing l rest h =
+      sent-left (mostPoints (s .limit)) l rest (first-zero 4 missing _ (lit< tt) h .1) .0 .stored .most
+
+  pub add-lone-few : (u v : ℤ) (l : List ℤ) → firstReason (reasons s m (AddIsoEdge u v l)) ≡ 0 → Few (curveIn l)
+  unfolding reasons
+  add-lone-few u v l h = few-sent _ l _ h
+
+  pub change-few : (e : ℤ) (l : List ℤ) → firstReason (reasons s m (ChangeEdgeGeom e l)) ≡ 0 → Few (curveIn l)
+  unfolding reasons
+  change-few e l h = few-sent _ l _ h
+
+  pub add-new-few : (u v : ℤ) (l : List ℤ) → firstReason (reasons s m (AddEdgeNewFaces u v l)) ≡ 0 → Few (curveIn l)
+  unfolding reasons
+  add-new-few u v l h = few-sent _ l _ h
+
+  pub add-mod-few : (u v : ℤ) (l : List ℤ) → firstReason (reasons s m (AddEdgeModFace u v l)) ≡ 0 → Few (curveIn l)
+  unfolding reasons
+  add-mod-few u v l h = few-sent _ l _ h
+
+  -- and the healed curve
+  pub heal-new-few : (e f : ℤ) → firstReason (reasons s m (NewEdgeHeal e f)) ≡ 0
+      → Few (healedCurve m (natAbs e) (natAbs f))
+  unfolding reasons
+  heal-new-few e f h = heals e f _ h .2
+
+  pub heal-mod-few : (e f : ℤ) → firstReason (reasons s m (ModEdgeHeal e f)) ≡ 0
+      → Few (healedCurve m (natAbs e) (natAbs f))
+  unfolding reasons
+  heal-mod-few e f h = heals e f [] h .2
 
   pub remove-new : (e : ℤ) → firstReason (reasons s m (RemEdgeNewFace e)) ≡ 0 → RemoveEdge m (natAbs e)
   unfolding reasons

@@ -8,13 +8,14 @@ use mathlib.Core.Option.{Option, none, some}
 use Prim.Native.Nat.{ℕ}
 use lib.IntN.{ℤ, pos, natAbs}
 use Rattle.lists.proofs.Bools.{which, or-false, agree}
-use Rattle.curves.specs.Curves.{Curve, curveOf, isRun}
+use Rattle.curves.specs.Curves.{Curve, curveOf, isRunTo}
 use Rattle.curves.specs.Tests.{neighboursDiffer, straightInside, isSimple}
 use Rattle.curves.specs.Edits.{withoutSurplus}
 use Rattle.geometry.proofs.Thinning.{surplus-points, surplus-last, surplus-bent, surplus-given, surplus-fewer}
 use Rattle.geometry.proofs.Thinning.{surplus-none, surplus-differs, surplus-simple, surplus-once}
 use Rattle.map.specs.declared.Variant.{Variant}
 use Rattle.map.specs.declared.Variant.the-variants.{New, Mod}
+use Rattle.map.specs.Limits.{mostPoints}
 use Rattle.map.specs.Rows.{Map, Lent, Sizes, mapOf, sizesOf, whole}
 use Rattle.map.specs.Form.{inForm}
 use Rattle.map.specs.Tickets.{Ticket, AddIsoNode, MoveIsoNode, RemoveIsoNode, AddIsoEdge, RemoveIsoEdge}
@@ -76,8 +77,8 @@ added how s m u v = record {
 
 -- ---- what is left, sent instead
 
-module _ (sent : List ℤ) (run : isRun sent ≡ true) where
-  same-run : isRun (numbersLeft sent) ≡ isRun sent
+module _ (s : Sizes) (sent : List ℤ) (run : isRunTo (mostPoints (s .limit)) sent ≡ true) where
+  same-run : isRunTo (mostPoints (s .limit)) (numbersLeft sent) ≡ isRunTo (mostPoints (s .limit)) sent
   same-run = stored-run (surplus-stored (run-stored sent run)) ∙ sym run
 
   same-differ : neighboursDiffer (curveOf (numbersLeft sent)) ≡ neighboursDiffer (curveOf sent)
@@ -87,7 +88,8 @@ module _ (sent : List ℤ) (run : isRun sent ≡ true) where
   same-left = ap withoutSurplus (curve-back (curveIn sent)) ∙ surplus-once (curveOf sent)
 
   alike : (d : Drawing)
-      → (curveTicketReasons (d .missing) (numbersLeft sent) (d .rest) ≡ curveTicketReasons (d .missing) sent (d .rest))
+      → (curveTicketReasons s (d .missing) (numbersLeft sent) (d .rest)
+      ≡ curveTicketReasons s (d .missing) sent (d .rest))
       × (d .edit (curveIn (numbersLeft sent)) ≡ d .edit (curveIn sent))
   alike d = (
     (λ i. (4, d .missing) ∷ (5, not (same-run i)) ∷ (6, not (same-differ i)) ∷ d .rest (same-left i)),
@@ -97,10 +99,10 @@ module _ (sent : List ℤ) (run : isRun sent ≡ true) where
 pub surplus-alike : SurplusAlike
 unfolding reasons carried
 surplus-alike = record {
-  add-isolated = λ u v s m sent run. alike sent run (lone s m u v);
-  change = λ e s m sent run. alike sent run (redrawn m e);
-  add-new = λ u v s m sent run. alike sent run (added New s m u v);
-  add-mod = λ u v s m sent run. alike sent run (added Mod s m u v);
+  add-isolated = λ u v s m sent run. alike s sent run (lone s m u v);
+  change = λ e s m sent run. alike s sent run (redrawn m e);
+  add-new = λ u v s m sent run. alike s sent run (added New s m u v);
+  add-mod = λ u v s m sent run. alike s sent run (added Mod s m u v);
 }
 
 -- ---- the rule before
@@ -138,13 +140,15 @@ module _ (l : Lent) where
           ∙ sym (ap given (first-miss 6 _ (d .rest (curveOf sent)) e))
     ]
 
-    drawn : given (firstReason (lentReasons l ++ curveTicketReasonsBefore (d .missing) sent (d .rest)))
+    drawn : given (firstReason (lentReasons l ++ curveTicketReasonsBefore (sizesOf l) (d .missing) sent (d .rest)))
         .answer .refusal ≢ 6
-        → unless l (firstReason (lentReasons l ++ curveTicketReasons (d .missing) sent (d .rest)))
+        → unless l (firstReason (lentReasons l ++ curveTicketReasons (sizesOf l) (d .missing) sent (d .rest)))
         (d .edit (curveIn sent))
-        ≡ given (firstReason (lentReasons l ++ curveTicketReasonsBefore (d .missing) sent (d .rest)))
+        ≡ given (firstReason (lentReasons l ++ curveTicketReasonsBefore (sizesOf l) (d .missing) sent (d .rest)))
     unfolding firstReason
-    drawn h = after (not (whole l)) (not (inForm l)) (d .missing) (badCurve sent) _ _ _ _ from-six h
+    drawn h =
+        let bad = badCurve (mostPoints (sizesOf l .limit)) sent in
+        after (not (whole l)) (not (inForm l)) (d .missing) bad _ _ _ _ from-six h
 
   same-judged : (m : Map) (t : Option Ticket) → judgedBefore l m t .answer .refusal ≢ 6
       → judged l m t ≡ judgedBefore l m t

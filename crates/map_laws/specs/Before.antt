@@ -7,6 +7,7 @@ use lib.IntN.{ℤ, pos, natAbs}
 use Rattle.curves.specs.Curves.{Curve, curveOf}
 use Rattle.curves.specs.Tests.{neighboursDiffer, straightInside}
 use Rattle.map.specs.declared.Variant.the-variants.{New, Mod}
+use Rattle.map.specs.Limits.{mostPoints}
 use Rattle.map.specs.Rows.{Map, Lent, Sizes, mapOf, sizesOf}
 use Rattle.map.specs.Tickets.{Ticket, AddIsoNode, MoveIsoNode, RemoveIsoNode, AddIsoEdge, RemoveIsoEdge}
 use Rattle.map.specs.Tickets.{ChangeEdgeGeom, NewEdgesSplit, ModEdgeSplit, NewEdgeHeal, ModEdgeHeal}
@@ -16,11 +17,11 @@ use Rattle.map.specs.Reasons.{Reasons, firstReason, reasons, noNode, noEdge, ba
 use Rattle.map.specs.Reasons.{changeGeomReasons, addEdgeReasons}
 use Rattle.map.specs.Ticket.{Outcome, refused, unless, carried, lentReasons}
 
-abbrev pub curveTicketReasonsBefore : Bool → List ℤ → (Curve → Reasons) → Reasons
-curveTicketReasonsBefore missing sent rest =
+abbrev pub curveTicketReasonsBefore : Sizes → Bool → List ℤ → (Curve → Reasons) → Reasons
+curveTicketReasonsBefore s missing sent rest =
     let c = curveOf sent in
     (4, missing)
-    ∷ (5, badCurve sent)
+    ∷ (5, badCurve (mostPoints (s .limit)) sent)
     ∷ (6, not (neighboursDiffer c) || straightInside c)
     ∷ rest c
 
@@ -34,12 +35,12 @@ ruleBefore s m (AddIsoNode f x y) = unchanged s m (AddIsoNode f x y)
 ruleBefore s m (MoveIsoNode n x y) = unchanged s m (MoveIsoNode n x y)
 ruleBefore s m (RemoveIsoNode n) = unchanged s m (RemoveIsoNode n)
 ruleBefore s m (AddIsoEdge u v sent) = (
-  curveTicketReasonsBefore (noNode m u || noNode m v) sent (addIsoEdgeReasons s m (natAbs u) (natAbs v)),
+  curveTicketReasonsBefore s (noNode m u || noNode m v) sent (addIsoEdgeReasons s m (natAbs u) (natAbs v)),
   (addIsoEdge (natAbs u) (natAbs v) (curveOf sent) m, pos (m .next .edges)),
 )
 ruleBefore s m (RemoveIsoEdge e) = unchanged s m (RemoveIsoEdge e)
 ruleBefore s m (ChangeEdgeGeom e sent) = (
-  curveTicketReasonsBefore (noEdge m e) sent (changeGeomReasons m (natAbs e)),
+  curveTicketReasonsBefore s (noEdge m e) sent (changeGeomReasons m (natAbs e)),
   (changeEdgeGeom (natAbs e) (curveOf sent) m, pos 0),
 )
 ruleBefore s m (NewEdgesSplit e x y) = unchanged s m (NewEdgesSplit e x y)
@@ -47,11 +48,11 @@ ruleBefore s m (ModEdgeSplit e x y) = unchanged s m (ModEdgeSplit e x y)
 ruleBefore s m (NewEdgeHeal e f) = unchanged s m (NewEdgeHeal e f)
 ruleBefore s m (ModEdgeHeal e f) = unchanged s m (ModEdgeHeal e f)
 ruleBefore s m (AddEdgeNewFaces u v sent) = (
-  curveTicketReasonsBefore (noNode m u || noNode m v) sent (addEdgeReasons New s m (natAbs u) (natAbs v)),
+  curveTicketReasonsBefore s (noNode m u || noNode m v) sent (addEdgeReasons New s m (natAbs u) (natAbs v)),
   (addEdge New (natAbs u) (natAbs v) (curveOf sent) m, pos (m .next .edges)),
 )
 ruleBefore s m (AddEdgeModFace u v sent) = (
-  curveTicketReasonsBefore (noNode m u || noNode m v) sent (addEdgeReasons Mod s m (natAbs u) (natAbs v)),
+  curveTicketReasonsBefore s (noNode m u || noNode m v) sent (addEdgeReasons Mod s m (natAbs u) (natAbs v)),
   (addEdge Mod (natAbs u) (natAbs v) (curveOf sent) m, pos (m .next .edges)),
 )
 ruleBefore s m (RemEdgeNewFace e) = unchanged s m (RemEdgeNewFace e)

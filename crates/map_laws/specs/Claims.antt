@@ -1,25 +1,29 @@
--- What refusals say of the drawing, and what is left of a curve without surplus points, over rational points. Proved in
--- proofs/: MeetingsTold.antt (`meetings-mean`, `meetings-told`), Surplus.antt (`surplus-dropped`, `surplus-alike`,
--- `same-outcome`).
+-- What refusals say of the drawing, and what is left of a curve without surplus points, over rational points; what the
+-- record of points decides. Proved in proofs/: MeetingsTold.antt (`meetings-mean`, `meetings-told`), Surplus.antt
+-- (`surplus-dropped`, `surplus-alike`, `same-outcome`), Recorded.antt (`records-created`, `record-stays`,
+-- `twelve-alike`).
 use mathlib.Core.Path.{_≡_}
 use mathlib.Core.Bool.{true, false}
 use mathlib.Core.List.{List, List·Memᴰ}
 use mathlib.Core.Logic.{_≢_, _↔_}
 use Prim.Native.Nat.{ℕ, _≤_}
-use lib.IntN.{ℤ, natAbs}
+use lib.IntN.{ℤ, pos, natAbs}
 use lib.ListN.{length}
 use Rattle.plane.specs.declared.Point.{Point}
 use Rattle.plane.specs.declared.Contact.{Contact}
 use Rattle.plane.specs.declared.Contact.the-variants.{None, Touch, Crossing, Stretch}
-use Rattle.curves.specs.Curves.{Curve, points, lastPoint, coordinates, isRun}
+use Rattle.curves.specs.Curves.{Curve, points, lastPoint, coordinates, isRunTo, maxPoints}
 use Rattle.curves.specs.Tests.{neighboursDiffer, straightInside, isSimple}
 use Rattle.curves.specs.Edits.{withoutSurplus}
 use Rattle.geometry.specs.Spots.{Spot}
 use Rattle.geometry.specs.Drawing.{OnCurve, ClearCurves, MeetCurves, CommonSpot}
-use Rattle.map.specs.Rows.{Edge, Map, Lent, Sizes, withoutEdge}
+use Rattle.map.specs.Limits.{mostPoints}
+use Rattle.map.specs.Rows.{Edge, Map, Lent, Sizes, withoutEdge, lent}
+use Rattle.map.specs.Form.{inForm}
 use Rattle.map.specs.Tickets.{Ticket, AddIsoEdge, ChangeEdgeGeom, AddEdgeNewFaces, AddEdgeModFace}
 use Rattle.map.specs.Reasons.{firstReason, reasons, curveIn, edgeMeeting}
-use Rattle.map.specs.Ticket.{carried, ticket}
+use Rattle.map.specs.Ticket.{carried, ticket, emptied}
+use Rattle.map.specs.Grow.{after}
 use Rattle.map_laws.specs.Before.{ticketBefore}
 
 -- ---- document 02 (iv): 23, 15 and 24
@@ -110,7 +114,7 @@ numbersLeft sent = coordinates (points (curveIn sent))
 
 -- points that 5 lets pass, and what is left of them sent instead: the same reasons and the same edit, on all maps
 abbrev pub Alike : (List ℤ → Ticket) → Type 0
-Alike t = (s : Sizes) (m : Map) (sent : List ℤ) → isRun sent ≡ true
+Alike t = (s : Sizes) (m : Map) (sent : List ℤ) → isRunTo (mostPoints (s .limit)) sent ≡ true
     → (reasons s m (t (numbersLeft sent)) ≡ reasons s m (t sent))
     × (carried m (t (numbersLeft sent)) ≡ carried m (t sent))
 
@@ -123,3 +127,31 @@ pub record SurplusAlike : Type 0 where
 -- on all tables, every ticket that did not get 6 before, those carried out among them, has the same outcome
 abbrev pub SameOutcome : Type 0
 SameOutcome = (l : Lent) (t : List ℤ) → ticketBefore l t .answer .refusal ≢ 6 → ticket l t ≡ ticketBefore l t
+
+-- ---- document 02 (ix): the record of points
+
+-- a map that is created records the number that it is created for, whatever the tables held
+abbrev pub RecordsCreated : Type 0
+RecordsCreated = (l : Lent) (k : ℤ) → emptied l k .answer .refusal ≡ 0 → emptied l k .lent .head .points ≡ k
+
+-- on all tables, no list of tickets changes the record
+abbrev pub RecordStays : Type 0
+RecordStays = (l : Lent) (ts : List (List ℤ)) → after l ts .lent .head .points ≡ l .head .points
+
+-- the same tables and head, but that 12 is recorded
+abbrev pub forTwelve : Lent → Lent
+forTwelve l = lent (l .nodes) (l .edges) (l .faces) (record {
+  nodes = l .head .nodes;
+  edges = l .head .edges;
+  faces = l .head .faces;
+  «next_node» = l .head .«next_node»;
+  «next_edge» = l .head .«next_edge»;
+  «next_face» = l .head .«next_face»;
+  points = pos maxPoints;
+})
+
+-- on all tables in form, a ticket that gets neither 5 nor 18 has the same outcome with 12 recorded
+abbrev pub TwelveAlike : Type 0
+TwelveAlike = (l : Lent) (t : List ℤ) → inForm l ≡ true
+    → ticket l t .answer .refusal ≢ 5 → ticket l t .answer .refusal ≢ 18
+    → ticket (forTwelve l) t ≡ record { lent = forTwelve (ticket l t .lent); answer = ticket l t .answer }

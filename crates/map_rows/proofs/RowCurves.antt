@@ -13,7 +13,7 @@ use lib.Signed.{nonNeg}
 use borrow.Author.Tests.{le-leb}
 use Rattle.lists.specs.Scans.{allOf}
 use Rattle.lists.proofs.Scans.{length-table}
-use Rattle.curves.specs.Curves.{Curve, points, pointAt, Run, isRun, curveOf, coordinate, maxPoints}
+use Rattle.curves.specs.Curves.{Curve, points, pointAt, Run, isRunTo, curveOf, coordinate, maxPoints}
 use Rattle.curves.proofs.Runs.{and-left, and-right, curve-is}
 use Rattle.tables.specs.Tables.{rows, cell, within, isZero}
 use Rattle.tables.proofs.Tests.{within-back, within-least, within-most}
@@ -81,7 +81,7 @@ module _ {l : List ℤ} {i : ℕ} (row : EdgeRow l i) where
       && within 2 maxPoints (cell (edgeCellsAt l i) 7)) _ in-use
 
   pub run-at : Run (runAt l i)
-  unfolding isRun
+  unfolding isRunTo
   run-at =
       let e : length (runAt l i) / 2 ≡ pointCount l i = omega (arith, run-length) in
       record {

@@ -8,6 +8,7 @@ use lib.IntN.{ℤ, pos, negsuc}
 use lib.ListN.{replicate}
 use Rattle.curves.specs.Curves.{through}
 use Rattle.planar_maps.specs.Map.{Dart, fwd, bwd}
+use Rattle.map.specs.Limits.{TwelvePoints}
 use Rattle.map.specs.Rows.{Node, Edge, Map, Sizes, dartCell, boxOf, lentWith, lentOf, counts}
 use Rattle.map.specs.Form.{inForm}
 use Rattle.map.specs.Grow.{grow}
@@ -17,7 +18,7 @@ use Rattle.mending.proofs.Opened.{opened}
 -- ---- how sheets and results are written
 
 abbrev small : Sizes
-small = record { nodes = 4; edges = 4; faces = 2 }
+small = record { nodes = 4; edges = 4; faces = 2; limit = TwelvePoints }
 
 abbrev node : ℕ → ℕ → ℕ → Node
 node n x y = record { number = n; at = record { x = x; y = y }; face = none }

@@ -12,10 +12,10 @@ use Rattle.lists.proofs.Maps.{all-mapped}
 use Rattle.lists.proofs.Members.{all-of}
 use Rattle.plane.specs.declared.Point.{Point}
 use Rattle.curves.specs.Curves.{points, maxPoints}
-use Rattle.map.specs.Limits.{edgeWidth, faceWidth}
+use Rattle.map.specs.Limits.{mostPoints, edgeWidth, faceWidth}
 use Rattle.map.specs.Rows.{Edge, Map, Sizes, edgeRows, edgeCells, faceCells, borders, boundary, boxOf, rectangle}
 use Rattle.map.specs.Rows.{lentWith, lentOf, whole}
-use Rattle.map.specs.Form.{edgeRanges, faceRanges, ranged}
+use Rattle.map.specs.Form.{edgeRangesTo, faceRanges, ranged}
 use Rattle.tables.specs.Tables.{within, restZero, rows, filled}
 use Rattle.map.proofs.RoundTrip.{edge-wide, ranged-is}
 use Rattle.tables.proofs.Filled.{Wide, flat-length, rows-flat, flat-rest}
@@ -73,6 +73,7 @@ module _ (s : Sizes) (m : Map) where
         «next_node» = pos (m .next .nodes);
         «next_edge» = pos (m .next .edges);
         «next_face» = pos (m .next .faces);
+        points = pos (mostPoints (s .limit));
       }) rows-now
 
   -- curves that a row holds
@@ -101,15 +102,15 @@ module _ (s : Sizes) (m : Map) where
     unfolding whole
     whole-now h = rw (nodes-now, size-now, faces-now) h
 
-    rows-ranged : allOf edgeRanges (edgeRows (lentOf s m)) ≡ true → allOf edgeRanges (edgeRows (lentOf s (mended m)))
-        ≡ true
+    rows-ranged : (most : ℕ) → allOf (edgeRangesTo most) (edgeRows (lentOf s m)) ≡ true
+        → allOf (edgeRangesTo most) (edgeRows (lentOf s (mended m))) ≡ true
     unfolding lentWith edgeCells mended
-    rows-ranged h =
-        ap (allOf edgeRanges) (rows-flat edgeWidth edgeCells (mended m .edges) _ wide-now)
-        ∙ all-mapped edgeRanges edgeCells (mended m .edges)
-        ∙ all-mapped (λ e. edgeRanges (edgeCells e)) (relinked m) (m .edges)
-        ∙ sym (all-mapped edgeRanges edgeCells (m .edges))
-        ∙ ap (allOf edgeRanges) (sym (rows-flat edgeWidth edgeCells (m .edges) _ wide))
+    rows-ranged most h =
+        ap (allOf (edgeRangesTo most)) (rows-flat edgeWidth edgeCells (mended m .edges) _ wide-now)
+        ∙ all-mapped (edgeRangesTo most) edgeCells (mended m .edges)
+        ∙ all-mapped (λ e. edgeRangesTo most (edgeCells e)) (relinked m) (m .edges)
+        ∙ sym (all-mapped (edgeRangesTo most) edgeCells (m .edges))
+        ∙ ap (allOf (edgeRangesTo most)) (sym (rows-flat edgeWidth edgeCells (m .edges) _ wide))
         ∙ h
 
     pub ranged-now : ranged (lentOf s m) ≡ true → ranged (lentOf s (mended m)) ≡ true
@@ -124,5 +125,6 @@ module _ (s : Sizes) (m : Map) where
         let counts = and-is (and-is (k .nodes) edges) faces in
         let nexts = and-is (k .next-node) (and-is (k .next-edge) (and-is (k .next-face) refl)) in
         let rest = flat-rest edgeWidth edgeCells _ (mended m .edges) wide-now in
-        let rests = and-is (and-is (and-is (and-is counts nexts) (k .node-rest)) rest) face-rest in
-        and-is (and-is (and-is rests (k .node-rows)) (rows-ranged (k .edge-rows))) face-rows
+        let heads = and-is (and-is counts nexts) (k .recorded) in
+        let rests = and-is (and-is (and-is heads (k .node-rest)) rest) face-rest in
+        and-is (and-is (and-is rests (k .node-rows)) (rows-ranged _ (k .few-points))) face-rows

@@ -9,6 +9,7 @@ use lib.ListN.{length, replicate}
 use Rattle.plane.specs.declared.Point.{Point}
 use Rattle.curves.specs.Curves.{through}
 use Rattle.planar_maps.specs.Map.{fwd, bwd}
+use Rattle.map.specs.Limits.{TwelvePoints}
 use Rattle.map.specs.Rows.{Node, Edge, Map, Sizes, Lent, lentOf, counts}
 use Rattle.map.specs.Grow.{grow}
 use Rattle.map.specs.Ticket.{Listed}
@@ -16,7 +17,7 @@ use Rattle.nesting.specs.Contents.{contentsOf}
 use Rattle.nesting.proofs.Opened.{opened}
 
 abbrev small : Sizes
-small = record { nodes = 6; edges = 4; faces = 4 }
+small = record { nodes = 6; edges = 4; faces = 4; limit = TwelvePoints }
 
 -- ---- tickets
 
@@ -159,7 +160,7 @@ both-sides = refl
 -- ---- 1 and 2 come before 28: a face table without rows, and a face number that was not given
 
 abbrev faceless : Lent
-faceless = lentOf (record { nodes = 6; edges = 4; faces = 0 }) (sheet [] [] [] 2)
+faceless = lentOf (record { nodes = 6; edges = 4; faces = 0; limit = TwelvePoints }) (sheet [] [] [] 2)
 
 pub before : map (λ l. contentsOf l []) (faceless ∷ lentOf small (sheet [] [] (0 ∷ 1 ∷ []) 1) ∷ [])
     ≡ refused [] 1 ∷ refused [] 2 ∷ []

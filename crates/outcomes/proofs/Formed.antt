@@ -24,6 +24,7 @@ use Rattle.curves.proofs.Runs.{and-left, and-right}
 use Rattle.map.specs.declared.Counts.{Counts}
 use Rattle.map.specs.declared.Head.{Head}
 use Rattle.map.specs.Limits.{maxNodes, maxEdges, maxFaces, lastNumber, nodeWidth, edgeWidth, faceWidth}
+use Rattle.map.specs.Limits.{mostPoints, limitOf}
 use Rattle.bounding_boxes.specs.declared.Extent.{Extent}
 use Rattle.map.specs.Rows.{Edge, Map, Lent, Sizes, mapOf, lentOf, lentWith, rectangle, sizesOf, headOf, nodeCells}
 use Rattle.map.specs.Rows.{edgeCells, hasNode, hasEdge, hasFace, lent}
@@ -107,6 +108,7 @@ module _ {nodes edges faces : List ℤ} {h : Head} (f : Formed nodes edges faces
         next-node = record { natural = node-next .0; most = node-next .2 };
         next-edge = record { natural = edge-next .0; most = edge-next .2 };
         next-face = record { natural = face-next .0; most = face-next .2 };
+        recorded = ranges .recorded;
       }
 
   -- the rows in use fit
@@ -212,7 +214,7 @@ module _ {nodes edges faces : List ℤ} {h : Head} (f : Formed nodes edges faces
   back : lentOf (sizesOf (lent nodes edges faces h)) (mapOf (lent nodes edges faces h)) ≡ lent nodes edges faces h
   back = in-form-back (lent nodes edges faces h) (f .whole) (f .in-form)
 
-  pub head-back : headOf (mapOf (lent nodes edges faces h)) ≡ h
+  pub head-back : headOf (limitOf (h .points)) (mapOf (lent nodes edges faces h)) ≡ h
   unfolding lentWith
   head-back = ap (λ (l : Lent). l .head) back
 
@@ -271,7 +273,7 @@ pub lent-is : (box : ℕ → Extent) (s : Sizes) (m : Map) {nodes edges faces : 
     → filled (s .nodes * nodeWidth) (flatMap nodeCells (m .nodes)) ≡ nodes
     → filled (s .edges * edgeWidth) (flatMap edgeCells (m .edges)) ≡ edges
     → facesIn (s .faces * faceWidth) box (m .faces) ≡ faces
-    → headOf m ≡ h
+    → headOf (s .limit) m ≡ h
     → lentWith box s m ≡ lent nodes edges faces h
 unfolding lentWith
 lent-is box s m a b c d = λ i. record { nodes = a i; edges = b i; faces = c i; head = d i }
@@ -342,14 +344,16 @@ module _ (nodes edges faces : List ℤ) (h : Head) (t : Ticket) where
 
 -- a ticket with a curve, of rows that are there
 module _ (l : Lent) (t : Ticket) {missing : Bool} (there : missing ≡ false) (sent : List ℤ) (rest : Curve → Reasons)
-    (e : reasons (sizesOf l) (mapOf l) t ≡ curveTicketReasons missing sent rest) where
+    (e : reasons (sizesOf l) (mapOf l) t ≡ curveTicketReasons (sizesOf l) missing sent rest) where
+  abbrev passes : Reasons
+  passes = sentReasons (mostPoints (limitOf (l .head .points))) sent
+
   -- 5 or 6 is against the points sent
-  pub against-sent : (r : ℕ) → 0 < r → firstReason (sentReasons sent) ≡ r
-      → firstReason (reasons (sizesOf l) (mapOf l) t) ≡ r
-  against-sent r some k = ap firstReason e ∙ sent-refused there sent rest r some k
+  pub against-sent : (r : ℕ) → 0 < r → firstReason passes ≡ r → firstReason (reasons (sizesOf l) (mapOf l) t) ≡ r
+  against-sent r some k = ap firstReason e ∙ sent-refused (sizesOf l) there sent rest r some k
 
   -- neither is: it is decided by what is left
-  pub by-points-left : firstReason (sentReasons sent) ≡ 0
+  pub by-points-left : firstReason passes ≡ 0
       → editedUnless l (rest (curveIn sent)) (carried (mapOf l) t) ≡ edited l t
   by-points-left k = ap (λ (r : ℕ). unlessWith (rectangle (mapOf l .edges)) l r (carried (mapOf l) t))
-      (sym (ap firstReason e ∙ sent-passed there sent rest k))
+      (sym (ap firstReason e ∙ sent-passed (sizesOf l) there sent rest k))

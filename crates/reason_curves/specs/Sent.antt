@@ -26,8 +26,9 @@ abbrev pub readUnder : ℕ → List ℤ → CurveRead
 readUnder zero sent = record { reason = 0; line = lineOf (points (curveIn sent)) }
 readUnder (suc k) sent = withoutCurve (suc k)
 
-abbrev pub curveRead : List ℤ → CurveRead
-curveRead sent = readUnder (firstReason (sentReasons sent)) sent
+-- a curve of at most so many points, read
+abbrev pub curveRead : ℕ → List ℤ → CurveRead
+curveRead most sent = readUnder (firstReason (sentReasons most sent)) sent
 
 -- what is left of points sent that 5 and 6 let pass
 pub record PointsLeft (l : List ℤ) : Type 0 where

@@ -7,11 +7,12 @@ use plane::Contact;
 use plane::Point;
 ghost use mathlib.Core.Path.{_≡_};
 ghost use mathlib.Core.Bool.{true, not, _&&_};
+ghost use Prim.Native.Nat.{_≤_};
 ghost use Rattle.lists.specs.Tests.{same};
 ghost use Rattle.lists.specs.Scans.{anyOf};
 ghost use Rattle.lists.specs.Tables.{table};
 ghost use Rattle.plane.specs.Points.{InRange, samePoint};
-ghost use Rattle.curves.specs.Curves.{Run, coordinate, curveOf, lastPoint, point};
+ghost use Rattle.curves.specs.Curves.{Run, coordinate, curveOf, lastPoint, point, maxPoints};
 ghost use Rattle.curves.specs.Tests.{onCurve, graver, meeting};
 ghost use Rattle.bounding_boxes.specs.Extents.{extentOf};
 ghost use Rattle.map.specs.Reasons.{firstReason, edgeThrough, isEnd, nodeInside, edgeMeeting, contactReason};
@@ -73,11 +74,13 @@ fn without_curve(reason: u64) -> CurveRead
     }
 }
 
-// Reads the curve of a ticket: 5 and 6 go by the points sent, all that comes after by the points left.
-pub fn read_curve(sent: &[i64]) -> CurveRead
-    ensures { λ r. ⌜ r ≡ curveRead (now (sent .entry)) ⌝ }
+// Reads the curve of a ticket: 5, for at most so many points, and 6 go by the points sent, all that comes after by the
+// points left.
+pub fn read_curve(sent: &[i64], most: usize) -> CurveRead
+    requires { ⌜ most ≤ maxPoints ⌝ }
+    ensures { λ r. ⌜ r ≡ curveRead most (now (sent .entry)) ⌝ }
 {
-    if !curves::is_run(sent) {
+    if !curves::is_run(sent, most) {
         return without_curve(5);
     }
     if !curves::neighbours_differ(sent) {

@@ -173,8 +173,7 @@ pub fn set_next(head: &mut Head, node: i64, edge: i64, face: i64)
 fn set_head(head: &mut Head, h: Head)
     ensures { λ _. ⌜ now (head .exit) ≡ h ⌝ }
 {
-    set_counts(head, h.nodes, h.edges, h.faces);
-    set_next(head, h.next_node, h.next_edge, h.next_face);
+    *head = h;
 }
 
 // ---- the head, with nodes as numbers
@@ -197,13 +196,19 @@ pub fn ticket(
     done.answer
 }
 
-// The empty map.
-pub fn empty_map(nodes: &mut [i64], edges: &mut [i64], faces: &mut [i64], head: &mut Head) -> Answer
+// The empty map for curves of at most so many points, 6 or 12.
+pub fn empty_map(
+    nodes: &mut [i64],
+    edges: &mut [i64],
+    faces: &mut [i64],
+    head: &mut Head,
+    points: i64,
+) -> Answer
     ensures { λ r. ⌜ outcomeWith (nodes .exit) (edges .exit) (faces .exit) (now (head .exit)) r ≡ emptied
-        (lentNow (nodes .entry) (edges .entry) (faces .entry) (now (head .entry))) ⌝ }
+        (lentNow (nodes .entry) (edges .entry) (faces .entry) (now (head .entry))) points ⌝ }
 {
     let h = *head;
-    let done = engine::empty_map(nodes, edges, faces, h);
+    let done = engine::empty_map(nodes, edges, faces, h, points);
     set_head(head, done.head);
     done.answer
 }
@@ -225,18 +230,19 @@ pub fn edges_of_face(
     engine::edges_of_face(nodes, edges, faces, h, face, list)
 }
 
-// A list of tickets from the empty map on.
+// A list of tickets from the empty map on, which is created for curves of at most so many points, 6 or 12.
 pub fn run(
     nodes: &mut [i64],
     edges: &mut [i64],
     faces: &mut [i64],
     head: &mut Head,
+    points: i64,
     numbers: &[i64],
     lengths: &[usize],
     refusals: &mut [u64],
     values: &mut [i64],
 ) -> Answer
-    ensures { λ r. ⌜ Runs (lentNow (nodes .entry) (edges .entry) (faces .entry) (now (head .entry)))
+    ensures { λ r. ⌜ Runs (lentNow (nodes .entry) (edges .entry) (faces .entry) (now (head .entry))) points
         (now (numbers .entry)) (now (lengths .entry)) (now (refusals .entry)) (now (values .entry))
         (record {
           lent = lentNow (nodes .exit) (edges .exit) (faces .exit) (now (head .exit));
@@ -246,7 +252,17 @@ pub fn run(
         }) ⌝ }
 {
     let h = *head;
-    let done = ticket_lists::run(nodes, edges, faces, h, numbers, lengths, refusals, values);
+    let done = ticket_lists::run(
+        nodes,
+        edges,
+        faces,
+        h,
+        points,
+        numbers,
+        lengths,
+        refusals,
+        values,
+    );
     set_head(head, done.head);
     done.answer
 }

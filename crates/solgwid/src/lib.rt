@@ -1,4 +1,4 @@
-// The engine for programs in C and Rust: include/solgwid.h. A slice goes as a pointer and a length, the head as six
+// The engine for programs in C and Rust: include/solgwid.h. A slice goes as a pointer and a length, the head as seven
 // numbers; each function answers the refusal.
 ghost use mathlib.Core.Path.{_≡_};
 ghost use lib.IntN.{pos};
@@ -7,22 +7,23 @@ ghost use Rattle.map.specs.Loans.{lentNow};
 ghost use Rattle.ticket_lists.specs.Runs.{Runs};
 ghost use Rattle.head.specs.Heads.{headIn};
 
-// Makes the empty map, whatever the tables and the head held.
+// Makes the empty map for curves of at most so many points, 6 or 12, whatever the tables and the head held.
 #[no_mangle]
 pub extern "C" fn solgwid_empty_map(
     nodes: &mut [i64],
     edges: &mut [i64],
     faces: &mut [i64],
     head: &mut [i64; head::WIDTH],
+    points: i64,
 ) -> u64
     ensures { λ r. ⌜
         record {
           lent = lentNow (nodes .exit) (edges .exit) (faces .exit) (headIn (now (head .exit)));
           answer = record { refusal = r; value = pos 0 };
         }
-        ≡ emptied (lentNow (nodes .entry) (edges .entry) (faces .entry) (headIn (now (head .entry)))) ⌝ }
+        ≡ emptied (lentNow (nodes .entry) (edges .entry) (faces .entry) (headIn (now (head .entry)))) points ⌝ }
 {
-    let done = engine::empty_map(nodes, edges, faces, head::from_numbers(head));
+    let done = engine::empty_map(nodes, edges, faces, head::from_numbers(head), points);
     head::put_numbers(head, done.head);
     done.answer.refusal
 }
@@ -82,6 +83,7 @@ pub extern "C" fn solgwid_run(
     edges: &mut [i64],
     faces: &mut [i64],
     head: &mut [i64; head::WIDTH],
+    points: i64,
     numbers: &[i64],
     lengths: &[usize],
     refusals: &mut [u64],
@@ -89,7 +91,7 @@ pub extern "C" fn solgwid_run(
 ) -> u64
     ensures { λ r. ⌜ Runs
         (lentNow (nodes .entry) (edges .entry) (faces .entry) (headIn (now (head .entry))))
-        (now (numbers .entry)) (now (lengths .entry)) (now (refusals .entry)) (now (values .entry))
+        points (now (numbers .entry)) (now (lengths .entry)) (now (refusals .entry)) (now (values .entry))
         (record {
           lent = lentNow (nodes .exit) (edges .exit) (faces .exit) (headIn (now (head .exit)));
           refusals = now (refusals .exit);
@@ -102,6 +104,7 @@ pub extern "C" fn solgwid_run(
         edges,
         faces,
         head::from_numbers(head),
+        points,
         numbers,
         lengths,
         refusals,

@@ -1,7 +1,7 @@
 // Runs whole calls for the edges of a face on stored tables, grown, distorted and spoiled, and writes the answers and
 // the lists, a line a call. A call is a record of `NUMBERS` numbers, each a sign and seven digits, and a line end: the
-// lengths of the node, edge and face table, the six numbers of the head, the face and the length of the list; five that
-// are not used; then the tables, with room for eight nodes, six edges and eight faces.
+// lengths of the node, edge and face table, the seven numbers of the head, the face and the length of the list; four
+// that are not used; then the tables, with room for eight nodes, six edges and eight faces.
 use map::Head;
 ghost use Prim.Native.Nat.{_≤_, _+_};
 ghost use lib.ListN.{length};
@@ -60,9 +60,11 @@ const NEXT_EDGE: usize = 7 * FIELD;
 
 const NEXT_FACE: usize = 8 * FIELD;
 
-const FACE: usize = 9 * FIELD;
+const POINTS: usize = 9 * FIELD;
 
-const LIST_LENGTH: usize = 10 * FIELD;
+const FACE: usize = 10 * FIELD;
+
+const LIST_LENGTH: usize = 11 * FIELD;
 
 const BASE: u64 = 10;
 
@@ -161,6 +163,7 @@ fn head_of(record: &[u8; RECORD]) -> Head {
             number_at(record, NEXT_NODE),
             number_at(record, NEXT_EDGE),
             number_at(record, NEXT_FACE),
+            number_at(record, POINTS),
         ],
     )
 }

@@ -224,10 +224,10 @@ fn case(v: &[i64])
     let c = &v[FIRST_CURVE..end];
     let last = SECOND_CURVE + 2 * (k as usize);
     let d = &v[SECOND_CURVE..last];
-    if !curves::is_run(c) {
+    if !curves::is_run(c, curves::POINTS) {
         return;
     }
-    if !curves::is_run(d) {
+    if !curves::is_run(d, curves::POINTS) {
         return;
     }
     answer(c, d, p);

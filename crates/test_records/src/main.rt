@@ -15,7 +15,7 @@ const NO_NODE: Node = Node {
     face: 0,
 };
 
-// The head of the empty map.
+// The head of the empty map, for curves of at most 6 points.
 const EMPTY: Head = Head {
     nodes: 0,
     edges: 0,
@@ -23,6 +23,7 @@ const EMPTY: Head = Head {
     next_node: 1,
     next_edge: 1,
     next_face: 1,
+    points: 6,
 };
 
 // What the first node is changed to.
@@ -75,6 +76,7 @@ fn put_head(h: Head) {
     put_signed(h.next_node);
     put_signed(h.next_edge);
     put_signed(h.next_face);
+    put_signed(h.points);
     end_line();
 }
 

@@ -6,8 +6,8 @@ use mathlib.Core.List.{List, [], _∷_, _++_, map, flatten}
 use Prim.Native.Nat.{ℕ, _+_, _≤_}
 use lib.IntN.{ℤ, pos, natAbs, _+ℤ_}
 use lib.ListN.{length, getD}
-use Rattle.map.specs.Limits.{lastNumber}
-use Rattle.map.specs.Rows.{Lent, mapOf, sizesOf}
+use Rattle.map.specs.Limits.{lastNumber, limitOf}
+use Rattle.map.specs.Rows.{Lent, mapOf, sizesFor}
 use Rattle.map.specs.Ticket.{Outcome}
 use Rattle.map.specs.Grow.{grow}
 use Rattle.grown.specs.Claims.{restored, renewed}
@@ -17,14 +17,14 @@ use Rattle.ticket_lists.specs.Runs.{ticketsOf, Ran, Runs}
 abbrev pub EveryList : Type 0
 EveryList = (ts : List (List ℤ)) → ticketsOf (flatten ts) (map length ts) ≡ ts
 
--- a call of `run` on the tables l with the list ts was carried out, and left and answered r
-pub record Called (l : Lent) (ts : List (List ℤ)) (r : Ran) : Type 0 where
+-- a call of `run` on the tables l, for k points, with the list ts was carried out, and left and answered r
+pub record Called (l : Lent) (k : ℤ) (ts : List (List ℤ)) (r : Ran) : Type 0 where
   pub numbers : List ℤ
   pub lengths : List ℕ
   pub refusals : List ℕ
   pub values : List ℤ
   pub list : ticketsOf numbers lengths ≡ ts
-  pub runs : Runs l numbers lengths refusals values r
+  pub runs : Runs l k numbers lengths refusals values r
   pub carried : r .answer .refusal ≡ 0
 
 -- the refusal of ticket i; what the call left, with its answer to ticket i
@@ -39,17 +39,17 @@ outcomeAt r i =
 -- heal, and every row is as the list without the two leaves it
 abbrev pub RunCancels : Type 0
 RunCancels =
-    (l : Lent) (ts : List (List ℤ)) (e x y : ℤ) (r : Ran) → let g = grow (sizesOf l) ts .lent in
-    Called l (ts ++ (pos 8 ∷ e ∷ x ∷ y ∷ []) ∷ (pos 10 ∷ e ∷ g .head .«next_edge» ∷ []) ∷ []) r
+    (l : Lent) (k : ℤ) (ts : List (List ℤ)) (e x y : ℤ) (r : Ran) → let g = grow (sizesFor (limitOf k) l) ts .lent in
+    Called l k (ts ++ (pos 8 ∷ e ∷ x ∷ y ∷ []) ∷ (pos 10 ∷ e ∷ g .head .«next_edge» ∷ []) ∷ []) r
     → refusalAt r (length ts) ≡ 0
     → outcomeAt r (length ts + 1) ≡ restored g
 
 -- the list ends with kind 7 and then kind 9 on the start half and the other, and a number is left for the healed edge
 abbrev pub RunRenews : Type 0
 RunRenews =
-    (l : Lent) (ts : List (List ℤ)) (e x y : ℤ) (r : Ran) → let g = grow (sizesOf l) ts .lent in
+    (l : Lent) (k : ℤ) (ts : List (List ℤ)) (e x y : ℤ) (r : Ran) → let g = grow (sizesFor (limitOf k) l) ts .lent in
     let a = g .head .«next_edge» in
-    Called l (ts ++ (pos 7 ∷ e ∷ x ∷ y ∷ []) ∷ (pos 9 ∷ a ∷ (a +ℤ pos 1) ∷ []) ∷ []) r
+    Called l k (ts ++ (pos 7 ∷ e ∷ x ∷ y ∷ []) ∷ (pos 9 ∷ a ∷ (a +ℤ pos 1) ∷ []) ∷ []) r
     → refusalAt r (length ts) ≡ 0
     → let h = mapOf g .next .edges + 2 in h ≤ lastNumber
     → outcomeAt r (length ts + 1) ≡ renewed (natAbs e) h g

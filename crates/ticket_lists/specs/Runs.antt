@@ -1,14 +1,16 @@
 -- A whole list of tickets in one call: what it leaves and answers.
 use mathlib.Core.Path.{_≡_}
-use mathlib.Core.Bool.{not, _||_}
+use mathlib.Core.Bool.{_||_}
 use mathlib.Core.List.{List, [], _∷_, _++_, map}
 use Prim.Native.Nat.{ℕ, zero, suc}
 use lib.Dec.{ltb}
 use lib.IntN.{ℤ, pos}
 use lib.ListN.{length, take, drop}
 use Rattle.map.specs.declared.Answer.{Answer}
-use Rattle.map.specs.Rows.{Lent, sizesOf, whole}
+use Rattle.map.specs.Limits.{limitOf}
+use Rattle.map.specs.Rows.{Lent, sizesFor}
 use Rattle.map.specs.Reasons.{firstReason}
+use Rattle.map.specs.Ticket.{createReasons}
 use Rattle.map.specs.Grow.{Grown, grow}
 use Rattle.grown.specs.Claims.{GrownMap}
 
@@ -41,14 +43,16 @@ ranUnless l refusals values g zero =
 ranUnless l refusals values g (suc r) =
     record { lent = l; refusals = refusals; values = values; answer = record { refusal = suc r; value = pos 0 } }
 
--- the tickets from the empty map on, in tables of these sizes: 1 the tables are not whole, 20 the answers would not fit
-unfoldable pub ran : Lent → List ℤ → List ℕ → List ℕ → List ℤ → Ran
-ran l numbers lengths refusals values =
+-- the tickets from the empty map for k points on, in tables of these sizes: 1 the tables are not whole, 2 k is neither
+-- 6 nor 12, 20 the answers would not fit
+unfoldable pub ran : Lent → ℤ → List ℤ → List ℕ → List ℕ → List ℤ → Ran
+ran l k numbers lengths refusals values =
     let n = length lengths in
-    ranUnless l refusals values (grow (sizesOf l) (ticketsOf numbers lengths))
-    (firstReason ((1, not (whole l)) ∷ (20, ltb (length refusals) n || ltb (length values) n) ∷ []))
+    ranUnless l refusals values (grow (sizesFor (limitOf k) l) (ticketsOf numbers lengths))
+    (firstReason (createReasons l k ++ (20, ltb (length refusals) n || ltb (length values) n) ∷ []))
 
 -- demand 3: the call gives what the definitions give from the sizes and the tickets alone, and that is a grown map
-pub record Runs (l : Lent) (numbers : List ℤ) (lengths refusals : List ℕ) (values : List ℤ) (r : Ran) : Type 0 where
-  pub gives : r ≡ ran l numbers lengths refusals values
+pub record Runs (l : Lent) (k : ℤ) (numbers : List ℤ) (lengths refusals : List ℕ) (values : List ℤ) (r : Ran) :
+    Type 0 where
+  pub gives : r ≡ ran l k numbers lengths refusals values
   pub grown : r .answer .refusal ≡ 0 → GrownMap (r .lent)

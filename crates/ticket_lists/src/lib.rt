@@ -48,19 +48,20 @@ fn run_tickets(
     head
 }
 
-// A list of tickets from the empty map on. `numbers` has the tickets one after the other, and `lengths` how many
-// numbers each has.
+// A list of tickets from the empty map on, which is created for curves of at most so many points, 6 or 12. `numbers`
+// has the tickets one after the other, and `lengths` how many numbers each has.
 pub fn run(
     nodes: &mut [i64],
     edges: &mut [i64],
     faces: &mut [i64],
     h: Head,
+    points: i64,
     numbers: &[i64],
     lengths: &[usize],
     refusals: &mut [u64],
     values: &mut [i64],
 ) -> Done
-    ensures { λ r. ⌜ Runs (lentNow (nodes .entry) (edges .entry) (faces .entry) h)
+    ensures { λ r. ⌜ Runs (lentNow (nodes .entry) (edges .entry) (faces .entry) h) points
         (now (numbers .entry)) (now (lengths .entry)) (now (refusals .entry)) (now (values .entry))
         (record {
           lent = lentNow (nodes .exit) (edges .exit) (faces .exit) (r .head);
@@ -72,11 +73,14 @@ pub fn run(
     if !form_ranges::is_whole(nodes, edges, faces) {
         return outcomes::refused(h, 1);
     }
+    if !head::is_record(points) {
+        return outcomes::refused(h, 2);
+    }
     let n = lengths.len();
     if (refusals.len() < n) | (values.len() < n) {
         return outcomes::refused(h, 20);
     }
-    let empty = engine::empty_map(nodes, edges, faces, h);
+    let empty = engine::empty_map(nodes, edges, faces, h, points);
     let after = run_tickets(
         nodes,
         edges,

@@ -13,13 +13,13 @@ use Rattle.curves.proofs.is_run.Statement.{statement}
 use Rattle.curves.proofs.is_run.Tie as tie
 
 abbrev Inv-loop : tie.InvT-loop
-Inv-loop c n i₀ i-end i = (i ≤ length c) × (allOf coordinate (drop i c) ≡ allOf coordinate c)
+Inv-loop c most n i₀ i-end i = (i ≤ length c) × (allOf coordinate (drop i c) ≡ allOf coordinate c)
 
 abbrev μ-loop : tie.MeasureT-loop
-μ-loop c n i₀ i-end i = length c - i
+μ-loop c most n i₀ i-end i = length c - i
 
 returns : tie.Need-returns Inv-loop μ-loop
-returns c = sym (not-few (c .before .before .args .c .now) (rw (c .before .point-count .ensures) at (c .if1 .taken)))
+returns c = sym (not-few _ (c .before .before .args .c .now) (rw (c .before .point-count .ensures) at (c .if1 .taken)))
 
 hit : tie.Need-returns-2 Inv-loop μ-loop
 hit c =
@@ -29,7 +29,7 @@ hit c =
     sym (ap (λ t. t && allOf coordinate (drop (i + 1) l)) e)
     ∙ sym (all-drop coordinate l i (pos 0) (c .before .before .loop-test .taken))
     ∙ c .before .before .before .loop .inv .1
-    ∙ sym (if-few l (rw (c .before .before .before .before .before .point-count .ensures) at
+    ∙ sym (if-few _ l (rw (c .before .before .before .before .before .point-count .ensures) at
     (c .before .before .before .before .if1 .left)))
 
 again : tie.Need-loop-again Inv-loop μ-loop
@@ -47,7 +47,7 @@ end : tie.Need-returns-3 Inv-loop μ-loop
 end c =
     let l = c .before .before .before .before .args .c .now in
     sym (ap (allOf coordinate) (drop-of-length-le l (c .loop-test .left))) ∙ c .before .loop .inv .1
-    ∙ sym (if-few l (rw (c .before .before .before .point-count .ensures) at (c .before .before .if1 .left)))
+    ∙ sym (if-few _ l (rw (c .before .before .before .point-count .ensures) at (c .before .before .if1 .left)))
 
 pub is-run-spec : {M : Type 1} → statement M
 is-run-spec =

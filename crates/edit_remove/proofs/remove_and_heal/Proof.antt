@@ -76,8 +76,8 @@ healed : (g : tie.After-heal-faces)
     let m = mapOf (lent (a .nodes .now) (a .edges .now) (a .faces .now) (a .h)) in
     let row = edgeAt (a .edges .now) (a .i) in
     let l = g .heal-faces .last in
-    TablesOf (rectangle (m .edges)) (a .nodes .now) (a .edges .now) (a .faces .now) (mergedSides (a .makes) row m)
-    (l .0) (l .1 .0) (l .1 .1 .0) (g .heal-faces .result .head)
+    TablesOf (rectangle (m .edges)) (a .nodes .now) (a .edges .now) (a .faces .now) (a .h)
+    (mergedSides (a .makes) row m) (l .0) (l .1 .0) (l .1 .1 .0) (g .heal-faces .result .head)
     × (g .heal-faces .result .answer .value ≡ pos (faceKept (a .makes) row m))
 healed g =
     let t = g .before .before .before .before in

@@ -11,7 +11,8 @@ use mir.Syntax.{w64}
 use mir.Val.{toZ, ofZ}
 use mir.Facts.{toZ-pos}
 use Rattle.lists.proofs.Bools.{eq3}
-use Rattle.map.specs.Rows.{Sizes}
+use Rattle.map.specs.declared.Counts.{Counts}
+use Rattle.map.specs.Limits.{isRecord}
 use Rattle.tables.specs.Tables.{within}
 use Rattle.form_ranges.proofs.head_fits.Statement.{statement}
 use Rattle.form_ranges.proofs.head_fits.Tie as tie
@@ -25,34 +26,44 @@ counted : (a n : ℕ) {k : ℕ} (x : ℤ) {z : ℤ} {r : Bool} → r ≡ leZ (po
     → n ≡ k → r ≡ within a k z
 counted a n x e f h g = e ∙ ap (λ (y : ℤ). leZ (pos a) x && leZ x y) (toZ-pos w64 h) ∙ ap₂ (within a) g f
 
+-- the seven numbers, read back from their bits
+abbrev Back : ℤ → Type 0
+Back z = toZ w64 (ofZ w64 z) ≡ z
+
+read : (s : tie.Start) → Back (s .args .h .nodes) × Back (s .args .h .edges) × Back (s .args .h .faces)
+    × Back (s .args .h .«next_node») × Back (s .args .h .«next_edge») × Back (s .args .h .«next_face»)
+    × Back (s .args .h .points)
+read s = (search needs, search needs, search needs, search needs, search needs, search needs, search needs)
+
 returns : tie.Need-returns
 returns c l q =
-    let a = c .before .before .before .before .before .before .before .before .before .before .before .before .args in
-    let p = c .before .before .before .before .before .before .before .before .before .before .before .before .pre in
-    let h = a .h in
-    let e₁ : toZ w64 (ofZ w64 (h .nodes)) ≡ h .nodes = search needs in
-    let e₂ : toZ w64 (ofZ w64 (h .edges)) ≡ h .edges = search needs in
-    let e₃ : toZ w64 (ofZ w64 (h .faces)) ≡ h .faces = search needs in
-    let e₄ : toZ w64 (ofZ w64 (h .«next_node»)) ≡ h .«next_node» = search needs in
-    let e₅ : toZ w64 (ofZ w64 (h .«next_edge»)) ≡ h .«next_edge» = search needs in
-    let e₆ : toZ w64 (ofZ w64 (h .«next_face»)) ≡ h .«next_face» = search needs in
+    let w₆ = c .before .before in
+    let w₅ = w₆ .before .before in
+    let w₄ = w₅ .before .before in
+    let w₃ = w₄ .before .before in
+    let w₂ = w₃ .before .before in
+    let w₁ = w₂ .before .before in
+    let start = w₁ .before .before in
+    let a = start .args in
+    let p = start .pre in
+    let e = read start in
     ap₂ _&&_
     (ap₂ _&&_
     (ap₂ _&&_
-    (counted 0 (a .nodes) _
-    (c .before .before .before .before .before .before .before .before .before .before .within .ensures) e₁
-    (lt-of-le-of-lt (p .0) (lit< tt)) (sym (ap (λ (s : Sizes). s .nodes) q)))
-    (counted 0 (a .edges) _ (c .before .before .before .before .before .before .before .before .within2 .ensures) e₂
-    (lt-of-le-of-lt (p .1) (lit< tt)) (sym (ap (λ (s : Sizes). s .edges) q))))
-    (counted 1 (a .faces) _ (c .before .before .before .before .before .before .within3 .ensures) e₃
-    (lt-of-le-of-lt (p .2) (lit< tt)) (sym (ap (λ (s : Sizes). s .faces) q))))
-    (listed (c .before .before .before .before .within4 .result) (c .before .before .within5 .result)
-    (c .within6 .result)
-    ∙ ap₂ _&&_ (c .before .before .before .before .within4 .ensures ∙ ap (within 1 1000000) e₄)
-    (ap₂ _&&_ (c .before .before .within5 .ensures ∙ ap (within 1 1000000) e₅)
-    (ap (λ (t : Bool). t && true) (c .within6 .ensures ∙ ap (within 1 1000000) e₆))))
+    (ap₂ _&&_
+    (counted 0 (a .nodes) _ (w₁ .within .ensures) (e .0)
+    (lt-of-le-of-lt (p .0) (lit< tt)) (sym (ap (λ (s : Counts). s .nodes) q)))
+    (counted 0 (a .edges) _ (w₂ .within2 .ensures) (e .1)
+    (lt-of-le-of-lt (p .1) (lit< tt)) (sym (ap (λ (s : Counts). s .edges) q))))
+    (counted 1 (a .faces) _ (w₃ .within3 .ensures) (e .2)
+    (lt-of-le-of-lt (p .2) (lit< tt)) (sym (ap (λ (s : Counts). s .faces) q))))
+    (listed (w₄ .within4 .result) (w₅ .within5 .result) (w₆ .within6 .result)
+    ∙ ap₂ _&&_ (w₄ .within4 .ensures ∙ ap (within 1 1000000) (e .3))
+    (ap₂ _&&_ (w₅ .within5 .ensures ∙ ap (within 1 1000000) (e .4))
+    (ap (λ (t : Bool). t && true) (w₆ .within6 .ensures ∙ ap (within 1 1000000) (e .5))))))
+    (c .is-record .ensures ∙ ap isRecord (e .6))
 
 pub head-fits-spec : {M : Type 1} → statement M
 head-fits-spec = tie.close (tie.spec (λ c. search needs) (λ c κs. search needs) (λ c. search needs)
     (λ c κs. search needs) (λ c. search needs) (λ c κs. search needs) (λ c κs. search needs) (λ c κs. search needs)
-    (λ c κs. search needs) returns)
+    (λ c κs. search needs) (λ c κs. search needs) returns)

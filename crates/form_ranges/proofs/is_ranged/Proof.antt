@@ -1,11 +1,15 @@
 -- `form_ranges::is_ranged` meets its contract. Assumes nothing.
 use borrow.Author.Needs.{needs}
 use borrow.Author.Tests.{not-true, not-false}
-use mathlib.Core.Path.{_≡_, sym, _∙_}
+use mathlib.Core.Path.{_≡_, sym, ap, _∙_}
 use mathlib.Core.Bool.{Bool, true, false, _&&_}
+use lib.IntN.{ℤ}
+use mir.Syntax.{w64}
+use mir.Facts.{toZ-ofZ}
 use Rattle.lists.specs.Scans.{allOf}
 use Rattle.tables.specs.Tables.{rows}
-use Rattle.map.specs.Form.{nodeRanges, edgeRanges, faceRanges}
+use Rattle.map.specs.Limits.{mostPoints, limitOf}
+use Rattle.map.specs.Form.{nodeRanges, edgeRangesTo, faceRanges}
 use Rattle.form_ranges.proofs.is_ranged.Statement.{statement}
 use Rattle.form_ranges.proofs.is_ranged.Tie as tie
 
@@ -27,18 +31,25 @@ returns c =
     (c .before .before .before .rest-zero2 .ensures)
     (c .before .rest-zero3 .ensures) (not-true _ (c .if1 .taken))
     (allOf nodeRanges (rows 4 (a .c .nodes) (a .nodes .now)))
-    (allOf edgeRanges (rows 32 (a .c .edges) (a .edges .now))) (allOf faceRanges (rows 5 (a .c .faces) (a .faces .now)))
+    (allOf (edgeRangesTo (mostPoints (limitOf (a .points)))) (rows 32 (a .c .edges) (a .edges .now)))
+    (allOf faceRanges (rows 5 (a .c .faces) (a .faces .now)))
 
 returns-2 : tie.Need-returns-2
 returns-2 c =
-    let a = c .before .before .before .before .before .before .before .before .before .before .args in
+    let s = c .before .before .before .before .before .before .before .before .before .before in
+    let a = s .args in
     rest-of (c .before .before .before .before .before .before .before .before .rest-zero .ensures)
     (c .before .before .before .before .before .before .rest-zero2 .ensures)
     (c .before .before .before .before .rest-zero3 .ensures)
     (not-false _ (c .before .before .before .if1 .left))
     (allOf nodeRanges (rows 4 (a .c .nodes) (a .nodes .now)))
-    (allOf edgeRanges (rows 32 (a .c .edges) (a .edges .now))) (allOf faceRanges (rows 5 (a .c .faces) (a .faces .now)))
-    (c .before .before .nodes-ranged .ensures) (c .before .edges-ranged .ensures) (c .faces-ranged .ensures)
+    (allOf (edgeRangesTo (mostPoints (limitOf (a .points)))) (rows 32 (a .c .edges) (a .edges .now)))
+    (allOf faceRanges (rows 5 (a .c .faces) (a .faces .now)))
+    (c .before .before .nodes-ranged .ensures)
+    (c .before .edges-ranged .ensures
+    ∙ ap (λ (z : ℤ). allOf (edgeRangesTo (mostPoints (limitOf z))) (rows 32 (a .c .edges) (a .edges .now)))
+    (toZ-ofZ {w = w64} (s .fits .points)))
+    (c .faces-ranged .ensures)
 
 pub is-ranged-spec : {M : Type 1} → statement M
 is-ranged-spec =

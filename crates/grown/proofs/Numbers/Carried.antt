@@ -35,13 +35,13 @@ use Rattle.grown.proofs.Numbers.Sizes.{add-edge-taken, remove-edge-take
 record NumbersKept (s : Sizes) (m m′ : Map) : Type 0 where
   ranked : RankedMap m′
   limited : NextLimited m′
-  fits : Fits s m → Fits s m′
+  room : Fits s m → Room s m′ 0 0 0
 
 module _ {m m′ : Map} {a b c x y z : ℕ} (t : Taken m m′ a b c x y z) where
   limits : Supply m x y z → NextLimited m′
   limits p = rw (t .next) (record { node = p .nodes; edge = p .edges; face = p .faces })
 
-  fit : {s : Sizes} → Room s m a b c → Fits s m′
+  fit : {s : Sizes} → Room s m a b c → Room s m′ 0 0 0
   fit p =
       let e = length-map (m .edges) outlineOf in
       let e′ = length-map (m′ .edges) outlineOf in
@@ -53,7 +53,7 @@ module _ {m m′ : Map} {a b c x y z : ℕ} (t : Taken m m′ a b c x y z) where
 
 keeps : {s : Sizes} {m m′ : Map} {a b c x y z : ℕ} → RankedMap m′ → Taken m m′ a b c x y z → Supply m x y z
     → (Fits s m → Room s m a b c) → NumbersKept s m m′
-keeps r t p q = record { ranked = r; limited = limits t p; fits = λ f. fit t (q f) }
+keeps r t p q = record { ranked = r; limited = limits t p; room = λ f. fit t (q f) }
 
 -- nothing more is taken
 no-more : {s : Sizes} {m : Map} → Fits s m → Room s m 0 0 0
@@ -136,5 +136,5 @@ module _ (s : Sizes) (m : Map) (g : Good m) where
   numbered-kept t h w = ranked-numbered (carried m t .0) w (kept t h .ranked) (kept t h .limited)
 
   -- the rows fit the tables
-  pub fits-kept : (t : Ticket) → firstReason (reasons s m t) ≡ 0 → Fits s m → Fits s (carried m t .0)
-  fits-kept t h = kept t h .fits
+  pub room-kept : (t : Ticket) → firstReason (reasons s m t) ≡ 0 → Fits s m → Room s (carried m t .0) 0 0 0
+  room-kept t h = kept t h .room

@@ -34,22 +34,23 @@ faces c κs =
 returns : tie.Need-returns
 unfolding changedHead
 returns c =
-    let h = c .before .before .before .before .before .before .before .before .before .before .before .before .args
-    .h in
-    let g = c .before .before .before .before .before .before .before .before .before .before .before .before .args
-    .given in
+    let h = c .before .before .before .before .before .before .before .before .before .before .before .before .before
+    .args .h in
+    let g = c .before .before .before .before .before .before .before .before .before .before .before .before .before
+    .args .given in
     let n : toZ w64 (ofZ w64 (h .nodes)) ≡ h .nodes = search needs in
     let e : toZ w64 (ofZ w64 (h .edges)) ≡ h .edges = search needs in
     let f : toZ w64 (ofZ w64 (h .faces)) ≡ h .faces = search needs in
     let i : toZ w64 (ofZ w64 (h .«next_node»)) ≡ h .«next_node» = search needs in
     let j : toZ w64 (ofZ w64 (h .«next_edge»)) ≡ h .«next_edge» = search needs in
     let k : toZ w64 (ofZ w64 (h .«next_face»)) ≡ h .«next_face» = search needs in
-    let a = c .before .before .before .before .before .before .before .before .before .before .shifted in
-    let b = c .before .before .before .before .before .before .before .before .shifted2 in
-    let d = c .before .before .before .before .before .before .shifted3 in
-    let p = c .before .before .before .before .shifted4 in
-    let q = c .before .before .shifted5 in
-    let r = c .shifted6 in
+    let l : toZ w64 (ofZ w64 (h .points)) ≡ h .points = search needs in
+    let a = c .before .before .before .before .before .before .before .before .before .before .before .shifted in
+    let b = c .before .before .before .before .before .before .before .before .before .shifted2 in
+    let d = c .before .before .before .before .before .before .before .shifted3 in
+    let p = c .before .before .before .before .before .shifted4 in
+    let q = c .before .before .before .shifted5 in
+    let r = c .before .shifted6 in
     rw (
       sent (a .ok) ∙ a .ensures,
       sent (b .ok) ∙ b .ensures,
@@ -63,6 +64,7 @@ returns c =
       i,
       j,
       k,
+      l,
       sub-zero (natAbs (h .«next_node») + g .nodes),
       sub-zero (natAbs (h .«next_edge») + g .edges),
       sub-zero (natAbs (h .«next_face») + g .faces),

@@ -3,6 +3,7 @@ use borrow.Author.Needs.{needs}
 use borrow.Author.Tests.{not-false}
 use mathlib.Core.Path.{sym, _∙_}
 use Rattle.map.specs.Reasons.{firstReason}
+use Rattle.curves.proofs.Runs.{run-wider}
 use Rattle.reason_curves.proofs.read_curve.Statement.{statement}
 use Rattle.reason_curves.proofs.read_curve.Tie as tie
 
@@ -36,9 +37,16 @@ read-curve-spec =
     (tie.spec
     (λ c κs. search needs) (λ c κs. search needs)
     returns
-    (λ c κs. record { is = sym (c .before .is-run .ensures) ∙ not-false (c .before .is-run .result) (c .if1 .left) })
+    (λ c κs. record {
+      is = run-wider (c .before .before .pre) (c .before .before .args .sent .now)
+          (sym (c .before .is-run .ensures) ∙ not-false (c .before .is-run .result) (c .if1 .left));
+    })
     (λ c κs. search needs)
     returns-2
     (λ c κs. let r = c .before .before .before .is-run in
-    record { is = sym (r .ensures) ∙ not-false (r .result) (c .before .before .if1 .left) })
+    record {
+      is = run-wider (c .before .before .before .before .pre)
+          (c .before .before .before .before .args .sent .now)
+          (sym (r .ensures) ∙ not-false (r .result) (c .before .before .if1 .left));
+    })
     returns-3)

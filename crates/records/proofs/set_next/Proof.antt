@@ -51,7 +51,7 @@ use Rattle.head.proofs.with_next as g
 use Rattle.head.proofs.with_next.Symbol as g-def
 use Rattle.head.proofs.with_next.Symbol.{name as #g}
 use Rattle.head.proofs.with_next.Met as g-thm
-use Rattle.records.proofs.Heads.{opens-head, closes-head, frees-local}
+use Rattle.records.proofs.Heads.{word, opens-head, closes-head, frees-local}
 use Rattle.records.proofs.set_next.Key.{name as #f}
 use Rattle.records.proofs.set_next as f
 use Rattle.records.proofs.set_next.Statement as stated
@@ -70,10 +70,6 @@ stayed = (
 abbrev G : {M : Type 1} (𝓤 : URA M) (H : Heap 𝓤) (A : Atoms 𝓤) (mem : Memory → SProp 𝓤) (run : Routine → Fun 𝓤)
     → Contract 𝓤
 G 𝓤 H A mem run = tripleOf 𝓤 H A g.signature (g.spec 𝓤 H A mem run)
-
--- a number's machine value
-abbrev word : ℤ → List Val
-word z = vint w64 (ofZ w64 z) ∷ []
 
 module _ {M : Type 1} (𝓤 : URA M) (H : Heap 𝓤) (A : Atoms 𝓤) (W : Given 𝓤 H A) (mem : Memory → SProp 𝓤)
     (run : Routine → Fun 𝓤) (κ : Lft) (q : Share) (b o : ℕ) (γ : GName) (h : Head) (n e s : ℤ)

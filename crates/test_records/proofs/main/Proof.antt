@@ -134,12 +134,16 @@ fresh = record {
   «next_node» = pos 1;
   «next_edge» = pos 1;
   «next_face» = pos 1;
+  points = pos 6;
 }
 
 is-fresh : Is Q fresh (S′.lowered fresh ∷ [])
 is-fresh = LL.owes S.the-type S′.the-laws fresh (
   (refl, lit< tt),
-  ((refl, lit< tt), ((refl, lit< tt), ((refl, lit< tt), ((refl, lit< tt), ((refl, lit< tt), tt))))),
+  (
+    (refl, lit< tt),
+    ((refl, lit< tt), ((refl, lit< tt), ((refl, lit< tt), ((refl, lit< tt), ((refl, lit< tt), tt))))),
+  ),
 )
 
 -- the ticket
@@ -214,16 +218,17 @@ module _ {M : Type 1} (𝓤 : URA M) (H : Heap 𝓤) (A : Atoms 𝓤) (W : Given
         refl (typed-nodes 𝓤 H A W)) $ assigns ! (rep ! 64 (lit ! tt)) (from ! (stop !)) (init ! 1 refl (typed-zeros 𝓤
         H A W 64)) $ assigns ! (rep ! 15 (lit ! tt)) (from ! (stop !)) (init ! 2 refl (typed-zeros 𝓤 H A W 15)) $
         assigns ! (agg ! (and-then ! (lit ! tt) (and-then ! (lit ! tt) (and-then ! (lit ! tt) (and-then ! (lit ! tt)
-        (and-then ! (lit ! tt) (and-then ! (lit ! tt) (no-more !)))))))) (from ! (stop !)) (init ! 6 refl (LL.lawful
-        S.the-type S′.the-laws 𝓤 H A W .typed fresh _ is-fresh .0)) $ assigns ! (of-opd ! (load ! (from ! (stop !))
-        (look ! 6 refl))) (from ! (stop !)) (init ! 3 refl (LL.lawful S.the-type S′.the-laws 𝓤 H A W .typed fresh _
-        is-fresh .0)) $ assigns ! (agg ! (and-then ! (lit ! tt) (and-then ! (neg-lit ! tt) (and-then ! (lit ! tt)
-        (and-then ! (lit ! tt) (no-more !)))))) (from ! (stop !)) (init ! 4 refl (typed-order 𝓤 H A W)) $ rows-in ! R
-        tt (LL.makes T.the-type T′.the-plain 𝓤 H A) 3 (replicate 3 none) _ l₁ is-nodes $ move ! (1 ∷ []) $ rows-in !
-        i64 tt (sint-makes 𝓤 H A W w64) 64 (zeros 64) _ l₂ (is-zeros 64) $ move ! (2 ∷ []) $ rows-in ! i64 tt
-        (sint-makes 𝓤 H A W w64) 15 (zeros 15) _ l₃ (is-zeros 15) $ move ! (3 ∷ []) $ one-in ! Q S′.mir refl (LL.makes
-        S.the-type S′.the-plain 𝓤 H A) fresh _ l₄ is-fresh $ move ! (4 ∷ []) $ rows-in ! i64 tt (sint-makes 𝓤 H A W
-        w64) 4 order _ l₅ is-order $ forget ! 5 refl $ forget ! 6 refl $ move ! (4 ∷ 3 ∷ 2 ∷ 1 ∷ 0 ∷ 5 ∷ 6 ∷ []) $ k
+        (and-then ! (lit ! tt) (and-then ! (lit ! tt) (and-then ! (lit ! tt) (no-more !))))))))) (from ! (stop !)) (init
+        ! 6 refl (LL.lawful S.the-type S′.the-laws 𝓤 H A W .typed fresh _ is-fresh .0)) $ assigns ! (of-opd ! (load
+        ! (from ! (stop !)) (look ! 6 refl))) (from ! (stop !)) (init ! 3 refl (LL.lawful S.the-type S′.the-laws
+        𝓤 H A W .typed fresh _ is-fresh .0)) $ assigns ! (agg ! (and-then ! (lit ! tt) (and-then ! (neg-lit ! tt)
+        (and-then ! (lit ! tt) (and-then ! (lit ! tt) (no-more !)))))) (from ! (stop !)) (init ! 4 refl (typed-order 𝓤
+        H A W)) $ rows-in ! R tt (LL.makes T.the-type T′.the-plain 𝓤 H A) 3 (replicate 3 none) _ l₁ is-nodes $ move !
+        (1 ∷ []) $ rows-in ! i64 tt (sint-makes 𝓤 H A W w64) 64 (zeros 64) _ l₂ (is-zeros 64) $ move !
+        (2 ∷ []) $ rows-in ! i64 tt (sint-makes 𝓤 H A W w64) 15 (zeros 15) _ l₃ (is-zeros 15) $ move !
+        (3 ∷ []) $ one-in ! Q S′.mir refl (LL.makes S.the-type S′.the-plain 𝓤 H A) fresh _ l₄ is-fresh $ move !
+        (4 ∷ []) $ rows-in ! i64 tt (sint-makes 𝓤 H A W w64) 4 order _ l₅ is-order $ forget ! 5 refl $ forget !
+        6 refl $ move ! (4 ∷ 3 ∷ 2 ∷ 1 ∷ 0 ∷ 5 ∷ 6 ∷ []) $ k
 
     -- a node is added
     abbrev rooms-adds-one : List (Item 𝓤) → List (Item 𝓤)
