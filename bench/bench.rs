@@ -1,11 +1,12 @@
-//! Microseconds a ticket, by kind and size, and for the edges of a face, beside one bare pass over the rows in use in
-//! the same run.
+//! Microseconds a ticket, by kind and size, for the edges of a face and for the contents, beside one bare pass over the
+//! rows in use in the same run.
 //!
 //! A sheet is a grid of plots with wells (isolated nodes), islands (isolated edges), boundaries across some plots and
 //! ditches split at a sluice. Each ticket is timed alone on a fresh copy of the sheet's tables, at many places of the
 //! sheet, once as it is carried out and once as it is turned down: the least of some calls at each place, then the
 //! median over the places. The bare pass adds up every number of the rows in use; beside it stands the time of one that
-//! compares each with a bound. Prints tables, and adds the times to the CSV file given.
+//! compares each with a bound. Contents are turned down with 28 on the same rows with a face more, which nothing bears.
+//! Prints tables, and adds the times to the CSV file given.
 //!
 //! Kind 6 is also timed at the plots with wells and at those with islands: a side led short of them, and past them. The
 //! second is turned down with 22; a library of before landing 13 carries it out, and is timed as it does.
@@ -251,12 +252,39 @@ fn face_time(map: &Map, face: i64, listed: bool) -> f64 {
     })
 }
 
+/// The least time of the contents; they must be listed or not as told.
+fn contents_time(map: &Map, listed: bool) -> f64 {
+    least(|| {
+        let mut answer = Ok(vec![]);
+        let time = micros(|| answer = black_box(map).contents());
+        assert_eq!(answer.is_ok(), listed, "contents: {answer:?}");
+        time
+    })
+}
+
+/// The map with a face more, which nothing bears.
+fn with_bare_face(map: &Map) -> Map {
+    let mut more = map.clone();
+    more.faces[map.head[2] as usize * FACE_WIDTH] = map.head[5];
+    more.head[2] += 1;
+    more.head[5] += 1;
+    more
+}
+
+/// The contents, listed and turned down.
+fn contents_times(map: &Map) -> [f64; 2] {
+    let bare = with_bare_face(map);
+    [(map, true), (&bare, false)]
+        .map(|(map, listed)| median((0..PLACES).map(|_| contents_time(map, listed)).collect()))
+}
+
 struct Times {
     rows: [i64; 3],
     pass: f64,
     tested: f64,
     listed: f64,
     unlisted: f64,
+    contents: [f64; 2],
     carried: [f64; KINDS],
     refused: [f64; KINDS],
     beside: [[f64; 2]; BESIDE.len()],
@@ -284,8 +312,9 @@ fn measure(map: &Map, plots: &[Plot]) -> Times {
     let face = |i: usize| map.faces[i * 13 % map.head[2] as usize * FACE_WIDTH];
     let listed = median((0..PLACES).map(|i| face_time(map, face(i), true)).collect());
     let unlisted = median((0..PLACES).map(|_| face_time(map, 999_999, false)).collect());
+    let contents = contents_times(map);
     let rows = [map.head[0], map.head[1], map.head[2]];
-    Times { rows, pass: median(passes), tested: median(tests), listed, unlisted, carried, refused, beside }
+    Times { rows, pass: median(passes), tested: median(tests), listed, unlisted, contents, carried, refused, beside }
 }
 
 /// Kind 6 at the plots that have something: short of it, and past it.
@@ -320,6 +349,7 @@ fn report(title: &str, all: &[Times]) {
         line(&(kind + 1).to_string(), all, |t| format!("{:.1} / {:.1}", t.carried[kind], t.refused[kind]));
     }
     line("edges of a face, us", all, |t| format!("{:.1} / {:.1}", t.listed, t.unlisted));
+    line("contents, us", all, |t| format!("{:.1} / {:.1}", t.contents[0], t.contents[1]));
     for (i, (name, _)) in BESIDE.iter().enumerate() {
         line(&format!("{name}, us"), all, |t| format!("{:.1} / {:.1}", t.beside[i][0], t.beside[i][1]));
     }
@@ -345,6 +375,7 @@ fn rows(setting: &str, all: &[Times]) -> String {
             writeln!(out, "Solgwid,{setting},{},{edges},{carried:.2},{refused:.2}", kind + 1).unwrap();
         }
         writeln!(out, "Solgwid,{setting},edges of a face,{edges},{:.2},{:.2}", t.listed, t.unlisted).unwrap();
+        writeln!(out, "Solgwid,{setting},contents,{edges},{:.2},{:.2}", t.contents[0], t.contents[1]).unwrap();
         for ((name, _), [short, past]) in BESIDE.iter().zip(t.beside) {
             writeln!(out, "Solgwid,{setting},{name},{edges},{short:.2},{past:.2}").unwrap();
         }

@@ -11,7 +11,7 @@ as built: where the linker happens to put one moved the time of a ticket by a te
 objcopy; about six seconds a run.
 A redrawing past wells or an island is turned down with 22, and carried out by a library of before landing 13: there
 the ratio is that of a refusal to an edit. A library of before landing 14 gets face rows of one number, and one of
-before landing 17 a head of six numbers and no record of points.
+before landing 17 a head of six numbers and no record of points. The contents, which landing 18 added, are not compared.
 """
 
 import csv
@@ -26,6 +26,7 @@ ROOT = pathlib.Path(__file__).resolve().parent.parent
 BENCH, WRAPPER = 'bench/bench.rs', 'include/solgwid.rs'
 FACE_WIDTH, HEAD_WIDTH = 'FACE_WIDTH: usize = {};', 'HEAD_WIDTH: usize = {};'
 RECORD = ' points: i64,', ' points as i64,'    # declared and handed over; not in a library whose head has six numbers
+CONTENTS = 'let contents = {};', 'contents_times(map)', '[0.0; 2]'    # not asked of either library
 NEW_FACES = {'11', '12'}                       # kinds that walk rings, as 6 does
 LISTED, PASS = 'edges of a face', 'bare pass'
 BESIDE = ('6 beside wells', '6 beside an island')
@@ -58,7 +59,8 @@ def adapted(text, face, head):
         text = text.replace(line.format(new), line.format(width))
     for words in RECORD if head == 6 else ():
         text = text.replace(words, '')
-    return text
+    line, asked, none = CONTENTS
+    return text.replace(line.format(asked), line.format(none))
 
 
 def build(library, folder, as_built):

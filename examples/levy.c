@@ -1,5 +1,5 @@
-/* Friday's levy: a week of tickets in one call, then a walk round every plot. At last a screen's question: which plots
-   may have a point in a window?
+/* Friday's levy: a week of tickets in one call, then a walk round every plot. Then a screen's question: which plots may
+   have a point in a window? At last an office's: what lies in what?
 
        rt staticlib solgwid && cc -Iinclude examples/levy.c target/staticlib/libsolgwid.a -o levy
        ./levy < examples/meadow.txt */
@@ -56,6 +56,16 @@ static void print_window(solgwid_point least, solgwid_point greatest) {
     printf("\n");
 }
 
+/* The contents of the sheet: what is in a plot, or bounded by a piece, stands under it. */
+static void print_contents(void) {
+    static solgwid_line lines[2 * ROWS];
+    size_t line_count;
+    if (solgwid_map_contents(&map, lines, 2 * ROWS, &line_count) != SOLGWID_DONE) exit(1);
+    for (size_t i = 0; i < line_count; i++)
+        printf("%*s%s %" PRId64 "\n", (int)(2 * lines[i].depth), "", lines[i].is_piece ? "piece" : "face",
+               lines[i].number);
+}
+
 int main(void) {
     const solgwid_point least = {12, 7}, greatest = {23, 12};
     char line[LINE + 2];
@@ -70,5 +80,6 @@ int main(void) {
             printf("ticket %zu: refused, %" PRIu64 ": %s\n", i + 1, refusals[i], solgwid_refusal_text(refusals[i]));
     for (int64_t i = 0; i < map.head.face_count; i++) print_face(faces[i].number);
     print_window(least, greatest);
+    print_contents();
     return 0;
 }

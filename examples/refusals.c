@@ -1,6 +1,6 @@
 /* The refusals that the lending program causes (1, 2), full tables and short lists (20), an old map (21), a plot
-   redrawn so that its well would lie outside (22), and a ditch that lies along a boundary (23), crosses it (15) or
-   touches it (24). Nothing lent differs after any of them.
+   redrawn so that its well would lie outside (22), a ditch that lies along a boundary (23), crosses it (15) or touches
+   it (24), and a face that no contents could list (28). Nothing lent differs after any of them.
 
        rt staticlib solgwid && cc -Iinclude examples/refusals.c target/staticlib/libsolgwid.a -o refusals */
 #include <stdio.h>
@@ -16,6 +16,7 @@ static struct loan {
     solgwid_face faces[ROWS];
     solgwid_map map;
     int64_t list[4 * ROWS], value;
+    solgwid_line lines[ROWS];
 } lent, before;
 
 /* A map of one plot. Each case below spoils it, or outgrows it, in its own way. */
@@ -82,5 +83,10 @@ int main(void) {
     draw_ditch("a ditch along the boundary", along, 4);
     draw_ditch("a ditch across it", across, 3);
     draw_ditch("a ditch that touches it", touching, 3);
+    /* a face row more, which nothing bears: in form, but no list of tickets leaves it */
+    lent.faces[2].number = lent.map.head.next_face++;
+    lent.map.head.face_count++;
+    memcpy(&before, &lent, sizeof lent);
+    print_refusal("a face that nothing bears", solgwid_map_contents(&lent.map, lent.lines, ROWS, NULL));
     return 0;
 }

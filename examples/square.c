@@ -1,5 +1,5 @@
 /* The square sheet: a loop around a plot, the loop split, a boundary across the plot. Then a split taken back, a curve
-   sent with points along its straight runs, and a map for a plotting program.
+   sent with points along its straight runs, a well in the plot and what lies in what, a map for a plotting program.
 
        rt staticlib solgwid && cc -Iinclude examples/square.c target/staticlib/libsolgwid.a -o square */
 #include <inttypes.h>
@@ -27,6 +27,17 @@ static void print_edges_of_face(int64_t face) {
     printf("edges of face %" PRId64 ":", face);
     for (int64_t i = 0; i < value; i++) printf(" %" PRId64, list[i]);
     printf("\n");
+}
+
+/* What is in a plot, or bounded by a piece, stands under it. */
+static void print_contents(void) {
+    solgwid_line lines[2 * ROWS];
+    size_t line_count;
+    if (solgwid_map_contents(&map, lines, 2 * ROWS, &line_count) != SOLGWID_DONE) return;
+    for (size_t i = 0; i < line_count; i++) {
+        for (int64_t level = 0; level < lines[i].depth; level++) printf("  ");
+        printf("%s %" PRId64 "\n", lines[i].is_piece ? "piece" : "face", lines[i].number);
+    }
 }
 
 int main(void) {
@@ -61,6 +72,10 @@ int main(void) {
     refusal = solgwid_change_edge_geom(&map, 1, surveyed, 6);
     printf("surveyed: %s, 6 points sent, %" PRId64 " in the row, %s\n", solgwid_refusal_text(refusal),
            edges[0].point_count, memcmp(edges_before, edges, sizeof edges) ? "which differs" : "which is as before");
+
+    /* a well in the plot, and the contents of the sheet */
+    print_answer("well", solgwid_add_iso_node(&map, -1, 5, 5, &value));
+    print_contents();
 
     /* a map for a plotting program: a line has at most 6 points, drawn or healed */
     const solgwid_point line[] = {{0, 0}, {1, 1}, {2, 0}, {3, 1}, {4, 0}, {5, 1}, {6, 0}};

@@ -1,5 +1,5 @@
 //! The square sheet: a loop around a plot, the loop split, a boundary across the plot. Then a split taken back, a curve
-//! sent with points along its straight runs, and a map for a plotting program.
+//! sent with points along its straight runs, a well in the plot and what lies in what, a map for a plotting program.
 //!
 //!     rt staticlib solgwid && rustc --edition 2021 examples/square.rs -L target/staticlib -l static=solgwid
 
@@ -43,6 +43,12 @@ fn main() -> Result<(), Refusal> {
     let same = map.edges == before.edges;
     let how = if same { "which is as before" } else { "which differs" };
     println!("surveyed: done, 6 points sent, {} in the row, {how}", map.edges[7]);
+
+    // a well in the plot, and the contents of the sheet
+    print_answer("well", map.add_iso_node(-1, 5, 5));
+    for line in map.contents()? {
+        println!("{:1$}{2} {3}", "", 2 * line.depth, if line.is_piece { "piece" } else { "face" }, line.number);
+    }
 
     // a map for a plotting program: a line has at most 6 points, drawn or healed
     let line = [(0, 0), (1, 1), (2, 0), (3, 1), (4, 0), (5, 1), (6, 0)];

@@ -14,16 +14,18 @@
      is refusal 2 in every call that looks at a map, and at creation too. Rows have room for 12 points in either case.
    How long a list must be. The edges of a face are at most 4 numbers for each edge of the map: an edge has two
      directed edges, and each may be a ring by itself, with its length before it. So 4 * edge_count always suffices,
-     and 8,000 for any map; a shorter list may be refusal 20. A run stores a refusal and a value for each ticket; room
-     for fewer of either is refusal 20.
+     and 8,000 for any map; a shorter list may be refusal 20. The contents are one line for each face and each piece,
+     and there are no more pieces than nodes: node_count + face_count lines of 3 numbers always suffice, and 2,000 lines
+     for any map. A run stores a refusal and a value for each ticket; room for fewer of either is refusal 20.
    NULL. Of length 0, a table, `numbers`, a curve, `list`, `lengths`, `refusals` and `values` may be NULL. `head` and
      `value` may never be, nor may the map of an inline function. Where an inline function stores a value the pointer to
      it may be NULL, and the value is dropped.
    Threads. There is no state between calls, so any number of maps may be worked on at once. One map is for one thread
-     at a time; solgwid_edges_of_face only reads, so several threads may list one map together.
+     at a time; solgwid_edges_of_face and solgwid_contents only read, so several threads may list one map together.
    Stack. A call takes up to 68 KB; solgwid_empty_map takes under 1 KB. Where many edge ends leave one node into one
      quadrant, each of them takes 112 bytes more: 181 KB for 999 of them, and 517 KB for 4,000, the most that tables
-     can hold.
+     can hold. solgwid_contents takes 356 KB whatever it is lent, and more where very many lines follow one another: 537
+     KB for 1,000 wells, 777 KB for 999 plots one in the other. 1 MB is enough for any call.
    Memory. Things lent in one call must not overlap, and each is aligned as its type asks.
    Version. SOLGWID_VERSION is the number of a landing (docs/LANDINGS.md). It rises with each landing that changes what
      a call takes or does. */
@@ -39,7 +41,7 @@
 extern "C" {
 #endif
 
-#define SOLGWID_VERSION 17
+#define SOLGWID_VERSION 18
 
 /* ---- limits and widths */
 
@@ -55,6 +57,7 @@ extern "C" {
 #define SOLGWID_EDGE_WIDTH 32
 #define SOLGWID_FACE_WIDTH 5
 #define SOLGWID_HEAD_WIDTH 7
+#define SOLGWID_LINE_WIDTH 3            /* numbers of a line of the contents */
 
 /* ---- rows: each table is filled from the front in rising number order, and rows past its count are all 0 */
 
@@ -91,10 +94,18 @@ typedef struct solgwid_head {
     int64_t points;                     /* the record: how many points a curve has at most, 6 or 12 */
 } solgwid_head;
 
+/* A line of the contents. A piece is what a chain of edges connects, or a node on no edge by itself. */
+typedef struct solgwid_line {
+    int64_t depth;                      /* 0 for face 0; one more than that of the line that it stands under */
+    int64_t is_piece;                   /* 0 for a face, 1 for a piece */
+    int64_t number;                     /* of the face, or of the lowest node of the piece */
+} solgwid_line;
+
 static_assert(sizeof(solgwid_node) == SOLGWID_NODE_WIDTH * sizeof(int64_t), "a node row is 4 numbers");
 static_assert(sizeof(solgwid_edge) == SOLGWID_EDGE_WIDTH * sizeof(int64_t), "an edge row is 32 numbers");
 static_assert(sizeof(solgwid_face) == SOLGWID_FACE_WIDTH * sizeof(int64_t), "a face row is 5 numbers");
 static_assert(sizeof(solgwid_head) == SOLGWID_HEAD_WIDTH * sizeof(int64_t), "the head is 7 numbers");
+static_assert(sizeof(solgwid_line) == SOLGWID_LINE_WIDTH * sizeof(int64_t), "a line is 3 numbers");
 
 /* The three tables, each with its room in rows, and the head. solgwid_map_empty makes the empty map in it; a copy of
    this struct shares the tables. */
@@ -154,7 +165,8 @@ typedef enum solgwid_refusal {
     SOLGWID_NUMBERS_USED_UP = 21,
     SOLGWID_SIDES_CHANGE = 22,          /* after 19 and before 20 */
     SOLGWID_OVERLAPS_EDGE = 23,
-    SOLGWID_TOUCHES_EDGE = 24
+    SOLGWID_TOUCHES_EDGE = 24,
+    SOLGWID_NOT_NESTED = 28             /* contents alone, before 20; never for a map that tickets made */
 } solgwid_refusal;
 
 /* A refusal as a sentence. */
@@ -188,11 +200,12 @@ static inline const char *solgwid_refusal_text(uint64_t refusal) {
     case SOLGWID_SIDES_CHANGE: return "an isolated node or another piece would change sides, or a face turn inside out";
     case SOLGWID_OVERLAPS_EDGE: return "the curve lies along another edge for a stretch";
     case SOLGWID_TOUCHES_EDGE: return "the curve touches another edge other than at an end of both";
+    case SOLGWID_NOT_NESTED: return "the contents would list a face or a piece twice, or miss one";
     default: return "unknown refusal";
     }
 }
 
-/* ---- the four proved functions; lengths count numbers, not rows */
+/* ---- the five proved functions; lengths count numbers, not rows */
 
 /* The empty map for curves of at most `points` points, 6 or 12, whatever the tables and the head held. Refusals: 1, and
    2 where `points` is anything else. */
@@ -209,6 +222,14 @@ uint64_t solgwid_ticket(int64_t *nodes, size_t nodes_length, int64_t *edges, siz
 uint64_t solgwid_edges_of_face(const int64_t *nodes, size_t nodes_length, const int64_t *edges, size_t edges_length,
                                const int64_t *faces, size_t faces_length, const int64_t head[SOLGWID_HEAD_WIDTH],
                                int64_t face, int64_t *list, size_t list_length, int64_t *value);
+
+/* The contents of the sheet, as an indented list: a face lists the pieces in it, by lowest node number, and a piece the
+   other faces it bounds, by number; each line is followed at once by those under it. It starts at face 0. A line is
+   three numbers, as in solgwid_line. The value is the count of numbers written; the rest of the list is untouched.
+   Refusals: 1, 2, 28, 20. */
+uint64_t solgwid_contents(const int64_t *nodes, size_t nodes_length, const int64_t *edges, size_t edges_length,
+                          const int64_t *faces, size_t faces_length, const int64_t head[SOLGWID_HEAD_WIDTH],
+                          int64_t *list, size_t list_length, int64_t *value);
 
 /* A list of tickets from the empty map for `points` points on, whatever the tables and the head held: the tickets'
    numbers one after the other, and how many each has. Where the lengths ask for more numbers than there are, the last
@@ -245,6 +266,16 @@ static inline solgwid_refusal solgwid_map_edges_of_face(const solgwid_map *map, 
     int64_t dropped;
     return (solgwid_refusal)solgwid_edges_of_face(SOLGWID_TABLES(map), (const int64_t *)&map->head, face, list,
                                                   list_length, written ? written : &dropped);
+}
+
+/* `line_count` is how many lines were written, of at most `line_room`. */
+static inline solgwid_refusal solgwid_map_contents(const solgwid_map *map, solgwid_line *lines, size_t line_room,
+                                                   size_t *line_count) {
+    int64_t written;
+    uint64_t refusal = solgwid_contents(SOLGWID_TABLES(map), (const int64_t *)&map->head, (int64_t *)lines,
+                                        line_room * SOLGWID_LINE_WIDTH, &written);
+    if (line_count) *line_count = (size_t)written / SOLGWID_LINE_WIDTH;
+    return (solgwid_refusal)refusal;
 }
 
 /* `points` is the record. `refusals` and `values` have room for an answer to each ticket, so the call answers 0, 1

@@ -6,7 +6,7 @@
 use std::fmt;
 
 /// The landing (docs/LANDINGS.md). It rises with each landing that changes what a call takes or does.
-pub const VERSION: u32 = 17;
+pub const VERSION: u32 = 18;
 
 /// Rows of a table, at most.
 pub const MAX_NODES: usize = 1000;
@@ -26,6 +26,8 @@ pub const NODE_WIDTH: usize = 4;
 pub const EDGE_WIDTH: usize = 32;
 pub const FACE_WIDTH: usize = 5;
 pub const HEAD_WIDTH: usize = 7;
+/// Numbers of a line of the contents.
+pub const LINE_WIDTH: usize = 3;
 
 unsafe extern "C" {
     fn solgwid_empty_map(
@@ -40,6 +42,11 @@ unsafe extern "C" {
     fn solgwid_edges_of_face(
         nodes: *const i64, nodes_length: usize, edges: *const i64, edges_length: usize,
         faces: *const i64, faces_length: usize, head: *const [i64; HEAD_WIDTH], face: i64,
+        list: *mut i64, list_length: usize, value: *mut i64,
+    ) -> u64;
+    fn solgwid_contents(
+        nodes: *const i64, nodes_length: usize, edges: *const i64, edges_length: usize,
+        faces: *const i64, faces_length: usize, head: *const [i64; HEAD_WIDTH],
         list: *mut i64, list_length: usize, value: *mut i64,
     ) -> u64;
     fn solgwid_run(
@@ -78,12 +85,13 @@ pub enum Refusal {
     SidesChange = 22,
     OverlapsEdge = 23,
     TouchesEdge = 24,
+    NotNested = 28,
     /// A number that this file does not name: it belongs to another version of the library.
     Unknown = u64::MAX,
 }
 
 /// The refusals from 1 on, with their texts.
-const REFUSALS: [(Refusal, &str); 24] = [
+const REFUSALS: [(Refusal, &str); 25] = [
     (Refusal::NotWhole, "a table is not whole rows or exceeds a limit, or the face table is empty"),
     (Refusal::NotInForm, "the tables and the head are not in form, or the record of points is neither 6 nor 12"),
     (Refusal::BadTicket, "the kind is unknown, or its count of numbers is wrong"),
@@ -111,6 +119,7 @@ const REFUSALS: [(Refusal, &str); 24] = [
     (Refusal::SidesChange, "an isolated node or another piece would change sides, or a face turn inside out"),
     (Refusal::OverlapsEdge, "the curve lies along another edge for a stretch"),
     (Refusal::TouchesEdge, "the curve touches another edge other than at an end of both"),
+    (Refusal::NotNested, "the contents would list a face or a piece twice, or miss one"),
 ];
 
 /// The table's row for a number; none for 0 and for numbers that it does not name.
@@ -154,6 +163,17 @@ pub struct Map {
     /// The three row counts, the next node, edge and face number, then the record of points: 6 or 12, the most that a
     /// curve of this map may have. `NotInForm`, `OutOfRange` and `TooManyPoints` go by it; no ticket changes it.
     pub head: [i64; HEAD_WIDTH],
+}
+
+/// A line of the contents.
+#[derive(Clone, Copy, Debug, PartialEq, Eq)]
+pub struct Line {
+    /// 0 for face 0; one more than that of the line that it stands under.
+    pub depth: usize,
+    /// A piece, and not a face: what a chain of edges connects, or a node on no edge by itself.
+    pub is_piece: bool,
+    /// The number of the face, or of the lowest node of the piece.
+    pub number: i64,
 }
 
 impl Map {
@@ -214,6 +234,21 @@ impl Map {
             rings.push(numbers.by_ref().take(length as usize).collect());
         }
         Ok(rings)
+    }
+
+    /// The contents of the sheet: face 0, the pieces in it, the other faces that each bounds, and so on, each line
+    /// followed at once by those under it. `NotNested` never answers for a map that tickets made.
+    pub fn contents(&self) -> Result<Vec<Line>, Refusal> {
+        let mut list = vec![0; (self.nodes.len() / NODE_WIDTH + self.faces.len() / FACE_WIDTH) * LINE_WIDTH];
+        let mut value = 0;
+        let refusal = unsafe {
+            solgwid_contents(
+                self.nodes.as_ptr(), self.nodes.len(), self.edges.as_ptr(), self.edges.len(),
+                self.faces.as_ptr(), self.faces.len(), &self.head, list.as_mut_ptr(), list.len(), &mut value,
+            )
+        };
+        let line = |l: &[i64]| Line { depth: l[0] as usize, is_piece: l[1] == 1, number: l[2] };
+        answered(refusal, list[..value as usize].chunks(LINE_WIDTH).map(line).collect())
     }
 
     /// A list of tickets from the empty map for `points` points on, whatever tables and head held: the answer to each.

@@ -35,9 +35,10 @@ def parts(seed):
             ('library', check_calls.lists(lib, seed), 0.05, ('lists in one call', 'lists turned down')),
             ('library', check_calls.face_tables(lib, seed), 0.04, ('spoiled face tables',)),
             ('library', check_calls.creations(lib, seed), 0.01, ('maps created',)),
+            ('library', check_calls.sheets(lib, seed), 0.05, ('contents',)),
             ('library', check_split_heal.comparisons(lib, seed), 0.1, ('maps', 'cuts healed')),
             ('library', check_limits.comparisons(lib, seed), 0.1, ('calls at the limits',)),
-            ('definitions', check_definitions.comparisons(seed), 0.25, ('lists', 'calls')))
+            ('definitions', check_definitions.comparisons(seed), 0.2, ('lists', 'calls')))
 
 
 def held(name, comparisons, seconds, names):

@@ -1,15 +1,17 @@
 #!/usr/bin/env python3
 """The static library held against the reference: whole calls on tables that no list of tickets grows, whole lists in
-one call, other rectangles, and maps created.
+one call, other rectangles, maps created, and contents of sheets.
 
-  check_calls.py [CALLS] [LISTS] [MAPS] [CREATED] [--seed S]
+  check_calls.py [CALLS] [LISTS] [MAPS] [CREATED] [SHEETS] [--seed S]
 
 Needs target/staticlib/libsolgwid.a (`rt staticlib solgwid`) and a C compiler. The tables are grown maps, for 6 points
 or 12, that are distorted (links off the law, faces at will, crossing curves, nodes on one point), spoiled, or have
 another record of points. Each list in one call is run a second time with tables not whole, another record or too little
 room for the answers. Of each of the MAPS, all in form, every face table is tried that tests/reference/rectangles.py
-spoils. The maps are created in tables that hold anything, whole or not, under right records and others. Tables, head,
-list, refusal and value after the call must be the reference's, in refusals too.
+spoils. The maps are created in tables that hold anything, whole or not, under right records and others. The contents
+are those of grown sheets, of sheets whose rings and lone nodes bear other faces, and of the tables of the whole calls,
+in lists too short, just long enough and longer. Tables, head, list, refusal and value after the call must be the
+reference's, in refusals too.
 """
 
 import argparse
@@ -25,15 +27,18 @@ from comparison import counted, seeds, tally
 from repository import LEVEL, ROOT, static_library     # finds the reference
 
 import compare
+import contents
 import fuzz_tables as ft
 import plotmap as pm
 import raw
 import raw_gen
 import rectangles
 import telling
+from computed.contents import by_hand, some
 
 LEAST, MOST = -2 ** 63, 2 ** 63 - 1
-FUNCTIONS = ('empty_map', 'ticket', 'edges_of_face', 'run')
+GUARDS = (-5, 55, -555)
+FUNCTIONS = ('empty_map', 'ticket', 'edges_of_face', 'contents', 'run')
 WIDTHS = pm.NODE_WIDTH, pm.EDGE_WIDTH, pm.face_width(LEVEL)
 LIMITS = pm.MAX_NODES, pm.MAX_EDGES, pm.MAX_FACES
 
@@ -93,6 +98,21 @@ def list_differs(lib, t, h, face, length):
                                         ctypes.byref(value))
     after, r, v = pm.list_edges_of_face(t, h, face, before, LEVEL)
     return (*lent.now(), tuple(space)[:length], refusal, value.value) != (*listed(t, h), after, r, v), r
+
+
+def call_contents(lib, t, h, before):
+    """List, refusal and value after a call for the contents; the list before it is given, and has guards behind it. The
+    list is none where the call changed a guard, a table or the head."""
+    lent, value, space = Lent(*listed(t, h)), ctypes.c_int64(99), cells((*before, *GUARDS))
+    refusal = lib.solgwid_contents(*lent.words(), *slice_of(space, len(before)), ctypes.byref(value))
+    same = (lent.now(), tuple(space)[len(before):]) == (listed(t, h), GUARDS)
+    return tuple(space)[:len(before)] if same else None, refusal, value.value
+
+
+def contents_differ(lib, t, h, before):
+    """Whether such a call differs, and the reference's refusal."""
+    expected = contents.list_contents(t, h, before, LEVEL)
+    return call_contents(lib, t, h, before) != expected, expected[1]
 
 
 def creation_differs(lib, t, h, points):
@@ -196,6 +216,18 @@ def creations(lib, seed):
         yield {'maps created': 1, ('C', r): 1}, [f'seed {s}, created for {points} points in {lengths}'] * wrong
 
 
+def sheets(lib, seed):
+    """Contents by hand, then of sheets grown and reborne and of the tables of a whole call, also by what is answered:
+    O."""
+    of_calls = (raw.parse(text)[:2] for s in seeds(seed) for text in raw_gen.calls(1, s, LEVEL))
+    by_chance = itertools.chain.from_iterable(
+        (some(random.Random(s)), (*next(of_calls), (77,) * (s % 40))) for s in seeds(seed))
+    for t, h, before in itertools.chain(by_hand(), by_chance):
+        if fits(t, h, ()):
+            wrong, r = contents_differ(lib, t, h, before)
+            yield {'contents': 1, ('O', r): 1}, [f'{t} {h} {len(before)}'[:2000]] * wrong
+
+
 def map_in_form(rng):
     """Tables of a map, mostly distorted, that are in form, and a ticket for it."""
     while True:
@@ -223,12 +255,14 @@ def main():
     p.add_argument('lists', nargs='?', type=int, default=300)
     p.add_argument('maps', nargs='?', type=int, default=100)
     p.add_argument('created', nargs='?', type=int, default=1000)
+    p.add_argument('sheets', nargs='?', type=int, default=1000)
     p.add_argument('--seed', type=int, default=1)
     a = p.parse_args()
     lib, answers, said, differences = library(), Counter(), [], 0
     for part, count, *names in ((calls, a.calls, 'whole calls'),
                                 (lists, a.lists, 'lists in one call', 'lists turned down'),
-                                (face_tables, a.maps, 'spoiled face tables'), (creations, a.created, 'maps created')):
+                                (face_tables, a.maps, 'spoiled face tables'), (creations, a.created, 'maps created'),
+                                (sheets, a.sheets, 'contents')):
         counts, wrong = tally(itertools.islice(part(lib, a.seed), count))
         answers.update({k: n for k, n in counts.items() if isinstance(k, tuple)})
         said.append(f'{counted(counts, *names)}, {wrong} differences')

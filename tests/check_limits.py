@@ -10,16 +10,18 @@ tickets can draw. Every call on it is compared whole; the reference takes some s
 lookups. What is carried out stays, so that each call meets another map. Sides of plots are redrawn past what lies
 beside them or short of it, and outer sides round the whole sheet, which turns it inside out. Boundaries lie along a
 side of a plot, cross it or touch it. Some calls are on tables with one number of a rectangle off by one, or with
-another record of points.
+another record of points. Contents are held against a second way to work them out, since the reference would take
+minutes: of these maps, and of 1,000 wells, 999 plots one in the other and as many side by side.
 """
 
 import contextlib
 import ctypes
+import itertools
 import random
 import sys
 from dataclasses import replace
 
-from check_calls import WIDTHS, Lent, cells, library, list_differs, slice_of, ticket_differs
+from check_calls import WIDTHS, Lent, call_contents, cells, library, list_differs, slice_of, ticket_differs
 from comparison import command, seeds
 
 import fuzz_tables as ft
@@ -34,7 +36,7 @@ WELL, DITCH, TANK = [(3, 5)], [(2, 4), (2, 6)], [(3, 5), (2, 6), (2, 4), (3, 5)]
 # a boundary from the lower left corner of a plot along its upper side, across it, or with a point on it; then inward
 MET, INWARD = ([(2, 10), (4, 10)], [(3, 13)], [(3, 10)]), (5, 8)
 COUNTED = ('calls at the limits', 'maps', 'divisions', 'removals', 'redrawings', 'meetings', 'lists of edges',
-           'other rectangles', 'other records', 'carried out', 'turned down with 22', 'turned down with 23, 15 or 24')
+           'contents', 'other rectangles', 'other records', 'carried out', 'turned down with 22', 'turned down with 23, 15 or 24')
 
 
 @contextlib.contextmanager
@@ -137,6 +139,45 @@ def at(corner, off=(0, 0)):
     return tuple(SIDE * (v + 1) + d for v, d in zip(corner, off))
 
 
+def tree(t, h):
+    """The lines of the contents, by pieces as sets that are joined; none where faces and pieces form no tree."""
+    nodes, edges, faces = (pm.rows(x, w)[:n] for x, w, n in
+                           zip((t.nodes, t.edges, t.faces), WIDTHS, (h.node_count, h.edge_count, h.face_count)))
+    lead = {n[0]: n[0] for n in nodes}
+
+    def lowest(n):
+        while lead[n] != n:
+            lead[n] = n = lead[lead[n]]
+        return n
+
+    for e in edges:
+        a, b = sorted(map(lowest, e[1:3]))
+        lead[b] = a
+    pairs = {(lowest(e[1]), f) for e in edges for f in e[5:7]} | {(n[0], n[3]) for n in nodes if n[3] != -1}
+    pieces = {lowest(n) for n in lead}
+    under = {}
+    for p, f in sorted(pairs):
+        under.setdefault((1, p), []).append((0, f))
+        under.setdefault((0, f), []).append((1, p))
+    lines, left = [], [(0, (0, 0), None)]
+    while left and len(lines) <= len(pieces) + len(faces):
+        depth, one, led = left.pop()
+        lines.append((depth, *one))
+        left += [(depth + 1, x, one) for x in sorted(under.get(one, []), reverse=True) if x != led]
+    whole = len(pairs) + 1 == len(pieces) + len(faces) == len(lines)
+    return lines if whole else None
+
+
+def contents_differ(lib, t, h, room):
+    """Whether the contents differ from that, in a list with so many numbers more than they take, or less."""
+    lines = tree(t, h)
+    numbers = [v for line in lines or () for v in line]
+    before = (77,) * max(0, len(numbers) + room)
+    told = (28, 0) if lines is None else (20, 0) if room < 0 else (0, len(numbers))
+    after = before if told[0] else (*numbers, *before[len(numbers):])
+    return call_contents(lib, t, h, before) != (after, *told)
+
+
 def other_rectangle(rng, t, h):
     """The tables with one number of a rectangle off by one, often in the last row."""
     at = WIDTHS[2] * rng.choice((h.face_count - 1, rng.randrange(h.face_count))) + rng.randrange(1, WIDTHS[2])
@@ -144,8 +185,8 @@ def other_rectangle(rng, t, h):
 
 
 def one_call(sheet):
-    """What was compared and whether it differs: the edges of a face, another rectangle, another record, a removal, a
-    redrawing, a boundary that meets a side or a division."""
+    """What was compared and whether it differs: the edges of a face, the contents, another rectangle, another record, a
+    removal, a redrawing, a boundary that meets a side or a division."""
     t, h = sheet.now()
     rng, draw = sheet.rng, sheet.rng.random()
     if draw < 0.05:
@@ -157,6 +198,9 @@ def one_call(sheet):
     if draw < 0.17:
         face = rng.choice((0, t.faces[WIDTHS[2] * rng.randrange(h.face_count)]))
         return {'lists of edges': 1}, list_differs(sheet.lib, t, h, face, 4000)[0], ('edges of face', face)
+    if draw < 0.22:
+        room = rng.choice((0, 0, 3, -1, -len(t.faces)))
+        return {'contents': 1}, contents_differ(sheet.lib, t, h, room), ('contents', room)
     if draw < 0.35:
         name, ticket = 'removals', (rng.choice((13, 14)), t.edges[32 * rng.randrange(h.edge_count)])
     elif draw < 0.6:
@@ -172,7 +216,36 @@ def one_call(sheet):
     return seen, differs, ticket
 
 
+def plot(n, low, high):
+    """The tickets that draw a square plot from its own node, the n-th."""
+    return (1, -1, low, low), (12, n, n, low, low, high, low, high, high, low, high, low, low)
+
+
+WELLS = [(1, -1, i, 0) for i in range(pm.MAX_NODES)]
+NESTED = [k for i in range(1, pm.MAX_FACES) for k in plot(i, i, 4000 - i)] + [(1, -1, 2000, 2000)]
+BESIDE = [k for i in range(1, pm.MAX_FACES) for k in plot(i, 10 * i, 10 * i + 9)] + [(1, -1, 0, 0)]
+
+
+def extremes(lib):
+    """Contents that are long, deep and wide, in lists that just hold them, longer and shorter; and with a face more
+    that nothing bears, where there is a row for it."""
+    for name, tickets in (('wells', WELLS), ('nested', NESTED), ('beside', BESIDE)):
+        lent = Lent([[0] * (n * w) for n, w in zip(ROOM, WIDTHS)], [0] * 7)
+        lib.solgwid_empty_map(*lent.words(), ctypes.c_int64(pm.MAX_POINTS))
+        assert all(carry_out(lib, lent, k)[0] == 0 for k in tickets)
+        tables, head = lent.now()
+        sheets = [(pm.Tables(*map(tuple, tables)), pm.Head(*head))]
+        if head[2] < pm.MAX_FACES:
+            tables[2][WIDTHS[2] * head[2]] = head[5]
+            head[2], head[5] = head[2] + 1, head[5] + 1
+            sheets.append((pm.Tables(*map(tuple, tables)), pm.Head(*head)))
+        for (t, h), room in itertools.product(sheets, (0, 1, -1)):
+            yield ({'calls at the limits': 1, 'contents': 1},
+                   [f'contents of {name}, {room}'] * contents_differ(lib, t, h, room))
+
+
 def comparisons(lib, seed):
+    yield from extremes(lib)
     for s in seeds(seed):
         sheet = Sheet(lib, random.Random(s), pm.POINT_RECORDS[s % 2])
         for i in range(CALLS_A_MAP):

@@ -1,12 +1,15 @@
 #!/usr/bin/env python3
-"""The stored lines of crates/ticket and crates/sheet: writes their stdin and stdout, the answers by the reference.
+"""The stored lines of crates/ticket, crates/sheet and crates/outline: writes their stdin and stdout, the answers by the
+reference.
 
   generate_lines.py [--seed S]
 
 For `sheet` the tickets of docs/MANUAL.md come first, as they stand there, from the empty map. Then, for both, the
 square sheet's P cases, lists by hand and random ones, each from a map that the removals before it made bare; wrong
 lines among them. For `ticket` each table is filled and asked for one row more; for `sheet` every edge of a sheet with
-islands is split and healed at once, and edges and faces are filled. The last line is one byte without a line end.
+islands is split and healed at once, and edges and faces are filled. For `outline` random islands come first, then plots
+one in the other with a well in each, so that its contents go wide and deep. The last line is one byte without a line
+end.
 
 Needs nothing that is built. Fails where the manual's answers and rows are not the reference's, a kind is not carried
 out, a reason of a kind never answers (20 and 21 left aside), or 3 or 20 is missing.
@@ -21,6 +24,7 @@ import manual
 from repository import LEVEL, ROOT     # finds the reference
 
 import check
+import contents
 import fuzz
 import islands
 import plotmap as pm
@@ -101,6 +105,15 @@ class Sheet:
                     self.put((8 if mod else 7, number, *at))
                     self.put((10, number, new) if mod else (9, new, new + 1))
                     number = number if mod else new + 2
+
+    def nest(self, count, x):
+        """So many plots one in the other from x on, with a well in each."""
+        for i in range(count):
+            low, high = x + 10 * i, x + 20 * count - 10 * i
+            self.put((1, -1, low, low))
+            n = self.map.nodes[-1].number
+            self.put((12, n, n, low, low, high, low, high, high, low, high, low, low))
+            self.put((1, -1, low + 3, low + 5))
 
     def fill(self):
         """Nodes until no row is free, an edge that is split in vain, and a row freed and taken again."""
@@ -204,21 +217,35 @@ def sheet_lines(rng):
     return s.lines + [b'0']
 
 
+def outline_lines(rng):
+    s = Sheet(rng)
+    s.grow('islands', 150)
+    s.nest(80, 500_000)
+    return s.lines + [b'1']
+
+
+def outline(lines):
+    """The contents after the lines, as `outline` prints them."""
+    words = 'face', 'piece'
+    return [f'{"  " * depth}{words[kind]} {number}' for depth, kind, number in contents.contents(after(lines))]
+
+
 def after(lines):
     for r, v, t, h in tk.answers(lines, level=LEVEL):
         pass
     return pm.decode(t, h, LEVEL)
 
 
-def store(name, lines, rows):
-    """Writes stdin, with no line end after the last line, and stdout; the answers by kind."""
+def store(name, lines, rows=False, end=()):
+    """Writes stdin, with no line end after the last line, and stdout, which has some lines more at its end; the answers
+    by kind."""
     folder, out, said = ROOT / 'crates' / name, [], []
     for line, (r, v, t, h) in zip(lines, tk.answers(lines, level=LEVEL)):
         out += [f'{r} {v}'] + (tk.dump_lines(t, h, LEVEL) if rows else [])
         numbers = tk.read_ticket(line)
         said.append((numbers[0] if numbers and numbers[0] in NAMES else 0, r))
     (folder / 'stdin').write_bytes(b'\n'.join(lines))
-    (folder / 'stdout').write_text('\n'.join(out) + '\n')
+    (folder / 'stdout').write_text('\n'.join([*out, *end]) + '\n')
     return said
 
 
@@ -249,8 +276,10 @@ def main():
     p.add_argument('--seed', type=int, default=1)
     rng = random.Random(p.parse_args().seed)
     hold_manual()
-    missing = told('ticket', store('ticket', ticket_lines(rng), False))
-    told('sheet', store('sheet', sheet_lines(rng), True))
+    missing = told('ticket', store('ticket', ticket_lines(rng)))
+    told('sheet', store('sheet', sheet_lines(rng), rows=True))
+    lines = outline_lines(rng)
+    told('outline', store('outline', lines, end=outline(lines)))
     if missing:
         sys.exit('missing: ' + ', '.join(missing))
 

@@ -21,7 +21,7 @@ use Rattle.printing.proofs.Rows.{natural-few, row-few}
 use Rattle.console.specs.Texts.{answerText, taggedText, headNumbers, TextPut}
 
 -- a text that fits
-text-put : (before text after : List ℕ) (r : ℕ) → after ≡ sets before 0 text → r ≡ length text
+pub text-put : (before text after : List ℕ) (r : ℕ) → after ≡ sets before 0 text → r ≡ length text
     → length text ≤ length before → TextPut before text after r
 text-put before text after r e n h =
     let size : length after ≡ length before = ap length e ∙ length-sets before 0 text in

@@ -24,13 +24,13 @@ ghost use Rattle.console.specs.Texts.{answerText, taggedText, headNumber
 const KEPT: usize = text::LINE + 1;
 
 // The rows of each table.
-const ROWS: usize = 200;
+pub const ROWS: usize = 200;
 
-const NODE_CELLS: usize = ROWS * map::NODE_WIDTH;
+pub const NODE_CELLS: usize = ROWS * map::NODE_WIDTH;
 
-const EDGE_CELLS: usize = ROWS * map::EDGE_WIDTH;
+pub const EDGE_CELLS: usize = ROWS * map::EDGE_WIDTH;
 
-const FACE_CELLS: usize = ROWS * map::FACE_WIDTH;
+pub const FACE_CELLS: usize = ROWS * map::FACE_WIDTH;
 
 // The bytes that are read at a time.
 const INPUT: usize = 4096;
@@ -123,14 +123,14 @@ fn put_row(out: &mut [u8; ROW], tag: u8, table: &[i64], width: usize, i: usize) 
     put_tagged(out, tag, &table[at..end])
 }
 
-// How many rows are printed: as many as the head counts, as far as the table has them.
-fn printed_rows(count: i64, most: usize) -> usize
-    ensures { λ r. ⌜ (r ≡ clamped count most) × (r ≤ most) ⌝ }
+// The number from 0 to `most` that is nearest to z.
+pub fn clamp(z: i64, most: usize) -> usize
+    ensures { λ r. ⌜ (r ≡ clamped z most) × (r ≤ most) ⌝ }
 {
-    if count < 0 {
+    if z < 0 {
         return 0;
     }
-    let n = count as usize;
+    let n = z as usize;
     if n < most { n } else { most }
 }
 
@@ -157,11 +157,11 @@ fn write_row(tag: u8, table: &[i64], width: usize, i: usize)
     io::write_all(libc::STDOUT_FILENO, &out[..end]);
 }
 
-// Writes the rows of a table that are in use.
+// Writes the rows of a table that are in use: as many as the head counts, as far as the table has them.
 fn write_rows(tag: u8, table: &[i64], width: usize, count: i64)
     requires { ⌜ (1 ≤ width) × (width ≤ edgeWidth) ⌝ }
 {
-    for i in 0..printed_rows(count, table.len() / width) {
+    for i in 0..clamp(count, table.len() / width) {
         write_row(tag, table, width, i);
     }
 }

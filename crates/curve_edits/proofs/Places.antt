@@ -9,6 +9,7 @@ use native.Mathlib.Omega.{arith}
 use Rattle.lists.specs.Tables.{table, place}
 use Rattle.lists.specs.declared.Found.the-variants.{At, Missing}
 use Rattle.lists.proofs.Bools.{which}
+use Rattle.lists.proofs.Scans.{table-last}
 use Rattle.plane.specs.declared.Point.{Point}
 use Rattle.plane.specs.Points.{samePoint}
 use Rattle.plane.specs.Segments.{onSegment}
@@ -16,13 +17,6 @@ use Rattle.plane.proofs.Laws.{samePoint-true}
 use Rattle.curves.specs.Curves.{lastOf, segmentsOf}
 use Rattle.curves.specs.Edits.{Halves, cut, cutHere, join, joinHere, dropped, turned}
 use Rattle.curves.proofs.Turns.{on}
-
--- one row more
-pub table-more : {A : Type 0} (f : ℕ → A) (a k : ℕ) → table f a (suc k) ≡ table f a k ++ f (a + k) ∷ []
-table-more f a zero = rw (add-zero a)
-table-more f a (suc k) =
-    let e : a + 1 + k ≡ a + suc k = omega arith in
-    ap (λ l. f a ∷ l) (table-more f (a + 1) k ∙ ap (λ n. table f (a + 1) k ++ f n ∷ []) e)
 
 -- the points from one place up to another, and one more
 pub points-more : (f : ℕ → Point) (from i : ℕ) (ps : List Point) {p : Point} → from ≤ i → p ≡ f i
@@ -32,7 +26,7 @@ points-more f from i ps {p} h e =
     let k : from + (i - from) ≡ i = omega arith in
     append-assoc ps (table f from (i - from)) (p ∷ [])
     ∙ ap (λ q. ps ++ (table f from (i - from) ++ q ∷ [])) (e ∙ ap f (sym k))
-    ∙ ap (λ l. ps ++ l) (sym (table-more f from (i - from)) ∙ ap (table f from) (sym n))
+    ∙ ap (λ l. ps ++ l) (sym (table-last f from (i - from)) ∙ ap (table f from) (sym n))
 
 pub points-none : (f : ℕ → Point) (from : ℕ) (ps : List Point) → ps ++ table f from (from - from) ≡ ps
 points-none f from ps = let e : from - from ≡ 0 = omega arith in rw e (append-nil ps)
@@ -49,7 +43,7 @@ module _ (f : ℕ → Point) where
       ap (λ l. l ++ f i ∷ []) (turned-table k (i + 1))
       ∙ ap (λ n. table (λ j. f (n - j)) 0 (suc k) ++ f i ∷ []) e
       ∙ ap (λ n. table (λ j. f (i + suc k - j)) 0 (suc k) ++ f n ∷ []) g
-      ∙ sym (table-more (λ j. f (i + suc k - j)) 0 (suc k))
+      ∙ sym (table-last (λ j. f (i + suc k - j)) 0 (suc k))
 
   -- ---- joined
 

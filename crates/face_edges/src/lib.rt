@@ -60,13 +60,6 @@ fn write_rings(edges: &[i64], count: usize, face: usize, list: &mut [i64])
     }
 }
 
-// The answer of a refusal and a value.
-fn answered(refusal: u64, value: i64) -> Answer
-    ensures { λ r. ⌜ r ≡ record { refusal = refusal; value = value } ⌝ }
-{
-    Answer { refusal, value }
-}
-
 // Lists the rings of the face from the front of the list, where there is room for them.
 fn list_rings(edges: &[i64], count: usize, face: usize, list: &mut [i64]) -> Answer
     requires { ⌜ Rings (now edges) count × (face ≤ lastNumber) ⌝ }
@@ -76,10 +69,10 @@ fn list_rings(edges: &[i64], count: usize, face: usize, list: &mut [i64]) -> Ans
 {
     let size = rings_size(edges, count, face);
     if list.len() < size {
-        return answered(20, 0);
+        return outcomes::answered(20, 0);
     }
     write_rings(edges, count, face, list);
-    answered(0, size as i64)
+    outcomes::answered(0, size as i64)
 }
 
 // Lists the edges of a face from the front of the list; the value is the count of numbers written. The list's remainder
@@ -98,15 +91,15 @@ pub fn edges_of_face(
         (now (list .entry)) ⌝ }
 {
     if !form_ranges::is_whole(nodes, edges, faces) {
-        return answered(1, 0);
+        return outcomes::answered(1, 0);
     }
     if !form::in_form(nodes, edges, faces, h) {
-        return answered(2, 0);
+        return outcomes::answered(2, 0);
     }
     let c = head::counts_of(h);
     let found = tables::find_row(faces, map::FACE_WIDTH, c.faces, face);
     let Found::At(i) = found else {
-        return answered(4, 0);
+        return outcomes::answered(4, 0);
     };
     list_rings(edges, c.edges, face as usize, list)
 }

@@ -3,17 +3,17 @@
 use mathlib.Core.Path.{_≡_, refl, sym, ap, ap₂, _∙_, subst}
 use mathlib.Core.Logic.{_⊎_, inl, inr}
 use mathlib.Core.Bool.{Bool, true, false, cond, true≢false}
-use mathlib.Core.List.{List, map, List·Memᴰ, List·Memᴰ·head, List·Memᴰ·tail}
-use Prim.Native.Nat.{ℕ, zero, suc, _+_, _*_, _/_, _≤_, _<_}
+use mathlib.Core.List.{List, map, List·Memᴰ}
+use Prim.Native.Nat.{ℕ, suc, _+_, _*_, _/_, _≤_, _<_}
 use native.Mathlib.Omega.{arith}
 use lib.IntN.{ℤ, pos}
 use lib.ListN.{length, getD}
 use borrow.Author.Tests.{ltb-true}
 use lib.Signed.{ltZ}
 use Rattle.lists.specs.Tests.{same}
-use Rattle.lists.specs.Tables.{table}
 use Rattle.lists.specs.Members.{Distinct}
 use Rattle.lists.proofs.Bools.{which, equal?, same-true, same-eq}
+use Rattle.lists.proofs.Scans.{table-has}
 use Rattle.lists.proofs.Rising.{rising, rising-distinct}
 use Rattle.planar_maps.specs.Map.{Dart}
 use Rattle.tables.proofs.Order.{rise, lt-or-ge}
@@ -28,14 +28,6 @@ use Rattle.darts.proofs.Positions.{directed-table, cells-of, edge-of, position-
 use Rattle.face_relabel.specs.Sharing.{Ringed, Whole, ringEncloses, markOf, startOf, ringMark}
 use Rattle.face_relabel.proofs.Faces.{firstMark}
 use Rattle.face_relabel.proofs.Rings.{lowest-here, ring-self, ring-in, ring-bears, ring-both, ring-lowest}
-
-table-has : {A : Type 0} (f : ℕ → A) (a k p : ℕ) → a ≤ p → p < a + k → List·Memᴰ (f p) (table f a k)
-table-has f a zero p h g = absurd (omega arith)
-table-has f a (suc k) p h g = elim (equal? p a) [
-  | inl e ↦ List·Memᴰ·head (ap f e)
-  | inr ne ↦ List·Memᴰ·tail
-      (table-has f (a + 1) k p (omega arith) (omega arith))
-]
 
 -- a mark is not 0
 some-mark : (b : Bool) → _≡_ {A = ℕ} (cond b 1 2) 0 → ⊥

@@ -3,7 +3,7 @@
 use mathlib.Core.Path.{_≡_, refl, sym, ap, ap₂, _∙_, subst}
 use mathlib.Core.Bool.{Bool, true, false, not, _&&_, _||_, false≢true}
 use mathlib.Core.Logic.{inl, inr}
-use mathlib.Core.List.{List, map, List·Memᴰ, List·Memᴰ·head, List·Memᴰ·tail, Memᴰ·cast, List·Permᴰ}
+use mathlib.Core.List.{List, map, List·Memᴰ, Memᴰ·cast, List·Permᴰ}
 use Prim.Native.Nat.{ℕ, zero, suc, _+_, _*_, _<_, _≤_}
 use native.Mathlib.Nat.{eq-or-lt-of-le}
 use native.Mathlib.Omega.{arith}
@@ -20,7 +20,7 @@ use Rattle.lists.specs.Tables.{table}
 use Rattle.lists.proofs.Bools.{which, same-true, same-eq, not-true, or-true, or-false, equal?}
 use Rattle.lists.proofs.Counts.{count-perm}
 use Rattle.lists.proofs.Perms.{perm-of-injective}
-use Rattle.lists.proofs.Scans.{all-of-table, table-in}
+use Rattle.lists.proofs.Scans.{all-of-table, table-has, table-in}
 use Rattle.curves.proofs.Runs.{and-left, and-right}
 use Rattle.planar_maps.specs.Map.{Dart}
 use Rattle.planar_maps.specs.Rings.{sameDart}
@@ -43,16 +43,6 @@ use Rattle.form_links.proofs.Named.{rows-same}
 -- ---- tables of elements
 
 module _ {A : Type 0} where
-  pub in-table : (f : ℕ → A) (a n i : ℕ) → a ≤ i → i < a + n → List·Memᴰ (f i) (table f a n)
-  in-table f a zero i s t = absurd (omega arith)
-  in-table f a (suc n) i s t =
-      let later = in-table f (a + 1) n i in
-      elim (eq-or-lt-of-le s) [
-        | inl e ↦ List·Memᴰ·head (ap f (sym e))
-        | inr h ↦ List·Memᴰ·tail
-            (later (omega arith) (omega arith))
-      ]
-
   pub distinct-table : (f : ℕ → A) (a n : ℕ) → ((i j : ℕ) → a ≤ i → i < j → j < a + n → f i ≡ f j → ⊥)
       → Distinct (table f a n)
   distinct-table f a zero h = tt
@@ -151,7 +141,7 @@ module _ {l : List ℤ} {n : ℕ} (t : EdgeRows l n) where
 
   pub has-position : (p : ℕ) → p < n * 2 → List·Memᴰ (dartAt l p) (directed (edgeMap l n))
   has-position p h = subst (λ (r : List Dart). List·Memᴰ (dartAt l p) r) (sym (directed-table l n))
-      (in-table (dartAt l) 0 (n * 2) p (omega arith) (omega arith))
+      (table-has (dartAt l) 0 (n * 2) p (omega arith) (omega arith))
 
   -- no two have one next: each is named once
   named-once : ((j k : ℕ) → j < k → k < n * 2 → next (edgeMap l n) (dartAt l j) ≡ next (edgeMap l n) (dartAt l k) → ⊥)

@@ -43,20 +43,20 @@ all-both p q (r ∷ l) = rw (all-both p q l)
 
 -- the names of an edge, by table
 module _ (m : Map) where
-  abbrev endsNamed : Edge → Bool
+  abbrev pub endsNamed : Edge → Bool
   endsNamed e = hasNode m (e .start) && hasNode m (e .end)
 
-  abbrev linksNamed : Edge → Bool
+  abbrev pub linksNamed : Edge → Bool
   linksNamed e = hasEdge m (e .nextLeft .edge) && hasEdge m (e .nextRight .edge)
 
-  abbrev sidesNamed : Edge → Bool
+  abbrev pub sidesNamed : Edge → Bool
   sidesNamed e = hasFace m (e .left) && hasFace m (e .right)
 
   regroup : (a b c d e : Bool) → a && b && c && d && e ≡ (d && e) && (a && (b && c))
   regroup true b c d e = eq4 (λ b c d e. b && c && d && e) (λ b c d e. (d && e) && (b && c)) tt b c d e
   regroup false b c d e = sym (&&-false (d && e))
 
-  names-parts : (l : List Edge) → allOf (edgeNames m) l ≡ allOf sidesNamed l
+  pub names-parts : (l : List Edge) → allOf (edgeNames m) l ≡ allOf sidesNamed l
       && (allOf endsNamed l && allOf linksNamed l)
   names-parts l =
       all-same (edgeNames m) (λ e. sidesNamed e && (endsNamed e && linksNamed e))
@@ -98,7 +98,7 @@ module _ (nodes edges faces : List ℤ) (c : Counts) where
 
 -- named rows exist where all of them pass
 module _ {nodes edges faces : List ℤ} {c : Counts} {h₀ : Head} (r : InOrder nodes edges faces c h₀) (h : Head) where
-  named-parts : named (mapIn nodes edges faces c h) ≡ facesPass nodes edges faces c
+  pub named-parts : named (mapIn nodes edges faces c h) ≡ facesPass nodes edges faces c
       && (sidesPass nodes edges faces c && (endsPass nodes edges faces c && linksPass nodes edges faces c))
   unfolding named
   named-parts =

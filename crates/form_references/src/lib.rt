@@ -94,7 +94,7 @@ fn find_row_of(
 }
 
 // Whether the rows exist that both sides of each edge name in columns k and k + 1; they are written.
-fn find_rows(
+pub fn find_rows(
     t: &[i64],
     w: usize,
     n: usize,

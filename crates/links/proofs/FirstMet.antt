@@ -1,16 +1,14 @@
 -- The first departure met clockwise: under other names, whichever stands in for none, and what the answer tells.
 -- Assumes nothing.
 use mathlib.Core.Path.{_≡_, refl, sym, ap, _∙_}
-use mathlib.Core.Logic.{inl, inr, ⊎-elim}
-use mathlib.Core.List.{List, [], _∷_, map-id, List·Memᴰ, List·Memᴰ·head, List·Memᴰ·tail, List·Memᴰ·cases-cons}
-use mathlib.Core.List.{List·Memᴰ·not-nil}
-use Prim.Native.Nat.{ℕ, zero, suc, _+_, _*_, _/_, _<_, _≤_}
+use mathlib.Core.List.{List, [], _∷_, map-id, List·Memᴰ, List·Memᴰ·head}
+use Prim.Native.Nat.{ℕ, _*_, _/_, _<_}
 use native.Mathlib.Omega.{arith}
 use lib.IntN.{ℤ}
 use Rattle.lists.specs.declared.Found.the-variants.{At, Missing}
-use Rattle.lists.specs.Tables.{table}
 use Rattle.lists.proofs.Keeps.{keep-in}
-use Rattle.lists.proofs.Bools.{equal?, same-false}
+use Rattle.lists.proofs.Scans.{table-has, table-in}
+use Rattle.lists.proofs.Bools.{same-false}
 use Rattle.plane.specs.Directions.{Way}
 use Rattle.rotation.specs.Law.{pick, firstClockwise}
 use Rattle.rotation.proofs.Node.{first-in}
@@ -53,24 +51,11 @@ module _ (way : ℕ → Way) (v : Way) where
 
 -- ---- positions
 
-from-in : (a n p : ℕ) → List·Memᴰ p (table (λ q. q) a n) → p < a + n
-from-in a zero p m = absurd (List·Memᴰ·not-nil m)
-from-in a (suc n) p m = ⊎-elim (λ e. omega arith) (λ k. let h : p < a + 1 + n = from-in (a + 1) n p k in omega arith)
-    (List·Memᴰ·cases-cons m)
-
 pub position-below : (n p : ℕ) → List·Memᴰ p (positions n) → p < n * 2
-position-below n p m = let h = from-in 0 (n * 2) p m in omega arith
-
-from-has : (a n p : ℕ) → a ≤ p → p < a + n → List·Memᴰ p (table (λ q. q) a n)
-from-has a zero p h k = absurd (omega arith)
-from-has a (suc n) p h k = elim (equal? p a) [
-  | inl e ↦ List·Memᴰ·head e
-  | inr d ↦ List·Memᴰ·tail
-      (from-has (a + 1) n p (omega arith) (omega arith))
-]
+position-below n p m = let r = table-in (λ q. q) 0 (n * 2) m in omega (arith, r .2, r .3)
 
 pub position-has : (n p : ℕ) → p < n * 2 → List·Memᴰ p (positions n)
-position-has n p h = from-has 0 (n * 2) p (omega arith) (omega arith)
+position-has n p h = table-has (λ q. q) 0 (n * 2) p (omega arith) (omega arith)
 
 pub leaving-below : (l : List ℤ) (n : ℕ) (node : ℤ) (a b p : ℕ) → List·Memᴰ p (departuresBut l n node a b) → p < n * 2
 leaving-below l n node a b p m = position-below n p (keep-in _ (positions n) m .0)

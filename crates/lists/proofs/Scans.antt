@@ -3,10 +3,11 @@
 -- Assumes nothing.
 use mathlib.Core.Path.{_≡_, refl, sym, ap, _∙_, subst}
 use mathlib.Core.Logic.{inl, inr}
-use mathlib.Core.List.{List, [], _∷_, List·Memᴰ, List·Memᴰ·cases-cons, List·Memᴰ·not-nil}
+use mathlib.Core.List.{List, [], _∷_, _++_, List·Memᴰ, List·Memᴰ·head, List·Memᴰ·tail, List·Memᴰ·cases-cons}
+use mathlib.Core.List.{List·Memᴰ·not-nil}
 use mathlib.Core.Bool.{Bool, true, false}
 use Prim.Native.Nat.{ℕ, zero, suc, _+_, _-_, _<_, _≤_}
-use native.Mathlib.Nat.{add-zero, sub-zero}
+use native.Mathlib.Nat.{add-zero, sub-zero, eq-or-lt-of-le}
 use native.Mathlib.Numerals.{add-one}
 use native.Mathlib.Omega.{arith}
 use lib.ListN.{length, getD}
@@ -92,6 +93,12 @@ module _ {A : Type 0} (f : ℕ → A) where
   getD-table a (suc n) zero d h = ap f (sym (add-zero a))
   getD-table a (suc n) (suc i) d h = getD-table (a + 1) n i d (omega arith) ∙ ap f (next a i)
 
+  -- one more at the end
+  pub table-last : (a n : ℕ) → table f a (suc n) ≡ table f a n ++ f (a + n) ∷ []
+  table-last a zero = ap (λ (i : ℕ). f i ∷ []) (sym (add-zero a))
+  table-last a (suc n) =
+      ap (λ (l : List A). f a ∷ l) (table-last (a + 1) n ∙ ap (λ (i : ℕ). table f (a + 1) n ++ f i ∷ []) (next a n))
+
   -- two tables whose elements are the same
   pub table-same : (g : ℕ → A) (a n : ℕ) → ((i : ℕ) → a ≤ i → i < a + n → f i ≡ g i) → table f a n ≡ table g a n
   table-same g a zero h = refl
@@ -123,6 +130,16 @@ module _ {A : Type 0} where
   all-of-table p f a zero h = refl
   all-of-table p f a (suc n) h = rw (h a (omega arith) (omega arith))
       (all-of-table p f (a + 1) n (λ i s t. h i (omega arith) (omega arith)))
+
+  -- each place has its element
+  pub table-has : (f : ℕ → A) (a n i : ℕ) → a ≤ i → i < a + n → List·Memᴰ (f i) (table f a n)
+  table-has f a zero i s t = absurd (omega arith)
+  table-has f a (suc n) i s t =
+      let later = table-has f (a + 1) n i in
+      elim (eq-or-lt-of-le s) [
+        | inl e ↦ List·Memᴰ·head (ap f (sym e))
+        | inr h ↦ List·Memᴰ·tail (later (omega arith) (omega arith))
+      ]
 
   -- an element has a place
   pub table-in : (f : ℕ → A) (a n : ℕ) {x : A} → List·Memᴰ x (table f a n) → (i : ℕ) × (a ≤ i) × (i < a + n) × (f i ≡ x)

@@ -67,7 +67,7 @@ depth-enough m k le =
 -- ---- contents
 
 -- the lines are complete
-complete-some : (n : ℕ) (o : Option (List Line)) (ls : List Line) → complete n o ≡ some ls
+pub complete-some : (n : ℕ) (o : Option (List Line)) (ls : List Line) → complete n o ≡ some ls
     → (o ≡ some ls) × (n ≤ length ls)
 complete-some n none ls e = absurd (let z : _≡_ {A = ℕ} 0 1 = cc in omega arith)
 complete-some n (some ks) ls e = go (ltb (length ks) n) refl e

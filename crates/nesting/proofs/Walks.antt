@@ -221,7 +221,7 @@ module _ (beneath : Bool → ℕ → List ℕ) where
               (subst (λ l. List·Memᴰ z (keys l)) (r .0) j);
         }
 
-    line-sound : (b : Bool) (x d : ℕ) (ls : List Line) → List·Memᴰ (b, x) all → listed ls b x ≡ false → Sound ls
+    pub line-sound : (b : Bool) (x d : ℕ) (ls : List Line) → List·Memᴰ (b, x) all → listed ls b x ≡ false → Sound ls
         → Sound (ls ++ line d b x ∷ [])
     line-sound b x d ls m off s = record {
       once = keys-more ls d b x off (s .once);
@@ -242,8 +242,8 @@ module _ (beneath : Bool → ℕ → List ℕ) where
         → lines k beneath b x led d ls ≡ lines k′ beneath b x led d ls
 
     module _ (k k′ : ℕ) (ih : DepthAlike k k′) (b : Bool) (x d : ℕ) where
-      each-alike : (ws : List ℕ) → ((w : ℕ) → List·Memᴰ w ws → List·Memᴰ (not b, w) all) → (ls : List Line) → Sound ls
-          → length all ≤ length ls + k → length all ≤ length ls + k′
+      pub each-alike : (ws : List ℕ) → ((w : ℕ) → List·Memᴰ w ws → List·Memᴰ (not b, w) all) → (ls : List Line)
+          → Sound ls → length all ≤ length ls + k → length all ≤ length ls + k′
           → each (down k b x d) ws (some ls) ≡ each (down k′ b x d) ws (some ls)
       each-alike [] at ls s p q = refl
       each-alike (w ∷ ws) at ls s p q =
@@ -267,7 +267,7 @@ module _ (beneath : Bool → ℕ → List ℕ) where
               rest mid (lines-sound k (not b) w (some x) (suc d) ls mid here (sym e) s) (omega arith) (omega arith)
 
     -- one would be listed twice
-    stop : (k : ℕ) (b : Bool) (x : ℕ) (led : Option ℕ) (d : ℕ) (ls : List Line) → listed ls b x ≡ true
+    pub stop : (k : ℕ) (b : Bool) (x : ℕ) (led : Option ℕ) (d : ℕ) (ls : List Line) → listed ls b x ≡ true
         → lines (suc k) beneath b x led d ls ≡ none
     unfolding lines
     stop k b x led d ls e = ap (λ o. each (down k b x d) (others led (beneath b x)) (fresh o ls (line d b x))) e

@@ -28,7 +28,7 @@ abbrev pub isIt : ℕ → Option ℕ → Bool
 isIt x none = false
 isIt x (some y) = same x y
 
--- a ring of piece p bears face f: one of its directed edges does
+-- a ring of piece p bears face f: one of its directed edges does, and so, in form, do all of them
 abbrev pub ringBears : Map → ℕ → ℕ → Bool
 ringBears m p f = anyOf (λ d. same (pieceOf m (leaves m d)) p && same (bears m d) f) (directed m)
 

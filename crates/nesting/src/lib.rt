@@ -1,1 +1,1 @@
-// The contents of a sheet: no code, only definitions in specs/ and theorems in proofs/, for other crates to cite.
+// The contents of a sheet: definitions in specs/ and theorems in proofs/. The code is in `contents`.

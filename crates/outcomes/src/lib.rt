@@ -19,6 +19,13 @@ pub struct Done {
     pub answer: Answer,
 }
 
+// The answer of a refusal and a value.
+pub fn answered(refusal: u64, value: i64) -> Answer
+    ensures { λ r. ⌜ r ≡ record { refusal = refusal; value = value } ⌝ }
+{
+    Answer { refusal, value }
+}
+
 // Turned down: the head as it was, and value 0.
 pub fn refused(h: Head, reason: u64) -> Done
     ensures { λ r. ⌜ r ≡ record { head = h; answer = record { refusal = reason; value = pos 0 } } ⌝ }

@@ -4,6 +4,7 @@ ghost use mathlib.Core.Path.{_≡_};
 ghost use lib.IntN.{pos};
 ghost use Rattle.map.specs.Ticket.{ticket, emptied, edgesOfFace};
 ghost use Rattle.map.specs.Loans.{lentNow};
+ghost use Rattle.nesting.specs.Contents.{contentsOf};
 ghost use Rattle.ticket_lists.specs.Runs.{Runs};
 ghost use Rattle.head.specs.Heads.{headIn};
 
@@ -71,6 +72,27 @@ pub extern "C" fn solgwid_edges_of_face(
         face (now (list .entry)) ⌝ }
 {
     let answer = engine::edges_of_face(nodes, edges, faces, head::from_numbers(head), face, list);
+    let v = answer.value;
+    *value = v;
+    answer.refusal
+}
+
+// Lists the contents of the sheet, written from the front of the list; the value is the count of numbers written.
+#[no_mangle]
+pub extern "C" fn solgwid_contents(
+    nodes: &[i64],
+    edges: &[i64],
+    faces: &[i64],
+    head: &[i64; head::WIDTH],
+    list: &mut [i64],
+    value: &mut i64,
+) -> u64
+    ensures { λ r. ⌜
+        record { list = now (list .exit); answer = record { refusal = r; value = now (value .exit) } }
+        ≡ contentsOf (lentNow (nodes .entry) (edges .entry) (faces .entry) (headIn (now (head .entry))))
+        (now (list .entry)) ⌝ }
+{
+    let answer = contents::contents(nodes, edges, faces, head::from_numbers(head), list);
     let v = answer.value;
     *value = v;
     answer.refusal

@@ -1,27 +1,21 @@
 -- Lists of tickets that end with a split and its heal, handed to `ticket_lists::run` (specs/Claims.antt). Assumes
 -- nothing.
 use mathlib.Core.Path.{_≡_, refl, sym, ap, ap₂, _∙_}
-use mathlib.Core.Bool.{Bool, not, _||_}
 use mathlib.Core.List.{List, [], _∷_, _++_, map, map-append, append-assoc}
-use Prim.Native.Nat.{ℕ, zero, suc, _+_, _≤_}
+use Prim.Native.Nat.{ℕ, suc, _+_}
 use native.Mathlib.Nat.{add-zero}
-use native.Mathlib.Omega.{arith}
-use borrow.Author.Tests.{not-false}
-use lib.Dec.{ltb}
 use lib.IntN.{ℤ, pos, _+ℤ_}
 use lib.ListN.{length, drop, getD, length-map}
 use lib.Seq.{getD-append-add}
 use Rattle.map.specs.declared.Answer.{Answer}
 use Rattle.map.specs.Limits.{limitOf}
-use Rattle.map.specs.Rows.{Lent, emptyMap, lentOf, sizesOf, sizesFor, whole}
-use Rattle.map.specs.Reasons.{firstReason}
-use Rattle.map.specs.Ticket.{createReasons, ticket}
+use Rattle.map.specs.Rows.{Lent, emptyMap, lentOf, sizesFor}
+use Rattle.map.specs.Ticket.{ticket}
 use Rattle.map.specs.Grow.{Grown, after, grow}
 use Rattle.map.proofs.Facts.{followed, after-append}
-use Rattle.map.proofs.Reasons.{first-zero}
-use Rattle.grown.proofs.Grows.{whole-limited}
 use Rattle.grown.proofs.SplitHeal.{split-cancelled, split-renewed}
-use Rattle.ticket_lists.specs.Runs.{ticketsOf, Ran, overFront, ranUnless, ran}
+use Rattle.ticket_lists.proofs.Called as called
+use Rattle.ticket_lists.specs.Runs.{Ran, overFront, ranUnless}
 use Rattle.ticket_lists.specs.Claims.{Called, refusalAt, outcomeAt, RunCancels, RunRenews}
 
 -- ---- two tickets more
@@ -41,40 +35,17 @@ answer-at f xs ys old i d =
     ∙ ap (λ (l : List _). getD l (length (map f xs) + i) d) (append-assoc (map f xs) (map f ys) rest)
     ∙ getD-append-add (map f xs) (map f ys ++ rest) i d
 
--- the call was not turned down
-ran-zero : (l : Lent) (rs : List ℕ) (vs : List ℤ) (g : Grown) (n : ℕ)
-    → ranUnless l rs vs g n .answer .refusal ≡ 0 → n ≡ 0
-ran-zero l rs vs g zero e = refl
-ran-zero l rs vs g (suc n) e = e
-
 module _ (l : Lent) (k : ℤ) (ts : List (List ℤ)) (t u : List ℤ) (r : Ran) (c : Called l k (ts ++ t ∷ u ∷ []) r) where
   abbrev g : Lent
   g = grow (sizesFor (limitOf k) l) ts .lent
-
-  abbrev short : Bool
-  short =
-      let n = length (c .lengths) in
-      ltb (length (c .refusals)) n || ltb (length (c .values)) n
-
-  reason : firstReason (createReasons l k ++ (20, short) ∷ []) ≡ 0
-  unfolding ran
-  reason =
-      ran-zero l (c .refusals) (c .values) (grow (sizesFor (limitOf k) l) (ticketsOf (c .numbers) (c .lengths))) _
-      (sym (ap (λ (x : Ran). x .answer .refusal) (c .runs .gives)) ∙ c .carried)
-
-  some-face : 1 ≤ sizesOf l .faces
-  some-face = whole-limited l (not-false (whole l) (first-zero 1 (not (whole l)) _ (omega arith) reason .0)) .some-face
 
   abbrev all : Grown
   all = followed (grow (sizesFor (limitOf k) l) ts) (after g (t ∷ u ∷ []))
 
   ran-is : r ≡ ranUnless l (c .refusals) (c .values) all 0
-  unfolding ran grow
-  ran-is =
-      let left : Grown → ℕ → Ran = ranUnless l (c .refusals) (c .values) in
-      c .runs .gives
-      ∙ ap₂ (λ (us : List (List ℤ)) (n : ℕ). left (grow (sizesFor (limitOf k) l) us) n) (c .list) reason
-      ∙ ap (λ (x : Grown). left x 0) (after-append (lentOf (sizesFor (limitOf k) l) emptyMap) ts (t ∷ u ∷ []))
+  unfolding grow
+  ran-is = called.ran-is c ∙ ap (λ (x : Grown). ranUnless l (c .refusals) (c .values) x 0)
+      (after-append (lentOf (sizesFor (limitOf k) l) emptyMap) ts (t ∷ u ∷ []))
 
   answers-length : length (grow (sizesFor (limitOf k) l) ts .answers) ≡ length ts
   unfolding grow
@@ -117,7 +88,7 @@ run-cancels l k ts e x y r c h =
     let t = pos 8 ∷ e ∷ x ∷ y ∷ [] in
     let u = pos 10 ∷ e ∷ grow s ts .lent .head .«next_edge» ∷ [] in
     let split = sym (first-is l k ts t u r c) ∙ h in
-    second-is l k ts t u r c ∙ split-cancelled s (some-face l k ts t u r c) ts e x y split
+    second-is l k ts t u r c ∙ split-cancelled s (called.some-face c) ts e x y split
 
 pub run-renews : RunRenews
 run-renews l k ts e x y r c h low =
@@ -126,4 +97,4 @@ run-renews l k ts e x y r c h low =
     let t = pos 7 ∷ e ∷ x ∷ y ∷ [] in
     let u = pos 9 ∷ a ∷ (a +ℤ pos 1) ∷ [] in
     let split = sym (first-is l k ts t u r c) ∙ h in
-    second-is l k ts t u r c ∙ split-renewed s (some-face l k ts t u r c) ts e x y split low
+    second-is l k ts t u r c ∙ split-renewed s (called.some-face c) ts e x y split low

@@ -1,8 +1,10 @@
 -- What a caller of `ticket_lists::run` may count on beside its contract: every list can be handed in; document 02 (vi),
--- a split that is healed at once.
--- Proved in proofs/: Handed.antt (`handed-in`), SplitHeal.antt (`run-cancels`, `run-renews`).
+-- a split that is healed at once; document 02 (viii), contents of what the call left.
+-- Proved in proofs/: Handed.antt (`handed-in`), SplitHeal.antt (`run-cancels`, `run-renews`), Nested.antt
+-- (`run-listed`).
 use mathlib.Core.Path.{_≡_}
 use mathlib.Core.List.{List, [], _∷_, _++_, map, flatten}
+use mathlib.Core.Logic.{_≢_}
 use Prim.Native.Nat.{ℕ, _+_, _≤_}
 use lib.IntN.{ℤ, pos, natAbs, _+ℤ_}
 use lib.ListN.{length, getD}
@@ -11,6 +13,8 @@ use Rattle.map.specs.Rows.{Lent, mapOf, sizesFor}
 use Rattle.map.specs.Ticket.{Outcome}
 use Rattle.map.specs.Grow.{grow}
 use Rattle.grown.specs.Claims.{restored, renewed}
+use Rattle.nesting.specs.Contents.{contentsOf}
+use Rattle.nesting.specs.Claims.{HasContents}
 use Rattle.ticket_lists.specs.Runs.{ticketsOf, Ran, Runs}
 
 -- every list of tickets is one that two slices hold: the numbers one after the other, and how many each ticket has
@@ -53,3 +57,9 @@ RunRenews =
     → refusalAt r (length ts) ≡ 0
     → let h = mapOf g .next .edges + 2 in h ≤ lastNumber
     → outcomeAt r (length ts + 1) ≡ renewed (natAbs e) h g
+
+-- what the call left has contents, with each face and each piece once; so 28 never answers, whatever list is lent
+abbrev pub RunListed : Type 0
+RunListed =
+    (l : Lent) (k : ℤ) (ts : List (List ℤ)) (r : Ran) → Called l k ts r
+    → HasContents (mapOf (r .lent)) × ((list : List ℤ) → contentsOf (r .lent) list .answer .refusal ≢ 28)

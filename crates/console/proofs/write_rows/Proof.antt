@@ -19,7 +19,7 @@ write-rows-spec =
     μ-loop
     (λ c. omega arith)
     (λ c κs. tt)
-    (λ c. (omega arith, c .printed-rows .ensures .1))
+    (λ c. (omega arith, c .clamp .ensures .1))
     (λ c κs. (omega arith, omega arith, omega arith))
     (λ c. omega arith)
     (λ c. omega arith)

@@ -1,0 +1,2 @@
+-- `Lines`: lines by rows, as they are written.
+pub mod Lines

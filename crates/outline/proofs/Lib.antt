@@ -1,0 +1,2 @@
+-- `Lines`: a line of the contents, part by part.
+pub mod Lines

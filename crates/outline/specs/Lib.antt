@@ -1,0 +1,2 @@
+-- `Lines`: the contents of a sheet as text.
+pub mod Lines

@@ -1,0 +1,2 @@
+-- `Fronts`: the first numbers of a table.
+pub mod Fronts
