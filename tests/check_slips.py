@@ -7,7 +7,7 @@ GROWN: slips that the theorem over every list of tickets must refuse. `grown` mu
 the worked examples left out. For each a list of tickets is computed, after which a statement of the theorem is true
 without the slip and false under it: the theorem itself is false there, and not only a proof that no longer fits.
 WORKED: slips of what a call does or of what is in form, most of which the theorem need not notice. The worked examples
-of `map` must fail.
+of `map` must fail, and for contents those of `nesting`.
 
 Needs the Rattle kit (`rt`). One prover at a time: not beside check_definitions.py or the gate.
 An edit of the gate's must-fail changes one crate and checks that crate; the theorem stands in a crate above the
@@ -25,7 +25,9 @@ from repository import ROOT, needed
 
 MAP = 'crates/map/specs/'
 PROOFS = 'crates/map/proofs/'
-EXAMPLES = tuple(f'Worked{part}.antt' for part in ('', 'Sides', 'Rectangles', 'Meetings', 'Surplus', 'Points'))
+MAP_EXAMPLES = tuple(f'Worked{part}.antt' for part in ('', 'Sides', 'Rectangles', 'Meetings', 'Surplus', 'Points'))
+EXAMPLES = *MAP_EXAMPLES, 'Examples.antt'
+CONTENTS = 'crates/nesting/specs/Contents.antt'
 EDITS, REASONS, FORM, TICKET, ROWS, LIMITS = (
     MAP + f'{n}.antt' for n in ('Edits', 'Reasons', 'Form', 'Ticket', 'Rows', 'Limits'))
 
@@ -360,6 +362,31 @@ WORKED = {
     'created: 2 before 1': (
         TICKET, '(1, not (whole l)) ∷ (2, not (isRecord k)) ∷ []', '(2, not (isRecord k)) ∷ (1, not (whole l)) ∷ []'),
     'form: unused points': (FORM, '\n    && allOf isZero (drop (2 * natAbs (cell r 7)) (drop 8 r))', ''),
+    'contents: the one that led there is listed again': (
+        CONTENTS, 'keep (λ y. not (isIt y led)) ys', 'keep (λ y. true || isIt y led) ys'),
+    'contents: lone nodes are in no face': (
+        CONTENTS, 'isIn m p f = ringBears m p f || nodeBears m p f', 'isIn m p f = ringBears m p f || ringBears m p f'),
+    'contents: rings are in no face': (
+        CONTENTS, 'isIn m p f = ringBears m p f || nodeBears m p f', 'isIn m p f = nodeBears m p f || nodeBears m p f'),
+    'contents: the depth stays': (
+        CONTENTS, 'lines k beneath (not b) y (some x) (suc d)', 'lines k beneath (not b) y (some x) d'),
+    'contents: a face is taken for the piece of its number': (
+        CONTENTS, 'Bool·beq (l .piece) b && same (l .number) x', 'same (l .number) x'),
+    'contents: a list of just the room is too short': (
+        CONTENTS, '(20, ltb (length list) (length written))', '(20, ltb (length list) (suc (length written)))'),
+    'contents: one is missed': (
+        CONTENTS, 'cond (ltb (length ls) n) none (some ls)', 'cond (ltb n (length ls)) none (some ls)'),
+    'contents: from face 1 on': (
+        CONTENTS, '(listedUnder m) false 0 none 0 [])', '(listedUnder m) false 1 none 0 [])'),
+    'contents: 1 for a face, 0 for a piece': (
+        CONTENTS, 'pos (bit (l .piece))', 'pos (bit (not (l .piece)))'),
+    'contents: 2 is not looked at': (
+        CONTENTS, 'firstReason (lentReasons l ++ (28,', 'firstReason ((1, not (whole l)) ∷ (28,',
+        'use Rattle.map.specs.Rows.{Map, Lent, mapOf}', 'use Rattle.map.specs.Rows.{Map, Lent, mapOf, whole}',
+        '{Listed, lentReasons, listUnless}', '{Listed, listUnless}'),
+    'contents: the remainder is cut off': (
+        CONTENTS, 'listUnless list written\n', 'listUnless (take (length written) list) written\n',
+        'use lib.ListN.{length}', 'use lib.ListN.{length, take}'),
 }
 
 WITNESS = '''use mathlib.Core.Path.{_≡_, refl}
@@ -436,7 +463,7 @@ def slipped(copy, path, *words):
 
 def grown(copy, name):
     path, old, new, statement, tickets = GROWN[name]
-    left_out = {n: (copy / PROOFS / n).read_text() for n in ('Sheet.antt', *EXAMPLES)}
+    left_out = {n: (copy / PROOFS / n).read_text() for n in ('Sheet.antt', *MAP_EXAMPLES)}
     for n, text in left_out.items():
         (copy / PROOFS / n).write_text(re.split(r'\npub (?:P|Worked\w*) : ', text)[0] + '\n')
     held = witness(copy, statement, tickets)
@@ -452,9 +479,10 @@ def grown(copy, name):
 
 
 def worked(copy, name):
+    path = WORKED[name][0]
     before = slipped(copy, *WORKED[name])
-    _, errors = check(copy, 'map')
-    (copy / WORKED[name][0]).write_text(before)
+    _, errors = check(copy, 'nesting' if path == CONTENTS else 'map')
+    (copy / path).write_text(before)
     files = [e.split(':')[0].split('/')[-1] for e in errors]
     found = [f for f in files if f in EXAMPLES]
     other = sorted({f for f in files if f not in EXAMPLES})
