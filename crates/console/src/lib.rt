@@ -9,7 +9,6 @@ ghost use Rattle.map.specs.Limits.{edge_width};
 ghost use Rattle.map.specs.Loans.{lent_now};
 ghost use Rattle.map.specs.Ticket.{emptied};
 ghost use Rattle.outcomes.specs.Outcomes.{outcome_now};
-ghost use Rattle.grown_tables.specs.Tables.{GrownTables};
 ghost use Rattle.console.specs.Lines.{parsed_count, line_answered, desk_of, kept_bytes, served, finished};
 ghost use Rattle.console.specs.Lines.{Bytes, DeskServed, InputServed, ProgramServed};
 ghost use Rattle.console.specs.Texts.{answer_text, tagged_text, head_numbers, TextPut};
@@ -56,22 +55,20 @@ fn count_of(parsed: Parsed) -> usize
     }
 }
 
-// The answer to one line, which is given without its line end, on tables that tickets left: those are in form, so
-// neither 1 nor 2 is looked for.
-fn answer_line(
+// The answer to one line, which is given without its line end.
+pub fn answer_line(
     nodes: &mut [i64],
     edges: &mut [i64],
     faces: &mut [i64],
     h: Head,
     line: &[u8],
 ) -> Done
-    requires { GrownTables (lent_now nodes edges faces h) }
     ensures { outcome_now nodes.exit edges.exit faces.exit result
         ≡ line_answered (lent_now nodes.entry edges.entry faces.entry h) line.now }
 {
     let mut list = [0i64; text::NUMBERS];
     let n = count_of(text::parse(line, &mut list));
-    edit_dispatch::edit(nodes, edges, faces, h, &list[..n])
+    engine::ticket(nodes, edges, faces, h, &list[..n])
 }
 
 // ---- what is printed
@@ -195,7 +192,6 @@ fn serve_line(
     line: &[u8],
     rows: bool,
 ) -> Head
-    requires { GrownTables (lent_now nodes edges faces h) }
     ensures { lent_now nodes.exit edges.exit faces.exit result
         ≡ (line_answered (lent_now nodes.entry edges.entry faces.entry h) line.now
         ).lent }
@@ -216,8 +212,7 @@ fn serve_byte(
     b: u8,
     rows: bool,
 ) -> State
-    requires { (length line.old ≡ kept_bytes) × (state.length ≤ kept_bytes)
-        × GrownTables (lent_now nodes edges faces state.head) }
+    requires { (length line.old ≡ kept_bytes) × (state.length ≤ kept_bytes) }
     ensures { (desk_of (lent_now nodes.exit edges.exit faces.exit result.head)
         line.new result.length
         ≡ served (desk_of (lent_now nodes.entry edges.entry faces.entry state.head)
@@ -253,8 +248,7 @@ fn serve_bytes(
     bytes: &[u8],
     rows: bool,
 ) -> State
-    requires { (length line.old ≡ kept_bytes) × (state.length ≤ kept_bytes)
-        × GrownTables (lent_now nodes edges faces state.head) }
+    requires { (length line.old ≡ kept_bytes) × (state.length ≤ kept_bytes) }
     ensures { (desk_of (lent_now nodes.exit edges.exit faces.exit result.head)
         line.new result.length
         ≡ fold served (desk_of (lent_now nodes.entry edges.entry faces.entry state.head)
@@ -285,7 +279,7 @@ fn serve_input(
     line: &mut [u8],
     rows: bool,
 ) -> State
-    requires { (length line.old ≡ kept_bytes) × GrownTables (lent_now nodes edges faces h) }
+    requires { length line.old ≡ kept_bytes }
     ensures { DeskServed (desk_of (lent_now nodes.entry edges.entry faces.entry h) line.old 0)
         (desk_of (lent_now nodes.exit edges.exit faces.exit result.head) line.new result.length)
         × (result.length ≤ kept_bytes) }
@@ -313,7 +307,7 @@ fn serve_rest(
     line: &[u8],
     rows: bool,
 ) -> Head
-    requires { (state.length ≤ length line.now) × GrownTables (lent_now nodes edges faces state.head) }
+    requires { state.length ≤ length line.now }
     ensures { lent_now nodes.exit edges.exit faces.exit result
         ≡ finished (desk_of (lent_now nodes.entry edges.entry faces.entry state.head)
         line.now state.length) }
@@ -327,12 +321,11 @@ fn serve_rest(
 }
 
 // Makes the empty map, for 12 points, and answers standard input to its end, a ticket a line; the head after it. Each
-// line is answered on standard output as it comes, with `rows` the head and the rows in use after it. Tables of `ROWS`
-// rows are whole, so the empty map is always made.
+// line is answered on standard output as it comes, with `rows` the head and the rows in use after it.
 pub fn serve_tables(
-    nodes: &mut [i64; NODE_CELLS],
-    edges: &mut [i64; EDGE_CELLS],
-    faces: &mut [i64; FACE_CELLS],
+    nodes: &mut [i64],
+    edges: &mut [i64],
+    faces: &mut [i64],
     h: Head,
     rows: bool,
 ) -> Head
@@ -347,7 +340,7 @@ pub fn serve_tables(
     serve_rest(nodes, edges, faces, state, &line, rows)
 }
 
-// The same in tables of its own.
+// The same in tables of `ROWS` rows.
 pub fn serve(rows: bool) -> Head
     ensures { ProgramServed result }
 {

@@ -110,10 +110,10 @@ module _ {l : List ℤ} {n : ℕ} (t : EdgeRows l n) (i : ℕ) (h : i < n) where
   pub without_row : without_edge (edge_at l i).number (edges_of l n) ≡ take i (edges_of l n) ++ drop (suc i) (edges_of l n)
   without_row = rw row_is at (without_at (λ (e : Edge). e.number) (edges_of l n) numbers_once i (edge_at l i) inside)
 
-  own_ends_lem : (k : ℕ) → bit (same_z (get_or l (i * edge_width + 1) (pos 0)) (pos k)) + bit
+  own_ends : (k : ℕ) → bit (same_z (get_or l (i * edge_width + 1) (pos 0)) (pos k)) + bit
       (same_z (get_or l (i * edge_width + 2) (pos 0)) (pos k))
       ≡ bit (same (edge_at l i).start k) + bit (same (edge_at l i).end k)
-  own_ends_lem k =
+  own_ends k =
       let c = cells_of_lem t i h in
       ap₂ (λ (x y : Bool). bit x + bit y) (ap (λ (z : ℤ). same_z z (pos k)) c.start ∙ same-pos (edge_at l i).start k)
       (ap (λ (z : ℤ). same_z z (pos k)) c.end ∙ same-pos (edge_at l i).end k)
@@ -131,5 +131,5 @@ module _ {l : List ℤ} {n : ℕ} (t : EdgeRows l n) (i : ℕ) (h : i < n) where
       let left : edge_ends m k ≡ ends_of k (without_edge (edge_at l i).number es) =
       ends_are m k (subst (λ (xs : List Edge). Distinct (map (λ e. e.number) xs)) (sym e)
       (kept_once (λ r. not (same r.number (edge_at l i).number)) es numbers_once)) ∙ ap (ends_of k) e in
-      ap₂ same all (own_ends_lem k) ∙ same_more (ends_of k (without_edge (edge_at l i).number es)) own
+      ap₂ same all (own_ends k) ∙ same_more (ends_of k (without_edge (edge_at l i).number es)) own
       ∙ ap (λ (x : ℕ). same x 0) (sym left)

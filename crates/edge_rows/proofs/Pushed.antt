@@ -105,9 +105,9 @@ module _ {l : List ℤ} {n : ℕ} (t : EdgeTable l n) (row : Edge) (f : Follows 
   fits : n * edge_width + edge_width ≤ length l
   fits = let s = size in omega arith
 
-  written-filled : written ≡ filled (length l) (flat_map edge_cells after)
+  written_filled : written ≡ filled (length l) (flat_map edge_cells after)
   unfolding written after
-  written-filled =
+  written_filled =
       ap (λ (r : List ℤ). paste r (n * edge_width) (edge_cells row) edge_width) (sym (edges_filled t))
       ∙ ap (λ (k : ℕ). paste (filled (length l) (flat_map edge_cells (edges_of l n))) (k * edge_width)
       (edge_cells row) edge_width) (sym (edges_length l n))
@@ -132,13 +132,13 @@ module _ {l : List ℤ} {n : ℕ} (t : EdgeTable l n) (row : Edge) (f : Follows 
   unfolding written after
   pushed_edges =
       ap (λ (r : List ℤ). edges_of r (n + 1))
-      (written-filled ∙ ap (λ (k : ℕ). filled k (flat_map edge_cells after)) (sym size))
+      (written_filled ∙ ap (λ (k : ℕ). filled k (flat_map edge_cells after)) (sym size))
       ∙ ap (edges_of (filled (length l / edge_width * edge_width) (flat_map edge_cells after))) (sym count)
       ∙ edges_read (length l / edge_width) after holds
 
   pushed_rows : rows edge_width (n + 1) written ≡ map edge_cells after
   pushed_rows =
-      ap (λ (r : List ℤ). rows edge_width (n + 1) r) written-filled
+      ap (λ (r : List ℤ). rows edge_width (n + 1) r) written_filled
       ∙ ap (λ (k : ℕ). rows edge_width k (filled (length l) (flat_map edge_cells after))) (sym count)
       ∙ rows_flat edge_width edge_cells after (replicate (length l - length (flat_map edge_cells after)) (pos 0)) wide
 
@@ -193,6 +193,6 @@ module _ {l : List ℤ} {n : ℕ} (t : EdgeTable l n) (row : Edge) (f : Follows 
                   (λ e. is_some (find (λ r. same r.number e.next_left.edge) es)
                   && is_some (find (λ r. same r.number e.next_right.edge) es)) es) pushed_edges ∙ named;
             };
-        rest = filled_rest edge_width edge_cells (length l) after (n + 1) wide count (sym written-filled);
+        rest = filled_rest edge_width edge_cells (length l) after (n + 1) wide count (sym written_filled);
         whole = rw pushed_long t.whole;
       }

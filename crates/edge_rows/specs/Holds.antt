@@ -80,14 +80,10 @@ pub record Undrawable (nodes edges : List ℤ) (h : Head) (i : ℕ) (face : ℤ)
   pub row : i < nat_abs h.edges
   pub natural : non_neg face ≡ true
 
--- how many ends of edge row i are at the node
-abbrev pub own_ends : List ℤ → ℕ → ℤ → ℕ
-own_ends l i node = bit (same_z (get_or l (i * edge_width + 1) (pos 0)) node)
-    + bit (same_z (get_or l (i * edge_width + 2) (pos 0)) node)
-
 -- no edge ends at the node but that of row i
 abbrev pub isolated_without : List ℤ → ℕ → ℕ → ℤ → Bool
-isolated_without l n i node = same (count_of (leaves_node l node) (positions n)) (own_ends l i node)
+isolated_without l n i node = same (count_of (leaves_node l node) (positions n))
+    (bit (same_z (get_or l (i * edge_width + 1) (pos 0)) node) + bit (same_z (get_or l (i * edge_width + 2) (pos 0)) node))
 
 -- the face of the node that is found
 abbrev pub faced_where : List ℤ → ℤ → Found → List ℤ

@@ -7,7 +7,7 @@ ghost use Rattle.map.specs.Rows.{edge_cells};
 ghost use Rattle.map_rows.specs.Rows.{NodeRows, EdgeRows};
 ghost use Rattle.links.specs.Linking.{unlinked_edge};
 ghost use Rattle.edge_rows.specs.Holds.{new_row, Drawable, Drawn};
-ghost use Rattle.edge_rows.specs.Holds.{own_ends, isolated_without, faced_if, Undrawable, Undrawn};
+ghost use Rattle.edge_rows.specs.Holds.{isolated_without, faced_if, Undrawable, Undrawn};
 
 use lists::Found;
 use map::Head;
@@ -72,14 +72,15 @@ pub fn draw(
 
 // ---- an edge undrawn
 
-// How many ends of edge row i are at the node.
-fn own_ends(edges: &[i64], i: usize, node: i64) -> usize
-    requires { i * edge_width + edge_width ≤ length edges.now }
-    ensures { result ≡ own_ends edges.now i node }
+// No edge ends at the node but that of row i.
+fn is_isolated_without(edges: &[i64], count: usize, i: usize, node: i64) -> bool
+    requires { EdgeRows edges.now count × (i < count) }
+    ensures { result ≡ isolated_without edges.now count i node }
 {
     let u = edges[i * map::EDGE_WIDTH + map::START];
     let v = edges[i * map::EDGE_WIDTH + map::END];
-    (u == node) as usize + (v == node) as usize
+    let own = (u == node) as usize + (v == node) as usize;
+    links::edge_ends(edges, count, node) == own
 }
 
 // The two ends of an edge that is gone: whether they are isolated now.
@@ -87,21 +88,6 @@ fn own_ends(edges: &[i64], i: usize, node: i64) -> usize
 struct Isolated {
     start: bool,
     end: bool,
-}
-
-// Whether no edge ends at u but that of row i, and at v.
-fn isolated_without(edges: &[i64], count: usize, i: usize, u: i64, v: i64) -> Isolated
-    requires { EdgeRows edges.now count × (i < count) }
-    ensures { (result.start ≡ isolated_without edges.now count i u)
-        × (result.end ≡ isolated_without edges.now count i v) }
-{
-    let ends = links::edge_ends_both(edges, count, u, v);
-    let start = own_ends(edges, i, u);
-    let end = own_ends(edges, i, v);
-    Isolated {
-        start: ends.first == start,
-        end: ends.second == end,
-    }
 }
 
 // Edge row i unlinked and closed up.
@@ -112,9 +98,10 @@ fn undraw_edge(edges: &mut [i64], count: usize, i: usize, u: i64, v: i64) -> Iso
         × (result.end ≡ isolated_without (unlinked_edge edges.old count i) count i v) }
 {
     links::unlink_edge(edges, count, i);
-    let isolated = isolated_without(edges, count, i, u, v);
+    let start = is_isolated_without(edges, count, i, u);
+    let end = is_isolated_without(edges, count, i, v);
     tables::remove_row(edges, map::EDGE_WIDTH, count, i);
-    isolated
+    Isolated { start, end }
 }
 
 // A node that is isolated takes the face.

@@ -47,8 +47,7 @@ use Rattle.head.proofs.Heads.{head_changed}
 use Rattle.darts.specs.Positions.{reverse_of, dart_at, side_place, side_cell}
 use Rattle.darts.proofs.Positions.{cells_of_lem, edge_of, dart_reverse, reverse_below, cell-leaves, cell-arrives, cell-next}
 use Rattle.links.specs.Linking.{redirected}
-use Rattle.links.proofs.Kept.{Relinked, relinked_then, redirected_relinked, redirected-link}
-use Rattle.tables.proofs.Replaced.{new_for}
+use Rattle.links.proofs.Kept.{Relinked, relinked_then, redirected_relinked, redirected-link, new_for}
 use Rattle.links.proofs.Darts.{dart_least, dart_named}
 use Rattle.outcomes.specs.Outcomes.{Formed}
 use Rattle.outcomes.proofs.Formed.{ranges, formed-map, nodes_count, edges_count, edge-next, edges_size, edge_rows_lem}

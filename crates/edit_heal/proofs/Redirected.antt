@@ -12,7 +12,7 @@ use Rattle.tables.specs.Tables.{filled}
 use Rattle.map.specs.Links.{instead, redirect}
 use Rattle.tables.proofs.Filled.{Wide}
 use Rattle.links.specs.Linking.{redirected}
-use Rattle.tables.proofs.Replaced.{new_for}
+use Rattle.links.proofs.Kept.{new_for}
 use Rattle.links.proofs.Darts.{cell_same}
 use Rattle.links.proofs.Filled.{renamed_row, renamed-wide, redirected-filled}
 

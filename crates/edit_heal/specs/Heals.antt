@@ -1,5 +1,5 @@
 -- Two edge rows healed into one, in the numbers of the table; the reasons of a heal in parts, and its numbers.
-use Rattle.std.specs.Prelude.{◌≡◌, Bool, true, cond, ◌&&◌, List, [], ◌∷◌, ℕ, ◌+◌, ◌*◌, ◌-◌, ◌/◌, ◌≤◌, ◌<◌, ltb, ℤ, pos, neg_ℤ, nat_abs, length, get_or}
+use Rattle.std.specs.Prelude.{◌≡◌, true, cond, ◌&&◌, List, [], ◌∷◌, ℕ, ◌+◌, ◌*◌, ◌-◌, ◌/◌, ◌≤◌, ◌<◌, ltb, ℤ, pos, neg_ℤ, nat_abs, length, get_or}
 use Rattle.std.proofs.Math.Option
 use Rattle.std.proofs.Math.Seq.{paste}
 use Rattle.std.specs.Int.Signed.{non_neg}
@@ -15,7 +15,7 @@ use Rattle.map.specs.declared.Counts.{Counts}
 use Rattle.map.specs.declared.Head.{Head}
 use Rattle.map.specs.declared.Variant.{Variant}
 use Rattle.map.specs.Limits.{max_edges, node_width, edge_width, most_points, limit_of}
-use Rattle.map.specs.Rows.{dart_cell, edge, counts}
+use Rattle.map.specs.Rows.{dart_cell, counts}
 use Rattle.map.specs.Edits.{is_new, is_mod, joint, parts}
 use Rattle.map.specs.Reasons.{Reasons}
 use Rattle.map_rows.specs.Rows.{edge_at, edge_map, NodeRows, EdgeRows}
@@ -24,7 +24,6 @@ use Rattle.map_rows.specs.Cells.{cells_of}
 use Rattle.head.specs.Heads.{Counted, changed_head, spent_at}
 use Rattle.darts.specs.Positions.{odd, reverse_of, dart_at, side_cell}
 use Rattle.links.specs.Linking.{redirected}
-use Rattle.reason_departures.specs.Turning.{joins_at}
 use Rattle.outcomes.specs.declared.Done.{Done}
 use Rattle.outcomes.specs.Variants.{own_or_next}
 use Rattle.edit_heal.specs.declared.Parts.{Parts}
@@ -38,14 +37,13 @@ dart_leaving l j node = cond (same_z (get_or l (j * edge_width + 1) (pos 0)) nod
 abbrev pub dart_arriving : List ℤ → ℕ → ℤ → ℕ
 dart_arriving l j node = cond (same_z (get_or l (j * edge_width + 2) (pos 0)) node) (j * 2) (j * 2 + 1)
 
--- rows i and j of n, with a joint, at the end of row i or else at its start
-pub record JointRows (l : List ℤ) (n i j : ℕ) (at_end : Bool) : Type 0 where
+-- rows i and j of n, with a joint
+pub record JointRows (l : List ℤ) (n i j : ℕ) : Type 0 where
   pub rows : EdgeRows l n
   pub few : n ≤ max_edges
   pub first_row : i < n
   pub second_row : j < n
   pub joint : is_some (joint (edge_map l n) (edge_at l i).number (edge_at l j).number) ≡ true
-  pub at_end_lem : at_end ≡ joins_at (edge_map l n) (edge_at l j).number (edge (edge_map l n) (edge_at l i).number).end
 
 -- s are the parts of the heal of rows i and j, and their joint
 pub record PartsOf (l : List ℤ) (n i j : ℕ) (s : Parts) : Type 0 where

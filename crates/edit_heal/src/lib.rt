@@ -59,14 +59,14 @@ fn dart_arriving(edges: &[i64], j: usize, node: i64) -> usize
     }
 }
 
-// The two directed edges that are joined, in the direction of edge row i, at its end or else at its start.
-fn parts_of(edges: &[i64], e: usize, i: usize, j: usize, at_end: bool) -> Parts
-    requires { JointRows edges.now e i j at_end }
+// The two directed edges that are joined, in the direction of edge row i.
+fn parts_of(edges: &[i64], e: usize, i: usize, j: usize) -> Parts
+    requires { JointRows edges.now e i j }
     ensures { PartsOf edges.now e i j result }
 {
     let u = edges[i * map::EDGE_WIDTH + map::START];
     let v = edges[i * map::EDGE_WIDTH + map::END];
-    if at_end {
+    if reason_departures::joins_at(edges, e, j, v) {
         return Parts {
             first: i * 2,
             second: dart_leaving(edges, j, v),
@@ -116,7 +116,8 @@ fn lead_to_healed(edges: &mut [i64], e: usize, p: usize, q: usize, number: i64)
 {
     let c = darts::dart_at(edges, p);
     let d = darts::dart_at(edges, darts::reverse(q));
-    links::redirect_both(edges, e, c, number, d, links::negated(number));
+    links::redirect(edges, e, c, number);
+    links::redirect(edges, e, d, links::negated(number));
 }
 
 // The numbers of the healed edge, with the faces of row i.
@@ -302,12 +303,11 @@ fn heal_at_rows(
         (heal_ticket how (pos (edge_at edges.old i).number) (pos (edge_at edges.old j).number)) }
 {
     let e = head::to_usize(h.edges);
-    let joint = reason_departures::judge_joint(edges, e, i, j);
-    let early = joint.reason;
+    let early = reason_departures::joint_reason(edges, e, i, j);
     if early != 0 {
         return outcomes::refused(h, early);
     }
-    let s = parts_of(edges, e, i, j, joint.at_end);
+    let s = parts_of(edges, e, i, j);
     let l = joined_line(edges, s.first, s.second);
     let late = late_reason(l.count, h, how);
     if late != 0 {

@@ -50,7 +50,8 @@ fn lead_to_halves(edges: &mut [i64], e: usize, i: usize, a: i64, b: i64)
 {
     let d = darts::dart_at(edges, i * 2);
     let back = darts::dart_at(edges, i * 2 + 1);
-    links::redirect_both(edges, e, d, a, back, links::negated(b));
+    links::redirect(edges, e, d, a);
+    links::redirect(edges, e, back, links::negated(b));
 }
 
 // The numbers of the half a from the start of row i to the new node, and of the half b from there to its end.

@@ -45,9 +45,9 @@ module _ (d w : List ℤ) (j : ℕ) (ring : List Dart) (rest : List ℤ) (e : dr
       ∙ ap (λ (l : List ℤ). get_or l 0 (pos 0)) e
 
   -- its length, and then its directed edges
-  pub ring-written : paste (set (paste d 0 w j) j (pos (length ring))) (j + 1) (map dart_cell ring) (length ring)
+  pub ring_written : paste (set (paste d 0 w j) j (pos (length ring))) (j + 1) (map dart_cell ring) (length ring)
       ≡ paste d 0 w (j + (length ring + 1))
-  ring-written =
+  ring_written =
       let h = size in
       let k = length-map ring dart_cell in
       let last : j + 1 + length ring ≡ j + (length ring + 1) = omega arith in
@@ -77,7 +77,7 @@ module _ (d w : List ℤ) (j : ℕ) (ring : List Dart) (rest : List ℤ) (e : dr
   ring-turn l x m f g h =
       ap₂ (λ (a : List ℤ) (y : ℤ). paste (set a j y) (j + 1) (map dart_cell ring) m) f g
       ∙ ap (paste (set (paste d 0 w j) j (pos (length ring))) (j + 1) (map dart_cell ring)) h
-      ∙ ring-written
+      ∙ ring_written
 
 -- all of it is written
 pub all_written : (d w : List ℤ) (j : ℕ) → j ≤ length w → drop j w ≡ [] → paste d 0 w j ≡ w ++ drop (length w) d

@@ -1,17 +1,17 @@
--- A face shared out or renamed, in the numbers of the tables: which side a node or a directed edge goes to is the map's
+-- A face shared out, in the numbers of the tables: which side a node or a directed edge goes to is the map's
 -- definition.
 use Rattle.std.specs.Prelude.{◌≡◌, Bool, true, cond, ◌&&◌, List, ℕ, ◌+◌, ◌*◌, ◌≤◌, ◌<◌, T, ℤ, pos, nat_abs, get_or, set, length}
 use Rattle.std.specs.Int.Signed.{non_neg}
 use Rattle.lists.specs.Tests.{same}
 use Rattle.lists.specs.Scans.{all_of}
 use Rattle.plane.specs.declared.Point.{Point}
-use Rattle.map.specs.Limits.{node_width, edge_width, max_edges}
+use Rattle.map.specs.Limits.{node_width, max_edges}
 use Rattle.map.specs.Rows.{Edge, has_node, node, edge}
 use Rattle.map.specs.Darts.{ring, among, lowest_edge}
 use Rattle.map.specs.Faces as faces
 use Rattle.map.specs.Form.{links_once, rings_bear_one}
 use Rattle.map.specs.Edits.{Shares, side_of_point, side_of_dart}
-use Rattle.tables.specs.Tables.{same_z, replaced_in}
+use Rattle.tables.specs.Tables.{same_z}
 use Rattle.map_rows.specs.Rows.{NodeRows, EdgeRows, node_at, node_map, edge_map, edges_of}
 use Rattle.darts.specs.Positions.{dart_at, side_place, side_cell}
 use Rattle.form_links.specs.Drawn.{drawn_map}
@@ -87,12 +87,3 @@ pub record Whole (edges : List ℤ) (e : ℕ) (marks : List ℕ) : Type 0 where
 abbrev pub side_shared : Sides → List ℕ → List ℤ → ℕ → List ℤ
 side_shared s marks t p = cond (same_z (side_cell t p 5) s.old)
     (set t (side_place p 5) (cond (same (get_or marks p 0) 1) s.inside s.other)) t
-
--- ---- a face renamed
-
--- `new` for the face `old` in the first n node rows, and on both sides in the first n edge rows
-abbrev pub renamed_nodes : ℤ → ℤ → List ℤ → ℕ → List ℤ
-renamed_nodes old new l n = replaced_in node_width 3 old new l n
-
-abbrev pub renamed_sides : ℤ → ℤ → List ℤ → ℕ → List ℤ
-renamed_sides old new l n = replaced_in edge_width 6 old new (replaced_in edge_width 5 old new l n) n

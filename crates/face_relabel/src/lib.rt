@@ -2,13 +2,13 @@
 ghost use Rattle.std.specs.Prelude.{◌≡◌, cond, ℕ, ◌+◌, ◌*◌, ◌≤◌, ◌<◌, get_or, length};
 ghost use Rattle.lists.specs.Tests.{same};
 ghost use Rattle.lists.specs.Tables.{sweep};
+ghost use Rattle.tables.specs.Tables.{replace_at};
 ghost use Rattle.plane.specs.Points.{InRange};
 ghost use Rattle.map.specs.Limits.{node_width, edge_width, max_edges};
 ghost use Rattle.map_rows.specs.Rows.{EdgeRows, edge_at};
 ghost use Rattle.darts.specs.Positions.{side_cell};
 ghost use Rattle.face_relabel.specs.Sharing.{Ringed, ShareableFace, Whole, ring_encloses, start_of, mark_of};
 ghost use Rattle.face_relabel.specs.Sharing.{ring_mark, side_shared, node_shared, edge_shared};
-ghost use Rattle.face_relabel.specs.Sharing.{renamed_nodes, renamed_sides};
 
 use lists::Found;
 use plane::Point;
@@ -129,40 +129,15 @@ pub fn share_edges(
     write_sides(edges, count, s, &marks);
 }
 
-// Renames two faces: `face` for `left`, and then for `right`, in all rows of nodes and edges, in one pass over each.
-pub fn rename_faces(
-    nodes: &mut [i64],
-    n: usize,
-    edges: &mut [i64],
-    count: usize,
-    left: i64,
-    right: i64,
-    face: i64,
-)
+// Renames a face: `new` for `old` in all rows of nodes and edges.
+pub fn rename_face(nodes: &mut [i64], n: usize, edges: &mut [i64], count: usize, old: i64, new: i64)
     requires { (n * node_width ≤ length nodes.old) × (count * edge_width ≤ length edges.old) }
-    ensures { (nodes.new ≡ renamed_nodes right face (renamed_nodes left face nodes.old n) n)
+    ensures { (nodes.new ≡ sweep (λ l i. replace_at old new l (i * node_width + 3)) nodes.old 0 n)
         × (edges.new
-        ≡ renamed_sides right face (renamed_sides left face edges.old count) count) }
+        ≡ sweep (λ l i. replace_at old new l (i * edge_width + 6))
+        (sweep (λ l i. replace_at old new l (i * edge_width + 5)) edges.old 0 count) 0 count) }
 {
-    tables::replace_in_column(
-        nodes,
-        map::NODE_WIDTH,
-        n,
-        map::NODE_FACE,
-        left,
-        face,
-        right,
-        face,
-    );
-    tables::replace_in_columns(
-        edges,
-        map::EDGE_WIDTH,
-        count,
-        map::LEFT,
-        map::RIGHT,
-        left,
-        face,
-        right,
-        face,
-    );
+    tables::replace_column(nodes, map::NODE_WIDTH, n, map::NODE_FACE, old, new);
+    tables::replace_column(edges, map::EDGE_WIDTH, count, map::LEFT, old, new);
+    tables::replace_column(edges, map::EDGE_WIDTH, count, map::RIGHT, old, new);
 }

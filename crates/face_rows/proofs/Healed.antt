@@ -149,10 +149,10 @@ renamed_by : (row : Edge) (f : ℕ) (x : Node) (q : Option ℕ)
 renamed_by row f x none = refl
 renamed_by row f x (some g) = refl
 
-renamed_sides_lem : (row : Edge) (f : ℕ) (m : Map) → renamed_faces (sides_alone row.left row.right) f m
+renamed_sides : (row : Edge) (f : ℕ) (m : Map) → renamed_faces (sides_alone row.left row.right) f m
     ≡ renamed_faces row f m
 unfolding renamed_faces
-renamed_sides_lem row f m =
+renamed_sides row f m =
     λ i. set_nodes (map (λ x. renamed_by row f x x.face i) m.nodes)
     (set_edges (map (λ r. with_sides (renamed row f r.left) (renamed row f r.right) r) m.edges) m)
 
@@ -163,7 +163,7 @@ module _ (makes : Bool) (row : Edge) (m : Map) {l r : ℕ} (el : l ≡ row.left)
       let left = keep (λ g. same g (renamed row f g)) m.faces in
       (λ i. merged_sides makes (sides_alone (el i) (er i)) m)
       ∙ ap (λ (x : Map). set_faces (cond makes (left ++ f ∷ []) left) (given (counts 0 0 (bit makes)) x))
-      (renamed_sides_lem row f m)
+      (renamed_sides row f m)
 
   -- the heal of two faces is that of a row with these sides
   pub healed_as : {box : ℕ → Extent} {nodes edges faces nodes' edges' faces' : List ℤ} {h h' : Head}

@@ -9,12 +9,12 @@ use lib.Dec.{lit<}
 use lib.IntN.{ℤ, pos}
 use lib.ListN.{length}
 use Rattle.lists.specs.Tests.{same}
+use Rattle.lists.specs.Tables.{sweep}
 use Rattle.lists.proofs.Bools.{which}
 use Rattle.map.specs.Limits.{node_width, edge_width}
 use Rattle.map.specs.Rows.{Node, Edge, Map, node_cells, edge_cells, face_cell}
-use Rattle.tables.specs.Tables.{replace_at, replaced_in, filled}
+use Rattle.tables.specs.Tables.{replace_at, filled}
 use Rattle.map.specs.Edits.{with_face, with_sides, renamed, renamed_node, renamed_faces}
-use Rattle.face_relabel.specs.Sharing.{renamed_nodes, renamed_sides}
 use Rattle.map_rows.specs.Rows.{nodes_of, edges_of, EdgeRows}
 use Rattle.tables.proofs.Order.{same-pos}
 use Rattle.map_rows.proofs.Rows.{nodes_length, edges_length}
@@ -66,6 +66,10 @@ right_row o f e = elim (which (same e.right o)) [
       (same-pos e.right o, h)
 ]
 
+-- a face renamed in all rows of a column
+abbrev pub swept_column : ℕ → ℕ → ℕ → ℕ → ℤ → ℤ → List ℤ → List ℤ
+swept_column w k a n old new l = sweep (λ l i. replace_at old new l (i * w + k)) l a n
+
 -- rows as long as they were
 
 pub sides_wide : (l r : ℕ) (e : Edge) → length (edge_cells (with_sides l r e)) ≡ length (edge_cells e)
@@ -108,17 +112,17 @@ twice_edge row f e = λ i. with_sides (twice row f e.left i) (twice row f e.righ
 module _ (row : Edge) (f : ℕ) where
   -- node rows, left renamed and then right
   pub nodes_renamed : (N n : ℕ) (ns : List Node) → length ns ≡ n
-      → renamed_nodes (pos row.right) (pos f)
-      (renamed_nodes (pos row.left) (pos f) (filled N (flat_map node_cells ns)) n) n
+      → swept_column node_width 3 0 n (pos row.right) (pos f)
+      (swept_column node_width 3 0 n (pos row.left) (pos f) (filled N (flat_map node_cells ns)))
       ≡ filled N (flat_map node_cells (map (λ n. renamed_node row f n n.face) ns))
   nodes_renamed N n ns e =
       let ns₁ = map (once_node row.left f) ns in
-      ap (λ (k : ℕ). renamed_nodes (pos row.right) (pos f)
-      (renamed_nodes (pos row.left) (pos f) (filled N (flat_map node_cells ns)) k) k) (sym e)
-      ∙ ap (λ (l : List ℤ). renamed_nodes (pos row.right) (pos f) l (length ns))
+      ap (λ (k : ℕ). swept_column node_width 3 0 k (pos row.right) (pos f)
+      (swept_column node_width 3 0 k (pos row.left) (pos f) (filled N (flat_map node_cells ns)))) (sym e)
+      ∙ ap (swept_column node_width 3 0 (length ns) (pos row.right) (pos f))
       (column_swept node_width node_cells (pos row.left) (pos f) 3 (once_node row.left f) (lit< tt)
       (node_row_lem row.left f) N ns (nodes_wide ns))
-      ∙ ap (λ (k : ℕ). renamed_nodes (pos row.right) (pos f) (filled N (flat_map node_cells ns₁)) k)
+      ∙ ap (λ (k : ℕ). swept_column node_width 3 0 k (pos row.right) (pos f) (filled N (flat_map node_cells ns₁)))
       (sym (map_size (once_node row.left f) ns (length ns) refl))
       ∙ column_swept node_width node_cells (pos row.right) (pos f) 3 (once_node row.right f) (lit< tt)
       (node_row_lem row.right f) N ns₁ (nodes_wide ns₁)
@@ -128,17 +132,17 @@ module _ (row : Edge) (f : ℕ) where
 
   -- a column of the edges
   one_left : (o : ℕ) (N n : ℕ) (es : List Edge) → length es ≡ n → Wide edge_width edge_cells es
-      → replaced_in edge_width 5 (pos o) (pos f) (filled N (flat_map edge_cells es)) n
+      → swept_column edge_width 5 0 n (pos o) (pos f) (filled N (flat_map edge_cells es))
       ≡ filled N (flat_map edge_cells (map (once_left o f) es))
   one_left o N n es e w =
-      ap (λ (k : ℕ). replaced_in edge_width 5 (pos o) (pos f) (filled N (flat_map edge_cells es)) k) (sym e)
+      ap (λ (k : ℕ). swept_column edge_width 5 0 k (pos o) (pos f) (filled N (flat_map edge_cells es))) (sym e)
       ∙ column_swept edge_width edge_cells (pos o) (pos f) 5 (once_left o f) (lit< tt) (left_row o f) N es w
 
   one_right : (o : ℕ) (N n : ℕ) (es : List Edge) → length es ≡ n → Wide edge_width edge_cells es
-      → replaced_in edge_width 6 (pos o) (pos f) (filled N (flat_map edge_cells es)) n
+      → swept_column edge_width 6 0 n (pos o) (pos f) (filled N (flat_map edge_cells es))
       ≡ filled N (flat_map edge_cells (map (once_right o f) es))
   one_right o N n es e w =
-      ap (λ (k : ℕ). replaced_in edge_width 6 (pos o) (pos f) (filled N (flat_map edge_cells es)) k) (sym e)
+      ap (λ (k : ℕ). swept_column edge_width 6 0 k (pos o) (pos f) (filled N (flat_map edge_cells es))) (sym e)
       ∙ column_swept edge_width edge_cells (pos o) (pos f) 6 (once_right o f) (lit< tt) (right_row o f) N es w
 
   abbrev both_sides : ℕ → Edge → Edge
@@ -146,23 +150,27 @@ module _ (row : Edge) (f : ℕ) where
 
   -- both sides
   one-both : (o : ℕ) (N n : ℕ) (es : List Edge) → length es ≡ n → Wide edge_width edge_cells es
-      → renamed_sides (pos o) (pos f) (filled N (flat_map edge_cells es)) n
+      → swept_column edge_width 6 0 n (pos o) (pos f)
+      (swept_column edge_width 5 0 n (pos o) (pos f) (filled N (flat_map edge_cells es)))
       ≡ filled N (flat_map edge_cells (map (both_sides o) es))
   one-both o N n es e w =
       let es₁ = map (once_left o f) es in
-      ap (λ (l : List ℤ). replaced_in edge_width 6 (pos o) (pos f) l n) (one_left o N n es e w)
+      ap (swept_column edge_width 6 0 n (pos o) (pos f)) (one_left o N n es e w)
       ∙ one_right o N n es₁ (map_size (once_left o f) es n e)
       (wide-map edge_width edge_cells (once_left o f) (λ x e. sides_wide (once o f x.left) x.right x ∙ e) es w)
       ∙ ap (λ (r : List Edge). filled N (flat_map edge_cells r))
       (map_both (once_left o f) (once_right o f) (both_sides o) (λ x. refl) es)
 
   pub edges_renamed : (N n : ℕ) (es : List Edge) → length es ≡ n → Wide edge_width edge_cells es
-      → renamed_sides (pos row.right) (pos f)
-      (renamed_sides (pos row.left) (pos f) (filled N (flat_map edge_cells es)) n) n
+      → swept_column edge_width 6 0 n (pos row.right) (pos f)
+      (swept_column edge_width 5 0 n (pos row.right) (pos f)
+      (swept_column edge_width 6 0 n (pos row.left) (pos f)
+      (swept_column edge_width 5 0 n (pos row.left) (pos f) (filled N (flat_map edge_cells es)))))
       ≡ filled N (flat_map edge_cells (map (λ r. with_sides (renamed row f r.left) (renamed row f r.right) r) es))
   edges_renamed N n es e w =
       let es₁ = map (both_sides row.left) es in
-      ap (λ (l : List ℤ). renamed_sides (pos row.right) (pos f) l n) (one-both row.left N n es e w)
+      ap (λ (l : List ℤ). swept_column edge_width 6 0 n (pos row.right) (pos f)
+      (swept_column edge_width 5 0 n (pos row.right) (pos f) l)) (one-both row.left N n es e w)
       ∙ one-both row.right N n es₁ (map_size (both_sides row.left) es n e)
       (wide-map edge_width edge_cells (both_sides row.left)
       (λ x e. sides_wide (once row.left f x.left) (once row.left f x.right) x ∙ e) es w)
@@ -176,22 +184,28 @@ module _ (row : Edge) (f : ℕ) (m : Map) (left right face : ℤ) (il : left ≡
   pub node_table_lem : (nodes : List ℤ) (n : ℕ) → m.nodes ≡ nodes_of nodes n
       → filled (length nodes) (flat_map node_cells (nodes_of nodes n)) ≡ nodes
       → filled (length nodes) (flat_map node_cells (renamed_faces row f m).nodes)
-      ≡ renamed_nodes right face (renamed_nodes left face nodes n) n
+      ≡ swept_column node_width 3 0 n right face (swept_column node_width 3 0 n left face nodes)
   unfolding renamed_faces
   node_table_lem nodes n en cells =
       ap (λ (ns : List Node). filled (length nodes)
       (flat_map node_cells (map (λ n. renamed_node row f n n.face) ns))) en
       ∙ sym (nodes_renamed row f (length nodes) n (nodes_of nodes n) (nodes_length nodes n))
-      ∙ (λ i. renamed_nodes (sym ir i) (sym ifc i) (renamed_nodes (sym il i) (sym ifc i) (cells i) n) n)
+      ∙ (λ i. swept_column node_width 3 0 n (sym ir i) (sym ifc i)
+      (swept_column node_width 3 0 n (sym il i) (sym ifc i) (cells i)))
 
   pub edge-table : (edges : List ℤ) (e : ℕ) → m.edges ≡ edges_of edges e → EdgeRows edges e
       → filled (length edges) (flat_map edge_cells (edges_of edges e)) ≡ edges
       → filled (length edges) (flat_map edge_cells (renamed_faces row f m).edges)
-      ≡ renamed_sides right face (renamed_sides left face edges e) e
+      ≡ swept_column edge_width 6 0 e right face
+      (swept_column edge_width 5 0 e right face
+      (swept_column edge_width 6 0 e left face (swept_column edge_width 5 0 e left face edges)))
   unfolding renamed_faces
   edge-table edges e ee rows cells =
       ap (λ (es : List Edge). filled (length edges)
       (flat_map edge_cells (map (λ r. with_sides (renamed row f r.left) (renamed row f r.right) r) es))) ee
       ∙ sym (edges_renamed row f (length edges) e (edges_of edges e) (edges_length edges e)
       (table_edges_wide edges e rows.fits rows.ranges))
-      ∙ (λ i. renamed_sides (sym ir i) (sym ifc i) (renamed_sides (sym il i) (sym ifc i) (cells i) e) e)
+      ∙ (λ i. swept_column edge_width 6 0 e (sym ir i) (sym ifc i)
+      (swept_column edge_width 5 0 e (sym ir i) (sym ifc i)
+      (swept_column edge_width 6 0 e (sym il i) (sym ifc i)
+      (swept_column edge_width 5 0 e (sym il i) (sym ifc i) (cells i)))))

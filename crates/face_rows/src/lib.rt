@@ -230,7 +230,8 @@ fn rename_faces(
         ≡ nodes.new) × (filled (length edges.old)
         (flat_map edge_cells (renamed_faces row (nat_abs face) m).edges) ≡ edges.new) }
 {
-    face_relabel::rename_faces(nodes, n, edges, count, left, right, face);
+    face_relabel::rename_face(nodes, n, edges, count, left, face);
+    face_relabel::rename_face(nodes, n, edges, count, right, face);
 }
 
 // Heals the faces left and right, which become one: the head after it, and the face that is left.

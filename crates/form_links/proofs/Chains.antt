@@ -10,7 +10,7 @@ use lib.ListN.{length, get_or, set}
 use lib.Seq.{get_or-set_same, get_or-set_other}
 use Rattle.lists.specs.Tests.{same}
 use Rattle.lists.proofs.Bools.{which, equal?, &&-false, same_true, same_eq, same_false}
-use Rattle.form_links.specs.Chains.{latest, some_below, StartsMarked, LeadsBack, Chained}
+use Rattle.form_links.specs.Chains.{latest, some_below, LeadsBack, Chained}
 
 -- ---- the latest that is taken
 
@@ -124,15 +124,3 @@ module _ {f : ℕ → ℕ} {p : ℕ} {last back : List ℕ} (w : Chained f p las
 pub none_chained : (f : ℕ → ℕ) {last back : List ℕ} → ((i : ℕ) → get_or last i 0 ≡ 0) → ((i : ℕ) → get_or back i 0 ≡ 0)
     → Chained f 0 last back
 none_chained f clear none = record { lasts = clear; backs = λ q h. absurd (omega arith); clear = λ q h. none q }
-
--- ---- the marks of the rows where positions start
-
-pub starts_marked : (starts : List ℕ) (k : ℕ) (marks : List ℕ) → StartsMarked starts k marks
-    → get_or starts k 0 < length marks → StartsMarked starts (k + 1) (set marks (get_or starts k 0) 1)
-starts_marked starts k marks w room i =
-    let row = get_or starts k 0 in
-    elim (equal? i row) [
-      | inl e ↦ ap (λ (x : ℕ). get_or (set marks row 1) x 0) e ∙ get_or-set_same marks row 1 0 room
-          ∙ rw (add-one k, same_eq row i (sym e))
-      | inr d ↦ get_or-set_other marks row i 1 0 d ∙ w i ∙ rw (add-one k, same_false row i (λ e. d (sym e)))
-    ]

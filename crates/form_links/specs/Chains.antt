@@ -1,7 +1,7 @@
 -- Departures chained, each to the one before it in its slot: its node and the signs of its direction. A link of a chain
 -- is one more than a position, and 0 ends the chain.
 use Rattle.std.specs.Prelude.{◌≡◌, Bool, false, cond, ◌&&◌, ◌||◌, List, ℕ, zero, suc, ◌+◌, ◌*◌, ◌<◌, ◌≤◌, ℤ, get_or}
-use Rattle.lists.specs.Tests.{same, bit}
+use Rattle.lists.specs.Tests.{same}
 use Rattle.plane.specs.Directions.{signs, same_way}
 use Rattle.darts.specs.Positions.{way_at}
 
@@ -18,10 +18,6 @@ some_below p (suc k) = p k || some_below p k
 -- some of the first k directed edges starts in node row i
 abbrev pub starts_in : List ℕ → ℕ → ℕ → Bool
 starts_in starts k i = some_below (λ p. same (get_or starts p 0) i) k
-
--- the marks of the node rows where the first k directed edges start
-abbrev pub StartsMarked : List ℕ → ℕ → List ℕ → Type 0
-StartsMarked starts k marks = (i : ℕ) → get_or marks i 0 ≡ bit (starts_in starts k i)
 
 -- the slot of position q: its node row and the signs of its direction
 abbrev pub slot : List ℤ → List ℕ → ℕ → ℕ

@@ -1,7 +1,7 @@
 // Of condition 2 what needs a walk: departures from one node differ in direction, a node has no face exactly when an
 // edge ends there, and the links. The rows of nodes and faces, and the positions of what follows, are given for each
 // directed edge: `starts`, `bears`, `nexts`.
-ghost use Rattle.std.specs.Prelude.{◌≡◌, Bool, true, ◌&&◌, ◌||◌, ℕ, ◌+◌, ◌*◌, ◌/◌, ◌≤◌, ◌<◌, pos, negsuc, length, get_or};
+ghost use Rattle.std.specs.Prelude.{◌≡◌, Bool, true, cond, ◌&&◌, ℕ, ◌+◌, ◌*◌, ◌/◌, ◌≤◌, ◌<◌, pos, negsuc, length, get_or};
 ghost use Rattle.std.specs.Bool.{beq};
 ghost use Rattle.lists.specs.Tests.{same};
 ghost use Rattle.lists.specs.Scans.{all_of};
@@ -13,8 +13,7 @@ ghost use Rattle.map_rows.specs.Rows.{EdgeRow, NodeRows, EdgeRows, FaceRows, edg
 ghost use Rattle.plane.specs.Directions.{signs, same_way};
 ghost use Rattle.darts.specs.Positions.{way_at, RowsNamed, NextsNamed};
 ghost use Rattle.form_links.specs.Drawn.{drawn_map};
-ghost use Rattle.form_links.specs.Chains.{latest, some_below, slot, repeats, LeadsBack, Chained};
-ghost use Rattle.form_links.specs.Chains.{StartsMarked};
+ghost use Rattle.form_links.specs.Chains.{latest, some_below, starts_in, repeats, LeadsBack, Chained};
 
 use map::Map;
 
@@ -44,36 +43,18 @@ fn chain_has_way(edges: &[i64], last: u16, back: &[u16], p: usize) -> bool
     chain_has_way(edges, back[q], back, p)
 }
 
-// The signs of the reverse of edge row i, by those of the edge: the opposite ones where it has two points.
-fn reverse_signs(edges: &[i64], i: usize, s: usize) -> usize
-    requires { EdgeRow edges.now i × (s ≡ signs (way_at edges.now (i * 2))) × (i < max_edges) × (s < 9) }
-    ensures { (result ≡ signs (way_at edges.now (i * 2 + 1))) × (result < 9) }
-{
-    if curves::point_count(map_rows::curve_of(edges, i)) == 2 {
-        return darts::SIGN_PAIRS - 1 - s;
-    }
-    darts::signs_at(edges, i * 2 + 1)
-}
-
-// Whether the departure p, from node row i and with the signs s, has the direction of an earlier one. It joins the
-// chain of its node and signs.
-fn joins_alike(
-    edges: &[i64],
-    i: usize,
-    s: usize,
-    p: usize,
-    last: &mut [u16],
-    back: &mut [u16],
-) -> bool
+// Whether the departure p, from node row i, has the direction of an earlier one. It joins the chain of its node and
+// signs.
+fn joins_alike(edges: &[i64], i: usize, p: usize, last: &mut [u16], back: &mut [u16]) -> bool
     requires { ((q : ℕ) → q ≤ p → EdgeRow edges.now (q / 2))
-        × (i < max_nodes) × (s < 9) × (p < max_edges * 2)
+        × (i < max_nodes) × (p < max_edges * 2)
         × (max_nodes * 9 ≤ length last.old) × (max_edges * 2 ≤ length back.old)
         × LeadsBack p last.old back.old }
-    ensures { (f : ℕ → ℕ) → f p ≡ i * 9 + s
+    ensures { (f : ℕ → ℕ) → f p ≡ i * 9 + signs (way_at edges.now p)
         → Chained f p last.old back.old
         → (result ≡ repeats edges.now f p) × Chained f (p + 1) last.new back.new }
 {
-    let j = i * darts::SIGN_PAIRS + s;
+    let j = i * darts::SIGN_PAIRS + darts::signs_at(edges, p);
     let c = last[j];
     last[j] = (p + 1) as u16;
     if c == 0 {
@@ -83,57 +64,40 @@ fn joins_alike(
     chain_has_way(edges, c, back, p)
 }
 
-// Whether a departure of edge row i has the direction of an earlier one. Both join their chains, and the rows of their
-// nodes are marked.
-fn row_joins_alike(
-    edges: &[i64],
-    i: usize,
-    starts: &[u16],
-    last: &mut [u16],
-    back: &mut [u16],
-    marks: &mut [u8],
-) -> bool
-    requires { ((k : ℕ) → k ≤ i → EdgeRow edges.now k) × (i < max_edges) × (i * 2 + 2 ≤ length starts.now)
-        × (get_or starts.now (i * 2) 0 < max_nodes) × (get_or starts.now (i * 2 + 1) 0 < max_nodes)
-        × (max_nodes * 9 ≤ length last.old) × (max_edges * 2 ≤ length back.old) × (max_nodes ≤ length marks.old)
-        × Chained (slot edges.now starts.now) (i * 2) last.old back.old
-        × StartsMarked starts.now (i * 2) marks.old }
-    ensures { (result ≡ (repeats edges.now (slot edges.now starts.now) (i * 2)
-        || repeats edges.now (slot edges.now starts.now) (i * 2 + 1)))
-        × Chained (slot edges.now starts.now) (i * 2 + 1 + 1) last.new
-        back.new
-        × StartsMarked starts.now (i * 2 + 1 + 1) marks.new }
-{
-    let p = i * 2;
-    let a = starts[p] as usize;
-    let b = starts[p + 1] as usize;
-    marks[a] = 1;
-    marks[b] = 1;
-    let s = darts::signs_at(edges, p);
-    let t = reverse_signs(edges, i, s);
-    let first = joins_alike(edges, a, s, p, last, back);
-    let second = joins_alike(edges, b, t, p + 1, last, back);
-    first | second
-}
-
-// Whether the departures of each node differ in direction; if so, the rows where an edge ends are marked.
-fn departures_differ(edges: &[i64], count: usize, starts: &[u16], marks: &mut [u8]) -> bool
+// Whether the departures of each node differ in direction.
+fn departures_differ(edges: &[i64], count: usize, starts: &[u16]) -> bool
     requires { EdgeRows edges.now count × (count ≤ max_edges) × (count * 2 ≤ length starts.now)
-        × ((p : ℕ) → p < count * 2 → get_or starts.now p 0 < max_nodes)
-        × (max_nodes ≤ length marks.old) × StartsMarked starts.now 0 marks.old }
-    ensures { ((nodes : _) (n : ℕ) → NodeRows nodes n
+        × ((p : ℕ) → p < count * 2 → get_or starts.now p 0 < max_nodes) }
+    ensures { (nodes : _) (n : ℕ) → NodeRows nodes n
         → RowsNamed node_width nodes n edges.now 1 starts.now (count * 2)
-        → result ≡ departures_differ (drawn_map nodes n edges.now count))
-        × (result ≡ true → StartsMarked starts.now (count * 2) marks.new) }
+        → result ≡ departures_differ (drawn_map nodes n edges.now count) }
 {
     let mut last = [0u16; CHAINS];
     let mut back = [0u16; map::DARTS];
     for i in 0..count {
-        if row_joins_alike(edges, i, starts, &mut last, &mut back, marks) {
+        let p = i * 2;
+        if joins_alike(edges, starts[p] as usize, p, &mut last, &mut back) {
+            return false;
+        }
+        if joins_alike(edges, starts[p + 1] as usize, p + 1, &mut last, &mut back) {
             return false;
         }
     }
     true
+}
+
+// Marks with 1 the node rows where a directed edge starts.
+fn mark_starts(count: usize, starts: &[u16], marks: &mut [u8])
+    requires { (count ≤ max_edges) × (count * 2 ≤ length starts.now)
+        × ((p : ℕ) → p < count * 2 → get_or starts.now p 0 < length marks.old) }
+    ensures { (i : ℕ)
+        → get_or marks.new i 0
+        ≡ cond (starts_in starts.now (count * 2) i) 1 (get_or marks.old i 0) }
+{
+    for p in 0..count * 2 {
+        let i = starts[p] as usize;
+        marks[i] = 1;
+    }
 }
 
 // Whether each node has face -1 exactly when its row is marked.
@@ -164,10 +128,11 @@ pub fn departures_formed(
     ensures { result ≡ (departures_differ (drawn_map nodes.now n edges.now count)
         && bare_marked (drawn_map nodes.now n edges.now count)) }
 {
-    let mut marks = [0u8; Map::NODES];
-    if !departures_differ(edges, count, starts, &mut marks) {
+    if !departures_differ(edges, count, starts) {
         return false;
     }
+    let mut marks = [0u8; Map::NODES];
+    mark_starts(count, starts, &mut marks);
     bare_marked(nodes, n, &marks)
 }
 

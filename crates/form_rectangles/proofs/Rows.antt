@@ -8,7 +8,7 @@ use mathlib.Core.List.{List, []}
 use Prim.Native.Nat.{ℕ, zero, suc, ◌+◌, ◌*◌, ◌<◌, ◌≤◌}
 use native.Mathlib.Nat.{lt_of_le_of_lt}
 use native.Mathlib.Omega.{arith}
-use lib.Dec.{eqb, lit<}
+use lib.Dec.{eqb, ltb, lit<}
 use lib.IntN.{ℤ, pos, nat_abs}
 use lib.ListN.{get_or}
 use mir.Syntax.{w64}
@@ -17,19 +17,18 @@ use Rattle.lists.specs.Tests.{same}
 use Rattle.lists.specs.Scans.{all_of}
 use Rattle.lists.specs.Tables.{table}
 use Rattle.lists.proofs.Bools.{equal?, same_eq, same_false, cond_has}
-use Rattle.lists.proofs.Members.{all_of_lem}
 use Rattle.plane.specs.Points.{max_coordinate}
 use Rattle.tables.specs.Tables.{row_at, cell, same_z}
 use Rattle.tables.proofs.Order.{word_test}
 use Rattle.tables.proofs.Rows.{row_cell, row_first}
 use Rattle.tables.proofs.Tests.{zero_tested}
+use Rattle.bounding_boxes.specs.declared.Extent.{Extent}
 use Rattle.map.specs.Limits.{face_width}
-use Rattle.map.specs.Rows.{Edge, boundary, box_of, rectangle}
+use Rattle.map.specs.Rows.{Edge, box_of, rectangle}
 use Rattle.map_rows.specs.Rows.{EdgeRows, EdgesInRange, edges_of, face_at}
 use Rattle.rectangles.specs.Boxes.{boundary_box, Bounded}
-use Rattle.rectangles.proofs.Boundaries.{boundary-ranged, settled_is}
-use Rattle.form_rectangles.specs.Merged.{box_in, BoxRows, settled_for}
-use Rattle.form_rectangles.proofs.Points.{no_point_lem}
+use Rattle.rectangles.proofs.Boundaries.{settled_is}
+use Rattle.form_rectangles.specs.Merged.{settled_for}
 
 module _ (l : List ℤ) (k : ℕ) where
   -- cell j and a number of a box
@@ -45,15 +44,10 @@ module _ (l : List ℤ) (k : ℕ) where
   face_tested fits = zero_tested (get_or l (k * 5) (pos 0)) fits
       ∙ ap (λ (z : ℤ). same (nat_abs z) 0) (sym (row_first face_width l k (lit< tt)))
 
--- the rectangle of a row's box is bounded
-pub settled_bounds : {boxes : List ℕ} → BoxRows boxes → (f k : ℕ) → Bounded (settled_for f (box_in boxes k))
-settled_bounds {boxes} rows f k = cond_has Bounded (same f 0 || same (get_or boxes (k * 4) 0) (suc max_coordinate))
-    (record { left = omega arith; right = omega arith; low = omega arith; high = omega arith }) (record {
-      left = rows.most (k * 4);
-      right = omega arith;
-      low = rows.most (k * 4 + 1);
-      high = omega arith;
-    })
+-- a rectangle is bounded where its box is
+pub settled_bounds : (f : ℕ) {e : Extent} → Bounded e → Bounded (settled_for f e)
+settled_bounds f {e} s = cond_has Bounded (same f 0 || ltb e.right e.left)
+    (record { left = omega arith; right = omega arith; low = omega arith; high = omega arith }) s
 
 -- ---- the rectangle of a face
 
@@ -69,10 +63,7 @@ pub rectangle_is : {l : List ℤ} {n : ℕ} → EdgeRows l n → (f : ℕ) → s
 rectangle_is {l} {n} t f =
     elim (equal? f 0) [
       | inl e ↦ rw (same_eq f 0 e) (sym (ap (rectangle (edges_of l n)) e ∙ no_rectangle (edges_of l n)))
-      | inr d ↦ rw (
-        same_false f 0 d,
-        no_point_lem (boundary (edges_of l n) f) (all_of_lem (boundary (edges_of l n) f) (boundary-ranged (edges_ranged t) f)),
-      ) (settled_is (edges_ranged t) f d)
+      | inr d ↦ rw (same_false f 0 d) (settled_is (edges_ranged t) f d)
     ]
 
 -- ---- row by row

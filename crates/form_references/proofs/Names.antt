@@ -1,14 +1,14 @@
 -- Named rows: a search of the first column tells whether the map has the row. Containing faces, edges of links, ends of
 -- curves. Assumes nothing.
 use mathlib.Core.Path.{◌≡◌, refl, sym, ap, ◌∙◌, subst}
-use mathlib.Core.Bool.{Bool, true, false, true≢false, false≢true}
+use mathlib.Core.Bool.{Bool, true, false, true≢false}
 use mathlib.Core.Logic.{inl, inr}
 use mathlib.Core.List.{List}
 use Prim.Native.Nat.{ℕ, suc, ◌+◌, ◌*◌, ◌/◌, ◌≤◌, ◌<◌}
 use native.Mathlib.Nat.{zero-add}
 use native.Mathlib.Omega.{arith}
 use lib.IntN.{ℤ, pos, negsuc, nat_abs, ◌-ℤ◌}
-use lib.ListN.{length, get_or, set, length-set}
+use lib.ListN.{length, get_or, set}
 use lib.Seq.{get_or-set_same, get_or-set_other}
 use lib.Signed.{lt_z}
 use borrow.Author.Count.{below_more}
@@ -16,7 +16,6 @@ use borrow.Author.Tests.{ltb-true, ltb-false}
 pub use Rattle.integers.specs.Signs.{not_negative}
 use Rattle.lists.specs.Scans.{any_of, is_some}
 use Rattle.lists.specs.Tables.{table, place}
-use Rattle.lists.specs.declared.Found.{Found}
 use Rattle.lists.specs.declared.Found.TheVariants.{At, Missing}
 use Rattle.tables.specs.Tables.{same_z, column, Rising, numbered}
 use Rattle.tables.proofs.Order.{same_is}
@@ -31,8 +30,7 @@ use Rattle.map_rows.specs.Rows.{edge_at, node_map, edge_map, NodeRows, FaceRows}
 use Rattle.map_rows.proofs.Rows.{edge_numbers_lem, edges_rising}
 use Rattle.map_rows.proofs.Lookups.{node_found, node_missing, edge_found, edge_missing, face_found, face_missing}
 use Rattle.form_ranges.specs.Ranges.{face_map, EdgesInOrder}
-use Rattle.darts.specs.Positions.{side_cell, RowsNamed}
-use Rattle.form_references.specs.Sides.{has_row, is_at, written}
+use Rattle.form_references.specs.Sides.{has_row}
 
 module _ {A : Type 0} (p : A → Bool) (f : ℕ → A) (n : ℕ) where
   pub any_at : (i : ℕ) → place p 0 (table f 0 n) ≡ At i → any_of p (table f 0 n) ≡ true
@@ -61,32 +59,6 @@ pub one_more : (P : ℕ → ℕ → Type 0) (r : List ℕ) (p x : ℕ) → p < l
 one_more P r p x room old new = below_more (λ q. P q (get_or (set r p x) q 0)) p
     (λ q h. subst (P q) (sym (get_or-set_other r p q x 0 (λ e. omega arith))) (old q h))
     (subst (P p) (sym (get_or-set_same r p x 0 room)) new)
-
--- the row that a search finds for place p is written, and it is as it has to be, where there is one
-pub found_written : (P : ℕ → ℕ → Type 0) (b : Bool) (p : ℕ) (rows : List ℕ) (f : Found) → (f ≡ Missing → b ≡ false)
-    → ((x : ℕ) → f ≡ At x → P p x × (b ≡ true)) → p < length rows → {r : Bool} {l : List ℕ}
-    → (r ≡ is_at f) × (l ≡ written rows p f) → (r ≡ b) × (length l ≡ length rows)
-    × (r ≡ true → ((q : ℕ) → q < p → P q (get_or rows q 0)) → (q : ℕ) → q < p + 1 → P q (get_or l q 0))
-found_written P b p rows (At x) miss hit room (e, d) = let h = hit x refl in (
-  e ∙ sym h.1,
-  ap length d ∙ length-set rows p x,
-  (λ t old. rw d (one_more P rows p x room old h.0)),
-)
-found_written P b p rows Missing miss hit room (e, d) =
-    (e ∙ sym (miss refl), ap length d, (λ t. absurd (false≢true (sym e ∙ t))))
-
--- as it has to be: the row that directed edge p names in column k
-module _ (w : ℕ) (t : List ℤ) (n : ℕ) (l : List ℤ) (k p : ℕ) (rows : List ℕ) {f : Found}
-    (e : f ≡ place (same_z (side_cell l p k)) 0 (column w t n)) where
-  pub row_below : (x : ℕ) → f ≡ At x → x < n
-  row_below x h = (found_row w t n (side_cell l p k) x (sym e ∙ h)).0
-
-  pub row_written : p < length rows → {r : Bool} {out : List ℕ} → (r ≡ is_at f) × (out ≡ written rows p f)
-      → (r ≡ has_row w t n (side_cell l p k)) × (length out ≡ length rows)
-      × (r ≡ true → RowsNamed w t n l k rows p → RowsNamed w t n l k out (p + 1))
-  row_written = found_written (λ q v. (v < n) × (get_or t (v * w) (pos 0) ≡ side_cell l q k))
-      (has_row w t n (side_cell l p k)) p rows f (λ h. column_missing w t n (side_cell l p k) (sym e ∙ h))
-      (λ x h. let a = found_row w t n (side_cell l p k) x (sym e ∙ h) in ((a.0, a.1), a.2))
 
 module _ {l : List ℤ} {n : ℕ} where
   pub node-named : NodeRows l n → (m : ℕ) → any_of (same_z (pos m)) (column 4 l n) ≡ has_node (node_map l n) m

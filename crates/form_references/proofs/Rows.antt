@@ -21,7 +21,7 @@ use Rattle.map_rows.proofs.Rows.{EdgeCells, edge_cells_lem, edges_table}
 use Rattle.darts.proofs.Positions.{side_even, side_odd}
 use Rattle.form_ranges.specs.Ranges.{map_in, face_map, InOrder}
 use Rattle.form_ranges.proofs.Parts.{node_rows_lem, edges_in_order, face_rows_lem}
-use Rattle.form_references.specs.Sides.{has_row, has_link, both_sides, all_sides, edge_named}
+use Rattle.form_references.specs.Sides.{has_row, has_link, both_sides, all_sides}
 use Rattle.form_references.proofs.Names.{node-named, face_named, dart_edge}
 
 -- ---- tests of all rows
@@ -96,21 +96,6 @@ module _ (nodes edges faces : List ℤ) (c : Counts) where
   abbrev pub links_pass : Bool
   links_pass = all_sides (has_link edges c.edges) edges 3 c.edges
 
-  -- all edges name rows that exist where the last three pass
-  all_named : all_of (edge_named nodes edges faces c) (table (λ i. i) 0 c.edges) ≡ sides_pass && (ends_pass && links_pass)
-  all_named =
-      all_both (both_sides (has_row 5 faces c.faces) edges 5)
-      (λ i. both_sides (has_row 4 nodes c.nodes) edges 1 i && both_sides (has_link edges c.edges) edges 3 i)
-      (table (λ i. i) 0 c.edges)
-      ∙ ap (λ (b : Bool). sides_pass && b) (all_both (both_sides (has_row 4 nodes c.nodes) edges 1)
-      (both_sides (has_link edges c.edges) edges 3) (table (λ i. i) 0 c.edges))
-
--- among no nodes an edge finds no end
-no_ends : (nodes edges : List ℤ) (n m : ℕ) → n ≡ 0 → 0 < m → all_sides (has_row 4 nodes n) edges 1 m ≡ false
-no_ends nodes edges zero (suc m) e h = refl
-no_ends nodes edges zero zero e h = absurd (omega arith)
-no_ends nodes edges (suc n) m e h = absurd (omega arith)
-
 -- named rows exist where all of them pass
 module _ {nodes edges faces : List ℤ} {c : Counts} {h₀ : Head} (r : InOrder nodes edges faces c h₀) (h : Head) where
   pub named-parts : named (map_in nodes edges faces c h) ≡ faces_pass nodes edges faces c
@@ -150,20 +135,17 @@ module _ {nodes edges faces : List ℤ} {c : Counts} {h₀ : Head} (r : InOrder 
           (λ i l. link (get_or edges (i * 32 + 3) (pos 0)) (ap (λ d. d.edge) (cells i l).next_left))
           (λ i l. link (get_or edges (i * 32 + 4) (pos 0)) (ap (λ d. d.edge) (cells i l).next_right))
 
+  module _ (faces-pass : faces_pass nodes edges faces c ≡ true) where
+    module _ (sides-pass : sides_pass nodes edges faces c ≡ true) where
+      pub links_tell : {b : Bool} → ends_pass nodes edges faces c ≡ true → b ≡ links_pass nodes edges faces c → b
+          ≡ named (map_in nodes edges faces c h)
+      links_tell ends-pass e = e ∙ sym (named-parts ∙ rw (faces-pass, sides-pass, ends-pass))
+
+      pub no_ends : ends_pass nodes edges faces c ≡ false → false ≡ named (map_in nodes edges faces c h)
+      no_ends e = sym (named-parts ∙ rw (faces-pass, sides-pass, e))
+
+    pub no_sides : sides_pass nodes edges faces c ≡ false → false ≡ named (map_in nodes edges faces c h)
+    no_sides e = sym (named-parts ∙ rw (faces-pass, e))
+
   pub no_faces : faces_pass nodes edges faces c ≡ false → false ≡ named (map_in nodes edges faces c h)
   no_faces e = sym (named-parts ∙ rw e)
-
-  module _ (faces-pass : faces_pass nodes edges faces c ≡ true) where
-    pub edges_tell : {b : Bool} → b ≡ all_of (edge_named nodes edges faces c) (table (λ i. i) 0 c.edges) → b
-        ≡ named (map_in nodes edges faces c h)
-    edges_tell e = e ∙ all_named nodes edges faces c ∙ sym (named-parts ∙ rw faces-pass)
-
-    pub no_edges : c.edges ≡ 0 → true ≡ named (map_in nodes edges faces c h)
-    no_edges e = sym (named-parts ∙ rw (faces-pass, e))
-
-    pub no_nodes : c.nodes ≡ 0 → 0 < c.edges → false ≡ named (map_in nodes edges faces c h)
-    no_nodes e one = sym (named-parts ∙ rw (
-      faces-pass,
-      no_ends nodes edges c.nodes c.edges e one,
-      &&-false (sides_pass nodes edges faces c),
-    ))

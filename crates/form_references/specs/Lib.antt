@@ -1,2 +1,2 @@
--- `Sides`: what edges name, and how it is written down.
+-- `Sides`: what both sides of each edge name.
 pub mod Sides

@@ -3,9 +3,8 @@
 ghost use Rattle.std.specs.Prelude.{◌≡◌, true, false, ◌&&◌, ℕ, ◌+◌, ◌*◌, ◌/◌, ◌≤◌, ◌<◌, pos, negsuc, nat_abs, length};
 ghost use Rattle.std.specs.Int.Signed.{lt_z};
 ghost use Rattle.lists.specs.Scans.{all_of};
-ghost use Rattle.lists.specs.Tables.{table};
 ghost use Rattle.lists.specs.declared.Found.TheVariants.{At, Missing};
-ghost use Rattle.tables.specs.Tables.{Rising, Placed};
+ghost use Rattle.tables.specs.Tables.{Rising};
 ghost use Rattle.plane.specs.Points.{same_point};
 ghost use Rattle.curves.specs.Curves.{Run, curve_of, last_point};
 ghost use Rattle.curves.specs.Tests.{neighbours_differ};
@@ -15,8 +14,7 @@ ghost use Rattle.map.specs.Form.{in_face, named, curve_fits};
 ghost use Rattle.map_rows.specs.Rows.{NodeRows, EdgeRow, EdgeRows, FaceRows, nodes_of, edges_of, edge_at, node_map};
 ghost use Rattle.darts.specs.Positions.{dart_at, side_cell, RowsNamed, NextsNamed};
 ghost use Rattle.form_ranges.specs.Ranges.{map_in, face_map, EdgesInOrder, InOrder};
-ghost use Rattle.form_references.specs.Sides.{has_row, has_link, both_sides, all_sides};
-ghost use Rattle.form_references.specs.Sides.{is_at, written, edge_named, DartsNamed, Indexed};
+ghost use Rattle.form_references.specs.Sides.{has_row, has_link, all_sides};
 
 use lists::Found;
 use map::Counts;
@@ -63,18 +61,6 @@ fn nodes_name_faces(nodes: &[i64], n: usize, faces: &[i64], f: usize, index: &[u
     true
 }
 
-// Whether a row was found; it is written at place p.
-fn write_found(found: Found, p: usize, rows: &mut [u16]) -> bool
-    requires { ((x : ℕ) → found ≡ At x → x < 65536) × (p < length rows.old) }
-    ensures { (result ≡ is_at found) × (rows.new ≡ written rows.old p found) }
-{
-    let Found::At(x) = found else {
-        return false;
-    };
-    rows[p] = x as u16;
-    true
-}
-
 // Whether the row exists that the directed edge at position p names in a column pair; it is written.
 fn find_row_of(
     t: &[i64],
@@ -95,7 +81,11 @@ fn find_row_of(
         → RowsNamed w t.now n edges.now k rows.new (p + 1)) }
 {
     let found = tables::find_indexed(t, w, n, darts::dart_cell(edges, p, k), index);
-    write_found(found, p, rows)
+    let Found::At(x) = found else {
+        return false;
+    };
+    rows[p] = x as u16;
+    true
 }
 
 // Whether the rows exist that both sides of each edge name in columns k and k + 1; they are written.
@@ -128,54 +118,6 @@ pub fn find_rows(
     true
 }
 
-// The same as `find_row_of` where every place of the index is a row.
-fn find_placed_of(
-    t: &[i64],
-    w: usize,
-    n: usize,
-    edges: &[i64],
-    p: usize,
-    k: usize,
-    index: &[u16],
-    rows: &mut [u16],
-) -> bool
-    requires { Rising w t.now n × (n ≤ max_edges)
-        × (p / 2 * edge_width + edge_width ≤ length edges.now) × (k + 2 ≤ edge_width)
-        × Placed index.now n × (p < length rows.old) }
-    ensures { (result ≡ has_row w t.now n (side_cell edges.now p k))
-        × (length rows.new ≡ length rows.old)
-        × (result ≡ true → RowsNamed w t.now n edges.now k rows.old p
-        → RowsNamed w t.now n edges.now k rows.new (p + 1)) }
-{
-    let found = tables::find_placed(t, w, n, darts::dart_cell(edges, p, k), index);
-    write_found(found, p, rows)
-}
-
-// Whether the rows exist that both sides of edge row i name in columns k and k + 1; they are written.
-fn find_both_rows(
-    t: &[i64],
-    w: usize,
-    n: usize,
-    edges: &[i64],
-    i: usize,
-    k: usize,
-    index: &[u16],
-    rows: &mut [u16],
-) -> bool
-    requires { Rising w t.now n × (n ≤ max_edges)
-        × (i * edge_width + edge_width ≤ length edges.now) × (k + 2 ≤ edge_width)
-        × Placed index.now n × (i * 2 + 2 ≤ length rows.old) }
-    ensures { (result ≡ both_sides (has_row w t.now n) edges.now k i)
-        × (length rows.new ≡ length rows.old)
-        × (result ≡ true → RowsNamed w t.now n edges.now k rows.old (i * 2)
-        → RowsNamed w t.now n edges.now k rows.new (i * 2 + 2)) }
-{
-    if !find_placed_of(t, w, n, edges, i * 2, k, index, rows) {
-        return false;
-    }
-    find_placed_of(t, w, n, edges, i * 2 + 1, k, index, rows)
-}
-
 // The edge of a directed edge.
 fn edge_of(d: i64) -> i64
     requires { lt_z d (negsuc 999998) ≡ false }
@@ -189,7 +131,7 @@ fn edge_of(d: i64) -> i64
 
 // The position of the directed edge that a link names: found, or missing.
 fn find_position(edges: &[i64], count: usize, d: i64, index: &[u16]) -> Found
-    requires { EdgesInOrder edges.now count × Placed index.now count }
+    requires { EdgesInOrder edges.now count × (length index.now ≡ 4096) }
     ensures { (result ≡ Missing → has_link edges.now count d ≡ false)
         × ((q : ℕ) → result ≡ At q
         → (q < count * 2) × (dart_at edges.now q ≡ dart_of d)
@@ -198,7 +140,7 @@ fn find_position(edges: &[i64], count: usize, d: i64, index: &[u16]) -> Found
     if d < map::LEAST_LINK {
         return Found::Missing;
     }
-    let found = tables::find_placed(edges, map::EDGE_WIDTH, count, edge_of(d), index);
+    let found = tables::find_indexed(edges, map::EDGE_WIDTH, count, edge_of(d), index);
     let Found::At(i) = found else {
         return Found::Missing;
     };
@@ -208,114 +150,38 @@ fn find_position(edges: &[i64], count: usize, d: i64, index: &[u16]) -> Found
 // Whether the edge exists that the link of the directed edge at position p names; the position of its next is written.
 fn find_next_of(edges: &[i64], count: usize, p: usize, index: &[u16], nexts: &mut [u16]) -> bool
     requires { EdgesInOrder edges.now count × (count ≤ max_edges) × (p < count * 2)
-        × Placed index.now count × (p < length nexts.old) }
+        × (length index.now ≡ 4096) × (p < length nexts.old) }
     ensures { (result ≡ has_link edges.now count (side_cell edges.now p 3))
         × (length nexts.new ≡ length nexts.old)
         × (result ≡ true → NextsNamed edges.now count nexts.old p
         → NextsNamed edges.now count nexts.new (p + 1)) }
 {
-    let link = darts::dart_cell(edges, p, map::NEXT_LEFT);
-    write_found(find_position(edges, count, link, index), p, nexts)
+    let found = find_position(
+        edges,
+        count,
+        darts::dart_cell(edges, p, map::NEXT_LEFT),
+        index,
+    );
+    let Found::At(x) = found else {
+        return false;
+    };
+    nexts[p] = x as u16;
+    true
 }
 
-// Whether the edges exist that both links of edge row i name; their positions are written.
-fn find_both_nexts(edges: &[i64], count: usize, i: usize, index: &[u16], nexts: &mut [u16]) -> bool
-    requires { EdgesInOrder edges.now count × (count ≤ max_edges) × (i < count)
-        × Placed index.now count × (i * 2 + 2 ≤ length nexts.old) }
-    ensures { (result ≡ both_sides (has_link edges.now count) edges.now 3 i)
+// Whether the edges exist that both links of each edge name; their positions are written.
+fn find_nexts(edges: &[i64], count: usize, index: &[u16], nexts: &mut [u16]) -> bool
+    requires { EdgesInOrder edges.now count × (count ≤ max_edges)
+        × (length index.now ≡ 4096) × (count * 2 ≤ length nexts.old) }
+    ensures { (result ≡ all_sides (has_link edges.now count) edges.now 3 count)
         × (length nexts.new ≡ length nexts.old)
-        × (result ≡ true → NextsNamed edges.now count nexts.old (i * 2)
-        → NextsNamed edges.now count nexts.new (i * 2 + 2)) }
+        × (result ≡ true → NextsNamed edges.now count nexts.new (count * 2)) }
 {
-    if !find_next_of(edges, count, i * 2, index, nexts) {
-        return false;
-    }
-    find_next_of(edges, count, i * 2 + 1, index, nexts)
-}
-
-// Whether the rows exist that edge row i names; they are written.
-fn edge_names(
-    nodes: &[i64],
-    edges: &[i64],
-    faces: &[i64],
-    c: Counts,
-    i: usize,
-    node_index: &[u16],
-    edge_index: &[u16],
-    face_index: &[u16],
-    starts: &mut [u16],
-    nexts: &mut [u16],
-    bears: &mut [u16],
-) -> bool
-    requires { Indexed nodes.now edges.now faces.now c node_index.now edge_index.now face_index.now
-        × (i < c.edges) × (length starts.old ≡ max_edges * 2) × (length nexts.old ≡ max_edges * 2)
-        × (length bears.old ≡ max_edges * 2) }
-    ensures { (result ≡ edge_named nodes.now edges.now faces.now c i)
-        × (length starts.new ≡ max_edges * 2)
-        × (length nexts.new ≡ max_edges * 2)
-        × (length bears.new ≡ max_edges * 2)
-        × (result ≡ true
-        → DartsNamed nodes.now edges.now faces.now c
-        starts.old nexts.old bears.old (i * 2)
-        → DartsNamed nodes.now edges.now faces.now c
-        starts.new nexts.new bears.new (i * 2 + 2)) }
-{
-    if !find_both_rows(
-        faces,
-        map::FACE_WIDTH,
-        c.faces,
-        edges,
-        i,
-        map::LEFT,
-        face_index,
-        bears,
-    ) {
-        return false;
-    }
-    if !find_both_rows(
-        nodes,
-        map::NODE_WIDTH,
-        c.nodes,
-        edges,
-        i,
-        map::START,
-        node_index,
-        starts,
-    ) {
-        return false;
-    }
-    find_both_nexts(edges, c.edges, i, edge_index, nexts)
-}
-
-// Whether the rows exist that all edges name; they are written.
-fn edges_name_rows(
-    nodes: &[i64],
-    edges: &[i64],
-    faces: &[i64],
-    c: Counts,
-    node_index: &[u16],
-    edge_index: &[u16],
-    face_index: &[u16],
-    starts: &mut [u16],
-    nexts: &mut [u16],
-    bears: &mut [u16],
-) -> bool
-    requires { Indexed nodes.now edges.now faces.now c node_index.now edge_index.now face_index.now
-        × (length starts.old ≡ max_edges * 2) × (length nexts.old ≡ max_edges * 2)
-        × (length bears.old ≡ max_edges * 2) }
-    ensures { (result ≡ all_of (edge_named nodes.now edges.now faces.now c)
-        (table (λ i. i) 0 c.edges))
-        × (length starts.new ≡ max_edges * 2)
-        × (length nexts.new ≡ max_edges * 2)
-        × (length bears.new ≡ max_edges * 2)
-        × (result ≡ true
-        → DartsNamed nodes.now edges.now faces.now c
-        starts.new nexts.new bears.new (c.edges * 2)) }
-{
-    for i in 0..c.edges {
-        if !edge_names(
-            nodes, edges, faces, c, i, node_index, edge_index, face_index, starts, nexts, bears,
-        ) {
+    for i in 0..count {
+        if !find_next_of(edges, count, i * 2, index, nexts) {
+            return false;
+        }
+        if !find_next_of(edges, count, i * 2 + 1, index, nexts) {
             return false;
         }
     }
@@ -348,34 +214,39 @@ pub fn names_exist(
         × RowsNamed face_width faces.now c.faces edges.now 5 bears.new
         (c.edges * 2)) }
 {
-    let mut face_index = [0u16; tables::INDEX];
-    tables::index_rows(faces, map::FACE_WIDTH, c.faces, &mut face_index);
-    if !nodes_name_faces(nodes, c.nodes, faces, c.faces, &face_index) {
+    // one index for the three tables in turn: what is left of the last is only a wrong first look
+    let mut index = [0u16; tables::INDEX];
+    tables::index_rows(faces, map::FACE_WIDTH, c.faces, &mut index);
+    if !nodes_name_faces(nodes, c.nodes, faces, c.faces, &index) {
         return false;
     }
-    // without edges nothing more is named, and each edge names a node: from here on no table is empty
-    if c.edges == 0 {
-        return true;
-    }
-    if c.nodes == 0 {
-        return false;
-    }
-    let mut node_index = [0u16; tables::INDEX];
-    tables::index_rows(nodes, map::NODE_WIDTH, c.nodes, &mut node_index);
-    let mut edge_index = [0u16; tables::INDEX];
-    tables::index_rows(edges, map::EDGE_WIDTH, c.edges, &mut edge_index);
-    edges_name_rows(
-        nodes,
-        edges,
+    if !find_rows(
         faces,
-        c,
-        &node_index,
-        &edge_index,
-        &face_index,
-        starts,
-        nexts,
+        map::FACE_WIDTH,
+        c.faces,
+        edges,
+        c.edges,
+        map::LEFT,
+        &index,
         bears,
-    )
+    ) {
+        return false;
+    }
+    tables::index_rows(nodes, map::NODE_WIDTH, c.nodes, &mut index);
+    if !find_rows(
+        nodes,
+        map::NODE_WIDTH,
+        c.nodes,
+        edges,
+        c.edges,
+        map::START,
+        &index,
+        starts,
+    ) {
+        return false;
+    }
+    tables::index_rows(edges, map::EDGE_WIDTH, c.edges, &mut index);
+    find_nexts(edges, c.edges, &index, nexts)
 }
 
 // ---- curves

@@ -26,7 +26,7 @@ use Rattle.tables.proofs.Lookups.{row_place}
 use Rattle.map_rows.proofs.Lookups.{edge_found}
 use Rattle.darts.specs.Positions.{dart_at, side_cell}
 use Rattle.darts.proofs.Positions.{cells_of_lem, link_is, next-named}
-use Rattle.tables.proofs.Replaced.{new_for}
+use Rattle.links.proofs.Kept.{new_for}
 
 -- ---- as they are written
 
@@ -94,6 +94,6 @@ module _ {l : List ℤ} {n : ℕ} (t : EdgeRows l n) where
   link-named p h = ap (λ (d : Dart). has_edge (edge_map l n) d.edge) (link_is t p h) ∙ next-named t p h
 
   -- as it is written
-  pub written-named : (p : ℕ) → p < n * 2 → has_edge (edge_map l n) (dart_of (dart_cell (dart_at l p))).edge ≡ true
-  written-named p h = ap (λ (d : Dart). has_edge (edge_map l n) d.edge) (cell_dart (dart_at l p) (dart_least p h))
+  pub written_named : (p : ℕ) → p < n * 2 → has_edge (edge_map l n) (dart_of (dart_cell (dart_at l p))).edge ≡ true
+  written_named p h = ap (λ (d : Dart). has_edge (edge_map l n) d.edge) (cell_dart (dart_at l p) (dart_least p h))
       ∙ dart_named p h

@@ -8,7 +8,7 @@ use Prim.Native.Nat.{ℕ, zero, suc, ◌+◌, ◌*◌, ◌-◌, ◌/◌, ◌%◌
 use native.Mathlib.Omega.{arith}
 use lib.IntN.{ℤ, pos}
 use lib.ListN.{length, get_or, set, drop, length-set, length-drop}
-use lib.Seq.{get_or-set_same, get_or-set_other, get_or-drop, ext_get_or, length-take-le}
+use lib.Seq.{get_or-set_same, get_or-set_other, set_comm, get_or-drop, ext_get_or, length-take-le}
 use Rattle.lists.specs.Tests.{same}
 use Rattle.lists.specs.Scans.{all_of, find, is_some}
 use Rattle.lists.specs.Tables.{table, sweep}
@@ -20,12 +20,48 @@ use Rattle.tables.specs.Tables.{same_z, replace_at, row_at, cell, numbered}
 use Rattle.map.specs.Form.{edge_ranges}
 use Rattle.map.specs.Links.{with_links}
 use Rattle.map_rows.specs.Rows.{edge_at, edge_map, EdgeRows}
-use Rattle.tables.proofs.Order.{replace-length}
-use Rattle.tables.proofs.Replaced.{new_for, replace_here, replace_there}
+use Rattle.tables.proofs.Order.{replace_length}
 use Rattle.tables.proofs.Rows.{row_cell, rows-table}
 use Rattle.map_rows.proofs.Rows.{edges_table, edge_numbers_lem}
 use Rattle.darts.specs.Positions.{side_place, side_cell}
 use Rattle.links.specs.Linking.{redirected}
+
+-- ---- a number replaced
+
+abbrev pub new_for : ℤ → ℤ → ℤ → ℤ
+new_for old new z = cond (same_z z old) new z
+
+module _ (old new : ℤ) (l : List ℤ) (j : ℕ) where
+  replace_here : j < length l → get_or (replace_at old new l j) j (pos 0) ≡ new_for old new (get_or l j (pos 0))
+  replace_here h = elim (which (same_z (get_or l j (pos 0)) old)) [
+    | inl e ↦ rw e
+        (get_or-set_same l j new (pos 0) h)
+    | inr e ↦ rw e refl
+  ]
+
+  replace_there : (i : ℕ) → (i ≡ j → ⊥) → get_or (replace_at old new l j) i (pos 0) ≡ get_or l i (pos 0)
+  replace_there i h = elim (which (same_z (get_or l j (pos 0)) old)) [
+    | inl e ↦ rw e
+        (get_or-set_other l j i new (pos 0) h)
+    | inr e ↦ rw e refl
+  ]
+
+-- two numbers at different places, in either order
+pub replace_swap : (old new : ℤ) (l : List ℤ) (i j : ℕ) → (i ≡ j → ⊥) → replace_at old new (replace_at old new l i) j
+    ≡ replace_at old new (replace_at old new l j) i
+replace_swap old new l i j d =
+    ap (λ (z : ℤ). cond (same_z z old) (set (replace_at old new l i) j new) (replace_at old new l i))
+    (replace_there old new l i j (λ e. d (sym e)))
+    ∙ go (same_z (get_or l i (pos 0)) old) (same_z (get_or l j (pos 0)) old)
+    ∙ ap (λ (z : ℤ). cond (same_z z old) (set (replace_at old new l j) i new) (replace_at old new l j))
+    (sym (replace_there old new l j i d))
+  where
+    go : (p q : Bool) → cond q (set (cond p (set l i new) l) j new) (cond p (set l i new) l)
+        ≡ cond p (set (cond q (set l j new) l) i new) (cond q (set l j new) l)
+    go true true = set_comm l i j new new d
+    go true false = refl
+    go false true = refl
+    go false false = refl
 
 -- ---- a column swept
 
@@ -35,7 +71,7 @@ module _ (old new : ℤ) (k : ℕ) (few : k < 32) where
 
   pub swept_length : (n a : ℕ) (l : List ℤ) → length (sweep turn l a n) ≡ length l
   swept_length zero a l = refl
-  swept_length (suc n) a l = swept_length n (a + 1) (turn l a) ∙ replace-length old new l (a * edge_width + k)
+  swept_length (suc n) a l = swept_length n (a + 1) (turn l a) ∙ replace_length old new l (a * edge_width + k)
 
   -- a number that is not in the column
   pub swept_other : (n a : ℕ) (l : List ℤ) (j : ℕ) → ((i : ℕ) → i < a + n → j ≡ i * edge_width + k → ⊥)
@@ -75,7 +111,7 @@ module _ (old new : ℤ) (k : ℕ) (few : k < 32) where
           ≡ new_for old new (get_or l (i * edge_width + k) (pos 0))) e
           (replace_here old new l (a * edge_width + k) (omega arith))
       go later (inr h) =
-          let b : (a + 1 + n) * edge_width ≤ length (turn l a) = let e = replace-length old new l (a * edge_width + k) in
+          let b : (a + 1 + n) * edge_width ≤ length (turn l a) = let e = replace_length old new l (a * edge_width + k) in
           omega arith in
           later h (omega arith) b ∙ ap (new_for old new)
           (replace_there old new l (a * edge_width + k) (j * edge_width + k) (λ e. omega arith))

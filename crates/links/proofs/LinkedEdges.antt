@@ -31,7 +31,7 @@ use Rattle.links.specs.Linking.{positions, leaves_node, departures_but, first_me
 use Rattle.links.specs.Linking.{linked_in, linked_edge, unlinked_edge}
 use Rattle.links.proofs.Kept.{Relinked, relinked_then, redirected_relinked}
 use Rattle.links.proofs.FirstMet.{first_none, position_below, leaving_below}
-use Rattle.links.proofs.Darts.{dart_least, link-named, written-named}
+use Rattle.links.proofs.Darts.{dart_least, link-named, written_named}
 use Rattle.links.proofs.LinksKept.{redirected_kept, met_below, linked_in_kept, linked_in_relinked}
 use Rattle.links.proofs.Departures.{departures-map, met_found, met_nothing}
 use Rattle.links.proofs.Redirected.{redirected-map, stored_map, dart_kept}
@@ -46,7 +46,7 @@ module _ {l : List ℤ} {n : ℕ} (t : EdgeRows l n) (p : ℕ) (h : p < n * 2) w
       let d = dart_cell (dart_at l p) in
       let r = redirected_relinked c d l n in
       let b = reverse_below n p h in
-      stored_map (redirected_kept t c d (written-named t p h)) (reverse_of p) b (dart_at l q) (dart_least t q k)
+      stored_map (redirected_kept t c d (written_named t p h)) (reverse_of p) b (dart_at l q) (dart_least t q k)
       ∙ ap₂ (λ (x : Dart) (m : Map). lead x (dart_at l q) m) (dart_kept t r (reverse_of p) b ∙ dart_reverse l p)
       (redirected-map t (dart_at l q) (dart_at l p) (dart_least t q k) (dart_least t p h))
 

@@ -17,7 +17,7 @@ use Rattle.darts.proofs.Positions.{reverse_below}
 use Rattle.links.specs.Linking.{redirected, linked_at, linked_where, linked_in, departures_but, first_met}
 use Rattle.links.proofs.Kept.{Relinked, relinked_then, redirected_relinked, redirected-link, stored_relinked}
 use Rattle.links.proofs.Kept.{stored_here, stored_there, rows_kept, has_kept}
-use Rattle.links.proofs.Darts.{link-named, written-named}
+use Rattle.links.proofs.Darts.{link-named, written_named}
 use Rattle.links.proofs.FirstMet.{met_in, leaving_below}
 
 module _ {l : List ℤ} {n : ℕ} (t : EdgeRows l n) where
@@ -51,8 +51,8 @@ module _ {l : List ℤ} {n : ℕ} (t : EdgeRows l n) (p : ℕ) (h : p < n * 2) w
   linked_at_kept q k =
       let c = dart_cell (dart_at l q) in
       let d = dart_cell (dart_at l p) in
-      stored_kept (redirected_kept t c d (written-named t p h)) (reverse_of p) c (reverse_below n p h)
-      (has_kept (redirected_relinked c d l n) t.fits (dart_of c).edge ∙ written-named t q k)
+      stored_kept (redirected_kept t c d (written_named t p h)) (reverse_of p) c (reverse_below n p h)
+      (has_kept (redirected_relinked c d l n) t.fits (dart_of c).edge ∙ written_named t q k)
 
   -- where a departure is linked in, by the answer of the search
   pub linked_where_relinked : (r : Found) → Relinked l (linked_where l n p r) n

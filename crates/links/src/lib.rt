@@ -1,10 +1,9 @@
 // The first departure met turning clockwise, and the only ways in which links change.
-ghost use Rattle.std.specs.Prelude.{◌≡◌, true, false, cond, not, ◌&&◌, ℕ, ◌+◌, ◌*◌, ◌/◌, ◌<◌, ◌≤◌, neg_ℤ, length, get_or};
+ghost use Rattle.std.specs.Prelude.{◌≡◌, true, false, not, ◌&&◌, ℕ, ◌+◌, ◌*◌, ◌/◌, ◌<◌, ◌≤◌, neg_ℤ, length, get_or};
 ghost use Rattle.std.proofs.lemmas.List.Edits.{sets};
 ghost use Rattle.std.specs.Int.Signed.{non_neg};
 ghost use Rattle.lists.specs.Tests.{same};
 ghost use Rattle.lists.specs.Scans.{any_of, count_of};
-ghost use Rattle.tables.specs.Tables.{same_z};
 ghost use Rattle.plane.specs.Directions.{way_to, same_way};
 ghost use Rattle.curves.specs.Curves.{Run};
 ghost use Rattle.rotation.specs.Law.{lawful_next};
@@ -189,33 +188,6 @@ pub fn edge_ends(edges: &[i64], count: usize, node: i64) -> usize
     n
 }
 
-// Edge ends at two nodes.
-#[derive(Drop)]
-pub struct Ends {
-    pub first: usize,
-    pub second: usize,
-}
-
-// How many edge ends are at each of two nodes, in one pass.
-pub fn edge_ends_both(edges: &[i64], count: usize, u: i64, v: i64) -> Ends
-    requires { EdgeRows edges.now count }
-    ensures { (result.first ≡ count_of (leaves_node edges.now u) (positions count))
-        × (result.second ≡ count_of (leaves_node edges.now v) (positions count))
-        × (result.first ≤ count * 2) × (result.second ≤ count * 2) }
-{
-    let mut m: usize = 0;
-    let mut n: usize = 0;
-    for p in 0..count * 2 {
-        let node = darts::dart_cell(edges, p, map::START);
-        m += (node == u) as usize;
-        n += (node == v) as usize;
-    }
-    Ends {
-        first: m,
-        second: n,
-    }
-}
-
 // ---- links changed
 
 // The reverse of an edge as it is written.
@@ -239,32 +211,6 @@ pub fn redirect(edges: &mut [i64], count: usize, old: i64, new: i64)
             edges[i * map::EDGE_WIDTH + map::NEXT_RIGHT] = new;
         }
     }
-}
-
-// Redirects links twice in one pass: what led to `old` leads to `new`, and then what leads to `then_old` to `then_new`.
-pub fn redirect_both(
-    edges: &mut [i64],
-    count: usize,
-    old: i64,
-    new: i64,
-    then_old: i64,
-    then_new: i64,
-)
-    requires { count * edge_width ≤ length edges.old }
-    ensures { edges.new
-        ≡ redirected then_old then_new (redirected old new edges.old count) count }
-{
-    tables::replace_in_columns(
-        edges,
-        map::EDGE_WIDTH,
-        count,
-        map::NEXT_LEFT,
-        map::NEXT_RIGHT,
-        old,
-        new,
-        then_old,
-        then_new,
-    );
 }
 
 // Links in the new departure p where c is the first one met clockwise from it.
@@ -316,13 +262,6 @@ pub fn link_edge(edges: &mut [i64], count: usize)
     link_in(edges, count, p + 1, p + 1);
 }
 
-// `new` for `old`, and any other number itself.
-fn instead(z: i64, old: i64, new: i64) -> i64
-    ensures { result ≡ cond (same_z z old) new z }
-{
-    if z == old { new } else { z }
-}
-
 // Unlinks row i: what led to a removed departure leads where its reverse led, the start's departure first.
 pub fn unlink_edge(edges: &mut [i64], count: usize, i: usize)
     requires { EdgeRows edges.old count × (i < count) }
@@ -332,7 +271,7 @@ pub fn unlink_edge(edges: &mut [i64], count: usize, i: usize)
     let d = darts::dart_at(edges, p);
     let back = darts::dart_at(edges, p + 1);
     let to = darts::dart_cell(edges, p + 1, map::NEXT_LEFT);
-    let own = darts::dart_cell(edges, p, map::NEXT_LEFT);
-    let then = instead(own, d, to);
-    redirect_both(edges, count, d, to, back, then);
+    redirect(edges, count, d, to);
+    let then = darts::dart_cell(edges, p, map::NEXT_LEFT);
+    redirect(edges, count, back, then);
 }

@@ -1,9 +1,7 @@
--- Booleans and the test `same` (`Bools`), turns of loops over rows (`Scans`), sweeps joined (`Sweeps`), laws of lists,
--- numbers that rise (`Rising`), rows by their numbers (`Lookups`, `RisingRows`), and linear equations over bits
--- (`Linear`).
+-- Booleans and the test `same` (`Bools`), turns of loops over rows (`Scans`), laws of lists, numbers that rise
+-- (`Rising`), rows by their numbers (`Lookups`, `RisingRows`), and linear equations over bits (`Linear`).
 pub mod Bools
 pub mod Scans
-pub mod Sweeps
 pub mod Members
 pub mod Perms
 pub mod Sums

@@ -100,9 +100,9 @@ module _ {A : Type 0} (number : A → ℕ) where
       step true q = e ∙ sym (same_true (number y) n q)
       step false q = refl
 
-  pub replaced_in_lem : (n : ℕ) (x : A) (l : List A) {y : A} → Memᴰ y (replaced n x l)
+  pub replaced_in : (n : ℕ) (x : A) (l : List A) {y : A} → Memᴰ y (replaced n x l)
       → (y ≡ x) ⊎ (Memᴰ y l × (same (number y) n ≡ false))
-  replaced_in_lem n x l {y} k = go (Memᴰ.of_map (λ r. cond (same (number r) n) x r) l k)
+  replaced_in n x l {y} k = go (Memᴰ.of_map (λ r. cond (same (number r) n) x r) l k)
     where
       pick : (r : A) → Memᴰ r l → (b : Bool) → same (number r) n ≡ b → cond b x r ≡ y
           → (y ≡ x) ⊎ (Memᴰ y l × (same (number y) n ≡ false))

@@ -88,12 +88,7 @@ fn write_lines(list: &[i64], count: usize)
 }
 
 // Writes the contents of a sheet; the answer to the call for them. It is 0 for every sheet that tickets made.
-fn write_contents(
-    nodes: &[i64; console::NODE_CELLS],
-    edges: &[i64; console::EDGE_CELLS],
-    faces: &[i64; console::FACE_CELLS],
-    h: Head,
-) -> Answer
+fn write_contents(nodes: &[i64], edges: &[i64], faces: &[i64], h: Head) -> Answer
     ensures { result ≡ (contents_of (lent_now nodes.entry edges.entry faces.entry h) (replicate (levels * 3) (pos 0))
         ).answer }
 {

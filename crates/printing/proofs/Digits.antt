@@ -58,5 +58,5 @@ module _ (out : List ℕ) (at n k : ℕ) (ds : List ℕ) (b : n < 2 ^ 64) (f : I
   pub natural-length : at + k ≡ at + length (natural_text n)
   natural-length = rw (← text, count)
 
-  pub natural-written : at + k ≤ length out → paste out at ds k ≡ sets out at (natural_text n)
-  natural-written g = rw (← text) (sym (sets-eq (take k ds) out at (rw count g) ∙ rw count))
+  pub natural_written : at + k ≤ length out → paste out at ds k ≡ sets out at (natural_text n)
+  natural_written g = rw (← text) (sym (sets-eq (take k ds) out at (rw count g) ∙ rw count))

@@ -21,8 +21,7 @@ use Rattle.tables.proofs.Order.{same-pos}
 use Rattle.darts.proofs.Positions.{cells_of_lem, edge_of, number_injective}
 use Rattle.links.specs.Linking.{positions, leaves_node}
 use Rattle.links.proofs.Departures.{ends_count}
-use Rattle.reason_departures.specs.Turning.{ends_at, joins_at, joint_reasons, JudgedJoint}
-use Rattle.reason_departures.specs.declared.Joint.{Joint}
+use Rattle.reason_departures.specs.Turning.{ends_at, joins_at, joint_reasons}
 
 module _ {l : List ℤ} {n : ℕ} (t : EdgeRows l n) where
   -- rows are one exactly where their numbers are
@@ -105,32 +104,16 @@ reason_cases x y true b e f = rw e
 reason_cases x y false true e f = rw (e, f)
 reason_cases x y false false e f = rw (e, f)
 
--- the edges are one, or share no node
-abbrev pub apart : Map → ℕ → ℕ → Bool
-apart m a b =
+pub reason_is : (m : Map) (a b : ℕ) → first_reason (joint_reasons m a b) ≡ (let e = edge m a in let other = edge m b in
+    cond (same a b || not ((same e.start other.start || same e.start other.end)
+    || (same e.end other.start || same e.end other.end))) 16
+    (cond (joins_at m b e.end || joins_at m b e.start) 0 17))
+unfolding shared_nodes joint
+reason_is m a b =
     let e = edge m a in
     let other = edge m b in
-    same a b || not ((same e.start other.start || same e.start other.end)
-    || (same e.end other.start || same e.end other.end))
-
-module _ (m : Map) (a b : ℕ) where
-  reason_is : first_reason (joint_reasons m a b)
-      ≡ cond (apart m a b) 16 (cond (joins_at m b (edge m a).end || joins_at m b (edge m a).start) 0 17)
-  unfolding shared_nodes joint
-  reason_is =
-      let e = edge m a in
-      let other = edge m b in
-      let s : ℕ → Bool = λ k. same k other.start || same k other.end in
-      let t : ℕ → Bool = λ k. same (edge_ends m k) 2 in
-      reason_cases (same a b || same (length (shared_nodes m a b)) 0) (is_some (joint m a b))
-      (same a b || not (s e.start || s e.end)) (joins_at m b e.end || joins_at m b e.start)
-      (ap (λ (x : Bool). same a b || x) (none_shared s t e.end e.start)) (one_found s t e.end e.start)
-
-  -- by the three tests
-  pub judged : (t x y : Bool) → apart m a b ≡ t → joins_at m b (edge m a).end ≡ x → joins_at m b (edge m a).start ≡ y
-      → (j : Joint) → j.reason ≡ cond t 16 (cond (x || y) 0 17) → (j.reason ≡ 0 → j.at_end ≡ x)
-      → JudgedJoint m a b j
-  judged t x y e f g j r s = record {
-    reason = r ∙ sym (reason_is ∙ (λ i. cond (e i) 16 (cond (f i || g i) 0 17)));
-    at_end_lem = λ z. s z ∙ sym f;
-  }
+    let s : ℕ → Bool = λ k. same k other.start || same k other.end in
+    let t : ℕ → Bool = λ k. same (edge_ends m k) 2 in
+    reason_cases (same a b || same (length (shared_nodes m a b)) 0) (is_some (joint m a b))
+    (same a b || not (s e.start || s e.end)) (joins_at m b e.end || joins_at m b e.start)
+    (ap (λ (x : Bool). same a b || x) (none_shared s t e.end e.start)) (one_found s t e.end e.start)

@@ -1,5 +1,5 @@
 -- Directions taken and turns at a node by position, and two edges joined.
-use Rattle.std.specs.Prelude.{◌≡◌, Bool, not, ◌&&◌, ◌||◌, List, [], ◌∷◌, ℕ, ◌+◌, ◌*◌, ◌/◌, ℤ, pos, length, get_or}
+use Rattle.std.specs.Prelude.{Bool, not, ◌&&◌, ◌||◌, List, [], ◌∷◌, ℕ, ◌+◌, ◌*◌, ◌/◌, ℤ, pos, length, get_or}
 use Rattle.lists.specs.Tests.{same}
 use Rattle.lists.specs.Scans.{any_of, keep, is_some}
 use Rattle.plane.specs.Directions.{Way, same_way}
@@ -9,11 +9,10 @@ use Rattle.map.specs.Limits.{edge_width}
 use Rattle.map.specs.Rows.{Map, edge}
 use Rattle.map.specs.Darts.{edge_ends}
 use Rattle.map.specs.Edits.{shared_nodes, joint}
-use Rattle.map.specs.Reasons.{Reasons, first_reason}
+use Rattle.map.specs.Reasons.{Reasons}
 use Rattle.tables.specs.Tables.{same_z}
 use Rattle.darts.specs.Positions.{side_cell, way_at, way_with}
 use Rattle.links.specs.Linking.{positions, leaves_node}
-use Rattle.reason_departures.specs.declared.Joint.{Joint}
 
 -- a departure from the node, but of edge row `own`, has the direction v
 abbrev pub way_taken_at : List ℤ → ℕ → ℕ → ℤ → Way → Bool
@@ -39,8 +38,3 @@ joins_at m f k = (same k (edge m f).start || same k (edge m f).end) && same (edg
 -- 16 and 17 of the reasons against a heal
 abbrev pub joint_reasons : Map → ℕ → ℕ → Reasons
 joint_reasons m a b = (16, same a b || same (length (shared_nodes m a b)) 0) ∷ (17, not (is_some (joint m a b))) ∷ []
-
--- j is the first of those, and where there is none whether a and b join at the end of a
-pub record JudgedJoint (m : Map) (a b : ℕ) (j : Joint) : Type 0 where
-  pub reason : j.reason ≡ first_reason (joint_reasons m a b)
-  pub at_end_lem : j.reason ≡ 0 → j.at_end ≡ joins_at m b (edge m a).end

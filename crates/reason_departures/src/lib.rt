@@ -5,10 +5,10 @@ ghost use Rattle.lists.specs.Tests.{same};
 ghost use Rattle.lists.specs.Scans.{any_of};
 ghost use Rattle.curves.specs.Curves.{Run, curve_of};
 ghost use Rattle.map.specs.Limits.{edge_width, max_edges};
-ghost use Rattle.map.specs.Reasons.{edge_isolated, order_changes};
+ghost use Rattle.map.specs.Reasons.{edge_isolated, order_changes, first_reason};
 ghost use Rattle.map_rows.specs.Rows.{edge_at, edge_map, EdgeRows};
 ghost use Rattle.links.specs.Linking.{positions, leaves_node};
-ghost use Rattle.reason_departures.specs.Turning.{direction_taken_at, turns_at, ends_at, joins_at, JudgedJoint};
+ghost use Rattle.reason_departures.specs.Turning.{direction_taken_at, turns_at, ends_at, joins_at, joint_reasons};
 
 // ---- 9: isolated edges
 
@@ -19,8 +19,7 @@ pub fn edge_isolated(edges: &[i64], count: usize, i: usize) -> bool
 {
     let u = edges[i * map::EDGE_WIDTH + map::START];
     let v = edges[i * map::EDGE_WIDTH + map::END];
-    let ends = links::edge_ends_both(edges, count, u, v);
-    (u != v) & (ends.first == 1) & (ends.second == 1)
+    (u != v) & (links::edge_ends(edges, count, u) == 1) & (links::edge_ends(edges, count, v) == 1)
 }
 
 // ---- 11: a departure has the direction of another edge's end
@@ -94,8 +93,27 @@ fn ends_at(edges: &[i64], j: usize, node: i64) -> bool
         | (edges[j * map::EDGE_WIDTH + map::END] == node)
 }
 
+// The first reason against a joint: 16 where the edges are one or share no node, 17 where no shared node has exactly
+// two edge ends, else 0.
+pub fn joint_reason(edges: &[i64], count: usize, i: usize, j: usize) -> u64
+    requires { EdgeRows edges.now count × (i < count) × (j < count) }
+    ensures { result ≡ first_reason (joint_reasons (edge_map edges.now count)
+        (edge_at edges.now i).number (edge_at edges.now j).number) }
+{
+    let u = edges[i * map::EDGE_WIDTH + map::START];
+    let v = edges[i * map::EDGE_WIDTH + map::END];
+    if (i == j) | !(ends_at(edges, j, u) | ends_at(edges, j, v)) {
+        return 16;
+    }
+    if joins_at(edges, count, j, v) | joins_at(edges, count, j, u) {
+        0
+    } else {
+        17
+    }
+}
+
 // Whether edge row j ends at the node, which has exactly two edge ends.
-fn joins_at(edges: &[i64], count: usize, j: usize, node: i64) -> bool
+pub fn joins_at(edges: &[i64], count: usize, j: usize, node: i64) -> bool
     requires { EdgeRows edges.now count × (j < count) × (non_neg node ≡ true) }
     ensures { result ≡ joins_at (edge_map edges.now count) (edge_at edges.now j).number (nat_abs node) }
 {
@@ -103,39 +121,4 @@ fn joins_at(edges: &[i64], count: usize, j: usize, node: i64) -> bool
         return false;
     }
     links::edge_ends(edges, count, node) == 2
-}
-
-// The first reason against a joint; with none, whether it is at the end of the first edge, or else at its start.
-#[derive(Drop)]
-pub struct Joint {
-    pub reason: u64,
-    pub at_end: bool,
-}
-
-// The joint of edge rows i and j: against it 16 where the edges are one or share no node, 17 where no shared node has
-// exactly two edge ends, else 0. The end of row i comes before its start.
-pub fn judge_joint(edges: &[i64], count: usize, i: usize, j: usize) -> Joint
-    requires { EdgeRows edges.now count × (i < count) × (j < count) }
-    ensures { JudgedJoint (edge_map edges.now count) (edge_at edges.now i).number
-        (edge_at edges.now j).number result }
-{
-    let u = edges[i * map::EDGE_WIDTH + map::START];
-    let v = edges[i * map::EDGE_WIDTH + map::END];
-    if (i == j) | !(ends_at(edges, j, u) | ends_at(edges, j, v)) {
-        return Joint {
-            reason: 16,
-            at_end: false,
-        };
-    }
-    if joins_at(edges, count, j, v) {
-        return Joint {
-            reason: 0,
-            at_end: true,
-        };
-    }
-    let at_start = joins_at(edges, count, j, u);
-    Joint {
-        reason: if at_start { 0 } else { 17 },
-        at_end: false,
-    }
 }

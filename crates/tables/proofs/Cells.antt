@@ -3,12 +3,12 @@
 use mathlib.Core.Path.{◌≡◌, sym, ap, ap₂, ◌∙◌}
 use mathlib.Core.List.{List, ◌++◌, append_assoc}
 use Prim.Native.Nat.{ℕ, ◌+◌, ◌-◌, ◌*◌, ◌<◌, ◌≤◌}
-use native.Mathlib.Nat.{suc-mul, mul-le-mul_right, add_assoc, zero-add}
+use native.Mathlib.Nat.{suc-mul, mul-le-mul_right, add_assoc}
 use native.Mathlib.Numerals.{add-one}
 use native.Mathlib.Omega.{arith}
-use lib.ListN.{length, get_or, set, take, drop, length-drop, length-append, take-append-drop}
+use lib.ListN.{length, get_or, set, take, drop, length-drop, length-append}
 use lib.Seq.{paste, paste-suc, length_paste_head, get_or-append-add, get_or-drop, take-paste, drop-paste, drop-drop}
-use lib.Seq.{take_all, take-take, take-add, drop_at, drop-append-le, length-take-le}
+use lib.Seq.{take_all}
 
 module _ {A : Type 0} (d : List A) (at : ℕ) (s : List A) where
   pub paste_more : (j : ℕ) (z : A) → at + j < length d → j < length s → set (paste d at s j) (at + j) (get_or s j z)
@@ -44,31 +44,6 @@ moved_from {A} l at from j z t h k e =
     ap (λ (m : List A). get_or m (from + j) z) e
     ∙ paste-after l at (drop from l) j z (omega arith) (simp length-drop (omega arith)) (from + j) (omega arith)
     ∙ sym (get_or-drop from l j z)
-
--- the numbers from `at` to `end` taken out, moved down by w and put back
-pub moved_part : {A : Type 0} (l : List A) (at end w : ℕ) → at + w ≤ end → end ≤ length l
-    → (let m = take (end - at) (drop at l) in
-    take at l ++ (paste m 0 (drop w m) (length m - w) ++ drop (end - at) (drop at l))
-    ≡ paste l at (drop (at + w) l) (end - (at + w)))
-moved_part {A} l at end w h k =
-    let x = drop at l in
-    let n = end - (at + w) in
-    let m = take (end - at) x in
-    let long : length m ≡ end - at = length-take-le (end - at) x (rw length-drop (omega arith)) in
-    let size : length m - w ≡ n = omega arith in
-    let wide : end - at ≡ w + n = omega arith in
-    let moved : take n (drop w m) ≡ take n (drop (at + w) l) =
-    ap (λ (i : ℕ). take n (drop w (take i x))) wide ∙ ap (λ (r : List A). take n (drop w r)) (take-add w n x)
-    ∙ ap (take n) (drop_at (take w x) (take n (drop w x)) w (length-take-le w x (rw length-drop (omega arith))))
-    ∙ take-take n n (drop w x) (omega arith) ∙ ap (take n) (drop-drop w at l) in
-    let rest : drop (0 + n) m ++ drop (end - at) x ≡ drop (at + n) l =
-    ap (λ (i : ℕ). drop i m ++ drop (end - at) x) (zero-add n)
-    ∙ sym (drop-append-le n m (drop (end - at) x) (omega arith)) ∙ ap (drop n) (take-append-drop (end - at) x)
-    ∙ drop-drop n at l in
-    ap (λ (i : ℕ). take at l ++ (paste m 0 (drop w m) i ++ drop (end - at) x)) size
-    ∙ ap (λ (r : List A). take at l ++ r) (append_assoc (take n (drop w m)) (drop (0 + n) m) (drop (end - at) x))
-    ∙ ap₂ (λ (r s : List A). take at l ++ (r ++ s)) moved rest
-    ∙ sym (append_assoc (take at l) (take n (drop (at + w) l)) (drop (at + n) l))
 
 -- two writes side by side are one
 pub paste-paste : {A : Type 0} (d h c : List A) (a m k : ℕ) → length h ≡ m → length c ≡ k → a + m ≤ length d

@@ -133,12 +133,12 @@ rows_count w zero l = refl
 rows_count w (suc n) l = ap suc (rows_count w n (drop w l))
 
 -- a table of whole rows whose rows in use are each written as they were, and whose rest is 0
-pub table-written : {A : Type 0} (w least : ℕ) (cells : A → List ℤ) (of : List ℤ → A) (ok : List ℤ → Bool)
+pub table_written : {A : Type 0} (w least : ℕ) (cells : A → List ℤ) (of : List ℤ → A) (ok : List ℤ → Bool)
     → ((r : List ℤ) → length r ≡ w → ok r ≡ true → cells (of r) ≡ r) → (z : ℤ) (l : List ℤ)
     → same (length l % w) 0 ≡ true → within least (length l / w) z ≡ true → rest_zero w z l ≡ true
     → all_of ok (rows w (nat_abs z) l) ≡ true → filled (length l / w * w) (flat_map cells (map of (rows w (nat_abs z) l)))
     ≡ l
-table-written w least cells of ok back z l whole fits rest good =
+table_written w least cells of ok back z l whole fits rest good =
     let rem = same_true (length l % w) 0 whole in
     let div = div-add-mod' (length l) w in
     let size : length l ≡ length l / w * w = omega arith in

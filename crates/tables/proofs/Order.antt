@@ -100,8 +100,8 @@ replace_hit old new l j e = rw (is_same (get_or l j (pos 0)) old e)
 pub replace_miss : (old new : ℤ) (l : List ℤ) (j : ℕ) → (get_or l j (pos 0) ≡ old → ⊥) → replace_at old new l j ≡ l
 replace_miss old new l j n = rw (not_same (get_or l j (pos 0)) old n)
 
-pub replace-length : (old new : ℤ) (l : List ℤ) (j : ℕ) → length (replace_at old new l j) ≡ length l
-replace-length old new l j =
+pub replace_length : (old new : ℤ) (l : List ℤ) (j : ℕ) → length (replace_at old new l j) ≡ length l
+replace_length old new l j =
     elim (which (same_z (get_or l j (pos 0)) old)) [ inl e ↦ rw e (length-set l j new) | inr e ↦ rw e refl ]
 
 -- ---- numbers that rise

@@ -16,7 +16,7 @@ use mathlib.Core.Logic.{inl, inr}
 use Rattle.lists.specs.Tables.{sweep}
 use Rattle.lists.proofs.Bools.{which}
 use Rattle.tables.specs.Tables.{filled, same_z, replace_at, closed}
-use Rattle.tables.proofs.Order.{replace-length}
+use Rattle.tables.proofs.Order.{replace_length}
 use Rattle.tables.proofs.Filled.{Wide, flat_length}
 
 -- ---- parts of a list
@@ -237,8 +237,8 @@ module _ {A : Type 0} (w : ℕ) (cells : A → List ℤ) where
   -- `new` for `old` in column k
   module _ (old new : ℤ) (k : ℕ) (f : A → A) (t : k < w)
       (row : (x : A) → replace_at old new (cells x) k ≡ cells (f x)) where
-    replace-width : (x : A) → length (cells x) ≡ w → length (cells (f x)) ≡ w
-    replace-width x e = ap length (sym (row x)) ∙ replace-length old new (cells x) k ∙ e
+    replace_width : (x : A) → length (cells x) ≡ w → length (cells (f x)) ≡ w
+    replace_width x e = ap length (sym (row x)) ∙ replace_length old new (cells x) k ∙ e
 
     replace_step : (p rest : List ℤ) (a : ℕ) (x : A) → length p ≡ a * w → length (cells x) ≡ w
         → replace_at old new (p ++ (cells x ++ rest)) (a * w + k) ≡ p ++ (cells (f x) ++ rest)
@@ -259,4 +259,4 @@ module _ {A : Type 0} (w : ℕ) (cells : A → List ℤ) where
     pub column_swept : (N : ℕ) (xs : List A) → Wide w cells xs
         → sweep (λ l i. replace_at old new l (i * w + k)) (filled N (flat_map cells xs)) 0 (length xs)
         ≡ filled N (flat_map cells (map f xs))
-    column_swept = swept (λ l i. replace_at old new l (i * w + k)) f replace_step replace-width
+    column_swept = swept (λ l i. replace_at old new l (i * w + k)) f replace_step replace_width

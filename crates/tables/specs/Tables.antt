@@ -1,11 +1,11 @@
 -- Rows in flat tables of numbers. Row i of a table of width w are the numbers i * w .. i * w + w - 1; the first n rows
 -- are in use, and zeros stand behind them.
-use Rattle.std.specs.Prelude.{◌≡◌, Bool, true, cond, ◌&&◌, List, [], ◌∷◌, ◌++◌, ℕ, zero, suc, ◌+◌, ◌*◌, ◌-◌, ◌/◌, ◌%◌, ◌≤◌, ◌<◌, leb, ltb, ℤ, pos, negsuc, nat_abs, length, get_or, take, drop, replicate, set}
+use Rattle.std.specs.Prelude.{◌≡◌, Bool, true, cond, ◌&&◌, List, [], ◌∷◌, ◌++◌, ℕ, zero, suc, ◌+◌, ◌*◌, ◌-◌, ◌/◌, ◌%◌, ◌≤◌, leb, ltb, ℤ, pos, negsuc, nat_abs, length, get_or, take, drop, replicate, set}
 use Rattle.std.proofs.Math.Seq.{paste}
 use Rattle.std.specs.Int.Signed.{le_z, lt_z}
 use Rattle.lists.specs.Tests.{same}
 use Rattle.lists.specs.Scans.{all_of, linked}
-use Rattle.lists.specs.Tables.{table, sweep}
+use Rattle.lists.specs.Tables.{table}
 
 -- ---- rows
 
@@ -72,20 +72,11 @@ last_bits (negsuc n) = 4095 - n % 4096
 abbrev pub indexed : ℕ → List ℤ → List ℕ → ℕ → List ℕ
 indexed w l index i = set index (last_bits (get_or l (i * w) (pos 0))) (i % 65536)
 
--- an index of which every place is one of n rows
-pub record Placed (index : List ℕ) (n : ℕ) : Type 0 where
-  pub size : length index ≡ 4096
-  pub below : (k : ℕ) → get_or index k 0 < n
-
 -- ---- rows written
 
 -- `new` for `old` at place j
 abbrev pub replace_at : ℤ → ℤ → List ℤ → ℕ → List ℤ
 replace_at old new l j = cond (same_z (get_or l j (pos 0)) old) (set l j new) l
-
--- and in column k of the first n rows
-abbrev pub replaced_in : ℕ → ℕ → ℤ → ℤ → List ℤ → ℕ → List ℤ
-replaced_in w k old new l n = sweep (λ t i. replace_at old new t (i * w + k)) l 0 n
 
 -- row i is gone: the rows after it moved down, and the last of the n is 0
 abbrev pub closed : ℕ → List ℤ → ℕ → ℕ → List ℤ

@@ -5,8 +5,8 @@ ghost use Rattle.std.proofs.Math.Seq.{paste};
 ghost use Rattle.std.specs.Int.Signed.{lt_z, non_neg};
 ghost use Rattle.lists.specs.Scans.{all_of};
 ghost use Rattle.lists.specs.Tables.{place, sweep, table};
-ghost use Rattle.tables.specs.Tables.{last_bits, indexed, Placed, replace_at, replaced_in, closed};
-ghost use Rattle.tables.specs.Tables.{same_z, column, Rising, whole_rows, is_zero, numbered};
+ghost use Rattle.tables.specs.Tables.{last_bits, indexed};
+ghost use Rattle.tables.specs.Tables.{same_z, column, Rising, whole_rows, is_zero, numbered, replace_at, closed};
 
 use lists::Found;
 
@@ -108,18 +108,6 @@ pub fn find_indexed(t: &[i64], w: usize, count: usize, number: i64, index: &[u16
     search_row(t, w, 0, count, number)
 }
 
-// The same where every place of the index is a row: the first look needs no test.
-pub fn find_placed(t: &[i64], w: usize, count: usize, number: i64, index: &[u16]) -> Found
-    requires { Rising w t.now count × Placed index.now count }
-    ensures { result ≡ place (same_z number) 0 (column w t.now count) }
-{
-    let i = index[last_bits(number)] as usize;
-    if t[i * w] == number {
-        return Found::At(i);
-    }
-    search_row(t, w, 0, count, number)
-}
-
 // ---- tests of rows
 
 // Whether the table is whole rows of w numbers, from `least` to `most` of them.
@@ -178,16 +166,15 @@ pub fn numbers_rise(t: &[i64], w: usize, count: usize, least: usize, next: usize
 
 // ---- rows written
 
-// All numbers but the first w are moved down by w.
-fn move_down(t: &mut [i64], w: usize)
-    requires { w ≤ length t.old }
-    ensures { t.new ≡ paste t.old 0 (drop w t.old) (length t.old - w) }
+// n numbers from `from` on are moved down to `at` on.
+fn move_down(t: &mut [i64], at: usize, from: usize, n: usize)
+    requires { (at ≤ from) × (from + n ≤ length t.old) }
+    ensures { t.new ≡ paste t.old at (drop from t.old) n }
 {
-    let n = t.len() - w;
     let mut j = 0;
     while j < n {
-        let v = t[w + j];
-        t[j] = v;
+        let v = t[from + j];
+        t[at + j] = v;
         j += 1;
     }
 }
@@ -224,68 +211,19 @@ pub fn remove_row(t: &mut [i64], w: usize, count: usize, i: usize)
 {
     let at = i * w;
     let end = count * w;
-    move_down(&mut t[at..end], w);
+    let from = at + w;
+    move_down(t, at, from, end - from);
     clear(t, end - w, w);
 }
 
-// `new` for `old` at one place.
-fn replace(t: &mut [i64], at: usize, old: i64, new: i64)
-    requires { at < length t.old }
-    ensures { t.new ≡ replace_at old new t.old at }
-{
-    if t[at] == old {
-        t[at] = new;
-    }
-}
-
-// And then `then_new` for `then_old` there.
-fn replace_both(t: &mut [i64], at: usize, old: i64, new: i64, then_old: i64, then_new: i64)
-    requires { at < length t.old }
-    ensures { t.new ≡ replace_at then_old then_new (replace_at old new t.old at) at }
-{
-    replace(t, at, old, new);
-    replace(t, at, then_old, then_new);
-}
-
-// Two replacements in column k, in one pass.
-pub fn replace_in_column(
-    t: &mut [i64],
-    w: usize,
-    count: usize,
-    k: usize,
-    old: i64,
-    new: i64,
-    then_old: i64,
-    then_new: i64,
-)
+// `new` for `old` in column k.
+pub fn replace_column(t: &mut [i64], w: usize, count: usize, k: usize, old: i64, new: i64)
     requires { (k < w) × (count * w ≤ length t.old) }
-    ensures { t.new
-        ≡ replaced_in w k then_old then_new (replaced_in w k old new t.old count) count }
+    ensures { t.new ≡ sweep (λ l i. replace_at old new l (i * w + k)) t.old 0 count }
 {
     for i in 0..count {
-        replace_both(t, i * w + k, old, new, then_old, then_new);
-    }
-}
-
-// Two replacements in columns k and m, in one pass.
-pub fn replace_in_columns(
-    t: &mut [i64],
-    w: usize,
-    count: usize,
-    k: usize,
-    m: usize,
-    old: i64,
-    new: i64,
-    then_old: i64,
-    then_new: i64,
-)
-    requires { (k < m) × (m < w) × (count * w ≤ length t.old) }
-    ensures { t.new
-        ≡ replaced_in w m then_old then_new (replaced_in w k then_old then_new
-        (replaced_in w m old new (replaced_in w k old new t.old count) count) count) count }
-{
-    for i in 0..count {
-        replace_both(t, i * w + k, old, new, then_old, then_new);
-        replace_both(t, i * w + m, old, new, then_old, then_new);
+        if t[i * w + k] == old {
+            t[i * w + k] = new;
+        }
     }
 }

@@ -14,8 +14,13 @@ use Rattle.map.specs.Ticket.{emptied}
 use Rattle.map.specs.Grow.{Grown, after, grow}
 use Rattle.grown.specs.Claims.{GrownMap}
 use Rattle.grown.proofs.Grows.{grows, whole_limited}
-use Rattle.grown_tables.proofs.Grown.{grow_is}
 use Rattle.ticket_lists.specs.Runs.{tickets_of, Ran, over_front, ran_unless, ran, Runs}
+
+-- from the empty map on
+grow_is : (l : Lent) (k : ℤ) (ts : List (List ℤ)) → whole l ≡ true → is_record k ≡ true
+    → grow (sizes_for (limit_of k) l) ts ≡ after (emptied l k).lent ts
+unfolding grow emptied first_reason
+grow_is l k ts w r = rw (w, r)
 
 module _ (l : Lent) (k : ℤ) (numbers : List ℤ) (lengths refusals : List ℕ) (values : List ℤ) where
   abbrev short : Bool

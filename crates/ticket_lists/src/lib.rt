@@ -2,7 +2,6 @@
 ghost use Rattle.std.specs.Prelude.{◌≡◌, map, min, ◌≤◌, length};
 ghost use Rattle.map.specs.Grow.{Grown, after};
 ghost use Rattle.map.specs.Loans.{lent_now};
-ghost use Rattle.grown_tables.specs.Tables.{GrownTables};
 ghost use Rattle.ticket_lists.specs.Runs.{tickets_of, over_front, Runs};
 
 use map::Head;
@@ -15,7 +14,7 @@ fn least(a: usize, b: usize) -> usize
     if a < b { a } else { b }
 }
 
-// The tickets one after the other, on tables that tickets left: those are in form, so neither 1 nor 2 is looked for.
+// The tickets one after the other.
 fn run_tickets(
     nodes: &mut [i64],
     edges: &mut [i64],
@@ -26,8 +25,7 @@ fn run_tickets(
     refusals: &mut [u64],
     values: &mut [i64],
 ) -> Head
-    requires { (length lengths.now ≤ length refusals.old) × (length lengths.now ≤ length values.old)
-        × GrownTables (lent_now nodes edges faces h) }
+    requires { (length lengths.now ≤ length refusals.old) × (length lengths.now ≤ length values.old) }
     ensures { (g : Grown) → g ≡ after (lent_now nodes.entry edges.entry faces.entry h)
         (tickets_of numbers.now lengths.now)
         → (lent_now nodes.exit edges.exit faces.exit result ≡ g.lent)
@@ -38,7 +36,7 @@ fn run_tickets(
     let mut at = 0;
     for i in 0..lengths.len() {
         let end = at + least(lengths[i], numbers.len() - at);
-        let next = edit_dispatch::edit(nodes, edges, faces, head, &numbers[at..end]);
+        let next = engine::ticket(nodes, edges, faces, head, &numbers[at..end]);
         refusals[i] = next.answer.refusal;
         let value = next.answer.value;
         values[i] = value;

@@ -1,5 +1,5 @@
--- `console::answer_line` meets its contract: the numbers at the front of the list are the line's ticket, and tables
--- that tickets left are in form. Assumes nothing.
+-- `console::answer_line` meets its contract: the numbers at the front of the list are the line's ticket. Assumes
+-- nothing.
 use borrow.Author.Rules.{rules}
 use mathlib.Core.Path.{◌≡◌, sym, ap, ◌∙◌}
 use Prim.Native.Nat.{◌≤◌}
@@ -8,7 +8,6 @@ use lib.ListN.{length, take, replicate}
 use lib.Seq.{length-take-le}
 use Rattle.map.specs.Rows.{lent}
 use Rattle.map.specs.Ticket.{ticket}
-use Rattle.grown_tables.proofs.Grown.{grown_formed}
 use Rattle.text.specs.Lines.{line_numbers}
 use Rattle.console.specs.Lines.{line_ticket, line_answered}
 use Rattle.console.proofs.Lines.{parsed_numbers}
@@ -23,14 +22,11 @@ numbers c =
     (parsed_numbers (line_numbers c.before.before.before.before.args.line.now) (replicate 500 (pos 0))
     c.before.parse.result c.before.parse.new.1.0 c.before.parse.ensures)
 
-edit-requires : tie.Need-edit-requires
-edit-requires c κs = grown_formed _ _ _ _ c.before.before.before.before.before.before.before.before.requires
-
 returns : tie.Need-returns
 unfolding line_answered
 returns c =
     let a = c.before.before.before.before.before.before.before.before.before.before.before.before.args in
-    c.before.before.before.edit.ensures
+    c.before.before.before.ticket.ensures
     ∙ ap (ticket (lent a.nodes.now a.edges.now a.faces.now a.h))
     (numbers c.before.before.before.before.before.before.before.before).1
 
@@ -42,6 +38,5 @@ answer-line-spec =
     (λ c. (numbers c.before.before.before).0)
     (λ c. sym (length-take-le c.before.before.before.before.count_of.result
     c.before.before.before.before.before.parse.new.1.0 (numbers c.before.before.before.before).0))
-    edit-requires
-    (λ c. search rules) (λ c. search rules) (λ c. search rules)
+    (λ c κs. search rules) (λ c. search rules) (λ c. search rules) (λ c. search rules)
     returns)

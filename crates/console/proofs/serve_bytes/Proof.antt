@@ -1,6 +1,5 @@
--- `console::serve_bytes` meets its contract: the bytes from i on are still to come, and the tables are such as tickets
--- left. Assumes nothing.
-use mathlib.Core.Path.{◌≡◌, refl, sym, ap, ◌∙◌, subst}
+-- `console::serve_bytes` meets its contract: the bytes from i on are still to come. Assumes nothing.
+use mathlib.Core.Path.{◌≡◌, refl, sym, ap, ◌∙◌}
 use mathlib.Core.List.{List}
 use Prim.Native.Nat.{ℕ, ◌+◌, ◌-◌, ◌≤◌, ◌<◌}
 use native.Mathlib.Numerals.{add-one}
@@ -9,10 +8,8 @@ use lib.ListN.{length, get_or, drop, drop_of_length-le}
 use lib.Seq.{drop-cons}
 use Rattle.lists.specs.Scans.{fold}
 use Rattle.map.specs.Rows.{lent}
-use Rattle.grown_tables.specs.Tables.{GrownTables}
 use Rattle.console.specs.Lines.{Desk, desk_of, kept_bytes, served}
 use Rattle.console.proofs.Lines.{each_byte}
-use Rattle.console.proofs.Grown.{served_grown}
 use Rattle.console.proofs.serve_bytes.Statement.{statement}
 use Rattle.console.proofs.serve_bytes.Tie as tie
 
@@ -24,7 +21,6 @@ invariant-loop nodes₀ edges₀ faces₀ line₀ bytes rows at₀ i₀ i-end no
     × (at.length ≤ kept_bytes)
     × (fold served (desk_of (lent nodes₀ edges₀ faces₀ at₀.head) line₀ at₀.length) bytes
     ≡ fold served (desk_of (lent nodes edges faces at.head) line at.length) (drop i bytes))
-    × GrownTables (lent nodes edges faces at.head)
 
 abbrev decreases-loop : tie.decreases-loop
 decreases-loop nodes₀ edges₀ faces₀ line₀ bytes rows at₀ i₀ i-end nodes edges faces line at i = i-end - i
@@ -34,16 +30,11 @@ turn : (d : Desk) (bytes : List ℕ) (i : ℕ) → i < length bytes → fold ser
     ≡ fold served (served d (get_or bytes i 0)) (drop (i + 1) bytes)
 turn d bytes i h = rw (drop-cons bytes i 0 h, add-one i)
 
-serve-byte-requires : tie.Need-serve-byte-requires invariant-loop decreases-loop
-serve-byte-requires c κs =
-    (omega arith, omega arith, c.before.before.before.before.before.before.loop.invariant.8)
-
 loop-again : tie.Need-loop-preserved invariant-loop decreases-loop
 loop-again c =
     let bytes =
     c.before.before.before.before.before.before.before.before.before.before.before.before.before.before.before.args.bytes.now in
     let l = c.before.before.before.before.before.before.before.before.before.before.before.before.loop in
-    let d = desk_of (lent l.nodes l.edges l.faces l.at.head) l.line l.at.length in
     let w = c.before.before.before.before.before.serve-byte in (
       omega arith,
       refl,
@@ -52,9 +43,9 @@ loop-again c =
       w.auto.1.1.0 ∙ l.invariant.4,
       w.auto.1.1.1.1.0 ∙ l.invariant.5,
       w.ensures.1,
-      l.invariant.7 ∙ turn d bytes l.i (omega arith)
+      l.invariant.7 ∙ turn (desk_of (lent l.nodes l.edges l.faces l.at.head) l.line l.at.length) bytes
+          l.i (omega arith)
           ∙ ap (λ (d : Desk). fold served d (drop (l.i + 1) bytes)) (sym w.ensures.0),
-      subst (λ (d : Desk). GrownTables d.lent) (sym w.ensures.0) (served_grown d _ l.invariant.8),
     )
 
 returns : tie.Need-returns invariant-loop decreases-loop
@@ -73,9 +64,9 @@ serve-bytes-spec =
     (tie.spec
     invariant-loop
     decreases-loop
-    (λ c. (omega arith, refl, refl, refl, refl, refl, omega arith, refl, c.before.before.requires.2))
+    (λ c. (omega arith, refl, refl, refl, refl, refl, omega arith, refl))
     (λ c. omega arith)
-    serve-byte-requires
+    (λ c κs. (omega arith, omega arith))
     (λ c. omega arith)
     (λ c. omega arith)
     loop-again

@@ -8,7 +8,6 @@ use lib.ListN.{length, take}
 use Rattle.map.specs.Rows.{lent}
 use Rattle.console.specs.Lines.{desk_of, kept_bytes, DeskServed}
 use Rattle.console.proofs.Lines.{none_served, more_served}
-use Rattle.console.proofs.Grown.{desk_grown}
 use Rattle.console.proofs.serve_input.Statement.{statement}
 use Rattle.console.proofs.serve_input.Tie as tie
 
@@ -24,10 +23,8 @@ decreases-loop nodes₀ edges₀ faces₀ line₀ rows buf₀ state₀ turns₀ 
 
 serve-bytes-requires : tie.Need-serve-bytes-requires invariant-loop decreases-loop
 serve-bytes-requires c κs =
-    let l = c.before.before.before.before.before.before.before.before.before in
-    let i = l.loop.invariant in
-    let p = l.before.before.requires in
-    (i.3 ∙ p.0, i.4, desk_grown i.5 p.1)
+    let i = c.before.before.before.before.before.before.before.before.before.loop.invariant in
+    (i.3 ∙ c.before.before.before.before.before.before.before.before.before.before.before.requires, i.4)
 
 loop-again : tie.Need-loop-preserved invariant-loop decreases-loop
 loop-again c =

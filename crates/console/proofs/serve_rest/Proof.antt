@@ -10,7 +10,7 @@ use Rattle.console.proofs.serve_rest.Tie as tie
 slice-aggregate-serve-line : tie.Need-slice-aggregate-serve-line
 slice-aggregate-serve-line c =
     let s = c.before.before.before.before.before.before.before in
-    sym (length-take-le s.args.state.length s.args.line.now s.requires.0)
+    sym (length-take-le s.args.state.length s.args.line.now s.requires)
 
 returns : tie.Need-returns
 returns c =
@@ -20,7 +20,7 @@ returns c =
     let a = s.args in
     w.serve-line.ensures
     ∙ sym (finished-line (lent a.nodes.now a.edges.now a.faces.now a.state.head) a.line.now
-    a.state.length t.if1.true s.requires.0)
+    a.state.length t.if1.true s.requires)
 
 returns-2 : tie.Need-returns-2
 returns-2 c =

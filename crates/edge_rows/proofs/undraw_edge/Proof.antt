@@ -11,21 +11,28 @@ use Rattle.edge_rows.specs.Holds.{isolated_without}
 use Rattle.edge_rows.proofs.undraw_edge.Statement.{statement}
 use Rattle.edge_rows.proofs.undraw_edge.Tie as tie
 
-isolated-without-requires : tie.Need-isolated-without-requires
-isolated-without-requires c κs =
+is-isolated-without-requires : tie.Need-is-isolated-without-requires
+is-isolated-without-requires c κs =
     let s = c.before.before.before.before in
     (rw c.before.before.unlink-edge.ensures (unlinked_edge_kept s.requires.0 s.args.i s.requires.1), s.requires.1)
 
+is-isolated-without-requires-2 : tie.Need-is-isolated-without-requires-2
+is-isolated-without-requires-2 c κs =
+    let s = c.before.before.before.before.before.before in (
+      rw c.before.before.before.before.unlink-edge.ensures
+          (unlinked_edge_kept s.requires.0 s.args.i s.requires.1),
+      s.requires.1,
+    )
+
 returns : tie.Need-returns
 returns c =
-    let tested = c.before.before.before in
-    let s = tested.before.before.before.before.before in
+    let s = c.before.before.before.before.before.before.before.before.before.before in
     let a = s.args in
-    let u = tested.before.before.before.unlink-edge.ensures in (
+    let u = c.before.before.before.before.before.before.before.before.unlink-edge.ensures in (
       c.before.remove-row.ensures ∙ ap (λ (l : List ℤ). closed 32 l a.count a.i) u,
-      tested.isolated-without.ensures.0
+      c.before.before.before.before.before.is-isolated-without.ensures
           ∙ ap₂ (λ (l : List ℤ) (z : ℤ). isolated_without l a.count a.i z) u (to_z-of_z {w = w64} s.ranges.u),
-      tested.isolated-without.ensures.1
+      c.before.before.before.is-isolated-without2.ensures
           ∙ ap₂ (λ (l : List ℤ) (z : ℤ). isolated_without l a.count a.i z) u (to_z-of_z {w = w64} s.ranges.v),
     )
 
@@ -34,6 +41,7 @@ undraw-edge-spec =
     tie.close
     (tie.spec
     (λ c κs. search rules)
-    isolated-without-requires
+    is-isolated-without-requires
+    is-isolated-without-requires-2
     (λ c κs. search rules) (λ c. search rules)
     returns)

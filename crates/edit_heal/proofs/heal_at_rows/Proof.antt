@@ -36,13 +36,13 @@ count : (c : tie.After-to-usize) → c.to-usize.result ≡ nat_abs c.before.befo
 count c = edges_read (counted c.before.before.requires.0) c.to-usize.ensures
 
 -- 16 and 17
-early : (c : tie.After-judge-joint)
+early : (c : tie.After-joint-reason)
     → let s = c.before.before.before.before in
-    c.judge-joint.result.reason ≡ first_reason (joint_reasons (mapAt s) (first s) (second s))
+    c.joint-reason.result ≡ first_reason (joint_reasons (mapAt s) (first s) (second s))
 early c =
     let s = c.before.before.before.before in
-    c.judge-joint.ensures.reason ∙ ap (λ (k : ℕ). first_reason (joint_reasons (edge_map s.args.edges.now k)
-    (first s) (second s))) (count c.before.before)
+    c.joint-reason.ensures ∙ ap (λ (k : ℕ). first_reason (joint_reasons (edge_map s.args.edges.now k) (first s)
+    (second s))) (count c.before.before)
 
 passed : (c : tie.Else1)
     → let s = c.before.before.before.before.before in
@@ -69,8 +69,8 @@ late c =
     sym (c.late_reason.ensures ∙ ap (λ (k : ℕ). first_reason (late_reasons k s.args.h s.args.how))
     (ap (λ (u : Line). u.count) l.Joined-line.ensures ∙ line_counted (edge_rows_lem s.requires.0) (parts o)))
 
-judge-joint-requires : tie.Need-judge-joint-requires
-judge-joint-requires c κs = let p = c.before.before.before.requires in
+joint-reason-requires : tie.Need-joint-reason-requires
+joint-reason-requires c κs = let p = c.before.before.before.requires in
     rw (count c.before) (edge_rows_lem p.0, p.1, p.2)
 
 refused-early : tie.Need-returns
@@ -78,7 +78,7 @@ refused-early c =
     let r = c.before.before in
     let s = r.before.before.before.before in
     let a = s.args in
-    let some : 0 < r.judge-joint.result.reason = omega (arith, c.before.if1.true) in
+    let some : 0 < r.joint-reason.result = omega (arith, c.before.if1.true) in
     edited-refused _ _ _ _ _ _ some c.refused.ensures
     (early_reason s.requires.0 a.how a.i a.j s.requires.1 s.requires.2 _ some (early r))
 
@@ -93,7 +93,6 @@ parts-of-requires c κs =
       first_row = rw e s.requires.1;
       second_row = rw e s.requires.2;
       joint = rw e (joint_some (mapAt s) (first s) (second s) (passed k));
-      at_end_lem = k.before.judge-joint.ensures.at_end_lem k.if1.false;
     }
 
 joined-line-requires : tie.Need-joined-line-requires
@@ -165,7 +164,7 @@ heal-at-rows-spec =
     tie.close
     (tie.spec
     (λ c κs. edges_natural (counted c.before.requires.0))
-    judge-joint-requires
+    joint-reason-requires
     (λ c κs. search rules) (λ c. search rules)
     refused-early
     parts-of-requires

@@ -26,7 +26,8 @@ dart-at-requires-2 c κs =
 returns : tie.Need-returns
 returns c =
     let n = c.before.before in
-    let d = n.before.before in
+    let r = n.before.before.before in
+    let d = r.before.before in
     let p = d.before.before.before in
     let s = p.before.before in
     let a = s.args in
@@ -35,8 +36,8 @@ returns c =
     let second = sent d.dart-at2.type-inv ∙ d.dart-at2.ensures
     ∙ ap (λ (k : ℕ). dart_cell (dart_at a.edges.now k)) d.before.reverse.ensures in
     let back = sent n.negated.type-inv ∙ n.negated.ensures ∙ ap neg_ℤ number in
-    c.before.redirect-both.ensures
-    ∙ (λ j. redirected (second j) (back j) (redirected (first j) (number j) a.edges.now a.e) a.e)
+    let t = r.redirect.ensures ∙ (λ j. redirected (first j) (number j) a.edges.now a.e) in
+    c.before.redirect2.ensures ∙ (λ j. redirected (second j) (back j) (t j) a.e)
 
 pub lead-to-healed-spec : {M : Type 1} → statement M
 lead-to-healed-spec =
@@ -45,5 +46,5 @@ lead-to-healed-spec =
     (λ c κs. let s = c.before in edge-row_of s.requires.rows (s.args.p / 2) (omega (arith, s.requires.first)))
     (λ c κs. search rules)
     dart-at-requires-2
-    (λ c κs. search rules) (λ c κs. search rules) (λ c. search rules)
+    (λ c κs. search rules) (λ c κs. search rules) (λ c κs. search rules) (λ c. search rules)
     returns)

@@ -23,7 +23,8 @@ dart-at-requires-2 c κs = let s = c.before.before.before in let e : s.args.i �
 returns : tie.Need-returns
 returns c =
     let n = c.before.before in
-    let d = n.before.before in
+    let r = n.before.before.before in
+    let d = r.before.before in
     let p = d.before.before in
     let s = p.before.before in
     let a = s.args in
@@ -31,8 +32,8 @@ returns c =
     let start = to_z-of_z {w = w64} s.ranges.a in
     let second = sent d.dart-at2.type-inv ∙ d.dart-at2.ensures in
     let end = sent n.negated.type-inv ∙ n.negated.ensures ∙ ap neg_ℤ (to_z-of_z {w = w64} s.ranges.b) in
-    c.before.redirect-both.ensures
-    ∙ (λ j. redirected (second j) (end j) (redirected (first j) (start j) a.edges.now a.e) a.e)
+    let t = r.redirect.ensures ∙ (λ j. redirected (first j) (start j) a.edges.now a.e) in
+    c.before.redirect2.ensures ∙ (λ j. redirected (second j) (end j) (t j) a.e)
 
 pub lead-to-halves-spec : {M : Type 1} → statement M
 lead-to-halves-spec =
@@ -42,5 +43,5 @@ lead-to-halves-spec =
     dart-at-requires
     (λ c. search rules) (λ c. search rules)
     dart-at-requires-2
-    (λ c κs. search rules) (λ c κs. search rules) (λ c. search rules)
+    (λ c κs. search rules) (λ c κs. search rules) (λ c κs. search rules) (λ c. search rules)
     returns)

@@ -1,13 +1,14 @@
 -- `form_links::departures_formed` meets its contract. Assumes nothing.
 use borrow.Author.Rules.{rules}
 use mathlib.Core.Path.{◌≡◌, sym, ap, ◌∙◌}
-use mathlib.Core.Bool.{Bool, true, false, ◌&&◌}
-use Prim.Native.Nat.{ℕ}
+use mathlib.Core.Bool.{Bool, true, false, cond, ◌&&◌}
+use Prim.Native.Nat.{ℕ, ◌*◌}
 use native.Mathlib.Omega.{arith}
 use lib.ListN.{length-replicate}
-use Rattle.lists.specs.Tests.{same, bit}
+use Rattle.lists.specs.Tests.{same}
 use Rattle.lists.proofs.Bools.{same_eq, same_false}
 use Rattle.map.specs.Form.{bare_marked}
+use Rattle.form_links.specs.Chains.{starts_in}
 use Rattle.form_links.specs.Drawn.{drawn_map}
 use Rattle.form_links.proofs.Words.{flipped}
 use Rattle.form_links.proofs.Links.{zeros}
@@ -16,48 +17,48 @@ use Rattle.form_links.proofs.departures_formed.Statement.{statement}
 use Rattle.form_links.proofs.departures_formed.Tie as tie
 
 -- a mark tells its test
-mark-is : (b : Bool) (x : ℕ) → x ≡ bit b → same x 1 ≡ b
+mark-is : (b : Bool) (x : ℕ) → x ≡ cond b 1 0 → same x 1 ≡ b
 mark-is true x e = same_eq x 1 e
 mark-is false x e = same_false x 1 (λ f. omega arith)
 
 departures-differ-requires : tie.Need-departures-differ-requires
-departures-differ-requires c κs = let s = c.before.before in (
-  s.requires.1,
-  s.requires.3,
-  s.requires.4,
-  (λ p h. omega (arith, s.requires.2, (s.requires.5 p h).0)),
-  omega (arith, length-replicate {A = ℕ} 1000 0),
-  zeros 1000,
-)
+departures-differ-requires c κs = let s = c.before in
+    (s.requires.1, s.requires.3, s.requires.4, (λ p h. omega (arith, s.requires.2, (s.requires.5 p h).0)))
 
 returns : tie.Need-returns
 returns c =
-    let d = c.before.before.departures_differ_lem in
-    let s = c.before.before.before.before.before in
+    let d = c.before.departures_differ_lem in
+    let s = c.before.before.before in
     let m = drawn_map s.args.nodes.now s.args.n s.args.edges.now s.args.count in
     sym (ap (λ (b : Bool). b && bare_marked m)
-    (sym (d.ensures.0 s.args.nodes.now s.args.n s.requires.0 s.requires.5)
+    (sym (d.ensures s.args.nodes.now s.args.n s.requires.0 s.requires.5)
     ∙ flipped d.result true c.if1.true))
+
+mark-starts-requires : tie.Need-mark-starts-requires
+mark-starts-requires c κs = let s = c.before.before.before.before in
+    (s.requires.3, s.requires.4, (λ p h. omega (arith, s.requires.2, (s.requires.5 p h).0, length-replicate {A = ℕ} 1000 0)))
 
 returns-2 : tie.Need-returns-2
 returns-2 c =
-    let e = c.before.before in
-    let d = e.before.before.departures_differ_lem in
-    let s = e.before.before.before.before.before in
+    let k = c.before.before.before.mark-starts in
+    let d = c.before.before.before.before.before.before.departures_differ_lem in
+    let s = c.before.before.before.before.before.before.before.before in
     let m = drawn_map s.args.nodes.now s.args.n s.args.edges.now s.args.count in
-    let apart = flipped d.result false e.if1.false in
     c.bare-marked.ensures
-    ∙ bare_is s.args.starts.now s.requires.0 s.requires.1 s.requires.5 d.new.1.1.1.0
-    (λ i h. mark-is _ _ (d.ensures.1 apart i))
+    ∙ bare_is s.args.starts.now s.requires.0 s.requires.1 s.requires.5 k.new.1.1.0
+    (λ i h. mark-is _ _ (k.ensures i ∙ ap (cond (starts_in s.args.starts.now (s.args.count * 2) i) 1)
+    (zeros 1000 i)))
     ∙ sym (ap (λ (b : Bool). b && bare_marked m)
-    (sym (d.ensures.0 s.args.nodes.now s.args.n s.requires.0 s.requires.5) ∙ apart))
+    (sym (d.ensures s.args.nodes.now s.args.n s.requires.0 s.requires.5)
+    ∙ flipped d.result false c.before.before.before.before.before.if1.false))
 
 pub departures-formed-spec : {M : Type 1} → statement M
 departures-formed-spec =
     tie.close
     (tie.spec
-    (λ c. search rules)
     departures-differ-requires
     returns
+    (λ c. search rules)
+    mark-starts-requires
     (λ c. search rules) (λ c κs. search rules)
     returns-2)

@@ -36,24 +36,24 @@ asked : (least : ℕ) {k : ℕ} {z : ℤ} {ns ms : List ℕ} {r b : Bool} → Up
 asked least {k} {z} n e f g h = sym (ap₂ (numbered least) (e ∙ count_abs z n.natural n.most) f) ∙ sym g ∙ h
 
 module _ (m : Map) where
-  abbrev nodes_rise : Bool
-  nodes_rise = numbered 1 m.next.nodes (map (λ n. n.number) m.nodes)
+  abbrev nodes-rise : Bool
+  nodes-rise = numbered 1 m.next.nodes (map (λ n. n.number) m.nodes)
 
   abbrev edges_rise : Bool
   edges_rise = numbered 1 m.next.edges (map (λ e. e.number) m.edges)
 
-  abbrev faces_rise : Bool
-  faces_rise = numbered 0 m.next.faces m.faces
+  abbrev faces-rise : Bool
+  faces-rise = numbered 0 m.next.faces m.faces
 
-  no_nodes : nodes_rise ≡ false → false ≡ numbers m
+  no-nodes : nodes-rise ≡ false → false ≡ numbers m
   unfolding numbers
-  no_nodes e = rw e
+  no-nodes e = rw e
 
   no_edges : edges_rise ≡ false → false ≡ numbers m
   unfolding numbers
-  no_edges e = rw (e, &&-false nodes_rise)
+  no_edges e = rw (e, &&-false nodes-rise)
 
-  faces-left : {p q : Bool} → nodes_rise ≡ true → edges_rise ≡ true → p ≡ faces_rise → q
+  faces-left : {p q : Bool} → nodes-rise ≡ true → edges_rise ≡ true → p ≡ faces-rise → q
       ≡ same (first_or 1 m.faces) 0 → p && q ≡ numbers m
   unfolding numbers
   faces-left e f g h = rw (e, f, g, h)
@@ -78,7 +78,7 @@ returns : tie.Need-returns
 returns c =
     let s = c.before.before.before.before in
     let a = s.args in
-    no_nodes (map_in a.nodes.now a.edges.now a.faces.now a.c a.h)
+    no-nodes (map_in a.nodes.now a.edges.now a.faces.now a.c a.h)
     (asked 1 (nexts_in a.h s.requires.counted.nexts).0 c.before.before.to-usize.ensures
     (node-column a.nodes.now a.c.nodes) c.before.numbers_rise.ensures
     (not-true c.before.numbers_rise.result c.if1.true))

@@ -1,63 +1,75 @@
 -- `form_rectangles::take_in` meets its contract. Assumes nothing.
 use borrow.Author.Rules.{rules}
-use mathlib.Core.Path.{◌≡◌, sym, subst}
-use mathlib.Core.Bool.{cond}
-use Prim.Native.Nat.{ℕ, ◌+◌, ◌*◌, ◌<◌}
+use mathlib.Core.Path.{◌∙◌}
+use Prim.Native.Nat.{◌*◌}
 use native.Mathlib.Omega.{arith}
-use lib.ListN.{length}
-use Rattle.lists.specs.Tests.{same}
-use Rattle.bounding_boxes.specs.Extents.{union}
-use Rattle.form_rectangles.specs.declared.Margins.{Margins}
-use Rattle.form_rectangles.specs.Merged.{box_with, box_in, BoxRows}
-use Rattle.form_rectangles.proofs.Boxes.{set_row, least_of, room_one, room_two, room_three, taken-rows, taken}
+use lib.ListN.{length-set}
+use Rattle.form_rectangles.proofs.Pairs.{pair_length, taken}
 use Rattle.form_rectangles.proofs.take_in.Statement.{statement}
 use Rattle.form_rectangles.proofs.take_in.Tie as tie
 
--- the call, and the margins that are written
-abbrev start : tie.After-least4 → tie.Start
-start c = c.before.before.before.before.before.before.before.before.before
+slice-read-least-2 : tie.Need-slice-read-least-2
+slice-read-least-2 c =
+    let s = c.before.before.before.before.before in
+    omega (arith, length-set s.args.least.now (s.args.k * 2) c.before.least.result, s.requires.0, s.requires.1)
 
-abbrev made : tie.After-least4 → Margins
-made c = record {
-  left = c.before.before.before.before.before.before.least.result;
-  low = c.before.before.before.before.least2.result;
-  right = c.before.before.least3.result;
-  high = c.least4.result;
-}
+slice-write-least-2 : tie.Need-slice-write-least-2
+slice-write-least-2 c =
+    let s = c.before.before.before.before.before.before in
+    omega (
+      arith,
+      length-set s.args.least.now (s.args.k * 2) c.before.before.least.result,
+      s.requires.0,
+      s.requires.1,
+    )
 
-made-least : (c : tie.After-least4) → made c ≡ least_of (start c).args.boxes.now (start c).args.k (start c).args.m
-made-least c = λ i. record {
-  left = c.before.before.before.before.before.before.least.ensures i;
-  low = c.before.before.before.before.least2.ensures i;
-  right = c.before.before.least3.ensures i;
-  high = c.least4.ensures i;
-}
+slice-read-greatest-2 : tie.Need-slice-read-greatest-2
+slice-read-greatest-2 c =
+    let s = c.before.before.before.before.before.before.before.before.before in
+    omega (
+      arith,
+      length-set s.args.greatest.now (s.args.k * 2) c.before.greatest.result,
+      s.requires.0,
+      s.requires.2,
+    )
 
-room : (c : tie.After-least4) → (start c).args.k * 4 + 3 < length (start c).args.boxes.now
-room c = omega (arith, (start c).requires.0, (start c).requires.1.room)
+slice-write-greatest-2 : tie.Need-slice-write-greatest-2
+slice-write-greatest-2 c =
+    let s = c.before.before.before.before.before.before.before.before.before.before in
+    omega (
+      arith,
+      length-set s.args.greatest.now (s.args.k * 2) c.before.before.greatest.result,
+      s.requires.0,
+      s.requires.2,
+    )
 
 returns : tie.Need-returns
 returns c =
-    let s = start c in
-    let l = s.args.boxes.now in
-    let k = s.args.k in
-    let m = s.args.m in
-    subst (λ (n : Margins). BoxRows (set_row l k n) × ((j : ℕ) → box_in (set_row l k n) j
-    ≡ cond (same j k) (union (box_in l j) (box_with m)) (box_in l j))) (sym (made-least c))
-    (taken-rows s.pre.1 k s.pre.0 m, taken s.pre.1 k s.pre.0 m)
+    let g = c.before.before in
+    let h = g.before.before in
+    let d = h.before.before in
+    let s = d.before.before.before.before in
+    let k = s.args.k in (
+      pair_length s.args.least.now k d.least.result h.least2.result ∙ s.requires.1,
+      pair_length s.args.greatest.now k g.greatest.result c.greatest2.result ∙ s.requires.2,
+      taken s.args.least.now s.args.greatest.now k s.args.e (omega (arith, s.requires.0, s.requires.1))
+          (omega (arith, s.requires.0, s.requires.2)) d.least.ensures h.least2.ensures g.greatest.ensures
+          c.greatest2.ensures,
+    )
 
 pub take-in-spec : {M : Type 1} → statement M
 take-in-spec =
     tie.close
     (tie.spec
-    (λ c. search rules) (λ c. search rules) (λ c. search rules) (λ c κs. search rules) (λ c. search rules)
+    (λ c. search rules) (λ c. search rules) (λ c. search rules) (λ c. search rules) (λ c κs. search rules)
+    (λ c. search rules) (λ c. search rules) (λ c. search rules)
+    slice-read-least-2
+    (λ c κs. search rules) (λ c. search rules)
+    slice-write-least-2
     (λ c. search rules) (λ c. search rules) (λ c κs. search rules) (λ c. search rules) (λ c. search rules)
-    (λ c. search rules) (λ c κs. search rules) (λ c. search rules) (λ c. search rules) (λ c. search rules)
-    (λ c κs. search rules) (λ c. search rules) (λ c. search rules) (λ c. search rules) (λ c. search rules)
-    (λ c. room_one (start c).args.boxes.now (start c).args.k (made c) (room c))
-    (λ c. search rules) (λ c. search rules)
-    (λ c. room_two (start c).args.boxes.now (start c).args.k (made c) (room c))
-    (λ c. search rules) (λ c. search rules)
-    (λ c. room_three (start c).args.boxes.now (start c).args.k (made c) (room c))
     (λ c. search rules)
+    slice-read-greatest-2
+    (λ c κs. search rules) (λ c. search rules)
+    slice-write-greatest-2
+    (λ c. search rules) (λ c. search rules)
     returns)

@@ -28,19 +28,19 @@ returns c =
     ((λ e. edge_past s.requires.0 (nat_abs d) (edge_more d t)), (λ q e. absurd (missing_at e)))
 
 -- what the search answers
-sought : (c : tie.After-find-placed) → c.find-placed.result
+sought : (c : tie.After-find-indexed) → c.find-indexed.result
     ≡ place (same_z (pos (nat_abs c.before.before.before.before.args.d))) 0
     (column edge_width c.before.before.before.before.args.edges.now
     c.before.before.before.before.args.count)
 sought c =
     let s = c.before.before.before.before in
-    c.find-placed.ensures
+    c.find-indexed.ensures
     ∙ ap (λ (z : ℤ). place (same_z z) 0 (column edge_width s.args.edges.now s.args.count))
     (to_z-of_z {w = w64} {z = c.before.edge_of.result} (sfits_of c.before.edge_of.type-inv)
     ∙ c.before.edge_of.ensures ∙ ap (λ (x : ℤ). pos (nat_abs x)) (to_z-of_z {w = w64} s.ranges.d))
 
-find-placed-requires : tie.Need-find-placed-requires
-find-placed-requires c κs = let s = c.before.before.before in (edges_in_order_rise s.requires.0, s.requires.1)
+find-indexed-requires : tie.Need-find-indexed-requires
+find-indexed-requires c κs = let s = c.before.before.before in (edges_in_order_rise s.requires.0, s.requires.1)
 
 returns-2 : tie.Need-returns-2
 returns-2 c =
@@ -78,5 +78,5 @@ returns-3 c =
 
 pub find-position-spec : {M : Type 1} → statement M
 find-position-spec =
-    tie.close (tie.spec returns (λ c κs. search rules) find-placed-requires (λ c. search rules)
+    tie.close (tie.spec returns (λ c κs. search rules) find-indexed-requires (λ c. search rules)
     (λ c. search rules) returns-2 mul-t9 (λ c. search rules) add-t11 returns-3)

@@ -12,7 +12,7 @@ use Rattle.lists.specs.Tests.{same}
 use Rattle.lists.proofs.Bools.{same_true, same_eq, which}
 use Rattle.lists.proofs.Keeps.{keep_in, keep_has, keep-map}
 use Rattle.lists.proofs.Rising.{Rising, rising_keep}
-use Rattle.lists.proofs.Lookups.{replaced_numbers, replaced_in_lem}
+use Rattle.lists.proofs.Lookups.{replaced_numbers, replaced_in}
 use Rattle.planar_maps.specs.Map.{Dart, fwd, bwd}
 use Rattle.plane.specs.declared.Point.{Point}
 use Rattle.map.specs.declared.Variant.{Variant}
@@ -91,7 +91,7 @@ placing_rest e x o os k h = mathlib.Core.List.Memᴰ.cast (ap (λ (b : Bool). co
 
 pub placing-back : (e : ℕ) (x o : Outline) (os : List Outline) → Memᴰ o (map (placing e x) os)
     → (o ≡ x) ⊎ (Memᴰ o os × (same o.arc.num e ≡ false))
-placing-back e x o os k = replaced_in_lem outline_number e x os k
+placing-back e x o os k = replaced_in outline_number e x os k
 
 -- ---- a split
 

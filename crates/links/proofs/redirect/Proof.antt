@@ -14,11 +14,11 @@ use mir.Facts.{to_z-of_z}
 use borrow.Author.Rules.{sfits_of}
 use Rattle.lists.specs.Tables.{sweep}
 use Rattle.lists.proofs.Scans.{sweep_step, sweep-end}
-use Rattle.lists.proofs.Sweeps.{one_pass}
 use Rattle.tables.specs.Tables.{replace_at}
-use Rattle.tables.proofs.Order.{word_is, replace_hit, replace_miss, replace-length}
-use Rattle.tables.proofs.Replaced.{replace_swap}
+use Rattle.tables.proofs.Order.{word_is, replace_hit, replace_miss, replace_length}
 use Rattle.links.specs.Linking.{redirected}
+use Rattle.links.proofs.Kept.{replace_swap}
+use Rattle.links.proofs.Sweeps.{one_pass}
 use Rattle.links.proofs.redirect.Statement.{statement}
 use Rattle.links.proofs.redirect.Tie as tie
 
@@ -81,7 +81,7 @@ long : (c : tie.Joined1 invariant-loop decreases-loop) → length c.if1.edges
 long c =
     let a = c.before.before.before.before.args in
     let l = c.before.before.before.loop in
-    ap length (left c) ∙ replace-length (to_z w64 (of_z w64 a.old)) (to_z w64 (of_z w64 a.new)) l.edges
+    ap length (left c) ∙ replace_length (to_z w64 (of_z w64 a.old)) (to_z w64 (of_z w64 a.new)) l.edges
     (l.i * 32 + 3) ∙ l.invariant.1
 
 loop-again : tie.Need-loop-preserved invariant-loop decreases-loop
@@ -94,7 +94,7 @@ loop-again c =
     let turn : c.if2.edges ≡ row old new l.edges l.i = right c
     ∙ ap (λ (t : List ℤ). link 4 old new t l.i) (left c.before.before) in (
       omega arith,
-      ap length (right c) ∙ replace-length old new c.before.before.if1.edges (l.i * 32 + 4)
+      ap length (right c) ∙ replace_length old new c.before.before.if1.edges (l.i * 32 + 4)
           ∙ long c.before.before,
       ap (λ (t : List ℤ). sweep (row old new) t (l.i + 1) (a.count - (l.i + 1))) turn
           ∙ sym (sweep_step (row old new) l.edges l.i a.count
@@ -111,8 +111,7 @@ returns c =
     let e : l.edges ≡ redirected old new a.edges.now a.count =
     sym (sweep-end (row old new) l.edges l.i a.count c.loop-test.false) ∙ l.invariant.2
     ∙ sym (one_pass (link 3 old new) (link 4 old new)
-    (λ t i j h. replace_swap old new old new t (i * 32 + 4) (j * 32 + 3) (λ q. omega arith)) a.count 0
-    a.edges.now) in
+    (λ t i j. replace_swap old new t (i * 32 + 4) (j * 32 + 3) (λ q. omega arith)) a.count 0 a.edges.now) in
     rw (to_z-of_z {w = w64} s.ranges.old, to_z-of_z {w = w64} s.ranges.new) at e
 
 pub redirect-spec : {M : Type 1} → statement M

@@ -6,7 +6,7 @@ use native.Mathlib.Numerals.{add-one}
 use native.Mathlib.Omega.{arith}
 use lib.ListN.{length, get_or, set}
 use lib.Seq.{paste, paste-zero, paste-suc, length-paste}
-use Rattle.printing.proofs.Digits.{fewest_few, natural-length, natural-written}
+use Rattle.printing.proofs.Digits.{fewest_few, natural-length, natural_written}
 use Rattle.printing.proofs.write_natural.Statement.{statement}
 use Rattle.printing.proofs.write_natural.Tie as tie
 
@@ -47,7 +47,7 @@ returns c =
     let whole : c.before.loop.i ≡ d.result = omega arith in (
       c.before.loop.invariant.1
           ∙ ap (paste s.args.out.now s.args.at d.new.1.0) whole
-          ∙ natural-written s.args.out.now s.args.at s.args.n d.result d.new.1.0
+          ∙ natural_written s.args.out.now s.args.at s.args.n d.result d.new.1.0
           s.ranges.n.fits d.ensures.1.0 d.ensures.1.1 d.ensures.0.0 (omega arith),
       natural-length s.args.out.now s.args.at s.args.n d.result d.new.1.0 s.ranges.n.fits
           d.ensures.1.0 d.ensures.1.1 d.ensures.0.0,

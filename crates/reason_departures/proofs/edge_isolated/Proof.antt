@@ -19,27 +19,26 @@ use Rattle.reason_departures.proofs.edge_isolated.Tie as tie
 returns : tie.Need-returns
 unfolding same
 returns c =
-    let count = c.before.before in
-    let ends = count.edge-ends-both.ensures in
-    let s = count.before.before.before in
+    let s = c.before.before.before.before in
     let a = s.args in
     let l = a.edges.now in
     let u = get_or l (a.i * 32 + 1) (pos 0) in
     let v = get_or l (a.i * 32 + 2) (pos 0) in
-    let fu = sfits_of count.before.before.u.given in
-    let fv = sfits_of count.before.v.given in
+    let fu = sfits_of c.before.before.before.u.given in
+    let fv = sfits_of c.before.before.v.given in
     let eu : to_z w64 (of_z w64 u) ≡ u = to_z-of_z {w = w64} fu in
     let ev : to_z w64 (of_z w64 v) ≡ v = to_z-of_z {w = w64} fv in
-    let r = count.edge-ends-both.result in
-    ap (λ (b : Bool). not b && same r.first 1 && same r.second 1)
-    (cell_test u v u fu fv refl ∙ ap (λ (z : ℤ). same_z z (to_z w64 (of_z w64 v))) (sym eu))
-    ∙ isolated_is s.requires.0 a.i s.requires.1 (to_z w64 (of_z w64 u)) (to_z w64 (of_z w64 v)) r.first r.second eu
-    ev ends.0 ends.1
+    let first = cell_test u v u fu fv refl in
+    ap (λ (b : Bool). not b && same c.before.edge-ends.result 1 && same c.edge-ends2.result 1)
+    (first ∙ ap (λ (z : ℤ). same_z z (to_z w64 (of_z w64 v))) (sym eu))
+    ∙ isolated_is s.requires.0 a.i s.requires.1 (to_z w64 (of_z w64 u)) (to_z w64 (of_z w64 v))
+    c.before.edge-ends.result c.edge-ends2.result eu ev c.before.edge-ends.ensures.0
+    c.edge-ends2.ensures.0
 
 pub edge-isolated-spec : {M : Type 1} → statement M
 edge-isolated-spec =
     tie.close
     (tie.spec
     (λ c. search rules) (λ c. search rules) (λ c. search rules) (λ c. search rules) (λ c. search rules)
-    (λ c. search rules) (λ c. search rules) (λ c. search rules) (λ c κs. search rules)
+    (λ c. search rules) (λ c. search rules) (λ c. search rules) (λ c κs. search rules) (λ c κs. search rules)
     returns)

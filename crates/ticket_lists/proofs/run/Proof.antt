@@ -1,7 +1,7 @@
 -- `ticket_lists::run` meets its contract: 1, 2 and 20 first, then every ticket from the empty map on. Assumes nothing.
 use borrow.Author.Rules.{rules}
 use borrow.Author.Tests.{not-true, not-false, ltb-false}
-use mathlib.Core.Path.{◌≡◌, refl, sym, ap, ◌∙◌, subst}
+use mathlib.Core.Path.{◌≡◌, refl, sym, ap, ◌∙◌}
 use mathlib.Core.Bool.{true}
 use lib.Dec.{ltb}
 use lib.ListN.{length}
@@ -12,8 +12,6 @@ use Rattle.map.specs.Limits.{is_record}
 use Rattle.map.specs.Rows.{whole, lent}
 use Rattle.map.specs.Ticket.{Outcome, emptied}
 use Rattle.map.specs.Grow.{after}
-use Rattle.grown_tables.specs.Tables.{GrownTables}
-use Rattle.grown_tables.proofs.Grown.{created_grown}
 use Rattle.ticket_lists.specs.Runs.{tickets_of}
 use Rattle.ticket_lists.proofs.Answers.{runs_1, runs_2, runs_20, runs_0}
 use Rattle.ticket_lists.proofs.run.Statement.{statement}
@@ -61,19 +59,11 @@ returns-3 c =
 
 run-tickets-requires : tie.Need-run-tickets-requires
 run-tickets-requires c κs =
-    let m = c.before.before.before.before.before.before.before.before in
-    let q = m.before.before.before.before in
-    let s = q.before.before.before.before.before.before.before.before.before.before in
-    let a = s.args in
-    let l = lent a.nodes.now a.edges.now a.faces.now a.h in
+    let q = c.before.before.before.before.before.before.before.before.before.before.before.before in
+    let a = q.before.before.before.before.before.before.before.before.before.before.args in
     let r = or-false (ltb (length a.refusals.now) (length a.lengths.now))
-    (ltb (length a.values.now) (length a.lengths.now)) q.if3.false in (
-      ltb-false _ _ r.0,
-      ltb-false _ _ r.1,
-      subst (λ (o : Outcome). GrownTables o.lent)
-          (sym (m.empty_map_lem.ensures ∙ ap (emptied l) (to_z-of_z {w = w64} s.ranges.points)))
-          (created_grown l a.points (whole_in q.before.before.before) (recorded q.before)),
-    )
+    (ltb (length a.values.now) (length a.lengths.now)) q.if3.false in
+    (ltb-false _ _ r.0, ltb-false _ _ r.1)
 
 returns-4 : tie.Need-returns-4
 returns-4 c =

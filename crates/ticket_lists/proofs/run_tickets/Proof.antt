@@ -1,7 +1,8 @@
 -- `ticket_lists::run_tickets` meets its contract. The loop's invariant: what the tickets left give, with what is
--- written so far, is what all give; and the tables are such as tickets left. Assumes nothing.
+-- written so
+-- far, is what all give. Assumes nothing.
 use borrow.Author.Rules.{rules, sfits_of}
-use mathlib.Core.Path.{◌≡◌, refl, sym, ap, ◌∙◌, subst}
+use mathlib.Core.Path.{◌≡◌, refl, ap, ◌∙◌}
 use Prim.Native.Nat.{ℕ, ◌+◌, ◌-◌, ◌≤◌}
 use native.Mathlib.Omega.{arith}
 use lib.ListN.{length, take, drop, length-set}
@@ -9,11 +10,9 @@ use mir.Syntax.{w64}
 use mir.Val.{SFits}
 use mir.Facts.{to_z-of_z}
 use Rattle.map.specs.Rows.{lent}
-use Rattle.map.specs.Ticket.{Outcome, ticket}
+use Rattle.map.specs.Ticket.{ticket}
 use Rattle.map.specs.Grow.{after}
 use Rattle.outcomes.specs.Outcomes.{outcome}
-use Rattle.grown_tables.specs.Tables.{GrownTables}
-use Rattle.grown_tables.proofs.Grown.{ticket_grown, grown_formed}
 use Rattle.ticket_lists.specs.Runs.{tickets_of}
 use Rattle.ticket_lists.proofs.Turns.{Left, left_all, left-next, left_none}
 use Rattle.ticket_lists.proofs.run_tickets.Statement.{statement}
@@ -28,7 +27,6 @@ invariant-loop nodes₀ edges₀ faces₀ numbers lengths refusals₀ values₀ 
     × Left (after (lent nodes₀ edges₀ faces₀ head₀) (tickets_of numbers lengths))
     (after (lent nodes edges faces head)
     (tickets_of (drop at numbers) (drop i lengths))) i refusals₀ refusals values₀ values
-    × GrownTables (lent nodes edges faces head)
 
 abbrev decreases-loop : tie.decreases-loop
 decreases-loop nodes₀ edges₀ faces₀ numbers lengths refusals₀ values₀ head₀ at₀ i₀ i-end nodes edges faces refusals values head
@@ -36,13 +34,7 @@ decreases-loop nodes₀ edges₀ faces₀ numbers lengths refusals₀ values₀ 
     length lengths - i
 
 loop-holds : tie.Need-loop-init invariant-loop decreases-loop
-loop-holds c =
-    let grown = c.before.before.requires.2 in
-    (omega arith, omega arith, refl, omega arith, omega arith, refl, refl, refl, left_all _ _ _, grown)
-
-edit-requires : tie.Need-edit-requires invariant-loop decreases-loop
-edit-requires c κs =
-    grown_formed _ _ _ _ c.before.before.before.before.before.before.before.loop.invariant.9
+loop-holds c = (omega arith, omega arith, refl, omega arith, omega arith, refl, refl, refl, left_all _ _ _)
 
 mul-refusals : tie.Need-overflow-mul-refusals invariant-loop decreases-loop
 mul-refusals c =
@@ -73,7 +65,7 @@ loop-again c =
     let a = k.before.before.before.before.args in
     let w = b.invariant in
     let m = n.before.before.before.before.before.least in
-    let t = n.edit in
+    let t = n.ticket in
     let l = lent b.nodes b.edges b.faces b.head in
     let e : b.at + m.result - b.at ≡ m.result = omega arith in
     let fits : SFits w64 t.result.answer.value = sfits_of c.before.struct_told.given.1.0.1.1.1.0.1 in
@@ -90,7 +82,6 @@ loop-again c =
       t.auto.1.0 ∙ w.6,
       t.auto.1.1.0 ∙ w.7,
       rw (to_z-of_z {w = w64} fits) left,
-      subst (λ (o : Outcome). GrownTables o.lent) (sym t.ensures) (ticket_grown l _ w.9),
     )
 
 returns : tie.Need-returns invariant-loop decreases-loop
@@ -116,7 +107,7 @@ run-tickets-spec =
     (λ c. omega arith)
     (λ c. omega arith)
     (λ c. omega arith)
-    edit-requires
+    (λ c κs. search rules)
     mul-refusals
     (λ c. omega arith)
     mul-value

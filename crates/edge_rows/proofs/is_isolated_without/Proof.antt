@@ -1,19 +1,21 @@
--- `edge_rows::own_ends` meets its contract. Assumes nothing.
+-- `edge_rows::is_isolated_without` meets its contract: all ends at the node are the row's own. Assumes nothing.
 use borrow.Author.Rules.{rules, sfits_of}
 use mathlib.Core.Path.{ap, ap₂, ◌∙◌}
 use mathlib.Core.Bool.{Bool, true, false}
 use Prim.Native.Nat.{ℕ, ◌+◌, ◌*◌}
 use lib.Dec.{eqb, lit<}
-use lib.IntN.{pos}
+use lib.IntN.{ℤ, pos}
 use lib.ListN.{get_or}
 use mir.Syntax.{w64}
 use mir.Val.{of_z, Fits, bool_byte}
-use mir.Facts.{Fits-of_lt}
-use Rattle.lists.specs.Tests.{bit}
+use mir.Facts.{to_z-of_z, Fits-of_lt}
+use Rattle.lists.specs.Tests.{same, bit}
+use Rattle.lists.specs.Scans.{count_of}
 use Rattle.lists.proofs.Counts.{byte_bit}
 use Rattle.tables.proofs.Order.{word_test}
-use Rattle.edge_rows.proofs.own_ends.Statement.{statement}
-use Rattle.edge_rows.proofs.own_ends.Tie as tie
+use Rattle.links.specs.Linking.{positions, leaves_node}
+use Rattle.edge_rows.proofs.is_isolated_without.Statement.{statement}
+use Rattle.edge_rows.proofs.is_isolated_without.Tie as tie
 
 two-fit : (x y : Bool) → Fits w64 (bool_byte x + bool_byte y)
 two-fit true true = Fits-of_lt (lit< tt)
@@ -21,32 +23,36 @@ two-fit true false = Fits-of_lt (lit< tt)
 two-fit false true = Fits-of_lt (lit< tt)
 two-fit false false = Fits-of_lt (lit< tt)
 
-add-result : tie.Need-overflow-add-result
-add-result c =
+add-own : tie.Need-overflow-add-own
+add-own c =
     let a = c.before.before.args in
     let l = a.edges.now in
     two-fit (eqb (of_z w64 (get_or l (a.i * 32 + 1) (pos 0))) (of_z w64 a.node))
     (eqb (of_z w64 (get_or l (a.i * 32 + 2) (pos 0))) (of_z w64 a.node))
 
 returns : tie.Need-returns
+unfolding same
 returns c =
-    let s = c.before.before in
+    let s = c.before.before.before in
     let a = s.args in
     let l = a.edges.now in
     let u = get_or l (a.i * 32 + 1) (pos 0) in
     let v = get_or l (a.i * 32 + 2) (pos 0) in
+    let fu = sfits_of c.before.before.u.given in
+    let fv = sfits_of c.before.v.given in
     let fn = s.ranges.node in
-    ap₂ (λ (x y : ℕ). x + y)
-    (byte_bit (eqb (of_z w64 u) (of_z w64 a.node))
-    ∙ ap bit (word_test {a = u} {b = a.node} (sfits_of c.before.u.given) fn))
-    (byte_bit (eqb (of_z w64 v) (of_z w64 a.node))
-    ∙ ap bit (word_test {a = v} {b = a.node} (sfits_of c.v.given) fn))
+    ap₂ same (c.edge-ends.ensures.0 ∙ ap (λ (z : ℤ). count_of (leaves_node l z) (positions a.count))
+    (to_z-of_z {w = w64} fn))
+    (ap₂ (λ (x y : ℕ). x + y) (byte_bit (eqb (of_z w64 u) (of_z w64 a.node))
+    ∙ ap bit (word_test {a = u} {b = a.node} fu fn))
+    (byte_bit (eqb (of_z w64 v) (of_z w64 a.node)) ∙ ap bit (word_test {a = v} {b = a.node} fv fn)))
 
-pub own-ends-spec : {M : Type 1} → statement M
-own-ends-spec =
+pub is-isolated-without-spec : {M : Type 1} → statement M
+is-isolated-without-spec =
     tie.close
     (tie.spec
     (λ c. search rules) (λ c. search rules) (λ c. search rules) (λ c. search rules) (λ c. search rules)
     (λ c. search rules) (λ c. search rules) (λ c. search rules) (λ c. search rules) (λ c. search rules)
-    add-result
+    add-own
+    (λ c κs. search rules)
     returns)
