@@ -1,11 +1,13 @@
 // The extent of a curve: the least box around its points. Curves whose extents lie apart share no point.
+#![tactic(auto)]
+
 ghost use Rattle.std.specs.Prelude.{◌≡◌};
 ghost use Rattle.curves.specs.Curves.{Run, curve_of};
 ghost use Rattle.bounding_boxes.specs.Extents.{widen, extent_of, union, boxes_apart};
 
 use plane::Point;
 
-#[derive(Drop)]
+#[derive(Clone, Copy)]
 pub struct Extent {
     pub left: u64,
     pub right: u64,

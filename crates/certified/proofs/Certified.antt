@@ -55,9 +55,9 @@ module _ (m : Map) where
         marked = (formed_is m form).bare;
         first_node = node.least;
         first_edge = edge.least;
-        next-node = node.most;
+        next_node = node.most;
         next_edge = edge.most;
-        next_face_lem = (in_range m.next.faces k.1).most;
+        next_face = (in_range m.next.faces k.1).most;
       }
 
   -- face 0 is below the next face
@@ -65,9 +65,9 @@ module _ (m : Map) where
   good_nexts g =
       let n = g.numbered in
       let r = ranks m g in
-      nexts_are m (record { least = n.first_node; most = n.next-node })
+      nexts_are m (record { least = n.first_node; most = n.next_node })
       (record { least = n.first_edge; most = n.next_edge })
-      (record { least = omega (arith, (r.faces.bounds 0 (zero_in m.faces r.zero)).1); most = n.next_face_lem })
+      (record { least = omega (arith, (r.faces.bounds 0 (zero_in m.faces r.zero)).1); most = n.next_face })
 
   pub certified_good : certified m ≡ true → Good m
   unfolding certified in_plane

@@ -53,8 +53,8 @@ module _ (l : Lent) (h : in_form l ≡ true) where
 
   nexts : nexts_in_range (map_of l) ≡ true
   unfolding map_of
-  nexts = nexts_are (map_of l) (next_in_range_lem l.head.next_node r.next-node)
-      (next_in_range_lem l.head.next_edge r.next_edge) (next_in_range_lem l.head.next_face r.next_face_lem)
+  nexts = nexts_are (map_of l) (next_in_range_lem l.head.next_node r.next_node)
+      (next_in_range_lem l.head.next_edge r.next_edge) (next_in_range_lem l.head.next_face r.next_face)
 
   -- the map of tables in form is good if it is in the plane
   plane_good : in_plane (map_of l) ≡ true → Good (map_of l)

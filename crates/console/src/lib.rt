@@ -1,4 +1,6 @@
 // Tickets as lines of text, answered as they come.
+#![tactic(auto)]
+
 ghost use Rattle.std.specs.Prelude.{◌≡◌, ◌/◌, ◌≤◌, ◌<◌, pos, length};
 ghost use Rattle.io.specs.Counts.{IsPrefixLen, clamp_len};
 ghost use Rattle.lists.specs.Scans.{fold};
@@ -39,7 +41,7 @@ const ANSWER: usize = printing::DIGITS + printing::CELL + 1;
 const ROW: usize = 1 + map::EDGE_WIDTH * printing::CELL + 1;
 
 // After some bytes of the input: the head after the lines that ended, and the length of the line that did not.
-#[derive(Drop)]
+#[derive(Clone, Copy)]
 pub struct State {
     pub head: Head,
     pub length: usize,

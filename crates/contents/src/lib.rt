@@ -1,4 +1,6 @@
 // The contents of a sheet: a face lists the pieces in it, and a piece lists the other faces it bounds.
+#![tactic(auto)]
+
 ghost use Rattle.std.specs.Prelude.{◌≡◌, ◌+◌, ◌*◌, ◌/◌, ◌%◌, ◌≤◌, pos, length, get_or, drop};
 ghost use mathlib.Core.List.{◌++◌, map, flat_map};
 ghost use Rattle.std.proofs.lemmas.List.Edits.{sets};

@@ -1,4 +1,6 @@
 // Curves cut, joined, reversed and without surplus points. A new curve is built point by point in a line, by value.
+#![tactic(auto)]
+
 ghost use Rattle.std.specs.Prelude.{◌≡◌, List, [], ◌∷◌, ◌++◌, ◌+◌, ◌*◌, ◌-◌, ◌≤◌, ◌<◌, ◌/◌, length};
 ghost use Rattle.lists.specs.Tables.{table};
 ghost use Rattle.plane.specs.Points.{InRange};
@@ -10,7 +12,7 @@ use lists::Found;
 use plane::Point;
 
 // The points of a curve as the 24 numbers of an edge row, and their number.
-#[derive(Drop)]
+#[derive(Clone, Copy)]
 pub struct Line {
     pub count: usize,
     pub cells: [i64; curves::CELLS],

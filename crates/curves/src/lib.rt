@@ -1,4 +1,6 @@
 // Curves as runs of numbers x, y, x, y, .. in a lent slice: part of a ticket or of an edge row.
+#![tactic(auto)]
+
 ghost use Rattle.std.specs.Prelude.{◌≡◌, true, false, ◌&&◌, [], map, ◌+◌, ◌*◌, ◌-◌, ◌≤◌, ◌<◌, ◌/◌, length};
 ghost use Rattle.plane.specs.Points.{InRange};
 ghost use Rattle.plane.specs.Segments.{on_segment};
@@ -17,7 +19,7 @@ pub const POINTS: usize = 12;
 pub const CELLS: usize = 2 * POINTS;
 
 // Two points that segments may share, each only where its mark is set.
-#[derive(Drop)]
+#[derive(Clone, Copy)]
 pub struct Shares {
     pub first: Point,
     pub first_may: bool,

@@ -1,5 +1,7 @@
 // Directed edges by position: twice the row, and one more for the reverse. Their columns stand side by side in an edge
 // row: start and end, next left and next right, left and right face.
+#![tactic(auto)]
+
 ghost use Rattle.std.specs.Prelude.{◌≡◌, ◌+◌, ◌*◌, ◌/◌, ◌<◌, ◌≤◌, length, set};
 ghost use Rattle.lists.specs.Tables.{place};
 ghost use Rattle.planar_maps.specs.Rings.{same_dart};
@@ -93,7 +95,7 @@ pub fn next_position(edges: &[i64], count: usize, p: u16) -> u16
 // ---- directions
 
 // Two points.
-#[derive(Drop)]
+#[derive(Clone, Copy)]
 pub struct Step {
     pub from: Point,
     pub to: Point,

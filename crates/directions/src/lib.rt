@@ -1,5 +1,7 @@
 // Directions in counterclockwise order, and what passes below a point. Both go by signs of cross products: unsigned
 // sums that are compared.
+#![tactic(auto)]
+
 ghost use Rattle.std.specs.Prelude.{◌≡◌, true, false, ◌+◌, ◌*◌, ◌≤◌, ◌<◌, pos, ◌-ℤ◌};
 ghost use Rattle.integers.specs.Order.{sgn};
 ghost use Rattle.plane.specs.Points.{InRange, max_coordinate};

@@ -262,9 +262,9 @@ module _ {nodes edges : List ℤ} {h : Head} {u v : ℕ} {c : List ℤ} {face : 
             most = omega (arith, d.room, (whole_rows_lem edge_width 0 max_edges edges k.edge-table.whole).most);
           };
           faces = record { natural = refl; most = omega (arith, c.faces.most) };
-          next-node = record { natural = refl; most = omega (arith, c.next-node.most) };
+          next_node = record { natural = refl; most = omega (arith, c.next_node.most) };
           next_edge = record { natural = refl; most = omega (arith, d.number) };
-          next_face_lem = record { natural = refl; most = omega (arith, c.next_face_lem.most) };
+          next_face = record { natural = refl; most = omega (arith, c.next_face.most) };
           recorded = c.recorded;
         };
         next-least = omega arith;

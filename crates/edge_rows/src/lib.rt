@@ -1,4 +1,6 @@
 // Rows of edges drawn and undrawn: a new last edge linked in, and an edge unlinked and closed up.
+#![tactic(auto)]
+
 ghost use Rattle.std.specs.Prelude.{◌≡◌, ◌+◌, ◌*◌, ◌≤◌, ◌<◌, nat_abs, length, set};
 ghost use Rattle.std.proofs.Math.Seq.{paste};
 ghost use Rattle.tables.specs.Tables.{closed};
@@ -84,7 +86,7 @@ fn is_isolated_without(edges: &[i64], count: usize, i: usize, node: i64) -> bool
 }
 
 // The two ends of an edge that is gone: whether they are isolated now.
-#[derive(Drop)]
+#[derive(Clone, Copy)]
 struct Isolated {
     start: bool,
     end: bool,

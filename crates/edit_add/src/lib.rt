@@ -1,4 +1,6 @@
 // Kinds 11 and 12: an edge drawn, and where it splits a face, the face shared out.
+#![tactic(auto)]
+
 ghost use Rattle.std.specs.Prelude.{◌≡◌, ◌<◌, pos, nat_abs};
 ghost use Rattle.curves.specs.Curves.{curve_of};
 ghost use Rattle.map.specs.Loans.{lent_now};

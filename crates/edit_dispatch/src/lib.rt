@@ -1,4 +1,6 @@
 // The fourteen kinds of tickets, chosen by the ticket's first number: a match on it decides argument count and edit.
+#![tactic(auto)]
+
 ghost use Rattle.std.specs.Prelude.{◌≡◌, true, false, ◌-◌, ◌<◌, length, drop};
 ghost use Rattle.map.specs.Ticket.{ticket};
 ghost use Rattle.map.specs.Loans.{lent_now};
@@ -17,7 +19,7 @@ use map::{Head, Variant};
 use outcomes::Done;
 
 // The edits, each by the function that carries it out.
-#[derive(Drop)]
+#[derive(Clone, Copy)]
 enum Routine {
     AddNode,
     MoveNode,
@@ -33,7 +35,7 @@ enum Routine {
 }
 
 // What a ticket has after its first number: so many arguments, then a curve or nothing; and the edit it asks for.
-#[derive(Drop)]
+#[derive(Clone, Copy)]
 struct Kind {
     arguments: usize,
     curve: bool,

@@ -1,4 +1,6 @@
 // Kinds 9 and 10: two edges healed into one.
+#![tactic(auto)]
+
 ghost use Rattle.std.specs.Prelude.{◌≡◌, ℕ, ◌+◌, ◌*◌, ◌/◌, ◌≤◌, ◌<◌, pos, nat_abs, length};
 ghost use Rattle.lists.specs.Tables.{place};
 ghost use Rattle.lists.specs.declared.Found.TheVariants.{At};
@@ -28,7 +30,7 @@ use outcomes::Done;
 // ---- the two directed edges that are joined
 
 // Two directed edges by position, and the node between them.
-#[derive(Drop)]
+#[derive(Clone, Copy)]
 struct Parts {
     first: usize,
     second: usize,

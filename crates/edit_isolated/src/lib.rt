@@ -1,4 +1,6 @@
 // Kinds 4 and 5: an edge added between two isolated nodes, and an isolated edge removed.
+#![tactic(auto)]
+
 ghost use Rattle.std.specs.Prelude.{◌≡◌, true, not, ◌&&◌, ◌||◌, ◌<◌, pos, nat_abs};
 ghost use Rattle.std.proofs.Math.Option.{get_or};
 ghost use Rattle.lists.specs.Tests.{same};

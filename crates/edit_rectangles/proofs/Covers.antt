@@ -118,7 +118,7 @@ module _ {nodes edges faces : List ℤ} {h : Head} (F : Formed nodes edges faces
     after_same : m'.next.faces ≡ m.next.faces → affected_after false edges' h h' a ≡ a
     after_same e =
         let is : h'.next_face ≡ h.next_face = sym (ap (λ (x : Head). x.next_face) head)
-        ∙ ap pos (e ∙ next_is) ∙ sym (counted F).next_face_lem.natural in
+        ∙ ap pos (e ∙ next_is) ∙ sym (counted F).next_face.natural in
         rw (is_same h'.next_face h.next_face is)
 
     after-made : m'.next.faces ≢ m.next.faces

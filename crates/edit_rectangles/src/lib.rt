@@ -1,4 +1,6 @@
 // The faces whose rectangles an edit affects, and their rectangles set.
+#![tactic(auto)]
+
 ghost use Rattle.std.specs.Prelude.{◌≡◌, true, ◌+◌, ◌*◌, ◌≤◌, pos, nat_abs, length};
 ghost use Rattle.std.specs.Int.Signed.{non_neg};
 ghost use Rattle.map.specs.Limits.{face_width};
@@ -11,7 +13,7 @@ use lists::Found;
 use map::Head;
 
 // The faces on the sides of an edge; 0 for none.
-#[derive(Drop)]
+#[derive(Clone, Copy)]
 struct FacePair {
     left: i64,
     right: i64,
@@ -20,7 +22,7 @@ struct FacePair {
 const NO_PAIR: FacePair = FacePair { left: 0, right: 0 };
 
 // Faces whose rectangles may change; 0 for none.
-#[derive(Drop)]
+#[derive(Clone, Copy)]
 pub struct Affected {
     pub first: i64,
     pub second: i64,

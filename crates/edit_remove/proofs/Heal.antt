@@ -96,9 +96,9 @@ module _ {nodes edges faces : List ℤ} {h : Head} (f : Formed nodes edges faces
           nodes = record { natural = refl; most = omega (arith, c.nodes.most) };
           edges = record { natural = refl; most = omega (arith, c.edges.most) };
           faces = record { natural = refl; most = omega (arith, c.faces.most) };
-          next-node = record { natural = refl; most = omega (arith, c.next-node.most) };
+          next_node = record { natural = refl; most = omega (arith, c.next_node.most) };
           next_edge = record { natural = refl; most = omega (arith, c.next_edge.most) };
-          next_face_lem = record { natural = refl; most = number };
+          next_face = record { natural = refl; most = number };
           recorded = c.recorded;
         })
 

@@ -58,7 +58,7 @@ module _ {nodes edges faces : List ℤ} {h : Head} (f : Formed nodes edges faces
       → nat_abs h.next_face + bit (makes_face v (nat_abs z) m) ≤ suc last_number
   unfolding map_of makes_face
   number-left New e = (remove_new (sizes_of (lent nodes edges faces h)) m z e).supply.faces
-  number-left Mod e = omega (arith, (counted f).next_face_lem.most)
+  number-left Mod e = omega (arith, (counted f).next_face.most)
 
   pub removable : first_reason (reasons (sizes_of (lent nodes edges faces h)) m (remove_ticket how z)) ≡ 0
       → RemovableEdge nodes edges faces h i makes

@@ -1,4 +1,6 @@
 // Kinds 13 and 14: the faces on an edge's two sides healed, and the edge undrawn.
+#![tactic(auto)]
+
 ghost use Rattle.std.specs.Prelude.{◌≡◌, cond, pos};
 ghost use Rattle.map.specs.Edits.{is_new};
 ghost use Rattle.map.specs.Loans.{lent_now};

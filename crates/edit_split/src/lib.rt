@@ -1,4 +1,6 @@
 // Kinds 7 and 8: an edge split.
+#![tactic(auto)]
+
 ghost use Rattle.std.specs.Prelude.{◌≡◌, true, ◌++◌, ◌+◌, ◌*◌, ◌≤◌, ◌<◌, pos, nat_abs, length};
 ghost use Rattle.std.specs.Int.Signed.{non_neg};
 ghost use Rattle.plane.specs.Points.{InRange};

@@ -1,4 +1,6 @@
 // The engine: the empty map, one ticket, the edges of a face.
+#![tactic(auto)]
+
 ghost use Rattle.std.specs.Prelude.{◌≡◌, pos, length, replicate};
 ghost use Rattle.map.specs.Ticket.{ticket, emptied, edges_of_face};
 ghost use Rattle.map.specs.Loans.{lent_now};

@@ -1,4 +1,6 @@
 // The edges of a face: each ring as its length and then its directed edges, rings by first member.
+#![tactic(auto)]
+
 ghost use Rattle.std.specs.Prelude.{◌≡◌, ◌++◌, ◌+◌, ◌*◌, ◌≤◌, ◌<◌, length, drop};
 ghost use Rattle.map.specs.Limits.{last_number};
 ghost use Rattle.map.specs.Ticket.{face_edges, edges_of_face};

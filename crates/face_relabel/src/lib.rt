@@ -1,4 +1,6 @@
 // A face shared out between two sides, and faces renamed.
+#![tactic(auto)]
+
 ghost use Rattle.std.specs.Prelude.{◌≡◌, cond, ℕ, ◌+◌, ◌*◌, ◌≤◌, ◌<◌, get_or, length};
 ghost use Rattle.lists.specs.Tests.{same};
 ghost use Rattle.lists.specs.Tables.{sweep};
@@ -14,7 +16,7 @@ use lists::Found;
 use plane::Point;
 
 // A face to share out: its number, a directed edge on the reference side and its ring's numbers for the two sides.
-#[derive(Drop)]
+#[derive(Clone, Copy)]
 pub struct Sides {
     pub old: i64,
     pub ring: usize,

@@ -188,7 +188,7 @@ module _ {nodes edges faces : List ℤ} {h : Head} {old : ℤ} (p : Splittable n
   sides_shared is_left goes =
       let k = p.held in
       let o = is_natural old old_natural in
-      let a = is_natural h.next_face k.counted.next_face_lem.natural in
+      let a = is_natural h.next_face k.counted.next_face.natural in
       let natural : ℤ → Type 0 = λ z. non_neg z ≡ true in
       let b = cond_has natural goes {x = pos (nat_abs h.next_face + 1)} refl o in
       let first = is_left || not goes in

@@ -1,4 +1,6 @@
 // Condition 2: tables in form.
+#![tactic(auto)]
+
 ghost use Rattle.std.specs.Prelude.{◌≡◌, true, ◌&&◌, ◌≤◌};
 ghost use Rattle.lists.specs.Scans.{all_of};
 ghost use Rattle.tables.specs.Tables.{rows};

@@ -1,6 +1,8 @@
 // Of condition 2 what needs a walk: departures from one node differ in direction, a node has no face exactly when an
 // edge ends there, and the links. The rows of nodes and faces, and the positions of what follows, are given for each
 // directed edge: `starts`, `bears`, `nexts`.
+#![tactic(auto)]
+
 ghost use Rattle.std.specs.Prelude.{◌≡◌, Bool, true, cond, ◌&&◌, ℕ, ◌+◌, ◌*◌, ◌/◌, ◌≤◌, ◌<◌, pos, negsuc, length, get_or};
 ghost use Rattle.std.specs.Bool.{beq};
 ghost use Rattle.lists.specs.Tests.{same};

@@ -1,4 +1,6 @@
 // Condition 1, and of condition 2 what needs no walk: counts, ranges and zero rows, numbers.
+#![tactic(auto)]
+
 ghost use Rattle.std.specs.Prelude.{◌≡◌, true, false, ◌&&◌, [], ◌∷◌, ◌+◌, ◌*◌, ◌≤◌, ◌<◌, pos, length, get_or, take, drop};
 ghost use Rattle.std.specs.Int.Signed.{le_z, non_neg};
 ghost use Rattle.lists.specs.Scans.{all_of};

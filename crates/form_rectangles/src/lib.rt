@@ -1,6 +1,8 @@
 // Of condition 2: each face has the rectangle that the edges give. One pass over the edges widens the boxes of the
 // faces on their sides, whose rows are given for each directed edge: `bears`. The boxes stand in two lists, two numbers
 // a face: the least coordinates and the greatest.
+#![tactic(auto)]
+
 ghost use Rattle.std.specs.Prelude.{◌≡◌, cond, ◌||◌, ℕ, ◌+◌, ◌*◌, ◌≤◌, ◌<◌, length, get_or};
 ghost use Rattle.lists.specs.Tests.{same};
 ghost use Rattle.lists.specs.Scans.{all_of};

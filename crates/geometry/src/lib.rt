@@ -1,1 +1,2 @@
 // The theorems on points, segments and curves lie in specs/ and proofs/.
+#![tactic(auto)]

@@ -104,15 +104,15 @@ pub record AllTake (m m' : Map) (a b c : ℕ) : Type 0 where
   pub nodes : Takes (node_numbers m) m.next.nodes (node_numbers m') a
   pub edges : Takes (edge_numbers m) m.next.edges (edge_numbers m') b
   pub faces : Takes m.faces m.next.faces m'.faces c
-  pub next-node : m'.next.nodes ≡ m.next.nodes + a
+  pub next_node : m'.next.nodes ≡ m.next.nodes + a
   pub next_edge : m'.next.edges ≡ m.next.edges + b
-  pub next_face_lem : m'.next.faces ≡ m.next.faces + c
+  pub next_face : m'.next.faces ≡ m.next.faces + c
 
 pub take-given : {m m' : Map} {a b c : ℕ} → AllTake m m' a b c → NumbersGiven m m'
 take-given {m' = m'} t = record {
-  nodes = given_of m'.next.nodes t.nodes t.next-node;
+  nodes = given_of m'.next.nodes t.nodes t.next_node;
   edges = given_of m'.next.edges t.edges t.next_edge;
-  faces = given_of m'.next.faces t.faces t.next_face_lem;
+  faces = given_of m'.next.faces t.faces t.next_face;
 }
 
 -- nodes and edges by their places and lines
@@ -126,9 +126,9 @@ becomes_take {m} {m'} h p q r i j k = record {
   nodes = by_rows place_of place_number m.nodes m'.nodes h.places p;
   edges = by_rows line_of line_number m.edges m'.edges h.lines q;
   faces = r;
-  next-node = i;
+  next_node = i;
   next_edge = j;
-  next_face_lem = k;
+  next_face = k;
 }
 
 still : (n : ℕ) → n ≡ n + 0
@@ -140,27 +140,27 @@ none_given m = take-given (record {
   nodes = takes_none refl;
   edges = takes_none refl;
   faces = takes_none refl;
-  next-node = still m.next.nodes;
+  next_node = still m.next.nodes;
   next_edge = still m.next.edges;
-  next_face_lem = still m.next.faces;
+  next_face = still m.next.faces;
 })
 
 -- a face split: one or two new faces, and the old one gone with two
 record FaceSplit (m m' : Map) : Type 0 where
   new : ℕ
   faces : Takes m.faces m.next.faces m'.faces new
-  next-node : m'.next.nodes ≡ m.next.nodes
+  next_node : m'.next.nodes ≡ m.next.nodes
   next_edge : m'.next.edges ≡ m.next.edges
-  next_face_lem : m'.next.faces ≡ m.next.faces + new
+  next_face : m'.next.faces ≡ m.next.faces + new
 
 split_face-take : (how : Variant) (e : ℕ) (m : Map) → FaceSplit m (split_face how e m)
 unfolding split_face shared_out
 split_face-take how e m = record {
   new = cond goes 2 1;
   faces = list goes (bears m (fwd e));
-  next-node = add-zero m.next.nodes;
+  next_node = add-zero m.next.nodes;
   next_edge = add-zero m.next.edges;
-  next_face_lem = refl;
+  next_face = refl;
 }
   where
     goes : Bool
@@ -303,9 +303,9 @@ module _ (m : Map) where
           (subst (λ (n : Counts). Takes m.faces n.faces (split_face how m.next.edges drawing).faces
           parted.new) next (subst (λ (fs : List ℕ). Takes fs drawing.next.faces
           (split_face how m.next.edges drawing).faces parted.new) faces parted.faces))
-          (parted.next-node ∙ ap (λ (n : Counts). n.nodes) next ∙ still _)
+          (parted.next_node ∙ ap (λ (n : Counts). n.nodes) next ∙ still _)
           (parted.next_edge ∙ ap (λ (n : Counts). n.edges) next)
-          (parted.next_face_lem ∙ ap (λ (n : Counts). n.faces + parted.new) next))
+          (parted.next_face ∙ ap (λ (n : Counts). n.faces + parted.new) next))
       go false h = take-given (becomes_take h same_places (more_lines _ refl) (takes_none faces)
           (ap (λ (n : Counts). n.nodes) next ∙ still _) (ap (λ (n : Counts). n.edges) next)
           (ap (λ (n : Counts). n.faces) next ∙ still _))

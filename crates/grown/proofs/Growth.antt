@@ -119,9 +119,9 @@ empty-numbered = record {
   marked = refl;
   first_node = omega arith;
   first_edge = omega arith;
-  next-node = omega arith;
+  next_node = omega arith;
   next_edge = omega arith;
-  next_face_lem = omega arith;
+  next_face = omega arith;
 }
 
 pub empty_good : Good empty_map

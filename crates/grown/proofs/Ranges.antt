@@ -76,9 +76,9 @@ pub record Tabled (s : Sizes) (m : Map) : Type 0 where
   pub edges : (e : Edge) → Memᴰ e m.edges → Stored e.curve
   pub some_face : 1 ≤ length m.faces
   pub fits : Fits s m
-  pub next-node : NextInRange m.next.nodes
+  pub next_node : NextInRange m.next.nodes
   pub next_edge : NextInRange m.next.edges
-  pub next_face_lem : NextInRange m.next.faces
+  pub next_face : NextInRange m.next.faces
 
 -- as many rows as were meant to be there
 room : {A : Type 0} (w : ℕ) (cells : A → List ℤ) (n : ℕ) (xs : List A) → Wide w cells xs → 0 < w → length xs ≤ n
@@ -119,7 +119,7 @@ module _ (s : Sizes) (m : Map) (t : Tabled s m) where
 
   nexts : nexts_fit (lent_of s m).head ≡ true
   unfolding lent_with
-  nexts = and_is (fits t.next-node) (and_is (fits t.next_edge) (and_is (fits t.next_face_lem) refl))
+  nexts = and_is (fits t.next_node) (and_is (fits t.next_edge) (and_is (fits t.next_face) refl))
     where
       fits : {n : ℕ} → NextInRange n → within 1 (suc last_number) (pos n) ≡ true
       fits {n} r = in_bounds 1 (suc last_number) n r.least r.most
@@ -211,11 +211,11 @@ module _ (m : Map) (g : Good m) where
           };
           some_face = some_face m.faces r.zero;
           fits = f;
-          next-node = record { least = n.first_node; most = n.next-node };
+          next_node = record { least = n.first_node; most = n.next_node };
           next_edge = record { least = n.first_edge; most = n.next_edge };
-          next_face_lem = record {
+          next_face = record {
             least = omega (arith, (r.faces.bounds 0 (zero_in m.faces r.zero)).1);
-            most = n.next_face_lem;
+            most = n.next_face;
           };
         }
 

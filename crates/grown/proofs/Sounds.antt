@@ -13,7 +13,7 @@ use Rattle.geometry.specs.Drawing.{OnCurve}
 use Rattle.geometry.proofs.Edits.{node_shared_lem}
 use Rattle.map.specs.Rows.{Node, Edge, Map, node, has_node}
 use Rattle.map.specs.Sound.{Sound, AtNode, Ends}
-use Rattle.map.proofs.Linked.{rings_bear_one}
+use Rattle.map.proofs.Linked.{rings_bear_one_lem}
 use Rattle.map.proofs.Laws.{node_there_lem}
 use Rattle.map_laws.proofs.Readings.{arc_of, has_number}
 use Rattle.map_laws.proofs.RowChanges.{node_number}
@@ -70,7 +70,7 @@ module _ (m : Map) (g : Good m) where
   pub good_sound : Sound m
   good_sound = record {
     links_once = g.woven.planar.linked.perm;
-    rings_bear_one = rings_bear_one m (good_formed m g);
+    rings_bear_one = rings_bear_one_lem m (good_formed m g);
     curves_apart = curves;
     sum = let n = length-map m.nodes node_number in let e = length-map m.edges arc_of in
         omega (arith, g.woven.planar.euler);

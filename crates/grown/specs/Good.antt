@@ -23,9 +23,9 @@ pub record Numbered (m : Map) : Type 0 where
   pub marked : bare_marked m ≡ true
   pub first_node : 1 ≤ m.next.nodes
   pub first_edge : 1 ≤ m.next.edges
-  pub next-node : m.next.nodes ≤ suc last_number
+  pub next_node : m.next.nodes ≤ suc last_number
   pub next_edge : m.next.edges ≤ suc last_number
-  pub next_face_lem : m.next.faces ≤ suc last_number
+  pub next_face : m.next.faces ≤ suc last_number
 
 -- a map in the plane, by its links and face numbers alone
 abbrev pub InPlane : Map → Type 0

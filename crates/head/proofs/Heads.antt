@@ -55,9 +55,9 @@ head_same {h} k m n e f a b c =
       nodes = (ap pos n ∙ sym k.nodes.natural) i;
       edges = (ap pos e ∙ sym k.edges.natural) i;
       faces = (ap pos f ∙ sym k.faces.natural) i;
-      next_node = (ap pos a ∙ sym k.next-node.natural) i;
-      next_edge = (ap pos b ∙ sym k.next-edge.natural) i;
-      next_face = (ap pos c ∙ sym k.next_face_lem.natural) i;
+      next_node = (ap pos a ∙ sym k.next_node.natural) i;
+      next_edge = (ap pos b ∙ sym k.next_edge.natural) i;
+      next_face = (ap pos c ∙ sym k.next_face.natural) i;
       points = record_back h.points k.recorded i;
     }
 
@@ -89,7 +89,7 @@ room_left s h rows numbers e =
       nodes = ltb-false s.nodes (nat_abs h.nodes + rows.nodes) p.0;
       edges = ltb-false s.edges (nat_abs h.edges + rows.edges) p.1;
       faces = ltb-false s.faces (nat_abs h.faces + rows.faces) p.2;
-      next-node = ltb-false (suc last_number) (nat_abs h.next_node + numbers.nodes) q.0;
-      next-edge = ltb-false (suc last_number) (nat_abs h.next_edge + numbers.edges) q.1;
-      next_face_lem = ltb-false (suc last_number) (nat_abs h.next_face + numbers.faces) q.2;
+      next_node = ltb-false (suc last_number) (nat_abs h.next_node + numbers.nodes) q.0;
+      next_edge = ltb-false (suc last_number) (nat_abs h.next_edge + numbers.edges) q.1;
+      next_face = ltb-false (suc last_number) (nat_abs h.next_face + numbers.faces) q.2;
     }

@@ -16,9 +16,9 @@ pub record Counted (h : Head) : Type 0 where
   pub nodes : UpTo max_nodes h.nodes
   pub edges : UpTo max_edges h.edges
   pub faces : UpTo max_faces h.faces
-  pub next-node : UpTo (suc last_number) h.next_node
-  pub next-edge : UpTo (suc last_number) h.next_edge
-  pub next_face_lem : UpTo (suc last_number) h.next_face
+  pub next_node : UpTo (suc last_number) h.next_node
+  pub next_edge : UpTo (suc last_number) h.next_edge
+  pub next_face : UpTo (suc last_number) h.next_face
   pub recorded : is_record h.points ≡ true
 
 -- the rows in use, where the counts are not negative
@@ -79,9 +79,9 @@ pub record Left (s : Counts) (h : Head) (rows numbers : Counts) : Type 0 where
   pub nodes : nat_abs h.nodes + rows.nodes ≤ s.nodes
   pub edges : nat_abs h.edges + rows.edges ≤ s.edges
   pub faces : nat_abs h.faces + rows.faces ≤ s.faces
-  pub next-node : nat_abs h.next_node + numbers.nodes ≤ suc last_number
-  pub next-edge : nat_abs h.next_edge + numbers.edges ≤ suc last_number
-  pub next_face_lem : nat_abs h.next_face + numbers.faces ≤ suc last_number
+  pub next_node : nat_abs h.next_node + numbers.nodes ≤ suc last_number
+  pub next_edge : nat_abs h.next_edge + numbers.edges ≤ suc last_number
+  pub next_face : nat_abs h.next_face + numbers.faces ≤ suc last_number
 
 -- ---- a head with other numbers
 

@@ -1,4 +1,6 @@
 // Counts, next numbers and the record of points: one place changes them, and tests whether rows and numbers are left.
+#![tactic(auto)]
+
 ghost use Rattle.std.specs.Prelude.{◌≡◌, true, ◌+◌, ◌-◌, ◌≤◌, ltb, pos, nat_abs};
 ghost use Rattle.std.specs.Int.Signed.{non_neg};
 ghost use Rattle.map.specs.Limits.{most_points, is_record, limit_of};

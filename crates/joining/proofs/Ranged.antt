@@ -80,17 +80,17 @@ module _ (l : Lent) (r : ranged l ≡ true) (f : formed (map_of l) ≡ true) whe
   abbrev Drawn : Line → Type 0
   Drawn k = Kept k.curve
 
-  next-node : NextInRange m.next.nodes
+  next_node : NextInRange m.next.nodes
   unfolding map_of
-  next-node = next_in_range_lem l.head.next_node (ranged_is l r).next-node
+  next_node = next_in_range_lem l.head.next_node (ranged_is l r).next_node
 
   next_edge : NextInRange m.next.edges
   unfolding map_of
   next_edge = next_in_range_lem l.head.next_edge (ranged_is l r).next_edge
 
-  next_face_lem : NextInRange m.next.faces
+  next_face : NextInRange m.next.faces
   unfolding map_of
-  next_face_lem = next_in_range_lem l.head.next_face (ranged_is l r).next_face_lem
+  next_face = next_in_range_lem l.head.next_face (ranged_is l r).next_face
 
   ranks : RankedMap m
   ranks =
@@ -100,11 +100,11 @@ module _ (l : Lent) (r : ranged l ≡ true) (f : formed (map_of l) ≡ true) whe
         numbers = form.rising;
         named = form.named;
         marked = form.bare;
-        first_node = next-node.least;
+        first_node = next_node.least;
         first_edge = next_edge.least;
-        next-node = next-node.most;
+        next_node = next_node.most;
         next_edge = next_edge.most;
-        next_face_lem = next_face_lem.most;
+        next_face = next_face.most;
       })
 
   old_line : (k : Line) → Memᴰ k (lines m) → Drawn k
@@ -124,9 +124,9 @@ module _ (l : Lent) (r : ranged l ≡ true) (f : formed (map_of l) ≡ true) whe
   tabled m' w t room supply faces lines-in places-in =
       let n = length-map m.edges outline_of in
       let n' = length-map m'.edges outline_of in
-      let a = next-node.least in
+      let a = next_node.least in
       let b = next_edge.least in
-      let c = next_face_lem.least in
+      let c = next_face.least in
       let stored : (e : Edge) → Memᴰ e m'.edges → Kept e.curve =
       λ e j. lines-in (line_of e) (subst (Memᴰ (line_of e)) w.lines (Memᴰ.map line_of j)) in
       record {
@@ -139,9 +139,9 @@ module _ (l : Lent) (r : ranged l ≡ true) (f : formed (map_of l) ≡ true) whe
           faces = omega (arith, t.faces, room.faces);
           short = λ e j. (stored e j).most;
         };
-        next-node = rw t.next (record { least = omega (arith, a); most = supply.nodes });
+        next_node = rw t.next (record { least = omega (arith, a); most = supply.nodes });
         next_edge = rw t.next (record { least = omega (arith, b); most = supply.edges });
-        next_face_lem = rw t.next (record { least = omega (arith, c); most = supply.faces });
+        next_face = rw t.next (record { least = omega (arith, c); most = supply.faces });
       }
 
   node_tabled : (p : Point) → AddNode s m p → Tabled s (add_iso_node p m)

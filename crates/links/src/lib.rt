@@ -1,4 +1,6 @@
 // The first departure met turning clockwise, and the only ways in which links change.
+#![tactic(auto)]
+
 ghost use Rattle.std.specs.Prelude.{◌≡◌, true, false, not, ◌&&◌, ℕ, ◌+◌, ◌*◌, ◌/◌, ◌<◌, ◌≤◌, neg_ℤ, length, get_or};
 ghost use Rattle.std.proofs.lemmas.List.Edits.{sets};
 ghost use Rattle.std.specs.Int.Signed.{non_neg};
@@ -17,7 +19,7 @@ use darts::Step;
 use lists::Found;
 
 // A choice among departures so far: the last counterclockwise of all, and of those before a direction.
-#[derive(Drop)]
+#[derive(Clone, Copy)]
 struct Choice {
     any: bool,
     all: usize,

@@ -1,5 +1,7 @@
 // What a search for a number answers: the place of its row, or missing.
-#[derive(Drop)]
+#![tactic(auto)]
+
+#[derive(Clone, Copy)]
 pub enum Found {
     At(usize),
     Missing,

@@ -78,8 +78,8 @@ module _ (m : Map) (h : formed m ≡ true) where
   pub edges_once : Distinct (nums (arcs m))
   edges_once = rw (nums-rows m) form.numbers.edges.distinct
 
-  pub links_once : Permᴰ (map (next m) (directed m)) (directed m)
-  links_once = links_perm m edges_once form.once
+  pub links_once_lem : Permᴰ (map (next m) (directed m)) (directed m)
+  links_once_lem = links_perm m edges_once form.once
 
   pub meets : (d : Dart) → Memᴰ d (directed m) → leaves m (next m d) ≡ arrives m d
   unfolding links_meet
@@ -92,14 +92,14 @@ module _ (m : Map) (h : formed m ≡ true) where
   linked = record {
     starts = starts m edges_once;
     ends = ends m edges_once;
-    perm = links_once;
+    perm = links_once_lem;
     meets = meets;
     keeps = keeps;
   }
 
   -- all directed edges of a ring bear one face
-  pub rings_bear_one : (d d' : Dart) → Memᴰ d (directed m) → Leads (next m) d d' → bears m d' ≡ bears m d
-  rings_bear_one d d' k l = subst (λ (c : Dart). bears m c ≡ bears m d) l.1 (go l.0).1
+  pub rings_bear_one_lem : (d d' : Dart) → Memᴰ d (directed m) → Leads (next m) d d' → bears m d' ≡ bears m d
+  rings_bear_one_lem d d' k l = subst (λ (c : Dart). bears m c ≡ bears m d) l.1 (go l.0).1
     where
       go : (n : ℕ) → Memᴰ (iterate n (next m) d) (directed m) × (bears m (iterate n (next m) d) ≡ bears m d)
       go zero = (k, refl)

@@ -1,9 +1,11 @@
 // The map type with its fixed limits, the head and the answer of a call. What they mean is in specs/.
+#![tactic(auto)]
+
 ghost use Rattle.std.specs.Prelude.{◌≡◌};
 ghost use Rattle.map.specs.Limits.{limits};
 
 // The map; its rows stand in three tables that the caller lends beside the head.
-#[derive(Drop)]
+#[derive(Clone, Copy)]
 pub struct Map {
     pub head: Head,
 }
@@ -93,7 +95,7 @@ const COORDINATE: u64 = Map::COORDINATE as u64;
 
 const LAST: u64 = Map::LAST_NUMBER as u64;
 
-#[derive(Drop)]
+#[derive(Clone, Copy)]
 pub struct Limits {
     pub nodes: usize,
     pub edges: usize,
@@ -105,7 +107,7 @@ pub struct Limits {
 }
 
 // The head, lent beside the tables: the row counts, the next numbers, and the record of points, 6 or 12.
-#[derive(Drop)]
+#[derive(Clone, Copy)]
 pub struct Head {
     pub nodes: i64,
     pub edges: i64,
@@ -117,7 +119,7 @@ pub struct Head {
 }
 
 // So many rows of each table, or so many numbers.
-#[derive(Drop)]
+#[derive(Clone, Copy)]
 pub struct Counts {
     pub nodes: usize,
     pub edges: usize,
@@ -125,14 +127,14 @@ pub struct Counts {
 }
 
 // The two variants of kinds 7 to 14: New gives new numbers to what an edit changes, Mod keeps numbers.
-#[derive(Drop)]
+#[derive(Clone, Copy)]
 pub enum Variant {
     New,
     Mod,
 }
 
 // Refusal and value: 0 and the value where a call is carried out, the refusal's number and 0 where it is turned down.
-#[derive(Drop)]
+#[derive(Clone, Copy)]
 pub struct Answer {
     pub refusal: u64,
     pub value: i64,

@@ -142,7 +142,7 @@ module _ (l : Lent) (form : in_form l ≡ true) where
   wider_ranged =
       let r = ranged_is l (in_form_is l form).ranged in
       let counts = and_is (and_is r.nodes r.edges) r.faces in
-      let nexts = and_is r.next-node (and_is r.next_edge (and_is r.next_face_lem refl)) in
+      let nexts = and_is r.next_node (and_is r.next_edge (and_is r.next_face refl)) in
       and_is (and_is (and_is (and_is (and_is (and_is (and_is (and_is counts nexts) refl) r.node_rest) r.edge_rest)
       r.face_rest) r.node_rows_lem) r.edge_rows_lem) r.face_rows_lem
 

@@ -1,4 +1,6 @@
 // Which pieces of a map lie in which of its faces: the matrix of `piece_faces`, filled from the rows of the tables.
+#![tactic(auto)]
+
 ghost use Rattle.std.specs.Prelude.{◌≡◌, Bool, ◌||◌, ℕ, ◌+◌, ◌*◌, ◌<◌, ◌≤◌, nat_abs, length, replicate};
 ghost use Rattle.lists.specs.Scans.{any_of, count_of};
 ghost use Rattle.lists.specs.Tables.{table};

@@ -1,4 +1,6 @@
 // The map's rows in lent tables: points, curves and containing faces read, node and edge rows written.
+#![tactic(auto)]
+
 ghost use Rattle.std.specs.Prelude.{◌≡◌, [], ◌∷◌, ◌+◌, ◌*◌, ◌≤◌, length};
 ghost use Rattle.std.proofs.Math.Seq.{paste};
 ghost use Rattle.lists.specs.Scans.{is_some};
@@ -58,7 +60,7 @@ pub fn write_node(nodes: &mut [i64], i: usize, number: i64, x: i64, y: i64, face
 }
 
 // The numbers of an edge row before its points.
-#[derive(Drop)]
+#[derive(Clone, Copy)]
 pub struct Incidence {
     pub number: i64,
     pub start: i64,

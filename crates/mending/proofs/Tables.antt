@@ -124,7 +124,7 @@ module _ (s : Sizes) (m : Map) where
         let face_rest = ap (rest_zero face_width (pos n)) faces_now ∙ k.face_rest in
         let face_rows_lem = ap (λ (x : List ℤ). all_of face_ranges (rows face_width n x)) faces_now ∙ k.face_rows_lem in
         let counts = and_is (and_is k.nodes edges) faces in
-        let nexts = and_is k.next-node (and_is k.next-edge (and_is k.next_face_lem refl)) in
+        let nexts = and_is k.next_node (and_is k.next_edge (and_is k.next_face refl)) in
         let rest = flat_rest edge_width edge_cells _ (mended m).edges wide_now in
         let heads = and_is (and_is counts nexts) k.recorded in
         let rests = and_is (and_is (and_is heads k.node_rest) rest) face_rest in

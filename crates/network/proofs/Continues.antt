@@ -24,42 +24,42 @@ use Rattle.network.proofs.RoundTrip.{ranged_is}
 -- the same of networks
 record Later (m m' : Network) : Type 0 where
   year : m'.year ≡ m.year
-  next-node : m.next_node ≤ m'.next_node
-  next-link : m.next_link ≤ m'.next_link
+  next_node : m.next_node ≤ m'.next_node
+  next_link : m.next_link ≤ m'.next_link
 
 cleared-later : (m m' : Network) (n : ℕ) → Later m m' → Later m (cleared n m')
 unfolding cleared remove_node
 cleared-later m m' n h = go (isolated m' n)
   where
     go : (t : Bool) → Later m (cond t (remove_node n m') m')
-    go true = record { year = h.year; next-node = h.next-node; next-link = h.next-link }
+    go true = record { year = h.year; next_node = h.next_node; next_link = h.next_link }
     go false = h
 
 carried_later : (m : Network) (t : Operation) → Later m (carried m t).0
 unfolding carried add_node move_node remove_node add_link change_link remove_link split heal
-carried_later m (AddNode p) = record { year = refl; next-node = omega arith; next-link = omega arith }
-carried_later m (MoveNode n p) = record { year = refl; next-node = omega arith; next-link = omega arith }
-carried_later m (RemoveNode n) = record { year = refl; next-node = omega arith; next-link = omega arith }
-carried_later m (AddLink u v c) = record { year = refl; next-node = omega arith; next-link = omega arith }
-carried_later m (ChangeLink k c) = record { year = refl; next-node = omega arith; next-link = omega arith }
-carried_later m (RemoveLink k) = record { year = refl; next-node = omega arith; next-link = omega arith }
-carried_later m (NewLogLinkSplit k) = record { year = refl; next-node = omega arith; next-link = omega arith }
-carried_later m (ModLogLinkSplit k) = record { year = refl; next-node = omega arith; next-link = omega arith }
-carried_later m (NewGeoLinkSplit k x y) = record { year = refl; next-node = omega arith; next-link = omega arith }
-carried_later m (ModGeoLinkSplit k x y) = record { year = refl; next-node = omega arith; next-link = omega arith }
+carried_later m (AddNode p) = record { year = refl; next_node = omega arith; next_link = omega arith }
+carried_later m (MoveNode n p) = record { year = refl; next_node = omega arith; next_link = omega arith }
+carried_later m (RemoveNode n) = record { year = refl; next_node = omega arith; next_link = omega arith }
+carried_later m (AddLink u v c) = record { year = refl; next_node = omega arith; next_link = omega arith }
+carried_later m (ChangeLink k c) = record { year = refl; next_node = omega arith; next_link = omega arith }
+carried_later m (RemoveLink k) = record { year = refl; next_node = omega arith; next_link = omega arith }
+carried_later m (NewLogLinkSplit k) = record { year = refl; next_node = omega arith; next_link = omega arith }
+carried_later m (ModLogLinkSplit k) = record { year = refl; next_node = omega arith; next_link = omega arith }
+carried_later m (NewGeoLinkSplit k x y) = record { year = refl; next_node = omega arith; next_link = omega arith }
+carried_later m (ModGeoLinkSplit k x y) = record { year = refl; next_node = omega arith; next_link = omega arith }
 carried_later m (NewLinkHeal e f) = cleared-later m _ _
-    (record { year = refl; next-node = omega arith; next-link = omega arith })
+    (record { year = refl; next_node = omega arith; next_link = omega arith })
 carried_later m (ModLinkHeal e f) = cleared-later m _ _
-    (record { year = refl; next-node = omega arith; next-link = omega arith })
+    (record { year = refl; next_node = omega arith; next_link = omega arith })
 
 pub continues_refl : (l : Lent) → Continues l l
-continues_refl l = record { year = refl; next-node = omega arith; next-link = omega arith }
+continues_refl l = record { year = refl; next_node = omega arith; next_link = omega arith }
 
 pub continues_trans : {a b c : Lent} → Continues a b → Continues b c → Continues a c
 continues_trans h k = record {
   year = k.year ∙ h.year;
-  next-node = omega (arith, h.next-node, k.next-node);
-  next-link = omega (arith, h.next-link, k.next-link);
+  next_node = omega (arith, h.next_node, k.next_node);
+  next_link = omega (arith, h.next_link, k.next_link);
 }
 
 judged_continues : (l : Lent) → Formed l → (t : Option Operation) → Continues l (judged l (network_of l) t).lent
@@ -74,8 +74,8 @@ judged_continues l g (some t) = go (first_reason (lent_reasons l ++ reasons (siz
         let y = (ranged_is l (and-true (ranged l) (formed (network_of l)) g.in_form).0).year in
         record {
           year = ap pos h.year ∙ within-back 2004 2005 l.head.year y;
-          next-node = h.next-node;
-          next-link = h.next-link;
+          next_node = h.next_node;
+          next_link = h.next_link;
         }
 
 pub operation_continues : (l : Lent) → Formed l → (t : List ℤ) → Continues l (operation l t).lent

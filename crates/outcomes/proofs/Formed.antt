@@ -69,7 +69,7 @@ module _ {nodes edges faces : List ℤ} {h : Head} (f : Formed nodes edges faces
   -- next numbers
   pub node-next : (h.next_node ≡ pos (nat_abs h.next_node)) × (1 ≤ nat_abs h.next_node)
       × (nat_abs h.next_node ≤ suc last_number)
-  node-next = within-pos 1 (suc last_number) h.next_node ranges.next-node
+  node-next = within-pos 1 (suc last_number) h.next_node ranges.next_node
 
   pub edge-next : (h.next_edge ≡ pos (nat_abs h.next_edge)) × (1 ≤ nat_abs h.next_edge)
       × (nat_abs h.next_edge ≤ suc last_number)
@@ -77,7 +77,7 @@ module _ {nodes edges faces : List ℤ} {h : Head} (f : Formed nodes edges faces
 
   pub face_next : (h.next_face ≡ pos (nat_abs h.next_face)) × (1 ≤ nat_abs h.next_face)
       × (nat_abs h.next_face ≤ suc last_number)
-  face_next = within-pos 1 (suc last_number) h.next_face ranges.next_face_lem
+  face_next = within-pos 1 (suc last_number) h.next_face ranges.next_face
 
   -- whole rows, and not more than the limit
   nodes_whole : WholeRows node_width 0 max_nodes nodes
@@ -105,9 +105,9 @@ module _ {nodes edges faces : List ℤ} {h : Head} (f : Formed nodes edges faces
         nodes = record { natural = nodes_count.0; most = omega (arith, nodes_count.2, nodes_size.1) };
         edges = record { natural = edges_count.0; most = omega (arith, edges_count.2, edges_size.1) };
         faces = record { natural = faces_count.0; most = omega (arith, faces_count.2, faces_size.1) };
-        next-node = record { natural = node-next.0; most = node-next.2 };
+        next_node = record { natural = node-next.0; most = node-next.2 };
         next_edge = record { natural = edge-next.0; most = edge-next.2 };
-        next_face_lem = record { natural = face_next.0; most = face_next.2 };
+        next_face = record { natural = face_next.0; most = face_next.2 };
         recorded = ranges.recorded;
       }
 

@@ -23,8 +23,8 @@ pub number_test : (x y : ℤ) (a b : ℕ) → SFits w64 x → SFits w64 y → x 
     ≡ same a b
 number_test x y a b f g e k = word_test f g ∙ ap₂ same_z e k ∙ same-pos a b
 
-pub next-node-back : {h : Head} → Counted h → to_z w64 (of_z w64 h.next_node) ≡ h.next_node
-next-node-back {h} k = count_back h.next_node k.next-node.natural k.next-node.most
+pub next_node_back : {h : Head} → Counted h → to_z w64 (of_z w64 h.next_node) ≡ h.next_node
+next_node_back {h} k = count_back h.next_node k.next_node.natural k.next_node.most
 
 -- ---- the place of the number as it was passed
 

@@ -1,4 +1,6 @@
 // What an edit answers: the head after it, refusal and value. What its variant decides. The nodes of a new edge.
+#![tactic(auto)]
+
 ghost use Rattle.std.specs.Prelude.{◌≡◌, pos, nat_abs};
 ghost use Rattle.lists.specs.Tables.{place};
 ghost use Rattle.tables.specs.Tables.{same_z, column};
@@ -12,7 +14,7 @@ use lists::Found;
 use map::{Answer, Head, Variant};
 
 // The head after a call and its answer.
-#[derive(Drop)]
+#[derive(Clone, Copy)]
 pub struct Done {
     pub head: Head,
     pub answer: Answer,
@@ -71,7 +73,7 @@ pub fn own_or_next(edges: &[i64], h: Head, how: Variant, i: usize) -> i64
 // ---- the nodes of a new edge
 
 // The rows of both nodes, or that one is missing.
-#[derive(Drop)]
+#[derive(Clone, Copy)]
 pub enum EndRows {
     Both(usize, usize),
     NotBoth,

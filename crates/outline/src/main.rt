@@ -1,5 +1,7 @@
 // The ticket program with the contents of the sheet printed at the end: a line for each face and each piece, two blanks
 // a level. Under a face stand the pieces in it, under a piece the other faces it bounds.
+#![tactic(auto)]
+
 ghost use Rattle.std.specs.Prelude.{◌≡◌, ◌+◌, ◌*◌, ◌≤◌, pos, length, replicate};
 ghost use Rattle.std.proofs.lemmas.List.Edits.{sets};
 ghost use Rattle.map.specs.Loans.{lent_now};

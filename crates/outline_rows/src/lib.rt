@@ -1,5 +1,7 @@
 // Faces and pieces as an indented list, by rows: a face lists the pieces in it, a piece the other faces it bounds. A
 // line is noted by its depth and its vertex: twice a face row, or one more than twice a piece row.
+#![tactic(auto)]
+
 ghost use Rattle.std.specs.Prelude.{◌≡◌, true, false, ◌*◌, ◌-◌, ◌<◌, ◌≤◌, length, set};
 ghost use Rattle.outline_rows.specs.Listing.{Room, Lists, none_left, AllParts, Outlined};
 
@@ -13,7 +15,7 @@ const PARTS: usize = Map::FACES + Map::NODES;
 pub const NOTES: usize = 2 * PARTS;
 
 // How many faces and pieces are left to list; or one would be listed twice.
-#[derive(Drop)]
+#[derive(Clone, Copy)]
 pub enum Listing {
     Left(usize),
     Twice,

@@ -1,6 +1,8 @@
 // Which pieces lie in which faces, by rows: a matrix of bits. A piece goes by the row of its lowest node. Vertex 2 f is
 // face row f and has a bit for each piece in that face; vertex 2 p + 1 is piece row p and has one for each face that
 // the piece is in. Bits keep both lists in order and free of repeats by themselves.
+#![tactic(auto)]
+
 ghost use Rattle.std.specs.Prelude.{◌≡◌, ◌&&◌, ◌||◌, ℕ, ◌+◌, ◌*◌, ◌<◌, ◌≤◌, length};
 ghost use Rattle.lists.specs.Tests.{same};
 ghost use Rattle.piece_faces.specs.Bits.{span, words, cells, bit_at, Joined, first_of, related_but};

@@ -1,4 +1,6 @@
 // The pieces of a map: for each node row the row of the lowest node in its piece.
+#![tactic(auto)]
+
 ghost use Rattle.std.specs.Prelude.{◌≡◌, true, [], ◌+◌, ◌-◌, ◌<◌, ◌≤◌, pos, nat_abs, length, drop};
 ghost use Rattle.std.specs.Int.Signed.{non_neg};
 ghost use Rattle.lists.specs.Tables.{place};

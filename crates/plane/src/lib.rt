@@ -1,5 +1,7 @@
 // Exact geometry of points and segments. Definitions are over ℤ; the code is unsigned inside: a doubled area or a cross
 // product is the difference of two sums of products, and its sign is how the two sums compare.
+#![tactic(auto)]
+
 ghost use Rattle.std.specs.Prelude.{◌≡◌, ◌+◌, ◌*◌, ◌≤◌, ◌<◌, min, max};
 ghost use Rattle.plane.specs.Points.{InRange, same_point};
 ghost use Rattle.plane.specs.Areas.{area, turn, straight};
@@ -9,14 +11,14 @@ ghost use Rattle.plane.specs.Segments.{stretches, ended, contact};
 // The greatest coordinate.
 pub const COORDINATE: i64 = 1048575;
 
-#[derive(Drop)]
+#[derive(Clone, Copy)]
 pub struct Point {
     pub x: u64,
     pub y: u64,
 }
 
 // The way from a by b to c.
-#[derive(Drop)]
+#[derive(Clone, Copy)]
 pub enum Turn {
     Left,
     Straight,
@@ -24,7 +26,7 @@ pub enum Turn {
 }
 
 // How two segments meet: in no point, in one, in one that is inner to both, in more than one.
-#[derive(Drop)]
+#[derive(Clone, Copy)]
 pub enum Contact {
     None,
     Touch,

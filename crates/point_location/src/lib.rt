@@ -1,4 +1,6 @@
 // The face of a point: the face on the upper side of the highest segment below it.
+#![tactic(auto)]
+
 ghost use Rattle.std.specs.Prelude.{◌≡◌, true, ◌+◌, ◌*◌, ◌≤◌, ◌<◌, pos, nat_abs, length, get_or};
 ghost use Rattle.std.proofs.Math.Option.{some};
 ghost use Rattle.std.specs.Int.Signed.{non_neg};
@@ -13,7 +15,7 @@ ghost use Rattle.point_location.specs.Highest.{rowed};
 use plane::Point;
 
 // The highest segment below a point so far, its ends ordered by x, and the face on its upper side.
-#[derive(Drop)]
+#[derive(Clone, Copy)]
 struct Highest {
     some: bool,
     from: Point,

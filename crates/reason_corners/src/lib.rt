@@ -1,5 +1,7 @@
 // Corner faces of a new departure, and whether a new edge splits a face: before anything is written, the ring of the
 // new edge is walked on the links as they would be.
+#![tactic(auto)]
+
 ghost use Rattle.std.specs.Prelude.{◌≡◌, true, false, not, cond, ℕ, suc, ◌+◌, ◌*◌, ◌≤◌, ◌<◌};
 ghost use Rattle.lists.specs.Tests.{same};
 ghost use Rattle.planar_maps.specs.Map.{fwd, bwd};
@@ -67,7 +69,7 @@ pub fn corners_differ(
 
 // Where a new edge would be linked in: the departures met clockwise from its two ends, by position. Its own are 2 e and
 // 2 e + 1 for the row e. In 16 bits, as the walk holds them.
-#[derive(Drop)]
+#[derive(Clone, Copy)]
 struct Corners {
     start: u16,
     end: u16,

@@ -1,4 +1,6 @@
 // The tests behind the reasons that look at points and curves alone: 5 to 8, 10, 14, 23, 15 and 24.
+#![tactic(auto)]
+
 ghost use Rattle.std.specs.Prelude.{◌≡◌, true, not, ◌&&◌, ◌≤◌};
 ghost use Rattle.lists.specs.Tests.{same};
 ghost use Rattle.lists.specs.Scans.{any_of};
@@ -57,7 +59,7 @@ fn last_point(c: &[i64]) -> Point
 // ---- 5 and 6: the points sent
 
 // The curve of a ticket, without surplus points, or the first reason, 5 or 6, against the points sent, and no point.
-#[derive(Drop)]
+#[derive(Clone, Copy)]
 pub struct CurveRead {
     pub reason: u64,
     pub line: Line,

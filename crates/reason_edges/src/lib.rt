@@ -1,4 +1,6 @@
 // The reasons against kinds 11 and 12 from 7 on and against 13 and 14, in order, and what is known where none holds.
+#![tactic(auto)]
+
 ghost use Rattle.std.specs.Prelude.{◌≡◌, true, ◌+◌, ◌<◌, nat_abs};
 ghost use Rattle.std.specs.Int.Signed.{non_neg};
 ghost use Rattle.lists.specs.Tests.{bit};
@@ -17,7 +19,7 @@ use map::{Counts, Head, Variant};
 
 // The first reason from 7 on against a new edge; where it is 0, its corner face, and whether that is split, and else
 // zeros.
-#[derive(Drop)]
+#[derive(Clone, Copy)]
 pub struct Judged {
     pub reason: u64,
     pub face: i64,
@@ -25,7 +27,7 @@ pub struct Judged {
 }
 
 // The first reason against removing an edge; where it is 0, its row, and whether a new face is made, and else zeros.
-#[derive(Drop)]
+#[derive(Clone, Copy)]
 pub struct Removal {
     pub reason: u64,
     pub row: usize,

@@ -21,7 +21,7 @@ use Rattle.map.specs.Darts.{arcs, directed, next, course, ring, among, lower, is
 use Rattle.map.specs.Faces.{ring_area}
 use Rattle.map.specs.Form.{edge_names}
 use Rattle.map.specs.Reasons.{isolated_points, other_piece_points, sides_change}
-use Rattle.map.proofs.Linked.{linked, edges_once, rings_bear_one}
+use Rattle.map.proofs.Linked.{linked, edges_once, rings_bear_one_lem}
 use Rattle.map_laws.proofs.Readings.{row_has, has_dart, bears-left, bears_right}
 use Rattle.map_laws.proofs.Rings.{ring-same, ring_leads, among_in}
 use Rattle.map_rows.specs.Rows.{node_map, edge_at, edges_of, edge_map}
@@ -104,7 +104,7 @@ module _ {nodes edges faces : List ℤ} {h : Head} (f : Formed nodes edges faces
     pub two_faces : same o.left o.right ≡ false
         → among (ring es (dart_at edges (i * 2))) (dart_at edges (i * 2 + 1)) ≡ false
     two_faces e = not-true _ (λ t. differ o.left o.right e (sym (bears-left m dis here)
-        ∙ sym (rings_bear_one m (formed-map f) (fwd o.number) (bwd o.number) first
+        ∙ sym (rings_bear_one_lem m (formed-map f) (fwd o.number) (bwd o.number) first
         (ring_leads m (linked m (formed-map f)) dis (fwd o.number) first
         (among_in (ring m (fwd o.number)) (bwd o.number) (on_is ∙ t))))
         ∙ bears_right m dis here))

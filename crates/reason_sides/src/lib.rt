@@ -1,4 +1,6 @@
 // 22: a curve for an edge that turns the ring on a side of it inside out, or changes what such a ring encloses.
+#![tactic(auto)]
+
 ghost use Rattle.std.specs.Prelude.{◌≡◌, ◌||◌, ◌+◌, ◌*◌, ◌<◌, ◌≤◌, nat_abs, ◌-ℤ◌, length};
 ghost use Rattle.lists.specs.Tests.{same};
 ghost use Rattle.lists.specs.Scans.{any_of};

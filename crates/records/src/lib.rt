@@ -1,5 +1,7 @@
 // Nodes as rows of records that are lent, and the head as one record lent beside the tables. Each function over such a
 // loan is thin: it copies records out, calls a covered function on numbers, and puts the answer back.
+#![tactic(auto)]
+
 ghost use Rattle.std.specs.Prelude.{◌≡◌, cond, ◌&&◌, [], ◌∷◌, ◌+◌, ◌*◌, ◌≤◌, ◌<◌, ltb, pos, length, take};
 ghost use Rattle.std.proofs.Math.Seq.{paste};
 ghost use Rattle.lists.specs.declared.Found.TheVariants.{At};
@@ -18,7 +20,7 @@ use lists::Found;
 use map::{Answer, Head, Map};
 use outcomes::Done;
 
-#[derive(Drop)]
+#[derive(Clone, Copy)]
 pub struct Node {
     pub number: i64,
     pub x: i64,
@@ -27,7 +29,7 @@ pub struct Node {
 }
 
 // What kind 2 came to on a node table: the answer and, where it was carried out, the rows in use and the node.
-#[derive(Drop)]
+#[derive(Clone, Copy)]
 struct Moved {
     answer: Answer,
     count: usize,

@@ -1,4 +1,6 @@
 // The rectangle of a face: the least box around all points of edges with that face on a side.
+#![tactic(auto)]
+
 ghost use Rattle.std.specs.Prelude.{◌≡◌, [], ◌∷◌, ◌+◌, ◌*◌, ◌≤◌, pos, nat_abs, length};
 ghost use Rattle.std.proofs.Math.Seq.{paste};
 ghost use Rattle.lists.specs.Scans.{fold};
@@ -32,7 +34,7 @@ pub const ZEROS: Extent = Extent {
 };
 
 // The boxes around the boundaries of two faces.
-#[derive(Drop)]
+#[derive(Clone, Copy)]
 struct Boxes {
     first: Extent,
     second: Extent,

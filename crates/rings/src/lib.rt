@@ -1,4 +1,6 @@
 // Ring walks by position, in 16 bits: marks, the list of a ring, its doubled area, and what it encloses.
+#![tactic(auto)]
+
 ghost use Rattle.std.specs.Prelude.{◌≡◌, map, ◌+◌, ◌*◌, ◌<◌, ◌≤◌, ◌/◌, length};
 ghost use Rattle.std.proofs.Math.Seq.{paste};
 ghost use Rattle.map.specs.Limits.{max_edges};

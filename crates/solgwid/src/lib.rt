@@ -1,5 +1,7 @@
 // The engine for programs in C and Rust: include/solgwid.h. A slice goes as a pointer and a length, the head as seven
 // numbers; each function answers the refusal.
+#![tactic(auto)]
+
 ghost use Rattle.std.specs.Prelude.{◌≡◌, pos};
 ghost use Rattle.map.specs.Ticket.{ticket, emptied, edges_of_face};
 ghost use Rattle.map.specs.Loans.{lent_now};

@@ -1,5 +1,7 @@
 // Rows of any width in lent slices of numbers: w numbers to a row, rows from the front in rising number order, zeros
 // behind.
+#![tactic(auto)]
+
 ghost use Rattle.std.specs.Prelude.{◌≡◌, true, ℕ, ◌+◌, ◌*◌, ◌-◌, ◌<◌, ◌≤◌, T, pos, nat_abs, get_or, length, drop, replicate};
 ghost use Rattle.std.proofs.Math.Seq.{paste};
 ghost use Rattle.std.specs.Int.Signed.{lt_z, non_neg};

@@ -1,6 +1,8 @@
 // Runs every function on points, segments and curves on stored cases and writes the answers, a line a case.
 // A case is a line of `NUMBERS` numbers of `DIGITS` digits: n, k, px, py, the points of the first curve, of which n are
 // in use, those of the second, k in use, and two numbers that are not used. What is no case is answered by 0 alone.
+#![tactic(auto)]
+
 ghost use Rattle.std.specs.Prelude.{◌≡◌, ◌≤◌, ◌<◌, ◌+◌, length};
 ghost use Rattle.plane.specs.Points.{InRange, max_coordinate};
 ghost use Rattle.curves.specs.Curves.{Run};

@@ -2,6 +2,8 @@
 // writes the answers and the lists, a line a call. Tables are a record of `NUMBERS` numbers, each a sign and seven
 // digits, and a line end: the lengths of the node, edge and face table, the seven numbers of the head, the face and the
 // length of the list; four that are not used; then the tables, with room for eight nodes, six edges and eight faces.
+#![tactic(auto)]
+
 ghost use Rattle.std.specs.Prelude.{◌≤◌, ◌+◌, length};
 
 use map::{Answer, Head};

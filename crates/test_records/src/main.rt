@@ -1,5 +1,7 @@
 // Runs `records` on nodes that are lent as records, with the head through its loan: a node is added, moved, changed and
 // looked up, and counts are set. Writes the answers, the first node and the head, a line each.
+#![tactic(auto)]
+
 use lists::Found;
 use map::{Answer, Head};
 use records::Node;

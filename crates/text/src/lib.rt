@@ -1,4 +1,6 @@
 // A ticket as a line of text.
+#![tactic(auto)]
+
 ghost use Rattle.std.specs.Prelude.{◌≡◌, cond, ◌≤◌, pos, neg_ℤ, length};
 ghost use Rattle.text.specs.Lines.{line_numbers, blank, word_number, signed_number, words, numbers_of};
 ghost use Rattle.text.specs.Parsed.{ParsedAs};
@@ -26,28 +28,28 @@ const MOST_BELOW: u64 = MOST + 1;
 const MOST_BEFORE_DIGIT: u64 = MOST / BASE;
 
 // How many numbers a line has, or that it is wrong.
-#[derive(Drop)]
+#[derive(Clone, Copy)]
 pub enum Parsed {
     Numbers(usize),
     Wrong,
 }
 
 // What the digits of a word say.
-#[derive(Drop)]
+#[derive(Clone, Copy)]
 enum Magnitude {
     Value(u64),
     Wrong,
 }
 
 // What a word says.
-#[derive(Drop)]
+#[derive(Clone, Copy)]
 enum Number {
     Value(i64),
     Wrong,
 }
 
 // What the rest of a line begins with: a number and the place after it, nothing, or a word that is no number.
-#[derive(Drop)]
+#[derive(Clone, Copy)]
 enum Next {
     Number(i64, usize),
     End,

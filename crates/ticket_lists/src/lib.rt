@@ -1,4 +1,6 @@
 // A list of tickets in one call, from the empty map on.
+#![tactic(auto)]
+
 ghost use Rattle.std.specs.Prelude.{◌≡◌, map, min, ◌≤◌, length};
 ghost use Rattle.map.specs.Grow.{Grown, after};
 ghost use Rattle.map.specs.Loans.{lent_now};

@@ -118,7 +118,7 @@ set-affected-requires c κs =
           (settling.after_faces (draws d.ticket) e.edit-rows.last.1.0 a.h e.edit-rows.result.head
           (named_pairs a.edges.now (nat_abs a.h.edges) (named_edges d.ticket))
           (settling.named_faces a.edges.now (nat_abs a.h.edges) (named_edges d.ticket))
-          (counted f).next_face_lem.natural),
+          (counted f).next_face.natural),
     )
 
 returns-2 : tie.Need-returns-2

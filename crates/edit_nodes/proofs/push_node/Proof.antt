@@ -9,7 +9,7 @@ use mir.Facts.{to_z-of_z}
 use Rattle.map.specs.Limits.{node_width}
 use Rattle.outcomes.proofs.Formed.{done}
 use Rattle.head.proofs.Words.{nodes_natural, nodes_read}
-use Rattle.outcomes.proofs.Words.{next-node-back}
+use Rattle.outcomes.proofs.Words.{next_node_back}
 use Rattle.edit_nodes.proofs.push_node.Statement.{statement}
 use Rattle.edit_nodes.proofs.push_node.Tie as tie
 
@@ -19,7 +19,7 @@ returns c =
     let s = w.before.before.before.before.before in
     let a = s.args in
     let n = nodes_read s.requires.0 w.before.to-usize.ensures in
-    let k = next-node-back s.requires.0 in
+    let k = next_node_back s.requires.0 in
     let x = to_z-of_z {w = w64} s.ranges.x in
     let y = to_z-of_z {w = w64} s.ranges.y in
     let z = to_z-of_z {w = w64} s.ranges.around in (

@@ -10,7 +10,7 @@ use Rattle.integers.specs.Signs.{sent}
 use Rattle.curves.specs.Curves.{point}
 use Rattle.map_rows.specs.Rows.{edge_at}
 use Rattle.head.proofs.Words.{edges_natural, edges_read}
-use Rattle.outcomes.proofs.Words.{next-node-back}
+use Rattle.outcomes.proofs.Words.{next_node_back}
 use Rattle.outcomes.specs.Variants.{own_or_next}
 use Rattle.edit_split.specs.Cuts.{cut_row, end_number}
 use Rattle.edit_split.proofs.cut_edge.Statement.{statement}
@@ -51,7 +51,7 @@ returns c =
     let s = q.before.before.before.before in
     let a = s.args in
     let e = edges_read s.requires.counted q.before.to-usize.ensures in
-    let n = next-node-back s.requires.counted in
+    let n = next_node_back s.requires.counted in
     let p = q.point_of_lem.ensures.0 ∙ ap₂ point (to_z-of_z {w = w64} s.ranges.x) (to_z-of_z {w = w64} s.ranges.y) in
     c.before.cut-row.ensures
     ∙ (λ j. cut_row a.edges.now (e j) a.i (n j) (p j) a.how (start b.before j) (end b j))

@@ -19,7 +19,7 @@ use Rattle.head.specs.Heads.{Left, sizes_in, room_at}
 use Rattle.head.proofs.Heads.{room_left}
 use Rattle.outcomes.proofs.Formed.{edge_rows_lem, nodes_size, edges_size, counted, edited-refused, edited-carried, done}
 use Rattle.head.proofs.Words.{nodes_natural, nodes_read}
-use Rattle.outcomes.proofs.Words.{next-node-back}
+use Rattle.outcomes.proofs.Words.{next_node_back}
 use Rattle.outcomes.specs.Variants.{own_or_next}
 use Rattle.edit_split.specs.Cuts.{cut_row, point_reasons, end_number, split_numbers}
 use Rattle.edit_split.proofs.Told.{point_in, late_none, split_reasons_lem}
@@ -81,7 +81,7 @@ carried c =
     let f = s.requires.0 in
     let none = told k.before ∙ k.if1.false in
     let n = nodes_read (counted f) w.before.to-usize.ensures in
-    let z = next-node-back (counted f) in
+    let z = next_node_back (counted f) in
     let x = to_z-of_z {w = w64} s.ranges.x in
     let y = to_z-of_z {w = w64} s.ranges.y in
     let after = split-lent f a.how a.i s.requires.1 a.x a.y (point_in a.x a.y _ _ _ none)

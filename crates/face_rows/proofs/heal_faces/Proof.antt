@@ -39,7 +39,7 @@ face : (f : tie.After-face-left)
 face f =
     let s = f.before.before.before in
     let a = s.args in
-    let k = s.requires.held.counted.next_face_lem in
+    let k = s.requires.held.counted.next_face in
     let nx = count_abs a.h.next_face k.natural k.most
     ∙ sym (map_next a.nodes.now a.edges.now a.faces.now a.h) in
     f.face_left_lem.ensures

@@ -29,14 +29,14 @@ old : (s : tie.Start) → to_z w64 (of_z w64 s.args.old) ≡ s.args.old
 old s = to_z-of_z {w = w64} s.ranges.old
 
 next : (s : tie.Start) → to_z w64 (of_z w64 s.args.h.next_face) ≡ s.args.h.next_face
-next s = let k = s.requires.held.counted.next_face_lem in count_back s.args.h.next_face k.natural k.most
+next s = let k = s.requires.held.counted.next_face in count_back s.args.h.next_face k.natural k.most
 
 sides-of-requires : tie.Need-sides-of-requires
 sides-of-requires c κs =
     let s = c.before.before.before.before in
     let k = s.requires.held in
     rw (c.before.before.before.Counts-of.ensures, next s)
-    (k.edge_rows_lem, s.requires.drawn, k.counted.edges.most, k.counted.next_face_lem.natural, k.counted.next_face_lem.most)
+    (k.edge_rows_lem, s.requires.drawn, k.counted.edges.most, k.counted.next_face.natural, k.counted.next_face.most)
 
 -- the left ring's doubled area is positive
 abbrev is_left : tie.Start → Bool
@@ -75,8 +75,8 @@ split-row-requires c κs =
       there = s.requires.there;
       room = omega (arith, s.requires.room);
       old_natural = is_natural s.args.old (old_natural s.requires);
-      natural = is_natural s.args.h.next_face k.counted.next_face_lem.natural;
-      most = k.counted.next_face_lem.most;
+      natural = is_natural s.args.h.next_face k.counted.next_face.natural;
+      most = k.counted.next_face.most;
     })
 
 returns : tie.Need-returns

@@ -61,9 +61,9 @@ no_more f = record { nodes = omega (arith, f.nodes); edges = omega (arith, f.edg
 
 enough : {m : Map} → Numbered m → Supply m 0 0 0
 enough n = record {
-  nodes = omega (arith, n.next-node);
+  nodes = omega (arith, n.next_node);
   edges = omega (arith, n.next_edge);
-  faces = omega (arith, n.next_face_lem);
+  faces = omega (arith, n.next_face);
 }
 
 no_face_lem : {m : Map} (e : ℕ) → Supply m 0 0 0 → Supply m 0 0 (bit (makes_face Mod e m))

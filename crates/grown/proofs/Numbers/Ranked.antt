@@ -170,9 +170,9 @@ ranked_numbered m w r l = record {
   marked = each_all _ m.nodes (λ n k. rw (mark n k) (beq_refl (same (edge_ends m n.number) 0)));
   first_node = r.first_node;
   first_edge = r.first_edge;
-  next-node = l.node;
+  next_node = l.node;
   next_edge = l.edge;
-  next_face_lem = l.face;
+  next_face = l.face;
 }
   where
     dis : Distinct (nums (arcs m))

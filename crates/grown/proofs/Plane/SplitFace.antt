@@ -87,15 +87,15 @@ module _ (how : Variant) (m : Map) (u v : ℕ) (c : Curve) (φ : ℕ) (draws : D
   on_b = D-bears m u v c φ draws b (Memᴰ.tail (Memᴰ.head refl)) ∙ with_bwd m.next.edges φ φ (bears m)
       ∙ sym on_f
 
-  next_face_lem : D.next.faces ≡ m.next.faces + 0
+  next_face : D.next.faces ≡ m.next.faces + 0
   unfolding drawn at_nodes link_edge link_in lead redirect at_edge
-  next_face_lem = refl
+  next_face = refl
 
   -- ---- the sides
 
   shared : Sharing s D.next.faces m.faces (split_list goes old D.next.faces m.faces)
   shared = sharing old D.next.faces m.faces faced.once
-      (λ g k. let h = faced.below g k in let q = next_face_lem in omega arith)
+      (λ g k. let h = faced.below g k in let q = next_face in omega arith)
       (subst (λ (g : ℕ). Memᴰ g m.faces) (sym on_f) there) (ring D f) (ring D b) goes is_left
 
   -- the two ways of the edge have the two numbers, one way or the other
@@ -165,7 +165,7 @@ module _ (how : Variant) (m : Map) (u v : ℕ) (c : Curve) (φ : ℕ) (draws : D
   not_new g z h k ne = same_false g z (λ p. elim h [
     | inl q ↦ ne (p ∙ q ∙ on_f)
     | inr q ↦ let r = faced.below g k in
-        let t = next_face_lem in omega arith
+        let t = next_face in omega arith
   ])
 
   back_old : (g : ℕ) → Memᴰ g m.faces → g ≢ φ → back g ≡ g
