@@ -4,11 +4,7 @@ import plotmap as pm
 
 from repository import LEVEL
 
-HEADER = """use mathlib.Core.Path.{_≡_, refl}
-use mathlib.Core.Bool.{Bool, true, false}
-use mathlib.Core.List.{List, [], _∷_}
-use Prim.Native.Nat.{ℕ}
-use lib.IntN.{ℤ, pos, negsuc}
+HEADER = """use Rattle.std.specs.Prelude.{◌≡◌, refl, Bool, true, false, List, [], ◌∷◌, ℕ, ℤ, pos, negsuc}
 """
 
 
@@ -37,7 +33,7 @@ def record(**fields):
 
 
 def head(numbers, *names):
-    return record(**{f'«{n}»' if '_' in n else n: z(v) for n, v in zip(names, numbers, strict=True)})
+    return record(**{n: z(v) for n, v in zip(names, numbers, strict=True)})
 
 
 def sheet(t, h):

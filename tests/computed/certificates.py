@@ -21,12 +21,12 @@ from . import antt, lent
 from .scratch import Case, Claim
 
 CRATES = ('certified',)
-HEADER = """use Rattle·map.specs.Rows.{Lent, mapOf}
-use Rattle·map.specs.Links.{obeysLaw}
-use Rattle·certified.specs.Certified.{certifies, certified, curvesClear, placesDiffer, sumHolds, facesReached}
+HEADER = """use Rattle.map.specs.Rows.{Lent, map_of}
+use Rattle.map.specs.Links.{obeys_law}
+use Rattle.certified.specs.Certified.{certifies, certified, curves_clear, places_differ, sum_holds, faces_reached}
 
 abbrev parts : Lent → List Bool
-parts l = let m = mapOf l in obeysLaw m ∷ curvesClear m ∷ placesDiffer m ∷ sumHolds m ∷ facesReached m ∷ []
+parts l = let m = map_of l in obeys_law m ∷ curves_clear m ∷ places_differ m ∷ sum_holds m ∷ faces_reached m ∷ []
 """
 PARTS = ('law', 'curves', 'places', 'sum', 'faces')
 REFUSALS = (0, 'form', *PARTS)
@@ -104,7 +104,7 @@ def call(t, h):
     if parts:
         claims.append(Claim(f'parts {sheet}', antt.listed(map(antt.truth, parts)), 'List Bool'))
     if formed:
-        claims.append(Claim(f'certified (mapOf {sheet})', good, 'Bool'))
+        claims.append(Claim(f'certified (map_of {sheet})', good, 'Bool'))
     missed = [p for p, holds in zip(PARTS, parts) if not holds] + ['form'] * (not formed)
     return Case('call', lent.tables(t, h), tuple(claims), tuple(('certified', p) for p in missed or [0]))
 

@@ -13,15 +13,15 @@ from . import antt, lent
 from .scratch import Case, Claim
 
 CRATES = ('nesting',)
-HEADER = """use Rattle·map.specs.Ticket.{Listed}
-use Rattle·nesting.specs.Contents.{contentsOf}
+HEADER = """use Rattle.map.specs.Ticket.{Listed}
+use Rattle.nesting.specs.Contents.{contents_of}
 """
 REFUSALS = (0, 1, 2, 20, 28)
 
 
 def call(t, h, out):
     after, r, v = ct.list_contents(t, h, out, LEVEL)
-    claim = Claim(f'contentsOf ({antt.sheet(t, h)}) ({antt.zs(out)})', antt.written(after, r, v), 'Listed')
+    claim = Claim(f'contents_of ({antt.sheet(t, h)}) ({antt.zs(out)})', antt.written(after, r, v), 'Listed')
     return Case('call', lent.said(lent.tables(t, h), len(out)), (claim,), (('contents', r),))
 
 

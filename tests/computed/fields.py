@@ -11,8 +11,8 @@ from . import antt
 from .scratch import Case, Claim
 
 CRATES = ('fields',)
-HEADER = """use mathlib.Core.List.{_++_}
-use Rattle·fields.specs.Bits.{width, bits, field, bitsOf, bytesOf}
+HEADER = """use Rattle.std.specs.Prelude.{◌++◌}
+use Rattle.fields.specs.Bits.{width, bits, field, bits_of, bytes_of}
 """
 REFUSALS = ()
 EDGES = (0, 1, 2, 3, 7, 8, 9, 255, 256, 999_999, 1_000_000, 2 ** 20 - 1, 2 ** 20, 2 ** 63, 2 ** 64 - 1)
@@ -52,12 +52,12 @@ def of_field(rng):
     """Anywhere in a file, past its end too."""
     f, w = some_bytes(rng), rng.choice([0, 1, 4, 8, 11, 20, rng.randint(0, 64)])
     at = rng.randint(0, 8 * len(f) + 8)
-    return call(f'field (bitsOf ({nats(f)})) {at} {w}', str(tr.take_run(f, at, (w,))[0][0]), 'ℕ')
+    return call(f'field (bits_of ({nats(f)})) {at} {w}', str(tr.take_run(f, at, (w,))[0][0]), 'ℕ')
 
 
 def of_bytes(rng):
     f = some_bytes(rng)
-    return call(f'bitsOf ({nats(f)})', truths(tr.bit(f, i) for i in range(8 * len(f))), 'List Bool')
+    return call(f'bits_of ({nats(f)})', truths(tr.bit(f, i) for i in range(8 * len(f))), 'List Bool')
 
 
 def filled(some_bits):
@@ -68,14 +68,14 @@ def filled(some_bits):
 
 def of_bits(rng):
     b = [rng.randint(0, 1) for _ in range(rng.choice([0, 1, 7, 8, 9, rng.randint(0, 100)]))]
-    return call(f'bytesOf ({truths(b)})', nats(filled(b)), 'List ℕ')
+    return call(f'bytes_of ({truths(b)})', nats(filled(b)), 'List ℕ')
 
 
 def of_map(rng):
     """The fields of a whole map, put one behind the other, make its file."""
     m = grown.grow(rng, rng.choice([0, 5, 12]), LEVEL)
     fields = ' ++ '.join(f'bits {w} {int(v)}' for v, w in tr.fields(m))
-    return call(f'bytesOf ({fields})', nats(tr.file_of(m)), 'List ℕ')
+    return call(f'bytes_of ({fields})', nats(tr.file_of(m)), 'List ℕ')
 
 
 def cases(count, seed):

@@ -13,8 +13,8 @@ from . import antt, lent
 from .scratch import Case, Claim
 
 CRATES = ('joining',)
-HEADER = """use Rattle·map.specs.Ticket.{Outcome}
-use Rattle·joining.specs.Join.{joinedSheet}
+HEADER = """use Rattle.map.specs.Ticket.{Outcome}
+use Rattle.joining.specs.Join.{joined_sheet}
 """
 # what kinds 1, 8 and 12 can get on places and rows that exist
 REFUSALS = (0, 1, 2, 5, 6, 7, 11, 12, 14, 15, 20, 21, 23, 24)
@@ -22,7 +22,7 @@ REFUSALS = (0, 1, 2, 5, 6, 7, 11, 12, 14, 15, 20, 21, 23, 24)
 
 def call(first, second):
     t, h, r, v = jn.join(*first, *second, LEVEL)
-    left = f'joinedSheet ({antt.sheet(*first)}) ({antt.sheet(*second)})'
+    left = f'joined_sheet ({antt.sheet(*first)}) ({antt.sheet(*second)})'
     return Case('call', lent.said(lent.tables(*first), lent.tables(*second)),
                 (Claim(left, antt.outcome(antt.sheet(t, h), r, v), 'Outcome'),), (('joined', r),))
 

@@ -13,7 +13,7 @@ from . import antt, lent
 from .scratch import Case, Claim
 
 CRATES = ('mending',)
-HEADER = """use Rattle·mending.specs.Mend.{Mended, mend}
+HEADER = """use Rattle.mending.specs.Mend.{Mended, mend}
 """
 REFUSALS = (0, 1, 2, 11, 20, 31)
 

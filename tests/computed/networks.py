@@ -13,14 +13,14 @@ from .lent import said
 from .scratch import Case, Claim
 
 CRATES = ('network',)
-HEADER = """use Rattle·map.specs.declared.Answer.{Answer}
-use Rattle·network.specs.Rows.{Lent}
-use Rattle·network.specs.Operation.{Outcome, operation, created, fromMap}
-use Rattle·network.specs.Claims.{after}
+HEADER = """use Rattle.map.specs.declared.Answer.{Answer}
+use Rattle.network.specs.Rows.{Lent}
+use Rattle.network.specs.Operation.{Outcome, operation, created, from_map}
+use Rattle.network.specs.Claims.{after}
 
 abbrev answers : Lent → List (List ℤ) → List Answer
 answers l [] = []
-answers l (t ∷ ts) = let o = operation l t in o .answer ∷ answers (o .lent) ts
+answers l (t ∷ ts) = let o = operation l t in o.answer ∷ answers o.lent ts
 """
 REFUSALS = (0, 1, 2, 3, 4, 5, 6, 7, 8, 9, 13, 16, 18, 20, 21, 25, 26, 27)
 
@@ -228,7 +228,7 @@ def from_map(rng):
 
 def copied(t, h, s, sh, spatial):
     t2, h2, r, v = nw.make_from_map(t, h, s, sh, spatial, LEVEL)
-    left = f'fromMap {antt.truth(spatial)} ({antt.sheet(s, sh)}) ({lent(t, h)})'
+    left = f'from_map {antt.truth(spatial)} ({antt.sheet(s, sh)}) ({lent(t, h)})'
     return Case('call', said('from map', spatial, sheets.tables(s, sh), sheets.tables(t, h)),
                 (Claim(left, outcome(t2, h2, r, v), 'Outcome'),), (('from map', r),))
 

@@ -14,21 +14,21 @@ from . import antt, lent, networks
 from .scratch import Case, Claim
 
 CRATES = ('paths',)
-HEADER = """use lib.IntN.{natAbs}
-use Rattle·map.specs.Reasons.{firstReason}
-use Rattle·network.specs.Rows.{Lent, networkOf}
-use Rattle·paths.specs.Walks.{Hop, hops}
-use Rattle·paths.specs.Nearest.{Near}
-use Rattle·paths.specs.Route.{examined, routeLength, routeBound, routeReasons}
+HEADER = """use Rattle.std.specs.Prelude.{nat_abs}
+use Rattle.map.specs.Reasons.{first_reason}
+use Rattle.network.specs.Rows.{Lent, network_of}
+use Rattle.paths.specs.Walks.{Hop, hops}
+use Rattle.paths.specs.Nearest.{Near}
+use Rattle.paths.specs.Route.{examined, route_length, route_bound, route_reasons}
 
 abbrev refusal : Lent → ℤ → ℤ → ℤ → ℕ → ℕ
-refusal l start goal k room = firstReason (routeReasons l start goal k room)
+refusal l start goal k room = first_reason (route_reasons l start goal k room)
 
 abbrev route : Lent → ℤ → ℤ → ℤ → ℕ × ℕ
 route l start goal k =
-    let hs = hops (networkOf l) in
+    let hs = hops (network_of l) in
     let es = examined l start k in
-    (routeLength hs es (natAbs goal), routeBound hs es (natAbs goal))
+    (route_length hs es (nat_abs goal), route_bound hs es (nat_abs goal))
 """
 REFUSALS = (0, 1, 2, 4, 20, 27, 32, 33)
 

@@ -1,11 +1,15 @@
-"""Cases, and the scratch crate under target/definitions in which they are computed: a theorem `.. ≡ ..` a claim, proved
-by refl and checked by `rt dev`."""
+"""Cases, and the scratch crate in which they are computed: a theorem `.. ≡ ..` a claim, proved by refl and checked by
+`rt check`. It stands in a repository of its own in the folder for temporary files, one for each checkout, which stays
+for the next run: `rt ci` refuses definitions in a checkout that are no listed crate's."""
 
 import os
+import pathlib
 import re
 import shutil
 import subprocess
+import tempfile
 import time
+import zlib
 from collections import Counter
 from dataclasses import dataclass
 
@@ -15,10 +19,11 @@ from repository import ROOT, needed
 
 from . import antt
 
-REPOSITORY = ROOT / 'target/definitions'
+REPOSITORY = pathlib.Path(tempfile.gettempdir()) / f'solgwid-definitions-{zlib.crc32(os.fsencode(ROOT)):08x}'
 SCRATCH = REPOSITORY / 'crates/scratch'
 WRITTEN = 'Written by tests/check_definitions.py.'
-KIT = (('mathlib.Core.List', 'flatMap'), ('lib.Count', 'leadingZeros'))     # shut definitions of the kit that ours use
+# shut definitions of the kit that ours use
+KIT = (('mathlib.Core.List', 'flat_map'), ('Rattle.std.specs.Int.Count', 'count_leading_zeros'))
 
 
 @dataclass(frozen=True)
@@ -66,7 +71,7 @@ def reached(some, onward):
 
 def named_in(crate):
     texts = [p.read_text() for p in (ROOT / 'crates' / crate / 'specs').glob('*.antt')]
-    return {c for t in texts for c in re.findall(r'^use Rattle·(\w+)\.', t, re.M)}
+    return {c for t in texts for c in re.findall(r'^use Rattle\.(\w+)\.', t, re.M)} - {crate, 'std'}
 
 
 def opened(crates):
@@ -76,22 +81,25 @@ def opened(crates):
         for path in sorted((ROOT / 'crates' / c / 'specs').glob('*.antt')):
             found = [] if path.stem == 'Opened' else shut(path)
             if found:
-                uses.append(f'use Rattle·{c}.specs.{path.stem} as {c}-{path.stem}')
+                uses.append(f'use Rattle.{c}.specs.{path.stem} as {c}-{path.stem}')
                 names += [f'{c}-{path.stem}.{n}' for n in found]
     return '\n'.join(uses) + f'\n\nunfoldable pub opened : Unit {{0}}\nunfolding {" ".join(names)}\nopened = tt\n'
 
 
 def scratch_crates(crates):
-    shutil.rmtree(REPOSITORY / 'crates', ignore_errors=True)
+    """Each crate anew, but for what rt keeps in its out/."""
+    for part in REPOSITORY.glob('crates/*/*'):
+        if part.name != 'out':
+            shutil.rmtree(part)
     found, whole = closure(crates)
     for c in found:
         for part in ('src', 'specs', 'proofs') if c in whole else ('src', 'specs'):
             if (ROOT / 'crates' / c / part).exists():      # copied: rt sees no change behind a link
                 shutil.copytree(ROOT / 'crates' / c / part, REPOSITORY / 'crates' / c / part)
     lines = [f'{c}: {" ".join(ds)}' for c, ds in found.items()] + [f'scratch: {" ".join(found)}']
-    (REPOSITORY / 'crates.txt').write_text('\n'.join(lines) + '\n')
     (SCRATCH / 'src').mkdir(parents=True)
-    (SCRATCH / 'src/lib.rt').write_text(f'// {WRITTEN}\npub fn one() -> usize {{\n    1\n}}\n')
+    (REPOSITORY / 'crates.txt').write_text('\n'.join(lines) + '\n')
+    (SCRATCH / 'src/lib.rt').write_text(f'// {WRITTEN}\n#![tactic(auto)]\n\npub fn one() -> usize {{\n    1\n}}\n')
     (SCRATCH / 'specs').mkdir()
     (SCRATCH / 'specs/Opened.antt').write_text(f'-- {WRITTEN}\n' + opened(found))
 
@@ -103,7 +111,7 @@ def theorem(name, claim):
 pub expected-{name} : {claim.type_}
 expected-{name} = {claim.right}
 
-pub {name} : _≡_ {{A = {claim.type_}}} ({claim.left}) expected-{name}
+pub {name} : ◌≡◌ {{A = {claim.type_}}} ({claim.left}) expected-{name}
 unfolding opened expected-{name}
 {name} = refl
 """
@@ -120,20 +128,18 @@ def spoiled(rng, claim):
 
 
 def check(kind, theorems, per):
-    """The names of the theorems that the prover refuses, and the seconds spent; what rt said stands in
-    target/definitions/out."""
+    """The names of the theorems that the prover refuses, and the seconds spent; what rt said stands in the file out."""
     needed('rt', 'the Rattle kit')
     scratch_crates(kind.CRATES)
     texts = [theorem(n, c) for n, c in theorems.items()]
-    header = f'-- {WRITTEN}\n{antt.HEADER}use Rattle·scratch·specs.specs.Opened.{{opened}}\n{kind.HEADER}'
+    header = f'-- {WRITTEN}\n{antt.HEADER}use Rattle.scratch.specs.Opened.{{opened}}\n{kind.HEADER}'
     modules = ['Opened']
     for k in range(0, len(texts), per):
         modules.append(f'M{k // per}')
         (SCRATCH / f'specs/{modules[-1]}.antt').write_text(header + ''.join(texts[k:k + per]))
     (SCRATCH / 'specs/Lib.antt').write_text(''.join(f'pub mod {m}\n' for m in modules))
     start = time.time()
-    run = subprocess.run(['rt', 'dev', 'scratch'], cwd=REPOSITORY, stdout=subprocess.PIPE, stderr=subprocess.STDOUT,
-                         text=True, env={**os.environ, 'RT_CUT': '0'})
+    run = subprocess.run(['rt', 'check'], cwd=SCRATCH, stdout=subprocess.PIPE, stderr=subprocess.STDOUT, text=True)
     (REPOSITORY / 'out').write_text(run.stdout)
     failed = set(re.findall(r'error: `(?:expected-)?(case\d+-\d+)`', run.stdout))
     if failed or run.returncode == 0 and 'logic=proved' in run.stdout:

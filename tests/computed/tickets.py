@@ -20,15 +20,15 @@ from . import antt
 from .scratch import Case, Claim
 
 CRATES = ('map',)
-HEADER = """use Rattle·map.specs.Limits.{SixPoints, TwelvePoints}
-use Rattle·map.specs.Rows.{Lent, mapOf}
-use Rattle·map.specs.Darts.{pieceCount}
-use Rattle·map.specs.Links.{obeysLaw}
-use Rattle·map.specs.Ticket.{Outcome, Listed, ticket, emptied, edgesOfFace}
-use Rattle·map.specs.Grow.{Grown, grow}
+HEADER = """use Rattle.map.specs.Limits.{SixPoints, TwelvePoints}
+use Rattle.map.specs.Rows.{Lent, map_of}
+use Rattle.map.specs.Darts.{piece_count}
+use Rattle.map.specs.Links.{obeys_law}
+use Rattle.map.specs.Ticket.{Outcome, Listed, ticket, emptied, edges_of_face}
+use Rattle.map.specs.Grow.{Grown, grow}
 
 abbrev told : Lent → ℕ × Bool
-told l = (pieceCount (mapOf l), obeysLaw (mapOf l))
+told l = (piece_count (map_of l), obeys_law (map_of l))
 """
 REFUSALS = ()
 
@@ -69,7 +69,7 @@ def call(text):
     if letter == 'L':
         out = (77,) * rest[1]
         after, r, v = pm.list_edges_of_face(t, h, rest[0], out, LEVEL)
-        claim = Claim(f'edgesOfFace ({lent}) ({antt.z(rest[0])}) ({antt.zs(out)})', antt.written(after, r, v), 'Listed')
+        claim = Claim(f'edges_of_face ({lent}) ({antt.z(rest[0])}) ({antt.zs(out)})', antt.written(after, r, v), 'Listed')
         return Case('call', text, (claim,), (('edges of a face', r),))
     t2, h2, r, v = pm.run(t, h, rest, LEVEL)
     claims = (Claim(f'ticket ({lent}) ({antt.zs(rest)})', outcome(t2, h2, r, v), 'Outcome'),

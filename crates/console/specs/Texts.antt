@@ -1,5 +1,5 @@
 -- What is printed: answers, the head and rows as text.
-use Rattle.std.specs.Prelude.{◌≡◌, List, [], ◌∷◌, ◌++◌, ℕ, ◌≤◌, ℤ, length, take}
+use Rattle.std.specs.Prelude.{◌≡◌, List, [], ◌∷◌, ◌++◌, ℕ, ◌≤◌, min, ℤ, pos, negsuc, length, take}
 use Rattle.std.proofs.lemmas.List.Edits.{sets}
 use Rattle.map.specs.declared.Head.{Head}
 use Rattle.printing.specs.Texts.{natural_text, number_text, row_text}
@@ -15,6 +15,11 @@ tagged_text tag row = tag ∷ row_text row
 -- the head's numbers: the counts, the next numbers, the record of points
 abbrev pub head_numbers : Head → List ℤ
 head_numbers h = h.nodes ∷ h.edges ∷ h.faces ∷ h.next_node ∷ h.next_edge ∷ h.next_face ∷ h.points ∷ []
+
+-- the number from 0 to `most` that is nearest
+abbrev pub clamp_len : ℤ → ℕ → ℕ
+clamp_len (pos k) most = min k most
+clamp_len (negsuc k) most = 0
 
 -- a text put at the front of a buffer, and its length
 pub record TextPut (before text after : List ℕ) (r : ℕ) : Type 0 where

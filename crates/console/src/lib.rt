@@ -2,7 +2,6 @@
 #![tactic(auto)]
 
 ghost use Rattle.std.specs.Prelude.{◌≡◌, ◌/◌, ◌≤◌, ◌<◌, pos, length};
-ghost use Rattle.io.specs.Counts.{IsPrefixLen, clamp_len};
 ghost use Rattle.lists.specs.Scans.{fold};
 ghost use Rattle.tables.specs.Tables.{row_at};
 ghost use Rattle.curves.specs.Curves.{max_points};
@@ -13,11 +12,16 @@ ghost use Rattle.map.specs.Ticket.{emptied};
 ghost use Rattle.outcomes.specs.Outcomes.{outcome_now};
 ghost use Rattle.console.specs.Lines.{parsed_count, line_answered, desk_of, kept_bytes, served, finished};
 ghost use Rattle.console.specs.Lines.{Bytes, DeskServed, InputServed, ProgramServed};
-ghost use Rattle.console.specs.Texts.{answer_text, tagged_text, head_numbers, TextPut};
+ghost use Rattle.console.specs.Texts.{answer_text, tagged_text, head_numbers, clamp_len, TextPut};
+
+mod channel;
 
 use map::{Answer, Head};
 use outcomes::Done;
+use std::io::{Read, Write};
 use text::Parsed;
+
+pub use channel::Streams;
 
 // The bytes of a line that are kept: one more than a line may have.
 const KEPT: usize = text::LINE + 1;
@@ -30,9 +34,6 @@ pub const NODE_CELLS: usize = ROWS * map::NODE_WIDTH;
 pub const EDGE_CELLS: usize = ROWS * map::EDGE_WIDTH;
 
 pub const FACE_CELLS: usize = ROWS * map::FACE_WIDTH;
-
-// The bytes that are read at a time.
-const INPUT: usize = 4096;
 
 // The bytes of an answer, at most: the refusal, the value and a line end.
 const ANSWER: usize = printing::DIGITS + printing::CELL + 1;
@@ -134,59 +135,85 @@ pub fn clamp(z: i64, most: usize) -> usize
 }
 
 // Writes an answer.
-fn write_answer(answer: Answer) {
+fn write_answer<R: Read, W: Write>(streams: &mut Streams<R, W>, answer: Answer) {
     let mut out = [0u8; ANSWER];
     let end = put_answer(&mut out, answer);
-    io::write_all(libc::STDOUT_FILENO, &out[..end]);
+    streams.write(&out[..end]);
 }
 
 // Writes the head.
-fn write_head(h: Head) {
+fn write_head<R: Read, W: Write>(streams: &mut Streams<R, W>, h: Head) {
     let mut out = [0u8; ROW];
     let end = put_head(&mut out, h);
-    io::write_all(libc::STDOUT_FILENO, &out[..end]);
+    streams.write(&out[..end]);
 }
 
 // Writes row i of a table.
-fn write_row(tag: u8, table: &[i64], width: usize, i: usize)
+fn write_row<R: Read, W: Write>(
+    streams: &mut Streams<R, W>,
+    tag: u8,
+    table: &[i64],
+    width: usize,
+    i: usize,
+)
     requires { (1 ≤ width) × (width ≤ edge_width) × (i < length table.now / width) }
 {
     let mut out = [0u8; ROW];
     let end = put_row(&mut out, tag, table, width, i);
-    io::write_all(libc::STDOUT_FILENO, &out[..end]);
+    streams.write(&out[..end]);
 }
 
 // Writes the rows of a table that are in use: as many as the head counts, as far as the table has them.
-fn write_rows(tag: u8, table: &[i64], width: usize, count: i64)
+fn write_rows<R: Read, W: Write>(
+    streams: &mut Streams<R, W>,
+    tag: u8,
+    table: &[i64],
+    width: usize,
+    count: i64,
+)
     requires { (1 ≤ width) × (width ≤ edge_width) }
 {
     for i in 0..clamp(count, table.len() / width) {
-        write_row(tag, table, width, i);
+        write_row(streams, tag, table, width, i);
     }
 }
 
 // Writes the head and the rows in use.
-fn write_sheet(nodes: &[i64], edges: &[i64], faces: &[i64], h: Head) {
-    write_head(h);
-    write_rows(b'N', nodes, map::NODE_WIDTH, h.nodes);
-    write_rows(b'E', edges, map::EDGE_WIDTH, h.edges);
-    write_rows(b'F', faces, map::FACE_WIDTH, h.faces);
+fn write_sheet<R: Read, W: Write>(
+    streams: &mut Streams<R, W>,
+    nodes: &[i64],
+    edges: &[i64],
+    faces: &[i64],
+    h: Head,
+) {
+    write_head(streams, h);
+    write_rows(streams, b'N', nodes, map::NODE_WIDTH, h.nodes);
+    write_rows(streams, b'E', edges, map::EDGE_WIDTH, h.edges);
+    write_rows(streams, b'F', faces, map::FACE_WIDTH, h.faces);
 }
 
 // Writes an answer, with `rows` the head and the rows in use after it.
-fn write_done(nodes: &[i64], edges: &[i64], faces: &[i64], done: Done, rows: bool) {
+fn write_done<R: Read, W: Write>(
+    streams: &mut Streams<R, W>,
+    nodes: &[i64],
+    edges: &[i64],
+    faces: &[i64],
+    done: Done,
+    rows: bool,
+) {
     let head = done.head;
     let answer = done.answer;
-    write_answer(answer);
+    write_answer(streams, answer);
     if rows {
-        write_sheet(nodes, edges, faces, head);
+        write_sheet(streams, nodes, edges, faces, head);
     }
 }
 
 // ---- lines as they come
 
 // Answers a line and writes the answer; the head after it.
-fn serve_line(
+fn serve_line<R: Read, W: Write>(
+    streams: &mut Streams<R, W>,
     nodes: &mut [i64],
     edges: &mut [i64],
     faces: &mut [i64],
@@ -199,13 +226,14 @@ fn serve_line(
         ).lent }
 {
     let done = answer_line(nodes, edges, faces, h, line);
-    write_done(nodes, edges, faces, done, rows);
+    write_done(streams, nodes, edges, faces, done, rows);
     let head = done.head;
     head
 }
 
 // Takes one byte of the input: it ends a line, is kept, or is past what is kept.
-fn serve_byte(
+fn serve_byte<R: Read, W: Write>(
+    streams: &mut Streams<R, W>,
     nodes: &mut [i64],
     edges: &mut [i64],
     faces: &mut [i64],
@@ -224,7 +252,7 @@ fn serve_byte(
     let n = state.length;
     let head = state.head;
     if b == b'\n' {
-        let next = serve_line(nodes, edges, faces, head, &line[..n], rows);
+        let next = serve_line(streams, nodes, edges, faces, head, &line[..n], rows);
         return State {
             head: next,
             length: 0,
@@ -241,7 +269,8 @@ fn serve_byte(
 }
 
 // Takes some bytes of the input, one after the other.
-fn serve_bytes(
+fn serve_bytes<R: Read, W: Write>(
+    streams: &mut Streams<R, W>,
     nodes: &mut [i64],
     edges: &mut [i64],
     faces: &mut [i64],
@@ -259,21 +288,14 @@ fn serve_bytes(
 {
     let mut at = state;
     for i in 0..bytes.len() {
-        at = serve_byte(nodes, edges, faces, at, line, bytes[i], rows);
+        at = serve_byte(streams, nodes, edges, faces, at, line, bytes[i], rows);
     }
     at
 }
 
-// Reads some bytes of standard input; their count, 0 at its end.
-fn read_some(buf: &mut [u8; INPUT]) -> usize
-    ensures { IsPrefixLen result buf.new }
-{
-    let got = libc::read(libc::STDIN_FILENO, buf);
-    io::count(got, buf)
-}
-
-// Answers standard input to its end. The loop counts its turns down, from a number that no run uses up.
-fn serve_input(
+// Answers the input to its end. The loop has a bound that no run comes to.
+fn serve_input<R: Read, W: Write>(
+    streams: &mut Streams<R, W>,
     nodes: &mut [i64],
     edges: &mut [i64],
     faces: &mut [i64],
@@ -286,22 +308,21 @@ fn serve_input(
         (desk_of (lent_now nodes.exit edges.exit faces.exit result.head) line.new result.length)
         × (result.length ≤ kept_bytes) }
 {
-    let mut buf = [0u8; INPUT];
+    let mut buf = [0u8; channel::INPUT];
     let mut state = State { head: h, length: 0 };
-    let mut turns = u64::MAX;
-    while turns > 0 {
-        let got = read_some(&mut buf);
+    for _ in 0..u64::MAX {
+        let got = streams.read_some(&mut buf);
         if got == 0 {
             break;
         }
-        state = serve_bytes(nodes, edges, faces, state, line, &buf[..got], rows);
-        turns -= 1;
+        state = serve_bytes(streams, nodes, edges, faces, state, line, &buf[..got], rows);
     }
     state
 }
 
 // At the input's end: answers the line that has not ended, if one has begun; the head after it.
-fn serve_rest(
+fn serve_rest<R: Read, W: Write>(
+    streams: &mut Streams<R, W>,
     nodes: &mut [i64],
     edges: &mut [i64],
     faces: &mut [i64],
@@ -317,14 +338,15 @@ fn serve_rest(
     let n = state.length;
     let head = state.head;
     if 0 < n {
-        return serve_line(nodes, edges, faces, head, &line[..n], rows);
+        return serve_line(streams, nodes, edges, faces, head, &line[..n], rows);
     }
     head
 }
 
 // Makes the empty map, for 12 points, and answers standard input to its end, a ticket a line; the head after it. Each
 // line is answered on standard output as it comes, with `rows` the head and the rows in use after it.
-pub fn serve_tables(
+pub fn serve_tables<R: Read, W: Write>(
+    streams: &mut Streams<R, W>,
     nodes: &mut [i64],
     edges: &mut [i64],
     faces: &mut [i64],
@@ -338,18 +360,19 @@ pub fn serve_tables(
     let mut line = [0u8; KEPT];
     let empty = engine::empty_map(nodes, edges, faces, h, head::TWELVE_POINTS);
     let start = empty.head;
-    let state = serve_input(nodes, edges, faces, start, &mut line, rows);
-    serve_rest(nodes, edges, faces, state, &line, rows)
+    let state = serve_input(streams, nodes, edges, faces, start, &mut line, rows);
+    serve_rest(streams, nodes, edges, faces, state, &line, rows)
 }
 
 // The same in tables of `ROWS` rows.
-pub fn serve(rows: bool) -> Head
+pub fn serve<R: Read, W: Write>(streams: &mut Streams<R, W>, rows: bool) -> Head
     ensures { ProgramServed result }
 {
     let mut nodes = [0i64; NODE_CELLS];
     let mut edges = [0i64; EDGE_CELLS];
     let mut faces = [0i64; FACE_CELLS];
     serve_tables(
+        streams,
         &mut nodes,
         &mut edges,
         &mut faces,

@@ -114,15 +114,15 @@ module _ (l : Lent) (list : List ℤ) (h : Mends l list) where
   few : (e : Edge) → Memᴰ e m.edges → length (points e.curve) ≤ max_points
   few e k = (ranged-points l t.ranged e k).most
 
-  in_form : formed (mended m) ≡ true
-  in_form = mended-formed m t.sketch t.differ t.rings
+  mended_in_form : formed (mended m) ≡ true
+  mended_in_form = mended-formed m t.sketch t.differ t.rings
 
   -- what was lent, written again
   back : lent_of s m ≡ l
   back = writes_back (rectangle m.edges) l t.whole t.ranged t.boxed
 
   reads : map_of (lent_of s (mended m)) ≡ mended m
-  reads = formed-back (mended m) in_form s (few_now s m few)
+  reads = formed-back (mended m) mended_in_form s (few_now s m few)
 
   links_alone : LinksAlone l (lent_of s (mended m))
   links_alone =
@@ -150,7 +150,7 @@ module _ (l : Lent) (list : List ℤ) (h : Mends l list) where
 
   is_in_form : in_form (lent_of s (mended m)) ≡ true
   unfolding in_form
-  is_in_form = and_is (and_is (ranged_now s m few (ap ranged back ∙ t.ranged)) (ap formed reads ∙ in_form)) is_boxed
+  is_in_form = and_is (and_is (ranged_now s m few (ap ranged back ∙ t.ranged)) (ap formed reads ∙ mended_in_form)) is_boxed
 
 pub mended_links_alone : MendedLinksAlone
 mended_links_alone l list h = rw (taken l list h).lent (links_alone l list h)

@@ -1,9 +1,9 @@
 -- The contents of a sheet as text.
 use Rattle.std.specs.Prelude.{cond, List, [], ◌∷◌, ◌++◌, ℕ, ◌*◌, ℤ, pos, replicate}
-use Rattle.io.specs.Counts.{clamp_len}
 use Rattle.tables.specs.Tables.{same_z}
 use Rattle.printing.specs.Texts.{row_text}
 use Rattle.console.specs.Lines.{program_rows}
+use Rattle.console.specs.Texts.{clamp_len}
 
 -- `face` for 0, else `piece`
 abbrev pub word_of : ℤ → List ℕ

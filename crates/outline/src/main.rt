@@ -9,7 +9,10 @@ ghost use Rattle.nesting.specs.Contents.{contents_of};
 ghost use Rattle.console.specs.Texts.{TextPut};
 ghost use Rattle.outline.specs.Lines.{levels, indent, word_of, line_text};
 
+use console::Streams;
 use map::{Answer, Head};
+use std::io;
+use std::io::{Read, Write};
 
 // Faces and pieces, at most; so many lines, and so many levels.
 const PARTS: usize = 2 * console::ROWS;
@@ -69,7 +72,7 @@ fn put_line(out: &mut [u8; LINE], depth: i64, kind: i64, number: i64) -> usize
 }
 
 // Writes line i of the contents.
-fn write_line(list: &[i64], i: usize)
+fn write_line<R: Read, W: Write>(streams: &mut Streams<R, W>, list: &[i64], i: usize)
     requires { i * 3 + 3 ≤ length list.now }
 {
     let mut out = [0u8; LINE];
@@ -77,39 +80,48 @@ fn write_line(list: &[i64], i: usize)
     let kind = list[i * WIDTH + 1];
     let number = list[i * WIDTH + 2];
     let end = put_line(&mut out, depth, kind, number);
-    io::write_all(libc::STDOUT_FILENO, &out[..end]);
+    streams.write(&out[..end]);
 }
 
 // Writes so many lines of the contents.
-fn write_lines(list: &[i64], count: usize)
+fn write_lines<R: Read, W: Write>(streams: &mut Streams<R, W>, list: &[i64], count: usize)
     requires { count * 3 ≤ length list.now }
 {
     for i in 0..count {
-        write_line(list, i);
+        write_line(streams, list, i);
     }
 }
 
 // Writes the contents of a sheet; the answer to the call for them. It is 0 for every sheet that tickets made.
-fn write_contents(nodes: &[i64], edges: &[i64], faces: &[i64], h: Head) -> Answer
+fn write_contents<R: Read, W: Write>(
+    streams: &mut Streams<R, W>,
+    nodes: &[i64],
+    edges: &[i64],
+    faces: &[i64],
+    h: Head,
+) -> Answer
     ensures { result ≡ (contents_of (lent_now nodes.entry edges.entry faces.entry h) (replicate (levels * 3) (pos 0))
         ).answer }
 {
     let mut list = [0i64; CELLS];
     let answer = contents::contents(nodes, edges, faces, h, &mut list);
-    write_lines(&list, console::clamp(answer.value, CELLS) / WIDTH);
+    write_lines(streams, &list, console::clamp(answer.value, CELLS) / WIDTH);
     answer
 }
 
-fn main() {
+fn main(rt: HostRuntime) -> io::Result<()> {
+    let mut streams = Streams::new(rt.stdin(), rt.stdout());
     let mut nodes = [0i64; console::NODE_CELLS];
     let mut edges = [0i64; console::EDGE_CELLS];
     let mut faces = [0i64; console::FACE_CELLS];
     let h = console::serve_tables(
+        &mut streams,
         &mut nodes,
         &mut edges,
         &mut faces,
         head::empty(head::TWELVE_POINTS),
         false,
     );
-    write_contents(&nodes, &edges, &faces, h);
+    write_contents(&mut streams, &nodes, &edges, &faces, h);
+    streams.result()
 }

@@ -1,62 +1,70 @@
--- The fewest digits that hold a number are its text, and how many they are. Assumes nothing.
-use mathlib.Core.Path.{◌≡◌, sym, ◌∙◌}
-use mathlib.Core.Logic.{inl, inr}
-use mathlib.Core.List.{List}
-use Prim.Native.Nat.{ℕ, zero, suc, ◌+◌, ◌-◌, ◌*◌, ◌/◌, ◌%◌, ◌^◌, ◌≤◌, ◌<◌}
-use native.Mathlib.Nat.{pow-suc, one-le-pow, pow-le-pow_right}
-use native.Mathlib.Omega.{arith}
-use lib.Dec.{leb}
-use lib.ListN.{length, take}
-use lib.Seq.{paste, sets, sets-eq, length-take-le}
-use borrow.Author.Tests.{lt-ltb, le-ltb, leb-true, leb-false}
-use Rattle.lists.proofs.Bools.{which}
-use Rattle.io.specs.Digits.{last_digits, hex_digit_ascii, IsDigitCount}
+-- The digits that are still to come and those that are put are the text of a number. Assumes nothing.
+use Rattle.std.specs.Prelude.{◌≡◌, List, [], ◌++◌, cond, ℕ, zero, suc, ◌+◌, ◌-◌, ◌/◌, ◌%◌, ◌*◌, ◌^◌, ◌≤◌, ◌<◌, refl, length, take, drop}
+use Rattle.std.proofs.Common.{sym, ap, ◌∙◌, add-one, arith}
+use Rattle.std.proofs.Math.Dec.{ltb}
+use Rattle.std.proofs.Math.ListN.{set, drop_of_length-le}
+use Rattle.std.proofs.Math.Nat.{pow-suc}
+use Rattle.std.proofs.Math.Seq.{append_snoc}
+use Rattle.std.proofs.lemmas.List.{drop-set, length-drop, take_all}
+use Rattle.std.proofs.lemmas.List.Edits.{sets, sets-eq}
+use Rattle.std.proofs.lemmas.Slice.{put_mid-paste}
+use borrow.Rule.Slice.PartMut.{put_mid}
+use borrow.Author.Tests.{le-ltb}
 use Rattle.printing.specs.Texts.{digits_of, natural_text}
 
--- 64 bits take 20 digits at most
-pub fewest_few : (n r : ℕ) → n < 2 ^ 64 → IsDigitCount 10 1 n r → r ≤ 20
-fewest_few n r b f =
-    elim (which (leb r 20)) [
-      | inl e ↦ leb-true r 20 e
-      | inr e ↦
-          let more : 20 < r = leb-false r 20 e in
-          let large : 10 ^ 20 ≤ 10 ^ (r - 1) = pow-le-pow_right (omega arith) {i = 20} {j = r - 1} (omega arith) in
-          absurd (omega (arith, f.2 (omega arith)))
-    ]
+-- the digits in front of the last, of which k are allowed
+abbrev pub front : ℕ → ℕ → List ℕ
+front k n = cond (ltb n 10) [] (digits_of k (n / 10))
 
-decimal : (n : ℕ) → hex_digit_ascii (n % 10) ≡ 48 + n % 10
-decimal n = rw (lt-ltb (n % 10) 10 (omega arith))
+last_put : (k n g : ℕ) (ds : List ℕ) → length ds ≡ suc k → g ≡ 48 + n % 10
+    → front k n ++ drop k (set ds k g) ≡ digits_of (suc k) n
+last_put k n g ds h e =
+    let end : drop (k + 1) ds ≡ [] = drop_of_length-le ds {i = k + 1} (omega arith) in
+    ap (λ (t : List ℕ). front k n ++ t) (drop-set ds k g (omega arith) ∙ rw (end, e))
 
-pub fewest_digits : (k n r : ℕ) → r ≤ k → IsDigitCount 10 1 n r → last_digits 10 r n ≡ digits_of k n
-fewest_digits zero n r h f = absurd (omega arith)
-fewest_digits (suc k) n zero h f = absurd (omega arith)
-fewest_digits (suc k) n (suc zero) h f = rw (lt-ltb n 10 f.1, decimal n)
-fewest_digits (suc k) n (suc (suc r)) h f =
-    let low : suc r ≡ suc (suc r) - 1 = omega arith in
-    let lower : r ≡ suc r - 1 = omega arith in
-    let least : 10 ^ suc r ≤ n = rw low (f.2 (omega arith)) in
-    let tens : 10 ^ suc r ≡ 10 ^ r * 10 = pow-suc 10 r in
-    let top : 10 ^ suc (suc r) ≡ 10 ^ suc r * 10 = pow-suc 10 (suc r) in
-    let some_digit : 10 ≤ n = omega (arith, one-le-pow r 10 (omega arith)) in
-    let below : n / 10 < 10 ^ suc r = omega (arith, f.1) in
-    let above : 10 ^ r ≤ n / 10 = omega arith in
-    rw (
-      le-ltb n 10 some_digit,
-      decimal n,
-      fewest_digits k (n / 10) (suc r) (omega arith) (omega arith, below, λ m. rw (← lower) above),
-    )
+-- the last digit is put
+pub first_put : (n g : ℕ) (ds : List ℕ) → length ds ≡ 20 → g ≡ 48 + n % 10
+    → front 19 n ++ drop 19 (set ds 19 g) ≡ natural_text n
+unfolding natural_text
+first_put = last_put 19
 
--- the copy of the digits writes the text
-module _ (out : List ℕ) (at n k : ℕ) (ds : List ℕ) (b : n < 2 ^ 64) (f : IsDigitCount 10 1 n k)
-    (e : take k ds ≡ last_digits 10 k n) (h : k ≤ length ds) where
-  text : take k ds ≡ natural_text n
-  text = e ∙ fewest_digits 20 n k (fewest_few n k b f) f
+-- one more is put
+next : (k n g : ℕ) (ds : List ℕ) → 10 ≤ n → k < length ds → g ≡ 48 + n / 10 % 10
+    → front k (n / 10) ++ drop k (set ds k g) ≡ front (suc k) n ++ drop (suc k) ds
+next k n g ds b h e =
+    ap (λ (t : List ℕ). front k (n / 10) ++ t) (drop-set ds k g h ∙ rw (add-one k, e))
+    ∙ sym (append_snoc (front k (n / 10)) (48 + n / 10 % 10) (drop (suc k) ds))
+    ∙ rw (le-ltb n 10 b)
 
-  count : length (take k ds) ≡ k
-  count = length-take-le k ds h
+pub next_put : (at n g : ℕ) (ds : List ℕ) → 10 ≤ n → 1 ≤ at → at ≤ length ds → g ≡ 48 + n / 10 % 10
+    → front (at - 1) (n / 10) ++ drop (at - 1) (set ds (at - 1) g) ≡ front at n ++ drop at ds
+next_put zero n g ds b s h e = absurd (omega arith)
+next_put (suc k) n g ds b s h e =
+    let back : suc k - 1 ≡ k = omega arith in
+    rw back (next k n g ds b h e)
 
-  pub natural-length : at + k ≡ at + length (natural_text n)
-  natural-length = rw (← text, count)
+-- a number of at + 1 digits, the first of several
+pub fewer_digits : (at n : ℕ) → 10 ≤ n → n < 10 ^ (at + 1) → (1 ≤ at) × (n / 10 < 10 ^ (at - 1 + 1))
+fewer_digits zero n b h = absurd (omega arith)
+fewer_digits (suc k) n b h =
+    let tens : 10 ^ suc (suc k) ≡ 10 ^ suc k * 10 = pow-suc 10 (suc k) in
+    let more : suc k + 1 ≡ suc (suc k) = omega arith in
+    let same : suc k - 1 + 1 ≡ suc k = omega arith in
+    let below : n < 10 ^ suc (suc k) = rw (← more) h in
+    (omega arith, rw same (omega arith))
 
-  pub natural_written : at + k ≤ length out → paste out at ds k ≡ sets out at (natural_text n)
-  natural_written g = rw (← text) (sym (sets-eq (take k ds) out at (rw count g) ∙ rw count))
+-- ---- a text that is copied into a part of a buffer
+
+pub copied : (out text ys : List ℕ) (at k : ℕ) → ys ≡ text → length text ≡ k → at + length text ≤ length out
+    → put_mid at k out ys ≡ sets out at text
+copied out text ys at k e n h =
+    put_mid-paste at k out ys text k e refl (sym n)
+    ∙ ap (λ (t : List ℕ). take at out ++ t ++ drop (at + k) out) (take_all k text (omega arith))
+    ∙ ap (λ (m : ℕ). take at out ++ text ++ drop (at + m) out) (sym n)
+    ∙ sym (sets-eq text out at h)
+
+-- the digits from the first on
+pub from_first : (ds text : List ℕ) (first : ℕ) → length ds ≡ 20 → drop first ds ≡ text
+    → take (20 - first) (drop first ds) ≡ text
+from_first ds text first n e =
+    take_all (20 - first) (drop first ds) (omega (arith, length-drop first ds)) ∙ e

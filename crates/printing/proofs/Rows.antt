@@ -21,12 +21,13 @@ digits_few (suc k) n = pick (ltb n 10) (digits_of k (n / 10)) (digits_few k (n /
     pick false ds h = simp length-append (omega arith)
 
 pub natural_few : (n : ℕ) → length (natural_text n) ≤ 20
+unfolding natural_text
 natural_few n = digits_few 20 n
 
 -- a sign and at most 20 digits
 pub number_few : (z : ℤ) → length (number_text z) ≤ 21
-number_few (pos n) = let h = digits_few 20 n in omega arith
-number_few (negsuc k) = let h = digits_few 20 (suc k) in omega arith
+number_few (pos n) = let h = natural_few n in omega arith
+number_few (negsuc k) = let h = natural_few (suc k) in omega arith
 
 row_cons : (z : ℤ) (row : List ℤ) → row_text (z ∷ row) ≡ 32 ∷ number_text z ++ row_text row
 unfolding flat_map

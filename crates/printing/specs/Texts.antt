@@ -8,7 +8,7 @@ digits_of zero n = []
 digits_of (suc k) n = cond (ltb n 10) [] (digits_of k (n / 10)) ++ (48 + n % 10) ∷ []
 
 -- 64 bits take 20 digits at most
-abbrev pub natural_text : ℕ → List ℕ
+unfoldable pub natural_text : ℕ → List ℕ
 natural_text n = digits_of 20 n
 
 -- a minus before the digits of a number below 0

@@ -1,15 +1,40 @@
 // Numbers as text, from a place of a buffer on. Each function answers the place after what it wrote.
 #![tactic(auto)]
 
-ghost use Rattle.std.specs.Prelude.{◌≡◌, ◌+◌, ◌*◌, ◌≤◌, nat_abs, length};
+ghost use Rattle.std.specs.Prelude.{◌≡◌, ◌+◌, ◌*◌, ◌%◌, ◌≤◌, nat_abs, length, drop};
 ghost use Rattle.std.proofs.lemmas.List.Edits.{sets};
 ghost use Rattle.printing.specs.Texts.{natural_text, number_text, row_text};
 
 // The digits of a number of 64 bits, at most.
 pub const DIGITS: usize = 20;
 
+const BASE: u64 = 10;
+
 // The bytes of a number in a row, at most: a blank, a sign and the digits.
 pub const CELL: usize = 2 + DIGITS;
+
+// The last digit of a number.
+fn last_digit(n: u64) -> u8
+    ensures { result ≡ 48 + n % 10 }
+{
+    b'0' + (n % BASE) as u8
+}
+
+// Puts the digits of a number at the end of a buffer, the last one first; the place of the first one.
+fn put_digits(digits: &mut [u8; DIGITS], n: u64) -> usize
+    ensures front { result ≤ 20 }
+    ensures digits { drop result digits.new ≡ natural_text n }
+{
+    let mut at = DIGITS - 1;
+    let mut rest = n;
+    digits[at] = last_digit(rest);
+    while rest >= BASE {
+        rest /= BASE;
+        at -= 1;
+        digits[at] = last_digit(rest);
+    }
+    at
+}
 
 // The digits of a number without a sign.
 pub fn write_natural(out: &mut [u8], at: usize, n: u64) -> usize
@@ -18,11 +43,11 @@ pub fn write_natural(out: &mut [u8], at: usize, n: u64) -> usize
         × (result ≡ at + length (natural_text n)) }
 {
     let mut digits = [0u8; DIGITS];
-    let k = io::decimal(n, &mut digits);
-    for i in 0..k {
-        out[at + i] = digits[i];
-    }
-    at + k
+    let first = put_digits(&mut digits, n);
+    let text = &digits[first..];
+    let end = at + text.len();
+    out[at..end].copy_from_slice(text);
+    end
 }
 
 // The magnitude of a number. One below 0 is raised by one before its sign is turned, so that it fits.

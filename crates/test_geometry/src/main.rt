@@ -10,6 +10,8 @@ ghost use Rattle.curves.specs.Curves.{Run};
 use curve_edits::Line;
 use lists::Found;
 use plane::{Contact, Point, Turn};
+use std::io;
+use std::io::{ErrorKind, Read};
 
 const DIGITS: usize = 7;
 
@@ -63,25 +65,24 @@ const CELL_VALUES: u64 = COORDINATE + 1;
 const PRIME: u64 = 1000003;
 
 // Writes a number and a blank.
-fn put(n: u64) {
-    io::print_decimal(libc::STDOUT_FILENO, n);
-    io::write_all(libc::STDOUT_FILENO, &[b' ']);
+fn put(rt: &impl Print, n: u64) -> io::Result<()> {
+    print!(rt; "{n} ")
 }
 
 // Writes 1 or 0.
-fn put_bool(b: bool) {
-    put(b as u64);
+fn put_bool(rt: &impl Print, b: bool) -> io::Result<()> {
+    put(rt, b as u64)
 }
 
 // Writes a sign, 1 for a number below 0, and the magnitude; below 0 that is less one.
-fn put_signed(z: i64) {
+fn put_signed(rt: &impl Print, z: i64) -> io::Result<()> {
     if z < 0 {
-        put(1);
+        put(rt, 1)?;
         let m = -(z + 1);
-        put(m as u64);
+        put(rt, m as u64)
     } else {
-        put(0);
-        put(z as u64);
+        put(rt, 0)?;
+        put(rt, z as u64)
     }
 }
 
@@ -105,42 +106,56 @@ fn contact_number(c: Contact) -> u64 {
 }
 
 // Answers the segments a b and c d, and the point p.
-fn answer_segments(a: Point, b: Point, c: Point, d: Point, p: Point)
+fn answer_segments(
+    rt: &impl Print,
+    a: Point,
+    b: Point,
+    c: Point,
+    d: Point,
+    p: Point,
+) -> io::Result<()>
     requires { (InRange a) × (InRange b) × (InRange c) × (InRange d) × (InRange p) }
 {
-    put_signed(plane::area2(a, b, c));
-    put(turn_number(plane::orient(a, b, c)));
-    put_bool(plane::segments_meet(a, b, c, d));
-    put(contact_number(plane::contact_of(a, b, c, d)));
-    put_bool(plane::on_segment(c, a, b));
-    put_bool(plane::straight_between(a, c, b));
-    put_bool(directions::passes_below(p, a, b));
+    put_signed(rt, plane::area2(a, b, c))?;
+    put(rt, turn_number(plane::orient(a, b, c)))?;
+    put_bool(rt, plane::segments_meet(a, b, c, d))?;
+    put(rt, contact_number(plane::contact_of(a, b, c, d)))?;
+    put_bool(rt, plane::on_segment(c, a, b))?;
+    put_bool(rt, plane::straight_between(a, c, b))?;
+    put_bool(rt, directions::passes_below(p, a, b))
 }
 
 // Answers the directions of a b and c d, and which is higher at x.
-fn answer_directions(a: Point, b: Point, c: Point, d: Point, x: u64)
+fn answer_directions(
+    rt: &impl Print,
+    a: Point,
+    b: Point,
+    c: Point,
+    d: Point,
+    x: u64,
+) -> io::Result<()>
     requires { (InRange a) × (InRange b) × (InRange c) × (InRange d) × (x ≤ max_coordinate) }
 {
-    put(directions::class_of(a, b) as u64);
-    put_bool(directions::comes_before(a, b, c, d));
-    put_bool(directions::same_direction(a, b, c, d));
-    put_bool(directions::is_higher(x, a, b, c, d));
+    put(rt, directions::class_of(a, b) as u64)?;
+    put_bool(rt, directions::comes_before(a, b, c, d))?;
+    put_bool(rt, directions::same_direction(a, b, c, d))?;
+    put_bool(rt, directions::is_higher(x, a, b, c, d))
 }
 
 // Answers the curves c and d, and the point p.
-fn answer_curves(c: &[i64], d: &[i64], p: Point)
+fn answer_curves(rt: &impl Print, c: &[i64], d: &[i64], p: Point) -> io::Result<()>
     requires { Run c.now × Run d.now × InRange p }
 {
-    put_bool(curves::neighbours_differ(c));
-    put_bool(curves::is_simple(c));
+    put_bool(rt, curves::neighbours_differ(c))?;
+    put_bool(rt, curves::is_simple(c))?;
     let found = curves::first_place(c, p);
     match found {
-        Found::At(i) => put(i as u64),
-        Found::Missing => put(NO_PLACE),
+        Found::At(i) => put(rt, i as u64)?,
+        Found::Missing => put(rt, NO_PLACE)?,
     }
-    put(contact_number(curves::curves_meeting(c, d)));
-    put_signed(curves::area_of(c));
-    put_bool(curves::odd_below(c, p));
+    put(rt, contact_number(curves::curves_meeting(c, d)))?;
+    put_signed(rt, curves::area_of(c))?;
+    put_bool(rt, curves::odd_below(c, p))
 }
 
 // A digest with one cell more. A cell in range counts in full.
@@ -155,39 +170,39 @@ fn mixed(h: u64, z: i64) -> u64
 }
 
 // Writes the number of points, and a digest of the numbers of the row.
-fn put_line(l: Line) {
+fn put_line(rt: &impl Print, l: Line) -> io::Result<()> {
     let cells = l.cells;
     let mut h: u64 = 0;
     for i in 0..curves::CELLS {
         h = mixed(h, cells[i]);
     }
-    put(l.count as u64);
-    put(h);
+    put(rt, l.count as u64)?;
+    put(rt, h)
 }
 
 // Answers the curves made of c and d and the point p.
-fn answer_lines(c: &[i64], d: &[i64], p: Point)
+fn answer_lines(rt: &impl Print, c: &[i64], d: &[i64], p: Point) -> io::Result<()>
     requires { Run c.now × Run d.now × InRange p }
 {
-    put_line(curve_edits::front_of(c, p));
-    put_line(curve_edits::back_of(c, p));
-    put_line(curve_edits::joined_of(c, d));
-    put_line(curve_edits::without_surplus(c));
-    put_line(curve_edits::reversed_of(c));
+    put_line(rt, curve_edits::front_of(c, p))?;
+    put_line(rt, curve_edits::back_of(c, p))?;
+    put_line(rt, curve_edits::joined_of(c, d))?;
+    put_line(rt, curve_edits::without_surplus(c))?;
+    put_line(rt, curve_edits::reversed_of(c))
 }
 
 // Answers a case.
-fn answer(c: &[i64], d: &[i64], p: Point)
+fn answer(rt: &impl Print, c: &[i64], d: &[i64], p: Point) -> io::Result<()>
     requires { Run c.now × Run d.now × InRange p }
 {
     let c0 = curves::point_at(c, 0);
     let c1 = curves::point_at(c, 1);
     let d0 = curves::point_at(d, 0);
     let d1 = curves::point_at(d, 1);
-    answer_segments(c0, c1, d0, d1, p);
-    answer_directions(c0, c1, d0, d1, p.x);
-    answer_curves(c, d, p);
-    answer_lines(c, d, p);
+    answer_segments(rt, c0, c1, d0, d1, p)?;
+    answer_directions(rt, c0, c1, d0, d1, p.x)?;
+    answer_curves(rt, c, d, p)?;
+    answer_lines(rt, c, d, p)
 }
 
 // The number, where it is not below 0; any other counts as the greatest.
@@ -199,24 +214,24 @@ fn unsigned_or_max(z: i64) -> u64 {
 }
 
 // Answers the numbers, where they are a case.
-fn case(v: &[i64])
+fn case(rt: &impl Print, v: &[i64]) -> io::Result<()>
     requires { length v.now ≡ 30 }
 {
     let n = unsigned_or_max(v[FIRST_COUNT]);
     if MOST_POINTS < n {
-        return;
+        return Ok(());
     }
     let k = unsigned_or_max(v[SECOND_COUNT]);
     if MOST_POINTS < k {
-        return;
+        return Ok(());
     }
     let px = unsigned_or_max(v[X]);
     if COORDINATE < px {
-        return;
+        return Ok(());
     }
     let py = unsigned_or_max(v[Y]);
     if COORDINATE < py {
-        return;
+        return Ok(());
     }
     let p = Point { x: px, y: py };
     let end = FIRST_CURVE + 2 * (n as usize);
@@ -224,12 +239,12 @@ fn case(v: &[i64])
     let last = SECOND_CURVE + 2 * (k as usize);
     let d = &v[SECOND_CURVE..last];
     if !curves::is_run(c, curves::POINTS) {
-        return;
+        return Ok(());
     }
     if !curves::is_run(d, curves::POINTS) {
-        return;
+        return Ok(());
     }
-    answer(c, d, p);
+    answer(rt, c, d, p)
 }
 
 // The value of a digit; any other byte counts as 0.
@@ -272,23 +287,34 @@ fn numbers(line: &[u8; LINE]) -> [i64; NUMBERS] {
     v
 }
 
-// Reads a line and answers it; false at the end of the input.
-fn next() -> bool {
-    let mut line = [0u8; LINE];
-    let got = io::read_full(libc::STDIN_FILENO, &mut line);
-    if got < LINE {
-        return false;
+// Fills a buffer; false where the input ends before.
+fn read_full(input: &mut impl Read, buf: &mut [u8]) -> io::Result<bool> {
+    match input.read_exact(buf) {
+        Ok(()) => Ok(true),
+        Err(e) if e.kind() == ErrorKind::UnexpectedEof => Ok(false),
+        Err(e) => Err(e),
     }
-    let v = numbers(&line);
-    case(&v);
-    put(0);
-    io::write_all(libc::STDOUT_FILENO, &[b'\n'])
 }
 
-// The loop counts its turns down, from a number that no run uses up.
-fn main() {
-    let mut turns = u64::MAX;
-    while turns > 0 && next() {
-        turns -= 1;
+// Reads a line and answers it; false at the end of the input.
+fn next(rt: &impl Print, input: &mut impl Read) -> io::Result<bool> {
+    let mut line = [0u8; LINE];
+    if !read_full(input, &mut line)? {
+        return Ok(false);
     }
+    let v = numbers(&line);
+    case(rt, &v)?;
+    println!(rt; "0 ")?;
+    Ok(true)
+}
+
+// The loop has a bound that no run comes to.
+fn main(rt: HostRuntime) -> io::Result<()> {
+    let mut input = rt.stdin();
+    for _ in 0..u64::MAX {
+        if !next(&rt, &mut input)? {
+            break;
+        }
+    }
+    Ok(())
 }

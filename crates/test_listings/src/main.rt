@@ -7,6 +7,8 @@
 ghost use Rattle.std.specs.Prelude.{◌≤◌, ◌+◌, length};
 
 use map::{Answer, Head};
+use std::io;
+use std::io::{ErrorKind, Read};
 
 const DIGITS: usize = 7;
 
@@ -78,19 +80,18 @@ const GROUP_BASE: u64 = BASE * BASE * BASE;
 const LOW_GROUP: usize = 1 + GROUP;
 
 // Writes a number and a blank.
-fn put(n: u64) {
-    io::print_decimal(libc::STDOUT_FILENO, n);
-    io::write_all(libc::STDOUT_FILENO, &[b' ']);
+fn put(rt: &impl Print, n: u64) -> io::Result<()> {
+    print!(rt; "{n} ")
 }
 
 // Writes a number with its sign and a blank.
-fn put_signed(z: i64) {
+fn put_signed(rt: &impl Print, z: i64) -> io::Result<()> {
     if z < 0 {
-        io::write_all(libc::STDOUT_FILENO, &[b'-']);
+        print!(rt; "-")?;
         let m = -(z + 1);
-        put((m as u64) + 1);
+        put(rt, (m as u64) + 1)
     } else {
-        put(z as u64);
+        put(rt, z as u64)
     }
 }
 
@@ -169,17 +170,24 @@ fn head_of(record: &[u8; RECORD]) -> Head {
 }
 
 // Writes an answer and the numbers of a list, as a line.
-fn put_answer(answer: Answer, list: &[i64]) {
-    put(answer.refusal);
-    put_signed(answer.value);
+fn put_answer(rt: &impl Print, answer: Answer, list: &[i64]) -> io::Result<()> {
+    put(rt, answer.refusal)?;
+    put_signed(rt, answer.value)?;
     for i in 0..list.len() {
-        put_signed(list[i]);
+        put_signed(rt, list[i])?;
     }
-    io::write_all(libc::STDOUT_FILENO, b"\n");
+    println!(rt; "")
 }
 
 // Lists the edges of a face of these tables.
-fn list_edges(record: &[u8; RECORD], nodes: &[i64], edges: &[i64], faces: &[i64], length: usize)
+fn list_edges(
+    rt: &impl Print,
+    record: &[u8; RECORD],
+    nodes: &[i64],
+    edges: &[i64],
+    faces: &[i64],
+    length: usize,
+) -> io::Result<()>
     requires { length ≤ 48 }
 {
     let mut list = [FILLER; LIST];
@@ -192,20 +200,27 @@ fn list_edges(record: &[u8; RECORD], nodes: &[i64], edges: &[i64], faces: &[i64]
         face,
         &mut list[..length],
     );
-    put_answer(answer, &list[..length]);
+    put_answer(rt, answer, &list[..length])
 }
 
 // Lists the contents of these tables.
-fn list_contents(record: &[u8; RECORD], nodes: &[i64], edges: &[i64], faces: &[i64], length: usize)
+fn list_contents(
+    rt: &impl Print,
+    record: &[u8; RECORD],
+    nodes: &[i64],
+    edges: &[i64],
+    faces: &[i64],
+    length: usize,
+) -> io::Result<()>
     requires { length ≤ 48 }
 {
     let mut list = [FILLER; LIST];
     let answer = contents::contents(nodes, edges, faces, head_of(record), &mut list[..length]);
-    put_answer(answer, &list[..length]);
+    put_answer(rt, answer, &list[..length])
 }
 
 // Makes both calls on the tables of a record.
-fn call(record: &[u8; RECORD]) {
+fn call(rt: &impl Print, record: &[u8; RECORD]) -> io::Result<()> {
     let mut nodes = [0i64; NODE_CELLS];
     let mut edges = [0i64; EDGE_CELLS];
     let mut faces = [0i64; FACE_CELLS];
@@ -216,25 +231,36 @@ fn call(record: &[u8; RECORD]) {
     let b = length_at(record, EDGES_LENGTH, EDGE_CELLS);
     let c = length_at(record, FACES_LENGTH, FACE_CELLS);
     let d = length_at(record, LIST_LENGTH, LIST);
-    list_edges(record, &nodes[..a], &edges[..b], &faces[..c], d);
-    list_contents(record, &nodes[..a], &edges[..b], &faces[..c], d);
+    list_edges(rt, record, &nodes[..a], &edges[..b], &faces[..c], d)?;
+    list_contents(rt, record, &nodes[..a], &edges[..b], &faces[..c], d)
+}
+
+// Fills a buffer; false where the input ends before.
+fn read_full(input: &mut impl Read, buf: &mut [u8]) -> io::Result<bool> {
+    match input.read_exact(buf) {
+        Ok(()) => Ok(true),
+        Err(e) if e.kind() == ErrorKind::UnexpectedEof => Ok(false),
+        Err(e) => Err(e),
+    }
 }
 
 // Reads a record and answers it; false at the end of the input.
-fn next() -> bool {
+fn next(rt: &impl Print, input: &mut impl Read) -> io::Result<bool> {
     let mut record = [0u8; RECORD];
-    let got = io::read_full(libc::STDIN_FILENO, &mut record);
-    if got < RECORD {
-        return false;
+    if !read_full(input, &mut record)? {
+        return Ok(false);
     }
-    call(&record);
-    true
+    call(rt, &record)?;
+    Ok(true)
 }
 
-// The loop counts its turns down, from a number that no run uses up.
-fn main() {
-    let mut turns = u64::MAX;
-    while turns > 0 && next() {
-        turns -= 1;
+// The loop has a bound that no run comes to.
+fn main(rt: HostRuntime) -> io::Result<()> {
+    let mut input = rt.stdin();
+    for _ in 0..u64::MAX {
+        if !next(&rt, &mut input)? {
+            break;
+        }
     }
+    Ok(())
 }

@@ -5,6 +5,7 @@
 use lists::Found;
 use map::{Answer, Head};
 use records::Node;
+use std::io;
 
 // Three face rows.
 const FACE_CELLS: usize = 3 * map::FACE_WIDTH;
@@ -36,79 +37,84 @@ const CHANGED: Node = Node {
 };
 
 // Writes a number and a blank.
-fn put(n: u64) {
-    io::print_decimal(libc::STDOUT_FILENO, n);
-    io::write_all(libc::STDOUT_FILENO, &[b' ']);
+fn put(rt: &impl Print, n: u64) -> io::Result<()> {
+    print!(rt; "{n} ")
 }
 
 // Writes a number with its sign and a blank.
-fn put_signed(z: i64) {
+fn put_signed(rt: &impl Print, z: i64) -> io::Result<()> {
     if z < 0 {
-        io::write_all(libc::STDOUT_FILENO, &[b'-']);
+        print!(rt; "-")?;
         let m = -(z + 1);
-        put((m as u64) + 1);
+        put(rt, (m as u64) + 1)
     } else {
-        put(z as u64);
+        put(rt, z as u64)
     }
 }
 
-fn end_line() {
-    io::write_all(libc::STDOUT_FILENO, &[b'\n']);
+fn end_line(rt: &impl Print) -> io::Result<()> {
+    println!(rt; "")
 }
 
-fn put_answer(a: Answer) {
-    put(a.refusal);
-    put_signed(a.value);
-    end_line();
+fn put_answer(rt: &impl Print, a: Answer) -> io::Result<()> {
+    put(rt, a.refusal)?;
+    put_signed(rt, a.value)?;
+    end_line(rt)
 }
 
-fn put_node(n: Node) {
-    put_signed(n.number);
-    put_signed(n.x);
-    put_signed(n.y);
-    put_signed(n.face);
-    end_line();
+fn put_node(rt: &impl Print, n: Node) -> io::Result<()> {
+    put_signed(rt, n.number)?;
+    put_signed(rt, n.x)?;
+    put_signed(rt, n.y)?;
+    put_signed(rt, n.face)?;
+    end_line(rt)
 }
 
-fn put_head(h: Head) {
-    put_signed(h.nodes);
-    put_signed(h.edges);
-    put_signed(h.faces);
-    put_signed(h.next_node);
-    put_signed(h.next_edge);
-    put_signed(h.next_face);
-    put_signed(h.points);
-    end_line();
+fn put_head(rt: &impl Print, h: Head) -> io::Result<()> {
+    put_signed(rt, h.nodes)?;
+    put_signed(rt, h.edges)?;
+    put_signed(rt, h.faces)?;
+    put_signed(rt, h.next_node)?;
+    put_signed(rt, h.next_edge)?;
+    put_signed(rt, h.next_face)?;
+    put_signed(rt, h.points)?;
+    end_line(rt)
 }
 
 // Writes a row as an answer; a missing one is refusal 4.
-fn put_found(f: Found) {
+fn put_found(rt: &impl Print, f: Found) -> io::Result<()> {
     match f {
         Found::At(i) => {
-            put(0);
-            put(i as u64);
+            put(rt, 0)?;
+            put(rt, i as u64)?;
         }
         Found::Missing => {
-            put(4);
-            put(0);
+            put(rt, 4)?;
+            put(rt, 0)?;
         }
     }
-    end_line();
+    end_line(rt)
 }
 
-fn main() {
+fn main(rt: HostRuntime) -> io::Result<()> {
     let mut nodes = [NO_NODE; 3];
     let mut edges = [0i64; 64];
     let mut faces = [0i64; FACE_CELLS];
     let mut head = EMPTY;
     let t = [1, -1, 4, 5];
-    put_answer(records::ticket_on(&mut nodes, &mut edges, &mut faces, &mut head, &t));
-    put_head(head);
-    put_answer(records::move_node(&mut nodes, &mut edges, &mut faces, &head, 1, 20, 3));
-    put_node(nodes[0]);
-    put_answer(records::change_node(&mut nodes, 1, CHANGED));
-    put_node(nodes[0]);
-    put_found(records::find_node(&nodes, 1, 1));
+    put_answer(
+        &rt,
+        records::ticket_on(&mut nodes, &mut edges, &mut faces, &mut head, &t),
+    )?;
+    put_head(&rt, head)?;
+    put_answer(
+        &rt,
+        records::move_node(&mut nodes, &mut edges, &mut faces, &head, 1, 20, 3),
+    )?;
+    put_node(&rt, nodes[0])?;
+    put_answer(&rt, records::change_node(&mut nodes, 1, CHANGED))?;
+    put_node(&rt, nodes[0])?;
+    put_found(&rt, records::find_node(&nodes, 1, 1))?;
     records::set_counts(&mut head, 2, 3, 4);
-    put_head(head);
+    put_head(&rt, head)
 }

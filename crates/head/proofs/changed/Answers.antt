@@ -49,12 +49,12 @@ returns c =
     let q = c.shifted-5 in
     let r = c.shifted-6 in
     rw (
-      sent a.type-inv ∙ a.ensures,
-      sent b.type-inv ∙ b.ensures,
-      sent d.type-inv ∙ d.ensures,
-      sent p.type-inv ∙ p.ensures,
-      sent q.type-inv ∙ q.ensures,
-      sent r.type-inv ∙ r.ensures,
+      sent a.type_inv ∙ a.ensures,
+      sent b.type_inv ∙ b.ensures,
+      sent d.type_inv ∙ d.ensures,
+      sent p.type_inv ∙ p.ensures,
+      sent q.type_inv ∙ q.ensures,
+      sent r.type_inv ∙ r.ensures,
       n,
       e,
       f,

@@ -22,11 +22,11 @@ overflow_cast-n c =
     rw e (tt, omega (arith, count_most c.requires))
 
 -- the number of points as it is read
-count : (c : lts.After-n reads.Pre reads.Post)
-    → nat_abs (to_z w64 (of_z w64 (get_or c.before.args.edges.now (c.before.args.i * 32 + 7) (pos 0))))
-    ≡ point_count c.before.args.edges.now c.before.args.i
-count c = let z = get_or c.before.args.edges.now (c.before.args.i * 32 + 7) (pos 0) in
-    ap nat_abs (to_z-of_z {w = w64} {z = z} (sfits_of c.n.given))
+count : (c : goal.After-n-1)
+    → nat_abs (to_z w64 (of_z w64 (get_or c.args.edges.now (c.args.i * 32 + 7) (pos 0))))
+    ≡ point_count c.args.edges.now c.args.i
+count c = let z = get_or c.args.edges.now (c.args.i * 32 + 7) (pos 0) in
+    ap nat_abs (to_z-of_z {w = w64} {z = z} (sfits_of c.n-1.given))
 
 pub overflow_mul-b : goal.overflow_mul-b
 overflow_mul-b c = rw (count c) (omega (arith, count_most c.requires))
@@ -42,8 +42,11 @@ returns c =
     let p = c.requires in
     let l = c.args.edges.now in
     let i = c.args.i in
+    let z = get_or l (i * 32 + 7) (pos 0) in
+    let n : nat_abs (to_z w64 (of_z w64 z)) ≡ point_count l i =
+    ap nat_abs (to_z-of_z {w = w64} {z = z} (sfits_of c.n-1.given)) in
     let e : i * 32 + 8 + 2 * nat_abs (to_z w64 (of_z w64 (get_or l (i * 32 + 7) (pos 0)))) - (i * 32 + 8)
-    ≡ 2 * point_count l i = omega (arith, count c) in
+    ≡ 2 * point_count l i = omega (arith, n) in
     subst (λ (k : ℕ). Run (take k (drop (i * 32 + 8) l))
     × (curve_of (take k (drop (i * 32 + 8) l)) ≡ (edge_at l i).curve)
     × (take k (drop (i * 32 + 8) l) ≡ run_at l i)) (sym e) (run_at_lem p, curve_at p, refl)

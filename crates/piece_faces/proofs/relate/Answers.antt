@@ -9,5 +9,5 @@ returns c =
     let second = c.set_bit-2 in
     let d = c in
     let a = d.args in
-    joined a.graph.now d.set_bit.new.0 second.new.0 a.p a.f (omega arith)
+    joined a.graph.now d.set_bit.new.graph second.new.graph a.p a.f (omega arith)
     d.set_bit.ensures second.ensures

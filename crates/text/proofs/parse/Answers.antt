@@ -26,4 +26,4 @@ returns c =
     let a = c.args in
     right_line a.line.now a.list.now (omega arith) c.in-Numbers.n
     (sym c.in-Numbers.is ∙ c.count_numbers.ensures)
-    c.write_numbers-arg-1.given.0.1 c.write_numbers.new.1.0 c.write_numbers.ensures
+    c.write_numbers-arg-1.given.0.1 c.write_numbers.new.list c.write_numbers.ensures

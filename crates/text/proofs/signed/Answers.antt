@@ -24,7 +24,7 @@ returns-then-n-most_of c =
     let a = c.args in
     let m = sym c.magnitude_of.ensures
     ∙ c.in-Value.is in
-    ap Value (to_z-of_z {w = w64} (sfits_of c.with_sign.type-inv) ∙ c.with_sign.ensures)
+    ap Value (to_z-of_z {w = w64} (sfits_of c.with_sign.type_inv) ∙ c.with_sign.ensures)
     ∙ ap number_as (sym (signed-fits a.minus a.digits.now
     c.if-digits-eq0.false _ m (omega arith)))
 

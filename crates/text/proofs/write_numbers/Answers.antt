@@ -22,9 +22,8 @@ bounds-list-n c =
     let l = c.args.line.now in
     let size = length c.args.list.now in
     let i = c.loop-z in
-    let v = c.z-1.given in
-    let next = subst (NextAs l i.at) v.1 c.read_next.ensures in
-    let room : i.n < size = (room_more v.0.0 size i.n (numbers_from l i.at) (numbers_from l v.0.1.0)
+    let next = subst (NextAs l i.at) c.in-Number.is c.read_next.ensures in
+    let room : i.n < size = (room_more c.in-Number.z size i.n (numbers_from l i.at) (numbers_from l c.in-Number.end)
     next.2 i.invariant.3).0 in
     omega arith
 
@@ -40,10 +39,9 @@ loop-z-preserved c =
     let l = c.args.line.now in
     let size = length c.args.list.now in
     let i = c.loop-z in
-    let v = c.z-1.given in
-    let z = v.0.0 in
-    let rest = numbers_from l v.0.1.0 in
-    let next = subst (NextAs l i.at) v.1 c.read_next.ensures in
+    let z = c.in-Number.z in
+    let rest = numbers_from l c.in-Number.end in
+    let next = subst (NextAs l i.at) c.in-Number.is c.read_next.ensures in
     let fits : SFits w64 z = search rules in (
       omega (arith, next.0),
       next.1,
@@ -70,4 +68,4 @@ returns-in-Wrong c =
 
 pub offset_bounds-list-n : goal.offset_bounds-list-n
 offset_bounds-list-n c = let h : c.loop-z.n < length c.loop-z.list =
-    slice-set-from-z c in omega arith
+    bounds-list-n c in omega arith

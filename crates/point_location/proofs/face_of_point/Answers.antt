@@ -1,0 +1,75 @@
+-- `point_location::face_of_point` meets its contract: the edges from row i on, from the highest so far, are all edges
+-- from none. Assumes nothing.
+use mathlib.Core.Path.{◌≡◌, sym, ap, ◌∙◌}
+use mathlib.Core.List.{List}
+use mathlib.Core.Option.{Option, none, some}
+use Prim.Native.Nat.{ℕ, ◌-◌, ◌≤◌}
+use native.Mathlib.Nat.{sub-zero}
+use native.Mathlib.Omega.{arith}
+use lib.Dec.{lit<, lit≤}
+use lib.IntN.{ℤ, pos}
+use mir.Syntax.{w64}
+use mir.Facts.{to_z_pos}
+use borrow.Author.Rules.{sfits_of}
+use borrow.Author.Tests.{not-true, not-false}
+use Rattle.lists.specs.Scans.{fold}
+use Rattle.lists.specs.Tables.{table}
+use Rattle.lists.proofs.Scans.{fold_step, fold_end}
+use Rattle.plane.specs.declared.Point.{Point}
+use Rattle.map.specs.Faces.{Floor, face_of_point}
+use Rattle.map_rows.specs.Rows.{edge_at, edge_map}
+use Rattle.map_rows.proofs.Rows.{edges_table, edge-row_of}
+use Rattle.point_location.specs.declared.Highest.{Highest}
+use Rattle.point_location.specs.Highest.{HighestFits, floor, highest_floor, rowed}
+use Rattle.point_location.proofs.Folds.{upper, face_fold}
+use Rattle.point_location.proofs.face_of_point.Goals as goal
+
+pub loop-i-init : goal.loop-i-init
+loop-i-init c =
+    let a = c.args in (
+      omega arith,
+      record { from = record { x = lit≤ tt; y = lit≤ tt }; to = record { x = lit≤ tt; y = lit≤ tt }; upper = lit< tt },
+      rw sub-zero (sym (face_fold (edge_map a.edges.now a.count) a.p
+          ∙ ap (λ r. upper (fold (rowed a.p) none r)) (edges_table a.edges.now a.count))),
+    )
+
+pub loop-i-preserved : goal.loop-i-preserved
+loop-i-preserved c =
+    let a = c.args in
+    let b = c in (
+      omega arith,
+      c.floor_over-best.ensures.1,
+      rw c.floor_over-best.ensures.0 (sym
+          (ap upper (fold_step (edge_at a.edges.now) _ _ (rowed a.p) (highest_floor b.loop-i.best)
+          c.loop-i-test.true)) ∙ b.loop-i.invariant.2),
+    )
+
+-- after the last row
+rest : (l : List ℤ) (n i : ℕ) (p : Point) (h : Highest) (v : Option Floor) → n ≤ i → highest_floor h ≡ v
+    → upper (fold (rowed p) (highest_floor h) (table (edge_at l) i (n - i))) ≡ face_of_point (edge_map l n) p
+    → upper v ≡ face_of_point (edge_map l n) p
+rest l n i p h v left e inv = sym (ap upper (fold_end (edge_at l) i n (rowed p) (highest_floor h) left ∙ e)) ∙ inv
+
+pub returns-then-not-best : goal.returns-then-not-best
+returns-then-not-best c =
+    let b = c in
+    ap pos (rest _ _ _ b.args.p b.loop-i.best none c.loop-i-test.false
+    (rw (c.if-not-best.true)) b.loop-i.invariant.2)
+
+pub returns : goal.returns
+returns c =
+    let b = c in
+    to_z_pos w64 b.loop-i.invariant.1.upper
+    ∙ ap pos (rest _ _ _ b.args.p b.loop-i.best (some (floor b.loop-i.best))
+    c.loop-i-test.false (rw (c.if-not-best.false))
+    b.loop-i.invariant.2)
+
+pub floor_over-best-requires : goal.floor_over-best-requires
+floor_over-best-requires c = let b = c in (
+      b.loop-i.invariant.1,
+      b.requires.1,
+      edge-row_of b.requires.0 _ c.loop-i-test.true,
+    )
+
+pub overflow_cast-result : goal.overflow_cast-result
+overflow_cast-result c = sfits_of c.loop-i.invariant.1.upper

@@ -1,0 +1,6 @@
+-- The digest stays below the prime.
+use Rattle.std.proofs.Common.{◌<◌}
+use Rattle.test_geometry.proofs.put_line.Given as goal
+
+abbrev pub invariant-loop-i : goal.invariant-loop-i
+invariant-loop-i g l = l.h < 1000003
