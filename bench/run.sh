@@ -8,9 +8,9 @@ case "${1-}" in
     '' | --plot) ;;
     *) sed -n '2,4s/^# //p' bench/run.sh >&2; exit 2 ;;
 esac
-rt staticlib solgwid
+(cd crates/solgwid && rt lib)
 mkdir -p target/bench
-rustc -O --edition 2021 bench/bench.rs -L target/staticlib -l static=solgwid -o target/bench/bench
+rustc -O --edition 2021 bench/bench.rs -L crates/solgwid/out -l static=solgwid -o target/bench/bench
 csv=target/bench/figures.csv
 echo "# Solgwid at commit $(git describe --always --dirty --exclude '*')" > "$csv"
 target/bench/bench "$csv"

@@ -1,7 +1,7 @@
 /* Friday's levy: a week of tickets in one call, then a walk round every plot. Then a screen's question: which plots may
    have a point in a window? At last an office's: what lies in what?
 
-       rt staticlib solgwid && cc -Iinclude examples/levy.c target/staticlib/libsolgwid.a -o levy
+       (cd crates/solgwid && rt lib) && cc -Iinclude examples/levy.c crates/solgwid/out/libsolgwid.a -o levy
        ./levy < examples/meadow.txt */
 #include <inttypes.h>
 #include <stdio.h>

@@ -2,7 +2,7 @@
    redrawn so that its well would lie outside (22), a ditch that lies along a boundary (23), crosses it (15) or touches
    it (24), and a face that no contents could list (28). Nothing lent differs after any of them.
 
-       rt staticlib solgwid && cc -Iinclude examples/refusals.c target/staticlib/libsolgwid.a -o refusals */
+       (cd crates/solgwid && rt lib) && cc -Iinclude examples/refusals.c crates/solgwid/out/libsolgwid.a -o refusals */
 #include <stdio.h>
 #include <string.h>
 #include "solgwid.h"

@@ -4,9 +4,9 @@
 set -eu
 cd "$(dirname "$0")/.."
 out=target/examples
-library=target/staticlib/libsolgwid.a
+library=crates/solgwid/out/libsolgwid.a
 mkdir -p "$out"
-rt staticlib solgwid >"$out/staticlib.log" 2>&1 || { cat "$out/staticlib.log"; exit 1; }
+(cd crates/solgwid && rt lib) >"$out/lib.log" 2>&1 || { cat "$out/lib.log"; exit 1; }
 
 # Runs the example $1, built as the program $2 from the language $3.
 compare() {
@@ -25,5 +25,5 @@ for name in square levy refusals; do
         compare "$name" "$out/${name}_cpp" C++
     fi
 done
-rustc -D warnings -O --edition 2021 examples/square.rs -L target/staticlib -l static=solgwid -o "$out/square_rs"
+rustc -D warnings -O --edition 2021 examples/square.rs -L crates/solgwid/out -l static=solgwid -o "$out/square_rs"
 compare square "$out/square_rs" Rust

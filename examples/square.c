@@ -1,7 +1,7 @@
 /* The square sheet: a loop around a plot, the loop split, a boundary across the plot. Then a split taken back, a curve
    sent with points along its straight runs, a well in the plot and what lies in what, a map for a plotting program.
 
-       rt staticlib solgwid && cc -Iinclude examples/square.c target/staticlib/libsolgwid.a -o square */
+       (cd crates/solgwid && rt lib) && cc -Iinclude examples/square.c crates/solgwid/out/libsolgwid.a -o square */
 #include <inttypes.h>
 #include <stdio.h>
 #include <string.h>

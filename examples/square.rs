@@ -1,7 +1,7 @@
 //! The square sheet: a loop around a plot, the loop split, a boundary across the plot. Then a split taken back, a curve
 //! sent with points along its straight runs, a well in the plot and what lies in what, a map for a plotting program.
 //!
-//!     rt staticlib solgwid && rustc --edition 2021 examples/square.rs -L target/staticlib -l static=solgwid
+//!     (cd crates/solgwid && rt lib) && rustc --edition 2021 examples/square.rs -L crates/solgwid/out -l static=solgwid
 
 #[path = "../include/solgwid.rs"]
 mod solgwid;

@@ -1,6 +1,6 @@
 /* Solgwid: a topology engine for plot maps (SQL/MM Spatial, Topo-Geo), proved. docs/MANUAL.md explains every ticket.
 
-       rt staticlib solgwid && cc -Iinclude program.c target/staticlib/libsolgwid.a -o program
+       (cd crates/solgwid && rt lib) && cc -Iinclude program.c crates/solgwid/out/libsolgwid.a -o program
 
    A map is three tables of rows and a head. The caller owns all four and lends them to each call. The library
    allocates nothing and keeps nothing: copy tables and head to undo, write them to a file to store them, free them as

@@ -1,6 +1,6 @@
 //! Solgwid for Rust: a map with its tables, over the static library. See solgwid.h for list lengths, threads and stack.
 //!
-//!     rt staticlib solgwid && rustc --edition 2021 program.rs -L target/staticlib -l static=solgwid
+//!     (cd crates/solgwid && rt lib) && rustc --edition 2021 program.rs -L crates/solgwid/out -l static=solgwid
 #![allow(dead_code)]
 
 use std::fmt;

@@ -4,9 +4,9 @@ one call, other rectangles, maps created, and contents of sheets.
 
   check_calls.py [CALLS] [LISTS] [MAPS] [CREATED] [SHEETS] [--seed S]
 
-Needs target/staticlib/libsolgwid.a (`rt staticlib solgwid`) and a C compiler. The tables are grown maps, for 6 points
-or 12, that are distorted (links off the law, faces at will, crossing curves, nodes on one point), spoiled, or have
-another record of points. Each list in one call is run a second time with tables not whole, another record or too little
+Needs crates/solgwid/out/libsolgwid.a (`rt lib` in crates/solgwid) and a C compiler. The tables are grown maps, for 6
+points or 12, that are distorted (links off the law, faces at will, crossing curves, nodes on one point), spoiled, or
+have another record of points. Each list in one call is run a second time with tables not whole, another record or too little
 room for the answers. Of each of the MAPS, all in form, every face table is tried that tests/reference/rectangles.py
 spoils. The maps are created in tables that hold anything, whole or not, under right records and others. The contents
 are those of grown sheets, of sheets whose rings and lone nodes bear other faces, and of the tables of the whole calls,
@@ -46,6 +46,7 @@ LIMITS = pm.MAX_NODES, pm.MAX_EDGES, pm.MAX_FACES
 def library():
     """The static library, linked into a shared one that Python can load."""
     archive, shared = static_library(), ROOT / 'target/solgwid.so'
+    shared.parent.mkdir(exist_ok=True)
     whole = ['-Wl,--whole-archive', archive, '-Wl,--no-whole-archive']
     subprocess.run(['cc', '-shared', '-o', shared, *whole], check=True)
     lib = ctypes.CDLL(str(shared))

@@ -3,8 +3,8 @@
 
   check_docs.py
 
-Needs target/bin/sheet (`rt check sheet`).
-- Answers and rows of docs/MANUAL.md are those of target/bin/sheet, and crates/sheet/stdin begins with its tickets.
+Needs crates/sheet/out/sheet (`rt run` in crates/sheet).
+- Answers and rows of docs/MANUAL.md are those of the program, and crates/sheet/stdin begins with its tickets.
 - examples/meadow.txt is the first tickets of the manual, up to its meadow.
 - A block that names a file (```c examples/square.c) stands in that file, line by line.
 - Every relative link of README.md and docs/*.md leads to a file, and its #anchor to a heading.

@@ -3,8 +3,8 @@
 
   check_limits.py [CALLS] [--seed S]
 
-Needs target/staticlib/libsolgwid.a (`rt staticlib solgwid`) and a C compiler. The library grows a map in tables at the
-limits, for 6 and 12 points by turns: plots in a grid, drawn in random order, wells, ditches apart and tanks in some
+Needs crates/solgwid/out/libsolgwid.a (`rt lib` in crates/solgwid) and a C compiler. The library grows a map in tables
+at the limits, for 6 and 12 points by turns: plots in a grid, drawn in random order, wells, ditches apart and tanks in some
 maps, and plots divided until no face is left. A map of 1,000 nodes in one piece has 1,998 edges then, the most that
 tickets can draw. Every call on it is compared whole; the reference takes some seconds for each, with an index for its
 lookups. What is carried out stays, so that each call meets another map. Sides of plots are redrawn past what lies

@@ -34,11 +34,11 @@ EDITS, REASONS, FORM, TICKET, ROWS, LIMITS = (
 # the statements of the theorem that are told, the four of demand 3 first, and what computes each of the map m in the
 # tables l
 STATEMENTS = {
-    'links once': 'linksOnce m',
-    'rings bear one': 'ringsBearOne m',
-    'curves apart': 'allOf (λ e. not (isMet (edgeMeeting (withoutEdge (e .number) (m .edges)) (e .curve)))) (m .edges)',
-    'sum': 'same (length (m .nodes) + length (m .faces)) (length (m .edges) + pieceCount m + 1)',
-    'in form': 'inForm l',
+    'links once': 'links_once m',
+    'rings bear one': 'rings_bear_one m',
+    'curves apart': 'all_of (λ e. not (is_met (edge_meeting (without_edge e.number m.edges) e.curve))) m.edges',
+    'sum': 'same (length m.nodes + length m.faces) (length m.edges + piece_count m + 1)',
+    'in form': 'in_form l',
 }
 LOOP = ('1 -1 0 0', '12 1 1 0 0 10 0 10 10 0 10 0 0')
 
@@ -46,38 +46,38 @@ LOOP = ('1 -1 0 0', '12 1 1 0 0 10 0 10 10 0 10 0 0')
 GROWN = {
     'other rings half relabelled': (
         EDITS,
-        'withSides (sideOfDart m s (fwd (e .number))) (sideOfDart m s (bwd (e .number))) e',
-        'withSides (sideOfDart m s (fwd (e .number))) (bears m (bwd (e .number))) e',
+        'with_sides (side_of_dart m s (fwd e.number)) (side_of_dart m s (bwd e.number)) e',
+        'with_sides (side_of_dart m s (fwd e.number)) (bears m (bwd e.number)) e',
         'rings bear one', ('1 -1 0 0', '1 -1 10 10', '12 1 2 0 0 10 0 10 10', '12 1 2 0 0 0 10 10 10')),
     'led to the wrong place': (
         MAP + 'Links.antt',
-        'let m′ = redirect (fwd e) (next m (bwd e)) m in',
-        'let m′ = redirect (fwd e) (next m (fwd e)) m in',
+        "let m' = redirect (fwd e) (next m (bwd e)) m in",
+        "let m' = redirect (fwd e) (next m (fwd e)) m in",
         'links once', ('1 -1 0 0', '1 -1 5 0', '1 -1 9 4', '4 1 2 0 0 5 0', '12 2 3 5 0 9 4', '13 2')),
     'joint node kept': (
         EDITS,
-        'setNodes (withoutNode (Option·getD (joint m e f) 0) (m .nodes))\n',
-        'setNodes (m .nodes)\n',
+        'set_nodes (without_node (get_or (joint m e f) 0) m.nodes)\n',
+        'set_nodes m.nodes\n',
         'in form', (*LOOP, '8 1 10 4', '10 1 2')),    # the node is a piece of its own: the sum holds
     'pieces of edges': (
         MAP + 'Darts.antt',
-        'pieceCount m = pieces (map (λ n. n .number) (m .nodes)) (arcs m)',
-        'pieceCount m = pieces (map (λ e. e .start) (m .edges)) (arcs m)',
+        'piece_count m = pieces (map (λ n. n.number) m.nodes) (arcs m)',
+        'piece_count m = pieces (map (λ e. e.start) m.edges) (arcs m)',
         'sum', ('1 -1 0 0',)),
     'old number on both sides': (
         EDITS,
-        'ref = cond (isLeft || not goes) a b;',
-        'ref = cond (isLeft && goes) a b;',
+        'ref = cond (is_left || not goes) a b;',
+        'ref = cond (is_left && goes) a b;',
         'sum', (*LOOP, '14 1')),
     'no new face': (
         EDITS,
-        '(m .faces ++ a ∷ []) in\n    setFaces faces',
-        '(m .faces) in\n    setFaces faces',
+        '(m.faces ++ a ∷ []) in\n    set_faces faces',
+        'm.faces in\n    set_faces faces',
         'sum', LOOP),
     'face of the removed edge stays': (
         EDITS,
-        'let left = keep (λ g. same g (renamed (edge m e) f g)) (m .faces) in',
-        'let left = m .faces in',
+        'let left = keep (λ g. same g (renamed (edge m e) f g)) m.faces in',
+        'let left = m.faces in',
         'sum', (*LOOP, '14 1')),
     'curves cross': (
         REASONS,
@@ -86,64 +86,64 @@ GROWN = {
         'curves apart', ('1 -1 0 0', '1 -1 9 9', '1 -1 0 9', '1 -1 9 0', '4 1 2 0 0 9 9', '4 3 4 0 9 9 0')),
     'split relinks nothing': (
         EDITS,
-        'let m′ = redirect (bwd e) (bwd b) (redirect (fwd e) (fwd a) m) in',
-        'let m′ = m in',
+        "let m' = redirect (bwd e) (bwd b) (redirect (fwd e) (fwd a) m) in",
+        "let m' = m in",
         'links once', (*LOOP, '7 1 10 4')),
     'rectangles of no edges': (
         ROWS,
-        'lentOf s m = lentWith (rectangle (m .edges)) s m',
-        'lentOf s m = lentWith (rectangle []) s m',
+        'lent_of s m = lent_with (rectangle m.edges) s m',
+        'lent_of s m = lent_with (rectangle []) s m',
         'in form', LOOP),
 }
 
 FACES = MAP + 'Faces.antt'
-TESTS = ('use mathlib.Core.Bool.{Bool, cond}',
-         'use mathlib.Core.Bool.{Bool, cond, _&&_, _||_}\nuse Rattle·lists.specs.Tests.{same}')
+TESTS = ('Prelude.{Bool, cond, ℕ, ltb, ℤ, pos, ◌+ℤ◌}',
+         'Prelude.{Bool, cond, ◌&&◌, ◌||◌, ℕ, ltb, ℤ, pos, ◌+ℤ◌}\nuse Rattle.lists.specs.Tests.{same}')
 # the segment passes below p, or its end of greater x is below p
-PASSES = ('(λ s. passesBelow p s || same (ordered s .to .x) (p .x) && ltb (ordered s .from .x) (p .x)'
-          ' && ltb (ordered s .to .y) (p .y))')
+PASSES = ('(λ s. passes_below p s || same (ordered s).to.x p.x && ltb (ordered s).from.x p.x'
+          ' && ltb (ordered s).to.y p.y)')
 
 # how the map's definitions word what a curve meets, and what they take for it from those of curves
-EDGES, MET = 'edgeMeeting es c = gravest (map (λ e. meeting c (e .curve)) es)', 'meeting, gravest}'
+EDGES, MET = 'edge_meeting es c = gravest (map (λ e. meeting c e.curve) es)', 'meeting, gravest}'
 ABOVE = '-- over all edges, the gravest that the curve does with one\n'
 CONTACTS = 'None', 'Touch', 'Crossing', 'Stretch'
 # contacts by place
-FIRST_MET = '''abbrev firstMet : List Contact → Contact
-firstMet [] = None
-firstMet (k ∷ ks) = cond (isMet k) k (firstMet ks)
+FIRST_MET = '''abbrev first_met : List Contact → Contact
+first_met [] = None
+first_met (k ∷ ks) = cond (is_met k) k (first_met ks)
 
 '''
-LAST_MET = '''abbrev lastMet : List Contact → Contact
-lastMet [] = None
-lastMet (k ∷ ks) = let later = lastMet ks in cond (isMet later) later k
+LAST_MET = '''abbrev last_met : List Contact → Contact
+last_met [] = None
+last_met (k ∷ ks) = let later = last_met ks in cond (is_met later) later k
 
 '''
 # two curves, by a choice from the contacts of their segments, each changed before
-CURVES_BY = '''abbrev segBy : (Point → Point → Point → Point → Contact → Contact) → List Point
+CURVES_BY = '''abbrev seg_by : (Point → Point → Point → Point → Contact → Contact) → List Point
     → Point → Point → Point → Point → Contact
-segBy change l a b p q = change a b p q (segMeeting l a b p q)
+seg_by change l a b p q = change a b p q (seg_meeting l a b p q)
 
-abbrev curvesBy : (List Contact → Contact) → (Point → Point → Point → Point → Contact → Contact)
+abbrev curves_by : (List Contact → Contact) → (Point → Point → Point → Point → Contact → Contact)
     → Curve → Curve → Contact
-curvesBy choose change c d =
-    let l = commonEnds c d in
-    choose (map (λ s. choose (map (λ t. segBy change l (s .from) (s .to) (t .from) (t .to)) (segments d))) (segments c))
+curves_by choose change c d =
+    let l = common_ends c d in
+    choose (map (λ s. choose (map (λ t. seg_by change l s.from s.to t.from t.to) (segments d))) (segments c))
 
 '''
-CURVES_USED = ('point, curveOf, coordinate, isRunTo}', 'point, curveOf, coordinate, isRunTo, segments}')
-TWELVE_USED = (CURVES_USED[0], 'point, curveOf, coordinate, isRunTo, maxPoints}')
-AS_FOUND = '''abbrev asFound : Point → Point → Point → Point → Contact → Contact
-asFound a b p q k = k
+CURVES_USED = ('point, curve_of, coordinate, is_run_to}', 'point, curve_of, coordinate, is_run_to, segments}')
+TWELVE_USED = (CURVES_USED[0], 'point, curve_of, coordinate, is_run_to, max_points}')
+AS_FOUND = '''abbrev as_found : Point → Point → Point → Point → Contact → Contact
+as_found a b p q k = k
 
 '''
 # a touch is a crossing where a point of one lies inside the segment of the other
-INNER = '''abbrev innerCrosses : Point → Point → Point → Point → Contact → Contact
-innerCrosses a b p q None = None
-innerCrosses a b p q Touch =
-    cond (straightBetween p a q || straightBetween p b q || straightBetween a p b || straightBetween a q b)
+INNER = '''abbrev inner_crosses : Point → Point → Point → Point → Contact → Contact
+inner_crosses a b p q None = None
+inner_crosses a b p q Touch =
+    cond (straight_between p a q || straight_between p b q || straight_between a p b || straight_between a q b)
     Crossing Touch
-innerCrosses a b p q Crossing = Crossing
-innerCrosses a b p q Stretch = Stretch
+inner_crosses a b p q Crossing = Crossing
+inner_crosses a b p q Stretch = Stretch
 
 '''
 
@@ -151,271 +151,270 @@ innerCrosses a b p q Stretch = Stretch
 def ranking(*order):
     """The definition of `ranked`: the first of a list by another order."""
     first = lambda j, k: next(c for c in (*order, 'None') if c in (j, k))
-    rows = ''.join(f'rankedTwo {j} {k} = {first(j, k)}\n' for j in CONTACTS for k in CONTACTS)
-    return ('abbrev rankedTwo : Contact → Contact → Contact\n' + rows
+    rows = ''.join(f'ranked_two {j} {k} = {first(j, k)}\n' for j in CONTACTS for k in CONTACTS)
+    return ('abbrev ranked_two : Contact → Contact → Contact\n' + rows
             + '\nabbrev ranked : List Contact → Contact\nranked [] = None\n'
-              'ranked (k ∷ ks) = rankedTwo k (ranked ks)\n\n')
+              'ranked (k ∷ ks) = ranked_two k (ranked ks)\n\n')
 
 
-def by_segments(choose, above, change='asFound'):
+def by_segments(choose, above, change='as_found'):
     """Curves that meet by another choice, or with segments told apart otherwise; edges by the same choice. What is
     chosen by, or the change, stands above."""
-    used = 'segMeeting, commonEnds' + {'gravest': ', gravest', 'firstMet': ', isMet'}.get(choose, '')
-    return (REASONS, EDGES, f'edgeMeeting es c = {choose} (map (λ e. curvesBy {choose} {change} c (e .curve)) es)',
-            ABOVE, above + AS_FOUND * (change == 'asFound') + CURVES_BY + ABOVE, MET, used + '}', *CURVES_USED)
+    used = 'seg_meeting, common_ends' + {'gravest': ', gravest', 'first_met': ', is_met'}.get(choose, '')
+    return (REASONS, EDGES, f'edge_meeting es c = {choose} (map (λ e. curves_by {choose} {change} c e.curve) es)',
+            ABOVE, above + AS_FOUND * (change == 'as_found') + CURVES_BY + ABOVE, MET, used + '}', *CURVES_USED)
 
 
 def stored(edit):
     """An edit that stores the points sent."""
-    return (TICKET, f'{edit} (curveIn sent) m', f'{edit} (curveOf sent) m',
-            'use Rattle·curves.specs.Curves.{point}', 'use Rattle·curves.specs.Curves.{point, curveOf}')
+    return (TICKET, f'{edit} (curve_in sent) m', f'{edit} (curve_of sent) m',
+            'use Rattle.curves.specs.Curves.{point}', 'use Rattle.curves.specs.Curves.{point, curve_of}')
 
 
 # name: file, old, new, and more of both
 WORKED = {
     'face of a point: ties to the later': (
         FACES,
-        'cond (higher x (g .segment) (f .segment)) g f', 'cond (higher x (f .segment) (g .segment)) f g'),
+        'cond (higher x g.segment f.segment) g f', 'cond (higher x f.segment g.segment) f g'),
     'face of a point: the first below': (
-        FACES, 'highest x (cond (higher x (g .segment) (f .segment)) g f) r', 'highest x f r'),
+        FACES, 'highest x (cond (higher x g.segment f.segment) g f) r', 'highest x f r'),
     'face of a point: slopes do not count': (
         FACES,
-        'higher x (g .segment) (f .segment)',
-        'isPositive (sgn (height x (g .segment) *ℤ along (f .segment) .dx'
-        ' -ℤ height x (f .segment) *ℤ along (g .segment) .dx))',
-        'use lib.IntN.{ℤ, pos, _+ℤ_}', 'use lib.IntN.{ℤ, pos, _+ℤ_, _-ℤ_, _*ℤ_}',
-        'use Rattle·plane.specs.Below.{Segment, ordered, passesBelow, higher}',
-        'use Rattle·integers.specs.Order.{sgn}\nuse Rattle·plane.specs.Areas.{isPositive}\n'
-        'use Rattle·plane.specs.Below.{Segment, ordered, passesBelow, along, height}'),
-    'face of a point: x up to x2': (FACES, 'keep (passesBelow p)', f'keep {PASSES}', *TESTS),
+        'higher x g.segment f.segment',
+        'is_positive (sgn (height x g.segment *ℤ (along f.segment).dx'
+        ' -ℤ height x f.segment *ℤ (along g.segment).dx))',
+        'ltb, ℤ, pos, ◌+ℤ◌}', 'ltb, ℤ, pos, ◌+ℤ◌, ◌-ℤ◌, ◌*ℤ◌}',
+        'use Rattle.plane.specs.Below.{Segment, ordered, passes_below, higher}',
+        'use Rattle.integers.specs.Order.{sgn}\nuse Rattle.plane.specs.Areas.{is_positive}\n'
+        'use Rattle.plane.specs.Below.{Segment, ordered, passes_below, along, height}'),
+    'face of a point: x up to x2': (FACES, 'keep (passes_below p)', f'keep {PASSES}', *TESTS),
     'enclosed: x up to x2': (
-        FACES, 'oddBelow (course m d) p', f'oddCount (segments (course m d)) {PASSES}', *TESTS),
+        FACES, 'odd_below (course m d) p', f'odd_count (segments (course m d)) {PASSES}', *TESTS),
     'face of a point: the lower side': (
-        FACES, '(e .left) (e .right)', '(e .right) (e .left)'),
+        FACES, 'e.left e.right', 'e.right e.left'),
     'enclosed: an edge counts once': (
-        FACES, 'encloses m r p = oddCount r (',
-        'encloses m r p = oddCount (keep (λ d. ltb 0 (cond (d .back) 0 1)) r) ('),
+        FACES, 'encloses m r p = odd_count r (',
+        'encloses m r p = odd_count (keep (λ d. ltb 0 (cond d.back 0 1)) r) ('),
     'isolated nodes stay behind': (
-        EDITS, '(withFace (some (sideOfPoint m s (n .at))) n) n', '(withFace (some (s .other)) n) n'),
+        EDITS, '(with_face (some (side_of_point m s n.at)) n) n', '(with_face (some s.other) n) n'),
     'other rings stay behind': (
-        EDITS, 'let elsewhere = sideOfRing m s d in', 'let elsewhere = s .other in'),
+        EDITS, 'let elsewhere = side_of_ring m s d in', 'let elsewhere = s.other in'),
     'other rings by any edge': (
-        EDITS, '(lowestEdge (d .edge) (ring m d)) .start', '(d .edge) .start'),
+        EDITS, '(edge m (lowest_edge d.edge (ring m d))).start', '(edge m d.edge).start'),
     'other rings by the end node': (
-        EDITS, '(lowestEdge (d .edge) (ring m d)) .start', '(lowestEdge (d .edge) (ring m d)) .end'),
+        EDITS, '(edge m (lowest_edge d.edge (ring m d))).start', '(edge m (lowest_edge d.edge (ring m d))).end'),
     'reference side is left': (
-        EDITS, 'let isLeft = isPositive (sgn (ringArea m left)) in', 'let isLeft = true in'),
+        EDITS, 'let is_left = is_positive (sgn (ring_area m left)) in', 'let is_left = true in'),
     'reference side takes the lower number': (
         EDITS,
-        'ref = cond (isLeft || not goes) a b;\n      other = cond (isLeft || not goes) b a;',
+        'ref = cond (is_left || not goes) a b;\n      other = cond (is_left || not goes) b a;',
         'ref = a;\n      other = b;'),
     'face 0 goes': (
-        EDITS, 'let goes = isNew how && not (same old 0) in', 'let goes = isNew how in'),
+        EDITS, 'let goes = is_new how && not (same old 0) in', 'let goes = is_new how in'),
     '22: the ring on the left alone': (
-        REASONS, '|| ringChanges m m′ ps (ring m (bwd e))', '|| ringChanges m m′ ps (ring m (fwd e))'),
+        REASONS, "|| ring_changes m m' ps (ring m (bwd e))", "|| ring_changes m m' ps (ring m (fwd e))"),
     '22: the ring on the right alone': (
-        REASONS, 'ringChanges m m′ ps (ring m (fwd e)) ||', 'ringChanges m m′ ps (ring m (bwd e)) ||'),
+        REASONS, "ring_changes m m' ps (ring m (fwd e)) ||", "ring_changes m m' ps (ring m (bwd e)) ||"),
     '22: the area does not count': (
-        REASONS, '⊕ isPositive (sgn (ringArea m′ r))', '⊕ isPositive (sgn (ringArea m r))'),
+        REASONS, "⊕ is_positive (sgn (ring_area m' r))", '⊕ is_positive (sgn (ring_area m r))'),
     '22: area 0 is positive': (
         REASONS,
-        'isPositive (sgn (ringArea m r)) ⊕ isPositive (sgn (ringArea m′ r))',
-        'isPositive (sgn (negℤ (ringArea m r))) ⊕ isPositive (sgn (negℤ (ringArea m′ r)))',
-        'use lib.IntN.{ℤ, pos, negsuc, natAbs}', 'use lib.IntN.{ℤ, pos, negsuc, natAbs, negℤ}'),
+        "is_positive (sgn (ring_area m r)) ⊕ is_positive (sgn (ring_area m' r))",
+        "is_positive (sgn (neg_ℤ (ring_area m r))) ⊕ is_positive (sgn (neg_ℤ (ring_area m' r)))",
+        'negsuc, nat_abs, length}', 'negsuc, neg_ℤ, nat_abs, length}'),
     '22: isolated nodes do not count': (
-        REASONS, 'isolatedPoints m ++ otherPiecePoints m n', 'otherPiecePoints m n'),
+        REASONS, 'isolated_points m ++ other_piece_points m n', 'other_piece_points m n'),
     '22: other pieces do not count': (
-        REASONS, '++ otherPiecePoints m n', '++ []'),
+        REASONS, '++ other_piece_points m n', '++ []'),
     '22: isolated nodes of face 0 do not count': (
-        REASONS, '(keep (λ n. isSome (n .face)) (m .nodes))',
-        '(keep (λ n. not (same (Option·getD (n .face) 0) 0)) (m .nodes))'),
+        REASONS, '(keep (λ n. is_some n.face) m.nodes)',
+        '(keep (λ n. not (same (get_or n.face 0) 0)) m.nodes)'),
     '22: other rings of the piece count': (
-        REASONS, 'not (same (pieceOf m (leaves m d)) (pieceOf m n))', 'not (same (leaves m d) n)'),
+        REASONS, 'not (same (piece_of m (leaves m d)) (piece_of m n))', 'not (same (leaves m d) n)'),
     '22: rings by any edge': (
-        REASONS, '(pieceOf m n))) (firsts m))', '(pieceOf m n))) (directed m))',
-        'Darts.{leaves, departures, edgeEnds, way, ring, firsts, pieceOf}',
-        'Darts.{directed, leaves, departures, edgeEnds, way, ring, pieceOf}'),
+        REASONS, '(piece_of m n))) (firsts m))', '(piece_of m n))) (directed m))',
+        'Darts.{leaves, departures, edge_ends, way, ring, firsts, piece_of}',
+        'Darts.{directed, leaves, departures, edge_ends, way, ring, piece_of}'),
     '22: rings by the end node': (
-        REASONS, 'node m (edge m (d .edge) .start) .at', 'node m (edge m (d .edge) .end) .at'),
+        REASONS, '(node m (edge m d.edge).start).at', '(node m (edge m d.edge).end).at'),
     '22: rings by the node that their first member leaves': (
-        REASONS, 'node m (edge m (d .edge) .start) .at', 'node m (leaves m d) .at'),
+        REASONS, '(node m (edge m d.edge).start).at', '(node m (leaves m d)).at'),
     '22 before 19': (
         REASONS,
-        '(19, orderChanges m e c)\n    ∷ (22, sidesChange m e c)',
-        '(22, sidesChange m e c)\n    ∷ (19, orderChanges m e c)'),
-    '23: a stretch is a crossing': (REASONS, 'contactReason Stretch = 23', 'contactReason Stretch = 15'),
-    '24: a touch is a crossing': (REASONS, 'contactReason Touch = 24', 'contactReason Touch = 15'),
-    '24: a crossing is a touch': (REASONS, 'contactReason Crossing = 15', 'contactReason Crossing = 24'),
+        '(19, order_changes m e c)\n    ∷ (22, sides_change m e c)',
+        '(22, sides_change m e c)\n    ∷ (19, order_changes m e c)'),
+    '23: a stretch is a crossing': (REASONS, 'contact_reason Stretch = 23', 'contact_reason Stretch = 15'),
+    '24: a touch is a crossing': (REASONS, 'contact_reason Touch = 24', 'contact_reason Touch = 15'),
+    '24: a crossing is a touch': (REASONS, 'contact_reason Crossing = 15', 'contact_reason Crossing = 24'),
     '23 for 24': (
-        REASONS, 'contactReason Touch = 24', 'contactReason Touch = 23',
-        'contactReason Stretch = 23', 'contactReason Stretch = 24'),
+        REASONS, 'contact_reason Touch = 24', 'contact_reason Touch = 23',
+        'contact_reason Stretch = 23', 'contact_reason Stretch = 24'),
     '23: the first edge that is met': (
-        REASONS, EDGES, EDGES.replace('gravest', 'firstMet'), ABOVE, FIRST_MET + ABOVE, MET, 'meeting, isMet}'),
+        REASONS, EDGES, EDGES.replace('gravest', 'first_met'), ABOVE, FIRST_MET + ABOVE, MET, 'meeting, is_met}'),
     '23: the last edge that is met': (
-        REASONS, EDGES, EDGES.replace('gravest', 'lastMet'), ABOVE, LAST_MET + ABOVE, MET, 'meeting, isMet}'),
-    '23: by place': by_segments('firstMet', FIRST_MET),
+        REASONS, EDGES, EDGES.replace('gravest', 'last_met'), ABOVE, LAST_MET + ABOVE, MET, 'meeting, is_met}'),
+    '23: by place': by_segments('first_met', FIRST_MET),
     '15 before 23': by_segments('ranked', ranking('Crossing', 'Stretch', 'Touch')),
     '24 before 15': by_segments('ranked', ranking('Stretch', 'Touch', 'Crossing')),
     '15: a point inside a segment crosses': (
-        *by_segments('gravest', INNER, 'innerCrosses'),
-        'use Rattle·plane.specs.Points.{samePoint}\n',
-        'use Rattle·plane.specs.Points.{samePoint}\nuse Rattle·plane.specs.Segments.{straightBetween}\n'),
+        *by_segments('gravest', INNER, 'inner_crosses'),
+        'use Rattle.plane.specs.Points.{same_point}\n',
+        'use Rattle.plane.specs.Points.{same_point}\nuse Rattle.plane.specs.Segments.{straight_between}\n'),
     '23: the own edge too': (
-        REASONS, 'meetingReasons m (withoutEdge e (m .edges)) c', 'meetingReasons m (m .edges) c',
-        'use Rattle·map·specs.specs.Rows.{withoutEdge, counts}', 'use Rattle·map·specs.specs.Rows.{counts}'),
+        REASONS, 'meeting_reasons m (without_edge e m.edges) c', 'meeting_reasons m m.edges c',
+        'use Rattle.map.specs.Rows.{without_edge, counts}', 'use Rattle.map.specs.Rows.{counts}'),
     '15 before 14': (
         REASONS,
-        '(14, nodeInside m c)\n    ∷ (23, same found 23)\n    ∷ (15, same found 15)',
-        '(15, same found 15)\n    ∷ (14, nodeInside m c)\n    ∷ (23, same found 23)'),
+        '(14, node_inside m c)\n    ∷ (23, same found 23)\n    ∷ (15, same found 15)',
+        '(15, same found 15)\n    ∷ (14, node_inside m c)\n    ∷ (23, same found 23)'),
     '23 before 14': (
         REASONS,
-        '(14, nodeInside m c)\n    ∷ (23, same found 23)', '(23, same found 23)\n    ∷ (14, nodeInside m c)'),
+        '(14, node_inside m c)\n    ∷ (23, same found 23)', '(23, same found 23)\n    ∷ (14, node_inside m c)'),
     '24 never': (REASONS, '(24, same found 24)', '(24, false)'),
     '23 before 11': (
         REASONS,
-        '(11, directionTaken m (m .next .edges) a b c)\n    ∷ (12, cornersDiffer m a b c)\n'
-        '    ∷ meetingReasons m (m .edges) c\n    ++ roomReasons',
-        'meetingReasons m (m .edges) c\n    ++ (11, directionTaken m (m .next .edges) a b c)\n'
-        '    ∷ (12, cornersDiffer m a b c)\n    ∷ roomReasons'),
+        '(11, direction_taken m m.next.edges a b c)\n    ∷ (12, corners_differ m a b c)\n'
+        '    ∷ meeting_reasons m m.edges c\n    ++ room_reasons',
+        'meeting_reasons m m.edges c\n    ++ (11, direction_taken m m.next.edges a b c)\n'
+        '    ∷ (12, corners_differ m a b c)\n    ∷ room_reasons'),
     'surplus: nothing is dropped': (
-        REASONS, 'curveIn sent = withoutSurplus (curveOf sent)', 'curveIn sent = curveOf sent'),
-    'surplus: kind 4 stores the points sent': stored('addIsoEdge (natAbs u) (natAbs v)'),
-    'surplus: kind 6 stores the points sent': stored('changeEdgeGeom (natAbs e)'),
-    'surplus: kind 11 stores the points sent': stored('addEdge New (natAbs u) (natAbs v)'),
-    'surplus: kind 12 stores the points sent': stored('addEdge Mod (natAbs u) (natAbs v)'),
-    'surplus: 7 to 24 by the points sent': (REASONS, 'sent ++ rest (curveIn sent)', 'sent ++ rest (curveOf sent)'),
+        REASONS, 'curve_in sent = without_surplus (curve_of sent)', 'curve_in sent = curve_of sent'),
+    'surplus: kind 4 stores the points sent': stored('add_iso_edge (nat_abs u) (nat_abs v)'),
+    'surplus: kind 6 stores the points sent': stored('change_edge_geom (nat_abs e)'),
+    'surplus: kind 11 stores the points sent': stored('add_edge New (nat_abs u) (nat_abs v)'),
+    'surplus: kind 12 stores the points sent': stored('add_edge Mod (nat_abs u) (nat_abs v)'),
+    'surplus: 7 to 24 by the points sent': (REASONS, 'sent ++ rest (curve_in sent)', 'sent ++ rest (curve_of sent)'),
     'surplus: 5 by the points left': (
-        REASONS, '(5, badCurve most sent)', '(5, badCurve most (coordinates (points (withoutSurplus (curveOf sent)))))',
-        CURVES_USED[0], 'point, curveOf, coordinate, isRunTo, coordinates}'),
+        REASONS, '(5, bad_curve most sent)',
+        '(5, bad_curve most (coordinates (points (without_surplus (curve_of sent)))))',
+        CURVES_USED[0], 'point, curve_of, coordinate, is_run_to, coordinates}'),
     '6: straight points too': (
-        REASONS, '(6, not (neighboursDiffer (curveOf sent)))',
-        '(6, not (neighboursDiffer (curveOf sent)) || straightInside (curveOf sent))',
-        'Tests.{neighboursDiffer, onCurve', 'Tests.{neighboursDiffer, straightInside, onCurve'),
-    '6: never': (REASONS, '(6, not (neighboursDiffer (curveOf sent)))', '(6, false)'),
+        REASONS, '(6, not (neighbours_differ (curve_of sent)))',
+        '(6, not (neighbours_differ (curve_of sent)) || straight_inside (curve_of sent))',
+        'Tests.{neighbours_differ, on_curve', 'Tests.{neighbours_differ, straight_inside, on_curve'),
+    '6: never': (REASONS, '(6, not (neighbours_differ (curve_of sent)))', '(6, false)'),
     'value of kind 4': (
-        TICKET, '(addIsoEdge (natAbs u) (natAbs v) (curveIn sent) m, pos (m .next .edges))',
-        '(addIsoEdge (natAbs u) (natAbs v) (curveIn sent) m, pos (m .next .nodes))'),
+        TICKET, '(add_iso_edge (nat_abs u) (nat_abs v) (curve_in sent) m, pos m.next.edges)',
+        '(add_iso_edge (nat_abs u) (nat_abs v) (curve_in sent) m, pos m.next.nodes)'),
     'value of kind 13 where none healed': (
         TICKET, '(negsuc 0),\n)', '(pos 0),\n)'),
     'a bare node goes to face 0': (
-        EDITS, '(withFace (some f)) m′', '(withFace (some 0)) m′'),
+        EDITS, "(with_face (some f)) m'", "(with_face (some 0)) m'"),
     'nodes of a face that goes': (
-        EDITS, 'renamedNode e f n (some g) = withFace (some (renamed e f g)) n', 'renamedNode e f n (some g) = n'),
+        EDITS, 'renamed_node e f n (some g) = with_face (some (renamed e f g)) n', 'renamed_node e f n (some g) = n'),
     '12: any given face': (
-        REASONS, '(12, not (minusOne f) && not (same (natAbs f) (faceOfPoint m p)))', '(12, false)'),
+        REASONS, '(12, not (minus_one f) && not (same (nat_abs f) (face_of_point m p)))', '(12, false)'),
     '14: only at a corner': (
-        REASONS, '(λ n. onCurve c (n .at) &&', '(λ n. anyOf (samePoint (n .at)) (points c) &&'),
+        REASONS, '(λ n. on_curve c n.at &&', '(λ n. any_of (same_point n.at) (points c) &&'),
     '18: at the record': (
-        REASONS, '(18, ltb (mostPoints (s .limit)) (length (points (healedCurve m a b))))',
-        '(18, ltb (mostPoints (s .limit)) (suc (length (points (healedCurve m a b)))))'),
+        REASONS, '(18, ltb (most_points s.limit) (length (points (healed_curve m a b))))',
+        '(18, ltb (most_points s.limit) (suc (length (points (healed_curve m a b)))))'),
     '18: not at one point more': (
-        REASONS, '(18, ltb (mostPoints (s .limit)) (', '(18, ltb (suc (mostPoints (s .limit))) ('),
+        REASONS, '(18, ltb (most_points s.limit) (', '(18, ltb (suc (most_points s.limit)) ('),
     '18: by 12 whatever the record': (
-        REASONS, '(18, ltb (mostPoints (s .limit)) (', '(18, ltb maxPoints (', *TWELVE_USED),
+        REASONS, '(18, ltb (most_points s.limit) (', '(18, ltb max_points (', *TWELVE_USED),
     '5: by 12 whatever the record': (
-        REASONS, 'sentReasons (mostPoints (s .limit)) sent', 'sentReasons maxPoints sent', *TWELVE_USED),
+        REASONS, 'sent_reasons (most_points s.limit) sent', 'sent_reasons max_points sent', *TWELVE_USED),
     '21: at 999,999': (
-        REASONS, 'ltb (suc lastNumber) (m .next .nodes', 'ltb lastNumber (m .next .nodes'),
+        REASONS, 'ltb (suc last_number) (m.next.nodes', 'ltb last_number (m.next.nodes'),
     '21: kind 7 needs one number': (
-        REASONS, '(counts 1 (cond (isMod how) 1 2) 0)', '(counts 1 1 0)'),
+        REASONS, '(counts 1 (cond (is_mod how) 1 2) 0)', '(counts 1 1 0)'),
     '21: 13 always needs a face': (
-        REASONS, '(counts 0 0 (bit (makesFace New (natAbs e) m)))', '(counts 0 0 1)'),
+        REASONS, '(counts 0 0 (bit (makes_face New (nat_abs e) m)))', '(counts 0 0 1)'),
     'edges of a face: -e before e': (
-        MAP + 'Darts.antt', 'not (c .back) && d .back', 'c .back && not (d .back)'),
+        MAP + 'Darts.antt', 'not c.back && d.back', 'c.back && not d.back'),
     'edges of a face: the remainder goes': (
         TICKET, 'list = written ++ drop (length written) list;', 'list = written;'),
     'edges of a face: room to spare': (
         TICKET, '(20, ltb (length list) (length written))', '(20, ltb (length list) (suc (length written)))'),
-    'form: departures': (FORM, '    && departuresDiffer m\n', ''),
-    'form: marks': (FORM, '    && bareMarked m\n', ''),
-    'form: links once': (FORM, '    && linksOnce m\n', ''),
-    'form: links meet': (FORM, '    && linksMeet m\n', ''),
-    'form: rings': (FORM, '    && ringsBearOne m', ''),
-    'form: named nodes': (FORM, 'hasNode m (e .start) && hasNode m (e .end) && hasEdge', 'hasEdge'),
-    'form: zero rows': (FORM, '    && restZero edgeWidth (l .head .edges) (l .edges)\n', ''),
-    'form: face 0': (FORM, ' && same (firstOr 1 (m .faces)) 0', ''),
+    'form: departures': (FORM, '    && departures_differ m\n', ''),
+    'form: marks': (FORM, '    && bare_marked m\n', ''),
+    'form: links once': (FORM, '    && links_once m\n', ''),
+    'form: links meet': (FORM, '    && links_meet m\n', ''),
+    'form: rings': (FORM, '    && rings_bear_one m', ''),
+    'form: named nodes': (FORM, 'has_node m e.start && has_node m e.end && has_edge', 'has_edge'),
+    'form: zero rows': (FORM, '    && rest_zero edge_width l.head.edges l.edges\n', ''),
+    'form: face 0': (FORM, ' && same (first_or 1 m.faces) 0', ''),
     'form: rectangles': (FORM, ' && boxed l', ''),
-    'rectangle of face 0': (ROWS, 'rectangle es zero = boxOf []', 'rectangle es zero = boxOf (boundary es 0)'),
+    'rectangle of face 0': (ROWS, 'rectangle es zero = box_of []', 'rectangle es zero = box_of (boundary es 0)'),
     'rectangle: inner points left out': (
-        ROWS, 'flatMap (λ e. points (e .curve))', 'flatMap (λ e. e .curve .first ∷ lastPoint (e .curve) ∷ [])',
-        'Curves.{Curve, points, point,', 'Curves.{Curve, points, lastPoint, point,'),
+        ROWS, 'flat_map (λ e. points e.curve)', 'flat_map (λ e. e.curve.first ∷ last_point e.curve ∷ [])',
+        'Curves.{Curve, points, point,', 'Curves.{Curve, points, last_point, point,'),
     'rectangle: left sides alone': (
-        ROWS, 'borders f e = same (e .left) f || same (e .right) f', 'borders f e = same (e .left) f'),
+        ROWS, 'borders f e = same e.left f || same e.right f', 'borders f e = same e.left f'),
     'rectangle: right sides alone': (
-        ROWS, 'borders f e = same (e .left) f || same (e .right) f', 'borders f e = same (e .right) f'),
+        ROWS, 'borders f e = same e.left f || same e.right f', 'borders f e = same e.right f'),
     'rectangle: y before x': (
-        ROWS, 'pos (box f .left) ∷ pos (box f .low) ∷', 'pos (box f .low) ∷ pos (box f .left) ∷'),
+        ROWS, 'pos (box f).left ∷ pos (box f).low ∷', 'pos (box f).low ∷ pos (box f).left ∷'),
     'rectangle: greatest before least': (
         ROWS,
-        'pos (box f .left) ∷ pos (box f .low) ∷ pos (box f .right) ∷ pos (box f .high)',
-        'pos (box f .right) ∷ pos (box f .high) ∷ pos (box f .left) ∷ pos (box f .low)'),
+        'pos (box f).left ∷ pos (box f).low ∷ pos (box f).right ∷ pos (box f).high',
+        'pos (box f).right ∷ pos (box f).high ∷ pos (box f).left ∷ pos (box f).low'),
     'form: the record': (
-        FORM, '    && isRecord (l .head .points)\n', '    && true\n', 'mostPoints, isRecord,', 'mostPoints,'),
+        FORM, '    && is_record l.head.points\n', '    && true\n', 'most_points, is_record,', 'most_points,'),
     'form: point counts by 12 whatever the record': (
-        FORM, 'allOf (edgeRangesTo (mostPoints (sizesOf l .limit))) (edgeRows l)',
-        'allOf (edgeRangesTo maxPoints) (edgeRows l)', 'mostPoints, isRecord,', 'isRecord,'),
+        FORM, 'all_of (edge_ranges_to (most_points (sizes_of l).limit)) (edge_rows l)',
+        'all_of (edge_ranges_to max_points) (edge_rows l)', 'most_points, is_record,', 'is_record,'),
     'a record of 7': (
-        LIMITS, '|| sameZ k (pos maxPoints)', '|| (sameZ k (pos 7) || sameZ k (pos maxPoints))'),
+        LIMITS, '|| same_z k (pos max_points)', '|| (same_z k (pos 7) || same_z k (pos max_points))'),
     'created for 12 whatever is asked for': (
-        TICKET, 'createdUnless l (sizesFor (limitOf k) l) (', 'createdUnless l (sizesFor TwelvePoints l) (',
-        'Limits.{isRecord, limitOf}', 'Limits.{isRecord, TwelvePoints}'),
+        TICKET, 'created_unless l (sizes_for (limit_of k) l) (', 'created_unless l (sizes_for TwelvePoints l) (',
+        'Limits.{is_record, limit_of}', 'Limits.{is_record, TwelvePoints}'),
     'created: 2 before 1': (
-        TICKET, '(1, not (whole l)) ∷ (2, not (isRecord k)) ∷ []', '(2, not (isRecord k)) ∷ (1, not (whole l)) ∷ []'),
-    'form: unused points': (FORM, '\n    && allOf isZero (drop (2 * natAbs (cell r 7)) (drop 8 r))', ''),
+        TICKET, '(1, not (whole l)) ∷ (2, not (is_record k)) ∷ []', '(2, not (is_record k)) ∷ (1, not (whole l)) ∷ []'),
+    'form: unused points': (FORM, '\n    && all_of is_zero (drop (2 * nat_abs (cell r 7)) (drop 8 r))', ''),
     'contents: the one that led there is listed again': (
-        CONTENTS, 'keep (λ y. not (isIt y led)) ys', 'keep (λ y. true || isIt y led) ys'),
+        CONTENTS, 'keep (λ y. not (is_it y led)) ys', 'keep (λ y. true || is_it y led) ys'),
     'contents: lone nodes are in no face': (
-        CONTENTS, 'isIn m p f = ringBears m p f || nodeBears m p f', 'isIn m p f = ringBears m p f || ringBears m p f'),
+        CONTENTS, 'is_in m p f = ring_bears m p f || node_bears m p f',
+        'is_in m p f = ring_bears m p f || ring_bears m p f'),
     'contents: rings are in no face': (
-        CONTENTS, 'isIn m p f = ringBears m p f || nodeBears m p f', 'isIn m p f = nodeBears m p f || nodeBears m p f'),
+        CONTENTS, 'is_in m p f = ring_bears m p f || node_bears m p f',
+        'is_in m p f = node_bears m p f || node_bears m p f'),
     'contents: a piece has the rings at its lowest node alone': (
-        CONTENTS, 'same (pieceOf m (leaves m d)) p', 'same (leaves m d) p'),
+        CONTENTS, 'same (piece_of m (leaves m d)) p', 'same (leaves m d) p'),
     'contents: the depth stays': (
         CONTENTS, 'lines k beneath (not b) y (some x) (suc d)', 'lines k beneath (not b) y (some x) d'),
     'contents: a face is taken for the piece of its number': (
-        CONTENTS, 'Bool·beq (l .piece) b && same (l .number) x', 'same (l .number) x'),
+        CONTENTS, 'beq l.piece b && same l.number x', 'same l.number x'),
     'contents: a list of just the room is too short': (
         CONTENTS, '(20, ltb (length list) (length written))', '(20, ltb (length list) (suc (length written)))'),
     'contents: one is missed': (
         CONTENTS, 'cond (ltb (length ls) n) none (some ls)', 'cond (ltb n (length ls)) none (some ls)'),
     'contents: from face 1 on': (
-        CONTENTS, '(listedUnder m) false 0 none 0 [])', '(listedUnder m) false 1 none 0 [])'),
+        CONTENTS, '(listed_under m) false 0 none 0 [])', '(listed_under m) false 1 none 0 [])'),
     'contents: 1 for a face, 0 for a piece': (
-        CONTENTS, 'pos (bit (l .piece))', 'pos (bit (not (l .piece)))'),
+        CONTENTS, 'pos (bit l.piece)', 'pos (bit (not l.piece))'),
     'contents: 2 is not looked at': (
-        CONTENTS, 'firstReason (lentReasons l ++ (28,', 'firstReason ((1, not (whole l)) ∷ (28,',
-        'use Rattle·map.specs.Rows.{Map, Lent, mapOf}', 'use Rattle·map.specs.Rows.{Map, Lent, mapOf, whole}',
-        '{Listed, lentReasons, listUnless}', '{Listed, listUnless}'),
+        CONTENTS, 'first_reason (lent_reasons l ++ (28,', 'first_reason ((1, not (whole l)) ∷ (28,',
+        'use Rattle.map.specs.Rows.{Map, Lent, map_of}', 'use Rattle.map.specs.Rows.{Map, Lent, map_of, whole}',
+        '{Listed, lent_reasons, list_unless}', '{Listed, list_unless}'),
     'contents: the remainder is cut off': (
-        CONTENTS, 'listUnless list written\n', 'listUnless (take (length written) list) written\n',
-        'use lib.ListN.{length}', 'use lib.ListN.{length, take}'),
+        CONTENTS, 'list_unless list written\n', 'list_unless (take (length written) list) written\n',
+        'ℤ, pos, length}', 'ℤ, pos, length, take}'),
 }
 
-WITNESS = '''use mathlib.Core.Path.{_≡_, refl}
-use mathlib.Core.Bool.{Bool, true, false, not}
-use mathlib.Core.List.{List, [], _∷_}
-use Prim.Native.Nat.{_+_}
-use lib.IntN.{ℤ, pos, negsuc}
-use lib.ListN.{length}
-use Rattle·lists.specs.Tests.{same}
-use Rattle·lists.specs.Scans.{allOf}
-use Rattle·curves.specs.Tests.{isMet}
-use Rattle·map·specs.specs.Limits.{TwelvePoints}
-use Rattle·map·specs.specs.Rows.{Lent, Sizes, mapOf, withoutEdge}
-use Rattle·map·specs.specs.Darts.{pieceCount}
-use Rattle·map·specs.specs.Form.{linksOnce, ringsBearOne, inForm}
-use Rattle·map·specs.specs.Reasons.{edgeMeeting}
-use Rattle·map·specs.specs.Grow.{grow}
-use Rattle·map·proofs.proofs.Opened.{opened}
+WITNESS = '''use Rattle.std.specs.Prelude.{◌≡◌, refl, Bool, true, false, not, List, [], ◌∷◌, ◌+◌}
+use Rattle.std.specs.Prelude.{ℤ, pos, negsuc, length}
+use Rattle.lists.specs.Tests.{same}
+use Rattle.lists.specs.Scans.{all_of}
+use Rattle.curves.specs.Tests.{is_met}
+use Rattle.map.specs.Limits.{TwelvePoints}
+use Rattle.map.specs.Rows.{Lent, Sizes, map_of, without_edge}
+use Rattle.map.specs.Darts.{piece_count}
+use Rattle.map.specs.Form.{links_once, rings_bear_one, in_form}
+use Rattle.map.specs.Reasons.{edge_meeting}
+use Rattle.map.specs.Grow.{grow}
+use Rattle.map.proofs.Opened.{opened}
 
 abbrev room : Sizes
 room = record { nodes = 9; edges = 9; faces = 9; limit = TwelvePoints }
 
 abbrev stated : Lent → Bool
-stated l = let m = mapOf l in %s
+stated l = let m = map_of l in %s
 
 abbrev after : Bool
-after = stated (grow room (%s) .lent)
+after = stated (grow room (%s)).lent
 
 pub holds : after ≡ true
 unfolding opened
@@ -446,10 +445,12 @@ def witness(copy, statement, tickets):
 
 
 def check(copy, crate):
-    """Whether the crate is proved, and the errors."""
-    run = subprocess.run(['rt', 'dev', crate], cwd=copy, stdout=subprocess.PIPE, stderr=subprocess.STDOUT, text=True)
-    errors = [re.sub(r'^.*/crates/', '', l) for l in run.stdout.split('\n') if re.match(r'^/\S+:\d+:\d+: error', l)]
-    assert not any('/specs/' in e.split(':')[0] for e in errors), errors    # a slip that is no definition
+    """Whether the crate is proved, and the errors, in the crate or in the library below it that is not proved."""
+    run = subprocess.run(['rt', 'check'], cwd=copy / 'crates' / crate, stdout=subprocess.PIPE, stderr=subprocess.STDOUT,
+                         text=True)
+    errors = [l.removeprefix('./') for l in run.stdout.split('\n') if re.match(r'\S+:\d+:\d+: error', l)]
+    assert not any(e.startswith('specs/') for e in errors), errors    # a slip that is no definition
+    assert errors or run.returncode == 0, run.stdout[-2000:]
     return run.returncode == 0, errors
 
 
@@ -496,7 +497,7 @@ def refused(names):
     """Each slip tried in one copy of the repository, by name."""
     with tempfile.TemporaryDirectory() as folder:
         copy = pathlib.Path(folder) / 'copy'
-        shutil.copytree(ROOT, copy, ignore=shutil.ignore_patterns('.git', '__pycache__', 'definitions'))
+        shutil.copytree(ROOT, copy, ignore=shutil.ignore_patterns('.git', '__pycache__', 'out', 'target'))
         return {n: grown(copy, n) if n in GROWN else worked(copy, n) for n in names}
 
 

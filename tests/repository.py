@@ -6,7 +6,7 @@ import sys
 
 ROOT = pathlib.Path(__file__).resolve().parent.parent
 sys.path.insert(0, str(ROOT / 'tests/reference'))
-LIBRARY = 'target/staticlib/libsolgwid.a'
+LIBRARY = 'crates/solgwid/out/libsolgwid.a'
 LEVEL = 9     # the level of the reference at which the engine stands (tests/reference/README.md)
 
 
@@ -18,12 +18,12 @@ def built(path, command):
 
 
 def program(name):
-    return built(f'target/bin/{name}', f'rt check {name}')
+    return built(f'crates/{name}/out/{name}', f'cd crates/{name} && rt run </dev/null')
 
 
 def static_library():
     needed('cc', 'a C compiler')
-    return built(LIBRARY, 'rt staticlib solgwid')
+    return built(LIBRARY, 'cd crates/solgwid && rt lib')
 
 
 def needed(command, what):

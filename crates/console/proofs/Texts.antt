@@ -13,12 +13,11 @@ use mir.Syntax.{w64}
 use mir.Val.{SFits, of_z, to_z}
 use mir.Facts.{to_z-of_z}
 use borrow.Author.Tests.{ltb-true}
-use Rattle.io.specs.Counts.{clamp_len}
 use Rattle.lists.proofs.Appends.{sets_append}
 use Rattle.head.specs.Heads.{head_in}
 use Rattle.printing.specs.Texts.{natural_text, number_text, row_text}
 use Rattle.printing.proofs.Rows.{natural_few, row_few}
-use Rattle.console.specs.Texts.{answer_text, tagged_text, head_numbers, TextPut}
+use Rattle.console.specs.Texts.{answer_text, tagged_text, head_numbers, clamp_len, TextPut}
 
 -- a text that fits
 pub text_put : (before text after : List ℕ) (r : ℕ) → after ≡ sets before 0 text → r ≡ length text
@@ -71,26 +70,3 @@ head_numbers_lem (a ∷ b ∷ c ∷ d ∷ f ∷ []) e = absurd (omega arith)
 head_numbers_lem (a ∷ b ∷ c ∷ d ∷ f ∷ g ∷ []) e = absurd (omega arith)
 head_numbers_lem (a ∷ b ∷ c ∷ d ∷ f ∷ g ∷ h ∷ []) e = refl
 head_numbers_lem (a ∷ b ∷ c ∷ d ∷ f ∷ g ∷ h ∷ i ∷ l) e = absurd (omega arith)
-
--- row i stands within the table
-pub row_within : (w n i : ℕ) → 1 ≤ w → i < n / w → i * w + w ≤ n
-row_within w n i h k =
-    let m : suc i * w ≤ n = (le-div_iff_mul-le {k = w} {x = suc i} {y = n} h).0 k in
-    rw suc-mul at m
-
--- how many rows a head counts, as far as the table has them
-module _ {z : ℤ} (f : SFits w64 z) (most : ℕ) where
-  pub none_counted : lt_z (to_z w64 (of_z w64 z)) (pos 0) ≡ true → 0 ≡ clamp_len z most
-  none_counted e = told z (rw (to_z-of_z f) at e)
-    where
-      told : (z : ℤ) → lt_z z (pos 0) ≡ true → 0 ≡ clamp_len z most
-      told (pos k) e = absurd (omega (arith, ltb-true k 0 e))
-      told (negsuc k) e = refl
-
-  pub some_counted : lt_z (to_z w64 (of_z w64 z)) (pos 0) ≡ false → clamp_len z most
-      ≡ min (nat_abs (to_z w64 (of_z w64 z))) most
-  some_counted e = rw (to_z-of_z f) (told z (rw (to_z-of_z f) at e))
-    where
-      told : (z : ℤ) → lt_z z (pos 0) ≡ false → clamp_len z most ≡ min (nat_abs z) most
-      told (pos k) e = refl
-      told (negsuc k) e = absurd (true≢false e)

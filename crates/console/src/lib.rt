@@ -7,21 +7,20 @@ ghost use Rattle.tables.specs.Tables.{row_at};
 ghost use Rattle.curves.specs.Curves.{max_points};
 ghost use Rattle.head.specs.Heads.{head_in};
 ghost use Rattle.map.specs.Limits.{edge_width};
-ghost use Rattle.map.specs.Loans.{lent_now};
+ghost use Rattle.map.specs.Rows.{lent};
 ghost use Rattle.map.specs.Ticket.{emptied};
-ghost use Rattle.outcomes.specs.Outcomes.{outcome_now};
+ghost use Rattle.outcomes.specs.Outcomes.{outcome};
 ghost use Rattle.console.specs.Lines.{parsed_count, line_answered, desk_of, kept_bytes, served, finished};
 ghost use Rattle.console.specs.Lines.{Bytes, DeskServed, InputServed, ProgramServed};
 ghost use Rattle.console.specs.Texts.{answer_text, tagged_text, head_numbers, clamp_len, TextPut};
 
 mod channel;
 
+pub use channel::Streams;
 use map::{Answer, Head};
 use outcomes::Done;
 use std::io::{Read, Write};
 use text::Parsed;
-
-pub use channel::Streams;
 
 // The bytes of a line that are kept: one more than a line may have.
 const KEPT: usize = text::LINE + 1;
@@ -66,8 +65,8 @@ pub fn answer_line(
     h: Head,
     line: &[u8],
 ) -> Done
-    ensures { outcome_now nodes.exit edges.exit faces.exit result
-        ≡ line_answered (lent_now nodes.entry edges.entry faces.entry h) line.now }
+    ensures { outcome nodes.new edges.new faces.new result
+        ≡ line_answered (lent nodes.old edges.old faces.old h) line.now }
 {
     let mut list = [0i64; text::NUMBERS];
     let n = count_of(text::parse(line, &mut list));
@@ -221,8 +220,8 @@ fn serve_line<R: Read, W: Write>(
     line: &[u8],
     rows: bool,
 ) -> Head
-    ensures { lent_now nodes.exit edges.exit faces.exit result
-        ≡ (line_answered (lent_now nodes.entry edges.entry faces.entry h) line.now
+    ensures { lent nodes.new edges.new faces.new result
+        ≡ (line_answered (lent nodes.old edges.old faces.old h) line.now
         ).lent }
 {
     let done = answer_line(nodes, edges, faces, h, line);
@@ -243,9 +242,9 @@ fn serve_byte<R: Read, W: Write>(
     rows: bool,
 ) -> State
     requires { (length line.old ≡ kept_bytes) × (state.length ≤ kept_bytes) }
-    ensures { (desk_of (lent_now nodes.exit edges.exit faces.exit result.head)
+    ensures { (desk_of (lent nodes.new edges.new faces.new result.head)
         line.new result.length
-        ≡ served (desk_of (lent_now nodes.entry edges.entry faces.entry state.head)
+        ≡ served (desk_of (lent nodes.old edges.old faces.old state.head)
         line.old state.length) b)
         × (result.length ≤ kept_bytes) }
 {
@@ -280,9 +279,9 @@ fn serve_bytes<R: Read, W: Write>(
     rows: bool,
 ) -> State
     requires { (length line.old ≡ kept_bytes) × (state.length ≤ kept_bytes) }
-    ensures { (desk_of (lent_now nodes.exit edges.exit faces.exit result.head)
+    ensures { (desk_of (lent nodes.new edges.new faces.new result.head)
         line.new result.length
-        ≡ fold served (desk_of (lent_now nodes.entry edges.entry faces.entry state.head)
+        ≡ fold served (desk_of (lent nodes.old edges.old faces.old state.head)
         line.old state.length) bytes.now)
         × (result.length ≤ kept_bytes) × Bytes bytes.now }
 {
@@ -304,8 +303,8 @@ fn serve_input<R: Read, W: Write>(
     rows: bool,
 ) -> State
     requires { length line.old ≡ kept_bytes }
-    ensures { DeskServed (desk_of (lent_now nodes.entry edges.entry faces.entry h) line.old 0)
-        (desk_of (lent_now nodes.exit edges.exit faces.exit result.head) line.new result.length)
+    ensures { DeskServed (desk_of (lent nodes.old edges.old faces.old h) line.old 0)
+        (desk_of (lent nodes.new edges.new faces.new result.head) line.new result.length)
         × (result.length ≤ kept_bytes) }
 {
     let mut buf = [0u8; channel::INPUT];
@@ -331,8 +330,8 @@ fn serve_rest<R: Read, W: Write>(
     rows: bool,
 ) -> Head
     requires { state.length ≤ length line.now }
-    ensures { lent_now nodes.exit edges.exit faces.exit result
-        ≡ finished (desk_of (lent_now nodes.entry edges.entry faces.entry state.head)
+    ensures { lent nodes.new edges.new faces.new result
+        ≡ finished (desk_of (lent nodes.old edges.old faces.old state.head)
         line.now state.length) }
 {
     let n = state.length;
@@ -354,8 +353,8 @@ pub fn serve_tables<R: Read, W: Write>(
     rows: bool,
 ) -> Head
     ensures { InputServed
-        (emptied (lent_now nodes.entry edges.entry faces.entry h) (pos max_points)).lent
-        (lent_now nodes.exit edges.exit faces.exit result) }
+        (emptied (lent nodes.old edges.old faces.old h) (pos max_points)).lent
+        (lent nodes.new edges.new faces.new result) }
 {
     let mut line = [0u8; KEPT];
     let empty = engine::empty_map(nodes, edges, faces, h, head::TWELVE_POINTS);

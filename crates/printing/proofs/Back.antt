@@ -4,7 +4,7 @@ use mathlib.Core.Logic.{inl, inr}
 use mathlib.Core.Bool.{Bool, true, false, cond, true≢false}
 use mathlib.Core.List.{List, [], ◌∷◌, ◌++◌}
 use mathlib.Core.Option.{some}
-use Prim.Native.Nat.{ℕ, zero, suc, ◌+◌, ◌-◌, ◌*◌, ◌/◌, ◌%◌, ◌^◌, ◌≤◌, ◌<◌}
+use Prim.Native.Nat.{ℕ, zero, suc, ◌+◌, ◌*◌, ◌/◌, ◌%◌, ◌^◌, ◌≤◌, ◌<◌}
 use native.Mathlib.Nat.{pow-suc}
 use native.Mathlib.Omega.{arith}
 use lib.Dec.{ltb, leb}
@@ -60,13 +60,18 @@ first_digit n (d ∷ ds) s =
       | inr e ↦ absurd (true≢false (sym s.digits ∙ rw e))
     ]
 
+-- 20 digits hold it
+spelled_natural : (n : ℕ) → n < 10 ^ 20 → Spells n (natural_text n)
+unfolding natural_text
+spelled_natural n h = spelled 19 n h
+
 pub printed_back : (z : ℤ) → SFits w64 z → word_number (number_text z) ≡ some z
 printed_back (pos n) f =
     let fits : n < 2 ^ 63 = f.sfits in
-    let s = spelled 19 n (omega arith) in
+    let s = spelled_natural n (omega arith) in
     let first = first_digit n (natural_text n) s in
     number_plain (natural_text n) s.some_digit (λ e. omega arith) (λ e. omega arith)
     ∙ read_back false n (natural_text n) s (omega arith)
 printed_back (negsuc k) f =
     let fits : k < 2 ^ 63 = f.sfits in
-    rw (same_refl 45) (read_back true (suc k) (natural_text (suc k)) (spelled 19 (suc k) (omega arith)) (omega arith))
+    rw (same_refl 45) (read_back true (suc k) (natural_text (suc k)) (spelled_natural (suc k) (omega arith)) (omega arith))

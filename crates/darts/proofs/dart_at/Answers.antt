@@ -21,25 +21,25 @@ abbrev After-e-1 : Type 0
 After-e-1 = lts.After-e reads.Pre reads.Post
 
 -- the number as it is read
-read : (c : After-e-1 reads.Pre reads.Post)
-    → to_z w64 (of_z w64 (get_or c.before.args.edges.now (c.before.args.p / 2 * 32) (pos 0)))
-    ≡ pos (edge_at c.before.args.edges.now (c.before.args.p / 2)).number
-read c = to_z-of_z {w = w64} (sfits_of c.e.given)
-    ∙ (edge_cells_lem c.before.args.edges.now (c.before.args.p / 2) c.before.requires.ranges).number
+read : (c : After-e-1)
+    → to_z w64 (of_z w64 (get_or c.args.edges.now (c.args.p / 2 * 32) (pos 0)))
+    ≡ pos (edge_at c.args.edges.now (c.args.p / 2)).number
+read c = to_z-of_z {w = w64} (sfits_of c.e-1.given)
+    ∙ (edge_cells_lem c.args.edges.now (c.args.p / 2) c.requires.ranges).number
 
 pub overflow_sub-result : goal.overflow_sub-result
 overflow_sub-result c =
-    let b = c in
+    let b = c.before in
     let z = get_or b.args.edges.now (b.args.p / 2 * 32) (pos 0) in
     minus_fits (to_z w64 (of_z w64 z)) (edge_at b.args.edges.now (b.args.p / 2)).number (read b)
     (rw (to_z-of_z {w = w64} {z = z} (sfits_of b.e-1.given)) (sfits_of b.e-1.given))
 
 pub returns-then-p-eq0 : goal.returns-then-p-eq0
-returns-then-p-eq0 c = rw (even_of c.args.p c.if-p-eq0.true).test (read c)
+returns-then-p-eq0 c = rw (even_of c.args.p c.if-p-eq0.true).test (read c.before)
 
 pub returns-else-p-eq0 : goal.returns-else-p-eq0
 returns-else-p-eq0 c = rw (
   to_z-of_z (overflow_sub-result c),
   (odd_of c.args.p (let h = c.if-p-eq0.false in omega arith)).test,
   negative_is,
-) (ap neg_ℤ (read c))
+) (ap neg_ℤ (read c.before))

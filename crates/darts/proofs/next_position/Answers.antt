@@ -60,3 +60,6 @@ follows c =
 
 pub overflow_cast-result : goal.overflow_cast-result
 overflow_cast-result c = omega (arith, (follows c).0, c.requires.1)
+
+pub returns : goal.returns
+returns c = follows c

@@ -42,7 +42,7 @@ returns-in_default c =
     let s = b in
     let e = to_z-of_z {w = w64} s.ranges.d in
     sym (negative_missing s.requires s.args.d _ (subst (λ (z : ℤ). lt_z z (pos 0) ≡ true) e b.if-d-lt0.true)
-    (to_z-of_z (sub-find-row b) ∙ ap (λ (z : ℤ). pos 0 -ℤ z) e)
+    (to_z-of_z (overflow_sub-d c.before.before) ∙ ap (λ (z : ℤ). pos 0 -ℤ z) e)
     (sym b.find_row-found.ensures ∙ c.in_default.is))
 
 -- the row of an edge whose reverse is looked for
@@ -57,7 +57,7 @@ back c =
     let e = to_z-of_z {w = w64} s.ranges.d in
     negative_found s.requires s.args.d _ c.in-At.i
     (subst (λ (z : ℤ). lt_z z (pos 0) ≡ true) e b.if-d-lt0.true)
-    (to_z-of_z (sub-find-row b) ∙ ap (λ (z : ℤ). pos 0 -ℤ z) e)
+    (to_z-of_z (overflow_sub-d c.before.before) ∙ ap (λ (z : ℤ). pos 0 -ℤ z) e)
     (sym b.find_row-found.ensures ∙ c.in-At.is)
 
 pub overflow_mul-result : goal.overflow_mul-result

@@ -59,7 +59,7 @@ tested : (c : After-within) {b : Bool} → c.edge_naturals.result && c.within.re
 tested c h =
     let s = c in
     let z = cell s.args.row.now 7 in
-    let read : to_z w64 (of_z w64 z) ≡ z = to_z-of_z (sfits_of c.z-1.given) in
+    let read : to_z w64 (of_z w64 z) ≡ z = to_z-of_z {w = w64} {z = z} (sfits_of c.z-1.given) in
     sym (ap₂ ◌&&◌ c.edge_naturals.ensures (c.within.ensures
     ∙ ap₂ (λ (x y : ℤ). le_z (pos 2) x && le_z x y) read
     (to_z-of_z {w = w64} s.ranges.points ∙ sym (record_back s.args.points s.requires.1)))) ∙ h

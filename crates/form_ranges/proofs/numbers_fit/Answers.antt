@@ -125,8 +125,8 @@ pub numbers_rise-requires-3 : goal.numbers_rise-requires-3
 numbers_rise-requires-3 c = let s =
     c in (
       lit≤ tt,
-      s.pre.counted.faces_fit,
-      face_naturals s.args.faces.now s.args.c.faces (ranged_rows_lem s.pre).2,
+      s.requires.counted.faces_fit,
+      face_naturals s.args.faces.now s.args.c.faces (ranged_rows_lem s.requires).2,
     )
 
 pub returns : goal.returns

@@ -54,14 +54,14 @@ pub returns-then-not-best : goal.returns-then-not-best
 returns-then-not-best c =
     let b = c in
     ap pos (rest _ _ _ b.args.p b.loop-i.best none c.loop-i-test.false
-    (rw (c.if-not-best.true)) b.loop-i.invariant.2)
+    (rw (not-true _ c.if-not-best.true)) b.loop-i.invariant.2)
 
 pub returns : goal.returns
 returns c =
     let b = c in
     to_z_pos w64 b.loop-i.invariant.1.upper
     ∙ ap pos (rest _ _ _ b.args.p b.loop-i.best (some (floor b.loop-i.best))
-    c.loop-i-test.false (rw (c.if-not-best.false))
+    c.loop-i-test.false (rw (not-false _ c.if-not-best.false))
     b.loop-i.invariant.2)
 
 pub floor_over-best-requires : goal.floor_over-best-requires

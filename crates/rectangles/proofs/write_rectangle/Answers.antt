@@ -19,6 +19,7 @@ use Rattle.tables.proofs.Order.{word_is}
 use Rattle.rectangles.specs.Boxes.{set_row}
 use Rattle.rectangles.proofs.FaceRows.{set_hit, set_miss, set-length}
 use Rattle.rectangles.proofs.write_rectangle.Goals as goal
+use Rattle.rectangles.proofs.write_rectangle.Goals.{then-faces-k, else-faces-k}
 
 pub loop-k-init : goal.loop-k-init
 loop-k-init c = (omega arith, refl, rw sub-zero)
@@ -43,10 +44,11 @@ loop-k-preserved c =
     let fits-z : SFits w64 z = sfits_of c.t10-1.given in
     let read : face ≡ a.face = to_z-of_z s.ranges.face in
     let turn : set_row face a.e l.faces l.k ≡ c.if-faces-k.faces =
-    ⊎_elim (λ w. set_hit face a.e l.faces l.k (word_is fits-z s.ranges.face w.0.taken ∙ sym read)
-    ∙ sym w.2.ensures ∙ sym w.4)
-    (λ w. set_miss face a.e l.faces l.k (λ e. w.0.left (ap (of_z w64) (e ∙ read))) ∙ sym w.1)
-    c.if-faces-k.branch in (
+    elim c.if-faces-k.branch [
+      then-faces-k w ↦ set_hit face a.e l.faces l.k (word_is fits-z s.ranges.face w.if-faces-k.true ∙ sym read)
+          ∙ sym w.write_box.ensures ∙ sym w.faces-is
+    | else-faces-k w ↦ set_miss face a.e l.faces l.k (λ e. w.if-faces-k.false (ap (of_z w64) (e ∙ read))) ∙ sym w.faces-is
+    ] in (
       omega arith,
       ap length (sym turn) ∙ set-length face a.e l.faces l.k
           (omega (arith, room c.before.before, l.invariant.1, s.requires.0)) ∙ l.invariant.1,

@@ -1,0 +1,168 @@
+-- `links::way_taken` meets its contract. Assumes nothing.
+use mathlib.Core.Path.{◌≡◌, sym, ◌∙◌, subst}
+use mathlib.Core.Logic.{⊎_elim}
+use mathlib.Core.Bool.{Bool}
+use Prim.Native.Nat.{ℕ, ◌+◌, ◌*◌, ◌-◌, ◌/◌, ◌≤◌}
+use native.Mathlib.Omega.{arith}
+use mir.Syntax.{w64}
+use mir.Val.{to_z, of_z}
+use mir.Facts.{to_z-of_z}
+use native.Mathlib.Nat.{sub-zero}
+use borrow.Author.Rules.{sfits_of}
+use Rattle.lists.proofs.Scans.{any_hit, any_miss, any_end}
+use Rattle.map_rows.proofs.Rows.{edge-row_of}
+use Rattle.lists.specs.Tests.{same}
+use Rattle.lists.specs.Scans.{any_of}
+use Rattle.lists.specs.Tables.{table}
+use Rattle.plane.specs.Directions.{way_to}
+use Rattle.links.specs.Linking.{positions}
+use Rattle.links.proofs.ByRows.{taken, near_start, near_end, taken_none, taken_here, taken_past}
+use Rattle.links.proofs.way_taken.Invariants.{any_from}
+use Rattle.links.proofs.way_taken.Goals as goal
+
+pub loop-i-init : goal.loop-i-init
+loop-i-init c = (omega arith, rw sub-zero)
+
+pub overflow_mul-i : goal.overflow_mul-i
+overflow_mul-i c = omega (arith, c.requires.0.fits)
+
+pub overflow_add-i : goal.overflow_add-i
+overflow_add-i c = omega (arith, c.requires.0.fits)
+
+pub offset_bounds-edges-i : goal.offset_bounds-edges-i
+offset_bounds-edges-i c = omega (arith, c.requires.0.fits)
+
+pub bounds-edges-i : goal.bounds-edges-i
+bounds-edges-i c = omega (arith, c.requires.0.fits)
+
+pub overflow_mul-i-then-edges-i : goal.overflow_mul-i-then-edges-i
+overflow_mul-i-then-edges-i c = omega (arith, c.requires.0.fits)
+
+pub step_at-requires : goal.step_at-requires
+step_at-requires c =
+    let l = c in
+    let t = l.loop-i-test.true in
+    edge-row_of l.requires.0 (l.loop-i.i * 2 / 2) (omega arith)
+
+pub same_way-requires : goal.same_way-requires
+same_way-requires c =
+    let s = c in
+    ((c.step_at.ensures.from, c.step_at.ensures.to), s.requires.1)
+
+pub returns-then-same_way : goal.returns-then-same_way
+unfolding same
+returns-then-same_way c =
+    let b = c in
+    let l = b.loop-i in
+    let s = b in
+    let a = s.args in
+    let node = to_z w64 (of_z w64 a.node) in
+    let v = way_to a.v.from a.v.to in
+    let t = b.loop-i-test.true in
+    let near = near_start a.edges.now a.own l.i s.ranges.node (sfits_of b.t12-1.given) in
+    rw (to_z-of_z {w = w64} s.ranges.node) at
+    (sym (any_hit (λ q. q) (l.i * 2) (a.count * 2) (taken a.edges.now node a.own v) (omega arith)
+    (taken_here a.edges.now node a.own v (l.i * 2) near c.same_way.ensures
+    c.step_at.ensures.way c.if-edges-i.true c.if-same_way.true)) ∙ l.invariant.1)
+
+-- the edge of row i passed
+halfway : (c : goal.Joined-edges-i)
+    → (let a = c.args in let f =
+    taken a.edges.now (to_z w64 (of_z w64 a.node)) a.own (way_to a.v.from a.v.to) in
+    any_from f (c.loop-i.i * 2 + 1) (a.count * 2) ≡ any_of f (positions a.count))
+unfolding same
+halfway c =
+    let b = c in
+    let l = b.loop-i in
+    let s = b in
+    let a = s.args in
+    let node = to_z w64 (of_z w64 a.node) in
+    let v = way_to a.v.from a.v.to in
+    let t = b.loop-i-test.true in
+    let near = near_start a.edges.now a.own l.i s.ranges.node (sfits_of b.t12-1.given) in
+    sym (any_miss (λ q. q) (l.i * 2) (a.count * 2) (taken a.edges.now node a.own v) (omega arith)
+    (⊎_elim (λ k. taken_past a.edges.now node a.own v (l.i * 2) near k.2.ensures k.1.ensures.way
+    k.3.left) (λ k. taken_none a.edges.now node a.own v (l.i * 2) near k.left) c.if-edges-i.branch))
+    ∙ l.invariant.1
+
+pub overflow_mul-i-in-loop-i : goal.overflow_mul-i-in-loop-i
+overflow_mul-i-in-loop-i c = omega (arith, c.requires.0.fits)
+
+pub overflow_add-i-in-loop-i : goal.overflow_add-i-in-loop-i
+overflow_add-i-in-loop-i c = omega (arith, c.requires.0.fits)
+
+pub offset_bounds-edges-i-in-loop-i : goal.offset_bounds-edges-i-in-loop-i
+offset_bounds-edges-i-in-loop-i c = omega (arith, c.requires.0.fits)
+
+pub bounds-edges-i-in-loop-i : goal.bounds-edges-i-in-loop-i
+bounds-edges-i-in-loop-i c = omega (arith, c.requires.0.fits)
+
+pub overflow_mul-i-then-edges-i-2 : goal.overflow_mul-i-then-edges-i-2
+overflow_mul-i-then-edges-i-2 c = omega (arith, c.requires.0.fits)
+
+pub overflow_add-i-then-edges-i-2 : goal.overflow_add-i-then-edges-i-2
+overflow_add-i-then-edges-i-2 c = omega (arith, c.requires.0.fits)
+
+pub step_at-requires-then-edges-i-2 : goal.step_at-requires-then-edges-i-2
+step_at-requires-then-edges-i-2 c =
+    let l = c in
+    let t = l.loop-i-test.true in
+    edge-row_of l.requires.0 ((l.loop-i.i * 2 + 1) / 2) (omega arith)
+
+pub same_way-requires-then-edges-i-2 : goal.same_way-requires-then-edges-i-2
+same_way-requires-then-edges-i-2 c =
+    let s = c in
+    ((c.step_at-then-edges-i-2.ensures.from, c.step_at-then-edges-i-2.ensures.to), s.requires.1)
+
+pub returns-then-same_way-2 : goal.returns-then-same_way-2
+unfolding same
+returns-then-same_way-2 c =
+    let d = c in
+    let j = c.before.before.before.before.before in
+    let l = j.loop-i in
+    let s = j in
+    let a = s.args in
+    let node = to_z w64 (of_z w64 a.node) in
+    let v = way_to a.v.from a.v.to in
+    let t = j.loop-i-test.true in
+    let near = near_end a.edges.now a.own l.i s.ranges.node (sfits_of d.t12-in-loop-i-1.given) in
+    rw (to_z-of_z {w = w64} s.ranges.node) at
+    (sym (any_hit (λ q. q) (l.i * 2 + 1) (a.count * 2) (taken a.edges.now node a.own v) (omega arith)
+    (taken_here a.edges.now node a.own v (l.i * 2 + 1) near c.same_way-then-edges-i-2.ensures
+    c.step_at-then-edges-i-2.ensures.way c.if-edges-i-2.true c.if-same_way-2.true)) ∙ halfway j)
+
+pub overflow_step-i : goal.overflow_step-i
+overflow_step-i c = omega (arith, c.requires.0.fits)
+
+pub loop-i-preserved : goal.loop-i-preserved
+unfolding same
+loop-i-preserved c =
+    let d = c in
+    let j = c.before.before in
+    let l = j.loop-i in
+    let s = j in
+    let a = s.args in
+    let node = to_z w64 (of_z w64 a.node) in
+    let v = way_to a.v.from a.v.to in
+    let f = taken a.edges.now node a.own v in
+    let t = j.loop-i-test.true in
+    let near = near_end a.edges.now a.own l.i s.ranges.node (sfits_of d.t12-in-loop-i-1.given) in
+    let e : l.i * 2 + 1 + 1 ≡ (l.i + 1) * 2 = omega arith in (
+      omega arith,
+      subst (λ (p : ℕ). any_from f p (a.count * 2) ≡ any_of f (positions a.count)) e
+          (sym (any_miss (λ q. q) (l.i * 2 + 1) (a.count * 2) f (omega arith)
+          (⊎_elim (λ k. taken_past a.edges.now node a.own v (l.i * 2 + 1) near k.2.ensures
+          k.1.ensures.way k.3.left)
+          (λ k. taken_none a.edges.now node a.own v (l.i * 2 + 1) near k.left) c.if-edges-i-2.branch)) ∙ halfway j),
+    )
+
+pub returns : goal.returns
+returns c =
+    let l = c.loop-i in
+    let s = c in
+    let a = s.args in
+    let t = c.loop-i-test.false in
+    rw (to_z-of_z {w = w64} s.ranges.node) at
+    (sym (any_end (λ q. q) (l.i * 2) (a.count * 2)
+    (taken a.edges.now (to_z w64 (of_z w64 a.node)) a.own (way_to a.v.from a.v.to)) (omega arith))
+    ∙ l.invariant.1)

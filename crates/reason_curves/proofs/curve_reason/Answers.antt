@@ -1,0 +1,31 @@
+-- `reason_curves::curve_reason` meets its contract: each test answers its reason, in order. Assumes nothing.
+use Rattle.map.specs.Reasons.{first_reason}
+use Rattle.reason_curves.proofs.curve_reason.Goals as goal
+
+pub returns-then-not-is_simple : goal.returns-then-not-is_simple
+unfolding first_reason
+returns-then-not-is_simple c = rw (← c.is_simple.ensures, c.if-not-is_simple.true)
+
+pub returns-then-ends_on : goal.returns-then-ends_on
+unfolding first_reason
+returns-then-ends_on c = rw (
+  ← c.is_simple.ensures,
+  c.if-not-is_simple.false,
+  ← c.ends_on.ensures,
+  c.if-ends_on.true,
+)
+
+pub returns-else-ends_on : goal.returns-else-ends_on
+unfolding first_reason
+returns-else-ends_on c = rw (
+  ← c.is_simple.ensures,
+  c.if-not-is_simple.false,
+  ← c.ends_on.ensures,
+  c.if-ends_on.false,
+)
+
+pub is_simple-requires : goal.is_simple-requires
+is_simple-requires c = c.requires.2
+
+pub ends_on-requires : goal.ends_on-requires
+ends_on-requires c = c.requires

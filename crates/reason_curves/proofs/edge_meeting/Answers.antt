@@ -1,0 +1,75 @@
+-- `reason_curves::edge_meeting` meets its contract: the graver of what was found and of what the curve does with the
+-- other edges from row i on is the whole. Assumes nothing.
+use mathlib.Core.Path.{◌≡◌, sym, ap, ap₂, ◌∙◌}
+use mathlib.Core.Bool.{true, false, not}
+use mathlib.Core.Logic.{⊎_elim}
+use mathlib.Core.List.{List, map}
+use Prim.Native.Nat.{ℕ, ◌+◌, ◌-◌, ◌≤◌, ◌<◌}
+use native.Mathlib.Nat.{sub-zero}
+use native.Mathlib.Omega.{arith}
+use lib.IntN.{ℤ}
+use Rattle.lists.specs.Tests.{same}
+use Rattle.lists.specs.Scans.{keep}
+use Rattle.lists.specs.Tables.{table}
+use Rattle.lists.proofs.Bools.{same_eq, same_false}
+use Rattle.lists.proofs.Scans.{table_step, table-end}
+use Rattle.plane.specs.declared.Contact.{Contact}
+use Rattle.curves.specs.Curves.{Curve, curve_of}
+use Rattle.curves.specs.Tests.{graver, meeting}
+use Rattle.curves.proofs.Meetings.{graver_none, graver_assoc}
+use Rattle.map.specs.Reasons.{edge_meeting}
+use Rattle.map_rows.specs.Rows.{edge_at}
+use Rattle.map_rows.proofs.Rows.{edge-row_of}
+use Rattle.reason_curves.specs.Sent.{edges_but}
+use Rattle.reason_curves.proofs.edge_meeting.Goals as goal
+
+module _ (l : List ℤ) (n own : ℕ) (c : Curve) where
+  -- the gravest that the curve does with another edge from row i on
+  abbrev from : ℕ → Contact
+  from i = edge_meeting (map (edge_at l) (keep (λ j. not (same j own)) (table (λ j. j) i (n - i)))) c
+
+  another : (i : ℕ) (found : Contact) → i < n → not (same i own) ≡ true
+      → graver (graver found (meeting c (edge_at l i).curve)) (from (i + 1)) ≡ graver found (from i)
+  unfolding edge_meeting
+  another i found t e =
+      graver_assoc found (meeting c (edge_at l i).curve) (from (i + 1))
+      ∙ rw (table_step (λ (j : ℕ). j) i n t, e)
+
+  own_row : (i : ℕ) → i < n → not (same i own) ≡ false → from (i + 1) ≡ from i
+  own_row i t e = rw (table_step (λ (j : ℕ). j) i n t, e)
+
+  over : (i : ℕ) (found : Contact) → n ≤ i → graver found (from i) ≡ found
+  unfolding edge_meeting
+  over i found t = rw (table-end (λ (j : ℕ). j) i n t) (graver_none found)
+
+pub loop-i-init : goal.loop-i-init
+loop-i-init c = (omega arith, rw sub-zero)
+
+pub loop-i-preserved : goal.loop-i-preserved
+loop-i-preserved c =
+    let b = c in
+    let a = b.args in
+    let l = a.edges.now in
+    let d = curve_of a.c.now in
+    let t = c.loop-i-test.true in (
+      omega arith,
+      ⊎_elim
+          (λ k. ap (λ (x : Contact). graver x (from l a.count a.own d (b.loop-i.i + 1))) (k.2 ∙ k.1.ensures)
+          ∙ another l a.count a.own d b.loop-i.i b.loop-i.found t (ap not (same_false _ _ k.0.taken)))
+          (λ k. ap₂ graver k.1 (own_row l a.count a.own d b.loop-i.i t (ap not (same_eq _ _ k.0.left))))
+          c.if-i-own.branch
+          ∙ b.loop-i.invariant.1,
+    )
+
+pub returns : goal.returns
+returns c =
+    let a = c.args in
+    sym (over a.edges.now a.count a.own (curve_of a.c.now) c.loop-i.i _ c.loop-i-test.false)
+    ∙ c.loop-i.invariant.1
+
+pub extent_of-e-requires : goal.extent_of-e-requires
+extent_of-e-requires c = c.requires.1
+
+pub row_meeting-found-requires : goal.row_meeting-found-requires
+row_meeting-found-requires c = let s = c in
+    (edge-row_of s.requires.0 _ c.loop-i-test.true, s.requires.1, s.extent_of-e.ensures)
