@@ -22,10 +22,11 @@
      it may be NULL, and the value is dropped.
    Threads. There is no state between calls, so any number of maps may be worked on at once. One map is for one thread
      at a time; solgwid_edges_of_face and solgwid_contents only read, so several threads may list one map together.
-   Stack. A call takes up to 68 KB; solgwid_empty_map takes under 1 KB. Where many edge ends leave one node into one
-     quadrant, each of them takes 112 bytes more: 181 KB for 999 of them, and 517 KB for 4,000, the most that tables
-     can hold. solgwid_contents takes 356 KB whatever it is lent, and more where very many lines follow one another: 537
-     KB for 1,000 wells, 777 KB for 999 plots one in the other. 1 MB is enough for any call.
+   Stack, as measured with an older kit. A call takes up to 68 KB; solgwid_empty_map takes under 1 KB. Where many edge
+     ends leave one node into one quadrant, each of them takes 112 bytes more: 181 KB for 999 of them, and 517 KB for
+     4,000, the most that tables can hold. solgwid_contents takes 356 KB whatever it is lent, and more where very many
+     lines follow one another: 537 KB for 1,000 wells, 777 KB for 999 plots one in the other. 1 MB is enough for any
+     call.
    Memory. Things lent in one call must not overlap, and each is aligned as its type asks.
    Version. SOLGWID_VERSION is the number of a landing (docs/LANDINGS.md). It rises with each landing that changes what
      a call takes or does. */

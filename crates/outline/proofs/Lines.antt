@@ -7,7 +7,7 @@ use native.Mathlib.Omega.{arith}
 use lib.IntN.{ℤ, pos}
 use lib.ListN.{length, replicate, length-append, length-replicate}
 use lib.Seq.{sets, length-sets}
-use Rattle.io.specs.Counts.{clamp_len}
+use Rattle.console.specs.Texts.{clamp_len}
 use Rattle.lists.proofs.Appends.{sets_append}
 use Rattle.tables.specs.Tables.{same_z}
 use Rattle.printing.specs.Texts.{row_text}

@@ -36,7 +36,7 @@ abbrev start : In-loop-i
 start b = b.before.before.before.before.before
 
 abbrev row : In-loop-i → ℕ
-row b = b.before.loop.i
+row b = b.before.loop-i.i
 
 abbrev next : In-loop-i → ℕ → ℕ
 next b p = get_or (start b).args.nexts.now p 0
@@ -52,11 +52,11 @@ below-marks b p h = omega (arith, (start b).requires.4 p h, (start b).requires.0
 
 below-first : (b : In-loop-i)
     → next b (row b * 2) < 4000
-below-first b = below-marks b (row b * 2) (omega (arith, b.loop-test.true))
+below-first b = below-marks b (row b * 2) (omega (arith, b.loop-i-test.true))
 
 below-second : (b : In-loop-i)
     → next b (row b * 2 + 1) < 4000
-below-second b = below-marks b (row b * 2 + 1) (omega (arith, b.loop-test.true))
+below-second b = below-marks b (row b * 2 + 1) (omega (arith, b.loop-i-test.true))
 
 -- the marks after the first position of a row
 first : (c : Else-marks-q)
@@ -99,8 +99,8 @@ link_fits-requires-in-loop-i c =
     let b = c.before.before.before.before.before in
     let s = start b in
     let h = b.loop-i-test.true in
-    let q = s.pre.4 (row b * 2 + 1) (omega arith) in
-    (omega (arith, s.pre.1), omega (arith, s.pre.1), omega (arith, s.pre.3), omega (arith, s.pre.3))
+    let q = s.requires.4 (row b * 2 + 1) (omega arith) in
+    (omega (arith, s.requires.1), omega (arith, s.requires.1), omega (arith, s.requires.3), omega (arith, s.requires.3))
 
 pub returns-then-marks-s : goal.returns-then-marks-s
 returns-then-marks-s c =

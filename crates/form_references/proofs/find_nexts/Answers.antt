@@ -33,20 +33,20 @@ loop-i-init c =
 
 -- where one of the sides of row i is missing, not all exist
 missed : (g : In-loop-i) →
-    let l = g.before.loop in
-    let a = g.before.before.before.before.args in
+    let l = g.loop-i in
+    let a = g.args in
     both_sides (has_link a.edges.now a.count) a.edges.now 3 l.i ≡ false
     → false ≡ all_sides (has_link a.edges.now a.count) a.edges.now 3 a.count
 missed g e =
-    let a = g.before.before.before.before.args in
-    sym (all_miss (λ i. i) g.before.loop.i a.count
-    (both_sides (has_link a.edges.now a.count) a.edges.now 3) g.loop-test.true e)
-    ∙ g.before.loop.invariant.2
+    let a = g.args in
+    sym (all_miss (λ i. i) g.loop-i.i a.count
+    (both_sides (has_link a.edges.now a.count) a.edges.now 3) g.loop-i-test.true e)
+    ∙ g.loop-i.invariant.2
 
 pub returns-then-not-find_next_of : goal.returns-then-not-find_next_of
 returns-then-not-find_next_of c =
     let f = c in (
-      missed c.before.before.before.before.before (rw
+      missed c.before.before.before.before.before.before (rw
           (sym f.find_next_of.ensures.0 ∙ c.if-not-find_next_of.true)),
       f.find_next_of.ensures.1 ∙ f.loop-i.invariant.1,
       (λ e. absurd (false≢true e)),
@@ -58,7 +58,7 @@ returns-then-not-find_next_of-2 c =
     let f = e in
     let u = e.if-not-find_next_of.false in
     let v = c.if-not-find_next_of-2.true in (
-      missed c.before.before.before.before.before.before.before.before.before.before (rw (sym f.find_next_of.ensures.0 ∙ u, sym e.find_next_of-in-loop-i.ensures.0 ∙ v)),
+      missed c.before.before.before.before.before.before.before.before.before.before.before (rw (sym f.find_next_of.ensures.0 ∙ u, sym e.find_next_of-in-loop-i.ensures.0 ∙ v)),
       e.find_next_of-in-loop-i.ensures.1 ∙ f.find_next_of.ensures.1 ∙ f.loop-i.invariant.1,
       (λ e. absurd (false≢true e)),
     )

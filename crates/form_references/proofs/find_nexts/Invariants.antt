@@ -20,7 +20,7 @@ use Rattle.form_references.proofs.find_nexts.Given as goal
 abbrev pub invariant-loop-i : goal.invariant-loop-i
 invariant-loop-i l =
     (l.i ≤ l.count) × (length l.nexts ≡ length l.initial.nexts)
-    × (all_of (both_sides (has_link l.edges l.count) l.edges 3) (table (λ l.i. l.i) l.i (l.count - l.i))
+    × (all_of (both_sides (has_link l.edges l.count) l.edges 3) (table (λ i. i) l.i (l.count - l.i))
     ≡ all_sides (has_link l.edges l.count) l.edges 3 l.count)
     × NextsNamed l.edges l.count l.nexts (l.i * 2)
 

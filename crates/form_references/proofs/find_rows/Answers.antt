@@ -34,20 +34,20 @@ loop-i-init c =
 
 -- where one of the sides of row i is missing, not all exist
 missed : (g : In-loop-i) →
-    let l = g.before.loop in
-    let a = g.before.before.before.before.args in
+    let l = g.loop-i in
+    let a = g.args in
     both_sides (has_row a.w a.t.now a.n) a.edges.now a.k l.i ≡ false
     → false ≡ all_sides (has_row a.w a.t.now a.n) a.edges.now a.k a.count
 missed g e =
-    let a = g.before.before.before.before.args in
-    sym (all_miss (λ i. i) g.before.loop.i a.count
-    (both_sides (has_row a.w a.t.now a.n) a.edges.now a.k) g.loop-test.true e)
-    ∙ g.before.loop.invariant.2
+    let a = g.args in
+    sym (all_miss (λ i. i) g.loop-i.i a.count
+    (both_sides (has_row a.w a.t.now a.n) a.edges.now a.k) g.loop-i-test.true e)
+    ∙ g.loop-i.invariant.2
 
 pub returns-then-not-find_row_of : goal.returns-then-not-find_row_of
 returns-then-not-find_row_of c =
     let f = c in (
-      missed c.before.before.before.before.before (rw
+      missed c.before.before.before.before.before.before (rw
           (sym f.find_row_of.ensures.0 ∙ c.if-not-find_row_of.true)),
       f.find_row_of.ensures.1 ∙ f.loop-i.invariant.1,
       (λ e. absurd (false≢true e)),
@@ -72,7 +72,7 @@ returns-then-not-find_row_of-2 c =
     let f = e in
     let u = e.if-not-find_row_of.false in
     let v = c.if-not-find_row_of-2.true in (
-      missed c.before.before.before.before.before.before.before.before.before.before (rw (sym f.find_row_of.ensures.0 ∙ u, sym e.find_row_of-in-loop-i.ensures.0 ∙ v)),
+      missed c.before.before.before.before.before.before.before.before.before.before.before (rw (sym f.find_row_of.ensures.0 ∙ u, sym e.find_row_of-in-loop-i.ensures.0 ∙ v)),
       e.find_row_of-in-loop-i.ensures.1 ∙ f.find_row_of.ensures.1 ∙ f.loop-i.invariant.1,
       (λ e. absurd (false≢true e)),
     )

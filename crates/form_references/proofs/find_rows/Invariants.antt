@@ -21,7 +21,7 @@ use Rattle.form_references.proofs.find_rows.Given as goal
 abbrev pub invariant-loop-i : goal.invariant-loop-i
 invariant-loop-i l =
     (l.i ≤ l.count) × (length l.rows ≡ length l.initial.rows)
-    × (all_of (both_sides (has_row l.w l.t l.n) l.edges l.k) (table (λ l.i. l.i) l.i (l.count - l.i)) ≡ all_sides (has_row l.w l.t l.n) l.edges l.k l.count)
+    × (all_of (both_sides (has_row l.w l.t l.n) l.edges l.k) (table (λ i. i) l.i (l.count - l.i)) ≡ all_sides (has_row l.w l.t l.n) l.edges l.k l.count)
     × RowsNamed l.w l.t l.n l.edges l.k l.rows (l.i * 2)
 
 abbrev pub decreases-loop-i : goal.decreases-loop-i

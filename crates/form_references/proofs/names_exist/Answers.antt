@@ -74,7 +74,7 @@ find_rows-requires c =
 
 pub returns-then-not-find_rows : goal.returns-then-not-find_rows
 returns-then-not-find_rows c =
-    let k = c.before.before.before.before.before.before in
+    let k = c.before.before.before.before.before.before.before in
     let s = k in
     let d = c.find_rows in
     let f = sym d.ensures.0 ∙ c.if-not-find_rows.true in (
@@ -92,18 +92,18 @@ index_rows-requires-2 c = search rules
 pub find_rows-requires-2 : goal.find_rows-requires-2
 find_rows-requires-2 c =
     let s = c in
-    let p = s.pre.0.1 in (
+    let p = s.requires.0.1 in (
       node_rows_rising (node_rows_lem p),
-      omega (arith, s.pre.1),
+      omega (arith, s.requires.1),
       p.in_ranges.counted.edges_fit,
       lit≤ tt,
       c.index_rows-2.ensures.1,
-      omega (arith, s.pre.2, s.pre.4),
+      omega (arith, s.requires.2, s.requires.4),
     )
 
 pub returns-then-not-find_rows-2 : goal.returns-then-not-find_rows-2
 returns-then-not-find_rows-2 c =
-    let m = c.before.before.before.before.before.before.before.before.before in
+    let m = c.before.before.before.before.before.before.before.before.before.before in
     let k = m.before.before.before.before.before.before in
     let s = k in
     let d = c.find_rows-2 in
@@ -127,15 +127,15 @@ index_rows-requires-3 c =
 pub find_nexts-requires : goal.find_nexts-requires
 find_nexts-requires c =
     let s = c in (
-      edges_in_order s.pre.0.1,
-      s.pre.2,
+      edges_in_order s.requires.0.1,
+      s.requires.2,
       c.index_rows-3.ensures.1,
-      omega (arith, s.pre.2, s.pre.5),
+      omega (arith, s.requires.2, s.requires.5),
     )
 
 pub returns : goal.returns
 returns c =
-    let l = c.before.before.before.before.before.before.before.before in
+    let l = c.before.before.before.before.before.before.before.before.before in
     let m = l.before.before.before.before.before.before.before.before.before in
     let k = m.before.before.before.before.before.before in
     let s = k in

@@ -9,41 +9,49 @@ use Rattle.outline_rows.proofs.+list_faces_list_pieces.Goals as goal
 
 -- ---- list_faces
 
--- the row of the next
+-- the row of the next that is found, below the span
 pub list_faces-overflow_mul-f : goal.list_faces-overflow_mul-f
 list_faces-overflow_mul-f t c =
-    omega (arith, found_row true c.requires c.args.from c.args.led (c.args.p * 2 + 1) (omega arith) c.in-At.f (sym c.in-At.ensures))
+    let a = c.args in
+    omega (arith, found_row true c.requires a.from a.led (a.p * 2 + 1) (omega arith) _ (sym c.in-At.ensures))
 
 pub list_faces-bounds-seen-f : goal.list_faces-bounds-seen-f
 list_faces-bounds-seen-f t c =
-    omega (arith, found_row true c.requires c.args.from c.args.led (c.args.p * 2 + 1) (omega arith) c.in-At.f (sym c.in-At.ensures), c.requires.marks)
+    let a = c.args in
+    omega (arith, found_row true c.requires a.from a.led (a.p * 2 + 1) (omega arith) _ (sym c.in-At.ensures), c.requires.marks)
 
+-- it is listed already, or nothing is left
 pub list_faces-returns-then-left-seen : goal.list_faces-returns-then-left-seen
 list_faces-returns-then-left-seen t c =
-    told_twice true c.requires c.args.from c.args.led (c.args.p * 2 + 1) (omega arith) c.in-At.f (sym c.in-At.ensures)
+    let a = c.args in
+    told_twice true c.requires a.from a.led (a.p * 2 + 1) (omega arith) _ (sym c.in-At.ensures)
     (c.in-At.f * 2) (omega arith) c.if-left-seen.true
 
 pub list_faces-overflow_mul-f-2 : goal.list_faces-overflow_mul-f-2
 list_faces-overflow_mul-f-2 t c =
-    omega (arith, found_row true c.requires c.args.from c.args.led (c.args.p * 2 + 1) (omega arith) c.in-At.f (sym c.in-At.ensures))
+    let a = c.args in
+    omega (arith, found_row true c.requires a.from a.led (a.p * 2 + 1) (omega arith) _ (sym c.in-At.ensures))
 
--- there is a line left for it
+-- it can be noted: some is left
 pub list_faces-note-requires : goal.list_faces-note-requires
 list_faces-note-requires t c =
+    let a = c.args in
     let r = c.requires in
-    let row = found_row true c.requires c.args.from c.args.led (c.args.p * 2 + 1) (omega arith) c.in-At.f (sym c.in-At.ensures) in
-    let some = (stops_not c.args.left (get_or c.args.seen.now (c.in-At.f * 2) 0) c.if-left-seen.false).0 in
+    let row = found_row true c.requires a.from a.led (a.p * 2 + 1) (omega arith) _ (sym c.in-At.ensures) in
+    let some = (stops_not a.left (get_or a.seen.now (c.in-At.f * 2) 0) c.if-left-seen.false).0 in
     (some, r.lines, omega (arith, r.depth), omega (arith, row, r.marks), omega (arith, row))
 
+-- one less is left for the other
 pub list_faces-list_pieces-under-requires : goal.list_faces-list_pieces-under-requires
 list_faces-list_pieces-under-requires t c =
+    let a = c.args in
     let r = c.requires in
     let kept = c.note.auto in
-    let some = (stops_not c.args.left (get_or c.args.seen.now (c.in-At.f * 2) 0) c.if-left-seen.false).0 in (
+    let some = (stops_not a.left (get_or a.seen.now (c.in-At.f * 2) 0) c.if-left-seen.false).0 in (
       omega (arith, c.decreases, some),
       record {
         matrix = r.matrix;
-        row = found_row true c.requires c.args.from c.args.led (c.args.p * 2 + 1) (omega arith) c.in-At.f (sym c.in-At.ensures);
+        row = found_row true c.requires a.from a.led (a.p * 2 + 1) (omega arith) _ (sym c.in-At.ensures);
         under = omega arith;
         depth = omega (arith, r.depth, some);
         lines = omega (arith, r.lines, kept.notes);
@@ -53,20 +61,23 @@ list_faces-list_pieces-under-requires t c =
 
 pub list_faces-returns-in_default-under : goal.list_faces-returns-in_default-under
 list_faces-returns-in_default-under t c =
-    told_twice_under true c.requires c.args.from c.args.led (c.args.p * 2 + 1) (omega arith) c.in-At.f (sym c.in-At.ensures)
+    let a = c.args in
+    told_twice_under true c.requires a.from a.led (a.p * 2 + 1) (omega arith) _ (sym c.in-At.ensures)
     (c.in-At.f * 2) (omega arith) c.if-left-seen.false c.note.ensures c.list_pieces-under.ensures c.in_default-under.is
 
 pub list_faces-overflow_add-f : goal.list_faces-overflow_add-f
 list_faces-overflow_add-f t c =
-    omega (arith, found_row true c.requires c.args.from c.args.led (c.args.p * 2 + 1) (omega arith) c.in-At.f (sym c.in-At.ensures))
+    let a = c.args in
+    omega (arith, found_row true c.requires a.from a.led (a.p * 2 + 1) (omega arith) _ (sym c.in-At.ensures))
 
--- what the other leaves, and the arrays keep their lengths
+-- no more than the other leaves is left for the next turn, and the arrays keep their lengths
 pub list_faces-list_faces-requires : goal.list_faces-list_faces-requires
 list_faces-list_faces-requires t c =
+    let a = c.args in
     let r = c.requires in
     let kept = c.list_pieces-under.auto in
     let noted = c.note.auto in
-    let some = (stops_not c.args.left (get_or c.args.seen.now (c.in-At.f * 2) 0) c.if-left-seen.false).0 in
+    let some = (stops_not a.left (get_or a.seen.now (c.in-At.f * 2) 0) c.if-left-seen.false).0 in
     let fewer = left_at-most c.in-Left.is c.list_pieces-under.ensures.fewer in (
       omega (arith, c.decreases, some, fewer),
       record {
@@ -81,55 +92,66 @@ list_faces-list_faces-requires t c =
 
 pub list_faces-returns : goal.list_faces-returns
 list_faces-returns t c =
-    told_more true c.requires c.args.from c.args.led (c.args.p * 2 + 1) (omega arith) c.in-At.f (sym c.in-At.ensures)
-    (c.in-At.f * 2) (omega arith) c.if-left-seen.false c.note.ensures c.list_pieces-under.ensures c.in-Left.k c.in-Left.is
+    let a = c.args in
+    told_more true c.requires a.from a.led (a.p * 2 + 1) (omega arith) _ (sym c.in-At.ensures)
+    (c.in-At.f * 2) (omega arith) c.if-left-seen.false c.note.ensures c.list_pieces-under.ensures _ c.in-Left.is
     c.list_faces.ensures
 
 -- ---- list_pieces
 
--- the row of the next
+-- the row of the next that is found, below the span
 pub list_pieces-overflow_mul-p : goal.list_pieces-overflow_mul-p
 list_pieces-overflow_mul-p t c =
-    omega (arith, found_row false c.requires c.args.from c.args.led (c.args.f * 2) (omega arith) c.in-At.p (sym c.in-At.ensures))
+    let a = c.args in
+    omega (arith, found_row false c.requires a.from a.led (a.f * 2) (omega arith) _ (sym c.in-At.ensures))
 
 pub list_pieces-overflow_add-p : goal.list_pieces-overflow_add-p
 list_pieces-overflow_add-p t c =
-    omega (arith, found_row false c.requires c.args.from c.args.led (c.args.f * 2) (omega arith) c.in-At.p (sym c.in-At.ensures))
+    let a = c.args in
+    omega (arith, found_row false c.requires a.from a.led (a.f * 2) (omega arith) _ (sym c.in-At.ensures))
 
 pub list_pieces-bounds-seen-p : goal.list_pieces-bounds-seen-p
 list_pieces-bounds-seen-p t c =
-    omega (arith, found_row false c.requires c.args.from c.args.led (c.args.f * 2) (omega arith) c.in-At.p (sym c.in-At.ensures), c.requires.marks)
+    let a = c.args in
+    omega (arith, found_row false c.requires a.from a.led (a.f * 2) (omega arith) _ (sym c.in-At.ensures), c.requires.marks)
 
+-- it is listed already, or nothing is left
 pub list_pieces-returns-then-left-seen : goal.list_pieces-returns-then-left-seen
 list_pieces-returns-then-left-seen t c =
-    told_twice false c.requires c.args.from c.args.led (c.args.f * 2) (omega arith) c.in-At.p (sym c.in-At.ensures)
+    let a = c.args in
+    told_twice false c.requires a.from a.led (a.f * 2) (omega arith) _ (sym c.in-At.ensures)
     (c.in-At.p * 2 + 1) (omega arith) c.if-left-seen.true
 
 pub list_pieces-overflow_mul-p-2 : goal.list_pieces-overflow_mul-p-2
 list_pieces-overflow_mul-p-2 t c =
-    omega (arith, found_row false c.requires c.args.from c.args.led (c.args.f * 2) (omega arith) c.in-At.p (sym c.in-At.ensures))
+    let a = c.args in
+    omega (arith, found_row false c.requires a.from a.led (a.f * 2) (omega arith) _ (sym c.in-At.ensures))
 
 pub list_pieces-overflow_add-p-2 : goal.list_pieces-overflow_add-p-2
 list_pieces-overflow_add-p-2 t c =
-    omega (arith, found_row false c.requires c.args.from c.args.led (c.args.f * 2) (omega arith) c.in-At.p (sym c.in-At.ensures))
+    let a = c.args in
+    omega (arith, found_row false c.requires a.from a.led (a.f * 2) (omega arith) _ (sym c.in-At.ensures))
 
--- there is a line left for it
+-- it can be noted: some is left
 pub list_pieces-note-requires : goal.list_pieces-note-requires
 list_pieces-note-requires t c =
+    let a = c.args in
     let r = c.requires in
-    let row = found_row false c.requires c.args.from c.args.led (c.args.f * 2) (omega arith) c.in-At.p (sym c.in-At.ensures) in
-    let some = (stops_not c.args.left (get_or c.args.seen.now (c.in-At.p * 2 + 1) 0) c.if-left-seen.false).0 in
+    let row = found_row false c.requires a.from a.led (a.f * 2) (omega arith) _ (sym c.in-At.ensures) in
+    let some = (stops_not a.left (get_or a.seen.now (c.in-At.p * 2 + 1) 0) c.if-left-seen.false).0 in
     (some, r.lines, omega (arith, r.depth), omega (arith, row, r.marks), omega (arith, row))
 
+-- one less is left for the other
 pub list_pieces-list_faces-under-requires : goal.list_pieces-list_faces-under-requires
 list_pieces-list_faces-under-requires t c =
+    let a = c.args in
     let r = c.requires in
     let kept = c.note.auto in
-    let some = (stops_not c.args.left (get_or c.args.seen.now (c.in-At.p * 2 + 1) 0) c.if-left-seen.false).0 in (
+    let some = (stops_not a.left (get_or a.seen.now (c.in-At.p * 2 + 1) 0) c.if-left-seen.false).0 in (
       omega (arith, c.decreases, some),
       record {
         matrix = r.matrix;
-        row = found_row false c.requires c.args.from c.args.led (c.args.f * 2) (omega arith) c.in-At.p (sym c.in-At.ensures);
+        row = found_row false c.requires a.from a.led (a.f * 2) (omega arith) _ (sym c.in-At.ensures);
         under = omega arith;
         depth = omega (arith, r.depth, some);
         lines = omega (arith, r.lines, kept.notes);
@@ -139,20 +161,23 @@ list_pieces-list_faces-under-requires t c =
 
 pub list_pieces-returns-in_default-under : goal.list_pieces-returns-in_default-under
 list_pieces-returns-in_default-under t c =
-    told_twice_under false c.requires c.args.from c.args.led (c.args.f * 2) (omega arith) c.in-At.p (sym c.in-At.ensures)
+    let a = c.args in
+    told_twice_under false c.requires a.from a.led (a.f * 2) (omega arith) _ (sym c.in-At.ensures)
     (c.in-At.p * 2 + 1) (omega arith) c.if-left-seen.false c.note.ensures c.list_faces-under.ensures c.in_default-under.is
 
 pub list_pieces-overflow_add-p-3 : goal.list_pieces-overflow_add-p-3
 list_pieces-overflow_add-p-3 t c =
-    omega (arith, found_row false c.requires c.args.from c.args.led (c.args.f * 2) (omega arith) c.in-At.p (sym c.in-At.ensures))
+    let a = c.args in
+    omega (arith, found_row false c.requires a.from a.led (a.f * 2) (omega arith) _ (sym c.in-At.ensures))
 
--- what the other leaves, and the arrays keep their lengths
+-- no more than the other leaves is left for the next turn, and the arrays keep their lengths
 pub list_pieces-list_pieces-requires : goal.list_pieces-list_pieces-requires
 list_pieces-list_pieces-requires t c =
+    let a = c.args in
     let r = c.requires in
     let kept = c.list_faces-under.auto in
     let noted = c.note.auto in
-    let some = (stops_not c.args.left (get_or c.args.seen.now (c.in-At.p * 2 + 1) 0) c.if-left-seen.false).0 in
+    let some = (stops_not a.left (get_or a.seen.now (c.in-At.p * 2 + 1) 0) c.if-left-seen.false).0 in
     let fewer = left_at-most c.in-Left.is c.list_faces-under.ensures.fewer in (
       omega (arith, c.decreases, some, fewer),
       record {
@@ -167,6 +192,7 @@ list_pieces-list_pieces-requires t c =
 
 pub list_pieces-returns : goal.list_pieces-returns
 list_pieces-returns t c =
-    told_more false c.requires c.args.from c.args.led (c.args.f * 2) (omega arith) c.in-At.p (sym c.in-At.ensures)
-    (c.in-At.p * 2 + 1) (omega arith) c.if-left-seen.false c.note.ensures c.list_faces-under.ensures c.in-Left.k c.in-Left.is
+    let a = c.args in
+    told_more false c.requires a.from a.led (a.f * 2) (omega arith) _ (sym c.in-At.ensures)
+    (c.in-At.p * 2 + 1) (omega arith) c.if-left-seen.false c.note.ensures c.list_faces-under.ensures _ c.in-Left.is
     c.list_pieces.ensures

@@ -1,6 +1,5 @@
 -- `outline_rows::is_complete` meets its contract. Assumes nothing.
 use mathlib.Core.Path.{sym, ap}
-use borrow.Author.Rules.{rules}
 use Rattle.outline_rows.specs.Listing.{none_left}
 use Rattle.outline_rows.proofs.is_complete.Goals as goal
 

@@ -2,7 +2,6 @@
 use mathlib.Core.Path.{refl}
 use native.Mathlib.Omega.{arith}
 use lib.ListN.{replicate}
-use borrow.Author.Rules.{rules}
 use Rattle.outline_rows.proofs.Outlines.{zeros, some_parts, outlined}
 use Rattle.outline_rows.proofs.list_all.Goals as goal
 

@@ -1,7 +1,6 @@
 -- `outline_rows::note` meets its contract. Assumes nothing.
 use native.Mathlib.Omega.{arith}
 use lib.ListN.{length-set}
-use borrow.Author.Rules.{rules}
 use Rattle.outline_rows.proofs.note.Goals as goal
 
 pub bounds-notes-left-2 : goal.bounds-notes-left-2

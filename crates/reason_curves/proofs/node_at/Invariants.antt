@@ -23,8 +23,8 @@ abbrev pub other : List ℤ → ℕ → Point → ℕ → Bool
 other l own p i = not (same i own) && same_point (node_at l i).at p
 
 abbrev pub invariant-loop-i : goal.invariant-loop-i
-invariant-loop-i l = (l.i ≤ l.n) × (any_of (other l.nodes l.own l.p) (table (λ l.i. l.i) l.i (l.n - l.i))
-    ≡ any_of (other l.nodes l.own l.p) (table (λ l.i. l.i) 0 l.n))
+invariant-loop-i l = (l.i ≤ l.n) × (any_of (other l.nodes l.own l.p) (table (λ i. i) l.i (l.n - l.i))
+    ≡ any_of (other l.nodes l.own l.p) (table (λ i. i) 0 l.n))
 
 abbrev pub decreases-loop-i : goal.decreases-loop-i
 decreases-loop-i l = l.n - l.i

@@ -1,2 +1,0 @@
--- `Fronts`: the first numbers of a table.
-pub mod Fronts
