@@ -17,11 +17,11 @@ HEADER = """\
 # a crate, the crates below whose definitions it opens itself, and what is opened already
 OPENED = (
     ('map', ('lists', 'tables', 'plane', 'curves', 'planar_maps', 'rotation'), None),
-    ('network', (), 'Rattle·map.proofs.Opened'),
-    ('paths', (), 'Rattle·network.proofs.Opened'),
-    ('joining', (), 'Rattle·map.proofs.Opened'),
-    ('mending', (), 'Rattle·map.proofs.Opened'),
-    ('nesting', (), 'Rattle·map.proofs.Opened'),
+    ('network', (), 'Rattle.map.proofs.Opened'),
+    ('paths', (), 'Rattle.network.proofs.Opened'),
+    ('joining', (), 'Rattle.map.proofs.Opened'),
+    ('mending', (), 'Rattle.map.proofs.Opened'),
+    ('nesting', (), 'Rattle.map.proofs.Opened'),
 )
 
 
@@ -53,15 +53,14 @@ def uses(module, names):
 
 
 def write(crate, below, base):
-    lines, names = ['use mathlib.Core.List.{flatMap}'], ['flatMap']
+    lines, names = ['use mathlib.Core.List.{flat_map}'], ['flat_map']
     if base:
         lines, names = [f'use {base} as below'], ['below.opened']
     for c in (*below, crate):
         for path in sorted((CRATES / c / 'specs').glob('*.antt')):
             found = shut(path)
             if found:
-                lines += uses(f'Rattle·{c}·specs.specs.{path.stem}' if c == crate else f'Rattle·{c}.specs.{path.stem}',
-                              found)
+                lines += uses(f'Rattle.{c}.specs.{path.stem}', found)
                 names += found
     text = HEADER + '\n'.join(lines) + '\n\nunfoldable pub opened : Unit {0}\n'
     text += filled('unfolding', names) + '\nopened = tt\n'

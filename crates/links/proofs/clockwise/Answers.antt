@@ -21,6 +21,7 @@ use Rattle.links.proofs.clockwise.Tie as tie
 use Rattle.links.proofs.clockwise.Reads as reads
 use Rattle.links.proofs.clockwise.Invariants.{none, but}
 use Rattle.links.proofs.clockwise.Goals as goal
+use Rattle.links.proofs.clockwise.Goals.{then-q-p, else-q-p}
 
 -- places in the code, by their names in what is generated
 abbrev After-loop-k : Type 0
@@ -50,27 +51,27 @@ loop-k-preserved c =
     let v = way_to b.step_with-v.result.from b.step_with-v.result.to in
     let t = c.loop-k-test.true in
     let q = get_or a.list.now l.k 0 in
-    ⊎_elim
-    (λ k.
-    let e : c.if-q-p.h ≡ chosen_of w v l.h q = k.2 ∙ k.1.ensures in
-    let has = chosen_has w v (Known a.edges.now a.own a.c.now) l.h q (s.requires.1 l.k t) l.invariant.1
-    l.invariant.2 in (
-      omega arith,
-      rw e (λ x. has.0),
-      rw e has.1,
-      ap (λ (h : Choice). chosen_from w v (but a.p) a.list.now h (l.k + 1)) e
-          ∙ sym (chosen_hit w v (but a.p) a.list.now l.h l.k t
-          (ap not (same_false q a.p k.0.taken))) ∙ l.invariant.3,
-    ))
-    (λ k. (
-      omega arith,
-      rw k.1 l.invariant.1,
-      rw k.1 l.invariant.2,
-      ap (λ (h : Choice). chosen_from w v (but a.p) a.list.now h (l.k + 1)) k.1
-          ∙ sym (chosen_miss w v (but a.p) a.list.now l.h l.k t (ap not (same_eq q a.p k.0.left)))
-          ∙ l.invariant.3,
-    ))
-    c.if-q-p.branch
+    elim c.if-q-p.branch [
+      then-q-p k ↦
+          let e : c.if-q-p.h ≡ chosen_of w v l.h q = k.h-is ∙ k.chosen-h.ensures in
+          let has = chosen_has w v (Known a.edges.now a.own a.c.now) l.h q (s.requires.1 l.k t) l.invariant.1
+          l.invariant.2 in (
+            omega arith,
+            rw e (λ x. has.0),
+            rw e has.1,
+            ap (λ (h : Choice). chosen_from w v (but a.p) a.list.now h (l.k + 1)) e
+                ∙ sym (chosen_hit w v (but a.p) a.list.now l.h l.k t
+                (ap not (same_false q a.p k.if-q-p.true))) ∙ l.invariant.3,
+          )
+    | else-q-p k ↦ (
+            omega arith,
+            rw k.h-is l.invariant.1,
+            rw k.h-is l.invariant.2,
+            ap (λ (h : Choice). chosen_from w v (but a.p) a.list.now h (l.k + 1)) k.h-is
+                ∙ sym (chosen_miss w v (but a.p) a.list.now l.h l.k t (ap not (same_eq q a.p k.if-q-p.false)))
+                ∙ l.invariant.3,
+          )
+    ]
 
 -- what the choice answers is the law's
 answered : (c : After-loop-k)

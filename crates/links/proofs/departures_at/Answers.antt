@@ -15,6 +15,7 @@ use Rattle.links.specs.Linking.{leaves_node, departures_of}
 use Rattle.links.proofs.ByRows.{cell_is, cell-differs}
 use Rattle.links.proofs.Listed.{left, Written, left_all, left_end, written_hit, written_miss}
 use Rattle.links.proofs.departures_at.Goals as goal
+use Rattle.links.proofs.departures_at.Goals.{then-edges-i, else-edges-i, then-edges-i-2, else-edges-i-2}
 
 pub loop-i-init : goal.loop-i-init
 loop-i-init c =
@@ -44,12 +45,12 @@ first c =
     let there : l.i * 2 < n = omega arith in
     let fits = sfits_of c.t12-1.given in
     let cell = sym (side_even a.edges.now l.i 1) in
-    ⊎_elim
-    (λ k. written_hit f l.list l.k (l.i * 2) n c.if-edges-i.list c.if-edges-i.k there
-    (cell_is fits s.ranges.node cell k.0.taken) k.1 k.2)
-    (λ k. written_miss f l.list l.k (l.i * 2) n c.if-edges-i.list c.if-edges-i.k there
-    (cell-differs fits s.ranges.node cell k.0.left) k.1 k.2)
-    c.if-edges-i.branch
+    elim c.if-edges-i.branch [
+      then-edges-i w ↦ written_hit f l.list l.k (l.i * 2) n c.if-edges-i.list c.if-edges-i.k there
+          (cell_is fits s.ranges.node cell w.if-edges-i.true) w.list-is w.k-is
+    | else-edges-i w ↦ written_miss f l.list l.k (l.i * 2) n c.if-edges-i.list c.if-edges-i.k there
+          (cell-differs fits s.ranges.node cell w.if-edges-i.false) w.list-is w.k-is
+    ]
 
 -- and the second
 second : (c : goal.Joined-edges-i-2)
@@ -69,12 +70,12 @@ second c =
     let there : p < n = omega arith in
     let fits = sfits_of c.t12-in-loop-i-1.given in
     let cell = sym (side_odd a.edges.now l.i 1) in
-    ⊎_elim
-    (λ k. written_hit f m.list m.k p n c.if-edges-i-2.list c.if-edges-i-2.k there
-    (cell_is fits s.ranges.node cell k.0.taken) k.2 k.3)
-    (λ k. written_miss f m.list m.k p n c.if-edges-i-2.list c.if-edges-i-2.k there
-    (cell-differs fits s.ranges.node cell k.0.left) k.1 k.2)
-    c.if-edges-i-2.branch
+    elim c.if-edges-i-2.branch [
+      then-edges-i-2 w ↦ written_hit f m.list m.k p n c.if-edges-i-2.list c.if-edges-i-2.k there
+          (cell_is fits s.ranges.node cell w.if-edges-i-2.true) w.list-is w.k-is
+    | else-edges-i-2 w ↦ written_miss f m.list m.k p n c.if-edges-i-2.list c.if-edges-i-2.k there
+          (cell-differs fits s.ranges.node cell w.if-edges-i-2.false) w.list-is w.k-is
+    ]
 
 pub loop-i-preserved : goal.loop-i-preserved
 loop-i-preserved c =

@@ -25,6 +25,8 @@ use Rattle.links.proofs.first_clockwise.Lts as lts
 use Rattle.links.proofs.first_clockwise.Tie as tie
 use Rattle.links.proofs.first_clockwise.Reads as reads
 use Rattle.links.proofs.first_clockwise.Goals as goal
+use Rattle.links.proofs.first_clockwise.Goals.{then-edges-i+then-p-a, then-edges-i+else-p-a, else-edges-i}
+use Rattle.links.proofs.first_clockwise.Goals.{then-edges-i-2+then-p-a-2, then-edges-i-2+else-p-a-2, else-edges-i-2}
 
 -- places in the code, by their names in what is generated
 abbrev After-loop-i : Type 0
@@ -79,15 +81,14 @@ halfway c =
     let b : l.i * 2 < n = omega arith in
     let fits = sfits_of c.t17-1.given in
     let cell = sym (side_even a.edges.now l.i 1) in
-    ⊎_elim
-    (λ k. passed-chosen w v a.edges.now node a.a a.b n l.invariant.1 b
-    (cell_is fits s.ranges.node cell k.0.taken) k.1.taken (k.3 ∙ k.2.ensures))
-    (⊎_elim
-    (λ k. passed_but w v a.edges.now node a.a a.b n l.invariant.1 b
-    (cell_is fits s.ranges.node cell k.0.taken) k.1.left k.2)
-    (λ k. passed_other w v a.edges.now node a.a a.b n l.invariant.1 b
-    (cell-differs fits s.ranges.node cell k.0.left) k.1))
-    c.if-edges-i.branch
+    elim c.if-edges-i.branch [
+      then-edges-i+then-p-a k ↦ passed-chosen w v a.edges.now node a.a a.b n l.invariant.1 b
+          (cell_is fits s.ranges.node cell k.if-edges-i.true) k.if-p-a.true (k.h-is ∙ k.chosen-h.ensures)
+    | then-edges-i+else-p-a k ↦ passed_but w v a.edges.now node a.a a.b n l.invariant.1 b
+          (cell_is fits s.ranges.node cell k.if-edges-i.true) k.if-p-a.false k.h-is
+    | else-edges-i k ↦ passed_other w v a.edges.now node a.a a.b n l.invariant.1 b
+          (cell-differs fits s.ranges.node cell k.if-edges-i.false) k.h-is
+    ]
 
 pub overflow_mul-i-in-loop-i : goal.overflow_mul-i-in-loop-i
 overflow_mul-i-in-loop-i c = omega (arith, c.requires.0.fits)
@@ -148,15 +149,14 @@ loop-i-preserved c =
     let e : l.i * 2 + 1 + 1 ≡ (l.i + 1) * 2 = omega arith in (
       omega arith,
       subst (Passed w v a.edges.now node a.a a.b n c.if-edges-i-2.h) e
-          (⊎_elim
-          (λ k. passed-chosen w v a.edges.now node a.a a.b n (halfway j) b
-          (cell_is fits s.ranges.node cell k.0.taken) k.1.taken (k.3 ∙ k.2.ensures))
-          (⊎_elim
-          (λ k. passed_but w v a.edges.now node a.a a.b n (halfway j) b
-          (cell_is fits s.ranges.node cell k.0.taken) k.1.left k.2)
-          (λ k. passed_other w v a.edges.now node a.a a.b n (halfway j) b
-          (cell-differs fits s.ranges.node cell k.0.left) k.1))
-          c.if-edges-i-2.branch),
+          (elim c.if-edges-i-2.branch [
+            then-edges-i-2+then-p-a-2 k ↦ passed-chosen w v a.edges.now node a.a a.b n (halfway j) b
+                (cell_is fits s.ranges.node cell k.if-edges-i-2.true) k.if-p-a-2.true (k.h-is ∙ k.chosen-h-then-p-a-2.ensures)
+          | then-edges-i-2+else-p-a-2 k ↦ passed_but w v a.edges.now node a.a a.b n (halfway j) b
+                (cell_is fits s.ranges.node cell k.if-edges-i-2.true) k.if-p-a-2.false k.h-is
+          | else-edges-i-2 k ↦ passed_other w v a.edges.now node a.a a.b n (halfway j) b
+                (cell-differs fits s.ranges.node cell k.if-edges-i-2.false) k.h-is
+          ]),
     )
 
 -- the choice at the loop's end answers

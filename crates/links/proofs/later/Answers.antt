@@ -1,6 +1,5 @@
 -- `links::later` meets its contract. Assumes nothing.
 use mathlib.Core.Path.{◌≡◌, sym, ap, ◌∙◌}
-use borrow.Author.Tests.{not-true, not-false}
 use Rattle.plane.specs.Directions.{Way, way_to, before}
 use Rattle.darts.specs.Positions.{way_with}
 use borrow.Author.Rules.{rules}
@@ -14,10 +13,10 @@ abbrev After-before-2 : Type 0
 After-before-2 = lts.After-before2 tie.the-claims reads.Pre reads.Post
 
 pub returns-then-not-some : goal.returns-then-not-some
-returns-then-not-some c = rw (not-true c.args.some c.if-not-some.true)
+returns-then-not-some c = rw c.if-not-some.true
 
 pub step_with-requires : goal.step_with-requires
-step_with-requires c = c.requires.0 (not-false c.args.some c.if-not-some.false)
+step_with-requires c = c.requires.0 c.if-not-some.false
 
 -- the test, in the direction of k
 test : (c : After-before-2)
@@ -29,14 +28,14 @@ test c = ap (λ (v : Way). before v (way_to c.args.w.from
 
 pub returns-then-before : goal.returns-then-before
 returns-then-before c = rw (
-  not-false c.args.some c.if-not-some.false,
+  c.if-not-some.false,
   test c.before,
   c.if-before.true,
 )
 
 pub returns-else-before : goal.returns-else-before
 returns-else-before c = rw (
-  not-false c.args.some c.if-not-some.false,
+  c.if-not-some.false,
   test c.before,
   c.if-before.false,
 )

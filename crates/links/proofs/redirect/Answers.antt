@@ -19,12 +19,9 @@ use Rattle.tables.proofs.Order.{word_is, replace_hit, replace_miss, replace_leng
 use Rattle.links.specs.Linking.{redirected}
 use Rattle.links.proofs.Kept.{replace_swap}
 use Rattle.links.proofs.Sweeps.{one_pass}
-use Rattle.links.proofs.redirect.Invariants.{row}
+use Rattle.links.proofs.redirect.Invariants.{link, row}
 use Rattle.links.proofs.redirect.Goals as goal
-
--- a link of row i
-abbrev link : ℕ → ℤ → ℤ → List ℤ → ℕ → List ℤ
-link k old new t i = replace_at old new t (i * 32 + k)
+use Rattle.links.proofs.redirect.Goals.{then-edges-i, else-edges-i, then-edges-i-2, else-edges-i-2}
 
 -- the first link of the row
 left : (c : goal.Joined-edges-i)
@@ -38,11 +35,12 @@ left c =
     let old = to_z w64 (of_z w64 a.old) in
     let new = to_z w64 (of_z w64 a.new) in
     let read : old ≡ a.old = to_z-of_z {w = w64} s.ranges.old in
-    ⊎_elim
-    (λ w. w.1 ∙ sym (replace_hit old new l.edges (l.i * 32 + 3)
-    (word_is (sfits_of c.t11-1.given) s.ranges.old w.0.taken ∙ sym read)))
-    (λ w. w.1 ∙ sym (replace_miss old new l.edges (l.i * 32 + 3) (λ e. w.0.left (ap (of_z w64) (e ∙ read)))))
-    c.if-edges-i.branch
+    elim c.if-edges-i.branch [
+      then-edges-i w ↦ w.edges-is ∙ sym (replace_hit old new l.edges (l.i * 32 + 3)
+          (word_is (sfits_of c.t11-1.given) s.ranges.old w.if-edges-i.true ∙ sym read))
+    | else-edges-i w ↦ w.edges-is ∙ sym (replace_miss old new l.edges (l.i * 32 + 3)
+          (λ e. w.if-edges-i.false (ap (of_z w64) (e ∙ read))))
+    ]
 
 -- and the second
 right : (c : goal.Joined-edges-i-2)
@@ -57,11 +55,12 @@ right c =
     let old = to_z w64 (of_z w64 a.old) in
     let new = to_z w64 (of_z w64 a.new) in
     let read : old ≡ a.old = to_z-of_z {w = w64} s.ranges.old in
-    ⊎_elim
-    (λ w. w.1 ∙ sym (replace_hit old new t (i * 32 + 4)
-    (word_is (sfits_of c.t11-in-loop-i-1.given) s.ranges.old w.0.taken ∙ sym read)))
-    (λ w. w.1 ∙ sym (replace_miss old new t (i * 32 + 4) (λ e. w.0.left (ap (of_z w64) (e ∙ read)))))
-    c.if-edges-i-2.branch
+    elim c.if-edges-i-2.branch [
+      then-edges-i-2 w ↦ w.edges-is ∙ sym (replace_hit old new t (i * 32 + 4)
+          (word_is (sfits_of c.t11-in-loop-i-1.given) s.ranges.old w.if-edges-i-2.true ∙ sym read))
+    | else-edges-i-2 w ↦ w.edges-is ∙ sym (replace_miss old new t (i * 32 + 4)
+          (λ e. w.if-edges-i-2.false (ap (of_z w64) (e ∙ read))))
+    ]
 
 long : (c : goal.Joined-edges-i) → length c.if-edges-i.edges
     ≡ length c.args.edges.now

@@ -21,6 +21,10 @@ use Rattle.links.proofs.Kept.{replace_swap}
 use Rattle.links.proofs.Sweeps.{one_pass}
 use Rattle.links.proofs.redirect.Given as goal
 
+-- a link of row i
+abbrev pub link : ℕ → ℤ → ℤ → List ℤ → ℕ → List ℤ
+link k old new t i = replace_at old new t (i * 32 + k)
+
 -- both
 abbrev pub row : ℤ → ℤ → List ℤ → ℕ → List ℤ
 row old new t i = link 4 old new (link 3 old new t i) i

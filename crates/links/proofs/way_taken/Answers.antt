@@ -19,6 +19,8 @@ use Rattle.links.specs.Linking.{positions}
 use Rattle.links.proofs.ByRows.{taken, near_start, near_end, taken_none, taken_here, taken_past}
 use Rattle.links.proofs.way_taken.Invariants.{any_from}
 use Rattle.links.proofs.way_taken.Goals as goal
+use Rattle.links.proofs.way_taken.Goals.{then-edges-i+else-same_way, else-edges-i}
+use Rattle.links.proofs.way_taken.Goals.{then-edges-i-2+else-same_way-2, else-edges-i-2}
 
 pub loop-i-init : goal.loop-i-init
 loop-i-init c = (omega arith, rw sub-zero)
@@ -81,8 +83,11 @@ halfway c =
     let t = b.loop-i-test.true in
     let near = near_start a.edges.now a.own l.i s.ranges.node (sfits_of b.t12-1.given) in
     sym (any_miss (λ q. q) (l.i * 2) (a.count * 2) (taken a.edges.now node a.own v) (omega arith)
-    (⊎_elim (λ k. taken_past a.edges.now node a.own v (l.i * 2) near k.2.ensures k.1.ensures.way
-    k.3.left) (λ k. taken_none a.edges.now node a.own v (l.i * 2) near k.left) c.if-edges-i.branch))
+    (elim c.if-edges-i.branch [
+      then-edges-i+else-same_way k ↦ taken_past a.edges.now node a.own v (l.i * 2) near k.same_way.ensures
+          k.step_at.ensures.way k.if-same_way.false
+    | else-edges-i k ↦ taken_none a.edges.now node a.own v (l.i * 2) near k.if-edges-i.false
+    ]))
     ∙ l.invariant.1
 
 pub overflow_mul-i-in-loop-i : goal.overflow_mul-i-in-loop-i
@@ -151,9 +156,11 @@ loop-i-preserved c =
       omega arith,
       subst (λ (p : ℕ). any_from f p (a.count * 2) ≡ any_of f (positions a.count)) e
           (sym (any_miss (λ q. q) (l.i * 2 + 1) (a.count * 2) f (omega arith)
-          (⊎_elim (λ k. taken_past a.edges.now node a.own v (l.i * 2 + 1) near k.2.ensures
-          k.1.ensures.way k.3.left)
-          (λ k. taken_none a.edges.now node a.own v (l.i * 2 + 1) near k.left) c.if-edges-i-2.branch)) ∙ halfway j),
+          (elim c.if-edges-i-2.branch [
+            then-edges-i-2+else-same_way-2 k ↦ taken_past a.edges.now node a.own v (l.i * 2 + 1) near
+                k.same_way-then-edges-i-2.ensures k.step_at-then-edges-i-2.ensures.way k.if-same_way-2.false
+          | else-edges-i-2 k ↦ taken_none a.edges.now node a.own v (l.i * 2 + 1) near k.if-edges-i-2.false
+          ])) ∙ halfway j),
     )
 
 pub returns : goal.returns

@@ -21,24 +21,22 @@ use Rattle.map.specs.Reasons.{edge_meeting}
 use Rattle.map_rows.specs.Rows.{edge_at}
 use Rattle.map_rows.proofs.Rows.{edge-row_of}
 use Rattle.reason_curves.specs.Sent.{edges_but}
+use Rattle.reason_curves.proofs.edge_meeting.Invariants.{from}
 use Rattle.reason_curves.proofs.edge_meeting.Goals as goal
+use Rattle.reason_curves.proofs.edge_meeting.Goals.{then-i-own, else-i-own}
 
 module _ (l : List ℤ) (n own : ℕ) (c : Curve) where
-  -- the gravest that the curve does with another edge from row i on
-  abbrev from : ℕ → Contact
-  from i = edge_meeting (map (edge_at l) (keep (λ j. not (same j own)) (table (λ j. j) i (n - i)))) c
-
   another : (i : ℕ) (found : Contact) → i < n → not (same i own) ≡ true
-      → graver (graver found (meeting c (edge_at l i).curve)) (from (i + 1)) ≡ graver found (from i)
+      → graver (graver found (meeting c (edge_at l i).curve)) (from l n own c (i + 1)) ≡ graver found (from l n own c i)
   unfolding edge_meeting
   another i found t e =
-      graver_assoc found (meeting c (edge_at l i).curve) (from (i + 1))
+      graver_assoc found (meeting c (edge_at l i).curve) (from l n own c (i + 1))
       ∙ rw (table_step (λ (j : ℕ). j) i n t, e)
 
-  own_row : (i : ℕ) → i < n → not (same i own) ≡ false → from (i + 1) ≡ from i
+  own_row : (i : ℕ) → i < n → not (same i own) ≡ false → from l n own c (i + 1) ≡ from l n own c i
   own_row i t e = rw (table_step (λ (j : ℕ). j) i n t, e)
 
-  over : (i : ℕ) (found : Contact) → n ≤ i → graver found (from i) ≡ found
+  over : (i : ℕ) (found : Contact) → n ≤ i → graver found (from l n own c i) ≡ found
   unfolding edge_meeting
   over i found t = rw (table-end (λ (j : ℕ). j) i n t) (graver_none found)
 
@@ -53,11 +51,14 @@ loop-i-preserved c =
     let d = curve_of a.c.now in
     let t = c.loop-i-test.true in (
       omega arith,
-      ⊎_elim
-          (λ k. ap (λ (x : Contact). graver x (from l a.count a.own d (b.loop-i.i + 1))) (k.2 ∙ k.1.ensures)
-          ∙ another l a.count a.own d b.loop-i.i b.loop-i.found t (ap not (same_false _ _ k.0.taken)))
-          (λ k. ap₂ graver k.1 (own_row l a.count a.own d b.loop-i.i t (ap not (same_eq _ _ k.0.left))))
-          c.if-i-own.branch
+      elim c.if-i-own.branch [
+        then-i-own k ↦
+          ap (λ (x : Contact). graver x (from l a.count a.own d (b.loop-i.i + 1)))
+              (k.found-is ∙ k.row_meeting-found.ensures)
+          ∙ another l a.count a.own d b.loop-i.i b.loop-i.found t (ap not (same_false _ _ k.if-i-own.true))
+      | else-i-own k ↦
+          ap₂ graver k.found-is (own_row l a.count a.own d b.loop-i.i t (ap not (same_eq _ _ k.if-i-own.false)))
+      ]
           ∙ b.loop-i.invariant.1,
     )
 

@@ -23,6 +23,10 @@ use Rattle.map_rows.proofs.Rows.{edge-row_of}
 use Rattle.reason_curves.specs.Sent.{edges_but}
 use Rattle.reason_curves.proofs.edge_meeting.Given as goal
 
+-- the gravest that the curve does with another edge from row i on
+abbrev pub from : List ℤ → ℕ → ℕ → Curve → ℕ → Contact
+from l n own c i = edge_meeting (map (edge_at l) (keep (λ j. not (same j own)) (table (λ j. j) i (n - i)))) c
+
 abbrev pub invariant-loop-i : goal.invariant-loop-i
 invariant-loop-i l =
     (l.i ≤ l.count)

@@ -18,10 +18,6 @@ use Rattle.map_rows.proofs.Rows.{nodes_table, node-row_of}
 use Rattle.reason_curves.proofs.node_inside.Invariants.{inner}
 use Rattle.reason_curves.proofs.node_inside.Goals as goal
 
--- the point lies on the curve, and is no returns of it
-abbrev inner : Curve → Point → Bool
-inner c p = on_curve c p && not (is_end c p)
-
 -- what the tests of a point answered
 told : (c : Curve) {p q : Point} {r s v : Bool} → p ≡ q → r ≡ on_curve c p → s ≡ is_end c p → r && not s ≡ v → inner c q
     ≡ v

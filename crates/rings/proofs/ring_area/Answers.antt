@@ -31,24 +31,24 @@ module _ (c : goal.After-dart_area-sum) where
   row = edge-row_of c.requires.0 (c.loop-k.c / 2)
       (omega (arith, c.loop-k.invariant.0))
 
-  step : to_z w64 c.loop-k.sum +ℤ to_z w64 (of_z w64 c.dart_area-sum.result)
-      ≡ to_z w64 c.loop-k.sum +ℤ area_at c.args.edges.now
+  step : to_z w64 c.loop-k.sum-bits +ℤ to_z w64 (of_z w64 c.dart_area-sum.result)
+      ≡ to_z w64 c.loop-k.sum-bits +ℤ area_at c.args.edges.now
       c.loop-k.c
-  step = ap (λ (z : ℤ). to_z w64 c.loop-k.sum +ℤ z)
+  step = ap (λ (z : ℤ). to_z w64 c.loop-k.sum-bits +ℤ z)
       (sent {z = c.dart_area-sum.result} c.dart_area-sum.type_inv ∙ c.dart_area-sum.ensures)
 
   within : Within (curve_most * (c.loop-k.k + 1))
-      (to_z w64 c.loop-k.sum +ℤ area_at c.args.edges.now
+      (to_z w64 c.loop-k.sum-bits +ℤ area_at c.args.edges.now
       c.loop-k.c)
   within = sum-within c.loop-k.k c.loop-k.invariant.2
       (area-within c.loop-k.c row)
 
-  fits : SFits w64 (to_z w64 c.loop-k.sum +ℤ to_z w64 (of_z w64 c.dart_area-sum.result))
+  fits : SFits w64 (to_z w64 c.loop-k.sum-bits +ℤ to_z w64 (of_z w64 c.dart_area-sum.result))
   fits = subst (SFits w64) (sym step) (sum_fits (c.loop-k.k + 1)
       (omega (arith, c.requires.1, c.loop-k-test.true)) within)
 
-  total : to_z w64 (of_z w64 (to_z w64 c.loop-k.sum +ℤ to_z w64 (of_z w64 c.dart_area-sum.result)))
-      ≡ to_z w64 c.loop-k.sum +ℤ area_at c.args.edges.now
+  total : to_z w64 (of_z w64 (to_z w64 c.loop-k.sum-bits +ℤ to_z w64 (of_z w64 c.dart_area-sum.result)))
+      ≡ to_z w64 c.loop-k.sum-bits +ℤ area_at c.args.edges.now
       c.loop-k.c
   total = to_z-of_z fits ∙ step
 
@@ -58,7 +58,7 @@ returns-then-c-first c =
     let s = b in
     let w = b.loop-k in
     let n = c.next_position-c in
-    total c.before.before ∙ area_last s.requires.0 s.args.p s.requires.2 w.k w.c (to_z w64 w.sum)
+    total c.before.before ∙ area_last s.requires.0 s.args.p s.requires.2 w.k w.c (to_z w64 w.sum-bits)
     w.invariant.3 w.invariant.0 b.loop-k-test.true n.result (record { below = n.ensures.0; is = n.ensures.1 })
     c.if-c-first.true
 
@@ -74,7 +74,7 @@ loop-k-preserved c =
       subst (Within (curve_most * (w.k + 1))) (sym e) (within c.before.before),
       ap (λ (z : ℤ). z +ℤ area_left s.args.edges.now s.args.count
           (steps s.args.edges.now s.args.count s.args.p (s.args.count * 2 - (w.k + 1)) n.result)) e
-          ∙ area_on s.requires.0 s.args.p s.requires.2 w.k w.c (to_z w64 w.sum) w.invariant.3 w.invariant.0
+          ∙ area_on s.requires.0 s.args.p s.requires.2 w.k w.c (to_z w64 w.sum-bits) w.invariant.3 w.invariant.0
           b.loop-k-test.true n.result (record { below = n.ensures.0; is = n.ensures.1 }) c.if-c-first.false,
     )
 
@@ -82,7 +82,7 @@ pub returns : goal.returns
 returns c =
     let s = c in
     let w = c.loop-k in
-    area-end s.requires.0 s.args.p s.requires.2 w.k w.c (to_z w64 w.sum) w.invariant.3 c.loop-k-test.false
+    area-end s.requires.0 s.args.p s.requires.2 w.k w.c (to_z w64 w.sum-bits) w.invariant.3 c.loop-k-test.false
 
 pub overflow_cast-first : goal.overflow_cast-first
 overflow_cast-first c = omega (arith, c.requires.1, c.requires.2)
