@@ -57,8 +57,8 @@ fn write_lines(nodes: &[i64], faces: &[i64], notes: &[u16], parts: usize, list: 
 // Lists the contents of a map in form.
 fn list_contents(nodes: &[i64], edges: &[i64], faces: &[i64], h: Head, list: &mut [i64]) -> Answer
     requires { Formed nodes.now edges.now faces.now h }
-    ensures { record { list = list.exit.now; answer = result }
-        ≡ contents_of (lent_now nodes.entry edges.entry faces.entry h) list.entry.now }
+    ensures { record { list = list.new; answer = result }
+        ≡ contents_of (lent_now nodes.now edges.now faces.now h) list.old }
 {
     let mut graph = [0u64; piece_faces::CELLS];
     let mut notes = [0u16; outline_rows::NOTES];
@@ -77,8 +77,8 @@ fn list_contents(nodes: &[i64], edges: &[i64], faces: &[i64], h: Head, list: &mu
 // Lists the contents of a sheet from the front of the list; the value is the count of numbers written. The list's
 // remainder is untouched, and all of it where the call is turned down.
 pub fn contents(nodes: &[i64], edges: &[i64], faces: &[i64], h: Head, list: &mut [i64]) -> Answer
-    ensures { record { list = list.exit.now; answer = result }
-        ≡ contents_of (lent_now nodes.entry edges.entry faces.entry h) list.entry.now }
+    ensures { record { list = list.new; answer = result }
+        ≡ contents_of (lent_now nodes.now edges.now faces.now h) list.old }
 {
     if !form_ranges::is_whole(nodes, edges, faces) {
         return outcomes::answered(1, 0);

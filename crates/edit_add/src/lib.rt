@@ -26,8 +26,8 @@ fn add_along(
 ) -> Done
     requires { Formed nodes.old edges.old faces.old h × (u < nat_abs h.nodes) × (v < nat_abs h.nodes)
         × PointsLeft c.now }
-    ensures { outcome_now nodes.exit edges.exit faces.exit result
-        ≡ added_along how (lent_now nodes.entry edges.entry faces.entry h)
+    ensures { outcome_now nodes.new edges.new faces.new result
+        ≡ added_along how (lent_now nodes.old edges.old faces.old h)
         (node_at nodes.old u).number (node_at nodes.old v).number (curve_of c.now) }
 {
     let judged = reason_edges::judge_add(nodes, edges, faces, h, how, u, v, c);
@@ -57,8 +57,8 @@ fn add_at_rows(
     sent: &[i64],
 ) -> Done
     requires { Formed nodes.old edges.old faces.old h × (u < nat_abs h.nodes) × (v < nat_abs h.nodes) }
-    ensures { outcome_now nodes.exit edges.exit faces.exit result
-        ≡ edited (lent_now nodes.entry edges.entry faces.entry h)
+    ensures { outcome_now nodes.new edges.new faces.new result
+        ≡ edited (lent_now nodes.old edges.old faces.old h)
         (add_ticket how (pos (node_at nodes.old u).number) (pos (node_at nodes.old v).number)
         sent.now) }
 {
@@ -86,8 +86,8 @@ pub fn add_edge(
     sent: &[i64],
 ) -> Done
     requires { Formed nodes.old edges.old faces.old h }
-    ensures { outcome_now nodes.exit edges.exit faces.exit result
-        ≡ edited (lent_now nodes.entry edges.entry faces.entry h)
+    ensures { outcome_now nodes.new edges.new faces.new result
+        ≡ edited (lent_now nodes.old edges.old faces.old h)
         (add_ticket how start end sent.now) }
 {
     let found = outcomes::find_ends(nodes, edges, faces, h, start, end);

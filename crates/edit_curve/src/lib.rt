@@ -93,7 +93,7 @@ fn redraw_reason(
     requires { Formed nodes.now edges.now faces.now h × (i < nat_abs h.edges)
         × EndsAt nodes.now edges.now h i u v × Run c.now }
     ensures { result ≡ first_reason (change_geom_reasons
-        (map_of (lent_now nodes.entry edges.entry faces.entry h))
+        (map_of (lent_now nodes.now edges.now faces.now h))
         (edge_at edges.now i).number (curve_of c.now)) }
 {
     let reason = change_reason(nodes, edges, h, i, u, v, c);
@@ -147,8 +147,8 @@ fn change_along(
 ) -> Done
     requires { Formed nodes.now edges.old faces.now h × (i < nat_abs h.edges)
         × EndsAt nodes.now edges.old h i u v × Run c.now }
-    ensures { outcome_now nodes.entry edges.exit faces.entry result
-        ≡ changed_along (lent_now nodes.entry edges.entry faces.entry h)
+    ensures { outcome_now nodes.now edges.new faces.now result
+        ≡ changed_along (lent_now nodes.now edges.old faces.now h)
         (edge_at edges.old i).number (curve_of c.now) }
 {
     let reason = redraw_reason(nodes, edges, faces, h, i, u, v, c);
@@ -172,8 +172,8 @@ fn change_between(
 ) -> Done
     requires { Formed nodes.now edges.old faces.now h × (i < nat_abs h.edges)
         × EndsAt nodes.now edges.old h i u v }
-    ensures { outcome_now nodes.entry edges.exit faces.entry result
-        ≡ edited (lent_now nodes.entry edges.entry faces.entry h)
+    ensures { outcome_now nodes.now edges.new faces.now result
+        ≡ edited (lent_now nodes.now edges.old faces.now h)
         (ChangeEdgeGeom (pos (edge_at edges.old i).number) sent.now) }
 {
     let read = reason_curves::read_curve(sent, head::most_points(h));
@@ -228,8 +228,8 @@ fn change_at_row(
     sent: &[i64],
 ) -> Done
     requires { Formed nodes.now edges.old faces.now h × (i < nat_abs h.edges) }
-    ensures { outcome_now nodes.entry edges.exit faces.entry result
-        ≡ edited (lent_now nodes.entry edges.entry faces.entry h)
+    ensures { outcome_now nodes.now edges.new faces.now result
+        ≡ edited (lent_now nodes.now edges.old faces.now h)
         (ChangeEdgeGeom (pos (edge_at edges.old i).number) sent.now) }
 {
     let n = head::to_usize(h.nodes);
@@ -248,8 +248,8 @@ pub fn change_curve(
     sent: &[i64],
 ) -> Done
     requires { Formed nodes.now edges.old faces.now h }
-    ensures { outcome_now nodes.entry edges.exit faces.entry result
-        ≡ edited (lent_now nodes.entry edges.entry faces.entry h)
+    ensures { outcome_now nodes.now edges.new faces.now result
+        ≡ edited (lent_now nodes.now edges.old faces.now h)
         (ChangeEdgeGeom edge sent.now) }
 {
     let e = head::to_usize(h.edges);

@@ -120,8 +120,8 @@ fn edit_rows(
 ) -> Done
     requires { Formed nodes.old edges.old faces.old h
         × (count_fits (kind_for routine) (length t.now - 1) ≡ true) }
-    ensures { outcome_now nodes.exit edges.exit faces.exit result
-        ≡ shaped_rows (lent_now nodes.entry edges.entry faces.entry h)
+    ensures { outcome_now nodes.new edges.new faces.new result
+        ≡ shaped_rows (lent_now nodes.old edges.old faces.old h)
         (read_for routine (drop 1 t.now)) }
 {
     match routine {
@@ -205,8 +205,8 @@ fn carry_out(
 ) -> Done
     requires { Formed nodes.old edges.old faces.old h
         × (count_fits (kind_for routine) (length t.now - 1) ≡ true) × (0 < length t.now) }
-    ensures { outcome_now nodes.exit edges.exit faces.exit result
-        ≡ shaped (lent_now nodes.entry edges.entry faces.entry h)
+    ensures { outcome_now nodes.new edges.new faces.new result
+        ≡ shaped (lent_now nodes.old edges.old faces.old h)
         (read_for routine (drop 1 t.now)) }
 {
     let e = head::to_usize(h.edges);
@@ -225,8 +225,8 @@ fn carry_out(
 // Carries out a ticket on tables in form.
 pub fn edit(nodes: &mut [i64], edges: &mut [i64], faces: &mut [i64], h: Head, t: &[i64]) -> Done
     requires { Formed nodes.old edges.old faces.old h }
-    ensures { outcome_now nodes.exit edges.exit faces.exit result
-        ≡ ticket (lent_now nodes.entry edges.entry faces.entry h) t.now }
+    ensures { outcome_now nodes.new edges.new faces.new result
+        ≡ ticket (lent_now nodes.old edges.old faces.old h) t.now }
 {
     if t.len() == 0 {
         return outcomes::refused(h, 3);

@@ -300,8 +300,8 @@ fn heal_at_rows(
     j: usize,
 ) -> Done
     requires { Formed nodes.old edges.old faces.now h × (i < nat_abs h.edges) × (j < nat_abs h.edges) }
-    ensures { outcome_now nodes.exit edges.exit faces.entry result
-        ≡ edited (lent_now nodes.entry edges.entry faces.entry h)
+    ensures { outcome_now nodes.new edges.new faces.now result
+        ≡ edited (lent_now nodes.old edges.old faces.now h)
         (heal_ticket how (pos (edge_at edges.old i).number) (pos (edge_at edges.old j).number)) }
 {
     let e = head::to_usize(h.edges);
@@ -329,8 +329,8 @@ pub fn heal_edges(
     other: i64,
 ) -> Done
     requires { Formed nodes.old edges.old faces.now h }
-    ensures { outcome_now nodes.exit edges.exit faces.entry result
-        ≡ edited (lent_now nodes.entry edges.entry faces.entry h)
+    ensures { outcome_now nodes.new edges.new faces.now result
+        ≡ edited (lent_now nodes.old edges.old faces.now h)
         (heal_ticket how edge other) }
 {
     let e = head::to_usize(h.edges);

@@ -115,8 +115,8 @@ fn add_along(
 ) -> Done
     requires { Formed nodes.old edges.old faces.now h × (u < nat_abs h.nodes) × (v < nat_abs h.nodes)
         × Run c.now }
-    ensures { outcome_now nodes.exit edges.exit faces.entry result
-        ≡ isolated_along (lent_now nodes.entry edges.entry faces.entry h)
+    ensures { outcome_now nodes.new edges.new faces.now result
+        ≡ isolated_along (lent_now nodes.old edges.old faces.now h)
         (node_at nodes.old u).number (node_at nodes.old v).number (curve_of c.now) }
 {
     let reason = isolated_reason(nodes, edges, faces, h, u, v, c);
@@ -140,8 +140,8 @@ fn add_at_rows(
     sent: &[i64],
 ) -> Done
     requires { Formed nodes.old edges.old faces.now h × (u < nat_abs h.nodes) × (v < nat_abs h.nodes) }
-    ensures { outcome_now nodes.exit edges.exit faces.entry result
-        ≡ edited (lent_now nodes.entry edges.entry faces.entry h)
+    ensures { outcome_now nodes.new edges.new faces.now result
+        ≡ edited (lent_now nodes.old edges.old faces.now h)
         (AddIsoEdge (pos (node_at nodes.old u).number) (pos (node_at nodes.old v).number)
         sent.now) }
 {
@@ -167,8 +167,8 @@ pub fn add_isolated_edge(
     sent: &[i64],
 ) -> Done
     requires { Formed nodes.old edges.old faces.now h }
-    ensures { outcome_now nodes.exit edges.exit faces.entry result
-        ≡ edited (lent_now nodes.entry edges.entry faces.entry h)
+    ensures { outcome_now nodes.new edges.new faces.now result
+        ≡ edited (lent_now nodes.old edges.old faces.now h)
         (AddIsoEdge start end sent.now) }
 {
     let found = outcomes::find_ends(nodes, edges, faces, h, start, end);
@@ -191,8 +191,8 @@ fn left_face(edges: &[i64], i: usize) -> i64
 // Kind 5 on the edge of row i.
 fn remove_at_row(nodes: &mut [i64], edges: &mut [i64], faces: &[i64], h: Head, i: usize) -> Done
     requires { Formed nodes.old edges.old faces.now h × (i < nat_abs h.edges) }
-    ensures { outcome_now nodes.exit edges.exit faces.entry result
-        ≡ edited (lent_now nodes.entry edges.entry faces.entry h)
+    ensures { outcome_now nodes.new edges.new faces.now result
+        ≡ edited (lent_now nodes.old edges.old faces.now h)
         (RemoveIsoEdge (pos (edge_at edges.old i).number)) }
 {
     let e = head::to_usize(h.edges);
@@ -213,8 +213,8 @@ pub fn remove_isolated_edge(
     edge: i64,
 ) -> Done
     requires { Formed nodes.old edges.old faces.now h }
-    ensures { outcome_now nodes.exit edges.exit faces.entry result
-        ≡ edited (lent_now nodes.entry edges.entry faces.entry h) (RemoveIsoEdge edge) }
+    ensures { outcome_now nodes.new edges.new faces.now result
+        ≡ edited (lent_now nodes.old edges.old faces.now h) (RemoveIsoEdge edge) }
 {
     let e = head::to_usize(h.edges);
     let found = tables::find_row(edges, map::EDGE_WIDTH, e, edge);

@@ -63,7 +63,7 @@ fn point_is_taken(
 fn point_reason(nodes: &[i64], edges: &[i64], faces: &[i64], h: Head, x: i64, y: i64) -> u64
     requires { Formed nodes.now edges.now faces.now h }
     ensures { result ≡ first_reason (point_reasons
-        (map_of (lent_now nodes.entry edges.entry faces.entry h)) x y) }
+        (map_of (lent_now nodes.now edges.now faces.now h)) x y) }
 {
     if !reason_curves::in_range(x, y) {
         return 5;
@@ -95,7 +95,7 @@ fn add_reason(
 ) -> u64
     requires { Formed nodes.now edges.now faces.now h }
     ensures { result ≡ first_reason (add_early
-        (map_of (lent_now nodes.entry edges.entry faces.entry h)) face x y) }
+        (map_of (lent_now nodes.now edges.now faces.now h)) face x y) }
 {
     if is_none(face) {
         return point_reason(nodes, edges, faces, h, x, y);
@@ -169,8 +169,8 @@ pub fn add_node(
     y: i64,
 ) -> Done
     requires { Formed nodes.old edges.now faces.now h }
-    ensures { outcome_now nodes.exit edges.entry faces.entry result
-        ≡ decided (lent_now nodes.entry edges.entry faces.entry h) (AddIsoNode face x y) }
+    ensures { outcome_now nodes.new edges.now faces.now result
+        ≡ decided (lent_now nodes.old edges.now faces.now h) (AddIsoNode face x y) }
 {
     let early = add_reason(nodes, edges, faces, h, face, x, y);
     if early != 0 {
@@ -207,8 +207,8 @@ fn move_at_row(
     y: i64,
 ) -> Done
     requires { Formed nodes.old edges.now faces.now h × (i < nat_abs h.nodes) }
-    ensures { outcome_now nodes.exit edges.entry faces.entry result
-        ≡ decided (lent_now nodes.entry edges.entry faces.entry h)
+    ensures { outcome_now nodes.new edges.now faces.now result
+        ≡ decided (lent_now nodes.old edges.now faces.now h)
         (MoveIsoNode (pos (node_at nodes.old i).number) x y) }
 {
     let reason = move_reason(nodes, edges, faces, h, i, x, y);
@@ -236,8 +236,8 @@ pub fn move_node(
     y: i64,
 ) -> Done
     requires { Formed nodes.old edges.now faces.now h }
-    ensures { outcome_now nodes.exit edges.entry faces.entry result
-        ≡ decided (lent_now nodes.entry edges.entry faces.entry h) (MoveIsoNode node x y) }
+    ensures { outcome_now nodes.new edges.now faces.now result
+        ≡ decided (lent_now nodes.old edges.now faces.now h) (MoveIsoNode node x y) }
 {
     let n = head::to_usize(h.nodes);
     let found = tables::find_row(nodes, map::NODE_WIDTH, n, node);
@@ -250,8 +250,8 @@ pub fn move_node(
 // Kind 3 on the node of row i.
 fn remove_at_row(nodes: &mut [i64], edges: &[i64], faces: &[i64], h: Head, i: usize) -> Done
     requires { Formed nodes.old edges.now faces.now h × (i < nat_abs h.nodes) }
-    ensures { outcome_now nodes.exit edges.entry faces.entry result
-        ≡ decided (lent_now nodes.entry edges.entry faces.entry h)
+    ensures { outcome_now nodes.new edges.now faces.now result
+        ≡ decided (lent_now nodes.old edges.now faces.now h)
         (RemoveIsoNode (pos (node_at nodes.old i).number)) }
 {
     if !map_rows::is_isolated(nodes, i) {
@@ -264,8 +264,8 @@ fn remove_at_row(nodes: &mut [i64], edges: &[i64], faces: &[i64], h: Head, i: us
 // Removes an isolated node, or answers the first reason against it.
 pub fn remove_node(nodes: &mut [i64], edges: &[i64], faces: &[i64], h: Head, node: i64) -> Done
     requires { Formed nodes.old edges.now faces.now h }
-    ensures { outcome_now nodes.exit edges.entry faces.entry result
-        ≡ decided (lent_now nodes.entry edges.entry faces.entry h) (RemoveIsoNode node) }
+    ensures { outcome_now nodes.new edges.now faces.now result
+        ≡ decided (lent_now nodes.old edges.now faces.now h) (RemoveIsoNode node) }
 {
     let n = head::to_usize(h.nodes);
     let found = tables::find_row(nodes, map::NODE_WIDTH, n, node);

@@ -57,8 +57,8 @@ pub fn remove_edge(
     edge: i64,
 ) -> Done
     requires { Formed nodes.old edges.old faces.old h }
-    ensures { outcome_now nodes.exit edges.exit faces.exit result
-        ≡ edited (lent_now nodes.entry edges.entry faces.entry h) (remove_ticket how edge) }
+    ensures { outcome_now nodes.new edges.new faces.new result
+        ≡ edited (lent_now nodes.old edges.old faces.old h) (remove_ticket how edge) }
 {
     let judged = reason_edges::judge_removal(nodes, edges, faces, h, how, edge);
     let reason = judged.reason;

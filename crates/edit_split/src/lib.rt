@@ -238,8 +238,8 @@ fn split_at_row(
     y: i64,
 ) -> Done
     requires { Formed nodes.old edges.old faces.now h × (i < nat_abs h.edges) }
-    ensures { outcome_now nodes.exit edges.exit faces.entry result
-        ≡ edited (lent_now nodes.entry edges.entry faces.entry h)
+    ensures { outcome_now nodes.new edges.new faces.now result
+        ≡ edited (lent_now nodes.old edges.old faces.now h)
         (split_ticket how (pos (edge_at edges.old i).number) x y) }
 {
     let reason = split_reason(nodes, edges, faces, h, how, i, x, y);
@@ -264,8 +264,8 @@ pub fn split_edge(
     y: i64,
 ) -> Done
     requires { Formed nodes.old edges.old faces.now h }
-    ensures { outcome_now nodes.exit edges.exit faces.entry result
-        ≡ edited (lent_now nodes.entry edges.entry faces.entry h)
+    ensures { outcome_now nodes.new edges.new faces.now result
+        ≡ edited (lent_now nodes.old edges.old faces.now h)
         (split_ticket how edge x y) }
 {
     let e = head::to_usize(h.edges);

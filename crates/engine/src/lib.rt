@@ -26,8 +26,8 @@ pub fn empty_map(
     h: Head,
     points: i64,
 ) -> Done
-    ensures { outcome_now nodes.exit edges.exit faces.exit result
-        ≡ emptied (lent_now nodes.entry edges.entry faces.entry h) points }
+    ensures { outcome_now nodes.new edges.new faces.new result
+        ≡ emptied (lent_now nodes.old edges.old faces.old h) points }
 {
     if !form_ranges::is_whole(nodes, edges, faces) {
         return outcomes::refused(h, 1);
@@ -43,8 +43,8 @@ pub fn empty_map(
 
 // One ticket, on any tables and any run of numbers.
 pub fn ticket(nodes: &mut [i64], edges: &mut [i64], faces: &mut [i64], h: Head, t: &[i64]) -> Done
-    ensures { outcome_now nodes.exit edges.exit faces.exit result
-        ≡ ticket (lent_now nodes.entry edges.entry faces.entry h) t.now }
+    ensures { outcome_now nodes.new edges.new faces.new result
+        ≡ ticket (lent_now nodes.old edges.old faces.old h) t.now }
 {
     if !form_ranges::is_whole(nodes, edges, faces) {
         return outcomes::refused(h, 1);
@@ -64,9 +64,9 @@ pub fn edges_of_face(
     face: i64,
     list: &mut [i64],
 ) -> Answer
-    ensures { record { list = list.exit.now; answer = result }
-        ≡ edges_of_face (lent_now nodes.entry edges.entry faces.entry h) face
-        list.entry.now }
+    ensures { record { list = list.new; answer = result }
+        ≡ edges_of_face (lent_now nodes.now edges.now faces.now h) face
+        list.old }
 {
     face_edges::edges_of_face(nodes, edges, faces, h, face, list)
 }

@@ -61,8 +61,8 @@ fn write_rings(edges: &[i64], count: usize, face: usize, list: &mut [i64])
 // Lists the rings of the face from the front of the list, where there is room for them.
 fn list_rings(edges: &[i64], count: usize, face: usize, list: &mut [i64]) -> Answer
     requires { Rings edges.now count × (face ≤ last_number) }
-    ensures { record { list = list.exit.now; answer = result }
-        ≡ list_rings edges.now count face list.entry.now }
+    ensures { record { list = list.new; answer = result }
+        ≡ list_rings edges.now count face list.old }
 {
     let size = rings_size(edges, count, face);
     if list.len() < size {
@@ -82,9 +82,9 @@ pub fn edges_of_face(
     face: i64,
     list: &mut [i64],
 ) -> Answer
-    ensures { record { list = list.exit.now; answer = result }
-        ≡ edges_of_face (lent_now nodes.entry edges.entry faces.entry h) face
-        list.entry.now }
+    ensures { record { list = list.new; answer = result }
+        ≡ edges_of_face (lent_now nodes.now edges.now faces.now h) face
+        list.old }
 {
     if !form_ranges::is_whole(nodes, edges, faces) {
         return outcomes::answered(1, 0);

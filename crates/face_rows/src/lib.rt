@@ -190,7 +190,7 @@ pub fn split_face(
         faces.old
         → TablesOf box nodes.old edges.old faces.old h
         (split_face how (edge_at edges.old (nat_abs h.edges - 1)).number
-        (map_of (lent_now nodes.entry edges.entry faces.entry h))) nodes.new
+        (map_of (lent_now nodes.old edges.old faces.old h))) nodes.new
         edges.new faces.new result }
 {
     let n = head::counts_of(h);
@@ -252,11 +252,11 @@ pub fn heal_faces(
         faces.old
         → TablesOf box nodes.old edges.old faces.old h
         (merged_sides makes (sides_alone (nat_abs left) (nat_abs right))
-        (map_of (lent_now nodes.entry edges.entry faces.entry h)))
+        (map_of (lent_now nodes.old edges.old faces.old h)))
         nodes.new edges.new faces.new result.head)
         × (result.answer.refusal ≡ 0)
         × (result.answer.value ≡ pos (face_kept makes (sides_alone (nat_abs left) (nat_abs right))
-        (map_of (lent_now nodes.entry edges.entry faces.entry h)))) }
+        (map_of (lent_now nodes.old edges.old faces.old h)))) }
 {
     let n = head::counts_of(h);
     let face = face_left(h.next_face, left, right, makes);

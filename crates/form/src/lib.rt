@@ -44,8 +44,8 @@ fn is_formed(nodes: &[i64], edges: &[i64], faces: &[i64], c: Counts, h: Head) ->
 
 // Whether tables that are whole are in form.
 pub fn in_form(nodes: &[i64], edges: &[i64], faces: &[i64], h: Head) -> bool
-    requires { whole (lent_now nodes edges faces h) ≡ true }
-    ensures { result ≡ in_form (lent_now nodes.entry edges.entry faces.entry h) }
+    requires { whole (lent_now nodes.now edges.now faces.now h) ≡ true }
+    ensures { result ≡ in_form (lent_now nodes.now edges.now faces.now h) }
 {
     if !form_ranges::head_fits(
         h,

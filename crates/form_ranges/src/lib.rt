@@ -20,7 +20,7 @@ use map::{Counts, Head, Map};
 
 // Whether the tables are whole rows, within the limits, with a face row: condition 1.
 pub fn is_whole(nodes: &[i64], edges: &[i64], faces: &[i64]) -> bool
-    ensures { (h : _) → result ≡ whole (lent_now nodes.entry edges.entry faces.entry h) }
+    ensures { (h : _) → result ≡ whole (lent_now nodes.now edges.now faces.now h) }
 {
     tables::whole_rows(nodes, map::NODE_WIDTH, 0, Map::NODES)
         & tables::whole_rows(edges, map::EDGE_WIDTH, 0, Map::EDGES)

@@ -1,12 +1,11 @@
--- What is lent, as the loans of a call have it now: contracts read tables at entry and at exit by it.
+-- What is lent, as the loans of a call have it: contracts read tables at entry and at exit by it.
 use Rattle.std.specs.Prelude.{List, ℤ}
-use Rattle.std.specs.Borrow.{Bor}
 use Rattle.map.specs.declared.Head.{Head}
 use Rattle.map.specs.Rows.{Lent, lent}
 
--- a table as it is lent
+-- a table, as it is lent at the time
 abbrev pub Table : Type 0
-Table = Bor (List ℤ)
+Table = List ℤ
 
 abbrev pub lent_now : Table → Table → Table → Head → Lent
-lent_now nodes edges faces h = lent nodes.now edges.now faces.now h
+lent_now nodes edges faces h = lent nodes edges faces h

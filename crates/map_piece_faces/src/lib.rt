@@ -156,7 +156,7 @@ pub fn relate_all(
     graph: &mut [u64; piece_faces::CELLS],
 ) -> usize
     requires { Formed nodes.now edges.now faces.now h × (graph.old ≡ replicate cells 0) }
-    ensures { InFaces (map_of (lent_now nodes.entry edges.entry faces.entry h)) nodes.now
+    ensures { InFaces (map_of (lent_now nodes.now edges.now faces.now h)) nodes.now
         (nat_abs h.nodes) faces.now (nat_abs h.faces) graph.new result }
 {
     let c = head::counts_of(h);

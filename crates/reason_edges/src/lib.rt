@@ -81,7 +81,7 @@ fn drawing_reason(
     requires { Formed nodes.now edges.now faces.now h × (u < nat_abs h.nodes) × (v < nat_abs h.nodes)
         × Run c.now }
     ensures { result ≡ first_reason (drawing_reasons
-        (map_of (lent_now nodes.entry edges.entry faces.entry h))
+        (map_of (lent_now nodes.now edges.now faces.now h))
         (node_at nodes.now u).number (node_at nodes.now v).number
         (curve_of c.now)) }
 {

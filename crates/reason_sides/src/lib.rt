@@ -258,7 +258,7 @@ pub fn sides_change(
     c: &[i64],
 ) -> bool
     requires { Formed nodes.now edges.now faces.now h × (i < nat_abs h.edges) × Run c.now }
-    ensures { result ≡ sides_change (map_of (lent_now nodes.entry edges.entry faces.entry h))
+    ensures { result ≡ sides_change (map_of (lent_now nodes.now edges.now faces.now h))
         (edge_at edges.now i).number (curve_of c.now) }
 {
     let n = head::to_usize(h.nodes);

@@ -183,8 +183,8 @@ pub fn ticket(
     head: &mut Head,
     t: &[i64],
 ) -> Answer
-    ensures { outcome_with nodes.exit edges.exit faces.exit head.new result
-        ≡ ticket (lent_now nodes.entry edges.entry faces.entry head.old)
+    ensures { outcome_with nodes.new edges.new faces.new head.new result
+        ≡ ticket (lent_now nodes.old edges.old faces.old head.old)
         t.now }
 {
     let h = *head;
@@ -201,8 +201,8 @@ pub fn empty_map(
     head: &mut Head,
     points: i64,
 ) -> Answer
-    ensures { outcome_with nodes.exit edges.exit faces.exit head.new result ≡ emptied
-        (lent_now nodes.entry edges.entry faces.entry head.old) points }
+    ensures { outcome_with nodes.new edges.new faces.new head.new result ≡ emptied
+        (lent_now nodes.old edges.old faces.old head.old) points }
 {
     let h = *head;
     let done = engine::empty_map(nodes, edges, faces, h, points);
@@ -219,9 +219,9 @@ pub fn edges_of_face(
     face: i64,
     list: &mut [i64],
 ) -> Answer
-    ensures { record { list = list.exit.now; answer = result }
-        ≡ edges_of_face (lent_now nodes.entry edges.entry faces.entry head.now) face
-        list.entry.now }
+    ensures { record { list = list.new; answer = result }
+        ≡ edges_of_face (lent_now nodes.now edges.now faces.now head.now) face
+        list.old }
 {
     let h = *head;
     engine::edges_of_face(nodes, edges, faces, h, face, list)
@@ -239,10 +239,10 @@ pub fn run(
     refusals: &mut [u64],
     values: &mut [i64],
 ) -> Answer
-    ensures { Runs (lent_now nodes.entry edges.entry faces.entry head.old) points
+    ensures { Runs (lent_now nodes.old edges.old faces.old head.old) points
         numbers.now lengths.now refusals.old values.old
         (record {
-          lent = lent_now nodes.exit edges.exit faces.exit head.new;
+          lent = lent_now nodes.new edges.new faces.new head.new;
           refusals = refusals.new;
           values = values.new;
           answer = result;

@@ -19,10 +19,10 @@ pub extern "C" fn solgwid_empty_map(
     points: i64,
 ) -> u64
     ensures { record {
-      lent = lent_now nodes.exit edges.exit faces.exit (head_in head.new);
+      lent = lent_now nodes.new edges.new faces.new (head_in head.new);
       answer = record { refusal = result; value = pos 0 };
     }
-        ≡ emptied (lent_now nodes.entry edges.entry faces.entry (head_in head.old)) points }
+        ≡ emptied (lent_now nodes.old edges.old faces.old (head_in head.old)) points }
 {
     let done = engine::empty_map(nodes, edges, faces, head::from_numbers(head), points);
     head::put_numbers(head, done.head);
@@ -40,10 +40,10 @@ pub extern "C" fn solgwid_ticket(
     value: &mut i64,
 ) -> u64
     ensures { record {
-      lent = lent_now nodes.exit edges.exit faces.exit (head_in head.new);
+      lent = lent_now nodes.new edges.new faces.new (head_in head.new);
       answer = record { refusal = result; value = value.new };
     }
-        ≡ ticket (lent_now nodes.entry edges.entry faces.entry (head_in head.old))
+        ≡ ticket (lent_now nodes.old edges.old faces.old (head_in head.old))
         numbers.now }
 {
     let done = engine::ticket(nodes, edges, faces, head::from_numbers(head), numbers);
@@ -64,10 +64,10 @@ pub extern "C" fn solgwid_edges_of_face(
     list: &mut [i64],
     value: &mut i64,
 ) -> u64
-    ensures { record { list = list.exit.now; answer = record { refusal = result; value = value.new } }
+    ensures { record { list = list.new; answer = record { refusal = result; value = value.new } }
         ≡ edges_of_face
-        (lent_now nodes.entry edges.entry faces.entry (head_in head.now))
-        face list.entry.now }
+        (lent_now nodes.now edges.now faces.now (head_in head.now))
+        face list.old }
 {
     let answer = engine::edges_of_face(nodes, edges, faces, head::from_numbers(head), face, list);
     let v = answer.value;
@@ -85,9 +85,9 @@ pub extern "C" fn solgwid_contents(
     list: &mut [i64],
     value: &mut i64,
 ) -> u64
-    ensures { record { list = list.exit.now; answer = record { refusal = result; value = value.new } }
-        ≡ contents_of (lent_now nodes.entry edges.entry faces.entry (head_in head.now))
-        list.entry.now }
+    ensures { record { list = list.new; answer = record { refusal = result; value = value.new } }
+        ≡ contents_of (lent_now nodes.now edges.now faces.now (head_in head.now))
+        list.old }
 {
     let answer = contents::contents(nodes, edges, faces, head::from_numbers(head), list);
     let v = answer.value;
@@ -109,10 +109,10 @@ pub extern "C" fn solgwid_run(
     values: &mut [i64],
 ) -> u64
     ensures { Runs
-        (lent_now nodes.entry edges.entry faces.entry (head_in head.old))
+        (lent_now nodes.old edges.old faces.old (head_in head.old))
         points numbers.now lengths.now refusals.old values.old
         (record {
-          lent = lent_now nodes.exit edges.exit faces.exit (head_in head.new);
+          lent = lent_now nodes.new edges.new faces.new (head_in head.new);
           refusals = refusals.new;
           values = values.new;
           answer = record { refusal = result; value = pos 0 };

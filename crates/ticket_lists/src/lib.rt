@@ -28,9 +28,9 @@ fn run_tickets(
     values: &mut [i64],
 ) -> Head
     requires { (length lengths.now ≤ length refusals.old) × (length lengths.now ≤ length values.old) }
-    ensures { (g : Grown) → g ≡ after (lent_now nodes.entry edges.entry faces.entry h)
+    ensures { (g : Grown) → g ≡ after (lent_now nodes.old edges.old faces.old h)
         (tickets_of numbers.now lengths.now)
-        → (lent_now nodes.exit edges.exit faces.exit result ≡ g.lent)
+        → (lent_now nodes.new edges.new faces.new result ≡ g.lent)
         × (refusals.new ≡ over_front (map (λ a. a.refusal) g.answers) refusals.old)
         × (values.new ≡ over_front (map (λ a. a.value) g.answers) values.old) }
 {
@@ -61,10 +61,10 @@ pub fn run(
     refusals: &mut [u64],
     values: &mut [i64],
 ) -> Done
-    ensures { Runs (lent_now nodes.entry edges.entry faces.entry h) points
+    ensures { Runs (lent_now nodes.old edges.old faces.old h) points
         numbers.now lengths.now refusals.old values.old
         (record {
-          lent = lent_now nodes.exit edges.exit faces.exit result.head;
+          lent = lent_now nodes.new edges.new faces.new result.head;
           refusals = refusals.new;
           values = values.new;
           answer = result.answer;

@@ -1,22 +1,28 @@
-use Rattle.std.proofs.Common.{rules, ◌≡◌, Bool, true, cond, ◌&&◌, ℕ, ◌+◌, ◌*◌, ◌/◌, ◌≤◌, ◌<◌, pos, negsuc, length, get_or, ◌-◌, ◌%◌, false, nat_eq, nat_lt, List, [], ◌∷◌, ◌++◌, slice_set, bit_and, bit_or, Fits, w8, w32, w64, Bor, MutBor}
-use Rattle.std.specs.Bool.{beq}
-use Rattle.lists.specs.Tests.{same}
-use Rattle.lists.specs.Scans.{all_of}
-use Rattle.lists.specs.Tables.{table}
-use Rattle.map.specs.Limits.{node_width, face_width, max_nodes, max_edges}
-use Rattle.map.specs.Form.{departures_differ, bare_marked, links_once, links_meet, rings_bear_one}
-use Rattle.tables.specs.Tables.{same_z}
-use Rattle.map_rows.specs.Rows.{EdgeRow, NodeRows, EdgeRows, FaceRows, edge_map}
-use Rattle.plane.specs.Directions.{signs, same_way}
-use Rattle.darts.specs.Positions.{way_at, RowsNamed, NextsNamed}
-use Rattle.form_links.specs.Drawn.{drawn_map}
-use Rattle.form_links.specs.Chains.{latest, some_below, starts_in, repeats, LeadsBack, Chained}
+-- `form_links::chain_has_way`, which calls itself, meets its contract. The measure is the link where it stands. Assumes
+-- nothing.
+use mathlib.Core.Path.{sym, ap, ap₂, ◌∙◌}
+use Prim.Native.Nat.{◌-◌, ◌<◌}
+use native.Mathlib.Omega.{arith}
+use Rattle.plane.specs.Directions.{same_way}
+use Rattle.form_links.specs.Chains.{latest}
+use Rattle.form_links.proofs.Chains.{latest_again, latest-taken, chain_met, chain_on}
 use Rattle.form_links.proofs.+chain_has_way.Goals as goal
 
--- src/lib.rt:43:9
 pub returns-then-same_way : goal.returns-then-same_way
-returns-then-same_way t c = ?
+returns-then-same_way t c =
+    -- the test of a link
+    let way-is = c.same_way.ensures ∙ ap₂ same_way c.step_at.ensures.way c.step_at-2.ensures.way in
+    λ f e backs. sym (chain_met f _ c.args.last c.if-last-eq0.false e (sym way-is ∙ c.if-same_way.true))
 
--- src/lib.rt:30:1
 pub returns : goal.returns
-returns t c = ?
+returns t c =
+    let way-is = c.same_way.ensures ∙ ap₂ same_way c.step_at.ensures.way c.step_at-2.ensures.way in
+    let last = c.args.last in
+    let q = last - 1 in
+    let some = c.if-last-eq0.false in
+    let h : q < last = omega (arith, some) in
+    let below = c.requires.3 q (omega (arith, c.requires.2)) in
+    λ f e backs.
+    let is = backs q h (latest-taken f last some e) in
+    c.chain_has_way.ensures f (is ∙ sym (latest_again f q) ∙ ap (latest f) (sym is)) (λ r k. backs r (omega arith))
+    ∙ chain_on f _ last some (sym way-is ∙ c.if-same_way.false) _ is

@@ -1,24 +1,14 @@
 -- `form_links::bare_marked` meets its contract: what is left of the rows decides. Assumes nothing.
-use borrow.Author.Rules.{sfits_of}
-use mathlib.Core.Path.{◌≡◌, refl, sym, ap, ◌∙◌}
-use mathlib.Core.Bool.{Bool, true, false, beq}
+use mathlib.Core.Path.{◌≡◌}
+use mathlib.Core.Bool.{Bool, beq}
 use mathlib.Core.List.{List}
 use Prim.Native.Nat.{ℕ, ◌+◌, ◌*◌, ◌-◌, ◌≤◌}
-use native.Mathlib.Nat.{sub-zero}
-use native.Mathlib.Omega.{arith}
-use lib.Dec.{eqb}
 use lib.IntN.{ℤ, pos, negsuc}
 use lib.ListN.{get_or}
-use mir.Syntax.{w64}
-use mir.Val.{SFits, of_z}
 use Rattle.lists.specs.Tests.{same}
 use Rattle.lists.specs.Scans.{all_of}
 use Rattle.lists.specs.Tables.{table}
-use Rattle.lists.proofs.Scans.{all_hit, all_miss, all_end}
 use Rattle.tables.specs.Tables.{same_z}
-use Rattle.form_links.proofs.Words.{flipped, word_test}
-use Rattle.form_links.proofs.bare_marked.Lts as lts
-use Rattle.form_links.proofs.bare_marked.Reads as reads
 use Rattle.form_links.proofs.bare_marked.Given as goal
 
 -- row i is marked right

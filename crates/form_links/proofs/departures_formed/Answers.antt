@@ -1,5 +1,4 @@
 -- `form_links::departures_formed` meets its contract. Assumes nothing.
-use borrow.Author.Rules.{rules}
 use mathlib.Core.Path.{◌≡◌, sym, ap, ◌∙◌}
 use mathlib.Core.Bool.{Bool, true, false, cond, ◌&&◌}
 use Prim.Native.Nat.{ℕ, ◌*◌}
@@ -10,7 +9,6 @@ use Rattle.lists.proofs.Bools.{same_eq, same_false}
 use Rattle.map.specs.Form.{bare_marked}
 use Rattle.form_links.specs.Chains.{starts_in}
 use Rattle.form_links.specs.Drawn.{drawn_map}
-use Rattle.form_links.proofs.Words.{flipped}
 use Rattle.form_links.proofs.Links.{zeros}
 use Rattle.form_links.proofs.Departures.{bare_is}
 use Rattle.form_links.proofs.departures_formed.Goals as goal
@@ -31,7 +29,7 @@ returns-then-not-departures_differ c =
     let m = drawn_map s.args.nodes.now s.args.n s.args.edges.now s.args.count in
     sym (ap (λ (b : Bool). b && bare_marked m)
     (sym (d.ensures s.args.nodes.now s.args.n s.requires.0 s.requires.5)
-    ∙ flipped d.result true c.if-not-departures_differ.true))
+    ∙ c.if-not-departures_differ.true))
 
 pub mark_starts-requires : goal.mark_starts-requires
 mark_starts-requires c = let s = c in
@@ -44,9 +42,9 @@ returns c =
     let s = c in
     let m = drawn_map s.args.nodes.now s.args.n s.args.edges.now s.args.count in
     c.bare_marked.ensures
-    ∙ bare_is s.args.starts.now s.requires.0 s.requires.1 s.requires.5 k.new.1.1.0
+    ∙ bare_is s.args.starts.now s.requires.0 s.requires.1 s.requires.5 k.new.marks
     (λ i h. mark-is _ _ (k.ensures i ∙ ap (cond (starts_in s.args.starts.now (s.args.count * 2) i) 1)
     (zeros 1000 i)))
     ∙ sym (ap (λ (b : Bool). b && bare_marked m)
     (sym (d.ensures s.args.nodes.now s.args.n s.requires.0 s.requires.5)
-    ∙ flipped d.result false c.if-not-departures_differ.false))
+    ∙ c.if-not-departures_differ.false))

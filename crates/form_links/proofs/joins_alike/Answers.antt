@@ -1,5 +1,4 @@
 -- `form_links::joins_alike` meets its contract. Assumes nothing.
-use borrow.Author.Rules.{rules}
 use mathlib.Core.Path.{◌≡◌, refl, sym, ap, ◌∙◌}
 use mathlib.Core.Bool.{Bool}
 use Prim.Native.Nat.{ℕ, ◌+◌, ◌*◌}
@@ -11,9 +10,6 @@ use Rattle.form_links.specs.Chains.{latest}
 use Rattle.form_links.proofs.Chains.{latest_again, below_latest, chained_leads, last_is, back_is, chained_on}
 use Rattle.form_links.proofs.joins_alike.Goals as goal
 
-pub bounds-last-j-2 : goal.bounds-last-j-2
-bounds-last-j-2 c = search rules
-
 pub returns-then-c-eq0 : goal.returns-then-c-eq0
 returns-then-c-eq0 c =
     let b = c in
@@ -23,7 +19,7 @@ returns-then-c-eq0 c =
     let j = e ∙ ap (λ (k : ℕ). s.args.i * 9 + k) (sym b.signs_at.ensures.0) in
     let none = sym (last_is w j) ∙ c.if-c-eq0.true in (
       sym (sym (below_latest (λ q. same (f q) (f p)) _ p) ∙ rw none),
-      chained_on w j (bounds-last-j-2 c) s.args.back.now
+      chained_on w j (omega (arith, c.requires.3, c.requires.1, c.signs_at.ensures)) s.args.back.now
           (w.clear p (omega arith) ∙ sym c.if-c-eq0.true) (λ q d. refl),
     )
 
@@ -55,7 +51,7 @@ returns c =
       c.chain_has_way.ensures from (is ∙ sym (latest_again from p) ∙ ap (latest from) (sym is))
           (λ q h g. others q (λ e. omega arith) ∙ back_is w q (omega arith) g)
           ∙ rw is (below_latest from _ p),
-      chained_on w j (bounds-last-j-2 d) (set s.args.back.now p link)
+      chained_on w j (omega (arith, c.requires.3, c.requires.1, c.signs_at.ensures)) (set s.args.back.now p link)
           (get_or-set_same s.args.back.now p link 0 (omega (arith, s.requires.2, s.requires.4))) others,
     )
 

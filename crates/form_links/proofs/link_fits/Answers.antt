@@ -1,5 +1,4 @@
 -- `form_links::link_fits` meets its contract. Assumes nothing.
-use borrow.Author.Rules.{rules}
 use mathlib.Core.Path.{refl}
 use Rattle.lists.specs.Tests.{same}
 use Rattle.form_links.proofs.link_fits.Goals as goal

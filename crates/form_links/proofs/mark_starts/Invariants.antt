@@ -1,14 +1,9 @@
 -- `form_links::mark_starts` meets its contract: the rows where the positions that are passed start are marked. Assumes
 -- nothing.
-use mathlib.Core.Path.{◌≡◌, refl, sym, ap, ◌∙◌}
+use mathlib.Core.Path.{◌≡◌}
 use mathlib.Core.Bool.{cond}
-use mathlib.Core.Logic.{inl, inr}
 use Prim.Native.Nat.{ℕ, ◌*◌, ◌-◌, ◌≤◌}
-use native.Mathlib.Numerals.{add-one}
-use native.Mathlib.Omega.{arith}
-use lib.ListN.{length, get_or, set, length-set}
-use lib.Seq.{get_or-set_same, get_or-set_other}
-use Rattle.lists.proofs.Bools.{same_eq, same_false, equal?}
+use lib.ListN.{length, get_or}
 use Rattle.form_links.specs.Chains.{starts_in}
 use Rattle.form_links.proofs.mark_starts.Given as goal
 

@@ -1,10 +1,8 @@
 -- `links::chosen` meets its contract. Assumes nothing.
 use mathlib.Core.Path.{sym, ◌∙◌}
-use borrow.Author.Tests.{not-true, not-false}
 use Rattle.plane.specs.Directions.{way_to}
 use Rattle.darts.specs.Positions.{way_with}
 use Rattle.links.proofs.Choices.{chosen_past, chosen_under}
-use borrow.Author.Rules.{rules}
 use Rattle.links.proofs.chosen.Goals as goal
 
 pub step_with-w-requires : goal.step_with-w-requires

@@ -1,13 +1,11 @@
 -- `links::clockwise` meets its contract: the choice, with what is left of the list, is the choice of all. Assumes
 -- nothing.
 use mathlib.Core.Path.{◌≡◌, refl, sym, ap, ◌∙◌}
-use mathlib.Core.Bool.{Bool, true, false, cond, not, true≢false}
-use mathlib.Core.Logic.{⊎_elim}
-use Prim.Native.Nat.{ℕ, ◌+◌, ◌-◌, ◌≤◌}
+use mathlib.Core.Bool.{Bool, cond, not, true≢false}
+use Prim.Native.Nat.{◌+◌}
 use native.Mathlib.Omega.{arith}
-use lib.ListN.{length, get_or}
+use lib.ListN.{get_or}
 use Rattle.lists.specs.Tests.{same}
-use Rattle.lists.specs.Scans.{fold}
 use Rattle.lists.proofs.Bools.{same_eq, same_false}
 use Rattle.plane.specs.Directions.{Way, way_to}
 use Rattle.rotation.specs.Law.{others, first_clockwise}
@@ -19,7 +17,7 @@ use Rattle.links.proofs.Listed.{settled, settled_all, chosen_from, chosen_hit, c
 use Rattle.links.proofs.clockwise.Lts as lts
 use Rattle.links.proofs.clockwise.Tie as tie
 use Rattle.links.proofs.clockwise.Reads as reads
-use Rattle.links.proofs.clockwise.Invariants.{none, but}
+use Rattle.links.proofs.clockwise.Invariants.{but}
 use Rattle.links.proofs.clockwise.Goals as goal
 use Rattle.links.proofs.clockwise.Goals.{then-q-p, else-q-p}
 
@@ -52,7 +50,7 @@ loop-k-preserved c =
     let t = c.loop-k-test.true in
     let q = get_or a.list.now l.k 0 in
     elim c.if-q-p.branch [
-      then-q-p k ↦
+      | then-q-p k ↦
           let e : c.if-q-p.h ≡ chosen_of w v l.h q = k.h-is ∙ k.chosen-h.ensures in
           let has = chosen_has w v (Known a.edges.now a.own a.c.now) l.h q (s.requires.1 l.k t) l.invariant.1
           l.invariant.2 in (
@@ -63,14 +61,14 @@ loop-k-preserved c =
                 ∙ sym (chosen_hit w v (but a.p) a.list.now l.h l.k t
                 (ap not (same_false q a.p k.if-q-p.true))) ∙ l.invariant.3,
           )
-    | else-q-p k ↦ (
-            omega arith,
-            rw k.h-is l.invariant.1,
-            rw k.h-is l.invariant.2,
-            ap (λ (h : Choice). chosen_from w v (but a.p) a.list.now h (l.k + 1)) k.h-is
-                ∙ sym (chosen_miss w v (but a.p) a.list.now l.h l.k t (ap not (same_eq q a.p k.if-q-p.false)))
-                ∙ l.invariant.3,
-          )
+      | else-q-p k ↦ (
+        omega arith,
+        rw k.h-is l.invariant.1,
+        rw k.h-is l.invariant.2,
+        ap (λ (h : Choice). chosen_from w v (but a.p) a.list.now h (l.k + 1)) k.h-is
+            ∙ sym (chosen_miss w v (but a.p) a.list.now l.h l.k t (ap not (same_eq q a.p k.if-q-p.false)))
+            ∙ l.invariant.3,
+      )
     ]
 
 -- what the choice answers is the law's

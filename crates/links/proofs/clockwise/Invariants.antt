@@ -1,24 +1,17 @@
 -- `links::clockwise` meets its contract: the choice, with what is left of the list, is the choice of all. Assumes
 -- nothing.
-use mathlib.Core.Path.{◌≡◌, refl, sym, ap, ◌∙◌}
-use mathlib.Core.Bool.{Bool, true, false, cond, not, true≢false}
-use mathlib.Core.Logic.{⊎_elim}
-use Prim.Native.Nat.{ℕ, ◌+◌, ◌-◌, ◌≤◌}
-use native.Mathlib.Omega.{arith}
-use lib.ListN.{length, get_or}
+use mathlib.Core.Path.{◌≡◌}
+use mathlib.Core.Bool.{Bool, true, false, not}
+use Prim.Native.Nat.{ℕ, ◌-◌, ◌≤◌}
+use lib.ListN.{length}
 use Rattle.lists.specs.Tests.{same}
 use Rattle.lists.specs.Scans.{fold}
-use Rattle.lists.proofs.Bools.{same_eq, same_false}
-use Rattle.plane.specs.Directions.{Way, way_to}
-use Rattle.rotation.specs.Law.{others, first_clockwise}
+use Rattle.plane.specs.Directions.{way_to}
+use Rattle.rotation.specs.Law.{others}
 use Rattle.darts.specs.Positions.{way_with}
 use Rattle.links.specs.declared.Choice.{Choice}
 use Rattle.links.specs.Linking.{Known, chosen_of}
-use Rattle.links.proofs.Choices.{chosen_has}
-use Rattle.links.proofs.Listed.{settled, settled_all, chosen_from, chosen_hit, chosen_miss, chosen-end}
-use Rattle.links.proofs.clockwise.Lts as lts
-use Rattle.links.proofs.clockwise.Tie as tie
-use Rattle.links.proofs.clockwise.Reads as reads
+use Rattle.links.proofs.Listed.{chosen_from}
 use Rattle.links.proofs.clockwise.Given as goal
 
 -- no choice yet, p standing for none

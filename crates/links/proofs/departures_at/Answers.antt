@@ -1,8 +1,7 @@
 -- `links::departures_at` meets its contract: what is written, with what is left, is what is kept of all. Assumes
 -- nothing.
 use mathlib.Core.Path.{◌≡◌, refl, sym, ap, ◌∙◌}
-use mathlib.Core.Logic.{⊎_elim}
-use Prim.Native.Nat.{ℕ, ◌+◌, ◌*◌, ◌-◌, ◌<◌, ◌≤◌}
+use Prim.Native.Nat.{ℕ, ◌+◌, ◌*◌, ◌<◌}
 use native.Mathlib.Omega.{arith}
 use lib.ListN.{length}
 use lib.Seq.{sets}
@@ -46,9 +45,9 @@ first c =
     let fits = sfits_of c.t12-1.given in
     let cell = sym (side_even a.edges.now l.i 1) in
     elim c.if-edges-i.branch [
-      then-edges-i w ↦ written_hit f l.list l.k (l.i * 2) n c.if-edges-i.list c.if-edges-i.k there
+      | then-edges-i w ↦ written_hit f l.list l.k (l.i * 2) n c.if-edges-i.list c.if-edges-i.k there
           (cell_is fits s.ranges.node cell w.if-edges-i.true) w.list-is w.k-is
-    | else-edges-i w ↦ written_miss f l.list l.k (l.i * 2) n c.if-edges-i.list c.if-edges-i.k there
+      | else-edges-i w ↦ written_miss f l.list l.k (l.i * 2) n c.if-edges-i.list c.if-edges-i.k there
           (cell-differs fits s.ranges.node cell w.if-edges-i.false) w.list-is w.k-is
     ]
 
@@ -71,9 +70,9 @@ second c =
     let fits = sfits_of c.t12-in-loop-i-1.given in
     let cell = sym (side_odd a.edges.now l.i 1) in
     elim c.if-edges-i-2.branch [
-      then-edges-i-2 w ↦ written_hit f m.list m.k p n c.if-edges-i-2.list c.if-edges-i-2.k there
+      | then-edges-i-2 w ↦ written_hit f m.list m.k p n c.if-edges-i-2.list c.if-edges-i-2.k there
           (cell_is fits s.ranges.node cell w.if-edges-i-2.true) w.list-is w.k-is
-    | else-edges-i-2 w ↦ written_miss f m.list m.k p n c.if-edges-i-2.list c.if-edges-i-2.k there
+      | else-edges-i-2 w ↦ written_miss f m.list m.k p n c.if-edges-i-2.list c.if-edges-i-2.k there
           (cell-differs fits s.ranges.node cell w.if-edges-i-2.false) w.list-is w.k-is
     ]
 

@@ -1,19 +1,8 @@
 -- `links::edge_ends` meets its contract: what is counted, with what is left, is the count of all. Assumes nothing.
-use mathlib.Core.Path.{◌≡◌, ap, ◌∙◌}
+use mathlib.Core.Path.{◌≡◌}
 use Prim.Native.Nat.{◌+◌, ◌*◌, ◌-◌, ◌≤◌}
-use native.Mathlib.Omega.{arith}
-use mir.Syntax.{w64}
-use mir.Val.{to_z, of_z, bool_byte}
-use mir.Facts.{to_z-of_z}
-use native.Mathlib.Nat.{zero-add, sub-zero}
-use borrow.Author.Rules.{sfits_of}
-use Rattle.lists.specs.Tests.{bit}
-use Rattle.lists.proofs.Scans.{count_step, count_end}
-use Rattle.darts.specs.Positions.{side_cell}
-use Rattle.links.proofs.Words.{same_word, cell_test}
 use Rattle.lists.specs.Scans.{count_of as count_of}
 use Rattle.lists.specs.Tables.{table}
-use Rattle.lists.proofs.Counts.{byte_bit, byte_most}
 use Rattle.links.specs.Linking.{positions, leaves_node}
 use Rattle.links.proofs.edge_ends.Given as goal
 

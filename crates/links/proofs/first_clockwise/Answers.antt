@@ -1,8 +1,7 @@
 -- `links::first_clockwise` meets its contract: the choice, with what is left, is the choice of all. Assumes nothing.
 use mathlib.Core.Path.{◌≡◌, refl, sym, ap, ◌∙◌, subst}
 use mathlib.Core.Bool.{Bool, cond}
-use mathlib.Core.Logic.{⊎_elim}
-use Prim.Native.Nat.{ℕ, ◌+◌, ◌*◌, ◌-◌, ◌<◌, ◌≤◌}
+use Prim.Native.Nat.{ℕ, ◌+◌, ◌*◌, ◌<◌}
 use native.Mathlib.Omega.{arith}
 use lib.IntN.{ℤ}
 use mir.Syntax.{w64}
@@ -82,11 +81,11 @@ halfway c =
     let fits = sfits_of c.t17-1.given in
     let cell = sym (side_even a.edges.now l.i 1) in
     elim c.if-edges-i.branch [
-      then-edges-i+then-p-a k ↦ passed-chosen w v a.edges.now node a.a a.b n l.invariant.1 b
+      | then-edges-i+then-p-a k ↦ passed-chosen w v a.edges.now node a.a a.b n l.invariant.1 b
           (cell_is fits s.ranges.node cell k.if-edges-i.true) k.if-p-a.true (k.h-is ∙ k.chosen-h.ensures)
-    | then-edges-i+else-p-a k ↦ passed_but w v a.edges.now node a.a a.b n l.invariant.1 b
+      | then-edges-i+else-p-a k ↦ passed_but w v a.edges.now node a.a a.b n l.invariant.1 b
           (cell_is fits s.ranges.node cell k.if-edges-i.true) k.if-p-a.false k.h-is
-    | else-edges-i k ↦ passed_other w v a.edges.now node a.a a.b n l.invariant.1 b
+      | else-edges-i k ↦ passed_other w v a.edges.now node a.a a.b n l.invariant.1 b
           (cell-differs fits s.ranges.node cell k.if-edges-i.false) k.h-is
     ]
 
@@ -150,11 +149,11 @@ loop-i-preserved c =
       omega arith,
       subst (Passed w v a.edges.now node a.a a.b n c.if-edges-i-2.h) e
           (elim c.if-edges-i-2.branch [
-            then-edges-i-2+then-p-a-2 k ↦ passed-chosen w v a.edges.now node a.a a.b n (halfway j) b
+            | then-edges-i-2+then-p-a-2 k ↦ passed-chosen w v a.edges.now node a.a a.b n (halfway j) b
                 (cell_is fits s.ranges.node cell k.if-edges-i-2.true) k.if-p-a-2.true (k.h-is ∙ k.chosen-h-then-p-a-2.ensures)
-          | then-edges-i-2+else-p-a-2 k ↦ passed_but w v a.edges.now node a.a a.b n (halfway j) b
+            | then-edges-i-2+else-p-a-2 k ↦ passed_but w v a.edges.now node a.a a.b n (halfway j) b
                 (cell_is fits s.ranges.node cell k.if-edges-i-2.true) k.if-p-a-2.false k.h-is
-          | else-edges-i-2 k ↦ passed_other w v a.edges.now node a.a a.b n (halfway j) b
+            | else-edges-i-2 k ↦ passed_other w v a.edges.now node a.a a.b n (halfway j) b
                 (cell-differs fits s.ranges.node cell k.if-edges-i-2.false) k.h-is
           ]),
     )

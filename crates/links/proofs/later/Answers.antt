@@ -2,7 +2,6 @@
 use mathlib.Core.Path.{◌≡◌, sym, ap, ◌∙◌}
 use Rattle.plane.specs.Directions.{Way, way_to, before}
 use Rattle.darts.specs.Positions.{way_with}
-use borrow.Author.Rules.{rules}
 use Rattle.links.proofs.later.Lts as lts
 use Rattle.links.proofs.later.Tie as tie
 use Rattle.links.proofs.later.Reads as reads

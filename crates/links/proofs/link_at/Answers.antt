@@ -14,7 +14,6 @@ use Rattle.map_rows.proofs.Rows.{edge-row_of}
 use Rattle.darts.specs.Positions.{reverse_of, dart_at, side_place}
 use Rattle.darts.proofs.Positions.{reverse_below}
 use Rattle.links.specs.Linking.{redirected}
-use borrow.Author.Rules.{rules}
 use Rattle.links.proofs.link_at.Goals as goal
 
 pub dart_at-d-requires : goal.dart_at-d-requires

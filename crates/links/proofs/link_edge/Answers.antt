@@ -7,7 +7,6 @@ use lib.IntN.{ℤ}
 use Rattle.map_rows.specs.Rows.{EdgeRows}
 use Rattle.links.specs.Linking.{linked_in}
 use Rattle.links.proofs.LinksKept.{linked_in_kept}
-use borrow.Author.Rules.{rules}
 use Rattle.links.proofs.link_edge.Goals as goal
 
 pub link_in-requires-2 : goal.link_in-requires-2

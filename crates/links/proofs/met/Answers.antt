@@ -13,7 +13,6 @@ use Rattle.map_rows.proofs.Rows.{edge-row_of}
 use Rattle.darts.specs.Positions.{side_cell, way_at, way_with}
 use Rattle.links.specs.Linking.{departures_but, first_met}
 use Rattle.links.proofs.FirstMet.{met-same, leaving_below, with_none}
-use borrow.Author.Rules.{rules}
 use Rattle.links.proofs.met.Goals as goal
 
 pub step_at-v-requires : goal.step_at-v-requires

@@ -1,9 +1,8 @@
 -- `links::redirect` meets its contract: one pass over the rows left, from what the rows passed left, is the two sweeps
 -- of all. Assumes nothing.
 use mathlib.Core.Path.{◌≡◌, refl, sym, ap, ◌∙◌}
-use mathlib.Core.Logic.{⊎_elim}
 use mathlib.Core.List.{List}
-use Prim.Native.Nat.{ℕ, ◌+◌, ◌*◌, ◌-◌, ◌≤◌}
+use Prim.Native.Nat.{◌+◌, ◌*◌, ◌-◌}
 use native.Mathlib.Nat.{sub-zero}
 use native.Mathlib.Omega.{arith}
 use lib.IntN.{ℤ}
@@ -14,7 +13,6 @@ use mir.Facts.{to_z-of_z}
 use borrow.Author.Rules.{sfits_of}
 use Rattle.lists.specs.Tables.{sweep}
 use Rattle.lists.proofs.Scans.{sweep_step, sweep-end}
-use Rattle.tables.specs.Tables.{replace_at}
 use Rattle.tables.proofs.Order.{word_is, replace_hit, replace_miss, replace_length}
 use Rattle.links.specs.Linking.{redirected}
 use Rattle.links.proofs.Kept.{replace_swap}
@@ -36,9 +34,9 @@ left c =
     let new = to_z w64 (of_z w64 a.new) in
     let read : old ≡ a.old = to_z-of_z {w = w64} s.ranges.old in
     elim c.if-edges-i.branch [
-      then-edges-i w ↦ w.edges-is ∙ sym (replace_hit old new l.edges (l.i * 32 + 3)
+      | then-edges-i w ↦ w.edges-is ∙ sym (replace_hit old new l.edges (l.i * 32 + 3)
           (word_is (sfits_of c.t11-1.given) s.ranges.old w.if-edges-i.true ∙ sym read))
-    | else-edges-i w ↦ w.edges-is ∙ sym (replace_miss old new l.edges (l.i * 32 + 3)
+      | else-edges-i w ↦ w.edges-is ∙ sym (replace_miss old new l.edges (l.i * 32 + 3)
           (λ e. w.if-edges-i.false (ap (of_z w64) (e ∙ read))))
     ]
 
@@ -56,9 +54,9 @@ right c =
     let new = to_z w64 (of_z w64 a.new) in
     let read : old ≡ a.old = to_z-of_z {w = w64} s.ranges.old in
     elim c.if-edges-i-2.branch [
-      then-edges-i-2 w ↦ w.edges-is ∙ sym (replace_hit old new t (i * 32 + 4)
+      | then-edges-i-2 w ↦ w.edges-is ∙ sym (replace_hit old new t (i * 32 + 4)
           (word_is (sfits_of c.t11-in-loop-i-1.given) s.ranges.old w.if-edges-i-2.true ∙ sym read))
-    | else-edges-i-2 w ↦ w.edges-is ∙ sym (replace_miss old new t (i * 32 + 4)
+      | else-edges-i-2 w ↦ w.edges-is ∙ sym (replace_miss old new t (i * 32 + 4)
           (λ e. w.if-edges-i-2.false (ap (of_z w64) (e ∙ read))))
     ]
 

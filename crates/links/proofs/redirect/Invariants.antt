@@ -1,24 +1,12 @@
 -- `links::redirect` meets its contract: one pass over the rows left, from what the rows passed left, is the two sweeps
 -- of all. Assumes nothing.
-use mathlib.Core.Path.{◌≡◌, refl, sym, ap, ◌∙◌}
-use mathlib.Core.Logic.{⊎_elim}
+use mathlib.Core.Path.{◌≡◌}
 use mathlib.Core.List.{List}
 use Prim.Native.Nat.{ℕ, ◌+◌, ◌*◌, ◌-◌, ◌≤◌}
-use native.Mathlib.Nat.{sub-zero}
-use native.Mathlib.Omega.{arith}
 use lib.IntN.{ℤ}
 use lib.ListN.{length}
-use mir.Syntax.{w64}
-use mir.Val.{to_z, of_z}
-use mir.Facts.{to_z-of_z}
-use borrow.Author.Rules.{sfits_of}
 use Rattle.lists.specs.Tables.{sweep}
-use Rattle.lists.proofs.Scans.{sweep_step, sweep-end}
 use Rattle.tables.specs.Tables.{replace_at}
-use Rattle.tables.proofs.Order.{word_is, replace_hit, replace_miss, replace_length}
-use Rattle.links.specs.Linking.{redirected}
-use Rattle.links.proofs.Kept.{replace_swap}
-use Rattle.links.proofs.Sweeps.{one_pass}
 use Rattle.links.proofs.redirect.Given as goal
 
 -- a link of row i

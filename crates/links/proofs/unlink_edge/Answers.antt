@@ -12,7 +12,6 @@ use Rattle.map.specs.Rows.{dart_cell}
 use Rattle.map_rows.proofs.Rows.{edge-row_of}
 use Rattle.darts.specs.Positions.{dart_at, side_cell}
 use Rattle.links.specs.Linking.{redirected}
-use borrow.Author.Rules.{rules}
 use Rattle.links.proofs.unlink_edge.Goals as goal
 
 pub dart_at-d-requires : goal.dart_at-d-requires

@@ -1,8 +1,6 @@
 -- `links::way_taken` meets its contract. Assumes nothing.
 use mathlib.Core.Path.{◌≡◌, sym, ◌∙◌, subst}
-use mathlib.Core.Logic.{⊎_elim}
-use mathlib.Core.Bool.{Bool}
-use Prim.Native.Nat.{ℕ, ◌+◌, ◌*◌, ◌-◌, ◌/◌, ◌≤◌}
+use Prim.Native.Nat.{ℕ, ◌+◌, ◌*◌, ◌/◌}
 use native.Mathlib.Omega.{arith}
 use mir.Syntax.{w64}
 use mir.Val.{to_z, of_z}
@@ -13,7 +11,6 @@ use Rattle.lists.proofs.Scans.{any_hit, any_miss, any_end}
 use Rattle.map_rows.proofs.Rows.{edge-row_of}
 use Rattle.lists.specs.Tests.{same}
 use Rattle.lists.specs.Scans.{any_of}
-use Rattle.lists.specs.Tables.{table}
 use Rattle.plane.specs.Directions.{way_to}
 use Rattle.links.specs.Linking.{positions}
 use Rattle.links.proofs.ByRows.{taken, near_start, near_end, taken_none, taken_here, taken_past}
@@ -84,9 +81,9 @@ halfway c =
     let near = near_start a.edges.now a.own l.i s.ranges.node (sfits_of b.t12-1.given) in
     sym (any_miss (λ q. q) (l.i * 2) (a.count * 2) (taken a.edges.now node a.own v) (omega arith)
     (elim c.if-edges-i.branch [
-      then-edges-i+else-same_way k ↦ taken_past a.edges.now node a.own v (l.i * 2) near k.same_way.ensures
+      | then-edges-i+else-same_way k ↦ taken_past a.edges.now node a.own v (l.i * 2) near k.same_way.ensures
           k.step_at.ensures.way k.if-same_way.false
-    | else-edges-i k ↦ taken_none a.edges.now node a.own v (l.i * 2) near k.if-edges-i.false
+      | else-edges-i k ↦ taken_none a.edges.now node a.own v (l.i * 2) near k.if-edges-i.false
     ]))
     ∙ l.invariant.1
 
@@ -157,9 +154,9 @@ loop-i-preserved c =
       subst (λ (p : ℕ). any_from f p (a.count * 2) ≡ any_of f (positions a.count)) e
           (sym (any_miss (λ q. q) (l.i * 2 + 1) (a.count * 2) f (omega arith)
           (elim c.if-edges-i-2.branch [
-            then-edges-i-2+else-same_way-2 k ↦ taken_past a.edges.now node a.own v (l.i * 2 + 1) near
+            | then-edges-i-2+else-same_way-2 k ↦ taken_past a.edges.now node a.own v (l.i * 2 + 1) near
                 k.same_way-then-edges-i-2.ensures k.step_at-then-edges-i-2.ensures.way k.if-same_way-2.false
-          | else-edges-i-2 k ↦ taken_none a.edges.now node a.own v (l.i * 2 + 1) near k.if-edges-i-2.false
+            | else-edges-i-2 k ↦ taken_none a.edges.now node a.own v (l.i * 2 + 1) near k.if-edges-i-2.false
           ])) ∙ halfway j),
     )
 

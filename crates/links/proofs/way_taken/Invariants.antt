@@ -1,22 +1,12 @@
 -- `links::way_taken` meets its contract. Assumes nothing.
-use mathlib.Core.Path.{◌≡◌, sym, ◌∙◌, subst}
-use mathlib.Core.Logic.{⊎_elim}
+use mathlib.Core.Path.{◌≡◌}
 use mathlib.Core.Bool.{Bool}
-use Prim.Native.Nat.{ℕ, ◌+◌, ◌*◌, ◌-◌, ◌/◌, ◌≤◌}
-use native.Mathlib.Omega.{arith}
-use mir.Syntax.{w64}
-use mir.Val.{to_z, of_z}
-use mir.Facts.{to_z-of_z}
-use native.Mathlib.Nat.{sub-zero}
-use borrow.Author.Rules.{sfits_of}
-use Rattle.lists.proofs.Scans.{any_hit, any_miss, any_end}
-use Rattle.map_rows.proofs.Rows.{edge-row_of}
-use Rattle.lists.specs.Tests.{same}
+use Prim.Native.Nat.{ℕ, ◌*◌, ◌-◌, ◌≤◌}
 use Rattle.lists.specs.Scans.{any_of}
 use Rattle.lists.specs.Tables.{table}
 use Rattle.plane.specs.Directions.{way_to}
 use Rattle.links.specs.Linking.{positions}
-use Rattle.links.proofs.ByRows.{taken, near_start, near_end, taken_none, taken_here, taken_past}
+use Rattle.links.proofs.ByRows.{taken}
 use Rattle.links.proofs.way_taken.Given as goal
 
 -- whether one of the positions left has the direction

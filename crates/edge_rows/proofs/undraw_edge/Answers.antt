@@ -1,0 +1,36 @@
+-- `edge_rows::undraw_edge` meets its contract: the tests look at the row unlinked and not yet gone. Assumes nothing.
+use borrow.Author.Rules.{rules}
+use mathlib.Core.Path.{ap, ap₂, ◌∙◌}
+use mathlib.Core.List.{List}
+use lib.IntN.{ℤ}
+use mir.Syntax.{w64}
+use mir.Facts.{to_z-of_z}
+use Rattle.tables.specs.Tables.{closed}
+use Rattle.links.proofs.LinkedEdges.{unlinked_edge_kept}
+use Rattle.edge_rows.specs.Holds.{isolated_without}
+use Rattle.edge_rows.proofs.undraw_edge.Goals as goal
+
+pub is_isolated_without-start-requires : goal.is_isolated_without-start-requires
+is_isolated_without-start-requires c =
+    let s = c in
+    (rw c.unlink_edge.ensures (unlinked_edge_kept s.requires.0 s.args.i s.requires.1), s.requires.1)
+
+pub is_isolated_without-end-requires : goal.is_isolated_without-end-requires
+is_isolated_without-end-requires c =
+    let s = c in (
+      rw c.unlink_edge.ensures
+          (unlinked_edge_kept s.requires.0 s.args.i s.requires.1),
+      s.requires.1,
+    )
+
+pub returns : goal.returns
+returns c =
+    let s = c in
+    let a = s.args in
+    let u = c.unlink_edge.ensures in (
+      c.remove_row.ensures ∙ ap (λ (l : List ℤ). closed 32 l a.count a.i) u,
+      c.is_isolated_without-start.ensures
+          ∙ ap₂ (λ (l : List ℤ) (z : ℤ). isolated_without l a.count a.i z) u (to_z-of_z {w = w64} s.ranges.u),
+      c.is_isolated_without-end.ensures
+          ∙ ap₂ (λ (l : List ℤ) (z : ℤ). isolated_without l a.count a.i z) u (to_z-of_z {w = w64} s.ranges.v),
+    )

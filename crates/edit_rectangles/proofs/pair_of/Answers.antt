@@ -1,0 +1,54 @@
+-- `edit_rectangles::pair_of` meets its contract: the row with the number is found, or there is none. Assumes nothing.
+use borrow.Author.Rules.{rules}
+use mathlib.Core.Path.{◌≡◌, refl, sym, ap, ◌∙◌}
+use mir.Syntax.{w64}
+use mir.Facts.{to_z-of_z}
+use Rattle.lists.specs.Tables.{place}
+use Rattle.lists.specs.declared.Found.TheVariants.{At}
+use Rattle.map.specs.Limits.{edge_width}
+use Rattle.tables.specs.Tables.{same_z, column}
+use Rattle.map_rows.proofs.Rows.{edge_rows_rising, edge-row_of}
+use Rattle.map_rows.proofs.Lookups.{edge_found}
+use Rattle.outcomes.proofs.Words.{place_told}
+use Rattle.edit_rectangles.specs.FacePairs.{pair_found}
+use Rattle.edit_rectangles.proofs.pair_of.Lts as lts
+use Rattle.edit_rectangles.proofs.pair_of.Tie as tie
+use Rattle.edit_rectangles.proofs.pair_of.Reads as reads
+use Rattle.edit_rectangles.proofs.pair_of.Goals as goal
+
+-- places in the code, by their names in what is generated
+abbrev In-At-2 : Type 0
+In-At-2 = lts.After-found tie.the-claims reads.Pre reads.Post
+
+pub returns-in_default : goal.returns-in_default
+returns-in_default c =
+    let m = c in
+    let s = m in
+    let a = s.args in
+    sym (ap (pair_found a.edges.now) (place_told edge_width a.edges.now {n = a.count} refl
+    (to_z-of_z {w = w64} s.ranges.edge) m.find_row-found.ensures c.in_default.is))
+
+placed : (c : In-At-2)
+    → let a = c.args in
+    place (same_z a.edge) 0 (column edge_width a.edges.now a.count) ≡ At c.in-At.i
+placed c =
+    let m = c in
+    let s = m in
+    place_told edge_width s.args.edges.now {n = s.args.count} refl (to_z-of_z {w = w64} s.ranges.edge)
+    m.find_row-found.ensures c.in-At.is
+
+pub pair_at-requires : goal.pair_at-requires
+pair_at-requires c =
+    let d = c in
+    let s = d in
+    let a = s.args in
+    let i = d.in-At.i in
+    edge-row_of s.requires i (edge_found a.edges.now a.count s.requires.ranges a.edge i (placed d)).0
+
+pub returns : goal.returns
+returns c =
+    let d = c in
+    c.pair_at.ensures ∙ sym (ap (pair_found d.args.edges.now) (placed d))
+
+pub find_row-found-requires : goal.find_row-found-requires
+find_row-found-requires c = edge_rows_rising c.requires

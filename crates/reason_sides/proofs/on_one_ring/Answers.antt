@@ -1,0 +1,49 @@
+-- `reason_sides::on_one_ring` meets its contract: where two faces lie beside the edge its sides are two rings. Assumes
+-- nothing.
+use borrow.Author.Tests.{not-true}
+use mathlib.Core.Path.{◌≡◌, sym, ◌∙◌}
+use Prim.Native.Nat.{◌+◌, ◌*◌, ◌<◌}
+use native.Mathlib.Omega.{arith}
+use lib.IntN.{nat_abs}
+use Rattle.map_rows.proofs.Rows.{edge-row_of}
+use Rattle.head.proofs.Words.{edges_natural, edges_read}
+use Rattle.outcomes.proofs.Formed.{counted}
+use Rattle.reason_sides.proofs.Sides.{ended, two_faces}
+use Rattle.reason_sides.proofs.on_one_ring.Goals as goal
+
+count : (c : goal.After-to_usize) → c.to_usize.result ≡ nat_abs c.args.h.edges
+count c = edges_read (counted c.requires.0) c.to_usize.ensures
+
+few : (c : goal.After-to_usize) → c.args.i * 2 + 1 < 4000
+few c = let s = c in omega (arith, s.requires.1, (ended s.requires.0).few_edges)
+
+pub returns-then-not-one_face : goal.returns-then-not-one_face
+returns-then-not-one_face c =
+    let s = c in
+    sym (two_faces s.requires.0 s.args.i s.requires.1 (sym c.one_face.ensures
+    ∙ c.if-not-one_face.true-raw))
+
+pub on_ring-requires : goal.on_ring-requires
+on_ring-requires c =
+    let s = c in
+    let n = count c in
+    let t = ended s.requires.0 in
+    (rw n t.edges, rw n t.few_edges, rw n (omega (arith, s.requires.1)), rw n (omega (arith, s.requires.1)))
+
+pub one_face-requires : goal.one_face-requires
+one_face-requires c = edge-row_of (ended c.requires.0).edges c.args.i c.requires.1
+
+pub to_usize-requires : goal.to_usize-requires
+to_usize-requires c = edges_natural (counted c.requires.0)
+
+pub overflow_mul-i : goal.overflow_mul-i
+overflow_mul-i c = omega (arith, few c)
+
+pub overflow_mul-i-2 : goal.overflow_mul-i-2
+overflow_mul-i-2 c = omega (arith, few c)
+
+pub overflow_add-i : goal.overflow_add-i
+overflow_add-i c = omega (arith, few c)
+
+pub returns : goal.returns
+returns c = rw (count c.before) at c.on_ring.ensures

@@ -1,0 +1,25 @@
+-- `reason_sides::same_piece` meets its contract: labels tell pieces apart. Assumes nothing.
+use borrow.Author.Rules.{rules, sfits_of}
+use mathlib.Core.Path.{ap₂, ◌∙◌}
+use Prim.Native.Nat.{ℕ, ◌+◌, ◌*◌}
+use lib.IntN.{ℤ, pos}
+use lib.ListN.{get_or}
+use mir.Syntax.{w64}
+use mir.Facts.{to_z-of_z}
+use Rattle.lists.specs.Tests.{same}
+use Rattle.map.specs.Limits.{edge_width}
+use Rattle.reason_sides.proofs.Pieces.{labels_tell}
+use Rattle.reason_sides.proofs.same_piece.Goals as goal
+
+pub returns : goal.returns
+unfolding same
+returns c =
+    let b = c in
+    let s = b in
+    let a = s.args in
+    let p = s.requires in
+    let start : ℕ → ℤ = λ k. get_or a.edges.now (k * edge_width + 1) (pos 0) in
+    ap₂ same
+    (rw (to_z-of_z {w = w64} {z = start a.j} (sfits_of b.label_of-arg-1.given)) at b.label_of-a.ensures)
+    (rw (to_z-of_z {w = w64} {z = start a.i} (sfits_of c.label_of-arg-2-1.given)) at c.label_of-b.ensures)
+    ∙ labels_tell p.0 p.3 a.j a.i p.2 p.1
