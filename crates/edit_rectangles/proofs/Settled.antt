@@ -150,9 +150,9 @@ module _ {nodes edges faces : List ℤ} {h : Head} (F : Formed nodes edges faces
     unfolding lent_with
     cells = ap (λ (x : Lent). x.edges) left
 
-    face_cells : faces_in (s.faces * face_width) old m'.faces ≡ faces'
+    face_cells_lem : faces_in (s.faces * face_width) old m'.faces ≡ faces'
     unfolding lent_with
-    face_cells = ap (λ (x : Lent). x.faces) left
+    face_cells_lem = ap (λ (x : Lent). x.faces) left
 
     edges_many : length m'.edges ≡ nat_abs h'.edges
     edges_many = ap (λ (x : Head). nat_abs x.edges) head
@@ -180,7 +180,7 @@ module _ {nodes edges faces : List ℤ} {h : Head} (F : Formed nodes edges faces
     faces_fit =
         let a = filled-least (s.faces * face_width) (flat_map (face_cells old) m'.faces) in
         let b = flat_length face_width (face_cells old) m'.faces (faces_wide old m'.faces) in
-        let c = ap length face_cells in
+        let c = ap length face_cells_lem in
         let d = faces_many in
         omega arith
 
@@ -190,12 +190,12 @@ module _ {nodes edges faces : List ℤ} {h : Head} (F : Formed nodes edges faces
         ∙ sym (flat_length face_width (face_cells box) m'.faces (faces_wide box m'.faces))
 
     long : (box : ℕ → Extent) → faces_in (length faces') box m'.faces ≡ faces_in (s.faces * face_width) box m'.faces
-    long box = ap (λ (x : List ℤ). faces_in (length x) box m'.faces) (sym face_cells)
+    long box = ap (λ (x : List ℤ). faces_in (length x) box m'.faces) (sym face_cells_lem)
         ∙ filled_alike (s.faces * face_width) (flat_map (face_cells old) m'.faces)
         (flat_map (face_cells box) m'.faces) (alike box)
 
     old_faces : faces_in (length faces') old m'.faces ≡ faces'
-    old_faces = long old ∙ face_cells
+    old_faces = long old ∙ face_cells_lem
 
     -- ---- with the rectangles set
 

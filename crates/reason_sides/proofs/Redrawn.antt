@@ -2,7 +2,7 @@
 -- ring loses what its curve has more than the new one, and both pass over the same points. Assumes nothing.
 use mathlib.Core.Path.{◌≡◌, refl, sym, ap, ap₂, ◌∙◌}
 use mathlib.Core.Bool.{Bool, true, false, not, true≢false, ◌||◌}
-use mathlib.Core.List.{List, ◌∷◌, ◌++◌, Memᴰ, Permᴰ}
+use mathlib.Core.List.{List, ◌∷◌, Memᴰ, Permᴰ}
 use mathlib.Core.List.Permᴰ
 use Prim.Native.Nat.{ℕ}
 use lib.IntN.{ℤ, ◌+ℤ◌, ◌-ℤ◌}

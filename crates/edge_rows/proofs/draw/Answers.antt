@@ -45,7 +45,7 @@ overflow_add-e c =
 
 pub link_edge-requires : goal.link_edge-requires
 link_edge-requires c =
-    let w = c in
+    let w = c.before.before.before.before.before in
     let s = w in
     let n = edges_read s.requires.held.counted c.to_usize-e.ensures in
     (rw (n, written w) (pushed_held s.requires).rows, omega arith, omega (arith, s.requires.held.counted.edges.most))
@@ -53,7 +53,7 @@ link_edge-requires c =
 pub returns : goal.returns
 returns c =
     let k = c in
-    let w = k in
+    let w = c.before.before.before.before.before.before.before.before.before.before.before.before.before in
     let s = w in
     drawn_as s.requires
     (c.set_face-2.ensures
@@ -72,4 +72,4 @@ set_face-requires c = start_fits c.requires
 pub set_face-requires-2 : goal.set_face-requires-2
 set_face-requires-2 c = let s =
     c in
-    rw (c.set_face.ensures, length-set) (end_fits s.pre)
+    rw (c.set_face.ensures, length-set) (end_fits s.requires)

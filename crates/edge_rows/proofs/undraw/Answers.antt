@@ -66,7 +66,7 @@ start-faced : (c : After-give_face)
     c.give_face.new.nodes ≡ faced_if a.nodes.now (nat_abs a.h.nodes) (pos (edge_at l a.i).start) a.face
     (isolated_without (unlinked_edge l n a.i) n a.i (pos (edge_at l a.i).start))
 start-faced c =
-    let g = c in
+    let g = c.before.before.before in
     let s = g in
     let l = s.args.nodes.now in
     c.give_face.ensures
@@ -76,7 +76,7 @@ start-faced c =
 
 pub give_face-requires-2 : goal.give_face-requires-2
 give_face-requires-2 c =
-    let f = c in
+    let f = c.before.before.before in
     let g = f in
     let s = g in
     let n = nodes_read s.requires.held.counted g.to_usize-n.ensures in
@@ -84,8 +84,8 @@ give_face-requires-2 c =
 
 pub returns : goal.returns
 returns c =
-    let f = c in
-    let g = f in
+    let f = c.before.before.before.before.before in
+    let g = f.before.before.before in
     let s = g in
     let n = nodes_read s.requires.held.counted g.to_usize-n.ensures in
     undrawn_as s.requires
@@ -103,4 +103,4 @@ to_usize-e-requires c = edges_natural c.requires.held.counted
 
 pub changed-requires : goal.changed-requires
 changed-requires c = let s =
-    c in let r = s.pre.row in search rules
+    c in let r = s.requires.row in search rules

@@ -1,6 +1,5 @@
 -- `edit_nodes::add_reason` meets its contract: 4 where a face is given that is not found, else a reason of the point.
 -- Assumes nothing.
-use borrow.Author.Rules.{rules}
 use mathlib.Core.Path.{◌≡◌, sym, ap, ◌∙◌}
 use mathlib.Core.Bool.{Bool}
 use lib.IntN.{nat_abs}

@@ -1,17 +1,12 @@
 -- `edit_nodes::move_node` meets its contract: a missing row is turned down, and a row that is found is worked on.
 -- Assumes nothing.
-use borrow.Author.Rules.{rules}
-use mathlib.Core.Path.{◌≡◌, sym, ◌∙◌}
+use mathlib.Core.Path.{sym, ◌∙◌}
 use lib.Dec.{lit<}
-use lib.IntN.{nat_abs}
 use mir.Syntax.{w64}
 use mir.Facts.{to_z-of_z}
-use Rattle.lists.specs.Tables.{place}
-use Rattle.lists.specs.declared.Found.TheVariants.{At}
 use Rattle.map.specs.Limits.{node_width}
 use Rattle.map.specs.Rows.{lent}
 use Rattle.map.specs.Tickets.{MoveIsoNode}
-use Rattle.tables.specs.Tables.{same_z, column}
 use Rattle.map_rows.proofs.Rows.{node_rows_rising}
 use Rattle.outcomes.specs.Outcomes.{decided}
 use Rattle.outcomes.proofs.Formed.{node_rows_lem, counted, decided-refused}
@@ -19,14 +14,7 @@ use Rattle.head.proofs.Words.{nodes_natural, nodes_read}
 use Rattle.outcomes.proofs.Words.{place_told}
 use Rattle.outcomes.proofs.FoundRows.{node_in, node-number}
 use Rattle.edit_nodes.proofs.Rows.{move_missing}
-use Rattle.edit_nodes.proofs.move_node.Lts as lts
-use Rattle.edit_nodes.proofs.move_node.Tie as tie
-use Rattle.edit_nodes.proofs.move_node.Reads as reads
 use Rattle.edit_nodes.proofs.move_node.Goals as goal
-
--- places in the code, by their names in what is generated
-abbrev In-At-2 : Type 0
-In-At-2 = lts.After-found tie.the-claims reads.Pre reads.Post
 
 pub returns-in_default : goal.returns-in_default
 returns-in_default c =
@@ -38,21 +26,14 @@ returns-in_default c =
     (nodes_read (counted s.requires) m.to_usize-n.ensures) (to_z-of_z {w = w64} s.ranges.node)
     m.find_row-found.ensures c.in_default.is) a.x a.y)
 
-node_at_lem : (c : In-At-2)
-    → let a = c.args in
-    place (same_z a.node) 0 (column node_width a.nodes.now (nat_abs a.h.nodes)) ≡ At c.in-At.i
-node_at_lem c =
-    let m = c in
-    let s = m in
-    place_told node_width s.args.nodes.now (nodes_read (counted s.requires) m.to_usize-n.ensures)
-    (to_z-of_z {w = w64} s.ranges.node) m.find_row-found.ensures c.in-At.is
-
 pub returns : goal.returns
 returns c =
     let d = c in
     let s = d in
     let a = s.args in
-    let number = sym (node-number s.requires a.node d.in-At.i (node_at_lem d)) in
+    let at = place_told node_width s.args.nodes.now (nodes_read (counted s.requires) d.to_usize-n.ensures)
+    (to_z-of_z {w = w64} s.ranges.node) d.find_row-found.ensures d.in-At.is in
+    let number = sym (node-number s.requires a.node d.in-At.i at) in
     let x = to_z-of_z {w = w64} s.ranges.x in
     let y = to_z-of_z {w = w64} s.ranges.y in
     c.move_at_row.ensures
@@ -66,5 +47,9 @@ find_row-found-requires c = let s = c in
     rw (nodes_read (counted s.requires) c.to_usize-n.ensures) (node_rows_rising (node_rows_lem s.requires))
 
 pub move_at_row-requires : goal.move_at_row-requires
-move_at_row-requires c = let d = c in let s = d in
-    (s.requires, node_in s.requires s.args.node d.in-At.i (node_at_lem d))
+move_at_row-requires c =
+    let d = c in
+    let s = d in
+    let at = place_told node_width s.args.nodes.now (nodes_read (counted s.requires) d.to_usize-n.ensures)
+    (to_z-of_z {w = w64} s.ranges.node) d.find_row-found.ensures d.in-At.is in
+    (s.requires, node_in s.requires s.args.node d.in-At.i at)

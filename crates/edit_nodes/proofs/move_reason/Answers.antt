@@ -4,7 +4,6 @@ use mathlib.Core.Bool.{Bool, not}
 use mathlib.Core.List.{[], ◌∷◌}
 use mir.Syntax.{w64}
 use mir.Facts.{to_z-of_z}
-use borrow.Author.Tests.{not-false}
 use Rattle.curves.specs.Curves.{point}
 use Rattle.map.specs.Reasons.{first_reason, outside}
 use Rattle.map.proofs.Reasons.{first_hit, first_miss, first_none}
@@ -79,7 +78,7 @@ to_usize-requires-2 c = edges_natural (counted c.requires.0)
 
 pub point_of-requires : goal.point_of-requires
 point_of-requires c = let k = c in
-    sym k.in_range.ensures ∙ k.if-not-in_range.false-raw
+    sym k.in_range.ensures ∙ k.if-not-in_range.false
 
 pub returns-then-point_is_taken : goal.returns-then-point_is_taken
 returns-then-point_is_taken c = sym (first_hit 10 _ _ c.if-point_is_taken.true) ∙ passed c.before

@@ -5,7 +5,6 @@ use mathlib.Core.List.{[], ◌∷◌}
 use native.Mathlib.Omega.{arith}
 use mir.Syntax.{w64}
 use mir.Facts.{to_z-of_z}
-use borrow.Author.Tests.{not-false}
 use Rattle.curves.specs.Curves.{point}
 use Rattle.map.specs.Rows.{map_of, lent}
 use Rattle.map.specs.Reasons.{first_reason, outside}
@@ -72,7 +71,7 @@ to_usize-requires c = edges_natural (counted c.requires)
 
 pub point_of-requires : goal.point_of-requires
 point_of-requires c = let k = c in
-    sym k.in_range.ensures ∙ k.if-not-in_range.false-raw
+    sym k.in_range.ensures ∙ k.if-not-in_range.false
 
 pub returns-then-point_is_taken : goal.returns-then-point_is_taken
 returns-then-point_is_taken c = sym (first_hit 10 _ _ c.if-point_is_taken.true) ∙ passed c.before

@@ -1,17 +1,13 @@
 -- `edit_nodes::remove_node` meets its contract: a missing row is turned down, and a row that is found is worked on.
 -- Assumes nothing.
-use borrow.Author.Rules.{rules}
-use mathlib.Core.Path.{◌≡◌, sym, ap, ◌∙◌}
+use mathlib.Core.Path.{sym, ap, ◌∙◌}
 use lib.Dec.{lit<}
-use lib.IntN.{ℤ, nat_abs}
+use lib.IntN.{ℤ}
 use mir.Syntax.{w64}
 use mir.Facts.{to_z-of_z}
-use Rattle.lists.specs.Tables.{place}
-use Rattle.lists.specs.declared.Found.TheVariants.{At}
 use Rattle.map.specs.Limits.{node_width}
 use Rattle.map.specs.Rows.{lent}
 use Rattle.map.specs.Tickets.{RemoveIsoNode}
-use Rattle.tables.specs.Tables.{same_z, column}
 use Rattle.map_rows.proofs.Rows.{node_rows_rising}
 use Rattle.outcomes.specs.Outcomes.{decided}
 use Rattle.outcomes.proofs.Formed.{node_rows_lem, counted, decided-refused}
@@ -19,14 +15,7 @@ use Rattle.head.proofs.Words.{nodes_natural, nodes_read}
 use Rattle.outcomes.proofs.Words.{place_told}
 use Rattle.outcomes.proofs.FoundRows.{node_in, node-number}
 use Rattle.edit_nodes.proofs.Rows.{remove_missing}
-use Rattle.edit_nodes.proofs.remove_node.Lts as lts
-use Rattle.edit_nodes.proofs.remove_node.Tie as tie
-use Rattle.edit_nodes.proofs.remove_node.Reads as reads
 use Rattle.edit_nodes.proofs.remove_node.Goals as goal
-
--- places in the code, by their names in what is generated
-abbrev In-At-2 : Type 0
-In-At-2 = lts.After-found tie.the-claims reads.Pre reads.Post
 
 pub returns-in_default : goal.returns-in_default
 returns-in_default c =
@@ -37,23 +26,16 @@ returns-in_default c =
     (nodes_read (counted s.requires) m.to_usize-n.ensures) (to_z-of_z {w = w64} s.ranges.node)
     m.find_row-found.ensures c.in_default.is))
 
-node_at_lem : (c : In-At-2)
-    → let a = c.args in
-    place (same_z a.node) 0 (column node_width a.nodes.now (nat_abs a.h.nodes)) ≡ At c.in-At.i
-node_at_lem c =
-    let m = c in
-    let s = m in
-    place_told node_width s.args.nodes.now (nodes_read (counted s.requires) m.to_usize-n.ensures)
-    (to_z-of_z {w = w64} s.ranges.node) m.find_row-found.ensures c.in-At.is
-
 pub returns : goal.returns
 returns c =
     let d = c in
     let s = d in
     let a = s.args in
+    let at = place_told node_width s.args.nodes.now (nodes_read (counted s.requires) d.to_usize-n.ensures)
+    (to_z-of_z {w = w64} s.ranges.node) d.find_row-found.ensures d.in-At.is in
     c.remove_at_row.ensures
     ∙ ap (λ (z : ℤ). decided (lent a.nodes.now a.edges.now a.faces.now a.h) (RemoveIsoNode z))
-    (sym (node-number s.requires a.node d.in-At.i (node_at_lem d)))
+    (sym (node-number s.requires a.node d.in-At.i at))
 
 pub to_usize-n-requires : goal.to_usize-n-requires
 to_usize-n-requires c = nodes_natural (counted c.requires)
@@ -63,5 +45,9 @@ find_row-found-requires c = let s = c in
     rw (nodes_read (counted s.requires) c.to_usize-n.ensures) (node_rows_rising (node_rows_lem s.requires))
 
 pub remove_at_row-requires : goal.remove_at_row-requires
-remove_at_row-requires c = let d = c in let s = d in
-    (s.requires, node_in s.requires s.args.node d.in-At.i (node_at_lem d))
+remove_at_row-requires c =
+    let d = c in
+    let s = d in
+    let at = place_told node_width s.args.nodes.now (nodes_read (counted s.requires) d.to_usize-n.ensures)
+    (to_z-of_z {w = w64} s.ranges.node) d.find_row-found.ensures d.in-At.is in
+    (s.requires, node_in s.requires s.args.node d.in-At.i at)

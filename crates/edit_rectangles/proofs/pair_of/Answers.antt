@@ -11,14 +11,7 @@ use Rattle.map_rows.proofs.Rows.{edge_rows_rising, edge-row_of}
 use Rattle.map_rows.proofs.Lookups.{edge_found}
 use Rattle.outcomes.proofs.Words.{place_told}
 use Rattle.edit_rectangles.specs.FacePairs.{pair_found}
-use Rattle.edit_rectangles.proofs.pair_of.Lts as lts
-use Rattle.edit_rectangles.proofs.pair_of.Tie as tie
-use Rattle.edit_rectangles.proofs.pair_of.Reads as reads
 use Rattle.edit_rectangles.proofs.pair_of.Goals as goal
-
--- places in the code, by their names in what is generated
-abbrev In-At-2 : Type 0
-In-At-2 = lts.After-found tie.the-claims reads.Pre reads.Post
 
 pub returns-in_default : goal.returns-in_default
 returns-in_default c =
@@ -28,7 +21,7 @@ returns-in_default c =
     sym (ap (pair_found a.edges.now) (place_told edge_width a.edges.now {n = a.count} refl
     (to_z-of_z {w = w64} s.ranges.edge) m.find_row-found.ensures c.in_default.is))
 
-placed : (c : In-At-2)
+placed : (c : goal.In-At)
     → let a = c.args in
     place (same_z a.edge) 0 (column edge_width a.edges.now a.count) ≡ At c.in-At.i
 placed c =
@@ -47,7 +40,7 @@ pair_at-requires c =
 
 pub returns : goal.returns
 returns c =
-    let d = c in
+    let d = c.before in
     c.pair_at.ensures ∙ sym (ap (pair_found d.args.edges.now) (placed d))
 
 pub find_row-found-requires : goal.find_row-found-requires

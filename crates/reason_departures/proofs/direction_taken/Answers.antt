@@ -29,13 +29,13 @@ start c =
     c.first_step.ensures.way
 
 pub returns-then-way_taken : goal.returns-then-way_taken
-returns-then-way_taken c = rw (sym (start c), c.if-way_taken.true)
+returns-then-way_taken c = rw (sym (start c.before), c.if-way_taken.true)
 
 pub returns : goal.returns
 returns c =
     let s = c in
     let a = s.args in
-    rw (sym (start c), c.if-way_taken.false)
+    rw (sym (start c.before.before.before), c.if-way_taken.false)
     (c.way_taken-2.ensures
     ∙ ap₂ (λ (z : ℤ) (w : Way). way_taken_at a.edges.now a.count a.own z w) (to_z-of_z {w = w64} s.ranges.v)
     (c.first_step-2.ensures.way ∙ end_way_lem s.requires.1))

@@ -53,7 +53,7 @@ apart : (c : After-ends_at-2) → (let s = c in let m =
     || not ((same (edge m a).start (edge m b).start || same (edge m a).start (edge m b).end)
     || (same (edge m a).end (edge m b).start || same (edge m a).end (edge m b).end)))
 apart c =
-    let r = c in
+    let r = c.before.before in
     let s = r in
     let x = s.args in
     let l = x.edges.now in
@@ -68,23 +68,23 @@ apart c =
 joined : (c : After-joins_at-2) → (let s = c in let m =
     edge_map s.args.edges.now s.args.count in let a = (edge_at s.args.edges.now s.args.i).number in
     let b = (edge_at s.args.edges.now s.args.j).number in
-    c.Joins-at.result || c.joins_at-2.result ≡ joins_at m b (edge m a).end || joins_at m b (edge m a).start)
+    c.joins_at-2.result || c.joins_at-2.result ≡ joins_at m b (edge m a).end || joins_at m b (edge m a).start)
 joined c =
-    let r = c in
+    let r = c.before.before.before.before.before in
     let x = r.args in
     let l = x.edges.now in
     let here : ℤ → Bool = λ z. joins_at (edge_map l x.count) (edge_at l x.j).number (nat_abs z) in
-    ap₂ ◌||◌ (c.Joins-at.ensures ∙ ap here (end_read r)) (c.joins_at-2.ensures ∙ ap here (start-read r))
+    ap₂ ◌||◌ (c.joins_at-2.ensures ∙ ap here (end_read r)) (c.joins_at-2.ensures ∙ ap here (start-read r))
 
 pub joins_at-requires : goal.joins_at-requires
 joins_at-requires c =
-    let r = c in
+    let r = c.before.before.before in
     let s = r in
     (s.requires.0, s.requires.2, ap non_neg (end_read r))
 
 pub joins_at-requires-2 : goal.joins_at-requires-2
 joins_at-requires-2 c =
-    let r = c in
+    let r = c.before.before.before.before in
     let s = r in
     (s.requires.0, s.requires.2, ap non_neg (start-read r))
 
@@ -99,7 +99,7 @@ returns-then-i-j c =
     (joins_at (edge_map l x.count) (edge_at l x.j).number
     (edge (edge_map l x.count) (edge_at l x.i).number).end
     || joins_at (edge_map l x.count) (edge_at l x.j).number
-    (edge (edge_map l x.count) (edge_at l x.i).number).start) 0 17)) (sym (apart c) ∙ c.if-i-j.true))
+    (edge (edge_map l x.count) (edge_at l x.i).number).start) 0 17)) (sym (apart c.before) ∙ c.if-i-j.true))
 
 pub returns-then-joins_at : goal.returns-then-joins_at
 unfolding same
@@ -109,8 +109,8 @@ returns-then-joins_at c =
     let l = x.edges.now in
     sym (reason_is (edge_map l x.count) (edge_at l x.i).number (edge_at l x.j).number
     ∙ ap₂ (λ (b d : Bool). cond b 16 (cond d 0 17))
-    (sym (apart c) ∙ c.if-i-j.false)
-    (sym (joined c) ∙ c.if-joins_at.true))
+    (sym (apart c.before.before.before.before) ∙ c.if-i-j.false)
+    (sym (joined c.before) ∙ c.if-joins_at.true))
 
 pub returns-else-joins_at : goal.returns-else-joins_at
 unfolding same
@@ -120,5 +120,5 @@ returns-else-joins_at c =
     let l = x.edges.now in
     sym (reason_is (edge_map l x.count) (edge_at l x.i).number (edge_at l x.j).number
     ∙ ap₂ (λ (b d : Bool). cond b 16 (cond d 0 17))
-    (sym (apart c) ∙ c.if-i-j.false)
-    (sym (joined c) ∙ c.if-joins_at.false))
+    (sym (apart c.before.before.before.before) ∙ c.if-i-j.false)
+    (sym (joined c.before) ∙ c.if-joins_at.false))

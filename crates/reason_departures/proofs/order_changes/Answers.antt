@@ -51,7 +51,7 @@ returns-then-turn_changes c =
     let y = atNode l a.count a.own a.c.now
     (pos (edge (edge_map l a.count) (edge_at l a.own).number).end) in
     ap (λ (b : Bool). b || y) (sym c.if-turn_changes.true)
-    ∙ order_is s.requires.0 a.own s.requires.2 a.c.now c.turn_changes.result y (start c) refl
+    ∙ order_is s.requires.0 a.own s.requires.2 a.c.now c.turn_changes.result y (start c.before) refl
 
 pub returns : goal.returns
 unfolding atNode
@@ -65,4 +65,4 @@ returns c =
     (to_z-of_z {w = w64} (sfits_of c.turn_changes-arg-2-1.given) ∙ end-cell s.requires.0 a.own s.requires.2) in
     ap (λ (b : Bool). b || y) (sym c.if-turn_changes.false)
     ∙ order_is s.requires.0 a.own s.requires.2 a.c.now c.turn_changes.result y
-    (start c) end
+    (start c.before.before.before) end

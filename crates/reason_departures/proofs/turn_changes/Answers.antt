@@ -59,24 +59,24 @@ pub loop-k-init : goal.loop-k-init
 loop-k-init c = (omega arith, refl)
 
 pub bounds-list-k : goal.bounds-list-k
-bounds-list-k c = let d = c in
+bounds-list-k c = let d = c.before.before.before in
     omega (arith, (told d).0, d.requires.1)
 
 pub overflow_cast-p : goal.overflow_cast-p
 overflow_cast-p c =
-    let d = c in
+    let d = c.before.before.before in
     let b = listed_below (listing d) c.loop-k.k c.loop-k-test.true in
     omega (arith, b, d.requires.1)
 
 pub slice_bounds-list-end : goal.slice_bounds-list-end
-slice_bounds-list-end c = (listing c).room
+slice_bounds-list-end c = (listing c.before.before.before).room
 
 pub slice_bounds-clockwise-end : goal.slice_bounds-clockwise-end
-slice_bounds-clockwise-end c = sym (listed_long (listing c))
+slice_bounds-clockwise-end c = sym (listed_long (listing c.before.before.before.before))
 
 pub clockwise-before-requires : goal.clockwise-before-requires
 clockwise-before-requires c =
-    let d = c in
+    let d = c.before.before.before.before in
     let s = d in
     let a = s.args in (
       known_of s.requires.0 (λ o. s.requires.2) _
@@ -85,15 +85,15 @@ clockwise-before-requires c =
     )
 
 pub slice_bounds-list-end-in-loop-k : goal.slice_bounds-list-end-in-loop-k
-slice_bounds-list-end-in-loop-k c = (listing c).room
+slice_bounds-list-end-in-loop-k c = (listing c.before.before.before.before.before).room
 
 pub slice_bounds-clockwise-end-in-loop-k : goal.slice_bounds-clockwise-end-in-loop-k
-slice_bounds-clockwise-end-in-loop-k c = sym (listed_long (listing c))
+slice_bounds-clockwise-end-in-loop-k c = sym (listed_long (listing c.before.before.before.before.before.before))
 
 pub clockwise-after-requires : goal.clockwise-after-requires
 clockwise-after-requires c =
     let b = c in
-    let d = b in
+    let d = c.before.before.before.before.before.before in
     let s = d in
     let a = s.args in (
       known_of s.requires.0 (λ o. s.requires.2) _
@@ -103,14 +103,14 @@ clockwise-after-requires c =
 
 -- both turns from the departure at k
 turns : (c : After-clockwise-after)
-    → (let b = c in let d = b in let a =
+    → (let b = c in let d = c.before.before.before.before.before.before.before in let a =
     d.args in let p = get_or d.departures_at-n.new.list b.loop-k.k 0 in
     same c.clockwise-before.result c.clockwise-after.result
     ≡ same (turns_at a.edges.now a.count a.count a.c.now p)
     (turns_at a.edges.now a.count a.own a.c.now p))
 turns c =
     let b = c in
-    let d = b in
+    let d = c.before.before.before.before.before.before.before in
     let a = d.args in
     let t = c.loop-k-test.true in
     ap₂ same (c.clockwise-before.ensures ∙ listed-turn (listing d) b.loop-k.k t a.count a.c.now)
@@ -118,9 +118,9 @@ turns c =
 
 pub returns-then-before-after : goal.returns-then-before-after
 returns-then-before-after c =
-    let e = c in
+    let e = c.before in
     let b = e in
-    let d = b in
+    let d = e.before.before.before.before.before.before.before in
     let s = d in
     let a = s.args in
     let f = changes a.edges.now a.count a.own a.c.now in
@@ -133,9 +133,9 @@ returns-then-before-after c =
 
 pub loop-k-preserved : goal.loop-k-preserved
 loop-k-preserved c =
-    let e = c in
+    let e = c.before in
     let b = e in
-    let d = b in
+    let d = e.before.before.before.before.before.before.before in
     let a = d.args in
     let f = changes a.edges.now a.count a.own a.c.now in
     let t = e.loop-k-test.true in
@@ -146,7 +146,7 @@ loop-k-preserved c =
 pub returns : goal.returns
 returns c =
     let l = c.loop-k in
-    let d = c in
+    let d = c.before.before.before in
     let s = d in
     let a = s.args in
     let f = changes a.edges.now a.count a.own a.c.now in

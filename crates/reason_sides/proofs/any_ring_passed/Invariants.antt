@@ -1,15 +1,11 @@
 -- `reason_sides::any_ring_passed` meets its contract: a ring by an edge from row j on is passed over if and only if one
 -- is. Assumes nothing.
-use mathlib.Core.Path.{◌≡◌, sym, ap, ◌∙◌}
+use mathlib.Core.Path.{◌≡◌}
 use Prim.Native.Nat.{◌-◌, ◌≤◌}
-use native.Mathlib.Nat.{sub-zero}
-use native.Mathlib.Omega.{arith}
 use Rattle.lists.specs.Scans.{any_of}
 use Rattle.lists.specs.Tables.{table}
-use Rattle.lists.proofs.Scans.{any_hit, any_miss, any_end}
 use Rattle.curves.specs.Curves.{curve_of}
 use Rattle.map_rows.specs.Rows.{edge_at, edges_of, edge_map}
-use Rattle.map_rows.proofs.Rows.{edges_table}
 use Rattle.reason_sides.specs.Passing.{ring_passed}
 use Rattle.reason_sides.proofs.any_ring_passed.Given as goal
 

@@ -2,14 +2,12 @@
 -- that of one is. Assumes nothing.
 use mathlib.Core.Path.{◌≡◌, sym, ap, ap₂, ◌∙◌}
 use mathlib.Core.Bool.{Bool, not, ◌&&◌}
-use Prim.Native.Nat.{◌-◌, ◌≤◌}
 use native.Mathlib.Nat.{sub-zero}
 use native.Mathlib.Omega.{arith}
 use Rattle.lists.specs.Scans.{any_of}
-use Rattle.lists.specs.Tables.{table}
 use Rattle.lists.proofs.Scans.{any_hit, any_miss, any_end}
 use Rattle.curves.specs.Curves.{curve_of}
-use Rattle.map_rows.specs.Rows.{edge_at, edges_of}
+use Rattle.map_rows.specs.Rows.{edge_at}
 use Rattle.map_rows.proofs.Rows.{edges_table, edge-row_of}
 use Rattle.reason_sides.specs.Passing.{start_passed}
 use Rattle.reason_sides.proofs.any_start_passed.Lts as lts
@@ -61,13 +59,13 @@ returns c =
 
 pub starts_at_end-requires : goal.starts_at_end-requires
 starts_at_end-requires c = let s = c in (
-      edge-row_of s.requires.0 _ s.requires.1,
-      edge-row_of s.requires.0 _ c.loop-j-test.true,
-    )
+  edge-row_of s.requires.0 _ s.requires.1,
+  edge-row_of s.requires.0 _ c.loop-j-test.true,
+)
 
 pub passes_start-requires : goal.passes_start-requires
 passes_start-requires c = let s = c in (
-      edge-row_of s.requires.0 _ s.requires.1,
-      edge-row_of s.requires.0 _ c.loop-j-test.true,
-      s.requires.2,
-    )
+  edge-row_of s.requires.0 _ s.requires.1,
+  edge-row_of s.requires.0 _ c.loop-j-test.true,
+  s.requires.2,
+)

@@ -1,20 +1,12 @@
 -- `reason_sides::any_start_passed` meets its contract: the start of an edge from row j on is passed over if and only if
 -- that of one is. Assumes nothing.
-use mathlib.Core.Path.{◌≡◌, sym, ap, ap₂, ◌∙◌}
-use mathlib.Core.Bool.{Bool, not, ◌&&◌}
+use mathlib.Core.Path.{◌≡◌}
 use Prim.Native.Nat.{◌-◌, ◌≤◌}
-use native.Mathlib.Nat.{sub-zero}
-use native.Mathlib.Omega.{arith}
 use Rattle.lists.specs.Scans.{any_of}
 use Rattle.lists.specs.Tables.{table}
-use Rattle.lists.proofs.Scans.{any_hit, any_miss, any_end}
 use Rattle.curves.specs.Curves.{curve_of}
 use Rattle.map_rows.specs.Rows.{edge_at, edges_of}
-use Rattle.map_rows.proofs.Rows.{edges_table, edge-row_of}
 use Rattle.reason_sides.specs.Passing.{start_passed}
-use Rattle.reason_sides.proofs.any_start_passed.Lts as lts
-use Rattle.reason_sides.proofs.any_start_passed.Tie as tie
-use Rattle.reason_sides.proofs.any_start_passed.Reads as reads
 use Rattle.reason_sides.proofs.any_start_passed.Given as goal
 
 abbrev pub invariant-loop-j : goal.invariant-loop-j

@@ -1,6 +1,5 @@
 -- `reason_sides::area_changes` meets its contract: what is left of an area is positive where less is lost. Assumes
 -- nothing.
-use borrow.Author.Rules.{rules}
 use mathlib.Core.Path.{ap, ap₂, ◌∙◌}
 use mathlib.Core.Bool.{Bool, not, beq}
 use lib.IntN.{pos, ◌-ℤ◌}

@@ -1,5 +1,4 @@
 -- `reason_sides::area_lost` meets its contract: the areas of two curves differ by a number that fits. Assumes nothing.
-use borrow.Author.Rules.{rules}
 use mathlib.Core.Path.{◌≡◌, sym, ap, ap₂, ◌∙◌, subst}
 use lib.IntN.{◌-ℤ◌}
 use mir.Syntax.{w64}
@@ -12,28 +11,18 @@ use Rattle.map_rows.specs.Rows.{edge_at}
 use Rattle.map_rows.proofs.RowCurves.{run_at_lem, curve_at}
 use Rattle.rings.proofs.Reversed.{run-within}
 use Rattle.reason_sides.proofs.Areas.{lost_fits}
-use Rattle.reason_sides.proofs.area_lost.Lts as lts
-use Rattle.reason_sides.proofs.area_lost.Tie as tie
-use Rattle.reason_sides.proofs.area_lost.Reads as reads
 use Rattle.reason_sides.proofs.area_lost.Goals as goal
 
--- places in the code, by their names in what is generated
-abbrev Start : Type 0
-Start = lts.Start tie.the-claims reads.Pre reads.Post
-
 module _ (c : goal.After-area_of-2) where
-  abbrev s : Start
-  s = c
-
   read : to_z w64 (of_z w64 c.area_of.result) -ℤ to_z w64 (of_z w64 c.area_of-2.result)
-      ≡ curve_area (edge_at s.args.edges.now s.args.i).curve -ℤ curve_area (curve_of s.args.c.now)
+      ≡ curve_area (edge_at c.args.edges.now c.args.i).curve -ℤ curve_area (curve_of c.args.c.now)
   read = ap₂ ◌-ℤ◌ (sent {z = c.area_of.result} c.area_of.type_inv ∙ c.area_of.ensures
       ∙ ap curve_area c.curve_of.ensures.1)
       (sent {z = c.area_of-2.result} c.area_of-2.type_inv ∙ c.area_of-2.ensures)
 
   fits : SFits w64 (to_z w64 (of_z w64 c.area_of.result) -ℤ to_z w64 (of_z w64 c.area_of-2.result))
-  fits = subst (SFits w64) (sym read) (lost_fits (rw (curve_at s.pre.0) at (run-within (run_at_lem s.pre.0)))
-      (run-within s.pre.1))
+  fits = subst (SFits w64) (sym read) (lost_fits (rw (curve_at c.requires.0) at (run-within (run_at_lem c.requires.0)))
+      (run-within c.requires.1))
 
 pub overflow_sub-result : goal.overflow_sub-result
 overflow_sub-result c = fits c

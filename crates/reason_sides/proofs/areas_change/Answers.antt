@@ -1,5 +1,4 @@
 -- `reason_sides::areas_change` meets its contract: the one ring gains what the other loses. Assumes nothing.
-use borrow.Author.Rules.{rules}
 use mathlib.Core.Path.{◌≡◌, sym, ap, ap₂, ◌∙◌, subst}
 use mathlib.Core.Bool.{◌||◌}
 use Prim.Native.Nat.{◌*◌, ◌+◌}
@@ -30,14 +29,11 @@ abbrev After-area_lost-lost : Type 0
 After-area_lost-lost = lts.After-area_lost tie.the-claims reads.Pre reads.Post
 
 module _ (c : After-area_lost-lost) where
-  abbrev s : goal.Start
-  s = c
-
   abbrev row : ℤ
-  row = curve_area (edge_at s.args.edges.now s.args.i).curve
+  row = curve_area (edge_at c.args.edges.now c.args.i).curve
 
   abbrev new : ℤ
-  new = curve_area (curve_of s.args.c.now)
+  new = curve_area (curve_of c.args.c.now)
 
   lost-is : to_z w64 (of_z w64 c.area_lost-lost.result) ≡ row -ℤ new
   lost-is = sent {z = c.area_lost-lost.result} c.area_lost-lost.type_inv ∙ c.area_lost-lost.ensures
@@ -46,20 +42,19 @@ module _ (c : After-area_lost-lost) where
   gain-is = ap (λ (z : ℤ). pos 0 -ℤ z) lost-is ∙ solve 2 (λ x y. con (pos 0) ⊖ (x ⊖ y) ≐ y ⊖ x) tt row new
 
   gain-fits : SFits w64 (pos 0 -ℤ to_z w64 (of_z w64 c.area_lost-lost.result))
-  gain-fits = let r = edge-row_of s.pre.0 s.args.i s.pre.2 in
-      subst (SFits w64) (sym gain-is) (lost_fits (run-within s.pre.3)
+  gain-fits = let r = edge-row_of c.requires.0 c.args.i c.requires.2 in
+      subst (SFits w64) (sym gain-is) (lost_fits (run-within c.requires.3)
       (rw (curve_at r) at (run-within (run_at_lem r))))
 
 pub returns : goal.returns
 returns c =
-    let b = c.before.before in
-    let a = b.args in
+    let a = c.args in
     let m = edge_map a.edges.now a.count in
     ap₂ ◌||◌
     (c.area_changes.ensures ∙ ap (sign_changes (ring_area m (ring m (dart_at a.edges.now (a.i * 2)))))
-    (lost-is b))
+    (lost-is c.before.before))
     (c.area_changes-2.ensures ∙ ap (sign_changes (ring_area m (ring m (dart_at a.edges.now (a.i * 2 + 1)))))
-    (to_z-of_z (gain-fits b) ∙ gain-is b))
+    (to_z-of_z (gain-fits c.before.before) ∙ gain-is c.before.before))
 
 pub area_lost-lost-requires : goal.area_lost-lost-requires
 area_lost-lost-requires c = (edge-row_of c.requires.0 c.args.i c.requires.2, c.requires.3)

@@ -2,23 +2,21 @@
 -- Assumes nothing.
 use mathlib.Core.Path.{◌≡◌, sym, ap, ap₂, ◌∙◌}
 use mathlib.Core.Bool.{Bool, true, false, ◌&&◌}
-use mathlib.Core.Logic.{⊎_elim}
-use Prim.Native.Nat.{◌-◌, ◌≤◌}
 use native.Mathlib.Nat.{sub-zero}
 use native.Mathlib.Omega.{arith}
 use Rattle.lists.specs.Scans.{any_of, is_some}
-use Rattle.lists.specs.Tables.{table}
 use Rattle.lists.proofs.Scans.{any_hit, any_miss, any_end}
 use Rattle.lists.proofs.Keeps.{any_kept}
 use Rattle.plane.specs.declared.Point.{Point}
 use Rattle.curves.specs.Curves.{Curve, curve_of}
 use Rattle.map.specs.Rows.{Node}
 use Rattle.map.specs.Reasons.{isolated_points}
-use Rattle.map_rows.specs.Rows.{node_at, node_map, nodes_of}
+use Rattle.map_rows.specs.Rows.{node_at, nodes_of}
 use Rattle.map_rows.proofs.Rows.{nodes_table, node-row_of}
 use Rattle.reason_sides.specs.Passing.{passes_over}
 use Rattle.reason_sides.proofs.node_passed.Invariants.{passed}
 use Rattle.reason_sides.proofs.node_passed.Goals as goal
+use Rattle.reason_sides.proofs.node_passed.Goals.{then-is_isolated+else-passes_over, else-is_isolated}
 
 -- what the tests of row k answered
 told : (a b : Curve) (d : Node) {x y v : Bool} {p : Point} → x ≡ is_some d.face → x ≡ true → p ≡ d.at
@@ -46,7 +44,7 @@ returns-then-passes_over c =
     sym (any_hit (node_at a.nodes.now) _ _ (passed old new) b.loop-k-test.true
     (told old new (node_at a.nodes.now b.loop-k.k) k.is_isolated.ensures
     c.if-is_isolated.true c.node_point.ensures.0
-    c.Passes-over.ensures c.if-passes_over.true)) ∙ b.loop-k.invariant.1
+    c.passes_over.ensures c.if-passes_over.true)) ∙ b.loop-k.invariant.1
 
 pub loop-k-preserved : goal.loop-k-preserved
 loop-k-preserved c =
@@ -57,10 +55,12 @@ loop-k-preserved c =
     let old = curve_of a.a.now in
     let new = curve_of a.b.now in
     let e : passed old new d ≡ false =
-    ⊎_elim
-    (λ w. told old new d k.is_isolated.ensures w.0.taken w.1.ensures.0 w.2.ensures w.3.left)
-    (λ w. ap (λ (x : Bool). x && passes_over old new d.at) (sym k.is_isolated.ensures ∙ w.left))
-    c.if-is_isolated.branch in (
+    elim c.if-is_isolated.branch [
+      | then-is_isolated+else-passes_over w ↦ told old new d k.is_isolated.ensures w.if-is_isolated.true w.node_point.ensures.0
+          w.passes_over.ensures w.if-passes_over.false
+      | else-is_isolated w ↦ ap (λ (x : Bool). x && passes_over old new d.at)
+          (sym k.is_isolated.ensures ∙ w.if-is_isolated.false)
+    ] in (
       omega arith,
       sym (any_miss (node_at a.nodes.now) _ _ (passed old new) b.loop-k-test.true e)
           ∙ b.loop-k.invariant.1,

@@ -1,21 +1,14 @@
 -- `reason_sides::node_passed` meets its contract: an isolated node from row k on is passed over if and only if one is.
 -- Assumes nothing.
-use mathlib.Core.Path.{◌≡◌, sym, ap, ap₂, ◌∙◌}
-use mathlib.Core.Bool.{Bool, true, false, ◌&&◌}
-use mathlib.Core.Logic.{⊎_elim}
+use mathlib.Core.Path.{◌≡◌}
+use mathlib.Core.Bool.{Bool, ◌&&◌}
 use Prim.Native.Nat.{◌-◌, ◌≤◌}
-use native.Mathlib.Nat.{sub-zero}
-use native.Mathlib.Omega.{arith}
 use Rattle.lists.specs.Scans.{any_of, is_some}
 use Rattle.lists.specs.Tables.{table}
-use Rattle.lists.proofs.Scans.{any_hit, any_miss, any_end}
-use Rattle.lists.proofs.Keeps.{any_kept}
-use Rattle.plane.specs.declared.Point.{Point}
 use Rattle.curves.specs.Curves.{Curve, curve_of}
 use Rattle.map.specs.Rows.{Node}
 use Rattle.map.specs.Reasons.{isolated_points}
-use Rattle.map_rows.specs.Rows.{node_at, node_map, nodes_of}
-use Rattle.map_rows.proofs.Rows.{nodes_table, node-row_of}
+use Rattle.map_rows.specs.Rows.{node_at, node_map}
 use Rattle.reason_sides.specs.Passing.{passes_over}
 use Rattle.reason_sides.proofs.node_passed.Given as goal
 

@@ -1,6 +1,5 @@
 -- `reason_sides::on_one_ring` meets its contract: where two faces lie beside the edge its sides are two rings. Assumes
 -- nothing.
-use borrow.Author.Tests.{not-true}
 use mathlib.Core.Path.{◌≡◌, sym, ◌∙◌}
 use Prim.Native.Nat.{◌+◌, ◌*◌, ◌<◌}
 use native.Mathlib.Omega.{arith}
@@ -21,7 +20,7 @@ pub returns-then-not-one_face : goal.returns-then-not-one_face
 returns-then-not-one_face c =
     let s = c in
     sym (two_faces s.requires.0 s.args.i s.requires.1 (sym c.one_face.ensures
-    ∙ c.if-not-one_face.true-raw))
+    ∙ c.if-not-one_face.true))
 
 pub on_ring-requires : goal.on_ring-requires
 on_ring-requires c =

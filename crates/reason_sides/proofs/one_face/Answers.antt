@@ -1,5 +1,5 @@
 -- `reason_sides::one_face` meets its contract: cells that name faces are compared as words. Assumes nothing.
-use borrow.Author.Rules.{rules, sfits_of}
+use borrow.Author.Rules.{sfits_of}
 use Rattle.map_rows.specs.Rows.{edge_at}
 use Rattle.map_rows.proofs.Rows.{edge_cells_lem}
 use Rattle.outcomes.proofs.Words.{number_test}

@@ -1,6 +1,4 @@
 -- `reason_sides::other_piece_passed` meets its contract: where no start is passed over, no ring is. Assumes nothing.
-use borrow.Author.Rules.{rules}
-use borrow.Author.Tests.{not-true}
 use mathlib.Core.Path.{◌≡◌, sym, ◌∙◌}
 use Prim.Native.Nat.{ℕ, ◌≤◌}
 use native.Mathlib.Omega.{arith}
@@ -19,7 +17,7 @@ returns-then-not-any_start_passed c =
     let l = s.args.edges.now in
     sym (none_passed (edge_map l s.args.count) (edge_at l s.args.i) (curve_of s.args.c.now)
     (edge_member l s.args.count s.args.i s.requires.1)
-    (sym c.any_start_passed.ensures ∙ c.if-not-any_start_passed.true-raw))
+    (sym c.any_start_passed.ensures ∙ c.if-not-any_start_passed.true))
 
 -- there is a label for each node
 room : (n : ℕ) → n ≤ max_nodes → length {A = ℕ} (take n (replicate max_nodes 0)) ≡ n

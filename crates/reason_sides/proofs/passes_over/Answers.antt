@@ -1,5 +1,4 @@
 -- `reason_sides::passes_over` meets its contract. Assumes nothing.
-use borrow.Author.Rules.{rules}
 use mathlib.Core.Path.{ap₂, ◌∙◌}
 use mathlib.Core.Bool.{not, beq}
 use Rattle.lists.specs.Tests.{◌⊕◌}

@@ -1,5 +1,4 @@
 -- `reason_sides::passes_start` meets its contract: an edge starts at the first point of its curve. Assumes nothing.
-use borrow.Author.Rules.{rules}
 use mathlib.Core.Path.{sym, ap, ap₂, ◌∙◌}
 use native.Mathlib.Omega.{arith}
 use Rattle.plane.specs.declared.Point.{Point}
@@ -14,7 +13,7 @@ returns c =
     let row = c.curve_of in
     let own = c.curve_of-2 in
     let new = curve_of c.args.c.now in
-    c.Passes-over.ensures
+    c.passes_over.ensures
     ∙ ap₂ (λ (k : Curve) (q : Point). passes_over k new q) own.ensures.1
     (p.ensures.0 ∙ sym (ap (λ (k : Curve). k.first) (curve_is row.ensures.0))
     ∙ ap (λ (k : Curve). k.first) row.ensures.1)

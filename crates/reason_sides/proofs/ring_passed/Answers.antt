@@ -1,6 +1,4 @@
 -- `reason_sides::ring_passed` meets its contract: three tests, one after the other. Assumes nothing.
-use borrow.Author.Rules.{rules}
-use borrow.Author.Tests.{not-true, not-false}
 use mathlib.Core.Path.{sym, ap, ◌∙◌}
 use mathlib.Core.Bool.{Bool, not, ◌&&◌, ◌||◌}
 use Rattle.lists.specs.Tests.{same}
@@ -36,14 +34,14 @@ module _ (s : Start) where
 pub returns-then-not-passes_start : goal.returns-then-not-passes_start
 returns-then-not-passes_start c =
     let s = c.before.before.before.before in
-    let no = sym (c.if-not-passes_start.true-raw) ∙ c.passes_start.ensures in
+    let no = sym (c.if-not-passes_start.true) ∙ c.passes_start.ensures in
     λ i. no i && not (one s) && low s
 
 pub returns-then-same_piece : goal.returns-then-same_piece
 returns-then-same_piece c =
     let k = c in
     let s = c.before.before.before.before.before.before in
-    let over = sym (c.if-not-passes_start.false-raw) ∙ k.passes_start.ensures in
+    let over = sym (c.if-not-passes_start.false) ∙ k.passes_start.ensures in
     let own = sym c.if-same_piece.true ∙ c.same_piece.ensures in
     λ i. over i && not (own i) && low s
 
@@ -53,7 +51,7 @@ returns c =
     let k = b in
     let s = c.before.before.before.before.before.before.before.before in
     let l = s.args.edges.now in
-    let over = sym (b.if-not-passes_start.false-raw) ∙ k.passes_start.ensures in
+    let over = sym (b.if-not-passes_start.false) ∙ k.passes_start.ensures in
     let other = sym c.if-same_piece.false ∙ b.same_piece.ensures in
     let first = c.is_lowest.ensures ∙ ap (is_lowest (m s)) (dart_even l s.args.j) in
     let second = c.is_lowest-2.ensures ∙ ap (is_lowest (m s)) (dart_odd l s.args.j) in

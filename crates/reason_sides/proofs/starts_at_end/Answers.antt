@@ -1,5 +1,5 @@
 -- `reason_sides::starts_at_end` meets its contract: cells that name nodes are compared as words. Assumes nothing.
-use borrow.Author.Rules.{rules, sfits_of}
+use borrow.Author.Rules.{sfits_of}
 use mathlib.Core.Path.{ap₂}
 use mathlib.Core.Bool.{◌||◌}
 use Rattle.map_rows.specs.Rows.{edge_at}
