@@ -25,7 +25,7 @@ returns-then-not-ends_at c =
     let z : to_z w64 (of_z w64 a.node) ≡ pos k = to_z-of_z {w = w64} s.ranges.node ∙ pos_abs a.node s.requires.2 in
     let n = count_of (leaves_node l (pos k)) (positions a.count) in
     let f = sym (ap (ends_at l a.j) z) ∙ sym c.ends_at.ensures
-    ∙ (not-true _ c.if-not-ends_at.true)-raw in
+    ∙ (not-true _ c.if-not-ends_at.true-raw) in
     sym (ap (λ (b : Bool). b && same n 2) f) ∙ joins_is s.requires.0 a.j s.requires.1 k n refl
 
 pub returns : goal.returns
@@ -38,7 +38,7 @@ returns c =
     let k = nat_abs a.node in
     let z : to_z w64 (of_z w64 a.node) ≡ pos k = to_z-of_z {w = w64} s.ranges.node ∙ pos_abs a.node s.requires.2 in
     let f = sym (ap (ends_at l a.j) z) ∙ sym d.ends_at.ensures
-    ∙ (not-false _ c.if-not-ends_at.false)-raw in
+    ∙ (not-false _ c.if-not-ends_at.false-raw) in
     sym (ap (λ (b : Bool). b && same c.edge_ends.result 2) f)
     ∙ joins_is s.requires.0 a.j s.requires.1 k c.edge_ends.result
     (c.edge_ends.ensures.0 ∙ ap (λ (z : ℤ). count_of (leaves_node l z) (positions a.count)) z)

@@ -68,13 +68,13 @@ apart c =
 joined : (c : After-joins_at-2) → (let s = c in let m =
     edge_map s.args.edges.now s.args.count in let a = (edge_at s.args.edges.now s.args.i).number in
     let b = (edge_at s.args.edges.now s.args.j).number in
-    c.joins_at-2.result || c.joins_at-2.result ≡ joins_at m b (edge m a).end || joins_at m b (edge m a).start)
+    c.joins_at.result || c.joins_at-2.result ≡ joins_at m b (edge m a).end || joins_at m b (edge m a).start)
 joined c =
     let r = c.before.before.before.before.before in
     let x = r.args in
     let l = x.edges.now in
     let here : ℤ → Bool = λ z. joins_at (edge_map l x.count) (edge_at l x.j).number (nat_abs z) in
-    ap₂ ◌||◌ (c.joins_at-2.ensures ∙ ap here (end_read r)) (c.joins_at-2.ensures ∙ ap here (start-read r))
+    ap₂ ◌||◌ (c.joins_at.ensures ∙ ap here (end_read r)) (c.joins_at-2.ensures ∙ ap here (start-read r))
 
 pub joins_at-requires : goal.joins_at-requires
 joins_at-requires c =
