@@ -8,7 +8,7 @@ use native.Mathlib.Numerals.{add-one}
 use native.Mathlib.Omega.{arith}
 use lib.IntN.{ℤ, pos}
 use lib.ListN.{length, get_or, take, drop, set, length-append}
-use lib.Seq.{take-append_seam, length-take-le, take-suc-set, take_all, take_at}
+use lib.Seq.{drop-cons, take-append_seam, length-take-le, take-suc-set, take_all, take_at}
 use Rattle.lists.specs.Scans.{fold}
 use Rattle.lists.proofs.Appends.{fold-append, each_append}
 use Rattle.lists.proofs.Bools.{same_refl, same_eq, same_false}
@@ -49,6 +49,11 @@ module _ (l : Lent) (buffer : List ℕ) (n b : ℕ) (size : length buffer ≡ ke
   pub line-full : (b ≡ 10 → ⊥) → kept_bytes ≤ n → desk_of l buffer n ≡ served (desk_of l buffer n) b
   unfolding served
   line-full e g = rw (same_false b 10 e, take_at (take n buffer) (b ∷ []) kept_bytes (omega (arith, count)))
+
+-- the byte at i and then those after it
+pub served_turn : (d : Desk) (bytes : List ℕ) (i : ℕ) → i < length bytes → fold served d (drop i bytes)
+    ≡ fold served (served d (get_or bytes i 0)) (drop (i + 1) bytes)
+served_turn d bytes i h = rw (drop-cons bytes i 0 h, add-one i)
 
 -- ---- the input
 

@@ -6,8 +6,8 @@ use Prim.Native.Nat.{ℕ, suc, ◌+◌, ◌*◌, ◌/◌, ◌≤◌, ◌<◌, mi
 use native.Mathlib.Nat.{suc-mul, le-div_iff_mul-le}
 use native.Mathlib.Omega.{arith}
 use lib.IntN.{ℤ, pos, negsuc, nat_abs}
-use lib.ListN.{length, set, length-append}
-use lib.Seq.{sets, length-sets, length-take-le}
+use lib.ListN.{length, take, drop, set, length-append}
+use lib.Seq.{sets, sets-eq, length-sets, length-take-le, take-append_seam}
 use lib.Signed.{lt_z}
 use mir.Syntax.{w64}
 use mir.Val.{SFits, of_z, to_z}
@@ -70,3 +70,10 @@ head_numbers_lem (a ∷ b ∷ c ∷ d ∷ f ∷ []) e = absurd (omega arith)
 head_numbers_lem (a ∷ b ∷ c ∷ d ∷ f ∷ g ∷ []) e = absurd (omega arith)
 head_numbers_lem (a ∷ b ∷ c ∷ d ∷ f ∷ g ∷ h ∷ []) e = refl
 head_numbers_lem (a ∷ b ∷ c ∷ d ∷ f ∷ g ∷ h ∷ i ∷ l) e = absurd (omega arith)
+
+-- the part of the buffer that is written is the text
+pub text_taken : (before text after : List ℕ) (r : ℕ) → TextPut before text after r → take r after ≡ text
+text_taken before text after r p =
+    let size = ap length p.puts ∙ length-sets before 0 text in
+    let fits : 0 + length text ≤ length before = omega (arith, p.fits, p.count) in
+    rw (p.puts, p.count, sets-eq text before 0 fits) (take-append_seam text (drop (0 + length text) before))

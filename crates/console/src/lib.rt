@@ -7,12 +7,15 @@ ghost use Rattle.tables.specs.Tables.{row_at};
 ghost use Rattle.curves.specs.Curves.{max_points};
 ghost use Rattle.head.specs.Heads.{head_in};
 ghost use Rattle.map.specs.Limits.{edge_width};
-ghost use Rattle.map.specs.Rows.{lent};
+ghost use Rattle.map.specs.Loans.{lent_now};
 ghost use Rattle.map.specs.Ticket.{emptied};
-ghost use Rattle.outcomes.specs.Outcomes.{outcome};
+ghost use Rattle.outcomes.specs.Outcomes.{outcome_now};
 ghost use Rattle.console.specs.Lines.{parsed_count, line_answered, desk_of, kept_bytes, served, finished};
 ghost use Rattle.console.specs.Lines.{Bytes, DeskServed, InputServed, ProgramServed};
 ghost use Rattle.console.specs.Texts.{answer_text, tagged_text, head_numbers, clamp_len, TextPut};
+ghost use Rattle.console.specs.Texts.{used_text, sheet_text, done_text};
+ghost use Rattle.console.specs.Wrote.{Wrote};
+ghost use Rattle.console.specs.Printed.{byte_printed, printed, rest_printed, Took, Ends, Told, ProgramTold};
 
 mod channel;
 
@@ -65,8 +68,8 @@ pub fn answer_line(
     h: Head,
     line: &[u8],
 ) -> Done
-    ensures { outcome nodes.new edges.new faces.new result
-        ≡ line_answered (lent nodes.old edges.old faces.old h) line.now }
+    ensures { outcome_now nodes.new edges.new faces.new result
+        ≡ line_answered (lent_now nodes.old edges.old faces.old h) line.now }
 {
     let mut list = [0i64; text::NUMBERS];
     let n = count_of(text::parse(line, &mut list));
@@ -134,14 +137,18 @@ pub fn clamp(z: i64, most: usize) -> usize
 }
 
 // Writes an answer.
-fn write_answer<R: Read, W: Write>(streams: &mut Streams<R, W>, answer: Answer) {
+fn write_answer<R: Read, W: Write>(streams: &mut Streams<R, W>, answer: Answer)
+    ensures { Wrote W.contents streams.old streams.new (answer_text answer.refusal answer.value) }
+{
     let mut out = [0u8; ANSWER];
     let end = put_answer(&mut out, answer);
     streams.write(&out[..end]);
 }
 
 // Writes the head.
-fn write_head<R: Read, W: Write>(streams: &mut Streams<R, W>, h: Head) {
+fn write_head<R: Read, W: Write>(streams: &mut Streams<R, W>, h: Head)
+    ensures { Wrote W.contents streams.old streams.new (tagged_text 72 (head_numbers h)) }
+{
     let mut out = [0u8; ROW];
     let end = put_head(&mut out, h);
     streams.write(&out[..end]);
@@ -156,6 +163,7 @@ fn write_row<R: Read, W: Write>(
     i: usize,
 )
     requires { (1 ≤ width) × (width ≤ edge_width) × (i < length table.now / width) }
+    ensures { Wrote W.contents streams.old streams.new (tagged_text tag (row_at width table.now i)) }
 {
     let mut out = [0u8; ROW];
     let end = put_row(&mut out, tag, table, width, i);
@@ -171,6 +179,7 @@ fn write_rows<R: Read, W: Write>(
     count: i64,
 )
     requires { (1 ≤ width) × (width ≤ edge_width) }
+    ensures { Wrote W.contents streams.old streams.new (used_text tag width table.now count) }
 {
     for i in 0..clamp(count, table.len() / width) {
         write_row(streams, tag, table, width, i);
@@ -184,7 +193,10 @@ fn write_sheet<R: Read, W: Write>(
     edges: &[i64],
     faces: &[i64],
     h: Head,
-) {
+)
+    ensures { Wrote W.contents streams.old streams.new
+        (sheet_text (lent_now nodes.now edges.now faces.now h)) }
+{
     write_head(streams, h);
     write_rows(streams, b'N', nodes, map::NODE_WIDTH, h.nodes);
     write_rows(streams, b'E', edges, map::EDGE_WIDTH, h.edges);
@@ -199,7 +211,10 @@ fn write_done<R: Read, W: Write>(
     faces: &[i64],
     done: Done,
     rows: bool,
-) {
+)
+    ensures { Wrote W.contents streams.old streams.new
+        (done_text rows (outcome_now nodes.now edges.now faces.now done)) }
+{
     let head = done.head;
     let answer = done.answer;
     write_answer(streams, answer);
@@ -220,9 +235,11 @@ fn serve_line<R: Read, W: Write>(
     line: &[u8],
     rows: bool,
 ) -> Head
-    ensures { lent nodes.new edges.new faces.new result
-        ≡ (line_answered (lent nodes.old edges.old faces.old h) line.now
+    ensures leaves { lent_now nodes.new edges.new faces.new result
+        ≡ (line_answered (lent_now nodes.old edges.old faces.old h) line.now
         ).lent }
+    ensures writes { Wrote W.contents streams.old streams.new
+        (done_text rows (line_answered (lent_now nodes.old edges.old faces.old h) line.now)) }
 {
     let done = answer_line(nodes, edges, faces, h, line);
     write_done(streams, nodes, edges, faces, done, rows);
@@ -242,11 +259,13 @@ fn serve_byte<R: Read, W: Write>(
     rows: bool,
 ) -> State
     requires { (length line.old ≡ kept_bytes) × (state.length ≤ kept_bytes) }
-    ensures { (desk_of (lent nodes.new edges.new faces.new result.head)
+    ensures leaves { (desk_of (lent_now nodes.new edges.new faces.new result.head)
         line.new result.length
-        ≡ served (desk_of (lent nodes.old edges.old faces.old state.head)
+        ≡ served (desk_of (lent_now nodes.old edges.old faces.old state.head)
         line.old state.length) b)
         × (result.length ≤ kept_bytes) }
+    ensures writes { Wrote W.contents streams.old streams.new
+        (byte_printed rows (desk_of (lent_now nodes.old edges.old faces.old state.head) line.old state.length) b) }
 {
     let n = state.length;
     let head = state.head;
@@ -279,11 +298,13 @@ fn serve_bytes<R: Read, W: Write>(
     rows: bool,
 ) -> State
     requires { (length line.old ≡ kept_bytes) × (state.length ≤ kept_bytes) }
-    ensures { (desk_of (lent nodes.new edges.new faces.new result.head)
+    ensures leaves { (desk_of (lent_now nodes.new edges.new faces.new result.head)
         line.new result.length
-        ≡ fold served (desk_of (lent nodes.old edges.old faces.old state.head)
+        ≡ fold served (desk_of (lent_now nodes.old edges.old faces.old state.head)
         line.old state.length) bytes.now)
         × (result.length ≤ kept_bytes) × Bytes bytes.now }
+    ensures writes { Wrote W.contents streams.old streams.new
+        (printed rows (desk_of (lent_now nodes.old edges.old faces.old state.head) line.old state.length) bytes.now) }
 {
     let mut at = state;
     for i in 0..bytes.len() {
@@ -303,9 +324,13 @@ fn serve_input<R: Read, W: Write>(
     rows: bool,
 ) -> State
     requires { length line.old ≡ kept_bytes }
-    ensures { DeskServed (desk_of (lent nodes.old edges.old faces.old h) line.old 0)
-        (desk_of (lent nodes.new edges.new faces.new result.head) line.new result.length)
+    ensures leaves { DeskServed (desk_of (lent_now nodes.old edges.old faces.old h) line.old 0)
+        (desk_of (lent_now nodes.new edges.new faces.new result.head) line.new result.length)
         × (result.length ≤ kept_bytes) }
+    ensures told { (took : Took R.remaining W.contents rows streams.old streams.new
+        (desk_of (lent_now nodes.old edges.old faces.old h) line.old 0)
+        (desk_of (lent_now nodes.new edges.new faces.new result.head) line.new result.length))
+        × Ends R.remaining streams.new took.bytes }
 {
     let mut buf = [0u8; channel::INPUT];
     let mut state = State { head: h, length: 0 };
@@ -330,9 +355,11 @@ fn serve_rest<R: Read, W: Write>(
     rows: bool,
 ) -> Head
     requires { state.length ≤ length line.now }
-    ensures { lent nodes.new edges.new faces.new result
-        ≡ finished (desk_of (lent nodes.old edges.old faces.old state.head)
+    ensures leaves { lent_now nodes.new edges.new faces.new result
+        ≡ finished (desk_of (lent_now nodes.old edges.old faces.old state.head)
         line.now state.length) }
+    ensures writes { Wrote W.contents streams.old streams.new
+        (rest_printed rows (desk_of (lent_now nodes.old edges.old faces.old state.head) line.now state.length)) }
 {
     let n = state.length;
     let head = state.head;
@@ -352,9 +379,12 @@ pub fn serve_tables<R: Read, W: Write>(
     h: Head,
     rows: bool,
 ) -> Head
-    ensures { InputServed
-        (emptied (lent nodes.old edges.old faces.old h) (pos max_points)).lent
-        (lent nodes.new edges.new faces.new result) }
+    ensures leaves { InputServed
+        (emptied (lent_now nodes.old edges.old faces.old h) (pos max_points)).lent
+        (lent_now nodes.new edges.new faces.new result) }
+    ensures told { Told R.remaining W.contents rows streams.old streams.new
+        (emptied (lent_now nodes.old edges.old faces.old h) (pos max_points)).lent
+        (lent_now nodes.new edges.new faces.new result) }
 {
     let mut line = [0u8; KEPT];
     let empty = engine::empty_map(nodes, edges, faces, h, head::TWELVE_POINTS);
@@ -365,7 +395,8 @@ pub fn serve_tables<R: Read, W: Write>(
 
 // The same in tables of `ROWS` rows.
 pub fn serve<R: Read, W: Write>(streams: &mut Streams<R, W>, rows: bool) -> Head
-    ensures { ProgramServed result }
+    ensures serves { ProgramServed result }
+    ensures told { ProgramTold R.remaining W.contents rows streams.old streams.new result }
 {
     let mut nodes = [0i64; NODE_CELLS];
     let mut edges = [0i64; EDGE_CELLS];

@@ -7,7 +7,8 @@ ghost use Rattle.std.proofs.lemmas.List.Edits.{sets};
 ghost use Rattle.map.specs.Loans.{lent_now};
 ghost use Rattle.nesting.specs.Contents.{contents_of};
 ghost use Rattle.console.specs.Texts.{TextPut};
-ghost use Rattle.outline.specs.Lines.{levels, indent, word_of, line_text};
+ghost use Rattle.console.specs.Wrote.{Wrote};
+ghost use Rattle.outline.specs.Lines.{levels, indent, word_of, line_text, line_at, lines_text, contents_text};
 
 use console::Streams;
 use map::{Answer, Head};
@@ -74,6 +75,7 @@ fn put_line(out: &mut [u8; LINE], depth: i64, kind: i64, number: i64) -> usize
 // Writes line i of the contents.
 fn write_line<R: Read, W: Write>(streams: &mut Streams<R, W>, list: &[i64], i: usize)
     requires { i * 3 + 3 ≤ length list.now }
+    ensures { Wrote W.contents streams.old streams.new (line_at list.now i) }
 {
     let mut out = [0u8; LINE];
     let depth = list[i * WIDTH];
@@ -86,6 +88,7 @@ fn write_line<R: Read, W: Write>(streams: &mut Streams<R, W>, list: &[i64], i: u
 // Writes so many lines of the contents.
 fn write_lines<R: Read, W: Write>(streams: &mut Streams<R, W>, list: &[i64], count: usize)
     requires { count * 3 ≤ length list.now }
+    ensures { Wrote W.contents streams.old streams.new (lines_text list.now count) }
 {
     for i in 0..count {
         write_line(streams, list, i);
@@ -100,8 +103,10 @@ fn write_contents<R: Read, W: Write>(
     faces: &[i64],
     h: Head,
 ) -> Answer
-    ensures { result ≡ (contents_of (lent_now nodes.entry edges.entry faces.entry h) (replicate (levels * 3) (pos 0))
+    ensures answer { result ≡ (contents_of (lent_now nodes.now edges.now faces.now h) (replicate (levels * 3) (pos 0))
         ).answer }
+    ensures writes { Wrote W.contents streams.old streams.new
+        (contents_text (contents_of (lent_now nodes.now edges.now faces.now h) (replicate (levels * 3) (pos 0)))) }
 {
     let mut list = [0i64; CELLS];
     let answer = contents::contents(nodes, edges, faces, h, &mut list);

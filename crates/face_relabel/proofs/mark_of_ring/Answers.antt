@@ -25,9 +25,6 @@ After-encloses = lts.After-encloses tie.the-claims reads.Pre reads.Post
 abbrev After-find_row-found : Type 0
 After-find_row-found = lts.After-find_row tie.the-claims reads.Pre reads.Post
 
-abbrev In-At : Type 0
-In-At = lts.After-known_told tie.the-claims reads.Pre reads.Post
-
 -- what the search answers
 answer : (c : After-find_row-found)
     → let a = c.args in
@@ -39,12 +36,12 @@ answer c =
     (to_z-of_z {w = w64} {z = get_or a.edges.now (a.i * 32 + 1) (pos 0)} (sfits_of c.find_row-arg-1.given))
 
 -- the row that is found
-row : (c : In-At)
+row : (c : goal.In-At)
     → let a = c.args in
     (c.in-At.k < a.n) × (start_of a.nodes.now a.n (edge_at a.edges.now a.i)
     ≡ (node_at a.nodes.now c.in-At.k).at)
 row c =
-    let b = c in
+    let b = c.before in
     let s = b in
     let a = s.args in
     start_found a.nodes.now a.n a.edges.now a.count a.s s.requires.0 a.i s.requires.1
@@ -59,11 +56,11 @@ told : (c : After-encloses)
 told c =
     let a = c.args in
     ap (ring_encloses a.edges.now a.count a.s.ring)
-    ((row c).1 ∙ sym c.node_point.ensures.0) ∙ sym c.encloses.ensures
+    ((row c.before.before).1 ∙ sym c.node_point.ensures.0) ∙ sym c.encloses.ensures
 
 pub returns-in_default : goal.returns-in_default
 returns-in_default c =
-    let b = c in
+    let b = c.before in
     let s = b in
     let a = s.args in
     absurd (start_there a.nodes.now a.n a.edges.now a.count a.s s.requires.0 a.i s.requires.1
@@ -77,7 +74,7 @@ node_point-requires c = node-row_of c.requires.0.nodes c.in-At.k
     (row c).0
 
 pub returns-then-encloses : goal.returns-then-encloses
-returns-then-encloses c = sym (ap (λ (b : Bool). cond b 1 2) (told c ∙ c.if-encloses.true))
+returns-then-encloses c = sym (ap (λ (b : Bool). cond b 1 2) (told c.before ∙ c.if-encloses.true))
 
 pub returns-else-encloses : goal.returns-else-encloses
-returns-else-encloses c = sym (ap (λ (b : Bool). cond b 1 2) (told c ∙ c.if-encloses.false))
+returns-else-encloses c = sym (ap (λ (b : Bool). cond b 1 2) (told c.before ∙ c.if-encloses.false))

@@ -3,7 +3,7 @@
 use borrow.Author.Rules.{sfits_of}
 use mathlib.Core.Path.{sym, ap, ◌∙◌, subst}
 use mathlib.Core.Bool.{Bool, ◌&&◌}
-use mathlib.Core.Logic.{inl, inr, ⊎_elim}
+use mathlib.Core.Logic.{inl, inr}
 use mathlib.Core.List.{List}
 use Prim.Native.Nat.{ℕ, ◌+◌, ◌*◌, ◌-◌, ◌/◌, ◌≤◌}
 use native.Mathlib.Omega.{arith}
@@ -18,6 +18,7 @@ use Rattle.tables.proofs.Order.{word_is}
 use Rattle.rings.proofs.Marks.{marked_places}
 use Rattle.face_relabel.proofs.Marks.{Marking, marking_start, marking_other, marking_marked, marking_ring}
 use Rattle.face_relabel.proofs.mark_sides.Goals as goal
+use Rattle.face_relabel.proofs.mark_sides.Goals.{then-dart_cell-s, else-dart_cell-s}
 
 pub overflow_mul-p-end : goal.overflow_mul-p-end
 overflow_mul-p-end c = omega (arith, c.requires.0.few)
@@ -74,29 +75,31 @@ loop-p-preserved c =
     let Next : List ℕ → Type 0 = λ ms. Marking a.edges.now a.count a.nodes.now a.n a.s.ring
     a.s.old a.marks.now ms (w.p + 1) in (
       omega (arith, t.loop-p-test.true),
-      ⊎_elim
-          (λ x.
-          let face = sym cell.ensures
-          ∙ word_is (sfits_of cell.type_inv) fits-old (eqb-true _ _ (and_left is-old is_none x.0.taken)) in
-          let none = eqb-true (get_or w.marks w.p 0) 0 (and_right is-old is_none x.0.taken) in
-          let after = marked_places a.edges.now a.count w.p x.1.result w.marks
-          w.invariant.1.whole.room x.3.ensures.1 in
-          subst Next (sym x.6) (marking_ring s.requires.0.edges s.requires.1 a.nodes.now a.n a.s.ring
-          a.s.old a.marks.now w.marks w.p w.invariant.1 t.loop-p-test.true face none x.1.result
-          x.1.ensures x.3.last.1.1.1.1.0 after.0 after.1))
-          (λ x.
-          subst Next (sym x.1)
-          (elim (which is-old) [
-            | inl o ↦
-                marking_marked s.requires.0.edges s.requires.1 a.nodes.now a.n a.s.ring a.s.old
-                a.marks.now w.marks w.p w.invariant.1 t.loop-p-test.true
-                (eqb-false (get_or w.marks w.p 0) 0 (ap (λ (b : Bool). b && is_none) (sym o) ∙ x.0.left))
-            | inr o ↦
-                marking_other s.requires.0.edges s.requires.1 a.nodes.now a.n a.s.ring a.s.old
-                a.marks.now w.marks w.p w.invariant.1 t.loop-p-test.true
-                (λ e. eqb-false _ _ o (ap (of_z w64) (cell.ensures ∙ e)))
-          ]))
-          c.if-dart_cell-s.branch,
+      elim c.if-dart_cell-s.branch [
+        | then-dart_cell-s x ↦
+            let face = sym cell.ensures
+            ∙ word_is (sfits_of cell.type_inv) fits-old (eqb-true _ _ (and_left is-old is_none x.if-dart_cell-s.true)) in
+            let none = eqb-true (get_or w.marks w.p 0) 0 (and_right is-old is_none x.if-dart_cell-s.true) in
+            let side = x.mark_of_ring-side in
+            let ring = x.mark_ring in
+            let after = marked_places a.edges.now a.count w.p side.result w.marks
+            w.invariant.1.whole.room ring.ensures.1 in
+            subst Next (sym x.marks-is) (marking_ring s.requires.0.edges s.requires.1 a.nodes.now a.n a.s.ring
+            a.s.old a.marks.now w.marks w.p w.invariant.1 t.loop-p-test.true face none side.result
+            side.ensures ring.new.marks after.0 after.1)
+        | else-dart_cell-s x ↦
+            subst Next (sym x.marks-is)
+            (elim (which is-old) [
+              | inl o ↦
+                  marking_marked s.requires.0.edges s.requires.1 a.nodes.now a.n a.s.ring a.s.old
+                  a.marks.now w.marks w.p w.invariant.1 t.loop-p-test.true
+                  (eqb-false (get_or w.marks w.p 0) 0 (ap (λ (b : Bool). b && is_none) (sym o) ∙ x.if-dart_cell-s.false))
+              | inr o ↦
+                  marking_other s.requires.0.edges s.requires.1 a.nodes.now a.n a.s.ring a.s.old
+                  a.marks.now w.marks w.p w.invariant.1 t.loop-p-test.true
+                  (λ e. eqb-false _ _ o (ap (of_z w64) (cell.ensures ∙ e)))
+            ])
+      ],
     )
 
 pub returns : goal.returns

@@ -16,8 +16,8 @@ returns c =
     let first = second in
     let s = first in
     let a = s.args in (
-      rw (to_z-of_z s.fits.old, to_z-of_z s.fits.new) at first.replace_column.ensures,
-      (rw (to_z-of_z s.fits.old, to_z-of_z s.fits.new) at third.replace_column-3.ensures)
+      rw (to_z-of_z s.ranges.old, to_z-of_z s.ranges.new) at first.replace_column.ensures,
+      (rw (to_z-of_z s.ranges.old, to_z-of_z s.ranges.new) at third.replace_column-3.ensures)
           ∙ ap (λ (l : List ℤ). sweep (λ l i. replace_at a.old a.new l (i * 32 + 6)) l 0 a.count)
-          (rw (to_z-of_z s.fits.old, to_z-of_z s.fits.new) at second.replace_column-2.ensures),
+          (rw (to_z-of_z s.ranges.old, to_z-of_z s.ranges.new) at second.replace_column-2.ensures),
     )

@@ -59,7 +59,7 @@ module _ (c : After-mark_ring-2) where
       c.args.s.ring
       c.args.across q)
   both =
-      let b = c in
+      let b = c.before.before.before in
       let a = b.args in
       let m = edge_map a.edges.now a.count in
       let after = marked_places a.edges.now a.count a.s.ring 1 b.mark_ring.new.marks
@@ -75,12 +75,12 @@ module _ (c : After-mark_ring-2) where
   room = omega (arith, both.0, c.requires.0.few)
 
 pub mark_ring-requires-2 : goal.mark_ring-requires-2
-mark_ring-requires-2 c = let b = c in let s = b in
+mark_ring-requires-2 c = let b = c.before.before in let s = b in
     (s.requires.0.edges, s.requires.0.few, s.requires.0.ring, room-first b)
 
 pub mark_sides-requires : goal.mark_sides-requires
 mark_sides-requires c =
-    let b = c in
+    let b = c.before.before in
     let s = b in (
       s.requires.0,
       s.requires.1,
@@ -92,7 +92,7 @@ pub returns : goal.returns
 returns c =
     let w = c in
     let d = w in
-    let b = d in
+    let b = c.before.before.before.before.before.before.before.before in
     let s = b in
     let a = s.args in
     w.write_sides.ensures
@@ -103,7 +103,7 @@ returns c =
     ((both b).1 p hp))
 
 pub slice_bounds-mark_ring-end-2 : goal.slice_bounds-mark_ring-end-2
-slice_bounds-mark_ring-end-2 c = sym (marked c).0
+slice_bounds-mark_ring-end-2 c = sym (marked c.before.before).0
 
 pub slice_bounds-mark_sides-end : goal.slice_bounds-mark_sides-end
-slice_bounds-mark_sides-end c = sym (both c).0
+slice_bounds-mark_sides-end c = sym (both c.before.before).0

@@ -2,7 +2,6 @@
 -- passed left, is the sweep of all. Assumes nothing.
 use borrow.Author.Rules.{sfits_of}
 use mathlib.Core.Path.{◌≡◌, refl, sym, ap, ◌∙◌}
-use mathlib.Core.Logic.{⊎_elim}
 use mathlib.Core.List.{List}
 use Prim.Native.Nat.{ℕ, ◌+◌, ◌*◌, ◌-◌, ◌≤◌}
 use native.Mathlib.Nat.{sub-zero}
@@ -19,6 +18,7 @@ use Rattle.map_rows.proofs.Rows.{node-row_of}
 use Rattle.face_relabel.specs.Sharing.{node_shared}
 use Rattle.face_relabel.proofs.Faces.{row_kept, node_hit, node_miss, node-length, node_kept}
 use Rattle.face_relabel.proofs.share_nodes.Goals as goal
+use Rattle.face_relabel.proofs.share_nodes.Goals.{then-nodes-i, else-nodes-i}
 
 pub loop-i-init : goal.loop-i-init
 loop-i-init c = (omega arith, refl, (λ j h. refl), rw sub-zero)
@@ -75,17 +75,17 @@ loop-i-preserved c =
     let fits-old : SFits w64 a.s.old = sfits_of c.struct_told-1.given.0.1 in
     let fits-z : SFits w64 (get_or w.nodes (w.i * 4 + 3) (pos 0)) = sfits_of b.t13-1.given in
     let turn : c.if-nodes-i.nodes ≡ node_shared a.nodes.now a.n a.edges.now a.count a.s w.nodes w.i =
-    ⊎_elim
-    (λ x.
-    let q = x.2 in
-    let side = x.3 in
-    x.4
-    ∙ node_hit a.nodes.now a.n a.edges.now a.count a.s s.requires w.nodes w.i
-    (word_is fits-z fits-old x.0.taken) w.invariant.2 q.result q.ensures.0 (to_z w64 (of_z w64 side.result))
-    (sent {z = side.result} side.ok ∙ side.ensures))
-    (λ x. x.1 ∙ node_miss a.nodes.now a.n a.edges.now a.count a.s s.requires w.nodes w.i
-    (λ e. x.0.left (ap (of_z w64) e)))
-    c.if-nodes-i.branch in (
+    elim c.if-nodes-i.branch [
+      | then-nodes-i x ↦
+          let q = x.node_point in
+          let side = x.side_of-side in
+          x.nodes-is
+          ∙ node_hit a.nodes.now a.n a.edges.now a.count a.s s.requires w.nodes w.i
+          (word_is fits-z fits-old x.if-nodes-i.true) w.invariant.2 q.result q.ensures.0 (to_z w64 (of_z w64 side.result))
+          (sent {z = side.result} side.type_inv ∙ side.ensures)
+      | else-nodes-i x ↦ x.nodes-is ∙ node_miss a.nodes.now a.n a.edges.now a.count a.s s.requires w.nodes w.i
+          (λ e. x.if-nodes-i.false (ap (of_z w64) e))
+    ] in (
       omega (arith, t.loop-i-test.true),
       ap length turn ∙ node-length a.nodes.now a.n a.edges.now a.count a.s s.requires w.nodes w.i
           ∙ w.invariant.1,

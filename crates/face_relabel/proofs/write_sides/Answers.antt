@@ -2,7 +2,6 @@
 -- sweep of all. Assumes nothing.
 use borrow.Author.Rules.{rules, sfits_of}
 use mathlib.Core.Path.{◌≡◌, refl, sym, ap, ◌∙◌}
-use mathlib.Core.Logic.{⊎_elim}
 use mathlib.Core.List.{List}
 use Prim.Native.Nat.{◌+◌, ◌*◌, ◌-◌, ◌/◌, ◌≤◌}
 use native.Mathlib.Nat.{sub-zero}
@@ -18,6 +17,7 @@ use Rattle.tables.proofs.Order.{word_is}
 use Rattle.face_relabel.specs.Sharing.{side_shared}
 use Rattle.face_relabel.proofs.Faces.{side_hit, side_miss, side_length}
 use Rattle.face_relabel.proofs.write_sides.Goals as goal
+use Rattle.face_relabel.proofs.write_sides.Goals.{then-dart_cell-s, else-dart_cell-s}
 
 pub overflow_mul-p-end : goal.overflow_mul-p-end
 overflow_mul-p-end c = omega (arith, c.requires.0)
@@ -59,16 +59,16 @@ loop-p-preserved c =
     let fits-old : SFits w64 a.s.old = sfits_of c.struct_told-1.given.0.1 in
     let cell = d.dart_cell in
     let turn : c.if-dart_cell-s.edges ≡ side_shared a.s a.marks.now w.edges w.p =
-    ⊎_elim
-    (λ x.
-    let num = x.3 in
-    x.6 ∙ x.4.ensures
-    ∙ side_hit a.s a.marks.now w.edges w.p
-    (sym cell.ensures ∙ word_is (sfits_of cell.type_inv) fits-old x.0.taken) (to_z w64 (of_z w64 num.result))
-    (sent {z = num.result} num.ok ∙ num.ensures))
-    (λ x. x.1 ∙ side_miss a.s a.marks.now w.edges w.p
-    (λ e. x.0.left (ap (of_z w64) (cell.ensures ∙ e))))
-    c.if-dart_cell-s.branch in (
+    elim c.if-dart_cell-s.branch [
+      | then-dart_cell-s x ↦
+          let num = x.number_of in
+          x.edges-is ∙ x.set_dart_cell.ensures
+          ∙ side_hit a.s a.marks.now w.edges w.p
+          (sym cell.ensures ∙ word_is (sfits_of cell.type_inv) fits-old x.if-dart_cell-s.true) (to_z w64 (of_z w64 num.result))
+          (sent {z = num.result} num.type_inv ∙ num.ensures)
+      | else-dart_cell-s x ↦ x.edges-is ∙ side_miss a.s a.marks.now w.edges w.p
+          (λ e. x.if-dart_cell-s.false (ap (of_z w64) (cell.ensures ∙ e)))
+    ] in (
       omega (arith, t.loop-p-test.true),
       ap length turn ∙ side_length a.s a.marks.now w.edges w.p ∙ w.invariant.1,
       ap (λ (l : List ℤ). sweep (side_shared a.s a.marks.now) l (w.p + 1) (a.count * 2 - (w.p + 1))) turn

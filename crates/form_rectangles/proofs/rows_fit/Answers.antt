@@ -17,8 +17,6 @@ use Rattle.form_links.proofs.Words.{flipped}
 use Rattle.rectangles.specs.Boxes.{Bounded}
 use Rattle.form_rectangles.specs.Merged.{row_fits}
 use Rattle.form_rectangles.proofs.Rows.{settled_bounds}
-use Rattle.form_rectangles.proofs.has_box.Reads as has-box-reads
-use Rattle.form_rectangles.proofs.settled.Reads as settled-reads
 use Rattle.form_rectangles.proofs.rows_fit.Lts as lts
 use Rattle.form_rectangles.proofs.rows_fit.Tie as tie
 use Rattle.form_rectangles.proofs.rows_fit.Reads as reads
@@ -55,16 +53,12 @@ has_box-requires c =
     )
 
 -- the test of a turn
-test-is : (c : After-has_box (settled-reads.Asked, settled-reads.Learnt, has-box-reads.Asked, has-box-reads.Learnt)
-    reads.Pre reads.Post invariant-loop decreases-loop) → ◌≡◌ {A = Bool}
-    (row_fits c.before.before.before.before.before.before.args.faces.now
-    c.before.before.before.before.before.before.args.least.now
-    c.before.before.before.before.before.before.args.greatest.now c.before.before.before.loop.k)
-    c.has-box.result
+test-is : (c : After-has_box) → ◌≡◌ {A = Bool}
+    (row_fits c.args.faces.now c.args.least.now c.args.greatest.now c.loop-k.k) c.has_box.result
 test-is c =
-    let a = c.before.before.before.before.before.before.args in
-    let row = row_at face_width a.faces.now c.before.before.before.loop.k in
-    sym (c.has-box.ensures ∙ ap (λ (e : Extent). has_box (λ f. e) row) c.before.settled.ensures)
+    let a = c.args in
+    let row = row_at face_width a.faces.now c.loop-k.k in
+    sym (c.has_box.ensures ∙ ap (λ (e : Extent). has_box (λ f. e) row) c.settled.ensures)
 
 pub returns-then-not-has_box : goal.returns-then-not-has_box
 returns-then-not-has_box c =
@@ -72,7 +66,7 @@ returns-then-not-has_box c =
     let w = b.loop-k in
     let a = b.args in
     sym (sym w.invariant.1 ∙ all_miss (λ j. j) w.k a.n (row_fits a.faces.now a.least.now a.greatest.now)
-    b.loop-k-test.true (test-is c ∙ flipped c.has_box.result true c.if-not-has_box.true-raw))
+    b.loop-k-test.true (test-is c.before ∙ flipped c.has_box.result true c.if-not-has_box.true-raw))
 
 pub loop-k-preserved : goal.loop-k-preserved
 loop-k-preserved c =
@@ -81,7 +75,7 @@ loop-k-preserved c =
     let a = b.args in (
       omega (arith, b.loop-k-test.true),
       sym (all_hit (λ j. j) w.k a.n (row_fits a.faces.now a.least.now a.greatest.now)
-          b.loop-k-test.true (test-is c ∙ flipped c.has_box.result false c.if-not-has_box.false-raw))
+          b.loop-k-test.true (test-is c.before ∙ flipped c.has_box.result false c.if-not-has_box.false-raw))
           ∙ w.invariant.1,
     )
 

@@ -1,0 +1,9 @@
+-- `edit_heal::heal_numbers` meets its contract. Assumes nothing.
+use borrow.Author.Rules.{rules}
+use Rattle.edit_heal.proofs.heal_numbers.Goals as goal
+
+pub returns-in-New : goal.returns-in-New
+returns-in-New c = rw c.in-New.is
+
+pub returns-in-Mod : goal.returns-in-Mod
+returns-in-Mod c = rw c.in-Mod.is
