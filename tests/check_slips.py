@@ -1,7 +1,7 @@
 #!/usr/bin/env python3
 """Slips in the definitions that must not pass, each made in a copy of the repository.
 
-  check_slips.py [NAME..]     all of them, or those named; all take five minutes and more
+  check_slips.py [NAME..]     all of them, or those named; all take twenty minutes and more
 
 GROWN: slips that the theorem over every list of tickets must refuse. `grown` must not be proved, with the P cases and
 the worked examples left out. For each a list of tickets is computed, after which a statement of the theorem is true

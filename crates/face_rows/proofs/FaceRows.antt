@@ -66,6 +66,7 @@ any_none : (f : ℕ) (fs : List ℕ) → any_of (same f) fs ≡ false → (g : �
 any_none f fs h g i = ap not (same_false g f (λ e. true≢false (sym (any_in fs i e) ∙ h)))
   where
     any_in : (gs : List ℕ) → Memᴰ g gs → g ≡ f → any_of (same f) gs ≡ true
+    any_in [] i q = elim i [ ]
     any_in (x ∷ gs) (Memᴰ.head e) q = rw (same_eq f x (sym q ∙ e))
     any_in (x ∷ gs) (Memᴰ.tail k) q = let later = any_in gs k q in
         elim (which (same f x)) [ inl t ↦ rw t | inr t ↦ rw t later ]

@@ -66,7 +66,7 @@ returns-then-not-has_box c =
     let w = b.loop-k in
     let a = b.args in
     sym (sym w.invariant.1 ∙ all_miss (λ j. j) w.k a.n (row_fits a.faces.now a.least.now a.greatest.now)
-    b.loop-k-test.true (test-is c.before ∙ flipped c.has_box.result true c.if-not-has_box.true-raw))
+    b.loop-k-test.true (test-is c.before.before ∙ flipped c.has_box.result true c.if-not-has_box.true-raw))
 
 pub loop-k-preserved : goal.loop-k-preserved
 loop-k-preserved c =
@@ -75,7 +75,7 @@ loop-k-preserved c =
     let a = b.args in (
       omega (arith, b.loop-k-test.true),
       sym (all_hit (λ j. j) w.k a.n (row_fits a.faces.now a.least.now a.greatest.now)
-          b.loop-k-test.true (test-is c.before ∙ flipped c.has_box.result false c.if-not-has_box.false-raw))
+          b.loop-k-test.true (test-is c.before.before ∙ flipped c.has_box.result false c.if-not-has_box.false-raw))
           ∙ w.invariant.1,
     )
 

@@ -19,39 +19,51 @@ use Rattle.face_rows.specs.Holds.{FaceTable, without_face, heal_faces}
 use Rattle.face_rows.proofs.Words.{either}
 use Rattle.face_rows.proofs.FaceRows.{table_distinct, table_long, without_length, two_less, cells_here}
 use Rattle.face_rows.proofs.FaceRows.{pushed_here, table_here, removed_here}
-use Rattle.face_rows.proofs.heal_row.Statement.{statement}
+use Rattle.face_rows.proofs.heal_row.Lts as lts
 use Rattle.face_rows.proofs.heal_row.Tie as tie
+use Rattle.face_rows.proofs.heal_row.Reads as reads
+use Rattle.face_rows.proofs.heal_row.Goals as goal
 
-abbrev faces : tie.Start → List ℕ
+-- places in the code, by their names in what is generated
+abbrev After-remove_face : Type 0
+After-remove_face = lts.After-remove_face tie.the-claims reads.Pre reads.Post
+
+abbrev After-remove_face-then-makes : Type 0
+After-remove_face-then-makes = lts.After-remove_face2 tie.the-claims reads.Pre reads.Post
+
+abbrev Start : Type 0
+Start = lts.Start tie.the-claims reads.Pre reads.Post
+
+abbrev faces : Start → List ℕ
 faces s = faces_of s.args.faces.now s.args.count
 
 -- without the left face, and without the right one too
-abbrev rest : tie.Start → List ℕ
+abbrev rest : Start → List ℕ
 rest s = without_face (nat_abs s.args.left) (faces s)
 
-fewer : (s : tie.Start) → length (rest s) + 1 ≡ s.args.count
+fewer : (s : Start) → length (rest s) + 1 ≡ s.args.count
 fewer s = without_length (nat_abs s.args.left) (faces s) (table_distinct s.requires.table.2) s.requires.left_there
     ∙ faces_length s.args.faces.now s.args.count
 
-fewest : (s : tie.Start) → length (without_face (nat_abs s.args.right) (rest s)) + 2 ≡ s.args.count
+fewest : (s : Start) → length (without_face (nat_abs s.args.right) (rest s)) + 2 ≡ s.args.count
 fewest s = two_less s.requires.table.2 _ _ s.requires.differ s.requires.left_there s.requires.right_there
     ∙ faces_length s.args.faces.now s.args.count
 
 module _ (box : ℕ → Extent) where
   -- the table on entry, with these rectangles
-  abbrev Table : tie.Start → Type 0
+  abbrev Table : Start → Type 0
   Table s = FaceTable (length s.args.faces.now) box (faces s) s.args.faces.now
 
-  gone : (c : tie.After-remove-face)
+  gone : (c : After-remove_face)
       → let s = c.before.before.before in
-      Table s → FaceTable (length s.args.faces.now) box (rest s) c.remove-face.new.0
-  gone c t = rw (to_z-of_z {w = w64} c.before.before.before.ranges.left) at (c.remove-face.ensures box t)
+      Table s → FaceTable (length s.args.faces.now) box (rest s) c.remove_face.new.faces
+  gone c t = rw (to_z-of_z {w = w64} c.ranges.left) at (c.remove_face.ensures box t)
 
-  both-gone : (c : tie.After-remove-face2)
+  both-gone : (c : After-remove_face-then-makes)
       → let s = c.before.before.before.before.before.before in
       Table s
       → FaceTable (length s.args.faces.now) box (without_face (nat_abs s.args.right) (rest s))
-      c.remove-face2.new.0
+      c.remove_face-then-makes.new.faces
   both-gone c t =
       let g = c.before.before.before in
       let s = g.before.before.before in
@@ -59,21 +71,21 @@ module _ (box : ℕ → Extent) where
       let k = gone g t in
       rw (to_z-of_z {w = w64} s.ranges.right) at
       (removed_here k {n = s.args.count - 1} (omega arith) _
-      (c.remove-face2.ensures box (table_here k {n = s.args.count - 1} (omega arith))))
+      (c.remove_face-then-makes.ensures box (table_here k {n = s.args.count - 1} (omega arith))))
 
-remove-face-requires-2 : tie.Need-remove-face-requires-2
-remove-face-requires-2 c κs =
+pub remove_face-requires-then-makes : goal.remove_face-requires-then-makes
+remove_face-requires-then-makes c =
     let g = c.before.before in
-    let s = g.before.before.before in
+    let s = c.before.before.before.before.before in
     let e = fewer s in (
       (_, table_here (gone _ g s.requires.table.2) {n = s.args.count - 1} (omega arith)),
       ap non_neg (to_z-of_z {w = w64} s.ranges.right) ∙ s.requires.right_natural,
     )
 
-push-face-requires : tie.Need-push-face-requires
-push-face-requires c κs =
+pub push_face-requires : goal.push_face-requires
+push_face-requires c =
     let g = c.before.before in
-    let s = g.before.before.before.before.before.before in
+    let s = c.before.before.before.before.before.before.before.before in
     let e = fewest s in
     let t = s.requires.table.2 in
     let k = both-gone _ g t in
@@ -82,68 +94,61 @@ push-face-requires c κs =
       ap non_neg v ∙ s.requires.natural,
       (
         s.requires.table.0,
-        rw v (s.requires.table.1 g.before.before.before.before.before.if1.true),
+        rw v (s.requires.table.1 g.if-makes.true),
         cells_here _ _ (without_face (nat_abs s.args.right) (rest s)) k.cells k.fits {n = s.args.count - 2}
             (omega arith),
       ),
     )
 
 -- the higher of the two, as it was passed
-higher : (c : tie.After-select)
-    → let a = c.before.before.before.args in
+higher : (c : goal.After-select)
+    → let a = c.args in
     to_z w64 (of_z w64 c.select.result) ≡ cond (lt_z a.left a.right) a.right a.left
 higher c =
-    let s = c.before.before.before in
+    let s = c in
     either (lt_z s.args.left s.args.right) s.ranges.right s.ranges.left
     (rw (to_z-of_z {w = w64} s.ranges.left, to_z-of_z {w = w64} s.ranges.right) at c.select.ensures)
 
-remove-face-requires-3 : tie.Need-remove-face-requires-3
-remove-face-requires-3 c κs =
-    let s = c.before.before.before in (
+pub remove_face-requires-else-makes : goal.remove_face-requires-else-makes
+remove_face-requires-else-makes c =
+    let s = c in (
       (s.requires.table.0, s.requires.table.2),
       ap non_neg (higher c) ∙ cond_has (λ (z : ℤ). non_neg z ≡ true) (lt_z s.args.left s.args.right)
           s.requires.right_natural s.requires.left-natural,
     )
 
-returns : tie.Need-returns
-returns c box none t =
+pub returns-then-makes : goal.returns-then-makes
+returns-then-makes c box none t =
     let g = c.before.before.before.before in
-    let s = g.before.before.before.before.before.before in
+    let s = c.before.before.before.before.before.before.before.before.before.before in
     let a = s.args in
     let e = fewest s in
-    let makes = g.before.before.before.before.before.if1.true in
+    let makes = g.if-makes.true in
     let k = both-gone box g t in
     let v = to_z-of_z {w = w64} s.ranges.face in
     let both = without_face (nat_abs a.right) (rest s) in
     ap (λ (b : Bool). faces_in (length a.faces.now) box
     (heal_faces b a.left a.right (nat_abs a.face) (faces s))) makes
     ∙ (rw v at (pushed_here _ box both k.cells k.fits {n = a.count - 2} (omega arith) _
-    (c.before.push-face.ensures.1 box (rw v (none makes))
+    (c.push_face.ensures.1 box (rw v (none makes))
     (cells_here _ box both k.cells k.fits {n = a.count - 2} (omega arith)))))
 
-returns-2 : tie.Need-returns-2
-returns-2 c box none t =
+pub returns-else-makes : goal.returns-else-makes
+returns-else-makes c box none t =
     let s = c.before.before.before.before.before in
     let a = s.args in
     ap (λ (b : Bool). faces_in (length a.faces.now) box
-    (heal_faces b a.left a.right (nat_abs a.face) (faces s))) c.before.before.before.before.if1.false
+    (heal_faces b a.left a.right (nat_abs a.face) (faces s))) c.if-makes.false
     ∙ ap (λ (z : ℤ). faces_in (length a.faces.now) box (without_face (nat_abs z) (faces s)))
     (sym (higher c.before.before))
-    ∙ (c.before.remove-face3.ensures box t).cells
+    ∙ (c.remove_face-else-makes.ensures box t).cells
 
-pub heal-row-spec : {M : Type 1} → statement M
-heal-row-spec =
-    tie.close
-    (tie.spec
-    (λ c κs. let s = c.before.before in
-    ((s.requires.table.0, s.requires.table.2), ap non_neg (to_z-of_z {w = w64} s.ranges.left) ∙ s.requires.left-natural))
-    (λ c. omega (arith, fewer c.before.before.before.before.before))
-    remove-face-requires-2
-    (λ c. omega (arith, fewest c.before.before.before.before.before.before.before.before))
-    push-face-requires
-    (λ c κs. search rules)
-    remove-face-requires-3
-    (λ c. search rules)
-    returns
-    (λ c. search rules)
-    returns-2)
+pub remove_face-requires : goal.remove_face-requires
+remove_face-requires c = let s = c in
+    ((s.requires.table.0, s.requires.table.2), ap non_neg (to_z-of_z {w = w64} s.ranges.left) ∙ s.requires.left-natural)
+
+pub overflow_sub-count : goal.overflow_sub-count
+overflow_sub-count c = omega (arith, fewer c.before.before.before.before.before)
+
+pub overflow_sub-count-then-makes : goal.overflow_sub-count-then-makes
+overflow_sub-count-then-makes c = omega (arith, fewest c.before.before.before.before.before.before.before.before)

@@ -8,24 +8,20 @@ use mir.Val.{bool_byte}
 use Rattle.lists.proofs.Counts.{byte_most}
 use Rattle.map.specs.Rows.{counts}
 use Rattle.head.specs.Heads.{changed_head}
-use Rattle.face_rows.proofs.with_face.Statement.{statement}
-use Rattle.face_rows.proofs.with_face.Tie as tie
+use Rattle.face_rows.proofs.with_face.Goals as goal
 
 numbers : (b : Bool) → 1 + bool_byte b ≡ cond b 2 1
 numbers true = refl
 numbers false = refl
 
-returns : tie.Need-returns
+pub returns : goal.returns
 returns c =
     c.changed.ensures
-    ∙ ap (λ (n : ℕ). changed_head c.before.args.h (counts 0 0 1) (counts 0 0 0) (counts 0 0 n))
-    (numbers c.before.args.goes)
+    ∙ ap (λ (n : ℕ). changed_head c.args.h (counts 0 0 1) (counts 0 0 0) (counts 0 0 n))
+    (numbers c.args.goes)
 
-pub with-face-spec : {M : Type 1} → statement M
-with-face-spec =
-    tie.close
-    (tie.spec
-    (λ c. search rules)
-    (λ c. let k = byte_most c.args.goes in omega arith)
-    (λ c κs. let k = byte_most c.args.goes in search rules)
-    returns)
+pub overflow_add-given : goal.overflow_add-given
+overflow_add-given c = let k = byte_most c.args.goes in omega arith
+
+pub changed-requires : goal.changed-requires
+changed-requires c = let k = byte_most c.args.goes in search rules

@@ -7,14 +7,13 @@ use mir.Syntax.{w64}
 use mir.Facts.{to_z-of_z}
 use Rattle.map.specs.Limits.{node_width, edge_width}
 use Rattle.face_rows.proofs.Renames.{swept_column, node_table_lem, edge-table}
-use Rattle.face_rows.proofs.rename_faces.Statement.{statement}
-use Rattle.face_rows.proofs.rename_faces.Tie as tie
+use Rattle.face_rows.proofs.rename_faces.Goals as goal
 
-returns : tie.Need-returns
+pub returns : goal.returns
 returns c row m el er en ee =
-    let second = c.before.before.rename-face2 in
-    let first = c.before.before.before.before.before.before.before.rename-face in
-    let s = c.before.before.before.before.before.before.before.before.before.before in
+    let second = c.rename_face-2 in
+    let first = c.rename_face in
+    let s = c in
     let a = s.args in
     let p = s.requires in
     let vl = to_z-of_z {w = w64} {z = a.left} s.ranges.left in
@@ -31,7 +30,3 @@ returns c row m el er en ee =
           (swept_column edge_width 5 0 a.count a.right a.face l)) (sym (rw (vl, vf) at first.ensures.1))
           ∙ sym (rw (vr, vf) at second.ensures.1),
     )
-
-pub rename-faces-spec : {M : Type 1} → statement M
-rename-faces-spec = tie.close (tie.spec (λ c κs. search rules) (λ c κs. search rules) (λ c. search rules)
-    (λ c. search rules) returns)

@@ -21,49 +21,37 @@ use Rattle.darts.specs.Positions.{dart_at}
 use Rattle.head.proofs.Words.{small_fits, plus_fits, plus_is}
 use Rattle.rings.proofs.Sums.{positive_is}
 use Rattle.face_rows.proofs.Words.{either}
-use Rattle.face_rows.proofs.sides_of.Statement.{statement}
-use Rattle.face_rows.proofs.sides_of.Tie as tie
+use Rattle.face_rows.proofs.sides_of.Goals as goal
 
-add-select : tie.Need-overflow-add-select
-add-select c = let s = c.before in plus_fits s.args.a s.requires.3 s.requires.4
+pub overflow_add-a : goal.overflow_add-a
+overflow_add-a c = let s = c in plus_fits s.args.a s.requires.3 s.requires.4
 
-add-t13 : tie.Need-overflow-add-t13
-add-t13 c =
-    let s = c.before.before in
-    let k = byte_most (not (lt_z (pos 0) (to_z w64 (of_z w64 c.before.ring-area.result)))) in
+pub overflow_add-result : goal.overflow_add-result
+overflow_add-result c =
+    let s = c in
+    let k = byte_most (not (lt_z (pos 0) (to_z w64 (of_z w64 c.ring_area-is_left.result)))) in
     omega (arith, s.requires.2)
 
-returns : tie.Need-returns
+pub returns : goal.returns
 returns c =
-    let s = c.before.before.before.before in
+    let s = c in
     let a = s.args in
     let p = s.requires in
-    let area = c.before.before.before.ring-area in
+    let area = c.ring_area-is_left in
     let doubled = ring_area (edge_map a.edges.now a.count)
     (ring (edge_map a.edges.now a.count) (dart_at a.edges.now ((a.count - 1) * 2))) in
-    let is_left = ap (lt_z (pos 0)) (sent {z = area.result} area.type-inv ∙ area.ensures) ∙ positive_is doubled in
+    let is_left = ap (lt_z (pos 0)) (sent {z = area.result} area.type_inv ∙ area.ensures) ∙ positive_is doubled in
     let vo = to_z-of_z {w = w64} {z = a.old} s.ranges.old in
     let va = to_z-of_z {w = w64} {z = a.a} s.ranges.a in
     let first = lt_z (pos 0) (to_z w64 (of_z w64 area.result)) || not a.goes in
     let b = cond a.goes (pos (nat_abs a.a + 1)) a.old in
     let fb = cond_has (SFits w64) a.goes (small_fits (nat_abs a.a + 1) (omega (arith, p.4))) s.ranges.old in
     let vb = either a.goes (small_fits (nat_abs a.a + 1) (omega (arith, p.4))) s.ranges.old
-    (rw (plus_is a.a p.3 p.4, vo) at c.before.before.select.ensures) in
-    let inside = either first s.ranges.a fb (rw (va, vb) at c.before.select2.ensures)
+    (rw (plus_is a.a p.3 p.4, vo) at c.select-b.ensures) in
+    let inside = either first s.ranges.a fb (rw (va, vb) at c.select.ensures)
     ∙ ap (λ (x : Bool). cond (x || not a.goes) a.a b) is_left in
-    let other = either first fb s.ranges.a (rw (va, vb) at c.select3.ensures)
+    let other = either first fb s.ranges.a (rw (va, vb) at c.select-2.ensures)
     ∙ ap (λ (x : Bool). cond (x || not a.goes) b a.a) is_left in
     let place = ap (λ (x : Bool). (a.count - 1) * 2 + bool_byte (not x)) is_left
     ∙ ap (λ (k : ℕ). (a.count - 1) * 2 + k) (byte_bit (not (is_positive (sgn doubled)))) in
     λ i. record { old = vo i; ring = place i; inside = inside i; other = other i }
-
-pub sides-of-spec : {M : Type 1} → statement M
-sides-of-spec =
-    tie.close
-    (tie.spec
-    (λ c. search rules) (λ c. search rules) (λ c κs. search rules)
-    add-select
-    (λ c κs. search rules) (λ c. search rules)
-    add-t13
-    (λ c κs. search rules) (λ c κs. search rules)
-    returns)

@@ -10,10 +10,9 @@ use mir.Facts.{to_z-of_z}
 use Rattle.tables.proofs.Tests.{pos_abs}
 use Rattle.map.specs.Limits.{face_width}
 use Rattle.face_rows.proofs.FaceRows.{face_pushed}
-use Rattle.face_rows.proofs.push_face.Statement.{statement}
-use Rattle.face_rows.proofs.push_face.Tie as tie
+use Rattle.face_rows.proofs.push_face.Goals as goal
 
-returns : tie.Need-returns
+pub returns : goal.returns
 returns c =
     let a = c.args in (
       length-set a.faces.now (a.count * face_width) _,
@@ -22,6 +21,5 @@ returns c =
           (sym (to_z-of_z {w = w64} c.ranges.face ∙ pos_abs a.face c.requires.1)),
     )
 
-pub push-face-spec : {M : Type 1} → statement M
-push-face-spec = tie.close (tie.spec (λ c. search rules) (λ c. search rules) (λ c. omega (arith, c.requires.0))
-    (λ c. search rules) returns)
+pub bounds-faces-count : goal.bounds-faces-count
+bounds-faces-count c = omega (arith, c.requires.0)

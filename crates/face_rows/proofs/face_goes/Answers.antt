@@ -3,17 +3,13 @@ use mathlib.Core.Path.{refl}
 use lib.Dec.{lit≤}
 use lib.IntN.{pos, nat_abs}
 use Rattle.outcomes.proofs.Words.{number_test, small_fits}
-use Rattle.face_rows.proofs.face_goes.Statement.{statement}
-use Rattle.face_rows.proofs.face_goes.Tie as tie
+use Rattle.face_rows.proofs.face_goes.Goals as goal
 
-returns : tie.Need-returns
+pub returns : goal.returns
 returns c =
-    let s = c.before in
+    let s = c in
     let a = s.args in
     rw (
-      c.is-new.ensures,
+      c.is_new.ensures,
       number_test a.old (pos 0) (nat_abs a.old) 0 s.ranges.old (small_fits 0 (lit≤ tt)) s.requires refl,
     )
-
-pub face-goes-spec : {M : Type 1} → statement M
-face-goes-spec = tie.close (tie.spec (λ c κs. tt) returns)
