@@ -6,8 +6,9 @@
 Needs crates/sheet/out/sheet (`rt run` in crates/sheet), crates/solgwid/out/libsolgwid.a (`rt lib` in crates/solgwid), a
 C compiler and the Rattle kit; it builds nothing and says what is missing. The parts run one after the other, each for
 its share of the time. The definitions come last: their first run in a clone may have the prover check the map's crates,
-some minutes, and it is not broken off. Differences and progress go to standard error. The seed is the clock's if none is given; a run
-with the same seed makes the same comparisons, as far as its time reaches. Exit status 1 if anything differs.
+some minutes, and it is not broken off. Differences and progress go to standard error. The seed is the clock's if none
+is given; a run with the same seed makes the same comparisons, as far as its time reaches. Exit status 1 if anything
+differs.
 """
 
 import argparse

@@ -6,12 +6,12 @@ one call, other rectangles, maps created, and contents of sheets.
 
 Needs crates/solgwid/out/libsolgwid.a (`rt lib` in crates/solgwid) and a C compiler. The tables are grown maps, for 6
 points or 12, that are distorted (links off the law, faces at will, crossing curves, nodes on one point), spoiled, or
-have another record of points. Each list in one call is run a second time with tables not whole, another record or too little
-room for the answers. Of each of the MAPS, all in form, every face table is tried that tests/reference/rectangles.py
-spoils. The maps are created in tables that hold anything, whole or not, under right records and others. The contents
-are those of grown sheets, of sheets whose rings and lone nodes bear other faces, and of the tables of the whole calls,
-in lists too short, just long enough and longer. Tables, head, list, refusal and value after the call must be the
-reference's, in refusals too.
+have another record of points. Each list in one call is run a second time with tables not whole, another record or too
+little room for the answers. Of each of the MAPS, all in form, every face table is tried that
+tests/reference/rectangles.py spoils. The maps are created in tables that hold anything, whole or not, under right
+records and others. The contents are those of grown sheets, of sheets whose rings and lone nodes bear other faces, and
+of the tables of the whole calls, in lists too short, just long enough and longer. Tables, head, list, refusal and value
+after the call must be the reference's, in refusals too.
 """
 
 import argparse

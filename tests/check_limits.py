@@ -4,10 +4,10 @@
   check_limits.py [CALLS] [--seed S]
 
 Needs crates/solgwid/out/libsolgwid.a (`rt lib` in crates/solgwid) and a C compiler. The library grows a map in tables
-at the limits, for 6 and 12 points by turns: plots in a grid, drawn in random order, wells, ditches apart and tanks in some
-maps, and plots divided until no face is left. A map of 1,000 nodes in one piece has 1,998 edges then, the most that
-tickets can draw. Every call on it is compared whole; the reference takes some seconds for each, with an index for its
-lookups. What is carried out stays, so that each call meets another map. Sides of plots are redrawn past what lies
+at the limits, for 6 and 12 points by turns: plots in a grid, drawn in random order, wells, ditches apart and tanks in
+some maps, and plots divided until no face is left. A map of 1,000 nodes in one piece has 1,998 edges then, the most
+that tickets can draw. Every call on it is compared whole; the reference takes some seconds for each, with an index for
+its lookups. What is carried out stays, so that each call meets another map. Sides of plots are redrawn past what lies
 beside them or short of it, and outer sides round the whole sheet, which turns it inside out. Boundaries lie along a
 side of a plot, cross it or touch it. Some calls are on tables with one number of a rectangle off by one, or with
 another record of points. Contents are held against a second way to work them out, since the reference would take

@@ -4,7 +4,8 @@
   check_sheet.py [LISTS] [--seed S] [--size TICKETS] [--mix NAME]
 
 Needs crates/sheet/out/sheet (`rt run` in crates/sheet). Mixes: even, redraw, abuse, faces, stitch
-(tests/reference/fuzz.py), islands (islands.py), or all of them. Of each class of difference one list is printed, made as short as it still differs.
+(tests/reference/fuzz.py), islands (islands.py), or all of them. Of each class of difference one list is printed, made
+as short as it still differs.
 """
 
 import argparse

@@ -5,9 +5,9 @@ reference's `sluice_faults`.
   check_split_heal.py [MAPS] [--seed S]
 
 Needs crates/solgwid/out/libsolgwid.a (`rt lib` in crates/solgwid) and a C compiler. The maps are grown by the
-reference, for 6 points or 12, with islands among them and curves of as many points. Every edge is cut at its points and between them:
-by 8 and healed by 10, by 7 and healed by 9. Then the same in tables with one free row, also with the next edge number
-at 999,996 to 1,000,000 (999,997 is the last that leaves a number for kind 9).
+reference, for 6 points or 12, with islands among them and curves of as many points. Every edge is cut at its points and
+between them: by 8 and healed by 10, by 7 and healed by 9. Then the same in tables with one free row, also with the next
+edge number at 999,996 to 1,000,000 (999,997 is the last that leaves a number for kind 9).
 """
 
 import ctypes

@@ -69,7 +69,8 @@ def call(text):
     if letter == 'L':
         out = (77,) * rest[1]
         after, r, v = pm.list_edges_of_face(t, h, rest[0], out, LEVEL)
-        claim = Claim(f'edges_of_face ({lent}) ({antt.z(rest[0])}) ({antt.zs(out)})', antt.written(after, r, v), 'Listed')
+        left = f'edges_of_face ({lent}) ({antt.z(rest[0])}) ({antt.zs(out)})'
+        claim = Claim(left, antt.written(after, r, v), 'Listed')
         return Case('call', text, (claim,), (('edges of a face', r),))
     t2, h2, r, v = pm.run(t, h, rest, LEVEL)
     claims = (Claim(f'ticket ({lent}) ({antt.zs(rest)})', outcome(t2, h2, r, v), 'Outcome'),

@@ -22,8 +22,14 @@ use Rattle.form_links.proofs.Words.{word_test}
 use Rattle.face_edges.specs.Listing.{borne}
 use Rattle.face_edges.proofs.Walks.{marked_other, marked_old, marked_new, old_first, new_first, left-taken}
 use Rattle.face_edges.proofs.Walks.{left-later, left_other, ring-length}
-use Rattle.face_edges.proofs.ring_size.Statement.{statement}
+use Rattle.face_edges.proofs.ring_size.Lts as lts
 use Rattle.face_edges.proofs.ring_size.Tie as tie
+use Rattle.face_edges.proofs.ring_size.Reads as reads
+use Rattle.face_edges.proofs.ring_size.Goals as goal
+
+-- places in the code, by their names in what is generated
+abbrev After-slice_known-2-1 : Type 0
+After-slice_known-2-1 = lts.After-slice_known2 tie.the-claims reads.Pre reads.Post
 
 zero_is : (k : ℕ) → eqb k 0 ≡ true → k ≡ 0
 zero_is k e = eqb→eq k 0 (≡→T (eqb k 0) e)
@@ -32,24 +38,24 @@ zero-not : (k : ℕ) → eqb k 0 ≡ false → k ≡ 0 → ⊥
 zero-not k e z = false≢true (sym e ∙ T→≡ (eqb k 0) (rw z (eqb_refl 0)))
 
 -- the test of the face
-face_is : (c : tie.After-slice-known2) → eqb (of_z w64 c.before.dart-cell.result)
-    (of_z w64 (pos c.before.before.before.args.face))
-    ≡ same (borne c.before.before.before.args.edges.now c.before.before.before.args.count
-    c.before.before.before.args.p) c.before.before.before.args.face
+face_is : (c : After-slice_known-2-1) → eqb (of_z w64 c.dart_cell.result)
+    (of_z w64 (pos c.args.face))
+    ≡ same (borne c.args.edges.now c.args.count
+    c.args.p) c.args.face
 face_is c =
-    let s = c.before.before.before in
+    let s = c in
     let a = s.args in
-    let d = c.before.dart-cell in
+    let d = c.dart_cell in
     let f = a.face in
     let b = borne a.edges.now a.count a.p in
-    word_test d.result (pos f) (pos b) (pos f) (sfits_of d.type-inv) (record { sfits = omega (arith, s.requires.1) })
+    word_test d.result (pos f) (pos b) (pos f) (sfits_of d.type_inv) (record { sfits = omega (arith, s.requires.1) })
     (d.ensures ∙ cell-bears s.requires.0.rows a.p s.requires.2) refl
     ∙ same-pos b f
 
-add-result : tie.Need-overflow-add-result
-add-result c =
-    let m = c.before.before.mark-ring in
-    let s = c.before.before.before.before.before.before.before.before in
+pub overflow_add-result : goal.overflow_add-result
+overflow_add-result c =
+    let m = c.mark_ring in
+    let s = c in
     let a = s.args in
     omega (
       arith,
@@ -58,16 +64,16 @@ add-result c =
       s.requires.0.small,
     )
 
-returns : tie.Need-returns
-returns c =
-    let m = c.before.before.mark-ring in
-    let k = c.before.before.before.before.before in
-    let s = k.before.before.before in
+pub returns-then-dart_cell-face : goal.returns-then-dart_cell-face
+returns-then-dart_cell-face c =
+    let m = c.mark_ring in
+    let k = c.before.before.before.before.before.before in
+    let s = k in
     let a = s.args in
     let f = a.face in
-    let x = eqb (of_z w64 k.before.dart-cell.result) (of_z w64 (pos a.face)) in
+    let x = eqb (of_z w64 k.dart_cell.result) (of_z w64 (pos a.face)) in
     let y = eqb (get_or a.marks.now a.p 0) 0 in
-    let t = c.before.before.before.before.if1.true in
+    let t = c.if-dart_cell-face.true in
     let one = sym (face_is k) ∙ and_left x y t in
     let e = same_true (borne a.edges.now a.count a.p) f one in
     let clear = zero_is (get_or a.marks.now a.p 0) (and_right x y t) in
@@ -83,14 +89,14 @@ returns c =
       ),
     )
 
-returns-2 : tie.Need-returns-2
-returns-2 c =
-    let k = c.before in
-    let s = k.before.before.before in
+pub returns : goal.returns
+returns c =
+    let k = c.before.before in
+    let s = k in
     let a = s.args in
     let f = a.face in
     let b = borne a.edges.now a.count a.p in
-    let x = eqb (of_z w64 k.before.dart-cell.result) (of_z w64 (pos a.face)) in
+    let x = eqb (of_z w64 k.dart_cell.result) (of_z w64 (pos a.face)) in
     let y = eqb (get_or a.marks.now a.p 0) 0 in
     let g = s.requires.0 in
     let w = s.requires.3 in
@@ -98,7 +104,7 @@ returns-2 c =
     elim (which x) [
       | inl e ↦
           let one = same_true b f (sym (face_is k) ∙ e) in
-          let no = zero-not (get_or a.marks.now a.p 0) (sym (ap (λ (z : Bool). z && y) e) ∙ c.if1.false) in (
+          let no = zero-not (get_or a.marks.now a.p 0) (sym (ap (λ (z : Bool). z && y) e) ∙ c.if-dart_cell-face.false) in (
             marked_old g w h one no,
             inl
                 (refl, left-later a.edges.now a.count f a.p h (old_first g w h one no)),
@@ -107,7 +113,3 @@ returns-2 c =
           let other = sym (face_is k) ∙ e in
           (marked_other g w h (differ b f other), inl (refl, left_other a.edges.now a.count f a.p h other))
     ]
-
-pub ring-size-spec : {M : Type 1} → statement M
-ring-size-spec = tie.close (tie.spec (λ c κs. search rules) (λ c. search rules) (λ c. search rules)
-    (λ c. search rules) (λ c κs. search rules) add-result (λ c. search rules) returns returns-2)

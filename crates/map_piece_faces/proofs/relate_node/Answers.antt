@@ -20,8 +20,14 @@ use Rattle.map.specs.Limits.{node_width, face_width}
 use Rattle.piece_faces.proofs.Matrix.{related_more}
 use Rattle.map_piece_faces.specs.InFaces.{is_found}
 use Rattle.map_piece_faces.proofs.Passed.{relates_as}
-use Rattle.map_piece_faces.proofs.relate_node.Statement.{statement}
+use Rattle.map_piece_faces.proofs.relate_node.Lts as lts
 use Rattle.map_piece_faces.proofs.relate_node.Tie as tie
+use Rattle.map_piece_faces.proofs.relate_node.Reads as reads
+use Rattle.map_piece_faces.proofs.relate_node.Goals as goal
+
+-- places in the code, by their names in what is generated
+abbrev After-find_indexed-found : Type 0
+After-find_indexed-found = lts.After-find_indexed tie.the-claims reads.Pre reads.Post
 
 -- the row of the face that node row i names
 abbrev found : List ℤ → ℕ → List ℤ → ℕ → Found
@@ -31,55 +37,38 @@ nothing : (a b : Bool) → a || b && false ≡ a
 nothing = eq2 (λ a b. a || b && false) (λ a b. a) tt
 
 -- what the search answers
-sought : (c : tie.After-find-indexed) →
-    let a = c.before.before.before.before.args in
-    c.find-indexed.result ≡ found a.nodes.now a.i a.faces.now a.count
+sought : (c : After-find_indexed-found) →
+    let a = c.args in
+    c.find_indexed-found.result ≡ found a.nodes.now a.i a.faces.now a.count
 sought c =
-    let a = c.before.before.before.before.args in
-    c.find-indexed.ensures ∙ ap (λ (z : ℤ). place (same_z z) 0 (column face_width a.faces.now a.count))
-    (to_z-of_z {w = w64} {z = get_or a.nodes.now (a.i * node_width + 3) (pos 0)} (sfits_of c.before.z.given))
+    let a = c.args in
+    c.find_indexed-found.ensures ∙ ap (λ (z : ℤ). place (same_z z) 0 (column face_width a.faces.now a.count))
+    (to_z-of_z {w = w64} {z = get_or a.nodes.now (a.i * node_width + 3) (pos 0)} (sfits_of c.z-1.given))
 
-returns : tie.Need-returns
-returns c =
+pub returns-in_default : goal.returns-in_default
+returns-in_default c =
     let m = c.before.before in
-    let a = m.before.before.before.before.args in
+    let a = m.args in
     let missing : found a.nodes.now a.i a.faces.now a.count ≡ Missing = sym (sought m)
-    ∙ c.enum_told.given.1 in
+    ∙ c.in_default.is in
     λ r h. relates_as (λ p g. sym (ap (λ (k : Found). r p g || same p a.i && is_found g k) missing
     ∙ nothing (r p g) (same p a.i))) h
 
-relate-requires : tie.Need-relate-requires
-relate-requires c κs =
-    let m = c.before.before.before.before in
-    let s = m.before.before.before.before in
+pub relate-requires : goal.relate-requires
+relate-requires c =
+    let m = c.before.before.before in
+    let s = m in
     let a = s.args in
     let row = place_first (same_z (get_or a.nodes.now (a.i * node_width + 3) (pos 0)))
-    (λ j. get_or a.faces.now (j * face_width) (pos 0)) a.count c.before.before.found.given.0.0
-    (sym (sought m) ∙ c.before.before.found.given.1) in
+    (λ j. get_or a.faces.now (j * face_width) (pos 0)) a.count c.in-At.k
+    (sym (sought m) ∙ c.in-At.is) in
     (s.requires.5, omega (arith, s.requires.1), omega (arith, row.below, s.requires.3))
 
-returns-2 : tie.Need-returns-2
-returns-2 c =
-    let t = c.before.before.before.before.before.found in
-    let m = c.before.before.before.before.before.before.before in
-    let a = m.before.before.before.before.args in
-    let at : found a.nodes.now a.i a.faces.now a.count ≡ At t.given.0.0 = sym (sought m)
-    ∙ t.given.1 in
+pub returns : goal.returns
+returns c =
+    let m = c.before.before.before.before.before.before in
+    let a = m.args in
+    let at : found a.nodes.now a.i a.faces.now a.count ≡ At c.in-At.k = sym (sought m)
+    ∙ c.in-At.is in
     λ r h. relates_as (λ p g. ap (λ (k : Found). r p g || same p a.i && is_found g k) (sym at))
-    (related_more c.before.before.relate.ensures r h)
-
-pub relate-node-spec : {M : Type 1} → statement M
-relate-node-spec =
-    tie.close
-    (tie.spec
-    (λ c. search rules)
-    (λ c. search rules)
-    (λ c. search rules)
-    (λ c. search rules)
-    (λ c κs. search rules)
-    (λ c. search rules)
-    (λ c. search rules)
-    returns
-    relate-requires
-    (λ c. search rules)
-    returns-2)
+    (related_more c.relate.ensures r h)

@@ -17,28 +17,27 @@ use Rattle.outcomes.specs.Outcomes.{Formed}
 use Rattle.outcomes.proofs.Formed.{counted}
 use Rattle.map_piece_faces.specs.InFaces.{Related, InFaces}
 use Rattle.map_piece_faces.proofs.Pieces.{in_faces_lem}
-use Rattle.map_piece_faces.proofs.relate_all.Statement.{statement}
-use Rattle.map_piece_faces.proofs.relate_all.Tie as tie
+use Rattle.map_piece_faces.proofs.relate_all.Goals as goal
 
-counts-of-requires : tie.Need-counts-of-requires
-counts-of-requires c κs = in_form-natural _ _ _ c.args.h c.requires.0.in_form
+pub counts_of-c-requires : goal.counts_of-c-requires
+counts_of-c-requires c = in_form-natural _ _ _ c.args.h c.requires.0.in_form
 
 -- there are labels for all nodes
-few : (c : tie.After-counts-of) → c.Counts-of.result.nodes ≤ max_nodes
-few c = omega (arith, (counted c.before.requires.0).nodes.most, ap (λ k. k.nodes) c.Counts-of.ensures)
+few : (c : goal.After-counts_of-c) → c.counts_of-c.result.nodes ≤ max_nodes
+few c = omega (arith, (counted c.requires.0).nodes.most, ap (λ k. k.nodes) c.counts_of-c.ensures)
 
 labels-long : (n : ℕ) → n ≤ max_nodes → length (take {A = ℕ} n (replicate max_nodes 0)) ≡ n
 labels-long n h = length-take-le n (replicate max_nodes 0) (omega (arith, length-replicate {A = ℕ} max_nodes 0))
 
-slice-aggregate-relate-labelled : tie.Need-slice-aggregate-relate-labelled
-slice-aggregate-relate-labelled c = sym (labels-long c.before.Counts-of.result.nodes (few c.before))
+pub slice_bounds-relate_labelled-end : goal.slice_bounds-relate_labelled-end
+slice_bounds-relate_labelled-end c = sym (labels-long c.counts_of-c.result.nodes (few c.before))
 
-relate-labelled-requires : tie.Need-relate-labelled-requires
-relate-labelled-requires c κs =
+pub relate_labelled-requires : goal.relate_labelled-requires
+relate_labelled-requires c =
     let k = c.before.before in
-    let s = k.before in (
-      (s.args.h, s.requires.0, k.Counts-of.ensures),
-      labels-long k.Counts-of.result.nodes (few k),
+    let s = k in (
+      (s.args.h, s.requires.0, k.counts_of-c.ensures),
+      labels-long k.counts_of-c.result.nodes (few k),
       s.requires.1,
     )
 
@@ -48,16 +47,9 @@ told : {nodes edges faces : List ℤ} {h : Head} {c : Counts} {g : List ℕ} {r 
 told {nodes} {edges} {faces} {h} {g = g} {r} f e w =
     in_faces_lem nodes edges faces h f g r (subst (λ c. Related nodes edges faces c g r) e w)
 
-returns : tie.Need-returns
-returns c = let k = c.before.before.before.before in
-    told k.before.requires.0 k.Counts-of.ensures c.before.relate-labelled.ensures
+pub returns : goal.returns
+returns c = let k = c in
+    told k.requires.0 k.counts_of-c.ensures c.relate_labelled.ensures
 
-pub relate-all-spec : {M : Type 1} → statement M
-relate-all-spec =
-    tie.close
-    (tie.spec
-    counts-of-requires
-    few
-    slice-aggregate-relate-labelled
-    relate-labelled-requires
-    returns)
+pub slice_bounds-labels-end : goal.slice_bounds-labels-end
+slice_bounds-labels-end c = few c

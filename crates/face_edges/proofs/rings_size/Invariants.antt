@@ -1,0 +1,16 @@
+-- `face_edges::rings_size` meets its contract: the size, and what is left, make up the whole. Assumes nothing.
+use mathlib.Core.Path.{◌≡◌, sym, ap, ◌∙◌}
+use Prim.Native.Nat.{◌+◌, ◌*◌, ◌-◌, ◌≤◌}
+use native.Mathlib.Omega.{arith}
+use lib.ListN.{length}
+use Rattle.face_edges.specs.Listing.{Marked, left}
+use Rattle.face_edges.proofs.Walks.{none_marked, all_left, none_left_lem, size_left}
+use Rattle.face_edges.proofs.rings_size.Given as goal
+
+abbrev pub invariant-loop-p : goal.invariant-loop-p
+invariant-loop-p l = (l.p ≤ l.count * 2)
+    × (l.size + length (left l.edges l.count l.face l.p) ≡ length (left l.edges l.count l.face 0)) × (l.size ≤ l.p * 4001)
+    × Marked l.edges l.count l.face l.p l.marks
+
+abbrev pub decreases-loop-p : goal.decreases-loop-p
+decreases-loop-p l = l.p-end - l.p
