@@ -19,54 +19,67 @@ use Rattle.edit_rectangles.proofs.Settled as settling
 use Rattle.edit_dispatch.specs.Shaped.{shaped, shaped_rows, read_for}
 use Rattle.edit_dispatch.proofs.Counts.{named_fit}
 use Rattle.edit_dispatch.proofs.Affected.{says, turned_down_lem, CarriedOut, carried_out, decided-zero}
-use Rattle.edit_dispatch.proofs.carry_out.Statement.{statement}
+use Rattle.edit_dispatch.proofs.carry_out.Lts as lts
 use Rattle.edit_dispatch.proofs.carry_out.Tie as tie
+use Rattle.edit_dispatch.proofs.carry_out.Reads as reads
+use Rattle.edit_dispatch.proofs.carry_out.Goals as goal
+
+-- places in the code, by their names in what is generated
+abbrev After-affected_after-a : Type 0
+After-affected_after-a = lts.After-affected_after tie.the-claims reads.Pre reads.Post
+
+abbrev After-edit_rows-done : Type 0
+After-edit_rows-done = lts.After-edit_rows tie.the-claims reads.Pre reads.Post
+
+abbrev Else-refusal-ne0 : Type 0
+Else-refusal-ne0 = lts.Else1 tie.the-claims reads.Pre reads.Post
+
+abbrev Start : Type 0
+Start = lts.Start tie.the-claims reads.Pre reads.Post
 
 -- ---- after the rows are edited
+abbrev start : After-edit_rows-done → Start
+start c = c.before.before.before.before.before.before.before.before
 
-abbrev start : tie.After-edit-rows → tie.Start
-start c = c.before.before.before.before.before.before.before.before.before
-
-abbrev formed : (c : tie.After-edit-rows) → let a = (start c).args in
+abbrev formed : (c : After-edit_rows-done) → let a = (start c).args in
     Formed a.nodes.now a.edges.now a.faces.now a.h
 formed c = (start c).requires.0
 
-abbrev was : tie.After-edit-rows → Lent
+abbrev was : After-edit_rows-done → Lent
 was c = let a = (start c).args in lent a.nodes.now a.edges.now a.faces.now a.h
 
-abbrev asked : tie.After-edit-rows → Option Ticket
+abbrev asked : After-edit_rows-done → Option Ticket
 asked c = let a = (start c).args in read_for a.routine (drop 1 a.t.now)
 
-abbrev left : tie.After-edit-rows → Outcome
-left c = let x = c.edit-rows in outcome x.new.0 x.new.1.0 x.new.1.1.0 x.result
+abbrev left : After-edit_rows-done → Outcome
+left c = let x = c.edit_rows-done in outcome x.new.0 x.new.1.0 x.new.1.1.0 x.result
 
-rows : (c : tie.After-edit-rows) → left c ≡ shaped_rows (was c) (asked c)
-rows c = c.edit-rows.ensures
+rows : (c : After-edit_rows-done) → left c ≡ shaped_rows (was c) (asked c)
+rows c = c.edit_rows-done.ensures
 
-to-usize-requires : tie.Need-to-usize-requires
-to-usize-requires c κs = edges_natural (counted c.before.requires.0)
+pub to_usize-e-requires : goal.to_usize-e-requires
+to_usize-e-requires c = edges_natural (counted c.requires.0)
 
-affected-before-requires : tie.Need-affected-before-requires
-affected-before-requires c κs =
-    let s = c.before.before.before.before in (
-      rw (edges_read (counted s.requires.0) c.before.before.to-usize.ensures) (edge_rows_lem s.requires.0),
-      rw c.edges_named_lem.ensures (named_fit s.args.routine (length s.args.t.now) s.requires.2 s.requires.1),
+pub affected_before-before-requires : goal.affected_before-before-requires
+affected_before-before-requires c =
+    let s = c in (
+      rw (edges_read (counted s.requires.0) c.to_usize-e.ensures) (edge_rows_lem s.requires.0),
+      rw c.edges_named.ensures (named_fit s.args.routine (length s.args.t.now) s.requires.2 s.requires.1),
     )
 
-returns : tie.Need-returns
-returns c = let e = c.before.before.before.before in
-    turned_down_lem (was e) (left e) (asked e) (rows e) c.if1.true
+pub returns-then-refusal-ne0 : goal.returns-then-refusal-ne0
+returns-then-refusal-ne0 c = let e = c.before.before.before.before in
+    turned_down_lem (was e) (left e) (asked e) (rows e) c.if-refusal-ne0.true
 
 -- ---- a ticket that is carried out
-
-abbrev edited : tie.Else1 → tie.After-edit-rows
+abbrev edited : Else-refusal-ne0 → After-edit_rows-done
 edited c = c.before.before.before.before
 
-done : (c : tie.Else1) → let e = edited c in CarriedOut (was e) (left e) (asked e)
-done c = let e = edited c in carried_out (was e) (left e) (asked e) (rows e) c.if1.false
+done : (c : Else-refusal-ne0) → let e = edited c in CarriedOut (was e) (left e) (asked e)
+done c = let e = edited c in carried_out (was e) (left e) (asked e) (rows e) c.if-refusal-ne0.false
 
-affected-after-requires : tie.Need-affected-after-requires
-affected-after-requires c κs =
+pub affected_after-a-requires : goal.affected_after-a-requires
+affected_after-a-requires c =
     let b = c.before.before.before in
     let d = done b in
     let f = formed (edited b) in (
@@ -75,14 +88,14 @@ affected-after-requires c κs =
     )
 
 -- the faces whose rectangles are set are those of the ticket
-abbrev carried : tie.After-affected-after → tie.Else1
-carried c = c.before.before.before.before
+abbrev carried : After-affected_after-a → Else-refusal-ne0
+carried c = c.before.before.before
 
-faces_set : (c : tie.After-affected-after) → let b = carried c in
+faces_set : (c : After-affected_after-a) → let b = carried c in
     let e = edited b in
     let a = (start e).args in
     let k = (done b).ticket in
-    c.affected-after.result
+    c.affected_after-a.result
     ≡ affected_after (draws k) e.edit-rows.last.1.0 a.h e.edit-rows.result.head
     (named_pairs a.edges.now (nat_abs a.h.edges) (named_edges k))
 faces_set c =
@@ -93,19 +106,19 @@ faces_set c =
     let k = (done b).ticket in
     let n = nat_abs a.h.edges in
     let said = says a.edges.now n a.routine a.t.now k (done b).reads in
-    let before = e.before.before.before.before in
-    let named = before.before in
-    c.affected-after.ensures
-    ∙ (λ i. affected_after ((c.before.draws_edge_lem.ensures ∙ sym said.draws) i) e.edit-rows.last.1.0 a.h
+    let before = e in
+    let named = before in
+    c.affected_after-a.ensures
+    ∙ (λ i. affected_after ((c.draws_edge.ensures ∙ sym said.draws) i) e.edit-rows.last.1.0 a.h
     e.edit-rows.result.head
-    ((before.affected-before.ensures
-    ∙ (λ j. affected_before (named.edges_named_lem.ensures j) a.edges.now
-    (edges_read (counted s.pre.0) named.before.before.to-usize.ensures j) a.t.now)
+    ((before.affected_before-before.ensures
+    ∙ (λ j. affected_before (named.edges_named.ensures j) a.edges.now
+    (edges_read (counted s.requires.0) named.to_usize-e.ensures j) a.t.now)
     ∙ sym said.named) i))
 
-set-affected-requires : tie.Need-set-affected-requires
-set-affected-requires c κs =
-    let b = carried c.before.before in
+pub set_affected-requires : goal.set_affected-requires
+set_affected-requires c =
+    let b = carried c.before in
     let e = edited b in
     let d = done b in
     let f = formed e in
@@ -114,17 +127,17 @@ set-affected-requires c κs =
       settling.faces_natural f d.ticket d.none d.lent,
       settling.edges_in f d.ticket d.none d.lent,
       settling.faces_fit f d.ticket d.none d.lent,
-      subst AreFaces (sym (faces_set c.before.before))
+      subst AreFaces (sym (faces_set c.before))
           (settling.after_faces (draws d.ticket) e.edit-rows.last.1.0 a.h e.edit-rows.result.head
           (named_pairs a.edges.now (nat_abs a.h.edges) (named_edges d.ticket))
           (settling.named_faces a.edges.now (nat_abs a.h.edges) (named_edges d.ticket))
           (counted f).next_face.natural),
     )
 
-returns-2 : tie.Need-returns-2
-returns-2 c =
-    let x = c.before in
-    let z = x.before.before.before in
+pub returns : goal.returns
+returns c =
+    let x = c in
+    let z = c.before.before.before in
     let b = carried z in
     let e = edited b in
     let d = done b in
@@ -132,24 +145,8 @@ returns-2 c =
     let k = d.ticket in
     let l = was e in
     let new = rectangle (edges_of e.edit-rows.last.1.0 (nat_abs e.edit-rows.result.head.edges)) in
-    let set = x.set-affected.ensures
+    let set = x.set_affected.ensures
     ∙ ap (λ (a : Affected). set_four (nat_abs e.edit-rows.result.head.faces) new a e.edit-rows.last.1.1.0)
     (faces_set z) in
     (λ i. record { lent = sym (settling.settled f k d.none d.lent set) i; answer = d.answer i })
     ∙ sym (decided-zero l k d.none) ∙ sym (ap (shaped l) d.reads)
-
-pub carry-out-spec : {M : Type 1} → statement M
-carry-out-spec =
-    tie.close
-    (tie.spec
-    to-usize-requires
-    (λ c κs. search rules)
-    affected-before-requires
-    (λ c κs. search rules)
-    (λ c. search rules) (λ c. search rules) (λ c. search rules)
-    returns
-    (λ c κs. search rules)
-    affected-after-requires
-    set-affected-requires
-    (λ c. search rules) (λ c. search rules) (λ c. search rules)
-    returns-2)

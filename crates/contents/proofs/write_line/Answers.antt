@@ -12,8 +12,7 @@ use mir.Syntax.{w64}
 use mir.Facts.{to_z-of_z}
 use Rattle.lists.specs.Tests.{same, bit}
 use Rattle.lists.proofs.Bools.{which, same_true, differ}
-use Rattle.contents.proofs.write_line.Statement.{statement}
-use Rattle.contents.proofs.write_line.Tie as tie
+use Rattle.contents.proofs.write_line.Goals as goal
 
 -- an odd vertex is a piece's
 odd-bit : (v : ℕ) → v % 2 ≡ bit (same (v % 2) 1)
@@ -30,41 +29,26 @@ three l at a b c a' b' c' p q r =
     let two : at + 2 ≡ suc (suc at) = omega arith in
     rw (p, q, r, one, two)
 
-cast-v : tie.Need-overflow-cast-v
-cast-v c = let h = c.shared-slice-known2.given (c.before.before.args.i * 2 + 1) in omega (arith, h)
+pub overflow_cast-v : goal.overflow_cast-v
+overflow_cast-v c = let h = c.shared_slice_known-2-1.given (c.args.i * 2 + 1) in omega (arith, h)
 
-cast-list : tie.Need-overflow-cast-list
-cast-list c = let h = c.shared-slice-known3.given (c.before.before.before.args.i * 2) in
+pub overflow_cast-list : goal.overflow_cast-list
+overflow_cast-list c = let h = c.shared_slice_known-3-1.given (c.args.i * 2) in
     record { sfits = omega (arith, h) }
 
-second : tie.Need-slice-set-from-list-2
-second c = simp length-set (omega arith)
+pub bounds-list-at-2 : goal.bounds-list-at-2
+bounds-list-at-2 c = simp length-set (omega arith)
 
-third : tie.Need-slice-set-from-list-3
-third c = simp length-set (omega arith)
+pub bounds-list-at-3 : goal.bounds-list-at-3
+bounds-list-at-3 c = simp length-set (omega arith)
 
-returns : tie.Need-returns
+pub returns : goal.returns
 returns c =
-    let k = c.before in
-    let a = k.before.before.before.args in
+    let k = c in
+    let a = k.args in
     let d = get_or a.notes.now (a.i * 2) 0 in
     let v = get_or a.notes.now (a.i * 2 + 1) 0 in
     let small : v % 2 < 2 = mod-lt v (omega arith) in
-    three a.list.now a.at _ _ _ _ _ _ (to_z-of_z {w = w64} {z = pos d} (cast-list k))
+    three a.list.now a.at _ _ _ _ _ _ (to_z-of_z {w = w64} {z = pos d} (overflow_cast-list k))
     (to_z-of_z {w = w64} {z = pos (v % 2)} (record { sfits = omega (arith, small) }) ∙ ap pos (odd-bit v))
-    (to_z-of_z {w = w64} (sfits_of c.number_at.type-inv) ∙ c.number_at.ensures)
-
-pub write-line-spec : {M : Type 1} → statement M
-write-line-spec =
-    tie.close
-    (tie.spec
-    (λ c. search rules) (λ c. search rules) (λ c. search rules) (λ c. search rules)
-    cast-v
-    (λ c. search rules) (λ c. search rules) (λ c. search rules)
-    cast-list
-    (λ c. search rules) (λ c. search rules) (λ c. search rules) (λ c. search rules) (λ c. search rules)
-    second
-    (λ c κs. search rules) (λ c. search rules) (λ c. search rules)
-    third
-    (λ c. search rules)
-    returns)
+    (to_z-of_z {w = w64} (sfits_of c.number_at.type_inv) ∙ c.number_at.ensures)

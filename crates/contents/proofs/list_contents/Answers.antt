@@ -22,36 +22,48 @@ use Rattle.contents.specs.Lines.{numbered, LinesThere}
 use Rattle.contents.proofs.Writes.{all_cells, cells_count}
 use Rattle.contents.proofs.Answers.{no_contents, too_short, in_list}
 use Rattle.contents.proofs.Sheet.{all_parts, none_listed, listed_as, there}
-use Rattle.contents.proofs.list_contents.Statement.{statement}
+use Rattle.contents.proofs.list_contents.Lts as lts
 use Rattle.contents.proofs.list_contents.Tie as tie
+use Rattle.contents.proofs.list_contents.Reads as reads
+use Rattle.contents.proofs.list_contents.Goals as goal
+
+-- places in the code, by their names in what is generated
+abbrev After-list_all : Type 0
+After-list_all = lts.After-list_all tie.the-claims reads.Pre reads.Post
+
+abbrev After-to_usize : Type 0
+After-to_usize = lts.After-to_usize tie.the-claims reads.Pre reads.Post
+
+abbrev Start : Type 0
+Start = lts.Start tie.the-claims reads.Pre reads.Post
 
 -- faces and pieces
-parts : (c : tie.After-to-usize) → c.to-usize.result + c.before.before.relate-all.result
-    ≡ nat_abs c.before.before.before.before.args.h.faces + c.before.before.relate-all.result
-parts c = ap (λ n. n + c.before.before.relate-all.result)
-    (faces_read (counted c.before.before.before.before.requires) c.to-usize.ensures)
+parts : (c : After-to_usize) → c.to_usize.result + c.relate_all-pieces.result
+    ≡ nat_abs c.args.h.faces + c.relate_all-pieces.result
+parts c = ap (λ n. n + c.relate_all-pieces.result)
+    (faces_read (counted c.requires) c.to_usize.ensures)
 
-few : (c : tie.After-to-usize) → c.to-usize.result + c.before.before.relate-all.result ≤ 2000
-few c = (all_parts c.before.before.before.before.requires c.before.before.relate-all.ensures (parts c)).few
+few : (c : After-to_usize) → c.to_usize.result + c.relate_all-pieces.result ≤ 2000
+few c = (all_parts c.requires c.relate_all-pieces.ensures (parts c)).few
 
-returns : tie.Need-returns
-returns c =
-    let l = c.before.before.before in
-    let u = l.before.before.before in
-    let s = u.before.before.before.before in
+pub returns-then-not-list_all : goal.returns-then-not-list_all
+returns-then-not-list_all c =
+    let l = c in
+    let u = c.before.before.before.before.before.before in
+    let s = u in
     let a = s.args in
     ap (λ (r : Answer). record { list = a.list.now; answer = r }) c.answered.ensures
     ∙ sym (no_contents (lent a.nodes.now a.edges.now a.faces.now a.h) a.list.now
     s.requires.whole s.requires.in_form
-    (none_listed s.requires u.before.before.relate-all.ensures (parts u) l.list_all.ensures
-    (flipped l.list_all.result true c.before.if1.true)))
+    (none_listed s.requires u.relate_all-pieces.ensures (parts u) l.list_all.ensures
+    (flipped l.list_all.result true c.if-not-list_all.true-raw)))
 
 -- the lines are noted
-module _ (l : tie.After-list-all) (e : l.list_all.result ≡ true) where
-  abbrev u : tie.After-to-usize
-  u = l.before.before.before
+module _ (l : After-list_all) (e : l.list_all.result ≡ true) where
+  abbrev u : After-to_usize
+  u = l
 
-  abbrev s : tie.Start
+  abbrev s : Start
   s = u.before.before.before.before
 
   abbrev n : ℕ
@@ -63,13 +75,13 @@ module _ (l : tie.After-list-all) (e : l.list_all.result ≡ true) where
   noted : contents (map_of (lent s.args.nodes.now s.args.edges.now s.args.faces.now s.args.h))
       ≡ some (map (numbered s.args.nodes.now s.args.faces.now)
       (noted_lines l.list_all.last.1.1.0 n n))
-  noted = listed_as s.pre u.before.before.relate-all.ensures (parts u) l.list_all.ensures e
+  noted = listed_as s.requires u.before.before.relate-all.ensures (parts u) l.list_all.ensures e
 
   count : length cells ≡ n * 3
   count = cells_count s.args.nodes.now s.args.faces.now l.list_all.last.1.1.0 n
 
   rows : LinesThere s.args.nodes.now s.args.faces.now l.list_all.last.1.1.0 n
-  rows = there s.pre u.before.before.relate-all.ensures (parts u) l.list_all.ensures e
+  rows = there s.requires u.before.before.relate-all.ensures (parts u) l.list_all.ensures e
       (omega (arith, few u, l.list_all.kept.1.1.0))
 
   -- what is written is the answer
@@ -85,54 +97,47 @@ module _ (l : tie.After-list-all) (e : l.list_all.result ≡ true) where
         answer = record { refusal = 0; value = pos k };
       }) (sym count)
       ∙ sym (in_list (lent s.args.nodes.now s.args.edges.now s.args.faces.now s.args.h)
-      s.args.list.now s.pre.whole s.pre.in_form _ noted (omega (arith, count)))
+      s.args.list.now s.requires.whole s.requires.in_form _ noted (omega (arith, count)))
 
-listed : (c : tie.Else1) → c.before.before.list_all.result ≡ true
-listed c = flipped c.before.before.list_all.result false c.if1.false
+listed : (c : goal.Else-not-list_all) → c.list_all.result ≡ true
+listed c = flipped c.list_all.result false c.if-not-list_all.false-raw
 
-returns-2 : tie.Need-returns-2
-returns-2 c =
+pub returns-then-list-parts : goal.returns-then-list-parts
+returns-then-list-parts c =
     let e = c.before.before in
     let l = e.before.before in
-    let s = l.before.before.before.before.before.before.before in
+    let s = l in
     let a = s.args in
-    ap (λ (r : Answer). record { list = a.list.now; answer = r }) c.answered2.ensures
+    ap (λ (r : Answer). record { list = a.list.now; answer = r }) c.answered-then-list-parts.ensures
     ∙ sym (too_short (lent a.nodes.now a.edges.now a.faces.now a.h) a.list.now
     s.requires.whole s.requires.in_form _ (noted l (listed e))
-    (omega (arith, count l (listed e), c.before.if2.true)))
+    (omega (arith, count l (listed e), c.if-list-parts.true)))
 
-write-lines-requires : tie.Need-write-lines-requires
-write-lines-requires c κs = let e = c.before.before.before in
-    (rows e.before.before (listed e), omega (arith, c.before.before.if2.false))
+pub write_lines-requires : goal.write_lines-requires
+write_lines-requires c = let e = c.before.before.before in
+    (rows e.before.before (listed e), omega (arith, c.if-list-parts.false))
 
-returns-3 : tie.Need-returns-3
-returns-3 c =
-    let w = c.before.before in
-    let e = w.before.before.before.before in
+pub returns : goal.returns
+returns c =
+    let w = c in
+    let e = c.before.before.before.before.before.before in
     let l = e.before.before in
-    written l (listed e) _ c.answered3.result _ (omega (arith, w.before.before.before.if2.false))
-    w.write-lines.ensures c.answered3.ensures
+    written l (listed e) _ c.answered-2.result _ (omega (arith, w.if-list-parts.false))
+    w.write_lines.ensures c.answered-2.ensures
     (to_z-of_z {w = w64} {z = pos (n l (listed e) * 3)}
     (record { sfits = omega (arith, few l.before.before.before) }))
 
-pub list-contents-spec : {M : Type 1} → statement M
-list-contents-spec =
-    tie.close
-    (tie.spec
-    (λ c κs. search rules)
-    (λ c κs. faces_natural (counted c.before.before.before.requires))
-    (λ c. omega (arith, few c))
-    (λ c. search rules) (λ c. search rules)
-    (λ c κs. let u = c.before.before in (
-      all_parts u.before.before.before.before.requires u.before.before.relate-all.ensures (parts u),
+pub to_usize-requires : goal.to_usize-requires
+to_usize-requires c = faces_natural (counted c.requires)
+
+pub overflow_add-parts : goal.overflow_add-parts
+overflow_add-parts c = omega (arith, few c.before)
+
+pub list_all-requires : goal.list_all-requires
+list_all-requires c = let u = c.before.before in (
+      all_parts u.requires u.relate_all-pieces.ensures (parts u),
       omega (arith, few u),
-    ))
-    (λ c κs. search rules)
-    returns
-    (λ c. omega (arith, few c.before.before.before.before.before))
-    (λ c κs. search rules)
-    returns-2
-    (λ c. search rules)
-    write-lines-requires
-    (λ c. search rules) (λ c. search rules) (λ c κs. search rules) (λ c. search rules)
-    returns-3)
+    )
+
+pub overflow_mul-parts : goal.overflow_mul-parts
+overflow_mul-parts c = omega (arith, few c.before.before.before.before.before)
