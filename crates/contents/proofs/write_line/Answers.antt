@@ -44,11 +44,11 @@ bounds-list-at-3 c = simp length-set (omega arith)
 
 pub returns : goal.returns
 returns c =
-    let k = c in
-    let a = k.args in
+    let a = c.args in
     let d = get_or a.notes.now (a.i * 2) 0 in
     let v = get_or a.notes.now (a.i * 2 + 1) 0 in
     let small : v % 2 < 2 = mod-lt v (omega arith) in
-    three a.list.now a.at _ _ _ _ _ _ (to_z-of_z {w = w64} {z = pos d} (overflow_cast-list k))
+    let depth = c.shared_slice_known-3-1.given (a.i * 2) in
+    three a.list.now a.at _ _ _ _ _ _ (to_z-of_z {w = w64} {z = pos d} (record { sfits = omega (arith, depth) }))
     (to_z-of_z {w = w64} {z = pos (v % 2)} (record { sfits = omega (arith, small) }) ∙ ap pos (odd-bit v))
     (to_z-of_z {w = w64} (sfits_of c.number_at.type_inv) ∙ c.number_at.ensures)

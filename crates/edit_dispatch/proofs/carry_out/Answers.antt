@@ -52,7 +52,7 @@ abbrev asked : After-edit_rows-done → Option Ticket
 asked c = let a = (start c).args in read_for a.routine (drop 1 a.t.now)
 
 abbrev left : After-edit_rows-done → Outcome
-left c = let x = c.edit_rows-done in outcome x.new.0 x.new.1.0 x.new.1.1.0 x.result
+left c = let x = c.edit_rows-done in outcome x.new.nodes x.new.edges x.new.faces x.result
 
 rows : (c : After-edit_rows-done) → left c ≡ shaped_rows (was c) (asked c)
 rows c = c.edit_rows-done.ensures
@@ -96,7 +96,7 @@ faces_set : (c : After-affected_after-a) → let b = carried c in
     let a = (start e).args in
     let k = (done b).ticket in
     c.affected_after-a.result
-    ≡ affected_after (draws k) e.edit-rows.last.1.0 a.h e.edit-rows.result.head
+    ≡ affected_after (draws k) e.edit_rows-done.new.edges a.h e.edit_rows-done.result.head
     (named_pairs a.edges.now (nat_abs a.h.edges) (named_edges k))
 faces_set c =
     let b = carried c in
@@ -109,8 +109,8 @@ faces_set c =
     let before = e in
     let named = before in
     c.affected_after-a.ensures
-    ∙ (λ i. affected_after ((c.draws_edge.ensures ∙ sym said.draws) i) e.edit-rows.last.1.0 a.h
-    e.edit-rows.result.head
+    ∙ (λ i. affected_after ((c.draws_edge.ensures ∙ sym said.draws) i) e.edit_rows-done.new.edges a.h
+    e.edit_rows-done.result.head
     ((before.affected_before-before.ensures
     ∙ (λ j. affected_before (named.edges_named.ensures j) a.edges.now
     (edges_read (counted s.requires.0) named.to_usize-e.ensures j) a.t.now)
@@ -128,7 +128,7 @@ set_affected-requires c =
       settling.edges_in f d.ticket d.none d.lent,
       settling.faces_fit f d.ticket d.none d.lent,
       subst AreFaces (sym (faces_set c.before))
-          (settling.after_faces (draws d.ticket) e.edit-rows.last.1.0 a.h e.edit-rows.result.head
+          (settling.after_faces (draws d.ticket) e.edit_rows-done.new.edges a.h e.edit_rows-done.result.head
           (named_pairs a.edges.now (nat_abs a.h.edges) (named_edges d.ticket))
           (settling.named_faces a.edges.now (nat_abs a.h.edges) (named_edges d.ticket))
           (counted f).next_face.natural),
@@ -144,9 +144,9 @@ returns c =
     let f = formed e in
     let k = d.ticket in
     let l = was e in
-    let new = rectangle (edges_of e.edit-rows.last.1.0 (nat_abs e.edit-rows.result.head.edges)) in
+    let new = rectangle (edges_of e.edit_rows-done.new.edges (nat_abs e.edit_rows-done.result.head.edges)) in
     let set = x.set_affected.ensures
-    ∙ ap (λ (a : Affected). set_four (nat_abs e.edit-rows.result.head.faces) new a e.edit-rows.last.1.1.0)
+    ∙ ap (λ (a : Affected). set_four (nat_abs e.edit_rows-done.result.head.faces) new a e.edit_rows-done.new.faces)
     (faces_set z) in
     (λ i. record { lent = sym (settling.settled f k d.none d.lent set) i; answer = d.answer i })
     ∙ sym (decided-zero l k d.none) ∙ sym (ap (shaped l) d.reads)

@@ -189,61 +189,61 @@ pub returns-in-AddNode : goal.returns-in-AddNode
 returns-in-AddNode c = let e = c.before.before.before.before.before.before in
     let s = e.before in answered s e.in-AddNode.is
     (c.add_node.ensures ∙ add-rows (lent_at s) _ _ _)
-    (three-read AddIsoNode (ticketAt s) (add_node_lem e) (sent c.add_node-arg-in-AddNode-3-1.given)
-    (sent c.add-node-arg5.given) (sent c.add-node-arg6.given))
+    (three-read AddIsoNode (ticketAt s) (add_node_lem e) (sent c.add_node-arg-in-AddNode-1.given)
+    (sent c.add_node-arg-in-AddNode-2-1.given) (sent c.add_node-arg-in-AddNode-3-1.given))
 
 pub returns-in-MoveNode : goal.returns-in-MoveNode
 returns-in-MoveNode c = let e = c.before.before.before.before.before.before in
     let s = e.before in answered s e.in-MoveNode.is
     (c.move_node.ensures ∙ move_rows (lent_at s) _ _ _)
     (three-read MoveIsoNode (ticketAt s) (move_node_lem e)
-    (sent c.move_node-arg-in-MoveNode-3-1.given)
-    (sent c.move-node-arg5.given) (sent c.move-node-arg6.given))
+    (sent c.move_node-arg-in-MoveNode-1.given)
+    (sent c.move_node-arg-in-MoveNode-2-1.given) (sent c.move_node-arg-in-MoveNode-3-1.given))
 
 pub returns-in-RemoveNode : goal.returns-in-RemoveNode
 returns-in-RemoveNode c = let e = c.before.before.before.before in
     let s = e.before in answered s e.in-RemoveNode.is
     (c.remove_node.ensures ∙ remove_rows (lent_at s) _)
-    (one-read RemoveIsoNode (ticketAt s) (remove_node_lem e) (sent c.remove-node-arg4.given))
+    (one-read RemoveIsoNode (ticketAt s) (remove_node_lem e) (sent c.remove_node-arg-in-RemoveNode-1.given))
 
 pub returns-in-AddIsolatedEdge : goal.returns-in-AddIsolatedEdge
 returns-in-AddIsolatedEdge c = let e = c.before.before.before.before.before.before.before.before in
     let s = e.before in answered s e.in-AddIsolatedEdge.is
     c.add_isolated_edge.ensures
     (two-curve_read AddIsoEdge (ticketAt s) (add-isolated-edge e)
-    (sent c.add_isolated_edge-arg-in-AddIsolatedEdge-3-1.given)
-    (sent c.add_isolated_edge-arg-in-AddIsolatedEdge-4-1.given) (part_to_end (ticketAt s) 3))
+    (sent c.add_isolated_edge-arg-in-AddIsolatedEdge-2-1.given)
+    (sent c.add_isolated_edge-arg-in-AddIsolatedEdge-3-1.given) (part_to_end (ticketAt s) 3))
 
 pub returns-in-RemoveIsolatedEdge : goal.returns-in-RemoveIsolatedEdge
 returns-in-RemoveIsolatedEdge c = let e = c.before.before.before.before.before.before in
     let s = e.before in answered s e.in-RemoveIsolatedEdge.is
     c.remove_isolated_edge.ensures
     (one-read RemoveIsoEdge (ticketAt s) (remove-isolated-edge e)
-    (sent c.remove-isolated-edge-arg4.given))
+    (sent c.remove_isolated_edge-arg-in-RemoveIsolatedEdge-2-1.given))
 
 pub returns-in-ChangeCurve : goal.returns-in-ChangeCurve
 returns-in-ChangeCurve c = let e = c.before.before.before.before.before in
     let s = e.before in answered s e.in-ChangeCurve.is
     c.change_curve.ensures
     (one-curve_read ChangeEdgeGeom (ticketAt s) (change-curve e)
-    (sent c.change-curve-arg4.given) (part_to_end (ticketAt s) 2))
+    (sent c.change_curve-arg-in-ChangeCurve-1.given) (part_to_end (ticketAt s) 2))
 
 pub returns-in-Split : goal.returns-in-Split
 returns-in-Split c = let e = c.before.before.before.before.before.before.before.before in
     let s = e.before in answered s e.in-Split.is
     c.split_edge.ensures
     (three-read (split_ticket e.in-Split.how) (ticketAt s) (split-edge e)
+    (sent c.split_edge-arg-in-Split-2-1.given)
     (sent c.split_edge-arg-in-Split-3-1.given)
-    (sent c.split_edge-arg-in-Split-4-1.given)
-    (sent c.split-edge-arg6.given))
+    (sent c.split_edge-arg-in-Split-4-1.given))
 
 pub returns-in-Heal : goal.returns-in-Heal
 returns-in-Heal c = let e = c.before.before.before.before.before.before.before in
     let s = e.before in answered s e.in-Heal.is
     c.heal_edges.ensures
     (two-read (heal_ticket e.in-Heal.how) (ticketAt s) (heal-edges e)
-    (sent c.heal_edges-arg-in-Heal-3-1.given)
-    (sent c.heal-edges-arg5.given))
+    (sent c.heal_edges-arg-in-Heal-2-1.given)
+    (sent c.heal_edges-arg-in-Heal-3-1.given))
 
 pub returns-in-AddEdge : goal.returns-in-AddEdge
 returns-in-AddEdge c = let e = c.before.before.before.before.before.before.before.before.before.before in
