@@ -1,7 +1,7 @@
 -- What is printed for bytes, part by part, and what is written of it. Assumes nothing.
-use Rattle.std.specs.Prelude.{◌≡◌, Bool, cond, List, [], ◌∷◌, ◌++◌, ℕ, zero, ◌+◌, ◌-◌, ◌^◌, ◌≤◌, ◌<◌, ◌⊎◌, pos, Option, None, Some, IsNone, IsSome, length, take, drop}
-use Rattle.std.proofs.Common.{refl, sym, ap, subst, ◌∙◌, append_assoc, append-nil, add-one, arith}
-use Rattle.std.proofs.Math.ListN.{get_or, drop_of_length-le, length-append}
+use Rattle.std.specs.Prelude.{◌≡◌, Bool, List, [], ◌∷◌, ◌++◌, ℕ, ◌+◌, ◌-◌, ◌^◌, ◌≤◌, ◌<◌, ◌⊎◌, pos, Option, None, Some, IsNone, IsSome, length, take, drop}
+use Rattle.std.proofs.Common.{refl, sym, ap, subst, ◌∙◌, append_assoc, add-one, arith}
+use Rattle.std.proofs.Math.ListN.{get_or, length-append}
 use Rattle.std.proofs.Math.Seq.{drop-cons, length-take-le}
 use Rattle.std.specs.Io.KnownBytes.{Appends, Consumes, IsAtEnd}
 use Rattle.lists.specs.Scans.{fold}
@@ -17,7 +17,7 @@ use Rattle.console.specs.Lines.{Desk, desk_of, line_answered, served, finished, 
 use Rattle.console.specs.Texts.{done_text}
 use Rattle.console.specs.Wrote.{Wrote}
 use Rattle.console.specs.Printed.{byte_printed, printed, rest_printed, input_printed, Took, Ends, Told, ProgramTold}
-use Rattle.console.proofs.Wrote.{wrote_none, wrote_more, appends_none, appends_more, none_before}
+use Rattle.console.proofs.Wrote.{appends_none, appends_more, none_before}
 
 -- ---- the text
 

@@ -1,23 +1,16 @@
 -- Texts put at the front of a buffer, and the rows that they print. Assumes nothing.
 use mathlib.Core.Path.{◌≡◌, refl, sym, ap, ◌∙◌}
-use mathlib.Core.Bool.{true, false, true≢false}
 use mathlib.Core.List.{List, [], ◌∷◌, ◌++◌, append-nil, append_assoc, flat_map}
-use Prim.Native.Nat.{ℕ, suc, ◌+◌, ◌*◌, ◌/◌, ◌≤◌, ◌<◌, min}
-use native.Mathlib.Nat.{suc-mul, le-div_iff_mul-le}
+use Prim.Native.Nat.{ℕ, ◌+◌, ◌≤◌}
 use native.Mathlib.Omega.{arith}
-use lib.IntN.{ℤ, pos, negsuc, nat_abs}
+use lib.IntN.{ℤ}
 use lib.ListN.{length, take, drop, set, length-append}
 use lib.Seq.{sets, sets-eq, length-sets, length-take-le, take-append_seam}
-use lib.Signed.{lt_z}
-use mir.Syntax.{w64}
-use mir.Val.{SFits, of_z, to_z}
-use mir.Facts.{to_z-of_z}
-use borrow.Author.Tests.{ltb-true}
 use Rattle.lists.proofs.Appends.{sets_append}
 use Rattle.head.specs.Heads.{head_in}
 use Rattle.printing.specs.Texts.{natural_text, number_text, row_text}
 use Rattle.printing.proofs.Rows.{natural_few, row_few}
-use Rattle.console.specs.Texts.{answer_text, tagged_text, head_numbers, clamp_len, TextPut}
+use Rattle.console.specs.Texts.{answer_text, tagged_text, head_numbers, TextPut}
 
 -- a text that fits
 pub text_put : (before text after : List ℕ) (r : ℕ) → after ≡ sets before 0 text → r ≡ length text

@@ -7,7 +7,7 @@ use mathlib.Core.List.{List, [], ◌∷◌, ◌++◌, map, flat_map}
 use Prim.Native.Nat.{ℕ, zero, suc, ◌+◌, ◌*◌, ◌<◌, ◌≤◌, min}
 use native.Mathlib.Omega.{arith}
 use native.Mathlib.Numerals.{add-one}
-use lib.Dec.{T, eqb, eqb→eq, ltb, lit<}
+use lib.Dec.{ltb, lit<}
 use lib.IntN.{ℤ, pos, nat_abs}
 use lib.ListN.{length, get_or, set, take, drop, length-take, get_or-append}
 use lib.Seq.{paste, length-paste, length_paste_head, length-take-le, get_or-take, get_or-append-add, drop-cons}
@@ -222,17 +222,13 @@ row_paste (y ∷ ys) (suc i) r h =
 
 -- ---- by whether a call was turned down
 
-pub by_refusal : {A : Type 0} (k : ℕ) (a b : A) → T (not (eqb k 0)) → unless_refused k a b ≡ b
-by_refusal zero a b t = absurd t
+pub by_refusal : {A : Type 0} (k : ℕ) (a b : A) → (k ≡ 0 → ⊥) → unless_refused k a b ≡ b
+by_refusal zero a b t = absurd (t refl)
 by_refusal (suc k) a b t = refl
 
-pub by_zero : {A : Type 0} (k : ℕ) (a b : A) → T (not (not (eqb k 0))) → unless_refused k a b ≡ a
+pub by_zero : {A : Type 0} (k : ℕ) (a b : A) → k ≡ 0 → unless_refused k a b ≡ a
 by_zero zero a b t = refl
-by_zero (suc k) a b t = let e : suc k ≡ 0 = eqb→eq (suc k) 0 (twice (eqb (suc k) 0) t) in absurd (omega arith)
-  where
-    twice : (q : Bool) → T (not (not q)) → T q
-    twice true h = tt
-    twice false h = h
+by_zero (suc k) a b t = absurd (omega arith)
 
 -- ---- what `move_front` leaves, of a ticket that it had worked out on the first k numbers
 

@@ -1,5 +1,5 @@
 -- The numbers at the front of the list are the line's ticket.
-use Rattle.std.proofs.Common.{◌≡◌, ◌≤◌, sym, ap, ◌∙◌, length, take}
+use Rattle.std.proofs.Common.{◌≡◌, ◌≤◌, ap, ◌∙◌, length, take}
 use Rattle.std.specs.Prelude.{pos, replicate}
 use Rattle.map.specs.Rows.{lent}
 use Rattle.map.specs.Ticket.{ticket}

@@ -1,5 +1,5 @@
 -- The bytes from i on are still to come.
-use Rattle.std.proofs.Common.{◌≡◌, ◌≤◌, List, ℕ, ◌++◌, length, drop}
+use Rattle.std.proofs.Common.{◌≡◌, ◌≤◌, List, ℕ, ◌++◌, drop}
 use Rattle.lists.specs.Scans.{fold}
 use Rattle.map.specs.Rows.{lent}
 use Rattle.console.specs.Lines.{desk_of, kept_bytes, served}

@@ -1,4 +1,4 @@
-use Rattle.std.proofs.Common.{arith, ◌≡◌, ◌≤◌, inr, List, ℕ, length, take}
+use Rattle.std.proofs.Common.{arith, inr, take}
 use Rattle.map.specs.Rows.{lent}
 use Rattle.console.specs.Lines.{desk_of}
 use Rattle.console.proofs.Printed.{took_more}

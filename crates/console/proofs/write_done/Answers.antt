@@ -1,9 +1,6 @@
-use Rattle.std.proofs.Common.{List, ℕ, ◌++◌, sym, subst, append-nil}
-use Rattle.std.specs.Prelude.{Bool, cond, []}
-use Rattle.outcomes.specs.Outcomes.{outcome}
+use Rattle.std.proofs.Common.{append-nil}
 use Rattle.map.specs.Rows.{lent}
 use Rattle.console.specs.Texts.{answer_text, sheet_text, done_text}
-use Rattle.console.specs.Wrote.{Wrote}
 use Rattle.console.proofs.Wrote.{wrote_more}
 use Rattle.console.proofs.write_done.Goals as goal
 

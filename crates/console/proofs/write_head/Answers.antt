@@ -1,6 +1,5 @@
 use Rattle.std.proofs.Common.{List, ℕ, subst}
-use Rattle.tables.specs.Tables.{row_at}
-use Rattle.console.specs.Texts.{answer_text, tagged_text, head_numbers}
+use Rattle.console.specs.Texts.{tagged_text, head_numbers}
 use Rattle.console.specs.Wrote.{Wrote}
 use Rattle.console.proofs.Texts.{text_taken}
 use Rattle.console.proofs.write_head.Goals as goal

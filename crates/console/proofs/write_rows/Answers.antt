@@ -1,4 +1,4 @@
-use Rattle.std.proofs.Common.{arith, ◌≡◌, ◌/◌, List, ℕ, length, sym, ap, ◌∙◌, subst, add-one, to_z-of_z}
+use Rattle.std.proofs.Common.{arith, ◌≡◌, ◌/◌, ℕ, length, ap, ◌∙◌, subst, add-one, to_z-of_z}
 use Rattle.std.specs.Prelude.{ℤ}
 use mir.Syntax.{w64}
 use Rattle.tables.specs.Tables.{row_at}

@@ -1,4 +1,4 @@
-use Rattle.std.proofs.Common.{rules, ◌≡◌, List, ℕ, ◌++◌}
+use Rattle.std.proofs.Common.{rules, ◌≡◌, ◌++◌}
 use mir.Syntax.{w64}
 use mir.Val.{of_z, to_z}
 use Rattle.integers.specs.Signs.{sent}

@@ -112,12 +112,12 @@ overflow_sub-n-3 c = omega (arith, two-points c.requires.0)
 
 pub point_at-requires : goal.point_at-requires
 point_at-requires c = (
-      c.requires.0,
-      omega (arith, two-points c.requires.0),
-    )
+  c.requires.0,
+  omega (arith, two-points c.requires.0),
+)
 
 pub point_at-requires-2 : goal.point_at-requires-2
 point_at-requires-2 c = (
-      c.requires.1,
-      omega (arith, two-points c.requires.1),
-    )
+  c.requires.1,
+  omega (arith, two-points c.requires.1),
+)

@@ -15,10 +15,10 @@ pub returns : goal.returns
 returns c =
     let s = c in (
       (λ ps e. elim c.if-n-lt-POINTS.branch [
-        then-n-lt-POINTS w ↦ point_stored s.args.line s.args.p _ ps e w.if-n-lt-POINTS.true
+        | then-n-lt-POINTS w ↦ point_stored s.args.line s.args.p _ ps e w.if-n-lt-POINTS.true
             (to_z_pos w64 (lt_of_le_of_lt s.requires.0.x (lit< tt)))
             (to_z_pos w64 (lt_of_le_of_lt s.requires.0.y (lit< tt))) w.cells-is
-      | else-n-lt-POINTS w ↦ point_counted s.args.line s.args.p _ ps e w.if-n-lt-POINTS.false w.cells-is
+        | else-n-lt-POINTS w ↦ point_counted s.args.line s.args.p _ ps e w.if-n-lt-POINTS.false w.cells-is
       ]),
       refl,
     )

@@ -39,18 +39,18 @@ loop-i-preserved c =
     let f = point_at l in
     -- what the test of point i answered
     let told : (v : Bool) → c.straight_between.result ≡ v
-        → straight_between (f (s.loop-i.i - 1)) (f s.loop-i.i) (f (s.loop-i.i + 1)) ≡ v = λ v e.
-            asked₃ straight_between c.point_at-in-loop-i.ensures.0 c.point_at-p.ensures.0
-            c.point_at-in-loop-i-2.ensures.0 c.straight_between.ensures e in
+    → straight_between (f (s.loop-i.i - 1)) (f s.loop-i.i) (f (s.loop-i.i + 1)) ≡ v = λ v e.
+    asked₃ straight_between c.point_at-in-loop-i.ensures.0 c.point_at-p.ensures.0
+    c.point_at-in-loop-i-2.ensures.0 c.straight_between.ensures e in
     let h : s.loop-i.i + 1 < length l / 2 = omega arith in (
       omega arith,
       omega arith,
       elim c.if-not-straight_between.branch [
-        then-not-straight_between w ↦ thinned_kept l _ t h (told _ w.if-not-straight_between.true)
+        | then-not-straight_between w ↦ thinned_kept l _ t h (told _ w.if-not-straight_between.true)
             c.point_at-p.ensures.0 (rw w.out-is w.with_point-out-then-not-straight_between.ensures.1)
             (w.out-is ∙ w.with_point-out-then-not-straight_between.ensures.0 _ t.line)
-      | else-not-straight_between w ↦
-          thinned-dropped l _ t h (told _ w.if-not-straight_between.false) w.out-is
+        | else-not-straight_between w ↦
+            thinned-dropped l _ t h (told _ w.if-not-straight_between.false) w.out-is
       ],
     )
 
@@ -70,9 +70,9 @@ point_at-requires c = (c.requires, omega (arith, two-points c.requires))
 
 pub with_point-out-requires : goal.with_point-out-requires
 with_point-out-requires c = (
-      c.point_at.ensures.1,
-      omega (arith, empty_count c.empty.result c.empty.ensures),
-    )
+  c.point_at.ensures.1,
+  omega (arith, empty_count c.empty.result c.empty.ensures),
+)
 
 pub point_at-p-requires : goal.point_at-p-requires
 point_at-p-requires c = (c.requires, omega arith)
@@ -88,9 +88,9 @@ straight_between-requires c = (c.point_at-in-loop-i.ensures.1, c.point_at-p.ensu
 
 pub with_point-out-requires-then-not-straight_between : goal.with_point-out-requires-then-not-straight_between
 with_point-out-requires-then-not-straight_between c = let s = c in (
-      c.point_at-p.ensures.1,
-      omega (arith, s.loop-i.invariant.2.few, few_points s.requires),
-    )
+  c.point_at-p.ensures.1,
+  omega (arith, s.loop-i.invariant.2.few, few_points s.requires),
+)
 
 pub point_at-requires-2 : goal.point_at-requires-2
 point_at-requires-2 c = let s = c in
@@ -98,6 +98,6 @@ point_at-requires-2 c = let s = c in
 
 pub with_point-requires : goal.with_point-requires
 with_point-requires c = let s = c in (
-      c.point_at-2.ensures.1,
-      omega (arith, s.loop-i.invariant.2.few, few_points s.requires),
-    )
+  c.point_at-2.ensures.1,
+  omega (arith, s.loop-i.invariant.2.few, few_points s.requires),
+)

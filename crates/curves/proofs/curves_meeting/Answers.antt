@@ -53,8 +53,8 @@ point_at-requires-in-loop-i c = (c.requires.0, omega arith)
 
 pub segment_meeting-found-requires : goal.segment_meeting-found-requires
 segment_meeting-found-requires c = (
-      c.common_ends-l.ensures.1,
-      c.point_at.ensures.1,
-      c.point_at-in-loop-i.ensures.1,
-      c.requires.1,
-    )
+  c.common_ends-l.ensures.1,
+  c.point_at.ensures.1,
+  c.point_at-in-loop-i.ensures.1,
+  c.requires.1,
+)

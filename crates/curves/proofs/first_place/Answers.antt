@@ -47,7 +47,7 @@ point_at-requires-in-loop-i c = (c.requires.0, omega arith)
 
 pub on_segment-requires : goal.on_segment-requires
 on_segment-requires c = (
-      c.requires.1,
-      c.point_at.ensures.1,
-      c.point_at-in-loop-i.ensures.1,
-    )
+  c.requires.1,
+  c.point_at.ensures.1,
+  c.point_at-in-loop-i.ensures.1,
+)

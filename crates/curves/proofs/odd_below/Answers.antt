@@ -37,7 +37,7 @@ point_at-requires-in-loop-i c = (c.requires.0, omega arith)
 
 pub passes_below-odd-requires : goal.passes_below-odd-requires
 passes_below-odd-requires c = (
-      c.requires.1,
-      c.point_at.ensures.1,
-      c.point_at-in-loop-i.ensures.1,
-    )
+  c.requires.1,
+  c.point_at.ensures.1,
+  c.point_at-in-loop-i.ensures.1,
+)

@@ -105,35 +105,37 @@ loop-p-preserved c =
     let all = left a.edges.now a.count a.face 0 in
     let ring = ring_at a.edges.now a.count v.p in
     let rest = left a.edges.now a.count a.face (v.p + 1) in
-    elim c.if-n-gt0.branch [ then-n-gt0 w ↦
-    let r = ring-at c.before w.if-n-gt0.true in
-    let more : c.if-n-gt0.at ≡ v.at + z.result = w.at-is in
-    let end : v.at + (length ring + 1) ≡ c.if-n-gt0.at = omega (arith, more, r.size) in
-    let m : z.result - 1 ≡ length ring = omega (arith, r.size) in
-    let is : c.if-n-gt0.list ≡ paste a.list.now 0 all c.if-n-gt0.at = w.list-is ∙ w.write_ring.ensures
-    ∙ ring-turn a.list.now all v.at ring rest r.is (room s) v.list
-    (to_z w64 (of_z w64 (pos (z.result - 1)))) (z.result - 1) v.invariant.3
-    (to_z-of_z {w = w64} {z = pos (z.result - 1)} (record { sfits = omega (arith, r.most) }) ∙ ap pos m) m
-    ∙ ap (paste a.list.now 0 all) end in (
-      omega (arith, b.loop-p-test.true),
-      omega (arith, more, r.inside),
-      ap length is ∙ length-paste a.list.now 0 all c.if-n-gt0.at (omega (arith, more, r.inside, room s))
-          (omega (arith, more, r.inside)),
-      is,
-      ap (λ (k : ℕ). drop k all) (sym end) ∙ rest_left a.list.now all v.at ring rest r.is (room s),
-      z.ensures.0,
-    )
-    | else-n-gt0 w ↦
-    let same_at : c.if-n-gt0.at ≡ v.at = w.at-is in
-    let same-list : c.if-n-gt0.list ≡ v.list = w.list-is in (
-      omega (arith, b.loop-p-test.true),
-      omega (arith, same_at, v.invariant.1),
-      ap length same-list ∙ v.invariant.2,
-      same-list ∙ v.invariant.3 ∙ ap (paste a.list.now 0 all) (sym same_at),
-      ap (λ (k : ℕ). drop k all) same_at ∙ v.invariant.4
-          ∙ none_size a.edges.now a.count a.face v.p z.result z.ensures.1 w.if-n-gt0.false,
-      z.ensures.0,
-    ) ]
+    elim c.if-n-gt0.branch [
+      | then-n-gt0 w ↦
+          let r = ring-at c.before w.if-n-gt0.true in
+          let more : c.if-n-gt0.at ≡ v.at + z.result = w.at-is in
+          let end : v.at + (length ring + 1) ≡ c.if-n-gt0.at = omega (arith, more, r.size) in
+          let m : z.result - 1 ≡ length ring = omega (arith, r.size) in
+          let is : c.if-n-gt0.list ≡ paste a.list.now 0 all c.if-n-gt0.at = w.list-is ∙ w.write_ring.ensures
+          ∙ ring-turn a.list.now all v.at ring rest r.is (room s) v.list
+          (to_z w64 (of_z w64 (pos (z.result - 1)))) (z.result - 1) v.invariant.3
+          (to_z-of_z {w = w64} {z = pos (z.result - 1)} (record { sfits = omega (arith, r.most) }) ∙ ap pos m) m
+          ∙ ap (paste a.list.now 0 all) end in (
+            omega (arith, b.loop-p-test.true),
+            omega (arith, more, r.inside),
+            ap length is ∙ length-paste a.list.now 0 all c.if-n-gt0.at (omega (arith, more, r.inside, room s))
+                (omega (arith, more, r.inside)),
+            is,
+            ap (λ (k : ℕ). drop k all) (sym end) ∙ rest_left a.list.now all v.at ring rest r.is (room s),
+            z.ensures.0,
+          )
+      | else-n-gt0 w ↦
+          let same_at : c.if-n-gt0.at ≡ v.at = w.at-is in
+          let same-list : c.if-n-gt0.list ≡ v.list = w.list-is in (
+            omega (arith, b.loop-p-test.true),
+            omega (arith, same_at, v.invariant.1),
+            ap length same-list ∙ v.invariant.2,
+            same-list ∙ v.invariant.3 ∙ ap (paste a.list.now 0 all) (sym same_at),
+            ap (λ (k : ℕ). drop k all) same_at ∙ v.invariant.4
+                ∙ none_size a.edges.now a.count a.face v.p z.result z.ensures.1 w.if-n-gt0.false,
+            z.ensures.0,
+          )
+    ]
 
 pub returns : goal.returns
 returns c =

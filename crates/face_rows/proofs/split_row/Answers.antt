@@ -144,11 +144,11 @@ overflow_add-a c = let s = c in
 
 pub push_face-requires-else-goes : goal.push_face-requires-else-goes
 push_face-requires-else-goes c = let s = c in (
-      s.requires.room,
-      ap non_neg (to_z-of_z {w = w64} s.ranges.a) ∙ s.requires.natural,
-      (
-        s.requires.table.0,
-        rw (to_z-of_z {w = w64} s.ranges.a) (s.requires.table.1 _ (omega arith)),
-        s.requires.table.2.cells,
-      ),
-    )
+  s.requires.room,
+  ap non_neg (to_z-of_z {w = w64} s.ranges.a) ∙ s.requires.natural,
+  (
+    s.requires.table.0,
+    rw (to_z-of_z {w = w64} s.ranges.a) (s.requires.table.1 _ (omega arith)),
+    s.requires.table.2.cells,
+  ),
+)

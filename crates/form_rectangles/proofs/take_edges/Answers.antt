@@ -75,17 +75,17 @@ overflow_mul-p c = omega (arith, c.loop-i-test.true, c.requires.1)
 
 pub offset_bounds-bears-p : goal.offset_bounds-bears-p
 offset_bounds-bears-p c = omega (
-      arith,
-      c.loop-i-test.true,
-      c.requires.1,
-    )
+  arith,
+  c.loop-i-test.true,
+  c.requires.1,
+)
 
 pub bounds-bears-p : goal.bounds-bears-p
 bounds-bears-p c = omega (
-      arith,
-      c.loop-i-test.true,
-      c.requires.2,
-    )
+  arith,
+  c.loop-i-test.true,
+  c.requires.2,
+)
 
 pub overflow_cast-bears : goal.overflow_cast-bears
 overflow_cast-bears c = let d = c in
@@ -97,24 +97,24 @@ overflow_cast-bears c = let d = c in
 
 pub overflow_add-p : goal.overflow_add-p
 overflow_add-p c = omega (
-      arith,
-      c.loop-i-test.true,
-      c.requires.1,
-    )
+  arith,
+  c.loop-i-test.true,
+  c.requires.1,
+)
 
 pub offset_bounds-bears-p-in-loop-i : goal.offset_bounds-bears-p-in-loop-i
 offset_bounds-bears-p-in-loop-i c = omega (
-      arith,
-      c.loop-i-test.true,
-      c.requires.1,
-    )
+  arith,
+  c.loop-i-test.true,
+  c.requires.1,
+)
 
 pub bounds-bears-p-in-loop-i : goal.bounds-bears-p-in-loop-i
 bounds-bears-p-in-loop-i c = omega (
-      arith,
-      c.loop-i-test.true,
-      c.requires.2,
-    )
+  arith,
+  c.loop-i-test.true,
+  c.requires.2,
+)
 
 pub overflow_cast-bears-in-loop-i : goal.overflow_cast-bears-in-loop-i
 overflow_cast-bears-in-loop-i c = let d = c in

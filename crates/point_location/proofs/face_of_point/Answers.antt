@@ -66,10 +66,10 @@ returns c =
 
 pub floor_over-best-requires : goal.floor_over-best-requires
 floor_over-best-requires c = let b = c in (
-      b.loop-i.invariant.1,
-      b.requires.1,
-      edge-row_of b.requires.0 _ c.loop-i-test.true,
-    )
+  b.loop-i.invariant.1,
+  b.requires.1,
+  edge-row_of b.requires.0 _ c.loop-i-test.true,
+)
 
 pub overflow_cast-result : goal.overflow_cast-result
 overflow_cast-result c = sfits_of c.loop-i.invariant.1.upper

@@ -59,20 +59,20 @@ point_at-requires c = (c.requires.2, omega (arith, c.point_count-n.ensures))
 
 pub point_at-requires-in-loop-k : goal.point_at-requires-in-loop-k
 point_at-requires-in-loop-k c = (
-      c.requires.2,
-      omega (
-        arith,
-        two-points c.requires.2,
-        c.point_count-n.ensures,
-      ),
-    )
+  c.requires.2,
+  omega (
+    arith,
+    two-points c.requires.2,
+    c.point_count-n.ensures,
+  ),
+)
 
 pub floor_with-best-requires : goal.floor_with-best-requires
 floor_with-best-requires c = let p = c.requires in (
-      c.loop-k.invariant.1,
-      p.1,
-      c.point_at.ensures.1,
-      c.point_at-in-loop-k.ensures.1,
-      p.3,
-      p.4,
-    )
+  c.loop-k.invariant.1,
+  p.1,
+  c.point_at.ensures.1,
+  c.point_at-in-loop-k.ensures.1,
+  p.3,
+  p.4,
+)

@@ -52,12 +52,12 @@ loop-i-preserved c =
     let t = c.loop-i-test.true in (
       omega arith,
       elim c.if-i-own.branch [
-        then-i-own k ↦
-          ap (λ (x : Contact). graver x (from l a.count a.own d (b.loop-i.i + 1)))
-              (k.found-is ∙ k.row_meeting-found.ensures)
-          ∙ another l a.count a.own d b.loop-i.i b.loop-i.found t (ap not (same_false _ _ k.if-i-own.true))
-      | else-i-own k ↦
-          ap₂ graver k.found-is (own_row l a.count a.own d b.loop-i.i t (ap not (same_eq _ _ k.if-i-own.false)))
+        | then-i-own k ↦
+            ap (λ (x : Contact). graver x (from l a.count a.own d (b.loop-i.i + 1)))
+            (k.found-is ∙ k.row_meeting-found.ensures)
+            ∙ another l a.count a.own d b.loop-i.i b.loop-i.found t (ap not (same_false _ _ k.if-i-own.true))
+        | else-i-own k ↦
+            ap₂ graver k.found-is (own_row l a.count a.own d b.loop-i.i t (ap not (same_eq _ _ k.if-i-own.false)))
       ]
           ∙ b.loop-i.invariant.1,
     )

@@ -32,9 +32,9 @@ returns c =
 
 pub neighbours_differ-requires : goal.neighbours_differ-requires
 neighbours_differ-requires c = record {
-      is = run_wider c.requires c.args.sent.now
-          (sym c.is_run.ensures ∙ c.if-not-is_run.false);
-    }
+  is = run_wider c.requires c.args.sent.now
+      (sym c.is_run.ensures ∙ c.if-not-is_run.false);
+}
 
 pub without_surplus-requires : goal.without_surplus-requires
 without_surplus-requires c = let r = c.is_run in

@@ -45,9 +45,9 @@ loop-k-preserved c =
     let read : face ≡ a.face = to_z-of_z s.ranges.face in
     let turn : set_row face a.e l.faces l.k ≡ c.if-faces-k.faces =
     elim c.if-faces-k.branch [
-      then-faces-k w ↦ set_hit face a.e l.faces l.k (word_is fits-z s.ranges.face w.if-faces-k.true ∙ sym read)
+      | then-faces-k w ↦ set_hit face a.e l.faces l.k (word_is fits-z s.ranges.face w.if-faces-k.true ∙ sym read)
           ∙ sym w.write_box.ensures ∙ sym w.faces-is
-    | else-faces-k w ↦ set_miss face a.e l.faces l.k (λ e. w.if-faces-k.false (ap (of_z w64) (e ∙ read))) ∙ sym w.faces-is
+      | else-faces-k w ↦ set_miss face a.e l.faces l.k (λ e. w.if-faces-k.false (ap (of_z w64) (e ∙ read))) ∙ sym w.faces-is
     ] in (
       omega arith,
       ap length (sym turn) ∙ set-length face a.e l.faces l.k

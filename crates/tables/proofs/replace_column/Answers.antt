@@ -41,8 +41,8 @@ loop-i-preserved c =
     let read-old : old ≡ a.old = to_z-of_z s.ranges.old in
     let turn : replace_at old new l.t j ≡ c.if-t-i.t =
     elim c.if-t-i.branch [
-      then-t-i w ↦ replace_hit old new l.t j (word_is fits-z s.ranges.old w.if-t-i.true ∙ sym read-old) ∙ sym w.t-is
-    | else-t-i w ↦ replace_miss old new l.t j (λ e. w.if-t-i.false (ap (of_z w64) (e ∙ read-old))) ∙ sym w.t-is
+      | then-t-i w ↦ replace_hit old new l.t j (word_is fits-z s.ranges.old w.if-t-i.true ∙ sym read-old) ∙ sym w.t-is
+      | else-t-i w ↦ replace_miss old new l.t j (λ e. w.if-t-i.false (ap (of_z w64) (e ∙ read-old))) ∙ sym w.t-is
     ] in (
       omega arith,
       ap length (sym turn) ∙ replace_length old new l.t j ∙ l.invariant.1,
